@@ -1,3 +1,3 @@
-pub mod handed
-mod Copies
-mod Admitting
+pub mod passed
+mod ChoosingLemmas
+mod EventsLemmas

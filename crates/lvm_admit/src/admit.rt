@@ -1,12 +1,12 @@
 //! A request is admitted.
 ghost use Rattle.std.specs.Prelude.{◌≡◌, ◌≤◌, ◌<◌, length, slice_get, Some};
+ghost use Rattle.lvm_num.specs.Status.{IsVolumeNumber};
 ghost use Rattle.lvm_path.specs.declared.facts.Next.TheVariants as next;
 ghost use Rattle.lvm_session.specs.declared.open.Open.{Open};
 ghost use Rattle.lvm_session.specs.Fields.{core_of};
 ghost use Rattle.lvm_session.specs.Judging.{IsWithin, next_for};
 ghost use Rattle.lvm_session.specs.Rooms.{SameRooms};
 ghost use Rattle.lvm_session.specs.State.{state};
-ghost use Rattle.lvm_status.specs.Calls.{IsNumber};
 ghost use Rattle.lvm_session.specs.Events.{Admits, Chooses, admitted_as, last_after, makes_dirty};
 ghost use Rattle.lvm_session.specs.Marks.{WantsDirtyIf};
 ghost use Rattle.lvm_admit.specs.Choosing.{MayChoose};
@@ -15,7 +15,7 @@ use crate::aiming::aims;
 use crate::reading::{Chosen, reading};
 use arrayvec::ArrayVec;
 use lvm_disk::Shelf;
-use lvm_firsts::lower::{mode_of, policy_of, unpin};
+use lvm_firsts::below::{mode_of, policy_of, unpin};
 use lvm_num::{Mode, Policy};
 use lvm_path::{Ask, Target};
 use lvm_session::{Open, Session};
@@ -69,7 +69,7 @@ fn makes_dirty(session: &Session, ask: &Ask, targets: &[Target]) -> bool
 
 // The volume is wanted dirty, where this is so.
 fn want_dirty_if(updater: &mut Updater, is: bool, lv: u16)
-    requires { IsNumber lv }
+    requires { IsVolumeNumber lv }
     ensures { WantsDirtyIf is lv updater.old updater.new }
 {
     if is {

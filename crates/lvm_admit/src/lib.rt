@@ -3,7 +3,7 @@
 
 mod admit;
 mod aiming;
-pub mod lower;
+pub mod below;
 mod reading;
 
 pub use admit::admit_at;

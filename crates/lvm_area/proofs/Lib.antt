@@ -1,3 +1,3 @@
-pub mod handed
-pub mod Areas
-pub mod Shown
+pub mod passed
+pub mod SlotsLemmas
+pub mod ReadingLemmas

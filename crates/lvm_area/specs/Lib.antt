@@ -1,2 +1,2 @@
-pub mod handed
+pub mod passed
 pub mod Reading

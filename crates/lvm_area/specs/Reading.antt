@@ -4,12 +4,14 @@ use Rattle.lvm_num.specs.declared.record.Kind.{Kind}
 use Rattle.lvm_num.specs.declared.record.Kind.TheVariants as kind
 use Rattle.lvm_num.specs.Descriptor.{IsValid}
 use Rattle.lvm_num.specs.DescriptorBytes.{descriptor_of}
+use Rattle.lvm_num.specs.Record.{slot_size, slot_start}
 use Rattle.lvm_num.specs.Status.{IsValidStatus}
 use Rattle.lvm_num.specs.StatusBytes.{status_of}
 use Rattle.lvm_num.specs.Torn.{Sectors}
-use Rattle.lvm_transfer.specs.handed.Names.{held, newest_on, slot_of, Image, note_sector, contents_of, Latest}
+use Rattle.lvm_transfer.specs.passed.Names.{held, newest_on, slot_of, Image, Device, note_sector, contents_of, Latest}
+use Rattle.lvm_transfer.specs.Reading.{SectorsRead}
 use Rattle.lvm_area.specs.declared.area.RecordArea.{RecordArea}
-pub use Rattle.lvm_transfer.specs.handed.Names.{under, home_of, stamped_found, IsHome}
+pub use Rattle.lvm_transfer.specs.passed.Names.{under, home_of, stamped_found, IsHome}
 use Rattle.lvm_num.specs.declared.descriptor.Descriptor.{Descriptor}
 
 -- ---- records that are found
@@ -40,3 +42,19 @@ pub record IsArea (sectors : Sectors) (area : RecordArea) : Type 0 where
 pub record IsAreaValid (area : RecordArea) : Type 0 where
   pub descriptor : IsValidLatest IsValid area.descriptor
   pub status : IsValidLatest IsValidStatus area.status
+
+-- ---- which sectors are read
+
+-- both slots of a kind on a disk were read whole, one after the other
+pub record SlotsRead (kind : Kind) (disk : ℕ) (old new : Device) : Type 0 where
+  pub between : Device
+  pub first : SectorsRead disk (slot_start kind 0) (slot_size kind) old between
+  pub second : SectorsRead disk (slot_start kind 1) (slot_size kind) between new
+
+-- all records of a disk were read: the slots of descriptors, then those of statuses, then the note
+pub record AreaRead (disk : ℕ) (old new : Device) : Type 0 where
+  pub after_descriptors : Device
+  pub after_statuses : Device
+  pub descriptors : SlotsRead kind.Descriptor disk old after_descriptors
+  pub statuses : SlotsRead kind.Status disk after_descriptors after_statuses
+  pub note : SectorsRead disk note_sector 1 after_statuses new

@@ -1,18 +1,18 @@
 //! Reading the records of a disk: two slots of each kind, and the note.
-ghost use Rattle.std.specs.Prelude.{◌≡◌, ◌<◌, ◌≤◌, length, slice_index_or, IfSome, IfOk};
+ghost use Rattle.std.specs.Prelude.{◌≡◌, ◌<◌, ◌≤◌, length, slice_index_or, IfSome, IfOk, OnOk};
 ghost use Rattle.lvm_num.specs.declared.record.Kind.TheVariants as kind_is;
 ghost use Rattle.lvm_num.specs.Descriptor.{IsValid};
 ghost use Rattle.lvm_num.specs.DescriptorBytes.{descriptor_of};
 ghost use Rattle.lvm_num.specs.Record.{joined};
 ghost use Rattle.lvm_num.specs.Status.{IsValidStatus};
 ghost use Rattle.lvm_num.specs.StatusBytes.{status_of};
-ghost use Rattle.lvm_transfer.specs.handed.Names.{stamped_found, held, IsReady, image_of};
-ghost use Rattle.lvm_transfer.specs.Reading.{only_buffer, IsInRecords, ReadsEnd};
-ghost use Rattle.lvm_area.specs.Reading.{descriptor_shown, IsArea, IsAreaValid, IsLatestOn, IsValidLatest};
+ghost use Rattle.lvm_transfer.specs.passed.Names.{stamped_found, held, IsReady, image_of};
+ghost use Rattle.lvm_transfer.specs.Reading.{only_buffer, IsInRecords, ReadsEnd, SectorsRead};
+ghost use Rattle.lvm_area.specs.Reading.{descriptor_shown, AreaRead, IsArea, IsAreaValid, IsLatestOn, IsValidLatest, SlotsRead};
 
 use crate::found::{descriptor_in, status_in};
 use lvm_num::{Descriptor, Memory, Pbuf, Status};
-use lvm_transfer::lower::{Found, Latest, Shelf, newest};
+use lvm_transfer::below::{Found, Latest, Shelf, newest};
 use lvm_transfer::{Extent, Patience, Stop, Unread, read_front, read_sectors};
 use std::alloc::Global;
 
@@ -51,6 +51,7 @@ pub fn read_area<S: Shelf>(
     requires there { disk < length (S.device shelf.old).sizes }
     requires large { 4096 ≤ slice_index_or (S.device shelf.old).sizes disk 0 }
     ensures reads { ReadsEnd disk buf.number patience.old.left patience.new.left (S.device shelf.old) (S.device shelf.new) (only_buffer result) }
+    ensures whole { OnOk result (AreaRead disk (S.device shelf.old) (S.device shelf.new)) }
     ensures area { IfOk result (λ got. IfSome (S.device shelf.old).media (λ media. IsArea (media disk) got.0)) }
     ensures valid { IfOk result (λ got. IsAreaValid got.0) }
 {
@@ -78,6 +79,7 @@ pub fn read_descriptor<S: Shelf>(
     requires ready { IsReady (S.device shelf.old) }
     requires there { disk < length (S.device shelf.old).sizes }
     requires large { 4096 ≤ slice_index_or (S.device shelf.old).sizes disk 0 }
+    ensures whole { OnOk result (SlotsRead kind_is.Descriptor disk (S.device shelf.old) (S.device shelf.new)) }
     ensures shown { IfOk result (λ got. IfSome (S.device shelf.old).media (λ media. got.0 ≡ descriptor_shown (image_of (S.device shelf.old).sizes media) disk)) }
     ensures valid { IfOk result (λ got. IfSome got.0 IsValid) }
     ensures reads { ReadsEnd disk buf.number patience.old.left patience.new.left (S.device shelf.old) (S.device shelf.new) (only_buffer result) }
@@ -98,6 +100,7 @@ fn read_descriptors<S: Shelf>(
     requires there { disk < length (S.device shelf.old).sizes }
     requires large { 4096 ≤ slice_index_or (S.device shelf.old).sizes disk 0 }
     ensures reads { ReadsEnd disk buf.number patience.old.left patience.new.left (S.device shelf.old) (S.device shelf.new) (only_buffer result) }
+    ensures whole { OnOk result (SlotsRead kind_is.Descriptor disk (S.device shelf.old) (S.device shelf.new)) }
     ensures newest { IfOk result (λ got. IfSome (S.device shelf.old).media (λ media. IsLatestOn descriptor_of kind_is.Descriptor (media disk) got.0)) }
     ensures valid { IfOk result (λ got. IsValidLatest IsValid got.0) }
 {
@@ -118,6 +121,7 @@ fn read_statuses<S: Shelf>(
     requires there { disk < length (S.device shelf.old).sizes }
     requires large { 4096 ≤ slice_index_or (S.device shelf.old).sizes disk 0 }
     ensures reads { ReadsEnd disk buf.number patience.old.left patience.new.left (S.device shelf.old) (S.device shelf.new) (only_buffer result) }
+    ensures whole { OnOk result (SlotsRead kind_is.Status disk (S.device shelf.old) (S.device shelf.new)) }
     ensures newest { IfOk result (λ got. IfSome (S.device shelf.old).media (λ media. IsLatestOn status_of kind_is.Status (media disk) got.0)) }
     ensures valid { IfOk result (λ got. IsValidLatest IsValidStatus got.0) }
 {
@@ -139,6 +143,7 @@ fn read_descriptor_slot<S: Shelf>(
     requires ready { IsReady (S.device shelf.old) }
     requires inside { IsInRecords (S.device shelf.old) disk first 1152 }
     ensures reads { ReadsEnd disk buf.number patience.old.left patience.new.left (S.device shelf.old) (S.device shelf.new) (only_buffer result) }
+    ensures whole { OnOk result (SectorsRead disk first 1152 (S.device shelf.old) (S.device shelf.new)) }
     ensures held { IfOk result (λ got. IfSome (S.device shelf.old).media (λ media. stamped_found got.0 ≡ held descriptor_of kind_is.Descriptor (joined (media disk) first 1152))) }
     ensures valid { IfOk result (λ got. IfSome got.0 (λ it. IsValid it.value)) }
 {
@@ -161,6 +166,7 @@ fn read_status_slot<S: Shelf>(
     requires ready { IsReady (S.device shelf.old) }
     requires inside { IsInRecords (S.device shelf.old) disk first 64 }
     ensures reads { ReadsEnd disk buf.number patience.old.left patience.new.left (S.device shelf.old) (S.device shelf.new) (only_buffer result) }
+    ensures whole { OnOk result (SectorsRead disk first 64 (S.device shelf.old) (S.device shelf.new)) }
     ensures held { IfOk result (λ got. IfSome (S.device shelf.old).media (λ media. stamped_found got.0 ≡ held status_of kind_is.Status (joined (media disk) first 64))) }
     ensures valid { IfOk result (λ got. IfSome got.0 (λ it. IsValidStatus it.value)) }
 {
@@ -188,6 +194,7 @@ fn read_note<S: Shelf>(
     requires ready { IsReady (S.device shelf.old) }
     requires inside { IsInRecords (S.device shelf.old) disk 8 1 }
     ensures reads { ReadsEnd disk buf.number patience.old.left patience.new.left (S.device shelf.old) (S.device shelf.new) (only_buffer result) }
+    ensures whole { OnOk result (SectorsRead disk 8 1 (S.device shelf.old) (S.device shelf.new)) }
     ensures note { IfOk result (λ got. IfSome (S.device shelf.old).media (λ media. got.0 ≡ media disk 8)) }
 {
     let extent = Extent {

@@ -2,7 +2,7 @@
 #![tactic(auto)]
 
 mod area;
+pub mod below;
 mod found;
-pub mod lower;
 
 pub use area::{RecordArea, read_area, read_descriptor};

@@ -49,25 +49,23 @@ new_order = TheNotes ∷ TheStatus ∷ TheDescriptor ∷ []
 abbrev pub again_order : Bool → List Part
 again_order forget = TheDescriptor ∷ TheStatus ∷ (if forget then TheNotes ∷ [] else [])
 
--- a new group: its status has sequence 1, its descriptor 2
-abbrev pub new_beginning : ℕ → List ℕ → List ℕ → Disks → Homes → Beginning
-new_beginning epoch descriptor status targets homes = record {
+-- the descriptor and the status with these sequences
+abbrev pub beginning_by : ℕ → ℕ → ℕ → List ℕ → List ℕ → Disks → Homes → Beginning
+beginning_by described stated epoch descriptor status targets homes = record {
   epoch = epoch;
-  descriptor = record { stamp = record { epoch = epoch; seq = 2 }; content = descriptor };
-  status = record { stamp = record { epoch = epoch; seq = 1 }; content = status };
+  descriptor = record { stamp = record { epoch = epoch; seq = described }; content = descriptor };
+  status = record { stamp = record { epoch = epoch; seq = stated }; content = status };
   targets = targets;
   homes = homes;
 }
 
+-- a new group: its status has sequence 1, its descriptor 2
+abbrev pub new_beginning : ℕ → List ℕ → List ℕ → Disks → Homes → Beginning
+new_beginning epoch descriptor status targets homes = beginning_by 2 1 epoch descriptor status targets homes
+
 -- one that was there: its descriptor has sequence 1, its status 2
 abbrev pub again_beginning : ℕ → List ℕ → List ℕ → Disks → Homes → Beginning
-again_beginning epoch descriptor status targets homes = record {
-  epoch = epoch;
-  descriptor = record { stamp = record { epoch = epoch; seq = 1 }; content = descriptor };
-  status = record { stamp = record { epoch = epoch; seq = 2 }; content = status };
-  targets = targets;
-  homes = homes;
-}
+again_beginning epoch descriptor status targets homes = beginning_by 1 2 epoch descriptor status targets homes
 
 -- what a part may bring to each sector
 abbrev pub brought : Beginning → Part → Plan

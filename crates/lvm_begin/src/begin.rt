@@ -17,7 +17,7 @@ ghost use Rattle.lvm_begin.specs.Runs.{IsAnswer, OneGives, ManyGives};
 use lvm_disk::Shelf;
 use lvm_num::{DiskSet, Kind, Pbuf, Stamp};
 use lvm_rec::Homes;
-use lvm_write::lower::Patience;
+use lvm_write::below::Patience;
 use lvm_write::{Wrote, empty_notes, write_record};
 
 /// How the writes with which a group comes on ended.

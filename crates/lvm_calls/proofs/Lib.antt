@@ -1,9 +1,9 @@
-pub mod handed
+pub mod passed
 mod Places
-pub mod Numbered
-pub mod Rows
-pub mod Taking
-mod Begun
+pub mod LogLemmas
+pub mod WaitingLemmas
+pub mod CallsLemmas
+mod NumbersLemmas
 mod Groups
-pub mod Finding
+pub mod OpeningLemmas
 pub mod Tables

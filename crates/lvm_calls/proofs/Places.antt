@@ -1,8 +1,8 @@
 -- Requests at their places of the table, and their answers.
-use Rattle.std.proofs.Common.{◌≡◌, ◌==◌, ◌<◌, ◌&&◌, ℕ, zero, suc, Bool, true, false, List, [], ◌∷◌, Option, Some, length, position, slice_get, slice_index_or, refl, sym, ◌∙◌, ap, subst, arith}
+use Rattle.std.proofs.Common.{◌≡◌, ◌==◌, ◌<◌, ℕ, zero, suc, true, List, [], ◌∷◌, Option, Some, length, position, slice_get, slice_index_or, sym, ◌∙◌, ap, subst, arith}
 use Rattle.std.specs.Prelude.{is_none}
 use Rattle.std.specs.List.{AllByRecursion, remove}
-use Rattle.std.proofs.lemmas.Bool.{eqb-true}
+use Rattle.std.proofs.lemmas.Bool.{eqb-true, and_parts}
 use Rattle.std.proofs.lemmas.List.Quantifiers.{position-Some}
 use Rattle.lvm_vol.specs.declared.entry.Outcome.{Outcome}
 use Rattle.lvm_vol.specs.Facts.{Fact}
@@ -25,17 +25,13 @@ stands [] k o within is = absurd (omega (arith, within))
 stands (x ∷ os) zero o within is = ap Some (sym is)
 stands (x ∷ os) (suc k) o within is = stands os k o (omega (arith, within)) is
 
-both : (a b : Bool) → (a && b) ≡ true → (a ≡ true) × (b ≡ true)
-both true b is = (refl, is)
-both false b is = absurd cc
-
 -- the request that a client asks for stands at the place that is found
 module _ (client id : ℕ) (os : List Open) (k : ℕ) (o : Open) (found : Some k ≡ position (is_asked client id) os) (is : o ≡ slice_index_or os k o) where
   found_so : (k < length os) × (is_asked client id o ≡ true)
   found_so = let it = position-Some (is_asked client id) os k o (sym found) in (it.0, ap (is_asked client id) is ∙ it.1)
 
   its : (o.request.client ≡ client) × (o.request.id ≡ id)
-  its = let two = both (o.request.client == client) (o.request.id == id) found_so.1 in (eqb-true o.request.client client two.0, eqb-true o.request.id id two.1)
+  its = let two = and_parts (o.request.client == client) (o.request.id == id) found_so.1 in (eqb-true o.request.client client two.0, eqb-true o.request.id id two.1)
 
   pub there : slice_get os k ≡ Some o
   there = stands os k o found_so.0 is

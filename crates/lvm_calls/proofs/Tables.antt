@@ -18,8 +18,8 @@ use Rattle.lvm_session.specs.Judging.{is_waiting, place_of}
 use Rattle.lvm_session.specs.Calls.{aged}
 use Rattle.lvm_session.specs.Ends.{with_step}
 use Rattle.lvm_session.specs.Sound.{IsGoing, waiting_rows, with_row}
-use Rattle.lvm_calls.proofs.Numbered.{below_next}
-use Rattle.lvm_calls.proofs.Rows.{few_waiting, row_of}
+use Rattle.lvm_calls.proofs.LogLemmas.{below_next}
+use Rattle.lvm_calls.proofs.WaitingLemmas.{few_waiting, row_of}
 
 -- one more is aged
 pub aged_more : (all now : List Open) (i : ℕ) (d : Open) → i < length all → now ≡ map aged (take i all) ++ drop i all → slice_set now i (aged (get_or now i d)) ≡ map aged (take (i + 1) all) ++ drop (i + 1) all

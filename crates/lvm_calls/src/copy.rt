@@ -2,8 +2,7 @@
 ghost use Rattle.std.specs.Prelude.{◌≡◌, ◌&&◌, ℕ, not};
 ghost use Rattle.std.specs.List.{list_any};
 ghost use Rattle.lvm_num.specs.declared.place.Pp.{Pp};
-ghost use Rattle.lvm_num.specs.Descriptor.{IsLaidOut, IsValid};
-ghost use Rattle.lvm_facts.specs.handed.Names.{is_pp};
+ghost use Rattle.lvm_num.specs.Descriptor.{IsLaidOut, IsValid, is_pp};
 ghost use Rattle.lvm_session.specs.Fields.{core_of};
 ghost use Rattle.lvm_session.specs.Rooms.{SameRooms};
 ghost use Rattle.lvm_session.specs.Bringing.{is_out};
@@ -12,8 +11,8 @@ ghost use Rattle.lvm_session.specs.declared.answers.CopyState.TheVariants as sta
 ghost use Rattle.lvm_session.specs.Calls.{closed, copy_at, copy_fault, copy_state, refusal_at, refusal_in, refusal_on, state_of_copy};
 
 use crate::ask::has_numbers;
-use lvm_facts::lower::{is_missing, is_pp, is_settled, is_usable, volume_of};
-use lvm_num::{LvRow, Pp, copies_of};
+use lvm_facts::below::{is_missing, is_pp, is_settled, is_usable};
+use lvm_num::{LvRow, Pp, copies_of, volume_of};
 use lvm_session::{CopyEnd, CopyFault, CopyState, OpenCopy, Power, Session, Step};
 
 fn is_out(step: &Step) -> bool

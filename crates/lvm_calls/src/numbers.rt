@@ -4,7 +4,7 @@ ghost use Rattle.lvm_vol.specs.Log.{next_id};
 ghost use Rattle.lvm_vol.specs.Order.{Ordered};
 ghost use Rattle.lvm_calls.specs.Numbers.{IsNumberAt, number_of};
 
-use lvm_session::lower::History;
+use lvm_session::below::History;
 use lvm_vol::Entry;
 
 // The number of the request that begins by an entry, if one does.

@@ -1,30 +1,14 @@
 //! The copy that is opened.
-ghost use Rattle.std.specs.Prelude.{◌≡◌, ◌<◌, Some};
-ghost use Rattle.lvm_num.specs.declared.descriptor.LvRow.{LvRow};
-ghost use Rattle.lvm_num.specs.Descriptor.{IsValid, volume_of};
 ghost use Rattle.lvm_session.specs.Fields.{core_of};
-ghost use Rattle.lvm_session.specs.Judging.{copies_in};
 ghost use Rattle.lvm_session.specs.Sound.{IsGoing};
 ghost use Rattle.lvm_calls.specs.Opening.{HasCopy, IsOpened};
 
 use crate::enter::step_place;
 use crate::faults::faults_of;
 use lvm_disk::Shelf;
-use lvm_facts::lower::volume_of;
-use lvm_num::{Descriptor, DiskSet, Pp, copies_of};
+use lvm_facts::below::copies_in;
+use lvm_num::DiskSet;
 use lvm_session::{OpenCopy, Session, Step};
-
-// The copies of a logical partition of a volume.
-fn copies_in(d: &Descriptor, lv: u16, lp: u32) -> &[Pp]
-    requires valid { IsValid d.now }
-    requires within { (row : LvRow) → volume_of d.now lv ≡ Some row → lp < row.lps }
-    ensures { result.now ≡ copies_in d.now lv lp }
-{
-    match volume_of(d, lv) {
-        None => &[],
-        Some(row) => copies_of(row, lp),
-    }
-}
 
 /// A copy of a volume as it is opened.
 pub fn opened<S: Shelf>(session: &Session, shelf: &S, lv: u16, lp: u32, number: u8) -> OpenCopy

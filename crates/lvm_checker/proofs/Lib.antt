@@ -1,3 +1,3 @@
-pub mod handed
-pub mod Looking
-pub mod Judging
+pub mod passed
+pub mod SeenLemmas
+pub mod RowsLemmas

@@ -2,8 +2,8 @@
 //! whether they are legal.
 #![tactic(auto)]
 
+pub mod below;
 mod fits;
-pub mod lower;
 mod row;
 mod values;
 

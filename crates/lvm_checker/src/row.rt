@@ -1,6 +1,6 @@
 //! What is kept of an entry, and of a request once for all its entries.
 
-use lvm_vol::lower::Mode;
+use lvm_vol::below::Mode;
 use lvm_vol::{Outcome, Vol};
 
 /// A request as it was asked. Its blocks stand from `place` on.

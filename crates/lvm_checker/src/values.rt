@@ -6,14 +6,14 @@
 ghost use Rattle.std.specs.Prelude.{◌≡◌, ◌↔◌, ℕ, ◌&&◌, ◌||◌, ◌==◌, not, IsTrue, true, false, fold};
 ghost use Rattle.std.specs.List.{list_any};
 ghost use Rattle.std.specs.Str.{bytes_eq};
-ghost use Rattle.lvm_vol.specs.handed.Names.{zero_sector};
+ghost use Rattle.lvm_vol.specs.passed.Names.{zero_sector};
 ghost use Rattle.lvm_vol.specs.Facts.{block_of};
 ghost use Rattle.lvm_vol.specs.May.{is_off, known, May};
 ghost use Rattle.lvm_checker.specs.Rows.{ask_of, blocks_at, facts_of};
 ghost use Rattle.lvm_checker.specs.Seen.{is_over_ask, is_ending, is_opening, id_of, is_any_open, row_source, origin_of, seen_ended, seen_read, seen_step};
 
 use crate::row::{Ask, Row};
-use lvm_vol::lower::Mode;
+use lvm_vol::below::Mode;
 use lvm_vol::{Outcome, Vol};
 
 /// What is known of a block, as far as one value goes.

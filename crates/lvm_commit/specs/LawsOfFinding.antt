@@ -9,7 +9,7 @@ use Rattle.lvm_num.specs.Disks.{Disks}
 use Rattle.lvm_num.specs.DescriptorBytes.{descriptor_of}
 use Rattle.lvm_num.specs.StatusBytes.{status_of}
 use Rattle.lvm_num.specs.Record.{Frames, Stamped}
-use Rattle.lvm_disk.specs.Device.{Image, Flight, Device, image_of, MayLeave}
+use Rattle.lvm_disk.specs.Device.{Image, Flight, Device, image_of, MayLeave, IsWholeImage}
 use Rattle.lvm_kept.specs.Contents.{Contents, contents_of}
 use Rattle.lvm_kept.specs.Committed.{IsWithinDisks}
 use Rattle.lvm_kept.specs.Group.{IsFound}
@@ -19,7 +19,7 @@ use Rattle.lvm_kept.specs.Torn.{IsOfRecord, DescriptorsChange}
 use Rattle.lvm_steps.specs.Requests.{IsOfData}
 use Rattle.lvm_rec.specs.declared.homes.Homes.{Homes}
 use Rattle.lvm_write.specs.Written.{write_of}
-use Rattle.lvm_stamps.specs.Laws.{IsNoLater, IsWhole}
+use Rattle.lvm_stamps.specs.Laws.{IsNoLater}
 use Rattle.lvm_commit.specs.Committed.{next_stamp, HoldsCommitted}
 use Rattle.lvm_commit.specs.Laws.{IsLaterDescriptor}
 
@@ -47,13 +47,13 @@ RestFindsNothingNew = (old new : Contents) → new ≡ record old { status = new
 -- So it is while a status of the session is written,
 abbrev pub StatusWriteFindsNothingNew : Type 0
 StatusWriteFindsNothingNew = (group : Descriptor) (status next : Status) (there : Disks) (stamp : Stamp) (homes : Homes) (framed : Framed) (old new : Image)
-    → IsWhole old → HoldsCommitted old group status there stamp homes → Frames kind.Status framed → status_of framed.content ≡ Ok next → IsNoLater (next_stamp stamp) framed.stamp
+    → IsWholeImage old → HoldsCommitted old group status there stamp homes → Frames kind.Status framed → status_of framed.content ≡ Ok next → IsNoLater (next_stamp stamp) framed.stamp
     → ChangesBy (IsOfRecord (write_of kind.Status framed there homes)) old new → FindsNothingNew (contents_of old) (contents_of new)
 
 -- and while a descriptor is.
 abbrev pub DescriptorWriteFindsNoMore : Type 0
 DescriptorWriteFindsNoMore = (group next : Descriptor) (status : Status) (there : Disks) (stamp : Stamp) (homes : Homes) (framed : Framed) (old new : Image)
-    → IsWhole old → HoldsCommitted old group status there stamp homes → Frames kind.Descriptor framed → descriptor_of framed.content ≡ Ok next → IsNoLater (next_stamp stamp) framed.stamp
+    → IsWholeImage old → HoldsCommitted old group status there stamp homes → Frames kind.Descriptor framed → descriptor_of framed.content ≡ Ok next → IsNoLater (next_stamp stamp) framed.stamp
     → ChangesBy (IsOfRecord (write_of kind.Descriptor framed there homes)) old new → FindsNoMore next (contents_of old) (contents_of new)
 
 -- ---- on a shelf

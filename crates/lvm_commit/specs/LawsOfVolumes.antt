@@ -16,7 +16,7 @@ use Rattle.lvm_vol.specs.declared.entry.Vol.TheVariants.{Lv}
 use Rattle.lvm_vol.specs.Facts.{Fact, Making, Made, Removed, Cut}
 use Rattle.lvm_vol.specs.May.{known, IsValue}
 use Rattle.lvm_vol.specs.Standing.{Open, volumes_in}
-use Rattle.lvm_disk.specs.Device.{Image, Flight, Device, image_of, MayLeave}
+use Rattle.lvm_disk.specs.Device.{Image, Flight, Device, image_of, MayLeave, IsWholeImage}
 use Rattle.lvm_disk.specs.Steps.{BothTold}
 use Rattle.lvm_kept.specs.Contents.{Contents, contents_of}
 use Rattle.lvm_kept.specs.Group.{Finds, IsFound, IsOneByAll, block_at, IsBlockOf, IsOneOf}
@@ -32,7 +32,7 @@ use Rattle.lvm_steps.specs.Requests.{IsOfData, at}
 use Rattle.lvm_steps.specs.Committing.{DiffersInVolume, IsServed, MayCommit}
 use Rattle.lvm_steps.specs.VolumeEntries.{AreZeros}
 use Rattle.lvm_rec.specs.declared.homes.Homes.{Homes}
-use Rattle.lvm_stamps.specs.Laws.{IsNoLater, IsWhole, ShowsBefore}
+use Rattle.lvm_stamps.specs.Laws.{IsNoLater, ShowsBefore}
 use Rattle.lvm_commit.specs.Committed.{next_stamp, ShowsCommitted, HoldsCommitted}
 use Rattle.lvm_commit.specs.Laws.{IsLaterDescriptor}
 
@@ -41,7 +41,7 @@ use Rattle.lvm_commit.specs.Laws.{IsLaterDescriptor}
 -- Whatever the disks show has a stamp before each that the session may use next.
 abbrev pub NextIsLater : Type 0
 NextIsLater = (image : Image) (group : Descriptor) (status : Status) (there : Disks) (stamp next : Stamp) (homes : Homes)
-    → IsWhole image → HoldsCommitted image group status there stamp homes → IsNoLater (next_stamp stamp) next → ShowsBefore next (contents_of image)
+    → IsWholeImage image → HoldsCommitted image group status there stamp homes → IsNoLater (next_stamp stamp) next → ShowsBefore next (contents_of image)
 
 -- What is asked of the history and of the blocks where the next descriptor is to be committed: it differs by one volume alone, which by the history may be
 -- named or not, as it says; where it names it, it has the shape with which it was made, and its blocks are served.

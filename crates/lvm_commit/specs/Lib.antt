@@ -1,4 +1,4 @@
-pub mod handed
+pub mod passed
 pub mod Committed
 pub mod Laws
 pub mod LawsOfWrites

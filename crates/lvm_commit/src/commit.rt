@@ -9,7 +9,7 @@ use lvm_disk::Shelf;
 use lvm_num::{Descriptor, Pbuf};
 use lvm_rec::Homes;
 use lvm_status::Updater;
-use lvm_write::lower::Patience;
+use lvm_write::below::Patience;
 
 /// How a commit ended.
 #[derive(Drop)]

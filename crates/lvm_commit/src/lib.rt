@@ -1,9 +1,9 @@
 //! The commits of a session: what its disks show between two of them, and how a status or a descriptor becomes committed.
 #![tactic(auto)]
 
+pub mod below;
 mod commit;
 mod laws;
-pub mod lower;
 mod write;
 
 pub use commit::{CommitEnd, commit_descriptor, commit_status};

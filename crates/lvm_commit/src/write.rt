@@ -20,7 +20,7 @@ use lvm_disk::Shelf;
 use lvm_num::{Descriptor, DiskSet, Kind, Pbuf, Stamp};
 use lvm_rec::Homes;
 use lvm_status::{Change, Updater, members_there};
-use lvm_write::lower::{Patience, encode_into};
+use lvm_write::below::{Patience, encode_into};
 use lvm_write::{Wrote, write_record};
 
 /// Writes what is wanted of the status to each member that isn't missing, under the next stamp. The members on which

@@ -1,4 +1,3 @@
-pub mod handed
-mod Aiming
-pub mod Laid
-pub mod Members
+pub mod passed
+mod JudgingLemmas
+pub mod DescriptorLemmas

@@ -1,1 +1,1 @@
-pub mod handed
+pub mod passed

@@ -1,10 +1,10 @@
 //! A request gives up its pin.
 ghost use Rattle.std.specs.Prelude.{◌≡◌, ◌≤◌, ◌<◌, ◌^◌, true, if◌then◌else◌};
-ghost use Rattle.lvm_session.specs.handed.Names.{after_unpin, pins_of, at_of, lv_of};
+ghost use Rattle.lvm_session.specs.passed.Names.{after_unpin, pins_of, at_of, lv_of};
 ghost use Rattle.lvm_session.specs.Judging.{group_of};
 
 use crate::standing::group_of;
-use lvm_session::lower::{Ask, Cache};
+use lvm_session::below::{Ask, Cache};
 
 /// Gives up a pin of the track group of a request, where it holds one.
 pub fn unpin(cache: &mut Cache, pinned: bool, ask: &Ask)

@@ -2,13 +2,14 @@
 ghost use Rattle.std.specs.Prelude.{◌≡◌, ◌||◌, ◌<◌, ◌^◌, IsTrue, filter};
 ghost use Rattle.lvm_num.specs.declared.place.Pp.{Pp};
 ghost use Rattle.lvm_num.specs.Descriptor.{IsValid, is_size};
-ghost use Rattle.lvm_session.specs.handed.Names.{at_of};
+ghost use Rattle.lvm_session.specs.passed.Names.{at_of};
+ghost use Rattle.lvm_session.specs.Bringing.{is_whole};
 ghost use Rattle.lvm_session.specs.Fields.{core_of};
 ghost use Rattle.lvm_session.specs.Judging.{IsWithin, copies_for, group_in, group_of, is_caught, is_missing, is_running, is_settled, is_stale, is_sure, is_usable, is_wanted_stale, lp_of, mode_of, policy_of, pps_of, same_pps};
 
-use crate::places::{is_pp, partition_blocks, volume_of};
-use lvm_num::{Mode, Policy, Pp, copies_of};
-use lvm_session::lower::{Ask, Target};
+use crate::places::{is_pp, partition_blocks};
+use lvm_num::{Mode, Policy, Pp, copies_of, volume_of};
+use lvm_session::below::{Ask, Target};
 use lvm_session::{OpenCopy, Session};
 
 /// Whether the disk didn't answer when the session began, or a write of a record on it has failed since.
@@ -51,6 +52,13 @@ pub fn is_sure(session: &Session, pp: Pp) -> bool
     ensures { result ≡ is_sure (core_of session.now) pp }
 {
     !is_stale(session, pp) && !is_wanted_stale(session, pp)
+}
+
+/// Whether all track groups of the copy that is open are copied.
+pub fn is_whole(session: &Session, copy: &OpenCopy) -> bool
+    ensures { result ≡ is_whole (core_of session.now) copy.now }
+{
+    u64::from(copy.cursor) >= partition_blocks(session.descriptor.mib) / 256
 }
 
 /// Whether the copy that is open hasn't ended.

@@ -1,6 +1,6 @@
-pub mod handed
-mod Leaving
-pub mod Marks
-mod Entailing
-pub mod Left
-pub mod Reviewing
+pub mod passed
+mod WaitingLemmas
+pub mod EndingLemmas
+mod LosingLemmas
+pub mod LeftLemmas
+pub mod BringingLemmas

@@ -11,7 +11,7 @@ use Rattle.lvm_session.specs.declared.bringing.Step.{Step}
 use Rattle.lvm_session.specs.declared.bringing.Step.TheVariants as step
 use Rattle.lvm_session.specs.State.{Core}
 use Rattle.lvm_num.specs.declared.place.Pp.{Pp}
-use Rattle.lvm_stale.specs.Table.{is_pp}
+use Rattle.lvm_num.specs.Descriptor.{is_pp}
 use Rattle.lvm_session.specs.Bringing.{hand_of, is_out, marked_by_end, with_copy_end}
 use Rattle.lvm_over.specs.Hands.{IsOutIf}
 

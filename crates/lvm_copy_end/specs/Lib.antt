@@ -1,4 +1,4 @@
-pub mod handed
+pub mod passed
 pub mod Ending
 pub mod Losing
 pub mod Left

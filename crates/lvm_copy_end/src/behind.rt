@@ -2,8 +2,7 @@
 ghost use Rattle.std.specs.Prelude.{◌≡◌, ◌&&◌, All};
 ghost use Rattle.std.specs.List.{list_any};
 ghost use Rattle.lvm_num.specs.declared.place.Pp.{Pp};
-ghost use Rattle.lvm_num.specs.Descriptor.{IsLaidOut, partitions_in};
-ghost use Rattle.lvm_stale.specs.Table.{is_pp};
+ghost use Rattle.lvm_num.specs.Descriptor.{IsLaidOut, partitions_in, is_pp};
 ghost use Rattle.lvm_status.specs.Calls.{IsMarkable};
 ghost use Rattle.lvm_status.specs.Runs.{IsSoundStatus};
 ghost use Rattle.lvm_status.specs.Update.{seen};

@@ -1,9 +1,8 @@
 //! Whether the copy that is open fails with a write.
 ghost use Rattle.std.specs.Prelude.{◌≡◌, ◌<◌, length, slice_get, Some};
 ghost use Rattle.std.specs.List.{list_any};
-ghost use Rattle.lvm_stale.specs.Table.{is_pp};
+ghost use Rattle.lvm_num.specs.Descriptor.{is_pp};
 ghost use Rattle.lvm_path.specs.declared.target.Target.{Target};
-ghost use Rattle.lvm_path.specs.Targets.{are_over};
 ghost use Rattle.lvm_session.specs.declared.bringing.CopyEnd.TheVariants as ending;
 ghost use Rattle.lvm_session.specs.Bringing.{ends_if};
 ghost use Rattle.lvm_session.specs.Judging.{all_but_sure};
@@ -12,17 +11,10 @@ ghost use Rattle.lvm_session.specs.Fields.{core_of};
 ghost use Rattle.lvm_session.specs.Marks.{end_by_write};
 ghost use Rattle.lvm_copy_end.specs.Losing.{fails_with, loses};
 
-use lvm_marks::lower::{is_kept, is_pp, is_running, is_sure};
+use lvm_marks::below::{is_kept, is_pp, is_running, is_sure};
 use lvm_num::Pp;
-use lvm_path::Target;
-use lvm_sched::TargetState;
+use lvm_path::{Target, are_over};
 use lvm_session::{CopyEnd, Open, OpenCopy, Session};
-
-fn are_over(targets: &[Target]) -> bool
-    ensures { result ≡ are_over targets.now }
-{
-    targets.iter().all(|target| matches!(target.state, TargetState::Done | TargetState::Failed))
-}
 
 // Whether it is one of the targets but the first sure one.
 fn is_one_of(session: &Session, targets: &[Target], pp: Pp) -> bool

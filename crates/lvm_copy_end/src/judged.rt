@@ -4,17 +4,15 @@ ghost use Rattle.lvm_num.specs.declared.place.Pp.{Pp};
 ghost use Rattle.std.specs.List.{list_any};
 ghost use Rattle.lvm_num.specs.Descriptor.{IsValid};
 ghost use Rattle.lvm_num.specs.Status.{calls_stale};
-ghost use Rattle.lvm_session.specs.declared.bringing.CopyEnd.TheVariants as ending;
 ghost use Rattle.lvm_session.specs.Bringing.{copy_ends, end_by_sources, end_of, ends_if, is_cleared, is_idle};
 ghost use Rattle.lvm_session.specs.Fields.{core_of};
 ghost use Rattle.lvm_session.specs.Judging.{copies_in};
 ghost use Rattle.lvm_copy_end.specs.Reviewing.{IsLocated, is_other, is_untried};
 
-use crate::marking::is_whole;
-use lvm_marks::lower::{
-    is_missing, is_pp, is_running, is_stale, is_usable, is_wanted_stale, volume_of,
+use lvm_marks::below::{
+    is_missing, is_pp, is_running, is_stale, is_usable, is_wanted_stale, is_whole,
 };
-use lvm_num::{Pp, copies_of};
+use lvm_num::{Pp, copies_of, volume_of};
 use lvm_session::{CopyEnd, OpenCopy, Session, Step};
 
 fn end_if(is: bool, how: CopyEnd) -> Option<CopyEnd>

@@ -3,6 +3,7 @@
 #![tactic(auto)]
 
 mod behind;
+pub mod below;
 mod ending;
 mod entailed;
 mod hits;
@@ -12,5 +13,4 @@ mod steps;
 
 pub use ending::{end_copy, end_copy_if, leave_if_inside};
 pub use entailed::entail;
-pub use marking::is_whole;
 pub use steps::review;

@@ -6,17 +6,10 @@ ghost use Rattle.lvm_session.specs.Rooms.{SameRooms};
 ghost use Rattle.lvm_session.specs.Marks.{WantsStale};
 ghost use Rattle.lvm_copy_end.specs.Ending.{MayEndCopy, Unclears};
 
-use lvm_marks::lower::partition_blocks;
+use lvm_marks::below::is_whole;
 use lvm_marks::want_stale;
 use lvm_num::Pp;
 use lvm_session::{CopyEnd, OpenCopy, Session};
-
-/// Whether all track groups of the copy that is open are copied.
-pub fn is_whole(session: &Session, copy: &OpenCopy) -> bool
-    ensures { result ≡ is_whole (core_of session.now) copy.now }
-{
-    u64::from(copy.cursor) >= partition_blocks(session.descriptor.mib) / 256
-}
 
 // The partition of the copy that is open, where its clearing was wanted and it doesn't end as fresh.
 fn unclears(session: &Session, how: CopyEnd) -> Option<Pp>

@@ -1,2 +1,2 @@
-mod Carried
-mod Queued
+mod EndsLemmas
+mod WaitingLemmas

@@ -11,7 +11,7 @@ ghost use Rattle.lvm_copy_learn.specs.Carried.{IsCarrying};
 
 use crate::next::pass;
 use crate::step::{hold, leave_step, miss, settle};
-use lvm_ends::lower::{end_copy, end_flight, return_flight, review};
+use lvm_ends::below::{end_copy, end_flight, return_flight, review};
 use lvm_num::{Pbuf, Pp};
 use lvm_session::{CopyEnd, Session};
 

@@ -1,9 +1,9 @@
 //! The end of a transfer of the copy that is brought up.
 #![tactic(auto)]
 
+pub mod below;
 mod cases;
 mod learn;
-pub mod lower;
 mod next;
 mod step;
 

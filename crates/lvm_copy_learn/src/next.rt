@@ -9,7 +9,7 @@ ghost use Rattle.lvm_session.specs.Marks.{WantsFresh};
 ghost use Rattle.lvm_copy_learn.specs.Carried.{MayGoOn, MayPass, MovesTo, Passes};
 
 use lvm_calls::{enter_step, step_place};
-use lvm_ends::lower::is_whole;
+use lvm_ends::below::is_whole;
 use lvm_num::DiskSet;
 use lvm_session::{OpenCopy, Session, Step};
 use lvm_status::Change;

@@ -10,12 +10,12 @@ ghost use Rattle.lvm_session.specs.Ends.{with_copy, without_step};
 ghost use Rattle.lvm_session.specs.Owners.{flies};
 ghost use Rattle.lvm_copy_learn.specs.Carried.{Carried, IsCarrying, Tries};
 
-use lvm_ends::lower::{is_running, leave_if_inside};
+use lvm_ends::below::{is_running, leave_if_inside};
 use lvm_num::{Pbuf, Pp};
 use lvm_session::{OpenCopy, Session, Step};
 
 /// What a transfer of the copy was for.
-#[derive(Clone, Copy, Debug, PartialEq, Eq)]
+#[derive(Clone, Copy)]
 pub enum Carry {
     /// The copy had ended before.
     Nothing,

@@ -5,11 +5,10 @@ use Rattle.lvm_vol.specs.Facts.{Fact}
 use Rattle.lvm_vol.specs.Log.{Log}
 use Rattle.lvm_session.specs.declared.open.Power.TheVariants as power
 use Rattle.lvm_session.specs.State.{Core, State}
-use Rattle.lvm_volume_lines.specs.passed.VolumePlan.{GroupFault}
+use Rattle.lvm_volume_lines.specs.passed.VolumePlan.{GroupFault, is_over}
 use Rattle.lvm_volume_lines.specs.passed.GroupFaultVariants as fault
 use Rattle.lvm_volume_lines.specs.passed.Mirrors.{MklvcopyGives, RmlvcopyGives}
 use Rattle.lvm_volume_lines.proofs.passed.Stage.{Bears, bears_cut}
-use Rattle.lvm_volume_lines.specs.Volumes.{is_over}
 use Rattle.lvm_volume_lines.proofs.Ending.{Facts, SameShape}
 
 same_shape : (old new : State) → new ≡ old → SameShape old new

@@ -1,6 +1,5 @@
-pub mod handed
 pub mod passed
 pub mod Giving
-pub mod Carrying
-pub mod Lines
-pub mod Synced
+pub mod ServingLemmas
+pub mod CopiesLemmas
+pub mod ResyncingLemmas

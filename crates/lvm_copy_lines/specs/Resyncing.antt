@@ -3,7 +3,7 @@ use Rattle.std.specs.Prelude.{◌≡◌, ◌≢◌, ℕ, List, [], Option, Some,
 use Rattle.lvm_num.specs.Votes.{total_votes}
 use Rattle.lvm_session.specs.Calls.{has_numbers}
 use Rattle.lvm_session.specs.Sound.{IsSound}
-use Rattle.lvm_session.specs.State.{Core, State as Session, votes_there}
+use Rattle.lvm_session.specs.State.{Core, State, votes_there}
 use Rattle.lvm_core.specs.Looking.{IsNumberOf, HasNoVolumeNamed}
 use Rattle.lvm_resync.specs.declared.fault.SyncFault.{SyncFault}
 use Rattle.lvm_resync.specs.declared.fault.SyncFault.TheVariants as fault
@@ -50,7 +50,7 @@ numbers_reply core = if has_numbers core then reply.Synced 0 else reply.Refused 
 
 -- Copies of the session that is on are passed, with the patience of a line; and so it goes on, or is closed.
 pub record IsSynced (refused : Core → Option SyncFault) (copies : List Copy) (core : Core) (old new : ScriptState) (answer : Reply) : Type 0 where
-  pub end : Session
+  pub end : State
   pub left : ℕ
   pub result : Result ℕ SyncFault
   pub gives : SyncGives (refused core) copies patience_of_line left (session_over old core) end result

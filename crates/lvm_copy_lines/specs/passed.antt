@@ -1,11 +1,11 @@
 pub mod AskRangeFaultVariants
 pub mod DiskLines
-pub mod DrainFaultVariants
 pub mod Driver
 pub mod Group
 pub mod GroupLines
 pub mod HolderVariants
 pub mod Mirrors
+pub mod Names
 pub mod Quiesce
 pub mod QuiescedVariants
 pub mod RangeLines
@@ -23,4 +23,5 @@ pub mod TieCommands
 pub mod TieCopies
 pub mod Varyon
 pub mod VolumeLines
+pub mod VolumePlanFaultGroupFault
 pub mod Volumes

@@ -5,7 +5,7 @@ ghost use Rattle.lvm_core.specs.Settled.{IsSettled};
 ghost use Rattle.lvm_core.specs.State.{state_of};
 ghost use Rattle.lvm_volume_lines.specs.passed.Mirrors.{MklvcopyGives, RmlvcopyGives, to_add, to_take};
 ghost use Rattle.lvm_volume_lines.specs.passed.TieCopies.{KeepsShownOf, added_by};
-ghost use Rattle.lvm_volume_lines.specs.passed.Stage.{EndsUnasked, OfGroup, OfGroupWhere, IsBetweenStage, IsFitting};
+ghost use Rattle.lvm_volume_lines.specs.passed.Stage.{EndsUnasked, OfGroup, OfGroupWhere, IsBetweenStage, IsFittingStage};
 ghost use Rattle.lvm_volume_lines.specs.Commands.{IsCarriedOut, none_added};
 ghost use Rattle.lvm_copy_lines.specs.Copies.{MklvcopyDoes, RmlvcopyDoes};
 
@@ -13,9 +13,9 @@ use lvm_core::Driver;
 use lvm_disk::Shelf;
 use lvm_num::Name;
 use lvm_transfer::Patience;
+use lvm_volume_lines::below::Post;
 use lvm_volume_lines::below::mirrors::{mklvcopy, rmlvcopy};
 use lvm_volume_lines::below::stage::{Answered, Refusal, Reply, Stage};
-use lvm_volume_lines::lower::Post;
 use lvm_volume_lines::{after_fault, come_to_rest, drain_refusal, go_on};
 use std::alloc::Global;
 
@@ -66,7 +66,7 @@ fn remove_copies<S: Shelf>(
 /// Gives the volume of the name in the group that is on further copies, until it has so many, if no request of the group
 /// is open. Turns are made first until nothing is under way, and the name is looked up then.
 pub fn do_mklvcopy<S: Shelf>(alloc: Global, stage: Stage<S>, name: Name, copies: u8) -> Answered<S>
-    requires fits { IsFitting stage }
+    requires fits { IsFittingStage stage }
     requires between { IsBetweenStage S.device stage }
     ensures { EndsUnasked S.device (λ _. MklvcopyDoes name copies) ⊥ OfGroup stage result.stage result.reply }
 {
@@ -97,7 +97,7 @@ pub fn do_mklvcopy<S: Shelf>(alloc: Global, stage: Stage<S>, name: Name, copies:
 /// What stood goes on to stand where each logical partition keeps a fresh copy whose member shows the group. A copy
 /// that can't be reached is fresh too, by the status.
 pub fn do_rmlvcopy<S: Shelf>(alloc: Global, stage: Stage<S>, name: Name, copies: u8) -> Answered<S>
-    requires fits { IsFitting stage }
+    requires fits { IsFittingStage stage }
     requires between { IsBetweenStage S.device stage }
     ensures { EndsUnasked S.device (λ _. RmlvcopyDoes name copies) ⊥ (OfGroupWhere (KeepsShownOf name copies)) stage result.stage result.reply }
 {

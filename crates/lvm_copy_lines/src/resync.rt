@@ -2,18 +2,19 @@
 ghost use Rattle.std.specs.Prelude.{◌≡◌, IfErr};
 ghost use Rattle.lvm_session.specs.Sound.{IsSound};
 ghost use Rattle.lvm_core.specs.Looking.{IsNumberOf};
-ghost use Rattle.lvm_volume_lines.specs.passed.Driver.{state_of};
+ghost use Rattle.lvm_session.specs.State.{state_of};
 ghost use Rattle.lvm_volume_lines.specs.passed.RangeLines.{serving};
-ghost use Rattle.lvm_volume_lines.specs.passed.Stage.{EndsUnasked, OfRequests, IsBetweenStage, IsFitting};
+ghost use Rattle.lvm_volume_lines.specs.passed.Stage.{EndsUnasked, OfRequests, IsBetweenStage, IsFittingStage};
 ghost use Rattle.lvm_copy_lines.specs.Resyncing.{MayCome, SyncGroupDoes, SyncVolumeDoes, numbers_reply, sync_refusal, sync_reply};
 
+use lvm_core::number_of;
 use lvm_disk::Shelf;
 use lvm_num::Name;
 use lvm_resync::{SyncFault, sync_group, sync_volume};
 use lvm_transfer::Patience;
+use lvm_volume_lines::below::Post;
 use lvm_volume_lines::below::driver::Driver;
-use lvm_volume_lines::below::stage::{Answered, Holder, Refusal, Reply, Stage, number_of};
-use lvm_volume_lines::lower::Post;
+use lvm_volume_lines::below::stage::{Answered, Holder, Refusal, Reply, Stage};
 
 // A fault of a resync, as the refusal of its line. No copy is open between lines, and whole volumes are asked for.
 fn sync_refusal<S: Shelf>(driver: &Driver<S>, why: SyncFault) -> Refusal
@@ -57,7 +58,7 @@ fn sync_numbered<S: Shelf>(
     name: Name,
     lv: u16,
 ) -> Answered<S>
-    requires fits { IsFitting (serving driver posts bytes) }
+    requires fits { IsFittingStage (serving driver posts bytes) }
     requires between { IsBetweenStage S.device (serving driver posts bytes) }
     requires number { IsNumberOf driver.1.descriptor.lvs name lv }
     ensures { EndsUnasked S.device (λ _. SyncVolumeDoes name) ⊥ OfRequests (serving driver posts bytes) result.stage result.reply }
@@ -80,7 +81,7 @@ fn sync_volume_on<S: Shelf>(
     bytes: Vec<u8>,
     name: Name,
 ) -> Answered<S>
-    requires fits { IsFitting (serving driver posts bytes) }
+    requires fits { IsFittingStage (serving driver posts bytes) }
     requires between { IsBetweenStage S.device (serving driver posts bytes) }
     ensures { EndsUnasked S.device (λ _. SyncVolumeDoes name) ⊥ OfRequests (serving driver posts bytes) result.stage result.reply }
 {
@@ -97,7 +98,7 @@ fn sync_volume_on<S: Shelf>(
 
 /// Brings up the stale copies of a volume of the group that is on, beside its requests.
 pub fn do_sync_volume<S: Shelf>(stage: Stage<S>, name: Name) -> Answered<S>
-    requires fits { IsFitting stage }
+    requires fits { IsFittingStage stage }
     requires between { IsBetweenStage S.device stage }
     ensures { EndsUnasked S.device (λ _. SyncVolumeDoes name) ⊥ OfRequests stage result.stage result.reply }
 {
@@ -138,7 +139,7 @@ fn sync_group_on<S: Shelf>(
     bytes: Vec<u8>,
     name: Name,
 ) -> Answered<S>
-    requires fits { IsFitting (serving driver posts bytes) }
+    requires fits { IsFittingStage (serving driver posts bytes) }
     requires between { IsBetweenStage S.device (serving driver posts bytes) }
     requires named { driver.1.descriptor.name ≡ name }
     ensures { EndsUnasked S.device (λ _. SyncGroupDoes name) ⊥ OfRequests (serving driver posts bytes) result.stage result.reply }
@@ -156,7 +157,7 @@ fn sync_group_on<S: Shelf>(
 
 /// Brings up the stale copies of the group of the name, if it is on, beside its requests.
 pub fn do_sync_group<S: Shelf>(stage: Stage<S>, name: Name) -> Answered<S>
-    requires fits { IsFitting stage }
+    requires fits { IsFittingStage stage }
     requires between { IsBetweenStage S.device stage }
     ensures { EndsUnasked S.device (λ _. SyncGroupDoes name) ⊥ OfRequests stage result.stage result.reply }
 {

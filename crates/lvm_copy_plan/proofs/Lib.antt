@@ -1,6 +1,4 @@
-pub mod handed
+pub mod passed
 pub mod Parts
-pub mod Rows
-pub mod More
-pub mod Fewer
-pub mod Finding
+pub mod CopiesLemmas
+pub mod DescriptorLemmas

@@ -7,7 +7,7 @@ use Rattle.std.proofs.lemmas.List.Elements.{All-append, All-nil}
 use Rattle.std.proofs.Math.Nat.{mul-le-mul_right}
 use Rattle.lvm_num.specs.declared.place.Pp.{Pp}
 use Rattle.lvm_num.proofs.Pairs.{AllPairs-append}
-use Rattle.lvm_num.proofs.ListLemmas.{one_of_left, one_of_right}
+use Rattle.lvm_num.proofs.AmongLemmas.{one_of_left, one_of_right}
 use Rattle.lvm_kept.specs.Group.{IsOneOf}
 use Rattle.lvm_map.proofs.Parts.{parts}
 

@@ -1,7 +1,7 @@
 //! What stands against copies that are to be added or removed, and the descriptor with them.
 ghost use Rattle.std.specs.Prelude.{◌≡◌, ◌≤◌, ◌<◌, ◌*◌, ℕ, length, IsTrue, IfOk, IfErr, IfSome, IfNone};
 ghost use Rattle.lvm_num.specs.declared.descriptor.LvRow.{LvRow};
-ghost use Rattle.lvm_volume_plan.specs.handed.Names.{IsSettled};
+ghost use Rattle.lvm_volume_plan.specs.passed.Names.{IsSettled};
 ghost use Rattle.lvm_volume_plan.specs.Faults.{TakesCommands};
 ghost use Rattle.lvm_volume_plan.specs.PlannedVolume.{AreOfOneGroup};
 ghost use Rattle.lvm_copy_plan.specs.Faults.{MayGrow, HasFurtherPlaces, MayBeAdded, RefusesMklvcopy, MayShrink, has_fresh, keeps_fresh, IsFirstLoss, KeepsFresh, MayBeTaken, RefusesRmlvcopy};
@@ -10,10 +10,10 @@ ghost use Rattle.lvm_copy_plan.specs.PlannedCopies.{ArePlanned, IsWithFewer};
 use crate::next::{copies_at, first_copies, further_copies, with_copies};
 use lvm_disk::Shelf;
 use lvm_map::{MapFault, allocate_more};
-use lvm_num::{LvRow, Memory, Pp, Rows, volume_of};
+use lvm_num::{LvRow, Memory, Pp, Rows, volume_among};
 use lvm_stale::StaleTable;
 use lvm_status::members_there;
-use lvm_volume_plan::lower::{Driver, Prepared};
+use lvm_volume_plan::below::{Driver, Prepared};
 use lvm_volume_plan::{GroupFault, has_room, takes_commands};
 use std::alloc::Global;
 
@@ -79,7 +79,7 @@ fn check_more<S: Shelf>(driver: &Driver<S>, lv: u16, copies: u8) -> Result<(), G
     ensures refused { IfErr result (RefusesMklvcopy lv copies driver.now.1) }
 {
     takes_commands(driver)?;
-    let Some(row) = volume_of(driver.descriptor().lvs.as_slice(), lv) else {
+    let Some(row) = volume_among(driver.descriptor().lvs.as_slice(), lv) else {
         return Err(GroupFault::NoVolume);
     };
     if copies <= row.copies || copies > COPIES {
@@ -122,7 +122,7 @@ fn more<S: Shelf>(
     ensures { IfOk result (λ more. ArePlanned lv copies driver.now.1 more.added more.next) }
 {
     let group = driver.descriptor();
-    let Some(row) = volume_of(group.lvs.as_slice(), lv) else {
+    let Some(row) = volume_among(group.lvs.as_slice(), lv) else {
         unreachable!()
     };
     let places = map.as_slice();
@@ -141,7 +141,7 @@ fn check_fewer<S: Shelf>(driver: &Driver<S>, lv: u16, copies: u8) -> Result<(), 
     ensures refused { IfErr result (RefusesRmlvcopy lv copies driver.now.1) }
 {
     takes_commands(driver)?;
-    let Some(row) = volume_of(driver.descriptor().lvs.as_slice(), lv) else {
+    let Some(row) = volume_among(driver.descriptor().lvs.as_slice(), lv) else {
         return Err(GroupFault::NoVolume);
     };
     if copies < 1 || copies >= row.copies {
@@ -156,7 +156,7 @@ fn check_fresh<S: Shelf>(driver: &Driver<S>, lv: u16, copies: u8) -> Result<(), 
     ensures keeps { IfOk result (λ done. (row : LvRow) × KeepsFresh lv copies driver.now.1 row) }
     ensures refused { IfErr result (RefusesRmlvcopy lv copies driver.now.1) }
 {
-    let Some(row) = volume_of(driver.descriptor().lvs.as_slice(), lv) else {
+    let Some(row) = volume_among(driver.descriptor().lvs.as_slice(), lv) else {
         unreachable!()
     };
     match first_loss(driver.table(), row, copies) {
@@ -205,7 +205,7 @@ fn fewer<S: Shelf>(
     ensures { IfOk result (IsWithFewer lv copies driver.now.1) }
 {
     let group = driver.descriptor();
-    let Some(row) = volume_of(group.lvs.as_slice(), lv) else {
+    let Some(row) = volume_among(group.lvs.as_slice(), lv) else {
         unreachable!()
     };
     let map = first_copies(alloc, row, copies)?;

@@ -1,8 +1,8 @@
 //! What stands against copies that are to be added or removed, and the descriptor with them.
 #![tactic(auto)]
 
+pub mod below;
 mod copies;
-pub mod lower;
 mod next;
 
 pub use copies::{MoreCopies, prepare_fewer};

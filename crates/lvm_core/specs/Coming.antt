@@ -3,11 +3,11 @@ use Rattle.std.specs.Prelude.{ℕ, ◌+◌, Result, Ok, Err}
 use Rattle.lvm_disk.specs.Device.{Device}
 use Rattle.lvm_vol.specs.Log.{Log}
 use Rattle.lvm_kept.specs.Moments.{StaysCalm}
-use Rattle.lvm_commit.specs.handed.Names.{Keeps, at, ClockIsAhead, IsBehind}
+use Rattle.lvm_commit.specs.passed.Names.{Keeps, at, ClockIsAhead, IsBehind}
 use Rattle.lvm_write.specs.Parts.{Spends}
 use Rattle.lvm_commit.specs.Settling.{NoneIsLeft}
 use Rattle.lvm_core.specs.declared.refused.Refused.{Refused}
-use Rattle.lvm_over.specs.handed.Names.{Core, State}
+use Rattle.lvm_over.specs.passed.Names.{Core, State}
 use Rattle.lvm_core.specs.Held.{StartsHeld}
 use Rattle.lvm_core.specs.Settled.{IsSettled, HasSpareNumbers}
 

@@ -1,6 +1,5 @@
 -- How the calls end by which a session commits a descriptor or marks.
 use Rattle.std.specs.Prelude.{◌≡◌, ◌⊎◌, ℕ, ◌<◌, Bool, true, false, ◌&&◌, ◌||◌, ◌++◌, not, List, Result, Ok, Err, IsTrue, IfSome, All, slice_set}
-use Rattle.std.specs.List.{list_any}
 use Rattle.lvm_num.specs.declared.place.Pp.{Pp}
 use Rattle.lvm_num.specs.declared.descriptor.Descriptor.{Descriptor}
 use Rattle.lvm_num.specs.declared.status.Status.{Status}
@@ -12,17 +11,16 @@ use Rattle.lvm_disk.specs.Device.{IsReady, image_of}
 use Rattle.lvm_vol.specs.Facts.{Fact}
 use Rattle.lvm_kept.specs.Contents.{contents_of}
 use Rattle.lvm_kept.specs.Moments.{Moment}
-use Rattle.lvm_commit.specs.handed.Names.{Begins, Holds, Keeps, IsBehind}
-use Rattle.lvm_stale.specs.Table.{is_pp}
+use Rattle.lvm_commit.specs.passed.Names.{Begins, Holds, IsBehind}
 use Rattle.lvm_write.specs.Written.{IsDarkened, IsGivenUp}
 use Rattle.lvm_commit.specs.LawsOfData.{IsFree}
 use Rattle.lvm_commit.specs.LawsOfVolumes.{VolumeServes}
 use Rattle.lvm_commit.specs.Settling.{NoneIsLeft, IsPassedOver, HasLostQuorum, AreWell, SpendsNumbers, StaysCommitted, IsPlain}
 use Rattle.lvm_core.specs.declared.fault.CommitFault.{CommitFault}
 use Rattle.lvm_core.specs.declared.fault.CommitFault.TheVariants as fault
-use Rattle.lvm_over.specs.handed.SessionOpenPower as power
-use Rattle.lvm_over.specs.handed.Names.{State, all_dark}
-pub use Rattle.lvm_over.specs.handed.Names.{moment_of}
+use Rattle.lvm_over.specs.passed.SessionOpenPower as power
+use Rattle.lvm_over.specs.passed.Names.{State, all_dark, is_among}
+pub use Rattle.lvm_over.specs.passed.Names.{moment_of}
 use Rattle.lvm_core.specs.Held.{IsHeld}
 use Rattle.lvm_core.specs.Settled.{IsSettled}
 
@@ -90,9 +88,6 @@ MarkEnds patience old new answer = RecordsEnd (HasStated old.core.descriptor old
 
 -- ---- marks
 
-abbrev pub is_among : List Pp → Pp → Bool
-is_among pps p = list_any (λ (q : Pp). is_pp p q) pps
-
 -- each of the partitions is one of its member that no volume of the group has
 abbrev pub AreUnused : Descriptor → List Pp → Type 0
 AreUnused d pps = All (λ (p : Pp). IsPartitionOf d p × IsFree d p) pps
@@ -117,10 +112,6 @@ pub record Restates (stale fresh : List Pp) (old new : State) : Type 0 where
   pub none : NoneIsLeft old.core.descriptor old.core.status → NoneIsLeft old.core.descriptor new.core.status
 
 -- ---- the moments
-
--- A span that leads to the one moment goes on to the other.
-abbrev pub SpanGoesOn : ℕ → Moment → State → State → Type 0
-SpanGoesOn run first old new = Keeps run first (moment_of old) → Keeps run first (moment_of new)
 
 -- In a history that may have stood before the span, what lets the session's next descriptor be committed: a volume is being made or removed by it.
 abbrev pub LetsCommit : ℕ → Descriptor → ℕ → Moment → State → Type 0

@@ -5,7 +5,7 @@ use Rattle.lvm_kept.specs.Contents.{contents_of}
 use Rattle.lvm_kept.specs.Group.{is_named}
 use Rattle.lvm_mwc.specs.Cache.{is_named as is_named_by}
 use Rattle.lvm_commit.specs.Committed.{HoldsCommitted}
-use Rattle.lvm_over.specs.handed.Names.{Core, is_there}
+use Rattle.lvm_over.specs.passed.Names.{Core, is_there}
 
 -- they hold what the session says is committed
 abbrev pub IsHeld : Device → Core → Type 0
@@ -18,7 +18,7 @@ NotesAreHome core image = (d lv group : ℕ) → IsTrue (is_there core d) → is
 abbrev pub AreNotesHome : Device → Core → Type 0
 AreNotesHome device core = IfSome device.media (λ media. NotesAreHome core (image_of device.sizes media))
 
--- As a session begins the disks hold what it says is committed, and their notes name what its cache does.
+-- The disks hold what the session says is committed, and their notes name what its cache does, as where a session begins.
 pub record StartsHeld (device : Device) (core : Core) : Type 0 where
   pub held : IsHeld device core
   pub notes : AreNotesHome device core

@@ -14,13 +14,13 @@ use Rattle.lvm_kept.specs.Contents.{contents_of}
 use Rattle.lvm_kept.specs.Group.{IsFound}
 use Rattle.lvm_kept.specs.Moments.{Moment, StaysCalm}
 use Rattle.lvm_kept.specs.Plans.{Plan}
-use Rattle.lvm_commit.specs.handed.Names.{Begins}
+use Rattle.lvm_commit.specs.passed.Names.{Begins, SpanGoesOn}
 use Rattle.lvm_write.specs.Parts.{Spends}
 use Rattle.lvm_write.specs.Written.{KeepsShelf}
 use Rattle.lvm_commit.specs.Settling.{there, HasAnother, HasSameRows, SpendsNumbers, IsOfStatus, IsOfCommit}
-use Rattle.lvm_over.specs.handed.Names.{State, is_there}
+use Rattle.lvm_over.specs.passed.Names.{State, is_there}
 use Rattle.lvm_core.specs.Held.{IsHeld}
-use Rattle.lvm_core.specs.Committing.{moment_of, SpanGoesOn, LetsCommit, StaysBehind}
+use Rattle.lvm_core.specs.Committing.{moment_of, LetsCommit, StaysBehind}
 use Rattle.lvm_core.specs.Zeros.{IsZeroOf}
 
 -- ---- what a call may do
@@ -133,7 +133,7 @@ pub record Leaves (scope : Scope) (before after : ℕ) (old new : State) : Type 
   pub numbers : SpendsNumbers scope.numbers old.core.status new.core.status
   pub history : KeepsHistory old.core.history new.core.history
   -- a span that leads here goes on, where the disks hold what the session says by whatever was told before it
-  pub spans : (run : ℕ) (first : Moment) → IsHeldSince run first old → scope.lets old new run first → SpanGoesOn run first old new
+  pub spans : (run : ℕ) (first : Moment) → IsHeldSince run first old → scope.lets old new run first → SpanGoesOn run first (moment_of old) (moment_of new)
   pub finds : FindsOnly scope.next old new
   -- no write is open that wasn't, and the disks stay behind the clock
   pub calm : StaysCalm (moment_of old) (moment_of new)

@@ -1,4 +1,4 @@
-pub mod handed
+pub mod passed
 pub mod State
 pub mod Sound
 pub mod Starting

@@ -2,15 +2,16 @@
 use Rattle.std.specs.Prelude.{◌≡◌, ◌≤◌, ◌+◌, ℕ, false, true, List, [], None, length, replicate, slice_index_or}
 use Rattle.lvm_num.specs.Descriptor.{IsValid, is_member}
 pub use Rattle.lvm_vol.specs.Log.{HaveAllLanded}
+pub use Rattle.lvm_over.specs.passed.Names.{HasNoneOpen}
 use Rattle.lvm_mwc.specs.Entries.{AreEntries}
 use Rattle.lvm_mwc.specs.Cache.{has_disk, flight_on}
 use Rattle.lvm_status.specs.Members.{HasItsRows}
 use Rattle.lvm_commit.specs.Settling.{IsForgotten}
-use Rattle.lvm_over.specs.handed.SessionOpenPower as power
-use Rattle.lvm_over.specs.handed.Names.{Core, State, is_lost, ArePlaced, IsLit, IsDark, count_if, is_dark, out_with}
+use Rattle.lvm_over.specs.passed.SessionOpenPower as power
+use Rattle.lvm_over.specs.passed.Names.{Core, State, is_lost, ArePlaced, IsLit, IsDark, count_if, is_dark, out_with}
 
 -- The parts of a session are of one group, and their rooms agree.
-pub record IsFitting (core : Core) : Type 0 where
+pub record IsFittingBetween (core : Core) : Type 0 where
   pub valid : IsValid core.descriptor
   pub id : core.status.wanted.id ≡ core.descriptor.id
   pub rows : HasItsRows core.descriptor core.status.wanted
@@ -25,11 +26,6 @@ pub record IsFitting (core : Core) : Type 0 where
   pub last : length core.last ≡ 512
   pub forgotten : IsForgotten core.status
 
--- neither a request nor a copy is open
-pub record HasNoneOpen (core : Core) : Type 0 where
-  pub requests : core.requests ≡ []
-  pub copy : core.copy ≡ None
-
 -- nothing of the session may have a transfer under way
 pub record IsQuiet (core : Core) : Type 0 where
   pub requests : core.requests ≡ []
@@ -39,7 +35,7 @@ pub record IsQuiet (core : Core) : Type 0 where
   pub buffers : core.pool ≡ replicate (length core.pool) false
 
 pub record IsSoundBetween (s : State) : Type 0 where
-  pub fitting : IsFitting s.core
+  pub fitting : IsFittingBetween s.core
   pub none : HasNoneOpen s.core
   pub landed : HaveAllLanded s.core.history.facts
   -- the members that aren't missing are on the shelf

@@ -6,14 +6,14 @@ use Rattle.lvm_num.specs.Geometry.{data_start, partition_blocks}
 use Rattle.lvm_disk.specs.Counts.{Rose}
 use Rattle.lvm_disk.specs.Device.{Device, IsReady}
 use Rattle.lvm_kept.specs.Plans.{Plan}
-use Rattle.lvm_commit.specs.handed.Names.{Moved}
-use Rattle.lvm_commit.specs.handed.TransferMovesMoved as moved
+use Rattle.lvm_commit.specs.passed.Names.{Moved}
+use Rattle.lvm_commit.specs.passed.TransferMovesMoved as moved
 use Rattle.lvm_write.specs.Parts.{DoesPart, IfMoved}
 use Rattle.lvm_commit.specs.LawsOfData.{IsSectorOf}
 use Rattle.lvm_commit.specs.LawsOfFinding.{FindsNothingNewOn}
 use Rattle.lvm_core.specs.declared.fault.CommitFault.{CommitFault}
 use Rattle.lvm_core.specs.declared.fault.CommitFault.TheVariants as fault
-use Rattle.lvm_over.specs.handed.Names.{Core, State, all_dark}
+use Rattle.lvm_over.specs.passed.Names.{Core, State, all_dark}
 use Rattle.lvm_core.specs.Held.{IsHeld}
 use Rattle.lvm_core.specs.Committing.{HasGoneDark, IsLeftOut, with_one_out}
 

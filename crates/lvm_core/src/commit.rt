@@ -1,12 +1,12 @@
 //! What a session writes by itself: zeros, its statuses and its descriptors.
 ghost use Rattle.std.specs.Prelude.{◌≡◌, ◌≤◌, ◌<◌, ◌++◌, false, length, replicate, All};
 ghost use Rattle.lvm_disk.specs.Device.{IsReady};
-ghost use Rattle.lvm_session_start.specs.handed.Names.{IsOut};
+ghost use Rattle.lvm_session_start.specs.passed.Names.{IsOut};
 ghost use Rattle.lvm_status.specs.Calls.{IsMarkable};
 ghost use Rattle.lvm_commit.specs.Committed.{IsAlike};
 ghost use Rattle.lvm_commit.specs.Settling.{IfBack, MayCommit};
-ghost use Rattle.lvm_over.specs.handed.Names.{core_of, HasRooms, SameRooms, state};
-ghost use Rattle.lvm_core.specs.Sound.{IsFitting, HasNoneOpen};
+ghost use Rattle.lvm_over.specs.passed.Names.{core_of, HasRooms, SameRooms, state};
+ghost use Rattle.lvm_core.specs.Sound.{IsFittingBetween, HasNoneOpen};
 ghost use Rattle.lvm_core.specs.Committing.{with_one_out};
 ghost use Rattle.lvm_core.specs.Steps.{EndsAs, EndsWith, CommitsDescriptor, CommitsMarks};
 ghost use Rattle.lvm_core.specs.Zeros.{WritesZeros, HasSectorsOf};
@@ -15,12 +15,12 @@ use crate::fault::CommitFault;
 use crate::marks::mark;
 use crate::prepared::Prepared;
 use crate::zero::write_zeros;
-use lvm_commit::lower::{Moved, Patience};
+use lvm_commit::below::{Moved, Patience};
 use lvm_commit::{CommitEnd, commit_descriptor, commit_status};
 use lvm_disk::Shelf;
 use lvm_num::{Descriptor, Pbuf, Pp};
+use lvm_over::below::{Power, Session};
 use lvm_over::darken;
-use lvm_over::lower::{Power, Session};
 
 // The first buffer, where all are in.
 fn take_buffer(session: &mut Session) -> Pbuf
@@ -43,7 +43,7 @@ pub fn zero<S: Shelf>(
     patience: &mut Patience,
 ) -> Result<(), CommitFault>
     requires ready { IsReady (S.device shelf.old) }
-    requires fitting { IsFitting (core_of session.old) }
+    requires fitting { IsFittingBetween (core_of session.old) }
     requires none { HasNoneOpen (core_of session.old) }
     requires buffers { session.old.pool ≡ replicate (length session.old.pool) false }
     requires partition { pp.pp < 1016 }
@@ -121,7 +121,7 @@ pub fn commit<S: Shelf>(
     next: Prepared,
     patience: &mut Patience,
 ) -> Result<(), CommitFault>
-    requires fitting { IsFitting (core_of session.old) }
+    requires fitting { IsFittingBetween (core_of session.old) }
     requires none { HasNoneOpen (core_of session.old) }
     requires buffers { session.old.pool ≡ replicate (length session.old.pool) false }
     requires rooms { HasRooms session.old }
@@ -154,7 +154,7 @@ pub fn set_status<S: Shelf>(
     fresh: &[Pp],
     patience: &mut Patience,
 ) -> Result<(), CommitFault>
-    requires fitting { IsFitting (core_of session.old) }
+    requires fitting { IsFittingBetween (core_of session.old) }
     requires none { HasNoneOpen (core_of session.old) }
     requires buffers { session.old.pool ≡ replicate (length session.old.pool) false }
     requires rooms { HasRooms session.old }

@@ -9,8 +9,8 @@ ghost use Rattle.lvm_write.specs.Written.{KeepsShelf};
 ghost use Rattle.lvm_commit.specs.Committed.{IsAlike};
 ghost use Rattle.lvm_commit.specs.LawsOfData.{IsFree};
 ghost use Rattle.lvm_commit.specs.Settling.{MarksLeft};
-ghost use Rattle.lvm_over.specs.handed.Names.{Open, core_of, HasRooms, state, is_there, votes_there, is_waiting, after_arrange, ArePlaced};
-ghost use Rattle.lvm_over.specs.handed.SessionOpenPower as power;
+ghost use Rattle.lvm_over.specs.passed.Names.{Open, core_of, HasRooms, state, is_there, votes_there, is_waiting, after_arrange, ArePlaced};
+ghost use Rattle.lvm_over.specs.passed.SessionOpenPower as power;
 ghost use Rattle.lvm_core.specs.State.{state_of};
 ghost use Rattle.lvm_core.specs.Looking.{IsNumberOf, HasNoVolumeNamed};
 ghost use Rattle.lvm_core.specs.Sound.{IsSoundBetween, HaveAllLanded};
@@ -24,15 +24,15 @@ ghost use Rattle.lvm_core.specs.Entering.{IsOfVolume};
 use crate::commit::{commit, set_status, zero};
 use crate::fault::CommitFault;
 use crate::look::number_of;
-use crate::orders::arranged;
 use crate::parts::Parts;
 use crate::prepared::Prepared;
-use lvm_commit::lower::Patience;
+use lvm_commit::below::Patience;
 use lvm_disk::{Arrange, Shelf};
 use lvm_num::{Descriptor, Memory, Name, Pp, Stamp};
-use lvm_over::lower::{Power, Session};
+use lvm_over::arranged;
+use lvm_over::below::{Power, Session};
 use lvm_rec::Homes;
-use lvm_session_start::lower::History;
+use lvm_session_start::below::History;
 use lvm_stale::StaleTable;
 use lvm_vol::Entry;
 use std::alloc::Global;
@@ -47,9 +47,9 @@ pub struct Driver<S: Shelf> {
 }
 
 impl<S: Shelf> Model for Driver<S> {
-    ghost use Rattle.lvm_over.specs.handed.Names.{Core, state};
-    ghost use Rattle.lvm_over.specs.handed.Names.{core_of};
-    ghost use Rattle.lvm_over.specs.handed.Names.{HasRooms};
+    ghost use Rattle.lvm_over.specs.passed.Names.{Core, state};
+    ghost use Rattle.lvm_over.specs.passed.Names.{core_of};
+    ghost use Rattle.lvm_over.specs.passed.Names.{HasRooms};
     ghost use Rattle.lvm_core.specs.Sound.{IsSoundBetween};
 
     ghost Value = { S × Core };
@@ -232,7 +232,7 @@ impl<S: Shelf> Driver<S> {
         ensures some { IfSome result (IsNumberOf self.now.1.descriptor.lvs name) }
         ensures none { IfNone result (HasNoVolumeNamed self.now.1.descriptor.lvs name) }
     {
-        number_of(self.session.descriptor.lvs.as_slice(), &name)
+        number_of(&self.session.descriptor, name)
     }
 
     /// The descriptor of the last command that was answered with Ok. After another answer of `commit` the next
@@ -292,8 +292,8 @@ impl<S: Shelf> Driver<S> {
     }
 }
 
-// Takes back the buffers that a power cut made the shelf give up.
-fn without_freed<S: Shelf>(shelf: S) -> S
+/// Takes back the buffers that a power cut made the shelf give up.
+pub fn without_freed<S: Shelf>(shelf: S) -> S
     ensures { S.device result ≡ record (S.device shelf) { freed = [] } }
 {
     let mut shelf = shelf;

@@ -1,7 +1,7 @@
-//! Why something wasn't committed.
+//! What may break a call off that makes transfers for a session.
 
-/// Why something wasn't committed, or zeros weren't written.
-#[derive(Clone, Copy, Drop)]
+/// Why something wasn't committed, zeros weren't written, or turns ended before nothing was left to be made.
+#[derive(Clone, Copy, PartialEq, Eq, Drop)]
 pub enum CommitFault {
     /// The power was cut, and is off.
     Dark,

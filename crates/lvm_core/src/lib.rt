@@ -1,20 +1,22 @@
 //! The driver of a session: a group that is varied on, over its shelf.
 #![tactic(auto)]
 
+pub mod below;
 mod commit;
 mod driver;
 mod fault;
 mod look;
-pub mod lower;
 mod marks;
-mod orders;
 mod parts;
 mod prepared;
+mod records;
 mod refused;
 mod zero;
 
-pub use driver::{Closed, Driver};
+pub use driver::{Closed, Driver, without_freed};
 pub use fault::CommitFault;
+pub use look::number_of;
 pub use parts::{Parts, Room};
 pub use prepared::Prepared;
+pub use records::{RecordBytes, encode_records};
 pub use refused::{Cause, Refused};

@@ -1,31 +1,24 @@
 //! What is looked up in a group.
 ghost use Rattle.std.specs.Prelude.{◌≡◌, IfSome, IfNone, IsTrue, IsFalse};
-ghost use Rattle.lvm_num.specs.Geometry.{sectors_needed};
 ghost use Rattle.lvm_core.specs.Looking.{IsNumberOf, HasNoVolumeNamed};
-ghost use Rattle.lvm_over.specs.handed.Names.{IsPlaced, AreAllPlaced};
+ghost use Rattle.lvm_over.specs.passed.Names.{IsPlaced, AreAllPlaced};
 
 use lvm_disk::Shelf;
-use lvm_num::{LvRow, Name, PvRow};
+use lvm_num::{Descriptor, Name, PvRow};
+use lvm_quorum::sectors_needed;
 use lvm_stale::StaleTable;
 
-// The number of the volume of this name.
-pub fn number_of(volumes: &[LvRow], name: &Name) -> Option<u16>
-    ensures some { IfSome result (IsNumberOf volumes.now name.now) }
-    ensures none { IfNone result (HasNoVolumeNamed volumes.now name.now) }
+/// The number of the volume of a name.
+pub fn number_of(group: &Descriptor, name: Name) -> Option<u16>
+    ensures some { IfSome result (IsNumberOf group.now.lvs name) }
+    ensures none { IfNone result (HasNoVolumeNamed group.now.lvs name) }
 {
-    for row in volumes {
-        if row.name == *name {
+    for row in group.lvs.as_slice() {
+        if row.name == name {
             return Some(row.number);
         }
     }
     None
-}
-
-// The sectors that a disk with so many partitions of so many MiB needs.
-fn sectors_needed(mib: u16, pps: u16) -> u64
-    ensures { result ≡ sectors_needed mib pps }
-{
-    4096 + 2048 * u64::from(mib) * u64::from(pps)
 }
 
 // Whether a member's disk is on the shelf, and large enough.

@@ -1,6 +1,6 @@
 //! Why a group didn't come on.
 
-use lvm_session_start::lower::History;
+use lvm_session_start::below::History;
 
 /// The shelf and the history where a group didn't come on, and why.
 #[derive(Drop)]

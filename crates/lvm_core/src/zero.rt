@@ -6,7 +6,7 @@ ghost use Rattle.lvm_disk.specs.Device.{IsReady};
 ghost use Rattle.lvm_write.specs.Parts.{DoesPart, IfMoved};
 ghost use Rattle.lvm_core.specs.Zeros.{IsZeroOf, IsZeroed, AreZeroed, HasSectorsOf, IsClear};
 
-use lvm_commit::lower::{Moved, Patience, transfer};
+use lvm_commit::below::{Moved, Patience, transfer};
 use lvm_disk::Shelf;
 use lvm_num::{Pbuf, Pp};
 

@@ -18,7 +18,7 @@ use Rattle.lvm_kept.specs.Contents.{Contents}
 use Rattle.lvm_kept.specs.Group.{if_passes, is_status_of, Finds, IsFound, members_in, Reads, AreAlike, block_at, IsBlockOf, is_named, IsOneOf}
 use Rattle.lvm_kept.specs.Kept.{StandsAs, RawAgrees}
 use Rattle.lvm_invariant.specs.State.{Marks, View, ModelState}
-pub use Rattle.lvm_invariant.specs.State.{has_notes, has_mark}
+use Rattle.lvm_num.specs.Modes.{is_active, is_passive}
 use Rattle.lvm_invariant.specs.Found.{Votes}
 
 -- ---- what a session sees of the disks
@@ -85,8 +85,8 @@ pub record HasVolumes (s : ModelState) (facts : List Fact) (group : Descriptor) 
   pub copies : (row : LvRow) (lp b : ℕ) (p : Pp) → IsOneOf group.lvs row → IsBlockOf group.mib row lp b → IsTrue (s.is_copy row.number b p) ↔ (IsOneOf (copies_of row lp) p × IsTrue (members p.disk))
   pub inside : (lv b : ℕ) (p : Pp) → IsTrue (s.is_copy lv b p) → IsBlockIn group lv b
   pub some : (row : LvRow) (lp : ℕ) → IsOneOf group.lvs row → lp < row.lps → (p : Pp) × IsOneOf (copies_of row lp) p × IsTrue (members p.disk)
-  pub notes : (row : LvRow) → IsOneOf group.lvs row → s.is_active row.number ≡ has_notes row.mode
-  pub mark : (row : LvRow) → IsOneOf group.lvs row → s.is_passive row.number ≡ has_mark row.mode
+  pub notes : (row : LvRow) → IsOneOf group.lvs row → s.is_active row.number ≡ is_active row.mode
+  pub mark : (row : LvRow) → IsOneOf group.lvs row → s.is_passive row.number ≡ is_passive row.mode
   pub modes : (row : LvRow) (lp b : ℕ) → IsOneOf group.lvs row → IsBlockOf group.mib row lp b → (known facts (Lv row.number) b).mode ≡ row.mode
   pub history : (lv : ℕ) → StandsAs group.mib (volumes_in facts lv).standing (volumes_in facts lv).shape (volume_of group lv)
 

@@ -12,10 +12,11 @@ use Rattle.lvm_num.specs.Note.{Noted, note_bytes}
 use Rattle.lvm_num.specs.DescriptorBytes.{descriptor_bytes}
 use Rattle.lvm_num.specs.StatusBytes.{status_bytes}
 use Rattle.lvm_num.specs.Record.{Stamped, frame, slot_start}
-use Rattle.lvm_kept.specs.handed.Names.{Media, Flight, Device}
+use Rattle.lvm_kept.specs.passed.Names.{Media, Flight, Device}
 use Rattle.lvm_kept.specs.Contents.{note_sector}
 use Rattle.lvm_kept.specs.Examples.{row_of, status_of_rows, two}
-use Rattle.lvm_invariant.specs.State.{has_notes, has_mark, ModelState}
+use Rattle.lvm_invariant.specs.State.{ModelState}
+use Rattle.lvm_num.specs.Modes.{is_active, is_passive}
 use Rattle.lvm_invariant.specs.Found.{Votes}
 use Rattle.lvm_invariant.specs.Good.{Good}
 use Rattle.lvm_invariant.specs.First.{at_rest}
@@ -110,7 +111,7 @@ RestMatches = (mode : Mode) (stale : Bool) → IsMet (at_rest mode stale) (recor
 -- A session with a write out to both copies matches a shelf at which it is out to both disks, which name its track group, or call its volume dirty, or neither.
 abbrev pub WritingMatches : Type 0
 WritingMatches =
-    (mode : Mode) → IsMet (writing mode) (record { mode = mode; stale = false; dirty = has_mark mode; named = has_notes mode }) None (to_disk 0 (ones ∷ []) ∷ to_disk 1 (ones ∷ []) ∷ [])
+    (mode : Mode) → IsMet (writing mode) (record { mode = mode; stale = false; dirty = is_passive mode; named = is_active mode }) None (to_disk 0 (ones ∷ []) ∷ to_disk 1 (ones ∷ []) ∷ [])
 
 -- A session that brings up a copy matches one at which the write of a step is out to the disk of the copy.
 abbrev pub SteppingMatches : Type 0

@@ -1,3 +1,3 @@
-pub mod handed
-pub mod Repeats
-pub mod PartLaws
+pub mod passed
+pub mod DescriptorBytesLemmas
+pub mod PartsLemmas

@@ -1,6 +1,6 @@
-pub mod handed
-pub mod Paths
-pub mod CrashImages
-pub mod Rising
-pub mod Stepping
-mod WholeImages
+pub mod passed
+pub mod PathsLemmas
+pub mod DeviceLemmas
+pub mod CountingLemmas
+pub mod StepsLemmas
+mod ImagesLemmas

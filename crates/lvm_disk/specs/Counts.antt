@@ -1,10 +1,11 @@
 -- Counts of 64 bits that never fall.
 use Rattle.std.specs.Prelude.{◌≡◌, ℕ, ◌≤◌}
-pub use Rattle.lvm_num.specs.Counting.{RoseBy, Rose}
+pub use Rattle.lvm_num.specs.Counting.{RoseBy, Rose, next_count}
 
--- at this disk the count rose, and at the others it stands
+-- at this disk the count rose by one, and at the others it stands
 pub record RoseAt (disk : ℕ) (before now : ℕ → ℕ) : Type 0 where
   pub here : Rose (before disk) (now disk)
+  pub once : now disk ≡ next_count (before disk)
   pub elsewhere : (d : ℕ) → (d ≡ disk → ⊥) → now d ≡ before d
 
 -- how often each thing happened: for each disk the starts, the failed reads of records and the other failed transfers; the power cuts; the answers Empty

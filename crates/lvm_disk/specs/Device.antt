@@ -84,8 +84,12 @@ abbrev pub MayLeave : Device → Image → Type 0
 MayLeave device image = IsSomeAnd device.media (λ media. IsCrashImage (image_of device.sizes media) device.flights image)
 
 -- the sectors of the disks are 512 bytes each
+abbrev pub IsWholeImage : Image → Type 0
+IsWholeImage image = (d s : ℕ) → s < image.size d → IsSector (image.sector d s)
+
+-- so are those of disks of these sizes
 abbrev pub AreSectors : List ℕ → Media → Type 0
-AreSectors sizes media = (d s : ℕ) → s < slice_index_or sizes d 0 → IsSector (media d s)
+AreSectors sizes media = IsWholeImage (image_of sizes media)
 
 -- where the media is told, it has such sectors
 abbrev pub HasSectors : Device → Type 0

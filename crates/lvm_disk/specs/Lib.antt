@@ -1,4 +1,4 @@
-pub mod handed
+pub mod passed
 pub mod Counts
 pub mod Device
 pub mod Steps

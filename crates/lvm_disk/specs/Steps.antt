@@ -2,7 +2,7 @@
 use Rattle.std.specs.Prelude.{◌≡◌, ◌⊎◌, ℕ, ◌+◌, ◌-◌, ◌^◌, ◌<◌, ◌≤◌, ◌++◌, Bool, true, false, List, [], ◌∷◌, length, map, drop, Option, Some, None, min, slice_get, unwrap_or, IfSome}
 use Rattle.std.specs.Bool.{MatchBool}
 use Rattle.lvm_num.specs.Buffer.{Buffer}
-use Rattle.lvm_disk.specs.Counts.{Rose, RoseAt, Counts}
+use Rattle.lvm_disk.specs.Counts.{Rose, RoseAt, Counts, next_count}
 use Rattle.lvm_disk.specs.Device.{Media, Flight, Range, Device, written, IsTorn}
 use Rattle.lvm_disk.specs.declared.shelf.Started.{Started}
 use Rattle.lvm_disk.specs.declared.shelf.Started.TheVariants as started
@@ -134,11 +134,12 @@ pub record EndsFailed (old new : Device) (ticket : ℕ) (buf : Buffer) : Type 0 
   pub counts : CountsFailure flight old.counts new.counts
   pub new_is : new ≡ record old { media = new.media; flights = new.flights; counts = new.counts }
 
--- a flight is out, none ended, and the waits rose
+-- a flight is out, none ended, and the waits rose by one
 pub record Waits (old new : Device) : Type 0 where
   pub power : old.power ≡ true
   pub out : 0 < length old.flights
   pub waits : Rose old.counts.waits new.counts.waits
+  pub once : new.counts.waits ≡ next_count old.counts.waits
   pub new_is : new ≡ record old { counts = record old.counts { waits = new.counts.waits } }
 
 -- what a reap may answer

@@ -2,8 +2,8 @@
 //! call.
 #![tactic(auto)]
 
+pub mod below;
 pub mod laws;
-pub mod lower;
 mod shelf;
 
 pub use shelf::{Arrange, Reaped, Shelf, Started};

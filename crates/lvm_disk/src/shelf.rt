@@ -27,7 +27,7 @@ pub enum Reaped {
 }
 
 /// What a shelf for trials may be told to do.
-#[derive(Clone, Copy, Debug, PartialEq, Eq)]
+#[derive(Clone, Copy)]
 pub enum Arrange {
     /// Each transfer of this disk that ends from now on fails.
     Fail(u16),

@@ -1,7 +1,5 @@
-pub mod handed
 pub mod passed
-pub mod Cutting
-pub mod Darkness
-pub mod Ordering
-pub mod Ranging
-pub mod Untaken
+pub mod ShelvesLemmas
+pub mod DarkLemmas
+pub mod DisksLemmas
+pub mod PostsLemmas

@@ -1,11 +1,11 @@
 pub mod AskRangeFaultVariants
-pub mod DrainFaultVariants
 pub mod Driver
 pub mod Earlier
 pub mod Group
 pub mod Handover
 pub mod HolderVariants
 pub mod Mirrors
+pub mod Names
 pub mod Quiesce
 pub mod QuiescedVariants
 pub mod Ranges
@@ -18,4 +18,5 @@ pub mod Tie
 pub mod TieCommands
 pub mod TieCopies
 pub mod Varyon
+pub mod VolumePlanFaultGroupFault
 pub mod Volumes

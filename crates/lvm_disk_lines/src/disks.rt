@@ -4,14 +4,14 @@ ghost use Rattle.lvm_disk_lines.specs.Disks.{WriteDoes, ReadDoes, refusal_by, wr
 ghost use Rattle.lvm_stage.specs.Ends.{EndsUnasked};
 ghost use Rattle.lvm_stage.specs.Moments.{Aside};
 ghost use Rattle.lvm_stage.specs.Replies.{Shows};
-ghost use Rattle.lvm_stage.specs.Stages.{IsBetweenStage, IsFitting};
+ghost use Rattle.lvm_stage.specs.Stages.{IsBetweenStage, IsFittingStage};
 
 use lvm_disk::Shelf;
 use lvm_num::{Memory, Rows, Text};
 use lvm_raw::RawFault;
 use lvm_replies::show_block;
+use lvm_stage::below::Closed;
 use lvm_stage::below::quiesce::{read_disk, write_disk};
-use lvm_stage::lower::Closed;
 use lvm_stage::{Answered, Refusal, Reply, Stage};
 use lvm_transfer::Patience;
 use std::alloc::Global;
@@ -90,7 +90,7 @@ pub fn do_write<S: Shelf>(
     count: u32,
     word: u64,
 ) -> Answered<S>
-    requires fits { IsFitting stage }
+    requires fits { IsFittingStage stage }
     requires between { IsBetweenStage S.device stage }
     requires some { 1 ≤ count }
     requires most { count ≤ 4096 }
@@ -127,7 +127,7 @@ pub fn do_read<S: Shelf>(
     at: u64,
     count: u32,
 ) -> Answered<S>
-    requires fits { IsFitting stage }
+    requires fits { IsFittingStage stage }
     requires between { IsBetweenStage S.device stage }
     requires some { 1 ≤ count }
     requires most { count ≤ 4096 }

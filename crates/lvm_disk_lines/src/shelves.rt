@@ -4,16 +4,16 @@ ghost use Rattle.lvm_disk.specs.declared.shelf.Arrange.TheVariants as arrange;
 ghost use Rattle.lvm_stage.specs.Ends.{EndsUnasked};
 ghost use Rattle.lvm_stage.specs.Moments.{Aside};
 ghost use Rattle.lvm_disk_lines.specs.Shelves.{ArrangeDoes, CutDoes};
-ghost use Rattle.lvm_stage.specs.Stages.{IsBetweenStage, IsFitting};
+ghost use Rattle.lvm_stage.specs.Stages.{IsBetweenStage, IsFittingStage};
 
 use lvm_disk::{Arrange, Shelf};
-use lvm_stage::lower::Closed;
+use lvm_stage::below::Closed;
 use lvm_stage::{Answered, Refusal, Reply, Stage};
 use lvm_transfer::relight;
 
 /// Lets a disk fail, or heal.
 pub fn do_arrange<S: Shelf>(stage: Stage<S>, disk: u16, what: Arrange) -> Answered<S>
-    requires fits { IsFitting stage }
+    requires fits { IsFittingStage stage }
     requires between { IsBetweenStage S.device stage }
     requires what { (what ≡ arrange.Fail disk) ⊎ (what ≡ arrange.Heal disk) }
     ensures { EndsUnasked S.device (λ _. ArrangeDoes disk what) (Unit {0}) Aside stage result.stage result.reply }
@@ -31,7 +31,7 @@ pub fn do_arrange<S: Shelf>(stage: Stage<S>, disk: u16, what: Arrange) -> Answer
 
 /// Cuts the power, and puts it on again. A session that is on ends, and its posts with it.
 pub fn do_cut<S: Shelf>(stage: Stage<S>, word: u64) -> Answered<S>
-    requires fits { IsFitting stage }
+    requires fits { IsFittingStage stage }
     requires between { IsBetweenStage S.device stage }
     ensures { EndsUnasked S.device (λ log. CutDoes log word) (Unit {0}) Aside stage result.stage result.reply }
 {

@@ -20,7 +20,7 @@ const CHUNK: usize = 65_536;
 const HEAD: &str = "mkvg -y genvg -s 1 hdisk0 hdisk1 hdisk2\nmklv -y genlv -c 2 -w a genvg 6\n";
 
 /// Why a script isn't written whole.
-#[derive(Clone, Copy, Debug, PartialEq, Eq)]
+#[derive(Clone, Copy)]
 pub enum ScriptFault {
     /// The sink failed.
     Sink,

@@ -10,7 +10,7 @@ use rand_pcg::Lcg64Xsh32;
 const MOST_BLOCKS: u32 = 8;
 
 /// The three words that a request is made of.
-#[derive(Clone, Copy, Debug, PartialEq, Eq)]
+#[derive(Clone, Copy)]
 pub struct Draw {
     /// Where it begins, by the remainder.
     pub at: u32,

@@ -1,8 +1,8 @@
-pub mod handed
-mod Rooms
-mod Driven
-mod Draining
-mod Causes
-pub mod Beginnings
-mod Closing
-mod Due
+pub mod passed
+mod RoomsLemmas
+mod FieldsLemmas
+mod DrainsLemmas
+mod AnswersLemmas
+pub mod BeginningsLemmas
+mod LogLemmas
+mod CallsLemmas

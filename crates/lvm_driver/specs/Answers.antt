@@ -1,17 +1,12 @@
 -- What the answers of a driver say.
 use Rattle.std.specs.Prelude.{◌≡◌, ℕ, true, find, IfSome}
-use Rattle.lvm_disk.specs.Device.{Device}
 use Rattle.lvm_session.specs.declared.bringing.OpenCopy.{OpenCopy}
 use Rattle.lvm_session.specs.declared.open.Power.TheVariants as power
 use Rattle.lvm_session.specs.Enabled.{is_lost}
 use Rattle.lvm_session.specs.Judging.{copies_in}
-use Rattle.lvm_session.specs.State.{Core, State, state}
+use Rattle.lvm_session.specs.State.{State}
 use Rattle.lvm_session.specs.Calls.{is_asked}
 use Rattle.lvm_session.specs.Causes.{AnyFailedSince, IsAnswered, IsCausedAmong}
-
--- the state of a driver, by the device that its shelf is
-abbrev pub state_of : {S : Type 0} → (S → Device) → S × Core → State
-state_of device driver = state (device driver.0) driver.1
 
 -- ---- causes
 

@@ -7,8 +7,8 @@ use Rattle.lvm_session.specs.State.{State, votes_there}
 use Rattle.lvm_session.specs.declared.answers.Turned.{Turned}
 use Rattle.lvm_session.specs.declared.answers.Turned.TheVariants as turned
 use Rattle.lvm_session.specs.Turns.{Finds, TurnMakes}
-use Rattle.lvm_driver.specs.declared.drain.DrainFault.{DrainFault}
-use Rattle.lvm_driver.specs.declared.drain.DrainFault.TheVariants as fault
+use Rattle.lvm_core.specs.declared.fault.CommitFault.{CommitFault}
+use Rattle.lvm_core.specs.declared.fault.CommitFault.TheVariants as fault
 
 -- a turn, whatever it answers
 abbrev pub IsTurn : State → State → Type 0
@@ -31,14 +31,15 @@ pub record IsOffWith (s : State) (have total : ℕ) : Type 0 where
   pub have_is : have ≡ votes_there s.core
   pub total_is : total ≡ total_votes s.core.descriptor
 
--- why it ends, with so much patience left
-abbrev pub FailsSo : ℕ → State → DrainFault → Type 0
+-- why it ends, with so much patience left: a disk that fails doesn't end it
+abbrev pub FailsSo : ℕ → State → CommitFault → Type 0
 FailsSo left s fault.Dark = s.core.power ≡ power.Dark
 FailsSo left s (fault.WentOff have total) = IsOffWith s have total
 FailsSo left s fault.Stuck = left ≡ 0
+FailsSo left s (fault.DiskFailed disk) = ⊥
 
 -- Nothing is left to be made; or the session is over; or the patience has run out.
-abbrev pub DrainEnds : ℕ → State → Result (Unit {0}) DrainFault → Type 0
+abbrev pub DrainEnds : ℕ → State → Result (Unit {0}) CommitFault → Type 0
 DrainEnds left s (Ok done) = IsDrained s
 DrainEnds left s (Err why) = FailsSo left s why
 
@@ -61,8 +62,9 @@ pub record LastTurn (May : State → Type 0) (patience left : ℕ) (first now : 
   pub makes : TurnMakes old now answer
 
 -- The last turn is the first that finds nothing to wait for, or the session over; or the patience has run out.
-abbrev pub DrainCosts : ℕ → ℕ → State → State → Result (Unit {0}) DrainFault → Type 0
+abbrev pub DrainCosts : ℕ → ℕ → State → State → Result (Unit {0}) CommitFault → Type 0
 DrainCosts patience left old new (Ok done) = LastTurn IsAny patience left old new turned.Idle
 DrainCosts patience left old new (Err fault.Dark) = LastTurn IsAny patience left old new turned.Dark
 DrainCosts patience left old new (Err (fault.WentOff have total)) = LastTurn IsAny patience left old new turned.Off
 DrainCosts patience left old new (Err fault.Stuck) = TurnsWhile IsAny patience old left new
+DrainCosts patience left old new (Err (fault.DiskFailed disk)) = ⊥

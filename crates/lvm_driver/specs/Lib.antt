@@ -1,4 +1,4 @@
-pub mod handed
+pub mod passed
 pub mod Answers
 pub mod Beginnings
 pub mod Drains

@@ -4,35 +4,24 @@ ghost use Rattle.lvm_disk.specs.Counts.{RoseBy};
 ghost use Rattle.lvm_disk.specs.Paths.{Path};
 ghost use Rattle.lvm_num.specs.Votes.{total_votes};
 ghost use Rattle.lvm_session.specs.declared.open.Power.TheVariants as power;
-ghost use Rattle.lvm_session.specs.State.{votes_there};
+ghost use Rattle.lvm_session.specs.State.{votes_there, state_of};
+ghost use Rattle.lvm_core.specs.declared.fault.CommitFault.TheVariants as fault;
 ghost use Rattle.lvm_running.specs.Running.{RunsOn};
-ghost use Rattle.lvm_driver.specs.declared.drain.DrainFault.TheVariants as fault;
-ghost use Rattle.lvm_driver.specs.Answers.{state_of};
 ghost use Rattle.lvm_driver.specs.Drains.{DrainCosts, DrainEnds, IsAny, IsTurn};
 
 use crate::driver::Driver;
+use lvm_core::CommitFault;
 use lvm_disk::Shelf;
 use lvm_session::Turned;
 use lvm_transfer::Patience;
-
-/// Why the turns ended before nothing was left to be made.
-#[derive(Clone, Copy, Debug, PartialEq, Eq)]
-pub enum DrainFault {
-    /// The power is off, and the session is over.
-    Dark,
-    /// The members that aren't missing have too few votes to write, so many of so many, and the session is over.
-    WentOff { have: u32, total: u32 },
-    /// Nothing was heard of the transfers that are out until the patience had run out.
-    Stuck,
-}
 
 impl<S: Shelf> Driver<S> {
     /// Makes turns until no event may be made and no transfer is out.
     ///
     /// # Errors
     ///
-    /// Where the session is over, or was, and where the patience has run out.
-    pub fn drain(&mut self, patience: &mut Patience) -> Result<(), DrainFault>
+    /// Where the session is over, or was (`Dark`, `WentOff`), and where the patience has run out (`Stuck`). No other.
+    pub fn drain(&mut self, patience: &mut Patience) -> Result<(), CommitFault>
         requires unstuck { self.old.1.power ≡ power.Stuck → ⊥ }
         ensures turns { Path IsTurn IsAny (state_of S.device self.old) (state_of S.device self.new) }
         ensures ends { DrainEnds patience.new.left (state_of S.device self.new) result }
@@ -51,17 +40,17 @@ impl<S: Shelf> Driver<S> {
                     }
                     patience.left -= 1;
                 }
-                Turned::Dark => return Err(DrainFault::Dark),
+                Turned::Dark => return Err(CommitFault::Dark),
                 Turned::Off => return Err(self.went_off()),
             }
         }
-        Err(DrainFault::Stuck)
+        Err(CommitFault::Stuck)
     }
 
-    fn went_off(&self) -> DrainFault
+    fn went_off(&self) -> CommitFault
         ensures { result ≡ fault.WentOff (votes_there self.now.1) (total_votes self.now.1.descriptor) }
     {
         let (have, total) = self.votes();
-        DrainFault::WentOff { have, total }
+        CommitFault::WentOff { have, total }
     }
 }

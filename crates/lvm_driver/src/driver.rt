@@ -9,7 +9,7 @@ ghost use Rattle.lvm_session.specs.declared.open.Power.TheVariants as power;
 ghost use Rattle.lvm_session.specs.Judging.{is_waiting};
 ghost use Rattle.lvm_session.specs.Fields.{core_of};
 ghost use Rattle.lvm_session.specs.Rooms.{HasRooms};
-ghost use Rattle.lvm_session.specs.State.{state, votes_there};
+ghost use Rattle.lvm_session.specs.State.{state, votes_there, state_of};
 ghost use Rattle.lvm_session.specs.declared.answers.CopyState.TheVariants as stage;
 ghost use Rattle.lvm_session.specs.Calls.{OpenGives, SubmitGives, TakeGives, closed, copy_state};
 ghost use Rattle.lvm_session.specs.Turns.{ArrangesSession, TurnMakes};
@@ -17,23 +17,23 @@ ghost use Rattle.lvm_session.specs.Asking.{IsAsking};
 ghost use Rattle.lvm_session.specs.Left.{left_of};
 ghost use Rattle.lvm_session.specs.Sound.{IsSound, waits};
 ghost use Rattle.lvm_keeps.specs.Falls.{most_left};
-ghost use Rattle.lvm_keeps_calls.specs.handed.Names.{counts_seen};
+ghost use Rattle.lvm_keeps_calls.specs.passed.Names.{counts_seen};
 ghost use Rattle.lvm_session_start.specs.Beginning.{AreFaults, MayBegin, first_core};
-ghost use Rattle.lvm_running.specs.handed.Names.{HasCausesSince, AreValid, GetsItsBlocks, TurnTells};
+ghost use Rattle.lvm_running.specs.passed.Names.{HasCausesSince, AreValid, GetsItsBlocks, TurnTells};
 ghost use Rattle.lvm_running.specs.Running.{LeavesSession, RunsOn};
-ghost use Rattle.lvm_driver.specs.Answers.{IsCausedFor, IsCopyCaused, IsOffSince, state_of};
+ghost use Rattle.lvm_driver.specs.Answers.{IsCausedFor, IsCopyCaused, IsOffSince};
 
-use crate::closed::{Closed, without_freed};
 use crate::dues::{all_due, submit, take};
+use lvm_core::{Closed, without_freed};
 use lvm_disk::{Arrange, Shelf};
 use lvm_history::History;
-use lvm_keeps_calls::lower::{close_copy, copy_state, open_copy};
+use lvm_keeps_calls::below::{close_copy, copy_state, open_copy};
 use lvm_num::{Descriptor, Stamp};
 use lvm_path::Ask;
 use lvm_rec::Homes;
 use lvm_session::{AskFault, CopyFault, CopyState, Open, Power, Session, Taken, Turned};
 use lvm_session_start::{Parts, begin_session};
-use lvm_session_turn::lower::Due;
+use lvm_session_turn::below::Due;
 use lvm_session_turn::{arrange, turn};
 use lvm_stale::StaleTable;
 use lvm_work_left::left;
@@ -55,7 +55,7 @@ impl<S: Shelf> Model for Driver<S> {
     ghost use Rattle.lvm_session.specs.Rooms.{HasRooms};
     ghost use Rattle.lvm_session.specs.State.{Core, state};
     ghost use Rattle.lvm_session.specs.Sound.{IsSound};
-    ghost use Rattle.lvm_session_turn.specs.handed.Names.{IsDue};
+    ghost use Rattle.lvm_session_turn.specs.passed.Names.{IsDue};
 
     ghost Value = { S × Core };
 

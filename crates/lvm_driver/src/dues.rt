@@ -5,12 +5,12 @@ ghost use Rattle.lvm_session.specs.Rooms.{HasRooms, SameRooms};
 ghost use Rattle.lvm_session.specs.Calls.{SubmitGives, TakeGives};
 ghost use Rattle.lvm_session.specs.Asking.{IsAsking, IsAwake};
 ghost use Rattle.lvm_session.specs.Sound.{IsTold};
-ghost use Rattle.lvm_session_turn.specs.handed.Names.{IsDue};
+ghost use Rattle.lvm_session_turn.specs.passed.Names.{IsDue};
 
-use lvm_keeps_calls::lower::submit_request;
+use lvm_keeps_calls::below::{submit_request, take as take_answer};
 use lvm_path::Ask;
 use lvm_session::{AskFault, Session, Taken};
-use lvm_session_turn::lower::Due;
+use lvm_session_turn::below::Due;
 
 // All places of the table.
 pub fn all_due(session: &Session) -> Due
@@ -53,7 +53,7 @@ pub fn take(session: &mut Session, due: &mut Due, client: u32, id: u64) -> Taken
     ensures rooms { SameRooms session.old session.new }
     ensures due { IsDue (core_of session.new) due.new }
 {
-    match lvm_keeps_calls::lower::take(session, client, id) {
+    match take_answer(session, client, id) {
         Taken::NotYet => Taken::NotYet,
         Taken::Unknown => Taken::Unknown,
         answer => {

@@ -1,16 +1,13 @@
 //! A group that is varied on, over its shelf: what clients ask of it, and the turns that do it.
 #![tactic(auto)]
 
-mod closed;
+pub mod below;
 mod drain;
 mod driver;
 mod dues;
 pub mod laws;
-pub mod lower;
 mod shown;
 mod sound;
 
-pub use closed::Closed;
-pub use drain::DrainFault;
 pub use driver::Driver;
 pub use shown::Lent;

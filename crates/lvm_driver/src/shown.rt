@@ -20,7 +20,7 @@ impl<S: Shelf> Past for Lent<S> {
 
 impl<S: Shelf> Shown for Lent<S> {
     ghost use Rattle.lvm_session.specs.Sound.{IsSound};
-    ghost use Rattle.lvm_driver.specs.Answers.{state_of};
+    ghost use Rattle.lvm_session.specs.State.{state_of};
     ghost use Rattle.lvm_driver.specs.Showing.{told_by};
 
     ghost tells = { λ d. told_by (state_of S.device d.driver) };

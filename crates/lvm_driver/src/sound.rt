@@ -1,6 +1,6 @@
 //! What holds of a driver at every moment.
 ghost use Rattle.lvm_session.specs.Sound.{IsSound};
-ghost use Rattle.lvm_driver.specs.Answers.{state_of};
+ghost use Rattle.lvm_session.specs.State.{state_of};
 
 use crate::Driver;
 use lvm_disk::Shelf;

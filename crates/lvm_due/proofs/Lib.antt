@@ -1,14 +1,7 @@
-pub mod handed
-mod Alike
-mod Calm
-mod Frames
-mod Moving
-mod Narrow
-mod Noting
+pub mod passed
+mod EnabledLemmas
+mod DueLemmas
+mod WorkedLemmas
 mod Queues
-mod Spanning
-mod Starting
-mod Table
-mod Telling
-mod Unmade
-mod Unread
+mod WritesLemmas
+mod JudgingLemmas

@@ -3,14 +3,13 @@ use Rattle.std.specs.Prelude.{◌≡◌, ◌≤◌, ◌<◌, ℕ, Bool, true, fa
 use Rattle.std.specs.List.{list_any}
 use Rattle.lvm_hold.specs.Conflicts.{have_common_block}
 use Rattle.lvm_path.specs.declared.ask.Ask.{Ask}
-use Rattle.lvm_path.specs.declared.request.Phase.{Phase}
-use Rattle.lvm_path.specs.declared.request.Phase.TheVariants as phase
 use Rattle.lvm_path.specs.declared.request.Request.{Request}
 use Rattle.lvm_session.specs.declared.open.Open.{Open}
 use Rattle.lvm_session.specs.declared.flown.Owner.{Owner}
 use Rattle.lvm_session.specs.declared.flown.Owner.TheVariants as owner
 use Rattle.lvm_session.specs.State.{Core}
 use Rattle.lvm_session.specs.Judging.{counts_failed, held_of, is_failing, is_held_back}
+use Rattle.lvm_session.specs.Left.{is_held}
 use Rattle.lvm_session.specs.Requests.{wants_entry}
 use Rattle.lvm_session.specs.Enabled.{admission_at, can_pin, data_at, landing_at, note_at, pinning_at}
 use Rattle.lvm_firsts.specs.declared.span.Span.{Span}
@@ -56,15 +55,6 @@ abbrev pub HoldsPin : Core → ℕ → Bool → Type 0
 HoldsPin core place pinned = (o : Open) → slice_get core.requests place ≡ Some o → o.request.pinned ≡ pinned
 
 -- ---- what is added
-
--- it isn't admitted
-abbrev pub is_held : Phase → Bool
-is_held phase.Held = true
-is_held phase.WantEntry = false
-is_held phase.WantRecord = false
-is_held phase.Data = false
-is_held phase.WantStatus = false
-is_held phase.Landed = false
 
 -- two requests have a block in common
 abbrev pub overlap : Ask → Ask → Bool

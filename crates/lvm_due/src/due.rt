@@ -23,7 +23,7 @@ use lvm_firsts::{Span, might_pin};
 use lvm_session::{Event, Owner, Session};
 
 /// For each kind of event the places of the table at which it may be due.
-#[derive(Clone, Copy, Debug, PartialEq, Eq)]
+#[derive(Clone, Copy)]
 pub struct Due {
     pub landing: Span,
     pub admission: Span,

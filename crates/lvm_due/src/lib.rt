@@ -1,9 +1,9 @@
 //! At which places of the table events are due, kept from event to event.
 #![tactic(auto)]
 
+pub mod below;
 mod due;
 mod laws;
-pub mod lower;
 mod making;
 mod places;
 mod quiet;

@@ -1,6 +1,4 @@
-pub mod handed
 pub mod passed
-pub mod Sound
-pub mod Tying
-pub mod Running
-pub mod Resting
+pub mod SoundLemmas
+pub mod LegalLemmas
+pub mod EarlierLemmas

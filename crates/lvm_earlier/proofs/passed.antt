@@ -1,3 +1,4 @@
+pub mod Names
 pub mod Ranges
 pub mod Running
 pub mod Tie

@@ -1,3 +1,2 @@
-pub mod handed
 pub mod passed
 pub mod Earlier

@@ -1,6 +1,6 @@
 pub mod AskRangeFaultVariants
-pub mod DrainFaultVariants
 pub mod Driver
+pub mod Names
 pub mod Ranges
 pub mod Running
 pub mod Tie

@@ -2,3 +2,6 @@
 
 pub mod driver;
 pub mod ranges;
+
+pub use lvm_core::Driver;
+pub use lvm_ranges::below::{Post, end_posts};

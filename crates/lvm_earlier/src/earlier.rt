@@ -2,12 +2,12 @@
 ghost use Rattle.std.specs.Prelude.{◌≡◌};
 ghost use Rattle.lvm_session.specs.Fields.{core_of};
 ghost use Rattle.lvm_session.specs.Rooms.{HasRooms};
-ghost use Rattle.lvm_ranges.specs.handed.Names.{RangeEnds, IsLaidOut, AreAnswered};
+ghost use Rattle.lvm_ranges.specs.passed.Names.{RangeEnds, IsLaidOut, AreAnswered};
 ghost use Rattle.lvm_earlier.specs.Earlier.{AreGone, with_taken};
 
 use lvm_disk::Shelf;
 use lvm_ranges::below::driver::Driver;
-use lvm_ranges::lower::{Asked, RangeFault, take_closed};
+use lvm_ranges::below::{Asked, RangeFault, take_closed};
 use lvm_session::Session;
 
 // Takes them from the history of the session that is on.

@@ -4,6 +4,5 @@
 pub mod below;
 mod earlier;
 pub mod laws;
-pub mod lower;
 
 pub use earlier::take_earlier;

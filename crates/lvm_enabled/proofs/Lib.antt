@@ -1,3 +1,3 @@
-pub mod handed
-mod Statuses
+pub mod passed
+mod EnabledLemmas
 mod Steps

@@ -1,7 +1,7 @@
 //! Which transfer of a session is started first.
 #![tactic(auto)]
 
-pub mod lower;
+pub mod below;
 mod source;
 mod starts;
 mod status;

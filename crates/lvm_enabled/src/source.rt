@@ -3,22 +3,15 @@ ghost use Rattle.std.specs.Prelude.{◌≡◌, ◌<◌, ◌&&◌, true, if◌the
 ghost use Rattle.lvm_num.specs.Descriptor.{IsValid};
 ghost use Rattle.lvm_session.specs.declared.event.Event.TheVariants as event;
 ghost use Rattle.lvm_session.specs.Fields.{core_of};
-ghost use Rattle.lvm_session.specs.Judging.{copies_in, is_running};
+ghost use Rattle.lvm_session.specs.Judging.{is_running};
 ghost use Rattle.lvm_session.specs.Bringing.{is_whole, next_source};
 ghost use Rattle.lvm_session.specs.Enabled.{is_free_step, may_read};
 ghost use Rattle.lvm_session.specs.Sound.{IsCopy, IsGoing};
 ghost use Rattle.lvm_enabled.specs.Plain.{is_source, plain_read};
 
-use lvm_due::lower::{is_pp, is_running, is_usable, partition_blocks, volume_of};
-use lvm_num::{Pp, copies_of};
+use lvm_due::below::{copies_beside, is_pp, is_running, is_usable, is_whole};
+use lvm_num::Pp;
 use lvm_session::{Event, OpenCopy, Session, Step};
-
-/// Whether all track groups of the copy that is open are copied.
-pub fn is_whole(session: &Session, copy: &OpenCopy) -> bool
-    ensures { result ≡ is_whole (core_of session.now) copy.now }
-{
-    u64::from(copy.cursor) >= partition_blocks(session.descriptor.mib) / 256
-}
 
 // Whether nothing in the hold queue is in the way of its step.
 fn is_free_step(session: &Session, copy: &OpenCopy) -> bool
@@ -28,18 +21,6 @@ fn is_free_step(session: &Session, copy: &OpenCopy) -> bool
     ensures { result ≡ is_free_step (core_of session.now) copy.now }
 {
     session.queue.blocked_by(copy.place).is_none()
-}
-
-/// The copies of the logical partition of the copy that is open.
-pub fn copies_beside<'a>(session: &'a Session, copy: &OpenCopy) -> &'a [Pp]
-    requires valid { IsValid session.now.descriptor }
-    requires copy { IsCopy (core_of session.now) copy.now }
-    ensures { result.now ≡ copies_in session.now.descriptor copy.now.lv copy.now.lp }
-{
-    match volume_of(&session.descriptor, copy.lv) {
-        None => &[],
-        Some(row) => copies_of(row, copy.lp),
-    }
 }
 
 // Whether it may be read from this copy of its logical partition, which wasn't tried in vain for this track group.

@@ -10,7 +10,7 @@ ghost use Rattle.lvm_enabled.specs.Plain.{data_or_copy, first_started};
 use crate::source::copy_read;
 use crate::status::status_start;
 use lvm_due::Due;
-use lvm_due::lower::{copy_write, first_data, first_note, has_buffer};
+use lvm_due::below::{copy_write, first_data, first_note, has_buffer};
 use lvm_session::{Event, Session};
 
 // Where a buffer is there: a write of the status, a note, a transfer of a request, or one of the copy.

@@ -8,9 +8,8 @@ use Rattle.std.proofs.lemmas.Option.{get_or_from_slice_get, slice_get_within}
 use Rattle.lvm_num.specs.Buffer.{Buffer}
 use Rattle.lvm_num.specs.declared.place.Pp.{Pp}
 use Rattle.lvm_num.specs.declared.descriptor.Descriptor.{Descriptor}
-use Rattle.lvm_num.specs.Descriptor.{IsPartitionOf, IsValid}
+use Rattle.lvm_num.specs.Descriptor.{IsPartitionOf, IsValid, is_pp}
 use Rattle.lvm_pbuf.specs.Out.{IsOut}
-use Rattle.lvm_stale.specs.Table.{is_pp}
 use Rattle.lvm_status.specs.Members.{HasItsRows}
 use Rattle.lvm_status.specs.Runs.{IsSoundStatus}
 use Rattle.lvm_status.specs.Update.{seen}
@@ -25,16 +24,17 @@ use Rattle.lvm_session.specs.Bringing.{hand_of}
 use Rattle.lvm_session.specs.Calls.{copy_at}
 use Rattle.lvm_session.specs.Dark.{hand_of_copy}
 use Rattle.lvm_session.specs.Marks.{is_among}
-use Rattle.lvm_launch.specs.handed.Names.{IsOutIf}
+use Rattle.lvm_launch.specs.passed.Names.{IsOutIf}
 use Rattle.lvm_session.specs.Owners.{flies, same_owner}
 use Rattle.lvm_session.specs.Sound.{IsCopy, count_if, is_hand}
-use Rattle.lvm_launch.proofs.handed.Names.{copies_in_are}
-use Rattle.lvm_launch.proofs.Hands.{at_most_one, get_other, is_out as out_of}
+use Rattle.lvm_launch.proofs.passed.Names.{copies_in_are}
+use Rattle.lvm_launch.proofs.OutLemmas.{at_most_one, get_other, is_out as out_of}
 use Rattle.lvm_reap.specs.Learning.{MayReturn}
 use Rattle.lvm_copy_end.specs.Ending.{CanEnd}
 use Rattle.lvm_copy_end.specs.Reviewing.{IsLocated, MayReview}
-use Rattle.lvm_copy_end.proofs.Reviewing.{markable}
+use Rattle.lvm_copy_end.proofs.BringingLemmas.{markable}
 use Rattle.lvm_ends.specs.Ended.{HasEnded}
+pub use Rattle.lvm_num.proofs.Booleans.{first_holds as left, second_holds as right}
 
 -- ---- counting
 
@@ -60,14 +60,6 @@ same_own (owner.Note disk) = itself disk
 same_own owner.Copy = refl
 
 -- ---- copies
-
-pub left : (a b : Bool) → a && b ≡ true → a ≡ true
-left true b is = refl
-left false b is = absurd (cc is)
-
-pub right : (a b : Bool) → a && b ≡ true → b ≡ true
-right true b is = is
-right false b is = absurd (cc is)
 
 -- what holds of all partitions holds of one among them
 pub among_all : (P : Pp → Type 0) (ps : List Pp) (p : Pp) → All P ps → is_among ps p ≡ true → P p

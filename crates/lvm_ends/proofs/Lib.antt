@@ -1,4 +1,4 @@
-pub mod handed
-mod Requested
+pub mod passed
+mod EndedLemmas
 pub mod Ended
 mod Owning

@@ -6,7 +6,7 @@ use Rattle.lvm_num.specs.declared.descriptor.Descriptor.{Descriptor}
 use Rattle.lvm_num.specs.declared.status.Status.{Status}
 use Rattle.lvm_num.specs.Descriptor.{is_member}
 use Rattle.lvm_num.specs.Disks.{has}
-use Rattle.lvm_stale.proofs.MarkLemmas.{has_row-same}
+use Rattle.lvm_stale.proofs.MarkingLemmas.{has_row-same}
 use Rattle.lvm_stale.specs.Table.{SameMembers, has_row}
 use Rattle.lvm_mwc.specs.declared.notes.DiskNotes.{DiskNotes}
 use Rattle.lvm_mwc.specs.Cache.{flight_on, notes_on}
@@ -16,7 +16,7 @@ use Rattle.lvm_status.specs.Members.{HasItsRows}
 use Rattle.lvm_status.specs.Runs.{Ended, IsSoundStatus, Want}
 use Rattle.lvm_status.specs.Update.{Stored, seen}
 use Rattle.lvm_status.proofs.Disks.{member-below}
-use Rattle.lvm_status.proofs.Sound.{steps_stay_sound}
+use Rattle.lvm_status.proofs.RunsLemmas.Sound.{steps_stay_sound}
 use Rattle.lvm_session.specs.State.{Core}
 use Rattle.lvm_session.specs.Ends.{LosesDisk}
 use Rattle.lvm_reap.specs.Learning.{NoteWriteEnds}

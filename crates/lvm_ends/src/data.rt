@@ -1,7 +1,6 @@
 //! The transfer of a target of a request has ended.
 ghost use Rattle.std.specs.Prelude.{◌≡◌, ◌==◌, ◌<◌, true, Some, length, position, slice_get};
 ghost use Rattle.std.specs.List.{list_any};
-ghost use Rattle.lvm_num.specs.declared.place.Pp.{Pp};
 ghost use Rattle.lvm_path.specs.declared.target.Target.{Target};
 ghost use Rattle.lvm_pbuf.specs.Out.{IsOut};
 ghost use Rattle.lvm_session.specs.declared.flown.Owner.TheVariants as owner;
@@ -12,7 +11,7 @@ ghost use Rattle.lvm_session.specs.Ends.{DataLearns, IsOfData, after_data, given
 ghost use Rattle.lvm_ends.specs.Ended.{HasEnded, HasId};
 
 use lvm_copy_end::entail;
-use lvm_launch::lower::give_back;
+use lvm_launch::below::give_back;
 use lvm_num::{Pbuf, Pp};
 use lvm_path::Target;
 use lvm_reap::end_flight;

@@ -1,8 +1,8 @@
 //! The ends of transfers of requests, of the status and of notes.
 #![tactic(auto)]
 
+pub mod below;
 mod data;
-pub mod lower;
 mod records;
 
 pub use data::end_data;

@@ -1,3 +1,2 @@
-pub mod handed
-pub mod Even
-pub mod OffLemmas
+pub mod passed
+pub mod EvenLemmas

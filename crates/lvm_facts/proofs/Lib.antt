@@ -1,3 +1,3 @@
-pub mod handed
+pub mod passed
 mod Parting
-mod Reading
+mod NextLemmas

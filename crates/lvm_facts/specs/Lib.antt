@@ -1,3 +1,3 @@
-pub mod handed
+pub mod passed
 pub mod Queued
 pub mod Reading

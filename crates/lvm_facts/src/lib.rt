@@ -1,10 +1,10 @@
 //! What a request is told of its session, and what it does next.
 #![tactic(auto)]
 
+pub mod below;
 mod facts;
 mod held;
 mod judged;
-pub mod lower;
 mod pending;
 
 pub use facts::{has_names, has_usable, is_changed, is_unbegun, next_of};

@@ -1,6 +1,4 @@
-mod Parts
-mod Missing
-mod Losing
-mod Failing
-mod Copies
-mod Unread
+mod FaultedLemmas
+mod FailingLemmas
+mod CopiesLemmas
+mod UnreadLemmas

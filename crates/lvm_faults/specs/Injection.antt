@@ -18,16 +18,16 @@ abbrev pub fails : Injection → ℕ → Bool
 fails i disk = slice_index_or i.failing disk false
 
 -- the act's disk, where it has one, is one of so many
-abbrev pub IsOnDisk : ℕ → Act → Type 0
-IsOnDisk disks (Fail disk) = disk < disks
-IsOnDisk disks (Heal disk) = disk < disks
-IsOnDisk disks (Cut word) = Unit {0}
-IsOnDisk disks (Pick word) = Unit {0}
-IsOnDisk disks (Delay reaps) = Unit {0}
+abbrev pub NamesDisk : ℕ → Act → Type 0
+NamesDisk disks (Fail disk) = disk < disks
+NamesDisk disks (Heal disk) = disk < disks
+NamesDisk disks (Cut word) = Unit {0}
+NamesDisk disks (Pick word) = Unit {0}
+NamesDisk disks (Delay reaps) = Unit {0}
 
 -- each act of the plan is on a disk that is there
 abbrev pub NamesDisks : ℕ → List Planned → Type 0
-NamesDisks disks plan = AllByRecursion (λ p. IsOnDisk disks p.act) plan
+NamesDisks disks plan = AllByRecursion (λ p. NamesDisk disks p.act) plan
 
 -- the acts that are planned for a call, in the plan's order
 abbrev pub due : ℕ → List Planned → List Act

@@ -7,7 +7,7 @@ use std::alloc::Global;
 use std::marker::Model;
 
 /// What may be planned for a call.
-#[derive(Clone, Copy, Debug, PartialEq, Eq)]
+#[derive(Clone, Copy)]
 pub enum Act {
     /// Each transfer of this disk that ends from now on fails.
     Fail(u16),
@@ -24,18 +24,18 @@ pub enum Act {
 }
 
 /// An act, and the call before which it is done. Starts and reaps are counted, from 1.
-#[derive(Clone, Copy, Debug, PartialEq, Eq)]
+#[derive(Clone, Copy)]
 pub struct Planned {
     pub call: u64,
     pub act: Act,
 }
 
 impl Planned {
-    ghost use Rattle.lvm_faults.specs.Injection.{IsOnDisk};
+    ghost use Rattle.lvm_faults.specs.Injection.{NamesDisk};
 
     /// Whether the act's disk, where it has one, is one of so many.
-    pub fn is_on(&self, disks: u16) -> bool
-        ensures { IsTrue result ↔ IsOnDisk disks self.now.act }
+    pub fn names_disk(&self, disks: u16) -> bool
+        ensures { IsTrue result ↔ NamesDisk disks self.now.act }
     {
         match self.act {
             Act::Fail(disk) => disk < disks,
@@ -50,7 +50,7 @@ pub fn names_disks(plan: &[Planned], disks: u16) -> bool
     ensures { IsTrue result ↔ NamesDisks disks plan.now }
 {
     for planned in plan {
-        if !planned.is_on(disks) {
+        if !planned.names_disk(disks) {
             return false;
         }
     }
@@ -79,7 +79,7 @@ impl Model for Injector {
 }
 
 impl Injector {
-    ghost use Rattle.lvm_faults.specs.Injection.{NamesDisks, IsOnDisk, fails, after_act, begun, cut_planned};
+    ghost use Rattle.lvm_faults.specs.Injection.{NamesDisks, NamesDisk, fails, after_act, begun, cut_planned};
 
     /// A plan for so many disks, none of which fails yet.
     pub fn new(alloc: Global, disks: usize, plan: Rows<Planned>) -> Result<Injector, Memory>
@@ -147,7 +147,7 @@ impl Injector {
     }
 
     fn act(&mut self, act: Act)
-        requires { IsOnDisk (length self.old.failing) act }
+        requires { NamesDisk (length self.old.failing) act }
         ensures { self.new ≡ after_act act self.old }
     {
         match act {

@@ -1,2 +1,2 @@
-pub mod FieldLaws
-pub mod Loops
+pub mod NumReadingLemmas
+pub mod ReadingLemmas

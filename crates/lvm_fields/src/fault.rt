@@ -7,7 +7,7 @@ use lvm_num::Memory;
 use std::alloc::{AllocError, AllocFailed};
 
 /// Why no field was read.
-#[derive(Clone, Copy, Debug, Drop, PartialEq, Eq)]
+#[derive(Clone, Copy, Debug, Drop)]
 pub enum Fault {
     /// The bytes don't fit from this place on: that of the first byte of a field whose rule fails, that behind
     /// the last byte where the bytes end too early, or that of the first byte too many where more follow.

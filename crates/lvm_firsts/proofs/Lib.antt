@@ -1,8 +1,8 @@
-pub mod handed
+pub mod passed
 pub mod Nexts
 pub mod Places
-pub mod Queue
-mod Rest
-pub mod Might
-pub mod Spans
-mod Usable
+pub mod OrderLemmas
+mod VotesLemmas
+pub mod EnabledLemmas
+pub mod SpansLemmas
+mod JudgingLemmas

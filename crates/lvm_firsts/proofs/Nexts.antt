@@ -6,10 +6,10 @@ use Rattle.lvm_hold.specs.Order.{IsAscending}
 use Rattle.lvm_path.specs.declared.facts.Next.TheVariants as next
 use Rattle.lvm_path.specs.declared.request.Phase.{Phase}
 use Rattle.lvm_path.specs.Next.{next_in}
-use Rattle.lvm_facts.specs.handed.Names.{OpenCopy, Open, Core, facts_of, held_of, is_waiting, next_for, place_of, IsOpenOne, IsCopy, IsGoing}
+use Rattle.lvm_facts.specs.passed.Names.{OpenCopy, Open, Core, facts_of, held_of, is_waiting, next_for, place_of, IsOpenOne, IsCopy, IsGoing}
 use Rattle.lvm_facts.specs.Queued.{IsQueued}
 use Rattle.lvm_firsts.proofs.Places.{at_place}
-use Rattle.lvm_firsts.proofs.Queue.{queue_ascends, queue_has}
+use Rattle.lvm_firsts.proofs.OrderLemmas.{queue_ascends, queue_has}
 
 module _ (core : Core) (going : IsGoing core) (k : ℕ) (o : Open) (there : slice_get core.requests k ≡ Some o) where
   pub one : IsOpenOne core o

@@ -8,7 +8,7 @@ use Rattle.lvm_path.specs.declared.request.Request.{Request}
 use Rattle.lvm_path.specs.declared.target.Target.{Target}
 use Rattle.lvm_path.specs.Asks.{is_write}
 use Rattle.lvm_path.specs.Targets.{is_begun, is_done}
-use Rattle.lvm_facts.specs.handed.Names.{Core, copies_for, has_names, is_changed, is_usable, mode_of}
+use Rattle.lvm_facts.specs.passed.Names.{Core, copies_for, has_names, is_changed, is_usable, mode_of, wants_entry}
 
 -- a write that hasn't started its data
 abbrev pub is_unbegun : Request → Bool
@@ -54,15 +54,6 @@ might_admit_in phase.Landed r changed = false
 
 abbrev pub might_admit : Core → Request → Bool
 might_admit core r = might_admit_in r.phase r (is_changed core r)
-
--- it waits for an entry
-abbrev pub wants_entry : Phase → Bool
-wants_entry phase.Held = false
-wants_entry phase.WantEntry = true
-wants_entry phase.WantRecord = false
-wants_entry phase.Data = false
-wants_entry phase.WantStatus = false
-wants_entry phase.Landed = false
 
 -- its track group might be pinned
 abbrev pub might_pin : Request → Bool

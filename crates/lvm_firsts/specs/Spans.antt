@@ -1,6 +1,6 @@
 -- The places of the table at which an event of a kind may be due.
 use Rattle.std.specs.Prelude.{◌≡◌, ◌≤◌, ◌<◌, ◌+◌, ℕ, Bool, true, false, ◌&&◌, nat_le, nat_lt, List, Option, Some, None, length, slice_get}
-use Rattle.lvm_facts.specs.handed.Names.{Event, Open}
+use Rattle.lvm_facts.specs.passed.Names.{Event, Open}
 use Rattle.lvm_firsts.specs.declared.span.Span.{Span}
 
 -- it is one of these places
@@ -24,7 +24,7 @@ pub record Skips (place : ℕ) (old new : Span) : Type 0 where
   pub within : new.to ≡ old.to
 
 -- each place is there still, and the one before each, but those behind so many
-pub record Leaves (len : ℕ) (old new : Span) : Type 0 where
+pub record Shifts (len : ℕ) (old new : Span) : Type 0 where
   pub same : (k : ℕ) → k < len → is_in old k ≡ true → is_in new k ≡ true
   pub before : (k : ℕ) → k < len → is_in old (k + 1) ≡ true → is_in new k ≡ true
   pub within : new.to ≤ len

@@ -1,8 +1,8 @@
 //! Which events of a turn may be made, kind by kind, the first request first.
 #![tactic(auto)]
 
+pub mod below;
 mod firsts;
-pub mod lower;
 mod next;
 mod notes;
 mod phases;

@@ -1,8 +1,8 @@
 //! What the request at a place of the table does next.
 ghost use Rattle.std.specs.Prelude.{◌≡◌, ◌<◌, length, slice_get, Some};
-ghost use Rattle.lvm_facts.specs.handed.Names.{Open, core_of, next_for, IsGoing};
+ghost use Rattle.lvm_facts.specs.passed.Names.{Open, core_of, next_for, IsGoing};
 
-use lvm_facts::lower::Session;
+use lvm_facts::below::Session;
 use lvm_facts::{is_waiting, next_of};
 use lvm_path::Next;
 

@@ -1,33 +1,13 @@
 //! What a request might do next, as far as that shows without its facts.
 ghost use Rattle.std.specs.Prelude.{◌≡◌};
-ghost use Rattle.std.specs.List.{list_any};
 ghost use Rattle.lvm_num.specs.Descriptor.{IsValid};
-ghost use Rattle.lvm_sched.specs.Writes.{is_flying};
-ghost use Rattle.lvm_path.specs.declared.target.Target.{Target};
-ghost use Rattle.lvm_path.specs.Targets.{is_done};
-ghost use Rattle.lvm_facts.specs.handed.Names.{core_of, IsWithin};
+ghost use Rattle.lvm_facts.specs.passed.Names.{core_of, IsWithin};
 ghost use Rattle.lvm_firsts.specs.Might.{any_is_usable, any_waits, are_at_rest, might_admit, might_land, might_pin, might_start, might_transfer, none_goes};
 
-use lvm_facts::lower::{Session, is_usable};
+use lvm_facts::below::{Session, is_usable};
 use lvm_facts::{has_names, has_usable, is_changed, is_unbegun};
-use lvm_path::{Phase, Request, Target};
+use lvm_path::{Phase, Request, Target, any_flies, any_is_done};
 use lvm_sched::TargetState;
-
-fn any_is_done(targets: &[Target]) -> bool
-    ensures { result ≡ list_any (λ (t : Target). is_done t.state) targets.now }
-{
-    targets
-        .iter()
-        .any(|target| matches!(target.state, TargetState::Done))
-}
-
-fn any_flies(targets: &[Target]) -> bool
-    ensures { result ≡ list_any (λ (t : Target). is_flying t.state) targets.now }
-{
-    targets
-        .iter()
-        .any(|target| matches!(target.state, TargetState::Flying))
-}
 
 // Whether the transfer of one of them isn't started.
 fn any_waits(targets: &[Target]) -> bool

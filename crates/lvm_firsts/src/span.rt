@@ -1,9 +1,9 @@
 //! At which places of the table events of a kind may be due.
 ghost use Rattle.std.specs.Prelude.{◌≡◌, ◌<◌, ◌+◌, ◌^◌};
-ghost use Rattle.lvm_firsts.specs.Spans.{Adds, Leaves, Skips};
+ghost use Rattle.lvm_firsts.specs.Spans.{Adds, Shifts, Skips};
 
 /// Places of the table, from 0: from one on, up to another.
-#[derive(Clone, Copy, Debug, PartialEq, Eq)]
+#[derive(Clone, Copy)]
 pub struct Span {
     pub from: usize,
     pub to: usize,
@@ -33,7 +33,7 @@ impl Span {
 
     /// A request left the table, and so many are left: those that stood behind it stand one place lower.
     pub fn leave(&mut self, len: usize)
-        ensures { Leaves len self.old self.new }
+        ensures { Shifts len self.old self.new }
     {
         if self.from < self.to {
             self.from = self.from.saturating_sub(1);

@@ -1,3 +1,2 @@
-pub mod Queues
-pub mod Starting
-pub mod Ending
+pub mod TicketsLemmas
+pub mod FlightsLemmas

@@ -1,6 +1,6 @@
 //! How often each thing happened to a shelf in memory.
 ghost use Rattle.std.specs.Prelude.{◌≡◌, ◌<◌, length, replicate, IfOk};
-ghost use Rattle.lvm_disk.specs.Counts.{Rose, RoseAt};
+ghost use Rattle.lvm_disk.specs.Counts.{Rose, RoseAt, next_count};
 ghost use Rattle.lvm_flights.specs.Tally.{by_disk};
 
 use crate::flying::Flying;
@@ -107,6 +107,7 @@ impl Tally {
     /// A reap ended no transfer.
     pub fn count_wait(&mut self)
         ensures rose { Rose self.old.waits self.new.waits }
+        ensures once { self.new.waits ≡ next_count self.old.waits }
         ensures same { self.new ≡ record self.old { waits = self.new.waits } }
     {
         self.waits = self.waits.saturating_add(1);

@@ -20,9 +20,9 @@ use Rattle.lvm_num.specs.Record.{Frames, Stamped, longest_content, stamp_lt}
 use Rattle.lvm_num.specs.Status.{IsValidStatus, calls_missing}
 use Rattle.lvm_num.specs.StatusBytes.{dirty_bytes, status_bytes}
 use Rattle.lvm_num.proofs.NameLemmas.{length-name, length-padded}
-use Rattle.lvm_vgda.proofs.Whole.{spelled_is_read}
-use Rattle.lvm_vgsa.proofs.RoundTrip.{is_read_again}
-use Rattle.lvm_vgsa.proofs.Sizes.{length-status}
+use Rattle.lvm_vgda.proofs.DescriptorBytesLemmas.Whole.{spelled_is_read}
+use Rattle.lvm_vgsa.proofs.StatusBytesLemmas.RoundTrip.{is_read_again}
+use Rattle.lvm_vgsa.proofs.StatusBytesLemmas.Sizes.{length-status}
 use Rattle.lvm_disk.specs.Device.{Media, Image, Device, image_of, HasSectors}
 use Rattle.lvm_kept.specs.Contents.{Contents, contents_of, has_records}
 use Rattle.lvm_disk.specs.Steps.{BothTold}
@@ -30,34 +30,34 @@ use Rattle.lvm_disk.specs.Paths.{DeviceStep, Path}
 use Rattle.lvm_kept.specs.Plans.{ChangesBy}
 use Rattle.lvm_steps.specs.Moments.{StaysKept}
 use Rattle.lvm_stamps.specs.Behind.{StampsBefore, beginning_at, IsBehind}
-use Rattle.lvm_stamps.proofs.Records.{session_may_go}
-use Rattle.lvm_stamps.proofs.Stamps.{before_is_behind}
+use Rattle.lvm_stamps.proofs.LawsLemmas.Records.{session_may_go}
+use Rattle.lvm_stamps.proofs.LawsLemmas.Stamps.{before_is_behind}
 use Rattle.lvm_rec.specs.declared.homes.Homes.{Homes}
 use Rattle.lvm_write.specs.Homes.{SparesNewest}
 use Rattle.lvm_write.specs.Written.{write_of, KeepsShelf}
-use Rattle.lvm_write.proofs.Shows.{descriptor_may_be_written, status_may_be_written}
+use Rattle.lvm_write.proofs.ShowsLemmas.{descriptor_may_be_written, status_may_be_written}
 use Rattle.lvm_begin.specs.Beginning.{Beginning, describes, states, new_order, IsOfParts, AllStand, MayBeginNew}
 use Rattle.lvm_begin.specs.Ends.{BothFlip}
 use Rattle.lvm_begin.specs.Kept.{NewStaysKept}
 use Rattle.lvm_begin.specs.Newest.{FindsBeginning}
 use Rattle.lvm_begin.specs.Shown.{HasBegun}
-use Rattle.lvm_begin.proofs.Following.{stamps_are_of_beginning, targets_spare_newest}
-use Rattle.lvm_begin.proofs.Newest.{only_one, new_is_found, status_is_last}
-use Rattle.lvm_begin.proofs.Shown.{media_by, new_is_shown}
+use Rattle.lvm_begin.proofs.ShownLemmas.Following.{stamps_are_of_beginning, targets_spare_newest}
+use Rattle.lvm_begin.proofs.NewestLemmas.{only_one, new_is_found, status_is_last}
+use Rattle.lvm_begin.proofs.ShownLemmas.Shown.{media_by, new_is_shown}
 use Rattle.lvm_vol.specs.Log.{Log}
 use Rattle.lvm_kept.specs.Torn.{written as as_read}
 use Rattle.lvm_kept.specs.Group.{passes, is_of, has_room, descriptor_among, members_in, Finds}
-use Rattle.lvm_kept.proofs.Finding.{some_same, finding_reads, finds_from}
+use Rattle.lvm_kept.proofs.CommittedLemmas.Finding.{some_same, finding_reads, finds_from}
 use Rattle.lvm_num.specs.Votes.{all_disks, votes_in}
 use Rattle.lvm_num.proofs.VotesLemmas.{more_have_more, more_is_enough}
 use Rattle.lvm_status.specs.Update.{Updates}
-use Rattle.lvm_group_plan.specs.handed.Names.{Room, Began, ShowsCommitted, HoldsCommitted, NotesAreHome, StartsHeld, Parts, IsReservedFor, first_core, Core, is_there}
-use Rattle.lvm_group_plan.proofs.handed.Names.{newest_is_beginning, empty_names_none}
+use Rattle.lvm_group_plan.specs.passed.Names.{Room, Began, ShowsCommitted, HoldsCommitted, NotesAreHome, StartsHeld, Parts, IsReservedFor, first_core, Core, is_there}
+use Rattle.lvm_group_plan.proofs.passed.Names.{newest_is_beginning, empty_names_none}
 use Rattle.lvm_group_plan.specs.NewGroup.{NewGroup, among, sectors_on, size_for, member_for, new_group, new_status, first_absent, first_too_small}
 use Rattle.lvm_group.specs.Shown.{IfShown, HasGroup, ShowsEarlier, SparesTold}
 use Rattle.lvm_group.specs.Made.{beginning_for}
-use Rattle.lvm_group_plan.proofs.Groups.{room_among, placed_among, member_among, nothing_missing, there_among, first_among}
-use Rattle.lvm_group.proofs.Seeing.{told_by, if_told}
+use Rattle.lvm_group_plan.proofs.NewGroupLemmas.Groups.{room_among, placed_among, member_among, nothing_missing, there_among, first_among}
+use Rattle.lvm_group.proofs.ShownLemmas.{told_by, if_told}
 
 -- a shelf that tells its media now told it before
 was_told : (a b : Option Media) (R : Media → Media → Type 0) (is : Media) → BothTold a b R → b ≡ Some is → (was : Media) × (a ≡ Some was)

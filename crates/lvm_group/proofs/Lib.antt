@@ -1,8 +1,7 @@
 pub mod passed
-pub mod Rows
-pub mod Seeing
-pub mod Entries
-pub mod Composing
+pub mod JudgedLemmas
+pub mod ShownLemmas
+pub mod LogLemmas
+pub mod MadeLemmas
 pub mod Keeping
-pub mod Midst
-pub mod Starting
+pub mod StepsLemmas

@@ -6,7 +6,7 @@ ghost use Rattle.lvm_group.specs.Steps.{LookGives};
 
 use crate::judge::judge;
 use lvm_disk::Shelf;
-use lvm_group_plan::lower::Cause;
+use lvm_group_plan::below::Cause;
 use lvm_num::Pbuf;
 use lvm_rec::Homes;
 use lvm_survey::{Surveyed, survey_disks};

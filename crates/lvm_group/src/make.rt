@@ -3,7 +3,7 @@ ghost use Rattle.std.specs.Prelude.{◌≡◌, ◌≢◌, ◌≤◌, length, IfO
 ghost use Rattle.lvm_disk.specs.Device.{IsReady};
 ghost use Rattle.lvm_vol.specs.Log.{spare_entries};
 ghost use Rattle.lvm_stamps.specs.Behind.{ClockIsAhead};
-ghost use Rattle.lvm_group_plan.specs.handed.Names.{BringsOn, StartsHeld, HaveAllLanded, IsRoom, first_core};
+ghost use Rattle.lvm_group_plan.specs.passed.Names.{BringsOn, StartsHeld, HaveAllLanded, IsRoom, first_core};
 ghost use Rattle.lvm_group_plan.specs.NewGroup.{IsWellFormed, given_up};
 ghost use Rattle.lvm_group_plan.specs.Planned.{IsPlannedFor, RefusesPlan};
 ghost use Rattle.lvm_group.specs.Made.{MkvgRefuses};
@@ -12,7 +12,7 @@ ghost use Rattle.lvm_group.specs.Steps.{asked_group, cut_at, standing_of, Stands
 use crate::look::look;
 use crate::write::write;
 use lvm_disk::Shelf;
-use lvm_group_plan::lower::{Cause, Parts, Room};
+use lvm_group_plan::below::{Cause, Parts, Room};
 use lvm_group_plan::{Plan, size_to_begin};
 use lvm_history::History;
 use lvm_num::{Memory, Name};

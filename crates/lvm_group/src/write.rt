@@ -14,7 +14,7 @@ use crate::look::Free;
 use lvm_begin::{Begun, begin_new};
 use lvm_disk::Shelf;
 use lvm_group_plan::Plan;
-use lvm_group_plan::lower::Cause;
+use lvm_group_plan::below::Cause;
 use lvm_num::DiskSet;
 use lvm_rec::Homes;
 use lvm_transfer::Patience;

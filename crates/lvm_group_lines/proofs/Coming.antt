@@ -12,7 +12,7 @@ use Rattle.lvm_kept.specs.Moments.{Moment}
 use Rattle.lvm_steps.specs.Moments.{Begins, Keeps}
 use Rattle.lvm_steps.specs.Requests.{at}
 use Rattle.lvm_stamps.specs.Behind.{IsBehind}
-use Rattle.lvm_stamps.proofs.Clock.{later_joins}
+use Rattle.lvm_stamps.proofs.LawsLemmas.Clock.{later_joins}
 use Rattle.lvm_core.specs.declared.refused.Cause.{Cause}
 use Rattle.lvm_core.specs.declared.refused.Cause.TheVariants as cause
 use Rattle.lvm_core.specs.declared.refused.Refused.{Refused}
@@ -25,14 +25,14 @@ use Rattle.lvm_session.specs.State.{Core, state}
 use Rattle.lvm_disk_lines.specs.passed.Handover.{Serves}
 use Rattle.lvm_disk_lines.specs.passed.TieCommands.{StandsAfter}
 use Rattle.lvm_disk_lines.proofs.passed.TieCommands.{spans_follow}
-use Rattle.lvm_disk_lines.specs.handed.Names.{Post, AreAnswered}
+use Rattle.lvm_disk_lines.specs.passed.Names.{Post, AreAnswered}
 use Rattle.lvm_disk_lines.specs.passed.Quiesce.{ClockIsAheadEach, IsAheadEach, BringsOnEach, IsStartedEach}
 use Rattle.lvm_disk_lines.proofs.passed.Quiesce.{still_is_behind_each}
 use Rattle.lvm_group_lines.specs.Groups.{IsHeldBy, IsLeftBy}
-use Rattle.lvm_disk_lines.specs.passed.Stage.{CommandEnds, IsRelit, refusal_of, Aside, GoesOn, HasBegunHeld, HaveRooms, IsBetweenStage, IsFitting, IsOfKind, history_of, session_of, shelf_of, state_in, ArePosted, IsBetween, StandsAlone, ScriptState, without_facts, Holder, Reply, Stage}
+use Rattle.lvm_disk_lines.specs.passed.Stage.{CommandEnds, IsRelit, refusal_of, Aside, GoesOn, HasBegunHeld, HaveRooms, IsBetweenStage, IsFittingStage, IsOfKind, history_of, session_of, shelf_of, state_in, ArePosted, IsBetween, StandsAlone, ScriptState, without_facts, Holder, Reply, Stage}
 use Rattle.lvm_disk_lines.specs.passed.HolderVariants as holder
 use Rattle.lvm_disk_lines.specs.passed.ReplyVariants as reply
-use Rattle.lvm_disk_lines.proofs.passed.Stage.{ahead_later, Leaves, Rests, lit_up, ready_is_lit, still_leaves_descriptors, Bears, landed_bears, later_bears, open_more, LeavesAnswers, answered_bears, answered_on, off_posts, on_posts}
+use Rattle.lvm_disk_lines.proofs.passed.Stage.{ahead_later, RefusalLeaves, Rests, lit_up, ready_is_lit, still_leaves_descriptors, Bears, landed_bears, later_bears, open_more, LeavesAnswers, answered_bears, answered_on, off_posts, on_posts}
 
 -- ---- the clock
 
@@ -68,7 +68,7 @@ pub record CameOn (moment : ℕ) (old new : Device) (log : Log) (core : Core) : 
 
 -- none has, for this
 pub record StayedOff (why : Cause) (old left : Device) (log is : Log) : Type 0 where
-  pub leaves : Leaves why old left
+  pub leaves : RefusalLeaves why old left
   pub stays : Stays log.facts is.facts
   pub rooms : without_facts is ≡ without_facts log
 
@@ -103,7 +103,7 @@ module _ (run : ℕ) (old : ScriptState) (off : old.session ≡ None) (between :
   next = earlier (moment + 1) (let e = rose.later in omega (arith, e))
 
   -- it was refused
-  pub left_off : (why : Cause) (left : Moment) (new : Device) → Promises run moment old.moment left → Leaves why old.moment.device left.device → IsRelit why left.device new
+  pub left_off : (why : Cause) (left : Moment) (new : Device) → Promises run moment old.moment left → RefusalLeaves why old.moment.device left.device → IsRelit why left.device new
       → Stays old.moment.facts left.facts → GoesOn run Aside (reply.Refused (refusal_of why)) old (record { moment = at new left.facts; session = None; posts = old.posts; last = moment })
   left_off why left new promises leaves lit more =
       let up = lit_up why old.moment.device left.device new (record { lit = between.lit; descriptors = between.descriptors }) leaves.rests lit in
@@ -200,7 +200,7 @@ pub record Outcome {S : Type 0} (device : S → Device) (shelf : S) (log : Log) 
   pub left : Left device outcome by answer
 
 module _ {S : Type 0} (device : S → Device) (shelf : S) (log : Log) (posts : Vec Post) (bytes : Vec ℕ) (moment last before after : ℕ) (by : Holder S) (answer : Reply) (rose : Rose last moment)
-    (fits : IsFitting (held (holder.Off shelf log) posts bytes)) (between : IsBetweenStage device (held (holder.Off shelf log) posts bytes)) (ordered : Ordered log.run [] log.facts) where
+    (fits : IsFittingStage (held (holder.Off shelf log) posts bytes)) (between : IsBetweenStage device (held (holder.Off shelf log) posts bytes)) (ordered : Ordered log.run [] log.facts) where
   abbrev first_state : ScriptState
   first_state = state_in device (held (holder.Off shelf log) posts bytes) last
 
@@ -251,7 +251,7 @@ module _ {S : Type 0} (device : S → Device) (shelf : S) (log : Log) (posts : V
   kind (Ok driver) ended = ended.left.on.kind
   kind (Err refused) ended = ended.left.off.kind
 
-  fits_then : (outcome : Result (S × Core) (Refused S)) → Ended outcome → IsFitting (held by posts bytes)
+  fits_then : (outcome : Result (S × Core) (Refused S)) → Ended outcome → IsFittingStage (held by posts bytes)
   fits_then outcome ended =
       let room = ap (λ (l : Log). l.room) (rooms outcome ended) in
       record { kind = kind outcome ended; few = subst (λ (n : ℕ). n < 2 ^ 32) (sym room) fits.few; rooms = subst (λ (n : ℕ). HaveRooms n posts bytes) (sym room) fits.rooms }

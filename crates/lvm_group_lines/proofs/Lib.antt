@@ -1,9 +1,5 @@
-pub mod handed
 pub mod passed
-pub mod Closing
+pub mod GroupsLemmas
 pub mod Coming
-pub mod Lines
 pub mod Listing
-pub mod Making
-pub mod Quieting
-pub mod Varying
+pub mod QuiesceGroupsLemmas

@@ -3,7 +3,7 @@ use Rattle.std.proofs.Common.{◌≡◌, ◌≤◌, length, subst, arith, ℕ, L
 use Rattle.std.specs.Prelude.{◌==◌, IsSome, Contains}
 use Rattle.std.specs.List.{find, list_any}
 use Rattle.std.proofs.lemmas.List.Elements.{All-contains}
-use Rattle.lvm_num.proofs.MapsLemmas.{find-None}
+use Rattle.lvm_num.proofs.MarksLemmas.Maps.{find-None}
 use Rattle.lvm_num.specs.declared.descriptor.Descriptor.{Descriptor}
 use Rattle.lvm_num.specs.declared.descriptor.LvRow.{LvRow}
 use Rattle.lvm_num.specs.declared.descriptor.PvRow.{PvRow}

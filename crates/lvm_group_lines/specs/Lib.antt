@@ -1,4 +1,3 @@
-pub mod handed
 pub mod passed
 pub mod Groups
 pub mod Listings

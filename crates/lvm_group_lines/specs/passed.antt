@@ -1,12 +1,12 @@
 pub mod AskRangeFaultVariants
 pub mod DiskLines
-pub mod DrainFaultVariants
 pub mod Driver
 pub mod Earlier
 pub mod Group
 pub mod Handover
 pub mod HolderVariants
 pub mod Mirrors
+pub mod Names
 pub mod Quiesce
 pub mod QuiescedVariants
 pub mod Ranges
@@ -19,4 +19,5 @@ pub mod Tie
 pub mod TieCommands
 pub mod TieCopies
 pub mod Varyon
+pub mod VolumePlanFaultGroupFault
 pub mod Volumes

@@ -8,3 +8,5 @@ pub mod mirrors;
 pub mod ranges;
 pub mod stage;
 pub mod volumes;
+
+pub use lvm_core::{Closed, Driver, number_of};

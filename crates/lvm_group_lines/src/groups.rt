@@ -8,7 +8,7 @@ ghost use Rattle.lvm_core.specs.Sound.{IsSoundBetween};
 ghost use Rattle.lvm_core.specs.Starting.{IsRoom};
 ghost use Rattle.lvm_core.specs.State.{state_of};
 ghost use Rattle.lvm_group_lines.specs.Groups.{IsHeldBy, IsLeftBy, MkvgDoes, VaryonDoes, VaryoffDoes};
-ghost use Rattle.lvm_disk_lines.specs.passed.Stage.{IsRelit, refusal_of, CommandEnds, EndsUnasked, Aside, IsBetweenStage, IsFitting, IsOfKind};
+ghost use Rattle.lvm_disk_lines.specs.passed.Stage.{IsRelit, refusal_of, CommandEnds, EndsUnasked, Aside, IsBetweenStage, IsFittingStage, IsOfKind};
 ghost use Rattle.lvm_disk_lines.specs.passed.Stage.{history_of, session_of, shelf_of};
 
 use lvm_core::{Cause, Closed, Driver, Refused, Room};
@@ -43,7 +43,7 @@ fn refusal_of(cause: Cause) -> Refusal
 }
 
 // Puts the power on again where it was cut.
-fn relight_after<S: Shelf>(shelf: &mut S, cause: Cause)
+fn relight_after_refusal<S: Shelf>(shelf: &mut S, cause: Cause)
     requires { cause ≡ Cause.Dark → (S.device shelf.old).flights ≡ [] }
     ensures { IsRelit cause (S.device shelf.old) (S.device shelf.new) }
 {
@@ -88,7 +88,7 @@ fn left<S: Shelf>(outcome: Result<Driver<S>, Refused<S>>) -> (Holder<S>, Reply)
                 history,
                 cause,
             } = refused;
-            relight_after(&mut shelf, cause);
+            relight_after_refusal(&mut shelf, cause);
             (
                 Holder::Off { shelf, history },
                 Reply::Refused(refusal_of(cause)),
@@ -109,7 +109,7 @@ pub fn do_mkvg<S: Shelf, C: Clock>(
     mib: Option<u16>,
     disks: &[u16],
 ) -> Answered<S>
-    requires fits { IsFitting stage }
+    requires fits { IsFittingStage stage }
     requires between { IsBetweenStage S.device stage }
     requires room { IsRoom room }
     requires a_disk { 1 ≤ length disks.now }
@@ -154,7 +154,7 @@ pub fn do_varyon<S: Shelf, C: Clock>(
     room: Room,
     name: Name,
 ) -> Answered<S>
-    requires fits { IsFitting stage }
+    requires fits { IsFittingStage stage }
     requires between { IsBetweenStage S.device stage }
     requires room { IsRoom room }
     ensures asked { C.asked clock.new ≡ next_count (C.asked clock.old) }
@@ -187,7 +187,7 @@ pub fn do_varyon<S: Shelf, C: Clock>(
 
 /// Varies the group of the name off, if it is on and none of its requests is open. Transfers that are out stay so.
 pub fn do_varyoff<S: Shelf>(stage: Stage<S>, name: Name) -> Answered<S>
-    requires fits { IsFitting stage }
+    requires fits { IsFittingStage stage }
     requires between { IsBetweenStage S.device stage }
     ensures { EndsUnasked S.device (λ _. VaryoffDoes name) ⊥ Aside stage result.stage result.reply }
 {

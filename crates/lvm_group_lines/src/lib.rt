@@ -4,7 +4,6 @@
 pub mod below;
 mod groups;
 mod listings;
-pub mod lower;
 
 pub use groups::{do_mkvg, do_varyoff, do_varyon};
 pub use listings::{list_disk, list_group, list_volume};

@@ -1,3 +1,2 @@
-pub mod handed
-pub mod Searches
-pub mod Groups
+pub mod passed
+pub mod NewGroupLemmas

@@ -113,7 +113,7 @@ fn room_for(sectors: u64, mib: u16) -> u64
 }
 
 /// How many partitions a disk of so many sectors has as a member.
-pub fn partitions_of(sectors: u64, mib: u16) -> u16
+pub fn partitions_on(sectors: u64, mib: u16) -> u16
     requires { IsTrue (is_size mib) }
     ensures { result ≡ partition_count sectors mib }
 {
@@ -127,7 +127,7 @@ fn first_too_small<S: Shelf>(shelf: &S, mib: u16, disks: &[u16]) -> Option<u16>
     ensures { result ≡ first_too_small (S.device shelf.now).sizes mib disks.now }
 {
     for disk in disks {
-        if partitions_of(shelf.sectors(*disk), mib) == 0 {
+        if partitions_on(shelf.sectors(*disk), mib) == 0 {
             return Some(*disk);
         }
     }

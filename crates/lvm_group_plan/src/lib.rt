@@ -1,8 +1,8 @@
 //! What a new group is made with: the size of its partitions, its first records, and the memory of its session.
 #![tactic(auto)]
 
+pub mod below;
 mod checks;
-pub mod lower;
 mod plan;
 
 pub use checks::size_to_begin;

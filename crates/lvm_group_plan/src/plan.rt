@@ -2,18 +2,16 @@
 ghost use Rattle.std.specs.Prelude.{◌≡◌, ◌<◌, ℕ, [], false, None, map, filter, IfOk, IsTrue, All};
 ghost use Rattle.lvm_num.specs.Name.{is_name};
 ghost use Rattle.lvm_num.specs.Descriptor.{IsValid, is_size};
-ghost use Rattle.lvm_num.specs.DescriptorBytes.{descriptor_bytes};
 ghost use Rattle.lvm_num.specs.Disks.{has};
 ghost use Rattle.lvm_num.specs.Status.{IsValidStatus};
-ghost use Rattle.lvm_num.specs.StatusBytes.{status_bytes};
 ghost use Rattle.lvm_core.specs.Starting.{IsRoom};
-ghost use Rattle.lvm_core.specs.handed.Names.{IsOneGroup};
+ghost use Rattle.lvm_core.specs.passed.Names.{IsOneGroup};
 ghost use Rattle.lvm_group_plan.specs.NewGroup.{among, member_for, clear_row, disks_in_order, descriptor_for, first_absent};
 ghost use Rattle.lvm_group_plan.specs.Planned.{CanBeMade, IsChoiceFor, IsPlanOf, IsPlanned};
 
-use crate::checks::partitions_of;
-use lvm_core::lower::Choice;
-use lvm_core::{Parts, Room};
+use crate::checks::partitions_on;
+use lvm_core::below::Choice;
+use lvm_core::{Parts, Room, encode_records};
 use lvm_disk::Shelf;
 use lvm_num::{
     DISKS, Descriptor, DiskSet, Memory, Name, PvRow, Rows, Status, StatusRow, VolumeNumbers,
@@ -75,13 +73,6 @@ fn choice_of<S: Shelf>(
     })
 }
 
-// The bytes of a descriptor and of a status.
-#[derive(Drop)]
-struct Bytes {
-    descriptor: Rows<u8>,
-    status: Rows<u8>,
-}
-
 // The plan with which a session of a group begins.
 fn plan_with(alloc: Global, choice: Choice, room: Room) -> Result<Plan, Memory>
     requires descriptor { IsValid choice.descriptor }
@@ -90,7 +81,7 @@ fn plan_with(alloc: Global, choice: Choice, room: Room) -> Result<Plan, Memory>
     requires room { IsRoom room }
     ensures { IfOk result (IsPlanOf choice room) }
 {
-    let bytes = encode(alloc, &choice)?;
+    let bytes = encode_records(alloc, &choice)?;
     let targets = choice.answering;
     let parts = Parts::new(alloc, choice, room)?;
     Ok(Plan {
@@ -99,17 +90,6 @@ fn plan_with(alloc: Global, choice: Choice, room: Room) -> Result<Plan, Memory>
         targets,
         parts,
     })
-}
-
-fn encode(alloc: Global, choice: &Choice) -> Result<Bytes, Memory>
-    requires descriptor { IsValid choice.now.descriptor }
-    requires status { IsValidStatus choice.now.status }
-    ensures descriptor { IfOk result (λ bytes. bytes.descriptor ≡ descriptor_bytes choice.now.descriptor) }
-    ensures status { IfOk result (λ bytes. bytes.status ≡ status_bytes choice.now.status) }
-{
-    let descriptor = lvm_spelling::encode(alloc, &choice.descriptor)?;
-    let status = lvm_vgsa::encode(alloc, &choice.status)?;
-    Ok(Bytes { descriptor, status })
 }
 
 fn set_of(disks: &[u16]) -> DiskSet
@@ -165,7 +145,7 @@ fn members_of<S: Shelf>(
     for disk in disks {
         rows.push(PvRow {
             disk: *disk,
-            pps: partitions_of(shelf.sectors(*disk), mib),
+            pps: partitions_on(shelf.sectors(*disk), mib),
             spare: false,
         })?;
     }

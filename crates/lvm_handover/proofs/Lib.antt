@@ -1,11 +1,7 @@
-pub mod handed
 pub mod passed
-pub mod Statuses
-pub mod Marking
-pub mod Votes
-pub mod Between
-pub mod Resting
-pub mod Entailing
-pub mod Serving
-pub mod Volumes
-pub mod Beginning
+pub mod SettlingLemmas
+pub mod ServingLemmas
+pub mod VotesLemmas
+pub mod SoundLemmas
+pub mod CommitSettlingLemmas
+pub mod BeginningLemmas

@@ -1,4 +1,3 @@
-pub mod handed
 pub mod passed
 pub mod Settling
 pub mod Serving

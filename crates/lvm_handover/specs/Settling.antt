@@ -2,7 +2,7 @@
 use Rattle.std.specs.Prelude.{◌≢◌}
 use Rattle.lvm_session.specs.State.{State}
 use Rattle.lvm_session.specs.Sound.{IsSound}
-use Rattle.lvm_earlier.specs.handed.Names.{HasNoneOpen}
+use Rattle.lvm_earlier.specs.passed.Names.{HasNoneOpen}
 use Rattle.lvm_tie_begins.specs.Begins.{IsResting}
 use Rattle.lvm_earlier.specs.passed.Driver.{IsDrained}
 

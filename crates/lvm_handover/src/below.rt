@@ -4,3 +4,5 @@ pub mod driver;
 pub mod earlier;
 pub mod ranges;
 pub mod volumes;
+
+pub use lvm_earlier::below::{Post, end_posts};

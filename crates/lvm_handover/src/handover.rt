@@ -4,18 +4,18 @@ ghost use Rattle.lvm_status.specs.Calls.{IsMarkable};
 ghost use Rattle.lvm_status.specs.Members.{HasItsRows};
 ghost use Rattle.lvm_session.specs.State.{state};
 ghost use Rattle.lvm_session.specs.Sound.{IsSound};
-ghost use Rattle.lvm_earlier.specs.handed.Names.{IsSettled, IsSoundBetween};
+ghost use Rattle.lvm_earlier.specs.passed.Names.{IsSettled, IsSoundBetween};
 ghost use Rattle.lvm_handover.specs.Settling.{MayHandOver};
 ghost use Rattle.lvm_handover.specs.Serving.{IsServed, MarksAdded, MarksMissing, MayServe};
 
 use lvm_disk::Shelf;
-use lvm_earlier::below::driver;
+use lvm_earlier::below::{Driver as CoreDriver, driver};
 use lvm_num::{Descriptor, Pp};
 use lvm_stale::StaleTable;
 
 /// A session whose turns have nothing left to make, and of which neither a request nor a copy is open, takes commands on
 /// its group.
-pub fn settle<S: Shelf>(driver: driver::Driver<S>) -> lvm_earlier::lower::Driver<S>
+pub fn settle<S: Shelf>(driver: driver::Driver<S>) -> CoreDriver<S>
     requires may { MayHandOver (state (S.device driver.0) driver.1) }
     ensures shelf { result.0 ≡ driver.0 }
     ensures core { result.1 ≡ driver.1 }
@@ -25,12 +25,12 @@ pub fn settle<S: Shelf>(driver: driver::Driver<S>) -> lvm_earlier::lower::Driver
     ensures sound { IsSound (state (S.device driver.0) driver.1) }
 {
     let (shelf, session) = driver.into_parts();
-    lvm_earlier::lower::Driver::from_parts(shelf, session)
+    CoreDriver::from_parts(shelf, session)
 }
 
 /// The session takes requests again. The partitions of copies that a command added count as stale since the session
 /// began, and members that are missing by now as missing since.
-pub fn serve<S: Shelf>(driver: lvm_earlier::lower::Driver<S>, added: &[Pp]) -> driver::Driver<S>
+pub fn serve<S: Shelf>(driver: CoreDriver<S>, added: &[Pp]) -> driver::Driver<S>
     requires rows { HasItsRows driver.1.descriptor driver.1.origin.table }
     requires markable { All (IsMarkable driver.1.origin.table) added.now }
     requires may { MayServe added.now (state (S.device driver.0) driver.1) }

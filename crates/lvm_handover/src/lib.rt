@@ -4,6 +4,5 @@
 pub mod below;
 mod handover;
 pub mod laws;
-pub mod lower;
 
 pub use handover::{serve, settle};

@@ -1,4 +1,2 @@
-pub mod Keeping
-pub mod Counting
-pub mod Entering
-pub mod Staying
+pub mod LogLemmas
+pub mod KeepingLemmas

@@ -1,9 +1,9 @@
 -- What a history keeps of its facts, and what holds of it.
 use Rattle.std.specs.Prelude.{◌≡◌, ◌==◌, ℕ, ◌+◌, ◌-◌, ◌*◌, ◌/◌, ◌^◌, ◌<◌, ◌≤◌, Bool, true, false, if◌then◌else◌, List, [], ◌∷◌, length, map, take, drop, slice_index_or, slice_get, not, ◌&&◌, Option, Some, None, replicate}
 use Rattle.std.specs.Simd.{first_chunks}
-use Rattle.lvm_checker.specs.handed.Names.{zero_sector, Entry, Request, Fact, Making, Made, Split, Removing, Removed, Begun, Landed, Taken, Cut, On, begun, Ordered, Log, needed, is_uncut, blocks_of}
-use Rattle.lvm_checker.specs.handed.VolEntryVol.{Disk}
-use Rattle.lvm_checker.specs.handed.VolEntryEntry as entry
+use Rattle.lvm_checker.specs.passed.Names.{zero_sector, Entry, Request, Fact, Making, Made, Split, Removing, Removed, Begun, Landed, Taken, Cut, On, begun, Ordered, Log, needed, is_uncut, blocks_of}
+use Rattle.lvm_checker.specs.passed.VolEntryVol.{Disk}
+use Rattle.lvm_checker.specs.passed.VolEntryEntry as entry
 use Rattle.lvm_checker.specs.declared.row.Ask.{Ask}
 use Rattle.lvm_checker.specs.declared.row.Row.{Row}
 use Rattle.lvm_checker.specs.declared.row.Row.TheVariants as row
@@ -47,7 +47,7 @@ pub record IsRoomy (facts : List Fact) (room : ℕ) (need_now : ℕ) (uncut : Bo
   pub fits : need_now + if_uncut uncut ≤ room
 
 -- all that a history keeps
-pub record Kept : Type 0 where
+pub record Holdings : Type 0 where
   pub run : ℕ
   pub room : ℕ
   pub bytes : ℕ
@@ -60,11 +60,11 @@ pub record Kept : Type 0 where
   pub asks_room : ℕ
   pub blocks_room : ℕ
 
-abbrev pub log_of : Kept → Log
+abbrev pub log_of : Holdings → Log
 log_of h = record { run = h.run; facts = facts_of h.run h.asks h.blocks h.rows; room = h.room; bytes = h.bytes }
 
 -- What holds of it: it is what is kept of its facts, and the memory that was made with it is enough.
-pub record IsSound (h : Kept) : Type 0 where
+pub record IsSound (h : Holdings) : Type 0 where
   pub its_own : IsKept h.run (log_of h).facts h.rows h.asks h.blocks
   pub roomy : IsRoomy (log_of h).facts h.room h.need_now h.uncut
   pub few : h.room < 2 ^ 32

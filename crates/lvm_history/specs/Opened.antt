@@ -1,10 +1,10 @@
 -- A history's fields as what it keeps.
 use Rattle.std.specs.Prelude.{vec_capacity}
 use Rattle.lvm_history.specs.declared.history.History.TheInside.{Inside}
-use Rattle.lvm_checker.specs.handed.Names.{Log}
-use Rattle.lvm_history.specs.Keeping.{Kept, log_of, IsSound}
+use Rattle.lvm_checker.specs.passed.Names.{Log}
+use Rattle.lvm_history.specs.Keeping.{Holdings, log_of, IsSound}
 
-abbrev pub kept_of : Inside → Kept
+abbrev pub kept_of : Inside → Holdings
 kept_of h = record {
   run = h.run;
   room = h.room;

@@ -10,7 +10,7 @@ use std::alloc::Global;
 use std::marker::Model;
 
 /// What a request or a copy step asks for: `count` blocks from block `at` of a logical volume.
-#[derive(Clone, Copy, Debug, PartialEq, Eq)]
+#[derive(Clone, Copy, PartialEq, Eq)]
 pub struct Held {
     pub lv: u16,
     pub at: u64,
@@ -23,7 +23,7 @@ pub struct Held {
 }
 
 /// One that is inside.
-#[derive(Clone, Copy, Debug, PartialEq, Eq)]
+#[derive(Clone, Copy)]
 pub struct Row {
     pub id: u64,
     pub ask: Held,

@@ -8,7 +8,7 @@ use Rattle.lvm_vol.specs.Facts.{Request, block_of}
 use Rattle.lvm_vol.specs.May.{Known, cut, is_off, is_some_open}
 use Rattle.lvm_invariant.specs.State.{write_of, Marks, Groups, View, Going, Queued, ModelState, covers, request_of, has_landed, stale_in, Live, Named, Started, told}
 use Rattle.lvm_invariant.proofs.Small.{IsIn, never, and_right_false, and_left_false, or_left, or_right, in_more, in_added, brought_in, some_open}
-use Rattle.lvm_invariant.specs.Sound.{MayDiffer, Agree, Settled, Busy, Recorded, StaysFresh, Sound}
+use Rattle.lvm_invariant.specs.Sound.{MayDiffer, Agree, Quiescent, Busy, Recorded, StaysFresh, Sound}
 use Rattle.lvm_invariant.specs.Crash.{CopyBrings, IsCrash, Fresh, MayDifferAfter, BlockKept, IsPossible, Widens, CoreIsKept}
 
 -- a started write is open in the history
@@ -53,7 +53,7 @@ module _ (s : ModelState) (sound : Sound s) where
 
     media_allowed : (lv b : ℕ) (c : Pp) → Live s lv b c → IsIn (after lv b).values (s.media.block lv b c)
     media_allowed lv b c live = ⊎_elim
-        (λ (settled : Settled s lv b). wide.old lv b (s.media.block lv b c) (settled.allowed c live))
+        (λ (settled : Quiescent s lv b). wide.old lv b (s.media.block lv b c) (settled.allowed c live))
         (λ (by : (i : ℕ) × (r : Queued) × Started s i r × IsTrue (covers r lv b)).
         let busy : Busy s by.1 lv b = sound.blocks.busy by.0 lv b by.1 by.2 by.3 in
         ⊎_elim
@@ -82,7 +82,7 @@ module _ (s : ModelState) (sound : Sound s) where
       }
 
       -- without a write, live copies hold after the loss what they hold now, if the block isn't loose
-      same_if_calm : Settled s lv b → IsFalse (told s lv b).loose → (c : Pp) → Live s lv b c → v.block lv b c ≡ s.media.block lv b c
+      same_if_calm : Quiescent s lv b → IsFalse (told s lv b).loose → (c : Pp) → Live s lv b c → v.block lv b c ≡ s.media.block lv b c
       same_if_calm settled tight c live = elim (crash.block lv b c live.copy) [
         | inl same ↦ same
         | inr rest ↦ elim rest [
@@ -115,7 +115,7 @@ module _ (s : ModelState) (sound : Sound s) where
                 ap (v.block lv b) (recorded.single e c recorded.one.0 aim.0 recorded.one.1 aim.1 recorded.one.2),
           )
 
-      equal_if_settled : (active loose : Bool) → s.is_active lv ≡ active → (told s lv b).loose ≡ loose → Settled s lv b → Agree s lv b ⊎ MayDiffer s lv b active
+      equal_if_settled : (active loose : Bool) → s.is_active lv ≡ active → (told s lv b).loose ≡ loose → Quiescent s lv b → Agree s lv b ⊎ MayDiffer s lv b active
           → ((value : List ℕ) × ((c : Pp) → Fresh s marks lv b c → v.block lv b c ≡ value)) ⊎ MayDifferAfter s v marks (after lv b) lv b active
       equal_if_settled active false on tight settled (inl agree) = inl (agree.0, λ c fresh. same_if_calm settled tight c (is_live c fresh) ∙ agree.1 c (is_live c fresh))
       equal_if_settled true true on loose settled (inl agree) = inr (λ c fresh. never (told s lv b).loose loose (sound.tied.tight lv b c fresh.copy (inl on)))

@@ -5,6 +5,11 @@ use Rattle.lvm_num.specs.Buffer.{Sector}
 use Rattle.lvm_vol.specs.Facts.{Request, Stands, same_request, block_of}
 use Rattle.lvm_invariant.specs.State.{write_in}
 use Rattle.lvm_vol.specs.May.{is_some_open}
+pub use Rattle.std.proofs.lemmas.Bool.{and_from as both_of}
+pub use Rattle.std.proofs.lemmas.Bool.{and_right as and_right_false}
+pub use Rattle.std.proofs.lemmas.Bool.{or_left}
+pub use Rattle.lvm_num.proofs.Booleans.{first_holds as left_of}
+pub use Rattle.lvm_num.proofs.Booleans.{second_holds as right_of}
 
 -- the value is one of those known
 abbrev pub IsIn : Option (List (List ℕ)) → List ℕ → Type 0
@@ -13,33 +18,13 @@ IsIn values value = IsSomeAnd values (λ vs. Stands value vs)
 pub never : {X : Type 0} (a : Bool) → IsTrue a → IsFalse a → X
 never a t f = absurd cc
 
-pub left_of : (a b : Bool) → IsTrue (a && b) → IsTrue a
-left_of true b h = refl
-left_of false b h = absurd cc
-
-pub right_of : (a b : Bool) → IsTrue (a && b) → IsTrue b
-right_of true b h = h
-right_of false b h = absurd cc
-
-pub both_of : (a b : Bool) → IsTrue a → IsTrue b → IsTrue (a && b)
-both_of true b h k = k
-both_of false b h k = absurd cc
-
 pub false_by : (a w : Bool) → (IsTrue a → IsTrue w) → IsFalse w → IsFalse a
 false_by true w f h = never w (f refl) h
 false_by false w f h = refl
 
-pub and_right_false : (a b : Bool) → IsFalse b → IsFalse (a && b)
-and_right_false true b h = h
-and_right_false false b h = refl
-
 pub and_left_false : (a b : Bool) → IsFalse a → IsFalse (a && b)
 and_left_false true b h = absurd cc
 and_left_false false b h = refl
-
-pub or_left : (a b : Bool) → IsTrue a → IsTrue (a || b)
-or_left true b h = refl
-or_left false b h = absurd cc
 
 pub or_right : (a b c : Bool) → IsTrue b → IsTrue c → IsTrue (a || (b && c))
 or_right true b c h k = refl

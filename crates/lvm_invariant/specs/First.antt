@@ -7,8 +7,9 @@ use Rattle.lvm_num.specs.Buffer.{zero_sector}
 use Rattle.lvm_vol.specs.declared.entry.Vol.TheVariants.{Lv}
 use Rattle.lvm_vol.specs.Facts.{Making, Made}
 use Rattle.lvm_num.specs.Record.{Stamped}
-use Rattle.lvm_invariant.specs.State.{has_notes, has_mark, Marks, Groups, ModelState}
-use Rattle.lvm_invariant.specs.Updates.{is_pp}
+use Rattle.lvm_invariant.specs.State.{Marks, Groups, ModelState}
+use Rattle.lvm_num.specs.Descriptor.{is_pp}
+use Rattle.lvm_num.specs.Modes.{is_active, is_passive}
 use Rattle.lvm_invariant.specs.Found.{Votes}
 use Rattle.lvm_invariant.specs.Good.{Good}
 
@@ -47,8 +48,8 @@ at_rest mode stale = record {
   facts = Making 1 2048 mode ∷ Made 1 ∷ [];
   name = λ i. record { run = 1; id = i; client = 0; vol = Lv 1; at = 0; count = 0; write = false; blocks = [] };
   is_copy = λ lv b c. (1 == lv && nat_lt b 2048) && is_either c;
-  is_active = λ lv. has_notes mode;
-  is_passive = λ lv. has_mark mode;
+  is_active = λ lv. is_active mode;
+  is_passive = λ lv. is_passive mode;
   committed = stamped 1 (marks_with stale false);
   in_flight = None;
   wanted = marks_with stale false;

@@ -22,8 +22,8 @@ MayDiffer s lv b false = IsTrue (told s lv b).loose ⊎ DifferDirty s lv b
 abbrev pub Agree : ModelState → ℕ → ℕ → Type 0
 Agree s lv b = (value : List ℕ) × ((c : Pp) → Live s lv b c → s.media.block lv b c ≡ value)
 
--- no write that has started goes over the block
-pub record Settled (s : ModelState) (lv b : ℕ) : Type 0 where
+-- no write that has started goes over the block: each live copy holds a value that the block may have, and all hold one, unless they may differ
+pub record Quiescent (s : ModelState) (lv b : ℕ) : Type 0 where
   pub calm : (i : ℕ) (r : Queued) → Started s i r → IsTrue (covers r lv b) → ⊥
   pub allowed : (c : Pp) → Live s lv b c → IsValue (told s lv b) (s.media.block lv b c)
   pub equal : Agree s lv b ⊎ MayDiffer s lv b (s.is_active lv)
@@ -45,7 +45,7 @@ pub record Recorded (s : ModelState) (r : Queued) (lv b : ℕ) : Type 0 where
 
 -- the blocks
 pub record Blocks (s : ModelState) : Type 0 where
-  pub each : (lv b : ℕ) → Settled s lv b ⊎ ((i : ℕ) × (r : Queued) × Started s i r × IsTrue (covers r lv b))
+  pub each : (lv b : ℕ) → Quiescent s lv b ⊎ ((i : ℕ) × (r : Queued) × Started s i r × IsTrue (covers r lv b))
   pub busy : (i lv b : ℕ) (r : Queued) → Started s i r → IsTrue (covers r lv b) → Busy s r lv b
   pub recorded : (i lv b : ℕ) (r : Queued) → Started s i r → IsTrue (covers r lv b) → Recorded s r lv b
 

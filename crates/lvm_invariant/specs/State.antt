@@ -1,23 +1,12 @@
 -- A session, seen without bytes: what the disks show, and what the driver is about.
 use Rattle.std.specs.Prelude.{◌≡◌, ◌⊎◌, ℕ, ◌+◌, Bool, true, false, ◌&&◌, not, nat_lt, nat_le, ◌==◌, List, Option, Some, None, option_map, find, IsTrue, IsFalse}
 use Rattle.lvm_num.specs.declared.place.Pp.{Pp}
-use Rattle.lvm_num.specs.declared.descriptor.Mode.{Mode}
-use Rattle.lvm_num.specs.declared.descriptor.Mode.TheVariants.{Active, Passive}
 use Rattle.lvm_num.specs.Geometry.{track_group_of}
 use Rattle.lvm_num.specs.Record.{Stamped}
 use Rattle.lvm_vol.specs.Facts.{Request, same_request, block_of, Fact}
 use Rattle.lvm_vol.specs.May.{Known, known}
 use Rattle.lvm_num.specs.Buffer.{Sector}
 use Rattle.lvm_vol.specs.declared.entry.Vol.TheVariants.{Lv}
-
--- a volume in this mode keeps notes, or is marked dirty
-abbrev pub has_notes : Mode → Bool
-has_notes Active = true
-has_notes _ = false
-
-abbrev pub has_mark : Mode → Bool
-has_mark Passive = true
-has_mark _ = false
 
 -- which partitions a status calls stale, and which volumes dirty
 pub record Marks : Type 0 where

@@ -1,6 +1,7 @@
 -- How the fields of a state change.
-use Rattle.std.specs.Prelude.{ℕ, Bool, ◌&&◌, ◌==◌, if◌then◌else◌, List, Option, Some, None}
+use Rattle.std.specs.Prelude.{ℕ, Bool, ◌==◌, if◌then◌else◌, List, Option, Some, None}
 use Rattle.lvm_num.specs.declared.place.Pp.{Pp}
+use Rattle.lvm_num.specs.Descriptor.{is_pp}
 use Rattle.lvm_num.specs.Record.{Stamped}
 use Rattle.lvm_vol.specs.Facts.{Request, Fact}
 use Rattle.lvm_invariant.specs.State.{Marks, Groups, View, Stage, Landed, Queued, ModelState}
@@ -16,9 +17,6 @@ without queue i j = if j == i then None else queue j
 -- the name of this place is now this one
 abbrev pub with_name : (ℕ → Request) → ℕ → Request → ℕ → Request
 with_name name i q j = if j == i then q else name j
-
-abbrev pub is_pp : Pp → Pp → Bool
-is_pp a b = a.disk == b.disk && a.pp == b.pp
 
 -- the transfer to this copy is now at this stage
 abbrev pub staged : (Pp → Option Stage) → Pp → Stage → Pp → Option Stage

@@ -9,7 +9,8 @@ use Rattle.lvm_vol.specs.declared.entry.Vol.TheVariants.{Lv}
 use Rattle.lvm_vol.specs.declared.entry.Outcome.TheVariants as outcome
 use Rattle.lvm_vol.specs.Facts.{Request, Making, Made, Begun, Landed as HasLanded, block_of}
 use Rattle.lvm_invariant.specs.State.{Marks, Groups, Stage, Todo, Flying, Well, Badly, ModelPhase, Held, WantEntry, Ready, Going, Queued, ModelCopy, ModelState, covers}
-use Rattle.lvm_invariant.specs.Updates.{is_pp, staged, land}
+use Rattle.lvm_invariant.specs.Updates.{staged, land}
+use Rattle.lvm_num.specs.Descriptor.{is_pp}
 use Rattle.lvm_invariant.specs.Found.{Votes}
 use Rattle.lvm_invariant.specs.Good.{Good}
 use Rattle.lvm_invariant.specs.Over.{AreOpen}

@@ -1,5 +1,3 @@
-pub mod Told
-pub mod Feeds
-mod Texts
-mod Coming
-mod Making
+pub mod StreamLemmas
+pub mod LinesLemmas
+mod ReadingLemmas

@@ -18,7 +18,7 @@ pub const MOST_BYTES: u64 = 16_777_216;
 const BLOCK: usize = 65_536;
 
 /// The answer of `next_line`.
-#[derive(Debug, Drop)]
+#[derive(Drop)]
 pub enum NextLine {
     /// The next line without its line feed, which the last line may lack.
     Line(Rows<u8>),
@@ -177,7 +177,7 @@ fn first_feed(bytes: &[u8]) -> Option<usize>
 }
 
 /// A sink that failed.
-#[derive(Clone, Copy, Debug, PartialEq, Eq)]
+#[derive(Clone, Copy, PartialEq, Eq)]
 pub struct SinkFault;
 
 /// Writes the whole text, or a front of it before the sink fails.

@@ -3,7 +3,7 @@ ghost use Rattle.std.specs.Prelude.{◌≡◌, ◌<◌, ◌≤◌, List, ℕ, Op
 ghost use Rattle.lvm_io.specs.Count.{Rose, next_count};
 
 /// The answer of a source.
-#[derive(Clone, Copy, Debug, PartialEq, Eq)]
+#[derive(Clone, Copy, PartialEq, Eq)]
 pub enum Got {
     /// So many bytes, at least one, stand at the front of the buffer.
     Bytes(usize),
@@ -14,7 +14,7 @@ pub enum Got {
 }
 
 /// The answer of a sink.
-#[derive(Clone, Copy, Debug, PartialEq, Eq)]
+#[derive(Clone, Copy, PartialEq, Eq)]
 pub enum Put {
     /// The first so many bytes, at least one, were taken.
     Took(usize),

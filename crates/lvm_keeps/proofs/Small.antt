@@ -3,20 +3,9 @@ use Rattle.std.proofs.Common.{◌≡◌, ◌≤◌, ℕ, Bool, true, false, ◌&
 use Rattle.std.specs.Prelude.{nat_le}
 use Rattle.std.specs.List.{list_any}
 use Rattle.std.proofs.lemmas.Bool.Decides.{nat_tests}
-
-pub not_so : {X : Type 0} → false ≡ true → X
-not_so e = absurd cc
-
-pub not_either : {X : Type 0} → true ≡ false → X
-not_either e = absurd cc
-
-pub both : (a b : Bool) → a && b ≡ true → (a ≡ true) × (b ≡ true)
-both true b is = (refl, is)
-both false b is = not_so is
-
-pub is_false : (a : Bool) → not a ≡ true → a ≡ false
-is_false true is = not_so is
-is_false false is = refl
+pub use Rattle.std.proofs.lemmas.Bool.{and_parts as both}
+pub use Rattle.std.proofs.lemmas.Bool.{not-true as is_false}
+pub use Rattle.lvm_session.proofs.Small.{not_either, not_so}
 
 -- a test that comes to fail makes no conjunction hold
 pub and_on : (a b c : Bool) → (b ≡ false → c ≡ false) → a && b ≡ false → a && c ≡ false

@@ -1,4 +1,4 @@
-pub mod handed
+pub mod passed
 pub mod Keeps
 pub mod Falls
 pub mod Begins

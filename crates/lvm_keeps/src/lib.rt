@@ -1,8 +1,8 @@
 //! Each event of a session keeps it sound.
 #![tactic(auto)]
 
+pub mod below;
 mod laws;
-pub mod lower;
 
 pub use laws::{
     beginning_is_sound, close_keeps, copy_read_falls, copy_read_keeps, cut_keeps,

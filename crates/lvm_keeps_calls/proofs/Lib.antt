@@ -1,5 +1,4 @@
-pub mod Places
-pub mod Growing
-pub mod Submit
-mod Aging
-pub mod Opening
+pub mod GeometryLemmas
+pub mod LogLemmas
+pub mod KeepsLemmas
+pub mod OpeningLemmas

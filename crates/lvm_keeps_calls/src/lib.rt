@@ -1,8 +1,8 @@
 //! The calls of a client keep a session sound: requests that are submitted, and copies that are opened.
 #![tactic(auto)]
 
+pub mod below;
 mod laws;
-pub mod lower;
 mod opens;
 
 pub use laws::submit_keeps;

@@ -9,10 +9,10 @@ use Rattle.lvm_num.specs.declared.place.Pp.{Pp}
 use Rattle.lvm_num.specs.declared.record.Stamp.{Stamp}
 use Rattle.lvm_num.specs.declared.status.Status.{Status}
 use Rattle.lvm_num.specs.declared.status.StatusRow.{StatusRow}
-use Rattle.lvm_num.specs.Descriptor.{is_member}
+use Rattle.lvm_num.specs.Descriptor.{is_member, is_pp}
 use Rattle.lvm_num.specs.Disks.{has}
 use Rattle.lvm_num.specs.Status.{calls_dirty, calls_missing, calls_stale}
-use Rattle.lvm_stale.specs.Table.{has_row, is_pp}
+use Rattle.lvm_stale.specs.Table.{has_row}
 use Rattle.lvm_disk.specs.Counts.{Counts, Rose}
 use Rattle.lvm_disk.specs.Device.{Device, Flight, Media}
 use Rattle.lvm_mwc.specs.Cache.{has_disk}
@@ -33,23 +33,23 @@ use Rattle.lvm_session.specs.Judging.{copies_in, is_missing, is_running, is_sure
 use Rattle.lvm_session.specs.Bringing.{copy_ends, end_by_sources, end_of, ends_if, is_cleared, is_idle, is_whole, marked_by_end, next_source, sources_of}
 use Rattle.lvm_session.specs.Enabled.{same_status}
 use Rattle.lvm_session.specs.Calls.{copy_at}
-use Rattle.lvm_session.specs.Events.{is_passive}
+use Rattle.lvm_num.specs.Modes.{is_passive}
 use Rattle.lvm_session.specs.Marks.{is_entailed}
 use Rattle.lvm_session.specs.Causes.{AreCaused, AreCounted, FailedSince, FailedSinceOpening, HasFailed, HaveSourcesFailed, IsAnswered, IsCaused, IsCausedAmong, IsCounted, IsTrueToOrigin, fails_on, faults_at_first, faults_at_opening, is_blamed, is_held_stale}
 use Rattle.lvm_session.specs.Left.{clean_volumes, if_so, updates_left}
 use Rattle.lvm_session.specs.Owners.{AreOwned, AreRows, HaveTickets}
 use Rattle.lvm_session.specs.Sound.{IsCopy, IsFitting, IsGoing, IsOn, IsSound, IsTold, count_if, has_number, is_dark, out_with}
-use Rattle.lvm_keeps.proofs.Causes.{answered_when_on, counted_when_on}
+use Rattle.lvm_keeps.proofs.CausesLemmas.{answered_when_on, counted_when_on}
 use Rattle.lvm_keeps.proofs.Lists.{all_on}
 use Rattle.lvm_keeps.proofs.Small.{both, is_false, not_so}
-use Rattle.lvm_keeps.proofs.Whole.{sound_when_on}
-use Rattle.lvm_keeps_events.proofs.CopyReadFail.{all_tried, by_place, by_sources, none_found, of_place, usable_of}
-use Rattle.lvm_keeps_events.proofs.Counts.{counts_keep, rose_since}
-use Rattle.lvm_keeps_events.proofs.Copies.{Brings, Fewer, runs_of}
+use Rattle.lvm_keeps.proofs.SoundLemmas.Whole.{sound_when_on}
+use Rattle.lvm_keeps_events.proofs.EndsLemmas.CopyReadFail.{all_tried, by_place, by_sources, none_found, of_place, usable_of}
+use Rattle.lvm_keeps_events.proofs.EndsLemmas.Counts.{counts_keep, rose_since}
+use Rattle.lvm_keeps_events.proofs.SoundLemmas.Copies.{Brings, Fewer, runs_of}
 use Rattle.lvm_keeps_events.proofs.Finding.{all_two, count_alike, count_less, found, some_kept}
-use Rattle.lvm_keeps_events.proofs.Follows.{Follows, Loses, in_flight_of}
-use Rattle.lvm_keeps_events.proofs.Requests.{NamesStay, requests_on}
-use Rattle.lvm_keeps_events.proofs.Review.{Clears, Ending, Reviewed, and_of, behind_now, flies_is, fresh_now, held_by, here, its_copy, left_behind, mid, missing_is, missing_on, nothing_new, now, or_right, undone, sure_by, usable_is, wanted_by, was_there}
+use Rattle.lvm_keeps_events.proofs.CallsLemmas.{Follows, Loses, in_flight_of}
+use Rattle.lvm_keeps_events.proofs.JudgingLemmas.Requests.{NamesStay, requests_on}
+use Rattle.lvm_keeps_events.proofs.JudgingLemmas.Review.{Clears, WriteEnd, Reviewed, and_of, behind_now, flies_is, fresh_now, held_by, here, its_copy, left_behind, mid, missing_is, missing_on, nothing_new, now, or_right, undone, sure_by, usable_is, wanted_by, was_there}
 
 four : (a b c d : Bool) → a || b || c || d ≡ true → (a ≡ true) ⊎ ((b ≡ true) ⊎ ((c ≡ true) ⊎ (d ≡ true)))
 four true b c d i = inl refl
@@ -63,7 +63,7 @@ at_most_one : (b : Bool) → if_so b 1 ≤ 1
 at_most_one true = omega arith
 at_most_one false = omega arith
 
-module _ (e : Ending) (r : Reviewed e) (brings : Brings e r) where
+module _ (e : WriteEnd) (r : Reviewed e) (brings : Brings e r) where
   abbrev core : Core
   core = e.core
 
@@ -142,7 +142,7 @@ module _ (e : Ending) (r : Reviewed e) (brings : Brings e r) where
 -- ---- all of it
 
 module _ (old : State) (sound : IsSound old) (on : old.core.power ≡ power.On) (disk : ℕ) (next : Stored) (follows : Follows old.core disk next) (flying : List Flown) (pool : List Bool) (notes : List DiskNotes) (homes : Homes) where
-  abbrev pub e : Ending
+  abbrev pub e : WriteEnd
   e = record { core = old.core; going = (sound.on on).going; disk = disk; next = next; follows = follows; flying = flying; pool = pool; notes = notes; homes = homes }
 
   module _ (media : Option Media) (counts : Counts) (flights : List Flight) (more : (d : ℕ) → old.device.counts.faults d ≤ counts.faults d) (rise : (d : ℕ) → is_missing (mid e) d ≡ true → (is_missing old.core d ≡ true) ⊎ Rose (old.device.counts.faults d) (counts.faults d)) (r : Reviewed e) where

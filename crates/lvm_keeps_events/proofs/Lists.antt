@@ -1,30 +1,15 @@
 -- Tests of lists by tests that entail them.
-use Rattle.std.proofs.Common.{◌&&◌, [], ap, arith, Bool, false, inl, inr, List, refl, slice_get, slice_set, Some, suc, sym, true, zero, ◌||◌, ℕ, ◌∙◌, ◌∷◌, ◌≡◌, ◌≤◌, ◌⊎◌}
+use Rattle.std.proofs.Common.{[], ap, arith, Bool, false, inl, inr, List, refl, slice_get, slice_set, Some, suc, sym, true, zero, ◌||◌, ℕ, ◌∙◌, ◌∷◌, ◌≡◌, ◌≤◌, ◌⊎◌}
 use Rattle.std.specs.List.{AllByRecursion, list_all, list_any}
 use Rattle.std.specs.Prelude.{count_by}
 use Rattle.lvm_session.specs.Sound.{count_if}
 use Rattle.lvm_keeps.proofs.Lists.{count_cons}
 use Rattle.lvm_keeps.proofs.Small.{both, not_so}
-
-pub or_true : (a : Bool) → a || true ≡ true
-or_true true = refl
-or_true false = refl
-
-pub or_false : (a : Bool) → a || false ≡ a
-or_false true = refl
-or_false false = refl
-
-pub and_false : (a : Bool) → a && false ≡ false
-and_false true = refl
-and_false false = refl
-
-pub all_and : (a b : Bool) → a ≡ true → b ≡ true → a && b ≡ true
-all_and true b p q = q
-all_and false b p q = not_so p
-
-pub either : (a b : Bool) → a || b ≡ true → (a ≡ true) ⊎ (b ≡ true)
-either true b e = inl refl
-either false b e = inr e
+pub use Rattle.std.proofs.lemmas.Bool.{and_from as all_and}
+pub use Rattle.std.proofs.lemmas.Bool.{or_cases as either}
+pub use Rattle.lvm_num.proofs.Booleans.{or_true}
+pub use Rattle.lvm_num.proofs.Booleans.{or_false}
+pub use Rattle.lvm_num.proofs.Booleans.{and_false}
 
 module _ {A : Type 0} (t u : A → Bool) (on : (x : A) → t x ≡ true → u x ≡ true) where
   pub any_on : (xs : List A) → list_any t xs ≡ true → list_any u xs ≡ true

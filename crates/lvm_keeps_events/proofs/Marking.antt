@@ -13,10 +13,10 @@ use Rattle.lvm_num.specs.declared.place.Pp.{Pp}
 use Rattle.lvm_num.specs.declared.record.Stamp.{Stamp}
 use Rattle.lvm_num.specs.declared.status.Status.{Status}
 use Rattle.lvm_num.specs.declared.status.StatusRow.{StatusRow}
-use Rattle.lvm_num.specs.Descriptor.{copies_of, is_member, volume_of}
+use Rattle.lvm_num.specs.Descriptor.{copies_of, is_member, volume_of, is_pp}
 use Rattle.lvm_num.specs.Disks.{has}
 use Rattle.lvm_num.specs.Status.{calls_dirty, calls_stale}
-use Rattle.lvm_stale.specs.Table.{SameMissing, SameStale, has_row, is_pp}
+use Rattle.lvm_stale.specs.Table.{SameMissing, SameStale, has_row}
 use Rattle.lvm_path.specs.declared.ask.Ask.{Ask}
 use Rattle.lvm_path.specs.declared.request.Request.{Request}
 use Rattle.lvm_path.specs.declared.target.Target.{Target}
@@ -27,7 +27,7 @@ use Rattle.lvm_status.specs.declared.writes.Writes.{Writes}
 use Rattle.lvm_status.specs.Update.{Stored, Updates, is_held, is_owed, seen}
 use Rattle.lvm_status.specs.Calls.{BecomesDirty, closed}
 use Rattle.lvm_status.specs.Runs.{Want, IsSoundStatus}
-use Rattle.lvm_status.proofs.Sound.{steps_stay_sound}
+use Rattle.lvm_status.proofs.RunsLemmas.Sound.{steps_stay_sound}
 use Rattle.lvm_session.specs.declared.bringing.CopyEnd.TheVariants as ending
 use Rattle.lvm_session.specs.declared.bringing.OpenCopy.{OpenCopy}
 use Rattle.lvm_session.specs.declared.flown.Owner.TheVariants as owner
@@ -37,19 +37,19 @@ use Rattle.lvm_session.specs.State.{Core, State, is_there, state}
 use Rattle.lvm_session.specs.Judging.{copies_in, group_in, has_dirty_mark, has_names, is_caught, is_kept, is_missing, is_running, is_settled, is_stale, is_sure, is_usable, is_wanted_stale, pps_of}
 use Rattle.lvm_session.specs.Bringing.{copy_ends, end_by_sources, end_of, ends_if, is_cleared, is_idle, is_whole, sources_of}
 use Rattle.lvm_session.specs.Enabled.{same_status}
-use Rattle.lvm_session.specs.Events.{is_passive}
+use Rattle.lvm_num.specs.Modes.{is_passive}
 use Rattle.lvm_session.specs.Marks.{WantsDirty, can_replace, is_among, is_entailed, is_entailed_in, is_left_behind}
 use Rattle.lvm_session.specs.Left.{clean_volumes, if_so}
 use Rattle.lvm_session.specs.Owners.{AreOwned}
 use Rattle.lvm_session.specs.Requests.{IsOpenOne, is_failed_and_sure, is_left_out, is_wanted_dirty, is_wanted_due, mode_for, will_be_kept}
 use Rattle.lvm_session.specs.Causes.{AreCaused, AreCounted, HaveSourcesFailed, IsAnswered, IsCaused, IsCausedAmong, IsTrueToOrigin, fails_on, is_blamed, is_held_stale, was_fresh}
 use Rattle.lvm_session.specs.Sound.{IsCopy, IsFitting, IsGoing, IsOn, IsSound, IsTold, count_if, is_dark, may_be_fresh, stays_fresh}
-use Rattle.lvm_keeps.proofs.Causes.{answered_when_on, counted_when_on}
+use Rattle.lvm_keeps.proofs.CausesLemmas.{answered_when_on, counted_when_on}
 use Rattle.lvm_keeps.proofs.Lists.{all_on, count_cons}
-use Rattle.lvm_keeps.proofs.Rows.{rows_still}
+use Rattle.lvm_keeps.proofs.OwnersLemmas.Rows.{rows_still}
 use Rattle.lvm_keeps.proofs.Small.{not_so}
-use Rattle.lvm_keeps.proofs.Still.{if_on, shape_still, copy_marked, same_next}
-use Rattle.lvm_keeps.proofs.Whole.{sound_when_on}
+use Rattle.lvm_keeps.proofs.RequestsLemmas.{if_on, shape_still, copy_marked, same_next}
+use Rattle.lvm_keeps.proofs.SoundLemmas.Whole.{sound_when_on}
 
 -- ---- tests that say the same of each
 

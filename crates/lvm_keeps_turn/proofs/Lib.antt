@@ -1,8 +1,7 @@
-pub mod handed
-pub mod Ends
-pub mod Turning
-pub mod Frames
-pub mod Tables
-pub mod Telling
-pub mod Stepping
-pub mod Reading
+pub mod passed
+pub mod KeepsLemmas
+pub mod TurningLemmas
+pub mod TellingLemmas
+pub mod CallsLemmas
+pub mod CountsLemmas
+pub mod ReadingLemmas

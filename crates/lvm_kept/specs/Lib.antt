@@ -1,4 +1,4 @@
-pub mod handed
+pub mod passed
 pub mod Contents
 pub mod Group
 pub mod Kept

@@ -1,8 +1,8 @@
 //! What crash images keep of a history, and the moments of a run at which they keep it.
 #![tactic(auto)]
 
+pub mod below;
 mod laws;
-pub mod lower;
 
 pub use laws::{
     blank_is_kept, changes_keep, entries_keep, groups_are_alike, parts_stand, places, quorums_find,

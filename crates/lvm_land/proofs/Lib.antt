@@ -1,3 +1,3 @@
 mod Fronts
-mod Outcomes
-mod Landing
+mod LogLemmas
+mod EnteredLemmas

@@ -1,2 +1,2 @@
-mod Queueing
-mod Ending
+mod SoundLemmas
+mod StepsLemmas

@@ -1,8 +1,13 @@
 -- The command line as `clap` is told it, and what is kept from it.
-use Rattle.std.specs.Prelude.{ℕ, ◌-◌, ◌^◌, ◌==◌, nat_le, ◌&&◌, ◌||◌, not, Bool, true, false, List, [], ◌∷◌, length, Some, codes}
-use Rattle.clap.specs.Words.{App, Rule, Shape, new_app, new_rule, with_rule, with_subcommand}
+use Rattle.std.specs.Prelude.{ℕ, ◌-◌, ◌^◌, ◌==◌, nat_le, ◌&&◌, ◌||◌, not, Bool, true, false, List, [], ◌∷◌, length, Some, Result, Ok, Err, codes}
+use Rattle.clap.specs.Words.{App, Rule, Shape, new_app, new_rule, with_rule, with_subcommand, kind_of}
 use Rattle.clap.specs.Simple.{on_top}
 use Rattle.clap.specs.declared.builder.value_parser.ValueParser.TheVariants as parser
+use Rattle.clap.specs.declared.error.Error.{Error}
+use Rattle.clap.specs.declared.error.kind.ErrorKind.{ErrorKind}
+use Rattle.clap.specs.declared.error.kind.ErrorKind.TheVariants as kind
+use Rattle.lvm_language.specs.declared.fault.WordsFault.{WordsFault}
+use Rattle.lvm_language.specs.declared.fault.WordsFault.TheVariants as fault
 
 -- a `+` or a `-` stands in front
 abbrev pub is_signed : List ℕ → Bool
@@ -47,3 +52,15 @@ lvm_settings s = record s { no_binary_name = true; disable_help_flag = true; dis
 abbrev pub lvm_app : App
 lvm_app = with_subcommand (with_subcommand (with_subcommand (with_subcommand
     (with_subcommand (on_top lvm_settings (new_app (codes "lvm"))) script_app.top) sim_app.top) gen_app.top) weave_app.top) image_app.top
+
+-- ---- what `clap` answers
+
+-- each kind of error is a fault in the words, but for want of memory
+abbrev pub fault_by : ErrorKind → WordsFault
+fault_by kind.OutOfMemory = fault.Memory
+fault_by other = fault.Usage
+
+-- its answer, with the fault in place of its error
+abbrev pub with_fault : {X : Type 0} → Result X Error → Result X WordsFault
+with_fault (Ok x) = Ok x
+with_fault (Err error) = Err (fault_by (kind_of error))

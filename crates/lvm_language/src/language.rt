@@ -3,12 +3,12 @@ ghost use Rattle.std.specs.Prelude.{◌≡◌, IfOk, Err, true, false, [], codes
 ghost use Rattle.clap.specs.Simple.{on_top};
 ghost use Rattle.clap.specs.Words.{App, app_of, rule_of, new_app, with_rule, with_subcommand, fault_of, subcommand_of, subcommand_rows_of};
 ghost use Rattle.clap.specs.declared.builder.Command.TheViews.{out-Command};
-ghost use Rattle.lvm_language.specs.CommandLine.{number_rule, with_numbers, script_app, weave_app, lvm_settings, lvm_app};
+ghost use Rattle.lvm_language.specs.CommandLine.{number_rule, with_fault, with_numbers, script_app, weave_app, lvm_settings, lvm_app};
 
 use crate::fault::WordsFault;
 use clap::builder::ValueParser;
 use clap::error::ErrorKind;
-use clap::{Arg, ArgMatches, Command};
+use clap::{Arg, ArgMatches, Command, Error};
 use std::alloc::{AllocError, Global};
 
 // A number that has to be given, within these bounds.
@@ -107,6 +107,17 @@ fn command_line<'a>(alloc: Global) -> Result<Command<'a>, AllocError>
     with_job(program, image)
 }
 
+// What `clap` answers, with the fault in the words in place of its error. Want of memory is none.
+fn found_in<'a>(answer: Result<ArgMatches<'a>, Error>) -> Result<ArgMatches<'a>, WordsFault>
+    ensures { result ≡ with_fault answer.entry }
+{
+    match answer {
+        Ok(matches) => Ok(matches),
+        Err(error) if error.kind() == ErrorKind::OutOfMemory => Err(WordsFault::Memory),
+        Err(_) => Err(WordsFault::Usage),
+    }
+}
+
 /// What `clap` finds in the words. Usage comes exactly where there is a fault in them, by the language that
 /// it was told.
 pub fn parse<'a>(alloc: Global, words: &'a [&'a str]) -> Result<ArgMatches<'a>, WordsFault>
@@ -117,9 +128,5 @@ pub fn parse<'a>(alloc: Global, words: &'a [&'a str]) -> Result<ArgMatches<'a>, 
     let Ok(line) = command_line(alloc) else {
         return Err(WordsFault::Memory);
     };
-    match line.try_get_matches_from(words) {
-        Ok(matches) => Ok(matches),
-        Err(error) if error.kind() == ErrorKind::OutOfMemory => Err(WordsFault::Memory),
-        Err(_) => Err(WordsFault::Usage),
-    }
+    found_in(line.try_get_matches_from(words))
 }

@@ -1,4 +1,4 @@
-pub mod handed
-mod Blocks
-pub mod Hands
+pub mod passed
+mod SoundLemmas
+pub mod OutLemmas
 mod Starting

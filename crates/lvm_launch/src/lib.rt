@@ -1,11 +1,11 @@
 //! Transfers of a session are started.
 #![tactic(auto)]
 
+pub mod below;
 mod copying;
 mod data;
 mod launch;
 mod loading;
-pub mod lower;
 mod noting;
 
 pub use copying::{read_copy, write_copy};

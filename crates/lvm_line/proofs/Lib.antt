@@ -1,12 +1,4 @@
 pub mod passed
-pub mod Answering
-pub mod Lining
-pub mod Knowing
-pub mod Turns
-pub mod Faulting
-pub mod Causing
-pub mod Requesting
-pub mod Sources
-pub mod Completing
-pub mod Worked
-pub mod Staying
+pub mod LinesLemmas
+pub mod CausesLemmas
+pub mod CompleteLemmas

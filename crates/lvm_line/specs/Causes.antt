@@ -7,19 +7,19 @@ use Rattle.lvm_parse.specs.declared.command.Command.TheVariants as command
 use Rattle.lvm_operands.specs.declared.rest.Misfit.{Misfit}
 use Rattle.lvm_parse.specs.Grammar.{line_of}
 use Rattle.lvm_vol.specs.Log.{Log}
+use Rattle.lvm_core.specs.declared.fault.CommitFault.{CommitFault}
 use Rattle.lvm_core.specs.declared.parts.Room.{Room}
 use Rattle.lvm_core.specs.Looking.{IsNumberOf}
 use Rattle.lvm_session.specs.Causes.{AnyFailedSince, was_usable}
 use Rattle.lvm_session.specs.Judging.{copies_in, is_missing}
 use Rattle.lvm_session.specs.State.{Core, state}
-use Rattle.lvm_copy_lines.specs.handed.Names.{LostForFaults}
+use Rattle.lvm_copy_lines.specs.passed.Names.{LostForFaults}
 use Rattle.lvm_num.specs.declared.descriptor.Descriptor.{Descriptor}
 use Rattle.lvm_num.specs.Descriptor.{is_member}
 use Rattle.lvm_disk.specs.Device.{Device}
 use Rattle.lvm_copy_lines.specs.passed.Recover.{HasNoPassive}
 use Rattle.lvm_copy_lines.specs.passed.Varyon.{IsRestated, IsRecovered}
 use Rattle.lvm_copy_lines.specs.passed.Quiesce.{Quiesces}
-use Rattle.lvm_copy_lines.specs.passed.Driver.{DrainFault}
 use Rattle.lvm_copy_lines.specs.passed.Ranges.{AnyFailed}
 use Rattle.lvm_copy_lines.specs.passed.Resync.{AnyFails}
 use Rattle.lvm_copy_lines.specs.passed.VolumeLines.{IsUndrained}
@@ -58,7 +58,7 @@ pub record HasLostMember (old : ScriptState) (new : Counts) : Type 0 where
 -- The turns before the command ended for that.
 pub record WasUndrained (why : Refusal) (old new : ScriptState) : Type 0 where
   pub core : Core
-  pub fault : DrainFault
+  pub fault : CommitFault
   pub on : old.session ≡ Some core
   pub ends : IsUndrained core old new fault (reply.Refused why)
 

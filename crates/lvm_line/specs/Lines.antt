@@ -11,7 +11,7 @@ use Rattle.lvm_parse.specs.Grammar.{line_of}
 use Rattle.lvm_core.specs.declared.parts.Room.{Room}
 use Rattle.lvm_copy_lines.specs.passed.DiskLines.{ReadDoes, WriteDoes, ArrangeDoes, CutDoes}
 use Rattle.lvm_copy_lines.specs.passed.Stage.{CommandEnds, GoesOn, Role, Aside, OfGroup, OfGroupWhere, OfRequests, IsRefused, IsStuck, IsBetween, ScriptState, Reply}
-use Rattle.lvm_copy_lines.specs.passed.Stage.{IsFitting, IsLeftBy, Stage, history_in, state_in, without_facts}
+use Rattle.lvm_copy_lines.specs.passed.Stage.{IsFittingStage, IsLeftBy, Stage, history_in, state_in, without_facts}
 use Rattle.lvm_line.specs.declared.line.InPlace.{InPlace}
 use Rattle.lvm_line.specs.declared.line.InPlace.TheVariants as in_place
 use Rattle.lvm_copy_lines.specs.passed.GroupLines.{MkvgDoes, VaryonDoes, VaryoffDoes, GroupShows, VolumeShows, DiskShows}
@@ -125,7 +125,7 @@ CommandInPlace device c old kept None = (kept ≡ old) × IsLeftToDo (Ok (Some c
 pub record IsFinished {S : Type 0} (device : S → Device) (room : Room) (line : List ℕ) (old new : Stage S) (answer : Reply) (before after : ℕ) : Type 0 where
   pub is_line : IsLine (without_facts (history_in old)) room line answer (state_in device old before) (state_in device new after)
   pub rooms : without_facts (history_in new) ≡ without_facts (history_in old)
-  pub fits : IsFitting new
+  pub fits : IsFittingStage new
 
 -- so it does where the clock isn't asked
 abbrev pub LineEnds : {S : Type 0} → (S → Device) → Room → List ℕ → Stage S → Stage S → Reply → Type 0

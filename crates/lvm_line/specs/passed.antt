@@ -1,15 +1,16 @@
 pub mod CopyLines
 pub mod DiskLines
-pub mod Driver
 pub mod Group
 pub mod GroupLines
 pub mod HolderVariants
 pub mod Mirrors
+pub mod Names
 pub mod Quiesce
 pub mod QuiescedVariants
 pub mod RangeLines
 pub mod RangeLinesWaiting
 pub mod Ranges
+pub mod Recover
 pub mod RefusalVariants
 pub mod ReplyVariants
 pub mod Resync
@@ -17,7 +18,6 @@ pub mod Running
 pub mod Stage
 pub mod Tie
 pub mod TieCommands
-pub mod Recover
 pub mod Varyon
 pub mod VolumeLines
 pub mod Volumes

@@ -5,7 +5,7 @@ ghost use Rattle.lvm_core.specs.declared.parts.Room.{Room};
 ghost use Rattle.lvm_parse.specs.Grammar.{line_of};
 ghost use Rattle.lvm_parse.specs.Within.{IsWithin};
 ghost use Rattle.lvm_line.specs.Lines.{CommandInPlace, CommandIsDone, DoesInPlace, IsFinished, IsLine, StandsBehind, asked_after};
-ghost use Rattle.lvm_copy_lines.specs.passed.Stage.{history_in, session_in, state_in, IsBetweenStage, IsFitting};
+ghost use Rattle.lvm_copy_lines.specs.passed.Stage.{history_in, session_in, state_in, IsBetweenStage, IsFittingStage};
 ghost use Rattle.lvm_copy_lines.specs.passed.Stage.{without_facts};
 
 use lvm_copy_lines::below::disk_lines::{do_arrange, do_cut, do_read, do_write};
@@ -31,7 +31,7 @@ fn do_command<S: Shelf, C: Clock>(
     command: Command,
 ) -> Answered<S>
     requires between { IsBetweenStage S.device stage }
-    requires fits { IsFitting stage }
+    requires fits { IsFittingStage stage }
     requires room { IsRoom room }
     requires within { IsWithin command }
     ensures { CommandIsDone S.device room command stage result.stage result.reply (C.last clock.old) (C.last clock.new) (C.asked clock.old) (C.asked clock.new) }
@@ -136,7 +136,7 @@ fn refuse_unread<S: Shelf>(stage: Stage<S>) -> Answered<S>
 // What a command is answered that is done where the stage stays.
 fn serve<S: Shelf>(alloc: Global, stage: &mut Stage<S>, command: Command) -> Option<Reply>
     requires between { IsBetweenStage S.device stage.old }
-    requires fits { IsFitting stage.old }
+    requires fits { IsFittingStage stage.old }
     requires within { IsWithin command }
     ensures { CommandInPlace S.device command stage.old stage.new result }
 {
@@ -187,7 +187,7 @@ fn behind<S: Shelf>(stage: &Stage<S>, reply: Reply) -> InPlace
 /// listing, and a range of a volume that is read, written or posted. Other commands are left to `do_line`.
 pub fn answer_line<S: Shelf>(alloc: Global, stage: &mut Stage<S>, line: &[u8]) -> InPlace
     requires between { IsBetweenStage S.device stage.old }
-    requires fits { IsFitting stage.old }
+    requires fits { IsFittingStage stage.old }
     ensures { DoesInPlace S.device line.now stage.old stage.new result }
 {
     match parse(alloc, line) {
@@ -213,11 +213,11 @@ pub fn do_line<S: Shelf, C: Clock>(
     line: &[u8],
 ) -> Answered<S>
     requires between { IsBetweenStage S.device stage }
-    requires fits { IsFitting stage }
+    requires fits { IsFittingStage stage }
     requires room { IsRoom room }
     ensures line { IsLine (without_facts (history_in stage)) room line.now result.reply (state_in S.device stage (C.last clock.old)) (state_in S.device result.stage (C.last clock.new)) }
     ensures rooms { without_facts (history_in result.stage) ≡ without_facts (history_in stage) }
-    ensures fits { IsFitting result.stage }
+    ensures fits { IsFittingStage result.stage }
     ensures asked { C.asked clock.new ≡ asked_after (line_of line.now) (C.asked clock.old) }
 {
     match parse(alloc, line) {
@@ -242,7 +242,7 @@ pub fn finish_line<S: Shelf, C: Clock>(
     line: &[u8],
 ) -> Answered<S>
     requires between { did ≡ InPlace.Left → IsBetweenStage S.device stage }
-    requires fits { did ≡ InPlace.Left → IsFitting stage }
+    requires fits { did ≡ InPlace.Left → IsFittingStage stage }
     requires room { IsRoom room }
     ensures { (old : Stage S) → DoesInPlace S.device line.now old stage did → IsFinished S.device room line.now old result.stage result.reply (C.last clock.old) (C.last clock.new) }
 {

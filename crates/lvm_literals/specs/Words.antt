@@ -36,16 +36,16 @@ abbrev pub count_in : List ℕ → Option ℕ
 count_in = number_within 1 4096
 
 -- LPS: 1 to 65,535 logical partitions
-abbrev pub partitions_in : List ℕ → Option ℕ
-partitions_in = number_within 1 65535
+abbrev pub partition_count_in : List ℕ → Option ℕ
+partition_count_in = number_within 1 65535
 
 -- TURNS: 1 to 1,000,000 turns
 abbrev pub turns_in : List ℕ → Option ℕ
 turns_in = number_within 1 1000000
 
 -- N: 0 to 9 copies
-abbrev pub copies_in : List ℕ → Option ℕ
-copies_in = number_within 0 9
+abbrev pub copy_count_in : List ℕ → Option ℕ
+copy_count_in = number_within 0 9
 
 -- MIB: a power of two from 1 to 1,024
 abbrev pub size_in : List ℕ → Option ℕ

@@ -7,6 +7,6 @@ mod words;
 
 pub use line::{is_remark, unreadable_at};
 pub use words::{
-    copies_of, count_of, disk_of, hex_word, mode_of, name_of, number_of, partitions_of, policy_of,
-    size_of, turns_of,
+    copy_count_of, count_of, disk_of, hex_word, mode_of, name_of, number_of, partition_count_of,
+    policy_of, size_of, turns_of,
 };

@@ -1,6 +1,6 @@
 //! What a single word means.
 ghost use Rattle.std.specs.Prelude.{◌≡◌, ◌≤◌, IfSome, if◌then◌else◌};
-ghost use Rattle.lvm_literals.specs.Words.{number_in, number_within, count_in, partitions_in, turns_in, copies_in, size_in, is_hex_digit, hex_value, word_in, name_in, is_padded, disk_in, mode_in, policy_in};
+ghost use Rattle.lvm_literals.specs.Words.{number_in, number_within, count_in, partition_count_in, turns_in, copy_count_in, size_in, is_hex_digit, hex_value, word_in, name_in, is_padded, disk_in, mode_in, policy_in};
 
 use lvm_num::{Mode, Name, Policy};
 
@@ -51,8 +51,8 @@ pub fn count_of(word: &[u8]) -> Option<u32>
 }
 
 /// How many logical partitions.
-pub fn partitions_of(word: &[u8]) -> Option<u32>
-    ensures { result ≡ partitions_in word.now }
+pub fn partition_count_of(word: &[u8]) -> Option<u32>
+    ensures { result ≡ partition_count_in word.now }
 {
     let partitions = number_within(word, 1, 65535)?;
     Some(partitions as u32)
@@ -67,8 +67,8 @@ pub fn turns_of(word: &[u8]) -> Option<u32>
 }
 
 /// How many copies.
-pub fn copies_of(word: &[u8]) -> Option<u8>
-    ensures { result ≡ copies_in word.now }
+pub fn copy_count_of(word: &[u8]) -> Option<u8>
+    ensures { result ≡ copy_count_in word.now }
 {
     let copies = number_within(word, 0, 9)?;
     Some(copies as u8)

@@ -1,8 +1,7 @@
-pub mod Causes
+pub mod EndsLemmas
 pub mod Counting
-pub mod Gaining
-pub mod Going
-pub mod Leaving
-pub mod Others
-pub mod Waiting
-pub mod Weaving
+pub mod FactsLemmas
+pub mod WeavingLemmas
+pub mod LeavingLemmas
+pub mod WaitingLemmas
+pub mod RequestsLemmas

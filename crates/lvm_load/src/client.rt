@@ -1,11 +1,10 @@
 //! Clients whose requests one thread submits, and whose answers it takes.
-ghost use Rattle.std.specs.Prelude.{◌≡◌, ◌≤◌, ◌<◌, ◌+◌, ◌-◌, ◌*◌, ◌^◌, ◌||◌, ◌==◌, ℕ, Some, false, nat_lt, length, vec_capacity};
+ghost use Rattle.std.specs.Prelude.{◌≡◌, ◌≤◌, ◌<◌, ◌+◌, ◌-◌, ◌*◌, ◌||◌, ◌==◌, ℕ, Some, false, nat_lt, length, vec_capacity};
 ghost use Rattle.std.specs.Option.{option_map_or};
 ghost use Rattle.lvm_session.specs.declared.open.Power.TheVariants as power;
-ghost use Rattle.lvm_session.specs.Left.{left_of};
 ghost use Rattle.lvm_keeps_turn.specs.Turning.{is_last};
-ghost use Rattle.lvm_driver.specs.handed.Names.{RunsOn};
-ghost use Rattle.lvm_driver.specs.Answers.{state_of};
+ghost use Rattle.lvm_driver.specs.passed.Names.{RunsOn};
+ghost use Rattle.lvm_session.specs.State.{state_of};
 ghost use Rattle.lvm_draws.specs.Draws.{after_draw};
 ghost use Rattle.lvm_load.specs.Waiting.{AreWaiting, AreWaitingBut, OthersWait, landed_by};
 ghost use Rattle.lvm_load.specs.Weaving.{AsksDrawn, TakesFor, TakesEach, Turns, goes_on, idle_after, open_of, turns_left};
@@ -22,7 +21,7 @@ use rand_pcg::Lcg64Xsh32;
 const STRIDE: u64 = 8;
 
 /// A client: the request that it has open, and how far the word of its next one is behind that of its first.
-#[derive(Clone, Copy, Debug, PartialEq, Eq)]
+#[derive(Clone, Copy)]
 pub struct Client {
     pub request: Option<u64>,
     pub offset: u64,

@@ -2,8 +2,8 @@
 ghost use Rattle.std.specs.Prelude.{◌≡◌, ◌≤◌, ◌<◌, ◌+◌, ◌%◌, ◌^◌, vec_capacity};
 ghost use Rattle.lvm_session.specs.declared.open.Power.TheVariants as power;
 ghost use Rattle.lvm_session.specs.Calls.{SubmitGives};
-ghost use Rattle.lvm_driver.specs.handed.Names.{RunsOn};
-ghost use Rattle.lvm_driver.specs.Answers.{state_of};
+ghost use Rattle.lvm_driver.specs.passed.Names.{RunsOn};
+ghost use Rattle.lvm_session.specs.State.{state_of};
 ghost use Rattle.lvm_load.specs.Requests.{ask_of, block_count, bytes_of, first_block};
 
 use lvm_disk::Shelf;

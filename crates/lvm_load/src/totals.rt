@@ -6,7 +6,7 @@ use lvm_history::History;
 use lvm_vol::{Entry, Outcome};
 
 /// How the requests of a workload ended.
-#[derive(Clone, Copy, Debug, PartialEq, Eq)]
+#[derive(Clone, Copy)]
 pub struct Totals {
     /// How many began.
     pub begun: u32,
@@ -23,7 +23,7 @@ pub struct Totals {
 }
 
 /// What an entry tells of a request that is counted.
-#[derive(Clone, Copy, Debug, PartialEq, Eq)]
+#[derive(Clone, Copy)]
 pub enum Kind {
     Begun,
     Done,

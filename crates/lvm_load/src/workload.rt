@@ -1,10 +1,9 @@
 //! The workload of one thread.
 ghost use Rattle.std.specs.Prelude.{◌≡◌, ◌≤◌, ◌<◌, length, vec_capacity};
 ghost use Rattle.std.specs.List.{list_any};
-ghost use Rattle.lvm_draws.specs.Draws.{seeded};
 ghost use Rattle.lvm_session.specs.declared.open.Power.TheVariants as power;
-ghost use Rattle.lvm_driver.specs.handed.Names.{RunsOn};
-ghost use Rattle.lvm_driver.specs.Answers.{state_of};
+ghost use Rattle.lvm_driver.specs.passed.Names.{RunsOn};
+ghost use Rattle.lvm_session.specs.State.{state_of};
 ghost use Rattle.lvm_load.specs.Ends.{HasCauses};
 ghost use Rattle.lvm_load.specs.Totals.{entries_since, totals_of};
 ghost use Rattle.lvm_load.specs.Waiting.{AreWaiting};
@@ -21,7 +20,7 @@ use rand_pcg::Lcg64Xsh32;
 const PATIENCE: u32 = 1_000_000;
 
 /// How a workload ended.
-#[derive(Clone, Copy, Debug, PartialEq, Eq)]
+#[derive(Clone, Copy)]
 pub struct Woven {
     pub totals: Totals,
     /// Whether a client still waits for an answer, since nothing was heard of a transfer a million times.
@@ -29,7 +28,7 @@ pub struct Woven {
 }
 
 /// So many requests of so many clients, 1 to 64, which are drawn from the seed.
-#[derive(Clone, Copy, Debug, PartialEq, Eq)]
+#[derive(Clone, Copy)]
 pub struct Workload {
     pub clients: u32,
     pub requests: u32,

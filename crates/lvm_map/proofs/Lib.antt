@@ -1,11 +1,5 @@
-pub mod Choices
-pub mod Fitting
-pub mod FreeLists
-pub mod Members
-pub mod NewPlaces
-pub mod OneAnswer
-pub mod OneToOne
+pub mod RoomLemmas
+pub mod FirstFitLemmas
+pub mod LawsLemmas
 pub mod Parts
-pub mod PlaceLemmas
-pub mod UsedMarks
-pub mod Validity
+pub mod PlacesLemmas

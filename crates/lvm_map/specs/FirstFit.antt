@@ -17,8 +17,8 @@ abbrev pub is_among : List Pp → Pp → Bool
 is_among pps pp = list_any (λ (p : Pp). p.disk == pp.disk && p.pp == pp.pp) pps
 
 -- whether one of these is on the disk
-abbrev pub is_on : List Pp → ℕ → Bool
-is_on pps disk = list_any (λ (pp : Pp). pp.disk == disk) pps
+abbrev pub has_partition_on : List Pp → ℕ → Bool
+has_partition_on pps disk = list_any (λ (pp : Pp). pp.disk == disk) pps
 
 -- the partitions of a member, by their numbers
 abbrev pub partitions_of : PvRow → List Pp
@@ -31,7 +31,7 @@ free_of used row = filter (λ pp. not (is_among used pp)) (partitions_of row)
 -- whether a member may take a copy beside these others of its logical partition: it is usable, is no
 -- spare, and holds none of them
 abbrev pub may_take : Disks → List Pp → PvRow → Bool
-may_take usable others row = usable row.disk && not row.spare && not (is_on others row.disk)
+may_take usable others row = usable row.disk && not row.spare && not (has_partition_on others row.disk)
 
 -- where a copy may go, the first choice first: the free partitions of such members, in the
 -- descriptor's order and then by their numbers

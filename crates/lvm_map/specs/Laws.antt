@@ -9,7 +9,7 @@ use Rattle.lvm_num.specs.Geometry.{data_start, sectors_needed}
 use Rattle.lvm_num.specs.Descriptor.{IsValid, AreVolumes, copies_of, member_of, most_volumes, partitions_used}
 use Rattle.lvm_num.specs.Disks.{Disks}
 use Rattle.lvm_map.specs.Places.{place_of}
-use Rattle.lvm_map.specs.FirstFit.{is_among, is_on, others_in, Asked, IsAllocated, HasNoPlace, new_volume, more_copies}
+use Rattle.lvm_map.specs.FirstFit.{is_among, has_partition_on, others_in, Asked, IsAllocated, HasNoPlace, new_volume, more_copies}
 
 -- ---- places
 
@@ -48,7 +48,7 @@ pub record IsNewPlace (d : Descriptor) (usable : Disks) (asked : Asked) (front :
   pub no_spare : row.spare ≡ false
   pub free : is_among (partitions_used d) pp ≡ false
   pub new : is_among front pp ≡ false
-  pub apart : is_on (others_in asked front) pp.disk ≡ false
+  pub apart : has_partition_on (others_in asked front) pp.disk ≡ false
 
 abbrev pub NewPlacesAreFree : Type 0
 NewPlacesAreFree =

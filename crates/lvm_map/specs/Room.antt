@@ -5,7 +5,7 @@ use Rattle.lvm_num.specs.declared.place.Pp.{Pp}
 use Rattle.lvm_num.specs.declared.descriptor.Descriptor.{Descriptor}
 use Rattle.lvm_num.specs.Disks.{Disks}
 pub use Rattle.lvm_num.specs.Marks.{IsBounded}
-use Rattle.lvm_map.specs.FirstFit.{is_on, free_of, may_take, Asked, kept_next, others_in}
+use Rattle.lvm_map.specs.FirstFit.{has_partition_on, free_of, may_take, Asked, kept_next, others_in}
 
 -- the free partitions of each member that may take copies, with these used
 abbrev pub room_of : Descriptor → Disks → List Pp → List (List Pp)
@@ -14,7 +14,7 @@ room_of d usable used = map (free_of used) (filter (may_take usable []) d.pvs)
 -- whether a member with these free partitions may take a copy beside these others
 abbrev pub is_open : List Pp → List Pp → Bool
 is_open others [] = false
-is_open others (pp ∷ rest) = not (is_on others pp.disk)
+is_open others (pp ∷ rest) = not (has_partition_on others pp.disk)
 
 -- one member's first free partition is taken
 pub record IsTaken (others : List Pp) (old new : List (List Pp)) (pp : Pp) : Type 0 where

@@ -6,11 +6,11 @@ ghost use Rattle.lvm_map.specs.FirstFit.{is_among, IsAllocated, IsFault, new_vol
 ghost use Rattle.lvm_map.specs.Room.{TakesNext};
 
 use crate::room::Room;
-use lvm_num::{Descriptor, DiskSet, Pp, Rows, volume_of};
+use lvm_num::{Descriptor, DiskSet, Pp, Rows, volume_among};
 use std::alloc::Global;
 
 /// Why there is no map.
-#[derive(Clone, Copy, Debug, PartialEq, Eq)]
+#[derive(Clone, Copy)]
 pub enum MapFault {
     /// First fit finds no place for one of the copies. It carries how many partitions of the usable
     /// members that are no spares no volume uses.
@@ -52,7 +52,7 @@ pub fn allocate_more(
     ensures map { IfOk result (λ pps. IfSome (volume_of d.now lv) (λ row. IsAllocated d.now (has usable) (more_copies row copies) pps)) }
     ensures fault { IfErr result (λ fault. IfSome (volume_of d.now lv) (λ row. IsFault d.now (has usable) (more_copies row copies) fault)) }
 {
-    match volume_of(d.lvs.as_slice(), lv) {
+    match volume_among(d.lvs.as_slice(), lv) {
         Some(row) => {
             let old = row.map.as_slice();
             fit(alloc, d, usable, row.lps, copies, row.copies, old)

@@ -5,7 +5,7 @@ ghost use Rattle.lvm_num.specs.Descriptor.{IsLaidOut, IsValid};
 ghost use Rattle.lvm_map.specs.Places.{blocks_of, copy_at, place_on, place_of, IsBlockOfCopy};
 ghost use Rattle.lvm_num.specs.Geometry.{partition_blocks};
 
-use lvm_num::{Descriptor, LvRow, Place, Pp, volume_of};
+use lvm_num::{Descriptor, LvRow, Place, Pp, volume_among};
 
 const DATA_START: u64 = 4096;
 
@@ -16,7 +16,7 @@ pub fn blocks(d: &Descriptor, lv: u16) -> Option<u64>
     requires { IsValid d.now }
     ensures { result ≡ blocks_of d.now lv }
 {
-    let row = volume_of(d.lvs.as_slice(), lv)?;
+    let row = volume_among(d.lvs.as_slice(), lv)?;
     Some(partition_blocks(d.mib) * u64::from(row.lps))
 }
 
@@ -27,7 +27,7 @@ pub fn place(d: &Descriptor, lv: u16, copy: u8, block: u64) -> Option<Place>
     ensures place { result ≡ place_of d.now lv copy block }
     ensures there { IsSome result ↔ IsBlockOfCopy d.now lv copy block }
 {
-    let row = volume_of(d.lvs.as_slice(), lv)?;
+    let row = volume_among(d.lvs.as_slice(), lv)?;
     let pp = copy_at(row, block / partition_blocks(d.mib), copy)?;
     Some(place_on(d.mib, pp, block))
 }

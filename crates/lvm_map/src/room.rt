@@ -8,10 +8,10 @@ ghost use Rattle.lvm_num.specs.Bits.{has_bit};
 ghost use Rattle.lvm_num.specs.Descriptor.{IsValid, IsMember, partitions_used};
 ghost use Rattle.lvm_num.specs.Disks.{has};
 ghost use Rattle.lvm_num.specs.Marks.{spot};
-ghost use Rattle.lvm_map.specs.FirstFit.{is_on, may_take, partitions_of};
+ghost use Rattle.lvm_map.specs.FirstFit.{has_partition_on, may_take, partitions_of};
 ghost use Rattle.lvm_map.specs.Room.{is_open, room_of, IsBounded, Takes};
 
-use lvm_num::{Descriptor, DiskSet, Memory, Pp, PvRow, has_bit, is_on, set_bit};
+use lvm_num::{Descriptor, DiskSet, Memory, Pp, PvRow, has_bit, has_partition_on, set_bit};
 use std::alloc::Global;
 use std::collections::VecDeque;
 use std::marker::Model;
@@ -92,7 +92,7 @@ fn is_open(others: &[Pp], free: &VecDeque<Pp>) -> bool
     ensures { result ≡ is_open others.now free.now.items }
 {
     match free.front() {
-        Some(pp) => !is_on(others, pp.disk),
+        Some(pp) => !has_partition_on(others, pp.disk),
         None => false,
     }
 }

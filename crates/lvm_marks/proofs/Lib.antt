@@ -1,4 +1,4 @@
-pub mod handed
-pub mod Marking
+pub mod passed
+pub mod MarksLemmas
 mod Places
-mod Sures
+mod DueLemmas

@@ -4,7 +4,6 @@ ghost use Rattle.lvm_status.specs.Calls.{IsMarkable};
 ghost use Rattle.lvm_status.specs.Update.{seen};
 ghost use Rattle.lvm_status.specs.Runs.{IsSoundStatus};
 ghost use Rattle.lvm_path.specs.declared.target.Target.{Target};
-ghost use Rattle.lvm_path.specs.Targets.{are_over};
 ghost use Rattle.lvm_session.specs.declared.open.Open.{Open};
 ghost use Rattle.lvm_session.specs.Fields.{core_of};
 ghost use Rattle.lvm_session.specs.Judging.{pps_of};
@@ -13,15 +12,14 @@ ghost use Rattle.lvm_session.specs.Marks.{WantsStale, is_among, due_of};
 ghost use Rattle.lvm_marks.specs.Due.{IsDue, IsFirstSure, IsWithinDue, MayMark, due_among};
 
 use crate::wanted::{mark_others, mark_targets};
+use lvm_facts::below::is_sure;
 use lvm_facts::is_kept;
-use lvm_facts::lower::is_sure;
-use lvm_path::Target;
-use lvm_sched::TargetState;
+use lvm_path::{Target, are_over};
 use lvm_session::Session;
 use lvm_status::Updater;
 
 /// Which targets of a write are to be stale by the end of a transfer.
-#[derive(Clone, Copy, Debug, PartialEq, Eq)]
+#[derive(Clone, Copy)]
 pub enum Due {
     /// None: it is a read, or some transfer hasn't ended.
     Nothing,
@@ -43,12 +41,6 @@ fn mark(updater: &mut Updater, targets: &[Target], due: Due)
         Due::Failed => mark_targets(updater, targets, false),
         Due::Others(sure) => mark_others(updater, targets, sure),
     }
-}
-
-fn are_over(targets: &[Target]) -> bool
-    ensures { result ≡ are_over targets.now }
-{
-    targets.iter().all(|target| matches!(target.state, TargetState::Done | TargetState::Failed))
 }
 
 // The first target that is sure.

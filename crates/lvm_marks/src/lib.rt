@@ -1,8 +1,8 @@
 //! Staleness is wanted of the targets of a write that has ended.
 #![tactic(auto)]
 
+pub mod below;
 mod due;
-pub mod lower;
 mod wanted;
 
 pub use due::{Due, due_at, mark_due};

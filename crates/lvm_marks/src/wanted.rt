@@ -1,7 +1,7 @@
 //! Partitions become wanted stale.
 ghost use Rattle.std.specs.Prelude.{◌<◌, ◌∷◌, [], length, filter, All, IfSome};
 ghost use Rattle.lvm_num.specs.declared.place.Pp.{Pp};
-ghost use Rattle.lvm_stale.specs.Table.{is_pp};
+ghost use Rattle.lvm_num.specs.Descriptor.{is_pp};
 ghost use Rattle.lvm_status.specs.Calls.{IsMarkable};
 ghost use Rattle.lvm_status.specs.Update.{seen};
 ghost use Rattle.lvm_status.specs.Runs.{IsSoundStatus};

@@ -1,6 +1,4 @@
-mod Filling
-mod Putting
-mod Pieces
-pub mod Laying
-mod GivingUp
-mod MadeSoFar
+mod BufferLemmas
+mod PiecesLemmas
+pub mod MediaLemmas
+mod FlightsLemmas

@@ -9,7 +9,7 @@ abbrev pub filled_up : ℕ → List Sector → List Sector
 filled_up count front = front ++ replicate (count - length front) zero_sector
 
 -- of so many sectors those at the front are kept, with room for all
-pub record HasRoom (count capacity : ℕ) (front : List Sector) : Type 0 where
+pub record FitsCapacity (count capacity : ℕ) (front : List Sector) : Type 0 where
   pub within : length front ≤ count
   pub room : count ≤ capacity
 

@@ -18,13 +18,13 @@ pub(crate) struct Piece {
 
 impl Model for Piece {
     ghost use Rattle.std.specs.Prelude.{List, ℕ, vec_capacity};
-    ghost use Rattle.lvm_media.specs.Pieces.{filled_up, HasRoom};
+    ghost use Rattle.lvm_media.specs.Pieces.{filled_up, FitsCapacity};
 
     ghost Value = { List (List ℕ) };
 
     ghost view = { λ p. filled_up p.count p.front.items };
 
-    ghost invariant = { λ p. HasRoom p.count (vec_capacity p.front) p.front.items };
+    ghost invariant = { λ p. FitsCapacity p.count (vec_capacity p.front) p.front.items };
 }
 
 // Adds sectors of zeros behind others that have room for them.

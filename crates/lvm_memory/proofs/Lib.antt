@@ -1,5 +1,5 @@
-mod Beginning
-mod Darkening
-mod Departing
-mod Arriving
-mod Prompt
+mod SoundLemmas
+mod DeviceLemmas
+mod FlightsLemmas
+mod StepsLemmas
+mod BenchLemmas

@@ -1,8 +1,7 @@
-pub mod handed
-pub mod Serving
-pub mod Fresh
-pub mod Left
-pub mod Adding
-pub mod Taking
-pub mod Answering
-pub mod Even
+pub mod passed
+pub mod LawsOfVolumesLemmas
+pub mod JudgingLemmas
+pub mod SettlingLemmas
+pub mod StagesLemmas
+pub mod MirrorsLemmas
+pub mod LawsLemmas

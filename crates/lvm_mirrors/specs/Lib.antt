@@ -1,4 +1,4 @@
-pub mod handed
+pub mod passed
 pub mod Mirrors
 pub mod Stages
 pub mod Laws

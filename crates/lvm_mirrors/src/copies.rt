@@ -1,11 +1,10 @@
 //! The addition and the removal of copies.
-ghost use Rattle.lvm_copy_plan.specs.handed.Names.{state_of, Leaves, IsSettled, TakesCommands};
-ghost use Rattle.lvm_volumes.specs.Endings.{IfOn, StillHeld, KeepsFresh};
-ghost use Rattle.lvm_volumes.specs.Stages.{IfGoesOn};
+ghost use Rattle.lvm_copy_plan.specs.passed.Names.{state_of, Leaves, IsSettled, TakesCommands, IfOn, command_answer};
+ghost use Rattle.lvm_volumes.specs.Endings.{StillHeld, KeepsFresh};
 ghost use Rattle.lvm_mirrors.specs.Mirrors.{MklvcopyGives, RmlvcopyGives, to_add, to_take};
 ghost use Rattle.lvm_mirrors.specs.Stages.{MayAdd, adding, AddEnds};
 
-use lvm_copy_plan::lower::{CommitFault, Driver, GroupFault, Prepared};
+use lvm_copy_plan::below::{CommitFault, Driver, GroupFault, Prepared};
 use lvm_copy_plan::{MoreCopies, prepare_fewer};
 use lvm_disk::Shelf;
 use lvm_num::{Pp, Rows};
@@ -90,8 +89,8 @@ fn add<S: Shelf>(
     requires settled { IsSettled driver.old.1 }
     requires may { MayAdd driver.old.1 added.now next }
     ensures ends { AddEnds added.now next patience.old.left (state_of S.device driver.old) (state_of S.device driver.new) result }
-    ensures held { IfGoesOn result (StillHeld (state_of S.device driver.old) (state_of S.device driver.new)) }
-    ensures fresh { IfGoesOn result (KeepsFresh (state_of S.device driver.old) (state_of S.device driver.new)) }
+    ensures held { IfOn (command_answer result) (StillHeld (state_of S.device driver.old) (state_of S.device driver.new)) }
+    ensures fresh { IfOn (command_answer result) (KeepsFresh (state_of S.device driver.old) (state_of S.device driver.new)) }
     ensures leaves { Leaves (adding added.now next 2) patience.old.left patience.new.left (state_of S.device driver.old) (state_of S.device driver.new) }
 {
     driver.set_status(added, &[], patience)?;

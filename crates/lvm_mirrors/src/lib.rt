@@ -5,4 +5,4 @@ mod copies;
 pub mod laws;
 
 pub use copies::{mklvcopy, rmlvcopy};
-pub use lvm_copy_plan::lower::GroupFault;
+pub use lvm_copy_plan::below::GroupFault;

@@ -1,2 +1,2 @@
-mod Found
-mod Pinned
+mod MovingLemmas
+mod PinningLemmas

@@ -2,7 +2,7 @@
 //! track group.
 #![tactic(auto)]
 
-pub mod lower;
+pub mod below;
 mod moves;
 mod pins;
 

@@ -1,7 +1,7 @@
 -- The first element that passes a test: where it stands, and the list without it or with it changed.
 use Rattle.std.proofs.Common.{◌≡◌, ◌<◌, ◌≤◌, ◌+◌, ◌||◌, not, option_map, count_by, ℕ, zero, suc, List, [], ◌∷◌, Some, None, Option, Bool, true, false, cond, nat_lt, length, get_or, set, refl, sym, ◌∙◌, ap, arith}
 use Rattle.std.specs.List.{list_any, find, position, position_or_len, remove}
-use Rattle.std.proofs.lemmas.Bool.{ltb-false}
+use Rattle.std.proofs.lemmas.Bool.{ltb-false, or_parts}
 use Rattle.std.proofs.lemmas.List.Quantifiers.{position-Some}
 use Rattle.std.proofs.lemmas.List.Sums.{fails_before_first, count_by-le-length, sum_by-cons}
 use Rattle.std.specs.List.{All}
@@ -11,10 +11,6 @@ use Rattle.lvm_mwc.specs.Firsts.{without_first, with_first}
 past_end : (test : Bool) (n : ℕ) → cond test (Some n) None ≡ None → test ≡ false
 past_end false n is = refl
 past_end true n is = cc
-
-or_false : (a b : Bool) → (a || b) ≡ false → (a ≡ false) × (b ≡ false)
-or_false true b is = cc
-or_false false b is = (refl, is)
 
 module _ {X : Type 0} where
   -- the first that passes stands at k
@@ -56,7 +52,7 @@ module _ {X : Type 0} where
   pub none_passes : (p : X → Bool) (xs : List X) → list_any p xs ≡ false → NonePasses p xs
   none_passes p [] none = record { any = refl; found = refl; removed = refl; changed = λ f. refl }
   none_passes p (x ∷ xs) none =
-      let both = or_false (p x) (list_any p xs) none in
+      let both = or_parts (p x) (list_any p xs) none in
       let other : p x ≡ false = both.0 in
       let rest : NonePasses p xs = none_passes p xs both.1 in
       record {
@@ -90,7 +86,7 @@ module _ {X : Type 0} where
   pub count_none : (p : X → Bool) (xs : List X) → list_any p xs ≡ false → count_by (λ x. not (p x)) xs ≡ length xs
   count_none p [] none = refl
   count_none p (x ∷ xs) none =
-      let both = or_false (p x) (list_any p xs) none in
+      let both = or_parts (p x) (list_any p xs) none in
       let other : p x ≡ false = both.0 in
       rw (sum_by-cons (λ (y : X). cond (not (p y)) 1 0) x xs, other) (omega (arith, count_none p xs both.1))
 
@@ -102,7 +98,7 @@ module _ {X : Type 0} where
   pub any-without : (q p : X → Bool) (xs : List X) → list_any q xs ≡ false → list_any q (without_first p xs) ≡ false
   any-without q p [] none = refl
   any-without q p (x ∷ xs) none =
-      let both = or_false (q x) (list_any q xs) none in
+      let both = or_parts (q x) (list_any q xs) none in
       any_without_test (p x) q x xs (without_first p xs) both.0 both.1 (any-without q p xs both.1)
 
   find_without_test : (test : Bool) (q : X → Bool) (x : X) (xs ys : List X) → (test ≡ true → q x ≡ false) → find q ys ≡ find q xs → find q (cond test xs (x ∷ ys)) ≡ find q (x ∷ xs)

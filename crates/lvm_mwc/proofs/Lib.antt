@@ -1,6 +1,5 @@
 pub mod FirstsLemmas
 pub mod EntriesLemmas
+pub mod CacheLemmas
 pub mod NotesLemmas
-pub mod PinsLemmas
-pub mod NamedLemmas
 pub mod FiltersLemmas

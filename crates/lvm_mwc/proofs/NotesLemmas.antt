@@ -1,192 +1,245 @@
--- The notes of a disk among those of all.
-use Rattle.std.proofs.Common.{◌≡◌, ◌<◌, ◌≤◌, ◌+◌, ◌++◌, ◌&&◌, ◌||◌, ◌==◌, ℕ, suc, List, [], ◌∷◌, Some, None, Option, Bool, true, false, cond, not, nat_lt, length, reverse, get_or, set, take, refl, sym, ◌∙◌, ap, arith, inl, inr, IsTrue}
-use Rattle.std.specs.Prelude.{is_some, option_and_then}
-use Rattle.std.specs.List.{find, list_any, position, position_or_len}
-use Rattle.std.specs.Option.{option_map_or, option_or}
-use Rattle.std.proofs.lemmas.Bool.{cases_order, lt-ltb, le-ltb, eq-eqb, ne_eqb, and_right}
-use Rattle.std.proofs.lemmas.List.Folds.{find-append, list_any-append}
-use Rattle.std.proofs.Math.Seq.{map-set_same}
+-- What is named on a disk through calls of a cache.
+use Rattle.std.proofs.Common.{◌≡◌, ◌<◌, ◌++◌, ◌&&◌, ◌==◌, ℕ, List, [], ◌∷◌, Some, None, Option, Bool, true, false, cond, refl, sym, ◌∙◌, ap, option_map}
+use Rattle.std.specs.List.{list_all, find}
+use Rattle.std.specs.Option.{option_map_or, option_to_list, option_and_then}
+use Rattle.std.proofs.lemmas.Bool.{and_parts, and_from, and_right, eqb-true}
+use Rattle.std.proofs.lemmas.List.{append-nil}
+use Rattle.std.proofs.lemmas.Option.{same_Some, none-some}
 use Rattle.lvm_num.specs.declared.record.NoteEntry.{NoteEntry}
 use Rattle.lvm_num.specs.Disks.{has}
 use Rattle.arrayvec.specs.ArrayVec.{ArrayVec}
 use Rattle.lvm_mwc.specs.declared.entries.CacheEntry.{CacheEntry}
 use Rattle.lvm_mwc.specs.declared.notes.DiskNotes.{DiskNotes}
 use Rattle.lvm_mwc.specs.Firsts.{with_first}
-use Rattle.lvm_mwc.specs.Entries.{note_of}
-use Rattle.std.proofs.lemmas.List.{length-take, reverse-append}
-use Rattle.std.proofs.lemmas.List.Sums.{length-filter, count_by-le-length}
-use Rattle.lvm_mwc.specs.Notes.{is_of_disk, is_in_flight, both_name, names_group, common, disks_of}
-use Rattle.lvm_mwc.specs.Cache.{Cached, has_disk, flight_on, flight_names, is_named, after_start, after_end, started, ended, ended_as, no_notes, IsNew}
-use Rattle.lvm_mwc.proofs.FirstsLemmas.{first_at, none_at}
-
-abbrev pub cached : List CacheEntry → List DiskNotes → Cached
-cached entries notes = record { entries = entries; notes = notes }
-
-abbrev pub notes_of : ℕ → ArrayVec NoteEntry → Option (ArrayVec NoteEntry) → DiskNotes
-notes_of disk written flight = record { disk = disk; written = written; flight = flight }
-
--- ---- where the notes of a disk stand
-
-first_on : (disk : ℕ) (notes : List DiskNotes) → position_or_len (λ (d : ℕ). d == disk) (disks_of notes) ≡ position_or_len (is_of_disk disk) notes
-first_on disk [] = refl
-first_on disk (n ∷ notes) = ap (λ (k : ℕ). cond (not (n.disk == disk)) (1 + k) 0) (first_on disk notes)
-
-as_many : (notes : List DiskNotes) → length (disks_of notes) ≡ length notes
-as_many [] = refl
-as_many (n ∷ notes) = ap suc (as_many notes)
-
-place_on : (disk : ℕ) (notes : List DiskNotes) → position (λ (d : ℕ). d == disk) (disks_of notes) ≡ position (is_of_disk disk) notes
-place_on disk notes = let first = first_on disk notes in let long = as_many notes in rw (first, long) refl
-
--- the place of a disk among the disks is that of its notes
-pub looked_up : (disk : ℕ) (notes : List DiskNotes) (disks now : List ℕ) (place : Option ℕ) → disks ≡ disks_of notes → now ≡ disks → place ≡ position (λ (d : ℕ). d == disk) now → position (is_of_disk disk) notes ≡ place
-looked_up disk notes disks now place are is answer =
-    sym (place_on disk notes) ∙ ap (position (λ (d : ℕ). d == disk)) (sym (is ∙ are)) ∙ sym answer
-
--- ---- a note that is looked through from its end
-
-either_way : (a b : Bool) → (a || (b || false)) ≡ (b || a)
-either_way true true = refl
-either_way true false = refl
-either_way false true = refl
-either_way false false = refl
-
-pub any_from_end : (p : NoteEntry → Bool) (note : List NoteEntry) → list_any p (reverse note) ≡ list_any p note
-any_from_end p [] = refl
-any_from_end p (e ∷ note) =
-    ap (list_any p) (reverse-append (e ∷ []) note) ∙ list_any-append p (reverse note) (e ∷ []) ∙ ap (λ (b : Bool). b || (p e || false)) (any_from_end p note) ∙ either_way (list_any p note) (p e)
-
--- ---- whether a disk has notes
-
-pub there_on : (s : Cached) (disk : ℕ) (place : Option ℕ) → position (is_of_disk disk) s.notes ≡ place → is_some place ≡ has_disk s disk
-there_on s disk None at = sym (ap (λ (o : Option DiskNotes). is_some o) (none_at (is_of_disk disk) s.notes at).found)
-there_on s disk (Some k) at = sym (ap (λ (o : Option DiskNotes). is_some o) (first_at (is_of_disk disk) s.notes (no_notes 0) k at).found)
-
--- ---- what is in flight
-
-pub no_flight : (s : Cached) (disk : ℕ) → position (is_of_disk disk) s.notes ≡ None → is_some (flight_on s disk) ≡ false
-no_flight s disk at = ap (λ (o : Option DiskNotes). is_some (option_and_then (λ (n : DiskNotes). n.flight) o)) (none_at (is_of_disk disk) s.notes at).found
-
-pub flight_at : (s : Cached) (disk k : ℕ) (d : DiskNotes) → position (is_of_disk disk) s.notes ≡ Some k → is_some (flight_on s disk) ≡ is_some (get_or s.notes k d).flight
-flight_at s disk k d at = ap (λ (o : Option DiskNotes). is_some (option_and_then (λ (n : DiskNotes). n.flight) o)) (first_at (is_of_disk disk) s.notes d k at).found
-
--- whether the note in flight on a disk names a track group
-abbrev names_in_flight : ℕ → ℕ → Option DiskNotes → Bool
-names_in_flight lv group o = option_map_or (λ (note : ArrayVec NoteEntry). names_group note.items lv group) (option_and_then (λ (n : DiskNotes). n.flight) o) false
-
-pub not_flying : (s : Cached) (disk lv group : ℕ) → position (is_of_disk disk) s.notes ≡ None → flight_names s disk lv group ≡ false
-not_flying s disk lv group at = ap (names_in_flight lv group) (none_at (is_of_disk disk) s.notes at).found
-
-pub flying_at : (s : Cached) (disk lv group k : ℕ) (d : DiskNotes) → position (is_of_disk disk) s.notes ≡ Some k → flight_names s disk lv group ≡ is_in_flight lv group (get_or s.notes k d)
-flying_at s disk lv group k d at = ap (names_in_flight lv group) (first_at (is_of_disk disk) s.notes d k at).found
-
--- ---- what is named
-
-pub not_named : (s : Cached) (disk lv group : ℕ) → position (is_of_disk disk) s.notes ≡ None → is_named s disk lv group ≡ false
-not_named s disk lv group at = ap (λ (o : Option DiskNotes). option_map_or (both_name lv group) o false) (none_at (is_of_disk disk) s.notes at).found
-
-pub named_at : (s : Cached) (disk lv group k : ℕ) (d : DiskNotes) → position (is_of_disk disk) s.notes ≡ Some k → is_named s disk lv group ≡ both_name lv group (get_or s.notes k d)
-named_at s disk lv group k d at = ap (λ (o : Option DiskNotes). option_map_or (both_name lv group) o false) (first_at (is_of_disk disk) s.notes d k at).found
-
--- ---- one disk's notes change
-
-pub changed_at : (s : Cached) (es : List CacheEntry) (ns : List DiskNotes) (disk k : ℕ) (f : DiskNotes → DiskNotes) (row d : DiskNotes) → cached es ns ≡ s → position (is_of_disk disk) ns ≡ Some k → row ≡ f (get_or ns k d) → cached es (set ns k row) ≡ record s { notes = with_first (is_of_disk disk) f s.notes }
-changed_at s es ns disk k f row d seen at is = rw (← seen) (rw is (ap (cached es) ((first_at (is_of_disk disk) ns d k at).changed f)))
-
-pub started_at : (s : Cached) (es : List CacheEntry) (ns : List DiskNotes) (disk k : ℕ) (r : DiskNotes) (note : ArrayVec NoteEntry) → cached es ns ≡ s → position (is_of_disk disk) ns ≡ Some k → r ≡ get_or ns k r → note.items ≡ note_of es
-    → cached es (set ns k (notes_of r.disk r.written (Some note))) ≡ after_start s disk
-started_at s es ns disk k r note seen at there is =
-    let named : note ≡ record { items = note_of s.entries } = ap (λ (items : List NoteEntry). let v : ArrayVec NoteEntry = record { items = items } in v) (is ∙ ap (λ (c : Cached). note_of c.entries) seen) in
-    changed_at s es ns disk k (started s.entries) (notes_of r.disk r.written (Some note)) r seen at
-    (ap (λ (v : ArrayVec NoteEntry). notes_of r.disk r.written (Some v)) named ∙ ap (started s.entries) there)
-
-pub not_started : (s : Cached) (disk : ℕ) → position (is_of_disk disk) s.notes ≡ None → s ≡ after_start s disk
-not_started s disk at = ap (cached s.entries) (sym ((none_at (is_of_disk disk) s.notes at).changed (started s.entries)))
-
-pub not_ended : (s : Cached) (disk : ℕ) (ok : Bool) → position (is_of_disk disk) s.notes ≡ None → s ≡ after_end s disk ok
-not_ended s disk ok at = ap (cached s.entries) (sym ((none_at (is_of_disk disk) s.notes at).changed (ended ok)))
-
--- its disk stays
-ended_on : (ok : Bool) (n : DiskNotes) → (ended ok n).disk ≡ n.disk
-ended_on ok n = by n.flight
-  where
-    by : (flight : Option (ArrayVec NoteEntry)) → (option_map_or (λ (f : ArrayVec NoteEntry). record n { written = record { items = ended_as ok n.written.items f.items }; flight = None }) flight n).disk ≡ n.disk
-    by None = refl
-    by (Some f) = refl
-
-pub disks_same : (notes : List DiskNotes) (disks : List ℕ) (k : ℕ) (row d : DiskNotes) → disks ≡ disks_of notes → row.disk ≡ (get_or notes k d).disk → disks ≡ disks_of (set notes k row)
-disks_same notes disks k row d are same = are ∙ sym (map-set_same (λ (n : DiskNotes). n.disk) notes k row d same)
-
-pub disks_ended : (ok : Bool) (notes : List DiskNotes) (disks : List ℕ) (k : ℕ) (row d : DiskNotes) → disks ≡ disks_of notes → row ≡ ended ok (get_or notes k d) → disks ≡ disks_of (set notes k row)
-disks_ended ok notes disks k row d are is = disks_same notes disks k row d are (ap (λ (n : DiskNotes). n.disk) is ∙ ended_on ok (get_or notes k d))
-
--- ---- the disks of a new cache
-
--- the disks of a set that are below a number have notes, which name nothing
-abbrev pub AreFirst : ℕ → ℕ → List DiskNotes → Type 0
-AreFirst disks n notes = (d : ℕ) → find (is_of_disk d) notes ≡ cond (nat_lt d n && has disks d) (Some (no_notes d)) None
-
-first_test : (has : Bool) (d : ℕ) → option_or (cond has (Some (no_notes d)) None) None ≡ cond has (Some (no_notes d)) None
-first_test true d = refl
-first_test false d = refl
-
-pub one_more : (disks n : ℕ) (notes : List DiskNotes) → has disks n ≡ true → AreFirst disks n notes → AreFirst disks (n + 1) (notes ++ no_notes n ∷ [])
-one_more disks n notes there first d =
-    find-append (is_of_disk d) notes (no_notes n ∷ []) ∙ ap (λ (o : Option DiskNotes). option_or o (cond (n == d) (Some (no_notes n)) None)) (first d)
-    ∙ elim (cases_order d n) [
-      | inl same ↦
-          let at : (n == d) ≡ true = eq-eqb n d (sym same) in
-          let below : nat_lt d n ≡ false = le-ltb d n (omega arith) in
-          let below_next : nat_lt d (n + 1) ≡ true = lt-ltb d (n + 1) (omega arith) in
-          let its : has disks d ≡ true = rw same there in
-          rw (at, below, below_next, its) (ap (λ (x : ℕ). Some (no_notes x)) (sym same))
-      | inr other ↦ elim other [
-        | inl less ↦
-            let at : (n == d) ≡ false = ne_eqb n d (λ same. absurd (omega arith)) in
-            let below : nat_lt d n ≡ true = lt-ltb d n less in
-            let below_next : nat_lt d (n + 1) ≡ true = lt-ltb d (n + 1) (omega arith) in
-            rw (at, below, below_next) (first_test (has disks d) d)
-        | inr more ↦
-            let at : (n == d) ≡ false = ne_eqb n d (λ same. absurd (omega arith)) in
-            let below : nat_lt d n ≡ false = le-ltb d n (omega arith) in
-            let below_next : nat_lt d (n + 1) ≡ false = le-ltb d (n + 1) (omega arith) in
-            rw (at, below, below_next) refl
-      ]
-    ]
-
-pub none_more : (disks n : ℕ) (notes : List DiskNotes) → has disks n ≡ false → AreFirst disks n notes → AreFirst disks (n + 1) notes
-none_more disks n notes there first d =
-    first d ∙ elim (cases_order d n) [
-      | inl same ↦
-          let below : nat_lt d n ≡ false = le-ltb d n (omega arith) in
-          let below_next : nat_lt d (n + 1) ≡ true = lt-ltb d (n + 1) (omega arith) in
-          let its : has disks d ≡ false = rw same there in
-          rw (below, below_next, its) refl
-      | inr other ↦ elim other [
-        | inl less ↦
-            let below : nat_lt d n ≡ true = lt-ltb d n less in
-            let below_next : nat_lt d (n + 1) ≡ true = lt-ltb d (n + 1) (omega arith) in
-            rw (below, below_next) refl
-        | inr more ↦
-            let below : nat_lt d n ≡ false = le-ltb d n (omega arith) in
-            let below_next : nat_lt d (n + 1) ≡ false = le-ltb d (n + 1) (omega arith) in
-            rw (below, below_next) refl
-      ]
-    ]
+use Rattle.lvm_mwc.specs.Entries.{has_entry, pins_of, are_all_pinned, with_pin, note_of}
+use Rattle.lvm_mwc.specs.Notes.{is_of_disk, names_group, both_name, common, MayStand}
+use Rattle.lvm_mwc.specs.Cache.{Cached, IsNew, notes_on, is_named, no_notes, after_start, after_end, started, ended}
+use Rattle.lvm_mwc.specs.Runs.{Call, Pins, Unpins, StartsNote, NoteEnds, after, after_all, IsPinnedBefore, Sectors, no_sectors, sectors_ended, sectors_in, sectors_after, Knows}
+use Rattle.lvm_mwc.proofs.FirstsLemmas.{find-with, find-with_other}
+use Rattle.lvm_mwc.proofs.CacheLemmas.{notes_of}
+use Rattle.lvm_mwc.proofs.EntriesLemmas.Pins.{note-names, pinned_is_there}
 
 -- ---- what two notes share
 
-pub common_few : (written flight : List NoteEntry) (i : ℕ) → i < length written → length written ≤ 62 → length (common (take i written) flight) < 62
-common_few written flight i within most =
-    let p : NoteEntry → Bool = λ e. names_group flight e.lv e.group in
-    omega (arith, length-filter p (take i written), count_by-le-length p (take i written), length-take i written)
+common_test : (kept own : Bool) (e : NoteEntry) (es flight : List NoteEntry) (lv group : ℕ) → names_group flight e.lv e.group ≡ kept → (e.lv == lv && e.group == group) ≡ own
+    → names_group (common es flight) lv group ≡ (names_group es lv group && names_group flight lv group)
+    → names_group (cond kept (e ∷ common es flight) (common es flight)) lv group ≡ (names_group (e ∷ es) lv group && names_group flight lv group)
+common_test true true e es flight lv group kept own rest =
+    let both = and_parts (e.lv == lv) (e.group == group) own in
+    let same_lv : e.lv ≡ lv = eqb-true e.lv lv both.0 in
+    let same_group : e.group ≡ group = eqb-true e.group group both.1 in
+    let named : names_group flight lv group ≡ true = rw (← same_lv, ← same_group) kept in
+    rw (own, named) refl
+common_test true false e es flight lv group kept own rest = rw own rest
+common_test false true e es flight lv group kept own rest =
+    let both = and_parts (e.lv == lv) (e.group == group) own in
+    let same_lv : e.lv ≡ lv = eqb-true e.lv lv both.0 in
+    let same_group : e.group ≡ group = eqb-true e.group group both.1 in
+    let named : names_group flight lv group ≡ false = rw (← same_lv, ← same_group) kept in
+    let none : (names_group es lv group && names_group flight lv group) ≡ false = and_right (names_group es lv group) (names_group flight lv group) named in
+    rw (own, named) (rest ∙ none)
+common_test false false e es flight lv group kept own rest = rw own rest
 
-in_set : (there : Bool) (d n : ℕ) → (IsTrue there → d < n) → (nat_lt d n && there) ≡ there
-in_set true d n below = rw (lt-ltb d n (below refl)) refl
-in_set false d n below = and_right (nat_lt d n) false refl
+names-common : (written flight : List NoteEntry) (lv group : ℕ) → names_group (common written flight) lv group ≡ (names_group written lv group && names_group flight lv group)
+names-common [] flight lv group = refl
+names-common (e ∷ es) flight lv group = common_test (names_group flight e.lv e.group) (e.lv == lv && e.group == group) e es flight lv group refl refl (names-common es flight lv group)
 
-pub new_disks : (disks n : ℕ) (es : List CacheEntry) (notes : List DiskNotes) → 128 ≤ n → ((d : ℕ) → IsTrue (has disks d) → d < 128) → es ≡ [] → AreFirst disks n notes → IsNew disks (cached es notes)
-new_disks disks n es notes all few none first = record {
-  entries = none;
-  notes = λ d. first d ∙ ap (λ (b : Bool). cond b (Some (no_notes d)) None) (in_set (has disks d) d n (λ there. omega (arith, few d there, all)));
+-- ---- one disk's notes change
+
+same_disk : (d disk : ℕ) (n : DiskNotes) → (d == disk) ≡ false → is_of_disk d n ≡ true → is_of_disk disk n ≡ false
+same_disk d disk n other on = rw (eqb-true n.disk d on) other
+
+on_other : (c : Cached) (d disk : ℕ) (f : DiskNotes → DiskNotes) → ((n : DiskNotes) → (f n).disk ≡ n.disk) → (d == disk) ≡ false → find (is_of_disk disk) (with_first (is_of_disk d) f c.notes) ≡ notes_on c disk
+on_other c d disk f stays other = find-with_other (is_of_disk disk) (is_of_disk d) f c.notes (λ n on. let it = same_disk d disk n other on in (it, ap (λ (m : ℕ). m == disk) (stays n) ∙ it))
+
+on_same : (c : Cached) (d disk : ℕ) (f : DiskNotes → DiskNotes) → ((n : DiskNotes) → (f n).disk ≡ n.disk) → (d == disk) ≡ true → find (is_of_disk disk) (with_first (is_of_disk d) f c.notes) ≡ option_map f (notes_on c disk)
+on_same c d disk f stays same = rw (eqb-true d disk same) (find-with (is_of_disk disk) f c.notes (λ n on. ap (λ (m : ℕ). m == disk) (stays n) ∙ on))
+
+ended_there : (ok : Bool) (flight : Option (ArrayVec NoteEntry)) (disk : ℕ) (written : ArrayVec NoteEntry) → (ended ok (notes_of disk written flight)).disk ≡ disk
+ended_there ok None disk written = refl
+ended_there ok (Some f) disk written = refl
+
+ended_stays : (ok : Bool) (n : DiskNotes) → (ended ok n).disk ≡ n.disk
+ended_stays ok n = ended_there ok n.flight n.disk n.written
+
+-- ---- what is named stays named
+
+abbrev named_in : ℕ → ℕ → Option DiskNotes → Bool
+named_in lv group o = option_map_or (both_name lv group) o false
+
+named_started : (es : List CacheEntry) (lv group : ℕ) (o : Option DiskNotes) → has_entry es lv group ≡ true → named_in lv group o ≡ true → named_in lv group (option_map (started es) o) ≡ true
+named_started es lv group None there named = cc
+named_started es lv group (Some n) there named =
+    let written : names_group n.written.items lv group ≡ true = (and_parts (names_group n.written.items lv group) (option_map_or (λ (flight : ArrayVec NoteEntry). names_group flight.items lv group) n.flight true) named).0 in
+    and_from (names_group n.written.items lv group) (names_group (note_of es) lv group) written (note-names es lv group ∙ there)
+
+named_ended_of : (ok : Bool) (flight : Option (ArrayVec NoteEntry)) (disk : ℕ) (written : ArrayVec NoteEntry) (lv group : ℕ) → both_name lv group (notes_of disk written flight) ≡ true → both_name lv group (ended ok (notes_of disk written flight)) ≡ true
+named_ended_of ok None disk written lv group named = named
+named_ended_of true (Some f) disk written lv group named = and_from (names_group f.items lv group) true (and_parts (names_group written.items lv group) (names_group f.items lv group) named).1 refl
+named_ended_of false (Some f) disk written lv group named = and_from (names_group (common written.items f.items) lv group) true (names-common written.items f.items lv group ∙ named) refl
+
+named_ended : (ok : Bool) (lv group : ℕ) (o : Option DiskNotes) → named_in lv group o ≡ true → named_in lv group (option_map (ended ok) o) ≡ true
+named_ended ok lv group None named = cc
+named_ended ok lv group (Some n) named = named_ended_of ok n.flight n.disk n.written lv group named
+
+named_after_pin : (all : Bool) (c : Cached) (l g disk lv group : ℕ) → is_named c disk lv group ≡ true → is_named (cond all c (record c { entries = with_pin c.entries l g })) disk lv group ≡ true
+named_after_pin true c l g disk lv group named = named
+named_after_pin false c l g disk lv group named = named
+
+named_after_start : (own : Bool) (c : Cached) (d disk lv group : ℕ) → (d == disk) ≡ own → has_entry c.entries lv group ≡ true → is_named c disk lv group ≡ true → is_named (after_start c d) disk lv group ≡ true
+named_after_start true c d disk lv group same there named = ap (named_in lv group) (on_same c d disk (started c.entries) (λ n. refl) same) ∙ named_started c.entries lv group (notes_on c disk) there named
+named_after_start false c d disk lv group other there named = ap (named_in lv group) (on_other c d disk (started c.entries) (λ n. refl) other) ∙ named
+
+named_after_end : (own : Bool) (c : Cached) (d disk : ℕ) (ok : Bool) (lv group : ℕ) → (d == disk) ≡ own → is_named c disk lv group ≡ true → is_named (after_end c d ok) disk lv group ≡ true
+named_after_end true c d disk ok lv group same named = ap (named_in lv group) (on_same c d disk (ended ok) (ended_stays ok) same) ∙ named_ended ok lv group (notes_on c disk) named
+named_after_end false c d disk ok lv group other named = ap (named_in lv group) (on_other c d disk (ended ok) (ended_stays ok) other) ∙ named
+
+named_after : (c : Cached) (call : Call) (disk lv group : ℕ) → 0 < pins_of c.entries lv group → is_named c disk lv group ≡ true → is_named (after c call) disk lv group ≡ true
+named_after c (Pins l g) disk lv group pinned named = named_after_pin (are_all_pinned c.entries l g) c l g disk lv group named
+named_after c (Unpins l g) disk lv group pinned named = named
+named_after c (StartsNote d) disk lv group pinned named = named_after_start (d == disk) c d disk lv group refl (pinned_is_there c.entries lv group pinned) named
+named_after c (NoteEnds d ok) disk lv group pinned named = named_after_end (d == disk) c d disk ok lv group refl named
+
+pub named_after_all : (c : Cached) (calls : List Call) (disk lv group : ℕ) → IsPinnedBefore c calls lv group → is_named c disk lv group ≡ true → is_named (after_all c calls) disk lv group ≡ true
+named_after_all c [] disk lv group pinned named = named
+named_after_all c (call ∷ calls) disk lv group pinned named = named_after_all (after c call) calls disk lv group pinned.1 (named_after c call disk lv group pinned.0 named)
+
+-- ---- what may stand on a disk
+
+-- the notes of a disk say what these sectors say
+record Tracks (n : DiskNotes) (s : Sectors) : Type 0 where
+  named : (lv group : ℕ) → names_group n.written.items lv group ≡ list_all (λ (sector : List NoteEntry). names_group sector lv group) (s.last ∷ s.failed)
+  written : s.failed ≡ [] → n.written.items ≡ s.last
+  flight : option_map (λ (note : ArrayVec NoteEntry). note.items) n.flight ≡ s.flight
+
+record TracksOn (c : Cached) (disk : ℕ) (s : Sectors) : Type 0 where
+  notes : DiskNotes
+  there : notes_on c disk ≡ Some notes
+  tracks : Tracks notes s
+
+and_true : (b : Bool) → b ≡ (b && true)
+and_true true = refl
+and_true false = refl
+
+and_turn : (a b c : Bool) → (a && (b && c)) ≡ ((a && b) && c)
+and_turn true b c = refl
+and_turn false b c = refl
+
+all-push : {X : Type 0} (p : X → Bool) (xs : List X) (x : X) → list_all p (xs ++ x ∷ []) ≡ (list_all p xs && p x)
+all-push p [] x = sym (and_true (p x))
+all-push p (y ∷ ys) x = ap (λ (b : Bool). p y && b) (all-push p ys x) ∙ and_turn (p y) (list_all p ys) (p x)
+
+not_nil : {X : Type 0} (xs : List X) (x : X) → xs ++ x ∷ [] ≡ [] → ⊥
+not_nil [] x is = cc
+not_nil (y ∷ ys) x is = cc
+
+tracks_ended_of : (ok : Bool) (flight : Option (ArrayVec NoteEntry)) (disk : ℕ) (written : ArrayVec NoteEntry) (last : List NoteEntry) (failed : List (List NoteEntry))
+    → ((lv group : ℕ) → names_group written.items lv group ≡ list_all (λ (sector : List NoteEntry). names_group sector lv group) (last ∷ failed)) → (failed ≡ [] → written.items ≡ last)
+    → Tracks (ended ok (notes_of disk written flight)) (sectors_ended ok (record { last = last; failed = failed; flight = option_map (λ (note : ArrayVec NoteEntry). note.items) flight }))
+tracks_ended_of ok None disk written last failed named one = record { named = named; written = one; flight = refl }
+tracks_ended_of true (Some f) disk written last failed named one = record { named = λ lv group. and_true (names_group f.items lv group); written = λ _. refl; flight = refl }
+tracks_ended_of false (Some f) disk written last failed named one = record {
+  named = λ lv group.
+      names-common written.items f.items lv group ∙ ap (λ (b : Bool). b && names_group f.items lv group) (named lv group)
+      ∙ sym (all-push (λ (sector : List NoteEntry). names_group sector lv group) (last ∷ failed) f.items);
+  written = λ none. absurd (not_nil failed f.items none);
+  flight = refl;
 }
+
+tracks_ended : (ok : Bool) (n : DiskNotes) (s : Sectors) → Tracks n s → Tracks (ended ok n) (sectors_ended ok s)
+tracks_ended ok n s tracks =
+    let same : s ≡ record { last = s.last; failed = s.failed; flight = option_map (λ (note : ArrayVec NoteEntry). note.items) n.flight } = ap (λ (flight : Option (List NoteEntry)). let t : Sectors = record { last = s.last; failed = s.failed; flight = flight } in t) (sym tracks.flight) in
+    rw same (tracks_ended_of ok n.flight n.disk n.written s.last s.failed tracks.named tracks.written)
+
+tracks_start : (own : Bool) (c : Cached) (d disk : ℕ) (s : Sectors) → (d == disk) ≡ own → TracksOn c disk s → TracksOn (after_start c d) disk (cond own (record s { flight = Some (note_of c.entries) }) s)
+tracks_start true c d disk s same on = record {
+  notes = started c.entries on.notes;
+  there = on_same c d disk (started c.entries) (λ n. refl) same ∙ ap (option_map (started c.entries)) on.there;
+  tracks = record { named = on.tracks.named; written = on.tracks.written; flight = refl };
+}
+tracks_start false c d disk s other on = record {
+  notes = on.notes;
+  there = on_other c d disk (started c.entries) (λ n. refl) other ∙ on.there;
+  tracks = on.tracks;
+}
+
+tracks_end : (own : Bool) (c : Cached) (d disk : ℕ) (ok : Bool) (s : Sectors) → (d == disk) ≡ own → TracksOn c disk s → TracksOn (after_end c d ok) disk (cond own (sectors_ended ok s) s)
+tracks_end true c d disk ok s same on = record {
+  notes = ended ok on.notes;
+  there = on_same c d disk (ended ok) (ended_stays ok) same ∙ ap (option_map (ended ok)) on.there;
+  tracks = tracks_ended ok on.notes s on.tracks;
+}
+tracks_end false c d disk ok s other on = record {
+  notes = on.notes;
+  there = on_other c d disk (ended ok) (ended_stays ok) other ∙ on.there;
+  tracks = on.tracks;
+}
+
+tracks_pin : (all : Bool) (c : Cached) (l g disk : ℕ) (s : Sectors) → TracksOn c disk s → TracksOn (cond all c (record c { entries = with_pin c.entries l g })) disk s
+tracks_pin true c l g disk s on = on
+tracks_pin false c l g disk s on = record { notes = on.notes; there = on.there; tracks = on.tracks }
+
+tracks_after : (c : Cached) (call : Call) (disk : ℕ) (s : Sectors) → TracksOn c disk s → TracksOn (after c call) disk (sectors_in c disk s call)
+tracks_after c (Pins l g) disk s on = tracks_pin (are_all_pinned c.entries l g) c l g disk s on
+tracks_after c (Unpins l g) disk s on = record { notes = on.notes; there = on.there; tracks = on.tracks }
+tracks_after c (StartsNote d) disk s on = tracks_start (d == disk) c d disk s refl on
+tracks_after c (NoteEnds d ok) disk s on = tracks_end (d == disk) c d disk ok s refl on
+
+tracks_after_all : (c : Cached) (calls : List Call) (disk : ℕ) (s : Sectors) → TracksOn c disk s → TracksOn (after_all c calls) disk (sectors_after c disk s calls)
+tracks_after_all c [] disk s on = on
+tracks_after_all c (call ∷ calls) disk s on = tracks_after_all (after c call) calls disk (sectors_in c disk s call) (tracks_after c call disk s on)
+
+all-possible : (p : List NoteEntry → Bool) (xs : List (List NoteEntry)) (flight : Option (ArrayVec NoteEntry))
+    → (list_all p xs && option_map_or (λ (note : ArrayVec NoteEntry). p note.items) flight true) ≡ list_all p (xs ++ option_to_list (option_map (λ (note : ArrayVec NoteEntry). note.items) flight))
+all-possible p xs None = sym (and_true (list_all p xs)) ∙ ap (list_all p) (sym (append-nil xs))
+all-possible p xs (Some f) = sym (all-push p xs f.items)
+
+knows : (c : Cached) (disk : ℕ) (s : Sectors) → TracksOn c disk s → Knows c disk s
+knows c disk s on = record {
+  named = λ lv group.
+      let p : List NoteEntry → Bool = λ sector. names_group sector lv group in
+      ap (named_in lv group) on.there
+      ∙ ap (λ (b : Bool). b && option_map_or (λ (note : ArrayVec NoteEntry). names_group note.items lv group) on.notes.flight true) (on.tracks.named lv group)
+      ∙ all-possible p (s.last ∷ s.failed) on.notes.flight
+      ∙ ap (λ (flight : Option (List NoteEntry)). list_all p ((s.last ∷ s.failed) ++ option_to_list flight)) on.tracks.flight;
+  written = λ none. ap (option_map (λ (n : DiskNotes). n.written.items)) on.there ∙ ap (λ (items : List NoteEntry). Some items) (on.tracks.written none);
+  flight = ap (λ (o : Option DiskNotes). option_map (λ (note : ArrayVec NoteEntry). note.items) (option_and_then (λ (n : DiskNotes). n.flight) o)) on.there ∙ on.tracks.flight;
+}
+
+new_tracks : (disks : ℕ) (c : Cached) (disk : ℕ) → IsNew disks c → has disks disk ≡ true → TracksOn c disk no_sectors
+new_tracks disks c disk new there = record {
+  notes = no_notes disk;
+  there = new.notes disk ∙ rw there refl;
+  tracks = record { named = λ lv group. refl; written = λ _. refl; flight = refl };
+}
+
+pub known_after_all : (disks : ℕ) (c : Cached) (disk : ℕ) (calls : List Call) → IsNew disks c → has disks disk ≡ true → Knows (after_all c calls) disk (sectors_after c disk no_sectors calls)
+known_after_all disks c disk calls new there = knows (after_all c calls) disk (sectors_after c disk no_sectors calls) (tracks_after_all c calls disk no_sectors (new_tracks disks c disk new there))
+
+-- ---- a sector that may stand there
+
+pub named_stands : (n : DiskNotes) (sector : List NoteEntry) (lv group : ℕ) → MayStand n sector → both_name lv group n ≡ true → names_group sector lv group ≡ true
+named_stands n sector lv group stands named = stands lv group (and_parts (names_group n.written.items lv group) (option_map_or (λ (note : ArrayVec NoteEntry). names_group note.items lv group) n.flight true) named).0
+
+pub named_flies : (n : DiskNotes) (note : ArrayVec NoteEntry) (lv group : ℕ) → n.flight ≡ Some note → both_name lv group n ≡ true → names_group note.items lv group ≡ true
+named_flies n note lv group flies named =
+    sym (ap (λ (o : Option (ArrayVec NoteEntry)). option_map_or (λ (v : ArrayVec NoteEntry). names_group v.items lv group) o true) flies)
+    ∙ (and_parts (names_group n.written.items lv group) (option_map_or (λ (v : ArrayVec NoteEntry). names_group v.items lv group) n.flight true) named).1
+
+ended_stands_of : (ok : Bool) (flight : Option (ArrayVec NoteEntry)) (disk : ℕ) (written note : ArrayVec NoteEntry) → flight ≡ Some note → MayStand (ended ok (notes_of disk written flight)) note.items
+ended_stands_of ok None disk written note flies lv group named = absurd (none-some note flies)
+ended_stands_of true (Some f) disk written note flies lv group named = ap (λ (v : ArrayVec NoteEntry). names_group v.items lv group) (sym (same_Some f note flies)) ∙ named
+ended_stands_of false (Some f) disk written note flies lv group named =
+    ap (λ (v : ArrayVec NoteEntry). names_group v.items lv group) (sym (same_Some f note flies))
+    ∙ (and_parts (names_group written.items lv group) (names_group f.items lv group) (sym (names-common written.items f.items lv group) ∙ named)).1
+
+pub ended_stands : (n : DiskNotes) (note : ArrayVec NoteEntry) (ok : Bool) → n.flight ≡ Some note → MayStand (ended ok n) note.items
+ended_stands n note ok flies = ended_stands_of ok n.flight n.disk n.written note flies
+
+failed_leaves_of : (flight : Option (ArrayVec NoteEntry)) (disk : ℕ) (written : ArrayVec NoteEntry) (sector : List NoteEntry) → MayStand (notes_of disk written flight) sector → MayStand (ended false (notes_of disk written flight)) sector
+failed_leaves_of None disk written sector stands lv group named = stands lv group named
+failed_leaves_of (Some f) disk written sector stands lv group named =
+    stands lv group (and_parts (names_group written.items lv group) (names_group f.items lv group) (sym (names-common written.items f.items lv group) ∙ named)).0
+
+pub failed_leaves : (n : DiskNotes) (sector : List NoteEntry) → MayStand n sector → MayStand (ended false n) sector
+failed_leaves n sector stands = failed_leaves_of n.flight n.disk n.written sector stands

@@ -15,21 +15,21 @@ pub data Call : Type 0 where
   Pins : (lv group : ℕ) → Call
   Unpins : (lv group : ℕ) → Call
   StartsNote : (disk : ℕ) → Call
-  Ending : (disk : ℕ) (ok : Bool) → Call
+  NoteEnds : (disk : ℕ) (ok : Bool) → Call
 
 -- its conditions
 abbrev pub IsAllowed : Cached → Call → Type 0
 IsAllowed c (Pins lv group) = IsEntry (record { lv = lv; group = group }) × (pins_of c.entries lv group + 1 < 2 ^ 32)
 IsAllowed c (Unpins lv group) = 0 < pins_of c.entries lv group
 IsAllowed c (StartsNote disk) = IsTrue (has_disk c disk) × IsNone (flight_on c disk)
-IsAllowed c (Ending disk ok) = IsSome (flight_on c disk)
+IsAllowed c (NoteEnds disk ok) = IsSome (flight_on c disk)
 
 -- the cache after it
 abbrev pub after : Cached → Call → Cached
 after c (Pins lv group) = after_pin c lv group
 after c (Unpins lv group) = after_unpin c lv group
 after c (StartsNote disk) = after_start c disk
-after c (Ending disk ok) = after_end c disk ok
+after c (NoteEnds disk ok) = after_end c disk ok
 
 -- after a list of calls
 abbrev pub after_all : Cached → List Call → Cached
@@ -48,14 +48,14 @@ abbrev pub pins_in : Cached → Call → ℕ → ℕ → ℕ
 pins_in c (Pins l g) lv group = if l == lv && g == group && not (are_all_pinned c.entries l g) then 1 else 0
 pins_in c (Unpins l g) lv group = 0
 pins_in c (StartsNote disk) lv group = 0
-pins_in c (Ending disk ok) lv group = 0
+pins_in c (NoteEnds disk ok) lv group = 0
 
 -- the pins that it takes from it
 abbrev pub unpins_in : Call → ℕ → ℕ → ℕ
 unpins_in (Pins l g) lv group = 0
 unpins_in (Unpins l g) lv group = if l == lv && g == group then 1 else 0
 unpins_in (StartsNote disk) lv group = 0
-unpins_in (Ending disk ok) lv group = 0
+unpins_in (NoteEnds disk ok) lv group = 0
 
 -- those that calls give it
 abbrev pub pins_given : Cached → List Call → ℕ → ℕ → ℕ
@@ -98,7 +98,7 @@ abbrev pub sectors_in : Cached → ℕ → Sectors → Call → Sectors
 sectors_in c disk s (Pins l g) = s
 sectors_in c disk s (Unpins l g) = s
 sectors_in c disk s (StartsNote d) = if d == disk then record s { flight = Some (note_of c.entries) } else s
-sectors_in c disk s (Ending d ok) = if d == disk then sectors_ended ok s else s
+sectors_in c disk s (NoteEnds d ok) = if d == disk then sectors_ended ok s else s
 
 -- what a list of calls makes of them
 abbrev pub sectors_after : Cached → ℕ → Sectors → List Call → Sectors

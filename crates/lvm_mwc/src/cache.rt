@@ -164,8 +164,8 @@ impl Cache {
         }
     }
 
-    /// The whole cache, which is the note in flight on a disk from now on. It is for
-    /// `lvm_rec::write_note`.
+    /// The whole cache, which is the note in flight on a disk from now on: the entries of the
+    /// record that is to be written there.
     pub fn start_note(&mut self, disk: u16) -> ArrayVec<NoteEntry, 62>
         requires disk { IsTrue (has_disk self.old disk) }
         requires idle { IsNone (flight_on self.old disk) }

@@ -1,3 +1,3 @@
 pub mod Counting
-pub mod RowLemmas
-pub mod Building
+pub mod RowsLemmas
+pub mod NextLemmas

@@ -1,26 +1,17 @@
 -- The status with which a group comes on.
-use Rattle.std.specs.Prelude.{◌≡◌, ◌⊎◌, ◌↔◌, ℕ, ◌<◌, ◌&&◌, ◌==◌, Bool, true, false, not, Some, IsTrue, IsFalse}
+use Rattle.std.specs.Prelude.{◌≡◌, ◌⊎◌, ◌↔◌, ℕ, ◌<◌, ◌&&◌, ◌==◌, Bool, not, Some, IsTrue, IsFalse}
 use Rattle.std.specs.List.{list_any}
-use Rattle.lvm_num.specs.declared.descriptor.Mode.{Mode}
-use Rattle.lvm_num.specs.declared.descriptor.Mode.TheVariants.{Active, Passive}
 use Rattle.lvm_num.specs.declared.place.Pp.{Pp}
 use Rattle.lvm_num.specs.declared.descriptor.LvRow.{LvRow}
 use Rattle.lvm_num.specs.declared.descriptor.Descriptor.{Descriptor}
 use Rattle.lvm_num.specs.declared.status.Status.{Status}
 use Rattle.lvm_num.specs.Disks.{Disks}
 use Rattle.lvm_num.specs.Descriptor.{is_member, copies_of}
+pub use Rattle.lvm_num.specs.Modes.{is_passive}
 use Rattle.lvm_num.specs.Record.{Stamped}
 use Rattle.lvm_num.specs.Status.{IsValidStatus, calls_stale, calls_missing, calls_dirty}
 use Rattle.lvm_kept.specs.Group.{fresh_on, IsOneOf, IsSome}
 use Rattle.lvm_stale.specs.Table.{has_row}
-
-abbrev pub is_passive : Mode → Bool
-is_passive Passive = true
-is_passive _ = false
-
-abbrev pub is_active : Mode → Bool
-is_active Active = true
-is_active _ = false
 
 -- the group has a volume of this number in mode passive
 abbrev pub has_passive : Descriptor → ℕ → Bool

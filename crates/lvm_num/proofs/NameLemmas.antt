@@ -4,6 +4,7 @@ use Rattle.std.specs.Prelude.{◌==◌, nat_eq, nat_le, codes}
 use Rattle.std.specs.List.{list_all, starts_with, prefix_len}
 use Rattle.std.proofs.lemmas.Bool.Decides.{nat_tests}
 use Rattle.std.proofs.lemmas.List.{length-append, length-replicate, length-take, drop-replicate}
+use Rattle.std.proofs.lemmas.Bool.{and_parts}
 use Rattle.lvm_num.specs.Name.{is_letter, is_name_byte, is_name, padded, unpadded, IsPadded}
 
 pub no_name : (bytes : List ℕ) → length bytes ≡ 0 → is_name bytes ≡ false
@@ -36,10 +37,6 @@ taken a b c d p q r = rw (p, q, r) refl
 abbrev is_text : ℕ → Bool
 is_text b = not (b == 0)
 
-both : (a b : Bool) → a && b ≡ true → (a ≡ true) × (b ≡ true)
-both true b e = (refl, e)
-both false b e = absurd cc
-
 letter-text : (b : ℕ) → is_letter b ≡ true → is_text b ≡ true
 letter-text zero e = absurd cc
 letter-text (suc n) e = grind (arith, nat_tests)
@@ -51,7 +48,7 @@ byte-text (suc n) e = grind (arith, nat_tests)
 bytes-text : (bytes : List ℕ) → list_all is_name_byte bytes ≡ true → list_all is_text bytes ≡ true
 bytes-text [] e = refl
 bytes-text (b ∷ bs) e =
-    let parts = both (is_name_byte b) (list_all is_name_byte bs) e in
+    let parts = and_parts (is_name_byte b) (list_all is_name_byte bs) e in
     rw (byte-text b parts.0, bytes-text bs parts.1) refl
 
 -- the four tests of a name
@@ -59,9 +56,9 @@ tests : (b : ℕ) (bs : List ℕ) → is_name (b ∷ bs) ≡ true
     → (nat_le (length bs) 14 ≡ true) × (is_letter b ≡ true) × (list_all is_name_byte bs ≡ true)
 unfolding is_name
 tests b bs e =
-    let outer = both (nat_le (length bs) 14 && not (starts_with nat_eq (b ∷ bs) (codes "hdisk")) && is_letter b) (list_all is_name_byte bs) e in
-    let middle = both (nat_le (length bs) 14 && not (starts_with nat_eq (b ∷ bs) (codes "hdisk"))) (is_letter b) outer.0 in
-    let inner = both (nat_le (length bs) 14) (not (starts_with nat_eq (b ∷ bs) (codes "hdisk"))) middle.0 in
+    let outer = and_parts (nat_le (length bs) 14 && not (starts_with nat_eq (b ∷ bs) (codes "hdisk")) && is_letter b) (list_all is_name_byte bs) e in
+    let middle = and_parts (nat_le (length bs) 14 && not (starts_with nat_eq (b ∷ bs) (codes "hdisk"))) (is_letter b) outer.0 in
+    let inner = and_parts (nat_le (length bs) 14) (not (starts_with nat_eq (b ∷ bs) (codes "hdisk"))) middle.0 in
     (inner.0, middle.1, outer.1)
 
 pub name-text : (text : List ℕ) → is_name text ≡ true → list_all is_text text ≡ true
@@ -81,7 +78,7 @@ length-name (b ∷ bs) e =
 before-append : (xs ys : List ℕ) → list_all is_text xs ≡ true → unpadded (xs ++ ys) ≡ xs ++ unpadded ys
 before-append [] ys e = refl
 before-append (x ∷ xs) ys e =
-    let parts = both (is_text x) (list_all is_text xs) e in
+    let parts = and_parts (is_text x) (list_all is_text xs) e in
     passes (is_text x) parts.0 ∙ ap (λ (rest : List ℕ). x ∷ rest) (before-append xs ys parts.1)
   where
     passes : (b : Bool) → b ≡ true → take (cond b (1 + prefix_len is_text (xs ++ ys)) 0) (x ∷ (xs ++ ys)) ≡ x ∷ unpadded (xs ++ ys)

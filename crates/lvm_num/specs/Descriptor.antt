@@ -1,5 +1,5 @@
 -- What makes a descriptor valid, and the words on its members and volumes.
-use Rattle.std.specs.Prelude.{◌≡◌, ◌≢◌, ℕ, ◌*◌, ◌^◌, ◌<◌, ◌≤◌, Bool, true, ◌==◌, if◌then◌else◌, List, [], ◌∷◌, length, take, drop, Option, Some, IsTrue, find, flat_map, All, AllPairs}
+use Rattle.std.specs.Prelude.{◌≡◌, ◌≢◌, ℕ, ◌*◌, ◌^◌, ◌<◌, ◌≤◌, Bool, true, ◌&&◌, ◌==◌, if◌then◌else◌, List, [], ◌∷◌, length, take, drop, Option, Some, IsTrue, find, flat_map, All, AllPairs}
 use Rattle.std.specs.List.{list_any}
 use Rattle.lvm_num.specs.declared.place.Pp.{Pp}
 use Rattle.lvm_num.specs.declared.descriptor.PvRow.{PvRow}
@@ -24,6 +24,10 @@ volume_of d number = find (λ row. row.number == number) d.lvs
 -- the copies of a logical partition of a volume, in copy order
 abbrev pub copies_of : LvRow → ℕ → List Pp
 copies_of row lp = take row.copies (drop (lp * row.copies) row.map)
+
+-- whether it is this partition
+abbrev pub is_pp : Pp → Pp → Bool
+is_pp p q = p.disk == q.disk && p.pp == q.pp
 
 -- the partitions that these volumes have, and that all volumes have
 abbrev pub partitions_in : List LvRow → List Pp

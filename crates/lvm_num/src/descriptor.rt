@@ -7,7 +7,7 @@ use crate::valid::{are_maps, are_volumes, is_size, partition_counts};
 use crate::{DiskSet, Name, Pp, Rows};
 
 /// How the copies of a volume are made equal after a crash (`mklv -w`).
-#[derive(Clone, Copy, Debug, PartialEq, Eq)]
+#[derive(Clone, Copy, PartialEq, Eq)]
 pub enum Mode {
     /// A track group is noted on disk before its data is written (`y`, `a`).
     Active,
@@ -18,7 +18,7 @@ pub enum Mode {
 }
 
 /// In which order the copies of a volume are written and read (`mklv -d`).
-#[derive(Clone, Copy, Debug, PartialEq, Eq)]
+#[derive(Clone, Copy, PartialEq, Eq)]
 pub enum Policy {
     /// Written at once, read from the copy whose disk has the fewest transfers out (`p`).
     Parallel,
@@ -31,7 +31,7 @@ pub enum Policy {
 }
 
 /// A member: a physical volume of the group.
-#[derive(Clone, Copy, Debug, PartialEq, Eq)]
+#[derive(Clone, Copy, PartialEq, Eq)]
 pub struct PvRow {
     /// The number of its disk, 0 to 127.
     pub disk: u16,
@@ -42,7 +42,7 @@ pub struct PvRow {
 }
 
 /// A logical volume.
-#[derive(Debug, Drop, PartialEq, Eq)]
+#[derive(Drop, PartialEq, Eq)]
 pub struct LvRow {
     /// From 1; at most 255, or 511 in a big group.
     pub number: u16,
@@ -58,7 +58,7 @@ pub struct LvRow {
 }
 
 /// A volume group, as its descriptor area says it.
-#[derive(Debug, Drop, PartialEq, Eq)]
+#[derive(Drop, PartialEq, Eq)]
 pub struct Descriptor {
     /// The moment of its `mkvg`.
     pub id: u64,

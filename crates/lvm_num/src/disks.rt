@@ -7,7 +7,7 @@ use std::marker::Model;
 pub const DISKS: u16 = 128;
 
 /// A set of disks by their numbers, 0 to 127. Contracts see a number, whose members `has` tells.
-#[derive(Clone, Copy, Debug, PartialEq, Eq)]
+#[derive(Clone, Copy, PartialEq, Eq)]
 pub struct DiskSet(u128);
 
 impl Model for DiskSet {

@@ -24,7 +24,7 @@ pub use bits::{clear_bit, has_bit, set_bit};
 pub use clones::{clone_descriptor, clone_status, clone_volume, clone_volumes, with_volumes};
 pub use descriptor::{Descriptor, LvRow, Mode, Policy, PvRow};
 pub use disks::{DISKS, DiskSet};
-pub use listed::{copies_of, has_member, is_on, volume_of};
+pub use listed::{copies_of, has_member, has_partition_on, volume_among, volume_of};
 pub use name::Name;
 pub use numbers::VolumeNumbers;
 pub use pbuf::Pbuf;

@@ -5,15 +5,22 @@ ghost use Rattle.std.specs.Option.{option_copied};
 ghost use Rattle.lvm_num.specs.declared.descriptor.LvRow.{LvRow};
 ghost use Rattle.lvm_num.specs.declared.descriptor.PvRow.{PvRow};
 ghost use Rattle.lvm_num.specs.declared.place.Pp.{Pp};
-ghost use Rattle.lvm_num.specs.Descriptor.{IsLaidOut, copies_of};
+ghost use Rattle.lvm_num.specs.Descriptor.{IsLaidOut, copies_of, volume_of};
 
-use crate::{LvRow, Pp, PvRow};
+use crate::{Descriptor, LvRow, Pp, PvRow};
 
-/// The volume of a number.
-pub fn volume_of(lvs: &[LvRow], number: u16) -> Option<&LvRow>
+/// The volume of a number among these.
+pub fn volume_among(lvs: &[LvRow], number: u16) -> Option<&LvRow>
     ensures { option_copied result ≡ find (λ (row : LvRow). row.number == number) lvs.now }
 {
     lvs.iter().find(|row| row.number == number)
+}
+
+/// The volume of a number in a group.
+pub fn volume_of(d: &Descriptor, number: u16) -> Option<&LvRow>
+    ensures { option_copied result ≡ volume_of d.now number }
+{
+    volume_among(d.lvs.as_slice(), number)
 }
 
 /// Whether one of the members is on the disk.
@@ -24,7 +31,7 @@ pub fn has_member(members: &[PvRow], disk: u16) -> bool
 }
 
 /// Whether one of the partitions is on the disk.
-pub fn is_on(pps: &[Pp], disk: u16) -> bool
+pub fn has_partition_on(pps: &[Pp], disk: u16) -> bool
     ensures { result ≡ list_any (λ (pp : Pp). pp.disk == disk) pps.now }
 {
     pps.iter().any(|pp| pp.disk == disk)

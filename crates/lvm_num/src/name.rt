@@ -16,7 +16,7 @@ const LONGEST: usize = 15;
 
 /// A name: 1 to 15 bytes, a letter and then letters, digits and underscores, that don't begin
 /// with `hdisk`, as the name of a disk does. Contracts see these bytes.
-#[derive(Clone, Copy, Debug)]
+#[derive(Clone, Copy)]
 pub struct Name {
     bytes: [u8; 16],
 }

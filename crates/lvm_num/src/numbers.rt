@@ -12,7 +12,7 @@ const ROOM: usize = 511;
 
 /// Numbers of volumes, with room for all 511 that a group may have, so that adding one takes no
 /// memory. Contracts see their list.
-#[derive(Debug, Drop)]
+#[derive(Drop)]
 pub struct VolumeNumbers {
     items: Vec<u16>,
 }

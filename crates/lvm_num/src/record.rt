@@ -6,7 +6,7 @@ use crate::Rows;
 
 /// When a record was written: by the moment at which its session began, then by its number
 /// among the record writes of that session.
-#[derive(Clone, Copy, Debug, PartialEq, Eq, PartialOrd, Ord)]
+#[derive(Clone, Copy, PartialEq, Eq, PartialOrd, Ord)]
 pub struct Stamp {
     /// The moment of the session's `mkvg` or `varyonvg`.
     pub epoch: u64,
@@ -24,7 +24,7 @@ impl Stamp {
 }
 
 /// The two kinds of framed record, each with two slots on a disk.
-#[derive(Clone, Copy, Debug, PartialEq, Eq)]
+#[derive(Clone, Copy)]
 pub enum Kind {
     /// The volume group descriptor area: the members, the volumes and their maps.
     Descriptor,
@@ -33,7 +33,7 @@ pub enum Kind {
 }
 
 /// A framed record: a content under its stamp.
-#[derive(Debug, Drop, PartialEq, Eq)]
+#[derive(Drop)]
 pub struct Framed {
     pub stamp: Stamp,
     /// At most 571,388 bytes of a descriptor, 31,740 of a status.
@@ -41,7 +41,7 @@ pub struct Framed {
 }
 
 /// An entry of a disk's consistency record: a track group of a volume, 256 blocks, from 0.
-#[derive(Clone, Copy, Debug, Default, PartialEq, Eq)]
+#[derive(Clone, Copy, Default, PartialEq, Eq)]
 pub struct NoteEntry {
     pub lv: u16,
     pub group: u32,

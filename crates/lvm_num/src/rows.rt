@@ -10,7 +10,7 @@ use std::marker::Model;
 
 /// A list of values, which contracts see as that list. It is made from a `Vec` and gives it back
 /// without taking memory.
-#[derive(Debug, Drop)]
+#[derive(Drop)]
 pub struct Rows<T> {
     items: Vec<T>,
 }

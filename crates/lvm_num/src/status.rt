@@ -6,7 +6,7 @@ use crate::valid::{are_dirty, are_status_rows};
 use crate::{Rows, VolumeNumbers};
 
 /// What a status says of one member.
-#[derive(Clone, Copy, Debug, PartialEq, Eq)]
+#[derive(Clone, Copy, PartialEq, Eq)]
 pub struct StatusRow {
     /// The number of its disk, 0 to 127.
     pub disk: u16,
@@ -16,7 +16,7 @@ pub struct StatusRow {
 }
 
 /// The state of a volume group, as its status area says it.
-#[derive(Debug, Drop, PartialEq, Eq)]
+#[derive(Drop, PartialEq, Eq)]
 pub struct Status {
     /// The id of the group.
     pub id: u64,

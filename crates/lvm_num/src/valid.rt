@@ -9,7 +9,7 @@ ghost use Rattle.lvm_num.specs.Status.{IsStatusRow, AreStatusRows, AreDirty};
 ghost use Rattle.lvm_num.specs.Marks.{AreCounts, AreFree, AreCounted, spot};
 
 use crate::bits::{has_bit, set_bit};
-use crate::listed::is_on;
+use crate::listed::has_partition_on;
 use crate::{DISKS, LvRow, Name, Pp, PvRow, StatusRow};
 
 const PLACES: usize = DISKS as usize;
@@ -111,7 +111,7 @@ fn are_apart(copies: &[Pp]) -> bool
     ensures { IsTrue result ↔ AllPairs (λ (a b : Pp). a.disk ≢ b.disk) copies.now }
 {
     for (k, pp) in copies.iter().enumerate() {
-        if is_on(&copies[..k], pp.disk) {
+        if has_partition_on(&copies[..k], pp.disk) {
             return false;
         }
     }

@@ -1,3 +1,2 @@
-pub mod ManyWords
-pub mod NextWord
-pub mod Scanning
+pub mod ReadingLemmas
+pub mod LineLemmas

@@ -1,14 +1,14 @@
 //! The next word of a line: an operand, an option that stands alone, or none.
 ghost use Rattle.std.specs.Prelude.{◌≡◌, [], MatchResult};
-ghost use Rattle.lvm_literals.specs.Words.{disk_in, number_in, count_in, word_in, name_in, partitions_in, turns_in, size_in, copies_in, mode_in, policy_in};
+ghost use Rattle.lvm_literals.specs.Words.{disk_in, number_in, count_in, word_in, name_in, partition_count_in, turns_in, size_in, copy_count_in, mode_in, policy_in};
 ghost use Rattle.lvm_operands.specs.Reading.{next_column, is_next, operand, option, ends, last};
 ghost use Rattle.lvm_operands.specs.Rests.{left, word_at, with_word, fitted, Reads};
 
 use crate::rest::{Misfit, Rest, Word};
 use crate::scan::next_word;
 use lvm_literals::{
-    copies_of, count_of, disk_of, hex_word, mode_of, name_of, number_of, partitions_of, policy_of,
-    size_of, turns_of,
+    copy_count_of, count_of, disk_of, hex_word, mode_of, name_of, number_of, partition_count_of,
+    policy_of, size_of, turns_of,
 };
 use lvm_num::{Mode, Name, Policy};
 
@@ -40,7 +40,7 @@ fn fit<T>(meaning: Option<T>, column: u32, rest: Rest<'_>) -> Result<(T, Rest<'_
 }
 
 /// DISK: the number of a disk.
-#[tactic(auto, using(crate::proofs::NextWord::operand_lacks))]
+#[tactic(auto, using(crate::proofs::ReadingLemmas::NextWord::operand_lacks))]
 pub fn disk(rest: Rest<'_>) -> Result<(u16, Rest<'_>), Misfit>
     ensures { Reads (operand disk_in (left rest.entry)) result }
 {
@@ -49,7 +49,7 @@ pub fn disk(rest: Rest<'_>) -> Result<(u16, Rest<'_>), Misfit>
 }
 
 /// BLOCK: a number.
-#[tactic(auto, using(crate::proofs::NextWord::operand_lacks))]
+#[tactic(auto, using(crate::proofs::ReadingLemmas::NextWord::operand_lacks))]
 pub fn number(rest: Rest<'_>) -> Result<(u64, Rest<'_>), Misfit>
     ensures { Reads (operand number_in (left rest.entry)) result }
 {
@@ -58,7 +58,7 @@ pub fn number(rest: Rest<'_>) -> Result<(u64, Rest<'_>), Misfit>
 }
 
 /// COUNT: how many blocks.
-#[tactic(auto, using(crate::proofs::NextWord::operand_lacks))]
+#[tactic(auto, using(crate::proofs::ReadingLemmas::NextWord::operand_lacks))]
 pub fn count(rest: Rest<'_>) -> Result<(u32, Rest<'_>), Misfit>
     ensures { Reads (operand count_in (left rest.entry)) result }
 {
@@ -67,7 +67,7 @@ pub fn count(rest: Rest<'_>) -> Result<(u32, Rest<'_>), Misfit>
 }
 
 /// WORD: what blocks are filled with, or which sectors a cut keeps.
-#[tactic(auto, using(crate::proofs::NextWord::operand_lacks))]
+#[tactic(auto, using(crate::proofs::ReadingLemmas::NextWord::operand_lacks))]
 pub fn pattern(rest: Rest<'_>) -> Result<(u64, Rest<'_>), Misfit>
     ensures { Reads (operand word_in (left rest.entry)) result }
 {
@@ -76,7 +76,7 @@ pub fn pattern(rest: Rest<'_>) -> Result<(u64, Rest<'_>), Misfit>
 }
 
 /// NAME: the name of a group or of a volume.
-#[tactic(auto, using(crate::proofs::NextWord::operand_lacks))]
+#[tactic(auto, using(crate::proofs::ReadingLemmas::NextWord::operand_lacks))]
 pub fn name(rest: Rest<'_>) -> Result<(Name, Rest<'_>), Misfit>
     ensures { Reads (operand name_in (left rest.entry)) result }
 {
@@ -85,16 +85,16 @@ pub fn name(rest: Rest<'_>) -> Result<(Name, Rest<'_>), Misfit>
 }
 
 /// LPS: how many logical partitions.
-#[tactic(auto, using(crate::proofs::NextWord::operand_lacks))]
+#[tactic(auto, using(crate::proofs::ReadingLemmas::NextWord::operand_lacks))]
 pub fn partitions(rest: Rest<'_>) -> Result<(u32, Rest<'_>), Misfit>
-    ensures { Reads (operand partitions_in (left rest.entry)) result }
+    ensures { Reads (operand partition_count_in (left rest.entry)) result }
 {
     let (word, rest) = word(rest)?;
-    fit(partitions_of(word.bytes), word.column, rest)
+    fit(partition_count_of(word.bytes), word.column, rest)
 }
 
 /// TURNS: how many turns.
-#[tactic(auto, using(crate::proofs::NextWord::operand_lacks))]
+#[tactic(auto, using(crate::proofs::ReadingLemmas::NextWord::operand_lacks))]
 pub fn turns(rest: Rest<'_>) -> Result<(u32, Rest<'_>), Misfit>
     ensures { Reads (operand turns_in (left rest.entry)) result }
 {
@@ -103,7 +103,7 @@ pub fn turns(rest: Rest<'_>) -> Result<(u32, Rest<'_>), Misfit>
 }
 
 /// MIB: the size of a partition.
-#[tactic(auto, using(crate::proofs::NextWord::operand_lacks))]
+#[tactic(auto, using(crate::proofs::ReadingLemmas::NextWord::operand_lacks))]
 pub fn size(rest: Rest<'_>) -> Result<(u16, Rest<'_>), Misfit>
     ensures { Reads (operand size_in (left rest.entry)) result }
 {
@@ -112,16 +112,16 @@ pub fn size(rest: Rest<'_>) -> Result<(u16, Rest<'_>), Misfit>
 }
 
 /// N: how many copies.
-#[tactic(auto, using(crate::proofs::NextWord::operand_lacks))]
+#[tactic(auto, using(crate::proofs::ReadingLemmas::NextWord::operand_lacks))]
 pub fn copies(rest: Rest<'_>) -> Result<(u8, Rest<'_>), Misfit>
-    ensures { Reads (operand copies_in (left rest.entry)) result }
+    ensures { Reads (operand copy_count_in (left rest.entry)) result }
 {
     let (word, rest) = word(rest)?;
-    fit(copies_of(word.bytes), word.column, rest)
+    fit(copy_count_of(word.bytes), word.column, rest)
 }
 
 /// The mode of a volume.
-#[tactic(auto, using(crate::proofs::NextWord::operand_lacks))]
+#[tactic(auto, using(crate::proofs::ReadingLemmas::NextWord::operand_lacks))]
 pub fn mode(rest: Rest<'_>) -> Result<(Mode, Rest<'_>), Misfit>
     ensures { Reads (operand mode_in (left rest.entry)) result }
 {
@@ -130,7 +130,7 @@ pub fn mode(rest: Rest<'_>) -> Result<(Mode, Rest<'_>), Misfit>
 }
 
 /// The policy of a volume.
-#[tactic(auto, using(crate::proofs::NextWord::operand_lacks))]
+#[tactic(auto, using(crate::proofs::ReadingLemmas::NextWord::operand_lacks))]
 pub fn policy(rest: Rest<'_>) -> Result<(Policy, Rest<'_>), Misfit>
     ensures { Reads (operand policy_in (left rest.entry)) result }
 {
@@ -139,7 +139,7 @@ pub fn policy(rest: Rest<'_>) -> Result<(Policy, Rest<'_>), Misfit>
 }
 
 /// Whether this option is the next word, and what follows it.
-#[tactic(auto, using(crate::proofs::NextWord::option_lacks))]
+#[tactic(auto, using(crate::proofs::ReadingLemmas::NextWord::option_lacks))]
 pub fn option<'a>(rest: Rest<'a>, name: &[u8]) -> (bool, Rest<'a>)
     ensures { (result.0, left result.1) ≡ option name.now (left rest.entry) }
 {
@@ -156,7 +156,7 @@ pub fn option<'a>(rest: Rest<'a>, name: &[u8]) -> (bool, Rest<'a>)
 }
 
 /// The line ends here, so that it is this.
-#[tactic(auto, using(crate::proofs::NextWord::ends_here))]
+#[tactic(auto, using(crate::proofs::ReadingLemmas::NextWord::ends_here))]
 pub fn ends<T: Drop>(rest: Rest<'_>, value: T) -> Result<T, Misfit>
     ensures { result ≡ ends (left rest.entry) value }
 {
@@ -186,7 +186,7 @@ pub fn last_name(rest: Rest<'_>) -> Result<Name, Misfit>
 
 /// LPS, and the line ends.
 pub fn last_partitions(rest: Rest<'_>) -> Result<u32, Misfit>
-    ensures { result ≡ last partitions_in (left rest.entry) }
+    ensures { result ≡ last partition_count_in (left rest.entry) }
 {
     let (partitions, rest) = partitions(rest)?;
     ends(rest, partitions)
@@ -202,7 +202,7 @@ pub fn last_turns(rest: Rest<'_>) -> Result<u32, Misfit>
 
 /// N, and the line ends.
 pub fn last_copies(rest: Rest<'_>) -> Result<u8, Misfit>
-    ensures { result ≡ last copies_in (left rest.entry) }
+    ensures { result ≡ last copy_count_in (left rest.entry) }
 {
     let (copies, rest) = copies(rest)?;
     ends(rest, copies)

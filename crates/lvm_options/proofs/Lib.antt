@@ -1,2 +1,2 @@
-pub mod Choices
-pub mod Keeping
+pub mod OptionsLemmas
+pub mod ReadingLemmas

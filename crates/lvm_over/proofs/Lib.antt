@@ -1,4 +1,4 @@
-pub mod handed
-mod Hands
-mod Landing
-mod Telling
+pub mod passed
+mod HandsLemmas
+mod DarkLemmas
+mod LogLemmas

@@ -9,7 +9,7 @@ ghost use Rattle.lvm_session.specs.Dark.{all_dark, all_ended, all_off, ended_cop
 ghost use Rattle.lvm_over.specs.Hands.{MayEnd};
 
 use crate::landings::{end_all, give_back, land_all};
-use lvm_session::lower::Pbuf;
+use lvm_session::below::Pbuf;
 use lvm_session::{CopyEnd, OpenCopy, Power, Session, Step};
 use lvm_vol::Outcome;
 

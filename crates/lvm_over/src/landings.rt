@@ -6,7 +6,7 @@ ghost use Rattle.lvm_session.specs.Dark.{AreTold, ended_as, with_hands, with_lan
 ghost use Rattle.lvm_over.specs.Hands.{AreInHand, IsOutIf, back_if};
 
 use lvm_session::Open;
-use lvm_session::lower::{History, Pbuf, Pool};
+use lvm_session::below::{History, Pbuf, Pool};
 use lvm_vol::Outcome;
 
 // Whether it hasn't landed.

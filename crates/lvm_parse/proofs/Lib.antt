@@ -1,3 +1,3 @@
-pub mod Bounds
-pub mod Fields
-pub mod Lining
+pub mod GrammarLemmas
+pub mod WithinLemmas
+pub mod AnsweringLemmas

@@ -10,7 +10,7 @@ use Rattle.lvm_options.specs.declared.chosen.MklvOptions.{MklvOptions}
 use Rattle.lvm_options.specs.Options.{mkvg_choice, no_mkvg_options, mklv_choice, no_mklv_options}
 use Rattle.lvm_literals.specs.Line.{is_remark, unreadable_at}
 use Rattle.lvm_operands.specs.Line.{WordAt, Left, left_at}
-use Rattle.lvm_literals.specs.Words.{partitions_in, turns_in, copies_in, word_in, name_in, disk_in}
+use Rattle.lvm_literals.specs.Words.{partition_count_in, turns_in, copy_count_in, word_in, name_in, disk_in}
 use Rattle.lvm_operands.specs.Reading.{misfit, then_, next_column, operand, option, ends, last, is_next, blocks, last_blocks, options, required, disks}
 
 -- ---- requests
@@ -98,7 +98,7 @@ lsvg l = let volumes = option (codes "-l") l in then_ (last name_in volumes.1) (
 
 -- what follows the options of `mklv`; one copy, mode active and `p` where they aren't given
 abbrev pub new_volume : MklvOptions → Left → Result Command Misfit
-new_volume o l = then_ (required o.name l) (λ name. then_ (operand name_in l) (λ group. then_ (last partitions_in group.1) (λ lps. Ok (command.Mklv name (unwrap_or o.copies 1) (unwrap_or o.mode mode.Active) (unwrap_or o.policy policy.Parallel) group.0 lps))))
+new_volume o l = then_ (required o.name l) (λ name. then_ (operand name_in l) (λ group. then_ (last partition_count_in group.1) (λ lps. Ok (command.Mklv name (unwrap_or o.copies 1) (unwrap_or o.mode mode.Active) (unwrap_or o.policy policy.Parallel) group.0 lps))))
 
 -- `mklv -y NAME [-c N] [-w n, y or a] [-d p, s, ps or pr] NAME LPS`
 abbrev pub mklv : Left → Result Command Misfit
@@ -110,11 +110,11 @@ rmlv l = then_ (last name_in (option (codes "-f") l).1) (λ name. Ok (command.Rm
 
 -- `mklvcopy NAME N`
 abbrev pub mklvcopy : Left → Result Command Misfit
-mklvcopy l = then_ (operand name_in l) (λ name. then_ (last copies_in name.1) (λ copies. Ok (command.Mklvcopy name.0 copies)))
+mklvcopy l = then_ (operand name_in l) (λ name. then_ (last copy_count_in name.1) (λ copies. Ok (command.Mklvcopy name.0 copies)))
 
 -- `rmlvcopy NAME N`
 abbrev pub rmlvcopy : Left → Result Command Misfit
-rmlvcopy l = then_ (operand name_in l) (λ name. then_ (last copies_in name.1) (λ copies. Ok (command.Rmlvcopy name.0 copies)))
+rmlvcopy l = then_ (operand name_in l) (λ name. then_ (last copy_count_in name.1) (λ copies. Ok (command.Rmlvcopy name.0 copies)))
 
 -- `syncvg -v NAME`
 abbrev pub sync_group : Left → Result Command Misfit

@@ -131,7 +131,7 @@ pub enum Command {
 }
 
 /// Why a line asks for nothing that can be done.
-#[derive(Clone, Copy, Debug, PartialEq, Eq)]
+#[derive(Clone, Copy, PartialEq, Eq)]
 pub enum ParseFault {
     /// The line isn't in the language. The column is that of its first word that doesn't fit, or the one
     /// behind its last byte where a word is lacking; columns count bytes from 1.

@@ -4,7 +4,7 @@ ghost use Rattle.lvm_path.specs.Asks.{lv_of, at_of, count_of, is_write};
 
 /// Blocks of a logical volume that are read or written: `count` of them, from the block `at` of the volume
 /// `lv` on. A block has 512 bytes, and the first one of a volume is 0.
-#[derive(Clone, Copy, Debug, PartialEq, Eq)]
+#[derive(Clone, Copy)]
 pub enum Ask {
     Read { lv: u16, at: u64, count: u32 },
     Write { lv: u16, at: u64, count: u32 },

@@ -3,7 +3,7 @@
 use lvm_vol::Outcome;
 
 /// How the session stands for one request, at this moment.
-#[derive(Clone, Copy, Debug, PartialEq, Eq)]
+#[derive(Clone, Copy)]
 pub struct Facts {
     /// An earlier request that hasn't landed, or an earlier step of the copy that is being brought up,
     /// conflicts with it.
@@ -28,7 +28,7 @@ pub struct Facts {
 }
 
 /// What a request does next.
-#[derive(Clone, Copy, Debug, PartialEq, Eq)]
+#[derive(Clone, Copy, PartialEq, Eq)]
 pub enum Next {
     /// Nothing, until one of its facts changes or a transfer of it ends.
     Wait,

@@ -2,8 +2,8 @@
 #![tactic(auto)]
 
 mod ask;
+pub mod below;
 mod facts;
-pub mod lower;
 mod next;
 mod request;
 mod target;
@@ -11,4 +11,4 @@ mod target;
 pub use ask::Ask;
 pub use facts::{Facts, Next};
 pub use request::{Phase, Request};
-pub use target::Target;
+pub use target::{Target, any_flies, any_is_done, are_over};

@@ -4,7 +4,7 @@ ghost use Rattle.lvm_path.specs.Next.{next_held, next_chosen, next_marked, next_
 
 use crate::facts::{Facts, Next};
 use crate::target::{Target, any_flies, any_is_done, first_waiting, states_of};
-use lvm_sched::lower::Policy;
+use lvm_sched::below::Policy;
 use lvm_sched::write_next;
 use lvm_vol::Outcome;
 

@@ -1,6 +1,6 @@
 //! A request and its phases.
 ghost use Rattle.std.specs.Prelude.{◌≡◌, ◌≤◌, ◌<◌, [], false, length, if◌then◌else◌};
-ghost use Rattle.lvm_sched.specs.handed.NumDescriptorPolicy as policy;
+ghost use Rattle.lvm_sched.specs.passed.NumDescriptorPolicy as policy;
 ghost use Rattle.lvm_path.specs.declared.request.Phase.TheVariants as phase;
 ghost use Rattle.lvm_path.specs.Asks.{is_write};
 ghost use Rattle.lvm_path.specs.Next.{first_phase};
@@ -11,10 +11,10 @@ use crate::next::{next_chosen, next_held, next_marked, next_read, next_write};
 use crate::target::{Target, any_is_begun, are_over, set_state, targets_of};
 use arrayvec::ArrayVec;
 use lvm_sched::TargetState;
-use lvm_sched::lower::{Mode, Policy};
+use lvm_sched::below::{Mode, Policy};
 
 /// How far a request is.
-#[derive(Clone, Copy, Debug, PartialEq, Eq)]
+#[derive(Clone, Copy, PartialEq, Eq)]
 pub enum Phase {
     /// It waits to be admitted.
     Held,
@@ -32,7 +32,7 @@ pub enum Phase {
 }
 
 /// A request from its submission to its landing.
-#[derive(Debug, Drop)]
+#[derive(Drop)]
 pub struct Request {
     /// Its number in the history of the run, from 1.
     pub id: u64,

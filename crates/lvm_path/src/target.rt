@@ -7,10 +7,10 @@ ghost use Rattle.lvm_path.specs.Targets.{is_done, is_begun, are_over, states_of,
 
 use arrayvec::ArrayVec;
 use lvm_sched::TargetState;
-use lvm_sched::lower::Pp;
+use lvm_sched::below::Pp;
 
 /// A copy to which a write goes, or which a read may try.
-#[derive(Clone, Copy, Debug, PartialEq, Eq)]
+#[derive(Clone, Copy)]
 pub struct Target {
     /// The sector of its disk at which the request's first block stands.
     pub sector: u64,

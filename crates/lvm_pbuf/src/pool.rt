@@ -62,7 +62,7 @@ impl Pool {
     }
 
     /// Whether some buffer isn't out.
-    #[tactic(auto, using(crate::proofs::Homes::any_inside))]
+    #[tactic(auto, using(crate::proofs::PlacesLemmas::any_inside))]
     pub fn has_inside(&self) -> bool
         ensures { result ≡ list_any not self.now }
     {

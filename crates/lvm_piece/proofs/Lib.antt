@@ -1,5 +1,5 @@
-pub mod handed
+pub mod passed
 pub mod Fronts
-pub mod Logs
-pub mod Moving
-pub mod Spanning
+pub mod LogLemmas
+pub mod KeepingLemmas
+pub mod RequestsLemmas

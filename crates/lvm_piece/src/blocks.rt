@@ -48,8 +48,8 @@ pub fn keep_front(blocks: &mut Vec<[u8; 512]>, buf: &Pbuf, count: u32)
     }
 }
 
-// Appends bytes to bytes that have room for them.
-fn append(bytes: &mut Vec<u8>, more: &[u8])
+/// Appends bytes to bytes that have room for them.
+pub fn append(bytes: &mut Vec<u8>, more: &[u8])
     requires { vec_len bytes.old + length more.now ≤ vec_capacity bytes.old }
     ensures items { bytes.new.items ≡ bytes.old.items ++ more.now }
     ensures len { vec_len bytes.new ≡ vec_len bytes.old + length more.now }

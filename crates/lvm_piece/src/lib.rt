@@ -4,5 +4,5 @@
 mod blocks;
 mod request;
 
-pub use blocks::keep_front;
+pub use blocks::{append, keep_front};
 pub use request::{read_piece, write_piece};

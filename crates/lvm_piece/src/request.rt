@@ -98,7 +98,7 @@ fn end_read(history: &mut History, id: u64, count: u32, how: &Moved, bytes: &mut
 }
 
 // Puts the power on again, where a transfer found it off.
-fn relight_after<S: Shelf>(shelf: &mut S, how: &Moved)
+fn relight_after_transfer<S: Shelf>(shelf: &mut S, how: &Moved)
     requires { Rests (S.device shelf.old) how.now }
     ensures lit { RelightsAfter (S.device shelf.old) (S.device shelf.new) how.now }
     ensures moments { Path DeviceStep (LeavesNoMore (S.device shelf.old)) (S.device shelf.old) (S.device shelf.new) }
@@ -135,7 +135,7 @@ pub fn write_piece<S: Shelf>(
     let id = history.begin(CLIENT, Vol::Disk(disk), from, count, Some(bytes.as_slice()));
     let how = transfer(shelf, true, disk, from, count, buf, patience);
     end_write(history, id, &how);
-    relight_after(shelf, &how);
+    relight_after_transfer(shelf, &how);
     how
 }
 
@@ -161,6 +161,6 @@ pub fn read_piece<S: Shelf>(
     let id = history.begin(CLIENT, Vol::Disk(disk), from, count, None);
     let how = transfer(shelf, false, disk, from, count, buf, patience);
     end_read(history, id, count, &how, bytes);
-    relight_after(shelf, &how);
+    relight_after_transfer(shelf, &how);
     how
 }

@@ -1,3 +1,3 @@
-pub mod handed
-pub mod Deciding
-pub mod Closed
+pub mod passed
+pub mod DecidingLemmas
+pub mod PostsLemmas

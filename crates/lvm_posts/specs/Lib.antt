@@ -1,4 +1,4 @@
-pub mod handed
+pub mod passed
 pub mod Pieces
 pub mod Deciding
 pub mod Posts

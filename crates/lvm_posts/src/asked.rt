@@ -2,7 +2,7 @@
 
 /// A range of blocks of a volume that was asked for. The requests of its pieces are client 1's, and have consecutive
 /// numbers.
-#[derive(Clone, Copy, Debug, PartialEq, Eq)]
+#[derive(Clone, Copy, PartialEq, Eq)]
 pub struct Asked {
     /// The number of its first request.
     pub first: u64,

@@ -4,7 +4,7 @@ ghost use Rattle.std.specs.Option.{option_or};
 
 /// Why a range wasn't read or written: how the first of its pieces landed that didn't end well, or that some piece
 /// hasn't landed.
-#[derive(Clone, Copy, Debug, PartialEq, Eq)]
+#[derive(Clone, Copy, PartialEq, Eq)]
 pub enum RangeFault {
     /// The power was cut.
     Dark,

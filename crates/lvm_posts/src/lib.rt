@@ -2,6 +2,7 @@
 #![tactic(auto)]
 
 mod asked;
+pub mod below;
 mod fault;
 pub mod laws;
 mod pieces;
@@ -9,5 +10,5 @@ mod posts;
 
 pub use asked::Asked;
 pub use fault::{RangeFault, first_fault};
-pub use pieces::{fill_bytes, piece_count, piece_end, piece_lp};
+pub use pieces::{fill_bytes, piece_count, piece_lp};
 pub use posts::{Post, end_posts, take_closed};

@@ -1,10 +1,11 @@
 //! Where the pieces of a range end, and what is written to them.
-ghost use Rattle.std.specs.Prelude.{◌≡◌, ◌+◌, ◌-◌, ◌*◌, ◌%◌, ◌/◌, ◌^◌, ◌<◌, ◌≤◌, ◌++◌, length, vec_len, vec_capacity};
-ghost use Rattle.lvm_raw.specs.Pieces.{piece_count, piece_end};
+ghost use Rattle.std.specs.Prelude.{◌≡◌, ◌+◌, ◌*◌, ◌/◌, ◌^◌, ◌<◌, ◌≤◌, length, vec_capacity};
+ghost use Rattle.lvm_raw.specs.Pieces.{piece_count};
 ghost use Rattle.lvm_posts.specs.Pieces.{IsLaidOut, filled, piece_lp};
 
 use crate::asked::Asked;
 use lvm_num::fill;
+use lvm_raw::below::append;
 
 // A piece ends at a multiple of so many blocks.
 const GROUP: u64 = 256;
@@ -19,19 +20,6 @@ pub fn piece_count(at: u64, count: u32) -> u32
     (last / GROUP - at / GROUP + 1) as u32
 }
 
-/// Where the piece ends that begins here.
-pub fn piece_end(from: u64, end: u64) -> u64
-    requires { from < end }
-    ensures is { result ≡ piece_end from end }
-    ensures some { from < result }
-    ensures within { result ≤ end }
-    ensures few { result ≤ from + 256 }
-    ensures group { from % 256 + (result - from) ≤ 256 }
-{
-    let left = GROUP - from % GROUP;
-    if end - from <= left { end } else { from + left }
-}
-
 /// The logical partition, from 0, in which the piece of this index lies.
 pub fn piece_lp(asked: &Asked, piece: u32) -> u32
     requires laid { IsLaidOut asked.now }
@@ -44,19 +32,6 @@ pub fn piece_lp(asked: &Asked, piece: u32) -> u32
         GROUP * (asked.at / GROUP + u64::from(piece))
     };
     (start / (2048 * u64::from(asked.mib))) as u32
-}
-
-// Adds bytes to bytes that have room for them.
-fn append(bytes: &mut Vec<u8>, more: &[u8])
-    requires { vec_len bytes.old + length more.now ≤ vec_capacity bytes.old }
-    ensures items { bytes.new.items ≡ bytes.old.items ++ more.now }
-    ensures len { vec_len bytes.new ≡ vec_len bytes.old + length more.now }
-    ensures room { vec_capacity bytes.old ≤ vec_capacity bytes.new }
-{
-    match bytes.extend_from_slice(more) {
-        Ok(()) => {}
-        Err(_) => unreachable!(),
-    }
 }
 
 /// Puts so many blocks of a range into bytes that have room for a whole piece, from the one on that stands so far

@@ -1,5 +1,5 @@
 //! Ranges that are posted: they are answered later, perhaps once their session is gone.
-ghost use Rattle.std.specs.Prelude.{◌≡◌, ◌≤◌, ◌<◌, ◌+◌, ◌++◌, ℕ, true, [], map};
+ghost use Rattle.std.specs.Prelude.{◌≡◌, ◌<◌, ◌+◌, ◌++◌, true, [], map};
 ghost use Rattle.lvm_vol.specs.Log.{is_answered};
 ghost use Rattle.lvm_vol.specs.Order.{Ordered};
 ghost use Rattle.lvm_session.specs.Sound.{outcome_in};
@@ -21,7 +21,7 @@ use lvm_vol::{Entry, Outcome};
 const CLIENT: u32 = 1;
 
 /// A write that was asked for and is answered later.
-#[derive(Clone, Copy, Debug, PartialEq, Eq)]
+#[derive(Clone, Copy, PartialEq, Eq)]
 pub struct Post {
     pub asked: Asked,
     /// The votes of the members that weren't missing, and those of all, as its session ended, where it has.

@@ -1,5 +1,4 @@
-mod Blanks
-mod Commanding
-mod Making
-mod Sim
-mod Woven
+mod StreamLemmas
+mod ProgramLemmas
+mod WovenLemmas
+mod SimLemmas

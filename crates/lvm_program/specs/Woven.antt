@@ -12,7 +12,7 @@ use Rattle.lvm_steps.specs.Moments.{ImagesKept, IsUpheld}
 use Rattle.lvm_stamps.specs.Behind.{IsAhead, IsBehind}
 use Rattle.lvm_parse.specs.Grammar.{line_of}
 use Rattle.lvm_core.specs.declared.parts.Room.{Room}
-use Rattle.lvm_session.specs.State.{Core, State as Session, state}
+use Rattle.lvm_session.specs.State.{Core, State, state}
 use Rattle.lvm_session.specs.Sound.{IsSound}
 use Rattle.lvm_load.specs.declared.totals.Totals.{Totals}
 use Rattle.lvm_load.specs.declared.workload.Workload.{Workload}
@@ -24,6 +24,7 @@ use Rattle.lvm_top.specs.passed.Lines.{IsLine, asked_after, role_of}
 use Rattle.lvm_top.specs.passed.Running.{RunsOn}
 use Rattle.lvm_top.specs.passed.ReplyVariants as reply
 use Rattle.lvm_top.specs.passed.Stage.{IsAlone, IsClosed, OfRequests, Reply, ScriptState}
+use Rattle.lvm_top.specs.passed.Texts.{counted}
 use Rattle.lvm_top.specs.declared.run.Ended.{Ended}
 use Rattle.lvm_top.specs.declared.script.Stop.{Stop}
 use Rattle.lvm_top.specs.declared.status.ExitStatus.{ExitStatus}
@@ -84,17 +85,17 @@ abbrev pub IsSized : ℕ → ℕ → Type 0
 IsSized disks mib = (1 ≤ disks) × (disks ≤ 8) × (8 ≤ mib) × (mib ≤ 64)
 
 -- turns are made until one doesn't move, unless nothing is heard
-abbrev pub TurnsBehind : Bool → Session → Session → Type 0
+abbrev pub TurnsBehind : Bool → State → State → Type 0
 TurnsBehind true last end = end ≡ last
 TurnsBehind false last end = MakesTurns last end
 
 -- It is drawn over the first volume of a session, of so many blocks; then turns are made until one doesn't move, unless nothing is heard, and the session is closed. The totals are those of
 -- the history that comes back.
-pub record IsDrawn (blocks : ℕ) (load : Workload) (first : Session) (exit : Moment) (woven : Woven) : Type 0 where
-  pub last : Session
+pub record IsDrawn (blocks : ℕ) (load : Workload) (first : State) (exit : Moment) (woven : Woven) : Type 0 where
+  pub last : State
   pub weaves : Weaves 1 blocks load.requests (first_weaving first load.clients load.seed) last woven.waiting
   pub causes : HasCauses 1 blocks load.requests (first_weaving first load.clients load.seed) last woven
-  pub end : Session
+  pub end : State
   pub turns : TurnsBehind woven.waiting last end
   pub runs : RunsOn first end
   pub sound : IsSound end
@@ -104,17 +105,13 @@ pub record IsDrawn (blocks : ℕ) (load : Workload) (first : Session) (exit : Mo
 
 -- ---- what is written
 
--- so many of a kind
-abbrev pub total_line : List ℕ → ℕ → List ℕ
-total_line kind n = kind ++ codes " " ++ decimal n ++ codes "\n"
-
 -- behind this, how many requests have begun, and how many ended well
 abbrev pub with_well : List ℕ → Totals → List ℕ
-with_well before t = before ++ total_line (codes "begun") t.begun ++ total_line (codes "done") t.done ++ total_line (codes "got") t.got
+with_well before t = before ++ counted (codes "begun") t.begun ++ counted (codes "done") t.done ++ counted (codes "got") t.got
 
 -- behind this, how many ended otherwise, and how many haven't begun
 abbrev pub with_ill : List ℕ → Totals → List ℕ
-with_ill before t = before ++ total_line (codes "lost") t.lost ++ total_line (codes "refused") t.refused ++ total_line (codes "unbegun") t.unbegun
+with_ill before t = before ++ counted (codes "lost") t.lost ++ counted (codes "refused") t.refused ++ counted (codes "unbegun") t.unbegun
 
 -- the refusal where nothing was heard of a transfer
 abbrev pub refusal_text : Woven → List ℕ
@@ -178,7 +175,7 @@ pub record EndsRefused (why : Reply) (run : ℕ) (end : Moment) (on : Option Cor
   pub status_is : exit.status ≡ status_of stop exit.refused
 
 -- The run draws its workload over this session, and tells its totals.
-pub record HasServed (blocks : ℕ) (load : Workload) (first : Session) (exit : Exit) : Type 0 where
+pub record HasServed (blocks : ℕ) (load : Workload) (first : State) (exit : Exit) : Type 0 where
   pub woven : Woven
   pub drawn : IsDrawn blocks load first exit.moment woven
   pub tells : TellsWoven woven load.requests exit.status exit.out

@@ -1,16 +1,16 @@
 //! A workload over a group of its own.
-ghost use Rattle.std.specs.Prelude.{◌≡◌, ◌↔◌, ◌≤◌, ◌-◌, ◌*◌, ◌++◌, None, IfOk, OnOk, IsSomeAnd, IsTrue, vec_capacity};
+ghost use Rattle.std.specs.Prelude.{◌≡◌, ◌↔◌, ◌≤◌, ◌-◌, ◌*◌, None, IfOk, OnOk, IsSomeAnd, IsTrue, vec_capacity};
 ghost use Rattle.std.specs.String.{string_bytes};
 ghost use Rattle.lvm_disk.specs.Device.{IsReady};
 ghost use Rattle.lvm_core.specs.Starting.{IsRoom};
 ghost use Rattle.lvm_session.specs.declared.open.Power.TheVariants as power;
 ghost use Rattle.lvm_session.specs.Sound.{IsSound};
-ghost use Rattle.lvm_top.specs.passed.Driver.{state_of};
+ghost use Rattle.lvm_session.specs.State.{state_of};
 ghost use Rattle.lvm_top.specs.passed.Running.{RunsOn};
-ghost use Rattle.lvm_top.specs.passed.Stage.{IsBetweenStage, IsFitting, IsStuck, history_in, moment_in, most_refusals, session_in, state_in, without_facts};
+ghost use Rattle.lvm_top.specs.passed.Stage.{IsBetweenStage, IsFittingStage, IsStuck, history_in, moment_in, most_refusals, session_in, state_in, without_facts};
 ghost use Rattle.lvm_top.specs.Run.{ran};
 ghost use Rattle.lvm_top.specs.Script.{passage};
-ghost use Rattle.lvm_program.specs.Woven.{EndsWoven, HasAsked, IsDrawable, IsDrawn, IsMade, IsServed, IsSized, EndsRefused, HasServed, PromisesWoven, TellsWoven, TurnsBehind, asked_woven, copy_count, exit_of, is_whole, mkvg_line, mklv_line, refusal_text, refusals_told, status_woven, total_line, totals_text, untold, with_ill, with_well};
+ghost use Rattle.lvm_program.specs.Woven.{EndsWoven, HasAsked, IsDrawable, IsDrawn, IsMade, IsServed, IsSized, EndsRefused, HasServed, PromisesWoven, TellsWoven, TurnsBehind, asked_woven, copy_count, exit_of, is_whole, mkvg_line, mklv_line, refusal_text, refusals_told, status_woven, totals_text, untold, with_ill, with_well};
 
 use lvm_core::{Closed, Room};
 use lvm_disk::Shelf;
@@ -20,6 +20,7 @@ use lvm_load::{Totals, Workload, Woven, totals_since, weave};
 use lvm_posts::Post;
 use lvm_top::below::driver::Driver;
 use lvm_top::below::line::do_line;
+use lvm_top::below::push_counted;
 use lvm_top::below::stage::{Holder, Reply, Stage, take_rooms};
 use lvm_top::{Ended, ExitStatus, close_ended, conclude, run_on, status_of, unbegun, write_reply};
 use std::alloc::{AllocError, Global};
@@ -86,11 +87,11 @@ fn make_volume<S: Shelf, C: Clock>(
     volume: &[u8],
 ) -> Made<S>
     requires between { IsBetweenStage S.device stage }
-    requires fits { IsFitting stage }
+    requires fits { IsFittingStage stage }
     requires room { IsRoom room }
     ensures made { IsMade (without_facts (history_in stage)) room group.now volume.now (state_in S.device stage (C.last clock.old)) result.reply (state_in S.device result.stage (C.last clock.new)) }
     ensures rooms { without_facts (history_in result.stage) ≡ without_facts (history_in stage) }
-    ensures fits { IsFitting result.stage }
+    ensures fits { IsFittingStage result.stage }
     ensures asked { HasAsked group.now volume.now (C.asked clock.old) (C.asked clock.new) }
 {
     let made = do_line(alloc, stage, clock, room, group);
@@ -171,29 +172,22 @@ fn refusal_text(woven: &Woven) -> &'static str
     }
 }
 
-// Adds how many are of a kind.
-fn push_total(text: &mut String, kind: &str, n: u32) -> Result<(), AllocError>
-    ensures { OnOk result (string_bytes text.new ≡ string_bytes text.old ++ total_line kind.now n) }
-{
-    write!(text, "{kind} {n}\n")
-}
-
 // Adds how many requests have begun, and how many ended well.
 fn push_well(text: &mut String, totals: &Totals) -> Result<(), AllocError>
     ensures { OnOk result (string_bytes text.new ≡ with_well (string_bytes text.old) totals.now) }
 {
-    push_total(text, "begun", totals.begun)?;
-    push_total(text, "done", totals.done)?;
-    push_total(text, "got", totals.got)
+    push_counted(text, "begun", u64::from(totals.begun))?;
+    push_counted(text, "done", u64::from(totals.done))?;
+    push_counted(text, "got", u64::from(totals.got))
 }
 
 // Adds how many ended otherwise, and how many haven't begun.
 fn push_ill(text: &mut String, totals: &Totals) -> Result<(), AllocError>
     ensures { OnOk result (string_bytes text.new ≡ with_ill (string_bytes text.old) totals.now) }
 {
-    push_total(text, "lost", totals.lost)?;
-    push_total(text, "refused", totals.refused)?;
-    push_total(text, "unbegun", totals.unbegun)
+    push_counted(text, "lost", u64::from(totals.lost))?;
+    push_counted(text, "refused", u64::from(totals.refused))?;
+    push_counted(text, "unbegun", u64::from(totals.unbegun))
 }
 
 // The six lines.
@@ -263,7 +257,7 @@ fn is_ok(reply: &Reply) -> bool
 fn refuse<S: Shelf, O: Sink>(alloc: Global, out: &mut O, stage: Stage<S>, why: Reply) -> Ended<S>
     requires off { IsStuck why → session_in stage ≡ None }
     requires between { (IsStuck why → ⊥) → IsBetweenStage S.device stage }
-    requires fits { IsFitting stage }
+    requires fits { IsFittingStage stage }
     requires few { most_refusals why ≤ 2 }
     ensures refused { EndsRefused why (history_in stage).run (moment_in S.device stage) (session_in stage) (exit_of S.device result (passage O.held O.faults out.old out.new)) }
     ensures rooms { IsSomeAnd result.history (λ log. without_facts log ≡ without_facts (history_in stage)) }
@@ -318,7 +312,7 @@ fn end_woven<S: Shelf, O: Sink>(
 ) -> Ended<S>
     requires off { IsStuck made.reply → session_in made.stage ≡ None }
     requires between { (IsStuck made.reply → ⊥) → IsBetweenStage S.device made.stage }
-    requires fits { IsFitting made.stage }
+    requires fits { IsFittingStage made.stage }
     requires few { most_refusals made.reply ≤ 2 }
     requires served { made.reply ≡ Reply.Ok → IsServed (session_in made.stage) }
     requires some { IsDrawable load.now × (1 ≤ blocks) }

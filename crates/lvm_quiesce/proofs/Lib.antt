@@ -1,5 +1,4 @@
-pub mod handed
-pub mod Ending
-pub mod Behind
-pub mod Coming
-pub mod Ranging
+pub mod passed
+pub mod LawsLemmas
+pub mod GroupsLemmas
+pub mod RangesLemmas

@@ -8,7 +8,7 @@ use Rattle.lvm_steps.specs.Moments.{Keeps}
 use Rattle.lvm_steps.specs.Requests.{at}
 use Rattle.lvm_stamps.specs.Behind.{IsBehind}
 use Rattle.lvm_write.specs.Parts.{Spends}
-use Rattle.lvm_core.specs.handed.Names.{NoneIsLeft, AreFaults}
+use Rattle.lvm_core.specs.passed.Names.{NoneIsLeft, AreFaults}
 use Rattle.lvm_session.specs.State.{Core, State}
 use Rattle.lvm_core.specs.declared.parts.Room.{Room}
 use Rattle.lvm_core.specs.declared.refused.Cause.{Cause}

@@ -1,4 +1,4 @@
-pub mod handed
+pub mod passed
 pub mod Ends
 pub mod Behind
 pub mod Groups

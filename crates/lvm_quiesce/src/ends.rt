@@ -8,7 +8,7 @@ use lvm_disk::{Reaped, Shelf};
 use lvm_transfer::Patience;
 
 /// How the transfers that were out ended.
-#[derive(Clone, Copy, Debug, PartialEq, Eq)]
+#[derive(Clone, Copy)]
 pub enum Quiesced {
     /// All of them, well or not. Their buffers are let go.
     Ended,

@@ -1,10 +1,10 @@
 //! Commands on a shelf on which transfers of before may still be out: these are ended first.
 #![tactic(auto)]
 
+pub mod below;
 mod ends;
 mod groups;
 pub mod laws;
-pub mod lower;
 mod ranges;
 
 pub use ends::{Quiesced, quiesce};

@@ -1,5 +1,3 @@
-pub mod Folds
-pub mod Voting
-pub mod Epochs
-pub mod Naming
-pub mod Chosen
+pub mod RecordLemmas
+pub mod KeptGroupLemmas
+pub mod GroupsLemmas

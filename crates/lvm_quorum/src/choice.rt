@@ -12,7 +12,7 @@ use lvm_survey::Survey;
 use std::alloc::Global;
 
 /// The group that a name chooses, by the disks that answered.
-#[derive(Debug, Drop)]
+#[derive(Drop)]
 pub struct Choice {
     /// Its newest descriptor.
     pub descriptor: Descriptor,
@@ -25,7 +25,7 @@ pub struct Choice {
 }
 
 /// Why no group is chosen.
-#[derive(Clone, Copy, Debug, PartialEq, Eq)]
+#[derive(Clone, Copy, PartialEq, Eq)]
 pub enum ChooseFault {
     /// No disk's newest descriptor has the name, or no voter of a group of that name has a status.
     NoRecord,

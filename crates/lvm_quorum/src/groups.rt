@@ -6,7 +6,7 @@ ghost use Rattle.lvm_num.specs.Disks.{has};
 ghost use Rattle.lvm_num.specs.Geometry.{sectors_needed};
 ghost use Rattle.lvm_num.specs.Record.{newest_below};
 ghost use Rattle.lvm_num.specs.Votes.{all_disks};
-ghost use Rattle.lvm_survey.specs.handed.Names.{descriptor_among, members_in, if_passes, passes, is_of, is_status_of, under};
+ghost use Rattle.lvm_survey.specs.passed.Names.{descriptor_among, members_in, if_passes, passes, is_of, is_status_of, under};
 ghost use Rattle.lvm_survey.specs.Surveyed.{surveyed};
 ghost use Rattle.lvm_quorum.specs.Groups.{shown_record_if, IsGroup, IsLastEpoch};
 ghost use Rattle.lvm_survey.specs.Rows.{AreRows};
@@ -88,7 +88,8 @@ fn has_room(row: &SurveyRow, group: &Descriptor) -> bool
     })
 }
 
-fn sectors_needed(mib: u16, pps: u16) -> u64
+/// The sectors that a disk with so many partitions of so many MiB needs.
+pub fn sectors_needed(mib: u16, pps: u16) -> u64
     ensures { result ≡ sectors_needed mib pps }
 {
     4096 + 2048 * u64::from(mib) * u64::from(pps)

@@ -7,3 +7,4 @@ mod names;
 mod shown;
 
 pub use choice::{Choice, ChooseFault, choose};
+pub use groups::sectors_needed;

@@ -1,7 +1,7 @@
 //! Which groups have a name, by the newest descriptors of the disks.
 ghost use Rattle.std.specs.Prelude.{◌≡◌, ◌≢◌, ℕ, IfSome, IfNone, IsTrue, IsFalse, is_some};
 ghost use Rattle.lvm_num.specs.Votes.{all_disks};
-ghost use Rattle.lvm_survey.specs.handed.Names.{status_among, under};
+ghost use Rattle.lvm_survey.specs.passed.Names.{status_among, under};
 ghost use Rattle.lvm_survey.specs.Surveyed.{surveyed};
 ghost use Rattle.lvm_quorum.specs.Choosing.{HasName, HasRecord, HasNoRecord};
 ghost use Rattle.lvm_quorum.specs.Groups.{IsNamedBy};

@@ -1,7 +1,7 @@
 //! A record as a disk shows it.
 ghost use Rattle.std.specs.Prelude.{◌≡◌};
 ghost use Rattle.lvm_num.specs.Record.{newer};
-ghost use Rattle.lvm_survey.specs.handed.Names.{if_passes, is_of, is_status_of, under};
+ghost use Rattle.lvm_survey.specs.passed.Names.{if_passes, is_of, is_status_of, under};
 ghost use Rattle.lvm_quorum.specs.Groups.{shown_record_if, epoch_of};
 
 use lvm_num::{Descriptor, Stamp, Status};

@@ -1,6 +1,7 @@
 pub mod Group
 pub mod GroupLines
 pub mod Handover
+pub mod Names
 pub mod Quiesce
 pub mod Ranges
 pub mod Running

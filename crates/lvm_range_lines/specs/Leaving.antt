@@ -5,26 +5,26 @@ use Rattle.lvm_disk.specs.Counts.{RoseBy}
 use Rattle.lvm_disk.specs.Device.{Device}
 use Rattle.lvm_session.specs.declared.open.Power.{Power}
 use Rattle.lvm_session.specs.declared.open.Power.TheVariants as power
-use Rattle.lvm_session.specs.State.{Core, State as Session, state}
+use Rattle.lvm_session.specs.State.{Core, State, state}
 use Rattle.lvm_posts.specs.declared.fault.RangeFault.{RangeFault}
 use Rattle.lvm_posts.specs.declared.posts.Post.{Post}
 use Rattle.lvm_group_lines.specs.passed.HolderVariants as holder
-use Rattle.lvm_group_lines.specs.passed.Stage.{Reply, Stage, EndsUnasked, OfRequests, patience_of_line, IsBetweenStage, IsClosed, IsFitting, IsLeftBy}
+use Rattle.lvm_group_lines.specs.passed.Stage.{Reply, Stage, EndsUnasked, OfRequests, patience_of_line, IsBetweenStage, IsClosed, IsFittingStage, IsLeftBy}
 use Rattle.lvm_group_lines.specs.passed.Stage.{posts_ended, ArePosted, ScriptState}
 use Rattle.lvm_range_lines.specs.Refusals.{is_stuck}
 
 -- ---- states
 
 -- the session over the shelf of a state
-abbrev pub session_over : ScriptState → Core → Session
+abbrev pub session_over : ScriptState → Core → State
 session_over s core = state s.moment.device core
 
 -- it goes on with these posts
-abbrev pub GoesOnWith : Session → List Post → ℕ → ScriptState → Type 0
+abbrev pub GoesOnWith : State → List Post → ℕ → ScriptState → Type 0
 GoesOnWith end posts last new = new ≡ record { moment = record { device = end.device; facts = end.core.history.facts }; session = Some end.core; posts = posts; last = last }
 
 -- it is closed, and its posts have ended; after a power cut the power is on again
-pub record IsOverWith (end : Session) (posts : List Post) (last : ℕ) (new : ScriptState) : Type 0 where
+pub record IsOverWith (end : State) (posts : List Post) (last : ℕ) (new : ScriptState) : Type 0 where
   pub shelf : IsClosed end.core.power end.device new.moment.device
   pub facts : new.moment.facts ≡ end.core.history.facts
   pub session : new.session ≡ None
@@ -32,30 +32,30 @@ pub record IsOverWith (end : Session) (posts : List Post) (last : ℕ) (new : Sc
   pub clock : new.last ≡ last
 
 -- It goes on where it is on, and is closed where it is over.
-abbrev pub LeavesBy : Power → Session → List Post → ℕ → ScriptState → Type 0
-LeavesBy power.On end posts last new = GoesOnWith end posts last new
-LeavesBy power.Off end posts last new = IsOverWith end posts last new
-LeavesBy power.Dark end posts last new = IsOverWith end posts last new
-LeavesBy power.Stuck end posts last new = IsOverWith end posts last new
+abbrev pub CarriesBy : Power → State → List Post → ℕ → ScriptState → Type 0
+CarriesBy power.On end posts last new = GoesOnWith end posts last new
+CarriesBy power.Off end posts last new = IsOverWith end posts last new
+CarriesBy power.Dark end posts last new = IsOverWith end posts last new
+CarriesBy power.Stuck end posts last new = IsOverWith end posts last new
 
-abbrev pub Leaves : Session → List Post → ℕ → ScriptState → Type 0
-Leaves end posts last new = LeavesBy end.core.power end posts last new
+abbrev pub CarriesTo : State → List Post → ℕ → ScriptState → Type 0
+CarriesTo end posts last new = CarriesBy end.core.power end posts last new
 
 -- so it does behind a range that failed; one that is stuck is closed
-abbrev pub FailsIf : Bool → Session → List Post → ℕ → ScriptState → Type 0
+abbrev pub FailsIf : Bool → State → List Post → ℕ → ScriptState → Type 0
 FailsIf true end posts last new = IsOverWith end posts last new
-FailsIf false end posts last new = Leaves end posts last new
+FailsIf false end posts last new = CarriesTo end posts last new
 
-abbrev pub FailsBy : RangeFault → Session → List Post → ℕ → ScriptState → Type 0
+abbrev pub FailsBy : RangeFault → State → List Post → ℕ → ScriptState → Type 0
 FailsBy why end posts last new = FailsIf (is_stuck why) end posts last new
 
 -- and behind one that was waited for
-abbrev pub EndsBy : {A : Type 0} → Result A RangeFault → Session → List Post → ℕ → ScriptState → Type 0
-EndsBy (Ok done) end posts last new = Leaves end posts last new
+abbrev pub EndsBy : {A : Type 0} → Result A RangeFault → State → List Post → ℕ → ScriptState → Type 0
+EndsBy (Ok done) end posts last new = CarriesTo end posts last new
 EndsBy (Err why) end posts last new = FailsBy why end posts last new
 
 -- the patience of a line went with answers that nothing had ended, and so much of it is left
-abbrev pub Waited : ℕ → Session → Session → Type 0
+abbrev pub Waited : ℕ → State → State → Type 0
 Waited left old new = RoseBy (patience_of_line - left) old.device.counts.waits new.device.counts.waits
 
 -- ---- stages
@@ -75,7 +75,7 @@ EndsInPlace device Does old kept answer = (stage : Stage _) → IsLeftBy device 
 -- So it does in this session, whatever posts stand there.
 abbrev pub EndsInSession : {S : Type 0} → (S → Device) → (ScriptState → ScriptState → Reply → Type 0) → S × Core → Vec ℕ → S × Core → Vec ℕ → Reply → Type 0
 EndsInSession device Does old bytes kept bytes1 answer =
-    (posts : Vec Post) → IsFitting (serving old posts bytes) → IsBetweenStage device (serving old posts bytes) → EndsInPlace device Does (serving old posts bytes) (serving kept posts bytes1) answer
+    (posts : Vec Post) → IsFittingStage (serving old posts bytes) → IsBetweenStage device (serving old posts bytes) → EndsInPlace device Does (serving old posts bytes) (serving kept posts bytes1) answer
 
 -- posts stay what they are
 abbrev pub KeepsPosts : Core → Core → Type 0

@@ -1,4 +1,3 @@
-pub mod handed
 pub mod passed
 pub mod Refusals
 pub mod Answers

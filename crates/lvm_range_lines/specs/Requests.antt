@@ -1,9 +1,9 @@
 -- What a line does that asks for a range of a volume.
 use Rattle.std.specs.Prelude.{◌≡◌, ◌∷◌, ◌++◌, ℕ, [], List, Option, Some, None, Result, Ok, Err, IfErr}
 use Rattle.lvm_num.specs.Buffer.{Sector}
-use Rattle.lvm_group_lines.specs.handed.Names.{IsNumberOf, HasNoVolumeNamed}
+use Rattle.lvm_group_lines.specs.passed.Names.{IsNumberOf, HasNoVolumeNamed}
 use Rattle.lvm_session.specs.Sound.{IsSound}
-use Rattle.lvm_session.specs.State.{Core, State as Session}
+use Rattle.lvm_session.specs.State.{Core, State}
 use Rattle.lvm_group_lines.specs.passed.DiskLines.{blocks_text}
 use Rattle.lvm_group_lines.specs.passed.Running.{RunsOn}
 use Rattle.lvm_posts.specs.declared.asked.Asked.{Asked}
@@ -60,7 +60,7 @@ PostDoes name at count word old new answer = OnVolume name (λ core lv. Posts lv
 -- ---- wr and rd
 
 -- It is asked for and waited for, and its answers are taken; so much patience is left. Where it ended otherwise than well, that has its cause.
-pub record IsFinished (write : Option ℕ) (lv at count : ℕ) (core : Core) (old new : ScriptState) (end : Session) (asked : Asked) (done : Result (Unit {0}) RangeFault) : Type 0 where
+pub record IsFinished (write : Option ℕ) (lv at count : ℕ) (core : Core) (old new : ScriptState) (end : State) (asked : Asked) (done : Result (Unit {0}) RangeFault) : Type 0 where
   pub begun : Core
   pub gives : AskRangeGives write lv at count core begun (Ok asked)
   pub left : ℕ
@@ -72,23 +72,23 @@ pub record IsFinished (write : Option ℕ) (lv at count : ℕ) (core : Core) (ol
   pub ends : EndsBy done end old.posts old.last new
 
 -- so it is, and this answers
-pub data Finishes (write : Option ℕ) (Says : Session → Asked → Reply → Type 0) (lv at count : ℕ) (core : Core) (old new : ScriptState) (answer : Reply) : Type 0 where
+pub data Finishes (write : Option ℕ) (Says : State → Asked → Reply → Type 0) (lv at count : ℕ) (core : Core) (old new : ScriptState) (answer : Reply) : Type 0 where
   NotBegun : IsNotAsked write lv at count core old new answer → Finishes write Says lv at count core old new answer
-  EndsWell : (end : Session) (asked : Asked) → IsFinished write lv at count core old new end asked (Ok tt) → Says end asked answer → Finishes write Says lv at count core old new answer
-  Fails : (end : Session) (asked : Asked) (why : RangeFault) → IsFinished write lv at count core old new end asked (Err why) → answer ≡ reply.Refused (range_refusal why)
+  EndsWell : (end : State) (asked : Asked) → IsFinished write lv at count core old new end asked (Ok tt) → Says end asked answer → Finishes write Says lv at count core old new answer
+  Fails : (end : State) (asked : Asked) (why : RangeFault) → IsFinished write lv at count core old new end asked (Err why) → answer ≡ reply.Refused (range_refusal why)
       → Finishes write Says lv at count core old new answer
 
 abbrev pub WrDoes : List ℕ → ℕ → ℕ → ℕ → ScriptState → ScriptState → Reply → Type 0
 WrDoes name at count word old new answer = OnVolume name (λ core lv. Finishes (Some word) (λ end asked says. says ≡ reply.Ok) lv at count core old new answer) old new answer
 
 -- the lines of the blocks that its requests got
-pub record ShowsGot (at : ℕ) (end : Session) (asked : Asked) (answer : Reply) : Type 0 where
+pub record ShowsGot (at : ℕ) (end : State) (asked : Asked) (answer : Reply) : Type 0 where
   pub blocks : List Sector
   pub got : AreGot end.core.history.facts asked.first asked.pieces blocks
   pub shows : Shows (blocks_text at blocks) answer
 
 -- where no memory is found for the blocks or their lines, the reply says so
-pub data ShowsBlocks (at : ℕ) (end : Session) (asked : Asked) (answer : Reply) : Type 0 where
+pub data ShowsBlocks (at : ℕ) (end : State) (asked : Asked) (answer : Reply) : Type 0 where
   ShowsThem : ShowsGot at end asked answer → ShowsBlocks at end asked answer
   NoMemory : answer ≡ reply.Refused refusal.Memory → ShowsBlocks at end asked answer
 

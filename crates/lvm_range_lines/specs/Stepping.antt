@@ -6,17 +6,17 @@ use Rattle.lvm_session.specs.declared.answers.Turned.TheVariants as turned
 use Rattle.lvm_session.specs.declared.open.Power.{Power}
 use Rattle.lvm_session.specs.declared.open.Power.TheVariants as power
 use Rattle.lvm_session.specs.Sound.{IsSound}
-use Rattle.lvm_session.specs.State.{Core, State as Session, votes_there}
-use Rattle.lvm_group_lines.specs.handed.Names.{LosesVotesByFaults}
+use Rattle.lvm_session.specs.State.{Core, State, votes_there}
+use Rattle.lvm_group_lines.specs.passed.Names.{LosesVotesByFaults}
 use Rattle.lvm_group_lines.specs.passed.Running.{RunsOn}
 use Rattle.lvm_group_lines.specs.passed.Ranges.{StepEnds}
 use Rattle.lvm_group_lines.specs.passed.Stage.{ScriptState, IsRefused, Reply}
 use Rattle.lvm_group_lines.specs.passed.RefusalVariants as refusal
 use Rattle.lvm_group_lines.specs.passed.ReplyVariants as reply
-use Rattle.lvm_range_lines.specs.Leaving.{Leaves, session_over}
+use Rattle.lvm_range_lines.specs.Leaving.{CarriesTo, session_over}
 
 -- the reply where so many turns have moved, and the last one answered so
-abbrev pub step_reply : ℕ → Session → Turned → Reply
+abbrev pub step_reply : ℕ → State → Turned → Reply
 step_reply moved end turned.Moved = reply.Stepped moved
 step_reply moved end turned.Idle = reply.Stepped moved
 step_reply moved end turned.Dark = reply.Refused refusal.Dark
@@ -31,7 +31,7 @@ StopsAs turned.Off left = left ≡ power.Off
 
 -- the turns of a session are made, and lose the votes by faults alone
 pub record IsStepped (turns : ℕ) (core : Core) (old new : ScriptState) (answer : Reply) : Type 0 where
-  pub end : Session
+  pub end : State
   pub moved : ℕ
   pub how : Turned
   pub ends : StepEnds turns (session_over old core) end moved how
@@ -39,7 +39,7 @@ pub record IsStepped (turns : ℕ) (core : Core) (old new : ScriptState) (answer
   pub votes : LosesVotesByFaults (session_over old core) end
   pub runs : RunsOn (session_over old core) end
   pub sound : IsSound end
-  pub leaves : Leaves end old.posts old.last new
+  pub leaves : CarriesTo end old.posts old.last new
   pub says : answer ≡ step_reply moved end how
 
 -- It is refused while no group is on. In a group without volumes nothing is under way, so no turn moves. Else the turns are made.

@@ -5,7 +5,7 @@ use Rattle.lvm_vol.specs.Facts.{Fact}
 use Rattle.lvm_session.specs.declared.open.Power.TheVariants as power
 use Rattle.lvm_session.specs.Causes.{is_over}
 use Rattle.lvm_session.specs.Sound.{IsSound}
-use Rattle.lvm_session.specs.State.{Core, State as Session, state}
+use Rattle.lvm_session.specs.State.{Core, State, state}
 use Rattle.lvm_group_lines.specs.passed.Running.{RunsOn}
 use Rattle.lvm_group_lines.specs.passed.Driver.{IsCausedFor, IsAny, IsTurn}
 use Rattle.lvm_posts.specs.declared.posts.Post.{Post}
@@ -30,32 +30,32 @@ pub data TakesGone (first : List Fact) : List Post → List Fact → List Ending
       → TakesGone first (posts ++ post ∷ []) (facts ++ takings facts post.asked.first post.asked.pieces) (answers ++ answer ∷ [])
 
 -- the answer of a post is taken while a session is on: of that session, or of one that is gone
-pub data TakesPost (post : Post) (old new : Session) (answer : Ending) : Type 0 where
+pub data TakesPost (post : Post) (old new : State) (answer : Ending) : Type 0 where
   OfThis : post.ended ≡ None → TakesRange post.asked old new answer → TakesPost post old new answer
   OfEarlier : (have total : ℕ) → post.ended ≡ Some (have, total) → new ≡ state old.device (with_taken post.asked old.core) → RangeEnds new.core.history.facts post.asked have total answer
       → TakesPost post old new answer
 
 -- so they are taken, one post after the other
-pub data TakesPosts (first : Session) : List Post → Session → List Ending → Type 0 where
+pub data TakesPosts (first : State) : List Post → State → List Ending → Type 0 where
   NoPost : TakesPosts first [] first []
-  OnePost : {posts : List Post} {mid : Session} {answers : List Ending} → TakesPosts first posts mid answers → (post : Post) (new : Session) (answer : Ending) → TakesPost post mid new answer
+  OnePost : {posts : List Post} {mid : State} {answers : List Ending} → TakesPosts first posts mid answers → (post : Post) (new : State) (answer : Ending) → TakesPost post mid new answer
       → TakesPosts first (posts ++ post ∷ []) new (answers ++ answer ∷ [])
 
 -- ---- the turns
 
 -- some post of the session hasn't landed
-pub record IsAwaited (posts : List Post) (s : Session) : Type 0 where
+pub record IsAwaited (posts : List Post) (s : State) : Type 0 where
   pub post : Post
   pub among : Contains posts post
   pub own : post.ended ≡ None
   pub unfinished : IsUnfinished post.asked s
 
 -- all have
-abbrev pub AllHaveLanded : List Post → Session → Type 0
+abbrev pub AllHaveLanded : List Post → State → Type 0
 AllHaveLanded posts s = (post : Post) → Contains posts post → post.ended ≡ None → HavePiecesLanded post.asked s
 
 -- a turn that is made while some hasn't: a path of these makes no turn more once all have
-abbrev pub TurnsForPosts : List Post → Session → Session → Type 0
+abbrev pub TurnsForPosts : List Post → State → State → Type 0
 TurnsForPosts posts old new = IsAwaited posts old × IsTurn old new
 
 -- ---- the line
@@ -69,9 +69,9 @@ pub record WaitsOff (old new : ScriptState) (answer : Reply) : Type 0 where
   pub tells : Tells answers answer
 
 -- a session goes on behind them
-pub record WaitsOn (first : Session) (old new : ScriptState) (answer : Reply) : Type 0 where
+pub record WaitsOn (first : State) (old new : ScriptState) (answer : Reply) : Type 0 where
   pub answers : List Ending
-  pub end : Session
+  pub end : State
   pub takes : TakesPosts first old.posts end answers
   pub runs : RunsOn first end
   pub sound : IsSound end
@@ -79,7 +79,7 @@ pub record WaitsOn (first : Session) (old new : ScriptState) (answer : Reply) : 
   pub tells : Tells answers answer
 
 -- it is over by the turns, each request of it that has landed has its cause, and all answers are taken once it is closed
-pub record WaitsOver (mid : Session) (old new : ScriptState) (answer : Reply) : Type 0 where
+pub record WaitsOver (mid : State) (old new : ScriptState) (answer : Reply) : Type 0 where
   pub over : is_over mid.core.power ≡ true
   pub caused : (id : ℕ) → IsCausedFor mid 1 id
   pub closed : ScriptState
@@ -87,21 +87,21 @@ pub record WaitsOver (mid : Session) (old new : ScriptState) (answer : Reply) : 
   pub waits : WaitsOff closed new answer
 
 -- some post hasn't landed, and no patience is left; no answer is taken
-pub record WaitsInVain (mid : Session) (left : ℕ) (old new : ScriptState) (answer : Reply) : Type 0 where
+pub record WaitsInVain (mid : State) (left : ℕ) (old new : ScriptState) (answer : Reply) : Type 0 where
   pub awaited : IsAwaited old.posts mid
   pub none : left ≡ 0
   pub ends : IsOverWith mid old.posts old.last new
   pub says : answer ≡ reply.Refused refusal.Stuck
 
 -- what happens once no further turn is made
-pub data WaitEnds (mid : Session) (left : ℕ) (old new : ScriptState) (answer : Reply) : Type 0 where
+pub data WaitEnds (mid : State) (left : ℕ) (old new : ScriptState) (answer : Reply) : Type 0 where
   Goes : mid.core.power ≡ power.On → AllHaveLanded old.posts mid → WaitsOn mid old new answer → WaitEnds mid left old new answer
   Over : AllHaveLanded old.posts mid → WaitsOver mid old new answer → WaitEnds mid left old new answer
   InVain : WaitsInVain mid left old new answer → WaitEnds mid left old new answer
 
 -- turns are made while some post hasn't landed
 pub record WaitsFor (core : Core) (old new : ScriptState) (answer : Reply) : Type 0 where
-  pub mid : Session
+  pub mid : State
   pub turns : Path (TurnsForPosts old.posts) IsAny (session_over old core) mid
   pub runs : RunsOn (session_over old core) mid
   pub sound : IsSound mid

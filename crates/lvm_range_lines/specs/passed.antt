@@ -1,15 +1,16 @@
 pub mod AskRangeFaultVariants
 pub mod DiskLines
-pub mod DrainFaultVariants
 pub mod Driver
 pub mod Group
 pub mod GroupLines
 pub mod Handover
 pub mod HolderVariants
 pub mod Mirrors
+pub mod Names
 pub mod Quiesce
 pub mod QuiescedVariants
 pub mod Ranges
+pub mod Recover
 pub mod RefusalVariants
 pub mod ReplyVariants
 pub mod Running
@@ -17,6 +18,6 @@ pub mod Stage
 pub mod Tie
 pub mod TieCommands
 pub mod TieCopies
-pub mod Recover
 pub mod Varyon
+pub mod VolumePlanFaultGroupFault
 pub mod Volumes

@@ -7,3 +7,5 @@ pub mod handover;
 pub mod mirrors;
 pub mod stage;
 pub mod volumes;
+
+pub use lvm_posts::Post;

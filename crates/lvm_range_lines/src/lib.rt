@@ -4,7 +4,6 @@
 mod answers;
 pub mod below;
 mod laws;
-pub mod lower;
 mod refusal;
 mod requests;
 mod stepping;

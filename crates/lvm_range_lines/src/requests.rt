@@ -1,12 +1,12 @@
 //! The lines that read or write a range of a volume.
 ghost use Rattle.std.specs.Prelude.{◌≡◌, ◌≤◌, ◌<◌, ◌++◌, ◌∷◌, ℕ, [], Some, None, vec_capacity, vec_len, IfOk};
 ghost use Rattle.lvm_session.specs.declared.open.Power.TheVariants as power;
-ghost use Rattle.lvm_group_lines.specs.passed.Driver.{state_of};
+ghost use Rattle.lvm_session.specs.State.{state_of};
 ghost use Rattle.lvm_posts.specs.Pieces.{IsLaidOut};
 ghost use Rattle.lvm_posts.specs.Posts.{AreHeld};
 ghost use Rattle.lvm_group_lines.specs.passed.Ranges.{IsAskedFor, FinishGives, KeepsOthers, HasEndedWell, IsRead};
 ghost use Rattle.lvm_group_lines.specs.passed.Running.{RunsOn};
-ghost use Rattle.lvm_group_lines.specs.passed.Stage.{IsBetweenStage, IsFitting};
+ghost use Rattle.lvm_group_lines.specs.passed.Stage.{IsBetweenStage, IsFittingStage};
 ghost use Rattle.lvm_range_lines.specs.Leaving.{EndsInPlace, EndsInSession, KeepsPosts, Waited, serving};
 ghost use Rattle.lvm_range_lines.specs.Requests.{AsksByName, PostDoes, RdDoes, ShowsBlocks, WrDoes};
 ghost use Rattle.lvm_range_lines.specs.Refusals.{ending_of, reply_of};
@@ -15,8 +15,9 @@ use crate::refusal::{ask_refusal, range_refusal};
 use lvm_disk::Shelf;
 use lvm_group_lines::below::disk_lines::lines_reply;
 use lvm_group_lines::below::driver::Driver;
+use lvm_group_lines::below::number_of;
 use lvm_group_lines::below::ranges::{ask_range, finish_range, read_blocks};
-use lvm_group_lines::below::stage::{Holder, Refusal, Reply, Stage, number_of};
+use lvm_group_lines::below::stage::{Holder, Refusal, Reply, Stage};
 use lvm_num::{Memory, Name};
 use lvm_posts::{Asked, Post, RangeFault};
 use lvm_transfer::Patience;
@@ -76,7 +77,7 @@ fn post_on<S: Shelf>(
     count: u32,
     word: u64,
 ) -> Reply
-    requires fits { IsFitting (serving driver.old posts.old bytes.old) }
+    requires fits { IsFittingStage (serving driver.old posts.old bytes.old) }
     requires between { IsBetweenStage S.device (serving driver.old posts.old bytes.old) }
     requires some { 1 ≤ count }
     requires most { count ≤ 4096 }
@@ -95,7 +96,7 @@ fn post_on<S: Shelf>(
 /// Asks for a range of a volume to be written, the first block filled with the word; `wait` answers it. The stage isn't
 /// given away for it: `Stage::left` makes of it what stands behind the line.
 pub fn do_post<S: Shelf>(stage: &mut Stage<S>, name: Name, at: u64, count: u32, word: u64) -> Reply
-    requires fits { IsFitting stage.old }
+    requires fits { IsFittingStage stage.old }
     requires between { IsBetweenStage S.device stage.old }
     requires some { 1 ≤ count }
     requires most { count ≤ 4096 }
@@ -175,7 +176,7 @@ fn wr_on<S: Shelf>(
 
 /// So writes a range of a volume, the first block filled with the word.
 pub fn do_wr<S: Shelf>(stage: &mut Stage<S>, name: Name, at: u64, count: u32, word: u64) -> Reply
-    requires fits { IsFitting stage.old }
+    requires fits { IsFittingStage stage.old }
     requires between { IsBetweenStage S.device stage.old }
     requires some { 1 ≤ count }
     requires most { count ≤ 4096 }
@@ -260,7 +261,7 @@ pub fn do_rd<S: Shelf>(
     at: u64,
     count: u32,
 ) -> Reply
-    requires fits { IsFitting stage.old }
+    requires fits { IsFittingStage stage.old }
     requires between { IsBetweenStage S.device stage.old }
     requires some { 1 ≤ count }
     requires most { count ≤ 4096 }

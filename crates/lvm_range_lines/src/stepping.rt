@@ -1,8 +1,8 @@
 //! The line that makes turns.
-ghost use Rattle.std.specs.Prelude.{◌≡◌, ℕ};
+ghost use Rattle.std.specs.Prelude.{◌≡◌};
 ghost use Rattle.lvm_session.specs.Sound.{IsSound};
-ghost use Rattle.lvm_group_lines.specs.passed.Driver.{state_of};
-ghost use Rattle.lvm_group_lines.specs.passed.Stage.{EndsUnasked, OfRequests, HaveRooms, IsBetweenStage, IsCarried, IsFitting};
+ghost use Rattle.lvm_session.specs.State.{state_of};
+ghost use Rattle.lvm_group_lines.specs.passed.Stage.{EndsUnasked, OfRequests, IsBetweenStage, IsFittingStage};
 ghost use Rattle.lvm_range_lines.specs.Leaving.{serving};
 ghost use Rattle.lvm_range_lines.specs.Stepping.{StepDoes, step_reply};
 
@@ -31,7 +31,7 @@ fn step_reply<S: Shelf>(driver: &Driver<S>, moved: u32, how: Turned) -> Reply
 
 // Makes turns of a session that is on.
 fn step_on<S: Shelf>(driver: Driver<S>, posts: Vec<Post>, bytes: Vec<u8>, turns: u32) -> Answered<S>
-    requires fits { IsFitting (serving driver posts bytes) }
+    requires fits { IsFittingStage (serving driver posts bytes) }
     requires between { IsBetweenStage S.device (serving driver posts bytes) }
     ensures { EndsUnasked S.device (λ _. StepDoes turns) ⊥ OfRequests (serving driver posts bytes) result.stage result.reply }
 {
@@ -43,7 +43,7 @@ fn step_on<S: Shelf>(driver: Driver<S>, posts: Vec<Post>, bytes: Vec<u8>, turns:
 
 /// Makes so many turns, and fewer where one doesn't move, which is then the last.
 pub fn do_step<S: Shelf>(stage: Stage<S>, turns: u32) -> Answered<S>
-    requires fits { IsFitting stage }
+    requires fits { IsFittingStage stage }
     requires between { IsBetweenStage S.device stage }
     ensures { EndsUnasked S.device (λ _. StepDoes turns) ⊥ OfRequests stage result.stage result.reply }
 {

@@ -1,5 +1,5 @@
 //! The line that waits for all posts, and answers them.
-ghost use Rattle.std.specs.Prelude.{◌≡◌, ◌≤◌, ◌<◌, ◌-◌, ◌^◌, ℕ, All, [], Some, None, length};
+ghost use Rattle.std.specs.Prelude.{◌≡◌, ◌≤◌, ◌<◌, ◌-◌, ◌^◌, All, [], Some, None, length};
 ghost use Rattle.lvm_disk.specs.Counts.{RoseBy};
 ghost use Rattle.lvm_disk.specs.Device.{Device};
 ghost use Rattle.lvm_kept.specs.Moments.{Moment};
@@ -9,14 +9,14 @@ ghost use Rattle.lvm_session.specs.declared.open.Power.TheVariants as power;
 ghost use Rattle.lvm_session.specs.Fields.{core_of};
 ghost use Rattle.lvm_session.specs.Rooms.{HasRooms};
 ghost use Rattle.lvm_session.specs.Sound.{IsSound};
-ghost use Rattle.lvm_group_lines.specs.passed.Driver.{state_of};
+ghost use Rattle.lvm_session.specs.State.{state_of};
 ghost use Rattle.lvm_posts.specs.Deciding.{RangeEnds};
 ghost use Rattle.lvm_posts.specs.Pieces.{IsLaidOut};
 ghost use Rattle.lvm_posts.specs.Posts.{AreAnswered};
 ghost use Rattle.lvm_group_lines.specs.passed.Earlier.{with_taken};
 ghost use Rattle.lvm_group_lines.specs.passed.Ranges.{KeepsTable, HavePiecesLanded};
 ghost use Rattle.lvm_group_lines.specs.passed.Running.{RunsOn};
-ghost use Rattle.lvm_group_lines.specs.passed.Stage.{EndsUnasked, OfRequests, IsBetweenStage, IsFitting, history_in, session_in, ArePosted, IsPosted};
+ghost use Rattle.lvm_group_lines.specs.passed.Stage.{EndsUnasked, OfRequests, IsBetweenStage, IsFittingStage, history_in, session_in, ArePosted, IsPosted};
 ghost use Rattle.lvm_vol.specs.Order.{Ordered};
 ghost use Rattle.lvm_range_lines.specs.Leaving.{resting, serving};
 ghost use Rattle.lvm_range_lines.specs.Waiting.{AllHaveLanded, TakesPost, WaitDoes};
@@ -28,7 +28,7 @@ use lvm_group_lines::below::driver::Driver;
 use lvm_group_lines::below::earlier::take_earlier;
 use lvm_group_lines::below::ranges::{Stuck, await_range, take_range};
 use lvm_group_lines::below::stage::{Answered, Holder, Refusal, Stage};
-use lvm_group_lines::lower::Closed;
+use lvm_group_lines::below::{Closed, Driver as CoreDriver};
 use lvm_history::History;
 use lvm_posts::{Asked, Post, RangeFault, take_closed};
 use lvm_session::{Power, Session};
@@ -120,9 +120,9 @@ fn take_in(
 
 // Takes the answer of a post while a session is on at which nothing is under way.
 fn take_one_at_rest<S: Shelf>(
-    driver: lvm_group_lines::lower::Driver<S>,
+    driver: CoreDriver<S>,
     post: &Post,
-) -> (lvm_group_lines::lower::Driver<S>, Result<(), RangeFault>)
+) -> (CoreDriver<S>, Result<(), RangeFault>)
     requires on { driver.1.power ≡ power.On }
     requires none { driver.1.requests ≡ [] }
     requires sound { IsSound (state_of S.device driver) }
@@ -138,18 +138,15 @@ fn take_one_at_rest<S: Shelf>(
     let (have, total) = post.ended.unwrap_or((0, 0));
     let (shelf, session) = driver.into_parts();
     let (session, answer) = take_in(session, &post.asked, have, total);
-    (
-        lvm_group_lines::lower::Driver::from_parts(shelf, session),
-        answer,
-    )
+    (CoreDriver::from_parts(shelf, session), answer)
 }
 
 // Takes them all.
 fn take_at_rest<S: Shelf>(
     alloc: Global,
-    driver: lvm_group_lines::lower::Driver<S>,
+    driver: CoreDriver<S>,
     posts: &[Post],
-) -> (lvm_group_lines::lower::Driver<S>, Answers)
+) -> (CoreDriver<S>, Answers)
     requires on { driver.1.power ≡ power.On }
     requires none { driver.1.requests ≡ [] }
     requires sound { IsSound (state_of S.device driver) }
@@ -219,11 +216,11 @@ fn take_on<S: Shelf>(alloc: Global, driver: Driver<S>, posts: &[Post]) -> (Drive
 // Answers all posts while no session is on.
 fn wait_off<S: Shelf>(alloc: Global, stage: Stage<S>) -> Answered<S>
     requires off { session_in stage ≡ None }
-    requires fits { IsFitting stage }
+    requires fits { IsFittingStage stage }
     requires posted { ArePosted (history_in stage).facts None stage.posts.items }
     requires few { length stage.posts.items < 2 ^ 32 }
     ensures waits { WaitsBehind S.device stage result.stage result.reply }
-    ensures fits { IsFitting result.stage }
+    ensures fits { IsFittingStage result.stage }
 {
     let (Closed { shelf, mut history }, mut posts, bytes) = stage.close();
     let answers = take_off(alloc, &mut history, &posts);
@@ -239,12 +236,12 @@ fn wait_landed<S: Shelf>(
     bytes: Vec<u8>,
 ) -> Answered<S>
     requires unstuck { driver.1.power ≡ power.Stuck → ⊥ }
-    requires fits { IsFitting (serving driver posts bytes) }
+    requires fits { IsFittingStage (serving driver posts bytes) }
     requires posted { ArePosted driver.1.history.facts (Some driver.1) posts.items }
     requires landed { AllHaveLanded posts.items (state_of S.device driver) }
     requires few { length posts.items < 2 ^ 32 }
     ensures ends { LandedEnds S.device driver posts bytes driver.1.power result.stage result.reply }
-    ensures fits { IsFitting result.stage }
+    ensures fits { IsFittingStage result.stage }
     ensures sound { IsSound (state_of S.device driver) }
 {
     driver.is_sound();
@@ -273,7 +270,7 @@ fn wait_on<S: Shelf>(
     posts: Vec<Post>,
     bytes: Vec<u8>,
 ) -> Answered<S>
-    requires fits { IsFitting (serving driver posts bytes) }
+    requires fits { IsFittingStage (serving driver posts bytes) }
     requires between { IsBetweenStage S.device (serving driver posts bytes) }
     requires few { length posts.items < 2 ^ 32 }
     ensures { EndsUnasked S.device (λ _. WaitDoes) ⊥ OfRequests (serving driver posts bytes) result.stage result.reply }
@@ -292,11 +289,11 @@ fn wait_on<S: Shelf>(
 // Answers all posts of a group without volumes, each of which is of a session that is gone.
 fn wait_at_rest<S: Shelf>(
     alloc: Global,
-    driver: lvm_group_lines::lower::Driver<S>,
+    driver: CoreDriver<S>,
     posts: Vec<Post>,
     bytes: Vec<u8>,
 ) -> Answered<S>
-    requires fits { IsFitting (resting driver posts bytes) }
+    requires fits { IsFittingStage (resting driver posts bytes) }
     requires between { IsBetweenStage S.device (resting driver posts bytes) }
     requires few { length posts.items < 2 ^ 32 }
     ensures { EndsUnasked S.device (λ _. WaitDoes) ⊥ OfRequests (resting driver posts bytes) result.stage result.reply }
@@ -323,7 +320,7 @@ fn is_told(history: &History)
 
 /// Makes turns until each post has landed, and no turn more; then answers them in their order.
 pub fn do_wait<S: Shelf>(alloc: Global, stage: Stage<S>) -> Answered<S>
-    requires fits { IsFitting stage }
+    requires fits { IsFittingStage stage }
     requires between { IsBetweenStage S.device stage }
     ensures { EndsUnasked S.device (λ _. WaitDoes) ⊥ OfRequests stage result.stage result.reply }
 {

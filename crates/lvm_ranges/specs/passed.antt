@@ -1,3 +1,3 @@
-pub mod DrainFaultVariants
 pub mod Driver
+pub mod Names
 pub mod Running

@@ -1,21 +1,23 @@
 //! A range of a volume is asked for.
-ghost use Rattle.std.specs.Prelude.{◌≡◌, ◌≤◌, ◌<◌, ◌+◌, ◌-◌, ◌%◌, ◌^◌, ℕ, List, Option, Some, None, IfOk, option_copied, vec_capacity};
+ghost use Rattle.std.specs.Prelude.{◌≡◌, ◌≤◌, ◌<◌, ◌+◌, ◌-◌, ◌%◌, ◌^◌, Option, Some, None, IfOk, option_copied, vec_capacity};
 ghost use Rattle.lvm_vol.specs.Log.{next_id};
 ghost use Rattle.lvm_session.specs.declared.open.Power.TheVariants as power;
 ghost use Rattle.lvm_session.specs.Asking.{IsAsking};
 ghost use Rattle.lvm_session.specs.Calls.{ask_fault, has_numbers, submitted};
-ghost use Rattle.lvm_driver.specs.handed.Names.{RunsOn};
-ghost use Rattle.lvm_driver.specs.Answers.{state_of};
+ghost use Rattle.lvm_driver.specs.passed.Names.{RunsOn};
+ghost use Rattle.lvm_session.specs.State.{state_of};
 ghost use Rattle.lvm_ranges.specs.Asking.{AskRangeGives, Asks, IsAskedFor, StaysServing, fault_in, has_room, range_fault};
-ghost use Rattle.lvm_posts.specs.handed.Names.{piece_count};
+ghost use Rattle.lvm_posts.specs.passed.Names.{piece_count};
 ghost use Rattle.lvm_ranges.specs.Pieces.{Submits, piece_ask, with_piece};
 
 use crate::refusal::AskRangeFault;
 use lvm_disk::Shelf;
 use lvm_driver::Driver;
-use lvm_driver::lower::{partition_blocks, volume_of};
+use lvm_driver::below::partition_blocks;
+use lvm_num::volume_of;
 use lvm_path::Ask;
-use lvm_posts::{Asked, fill_bytes, piece_count, piece_end};
+use lvm_posts::below::piece_end;
+use lvm_posts::{Asked, fill_bytes, piece_count};
 
 // The client whose requests these are.
 const CLIENT: u32 = 1;

@@ -5,7 +5,6 @@ mod ask;
 pub mod below;
 mod landing;
 pub mod laws;
-pub mod lower;
 mod reading;
 mod refusal;
 mod taking;

@@ -1,8 +1,8 @@
 //! The answers of a range that has landed.
-ghost use Rattle.std.specs.Prelude.{◌≡◌, ◌≤◌, ◌<◌, ◌+◌, ◌-◌, ℕ, List, Option};
-ghost use Rattle.lvm_driver.specs.handed.Names.{Spends, RunsOn};
+ghost use Rattle.std.specs.Prelude.{◌≡◌, ◌<◌, ◌+◌, ◌-◌, Option};
+ghost use Rattle.lvm_driver.specs.passed.Names.{Spends, RunsOn};
 ghost use Rattle.lvm_session.specs.declared.open.Power.TheVariants as power;
-ghost use Rattle.lvm_driver.specs.Answers.{state_of};
+ghost use Rattle.lvm_session.specs.State.{state_of};
 ghost use Rattle.lvm_posts.specs.Posts.{AreHeld};
 ghost use Rattle.lvm_posts.specs.Pieces.{IsLaidOut};
 ghost use Rattle.lvm_ranges.specs.Finishing.{FinishCosts, FinishGives, TakesRange};

@@ -1,8 +1,8 @@
 //! A number of turns.
-ghost use Rattle.std.specs.Prelude.{◌≡◌, ◌≤◌, ℕ, List};
+ghost use Rattle.std.specs.Prelude.{◌≡◌};
 ghost use Rattle.lvm_session.specs.declared.open.Power.TheVariants as power;
-ghost use Rattle.lvm_driver.specs.handed.Names.{RunsOn};
-ghost use Rattle.lvm_driver.specs.Answers.{state_of};
+ghost use Rattle.lvm_driver.specs.passed.Names.{RunsOn};
+ghost use Rattle.lvm_session.specs.State.{state_of};
 ghost use Rattle.lvm_turn_losses.specs.Losing.{LosesVotesByFaults};
 ghost use Rattle.lvm_ranges.specs.Keeping.{KeepsTable};
 ghost use Rattle.lvm_ranges.specs.Stepping.{StepEnds};

@@ -1,5 +1,4 @@
-pub mod Refusing
-pub mod Looking
-pub mod Going
-pub mod Rooms
-pub mod Answering
+pub mod RawLemmas
+pub mod LookingLemmas
+pub mod PiecesLemmas
+pub mod AskingLemmas

@@ -4,7 +4,7 @@ use Rattle.std.specs.Prelude.{position}
 use Rattle.std.specs.List.{list_any, position_or_len}
 use Rattle.std.proofs.lemmas.Bool.{eq-eqb, lt-ltb, or_left, or_right}
 use Rattle.std.proofs.lemmas.List.Folds.{find_at}
-use Rattle.lvm_num.proofs.MapsLemmas.{find-Some}
+use Rattle.lvm_num.proofs.MarksLemmas.Maps.{find-Some}
 use Rattle.lvm_disk.specs.Device.{Flight}
 use Rattle.lvm_disk.specs.Steps.{Removes}
 use Rattle.lvm_session.specs.declared.flown.Flown.{Flown}

@@ -1,8 +1,7 @@
 //! The notes of a disk and the update learn how a write ended.
-ghost use Rattle.std.specs.Prelude.{◌≡◌, ◌<◌, IsSome, IsTrue, length};
+ghost use Rattle.std.specs.Prelude.{◌<◌, IsSome, IsTrue};
 ghost use Rattle.lvm_num.specs.Disks.{has};
 ghost use Rattle.lvm_mwc.specs.Cache.{flight_on};
-ghost use Rattle.lvm_pbuf.specs.Out.{IsOut};
 ghost use Rattle.lvm_status.specs.declared.change.Change.TheVariants as change;
 ghost use Rattle.lvm_status.specs.Calls.{MayChange};
 ghost use Rattle.lvm_session.specs.Fields.{core_of};

@@ -1,5 +1,3 @@
-pub mod FrameLemmas
-pub mod NoteLemmas
-pub mod SlotLemmas
-pub mod SlotLaws
-pub mod NextLemmas
+pub mod RecordLemmas
+pub mod NumNoteLemmas
+pub mod SlotsLemmas

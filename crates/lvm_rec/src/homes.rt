@@ -6,7 +6,7 @@ ghost use Rattle.lvm_rec.specs.Homes.{second_slots, Flips};
 use lvm_num::{DiskSet, Kind};
 
 /// For each kind of record the disks whose next write goes to slot 1, and not to slot 0.
-#[derive(Clone, Copy, Debug, PartialEq, Eq)]
+#[derive(Clone, Copy)]
 pub struct Homes {
     pub descriptor: DiskSet,
     pub status: DiskSet,

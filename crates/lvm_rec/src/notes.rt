@@ -18,7 +18,7 @@ const LAST: usize = 504;
 
 /// What a disk's consistency record says: the moment of the session that wrote it, and the track
 /// groups that it names.
-#[derive(Debug, Drop)]
+#[derive(Drop)]
 pub struct Note {
     pub stamp: u64,
     pub entries: ArrayVec<NoteEntry, 62>,

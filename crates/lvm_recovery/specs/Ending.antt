@@ -18,7 +18,7 @@ use Rattle.lvm_recover.specs.Recopied.{IsRecopied, AreNamedEqualled, OnlyNotesOf
 use Rattle.lvm_recovery.specs.declared.copying.Recopy.{Recopy}
 use Rattle.lvm_recovery.specs.Copying.{MayCopy, IsCopied, IsInOneRun, IsOfCopies}
 use Rattle.lvm_num.specs.Votes.{CanWrite}
-use Rattle.lvm_recover.specs.handed.Names.{ShowsCommitted, IsNextStatus}
+use Rattle.lvm_recover.specs.passed.Names.{ShowsCommitted, IsNextStatus}
 use Rattle.lvm_recovery.specs.Planned.{ArePlanned}
 use Rattle.lvm_recovery.specs.Equalising.{MayEqualise}
 

@@ -8,7 +8,7 @@ use Rattle.lvm_disk.specs.Device.{Device, image_of}
 use Rattle.lvm_disk.specs.Paths.{DeviceStep, Path}
 use Rattle.lvm_kept.specs.Contents.{contents_of}
 use Rattle.lvm_kept.specs.Torn.{IsOfNote}
-use Rattle.lvm_recover.specs.handed.Names.{StaysKept}
+use Rattle.lvm_recover.specs.passed.Names.{StaysKept}
 use Rattle.lvm_write.specs.Notes.{empty_note_sector, NoteTold}
 use Rattle.lvm_begin.specs.declared.begin.Begun.{Begun}
 use Rattle.lvm_begin.specs.declared.begin.Begun.TheVariants as begun

@@ -12,12 +12,12 @@ use Rattle.lvm_num.specs.Record.{Stamped}
 use Rattle.lvm_num.specs.Status.{calls_stale}
 use Rattle.lvm_kept.specs.Contents.{Contents}
 use Rattle.lvm_kept.specs.Group.{IsOneOf}
-use Rattle.lvm_recover.specs.handed.Names.{is_active}
+use Rattle.lvm_num.specs.Modes.{is_active}
 use Rattle.lvm_recovery.specs.declared.copying.Recopy.{Recopy}
 use Rattle.lvm_recovery.specs.declared.plan.TrackGroup.{TrackGroup}
 use Rattle.lvm_recovery.specs.Planned.{IsNamedByOne, ArePlanned}
 -- where a block of a volume stands on a copy
-pub use Rattle.lvm_recovery.specs.Planned.{place_on}
+use Rattle.lvm_map.specs.Places.{place_on}
 
 -- what an entry names
 abbrev pub group_of : NoteEntry → TrackGroup
@@ -49,13 +49,13 @@ abbrev pub copies_of_group : ℕ → Status → Disks → LvRow → ℕ → List
 copies_of_group mib status disks row g =
     if is_active row.mode && nat_lt (partition_of mib (g * 256)) row.lps then copies_from mib (g * 256) (filter (usable_by status disks) (copies_of row (partition_of mib (g * 256)))) else []
 
-abbrev pub copies_in : ℕ → Status → Disks → ℕ → Option LvRow → List Recopy
-copies_in mib status disks g None = []
-copies_in mib status disks g (Some row) = copies_of_group mib status disks row g
+abbrev pub copies_of_found : ℕ → Status → Disks → ℕ → Option LvRow → List Recopy
+copies_of_found mib status disks g None = []
+copies_of_found mib status disks g (Some row) = copies_of_group mib status disks row g
 
 -- those of a track group of a group's volume of that number, if it has one
 abbrev pub copies_named : Descriptor → Status → Disks → TrackGroup → List Recopy
-copies_named group status disks one = copies_in group.mib status disks one.group (volume_of group one.volume)
+copies_named group status disks one = copies_of_found group.mib status disks one.group (volume_of group one.volume)
 
 -- What the notes of these disks name is planned volume by volume, in each by places, each once, and of each from its first usable copy to the further ones in their order.
 pub record ArePlannedInOrder (c : Contents) (group : Descriptor) (status : Status) (there : Disks) (copies : List Recopy) : Type 0 where

@@ -1,6 +1,5 @@
 -- The copies that make a group's usable copies equal.
 use Rattle.std.specs.Prelude.{◌≡◌, ℕ, ◌*◌, List, ◌∷◌, Option, Some, IsTrue}
-use Rattle.lvm_num.specs.declared.place.Place.{Place}
 use Rattle.lvm_num.specs.declared.place.Pp.{Pp}
 use Rattle.lvm_num.specs.declared.descriptor.Mode.TheVariants.{Active}
 use Rattle.lvm_num.specs.declared.descriptor.LvRow.{LvRow}
@@ -8,20 +7,16 @@ use Rattle.lvm_num.specs.declared.descriptor.Descriptor.{Descriptor}
 use Rattle.lvm_num.specs.declared.status.Status.{Status}
 use Rattle.lvm_num.specs.Buffer.{Sector}
 use Rattle.lvm_num.specs.Disks.{Disks}
-use Rattle.lvm_num.specs.Geometry.{sector_of}
 use Rattle.lvm_num.specs.Descriptor.{IsValid}
 use Rattle.lvm_num.specs.Record.{Stamped}
 use Rattle.lvm_disk.specs.Device.{Media, Device, image_of}
 use Rattle.lvm_kept.specs.Contents.{Contents, contents_of}
 use Rattle.lvm_kept.specs.Group.{fresh_on, is_named, IsBlockOf, IsOneOf}
 use Rattle.lvm_kept.specs.Plans.{ChangesBy}
+use Rattle.lvm_map.specs.Places.{place_on}
 use Rattle.lvm_recover.specs.Recopied.{IsFromFirst, AreNamedEqualled}
 use Rattle.lvm_recovery.specs.declared.copying.Recopy.{Recopy}
 use Rattle.lvm_recovery.specs.Copying.{IsOfCopies, IsCopied, AreApart}
-
--- where a block of a volume stands on a copy
-abbrev pub place_on : ℕ → Pp → ℕ → Place
-place_on mib p block = record { disk = p.disk; sector = sector_of mib p.pp block }
 
 -- a member that is there names the track group of the volume
 abbrev pub IsNamedByOne : Contents → Disks → ℕ → ℕ → Type 0

@@ -12,7 +12,7 @@ use lvm_transfer::{Moved, Patience, transfer};
 const RUN: u32 = 256;
 
 /// 256 sectors that are to be copied, and where to.
-#[derive(Clone, Copy, Debug, PartialEq, Eq)]
+#[derive(Clone, Copy)]
 pub struct Recopy {
     pub from: Place,
     pub into: Place,

@@ -1,4 +1,4 @@
-mod Filled
-mod Rows
-mod Names
+mod BlocksLemmas
+mod RefusalsLemmas
+mod NameLemmas
 mod Digits

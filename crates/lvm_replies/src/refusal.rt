@@ -11,7 +11,7 @@ use std::fmt;
 const LINE: usize = 32;
 
 /// What a refusal carries.
-#[derive(Clone, Copy, Debug, PartialEq, Eq, Drop)]
+#[derive(Clone, Copy, Drop)]
 pub enum Carried {
     Nothing,
     /// A column, a moment, a count of blocks, partitions, copies or open requests, or a limit.
@@ -25,7 +25,7 @@ pub enum Carried {
 }
 
 /// Why a command was not carried out, or how it failed: a number, which has a name, and what it carries.
-#[derive(Clone, Copy, Debug, PartialEq, Eq, Drop)]
+#[derive(Clone, Copy, Drop)]
 pub struct Refusal {
     /// 1 to 32.
     pub number: u8,

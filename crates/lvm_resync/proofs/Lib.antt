@@ -1,12 +1,5 @@
-pub mod Turning
-pub mod Standing
-pub mod Open
-pub mod Bringing
-pub mod Refusing
-pub mod Judging
-pub mod Making
-pub mod Staying
-pub mod Passing
-pub mod Passed
-pub mod Asking
-pub mod Causing
+pub mod TurningLemmas
+pub mod PassingLemmas
+pub mod CallsLemmas
+pub mod SyncingLemmas
+pub mod CausesLemmas

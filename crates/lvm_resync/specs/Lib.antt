@@ -1,4 +1,4 @@
-pub mod handed
+pub mod passed
 pub mod Turning
 pub mod Passing
 pub mod Syncing

@@ -2,8 +2,7 @@
 ghost use Rattle.std.specs.Prelude.{◌≡◌, true, false, IfOk};
 ghost use Rattle.lvm_session.specs.declared.open.Power.TheVariants as power;
 ghost use Rattle.lvm_session.specs.Judging.{is_stale};
-ghost use Rattle.lvm_session.specs.State.{Core};
-ghost use Rattle.lvm_ranges.specs.handed.Names.{state_of};
+ghost use Rattle.lvm_session.specs.State.{Core, state_of};
 ghost use Rattle.lvm_resync.specs.Passing.{BringsUp, HasEnded, IsAnsweredBy, IsJustOpened, IsPassedBy, JudgesCopy, MayPass, MayRefuse, PassesOrEnds, Runs, copy_of};
 ghost use Rattle.lvm_resync.specs.Turning.{GoesBeside};
 
@@ -11,7 +10,7 @@ use crate::fault::SyncFault;
 use crate::turns::make_turn;
 use lvm_disk::Shelf;
 use lvm_num::Pp;
-use lvm_ranges::lower::Driver;
+use lvm_ranges::below::Driver;
 use lvm_session::{CopyFault, CopyState};
 use lvm_transfer::Patience;
 

@@ -1,9 +1,9 @@
 //! Stale copies of a group that is on are brought up beside its requests.
 #![tactic(auto)]
 
+pub mod below;
 mod copies;
 mod fault;
-pub mod lower;
 mod passes;
 mod sync;
 mod tally;

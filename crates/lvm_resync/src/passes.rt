@@ -2,36 +2,24 @@
 ghost use Rattle.std.specs.Prelude.{◌≡◌, ◌<◌, Some, None, length, slice_get};
 ghost use Rattle.std.specs.Option.{option_map, option_map_or};
 ghost use Rattle.lvm_num.specs.declared.descriptor.LvRow.{LvRow};
-ghost use Rattle.lvm_num.specs.Descriptor.{IsValid, volume_of};
+ghost use Rattle.lvm_num.specs.Descriptor.{volume_of};
 ghost use Rattle.lvm_session.specs.declared.open.Power.TheVariants as power;
 ghost use Rattle.lvm_session.specs.Judging.{copies_in};
-ghost use Rattle.lvm_ranges.specs.handed.Names.{state_of};
+ghost use Rattle.lvm_session.specs.State.{state_of};
 ghost use Rattle.lvm_resync.specs.Syncing.{PassesAll, copies_at, copy_in, group_copies, partition_copies, volume_copies};
 ghost use Rattle.lvm_resync.specs.Turning.{GoesBeside};
 
 use crate::copies::pass_copy;
 use crate::fault::SyncFault;
 use crate::tally::Tally;
-use lvm_copies::volume_of;
+use lvm_copies::copies_in;
 use lvm_disk::Shelf;
-use lvm_num::{Descriptor, Pp, copies_of};
-use lvm_ranges::lower::Driver;
+use lvm_num::{Pp, volume_of};
+use lvm_ranges::below::Driver;
 use lvm_transfer::Patience;
 
 // The most copies of a logical partition.
 const COPIES: u8 = 3;
-
-// The copies of a logical partition of a volume.
-fn copies_in(d: &Descriptor, lv: u16, lp: u32) -> &[Pp]
-    requires valid { IsValid d.now }
-    requires within { (row : LvRow) → volume_of d.now lv ≡ Some row → lp < row.lps }
-    ensures { result.now ≡ copies_in d.now lv lp }
-{
-    match volume_of(d, lv) {
-        None => &[],
-        Some(row) => copies_of(row, lp),
-    }
-}
 
 // The partition of a copy, by its place from 0.
 fn pp_at<S: Shelf>(driver: &Driver<S>, lv: u16, lp: u32, place: u8) -> Option<Pp>

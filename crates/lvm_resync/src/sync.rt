@@ -1,7 +1,7 @@
 //! Copies are brought up.
 ghost use Rattle.std.specs.Prelude.{◌≡◌, IfErr, is_some};
 ghost use Rattle.lvm_session.specs.declared.open.Power.TheVariants as power;
-ghost use Rattle.lvm_ranges.specs.handed.Names.{state_of};
+ghost use Rattle.lvm_session.specs.State.{state_of};
 ghost use Rattle.lvm_resync.specs.Causes.{SyncCause};
 ghost use Rattle.lvm_resync.specs.Syncing.{IsAnswer, SyncGives, fault_by, fault_on, group_copies, group_fault, no_tally, numbers_fault, partition_copies, partition_fault, volume_copies, volume_fault};
 ghost use Rattle.lvm_resync.specs.Turning.{GoesBeside};
@@ -9,9 +9,9 @@ ghost use Rattle.lvm_resync.specs.Turning.{GoesBeside};
 use crate::fault::SyncFault;
 use crate::passes::{pass_group, pass_partition, pass_volume};
 use crate::tally::Tally;
-use lvm_copies::volume_of;
 use lvm_disk::Shelf;
-use lvm_ranges::lower::Driver;
+use lvm_num::volume_of;
+use lvm_ranges::below::Driver;
 use lvm_session::{CopyState, Power};
 use lvm_transfer::Patience;
 

@@ -1,12 +1,12 @@
 //! Turns beside which copies are brought up.
 ghost use Rattle.std.specs.Prelude.{◌≡◌, None};
 ghost use Rattle.lvm_session.specs.declared.open.Power.TheVariants as power;
-ghost use Rattle.lvm_ranges.specs.handed.Names.{state_of};
+ghost use Rattle.lvm_session.specs.State.{state_of};
 ghost use Rattle.lvm_resync.specs.Turning.{GoesBeside, IsUnderWay, TurnEnds};
 
 use crate::fault::SyncFault;
 use lvm_disk::Shelf;
-use lvm_ranges::lower::Driver;
+use lvm_ranges::below::Driver;
 use lvm_session::Turned;
 use lvm_transfer::Patience;
 

@@ -1,6 +1,3 @@
-pub mod handed
-pub mod Shapes
-pub mod Shelves
-pub mod Running
-pub mod Turning
-pub mod Calls
+pub mod passed
+pub mod RunningLemmas
+pub mod LawsLemmas

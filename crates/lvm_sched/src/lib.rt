@@ -1,7 +1,7 @@
 //! In which order the policies of a volume read its copies and write its targets.
 #![tactic(auto)]
 
-pub mod lower;
+pub mod below;
 mod reads;
 mod writes;
 

@@ -6,7 +6,7 @@ ghost use Rattle.lvm_sched.specs.Writes.{is_waiting, is_flying, next_target};
 use lvm_num::Policy;
 
 /// How far the write of one copy is.
-#[derive(Clone, Copy, Debug, PartialEq, Eq)]
+#[derive(Clone, Copy)]
 pub enum TargetState {
     /// Not started.
     Waiting,

@@ -1,14 +1,9 @@
-pub mod handed
+pub mod passed
 pub mod RoomsLemmas
 pub mod Small
-pub mod Statuses
-pub mod Parts
-pub mod Requests
-pub mod While
-mod Whole
-mod Flying
-mod BroughtUp
-mod Worked
-mod Waiting
-mod Busy
-pub mod Numbers
+pub mod EnabledLemmas
+pub mod WorkedLemmas
+pub mod RequestsLemmas
+pub mod SoundLemmas
+mod BusyLemmas
+pub mod EventsLemmas

@@ -1,6 +1,6 @@
 -- What is never so.
 use Rattle.std.proofs.Common.{◌≡◌, Bool, true, false, ◌||◌, Some, None, ap, arith}
-use Rattle.lvm_kept.specs.handed.Names.{Rose}
+use Rattle.lvm_kept.specs.passed.Names.{Rose}
 
 pub not_so : {X : Type 0} → false ≡ true → X
 not_so e = absurd cc

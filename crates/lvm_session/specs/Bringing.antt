@@ -6,8 +6,8 @@ use Rattle.lvm_num.specs.declared.place.Pp.{Pp}
 use Rattle.lvm_num.specs.Disks.{has}
 use Rattle.lvm_num.specs.Geometry.{partition_blocks, track_group_of}
 use Rattle.lvm_num.specs.Status.{calls_stale}
-use Rattle.lvm_kept.specs.handed.Names.{next_id}
-use Rattle.lvm_status.specs.handed.Names.{is_pp}
+use Rattle.lvm_kept.specs.passed.Names.{next_id}
+use Rattle.lvm_num.specs.Descriptor.{is_pp}
 use Rattle.lvm_hold.specs.declared.queue.Held.{Held}
 use Rattle.lvm_hold.specs.declared.queue.Row.{Row}
 use Rattle.lvm_hold.specs.Waiting.{without}

@@ -6,12 +6,11 @@ use Rattle.lvm_num.specs.declared.place.Pp.{Pp}
 use Rattle.lvm_num.specs.declared.descriptor.LvRow.{LvRow}
 use Rattle.lvm_num.specs.declared.descriptor.Policy.TheVariants as policy
 use Rattle.lvm_num.specs.Disks.{has}
-use Rattle.lvm_num.specs.Descriptor.{copies_of, volume_of}
+use Rattle.lvm_num.specs.Descriptor.{copies_of, volume_of, is_pp}
 use Rattle.lvm_num.specs.Geometry.{volume_blocks}
-use Rattle.lvm_kept.specs.handed.Names.{Counts, Outcome, Begun, with_fact, next_id, next_request, taken_fact, spare_entries, spare_bytes, blocks_begun}
-use Rattle.lvm_kept.specs.handed.VolEntryVol.{Lv}
-use Rattle.lvm_kept.specs.handed.VolEntryOutcome as outcome
-use Rattle.lvm_status.specs.handed.Names.{is_pp}
+use Rattle.lvm_kept.specs.passed.Names.{Counts, Outcome, Begun, with_fact, next_id, next_request, taken_fact, spare_entries, spare_bytes, blocks_begun}
+use Rattle.lvm_kept.specs.passed.VolEntryVol.{Lv}
+use Rattle.lvm_kept.specs.passed.VolEntryOutcome as outcome
 use Rattle.lvm_path.specs.declared.ask.Ask.{Ask}
 use Rattle.lvm_path.specs.declared.request.Phase.TheVariants as phase
 use Rattle.lvm_path.specs.Asks.{lv_of, at_of, count_of}

@@ -5,10 +5,10 @@ use Rattle.lvm_num.specs.declared.place.Pp.{Pp}
 use Rattle.lvm_num.specs.Disks.{has}
 use Rattle.lvm_num.specs.Status.{calls_stale, calls_missing}
 use Rattle.lvm_num.specs.Votes.{votes_in, is_enough_to_write}
-use Rattle.lvm_status.specs.handed.Names.{is_pp}
+use Rattle.lvm_num.specs.Descriptor.{is_pp}
 use Rattle.lvm_status.specs.Update.{members_there}
-use Rattle.lvm_kept.specs.handed.Names.{Rose, Device, Outcome}
-use Rattle.lvm_kept.specs.handed.VolEntryOutcome as outcome
+use Rattle.lvm_kept.specs.passed.Names.{Rose, Device, Outcome}
+use Rattle.lvm_kept.specs.passed.VolEntryOutcome as outcome
 use Rattle.lvm_path.specs.declared.target.Target.{Target}
 use Rattle.lvm_path.specs.Asks.{is_write}
 use Rattle.lvm_path.specs.Targets.{is_failed}

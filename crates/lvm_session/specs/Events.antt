@@ -6,7 +6,7 @@ use Rattle.lvm_num.specs.Disks.{IsLowest}
 use Rattle.lvm_num.specs.declared.place.Pp.{Pp}
 use Rattle.lvm_num.specs.declared.record.Kind.TheVariants as kind
 use Rattle.lvm_num.specs.declared.descriptor.Mode.{Mode}
-use Rattle.lvm_num.specs.declared.descriptor.Mode.TheVariants as mode
+use Rattle.lvm_num.specs.Modes.{is_passive}
 use Rattle.lvm_num.specs.Status.{calls_dirty}
 use Rattle.lvm_num.specs.declared.descriptor.Policy.{Policy}
 use Rattle.lvm_num.specs.declared.status.Status.{Status}
@@ -14,10 +14,10 @@ use Rattle.lvm_num.specs.Geometry.{sector_of}
 use Rattle.lvm_num.specs.Note.{note_bytes}
 use Rattle.lvm_num.specs.Record.{frame, record_sectors, slot_start}
 use Rattle.lvm_num.specs.StatusBytes.{status_bytes}
-use Rattle.lvm_kept.specs.handed.Names.{Flight, Starts, Outcome, Landed, with_fact, request_of, next_slot}
+use Rattle.lvm_kept.specs.passed.Names.{Flight, Starts, Outcome, Landed, with_fact, request_of, next_slot}
 use Rattle.lvm_pbuf.specs.Out.{TakesLowest}
 use Rattle.lvm_hold.specs.Waiting.{without}
-use Rattle.lvm_path.specs.handed.Names.{IsReadOrder}
+use Rattle.lvm_path.specs.passed.Names.{IsReadOrder}
 use Rattle.lvm_mwc.specs.Entries.{note_of}
 use Rattle.lvm_mwc.specs.Cache.{Cached, after_pin, after_unpin, after_start}
 use Rattle.lvm_status.specs.Update.{Stored, seen, MayStart}
@@ -27,7 +27,7 @@ use Rattle.lvm_path.specs.declared.facts.Next.TheVariants as next
 use Rattle.lvm_path.specs.declared.ask.Ask.{Ask}
 use Rattle.lvm_path.specs.declared.request.Request.{Request}
 use Rattle.lvm_path.specs.declared.target.Target.{Target}
-use Rattle.lvm_path.specs.handed.SchedWritesTargetState as stage
+use Rattle.lvm_path.specs.passed.SchedWritesTargetState as stage
 use Rattle.lvm_path.specs.Asks.{lv_of, at_of, count_of, is_write}
 use Rattle.lvm_path.specs.Targets.{is_begun}
 use Rattle.lvm_path.specs.Next.{admitted, with_pin, with_start, with_landing}
@@ -121,12 +121,6 @@ last_after last lv (first ∷ rest) = slice_set last lv first
 -- it has its targets
 abbrev pub admitted_as : Policy → Mode → List Target → Open → Open
 admitted_as how m targets o = record o { request = admitted o.request how m targets; older = false }
-
--- the volume is passive
-abbrev pub is_passive : Mode → Bool
-is_passive mode.Active = false
-is_passive mode.Passive = true
-is_passive mode.Off = false
 
 -- A write goes to several copies of a passive volume that isn't wanted dirty yet.
 abbrev pub makes_dirty : Core → Ask → List Target → Bool

@@ -9,10 +9,9 @@ use Rattle.lvm_num.specs.declared.descriptor.Mode.TheVariants as mode
 use Rattle.lvm_num.specs.declared.descriptor.Policy.{Policy}
 use Rattle.lvm_num.specs.declared.descriptor.Policy.TheVariants as policy
 use Rattle.lvm_num.specs.declared.descriptor.Descriptor.{Descriptor}
-use Rattle.lvm_num.specs.Descriptor.{copies_of, volume_of}
+use Rattle.lvm_num.specs.Descriptor.{copies_of, volume_of, is_pp}
 use Rattle.lvm_num.specs.Geometry.{partition_blocks, partition_of, track_group_of, volume_blocks}
 use Rattle.lvm_num.specs.Status.{calls_stale, calls_missing, calls_dirty}
-use Rattle.lvm_status.specs.handed.Names.{is_pp}
 use Rattle.lvm_hold.specs.declared.queue.Held.{Held}
 use Rattle.lvm_hold.specs.Waiting.{is_blocked}
 use Rattle.lvm_mwc.specs.Cache.{is_named}

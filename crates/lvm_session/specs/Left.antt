@@ -6,10 +6,10 @@ use Rattle.lvm_num.specs.declared.place.Pp.{Pp}
 use Rattle.lvm_num.specs.declared.descriptor.PvRow.{PvRow}
 use Rattle.lvm_num.specs.declared.descriptor.LvRow.{LvRow}
 use Rattle.lvm_num.specs.Status.{calls_dirty}
-use Rattle.lvm_status.specs.handed.Names.{is_pp}
+use Rattle.lvm_num.specs.Descriptor.{is_pp}
 use Rattle.lvm_num.specs.declared.status.Status.{Status}
 use Rattle.lvm_num.specs.Disks.{has}
-use Rattle.lvm_path.specs.handed.Names.{is_waiting as is_unstarted}
+use Rattle.lvm_path.specs.passed.Names.{is_waiting as is_unstarted}
 use Rattle.lvm_mwc.specs.Cache.{flight_names, is_named}
 use Rattle.lvm_path.specs.declared.ask.Ask.{Ask}
 use Rattle.lvm_path.specs.declared.request.Phase.{Phase}
@@ -28,7 +28,7 @@ use Rattle.lvm_session.specs.State.{Core, is_there}
 use Rattle.lvm_session.specs.Judging.{is_waiting, copies_in, copies_for, group_of, mode_of, is_usable, is_settled, is_missing, is_changed, is_running}
 use Rattle.lvm_session.specs.Bringing.{groups_of, is_whole}
 use Rattle.lvm_session.specs.Enabled.{is_lost, same_status}
-use Rattle.lvm_session.specs.Events.{is_passive}
+use Rattle.lvm_num.specs.Modes.{is_passive}
 
 -- an update's writes, each with its start and its end, on at most 128 members
 abbrev pub update_work : ℕ

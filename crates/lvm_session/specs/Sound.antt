@@ -5,11 +5,10 @@ use Rattle.std.specs.Option.{option_map_or}
 use Rattle.lvm_num.specs.Buffer.{Buffer}
 use Rattle.lvm_num.specs.declared.place.Pp.{Pp}
 use Rattle.lvm_num.specs.declared.descriptor.LvRow.{LvRow}
-use Rattle.lvm_num.specs.Descriptor.{IsValid, is_member, volume_of}
+use Rattle.lvm_num.specs.Descriptor.{IsValid, is_member, volume_of, is_pp}
 use Rattle.lvm_num.specs.Disks.{has}
-use Rattle.lvm_status.specs.handed.Names.{is_pp}
-use Rattle.lvm_kept.specs.handed.Names.{Device, Flight, Request as Asked, Fact, Making, Made, Split, Removing, Removed, Begun, Landed, Taken, Cut, On, begun, Outcome, asked, next_id, is_open, lands_id, is_answered, Ordered}
-use Rattle.lvm_kept.specs.handed.VolEntryVol.{Lv}
+use Rattle.lvm_kept.specs.passed.Names.{Device, Flight, Request as Asked, Fact, Making, Made, Split, Removing, Removed, Begun, Landed, Taken, Cut, On, begun, Outcome, asked, next_id, is_open, lands_id, is_answered, Ordered}
+use Rattle.lvm_kept.specs.passed.VolEntryVol.{Lv}
 use Rattle.lvm_hold.specs.declared.queue.Row.{Row}
 use Rattle.lvm_mwc.specs.Entries.{AreEntries, pins_of}
 use Rattle.lvm_mwc.specs.Cache.{has_disk}
@@ -251,8 +250,8 @@ pub record IsOver (s : State) : Type 0 where
   pub flights : s.device.flights ≡ []
   pub flying : s.core.flying ≡ []
 
--- a session that is stuck is asked for neither requests nor copies
-pub record IsStuck (core : Core) : Type 0 where
+-- neither a request nor a copy is open
+pub record HasNoneOpen (core : Core) : Type 0 where
   pub requests : core.requests ≡ []
   pub copy : core.copy ≡ None
 
@@ -271,7 +270,8 @@ pub record IsSound (s : State) : Type 0 where
   -- it is off where the members that aren't missing have too few votes to write
   pub off : s.core.power ≡ power.Off → is_lost s.core ≡ true
   pub over : is_over s.core.power ≡ true → IsOver s
-  pub stuck : s.core.power ≡ power.Stuck → IsStuck s.core
+  -- a session that is stuck is asked for neither requests nor copies
+  pub stuck : s.core.power ≡ power.Stuck → HasNoneOpen s.core
   -- why each request that has landed did so, why the copy ended, and why disks are missing and copies stale
   pub counted : AllByRecursion (AreCounted s) s.core.requests
   pub answered : AllByRecursion (IsAnswered s) s.core.requests

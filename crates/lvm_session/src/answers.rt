@@ -19,7 +19,7 @@ pub enum AskFault {
 }
 
 /// What a turn made.
-#[derive(Clone, Copy, Debug, PartialEq, Eq)]
+#[derive(Clone, Copy, PartialEq, Eq)]
 pub enum Turned {
     /// One event.
     Moved,
@@ -32,7 +32,7 @@ pub enum Turned {
 }
 
 /// The answer of a request.
-#[derive(Clone, Copy, Debug, PartialEq, Eq)]
+#[derive(Clone, Copy, PartialEq, Eq)]
 pub enum Taken {
     /// The blocks of the write stood on each fresh copy when it landed.
     Done,
@@ -55,7 +55,7 @@ pub enum Taken {
 }
 
 /// Why a copy isn't brought up, in this order.
-#[derive(Clone, Copy, Debug, PartialEq, Eq)]
+#[derive(Clone, Copy, PartialEq, Eq)]
 pub enum CopyFault {
     /// The power was cut.
     Dark,
@@ -78,7 +78,7 @@ pub enum CopyFault {
 }
 
 /// How far the copy is that is open.
-#[derive(Clone, Copy, Debug, PartialEq, Eq)]
+#[derive(Clone, Copy, PartialEq, Eq)]
 pub enum CopyState {
     /// No copy is open.
     Closed,

@@ -16,7 +16,7 @@ pub enum Step {
 }
 
 /// How it ended.
-#[derive(Clone, Copy, Debug, PartialEq, Eq)]
+#[derive(Clone, Copy)]
 pub enum CopyEnd {
     /// It is fresh.
     Done,

@@ -1,9 +1,9 @@
 //! The events that a turn may make.
 
-use lvm_kept::lower::Outcome;
+use lvm_kept::below::Outcome;
 
 /// An event of a turn. A place is that of a request in the table, from 0.
-#[derive(Clone, Copy, Debug, PartialEq, Eq)]
+#[derive(Clone, Copy)]
 pub enum Event {
     /// The request lands with this outcome.
     Land { place: usize, outcome: Outcome },

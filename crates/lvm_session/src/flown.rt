@@ -1,7 +1,7 @@
 //! Whose the transfers are that are out.
 
 /// What a transfer is for.
-#[derive(Clone, Copy, Debug, PartialEq, Eq)]
+#[derive(Clone, Copy)]
 pub enum Owner {
     /// The target at this place, from 0, of the request of this number.
     Data { id: u64, target: u8 },
@@ -14,7 +14,7 @@ pub enum Owner {
 }
 
 /// A transfer that is out.
-#[derive(Clone, Copy, Debug, PartialEq, Eq)]
+#[derive(Clone, Copy)]
 pub struct Flown {
     /// The number that the shelf gave it.
     pub ticket: u64,

@@ -4,11 +4,11 @@
 #![tactic(auto)]
 
 mod answers;
+pub mod below;
 mod bringing;
 mod event;
 mod flown;
 mod laws;
-pub mod lower;
 mod open;
 mod origin;
 mod session;

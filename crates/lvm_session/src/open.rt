@@ -1,6 +1,6 @@
 //! The requests that a session has open, and whether it goes on.
 
-use lvm_kept::lower::Outcome;
+use lvm_kept::below::Outcome;
 use lvm_num::Pbuf;
 use lvm_path::Request;
 
@@ -19,7 +19,7 @@ pub struct Open {
 }
 
 /// Whether a session goes on.
-#[derive(Clone, Copy, Debug, PartialEq, Eq)]
+#[derive(Clone, Copy)]
 pub enum Power {
     /// It does.
     On,

@@ -1,6 +1,6 @@
 //! How a session began.
 
-use lvm_status::lower::StaleTable;
+use lvm_status::below::StaleTable;
 
 /// What there was already when a session began, so that it tells of no fault in it.
 #[derive(Drop)]

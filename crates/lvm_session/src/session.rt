@@ -6,7 +6,7 @@ use crate::open::{Open, Power};
 use crate::origin::Origin;
 use lvm_history::History;
 use lvm_hold::Queue;
-use lvm_kept::lower::Homes;
+use lvm_kept::below::Homes;
 use lvm_mwc::Cache;
 use lvm_num::Descriptor;
 use lvm_pbuf::Pool;

@@ -1,2 +1,2 @@
-pub mod handed
-pub mod Beginning
+pub mod passed
+pub mod EntriesLemmas

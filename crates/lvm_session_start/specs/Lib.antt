@@ -1,3 +1,3 @@
-pub mod handed
+pub mod passed
 pub mod Parts
 pub mod Beginning

@@ -1,13 +1,13 @@
 //! A session begins with its parts.
 ghost use Rattle.std.specs.Prelude.{◌≡◌, ◌≤◌, vec_capacity};
 ghost use Rattle.lvm_vol.specs.Log.{spare_entries};
-ghost use Rattle.lvm_keeps.specs.handed.Names.{core_of, HasRooms, state, IsSound};
+ghost use Rattle.lvm_keeps.specs.passed.Names.{core_of, HasRooms, state, IsSound};
 ghost use Rattle.lvm_session_start.specs.Beginning.{AreFaults, MayBegin, first_core, with_parts};
 ghost use Rattle.lvm_session_start.specs.Parts.{IsReserved};
 
 use crate::parts::Parts;
 use lvm_disk::Shelf;
-use lvm_keeps::lower::{History, Homes, Origin, Power, Session};
+use lvm_keeps::below::{History, Homes, Origin, Power, Session};
 use lvm_num::Stamp;
 use lvm_vol::Entry;
 

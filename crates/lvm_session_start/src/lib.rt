@@ -2,7 +2,7 @@
 #![tactic(auto)]
 
 mod begin;
-pub mod lower;
+pub mod below;
 mod parts;
 
 pub use begin::{begin_session, first_session};

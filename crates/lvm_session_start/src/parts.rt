@@ -8,18 +8,18 @@ ghost use Rattle.lvm_status.specs.Update.{seen};
 ghost use Rattle.lvm_session_start.specs.Parts.{IsEmptyCache, IsOneGroup, IsReserved, IsSessionRoom};
 
 use lvm_hold::Queue;
-use lvm_keeps::lower::{Flown, Open, Pool};
+use lvm_keeps::below::{Flown, Open, Pool};
 use lvm_mwc::Cache;
 use lvm_num::{Descriptor, DiskSet, Memory, Status};
 use lvm_status::Updater;
-use lvm_status::lower::StaleTable;
+use lvm_status::below::StaleTable;
 use std::alloc::Global;
 
 // The bytes of 256 blocks, which are more than those of any status.
 const BLOCK_BYTES: usize = 131_072;
 
 /// How much a session has room for.
-#[derive(Clone, Copy, Debug, PartialEq, Eq)]
+#[derive(Clone, Copy)]
 pub struct Room {
     /// Open requests, 1 to 1,024.
     pub table: u32,

@@ -1,3 +1,3 @@
-mod Turning
-mod Finishing
-pub mod Cutting
+mod TakingLemmas
+mod TurnsLemmas
+pub mod HandsLemmas

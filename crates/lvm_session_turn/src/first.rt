@@ -7,16 +7,16 @@ ghost use Rattle.lvm_session.specs.Fields.{core_of};
 ghost use Rattle.lvm_session.specs.Rooms.{HasRooms, SameRooms};
 ghost use Rattle.lvm_session.specs.State.{state};
 ghost use Rattle.lvm_session.specs.Sound.{IsGoing, IsSound};
-ghost use Rattle.lvm_moves.specs.handed.Names.{IsDue};
-ghost use Rattle.lvm_starts.specs.handed.Names.{StartGives};
+ghost use Rattle.lvm_moves.specs.passed.Names.{IsDue};
+ghost use Rattle.lvm_starts.specs.passed.Names.{StartGives};
 ghost use Rattle.lvm_starts.specs.Starts.{CanStart, StartsFirst};
 ghost use Rattle.lvm_session_turn.specs.Taking.{FirstMakes};
 
 use lvm_disk::Shelf;
-use lvm_moves::lower::{Due, is_lost};
+use lvm_moves::below::{Due, is_lost};
 use lvm_moves::{land_first, move_first};
 use lvm_session::{Event, Session, Turned};
-use lvm_starts::lower::first_start;
+use lvm_starts::below::first_start;
 use lvm_starts::make_start;
 
 // The transfer of an event that starts one is.

@@ -1,9 +1,9 @@
 //! One turn of a session, and orders to its shelf between turns.
 #![tactic(auto)]
 
+pub mod below;
 mod ending;
 mod first;
-pub mod lower;
 mod orders;
 mod turns;
 

@@ -4,31 +4,12 @@ ghost use Rattle.lvm_disk.specs.Steps.{MayArrange};
 ghost use Rattle.lvm_session.specs.Fields.{core_of};
 ghost use Rattle.lvm_session.specs.Rooms.{SameRooms};
 ghost use Rattle.lvm_session.specs.State.{state};
-ghost use Rattle.lvm_session.specs.Dark.{after_arrange, is_cut};
 ghost use Rattle.lvm_session.specs.Turns.{ArrangesSession};
-ghost use Rattle.lvm_starts.specs.handed.Names.{MayEnd};
 ghost use Rattle.lvm_session.specs.Sound.{IsSound};
 
 use lvm_disk::{Arrange, Shelf};
 use lvm_session::Session;
-use lvm_starts::lower::darken;
-
-fn is_cut(what: Arrange) -> bool
-    ensures { result ≡ is_cut what }
-{
-    matches!(what, Arrange::Cut(_))
-}
-
-// A power cut that is arranged ends the session.
-fn follow(session: &mut Session, what: Arrange, done: bool)
-    requires { MayEnd (core_of session.old) }
-    ensures core { core_of session.new ≡ after_arrange what done (core_of session.old) }
-    ensures rooms { SameRooms session.old session.new }
-{
-    if done && is_cut(what) {
-        darken(session);
-    }
-}
+use lvm_starts::below::arranged;
 
 /// The shelf is given an order: a disk fails or heals, or the power is cut, which ends the session. Answers whether
 /// the shelf takes such orders; one that doesn't changes nothing.
@@ -39,6 +20,6 @@ pub fn arrange<S: Shelf>(session: &mut Session, shelf: &mut S, what: Arrange) ->
     ensures rooms { SameRooms session.old session.new }
 {
     let done = shelf.arrange(what);
-    follow(session, what, done);
+    arranged(session, what, done);
     done
 }

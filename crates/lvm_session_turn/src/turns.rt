@@ -6,12 +6,12 @@ ghost use Rattle.lvm_session.specs.Rooms.{HasRooms, SameRooms};
 ghost use Rattle.lvm_session.specs.State.{state};
 ghost use Rattle.lvm_session.specs.Turns.{OnMakes, TurnMakes};
 ghost use Rattle.lvm_session.specs.Sound.{IsSound};
-ghost use Rattle.lvm_moves.specs.handed.Names.{IsDue};
+ghost use Rattle.lvm_moves.specs.passed.Names.{IsDue};
 
 use crate::ending::finish;
 use crate::first::make_first;
 use lvm_disk::Shelf;
-use lvm_moves::lower::Due;
+use lvm_moves::below::Due;
 use lvm_session::{Power, Session, Turned};
 
 // Of a session that goes on.

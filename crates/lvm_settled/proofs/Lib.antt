@@ -1,4 +1,3 @@
-pub mod handed
-pub mod Settled
-pub mod Examples
-pub mod Notes
+pub mod passed
+pub mod SettledLemmas
+pub mod ExamplesLemmas

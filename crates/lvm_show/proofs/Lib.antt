@@ -1,4 +1,4 @@
 pub mod Appending
 pub mod Found
-mod FreeCount
-mod Counting
+mod FirstFitLemmas
+mod DescriptorLemmas

@@ -8,7 +8,7 @@ use Rattle.lvm_num.specs.declared.status.Status.{Status}
 use Rattle.lvm_num.specs.Descriptor.{partitions_used}
 use Rattle.lvm_num.specs.Status.{calls_stale, calls_missing}
 use Rattle.lvm_num.specs.Votes.{total_votes}
-use Rattle.lvm_map.specs.FirstFit.{free_of, is_on}
+use Rattle.lvm_map.specs.FirstFit.{free_of, has_partition_on}
 
 -- the partitions of all members, missing ones and spares too
 abbrev pub all_partitions : Descriptor → ℕ
@@ -38,7 +38,7 @@ missing_members d s = count_by (λ (row : PvRow). calls_missing s row.disk) d.pv
 
 -- the members that carry a copy of a volume
 abbrev pub carriers : Descriptor → LvRow → ℕ
-carriers d row = count_by (λ (member : PvRow). is_on row.map member.disk) d.pvs
+carriers d row = count_by (λ (member : PvRow). has_partition_on row.map member.disk) d.pvs
 
 -- the votes with which the group stays on: more than half, or one where quorum checking is off
 abbrev pub quorum_votes : Descriptor → ℕ

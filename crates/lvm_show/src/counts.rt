@@ -3,10 +3,10 @@ ghost use Rattle.std.specs.Prelude.{◌≡◌, ◌==◌, ◌&&◌, ◌≤◌, co
 ghost use Rattle.lvm_num.specs.declared.place.Pp.{Pp};
 ghost use Rattle.lvm_num.specs.Descriptor.{IsValid, partitions_used};
 ghost use Rattle.lvm_num.specs.Status.{calls_stale};
-ghost use Rattle.lvm_map.specs.FirstFit.{is_on};
+ghost use Rattle.lvm_map.specs.FirstFit.{has_partition_on};
 ghost use Rattle.lvm_show.specs.Counts.{all_partitions, free_on, all_free, all_stale, stale_on, stale_in, missing_members, carriers, quorum_votes};
 
-use lvm_num::{Descriptor, LvRow, Pp, PvRow, is_on};
+use lvm_num::{Descriptor, LvRow, Pp, PvRow, has_partition_on};
 use lvm_stale::StaleTable;
 
 /// The partitions of all members.
@@ -125,7 +125,7 @@ pub fn carriers(d: &Descriptor, row: &LvRow) -> u64
     d.pvs
         .as_slice()
         .iter()
-        .filter(|member| is_on(map, member.disk))
+        .filter(|member| has_partition_on(map, member.disk))
         .count() as u64
 }
 

@@ -5,7 +5,7 @@ ghost use Rattle.lvm_num.specs.declared.descriptor.LvRow.{LvRow};
 ghost use Rattle.lvm_num.specs.Descriptor.{IsValid, IsLaidOut, volume_of, copies_of};
 ghost use Rattle.lvm_show.specs.Listings.{copy_text, partition_line, map_text, volume_map_text};
 
-use lvm_num::{Descriptor, LvRow, Memory, Pp, Text, copies_of, volume_of};
+use lvm_num::{Descriptor, LvRow, Memory, Pp, Text, copies_of, volume_among};
 use lvm_replies::FourDigits;
 use lvm_stale::StaleTable;
 use std::alloc::{AllocError, Global};
@@ -17,7 +17,7 @@ pub fn show_map(alloc: Global, d: &Descriptor, t: &StaleTable, lv: u16) -> Resul
     requires there { IsSome (volume_of d.now lv) }
     ensures { IfOk result (λ text. text ≡ volume_map_text d.now t.now lv) }
 {
-    match volume_of(d.lvs.as_slice(), lv) {
+    match volume_among(d.lvs.as_slice(), lv) {
         Some(row) => Ok(Text::new(map_lines(alloc, t, row)?)),
         None => unreachable!(),
     }

@@ -3,7 +3,7 @@ use Rattle.std.specs.Prelude.{◌≡◌, ℕ}
 use Rattle.lvm_disk.specs.Device.{Device}
 use Rattle.lvm_vol.specs.Log.{Log}
 use Rattle.lvm_stage.specs.Moments.{GoesOn, Role}
-use Rattle.lvm_stage.specs.Stages.{IsFitting, shelf_in, history_in, state_in}
+use Rattle.lvm_stage.specs.Stages.{IsFittingStage, shelf_in, history_in, state_in}
 use Rattle.lvm_stage.specs.State.{ScriptState, without_facts}
 use Rattle.lvm_stage.specs.declared.reply.Reply.{Reply}
 use Rattle.lvm_stage.specs.declared.stage.Stage.{Stage}
@@ -18,7 +18,7 @@ pub record CommandEnds {S : Type 0} (device : S → Device) (Does : Log → Scri
   pub does : Does (without_facts (history_in old)) (state_in device old before) (state_in device new after) answer
   pub goes : GoesOn (history_in old).run role answer (state_in device old before) (state_in device new after)
   pub rooms : without_facts (history_in new) ≡ without_facts (history_in old)
-  pub fits : IsFitting new
+  pub fits : IsFittingStage new
   pub orders : (Orders → ⊥) → (device (shelf_in new)).orders ≡ (device (shelf_in old)).orders
 
 -- So it does at whatever moment the clock stands, which isn't asked.

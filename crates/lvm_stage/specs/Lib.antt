@@ -1,4 +1,3 @@
-pub mod handed
 pub mod passed
 pub mod Asking
 pub mod Ends

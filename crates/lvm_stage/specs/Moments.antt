@@ -4,9 +4,9 @@ use Rattle.lvm_disk.specs.Device.{Device, IsReady}
 use Rattle.lvm_kept.specs.Moments.{Moment}
 use Rattle.lvm_steps.specs.Moments.{Keeps}
 use Rattle.lvm_stamps.specs.Behind.{IsAhead}
-use Rattle.lvm_tie_copies.specs.handed.Names.{IsOneByAllOn}
-use Rattle.lvm_quiesce.specs.handed.Names.{IsHeld, EntersVolumes, IsSettled as IsSettledCore}
-use Rattle.lvm_session.specs.State.{Core, State as Session, state}
+use Rattle.lvm_tie_copies.specs.passed.Names.{IsOneByAllOn}
+use Rattle.lvm_quiesce.specs.passed.Names.{IsHeld, EntersVolumes, IsSettled as IsSettledCore}
+use Rattle.lvm_session.specs.State.{Core, State, state}
 use Rattle.lvm_disk.specs.Paths.{Path}
 use Rattle.lvm_tie_copies.specs.passed.Driver.{IsAny, IsTurn}
 use Rattle.lvm_stage.specs.State.{ScriptState, IsAtRest, IsBetween, IsTimely, StandsAlone, StandsBy}
@@ -28,7 +28,7 @@ IsBrokenOff other = ⊥
 pub data Role : Type 1 where
   Aside : Role
   OfGroup : Role
-  OfGroupWhere : (Session → Type 0) → Role
+  OfGroupWhere : (State → Type 0) → Role
   OfRequests : Role
 
 -- it acts on the session
@@ -46,8 +46,8 @@ IsRequesting (OfGroupWhere Holds) = ⊥
 IsRequesting OfRequests = Unit {0}
 
 -- this holds of each session to which turns may lead from the one that is on, once nothing is under way
-abbrev pub AtRestEach : (Session → Type 0) → ScriptState → Type 0
-AtRestEach Holds old = IfSome old.session (λ core. (mid : Session) → Path IsTurn IsAny (state old.moment.device core) mid → IsSettledCore mid.core → Holds mid)
+abbrev pub AtRestEach : (State → Type 0) → ScriptState → Type 0
+AtRestEach Holds old = IfSome old.session (λ core. (mid : State) → Path IsTurn IsAny (state old.moment.device core) mid → IsSettledCore mid.core → Holds mid)
 
 -- so does what its command asks for
 abbrev pub IsAllowed : Role → ScriptState → Type 0

@@ -11,7 +11,7 @@ use Rattle.lvm_session.specs.Dark.{after_arrange}
 use Rattle.lvm_session.specs.declared.open.Power.{Power}
 use Rattle.lvm_session.specs.declared.open.Power.TheVariants as power
 use Rattle.lvm_session.specs.State.{Core, votes_there}
-use Rattle.lvm_tie_copies.specs.handed.Names.{Post, ended_with}
+use Rattle.lvm_tie_copies.specs.passed.Names.{Post, ended_with}
 use Rattle.lvm_stage.specs.State.{ScriptState, IsBetween}
 use Rattle.lvm_stage.specs.Replies.{is_unheard}
 use Rattle.lvm_stage.specs.declared.holder.Holder.{Holder}
@@ -82,7 +82,7 @@ pub record HaveRooms (entries : ℕ) (posts : Vec Post) (bytes : Vec ℕ) : Type
   pub for_bytes : 131072 ≤ vec_capacity bytes
 
 -- Its session is of the kind that it says, its history has room for fewer entries than numbers of four bytes, and there is room for the posts and for a piece.
-pub record IsFitting {S : Type 0} (stage : Stage S) : Type 0 where
+pub record IsFittingStage {S : Type 0} (stage : Stage S) : Type 0 where
   pub kind : IsOfKind stage.holder
   pub few : (history_in stage).room < 2 ^ 32
   pub rooms : HaveRooms (history_in stage).room stage.posts stage.bytes

@@ -5,13 +5,13 @@ use Rattle.lvm_vol.specs.Facts.{Fact}
 pub use Rattle.lvm_vol.specs.Log.{log_with, without_facts}
 use Rattle.lvm_kept.specs.Moments.{Moment}
 use Rattle.lvm_steps.specs.Moments.{Begins}
-use Rattle.lvm_tie_copies.specs.handed.Names.{IsOneByAllOn, Post, IsLaidOut, AreAnswered, AreHeld}
+use Rattle.lvm_tie_copies.specs.passed.Names.{IsOneByAllOn, Post, IsLaidOut, AreAnswered, AreHeld}
 use Rattle.lvm_status.specs.Members.{HasItsRows}
 use Rattle.lvm_session.specs.declared.open.Power.TheVariants as power
 use Rattle.lvm_session.specs.State.{Core, state}
 use Rattle.lvm_session.specs.Sound.{IsLit, IsSound}
 use Rattle.lvm_tie_copies.specs.passed.Tie.{LeavesDescriptors, IsStamped}
-use Rattle.lvm_quiesce.specs.handed.Names.{HaveAllLanded, IsSettled as IsSettledCore}
+use Rattle.lvm_quiesce.specs.passed.Names.{HaveAllLanded, IsSettled as IsSettledCore}
 use Rattle.lvm_quiesce.specs.Behind.{IsAheadEach}
 use Rattle.lvm_tie_copies.specs.passed.Earlier.{AreGone}
 use Rattle.lvm_tie_copies.specs.passed.TieCommands.{StandsAfter}

@@ -1,10 +1,10 @@
 pub mod AskRangeFaultVariants
-pub mod DrainFaultVariants
 pub mod Driver
 pub mod Earlier
 pub mod Group
 pub mod Handover
 pub mod Mirrors
+pub mod Names
 pub mod Quiesce
 pub mod QuiescedVariants
 pub mod Ranges
@@ -14,4 +14,5 @@ pub mod Tie
 pub mod TieCommands
 pub mod TieCopies
 pub mod Varyon
+pub mod VolumePlanFaultGroupFault
 pub mod Volumes

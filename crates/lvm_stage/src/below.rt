@@ -7,3 +7,5 @@ pub mod mirrors;
 pub mod quiesce;
 pub mod ranges;
 pub mod volumes;
+
+pub use lvm_quiesce::below::Closed;

@@ -7,7 +7,7 @@ ghost use Rattle.lvm_stage.specs.Stages.{GivesBack, IsOfKind, IsOnIn, history_af
 
 use lvm_disk::{Arrange, Shelf};
 use lvm_history::History;
-use lvm_quiesce::lower::Closed;
+use lvm_quiesce::below::Closed;
 use lvm_session::Power;
 use lvm_tie_copies::below::driver;
 
@@ -21,7 +21,7 @@ pub enum Holder<S: Shelf> {
     },
     /// The session of a group without volumes. It takes commands on the group at once, since nothing is under way.
     Empty {
-        driver: lvm_quiesce::lower::Driver<S>,
+        driver: lvm_quiesce::below::Driver<S>,
     },
     /// The session of a group with volumes. It takes requests.
     Serving {

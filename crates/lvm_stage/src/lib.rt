@@ -3,12 +3,9 @@
 
 pub mod below;
 mod holder;
-mod looking;
-pub mod lower;
 mod reply;
 mod stage;
 
 pub use holder::Holder;
-pub use looking::number_of;
 pub use reply::{Refusal, Reply, memory_text, push_refusal_line, refusal_line};
 pub use stage::{Answered, Stage, take_rooms};

@@ -10,10 +10,10 @@ use crate::reply::{Refusal, Reply};
 use lvm_disk::Shelf;
 use lvm_history::History;
 use lvm_num::{Memory, Name};
-use lvm_quiesce::lower::Closed;
+use lvm_quiesce::below::Closed;
 use lvm_session::Power;
 use lvm_tie_copies::below::driver::{self, Driver};
-use lvm_tie_copies::lower::{Post, end_posts};
+use lvm_tie_copies::below::{Post, end_posts};
 use lvm_transfer::relight;
 use std::alloc::Global;
 

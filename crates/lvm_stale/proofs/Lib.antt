@@ -1,5 +1,4 @@
-pub mod Numbers
-pub mod Places
-pub mod Searches
-pub mod Volumes
-pub mod MarkLemmas
+pub mod passed
+pub mod RowsLemmas
+pub mod DescriptorLemmas
+pub mod MarkingLemmas

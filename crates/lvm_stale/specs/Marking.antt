@@ -42,8 +42,8 @@ pub record Marks (answering : Disks) (P : Pp → Type 0) (old new : Status) : Ty
   pub only : (p : Pp) → IsTrue (calls_stale new p) → IsTrue (calls_stale old p) ⊎ P p
   pub answered : (p : Pp) → IsTrue (answering p.disk) → calls_stale new p ≡ calls_stale old p
 
--- the partition may be marked: its disk has a row
-pub record IsMarkable (s : Status) (p : Pp) : Type 0 where
+-- the status has a mark for the partition: its disk has a row
+pub record HasMark (s : Status) (p : Pp) : Type 0 where
   pub disk : p.disk < 128
   pub partition : p.pp < 1016
   pub row : IsTrue (has_row s p.disk)

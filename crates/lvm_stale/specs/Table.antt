@@ -1,5 +1,5 @@
 -- What a stale table says, and what stays when it changes.
-use Rattle.std.specs.Prelude.{◌≡◌, ℕ, Bool, ◌&&◌, ◌==◌, map, unwrap_or, count_by}
+use Rattle.std.specs.Prelude.{◌≡◌, ℕ, Bool, ◌==◌, map, unwrap_or, count_by}
 use Rattle.std.specs.List.{list_any}
 use Rattle.std.specs.Option.{option_map}
 use Rattle.lvm_num.specs.declared.place.Pp.{Pp}
@@ -13,10 +13,6 @@ use Rattle.lvm_num.specs.Status.{calls_stale, calls_missing, IsValidStatus}
 -- whether the disk has a row
 abbrev pub has_row : Status → ℕ → Bool
 has_row s disk = list_any (λ (row : StatusRow). row.disk == disk) s.rows
-
--- whether it is this partition
-abbrev pub is_pp : Pp → Pp → Bool
-is_pp p q = p.disk == q.disk && p.pp == q.pp
 
 -- The group, its size and the disks that have rows stay, and the status is one that a record may state.
 pub record SameMembers (old new : Status) : Type 0 where

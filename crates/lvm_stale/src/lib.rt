@@ -2,7 +2,7 @@
 //! dirty, as a session keeps it; and which copies are left behind by the disks that don't answer.
 #![tactic(auto)]
 
-pub mod lower;
+pub mod below;
 mod mark;
 mod table;
 

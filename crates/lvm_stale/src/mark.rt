@@ -3,7 +3,7 @@ ghost use Rattle.std.specs.Prelude.{◌≡◌, All};
 ghost use Rattle.lvm_num.specs.Descriptor.{IsLaidOut, copies_of, partitions_in};
 ghost use Rattle.lvm_num.specs.Disks.{has};
 ghost use Rattle.lvm_num.specs.Status.{IsValidStatus};
-ghost use Rattle.lvm_stale.specs.Marking.{is_served, IsLeft, IsLeftBelow, IsLeftIn, Marks, IsMarkable};
+ghost use Rattle.lvm_stale.specs.Marking.{is_served, IsLeft, IsLeftBelow, IsLeftIn, Marks, HasMark};
 
 use crate::table::StaleTable;
 use lvm_num::{DiskSet, LvRow, Pp, copies_of};
@@ -13,7 +13,7 @@ use lvm_num::{DiskSet, LvRow, Pp, copies_of};
 pub fn mark_volumes(table: &mut StaleTable, volumes: &[LvRow], answering: DiskSet)
     requires valid { IsValidStatus table.old }
     requires laid_out { All IsLaidOut volumes.now }
-    requires markable { All (IsMarkable table.old) (partitions_in volumes.now) }
+    requires markable { All (HasMark table.old) (partitions_in volumes.now) }
     ensures { Marks (has answering) (IsLeftIn (has answering) table.old volumes.now) table.old table.new }
 {
     for volume in volumes {
@@ -24,7 +24,7 @@ pub fn mark_volumes(table: &mut StaleTable, volumes: &[LvRow], answering: DiskSe
 fn mark_volume(table: &mut StaleTable, volume: &LvRow, answering: DiskSet)
     requires valid { IsValidStatus table.old }
     requires laid_out { IsLaidOut volume.now }
-    requires markable { All (IsMarkable table.old) volume.now.map }
+    requires markable { All (HasMark table.old) volume.now.map }
     ensures { Marks (has answering) (IsLeftBelow (has answering) table.old volume.now volume.now.lps) table.old table.new }
 {
     for lp in 0..volume.lps {
@@ -34,7 +34,7 @@ fn mark_volume(table: &mut StaleTable, volume: &LvRow, answering: DiskSet)
 
 fn mark_copies(table: &mut StaleTable, copies: &[Pp], answering: DiskSet)
     requires valid { IsValidStatus table.old }
-    requires markable { All (IsMarkable table.old) copies.now }
+    requires markable { All (HasMark table.old) copies.now }
     ensures { Marks (has answering) (IsLeft (has answering) table.old copies.now) table.old table.new }
 {
     if is_served(table, copies, answering) {
@@ -48,7 +48,7 @@ fn mark_copies(table: &mut StaleTable, copies: &[Pp], answering: DiskSet)
 
 // Whether one of the copies is fresh on a disk that answers.
 fn is_served(table: &StaleTable, copies: &[Pp], answering: DiskSet) -> bool
-    requires markable { All (IsMarkable table.now) copies.now }
+    requires markable { All (HasMark table.now) copies.now }
     ensures { result ≡ is_served (has answering) table.now copies.now }
 {
     for pp in copies {

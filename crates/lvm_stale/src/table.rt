@@ -4,14 +4,14 @@ ghost use Rattle.std.specs.List.{list_any};
 ghost use Rattle.lvm_num.specs.declared.place.Pp.{Pp};
 ghost use Rattle.lvm_num.specs.declared.status.StatusRow.{StatusRow};
 ghost use Rattle.lvm_num.specs.Bits.{has_bit};
-ghost use Rattle.lvm_num.specs.Descriptor.{IsValid};
+ghost use Rattle.lvm_num.specs.Descriptor.{IsValid, is_pp};
 ghost use Rattle.lvm_num.specs.Status.{calls_stale, calls_missing, calls_dirty, IsValidStatus, AreDirty, IsVolumeNumber};
 ghost use Rattle.lvm_stale.specs.Rows.{IsRowAt, SetsAmong, with_row_at};
-ghost use Rattle.lvm_stale.specs.Table.{has_row, is_pp, SameMembers, SameStale, SameMissing, stale_count};
+ghost use Rattle.lvm_stale.specs.Table.{has_row, SameMembers, SameStale, SameMissing, stale_count};
 
 use lvm_num::{
     Descriptor, Memory, Pp, Status, StatusRow, VolumeNumbers, clear_bit, clone_status, has_bit,
-    set_bit, volume_of,
+    set_bit, volume_among,
 };
 use std::alloc::Global;
 use std::marker::Model;
@@ -164,7 +164,7 @@ impl StaleTable {
         requires { IsValid d.now }
         ensures { result ≡ stale_count self.now d.now lv }
     {
-        match volume_of(d.lvs.as_slice(), lv) {
+        match volume_among(d.lvs.as_slice(), lv) {
             None => 0,
             Some(row) => self.stale_among(row.map.as_slice()),
         }

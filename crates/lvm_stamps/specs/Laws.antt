@@ -4,11 +4,11 @@ use Rattle.lvm_num.specs.declared.record.Stamp.{Stamp}
 use Rattle.lvm_num.specs.declared.record.Kind.{Kind}
 use Rattle.lvm_num.specs.declared.descriptor.Descriptor.{Descriptor}
 use Rattle.lvm_num.specs.declared.status.Status.{Status}
-use Rattle.lvm_num.specs.Buffer.{Sector, IsSector}
+use Rattle.lvm_num.specs.Buffer.{Sector}
 use Rattle.lvm_num.specs.Geometry.{data_start}
 use Rattle.lvm_num.specs.Record.{Frames, Stamped, stamp_lt}
-use Rattle.lvm_kept.specs.handed.Names.{BothBefore, Media, Image, Flight, Device, SameDisks, image_of, written, IsInFlight, MayLeave, HasSectors, LeavesNoMore, BothTold, Fact, On, Removed, joined, IsLater}
-use Rattle.lvm_kept.specs.handed.VolEntryVol.{Disk}
+use Rattle.lvm_kept.specs.passed.Names.{BothBefore, Media, Image, Flight, Device, SameDisks, image_of, written, IsInFlight, MayLeave, HasSectors, IsWholeImage, LeavesNoMore, BothTold, Fact, On, Removed, joined, IsLater}
+use Rattle.lvm_kept.specs.passed.VolEntryVol.{Disk}
 use Rattle.lvm_kept.specs.Contents.{Contents, contents_of, has_records, note_sector}
 use Rattle.lvm_kept.specs.Plans.{Plan, ChangesBy, IsUnderWay}
 use Rattle.lvm_kept.specs.Raw.{OnlyAdds}
@@ -162,10 +162,6 @@ AllIsBehindEnd = (device : Device) → HasSectors device → IsBehind (2 ^ 64) d
 
 -- ---- records
 
--- the sectors of the disks are 512 bytes each
-abbrev pub IsWhole : Image → Type 0
-IsWhole image = (d s : ℕ) → s < image.size d → IsSector (image.sector d s)
-
 -- the newest records of each disk have stamps before this one
 pub record ShowsBefore (stamp : Stamp) (c : Contents) : Type 0 where
   pub descriptors : (d : ℕ) (r : Stamped Descriptor) → c.descriptor d ≡ Some r → stamp_lt r.stamp stamp ≡ true
@@ -173,12 +169,12 @@ pub record ShowsBefore (stamp : Stamp) (c : Contents) : Type 0 where
 
 -- What the disks show is before a stamp where all that stand there are.
 abbrev pub ShownIsBefore : Type 0
-ShownIsBefore = (stamp : Stamp) (image : Image) → IsWhole image → StampsBefore stamp image → ShowsBefore stamp (contents_of image)
+ShownIsBefore = (stamp : Stamp) (image : Image) → IsWholeImage image → StampsBefore stamp image → ShowsBefore stamp (contents_of image)
 
 -- A record under a stamp from there on may go to each disk with records, as far as stamps go,
 abbrev pub LaterMayGo : Type 0
 LaterMayGo =
-    (w : RecordWrite) (stamp : Stamp) (image : Image) (d : ℕ) → IsWhole image → StampsBefore stamp image → IsNoLater stamp w.framed.stamp → has_records image d ≡ true
+    (w : RecordWrite) (stamp : Stamp) (image : Image) (d : ℕ) → IsWholeImage image → StampsBefore stamp image → IsNoLater stamp w.framed.stamp → has_records image d ≡ true
     → BothBefore (on_disk w d) (image.sector d)
 
 -- as one of a session that begins at a moment where all is from before it.

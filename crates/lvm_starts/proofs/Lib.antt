@@ -1,6 +1,4 @@
-pub mod handed
-pub mod Firsts
-mod Within
+pub mod passed
+pub mod StartsLemmas
 mod Writes
-mod Buffers
-pub mod Ready
+pub mod ReadyLemmas

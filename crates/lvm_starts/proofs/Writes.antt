@@ -14,6 +14,7 @@ use Rattle.lvm_num.specs.Descriptor.{IsMember, is_member}
 use Rattle.lvm_num.specs.Disks.{Disks, has}
 use Rattle.lvm_num.specs.Votes.{is_enough_to_write, total_votes, votes_in, votes_of}
 use Rattle.lvm_num.specs.Status.{calls_missing}
+use Rattle.lvm_num.proofs.Booleans.{first_holds}
 use Rattle.lvm_disk.specs.Device.{Device}
 use Rattle.lvm_disk.specs.Steps.{GoesDark, IsRange}
 use Rattle.lvm_pbuf.specs.Out.{TakesLowest}
@@ -23,9 +24,9 @@ use Rattle.lvm_session.specs.State.{Core, State, state}
 use Rattle.lvm_session.specs.Enabled.{is_lost, is_status_due, same_rows, same_status}
 use Rattle.lvm_session.specs.Dark.{all_dark}
 use Rattle.lvm_session.specs.Turns.{Darkens, SaysTheSame}
-use Rattle.lvm_launch.specs.handed.Names.{MayEnd}
+use Rattle.lvm_launch.specs.passed.Names.{MayEnd}
 use Rattle.lvm_session.specs.Sound.{IsGoing}
-use Rattle.lvm_launch.proofs.Hands.{pool_same}
+use Rattle.lvm_launch.proofs.OutLemmas.{pool_same}
 use Rattle.lvm_starts.specs.Updating.{MayStartStatus, NextOn}
 
 -- ---- a status says the same as itself
@@ -125,10 +126,6 @@ found_in (row ∷ rows) disk is = by_test (row.disk == disk) refl is (found_in r
     by_test true same is rest = (row, (zero, omega arith, refl), eqb-true row.disk disk same)
     by_test false same is rest = let it = rest is in let within = it.1.1 in (it.0, (suc it.1.0, omega (arith, within), it.1.2), it.2)
 
-front_true : (a b : Bool) → (a && b) ≡ true → a ≡ true
-front_true true b is = refl
-front_true false b is = absurd cc
-
 back_false : (a b : Bool) → (a && not b) ≡ true → b ≡ false
 back_false true true is = absurd cc
 back_false true false is = refl
@@ -141,7 +138,7 @@ pub record IsOnShelf (device : Device) (disk : ℕ) : Type 0 where
 
 pub on_shelf : (device : Device) (core : Core) → IsGoing core → MayStartStatus device core → (disk : ℕ) → members_there core.descriptor core.status.wanted disk ≡ true → IsOnShelf device disk
 on_shelf device core going may disk is =
-    let it = found_in core.descriptor.pvs disk (front_true (is_member core.descriptor disk) (not (calls_missing core.status.wanted disk)) is) in
+    let it = found_in core.descriptor.pvs disk (first_holds (is_member core.descriptor disk) (not (calls_missing core.status.wanted disk)) is) in
     let here = back_false (is_member core.descriptor disk) (calls_missing core.status.wanted disk) is in
     let placed = may.placed it.0 it.1 (ap (calls_missing core.status.wanted) it.2 ∙ here) in
     let member : IsMember it.0 = subst IsMember it.1.2 (going.fitting.valid.members.each it.1.0 it.0 it.1.1) in

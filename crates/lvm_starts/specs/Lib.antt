@@ -1,4 +1,4 @@
-pub mod handed
+pub mod passed
 pub mod Starts
 pub mod Updating
 pub mod Ready

@@ -2,10 +2,10 @@
 //! session is ready for.
 #![tactic(auto)]
 
+pub mod below;
 mod bytes;
 mod first;
 mod laws;
-pub mod lower;
 mod start;
 
 pub use first::make_start;

@@ -1,11 +1,12 @@
 -- Sets of disks, and the disks of members.
-use Rattle.std.proofs.Common.{◌≡◌, ◌⊎◌, inl, inr, ℕ, ◌+◌, ◌<◌, Bool, true, false, ◌&&◌, ◌||◌, not, List, length, get_or, take, refl, sym, ap, ◌∙◌, arith}
+use Rattle.std.proofs.Common.{◌≡◌, inl, inr, ℕ, ◌+◌, ◌<◌, Bool, true, false, ◌&&◌, ◌||◌, not, List, length, get_or, take, refl, sym, ap, ◌∙◌, arith}
 use Rattle.std.specs.Prelude.{◌==◌}
 use Rattle.std.specs.List.{list_any}
 use Rattle.std.proofs.lemmas.Bool.{eq-eqb, eqb-true}
 use Rattle.std.proofs.lemmas.Bool.Decides.{eqb_tells}
 use Rattle.std.proofs.lemmas.List.Folds.{Any-from_list_any, list_any_more}
-use Rattle.lvm_stale.specs.handed.Names.{PvRow, Descriptor, IsValid, is_member, Disks}
+use Rattle.lvm_stale.specs.passed.Names.{PvRow, Descriptor, IsValid, is_member, Disks}
+pub use Rattle.std.proofs.lemmas.Bool.{cases_Bool as bool_tells}
 
 -- sets with the same disks
 pub same_disks : (a b : Disks) → ((disk : ℕ) → a disk ≡ b disk) → a ≡ b
@@ -63,10 +64,6 @@ leaves is gone has_gone old now e = e ∙ sym (ap (λ b. old || (is && not b)) h
     without true false = refl
     without false true = refl
     without false false = refl
-
-pub bool_tells : (b : Bool) → (b ≡ true) ⊎ (b ≡ false)
-bool_tells true = inl refl
-bool_tells false = inr refl
 
 pub no_is_false : (b : Bool) → (b ≡ true → ⊥) → b ≡ false
 no_is_false b never = elim (bool_tells b) [ inl is ↦ absurd (never is) | inr isnt ↦ isnt ]

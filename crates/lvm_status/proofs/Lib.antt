@@ -1,8 +1,6 @@
-pub mod handed
+pub mod passed
 pub mod Disks
-pub mod Fit
+pub mod MembersLemmas
 pub mod Same
-pub mod Sound
-pub mod Sessions
-pub mod Rows
+pub mod RunsLemmas
 pub mod Differing

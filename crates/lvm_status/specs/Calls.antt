@@ -1,7 +1,7 @@
 -- How each call changes the status of a session.
-use Rattle.std.specs.Prelude.{◌≡◌, ℕ, ◌+◌, ◌<◌, ◌≤◌, Bool, true, false, ◌&&◌, ◌||◌, ◌==◌, not, if◌then◌else◌, IsTrue, [], Option, Some, None, unwrap_or}
-use Rattle.lvm_stale.specs.handed.Names.{Pp, Descriptor, Status, Disks, calls_stale, calls_missing, calls_dirty}
-use Rattle.lvm_stale.specs.Table.{has_row, is_pp, SameMembers, SameStale, SameMissing}
+use Rattle.std.specs.Prelude.{◌≡◌, ℕ, ◌+◌, ◌<◌, Bool, true, false, ◌&&◌, ◌||◌, ◌==◌, not, if◌then◌else◌, IsTrue, [], Option, Some, None, unwrap_or}
+use Rattle.lvm_stale.specs.passed.Names.{Pp, Descriptor, Status, Disks, calls_stale, calls_missing, calls_dirty, is_pp, IsVolumeNumber}
+use Rattle.lvm_stale.specs.Table.{has_row, SameMembers, SameStale, SameMissing}
 use Rattle.lvm_status.specs.declared.change.Change.{Change}
 use Rattle.lvm_status.specs.declared.change.Change.TheVariants as change
 use Rattle.lvm_status.specs.Update.{Updates, no_disks, with_disk, without_disk, members_there, is_held, is_owed}
@@ -65,18 +65,13 @@ pub record IsMarkable (s : Status) (pp : Pp) : Type 0 where
   pub row : IsTrue (has_row s pp.disk)
   pub partition : pp.pp < 1016
 
--- a number that a volume may have
-pub record IsNumber (lv : ℕ) : Type 0 where
-  pub least : 1 ≤ lv
-  pub most : lv ≤ 511
-
 -- a status in which this change may be made
 abbrev pub MayChange : Change → Status → Type 0
 MayChange (change.Stale pp) s = IsMarkable s pp
 MayChange (change.Fresh pp) s = IsMarkable s pp
 MayChange (change.Missing disk) s = IsTrue (has_row s disk)
-MayChange (change.Dirty lv) s = IsNumber lv
-MayChange (change.Clean lv) s = IsNumber lv
+MayChange (change.Dirty lv) s = IsVolumeNumber lv
+MayChange (change.Clean lv) s = IsVolumeNumber lv
 
 -- ---- the update in flight
 

@@ -1,4 +1,4 @@
-pub mod handed
+pub mod passed
 pub mod Calls
 pub mod Members
 pub mod Progress

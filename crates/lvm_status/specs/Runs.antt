@@ -1,8 +1,7 @@
 -- What a session's calls make of its status, call after call, and what stays true.
 use Rattle.std.specs.Prelude.{◌≡◌, ◌⊎◌, ℕ, Bool, true, false, ◌||◌, List, [], ◌∷◌, Some, None}
 use Rattle.std.specs.List.{list_any}
-use Rattle.lvm_stale.specs.handed.Names.{Pp, IsLowest, Stamp, Descriptor, Status, is_member, stamp_lt, calls_stale, calls_missing, CanWrite}
-use Rattle.lvm_stale.specs.Table.{is_pp}
+use Rattle.lvm_stale.specs.passed.Names.{Pp, IsLowest, Stamp, Descriptor, Status, is_member, is_pp, stamp_lt, calls_stale, calls_missing, CanWrite}
 use Rattle.lvm_status.specs.declared.change.Change.{Change}
 use Rattle.lvm_status.specs.declared.change.Change.TheVariants as change
 use Rattle.lvm_status.specs.Update.{Updates, with_disk, is_there, is_held, is_owed, is_settled_stale, MayStart}
@@ -27,9 +26,9 @@ Step (Ended disk ok) old new = (old.started disk ≡ true) × WantsAtEnd disk ok
 Step (SetStamp stamp) old new = (old.in_flight ≡ None) × (new ≡ record old { stamp = stamp })
 
 -- what calls one after the other make of it
-abbrev pub Run : List Call → Updates → Updates → Type 0
-Run [] old new = new ≡ old
-Run (call ∷ calls) old new = (next : Updates) × Step call old next × Run calls next new
+abbrev pub CallsMake : List Call → Updates → Updates → Type 0
+CallsMake [] old new = new ≡ old
+CallsMake (call ∷ calls) old new = (next : Updates) × Step call old next × CallsMake calls next new
 
 -- ---- what is true at each moment
 
@@ -63,7 +62,7 @@ abbrev pub StepsStaySound : Type 0
 StepsStaySound = (call : Call) (old new : Updates) → IsSoundStatus old → Step call old new → IsSoundStatus new
 
 abbrev pub RunsStaySound : Type 0
-RunsStaySound = (calls : List Call) (old new : Updates) → IsSoundStatus old → Run calls old new → IsSoundStatus new
+RunsStaySound = (calls : List Call) (old new : Updates) → IsSoundStatus old → CallsMake calls old new → IsSoundStatus new
 
 -- A table in flight stays so until it is committed; no other takes its place.
 abbrev pub InFlightStays : Type 0
@@ -117,11 +116,11 @@ pub record StaysStale (u : Updates) (p : Pp) : Type 0 where
 
 -- What is settled stale, and wanted so, stays so until it is wanted fresh.
 abbrev pub SettledStays : Type 0
-SettledStays = (calls : List Call) (old new : Updates) (p : Pp) → Run calls old new → list_any (wants_fresh p) calls ≡ false → StaysStale old p → StaysStale new p
+SettledStays = (calls : List Call) (old new : Updates) (p : Pp) → CallsMake calls old new → list_any (wants_fresh p) calls ≡ false → StaysStale old p → StaysStale new p
 
 -- A disk that is missing stays so, and is never written again.
 abbrev pub MissingStays : Type 0
-MissingStays = (calls : List Call) (old new : Updates) (disk : ℕ) → Run calls old new → calls_missing old.wanted disk ≡ true → calls_missing new.wanted disk ≡ true
+MissingStays = (calls : List Call) (old new : Updates) (disk : ℕ) → CallsMake calls old new → calls_missing old.wanted disk ≡ true → calls_missing new.wanted disk ≡ true
 
 abbrev pub MissingIsNotWritten : Type 0
-MissingIsNotWritten = (calls : List Call) (old new : Updates) (disk : ℕ) → IsSoundStatus old → Run calls old new → calls_missing old.wanted disk ≡ true → new.unstarted disk ≡ false
+MissingIsNotWritten = (calls : List Call) (old new : Updates) (disk : ℕ) → IsSoundStatus old → CallsMake calls old new → calls_missing old.wanted disk ≡ true → new.unstarted disk ≡ false

@@ -1,9 +1,9 @@
 //! What may be wanted of a status, and what the end of a write brings.
 
-use lvm_stale::lower::Pp;
+use lvm_stale::below::Pp;
 
 /// A change of the wanted status.
-#[derive(Clone, Copy, PartialEq, Eq)]
+#[derive(Clone, Copy)]
 pub enum Change {
     /// The partition becomes stale.
     Stale(Pp),
@@ -18,7 +18,7 @@ pub enum Change {
 }
 
 /// What the end of a write of a status update brings.
-#[derive(Clone, Copy, Debug, PartialEq, Eq)]
+#[derive(Clone, Copy, PartialEq, Eq)]
 pub enum Progress {
     /// The update isn't committed yet, or was already.
     Waiting,

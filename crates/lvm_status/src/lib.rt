@@ -2,9 +2,9 @@
 //! and what is wanted.
 #![tactic(auto)]
 
+pub mod below;
 mod change;
 pub mod laws;
-pub mod lower;
 mod updater;
 mod writes;
 

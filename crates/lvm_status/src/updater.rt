@@ -2,13 +2,13 @@
 ghost use Rattle.std.specs.Prelude.{All, ◌≡◌, ◌≢◌, ◌↔◌, ◌<◌, ◌+◌, ◌^◌, None, [], ◌||◌, IsTrue, IfOk, if◌then◌else◌};
 ghost use Rattle.std.specs.List.{list_any};
 ghost use Rattle.std.specs.Option.{option_copied};
-ghost use Rattle.lvm_stale.specs.handed.Names.{PvRow, IsValid, IsLaidOut, partitions_in, total_votes, has, IsLowest};
-ghost use Rattle.lvm_stale.specs.Marking.{IsLeftIn, Marks, IsMarkable};
+ghost use Rattle.lvm_stale.specs.passed.Names.{PvRow, IsValid, IsLaidOut, partitions_in, total_votes, has, IsLowest};
+ghost use Rattle.lvm_stale.specs.Marking.{IsLeftIn, Marks, HasMark};
 ghost use Rattle.lvm_status.specs.Members.{HasItsRows, all_rows, all_members};
 ghost use Rattle.lvm_status.specs.Update.{members_there};
 
 use crate::{Change, Progress, Writes};
-use lvm_stale::lower::{
+use lvm_stale::below::{
     Descriptor, DiskSet, LvRow, Memory, Pp, Rows, Stamp, Status, has_member, with_volumes,
 };
 use lvm_stale::{StaleTable, mark_volumes};
@@ -98,7 +98,7 @@ impl Updater {
     /// or are missing, where a copy of the same logical partition is fresh on a member that isn't missing.
     pub fn mark_left(&mut self, volumes: &[LvRow])
         requires laid_out { All IsLaidOut volumes.now }
-        requires markable { All (IsMarkable self.old.wanted) (partitions_in volumes.now) }
+        requires markable { All (HasMark self.old.wanted) (partitions_in volumes.now) }
         ensures wanted { Marks (is_there (seen self.old)) (IsLeftIn (is_there (seen self.old)) self.old.wanted volumes.now) self.old.wanted self.new.wanted }
         ensures rest { self.new ≡ record self.old { wanted = self.new.wanted } }
     {

@@ -1,10 +1,10 @@
 //! How far the writes of an update are.
 ghost use Rattle.std.specs.Prelude.{◌≡◌};
 
-use lvm_stale::lower::DiskSet;
+use lvm_stale::below::DiskSet;
 
 /// For each state that the write of an update to a disk may be in, the disks whose writes are in it.
-#[derive(Clone, Copy, Debug, PartialEq, Eq)]
+#[derive(Clone, Copy)]
 pub struct Writes {
     /// Its write isn't started.
     pub unstarted: DiskSet,
@@ -17,7 +17,7 @@ pub struct Writes {
 }
 
 impl Writes {
-    ghost use Rattle.lvm_stale.specs.handed.Names.{has};
+    ghost use Rattle.lvm_stale.specs.passed.Names.{has};
     ghost use Rattle.lvm_status.specs.Update.{no_disks};
 
     /// An update whose writes to these disks are still to be started.

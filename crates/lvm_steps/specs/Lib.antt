@@ -1,4 +1,4 @@
-pub mod handed
+pub mod passed
 pub mod Moments
 pub mod Entries
 pub mod Requests

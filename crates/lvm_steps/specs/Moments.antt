@@ -1,6 +1,6 @@
 -- Moments of a run at which each crash image is kept with the history, disks of groups and disks in no group alike.
 use Rattle.std.specs.Prelude.{◌≡◌, ◌≤◌, ℕ, ◌++◌, List, [], ◌∷◌, map, Some, IsSome, count_by}
-use Rattle.lvm_kept.specs.handed.Names.{Media, Image, Device, image_of, MayLeave, LeavesNoMore, DeviceStep, Path}
+use Rattle.lvm_kept.specs.passed.Names.{Media, Image, Device, image_of, MayLeave, LeavesNoMore, DeviceStep, Path}
 use Rattle.lvm_vol.specs.declared.entry.Vol.TheVariants.{Disk}
 use Rattle.lvm_vol.specs.Facts.{Fact, Removed, On, joined}
 use Rattle.lvm_vol.specs.Legal.{Legal, Fits, IsLater, begins_in}
@@ -35,6 +35,10 @@ Upholds run first m = (past : List Fact) → Begins run past first → Holds pas
 -- from the one moment to the other step by step, and each moment between is as it should be
 abbrev pub Keeps : ℕ → Moment → Moment → Type 0
 Keeps run first last = Path Step (Upholds run first) first last
+
+-- A span that leads to the one moment goes on to the other.
+abbrev pub SpanGoesOn : ℕ → Moment → Moment → Moment → Type 0
+SpanGoesOn run first old new = Keeps run first old → Keeps run first new
 
 -- whatever the crash images of the first shelf are kept with, those of the second are
 abbrev pub StaysKept : Device → Device → Type 0

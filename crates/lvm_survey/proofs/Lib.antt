@@ -1,6 +1,5 @@
-pub mod handed
-pub mod DiskRows
-pub mod DiskByDisk
-pub mod ShownValid
-pub mod SurveyRows
+pub mod passed
+pub mod SurveyedLemmas
+pub mod ReadingLemmas
+pub mod LawsLemmas
 pub mod Passing

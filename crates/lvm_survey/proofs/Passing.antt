@@ -1,26 +1,15 @@
 -- A set of those below a number that pass a test.
 use Rattle.std.proofs.Common.{◌≡◌, inl, inr, ℕ, ◌+◌, ◌<◌, ◌≤◌, Bool, true, false, ◌&&◌, ◌||◌, refl, sym, ap, ◌∙◌, arith}
 use Rattle.std.specs.Prelude.{◌==◌, nat_lt}
-use Rattle.std.proofs.lemmas.Bool.{cases_lt}
+use Rattle.std.proofs.lemmas.Bool.{cases_lt, or_right, and_from}
 use Rattle.std.proofs.lemmas.Bool.Decides.{nat_tests, eqb_tells}
+pub use Rattle.std.proofs.lemmas.Bool.{and_right as neither}
 
 -- ---- tests of numbers
-
-or_right : (a b : Bool) → b ≡ true → a || b ≡ true
-or_right true b e = refl
-or_right false b e = e
 
 or_left : (a b : Bool) → b ≡ false → a || b ≡ a
 or_left true b e = refl
 or_left false b e = e
-
-both : (a b : Bool) → a ≡ true → b ≡ true → a && b ≡ true
-both true b e f = f
-both false b e f = e
-
-pub neither : (a b : Bool) → b ≡ false → a && b ≡ false
-neither true b e = e
-neither false b e = refl
 
 pub is_other : (d n : ℕ) → (d ≡ n → ⊥) → (d == n) ≡ false
 is_other d n differ = grind (arith, nat_tests)
@@ -58,7 +47,7 @@ PassBelow test i set = (d : ℕ) → set d ≡ nat_lt d i && test d
 -- the next one passes, and goes in
 pub one_taken : (test set more : ℕ → Bool) (i : ℕ) → PassBelow test i set → test i ≡ true → ((d : ℕ) → more d ≡ set d || d == i) → PassBelow test (i + 1) more
 one_taken test set more i old own new d = elim (eqb_tells d i) [
-  | inl same ↦ new d ∙ or_right (set d) (d == i) same.0 ∙ sym (both (nat_lt d (i + 1)) (test d) (lt_same d i same.1) (ap test same.1 ∙ own))
+  | inl same ↦ new d ∙ or_right (set d) (d == i) same.0 ∙ sym (and_from (nat_lt d (i + 1)) (test d) (lt_same d i same.1) (ap test same.1 ∙ own))
   | inr differ ↦ new d ∙ or_left (set d) (d == i) differ.0 ∙ old d ∙ ap (λ b. b && test d) (sym (lt_other d i differ.1))
 ]
 

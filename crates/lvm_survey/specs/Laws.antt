@@ -1,16 +1,11 @@
 -- What the records that disks show always are.
-use Rattle.std.specs.Prelude.{◌≡◌, ℕ, ◌<◌, Some}
+use Rattle.std.specs.Prelude.{◌≡◌, ℕ, Some}
 use Rattle.lvm_num.specs.declared.descriptor.Descriptor.{Descriptor}
 use Rattle.lvm_num.specs.declared.status.Status.{Status}
-use Rattle.lvm_num.specs.Buffer.{IsSector}
 use Rattle.lvm_num.specs.Descriptor.{IsValid}
 use Rattle.lvm_num.specs.Record.{Stamped}
 use Rattle.lvm_num.specs.Status.{IsValidStatus}
-use Rattle.lvm_area.specs.handed.Names.{Image, contents_of}
-
--- each sector of the disks has 512 bytes
-abbrev pub IsWholeImage : Image → Type 0
-IsWholeImage image = (d s : ℕ) → s < image.size d → IsSector (image.sector d s)
+use Rattle.lvm_area.specs.passed.Names.{Image, IsWholeImage, contents_of}
 
 -- a descriptor that a disk shows as its newest is valid
 abbrev pub DescriptorsAreValid : Type 0

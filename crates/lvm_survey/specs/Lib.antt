@@ -1,4 +1,4 @@
-pub mod handed
+pub mod passed
 pub mod Surveyed
 pub mod Rows
 pub mod Surveying

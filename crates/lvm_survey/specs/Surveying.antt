@@ -4,13 +4,13 @@ use Rattle.std.specs.Global.{Global}
 use Rattle.lvm_num.specs.Buffer.{Buffer}
 use Rattle.lvm_num.specs.Geometry.{data_start}
 use Rattle.lvm_num.specs.Note.{note_in}
-use Rattle.lvm_area.specs.handed.Names.{noted_of, Rose, Device, image_of, Stop, IsRested, IsCutOff, IsReadStuck, StopGives}
+use Rattle.lvm_area.specs.passed.Names.{noted_of, Rose, Device, image_of, DeviceStep, Path, Stop, IsRested, IsCutOff, IsReadStuck, StopGives}
 use Rattle.lvm_area.specs.declared.area.RecordArea.{RecordArea}
 use Rattle.lvm_survey.specs.declared.row.Survey.{Survey}
 use Rattle.lvm_survey.specs.declared.row.SurveyRow.{SurveyRow}
 use Rattle.lvm_survey.specs.declared.survey.Surveyed.{Surveyed}
 use Rattle.lvm_survey.specs.declared.survey.Surveyed.TheVariants as surveyed
-use Rattle.lvm_area.specs.Reading.{IsHome, under}
+use Rattle.lvm_area.specs.Reading.{AreaRead, IsHome, under}
 use Rattle.lvm_survey.specs.Surveyed.{IsEmpty, IsRead, IsRowValid}
 
 -- ---- what a row says
@@ -34,7 +34,15 @@ pub record IsRowOfArea (area : RecordArea) (row : SurveyRow) : Type 0 where
 abbrev pub IsSmall : Device → ℕ → Type 0
 IsSmall device disk = slice_index_or device.sizes disk 0 < data_start
 
--- what the row says of a disk of this shelf, whose misses rose exactly where it failed
+-- all records of the disk were read, at some time
+pub record WasSurveyed (disk : ℕ) (old new : Device) : Type 0 where
+  pub begun : Device
+  pub done : Device
+  pub before : Path DeviceStep (λ device. Unit {0}) old begun
+  pub reads : AreaRead disk begun done
+  pub after : Path DeviceStep (λ device. Unit {0}) done new
+
+-- What the row says of a disk of this shelf, whose misses rose exactly where it failed. Where it didn't, all records of a disk that is large enough were read.
 pub record IsSurveyed (old new : Device) (disk : ℕ) (row : SurveyRow) : Type 0 where
   pub disk_is : row.disk ≡ disk
   pub sectors : slice_get old.sizes disk ≡ Some row.sectors
@@ -43,6 +51,7 @@ pub record IsSurveyed (old new : Device) (disk : ℕ) (row : SurveyRow) : Type 0
   pub failed : row.failed ≡ true → Rose (old.counts.misses disk) (new.counts.misses disk)
   pub answered : row.failed ≡ false → new.counts.misses disk ≡ old.counts.misses disk
   pub read : row.failed ≡ false → IfSome old.media (λ media. IsRead (image_of old.sizes media) disk row)
+  pub whole : row.failed ≡ false → (IsSmall old disk → ⊥) → WasSurveyed disk old new
   pub empty : row.failed ≡ true → IsEmpty row
 
 -- how the survey of one disk ended

@@ -1,8 +1,8 @@
 //! What stands on the disks of a shelf: the newest records of each.
 #![tactic(auto)]
 
+pub mod below;
 mod laws;
-pub mod lower;
 mod row;
 mod survey;
 

@@ -1,10 +1,10 @@
 //! What was found on each disk of a shelf.
 
-use lvm_area::lower::Note;
+use lvm_area::below::Note;
 use lvm_num::{Descriptor, Rows, Stamp, Status};
 
 /// What was found on one disk.
-#[derive(Debug, Drop)]
+#[derive(Drop)]
 pub struct SurveyRow {
     pub disk: u16,
     /// A read of the disk's records failed; what it has is not known then.
@@ -24,7 +24,7 @@ pub struct SurveyRow {
 }
 
 /// What was found on the disks of a shelf: a row for each, in the order of their numbers.
-#[derive(Debug, Drop)]
+#[derive(Drop)]
 pub struct Survey {
     pub rows: Rows<SurveyRow>,
 }

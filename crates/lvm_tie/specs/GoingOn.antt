@@ -7,7 +7,7 @@ use Rattle.lvm_disk.specs.Device.{HasSectors}
 use Rattle.lvm_kept.specs.Moments.{Moment}
 use Rattle.lvm_path.specs.declared.ask.Ask.{Ask}
 use Rattle.lvm_session.specs.declared.open.Power.TheVariants as power
-use Rattle.lvm_session.specs.State.{Core, State, state}
+use Rattle.lvm_session.specs.State.{Core, State, moment_of, state}
 use Rattle.lvm_session.specs.declared.answers.AskFault.{AskFault}
 use Rattle.lvm_session.specs.declared.answers.CopyFault.{CopyFault}
 use Rattle.lvm_session.specs.declared.answers.Taken.{Taken}
@@ -16,12 +16,13 @@ use Rattle.lvm_session.specs.Calls.{Closes, OpenGives, SubmitGives, TakeGives}
 use Rattle.lvm_session.specs.Turns.{ArrangesSession, TurnMakes}
 use Rattle.lvm_session.specs.Asking.{IsAsking}
 use Rattle.lvm_session.specs.Sound.{IsSound}
-use Rattle.lvm_tie.specs.Tied.{IsGood, SpanGoesOn}
+use Rattle.lvm_tie.specs.Tied.{IsGood}
+use Rattle.lvm_steps.specs.Moments.{SpanGoesOn}
 
 -- From whatever moment its run is told: a good session is good after it, and a span goes on over what happens, so that at each moment of it the history is legal
 -- and each crash image kept with it.
 abbrev pub GoesOn : ℕ → State → State → Type 0
-GoesOn run old new = (first : Moment) → IsGood run first old → IsGood run first new × SpanGoesOn run first old new
+GoesOn run old new = (first : Moment) → IsGood run first old → IsGood run first new × SpanGoesOn run first (moment_of old) (moment_of new)
 
 -- So it is over a turn, where the shelf has whole sectors and what is wanted is a status that a record can have;
 abbrev pub TurnGoesOn : Type 0

@@ -1,4 +1,4 @@
-pub mod handed
+pub mod passed
 pub mod Seen
 pub mod Out
 pub mod Tied

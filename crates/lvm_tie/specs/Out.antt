@@ -10,10 +10,9 @@ use Rattle.lvm_num.specs.Disks.{has}
 use Rattle.lvm_num.specs.Note.{IsNote}
 use Rattle.lvm_num.specs.StatusBytes.{status_bytes, status_of}
 use Rattle.lvm_rec.specs.Slots.{slot_for}
-use Rattle.lvm_disk.specs.Device.{Image, Flight}
+use Rattle.lvm_disk.specs.Device.{Image, Flight, IsWholeImage}
 use Rattle.lvm_kept.specs.Torn.{RecordWrite}
 use Rattle.lvm_stamps.specs.Behind.{StampsBefore}
-use Rattle.lvm_stamps.specs.Laws.{IsWhole}
 use Rattle.lvm_mwc.specs.Cache.{flight_on}
 use Rattle.lvm_status.specs.Update.{Stored, members_there}
 use Rattle.lvm_commit.specs.Committed.{next_stamp}
@@ -75,6 +74,6 @@ IsWriteOf status homes (Some u) (Some w) = IsUpdateWrite status homes u w
 pub record MayUpdate (group : Descriptor) (status : Stored) (homes : Homes) (image : Image) : Type 0 where
   pub some_epoch : status.stamp.epoch ≢ 0
   pub epoch : status.stamp.epoch < 2 ^ 64
-  pub whole : IsWhole image
+  pub whole : IsWholeImage image
   pub before : StampsBefore (next_stamp status.stamp) image
   pub spare : (d : ℕ) → IsTrue (members_there group status.wanted d) → is_owed_on status d ≡ false → next_slot kind.Status homes d ≡ slot_for status_of kind.Status (image.sector d)

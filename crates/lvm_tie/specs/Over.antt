@@ -3,25 +3,26 @@ use Rattle.std.specs.Prelude.{◌≡◌, ℕ, Bool}
 use Rattle.lvm_disk.specs.declared.shelf.Arrange.{Arrange}
 use Rattle.lvm_kept.specs.Moments.{Moment}
 use Rattle.lvm_session.specs.declared.open.Power.TheVariants as power
-use Rattle.lvm_session.specs.State.{State}
+use Rattle.lvm_session.specs.State.{State, moment_of}
 use Rattle.lvm_session.specs.declared.answers.Taken.{Taken}
 use Rattle.lvm_session.specs.Calls.{TakeGives}
 use Rattle.lvm_session.specs.Turns.{Darkens, GoesOff, ArrangesSession}
 use Rattle.lvm_session.specs.Sound.{IsSound}
-use Rattle.lvm_tie.specs.Tied.{IsGood, SpanGoesOn}
+use Rattle.lvm_tie.specs.Tied.{IsGood}
+use Rattle.lvm_steps.specs.Moments.{SpanGoesOn}
 
 -- Where the votes of a good session are lost, each landing as Off is a moment, and a span goes on over them all.
 abbrev pub OffGoesOn : Type 0
-OffGoesOn = (run : ℕ) (first : Moment) (old new : State) → old.core.power ≡ power.On → IsGood run first old → GoesOff old new → SpanGoesOn run first old new
+OffGoesOn = (run : ℕ) (first : Moment) (old new : State) → old.core.power ≡ power.On → IsGood run first old → GoesOff old new → SpanGoesOn run first (moment_of old) (moment_of new)
 
 -- So it does where the power is found off, or cut: over the step of the shelf, the cut in the history, and each landing as Dark.
 abbrev pub DarkGoesOn : Type 0
-DarkGoesOn = (run : ℕ) (first : Moment) (old new : State) → old.core.power ≡ power.On → IsGood run first old → Darkens old new → SpanGoesOn run first old new
+DarkGoesOn = (run : ℕ) (first : Moment) (old new : State) → old.core.power ≡ power.On → IsGood run first old → Darkens old new → SpanGoesOn run first (moment_of old) (moment_of new)
 
 -- And over an order of a client, also a power cut, and also where the session is over already.
 abbrev pub OrderGoesOn : Type 0
 OrderGoesOn =
-    (run : ℕ) (first : Moment) (old new : State) (what : Arrange) (done : Bool) → IsSound old → IsGood run first old → ArrangesSession old new what done → SpanGoesOn run first old new
+    (run : ℕ) (first : Moment) (old new : State) (what : Arrange) (done : Bool) → IsSound old → IsGood run first old → ArrangesSession old new what done → SpanGoesOn run first (moment_of old) (moment_of new)
 
 -- An order leaves a good session good, if it is on then.
 abbrev pub OrderTies : Type 0
@@ -38,4 +39,4 @@ pub record Takes (old new : State) (client id : ℕ) (answered : Taken) : Type 0
 -- A span of the session's run goes on over it, also where the session is over.
 abbrev pub TakeGoesOn : Type 0
 TakeGoesOn =
-    (first : Moment) (old new : State) (client id : ℕ) (answered : Taken) → IsSound old → Takes old new client id answered → SpanGoesOn old.core.history.run first old new
+    (first : Moment) (old new : State) (client id : ℕ) (answered : Taken) → IsSound old → Takes old new client id answered → SpanGoesOn old.core.history.run first (moment_of old) (moment_of new)

@@ -14,7 +14,7 @@ use Rattle.lvm_kept.specs.Contents.{Contents, contents_of}
 use Rattle.lvm_kept.specs.Moments.{Moment}
 use Rattle.lvm_kept.specs.Torn.{RecordWrite}
 use Rattle.lvm_status.specs.Update.{Stored, members_there}
-use Rattle.lvm_steps.specs.Moments.{Begins, Upholds, Keeps}
+use Rattle.lvm_steps.specs.Moments.{Begins, SpanGoesOn, Upholds}
 use Rattle.lvm_session.specs.declared.bringing.OpenCopy.{OpenCopy}
 use Rattle.lvm_session.specs.declared.bringing.Step.TheVariants as step
 use Rattle.lvm_session.specs.declared.open.Power.TheVariants as power
@@ -100,10 +100,6 @@ Ties Event = (past : List Fact) (old new : State) → IsTied past old → IsSoun
 
 -- ---- what follows
 
--- a span that leads to the one leads on to the other
-abbrev pub SpanGoesOn : ℕ → Moment → State → State → Type 0
-SpanGoesOn run first old new = Keeps run first (moment_of old) → Keeps run first (moment_of new)
-
 -- Each transfer that is out has its owner in the state.
 abbrev pub TiedOwns : Type 0
 TiedOwns = (past : List Fact) (s : State) (tied : IsTied past s) → AllOwned tied.view s.core.descriptor.mib tied.write s.device.flights
@@ -114,6 +110,6 @@ GoodUpholds = (run : ℕ) (first : Moment) (s : State) → s.core.power ≡ powe
 
 -- So a span goes on over what changes neither shelf nor history, over a step of the shelf, and over an entry, where the session is good after it.
 pub record GoodGoesOn : Type 0 where
-  pub still : (run : ℕ) (first : Moment) (old new : State) → new.device ≡ old.device → new.core.history.facts ≡ old.core.history.facts → SpanGoesOn run first old new
-  pub steps : (run : ℕ) (first : Moment) (old new : State) → new.core.power ≡ power.On → IsGood run first new → DeviceStep old.device new.device → new.core.history.facts ≡ old.core.history.facts → SpanGoesOn run first old new
-  pub enters : (run : ℕ) (first : Moment) (old new : State) (f : Fact) → new.core.power ≡ power.On → IsGood run first new → new.device ≡ old.device → new.core.history.facts ≡ old.core.history.facts ++ f ∷ [] → SpanGoesOn run first old new
+  pub still : (run : ℕ) (first : Moment) (old new : State) → new.device ≡ old.device → new.core.history.facts ≡ old.core.history.facts → SpanGoesOn run first (moment_of old) (moment_of new)
+  pub steps : (run : ℕ) (first : Moment) (old new : State) → new.core.power ≡ power.On → IsGood run first new → DeviceStep old.device new.device → new.core.history.facts ≡ old.core.history.facts → SpanGoesOn run first (moment_of old) (moment_of new)
+  pub enters : (run : ℕ) (first : Moment) (old new : State) (f : Fact) → new.core.power ≡ power.On → IsGood run first new → new.device ≡ old.device → new.core.history.facts ≡ old.core.history.facts ++ f ∷ [] → SpanGoesOn run first (moment_of old) (moment_of new)

@@ -1,5 +1,3 @@
-pub mod handed
-pub mod Resting
-pub mod Beginning
-pub mod Rested
-pub mod Entailing
+pub mod passed
+pub mod BeginsLemmas
+pub mod MarksLemmas

@@ -1,11 +1,8 @@
-pub mod handed
 pub mod passed
-pub mod Landed
+pub mod MomentsLemmas
 pub mod Resting
-pub mod Alone
-pub mod Standing
-pub mod Leaving
-pub mod Commands
-pub mod Making
-pub mod Removing
-pub mod Beginning
+pub mod LawsOfVolumesLemmas
+pub mod BeginsLemmas
+pub mod HeldLemmas
+pub mod CommandsLemmas
+pub mod BeginningLemmas

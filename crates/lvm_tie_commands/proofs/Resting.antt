@@ -3,11 +3,11 @@ use Rattle.std.proofs.Common.{◌≡◌, List, [], ap, ◌∙◌}
 use Rattle.lvm_session.specs.State.{State}
 use Rattle.lvm_session.specs.Sound.{IsGoing, IsSound, waits}
 use Rattle.lvm_session.specs.declared.open.Open.{Open}
-use Rattle.lvm_handover.specs.handed.Names.{IsSettled, HaveAllLanded}
+use Rattle.lvm_handover.specs.passed.Names.{IsSettled, HaveAllLanded}
 use Rattle.lvm_commit.specs.Settling.{NoneIsLeft}
-use Rattle.lvm_handover.proofs.Between.{rest_is_still}
-use Rattle.lvm_handover.proofs.Entailing.{none_left}
-use Rattle.lvm_handover.proofs.Serving.{nobody_flies, none_flying}
+use Rattle.lvm_handover.proofs.SoundLemmas.{rest_is_still}
+use Rattle.lvm_handover.proofs.CommitSettlingLemmas.{none_left}
+use Rattle.lvm_handover.proofs.ServingLemmas.Serving.{nobody_flies, none_flying}
 use Rattle.lvm_handover.specs.passed.TieBegins.{IsResting}
 
 module _ (s : State) (sound : IsSound s) (settled : IsSettled s.core) where

@@ -2,6 +2,7 @@ pub mod Earlier
 pub mod Even
 pub mod Group
 pub mod Handover
+pub mod Names
 pub mod Ranges
 pub mod Running
 pub mod TieGroups

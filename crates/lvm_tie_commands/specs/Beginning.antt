@@ -8,7 +8,7 @@ use Rattle.lvm_steps.specs.Moments.{Keeps}
 use Rattle.lvm_commit.specs.LawsOfVolumes.{IsOneByAllOn}
 use Rattle.lvm_session.specs.State.{State}
 use Rattle.lvm_session.specs.Sound.{IsSound}
-use Rattle.lvm_handover.specs.handed.Names.{Room, moment_of, StartsHeld, IsSettled, HasNoPassive}
+use Rattle.lvm_handover.specs.passed.Names.{Room, moment_of, StartsHeld, IsSettled, HasNoPassive}
 use Rattle.lvm_handover.specs.passed.Varyon.{ComesOn}
 use Rattle.lvm_handover.specs.passed.Group.{IsMade, NewGroup}
 use Rattle.lvm_handover.specs.passed.Tie.{IsStamped}

@@ -8,11 +8,11 @@ use Rattle.lvm_steps.specs.Moments.{Begins, Keeps}
 use Rattle.lvm_commit.specs.LawsOfVolumes.{IsOneByAllOn}
 use Rattle.lvm_session.specs.State.{Core, State, state}
 use Rattle.lvm_session.specs.Sound.{IsSound}
-use Rattle.lvm_handover.specs.handed.Names.{moment_of, EntersVolumes, GroupFault, NewVolume}
-use Rattle.lvm_handover.specs.passed.Volumes.{IfOn, MklvGives, RmlvGives, to_make, to_remove}
+use Rattle.lvm_handover.specs.passed.Names.{moment_of, StartsHeld, EntersVolumes, GroupFault, NewVolume, IfOn}
+use Rattle.lvm_handover.specs.passed.Volumes.{MklvGives, RmlvGives, to_make, to_remove}
 use Rattle.lvm_handover.specs.Serving.{IsCommanded, IsServed}
 use Rattle.lvm_handover.specs.passed.Tie.{IsStamped}
-use Rattle.lvm_tie_commands.specs.Standing.{HoldsEmpty, StandsAfter, StandsSince}
+use Rattle.lvm_tie_commands.specs.Standing.{StandsAfter, StandsSince}
 
 -- Before it the session of this run is sound, a span leads to it, and what stands on its disks does so after each earlier history.
 pub record MayBeCommanded (run : ℕ) (first : Moment) (s : State) : Type 0 where
@@ -28,7 +28,7 @@ IsAloneAtFirst old new = old.core.descriptor.lvs ≡ [] → EntersVolumes old.co
 
 -- After it that stands as it is where the group has no volume, and in any case once the session takes requests again, whatever copies were added.
 pub record IsLeftStanding (past : List Fact) (new : State) : Type 0 where
-  pub empty : new.core.descriptor.lvs ≡ [] → HoldsEmpty new.device new.core
+  pub empty : new.core.descriptor.lvs ≡ [] → StartsHeld new.device new.core
   pub served : (added : List Pp) (core : Core) → IsServed added new.core core → IsSound (state new.device core) → StandsAfter past new.device core
 
 -- after each earlier history, where the shelf has whole sectors

@@ -1,4 +1,3 @@
-pub mod handed
 pub mod passed
 pub mod Standing
 pub mod Commands

@@ -5,17 +5,12 @@ use Rattle.lvm_vol.specs.Facts.{Fact}
 use Rattle.lvm_kept.specs.Moments.{Moment}
 use Rattle.lvm_steps.specs.Moments.{Begins}
 use Rattle.lvm_session.specs.State.{Core, State, state}
-use Rattle.lvm_handover.specs.handed.Names.{AreNotesHome, IsHeld}
+use Rattle.lvm_handover.specs.passed.Names.{StartsHeld}
 use Rattle.lvm_handover.specs.passed.Tie.{SparesDescriptors, IsTied}
 
--- Of a group without volumes: the disks hold what the session says is committed, and their notes name what its cache does.
-pub record HoldsEmpty (device : Device) (core : Core) : Type 0 where
-  pub held : IsHeld device core
-  pub notes : AreNotesHome device core
-
--- So it is, or, of a group with volumes, the session is tied after this earlier history, and the next descriptors spare the newest ones.
+-- Of a group without volumes the disks hold what the session says is committed, and their notes name what its cache does; of one with volumes the session is tied after this earlier history, and the next descriptors spare the newest ones.
 pub record StandsAfter (past : List Fact) (device : Device) (core : Core) : Type 0 where
-  pub empty : core.descriptor.lvs ≡ [] → HoldsEmpty device core
+  pub empty : core.descriptor.lvs ≡ [] → StartsHeld device core
   pub tied : core.descriptor.lvs ≢ [] → IsTied past (state device core)
   pub spares : core.descriptor.lvs ≢ [] → SparesDescriptors (state device core)
 

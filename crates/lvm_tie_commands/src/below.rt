@@ -5,3 +5,5 @@ pub mod earlier;
 pub mod handover;
 pub mod ranges;
 pub mod volumes;
+
+pub use lvm_handover::below::{Post, end_posts};

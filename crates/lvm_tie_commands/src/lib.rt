@@ -3,6 +3,5 @@
 
 pub mod below;
 mod laws;
-pub mod lower;
 
 pub use laws::{made_stands, mklv_goes_on, rmlv_goes_on, varied_on_stands};

@@ -1,8 +1,4 @@
-pub mod handed
 pub mod passed
-pub mod Rows
-pub mod Adding
-pub mod Taking
-pub mod ServingMore
-pub mod ServingFewer
-pub mod Marking
+pub mod ServingLemmas
+pub mod CopiesLemmas
+pub mod CallsLemmas

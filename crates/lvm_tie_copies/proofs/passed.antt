@@ -1,6 +1,7 @@
 pub mod Earlier
 pub mod Group
 pub mod Handover
+pub mod Names
 pub mod Ranges
 pub mod Running
 pub mod TieCommands

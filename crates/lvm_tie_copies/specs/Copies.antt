@@ -5,8 +5,8 @@ use Rattle.lvm_num.specs.declared.place.Pp.{Pp}
 use Rattle.lvm_kept.specs.Moments.{Moment}
 use Rattle.lvm_steps.specs.Moments.{Keeps}
 use Rattle.lvm_session.specs.State.{State}
-use Rattle.lvm_tie_commands.specs.handed.Names.{moment_of, GroupFault, IsNumberOf}
-use Rattle.lvm_mirrors.specs.handed.Names.{IfOn, MayBeTaken}
+use Rattle.lvm_tie_commands.specs.passed.Names.{moment_of, GroupFault, IfOn, IsNumberOf}
+use Rattle.lvm_mirrors.specs.passed.Names.{MayBeTaken}
 use Rattle.lvm_mirrors.specs.Mirrors.{IfShown, KeepsShown, MklvcopyGives, RmlvcopyGives, to_add, to_take}
 use Rattle.lvm_tie_commands.specs.passed.Handover.{IsCommanded}
 use Rattle.lvm_tie_commands.specs.Commands.{IsLeftStandingSince, MayBeCommanded}

@@ -1,14 +1,15 @@
 pub mod AskRangeFaultVariants
-pub mod DrainFaultVariants
 pub mod Driver
 pub mod Earlier
 pub mod Group
 pub mod Handover
 pub mod Mirrors
+pub mod Names
 pub mod Ranges
 pub mod Recover
 pub mod Running
 pub mod Tie
 pub mod TieCommands
 pub mod Varyon
+pub mod VolumePlanFaultGroupFault
 pub mod Volumes

@@ -6,3 +6,5 @@ pub mod handover;
 pub mod mirrors;
 pub mod ranges;
 pub mod volumes;
+
+pub use lvm_tie_commands::below::{Post, end_posts};

@@ -4,6 +4,5 @@
 
 pub mod below;
 mod laws;
-pub mod lower;
 
 pub use laws::{mklvcopy_goes_on, mklvcopy_serves, rmlvcopy_goes_on, rmlvcopy_serves};

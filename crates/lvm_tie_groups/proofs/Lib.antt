@@ -1,7 +1,4 @@
-pub mod Landing
-pub mod Serving
-pub mod Leaving
-pub mod Coming
-pub mod PairSectors
-pub mod Examples
-pub mod Alone
+pub mod MomentsLemmas
+pub mod SettledLemmas
+pub mod ComingLemmas
+pub mod ExamplesLemmas

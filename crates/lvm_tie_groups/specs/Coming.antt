@@ -12,12 +12,12 @@ use Rattle.lvm_stamps.specs.Behind.{ClockIsAhead}
 use Rattle.lvm_commit.specs.LawsOfVolumes.{IsOneByAllOn}
 use Rattle.lvm_session.specs.State.{State, is_there}
 use Rattle.lvm_session_start.specs.Beginning.{AreFaults}
-use Rattle.lvm_settled.specs.handed.Names.{Room, BringsOn, IsStarted, NotesAreHome, IsSoundBetween, IsRoom}
+use Rattle.lvm_settled.specs.passed.Names.{Room, BringsOn, IsStarted, NotesAreHome, IsSoundBetween, IsRoom}
 use Rattle.lvm_varyon.specs.Varied.{ComesOn}
 use Rattle.lvm_group.specs.Made.{IsMade}
 use Rattle.lvm_group.specs.passed.GroupPlan.{NewGroup}
-use Rattle.lvm_tie_begins.specs.handed.Names.{IsEven, IsGood}
-use Rattle.lvm_varyon.specs.handed.Names.{HasNoPassive}
+use Rattle.lvm_tie_begins.specs.passed.Names.{IsEven, IsGood}
+use Rattle.lvm_varyon.specs.passed.Names.{HasNoPassive}
 use Rattle.lvm_tie_begins.specs.Begins.{ShowsIts, shown_to}
 
 -- ---- what their contracts say

@@ -10,8 +10,8 @@ use Rattle.lvm_commit.specs.LawsOfVolumes.{IsOneByAllOn}
 use Rattle.lvm_session.specs.State.{State, is_there}
 use Rattle.lvm_session.specs.Sound.{IsSound}
 use Rattle.lvm_settled.specs.Settled.{IsKnown, IsCarried}
-use Rattle.lvm_settled.specs.handed.Names.{IsHeld, NotesAreHome}
-use Rattle.lvm_tie_begins.specs.handed.Names.{SparesDescriptors, SparesOn, IsGood, IsTied}
+use Rattle.lvm_settled.specs.passed.Names.{IsHeld, NotesAreHome}
+use Rattle.lvm_tie_begins.specs.passed.Names.{SparesDescriptors, SparesOn, IsGood, IsTied}
 use Rattle.lvm_tie_begins.specs.Begins.{IsResting, MembersShow}
 
 -- ---- in

@@ -1,8 +1,6 @@
-pub mod Copies
-pub mod Flying
-pub mod Owned
-pub mod Writing
-pub mod Records
-pub mod Notes
-pub mod Quiet
-pub mod Bringing
+pub mod CopiesLemmas
+pub mod DeviceLemmas
+pub mod OwnedLemmas
+pub mod WritingLemmas
+pub mod RecordsLemmas
+pub mod BringingLemmas

@@ -4,14 +4,13 @@ use Rattle.lvm_num.specs.declared.place.Pp.{Pp}
 use Rattle.lvm_num.specs.declared.descriptor.Descriptor.{Descriptor}
 use Rattle.lvm_num.specs.declared.status.Status.{Status}
 use Rattle.lvm_num.specs.Buffer.{Buffer, Sector}
-use Rattle.lvm_num.specs.Descriptor.{IsValid}
+use Rattle.lvm_num.specs.Descriptor.{IsValid, is_pp}
 use Rattle.lvm_num.specs.Record.{Stamped}
 use Rattle.lvm_disk.specs.Device.{Media, Flight, Device, written, image_of}
 use Rattle.lvm_disk.specs.Steps.{PutsSome, EndsDone, EndsFailed}
 use Rattle.lvm_kept.specs.Contents.{Contents, contents_of}
 use Rattle.lvm_kept.specs.Group.{block_at}
 use Rattle.lvm_invariant.specs.State.{Stage, Flying, Well, Badly, Queued, ModelState, covers, Started}
-use Rattle.lvm_invariant.specs.Updates.{is_pp}
 use Rattle.lvm_invariant.specs.Found.{Votes}
 use Rattle.lvm_invariant.specs.Good.{Good}
 use Rattle.lvm_invariant.specs.Transfer.{Restages, restaged}

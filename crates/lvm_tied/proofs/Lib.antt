@@ -1,10 +1,2 @@
-pub mod Parts
-pub mod Shelf
-pub mod Seen
-pub mod Worked
-pub mod Waiting
-pub mod Admitted
-pub mod Writing
-pub mod Updating
-pub mod Sound
-pub mod Pairs
+pub mod WorkedLemmas
+pub mod PairsLemmas

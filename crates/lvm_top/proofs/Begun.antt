@@ -11,15 +11,15 @@ use Rattle.lvm_kept.specs.Contents.{Contents, contents_of, descriptor_on}
 use Rattle.lvm_kept.specs.Group.{IsFound}
 use Rattle.lvm_kept.specs.Plans.{ChangesBy}
 use Rattle.lvm_kept.specs.Torn.{MayWriteAll, DescriptorsChange, written as as_read}
-use Rattle.lvm_kept.proofs.Finding.{images_within}
-use Rattle.lvm_steps.proofs.Making.{media_may}
-use Rattle.lvm_write.proofs.Writing.{both_from}
+use Rattle.lvm_kept.proofs.CommittedLemmas.Finding.{images_within}
+use Rattle.lvm_steps.proofs.MakingLemmas.Making.{media_may}
+use Rattle.lvm_write.proofs.WrittenLemmas.Writing.{both_from}
 use Rattle.lvm_commit.specs.Laws.{IsLaterDescriptor}
 use Rattle.lvm_commit.specs.LawsOfFinding.{FindsNoMore}
-use Rattle.lvm_commit.proofs.NoMore.{descriptor_finds_no_more, rest_finds_nothing_new, data_finds_nothing_new}
-use Rattle.lvm_commit.proofs.Still.{still_image}
+use Rattle.lvm_commit.proofs.LawsOfFindingLemmas.NoMore.{descriptor_finds_no_more, rest_finds_nothing_new, data_finds_nothing_new}
+use Rattle.lvm_commit.proofs.LawsOfDataLemmas.Still.{still_image}
 use Rattle.lvm_begin.specs.Beginning.{Beginning, Part, describes, states, IsOfParts}
-use Rattle.lvm_begin.proofs.Showing.{descriptors_show, rest_shows}
+use Rattle.lvm_begin.proofs.ContentsLemmas.{descriptors_show, rest_shows}
 use Rattle.lvm_core.specs.Leaves.{MayBeFound}
 
 -- ---- on the media

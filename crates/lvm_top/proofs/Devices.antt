@@ -6,8 +6,8 @@ use Rattle.lvm_disk.specs.Device.{Media, Image, Flight, Device, image_of, IsCras
 use Rattle.lvm_disk.specs.Images.{LeavesNoMore}
 use Rattle.lvm_kept.specs.Raw.{OnlyAdds}
 use Rattle.lvm_steps.specs.Requests.{IsOfData}
-use Rattle.lvm_commit.proofs.NoMore.{data_finds_nothing_new}
-use Rattle.lvm_commit.proofs.Still.{data_differs}
+use Rattle.lvm_commit.proofs.LawsOfFindingLemmas.NoMore.{data_finds_nothing_new}
+use Rattle.lvm_commit.proofs.LawsOfDataLemmas.Still.{data_differs}
 use Rattle.lvm_transfer.specs.Reading.{IsUnwritten}
 use Rattle.lvm_core.specs.Leaves.{MayBeFound}
 use Rattle.lvm_top.specs.Standing.{HasFewDisks}

@@ -1,26 +1,16 @@
 pub mod passed
-pub mod Blanks
-mod Firsts
-pub mod Lining
-mod Runs
-pub mod Scripting
-pub mod Concluding
-pub mod Stopping
+pub mod MomentsLemmas
+pub mod RunLemmas
+pub mod TurnLemmas
+mod RunsLemmas
+pub mod ScriptLemmas
 pub mod Devices
-pub mod Transfers
-pub mod Quiet
+pub mod LeavesLemmas
 pub mod Begun
-pub mod Making
-pub mod Varying
-pub mod Volumes
-pub mod Copying
-pub mod Groups
-pub mod Lines
-pub mod Acknowledged
-pub mod Modes
-pub mod Scripts
-mod Recovering
-pub mod Refusing
-mod Endings
-pub mod OneGroup
-pub mod Turning
+pub mod NewGroupLemmas
+pub mod StandingLemmas
+pub mod LawsLemmas
+pub mod RecoveredLemmas
+pub mod RefusedLemmas
+pub mod OneGroupLemmas
+pub mod EndingLemmas

@@ -3,18 +3,18 @@ use Rattle.std.specs.Prelude.{◌≡◌, ◌≢◌, ℕ, [], Option, Some, None}
 use Rattle.lvm_kept.specs.Moments.{Moment}
 use Rattle.lvm_session.specs.declared.answers.Turned.{Turned}
 use Rattle.lvm_session.specs.declared.answers.Turned.TheVariants as turned
-use Rattle.lvm_session.specs.State.{Core, State as Session, state}
+use Rattle.lvm_session.specs.State.{Core, State, state}
 use Rattle.lvm_session.specs.Sound.{IsSound}
 use Rattle.lvm_session.specs.Turns.{TurnMakes}
-use Rattle.lvm_line.specs.handed.Names.{TurnTells}
+use Rattle.lvm_line.specs.passed.Names.{TurnTells}
 use Rattle.lvm_line.specs.passed.Running.{RunsOn}
 use Rattle.lvm_line.specs.passed.Ranges.{Moves}
 use Rattle.lvm_line.specs.passed.Stage.{IsClosed}
 
 -- turns are made until one doesn't move, and no turn more
-pub record MakesTurns (old new : Session) : Type 0 where
+pub record MakesTurns (old new : State) : Type 0 where
   pub moved : ℕ
-  pub mid : Session
+  pub mid : State
   pub moves : Moves old moved mid
   pub answer : Turned
   pub last : TurnMakes mid new answer
@@ -28,14 +28,14 @@ pub record IsQuietNow (core : Core) : Type 0 where
   pub committed : core.status.committed ≡ core.status.wanted
 
 -- nothing is under way, and no transfer is out
-pub record RestsNow (s : Session) : Type 0 where
+pub record RestsNow (s : State) : Type 0 where
   pub quiet : IsQuietNow s.core
   pub flights : s.device.flights ≡ []
 
 -- Nothing is left to be made of a session; or turns of it are made, and it is closed without a write; after a power cut the power is put on again.
-pub data RunsOut (old : Session) (exit : Moment) : Type 0 where
+pub data RunsOut (old : State) (exit : Moment) : Type 0 where
   NothingIsLeft : RestsNow old → exit.device ≡ record old.device { freed = [] } → exit.facts ≡ old.core.history.facts → RunsOut old exit
-  TurnsAreMade : (last : Session) → (RestsNow old → ⊥) → MakesTurns old last → RunsOn old last → IsSound last → IsClosed last.core.power last.device exit.device → exit.facts ≡ last.core.history.facts → RunsOut old exit
+  TurnsAreMade : (last : State) → (RestsNow old → ⊥) → MakesTurns old last → RunsOn old last → IsSound last → IsClosed last.core.power last.device exit.device → exit.facts ≡ last.core.history.facts → RunsOut old exit
 
 -- Where no group is on, or one without volumes, nothing happens. Else the session, which is of this run, runs out.
 pub data Concludes (run : ℕ) (end exit : Moment) (on : Option Core) : Type 0 where

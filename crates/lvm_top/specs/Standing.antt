@@ -13,7 +13,7 @@ use Rattle.lvm_parse.specs.Grammar.{line_of}
 use Rattle.lvm_core.specs.declared.parts.Room.{Room}
 use Rattle.lvm_core.specs.Held.{IsHeld}
 use Rattle.lvm_core.specs.Looking.{IsNumberOf}
-use Rattle.lvm_session.specs.State.{Core, State as Session}
+use Rattle.lvm_session.specs.State.{Core, State}
 use Rattle.lvm_line.specs.passed.Group.{new_group}
 use Rattle.lvm_line.specs.passed.Volumes.{IsWith}
 use Rattle.lvm_line.specs.passed.Mirrors.{IsWithFirst, IsWithMore}
@@ -28,7 +28,7 @@ use Rattle.lvm_volume_plan.specs.NewVolume.{without_volume}
 -- ---- one line
 
 -- the session on which a command was made: that which was on, after the turns by which what was under way in it was ended; none where nothing was
-pub record WasDrained (old : ScriptState) (core : Core) (mid : Session) : Type 0 where
+pub record WasDrained (old : ScriptState) (core : Core) (mid : State) : Type 0 where
   pub on : old.session ≡ Some core
   pub left : ℕ
   pub drains : Drains core old left mid
@@ -36,9 +36,9 @@ pub record WasDrained (old : ScriptState) (core : Core) (mid : Session) : Type 0
 -- the descriptor that a line was to commit: of the group that is made, or of that which is on with a volume more or without one, or with more or fewer copies
 abbrev pub IsToCommit : Result (Option Command) Misfit → ScriptState → ScriptState → Descriptor → Type 0
 IsToCommit (Ok (Some (command.Mkvg force name mib disks))) old new k = k ≡ new_group old.moment.device.sizes (asked_for name mib disks force new.last)
-IsToCommit (Ok (Some (command.Mklv name copies mode policy group lps))) old new k = (core : Core) × (mid : Session) × WasDrained old core mid × IsWith (wanted name copies mode policy lps) mid.core k
+IsToCommit (Ok (Some (command.Mklv name copies mode policy group lps))) old new k = (core : Core) × (mid : State) × WasDrained old core mid × IsWith (wanted name copies mode policy lps) mid.core k
 IsToCommit (Ok (Some (command.Rmlv name))) old new k = IsSomeAnd old.session (λ core. (lv : ℕ) × IsNumberOf core.descriptor.lvs name lv × (k ≡ without_volume core.descriptor lv))
-IsToCommit (Ok (Some (command.Mklvcopy name copies))) old new k = (core : Core) × (mid : Session) × WasDrained old core mid × ((lv : ℕ) × IsNumberOf core.descriptor.lvs name lv × IsWithMore lv copies mid.core k)
+IsToCommit (Ok (Some (command.Mklvcopy name copies))) old new k = (core : Core) × (mid : State) × WasDrained old core mid × ((lv : ℕ) × IsNumberOf core.descriptor.lvs name lv × IsWithMore lv copies mid.core k)
 IsToCommit (Ok (Some (command.Rmlvcopy name copies))) old new k = IsSomeAnd old.session (λ core. (lv : ℕ) × IsNumberOf core.descriptor.lvs name lv × IsWithFirst lv copies core k)
 IsToCommit other old new k = ⊥
 

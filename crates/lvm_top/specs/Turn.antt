@@ -1,5 +1,5 @@
 -- How a line of a run is read, and how its reply is written.
-use Rattle.std.specs.Prelude.{◌≡◌, ◌↔◌, ◌⊎◌, ◌≤◌, ◌<◌, ◌+◌, ◌++◌, ℕ, [], ◌∷◌, List, Option, Some, None, IfSome, false, length}
+use Rattle.std.specs.Prelude.{◌≡◌, ◌↔◌, ◌⊎◌, ◌≤◌, ◌<◌, ◌+◌, ◌++◌, ℕ, [], ◌∷◌, Bool, List, Option, Some, None, IfSome, false, if◌then◌else◌, length}
 use Rattle.lvm_io.specs.Count.{Rose}
 use Rattle.lvm_io.specs.Lines.{TakesFirst, has_feed}
 use Rattle.lvm_io.specs.Reading.{Reading, to_come, lines_left, CountsGiven}
@@ -51,6 +51,10 @@ pub record Wrote (text : List ℕ) (output : Passage) : Type 0 where
 -- why a run ends with a line: nothing was heard of a transfer, or the sink failed
 abbrev pub EndsFor : Passage → Stop → Type 0
 EndsFor output why = (why ≡ stop.Stuck) ⊎ ((why ≡ stop.SinkFault) × Rose output.before.faults output.after.faults)
+
+-- why it ends so, if it does, by whether nothing was heard and whether the sink failed
+abbrev pub stop_after : Bool → Bool → Option Stop
+stop_after stuck failed = if stuck then Some stop.Stuck else if failed then Some stop.SinkFault else None
 
 -- a text was written whole, and the sink hasn't failed
 pub record WroteAll (text : List ℕ) (output : Passage) : Type 0 where

@@ -1,7 +1,7 @@
-pub mod Driver
 pub mod HolderVariants
 pub mod Lines
 pub mod Recover
 pub mod ReplyVariants
 pub mod Running
 pub mod Stage
+pub mod Texts

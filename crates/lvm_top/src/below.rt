@@ -3,3 +3,5 @@
 pub mod driver;
 pub mod line;
 pub mod stage;
+
+pub use lvm_replies::push_counted;

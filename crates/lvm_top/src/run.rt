@@ -6,9 +6,9 @@ ghost use Rattle.lvm_core.specs.Starting.{IsRoom};
 ghost use Rattle.lvm_session.specs.declared.open.Power.TheVariants as power;
 ghost use Rattle.lvm_session.specs.Fields.{core_of};
 ghost use Rattle.lvm_session.specs.Sound.{IsSound};
-ghost use Rattle.lvm_line.specs.passed.Driver.{state_of};
+ghost use Rattle.lvm_session.specs.State.{state_of};
 ghost use Rattle.lvm_line.specs.passed.Running.{RunsOn};
-ghost use Rattle.lvm_line.specs.passed.Stage.{history_in, moment_in, session_in, IsBetweenStage, IsClosed, IsFitting, without_facts};
+ghost use Rattle.lvm_line.specs.passed.Stage.{history_in, moment_in, session_in, IsBetweenStage, IsClosed, IsFittingStage, without_facts};
 ghost use Rattle.lvm_top.specs.Ending.{Concludes, IsQuietNow, MakesTurns, RestsNow, RunsOut};
 ghost use Rattle.lvm_top.specs.Run.{Promises, ran};
 ghost use Rattle.lvm_top.specs.Script.{passage};
@@ -141,7 +141,7 @@ fn run_out<S: Shelf>(driver: Driver<S>, posts: Vec<Post>, bytes: Vec<u8>) -> Clo
 /// Ends what stands after the last line: a session that is on makes turns until one doesn't move, and is closed.
 pub fn conclude<S: Shelf>(stage: Stage<S>) -> Closed<S>
     requires between { (session_in stage ≡ None) ⊎ IsBetweenStage S.device stage }
-    requires fits { IsFitting stage }
+    requires fits { IsFittingStage stage }
     ensures concludes { Concludes (history_in stage).run (moment_in S.device stage) (record { device = S.device result.shelf; facts = result.history.facts }) (session_in stage) }
     ensures rooms { without_facts result.history ≡ without_facts (history_in stage) }
 {

@@ -4,10 +4,10 @@ ghost use Rattle.lvm_io.specs.Count.{Rose};
 ghost use Rattle.lvm_io.specs.Stream.{WhereTold, WritesFront};
 ghost use Rattle.lvm_core.specs.Starting.{IsRoom};
 ghost use Rattle.lvm_line.specs.passed.Stage.{reply_text, most_refusals, refusals_of, IsStuck, history_in, session_in, state_in};
-ghost use Rattle.lvm_line.specs.passed.Stage.{IsBetweenStage, IsFitting, without_facts};
+ghost use Rattle.lvm_line.specs.passed.Stage.{IsBetweenStage, IsFittingStage, without_facts};
 ghost use Rattle.lvm_top.specs.Script.{Says, is_made_late, passage};
 ghost use Rattle.lvm_top.specs.Statuses.{GoesUntil};
-ghost use Rattle.lvm_top.specs.Turn.{ReadsLine, ReadsNone, Tells};
+ghost use Rattle.lvm_top.specs.Turn.{ReadsLine, ReadsNone, Tells, stop_after};
 
 use lvm_core::Room;
 use lvm_disk::Shelf;
@@ -119,6 +119,19 @@ fn with_refusals(refused: u32, reply: &Reply) -> u32
     }
 }
 
+// Why the run ends with a line, if so: nothing was heard of a transfer, or else the sink failed.
+fn stop_after(stuck: bool, failed: bool) -> Option<Stop>
+    ensures { result ≡ stop_after stuck failed }
+{
+    if stuck {
+        Some(Stop::Stuck)
+    } else if failed {
+        Some(Stop::SinkFault)
+    } else {
+        None
+    }
+}
+
 /// Writes the reply to a line. Answers how many lines are refused with it, and why the run ends with it, if so.
 pub fn write_reply<O: Sink>(
     alloc: Global,
@@ -132,13 +145,8 @@ pub fn write_reply<O: Sink>(
     let stuck = is_stuck(&answer);
     let (said, wrote) = say(alloc, out, answer);
     let refused = with_refusals(refused, &said);
-    if stuck {
-        (refused, Some(Stop::Stuck))
-    } else if wrote.is_err() {
-        (refused, Some(Stop::SinkFault))
-    } else {
-        (refused, None)
-    }
+    let stop = stop_after(stuck, wrote.is_err());
+    (refused, stop)
 }
 
 // The next line of a source. Where none comes, why the run ends, if not since none is left.
@@ -183,14 +191,14 @@ pub fn do_lines<S: Shelf, I: Source, O: Sink, C: Clock>(
     room: Room,
 ) -> Done<S>
     requires between { IsBetweenStage S.device stage }
-    requires fits { IsFitting stage }
+    requires fits { IsFittingStage stage }
     requires none { stage.posts.items ≡ [] }
     requires room { IsRoom room }
     requires unread { lines.old ≡ record { front = []; block = []; given = 0 } }
     ensures goes { GoesUntil result.stop (without_facts (history_in stage)) room (state_in S.device stage (C.last clock.old)) (state_in S.device result.stage (C.last clock.new)) (passage I.left I.faults input.old input.new) (passage O.held O.faults out.old out.new) result.refused }
     ensures off { result.stop ≡ Some Stop.Stuck → session_in result.stage ≡ None }
     ensures between { (result.stop ≡ Some Stop.Stuck → ⊥) → IsBetweenStage S.device result.stage }
-    ensures fits { IsFitting result.stage }
+    ensures fits { IsFittingStage result.stage }
     ensures rooms { without_facts (history_in result.stage) ≡ without_facts (history_in stage) }
 {
     let mut stage = stage;

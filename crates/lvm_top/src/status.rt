@@ -3,7 +3,7 @@ ghost use Rattle.std.specs.Prelude.{◌≡◌};
 ghost use Rattle.lvm_top.specs.Statuses.{code_of};
 
 /// How a run of the program ended.
-#[derive(Clone, Copy, Debug, PartialEq, Eq, Drop)]
+#[derive(Clone, Copy, Drop)]
 pub enum ExitStatus {
     /// 0: the input, if the words ask for a run of it, was read to its end and nothing was refused; else what they ask for was written.
     Well,

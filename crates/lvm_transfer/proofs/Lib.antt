@@ -1,8 +1,5 @@
-pub mod handed
-pub mod Waiting
-pub mod Ending
-pub mod Effects
-pub mod Joining
-pub mod Transferring
-pub mod Following
-pub mod Fronts
+pub mod passed
+pub mod TransferLemmas
+pub mod StepsLemmas
+pub mod RecordLemmas
+pub mod ReadingLemmas

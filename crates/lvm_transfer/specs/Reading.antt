@@ -1,15 +1,17 @@
 -- What reads of a disk's records change, and how they end.
-use Rattle.std.specs.Prelude.{◌≡◌, ℕ, ◌+◌, ◌-◌, ◌<◌, ◌≤◌, true, false, List, [], ◌∷◌, length, take, drop, Result, Ok, Err, slice_index_or}
+use Rattle.std.specs.Prelude.{◌≡◌, ℕ, ◌+◌, ◌-◌, ◌<◌, ◌≤◌, Bool, true, false, List, [], ◌∷◌, length, take, drop, min, Result, Ok, Err, slice_index_or}
 use Rattle.std.specs.Int.{w32, from_be_bytes}
-use Rattle.lvm_disk.specs.handed.Names.{Buffer, data_start}
+use Rattle.lvm_disk.specs.passed.Names.{Buffer, data_start}
 use Rattle.lvm_disk.specs.Counts.{RoseBy, Rose}
 use Rattle.lvm_disk.specs.Device.{Flight, Device, IsReady}
 use Rattle.lvm_disk.specs.Images.{LeavesNoMore}
 use Rattle.lvm_disk.specs.Paths.{DeviceStep, Path}
+use Rattle.lvm_disk.specs.Steps.{EndsDone}
 use Rattle.lvm_transfer.specs.declared.reading.Stop.{Stop}
 use Rattle.lvm_transfer.specs.declared.reading.Stop.TheVariants as stop
 use Rattle.lvm_transfer.specs.declared.reading.Unread.{Unread}
 use Rattle.lvm_transfer.specs.declared.reading.Unread.TheVariants as unread
+use Rattle.lvm_transfer.specs.Transfer.{IsOut, StepsWhile, flight_of}
 
 -- ---- what reads change
 
@@ -27,11 +29,13 @@ pub record IsUntouched (disk : ℕ) (old new : Device) : Type 0 where
   pub starts : new.counts.starts disk ≡ old.counts.starts disk
   pub misses : new.counts.misses disk ≡ old.counts.misses disk
 
--- Nothing was written: a crash at any moment leaves what it might have left at the first. Patience was lost by answers that nothing has ended.
+-- Nothing was written: a crash at any moment leaves what it might have left at the first. Patience was lost by answers that nothing has ended, by one
+-- for each, and by no other step.
 pub record OnlyReads (before after : ℕ) (old new : Device) : Type 0 where
   pub unwritten : IsUnwritten old new
   pub falls : after ≤ before
   pub waited : RoseBy (before - after) old.counts.waits new.counts.waits
+  pub steps : StepsWhile before old after new
   pub moments : Path DeviceStep (LeavesNoMore old) old new
 
 -- nothing is out, and the power was on all the time
@@ -45,16 +49,21 @@ pub record IsCutOff (old new : Device) : Type 0 where
   pub flights : new.flights ≡ []
   pub cuts : Rose old.counts.cuts new.counts.cuts
 
--- One read is out with the buffer of this number, of which nothing was heard until the patience had run out. The power was on all the time.
-pub record IsReadStuck (number patience : ℕ) (old new : Device) : Type 0 where
+-- Just one transfer is out, a write or a read, with the buffer of this number, of which nothing was heard until the patience had run out. The power is on as ever, and
+-- no buffer was given up.
+pub record IsUnheard (writes : Bool) (number patience : ℕ) (old new : Device) : Type 0 where
   pub flight : Flight
-  pub out : new.flights ≡ flight ∷ []
-  pub reads : flight.write ≡ false
+  pub flights : new.flights ≡ flight ∷ []
+  pub write : flight.write ≡ writes
   pub buffer : flight.buf.number ≡ number
   pub freed : new.freed ≡ []
   pub power : new.power ≡ true
   pub cuts : new.counts.cuts ≡ old.counts.cuts
-  pub waited : RoseBy patience old.counts.waits new.counts.waits
+  pub waits : RoseBy patience old.counts.waits new.counts.waits
+
+-- so a read is out
+abbrev pub IsReadStuck : ℕ → ℕ → Device → Device → Type 0
+IsReadStuck number patience old new = IsUnheard false number patience old new
 
 -- how reads were ended before their end, with the buffer of this number
 abbrev pub StopGives : ℕ → ℕ → Device → Device → Stop → Type 0
@@ -94,6 +103,26 @@ pub record ReadsEnd (disk number before after : ℕ) (old new : Device) (ended :
 abbrev pub only_buffer : {X : Type 0} → Result (X × Buffer) Unread → Result Buffer Unread
 only_buffer (Ok got) = Ok got.1
 only_buffer (Err why) = Err why
+
+-- ---- what was read
+
+-- this range of a disk was read, by one transfer
+pub record OneWasRead (disk first count : ℕ) (old new : Device) : Type 0 where
+  pub ticket : ℕ
+  pub buf : Buffer
+  pub back : Buffer
+  pub now : Device
+  pub out : IsOut old now (flight_of ticket false disk first count buf)
+  pub ends : EndsDone now new ticket back
+
+-- so many of these sectors of a disk were read, in turn, by transfers of 256 each, of which the last may have fewer
+pub data ReadSoFar (disk first count : ℕ) (old : Device) : ℕ → Device → Type 0 where
+  NoneYet : ReadSoFar disk first count old 0 old
+  OneMore : (done piece : ℕ) {now new : Device} → ReadSoFar disk first count old done now → done < count → piece ≡ min 256 (count - done) → OneWasRead disk (first + done) piece now new → ReadSoFar disk first count old (done + piece) new
+
+-- all of them were
+abbrev pub SectorsRead : ℕ → ℕ → ℕ → Device → Device → Type 0
+SectorsRead disk first count old new = ReadSoFar disk first count old count new
 
 -- ---- where it is read
 

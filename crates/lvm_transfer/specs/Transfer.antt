@@ -1,8 +1,9 @@
 -- One transfer on a shelf at which nothing else is out.
-use Rattle.std.specs.Prelude.{◌≡◌, ◌≤◌, ℕ, [], Bool, true, false}
-use Rattle.lvm_disk.specs.handed.Names.{Buffer}
+use Rattle.std.specs.Prelude.{◌≡◌, ◌+◌, ◌-◌, ◌≤◌, ℕ, [], Bool, true, false}
+use Rattle.lvm_disk.specs.passed.Names.{Buffer}
 use Rattle.lvm_disk.specs.Counts.{RoseBy}
 use Rattle.lvm_disk.specs.Device.{Flight, Device, IsReady}
+use Rattle.lvm_disk.specs.Paths.{DeviceStep, Started, WasCut, Ended, Broke, Waited, Freed, Lit, Arranged}
 use Rattle.lvm_disk.specs.Steps.{Starts, Cuts, EndsDone, EndsFailed}
 use Rattle.lvm_transfer.specs.declared.moves.Moved.{Moved}
 use Rattle.lvm_transfer.specs.declared.moves.Moved.TheVariants as moved
@@ -43,6 +44,32 @@ Rests new (moved.Done back) = IsReady new
 Rests new (moved.Failed back) = IsReady new
 Rests new (moved.Dark started) = (new.flights ≡ []) × (new.power ≡ false)
 Rests new moved.Stuck = Unit {0}
+
+-- ---- what it costs
+
+-- an answer that nothing has ended costs one of the patience, and any other step nothing
+abbrev pub cost_of : {old new : Device} → DeviceStep old new → ℕ
+cost_of (Started f starts) = 0
+cost_of (WasCut cuts) = 0
+cost_of (Ended ticket buf ends) = 0
+cost_of (Broke ticket buf ends) = 0
+cost_of (Waited waits) = 1
+cost_of (Freed buf gives) = 0
+cost_of (Lit still none lights) = 0
+cost_of (Arranged what arranges) = 0
+
+-- steps at so much patience, of which so much is left
+pub data StepsWhile (patience : ℕ) (first : Device) : ℕ → Device → Type 0 where
+  NoStep : StepsWhile patience first patience first
+  OneStep : {left less : ℕ} {old new : Device} → StepsWhile patience first left old → (step : DeviceStep old new) → left ≡ less + cost_of step → StepsWhile patience first less new
+
+-- the patience falls by the answers that nothing has ended, and by no other step
+pub record Costs (before after : ℕ) (old new : Device) : Type 0 where
+  pub falls : after ≤ before
+  pub waited : RoseBy (before - after) old.counts.waits new.counts.waits
+  pub steps : StepsWhile before old after new
+
+-- ---- the power
 
 -- the buffers that a cut gave up are taken back, and the power is on
 abbrev pub Relights : Device → Device → Type 0

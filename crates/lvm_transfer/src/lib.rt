@@ -1,7 +1,7 @@
 //! One transfer on a shelf at which nothing else is out, and reads of sectors by one after another.
 #![tactic(auto)]
 
-pub mod lower;
+pub mod below;
 mod moves;
 mod reading;
 

@@ -6,9 +6,9 @@ ghost use Rattle.lvm_disk.specs.Steps.{IsRange, StartGives};
 ghost use Rattle.lvm_disk.specs.Images.{LeavesNoMore};
 ghost use Rattle.lvm_disk.specs.Paths.{DeviceStep, Path};
 ghost use Rattle.lvm_kept.specs.Raw.{OnlyAdds};
-ghost use Rattle.lvm_transfer.specs.Transfer.{FinishGives, TransferGives, Rests, Relights, flight_of};
+ghost use Rattle.lvm_transfer.specs.Transfer.{Costs, FinishGives, StepsWhile, TransferGives, Rests, Relights, flight_of};
 
-use lvm_disk::lower::Pbuf;
+use lvm_disk::below::Pbuf;
 use lvm_disk::{Reaped, Shelf, Started};
 
 /// How a transfer ended.
@@ -64,8 +64,8 @@ fn finish<S: Shelf>(shelf: &mut S, patience: &mut Patience) -> Moved
     requires power { (S.device shelf.old).power ≡ true }
     requires freed { (S.device shelf.old).freed ≡ [] }
     ensures gives { (f : Flight) → (S.device shelf.old).flights ≡ f ∷ [] → FinishGives patience.old.left (S.device shelf.old) (S.device shelf.new) f result }
-    ensures patience { patience.new.left ≤ patience.old.left }
-    ensures waited { RoseBy (patience.old.left - patience.new.left) (S.device shelf.old).counts.waits (S.device shelf.new).counts.waits }
+    // Each answer that nothing has ended costs one of the patience.
+    ensures costs { Costs patience.old.left patience.new.left (S.device shelf.old) (S.device shelf.new) }
     ensures rests { Rests (S.device shelf.new) result }
     ensures moments { Path DeviceStep (LeavesNoMore (S.device shelf.old)) (S.device shelf.old) (S.device shelf.new) }
 {
@@ -106,6 +106,8 @@ pub fn transfer<S: Shelf>(
     ensures rests { Rests (S.device shelf.new) result }
     ensures patience { patience.new.left ≤ patience.old.left }
     ensures waited { RoseBy (patience.old.left - patience.new.left) (S.device shelf.old).counts.waits (S.device shelf.new).counts.waits }
+    // Each answer that nothing has ended costs one of the patience.
+    ensures costs { StepsWhile patience.old.left (S.device shelf.old) patience.new.left (S.device shelf.new) }
     ensures moments { Path DeviceStep (OnlyAdds (flight_of 0 write disk first count buf) (S.device shelf.old)) (S.device shelf.old) (S.device shelf.new) }
 {
     match start(shelf, write, disk, first, count, buf) {

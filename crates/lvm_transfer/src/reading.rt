@@ -1,14 +1,14 @@
 //! Sectors of a disk's record area are read, by one transfer after another.
 ghost use Rattle.std.specs.Prelude.{◌≡◌, ◌+◌, ◌-◌, ◌*◌, ◌++◌, ◌<◌, ◌≤◌, ℕ, length, max, min, slice_index_or, [], IfSome, IfOk, OnOk};
-ghost use Rattle.lvm_disk.specs.handed.NumRecordKind as kind_is;
-ghost use Rattle.lvm_disk.specs.handed.Names.{joined, record_in, record_sectors};
+ghost use Rattle.lvm_disk.specs.passed.NumRecordKind as kind_is;
+ghost use Rattle.lvm_disk.specs.passed.Names.{joined, record_in, record_sectors};
 ghost use Rattle.lvm_disk.specs.Device.{IsReady};
 ghost use Rattle.lvm_disk.specs.Steps.{IsRange};
-ghost use Rattle.lvm_transfer.specs.Reading.{announced_length, only_buffer, IsInRecords, ReadsEnd};
+ghost use Rattle.lvm_transfer.specs.Reading.{announced_length, only_buffer, IsInRecords, OneWasRead, ReadsEnd, SectorsRead};
 
 use crate::moves::{Moved, Patience, transfer};
 use lvm_disk::Shelf;
-use lvm_disk::lower::Pbuf;
+use lvm_disk::below::Pbuf;
 use std::alloc::{AllocError, Global};
 
 const SECTOR: usize = 512;
@@ -63,6 +63,8 @@ pub fn read_sectors<S: Shelf>(
     requires inside { IsInRecords (S.device shelf.old) extent.disk extent.first extent.count }
     requires kept { extent.keep ≤ extent.count }
     ensures reads { ReadsEnd extent.disk buf.number patience.old.left patience.new.left (S.device shelf.old) (S.device shelf.new) (only_buffer result) }
+    // All of them are read, those too that aren't kept.
+    ensures whole { OnOk result (SectorsRead extent.disk extent.first extent.count (S.device shelf.old) (S.device shelf.new)) }
     ensures size { IfOk result (λ got. length got.0.items ≡ 512 * extent.keep) }
     ensures bytes { IfOk result (λ got. IfSome (S.device shelf.old).media (λ media. got.0.items ≡ joined (media extent.disk) extent.first extent.keep)) }
 {
@@ -85,6 +87,7 @@ fn append_sectors<S: Shelf>(
     requires inside { IsInRecords (S.device shelf.old) extent.disk extent.first extent.count }
     requires kept { extent.keep ≤ extent.count }
     ensures reads { ReadsEnd extent.disk buf.number patience.old.left patience.new.left (S.device shelf.old) (S.device shelf.new) result }
+    ensures whole { OnOk result (SectorsRead extent.disk extent.first extent.count (S.device shelf.old) (S.device shelf.new)) }
     ensures size { OnOk result (length bytes.new.items ≡ length bytes.old.items + 512 * extent.keep) }
     ensures bytes { OnOk result (IfSome (S.device shelf.old).media (λ media. bytes.new.items ≡ bytes.old.items ++ joined (media extent.disk) extent.first extent.keep)) }
 {
@@ -117,6 +120,7 @@ fn append_piece<S: Shelf>(
     requires records { piece.first < 4096 }
     requires kept { piece.keep ≤ piece.count }
     ensures reads { ReadsEnd piece.disk buf.number patience.old.left patience.new.left (S.device shelf.old) (S.device shelf.new) result }
+    ensures whole { OnOk result (OneWasRead piece.disk piece.first piece.count (S.device shelf.old) (S.device shelf.new)) }
     ensures size { OnOk result (length bytes.new.items ≡ length bytes.old.items + 512 * piece.keep) }
     ensures bytes { OnOk result (IfSome (S.device shelf.old).media (λ media. bytes.new.items ≡ bytes.old.items ++ joined (media piece.disk) piece.first piece.keep)) }
 {
@@ -138,6 +142,7 @@ fn read_piece<S: Shelf>(
     requires range { IsRange (S.device shelf.old) piece.disk piece.first piece.count }
     requires records { piece.first < 4096 }
     ensures reads { ReadsEnd piece.disk buf.number patience.old.left patience.new.left (S.device shelf.old) (S.device shelf.new) result }
+    ensures whole { OnOk result (OneWasRead piece.disk piece.first piece.count (S.device shelf.old) (S.device shelf.new)) }
     ensures bytes { IfOk result (λ back. (keep : ℕ) → keep ≤ piece.count → IfSome (S.device shelf.old).media (λ media. joined (λ i. slice_index_or back.sectors i []) 0 keep ≡ joined (media piece.disk) piece.first keep)) }
 {
     match transfer(
@@ -178,6 +183,7 @@ pub fn read_front<S: Shelf>(
     requires ready { IsReady (S.device shelf.old) }
     requires inside { IsInRecords (S.device shelf.old) disk first 1152 }
     ensures reads { ReadsEnd disk buf.number patience.old.left patience.new.left (S.device shelf.old) (S.device shelf.new) (only_buffer result) }
+    ensures whole { OnOk result (SectorsRead disk first 1152 (S.device shelf.old) (S.device shelf.new)) }
     ensures record { IfOk result (λ got. IfSome (S.device shelf.old).media (λ media. record_in kind_is.Descriptor got.0.items ≡ record_in kind_is.Descriptor (joined (media disk) first 1152))) }
 {
     // All sectors are read. Kept are those of the first read, and all of the record that the first sector announces: of a

@@ -1,9 +1,4 @@
-mod Growing
-mod Rules
-pub mod Keeping
-pub mod Parting
-pub mod Nested
-pub mod Ends
-pub mod Clients
-pub mod Leaving
-pub mod Idle
+mod RulesLemmas
+pub mod StepsLemmas
+pub mod ViewsLemmas
+pub mod CallsLemmas

@@ -1,7 +1,4 @@
-pub mod handed
-pub mod Losing
-pub mod Votes
-pub mod Statuses
-pub mod Reviewing
-pub mod Requests
-pub mod Turning
+pub mod passed
+pub mod LosingLemmas
+pub mod StatusLemmas
+pub mod MarksLemmas

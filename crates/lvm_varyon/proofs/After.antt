@@ -2,6 +2,7 @@
 use Rattle.std.proofs.Common.{◌≡◌, ◌⊎◌, inl, inr, ⊎_elim, ℕ, ◌<◌, Bool, true, false, ◌&&◌, ◌==◌, ◌||◌, List, [], ◌∷◌, Option, Some, refl, sym, ap, subst, ◌∙◌, arith}
 use Rattle.std.specs.Prelude.{IsTrue, IsFalse, option_map, IfSome}
 use Rattle.std.specs.List.{list_any}
+use Rattle.std.proofs.lemmas.Bool.{cases_Bool}
 use Rattle.lvm_num.specs.declared.descriptor.PvRow.{PvRow}
 use Rattle.lvm_num.specs.declared.descriptor.Descriptor.{Descriptor}
 use Rattle.lvm_num.specs.Disks.{Disks}
@@ -17,29 +18,29 @@ use Rattle.lvm_kept.specs.Kept.{Kept}
 use Rattle.lvm_kept.specs.Plans.{ChangesBy}
 use Rattle.lvm_kept.specs.Recovered.{IsRecordRange}
 use Rattle.lvm_kept.specs.Torn.{written as as_read, DescriptorsChange, StatusesChange}
-use Rattle.lvm_kept.proofs.Finding.{images_within}
+use Rattle.lvm_kept.proofs.CommittedLemmas.Finding.{images_within}
 use Rattle.lvm_stamps.specs.Behind.{StampsBefore, beginning_at, IsBehind}
 use Rattle.lvm_rec.specs.declared.homes.Homes.{Homes}
 use Rattle.lvm_write.specs.Homes.{SparesNewest}
-use Rattle.lvm_varyon_plan.specs.handed.Names.{ShowsCommitted, LogsOnly}
-use Rattle.lvm_varyon_plan.proofs.handed.Names.{newest_is_beginning, only_planned}
+use Rattle.lvm_varyon_plan.specs.passed.Names.{ShowsCommitted, LogsOnly}
+use Rattle.lvm_varyon_plan.proofs.passed.Names.{newest_is_beginning, only_planned}
 use Rattle.lvm_steps.specs.VaryingOn.{HasNewest}
-use Rattle.lvm_steps.proofs.Following.{restamp_is_newest}
-use Rattle.lvm_steps.proofs.VaryingOn.{restamp_keeps, restate_keeps}
+use Rattle.lvm_steps.proofs.VaryingOnLemmas.Following.{restamp_is_newest}
+use Rattle.lvm_steps.proofs.VaryingOnLemmas.VaryingOn.{restamp_keeps, restate_keeps}
 use Rattle.lvm_begin.specs.Beginning.{Beginning, again_order, describes, states, MayBeginAgain, IsOfParts}
 use Rattle.lvm_begin.specs.Newest.{FindsBeginning}
 use Rattle.lvm_begin.specs.Shown.{HasBegun}
-use Rattle.lvm_begin.proofs.Following.{targets_spare_newest, ranges_are_of_records, stamps_are_of_beginning}
-use Rattle.lvm_begin.proofs.Found.{may_restate}
-use Rattle.lvm_begin.proofs.Newest.{all_find_newest, again_is_found, status_is_last}
-use Rattle.lvm_begin.proofs.Shown.{again_is_shown, media_by}
+use Rattle.lvm_begin.proofs.ShownLemmas.Following.{targets_spare_newest, ranges_are_of_records, stamps_are_of_beginning}
+use Rattle.lvm_begin.proofs.VaryingOnLemmas.{may_restate}
+use Rattle.lvm_begin.proofs.NewestLemmas.{all_find_newest, again_is_found, status_is_last}
+use Rattle.lvm_begin.proofs.ShownLemmas.Shown.{again_is_shown, media_by}
 use Rattle.lvm_next.specs.Next.{IsNextStatus}
 use Rattle.lvm_next.specs.Restated.{Restated}
 use Rattle.lvm_varyon.specs.Found.{records_on}
 use Rattle.lvm_varyon_plan.specs.Chosen.{answering}
 use Rattle.lvm_varyon.specs.Varied.{HasWritten}
 use Rattle.lvm_varyon.specs.Writing.{beginning, AllWritten}
-use Rattle.lvm_varyon.proofs.Grouping.{same_voters}
+use Rattle.lvm_varyon.proofs.GroupLemmas.{same_voters}
 
 -- a disk with room for its partitions is a member
 pub room_member : (rows : List PvRow) (d : ℕ) (test : PvRow → Bool) → list_any (λ (row : PvRow). row.disk == d && test row) rows ≡ true → list_any (λ (row : PvRow). row.disk == d) rows ≡ true
@@ -61,10 +62,6 @@ voter_room c disks group f d e =
     third true true e is = is
     third true false e is = absurd cc
     third false b e is = absurd cc
-
-tested : (t : Bool) → (t ≡ true) ⊎ (t ≡ false)
-tested true = inl refl
-tested false = inr refl
 
 -- the group that the name chooses has its records, on its members that answer
 abbrev pub HasRecords : Device → Device → List ℕ → ℕ → Homes → Type 0
@@ -194,13 +191,13 @@ module _ (old new : Device) (name : List ℕ) (moment : ℕ) (homes : Homes) (w 
 
   describe_change : DescriptorsChange targets newest before described
   describe_change = record {
-    own = λ d. ⊎_elim (λ (target : IsTrue (targets d)). inr (target, begun.described d target)) (λ (other : IsFalse (targets d)). inl (begun.others d other).0) (tested (targets d));
+    own = λ d. ⊎_elim (λ (target : IsTrue (targets d)). inr (target, begun.described d target)) (λ (other : IsFalse (targets d)). inl (begun.others d other).0) (cases_Bool (targets d));
     rest = refl;
   }
 
   state_change : StatusesChange targets (as_read (states b) w.next) described after
   state_change = record {
-    own = λ d. ⊎_elim (λ (target : IsTrue (targets d)). inr (target, begun.stated d target)) (λ (other : IsFalse (targets d)). inl (begun.others d other).1) (tested (targets d));
+    own = λ d. ⊎_elim (λ (target : IsTrue (targets d)). inr (target, begun.stated d target)) (λ (other : IsFalse (targets d)). inl (begun.others d other).1) (cases_Bool (targets d));
     rest = begun.rest ∙ (λ t. record before { descriptor = after.descriptor; status = after.status; note = λ d. begun.noted refl d t });
   }
 

@@ -4,6 +4,7 @@ use Rattle.std.specs.Prelude.{IsTrue, ◌^◌, nat_lt, nat_le, slice_get, slice_
 use Rattle.std.specs.List.{list_any}
 use Rattle.std.proofs.lemmas.Bool.Decides.{nat_tests}
 use Rattle.std.proofs.lemmas.Option.{slice_get_within, get_or_from_slice_get}
+use Rattle.std.proofs.lemmas.Bool.{and_from}
 use Rattle.lvm_num.specs.declared.record.Kind.TheVariants as kind
 use Rattle.lvm_num.specs.declared.record.Framed.{Framed}
 use Rattle.lvm_num.specs.declared.descriptor.Mode.TheVariants.{Passive}
@@ -19,53 +20,47 @@ use Rattle.lvm_num.specs.StatusBytes.{status_of, status_bytes}
 use Rattle.lvm_num.specs.Record.{Stamped}
 use Rattle.lvm_num.specs.Status.{calls_dirty}
 use Rattle.lvm_num.specs.Votes.{all_disks}
-use Rattle.lvm_disk.specs.Device.{Media, Image, Device, image_of, HasSectors}
+use Rattle.lvm_num.proofs.Booleans.{clash}
+use Rattle.lvm_disk.specs.Device.{Media, Image, Device, image_of, HasSectors, IsWholeImage}
 use Rattle.lvm_kept.specs.Contents.{Contents, contents_of, has_records}
 use Rattle.lvm_kept.specs.Group.{passes, is_of, has_room, descriptor_among, is_voter, status_among, Finds, fresh_on, IsOneOf, IsSome}
 use Rattle.lvm_kept.specs.Torn.{MayWriteAll}
 use Rattle.lvm_steps.specs.VaryingOn.{Carries}
 use Rattle.lvm_stamps.specs.Behind.{StampsBefore, IsBehind}
-use Rattle.lvm_stamps.specs.Laws.{IsWhole, ShowsBefore}
-use Rattle.lvm_stamps.proofs.Stamps.{behind_is_before}
-use Rattle.lvm_stamps.proofs.Records.{shown_is_before, session_may_go}
-use Rattle.lvm_vgda.proofs.Whole.{spelled_is_read}
-use Rattle.lvm_vgsa.proofs.RoundTrip.{is_read_again}
+use Rattle.lvm_stamps.specs.Laws.{ShowsBefore}
+use Rattle.lvm_stamps.proofs.LawsLemmas.Stamps.{behind_is_before}
+use Rattle.lvm_stamps.proofs.LawsLemmas.Records.{shown_is_before, session_may_go}
+use Rattle.lvm_vgda.proofs.DescriptorBytesLemmas.Whole.{spelled_is_read}
+use Rattle.lvm_vgsa.proofs.StatusBytesLemmas.RoundTrip.{is_read_again}
 use Rattle.lvm_write.specs.Homes.{SparesNewest}
 use Rattle.lvm_write.specs.Written.{write_of, HaveRoom}
-use Rattle.lvm_write.proofs.Shows.{descriptor_may_be_written, status_may_be_written}
+use Rattle.lvm_write.proofs.ShowsLemmas.{descriptor_may_be_written, status_may_be_written}
 use Rattle.lvm_survey.specs.declared.row.SurveyRow.{SurveyRow}
 use Rattle.lvm_survey.specs.declared.row.Survey.{Survey}
 use Rattle.lvm_survey.specs.Surveyed.{surveyed}
-use Rattle.lvm_survey.specs.handed.Names.{under}
-use Rattle.lvm_varyon_plan.specs.handed.Names.{Room}
+use Rattle.lvm_survey.specs.passed.Names.{under}
+use Rattle.lvm_varyon_plan.specs.passed.Names.{Room}
 use Rattle.lvm_begin.specs.Beginning.{Beginning, describes, states, MayBeginAgain}
-use Rattle.lvm_next.specs.Next.{IsNextStatus, is_passive, has_passive}
-use Rattle.lvm_next.proofs.Building.{copy_is_placed, is_member_of}
+use Rattle.lvm_next.specs.Next.{IsNextStatus, has_passive}
+use Rattle.lvm_num.specs.Modes.{is_passive}
+use Rattle.lvm_next.proofs.NextLemmas.{copy_is_placed, is_member_of}
 use Rattle.lvm_varyon_plan.specs.declared.plan.Plan.{Plan}
 use Rattle.lvm_varyon.specs.Found.{records_on}
 use Rattle.lvm_varyon_plan.specs.Chosen.{MayComeOn}
 use Rattle.lvm_varyon_plan.specs.Planned.{IsPlan}
 use Rattle.lvm_varyon.specs.Parts.{IsSurveyOf}
 use Rattle.lvm_varyon.specs.Writing.{beginning}
-use Rattle.lvm_varyon.proofs.Seeing.{answered_by, read_row, shows_records, row_answers}
-use Rattle.lvm_varyon.proofs.Grouping.{same_voters, same_status, holds_finds}
-use Rattle.lvm_varyon.proofs.Placing.{one_place}
-use Rattle.lvm_varyon_plan.proofs.handed.Names.{descriptor_fits}
-use Rattle.lvm_varyon.proofs.Sizes.{status_fits}
-
-both : (a b : Bool) → a ≡ true → b ≡ true → a && b ≡ true
-both true b e f = f
-both false b e f = absurd cc
+use Rattle.lvm_varyon.proofs.FoundLemmas.Seeing.{answered_by, read_row, shows_records, row_answers}
+use Rattle.lvm_varyon.proofs.GroupLemmas.{same_voters, same_status, holds_finds}
+use Rattle.lvm_varyon.proofs.DescriptorLemmas.{one_place}
+use Rattle.lvm_varyon_plan.proofs.passed.Names.{descriptor_fits}
+use Rattle.lvm_varyon.proofs.RecordLemmas.{status_fits}
 
 within : (d n : ℕ) → d < n → nat_lt d n ≡ true
 within d n lt = grind (arith, nat_tests)
 
 enough_is : (n : ℕ) → data_start ≤ n → nat_le data_start n ≡ true
 enough_is n le = grind (arith, nat_tests)
-
-true_or_false : (b : Bool) → (b ≡ true) ⊎ (b ≡ false)
-true_or_false true = inl refl
-true_or_false false = inr refl
 
 -- a voter shows the group's descriptor, and has the room that it needs
 pub voter_shows : (c : Contents) (disks : Disks) (id d : ℕ) → IsTrue (is_voter c disks id d) → IsTrue (passes (is_of id) (c.descriptor d))
@@ -101,9 +96,6 @@ room_enough mib (row ∷ rows) d size e = by_test (row.disk == d) (nat_le (secto
     by_test true false is e rest = rest e
     by_test false b is e rest = rest e
 
-clash : (b : Bool) → b ≡ true → b ≡ false → ⊥
-clash b e f = cc
-
 passive_row : (rows : List LvRow) (row : LvRow) → IsOneOf rows row → row.mode ≡ Passive → list_any (λ (r : LvRow). r.number == row.number && is_passive r.mode) rows ≡ true
 passive_row [] row is passive = absurd is
 passive_row (r ∷ rs) row (inl same) passive = or_left (r.number == row.number && is_passive r.mode) (list_any (λ (x : LvRow). x.number == row.number && is_passive x.mode) rs)
@@ -123,7 +115,7 @@ pub carries : (c : Contents) (group : Descriptor) (disks : Disks) (was : Stamped
     → status_among c disks group.id ≡ Some was → Carries c group disks was.value next
 carries c group disks was next valid is found = record {
   stale = λ row lp p volume one marked. (is.stale p (is_member_of group p (copy_is_placed group valid row lp p volume one))).1 (inl marked);
-  dirty = λ row volume passive marked. is.dirty row.number ∙ both (calls_dirty was.value row.number) (has_passive group row.number) marked (passive_row group.lvs row volume passive);
+  dirty = λ row volume passive marked. is.dirty row.number ∙ and_from (calls_dirty was.value row.number) (has_passive group row.number) marked (passive_row group.lvs row volume passive);
   only = λ row lp p volume one marked. ⊎_elim
       (λ was_so. inl was_so)
       (λ left. inr (
@@ -203,7 +195,7 @@ module _ (old read : Device) (survey : Survey) (is : IsSurveyOf old read survey)
     there : (d : ℕ) → IsTrue (has plan.targets d) → has_records (image_of old.sizes media) d ≡ true
     there d target =
         let r = target_row d target in
-        both (nat_lt d (length old.sizes)) (nat_le data_start (slice_index_or old.sizes d 0))
+        and_from (nat_lt d (length old.sizes)) (nat_le data_start (slice_index_or old.sizes d 0))
         (within d (length old.sizes) (slice_get_within old.sizes d r.0.sectors (is.each d r.0 r.1).sectors))
         (ap (nat_le data_start) (get_or_from_slice_get old.sizes d r.0.sectors 0 (is.each d r.0 r.1).sectors) ∙ enough_is r.0.sectors r.3)
 
@@ -216,8 +208,8 @@ module _ (old read : Device) (survey : Survey) (is : IsSurveyOf old read survey)
       b : Beginning
       b = beginning moment by.group by.next (has plan.targets) plan.homes
 
-      all_whole : IsWhole (image_of old.sizes media)
-      all_whole = subst (λ (o : Option Media). IfSome o (λ m. IsWhole (image_of old.sizes m))) told whole
+      all_whole : IsWholeImage (image_of old.sizes media)
+      all_whole = subst (λ (o : Option Media). IfSome o (λ m. IsWholeImage (image_of old.sizes m))) told whole
 
       low : moment < 2 ^ 64
       low = let early = by.chosen.early in omega (arith, early)

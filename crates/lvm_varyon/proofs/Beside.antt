@@ -18,19 +18,19 @@ use Rattle.lvm_disk.specs.Device.{Media, Image, Flight, Device, IsInFlight, IsCr
 use Rattle.lvm_disk.specs.Steps.{BothTold}
 use Rattle.lvm_kept.specs.Contents.{Contents, contents_of, descriptor_on, status_on, note_sector}
 use Rattle.lvm_kept.specs.Group.{Finds, descriptor_among, has_quorum, is_voter}
-use Rattle.lvm_kept.proofs.Contained.{at-same, newest-same}
-use Rattle.lvm_steps.proofs.Making.{media_may}
-use Rattle.lvm_varyon_plan.specs.handed.Names.{MayBeFound, Recopy, IsOfCopies, ArePlanned}
+use Rattle.lvm_kept.proofs.PlacesLemmas.{at-same, newest-same}
+use Rattle.lvm_steps.proofs.MakingLemmas.Making.{media_may}
+use Rattle.lvm_varyon_plan.specs.passed.Names.{MayBeFound, Recopy, IsOfCopies, ArePlanned}
 use Rattle.lvm_kept.specs.Plans.{Plan, ChangesBy}
 use Rattle.lvm_kept.specs.Torn.{IsOfNote}
 use Rattle.lvm_stamps.specs.Behind.{StampsBefore, beginning_at, IsBehind}
 use Rattle.lvm_stamps.specs.Laws.{IsOtherOrEarlier}
-use Rattle.lvm_stamps.proofs.Writes.{changes_widen, earlier_keep_before, notes_and_data_are_outside}
+use Rattle.lvm_stamps.proofs.LawsLemmas.Writes.{changes_widen, earlier_keep_before, notes_and_data_are_outside}
 use Rattle.lvm_rec.specs.declared.homes.Homes.{Homes}
 use Rattle.lvm_write.specs.Homes.{SparesNewest}
 use Rattle.lvm_write.specs.Written.{KeepsShelf}
-use Rattle.lvm_write.proofs.Writing.{both_from, both_then, changes_then, if_told, told_at}
-use Rattle.lvm_rec.proofs.NextLemmas.{slot_for_same}
+use Rattle.lvm_write.proofs.WrittenLemmas.Writing.{both_from, both_then, changes_then, if_told, told_at}
+use Rattle.lvm_rec.proofs.SlotsLemmas.Next.{slot_for_same}
 
 -- the sector is a note's, or one of data
 abbrev pub IsBesideSlots : Plan

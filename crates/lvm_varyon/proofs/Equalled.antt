@@ -11,7 +11,7 @@ use Rattle.lvm_num.specs.Descriptor.{IsValid}
 use Rattle.lvm_num.specs.Note.{Noted, note_in, IsEntry}
 use Rattle.lvm_num.specs.Record.{Stamped}
 use Rattle.lvm_num.specs.Votes.{all_disks, votes_in, CanRead, CanWrite}
-use Rattle.lvm_num.proofs.Notes.{written_is_read}
+use Rattle.lvm_num.proofs.NoteLemmas.{written_is_read}
 use Rattle.lvm_num.proofs.VotesLemmas.{read_is_write}
 use Rattle.lvm_disk.specs.Device.{Media, Device, image_of}
 use Rattle.lvm_disk.specs.Steps.{BothTold}
@@ -19,16 +19,16 @@ use Rattle.lvm_kept.specs.Contents.{Contents, contents_of, has_records, note_on,
 use Rattle.lvm_kept.specs.Group.{descriptor_among, is_named, names_if, status_among, ReadsBy}
 use Rattle.lvm_kept.specs.Plans.{ChangesBy}
 use Rattle.lvm_kept.specs.Torn.{IsOfNote}
-use Rattle.lvm_kept.proofs.Finding.{finding_reads}
+use Rattle.lvm_kept.proofs.CommittedLemmas.Finding.{finding_reads}
 use Rattle.lvm_stamps.specs.Behind.{StampsBefore}
-use Rattle.lvm_stamps.proofs.Writes.{changes_widen}
+use Rattle.lvm_stamps.proofs.LawsLemmas.Writes.{changes_widen}
 use Rattle.lvm_rec.specs.declared.homes.Homes.{Homes}
 use Rattle.lvm_write.specs.Homes.{SparesNewest}
 use Rattle.lvm_write.specs.Notes.{empty_note_sector}
-use Rattle.lvm_write.proofs.Writing.{changes_then, told_at}
-use Rattle.lvm_varyon_plan.specs.handed.Names.{ShowsCommitted, IsOfCopies, ShowsEqualised, MayEqualise, ArePlanned}
+use Rattle.lvm_write.proofs.WrittenLemmas.Writing.{changes_then, told_at}
+use Rattle.lvm_varyon_plan.specs.passed.Names.{ShowsCommitted, IsOfCopies, ShowsEqualised, MayEqualise, ArePlanned}
 use Rattle.lvm_next.specs.Restated.{Restated}
-use Rattle.lvm_varyon_plan.proofs.handed.Names.{group_same, status_same, shows_other, equalised_ends, next_same_plan, restated_may_equalise, same_notes_same_plan}
+use Rattle.lvm_varyon_plan.proofs.passed.Names.{group_same, status_same, shows_other, equalised_ends, next_same_plan, restated_may_equalise, same_notes_same_plan}
 use Rattle.lvm_varyon_plan.specs.Chosen.{answering}
 use Rattle.lvm_varyon.specs.Equal.{MakesEqual}
 use Rattle.lvm_varyon.proofs.Beside.{IsBesideSlots, beside_keeps_before, beside_spares, copies_beside, notes_beside}

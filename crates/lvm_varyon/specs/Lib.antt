@@ -1,4 +1,3 @@
-pub mod handed
 pub mod passed
 pub mod Found
 pub mod Writing

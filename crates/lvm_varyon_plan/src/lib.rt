@@ -2,7 +2,7 @@
 //! equal.
 #![tactic(auto)]
 
-pub mod lower;
+pub mod below;
 mod plan;
 
 pub use plan::{Plan, plan_of};

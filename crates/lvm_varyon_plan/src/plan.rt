@@ -9,13 +9,11 @@ ghost use Rattle.lvm_num.specs.Descriptor.{IsValid};
 ghost use Rattle.lvm_num.specs.Status.{IsValidStatus};
 ghost use Rattle.lvm_survey.specs.Rows.{AreRows};
 ghost use Rattle.lvm_core.specs.Starting.{IsRoom};
-ghost use Rattle.lvm_core.specs.handed.Names.{IsOneGroup};
+ghost use Rattle.lvm_core.specs.passed.Names.{IsOneGroup};
 ghost use Rattle.lvm_varyon_plan.specs.Planned.{PlanGives, IsPlanFor, cause_of, IsPlanOfChoice};
-ghost use Rattle.lvm_num.specs.DescriptorBytes.{descriptor_bytes};
-ghost use Rattle.lvm_num.specs.StatusBytes.{status_bytes};
 
-use lvm_core::lower::homes_of;
-use lvm_core::{Cause, Parts, Room};
+use lvm_core::below::homes_of;
+use lvm_core::{Cause, Parts, Room, encode_records};
 use lvm_next::next_status;
 use lvm_num::{DiskSet, Memory, Name, Rows, Status};
 use lvm_quorum::{Choice, ChooseFault, choose};
@@ -156,7 +154,7 @@ fn plan_with(
     requires room { IsRoom room }
     ensures { IfOk result (IsPlanOfChoice choice copies homes room) }
 {
-    let bytes = encode(alloc, &choice)?;
+    let bytes = encode_records(alloc, &choice)?;
     let targets = choice.answering;
     let parts = Parts::new(alloc, choice, room)?;
     Ok(Plan {
@@ -167,22 +165,4 @@ fn plan_with(
         homes,
         copies,
     })
-}
-
-// The bytes of a descriptor and of a status.
-#[derive(Drop)]
-struct Bytes {
-    descriptor: Rows<u8>,
-    status: Rows<u8>,
-}
-
-fn encode(alloc: Global, choice: &Choice) -> Result<Bytes, Memory>
-    requires descriptor { IsValid choice.now.descriptor }
-    requires status { IsValidStatus choice.now.status }
-    ensures descriptor { IfOk result (λ bytes. bytes.descriptor ≡ descriptor_bytes choice.now.descriptor) }
-    ensures status { IfOk result (λ bytes. bytes.status ≡ status_bytes choice.now.status) }
-{
-    let descriptor = lvm_spelling::encode(alloc, &choice.descriptor)?;
-    let status = lvm_vgsa::encode(alloc, &choice.status)?;
-    Ok(Bytes { descriptor, status })
 }

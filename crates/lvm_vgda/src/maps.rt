@@ -8,12 +8,12 @@ ghost use Rattle.lvm_num.specs.declared.descriptor.LvRow.{LvRow};
 ghost use Rattle.lvm_num.specs.Descriptor.{IsMember};
 ghost use Rattle.lvm_num.specs.DescriptorBytes.{unfinished, partition_at, partitions_at, maps_at};
 ghost use Rattle.lvm_num.specs.Reading.{number_at};
-ghost use Rattle.lvm_descriptor.specs.handed.Names.{Gives, rest_of};
+ghost use Rattle.lvm_descriptor.specs.passed.Names.{Gives, rest_of};
 ghost use Rattle.lvm_vgda.specs.Used.{Uses, is_free, free_at};
 
 use crate::used::UsedPps;
-use lvm_descriptor::lower::{Fault, Unread, u16_at};
-use lvm_num::{LvRow, Pp, PvRow, Rows, has_member, is_on};
+use lvm_descriptor::below::{Fault, Unread, u16_at};
+use lvm_num::{LvRow, Pp, PvRow, Rows, has_member, has_partition_on};
 use std::alloc::Global;
 
 /// The rows with the partitions of each.
@@ -131,7 +131,7 @@ fn copy_disk_at<'a>(
 {
     let read = u16_at(unread);
     if let Ok((disk, _)) = &read
-        && (!has_member(members, *disk) || is_on(begun, *disk))
+        && (!has_member(members, *disk) || has_partition_on(begun, *disk))
     {
         return Err(Fault::At(unread.place));
     }

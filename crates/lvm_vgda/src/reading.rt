@@ -2,11 +2,11 @@
 ghost use Rattle.std.specs.Prelude.{IfOk, Ok};
 ghost use Rattle.lvm_num.specs.declared.descriptor.Descriptor.{Descriptor as descriptor};
 ghost use Rattle.lvm_num.specs.DescriptorBytes.{IsDescriptor, descriptor_of};
-ghost use Rattle.lvm_descriptor.specs.handed.Names.{Gives, rest_of};
+ghost use Rattle.lvm_descriptor.specs.passed.Names.{Gives, rest_of};
 ghost use Rattle.lvm_descriptor.specs.Parts.{descriptor_by_parts, rows_at};
 
 use crate::maps::maps_at;
-use lvm_descriptor::lower::{Fault, Unread, all, behind};
+use lvm_descriptor::below::{Fault, Unread, all, behind};
 use lvm_descriptor::{begin_at, counts_at, members_at, name_at, rules_at, volumes_at};
 use lvm_num::{Descriptor, LvRow, PvRow, Rows};
 use std::alloc::Global;

@@ -1,7 +1,4 @@
-pub mod Many
+pub mod StatusBytesLemmas
 pub mod Orders
-pub mod PartLaws
-pub mod Pieces
-pub mod RoundTrip
-pub mod Rows
-pub mod Sizes
+pub mod PartsLemmas
+pub mod PuttingLemmas

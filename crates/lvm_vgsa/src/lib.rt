@@ -1,8 +1,8 @@
 //! The bytes of a status.
 #![tactic(auto)]
 
+pub mod below;
 mod laws;
-pub mod lower;
 mod putting;
 mod reading;
 mod writing;

@@ -1,7 +1,6 @@
-pub mod Order
-pub mod Asking
-pub mod Counting
-pub mod Joining
-pub mod Knowing
-pub mod Legality
-pub mod Growing
+pub mod passed
+pub mod FactsLemmas
+pub mod LogLemmas
+pub mod LegalLemmas
+pub mod LawsLemmas
+pub mod FrontsLemmas

@@ -1,4 +1,4 @@
-pub mod handed
+pub mod passed
 pub mod Facts
 pub mod May
 pub mod Legal

@@ -3,7 +3,7 @@
 use lvm_num::Mode;
 
 /// What a request is on.
-#[derive(Clone, Copy, Debug, PartialEq, Eq)]
+#[derive(Clone, Copy, PartialEq, Eq)]
 pub enum Vol {
     /// A whole disk, by its number.
     Disk(u16),
@@ -12,7 +12,7 @@ pub enum Vol {
 }
 
 /// How a request ended.
-#[derive(Clone, Copy, Debug, PartialEq, Eq)]
+#[derive(Clone, Copy, PartialEq, Eq)]
 pub enum Outcome {
     /// A write stands on each copy that is fresh.
     Done,
@@ -32,7 +32,7 @@ pub enum Outcome {
 
 /// An entry of a history. Blocks are of 512 bytes and counted from 0; ids count the requests of a run
 /// from 1.
-#[derive(Clone, Copy, Debug, PartialEq, Eq)]
+#[derive(Clone, Copy, PartialEq, Eq)]
 pub enum Entry {
     /// A volume of so many blocks of zeros is about to be made.
     Making {

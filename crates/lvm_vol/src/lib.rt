@@ -2,9 +2,9 @@
 //! a block may have after it.
 #![tactic(auto)]
 
+pub mod below;
 mod entry;
 pub mod laws;
-pub mod lower;
 mod shown;
 
 pub use entry::{Entry, Outcome, Vol};

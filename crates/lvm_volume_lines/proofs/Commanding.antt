@@ -8,30 +8,30 @@ use Rattle.lvm_num.specs.declared.descriptor.Descriptor.{Descriptor}
 use Rattle.lvm_disk.specs.Device.{Device, IsReady}
 use Rattle.lvm_disk.specs.Images.{LeavesNoMore}
 use Rattle.lvm_disk.specs.Paths.{DeviceStep, Path, Here}
-use Rattle.lvm_disk.proofs.Paths.{last-path}
+use Rattle.lvm_disk.proofs.PathsLemmas.{last-path}
 use Rattle.lvm_vol.specs.Facts.{Fact}
 use Rattle.lvm_vol.specs.Legal.{IsLater}
 use Rattle.lvm_vol.specs.Log.{Log}
 use Rattle.lvm_kept.specs.Moments.{Moment}
 use Rattle.lvm_steps.specs.Moments.{Begins, Keeps}
 use Rattle.lvm_steps.specs.Requests.{at}
-use Rattle.lvm_steps.proofs.Spans.{keeps_steps}
+use Rattle.lvm_steps.proofs.MomentsLemmas.Spans.{keeps_steps}
 use Rattle.lvm_stamps.specs.Behind.{IsBehind}
-use Rattle.lvm_stamps.proofs.Shelves.{no_more_stays_behind}
+use Rattle.lvm_stamps.proofs.LawsLemmas.Shelves.{no_more_stays_behind}
 use Rattle.lvm_transfer.specs.Transfer.{Relights}
 use Rattle.lvm_status.specs.Members.{HasItsRows}
 use Rattle.lvm_session.specs.Calls.{is_asked}
 use Rattle.lvm_session.specs.declared.open.Open.{Open}
 use Rattle.lvm_session.specs.declared.open.Power.TheVariants as power
 use Rattle.lvm_session.specs.Sound.{IsSound, is_dark}
-use Rattle.lvm_session.specs.State.{Core, State as Session, state, votes_there}
+use Rattle.lvm_session.specs.State.{Core, State, state, votes_there}
 use Rattle.lvm_core.specs.Committing.{moment_of, StaysBehind}
 use Rattle.lvm_core.specs.Leaves.{EntersVolumes, KeepsHistory, Leaves, Scope}
 use Rattle.lvm_core.specs.Settled.{IsSettled as IsSettledCore}
 use Rattle.lvm_core.specs.Sound.{HaveAllLanded, IsSoundBetween}
 use Rattle.lvm_commit.specs.LawsOfVolumes.{IsOneByAllOn}
 use Rattle.lvm_range_lines.proofs.passed.Quiesce.{each_is_behind, still_is_behind_each}
-use Rattle.lvm_range_lines.specs.handed.Names.{Post, AreAnswered, AreHeld, ended_with}
+use Rattle.lvm_range_lines.specs.passed.Names.{Post, AreAnswered, AreHeld, ended_with}
 use Rattle.lvm_range_lines.specs.passed.Running.{IsBefore, LeavesSession}
 use Rattle.lvm_range_lines.specs.passed.Tie.{IsStamped, IsGood}
 use Rattle.lvm_range_lines.specs.passed.TieCommands.{IsAloneAtFirst, MayBeCommanded, StandsAfter, StandsSince}
@@ -40,14 +40,14 @@ use Rattle.lvm_range_lines.proofs.passed.Stage.{relit_path, was_session, ready_i
 
 -- ---- what a command promises, whatever its answer
 
-pub record Promised (old new : Session) : Type 0 where
+pub record Promised (old new : State) : Type 0 where
   pub orders : new.device.orders ≡ old.device.orders
   pub epoch : new.core.status.stamp.epoch ≡ old.core.status.stamp.epoch
   pub history : KeepsHistory old.core.history new.core.history
   pub behind : StaysBehind old new
   pub waits : old.device.counts.waits ≤ new.device.counts.waits
 
-pub promised_by : (scope : Scope) (before after : ℕ) (old new : Session) → Leaves scope before after old new → Promised old new
+pub promised_by : (scope : Scope) (before after : ℕ) (old new : State) → Leaves scope before after old new → Promised old new
 promised_by scope before after old new leaves = record {
   orders = leaves.writes.orders;
   epoch = leaves.numbers.epoch;
@@ -67,7 +67,7 @@ empty_or [] = inl refl
 empty_or (x ∷ xs) = inr (λ e. cc (e))
 
 -- The session of the state has come to rest so.
-pub record AtMid (old : ScriptState) (core : Core) (mid : Session) : Type 0 where
+pub record AtMid (old : ScriptState) (core : Core) (mid : State) : Type 0 where
   pub session : old.session ≡ Some core
   pub facts : old.moment.facts ≡ core.history.facts
   pub none : core.requests ≡ []
@@ -79,11 +79,11 @@ pub record AtMid (old : ScriptState) (core : Core) (mid : Session) : Type 0 wher
   pub rest : IsSoundBetween mid
   pub answers : LeavesAnswers core.history.facts mid.core.history.facts
 
-module _ (old : ScriptState) (core : Core) (mid : Session) (its : AtMid old core mid) where
+module _ (old : ScriptState) (core : Core) (mid : State) (its : AtMid old core mid) where
   abbrev run : ℕ
   run = core.history.run
 
-  abbrev first_session : Session
+  abbrev first_session : State
   first_session = state old.moment.device core
 
   pub on_first : IsOnBetween old.moment.device core
@@ -137,7 +137,7 @@ module _ (old : ScriptState) (core : Core) (mid : Session) (its : AtMid old core
     keeps_mid = by (empty_or core.descriptor.lvs)
       where
         by : (core.descriptor.lvs ≡ []) ⊎ (core.descriptor.lvs ≢ []) → Keeps run first (moment_of mid)
-        by (inl none) = subst (λ (s : Session). Keeps run first (moment_of s)) (sym (its.empty none)) (subst (Keeps run first) moment_is span)
+        by (inl none) = subst (λ (s : State). Keeps run first (moment_of s)) (sym (its.empty none)) (subst (Keeps run first) moment_is span)
         by (inr some) = keeps_then some
 
     stands_mid : StandsSince run first mid
@@ -151,12 +151,12 @@ module _ (old : ScriptState) (core : Core) (mid : Session) (its : AtMid old core
     may_mid = record { sound = its.sound; run_is = run_is; stamped = stamped_mid; keeps = keeps_mid; stands = stands_mid }
 
     -- where the first volume is made, at most one group has a quorum among all disks
-    pub alone_mid : (left : Session) → new.moment.facts ≡ left.core.history.facts → IsAloneAtFirst mid left
+    pub alone_mid : (left : State) → new.moment.facts ≡ left.core.history.facts → IsAloneAtFirst mid left
     alone_mid left facts none enters =
         let same = its.empty (sym (ap (λ (d : Descriptor). d.lvs) its.leaves.keeps.descriptor) ∙ none) in
-        subst (λ (s : Session). IsOneByAllOn s.device) (sym same)
+        subst (λ (s : State). IsOneByAllOn s.device) (sym same)
         (alone.enters (subst (λ (fs : List Fact). EntersVolumes old.moment.facts fs) (sym facts)
-        (subst (λ (fs : List Fact). EntersVolumes fs left.core.history.facts) (ap (λ (s : Session). s.core.history.facts) same ∙ sym its.facts) enters)))
+        (subst (λ (fs : List Fact). EntersVolumes fs left.core.history.facts) (ap (λ (s : State). s.core.history.facts) same ∙ sym its.facts) enters)))
 
   -- ---- its moment
 
@@ -170,7 +170,7 @@ module _ (old : ScriptState) (core : Core) (mid : Session) (its : AtMid old core
     later_mid : IsLater mid.core.history.facts (old.last + 1)
     later_mid = its.leaves.later (old.last + 1) (subst (λ (fs : List Fact). IsLater fs (old.last + 1)) its.facts timely.ahead.later)
 
-    module _ (left : Session) (promised : Promised mid left) where
+    module _ (left : State) (promised : Promised mid left) where
       pub later_left : IsLater left.core.history.facts (old.last + 1)
       later_left = promised.history.later (old.last + 1) later_mid
 
@@ -242,7 +242,7 @@ closes_lit answer left new power freed ready lit = subst (ClosesWell answer left
 
 -- ---- after it
 
-module _ (role : Role) (acts : Acts role) (old : ScriptState) (core : Core) (mid left : Session) (its : AtMid old core mid) (promised : Promised mid left) (answers : LeavesAnswers mid.core.history.facts left.core.history.facts) (answer : Reply) (new : ScriptState)
+module _ (role : Role) (acts : Acts role) (old : ScriptState) (core : Core) (mid left : State) (its : AtMid old core mid) (promised : Promised mid left) (answers : LeavesAnswers mid.core.history.facts left.core.history.facts) (answer : Reply) (new : ScriptState)
     (facts : new.moment.facts ≡ left.core.history.facts) (clock : new.last ≡ old.last) (few : most_refusals answer ≤ 1)
     (spans : IsAllowed role old → (first : Moment) → MayBeCommanded core.history.run first mid → IsAloneAtFirst mid left → Keeps core.history.run first (moment_of left)) where
   answers_left : LeavesAnswers old.moment.facts left.core.history.facts

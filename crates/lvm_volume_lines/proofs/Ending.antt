@@ -1,5 +1,5 @@
 -- How `mklv` and `rmlv` end.
-use Rattle.std.proofs.Common.{◌≡◌, ◌==◌, ◌≤◌, inl, inr, [], ℕ, List, true, false, Err, refl, sym, ◌∙◌, ap, subst, Result, Ok, arith}
+use Rattle.std.proofs.Common.{◌≡◌, ◌==◌, ◌≤◌, ⊎_elim, [], ℕ, List, true, false, Err, refl, sym, ◌∙◌, ap, subst, Result, Ok, arith}
 use Rattle.std.specs.List.{list_any}
 use Rattle.lvm_num.specs.declared.descriptor.PvRow.{PvRow}
 use Rattle.lvm_disk.specs.Counts.{Rose}
@@ -16,9 +16,9 @@ use Rattle.lvm_range_lines.specs.passed.RefusalVariants as refusal
 use Rattle.lvm_range_lines.specs.passed.ReplyVariants as reply
 use Rattle.lvm_range_lines.specs.passed.Stage.{most_refusals}
 use Rattle.lvm_volume_lines.proofs.Commanding.{ClosesWell, closes_dark, closes_lit}
-use Rattle.lvm_volume_lines.specs.Volumes.{is_over, volume_reply}
-use Rattle.lvm_range_lines.specs.handed.Names.{GroupFault, NewVolume}
-use Rattle.lvm_range_lines.specs.handed.VolumePlanFaultGroupFault as fault
+use Rattle.lvm_volume_lines.specs.Volumes.{volume_reply}
+use Rattle.lvm_range_lines.specs.passed.Names.{GroupFault, NewVolume, is_over}
+use Rattle.lvm_range_lines.specs.passed.VolumePlanFaultGroupFault as fault
 
 -- ---- what is known by the answer
 
@@ -34,13 +34,18 @@ abbrev pub Facts : {X : Type 0} → Result X GroupFault → ℕ → State → St
 Facts (Ok done) patience old new = IsReady new.device
 Facts (Err why) patience old new = FaultFacts why patience old new
 
+-- no command is refused for a session that is over where it is on
+not_dark : (old : State) → old.core.power ≡ power.On → old.core.power ≡ power.Dark → ⊥
+not_dark old on dark = cc (on, dark)
+
+not_off : (old : State) → old.core.power ≡ power.On → old.core.power ≡ power.Off → ⊥
+not_off old on off = cc (on, off)
+
 module _ (v : NewVolume) (patience : ℕ) (old new : State) (on : old.core.power ≡ power.On) where
   pub mklv_facts : (given : Result ℕ GroupFault) → MklvGives v patience old new given → Facts given patience old new
   mklv_facts (Ok lv) made = made.ready
-  mklv_facts (Err fault.Dark) (inl refused) = absurd (let dark = refused.1 in cc (on, dark))
-  mklv_facts (Err fault.Dark) (inr making) = (making.ends.cut.flights, making.ends.cut.cuts)
-  mklv_facts (Err (fault.WentOff have total)) (inl refused) = absurd (let off = refused.1.0 in cc (on, off))
-  mklv_facts (Err (fault.WentOff have total)) (inr making) = (making.ends.lost, making.ends.ready)
+  mklv_facts (Err fault.Dark) gives = ⊎_elim (λ refused. absurd (not_dark old on refused.1)) (λ making. (making.ends.cut.flights, making.ends.cut.cuts)) gives
+  mklv_facts (Err (fault.WentOff have total)) gives = ⊎_elim (λ refused. absurd (not_off old on refused.1.0)) (λ making. (making.ends.lost, making.ends.ready)) gives
   mklv_facts (Err fault.Stuck) making = making.ends.out
   mklv_facts (Err (fault.DiskFailed disk)) fails = (fails.ends.fault, fails.ends.ready)
   mklv_facts (Err fault.NoVolume) none = absurd none
@@ -50,10 +55,8 @@ module _ (v : NewVolume) (patience : ℕ) (old new : State) (on : old.core.power
 module _ (lv patience : ℕ) (old new : State) (on : old.core.power ≡ power.On) where
   pub rmlv_facts : (given : Result (Unit {0}) GroupFault) → RmlvGives lv patience old new given → Facts given patience old new
   rmlv_facts (Ok done) removed = removed.ready
-  rmlv_facts (Err fault.Dark) (inl refused) = absurd (let dark = refused.1 in cc (on, dark))
-  rmlv_facts (Err fault.Dark) (inr removing) = (removing.ends.cut.flights, removing.ends.cut.cuts)
-  rmlv_facts (Err (fault.WentOff have total)) (inl refused) = absurd (let off = refused.1.0 in cc (on, off))
-  rmlv_facts (Err (fault.WentOff have total)) (inr removing) = (removing.ends.lost, removing.ends.ready)
+  rmlv_facts (Err fault.Dark) gives = ⊎_elim (λ refused. absurd (not_dark old on refused.1)) (λ removing. (removing.ends.cut.flights, removing.ends.cut.cuts)) gives
+  rmlv_facts (Err (fault.WentOff have total)) gives = ⊎_elim (λ refused. absurd (not_off old on refused.1.0)) (λ removing. (removing.ends.lost, removing.ends.ready)) gives
   rmlv_facts (Err fault.Stuck) removing = removing.ends.out
   rmlv_facts (Err fault.Busy) refused = refused.0
   rmlv_facts (Err fault.NoVolume) refused = refused.0

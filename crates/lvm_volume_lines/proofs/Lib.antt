@@ -1,11 +1,10 @@
-pub mod handed
 pub mod passed
 pub mod Commanding
 pub mod Ending
-pub mod Landing
+pub mod FactsLemmas
 pub mod Resting
-pub mod Rested
+pub mod CommandsLemmas
 pub mod OfVolumes
-pub mod Undrained
-pub mod Unnamed
-pub mod Lines
+pub mod EndsLemmas
+pub mod ServingLemmas
+pub mod VolumesLemmas

@@ -1,6 +1,6 @@
 -- Commands on volumes of the group that is on, from the session that has come to rest.
-use Rattle.std.proofs.Common.{◌≡◌, ◌≢◌, ◌⊎◌, inl, inr, ◌<◌, ◌^◌, ◌+◌, ℕ, Bool, true, false, not, Err, [], ◌∷◌, List, Option, Some, refl, sym, ◌∙◌, ap, subst, Result, length}
-use Rattle.std.specs.Prelude.{IfSome}
+use Rattle.std.proofs.Common.{◌≡◌, ◌≢◌, ◌⊎◌, inl, inr, ◌<◌, ◌^◌, ◌+◌, ℕ, Bool, true, false, not, [], ◌∷◌, List, Option, Some, refl, sym, ◌∙◌, ap, subst, Result, length}
+use Rattle.std.specs.Prelude.{⊤, MatchBool, IfSome}
 use Rattle.lvm_num.specs.declared.place.Pp.{Pp}
 use Rattle.lvm_num.specs.declared.descriptor.Descriptor.{Descriptor}
 use Rattle.lvm_disk.specs.Device.{Device, HasSectors, IsReady}
@@ -9,24 +9,23 @@ use Rattle.lvm_vol.specs.Log.{Log}
 use Rattle.lvm_kept.specs.Moments.{Moment}
 use Rattle.lvm_steps.specs.Moments.{Keeps}
 use Rattle.lvm_status.specs.Members.{HasItsRows}
-use Rattle.lvm_session.specs.State.{Core, State as Session, state}
+use Rattle.lvm_session.specs.State.{Core, State, state}
 use Rattle.lvm_core.specs.Committing.{moment_of}
-use Rattle.lvm_core.specs.Held.{IsHeld}
+use Rattle.lvm_core.specs.Held.{IsHeld, StartsHeld}
 use Rattle.lvm_core.specs.Leaves.{FindsOnly, Scope}
 use Rattle.lvm_core.specs.Settled.{IsSettled as IsSettledCore}
 use Rattle.lvm_core.specs.Sound.{HaveAllLanded}
 use Rattle.lvm_core.specs.State.{state_of}
-use Rattle.lvm_disk.proofs.Paths.{last-path}
+use Rattle.lvm_disk.proofs.PathsLemmas.{last-path}
 use Rattle.lvm_range_lines.specs.passed.Running.{LeavesSession}
-use Rattle.lvm_range_lines.specs.passed.TieCommands.{IsAloneAtFirst, IsLeftStanding, IsLeftStandingSince, MayBeCommanded, HoldsEmpty, StandsAfter}
-use Rattle.lvm_range_lines.specs.passed.Volumes.{IfOn, StillHeld}
-use Rattle.lvm_range_lines.specs.handed.Names.{GroupFault}
-use Rattle.lvm_range_lines.specs.handed.VolumePlanFaultGroupFault as fault
-use Rattle.lvm_range_lines.specs.passed.Stage.{CommandEnds, EndsUnasked, patience_of_line, GoesOn, IsAllowed, Role, HaveRooms, IsBetweenStage, IsFitting, IsOfKind, history_of, open_in, session_in, session_of, shelf_in, history_in, state_in, IsAtRest, IsOnBetween, ScriptState, without_facts, Holder, Reply, Stage}
+use Rattle.lvm_range_lines.specs.passed.TieCommands.{IsAloneAtFirst, IsLeftStanding, IsLeftStandingSince, MayBeCommanded, StandsAfter}
+use Rattle.lvm_range_lines.specs.passed.Volumes.{StillHeld}
+use Rattle.lvm_range_lines.specs.passed.Names.{GroupFault, IfOn, is_over}
+use Rattle.lvm_range_lines.specs.passed.Stage.{CommandEnds, EndsUnasked, patience_of_line, GoesOn, IsAllowed, Role, HaveRooms, IsBetweenStage, IsFittingStage, IsOfKind, history_of, open_in, session_in, session_of, shelf_in, history_in, state_in, IsAtRest, IsOnBetween, ScriptState, without_facts, Holder, Reply, Stage}
 use Rattle.lvm_range_lines.specs.passed.HolderVariants as holder
 use Rattle.lvm_range_lines.proofs.passed.Stage.{LeavesAnswers}
 use Rattle.lvm_volume_lines.specs.Commands.{HasRested, IsCarriedOut, IsHeldAgain, IsLeftAs, IsLeftOff, IsLeftOn}
-use Rattle.lvm_volume_lines.specs.Volumes.{Drains, IsDone, StaysOn, is_over, volume_reply}
+use Rattle.lvm_volume_lines.specs.Volumes.{Drains, IsDone, StaysOn, volume_reply}
 use Rattle.lvm_volume_lines.proofs.Commanding.{Acts, AtMid, ClosesWell, Promised, empty_or, goes_off, goes_on, promised_by, ready_mid, rows_mid}
 use Rattle.lvm_volume_lines.proofs.Ending.{Facts, SameShape, closes_after, one_answer, ready_still, rows_stay}
 use Rattle.lvm_volume_lines.proofs.Resting.{IsStill, TurnsKeep, still_turns, turns_keep}
@@ -35,10 +34,7 @@ use Rattle.lvm_volume_lines.proofs.Resting.{IsStill, TurnsKeep, still_turns, tur
 
 -- the session goes on after an answer that doesn't end it
 pub if_on : {X : Type 0} (given : Result X GroupFault) (P : Type 0) → IfOn given P → is_over given ≡ false → P
-if_on (Err fault.Dark) P on goes = absurd (cc (goes))
-if_on (Err (fault.WentOff have total)) P on goes = absurd (cc (goes))
-if_on (Err fault.Stuck) P on goes = absurd (cc (goes))
-if_on given P on goes = on
+if_on given P on goes = subst (λ (over : Bool). MatchBool over ⊤ P) goes on
 
 no_open : {X : Type 0} (xs : List X) → length xs ≡ 0 → xs ≡ []
 no_open [] none = refl
@@ -64,13 +60,13 @@ module _ {S : Type 0} (device : S → Device) (added : List Pp) (driver : S × C
       let empty : held.core.descriptor.lvs ≡ [] → driver.1.descriptor.lvs ≡ [] = λ none. sym (ap (λ (d : Descriptor). d.lvs) same_group) ∙ none in
       let some : held.core.descriptor.lvs ≢ [] → driver.1.descriptor.lvs ≢ [] = λ more none. more (ap (λ (d : Descriptor). d.lvs) same_group ∙ none) in
       record {
-        empty = λ none. subst (HoldsEmpty (device driver.0)) (sym (held.empty (empty none))) (stands.empty (empty none));
+        empty = λ none. subst (StartsHeld (device driver.0)) (sym (held.empty (empty none))) (stands.empty (empty none));
         tied = λ more. (stands.served added held.core (held.served (some more)) held.sound).tied more;
         spares = λ more. (stands.served added held.core (held.served (some more)) held.sound).spares more;
       }
 
 -- what is known of the command by what it gives, where it is allowed
-pub record IsKnown {X : Type 0} (Allowed : Type 0) (run patience : ℕ) (mid left : Session) (given : Result X GroupFault) : Type 0 where
+pub record IsKnown {X : Type 0} (Allowed : Type 0) (run patience : ℕ) (mid left : State) (given : Result X GroupFault) : Type 0 where
   pub facts : Facts given patience mid left
   pub landed : HaveAllLanded left.core.history.facts
   pub answers : LeavesAnswers mid.core.history.facts left.core.history.facts
@@ -85,7 +81,11 @@ history_is (holder.Off shelf history) core its = absurd (cc (its))
 history_is (holder.Empty driver) core its = let same : driver.1 ≡ core = cc (its) in ap (λ (c : Core). c.history) same
 history_is (holder.Serving driver) core its = let same : driver.1 ≡ core = cc (its) in ap (λ (c : Core). c.history) same
 
-module _ {S : Type 0} (device : S → Device) (stage : Stage S) (fits : IsFitting stage) (between : IsBetweenStage device stage) (none : open_in (session_in stage) ≡ 0) where
+-- the session of a stage, before any turn
+abbrev pub first_at : {S : Type 0} → (S → Device) → Stage S → Core → State
+first_at device stage core = state (device (shelf_in stage)) core
+
+module _ {S : Type 0} (device : S → Device) (stage : Stage S) (fits : IsFittingStage stage) (between : IsBetweenStage device stage) (none : open_in (session_in stage) ≡ 0) where
   -- the session that is on
   module _ (core : Core) (its : session_in stage ≡ Some core) where
     pub no_requests : core.requests ≡ []
@@ -97,26 +97,38 @@ module _ {S : Type 0} (device : S → Device) (stage : Stage S) (fits : IsFittin
     pub its_history : history_in stage ≡ core.history
     its_history = history_is stage.holder core its
 
+    -- nothing of it is under way where the stage is at rest
+    pub still_first : (last : ℕ) → IsAtRest (state_in device stage last) → IsStill (first_at device stage core)
+    still_first last rest =
+        let settled = subst (λ (o : Option Core). IfSome o IsSettledCore) its rest.session in
+        record {
+          sound = was_on.sound;
+          on = settled.power;
+          requests = no_requests;
+          copy = settled.quiet.copy;
+          in_flight = settled.quiet.status;
+          committed = settled.committed;
+          votes = ap not settled.votes;
+          idle = rest.ready.flights;
+        }
+
   -- ---- once it has come to rest
 
   module _ (patience : ℕ) (driver : S × Core) (rested : HasRested device stage.holder patience_of_line patience driver) where
     abbrev core : Core
     core = rested.turned.core
 
-    abbrev mid : Session
+    abbrev mid : State
     mid = state_of device driver
-
-    abbrev first : Session
-    first = state (device (shelf_in stage)) core
 
     its : session_in stage ≡ Some core
     its = rested.turned.its
 
-    abbrev leaves : LeavesSession first mid
+    abbrev leaves : LeavesSession (first_at device stage core) mid
     leaves = rested.turned.runs.leaves
 
-    turned : TurnsKeep first mid
-    turned = turns_keep first mid (was_on core its).sound rested.turned.turns
+    turned : TurnsKeep (first_at device stage core) mid
+    turned = turns_keep (first_at device stage core) mid (was_on core its).sound rested.turned.turns
 
     pub at_mid : (last : ℕ) → AtMid (state_in device stage last) core mid
     at_mid last = record {
@@ -137,7 +149,7 @@ module _ {S : Type 0} (device : S → Device) (stage : Stage S) (fits : IsFittin
       none = no_requests core its;
       turns = rested.turned.turns;
       runs = rested.turned.runs;
-      still = λ rest. still_turns first mid (still rest) rested.turned.turns rested.settled.power;
+      still = λ rest. still_turns (first_at device stage core) mid (still_first core its last rest) rested.turned.turns rested.settled.power;
       empty = rested.empty;
       missing = turned.missing;
       sound = rested.turned.sound;
@@ -145,26 +157,12 @@ module _ {S : Type 0} (device : S → Device) (stage : Stage S) (fits : IsFittin
       few = rested.turned.few;
       waited = rested.turned.waited;
     }
-      where
-        still : IsAtRest (state_in device stage last) → IsStill first
-        still rest =
-            let settled = subst (λ (o : Option Core). IfSome o IsSettledCore) its rest.session in
-            record {
-              sound = (was_on core its).sound;
-              on = settled.power;
-              requests = no_requests core its;
-              copy = settled.quiet.copy;
-              in_flight = settled.quiet.status;
-              committed = settled.committed;
-              votes = ap not settled.votes;
-              idle = rest.ready.flights;
-            }
 
     -- ---- and a command has been carried out
 
-    module _ {X : Type 0} (role : Role) (acts : Acts role) (Gives : Session → Session → Result X GroupFault → Type 0) (added : Result X GroupFault → List Pp) (scope : Core → Scope) (it : Stage S) (answer : Reply)
+    module _ {X : Type 0} (role : Role) (acts : Acts role) (Gives : State → State → Result X GroupFault → Type 0) (added : Result X GroupFault → List Pp) (scope : Core → Scope) (it : Stage S) (answer : Reply)
         (done : IsCarriedOut device Gives added (scope driver.1) patience driver stage.posts stage.bytes it answer) (sectors : (shelf : S) → HasSectors (device shelf)) where
-      abbrev left : Session
+      abbrev left : State
       left = state_of device done.left
 
       abbrev run : ℕ
@@ -205,7 +203,7 @@ module _ {S : Type 0} (device : S → Device) (stage : Stage S) (fits : IsFittin
         orders true over = (closed over).orders ∙ promised.orders ∙ rested.turned.runs.orders
         orders false goes = ap (λ (s : Stage S). (device (shelf_in s)).orders) (left_on goes).is ∙ ap (λ (s : S). (device s).orders) (left_on goes).held.shelf ∙ promised.orders ∙ rested.turned.runs.orders
 
-        fits_then : (b : Bool) → is_over given ≡ b → IsFitting it
+        fits_then : (b : Bool) → is_over given ≡ b → IsFittingStage it
         fits_then true over = record {
           kind = (left_off over).kind;
           few = subst (λ (l : Log). l.room < 2 ^ 32) (sym rooms) fits.few;

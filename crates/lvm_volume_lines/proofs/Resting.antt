@@ -12,7 +12,7 @@ use Rattle.lvm_num.specs.Disks.{has}
 use Rattle.lvm_disk.specs.Device.{Flight}
 use Rattle.lvm_disk.specs.Counts.{NoneFalls}
 use Rattle.lvm_disk.specs.Paths.{Path, Here, Then}
-use Rattle.lvm_disk.proofs.Rising.{none_falls_at_once, none_falls_on}
+use Rattle.lvm_disk.proofs.CountingLemmas.{none_falls_at_once, none_falls_on}
 use Rattle.lvm_session.specs.declared.answers.Turned.{Turned}
 use Rattle.lvm_session.specs.declared.answers.Turned.TheVariants as turned
 use Rattle.lvm_session.specs.declared.bringing.OpenCopy.{OpenCopy}
@@ -27,8 +27,8 @@ use Rattle.lvm_session.specs.Judging.{is_missing}
 use Rattle.lvm_session.specs.Sound.{IsSound}
 use Rattle.lvm_session.specs.Turns.{FinishMakes, OnMakes, TurnMakes, WasDark, WasOff, WasOn, Moves, NoStart, Finishes}
 use Rattle.lvm_range_lines.specs.passed.Driver.{IsAny, IsTurn}
-use Rattle.lvm_range_lines.proofs.handed.Names.{turn_counts, turn_keeps, turn_marks, loses_both, loses_none, turn_loses}
-use Rattle.lvm_range_lines.specs.handed.Names.{LosesByFaults}
+use Rattle.lvm_range_lines.proofs.passed.Names.{turn_counts, turn_keeps, turn_marks, loses_both, loses_none, turn_loses}
+use Rattle.lvm_range_lines.specs.passed.Names.{LosesByFaults}
 use Rattle.lvm_range_lines.proofs.passed.Handover.{none_flown}
 use Rattle.lvm_range_lines.specs.passed.Ranges.{KeepsTable}
 use Rattle.lvm_range_lines.proofs.passed.Ranges.{table_same, table_then, turn_table}

@@ -1,5 +1,6 @@
 pub mod Group
 pub mod GroupLines
+pub mod Names
 pub mod Quiesce
 pub mod RangeLines
 pub mod Ranges

@@ -8,16 +8,17 @@ use Rattle.lvm_disk.specs.Paths.{Path}
 use Rattle.lvm_transfer.specs.Transfer.{Relights}
 use Rattle.lvm_session.specs.State.{Core, State, state}
 use Rattle.lvm_session.specs.Sound.{IsSound}
+use Rattle.lvm_core.specs.declared.fault.CommitFault.{CommitFault}
 use Rattle.lvm_core.specs.Leaves.{Scope}
 use Rattle.lvm_core.specs.Settled.{IsSettled}
 use Rattle.lvm_core.specs.Sound.{IsSoundBetween}
 use Rattle.lvm_core.specs.State.{state_of}
-use Rattle.lvm_range_lines.specs.passed.Driver.{DrainFault, FailsSo, IsAny, IsTurn}
+use Rattle.lvm_range_lines.specs.passed.Driver.{FailsSo, IsAny, IsTurn}
 use Rattle.lvm_range_lines.specs.passed.Running.{RunsOn}
 use Rattle.lvm_range_lines.specs.passed.Handover.{IsCommanded, IsServed}
-use Rattle.lvm_range_lines.specs.handed.Names.{Post, GroupFault}
+use Rattle.lvm_range_lines.specs.passed.Names.{Post, GroupFault, is_over}
 use Rattle.lvm_range_lines.specs.passed.Stage.{HaveRooms, IsOfKind, history_in, history_of, posts_ended, session_in, session_of, shelf_in, shelf_of, Holder, Reply, Stage}
-use Rattle.lvm_volume_lines.specs.Volumes.{is_over, volume_reply}
+use Rattle.lvm_volume_lines.specs.Volumes.{volume_reply}
 
 -- ---- before it
 
@@ -43,7 +44,7 @@ pub record HasRested {S : Type 0} (device : S → Device) (holder : Holder S) (b
   pub between : IsSoundBetween (state_of device driver)
 
 -- Or they ended before, for this.
-pub record HasBrokenOff {S : Type 0} (device : S → Device) (holder : Holder S) (before after : ℕ) (driver : S × Core) (why : DrainFault) : Type 0 where
+pub record HasBrokenOff {S : Type 0} (device : S → Device) (holder : Holder S) (before after : ℕ) (driver : S × Core) (why : CommitFault) : Type 0 where
   pub turned : IsTurned device holder before after driver
   pub volumes : turned.core.descriptor.lvs ≢ []
   pub fails : FailsSo after (state_of device driver) why

@@ -1,6 +1,5 @@
 pub mod AskRangeFaultVariants
 pub mod DiskLines
-pub mod DrainFaultVariants
 pub mod Driver
 pub mod Group
 pub mod GroupFaultVariants
@@ -8,14 +7,15 @@ pub mod GroupLines
 pub mod Handover
 pub mod HolderVariants
 pub mod Mirrors
+pub mod Names
 pub mod Quiesce
 pub mod QuiescedVariants
 pub mod RangeLines
 pub mod RangeLinesWaiting
 pub mod Ranges
+pub mod Recover
 pub mod RefusalVariants
 pub mod ReplyVariants
-pub mod Recover
 pub mod Running
 pub mod Stage
 pub mod Tie
@@ -23,4 +23,5 @@ pub mod TieCommands
 pub mod TieCopies
 pub mod Varyon
 pub mod VolumePlan
+pub mod VolumePlanFaultGroupFault
 pub mod Volumes

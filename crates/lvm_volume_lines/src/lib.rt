@@ -2,7 +2,6 @@
 #![tactic(auto)]
 
 pub mod below;
-pub mod lower;
 mod volumes;
 
 pub use volumes::{after_fault, come_to_rest, do_mklv, do_rmlv, drain_refusal, go_on};

@@ -10,19 +10,18 @@ ghost use Rattle.lvm_core.specs.State.{state_of};
 ghost use Rattle.lvm_range_lines.specs.passed.Handover.{MayServe, StaysSound};
 ghost use Rattle.lvm_range_lines.specs.passed.TieCopies.{MayServeWith};
 ghost use Rattle.lvm_range_lines.specs.passed.Volumes.{MklvGives, RmlvGives, to_make, to_remove};
-ghost use Rattle.lvm_range_lines.specs.passed.Stage.{EndsUnasked, OfGroup, IsBetweenStage, IsFitting, IsOfKind, open_in, session_of, shelf_of, IsOnBetween};
+ghost use Rattle.lvm_range_lines.specs.passed.Stage.{EndsUnasked, OfGroup, IsBetweenStage, IsFittingStage, IsOfKind, open_in, session_of, shelf_of, IsOnBetween};
 ghost use Rattle.lvm_volume_lines.specs.Commands.{HasBrokenOff, HasRested, IsCarriedOut, IsHeldAgain, IsLeftAs, IsLeftOff, IsLeftOn, none_added};
-ghost use Rattle.lvm_volume_lines.specs.Volumes.{MklvDoes, RmlvDoes, drain_refusal, ends_session, is_over, refusal_for, volume_reply, wanted};
+ghost use Rattle.lvm_volume_lines.specs.Volumes.{MklvDoes, RmlvDoes, drain_refusal, refusal_for, volume_reply, wanted};
+ghost use Rattle.lvm_range_lines.specs.passed.Names.{ends_session, is_over};
 
-use lvm_core::{Closed, Driver};
+use lvm_core::{Closed, CommitFault, Driver};
 use lvm_disk::Shelf;
 use lvm_num::{Mode, Name, Policy, Pp};
-use lvm_range_lines::below::driver;
-use lvm_range_lines::below::driver::DrainFault;
 use lvm_range_lines::below::handover::{serve, settle};
 use lvm_range_lines::below::stage::{Answered, Holder, Refusal, Reply, Stage};
 use lvm_range_lines::below::volumes::{GroupFault, mklv, rmlv};
-use lvm_range_lines::lower::Post;
+use lvm_range_lines::below::{Post, driver};
 use lvm_transfer::{Patience, relight};
 use std::alloc::Global;
 
@@ -48,14 +47,10 @@ fn refusal_for(why: GroupFault) -> Refusal
 }
 
 /// Why the turns before a command have ended, as the refusal of its line.
-pub fn drain_refusal(why: DrainFault) -> Refusal
+pub fn drain_refusal(why: CommitFault) -> Refusal
     ensures { result ≡ drain_refusal why }
 {
-    match why {
-        DrainFault::Dark => Refusal::Dark,
-        DrainFault::WentOff { have, total } => Refusal::WentOff { have, total },
-        DrainFault::Stuck => Refusal::Stuck,
-    }
+    refusal_for(GroupFault::from(why))
 }
 
 // Whether a session is over after a fault.
@@ -80,7 +75,7 @@ fn ends_session(why: GroupFault) -> bool
 }
 
 // Puts the power on again where it was cut.
-fn relight_after<S: Shelf>(shelf: &mut S, why: GroupFault)
+fn relight_after_fault<S: Shelf>(shelf: &mut S, why: GroupFault)
     requires { why ≡ GroupFault.Dark → (S.device shelf.old).flights ≡ [] }
     ensures dark { why ≡ GroupFault.Dark → Relights (S.device shelf.old) (S.device shelf.new) }
     ensures other { (why ≡ GroupFault.Dark → ⊥) → S.device shelf.new ≡ S.device shelf.old }
@@ -110,7 +105,7 @@ fn close_after<S: Shelf>(
     }
     .close();
     let Closed { mut shelf, history } = closed;
-    relight_after(&mut shelf, why);
+    relight_after_fault(&mut shelf, why);
     Stage {
         holder: Holder::Off { shelf, history },
         posts,
@@ -202,7 +197,7 @@ fn after<S: Shelf, T: Copy>(
 pub fn come_to_rest<S: Shelf>(
     holder: Holder<S>,
     patience: &mut Patience,
-) -> Result<Driver<S>, (driver::Driver<S>, DrainFault)>
+) -> Result<Driver<S>, (driver::Driver<S>, CommitFault)>
     requires kind { IsOfKind holder }
     requires on { IsSome (session_of holder) }
     requires between { IfSome (session_of holder) (IsOnBetween (S.device (shelf_of holder))) }
@@ -295,7 +290,7 @@ pub fn do_mklv<S: Shelf>(
     group: Name,
     lps: u32,
 ) -> Answered<S>
-    requires fits { IsFitting stage }
+    requires fits { IsFittingStage stage }
     requires between { IsBetweenStage S.device stage }
     requires some { 1 ≤ lps }
     requires built { mode ≡ Passive → ⊥ }
@@ -333,7 +328,7 @@ pub fn do_mklv<S: Shelf>(
 /// Removes the volume of the name from the group that is on, if none of its requests is open. Turns are made first until
 /// nothing is under way, and the name is looked up then.
 pub fn do_rmlv<S: Shelf>(alloc: Global, stage: Stage<S>, name: Name) -> Answered<S>
-    requires fits { IsFitting stage }
+    requires fits { IsFittingStage stage }
     requires between { IsBetweenStage S.device stage }
     ensures { EndsUnasked S.device (λ _. RmlvDoes name) ⊥ OfGroup stage result.stage result.reply }
 {

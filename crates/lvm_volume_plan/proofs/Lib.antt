@@ -1,6 +1,3 @@
-pub mod handed
-pub mod Numbers
+pub mod passed
+pub mod NewVolumeLemmas
 pub mod Sublists
-pub mod NewDescriptor
-pub mod OldDescriptor
-pub mod Refusals

@@ -4,8 +4,8 @@ use Rattle.std.specs.Prelude.{filter, insert, All, AllPairs}
 use Rattle.std.proofs.lemmas.List.{length-drop, length-take-le, take-append-drop, get_or-take, get_or-drop}
 use Rattle.std.proofs.lemmas.List.Elements.{All-append, All-cons, All-take, All-drop, All-filter}
 use Rattle.lvm_num.proofs.Pairs.{AllPairs-left, AllPairs-right, AllPairs-across, AllPairs-append}
-use Rattle.lvm_num.proofs.ListLemmas.{one_of_left, one_of_right, one_of_either}
-use Rattle.lvm_core.specs.handed.Names.{IsOneOf}
+use Rattle.lvm_num.proofs.AmongLemmas.{one_of_left, one_of_right, one_of_either}
+use Rattle.lvm_core.specs.passed.Names.{IsOneOf}
 
 -- ---- pairs
 

@@ -1,5 +1,5 @@
--- Why a volume isn't made or removed.
-use Rattle.std.specs.Prelude.{◌≡◌, ℕ, ◌-◌, ◌^◌, ◌<◌, ◌≤◌, List, [], length, None, IsSome}
+-- Why a volume isn't made or removed, and whether the session goes on.
+use Rattle.std.specs.Prelude.{◌≡◌, ℕ, ◌-◌, ◌^◌, ◌<◌, ◌≤◌, Bool, true, false, ⊤, MatchBool, List, [], length, None, IsSome, Result, Ok, Err}
 use Rattle.lvm_num.specs.declared.place.Pp.{Pp}
 use Rattle.lvm_num.specs.Descriptor.{volume_of, most_volumes}
 use Rattle.lvm_num.specs.Votes.{total_votes}
@@ -7,8 +7,8 @@ use Rattle.lvm_vol.specs.Log.{spare_entries}
 use Rattle.lvm_map.specs.FirstFit.{IsAllocated, HasNoPlace, free_count, new_volume}
 use Rattle.lvm_core.specs.declared.fault.CommitFault.{CommitFault}
 use Rattle.lvm_core.specs.declared.fault.CommitFault.TheVariants as commit
-use Rattle.lvm_core.specs.handed.SessionOpenPower as power
-use Rattle.lvm_core.specs.handed.Names.{Core, State, is_there, votes_there}
+use Rattle.lvm_core.specs.passed.SessionOpenPower as power
+use Rattle.lvm_core.specs.passed.Names.{Core, State, is_there, votes_there}
 use Rattle.lvm_core.specs.Looking.{IsNumberOf, HasNoVolumeNamed}
 use Rattle.lvm_volume_plan.specs.declared.fault.GroupFault.{GroupFault}
 use Rattle.lvm_volume_plan.specs.declared.fault.GroupFault.TheVariants as fault
@@ -20,6 +20,31 @@ fault_of commit.Dark = fault.Dark
 fault_of (commit.WentOff have total) = fault.WentOff have total
 fault_of (commit.DiskFailed disk) = fault.DiskFailed disk
 fault_of commit.Stuck = fault.Stuck
+
+-- so what it answers is an answer of the command
+abbrev pub command_answer : {A : Type 0} → Result A CommitFault → Result A GroupFault
+command_answer (Ok done) = Ok done
+command_answer (Err why) = Err (fault_of why)
+
+-- ---- what is left of the session
+
+-- a power cut, the loss of the votes, and a transfer of which nothing is heard end the session
+abbrev pub ends_session : GroupFault → Bool
+ends_session fault.Dark = true
+ends_session (fault.WentOff have total) = true
+ends_session fault.Stuck = true
+ends_session _ = false
+
+-- whether the session is over after a command that was answered so
+abbrev pub is_over : {A : Type 0} → Result A GroupFault → Bool
+is_over (Ok done) = false
+is_over (Err why) = ends_session why
+
+-- where it isn't, this holds
+abbrev pub IfOn : {A : Type 0} → Result A GroupFault → Type 0 → Type 0
+IfOn answer P = MatchBool (is_over answer) ⊤ P
+
+-- ---- before a command
 
 -- the session is on, and no request is open
 pub record TakesCommands (core : Core) : Type 0 where

@@ -1,4 +1,4 @@
-pub mod handed
+pub mod passed
 pub mod NewVolume
 pub mod Faults
 pub mod PlannedVolume

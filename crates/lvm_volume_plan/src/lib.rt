@@ -1,8 +1,8 @@
 //! What stands against a volume that is to be made or removed, and what a new one is made of.
 #![tactic(auto)]
 
+pub mod below;
 mod fault;
-pub mod lower;
 mod new_volume;
 mod next;
 

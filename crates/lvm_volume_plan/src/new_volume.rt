@@ -9,7 +9,7 @@ ghost use Rattle.lvm_volume_plan.specs.PlannedVolume.{AreOfOneGroup, IsPlannedVo
 
 use crate::fault::GroupFault;
 use crate::next::{lowest_free, with_volume, without_volume};
-use lvm_core::lower::Power;
+use lvm_core::below::Power;
 use lvm_core::{Driver, Prepared};
 use lvm_disk::Shelf;
 use lvm_map::{MapFault, allocate, blocks};

@@ -15,9 +15,10 @@ use Rattle.lvm_kept.specs.Moments.{Moment}
 use Rattle.lvm_kept.specs.Torn.{RecordWrite}
 use Rattle.lvm_kept.specs.Plans.{Plan}
 use Rattle.lvm_status.specs.Update.{members_there}
-use Rattle.lvm_volume_plan.specs.handed.Names.{KeepsShelf, there, IsOfSession, StatesGroup, IsOfStatus, IsOfCommit, IsZeroOf, IsHeld, SpanGoesOn, Scope, NoPartition, IsHeldSince, IsOfCommand, WasLeftBehind, MayBeFound, Leaves}
-use Rattle.lvm_volume_plan.proofs.handed.Names.{keeps_here, keeps_then, spends_none, spends_then, keeps_wider, outside, keeps_same, same_status}
-use Rattle.lvm_session.specs.State.{State, is_there}
+use Rattle.lvm_volume_plan.specs.passed.Names.{KeepsShelf, there, IsOfSession, StatesGroup, IsOfStatus, IsOfCommit, IsZeroOf, IsHeld, Scope, NoPartition, IsHeldSince, IsOfCommand, WasLeftBehind, MayBeFound, Leaves}
+use Rattle.lvm_volume_plan.proofs.passed.Names.{keeps_here, keeps_then, spends_none, spends_then, keeps_wider, outside, keeps_same, same_status}
+use Rattle.lvm_session.specs.State.{State, is_there, moment_of}
+use Rattle.lvm_steps.specs.Moments.{SpanGoesOn}
 use Rattle.lvm_volumes.specs.Endings.{StillHeld, IfAlone, commanding}
 
 -- ---- counts
@@ -202,7 +203,7 @@ module _ (N : Descriptor → Type 0) (Z : Pp → Type 0) where
 
   pub leaves_joined : (S : Pp → Type 0) (J K L : State → State → ℕ → Moment → Type 0) (m n p q r : ℕ) (a b c : State) → (b.core.descriptor ≡ a.core.descriptor) ⊎ N b.core.descriptor → b.core.descriptor.mib ≡ a.core.descriptor.mib
       → ((d : ℕ) → is_member b.core.descriptor d ≡ is_member a.core.descriptor d) → Leaves (scoped S J m) p q a b → (IsHeld a.device a.core → IsHeld b.device b.core) → Leaves (scoped S K n) q r b c
-      → ((run : ℕ) (first : Moment) → IsHeldSince run first a → L a c run first → SpanGoesOn run first a c) → Leaves (scoped S L (m + n)) p r a c
+      → ((run : ℕ) (first : Moment) → IsHeldSince run first a → L a c run first → SpanGoesOn run first (moment_of a) (moment_of c)) → Leaves (scoped S L (m + n)) p r a c
   leaves_joined S J K L m n p q r a b c from mib members one still two spans = record {
     writes = keeps_then (is_there a.core) (IsOfCommand N Z a c) a.device b.device c.device
         (wider (is_there a.core) (is_there a.core) (IsOfCommand N Z a b) (IsOfCommand N Z a c) a.device b.device (λ d is. is)

@@ -1,5 +1,5 @@
 -- How a command on the volumes of a session ends, and what it may do.
-use Rattle.std.specs.Prelude.{◌≡◌, ◌⊎◌, ℕ, true, not, [], None, Result, Ok, Err}
+use Rattle.std.specs.Prelude.{◌≡◌, ◌⊎◌, ℕ, true, not, [], None}
 use Rattle.std.specs.List.{list_any}
 use Rattle.lvm_num.specs.declared.place.Pp.{Pp}
 use Rattle.lvm_num.specs.declared.descriptor.Descriptor.{Descriptor}
@@ -9,13 +9,11 @@ use Rattle.lvm_disk.specs.Device.{IsReady}
 use Rattle.lvm_vol.specs.Log.{Log, cut_log}
 use Rattle.lvm_kept.specs.Group.{IsOneOf}
 use Rattle.lvm_kept.specs.Moments.{Moment}
-use Rattle.lvm_volume_plan.specs.handed.Names.{IsDarkened, IsGivenUp, IsOnlyGroupOn, IsOnlyGroupSince, NoneIsLeft, HasLostQuorum, with_one_out, IsHeld, AreNotesHome, Scope, NoPartition, EntersVolumes}
+use Rattle.lvm_volume_plan.specs.passed.Names.{IsDarkened, IsGivenUp, IsOnlyGroupOn, IsOnlyGroupSince, NoneIsLeft, HasLostQuorum, with_one_out, IsHeld, AreNotesHome, Scope, NoPartition, EntersVolumes}
 use Rattle.lvm_session.specs.declared.open.Power.TheVariants as power
 use Rattle.lvm_session.specs.Dark.{all_dark}
 use Rattle.lvm_session.specs.State.{Core, State}
 use Rattle.lvm_session.specs.Judging.{copies_in, is_wanted_stale}
-use Rattle.lvm_volume_plan.specs.declared.fault.GroupFault.{GroupFault}
-use Rattle.lvm_volume_plan.specs.declared.fault.GroupFault.TheVariants as fault
 
 -- ---- faults as they happen
 
@@ -55,23 +53,6 @@ pub record CommandFailed (disk : ℕ) (old new : State) : Type 0 where
   pub cuts : new.device.counts.cuts ≡ old.device.counts.cuts
 
 -- ---- while the session goes on
-
--- the command was answered, and the session is as on as it was
-abbrev pub IfOn : {A : Type 0} → Result A GroupFault → Type 0 → Type 0
-IfOn (Ok done) P = P
-IfOn (Err fault.Dark) P = Unit {0}
-IfOn (Err (fault.WentOff have total)) P = Unit {0}
-IfOn (Err fault.Stuck) P = Unit {0}
-IfOn (Err fault.Busy) P = P
-IfOn (Err fault.NoVolume) P = P
-IfOn (Err fault.VolumeExists) P = P
-IfOn (Err (fault.CopyLimit now)) P = P
-IfOn (Err (fault.LastFresh lp)) P = P
-IfOn (Err (fault.TooMany limit)) P = P
-IfOn (Err (fault.NoRoom free)) P = P
-IfOn (Err fault.HistoryFull) P = P
-IfOn (Err (fault.DiskFailed disk)) P = P
-IfOn (Err fault.Memory) P = P
 
 -- The disks hold what the session says, where they did, and their notes name what its cache does, where they did; no group but this one is found on them,
 -- where none was, and no copy is left behind on a member that is missing, where none was.

@@ -1,4 +1,4 @@
-pub mod handed
+pub mod passed
 pub mod Endings
 pub mod Volumes
 pub mod Stages

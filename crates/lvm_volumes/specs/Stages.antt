@@ -10,9 +10,9 @@ use Rattle.lvm_disk.specs.Device.{IsReady}
 use Rattle.lvm_vol.specs.declared.entry.Vol.TheVariants.{Lv}
 use Rattle.lvm_vol.specs.Facts.{Fact, Making, Made, Removed}
 use Rattle.lvm_vol.specs.Log.{Log, with_fact}
-use Rattle.lvm_map.specs.FirstFit.{is_on}
-use Rattle.lvm_volume_plan.specs.handed.Names.{IsFree, MarksLeft, CommitFault, IsSettled, HasGoneDark, IsLeftOut, CommitEnds, Leaves, committing, IsAsBefore}
-use Rattle.lvm_volume_plan.specs.handed.CoreFaultCommitFault as commit
+use Rattle.lvm_map.specs.FirstFit.{has_partition_on}
+use Rattle.lvm_volume_plan.specs.passed.Names.{IsFree, MarksLeft, CommitFault, IsSettled, HasGoneDark, IsLeftOut, CommitEnds, Leaves, committing, IsAsBefore}
+use Rattle.lvm_volume_plan.specs.passed.CoreFaultCommitFault as commit
 use Rattle.lvm_session.specs.State.{Core, State, is_there}
 use Rattle.lvm_volumes.specs.Endings.{CommandDarkened, CommandWentOff, CommandStuck, CommandFailed}
 use Rattle.lvm_volumes.specs.Volumes.{AreZeroed, removing}
@@ -21,14 +21,6 @@ use Rattle.lvm_volume_plan.specs.declared.new_volume.VolumePlan.{VolumePlan}
 use Rattle.lvm_volume_plan.specs.PlannedVolume.{IsPlannedVolume}
 
 -- ---- whatever comes of it
-
--- the stage ended well, or a disk failed, and the session is on
-abbrev pub IfGoesOn : Result (Unit {0}) CommitFault → Type 0 → Type 0
-IfGoesOn (Ok done) P = P
-IfGoesOn (Err (commit.DiskFailed disk)) P = P
-IfGoesOn (Err commit.Dark) P = Unit {0}
-IfGoesOn (Err (commit.WentOff have total)) P = Unit {0}
-IfGoesOn (Err commit.Stuck) P = Unit {0}
 
 -- the command broke off so, once this was entered
 abbrev pub CommandBroke : Log → ℕ → State → State → CommitFault → Type 0
@@ -74,7 +66,7 @@ pub record HasZeroedAll (map : List Pp) (old new : State) : Type 0 where
 -- a transfer of a disk that has one failed, and of no other
 pub record HasFailedOn (map : List Pp) (disk : ℕ) (old new : State) : Type 0 where
   pub same : IsAsBefore old new
-  pub its : IsTrue (is_on map disk)
+  pub its : IsTrue (has_partition_on map disk)
   pub others : (d : ℕ) → (d ≡ disk → ⊥) → new.device.counts.faults d ≡ old.device.counts.faults d
   pub fault : Rose (old.device.counts.faults disk) (new.device.counts.faults disk)
 
@@ -89,9 +81,9 @@ ZerosEnd map patience old new (Err (commit.WentOff have total)) = ⊥
 
 -- the lowest disk of the partitions that the status calls missing
 pub record IsLowestMissing (status : Status) (map : List Pp) (disk : ℕ) : Type 0 where
-  pub its : IsTrue (is_on map disk)
+  pub its : IsTrue (has_partition_on map disk)
   pub missing : IsTrue (calls_missing status disk)
-  pub lowest : (d : ℕ) → d < disk → IsTrue (is_on map d) → IsFalse (calls_missing status d)
+  pub lowest : (d : ℕ) → d < disk → IsTrue (has_partition_on map d) → IsFalse (calls_missing status d)
 
 -- The partitions are zeros and fresh, on members that aren't missing.
 pub record AreCleared (map : List Pp) (old new : State) : Type 0 where
@@ -105,8 +97,8 @@ pub record AreCleared (map : List Pp) (old new : State) : Type 0 where
 
 -- a disk that has one failed, and none of theirs below it
 pub record DiskFailsFirst (map : List Pp) (disk : ℕ) (old new : State) : Type 0 where
-  pub its : IsTrue (is_on map disk)
-  pub lowest : (d : ℕ) → d < disk → IsTrue (is_on map d) → new.device.counts.faults d ≡ old.device.counts.faults d
+  pub its : IsTrue (has_partition_on map disk)
+  pub lowest : (d : ℕ) → d < disk → IsTrue (has_partition_on map d) → new.device.counts.faults d ≡ old.device.counts.faults d
   pub ends : CommandFailed disk old new
   pub settled : IsSettled new.core
 

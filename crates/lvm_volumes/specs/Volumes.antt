@@ -8,9 +8,9 @@ use Rattle.lvm_disk.specs.Device.{Device, IsReady}
 use Rattle.lvm_vol.specs.declared.entry.Vol.TheVariants.{Lv}
 use Rattle.lvm_vol.specs.Facts.{Making, Made, Removing, Removed}
 use Rattle.lvm_vol.specs.Log.{Log, with_fact}
-use Rattle.lvm_map.specs.FirstFit.{is_on}
+use Rattle.lvm_map.specs.FirstFit.{has_partition_on}
 use Rattle.lvm_session.specs.State.{Core, State, is_there}
-use Rattle.lvm_volume_plan.specs.handed.Names.{IsZeroed, Scope, NoPartition}
+use Rattle.lvm_volume_plan.specs.passed.Names.{IsZeroed, Scope, NoPartition}
 use Rattle.lvm_volumes.specs.Endings.{CommandDarkened, CommandWentOff, CommandStuck, CommandFailed, commanding}
 use Rattle.lvm_volume_plan.specs.declared.fault.GroupFault.{GroupFault}
 use Rattle.lvm_volume_plan.specs.declared.fault.GroupFault.TheVariants as fault
@@ -70,8 +70,8 @@ pub record MakingEnds (v : NewVolume) (old new : State) (Ends : Log → Type 0) 
 pub record MakingFails (v : NewVolume) (disk : ℕ) (old new : State) : Type 0 where
   pub map : List Pp
   pub may : MayBeMade v old.core map
-  pub its : IsTrue (is_on map disk)
-  pub lowest : (d : ℕ) → d < disk → IsTrue (is_on map d) → new.device.counts.faults d ≡ old.device.counts.faults d
+  pub its : IsTrue (has_partition_on map disk)
+  pub lowest : (d : ℕ) → d < disk → IsTrue (has_partition_on map d) → new.device.counts.faults d ≡ old.device.counts.faults d
   pub ends : CommandFailed disk old new
 
 -- what it may do: commit the descriptor with the volume, and write zeros to its partitions and make them fresh

@@ -4,19 +4,19 @@ ghost use Rattle.lvm_num.specs.declared.place.Pp.{Pp};
 ghost use Rattle.lvm_num.specs.Status.{calls_missing};
 ghost use Rattle.lvm_disk.specs.Device.{IsReady};
 ghost use Rattle.lvm_vol.specs.Log.{spare_entries, plain_fact};
-ghost use Rattle.lvm_map.specs.FirstFit.{is_on};
-ghost use Rattle.lvm_volume_plan.specs.handed.Names.{IsAlike, state_of, Leaves, NoDescriptor, NoPartition, IsSettled, HasSpareNumbers, IsOfVolume};
-ghost use Rattle.lvm_volume_plan.specs.Faults.{TakesCommands};
+ghost use Rattle.lvm_map.specs.FirstFit.{has_partition_on};
+ghost use Rattle.lvm_volume_plan.specs.passed.Names.{IsAlike, state_of, Leaves, NoDescriptor, NoPartition, IsSettled, HasSpareNumbers, IsOfVolume};
+ghost use Rattle.lvm_volume_plan.specs.Faults.{TakesCommands, IfOn, command_answer};
 ghost use Rattle.lvm_volume_plan.specs.PlannedVolume.{AreOfOneGroup, IsWithout};
-ghost use Rattle.lvm_volumes.specs.Endings.{IfOn, StillHeld, KeepsFresh, commanding};
-ghost use Rattle.lvm_volumes.specs.Stages.{IfGoesOn, AreUnusedOn, IsLowestMissing, ZerosEnd, ClearEnds, MakeEnds, MayMake, RemoveEnds, CommitsBetween};
+ghost use Rattle.lvm_volumes.specs.Endings.{StillHeld, KeepsFresh, commanding};
+ghost use Rattle.lvm_volumes.specs.Stages.{AreUnusedOn, IsLowestMissing, ZerosEnd, ClearEnds, MakeEnds, MayMake, RemoveEnds, CommitsBetween};
 ghost use Rattle.lvm_volumes.specs.Volumes.{MklvGives, RmlvGives, to_make, to_remove};
 
 use lvm_disk::Shelf;
-use lvm_num::{DISKS, Mode, Name, Policy, Pp, is_on};
+use lvm_num::{DISKS, Mode, Name, Policy, Pp, has_partition_on};
 use lvm_stale::StaleTable;
 use lvm_vol::{Entry, Vol};
-use lvm_volume_plan::lower::{CommitFault, Driver, Patience, Prepared};
+use lvm_volume_plan::below::{CommitFault, Driver, Patience, Prepared};
 use lvm_volume_plan::{GroupFault, NewVolume, VolumePlan, prepare_without};
 use std::alloc::Global;
 
@@ -104,8 +104,8 @@ fn make<S: Shelf>(
     requires settled { IsSettled driver.old.1 }
     requires may { MayMake driver.old.1 plan }
     ensures ends { MakeEnds plan patience.old.left (state_of S.device driver.old) (state_of S.device driver.new) result }
-    ensures held { IfGoesOn result (StillHeld (state_of S.device driver.old) (state_of S.device driver.new)) }
-    ensures fresh { IfGoesOn result (KeepsFresh (state_of S.device driver.old) (state_of S.device driver.new)) }
+    ensures held { IfOn (command_answer result) (StillHeld (state_of S.device driver.old) (state_of S.device driver.new)) }
+    ensures fresh { IfOn (command_answer result) (KeepsFresh (state_of S.device driver.old) (state_of S.device driver.new)) }
     ensures leaves { Leaves (commanding (λ next. next ≡ plan.next) (Contains plan.map) 2) patience.old.left patience.new.left (state_of S.device driver.old) (state_of S.device driver.new) }
 {
     clear(driver, plan.map.as_slice(), patience)?;
@@ -128,8 +128,8 @@ fn remove<S: Shelf>(
     requires settled { IsSettled driver.old.1 }
     requires without { IsWithout lv driver.old.1 next }
     ensures ends { RemoveEnds lv next patience.old.left (state_of S.device driver.old) (state_of S.device driver.new) result }
-    ensures held { IfGoesOn result (StillHeld (state_of S.device driver.old) (state_of S.device driver.new)) }
-    ensures fresh { IfGoesOn result (KeepsFresh (state_of S.device driver.old) (state_of S.device driver.new)) }
+    ensures held { IfOn (command_answer result) (StillHeld (state_of S.device driver.old) (state_of S.device driver.new)) }
+    ensures fresh { IfOn (command_answer result) (KeepsFresh (state_of S.device driver.old) (state_of S.device driver.new)) }
     ensures leaves { Leaves (commanding (λ d. d ≡ next) NoPartition 1) patience.old.left patience.new.left (state_of S.device driver.old) (state_of S.device driver.new) }
 {
     let vol = Vol::Lv(lv);
@@ -169,8 +169,8 @@ fn clear<S: Shelf>(
     requires group { AreOfOneGroup driver.old.1 }
     requires unused { AreUnusedOn driver.old.1 map.now }
     ensures ends { ClearEnds map.now patience.old.left (state_of S.device driver.old) (state_of S.device driver.new) result }
-    ensures held { IfGoesOn result (StillHeld (state_of S.device driver.old) (state_of S.device driver.new)) }
-    ensures fresh { IfGoesOn result (KeepsFresh (state_of S.device driver.old) (state_of S.device driver.new)) }
+    ensures held { IfOn (command_answer result) (StillHeld (state_of S.device driver.old) (state_of S.device driver.new)) }
+    ensures fresh { IfOn (command_answer result) (KeepsFresh (state_of S.device driver.old) (state_of S.device driver.new)) }
     ensures leaves { Leaves (commanding NoDescriptor (Contains map.now) 1) patience.old.left patience.new.left (state_of S.device driver.old) (state_of S.device driver.new) }
 {
     driver.set_status(&[], map, patience)?;
@@ -187,7 +187,7 @@ fn lowest_missing(table: &StaleTable, map: &[Pp]) -> Option<u16>
     ensures none { IfNone result (All (λ (pp : Pp). calls_missing table.now pp.disk ≡ false) map.now) }
 {
     for disk in 0..DISKS {
-        if is_on(map, disk) && table.is_missing(disk) {
+        if has_partition_on(map, disk) && table.is_missing(disk) {
             return Some(disk);
         }
     }
@@ -204,7 +204,7 @@ fn zero_all<S: Shelf>(
     requires ready { IsReady (S.device driver.old.0) }
     requires unused { AreUnusedOn driver.old.1 map.now }
     ensures ends { ZerosEnd map.now patience.old.left (state_of S.device driver.old) (state_of S.device driver.new) result }
-    ensures held { IfGoesOn result (StillHeld (state_of S.device driver.old) (state_of S.device driver.new)) }
+    ensures held { IfOn (command_answer result) (StillHeld (state_of S.device driver.old) (state_of S.device driver.new)) }
     ensures leaves { Leaves (commanding NoDescriptor (Contains map.now) 0) patience.old.left patience.new.left (state_of S.device driver.old) (state_of S.device driver.new) }
 {
     for pp in map {

@@ -1,2 +1,2 @@
-pub mod Digits
-pub mod Outcomes
+pub mod MatchedLemmas
+pub mod WordsLemmas

@@ -6,26 +6,12 @@ ghost use Rattle.lvm_num.specs.Descriptor.{IsValid};
 ghost use Rattle.lvm_num.specs.Disks.{has};
 ghost use Rattle.lvm_session.specs.Bringing.{groups_of, is_whole};
 ghost use Rattle.lvm_session.specs.Fields.{core_of};
-ghost use Rattle.lvm_session.specs.Judging.{copies_in};
 ghost use Rattle.lvm_session.specs.Left.{copy_left, step_left, tried_of, update_work};
 ghost use Rattle.lvm_session.specs.Sound.{IsCopy};
 
-use lvm_copies::{is_running, partition_blocks, volume_of};
-use lvm_copy_end::is_whole;
-use lvm_num::{Pp, copies_of};
+use lvm_copies::{copies_beside, is_running, is_whole, partition_blocks};
+use lvm_num::Pp;
 use lvm_session::{OpenCopy, Session, Step};
-
-// The copies of its logical partition.
-fn copies_beside<'a>(session: &'a Session, copy: &OpenCopy) -> &'a [Pp]
-    requires valid { IsValid session.now.descriptor }
-    requires copy { IsCopy (core_of session.now) copy.now }
-    ensures { result.now ≡ copies_in session.now.descriptor copy.now.lv copy.now.lp }
-{
-    match volume_of(&session.descriptor, copy.lv) {
-        None => &[],
-        Some(row) => copies_of(row, copy.lp),
-    }
-}
 
 // How many copies were tried for the track group at its cursor.
 fn tried_of(session: &Session, copy: &OpenCopy) -> u64

@@ -1,8 +1,8 @@
 //! How much work is left in a session.
 #![tactic(auto)]
 
+pub mod below;
 mod copy;
-pub mod lower;
 mod requests;
 mod status;
 mod work;

@@ -1,6 +1,6 @@
 //! The work that is left of the requests.
 ghost use Rattle.std.specs.Prelude.{◌≡◌, ◌≤◌, ◌+◌, ◌*◌, ◌<◌, if◌then◌else◌, length, slice_get, sum_by, Some};
-ghost use Rattle.std.specs.List.{list_any, AllByRecursion};
+ghost use Rattle.std.specs.List.{list_any};
 ghost use Rattle.lvm_num.specs.Descriptor.{IsValid};
 ghost use Rattle.lvm_path.specs.declared.target.Target.{Target};
 ghost use Rattle.lvm_path.specs.Targets.{is_done};
@@ -11,18 +11,9 @@ ghost use Rattle.lvm_session.specs.Requests.{IsLaid};
 ghost use Rattle.lvm_session.specs.Sound.{IsGoing};
 
 use crate::writes::{waiting_targets, write_left};
-use lvm_firsts::lower::is_waiting;
-use lvm_path::{Phase, Request, Target};
-use lvm_sched::TargetState;
+use lvm_firsts::below::is_waiting;
+use lvm_path::{Phase, Request, any_is_done};
 use lvm_session::{Open, Session};
-
-fn any_is_done(targets: &[Target]) -> bool
-    ensures { result ≡ list_any (λ (t : Target). is_done t.state) targets.now }
-{
-    targets
-        .iter()
-        .any(|target| matches!(target.state, TargetState::Done))
-}
 
 // A read that is admitted.
 fn tried_left(request: &Request) -> u64

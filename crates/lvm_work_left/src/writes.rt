@@ -2,18 +2,17 @@
 ghost use Rattle.std.specs.Prelude.{◌≡◌, ◌≤◌, ◌<◌, ◌^◌, ◌&&◌, count_by, length, not, sum_by};
 ghost use Rattle.lvm_num.specs.Descriptor.{IsValid};
 ghost use Rattle.lvm_path.specs.Asks.{at_of};
-ghost use Rattle.lvm_path.specs.Targets.{are_over};
 ghost use Rattle.lvm_session.specs.Fields.{core_of};
 ghost use Rattle.lvm_session.specs.Judging.{IsWithin, copies_for, is_changed};
 ghost use Rattle.lvm_session.specs.Left.{begun_left, if_so, is_brought_up, is_held, lacks_dirty, lacks_note, phase_left, turns_of, unbegun_left, waiting_targets, write_left};
 ghost use Rattle.lvm_session.specs.Requests.{IsLaid};
 
 use lvm_copies::{
-    are_targets, copies_for, group_in, group_of, is_missing, is_pp, is_running, is_settled,
-    is_usable, mode_of,
+    copies_for, group_of, is_missing, is_pp, is_running, is_settled, is_usable, mode_of,
 };
+use lvm_firsts::below::is_changed;
 use lvm_num::{Mode, Pp};
-use lvm_path::{Phase, Request, Target};
+use lvm_path::{Phase, Request, Target, are_over};
 use lvm_sched::TargetState;
 use lvm_session::Session;
 
@@ -131,21 +130,6 @@ fn lacks_dirty(session: &Session, request: &Request) -> bool
     }
 }
 
-// Whether its targets are no longer the copies to which it goes.
-fn is_changed(session: &Session, request: &Request) -> bool
-    requires valid { IsValid session.now.descriptor }
-    requires within { IsWithin session.now.descriptor request.now.ask }
-    ensures { result ≡ is_changed (core_of session.now) request.now }
-{
-    request.ask.is_write()
-        && !are_targets(
-            session,
-            group_in(session, &request.ask),
-            copies_for(session, &request.ask),
-            &request.targets,
-        )
-}
-
 // Whether it is admitted with targets that are no longer those.
 fn is_stray(session: &Session, request: &Request) -> bool
     requires valid { IsValid session.now.descriptor }
@@ -175,13 +159,6 @@ fn begun_left(request: &Request) -> u64
     ensures few { result ≤ 1024 }
 {
     1 + 2 * waiting_targets(request) + if_so(!are_over(&request.targets), 256)
-}
-
-// Whether all its transfers have ended.
-fn are_over(targets: &[Target]) -> bool
-    ensures { result ≡ are_over targets.now }
-{
-    targets.iter().all(|target| matches!(target.state, TargetState::Done | TargetState::Failed))
 }
 
 /// A write, from its submission to the end of its transfers.

@@ -1,9 +1,7 @@
-pub mod handed
-pub mod Writing
-pub mod Pieces
-pub mod Transfers
-pub mod Tried
-pub mod Disks
-pub mod HomeSlots
-pub mod Shows
-pub mod Emptying
+pub mod passed
+pub mod WrittenLemmas
+pub mod PartsLemmas
+pub mod WritesLemmas
+pub mod HomesLemmas
+pub mod ShowsLemmas
+pub mod NotesLemmas

@@ -1,4 +1,4 @@
-pub mod handed
+pub mod passed
 pub mod Homes
 pub mod Written
 pub mod Parts

@@ -5,10 +5,10 @@ use Rattle.lvm_num.specs.declared.record.Framed.{Framed}
 use Rattle.lvm_num.specs.Buffer.{Buffer, Sector}
 use Rattle.lvm_num.specs.Disks.{Disks}
 use Rattle.lvm_num.specs.Geometry.{data_start}
-use Rattle.lvm_disk.specs.Counts.{Rose, RoseBy}
-use Rattle.lvm_disk.specs.Device.{Image, Flight, Range, Device, image_of, MayLeave}
+use Rattle.lvm_disk.specs.Counts.{Rose}
+use Rattle.lvm_disk.specs.Device.{Image, Range, Device, image_of, MayLeave}
 use Rattle.lvm_disk.specs.Steps.{BothTold}
-use Rattle.lvm_survey.specs.handed.Names.{Plan, ChangesBy, RecordWrite, StandsOn, Homes, next_slot}
+use Rattle.lvm_survey.specs.passed.Names.{Plan, ChangesBy, RecordWrite, StandsOn, Homes, next_slot, IsUnheard}
 
 -- the write of this record to these disks, by the slots that stand next
 abbrev pub write_of : Kind → Framed → Disks → Homes → RecordWrite
@@ -78,12 +78,5 @@ pub record IsDarkened (number : ℕ) (old new : Device) : Type 0 where
 
 -- Just one transfer is out, a write with the buffer of this number; the power is on as ever, no buffer was given up, and so many answers
 -- that nothing has ended were borne.
-pub record IsGivenUp (number patience : ℕ) (old new : Device) : Type 0 where
-  pub flight : Flight
-  pub flights : new.flights ≡ flight ∷ []
-  pub write : flight.write ≡ true
-  pub buffer : flight.buf.number ≡ number
-  pub freed : new.freed ≡ []
-  pub power : new.power ≡ true
-  pub cuts : new.counts.cuts ≡ old.counts.cuts
-  pub waits : RoseBy patience old.counts.waits new.counts.waits
+abbrev pub IsGivenUp : ℕ → ℕ → Device → Device → Type 0
+IsGivenUp number patience old new = IsUnheard true number patience old new

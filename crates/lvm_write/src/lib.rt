@@ -1,9 +1,9 @@
 //! How records are written to disks: to which slot each next one goes, and what is written of it.
 #![tactic(auto)]
 
+pub mod below;
 mod homes;
 mod laws;
-pub mod lower;
 mod notes;
 mod write;
 

@@ -1,2 +1,2 @@
 -- Passed on from `lvm_driver`.
-pub use Rattle.lvm_volume_lines.specs.passed.Driver.{DrainFault, FailsSo, state_of}
+pub use Rattle.lvm_volume_lines.specs.passed.Driver.{FailsSo}

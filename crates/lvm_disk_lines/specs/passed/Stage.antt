@@ -5,7 +5,7 @@ pub use Rattle.lvm_stage.specs.Lighting.{IsRelit, refusal_of}
 pub use Rattle.lvm_stage.specs.Moments.{Aside, GoesOn, HasBegunHeld, IsAllowed, IsAlone, IsBrokenOff, IsRequesting, OfGroup, OfGroupWhere, OfRequests}
 pub use Rattle.lvm_stage.specs.Moments.{Role}
 pub use Rattle.lvm_stage.specs.Replies.{InFull, IsRefused, IsStuck, Shows, WithoutMemory, is_unheard, most_refusals, refusals_of, reply_text}
-pub use Rattle.lvm_stage.specs.Stages.{ComesTo, GivesBack, HaveRooms, IsBetweenStage, IsCarried, IsClosed, IsEnded, IsFitting, IsLeftBy, IsNotOn}
+pub use Rattle.lvm_stage.specs.Stages.{ComesTo, GivesBack, HaveRooms, IsBetweenStage, IsCarried, IsClosed, IsEnded, IsFittingStage, IsLeftBy, IsNotOn}
 pub use Rattle.lvm_stage.specs.Stages.{IsOfKind, IsOn, history_in, history_of, moment_in, open_in, posts_ended, session_in, session_of, shelf_in}
 pub use Rattle.lvm_stage.specs.Stages.{shelf_of, state_in}
 pub use Rattle.lvm_stage.specs.State.{ArePosted, IsAtRest, IsBetween, IsOnBetween, IsPosted, IsTimely, StandsAlone, StandsBy, ScriptState, log_with}

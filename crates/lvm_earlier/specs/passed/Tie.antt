@@ -1,2 +1,2 @@
 -- Passed on from `lvm_tie`.
-pub use Rattle.lvm_ranges.specs.handed.Names.{LeavesDescriptors, SparesDescriptors, SparesOn, IsStamped, IsGood, IsTied, moment_of}
+pub use Rattle.lvm_ranges.specs.passed.Names.{LeavesDescriptors, SparesDescriptors, SparesOn, IsStamped, IsGood, IsTied, moment_of}

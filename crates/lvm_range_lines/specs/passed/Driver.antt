@@ -1,2 +1,2 @@
 -- Passed on from `lvm_driver`.
-pub use Rattle.lvm_group_lines.specs.passed.Driver.{DrainFault, FailsSo, IsAny, IsDrained, IsTurn, state_of}
+pub use Rattle.lvm_group_lines.specs.passed.Driver.{FailsSo, IsAny, IsDrained, IsTurn}

@@ -1,3 +1,3 @@
 //! Passed on from `lvm_driver`.
 
-pub use lvm_group_lines::below::driver::{DrainFault, Driver};
+pub use lvm_group_lines::below::driver::Driver;

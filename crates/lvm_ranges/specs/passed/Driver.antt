@@ -1,4 +1,3 @@
 -- Passed on from `lvm_driver`.
-pub use Rattle.lvm_driver.specs.Answers.{IsCausedFor, state_of}
+pub use Rattle.lvm_driver.specs.Answers.{IsCausedFor}
 pub use Rattle.lvm_driver.specs.Drains.{FailsSo, IsAny, IsDrained, IsTurn}
-pub use Rattle.lvm_driver.specs.declared.drain.DrainFault.{DrainFault}

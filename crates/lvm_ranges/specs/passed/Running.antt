@@ -1,2 +1,2 @@
 -- Passed on from `lvm_running`.
-pub use Rattle.lvm_driver.specs.handed.Names.{IsBefore, LeavesSession, RunsOn}
+pub use Rattle.lvm_driver.specs.passed.Names.{IsBefore, LeavesSession, RunsOn}

@@ -1,3 +1,4 @@
 //! Passed on from `lvm_driver`.
 
-pub use lvm_driver::{Closed, DrainFault, Driver};
+pub use lvm_driver::Driver;
+pub use lvm_driver::below::Closed;

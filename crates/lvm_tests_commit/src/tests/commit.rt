@@ -42,7 +42,7 @@ enum End {
 
 // The group of a session: without volumes, also with quorum checking off, or with a volume of one logical partition
 // that has a copy on disk 1 and one on disk 2.
-#[derive(Clone, Copy, PartialEq, Eq)]
+#[derive(Clone, Copy)]
 enum Group {
     Plain,
     NoQuorum,

@@ -5,10 +5,11 @@ use crate::tests::fixtures::{
     MIRROR, MODES, POLICIES, Setup, begin, check, close, is_stale, turn, written,
 };
 use crate::tests::steps::{Step, does, play, play_out};
+use lvm_core::CommitFault;
 use lvm_disk::{Arrange, Shelf};
 use lvm_faults::{Act, Planned};
 use lvm_num::{Mode, Policy};
-use lvm_ranges::below::driver::{DrainFault, Driver};
+use lvm_ranges::below::driver::Driver;
 use lvm_session::{AskFault, CopyFault, Taken, Turned};
 use std::process::Abort;
 
@@ -220,7 +221,7 @@ const WENT_OFF: [(&str, Step); 8] = [
     ("one vote of three", Step::Votes(1, 3)),
     (
         "it went off",
-        Step::Drain(Err(DrainFault::WentOff { have: 1, total: 3 })),
+        Step::Drain(Err(CommitFault::WentOff { have: 1, total: 3 })),
     ),
     ("nothing is made", Step::Turn(Turned::Off)),
     ("nothing is taken", Step::Write(0, 1, Err(AskFault::Off))),
@@ -242,7 +243,7 @@ fn without_its_votes_the_session_is_over(rt: HostRuntime) {
 
 const IN_THE_DARK: [(&str, Step); 2] = [
     ("nothing is taken", Step::Write(5, 9, Err(AskFault::Dark))),
-    ("nothing is made", Step::Drain(Err(DrainFault::Dark))),
+    ("nothing is made", Step::Drain(Err(CommitFault::Dark))),
 ];
 
 // How a write ends, and how the session does then.

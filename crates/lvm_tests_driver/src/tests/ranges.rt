@@ -2,7 +2,7 @@
 ghost use Rattle.std.specs.Prelude.{◌≡◌, None, IfOk, Ok};
 ghost use Rattle.lvm_posts.specs.Pieces.{IsLaidOut};
 ghost use Rattle.lvm_posts.specs.Posts.{AreHeld};
-ghost use Rattle.lvm_ranges.specs.Reading.{HasEndedWell, IsRead};
+ghost use Rattle.lvm_ranges.specs.Reading.{IsRead};
 
 use crate::tests::fixtures::{MIRROR, Setup, begin, check, close, goes_on, order};
 use crate::tests::steps::{Step, play};

@@ -3,8 +3,9 @@ use crate::tests::fixtures::{
     answer, check, close, close_copy, drain, got, is_stale, open_copy, order, read, turn, write,
     written,
 };
+use lvm_core::CommitFault;
 use lvm_disk::{Arrange, Shelf};
-use lvm_ranges::below::driver::{DrainFault, Driver};
+use lvm_ranges::below::driver::Driver;
 use lvm_session::{AskFault, CopyFault, CopyState, Taken, Turned};
 use std::process::Abort;
 
@@ -26,7 +27,7 @@ pub enum Step {
     /// The answer of a read is taken: the block's word, or how it failed.
     Answer(u64, Result<u64, Taken>),
     /// Turns are made until nothing is left to be made.
-    Drain(Result<(), DrainFault>),
+    Drain(Result<(), CommitFault>),
     /// One turn is made.
     Turn(Turned),
     /// So many turns are made, after which so many transfers are out.

@@ -1,6 +1,6 @@
 //! Groups that come on after a crash: what a note names is copied from the first copy, and nothing else.
 use crate::tests::fixtures::{change, check, image_shelf, images_of};
-use crate::tests::varyon::{Answer, Session, WHOLE, heal, made, vary};
+use crate::tests::varyon::{Answer, VariedOn, WHOLE, heal, made, vary};
 use lvm_core::Cause;
 use lvm_disk::Shelf;
 use lvm_faults::{Act, Planned};
@@ -23,13 +23,13 @@ const SURVEY: u64 = 52;
 const CALLS: u64 = 68;
 
 // The second disk is missing and its copy stale, and then it is back.
-const WITHOUT: Answer = Answer::On(Session {
+const WITHOUT: Answer = Answer::On(VariedOn {
     votes: (2, 3),
     missing: [false, true],
     stale: [false, true],
 });
 
-const BACK: Answer = Answer::On(Session {
+const BACK: Answer = Answer::On(VariedOn {
     votes: (3, 3),
     missing: [false, false],
     stale: [false, true],

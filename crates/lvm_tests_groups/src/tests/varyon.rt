@@ -27,20 +27,20 @@ const ROOM: Room = Room {
 /// How a varyon ended.
 #[derive(Clone, Copy, PartialEq, Eq)]
 pub enum Answer {
-    On(Session),
+    On(VariedOn),
     Not(Cause),
 }
 
 /// The votes, and of the two disks which are missing and whose copy of the volume is stale.
 #[derive(Clone, Copy, PartialEq, Eq)]
-pub struct Session {
+pub struct VariedOn {
     pub votes: (u32, u32),
     pub missing: [bool; 2],
     pub stale: [bool; 2],
 }
 
 /// All disks are there.
-pub const WHOLE: Answer = Answer::On(Session {
+pub const WHOLE: Answer = Answer::On(VariedOn {
     votes: (3, 3),
     missing: [false, false],
     stale: [false, false],
@@ -56,9 +56,9 @@ pub fn made(rt: &(impl Abort + AllocGlobal), mode: Mode, plan: &[Planned]) -> Me
     shelf
 }
 
-fn told<S: Shelf>(driver: &Driver<S>) -> Session {
+fn told<S: Shelf>(driver: &Driver<S>) -> VariedOn {
     let table = driver.table();
-    Session {
+    VariedOn {
         votes: driver.votes(),
         missing: [table.is_missing(0), table.is_missing(1)],
         stale: [table.is_stale(FIRST), table.is_stale(SECOND)],

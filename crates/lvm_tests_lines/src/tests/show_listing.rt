@@ -1,18 +1,18 @@
 ghost use Rattle.std.specs.Prelude.{◌≡◌, ◌==◌};
 ghost use Rattle.std.specs.List.{find};
 ghost use Rattle.std.specs.Option.{option_copied};
-ghost use Rattle.lvm_num.specs.Descriptor.{volume_of, member_of, IsValid};
+ghost use Rattle.lvm_num.specs.Descriptor.{member_of, IsValid};
 ghost use Rattle.lvm_num.specs.declared.descriptor.PvRow.{PvRow};
 
 use crate::tests::fixtures::check;
-use lvm_num::{Descriptor, Pp, PvRow, Rows, Text, volume_of};
+use lvm_num::{Descriptor, Pp, PvRow, Rows, Text, volume_among};
 use lvm_show::{show_disk, show_group, show_map, show_volumes};
 use lvm_stale::StaleTable;
 use lvm_tests_values::{Member, Volume, group, table, volume};
 use std::process::Abort;
 
 // Members of six partitions on the first disks.
-const DISKS: [Member; 3] = [(0, 6, false), (1, 6, false), (2, 6, true)];
+const MEMBERS: [Member; 3] = [(0, 6, false), (1, 6, false), (2, 6, true)];
 
 const VOLUMES: [Volume; 2] = [
     (1, "lv00", 2, 2, &[(0, 0), (1, 0), (0, 1), (1, 1)]),
@@ -43,7 +43,7 @@ fn check_valid(rt: &impl Abort, d: &Descriptor)
 
 fn map(rt: &(impl Abort + AllocGlobal), d: &Descriptor, t: &StaleTable, lv: u16) -> Text {
     check_valid(rt, d);
-    let there = volume_of(d.lvs.as_slice(), lv).is_some();
+    let there = volume_among(d.lvs.as_slice(), lv).is_some();
     assert!(rt; there);
     show_map(rt.alloc(), d, t, lv).expect(rt, "memory")
 }
@@ -133,7 +133,7 @@ fn empty(rt: &(impl Abort + AllocGlobal), members: &[Member], quorum: bool) -> D
 
 // The listing of a new group of the first so many members.
 fn new_listing(rt: &(impl Abort + AllocGlobal), count: usize, disks: &[u16], quorum: bool) -> Text {
-    let members = DISKS.get(..count).expect(rt, "members");
+    let members = MEMBERS.get(..count).expect(rt, "members");
     let d = empty(rt, members, quorum);
     all(rt, &d, &fresh(rt, disks))
 }
@@ -148,7 +148,7 @@ fn a_new_group_is_listed(rt: HostRuntime) {
 
 #[test]
 fn a_group_without_volumes_lists_none(rt: HostRuntime) {
-    let d = empty(&rt, &DISKS, true);
+    let d = empty(&rt, &MEMBERS, true);
     let shown = volumes(&rt, &d, &fresh(&rt, &[0, 1, 2]));
     check(&rt, shown.as_str().is_empty(), "no line");
 }
@@ -180,7 +180,7 @@ static LISTS: [(List, &str); 7] = [
 
 #[test]
 fn a_group_with_stale_partitions_and_a_missing_disk_is_listed(rt: HostRuntime) {
-    let d = group(rt.alloc(), &DISKS, &VOLUMES).expect(&rt, "a group");
+    let d = group(rt.alloc(), &MEMBERS, &VOLUMES).expect(&rt, "a group");
     let t = stale(&rt);
     for (list, text) in &LISTS {
         let shown = listed(&rt, &d, &t, list);

@@ -23,10 +23,10 @@ enum Want {
     NoRoom(u32),
 }
 
-// Disks of 8 MiB.
-const DISKS: [Member; 3] = [(0, 6, false), (1, 6, false), (2, 6, false)];
+// Members on disks of 8 MiB.
+const MEMBERS: [Member; 3] = [(0, 6, false), (1, 6, false), (2, 6, false)];
 
-const THREE: Group = (&DISKS, &[]);
+const THREE: Group = (&MEMBERS, &[]);
 
 const FULL: Volume = (1, "a", 1, 5, &[(0, 0), (0, 1), (0, 2), (0, 3), (0, 4)]);
 
@@ -68,7 +68,7 @@ static FITS: [(&str, &Group, &[u16], Ask, Want); 17] = [
     ("no copy", &THREE, &[0], Ask::New(3, 0), Want::At(&[])),
     (
         "a second volume begins where the first ends",
-        &(&DISKS, &[FULL]),
+        &(&MEMBERS, &[FULL]),
         &[0, 1, 2],
         Ask::New(2, 2),
         Want::At(&[(0, 5), (1, 0), (1, 1), (2, 0)]),
@@ -240,7 +240,7 @@ fn blocks_of(rt: &impl Abort, d: &Descriptor, lv: u16) -> Option<u64> {
 
 #[test]
 fn a_block_has_a_sector_on_each_copy(rt: HostRuntime) {
-    let d = group(rt.alloc(), &DISKS, &[MIRRORED]).expect(&rt, "a group");
+    let d = group(rt.alloc(), &MEMBERS, &[MIRRORED]).expect(&rt, "a group");
     for (lv, copy, block, want) in &PLACES {
         check(&rt, sector(&rt, &d, *lv, *copy, *block) == *want, "a place");
     }

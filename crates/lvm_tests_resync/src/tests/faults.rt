@@ -6,7 +6,7 @@ use crate::tests::fixtures::{
 use lvm_disk::{Arrange, Shelf};
 use lvm_faults::{Act, Planned};
 use lvm_num::Mode;
-use lvm_resync::lower::Driver;
+use lvm_resync::below::Driver;
 use lvm_resync::{SyncFault, sync_volume};
 use lvm_session::{CopyState, Taken};
 use lvm_transfer::Patience;

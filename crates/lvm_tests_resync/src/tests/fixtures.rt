@@ -1,6 +1,6 @@
 //! What the tests share: a driver over three disks in memory, on the first of which a volume has its copies, and what
 //! they ask of it.
-ghost use Rattle.std.specs.Prelude.{◌≡◌, ◌≤◌, ◌<◌, ◌+◌, ◌*◌, ◌^◌, true, false, [], ◌∷◌, length};
+ghost use Rattle.std.specs.Prelude.{◌≡◌, ◌<◌, ◌+◌, ◌^◌, true, false, [], ◌∷◌};
 ghost use Rattle.lvm_num.specs.Descriptor.{IsValid};
 ghost use Rattle.lvm_num.specs.Status.{IsValidStatus};
 ghost use Rattle.lvm_num.specs.Votes.{is_enough_to_write, total_votes};
@@ -11,8 +11,9 @@ ghost use Rattle.lvm_session.specs.declared.open.Power.TheVariants as power;
 ghost use Rattle.lvm_session_start.specs.Parts.{IsSessionRoom};
 ghost use Rattle.lvm_session.specs.Sound.{IsLit};
 ghost use Rattle.lvm_session.specs.Worked.{status_of};
-ghost use Rattle.lvm_vol.specs.Log.{empty_log, spare_entries};
+ghost use Rattle.lvm_vol.specs.Log.{empty_log};
 
+use lvm_core::CommitFault;
 use lvm_disk::{Arrange, Shelf};
 use lvm_faults::{Planned, names_disks};
 use lvm_history::History;
@@ -23,7 +24,7 @@ use lvm_num::{
 };
 use lvm_path::Ask;
 use lvm_rec::Homes;
-use lvm_resync::lower::{Closed, DrainFault, Driver, whole_groups_begin};
+use lvm_resync::below::{Closed, Driver, whole_groups_begin};
 use lvm_resync::{SyncFault, sync_volume};
 use lvm_session::{AskFault, CopyFault, CopyState, Power, Taken, Turned};
 use lvm_session_start::{Room, take_parts};
@@ -281,7 +282,7 @@ pub fn turn<S: Shelf>(rt: &impl Abort, driver: &mut Driver<S>) -> Turned {
 }
 
 /// Turns until nothing is left to be made.
-pub fn drain<S: Shelf>(rt: &impl Abort, driver: &mut Driver<S>) -> Result<(), DrainFault> {
+pub fn drain<S: Shelf>(rt: &impl Abort, driver: &mut Driver<S>) -> Result<(), CommitFault> {
     goes_on(rt, driver);
     let mut patience = Patience { left: 1_000 };
     driver.drain(&mut patience)

@@ -3,10 +3,11 @@ use crate::tests::fixtures::{
     MODES, STALE, Setup, begin, check, close, close_copy, drain, got, is_stale, open_copy, order,
     turn, write,
 };
+use lvm_core::CommitFault;
 use lvm_disk::{Arrange, Shelf};
 use lvm_faults::{Act, Planned};
 use lvm_num::Mode;
-use lvm_resync::lower::{DrainFault, Driver};
+use lvm_resync::below::Driver;
 use lvm_session::{CopyState, Taken};
 use std::process::Abort;
 
@@ -114,7 +115,7 @@ const MINORITY: [Planned; 6] = [
 fn is_left_open<S: Shelf + Drop>(rt: &impl Abort, driver: Driver<S>) {
     let mut driver = driver;
     write_after(rt, &mut driver, 4);
-    let off = Err(DrainFault::WentOff { have: 1, total: 3 });
+    let off = Err(CommitFault::WentOff { have: 1, total: 3 });
     check(rt, drain(rt, &mut driver) == off, "it goes off");
     check(rt, driver.take(1, 1) == Taken::Off, "the write with it");
     check(rt, is_stale(&driver, 1), "the copy stays stale");

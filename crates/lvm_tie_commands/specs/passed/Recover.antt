@@ -1,2 +1,2 @@
 -- Passed on from `lvm_recover`.
-pub use Rattle.lvm_handover.specs.handed.Names.{HasNoPassive}
+pub use Rattle.lvm_handover.specs.passed.Names.{HasNoPassive}

@@ -1,2 +1,2 @@
 -- Passed on from `lvm_driver`.
-pub use Rattle.lvm_range_lines.specs.passed.Driver.{DrainFault, FailsSo, IsAny, IsTurn, state_of}
+pub use Rattle.lvm_range_lines.specs.passed.Driver.{FailsSo, IsAny, IsTurn}

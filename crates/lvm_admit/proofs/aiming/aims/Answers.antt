@@ -9,8 +9,8 @@ use Rattle.lvm_session.specs.Fields.{core_of}
 use Rattle.lvm_session.specs.Judging.{copies_for, is_caught, is_usable, lp_of}
 use Rattle.lvm_session.specs.State.{state}
 use Rattle.lvm_session.specs.Events.{target_at}
-use Rattle.lvm_firsts.proofs.handed.Names.{copies_in_are, few_in}
-use Rattle.lvm_admit.proofs.Copies.{aim_there, aims_more, few_aims, index_same}
+use Rattle.lvm_firsts.proofs.passed.Names.{copies_in_are, few_in}
+use Rattle.lvm_admit.proofs.ChoosingLemmas.{aim_there, aims_more, few_aims, index_same}
 use Rattle.lvm_admit.proofs.aiming.aims.Goals as goal
 
 pub aim_if-requires-clause-there : goal.aim_if-requires-clause-there

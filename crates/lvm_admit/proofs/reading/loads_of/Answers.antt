@@ -1,5 +1,5 @@
 use Rattle.lvm_session.specs.Fields.{core_of}
-use Rattle.lvm_session.proofs.Numbers.{loads_are}
+use Rattle.lvm_session.proofs.EventsLemmas.{loads_are}
 use Rattle.lvm_admit.proofs.reading.loads_of.Goals as goal
 
 pub returns : goal.returns

@@ -6,10 +6,10 @@ use Rattle.lvm_sched.specs.Reads.{AreCopies}
 use Rattle.lvm_path.specs.Asks.{lv_of}
 use Rattle.lvm_session.specs.Fields.{core_of}
 use Rattle.lvm_session.specs.Judging.{lp_of}
-use Rattle.lvm_firsts.proofs.handed.Names.{copies_in_are, few_in, numbered}
+use Rattle.lvm_firsts.proofs.passed.Names.{copies_in_are, few_in, numbered}
 use Rattle.lvm_admit.specs.Choosing.{IsCopyThere}
-use Rattle.lvm_admit.proofs.Copies.{usable_there}
-use Rattle.lvm_session.proofs.Numbers.{copies_are, order_holds, usable_holds}
+use Rattle.lvm_admit.proofs.ChoosingLemmas.{usable_there}
+use Rattle.lvm_session.proofs.EventsLemmas.{copies_are, order_holds, usable_holds}
 use Rattle.lvm_admit.proofs.reading.reading.Goals as goal
 
 pub usable_of-usable-requires : goal.usable_of-usable-requires

@@ -1,7 +1,7 @@
 use Rattle.std.proofs.Common.{length, take, ap, arith}
 use Rattle.std.proofs.lemmas.List.{length-take}
 use Rattle.lvm_session.specs.Fields.{core_of}
-use Rattle.lvm_session.proofs.Numbers.{few_usable}
+use Rattle.lvm_session.proofs.EventsLemmas.{few_usable}
 use Rattle.lvm_admit.proofs.reading.usable_of.Goals as goal
 
 pub number_if-requires : goal.number_if-requires

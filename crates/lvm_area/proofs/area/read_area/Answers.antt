@@ -1,6 +1,6 @@
 use Rattle.std.proofs.Common.{Ok, Err}
 use Rattle.std.proofs.lemmas.Result.{err_from_is_err_and}
-use Rattle.lvm_transfer.proofs.Following.{reads_then}
+use Rattle.lvm_transfer.proofs.ReadingLemmas.Following.{reads_then}
 use Rattle.lvm_area.proofs.area.read_area.Goals as goal
 
 pub returns-in_err-status-clause-reads : goal.returns-in_err-status-clause-reads
@@ -18,3 +18,12 @@ pub returns-clause-reads : goal.returns-clause-reads
 returns-clause-reads g c =
     reads_then c.args.disk c.args.buf.number c.args.patience.now.left c.read_statuses.new.patience.left c.read_note.new.patience.left (g.S.Shelf.device c.args.shelf.now) (g.S.Shelf.device c.read_statuses.new.shelf) (g.S.Shelf.device c.read_note.new.shelf) c.in_ok-status.buf (Ok c.in_ok-note.buf)
     (reads_then c.args.disk c.args.buf.number c.args.patience.now.left c.read_descriptors.new.patience.left c.read_statuses.new.patience.left (g.S.Shelf.device c.args.shelf.now) (g.S.Shelf.device c.read_descriptors.new.shelf) (g.S.Shelf.device c.read_statuses.new.shelf) c.in_ok-descriptor.buf (Ok c.in_ok-status.buf) c.in_ok-descriptor.ensures.reads c.in_ok-status.ensures.reads) c.in_ok-note.ensures.reads
+
+pub returns-clause-whole : goal.returns-clause-whole
+returns-clause-whole g c = record {
+  after_descriptors = g.S.Shelf.device c.read_descriptors.new.shelf;
+  after_statuses = g.S.Shelf.device c.read_statuses.new.shelf;
+  descriptors = c.in_ok-descriptor.ensures.whole;
+  statuses = c.in_ok-status.ensures.whole;
+  note = c.in_ok-note.ensures.whole;
+}

@@ -1,4 +1,4 @@
-use Rattle.lvm_area.proofs.Shown.{newest_shows}
+use Rattle.lvm_area.proofs.ReadingLemmas.{newest_shows}
 use Rattle.lvm_area.proofs.area.read_descriptor.Goals as goal
 
 pub returns-clause-shown : goal.returns-clause-shown

@@ -3,10 +3,10 @@ use Rattle.std.proofs.lemmas.Result.{err_from_is_err_and}
 use Rattle.lvm_num.specs.declared.record.Kind.TheVariants as kind
 use Rattle.lvm_num.specs.StatusBytes.{status_of}
 use Rattle.lvm_num.specs.Record.{joined}
-use Rattle.lvm_transfer.specs.handed.Names.{held, Media}
-use Rattle.lvm_transfer.proofs.Following.{reads_then, told_before}
+use Rattle.lvm_transfer.specs.passed.Names.{held, Media}
+use Rattle.lvm_transfer.proofs.ReadingLemmas.Following.{reads_then, told_before}
 use Rattle.lvm_area.specs.Reading.{stamped_found}
-use Rattle.lvm_area.proofs.Areas.{latest_is}
+use Rattle.lvm_area.proofs.SlotsLemmas.{latest_is}
 use Rattle.lvm_area.proofs.area.read_statuses.Goals as goal
 
 pub read_status_slot-requires-clause-inside : goal.read_status_slot-requires-clause-inside
@@ -30,3 +30,6 @@ returns-clause-newest g c =
     latest_is status_of kind.Status old.media c.args.disk c.in_ok-first.first c.in_ok-second.second c.newest.result c.in_ok-first.ensures.held
     (told_before (λ (m : Media). stamped_found c.in_ok-second.second ≡ held status_of kind.Status (joined (m c.args.disk) 128 64)) old mid c.in_ok-first.ensures.reads.only.unwritten.media c.in_ok-second.ensures.held)
     c.newest.ensures.newest c.newest.ensures.home
+
+pub returns-clause-whole : goal.returns-clause-whole
+returns-clause-whole g c = record { between = g.S.Shelf.device c.read_status_slot.new.shelf; first = c.in_ok-first.ensures.whole; second = c.in_ok-second.ensures.whole }

@@ -1,7 +1,7 @@
 use Rattle.lvm_num.specs.Disks.{has}
 use Rattle.lvm_begin.specs.Beginning.{Beginning, again_beginning, again_order}
-use Rattle.lvm_begin.proofs.Telling.{begin_ends}
-use Rattle.lvm_begin.proofs.KeptAgain.{again_stays_kept}
+use Rattle.lvm_begin.proofs.EndsLemmas.{begin_ends}
+use Rattle.lvm_begin.proofs.KeptLemmas.Again.{again_stays_kept}
 use Rattle.lvm_begin.proofs.begin.begin_again.Goals as goal
 
 pub returns : goal.returns

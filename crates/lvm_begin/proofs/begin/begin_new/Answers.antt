@@ -1,7 +1,7 @@
 use Rattle.lvm_num.specs.Disks.{has}
 use Rattle.lvm_begin.specs.Beginning.{Beginning, new_beginning, new_order}
-use Rattle.lvm_begin.proofs.Telling.{begin_ends}
-use Rattle.lvm_begin.proofs.KeptNew.{new_stays_kept}
+use Rattle.lvm_begin.proofs.EndsLemmas.{begin_ends}
+use Rattle.lvm_begin.proofs.KeptLemmas.New.{new_stays_kept}
 use Rattle.lvm_begin.proofs.begin.begin_new.Goals as goal
 
 pub returns : goal.returns

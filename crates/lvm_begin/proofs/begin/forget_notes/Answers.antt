@@ -1,6 +1,6 @@
 use Rattle.lvm_num.specs.Disks.{Disks, has}
 use Rattle.lvm_write.specs.Notes.{empty_note_sector, NoteTold}
-use Rattle.lvm_begin.proofs.Answering.{how_one}
+use Rattle.lvm_begin.proofs.RunsLemmas.Answering.{how_one}
 use Rattle.lvm_begin.proofs.begin.forget_notes.Goals as goal
 
 pub returns : goal.returns

@@ -13,10 +13,10 @@ use Rattle.lvm_begin.specs.declared.begin.Begun.TheVariants as begun
 use Rattle.lvm_begin.specs.Beginning.{Beginning, Part, TheDescriptor, TheStatus, TheNotes, again_beginning, again_order, brought, Stands}
 use Rattle.lvm_begin.specs.Ends.{BothFlip}
 use Rattle.lvm_begin.specs.Runs.{OneGives, ManyGives}
-use Rattle.lvm_begin.proofs.Answering.{same_gives}
-use Rattle.lvm_begin.proofs.Chain.{first_gives, more_gives, stopped_gives}
-use Rattle.lvm_begin.proofs.Parts.{still_stands}
-use Rattle.lvm_begin.proofs.Telling.{not_ended}
+use Rattle.lvm_begin.proofs.RunsLemmas.Answering.{same_gives}
+use Rattle.lvm_begin.proofs.RunsLemmas.Chain.{first_gives, more_gives, stopped_gives}
+use Rattle.lvm_begin.proofs.BeginningLemmas.{still_stands}
+use Rattle.lvm_begin.proofs.EndsLemmas.{not_ended}
 use Rattle.lvm_begin.proofs.begin.write_again.Goals as goal
 
 abbrev last_part : Bool → List Part

@@ -6,10 +6,10 @@ use Rattle.lvm_begin.specs.declared.begin.Begun.TheVariants as begun
 use Rattle.lvm_begin.specs.Beginning.{Beginning, TheDescriptor, TheStatus, TheNotes, new_beginning, new_order, brought, Stands}
 use Rattle.lvm_begin.specs.Ends.{BothFlip}
 use Rattle.lvm_begin.specs.Runs.{OneGives, ManyGives}
-use Rattle.lvm_begin.proofs.Answering.{same_gives}
-use Rattle.lvm_begin.proofs.Chain.{first_gives, more_gives, stopped_gives}
-use Rattle.lvm_begin.proofs.Parts.{still_stands}
-use Rattle.lvm_begin.proofs.Telling.{not_ended}
+use Rattle.lvm_begin.proofs.RunsLemmas.Answering.{same_gives}
+use Rattle.lvm_begin.proofs.RunsLemmas.Chain.{first_gives, more_gives, stopped_gives}
+use Rattle.lvm_begin.proofs.BeginningLemmas.{still_stands}
+use Rattle.lvm_begin.proofs.EndsLemmas.{not_ended}
 use Rattle.lvm_begin.proofs.begin.write_new.Goals as goal
 
 pub returns-in_default : goal.returns-in_default

@@ -1,4 +1,4 @@
-use Rattle.lvm_begin.proofs.Newest.{all_find_newest, new_is_found, again_is_found, status_is_last}
+use Rattle.lvm_begin.proofs.NewestLemmas.{all_find_newest, new_is_found, again_is_found, status_is_last}
 use Rattle.lvm_begin.proofs.laws.beginning_is_found.Goals as goal
 
 pub returns : goal.returns

@@ -1,4 +1,4 @@
-use Rattle.lvm_begin.proofs.Following.{targets_spare_newest, others_spare_newest}
+use Rattle.lvm_begin.proofs.ShownLemmas.Following.{targets_spare_newest, others_spare_newest}
 use Rattle.lvm_begin.proofs.laws.homes_spare_newest.Goals as goal
 
 pub returns : goal.returns

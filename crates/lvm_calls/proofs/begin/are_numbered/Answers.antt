@@ -1,4 +1,4 @@
-use Rattle.lvm_calls.proofs.Numbered.{below_next}
+use Rattle.lvm_calls.proofs.LogLemmas.{below_next}
 use Rattle.lvm_calls.proofs.begin.are_numbered.Goals as goal
 
 pub returns-clause-below : goal.returns-clause-below

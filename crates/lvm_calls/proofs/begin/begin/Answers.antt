@@ -1,7 +1,7 @@
 use Rattle.std.proofs.Common.{◌*◌, ℕ, sym, subst}
 use Rattle.lvm_hold.specs.Waiting.{AreBelow}
 use Rattle.lvm_session.specs.Fields.{core_of}
-use Rattle.lvm_calls.proofs.Rows.{queue_low, queue_room}
+use Rattle.lvm_calls.proofs.WaitingLemmas.{queue_low, queue_room}
 use Rattle.lvm_calls.proofs.begin.begin.Goals as goal
 
 pub enter-requires-clause-room : goal.enter-requires-clause-room

@@ -1,6 +1,6 @@
 use Rattle.lvm_session.specs.Fields.{core_of}
 use Rattle.lvm_calls.specs.Opening.{counts_seen}
-use Rattle.lvm_calls.proofs.Finding.{faults_are}
+use Rattle.lvm_calls.proofs.OpeningLemmas.{faults_are}
 use Rattle.lvm_calls.proofs.faults.faults_of.Goals as goal
 
 pub returns : goal.returns

@@ -1,6 +1,6 @@
 use Rattle.std.proofs.Common.{sym, subst}
 use Rattle.lvm_calls.specs.Numbers.{IsNumberAt}
-use Rattle.lvm_calls.proofs.Begun.{number_at}
+use Rattle.lvm_calls.proofs.NumbersLemmas.{number_at}
 use Rattle.lvm_calls.proofs.numbers.number_at.Goals as goal
 
 pub returns : goal.returns

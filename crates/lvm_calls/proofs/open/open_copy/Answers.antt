@@ -1,5 +1,5 @@
 use Rattle.lvm_session.specs.Fields.{core_of}
-use Rattle.lvm_calls.proofs.Finding.{taken}
+use Rattle.lvm_calls.proofs.OpeningLemmas.{taken}
 use Rattle.lvm_calls.proofs.open.open_copy.Goals as goal
 
 pub bring_up-requires-clause-going : goal.bring_up-requires-clause-going

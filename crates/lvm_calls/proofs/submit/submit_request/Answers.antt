@@ -1,5 +1,5 @@
 use Rattle.lvm_session.specs.Fields.{core_of}
-use Rattle.lvm_calls.proofs.Taking.{taken}
+use Rattle.lvm_calls.proofs.CallsLemmas.{taken}
 use Rattle.lvm_calls.proofs.submit.submit_request.Goals as goal
 
 pub begin-requires-clause-going : goal.begin-requires-clause-going

@@ -1,11 +1,11 @@
 use Rattle.std.proofs.Common.{◌≡◌, List, take, Bool, true, false, refl, sym, ◌∙◌, subst}
 use Rattle.std.proofs.lemmas.List.{drop_all}
-use Rattle.lvm_vol.specs.handed.NumDescriptorMode.{Active}
+use Rattle.lvm_vol.specs.passed.NumDescriptorMode.{Active}
 use Rattle.lvm_checker.specs.declared.row.Row.{Row}
 use Rattle.lvm_checker.specs.declared.row.Row.TheVariants.{Making}
 use Rattle.lvm_vol.specs.Legal.{LegalFrom}
 use Rattle.lvm_checker.specs.Rows.{facts_of}
-use Rattle.lvm_checker.proofs.Judging.{legal_row}
+use Rattle.lvm_checker.proofs.RowsLemmas.{legal_row}
 use Rattle.lvm_checker.proofs.fits.is_legal.Goals as goal
 
 pub returns-then-not-may_follow : goal.returns-then-not-may_follow

@@ -3,7 +3,7 @@ use Rattle.lvm_checker.specs.declared.row.Row.{Row}
 use Rattle.lvm_checker.specs.declared.row.Row.TheVariants.{Taken, On}
 use Rattle.lvm_vol.specs.Legal.{Fits}
 use Rattle.lvm_checker.specs.Rows.{facts_of, fact_of}
-use Rattle.lvm_checker.proofs.Judging.{begun_fits, on_fits, taken_fits}
+use Rattle.lvm_checker.proofs.RowsLemmas.{begun_fits, on_fits, taken_fits}
 use Rattle.lvm_checker.proofs.fits.may_follow.Goals as goal
 
 pub returns-in-Begun : goal.returns-in-Begun

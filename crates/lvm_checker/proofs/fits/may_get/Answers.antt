@@ -1,7 +1,7 @@
 use Rattle.std.proofs.Common.{◌≡◌, ℕ, ◌+◌, [], arith, ◌∙◌, refl, subst, sym, Bool, true, false, get_or, below_more}
 use Rattle.lvm_vol.specs.May.{known, May}
 use Rattle.lvm_checker.specs.Rows.{facts_of}
-use Rattle.lvm_checker.proofs.Judging.{gets_from, gets_at}
+use Rattle.lvm_checker.proofs.RowsLemmas.{gets_from, gets_at}
 use Rattle.lvm_checker.proofs.fits.may_get.Goals as goal
 
 pub returns-then-not-is_allowed : goal.returns-then-not-is_allowed

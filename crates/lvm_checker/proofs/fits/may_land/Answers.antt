@@ -1,7 +1,7 @@
 use Rattle.std.proofs.Common.{◌≡◌, Bool, true, false, refl, sym, ◌∙◌}
 use Rattle.lvm_vol.specs.Log.{is_got}
 use Rattle.lvm_checker.specs.Rows.{facts_of, request_in, ask_of, blocks_at}
-use Rattle.lvm_checker.proofs.Judging.{ends_of, lands_of, got_free, got_judged}
+use Rattle.lvm_checker.proofs.RowsLemmas.{ends_of, lands_of, got_free, got_judged}
 use Rattle.lvm_checker.proofs.fits.may_land.Goals as goal
 
 pub returns-then-not-may_end_after : goal.returns-then-not-may_end_after

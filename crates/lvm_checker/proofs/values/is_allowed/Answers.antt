@@ -1,12 +1,12 @@
 use Rattle.std.proofs.Common.{◌≡◌, ◌+◌, List, drop, ap, ◌∙◌}
 use Rattle.std.proofs.lemmas.List.{take_rest}
-use Rattle.lvm_vol.specs.handed.NumDescriptorMode.{Active}
+use Rattle.lvm_vol.specs.passed.NumDescriptorMode.{Active}
 use Rattle.lvm_checker.specs.declared.row.Row.{Row}
 use Rattle.lvm_checker.specs.declared.row.Row.TheVariants.{Making}
 use Rattle.lvm_vol.specs.May.{known}
 use Rattle.lvm_checker.specs.Rows.{facts_of}
 use Rattle.lvm_checker.specs.Seen.{origin_of}
-use Rattle.lvm_checker.proofs.Looking.{seen_more, followed_from, looked_through, tells}
+use Rattle.lvm_checker.proofs.SeenLemmas.{seen_more, followed_from, looked_through, tells}
 use Rattle.lvm_checker.proofs.values.is_allowed.Goals as goal
 
 pub loop-k-preserved : goal.loop-k-preserved

@@ -10,11 +10,11 @@ use Rattle.lvm_commit.specs.declared.commit.CommitEnd.{CommitEnd}
 use Rattle.lvm_commit.specs.declared.commit.CommitEnd.TheVariants as commit_end
 use Rattle.lvm_commit.specs.Settling.{IsOfCommit, there}
 use Rattle.lvm_commit.specs.Rounds.{stamped, session_write, RecordGives}
-use Rattle.lvm_commit.proofs.Chaining.{keeps_wider, loses_less}
-use Rattle.lvm_commit.proofs.Leaving.{round_left}
-use Rattle.lvm_commit.proofs.Ready.{may_settle_on, numbers_left, spends_one}
-use Rattle.lvm_commit.proofs.Describing.{describes, stamp_is, is_of_commit, descriptor_ends, descriptor_finds, descriptor_kept}
-use Rattle.lvm_commit.proofs.Described.{ends_map, commit_leaves, commit_ends, commit_finds, commit_kept, Described}
+use Rattle.lvm_commit.proofs.SettlingLemmas.Chaining.{keeps_wider, loses_less}
+use Rattle.lvm_commit.proofs.RoundsLemmas.Leaving.{round_left}
+use Rattle.lvm_commit.proofs.SettlingLemmas.Ready.{may_settle_on, numbers_left, spends_one}
+use Rattle.lvm_commit.proofs.SettlingLemmas.Describing.{describes, stamp_is, is_of_commit, descriptor_ends, descriptor_finds, descriptor_kept}
+use Rattle.lvm_commit.proofs.SettlingLemmas.Described.{ends_map, commit_leaves, commit_ends, commit_finds, commit_kept, Described}
 use Rattle.lvm_commit.proofs.commit.commit_descriptor.Goals as goal
 
 -- ---- where the record was written

@@ -2,8 +2,8 @@ use Rattle.std.proofs.Common.{◌≡◌, refl, sym, ◌∙◌, ap}
 use Rattle.std.proofs.lemmas.Bool.{false≢true}
 use Rattle.lvm_disk.specs.Device.{Device, HasSectors}
 use Rattle.lvm_status.specs.Update.{Stored}
-use Rattle.lvm_commit.proofs.StatusRounds.{no_rounds, more_rounds}
-use Rattle.lvm_commit.proofs.StatusEnding.{rounds_end, rounds_stop}
+use Rattle.lvm_commit.proofs.SettlingLemmas.StatusRounds.{no_rounds, more_rounds}
+use Rattle.lvm_commit.proofs.RoundsLemmas.StatusEnding.{rounds_end, rounds_stop}
 use Rattle.lvm_commit.proofs.commit.commit_status.Goals as goal
 
 pub loop-shelf-init : goal.loop-shelf-init

@@ -1,5 +1,5 @@
 use Rattle.std.proofs.Common.{◌≡◌, ◌-◌, ◌^◌}
-use Rattle.lvm_commit.proofs.StatusRounds.{AreRounds}
+use Rattle.lvm_commit.proofs.SettlingLemmas.StatusRounds.{AreRounds}
 use Rattle.lvm_commit.proofs.commit.commit_status.Given as goal
 
 abbrev pub invariant-loop-shelf : goal.invariant-loop-shelf

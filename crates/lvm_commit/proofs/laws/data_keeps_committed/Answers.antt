@@ -1,5 +1,5 @@
-use Rattle.lvm_commit.proofs.Data.{free_data_keeps}
-use Rattle.lvm_commit.proofs.Still.{free_data_goes_on, data_keeps_committed, still_holds_committed, transfer_holds_committed}
+use Rattle.lvm_commit.proofs.LawsOfDataLemmas.Data.{free_data_keeps}
+use Rattle.lvm_commit.proofs.LawsOfDataLemmas.Still.{free_data_goes_on, data_keeps_committed, still_holds_committed, transfer_holds_committed}
 use Rattle.lvm_commit.proofs.laws.data_keeps_committed.Goals as goal
 
 pub returns : goal.returns

@@ -1,5 +1,5 @@
-use Rattle.lvm_commit.proofs.NoMore.{descriptor_finds_no_more, rest_finds_nothing_new, transfer_finds_nothing_new}
-use Rattle.lvm_commit.proofs.Finding.{status_write_finds_nothing_new, descriptor_write_finds_no_more}
+use Rattle.lvm_commit.proofs.LawsOfFindingLemmas.NoMore.{descriptor_finds_no_more, rest_finds_nothing_new, transfer_finds_nothing_new}
+use Rattle.lvm_commit.proofs.LawsOfFindingLemmas.Finding.{status_write_finds_nothing_new, descriptor_write_finds_no_more}
 use Rattle.lvm_commit.proofs.laws.nothing_else_is_found.Goals as goal
 
 pub returns : goal.returns

@@ -1,4 +1,4 @@
-use Rattle.lvm_commit.proofs.Found.{newest_is_beginning}
+use Rattle.lvm_commit.proofs.LawsLemmas.Found.{newest_is_beginning}
 use Rattle.lvm_commit.proofs.laws.session_begins.Goals as goal
 
 pub returns : goal.returns

@@ -1,5 +1,5 @@
-use Rattle.lvm_commit.proofs.Statuses.{status_follows, status_goes_on}
-use Rattle.lvm_commit.proofs.Committed.{status_is_committed}
+use Rattle.lvm_commit.proofs.LawsLemmas.Statuses.{status_follows, status_goes_on}
+use Rattle.lvm_commit.proofs.LawsLemmas.Committed.{status_is_committed}
 use Rattle.lvm_commit.proofs.laws.status_follows.Goals as goal
 
 pub returns : goal.returns

@@ -1,4 +1,4 @@
-use Rattle.lvm_commit.proofs.Volumes.{named_is_found, unnamed_is_not_found}
+use Rattle.lvm_commit.proofs.LawsOfVolumesLemmas.Volumes.{named_is_found, unnamed_is_not_found}
 use Rattle.lvm_commit.proofs.laws.volume_is_found.Goals as goal
 
 pub returns : goal.returns

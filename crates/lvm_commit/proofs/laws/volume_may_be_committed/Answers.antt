@@ -1,4 +1,4 @@
-use Rattle.lvm_commit.proofs.Volumes.{committed_may_commit, zeros_are_found}
+use Rattle.lvm_commit.proofs.LawsOfVolumesLemmas.Volumes.{committed_may_commit, zeros_are_found}
 use Rattle.lvm_commit.proofs.laws.volume_may_be_committed.Goals as goal
 
 pub returns : goal.returns

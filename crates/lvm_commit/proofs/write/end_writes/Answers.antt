@@ -9,9 +9,9 @@ use Rattle.lvm_num.specs.Status.{calls_missing}
 use Rattle.lvm_status.specs.Update.{Updates, seen}
 use Rattle.lvm_status.specs.Calls.{WantsAtEnd, with_start, after_end}
 use Rattle.lvm_status.proofs.Disks.{member-below}
-use Rattle.lvm_status.proofs.Sound.{and_left}
+use Rattle.lvm_status.proofs.RunsLemmas.Sound.{and_left}
 use Rattle.lvm_commit.proofs.Counting.{counts_fewer}
-use Rattle.lvm_commit.proofs.Ending.{IsEnding, ending_first, ending_next, ending_fewer, ending_committed, ending_wanted, ending_short}
+use Rattle.lvm_commit.proofs.UpdateLemmas.{IsEnding, ending_first, ending_next, ending_fewer, ending_committed, ending_wanted, ending_short}
 use Rattle.lvm_commit.proofs.write.end_writes.Goals as goal
 
 pub loop-disk-init : goal.loop-disk-init

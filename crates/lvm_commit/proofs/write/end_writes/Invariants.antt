@@ -2,7 +2,7 @@ use Rattle.std.specs.Prelude.{count_by}
 use Rattle.lvm_num.specs.declared.descriptor.PvRow.{PvRow}
 use Rattle.lvm_num.specs.Disks.{has}
 use Rattle.lvm_status.specs.Update.{seen}
-use Rattle.lvm_commit.proofs.Ending.{IsEnding}
+use Rattle.lvm_commit.proofs.UpdateLemmas.{IsEnding}
 use Rattle.lvm_commit.proofs.write.end_writes.Given as goal
 
 abbrev pub invariant-loop-disk : goal.invariant-loop-disk

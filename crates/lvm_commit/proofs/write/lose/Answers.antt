@@ -7,8 +7,8 @@ use Rattle.lvm_num.specs.Disks.{Disks, has}
 use Rattle.lvm_status.specs.declared.change.Change.TheVariants as change
 use Rattle.lvm_status.specs.Update.{Stored, seen}
 use Rattle.lvm_status.specs.Calls.{BecomesMissing, with_wanted}
-use Rattle.lvm_commit.proofs.Losing.{misses_same}
-use Rattle.lvm_commit.proofs.Wanting.{IsLosing, row_stays, losing_more, losing_same}
+use Rattle.lvm_commit.proofs.RoundsLemmas.Losing.{misses_same}
+use Rattle.lvm_commit.proofs.RoundsLemmas.Wanting.{IsLosing, row_stays, losing_more, losing_same}
 use Rattle.lvm_commit.proofs.write.lose.Goals as goal
 use Rattle.lvm_commit.proofs.write.lose.Goals.{then-has, else-has}
 

@@ -1,6 +1,6 @@
 use Rattle.std.proofs.Common.{take}
 use Rattle.lvm_num.specs.Disks.{has}
-use Rattle.lvm_commit.proofs.Wanting.{IsLosing}
+use Rattle.lvm_commit.proofs.RoundsLemmas.Wanting.{IsLosing}
 use Rattle.lvm_commit.proofs.write.lose.Given as goal
 
 abbrev pub invariant-loop-row : goal.invariant-loop-row

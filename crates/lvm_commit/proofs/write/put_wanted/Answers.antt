@@ -1,6 +1,6 @@
 use Rattle.std.proofs.Common.{◌≡◌, ◌≤◌, length, arith}
 use Rattle.lvm_num.specs.StatusBytes.{status_bytes}
-use Rattle.lvm_commit.proofs.Sizes.{status_fits}
+use Rattle.lvm_commit.proofs.RecordLemmas.{status_fits}
 use Rattle.lvm_commit.proofs.write.put_wanted.Goals as goal
 
 pub encode_into-requires-clause-fits : goal.encode_into-requires-clause-fits

@@ -7,7 +7,7 @@ use Rattle.lvm_status.specs.Update.{Stored, members_there}
 use Rattle.lvm_write.specs.Written.{write_of}
 use Rattle.lvm_commit.specs.Committed.{next_stamp}
 use Rattle.lvm_commit.specs.Rounds.{stamped, session_write}
-use Rattle.lvm_commit.proofs.Recording.{as_session, as_sent}
+use Rattle.lvm_commit.proofs.RoundsLemmas.Recording.{as_session, as_sent}
 use Rattle.lvm_commit.proofs.write.send_descriptor.Goals as goal
 
 -- the session under the next stamp

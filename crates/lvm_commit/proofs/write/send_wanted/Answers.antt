@@ -8,8 +8,8 @@ use Rattle.lvm_status.specs.declared.writes.Writes.{Writes}
 use Rattle.lvm_status.specs.Update.{Stored}
 use Rattle.lvm_write.specs.Written.{write_of}
 use Rattle.lvm_commit.specs.Rounds.{Starts, stamped, session_write}
-use Rattle.lvm_commit.proofs.Recording.{as_session, as_sent}
-use Rattle.lvm_commit.proofs.Starting.{update_starts, there_still}
+use Rattle.lvm_commit.proofs.RoundsLemmas.Recording.{as_session, as_sent}
+use Rattle.lvm_commit.proofs.RoundsLemmas.Starting.{update_starts, there_still}
 use Rattle.lvm_commit.proofs.write.send_wanted.Goals as goal
 
 -- the bytes that were put in front

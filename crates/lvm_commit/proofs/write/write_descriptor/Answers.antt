@@ -5,12 +5,12 @@ use Rattle.lvm_num.specs.Descriptor.{is_member}
 use Rattle.lvm_num.specs.Disks.{has}
 use Rattle.lvm_num.specs.Status.{calls_missing}
 use Rattle.lvm_status.specs.Update.{Stored}
-use Rattle.lvm_status.proofs.Sound.{and_left}
+use Rattle.lvm_status.proofs.RunsLemmas.Sound.{and_left}
 use Rattle.lvm_commit.specs.Settling.{IsForgotten}
 use Rattle.lvm_commit.specs.Rounds.{HasLost, IsSame, stamped, session_write}
-use Rattle.lvm_commit.proofs.Wanting.{row_stays}
-use Rattle.lvm_commit.proofs.Leaving.{kept_committed, leaves, marks_round, round_same}
-use Rattle.lvm_commit.proofs.Recording.{ended_gives, dark_gives, stuck_gives}
+use Rattle.lvm_commit.proofs.RoundsLemmas.Wanting.{row_stays}
+use Rattle.lvm_commit.proofs.RoundsLemmas.Leaving.{kept_committed, leaves, marks_round, round_same}
+use Rattle.lvm_commit.proofs.RoundsLemmas.Recording.{ended_gives, dark_gives, stuck_gives}
 use Rattle.lvm_commit.proofs.write.write_descriptor.Goals as goal
 
 same_as : (u x : Stored) → x ≡ stamped u → IsSame (stamped u) x

@@ -6,16 +6,16 @@ use Rattle.lvm_num.specs.Descriptor.{is_member}
 use Rattle.lvm_num.specs.Disks.{Disks, has}
 use Rattle.lvm_num.specs.Status.{calls_missing}
 use Rattle.lvm_num.specs.StatusBytes.{status_bytes}
-use Rattle.lvm_status.specs.handed.Names.{has_row}
+use Rattle.lvm_status.specs.passed.Names.{has_row}
 use Rattle.lvm_status.specs.Update.{Stored}
-use Rattle.lvm_status.proofs.Sound.{and_left}
+use Rattle.lvm_status.proofs.RunsLemmas.Sound.{and_left}
 use Rattle.lvm_commit.specs.Settling.{there, IsForgotten}
 use Rattle.lvm_commit.specs.Rounds.{Misses, HasEnded, IsSame, Starts, stamped, session_write}
-use Rattle.lvm_commit.proofs.Wanting.{row_stays}
-use Rattle.lvm_commit.proofs.Leaving.{round_committed, leaves, marks_round, round_same}
-use Rattle.lvm_commit.proofs.Losing.{misses_at}
-use Rattle.lvm_commit.proofs.Recording.{ended_gives, dark_gives, stuck_gives, only_targets}
-use Rattle.lvm_commit.proofs.Starting.{there_still}
+use Rattle.lvm_commit.proofs.RoundsLemmas.Wanting.{row_stays}
+use Rattle.lvm_commit.proofs.RoundsLemmas.Leaving.{round_committed, leaves, marks_round, round_same}
+use Rattle.lvm_commit.proofs.RoundsLemmas.Losing.{misses_at}
+use Rattle.lvm_commit.proofs.RoundsLemmas.Recording.{ended_gives, dark_gives, stuck_gives, only_targets}
+use Rattle.lvm_commit.proofs.RoundsLemmas.Starting.{there_still}
 use Rattle.lvm_commit.proofs.write.write_wanted.Goals as goal
 
 same_as : (u x : Stored) → Starts u x → IsSame (stamped u) x

@@ -2,7 +2,7 @@ use Rattle.std.proofs.Common.{◌≡◌, ◌||◌, sym, ◌∙◌, arith}
 use Rattle.lvm_num.specs.declared.place.Pp.{Pp}
 use Rattle.lvm_session.specs.Fields.{core_of}
 use Rattle.lvm_session.specs.Judging.{is_usable, is_caught}
-use Rattle.lvm_copies.proofs.Aiming.{aims_end}
+use Rattle.lvm_copies.proofs.JudgingLemmas.{aims_end}
 use Rattle.lvm_copies.proofs.standing.are_targets.Goals as goal
 
 pub returns : goal.returns

@@ -1,6 +1,6 @@
 use Rattle.std.proofs.Common.{sym, ◌∙◌, ap}
-use Rattle.lvm_copies.proofs.Laid.{laid_out}
-use Rattle.lvm_session.specs.handed.Names.{lv_of}
+use Rattle.lvm_copies.proofs.DescriptorLemmas.Laid.{laid_out}
+use Rattle.lvm_session.specs.passed.Names.{lv_of}
 use Rattle.lvm_num.specs.Descriptor.{volume_of}
 use Rattle.lvm_copies.proofs.standing.copies_for.Goals as goal
 

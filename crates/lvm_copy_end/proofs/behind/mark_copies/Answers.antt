@@ -1,5 +1,5 @@
 use Rattle.std.proofs.Common.{sym, ◌∙◌}
-use Rattle.lvm_copy_end.proofs.Left.{copies_left, none_left}
+use Rattle.lvm_copy_end.proofs.LeftLemmas.{copies_left, none_left}
 use Rattle.lvm_copy_end.proofs.behind.mark_copies.Goals as goal
 
 pub returns-then-any_stands_in : goal.returns-then-any_stands_in

@@ -1,5 +1,5 @@
-use Rattle.lvm_marks.proofs.Marking.{markable_on, sound_after}
-use Rattle.lvm_copy_end.proofs.Left.{gone_more}
+use Rattle.lvm_marks.proofs.MarksLemmas.{markable_on, sound_after}
+use Rattle.lvm_copy_end.proofs.LeftLemmas.{gone_more}
 use Rattle.lvm_copy_end.proofs.behind.mark_gone.Goals as goal
 
 pub mark_if_gone-requires-clause-sound : goal.mark_if_gone-requires-clause-sound

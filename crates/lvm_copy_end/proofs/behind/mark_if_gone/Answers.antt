@@ -1,5 +1,5 @@
 use Rattle.std.proofs.Common.{sym, ◌∙◌}
-use Rattle.lvm_copy_end.proofs.Left.{none_gone, one_gone}
+use Rattle.lvm_copy_end.proofs.LeftLemmas.{none_gone, one_gone}
 use Rattle.lvm_copy_end.proofs.behind.mark_if_gone.Goals as goal
 
 pub returns-then-is_gone : goal.returns-then-is_gone

@@ -2,9 +2,9 @@ use Rattle.std.proofs.Common.{sym, subst}
 use Rattle.std.specs.Prelude.{All}
 use Rattle.lvm_num.specs.declared.descriptor.LvRow.{LvRow}
 use Rattle.lvm_status.specs.Calls.{IsMarkable}
-use Rattle.lvm_marks.proofs.Marking.{markable_on, sound_after}
-use Rattle.lvm_copy_end.proofs.Left.{volumes_more}
-use Rattle.lvm_copy_end.proofs.Reviewing.{all_at}
+use Rattle.lvm_marks.proofs.MarksLemmas.{markable_on, sound_after}
+use Rattle.lvm_copy_end.proofs.LeftLemmas.{volumes_more}
+use Rattle.lvm_copy_end.proofs.BringingLemmas.{all_at}
 use Rattle.lvm_copy_end.proofs.behind.mark_left.Goals as goal
 
 pub mark_volume-requires-clause-sound : goal.mark_volume-requires-clause-sound

@@ -1,7 +1,7 @@
 use Rattle.std.proofs.Common.{List, ap}
 use Rattle.lvm_hold.specs.declared.queue.Row.{Row}
 use Rattle.lvm_hold.specs.Waiting.{Waiting}
-use Rattle.lvm_copy_end.proofs.Leaving.{none_leaves}
+use Rattle.lvm_copy_end.proofs.WaitingLemmas.{none_leaves}
 use Rattle.lvm_copy_end.proofs.ending.leave_if_inside.Goals as goal
 
 pub returns-else-has : goal.returns-else-has

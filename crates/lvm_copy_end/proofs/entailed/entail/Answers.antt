@@ -2,8 +2,8 @@ use Rattle.std.proofs.Common.{sym, subst}
 use Rattle.lvm_session.specs.Fields.{core_of}
 use Rattle.lvm_session.specs.Marks.{due_of, is_among}
 use Rattle.lvm_copy_end.specs.Ending.{MayEndCopy}
-use Rattle.lvm_copy_end.proofs.Marks.{may_still}
-use Rattle.lvm_copy_end.proofs.Entailing.{entails_are, some_there}
+use Rattle.lvm_copy_end.proofs.EndingLemmas.{may_still}
+use Rattle.lvm_copy_end.proofs.LosingLemmas.{entails_are, some_there}
 use Rattle.lvm_copy_end.proofs.entailed.entail.Goals as goal
 
 pub end_copy_if-requires : goal.end_copy_if-requires

@@ -7,7 +7,7 @@ use Rattle.lvm_session.specs.Bringing.{ends_if}
 use Rattle.lvm_session.specs.Fields.{core_of}
 use Rattle.lvm_session.specs.Marks.{hits_copy}
 use Rattle.lvm_copy_end.specs.Losing.{fails_with}
-use Rattle.lvm_copy_end.proofs.Entailing.{hits_is, read_same}
+use Rattle.lvm_copy_end.proofs.LosingLemmas.{hits_is, read_same}
 use Rattle.lvm_copy_end.proofs.hits.end_by_write.Goals as goal
 
 pub returns-in-Some : goal.returns-in-Some

@@ -1,6 +1,6 @@
 use Rattle.std.proofs.Common.{◌≡◌, drop, if◌then◌else◌}
 use Rattle.std.specs.List.{list_any}
-use Rattle.lvm_stale.specs.Table.{is_pp}
+use Rattle.lvm_num.specs.Descriptor.{is_pp}
 use Rattle.lvm_path.specs.declared.target.Target.{Target}
 use Rattle.lvm_session.specs.Fields.{core_of}
 use Rattle.lvm_session.specs.Judging.{all_but_sure}

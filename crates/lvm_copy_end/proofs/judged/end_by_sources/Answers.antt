@@ -6,7 +6,7 @@ use Rattle.lvm_session.specs.declared.bringing.CopyEnd.TheVariants as ending
 use Rattle.lvm_session.specs.Bringing.{ends_if, is_idle}
 use Rattle.lvm_session.specs.Fields.{core_of}
 use Rattle.lvm_copy_end.specs.Reviewing.{is_other, is_untried}
-use Rattle.lvm_copy_end.proofs.Reviewing.{disks_within, no_source, some_source}
+use Rattle.lvm_copy_end.proofs.BringingLemmas.{disks_within, no_source, some_source}
 use Rattle.lvm_copy_end.proofs.judged.end_by_sources.Goals as goal
 
 pub is_exhausted-requires : goal.is_exhausted-requires

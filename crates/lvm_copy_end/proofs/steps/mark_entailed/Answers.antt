@@ -5,7 +5,7 @@ use Rattle.lvm_num.specs.Descriptor.{IsLaidOut, partitions_in}
 use Rattle.lvm_status.specs.Calls.{IsMarkable}
 use Rattle.lvm_session.specs.Marks.{WantsStale}
 use Rattle.lvm_copy_end.specs.Left.{is_left_of}
-use Rattle.lvm_copy_end.proofs.Reviewing.{markable}
+use Rattle.lvm_copy_end.proofs.BringingLemmas.{markable}
 use Rattle.lvm_copy_end.proofs.steps.mark_entailed.Goals as goal
 
 pub mark_left-requires-clause-sound : goal.mark_left-requires-clause-sound

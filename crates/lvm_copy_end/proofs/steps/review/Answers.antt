@@ -6,7 +6,7 @@ use Rattle.lvm_session.specs.Bringing.{marked_by_end, with_end}
 use Rattle.lvm_session.specs.Fields.{core_of}
 use Rattle.lvm_session.specs.Marks.{WantsStale, is_entailed}
 use Rattle.lvm_copy_end.specs.Ending.{MayEndCopy}
-use Rattle.lvm_copy_end.proofs.Marks.{marks_and_ends, may_still}
+use Rattle.lvm_copy_end.proofs.EndingLemmas.{marks_and_ends, may_still}
 use Rattle.lvm_copy_end.proofs.steps.review.Goals as goal
 
 pub end_copy_if-requires : goal.end_copy_if-requires

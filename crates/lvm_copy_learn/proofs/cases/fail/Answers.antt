@@ -8,7 +8,7 @@ use Rattle.lvm_session.specs.declared.flown.Owner.TheVariants as owner
 use Rattle.lvm_session.specs.Fields.{core_of}
 use Rattle.lvm_session.specs.State.{Core}
 use Rattle.lvm_ends.proofs.Ended.{is_out, within}
-use Rattle.lvm_copy_learn.proofs.Carried.{fails_so, its_open, may_end}
+use Rattle.lvm_copy_learn.proofs.EndsLemmas.{fails_so, its_open, may_end}
 use Rattle.lvm_copy_learn.proofs.cases.fail.Goals as goal
 
 pub return_flight-requires-clause-within : goal.return_flight-requires-clause-within

@@ -9,7 +9,7 @@ use Rattle.lvm_session.specs.Fields.{core_of}
 use Rattle.lvm_session.specs.State.{Core}
 use Rattle.lvm_session.specs.Marks.{Reviews}
 use Rattle.lvm_ends.proofs.Ended.{is_out, within}
-use Rattle.lvm_copy_learn.proofs.Carried.{may_review, source_within}
+use Rattle.lvm_copy_learn.proofs.EndsLemmas.{may_review, source_within}
 use Rattle.lvm_copy_learn.proofs.cases.miss_source.Goals as goal
 
 pub return_flight-requires-clause-within : goal.return_flight-requires-clause-within

@@ -6,7 +6,7 @@ use Rattle.lvm_session.specs.State.{Core}
 use Rattle.lvm_session.specs.Ends.{with_copy, without_step}
 use Rattle.lvm_ends.proofs.Ended.{is_out, within}
 use Rattle.lvm_copy_learn.specs.Carried.{MayPass, Passes}
-use Rattle.lvm_copy_learn.proofs.Carried.{may_pass, passes_group, reviewed_after}
+use Rattle.lvm_copy_learn.proofs.EndsLemmas.{may_pass, passes_group, reviewed_after}
 use Rattle.lvm_copy_learn.proofs.cases.pass_group.Goals as goal
 
 pub return_flight-requires-clause-within : goal.return_flight-requires-clause-within

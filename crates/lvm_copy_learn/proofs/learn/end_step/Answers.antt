@@ -3,7 +3,7 @@ use Rattle.lvm_session.specs.declared.flown.Owner.TheVariants as owner
 use Rattle.lvm_session.specs.Fields.{core_of}
 use Rattle.lvm_ends.proofs.Ended.{was_out}
 use Rattle.lvm_copy_learn.specs.Carried.{IsCarrying}
-use Rattle.lvm_copy_learn.proofs.Carried.{learns_late}
+use Rattle.lvm_copy_learn.proofs.EndsLemmas.{learns_late}
 use Rattle.lvm_copy_learn.proofs.learn.end_step.Goals as goal
 
 pub carried-requires : goal.carried-requires

@@ -1,7 +1,7 @@
 use Rattle.std.proofs.Common.{true, false}
 use Rattle.lvm_session.specs.declared.bringing.Step.TheVariants as stage
 use Rattle.lvm_session.specs.Fields.{core_of}
-use Rattle.lvm_copy_learn.proofs.Carried.{learns_as}
+use Rattle.lvm_copy_learn.proofs.EndsLemmas.{learns_as}
 use Rattle.lvm_copy_learn.proofs.learn.end_write.Goals as goal
 
 pub returns-then-ok-clause-learns : goal.returns-then-ok-clause-learns

@@ -9,7 +9,7 @@ use Rattle.lvm_volume_lines.specs.passed.Mirrors.{to_add}
 use Rattle.lvm_volume_lines.specs.passed.TieCopies.{MayServeWith}
 use Rattle.lvm_volume_lines.specs.passed.Handover.{IsCommanded}
 use Rattle.lvm_volume_lines.specs.Commands.{IsLeftOn}
-use Rattle.lvm_copy_lines.proofs.Carrying.{added_marks, added_may, added_rows, adding_fails}
+use Rattle.lvm_copy_lines.proofs.ServingLemmas.{added_marks, added_may, added_rows, adding_fails}
 use Rattle.lvm_volume_lines.proofs.passed.TieCopies.{has_volumes}
 use Rattle.lvm_copy_lines.proofs.copies.add_copies.Goals as goal
 

@@ -1,7 +1,7 @@
 use Rattle.std.proofs.Common.{◌≡◌, ◌≤◌, ◌∙◌, ℕ, refl, sym, ap, subst, arith}
 use Rattle.lvm_core.specs.State.{state_of}
 use Rattle.lvm_core.specs.Sound.{HaveAllLanded}
-use Rattle.lvm_volume_lines.specs.handed.Names.{AreAnswered}
+use Rattle.lvm_volume_lines.specs.passed.Names.{AreAnswered}
 use Rattle.lvm_volume_lines.specs.passed.Mirrors.{MklvcopyGives, to_add}
 use Rattle.lvm_volume_lines.specs.passed.TieCopies.{added_by}
 use Rattle.lvm_volume_lines.proofs.passed.TieCopies.{mklvcopy_goes_on}
@@ -13,11 +13,11 @@ use Rattle.lvm_volume_lines.specs.Commands.{HasBrokenOff, HasRested}
 use Rattle.lvm_volume_lines.specs.Volumes.{drain_refusal}
 use Rattle.lvm_volume_lines.proofs.Commanding.{rows_mid}
 use Rattle.lvm_volume_lines.proofs.OfVolumes.{at_mid, drains, ends_so}
-use Rattle.lvm_volume_lines.proofs.Undrained.{undrained_ends}
-use Rattle.lvm_volume_lines.proofs.Unnamed.{may_again, unnamed_ends}
+use Rattle.lvm_volume_lines.proofs.EndsLemmas.{undrained_ends}
+use Rattle.lvm_volume_lines.proofs.ServingLemmas.{may_again, unnamed_ends}
 use Rattle.lvm_copy_lines.specs.Copies.{BusyMklvcopy, MklvcopyDoes, NoGroupForMklvcopy, NoVolumeForMklvcopy, UndrainedMklvcopy}
 use Rattle.lvm_copy_lines.proofs.Giving.{mklvcopy_bears, mklvcopy_facts, mklvcopy_shape}
-use Rattle.lvm_copy_lines.proofs.Lines.{mklvcopy_does}
+use Rattle.lvm_copy_lines.proofs.CopiesLemmas.{mklvcopy_does}
 use Rattle.lvm_copy_lines.proofs.copies.do_mklvcopy.Goals as goal
 
 pub returns-then-is_off : goal.returns-then-is_off

@@ -5,7 +5,7 @@ use Rattle.lvm_core.specs.Settled.{IsSettled}
 use Rattle.lvm_volume_lines.specs.passed.Driver.{IsAny, IsTurn}
 use Rattle.lvm_core.specs.State.{state_of}
 use Rattle.lvm_core.specs.Sound.{HaveAllLanded}
-use Rattle.lvm_volume_lines.specs.handed.Names.{AreAnswered}
+use Rattle.lvm_volume_lines.specs.passed.Names.{AreAnswered}
 use Rattle.lvm_volume_lines.specs.passed.Mirrors.{RmlvcopyGives, to_take}
 use Rattle.lvm_volume_lines.specs.passed.TieCopies.{KeepsShownOf}
 use Rattle.lvm_volume_lines.proofs.passed.TieCopies.{rmlvcopy_goes_on}
@@ -16,13 +16,13 @@ use Rattle.lvm_volume_lines.proofs.passed.Stage.{refused_ends, landed_bears, ans
 use Rattle.lvm_volume_lines.specs.Commands.{HasBrokenOff, HasRested, none_added}
 use Rattle.lvm_volume_lines.specs.Volumes.{drain_refusal}
 use Rattle.lvm_volume_lines.proofs.Commanding.{rows_mid}
-use Rattle.lvm_volume_lines.proofs.Lines.{on_some}
+use Rattle.lvm_volume_lines.proofs.VolumesLemmas.{on_some}
 use Rattle.lvm_volume_lines.proofs.OfVolumes.{at_mid, drains, ends_so}
-use Rattle.lvm_volume_lines.proofs.Undrained.{undrained_ends}
-use Rattle.lvm_volume_lines.proofs.Unnamed.{may_again, unnamed_ends}
+use Rattle.lvm_volume_lines.proofs.EndsLemmas.{undrained_ends}
+use Rattle.lvm_volume_lines.proofs.ServingLemmas.{may_again, unnamed_ends}
 use Rattle.lvm_copy_lines.specs.Copies.{BusyRmlvcopy, RmlvcopyDoes, NoGroupForRmlvcopy, NoVolumeForRmlvcopy, UndrainedRmlvcopy}
 use Rattle.lvm_copy_lines.proofs.Giving.{rmlvcopy_bears, rmlvcopy_facts, rmlvcopy_shape}
-use Rattle.lvm_copy_lines.proofs.Lines.{rmlvcopy_does}
+use Rattle.lvm_copy_lines.proofs.CopiesLemmas.{rmlvcopy_does}
 use Rattle.lvm_copy_lines.proofs.copies.do_rmlvcopy.Goals as goal
 
 pub returns-then-is_off : goal.returns-then-is_off

@@ -5,7 +5,7 @@ use Rattle.lvm_volume_lines.specs.passed.VolumePlan.{GroupFault}
 use Rattle.lvm_volume_lines.specs.passed.Mirrors.{to_take}
 use Rattle.lvm_volume_lines.specs.passed.Handover.{IsCommanded}
 use Rattle.lvm_volume_lines.specs.Commands.{IsLeftOn}
-use Rattle.lvm_copy_lines.proofs.Carrying.{removal_fails, removed_may, removed_rows}
+use Rattle.lvm_copy_lines.proofs.ServingLemmas.{removal_fails, removed_may, removed_rows}
 use Rattle.lvm_copy_lines.proofs.copies.remove_copies.Goals as goal
 
 pub rmlvcopy-requires : goal.rmlvcopy-requires

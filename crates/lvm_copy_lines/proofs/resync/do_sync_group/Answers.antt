@@ -5,7 +5,7 @@ use Rattle.lvm_volume_lines.specs.passed.Stage.{IsOfKind, OfRequests, Reply, mos
 use Rattle.lvm_volume_lines.proofs.passed.RangeLines.{between_now, ends_with, fits_now, still_as}
 use Rattle.lvm_volume_lines.proofs.passed.Stage.{refused_ends}
 use Rattle.lvm_copy_lines.specs.Resyncing.{NothingSyncs, OtherGroupForSync, SyncGroupDoes}
-use Rattle.lvm_copy_lines.proofs.Synced.{name_on, numbers_few}
+use Rattle.lvm_copy_lines.proofs.ResyncingLemmas.{name_on, numbers_few}
 use Rattle.lvm_copy_lines.proofs.resync.do_sync_group.Goals as goal
 
 pub returns-then-not-is_on : goal.returns-then-not-is_on

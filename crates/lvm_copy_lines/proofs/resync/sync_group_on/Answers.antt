@@ -2,11 +2,11 @@ use Rattle.std.proofs.Common.{◌≡◌, ◌≤◌, ℕ, refl, sym, ap, subst, �
 use Rattle.lvm_session.specs.declared.open.Power.TheVariants as power
 use Rattle.lvm_resync.specs.Syncing.{SyncGives, group_copies, group_fault}
 use Rattle.lvm_resync.specs.Turning.{GoesBeside}
-use Rattle.lvm_volume_lines.specs.passed.Driver.{state_of}
+use Rattle.lvm_session.specs.State.{state_of}
 use Rattle.lvm_volume_lines.specs.passed.HolderVariants as holder
 use Rattle.lvm_volume_lines.specs.passed.Stage.{ComesTo, HaveRooms, Reply, is_unheard, most_refusals, patience_of_line}
 use Rattle.lvm_copy_lines.specs.Resyncing.{SyncsGroup, SyncGroupDoes}
-use Rattle.lvm_copy_lines.proofs.Synced.{fails_if, may_come, sync_few, synced_ends, synced_shut, group_may}
+use Rattle.lvm_copy_lines.proofs.ResyncingLemmas.{fails_if, may_come, sync_few, synced_ends, synced_shut, group_may}
 use Rattle.lvm_copy_lines.proofs.resync.sync_group_on.Goals as goal
 
 pub sync_group-synced-requires : goal.sync_group-synced-requires

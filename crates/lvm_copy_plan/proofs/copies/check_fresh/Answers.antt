@@ -3,9 +3,9 @@ use Rattle.std.specs.Prelude.{IsTrue}
 use Rattle.lvm_num.specs.declared.descriptor.LvRow.{LvRow}
 use Rattle.lvm_num.specs.declared.status.Status.{Status}
 use Rattle.lvm_num.specs.Descriptor.{volume_of}
-use Rattle.lvm_map.proofs.PlaceLemmas.{volume_is, laid_out}
+use Rattle.lvm_map.proofs.PlacesLemmas.{volume_is, laid_out}
 use Rattle.lvm_copy_plan.specs.Faults.{MayShrink, keeps_fresh, IsFirstLoss}
-use Rattle.lvm_copy_plan.proofs.Finding.{found_is, one_volume}
+use Rattle.lvm_copy_plan.proofs.DescriptorLemmas.{found_is, one_volume}
 use Rattle.lvm_copy_plan.proofs.copies.check_fresh.Goals as goal
 
 pub first_loss-requires-clause-whole : goal.first_loss-requires-clause-whole

@@ -1,5 +1,5 @@
 use Rattle.std.proofs.Common.{arith}
-use Rattle.lvm_copy_plan.proofs.Finding.{found_is}
+use Rattle.lvm_copy_plan.proofs.DescriptorLemmas.{found_is}
 use Rattle.lvm_copy_plan.proofs.copies.check_more.Goals as goal
 
 pub returns-clause-may : goal.returns-clause-may

@@ -1,12 +1,12 @@
 use Rattle.std.proofs.Common.{◌≡◌, sym, ap, subst, ◌∙◌, arith}
 use Rattle.lvm_num.specs.declared.descriptor.LvRow.{LvRow}
 use Rattle.lvm_num.specs.Descriptor.{IsValid, volume_of}
-use Rattle.lvm_map.proofs.PlaceLemmas.{volume_is, laid_out}
+use Rattle.lvm_map.proofs.PlacesLemmas.{volume_is, laid_out}
 use Rattle.lvm_copy_plan.specs.Copies.{with_copies, first_copies}
 use Rattle.lvm_copy_plan.specs.Faults.{MayBeTaken}
 use Rattle.lvm_copy_plan.specs.PlannedCopies.{IsWithFewer}
-use Rattle.lvm_copy_plan.proofs.Fewer.{valid_fewer}
-use Rattle.lvm_copy_plan.proofs.Finding.{found_is, one_volume, if_ok}
+use Rattle.lvm_copy_plan.proofs.CopiesLemmas.Fewer.{valid_fewer}
+use Rattle.lvm_copy_plan.proofs.DescriptorLemmas.{found_is, one_volume, if_ok}
 use Rattle.lvm_copy_plan.proofs.copies.fewer.Goals as goal
 
 pub first_copies-requires-clause-whole : goal.first_copies-requires-clause-whole

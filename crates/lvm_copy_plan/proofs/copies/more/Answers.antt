@@ -5,8 +5,8 @@ use Rattle.lvm_num.specs.Descriptor.{IsValid, volume_of}
 use Rattle.lvm_session.specs.State.{is_there}
 use Rattle.lvm_copy_plan.specs.Copies.{with_map, with_copies, further_copies}
 use Rattle.lvm_copy_plan.specs.Faults.{MayBeAdded}
-use Rattle.lvm_copy_plan.proofs.More.{valid_more}
-use Rattle.lvm_copy_plan.proofs.Finding.{found_is, one_volume}
+use Rattle.lvm_copy_plan.proofs.CopiesLemmas.More.{valid_more}
+use Rattle.lvm_copy_plan.proofs.DescriptorLemmas.{found_is, one_volume}
 use Rattle.lvm_copy_plan.proofs.copies.more.Goals as goal
 
 pub further_copies-requires-clause-whole : goal.further_copies-requires-clause-whole

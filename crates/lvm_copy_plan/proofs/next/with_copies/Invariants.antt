@@ -1,5 +1,5 @@
 use Rattle.std.proofs.Common.{◌≡◌, take, map}
-use Rattle.lvm_copy_plan.proofs.Rows.{other}
+use Rattle.lvm_copy_plan.proofs.CopiesLemmas.Rows.{other}
 use Rattle.lvm_copy_plan.proofs.next.with_copies.Given as goal
 
 abbrev pub invariant-loop-row : goal.invariant-loop-row

@@ -1,13 +1,13 @@
 use Rattle.std.proofs.Common.{sym, ◌∙◌, ap, subst}
 use Rattle.lvm_num.specs.declared.descriptor.Descriptor.{Descriptor}
 use Rattle.lvm_disk.specs.Device.{Device}
-use Rattle.lvm_commit.proofs.handed.Names.{spelled_is_read}
+use Rattle.lvm_commit.proofs.passed.Names.{spelled_is_read}
 use Rattle.lvm_commit.specs.Settling.{IsContentOf, IsOfCommit, CommitLeaves, MayCommit}
-use Rattle.lvm_core.proofs.Committing.{may_next}
-use Rattle.lvm_over.specs.handed.Names.{Session, state, core_of}
+use Rattle.lvm_core.proofs.CommittingLemmas.Committing.{may_next}
+use Rattle.lvm_over.specs.passed.Names.{Session, state, core_of}
 use Rattle.lvm_core.specs.Steps.{CoreEnds}
-use Rattle.lvm_core.proofs.Ends.{descriptor_numbered, is_out, core_ends_with, status_ends, commits_descriptor}
-use Rattle.lvm_core.proofs.Sizes.{descriptor_fits}
+use Rattle.lvm_core.proofs.StepsLemmas.Ends.{descriptor_numbered, is_out, core_ends_with, status_ends, commits_descriptor}
+use Rattle.lvm_core.proofs.RecordLemmas.{descriptor_fits}
 use Rattle.lvm_core.proofs.commit.commit.Goals as goal
 
 pub commit_descriptor-settled-requires-clause-may : goal.commit_descriptor-settled-requires-clause-may

@@ -1,5 +1,5 @@
-use Rattle.lvm_over.specs.handed.Names.{core_of}
-use Rattle.lvm_core.proofs.Ends.{well_with, badly_with}
+use Rattle.lvm_over.specs.passed.Names.{core_of}
+use Rattle.lvm_core.proofs.StepsLemmas.Ends.{well_with, badly_with}
 use Rattle.lvm_core.proofs.commit.go_on_with.Goals as goal
 
 pub returns-in-Ok-clause-ends : goal.returns-in-Ok-clause-ends

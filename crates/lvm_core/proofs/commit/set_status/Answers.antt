@@ -1,10 +1,10 @@
 use Rattle.std.proofs.Common.{sym, ◌∙◌, ap, subst}
 use Rattle.lvm_status.specs.Update.{Stored}
 use Rattle.lvm_commit.specs.Settling.{MayCommit, IsOfStatus, StatusStaysKept, CommitLeaves}
-use Rattle.lvm_over.specs.handed.Names.{Session, state, core_of}
+use Rattle.lvm_over.specs.passed.Names.{Session, state, core_of}
 use Rattle.lvm_core.specs.Steps.{IsMarked}
-use Rattle.lvm_core.proofs.Ends.{status_numbered, is_out, core_ends, status_ends, commits_marks, at_once}
-use Rattle.lvm_core.proofs.Marking.{may_commit}
+use Rattle.lvm_core.proofs.StepsLemmas.Ends.{status_numbered, is_out, core_ends, status_ends, commits_marks, at_once}
+use Rattle.lvm_core.proofs.StepsLemmas.Marking.{may_commit}
 use Rattle.lvm_core.proofs.commit.set_status.Goals as goal
 
 pub commit_status-settled-requires-clause-may : goal.commit_status-settled-requires-clause-may

@@ -1,14 +1,14 @@
 use Rattle.std.proofs.Common.{ℕ, Bool, false, List, refl, ◌∙◌, ap, subst, ◌≡◌, length, replicate}
 use Rattle.std.specs.Prelude.{◌==◌, slice_set}
-use Rattle.lvm_commit.specs.handed.TransferMovesMoved as moved
+use Rattle.lvm_commit.specs.passed.TransferMovesMoved as moved
 use Rattle.lvm_write.specs.Parts.{DoesPart}
-use Rattle.lvm_over.specs.handed.Names.{Session, core_of}
+use Rattle.lvm_over.specs.passed.Names.{Session, core_of}
 use Rattle.lvm_core.specs.Zeros.{IsZeroOf, IsZeroed}
-use Rattle.lvm_core.proofs.Buffers.{back_again}
+use Rattle.lvm_core.proofs.CommittingLemmas.Buffers.{back_again}
 use Rattle.lvm_core.proofs.commit.zero.Goals as goal
 use Rattle.lvm_num.specs.declared.place.Pp.{Pp}
 use Rattle.lvm_disk.specs.Device.{Device}
-use Rattle.lvm_commit.specs.handed.Names.{Moved}
+use Rattle.lvm_commit.specs.passed.Names.{Moved}
 use Rattle.lvm_core.specs.Committing.{with_one_out}
 
 module _ (self taken : Session) (is : taken ≡ record self { pool = with_one_out self.pool }) where

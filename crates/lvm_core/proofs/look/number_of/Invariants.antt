@@ -3,4 +3,4 @@ use Rattle.lvm_num.specs.declared.descriptor.LvRow.{LvRow}
 use Rattle.lvm_core.proofs.look.number_of.Given as goal
 
 abbrev pub invariant-loop-row : goal.invariant-loop-row
-invariant-loop-row l = (k : ℕ) (row : LvRow) → k < l.row-index → get_or l.volumes k row ≡ row → row.name ≡ l.name → ⊥
+invariant-loop-row l = (k : ℕ) (row : LvRow) → k < l.row-index → get_or l.group.lvs k row ≡ row → row.name ≡ l.name → ⊥

@@ -1,6 +1,6 @@
 use Rattle.lvm_num.proofs.Pairs.{All-right}
 use Rattle.lvm_status.specs.Calls.{IsMarkable}
-use Rattle.lvm_core.proofs.Marking.{markable_still, marked_both}
+use Rattle.lvm_core.proofs.StepsLemmas.Marking.{markable_still, marked_both}
 use Rattle.lvm_core.proofs.marks.mark.Goals as goal
 
 pub mark_fresh-requires-clause-markable : goal.mark_fresh-requires-clause-markable

@@ -5,7 +5,7 @@ use Rattle.lvm_num.specs.declared.place.Pp.{Pp}
 use Rattle.lvm_num.specs.declared.status.Status.{Status}
 use Rattle.lvm_num.specs.Status.{calls_stale}
 use Rattle.lvm_status.specs.Update.{Stored}
-use Rattle.lvm_core.proofs.Marking.{SoFar, markable_still, stale_passed, stale_wanted}
+use Rattle.lvm_core.proofs.StepsLemmas.Marking.{SoFar, markable_still, stale_passed, stale_wanted}
 use Rattle.lvm_core.proofs.marks.mark_stale.Goals as goal
 use Rattle.lvm_core.proofs.marks.mark_stale.Goals.{then-not-is_stale, else-not-is_stale}
 

@@ -1,6 +1,6 @@
 use Rattle.std.proofs.Common.{slice_get, ap, ◌∙◌, arith}
 use Rattle.lvm_num.specs.Buffer.{Buffer, zero_sector}
-use Rattle.lvm_core.proofs.Zeroing.{one_more}
+use Rattle.lvm_core.proofs.ZerosLemmas.Zeroing.{one_more}
 use Rattle.lvm_core.proofs.zero.clear.Goals as goal
 
 pub loop-k-preserved : goal.loop-k-preserved

@@ -2,8 +2,8 @@ use Rattle.std.proofs.Common.{◌≡◌, ℕ, ◌+◌, ◌*◌, refl, eq-eqb, ar
 use Rattle.std.specs.Prelude.{◌==◌}
 use Rattle.lvm_num.specs.Geometry.{data_start, partition_blocks}
 use Rattle.lvm_core.specs.Zeros.{IsZeroOf}
-use Rattle.lvm_write.proofs.Pieces.{piece_part}
-use Rattle.lvm_core.proofs.Zeroing.{zeros_planned, zeros_in_plan}
+use Rattle.lvm_write.proofs.PartsLemmas.Pieces.{piece_part}
+use Rattle.lvm_core.proofs.ZerosLemmas.Zeroing.{zeros_planned, zeros_in_plan}
 use Rattle.lvm_core.proofs.zero.write_piece.Goals as goal
 
 pub returns-clause-part : goal.returns-clause-part

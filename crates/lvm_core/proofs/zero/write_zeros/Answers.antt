@@ -1,10 +1,10 @@
 use Rattle.std.proofs.Common.{◌+◌, ◌*◌, ℕ, sym, subst, arith}
 use Rattle.std.specs.Prelude.{◌==◌}
 use Rattle.lvm_num.specs.Buffer.{Buffer}
-use Rattle.lvm_commit.specs.handed.TransferMovesMoved as moved
-use Rattle.lvm_write.proofs.Transfers.{part_here, part_then, not_done}
+use Rattle.lvm_commit.specs.passed.TransferMovesMoved as moved
+use Rattle.lvm_write.proofs.PartsLemmas.Transfers.{part_here, part_then, not_done}
 use Rattle.lvm_core.specs.Zeros.{IsZeroOf, IsZeroed, AreZeroed, IsClear}
-use Rattle.lvm_core.proofs.Zeroing.{no_zeros, zeros_stay, zeros_join, all_zeroed}
+use Rattle.lvm_core.proofs.ZerosLemmas.Zeroing.{no_zeros, zeros_stay, zeros_join, all_zeroed}
 use Rattle.lvm_core.proofs.zero.write_zeros.Goals as goal
 
 pub loop-piece-init : goal.loop-piece-init

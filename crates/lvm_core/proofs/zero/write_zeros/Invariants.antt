@@ -1,6 +1,6 @@
 use Rattle.std.proofs.Common.{◌*◌}
 use Rattle.std.specs.Prelude.{◌==◌}
-use Rattle.lvm_commit.specs.handed.TransferMovesMoved as moved
+use Rattle.lvm_commit.specs.passed.TransferMovesMoved as moved
 use Rattle.lvm_write.specs.Parts.{DoesPart}
 use Rattle.lvm_core.specs.Zeros.{IsZeroOf, AreZeroed, IsClear}
 use Rattle.lvm_core.proofs.zero.write_zeros.Given as goal

@@ -1,4 +1,4 @@
-use Rattle.lvm_crash.proofs.Images.{images_kept, last_images_kept}
+use Rattle.lvm_crash.proofs.LawsLemmas.Images.{images_kept, last_images_kept}
 use Rattle.lvm_crash.proofs.laws.crash_images_are_kept.Goals as goal
 
 pub returns : goal.returns

@@ -1,5 +1,5 @@
-use Rattle.lvm_crash.proofs.Lasting.{description_lasts}
-use Rattle.lvm_crash.proofs.Statuses.{statuses_last}
+use Rattle.lvm_crash.proofs.LastingLemmas.Lasting.{description_lasts}
+use Rattle.lvm_crash.proofs.LastingLemmas.Statuses.{statuses_last}
 use Rattle.lvm_crash.proofs.laws.description_lasts.Goals as goal
 
 pub returns : goal.returns

@@ -1,6 +1,6 @@
-use Rattle.lvm_crash.proofs.Worked.{groups_have_votes}
-use Rattle.lvm_crash.proofs.WorkedFlights.{rest_matches, writing_matches, stepping_matches}
-use Rattle.lvm_crash.proofs.WorkedRecords.{updating_matches, noting_matches}
+use Rattle.lvm_crash.proofs.WorkedLemmas.Worked.{groups_have_votes}
+use Rattle.lvm_crash.proofs.WorkedLemmas.Flights.{rest_matches, writing_matches, stepping_matches}
+use Rattle.lvm_crash.proofs.WorkedLemmas.Records.{updating_matches, noting_matches}
 use Rattle.lvm_crash.proofs.laws.sessions_match.Goals as goal
 
 pub returns : goal.returns

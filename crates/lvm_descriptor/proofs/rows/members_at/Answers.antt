@@ -3,8 +3,8 @@ use Rattle.std.proofs.lemmas.Result.{err_from_is_err_and}
 use Rattle.lvm_num.specs.declared.descriptor.PvRow.{PvRow}
 use Rattle.lvm_num.specs.DescriptorBytes.{member_at, members_at}
 use Rattle.lvm_fields.specs.Reading.{rest_of, Fails}
-use Rattle.lvm_fields.proofs.Loops.{goes_on, ends, is_done}
-use Rattle.lvm_descriptor.proofs.Repeats.{members_repeat}
+use Rattle.lvm_fields.proofs.ReadingLemmas.{goes_on, ends, is_done}
+use Rattle.lvm_descriptor.proofs.DescriptorBytesLemmas.{members_repeat}
 use Rattle.lvm_descriptor.proofs.rows.members_at.Goals as goal
 
 pub returns-in_err-row : goal.returns-in_err-row

@@ -5,9 +5,9 @@ use Rattle.lvm_num.specs.DescriptorBytes.{volume_at, volumes_at}
 use Rattle.lvm_num.specs.Reading.{Rest}
 use Rattle.lvm_fields.specs.Reading.{rest_of, Fails}
 use Rattle.lvm_descriptor.specs.Parts.{volume_by_parts}
-use Rattle.lvm_fields.proofs.Loops.{goes_on, ends, is_done}
-use Rattle.lvm_descriptor.proofs.Repeats.{volumes_repeat}
-use Rattle.lvm_descriptor.proofs.PartLaws.{volume_is}
+use Rattle.lvm_fields.proofs.ReadingLemmas.{goes_on, ends, is_done}
+use Rattle.lvm_descriptor.proofs.DescriptorBytesLemmas.{volumes_repeat}
+use Rattle.lvm_descriptor.proofs.PartsLemmas.{volume_is}
 use Rattle.lvm_descriptor.proofs.rows.volumes_at.Goals as goal
 
 pub returns-in_err-row : goal.returns-in_err-row

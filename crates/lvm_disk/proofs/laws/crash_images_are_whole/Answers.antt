@@ -1,4 +1,4 @@
-use Rattle.lvm_disk.proofs.WholeImages.{whole_images}
+use Rattle.lvm_disk.proofs.ImagesLemmas.{whole_images}
 use Rattle.lvm_disk.proofs.laws.crash_images_are_whole.Goals as goal
 
 pub returns : goal.returns

@@ -6,10 +6,10 @@ use Rattle.lvm_disk_lines.specs.Disks.{WriteDoes, NoWriteWhileOn, WriteGoes, wri
 use Rattle.lvm_stage.specs.Moments.{Aside}
 use Rattle.lvm_stage.specs.State.{without_facts}
 use Rattle.lvm_stage.specs.declared.reply.Refusal.TheVariants as refusal
-use Rattle.lvm_stage.proofs.Ends.{unasked_as, refused_ends}
-use Rattle.lvm_stage.proofs.Staging.{between_as, fits_as}
-use Rattle.lvm_disk_lines.proofs.Ranging.{off, range_ends, write_once, write_stuck}
-use Rattle.lvm_disk_lines.proofs.Untaken.{write_leaves}
+use Rattle.lvm_stage.proofs.EndsLemmas.{unasked_as, refused_ends}
+use Rattle.lvm_stage.proofs.StagesLemmas.Staging.{between_as, fits_as}
+use Rattle.lvm_disk_lines.proofs.DisksLemmas.{off, range_ends, write_once, write_stuck}
+use Rattle.lvm_disk_lines.proofs.PostsLemmas.{write_leaves}
 use Rattle.lvm_disk_lines.proofs.disks.do_write.Goals as goal
 
 pub returns-in-Err : goal.returns-in-Err

@@ -2,8 +2,8 @@ use Rattle.std.proofs.Common.{arith}
 use Rattle.lvm_disk_lines.specs.Shelves.{ArrangeDoes, NotThere, NotPlanned}
 use Rattle.lvm_stage.specs.Moments.{Aside}
 use Rattle.lvm_stage.specs.declared.reply.Refusal.TheVariants as refusal
-use Rattle.lvm_stage.proofs.Ends.{one_refused, refused_ends}
-use Rattle.lvm_disk_lines.proofs.Ordering.{arranged_ends, unarranged_ends}
+use Rattle.lvm_stage.proofs.EndsLemmas.{one_refused, refused_ends}
+use Rattle.lvm_disk_lines.proofs.ShelvesLemmas.Ordering.{arranged_ends, unarranged_ends}
 use Rattle.lvm_disk_lines.proofs.shelves.do_arrange.Goals as goal
 
 pub returns-then-disk-disks : goal.returns-then-disk-disks

@@ -3,7 +3,7 @@ use Rattle.std.specs.String.{string_bytes}
 use Rattle.lvm_io.specs.Count.{Rose}
 use Rattle.lvm_draws.specs.Draws.{draw_at}
 use Rattle.lvm_draws.specs.Script.{line_text}
-use Rattle.lvm_draws.proofs.Growing.{begins, err_of, front_at_end, front_at_fault, front_at_first, front_at_want, ok_of, one_more}
+use Rattle.lvm_draws.proofs.ScriptLemmas.Growing.{begins, err_of, front_at_end, front_at_fault, front_at_first, front_at_want, ok_of, one_more}
 use Rattle.lvm_draws.proofs.script.write_script.Goals as goal
 
 pub returns-in_default-clause-front : goal.returns-in_default-clause-front

@@ -1,6 +1,6 @@
 use Rattle.std.proofs.Common.{◌≡◌}
 use Rattle.std.specs.String.{string_bytes}
-use Rattle.lvm_draws.proofs.Growing.{HasScript}
+use Rattle.lvm_draws.proofs.ScriptLemmas.Growing.{HasScript}
 use Rattle.lvm_draws.proofs.script.write_script.Given as goal
 
 abbrev pub invariant-loop-k : goal.invariant-loop-k

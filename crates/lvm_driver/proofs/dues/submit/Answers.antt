@@ -1,8 +1,8 @@
 use Rattle.std.proofs.Common.{option_copied, sym, subst}
 use Rattle.lvm_session.specs.Fields.{core_of}
 use Rattle.lvm_session.specs.State.{Core}
-use Rattle.lvm_session_turn.specs.handed.Names.{IsDue}
-use Rattle.lvm_driver.proofs.Due.{begun, refused, some}
+use Rattle.lvm_session_turn.specs.passed.Names.{IsDue}
+use Rattle.lvm_driver.proofs.CallsLemmas.{begun, refused, some}
 use Rattle.lvm_driver.proofs.dues.submit.Goals as goal
 
 pub submitted-requires : goal.submitted-requires

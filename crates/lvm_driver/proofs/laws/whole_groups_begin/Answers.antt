@@ -1,4 +1,4 @@
-use Rattle.lvm_driver.proofs.Beginnings.{whole_groups_begin}
+use Rattle.lvm_driver.proofs.BeginningsLemmas.{whole_groups_begin}
 use Rattle.lvm_driver.proofs.laws.whole_groups_begin.Goals as goal
 
 pub returns : goal.returns

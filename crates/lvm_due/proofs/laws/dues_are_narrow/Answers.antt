@@ -1,4 +1,4 @@
-use Rattle.lvm_due.proofs.Narrow.{narrow}
+use Rattle.lvm_due.proofs.WorkedLemmas.{narrow}
 use Rattle.lvm_due.proofs.laws.dues_are_narrow.Goals as goal
 
 pub returns : goal.returns

@@ -1,7 +1,7 @@
 use Rattle.std.proofs.Common.{Bool, length, sym, ap, subst}
 use Rattle.lvm_firsts.specs.declared.span.Span.{Span}
 use Rattle.lvm_due.specs.Due.{waits_entry_if, Covers}
-use Rattle.lvm_due.proofs.Spanning.{covers_nothing}
+use Rattle.lvm_due.proofs.DueLemmas.Spanning.{covers_nothing}
 use Rattle.lvm_due.proofs.places.entries_if.Goals as goal
 
 pub returns-then-pinned : goal.returns-then-pinned

@@ -1,7 +1,7 @@
 use Rattle.std.proofs.Common.{sym, ◌∙◌, ap}
 use Rattle.std.specs.Option.{option_copied}
 use Rattle.std.proofs.lemmas.Bool.{not-true}
-use Rattle.lvm_due.proofs.Calm.{none_there, same_one}
+use Rattle.lvm_due.proofs.EnabledLemmas.Calm.{none_there, same_one}
 use Rattle.lvm_due.proofs.quiet.is_calm.Goals as goal
 
 pub returns : goal.returns

@@ -2,9 +2,9 @@ use Rattle.std.proofs.Common.{sym, subst}
 use Rattle.lvm_session.specs.Fields.{core_of}
 use Rattle.lvm_session.specs.Sound.{IsSound}
 use Rattle.lvm_session.specs.State.{Core, state}
-use Rattle.lvm_ranges.specs.handed.Names.{AreAnswered}
+use Rattle.lvm_ranges.specs.passed.Names.{AreAnswered}
 use Rattle.lvm_earlier.specs.Earlier.{AreGone}
-use Rattle.lvm_earlier.proofs.Running.{stays}
+use Rattle.lvm_earlier.proofs.EarlierLemmas.Running.{stays}
 use Rattle.lvm_earlier.proofs.earlier.take_earlier.Goals as goal
 
 pub take_in-session-requires-clause-answered : goal.take_in-session-requires-clause-answered

@@ -1,4 +1,4 @@
-use Rattle.lvm_earlier.proofs.Running.{stays_beside}
+use Rattle.lvm_earlier.proofs.EarlierLemmas.Running.{stays_beside}
 use Rattle.lvm_earlier.proofs.laws.earlier_stays_beside.Goals as goal
 
 pub returns : goal.returns

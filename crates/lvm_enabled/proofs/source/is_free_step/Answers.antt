@@ -1,6 +1,6 @@
 use Rattle.std.proofs.Common.{sym, ◌∙◌, ap, not, refl}
 use Rattle.std.specs.Prelude.{is_some}
-use Rattle.lvm_hold.proofs.Rows.{blocked_tells}
+use Rattle.lvm_hold.proofs.OrderLemmas.{blocked_tells}
 use Rattle.lvm_session.specs.Fields.{core_of}
 use Rattle.lvm_session.specs.Bringing.{step_of, step_row}
 use Rattle.lvm_enabled.proofs.Steps.{ascends, flipped, step_in}

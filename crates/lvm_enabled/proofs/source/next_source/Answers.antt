@@ -1,12 +1,11 @@
 use Rattle.std.proofs.Common.{slice_index_or, not, sym, ◌∙◌, subst, arith}
 use Rattle.std.specs.Prelude.{◌&&◌, All}
 use Rattle.lvm_num.specs.declared.place.Pp.{Pp}
-use Rattle.lvm_num.specs.Descriptor.{IsPartitionOf}
+use Rattle.lvm_num.specs.Descriptor.{IsPartitionOf, is_pp}
 use Rattle.lvm_num.specs.Disks.{has}
-use Rattle.lvm_stale.specs.Table.{is_pp}
 use Rattle.lvm_session.specs.Fields.{core_of}
 use Rattle.lvm_session.specs.Judging.{copies_in, is_usable}
-use Rattle.lvm_due.proofs.handed.Names.{copies_in_are, place_of}
+use Rattle.lvm_due.proofs.passed.Names.{copies_in_are, place_of}
 use Rattle.lvm_enabled.specs.Plain.{is_source}
 use Rattle.lvm_enabled.proofs.Steps.{find_left, found_here, found_later, found_none, index_same}
 use Rattle.lvm_enabled.proofs.source.next_source.Goals as goal

@@ -1,4 +1,4 @@
-use Rattle.lvm_enabled.proofs.Statuses.{differ_is}
+use Rattle.lvm_enabled.proofs.EnabledLemmas.{differ_is}
 use Rattle.lvm_enabled.proofs.status.differs.Goals as goal
 
 pub returns : goal.returns

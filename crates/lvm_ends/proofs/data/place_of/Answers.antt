@@ -1,7 +1,7 @@
 use Rattle.std.proofs.Common.{◌≡◌, ◌==◌, List, sym, ◌∙◌, subst}
 use Rattle.std.specs.Prelude.{position}
 use Rattle.lvm_session.specs.declared.open.Open.{Open}
-use Rattle.lvm_ends.proofs.Requested.{has_id, never_none}
+use Rattle.lvm_ends.proofs.EndedLemmas.{has_id, never_none}
 use Rattle.lvm_ends.proofs.data.place_of.Goals as goal
 
 pub unreachable-requires : goal.unreachable-requires

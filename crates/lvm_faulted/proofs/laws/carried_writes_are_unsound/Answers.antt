@@ -1,4 +1,4 @@
-use Rattle.lvm_faulted.proofs.Copies.{carried_writes_are_unsound}
+use Rattle.lvm_faulted.proofs.CopiesLemmas.{carried_writes_are_unsound}
 use Rattle.lvm_faulted.proofs.laws.carried_writes_are_unsound.Goals as goal
 
 pub returns : goal.returns

@@ -1,4 +1,4 @@
-use Rattle.lvm_faulted.proofs.Losing.{ended_sessions_are_sound}
+use Rattle.lvm_faulted.proofs.FaultedLemmas.Losing.{ended_sessions_are_sound}
 use Rattle.lvm_faulted.proofs.laws.ended_sessions_are_sound.Goals as goal
 
 pub returns : goal.returns

@@ -1,4 +1,4 @@
-use Rattle.lvm_faulted.proofs.Copies.{failed_copies_are_sound}
+use Rattle.lvm_faulted.proofs.CopiesLemmas.{failed_copies_are_sound}
 use Rattle.lvm_faulted.proofs.laws.failed_copies_are_sound.Goals as goal
 
 pub returns : goal.returns

@@ -1,4 +1,4 @@
-use Rattle.lvm_faulted.proofs.Unread.{failed_reads_are_sound}
+use Rattle.lvm_faulted.proofs.UnreadLemmas.{failed_reads_are_sound}
 use Rattle.lvm_faulted.proofs.laws.failed_reads_are_sound.Goals as goal
 
 pub returns : goal.returns

@@ -1,4 +1,4 @@
-use Rattle.lvm_faulted.proofs.Failing.{kept_writes_are_sound}
+use Rattle.lvm_faulted.proofs.FailingLemmas.{kept_writes_are_sound}
 use Rattle.lvm_faulted.proofs.laws.kept_writes_are_sound.Goals as goal
 
 pub returns : goal.returns

@@ -1,4 +1,4 @@
-use Rattle.lvm_faulted.proofs.Losing.{lost_votes_are_sound}
+use Rattle.lvm_faulted.proofs.FaultedLemmas.Losing.{lost_votes_are_sound}
 use Rattle.lvm_faulted.proofs.laws.lost_votes_are_sound.Goals as goal
 
 pub returns : goal.returns

@@ -1,4 +1,4 @@
-use Rattle.lvm_faulted.proofs.Failing.{lost_writes_are_sound}
+use Rattle.lvm_faulted.proofs.FailingLemmas.{lost_writes_are_sound}
 use Rattle.lvm_faulted.proofs.laws.lost_writes_are_sound.Goals as goal
 
 pub returns : goal.returns

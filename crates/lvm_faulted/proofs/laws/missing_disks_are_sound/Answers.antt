@@ -1,4 +1,4 @@
-use Rattle.lvm_faulted.proofs.Missing.{missing_disks_are_sound}
+use Rattle.lvm_faulted.proofs.FaultedLemmas.Missing.{missing_disks_are_sound}
 use Rattle.lvm_faulted.proofs.laws.missing_disks_are_sound.Goals as goal
 
 pub returns : goal.returns

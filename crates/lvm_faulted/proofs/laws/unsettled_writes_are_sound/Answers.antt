@@ -1,4 +1,4 @@
-use Rattle.lvm_faulted.proofs.Failing.{unsettled_writes_are_sound}
+use Rattle.lvm_faulted.proofs.FailingLemmas.{unsettled_writes_are_sound}
 use Rattle.lvm_faulted.proofs.laws.unsettled_writes_are_sound.Goals as goal
 
 pub returns : goal.returns

@@ -1,4 +1,4 @@
-use Rattle.lvm_faulted.proofs.Copies.{whole_copies_are_sound}
+use Rattle.lvm_faulted.proofs.CopiesLemmas.{whole_copies_are_sound}
 use Rattle.lvm_faulted.proofs.laws.whole_copies_are_sound.Goals as goal
 
 pub returns : goal.returns

@@ -1,4 +1,4 @@
-use Rattle.lvm_faulted.proofs.Unread.{writes_without_copy_are_sound}
+use Rattle.lvm_faulted.proofs.UnreadLemmas.{writes_without_copy_are_sound}
 use Rattle.lvm_faulted.proofs.laws.writes_without_copy_are_sound.Goals as goal
 
 pub returns : goal.returns

@@ -1,7 +1,7 @@
 use Rattle.std.proofs.Common.{Some, None, if◌then◌else◌, sym, ◌∙◌, ap}
-use Rattle.lvm_facts.specs.handed.SessionEventEvent as event
-use Rattle.lvm_facts.specs.handed.Names.{Open, is_admit, core_of, facts_of, next_for}
-use Rattle.lvm_firsts.proofs.Might.{admits_not}
+use Rattle.lvm_facts.specs.passed.SessionEventEvent as event
+use Rattle.lvm_facts.specs.passed.Names.{Open, is_admit, core_of, facts_of, next_for}
+use Rattle.lvm_firsts.proofs.EnabledLemmas.{admits_not}
 use Rattle.lvm_firsts.proofs.Places.{read_same}
 use Rattle.lvm_firsts.proofs.firsts.admission_at.Goals as goal
 

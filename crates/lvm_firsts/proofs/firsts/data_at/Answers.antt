@@ -1,8 +1,8 @@
 use Rattle.std.proofs.Common.{sym, ◌∙◌, ap}
 use Rattle.std.specs.Option.{option_map}
-use Rattle.lvm_facts.specs.handed.SessionEventEvent as event
-use Rattle.lvm_facts.specs.handed.Names.{Open, target_next, core_of, facts_of, next_for}
-use Rattle.lvm_firsts.proofs.Might.{starts_not}
+use Rattle.lvm_facts.specs.passed.SessionEventEvent as event
+use Rattle.lvm_facts.specs.passed.Names.{Open, target_next, core_of, facts_of, next_for}
+use Rattle.lvm_firsts.proofs.EnabledLemmas.{starts_not}
 use Rattle.lvm_firsts.proofs.Places.{read_same}
 use Rattle.lvm_firsts.proofs.firsts.data_at.Goals as goal
 

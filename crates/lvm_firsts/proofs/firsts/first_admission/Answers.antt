@@ -1,6 +1,6 @@
 use Rattle.std.proofs.Common.{sym}
-use Rattle.lvm_facts.specs.handed.Names.{core_of, admission_at}
-use Rattle.lvm_firsts.proofs.Spans.{ends_here, goes_past, none_due}
+use Rattle.lvm_facts.specs.passed.Names.{core_of, admission_at}
+use Rattle.lvm_firsts.proofs.SpansLemmas.{ends_here, goes_past, none_due}
 use Rattle.lvm_firsts.proofs.firsts.first_admission.Goals as goal
 
 pub returns-then-is_some-clause-first : goal.returns-then-is_some-clause-first

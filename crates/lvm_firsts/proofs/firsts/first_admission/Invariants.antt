@@ -1,5 +1,5 @@
 use Rattle.std.proofs.Common.{◌-◌}
-use Rattle.lvm_facts.specs.handed.Names.{core_of, admission_at}
+use Rattle.lvm_facts.specs.passed.Names.{core_of, admission_at}
 use Rattle.lvm_firsts.specs.Spans.{Spans}
 use Rattle.lvm_firsts.proofs.firsts.first_admission.Given as goal
 

@@ -1,5 +1,5 @@
 use Rattle.std.proofs.Common.{◌-◌}
-use Rattle.lvm_facts.specs.handed.Names.{core_of, data_at}
+use Rattle.lvm_facts.specs.passed.Names.{core_of, data_at}
 use Rattle.lvm_firsts.specs.Spans.{Spans}
 use Rattle.lvm_firsts.proofs.firsts.first_data.Given as goal
 

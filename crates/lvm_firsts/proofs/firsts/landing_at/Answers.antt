@@ -1,12 +1,12 @@
 use Rattle.std.proofs.Common.{◌≡◌, ℕ, Bool, true, false, Some, None, slice_get, refl, sym, ◌∙◌, ap}
 use Rattle.std.specs.Option.{option_map}
-use Rattle.lvm_facts.specs.handed.SessionEventEvent as event
-use Rattle.lvm_facts.specs.handed.Names.{Open, outcome_next, Core, IsGoing, core_of, facts_of, is_waiting, next_for}
+use Rattle.lvm_facts.specs.passed.SessionEventEvent as event
+use Rattle.lvm_facts.specs.passed.Names.{Open, outcome_next, Core, IsGoing, core_of, facts_of, is_waiting, next_for}
 use Rattle.lvm_firsts.specs.Might.{might_land, shows_usable}
-use Rattle.lvm_firsts.proofs.Might.{lands_not}
+use Rattle.lvm_firsts.proofs.EnabledLemmas.{lands_not}
 use Rattle.lvm_firsts.proofs.Nexts.{landed_waits, one}
 use Rattle.lvm_firsts.proofs.Places.{read_same, stands}
-use Rattle.lvm_firsts.proofs.Usable.{shown_usable}
+use Rattle.lvm_firsts.proofs.JudgingLemmas.{shown_usable}
 use Rattle.lvm_firsts.proofs.firsts.landing_at.Goals as goal
 
 pub returns-then-not-might_land : goal.returns-then-not-might_land

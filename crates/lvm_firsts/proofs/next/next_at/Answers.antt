@@ -1,5 +1,5 @@
 use Rattle.std.proofs.Common.{◌∙◌, sym, ap}
-use Rattle.lvm_facts.specs.handed.Names.{Open, core_of, next_for}
+use Rattle.lvm_facts.specs.passed.Names.{Open, core_of, next_for}
 use Rattle.lvm_firsts.proofs.Nexts.{queued}
 use Rattle.lvm_firsts.proofs.Places.{read_same, stands}
 use Rattle.lvm_firsts.proofs.next.next_at.Goals as goal

@@ -1,4 +1,4 @@
-use Rattle.lvm_facts.specs.handed.Names.{core_of}
+use Rattle.lvm_facts.specs.passed.Names.{core_of}
 use Rattle.lvm_firsts.proofs.Nexts.{one}
 use Rattle.lvm_firsts.proofs.Places.{stands}
 use Rattle.lvm_firsts.proofs.notes.note_at.Goals as goal

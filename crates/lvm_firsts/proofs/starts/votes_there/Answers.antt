@@ -1,5 +1,5 @@
 use Rattle.std.proofs.Common.{sym, ◌∙◌}
-use Rattle.lvm_firsts.proofs.Rest.{all_there}
+use Rattle.lvm_firsts.proofs.VotesLemmas.{all_there}
 use Rattle.lvm_firsts.proofs.starts.votes_there.Goals as goal
 
 pub returns-else-is_any_missing : goal.returns-else-is_any_missing

@@ -1,7 +1,7 @@
 use Rattle.std.proofs.Common.{◌≤◌, ◌<◌, ◌+◌, ◌^◌, ℕ, length, sym, subst, arith}
 use Rattle.lvm_flights.specs.Flights.{flights_of}
 use Rattle.lvm_flights.specs.Tickets.{IsLeastFree}
-use Rattle.lvm_flights.proofs.Queues.{all_by_ones, least_by_word, few_by_word}
+use Rattle.lvm_flights.proofs.TicketsLemmas.{all_by_ones, least_by_word, few_by_word}
 use Rattle.lvm_flights.proofs.queue.free_ticket.Goals as goal
 
 pub later_ticket-requires-clause-taken : goal.later_ticket-requires-clause-taken

@@ -1,5 +1,5 @@
 use Rattle.std.proofs.Common.{◌∙◌, sym}
-use Rattle.lvm_flights.proofs.Queues.{taken_all, fewer, taken_more, least_free}
+use Rattle.lvm_flights.proofs.TicketsLemmas.{taken_all, fewer, taken_more, least_free}
 use Rattle.lvm_flights.proofs.queue.later_ticket.Goals as goal
 
 pub loop-ticket-init : goal.loop-ticket-init

@@ -1,4 +1,4 @@
-use Rattle.lvm_flights.proofs.Queues.{TakenBelow, from_on}
+use Rattle.lvm_flights.proofs.TicketsLemmas.{TakenBelow, from_on}
 use Rattle.lvm_flights.proofs.queue.later_ticket.Given as goal
 
 abbrev pub invariant-loop-ticket : goal.invariant-loop-ticket

@@ -1,6 +1,6 @@
 use Rattle.std.proofs.Common.{◌≡◌, ◌∙◌, length, ap, arith, refl, ℕ}
 use Rattle.lvm_flights.specs.Flights.{delays_of}
-use Rattle.lvm_flights.proofs.Queues.{one_passed, all_lowered, lowered, length-delays}
+use Rattle.lvm_flights.proofs.TicketsLemmas.{one_passed, all_lowered, lowered, length-delays}
 use Rattle.lvm_flights.proofs.queue.pass_over.Goals as goal
 
 pub loop-flying-preserved : goal.loop-flying-preserved

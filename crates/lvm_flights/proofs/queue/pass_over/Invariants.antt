@@ -1,4 +1,4 @@
-use Rattle.lvm_flights.proofs.Queues.{PassedSoFar}
+use Rattle.lvm_flights.proofs.TicketsLemmas.{PassedSoFar}
 use Rattle.lvm_flights.proofs.queue.pass_over.Given as goal
 
 abbrev pub invariant-loop-flying : goal.invariant-loop-flying

@@ -2,7 +2,7 @@ use Rattle.std.proofs.Common.{◌∙◌, sym, ap}
 use Rattle.std.specs.List.{remove}
 use Rattle.lvm_flights.specs.Flights.{flight_of, flights_of, delays_of}
 use Rattle.lvm_flights.specs.declared.flying.Flying.{Flying}
-use Rattle.lvm_flights.proofs.Queues.{remove-map, none_removed, passed_none}
+use Rattle.lvm_flights.proofs.TicketsLemmas.{remove-map, none_removed, passed_none}
 use Rattle.lvm_flights.proofs.queue.take_flight.Goals as goal
 
 pub returns-else-delayed-clause-flights : goal.returns-else-delayed-clause-flights

@@ -2,7 +2,7 @@ use Rattle.std.proofs.Common.{◌∙◌, List, length, ap, arith}
 use Rattle.lvm_flights.specs.Flights.{passed}
 use Rattle.lvm_flights.specs.Flights.{flight_of, flights_of, delays_of}
 use Rattle.lvm_flights.specs.declared.flying.Flying.{Flying}
-use Rattle.lvm_flights.proofs.Queues.{written_over, remove-map}
+use Rattle.lvm_flights.proofs.TicketsLemmas.{written_over, remove-map}
 use Rattle.lvm_flights.proofs.queue.take_from_delayed.Goals as goal
 
 pub returns-clause-flights : goal.returns-clause-flights

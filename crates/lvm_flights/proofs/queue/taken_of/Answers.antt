@@ -1,6 +1,6 @@
 use Rattle.std.proofs.Common.{◌+◌, take, sym, subst}
 use Rattle.lvm_flights.specs.Tickets.{AreBitsOf}
-use Rattle.lvm_flights.proofs.Queues.{none_told, one_told, zeros_tell}
+use Rattle.lvm_flights.proofs.TicketsLemmas.{none_told, one_told, zeros_tell}
 use Rattle.lvm_flights.proofs.queue.taken_of.Goals as goal
 use Rattle.lvm_flights.proofs.queue.taken_of.Goals.{then-flying-lt64, else-flying-lt64}
 

@@ -2,9 +2,9 @@ use Rattle.std.proofs.Common.{◌≡◌, inl, inr, length, Some, ap, subst, arit
 use Rattle.std.specs.Prelude.{slice_get}
 use Rattle.std.proofs.lemmas.Bool.{cases_lt}
 use Rattle.lvm_survey.specs.declared.row.SurveyRow.{SurveyRow}
-use Rattle.lvm_survey.proofs.SurveyRows.{row_read}
+use Rattle.lvm_survey.proofs.SurveyedLemmas.SurveyRows.{row_read}
 use Rattle.lvm_group.specs.Judged.{IsTaken}
-use Rattle.lvm_group.proofs.Rows.{taken_shows, none_shown, same_row}
+use Rattle.lvm_group.proofs.JudgedLemmas.{taken_shows, none_shown, same_row}
 use Rattle.lvm_group.proofs.judge.has_group.Goals as goal
 
 pub returns-then-is_taken-clause-yes : goal.returns-then-is_taken-clause-yes

@@ -1,4 +1,4 @@
-use Rattle.lvm_group.proofs.Rows.{NoneTaken}
+use Rattle.lvm_group.proofs.JudgedLemmas.{NoneTaken}
 use Rattle.lvm_group.proofs.judge.has_group.Given as goal
 
 abbrev pub invariant-loop-row : goal.invariant-loop-row

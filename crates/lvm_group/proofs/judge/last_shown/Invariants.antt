@@ -1,4 +1,4 @@
-use Rattle.lvm_group.proofs.Rows.{IsLastBelow}
+use Rattle.lvm_group.proofs.JudgedLemmas.{IsLastBelow}
 use Rattle.lvm_group.proofs.judge.last_shown.Given as goal
 
 abbrev pub invariant-loop-row : goal.invariant-loop-row

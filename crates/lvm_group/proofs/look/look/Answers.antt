@@ -2,9 +2,9 @@ use Rattle.std.proofs.Common.{ℕ, ap, subst, ◌∙◌}
 use Rattle.std.proofs.lemmas.Result.{err_from_is_err_and}
 use Rattle.lvm_num.specs.Buffer.{Buffer}
 use Rattle.lvm_transfer.specs.Reading.{IsReadStuck}
-use Rattle.lvm_transfer.proofs.Following.{only_none}
+use Rattle.lvm_transfer.proofs.ReadingLemmas.Following.{only_none}
 use Rattle.lvm_group.specs.Steps.{HasOnlyRead}
-use Rattle.lvm_group.proofs.Seeing.{survey_of, lets_begin, refuses_found}
+use Rattle.lvm_group.proofs.ShownLemmas.{survey_of, lets_begin, refuses_found}
 use Rattle.lvm_group.proofs.look.look.Goals as goal
 
 pub returns-in_default-clause-only : goal.returns-in_default-clause-only

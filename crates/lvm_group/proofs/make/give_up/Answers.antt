@@ -1,7 +1,7 @@
 use Rattle.std.proofs.Common.{◌≡◌, ◌≤◌, length, take, sym, subst, arith}
 use Rattle.std.proofs.lemmas.List.{length-take-le}
 use Rattle.lvm_vol.specs.Log.{Log, spare_entries}
-use Rattle.lvm_group.proofs.Entries.{spare_given}
+use Rattle.lvm_group.proofs.LogLemmas.{spare_given}
 use Rattle.lvm_group.proofs.make.give_up.Goals as goal
 
 pub push-requires-clause-spare : goal.push-requires-clause-spare

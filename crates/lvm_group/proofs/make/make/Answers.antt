@@ -3,17 +3,17 @@ use Rattle.std.specs.Prelude.{IfOk, IfErr}
 use Rattle.std.proofs.lemmas.Result.{err_from_is_err_and}
 use Rattle.lvm_vol.specs.Log.{Log}
 use Rattle.lvm_steps.specs.Requests.{at}
-use Rattle.lvm_steps.proofs.Spans.{keeps_still}
-use Rattle.lvm_stamps.proofs.Clock.{all_is_behind_next}
-use Rattle.lvm_write.proofs.Transfers.{spends_none}
-use Rattle.lvm_group_plan.specs.handed.Names.{Cause, StartsHeld, Parts, first_core}
+use Rattle.lvm_steps.proofs.MomentsLemmas.Spans.{keeps_still}
+use Rattle.lvm_stamps.proofs.LawsLemmas.Clock.{all_is_behind_next}
+use Rattle.lvm_write.proofs.PartsLemmas.Transfers.{spends_none}
+use Rattle.lvm_group_plan.specs.passed.Names.{Cause, StartsHeld, Parts, first_core}
 use Rattle.lvm_group.specs.declared.make.Standing.{Standing}
 use Rattle.lvm_group_plan.specs.NewGroup.{NewGroup}
 use Rattle.lvm_group_plan.specs.Planned.{IsPlannedFor, RefusesPlan}
 use Rattle.lvm_group.specs.Made.{MkvgRefuses}
 use Rattle.lvm_group.specs.Steps.{asked_group, Stands}
-use Rattle.lvm_group.proofs.Composing.{refuses_plan}
-use Rattle.lvm_group.proofs.Midst.{made_then, refused_then, held_then, leaves_then}
+use Rattle.lvm_group.proofs.MadeLemmas.Composing.{refuses_plan}
+use Rattle.lvm_group.proofs.StepsLemmas.{made_then, refused_then, held_then, leaves_then}
 use Rattle.lvm_group.proofs.make.make.Goals as goal
 
 -- ---- before the disks are read

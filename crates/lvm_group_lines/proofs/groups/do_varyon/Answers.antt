@@ -6,9 +6,9 @@ use Rattle.lvm_disk_lines.specs.passed.HolderVariants as holder
 use Rattle.lvm_disk_lines.specs.passed.RefusalVariants as refusal
 use Rattle.lvm_disk_lines.proofs.passed.Stage.{asked_ends, ends_as, one_refused, asked_stays, between_as, fits_as}
 use Rattle.lvm_group_lines.proofs.Coming.{Left, dark_still, held, outcome_ends}
-use Rattle.lvm_group_lines.proofs.Lines.{all_serve, all_stand, brings, may_hold}
-use Rattle.lvm_group_lines.proofs.Varying.{came, itself_gives, serves, stands, stayed}
-use Rattle.lvm_group_lines.proofs.Quieting.{device_outcome}
+use Rattle.lvm_group_lines.proofs.GroupsLemmas.Lines.{all_serve, all_stand, brings, may_hold}
+use Rattle.lvm_group_lines.proofs.QuiesceGroupsLemmas.Varying.{came, itself_gives, serves, stands, stayed}
+use Rattle.lvm_group_lines.proofs.QuiesceGroupsLemmas.Quieting.{device_outcome}
 use Rattle.lvm_group_lines.proofs.groups.do_varyon.Goals as goal
 
 pub returns-in-Err-clause-ends : goal.returns-in-Err-clause-ends

@@ -3,7 +3,7 @@ use Rattle.std.specs.Prelude.{nat_le, unwrap_or}
 use Rattle.std.proofs.lemmas.Bool.Decides.{nat_tests}
 use Rattle.lvm_num.specs.Geometry.{data_start, partition_blocks}
 use Rattle.lvm_group_plan.specs.NewGroup.{sizes_in_order}
-use Rattle.lvm_group_plan.proofs.Searches.{found_at, found_none}
+use Rattle.lvm_group_plan.proofs.NewGroupLemmas.Searches.{found_at, found_none}
 use Rattle.lvm_group_plan.proofs.checks.least_size.Goals as goal
 
 is_within : (n m : ℕ) → n ≤ m → nat_le n m ≡ true

@@ -1,7 +1,7 @@
 use Rattle.std.proofs.Common.{max, get_or, ◌∙◌, sym}
 use Rattle.std.proofs.lemmas.List.Sums.{fold_more}
 use Rattle.lvm_group_plan.specs.NewGroup.{sectors_on}
-use Rattle.lvm_group_plan.proofs.Groups.{is_there, size_at}
+use Rattle.lvm_group_plan.proofs.NewGroupLemmas.Groups.{is_there, size_at}
 use Rattle.lvm_group_plan.proofs.checks.most_sectors.Goals as goal
 
 pub sectors-requires : goal.sectors-requires

@@ -5,9 +5,9 @@ use Rattle.lvm_num.specs.declared.status.Status.{Status}
 use Rattle.lvm_num.specs.Descriptor.{IsValid}
 use Rattle.lvm_num.specs.Disks.{Disks, has}
 use Rattle.lvm_num.specs.Status.{IsValidStatus}
-use Rattle.lvm_core.specs.handed.Names.{IsOneGroup}
+use Rattle.lvm_core.specs.passed.Names.{IsOneGroup}
 use Rattle.lvm_group_plan.specs.NewGroup.{among, clear_row, disks_in_order, descriptor_for, status_for}
-use Rattle.lvm_group_plan.proofs.Groups.{is_there, are_members, valid_group, valid_status, one_group, there_among}
+use Rattle.lvm_group_plan.proofs.NewGroupLemmas.Groups.{is_there, are_members, valid_group, valid_status, one_group, there_among}
 use Rattle.lvm_group_plan.proofs.plan.choice_of.Goals as goal
 
 -- the status of a set is that of the disks that are in it

@@ -3,7 +3,7 @@ use Rattle.std.specs.Prelude.{map, filter}
 use Rattle.lvm_num.specs.declared.status.StatusRow.{StatusRow}
 use Rattle.lvm_num.specs.Disks.{has}
 use Rattle.lvm_group_plan.specs.NewGroup.{clear_row}
-use Rattle.lvm_group_plan.proofs.Searches.{row_more, row_same, all_in_order}
+use Rattle.lvm_group_plan.proofs.NewGroupLemmas.Searches.{row_more, row_same, all_in_order}
 use Rattle.lvm_group_plan.proofs.plan.rows_of.Goals as goal
 use Rattle.lvm_group_plan.proofs.plan.rows_of.Goals.{then-has+in_ok-push, else-has}
 

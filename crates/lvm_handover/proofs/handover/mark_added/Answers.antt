@@ -1,7 +1,7 @@
 use Rattle.std.specs.Prelude.{slice_index_or}
 use Rattle.std.proofs.lemmas.List.{get_or_default}
 use Rattle.lvm_num.specs.declared.place.Pp.{Pp}
-use Rattle.lvm_handover.proofs.Marking.{markable_still, none_added, one_added}
+use Rattle.lvm_handover.proofs.ServingLemmas.Marking.{markable_still, none_added, one_added}
 use Rattle.lvm_handover.proofs.handover.mark_added.Goals as goal
 
 abbrev first : Pp

@@ -4,7 +4,7 @@ use Rattle.std.proofs.lemmas.List.{get_or_default}
 use Rattle.lvm_num.specs.declared.descriptor.PvRow.{PvRow}
 use Rattle.lvm_num.specs.declared.status.Status.{Status}
 use Rattle.lvm_handover.specs.Serving.{MarksMissing}
-use Rattle.lvm_handover.proofs.Marking.{none_more, one_missing}
+use Rattle.lvm_handover.proofs.ServingLemmas.Marking.{none_more, one_missing}
 use Rattle.lvm_handover.proofs.handover.mark_missing.Goals as goal
 use Rattle.lvm_handover.proofs.handover.mark_missing.Goals.{then-is_missing, else-is_missing}
 

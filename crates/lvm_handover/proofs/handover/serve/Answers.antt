@@ -5,7 +5,7 @@ use Rattle.lvm_session.specs.Fields.{core_of}
 use Rattle.lvm_session.specs.State.{Core, state}
 use Rattle.lvm_session.specs.Sound.{IsSound}
 use Rattle.lvm_handover.specs.Serving.{IsServed, MarksAdded, MarksMissing}
-use Rattle.lvm_handover.proofs.Marking.{served_with}
+use Rattle.lvm_handover.proofs.ServingLemmas.Marking.{served_with}
 use Rattle.lvm_handover.proofs.handover.serve.Goals as goal
 
 -- the session with the table that is left

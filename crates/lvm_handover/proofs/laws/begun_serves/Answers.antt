@@ -1,4 +1,4 @@
-use Rattle.lvm_handover.proofs.Beginning.{made_begins, varied_on_begins}
+use Rattle.lvm_handover.proofs.BeginningLemmas.{made_begins, varied_on_begins}
 use Rattle.lvm_handover.proofs.laws.begun_serves.Goals as goal
 
 pub returns : goal.returns

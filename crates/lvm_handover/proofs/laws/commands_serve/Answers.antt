@@ -1,4 +1,4 @@
-use Rattle.lvm_handover.proofs.Serving.{commands_serve}
+use Rattle.lvm_handover.proofs.ServingLemmas.Serving.{commands_serve}
 use Rattle.lvm_handover.proofs.laws.commands_serve.Goals as goal
 
 pub returns : goal.returns

@@ -1,4 +1,4 @@
-use Rattle.lvm_handover.proofs.Resting.{drained_rests}
+use Rattle.lvm_handover.proofs.SettlingLemmas.Resting.{drained_rests}
 use Rattle.lvm_handover.proofs.laws.drained_rests.Goals as goal
 
 pub returns : goal.returns

@@ -1,4 +1,4 @@
-use Rattle.lvm_handover.proofs.Volumes.{rmlv_serves}
+use Rattle.lvm_handover.proofs.ServingLemmas.Volumes.{rmlv_serves}
 use Rattle.lvm_handover.proofs.laws.rmlv_serves.Goals as goal
 
 pub returns : goal.returns

@@ -3,7 +3,7 @@ use Rattle.std.specs.Option.{option_copied, option_map}
 use Rattle.std.proofs.lemmas.Iterator.Adapters.{YieldsList-from_rev_slice}
 use Rattle.std.proofs.lemmas.Iterator.Search.{find_from_yields_List}
 use Rattle.lvm_hold.specs.declared.queue.Row.{Row}
-use Rattle.lvm_hold.proofs.Rows.{found_from_end}
+use Rattle.lvm_hold.proofs.OrderLemmas.{found_from_end}
 use Rattle.lvm_hold.proofs.queue.row_of.Goals as goal
 
 copied : (r : Option (Bor Row)) → option_copied r ≡ option_map (λ (row : Bor Row). row.now) r

@@ -1,4 +1,4 @@
-use Rattle.lvm_invariant.proofs.WholeCauses.{each_moment_caused, first_is_unasked}
+use Rattle.lvm_invariant.proofs.CauseLawsLemmas.WholeCauses.{each_moment_caused, first_is_unasked}
 use Rattle.lvm_invariant.proofs.causes.each_moment_is_caused.Goals as goal
 
 pub returns : goal.returns

@@ -1,4 +1,4 @@
-use Rattle.lvm_invariant.proofs.Wrong.{starts_unrecorded, note_lacks_entry, done_unsettled, cleared_unpassed, copy_is_skipped, committed_early, ended_uncommitted, two_votes}
+use Rattle.lvm_invariant.proofs.WrongLemmas.{starts_unrecorded, note_lacks_entry, done_unsettled, cleared_unpassed, copy_is_skipped, committed_early, ended_uncommitted, two_votes}
 use Rattle.lvm_invariant.proofs.laws.conditions_are_needed.Goals as goal
 
 pub returns : goal.returns

@@ -1,4 +1,4 @@
-use Rattle.lvm_invariant.proofs.First.{first_is_good, bringing_up_is_good}
+use Rattle.lvm_invariant.proofs.FirstLemmas.{first_is_good, bringing_up_is_good}
 use Rattle.lvm_invariant.proofs.laws.first_is_good.Goals as goal
 
 pub returns : goal.returns

@@ -1,4 +1,4 @@
-use Rattle.lvm_invariant.proofs.Finding.{quorum_finds as lemma_of}
+use Rattle.lvm_invariant.proofs.FoundLemmas.{quorum_finds as lemma_of}
 use Rattle.lvm_invariant.proofs.laws.quorum_finds.Goals as goal
 
 pub returns : goal.returns

@@ -1,4 +1,4 @@
-use Rattle.lvm_invariant.proofs.Each.{read_keeps as lemma_of}
+use Rattle.lvm_invariant.proofs.EventsLemmas.Each.{read_keeps as lemma_of}
 use Rattle.lvm_invariant.proofs.laws.read_goes_on.Goals as goal
 
 pub returns : goal.returns

@@ -1,5 +1,5 @@
-use Rattle.lvm_invariant.proofs.WorkedWrites.{each_mode_writes, records_go_out, write_ends}
-use Rattle.lvm_invariant.proofs.WorkedReads.{read_ends, copy_is_brought_up, disks_are_lost, cut_meets_write, earlier_is_taken}
+use Rattle.lvm_invariant.proofs.WorkedLemmas.Writes.{each_mode_writes, records_go_out, write_ends}
+use Rattle.lvm_invariant.proofs.WorkedLemmas.Reads.{read_ends, copy_is_brought_up, disks_are_lost, cut_meets_write, earlier_is_taken}
 use Rattle.lvm_invariant.proofs.laws.sessions_are_met.Goals as goal
 
 pub returns : goal.returns

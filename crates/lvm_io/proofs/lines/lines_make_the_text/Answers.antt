@@ -1,4 +1,4 @@
-use Rattle.lvm_io.proofs.Making.{lines_make}
+use Rattle.lvm_io.proofs.LinesLemmas.Making.{lines_make}
 use Rattle.lvm_io.proofs.lines.lines_make_the_text.Goals as goal
 
 pub returns : goal.returns

@@ -1,5 +1,5 @@
 use Rattle.std.proofs.Common.{◌∙◌}
-use Rattle.lvm_io.proofs.Texts.{text_goes_on}
+use Rattle.lvm_io.proofs.StreamLemmas.Texts.{text_goes_on}
 use Rattle.lvm_io.proofs.lines.write_all.Goals as goal
 
 pub loop-rest-preserved : goal.loop-rest-preserved

@@ -1,5 +1,5 @@
 use Rattle.std.proofs.Common.{◌≡◌, length}
-use Rattle.lvm_io.proofs.Texts.{TextSoFar}
+use Rattle.lvm_io.proofs.StreamLemmas.Texts.{TextSoFar}
 use Rattle.lvm_io.proofs.lines.write_all.Given as goal
 
 abbrev pub invariant-loop-rest : goal.invariant-loop-rest

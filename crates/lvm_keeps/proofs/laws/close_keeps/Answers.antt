@@ -1,4 +1,4 @@
-use Rattle.lvm_keeps.proofs.Close.{close_keeps}
+use Rattle.lvm_keeps.proofs.KeepsLemmas.Close.{close_keeps}
 use Rattle.lvm_keeps.proofs.laws.close_keeps.Goals as goal
 
 pub returns : goal.returns

@@ -1,4 +1,4 @@
-use Rattle.lvm_keeps.proofs.CopyRead.{copy_read_keeps}
+use Rattle.lvm_keeps.proofs.KeepsLemmas.CopyRead.{copy_read_keeps}
 use Rattle.lvm_keeps.proofs.laws.copy_read_keeps.Goals as goal
 
 pub returns : goal.returns

@@ -1,4 +1,4 @@
-use Rattle.lvm_keeps.proofs.Darkening.{cut_keeps}
+use Rattle.lvm_keeps.proofs.KeepsLemmas.Darkening.{cut_keeps}
 use Rattle.lvm_keeps.proofs.laws.cut_keeps.Goals as goal
 
 pub returns : goal.returns

@@ -1,4 +1,4 @@
-use Rattle.lvm_keeps.proofs.LandingFalls.{landing_falls}
+use Rattle.lvm_keeps.proofs.FallsLemmas.Landing.{landing_falls}
 use Rattle.lvm_keeps.proofs.laws.landing_falls.Goals as goal
 
 pub returns : goal.returns

@@ -1,4 +1,4 @@
-use Rattle.lvm_keeps.proofs.Off.{off_keeps}
+use Rattle.lvm_keeps.proofs.KeepsLemmas.Off.{off_keeps}
 use Rattle.lvm_keeps.proofs.laws.off_keeps.Goals as goal
 
 pub returns : goal.returns

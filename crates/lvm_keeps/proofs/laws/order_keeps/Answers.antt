@@ -1,4 +1,4 @@
-use Rattle.lvm_keeps.proofs.Orders.{order_keeps}
+use Rattle.lvm_keeps.proofs.KeepsLemmas.Orders.{order_keeps}
 use Rattle.lvm_keeps.proofs.laws.order_keeps.Goals as goal
 
 pub returns : goal.returns

@@ -1,4 +1,4 @@
-use Rattle.lvm_keeps.proofs.OverFalls.{over_leaves_nothing}
+use Rattle.lvm_keeps.proofs.FallsLemmas.Over.{over_leaves_nothing}
 use Rattle.lvm_keeps.proofs.laws.over_leaves_nothing.Goals as goal
 
 pub returns : goal.returns

@@ -1,4 +1,4 @@
-use Rattle.lvm_keeps.proofs.PinFalls.{pin_falls}
+use Rattle.lvm_keeps.proofs.FallsLemmas.Pin.{pin_falls}
 use Rattle.lvm_keeps.proofs.laws.pin_falls.Goals as goal
 
 pub returns : goal.returns

@@ -1,4 +1,4 @@
-use Rattle.lvm_keeps.proofs.Pin.{pin_keeps}
+use Rattle.lvm_keeps.proofs.KeepsLemmas.Pin.{pin_keeps}
 use Rattle.lvm_keeps.proofs.laws.pin_keeps.Goals as goal
 
 pub returns : goal.returns

@@ -1,4 +1,4 @@
-use Rattle.lvm_keeps_events.proofs.CopyQuit.{copy_quit_keeps}
+use Rattle.lvm_keeps_events.proofs.EndsLemmas.CopyQuit.{copy_quit_keeps}
 use Rattle.lvm_keeps_events.proofs.ends_laws.copy_quit_keeps.Goals as goal
 
 pub returns : goal.returns

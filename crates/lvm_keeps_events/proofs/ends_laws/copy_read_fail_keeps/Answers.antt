@@ -1,4 +1,4 @@
-use Rattle.lvm_keeps_events.proofs.CopyReadFail.{copy_read_fail_keeps}
+use Rattle.lvm_keeps_events.proofs.EndsLemmas.CopyReadFail.{copy_read_fail_keeps}
 use Rattle.lvm_keeps_events.proofs.ends_laws.copy_read_fail_keeps.Goals as goal
 
 pub returns : goal.returns

@@ -1,4 +1,4 @@
-use Rattle.lvm_keeps_events.proofs.Counts.{counts_keep}
+use Rattle.lvm_keeps_events.proofs.EndsLemmas.Counts.{counts_keep}
 use Rattle.lvm_keeps_events.proofs.ends_laws.counts_keep.Goals as goal
 
 pub returns : goal.returns

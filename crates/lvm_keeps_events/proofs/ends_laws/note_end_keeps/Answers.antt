@@ -1,4 +1,4 @@
-use Rattle.lvm_keeps_events.proofs.NoteEnd.{note_end_keeps}
+use Rattle.lvm_keeps_events.proofs.EndsLemmas.NoteEnd.{note_end_keeps}
 use Rattle.lvm_keeps_events.proofs.ends_laws.note_end_keeps.Goals as goal
 
 pub returns : goal.returns

@@ -1,4 +1,4 @@
-use Rattle.lvm_keeps_events.proofs.Events.{events_keep}
+use Rattle.lvm_keeps_events.proofs.EventsLemmas.{events_keep}
 use Rattle.lvm_keeps_events.proofs.laws.events_keep.Goals as goal
 
 pub returns : goal.returns

@@ -1,4 +1,4 @@
-use Rattle.lvm_keeps_events.proofs.Marks.{copy_ends_keep_requests}
+use Rattle.lvm_keeps_events.proofs.MarksLemmas.{copy_ends_keep_requests}
 use Rattle.lvm_keeps_events.proofs.marks_laws.copy_ends_keep_requests.Goals as goal
 
 pub returns : goal.returns

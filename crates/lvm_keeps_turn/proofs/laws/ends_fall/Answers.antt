@@ -1,4 +1,4 @@
-use Rattle.lvm_keeps_turn.proofs.Ends.{ends_fall}
+use Rattle.lvm_keeps_turn.proofs.KeepsLemmas.{ends_fall}
 use Rattle.lvm_keeps_turn.proofs.laws.ends_fall.Goals as goal
 
 pub returns : goal.returns

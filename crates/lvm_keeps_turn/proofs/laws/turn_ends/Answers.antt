@@ -1,4 +1,4 @@
-use Rattle.lvm_keeps_turn.proofs.Turning.{turn_ends}
+use Rattle.lvm_keeps_turn.proofs.TurningLemmas.{turn_ends}
 use Rattle.lvm_keeps_turn.proofs.laws.turn_ends.Goals as goal
 
 pub returns : goal.returns

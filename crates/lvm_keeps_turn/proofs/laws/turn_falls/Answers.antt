@@ -1,4 +1,4 @@
-use Rattle.lvm_keeps_turn.proofs.Turning.{turn_falls}
+use Rattle.lvm_keeps_turn.proofs.TurningLemmas.{turn_falls}
 use Rattle.lvm_keeps_turn.proofs.laws.turn_falls.Goals as goal
 
 pub returns : goal.returns

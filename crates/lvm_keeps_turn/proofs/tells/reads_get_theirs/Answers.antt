@@ -1,4 +1,4 @@
-use Rattle.lvm_keeps_turn.proofs.Reading.{turn_gets}
+use Rattle.lvm_keeps_turn.proofs.ReadingLemmas.{turn_gets}
 use Rattle.lvm_keeps_turn.proofs.tells.reads_get_theirs.Goals as goal
 
 pub returns : goal.returns

@@ -1,4 +1,4 @@
-use Rattle.lvm_keeps_turn.proofs.Telling.{turn_tells}
+use Rattle.lvm_keeps_turn.proofs.TellingLemmas.Telling.{turn_tells}
 use Rattle.lvm_keeps_turn.proofs.tells.turns_tell.Goals as goal
 
 pub returns : goal.returns

@@ -1,4 +1,4 @@
-use Rattle.lvm_kept.proofs.Blank.{blank_is_kept}
+use Rattle.lvm_kept.proofs.ChangesLemmas.Blank.{blank_is_kept}
 use Rattle.lvm_kept.proofs.laws.blank_is_kept.Goals as goal
 
 pub returns : goal.returns

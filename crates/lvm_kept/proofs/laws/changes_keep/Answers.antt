@@ -1,6 +1,6 @@
-use Rattle.lvm_kept.proofs.Changing.{data_keeps, notes_keep}
-use Rattle.lvm_kept.proofs.Restating.{statuses_keep}
-use Rattle.lvm_kept.proofs.Restamping.{restamping_keeps}
+use Rattle.lvm_kept.proofs.ChangesLemmas.Changing.{data_keeps, notes_keep}
+use Rattle.lvm_kept.proofs.ChangesLemmas.Restating.{statuses_keep}
+use Rattle.lvm_kept.proofs.ChangesLemmas.Restamping.{restamping_keeps}
 use Rattle.lvm_kept.proofs.laws.changes_keep.Goals as goal
 
 pub returns : goal.returns

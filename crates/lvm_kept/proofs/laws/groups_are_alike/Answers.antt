@@ -1,4 +1,4 @@
-use Rattle.lvm_kept.proofs.Alike.{found_by_all, one_is_only, one_shown_is_one, alike_stays}
+use Rattle.lvm_kept.proofs.CommittedLemmas.Alike.{found_by_all, one_is_only, one_shown_is_one, alike_stays}
 use Rattle.lvm_kept.proofs.laws.groups_are_alike.Goals as goal
 
 pub returns : goal.returns

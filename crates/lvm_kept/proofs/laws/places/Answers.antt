@@ -1,4 +1,4 @@
-use Rattle.lvm_kept.proofs.Contained.{data_writes, record_writes, blocks_are_sectors}
+use Rattle.lvm_kept.proofs.PlacesLemmas.{data_writes, record_writes, blocks_are_sectors}
 use Rattle.lvm_kept.proofs.laws.places.Goals as goal
 
 pub returns : goal.returns

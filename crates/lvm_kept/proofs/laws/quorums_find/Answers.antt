@@ -1,4 +1,4 @@
-use Rattle.lvm_kept.proofs.Finding.{finding_reads, images_within, meets_writers, quorums_meet, finds_status, finds_descriptor}
+use Rattle.lvm_kept.proofs.CommittedLemmas.Finding.{finding_reads, images_within, meets_writers, quorums_meet, finds_status, finds_descriptor}
 use Rattle.lvm_kept.proofs.laws.quorums_find.Goals as goal
 
 pub returns : goal.returns

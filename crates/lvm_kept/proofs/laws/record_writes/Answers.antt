@@ -1,4 +1,4 @@
-use Rattle.lvm_kept.proofs.Records.{newest_is, newest_stays, whole_is_new}
+use Rattle.lvm_kept.proofs.TornLemmas.Records.{newest_is, newest_stays, whole_is_new}
 use Rattle.lvm_kept.proofs.laws.record_writes.Goals as goal
 
 pub returns : goal.returns

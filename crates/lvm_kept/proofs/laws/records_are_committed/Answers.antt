@@ -1,4 +1,4 @@
-use Rattle.lvm_kept.proofs.Finding.{next_is_written, next_is_committed}
+use Rattle.lvm_kept.proofs.CommittedLemmas.Finding.{next_is_written, next_is_committed}
 use Rattle.lvm_kept.proofs.laws.records_are_committed.Goals as goal
 
 pub returns : goal.returns

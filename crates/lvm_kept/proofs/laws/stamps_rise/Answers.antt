@@ -1,5 +1,5 @@
-use Rattle.lvm_kept.proofs.Records.{earlier_stays}
-use Rattle.lvm_kept.proofs.Standing.{zeros_before}
+use Rattle.lvm_kept.proofs.TornLemmas.Records.{earlier_stays}
+use Rattle.lvm_kept.proofs.TornLemmas.Standing.{zeros_before}
 use Rattle.lvm_kept.proofs.laws.stamps_rise.Goals as goal
 
 pub returns : goal.returns

@@ -1,4 +1,4 @@
-use Rattle.lvm_kept.proofs.Worked.{three, away, stale, named, half_made}
+use Rattle.lvm_kept.proofs.ExamplesLemmas.{three, away, stale, named, half_made}
 use Rattle.lvm_kept.proofs.laws.worked_groups.Goals as goal
 
 pub returns : goal.returns

@@ -1,5 +1,5 @@
-use Rattle.lvm_kept.proofs.Records.{descriptor_shows, status_shows}
-use Rattle.lvm_kept.proofs.Standing.{note_shows}
+use Rattle.lvm_kept.proofs.TornLemmas.Records.{descriptor_shows, status_shows}
+use Rattle.lvm_kept.proofs.TornLemmas.Standing.{note_shows}
 use Rattle.lvm_kept.proofs.laws.writes_show.Goals as goal
 
 pub returns : goal.returns

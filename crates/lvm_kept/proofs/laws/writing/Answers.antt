@@ -1,6 +1,6 @@
 use Rattle.std.proofs.Common.{inr}
 use Rattle.lvm_kept.specs.Torn.{IsOfRecord, IsOtherOrRecord, brings}
-use Rattle.lvm_kept.proofs.Planned.{plan_begins, step_keeps, plan_widens}
+use Rattle.lvm_kept.proofs.PlansLemmas.{plan_begins, step_keeps, plan_widens}
 use Rattle.lvm_kept.proofs.laws.writing.Goals as goal
 
 pub returns : goal.returns

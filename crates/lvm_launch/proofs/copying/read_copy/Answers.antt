@@ -6,7 +6,7 @@ use Rattle.lvm_session.specs.Fields.{core_of}
 use Rattle.lvm_session.specs.State.{state}
 use Rattle.lvm_session.specs.Dark.{all_dark}
 use Rattle.lvm_over.specs.Hands.{MayEnd}
-use Rattle.lvm_launch.proofs.Hands.{is_taken, may_end, pool_same}
+use Rattle.lvm_launch.proofs.OutLemmas.{is_taken, may_end, pool_same}
 use Rattle.lvm_launch.proofs.Starting.{dark_after, next_is, read_starts}
 use Rattle.lvm_launch.proofs.copying.read_copy.Goals as goal
 

@@ -1,5 +1,5 @@
-use Rattle.lvm_line.proofs.Completing.{lines_complete}
-use Rattle.lvm_line.proofs.Worked.{nothing_may_fail}
+use Rattle.lvm_line.proofs.CompleteLemmas.Completing.{lines_complete}
+use Rattle.lvm_line.proofs.CompleteLemmas.Worked.{nothing_may_fail}
 use Rattle.lvm_line.proofs.laws.lines_are_complete.Goals as goal
 
 pub returns-clause-complete : goal.returns-clause-complete

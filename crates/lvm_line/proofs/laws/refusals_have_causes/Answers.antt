@@ -1,4 +1,4 @@
-use Rattle.lvm_line.proofs.Causing.{has_cause}
+use Rattle.lvm_line.proofs.CausesLemmas.Causing.{has_cause}
 use Rattle.lvm_line.proofs.laws.refusals_have_causes.Goals as goal
 
 pub returns : goal.returns

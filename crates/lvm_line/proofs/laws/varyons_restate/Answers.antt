@@ -1,4 +1,4 @@
-use Rattle.lvm_line.proofs.Causing.{varyon_restates, nothing_written}
+use Rattle.lvm_line.proofs.CausesLemmas.Causing.{varyon_restates, nothing_written}
 use Rattle.lvm_line.proofs.laws.varyons_restate.Goals as goal
 
 pub returns-clause-on : goal.returns-clause-on

@@ -2,13 +2,13 @@ use Rattle.std.proofs.Common.{◌∙◌, arith, ap, subst, sym, refl, None, Some
 use Rattle.lvm_parse.specs.declared.command.Command.{Command}
 use Rattle.lvm_operands.specs.declared.rest.Misfit.{Misfit}
 use Rattle.lvm_parse.specs.Grammar.{line_of}
-use Rattle.lvm_parse.proofs.Fields.{line_is_within}
+use Rattle.lvm_parse.proofs.WithinLemmas.{line_is_within}
 use Rattle.lvm_operands.specs.Reading.{misfit}
 use Rattle.lvm_copy_lines.specs.passed.Stage.{Reply, shelf_in}
 use Rattle.lvm_copy_lines.specs.passed.ReplyVariants as reply
 use Rattle.lvm_line.specs.Lines.{CommandInPlace, IsLeftToDo}
-use Rattle.lvm_line.proofs.Answering.{mkvg_left}
-use Rattle.lvm_line.proofs.Staying.{done_in_place, still_in_place}
+use Rattle.lvm_line.proofs.LinesLemmas.Answering.{mkvg_left}
+use Rattle.lvm_line.proofs.LinesLemmas.Staying.{done_in_place, still_in_place}
 use Rattle.lvm_line.proofs.line.answer_line.Goals as goal
 
 pub serve-requires-clause-within : goal.serve-requires-clause-within

@@ -5,8 +5,8 @@ use Rattle.lvm_copy_lines.specs.passed.Stage.{most_refusals, shelf_in, history_i
 use Rattle.lvm_copy_lines.specs.passed.RefusalVariants as refusal
 use Rattle.lvm_copy_lines.specs.passed.ReplyVariants as reply
 use Rattle.lvm_copy_lines.proofs.passed.Stage.{one_refused, asked_stays}
-use Rattle.lvm_parse.proofs.Fields.{line_is_within}
-use Rattle.lvm_line.proofs.Lining.{line_read, line_still, line_unread, asked_once, asked_so, stage_named}
+use Rattle.lvm_parse.proofs.WithinLemmas.{line_is_within}
+use Rattle.lvm_line.proofs.LinesLemmas.Lining.{line_read, line_still, line_unread, asked_once, asked_so, stage_named}
 use Rattle.lvm_line.proofs.line.do_line.Goals as goal
 
 pub do_command-requires-clause-within : goal.do_command-requires-clause-within

@@ -2,7 +2,7 @@ use Rattle.std.proofs.Common.{sym, subst}
 use Rattle.lvm_copy_lines.specs.passed.Stage.{Reply}
 use Rattle.lvm_line.specs.Lines.{DoesInPlace, IsFinished}
 use Rattle.lvm_line.specs.declared.line.InPlace.{InPlace}
-use Rattle.lvm_line.proofs.Staying.{finished_as, finished_from}
+use Rattle.lvm_line.proofs.LinesLemmas.Staying.{finished_as, finished_from}
 use Rattle.lvm_line.proofs.line.finish_line.Goals as goal
 
 pub returns-in-Done : goal.returns-in-Done

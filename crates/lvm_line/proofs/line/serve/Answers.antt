@@ -3,9 +3,9 @@ use Rattle.lvm_parse.specs.declared.command.Command.{Command}
 use Rattle.lvm_parse.specs.declared.command.Command.TheVariants as command
 use Rattle.lvm_copy_lines.specs.passed.Stage.{CommandEnds, session_in}
 use Rattle.lvm_line.specs.Lines.{CommandDoes, IsOrder, role_of}
-use Rattle.lvm_line.proofs.Answering.{left_over}
-use Rattle.lvm_line.proofs.Lining.{heard_disk, heard_group, heard_volume, one_disk, one_group, one_volume}
-use Rattle.lvm_line.proofs.Staying.{lists_in_place, placed_as}
+use Rattle.lvm_line.proofs.LinesLemmas.Answering.{left_over}
+use Rattle.lvm_line.proofs.LinesLemmas.Lining.{heard_disk, heard_group, heard_volume, one_disk, one_group, one_volume}
+use Rattle.lvm_line.proofs.LinesLemmas.Staying.{lists_in_place, placed_as}
 use Rattle.lvm_line.proofs.line.serve.Goals.{in-Lsvg, in-Lslv, in-Lspv, in-Rd, in-Wr, in-Post, in_default}
 use Rattle.lvm_line.proofs.line.serve.Goals as goal
 

@@ -1,5 +1,5 @@
 use Rattle.std.proofs.Common.{arith, sym}
-use Rattle.lvm_literals.proofs.Numbers.{no_overflow}
+use Rattle.lvm_literals.proofs.WordsLemmas.{no_overflow}
 use Rattle.lvm_literals.proofs.words.hex_word.Goals as goal
 
 pub returns-in_default-checked_mul : goal.returns-in_default-checked_mul

@@ -3,7 +3,7 @@ use Rattle.std.proofs.lemmas.Bool.Decides.{nat_tests}
 use Rattle.std.proofs.lemmas.List.{take_all, drop_all}
 use Rattle.std.specs.List.{list_all}
 use Rattle.lvm_literals.specs.Words.{is_digit, decimal_from}
-use Rattle.lvm_literals.proofs.Numbers.{past_limit, is_number}
+use Rattle.lvm_literals.proofs.WordsLemmas.{past_limit, is_number}
 use Rattle.lvm_literals.proofs.words.number_of.Goals as goal
 
 pub returns-in_default : goal.returns-in_default

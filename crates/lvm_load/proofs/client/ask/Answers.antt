@@ -3,7 +3,7 @@ use Rattle.std.specs.Prelude.{Err, Ok}
 use Rattle.lvm_draws.specs.Draws.{draw_at}
 use Rattle.lvm_load.specs.Requests.{word_of}
 use Rattle.lvm_load.specs.Weaving.{fresh_client}
-use Rattle.lvm_load.proofs.Weaving.{client_there, submits_drawn}
+use Rattle.lvm_load.proofs.RequestsLemmas.{client_there, submits_drawn}
 use Rattle.lvm_load.proofs.client.ask.Goals as goal
 
 pub returns-in-Ok-clause-asks : goal.returns-in-Ok-clause-asks

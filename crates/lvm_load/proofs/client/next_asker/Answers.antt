@@ -1,6 +1,6 @@
 use Rattle.std.proofs.Common.{refl, sym, ◌∙◌, arith}
-use Rattle.lvm_load.proofs.Others.{not_its, others_on}
-use Rattle.lvm_load.proofs.Weaving.{open_there}
+use Rattle.lvm_load.proofs.WaitingLemmas.Others.{not_its, others_on}
+use Rattle.lvm_load.proofs.RequestsLemmas.{open_there}
 use Rattle.lvm_load.proofs.client.next_asker.Goals as goal
 
 pub loop-k-init : goal.loop-k-init

@@ -1,7 +1,7 @@
 use Rattle.std.proofs.Common.{get_or, refl, ap}
 use Rattle.std.proofs.lemmas.List.{set-get_or}
 use Rattle.lvm_load.specs.Weaving.{NoneOpen, Takes, Waits, fresh_client}
-use Rattle.lvm_load.proofs.Weaving.{client_there, none_of, open_there}
+use Rattle.lvm_load.proofs.RequestsLemmas.{client_there, none_of, open_there}
 use Rattle.lvm_load.proofs.client.take.Goals as goal
 
 pub returns-in-NotYet-clause-takes : goal.returns-in-NotYet-clause-takes

@@ -4,12 +4,12 @@ use Rattle.std.proofs.lemmas.Bool.{ltb-true}
 use Rattle.lvm_vol.specs.Log.{Log}
 use Rattle.lvm_session.specs.Left.{left_of}
 use Rattle.lvm_keeps_turn.specs.Turning.{is_last}
-use Rattle.lvm_driver.specs.Answers.{state_of}
-use Rattle.lvm_driver.proofs.handed.Names.{runs_both}
+use Rattle.lvm_session.specs.State.{state_of}
+use Rattle.lvm_driver.proofs.passed.Names.{runs_both}
 use Rattle.lvm_load.specs.Waiting.{OthersWait}
 use Rattle.lvm_load.specs.Weaving.{TakesWhere, idle_after, might_have_landed, turns_left}
-use Rattle.lvm_load.proofs.Going.{landed_leaves, shrinks, turn_leaves}
-use Rattle.lvm_load.proofs.Others.{others_wait}
+use Rattle.lvm_load.proofs.WeavingLemmas.{landed_leaves, shrinks, turn_leaves}
+use Rattle.lvm_load.proofs.WaitingLemmas.Others.{others_wait}
 use Rattle.lvm_load.proofs.client.turn.Goals as goal
 
 only_one : (a b : Bool) → (a || b) ≡ true → b ≡ false → a ≡ true

@@ -1,10 +1,10 @@
 use Rattle.std.proofs.Common.{◌≡◌, ◌+◌, Bool, true, false, ℕ, Option, refl, sym, ◌∙◌, subst, arith}
-use Rattle.lvm_driver.specs.Answers.{state_of}
-use Rattle.lvm_driver.proofs.handed.Names.{runs_both}
+use Rattle.lvm_session.specs.State.{state_of}
+use Rattle.lvm_driver.proofs.passed.Names.{runs_both}
 use Rattle.lvm_load.specs.Weaving.{Draws, NamesNext, NoneDrawn, OneDrawn, Unheard, weaving}
-use Rattle.lvm_load.proofs.Going.{and_then, at_first}
-use Rattle.lvm_load.proofs.Waiting.{asks_wait, named_free}
-use Rattle.lvm_load.proofs.Weaving.{none_of}
+use Rattle.lvm_load.proofs.WeavingLemmas.{and_then, at_first}
+use Rattle.lvm_load.proofs.WaitingLemmas.Waiting.{asks_wait, named_free}
+use Rattle.lvm_load.proofs.RequestsLemmas.{none_of}
 use Rattle.lvm_load.proofs.workload.draw_all.Goals as goal
 
 pub loop-drawn-init : goal.loop-drawn-init

@@ -1,8 +1,8 @@
 use Rattle.std.proofs.Common.{◌≤◌, ◌-◌, true, vec_capacity}
-use Rattle.lvm_driver.specs.Answers.{state_of}
+use Rattle.lvm_session.specs.State.{state_of}
 use Rattle.lvm_load.specs.Waiting.{AreWaiting}
 use Rattle.lvm_load.specs.Weaving.{Draws, weaving}
-use Rattle.lvm_load.proofs.Going.{Runs}
+use Rattle.lvm_load.proofs.WeavingLemmas.{Runs}
 use Rattle.lvm_load.proofs.workload.draw_all.Given as goal
 
 abbrev pub invariant-loop-drawn : goal.invariant-loop-drawn

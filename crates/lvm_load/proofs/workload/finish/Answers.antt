@@ -1,9 +1,9 @@
 use Rattle.std.proofs.Common.{sym, ◌∙◌}
 use Rattle.std.proofs.lemmas.Bool.{lt-leb}
-use Rattle.lvm_driver.specs.Answers.{state_of}
+use Rattle.lvm_session.specs.State.{state_of}
 use Rattle.lvm_load.specs.Weaving.{NoTurn, OneTurn}
-use Rattle.lvm_load.proofs.Going.{and_then, at_first, turn_bound}
-use Rattle.lvm_load.proofs.Waiting.{turn_waits}
+use Rattle.lvm_load.proofs.WeavingLemmas.{and_then, at_first, turn_bound}
+use Rattle.lvm_load.proofs.WaitingLemmas.Waiting.{turn_waits}
 use Rattle.lvm_load.proofs.workload.finish.Goals as goal
 
 pub loop-driver-init : goal.loop-driver-init

@@ -2,11 +2,11 @@ use Rattle.std.proofs.Common.{◌≡◌, ◌%◌, ℕ, Some, None, length, ap, s
 use Rattle.std.proofs.lemmas.Bool.{lt-leb}
 use Rattle.std.proofs.lemmas.Nat.{mod_below}
 use Rattle.rand_pcg.specs.Lcg.{Lcg}
-use Rattle.lvm_driver.specs.Answers.{state_of}
+use Rattle.lvm_session.specs.State.{state_of}
 use Rattle.lvm_load.specs.Weaving.{NoWord, OneWord, open_of, weaving}
-use Rattle.lvm_load.proofs.Going.{and_then, at_first, turn_bound}
-use Rattle.lvm_load.proofs.Waiting.{turn_waits}
-use Rattle.lvm_load.proofs.Weaving.{none_is, open_there, some_of}
+use Rattle.lvm_load.proofs.WeavingLemmas.{and_then, at_first, turn_bound}
+use Rattle.lvm_load.proofs.WaitingLemmas.Waiting.{turn_waits}
+use Rattle.lvm_load.proofs.RequestsLemmas.{none_is, open_there, some_of}
 use Rattle.lvm_load.proofs.workload.next_client.Goals as goal
 
 pub loop-idle-init : goal.loop-idle-init

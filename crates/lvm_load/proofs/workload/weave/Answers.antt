@@ -1,15 +1,15 @@
 use Rattle.std.proofs.Common.{ℕ, ◌≤◌, List, length, sym, ◌∙◌, ap, ap₂, subst, arith}
 use Rattle.std.proofs.lemmas.List.{length-replicate, take-replicate}
 use Rattle.rand_pcg.specs.Lcg.{Lcg}
-use Rattle.lvm_driver.specs.Answers.{state_of}
-use Rattle.lvm_driver.proofs.handed.Names.{runs_both}
+use Rattle.lvm_session.specs.State.{state_of}
+use Rattle.lvm_driver.proofs.passed.Names.{runs_both}
 use Rattle.lvm_load.specs.declared.client.Client.{Client}
 use Rattle.lvm_vol.specs.Log.{Log}
 use Rattle.lvm_load.specs.Totals.{entries_since, totals_of}
 use Rattle.lvm_load.specs.Weaving.{DrawsAll, Weaving, fresh_client, weaving}
 use Rattle.lvm_load.specs.Waiting.{AreWaiting}
-use Rattle.lvm_load.proofs.Causes.{has_causes}
-use Rattle.lvm_load.proofs.Waiting.{fresh_wait}
+use Rattle.lvm_load.proofs.EndsLemmas.{has_causes}
+use Rattle.lvm_load.proofs.WaitingLemmas.Waiting.{fresh_wait}
 use Rattle.lvm_load.proofs.workload.weave.Goals as goal
 
 pub draw_all-requires-clause-clients : goal.draw_all-requires-clause-clients

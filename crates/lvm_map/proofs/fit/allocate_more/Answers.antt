@@ -4,7 +4,7 @@ use Rattle.lvm_num.specs.declared.place.Pp.{Pp}
 use Rattle.lvm_num.specs.Descriptor.{partitions_used}
 use Rattle.lvm_num.specs.Disks.{has}
 use Rattle.lvm_map.specs.FirstFit.{is_among, IsFault}
-use Rattle.lvm_map.proofs.PlaceLemmas.{volume_is, volume_used}
+use Rattle.lvm_map.proofs.PlacesLemmas.{volume_is, volume_used}
 use Rattle.lvm_map.proofs.fit.allocate_more.Goals as goal
 
 pub fit-requires-clause-used : goal.fit-requires-clause-used

@@ -6,8 +6,8 @@ use Rattle.lvm_num.specs.Descriptor.{partitions_used}
 use Rattle.lvm_num.specs.Disks.{has}
 use Rattle.lvm_map.specs.FirstFit.{Asked, IsFirstFit}
 use Rattle.lvm_map.specs.Room.{room_of, TakesNext}
-use Rattle.lvm_map.proofs.Fitting.{next_is_some, next_is_none, fits-more}
-use Rattle.lvm_map.proofs.Members.{few_members, few_each, free_is}
+use Rattle.lvm_map.proofs.FirstFitLemmas.Fitting.{next_is_some, next_is_none, fits-more}
+use Rattle.lvm_map.proofs.RoomLemmas.Members.{few_members, few_each, free_is}
 use Rattle.lvm_map.proofs.fit.fit.Goals as goal
 
 pub free-free-requires-clause-members : goal.free-free-requires-clause-members

@@ -1,4 +1,4 @@
-use Rattle.lvm_map.proofs.Validity.{new_is_valid, more_are_valid, copies_stay}
+use Rattle.lvm_map.proofs.FirstFitLemmas.Validity.{new_is_valid, more_are_valid, copies_stay}
 use Rattle.lvm_map.proofs.laws.allocations_are_valid.Goals as goal
 
 pub returns-clause-new : goal.returns-clause-new

@@ -1,4 +1,4 @@
-use Rattle.lvm_map.proofs.OneAnswer.{map_is_one, no_place_no_map}
+use Rattle.lvm_map.proofs.FirstFitLemmas.OneAnswer.{map_is_one, no_place_no_map}
 use Rattle.lvm_map.proofs.laws.first_fit_is_one.Goals as goal
 
 pub returns-clause-map : goal.returns-clause-map

@@ -1,4 +1,4 @@
-use Rattle.lvm_map.proofs.NewPlaces.{new_place}
+use Rattle.lvm_map.proofs.LawsLemmas.NewPlaces.{new_place}
 use Rattle.lvm_map.proofs.laws.new_places_are_free.Goals as goal
 
 pub returns : goal.returns

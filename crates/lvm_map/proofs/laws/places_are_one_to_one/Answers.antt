@@ -1,4 +1,4 @@
-use Rattle.lvm_map.proofs.OneToOne.{is_data, is_same}
+use Rattle.lvm_map.proofs.LawsLemmas.OneToOne.{is_data, is_same}
 use Rattle.lvm_map.proofs.laws.places_are_one_to_one.Goals as goal
 
 pub returns-clause-differ : goal.returns-clause-differ

@@ -1,7 +1,7 @@
 use Rattle.std.proofs.Common.{sym, ap, arith}
 use Rattle.lvm_num.specs.declared.place.Pp.{Pp}
 use Rattle.lvm_map.specs.Places.{copy_at}
-use Rattle.lvm_map.proofs.PlaceLemmas.{copy_there, no_copy, no_partition}
+use Rattle.lvm_map.proofs.PlacesLemmas.{copy_there, no_copy, no_partition}
 use Rattle.lvm_map.proofs.places.copy_at.Goals as goal
 use Rattle.lvm_map.proofs.places.copy_at.Goals.{then-copy-eq0-via-then-copy-eq0, then-copy-eq0-via-else-copy-eq0+then-copy-row, then-copy-eq0-via-else-copy-eq0+else-copy-row+then-lp-from}
 

@@ -2,7 +2,7 @@ use Rattle.std.proofs.Common.{◌≡◌, ◌/◌, Some, None, refl, sym, ap, ◌
 use Rattle.std.proofs.lemmas.Bool.{false≢true}
 use Rattle.lvm_num.specs.Geometry.{partition_of}
 use Rattle.lvm_map.specs.Places.{copy_at}
-use Rattle.lvm_map.proofs.PlaceLemmas.{volume_is, laid_out, block_is, no_block}
+use Rattle.lvm_map.proofs.PlacesLemmas.{volume_is, laid_out, block_is, no_block}
 use Rattle.lvm_map.proofs.places.place.Goals as goal
 
 pub copy_at-requires : goal.copy_at-requires

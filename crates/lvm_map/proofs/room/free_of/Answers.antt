@@ -2,7 +2,7 @@ use Rattle.std.proofs.Common.{◌≡◌, cond, not, [], ◌∷◌, ◌++◌, app
 use Rattle.lvm_num.specs.declared.place.Pp.{Pp}
 use Rattle.lvm_num.specs.Bits.{has_bit}
 use Rattle.lvm_num.specs.Marks.{spot}
-use Rattle.lvm_map.proofs.UsedMarks.{filter-next}
+use Rattle.lvm_map.proofs.FirstFitLemmas.UsedMarks.{filter-next}
 use Rattle.lvm_map.proofs.room.free_of.Goals as goal
 use Rattle.lvm_map.proofs.room.free_of.Goals.{then-not-has_bit+in_ok-push_back, else-not-has_bit}
 

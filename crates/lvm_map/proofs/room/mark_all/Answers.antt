@@ -2,7 +2,7 @@ use Rattle.std.proofs.Common.{◌||◌, ap, ◌∙◌, arith}
 use Rattle.std.specs.Prelude.{◌==◌}
 use Rattle.lvm_num.specs.declared.place.Pp.{Pp}
 use Rattle.lvm_num.specs.Bits.{has_bit}
-use Rattle.lvm_num.proofs.MarksLemmas.{marked-more}
+use Rattle.lvm_num.proofs.MarksLemmas.Marks.{marked-more}
 use Rattle.lvm_map.proofs.room.mark_all.Goals as goal
 
 abbrev no_pp : Pp

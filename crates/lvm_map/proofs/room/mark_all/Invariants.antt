@@ -1,5 +1,5 @@
 use Rattle.std.proofs.Common.{take}
-use Rattle.lvm_num.proofs.MarksLemmas.{Marked}
+use Rattle.lvm_num.proofs.MarksLemmas.Marks.{Marked}
 use Rattle.lvm_map.proofs.room.mark_all.Given as goal
 
 abbrev pub invariant-loop-pp : goal.invariant-loop-pp

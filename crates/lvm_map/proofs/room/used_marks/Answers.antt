@@ -8,9 +8,9 @@ use Rattle.lvm_num.specs.Bits.{has_bit}
 use Rattle.lvm_num.specs.Descriptor.{partitions_in}
 use Rattle.lvm_num.specs.Marks.{spot}
 use Rattle.lvm_num.proofs.BitsLemmas.{has-none}
-use Rattle.lvm_num.proofs.MarksLemmas.{marked-map}
+use Rattle.lvm_num.proofs.MarksLemmas.Marks.{marked-map}
 use Rattle.lvm_map.specs.Room.{IsBounded}
-use Rattle.lvm_map.proofs.UsedMarks.{map_bounded}
+use Rattle.lvm_map.proofs.FirstFitLemmas.UsedMarks.{map_bounded}
 use Rattle.lvm_map.proofs.room.used_marks.Goals as goal
 
 pub loop-row-init : goal.loop-row-init

@@ -7,7 +7,7 @@ use Rattle.lvm_session.specs.Judging.{pps_of}
 use Rattle.lvm_session.specs.Marks.{WantsStale, is_among}
 use Rattle.lvm_marks.specs.Due.{due_among}
 use Rattle.lvm_marks.proofs.Places.{read_same}
-use Rattle.lvm_marks.proofs.Sures.{due_is}
+use Rattle.lvm_marks.proofs.DueLemmas.{due_is}
 use Rattle.lvm_marks.proofs.due.mark_due.Goals as goal
 
 pub returns-clause-marks : goal.returns-clause-marks

@@ -1,4 +1,4 @@
-use Rattle.lvm_marks.proofs.Marking.{all_marked, others_marked, sound_after, markable_more}
+use Rattle.lvm_marks.proofs.MarksLemmas.{all_marked, others_marked, sound_after, markable_more}
 use Rattle.lvm_marks.proofs.wanted.mark_others.Goals as goal
 
 pub returns-in-None : goal.returns-in-None

@@ -2,8 +2,8 @@ use Rattle.std.proofs.Common.{sym, ◌∙◌, ap}
 use Rattle.lvm_num.specs.declared.status.Status.{Status}
 use Rattle.lvm_num.specs.declared.place.Pp.{Pp}
 use Rattle.lvm_num.specs.Status.{calls_stale}
-use Rattle.lvm_stale.specs.Table.{is_pp}
-use Rattle.lvm_marks.proofs.Marking.{already, same_pp}
+use Rattle.lvm_num.specs.Descriptor.{is_pp}
+use Rattle.lvm_marks.proofs.MarksLemmas.{already, same_pp}
 use Rattle.lvm_marks.proofs.wanted.want_stale.Goals as goal
 
 pub returns-else-not-is_stale : goal.returns-else-not-is_stale

@@ -1,6 +1,6 @@
 use Rattle.std.proofs.Common.{◌+◌, ◌<◌, vec_capacity, arith}
 use Rattle.lvm_flights.specs.Flights.{writes, flight_of, flights_of}
-use Rattle.lvm_media.proofs.GivingUp.{headed, lies_next, few_more, one_cut}
+use Rattle.lvm_media.proofs.FlightsLemmas.{headed, lies_next, few_more, one_cut}
 use Rattle.lvm_media.proofs.cutting.cut_flights.Goals as goal
 
 pub tear_flight-requires-clause-lies : goal.tear_flight-requires-clause-lies

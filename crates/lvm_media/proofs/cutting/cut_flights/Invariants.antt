@@ -1,6 +1,6 @@
 use Rattle.std.proofs.Common.{length, vec_capacity}
 use Rattle.lvm_flights.specs.Flights.{flights_of}
-use Rattle.lvm_media.proofs.GivingUp.{CutSoFar}
+use Rattle.lvm_media.proofs.FlightsLemmas.{CutSoFar}
 use Rattle.lvm_media.proofs.cutting.cut_flights.Given as goal
 
 abbrev pub invariant-loop-flights : goal.invariant-loop-flights

@@ -1,8 +1,8 @@
 use Rattle.std.proofs.Common.{◌≡◌, ◌/◌, ◌%◌, ◌<◌, arith, sym, ◌∙◌, ap, subst, refl, length, slice_set, slice_index_or, [], length-set}
 use Rattle.lvm_media.specs.Pieces.{joined}
-use Rattle.lvm_media.proofs.Laying.{disk_at, sizes-set}
-use Rattle.lvm_media.proofs.Putting.{set_cut}
-use Rattle.lvm_media.proofs.Pieces.{LiesIn, lies_in}
+use Rattle.lvm_media.proofs.MediaLemmas.Laying.{disk_at, sizes-set}
+use Rattle.lvm_media.proofs.PiecesLemmas.Putting.{set_cut}
+use Rattle.lvm_media.proofs.PiecesLemmas.Pieces.{LiesIn, lies_in}
 use Rattle.lvm_media.proofs.disk.put_sector.Goals as goal
 
 pub index_mut-requires : goal.index_mut-requires

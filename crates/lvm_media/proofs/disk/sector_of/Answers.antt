@@ -1,7 +1,7 @@
 use Rattle.std.proofs.Common.{◌/◌, ◌%◌, ◌<◌, arith, sym, ◌∙◌, ap, subst, refl, length, slice_index_or, []}
 use Rattle.lvm_media.specs.Pieces.{joined}
-use Rattle.lvm_media.proofs.Laying.{disk_at}
-use Rattle.lvm_media.proofs.Pieces.{LiesIn, lies_in}
+use Rattle.lvm_media.proofs.MediaLemmas.Laying.{disk_at}
+use Rattle.lvm_media.proofs.PiecesLemmas.Pieces.{LiesIn, lies_in}
 use Rattle.lvm_media.proofs.disk.sector_of.Goals as goal
 
 pub index-requires : goal.index-requires

@@ -1,5 +1,5 @@
 use Rattle.lvm_media.specs.Media.{sectors_in}
-use Rattle.lvm_media.proofs.MadeSoFar.{MadeSoFar}
+use Rattle.lvm_media.proofs.MediaLemmas.MadeSoFar.{MadeSoFar}
 use Rattle.lvm_media.proofs.making.image_disks.Given as goal
 
 abbrev pub invariant-loop-image : goal.invariant-loop-image

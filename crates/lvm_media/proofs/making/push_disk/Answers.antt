@@ -2,7 +2,7 @@ use Rattle.std.proofs.Common.{List, sym, subst}
 use Rattle.lvm_num.specs.Buffer.{Sector}
 use Rattle.lvm_disk.specs.Device.{AreSectors}
 use Rattle.lvm_media.specs.Media.{media_of, sizes_of}
-use Rattle.lvm_media.proofs.MadeSoFar.{sectors_more}
+use Rattle.lvm_media.proofs.MediaLemmas.MadeSoFar.{sectors_more}
 use Rattle.lvm_media.proofs.making.push_disk.Goals as goal
 
 pub returns-clause-sectors : goal.returns-clause-sectors

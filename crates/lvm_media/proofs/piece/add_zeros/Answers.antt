@@ -1,5 +1,5 @@
 use Rattle.std.proofs.Common.{vec_capacity}
-use Rattle.lvm_media.proofs.Putting.{one_added}
+use Rattle.lvm_media.proofs.PiecesLemmas.Putting.{one_added}
 use Rattle.lvm_media.proofs.piece.add_zeros.Goals as goal
 
 pub loop-preserved : goal.loop-preserved

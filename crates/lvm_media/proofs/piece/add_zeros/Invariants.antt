@@ -1,5 +1,5 @@
 use Rattle.std.proofs.Common.{vec_capacity}
-use Rattle.lvm_media.proofs.Putting.{AddedSoFar}
+use Rattle.lvm_media.proofs.PiecesLemmas.Putting.{AddedSoFar}
 use Rattle.lvm_media.proofs.piece.add_zeros.Given as goal
 
 abbrev pub invariant-loop : goal.invariant-loop

@@ -1,5 +1,5 @@
 use Rattle.std.proofs.Common.{arith, ◌∙◌}
-use Rattle.lvm_media.proofs.Pieces.{pushed}
+use Rattle.lvm_media.proofs.PiecesLemmas.Pieces.{pushed}
 use Rattle.lvm_media.proofs.piece.keep.Goals as goal
 
 pub returns-in-Ok-clause-items : goal.returns-in-Ok-clause-items

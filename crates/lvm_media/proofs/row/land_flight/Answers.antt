@@ -1,4 +1,4 @@
-use Rattle.lvm_media.proofs.Laying.{keeps-set}
+use Rattle.lvm_media.proofs.MediaLemmas.Laying.{keeps-set}
 use Rattle.lvm_media.proofs.row.land_flight.Goals as goal
 
 pub returns-clause-disks : goal.returns-clause-disks

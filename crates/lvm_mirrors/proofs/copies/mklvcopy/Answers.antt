@@ -2,16 +2,16 @@ use Rattle.std.proofs.Common.{List, Err, sym, subst}
 use Rattle.std.proofs.lemmas.Result.{err_from_is_err_and}
 use Rattle.lvm_num.specs.declared.place.Pp.{Pp}
 use Rattle.lvm_num.specs.declared.descriptor.Descriptor.{Descriptor}
-use Rattle.lvm_copy_plan.specs.handed.Names.{CommitFault, state_of, IsSettled, GroupFault}
+use Rattle.lvm_copy_plan.specs.passed.Names.{CommitFault, state_of, IsSettled, GroupFault}
 use Rattle.lvm_session.specs.State.{State}
 use Rattle.lvm_volumes.specs.Endings.{StillHeld, KeepsFresh}
-use Rattle.lvm_volumes.proofs.Answering.{always_on, on_fault}
-use Rattle.lvm_volumes.proofs.Fresh.{keeps_none}
-use Rattle.lvm_volumes.proofs.Holding.{still_none}
+use Rattle.lvm_volumes.proofs.VolumesLemmas.{always_on}
+use Rattle.lvm_volumes.proofs.EndingsLemmas.Fresh.{keeps_none}
+use Rattle.lvm_volumes.proofs.EndingsLemmas.Holding.{still_none}
 use Rattle.lvm_volumes.proofs.Leaving.{leaves_none}
 use Rattle.lvm_copy_plan.specs.PlannedCopies.{ArePlanned}
 use Rattle.lvm_mirrors.specs.Mirrors.{to_add, AreAdded}
-use Rattle.lvm_mirrors.proofs.Answering.{refused_more, broke_so, added_leaves, adding_fails, added_given}
+use Rattle.lvm_mirrors.proofs.MirrorsLemmas.Answering.{refused_more, broke_so, added_leaves, adding_fails, added_given}
 use Rattle.lvm_mirrors.proofs.copies.mklvcopy.Goals as goal
 
 pub returns-in_err-more : goal.returns-in_err-more
@@ -50,9 +50,9 @@ returns-in_err-add g c =
     let e = err_from_is_err_and c.from_residual-in_err-add.result c.from_residual-in_err-add.ensures.1 in
     rw (e.1, e.2) (record {
       gives = adding_fails lv copies added next a planned p b why ends;
-      settled = λ takes. on_fault (List Pp) why (IsSettled b.core) (broke_so (IsSettled b.core) a.core.history p a b why ends);
-      held = on_fault (List Pp) why (StillHeld a b) c.in_err-add.ensures.held;
-      fresh = on_fault (List Pp) why (KeepsFresh a b) c.in_err-add.ensures.fresh;
+      settled = λ takes. broke_so (IsSettled b.core) a.core.history p a b why ends;
+      held = c.in_err-add.ensures.held;
+      fresh = c.in_err-add.ensures.fresh;
       leaves = added_leaves lv copies added next a planned p c.add.new.patience.left b c.add.ensures.leaves;
     })
 

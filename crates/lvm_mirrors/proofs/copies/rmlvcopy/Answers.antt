@@ -1,19 +1,19 @@
 use Rattle.std.proofs.Common.{Err}
 use Rattle.std.proofs.lemmas.Result.{err_from_is_err_and}
 use Rattle.lvm_num.specs.declared.descriptor.Descriptor.{Descriptor}
-use Rattle.lvm_copy_plan.specs.handed.Names.{CommitFault, state_of, IsSettled, HasCommitted, GroupFault}
+use Rattle.lvm_copy_plan.specs.passed.Names.{CommitFault, state_of, IsSettled, HasCommitted, GroupFault}
 use Rattle.lvm_session.specs.State.{State}
 use Rattle.lvm_volumes.specs.Endings.{StillHeld, KeepsFresh}
-use Rattle.lvm_volumes.proofs.Answering.{always_on, on_fault}
-use Rattle.lvm_volumes.proofs.Breaking.{broken, stopped}
-use Rattle.lvm_volumes.proofs.Entering.{has_numbers}
-use Rattle.lvm_volumes.proofs.Fresh.{keeps_none}
-use Rattle.lvm_volumes.proofs.Holding.{still_none}
+use Rattle.lvm_volumes.proofs.VolumesLemmas.{always_on}
+use Rattle.lvm_volumes.proofs.StagesLemmas.Breaking.{broken, stopped}
+use Rattle.lvm_volumes.proofs.StagesLemmas.Entering.{has_numbers}
+use Rattle.lvm_volumes.proofs.EndingsLemmas.Fresh.{keeps_none}
+use Rattle.lvm_volumes.proofs.EndingsLemmas.Holding.{still_none}
 use Rattle.lvm_volumes.proofs.Leaving.{leaves_none}
 use Rattle.lvm_copy_plan.specs.PlannedCopies.{IsWithFewer}
 use Rattle.lvm_mirrors.specs.Mirrors.{to_take}
-use Rattle.lvm_mirrors.proofs.Answering.{refused_fewer, taking_fails}
-use Rattle.lvm_mirrors.proofs.Taking.{take_alike, take_leaves, take_still, take_keeps, taken}
+use Rattle.lvm_mirrors.proofs.MirrorsLemmas.Answering.{refused_fewer, taking_fails}
+use Rattle.lvm_mirrors.proofs.MirrorsLemmas.Taking.{take_alike, take_leaves, take_still, take_keeps, taken}
 use Rattle.lvm_mirrors.proofs.copies.rmlvcopy.Goals as goal
 
 pub returns-in_err-fewer : goal.returns-in_err-fewer
@@ -54,9 +54,9 @@ returns-in_err-commit g c =
     let e = err_from_is_err_and c.from_residual-in_err-commit.result c.from_residual-in_err-commit.ensures.1 in
     rw (e.1, e.2) (record {
       gives = taking_fails lv copies next a plan p b why (broken (HasCommitted next a b) p a b settled why ends);
-      settled = λ takes. on_fault (Unit {0}) why (IsSettled b.core) (stopped (HasCommitted next a b) (IsSettled b.core) p a b why ends);
-      held = on_fault (Unit {0}) why (StillHeld a b) (stopped (HasCommitted next a b) (StillHeld a b) p a b why ends);
-      fresh = on_fault (Unit {0}) why (KeepsFresh a b) (stopped (HasCommitted next a b) (KeepsFresh a b) p a b why ends);
+      settled = λ takes. stopped (HasCommitted next a b) (IsSettled b.core) p a b why ends;
+      held = stopped (HasCommitted next a b) (StillHeld a b) p a b why ends;
+      fresh = stopped (HasCommitted next a b) (KeepsFresh a b) p a b why ends;
       leaves = take_leaves lv copies next a plan settled p c.commit.new.patience.left b c.commit.ensures.leaves;
     })
 

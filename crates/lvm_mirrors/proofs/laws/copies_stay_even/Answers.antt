@@ -1,4 +1,4 @@
-use Rattle.lvm_mirrors.proofs.Even.{more_are_even, first_are_even}
+use Rattle.lvm_mirrors.proofs.LawsLemmas.{more_are_even, first_are_even}
 use Rattle.lvm_mirrors.proofs.laws.copies_stay_even.Goals as goal
 
 pub returns : goal.returns

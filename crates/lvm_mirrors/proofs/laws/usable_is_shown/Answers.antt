@@ -1,4 +1,4 @@
-use Rattle.lvm_mirrors.proofs.Even as even
+use Rattle.lvm_mirrors.proofs.LawsLemmas as even
 use Rattle.lvm_mirrors.proofs.laws.usable_is_shown.Goals as goal
 
 pub returns : goal.returns

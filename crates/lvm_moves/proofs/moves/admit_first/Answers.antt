@@ -6,7 +6,7 @@ use Rattle.lvm_session.specs.declared.open.Open.{Open}
 use Rattle.lvm_session.specs.Fields.{core_of}
 use Rattle.lvm_session.specs.Judging.{next_for}
 use Rattle.lvm_session.specs.State.{state}
-use Rattle.lvm_moves.proofs.Found.{admitted_there, next_admission, no_admission}
+use Rattle.lvm_moves.proofs.MovingLemmas.{admitted_there, next_admission, no_admission}
 use Rattle.lvm_moves.proofs.moves.admit_first.Goals as goal
 
 pub is_quiet-quiet-requires : goal.is_quiet-quiet-requires

@@ -7,7 +7,7 @@ use Rattle.lvm_session.specs.Fields.{core_of}
 use Rattle.lvm_session.specs.Judging.{next_for}
 use Rattle.lvm_session.specs.State.{state}
 use Rattle.lvm_session.specs.Worked.{faultless}
-use Rattle.lvm_moves.proofs.Found.{due_landing, landed_there, no_landing}
+use Rattle.lvm_moves.proofs.MovingLemmas.{due_landing, landed_there, no_landing}
 use Rattle.lvm_moves.proofs.moves.land_first.Goals as goal
 
 pub holds_pin-pinned-requires : goal.holds_pin-pinned-requires

@@ -6,7 +6,7 @@ use Rattle.lvm_moves.specs.Pinning.{PinGives}
 use Rattle.lvm_session.specs.Sound.{IsGoing}
 use Rattle.lvm_admit.specs.Choosing.{MayChoose}
 use Rattle.lvm_moves.specs.Moving.{FirstGives}
-use Rattle.lvm_moves.proofs.Found.{admit_gives, land_gives, pin_gives}
+use Rattle.lvm_moves.proofs.MovingLemmas.{admit_gives, land_gives, pin_gives}
 use Rattle.lvm_moves.proofs.moves.move_first.Goals as goal
 
 pub returns-then-land_first-clause-gives : goal.returns-then-land_first-clause-gives

@@ -3,7 +3,7 @@ use Rattle.lvm_session.specs.Fields.{core_of}
 use Rattle.lvm_session.specs.Sound.{IsGoing}
 use Rattle.lvm_session.specs.State.{state}
 use Rattle.lvm_session.specs.Worked.{faultless}
-use Rattle.lvm_moves.proofs.Pinned.{as_long, first_pins, is_place, none_left, none_pins, rooms_on}
+use Rattle.lvm_moves.proofs.PinningLemmas.{as_long, first_pins, is_place, none_left, none_pins, rooms_on}
 use Rattle.lvm_moves.proofs.pins.pin_first.Goals as goal
 
 pub pin_at-requires-clause-going : goal.pin_at-requires-clause-going

@@ -6,7 +6,7 @@ use Rattle.lvm_session.specs.declared.open.Open.{Open}
 use Rattle.lvm_session.specs.Fields.{core_of}
 use Rattle.lvm_firsts.proofs.Nexts.{one}
 use Rattle.lvm_firsts.proofs.Places.{read_same, stands}
-use Rattle.lvm_moves.proofs.Pinned.{numbered, pins_so, stays_so, may_not}
+use Rattle.lvm_moves.proofs.PinningLemmas.{numbered, pins_so, stays_so, may_not}
 use Rattle.lvm_moves.proofs.pins.pin_group.Goals as goal
 
 pub pin-requires-clause-volume : goal.pin-requires-clause-volume

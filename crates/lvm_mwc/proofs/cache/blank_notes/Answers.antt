@@ -4,7 +4,7 @@ use Rattle.lvm_num.specs.declared.record.NoteEntry.{NoteEntry}
 use Rattle.lvm_num.specs.Disks.{has}
 use Rattle.std.proofs.lemmas.List.Elements.{All-push}
 use Rattle.lvm_mwc.specs.declared.notes.DiskNotes.{DiskNotes}
-use Rattle.lvm_mwc.proofs.NotesLemmas.{one_more, none_more, new_disks}
+use Rattle.lvm_mwc.proofs.CacheLemmas.{one_more, none_more, new_disks}
 use Rattle.lvm_mwc.proofs.cache.blank_notes.Goals as goal
 use Rattle.lvm_mwc.proofs.cache.blank_notes.Goals.{then-has+in_ok-push, else-has}
 

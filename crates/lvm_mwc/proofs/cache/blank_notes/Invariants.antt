@@ -2,7 +2,7 @@ use Rattle.std.proofs.Common.{◌≡◌, ◌<◌, [], ℕ, IsTrue}
 use Rattle.std.specs.List.{All}
 use Rattle.lvm_num.specs.Disks.{has}
 use Rattle.lvm_mwc.specs.declared.notes.DiskNotes.{DiskNotes}
-use Rattle.lvm_mwc.proofs.NotesLemmas.{AreFirst}
+use Rattle.lvm_mwc.proofs.CacheLemmas.{AreFirst}
 use Rattle.lvm_mwc.proofs.cache.blank_notes.Given as goal
 
 abbrev pub invariant-loop-disk : goal.invariant-loop-disk

@@ -3,7 +3,7 @@ use Rattle.std.proofs.lemmas.Bool.{eqb-true, eqb-false}
 use Rattle.std.specs.List.{position, remove}
 use Rattle.lvm_mwc.specs.Entries.{is_entry, is_unpinned}
 use Rattle.lvm_mwc.proofs.FirstsLemmas.{looked_for}
-use Rattle.lvm_mwc.proofs.EntriesLemmas.{few_left, room_own, room_free, room_put_out, room_none}
+use Rattle.lvm_mwc.proofs.EntriesLemmas.Entries.{few_left, room_own, room_free, room_put_out, room_none}
 use Rattle.lvm_mwc.proofs.entries.make_room.Goals as goal
 
 pub returns-in-Some : goal.returns-in-Some

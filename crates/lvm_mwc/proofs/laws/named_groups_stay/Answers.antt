@@ -1,4 +1,4 @@
-use Rattle.lvm_mwc.proofs.NamedLemmas.{named_after_all}
+use Rattle.lvm_mwc.proofs.NotesLemmas.{named_after_all}
 use Rattle.lvm_mwc.proofs.laws.named_groups_stay.Goals as goal
 
 pub returns : goal.returns

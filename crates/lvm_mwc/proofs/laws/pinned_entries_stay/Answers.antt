@@ -1,4 +1,4 @@
-use Rattle.lvm_mwc.proofs.PinsLemmas.{pins_after_all, stays}
+use Rattle.lvm_mwc.proofs.EntriesLemmas.Pins.{pins_after_all, stays}
 use Rattle.lvm_mwc.proofs.laws.pinned_entries_stay.Goals as goal
 
 pub returns-clause-counted : goal.returns-clause-counted

@@ -1,4 +1,4 @@
-use Rattle.lvm_mwc.proofs.NamedLemmas.{named_stands, named_flies, ended_stands, failed_leaves}
+use Rattle.lvm_mwc.proofs.NotesLemmas.{named_stands, named_flies, ended_stands, failed_leaves}
 use Rattle.lvm_mwc.proofs.laws.sectors_step_by_step.Goals as goal
 
 pub returns-clause-named : goal.returns-clause-named

@@ -1,5 +1,5 @@
 use Rattle.std.proofs.Common.{◌<◌, ◌≤◌, length, arith}
-use Rattle.lvm_mwc.proofs.NotesLemmas.{common_few}
+use Rattle.lvm_mwc.proofs.CacheLemmas.{common_few}
 use Rattle.lvm_mwc.proofs.notes.common.Goals as goal
 
 pub push-requires : goal.push-requires

@@ -2,7 +2,7 @@ use Rattle.std.proofs.Common.{◌==◌, ◌&&◌, ◌∙◌, rules, tests}
 use Rattle.std.proofs.lemmas.Iterator.Adapters.{YieldsList-from_rev_slice}
 use Rattle.std.proofs.lemmas.Iterator.Search.{any_from_yields_List}
 use Rattle.lvm_num.specs.declared.record.NoteEntry.{NoteEntry}
-use Rattle.lvm_mwc.proofs.NotesLemmas.{any_from_end}
+use Rattle.lvm_mwc.proofs.CacheLemmas.{any_from_end}
 use Rattle.lvm_mwc.proofs.notes.names_group.Goals as goal
 
 pub returns : goal.returns

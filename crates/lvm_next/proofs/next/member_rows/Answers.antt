@@ -9,7 +9,7 @@ use Rattle.lvm_num.specs.Disks.{has}
 use Rattle.lvm_num.specs.Status.{calls_stale}
 use Rattle.lvm_next.specs.Rows.{AreMemberRows}
 use Rattle.lvm_next.proofs.Counting.{count_below, count_more, count_zero, count_any, chosen, counted, same_count}
-use Rattle.lvm_next.proofs.RowLemmas.{no_rows, rows_same, rows_more}
+use Rattle.lvm_next.proofs.RowsLemmas.{no_rows, rows_same, rows_more}
 use Rattle.lvm_next.proofs.next.member_rows.Goals as goal
 use Rattle.lvm_next.proofs.next.member_rows.Goals.{then-has_member+else-is_err, else-has_member}
 

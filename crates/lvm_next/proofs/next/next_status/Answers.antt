@@ -5,10 +5,10 @@ use Rattle.lvm_num.specs.declared.status.StatusRow.{StatusRow}
 use Rattle.lvm_num.specs.declared.status.Status.{Status}
 use Rattle.lvm_num.specs.Descriptor.{partitions_in}
 use Rattle.lvm_num.specs.Disks.{has}
-use Rattle.lvm_stale.specs.Marking.{IsLeftIn, Marks, IsMarkable}
+use Rattle.lvm_stale.specs.Marking.{IsLeftIn, Marks, HasMark}
 use Rattle.lvm_next.specs.Next.{IsNextStatus}
 use Rattle.lvm_next.specs.Rows.{AreMemberRows}
-use Rattle.lvm_next.proofs.Building.{first_valid, all_markable, next_is, passive_as, ok_more}
+use Rattle.lvm_next.proofs.NextLemmas.{first_valid, all_markable, next_is, passive_as, ok_more}
 use Rattle.lvm_next.proofs.next.next_status.Goals as goal
 
 pub from_status-requires : goal.from_status-requires
@@ -22,8 +22,8 @@ from_status-requires c =
 
 pub mark_volumes-requires-clause-markable : goal.mark_volumes-requires-clause-markable
 mark_volumes-requires-clause-markable c =
-    subst (λ (s : Status). All (IsMarkable s) (partitions_in c.as_slice-3.result.now)) (sym c.in_ok-table.ensures)
-    (subst (λ (rows : List LvRow). All (IsMarkable (record { id = c.args.group.now.id; big = c.args.group.now.big; dirty = c.in_ok-dirty.dirty; rows = c.new.result })) (partitions_in rows)) (sym c.as_slice-3.ensures)
+    subst (λ (s : Status). All (HasMark s) (partitions_in c.as_slice-3.result.now)) (sym c.in_ok-table.ensures)
+    (subst (λ (rows : List LvRow). All (HasMark (record { id = c.args.group.now.id; big = c.args.group.now.big; dirty = c.in_ok-dirty.dirty; rows = c.new.result })) (partitions_in rows)) (sym c.as_slice-3.ensures)
     (all_markable c.args.group.now c.requires.descriptor (has c.args.answering) c.args.was.now c.requires.status
     (record { id = c.args.group.now.id; big = c.args.group.now.big; dirty = c.in_ok-dirty.dirty; rows = c.new.result })
     (subst (AreMemberRows c.args.group.now (has c.args.answering) c.args.was.now 128) (sym c.new.ensures) c.in_ok-rows.ensures.rows)

@@ -1,7 +1,7 @@
 use Rattle.std.proofs.Common.{◌≡◌, ◌&&◌, ◌==◌, take, filter}
 use Rattle.std.specs.List.{list_any}
 use Rattle.lvm_num.specs.declared.descriptor.LvRow.{LvRow}
-use Rattle.lvm_next.specs.Next.{is_passive}
+use Rattle.lvm_num.specs.Modes.{is_passive}
 use Rattle.lvm_next.proofs.next.passive_numbers.Given as goal
 
 abbrev pub invariant-loop-number : goal.invariant-loop-number

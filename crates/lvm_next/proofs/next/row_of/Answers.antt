@@ -3,7 +3,7 @@ use Rattle.std.specs.Prelude.{Some, None, find}
 use Rattle.lvm_num.specs.declared.status.StatusRow.{StatusRow}
 use Rattle.lvm_num.specs.Bits.{has_bit}
 use Rattle.lvm_num.specs.Status.{IsStatusRow}
-use Rattle.lvm_next.proofs.RowLemmas.{found_one, row_says, no_row_says}
+use Rattle.lvm_next.proofs.RowsLemmas.{found_one, row_says, no_row_says}
 use Rattle.lvm_next.proofs.next.row_of.Goals as goal
 
 pub returns-in-Some-clause-size : goal.returns-in-Some-clause-size

@@ -1,4 +1,4 @@
-use Rattle.lvm_num.proofs.Torn.{torn_is, whole_is_read}
+use Rattle.lvm_num.proofs.TornLemmas.Torn.{torn_is, whole_is_read}
 use Rattle.lvm_num.proofs.laws.torn_writes.Goals as goal
 
 pub returns : goal.returns

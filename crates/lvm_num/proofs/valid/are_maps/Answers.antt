@@ -7,7 +7,7 @@ use Rattle.lvm_num.specs.declared.descriptor.LvRow.{LvRow}
 use Rattle.lvm_num.specs.Bits.{has_bit}
 use Rattle.lvm_num.specs.Descriptor.{IsLaidOut}
 use Rattle.lvm_num.specs.Marks.{AreFree, spot}
-use Rattle.lvm_num.proofs.MarksLemmas.{counted-more, marked-map, counted_is_free}
+use Rattle.lvm_num.proofs.MarksLemmas.Marks.{counted-more, marked-map, counted_is_free}
 use Rattle.lvm_num.proofs.valid.are_maps.Goals as goal
 use Rattle.lvm_num.proofs.valid.are_maps.Goals.{then-not-is_laid_out-via-then-not-is_laid_out, then-not-is_laid_out-via-else-not-is_laid_out+then-not-mark_all}
 

@@ -1,7 +1,7 @@
 use Rattle.std.proofs.Common.{take}
 use Rattle.lvm_num.specs.Descriptor.{partitions_in}
 use Rattle.lvm_num.specs.Marks.{AreCounted}
-use Rattle.lvm_num.proofs.MarksLemmas.{Marked}
+use Rattle.lvm_num.proofs.MarksLemmas.Marks.{Marked}
 use Rattle.lvm_num.proofs.valid.are_maps.Given as goal
 
 abbrev pub invariant-loop-row : goal.invariant-loop-row

@@ -3,7 +3,7 @@ use Rattle.std.proofs.lemmas.Bool.{false≢true}
 use Rattle.std.proofs.lemmas.List.{get_or_default}
 use Rattle.lvm_num.specs.declared.descriptor.LvRow.{LvRow}
 use Rattle.lvm_num.specs.Descriptor.{IsVolume}
-use Rattle.lvm_num.proofs.VolumesLemmas.{HasName, volumes-more, unnamed_before}
+use Rattle.lvm_num.proofs.DescriptorLemmas.Volumes.{HasName, volumes-more, unnamed_before}
 use Rattle.lvm_num.proofs.valid.are_volumes.Goals as goal
 use Rattle.lvm_num.proofs.valid.are_volumes.Goals.{then-not-is_volume-via-then-not-is_volume, then-not-is_volume-via-else-not-is_volume+then-has_name, else-k-gt0-via-then-k-gt0+else-lvs-k, else-k-gt0-via-else-k-gt0}
 

@@ -4,7 +4,7 @@ use Rattle.std.proofs.lemmas.Bool.{false≢true}
 use Rattle.lvm_num.specs.declared.place.Pp.{Pp}
 use Rattle.lvm_num.specs.Bits.{has_bit}
 use Rattle.lvm_num.specs.Marks.{IsWithin, spot}
-use Rattle.lvm_num.proofs.MarksLemmas.{free-more, marked-more, marked_not_free}
+use Rattle.lvm_num.proofs.MarksLemmas.Marks.{free-more, marked-more, marked_not_free}
 use Rattle.lvm_num.proofs.valid.mark_all.Goals as goal
 
 abbrev no_pp : Pp

@@ -5,7 +5,7 @@ use Rattle.std.proofs.lemmas.List.Elements.{All-set}
 use Rattle.lvm_num.specs.declared.descriptor.PvRow.{PvRow}
 use Rattle.lvm_num.specs.Descriptor.{IsMember}
 use Rattle.lvm_num.specs.Marks.{AreCounts}
-use Rattle.lvm_num.proofs.MembersLemmas.{counts-none, small-none, members-more, counts-more, counts-nothing}
+use Rattle.lvm_num.proofs.MarksLemmas.Members.{counts-none, small-none, members-more, counts-more, counts-nothing}
 use Rattle.lvm_num.proofs.valid.partition_counts.Goals as goal
 use Rattle.lvm_num.proofs.valid.partition_counts.Goals.{then-disk-ge-PLACES-via-then-disk-ge-PLACES, then-disk-ge-PLACES-via-else-disk-ge-PLACES+then-row-eq0, then-disk-ge-PLACES-via-else-disk-ge-PLACES+else-row-eq0+then-row-gt-MOST_PPS, then-disk-ge-PLACES-via-else-disk-ge-PLACES+else-row-eq0+else-row-gt-MOST_PPS+then-counts-disk-ne0}
 

@@ -2,7 +2,7 @@ use Rattle.std.proofs.Common.{◌≡◌, ℕ, ◌<◌, List, length, Some, None,
 use Rattle.std.proofs.lemmas.Bool.Decides.{nat_tests}
 use Rattle.lvm_operands.specs.Reading.{disks, further_disk}
 use Rattle.lvm_operands.specs.Rests.{left, word_at}
-use Rattle.lvm_operands.proofs.ManyWords.{disks_end, disks_misfit, disks_go_on, one_or_more_some, one_or_more_none}
+use Rattle.lvm_operands.proofs.ReadingLemmas.ManyWords.{disks_end, disks_misfit, disks_go_on, one_or_more_some, one_or_more_none}
 use Rattle.lvm_operands.proofs.disk_list.disks.Goals as goal
 
 pub returns-in_default-further_disk : goal.returns-in_default-further_disk

@@ -1,10 +1,10 @@
 use Rattle.std.proofs.Common.{sym, subst}
-use Rattle.lvm_literals.specs.Words.{copies_in}
+use Rattle.lvm_literals.specs.Words.{copy_count_in}
 use Rattle.lvm_operands.specs.Reading.{operand}
 use Rattle.lvm_operands.specs.Rests.{left, word_at, Reads}
-use Rattle.lvm_operands.proofs.NextWord.{operand_is}
+use Rattle.lvm_operands.proofs.ReadingLemmas.NextWord.{operand_is}
 use Rattle.lvm_operands.proofs.operands.copies.Goals as goal
 
 pub returns : goal.returns
 returns c =
-    subst (Reads (operand copies_in (left c.args.rest))) (sym c.fit.ensures) (operand_is copies_in (left c.args.rest) (word_at c.in_ok-word.word) c.in_ok-word.rest c.copies_of.result c.in_ok-word.ensures c.copies_of.ensures)
+    subst (Reads (operand copy_count_in (left c.args.rest))) (sym c.fit.ensures) (operand_is copy_count_in (left c.args.rest) (word_at c.in_ok-word.word) c.in_ok-word.rest c.copy_count_of.result c.in_ok-word.ensures c.copy_count_of.ensures)

@@ -1,6 +1,6 @@
 use Rattle.std.proofs.Common.{Err, ap, sym, ◌∙◌}
 use Rattle.lvm_operands.specs.Rests.{left, word_at}
-use Rattle.lvm_operands.proofs.NextWord.{ends_later}
+use Rattle.lvm_operands.proofs.ReadingLemmas.NextWord.{ends_later}
 use Rattle.lvm_operands.proofs.operands.ends.Goals as goal
 
 pub returns-in-Some : goal.returns-in-Some

@@ -1,6 +1,6 @@
 use Rattle.std.proofs.Common.{sym}
 use Rattle.lvm_operands.specs.Rests.{left, word_at}
-use Rattle.lvm_operands.proofs.NextWord.{option_stands, option_missing}
+use Rattle.lvm_operands.proofs.ReadingLemmas.NextWord.{option_stands, option_missing}
 use Rattle.lvm_operands.proofs.operands.option.Goals as goal
 
 pub returns-then-eq : goal.returns-then-eq

@@ -1,10 +1,10 @@
 use Rattle.std.proofs.Common.{sym, subst}
-use Rattle.lvm_literals.specs.Words.{partitions_in}
+use Rattle.lvm_literals.specs.Words.{partition_count_in}
 use Rattle.lvm_operands.specs.Reading.{operand}
 use Rattle.lvm_operands.specs.Rests.{left, word_at, Reads}
-use Rattle.lvm_operands.proofs.NextWord.{operand_is}
+use Rattle.lvm_operands.proofs.ReadingLemmas.NextWord.{operand_is}
 use Rattle.lvm_operands.proofs.operands.partitions.Goals as goal
 
 pub returns : goal.returns
 returns c =
-    subst (Reads (operand partitions_in (left c.args.rest))) (sym c.fit.ensures) (operand_is partitions_in (left c.args.rest) (word_at c.in_ok-word.word) c.in_ok-word.rest c.partitions_of.result c.in_ok-word.ensures c.partitions_of.ensures)
+    subst (Reads (operand partition_count_in (left c.args.rest))) (sym c.fit.ensures) (operand_is partition_count_in (left c.args.rest) (word_at c.in_ok-word.word) c.in_ok-word.rest c.partition_count_of.result c.in_ok-word.ensures c.partition_count_of.ensures)

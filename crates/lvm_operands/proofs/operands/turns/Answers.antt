@@ -2,7 +2,7 @@ use Rattle.std.proofs.Common.{sym, subst}
 use Rattle.lvm_literals.specs.Words.{turns_in}
 use Rattle.lvm_operands.specs.Reading.{operand}
 use Rattle.lvm_operands.specs.Rests.{left, word_at, Reads}
-use Rattle.lvm_operands.proofs.NextWord.{operand_is}
+use Rattle.lvm_operands.proofs.ReadingLemmas.NextWord.{operand_is}
 use Rattle.lvm_operands.proofs.operands.turns.Goals as goal
 
 pub returns : goal.returns

@@ -1,11 +1,11 @@
 use Rattle.std.proofs.Common.{rules, ◌≡◌, true, false, Some, refl, ap, sym, ◌∙◌}
 use Rattle.std.specs.Prelude.{codes, is_some}
-use Rattle.lvm_literals.specs.Words.{name_in, copies_in, mode_in, policy_in}
+use Rattle.lvm_literals.specs.Words.{name_in, copy_count_in, mode_in, policy_in}
 use Rattle.lvm_operands.specs.Reading.{is_new}
 use Rattle.lvm_options.specs.Options.{mklv_choice}
 use Rattle.lvm_operands.specs.Rests.{left, word_at}
-use Rattle.lvm_operands.proofs.ManyWords.{options_lack, options_end, value_is_read, value_misfits}
-use Rattle.lvm_options.proofs.Choices.{mklv_name, mklv_copies, mklv_mode, mklv_policy, mklv_none}
+use Rattle.lvm_operands.proofs.ReadingLemmas.ManyWords.{options_lack, options_end, value_is_read, value_misfits}
+use Rattle.lvm_options.proofs.OptionsLemmas.{mklv_name, mklv_copies, mklv_mode, mklv_policy, mklv_none}
 use Rattle.lvm_options.proofs.options.mklv_option.Goals as goal
 
 pub returns-in_default : goal.returns-in_default
@@ -25,13 +25,13 @@ pub returns-in-Ok-copies : goal.returns-in-Ok-copies
 returns-in-Ok-copies c =
     let is_y : is_new c.in-Some.word.bytes.now (codes "-y") (is_some c.args.options.now.name) ≡ false = ap (is_new c.in-Some.word.bytes.now (codes "-y")) (sym c.is_some.ensures) ∙ sym c.if-is_new.ensures in
     let is_c : is_new c.in-Some.word.bytes.now (codes "-c") (is_some c.args.options.now.copies) ≡ true = ap (is_new c.in-Some.word.bytes.now (codes "-c")) (sym c.is_some-2.ensures) ∙ sym c.if-is_new-2.ensures in
-    value_is_read mklv_choice c.args.options.now (λ value. record c.args.options.now { copies = Some value }) copies_in (left c.args.rest) (word_at c.in-Some.word) (left c.in-Some.behind) c.in-Ok-copies.copies (left c.in-Ok-copies.behind) c.in-Some.ensures.word (mklv_copies c.args.options.now c.in-Some.word.bytes.now is_y is_c) c.in-Ok-copies.ensures
+    value_is_read mklv_choice c.args.options.now (λ value. record c.args.options.now { copies = Some value }) copy_count_in (left c.args.rest) (word_at c.in-Some.word) (left c.in-Some.behind) c.in-Ok-copies.copies (left c.in-Ok-copies.behind) c.in-Some.ensures.word (mklv_copies c.args.options.now c.in-Some.word.bytes.now is_y is_c) c.in-Ok-copies.ensures
 
 pub returns-in-Err-copies : goal.returns-in-Err-copies
 returns-in-Err-copies c =
     let is_y : is_new c.in-Some.word.bytes.now (codes "-y") (is_some c.args.options.now.name) ≡ false = ap (is_new c.in-Some.word.bytes.now (codes "-y")) (sym c.is_some.ensures) ∙ sym c.if-is_new.ensures in
     let is_c : is_new c.in-Some.word.bytes.now (codes "-c") (is_some c.args.options.now.copies) ≡ true = ap (is_new c.in-Some.word.bytes.now (codes "-c")) (sym c.is_some-2.ensures) ∙ sym c.if-is_new-2.ensures in
-    value_misfits mklv_choice c.args.options.now (λ value. record c.args.options.now { copies = Some value }) copies_in (left c.args.rest) (word_at c.in-Some.word) (left c.in-Some.behind) c.in-Err-copies.misfit c.in-Some.ensures.word (mklv_copies c.args.options.now c.in-Some.word.bytes.now is_y is_c) c.in-Err-copies.ensures
+    value_misfits mklv_choice c.args.options.now (λ value. record c.args.options.now { copies = Some value }) copy_count_in (left c.args.rest) (word_at c.in-Some.word) (left c.in-Some.behind) c.in-Err-copies.misfit c.in-Some.ensures.word (mklv_copies c.args.options.now c.in-Some.word.bytes.now is_y is_c) c.in-Err-copies.ensures
 
 pub returns-in-Ok-mode : goal.returns-in-Ok-mode
 returns-in-Ok-mode c =

@@ -4,8 +4,8 @@ use Rattle.lvm_literals.specs.Words.{name_in, size_in}
 use Rattle.lvm_operands.specs.Reading.{is_new}
 use Rattle.lvm_options.specs.Options.{mkvg_choice}
 use Rattle.lvm_operands.specs.Rests.{left, word_at}
-use Rattle.lvm_operands.proofs.ManyWords.{options_lack, options_end, alone_is_read, value_is_read, value_misfits}
-use Rattle.lvm_options.proofs.Choices.{mkvg_force, mkvg_name, mkvg_size, mkvg_none}
+use Rattle.lvm_operands.proofs.ReadingLemmas.ManyWords.{options_lack, options_end, alone_is_read, value_is_read, value_misfits}
+use Rattle.lvm_options.proofs.OptionsLemmas.{mkvg_force, mkvg_name, mkvg_size, mkvg_none}
 use Rattle.lvm_options.proofs.options.mkvg_option.Goals as goal
 
 pub returns-in_default : goal.returns-in_default

@@ -1,4 +1,4 @@
-use Rattle.lvm_over.proofs.Landing.{cut_told}
+use Rattle.lvm_over.proofs.DarkLemmas.{cut_told}
 use Rattle.lvm_over.proofs.ends.darken.Goals as goal
 
 pub end_open_ones-requires : goal.end_open_ones-requires

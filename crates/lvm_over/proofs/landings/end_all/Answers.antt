@@ -1,4 +1,4 @@
-use Rattle.lvm_over.proofs.Hands.{gives_more}
+use Rattle.lvm_over.proofs.HandsLemmas.{gives_more}
 use Rattle.lvm_over.proofs.landings.end_all.Goals as goal
 
 pub loop-open-preserved : goal.loop-open-preserved

@@ -1,4 +1,4 @@
-use Rattle.lvm_over.proofs.Hands.{IsGiving}
+use Rattle.lvm_over.proofs.HandsLemmas.{IsGiving}
 use Rattle.lvm_over.proofs.landings.end_all.Given as goal
 
 abbrev pub invariant-loop-open : goal.invariant-loop-open

@@ -1,6 +1,6 @@
 use Rattle.std.proofs.Common.{◌∙◌, subst, sym, drop, ◌+◌, ap}
 use Rattle.lvm_vol.specs.Log.{Log, landed_fact, with_fact}
-use Rattle.lvm_over.proofs.Landing.{IsLanding, next_passes, next_lands, rest_is}
+use Rattle.lvm_over.proofs.DarkLemmas.{IsLanding, next_passes, next_lands, rest_is}
 use Rattle.lvm_over.proofs.landings.land_all.Goals as goal
 use Rattle.lvm_over.proofs.landings.land_all.Goals.{then-is_waiting, else-is_waiting}
 

@@ -1,5 +1,5 @@
 use Rattle.std.proofs.Common.{drop}
-use Rattle.lvm_over.proofs.Landing.{IsLanding}
+use Rattle.lvm_over.proofs.DarkLemmas.{IsLanding}
 use Rattle.lvm_over.proofs.landings.land_all.Given as goal
 
 abbrev pub invariant-loop-open : goal.invariant-loop-open

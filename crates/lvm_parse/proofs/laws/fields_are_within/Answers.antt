@@ -1,4 +1,4 @@
-use Rattle.lvm_parse.proofs.Fields.{line_is_within}
+use Rattle.lvm_parse.proofs.WithinLemmas.{line_is_within}
 use Rattle.lvm_parse.proofs.laws.fields_are_within.Goals as goal
 
 pub returns : goal.returns

@@ -1,6 +1,6 @@
 use Rattle.std.proofs.Common.{sym}
 use Rattle.lvm_operands.specs.Rests.{left, word_at}
-use Rattle.lvm_parse.proofs.Lining.{line_is_refused}
+use Rattle.lvm_parse.proofs.AnsweringLemmas.{line_is_refused}
 use Rattle.lvm_parse.proofs.line.words.Goals as goal
 
 pub returns-in-Err : goal.returns-in-Err

@@ -1,4 +1,4 @@
-use Rattle.lvm_path.proofs.Placing.{set_is}
+use Rattle.lvm_path.proofs.TargetsLemmas.{set_is}
 use Rattle.lvm_path.proofs.target.set_state.Goals as goal
 
 pub returns : goal.returns

@@ -1,5 +1,5 @@
 use Rattle.std.proofs.Common.{take, length, arith}
-use Rattle.lvm_path.proofs.Placing.{targets_fit}
+use Rattle.lvm_path.proofs.TargetsLemmas.{targets_fit}
 use Rattle.lvm_path.proofs.target.targets_of.Goals as goal
 
 pub push-requires : goal.push-requires

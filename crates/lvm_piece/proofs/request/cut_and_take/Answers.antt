@@ -3,7 +3,7 @@ use Rattle.lvm_vol.specs.Facts.{Cut, Landed, Request}
 use Rattle.lvm_vol.specs.Log.{Log, request_of, is_open}
 use Rattle.lvm_vol.specs.declared.entry.Outcome.TheVariants as outcome
 use Rattle.lvm_piece.specs.Requests.{landing_ends}
-use Rattle.lvm_piece.proofs.Logs.{cut_is, open_cut, request_more}
+use Rattle.lvm_piece.proofs.LogLemmas.{cut_is, open_cut, request_more}
 use Rattle.lvm_piece.proofs.request.cut_and_take.Goals as goal
 
 pub land_and_take-requires-clause-begun : goal.land_and_take-requires-clause-begun

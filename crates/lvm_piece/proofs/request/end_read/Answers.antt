@@ -5,7 +5,7 @@ use Rattle.lvm_vol.specs.Log.{request_of}
 use Rattle.lvm_vol.specs.declared.entry.Outcome.TheVariants as outcome
 use Rattle.lvm_transfer.specs.declared.moves.Moved.{Moved}
 use Rattle.lvm_piece.specs.Requests.{read_ends, landing_ends}
-use Rattle.lvm_piece.proofs.Logs.{count_is}
+use Rattle.lvm_piece.proofs.LogLemmas.{count_is}
 use Rattle.lvm_piece.proofs.request.end_read.Goals as goal
 
 pub returns-in-Done-clause-ends : goal.returns-in-Done-clause-ends

@@ -3,7 +3,7 @@ use Rattle.std.specs.Simd.{first_chunks}
 use Rattle.lvm_vol.specs.Facts.{Landed}
 use Rattle.lvm_vol.specs.Log.{request_of}
 use Rattle.lvm_vol.specs.declared.entry.Outcome.TheVariants as outcome
-use Rattle.lvm_piece.proofs.Logs.{took}
+use Rattle.lvm_piece.proofs.LogLemmas.{took}
 use Rattle.lvm_piece.proofs.request.got_and_take.Goals as goal
 
 pub returns : goal.returns

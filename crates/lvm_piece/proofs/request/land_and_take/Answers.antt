@@ -1,7 +1,7 @@
 use Rattle.std.proofs.Common.{refl}
 use Rattle.lvm_vol.specs.Facts.{Landed}
 use Rattle.lvm_vol.specs.Log.{request_of, got_without_bytes}
-use Rattle.lvm_piece.proofs.Logs.{took}
+use Rattle.lvm_piece.proofs.LogLemmas.{took}
 use Rattle.lvm_piece.proofs.request.land_and_take.Goals as goal
 
 pub returns : goal.returns

@@ -1,7 +1,7 @@
 use Rattle.std.proofs.Common.{◌≡◌, ◌+◌, ◌<◌, ◌++◌, suc, List, Some, None, drop, length, map, take, slice_index_or, slice_set, ◌∙◌, ap, arith}
 use Rattle.lvm_posts.specs.declared.posts.Post.{Post}
 use Rattle.lvm_posts.specs.Posts.{ended_with}
-use Rattle.lvm_posts.proofs.Closed.{mapped_more}
+use Rattle.lvm_posts.proofs.PostsLemmas.{mapped_more}
 use Rattle.lvm_posts.proofs.posts.end_posts.Goals as goal
 
 pub loop-post-preserved : goal.loop-post-preserved

@@ -1,4 +1,4 @@
-use Rattle.lvm_posts.proofs.Closed.{told_here, told_later}
+use Rattle.lvm_posts.proofs.PostsLemmas.{told_here, told_later}
 use Rattle.lvm_posts.proofs.posts.outcome_in.Goals as goal
 
 pub returns-in-Some : goal.returns-in-Some

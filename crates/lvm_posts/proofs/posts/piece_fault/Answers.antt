@@ -1,5 +1,5 @@
 use Rattle.std.proofs.Common.{◌≡◌, ◌+◌, arith}
-use Rattle.lvm_posts.proofs.Closed.{no_outcome}
+use Rattle.lvm_posts.proofs.PostsLemmas.{no_outcome}
 use Rattle.lvm_posts.proofs.posts.piece_fault.Goals as goal
 
 pub returns-in-None : goal.returns-in-None

@@ -1,7 +1,7 @@
 use Rattle.std.proofs.Common.{◌≡◌, ◌+◌, sym, ◌∙◌, ap, subst, arith}
 use Rattle.lvm_vol.specs.Log.{taken_fact, with_fact}
-use Rattle.lvm_posts.proofs.Deciding.{ends_failed, none_yet}
-use Rattle.lvm_posts.proofs.Closed.{TakenSoFar, takes_more, taken_first}
+use Rattle.lvm_posts.proofs.DecidingLemmas.{ends_failed, none_yet}
+use Rattle.lvm_posts.proofs.PostsLemmas.{TakenSoFar, takes_more, taken_first}
 use Rattle.lvm_posts.proofs.posts.take_closed.Goals as goal
 
 pub loop-piece-init : goal.loop-piece-init

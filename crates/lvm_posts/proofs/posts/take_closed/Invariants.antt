@@ -1,4 +1,4 @@
-use Rattle.lvm_posts.proofs.Closed.{TakenSoFar}
+use Rattle.lvm_posts.proofs.PostsLemmas.{TakenSoFar}
 use Rattle.lvm_posts.proofs.posts.take_closed.Given as goal
 
 abbrev pub invariant-loop-piece : goal.invariant-loop-piece

@@ -1,6 +1,6 @@
 use Rattle.std.proofs.Common.{◌≡◌, ◌+◌, ◌*◌, ◌∙◌, ◌++◌, ℕ, List, arith, subst}
 use Rattle.lvm_io.specs.Stream.{WhereTold, WritesFront}
-use Rattle.lvm_program.proofs.Blanks.{BlankSoFar, one_more, front_of_all}
+use Rattle.lvm_program.proofs.StreamLemmas.{BlankSoFar, one_more, front_of_all}
 use Rattle.lvm_program.proofs.image.run_image.Goals as goal
 
 pub returns-in-Err-clause-front : goal.returns-in-Err-clause-front

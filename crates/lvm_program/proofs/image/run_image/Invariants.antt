@@ -1,5 +1,5 @@
 use Rattle.std.proofs.Common.{◌≡◌, ◌*◌}
-use Rattle.lvm_program.proofs.Blanks.{BlankSoFar}
+use Rattle.lvm_program.proofs.StreamLemmas.{BlankSoFar}
 use Rattle.lvm_program.proofs.image.run_image.Given as goal
 
 abbrev pub invariant-loop : goal.invariant-loop

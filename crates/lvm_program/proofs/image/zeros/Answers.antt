@@ -1,5 +1,5 @@
 use Rattle.std.proofs.Common.{◌∙◌}
-use Rattle.lvm_program.proofs.Blanks.{flat_zeros}
+use Rattle.lvm_program.proofs.StreamLemmas.{flat_zeros}
 use Rattle.lvm_program.proofs.image.zeros.Goals as goal
 
 pub returns : goal.returns

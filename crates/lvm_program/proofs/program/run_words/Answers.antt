@@ -3,9 +3,9 @@ use Rattle.lvm_program.specs.Sim.{full_room}
 use Rattle.lvm_words.specs.declared.job.Job.{Job}
 use Rattle.lvm_words.specs.declared.job.Job.TheVariants.{Sim, Weave}
 use Rattle.lvm_words.specs.Words.{IsWithin, job_of}
-use Rattle.lvm_program.proofs.Commanding.{no_sim, on_drawn, on_sim_at, on_weave_at, unread_generates, unread_promises, unread_tells}
-use Rattle.lvm_program.proofs.Sim.{sim_promises}
-use Rattle.lvm_program.proofs.Woven.{sim_weaves}
+use Rattle.lvm_program.proofs.ProgramLemmas.{no_sim, on_drawn, on_sim_at, on_weave_at, unread_generates, unread_promises, unread_tells}
+use Rattle.lvm_program.proofs.SimLemmas.{sim_promises}
+use Rattle.lvm_program.proofs.WovenLemmas.Woven.{sim_weaves}
 use Rattle.lvm_program.proofs.program.run_words.Goals as goal
 
 pub returns-in-Err-Memory-clause-script : goal.returns-in-Err-Memory-clause-script

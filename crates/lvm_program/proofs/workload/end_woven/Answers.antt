@@ -1,7 +1,7 @@
 use Rattle.std.proofs.Common.{◌∙◌, sym}
 use Rattle.lvm_top.specs.passed.HolderVariants as holder
 use Rattle.lvm_program.specs.Woven.{NotMade}
-use Rattle.lvm_program.proofs.Woven.{ok_heard, rooms_at, serving_ends, serving_on}
+use Rattle.lvm_program.proofs.WovenLemmas.Woven.{ok_heard, rooms_at, serving_ends, serving_on}
 use Rattle.lvm_program.proofs.workload.end_woven.Goals as goal
 
 pub returns-then-not-is_ok-clause-ends : goal.returns-then-not-is_ok-clause-ends

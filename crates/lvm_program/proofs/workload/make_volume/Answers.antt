@@ -4,7 +4,7 @@ use Rattle.lvm_top.specs.passed.Lines.{IsLine, asked_after}
 use Rattle.lvm_top.specs.passed.Stage.{IsStuck, Reply, history_in, state_in, without_facts}
 use Rattle.lvm_top.specs.passed.ReplyVariants as reply
 use Rattle.lvm_program.specs.Woven.{HasGroup, NoGroup}
-use Rattle.lvm_top.proofs.Lining.{renamed}
+use Rattle.lvm_top.proofs.TurnLemmas.{renamed}
 use Rattle.lvm_program.proofs.workload.make_volume.Goals as goal
 
 pub do_line-made-requires-in-Ok-clause-between : goal.do_line-made-requires-in-Ok-clause-between

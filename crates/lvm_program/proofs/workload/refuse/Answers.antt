@@ -1,5 +1,5 @@
 use Rattle.std.proofs.Common.{⊎_elim, inl, inr, arith}
-use Rattle.lvm_top.proofs.Stopping.{how_stopped}
+use Rattle.lvm_top.proofs.RunLemmas.Stopping.{how_stopped}
 use Rattle.lvm_program.proofs.workload.refuse.Goals as goal
 
 pub write_reply-refused-requires : goal.write_reply-refused-requires

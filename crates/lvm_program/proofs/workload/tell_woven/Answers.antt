@@ -1,5 +1,5 @@
 use Rattle.std.proofs.Common.{◌∙◌}
-use Rattle.lvm_program.proofs.Woven.{told_all, told_first, told_none, told_some}
+use Rattle.lvm_program.proofs.WovenLemmas.Woven.{told_all, told_first, told_none, told_some}
 use Rattle.lvm_program.proofs.workload.tell_woven.Goals as goal
 
 pub returns-in_default : goal.returns-in_default

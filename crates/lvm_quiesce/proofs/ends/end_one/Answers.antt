@@ -1,4 +1,4 @@
-use Rattle.lvm_quiesce.proofs.Ending.{one_wait, one_done, one_failed, one_cut}
+use Rattle.lvm_quiesce.proofs.LawsLemmas.Ending.{one_wait, one_done, one_failed, one_cut}
 use Rattle.lvm_quiesce.proofs.ends.end_one.Goals as goal
 
 pub returns-in-Empty : goal.returns-in-Empty

@@ -1,5 +1,5 @@
 use Rattle.std.proofs.Common.{arith}
-use Rattle.lvm_quiesce.proofs.Ending.{cut_costs, none_yet, one_more}
+use Rattle.lvm_quiesce.proofs.LawsLemmas.Ending.{cut_costs, none_yet, one_more}
 use Rattle.lvm_quiesce.proofs.ends.quiesce.Goals as goal
 
 pub loop-shelf-init : goal.loop-shelf-init

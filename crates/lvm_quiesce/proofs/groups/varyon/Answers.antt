@@ -2,7 +2,7 @@ use Rattle.std.proofs.Common.{◌≡◌, refl, arith}
 use Rattle.lvm_vol.specs.Log.{spare_entries}
 use Rattle.lvm_core.specs.declared.refused.Cause.TheVariants as cause
 use Rattle.lvm_quiesce.specs.Groups.{RefusedAtOnce}
-use Rattle.lvm_quiesce.proofs.Coming.{none_brings, stayed_out, varied}
+use Rattle.lvm_quiesce.proofs.GroupsLemmas.{none_brings, stayed_out, varied}
 use Rattle.lvm_quiesce.proofs.groups.varyon.Goals as goal
 
 pub returns-then-spare_entries-eq0 : goal.returns-then-spare_entries-eq0

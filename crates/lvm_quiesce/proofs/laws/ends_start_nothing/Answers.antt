@@ -1,4 +1,4 @@
-use Rattle.lvm_quiesce.proofs.Ending.{ends_start_nothing, still_is_at_rest}
+use Rattle.lvm_quiesce.proofs.LawsLemmas.Ending.{ends_start_nothing, still_is_at_rest}
 use Rattle.lvm_quiesce.proofs.laws.ends_start_nothing.Goals as goal
 
 pub returns : goal.returns

@@ -1,6 +1,6 @@
 use Rattle.std.proofs.Common.{inl, inr, refl, Err}
 use Rattle.lvm_quiesce.specs.Ranges.{WritesAtRest}
-use Rattle.lvm_quiesce.proofs.Ranging.{Promised, at_once, kept_from, asked}
+use Rattle.lvm_quiesce.proofs.RangesLemmas.{Promised, at_once, kept_from, asked}
 use Rattle.lvm_quiesce.proofs.ranges.write_disk.Goals as goal
 
 pub returns-in-Ok : goal.returns-in-Ok

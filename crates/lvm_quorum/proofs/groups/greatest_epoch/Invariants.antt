@@ -1,6 +1,6 @@
 use Rattle.lvm_survey.specs.Surveyed.{surveyed}
 use Rattle.lvm_quorum.specs.Groups.{epoch_on}
-use Rattle.lvm_quorum.proofs.Epochs.{IsGreatestBelow}
+use Rattle.lvm_quorum.proofs.GroupsLemmas.Epochs.{IsGreatestBelow}
 use Rattle.lvm_quorum.proofs.groups.greatest_epoch.Given as goal
 
 abbrev pub invariant-loop-row : goal.invariant-loop-row

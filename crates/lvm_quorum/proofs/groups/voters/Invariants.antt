@@ -1,6 +1,6 @@
 use Rattle.lvm_num.specs.Disks.{has}
 use Rattle.lvm_num.specs.Votes.{all_disks}
-use Rattle.lvm_survey.specs.handed.Names.{members_in}
+use Rattle.lvm_survey.specs.passed.Names.{members_in}
 use Rattle.lvm_survey.specs.Surveyed.{surveyed}
 use Rattle.lvm_survey.proofs.Passing.{PassBelow}
 use Rattle.lvm_quorum.proofs.groups.voters.Given as goal

@@ -1,11 +1,11 @@
 use Rattle.std.proofs.Common.{◌≡◌, ℕ, length, None, sym, ap, subst, ◌∙◌, arith}
 use Rattle.lvm_num.specs.Votes.{all_disks}
-use Rattle.lvm_survey.specs.handed.Names.{status_among, under}
+use Rattle.lvm_survey.specs.passed.Names.{status_among, under}
 use Rattle.lvm_survey.specs.declared.row.SurveyRow.{SurveyRow}
 use Rattle.lvm_survey.specs.Surveyed.{surveyed}
-use Rattle.lvm_survey.proofs.SurveyRows.{row_read}
-use Rattle.lvm_quorum.proofs.Chosen.{is_none}
-use Rattle.lvm_quorum.proofs.Naming.{one_id, named_more, named_all}
+use Rattle.lvm_survey.proofs.SurveyedLemmas.SurveyRows.{row_read}
+use Rattle.lvm_quorum.proofs.KeptGroupLemmas.Chosen.{is_none}
+use Rattle.lvm_quorum.proofs.GroupsLemmas.Naming.{one_id, named_more, named_all}
 use Rattle.lvm_quorum.proofs.names.has_record.Goals as goal
 use Rattle.lvm_quorum.proofs.names.has_record.Goals.{in-Some+else-has_status, in_default}
 

@@ -2,7 +2,7 @@ use Rattle.std.proofs.Common.{◌≡◌, ◌++◌, ℕ, List, sym, ◌∙◌, ap
 use Rattle.std.specs.String.{string_bytes}
 use Rattle.lvm_range_lines.specs.Answers.{IsOf}
 use Rattle.lvm_range_lines.specs.Refusals.{answer_text, answers_text}
-use Rattle.lvm_range_lines.proofs.Texts.{answers_push}
+use Rattle.lvm_range_lines.proofs.RefusalsLemmas.{answers_push}
 use Rattle.lvm_range_lines.proofs.answers.with_line.Goals as goal
 
 pub returns-in-Ok : goal.returns-in-Ok

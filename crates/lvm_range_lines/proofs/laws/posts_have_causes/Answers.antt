@@ -1,4 +1,4 @@
-use Rattle.lvm_range_lines.proofs.Causing.{posts_have_causes}
+use Rattle.lvm_range_lines.proofs.CausesLemmas.{posts_have_causes}
 use Rattle.lvm_range_lines.proofs.laws.posts_have_causes.Goals as goal
 
 pub returns : goal.returns

@@ -1,14 +1,14 @@
 use Rattle.std.proofs.Common.{refl, ap, subst}
 use Rattle.std.specs.Prelude.{Result, Err}
 use Rattle.lvm_num.specs.declared.descriptor.Descriptor.{Descriptor}
-use Rattle.lvm_group_lines.specs.handed.Names.{HasNoVolumeNamed, IsNumberOf}
+use Rattle.lvm_group_lines.specs.passed.Names.{HasNoVolumeNamed, IsNumberOf}
 use Rattle.lvm_posts.specs.declared.asked.Asked.{Asked}
 use Rattle.lvm_group_lines.specs.passed.Ranges.{AskRangeFault, AskRangeGives}
 use Rattle.lvm_group_lines.proofs.passed.Running.{runs_none}
-use Rattle.lvm_group_lines.specs.passed.Driver.{state_of}
+use Rattle.lvm_session.specs.State.{state_of}
 use Rattle.lvm_range_lines.specs.Requests.{HasNone, Refuses, Takes}
-use Rattle.lvm_range_lines.proofs.Naming.{fault_same}
-use Rattle.lvm_range_lines.proofs.Posting.{earlier_posts}
+use Rattle.lvm_range_lines.proofs.LookingLemmas.{fault_same}
+use Rattle.lvm_range_lines.proofs.LeavingLemmas.Posting.{earlier_posts}
 use Rattle.lvm_range_lines.proofs.requests.ask.Goals as goal
 
 pub returns-in-None : goal.returns-in-None

@@ -4,8 +4,8 @@ use Rattle.lvm_group_lines.specs.passed.RefusalVariants as refusal
 use Rattle.lvm_group_lines.specs.passed.ReplyVariants as reply
 use Rattle.lvm_group_lines.specs.passed.Stage.{ComesTo, Holder, IsOfKind, session_of}
 use Rattle.lvm_range_lines.specs.Requests.{WrDoes, NotThere, WhileOff}
-use Rattle.lvm_range_lines.proofs.Holding.{between_now, ends_with, fits_now, refused_as}
-use Rattle.lvm_range_lines.proofs.Naming.{none_named}
+use Rattle.lvm_range_lines.proofs.EndsLemmas.{between_now, ends_with, fits_now, refused_as}
+use Rattle.lvm_range_lines.proofs.LookingLemmas.{none_named}
 use Rattle.lvm_range_lines.proofs.requests.do_wr.Goals as goal
 
 pub returns-in-Off : goal.returns-in-Off

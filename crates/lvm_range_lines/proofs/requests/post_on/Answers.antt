@@ -4,9 +4,9 @@ use Rattle.lvm_posts.specs.declared.asked.Asked.{Asked}
 use Rattle.lvm_group_lines.specs.passed.Stage.{Refusal, HaveRooms}
 use Rattle.lvm_group_lines.specs.passed.ReplyVariants as reply
 use Rattle.lvm_range_lines.specs.Requests.{AsksByName, NotPosted, Posts}
-use Rattle.lvm_range_lines.proofs.Adding.{has_place, posted_ends}
-use Rattle.lvm_range_lines.proofs.Heard.{carried_by, not_asked_heard}
-use Rattle.lvm_range_lines.proofs.Refusing.{refusing_ends}
+use Rattle.lvm_range_lines.proofs.RequestsLemmas.Adding.{has_place, posted_ends}
+use Rattle.lvm_range_lines.proofs.RepliesLemmas.{carried_by, not_asked_heard}
+use Rattle.lvm_range_lines.proofs.RequestsLemmas.Refusing.{refusing_ends}
 use Rattle.lvm_range_lines.proofs.requests.post_on.Goals as goal
 
 pub add-requires : goal.add-requires

@@ -5,9 +5,9 @@ use Rattle.lvm_posts.specs.declared.asked.Asked.{Asked}
 use Rattle.lvm_group_lines.specs.passed.Stage.{Refusal, Reply, HaveRooms, is_unheard, most_refusals}
 use Rattle.lvm_group_lines.specs.passed.ReplyVariants as reply
 use Rattle.lvm_range_lines.specs.Requests.{AsksByName, Finishes, NotBegun}
-use Rattle.lvm_range_lines.proofs.Heard.{carried_by, not_asked_heard}
-use Rattle.lvm_range_lines.proofs.Lines.{finished_ends}
-use Rattle.lvm_range_lines.proofs.Refusing.{refusing_ends}
+use Rattle.lvm_range_lines.proofs.RepliesLemmas.{carried_by, not_asked_heard}
+use Rattle.lvm_range_lines.proofs.RequestsLemmas.Lines.{finished_ends}
+use Rattle.lvm_range_lines.proofs.RequestsLemmas.Refusing.{refusing_ends}
 use Rattle.lvm_range_lines.proofs.requests.wr_on.Goals as goal
 
 pub write_reply-done-requires-clause-unstuck : goal.write_reply-done-requires-clause-unstuck

@@ -1,7 +1,7 @@
 use Rattle.std.proofs.Common.{◌-◌, refl, subst}
 use Rattle.std.specs.Prelude.{Result}
 use Rattle.lvm_disk.specs.Counts.{RoseBy}
-use Rattle.lvm_group_lines.specs.passed.Driver.{state_of}
+use Rattle.lvm_session.specs.State.{state_of}
 use Rattle.lvm_posts.specs.declared.fault.RangeFault.{RangeFault}
 use Rattle.lvm_group_lines.specs.passed.Ranges.{FinishGives}
 use Rattle.lvm_range_lines.proofs.requests.write_reply.Goals as goal

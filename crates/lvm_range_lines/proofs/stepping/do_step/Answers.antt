@@ -3,7 +3,7 @@ use Rattle.lvm_group_lines.specs.passed.HolderVariants as holder
 use Rattle.lvm_group_lines.specs.passed.RefusalVariants as refusal
 use Rattle.lvm_group_lines.specs.passed.Stage.{Reply, most_refusals, IsOfKind, session_of}
 use Rattle.lvm_range_lines.specs.Stepping.{NoStepWhileOff, NothingMoves, StepDoes}
-use Rattle.lvm_range_lines.proofs.Holding.{between_now, ends_with, fits_now, refused_as, still_as}
+use Rattle.lvm_range_lines.proofs.EndsLemmas.{between_now, ends_with, fits_now, refused_as, still_as}
 use Rattle.lvm_range_lines.proofs.stepping.do_step.Goals as goal
 
 pub returns-in-Off : goal.returns-in-Off

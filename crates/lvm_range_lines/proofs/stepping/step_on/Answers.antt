@@ -1,10 +1,10 @@
 use Rattle.std.proofs.Common.{◌≤◌, refl, sym, ◌∙◌, subst, arith}
-use Rattle.lvm_group_lines.specs.passed.Driver.{state_of}
+use Rattle.lvm_session.specs.State.{state_of}
 use Rattle.lvm_group_lines.specs.passed.Stage.{Reply, Stage, most_refusals, HaveRooms, IsCarried}
 use Rattle.lvm_range_lines.specs.Stepping.{StepDoes, Steps}
-use Rattle.lvm_range_lines.proofs.Ending.{RunsTo, carried_ends, carried_leaves, runs_to}
-use Rattle.lvm_range_lines.proofs.Posting.{table_posts}
-use Rattle.lvm_range_lines.proofs.Steps.{step_few, step_stops}
+use Rattle.lvm_range_lines.proofs.LeavingLemmas.Ending.{RunsTo, carried_ends, carried_leaves, runs_to}
+use Rattle.lvm_range_lines.proofs.LeavingLemmas.Posting.{table_posts}
+use Rattle.lvm_range_lines.proofs.SteppingLemmas.{step_few, step_stops}
 use Rattle.lvm_range_lines.proofs.stepping.step_on.Goals as goal
 
 pub returns : goal.returns

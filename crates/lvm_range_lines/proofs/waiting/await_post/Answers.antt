@@ -1,9 +1,9 @@
 use Rattle.std.proofs.Common.{refl, arith}
-use Rattle.lvm_group_lines.specs.passed.Driver.{state_of}
+use Rattle.lvm_session.specs.State.{state_of}
 use Rattle.lvm_group_lines.proofs.passed.Running.{runs_none}
 use Rattle.lvm_group_lines.proofs.passed.Ranges.{table_same}
 use Rattle.lvm_range_lines.specs.Taking.{IsGone}
-use Rattle.lvm_range_lines.proofs.Awaiting.{awaits_range, no_wait}
+use Rattle.lvm_range_lines.proofs.TakingLemmas.Awaiting.{awaits_range, no_wait}
 use Rattle.lvm_range_lines.proofs.waiting.await_post.Goals as goal
 
 pub returns-in-Some : goal.returns-in-Some

@@ -1,8 +1,8 @@
 use Rattle.std.proofs.Common.{None, arith}
 use Rattle.lvm_posts.specs.declared.posts.Post.{Post}
-use Rattle.lvm_group_lines.specs.passed.Driver.{state_of}
+use Rattle.lvm_session.specs.State.{state_of}
 use Rattle.lvm_group_lines.proofs.passed.Running.{stays_unstuck}
-use Rattle.lvm_range_lines.proofs.Awaiting.{all_awaited, none_awaited, one_awaited, one_in_vain, runs_now, table_now, waited_now}
+use Rattle.lvm_range_lines.proofs.TakingLemmas.Awaiting.{all_awaited, none_awaited, one_awaited, one_in_vain, runs_now, table_now, waited_now}
 use Rattle.lvm_range_lines.proofs.waiting.await_posts.Goals as goal
 
 abbrev first_post : Post

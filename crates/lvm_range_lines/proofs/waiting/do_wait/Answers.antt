@@ -3,8 +3,8 @@ use Rattle.lvm_vol.specs.Log.{Log}
 use Rattle.lvm_vol.specs.Order.{Ordered}
 use Rattle.lvm_group_lines.specs.passed.HolderVariants as holder
 use Rattle.lvm_range_lines.specs.Waiting.{WaitDoes}
-use Rattle.lvm_range_lines.proofs.Holding.{between_now, ends_with, fits_now, held_by}
-use Rattle.lvm_range_lines.proofs.Resting.{few_posts, off_ends}
+use Rattle.lvm_range_lines.proofs.EndsLemmas.{between_now, ends_with, fits_now, held_by}
+use Rattle.lvm_range_lines.proofs.WaitingLemmas.Resting.{few_posts, off_ends}
 use Rattle.lvm_range_lines.proofs.waiting.do_wait.Goals as goal
 
 pub wait_off-requires-clause-off : goal.wait_off-requires-clause-off

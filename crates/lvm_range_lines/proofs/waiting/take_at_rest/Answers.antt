@@ -1,7 +1,7 @@
 use Rattle.std.proofs.Common.{None, arith}
 use Rattle.lvm_posts.specs.declared.posts.Post.{Post}
-use Rattle.lvm_group_lines.specs.passed.Driver.{state_of}
-use Rattle.lvm_range_lines.proofs.Takings.{enters_none, enters_then, few_refused, none_own, on_all, on_first, on_more, posted_next}
+use Rattle.lvm_session.specs.State.{state_of}
+use Rattle.lvm_range_lines.proofs.TakingLemmas.Takings.{enters_none, enters_then, few_refused, none_own, on_all, on_first, on_more, posted_next}
 use Rattle.lvm_range_lines.proofs.waiting.take_at_rest.Goals as goal
 
 abbrev first_post : Post

@@ -1,8 +1,8 @@
 use Rattle.std.proofs.Common.{◌≡◌, []}
-use Rattle.lvm_group_lines.specs.passed.Driver.{state_of}
+use Rattle.lvm_session.specs.State.{state_of}
 use Rattle.lvm_session.specs.Sound.{IsSound}
 use Rattle.lvm_range_lines.specs.Taking.{Enters}
-use Rattle.lvm_range_lines.proofs.Takings.{TakenOn}
+use Rattle.lvm_range_lines.proofs.TakingLemmas.Takings.{TakenOn}
 use Rattle.lvm_range_lines.proofs.waiting.take_at_rest.Given as goal
 
 abbrev pub invariant-loop-post : goal.invariant-loop-post

@@ -1,7 +1,7 @@
 use Rattle.std.proofs.Common.{ℕ, Option, Some, None, sym, ◌∙◌, ap, arith}
 use Rattle.std.specs.Prelude.{unwrap_or}
 use Rattle.lvm_posts.specs.declared.posts.Post.{Post}
-use Rattle.lvm_range_lines.proofs.Takings.{few_refused, off_all, off_first, off_gone, off_more, off_posted}
+use Rattle.lvm_range_lines.proofs.TakingLemmas.Takings.{few_refused, off_all, off_first, off_gone, off_more, off_posted}
 use Rattle.lvm_range_lines.proofs.waiting.take_off.Goals as goal
 
 abbrev first_post : Post

@@ -1,4 +1,4 @@
-use Rattle.lvm_range_lines.proofs.Takings.{TakenOff}
+use Rattle.lvm_range_lines.proofs.TakingLemmas.Takings.{TakenOff}
 use Rattle.lvm_range_lines.proofs.waiting.take_off.Given as goal
 
 abbrev pub invariant-loop-post : goal.invariant-loop-post

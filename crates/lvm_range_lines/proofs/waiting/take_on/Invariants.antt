@@ -1,5 +1,5 @@
-use Rattle.lvm_group_lines.specs.passed.Driver.{state_of}
-use Rattle.lvm_range_lines.proofs.Takings.{TakenOn}
+use Rattle.lvm_session.specs.State.{state_of}
+use Rattle.lvm_range_lines.proofs.TakingLemmas.Takings.{TakenOn}
 use Rattle.lvm_range_lines.proofs.waiting.take_on.Given as goal
 
 abbrev pub invariant-loop-post : goal.invariant-loop-post

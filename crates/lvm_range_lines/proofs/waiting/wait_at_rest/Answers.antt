@@ -1,10 +1,10 @@
 use Rattle.std.proofs.Common.{◌<◌, ◌^◌, List, Some, length, sym, subst, arith}
-use Rattle.lvm_group_lines.specs.passed.Driver.{state_of}
+use Rattle.lvm_session.specs.State.{state_of}
 use Rattle.lvm_posts.specs.declared.posts.Post.{Post}
 use Rattle.lvm_group_lines.specs.passed.Stage.{HaveRooms, ArePosted}
 use Rattle.lvm_range_lines.specs.Answers.{Tells}
 use Rattle.lvm_range_lines.specs.Waiting.{TakesPosts}
-use Rattle.lvm_range_lines.proofs.Resting.{rest_ends}
+use Rattle.lvm_range_lines.proofs.WaitingLemmas.Resting.{rest_ends}
 use Rattle.lvm_range_lines.proofs.waiting.wait_at_rest.Goals as goal
 
 pub take_at_rest-driver-requires-clause-on : goal.take_at_rest-driver-requires-clause-on

@@ -1,10 +1,10 @@
 use Rattle.std.proofs.Common.{◌<◌, ◌^◌, List, Some, length, sym, ◌∙◌, subst, arith}
-use Rattle.lvm_group_lines.specs.passed.Driver.{state_of}
+use Rattle.lvm_session.specs.State.{state_of}
 use Rattle.lvm_posts.specs.declared.posts.Post.{Post}
-use Rattle.lvm_group_lines.specs.passed.Stage.{HaveRooms, IsFitting, ArePosted}
+use Rattle.lvm_group_lines.specs.passed.Stage.{HaveRooms, IsFittingStage, ArePosted}
 use Rattle.lvm_range_lines.specs.Answers.{Tells}
 use Rattle.lvm_range_lines.specs.Waiting.{AllHaveLanded, TakesPosts}
-use Rattle.lvm_range_lines.proofs.Landed.{closed_landed, few_ended, fits_ended, fits_on, goes_landed, not_on, over_by, posted_ended}
+use Rattle.lvm_range_lines.proofs.TakingLemmas.Landed.{closed_landed, few_ended, fits_ended, fits_on, goes_landed, not_on, over_by, posted_ended}
 use Rattle.lvm_range_lines.proofs.waiting.wait_landed.Goals as goal
 
 pub take_on-driver-requires-clause-on : goal.take_on-driver-requires-clause-on
@@ -56,7 +56,7 @@ returns-in-On g c =
         bytes = c.args.bytes;
         is = c.answered.ensures.stage;
       });
-      fits = subst IsFitting (sym c.answered.ensures.stage) (fits_on device c.args.driver c.args.posts c.args.bytes c.requires.fits end taken.runs c.clear.new.self rooms);
+      fits = subst IsFittingStage (sym c.answered.ensures.stage) (fits_on device c.args.driver c.args.posts c.args.bytes c.requires.fits end taken.runs c.clear.new.self rooms);
       sound = c.is_sound.ensures;
     }
 

@@ -4,7 +4,7 @@ use Rattle.lvm_session.specs.State.{Core}
 use Rattle.lvm_posts.specs.declared.posts.Post.{Post}
 use Rattle.lvm_group_lines.specs.passed.Stage.{HaveRooms, history_in, posts_ended, ArePosted}
 use Rattle.lvm_range_lines.specs.Answers.{Tells}
-use Rattle.lvm_range_lines.proofs.Behind.{fits_behind, is_behind}
+use Rattle.lvm_range_lines.proofs.WaitingLemmas.Behind.{fits_behind, is_behind}
 use Rattle.lvm_range_lines.proofs.waiting.wait_off.Goals as goal
 
 pub take_off-answers-requires-clause-posted : goal.take_off-answers-requires-clause-posted

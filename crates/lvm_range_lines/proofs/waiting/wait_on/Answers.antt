@@ -3,15 +3,16 @@ use Rattle.std.specs.Prelude.{All}
 use Rattle.lvm_disk.specs.Counts.{RoseBy}
 use Rattle.lvm_disk.specs.Paths.{Path}
 use Rattle.lvm_session.specs.declared.open.Power.TheVariants as power
-use Rattle.lvm_group_lines.specs.passed.Driver.{state_of, IsAny}
+use Rattle.lvm_group_lines.specs.passed.Driver.{IsAny}
+use Rattle.lvm_session.specs.State.{state_of}
 use Rattle.lvm_group_lines.proofs.passed.Running.{stays_unstuck}
 use Rattle.lvm_posts.specs.declared.posts.Post.{Post}
 use Rattle.lvm_posts.specs.Pieces.{IsLaidOut}
 use Rattle.lvm_group_lines.specs.passed.Stage.{Stage, HaveRooms, IsEnded}
 use Rattle.lvm_range_lines.specs.Waiting.{AllHaveLanded, IsAwaited, TurnsForPosts}
-use Rattle.lvm_range_lines.proofs.Posting.{table_posts}
-use Rattle.lvm_range_lines.proofs.Landed.{fits_on}
-use Rattle.lvm_range_lines.proofs.Waits.{landed_ends, vain_ends}
+use Rattle.lvm_range_lines.proofs.LeavingLemmas.Posting.{table_posts}
+use Rattle.lvm_range_lines.proofs.TakingLemmas.Landed.{fits_on}
+use Rattle.lvm_range_lines.proofs.WaitingLemmas.Waits.{landed_ends, vain_ends}
 use Rattle.lvm_range_lines.proofs.waiting.wait_on.Goals as goal
 
 pub await_posts-requires-clause-unstuck : goal.await_posts-requires-clause-unstuck

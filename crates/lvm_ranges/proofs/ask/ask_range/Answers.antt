@@ -1,7 +1,7 @@
 use Rattle.std.proofs.Common.{refl, sym}
-use Rattle.lvm_driver.proofs.handed.Names.{runs_none}
-use Rattle.lvm_driver.specs.Answers.{state_of}
-use Rattle.lvm_ranges.proofs.Asking.{gives_asked, gives_fault}
+use Rattle.lvm_driver.proofs.passed.Names.{runs_none}
+use Rattle.lvm_session.specs.State.{state_of}
+use Rattle.lvm_ranges.proofs.PiecesLemmas.{gives_asked, gives_fault}
 use Rattle.lvm_ranges.proofs.ask.ask_range.Goals as goal
 
 pub returns-in-None-clause-gives : goal.returns-in-None-clause-gives

@@ -1,8 +1,8 @@
 use Rattle.std.proofs.Common.{◌-◌, refl, ◌∙◌, ap, arith}
 use Rattle.lvm_num.specs.declared.descriptor.Descriptor.{Descriptor}
 use Rattle.lvm_vol.specs.Log.{Log, blocks_begun}
-use Rattle.lvm_ranges.proofs.Asking.{asks_all, is_laid_out}
-use Rattle.lvm_ranges.proofs.Beginning.{asked_for, earlier_stay}
+use Rattle.lvm_ranges.proofs.PiecesLemmas.{asks_all, is_laid_out}
+use Rattle.lvm_ranges.proofs.AskingLemmas.{asked_for, earlier_stay}
 use Rattle.lvm_ranges.proofs.ask.ask_whole.Goals as goal
 
 pub returns : goal.returns

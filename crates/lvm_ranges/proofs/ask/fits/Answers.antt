@@ -1,6 +1,6 @@
 use Rattle.std.proofs.Common.{subst}
 use Rattle.lvm_num.specs.Descriptor.{IsValid}
-use Rattle.lvm_ranges.proofs.Asking.{range_fits}
+use Rattle.lvm_ranges.proofs.PiecesLemmas.{range_fits}
 use Rattle.lvm_ranges.proofs.ask.fits.Goals as goal
 
 pub returns : goal.returns

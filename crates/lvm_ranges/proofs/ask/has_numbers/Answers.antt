@@ -1,4 +1,4 @@
-use Rattle.lvm_ranges.proofs.Asking.{numbers_so}
+use Rattle.lvm_ranges.proofs.PiecesLemmas.{numbers_so}
 use Rattle.lvm_ranges.proofs.ask.has_numbers.Goals as goal
 
 pub returns : goal.returns

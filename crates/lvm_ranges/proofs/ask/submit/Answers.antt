@@ -1,7 +1,7 @@
 use Rattle.std.proofs.Common.{◌≡◌, sym, ◌∙◌}
 use Rattle.std.specs.Prelude.{option_copied}
 use Rattle.lvm_session.specs.declared.open.Power.TheVariants as power
-use Rattle.lvm_ranges.proofs.Asking.{never_refused, taken_so}
+use Rattle.lvm_ranges.proofs.PiecesLemmas.{never_refused, taken_so}
 use Rattle.lvm_ranges.proofs.ask.submit.Goals as goal
 
 pub submit-requires-clause-unstuck : goal.submit-requires-clause-unstuck

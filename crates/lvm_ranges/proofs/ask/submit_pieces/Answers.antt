@@ -1,7 +1,7 @@
 use Rattle.std.proofs.Common.{◌+◌, refl, ◌∙◌, ap}
-use Rattle.lvm_driver.proofs.handed.Names.{runs_both, runs_none}
-use Rattle.lvm_driver.specs.Answers.{state_of}
-use Rattle.lvm_ranges.proofs.Asking.{all_asked, asks_first, asks_next, may_next}
+use Rattle.lvm_driver.proofs.passed.Names.{runs_both, runs_none}
+use Rattle.lvm_session.specs.State.{state_of}
+use Rattle.lvm_ranges.proofs.PiecesLemmas.{all_asked, asks_first, asks_next, may_next}
 use Rattle.lvm_ranges.proofs.ask.submit_pieces.Goals as goal
 
 pub loop-from-init : goal.loop-from-init

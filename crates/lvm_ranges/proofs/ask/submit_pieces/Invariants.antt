@@ -1,7 +1,7 @@
 use Rattle.std.proofs.Common.{◌≡◌, ◌≤◌, ◌-◌, vec_capacity}
-use Rattle.lvm_driver.specs.handed.Names.{RunsOn}
-use Rattle.lvm_driver.specs.Answers.{state_of}
-use Rattle.lvm_ranges.proofs.Asking.{AskedSoFar}
+use Rattle.lvm_driver.specs.passed.Names.{RunsOn}
+use Rattle.lvm_session.specs.State.{state_of}
+use Rattle.lvm_ranges.proofs.PiecesLemmas.{AskedSoFar}
 use Rattle.lvm_ranges.proofs.ask.submit_pieces.Given as goal
 
 abbrev pub invariant-loop-from : goal.invariant-loop-from

@@ -1,7 +1,7 @@
 use Rattle.std.proofs.Common.{◌+◌}
 use Rattle.lvm_session.specs.Left.{left_of}
-use Rattle.lvm_driver.specs.Answers.{state_of}
-use Rattle.lvm_ranges.proofs.Turning.{Costs}
+use Rattle.lvm_session.specs.State.{state_of}
+use Rattle.lvm_ranges.proofs.LandingLemmas.{Costs}
 use Rattle.lvm_ranges.proofs.landing.await_range.Given as goal
 
 abbrev pub invariant-loop-driver : goal.invariant-loop-driver

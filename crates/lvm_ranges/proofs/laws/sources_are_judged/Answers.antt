@@ -1,4 +1,4 @@
-use Rattle.lvm_ranges.proofs.Sourced.{sources_are_judged}
+use Rattle.lvm_ranges.proofs.WorkedLemmas.{sources_are_judged}
 use Rattle.lvm_ranges.proofs.laws.sources_are_judged.Goals as goal
 
 pub returns : goal.returns

@@ -1,4 +1,4 @@
-use Rattle.lvm_ranges.proofs.Choosing.{turn_chooses}
+use Rattle.lvm_ranges.proofs.ChoosingLemmas.{turn_chooses}
 use Rattle.lvm_ranges.proofs.laws.turns_choose_since.Goals as goal
 
 pub returns : goal.returns

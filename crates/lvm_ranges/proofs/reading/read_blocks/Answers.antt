@@ -3,7 +3,7 @@ use Rattle.std.proofs.lemmas.List.{length-append}
 use Rattle.lvm_num.specs.Buffer.{Sector}
 use Rattle.lvm_vol.specs.Log.{blocks_of}
 use Rattle.lvm_ranges.specs.Reading.{AreGot}
-use Rattle.lvm_ranges.proofs.Blocks.{read_well, reads_within, take_next}
+use Rattle.lvm_ranges.proofs.ReadingLemmas.{read_well, reads_within, take_next}
 use Rattle.lvm_ranges.proofs.reading.read_blocks.Goals as goal
 
 pub overflow_add-asked : goal.overflow_add-asked

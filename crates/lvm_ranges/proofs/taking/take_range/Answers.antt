@@ -2,9 +2,9 @@ use Rattle.std.proofs.Common.{◌≡◌, ◌+◌, refl, sym, ◌∙◌, ap, subs
 use Rattle.std.specs.Prelude.{Err, Ok}
 use Rattle.std.specs.Option.{option_or}
 use Rattle.lvm_session.specs.Calls.{TakeGives}
-use Rattle.lvm_driver.specs.Answers.{state_of}
-use Rattle.lvm_posts.proofs.Deciding.{ends_failed, ends_well}
-use Rattle.lvm_ranges.proofs.Answering.{TakingSoFar, takes_all, takes_none, takes_one}
+use Rattle.lvm_session.specs.State.{state_of}
+use Rattle.lvm_posts.proofs.DecidingLemmas.{ends_failed, ends_well}
+use Rattle.lvm_ranges.proofs.TakingLemmas.{TakingSoFar, takes_all, takes_none, takes_one}
 use Rattle.lvm_ranges.proofs.taking.take_range.Goals as goal
 
 pub loop-piece-init : goal.loop-piece-init

@@ -1,6 +1,6 @@
 use Rattle.std.proofs.Common.{◌≡◌}
-use Rattle.lvm_driver.specs.Answers.{state_of}
-use Rattle.lvm_ranges.proofs.Answering.{TakingSoFar}
+use Rattle.lvm_session.specs.State.{state_of}
+use Rattle.lvm_ranges.proofs.TakingLemmas.{TakingSoFar}
 use Rattle.lvm_ranges.proofs.taking.take_range.Given as goal
 
 abbrev pub invariant-loop-piece : goal.invariant-loop-piece

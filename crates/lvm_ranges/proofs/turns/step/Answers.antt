@@ -1,8 +1,8 @@
 use Rattle.std.proofs.Common.{◌≡◌, refl, subst, arith}
-use Rattle.lvm_driver.specs.Answers.{state_of}
+use Rattle.lvm_session.specs.State.{state_of}
 use Rattle.lvm_ranges.specs.Stepping.{AllMoved, Moves}
-use Rattle.lvm_ranges.proofs.Turning.{votes_with, with_turn}
-use Rattle.lvm_ranges.proofs.Stepping.{last_step, no_step, one_step}
+use Rattle.lvm_ranges.proofs.LandingLemmas.{votes_with, with_turn}
+use Rattle.lvm_ranges.proofs.SteppingLemmas.{last_step, no_step, one_step}
 use Rattle.lvm_ranges.proofs.turns.step.Goals as goal
 
 pub loop-moved-init : goal.loop-moved-init

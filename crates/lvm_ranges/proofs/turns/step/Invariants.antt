@@ -1,5 +1,5 @@
-use Rattle.lvm_driver.specs.Answers.{state_of}
-use Rattle.lvm_ranges.proofs.Stepping.{StepsSoFar}
+use Rattle.lvm_session.specs.State.{state_of}
+use Rattle.lvm_ranges.proofs.SteppingLemmas.{StepsSoFar}
 use Rattle.lvm_ranges.proofs.turns.step.Given as goal
 
 abbrev pub invariant-loop-moved : goal.invariant-loop-moved

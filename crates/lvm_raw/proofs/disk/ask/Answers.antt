@@ -1,10 +1,10 @@
 use Rattle.std.proofs.Common.{◌≡◌, slice_index_or, Err, inl, refl, arith}
 use Rattle.lvm_num.specs.Buffer.{Buffer}
 use Rattle.lvm_steps.specs.Requests.{at as moment_of}
-use Rattle.lvm_transfer.proofs.Joining.{got_within}
-use Rattle.lvm_transfer.proofs.Joining.{or_got}
-use Rattle.lvm_raw.proofs.Going.{range_none}
-use Rattle.lvm_raw.proofs.Refusing.{rejected_rose}
+use Rattle.lvm_transfer.proofs.RecordLemmas.{got_within}
+use Rattle.lvm_transfer.proofs.RecordLemmas.{or_got}
+use Rattle.lvm_raw.proofs.PiecesLemmas.{range_none}
+use Rattle.lvm_raw.proofs.RawLemmas.Refusing.{rejected_rose}
 use Rattle.lvm_raw.proofs.disk.ask.Goals as goal
 
 pub look-requires-clause-there : goal.look-requires-clause-there

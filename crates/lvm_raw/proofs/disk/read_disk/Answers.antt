@@ -3,9 +3,9 @@ use Rattle.std.proofs.lemmas.Result.{err_from_is_err_and}
 use Rattle.lvm_num.specs.Buffer.{Sector}
 use Rattle.lvm_raw.specs.declared.fault.RawFault.TheVariants as fault
 use Rattle.lvm_raw.specs.Pieces.{ReadsGo}
-use Rattle.lvm_raw.proofs.Answering.{unasked, lacking, went}
-use Rattle.lvm_raw.proofs.Going.{ok_both}
-use Rattle.lvm_raw.proofs.Refusing.{reads_of, not_of_pieces}
+use Rattle.lvm_raw.proofs.RawLemmas.Answering.{unasked, lacking, went}
+use Rattle.lvm_raw.proofs.PiecesLemmas.{ok_both}
+use Rattle.lvm_raw.proofs.RawLemmas.Refusing.{reads_of, not_of_pieces}
 use Rattle.lvm_raw.proofs.disk.read_disk.Goals as goal
 
 pub returns-in_err-buf : goal.returns-in_err-buf

@@ -1,8 +1,8 @@
 use Rattle.std.proofs.lemmas.Result.{err_from_is_err_and}
 use Rattle.lvm_raw.specs.declared.fault.RawFault.TheVariants as fault
 use Rattle.lvm_raw.specs.Pieces.{WritesGo}
-use Rattle.lvm_raw.proofs.Answering.{unasked, lacking, went}
-use Rattle.lvm_raw.proofs.Refusing.{writes_of, not_of_pieces}
+use Rattle.lvm_raw.proofs.RawLemmas.Answering.{unasked, lacking, went}
+use Rattle.lvm_raw.proofs.RawLemmas.Refusing.{writes_of, not_of_pieces}
 use Rattle.lvm_raw.proofs.disk.write_disk.Goals as goal
 
 pub returns-in_err-buf : goal.returns-in_err-buf

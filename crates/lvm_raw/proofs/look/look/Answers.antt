@@ -1,10 +1,10 @@
 use Rattle.std.proofs.Common.{Ok, Err, refl, sym, subst}
 use Rattle.lvm_vol.specs.Log.{Log}
 use Rattle.lvm_steps.specs.Requests.{at as moment_of}
-use Rattle.lvm_transfer.proofs.Following.{only_none, rested_none, untouched_none}
+use Rattle.lvm_transfer.proofs.ReadingLemmas.Following.{only_none, rested_none, untouched_none}
 use Rattle.lvm_raw.specs.declared.fault.RawFault.TheVariants as fault
 use Rattle.lvm_raw.specs.Keeping.{RangeKeeps}
-use Rattle.lvm_raw.proofs.Looking.{looked, looked_dark, none_here, shown_none, shown_some}
+use Rattle.lvm_raw.proofs.LookingLemmas.{looked, looked_dark, none_here, shown_none, shown_some}
 use Rattle.lvm_raw.proofs.look.look.Goals as goal
 
 pub returns-in_default-clause-fails : goal.returns-in_default-clause-fails
@@ -41,7 +41,7 @@ pub returns-in-Err-Stopped-Stuck-clause-keeps : goal.returns-in-Err-Stopped-Stuc
 returns-in-Err-Stopped-Stuck-clause-keeps g c =
     let old = g.S.Shelf.device c.args.shelf.now in
     let gives = (rw (c.in-Err-Stopped-Stuck.field-0-is, c.in-Err-Stopped-Stuck.field-0-0-is) at c.in-Err-Stopped-Stuck.ensures.reads).gives in
-    looked c.args.patience.now.left c.read_descriptor.new.patience.left old (g.S.Shelf.device c.read_descriptor.new.shelf) c.in-Err-Stopped-Stuck.ensures.reads.only c.args.history.now.run c.args.disk c.args.history.now.facts (Err fault.Stuck) gives.power (λ unstuck. absurd (unstuck refl)) gives.waited
+    looked c.args.patience.now.left c.read_descriptor.new.patience.left old (g.S.Shelf.device c.read_descriptor.new.shelf) c.in-Err-Stopped-Stuck.ensures.reads.only c.args.history.now.run c.args.disk c.args.history.now.facts (Err fault.Stuck) gives.power (λ unstuck. absurd (unstuck refl)) gives.waits
 
 pub returns-clause-keeps : goal.returns-clause-keeps
 returns-clause-keeps g c =
@@ -63,6 +63,7 @@ returns-in-Ok-None-default-clause-found g c =
     record {
       reads = record { left = c.read_descriptor.new.patience.left; only = says.reads.only; elsewhere = says.reads.elsewhere };
       all = says.reads.gives.0;
+      whole = says.whole;
       none = none_here old new c.args.disk c.requires.ready.flights says.reads.gives.0.rested.ready.flights same.sizes same.media (shown_none old c.args.disk c.requires.ready.flights shown);
     }
 
@@ -70,4 +71,4 @@ pub returns-in-Ok-Some-default-clause-fails : goal.returns-in-Ok-Some-default-cl
 returns-in-Ok-Some-default-clause-fails g c =
     let says = c.in-Ok-Some-default.ensures in
     let shown = rw c.in-Ok-Some-default.field-0-0-is at says.shown in
-    (refl, record { left = c.read_descriptor.new.patience.left; only = says.reads.only; elsewhere = says.reads.elsewhere }, says.reads.gives.0, shown_some (g.S.Shelf.device c.args.shelf.now) c.args.disk c.in-Ok-Some-default.field-0-0-0 shown)
+    (refl, record { left = c.read_descriptor.new.patience.left; only = says.reads.only; elsewhere = says.reads.elsewhere }, says.reads.gives.0, shown_some (g.S.Shelf.device c.args.shelf.now) c.args.disk c.in-Ok-Some-default.field-0-0-0 shown, says.whole)

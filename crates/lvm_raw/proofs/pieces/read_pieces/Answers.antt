@@ -10,8 +10,8 @@ use Rattle.lvm_piece.specs.Keeping.{PieceKeeps}
 use Rattle.lvm_raw.specs.Keeping.{RangeKeeps}
 use Rattle.lvm_piece.specs.Pieces.{ReadsPiece}
 use Rattle.lvm_raw.specs.Pieces.{piece_end, answer_of, ReadsGo, with_front}
-use Rattle.lvm_raw.proofs.Going.{SoFar, at_first, one_more_to, all_went, was_broken_at, settled_ended, got_more, got_whole}
-use Rattle.lvm_raw.proofs.Rooms.{piece_asked, room_next}
+use Rattle.lvm_raw.proofs.PiecesLemmas.{SoFar, at_first, one_more_to, all_went, was_broken_at, settled_ended, got_more, got_whole}
+use Rattle.lvm_raw.proofs.AskingLemmas.{piece_asked, room_next}
 use Rattle.lvm_raw.proofs.pieces.read_pieces.Goals as goal
 
 pub loop-from-init : goal.loop-from-init

@@ -4,7 +4,7 @@ use Rattle.lvm_raw.specs.declared.fault.RawFault.TheVariants as fault
 use Rattle.lvm_raw.specs.Asking.{HasRoomForPieces}
 use Rattle.lvm_piece.specs.Pieces.{ReadsPiece}
 use Rattle.lvm_raw.specs.Pieces.{with_front}
-use Rattle.lvm_raw.proofs.Going.{SoFar}
+use Rattle.lvm_raw.proofs.PiecesLemmas.{SoFar}
 use Rattle.lvm_raw.proofs.pieces.read_pieces.Given as goal
 
 abbrev pub invariant-loop-from : goal.invariant-loop-from

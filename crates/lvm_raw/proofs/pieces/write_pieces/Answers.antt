@@ -9,8 +9,8 @@ use Rattle.lvm_piece.specs.Keeping.{PieceKeeps}
 use Rattle.lvm_raw.specs.Keeping.{RangeKeeps}
 use Rattle.lvm_piece.specs.Pieces.{WritesPiece}
 use Rattle.lvm_raw.specs.Pieces.{piece_end, WritesGo}
-use Rattle.lvm_raw.proofs.Going.{at_first, one_more_to, all_went, was_broken_at, settled_ended}
-use Rattle.lvm_raw.proofs.Rooms.{piece_asked, room_next, written_by}
+use Rattle.lvm_raw.proofs.PiecesLemmas.{at_first, one_more_to, all_went, was_broken_at, settled_ended}
+use Rattle.lvm_raw.proofs.AskingLemmas.{piece_asked, room_next, written_by}
 use Rattle.lvm_raw.proofs.pieces.write_pieces.Goals as goal
 
 pub loop-from-init : goal.loop-from-init

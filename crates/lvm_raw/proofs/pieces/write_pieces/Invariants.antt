@@ -3,7 +3,7 @@ use Rattle.lvm_steps.specs.Requests.{at as moment_of}
 use Rattle.lvm_raw.specs.declared.fault.RawFault.TheVariants as fault
 use Rattle.lvm_raw.specs.Asking.{HasRoomForPieces}
 use Rattle.lvm_piece.specs.Pieces.{WritesPiece}
-use Rattle.lvm_raw.proofs.Going.{SoFar}
+use Rattle.lvm_raw.proofs.PiecesLemmas.{SoFar}
 use Rattle.lvm_raw.proofs.pieces.write_pieces.Given as goal
 
 abbrev pub invariant-loop-from : goal.invariant-loop-from

@@ -1,7 +1,7 @@
 use Rattle.std.proofs.Common.{length, sym, ap, ◌∙◌, arith}
 use Rattle.lvm_num.specs.Record.{record_sectors}
-use Rattle.lvm_num.proofs.Records.{enough, epoch-is, seq-is, len-is}
-use Rattle.lvm_rec.proofs.SlotLemmas.{slot_is_long}
+use Rattle.lvm_num.proofs.RecordLemmas.Records.{enough, epoch-is, seq-is, len-is}
+use Rattle.lvm_rec.proofs.RecordLemmas.Slot.{slot_is_long}
 use Rattle.lvm_rec.proofs.frames.announced.Goals as goal
 use Rattle.lvm_rec.proofs.frames.announced.Goals.{then-epoch-eq0-via-then-epoch-eq0, then-epoch-eq0-via-else-epoch-eq0+then-seq-eq0, then-epoch-eq0-via-else-epoch-eq0+else-seq-eq0+then-len-longest}
 

@@ -1,8 +1,8 @@
 use Rattle.std.proofs.Common.{◌≡◌, ◌*◌, length, take, drop, sym, ◌∙◌, arith}
 use Rattle.std.proofs.lemmas.Bool.{false≢true}
 use Rattle.lvm_num.specs.Record.{record_sectors, frame}
-use Rattle.lvm_num.proofs.Records.{length-frame}
-use Rattle.lvm_rec.proofs.SlotLemmas.{joined-none, front-more, front-piece}
+use Rattle.lvm_num.proofs.RecordLemmas.Records.{length-frame}
+use Rattle.lvm_rec.proofs.RecordLemmas.Slot.{joined-none, front-more, front-piece}
 use Rattle.lvm_rec.proofs.frames.begins_with.Goals as goal
 
 pub loop-k-init : goal.loop-k-init

@@ -1,5 +1,5 @@
 use Rattle.std.proofs.Common.{◌+◌, ◌-◌, arith}
-use Rattle.lvm_rec.proofs.FrameLemmas.{first_is}
+use Rattle.lvm_rec.proofs.RecordLemmas.Frame.{first_is}
 use Rattle.lvm_rec.proofs.frames.first_part.Goals as goal
 
 pub returns : goal.returns

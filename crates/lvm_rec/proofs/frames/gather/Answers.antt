@@ -1,7 +1,7 @@
 use Rattle.std.proofs.Common.{◌≡◌, ◌+◌, ◌-◌, ◌*◌, ◌++◌, ℕ, List, take, drop, ap, ◌∙◌, arith}
 use Rattle.lvm_num.specs.Record.{payload_of}
-use Rattle.lvm_num.proofs.Records.{enough}
-use Rattle.lvm_rec.proofs.SlotLemmas.{payload-one, payload-more}
+use Rattle.lvm_num.proofs.RecordLemmas.Records.{enough}
+use Rattle.lvm_rec.proofs.RecordLemmas.Slot.{payload-one, payload-more}
 use Rattle.lvm_rec.proofs.frames.gather.Goals as goal
 
 pub loop-k-init : goal.loop-k-init

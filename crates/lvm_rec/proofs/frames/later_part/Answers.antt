@@ -1,5 +1,5 @@
 use Rattle.std.proofs.Common.{arith}
-use Rattle.lvm_rec.proofs.FrameLemmas.{over_zeros}
+use Rattle.lvm_rec.proofs.RecordLemmas.Frame.{over_zeros}
 use Rattle.lvm_rec.proofs.frames.later_part.Goals as goal
 
 pub returns : goal.returns

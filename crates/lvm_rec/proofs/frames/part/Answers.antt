@@ -1,6 +1,6 @@
 use Rattle.std.proofs.Common.{◌-◌, ◌*◌, ◌++◌, List, ℕ, take, replicate, ap, ◌∙◌, arith}
 use Rattle.std.proofs.lemmas.List.{take_rest}
-use Rattle.lvm_rec.proofs.FrameLemmas.{later_is}
+use Rattle.lvm_rec.proofs.RecordLemmas.Frame.{later_is}
 use Rattle.lvm_rec.proofs.frames.part.Goals as goal
 
 pub returns-else-index-eq0 : goal.returns-else-index-eq0

@@ -1,6 +1,6 @@
 use Rattle.std.proofs.Common.{◌≡◌, ℕ, List, Some, sym, subst, ◌∙◌}
 use Rattle.lvm_num.specs.Record.{record_in}
-use Rattle.lvm_rec.proofs.SlotLemmas.{no_record, held_record, other_record}
+use Rattle.lvm_rec.proofs.RecordLemmas.Slot.{no_record, held_record, other_record}
 use Rattle.lvm_rec.proofs.frames.read_slot.Goals as goal
 
 pub returns-in_default : goal.returns-in_default

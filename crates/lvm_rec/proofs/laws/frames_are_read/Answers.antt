@@ -1,4 +1,4 @@
-use Rattle.lvm_rec.proofs.SlotLaws.{slot_holds_one, frames_are_read}
+use Rattle.lvm_rec.proofs.SlotsLemmas.SlotLaws.{slot_holds_one, frames_are_read}
 use Rattle.lvm_rec.proofs.laws.frames_are_read.Goals as goal
 
 pub returns : goal.returns

@@ -1,4 +1,4 @@
-use Rattle.lvm_rec.proofs.SlotLaws.{may_write, keeps_before}
+use Rattle.lvm_rec.proofs.SlotsLemmas.SlotLaws.{may_write, keeps_before}
 use Rattle.lvm_rec.proofs.laws.later_stamps.Goals as goal
 
 pub returns : goal.returns

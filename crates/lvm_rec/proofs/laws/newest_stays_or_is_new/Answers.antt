@@ -1,4 +1,4 @@
-use Rattle.lvm_rec.proofs.SlotLaws.{newest_stays_or_is_new, whole_is_newest, keeps_others}
+use Rattle.lvm_rec.proofs.SlotsLemmas.SlotLaws.{newest_stays_or_is_new, whole_is_newest, keeps_others}
 use Rattle.lvm_rec.proofs.laws.newest_stays_or_is_new.Goals as goal
 
 pub returns : goal.returns

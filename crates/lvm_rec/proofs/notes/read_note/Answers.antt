@@ -2,7 +2,7 @@ use Rattle.std.proofs.Common.{◌≡◌, ◌∷◌, [], ◌++◌, List, length, 
 use Rattle.arrayvec.specs.ArrayVec.{ArrayVec}
 use Rattle.lvm_num.specs.declared.record.NoteEntry.{NoteEntry}
 use Rattle.lvm_num.specs.Note.{entry_at, entries_below}
-use Rattle.lvm_num.proofs.Notes.{entries_below-more, entries_below-none}
+use Rattle.lvm_num.proofs.NoteLemmas.{entries_below-more, entries_below-none}
 use Rattle.lvm_rec.proofs.notes.read_note.Goals as goal
 use Rattle.lvm_rec.proofs.notes.read_note.Goals.{in-Some, in_default}
 

@@ -1,6 +1,6 @@
 use Rattle.std.proofs.Common.{◌≡◌, length, subst, ◌∙◌, arith}
 use Rattle.lvm_num.specs.declared.record.NoteEntry.{NoteEntry}
-use Rattle.lvm_rec.proofs.NoteLemmas.{begun, one_more, ended}
+use Rattle.lvm_rec.proofs.NumNoteLemmas.{begun, one_more, ended}
 use Rattle.lvm_rec.proofs.notes.write_note.Goals as goal
 
 abbrev no_entry : NoteEntry

@@ -1,4 +1,4 @@
-use Rattle.lvm_recover.proofs.Examples.{pairs_recover}
+use Rattle.lvm_recover.proofs.ExamplesLemmas.{pairs_recover}
 use Rattle.lvm_recover.proofs.laws.pairs_recover.Goals as goal
 
 pub returns : goal.returns

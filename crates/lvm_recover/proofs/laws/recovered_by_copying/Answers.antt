@@ -1,4 +1,4 @@
-use Rattle.lvm_recover.proofs.Recovered.{recovered_by_copying}
+use Rattle.lvm_recover.proofs.RecoveredLemmas.{recovered_by_copying}
 use Rattle.lvm_recover.proofs.laws.recovered_by_copying.Goals as goal
 
 pub returns : goal.returns

@@ -1,5 +1,5 @@
 use Rattle.lvm_transfer.specs.declared.moves.Moved.TheVariants as moved
-use Rattle.lvm_recovery.proofs.Moving.{step_gives}
+use Rattle.lvm_recovery.proofs.CopyingLemmas.Moving.{step_gives}
 use Rattle.lvm_recovery.proofs.copying.step.Goals as goal
 
 pub returns-in-Done : goal.returns-in-Done

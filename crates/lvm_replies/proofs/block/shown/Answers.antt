@@ -1,7 +1,7 @@
 use Rattle.std.proofs.Common.{arith, ◌≡◌, ◌<◌, length, ℕ, take, get_or, ◌∙◌}
 use Rattle.std.proofs.lemmas.Grind.{common_steps}
 use Rattle.std.specs.Int.{w64, from_be_bytes}
-use Rattle.lvm_replies.proofs.Filled.{filled_repeats, repeats_filled, shown_whole, shown_short, word_fits, front_bytes}
+use Rattle.lvm_replies.proofs.BlocksLemmas.{filled_repeats, repeats_filled, shown_whole, shown_short, word_fits, front_bytes}
 use Rattle.lvm_replies.proofs.block.shown.Goals as goal
 
 pub returns-in-Some : goal.returns-in-Some

@@ -1,4 +1,4 @@
-use Rattle.lvm_replies.proofs.Rows.{past}
+use Rattle.lvm_replies.proofs.RefusalsLemmas.{past}
 use Rattle.std.proofs.Common.{arith}
 use Rattle.lvm_replies.proofs.refusal.name_of.Goals as goal
 

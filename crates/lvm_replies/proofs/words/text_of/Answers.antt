@@ -1,6 +1,6 @@
 use Rattle.std.proofs.Common.{subst, sym}
 use Rattle.std.specs.Str.{IsUtf8}
-use Rattle.lvm_replies.proofs.Names.{name_is_text}
+use Rattle.lvm_replies.proofs.NameLemmas.{name_is_text}
 use Rattle.lvm_replies.proofs.words.text_of.Goals as goal
 
 pub unreachable-requires : goal.unreachable-requires

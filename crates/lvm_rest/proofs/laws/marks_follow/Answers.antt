@@ -1,4 +1,4 @@
-use Rattle.lvm_rest.proofs.Marking.{marked_may_follow, marked_leaves_none}
+use Rattle.lvm_rest.proofs.MarkingLemmas.{marked_may_follow, marked_leaves_none}
 use Rattle.lvm_rest.proofs.laws.marks_follow.Goals as goal
 
 pub returns : goal.returns

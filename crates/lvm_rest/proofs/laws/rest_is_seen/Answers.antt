@@ -1,4 +1,4 @@
-use Rattle.lvm_rest.proofs.Seen.{rest_is_seen}
+use Rattle.lvm_rest.proofs.GoodLemmas.Seen.{rest_is_seen}
 use Rattle.lvm_rest.proofs.laws.rest_is_seen.Goals as goal
 
 pub returns : goal.returns

@@ -1,6 +1,6 @@
 use Rattle.std.proofs.lemmas.Result.{err_from_is_err_and}
-use Rattle.lvm_ranges.specs.handed.Names.{state_of}
-use Rattle.lvm_resync.proofs.Bringing.{begins, closed_state, closes, last_turns, runs_under_way, stops, turned}
+use Rattle.lvm_session.specs.State.{state_of}
+use Rattle.lvm_resync.proofs.PassingLemmas.Bringing.{begins, closed_state, closes, last_turns, runs_under_way, stops, turned}
 use Rattle.lvm_resync.proofs.copies.bring_up.Goals as goal
 
 pub loop-driver-init : goal.loop-driver-init

@@ -1,7 +1,7 @@
 use Rattle.std.proofs.Common.{◌+◌}
 use Rattle.lvm_session.specs.Left.{left_of}
-use Rattle.lvm_ranges.specs.handed.Names.{state_of}
-use Rattle.lvm_resync.proofs.Bringing.{BroughtSoFar}
+use Rattle.lvm_session.specs.State.{state_of}
+use Rattle.lvm_resync.proofs.PassingLemmas.Bringing.{BroughtSoFar}
 use Rattle.lvm_resync.proofs.copies.bring_up.Given as goal
 
 abbrev pub invariant-loop-driver : goal.invariant-loop-driver

@@ -1,13 +1,13 @@
 use Rattle.std.proofs.Common.{◌+◌, ◌<◌, Some, ap, sym, subst, ◌∙◌}
 use Rattle.std.proofs.lemmas.Result.{err_from_is_err_and}
 use Rattle.lvm_session.specs.declared.answers.CopyFault.{CopyFault}
-use Rattle.lvm_session.specs.State.{Core, State}
+use Rattle.lvm_session.specs.State.{Core, State, state_of}
 use Rattle.lvm_session.specs.Left.{left_of}
-use Rattle.lvm_ranges.specs.handed.Names.{counts_seen, state_of}
+use Rattle.lvm_ranges.specs.passed.Names.{counts_seen}
 use Rattle.lvm_resync.specs.Passing.{EndsOr, IsJudged, EndsAtCopy, copy_of}
 use Rattle.lvm_resync.specs.Turning.{GoesBeside, IsUnderWay}
-use Rattle.lvm_resync.proofs.Judging.{answers, begins, beside_then, broken_off, may_refuse, opens, same_state, turned, under_way}
-use Rattle.lvm_resync.proofs.Refusing.{refused_for}
+use Rattle.lvm_resync.proofs.PassingLemmas.Judging.{answers, begins, beside_then, broken_off, may_refuse, opens, same_state, turned, under_way}
+use Rattle.lvm_resync.proofs.CallsLemmas.{refused_for}
 use Rattle.lvm_resync.proofs.copies.open_stale.Goals as goal
 
 pub loop-pp-init : goal.loop-pp-init

@@ -1,8 +1,8 @@
 use Rattle.std.proofs.Common.{◌+◌}
 use Rattle.lvm_session.specs.Left.{left_of}
-use Rattle.lvm_ranges.specs.handed.Names.{state_of}
+use Rattle.lvm_session.specs.State.{state_of}
 use Rattle.lvm_resync.specs.Passing.{copy_of}
-use Rattle.lvm_resync.proofs.Judging.{JudgedSoFar}
+use Rattle.lvm_resync.proofs.PassingLemmas.Judging.{JudgedSoFar}
 use Rattle.lvm_resync.proofs.copies.open_stale.Given as goal
 
 abbrev pub invariant-loop-pp : goal.invariant-loop-pp

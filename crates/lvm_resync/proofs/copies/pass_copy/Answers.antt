@@ -1,11 +1,11 @@
 use Rattle.std.proofs.Common.{subst}
 use Rattle.std.proofs.lemmas.Result.{err_from_is_err_and}
-use Rattle.lvm_ranges.specs.handed.Names.{state_of}
+use Rattle.lvm_session.specs.State.{state_of}
 use Rattle.lvm_resync.specs.declared.copies.Opening.{Opening}
 use Rattle.lvm_resync.specs.Passing.{IsJudged, copy_of}
-use Rattle.lvm_resync.proofs.Judging.{running_off}
-use Rattle.lvm_resync.proofs.Passed.{opened_just, passed_so}
-use Rattle.lvm_resync.proofs.Turning.{beside_both, unstuck_beside}
+use Rattle.lvm_resync.proofs.PassingLemmas.Judging.{running_off}
+use Rattle.lvm_resync.proofs.SyncingLemmas.Passed.{opened_just, passed_so}
+use Rattle.lvm_resync.proofs.TurningLemmas.{beside_both, unstuck_beside}
 use Rattle.lvm_resync.proofs.copies.pass_copy.Goals as goal
 
 pub bring_up-requires-clause-unstuck : goal.bring_up-requires-clause-unstuck

@@ -1,8 +1,8 @@
 use Rattle.std.proofs.Common.{◌≡◌, length, arith}
 use Rattle.std.proofs.lemmas.Result.{err_from_is_err_and}
-use Rattle.lvm_ranges.specs.handed.Names.{state_of}
+use Rattle.lvm_session.specs.State.{state_of}
 use Rattle.lvm_resync.specs.Syncing.{copies_at}
-use Rattle.lvm_resync.proofs.Passing.{all_of, more_of, none_yet, stops, stops_of}
+use Rattle.lvm_resync.proofs.SyncingLemmas.Passing.{all_of, more_of, none_yet, stops, stops_of}
 use Rattle.lvm_resync.proofs.passes.pass_group.Goals as goal
 
 pub loop-place-init : goal.loop-place-init

@@ -2,9 +2,9 @@ use Rattle.std.proofs.Common.{◌≡◌, ap, sym, ◌∙◌, arith}
 use Rattle.std.proofs.lemmas.Result.{err_from_is_err_and}
 use Rattle.lvm_num.specs.declared.descriptor.Descriptor.{Descriptor}
 use Rattle.lvm_num.specs.Descriptor.{volume_of}
-use Rattle.lvm_ranges.specs.handed.Names.{state_of}
+use Rattle.lvm_session.specs.State.{state_of}
 use Rattle.lvm_resync.specs.Syncing.{copy_in}
-use Rattle.lvm_resync.proofs.Passing.{all_of, more_of, none_yet, stops, stops_of}
+use Rattle.lvm_resync.proofs.SyncingLemmas.Passing.{all_of, more_of, none_yet, stops, stops_of}
 use Rattle.lvm_resync.proofs.passes.pass_partition.Goals as goal
 
 pub loop-place-init : goal.loop-place-init

@@ -1,6 +1,6 @@
-use Rattle.lvm_ranges.specs.handed.Names.{state_of}
+use Rattle.lvm_session.specs.State.{state_of}
 use Rattle.lvm_resync.specs.Syncing.{copy_in}
-use Rattle.lvm_resync.proofs.Passing.{PassedSoFar}
+use Rattle.lvm_resync.proofs.SyncingLemmas.Passing.{PassedSoFar}
 use Rattle.lvm_resync.proofs.passes.pass_partition.Given as goal
 
 abbrev pub invariant-loop-place : goal.invariant-loop-place

@@ -1,7 +1,7 @@
 use Rattle.std.proofs.Common.{sym, ◌∙◌}
 use Rattle.std.proofs.lemmas.Result.{err_from_is_err_and}
-use Rattle.lvm_ranges.specs.handed.Names.{state_of}
-use Rattle.lvm_resync.proofs.Passed.{none_there, one_there, stops_there}
+use Rattle.lvm_session.specs.State.{state_of}
+use Rattle.lvm_resync.proofs.SyncingLemmas.Passed.{none_there, one_there, stops_there}
 use Rattle.lvm_resync.proofs.passes.pass_place.Goals as goal
 
 pub returns-in-None-clause-ends : goal.returns-in-None-clause-ends

@@ -1,8 +1,8 @@
 use Rattle.std.proofs.Common.{List, sym, ◌∙◌, subst}
-use Rattle.lvm_ranges.specs.handed.Names.{state_of}
+use Rattle.lvm_session.specs.State.{state_of}
 use Rattle.lvm_resync.specs.Passing.{Copy, EndsOr}
 use Rattle.lvm_resync.specs.Syncing.{ArePassed, NonePassed, StopsAmong}
-use Rattle.lvm_resync.proofs.Passed.{no_volume_there, volume_there}
+use Rattle.lvm_resync.proofs.SyncingLemmas.Passed.{no_volume_there, volume_there}
 use Rattle.lvm_resync.proofs.passes.pass_volume_at.Goals as goal
 
 pub returns-in-None-clause-ends : goal.returns-in-None-clause-ends

@@ -1,11 +1,11 @@
 use Rattle.std.proofs.Common.{refl, sym, subst, ◌∙◌}
 use Rattle.std.proofs.lemmas.Result.{err_from_is_err_and}
-use Rattle.lvm_ranges.specs.handed.Names.{state_of}
+use Rattle.lvm_session.specs.State.{state_of}
 use Rattle.lvm_resync.specs.declared.tally.Tally.{Tally}
 use Rattle.lvm_resync.specs.Syncing.{ArePassed, StopsAmong, volume_copies, volume_fault}
-use Rattle.lvm_resync.proofs.Asking.{not_begun, ready_by, stopped, synced}
-use Rattle.lvm_resync.proofs.Causing.{volume_caused, refused_caused, stopped_caused, synced_caused}
-use Rattle.lvm_resync.proofs.Turning.{beside_none}
+use Rattle.lvm_resync.proofs.SyncingLemmas.Asking.{not_begun, ready_by, stopped, synced}
+use Rattle.lvm_resync.proofs.CausesLemmas.{volume_caused, refused_caused, stopped_caused, synced_caused}
+use Rattle.lvm_resync.proofs.TurningLemmas.{beside_none}
 use Rattle.lvm_resync.proofs.sync.sync_volume.Goals as goal
 
 pub returns-in-Some-clause-gives : goal.returns-in-Some-clause-gives

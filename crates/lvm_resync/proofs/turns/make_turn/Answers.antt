@@ -1,8 +1,8 @@
 use Rattle.std.proofs.Common.{inl, inr, refl, arith}
 use Rattle.lvm_session.specs.declared.answers.Turned.TheVariants as turned
-use Rattle.lvm_ranges.specs.handed.Names.{state_of}
-use Rattle.lvm_ranges.proofs.Turning.{less_by_wait}
-use Rattle.lvm_resync.proofs.Turning.{finds_of, runs_beside, waits_beside}
+use Rattle.lvm_session.specs.State.{state_of}
+use Rattle.lvm_ranges.proofs.LandingLemmas.{less_by_wait}
+use Rattle.lvm_resync.proofs.TurningLemmas.{finds_of, runs_beside, waits_beside}
 use Rattle.lvm_resync.proofs.turns.make_turn.Goals as goal
 
 pub returns-in-Moved-clause-beside : goal.returns-in-Moved-clause-beside

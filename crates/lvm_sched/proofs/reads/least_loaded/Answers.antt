@@ -1,6 +1,6 @@
 use Rattle.std.proofs.Common.{◌<◌, ◌≤◌, get_or, sym, arith}
 use Rattle.lvm_sched.specs.Reads.{load_of}
-use Rattle.lvm_sched.proofs.Orders.{best_first, best_better, best_kept, best_number, best_of_all, number_at}
+use Rattle.lvm_sched.proofs.ReadsLemmas.Orders.{best_first, best_better, best_kept, best_number, best_of_all, number_at}
 use Rattle.lvm_sched.proofs.reads.least_loaded.Goals as goal
 use Rattle.lvm_sched.proofs.reads.least_loaded.Goals.{then-load_of, else-load_of}
 

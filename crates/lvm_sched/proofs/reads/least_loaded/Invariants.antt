@@ -1,4 +1,4 @@
-use Rattle.lvm_sched.proofs.Orders.{BestSoFar}
+use Rattle.lvm_sched.proofs.ReadsLemmas.Orders.{BestSoFar}
 use Rattle.lvm_sched.proofs.reads.least_loaded.Given as goal
 
 abbrev pub invariant-loop-copy : goal.invariant-loop-copy

@@ -1,4 +1,4 @@
-use Rattle.lvm_sched.proofs.Copies.{lowest_of}
+use Rattle.lvm_sched.proofs.ReadsLemmas.Copies.{lowest_of}
 use Rattle.lvm_sched.proofs.reads.lowest.Goals as goal
 
 pub returns : goal.returns

@@ -1,4 +1,4 @@
-use Rattle.lvm_sched.proofs.Copies.{next_around}
+use Rattle.lvm_sched.proofs.ReadsLemmas.Copies.{next_around}
 use Rattle.lvm_sched.proofs.reads.next_around.Goals as goal
 
 pub returns : goal.returns

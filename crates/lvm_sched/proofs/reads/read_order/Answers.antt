@@ -1,6 +1,6 @@
 use Rattle.std.proofs.Common.{◌≡◌, ◌==◌, true, false, get_or, refl, arith}
 use Rattle.std.proofs.lemmas.Bool.{eq-eqb}
-use Rattle.lvm_sched.proofs.Orders.{differs, others_more, others_same, others_room, order_done}
+use Rattle.lvm_sched.proofs.ReadsLemmas.Orders.{differs, others_more, others_same, others_room, order_done}
 use Rattle.lvm_sched.proofs.reads.read_order.Goals as goal
 use Rattle.lvm_sched.proofs.reads.read_order.Goals.{then-copy-first, else-copy-first}
 

@@ -1,4 +1,4 @@
-use Rattle.lvm_session.proofs.Worked.{admission_marks}
+use Rattle.lvm_session.proofs.WorkedLemmas.Worked.{admission_marks}
 use Rattle.lvm_session.proofs.laws.admission_marks.Goals as goal
 
 pub returns : goal.returns

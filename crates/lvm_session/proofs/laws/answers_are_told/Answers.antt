@@ -1,4 +1,4 @@
-use Rattle.lvm_session.proofs.Worked.{answers_are_told}
+use Rattle.lvm_session.proofs.WorkedLemmas.Worked.{answers_are_told}
 use Rattle.lvm_session.proofs.laws.answers_are_told.Goals as goal
 
 pub returns : goal.returns

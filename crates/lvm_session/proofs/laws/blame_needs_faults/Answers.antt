@@ -1,4 +1,4 @@
-use Rattle.lvm_session.proofs.Worked.{blame_needs_faults}
+use Rattle.lvm_session.proofs.WorkedLemmas.Worked.{blame_needs_faults}
 use Rattle.lvm_session.proofs.laws.blame_needs_faults.Goals as goal
 
 pub returns : goal.returns

@@ -1,4 +1,4 @@
-use Rattle.lvm_session.proofs.Busy.{busy_is_sound}
+use Rattle.lvm_session.proofs.BusyLemmas.{busy_is_sound}
 use Rattle.lvm_session.proofs.laws.busy_is_sound.Goals as goal
 
 pub returns : goal.returns

@@ -1,4 +1,4 @@
-use Rattle.lvm_session.proofs.Worked.{commit_lowers_work}
+use Rattle.lvm_session.proofs.WorkedLemmas.Worked.{commit_lowers_work}
 use Rattle.lvm_session.proofs.laws.commit_lowers_work.Goals as goal
 
 pub returns : goal.returns

@@ -1,4 +1,4 @@
-use Rattle.lvm_session.proofs.BroughtUp.{copies_are_sound}
+use Rattle.lvm_session.proofs.WorkedLemmas.BroughtUp.{copies_are_sound}
 use Rattle.lvm_session.proofs.laws.copies_are_sound.Goals as goal
 
 pub returns : goal.returns

@@ -1,4 +1,4 @@
-use Rattle.lvm_session.proofs.Worked.{reads_may_lag}
+use Rattle.lvm_session.proofs.WorkedLemmas.Worked.{reads_may_lag}
 use Rattle.lvm_session.proofs.laws.reads_may_lag.Goals as goal
 
 pub returns : goal.returns

@@ -1,4 +1,4 @@
-use Rattle.lvm_session.proofs.Worked.{unpinned_writes_move}
+use Rattle.lvm_session.proofs.WorkedLemmas.Worked.{unpinned_writes_move}
 use Rattle.lvm_session.proofs.laws.unpinned_writes_move.Goals as goal
 
 pub returns : goal.returns

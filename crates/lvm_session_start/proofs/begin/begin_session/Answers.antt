@@ -1,6 +1,6 @@
 use Rattle.std.proofs.Common.{sym, subst}
-use Rattle.lvm_keeps.specs.handed.Names.{Core, state, IsSound}
-use Rattle.lvm_session_start.proofs.Beginning.{is_sound}
+use Rattle.lvm_keeps.specs.passed.Names.{Core, state, IsSound}
+use Rattle.lvm_session_start.proofs.EntriesLemmas.{is_sound}
 use Rattle.lvm_session_start.proofs.begin.begin_session.Goals as goal
 
 pub returns-clause-sound : goal.returns-clause-sound

@@ -1,5 +1,5 @@
 use Rattle.std.proofs.Common.{refl}
-use Rattle.lvm_session_start.proofs.Beginning.{none_asked}
+use Rattle.lvm_session_start.proofs.EntriesLemmas.{none_asked}
 use Rattle.lvm_session_start.proofs.begin.faults_of.Goals as goal
 
 pub loop-disk-init : goal.loop-disk-init

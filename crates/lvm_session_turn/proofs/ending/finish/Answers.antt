@@ -2,7 +2,7 @@ use Rattle.std.proofs.Common.{◌==◌, List, length, sym, ◌∙◌, ap}
 use Rattle.lvm_session.specs.declared.flown.Flown.{Flown}
 use Rattle.lvm_session.specs.Fields.{core_of}
 use Rattle.lvm_session.specs.State.{state}
-use Rattle.lvm_session_turn.proofs.Finishing.{none_out, rests_so, some_out}
+use Rattle.lvm_session_turn.proofs.TurnsLemmas.{none_out, rests_so, some_out}
 use Rattle.lvm_session_turn.proofs.ending.finish.Goals as goal
 
 pub end_one-requires-clause-out : goal.end_one-requires-clause-out

@@ -1,5 +1,5 @@
 use Rattle.lvm_session.specs.Fields.{core_of}
-use Rattle.lvm_session_turn.proofs.Turning.{lands_none, lands_only}
+use Rattle.lvm_session_turn.proofs.TakingLemmas.{lands_none, lands_only}
 use Rattle.lvm_session_turn.proofs.first.land_only.Goals as goal
 
 pub returns-then-land_first-clause-makes : goal.returns-then-land_first-clause-makes

@@ -1,7 +1,7 @@
 use Rattle.std.proofs.Common.{refl}
 use Rattle.lvm_session.specs.Fields.{core_of}
 use Rattle.lvm_session.specs.State.{state}
-use Rattle.lvm_session_turn.proofs.Turning.{started_there, starts}
+use Rattle.lvm_session_turn.proofs.TakingLemmas.{started_there, starts}
 use Rattle.lvm_session_turn.proofs.first.start.Goals as goal
 
 pub started-requires : goal.started-requires

@@ -1,4 +1,4 @@
-use Rattle.lvm_settled.proofs.Settled.{good_is_settled}
+use Rattle.lvm_settled.proofs.SettledLemmas.{good_is_settled}
 use Rattle.lvm_settled.proofs.laws.good_is_settled.Goals as goal
 
 pub returns : goal.returns

@@ -1,4 +1,4 @@
-use Rattle.lvm_settled.proofs.Settled.{none_left_is_behind as lemma_of}
+use Rattle.lvm_settled.proofs.SettledLemmas.{none_left_is_behind as lemma_of}
 use Rattle.lvm_settled.proofs.laws.none_left_is_behind.Goals as goal
 
 pub returns : goal.returns

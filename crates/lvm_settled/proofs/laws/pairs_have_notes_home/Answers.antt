@@ -1,4 +1,4 @@
-use Rattle.lvm_settled.proofs.Notes.{pairs_have_notes_home}
+use Rattle.lvm_settled.proofs.ExamplesLemmas.Notes.{pairs_have_notes_home}
 use Rattle.lvm_settled.proofs.laws.pairs_have_notes_home.Goals as goal
 
 pub returns : goal.returns

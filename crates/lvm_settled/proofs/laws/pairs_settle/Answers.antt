@@ -1,4 +1,4 @@
-use Rattle.lvm_settled.proofs.Examples.{pairs_settle}
+use Rattle.lvm_settled.proofs.ExamplesLemmas.Examples.{pairs_settle}
 use Rattle.lvm_settled.proofs.laws.pairs_settle.Goals as goal
 
 pub returns : goal.returns

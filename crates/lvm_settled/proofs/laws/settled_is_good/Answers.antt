@@ -1,4 +1,4 @@
-use Rattle.lvm_settled.proofs.Settled.{settled_is_good}
+use Rattle.lvm_settled.proofs.SettledLemmas.{settled_is_good}
 use Rattle.lvm_settled.proofs.laws.settled_is_good.Goals as goal
 
 pub returns : goal.returns

@@ -1,6 +1,6 @@
 use Rattle.std.proofs.Common.{arith, ◌≤◌, ◌+◌}
 use Rattle.lvm_num.specs.Status.{calls_stale}
-use Rattle.lvm_show.proofs.Counting.{counted-small}
+use Rattle.lvm_show.proofs.DescriptorLemmas.{counted-small}
 use Rattle.lvm_show.proofs.counts.all_stale.Goals as goal
 
 pub overflow_add-stale : goal.overflow_add-stale

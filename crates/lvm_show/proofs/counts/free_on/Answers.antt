@@ -1,5 +1,5 @@
 use Rattle.std.proofs.Common.{arith}
-use Rattle.lvm_show.proofs.FreeCount.{free_is}
+use Rattle.lvm_show.proofs.FirstFitLemmas.{free_is}
 use Rattle.lvm_show.proofs.counts.free_on.Goals as goal
 
 pub overflow_sub-result : goal.overflow_sub-result

@@ -2,7 +2,7 @@ use Rattle.std.proofs.Common.{arith, ◌≤◌, ◌+◌, ◌∙◌, ap}
 use Rattle.std.specs.Prelude.{◌==◌, ◌&&◌, count_by}
 use Rattle.lvm_num.specs.declared.place.Pp.{Pp}
 use Rattle.lvm_num.specs.Status.{calls_stale}
-use Rattle.lvm_show.proofs.Counting.{counted-small}
+use Rattle.lvm_show.proofs.DescriptorLemmas.{counted-small}
 use Rattle.lvm_show.proofs.counts.stale_on.Goals as goal
 
 pub overflow_add-stale : goal.overflow_add-stale

@@ -1,7 +1,7 @@
 use Rattle.std.proofs.Common.{arith, ◌≤◌, ◌+◌, ◌∙◌, ap}
 use Rattle.std.specs.Prelude.{◌==◌, count_by}
 use Rattle.lvm_num.specs.declared.place.Pp.{Pp}
-use Rattle.lvm_show.proofs.Counting.{counted-small}
+use Rattle.lvm_show.proofs.DescriptorLemmas.{counted-small}
 use Rattle.lvm_show.proofs.counts.used_on.Goals as goal
 
 pub overflow_add-used : goal.overflow_add-used

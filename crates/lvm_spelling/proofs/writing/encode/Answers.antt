@@ -1,5 +1,5 @@
 use Rattle.std.proofs.Common.{arith}
-use Rattle.lvm_num.proofs.Bounds.{few_members, few_volumes}
+use Rattle.lvm_num.proofs.DescriptorLemmas.Bounds.{few_members, few_volumes}
 use Rattle.lvm_spelling.proofs.writing.encode.Goals as goal
 
 pub head-requires : goal.head-requires

@@ -4,7 +4,7 @@ use Rattle.lvm_num.specs.declared.place.Pp.{Pp}
 use Rattle.lvm_num.specs.Disks.{has}
 use Rattle.lvm_num.specs.Among.{IsOneOf}
 use Rattle.lvm_stale.specs.Marking.{Marks}
-use Rattle.lvm_stale.proofs.MarkLemmas.{marks_one, copies_more, copies_same, has_row-same, no_pp, at_place}
+use Rattle.lvm_stale.proofs.MarkingLemmas.{marks_one, copies_more, copies_same, has_row-same, no_pp, at_place}
 use Rattle.lvm_stale.proofs.mark.mark_copies.Goals as goal
 use Rattle.lvm_stale.proofs.mark.mark_copies.Goals.{then-not-has, else-not-has}
 

@@ -3,13 +3,13 @@ use Rattle.std.specs.Prelude.{All}
 use Rattle.lvm_num.specs.declared.place.Pp.{Pp}
 use Rattle.lvm_num.specs.Descriptor.{copies_of}
 use Rattle.lvm_num.specs.Disks.{has}
-use Rattle.lvm_stale.specs.Marking.{IsLeft, Marks, IsMarkable}
-use Rattle.lvm_stale.proofs.MarkLemmas.{markable_same, markable_copies, below_more}
+use Rattle.lvm_stale.specs.Marking.{IsLeft, Marks, HasMark}
+use Rattle.lvm_stale.proofs.MarkingLemmas.{markable_same, markable_copies, below_more}
 use Rattle.lvm_stale.proofs.mark.mark_volume.Goals as goal
 
 pub mark_copies-requires-clause-markable : goal.mark_copies-requires-clause-markable
 mark_copies-requires-clause-markable c =
-    subst (λ (ps : List Pp). All (IsMarkable c.loop-lp.table) ps) (sym c.copies_of.ensures)
+    subst (λ (ps : List Pp). All (HasMark c.loop-lp.table) ps) (sym c.copies_of.ensures)
     (markable_same c.args.table.now c.loop-lp.table (copies_of c.args.volume.now c.loop-lp.lp) c.loop-lp.invariant.members (markable_copies c.args.table.now c.args.volume.now c.loop-lp.lp c.requires.markable))
 
 pub loop-lp-preserved : goal.loop-lp-preserved

@@ -1,4 +1,4 @@
-use Rattle.lvm_stale.proofs.Searches.{past_bits}
+use Rattle.lvm_stale.proofs.RowsLemmas.Searches.{past_bits}
 use Rattle.lvm_stale.proofs.table.is_marked.Goals as goal
 
 pub returns-else-bit-bits : goal.returns-else-bit-bits

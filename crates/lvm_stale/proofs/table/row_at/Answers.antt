@@ -1,7 +1,7 @@
 use Rattle.std.specs.Prelude.{◌==◌}
 use Rattle.std.proofs.Common.{false, []}
 use Rattle.lvm_num.specs.declared.status.StatusRow.{StatusRow}
-use Rattle.lvm_stale.proofs.Searches.{none_nowhere, row_found}
+use Rattle.lvm_stale.proofs.RowsLemmas.Searches.{none_nowhere, row_found}
 use Rattle.lvm_stale.proofs.table.row_at.Goals as goal
 
 pub unreachable-requires : goal.unreachable-requires

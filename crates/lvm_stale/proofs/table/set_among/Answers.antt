@@ -1,4 +1,4 @@
-use Rattle.lvm_stale.proofs.Numbers.{found, missed, room, dirty-insert, dirty-remove, sets-insert, sets-remove, sets-there, sets-absent}
+use Rattle.lvm_stale.proofs.RowsLemmas.Numbers.{found, missed, room, dirty-insert, dirty-remove, sets-insert, sets-remove, sets-there, sets-absent}
 use Rattle.lvm_stale.proofs.table.set_among.Goals as goal
 
 pub insert-requires-clause-room : goal.insert-requires-clause-room

@@ -1,4 +1,4 @@
-use Rattle.lvm_stamps.proofs.Records.{blank_is_before, blank_is_behind, all_is_behind_end}
+use Rattle.lvm_stamps.proofs.LawsLemmas.Records.{blank_is_before, blank_is_behind, all_is_behind_end}
 use Rattle.lvm_stamps.proofs.laws.blank_is_behind.Goals as goal
 
 pub returns : goal.returns

@@ -1,4 +1,4 @@
-use Rattle.lvm_stamps.proofs.Clock.{later_stays_ahead, risen_is_ahead, all_is_behind_next}
+use Rattle.lvm_stamps.proofs.LawsLemmas.Clock.{later_stays_ahead, risen_is_ahead, all_is_behind_next}
 use Rattle.lvm_stamps.proofs.laws.clock_stays_ahead.Goals as goal
 
 pub returns : goal.returns

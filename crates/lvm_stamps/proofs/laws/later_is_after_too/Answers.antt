@@ -1,4 +1,4 @@
-use Rattle.lvm_stamps.proofs.Stamps.{later_is_after_too, later_is_ahead_too, session_is_from_moment, session_is_before_later, behind_is_before, before_is_behind}
+use Rattle.lvm_stamps.proofs.LawsLemmas.Stamps.{later_is_after_too, later_is_ahead_too, session_is_from_moment, session_is_before_later, behind_is_before, before_is_behind}
 use Rattle.lvm_stamps.proofs.laws.later_is_after_too.Goals as goal
 
 pub returns : goal.returns

@@ -1,4 +1,4 @@
-use Rattle.lvm_stamps.proofs.Clock.{later_is_later_too, later_joins, on_is_earlier, removed_stays_later, joined_is_later}
+use Rattle.lvm_stamps.proofs.LawsLemmas.Clock.{later_is_later_too, later_joins, on_is_earlier, removed_stays_later, joined_is_later}
 use Rattle.lvm_stamps.proofs.laws.later_is_later_too.Goals as goal
 
 pub returns : goal.returns

@@ -1,4 +1,4 @@
-use Rattle.lvm_stamps.proofs.Records.{shown_is_before, later_may_go, session_may_go}
+use Rattle.lvm_stamps.proofs.LawsLemmas.Records.{shown_is_before, later_may_go, session_may_go}
 use Rattle.lvm_stamps.proofs.laws.later_may_go.Goals as goal
 
 pub returns : goal.returns

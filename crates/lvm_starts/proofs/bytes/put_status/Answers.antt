@@ -6,7 +6,7 @@ use Rattle.lvm_num.specs.declared.record.Stamp.{Stamp}
 use Rattle.lvm_num.specs.declared.status.Status.{Status}
 use Rattle.lvm_num.specs.Record.{frame, record_sectors}
 use Rattle.lvm_num.specs.StatusBytes.{status_bytes}
-use Rattle.lvm_commit.proofs.Sizes.{status_fits}
+use Rattle.lvm_commit.proofs.RecordLemmas.{status_fits}
 use Rattle.lvm_starts.proofs.bytes.put_status.Goals as goal
 
 pub encode_into-len-requires-clause-fits : goal.encode_into-len-requires-clause-fits

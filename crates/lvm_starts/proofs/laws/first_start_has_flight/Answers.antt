@@ -1,4 +1,4 @@
-use Rattle.lvm_starts.proofs.Ready.{first_start_has_flight}
+use Rattle.lvm_starts.proofs.ReadyLemmas.Ready.{first_start_has_flight}
 use Rattle.lvm_starts.proofs.laws.first_start_has_flight.Goals as goal
 
 pub returns : goal.returns

@@ -1,4 +1,4 @@
-use Rattle.lvm_status.proofs.Sessions.{commits_are_held, written_has_ended}
+use Rattle.lvm_status.proofs.RunsLemmas.Sessions.{commits_are_held, written_has_ended}
 use Rattle.lvm_status.proofs.laws.commits_are_held.Goals as goal
 
 pub returns : goal.returns

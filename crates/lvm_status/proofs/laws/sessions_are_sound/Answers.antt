@@ -1,4 +1,4 @@
-use Rattle.lvm_status.proofs.Sound.{first_is_sound, steps_stay_sound, runs_stay_sound}
+use Rattle.lvm_status.proofs.RunsLemmas.Sound.{first_is_sound, steps_stay_sound, runs_stay_sound}
 use Rattle.lvm_status.proofs.laws.sessions_are_sound.Goals as goal
 
 pub returns : goal.returns

@@ -1,5 +1,5 @@
-use Rattle.lvm_steps.proofs.Committing.{commit_keeps}
-use Rattle.lvm_steps.proofs.Following.{commit_goes_on}
+use Rattle.lvm_steps.proofs.CommittingLemmas.{commit_keeps}
+use Rattle.lvm_steps.proofs.VaryingOnLemmas.Following.{commit_goes_on}
 use Rattle.lvm_steps.proofs.laws.descriptor_is_committed.Goals as goal
 
 pub returns : goal.returns

@@ -1,4 +1,4 @@
-use Rattle.lvm_steps.proofs.Entries.{disk_entry_keeps, quiet_entry_keeps}
+use Rattle.lvm_steps.proofs.EntriesLemmas.{disk_entry_keeps, quiet_entry_keeps}
 use Rattle.lvm_steps.proofs.laws.disk_entries_keep.Goals as goal
 
 pub returns : goal.returns

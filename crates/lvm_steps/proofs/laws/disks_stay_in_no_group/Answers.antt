@@ -1,5 +1,5 @@
-use Rattle.lvm_steps.proofs.Writing.{still_shows_none, stays_in_no_group}
-use Rattle.lvm_steps.proofs.Zeros.{blank_is_in_no_group}
+use Rattle.lvm_steps.proofs.RequestsLemmas.Writing.{still_shows_none, stays_in_no_group}
+use Rattle.lvm_steps.proofs.MomentsLemmas.Zeros.{blank_is_in_no_group}
 use Rattle.lvm_steps.proofs.laws.disks_stay_in_no_group.Goals as goal
 
 pub returns : goal.returns

@@ -1,4 +1,4 @@
-use Rattle.lvm_steps.proofs.Entering.{quiet_goes_on, calm_goes_on, answered_stays_calm, darkened_stays_calm}
+use Rattle.lvm_steps.proofs.EnteringLemmas.{quiet_goes_on, calm_goes_on, answered_stays_calm, darkened_stays_calm}
 use Rattle.lvm_steps.proofs.laws.entries_go_on.Goals as goal
 
 pub returns : goal.returns

@@ -1,4 +1,4 @@
-use Rattle.lvm_steps.proofs.Following.{restamp_is_newest, newest_stays_newest, descriptor_varies_on, status_varies_on, notes_vary_on, group_is_varied_on}
+use Rattle.lvm_steps.proofs.VaryingOnLemmas.Following.{restamp_is_newest, newest_stays_newest, descriptor_varies_on, status_varies_on, notes_vary_on, group_is_varied_on}
 use Rattle.lvm_steps.proofs.laws.group_is_varied_on.Goals as goal
 
 pub returns : goal.returns

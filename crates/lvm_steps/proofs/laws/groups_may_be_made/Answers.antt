@@ -1,5 +1,5 @@
-use Rattle.lvm_steps.proofs.NoVolumes.{notes_may_change, statuses_may_change, descriptors_may_change}
-use Rattle.lvm_steps.proofs.Making.{still_may_make}
+use Rattle.lvm_steps.proofs.MakingLemmas.NoVolumes.{notes_may_change, statuses_may_change, descriptors_may_change}
+use Rattle.lvm_steps.proofs.MakingLemmas.Making.{still_may_make}
 use Rattle.lvm_steps.proofs.laws.groups_may_be_made.Goals as goal
 
 pub returns : goal.returns

@@ -1,4 +1,4 @@
-use Rattle.lvm_steps.proofs.VaryingOn.{restamp_keeps, only_newest_is_found, restate_keeps, forgetting_keeps}
+use Rattle.lvm_steps.proofs.VaryingOnLemmas.VaryingOn.{restamp_keeps, only_newest_is_found, restate_keeps, forgetting_keeps}
 use Rattle.lvm_steps.proofs.laws.groups_may_vary_on.Goals as goal
 
 pub returns : goal.returns

@@ -1,4 +1,4 @@
-use Rattle.lvm_steps.proofs.Writable.{writable_stays, notes_are_outside, records_are_outside}
+use Rattle.lvm_steps.proofs.WritableLemmas.{writable_stays, notes_are_outside, records_are_outside}
 use Rattle.lvm_steps.proofs.laws.records_stay_writable.Goals as goal
 
 pub returns : goal.returns

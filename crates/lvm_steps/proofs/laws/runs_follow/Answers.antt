@@ -1,5 +1,5 @@
-use Rattle.lvm_steps.proofs.Spans.{runs_follow}
-use Rattle.lvm_steps.proofs.Zeros.{blank_is_earlier}
+use Rattle.lvm_steps.proofs.MomentsLemmas.Spans.{runs_follow}
+use Rattle.lvm_steps.proofs.MomentsLemmas.Zeros.{blank_is_earlier}
 use Rattle.lvm_steps.proofs.laws.runs_follow.Goals as goal
 
 pub returns : goal.returns

@@ -1,4 +1,4 @@
-use Rattle.lvm_steps.proofs.Spans.{steps_go_on, fewer_stay_kept, entry_goes_on, group_goes_on, disks_go_out, spans_join, span_upholds}
+use Rattle.lvm_steps.proofs.MomentsLemmas.Spans.{steps_go_on, fewer_stay_kept, entry_goes_on, group_goes_on, disks_go_out, spans_join, span_upholds}
 use Rattle.lvm_steps.proofs.laws.spans_grow.Goals as goal
 
 pub returns : goal.returns

@@ -1,4 +1,4 @@
-use Rattle.lvm_steps.proofs.Entering.{begins_in_span, made_in_span, goes_in_span, gone_in_span, commits_in_span}
+use Rattle.lvm_steps.proofs.EnteringLemmas.{begins_in_span, made_in_span, goes_in_span, gone_in_span, commits_in_span}
 use Rattle.lvm_steps.proofs.laws.volume_entries_go_on.Goals as goal
 
 pub returns : goal.returns

@@ -1,4 +1,4 @@
-use Rattle.lvm_steps.proofs.WorkedMaking.{worked_making}
+use Rattle.lvm_steps.proofs.WorkedMakingLemmas.{worked_making}
 use Rattle.lvm_steps.proofs.laws.worked_making.Goals as goal
 
 pub returns : goal.returns

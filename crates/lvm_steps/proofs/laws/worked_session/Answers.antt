@@ -1,4 +1,4 @@
-use Rattle.lvm_steps.proofs.WorkedSession.{worked_session}
+use Rattle.lvm_steps.proofs.WorkedSessionLemmas.{worked_session}
 use Rattle.lvm_steps.proofs.laws.worked_session.Goals as goal
 
 pub returns : goal.returns

@@ -1,4 +1,4 @@
-use Rattle.lvm_survey.proofs.ShownValid.{descriptors_valid, statuses_valid}
+use Rattle.lvm_survey.proofs.LawsLemmas.{descriptors_valid, statuses_valid}
 use Rattle.lvm_survey.proofs.laws.shown_records_are_valid.Goals as goal
 
 pub returns-clause-descriptors : goal.returns-clause-descriptors

@@ -1,9 +1,9 @@
 use Rattle.std.proofs.Common.{◌≡◌, Some, slice_index_or, refl, sym, ◌∙◌, ap, arith}
-use Rattle.lvm_area.specs.handed.Names.{Media, image_of}
+use Rattle.lvm_area.specs.passed.Names.{Media, image_of, Here}
 use Rattle.lvm_survey.specs.Surveyed.{IsRead}
 use Rattle.lvm_area.specs.Reading.{IsArea}
-use Rattle.lvm_area.proofs.handed.Names.{or_got, told-always, told-more, only_none, rested_none, stop_of}
-use Rattle.lvm_survey.proofs.DiskRows.{empty_is_read, small_has_none, area_is_read, large_has, not_small}
+use Rattle.lvm_area.proofs.passed.Names.{or_got, told-always, told-more, only_none, rested_none, stop_of}
+use Rattle.lvm_survey.proofs.SurveyedLemmas.DiskRows.{empty_is_read, small_has_none, area_is_read, large_has, not_small}
 use Rattle.lvm_survey.proofs.survey.survey_disk.Goals as goal
 
 pub returns-then-sectors-lt-DATA-clause-only : goal.returns-then-sectors-lt-DATA-clause-only
@@ -22,6 +22,7 @@ returns-then-sectors-lt-DATA-clause-gives g c =
         failed = λ is. absurd (let e = c.empty_row.ensures.is.2 in cc);
         answered = λ is. refl;
         read = λ is. told-always (λ (m : Media). IsRead (image_of old.sizes m) c.args.disk row) old.media (λ m. empty_is_read (image_of old.sizes m) c.args.disk row (small_has_none old.sizes m c.args.disk c.sectors-sectors.result c.sectors-sectors.ensures c.if-sectors-lt-DATA.true) c.empty_row.ensures.empty);
+        whole = λ is large. absurd (large (let same : slice_index_or old.sizes c.args.disk 0 ≡ c.sectors-sectors.result = or_got old.sizes c.args.disk 0 c.sectors-sectors.result c.sectors-sectors.ensures in omega arith));
         empty = λ is. c.empty_row.ensures.empty;
       },
       refl,
@@ -53,6 +54,7 @@ returns-in-Ok-clause-gives g c =
         read = λ is. told-more (λ (m : Media). IsArea (m disk) c.in-Ok.area) (λ (m : Media). IsRead (image_of old.sizes m) disk row) old.media
             (λ m is. area_is_read (image_of old.sizes m) disk c.in-Ok.area row (large_has old.sizes m disk c.sectors-sectors.result sectors c.requires.there c.if-sectors-lt-DATA.false) is says.found)
             c.in-Ok.ensures.area;
+        whole = λ is large. record { begun = old; done = g.S.Shelf.device c.read_area.new.shelf; before = Here tt; reads = c.in-Ok.ensures.whole; after = Here tt };
         empty = λ is. absurd (let e = says.is.2 in cc);
       },
       read.1,

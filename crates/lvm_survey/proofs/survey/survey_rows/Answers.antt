@@ -1,7 +1,7 @@
 use Rattle.std.proofs.Common.{◌+◌, List, sym, subst, arith}
 use Rattle.std.proofs.lemmas.Result.{err_from_is_err_and}
 use Rattle.lvm_survey.specs.declared.row.SurveyRow.{SurveyRow}
-use Rattle.lvm_survey.proofs.DiskByDisk.{Rows, no_rows, rows_only, rows_small, rows_more, rows_stop}
+use Rattle.lvm_survey.proofs.ReadingLemmas.{Rows, no_rows, rows_only, rows_small, rows_more, rows_stop}
 use Rattle.lvm_survey.proofs.survey.survey_rows.Goals as goal
 
 pub loop-disk-init : goal.loop-disk-init

@@ -1,4 +1,4 @@
-use Rattle.lvm_survey.proofs.DiskByDisk.{Rows}
+use Rattle.lvm_survey.proofs.ReadingLemmas.{Rows}
 use Rattle.lvm_survey.proofs.survey.survey_rows.Given as goal
 
 abbrev pub invariant-loop-disk : goal.invariant-loop-disk

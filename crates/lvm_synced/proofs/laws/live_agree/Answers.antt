@@ -1,4 +1,4 @@
-use Rattle.lvm_synced.proofs.Agreeing.{live_agree as its}
+use Rattle.lvm_synced.proofs.AgreeingLemmas.{live_agree as its}
 use Rattle.lvm_synced.proofs.laws.live_agree.Goals as goal
 
 pub returns : goal.returns

@@ -1,4 +1,4 @@
-use Rattle.lvm_tie.proofs.Seen.{faults_are_there as its}
+use Rattle.lvm_tie.proofs.CausesLemmas.{faults_are_there as its}
 use Rattle.lvm_tie.proofs.causes_laws.faults_are_there.Goals as goal
 
 pub returns : goal.returns

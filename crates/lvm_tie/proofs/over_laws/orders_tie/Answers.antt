@@ -1,4 +1,4 @@
-use Rattle.lvm_tie.proofs.Orders.{order_goes_on, order_ties}
+use Rattle.lvm_tie.proofs.OverLemmas.Orders.{order_goes_on, order_ties}
 use Rattle.lvm_tie.proofs.over_laws.orders_tie.Goals as goal
 
 pub returns : goal.returns

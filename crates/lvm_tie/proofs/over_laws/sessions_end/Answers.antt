@@ -1,5 +1,5 @@
-use Rattle.lvm_tie.proofs.Dark.{dark_goes_on}
-use Rattle.lvm_tie.proofs.Off.{off_goes_on}
+use Rattle.lvm_tie.proofs.OverLemmas.Dark.{dark_goes_on}
+use Rattle.lvm_tie.proofs.OverLemmas.Off.{off_goes_on}
 use Rattle.lvm_tie.proofs.over_laws.sessions_end.Goals as goal
 
 pub returns : goal.returns

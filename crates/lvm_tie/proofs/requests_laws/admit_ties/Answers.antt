@@ -1,4 +1,4 @@
-use Rattle.lvm_tie.proofs.AdmitTies.{admit_ties as its}
+use Rattle.lvm_tie.proofs.RequestsLemmas.AdmitTies.{admit_ties as its}
 use Rattle.lvm_tie.proofs.requests_laws.admit_ties.Goals as goal
 
 pub returns : goal.returns

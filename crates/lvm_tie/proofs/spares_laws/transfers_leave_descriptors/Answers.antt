@@ -1,4 +1,4 @@
-use Rattle.lvm_tie.proofs.Spares.{over_leaves_descriptors, tied_leaves_descriptors}
+use Rattle.lvm_tie.proofs.SparesLemmas.{over_leaves_descriptors, tied_leaves_descriptors}
 use Rattle.lvm_tie.proofs.spares_laws.transfers_leave_descriptors.Goals as goal
 
 pub returns : goal.returns

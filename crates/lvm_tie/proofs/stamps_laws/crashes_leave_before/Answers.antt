@@ -1,4 +1,4 @@
-use Rattle.lvm_tie.proofs.Stamps.{arrange_leaves_before, turn_leaves_before}
+use Rattle.lvm_tie.proofs.StampsLemmas.{arrange_leaves_before, turn_leaves_before}
 use Rattle.lvm_tie.proofs.stamps_laws.crashes_leave_before.Goals as goal
 
 pub returns : goal.returns

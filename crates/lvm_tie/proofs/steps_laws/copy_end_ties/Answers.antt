@@ -1,4 +1,4 @@
-use Rattle.lvm_tie.proofs.CopyEnds.{copy_end_ties as its}
+use Rattle.lvm_tie.proofs.StepsLemmas.CopyEnds.{copy_end_ties as its}
 use Rattle.lvm_tie.proofs.steps_laws.copy_end_ties.Goals as goal
 
 pub returns : goal.returns

@@ -1,4 +1,4 @@
-use Rattle.lvm_tie_commands.proofs.Making.{mklv_goes_on}
+use Rattle.lvm_tie_commands.proofs.CommandsLemmas.Making.{mklv_goes_on}
 use Rattle.lvm_tie_commands.proofs.laws.mklv_goes_on.Goals as goal
 
 pub returns : goal.returns

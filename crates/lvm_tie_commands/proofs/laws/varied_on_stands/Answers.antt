@@ -1,4 +1,4 @@
-use Rattle.lvm_tie_commands.proofs.Beginning.{varied_on_stands}
+use Rattle.lvm_tie_commands.proofs.BeginningLemmas.{varied_on_stands}
 use Rattle.lvm_tie_commands.proofs.laws.varied_on_stands.Goals as goal
 
 pub returns : goal.returns

@@ -1,4 +1,4 @@
-use Rattle.lvm_tie_groups.proofs.Leaving.{tied_holds}
+use Rattle.lvm_tie_groups.proofs.SettledLemmas.Leaving.{tied_holds}
 use Rattle.lvm_tie_groups.proofs.laws.tied_holds.Goals as goal
 
 pub returns : goal.returns

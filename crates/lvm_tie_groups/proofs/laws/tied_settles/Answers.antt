@@ -1,4 +1,4 @@
-use Rattle.lvm_tie_groups.proofs.Leaving.{tied_settles}
+use Rattle.lvm_tie_groups.proofs.SettledLemmas.Leaving.{tied_settles}
 use Rattle.lvm_tie_groups.proofs.laws.tied_settles.Goals as goal
 
 pub returns : goal.returns

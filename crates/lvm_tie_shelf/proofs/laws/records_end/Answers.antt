@@ -1,6 +1,6 @@
-use Rattle.lvm_tie_shelf.proofs.Records.{status_ends}
-use Rattle.lvm_tie_shelf.proofs.Notes.{note_ends}
-use Rattle.lvm_tie_shelf.proofs.Quiet.{quiet_lasts, updates_last, update_goes_on}
+use Rattle.lvm_tie_shelf.proofs.RecordsLemmas.Records.{status_ends}
+use Rattle.lvm_tie_shelf.proofs.RecordsLemmas.Notes.{note_ends}
+use Rattle.lvm_tie_shelf.proofs.RecordsLemmas.Quiet.{quiet_lasts, updates_last, update_goes_on}
 use Rattle.lvm_tie_shelf.proofs.laws.records_end.Goals as goal
 
 pub returns : goal.returns

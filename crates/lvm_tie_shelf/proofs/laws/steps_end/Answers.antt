@@ -1,4 +1,4 @@
-use Rattle.lvm_tie_shelf.proofs.Bringing.{read_leaves, read_gets, step_ends}
+use Rattle.lvm_tie_shelf.proofs.BringingLemmas.{read_leaves, read_gets, step_ends}
 use Rattle.lvm_tie_shelf.proofs.laws.steps_end.Goals as goal
 
 pub returns : goal.returns

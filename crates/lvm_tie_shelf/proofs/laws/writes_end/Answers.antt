@@ -1,4 +1,4 @@
-use Rattle.lvm_tie_shelf.proofs.Writing.{ends_land, write_ends}
+use Rattle.lvm_tie_shelf.proofs.WritingLemmas.{ends_land, write_ends}
 use Rattle.lvm_tie_shelf.proofs.laws.writes_end.Goals as goal
 
 pub returns : goal.returns

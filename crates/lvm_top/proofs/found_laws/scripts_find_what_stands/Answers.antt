@@ -1,4 +1,4 @@
-use Rattle.lvm_top.proofs.Scripts.{script_finds, varyon_finds, run_may_start, run_finds}
+use Rattle.lvm_top.proofs.LawsLemmas.Scripts.{script_finds, varyon_finds, run_may_start, run_finds}
 use Rattle.lvm_top.proofs.found_laws.scripts_find_what_stands.Goals as goal
 
 pub returns-clause-stands : goal.returns-clause-stands

@@ -1,4 +1,4 @@
-use Rattle.lvm_top.proofs.Endings.{runs_in_time}
+use Rattle.lvm_top.proofs.LawsLemmas.Endings.{runs_in_time}
 use Rattle.lvm_top.proofs.laws.runs_end_in_time.Goals as goal
 
 pub returns : goal.returns

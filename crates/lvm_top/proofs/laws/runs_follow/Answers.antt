@@ -1,4 +1,4 @@
-use Rattle.lvm_top.proofs.Runs.{next_may_begin, two_runs_uphold}
+use Rattle.lvm_top.proofs.RunsLemmas.{next_may_begin, two_runs_uphold}
 use Rattle.lvm_top.proofs.laws.runs_follow.Goals as goal
 
 pub returns : goal.returns

@@ -1,4 +1,4 @@
-use Rattle.lvm_top.proofs.Recovering.{varyons_recover}
+use Rattle.lvm_top.proofs.LawsLemmas.Recovering.{varyons_recover}
 use Rattle.lvm_top.proofs.laws.varyons_recover.Goals as goal
 
 pub returns : goal.returns

@@ -1,5 +1,5 @@
 use Rattle.lvm_session.specs.Fields.{core_of}
-use Rattle.lvm_top.proofs.Turning.{rests_not, rests_now}
+use Rattle.lvm_top.proofs.EndingLemmas.{rests_not, rests_now}
 use Rattle.lvm_top.proofs.run.at_rest.Goals.{then-is_quiet, else-is_quiet}
 use Rattle.std.proofs.Common.{◌∙◌, ap, length}
 use Rattle.lvm_top.proofs.run.at_rest.Goals as goal

@@ -1,4 +1,4 @@
-use Rattle.lvm_top.proofs.Turning.{closed_by}
+use Rattle.lvm_top.proofs.EndingLemmas.{closed_by}
 use Rattle.lvm_top.proofs.run.close_ended.Goals as goal
 
 pub returns-clause-shelf : goal.returns-clause-shelf

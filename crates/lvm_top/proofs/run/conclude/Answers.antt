@@ -1,6 +1,6 @@
 use Rattle.std.proofs.Common.{ap}
 use Rattle.lvm_vol.specs.Log.{Log}
-use Rattle.lvm_top.proofs.Turning.{empty_concludes, serving_concludes}
+use Rattle.lvm_top.proofs.EndingLemmas.{empty_concludes, serving_concludes}
 use Rattle.lvm_top.proofs.run.conclude.Goals as goal
 
 pub returns-in-Empty-clause-concludes : goal.returns-in-Empty-clause-concludes

@@ -1,5 +1,5 @@
-use Rattle.lvm_line.specs.passed.Driver.{state_of}
-use Rattle.lvm_top.proofs.Turning.{last_turn, no_turn, one_turn, turns_run}
+use Rattle.lvm_session.specs.State.{state_of}
+use Rattle.lvm_top.proofs.EndingLemmas.{last_turn, no_turn, one_turn, turns_run}
 use Rattle.lvm_top.proofs.run.run_on.Goals as goal
 
 pub loop-driver-init : goal.loop-driver-init

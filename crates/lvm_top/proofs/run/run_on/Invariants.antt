@@ -1,6 +1,6 @@
 use Rattle.lvm_session.specs.Left.{left_of}
-use Rattle.lvm_line.specs.passed.Driver.{state_of}
-use Rattle.lvm_top.proofs.Turning.{MovesSoFar}
+use Rattle.lvm_session.specs.State.{state_of}
+use Rattle.lvm_top.proofs.EndingLemmas.{MovesSoFar}
 use Rattle.lvm_top.proofs.run.run_on.Given as goal
 
 abbrev pub invariant-loop-driver : goal.invariant-loop-driver

@@ -1,7 +1,7 @@
 use Rattle.std.proofs.Common.{◌≤◌, ⊎_elim, inl, inr, ap, arith}
 use Rattle.lvm_line.specs.passed.Stage.{without_facts}
 use Rattle.lvm_line.specs.passed.HolderVariants as holder
-use Rattle.lvm_top.proofs.Stopping.{first_between, first_state, how_stopped, later, nothing_promised, the_promises}
+use Rattle.lvm_top.proofs.RunLemmas.Stopping.{first_between, first_state, how_stopped, later, nothing_promised, the_promises}
 use Rattle.lvm_top.proofs.run.run_script.Goals as goal
 
 pub returns-in_default-clause-run : goal.returns-in_default-clause-run

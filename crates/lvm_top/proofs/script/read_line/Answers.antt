@@ -1,7 +1,7 @@
 use Rattle.std.proofs.Common.{◌≡◌, ◌≤◌, ◌<◌, ◌↔◌, ℕ, List, [], inl, inr, ⊎_elim, refl, length, ap, arith}
 use Rattle.std.proofs.lemmas.Bool.{cases_lt}
 use Rattle.lvm_io.specs.Reading.{to_come}
-use Rattle.lvm_io.proofs.Told.{told_more}
+use Rattle.lvm_io.proofs.StreamLemmas.Told.{told_more}
 use Rattle.lvm_io.specs.declared.lines.NextLine.TheVariants as next
 use Rattle.lvm_top.proofs.script.read_line.Goals as goal
 

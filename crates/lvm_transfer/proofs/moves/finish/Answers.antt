@@ -1,15 +1,18 @@
-use Rattle.std.proofs.Common.{arith}
-use Rattle.lvm_transfer.proofs.Waiting.{no_waits, one_wait}
-use Rattle.lvm_transfer.proofs.Ending.{done_moments, failed_moments, cut_moments, done_gives, failed_gives, cut_gives, done_rests, failed_rests, dark_cuts}
+use Rattle.std.proofs.Common.{◌≡◌, ◌+◌, ◌-◌, arith}
+use Rattle.lvm_disk.specs.Paths.{Waited}
+use Rattle.lvm_transfer.specs.Transfer.{NoStep, OneStep}
+use Rattle.lvm_transfer.proofs.TransferLemmas.Waiting.{no_waits, one_wait, borne_costs}
+use Rattle.lvm_transfer.proofs.TransferLemmas.Ending.{done_moments, failed_moments, cut_moments, done_gives, failed_gives, cut_gives, done_rests, failed_rests, dark_cuts, done_costs, failed_costs, cut_costs}
 use Rattle.lvm_transfer.proofs.moves.finish.Goals as goal
 
 pub loop-init : goal.loop-init
-loop-init g c = record { so_far = no_waits (g.S.Shelf.device c.args.shelf.now); count = omega arith }
+loop-init g c = record { so_far = no_waits (g.S.Shelf.device c.args.shelf.now); count = omega arith; steps = NoStep }
 
 pub loop-preserved : goal.loop-preserved
 loop-preserved g c = record {
   so_far = one_wait (g.S.Shelf.device c.args.shelf.now) (g.S.Shelf.device c.loop.shelf) (g.S.Shelf.device c.reap.new.self) c.loop.counter c.loop.invariant.so_far c.in-Empty.ensures;
   count = let e = c.loop.invariant.count in omega (arith, e);
+  steps = OneStep c.loop.invariant.steps (Waited c.in-Empty.ensures) (let e = c.loop.invariant.count in let one : c.loop.patience.left ≡ c.loop.patience.left - 1 + 1 = omega (arith, e) in one);
 }
 
 pub returns-in-Done-clause-gives : goal.returns-in-Done-clause-gives
@@ -37,3 +40,16 @@ returns-in-Dark-clause-gives g c f one = cut_gives (g.S.Shelf.device c.args.shel
 pub returns-in-Dark-clause-moments : goal.returns-in-Dark-clause-moments
 returns-in-Dark-clause-moments g c = cut_moments (g.S.Shelf.device c.args.shelf.now) (g.S.Shelf.device c.loop.shelf) (g.S.Shelf.device c.reap.new.self) c.loop.counter c.loop.invariant.so_far
     (dark_cuts (g.S.Shelf.device c.args.shelf.now) (g.S.Shelf.device c.loop.shelf) (g.S.Shelf.device c.reap.new.self) c.loop.counter c.loop.invariant.so_far c.requires.power c.in-Dark.ensures.0)
+
+pub returns-in-Done-clause-costs : goal.returns-in-Done-clause-costs
+returns-in-Done-clause-costs g c = done_costs (g.S.Shelf.device c.args.shelf.now) (g.S.Shelf.device c.loop.shelf) (g.S.Shelf.device c.reap.new.self) c.args.patience.now.left c.loop.patience.left c.loop.counter c.loop.invariant c.in-Done.ticket c.in-Done.buf c.in-Done.ensures
+
+pub returns-in-Failed-clause-costs : goal.returns-in-Failed-clause-costs
+returns-in-Failed-clause-costs g c = failed_costs (g.S.Shelf.device c.args.shelf.now) (g.S.Shelf.device c.loop.shelf) (g.S.Shelf.device c.reap.new.self) c.args.patience.now.left c.loop.patience.left c.loop.counter c.loop.invariant c.in-Failed.ticket c.in-Failed.buf c.in-Failed.ensures
+
+pub returns-in-Dark-clause-costs : goal.returns-in-Dark-clause-costs
+returns-in-Dark-clause-costs g c = cut_costs (g.S.Shelf.device c.args.shelf.now) (g.S.Shelf.device c.loop.shelf) (g.S.Shelf.device c.reap.new.self) c.args.patience.now.left c.loop.patience.left c.loop.counter c.loop.invariant
+    (dark_cuts (g.S.Shelf.device c.args.shelf.now) (g.S.Shelf.device c.loop.shelf) (g.S.Shelf.device c.reap.new.self) c.loop.counter c.loop.invariant.so_far c.requires.power c.in-Dark.ensures.0)
+
+pub returns-clause-costs : goal.returns-clause-costs
+returns-clause-costs g c = borne_costs (g.S.Shelf.device c.args.shelf.now) (g.S.Shelf.device c.loop.shelf) c.args.patience.now.left c.loop.patience.left c.loop.counter c.loop.invariant

@@ -1,4 +1,4 @@
-use Rattle.lvm_transfer.proofs.Waiting.{Borne}
+use Rattle.lvm_transfer.proofs.TransferLemmas.Waiting.{Borne}
 use Rattle.lvm_transfer.proofs.moves.finish.Given as goal
 
 abbrev pub invariant-loop : goal.invariant-loop

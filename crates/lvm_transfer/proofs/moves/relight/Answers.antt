@@ -1,4 +1,4 @@
-use Rattle.lvm_transfer.proofs.Waiting.{none_freed, one_freed, lit_moments}
+use Rattle.lvm_transfer.proofs.TransferLemmas.Waiting.{none_freed, one_freed, lit_moments}
 use Rattle.lvm_transfer.proofs.moves.relight.Goals as goal
 
 pub loop-init : goal.loop-init

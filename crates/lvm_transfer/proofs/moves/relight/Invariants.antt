@@ -1,5 +1,5 @@
 use Rattle.std.proofs.Common.{length}
-use Rattle.lvm_transfer.proofs.Waiting.{FreesOnly}
+use Rattle.lvm_transfer.proofs.TransferLemmas.Waiting.{FreesOnly}
 use Rattle.lvm_transfer.proofs.moves.relight.Given as goal
 
 abbrev pub invariant-loop : goal.invariant-loop

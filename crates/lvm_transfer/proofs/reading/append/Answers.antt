@@ -1,6 +1,6 @@
 use Rattle.std.proofs.Common.{◌++◌, ℕ, List, length, ◌∙◌, ap, arith}
 use Rattle.std.proofs.lemmas.List.{length-append}
-use Rattle.lvm_transfer.proofs.Joining.{joined-front}
+use Rattle.lvm_transfer.proofs.RecordLemmas.{joined-front}
 use Rattle.lvm_transfer.proofs.reading.append.Goals as goal
 
 pub returns-clause-size : goal.returns-clause-size

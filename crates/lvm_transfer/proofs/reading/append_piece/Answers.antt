@@ -1,7 +1,7 @@
 use Rattle.std.proofs.Common.{◌≡◌, ◌++◌, [], slice_index_or}
-use Rattle.lvm_disk.specs.handed.Names.{joined}
+use Rattle.lvm_disk.specs.passed.Names.{joined}
 use Rattle.lvm_disk.specs.Device.{Media}
-use Rattle.lvm_transfer.proofs.Joining.{append-same, told-more}
+use Rattle.lvm_transfer.proofs.RecordLemmas.{append-same, told-more}
 use Rattle.lvm_transfer.proofs.reading.append_piece.Goals as goal
 
 pub returns-in-Ok-clause-bytes : goal.returns-in-Ok-clause-bytes

@@ -1,10 +1,12 @@
 use Rattle.std.proofs.Common.{◌≡◌, ◌+◌, ◌++◌, ℕ, IfSome, Ok, Err, append-nil, min, sym, ◌∙◌, ap, subst, arith}
 use Rattle.std.proofs.lemmas.Result.{err_from_is_err_and}
-use Rattle.lvm_disk.specs.handed.Names.{joined}
-use Rattle.lvm_kept.proofs.handed.Names.{joined-none}
+use Rattle.lvm_disk.specs.passed.Names.{joined}
+use Rattle.lvm_kept.proofs.passed.Names.{joined-none}
 use Rattle.lvm_disk.specs.Device.{Media}
-use Rattle.lvm_transfer.proofs.Joining.{kept-so-far, told-both, told-always}
-use Rattle.lvm_transfer.proofs.Following.{in_range, reads_none, reads_then}
+use Rattle.lvm_transfer.proofs.RecordLemmas.{kept-so-far, told-both, told-always}
+use Rattle.lvm_transfer.specs.Reading.{NoneYet, OneMore}
+use Rattle.lvm_transfer.proofs.ReadingLemmas.Following.{in_range, reads_none, reads_then}
+use Rattle.lvm_transfer.proofs.ReadingLemmas.Pieces.{read_at}
 use Rattle.lvm_transfer.proofs.reading.append_sectors.Goals as goal
 
 pub loop-done-init : goal.loop-done-init
@@ -14,6 +16,7 @@ loop-done-init g c =
     let device = g.S.Shelf.device c.args.shelf.now in
     record {
       reads = reads_none extent.disk c.args.patience.now.left device c.args.buf c.requires.ready;
+      whole = NoneYet;
       within = omega arith;
       size = omega arith;
       bytes = told-always (λ (m : Media). start ≡ start ++ joined (m extent.disk) extent.first (min 0 extent.keep)) device.media
@@ -46,6 +49,8 @@ loop-done-preserved g c =
     let part = c.min.result in
     record {
       reads = reads_then disk c.args.buf.number c.args.patience.now.left c.loop-done.patience.left c.append_piece.new.patience.left old mid new c.loop-done.back (Ok c.in_ok-back.back) so_far.reads next.reads;
+      whole = OneMore c.loop-done.done c.min-count.result so_far.whole (omega arith) (omega (arith, c.min-count.ensures))
+          (read_at (extent.first + c.from.result) (extent.first + c.loop-done.done) (omega (arith, c.from.ensures)) next.whole);
       within = omega (arith, c.min-count.ensures);
       size = omega (arith, next.size, so_far.size, c.min.ensures, c.saturating_sub.ensures);
       bytes = told-both (λ (m : Media). some ≡ start ++ joined (m disk) extent.first (min c.loop-done.done extent.keep)) (λ (m : Media). more ≡ some ++ joined (m disk) (extent.first + c.from.result) part)

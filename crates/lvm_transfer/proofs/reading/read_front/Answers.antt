@@ -1,13 +1,14 @@
 use Rattle.std.proofs.Common.{◌≡◌, ◌-◌, ◌++◌, ◌∙◌, ℕ, List, Ok, Err, max, min, ap, subst, arith}
 use Rattle.std.proofs.lemmas.Result.{err_from_is_err_and}
-use Rattle.lvm_disk.specs.handed.NumRecordKind as kind
-use Rattle.lvm_disk.specs.handed.Names.{joined, record_in, record_sectors}
+use Rattle.lvm_disk.specs.passed.NumRecordKind as kind
+use Rattle.lvm_disk.specs.passed.Names.{joined, record_in, record_sectors}
 use Rattle.lvm_disk.specs.Device.{Media}
 use Rattle.lvm_transfer.specs.declared.reading.Extent.{Extent}
-use Rattle.lvm_transfer.specs.Reading.{announced_length, ReadsEnd}
-use Rattle.lvm_transfer.proofs.Following.{reads_then, told_before}
-use Rattle.lvm_transfer.proofs.Fronts.{record-kept}
-use Rattle.lvm_transfer.proofs.Joining.{told-both}
+use Rattle.lvm_transfer.specs.Reading.{announced_length, ReadsEnd, SectorsRead}
+use Rattle.lvm_transfer.proofs.ReadingLemmas.Following.{reads_then, told_before}
+use Rattle.lvm_transfer.proofs.ReadingLemmas.Fronts.{record-kept}
+use Rattle.lvm_transfer.proofs.RecordLemmas.{told-both}
+use Rattle.lvm_transfer.proofs.ReadingLemmas.Pieces.{slot_read}
 use Rattle.lvm_transfer.proofs.reading.read_front.Goals as goal
 
 pub returns-in_err-back-clause-reads : goal.returns-in_err-back-clause-reads
@@ -42,3 +43,10 @@ returns-clause-record g c =
     (omega (arith, c.in_ok-back.ensures.size, c.in_ok-bytes.ensures.size)) (omega arith) (omega arith) (omega (arith, kept)))
     c.in_ok-bytes.ensures.bytes
     (told_before (λ (m : Media). all ≡ bytes ++ joined (m rest.disk) rest.first rest.keep) (g.S.Shelf.device c.args.shelf.now) (g.S.Shelf.device c.read_sectors.new.shelf) c.in_ok-bytes.ensures.reads.only.unwritten.media c.in_ok-back.ensures.bytes)
+
+pub returns-clause-whole : goal.returns-clause-whole
+returns-clause-whole g c =
+    let old = g.S.Shelf.device c.args.shelf.now in
+    let mid = g.S.Shelf.device c.read_sectors.new.shelf in
+    let new = g.S.Shelf.device c.append_sectors.new.shelf in
+    slot_read c.args.disk c.args.first old mid new c.in_ok-bytes.ensures.whole (subst (λ (x : Extent). SectorsRead x.disk x.first x.count mid new) c.rest_of-rest.ensures c.in_ok-back.ensures.whole)

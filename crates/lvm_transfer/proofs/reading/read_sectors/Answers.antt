@@ -1,4 +1,4 @@
-use Rattle.lvm_transfer.proofs.Following.{reads_none, reads_starve}
+use Rattle.lvm_transfer.proofs.ReadingLemmas.Following.{reads_none, reads_starve}
 use Rattle.lvm_transfer.proofs.reading.read_sectors.Goals as goal
 
 pub returns-in_default-clause-reads : goal.returns-in_default-clause-reads

@@ -2,7 +2,7 @@ use Rattle.std.proofs.Common.{arith, subst}
 use Rattle.atomic_table.specs.Table.{Splits}
 use Rattle.lvm_turn.specs.Rules.{fixed_of, TurnRule}
 use Rattle.lvm_turn.specs.Views.{without_client, with_client_alone}
-use Rattle.lvm_turn.proofs.Parting.{splits}
+use Rattle.lvm_turn.proofs.ViewsLemmas.Parting.{splits}
 use Rattle.lvm_turn.proofs.steps.part.Goals as goal
 
 pub split_seat-requires : goal.split_seat-requires

@@ -1,7 +1,7 @@
 use Rattle.std.proofs.Common.{arith, ℕ, ◌+◌, Option, Some, List, ◌∷◌, refl, sym, ap, ◌∙◌}
 use Rattle.atomic_table.specs.Table.{rest, Me}
 use Rattle.lvm_turn.specs.Views.{View}
-use Rattle.lvm_turn.proofs.Keeping.{tells_length, releases}
+use Rattle.lvm_turn.proofs.StepsLemmas.{tells_length, releases}
 use Rattle.lvm_turn.proofs.steps.put_back.Goals as goal
 
 pub compare_exchange_with-requires : goal.compare_exchange_with-requires

@@ -1,7 +1,7 @@
 use Rattle.std.proofs.Common.{arith, ◌≡◌, ℕ, Option, Some, None, List, [], ◌∷◌, sym, ap, ◌∙◌}
 use Rattle.atomic_table.specs.Table.{rest, Me}
 use Rattle.lvm_turn.specs.Views.{View}
-use Rattle.lvm_turn.proofs.Keeping.{looks, tries, stows}
+use Rattle.lvm_turn.proofs.StepsLemmas.{looks, tries, stows}
 use Rattle.lvm_turn.proofs.steps.try_at.Goals as goal
 
 pub load-requires : goal.load-requires

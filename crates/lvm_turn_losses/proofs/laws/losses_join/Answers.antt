@@ -1,4 +1,4 @@
-use Rattle.lvm_turn_losses.proofs.Losing.{loses_both}
+use Rattle.lvm_turn_losses.proofs.LosingLemmas.Losing.{loses_both}
 use Rattle.lvm_turn_losses.proofs.laws.losses_join.Goals as goal
 
 pub returns : goal.returns

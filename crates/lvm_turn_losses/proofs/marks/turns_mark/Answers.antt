@@ -1,4 +1,4 @@
-use Rattle.lvm_turn_losses.proofs.Turning.{turn_marks}
+use Rattle.lvm_turn_losses.proofs.MarksLemmas.Turning.{turn_marks}
 use Rattle.lvm_turn_losses.proofs.marks.turns_mark.Goals as goal
 
 pub returns : goal.returns

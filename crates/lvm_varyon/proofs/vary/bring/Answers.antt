@@ -1,14 +1,14 @@
 use Rattle.std.proofs.Common.{Result, sym, subst}
 use Rattle.std.proofs.lemmas.Result.{err_from_is_err_and}
-use Rattle.lvm_varyon.proofs.Bringing.{all_behind, brings, unwritten_behind}
-use Rattle.lvm_varyon.proofs.KeptPaths.{reading_kept, writing_kept}
-use Rattle.lvm_varyon.proofs.MayWrite.{may_write}
-use Rattle.lvm_varyon.proofs.Wrote.{wrote}
+use Rattle.lvm_varyon.proofs.VariedLemmas.Bringing.{all_behind, brings, unwritten_behind}
+use Rattle.lvm_varyon.proofs.PathsLemmas.{reading_kept, writing_kept}
+use Rattle.lvm_varyon.proofs.EqualLemmas.MayWrite.{may_write}
+use Rattle.lvm_varyon.proofs.EqualLemmas.Wrote.{wrote}
 use Rattle.lvm_varyon.proofs.vary.bring.Goals as goal
 use Rattle.lvm_write.specs.Parts.{Spends}
-use Rattle.lvm_write.proofs.Transfers.{spends_then}
+use Rattle.lvm_write.proofs.PartsLemmas.Transfers.{spends_then}
 use Rattle.lvm_rec.specs.declared.homes.Homes.{Homes}
-use Rattle.lvm_varyon_plan.specs.handed.Names.{Parts, Cause}
+use Rattle.lvm_varyon_plan.specs.passed.Names.{Parts, Cause}
 use Rattle.lvm_varyon.specs.Parts.{IsPlannedBy, plan_beginning}
 use Rattle.lvm_varyon.specs.Varied.{BringGives}
 

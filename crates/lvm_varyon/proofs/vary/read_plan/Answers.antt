@@ -1,5 +1,5 @@
 use Rattle.std.proofs.lemmas.Result.{err_from_is_err_and}
-use Rattle.lvm_varyon.proofs.Bringing.{stops_reading, stops_choosing}
+use Rattle.lvm_varyon.proofs.VariedLemmas.Bringing.{stops_reading, stops_choosing}
 use Rattle.lvm_varyon.proofs.vary.read_plan.Goals as goal
 
 pub returns-in_err-survey : goal.returns-in_err-survey

@@ -1,14 +1,14 @@
-use Rattle.std.proofs.Common.{◌≡◌, ◌≤◌, sym, ap, subst, arith}
+use Rattle.std.proofs.Common.{◌≡◌, sym, ap, subst, arith}
 use Rattle.lvm_disk.specs.Device.{Device}
 use Rattle.lvm_disk.specs.Paths.{Here}
 use Rattle.lvm_vol.specs.Log.{Log, spare_entries}
-use Rattle.lvm_stamps.proofs.Clock.{all_is_behind_next}
-use Rattle.lvm_write.proofs.Transfers.{spends_none}
-use Rattle.lvm_varyon_plan.specs.handed.Names.{AreFaults, BringsOn, StartsHeld}
-use Rattle.lvm_varyon_plan.specs.handed.CoreRefusedCause as cause
+use Rattle.lvm_stamps.proofs.LawsLemmas.Clock.{all_is_behind_next}
+use Rattle.lvm_write.proofs.PartsLemmas.Transfers.{spends_none}
+use Rattle.lvm_varyon_plan.specs.passed.Names.{AreFaults, BringsOn, StartsHeld}
+use Rattle.lvm_varyon_plan.specs.passed.CoreRefusedCause as cause
 use Rattle.lvm_varyon.specs.Varied.{ComesOn, IsRestated, IsRecovered, VaryonRefuses}
-use Rattle.lvm_varyon.proofs.Refusing.{refused_gives, refuses_so}
-use Rattle.lvm_varyon.proofs.Spanning.{ahead_of, refused_keeps, refused_calm, comes_on, starts_held, none_left, settles, is_restated, is_recovered, on_keeps, on_calm}
+use Rattle.lvm_varyon.proofs.VariedLemmas.Refusing.{refused_gives, refuses_so, some_spare}
+use Rattle.lvm_varyon.proofs.VariedLemmas.Spanning.{ahead_of, refused_keeps, refused_calm, comes_on, starts_held, none_left, settles, is_restated, is_recovered, on_keeps, on_calm}
 use Rattle.lvm_varyon.proofs.vary.varyon.Goals as goal
 
 pub start-requires-clause-placed : goal.start-requires-clause-placed
@@ -41,9 +41,7 @@ returns-then-spare_entries-eq0-clause-leaves g c =
 
 pub returns-in-Ok-clause-gives : goal.returns-in-Ok-clause-gives
 returns-in-Ok-clause-gives g c =
-    let is = c.spare_entries.ensures.spare in
-    let some = c.if-spare_entries-eq0.false in
-    let spare : 1 ≤ spare_entries c.args.history = omega (arith, is, some) in
+    let spare = some_spare c.spare_entries.result c.args.history c.spare_entries.ensures.spare c.if-spare_entries-eq0.false in
     let old = g.S.Shelf.device c.args.shelf in
     let same = sym (ap g.S.Shelf.device c.start.ensures.shelf) in
     record {
@@ -84,9 +82,7 @@ returns-in-Ok-clause-leaves g c =
 
 pub returns-in-Err-clause-gives : goal.returns-in-Err-clause-gives
 returns-in-Err-clause-gives g c =
-    let is = c.spare_entries.ensures.spare in
-    let some = c.if-spare_entries-eq0.false in
-    let spare : 1 ≤ spare_entries c.args.history = omega (arith, is, some) in
+    let spare = some_spare c.spare_entries.result c.args.history c.spare_entries.ensures.spare c.if-spare_entries-eq0.false in
     let old = g.S.Shelf.device c.args.shelf in
     let left = c.args.patience.now.left in
     refused_gives g.S.Shelf.device old c.args.history c.args.name c.args.moment c.args.room left c.in-Err.cause c.refused-in-Err.result c.refused-in-Err.ensures.cause c.refused-in-Err.ensures.history

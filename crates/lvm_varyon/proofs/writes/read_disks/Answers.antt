@@ -1,4 +1,4 @@
-use Rattle.lvm_transfer.proofs.Following.{only_none}
+use Rattle.lvm_transfer.proofs.ReadingLemmas.Following.{only_none}
 use Rattle.lvm_varyon.proofs.writes.read_disks.Goals as goal
 
 pub returns-in_default-clause-only : goal.returns-in_default-clause-only
@@ -16,7 +16,7 @@ pub returns-in-Stuck : goal.returns-in-Stuck
 returns-in-Stuck g c =
     let e = c.in-Stuck.ensures in
     record {
-      gives = (e.only.unwritten, record { flight = e.ends.flight; out = e.ends.out; freed = e.ends.freed; power = e.ends.power; cuts = e.ends.cuts; waited = e.ends.waited });
+      gives = (e.only.unwritten, record { flight = e.ends.flight; out = e.ends.flights; freed = e.ends.freed; power = e.ends.power; cuts = e.ends.cuts; waited = e.ends.waits });
       only = e.only;
     }
 

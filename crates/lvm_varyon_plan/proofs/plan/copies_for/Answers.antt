@@ -6,7 +6,7 @@ use Rattle.lvm_recovery.specs.declared.copying.Recopy.{Recopy}
 use Rattle.lvm_recovery.specs.declared.plan.TrackGroup.{TrackGroup}
 use Rattle.lvm_recovery.specs.Plan.{copies_named}
 use Rattle.lvm_recovery.specs.Planned.{ArePlanned}
-use Rattle.lvm_recovery.proofs.Naming.{named_are_planned}
+use Rattle.lvm_recovery.proofs.PlanLemmas.Naming.{named_are_planned}
 use Rattle.lvm_varyon_plan.proofs.plan.copies_for.Goals as goal
 
 pub returns : goal.returns

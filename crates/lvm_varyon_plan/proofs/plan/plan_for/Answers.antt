@@ -11,7 +11,7 @@ use Rattle.lvm_survey.specs.Surveyed.{surveyed}
 use Rattle.lvm_quorum.specs.declared.choice.Choice.{Choice}
 use Rattle.lvm_rec.specs.declared.homes.Homes.{Homes}
 use Rattle.lvm_core.specs.declared.parts.Room.{Room}
-use Rattle.lvm_core.specs.handed.Names.{IsOneGroup}
+use Rattle.lvm_core.specs.passed.Names.{IsOneGroup}
 use Rattle.lvm_next.specs.Next.{IsNextStatus}
 use Rattle.lvm_recovery.specs.declared.copying.Recopy.{Recopy}
 use Rattle.lvm_recovery.specs.Plan.{ArePlannedInOrder}

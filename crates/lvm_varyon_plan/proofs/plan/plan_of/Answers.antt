@@ -1,6 +1,6 @@
 use Rattle.std.proofs.Common.{◌<◌, arith}
 use Rattle.lvm_num.specs.Record.{last_moment}
-use Rattle.lvm_varyon_plan.proofs.Choosing.{group_valid, was_valid, not_later, at_last, planned}
+use Rattle.lvm_varyon_plan.proofs.ChosenLemmas.{group_valid, was_valid, not_later, at_last, planned}
 use Rattle.lvm_varyon_plan.proofs.plan.plan_of.Goals as goal
 
 pub returns-then-moment-eq-LAST : goal.returns-then-moment-eq-LAST

@@ -1,4 +1,4 @@
-use Rattle.lvm_vgda.proofs.Whole.{spelled_is_read, read_is_spelled}
+use Rattle.lvm_vgda.proofs.DescriptorBytesLemmas.Whole.{spelled_is_read, read_is_spelled}
 use Rattle.lvm_vgda.proofs.laws.descriptors_are_exact.Goals as goal
 
 pub returns-clause-spelled : goal.returns-clause-spelled

@@ -1,5 +1,5 @@
 use Rattle.std.proofs.Common.{sym, ◌∙◌}
-use Rattle.lvm_vgda.proofs.UsedLaws.{its_member, free_is}
+use Rattle.lvm_vgda.proofs.UsedLemmas.{its_member, free_is}
 use Rattle.lvm_vgda.proofs.maps.is_free.Goals as goal
 
 pub has-requires-clause-disk : goal.has-requires-clause-disk

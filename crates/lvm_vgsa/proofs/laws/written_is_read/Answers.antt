@@ -1,4 +1,4 @@
-use Rattle.lvm_vgsa.proofs.RoundTrip.{is_read, is_read_again}
+use Rattle.lvm_vgsa.proofs.StatusBytesLemmas.RoundTrip.{is_read, is_read_again}
 use Rattle.lvm_vgsa.proofs.laws.written_is_read.Goals as goal
 
 pub returns-clause-again : goal.returns-clause-again

@@ -1,8 +1,8 @@
 use Rattle.std.proofs.Common.{sym, ap, subst, ◌∙◌, arith}
 use Rattle.lvm_num.specs.StatusBytes.{status_of}
 use Rattle.lvm_fields.specs.Reading.{Gives}
-use Rattle.lvm_vgsa.proofs.PartLaws.{status_is}
-use Rattle.lvm_vgsa.proofs.RoundTrip.{is_found, is_read_again}
+use Rattle.lvm_vgsa.proofs.PartsLemmas.{status_is}
+use Rattle.lvm_vgsa.proofs.StatusBytesLemmas.RoundTrip.{is_found, is_read_again}
 use Rattle.lvm_vgsa.proofs.reading.decode.Goals as goal
 
 pub returns-clause-spelled : goal.returns-clause-spelled

@@ -3,8 +3,8 @@ use Rattle.std.specs.Prelude.{insert}
 use Rattle.std.proofs.lemmas.Result.{err_from_is_err_and}
 use Rattle.lvm_num.specs.StatusBytes.{numbers_at}
 use Rattle.lvm_fields.specs.Reading.{Fails, rest_of}
-use Rattle.lvm_fields.proofs.Loops.{goes_on, ends, is_done}
-use Rattle.lvm_vgsa.proofs.Many.{numbers_repeat, volume_at, insert_last}
+use Rattle.lvm_fields.proofs.ReadingLemmas.{goes_on, ends, is_done}
+use Rattle.lvm_vgsa.proofs.StatusBytesLemmas.Many.{numbers_repeat, volume_at, insert_last}
 use Rattle.lvm_vgsa.proofs.reading.numbers_at.Goals as goal
 
 pub returns-in_err-number : goal.returns-in_err-number

@@ -4,10 +4,10 @@ use Rattle.lvm_num.specs.declared.status.StatusRow.{StatusRow}
 use Rattle.lvm_num.specs.StatusBytes.{status_row_at, status_rows_at}
 use Rattle.lvm_num.specs.Reading.{Rest}
 use Rattle.lvm_fields.specs.Reading.{Fails, rest_of}
-use Rattle.lvm_fields.proofs.Loops.{goes_on, ends, is_done}
+use Rattle.lvm_fields.proofs.ReadingLemmas.{goes_on, ends, is_done}
 use Rattle.lvm_vgsa.specs.Parts.{row_by_parts}
-use Rattle.lvm_vgsa.proofs.Many.{rows_repeat}
-use Rattle.lvm_vgsa.proofs.PartLaws.{row_is}
+use Rattle.lvm_vgsa.proofs.StatusBytesLemmas.Many.{rows_repeat}
+use Rattle.lvm_vgsa.proofs.PartsLemmas.{row_is}
 use Rattle.lvm_vgsa.proofs.reading.rows_at.Goals as goal
 
 pub returns-in_err-row : goal.returns-in_err-row

@@ -1,6 +1,6 @@
 use Rattle.std.proofs.Common.{sym}
 use Rattle.lvm_vgsa.specs.Parts.{status_by_parts}
-use Rattle.lvm_vgsa.proofs.Many.{more_follow}
+use Rattle.lvm_vgsa.proofs.StatusBytesLemmas.Many.{more_follow}
 use Rattle.lvm_vgsa.proofs.reading.status_at.Goals as goal
 
 pub returns-then-not-is_empty : goal.returns-then-not-is_empty

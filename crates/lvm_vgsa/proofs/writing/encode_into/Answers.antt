@@ -2,10 +2,10 @@ use Rattle.std.proofs.Common.{◌≡◌, ◌≤◌, ◌+◌, ◌*◌, ◌++◌, 
 use Rattle.std.specs.Prelude.{flat_map}
 use Rattle.lvm_num.specs.declared.status.StatusRow.{StatusRow}
 use Rattle.lvm_num.specs.StatusBytes.{status_row_bytes, dirty_bytes}
-use Rattle.lvm_num.proofs.Bounds.{few_dirty}
+use Rattle.lvm_num.proofs.DescriptorLemmas.Bounds.{few_dirty}
 use Rattle.lvm_vgsa.specs.Putting.{Puts}
-use Rattle.lvm_vgsa.proofs.Pieces.{puts_three}
-use Rattle.lvm_vgsa.proofs.Sizes.{length-status, length-rows}
+use Rattle.lvm_vgsa.proofs.PuttingLemmas.{puts_three}
+use Rattle.lvm_vgsa.proofs.StatusBytesLemmas.Sizes.{length-status, length-rows}
 use Rattle.lvm_vgsa.proofs.writing.encode_into.Goals as goal
 
 pub put_rows-rows-requires-clause-fits : goal.put_rows-rows-requires-clause-fits

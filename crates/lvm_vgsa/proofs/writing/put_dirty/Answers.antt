@@ -3,8 +3,8 @@ use Rattle.std.specs.Prelude.{flat_map}
 use Rattle.std.specs.Int.{w16, to_be_bytes}
 use Rattle.lvm_num.specs.StatusBytes.{dirty_bytes}
 use Rattle.lvm_vgsa.specs.Putting.{Puts}
-use Rattle.lvm_vgsa.proofs.Pieces.{puts_both}
-use Rattle.lvm_vgsa.proofs.Sizes.{length-dirty, length-numbers, dirty_some, not_empty}
+use Rattle.lvm_vgsa.proofs.PuttingLemmas.{puts_both}
+use Rattle.lvm_vgsa.proofs.StatusBytesLemmas.Sizes.{length-dirty, length-numbers, dirty_some, not_empty}
 use Rattle.lvm_vgsa.proofs.writing.put_dirty.Goals as goal
 
 pub put_numbers-requires : goal.put_numbers-requires

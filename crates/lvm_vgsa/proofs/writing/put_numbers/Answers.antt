@@ -1,8 +1,8 @@
 use Rattle.std.proofs.Common.{◌≡◌, ◌*◌, length, take, arith}
 use Rattle.std.specs.Prelude.{flat_map}
 use Rattle.std.specs.Int.{w16, to_be_bytes}
-use Rattle.lvm_vgsa.proofs.Pieces.{puts_more}
-use Rattle.lvm_vgsa.proofs.Sizes.{size-numbers}
+use Rattle.lvm_vgsa.proofs.PuttingLemmas.{puts_more}
+use Rattle.lvm_vgsa.proofs.StatusBytesLemmas.Sizes.{size-numbers}
 use Rattle.lvm_vgsa.proofs.writing.put_numbers.Goals as goal
 
 pub loop-number-preserved : goal.loop-number-preserved

@@ -2,8 +2,8 @@ use Rattle.std.proofs.Common.{◌≡◌, ◌*◌, false, [], length, take, arith
 use Rattle.std.specs.Prelude.{flat_map}
 use Rattle.lvm_num.specs.declared.status.StatusRow.{StatusRow}
 use Rattle.lvm_num.specs.StatusBytes.{status_row_bytes}
-use Rattle.lvm_vgsa.proofs.Pieces.{puts_more}
-use Rattle.lvm_vgsa.proofs.Sizes.{size-rows}
+use Rattle.lvm_vgsa.proofs.PuttingLemmas.{puts_more}
+use Rattle.lvm_vgsa.proofs.StatusBytesLemmas.Sizes.{size-rows}
 use Rattle.lvm_vgsa.proofs.writing.put_rows.Goals as goal
 
 abbrev no_row : StatusRow

@@ -1,5 +1,5 @@
 use Rattle.std.proofs.Common.{length, sym}
-use Rattle.lvm_vgsa.proofs.Sizes.{length-dirty, not_empty}
+use Rattle.lvm_vgsa.proofs.StatusBytesLemmas.Sizes.{length-dirty, not_empty}
 use Rattle.lvm_vgsa.proofs.writing.size_of_dirty.Goals as goal
 
 pub returns-else-is_empty : goal.returns-else-is_empty

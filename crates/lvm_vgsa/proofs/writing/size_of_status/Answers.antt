@@ -1,7 +1,7 @@
 use Rattle.std.proofs.Common.{ℕ, List, length, ap, arith}
 use Rattle.lvm_num.specs.StatusBytes.{dirty_bytes}
-use Rattle.lvm_num.proofs.Bounds.{few_dirty}
-use Rattle.lvm_vgsa.proofs.Sizes.{few_rows, dirty_small, length-status}
+use Rattle.lvm_num.proofs.DescriptorLemmas.Bounds.{few_dirty}
+use Rattle.lvm_vgsa.proofs.StatusBytesLemmas.Sizes.{few_rows, dirty_small, length-status}
 use Rattle.lvm_vgsa.proofs.writing.size_of_status.Goals as goal
 
 pub size_of_dirty-requires : goal.size_of_dirty-requires

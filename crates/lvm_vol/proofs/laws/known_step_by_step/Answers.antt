@@ -1,4 +1,4 @@
-use Rattle.lvm_vol.proofs.Knowing.{known-push, others_stay, done_closes, got_fixes, landed_closes, disks_are_tight, cut_ends_all, may_grows}
+use Rattle.lvm_vol.proofs.LawsLemmas.Knowing.{known-push, others_stay, done_closes, got_fixes, landed_closes, disks_are_tight, cut_ends_all, may_grows}
 use Rattle.lvm_vol.proofs.laws.known_step_by_step.Goals as goal
 
 pub returns : goal.returns

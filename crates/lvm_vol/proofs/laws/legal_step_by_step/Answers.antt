@@ -1,4 +1,4 @@
-use Rattle.lvm_vol.proofs.Legality.{legal_prefix, legal_push, legal_through}
+use Rattle.lvm_vol.proofs.LawsLemmas.Legality.{legal_prefix, legal_push, legal_through}
 use Rattle.lvm_vol.proofs.laws.legal_step_by_step.Goals as goal
 
 pub returns : goal.returns

@@ -1,4 +1,4 @@
-use Rattle.lvm_volume_lines.proofs.Rested.{empty_rests, may_drained, serving_breaks, serving_rests}
+use Rattle.lvm_volume_lines.proofs.CommandsLemmas.{empty_rests, may_drained, serving_breaks, serving_rests}
 use Rattle.lvm_volume_lines.proofs.volumes.come_to_rest.Goals as goal
 
 pub settle-requires : goal.settle-requires

@@ -2,7 +2,7 @@ use Rattle.std.proofs.Common.{◌≡◌, ◌≤◌, ◌∙◌, ℕ, refl, sym, a
 use Rattle.lvm_core.specs.State.{state_of}
 use Rattle.lvm_core.specs.Sound.{HaveAllLanded}
 use Rattle.lvm_range_lines.proofs.passed.TieCommands.{mklv_goes_on}
-use Rattle.lvm_range_lines.specs.handed.Names.{AreAnswered}
+use Rattle.lvm_range_lines.specs.passed.Names.{AreAnswered}
 use Rattle.lvm_range_lines.specs.passed.Volumes.{MklvGives, to_make}
 use Rattle.lvm_range_lines.specs.passed.Stage.{EndsUnasked, OfGroup, IsOn, open_in, session_in, Refusal, Reply, Stage}
 use Rattle.lvm_range_lines.specs.passed.RefusalVariants as refusal
@@ -12,10 +12,10 @@ use Rattle.lvm_volume_lines.specs.Commands.{HasBrokenOff, HasRested, none_added}
 use Rattle.lvm_volume_lines.specs.Volumes.{MklvDoes, BusyMklv, NoGroupForMklv, UndrainedMklv, drain_refusal, wanted}
 use Rattle.lvm_volume_lines.proofs.Commanding.{rows_mid}
 use Rattle.lvm_volume_lines.proofs.Ending.{mklv_facts, mklv_shape}
-use Rattle.lvm_volume_lines.proofs.Landing.{answers_stay, landed_stays, mklv_bears}
+use Rattle.lvm_volume_lines.proofs.FactsLemmas.{answers_stay, landed_stays, mklv_bears}
 use Rattle.lvm_volume_lines.proofs.OfVolumes.{at_mid, drains, ends_so}
-use Rattle.lvm_volume_lines.proofs.Lines.{mklv_does, on_some}
-use Rattle.lvm_volume_lines.proofs.Undrained.{undrained_ends}
+use Rattle.lvm_volume_lines.proofs.VolumesLemmas.{mklv_does, on_some}
+use Rattle.lvm_volume_lines.proofs.EndsLemmas.{undrained_ends}
 use Rattle.lvm_volume_lines.proofs.volumes.do_mklv.Goals as goal
 
 pub returns-then-not-is_on : goal.returns-then-not-is_on

@@ -2,7 +2,7 @@ use Rattle.std.proofs.Common.{◌≡◌, ◌≤◌, ◌∙◌, ℕ, refl, sym, a
 use Rattle.lvm_core.specs.State.{state_of}
 use Rattle.lvm_core.specs.Sound.{HaveAllLanded}
 use Rattle.lvm_range_lines.proofs.passed.TieCommands.{rmlv_goes_on}
-use Rattle.lvm_range_lines.specs.handed.Names.{AreAnswered}
+use Rattle.lvm_range_lines.specs.passed.Names.{AreAnswered}
 use Rattle.lvm_range_lines.specs.passed.Volumes.{RmlvGives, to_remove}
 use Rattle.lvm_range_lines.specs.passed.Stage.{EndsUnasked, OfGroup, open_in, session_in, Refusal, Reply, Stage}
 use Rattle.lvm_range_lines.specs.passed.RefusalVariants as refusal
@@ -12,11 +12,11 @@ use Rattle.lvm_volume_lines.specs.Commands.{HasBrokenOff, HasRested, none_added}
 use Rattle.lvm_volume_lines.specs.Volumes.{RmlvDoes, BusyRmlv, NoGroupForRmlv, NoVolumeForRmlv, UndrainedRmlv, drain_refusal}
 use Rattle.lvm_volume_lines.proofs.Commanding.{rows_mid}
 use Rattle.lvm_volume_lines.proofs.Ending.{rmlv_facts, rmlv_shape}
-use Rattle.lvm_volume_lines.proofs.Landing.{answers_stay, landed_stays, rmlv_bears}
+use Rattle.lvm_volume_lines.proofs.FactsLemmas.{answers_stay, landed_stays, rmlv_bears}
 use Rattle.lvm_volume_lines.proofs.OfVolumes.{at_mid, drains, ends_so}
-use Rattle.lvm_volume_lines.proofs.Lines.{rmlv_does}
-use Rattle.lvm_volume_lines.proofs.Undrained.{undrained_ends}
-use Rattle.lvm_volume_lines.proofs.Unnamed.{may_again, unnamed_ends}
+use Rattle.lvm_volume_lines.proofs.VolumesLemmas.{rmlv_does}
+use Rattle.lvm_volume_lines.proofs.EndsLemmas.{undrained_ends}
+use Rattle.lvm_volume_lines.proofs.ServingLemmas.{may_again, unnamed_ends}
 use Rattle.lvm_volume_lines.proofs.volumes.do_rmlv.Goals as goal
 
 pub returns-then-is_off : goal.returns-then-is_off

@@ -4,7 +4,7 @@ use Rattle.lvm_num.specs.declared.descriptor.Descriptor.{Descriptor}
 use Rattle.lvm_num.specs.Descriptor.{most_volumes}
 use Rattle.lvm_core.specs.Looking.{HasNoVolumeNamed}
 use Rattle.lvm_volume_plan.specs.Faults.{TakesCommands}
-use Rattle.lvm_volume_plan.proofs.Refusals.{if_none}
+use Rattle.lvm_volume_plan.proofs.NewVolumeLemmas.Refusals.{if_none}
 use Rattle.lvm_volume_plan.proofs.new_volume.check.Goals as goal
 
 pub returns-then-not-may_have-clause-refused : goal.returns-then-not-may_have-clause-refused

@@ -6,10 +6,10 @@ use Rattle.lvm_num.specs.declared.descriptor.Descriptor.{Descriptor}
 use Rattle.lvm_num.specs.declared.descriptor.LvRow.{LvRow}
 use Rattle.lvm_num.specs.Descriptor.{IsValid, most_volumes}
 use Rattle.lvm_map.specs.FirstFit.{IsAllocated, new_volume}
-use Rattle.lvm_core.specs.handed.Names.{Core, is_there}
+use Rattle.lvm_core.specs.passed.Names.{Core, is_there}
 use Rattle.lvm_volume_plan.specs.NewVolume.{row_for, with_volume}
 use Rattle.lvm_volume_plan.specs.Faults.{HasPlaces}
-use Rattle.lvm_volume_plan.proofs.NewDescriptor.{valid_with}
+use Rattle.lvm_volume_plan.proofs.NewVolumeLemmas.NewDescriptor.{valid_with}
 use Rattle.lvm_volume_plan.proofs.new_volume.plan.Goals as goal
 
 pub prepare-requires-clause-valid : goal.prepare-requires-clause-valid

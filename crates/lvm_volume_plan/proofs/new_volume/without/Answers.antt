@@ -1,6 +1,6 @@
 use Rattle.std.proofs.Common.{sym, subst}
 use Rattle.lvm_num.specs.Descriptor.{IsValid}
-use Rattle.lvm_volume_plan.proofs.OldDescriptor.{valid_without}
+use Rattle.lvm_volume_plan.proofs.NewVolumeLemmas.OldDescriptor.{valid_without}
 use Rattle.lvm_volume_plan.proofs.new_volume.without.Goals as goal
 
 pub prepare-requires-clause-valid : goal.prepare-requires-clause-valid

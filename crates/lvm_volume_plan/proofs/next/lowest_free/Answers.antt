@@ -1,7 +1,7 @@
 use Rattle.std.proofs.Common.{◌≡◌, ◌+◌, ◌<◌, sym, ap, ◌∙◌, arith, get_or, length}
 use Rattle.std.proofs.lemmas.List.{get_or_default}
 use Rattle.lvm_num.specs.declared.descriptor.LvRow.{LvRow}
-use Rattle.lvm_volume_plan.proofs.Numbers.{number_is}
+use Rattle.lvm_volume_plan.proofs.NewVolumeLemmas.Numbers.{number_is}
 use Rattle.lvm_volume_plan.proofs.next.lowest_free.Goals as goal
 
 pub returns-then-row-lowest : goal.returns-then-row-lowest

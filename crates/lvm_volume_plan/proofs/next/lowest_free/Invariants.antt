@@ -1,5 +1,5 @@
 use Rattle.std.proofs.Common.{◌≡◌, ◌+◌}
-use Rattle.lvm_volume_plan.proofs.Numbers.{AreNumbered}
+use Rattle.lvm_volume_plan.proofs.NewVolumeLemmas.Numbers.{AreNumbered}
 use Rattle.lvm_volume_plan.proofs.next.lowest_free.Given as goal
 
 abbrev pub invariant-loop-row : goal.invariant-loop-row

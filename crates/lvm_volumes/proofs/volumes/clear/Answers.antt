@@ -4,12 +4,12 @@ use Rattle.std.proofs.lemmas.Result.{err_from_is_err_and}
 use Rattle.lvm_num.specs.declared.place.Pp.{Pp}
 use Rattle.lvm_num.specs.declared.status.Status.{Status}
 use Rattle.lvm_num.specs.Status.{calls_missing}
-use Rattle.lvm_volume_plan.specs.handed.Names.{CommitFault, state_of, HasStated}
+use Rattle.lvm_volume_plan.specs.passed.Names.{CommitFault, state_of, HasStated}
 use Rattle.lvm_session.specs.State.{State}
 use Rattle.lvm_volumes.specs.Endings.{StillHeld, KeepsFresh}
 use Rattle.lvm_volumes.specs.Stages.{IsLowestMissing}
-use Rattle.lvm_volumes.proofs.Breaking.{stopped}
-use Rattle.lvm_volumes.proofs.Clearing.{fresh_among, fresh_still, fresh_keeps, fresh_break, missing_fails, still_unused, clear_end, clear_leaves, clear_still, clear_keeps}
+use Rattle.lvm_volumes.proofs.StagesLemmas.Breaking.{stopped}
+use Rattle.lvm_volumes.proofs.StagesLemmas.Clearing.{fresh_among, fresh_still, fresh_keeps, fresh_break, missing_fails, still_unused, clear_end, clear_leaves, clear_still, clear_keeps}
 use Rattle.lvm_volumes.proofs.volumes.clear.Goals as goal
 
 pub set_status-requires-clause-unused : goal.set_status-requires-clause-unused

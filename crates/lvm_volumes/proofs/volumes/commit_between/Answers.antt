@@ -1,11 +1,9 @@
-use Rattle.std.proofs.Common.{◌≡◌, ◌≤◌, [], Err, refl, sym, ap, subst, ◌∙◌}
+use Rattle.std.proofs.Common.{◌≤◌, [], Ok, Err, refl, sym, ap, subst, ◌∙◌}
 use Rattle.std.proofs.lemmas.Result.{err_from_is_err_and}
-use Rattle.lvm_num.specs.declared.descriptor.Descriptor.{Descriptor}
 use Rattle.lvm_vol.specs.Log.{Log, plain_fact, spare_entries}
-use Rattle.lvm_volume_plan.specs.handed.Names.{MarksLeft, state_of, IsSettled, HasSpareNumbers, HasCommitted, CommitEnds, Leaves, committing}
 use Rattle.lvm_session.specs.State.{Core, State}
-use Rattle.lvm_volumes.specs.Stages.{with_entry}
-use Rattle.lvm_volumes.proofs.Entering.{settled_entered, spare_more, needs_one}
+use Rattle.lvm_volume_plan.specs.passed.Names.{state_of, IsSettled, HasSpareNumbers}
+use Rattle.lvm_volumes.proofs.StagesLemmas.Entering.{settled_entered, spare_more, needs_one, commits_between}
 use Rattle.lvm_volumes.proofs.volumes.commit_between.Goals as goal
 
 pub commit-requires-clause-settled : goal.commit-requires-clause-settled
@@ -27,30 +25,17 @@ returns-in_err-commit g c =
     let a : State = state_of g.S.Shelf.device c.args.driver.now in
     let m : State = state_of g.S.Shelf.device c.enter.new.self in
     let b : State = state_of g.S.Shelf.device c.commit.new.self in
-    let same : m ≡ with_entry a (plain_fact c.args.first) = λ t. record { device = g.S.Shelf.device (c.enter.ensures.shelf t); core = c.enter.ensures.core t } in
-    let next : Descriptor = c.args.next in
-    let p = c.args.patience.now.left in
     let e = err_from_is_err_and c.from_residual.result c.from_residual.ensures.1 in
-    rw (e.1, e.2) (record {
-      mid = b;
-      leaves = subst (λ (x : State). Leaves (committing next) p c.commit.new.patience.left x b) same c.commit.ensures.leaves;
-      left = subst (λ (x : State). MarksLeft next x.core.status b.core.status) same c.commit.ensures.left;
-      ends = subst (λ (x : State). CommitEnds next p x b (Err c.in_err-commit.field-0.0)) same c.in_err-commit.ensures.ends;
-      closes = refl;
-    })
+    rw (e.1, e.2)
+    (commits_between (plain_fact c.args.first) (plain_fact c.args.last) c.args.next c.args.patience.now.left c.commit.new.patience.left a m b b (Err c.in_err-commit.field-0.0)
+    (λ t. record { device = g.S.Shelf.device (c.enter.ensures.shelf t); core = c.enter.ensures.core t }) c.commit.ensures.leaves c.commit.ensures.left c.in_err-commit.ensures.ends refl)
 
 pub returns : goal.returns
 returns g c =
     let a : State = state_of g.S.Shelf.device c.args.driver.now in
     let m : State = state_of g.S.Shelf.device c.enter.new.self in
     let b : State = state_of g.S.Shelf.device c.commit.new.self in
-    let same : m ≡ with_entry a (plain_fact c.args.first) = λ t. record { device = g.S.Shelf.device (c.enter.ensures.shelf t); core = c.enter.ensures.core t } in
-    let next : Descriptor = c.args.next in
-    let p = c.args.patience.now.left in
-    record {
-      mid = b;
-      leaves = subst (λ (x : State). Leaves (committing next) p c.commit.new.patience.left x b) same c.commit.ensures.leaves;
-      left = subst (λ (x : State). MarksLeft next x.core.status b.core.status) same c.commit.ensures.left;
-      ends = subst (λ (x : State). HasCommitted next x b) same c.in_ok-commit.ensures.ends;
-      closes = λ t. record { device = g.S.Shelf.device (c.enter-2.ensures.shelf t); core = c.enter-2.ensures.core t };
-    }
+    let last : State = state_of g.S.Shelf.device c.enter-2.new.self in
+    commits_between (plain_fact c.args.first) (plain_fact c.args.last) c.args.next c.args.patience.now.left c.commit.new.patience.left a m b last (Ok tt)
+    (λ t. record { device = g.S.Shelf.device (c.enter.ensures.shelf t); core = c.enter.ensures.core t }) c.commit.ensures.leaves c.commit.ensures.left c.in_ok-commit.ensures.ends
+    (λ t. record { device = g.S.Shelf.device (c.enter-2.ensures.shelf t); core = c.enter-2.ensures.core t })

@@ -4,12 +4,12 @@ use Rattle.std.proofs.lemmas.Result.{err_from_is_err_and}
 use Rattle.lvm_num.specs.declared.place.Pp.{Pp}
 use Rattle.lvm_num.specs.declared.descriptor.Descriptor.{Descriptor}
 use Rattle.lvm_vol.specs.Log.{Log, spare_entries}
-use Rattle.lvm_volume_plan.specs.handed.Names.{many_there, CommitFault, state_of, NoDescriptor, Leaves}
+use Rattle.lvm_volume_plan.specs.passed.Names.{many_there, CommitFault, state_of, NoDescriptor, Leaves}
 use Rattle.lvm_session.specs.State.{Core, State}
 use Rattle.lvm_volumes.specs.Endings.{commanding}
 use Rattle.lvm_volumes.specs.Stages.{AreUnusedOn, AreCleared, ClearEnds}
-use Rattle.lvm_volumes.proofs.Entering.{many_bound, has_numbers}
-use Rattle.lvm_volumes.proofs.Naming.{plan_unused, clear_break_leaves, clear_break, make_ends, make_leaves, make_still, make_keeps}
+use Rattle.lvm_volumes.proofs.StagesLemmas.Entering.{many_bound, has_numbers}
+use Rattle.lvm_volumes.proofs.StagesLemmas.Naming.{plan_unused, clear_break_leaves, clear_break, make_ends, make_leaves, make_still, make_keeps}
 use Rattle.lvm_volumes.proofs.volumes.make.Goals as goal
 use Rattle.lvm_volume_plan.specs.declared.new_volume.NewVolume.{NewVolume}
 use Rattle.lvm_volume_plan.specs.declared.new_volume.VolumePlan.{VolumePlan}

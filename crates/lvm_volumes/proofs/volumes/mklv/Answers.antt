@@ -1,12 +1,12 @@
 use Rattle.std.proofs.Common.{ℕ, Err}
 use Rattle.std.proofs.lemmas.Result.{err_from_is_err_and}
-use Rattle.lvm_volume_plan.specs.handed.Names.{CommitFault, state_of, IsSettled}
+use Rattle.lvm_volume_plan.specs.passed.Names.{CommitFault, state_of, IsSettled}
 use Rattle.lvm_session.specs.State.{State}
 use Rattle.lvm_volumes.specs.Endings.{StillHeld, KeepsFresh}
 use Rattle.lvm_volumes.specs.Volumes.{to_make}
-use Rattle.lvm_volumes.proofs.Answering.{refused_mklv, always_on, on_fault, made_leaves, make_settled, make_given, make_fails}
-use Rattle.lvm_volumes.proofs.Fresh.{keeps_none}
-use Rattle.lvm_volumes.proofs.Holding.{still_none}
+use Rattle.lvm_volumes.proofs.VolumesLemmas.{refused_mklv, always_on, made_leaves, make_settled, make_given, make_fails}
+use Rattle.lvm_volumes.proofs.EndingsLemmas.Fresh.{keeps_none}
+use Rattle.lvm_volumes.proofs.EndingsLemmas.Holding.{still_none}
 use Rattle.lvm_volumes.proofs.Leaving.{leaves_none}
 use Rattle.lvm_volumes.proofs.volumes.mklv.Goals as goal
 use Rattle.lvm_volume_plan.specs.declared.fault.GroupFault.{GroupFault}
@@ -42,9 +42,9 @@ returns-in_err-make g c =
     let e = err_from_is_err_and c.from_residual-in_err-make.result c.from_residual-in_err-make.ensures.1 in
     rw (e.1, e.2) (record {
       gives = make_fails v plan a planned p b why ends;
-      settled = λ takes. on_fault ℕ why (IsSettled b.core) (make_settled v plan a planned p b why ends);
-      held = on_fault ℕ why (StillHeld a b) c.in_err-make.ensures.held;
-      fresh = on_fault ℕ why (KeepsFresh a b) c.in_err-make.ensures.fresh;
+      settled = λ takes. make_settled v plan a planned p b why ends;
+      held = c.in_err-make.ensures.held;
+      fresh = c.in_err-make.ensures.fresh;
       leaves = made_leaves v plan a planned p c.make.new.patience.left b c.make.ensures.leaves;
     })
 

@@ -1,9 +1,9 @@
 use Rattle.std.proofs.Common.{[], ap}
 use Rattle.lvm_num.specs.declared.descriptor.Descriptor.{Descriptor}
 use Rattle.lvm_session.specs.State.{State}
-use Rattle.lvm_volume_plan.specs.handed.Names.{state_of}
-use Rattle.lvm_volumes.proofs.Entering.{has_numbers}
-use Rattle.lvm_volumes.proofs.Removing.{remove_ends, remove_leaves, remove_still, remove_keeps}
+use Rattle.lvm_volume_plan.specs.passed.Names.{state_of}
+use Rattle.lvm_volumes.proofs.StagesLemmas.Entering.{has_numbers}
+use Rattle.lvm_volumes.proofs.StagesLemmas.Removing.{remove_ends, remove_leaves, remove_still, remove_keeps}
 use Rattle.lvm_volumes.proofs.volumes.remove.Goals as goal
 use Rattle.lvm_volume_plan.specs.PlannedVolume.{IsWithout}
 

@@ -1,12 +1,12 @@
 use Rattle.std.proofs.Common.{Err}
 use Rattle.std.proofs.lemmas.Result.{err_from_is_err_and}
-use Rattle.lvm_volume_plan.specs.handed.Names.{CommitFault, state_of, IsSettled}
+use Rattle.lvm_volume_plan.specs.passed.Names.{CommitFault, state_of, IsSettled}
 use Rattle.lvm_session.specs.State.{State}
 use Rattle.lvm_volumes.specs.Endings.{StillHeld, KeepsFresh}
 use Rattle.lvm_volumes.specs.Volumes.{to_remove}
-use Rattle.lvm_volumes.proofs.Answering.{refused_rmlv, always_on, on_fault, removed_leaves, remove_settled, remove_given, remove_fails}
-use Rattle.lvm_volumes.proofs.Fresh.{keeps_none}
-use Rattle.lvm_volumes.proofs.Holding.{still_none}
+use Rattle.lvm_volumes.proofs.VolumesLemmas.{refused_rmlv, always_on, removed_leaves, remove_settled, remove_given, remove_fails}
+use Rattle.lvm_volumes.proofs.EndingsLemmas.Fresh.{keeps_none}
+use Rattle.lvm_volumes.proofs.EndingsLemmas.Holding.{still_none}
 use Rattle.lvm_volumes.proofs.Leaving.{leaves_none}
 use Rattle.lvm_volumes.proofs.volumes.rmlv.Goals as goal
 use Rattle.lvm_volume_plan.specs.declared.fault.GroupFault.{GroupFault}
@@ -37,9 +37,9 @@ returns-in_err-remove g c =
     let e = err_from_is_err_and c.from_residual-in_err-remove.result c.from_residual-in_err-remove.ensures.1 in
     rw (e.1, e.2) (record {
       gives = remove_fails c.args.lv c.in_ok-next.next a without p b why ends;
-      settled = λ takes. on_fault (Unit {0}) why (IsSettled b.core) (remove_settled c.args.lv c.in_ok-next.next a without p b why ends);
-      held = on_fault (Unit {0}) why (StillHeld a b) c.in_err-remove.ensures.held;
-      fresh = on_fault (Unit {0}) why (KeepsFresh a b) c.in_err-remove.ensures.fresh;
+      settled = λ takes. remove_settled c.args.lv c.in_ok-next.next a without p b why ends;
+      held = c.in_err-remove.ensures.held;
+      fresh = c.in_err-remove.ensures.fresh;
       leaves = removed_leaves c.args.lv c.in_ok-next.next a without p c.remove.new.patience.left b c.remove.ensures.leaves;
     })
 

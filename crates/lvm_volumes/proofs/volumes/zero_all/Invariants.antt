@@ -1,5 +1,5 @@
-use Rattle.lvm_volume_plan.specs.handed.Names.{state_of}
-use Rattle.lvm_volumes.proofs.Zeros.{IsZeroing}
+use Rattle.lvm_volume_plan.specs.passed.Names.{state_of}
+use Rattle.lvm_volumes.proofs.StagesLemmas.Zeros.{IsZeroing}
 use Rattle.lvm_volumes.proofs.volumes.zero_all.Given as goal
 
 abbrev pub invariant-loop-pp : goal.invariant-loop-pp

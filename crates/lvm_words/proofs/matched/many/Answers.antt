@@ -3,7 +3,7 @@ use Rattle.std.specs.Str.Parse.{ParsesUnsigned, ExplainsUnsignedError, HasUnsign
 use Rattle.clap.specs.Words.{found_of}
 use Rattle.clap.proofs.WalkLemmas.{one_text-rows}
 use Rattle.lvm_words.specs.Matched.{unsigned_in}
-use Rattle.lvm_words.proofs.Digits.{reads_at}
+use Rattle.lvm_words.proofs.MatchedLemmas.{reads_at}
 use Rattle.lvm_words.proofs.matched.many.Goals as goal
 
 pub returns : goal.returns

@@ -7,7 +7,7 @@ use Rattle.lvm_words.specs.Words.{IsWithin, work_of}
 use Rattle.lvm_words.specs.declared.job.Job.{Job}
 use Rattle.lvm_language.specs.declared.fault.WordsFault.{WordsFault}
 use Rattle.lvm_language.specs.declared.fault.WordsFault.TheVariants.{Usage}
-use Rattle.lvm_words.proofs.Outcomes.{handed_on, job_found, none_asked, not_plain}
+use Rattle.lvm_words.proofs.WordsLemmas.{handed_on, job_found, none_asked, not_plain}
 use Rattle.lvm_words.proofs.read.read_work.Goals as goal
 
 pub returns-in_err-plain-clause-usage : goal.returns-in_err-plain-clause-usage

@@ -3,7 +3,7 @@ use Rattle.std.specs.Bool.{one_answer}
 use Rattle.lvm_num.specs.declared.status.Status.{Status}
 use Rattle.lvm_status.proofs.Same.{same_status as same_by_eq, status_one as one_by_eq, status_own}
 use Rattle.lvm_session.specs.Enabled.{same_status}
-use Rattle.lvm_session.proofs.Statuses.{status_one}
+use Rattle.lvm_session.proofs.EnabledLemmas.{status_one}
 use Rattle.lvm_work_left.proofs.status.says_the_same.Goals as goal
 
 pub returns : goal.returns

@@ -1,4 +1,4 @@
-use Rattle.lvm_write.proofs.Shows.{descriptors_old_or_new, statuses_old_or_new}
+use Rattle.lvm_write.proofs.ShowsLemmas.{descriptors_old_or_new, statuses_old_or_new}
 use Rattle.lvm_write.proofs.laws.records_are_old_or_new.Goals as goal
 
 pub returns : goal.returns

@@ -1,4 +1,4 @@
-use Rattle.lvm_write.proofs.Shows.{descriptor_may_be_written, status_may_be_written}
+use Rattle.lvm_write.proofs.ShowsLemmas.{descriptor_may_be_written, status_may_be_written}
 use Rattle.lvm_write.proofs.laws.records_may_be_written.Goals as goal
 
 pub returns : goal.returns

@@ -1,8 +1,8 @@
 use Rattle.std.proofs.Common.{◌≡◌, Some, slice_get, sym, ap, ◌∙◌, refl, arith}
 use Rattle.lvm_num.specs.Buffer.{Buffer}
-use Rattle.lvm_survey.specs.handed.Names.{IsOfNote}
-use Rattle.lvm_write.proofs.Emptying.{first_put, note_planned}
-use Rattle.lvm_write.proofs.Pieces.{piece_part}
+use Rattle.lvm_survey.specs.passed.Names.{IsOfNote}
+use Rattle.lvm_write.proofs.NotesLemmas.{first_put, note_planned}
+use Rattle.lvm_write.proofs.PartsLemmas.Pieces.{piece_part}
 use Rattle.lvm_write.proofs.notes.write_sector.Goals as goal
 
 pub returns-clause-part : goal.returns-clause-part

@@ -1,6 +1,6 @@
 use Rattle.lvm_num.specs.Disks.{has}
 use Rattle.lvm_write.specs.Written.{write_of}
-use Rattle.lvm_write.proofs.Disks.{WroteDisks}
+use Rattle.lvm_write.proofs.WrittenLemmas.Disks.{WroteDisks}
 use Rattle.lvm_write.proofs.write.write_record.Given as goal
 
 abbrev pub invariant-loop-disk : goal.invariant-loop-disk

@@ -1,9 +1,9 @@
 use Rattle.std.proofs.Common.{arith, ◌+◌, length}
-use Rattle.lvm_survey.specs.handed.Names.{IsOfRecord}
+use Rattle.lvm_survey.specs.passed.Names.{IsOfRecord}
 use Rattle.lvm_write.specs.Parts.{write_to, PartsStand}
 use Rattle.lvm_num.specs.Buffer.{Buffer}
 use Rattle.lvm_num.specs.Record.{record_sectors}
-use Rattle.lvm_write.proofs.Transfers.{none_written, piece_written, part_then, not_done}
+use Rattle.lvm_write.proofs.PartsLemmas.Transfers.{none_written, piece_written, part_then, not_done}
 use Rattle.lvm_write.proofs.write.write_slot.Goals as goal
 
 pub loop-first-init : goal.loop-first-init

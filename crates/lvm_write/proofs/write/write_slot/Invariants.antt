@@ -1,6 +1,6 @@
 use Rattle.std.proofs.Common.{◌-◌, ◌≤◌}
 use Rattle.lvm_write.specs.Parts.{write_to}
-use Rattle.lvm_write.proofs.Transfers.{WroteBelow}
+use Rattle.lvm_write.proofs.PartsLemmas.Transfers.{WroteBelow}
 use Rattle.lvm_write.proofs.write.write_slot.Given as goal
 
 abbrev pub invariant-loop-first : goal.invariant-loop-first

@@ -1,9 +1,9 @@
 use Rattle.std.proofs.Common.{sym, subst}
-use Rattle.lvm_over.specs.handed.Names.{Core, state, core_of}
+use Rattle.lvm_over.specs.passed.Names.{Core, state, core_of}
 use Rattle.lvm_core.specs.Sound.{IsSoundBetween}
-use Rattle.lvm_core.proofs.Arranging.{arranged_sizes, arranged_sound}
-use Rattle.lvm_core.proofs.Dark.{may_end}
-use Rattle.lvm_core.proofs.Own.{SameSizes, rooms_stay}
+use Rattle.lvm_core.proofs.SoundLemmas.Arranging.{arranged_sizes, arranged_sound}
+use Rattle.lvm_core.proofs.SoundLemmas.Dark.{may_end}
+use Rattle.lvm_core.proofs.SoundLemmas.Own.{SameSizes, rooms_stay}
 use Rattle.lvm_core.proofs.driver.Driver.arrange.Goals as goal
 
 pub arranged-requires : goal.arranged-requires

@@ -1,10 +1,10 @@
 use Rattle.std.proofs.Common.{sym, subst, arith}
 use Rattle.lvm_commit.specs.Committed.{IsAlike}
-use Rattle.lvm_over.specs.handed.Names.{Core, state, core_of}
+use Rattle.lvm_over.specs.passed.Names.{Core, state, core_of}
 use Rattle.lvm_core.specs.Settled.{IsSettled, HasSpareNumbers}
-use Rattle.lvm_core.proofs.Commits.{may_commit_now}
-use Rattle.lvm_core.proofs.Committing.{descriptor_sound, descriptor_sizes, descriptor_ends, descriptor_fails, descriptor_leaves}
-use Rattle.lvm_core.proofs.Own.{rooms_stay}
+use Rattle.lvm_core.proofs.SettlingLemmas.{may_commit_now}
+use Rattle.lvm_core.proofs.CommittingLemmas.Committing.{descriptor_sound, descriptor_sizes, descriptor_ends, descriptor_fails, descriptor_leaves}
+use Rattle.lvm_core.proofs.SoundLemmas.Own.{rooms_stay}
 use Rattle.lvm_core.proofs.driver.Driver.commit.Goals as goal
 
 pub commit-requires-clause-may : goal.commit-requires-clause-may
@@ -26,26 +26,16 @@ invariant_of-self g c =
       descriptor_sound c.args.next c.args.patience.now.left c.commit.new.patience.left old new c.commit.result does settled c.self.invariant.1 alike,
     )
 
-pub returns-clause-ends : goal.returns-clause-ends
-returns-clause-ends g c = rw (← c.self.view_is) (descriptor_ends c.args.next c.args.patience.now.left c.commit.new.patience.left
-    (state (g.S.Shelf.device c.self.inside.shelf) (core_of c.self.inside.session))
-    (state (g.S.Shelf.device c.commit.new.shelf) (core_of c.commit.new.session))
-    c.commit.result c.commit.ensures.does (subst (λ (v : g.row.S.Denot × Core). IsSettled v.1) (sym c.self.view_is) c.requires.settled) c.self.invariant.1
-    (subst (λ (v : g.row.S.Denot × Core). IsAlike c.args.next v.1.descriptor) (sym c.self.view_is) c.requires.alike))
-
-pub returns-clause-left : goal.returns-clause-left
-returns-clause-left g c = rw (← c.self.view_is) c.commit.ensures.does.settles.leaves.left
-
-pub returns-clause-leaves : goal.returns-clause-leaves
-returns-clause-leaves g c = rw (← c.self.view_is) (descriptor_leaves c.args.next c.args.patience.now.left c.commit.new.patience.left
-    (state (g.S.Shelf.device c.self.inside.shelf) (core_of c.self.inside.session))
-    (state (g.S.Shelf.device c.commit.new.shelf) (core_of c.commit.new.session))
-    c.commit.result c.commit.ensures.does (subst (λ (v : g.row.S.Denot × Core). IsSettled v.1) (sym c.self.view_is) c.requires.settled) c.self.invariant.1
-    (subst (λ (v : g.row.S.Denot × Core). IsAlike c.args.next v.1.descriptor) (sym c.self.view_is) c.requires.alike))
-
-pub returns-clause-fails : goal.returns-clause-fails
-returns-clause-fails g c = rw (← c.self.view_is) (descriptor_fails c.args.next c.args.patience.now.left c.commit.new.patience.left
-    (state (g.S.Shelf.device c.self.inside.shelf) (core_of c.self.inside.session))
-    (state (g.S.Shelf.device c.commit.new.shelf) (core_of c.commit.new.session))
-    c.commit.result c.commit.ensures.does (subst (λ (v : g.row.S.Denot × Core). IsSettled v.1) (sym c.self.view_is) c.requires.settled) c.self.invariant.1
-    (subst (λ (v : g.row.S.Denot × Core). IsAlike c.args.next v.1.descriptor) (sym c.self.view_is) c.requires.alike))
+pub returns : goal.returns
+returns g c =
+    let old = state (g.S.Shelf.device c.self.inside.shelf) (core_of c.self.inside.session) in
+    let new = state (g.S.Shelf.device c.commit.new.shelf) (core_of c.commit.new.session) in
+    let does = c.commit.ensures.does in
+    let settled = subst (λ (v : g.row.S.Denot × Core). IsSettled v.1) (sym c.self.view_is) c.requires.settled in
+    let alike = subst (λ (v : g.row.S.Denot × Core). IsAlike c.args.next v.1.descriptor) (sym c.self.view_is) c.requires.alike in
+    rw (← c.self.view_is) (record {
+      ends = descriptor_ends c.args.next c.args.patience.now.left c.commit.new.patience.left old new c.commit.result does settled c.self.invariant.1 alike;
+      fails = descriptor_fails c.args.next c.args.patience.now.left c.commit.new.patience.left old new c.commit.result does settled c.self.invariant.1 alike;
+      left = does.settles.leaves.left;
+      leaves = descriptor_leaves c.args.next c.args.patience.now.left c.commit.new.patience.left old new c.commit.result does settled c.self.invariant.1 alike;
+    })

@@ -1,10 +1,10 @@
 use Rattle.std.proofs.Common.{◌++◌, sym, subst, arith}
-use Rattle.lvm_over.specs.handed.Names.{Core, state, core_of}
+use Rattle.lvm_over.specs.passed.Names.{Core, state, core_of}
 use Rattle.lvm_core.specs.Settled.{IsSettled, HasSpareNumbers}
 use Rattle.lvm_core.specs.Committing.{AreUnused}
-use Rattle.lvm_core.proofs.Commits.{may_commit_now, unused_markable}
-use Rattle.lvm_core.proofs.Stating.{status_sound, status_sizes, status_ends_so, status_fails, nothing_done, restates, status_leaves}
-use Rattle.lvm_core.proofs.Own.{rooms_stay}
+use Rattle.lvm_core.proofs.SettlingLemmas.{may_commit_now, unused_markable}
+use Rattle.lvm_core.proofs.CommittingLemmas.Stating.{status_sound, status_sizes, status_ends_so, status_fails, nothing_done, restates, status_leaves}
+use Rattle.lvm_core.proofs.SoundLemmas.Own.{rooms_stay}
 use Rattle.lvm_core.proofs.driver.Driver.set_status.Goals as goal
 
 pub set_status-requires-clause-may : goal.set_status-requires-clause-may
@@ -26,35 +26,21 @@ invariant_of-self g c =
       status_sound c.args.stale.now c.args.fresh.now c.args.patience.now.left c.set_status.new.patience.left old new c.set_status.result does settled c.self.invariant.1,
     )
 
-pub returns-clause-ends : goal.returns-clause-ends
-returns-clause-ends g c = rw (← c.self.view_is) (status_ends_so c.args.stale.now c.args.fresh.now c.args.patience.now.left c.set_status.new.patience.left
-    (state (g.S.Shelf.device c.self.inside.shelf) (core_of c.self.inside.session))
-    (state (g.S.Shelf.device c.set_status.new.shelf) (core_of c.set_status.new.session))
-    c.set_status.result c.set_status.ensures.does (subst (λ (v : g.row.S.Denot × Core). IsSettled v.1) (sym c.self.view_is) c.requires.settled) c.self.invariant.1
-    (subst (λ (v : g.row.S.Denot × Core). AreUnused v.1.descriptor (c.args.stale.now ++ c.args.fresh.now)) (sym c.self.view_is) c.requires.unused))
-
-pub returns-clause-nothing : goal.returns-clause-nothing
-returns-clause-nothing g c = rw (← c.self.view_is) (nothing_done c.args.stale.now c.args.fresh.now c.args.patience.now.left c.set_status.new.patience.left
-    (state (g.S.Shelf.device c.self.inside.shelf) (core_of c.self.inside.session))
-    (state (g.S.Shelf.device c.set_status.new.shelf) (core_of c.set_status.new.session))
-    c.set_status.result c.set_status.ensures.does (subst (λ (v : g.row.S.Denot × Core). IsSettled v.1) (sym c.self.view_is) c.requires.settled) c.self.invariant.1)
-
-pub returns-clause-marks : goal.returns-clause-marks
-returns-clause-marks g c = rw (← c.self.view_is) (restates c.args.stale.now c.args.fresh.now c.args.patience.now.left c.set_status.new.patience.left
-    (state (g.S.Shelf.device c.self.inside.shelf) (core_of c.self.inside.session))
-    (state (g.S.Shelf.device c.set_status.new.shelf) (core_of c.set_status.new.session))
-    c.set_status.result c.set_status.ensures.does (subst (λ (v : g.row.S.Denot × Core). IsSettled v.1) (sym c.self.view_is) c.requires.settled) c.self.invariant.1
-    (subst (λ (v : g.row.S.Denot × Core). AreUnused v.1.descriptor (c.args.stale.now ++ c.args.fresh.now)) (sym c.self.view_is) c.requires.unused))
-
-pub returns-clause-leaves : goal.returns-clause-leaves
-returns-clause-leaves g c = rw (← c.self.view_is) (status_leaves c.args.stale.now c.args.fresh.now c.args.patience.now.left c.set_status.new.patience.left
-    (state (g.S.Shelf.device c.self.inside.shelf) (core_of c.self.inside.session))
-    (state (g.S.Shelf.device c.set_status.new.shelf) (core_of c.set_status.new.session))
-    c.set_status.result c.set_status.ensures.does (subst (λ (v : g.row.S.Denot × Core). IsSettled v.1) (sym c.self.view_is) c.requires.settled) c.self.invariant.1
-    (subst (λ (v : g.row.S.Denot × Core). AreUnused v.1.descriptor (c.args.stale.now ++ c.args.fresh.now)) (sym c.self.view_is) c.requires.unused))
-
-pub returns-clause-fails : goal.returns-clause-fails
-returns-clause-fails g c = rw (← c.self.view_is) (status_fails c.args.stale.now c.args.fresh.now c.args.patience.now.left c.set_status.new.patience.left
-    (state (g.S.Shelf.device c.self.inside.shelf) (core_of c.self.inside.session))
-    (state (g.S.Shelf.device c.set_status.new.shelf) (core_of c.set_status.new.session))
-    c.set_status.result c.set_status.ensures.does (subst (λ (v : g.row.S.Denot × Core). IsSettled v.1) (sym c.self.view_is) c.requires.settled) c.self.invariant.1)
+pub returns : goal.returns
+returns g c =
+    let stale = c.args.stale.now in
+    let fresh = c.args.fresh.now in
+    let p = c.args.patience.now.left in
+    let q = c.set_status.new.patience.left in
+    let old = state (g.S.Shelf.device c.self.inside.shelf) (core_of c.self.inside.session) in
+    let new = state (g.S.Shelf.device c.set_status.new.shelf) (core_of c.set_status.new.session) in
+    let does = c.set_status.ensures.does in
+    let settled = subst (λ (v : g.row.S.Denot × Core). IsSettled v.1) (sym c.self.view_is) c.requires.settled in
+    let unused = subst (λ (v : g.row.S.Denot × Core). AreUnused v.1.descriptor (stale ++ fresh)) (sym c.self.view_is) c.requires.unused in
+    rw (← c.self.view_is) (record {
+      ends = status_ends_so stale fresh p q old new c.set_status.result does settled c.self.invariant.1 unused;
+      fails = status_fails stale fresh p q old new c.set_status.result does settled c.self.invariant.1;
+      nothing = nothing_done stale fresh p q old new c.set_status.result does settled c.self.invariant.1;
+      marks = restates stale fresh p q old new c.set_status.result does settled c.self.invariant.1 unused;
+      leaves = status_leaves stale fresh p q old new c.set_status.result does settled c.self.invariant.1 unused;
+    })

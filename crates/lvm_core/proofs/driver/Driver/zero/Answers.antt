@@ -2,11 +2,11 @@ use Rattle.std.proofs.Common.{sym, subst}
 use Rattle.std.specs.Prelude.{IsTrue}
 use Rattle.lvm_num.specs.Descriptor.{IsPartitionOf}
 use Rattle.lvm_commit.specs.LawsOfData.{IsFree}
-use Rattle.lvm_over.specs.handed.Names.{Core, state, is_there, core_of}
+use Rattle.lvm_over.specs.passed.Names.{Core, state, is_there, core_of}
 use Rattle.lvm_core.specs.Settled.{IsSettled}
-use Rattle.lvm_core.proofs.Own.{rooms_stay}
-use Rattle.lvm_core.proofs.ZeroEnding.{zero_keeps_records}
-use Rattle.lvm_core.proofs.ZeroKeeping.{has_sectors, is_not_missing, is_low, zero_sizes, zero_sound, zero_leaves}
+use Rattle.lvm_core.proofs.SoundLemmas.Own.{rooms_stay}
+use Rattle.lvm_core.proofs.ZerosLemmas.ZeroEnding.{zero_keeps_records}
+use Rattle.lvm_core.proofs.ZerosLemmas.ZeroKeeping.{has_sectors, is_not_missing, is_low, zero_sizes, zero_sound, zero_leaves}
 use Rattle.lvm_core.proofs.driver.Driver.zero.Goals as goal
 
 pub zero-requires-clause-partition : goal.zero-requires-clause-partition

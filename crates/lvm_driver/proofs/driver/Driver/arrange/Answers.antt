@@ -1,4 +1,4 @@
-use Rattle.lvm_driver.proofs.Driven.{order_on}
+use Rattle.lvm_driver.proofs.FieldsLemmas.{order_on}
 use Rattle.lvm_driver.proofs.driver.Driver.arrange.Goals as goal
 
 pub invariant_of-self : goal.invariant_of-self

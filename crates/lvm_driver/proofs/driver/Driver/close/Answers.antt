@@ -1,5 +1,5 @@
 use Rattle.lvm_session.specs.Fields.{core_of}
-use Rattle.lvm_driver.proofs.Closing.{all_landed}
+use Rattle.lvm_driver.proofs.LogLemmas.{all_landed}
 use Rattle.lvm_driver.proofs.driver.Driver.close.Goals as goal
 
 pub returns-clause-landed : goal.returns-clause-landed

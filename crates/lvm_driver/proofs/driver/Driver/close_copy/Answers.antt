@@ -2,7 +2,7 @@ use Rattle.std.proofs.Common.{◌≡◌, ℕ, sym, subst}
 use Rattle.lvm_session.specs.declared.answers.CopyState.TheVariants as stage
 use Rattle.lvm_session.specs.Calls.{copy_state}
 use Rattle.lvm_session.specs.State.{Core}
-use Rattle.lvm_driver.proofs.Driven.{close_on}
+use Rattle.lvm_driver.proofs.FieldsLemmas.{close_on}
 use Rattle.lvm_driver.proofs.driver.Driver.close_copy.Goals as goal
 
 pub invariant_of-self : goal.invariant_of-self

@@ -1,10 +1,10 @@
 use Rattle.std.proofs.Common.{sym, subst, arith}
 use Rattle.std.specs.Prelude.{Err}
 use Rattle.lvm_session.specs.declared.answers.Turned.TheVariants as turned
-use Rattle.lvm_driver.specs.declared.drain.DrainFault.{DrainFault}
-use Rattle.lvm_driver.specs.Answers.{state_of}
+use Rattle.lvm_session.specs.State.{state_of}
+use Rattle.lvm_core.specs.declared.fault.CommitFault.{CommitFault}
 use Rattle.lvm_driver.specs.Drains.{DrainCosts}
-use Rattle.lvm_driver.proofs.Draining.{begins, drained, last_turn, moved, path, runs_then, waits}
+use Rattle.lvm_driver.proofs.DrainsLemmas.{begins, drained, last_turn, moved, path, runs_then, waits}
 use Rattle.lvm_driver.proofs.driver.Driver.drain.Goals as goal
 
 pub loop-patience-init : goal.loop-patience-init
@@ -76,7 +76,7 @@ returns-in-Off-clause-costs g c =
     let new = state_of device c.turn.new.self in
     let patience = c.args.patience.now.left in
     let left = c.loop-patience.patience.left in
-    subst (λ (why : DrainFault). DrainCosts patience left first new (Err why)) (sym c.went_off.ensures)
+    subst (λ (why : CommitFault). DrainCosts patience left first new (Err why)) (sym c.went_off.ensures)
     (last_turn first (state_of device c.loop-patience.self) new patience left c.loop-patience.invariant (omega (arith, test)) turned.Off c.in-Off.ensures.makes)
 
 pub returns-then-flights-eq0-clause-costs : goal.returns-then-flights-eq0-clause-costs

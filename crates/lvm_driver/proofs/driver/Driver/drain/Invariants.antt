@@ -1,7 +1,7 @@
 use Rattle.std.proofs.Common.{◌+◌}
 use Rattle.lvm_session.specs.Left.{left_of}
-use Rattle.lvm_driver.specs.Answers.{state_of}
-use Rattle.lvm_driver.proofs.Draining.{Goes}
+use Rattle.lvm_session.specs.State.{state_of}
+use Rattle.lvm_driver.proofs.DrainsLemmas.{Goes}
 use Rattle.lvm_driver.proofs.driver.Driver.drain.Given as goal
 
 abbrev pub invariant-loop-patience : goal.invariant-loop-patience

@@ -1,6 +1,6 @@
 use Rattle.lvm_session.specs.Fields.{core_of}
 use Rattle.lvm_session.specs.State.{state}
-use Rattle.lvm_keeps.proofs.Bounding.{left_is_bounded}
+use Rattle.lvm_keeps.proofs.FallsLemmas.Bounding.{left_is_bounded}
 use Rattle.lvm_driver.proofs.driver.Driver.left.Goals as goal
 
 pub returns-clause-most : goal.returns-clause-most

@@ -2,8 +2,8 @@ use Rattle.std.proofs.Common.{◌≡◌, sym, subst}
 use Rattle.lvm_session.specs.declared.open.Power.TheVariants as power
 use Rattle.lvm_session.specs.Fields.{core_of}
 use Rattle.lvm_session.specs.State.{Core, state}
-use Rattle.lvm_driver.proofs.Causes.{is_off}
-use Rattle.lvm_driver.proofs.Driven.{open_on}
+use Rattle.lvm_driver.proofs.AnswersLemmas.{is_off}
+use Rattle.lvm_driver.proofs.FieldsLemmas.{open_on}
 use Rattle.lvm_driver.proofs.driver.Driver.open_copy.Goals as goal
 
 pub invariant_of-self : goal.invariant_of-self

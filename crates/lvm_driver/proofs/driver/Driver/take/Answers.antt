@@ -1,7 +1,7 @@
 use Rattle.lvm_session.specs.Fields.{core_of}
 use Rattle.lvm_session.specs.State.{state}
-use Rattle.lvm_driver.proofs.Causes.{is_caused}
-use Rattle.lvm_driver.proofs.Driven.{take_on}
+use Rattle.lvm_driver.proofs.AnswersLemmas.{is_caused}
+use Rattle.lvm_driver.proofs.FieldsLemmas.{take_on}
 use Rattle.lvm_driver.proofs.driver.Driver.take.Goals as goal
 
 pub invariant_of-self : goal.invariant_of-self

@@ -1,6 +1,6 @@
 use Rattle.std.proofs.Common.{ap}
 use Rattle.lvm_firsts.specs.declared.span.Span.{Span}
-use Rattle.lvm_due.proofs.Spanning.{all_due}
+use Rattle.lvm_due.proofs.DueLemmas.Spanning.{all_due}
 use Rattle.lvm_due.proofs.due.Due.all.Goals as goal
 
 pub returns : goal.returns

@@ -2,7 +2,7 @@ use Rattle.std.proofs.Common.{◌<◌, ◌==◌, ℕ, length, Option, sym, ◌�
 use Rattle.std.specs.Prelude.{IfSome}
 use Rattle.lvm_session.specs.Fields.{core_of}
 use Rattle.lvm_session.specs.declared.open.Open.{Open}
-use Rattle.lvm_due.proofs.Moving.{end_moves}
+use Rattle.lvm_due.proofs.DueLemmas.Moving.{end_moves}
 use Rattle.lvm_due.proofs.Queues.{place_within}
 use Rattle.lvm_due.proofs.due.Due.data_ended.Goals as goal
 

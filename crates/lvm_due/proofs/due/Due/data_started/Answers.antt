@@ -4,8 +4,8 @@ use Rattle.lvm_session.specs.Fields.{core_of}
 use Rattle.lvm_session.specs.State.{Core}
 use Rattle.lvm_firsts.specs.declared.span.Span.{Span}
 use Rattle.lvm_due.specs.Due.{none, IsDue}
-use Rattle.lvm_due.proofs.Moving.{start_moves_now}
-use Rattle.lvm_due.proofs.Spanning.{covers_nothing}
+use Rattle.lvm_due.proofs.DueLemmas.Moving.{start_moves_now}
+use Rattle.lvm_due.proofs.DueLemmas.Spanning.{covers_nothing}
 use Rattle.lvm_due.proofs.due.Due.data_started.Goals as goal
 
 pub returns : goal.returns

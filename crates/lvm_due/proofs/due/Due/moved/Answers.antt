@@ -1,6 +1,6 @@
 use Rattle.std.proofs.Common.{refl}
 use Rattle.lvm_session.specs.Fields.{core_of}
-use Rattle.lvm_due.proofs.Frames.{moved_due}
+use Rattle.lvm_due.proofs.DueLemmas.Frames.{moved_due}
 use Rattle.lvm_due.proofs.due.Due.moved.Goals as goal
 
 pub returns : goal.returns

@@ -3,7 +3,7 @@ use Rattle.lvm_session.specs.declared.event.Event.{Event}
 use Rattle.lvm_session.specs.State.{Core}
 use Rattle.lvm_session.specs.Turns.{Makes}
 use Rattle.lvm_due.specs.Due.{IsDue}
-use Rattle.lvm_due.proofs.Noting.{note_starts_due}
+use Rattle.lvm_due.proofs.DueLemmas.Noting.{note_starts_due}
 use Rattle.lvm_due.proofs.due.Due.started.Goals as goal
 
 pub data_started-requires : goal.data_started-requires

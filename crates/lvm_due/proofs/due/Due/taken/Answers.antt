@@ -1,6 +1,6 @@
 use Rattle.std.proofs.Common.{arith}
 use Rattle.lvm_session.specs.Fields.{core_of}
-use Rattle.lvm_due.proofs.Table.{left_due}
+use Rattle.lvm_due.proofs.DueLemmas.Table.{left_due}
 use Rattle.lvm_due.proofs.due.Due.taken.Goals as goal
 
 pub returns : goal.returns

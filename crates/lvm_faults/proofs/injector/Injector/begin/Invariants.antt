@@ -1,5 +1,5 @@
 use Rattle.lvm_faults.specs.Injection.{next_call}
-use Rattle.lvm_faults.proofs.Acting.{DoneSoFar}
+use Rattle.lvm_faults.proofs.InjectionLemmas.{DoneSoFar}
 use Rattle.lvm_faults.proofs.injector.Injector.begin.Given as goal
 
 abbrev pub invariant-loop-i : goal.invariant-loop-i

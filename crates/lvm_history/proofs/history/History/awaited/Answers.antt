@@ -1,7 +1,7 @@
 use Rattle.std.proofs.Common.{◌∙◌}
 use Rattle.lvm_history.specs.Opened.{kept_of}
 use Rattle.lvm_history.specs.Keeping.{awaited_by}
-use Rattle.lvm_history.proofs.Entering.{asked_alike, awaited_kept}
+use Rattle.lvm_history.proofs.KeepingLemmas.{asked_alike, awaited_kept}
 use Rattle.lvm_history.proofs.history.History.awaited.Goals as goal
 
 pub returns : goal.returns

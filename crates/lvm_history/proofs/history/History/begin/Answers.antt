@@ -1,12 +1,12 @@
 use Rattle.std.proofs.Common.{◌≡◌, ℕ, ◌+◌, ◌++◌, [], ◌∷◌, List, Bool, Option, Some, None, is_some, refl, sym, ◌∙◌, ap, subst, arith, option_copied, Bor, true}
 use Rattle.lvm_checker.specs.declared.row.Row.TheVariants as row
 use Rattle.lvm_history.specs.Opened.{kept_of}
-use Rattle.lvm_history.specs.Keeping.{Kept, log_of}
-use Rattle.lvm_checker.specs.handed.Names.{Begun, next_id, is_open, asked, next_request}
-use Rattle.lvm_history.proofs.Entering.{Adds, begun_adds, begun_found, room_to_begin, next_number}
+use Rattle.lvm_history.specs.Keeping.{Holdings, log_of}
+use Rattle.lvm_checker.specs.passed.Names.{Begun, next_id, is_open, asked, next_request}
+use Rattle.lvm_history.proofs.KeepingLemmas.{Adds, begun_adds, begun_found, room_to_begin, next_number}
 use Rattle.lvm_history.proofs.history.History.begin.Goals as goal
 
-abbrev new : goal.After-self-2-1 → Kept
+abbrev new : goal.After-self-2-1 → Holdings
 new c = kept_of (record c.self.inside { rows = c.append-2.new.items; asks = c.append.new.items; blocks = c.append_given.new.blocks; needed = c.self.inside.needed + 3; uncut = true })
 
 is_given : (o : Option (Bor (List ℕ))) → is_some o ≡ is_some (option_copied o)

@@ -1,7 +1,7 @@
 use Rattle.std.proofs.Common.{ℕ, ◌<◌, List, length, Some, sym, ap, ◌∙◌, arith, slice_get}
 use Rattle.std.proofs.lemmas.Option.{slice_get-get_or}
 use Rattle.lvm_history.specs.Opened.{kept_of}
-use Rattle.lvm_history.proofs.Entering.{blocks_count, blocks_kept}
+use Rattle.lvm_history.proofs.KeepingLemmas.{blocks_count, blocks_kept}
 use Rattle.lvm_history.proofs.history.History.block.Goals as goal
 
 pub index-requires : goal.index-requires

@@ -1,6 +1,6 @@
 use Rattle.std.proofs.Common.{arith}
 use Rattle.lvm_history.specs.Opened.{kept_of}
-use Rattle.lvm_history.proofs.Entering.{blocks_count}
+use Rattle.lvm_history.proofs.KeepingLemmas.{blocks_count}
 use Rattle.lvm_history.proofs.history.History.block_count.Goals as goal
 
 pub returns : goal.returns

@@ -1,6 +1,6 @@
 use Rattle.std.proofs.Common.{refl, arith, ◌+◌, false}
 use Rattle.lvm_history.specs.Opened.{kept_of}
-use Rattle.lvm_history.proofs.Entering.{cut_adds, cut_room}
+use Rattle.lvm_history.proofs.KeepingLemmas.{cut_adds, cut_room}
 use Rattle.lvm_history.proofs.history.History.cut.Goals as goal
 
 pub append-requires : goal.append-requires

@@ -1,12 +1,12 @@
 use Rattle.std.proofs.Common.{◌<◌, List, length, map, Some, sym, ap, ◌∙◌, subst, arith, slice_get}
 use Rattle.std.proofs.lemmas.List.{get_or-map, length-map}
 use Rattle.std.proofs.lemmas.Option.{slice_get-get_or}
-use Rattle.lvm_checker.specs.handed.Names.{Entry}
+use Rattle.lvm_checker.specs.passed.Names.{Entry}
 use Rattle.lvm_checker.specs.declared.row.Ask.{Ask}
 use Rattle.lvm_checker.specs.declared.row.Row.{Row}
 use Rattle.lvm_history.specs.Opened.{kept_of}
 use Rattle.lvm_history.specs.Keeping.{entry_kept, IsOneOfAsks}
-use Rattle.lvm_history.proofs.Entering.{length_rows, row_names, entries_kept}
+use Rattle.lvm_history.proofs.KeepingLemmas.{length_rows, row_names, entries_kept}
 use Rattle.lvm_history.proofs.history.History.entry.Goals as goal
 
 pub entry_of-requires : goal.entry_of-requires

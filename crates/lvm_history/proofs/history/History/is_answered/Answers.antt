@@ -5,7 +5,7 @@ use Rattle.lvm_checker.specs.declared.row.Row.{Row}
 use Rattle.lvm_history.specs.Opened.{kept_of}
 use Rattle.lvm_checker.specs.Rows.{is_landing, is_taking}
 use Rattle.lvm_history.specs.Keeping.{is_answered_by, ask_found}
-use Rattle.lvm_history.proofs.Entering.{is_answered_kept}
+use Rattle.lvm_history.proofs.KeepingLemmas.{is_answered_kept}
 use Rattle.lvm_history.proofs.history.History.is_answered.Goals as goal
 
 pub returns : goal.returns

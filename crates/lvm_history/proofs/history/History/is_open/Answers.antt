@@ -1,7 +1,7 @@
 use Rattle.std.proofs.Common.{◌∙◌}
 use Rattle.lvm_history.specs.Opened.{kept_of}
 use Rattle.lvm_history.specs.Keeping.{is_open_by}
-use Rattle.lvm_history.proofs.Entering.{asked_alike, is_open_kept}
+use Rattle.lvm_history.proofs.KeepingLemmas.{asked_alike, is_open_kept}
 use Rattle.lvm_history.proofs.history.History.is_open.Goals as goal
 
 pub returns : goal.returns

@@ -1,7 +1,7 @@
 use Rattle.std.proofs.Common.{refl, arith}
 use Rattle.lvm_history.specs.Opened.{kept_of}
-use Rattle.lvm_checker.specs.handed.Names.{Landed, request_of, got_without_bytes}
-use Rattle.lvm_history.proofs.Entering.{Adds, landed_adds, landed_answered, landed_room}
+use Rattle.lvm_checker.specs.passed.Names.{Landed, request_of, got_without_bytes}
+use Rattle.lvm_history.proofs.KeepingLemmas.{Adds, landed_adds, landed_answered, landed_room}
 use Rattle.lvm_history.proofs.history.History.land.Goals as goal
 
 adds : (c : goal.After-append) → Adds c.args.self.now (kept_of (record c.self.inside { rows = c.append.new.items })) (Landed (request_of c.args.self.now.facts c.args.id) c.args.outcome c.args.started (got_without_bytes (request_of c.args.self.now.facts c.args.id) c.args.outcome))

@@ -1,13 +1,13 @@
 use Rattle.std.proofs.Common.{◌≡◌, ℕ, ◌-◌, ◌≤◌, ◌+◌, ◌/◌, ◌++◌, List, length, take, drop, true, refl, ◌∙◌, ap, arith}
 use Rattle.std.proofs.lemmas.List.{get_or_default}
 use Rattle.std.specs.Simd.{first_chunks}
-use Rattle.lvm_checker.specs.handed.VolEntryOutcome as outcome
+use Rattle.lvm_checker.specs.passed.VolEntryOutcome as outcome
 use Rattle.lvm_checker.specs.declared.row.Ask.{Ask}
 use Rattle.lvm_history.specs.Opened.{kept_of}
 use Rattle.lvm_checker.specs.Rows.{no_ask, ask_of}
-use Rattle.lvm_history.specs.Keeping.{Kept}
-use Rattle.lvm_checker.specs.handed.Names.{Landed, request_of}
-use Rattle.lvm_history.proofs.Entering.{Adds, read_adds, landed_answered, landed_room, awaited_of, chunks_count, length-first_chunks_of, log_ask, open_some}
+use Rattle.lvm_history.specs.Keeping.{Holdings}
+use Rattle.lvm_checker.specs.passed.Names.{Landed, request_of}
+use Rattle.lvm_history.proofs.KeepingLemmas.{Adds, read_adds, landed_answered, landed_room, awaited_of, chunks_count, length-first_chunks_of, log_ask, open_some}
 use Rattle.lvm_history.proofs.history.History.land_read.Goals as goal
 
 pub overflow_sub-id : goal.overflow_sub-id
@@ -49,7 +49,7 @@ append-requires c =
     let waits = awaited_of c.args.self.now.facts c.args.id c.requires.read in
     omega (arith, landed_room (kept_of c.self.inside) c.args.self.now c.args.id outcome.Got true c.self.invariant c.self.view_is waits.still, c.self.inside.rows.ok.0)
 
-abbrev new : goal.After-append → Kept
+abbrev new : goal.After-append → Holdings
 new c = kept_of (record c.self.inside { rows = c.append.new.items; blocks = c.overwrite.new.blocks })
 
 adds : (c : goal.After-append) → Adds c.args.self.now (new c) (Landed (request_of c.args.self.now.facts c.args.id) outcome.Got true (first_chunks 512 (request_of c.args.self.now.facts c.args.id).count c.args.bytes.now))

@@ -1,6 +1,6 @@
 use Rattle.std.proofs.Common.{arith}
 use Rattle.lvm_history.specs.Opened.{kept_of}
-use Rattle.lvm_history.proofs.Entering.{length_rows, rows_few}
+use Rattle.lvm_history.proofs.KeepingLemmas.{length_rows, rows_few}
 use Rattle.lvm_history.proofs.history.History.len.Goals as goal
 
 pub overflow_cast-result : goal.overflow_cast-result

@@ -1,7 +1,7 @@
 use Rattle.std.proofs.Common.{ap, arith}
-use Rattle.lvm_checker.specs.handed.Names.{Log}
+use Rattle.lvm_checker.specs.passed.Names.{Log}
 use Rattle.lvm_history.specs.Opened.{kept_of}
-use Rattle.lvm_history.proofs.Entering.{blocks_count}
+use Rattle.lvm_history.proofs.KeepingLemmas.{blocks_count}
 use Rattle.lvm_history.proofs.history.History.spare_bytes.Goals as goal
 
 pub returns : goal.returns

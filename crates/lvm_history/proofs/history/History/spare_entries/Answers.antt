@@ -1,6 +1,6 @@
 use Rattle.std.proofs.Common.{arith}
 use Rattle.lvm_history.specs.Opened.{kept_of}
-use Rattle.lvm_history.proofs.Entering.{needed_counted}
+use Rattle.lvm_history.proofs.KeepingLemmas.{needed_counted}
 use Rattle.lvm_history.proofs.history.History.spare_entries.Goals as goal
 
 pub returns-clause-counted : goal.returns-clause-counted

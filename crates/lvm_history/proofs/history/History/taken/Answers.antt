@@ -1,7 +1,7 @@
 use Rattle.std.proofs.Common.{refl, arith}
 use Rattle.lvm_history.specs.Opened.{kept_of}
-use Rattle.lvm_checker.specs.handed.Names.{Taken, request_of}
-use Rattle.lvm_history.proofs.Entering.{Adds, taken_adds, taken_room}
+use Rattle.lvm_checker.specs.passed.Names.{Taken, request_of}
+use Rattle.lvm_history.proofs.KeepingLemmas.{Adds, taken_adds, taken_room}
 use Rattle.lvm_history.proofs.history.History.taken.Goals as goal
 
 adds : (c : goal.After-append) → Adds c.args.self.now (kept_of (record c.self.inside { rows = c.append.new.items })) (Taken (request_of c.args.self.now.facts c.args.id))

@@ -3,7 +3,7 @@ use Rattle.std.specs.List.{find}
 use Rattle.std.proofs.lemmas.Bool.{eqb-true}
 use Rattle.lvm_hold.specs.declared.queue.Row.{Row}
 use Rattle.lvm_hold.specs.Waiting.{Waiting, IsInside, Blocks}
-use Rattle.lvm_hold.proofs.Rows.{IsFound, found, first_conflict_blocks, first_conflict_least, inside_is_found}
+use Rattle.lvm_hold.proofs.OrderLemmas.{IsFound, found, first_conflict_blocks, first_conflict_least, inside_is_found}
 use Rattle.lvm_hold.proofs.queue.Queue.blocked_by.Goals as goal
 
 pub returns-in_err-this-clause-least : goal.returns-in_err-this-clause-least

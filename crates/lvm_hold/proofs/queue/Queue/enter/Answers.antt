@@ -1,6 +1,6 @@
 use Rattle.std.proofs.Common.{ap, arith}
 use Rattle.lvm_hold.specs.Waiting.{Waiting, AreBelow}
-use Rattle.lvm_hold.proofs.Rows.{ascending_push}
+use Rattle.lvm_hold.proofs.OrderLemmas.{ascending_push}
 use Rattle.lvm_hold.proofs.queue.Queue.enter.Goals as goal
 
 pub invariant_of-self : goal.invariant_of-self

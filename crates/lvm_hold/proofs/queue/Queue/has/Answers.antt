@@ -2,7 +2,7 @@ use Rattle.std.proofs.Common.{◌≡◌, ◌==◌, ◌∙◌, List, Option, Some
 use Rattle.std.specs.List.{find}
 use Rattle.std.specs.Option.{option_copied}
 use Rattle.lvm_hold.specs.declared.queue.Row.{Row}
-use Rattle.lvm_hold.proofs.Rows.{inside_tells}
+use Rattle.lvm_hold.proofs.OrderLemmas.{inside_tells}
 use Rattle.lvm_hold.proofs.queue.Queue.has.Goals as goal
 
 copied : (r : Option (Bor Row)) → is_some (option_copied r) ≡ is_some r

@@ -3,7 +3,7 @@ use Rattle.std.specs.List.{filter}
 use Rattle.std.proofs.lemmas.Fn.{filter_same}
 use Rattle.std.proofs.lemmas.Grind.{common_steps}
 use Rattle.lvm_hold.specs.declared.queue.Row.{Row}
-use Rattle.lvm_hold.proofs.Rows.{ascending_filter}
+use Rattle.lvm_hold.proofs.OrderLemmas.{ascending_filter}
 use Rattle.lvm_hold.proofs.queue.Queue.leave.Goals as goal
 
 kept : (c : goal.After-retain) → c.retain.new.self.items ≡ filter (λ (r : Row). not (r.id == c.args.id)) c.self.inside.rows.items

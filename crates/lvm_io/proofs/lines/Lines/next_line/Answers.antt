@@ -1,4 +1,4 @@
-use Rattle.lvm_io.proofs.Coming.{front_left, front_stays, line_given, line_wanted, last_given}
+use Rattle.lvm_io.proofs.ReadingLemmas.{front_left, front_stays, line_given, line_wanted, last_given}
 use Rattle.lvm_io.proofs.lines.Lines.next_line.Goals as goal
 
 pub returns-in-Ok-Some-clause-line : goal.returns-in-Ok-Some-clause-line

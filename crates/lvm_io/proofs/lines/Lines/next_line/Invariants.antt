@@ -1,5 +1,5 @@
 use Rattle.std.proofs.Common.{◌-◌}
-use Rattle.lvm_io.proofs.Coming.{LinesSoFar}
+use Rattle.lvm_io.proofs.ReadingLemmas.{LinesSoFar}
 use Rattle.lvm_io.proofs.lines.Lines.next_line.Given as goal
 
 abbrev pub invariant-loop-alloc : goal.invariant-loop-alloc

@@ -2,8 +2,8 @@ use Rattle.std.proofs.Common.{◌≡◌, ◌++◌, ℕ, List, Some, None, false,
 use Rattle.std.specs.List.{slice_range, position}
 use Rattle.std.proofs.lemmas.Grind.{common_steps}
 use Rattle.lvm_io.specs.Lines.{has_feed, is_feed}
-use Rattle.lvm_io.proofs.Feeds.{no_feed, LineInRange, line_in_range, no_line_in_range, range_none}
-use Rattle.lvm_io.proofs.Coming.{same_reading}
+use Rattle.lvm_io.proofs.LinesLemmas.Feeds.{no_feed, LineInRange, line_in_range, no_line_in_range, range_none}
+use Rattle.lvm_io.proofs.ReadingLemmas.{same_reading}
 use Rattle.lvm_io.proofs.lines.Lines.take_line.Goals as goal
 
 pub invariant_of-self-in-None : goal.invariant_of-self-in-None

@@ -3,8 +3,8 @@ use Rattle.lvm_flights.specs.Flights.{flight_of, flights_of}
 use Rattle.lvm_flights.specs.Flights.{Lies}
 use Rattle.lvm_flights.specs.Tally.{counts_of}
 use Rattle.lvm_flights.specs.declared.flying.Flying.{Flying}
-use Rattle.lvm_lane.proofs.Queueing.{sound_taken}
-use Rattle.lvm_lane.proofs.Ending.{ends_done, ends_failed, counted_alike}
+use Rattle.lvm_lane.proofs.SoundLemmas.{sound_taken}
+use Rattle.lvm_lane.proofs.StepsLemmas.{ends_done, ends_failed, counted_alike}
 use Rattle.lvm_lane.proofs.shelf.FileShelfShelf.reap.Goals as goal
 
 pub carry_out-requires : goal.carry_out-requires

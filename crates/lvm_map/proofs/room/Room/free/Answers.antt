@@ -4,7 +4,7 @@ use Rattle.std.specs.declared.collections.VecDeque.{VecDeque}
 use Rattle.std.proofs.lemmas.List.{length-map, take_all}
 use Rattle.std.proofs.lemmas.List.Sums.{sum_by_more}
 use Rattle.lvm_num.specs.declared.place.Pp.{Pp}
-use Rattle.lvm_map.proofs.Members.{list_at, sum-lists}
+use Rattle.lvm_map.proofs.RoomLemmas.Members.{list_at, sum-lists}
 use Rattle.lvm_map.proofs.room.Room.free.Goals as goal
 
 abbrev items : VecDeque Pp Global → List Pp

@@ -7,8 +7,8 @@ use Rattle.lvm_num.specs.declared.descriptor.PvRow.{PvRow}
 use Rattle.lvm_num.specs.Descriptor.{IsMember, partitions_used}
 use Rattle.lvm_num.specs.Disks.{has}
 use Rattle.lvm_map.specs.FirstFit.{free_of, may_take}
-use Rattle.lvm_map.proofs.UsedMarks.{used_bounded, marks_free}
-use Rattle.lvm_map.proofs.Members.{no_row, gathered, member_at}
+use Rattle.lvm_map.proofs.FirstFitLemmas.UsedMarks.{used_bounded, marks_free}
+use Rattle.lvm_map.proofs.RoomLemmas.Members.{no_row, gathered, member_at}
 use Rattle.lvm_map.proofs.room.Room.of.Goals as goal
 use Rattle.lvm_map.proofs.room.Room.of.Goals.{then-may_take+in_ok-free_of+in_ok-push, else-may_take}
 

@@ -3,7 +3,7 @@ use Rattle.std.specs.Prelude.{position}
 use Rattle.std.specs.declared.collections.VecDeque.{VecDeque}
 use Rattle.lvm_num.specs.declared.place.Pp.{Pp}
 use Rattle.lvm_map.specs.Room.{is_open}
-use Rattle.lvm_map.proofs.Choices.{takes_none, takes_first}
+use Rattle.lvm_map.proofs.RoomLemmas.Choices.{takes_none, takes_first}
 use Rattle.lvm_map.proofs.room.Room.take.Goals as goal
 
 pub returns-in_err-member : goal.returns-in_err-member

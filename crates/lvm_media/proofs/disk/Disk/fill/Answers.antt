@@ -1,6 +1,6 @@
 use Rattle.std.proofs.Common.{◌+◌, length, arith, ap}
 use Rattle.lvm_media.specs.Pieces.{joined}
-use Rattle.lvm_media.proofs.Filling.{one_filled}
+use Rattle.lvm_media.proofs.BufferLemmas.{one_filled}
 use Rattle.lvm_media.proofs.disk.Disk.fill.Goals as goal
 
 pub overflow_add-first : goal.overflow_add-first

@@ -1,5 +1,5 @@
 use Rattle.lvm_media.specs.Pieces.{joined}
-use Rattle.lvm_media.proofs.Filling.{FillSoFar}
+use Rattle.lvm_media.proofs.BufferLemmas.{FillSoFar}
 use Rattle.lvm_media.proofs.disk.Disk.fill.Given as goal
 
 abbrev pub invariant-loop-i : goal.invariant-loop-i

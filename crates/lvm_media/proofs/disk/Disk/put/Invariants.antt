@@ -1,5 +1,5 @@
 use Rattle.std.proofs.Common.{true}
-use Rattle.lvm_media.proofs.Putting.{PutSoFar}
+use Rattle.lvm_media.proofs.PiecesLemmas.Putting.{PutSoFar}
 use Rattle.lvm_media.proofs.disk.Disk.put.Given as goal
 
 abbrev pub invariant-loop-i : goal.invariant-loop-i

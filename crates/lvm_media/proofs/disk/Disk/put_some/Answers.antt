@@ -1,4 +1,4 @@
-use Rattle.lvm_media.proofs.Putting.{cut_again}
+use Rattle.lvm_media.proofs.PiecesLemmas.Putting.{cut_again}
 use Rattle.lvm_media.proofs.disk.Disk.put_some.Goals as goal
 
 pub invariant_of-self : goal.invariant_of-self

@@ -1,6 +1,6 @@
 use Rattle.std.proofs.Common.{◌+◌}
 use Rattle.lvm_media.specs.Media.{picks}
-use Rattle.lvm_media.proofs.Putting.{PutSoFar}
+use Rattle.lvm_media.proofs.PiecesLemmas.Putting.{PutSoFar}
 use Rattle.lvm_media.proofs.disk.Disk.put_some.Given as goal
 
 abbrev pub invariant-loop-i : goal.invariant-loop-i

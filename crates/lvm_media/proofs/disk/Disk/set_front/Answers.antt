@@ -1,5 +1,5 @@
 use Rattle.std.proofs.Common.{arith, ◌∙◌, ap, sym, refl, length, slice_index_or, []}
-use Rattle.lvm_media.proofs.Putting.{cut_again, one_taken}
+use Rattle.lvm_media.proofs.PiecesLemmas.Putting.{cut_again, one_taken}
 use Rattle.lvm_media.proofs.disk.Disk.set_front.Goals as goal
 
 pub invariant_of-self : goal.invariant_of-self

@@ -1,4 +1,4 @@
-use Rattle.lvm_media.proofs.Putting.{TakenSoFar}
+use Rattle.lvm_media.proofs.PiecesLemmas.Putting.{TakenSoFar}
 use Rattle.lvm_media.proofs.disk.Disk.set_front.Given as goal
 
 abbrev pub invariant-loop-i : goal.invariant-loop-i

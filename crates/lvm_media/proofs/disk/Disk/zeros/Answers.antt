@@ -2,7 +2,7 @@ use Rattle.std.proofs.Common.{◌≡◌, ◌+◌, ◌*◌, ◌/◌, ◌%◌, ◌
 use Rattle.lvm_num.specs.Buffer.{Sector, zero_sector}
 use Rattle.lvm_media.specs.Media.{AllSectors}
 use Rattle.lvm_media.specs.Pieces.{joined, IsCut}
-use Rattle.lvm_media.proofs.Pieces.{joined_zeros, zeros_cut}
+use Rattle.lvm_media.proofs.PiecesLemmas.Pieces.{joined_zeros, zeros_cut}
 use Rattle.lvm_media.proofs.disk.Disk.zeros.Goals as goal
 
 pieces_are : (c : goal.In_ok-push_piece) → c.push_piece.new.pieces.items ≡ replicate (c.args.count / 2048) (replicate 2048 zero_sector) ++ replicate (c.args.count % 2048) zero_sector ∷ []

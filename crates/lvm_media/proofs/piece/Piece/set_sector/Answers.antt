@@ -1,6 +1,6 @@
 use Rattle.std.proofs.Common.{arith, ◌∙◌, ap, length, slice_set}
 use Rattle.lvm_media.specs.Pieces.{filled_up}
-use Rattle.lvm_media.proofs.Pieces.{filled_long, set_filled}
+use Rattle.lvm_media.proofs.PiecesLemmas.Pieces.{filled_long, set_filled}
 use Rattle.lvm_media.proofs.piece.Piece.set_sector.Goals as goal
 
 pub returns-clause-set : goal.returns-clause-set

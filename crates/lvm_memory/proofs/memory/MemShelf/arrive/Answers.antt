@@ -4,8 +4,8 @@ use Rattle.lvm_flights.specs.Tally.{counts_of}
 use Rattle.lvm_flights.specs.Flights.{flight_of, flights_of, NoDelays}
 use Rattle.lvm_memory.specs.Memory.{device_of}
 use Rattle.lvm_flights.specs.declared.flying.Flying.{Flying}
-use Rattle.lvm_flights.proofs.Queues.{none_passed, none_removed}
-use Rattle.lvm_memory.proofs.Arriving.{sound_arrived, failed, done}
+use Rattle.lvm_flights.proofs.TicketsLemmas.{none_passed, none_removed}
+use Rattle.lvm_memory.proofs.StepsLemmas.{sound_arrived, failed, done}
 use Rattle.lvm_memory.proofs.memory.MemShelf.arrive.Goals as goal
 
 pub tear_flight-requires-clause-lies : goal.tear_flight-requires-clause-lies

@@ -1,4 +1,4 @@
-use Rattle.lvm_memory.proofs.Beginning.{sound_begun}
+use Rattle.lvm_memory.proofs.SoundLemmas.{sound_begun}
 use Rattle.lvm_memory.proofs.memory.MemShelf.begin_call.Goals as goal
 
 pub invariant_of-self : goal.invariant_of-self

@@ -3,7 +3,7 @@ use Rattle.lvm_flights.specs.Flights.{flights_of}
 use Rattle.lvm_media.specs.Media.{media_of}
 use Rattle.lvm_flights.specs.Tally.{counts_of}
 use Rattle.lvm_memory.specs.Memory.{device_of}
-use Rattle.lvm_memory.proofs.Darkening.{torn_like, darkened}
+use Rattle.lvm_memory.proofs.DeviceLemmas.{torn_like, darkened}
 use Rattle.lvm_memory.proofs.memory.MemShelf.cut.Goals as goal
 
 pub returns-then-self-clause-dark : goal.returns-then-self-clause-dark

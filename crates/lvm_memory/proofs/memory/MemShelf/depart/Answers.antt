@@ -4,8 +4,8 @@ use Rattle.lvm_flights.specs.Tally.{counts_of}
 use Rattle.lvm_flights.specs.Tickets.{has_ticket}
 use Rattle.lvm_memory.specs.Memory.{device_of}
 use Rattle.lvm_flights.specs.declared.flying.Flying.{Flying}
-use Rattle.lvm_flights.proofs.Starting.{started, flights_more, delays_more, range_lies}
-use Rattle.lvm_memory.proofs.Departing.{sound_departed, delays_departed}
+use Rattle.lvm_flights.proofs.FlightsLemmas.Starting.{started, flights_more, delays_more, range_lies}
+use Rattle.lvm_memory.proofs.FlightsLemmas.{sound_departed, delays_departed}
 use Rattle.lvm_memory.proofs.memory.MemShelf.depart.Goals as goal
 
 pub invariant_of-self : goal.invariant_of-self

@@ -3,7 +3,7 @@ use Rattle.lvm_disk.specs.Steps.{ReapGives}
 use Rattle.lvm_memory.specs.Memory.{device_of, bench_of}
 use Rattle.lvm_disk.specs.declared.shelf.Reaped.{Reaped}
 use Rattle.lvm_disk.specs.declared.shelf.Reaped.TheVariants.{Empty}
-use Rattle.lvm_memory.proofs.Prompt.{prompt_reaped, no_wait, as_many_delays}
+use Rattle.lvm_memory.proofs.BenchLemmas.{prompt_reaped, no_wait, as_many_delays}
 use Rattle.lvm_memory.proofs.memory.MemShelfShelf.reap.Goals as goal
 
 pub returns-clause-prompt : goal.returns-clause-prompt

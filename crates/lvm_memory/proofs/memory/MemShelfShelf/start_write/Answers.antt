@@ -1,6 +1,6 @@
 use Rattle.std.proofs.Common.{true}
 use Rattle.lvm_memory.specs.Memory.{bench_of}
-use Rattle.lvm_memory.proofs.Prompt.{prompt_started}
+use Rattle.lvm_memory.proofs.BenchLemmas.{prompt_started}
 use Rattle.lvm_memory.proofs.memory.MemShelfShelf.start_write.Goals as goal
 
 pub returns-clause-prompt : goal.returns-clause-prompt

@@ -7,7 +7,7 @@ use Rattle.lvm_mwc.specs.Notes.{is_of_disk}
 use Rattle.lvm_mwc.specs.Cache.{Cached, ended}
 use Rattle.lvm_mwc.proofs.FiltersLemmas.{filters_set}
 use Rattle.lvm_mwc.proofs.FirstsLemmas.{first_at}
-use Rattle.lvm_mwc.proofs.NotesLemmas.{looked_up, changed_at, disks_ended, not_ended}
+use Rattle.lvm_mwc.proofs.CacheLemmas.{looked_up, changed_at, disks_ended, not_ended}
 use Rattle.lvm_mwc.proofs.cache.Cache.end_note.Goals as goal
 
 pub returns-in_default : goal.returns-in_default

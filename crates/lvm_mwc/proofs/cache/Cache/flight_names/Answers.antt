@@ -2,7 +2,7 @@ use Rattle.std.proofs.Common.{◌≡◌, ◌∙◌, sym, ap, Some, None}
 use Rattle.std.specs.List.{position}
 use Rattle.lvm_mwc.specs.Notes.{is_of_disk, is_in_flight}
 use Rattle.lvm_mwc.specs.Cache.{Cached, flight_names}
-use Rattle.lvm_mwc.proofs.NotesLemmas.{cached, flying_at, looked_up, not_flying}
+use Rattle.lvm_mwc.proofs.CacheLemmas.{cached, flying_at, looked_up, not_flying}
 use Rattle.lvm_mwc.proofs.cache.Cache.flight_names.Goals as goal
 
 pub returns-in-None : goal.returns-in-None

@@ -1,6 +1,6 @@
 use Rattle.std.proofs.Common.{◌∙◌, ap}
 use Rattle.lvm_mwc.specs.Cache.{Cached, has_disk}
-use Rattle.lvm_mwc.proofs.NotesLemmas.{cached, looked_up, there_on}
+use Rattle.lvm_mwc.proofs.CacheLemmas.{cached, looked_up, there_on}
 use Rattle.lvm_mwc.proofs.cache.Cache.has_disk.Goals as goal
 
 pub returns : goal.returns

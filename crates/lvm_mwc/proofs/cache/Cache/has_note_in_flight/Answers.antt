@@ -4,7 +4,7 @@ use Rattle.std.specs.List.{position}
 use Rattle.lvm_mwc.specs.declared.notes.DiskNotes.{DiskNotes}
 use Rattle.lvm_mwc.specs.Notes.{is_of_disk}
 use Rattle.lvm_mwc.specs.Cache.{Cached, flight_on}
-use Rattle.lvm_mwc.proofs.NotesLemmas.{cached, flight_at, looked_up, no_flight}
+use Rattle.lvm_mwc.proofs.CacheLemmas.{cached, flight_at, looked_up, no_flight}
 use Rattle.lvm_mwc.proofs.cache.Cache.has_note_in_flight.Goals as goal
 
 pub returns-in-None : goal.returns-in-None

@@ -5,7 +5,7 @@ use Rattle.lvm_mwc.specs.declared.notes.DiskNotes.{DiskNotes}
 use Rattle.lvm_mwc.specs.Notes.{is_of_disk, both_name}
 use Rattle.lvm_mwc.specs.Cache.{Cached, is_named}
 use Rattle.lvm_mwc.proofs.FirstsLemmas.{first_at}
-use Rattle.lvm_mwc.proofs.NotesLemmas.{looked_up, cached, named_at, not_named}
+use Rattle.lvm_mwc.proofs.CacheLemmas.{looked_up, cached, named_at, not_named}
 use Rattle.lvm_mwc.proofs.FiltersLemmas.{not_passed}
 use Rattle.lvm_mwc.proofs.cache.Cache.is_named.Goals as goal
 

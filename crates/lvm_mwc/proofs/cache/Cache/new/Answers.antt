@@ -1,7 +1,7 @@
 use Rattle.std.proofs.Common.{◌≡◌, ◌∙◌, List, Bool, false, length, replicate, ap, arith}
 use Rattle.std.proofs.lemmas.List.{length-replicate}
 use Rattle.lvm_mwc.specs.Notes.{disks_of}
-use Rattle.lvm_mwc.proofs.EntriesLemmas.{no_entries}
+use Rattle.lvm_mwc.proofs.EntriesLemmas.Entries.{no_entries}
 use Rattle.lvm_mwc.proofs.FiltersLemmas.{filters_blank}
 use Rattle.lvm_mwc.proofs.cache.Cache.new.Goals as goal
 

@@ -1,4 +1,4 @@
-use Rattle.lvm_mwc.proofs.EntriesLemmas.{pinned_as}
+use Rattle.lvm_mwc.proofs.EntriesLemmas.Entries.{pinned_as}
 use Rattle.lvm_mwc.proofs.cache.Cache.pin.Goals as goal
 
 pub invariant_of-self-in-Some : goal.invariant_of-self-in-Some

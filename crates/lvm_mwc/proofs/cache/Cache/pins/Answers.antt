@@ -4,7 +4,7 @@ use Rattle.lvm_mwc.specs.declared.entries.CacheEntry.{CacheEntry}
 use Rattle.lvm_mwc.specs.Entries.{is_entry, pins_of}
 use Rattle.lvm_mwc.specs.Cache.{Cached}
 use Rattle.lvm_mwc.proofs.FirstsLemmas.{looked_for}
-use Rattle.lvm_mwc.proofs.EntriesLemmas.{pins_there, pins_nowhere}
+use Rattle.lvm_mwc.proofs.EntriesLemmas.Entries.{pins_there, pins_nowhere}
 use Rattle.lvm_mwc.proofs.cache.Cache.pins.Goals as goal
 
 pub returns-in-None : goal.returns-in-None

@@ -5,7 +5,7 @@ use Rattle.lvm_mwc.specs.Notes.{is_of_disk}
 use Rattle.lvm_mwc.specs.Cache.{Cached}
 use Rattle.lvm_mwc.proofs.FiltersLemmas.{filters_kept}
 use Rattle.lvm_mwc.proofs.FirstsLemmas.{first_at}
-use Rattle.lvm_mwc.proofs.NotesLemmas.{looked_up, disks_same, not_started, started_at}
+use Rattle.lvm_mwc.proofs.CacheLemmas.{looked_up, disks_same, not_started, started_at}
 use Rattle.lvm_mwc.proofs.cache.Cache.start_note.Goals as goal
 use Rattle.lvm_mwc.proofs.cache.Cache.start_note.Goals.{in-Some, in_default}
 

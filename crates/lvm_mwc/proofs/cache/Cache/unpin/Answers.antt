@@ -4,8 +4,8 @@ use Rattle.lvm_mwc.specs.declared.entries.CacheEntry.{CacheEntry}
 use Rattle.lvm_mwc.specs.Entries.{is_entry, pins_of, with_unpin}
 use Rattle.lvm_mwc.specs.Cache.{Cached, after_unpin}
 use Rattle.lvm_mwc.proofs.FirstsLemmas.{looked_for}
-use Rattle.lvm_mwc.proofs.EntriesLemmas.{less, unpinned, some_pins, not_there, unpinned_entries}
-use Rattle.lvm_mwc.proofs.NotesLemmas.{cached}
+use Rattle.lvm_mwc.proofs.EntriesLemmas.Entries.{less, unpinned, some_pins, not_there, unpinned_entries}
+use Rattle.lvm_mwc.proofs.CacheLemmas.{cached}
 use Rattle.lvm_mwc.proofs.cache.Cache.unpin.Goals as goal
 
 abbrev blank : CacheEntry

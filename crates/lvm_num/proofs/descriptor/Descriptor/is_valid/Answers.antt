@@ -3,7 +3,7 @@ use Rattle.std.proofs.lemmas.Bool.{false≢true}
 use Rattle.lvm_num.specs.declared.descriptor.PvRow.{PvRow}
 use Rattle.lvm_num.specs.Descriptor.{AreMembers, AreVolumes}
 use Rattle.lvm_num.specs.Marks.{AreCounts, AreCounted}
-use Rattle.lvm_num.proofs.MapsLemmas.{counted_is_maps, maps_is_counted}
+use Rattle.lvm_num.proofs.MarksLemmas.Maps.{counted_is_maps, maps_is_counted}
 use Rattle.lvm_num.proofs.descriptor.Descriptor.is_valid.Goals as goal
 use Rattle.lvm_num.proofs.descriptor.Descriptor.is_valid.Goals.{then-is_head, else-is_head}
 

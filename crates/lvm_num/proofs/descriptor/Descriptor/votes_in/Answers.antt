@@ -6,7 +6,7 @@ use Rattle.lvm_num.specs.Votes.{votes_of}
 use Rattle.lvm_num.proofs.VotesLemmas.{votes_by-most, counted-more, picks, leaves}
 use Rattle.lvm_num.proofs.descriptor.Descriptor.votes_in.Goals as goal
 use Rattle.lvm_num.proofs.descriptor.Descriptor.votes_in.Goals.{then-has, else-has}
-use Rattle.lvm_num.proofs.Bounds.{few_members}
+use Rattle.lvm_num.proofs.DescriptorLemmas.Bounds.{few_members}
 
 abbrev no_row : PvRow
 no_row = record { disk = 0; pps = 0; spare = false }

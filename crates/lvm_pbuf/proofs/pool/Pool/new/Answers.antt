@@ -1,7 +1,7 @@
 use Rattle.std.proofs.Common.{◌≡◌, ◌++◌, ◌∷◌, [], Some, ap, arith}
 use Rattle.std.proofs.lemmas.Grind.{common_steps}
 use Rattle.lvm_num.specs.Buffer.{Buffer}
-use Rattle.lvm_pbuf.proofs.Homes.{fresh_more}
+use Rattle.lvm_pbuf.proofs.PlacesLemmas.{fresh_more}
 use Rattle.lvm_pbuf.proofs.pool.Pool.new.Goals as goal
 
 pub loop-number-preserved : goal.loop-number-preserved

@@ -1,4 +1,4 @@
-use Rattle.lvm_pbuf.proofs.Homes.{IsFresh}
+use Rattle.lvm_pbuf.proofs.PlacesLemmas.{IsFresh}
 use Rattle.lvm_pbuf.proofs.pool.Pool.new.Given as goal
 
 abbrev pub invariant-loop-number : goal.invariant-loop-number

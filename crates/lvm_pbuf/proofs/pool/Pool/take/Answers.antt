@@ -3,7 +3,7 @@ use Rattle.std.specs.List.{position, slice_get}
 use Rattle.std.proofs.lemmas.List.{map-set}
 use Rattle.std.proofs.lemmas.Option.{get_or_from_slice_get}
 use Rattle.lvm_num.specs.Buffer.{Buffer}
-use Rattle.lvm_pbuf.proofs.Homes.{all_out, IsLowest, lowest, home_without, takes_as, not_all_out}
+use Rattle.lvm_pbuf.proofs.PlacesLemmas.{all_out, IsLowest, lowest, home_without, takes_as, not_all_out}
 use Rattle.lvm_pbuf.proofs.pool.Pool.take.Goals as goal
 
 found : (c : goal.After-self-1) → IsLowest c.self.inside.places.items c.in_ok-number.number

@@ -1,6 +1,6 @@
 use Rattle.std.proofs.Common.{◌+◌, sym, ◌∙◌, ap}
 use Rattle.lvm_range_lines.specs.Refusals.{refusal_in}
-use Rattle.lvm_range_lines.proofs.Texts.{refusals_push}
+use Rattle.lvm_range_lines.proofs.RefusalsLemmas.{refusals_push}
 use Rattle.lvm_range_lines.proofs.answers.Answers.with.Goals as goal
 
 pub returns : goal.returns

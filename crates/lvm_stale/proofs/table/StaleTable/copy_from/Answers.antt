@@ -1,4 +1,4 @@
-use Rattle.lvm_num.proofs.Bounds.{few_dirty}
+use Rattle.lvm_num.proofs.DescriptorLemmas.Bounds.{few_dirty}
 use Rattle.lvm_stale.proofs.table.StaleTable.copy_from.Goals as goal
 
 pub copy_from-requires : goal.copy_from-requires

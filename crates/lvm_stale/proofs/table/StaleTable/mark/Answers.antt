@@ -1,6 +1,6 @@
 use Rattle.std.proofs.Common.{refl}
 use Rattle.lvm_num.specs.declared.status.StatusRow.{StatusRow}
-use Rattle.lvm_stale.proofs.Places.{with_row_at-same, marked}
+use Rattle.lvm_stale.proofs.RowsLemmas.Places.{with_row_at-same, marked}
 use Rattle.lvm_stale.proofs.table.StaleTable.mark.Goals as goal
 
 -- the row that is put over the one there

@@ -2,7 +2,7 @@ use Rattle.std.proofs.Common.{◌≡◌, length, sym, arith}
 use Rattle.lvm_num.specs.declared.status.StatusRow.{StatusRow}
 use Rattle.lvm_stale.specs.Rows.{IsRowAt, with_row_at}
 use Rattle.lvm_stale.specs.Table.{SameMembers}
-use Rattle.lvm_stale.proofs.Places.{with_row_at-members}
+use Rattle.lvm_stale.proofs.RowsLemmas.Places.{with_row_at-members}
 use Rattle.lvm_stale.proofs.table.StaleTable.put.Goals as goal
 
 there : (c : goal.After-set) → (was : StatusRow) × IsRowAt c.self.inside.status.rows c.args.row.disk c.args.place was

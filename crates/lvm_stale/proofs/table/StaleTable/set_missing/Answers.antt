@@ -2,7 +2,7 @@ use Rattle.std.proofs.Common.{refl}
 use Rattle.lvm_num.specs.declared.place.Pp.{Pp}
 use Rattle.lvm_num.specs.declared.status.StatusRow.{StatusRow}
 use Rattle.lvm_num.specs.Bits.{has_bit}
-use Rattle.lvm_stale.proofs.Places.{with_row_at-same, set_missing-same, set_missing-says}
+use Rattle.lvm_stale.proofs.RowsLemmas.Places.{with_row_at-same, set_missing-same, set_missing-says}
 use Rattle.lvm_stale.proofs.table.StaleTable.set_missing.Goals as goal
 
 -- the row that is put over the one there

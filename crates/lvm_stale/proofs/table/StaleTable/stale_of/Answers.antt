@@ -1,7 +1,7 @@
 use Rattle.std.proofs.Common.{◌≡◌, ◌==◌, List, Some, sym, subst}
 use Rattle.std.specs.List.{find}
 use Rattle.lvm_num.specs.declared.descriptor.LvRow.{LvRow}
-use Rattle.lvm_stale.proofs.Volumes.{few_of_volume}
+use Rattle.lvm_stale.proofs.DescriptorLemmas.{few_of_volume}
 use Rattle.lvm_stale.proofs.table.StaleTable.stale_of.Goals as goal
 
 found : (c : goal.After-as_slice-in-Some) → find (λ (row : LvRow). row.number == c.args.lv) c.args.d.now.lvs ≡ Some c.in-Some.row.now

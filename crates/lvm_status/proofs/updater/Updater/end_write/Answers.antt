@@ -1,8 +1,8 @@
 use Rattle.std.proofs.Common.{ap, ◌∙◌}
-use Rattle.lvm_stale.specs.handed.Names.{has}
+use Rattle.lvm_stale.specs.passed.Names.{has}
 use Rattle.lvm_status.specs.Update.{Stored}
 use Rattle.lvm_status.proofs.Disks.{member-below}
-use Rattle.lvm_status.proofs.Fit.{fit_next, stays}
+use Rattle.lvm_status.proofs.MembersLemmas.Fit.{fit_next, stays}
 use Rattle.lvm_status.proofs.updater.Updater.end_write.Goals as goal
 
 pub without-self-inside-requires : goal.without-self-inside-requires

@@ -1,8 +1,8 @@
 use Rattle.std.proofs.Common.{◌≡◌, true, ◌&&◌, sym, ap, ◌∙◌}
 use Rattle.std.proofs.lemmas.Bool.{false≢true}
 use Rattle.lvm_status.specs.Members.{all_rows, all_members}
-use Rattle.lvm_status.proofs.Rows.{rows_are, rows_tell}
-use Rattle.lvm_status.proofs.Sound.{and_left, both}
+use Rattle.lvm_status.proofs.MembersLemmas.Rows.{rows_are, rows_tell}
+use Rattle.lvm_status.proofs.RunsLemmas.Sound.{and_left, both}
 use Rattle.lvm_status.proofs.updater.Updater.has_its_rows.Goals as goal
 
 pub returns-then-all_have_rows : goal.returns-then-all_have_rows

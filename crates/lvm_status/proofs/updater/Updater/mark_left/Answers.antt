@@ -1,6 +1,6 @@
 use Rattle.std.proofs.Common.{false, subst}
-use Rattle.lvm_stale.specs.handed.Names.{IsValidStatus}
-use Rattle.lvm_status.proofs.Fit.{fit_known, fit_next}
+use Rattle.lvm_stale.specs.passed.Names.{IsValidStatus}
+use Rattle.lvm_status.proofs.MembersLemmas.Fit.{fit_known, fit_next}
 use Rattle.lvm_status.proofs.updater.Updater.mark_left.Goals as goal
 
 pub invariant_of-self : goal.invariant_of-self

@@ -4,7 +4,7 @@ use Rattle.lvm_stale.specs.Table.{has_row}
 use Rattle.lvm_status.specs.Update.{Stored}
 use Rattle.lvm_status.specs.Calls.{MayChange}
 use Rattle.lvm_status.proofs.Disks.{member-below}
-use Rattle.lvm_status.proofs.Fit.{fit_next, stays}
+use Rattle.lvm_status.proofs.MembersLemmas.Fit.{fit_next, stays}
 use Rattle.lvm_status.proofs.updater.Updater.set_wanted.Goals as goal
 
 pub invariant_of-self : goal.invariant_of-self

@@ -1,7 +1,7 @@
 use Rattle.std.proofs.Common.{◌≡◌, ℕ, List, Ok, sym, subst}
 use Rattle.std.specs.Prelude.{IfOk}
 use Rattle.lvm_num.specs.DescriptorBytes.{descriptor_of, descriptor_bytes}
-use Rattle.lvm_vgda.proofs.Whole.{spelled_is_read}
+use Rattle.lvm_vgda.proofs.DescriptorBytesLemmas.Whole.{spelled_is_read}
 use Rattle.lvm_tests_commit.proofs.tests.commit.content_of.Goals as goal
 
 pub returns-clause-describes : goal.returns-clause-describes

@@ -13,7 +13,7 @@ use Rattle.lvm_disk.specs.Device.{Device}
 use Rattle.lvm_stale.specs.Table.{has_row}
 use Rattle.lvm_status.specs.Members.{HasItsRows}
 use Rattle.lvm_status.specs.Update.{Stored}
-use Rattle.lvm_status.proofs.Sound.{and_left}
+use Rattle.lvm_status.proofs.RunsLemmas.Sound.{and_left}
 use Rattle.lvm_write.specs.Written.{HasRoom}
 use Rattle.lvm_commit.specs.Settling.{there, IsOf}
 use Rattle.lvm_tests_commit.proofs.tests.commit.is_ready.Goals as goal

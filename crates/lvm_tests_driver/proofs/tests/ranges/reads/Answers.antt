@@ -1,12 +1,12 @@
 use Rattle.std.proofs.Common.{IfOk, refl, sym, subst}
 use Rattle.std.specs.Prelude.{Result}
 use Rattle.lvm_vol.specs.Log.{Log}
-use Rattle.lvm_ranges.specs.passed.Driver.{state_of}
+use Rattle.lvm_session.specs.State.{state_of}
 use Rattle.lvm_posts.specs.declared.asked.Asked.{Asked}
 use Rattle.lvm_ranges.specs.declared.refusal.AskRangeFault.{AskRangeFault}
 use Rattle.lvm_ranges.specs.Reading.{HasEndedWell, IsRead}
-use Rattle.lvm_ranges.proofs.Finishing.{ended_well}
-use Rattle.lvm_ranges.proofs.Growing.{reads_on}
+use Rattle.lvm_ranges.proofs.KeepingLemmas.Finishing.{ended_well}
+use Rattle.lvm_ranges.proofs.KeepingLemmas.Growing.{reads_on}
 use Rattle.lvm_tests_driver.proofs.tests.ranges.reads.Goals as goal
 
 pub read_blocks-requires-clause-read : goal.read_blocks-requires-clause-read

@@ -1,5 +1,5 @@
 use Rattle.std.proofs.Common.{[], ◌∷◌, refl}
-use Rattle.lvm_turn.proofs.Idle.{idle_all, idle_joined}
+use Rattle.lvm_turn.proofs.CallsLemmas.Idle.{idle_all, idle_joined}
 use Rattle.lvm_tests_history.proofs.tests.turn.closed_by_four.Goals as goal
 
 pub close-requires-clause-all : goal.close-requires-clause-all

@@ -1,5 +1,5 @@
 use Rattle.std.proofs.Common.{[], ◌∷◌, inl, refl}
-use Rattle.lvm_turn.proofs.Idle.{idle_holds, idle_missed}
+use Rattle.lvm_turn.proofs.CallsLemmas.Idle.{idle_holds, idle_missed}
 use Rattle.lvm_tests_history.proofs.tests.turn.miss.Goals as goal
 
 pub try_enter-requires-clause-holds : goal.try_enter-requires-clause-holds

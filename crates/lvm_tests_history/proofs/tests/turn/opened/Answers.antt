@@ -1,6 +1,6 @@
 use Rattle.std.proofs.Common.{None, [], ◌∷◌}
 use Rattle.lvm_tests_history.specs.declared.tests.turn.Desk.{Desk}
-use Rattle.lvm_turn.proofs.Idle.{idle_first}
+use Rattle.lvm_turn.proofs.CallsLemmas.Idle.{idle_first}
 use Rattle.lvm_tests_history.proofs.tests.turn.opened.Goals as goal
 
 pub returns-clause-idle : goal.returns-clause-idle

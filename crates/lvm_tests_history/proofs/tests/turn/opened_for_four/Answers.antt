@@ -1,5 +1,5 @@
 use Rattle.std.proofs.Common.{[], ◌∷◌, inl, inr, refl}
-use Rattle.lvm_turn.proofs.Idle.{idle_without, idle_alone, idle_holds}
+use Rattle.lvm_turn.proofs.CallsLemmas.Idle.{idle_without, idle_alone, idle_holds}
 use Rattle.lvm_tests_history.proofs.tests.turn.opened_for_four.Goals as goal
 
 pub split-two-requires-clause-holds : goal.split-two-requires-clause-holds

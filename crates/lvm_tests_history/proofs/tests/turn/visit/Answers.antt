@@ -1,8 +1,8 @@
 use Rattle.std.proofs.Common.{[], ◌∷◌, sym, inl, refl}
 use Rattle.std.proofs.lemmas.List.{append-nil}
-use Rattle.lvm_vol.proofs.Growing.{none_fell}
-use Rattle.lvm_turn.proofs.Leaving.{may_leave}
-use Rattle.lvm_turn.proofs.Idle.{idle_holds, idle_left}
+use Rattle.lvm_vol.proofs.FrontsLemmas.{none_fell}
+use Rattle.lvm_turn.proofs.CallsLemmas.Leaving.{may_leave}
+use Rattle.lvm_turn.proofs.CallsLemmas.Idle.{idle_holds, idle_left}
 use Rattle.lvm_tests_history.proofs.tests.turn.visit.Goals as goal
 
 pub enter-value-requires-clause-holds : goal.enter-value-requires-clause-holds

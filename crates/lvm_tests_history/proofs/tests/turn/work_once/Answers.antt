@@ -1,7 +1,7 @@
 use Rattle.std.proofs.Common.{ℕ, [], ◌∷◌, ap, sym, subst, inl, refl}
 use Rattle.lvm_turn.specs.Views.{Holds}
-use Rattle.lvm_turn.proofs.Leaving.{may_leave}
-use Rattle.lvm_turn.proofs.Idle.{idle_holds, idle_left}
+use Rattle.lvm_turn.proofs.CallsLemmas.Leaving.{may_leave}
+use Rattle.lvm_turn.proofs.CallsLemmas.Idle.{idle_holds, idle_left}
 use Rattle.lvm_tests_history.proofs.tests.turn.work_once.Goals as goal
 
 pub try_enter-requires-clause-holds : goal.try_enter-requires-clause-holds

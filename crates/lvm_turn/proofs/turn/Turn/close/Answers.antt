@@ -5,7 +5,7 @@ use Rattle.lvm_turn.specs.Views.{HoldsAll, View, Standing}
 use Rattle.lvm_turn.specs.Turns.{Opened}
 use Rattle.lvm_turn.specs.Passes.{view_of}
 use Rattle.lvm_turn.specs.Calls.{Continues}
-use Rattle.lvm_turn.proofs.Ends.{closes_as}
+use Rattle.lvm_turn.proofs.CallsLemmas.Ends.{closes_as}
 use Rattle.lvm_turn.proofs.turn.Turn.close.Goals as goal
 
 pub unreachable-requires : goal.unreachable-requires

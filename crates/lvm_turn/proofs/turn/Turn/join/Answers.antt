@@ -3,8 +3,8 @@ use Rattle.atomic_table.specs.declared.badge.Badge.{Badge}
 use Rattle.lvm_turn.specs.Views.{View, Standing}
 use Rattle.lvm_turn.specs.Turns.{Opened}
 use Rattle.lvm_turn.specs.Passes.{view_of}
-use Rattle.lvm_turn.proofs.Parting.{joins}
-use Rattle.lvm_turn.proofs.Keeping.{compares}
+use Rattle.lvm_turn.proofs.ViewsLemmas.Parting.{joins}
+use Rattle.lvm_turn.proofs.StepsLemmas.{compares}
 use Rattle.lvm_turn.proofs.turn.Turn.join.Goals as goal
 
 pub join_seat-requires : goal.join_seat-requires

@@ -1,7 +1,7 @@
 use Rattle.std.proofs.Common.{sym, ap}
 use Rattle.lvm_turn.specs.declared.rule.Opening.{Opening}
 use Rattle.lvm_turn.specs.Rules.{fixed_of}
-use Rattle.lvm_turn.proofs.Ends.{opens, first_puts}
+use Rattle.lvm_turn.proofs.CallsLemmas.Ends.{opens, first_puts}
 use Rattle.lvm_turn.proofs.turn.Turn.new.Goals as goal
 
 pub vacant-requires : goal.vacant-requires

@@ -1,2 +1,0 @@
--- Handed on from the crates below.
-pub use Rattle.lvm_transfer.specs.declared.moves.Moved.TheVariants.{Dark, Done, Failed, Stuck}

@@ -1,0 +1,4 @@
+pub mod NoMore
+pub mod Finding
+pub mod HoldingStatus
+pub mod HoldingDescriptor

@@ -1,0 +1,59 @@
+-- What a session needs before it writes records, it has after one too.
+use Rattle.std.proofs.Common.{◌≡◌, ℕ, ◌+◌, ◌≤◌, None, List, IsTrue, sym, ◌∙◌, ap, arith}
+use Rattle.std.specs.Prelude.{slice_get}
+use Rattle.lvm_num.specs.declared.record.Stamp.{Stamp}
+use Rattle.lvm_num.specs.declared.descriptor.Descriptor.{Descriptor}
+use Rattle.lvm_num.specs.Descriptor.{is_member}
+use Rattle.lvm_num.specs.Status.{calls_missing}
+use Rattle.lvm_num.specs.Votes.{CanWrite}
+use Rattle.lvm_disk.specs.Device.{Device}
+use Rattle.lvm_status.specs.Update.{Stored}
+use Rattle.lvm_write.specs.Written.{HasRoom}
+use Rattle.lvm_commit.specs.Committed.{next_stamp}
+use Rattle.lvm_commit.specs.Settling.{there, many_there, MaySettle, HasNumbers, SpendsNumbers, OnlyLoses}
+use Rattle.lvm_commit.proofs.SettlingLemmas.Chaining.{loses_less}
+use Rattle.lvm_commit.proofs.SettlingLemmas.Round.{no_more_there, fewer_there}
+use Rattle.lvm_commit.proofs.RoundsLemmas.Wanting.{row_stays}
+
+pub room_on : (old new : Device) (d : ℕ) → new.sizes ≡ old.sizes → HasRoom old d → HasRoom new d
+room_on old new d same room = (room.0, ap (λ (sizes : List ℕ). slice_get sizes d) same ∙ room.1, room.2)
+
+pub may_settle_on :
+    (d : Descriptor) (first last : Stored) (old new : Device) → MaySettle d first old → OnlyLoses first last old new → last.in_flight ≡ None → last.stamp.epoch ≡ first.stamp.epoch → new.sizes ≡ old.sizes → CanWrite last.group (there last)
+    → MaySettle d last new
+may_settle_on d first last old new may loses idle epoch sizes votes = record {
+  valid = may.valid;
+  own = may.own ∙ sym loses.group;
+  idle = idle;
+  id = loses.rows.id ∙ may.id ∙ ap (λ (g : Descriptor). g.id) (sym loses.group);
+  rows = λ disk. row_stays first.wanted last.wanted loses.rows disk ∙ may.rows disk ∙ ap (λ (g : Descriptor). is_member g disk) (sym loses.group);
+  epoch = λ zero. may.epoch (sym epoch ∙ zero);
+  room = λ disk is. room_on old new disk sizes (may.room disk (loses_less first last old new loses disk is));
+  votes = votes;
+}
+
+-- ---- numbers
+
+module _ (first last : Stored) (old new : Device) (loses : OnlyLoses first last old new) (stamp : last.stamp ≡ next_stamp first.stamp) where
+  seq_is : last.stamp.seq ≡ first.stamp.seq + 1
+  seq_is = ap (λ (s : Stamp). s.seq) stamp
+
+  -- one record takes a number,
+  pub spends_one : SpendsNumbers 1 first last
+  spends_one = record {
+    epoch = ap (λ (s : Stamp). s.epoch) stamp;
+    rises = omega (arith, seq_is);
+    most = (let less : many_there last ≤ many_there first = no_more_there first last loses.group loses.stays in omega (arith, seq_is, less));
+  }
+
+  -- which is that of a member that became missing,
+  pub spends_none : (d : ℕ) → IsTrue (there first d) → IsTrue (calls_missing last.wanted d) → SpendsNumbers 0 first last
+  spends_none d was gone = record {
+    epoch = ap (λ (s : Stamp). s.epoch) stamp;
+    rises = omega (arith, seq_is);
+    most = (let less : many_there last + 1 ≤ many_there first = fewer_there first last loses.group loses.stays d was gone in omega (arith, seq_is, less));
+  }
+
+  -- so one fewer is left
+  pub numbers_left : (more : ℕ) → HasNumbers (more + 1) first → HasNumbers more last
+  numbers_left more has = let less : many_there last ≤ many_there first = no_more_there first last loses.group loses.stays in omega (arith, seq_is, less, has)

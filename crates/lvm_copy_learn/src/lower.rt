@@ -1,4 +1,0 @@
-//! What is handed on from the crates below.
-
-pub use lvm_ends::lower::{Back, reap_row};
-pub use lvm_ends::{end_data, end_note, end_status};

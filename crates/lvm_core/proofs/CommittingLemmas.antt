@@ -1,0 +1,5 @@
+pub mod Committing
+pub mod Stating
+pub mod Buffers
+pub mod Spanning
+pub mod Settled

@@ -1,0 +1,35 @@
+-- A session stays sound when it enters that a volume is being made or removed.
+use Rattle.std.proofs.Common.{◌≡◌, ℕ, List, [], ◌∷◌, ◌++◌, refl, ◌∙◌}
+use Rattle.lvm_disk.specs.Device.{Device}
+use Rattle.lvm_vol.specs.declared.entry.Entry.{Entry}
+use Rattle.lvm_vol.specs.declared.entry.Entry.TheVariants as entry
+use Rattle.lvm_vol.specs.Facts.{Fact, Making, Made, Removing, Removed}
+use Rattle.lvm_vol.specs.Log.{is_open, with_fact, plain_fact}
+use Rattle.lvm_session_start.proofs.passed.Names.{open_still}
+use Rattle.lvm_over.specs.passed.Names.{Core, state}
+use Rattle.lvm_core.specs.Sound.{IsSoundBetween}
+use Rattle.lvm_core.specs.Entering.{IsOfVolume}
+use Rattle.lvm_core.proofs.SoundLemmas.Own.{fits_with}
+
+-- it is about no request
+open_entered : (facts : List Fact) (e : Entry) → IsOfVolume e → (id : ℕ) → is_open (facts ++ plain_fact e ∷ []) id ≡ is_open facts id
+open_entered facts (entry.Making lv blocks mode) is id = open_still facts (Making lv blocks mode) refl id refl
+open_entered facts (entry.Made lv) is id = open_still facts (Made lv) refl id refl
+open_entered facts (entry.Removing vol) is id = open_still facts (Removing vol) refl id refl
+open_entered facts (entry.Removed vol) is id = open_still facts (Removed vol) refl id refl
+open_entered facts _ is id = absurd is
+
+pub entered_sound : (device : Device) (core : Core) (e : Entry) → IsOfVolume e → IsSoundBetween (state device core) → IsSoundBetween (state device (record core { history = with_fact core.history (plain_fact e) }))
+entered_sound device core e is sound = record {
+  fitting = fits_with core (with_fact core.history (plain_fact e)) core.pool core.power refl sound.fitting;
+  none = record { requests = sound.none.requests; copy = sound.none.copy };
+  landed = λ id. open_entered core.history.facts e is id ∙ sound.landed id;
+  placed = sound.placed;
+  buffers = sound.buffers;
+  none_lost = sound.none_lost;
+  quiet = λ quiet. sound.quiet (record { requests = quiet.requests; copy = quiet.copy; status = quiet.status; notes = quiet.notes; buffers = quiet.buffers });
+  lit = sound.lit;
+  dark = sound.dark;
+  off = sound.off;
+  heard = sound.heard;
+}

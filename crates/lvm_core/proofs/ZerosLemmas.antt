@@ -1,0 +1,3 @@
+pub mod Zeroing
+pub mod ZeroEnding
+pub mod ZeroKeeping

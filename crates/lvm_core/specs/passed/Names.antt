@@ -1,0 +1,15 @@
+-- Passed on from the crates below.
+pub use Rattle.lvm_commit.specs.Committed.{Began, HoldsCommitted, IsAlike, ShowsCommitted, next_stamp}
+pub use Rattle.lvm_commit.specs.LawsOfData.{IsFree, IsSectorOf}
+pub use Rattle.lvm_commit.specs.LawsOfVolumes.{HasFreshCopies, IsOneByAllOn, IsOnlyGroupOn, IsOnlyGroupSince, LeavesCommitted, VolumeServes}
+pub use Rattle.lvm_commit.specs.Settling.{HasLostQuorum, IsOfCommit, IsOfSession, IsOfStatus, IsPassedOver, MarksLeft, NoneIsLeft, StatesGroup, many_there, there}
+pub use Rattle.lvm_kept.specs.Group.{IsOneOf}
+pub use Rattle.lvm_quorum.specs.declared.choice.Choice.{Choice}
+pub use Rattle.lvm_over.specs.passed.Names.{ArePlaced, IsPlaced, Core, State, is_among, is_there, votes_there}
+pub use Rattle.lvm_session_start.specs.Beginning.{AreFaults, first_core}
+pub use Rattle.lvm_session_start.specs.Parts.{IsOneGroup}
+pub use Rattle.lvm_session_start.specs.declared.parts.Parts.{Parts}
+pub use Rattle.lvm_commit.specs.passed.Names.{DiffersInVolume}
+pub use Rattle.lvm_write.specs.Homes.{SpareNewest, SparesNewest}
+pub use Rattle.lvm_write.specs.Parts.{Spends}
+pub use Rattle.lvm_write.specs.Written.{IsDarkened, IsGivenUp, KeepsShelf}

@@ -1,0 +1,4 @@
+pub mod Ends
+pub mod Finding
+pub mod Images
+pub mod Remaining

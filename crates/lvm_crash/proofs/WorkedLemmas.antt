@@ -1,0 +1,4 @@
+pub mod Worked
+pub mod Shelf
+pub mod Flights
+pub mod Records

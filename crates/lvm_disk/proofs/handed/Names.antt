@@ -1,5 +1,0 @@
--- Handed on from the crates below.
-pub use Rattle.lvm_num.proofs.Newest.{is_last, is_one}
-pub use Rattle.lvm_num.proofs.Records.{joined-same}
-pub use Rattle.lvm_num.proofs.Torn.{sectors-fit}
-pub use Rattle.lvm_num.proofs.VotesLemmas.{more_have_more, more_is_enough, read_meets_read, read_meets_write}

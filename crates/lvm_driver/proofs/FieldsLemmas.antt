@@ -1,0 +1,90 @@
+-- What the calls leave of a driver's parts.
+use Rattle.std.proofs.Common.{◌≡◌, ℕ, Bool, List, Option}
+use Rattle.std.specs.Prelude.{Result}
+use Rattle.lvm_disk.specs.declared.shelf.Arrange.{Arrange}
+use Rattle.lvm_disk.specs.Device.{Device, HasSectors}
+use Rattle.lvm_path.specs.declared.ask.Ask.{Ask}
+use Rattle.lvm_session.specs.declared.open.Power.TheVariants as power
+use Rattle.lvm_session.specs.declared.session.Session.{Session}
+use Rattle.lvm_session.specs.Fields.{core_of}
+use Rattle.lvm_session.specs.Rooms.{HasRooms, SameRooms}
+use Rattle.lvm_session.specs.State.{State, state}
+use Rattle.lvm_session.specs.declared.answers.AskFault.{AskFault}
+use Rattle.lvm_session.specs.declared.answers.CopyFault.{CopyFault}
+use Rattle.lvm_session.specs.declared.answers.Taken.{Taken}
+use Rattle.lvm_session.specs.declared.answers.Turned.{Turned}
+use Rattle.lvm_session.specs.Calls.{Closes, OpenGives, SubmitGives, TakeGives}
+use Rattle.lvm_session.specs.Turns.{ArrangesSession, TurnMakes}
+use Rattle.lvm_session.specs.Asking.{IsAsking, IsAwake}
+use Rattle.lvm_session.specs.Sound.{IsSound}
+use Rattle.lvm_keeps.proofs.KeepsLemmas.Close.{close_keeps}
+use Rattle.lvm_keeps.proofs.KeepsLemmas.Orders.{order_keeps}
+use Rattle.lvm_keeps.proofs.KeepsLemmas.Take.{take_keeps}
+use Rattle.lvm_keeps_calls.proofs.KeepsLemmas.{submit_keeps}
+use Rattle.lvm_running.proofs.passed.Names.{turn_keeps}
+use Rattle.lvm_keeps_calls.proofs.OpeningLemmas.Opening.{seen_open_keeps}
+use Rattle.lvm_keeps_calls.specs.passed.Names.{counts_seen}
+use Rattle.lvm_running.specs.passed.Names.{AreValid}
+use Rattle.lvm_running.specs.Running.{LeavesSession, RunsOn}
+use Rattle.lvm_running.proofs.LawsLemmas.Calls.{calls_run_on}
+use Rattle.lvm_running.proofs.LawsLemmas.Turning.{turn_runs_on}
+use Rattle.lvm_driver.proofs.RoomsLemmas.{rooms_stay}
+
+-- a session that isn't stuck may be asked
+is_awake : (s : State) → IsSound s → (s.core.power ≡ power.Stuck → ⊥) → IsAwake s.core
+is_awake s sound unstuck = record { fitting = sound.fitting; going = λ on. (sound.on on).going; unstuck = unstuck }
+
+-- what holds of the parts whenever nobody changes them
+abbrev pub AreSound : Device → Session → Type 0
+AreSound device session = HasRooms session × IsSound (state device (core_of session))
+
+-- they hold on, and what runs on or is left of them
+pub record Stay (Left : State → State → Type 0) (device now : Device) (old new : Session) : Type 0 where
+  pub sound : AreSound now new
+  pub left : Left (state device (core_of old)) (state now (core_of new))
+
+module _ (device now : Device) (old new : Session) (it : AreSound device old) (same : SameRooms old new) where
+  abbrev was : State
+  was = state device (core_of old)
+
+  abbrev is : State
+  is = state now (core_of new)
+
+  run : IsSound is → RunsOn was is → Stay RunsOn device now old new
+  run sound runs = record { sound = (rooms_stay old new runs.leaves.keeps.room same it.0, sound); left = runs }
+
+  leave : IsSound is → LeavesSession was is → Stay LeavesSession device now old new
+  leave sound leaves = record { sound = (rooms_stay old new leaves.keeps.room same it.0, sound); left = leaves }
+
+  pub turn_on : (answer : Turned) → HasSectors now → AreValid old.updater → TurnMakes was is answer → Stay RunsOn device now old new
+  turn_on answer sectors valid made = let sound = turn_keeps was is answer it.1 made in run sound (turn_runs_on was is answer it.1 sound sectors valid made)
+
+  pub order_on : (what : Arrange) (done : Bool) → ArrangesSession was is what done → Stay LeavesSession device now old new
+  order_on what done order = let sound = order_keeps was is what done it.1 order in leave sound (calls_run_on.arrange was is what done it.1 sound order)
+
+module _ (device : Device) (old new : Session) (it : AreSound device old) (same : SameRooms old new) where
+  pub submit_on : (client : ℕ) (ask : Ask) (bytes : Option (List ℕ)) (answer : Result ℕ AskFault)
+      → (old.power ≡ power.Stuck → ⊥) → IsAsking ask bytes → SubmitGives (core_of old) (core_of new) client ask bytes answer → Stay RunsOn device device old new
+  submit_on client ask bytes answer unstuck asks gives =
+      let s = state device (core_of old) in
+      let sound = submit_keeps s (core_of new) client ask bytes answer it.1 (is_awake s it.1 unstuck) asks gives in
+      run device device old new it same sound (calls_run_on.submit s (core_of new) client ask bytes answer unstuck sound asks gives)
+
+  pub take_on : (client id : ℕ) (answer : Taken) → TakeGives (core_of old) (core_of new) client id answer → Stay RunsOn device device old new
+  take_on client id answer gives =
+      let s = state device (core_of old) in
+      let sound = take_keeps s (core_of new) client id answer it.1 gives in
+      run device device old new it same sound (calls_run_on.take s (core_of new) client id answer it.1 sound gives)
+
+  pub open_on : (lv lp number : ℕ) (answer : Result (Unit {0}) CopyFault)
+      → (old.power ≡ power.Stuck → ⊥) → OpenGives (counts_seen device (core_of old)) (core_of old) (core_of new) lv lp number answer → Stay LeavesSession device device old new
+  open_on lv lp number answer unstuck gives =
+      let s = state device (core_of old) in
+      let sound = seen_open_keeps s (core_of new) lv lp number answer it.1 (is_awake s it.1 unstuck) gives in
+      leave device device old new it same sound (calls_run_on.open_copy s (core_of new) (counts_seen device (core_of old)) lv lp number answer sound gives)
+
+  pub close_on : Closes (core_of old) (core_of new) → Stay RunsOn device device old new
+  close_on closes =
+      let s = state device (core_of old) in
+      let sound = close_keeps s (core_of new) it.1 closes in
+      run device device old new it same sound (calls_run_on.close_copy s (core_of new) sound closes)

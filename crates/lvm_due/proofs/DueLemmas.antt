@@ -1,0 +1,5 @@
+pub mod Frames
+pub mod Moving
+pub mod Noting
+pub mod Spanning
+pub mod Table

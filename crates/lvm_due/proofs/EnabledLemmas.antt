@@ -1,0 +1,4 @@
+pub mod Alike
+pub mod Calm
+pub mod Unmade
+pub mod Unread

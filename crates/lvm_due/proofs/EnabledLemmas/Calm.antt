@@ -1,0 +1,18 @@
+-- What shows that a session is calm.
+use Rattle.std.proofs.Common.{◌≡◌, Bool, true, false, Option, Some, None, refl, sym, ◌∙◌}
+use Rattle.std.specs.Prelude.{◌≢◌, ◌↔◌, IsTrue, is_some}
+use Rattle.lvm_num.specs.declared.status.Status.{Status}
+use Rattle.lvm_session.specs.Enabled.{same_status}
+use Rattle.lvm_session.proofs.EnabledLemmas.{status_one}
+
+pub none_there : {A : Type 0} (x : Option A) → is_some x ≡ false → x ≡ None
+none_there None is = refl
+none_there (Some a) is = absurd (cc is)
+
+-- two statuses that don't differ are one
+pub same_one : (a b : Status) (differ : Bool) → (IsTrue differ ↔ (a ≢ b)) → differ ≡ false → a ≡ b
+same_one a b differ tells is = by (same_status a b) refl
+  where
+    by : (s : Bool) → same_status a b ≡ s → a ≡ b
+    by true same = (status_one a b).0 same
+    by false apart = absurd (let e : false ≡ true = sym is ∙ tells.1 (λ one. let t : true ≡ false = sym ((status_one a b).1 one) ∙ apart in absurd (cc t)) in cc e)

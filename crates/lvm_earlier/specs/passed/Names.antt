@@ -1,0 +1,10 @@
+-- Passed on from the crates below.
+pub use Rattle.lvm_core.specs.Committing.{AreUnused, moment_of}
+pub use Rattle.lvm_core.specs.Held.{AreNotesHome, IsHeld, NotesAreHome, StartsHeld}
+pub use Rattle.lvm_core.specs.Leaves.{EntersVolumes, IsOfCommand, KeepsStatus, Leaves, NoPartition, Scope, WasLeftBehind}
+pub use Rattle.lvm_core.specs.Looking.{IsNumberOf}
+pub use Rattle.lvm_core.specs.Settled.{IsSettled}
+pub use Rattle.lvm_core.specs.Sound.{HasNoneOpen, HaveAllLanded, IsFittingBetween, IsQuiet, IsSoundBetween}
+pub use Rattle.lvm_core.specs.Starting.{room_of}
+pub use Rattle.lvm_core.specs.declared.parts.Room.{Room}
+pub use Rattle.lvm_ranges.specs.passed.Names.{TurnTells, power_by, IsLaidOut, AreAnswered, AreHeld, ended_with, Asked, Post, LosesByFaults, LosesVotesByFaults, LostForFaults}

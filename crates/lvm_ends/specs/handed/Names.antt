@@ -1,4 +1,0 @@
--- Handed on from the crates below.
-pub use Rattle.lvm_copy_end.specs.Ending.{CanEnd, MayEndCopy}
-pub use Rattle.lvm_copy_end.specs.Reviewing.{IsLocated, MayReview}
-pub use Rattle.lvm_launch.specs.handed.Names.{IsOutIf}

@@ -1,5 +1,0 @@
-//! What is handed on from the crates below.
-
-pub use lvm_copy_end::{end_copy, is_whole, leave_if_inside, review};
-pub use lvm_launch::lower::is_running;
-pub use lvm_reap::{Back, end_flight, reap_row, return_flight};

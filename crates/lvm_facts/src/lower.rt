@@ -1,7 +1,0 @@
-//! What is handed on from the crates below.
-
-pub use lvm_copies::lower::{Event, Open, Session, Step};
-pub use lvm_copies::{
-    copies_for, group_in, group_of, is_aim, is_missing, is_pp, is_running, is_settled, is_stale,
-    is_sure, is_usable, is_wanted_stale, mode_of, partition_blocks, policy_of, unpin, volume_of,
-};

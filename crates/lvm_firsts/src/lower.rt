@@ -1,7 +1,0 @@
-//! What is handed on from the crates below.
-
-pub use lvm_facts::lower::{
-    copies_for, group_in, group_of, is_aim, is_pp, is_running, is_usable, mode_of,
-    partition_blocks, policy_of, unpin, volume_of,
-};
-pub use lvm_facts::{counts_failed, is_unbegun, is_waiting};

@@ -1,4 +1,0 @@
--- Handed on from the crates below.
-pub use Rattle.lvm_earlier.specs.handed.Names.{AreUnused, moment_of, AreNotesHome, IsHeld, NotesAreHome, StartsHeld, EntersVolumes, IsOfCommand, Leaves, NoPartition, Scope, IsNumberOf, IsSettled, HaveAllLanded, Room, TurnTells, power_by, IsLaidOut, AreAnswered, AreHeld, ended_with, Asked, Post, LosesByFaults, LosesVotesByFaults, LostForFaults}
-pub use Rattle.lvm_varyon.specs.handed.Names.{HasNoPassive}
-pub use Rattle.lvm_volumes.specs.handed.Names.{row_for, with_volume, without_volume, GroupFault, NewVolume}

@@ -1,2 +1,0 @@
--- Passed on from `lvm_driver`: the variants of `DrainFault`.
-pub use Rattle.lvm_earlier.specs.passed.DrainFaultVariants.{Dark, Stuck, WentOff}

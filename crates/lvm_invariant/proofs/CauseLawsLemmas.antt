@@ -1,0 +1,2 @@
+pub mod EachCause
+pub mod WholeCauses

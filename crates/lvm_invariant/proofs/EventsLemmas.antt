@@ -1,0 +1,5 @@
+pub mod Marking
+pub mod Noting
+pub mod Others
+pub mod Copying
+pub mod Each

@@ -1,0 +1,14 @@
+pub mod Numbers
+pub mod Pin
+pub mod Close
+pub mod Take
+pub mod Landing
+pub mod Losing
+pub mod Starting
+pub mod Wait
+pub mod Noting
+pub mod Off
+pub mod Darkening
+pub mod Orders
+pub mod CopyRead
+pub mod NoteStart

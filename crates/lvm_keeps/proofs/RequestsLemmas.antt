@@ -1,0 +1,176 @@
+-- What one request is judged by stays where other parts of a session change.
+use Rattle.std.proofs.Common.{◌≡◌, ◌≤◌, ◌⊎◌, ◌==◌, inl, inr, ℕ, Bool, true, false, ◌&&◌, not, List, Option, Some, None, length, refl, sym, ap, subst, ◌∙◌, arith}
+use Rattle.std.specs.Prelude.{IfSome, count_by, is_none}
+use Rattle.std.specs.List.{list_any}
+use Rattle.lvm_num.specs.declared.descriptor.Descriptor.{Descriptor}
+use Rattle.lvm_num.specs.declared.place.Pp.{Pp}
+use Rattle.lvm_num.specs.declared.status.Status.{Status}
+use Rattle.lvm_num.specs.Buffer.{Buffer}
+use Rattle.lvm_num.specs.Descriptor.{volume_of, is_pp}
+use Rattle.lvm_session.specs.Calls.{copy_at}
+use Rattle.lvm_num.specs.Disks.{has}
+use Rattle.lvm_vol.specs.declared.entry.Outcome.{Outcome}
+use Rattle.lvm_vol.specs.declared.entry.Outcome.TheVariants as outcome
+use Rattle.lvm_vol.specs.Log.{Log, next_id}
+use Rattle.lvm_session.specs.passed.Names.{Waiting}
+use Rattle.lvm_mwc.specs.declared.entries.CacheEntry.{CacheEntry}
+use Rattle.lvm_path.specs.declared.request.Request.{Request}
+use Rattle.lvm_path.specs.declared.target.Target.{Target}
+use Rattle.lvm_path.specs.Targets.{is_done}
+use Rattle.lvm_session.specs.declared.bringing.OpenCopy.{OpenCopy}
+use Rattle.lvm_session.specs.declared.bringing.CopyEnd.{CopyEnd}
+use Rattle.lvm_session.specs.declared.bringing.Step.{Step}
+use Rattle.lvm_session.specs.declared.flown.Flown.{Flown}
+use Rattle.lvm_session.specs.declared.open.Open.{Open}
+use Rattle.lvm_session.specs.State.{Core, State, state}
+use Rattle.lvm_session.specs.Judging.{copies_in, is_caught, is_held_back, is_kept, is_running, is_stale, group_in, is_settled, is_wanted_stale, pps_of}
+use Rattle.lvm_session.specs.Bringing.{groups_of, hand_of, is_idle, is_whole}
+use Rattle.lvm_session.specs.Enabled.{is_free_step}
+use Rattle.lvm_session.specs.Marks.{is_among}
+use Rattle.lvm_session.specs.Requests.{IsTarget, IsShaped, IsReady, IsJudged, IsLaid, IsOpenOne, is_failed_and_sure, may_lack, will_be_kept}
+use Rattle.lvm_session.specs.Causes.{IsCounted, IsLandedFor, IsCausedAmong, IsTrueToOrigin, HaveSourcesFailed}
+use Rattle.lvm_session.specs.Sound.{IsCopy, IsReadFrom}
+use Rattle.lvm_keeps.proofs.Lists.{all_on}
+use Rattle.lvm_keeps.proofs.Small.{and_on, left_on, most_on, none_on}
+
+-- what the targets of a request are read off
+abbrev pub Placing : Type 0
+Placing = Descriptor × Status
+
+abbrev pub placing : Core → Placing
+placing core = (core.descriptor, core.origin.table)
+
+-- where that stays, so does the shape of each request
+pub shape_still : (core now : Core) → placing core ≡ placing now → (o : Open) → IsShaped core o → IsShaped now o
+shape_still core now same o s = record {
+  targets = all_on (IsTarget core o.request.ask) (IsTarget now o.request.ask) on o.request.targets.items s.targets;
+  phase_is = s.phase_is;
+  hand = s.hand;
+  room = s.room;
+  differ = s.differ;
+  usable = s.usable;
+  one = s.one;
+}
+  where
+    on : (t : Target) → IsTarget core o.request.ask t → IsTarget now o.request.ask t
+    on t its = subst (λ (p : Placing). IsTarget (record now { descriptor = p.0; origin = record now.origin { table = p.1 } }) o.request.ask t) same (record { copy = its.copy; sector = its.sector; there = its.there })
+
+-- ---- the copy that is open
+
+pub same_next : (core : Core) → next_id core.history ≤ next_id core.history
+same_next core = omega arith
+
+module _ (core now : Core) (c : OpenCopy) (st : Step) (tried : ℕ) (end : Option CopyEnd) where
+  abbrev stepped : OpenCopy
+  stepped = record c { step = st; tried = tried; end = end }
+
+  -- Which copy it is, how far it has come and where its step stands is as it was; the rest is asked in the order of IsCopy.
+  pub copy_stepped : now.descriptor ≡ core.descriptor → next_id core.history ≤ next_id now.history → IsCopy core c → IfSome (hand_of st) (λ (buf : Buffer). length buf.sectors ≡ 256)
+      → (is_idle st ≡ false → is_free_step now stepped ≡ true) → (is_running stepped ≡ false → hand_of st ≡ None)
+      → ((disk : ℕ) → has tried disk ≡ true → list_any (λ (p : Pp). not (is_pp p c.pp) && p.disk == disk) (copies_in now.descriptor c.lv c.lp) ≡ true) → IsReadFrom st (copies_in now.descriptor c.lv c.lp) stepped
+      → (is_running stepped ≡ true → is_idle st ≡ false → is_whole now stepped ≡ false)
+      → (is_running stepped ≡ true → is_whole now stepped ≡ false → (is_settled now c.pp ≡ true) × (is_wanted_stale now c.pp ≡ true))
+      → (is_running stepped ≡ true → is_whole now stepped ≡ true → (is_stale now c.pp ≡ true) × (is_wanted_stale now c.pp ≡ false)) → IsCopy now stepped
+  copy_stepped same later its room free hand tries source under_way stale clearing = let low = its.place.1 in record {
+    row = its.row;
+    volume = ap (λ (d : Descriptor). volume_of d c.lv) same ∙ its.volume;
+    lp = its.lp;
+    its = ap (λ (d : Descriptor). copy_at (copies_in d c.lv c.lp) c.copy) same ∙ its.its;
+    cursor = subst (λ (d : Descriptor). c.cursor ≤ groups_of (record core { descriptor = d })) (sym same) its.cursor;
+    faults = its.faults;
+    place = (its.place.0, omega (arith, low, later), its.place.2);
+    room = room;
+    free = free;
+    hand = hand;
+    tried = tries;
+    source = source;
+    under_way = under_way;
+    stale = stale;
+    clearing = clearing;
+  }
+
+-- it goes on by the same step, where nothing is in its way and its marks hold
+pub copy_marked : (core now : Core) (c : OpenCopy) → now.descriptor ≡ core.descriptor → next_id core.history ≤ next_id now.history → IsCopy core c → (is_free_step core c ≡ true → is_free_step now c ≡ true)
+    → (is_running c ≡ true → is_whole now c ≡ false → (is_settled now c.pp ≡ true) × (is_wanted_stale now c.pp ≡ true))
+    → (is_running c ≡ true → is_whole now c ≡ true → (is_stale now c.pp ≡ true) × (is_wanted_stale now c.pp ≡ false)) → IsCopy now c
+copy_marked core now c same later its free stale clearing = copy_stepped core now c c.step c.tried c.end same later its its.room (λ idle. free (its.free idle)) its.hand
+    (subst (λ (d : Descriptor). (disk : ℕ) → has c.tried disk ≡ true → list_any (λ (p : Pp). not (is_pp p c.pp) && p.disk == disk) (copies_in d c.lv c.lp) ≡ true) (sym same) its.tried)
+    (subst (λ (d : Descriptor). IsReadFrom c.step (copies_in d c.lv c.lp) c) (sym same) its.source)
+    (subst (λ (d : Descriptor). is_running c ≡ true → is_idle c.step ≡ false → is_whole (record core { descriptor = d }) c ≡ false) (sym same) its.under_way)
+    stale clearing
+
+-- A core in which these parts have changed: the statuses, the notes, the descriptor and the origin stay.
+module _ (core : Core) (history : Log) (requests : List Open) (queue : Waiting) (copy : Option OpenCopy) (pool : List Bool) (flying : List Flown) (entries : List CacheEntry) (last : List ℕ) where
+  abbrev pub changed : Core
+  changed = record core { history = history; requests = requests; queue = queue; copy = copy; pool = pool; flying = flying; cache = record core.cache { entries = entries }; last = last }
+
+  pub shape_on : (o : Open) → IsShaped core o → IsShaped changed o
+  shape_on o s = shape_still core changed refl o s
+
+  pub laid_on : (r : Request) → IsLaid core r → IsLaid changed r
+  laid_on r l = record { within = l.within; blocks = l.blocks; most = l.most; id = l.id }
+
+  module _ (o : Open) (free : is_held_back core o.request ≡ false → is_held_back changed o.request ≡ false) (caught : (p : Pp) → is_caught core (group_in core o.request.ask) p ≡ false → is_caught changed (group_in core o.request.ask) p ≡ false) where
+    pub ready_on : IsReady core o.request → IsReady changed o.request
+    ready_on r = record { free = λ past. free (r.free past); recorded = r.recorded; wanted = r.wanted; named = r.named; dirty = r.dirty }
+
+    pub judged_on : IsJudged core o → IsJudged changed o
+    judged_on j = record {
+      uncaught = all_on (λ (t : Target). may_lack o t && is_caught core (group_in core o.request.ask) t.pp ≡ false) (λ (t : Target). may_lack o t && is_caught changed (group_in core o.request.ask) t.pp ≡ false)
+          (λ t is. and_on (may_lack o t) (is_caught core (group_in core o.request.ask) t.pp) (is_caught changed (group_in core o.request.ask) t.pp) (caught t.pp) is) o.request.targets.items j.uncaught;
+      due = λ status. most_on (count_by (is_failed_and_sure core) o.request.targets.items) (is_kept core o.request) (will_be_kept core o.request) (will_be_kept changed o.request)
+          (none_on (λ (t : Target). is_done t.state && is_caught core (group_in core o.request.ask) t.pp) (λ (t : Target). is_done t.state && is_caught changed (group_in core o.request.ask) t.pp)
+          (λ t. and_on (is_done t.state) (is_caught core (group_in core o.request.ask) t.pp) (is_caught changed (group_in core o.request.ask) t.pp) (caught t.pp)) o.request.targets.items) (j.due status);
+      all = λ begun p among. left_on (is_among (pps_of o.request.targets.items) p) (is_settled core p) (is_wanted_stale core p) (is_caught core (group_in core o.request.ask) p) (is_caught changed (group_in core o.request.ask) p) (caught p) (j.all begun p among);
+    }
+
+    pub open_on : IsOpenOne core o → IsOpenOne changed o
+    open_on it = record {
+      laid = laid_on o.request it.laid;
+      waits = λ waits. let r = it.waits waits in record { shape = shape_on o r.shape; ready = ready_on r.ready; judged = λ write. judged_on (r.judged write) };
+      over = it.over;
+      still = it.still;
+    }
+
+  -- the copy that is open
+  pub bring_on : (c : OpenCopy) → next_id core.history ≤ next_id history → (is_free_step core c ≡ true → is_free_step changed c ≡ true) → IsCopy core c → IsCopy changed c
+  bring_on c later free its = copy_marked core changed c refl later its free its.stale its.clearing
+
+-- ---- causes
+
+module _ (s : State) (history : Log) (requests : List Open) (queue : Waiting) (copy : Option OpenCopy) (pool : List Bool) (flying : List Flown) (entries : List CacheEntry) (last : List ℕ) where
+  abbrev pub moved : State
+  moved = state s.device (changed s.core history requests queue copy pool flying entries last)
+
+  pub landed_on : (o : Open) (how : Outcome) → IsLandedFor s o how → IsLandedFor moved o how
+  landed_on o outcome.Done its = its
+  landed_on o outcome.Got its = its
+  landed_on o outcome.Lost its = its
+  landed_on o outcome.ReadFailed its = its
+  landed_on o outcome.NoFresh its = its
+  landed_on o outcome.Off its = its
+  landed_on o outcome.Dark its = its
+
+  pub counted_on : (t : Target) → IsCounted s t → IsCounted moved t
+  counted_on t its = record { began = its.began; since = its.since }
+
+  pub origin_on : IsTrueToOrigin s → IsTrueToOrigin moved
+  origin_on its = record { since = its.since; votes = its.votes; still_missing = its.still_missing; missing = its.missing; stale = its.stale }
+
+  pub copy_on : (copies : List Pp) (c : OpenCopy) → IsCausedAmong s copies c → IsCausedAmong moved copies c
+  copy_on copies c its = record { began = its.began; since = its.since; tried = its.tried; failed = λ e. sources_on (its.failed e) }
+    where
+      sources_on : {own : Type 0} → own ⊎ HaveSourcesFailed s copies c → own ⊎ HaveSourcesFailed moved copies c
+      sources_on (inl own) = inl own
+      sources_on (inr all) = inr (record { each = all.each; number = all.number; source = all.source; source_is = all.source_is; other = all.other; one = all.one })
+
+-- ---- where one is
+
+pub if_on : {A : Type 0} (P Q : A → Type 0) → ((x : A) → P x → Q x) → (m : Option A) → IfSome m P → IfSome m Q
+if_on P Q on None its = tt
+if_on P Q on (Some x) its = on x its
+
+-- one that hasn't landed needs no cause
+pub no_cause : {A : Type 0} (P : A → Type 0) (m : Option A) → is_none m ≡ true → IfSome m P
+no_cause P None none = tt
+no_cause P (Some x) none = absurd cc

@@ -1,0 +1,2 @@
+mod Aging
+pub mod Opening

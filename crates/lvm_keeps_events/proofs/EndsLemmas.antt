@@ -1,0 +1,7 @@
+pub mod Counts
+pub mod NoteEnd
+pub mod CopyReadEnd
+pub mod CopyQuit
+pub mod CopyWriteFail
+pub mod Again
+pub mod CopyReadFail

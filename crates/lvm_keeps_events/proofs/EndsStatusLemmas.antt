@@ -1,0 +1,4 @@
+pub mod Finishing
+pub mod NoteFail
+pub mod StatusEnd
+pub mod EndsFall

@@ -1,0 +1,4 @@
+pub mod Falling
+pub mod CopyFalls
+pub mod DataFalls
+pub mod GroupFalls

@@ -1,0 +1,3 @@
+pub mod CopyWrite
+pub mod DataStart
+pub mod StatusStart

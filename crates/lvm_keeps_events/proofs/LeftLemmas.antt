@@ -1,0 +1,3 @@
+pub mod EndedLess
+pub mod StaledLess
+pub mod FallsStatus

@@ -1,8 +1,0 @@
--- Handed on from the crates below.
-pub use Rattle.lvm_calls.proofs.Numbered.{below_next}
-pub use Rattle.lvm_keeps.proofs.Landing.{landing_is_caused, witness}
-pub use Rattle.lvm_keeps.proofs.Lists.{all_at, all_mapped, all_on, all_push, all_removed, all_set, set_here}
-pub use Rattle.lvm_keeps.proofs.Losing.{loss_is_caused}
-pub use Rattle.lvm_keeps.proofs.Nexts.{pins_entry}
-pub use Rattle.lvm_keeps.proofs.Noting.{first_start_is_noted}
-pub use Rattle.lvm_keeps.proofs.Small.{both, is_false, not_so}

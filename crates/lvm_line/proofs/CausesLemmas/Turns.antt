@@ -1,0 +1,75 @@
+-- What has happened where a line of requests is refused, by the session that it leaves.
+use Rattle.std.proofs.Common.{◌≡◌, inl, inr, ◌*◌, ◌-◌, ◌≤◌, ℕ, Bool, true, false, List, Some, sym, ap, subst}
+use Rattle.std.specs.Prelude.{slice_index_or}
+use Rattle.lvm_disk.specs.Counts.{Counts, Rose, RoseBy}
+use Rattle.lvm_disk.specs.Device.{Device}
+use Rattle.lvm_posts.specs.declared.posts.Post.{Post}
+use Rattle.lvm_session.specs.declared.origin.Origin.{Origin}
+use Rattle.lvm_session.specs.declared.open.Power.{Power}
+use Rattle.lvm_session.specs.declared.open.Power.TheVariants as power
+use Rattle.lvm_session.specs.Causes.{AnyFailedSince}
+use Rattle.lvm_session.specs.Sound.{IsSound, is_dark}
+use Rattle.lvm_session.specs.State.{Core, State, state}
+use Rattle.lvm_copy_lines.specs.passed.Names.{LostForFaults}
+use Rattle.lvm_copy_lines.specs.passed.Ranges.{AnyFailed}
+use Rattle.lvm_copy_lines.specs.passed.RangeLines.{FailsIf, IsOverWith, CarriesBy}
+use Rattle.lvm_copy_lines.specs.passed.Running.{LeavesSession}
+use Rattle.lvm_copy_lines.specs.passed.Stage.{IsBetween, IsClosed, ScriptState, patience_of_line}
+use Rattle.lvm_line.specs.Causes.{HasFailedInSession}
+
+-- ---- what is left has the counts of the shelf
+
+closed_counts : (p : Power) (old new : Device) → IsClosed p old new → new.counts ≡ old.counts
+closed_counts power.On old new is = ap (λ (d : Device). d.counts) is
+closed_counts _ old new is = ap (λ (d : Device). d.counts) is
+
+module _ (end : State) (posts : List Post) (last : ℕ) (new : ScriptState) where
+  pub over_counts : IsOverWith end posts last new → new.moment.device.counts ≡ end.device.counts
+  over_counts over = closed_counts end.core.power end.device new.moment.device over.shelf
+
+  left_counts : (p : Power) → CarriesBy p end posts last new → new.moment.device.counts ≡ end.device.counts
+  left_counts power.On is = ap (λ (s : ScriptState). s.moment.device.counts) is
+  left_counts power.Off over = over_counts over
+  left_counts power.Dark over = over_counts over
+  left_counts power.Stuck over = over_counts over
+
+  pub leaves_counts : CarriesBy end.core.power end posts last new → new.moment.device.counts ≡ end.device.counts
+  leaves_counts left = left_counts end.core.power left
+
+  pub fails_counts : (b : Bool) → FailsIf b end posts last new → new.moment.device.counts ≡ end.device.counts
+  fails_counts true over = over_counts over
+  fails_counts false left = leaves_counts left
+
+-- ---- what has happened
+
+module _ (old new : ScriptState) (core : Core) (end : State) (between : IsBetween old.moment old.session old.posts) (leaves : LeavesSession (state old.moment.device core) end) (sound : IsSound end)
+    (counts : new.moment.device.counts ≡ end.device.counts) where
+  -- the power was on
+  pub dark_cause : end.core.power ≡ power.Dark → Rose old.moment.device.counts.cuts new.moment.device.counts.cuts
+  dark_cause dark = subst (λ (n : Counts). Rose old.moment.device.counts.cuts n.cuts) (sym counts) (leaves.keeps.cut between.lit.power (sound.dark (ap is_dark dark)).power)
+
+  pub stuck_cause : (left : ℕ) → left ≡ 0 → RoseBy (patience_of_line - left) old.moment.device.counts.waits end.device.counts.waits → RoseBy patience_of_line old.moment.device.counts.waits new.moment.device.counts.waits
+  stuck_cause left none waited =
+      subst (λ (n : Counts). RoseBy patience_of_line old.moment.device.counts.waits n.waits) (sym counts) (subst (λ (n : ℕ). RoseBy (patience_of_line - n) old.moment.device.counts.waits end.device.counts.waits) none waited)
+
+  pub failed_cause : AnyFailed old.moment.device end.device → AnyFailed old.moment.device new.moment.device
+  failed_cause failed = (failed.0, subst (λ (n : Counts). Rose (old.moment.device.counts.faults failed.0) (n.faults failed.0)) (sym counts) failed.1)
+
+  lost_cause : LostForFaults (state old.moment.device core) end → LostForFaults (state old.moment.device core) (state new.moment.device core)
+  lost_cause (inl was) = inl was
+  lost_cause (inr failed) = inr (failed_cause failed)
+
+  pub off_cause : (have total : ℕ) → old.session ≡ Some core → (2 * have ≤ total) × AnyFailedSince end → LostForFaults (state old.moment.device core) end → (2 * have ≤ total) × HasFailedInSession old new
+  off_cause have total some is lost = (
+    is.0,
+    record {
+      core = core;
+      on = some;
+      failed = (
+        is.1.0,
+        subst (λ (n : Counts). Rose (slice_index_or core.origin.faults is.1.0 0) (n.faults is.1.0)) (sym counts)
+            (subst (λ (o : Origin). Rose (slice_index_or o.faults is.1.0 0) (end.device.counts.faults is.1.0)) leaves.keeps.origin is.1.1),
+      );
+      lost = lost_cause lost;
+    },
+  )

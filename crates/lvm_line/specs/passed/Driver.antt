@@ -1,2 +1,0 @@
--- Passed on from `lvm_driver`.
-pub use Rattle.lvm_copy_lines.specs.passed.Driver.{DrainFault, state_of}

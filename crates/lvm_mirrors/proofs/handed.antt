@@ -1,3 +1,0 @@
-pub mod CopyPlanFewer
-pub mod CopyPlanMore
-pub mod Names

@@ -1,0 +1,2 @@
+pub mod ManyWords
+pub mod NextWord

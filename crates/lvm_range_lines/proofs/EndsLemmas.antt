@@ -1,0 +1,38 @@
+-- A line on a stage whose holder is looked at.
+use Rattle.std.proofs.Common.{◌≡◌, ◌≤◌, ℕ, refl, sym, ◌∙◌, ap, subst}
+use Rattle.lvm_disk.specs.Device.{Device}
+use Rattle.lvm_vol.specs.Log.{Log}
+use Rattle.lvm_group_lines.specs.passed.Stage.{Holder, Refusal, Reply, Stage, EndsUnasked, OfRequests, IsRefused, most_refusals, IsBetweenStage}
+use Rattle.lvm_group_lines.specs.passed.Stage.{IsFittingStage, history_in, state_in, ScriptState, without_facts}
+use Rattle.lvm_group_lines.specs.passed.ReplyVariants as reply
+use Rattle.lvm_group_lines.proofs.passed.Stage.{refused_ends, still_ends, unasked_as}
+
+-- the stage with this holder
+abbrev pub held_by : {S : Type 0} → Stage S → Holder S → Stage S
+held_by stage h = record { holder = h; posts = stage.posts; bytes = stage.bytes }
+
+module _ {S : Type 0} (device : S → Device) (Does : Log → ScriptState → ScriptState → Reply → Type 0) (stage : Stage S) (fits : IsFittingStage stage) (between : IsBetweenStage device stage) (h : Holder S) (is : stage.holder ≡ h) where
+  stage_is : stage ≡ held_by stage h
+  stage_is = ap (held_by stage) is
+
+  pub fits_now : IsFittingStage (held_by stage h)
+  fits_now = subst IsFittingStage stage_is fits
+
+  pub between_now : IsBetweenStage device (held_by stage h)
+  between_now = subst (IsBetweenStage device) stage_is between
+
+  -- it is refused, and nothing changes
+  pub refused_as : (new : Stage S) (answer : Reply) → new ≡ held_by stage h → (why : Refusal) → answer ≡ reply.Refused why
+      → ((last : ℕ) → IsRefused why answer (state_in device stage last) (state_in device new last) → Does (without_facts (history_in stage)) (state_in device stage last) (state_in device new last) answer)
+      → EndsUnasked device Does ⊥ OfRequests stage new answer
+  refused_as new answer same why says does = refused_ends device Does ⊥ OfRequests stage new answer fits between (same ∙ sym stage_is) why says does
+
+  -- it is answered, and nothing changes
+  pub still_as : (new : Stage S) (answer : Reply) → new ≡ held_by stage h → most_refusals answer ≤ 1
+      → ((last : ℕ) → state_in device new last ≡ state_in device stage last → Does (without_facts (history_in stage)) (state_in device stage last) (state_in device new last) answer)
+      → EndsUnasked device Does ⊥ OfRequests stage new answer
+  still_as new answer same one does = still_ends device Does ⊥ OfRequests stage new answer fits between (same ∙ sym stage_is) one does
+
+  -- as it ends with this holder
+  pub ends_with : (new : Stage S) (answer : Reply) → EndsUnasked device Does ⊥ OfRequests (held_by stage h) new answer → EndsUnasked device Does ⊥ OfRequests stage new answer
+  ends_with new answer ends = unasked_as device Does ⊥ OfRequests stage (held_by stage h) new new answer answer stage_is refl refl ends

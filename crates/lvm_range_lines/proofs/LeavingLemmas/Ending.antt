@@ -1,0 +1,204 @@
+-- What a line leaves that has run the session of a group with volumes.
+use Rattle.std.proofs.Common.{◌≡◌, ◌≢◌, ◌<◌, ◌≤◌, ◌+◌, ◌^◌, ℕ, true, List, [], Some, None, length, refl, sym, ◌∙◌, ap, subst, arith}
+use Rattle.std.specs.Global.{Vec}
+use Rattle.std.proofs.lemmas.List.{length-map}
+use Rattle.lvm_num.specs.declared.descriptor.Descriptor.{Descriptor}
+use Rattle.lvm_num.specs.Votes.{total_votes}
+use Rattle.lvm_num.specs.Buffer.{Buffer}
+use Rattle.lvm_disk.specs.Device.{Device}
+use Rattle.lvm_kept.specs.Moments.{Moment}
+use Rattle.lvm_steps.specs.Moments.{Keeps}
+use Rattle.lvm_steps.specs.Requests.{at}
+use Rattle.lvm_stamps.specs.Behind.{IsAhead, beginning_at}
+use Rattle.lvm_stamps.proofs.LawsLemmas.Shelves.{left_is_before}
+use Rattle.lvm_vol.specs.Facts.{Fact}
+use Rattle.lvm_vol.specs.Log.{Log}
+use Rattle.lvm_session.specs.declared.open.Power.{Power}
+use Rattle.lvm_session.specs.declared.open.Power.TheVariants as power
+use Rattle.lvm_session.specs.Causes.{is_over}
+use Rattle.lvm_session.specs.Sound.{IsLit, IsSound, is_dark}
+use Rattle.lvm_group_lines.specs.passed.Tie.{moment_of}
+use Rattle.lvm_session.specs.State.{Core, votes_there, state_of}
+use Rattle.lvm_group_lines.specs.passed.Running.{LeavesSession, RunsOn}
+use Rattle.lvm_group_lines.proofs.passed.Running.{stays_unstuck}
+use Rattle.lvm_posts.specs.declared.posts.Post.{Post}
+use Rattle.lvm_posts.specs.Posts.{ended_with}
+use Rattle.lvm_posts.proofs.PostsLemmas.{over_answered}
+use Rattle.lvm_group_lines.specs.passed.Stage.{Holder, Reply, Stage, EndsUnasked, GoesOn, OfRequests, most_refusals, HaveRooms, IsBetweenStage}
+use Rattle.lvm_group_lines.specs.passed.Stage.{IsCarried, IsClosed, IsEnded, IsFittingStage, IsOfKind, history_in, moment_in, posts_ended, session_of}
+use Rattle.lvm_group_lines.specs.passed.Stage.{shelf_in, state_in, ArePosted, IsOnBetween, IsTimely, ScriptState, without_facts}
+use Rattle.lvm_group_lines.specs.passed.HolderVariants as holder
+use Rattle.lvm_group_lines.specs.passed.RefusalVariants as refusal
+use Rattle.lvm_group_lines.specs.passed.ReplyVariants as reply
+use Rattle.lvm_group_lines.proofs.passed.Stage.{end_posts, IsRun, before_end, later_end, over_goes, run_goes, spanned}
+use Rattle.lvm_range_lines.specs.Leaving.{IsOverWith, CarriesTo, CarriesBy, serving}
+
+-- ---- as states
+
+pub ended_is_over : {S : Type 0} (device : S → Device) (end : S × Core) (posts : List Post) (stage : Stage S) (last : ℕ) → IsEnded device end posts stage → IsOverWith (state_of device end) posts last (state_in device stage last)
+ended_is_over device end posts stage last ended = record { shelf = ended.shelf; facts = ap (λ (log : Log). log.facts) ended.history; session = ended.session; posted = ended.posted; clock = refl }
+
+carried_leaves_by : {S : Type 0} (device : S → Device) (end : S × Core) (posts : Vec Post) (bytes : Vec ℕ) (p : Power) (stage : Stage S) (last : ℕ) → end.1.power ≡ p → IsCarried device end posts bytes p stage
+    → CarriesBy p (state_of device end) posts.items last (state_in device stage last)
+carried_leaves_by device end posts bytes power.On stage last is carried = ap (λ (s : Stage _). state_in device s last) carried
+carried_leaves_by device end posts bytes power.Off stage last is carried = ended_is_over device end posts.items stage last carried
+carried_leaves_by device end posts bytes power.Dark stage last is carried = ended_is_over device end posts.items stage last carried
+carried_leaves_by device end posts bytes power.Stuck stage last is carried = ended_is_over device end posts.items stage last carried
+
+pub carried_leaves : {S : Type 0} (device : S → Device) (end : S × Core) (posts : Vec Post) (bytes : Vec ℕ) (stage : Stage S) (last : ℕ) → IsCarried device end posts bytes end.1.power stage
+    → CarriesTo (state_of device end) posts.items last (state_in device stage last)
+carried_leaves device end posts bytes stage last carried = carried_leaves_by device end posts bytes end.1.power stage last refl carried
+
+-- ---- what fits
+
+-- where no session is on nothing is asked of its kind
+pub off_kind : {S : Type 0} (h : Holder S) → session_of h ≡ None → IsOfKind h
+off_kind (holder.Off shelf history) none = tt
+off_kind (holder.Empty driver) none = absurd (cc none)
+off_kind (holder.Serving driver) none = absurd (cc none)
+
+pub closed_orders : (p : Power) (old new : Device) → IsClosed p old new → new.orders ≡ old.orders
+closed_orders power.On old new is = ap (λ (d : Device). d.orders) is
+closed_orders power.Off old new is = ap (λ (d : Device). d.orders) is
+closed_orders power.Dark old new is = ap (λ (d : Device). d.orders) is
+closed_orders power.Stuck old new is = ap (λ (d : Device). d.orders) is
+
+-- ---- the line
+
+-- where its session has run to
+pub record RunsTo {S : Type 0} (device : S → Device) (first end : S × Core) : Type 0 where
+  pub leaves : LeavesSession (state_of device first) (state_of device end)
+  pub orders : (device end.0).orders ≡ (device first.0).orders
+  pub sound : IsSound (state_of device end)
+
+pub runs_to : {S : Type 0} (device : S → Device) (first end : S × Core) → RunsOn (state_of device first) (state_of device end) → IsSound (state_of device end) → RunsTo device first end
+runs_to device first end runs sound = record { leaves = runs.leaves; orders = runs.orders; sound = sound }
+
+module _ {S : Type 0} (device : S → Device) (first : S × Core) (posts : Vec Post) (bytes : Vec ℕ) (fits : IsFittingStage (serving first posts bytes)) (between : IsBetweenStage device (serving first posts bytes)) where
+  abbrev old : Stage S
+  old = serving first posts bytes
+
+  on_first : IsOnBetween (device first.0) first.1
+  on_first = between.session
+
+  module _ (end : S × Core) (to : RunsTo device first end) where
+    pub its : (last : ℕ) → IsRun OfRequests (state_in device old last) first.1 (state_of device end)
+    its last = record { alone = λ new alone. alone.acts tt; session = refl; facts = refl; volumes = fits.kind; between = between; leaves = to.leaves; sound = to.sound }
+
+    pub unstuck : end.1.power ≡ power.Stuck → ⊥
+    unstuck = stays_unstuck first.1 end.1 to.leaves.keeps.power (λ stuck. let e : power.On ≡ power.Stuck = sym on_first.power ∙ stuck in cc e)
+
+    same_rooms : without_facts end.1.history ≡ without_facts first.1.history
+    same_rooms = to.leaves.keeps.log
+
+    room_is : end.1.history.room ≡ first.1.history.room
+    room_is = ap (λ (log : Log). log.room) same_rooms
+
+    volumes_stay : end.1.descriptor.lvs ≢ []
+    volumes_stay none = fits.kind (sym (ap (λ (d : Descriptor). d.lvs) to.leaves.keeps.descriptor) ∙ none)
+
+    module _ (Does : Log → ScriptState → ScriptState → Reply → Type 0) (posts1 : Vec Post) (bytes1 : Vec ℕ) (rooms : HaveRooms first.1.history.room posts1 bytes1) (stage : Stage S) (answer : Reply)
+        (few : most_refusals answer + length posts1.items ≤ length posts.items + 1)
+        (does : (last : ℕ) → Does (without_facts first.1.history) (state_in device old last) (state_in device stage last) answer) where
+      -- it goes on
+      goes_on : end.1.power ≡ power.On → end.1.copy ≡ None → ArePosted end.1.history.facts (Some end.1) posts1.items → stage ≡ serving end posts1 bytes1 → EndsUnasked device Does ⊥ OfRequests old stage answer
+      goes_on on shut posted is last = record {
+        does = does last;
+        goes = subst (λ (s : Stage S). GoesOn first.1.history.run OfRequests answer (state_in device old last) (state_in device s last)) (sym is)
+            (run_goes OfRequests (state_in device old last) first.1 (state_of device end) (its last) answer (state_in device (serving end posts1 bytes1) last) refl on shut posted (λ not_asking. absurd (not_asking tt)) few);
+        rooms = ap (λ (s : Stage S). without_facts (history_in s)) is ∙ same_rooms;
+        fits = subst IsFittingStage (sym is) (record {
+          kind = volumes_stay;
+          few = subst (λ n. n < 2 ^ 32) (sym room_is) fits.few;
+          rooms = subst (λ n. HaveRooms n posts1 bytes1) (sym room_is) rooms;
+        });
+        orders = λ none. ap (λ (s : Stage S). (device (shelf_in s)).orders) is ∙ to.orders;
+      }
+
+      -- it has ended
+      module _ (ended : IsEnded device end posts1.items stage) (rooms_then : HaveRooms first.1.history.room stage.posts stage.bytes) where
+        facts_are : (history_in stage).facts ≡ end.1.history.facts
+        facts_are = ap (λ (log : Log). log.facts) ended.history
+
+        few_then : most_refusals answer + length stage.posts.items ≤ length posts.items + 1
+        few_then =
+            let same = ap (λ (ps : List Post). length ps) ended.posted in
+            let long = length-map posts1.items (ended_with (votes_there end.1) (total_votes end.1.descriptor)) in
+            omega (arith, few, same, long)
+
+        fits_then : IsFittingStage stage
+        fits_then = record {
+          kind = off_kind stage.holder ended.session;
+          few = subst (λ n. n < 2 ^ 32) (sym (ap (λ (log : Log). log.room) ended.history ∙ room_is)) fits.few;
+          rooms = subst (λ n. HaveRooms n stage.posts stage.bytes) (sym (ap (λ (log : Log). log.room) ended.history ∙ room_is)) rooms_then;
+        }
+
+        ends_so : ((last : ℕ) → GoesOn first.1.history.run OfRequests answer (state_in device old last) (state_in device stage last)) → EndsUnasked device Does ⊥ OfRequests old stage answer
+        ends_so goes last = record {
+          does = does last;
+          goes = goes last;
+          rooms = ap without_facts ended.history ∙ same_rooms;
+          fits = fits_then;
+          orders = λ none. closed_orders end.1.power (device end.0) (device (shelf_in stage)) ended.shelf ∙ to.orders;
+        }
+
+        -- since it is over
+        module _ (over : is_over end.1.power ≡ true) (posted : ArePosted end.1.history.facts (Some end.1) posts1.items) where
+          posted_then : ArePosted (history_in stage).facts None stage.posts.items
+          posted_then =
+              subst (λ (ps : List Post). ArePosted (history_in stage).facts None ps) (sym ended.posted) (subst (λ (fs : List Fact). ArePosted fs None (posts_ended (Some end.1) posts1.items)) (sym facts_are)
+              (end_posts end.1.history.facts end.1.history.facts (λ range answered. answered) end.1 (votes_there end.1) (total_votes end.1.descriptor)
+              (λ range some held. over_answered (state_of device end) range to.sound over held) posts1.items posted))
+
+          pub over_ends : EndsUnasked device Does ⊥ OfRequests old stage answer
+          over_ends = ends_so (λ last.
+              over_goes OfRequests (state_in device old last) first.1 (state_of device end) (its last) answer (state_in device stage last) ended.shelf facts_are ended.session refl unstuck (λ heard. over) posted_then (λ not_asking. absurd (not_asking tt)) few_then)
+
+        -- or since nothing was heard of it
+        module _ (on : end.1.power ≡ power.On) (stuck : answer ≡ reply.Refused refusal.Stuck) where
+          lit : IsLit (device end.0)
+          lit = to.sound.lit (ap is_dark on)
+
+          closed : device (shelf_in stage) ≡ record (device end.0) { freed = [] }
+          closed = subst (λ (p : Power). IsClosed p (device end.0) (device (shelf_in stage))) on ended.shelf
+
+          same_device : device (shelf_in stage) ≡ device end.0
+          same_device = closed ∙ ap (λ (freed : List Buffer). record (device end.0) { freed = freed }) (sym lit.freed)
+
+          same_moment : moment_in device stage ≡ moment_of (state_of device end)
+          same_moment = ap (λ (d : Device). at d (history_in stage).facts) same_device ∙ ap (λ (fs : List Fact). at (device end.0) fs) facts_are
+
+          left_behind : (last : ℕ) → IsTimely first.1.history.run (state_in device old last) → IsAhead first.1.history.run (last + 1) (device (shelf_in stage)) (history_in stage).facts
+          left_behind last timely = subst (λ (m : Moment). IsAhead first.1.history.run (last + 1) m.device m.facts) (sym same_moment) (record {
+            run_is = timely.ahead.run_is;
+            later = later_end OfRequests (state_in device old last) first.1 (state_of device end) (its last) timely;
+            behind = left_is_before (beginning_at (last + 1)) (device end.0) (before_end OfRequests (state_in device old last) first.1 (state_of device end) (its last) timely).leaves;
+          })
+
+          pub stuck_ends : EndsUnasked device Does ⊥ OfRequests old stage answer
+          stuck_ends = ends_so (λ last. record {
+            keeps = λ timely alone began span stands. (
+              subst (Keeps first.1.history.run began) (sym same_moment) (spanned OfRequests (state_in device old last) first.1 (state_of device end) (its last) (state_in device stage last) alone began stands span),
+              λ heard. absurd (heard stuck),
+            );
+            timely = λ heard. absurd (heard stuck);
+            left = left_behind last;
+            between = λ heard. absurd (heard stuck);
+            rests = λ not_asking. absurd (not_asking tt);
+            begins = λ timely. tt;
+            power = ap (λ (d : Device). d.power) same_device ∙ lit.power;
+            waits = let w = to.leaves.keeps.counts.waits in let same = ap (λ (d : Device). d.counts.waits) same_device in omega (arith, w, same);
+            clock = omega arith;
+            few = few_then;
+          })
+
+      -- whichever it is
+      module _ (posted : ArePosted end.1.history.facts (Some end.1) posts1.items) (rooms_then : HaveRooms first.1.history.room stage.posts stage.bytes) (shut : end.1.power ≡ power.On → end.1.copy ≡ None) where
+        by_power : (p : Power) → end.1.power ≡ p → IsCarried device end posts1 bytes1 p stage → EndsUnasked device Does ⊥ OfRequests old stage answer
+        by_power power.On is carried = goes_on is (shut is) posted carried
+        by_power power.Off is carried = over_ends carried rooms_then (ap is_over is) posted
+        by_power power.Dark is carried = over_ends carried rooms_then (ap is_over is) posted
+        by_power power.Stuck is carried = absurd (unstuck is)
+
+        pub carried_ends : IsCarried device end posts1 bytes1 end.1.power stage → EndsUnasked device Does ⊥ OfRequests old stage answer
+        carried_ends carried = by_power end.1.power refl carried

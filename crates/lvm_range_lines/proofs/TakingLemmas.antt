@@ -1,0 +1,3 @@
+pub mod Takings
+pub mod Awaiting
+pub mod Landed

@@ -1,0 +1,3 @@
+pub mod Behind
+pub mod Waits
+pub mod Resting

@@ -1,2 +1,0 @@
--- Handed on from the crates below.
-pub use Rattle.lvm_group_lines.specs.handed.VolumePlanFaultGroupFault.{Busy, CopyLimit, Dark, DiskFailed, HistoryFull, LastFresh, Memory, NoRoom, NoVolume, Stuck, TooMany, VolumeExists, WentOff}

@@ -1,0 +1,4 @@
+pub mod Copying
+pub mod Equalling
+pub mod Images
+pub mod Moments

@@ -1,0 +1,4 @@
+pub mod Logged
+pub mod Moving
+pub mod Copied
+pub mod AllCopied

@@ -1,0 +1,4 @@
+pub mod Planning
+pub mod Naming
+pub mod NamedBy
+pub mod Rising

@@ -1,4 +1,0 @@
--- Handed on from the crates below.
-pub use Rattle.lvm_recover.proofs.Equalling.{named_are_all, quiet_is_even}
-pub use Rattle.lvm_recover.proofs.Recovered.{group_same, recovered_by_copying, status_same}
-pub use Rattle.lvm_recover.proofs.Showing.{shows_other}

@@ -1,3 +1,0 @@
--- Handed on from the crates below.
-pub use Rattle.lvm_recover.specs.Recopied.{AreNamedEqualled, IsRecopied, OnlyNotesOf}
-pub use Rattle.lvm_recover.specs.Recovered.{HasNoPassive}

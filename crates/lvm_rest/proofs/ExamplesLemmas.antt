@@ -1,0 +1,3 @@
+pub mod Pairs
+pub mod Sectors
+pub mod Examples

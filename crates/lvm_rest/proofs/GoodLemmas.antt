@@ -1,0 +1,4 @@
+pub mod Shapes
+pub mod Good
+pub mod Rest
+pub mod Seen

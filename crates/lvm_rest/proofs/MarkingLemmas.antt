@@ -1,0 +1,97 @@
+-- A table that is marked with the copies that are left behind, as the next status of a session.
+use Rattle.std.proofs.Common.{◌≡◌, inl, inr, ⊎_elim, ℕ, Bool, true, false, ◌&&◌, ◌||◌, not, List, [], ◌∷◌, ◌==◌, refl, sym, ap, subst, ◌∙◌}
+use Rattle.std.specs.Prelude.{IsTrue}
+use Rattle.std.specs.List.{list_any}
+use Rattle.lvm_num.specs.declared.place.Pp.{Pp}
+use Rattle.lvm_num.specs.declared.descriptor.LvRow.{LvRow}
+use Rattle.lvm_num.specs.declared.status.Status.{Status}
+use Rattle.lvm_num.specs.Descriptor.{copies_of}
+use Rattle.lvm_num.specs.Status.{calls_stale}
+use Rattle.lvm_kept.specs.Group.{IsOneOf}
+use Rattle.lvm_crash.proofs.GroupLemmas.Lists.{left_of, right_of, both_of, not_so, so_not}
+use Rattle.lvm_stale.specs.Marking.{IsLeftIn}
+use Rattle.lvm_commit.specs.Settling.{there as not_missing}
+use Rattle.lvm_commit.proofs.AmongLemmas.{one_place}
+use Rattle.lvm_rest.proofs.Rows.{clash, none_passing}
+use Rattle.lvm_rest.specs.Marking.{MarkedMayFollow, MarkedLeavesNone, NoneIsLeftBehind}
+
+-- one of a list passes
+some_one : {X : Type 0} (test : X → Bool) (xs : List X) → IsTrue (list_any test xs) → (x : X) × IsOneOf xs x × IsTrue (test x)
+some_one test [] is = absurd cc
+some_one test (y ∷ ys) is = by (test y) refl (λ rest. some_one test ys rest) is
+  where
+    by : (t : Bool) → test y ≡ t → (IsTrue (list_any test ys) → (x : _) × IsOneOf ys x × IsTrue (test x)) → IsTrue (t || list_any test ys) → (x : _) × IsOneOf (y ∷ ys) x × IsTrue (test x)
+    by true e further is = (y, inl refl, e)
+    by false e further is = let rest = further is in (rest.0, inr rest.1, rest.2)
+
+any_one : {X : Type 0} (test : X → Bool) (xs : List X) (x : X) → IsOneOf xs x → IsTrue (test x) → IsTrue (list_any test xs)
+any_one test [] x one is = absurd one
+any_one test (y ∷ ys) x (inl here) is = front (test y) (list_any test ys) (ap test (sym here) ∙ is)
+  where
+    front : (a b : Bool) → IsTrue a → IsTrue (a || b)
+    front true b h = refl
+    front false b h = absurd cc
+any_one test (y ∷ ys) x (inr there) is = behind (test y) (list_any test ys) (any_one test ys x there is)
+  where
+    behind : (a b : Bool) → IsTrue b → IsTrue (a || b)
+    behind true b h = refl
+    behind false b h = h
+
+pub marked_may_follow : MarkedMayFollow
+marked_may_follow c group there was next valid members marks = record {
+  stale = λ row lp p one copy stale. marks.kept p stale;
+  added = λ row lp p one low copy stale. ⊎_elim
+      (λ was_so. inl was_so)
+      (λ (left : IsLeftIn there was group.lvs p). inr (
+      let place = one_place group row left.row lp left.left.lp p valid one left.volume copy left.left.left.one in
+      let q = some_one (λ (r : Pp). there r.disk && not (calls_stale was r)) (copies_of left.row left.left.lp) left.left.left.served in
+      let in_there = left_of (there q.0.disk) (not (calls_stale was q.0)) q.2 in (
+        q.0,
+        subst (λ (r : LvRow). IsOneOf (copies_of r lp) q.0) (sym place.row_is) (subst (λ (n : ℕ). IsOneOf (copies_of left.row n) q.0) (sym place.lp_is) q.1),
+        marks.answered q.0 in_there ∙ not_so (calls_stale was q.0) (right_of (there q.0.disk) (not (calls_stale was q.0)) q.2),
+        members q.0.disk in_there,
+      )))
+      (marks.only p stale);
+  dirty = λ row one soft is. ap (λ (numbers : List ℕ). list_any (λ n. n == row.number) numbers) marks.dirty ∙ is;
+}
+
+pub marked_leaves_none : MarkedLeavesNone
+marked_leaves_none c group there was next valid marks row lp p one low copy member gone fresh =
+    elim (none_passing (λ (q : Pp). there q.disk && not (calls_stale next.value q)) (copies_of row lp)) [
+      | inl none ↦ none
+      | inr some ↦ absurd (
+          let in_there = left_of (there some.0.disk) (not (calls_stale next.value some.0)) some.2 in
+          let was_fresh = so_not (calls_stale was some.0) (sym (marks.answered some.0 in_there) ∙ not_so (calls_stale next.value some.0) (right_of (there some.0.disk) (not (calls_stale next.value some.0)) some.2)) in
+          clash (calls_stale next.value p)
+          (marks.marked p (record {
+            row = row;
+            volume = one;
+            left = record {
+              lp = lp;
+              below = low;
+              left = record { one = copy; absent = gone; served = any_one (λ (r : Pp). there r.disk && not (calls_stale was r)) (copies_of row lp) some.0 some.1 (both_of (there some.0.disk) (not (calls_stale was some.0)) in_there was_fresh) };
+            };
+          }))
+          fresh)
+    ]
+
+pub none_is_left_behind : NoneIsLeftBehind
+none_is_left_behind c group u status same none row lp p volume low copy member gone fresh =
+    elim (none_passing (λ (q : Pp). not_missing u q.disk && not (calls_stale status.value q)) (copies_of row lp)) [
+      | inl nothing ↦ nothing
+      | inr some ↦ absurd (clash (calls_stale u.wanted p)
+          (none p (record {
+            row = row;
+            volume = volume;
+            left = record {
+              lp = lp;
+              below = low;
+              left = record {
+                one = copy;
+                absent = gone;
+                served = any_one (λ (q : Pp). not_missing u q.disk && not (calls_stale u.wanted q)) (copies_of row lp) some.0 some.1 (sym (ap (λ (s : Status). not_missing u some.0.disk && not (calls_stale s some.0)) same) ∙ some.2);
+              };
+            };
+          }))
+          (sym (ap (λ (s : Status). calls_stale s p) same) ∙ fresh))
+    ]

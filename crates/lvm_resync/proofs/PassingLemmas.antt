@@ -1,0 +1,5 @@
+pub mod Standing
+pub mod Open
+pub mod Bringing
+pub mod Judging
+pub mod Making

@@ -1,0 +1,4 @@
+pub mod Staying
+pub mod Passing
+pub mod Passed
+pub mod Asking

@@ -1,0 +1,6 @@
+pub mod Parts
+pub mod Whole
+pub mod Flying
+pub mod BroughtUp
+pub mod Worked
+pub mod Waiting

@@ -1,0 +1,3 @@
+//! What is passed on from the crates below.
+
+pub use lvm_moves::below::Due;

@@ -1,0 +1,5 @@
+//! What is passed on from the crates below.
+
+pub use lvm_num::{
+    Descriptor, DiskSet, LvRow, Memory, Pp, Rows, Stamp, Status, has_member, with_volumes,
+};

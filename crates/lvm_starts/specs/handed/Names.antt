@@ -1,3 +1,0 @@
--- Handed on from the crates below.
-pub use Rattle.lvm_launch.specs.Launching.{StartGives}
-pub use Rattle.lvm_launch.specs.handed.Names.{AreInHand, IsOutIf, MayEnd}

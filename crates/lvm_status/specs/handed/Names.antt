@@ -1,3 +1,0 @@
--- Handed on from the crates below.
-pub use Rattle.lvm_stale.specs.Marking.{IsLeft, IsLeftIn, IsMarkable, Marks}
-pub use Rattle.lvm_stale.specs.Table.{SameMissing, SameStale, has_row, is_pp}

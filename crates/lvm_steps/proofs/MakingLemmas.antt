@@ -1,0 +1,2 @@
+pub mod NoVolumes
+pub mod Making

@@ -1,0 +1,2 @@
+pub mod VaryingOn
+pub mod Following

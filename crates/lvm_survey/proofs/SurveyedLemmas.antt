@@ -1,0 +1,2 @@
+pub mod DiskRows
+pub mod SurveyRows

@@ -1,0 +1,114 @@
+-- The blocks of a step of the copy that is being brought up: those of one track group of its logical partition.
+use Rattle.std.proofs.Common.{◌≡◌, ℕ, ◌+◌, ◌-◌, ◌*◌, ◌<◌, ◌≤◌, Bool, true, false, List, refl, sym, ap, subst, ◌∙◌, arith}
+use Rattle.std.specs.Prelude.{IsTrue}
+use Rattle.lvm_num.specs.declared.place.Pp.{Pp}
+use Rattle.lvm_num.specs.declared.descriptor.Descriptor.{Descriptor}
+use Rattle.lvm_num.specs.Descriptor.{copies_of, is_member}
+use Rattle.lvm_num.specs.Geometry.{partition_blocks, track_group_of}
+use Rattle.lvm_num.specs.Status.{calls_missing}
+use Rattle.lvm_vol.specs.Facts.{Fact}
+use Rattle.lvm_map.proofs.Parts.{parts}
+use Rattle.lvm_map.proofs.LawsLemmas.OneToOne.{is_data}
+use Rattle.lvm_map.proofs.PlacesLemmas.{mib_positive, volume_at}
+use Rattle.lvm_map.specs.Places.{place_on}
+use Rattle.lvm_kept.specs.Group.{IsBlockOf, IsOneOf}
+use Rattle.lvm_kept.proofs.ChangesLemmas.Entries.{volume_is_row}
+use Rattle.lvm_session.specs.declared.bringing.OpenCopy.{OpenCopy}
+use Rattle.lvm_session.specs.State.{Core, State}
+use Rattle.lvm_session.specs.Bringing.{block_at, groups_of}
+use Rattle.lvm_invariant.specs.State.{Queued, ModelState, covers}
+use Rattle.lvm_invariant.specs.Submit.{IsPlaced}
+use Rattle.lvm_tie_shelf.specs.Copies.{IsCopyOf}
+use Rattle.lvm_tie_shelf.proofs.CopiesLemmas.{copy_placed}
+use Rattle.lvm_tie_shelf.proofs.OwnedLemmas.{covered}
+use Rattle.lvm_tie.specs.Tied.{IsTied}
+use Rattle.lvm_tie.proofs.StateLemmas.{IsOfItsPartition, found_any}
+use Rattle.lvm_tie.proofs.TiedLemmas.Orderly.{valid_of}
+
+-- what is meant by one thing is one
+pub same_meaning : {X : Type 0} (a b : Bool) → (IsTrue a → X) → (X → IsTrue a) → (IsTrue b → X) → (X → IsTrue b) → a ≡ b
+same_meaning true b ax xa bx xb = sym (xb (ax refl))
+same_meaning false true ax xa bx xb = xa (bx refl)
+same_meaning false false ax xa bx xb = refl
+
+module _ (past : List Fact) (s : State) (tied : IsTied past s) (c : OpenCopy) (its : IsOfItsPartition s.core c) (less : c.cursor < groups_of s.core) where
+  abbrev core : Core
+  core = s.core
+
+  abbrev group : Descriptor
+  group = core.descriptor
+
+  abbrev v : ModelState
+  v = tied.view
+
+  abbrev first : ℕ
+  first = block_at core c
+
+  some : 1 ≤ group.mib
+  some = mib_positive group (valid_of s tied.write tied.orderly)
+
+  pub groups_are : groups_of core ≡ 8 * group.mib
+  groups_are = omega arith
+
+  within : (k : ℕ) → k < 256 → 256 * c.cursor + k < partition_blocks group.mib
+  within k lt = omega (arith, lt, less, groups_are)
+
+  pub block : (k : ℕ) → k < 256 → IsBlockOf group.mib its.row c.lp (first + k)
+  block k lt = record { inside = its.lp; partition = (parts (partition_blocks group.mib) (first + k) c.lp (256 * c.cursor + k) (within k lt) (omega arith)).0 }
+
+  pub in_group : (k : ℕ) → k < 256 → track_group_of (first + k) ≡ groups_of core * c.lp + c.cursor
+  in_group k lt =
+      let product : groups_of core * c.lp ≡ 8 * group.mib * c.lp = ap (λ n. n * c.lp) groups_are in
+      (parts 256 (first + k) (groups_of core * c.lp + c.cursor) k lt (omega (arith, product))).0
+
+  row_one : IsOneOf group.lvs its.row
+  row_one = volume_is_row group c.lv its.row its.volume
+
+  row_number : its.row.number ≡ c.lv
+  row_number = (volume_at group c.lv its.row its.volume).its
+
+  first_block : IsBlockOf group.mib its.row c.lp first
+  first_block = record { inside = its.lp; partition = (parts (partition_blocks group.mib) first c.lp (256 * c.cursor) (let e = within 0 (omega arith) in omega (arith, e)) (omega arith)).0 }
+
+  copies : (k : ℕ) → k < 256 → (p : Pp) → v.is_copy c.lv (first + k) p ≡ v.is_copy c.lv first p
+  copies k lt p =
+      let here = tied.describes.volumes.copies its.row c.lp (first + k) p row_one (block k lt) in
+      let there = tied.describes.volumes.copies its.row c.lp first p row_one first_block in
+      subst (λ n. v.is_copy n (first + k) p ≡ v.is_copy n first p) row_number
+      (same_meaning (v.is_copy its.row.number (first + k) p) (v.is_copy its.row.number first p) here.0 here.1 there.0 there.1)
+
+  pub step_member : (p : Pp) → IsOneOf (copies_of its.row c.lp) p → is_member group p.disk ≡ true
+  step_member p one =
+      let of_group : IsCopyOf group c.lv first p = record { row = its.row; lp = c.lp; volume = row_one; number = row_number; inside = first_block; copy = one } in
+      let place = copy_placed group c.lv first p (valid_of s tied.write tied.orderly) of_group in
+      let where_is = is_data group (valid_of s tied.write tied.orderly) c.lv place.0 first (place_on group.mib p first) place.1 in
+      found_any group.pvs p.disk where_is.row where_is.member
+
+  -- a copy of its logical partition on a member that wasn't missing at first is one of each of the blocks
+  pub one_is_copy_of : (p : Pp) → IsOneOf (copies_of its.row c.lp) p → is_member group p.disk ≡ true → calls_missing core.origin.table p.disk ≡ false → IsTrue (v.is_copy c.lv first p)
+  one_is_copy_of p one member there =
+      subst (λ n. IsTrue (v.is_copy n first p)) row_number ((tied.describes.volumes.copies its.row c.lp first p row_one first_block).1 (one, tied.recorded.members p.disk member there))
+
+  -- a step of them lies where a request may lie
+  pub step_placed : (q : Queued) → q.lv ≡ c.lv → q.first ≡ first → q.count ≡ 256 → IsPlaced v q
+  step_placed q lv_is first_is count_is = record {
+    place = λ lv b over.
+        let at = behind lv b over in
+        let same : b ≡ first + at.0 = at.2 in (
+          at.3,
+          ap track_group_of same ∙ in_group at.0 at.1 ∙ sym (ap track_group_of first_is ∙ ap track_group_of (let e : first ≡ first + 0 = omega arith in e) ∙ in_group 0 (omega arith)),
+          (λ t p. v.is_copy (lv_is t) (same t) p) ∙ (λ t p. copies at.0 at.1 p t) ∙ sym (λ t p. v.is_copy (lv_is t) (first_is t) p),
+        );
+    inside = λ lv b over.
+        let at = behind lv b over in
+        let there = tied.describes.volumes.some its.row c.lp row_one its.lp in
+        let is = (tied.describes.volumes.copies its.row c.lp (first + at.0) there.0 row_one (block at.0 at.1)).1 (there.1, there.2) in
+        (there.0, subst (λ n. IsTrue (v.is_copy n b there.0)) (row_number ∙ sym lv_is ∙ sym at.3) (subst (λ n. IsTrue (v.is_copy its.row.number n there.0)) (sym at.2) is));
+  }
+    where
+      behind : (lv b : ℕ) → IsTrue (covers q lv b) → (k : ℕ) × (k < 256) × (b ≡ first + k) × (lv ≡ q.lv)
+      behind lv b over =
+          let x = covered q lv b over in
+          let low : q.first ≤ b = x.1 in
+          let high : b < q.first + q.count = x.2 in
+          (b - first, omega (arith, low, high, first_is, count_is), omega (arith, low, first_is), sym x.0)

@@ -1,0 +1,2 @@
+pub mod CloseTies
+pub mod OpenTies

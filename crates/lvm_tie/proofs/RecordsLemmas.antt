@@ -1,0 +1,3 @@
+pub mod NoteTies
+pub mod MayBegin
+pub mod StatusTies

@@ -1,0 +1,3 @@
+pub mod SubmitTies
+pub mod AdmitTies
+pub mod PinTies

@@ -1,0 +1,4 @@
+pub mod Changing
+pub mod Entered
+pub mod CopySteps
+pub mod Quiet

@@ -1,0 +1,4 @@
+pub mod LaterTies
+pub mod Datas
+pub mod CopyReads
+pub mod CopyWrites

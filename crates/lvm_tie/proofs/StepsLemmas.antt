@@ -1,0 +1,11 @@
+pub mod Leaving
+pub mod Landed
+pub mod Stepped
+pub mod Quits
+pub mod Fails
+pub mod ReadEnds
+pub mod Misses
+pub mod Passing
+pub mod Groups
+pub mod Wholes
+pub mod CopyEnds

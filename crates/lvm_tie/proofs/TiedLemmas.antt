@@ -1,0 +1,4 @@
+pub mod Orderly
+pub mod Tied
+pub mod Recorded
+pub mod Ends

@@ -1,0 +1,244 @@
+-- What missing disks and the end of the open copy entail is wanted, and the state wants it.
+use Rattle.std.proofs.Common.{◌≡◌, ◌≢◌, ◌⊎◌, inl, inr, ⊎_elim, ℕ, zero, suc, ◌+◌, ◌*◌, ◌<◌, ◌≤◌, Bool, true, false, ◌&&◌, ◌||◌, ◌==◌, not, List, [], ◌∷◌, Option, Some, None, refl, sym, ap, subst, ◌∙◌, arith}
+use Rattle.std.specs.Prelude.{IsTrue, IsFalse}
+use Rattle.std.specs.List.{list_any, range_with_len}
+use Rattle.std.proofs.lemmas.Bool.Decides.{nat_tests}
+use Rattle.std.proofs.lemmas.Bool.{cases_Bool}
+use Rattle.lvm_num.specs.declared.place.Pp.{Pp}
+use Rattle.lvm_num.specs.declared.descriptor.LvRow.{LvRow}
+use Rattle.lvm_num.specs.declared.descriptor.Descriptor.{Descriptor}
+use Rattle.lvm_num.specs.Disks.{Disks}
+use Rattle.lvm_num.specs.Descriptor.{IsValid, copies_of, is_member, is_pp}
+use Rattle.lvm_num.specs.Geometry.{partition_blocks}
+use Rattle.lvm_num.specs.Status.{calls_stale}
+use Rattle.lvm_vol.specs.Facts.{Fact}
+use Rattle.lvm_kept.specs.Group.{IsBlockOf, IsOneOf}
+use Rattle.lvm_map.proofs.Parts.{parts}
+use Rattle.lvm_map.proofs.PlacesLemmas.{mib_positive}
+use Rattle.lvm_map.proofs.LawsLemmas.OneToOne.{is_data}
+use Rattle.lvm_map.specs.Places.{place_on}
+use Rattle.lvm_status.specs.Update.{Stored}
+use Rattle.lvm_session.specs.declared.bringing.CopyEnd.{CopyEnd}
+use Rattle.lvm_session.specs.State.{Core, is_there}
+use Rattle.lvm_session.specs.Judging.{is_usable, is_stale, is_missing, is_wanted_stale}
+use Rattle.lvm_session.specs.Bringing.{marked_by_end}
+use Rattle.lvm_session.specs.Marks.{WantsStale, can_replace, is_among, is_left_behind, is_entailed_in, is_entailed}
+use Rattle.lvm_invariant.specs.State.{Marks, ModelCopy, ModelState}
+use Rattle.lvm_invariant.specs.Want.{Replaced, Wants}
+use Rattle.lvm_crash.specs.Session.{marks_of, HasVolumes}
+use Rattle.lvm_tie_shelf.proofs.CopiesLemmas.{copy_placed}
+use Rattle.lvm_tie_shelf.proofs.WritingLemmas.{and_both, same_pp}
+use Rattle.lvm_tie_shelf.specs.Copies.{IsCopyOf}
+use Rattle.lvm_tie.proofs.StateLemmas.{among_one, found_any}
+use Rattle.lvm_tie.specs.Wanted.{HasOwners, KeepsFresh, SeesMarks}
+use Rattle.lvm_tie.proofs.AmongLemmas.{or_left, or_either, or_true, any_one, not_true, not_false, and_not, clash}
+
+-- it is stale, and a copy that the state sees
+abbrev pub IsMarked : Core → ModelState → Pp → Type 0
+IsMarked core v p = (is_stale core p ≡ true) × ((lv : ℕ) × (b : ℕ) × IsTrue (v.is_copy lv b p))
+
+-- ---- lists
+
+-- what one passes, any does
+one_any : {X : Type 0} (test : X → Bool) (xs : List X) (x : X) → IsOneOf xs x → test x ≡ true → list_any test xs ≡ true
+one_any test [] x one passes = absurd one
+one_any test (y ∷ ys) x (inl here) passes = or_true (test y) (list_any test ys) (inl (sym (ap test here) ∙ passes))
+one_any test (y ∷ ys) x (inr there) passes = or_true (test y) (list_any test ys) (inr (one_any test ys x there passes))
+
+from_on : (a k : ℕ) → a ≤ k → (k ≡ a) ⊎ (a + 1 ≤ k)
+from_on a k low = by (k == a) refl
+  where
+    by : (b : Bool) → (k == a) ≡ b → (k ≡ a) ⊎ (a + 1 ≤ k)
+    by true is = inl (grind (arith, nat_tests))
+    by false is = inr (let ne : k ≢ a = grind (arith, nat_tests) in grind (arith, nat_tests))
+
+in_range : (a n k : ℕ) → a ≤ k → k < a + n → IsOneOf (range_with_len a n) k
+in_range a zero k low high = absurd (omega arith)
+in_range a (suc n) k low high = ⊎_elim (λ same. inl same) (λ above. inr (in_range (a + 1) n k above (omega arith))) (from_on a k low)
+
+of_range : (a n k : ℕ) → IsOneOf (range_with_len a n) k → k < a + n
+of_range a zero k one = absurd one
+of_range a (suc n) k (inl is) = omega arith
+of_range a (suc n) k (inr there) = let r = of_range (a + 1) n k there in omega arith
+
+-- the first block of a logical partition of a volume
+pub first_block : (group : Descriptor) → IsValid group → (row : LvRow) (lp : ℕ) → lp < row.lps → (b : ℕ) × IsBlockOf group.mib row lp b
+first_block group valid row lp low =
+    let size = partition_blocks group.mib in
+    let some = mib_positive group valid in
+    let is = parts size (lp * size + 0) lp 0 (omega arith) refl in
+    (lp * size + 0, record { inside = low; partition = is.0 })
+
+-- ---- copies that are left behind
+
+module _ (core : Core) (v : ModelState) (missing : ℕ → Bool) (how : Option CopyEnd) (status : Stored) (facts : List Fact) (members : Disks) (valid : IsValid core.descriptor) (volumes : HasVolumes v facts core.descriptor members)
+    (shows : (d : ℕ) → IsTrue (is_there core d) → IsTrue (members d)) (sees : SeesMarks core v missing) (keeps : KeepsFresh v) (owners : HasOwners v)
+    (marked : (p : Pp) → marked_by_end core how p ≡ true → IsMarked core v p) (wants : WantsStale (λ p. is_entailed core p || marked_by_end core how p) core.status status) where
+  abbrev group : Descriptor
+  group = core.descriptor
+
+  abbrev marks : Marks
+  marks = marks_of status.wanted
+
+  abbrev due : Pp → Bool
+  due p = is_entailed core p || marked_by_end core how p
+
+  stale_seen : (p : Pp) → v.committed.value.stale p ≡ is_stale core p
+  stale_seen p = ap (λ (m : Marks). m.stale p) sees.committed
+
+  wanted_seen : (p : Pp) → v.wanted.stale p ≡ is_wanted_stale core p
+  wanted_seen p = ap (λ (m : Marks). m.stale p) sees.wanted
+
+  -- a copy of a volume is on a member
+  on_member : (row : LvRow) (lp b : ℕ) (p : Pp) → IsOneOf group.lvs row → IsBlockOf group.mib row lp b → IsOneOf (copies_of row lp) p → is_member group p.disk ≡ true
+  on_member row lp b p one block copy =
+      let of : IsCopyOf group row.number b p = record { row = row; lp = lp; volume = one; number = refl; inside = block; copy = copy } in
+      let place = copy_placed group row.number b p valid of in
+      let its = is_data group valid row.number place.0 b (place_on group.mib p b) place.1 in
+      found_any group.pvs p.disk its.row its.member
+
+  -- one that is left behind has another that can be read
+  pub record IsBehind (p : Pp) : Type 0 where
+    pub row : LvRow
+    pub one : IsOneOf group.lvs row
+    pub lp : ℕ
+    pub low : lp < row.lps
+    pub copy : IsOneOf (copies_of row lp) p
+    pub gone : is_missing core p.disk ≡ true
+    pub other : Pp
+    pub its : IsOneOf (copies_of row lp) other
+    pub fresh : is_stale core other ≡ false
+    pub there : is_missing core other.disk ≡ false
+    pub kept : is_wanted_stale core other ≡ false
+
+  left : (p : Pp) → is_entailed core p ≡ true → IsBehind p
+  left p is =
+      let row = any_one (λ (r : LvRow). is_entailed_in core r p) group.lvs is in
+      let lp = any_one (λ (n : ℕ). is_left_behind core (copies_of row.0 n) p) (range_with_len 0 row.0.lps) row.2 in
+      let copies = copies_of row.0 lp.0 in
+      let a = and_both (is_among copies p && not (is_stale core p) && is_missing core p.disk) (list_any (can_replace core) copies) lp.2 in
+      let c = and_both (is_among copies p && not (is_stale core p)) (is_missing core p.disk) a.0 in
+      let b = and_both (is_among copies p) (not (is_stale core p)) c.0 in
+      let e = any_one (can_replace core) copies a.1 in
+      let f = and_both (is_usable core e.0) (not (is_wanted_stale core e.0)) e.2 in
+      let g = and_both (not (is_stale core e.0)) (not (is_missing core e.0.disk)) f.0 in
+      record {
+        row = row.0;
+        one = row.1;
+        lp = lp.0;
+        low = let r = of_range 0 row.0.lps lp.0 lp.1 in omega arith;
+        copy = among_one copies p b.0;
+        gone = c.1;
+        other = e.0;
+        its = e.1;
+        fresh = not_true (is_stale core e.0) g.0;
+        there = not_true (is_missing core e.0.disk) g.1;
+        kept = not_true (is_wanted_stale core e.0) f.1;
+      }
+
+  -- one that can be read isn't left behind
+  stays : (p : Pp) → is_missing core p.disk ≡ false → is_entailed core p ≡ false
+  stays p there = by (is_entailed core p) refl
+    where
+      by : (b : Bool) → is_entailed core p ≡ b → b ≡ false
+      by false is = refl
+      by true is = clash (is_missing core p.disk) (left p is).gone there
+
+  -- one that is fresh by what is committed isn't the one that is marked
+  unmarked : (p : Pp) → is_stale core p ≡ false → marked_by_end core how p ≡ false
+  unmarked p fresh = by (marked_by_end core how p) refl
+    where
+      by : (b : Bool) → marked_by_end core how p ≡ b → b ≡ false
+      by false is = refl
+      by true is = clash (is_stale core p) (marked p is).0 fresh
+
+  -- one that is sure and can be read isn't due
+  stays_sure : (p : Pp) → is_stale core p ≡ false → is_missing core p.disk ≡ false → is_wanted_stale core p ≡ false → IsFalse (marks.stale p)
+  stays_sure p fresh there kept = let a = stays p there in let b = unmarked p fresh in wants.stale p ∙ (λ k. kept k || (a k || b k))
+
+  -- the copy of its logical partition that can be read, where one that the state sees is left behind
+  replaces : (lv b : ℕ) (p : Pp) → IsTrue (v.is_copy lv b p) → is_entailed core p ≡ true → (q : Pp) × IsTrue (v.is_copy lv b q) × IsFalse (v.committed.value.stale q) × IsFalse (marks.stale q)
+  replaces lv b p copy is =
+      let at = left p is in
+      let l = first_block group valid at.row at.lp at.low in
+      let inside = volumes.inside lv b p copy in
+      let shown = ((volumes.copies inside.row inside.lp b p inside.volume inside.inside).0 (subst (λ n. IsTrue (v.is_copy n b p)) (sym inside.number) copy)).1 in
+      let its = volumes.copies at.row at.lp l.0 p at.one l.1 in
+      let others = volumes.copies at.row at.lp l.0 at.other at.one l.1 in
+      let member = on_member at.row at.lp l.0 at.other at.one l.1 at.its in
+      let there : IsTrue (is_there core at.other.disk) = λ k. member k && not (at.there k) in
+      let other : IsTrue (v.is_copy at.row.number l.0 at.other) = others.1 (at.its, shows at.other.disk there) in
+      (at.other, owners lv b at.row.number l.0 p at.other copy (its.1 (at.copy, shown)) other, stale_seen at.other ∙ at.fresh, stays_sure at.other at.fresh at.there at.kept)
+
+  replaced_left : (p : Pp) → is_entailed core p ≡ true → Replaced v marks p ⊎ ((lv b : ℕ) → IsTrue (v.is_copy lv b p) → ⊥)
+  replaced_left p is =
+      let at = left p is in
+      let l = first_block group valid at.row at.lp at.low in
+      let its = volumes.copies at.row at.lp l.0 p at.one l.1 in
+      ⊎_elim
+      (λ shown.
+      let copy = its.1 (at.copy, shown) in
+      let r = replaces at.row.number l.0 p copy is in
+      inl (record { lv = at.row.number; block = l.0; other = r.0; copy = copy; other_copy = r.1; fresh = r.2; kept = r.3 }))
+      (λ hidden. inr (λ lv b copy.
+      let inside = volumes.inside lv b p copy in
+      let own = (volumes.copies inside.row inside.lp b p inside.volume inside.inside).0 (subst (λ n. IsTrue (v.is_copy n b p)) (sym inside.number) copy) in
+      clash (members p.disk) own.1 hidden))
+      (cases_Bool (members p.disk))
+
+  replaced_marked : (p : Pp) → marked_by_end core how p ≡ true → Replaced v marks p
+  replaced_marked p is =
+      let its = marked p is in
+      let lv = its.1.0 in
+      let b = its.1.1 in
+      let k = keeps lv b p its.1.2 in
+      by lv b k its.1.2 (is_entailed core k.0) refl
+    where
+      by : (lv b : ℕ) (k : (q : Pp) × IsTrue (v.is_copy lv b q) × IsFalse (v.committed.value.stale q) × IsFalse (v.wanted.stale q)) → IsTrue (v.is_copy lv b p) → (t : Bool) → is_entailed core k.0 ≡ t → Replaced v marks p
+      by lv b k copy true left_too = let r = replaces lv b k.0 k.1 left_too in record { lv = lv; block = b; other = r.0; copy = copy; other_copy = r.1; fresh = r.2; kept = r.3 }
+      by lv b k copy false stays_here =
+          let a = sym (stale_seen k.0) ∙ k.2 in
+          let w = sym (wanted_seen k.0) ∙ k.3 in
+          let m = unmarked k.0 a in
+          record { lv = lv; block = b; other = k.0; copy = copy; other_copy = k.1; fresh = k.2; kept = wants.stale k.0 ∙ (λ t. w t || (stays_here t || m t)) }
+
+  replaced : (p : Pp) → due p ≡ true → Replaced v marks p ⊎ ((lv b : ℕ) → IsTrue (v.is_copy lv b p) → ⊥)
+  replaced p is = ⊎_elim (λ entailed. replaced_left p entailed) (λ ended. inl (replaced_marked p ended)) (or_either (is_entailed core p) (marked_by_end core how p) is)
+
+  behind : (lv b : ℕ) (c q : Pp) → IsTrue (v.is_copy lv b c) → IsFalse (v.committed.value.stale c) → IsTrue (missing c.disk)
+      → IsTrue (v.is_copy lv b q) → IsTrue (not (v.committed.value.stale q) && not (missing q.disk)) → IsFalse (marks.stale q) → IsTrue (marks.stale c)
+  behind lv b c q copy fresh gone other usable kept =
+      let inside = volumes.inside lv b c copy in
+      let row = inside.row in
+      let lp = inside.lp in
+      let its = (volumes.copies row lp b c inside.volume inside.inside).0 (subst (λ n. IsTrue (v.is_copy n b c)) (sym inside.number) copy) in
+      let others = (volumes.copies row lp b q inside.volume inside.inside).0 (subst (λ n. IsTrue (v.is_copy n b q)) (sym inside.number) other) in
+      let member = on_member row lp b c inside.volume inside.inside its.0 in
+      let use_ = and_both (not (v.committed.value.stale q)) (not (missing q.disk)) usable in
+      let q_fresh : is_stale core q ≡ false = sym (stale_seen q) ∙ not_true (v.committed.value.stale q) use_.0 in
+      let q_shown : is_there core q.disk ≡ true = not_false (is_there core q.disk) (sym (sees.missing_is q.disk) ∙ not_true (missing q.disk) use_.1) in
+      let q_there : is_missing core q.disk ≡ false = not_true (is_missing core q.disk) (and_both (is_member group q.disk) (not (is_missing core q.disk)) q_shown).1 in
+      let q_kept : is_wanted_stale core q ≡ false = (or_left (is_wanted_stale core q) (due q) (sym (wants.stale q) ∙ kept)).0 in
+      let can : can_replace core q ≡ true = λ k. (not (q_fresh k) && not (q_there k)) && not (q_kept k) in
+      let c_fresh : is_stale core c ≡ false = sym (stale_seen c) ∙ fresh in
+      let c_gone : is_missing core c.disk ≡ true = and_not (is_member group c.disk) (is_missing core c.disk) (not_true (is_there core c.disk) (sym (sees.missing_is c.disk) ∙ gone)) member in
+      let any = one_any (can_replace core) (copies_of row lp) q others.0 can in
+      let among : is_among (copies_of row lp) c ≡ true = one_any (is_pp c) (copies_of row lp) c its.0 (same_pp c c refl) in
+      let here : is_left_behind core (copies_of row lp) c ≡ true = λ k. among k && not (c_fresh k) && c_gone k && any k in
+      let low : lp < row.lps = inside.inside.inside in
+      let in_row : is_entailed_in core row c ≡ true = one_any (λ (n : ℕ). is_left_behind core (copies_of row n) c) (range_with_len 0 row.lps) lp (in_range 0 row.lps lp (omega arith) (omega arith)) here in
+      let all : is_entailed core c ≡ true = one_any (λ (r : LvRow). is_entailed_in core r c) group.lvs row inside.volume in_row in
+      wants.stale c ∙ or_true (is_wanted_stale core c) (due c) (inr (or_true (is_entailed core c) (marked_by_end core how c) (inl all)))
+
+  -- The state wants them; the open copy stays, or it ends and is stale by what is wanted.
+  pub review_wants : (open_copy : Option ModelCopy) → ((open_copy ≡ v.open_copy) ⊎ ((open_copy ≡ None) × ((o : ModelCopy) → v.open_copy ≡ Some o → IsTrue (calls_stale status.wanted o.target))))
+      → ((o : ModelCopy) → open_copy ≡ Some o → IsFalse (missing o.target.disk)) → Wants v marks missing open_copy
+  review_wants open_copy same there = record {
+    missing_still = sees.still;
+    still = λ p is. wants.stale p ∙ or_true (is_wanted_stale core p) (due p) (inl (sym (wanted_seen p) ∙ is));
+    still_dirty = λ lv is. ap (λ (ns : List ℕ). list_any (λ n. n == lv) ns) wants.dirty ∙ sym (ap (λ (m : Marks). m.dirty lv) sees.wanted) ∙ is;
+    added = λ p is. ⊎_elim (λ old. inl (wanted_seen p ∙ old)) (λ its. inr (replaced p its)) (or_either (is_wanted_stale core p) (due p) (sym (wants.stale p) ∙ is));
+    open_same = same;
+    open_there = there;
+    behind = behind;
+  }

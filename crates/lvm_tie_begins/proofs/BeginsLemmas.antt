@@ -1,0 +1,3 @@
+pub mod Resting
+pub mod Beginning
+pub mod Rested

@@ -1,2 +1,0 @@
--- Handed on from the crates below.
-pub use Rattle.lvm_tie_commands.proofs.handed.Names.{turn_counts, turn_keeps, over_answered, loses_both, loses_none, turn_loses, turn_marks, votes_go}

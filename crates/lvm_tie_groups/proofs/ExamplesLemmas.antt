@@ -1,0 +1,2 @@
+pub mod PairSectors
+pub mod Examples

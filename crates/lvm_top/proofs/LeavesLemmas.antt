@@ -1,0 +1,3 @@
+pub mod Transfers
+pub mod Quiet
+pub mod Varying

@@ -1,0 +1,2 @@
+mod Firsts
+pub mod Stopping

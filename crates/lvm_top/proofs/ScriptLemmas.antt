@@ -1,0 +1,2 @@
+pub mod Scripting
+pub mod Concluding

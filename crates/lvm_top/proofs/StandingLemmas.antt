@@ -1,0 +1,4 @@
+pub mod Volumes
+pub mod Copying
+pub mod Groups
+pub mod Acknowledged

@@ -1,0 +1,4 @@
+pub mod Transferring
+pub mod Following
+pub mod Pieces
+pub mod Fronts

@@ -1,0 +1,3 @@
+pub mod Reviewing
+pub mod Requests
+pub mod Turning

@@ -1,0 +1,4 @@
+pub mod Wrote
+pub mod Equalising
+pub mod AllWrites
+pub mod MayWrite

@@ -1,0 +1,50 @@
+-- The records, and then the copies and the notes.
+use Rattle.std.proofs.Common.{inl, inr, ℕ, false, List, Err, ◌∙◌, subst}
+use Rattle.lvm_disk.specs.Counts.{Rose}
+use Rattle.lvm_disk.specs.Device.{Device}
+use Rattle.lvm_rec.specs.declared.homes.Homes.{Homes}
+use Rattle.lvm_write.specs.Parts.{Spends}
+use Rattle.lvm_write.proofs.PartsLemmas.Transfers.{spent_then}
+use Rattle.lvm_varyon_plan.specs.passed.Names.{Cause, Recopy, EqualisedStaysKept}
+use Rattle.lvm_varyon_plan.specs.passed.CoreRefusedCause as cause
+use Rattle.lvm_begin.specs.Beginning.{Beginning, again_order}
+use Rattle.lvm_begin.specs.Kept.{AgainStaysKept}
+use Rattle.lvm_begin.proofs.PathsLemmas.Keeping.{kept_then}
+use Rattle.lvm_varyon.specs.Equal.{AllWritesGive, AllWritesKeep, EqualGives}
+use Rattle.lvm_varyon.specs.Parts.{StopsWriting}
+use Rattle.lvm_varyon.specs.Writing.{AllWritten}
+
+module _ (b : Beginning) (copies : List Recopy) (before : ℕ) (read : Device) where
+  -- not all records stand
+  pub records_stop : (new : Device) (why : Cause) → StopsWriting before b (again_order false) read new why → AllWritesGive before b copies read new (Err why)
+  records_stop new (cause.DiskFailed disk) bad = inl bad
+  records_stop new cause.Dark off = (off.0, inl off.1)
+  records_stop new cause.Stuck off = (off.0, inl off.1)
+  records_stop new _ off = off
+
+  pub records_kept : (new : Device) → AgainStaysKept b false read new → AllWritesKeep b copies read new
+  records_kept new kept group status disks was may equal = kept group status disks was may
+
+  module _ (homes : Homes) (restated new : Device) (written : AllWritten b (again_order false) homes read restated) where
+    -- they do, but not all copies were made, or not all notes emptied
+    pub equal_stops : (between : ℕ) → Spends before between read restated → (why : Cause) → EqualGives between copies b.epoch b.targets restated new (Err why) → AllWritesGive before b copies read new (Err why)
+    equal_stops between spends (cause.DiskFailed disk) bad = inr (record { restated = restated; homes = homes; written = written; stops = bad })
+    equal_stops between spends cause.Dark off = (
+      record { power = off.0.power; flights = off.0.flights; cuts = subst (λ (n : ℕ). Rose n new.counts.cuts) written.rested.cuts off.0.cuts },
+      inr (record { restated = restated; homes = homes; written = written; stops = off.1 }),
+    )
+    equal_stops between spends cause.Stuck off = (
+      record {
+        flight = off.0.flight;
+        out = off.0.out;
+        freed = off.0.freed;
+        power = off.0.power;
+        cuts = off.0.cuts ∙ written.rested.cuts;
+        waited = spent_then before between read restated new spends off.0.waited;
+      },
+      inr (record { restated = restated; homes = homes; written = written; stops = off.1 }),
+    )
+    equal_stops between spends _ off = off
+
+    pub all_kept : AgainStaysKept b false read restated → EqualisedStaysKept copies b.targets restated new → AllWritesKeep b copies read new
+    all_kept records equal group status disks was may may_equal = kept_then read restated new (records group status disks was may) (equal group status b.targets (may_equal homes restated written))

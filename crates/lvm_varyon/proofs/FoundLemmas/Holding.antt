@@ -1,0 +1,184 @@
+-- What the session that a varyon begins finds on its disks.
+use Rattle.std.proofs.Common.{◌≡◌, ℕ, Bool, true, false, ◌&&◌, ◌++◌, List, [], Option, Some, None, refl, sym, ap, subst, ◌∙◌}
+use Rattle.std.specs.Prelude.{IsTrue, not, nat_le}
+use Rattle.lvm_num.specs.declared.record.Stamp.{Stamp}
+use Rattle.lvm_num.specs.declared.descriptor.PvRow.{PvRow}
+use Rattle.lvm_num.specs.declared.descriptor.Descriptor.{Descriptor}
+use Rattle.lvm_num.specs.declared.status.Status.{Status}
+use Rattle.lvm_num.specs.Disks.{Disks}
+use Rattle.lvm_num.specs.Descriptor.{is_member}
+use Rattle.lvm_num.specs.Geometry.{sectors_needed}
+use Rattle.lvm_num.specs.Status.{calls_missing}
+use Rattle.lvm_disk.specs.Counts.{Rose}
+use Rattle.lvm_disk.specs.Device.{Media, Range, Device, image_of}
+use Rattle.lvm_disk.specs.Steps.{BothTold}
+use Rattle.lvm_vol.specs.Log.{Log}
+use Rattle.lvm_kept.specs.Contents.{Contents, contents_of, has_records}
+use Rattle.lvm_kept.specs.Recovered.{Recovered}
+use Rattle.lvm_stamps.specs.Behind.{StampsBefore, IsBehind}
+use Rattle.lvm_rec.specs.declared.homes.Homes.{Homes}
+use Rattle.lvm_write.specs.Homes.{SparesNewest}
+use Rattle.lvm_status.specs.Update.{Updates}
+use Rattle.lvm_mwc.specs.Cache.{is_named as is_named_by}
+use Rattle.lvm_varyon_plan.specs.passed.Names.{next_stamp, ShowsCommitted, HoldsCommitted, Core, is_there, Parts, first_core, Room, NotesAreHome, HasNoPassive}
+use Rattle.lvm_varyon_plan.proofs.passed.Names.{empty_names_none}
+use Rattle.lvm_next.specs.Restated.{Restated}
+use Rattle.lvm_varyon_plan.specs.Chosen.{answering}
+use Rattle.lvm_varyon.specs.Equal.{MakesEqual}
+use Rattle.lvm_varyon.specs.Found.{HaveAnswered}
+use Rattle.lvm_varyon.specs.Varied.{IsAheadOfDisks, IsBrought, last_stamp}
+use Rattle.lvm_varyon.proofs.After.{HasRecords, MayHaveRecords, records_there, room_member, stamps_before, target_room}
+use Rattle.lvm_varyon.proofs.Equalled.{none_named, restated_last, shows_last, spares_last, stamps_last}
+use Rattle.lvm_varyon.proofs.RecoveredLemmas.{recovered, shown_recovered}
+
+told_before : (a b : Option Media) (R : Media → Media → Type 0) (m : Media) → b ≡ Some m → BothTold a b R → (was : Media) × (a ≡ Some was)
+told_before None None R m e both = absurd cc
+told_before None (Some n) R m e both = absurd both
+told_before (Some w) None R m e both = absurd cc
+told_before (Some w) (Some n) R m e both = (w, refl)
+
+told_after : (a b : Option Media) (R : Media → Media → Type 0) (m : Media) → a ≡ Some m → BothTold a b R → (now : Media) × (b ≡ Some now)
+told_after None b R m e both = absurd cc
+told_after (Some w) None R m e both = absurd both
+told_after (Some w) (Some n) R m e both = (n, refl)
+
+module _ (old new : Device) (name : List ℕ) (moment : ℕ) (room : Room) (parts : Parts) (homes : Homes) (is : IsBrought old new name moment room parts homes) where
+  -- when its records stood
+  abbrev mid : Device
+  mid = is.written.writes.how.restated
+
+  abbrev equal : MakesEqual is.written.copies moment (answering is.written.found.shown is.written.group) is.written.writes.how.restated new
+  equal = is.written.writes.how.equal
+
+  same_misses : new.counts.misses ≡ mid.counts.misses
+  same_misses = equal.only.misses ∙ equal.made.keeps.misses
+
+  pub have_mid : HaveAnswered old is.written.writes.how.restated is.written.found.answered
+  have_mid = record {
+    room = is.written.found.have.room;
+    well = λ d answers. sym (ap (λ (m : ℕ → ℕ). m d) same_misses) ∙ is.written.found.have.well d answers;
+    badly = λ d has_room off. subst (λ (n : ℕ). Rose (old.counts.misses d) n) (ap (λ (m : ℕ → ℕ). m d) same_misses) (is.written.found.have.badly d has_room off);
+  }
+
+  abbrev pub records : HasRecords old is.written.writes.how.restated name moment homes
+  records = record {
+    found = record {
+      answered = is.written.found.answered;
+      have = have_mid;
+      shown = is.written.found.shown;
+      disks = is.written.found.disks;
+      size = is.written.found.size;
+      told = is.written.found.told;
+    };
+    group = is.written.group;
+    was = is.written.was;
+    next = is.written.next;
+    chosen = is.written.chosen;
+    answered = is.written.answered;
+    next_is = is.written.next_is;
+    copies = is.written.copies;
+    planned = is.written.planned;
+    order = is.written.order;
+    writes = record {
+      read = is.written.writes.read;
+      unwritten = is.written.writes.unwritten;
+      rested = is.written.writes.rested;
+      homes = is.written.writes.homes;
+      spared = is.written.writes.spared;
+      how = is.written.writes.how.written;
+    };
+  }
+
+  -- ---- what is told
+
+  pub was_told : (last : Media) → new.media ≡ Some last → (was : Media) × (old.media ≡ Some was)
+  was_told last told_last =
+      let copied = told_before equal.copied.media new.media _ last told_last equal.only.media in
+      let stood = told_before mid.media equal.copied.media _ copied.0 copied.1 equal.made.keeps.media in
+      let read = told_before is.written.writes.read.media mid.media _ stood.0 stood.1 is.written.writes.how.written.keeps.media in
+      (read.0, sym is.written.writes.unwritten.media ∙ read.1)
+
+  module _ (was last : Media) (told : old.media ≡ Some was) (told_last : new.media ≡ Some last) (ahead : IsAheadOfDisks moment old) where
+    stood : (now : Media) × (mid.media ≡ Some now)
+    stood = told_after is.written.writes.read.media mid.media _ was (is.written.writes.unwritten.media ∙ told) is.written.writes.how.written.keeps.media
+
+    between : (m : Media) × (equal.copied.media ≡ Some m)
+    between = told_after mid.media equal.copied.media _ stood.0 stood.1 equal.made.keeps.media
+
+    abbrev final : Contents
+    final = contents_of (image_of new.sizes last)
+
+    may : MayHaveRecords old mid name moment homes records was
+    may = is.may ahead was told
+
+    pub restated : Restated (contents_of (image_of old.sizes was)) final is.written.found.answered is.written.group
+    restated = restated_last old mid name moment homes records was stood.0 told stood.1 may is.valid new equal between.0 last between.1 told_last
+
+    pub recovers : (first more : List Range) → old.wrote ≡ Some first → new.wrote ≡ Some (first ++ more) → HasNoPassive is.written.group
+        → Recovered (contents_of (image_of old.sizes was)) more final is.written.found.answered is.written.group.id is.written.group
+    recovers = recovered old mid name moment homes records was stood.0 told stood.1 may is.valid new equal between.0 last between.1 told_last
+
+    pub shows_recovered : HasNoPassive is.written.group → Recovered (contents_of (image_of old.sizes was)) [] final is.written.found.answered is.written.group.id is.written.group
+    shows_recovered = shown_recovered old mid name moment homes records was stood.0 told stood.1 may is.valid new equal between.0 last between.1 told_last
+
+    -- ---- the session
+
+    module _ (core : Core) (log : Log) (core_is : core ≡ first_core parts log (last_stamp moment) homes core.origin.faults) where
+      abbrev targets : Disks
+      targets = answering is.written.found.shown is.written.group
+
+      group_is : core.descriptor ≡ is.written.group
+      group_is = ap (λ (c : Core). c.descriptor) core_is ∙ is.reserved.descriptor
+
+      wanted : core.status.wanted ≡ is.written.next
+      wanted = ap (λ (c : Core). c.status.wanted) core_is ∙ ap (λ (u : Updates). u.wanted) is.reserved.status
+
+      committed : core.status.committed ≡ is.written.next
+      committed = ap (λ (c : Core). c.status.committed) core_is ∙ ap (λ (u : Updates). u.committed) is.reserved.status
+
+      stamp_is : core.status.stamp ≡ last_stamp moment
+      stamp_is = ap (λ (c : Core). c.status.stamp) core_is
+
+      homes_are : core.homes ≡ homes
+      homes_are = ap (λ (c : Core). c.homes) core_is
+
+      -- the members that aren't missing are the targets
+      there_are : is_there core ≡ targets
+      there_are = (λ i d. is_member (group_is i) d && not (calls_missing (wanted i) d)) ∙ (λ i d. (ap (λ (m : Bool). is_member is.written.group d && not m) (is.written.next_is.missing d) ∙ by_member (is_member is.written.group d) (targets d) (target_member d)) i)
+        where
+          by_member : (m t : Bool) → (t ≡ true → m ≡ true) → m && not (m && not t) ≡ t
+          by_member true true e = refl
+          by_member true false e = refl
+          by_member false true e = e refl
+          by_member false false e = refl
+
+          target_member : (d : ℕ) → targets d ≡ true → is_member is.written.group d ≡ true
+          target_member d target = room_member is.written.group.pvs d (λ (row : PvRow). nat_le (sectors_needed is.written.group.mib row.pps) ((contents_of (image_of mid.sizes stood.0)).size d))
+              (target_room old mid name moment homes records was stood.0 told stood.1 may d target)
+
+      on_target : (d : ℕ) → IsTrue (is_there core d) → IsTrue (targets d)
+      on_target d present = sym (ap (λ (v : Disks). v d) there_are) ∙ present
+
+      -- the notes name nothing, and no more does the cache
+      pub notes_home : NotesAreHome core (image_of new.sizes last)
+      notes_home d lv track_group present =
+          none_named old mid name moment homes records was stood.0 told stood.1 may is.valid new equal between.0 last between.1 told_last d lv track_group (on_target d present)
+          ∙ sym (ap (λ (c : Core). is_named_by c.cache d lv track_group) core_is ∙ empty_names_none is.written.group parts.cache is.reserved.cache d lv track_group)
+
+      shows : ShowsCommitted final core.descriptor core.status.committed (is_there core)
+      shows = subst (λ (g : Descriptor). ShowsCommitted final g core.status.committed (is_there core)) (sym group_is)
+          (subst (λ (s : Status). ShowsCommitted final is.written.group s (is_there core)) (sym committed)
+          (subst (λ (v : Disks). ShowsCommitted final is.written.group is.written.next v) (sym there_are)
+          (shows_last old mid name moment homes records was stood.0 told stood.1 may is.valid new equal between.0 last between.1 told_last).0))
+
+      pub holds : IsBehind moment old → HoldsCommitted (image_of new.sizes last) core.descriptor core.status.committed (is_there core) core.status.stamp core.homes
+      holds behind = record {
+        shows = shows;
+        stamps = subst (λ (s : Stamp). StampsBefore (next_stamp s) (image_of new.sizes last)) (sym stamp_is)
+            (stamps_last old mid name moment homes records was stood.0 told stood.1 may is.valid new equal between.0 last between.1 told_last (record { epoch = moment; seq = 3 })
+            (stamps_before old mid name moment homes records was stood.0 told stood.1 may behind));
+        there = λ d present. ap (λ (sizes : List ℕ). has_records (image_of sizes last) d) (equal.only.sizes ∙ equal.made.keeps.sizes)
+            ∙ records_there old mid name moment homes records was stood.0 told stood.1 may d (on_target d present);
+        homes = λ d present. subst (λ (h : Homes). SparesNewest h (image_of new.sizes last) d) (sym homes_are)
+            (spares_last old mid name moment homes records was stood.0 told stood.1 may is.valid new equal between.0 last between.1 told_last d (on_target d present));
+      }

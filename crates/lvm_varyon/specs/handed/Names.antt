@@ -1,3 +1,0 @@
--- Handed on from the crates below.
-pub use Rattle.lvm_begin.specs.Beginning.{Beginning, IsOfParts, Part, TheDescriptor, TheNotes, TheStatus, new_order}
-pub use Rattle.lvm_varyon_plan.specs.handed.Names.{HasNoPassive}

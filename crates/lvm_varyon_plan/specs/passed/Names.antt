@@ -1,0 +1,20 @@
+-- Passed on from the crates below.
+pub use Rattle.lvm_core.specs.passed.Names.{HoldsCommitted, ShowsCommitted, next_stamp, NoneIsLeft, there, ArePlaced, IsPlaced, Core, is_there, AreFaults, first_core, Parts}
+pub use Rattle.lvm_core.specs.Coming.{BringsOn, IsStarted, history_left, shelf_left}
+pub use Rattle.lvm_core.specs.Held.{NotesAreHome, StartsHeld}
+pub use Rattle.lvm_core.specs.Leaves.{MayBeFound}
+pub use Rattle.lvm_core.specs.Settled.{HasSpareNumbers, IsSettled}
+pub use Rattle.lvm_core.specs.Sound.{HaveAllLanded}
+pub use Rattle.lvm_core.specs.Starting.{IsReservedFor, IsRoom}
+pub use Rattle.lvm_core.specs.State.{state_of}
+pub use Rattle.lvm_core.specs.declared.parts.Room.{Room}
+pub use Rattle.lvm_core.specs.declared.refused.Cause.{Cause}
+pub use Rattle.lvm_core.specs.declared.refused.Refused.{Refused}
+pub use Rattle.lvm_quorum.specs.Choosing.{HasNoRecord, HasRecord, IsAmbiguous, LacksQuorum}
+pub use Rattle.lvm_recovery.specs.passed.Names.{AreNamedEqualled, IsRecopied, OnlyNotesOf, HasNoPassive}
+pub use Rattle.lvm_recovery.specs.Copying.{AllGive, AreApart, IsCopied, IsInOneRun, IsOfCopies, LogsJust, LogsOnly, MayCopy, StopsAtOne, runs_into, sources_and_targets}
+pub use Rattle.lvm_recovery.specs.Ending.{HaveSectors, ShowsEqualised}
+pub use Rattle.lvm_recovery.specs.Equalising.{EqualiseGives, EqualisedStaysKept, MayEqualise}
+pub use Rattle.lvm_recovery.specs.Plan.{ArePlannedInOrder}
+pub use Rattle.lvm_recovery.specs.Planned.{ArePlanned}
+pub use Rattle.lvm_recovery.specs.declared.copying.Recopy.{Recopy}

@@ -1,0 +1,4 @@
+pub mod Many
+pub mod RoundTrip
+pub mod Rows
+pub mod Sizes

@@ -1,2 +1,0 @@
--- Handed on from the crates below.
-pub use Rattle.lvm_range_lines.specs.handed.Names.{first_copies, with_copies, with_map, TurnTells, power_by, AreAnswered, Post, LostForFaults, GroupFault}

@@ -1,0 +1,4 @@
+pub mod Numbers
+pub mod NewDescriptor
+pub mod OldDescriptor
+pub mod Refusals

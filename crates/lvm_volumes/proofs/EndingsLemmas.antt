@@ -1,0 +1,4 @@
+pub mod Fresh
+pub mod Holding
+pub mod Zeroing
+pub mod Notes
