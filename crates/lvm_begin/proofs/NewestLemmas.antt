@@ -1,7 +1,7 @@
 -- What quorums find once all parts of a beginning stand.
 use Rattle.std.proofs.Common.{◌≡◌, ◌⊎◌, inl, inr, ⊎_elim, ℕ, ◌*◌, ◌<◌, ◌≤◌, Bool, true, false, ◌&&◌, length, Option, Some, None, IsTrue, IsFalse, refl, sym, ◌∙◌, ap, subst, eq-eqb, arith}
 use Rattle.std.specs.Prelude.{if◌then◌else◌, nat_lt, nat_le}
-use Rattle.std.proofs.lemmas.Bool.{eqb-true, and_from}
+use Rattle.std.proofs.lemmas.Bool.{eqb-true, and_from, and_parts, cases_Bool}
 use Rattle.std.proofs.lemmas.Bool.Decides.{nat_tests}
 use Rattle.lvm_num.specs.declared.descriptor.Descriptor.{Descriptor}
 use Rattle.lvm_num.specs.declared.status.Status.{Status}
@@ -27,15 +27,6 @@ use Rattle.lvm_begin.specs.Newest.{FindsBeginning, AllFindNewest, NewIsFound, Ag
 
 -- ---- the one record that is offered
 
-split : (p q : Bool) → IsTrue (p && q) → IsTrue p × IsTrue q
-split true true both = (refl, refl)
-split true false both = absurd cc
-split false q both = absurd cc
-
-is_target : (t : Bool) → IsTrue t ⊎ IsFalse t
-is_target true = inl refl
-is_target false = inr refl
-
 module _ {X : Type 0} (of : X → Bool) (shown : ℕ → Option (Stamped X)) (set : Disks) (x : Stamped X) where
   offers_only : (d : ℕ) (r : Stamped X) → ((r : Stamped X) → IsTrue (set d) → shown d ≡ Some r → IsTrue (of r.value) → r ≡ x) → offered of shown set d ≡ Some r → r ≡ x
   offers_only d r only is = by_set (set d) refl (shown d) refl is
@@ -60,7 +51,7 @@ passes_of : {X : Type 0} (of : X → Bool) (o : Option (Stamped X)) (x : Stamped
 passes_of of o x shows its = ap (passes of) shows ∙ its
 
 there_is : (d disks size : ℕ) → IsTrue (nat_lt d disks && nat_le data_start size) → d < disks
-there_is d disks size has = let low = (split (nat_lt d disks) (nat_le data_start size) has).0 in grind (arith, nat_tests)
+there_is d disks size has = let low = (and_parts (nat_lt d disks) (nat_le data_start size) has).0 in grind (arith, nat_tests)
 
 -- ---- all disks together
 
@@ -69,8 +60,8 @@ module _ (c : Contents) (group : Descriptor) (disks : Disks) (newest : Stamped D
   all_enough = more_is_enough.read group (votes_in group (members_in c disks group.id group)) (votes_in group (members_in c all_disks group.id group))
       (more_have_more group (members_in c disks group.id group) (members_in c all_disks group.id group)
       (λ d member is.
-      let parts = split (disks d && passes (is_of group.id) (c.descriptor d)) (has_room c d group) is in
-      and_from (passes (is_of group.id) (c.descriptor d)) (has_room c d group) (split (disks d) (passes (is_of group.id) (c.descriptor d)) parts.0).1 parts.1))
+      let parts = and_parts (disks d && passes (is_of group.id) (c.descriptor d)) (has_room c d group) is in
+      and_from (passes (is_of group.id) (c.descriptor d)) (has_room c d group) (and_parts (disks d) (passes (is_of group.id) (c.descriptor d)) parts.0).1 parts.1))
       (finding_reads c disks group.id group has.found).reads.enough
 
   among_all : descriptor_among c all_disks group.id ≡ Some newest
@@ -141,7 +132,7 @@ module _ (b : Beginning) (group : Descriptor) (status : Status) (old : Image) (n
   only_new d r shows its = ⊎_elim
       (λ (target : IsTrue (b.targets d)). some_same r newest_one (sym shows ∙ begun.described d target))
       (λ (other : IsFalse (b.targets d)). absurd (may.make.new_id d r (sym (begun.others d other).0 ∙ shows) its))
-      (is_target (b.targets d))
+      (cases_Bool (b.targets d))
 
   member_room : (d : ℕ) → IsTrue (b.targets d) → IsTrue (has_room new d group)
   member_room d target = subst (λ (c : Contents). IsTrue (has_room c d group)) (sym begun.rest) (room d target)
@@ -161,14 +152,14 @@ module _ (b : Beginning) (group : Descriptor) (status : Status) (old : Image) (n
   descriptor_is_found =
       let common = read_meets_read group (members_in new b.targets new_id group) (members_in new b.targets new_id group) may.make.a_member can_read can_read in
       let d : ℕ = common.0 in
-      let target : IsTrue (b.targets d) = (split (b.targets d) (passes (is_of new_id) (new.descriptor d)) (split (b.targets d && passes (is_of new_id) (new.descriptor d)) (has_room new d group) common.2).0).0 in
+      let target : IsTrue (b.targets d) = (and_parts (b.targets d) (passes (is_of new_id) (new.descriptor d)) (and_parts (b.targets d && passes (is_of new_id) (new.descriptor d)) (has_room new d group) common.2).0).0 in
       only_one (is_of new_id) new.descriptor b.targets newest_one new.disks d (target_there d target) target (begun.described d target) own_id (λ e r is shows its. only_new e r shows (eqb-true r.value.id new_id its))
 
   new_newest : HasNewest new group b.targets newest_one
   new_newest = record {
     found = finds_from new b.targets new_id newest_one descriptor_is_found can_read;
     value = refl;
-    have = λ d member. begun.described d (split (b.targets d) (passes (is_of new_id) (new.descriptor d)) (split (b.targets d && passes (is_of new_id) (new.descriptor d)) (has_room new d group) member).0).0;
+    have = λ d member. begun.described d (and_parts (b.targets d) (passes (is_of new_id) (new.descriptor d)) (and_parts (b.targets d && passes (is_of new_id) (new.descriptor d)) (has_room new d group) member).0).0;
     last = λ d r shows its. inr (only_new d r shows its);
   }
 
@@ -177,7 +168,7 @@ module _ (b : Beginning) (group : Descriptor) (status : Status) (old : Image) (n
   new_finds = record {
     newest = new_newest;
     stated = status_is_found new b group status b.targets may.make.a_member own new_newest
-        (λ d voter. let target : IsTrue (b.targets d) = (split (b.targets d) (passes (is_of new_id) (new.descriptor d)) (split (b.targets d && passes (is_of new_id) (new.descriptor d)) (passes (has_room new d) (descriptor_among new b.targets new_id)) voter).0).0 in
+        (λ d voter. let target : IsTrue (b.targets d) = (and_parts (b.targets d) (passes (is_of new_id) (new.descriptor d)) (and_parts (b.targets d && passes (is_of new_id) (new.descriptor d)) (passes (has_room new d) (descriptor_among new b.targets new_id)) voter).0).0 in
         (target_there d target, begun.stated d target));
   }
 
@@ -199,7 +190,7 @@ module _ (b : Beginning) (forget : Bool) (group : Descriptor) (status : Status) 
   described = record (contents_of old) { descriptor = new.descriptor }
 
   change : DescriptorsChange b.targets newest_again (contents_of old) described
-  change = record { own = λ d. ⊎_elim (λ target. inr (target, begun.described d target)) (λ other. inl (begun.others d other).0) (is_target (b.targets d)); rest = refl }
+  change = record { own = λ d. ⊎_elim (λ target. inr (target, begun.described d target)) (λ other. inl (begun.others d other).0) (cases_Bool (b.targets d)); rest = refl }
 
   again_newest : HasNewest new group disks newest_again
   again_newest = newest_stays_newest group disks newest_again described new begun.rest
@@ -209,7 +200,7 @@ module _ (b : Beginning) (forget : Bool) (group : Descriptor) (status : Status) 
   shows_same d = ⊎_elim
       (λ (target : IsTrue (b.targets d)). passes_of (is_of again_id) (new.descriptor d) newest_again (begun.described d target) (eq-eqb group.id again_id refl) ∙ sym (may.restamp.showing d target))
       (λ (other : IsFalse (b.targets d)). ap (passes (is_of again_id)) (begun.others d other).0)
-      (is_target (b.targets d))
+      (cases_Bool (b.targets d))
 
   room_same : (d : ℕ) → has_room new d group ≡ has_room (contents_of old) d group
   room_same d = ap (λ (c : Contents). has_room c d group) begun.rest
@@ -237,4 +228,4 @@ pub status_is_last : StatusIsLast
 status_is_last b forget group status old new begun later d r shows its = ⊎_elim
     (λ (target : IsTrue (b.targets d)). inr (some_same r (as_read (states b) status) (sym shows ∙ begun.stated d target)))
     (λ (other : IsFalse (b.targets d)). inl (later d r (sym (begun.others d other).1 ∙ shows) its))
-    (is_target (b.targets d))
+    (cases_Bool (b.targets d))

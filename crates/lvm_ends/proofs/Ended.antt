@@ -1,7 +1,7 @@
 -- What holds of a session as one of its transfers has ended.
 use Rattle.std.proofs.Common.{◌≡◌, ◌≤◌, ◌<◌, ◌+◌, ◌-◌, ◌==◌, ℕ, zero, suc, Bool, true, false, cond, List, [], ◌∷◌, Option, Some, None, count_by, length, slice_get, slice_set, slice_index_or, if◌then◌else◌, refl, sym, ◌∙◌, ap, subst, arith}
 use Rattle.std.specs.Prelude.{◌&&◌, ◌||◌, All, IfSome}
-use Rattle.std.proofs.lemmas.Bool.{eq-eqb, eqb-false, eqb-true}
+use Rattle.std.proofs.lemmas.Bool.{eqb-false, eqb-true}
 use Rattle.std.proofs.lemmas.List.Elements.{All-head, All-tail}
 use Rattle.std.proofs.lemmas.List.Sums.{sum_by-cons}
 use Rattle.std.proofs.lemmas.Option.{get_or_from_slice_get, slice_get_within}
@@ -35,6 +35,7 @@ use Rattle.lvm_copy_end.specs.Reviewing.{IsLocated, MayReview}
 use Rattle.lvm_copy_end.proofs.BringingLemmas.{markable}
 use Rattle.lvm_ends.specs.Ended.{HasEnded}
 pub use Rattle.lvm_num.proofs.Booleans.{first_holds as left, second_holds as right}
+use Rattle.lvm_num.proofs.Booleans.{same_itself}
 
 -- ---- counting
 
@@ -50,13 +51,10 @@ some_counts f (y ∷ xs) (suc i) x there passes =
     let more = sum_by-cons (λ z. cond (f z) 1 0) y xs in
     omega (arith, rest, more)
 
-itself : (n : ℕ) → (n == n) ≡ true
-itself n = eq-eqb n n refl
-
 same_own : (who : Owner) → same_owner who who ≡ true
-same_own (owner.Data id target) = ap (λ (b : Bool). b && (target == target)) (itself id) ∙ itself target
-same_own (owner.Status disk) = itself disk
-same_own (owner.Note disk) = itself disk
+same_own (owner.Data id target) = ap (λ (b : Bool). b && (target == target)) (same_itself id) ∙ same_itself target
+same_own (owner.Status disk) = same_itself disk
+same_own (owner.Note disk) = same_itself disk
 same_own owner.Copy = refl
 
 -- ---- copies
@@ -85,7 +83,7 @@ hand_out pool number None others few = (tt, tt)
 hand_out pool number (Some buf) others few = (by_test (number == buf.number) refl, out_of pool buf.number one_out)
   where
     one : count_if (buf.number == buf.number) ≡ 1
-    one = ap count_if (itself buf.number)
+    one = ap count_if (same_itself buf.number)
 
     one_out : 1 ≤ count_if (slice_index_or pool buf.number false)
     one_out = let all = few buf.number in omega (arith, all, one)
@@ -99,7 +97,7 @@ module _ (core : Core) (at : ℕ) (who : Owner) (number : ℕ) (ended : HasEnded
   within = slice_get_within core.flying at ended.row ended.there
 
   pub is_out : IsOut core.pool number
-  is_out = out_of core.pool number (let all = ended.apart number in let one = ap count_if (itself number) in omega (arith, all, one))
+  is_out = out_of core.pool number (let all = ended.apart number in let one = ap count_if (same_itself number) in omega (arith, all, one))
 
   pub may_return : MayReturn core at number
   may_return = record { within = within; out = is_out }

@@ -14,6 +14,7 @@ use Rattle.lvm_num.specs.Descriptor.{copies_of, is_pp}
 use Rattle.lvm_num.specs.Status.{calls_stale, calls_missing}
 use Rattle.lvm_num.proofs.BitsLemmas.{has-none, has-set}
 use Rattle.lvm_num.proofs.DisksLemmas.{has-zero, has-with}
+use Rattle.lvm_num.proofs.Booleans.{not_so, not_either}
 use Rattle.lvm_kept.specs.Examples.{mirror}
 use Rattle.lvm_status.specs.Update.{is_there, seen}
 use Rattle.lvm_status.specs.Runs.{IsSoundStatus}
@@ -34,7 +35,7 @@ use Rattle.lvm_session.specs.Worked.{CopiesAreSound, behind, bringing_up, first_
 use Rattle.lvm_keeps.proofs.KeepsLemmas.Close.{close_keeps}
 use Rattle.lvm_faulted.specs.Faulted.{without_disks}
 use Rattle.lvm_faulted.specs.Copies.{CarriedWritesAreUnsound, FailedCopiesAreSound, WholeCopiesAreSound, failed, whole}
-use Rattle.lvm_session.proofs.Small.{not_either, not_none, not_so}
+use Rattle.lvm_session.proofs.Small.{not_none}
 use Rattle.lvm_session.proofs.WorkedLemmas.Parts.{update_is_sound, both_copies, has_fresh, not_marked, zeros_at, none_missing_at_first as none_missing}
 use Rattle.lvm_session.proofs.SoundLemmas.{sound_while_on}
 use Rattle.lvm_faulted.proofs.FaultedLemmas.Parts.{entailed, is_missing_so, none_stale, rose_once, stale_with_disk, which_missing}

@@ -11,6 +11,7 @@ use Rattle.lvm_num.specs.declared.descriptor.Mode.TheVariants as mode
 use Rattle.lvm_num.specs.Status.{calls_stale, calls_missing}
 use Rattle.lvm_num.proofs.BitsLemmas.{has-none}
 use Rattle.lvm_num.proofs.DisksLemmas.{has-zero, has-with}
+use Rattle.lvm_num.proofs.Booleans.{not_so, not_either, or_left, neither_holds, twice_fails, second_of_three, thrice_holds}
 use Rattle.lvm_disk.specs.Counts.{Rose}
 use Rattle.lvm_disk.specs.Device.{Device}
 use Rattle.lvm_kept.specs.Examples.{mirror}
@@ -38,14 +39,10 @@ use Rattle.lvm_session.specs.Sound.{IsAsked, IsFitting, IsSound, IsTold, count_i
 use Rattle.lvm_session.specs.Worked.{HeldWritesAreSound, Says, begun_write, behind, core_of, first_copy, fresh, second_copy, status_of}
 use Rattle.lvm_keeps.proofs.KeepsLemmas.Landing.{landing_is_caused}
 use Rattle.lvm_faulted.specs.Failing.{KeptWritesAreSound, LostWritesAreSound, UnsettledWritesAreSound, ended, ended_write, kept, landed, lost_on_both, no_writes, unsettled}
-use Rattle.lvm_session.proofs.Small.{not_either, not_so}
 use Rattle.lvm_session.proofs.RequestsLemmas.{laid_in, shaped, waits_with}
 use Rattle.lvm_session.proofs.WorkedLemmas.Parts.{update_is_sound, idle_is_sound, none_written, has_fresh, zeros_at, none_missing_at_first as none_missing}
 use Rattle.lvm_session.proofs.SoundLemmas.{sound_while_on}
 use Rattle.lvm_faulted.proofs.FaultedLemmas.Parts.{none_stale, rose_once}
-
-or_left : {a : Bool} (b : Bool) → a ≡ true → a || b ≡ true
-or_left b is = ap (λ t. t || b) is
 
 -- no disk is missing by a status that calls the second copy stale
 pub none_missing_behind : (disk : ℕ) {X : Type 0} → calls_missing (status_of behind) disk ≡ true → X
@@ -235,25 +232,6 @@ kept_counted = (record { began = omega arith; since = omega arith }, (record { b
 lost_counted : AreCounted lost_on_both (ended_write stage.Failed)
 lost_counted = (record { began = omega arith; since = omega arith }, (record { began = omega arith; since = omega arith }, tt))
 
--- what is stale by what is held isn't wanted fresh
-none_cleared : (a b : Bool) {X : Type 0} → a ≡ false → a || b ≡ true → b ≡ false → X
-none_cleared true b none is not = not_either none
-none_cleared false true none is not = not_either not
-none_cleared false false none is not = not_so is
-
-pub both_stale : (a : Bool) {X : Type 0} → a || a ≡ true → a ≡ false → X
-both_stale true is not = not_either not
-both_stale false is not = not_so is
-
-either_wanted : (a b : Bool) → a ≡ false → (a || b) || b ≡ true → b ≡ true
-either_wanted true b none is = not_either none
-either_wanted false true none is = refl
-either_wanted false false none is = is
-
-pub all_stale : (a : Bool) → (a || a) || a ≡ true → a ≡ true
-all_stale true is = refl
-all_stale false is = is
-
 second_failed : (device : Device) → device.counts.faults 1 ≡ 1 → (committed : Says) (flies : Option Says) (writes : Writes) (first : TargetState) (disk : ℕ) → disk ≡ 1 → FailedSince (state device (core_of (ended committed flies writes first))) disk
 second_failed device one committed flies writes first disk is = subst (λ d. FailedSince (state device (core_of (ended committed flies writes first))) d) (sym is) (subst (λ n. Rose 0 n) (sym one) rose_once)
 
@@ -266,7 +244,7 @@ module _ (held : HeldWritesAreSound) where
     votes = o.votes;
     still_missing = λ disk is. none_missing disk is;
     missing = λ disk is. none_missing_behind disk is;
-    stale = λ p is. inr (inr (second_failed unsettled.device refl fresh (Some behind) unsettled.core.status.writes stage.Done p.disk (stale_there p (either_wanted (calls_stale (status_of fresh) p) (calls_stale (status_of behind) p) (none_stale p) is))));
+    stale = λ p is. inr (inr (second_failed unsettled.device refl fresh (Some behind) unsettled.core.status.writes stage.Done p.disk (stale_there p (second_of_three (calls_stale (status_of fresh) p) (calls_stale (status_of behind) p) (none_stale p) is))));
   }
 
   unsettled_sound : IsSound unsettled
@@ -286,7 +264,7 @@ module _ (held : HeldWritesAreSound) where
           behind = λ p is. none_behind fresh (Some behind) unsettled.core.status.writes stage.Done p is;
           reviewed = refl;
           fresh = has_fresh mode.Off unsettled.core stays.0;
-          clearings = λ p is not. none_cleared (calls_stale (status_of fresh) p) (calls_stale (status_of behind) p) (none_stale p) is not;
+          clearings = λ p is not. neither_holds (calls_stale (status_of fresh) p) (calls_stale (status_of behind) p) (none_stale p) is not;
           numbers = unsettled_numbers;
         };
         rows = tt;
@@ -301,7 +279,7 @@ module _ (held : HeldWritesAreSound) where
     votes = o.votes;
     still_missing = λ disk is. none_missing disk is;
     missing = λ disk is. none_missing_behind disk is;
-    stale = λ p is. inr (inr (second_failed kept.device refl behind None no_writes stage.Done p.disk (stale_there p (all_stale (calls_stale (status_of behind) p) is))));
+    stale = λ p is. inr (inr (second_failed kept.device refl behind None no_writes stage.Done p.disk (stale_there p (thrice_holds (calls_stale (status_of behind) p) is))));
   }
 
   kept_sound : IsSound kept
@@ -321,7 +299,7 @@ module _ (held : HeldWritesAreSound) where
           behind = λ p is. none_behind behind None no_writes stage.Done p is;
           reviewed = refl;
           fresh = has_fresh mode.Off kept.core stays.1;
-          clearings = λ p is not. both_stale (calls_stale (status_of behind) p) is not;
+          clearings = λ p is not. twice_fails (calls_stale (status_of behind) p) is not;
           numbers = kept_numbers;
         };
         rows = tt;
@@ -336,7 +314,7 @@ module _ (held : HeldWritesAreSound) where
     votes = o.votes;
     still_missing = λ disk is. none_missing disk is;
     missing = λ disk is. none_missing_behind disk is;
-    stale = λ p is. inr (inr (second_failed lost_on_both.device refl behind None no_writes stage.Failed p.disk (stale_there p (all_stale (calls_stale (status_of behind) p) is))));
+    stale = λ p is. inr (inr (second_failed lost_on_both.device refl behind None no_writes stage.Failed p.disk (stale_there p (thrice_holds (calls_stale (status_of behind) p) is))));
   }
 
   lost_sound : IsSound lost_on_both
@@ -356,7 +334,7 @@ module _ (held : HeldWritesAreSound) where
           behind = λ p is. none_behind behind None no_writes stage.Failed p is;
           reviewed = refl;
           fresh = has_fresh mode.Off lost_on_both.core stays.2;
-          clearings = λ p is not. both_stale (calls_stale (status_of behind) p) is not;
+          clearings = λ p is not. twice_fails (calls_stale (status_of behind) p) is not;
           numbers = lost_numbers;
         };
         rows = tt;

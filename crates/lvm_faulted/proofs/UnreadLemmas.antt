@@ -10,6 +10,7 @@ use Rattle.lvm_num.specs.declared.place.Pp.{Pp}
 use Rattle.lvm_num.specs.declared.descriptor.Mode.{Mode}
 use Rattle.lvm_num.specs.declared.descriptor.Mode.TheVariants as mode
 use Rattle.lvm_num.specs.Status.{calls_stale, calls_missing}
+use Rattle.lvm_num.proofs.Booleans.{not_so, not_either, twice_fails, thrice_holds}
 use Rattle.lvm_kept.specs.Examples.{mirror}
 use Rattle.lvm_vol.specs.declared.entry.Outcome.TheVariants as outcome
 use Rattle.lvm_vol.specs.Facts.{Begun}
@@ -32,12 +33,11 @@ use Rattle.lvm_session.specs.Sound.{IsAsked, IsFitting, IsGoing, IsSound, IsTold
 use Rattle.lvm_session.specs.Worked.{HeldWritesAreSound, behind, first_copy, fresh, mirrored, status_of}
 use Rattle.lvm_keeps.proofs.KeepsLemmas.Landing.{landing_is_caused}
 use Rattle.lvm_faulted.specs.Unread.{FailedReadsAreSound, WritesWithoutCopyAreSound, begun_read, failed_read, held, read_in_vain, refused, unread, without_copy}
-use Rattle.lvm_session.proofs.Small.{not_either, not_so}
 use Rattle.lvm_session.proofs.RequestsLemmas.{laid_in, shaped, waits_with}
 use Rattle.lvm_session.proofs.WorkedLemmas.Parts.{idle_is_sound, none_written, both_copies, has_fresh, zeros_at, none_missing_at_first as none_missing}
 use Rattle.lvm_session.proofs.SoundLemmas.{sound_while_on}
 use Rattle.lvm_faulted.proofs.FaultedLemmas.Parts.{none_stale, rose_once}
-use Rattle.lvm_faulted.proofs.FailingLemmas.{all_stale, both_stale, none_missing_behind}
+use Rattle.lvm_faulted.proofs.FailingLemmas.{none_missing_behind}
 
 -- ---- no copy is left
 
@@ -137,7 +137,7 @@ module _ (writes : HeldWritesAreSound) (m : Mode) where
     behind = λ p is. none_entailed m p is;
     reviewed = refl;
     fresh = has_fresh m (without_copy m).core (stays m);
-    clearings = λ p is not. both_stale (calls_stale (status_of behind) p) is not;
+    clearings = λ p is not. twice_fails (calls_stale (status_of behind) p) is not;
     numbers = numbers m;
   }
 
@@ -153,7 +153,7 @@ module _ (writes : HeldWritesAreSound) (m : Mode) where
           votes = votes m;
           still_missing = λ disk is. none_missing_behind disk is;
           missing = λ disk is. inr (first_since m disk (only_first disk is));
-          stale = λ p is. inl (all_stale (calls_stale (status_of behind) p) is);
+          stale = λ p is. inl (thrice_holds (calls_stale (status_of behind) p) is);
         };
       })
 
@@ -268,7 +268,7 @@ module _ (writes : HeldWritesAreSound) (m : Mode) where
           votes = o.votes;
           still_missing = λ disk is. none_missing disk is;
           missing = λ disk is. none_missing disk is;
-          stale = λ p is. not_so (sym (none_stale p) ∙ all_stale (calls_stale (status_of fresh) p) is);
+          stale = λ p is. not_so (sym (none_stale p) ∙ thrice_holds (calls_stale (status_of fresh) p) is);
         };
       })
 

@@ -3,7 +3,7 @@ use Rattle.std.proofs.Common.{◌≡◌, ℕ, Bool, true, false, cond, nat_lt, �
 use Rattle.std.specs.Prelude.{position}
 use Rattle.std.specs.List.{list_any, position_or_len}
 use Rattle.std.specs.Option.{option_map_or}
-use Rattle.std.proofs.lemmas.Bool.{le-ltb, or_parts}
+use Rattle.std.proofs.lemmas.Bool.{le-ltb, or_parts, not-false}
 use Rattle.lvm_path.specs.passed.VolEntryOutcome as outcome
 use Rattle.lvm_num.specs.declared.descriptor.Policy.{Policy}
 use Rattle.lvm_num.specs.declared.descriptor.Policy.TheVariants as policy
@@ -66,10 +66,6 @@ module _ {A : Type 0} (f : Next → A) (v : A) where
 off : {A : Type 0} {a : Bool} → a ≡ false → a ≡ true → A
 off is isnt = absurd (let e : false ≡ true = sym is ∙ isnt in cc e)
 
-not_off : (u : Bool) → not u ≡ false → u ≡ true
-not_off true is = refl
-not_off false is = absurd (cc is)
-
 -- ---- targets of which no transfer is left to be started
 
 module _ {X : Type 0} (p : X → Bool) where
@@ -113,10 +109,10 @@ module _ (k : Facts) (r : Request) where
   lands_not_chosen on usable none = by_chosen outcome_next None k on (λ unusable. off unusable usable) refl none
 
   pub lands_not : (shown : Bool) → (shown ≡ true → k.usable ≡ true) → (p : Phase) → might_land_in p r shown ≡ false → outcome_next (next_in p k r) ≡ None
-  lands_not shown sees phase.Held is = by_held outcome_next None (k.blocked || k.pending) k.usable refl refl (λ unusable. off unusable (sees (not_off shown is)))
-  lands_not shown sees phase.WantEntry is = lands_not_chosen (if k.pinned then next.Wait else next.Pin) (sees (not_off shown is)) (by_either outcome_next None k.pinned next.Wait next.Pin refl refl)
+  lands_not shown sees phase.Held is = by_held outcome_next None (k.blocked || k.pending) k.usable refl refl (λ unusable. off unusable (sees (not-false shown is)))
+  lands_not shown sees phase.WantEntry is = lands_not_chosen (if k.pinned then next.Wait else next.Pin) (sees (not-false shown is)) (by_either outcome_next None k.pinned next.Wait next.Pin refl refl)
   lands_not shown sees phase.WantRecord is =
-      lands_not_chosen (if k.named && k.dirty && not k.pending then goes else next.Wait) (sees (not_off shown is)) (by_either outcome_next None (k.named && k.dirty && not k.pending) goes next.Wait lands_not_by_write refl)
+      lands_not_chosen (if k.named && k.dirty && not k.pending then goes else next.Wait) (sees (not-false shown is)) (by_either outcome_next None (k.named && k.dirty && not k.pending) goes next.Wait lands_not_by_write refl)
   lands_not shown sees phase.Data is =
       by_data outcome_next None k r (is_write r.ask) (is_begun r.targets.items) (λ read. rests (list_any (λ (t : Target). is_done t.state) r.targets.items) (list_any (λ (t : Target). is_flying t.state) r.targets.items) (sym (ap (λ b. if b then (b && not (is_begun r.targets.items)) && not shown else are_at_rest r.targets.items) read) ∙ is))
       (λ write begun. lands_not_by_write)

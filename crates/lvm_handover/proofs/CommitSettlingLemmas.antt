@@ -1,13 +1,14 @@
 -- Where missing disks entail nothing, no copy is left behind.
 use Rattle.std.proofs.Common.{◌≡◌, ◌==◌, inl, inr, ℕ, zero, suc, ◌+◌, ◌<◌, ◌≤◌, Bool, true, false, ◌&&◌, not, [], refl, sym, ap, ◌∙◌, arith}
 use Rattle.std.specs.List.{list_any, range_with_len}
-use Rattle.std.proofs.lemmas.Bool.{eq-eqb, eqb-true}
+use Rattle.std.proofs.lemmas.Bool.{eq-eqb, eqb-true, and_parts}
 use Rattle.lvm_num.specs.declared.place.Pp.{Pp}
 use Rattle.lvm_num.specs.declared.descriptor.Descriptor.{Descriptor}
 use Rattle.lvm_num.specs.declared.descriptor.LvRow.{LvRow}
 use Rattle.lvm_num.specs.declared.status.Status.{Status}
 use Rattle.lvm_num.specs.Descriptor.{IsValid, copies_of, is_member, is_pp}
 use Rattle.lvm_num.specs.Status.{calls_stale}
+use Rattle.lvm_num.proofs.Booleans.{second_with_first}
 use Rattle.lvm_status.specs.Update.{members_there}
 use Rattle.lvm_kept.specs.Group.{IsOneOf}
 use Rattle.lvm_next.proofs.NextLemmas.{copy_is_placed, is_member_of}
@@ -17,7 +18,6 @@ use Rattle.lvm_session.specs.Judging.{is_missing, is_stale, is_wanted_stale}
 use Rattle.lvm_session.specs.Marks.{can_replace, is_among, is_entailed, is_entailed_in, is_left_behind}
 use Rattle.lvm_earlier.proofs.passed.Tie.{any_one}
 use Rattle.lvm_tie_begins.proofs.MarksLemmas.{passes}
-use Rattle.lvm_earlier.proofs.passed.Names.{and_both}
 
 -- ---- lists
 
@@ -31,11 +31,6 @@ inside first (suc n) k low high = by (first == k) refl (λ apart. inside (first 
 
 -- ---- none is left
 
-missing_so : (m b : Bool) → m ≡ true → m && not b ≡ false → b ≡ true
-missing_so true true member gone = refl
-missing_so true false member gone = absurd (cc gone)
-missing_so false b member gone = absurd (cc member)
-
 pub none_left : (core : Core) → IsValid core.descriptor → core.status.group ≡ record core.descriptor { lvs = [] } → core.status.committed ≡ core.status.wanted
     → ((p : Pp) → is_entailed core p ≡ true → is_wanted_stale core p ≡ true) → NoneIsLeft core.descriptor core.status
 none_left core valid group committed behind p left = by (is_wanted_stale core p) refl
@@ -47,7 +42,7 @@ none_left core valid group committed behind p left = by (is_wanted_stale core p)
     one = left.left.left.one
 
     gone : is_missing core p.disk ≡ true
-    gone = missing_so (is_member core.descriptor p.disk) (is_missing core p.disk) (is_member_of core.descriptor p (copy_is_placed core.descriptor valid left.row left.left.lp p left.volume one)) (sym (same_there p.disk) ∙ left.left.left.absent)
+    gone = second_with_first (is_member core.descriptor p.disk) (is_missing core p.disk) (is_member_of core.descriptor p (copy_is_placed core.descriptor valid left.row left.left.lp p left.volume one)) (sym (same_there p.disk) ∙ left.left.left.absent)
 
     by : (b : Bool) → is_wanted_stale core p ≡ b → is_wanted_stale core p ≡ true
     by true is = is
@@ -55,8 +50,8 @@ none_left core valid group committed behind p left = by (is_wanted_stale core p)
         let stale_is : is_stale core p ≡ false = ap (λ (s : Status). calls_stale s p) committed ∙ fresh in
         let among : is_among (copies_of left.row left.left.lp) p ≡ true = passes (is_pp p) (copies_of left.row left.left.lp) p one (itself p) in
         let other = any_one (λ (q : Pp). there core.status q.disk && not (calls_stale core.status.wanted q)) (copies_of left.row left.left.lp) left.left.left.served in
-        let both = and_both (there core.status other.0.disk) (not (calls_stale core.status.wanted other.0)) other.2 in
-        let here = and_both (is_member core.descriptor other.0.disk) (not (is_missing core other.0.disk)) (sym (same_there other.0.disk) ∙ both.0) in
+        let both = and_parts (there core.status other.0.disk) (not (calls_stale core.status.wanted other.0)) other.2 in
+        let here = and_parts (is_member core.descriptor other.0.disk) (not (is_missing core other.0.disk)) (sym (same_there other.0.disk) ∙ both.0) in
         let can : can_replace core other.0 ≡ true =
         ap (λ (s : Status). (not (calls_stale s other.0) && not (is_missing core other.0.disk)) && not (is_wanted_stale core other.0)) committed
         ∙ ap (λ (b : Bool). (b && not (is_missing core other.0.disk)) && b) both.1 ∙ ap (λ (b : Bool). (true && b) && true) here.1 in

@@ -1,6 +1,6 @@
 -- Small facts on tests, values and what is known of a block.
 use Rattle.std.proofs.Common.{◌≡◌, inl, inr, ℕ, Bool, true, false, ◌&&◌, ◌||◌, List, [], ◌∷◌, ◌++◌, Option, Some, None, refl, sym, ap, subst}
-use Rattle.std.specs.Prelude.{IsTrue, IsFalse, map, find, if◌then◌else◌, option_map, IsSomeAnd}
+use Rattle.std.specs.Prelude.{IsTrue, map, find, if◌then◌else◌, option_map, IsSomeAnd}
 use Rattle.lvm_num.specs.Buffer.{Sector}
 use Rattle.lvm_vol.specs.Facts.{Request, Stands, same_request, block_of}
 use Rattle.lvm_invariant.specs.State.{write_in}
@@ -10,21 +10,11 @@ pub use Rattle.std.proofs.lemmas.Bool.{and_right as and_right_false}
 pub use Rattle.std.proofs.lemmas.Bool.{or_left}
 pub use Rattle.lvm_num.proofs.Booleans.{first_holds as left_of}
 pub use Rattle.lvm_num.proofs.Booleans.{second_holds as right_of}
+use Rattle.lvm_num.proofs.Booleans.{clash_gives}
 
 -- the value is one of those known
 abbrev pub IsIn : Option (List (List ℕ)) → List ℕ → Type 0
 IsIn values value = IsSomeAnd values (λ vs. Stands value vs)
-
-pub never : {X : Type 0} (a : Bool) → IsTrue a → IsFalse a → X
-never a t f = absurd cc
-
-pub false_by : (a w : Bool) → (IsTrue a → IsTrue w) → IsFalse w → IsFalse a
-false_by true w f h = never w (f refl) h
-false_by false w f h = refl
-
-pub and_left_false : (a b : Bool) → IsFalse a → IsFalse (a && b)
-and_left_false true b h = absurd cc
-and_left_false false b h = refl
 
 pub or_right : (a b c : Bool) → IsTrue b → IsTrue c → IsTrue (a || (b && c))
 or_right true b c h k = refl

@@ -9,6 +9,7 @@ use Rattle.lvm_num.specs.declared.descriptor.Descriptor.{Descriptor}
 use Rattle.lvm_num.specs.declared.descriptor.LvRow.{LvRow}
 use Rattle.lvm_num.specs.declared.descriptor.PvRow.{PvRow}
 use Rattle.lvm_num.specs.Descriptor.{IsPartitionOf, IsValid, copies_of, is_member, partitions_in, volume_of}
+use Rattle.lvm_num.proofs.Booleans.{not_so}
 use Rattle.lvm_mwc.specs.declared.notes.DiskNotes.{DiskNotes}
 use Rattle.lvm_mwc.specs.Cache.{Cached, after_start, flight_on, has_disk, is_named, notes_on, started}
 use Rattle.lvm_mwc.specs.Entries.{note_of, pins_of}
@@ -19,7 +20,6 @@ use Rattle.lvm_mwc.proofs.NotesLemmas.{named_after_all}
 use Rattle.lvm_session.specs.Judging.{copies_in}
 use Rattle.lvm_session.specs.Marks.{is_among}
 use Rattle.lvm_keeps.proofs.Lists.{all_on}
-use Rattle.lvm_keeps.proofs.Small.{not_so}
 
 -- ---- its disk, and the others
 

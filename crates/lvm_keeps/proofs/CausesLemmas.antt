@@ -4,6 +4,7 @@ use Rattle.std.specs.Prelude.{IfSome}
 use Rattle.lvm_num.specs.declared.descriptor.Descriptor.{Descriptor}
 use Rattle.lvm_num.specs.declared.place.Pp.{Pp}
 use Rattle.lvm_num.specs.declared.status.Status.{Status}
+use Rattle.lvm_num.proofs.Booleans.{not_so}
 use Rattle.lvm_vol.specs.declared.entry.Outcome.{Outcome}
 use Rattle.lvm_vol.specs.declared.entry.Outcome.TheVariants as outcome
 use Rattle.arrayvec.specs.ArrayVec.{ArrayVec}
@@ -19,7 +20,6 @@ use Rattle.lvm_session.specs.Judging.{copies_in}
 use Rattle.lvm_session.specs.State.{State, state}
 use Rattle.lvm_session.specs.Causes.{AreCounted, HaveSourcesFailed, IsAnswered, IsCausedAmong, IsCounted, IsLandedFor, IsTrueToOrigin, is_over}
 use Rattle.lvm_keeps.proofs.Lists.{all_on}
-use Rattle.lvm_keeps.proofs.Small.{not_so}
 use Rattle.lvm_keeps.proofs.RequestsLemmas.{if_on}
 
 -- what causes are read off: the counts of faults, the group, what the session began with, its power, and the statuses that are committed and wanted

@@ -14,7 +14,7 @@ use Rattle.lvm_num.specs.Descriptor.{IsValid, most_members, most_volumes, volume
 use Rattle.lvm_num.specs.Geometry.{volume_blocks}
 use Rattle.lvm_num.specs.Status.{calls_dirty}
 use Rattle.lvm_num.proofs.DescriptorLemmas.Bounds.{few_members, few_volumes}
-use Rattle.lvm_num.proofs.Booleans.{or_false, and_false, or_true}
+use Rattle.lvm_num.proofs.Booleans.{or_false, and_false, or_true, not_so}
 use Rattle.lvm_disk.specs.Device.{Flight}
 use Rattle.lvm_vol.specs.declared.entry.Vol.TheVariants.{Lv}
 use Rattle.lvm_vol.specs.Facts.{Request as Asked, Begun}
@@ -56,7 +56,6 @@ use Rattle.lvm_keeps.proofs.CausesLemmas.{answered_still, copies_still, counted_
 use Rattle.lvm_keeps.proofs.SoundLemmas.Fitting.{still_fits}
 use Rattle.lvm_keeps.proofs.Lists.{all_at, all_on, all_push}
 use Rattle.lvm_keeps.proofs.OwnersLemmas.Rows.{all_fly, rows_on}
-use Rattle.lvm_keeps.proofs.Small.{not_so}
 use Rattle.lvm_keeps.proofs.RequestsLemmas.{bring_on, if_on, moved, open_on}
 use Rattle.lvm_keeps.proofs.SoundLemmas.Telling.{outcome_still}
 use Rattle.lvm_keeps.proofs.LeftLemmas.Updates.{one_if}

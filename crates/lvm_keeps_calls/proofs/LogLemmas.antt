@@ -5,7 +5,7 @@ use Rattle.std.specs.List.{list_any, sum_by}
 use Rattle.std.specs.Simd.{first_chunks}
 use Rattle.std.proofs.lemmas.Bool.{eq-eqb, lt-ltb, ltb-true}
 use Rattle.std.proofs.lemmas.List.Sums.{sum_by-cons, sum_by_push}
-use Rattle.lvm_num.proofs.Booleans.{or_false}
+use Rattle.lvm_num.proofs.Booleans.{or_false, not_so}
 use Rattle.lvm_vol.specs.Facts.{Fact, Request as Asked, Making, Made, Split, Removing, Removed, Begun, Landed, Taken, Cut, On, begun}
 use Rattle.lvm_vol.specs.Legal.{begins_in}
 use Rattle.lvm_vol.specs.Log.{Log, asked, has_id, is_answered, is_open, lands_id, need, needed, next_id, no_request, takes_id}
@@ -14,7 +14,6 @@ use Rattle.lvm_vol.proofs.LogLemmas.{find_stands}
 use Rattle.lvm_vol.proofs.FactsLemmas.Order.{IdsFrom, any-push, begun-push, numbered, stands-at}
 use Rattle.lvm_vol.proofs.FactsLemmas.Counting.{count_begun}
 use Rattle.lvm_session.specs.Sound.{outcome_by, outcome_in, place_in}
-use Rattle.lvm_keeps.proofs.Small.{not_so}
 
 pub chunks_long : (n k : ℕ) (xs : List ℕ) → length (first_chunks n k xs) ≡ k
 chunks_long n zero xs = refl

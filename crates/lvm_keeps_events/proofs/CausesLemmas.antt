@@ -14,6 +14,7 @@ use Rattle.lvm_disk.specs.Device.{Device, Flight, Media}
 use Rattle.lvm_hold.specs.Waiting.{Waiting}
 use Rattle.lvm_sched.specs.declared.writes.TargetState.TheVariants as stage
 use Rattle.lvm_num.specs.Descriptor.{is_pp}
+use Rattle.lvm_num.proofs.Booleans.{not_so}
 use Rattle.lvm_path.specs.Asks.{is_write, lv_of}
 use Rattle.lvm_path.specs.Targets.{are_over, end_state, is_done, is_failed, is_over as is_ended}
 use Rattle.lvm_path.specs.declared.ask.Ask.{Ask}
@@ -46,7 +47,7 @@ use Rattle.lvm_keeps.proofs.CausesLemmas.{answered_when_on}
 use Rattle.lvm_keeps.proofs.DarkLemmas.Ending.{back, back_long}
 use Rattle.lvm_keeps.proofs.Lists.{all_at, all_on, all_set, any_set, count_same, count_set, length_set, set_beside, set_here}
 use Rattle.lvm_keeps.proofs.OwnersLemmas.Rows.{rows_by, status_still, step_still}
-use Rattle.lvm_keeps.proofs.Small.{and_on, both, is_false, left_on, not_so}
+use Rattle.lvm_keeps.proofs.Small.{and_on, both, is_false, left_on}
 use Rattle.lvm_keeps.proofs.RequestsLemmas.{bring_on, changed, if_on, no_cause, open_on, ready_on, shape_still}
 use Rattle.lvm_keeps.proofs.DarkLemmas.Tables.{rows_set}
 use Rattle.lvm_keeps.proofs.SoundLemmas.Whole.{sound_when_on}

@@ -7,6 +7,7 @@ use Rattle.lvm_num.specs.declared.descriptor.Descriptor.{Descriptor}
 use Rattle.lvm_num.specs.declared.place.Pp.{Pp}
 use Rattle.lvm_num.specs.declared.record.Stamp.{Stamp}
 use Rattle.lvm_num.specs.declared.status.Status.{Status}
+use Rattle.lvm_num.proofs.Booleans.{not_so}
 use Rattle.lvm_disk.specs.Device.{Device, Flight}
 use Rattle.lvm_disk.specs.Steps.{EndsDone}
 use Rattle.lvm_hold.specs.Waiting.{Waiting, without}
@@ -23,7 +24,6 @@ use Rattle.lvm_session.specs.declared.open.Power.TheVariants as power
 use Rattle.lvm_session.specs.Ends.{GoesOn, with_return, without_step}
 use Rattle.lvm_session.specs.Marks.{is_entailed, Reviews, WantsFresh}
 use Rattle.lvm_session.specs.Sound.{IsGoing, IsSound}
-use Rattle.lvm_keeps.proofs.Small.{not_so}
 use Rattle.lvm_keeps_events.proofs.Marking.{stays_open}
 use Rattle.lvm_keeps_events.proofs.OwnersLemmas.Removal.{IsOut, taken_out}
 use Rattle.lvm_keeps_events.proofs.JudgingLemmas.Passing.{IsFresher, keeps, next, queue}

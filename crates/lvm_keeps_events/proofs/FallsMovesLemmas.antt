@@ -35,13 +35,13 @@ use Rattle.lvm_session.specs.Judging.{aims, copies_for, group_in, group_of, is_c
 use Rattle.lvm_session.specs.Enabled.{is_lost, same_status}
 use Rattle.lvm_session.specs.Events.{Chooses, ChoosesBy, admitted_as, after_admission, last_after, makes_dirty, target_at, without_pin}
 use Rattle.lvm_num.specs.Modes.{is_passive}
+use Rattle.lvm_num.proofs.Booleans.{not_so}
 use Rattle.lvm_session.specs.Marks.{WantsDirty, WantsDirtyIf}
 use Rattle.lvm_session.specs.Left.{begun_left, copy_left, if_so, is_brought_up, is_held, lacks_dirty, lacks_note, left_of, phase_left, read_left, request_left, status_left, turns_of, unbegun_left, update_work, waiting_targets, work_left, write_left}
 use Rattle.lvm_session.specs.Requests.{IsPhase}
 use Rattle.lvm_session.specs.Sound.{IsSound}
 use Rattle.lvm_keeps.proofs.LeftLemmas.Leaving.{left_same, lit}
 use Rattle.lvm_keeps.proofs.FallsLemmas.Pin.{sum_less, sum_same}
-use Rattle.lvm_keeps.proofs.Small.{not_so}
 use Rattle.lvm_keeps.proofs.RequestsLemmas.{changed}
 use Rattle.lvm_path.specs.declared.facts.Next.TheVariants as next
 use Rattle.lvm_keeps_events.specs.FallsMoves.{AdmissionFalls}

@@ -6,9 +6,9 @@ use Rattle.std.proofs.lemmas.Bool.{eq-eqb, ne_eqb}
 use Rattle.std.proofs.lemmas.List.Sums.{sum_by-cons}
 use Rattle.lvm_num.specs.declared.descriptor.LvRow.{LvRow}
 use Rattle.lvm_num.proofs.Pairs.{AllPairs-right}
+use Rattle.lvm_num.proofs.Booleans.{not_so}
 use Rattle.lvm_session.specs.Sound.{count_if}
 use Rattle.lvm_keeps.proofs.Lists.{count_cons}
-use Rattle.lvm_keeps.proofs.Small.{not_so}
 
 module _ {A : Type 0} where
   pub found : (t : A → Bool) (xs : List A) → list_any t xs ≡ true → (x : A) × (i : ℕ) × (slice_get xs i ≡ Some x) × (t x ≡ true)

@@ -34,6 +34,7 @@ use Rattle.lvm_session.specs.Bringing.{copy_ends, end_by_sources, end_of, ends_i
 use Rattle.lvm_session.specs.Enabled.{same_status}
 use Rattle.lvm_session.specs.Calls.{copy_at}
 use Rattle.lvm_num.specs.Modes.{is_passive}
+use Rattle.lvm_num.proofs.Booleans.{not_so}
 use Rattle.lvm_session.specs.Marks.{is_entailed}
 use Rattle.lvm_session.specs.Causes.{AreCaused, AreCounted, FailedSince, FailedSinceOpening, HasFailed, HaveSourcesFailed, IsAnswered, IsCaused, IsCausedAmong, IsCounted, IsTrueToOrigin, fails_on, faults_at_first, faults_at_opening, is_blamed, is_held_stale}
 use Rattle.lvm_session.specs.Left.{clean_volumes, if_so, updates_left}
@@ -41,7 +42,7 @@ use Rattle.lvm_session.specs.Owners.{AreOwned, AreRows, HaveTickets}
 use Rattle.lvm_session.specs.Sound.{IsCopy, IsFitting, IsGoing, IsOn, IsSound, IsTold, count_if, has_number, is_dark, out_with}
 use Rattle.lvm_keeps.proofs.CausesLemmas.{answered_when_on, counted_when_on}
 use Rattle.lvm_keeps.proofs.Lists.{all_on}
-use Rattle.lvm_keeps.proofs.Small.{both, is_false, not_so}
+use Rattle.lvm_keeps.proofs.Small.{both, is_false}
 use Rattle.lvm_keeps.proofs.SoundLemmas.Whole.{sound_when_on}
 use Rattle.lvm_keeps_events.proofs.EndsLemmas.CopyReadFail.{all_tried, by_place, by_sources, none_found, of_place, usable_of}
 use Rattle.lvm_keeps_events.proofs.EndsLemmas.Counts.{counts_keep, rose_since}

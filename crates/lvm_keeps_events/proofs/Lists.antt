@@ -4,12 +4,13 @@ use Rattle.std.specs.List.{AllByRecursion, list_all, list_any}
 use Rattle.std.specs.Prelude.{count_by}
 use Rattle.lvm_session.specs.Sound.{count_if}
 use Rattle.lvm_keeps.proofs.Lists.{count_cons}
-use Rattle.lvm_keeps.proofs.Small.{both, not_so}
+use Rattle.lvm_keeps.proofs.Small.{both}
 pub use Rattle.std.proofs.lemmas.Bool.{and_from as all_and}
 pub use Rattle.std.proofs.lemmas.Bool.{or_cases as either}
 pub use Rattle.lvm_num.proofs.Booleans.{or_true}
 pub use Rattle.lvm_num.proofs.Booleans.{or_false}
 pub use Rattle.lvm_num.proofs.Booleans.{and_false}
+use Rattle.lvm_num.proofs.Booleans.{not_so}
 
 module _ {A : Type 0} (t u : A → Bool) (on : (x : A) → t x ≡ true → u x ≡ true) where
   pub any_on : (xs : List A) → list_any t xs ≡ true → list_any u xs ≡ true

@@ -7,6 +7,7 @@ use Rattle.std.specs.Prelude.{AllPairs, IfSome, is_some}
 use Rattle.lvm_num.specs.Buffer.{Buffer}
 use Rattle.lvm_num.specs.declared.descriptor.Mode.{Mode}
 use Rattle.lvm_num.specs.declared.descriptor.Mode.TheVariants as mode
+use Rattle.lvm_num.proofs.Booleans.{not_so}
 use Rattle.lvm_vol.specs.Log.{is_open}
 use Rattle.lvm_mwc.specs.Cache.{is_named}
 use Rattle.lvm_sched.specs.Writes.{is_flying, is_waiting as is_unstarted}
@@ -30,7 +31,7 @@ use Rattle.lvm_session.specs.Requests.{has_record, is_past_held, IsLaid, IsOpenO
 use Rattle.lvm_session.specs.Sound.{count_if, IsAsked, IsGoing}
 use Rattle.lvm_keeps.proofs.KeepsLemmas.Landing.{or_parts}
 use Rattle.lvm_keeps.proofs.Lists.{all_at, all_set, any_set, count_set, length_set, set_beside, set_here}
-use Rattle.lvm_keeps.proofs.Small.{both, none_on, not_so}
+use Rattle.lvm_keeps.proofs.Small.{both, none_on}
 use Rattle.lvm_keeps.proofs.DarkLemmas.Tables.{apart, ascending_set}
 use Rattle.lvm_keeps_events.proofs.TargetsLemmas.{all_true_set, any_here, at_state, only_at, pp_at, set_state, within}
 use Rattle.lvm_keeps_events.proofs.SoundLemmas.Tables.{only_set}

@@ -10,6 +10,7 @@ use Rattle.lvm_sched.specs.declared.writes.TargetState.{TargetState}
 use Rattle.lvm_sched.specs.declared.writes.TargetState.TheVariants as stage
 use Rattle.lvm_sched.specs.Writes.{is_waiting as target_waits}
 use Rattle.lvm_num.specs.Descriptor.{is_pp}
+use Rattle.lvm_num.proofs.Booleans.{not_so, not_either, first_fails}
 use Rattle.lvm_path.specs.declared.request.Phase.{Phase}
 use Rattle.lvm_path.specs.declared.request.Phase.TheVariants as phase
 use Rattle.lvm_path.specs.declared.target.Target.{Target}
@@ -26,7 +27,7 @@ use Rattle.lvm_session.specs.Causes.{was_fresh}
 use Rattle.lvm_session.specs.Requests.{is_failed_and_sure, is_left_out, IsJudged, IsOpenOne, IsPhase, IsRequest, IsTarget, may_lack, wants_status, will_be_kept}
 use Rattle.lvm_session.specs.Sound.{IsCopy, IsGoing, may_be_fresh, stays_fresh}
 use Rattle.lvm_keeps.proofs.Lists.{all_at}
-use Rattle.lvm_keeps.proofs.Small.{both, not_either, not_so}
+use Rattle.lvm_keeps.proofs.Small.{both}
 use Rattle.lvm_keeps_events.proofs.OnePlace.{one_lp}
 use Rattle.lvm_keeps_events.proofs.EndsLemmas.CopyReadFail.{by_place, by_sources, is_here}
 use Rattle.lvm_keeps_events.proofs.JudgingLemmas.DuesMarks.{among_get, IsOn, on_one, pp_same}
@@ -34,10 +35,6 @@ use Rattle.lvm_keeps_events.proofs.Lists.{all_and, all_true_at, and_false, any_a
 use Rattle.lvm_keeps_events.specs.Uncaught.{LostIsUncaught}
 
 -- ---- small
-
-neither : (a b : Bool) → a || b ≡ false → a ≡ false
-neither true b e = not_either e
-neither false b e = refl
 
 first_of : (a b : Bool) → a || b ≡ true → b ≡ false → a ≡ true
 first_of true b e other = refl
@@ -149,7 +146,7 @@ module _ (core : Core) (going : IsGoing core) (o : Open) (one : IsOpenOne core o
       by true is = not_so (sym (all_at (λ (u : Target). may_lack o u && is_caught core group u.pp ≡ false) targets number t judged.uncaught there) ∙ all_and (may_lack o t) (is_caught core group t.pp) is caught)
 
   done : is_done t.state ≡ true
-  done = first_of (is_done t.state) (is_failed t.state) (over number t there) (neither (is_failed t.state) o.older sound_target)
+  done = first_of (is_done t.state) (is_failed t.state) (over number t there) (first_fails (is_failed t.state) o.older sound_target)
 
   -- so none has that is sure
   none_failed : list_any (is_failed_and_sure core) targets ≡ false

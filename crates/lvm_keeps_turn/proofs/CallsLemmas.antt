@@ -4,6 +4,7 @@ use Rattle.std.specs.Prelude.{cond, nat_lt}
 use Rattle.std.specs.List.{list_any, position_or_len}
 use Rattle.std.proofs.lemmas.Bool.{lt-ltb}
 use Rattle.std.proofs.lemmas.List.{length-map}
+use Rattle.lvm_num.proofs.Booleans.{not_so}
 use Rattle.lvm_vol.specs.declared.entry.Outcome.{Outcome}
 use Rattle.lvm_vol.specs.declared.entry.Outcome.TheVariants as outcome
 use Rattle.lvm_session.specs.declared.event.Event.{Event}
@@ -21,7 +22,6 @@ use Rattle.lvm_session.specs.Judging.{is_running, is_waiting}
 use Rattle.lvm_session.specs.State.{Core, State}
 use Rattle.lvm_session.specs.Turns.{Darkens, FinishMakes, Finishes, Makes, Moves, NoStart, OnMakes, TurnMakes, WasDark, WasOff, WasOn}
 use Rattle.lvm_keeps.proofs.Lists.{any_set, length_set}
-use Rattle.lvm_keeps.proofs.Small.{not_so}
 use Rattle.lvm_keeps_turn.proofs.TellingLemmas.Frames.{copy_stays, marked_stays, note_stays, status_stays}
 
 -- one that is found has a place

@@ -4,6 +4,7 @@ use Rattle.std.specs.Prelude.{◌&&◌, is_some, is_none, unwrap_or, IfSome}
 use Rattle.std.specs.List.{list_any}
 use Rattle.std.proofs.lemmas.List.Sums.{sum_by-cons}
 use Rattle.lvm_num.specs.Buffer.{Buffer}
+use Rattle.lvm_num.proofs.Booleans.{same_itself, three_hold}
 use Rattle.lvm_disk.specs.Device.{Device}
 use Rattle.lvm_vol.specs.declared.entry.Outcome.{Outcome}
 use Rattle.lvm_vol.specs.Facts.{Landed, Request as Asked}
@@ -40,12 +41,6 @@ counted f (x ∷ os) (suc k) o there is =
     let rest = counted f os k o there is in
     omega (arith, more, rest)
 
-same_number : (n : ℕ) → (n == n) ≡ true
-same_number n = grind (arith)
-
-three : (a b c : Bool) → a ≡ true → b ≡ true → c ≡ true → (a && b && c) ≡ true
-three a b c one two last = rw (one, two, last) refl
-
 is_out : (pool : List Bool) (n : ℕ) → 1 ≤ count_if (slice_index_or pool n false) → IsOut pool n
 is_out [] n some = absurd (omega (arith, some))
 is_out (b ∷ pool) zero some = by_test b some
@@ -60,7 +55,7 @@ module _ (core : Core) (going : IsGoing core) (place : ℕ) (o : Open) (there : 
   pub has_pin : o.request.pinned ≡ true → 1 ≤ pins_of core.cache.entries (lv_of o.request.ask) (group_of o.request.ask)
   has_pin pinned =
       let some = counted (pins (lv_of o.request.ask) (group_of o.request.ask)) core.requests place o there
-      (three o.request.pinned (lv_of o.request.ask == lv_of o.request.ask) (group_of o.request.ask == group_of o.request.ask) pinned (same_number (lv_of o.request.ask)) (same_number (group_of o.request.ask))) in
+      (three_hold o.request.pinned (lv_of o.request.ask == lv_of o.request.ask) (group_of o.request.ask == group_of o.request.ask) pinned (same_itself (lv_of o.request.ask)) (same_itself (group_of o.request.ask))) in
       let same = going.pinned (lv_of o.request.ask) (group_of o.request.ask) in
       omega (arith, some, same)
 
@@ -68,7 +63,7 @@ module _ (core : Core) (going : IsGoing core) (place : ℕ) (o : Open) (there : 
   pub hand_out : (got : Option Buffer) → got ≡ o.got → IsOutIf core.pool got
   hand_out None is = tt
   hand_out (Some buf) is =
-      let some = counted (λ (x : Open). is_hand buf.number x.got) core.requests place o there (ap (is_hand buf.number) (sym is) ∙ same_number buf.number) in
+      let some = counted (λ (x : Open). is_hand buf.number x.got) core.requests place o there (ap (is_hand buf.number) (sym is) ∙ same_itself buf.number) in
       let hands = going.hands buf.number in
       is_out core.pool buf.number (omega (arith, some, hands))
 

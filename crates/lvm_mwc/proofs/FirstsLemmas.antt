@@ -6,11 +6,8 @@ use Rattle.std.proofs.lemmas.List.Quantifiers.{position-Some}
 use Rattle.std.proofs.lemmas.List.Sums.{fails_before_first, count_by-le-length, sum_by-cons}
 use Rattle.std.specs.List.{All}
 use Rattle.std.proofs.lemmas.List.Elements.{All-cons, All-head, All-tail}
+use Rattle.lvm_num.proofs.Booleans.{none_if}
 use Rattle.lvm_mwc.specs.Firsts.{without_first, with_first}
-
-past_end : (test : Bool) (n : ℕ) → cond test (Some n) None ≡ None → test ≡ false
-past_end false n is = refl
-past_end true n is = cc
 
 module _ {X : Type 0} where
   -- the first that passes stands at k
@@ -71,7 +68,7 @@ module _ {X : Type 0} where
   pub none_at : (p : X → Bool) (xs : List X) → position p xs ≡ None → NonePasses p xs
   none_at p xs is =
       let n = position_or_len p xs in
-      let past : length xs ≤ n = ltb-false n (length xs) (past_end (nat_lt n (length xs)) n is) in
+      let past : length xs ≤ n = ltb-false n (length xs) (none_if (nat_lt n (length xs)) n is) in
       none_passes p xs (no_any p xs (λ j d below. fails_before_first p xs j d (omega arith)))
 
   -- how many fail

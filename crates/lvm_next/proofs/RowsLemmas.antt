@@ -2,7 +2,7 @@
 use Rattle.std.proofs.Common.{◌≡◌, ◌⊎◌, inl, inr, ℕ, suc, ◌+◌, ◌<◌, Bool, true, false, ◌||◌, ◌&&◌, ◌==◌, List, [], ◌∷◌, ◌++◌, length, get_or, Some, None, refl, sym, ap, subst, ◌∙◌, arith}
 use Rattle.std.specs.Prelude.{if◌then◌else◌, not, nat_lt, find, All, AllPairs}
 use Rattle.std.specs.List.{list_any}
-use Rattle.std.proofs.lemmas.Bool.{cases_lt, cases_eq, eqb-true}
+use Rattle.std.proofs.lemmas.Bool.{cases_lt, cases_eq, eqb-true, and_left}
 use Rattle.std.proofs.lemmas.Bool.Decides.{nat_tests}
 use Rattle.std.proofs.lemmas.List.Elements.{All-tail, All-append, All-cons, All-nil}
 use Rattle.std.proofs.lemmas.List.Folds.{list_any-append, list_any_none}
@@ -15,7 +15,7 @@ use Rattle.lvm_num.specs.Descriptor.{is_member}
 use Rattle.lvm_num.specs.Disks.{Disks}
 use Rattle.lvm_num.specs.Status.{IsStatusRow, calls_stale}
 use Rattle.lvm_num.proofs.MarksLemmas.Maps.{find-None}
-use Rattle.lvm_num.proofs.Booleans.{and_true}
+use Rattle.lvm_num.proofs.Booleans.{and_true, or_when_false}
 use Rattle.lvm_next.specs.Rows.{AreMemberRows}
 
 -- ---- the row of a disk
@@ -41,14 +41,6 @@ pairs_head R x xs pairs k d lt = pairs 0 (suc k) d (omega arith) (omega (arith, 
 says : (StatusRow → Bool) → ℕ → StatusRow → Bool
 says mark disk row = row.disk == disk && mark row
 
-and_false : (a b : Bool) → a ≡ false → a && b ≡ false
-and_false true b e = absurd cc
-and_false false b e = refl
-
-or_false : (a b : Bool) → b ≡ false → a || b ≡ a
-or_false true b e = refl
-or_false false b e = e
-
 -- of rows in the order of their disks at most one is that of the disk
 pub row_says : (mark : StatusRow → Bool) (rows : List StatusRow) (disk : ℕ) (row : StatusRow) → AllPairs (λ (a b : StatusRow). a.disk < b.disk) rows
     → find (λ (r : StatusRow). r.disk == disk) rows ≡ Some row → list_any (λ (r : StatusRow). r.disk == disk && mark r) rows ≡ mark row
@@ -66,13 +58,13 @@ row_says mark (r ∷ rs) disk row rise e = by_test (r.disk == disk) refl e (λ i
         let own : r.disk ≡ disk = eqb-true r.disk disk here in
         let none : list_any (λ (x : StatusRow). x.disk == disk && mark x) rs ≡ false = list_any_none (λ (x : StatusRow). x.disk == disk && mark x) rs
         (λ k d lt. let above = pairs_head (λ (a b : StatusRow). a.disk < b.disk) r rs rise k d lt in
-        and_false ((get_or rs k d).disk == disk) (mark (get_or rs k d)) (later r.disk (get_or rs k d).disk above own)) in
-        or_false (mark r) (list_any (λ (x : StatusRow). x.disk == disk && mark x) rs) none ∙ ap mark same
+        and_left ((get_or rs k d).disk == disk) (mark (get_or rs k d)) (later r.disk (get_or rs k d).disk above own)) in
+        or_when_false (mark r) (list_any (λ (x : StatusRow). x.disk == disk && mark x) rs) none ∙ ap mark same
     by_test false here is rest = rest is
 
 pub no_row_says : (mark : StatusRow → Bool) (rows : List StatusRow) (disk : ℕ) → find (λ (r : StatusRow). r.disk == disk) rows ≡ None → list_any (λ (r : StatusRow). r.disk == disk && mark r) rows ≡ false
 no_row_says mark rows disk none = list_any_none (λ (r : StatusRow). r.disk == disk && mark r) rows
-    (λ k d lt. and_false ((get_or rows k d).disk == disk) (mark (get_or rows k d)) (find-None (λ (r : StatusRow). r.disk == disk) rows none k d lt))
+    (λ k d lt. and_left ((get_or rows k d).disk == disk) (mark (get_or rows k d)) (find-None (λ (r : StatusRow). r.disk == disk) rows none k d lt))
 
 -- ---- one more disk
 
@@ -96,7 +88,7 @@ one_more n d x y same = combine (nat_lt d n) (nat_lt d (n + 1)) (n == d) x y (el
 ])
 
 pub none_more : (n d : ℕ) (x : Bool) → (d ≡ n → x ≡ false) → nat_lt d n && x ≡ nat_lt d (n + 1) && x
-none_more n d x none = sym (or_false (nat_lt d n && x) ((n == d) && false) (and_none (n == d))) ∙ one_more n d x false (λ e. sym (none e))
+none_more n d x none = sym (or_when_false (nat_lt d n && x) ((n == d) && false) (and_none (n == d))) ∙ one_more n d x false (λ e. sym (none e))
   where
     and_none : (a : Bool) → a && false ≡ false
     and_none true = refl
@@ -112,9 +104,9 @@ module _ (group : Descriptor) (answering : Disks) (was : Status) (n : ℕ) (rows
     rows_rise = are.rows_rise;
     low = λ k d lt. (let low = are.low k d lt in omega (arith, low));
     have = λ d. are.have d ∙ none_more n d (is_member group d) (λ e. ap (is_member group) e ∙ none);
-    missing = λ d. are.missing d ∙ assoc (nat_lt d n) (is_member group d) (not (answering d)) ∙ none_more n d (is_member group d && not (answering d)) (λ e. and_false (is_member group d) (not (answering d)) (ap (is_member group) e ∙ none))
+    missing = λ d. are.missing d ∙ assoc (nat_lt d n) (is_member group d) (not (answering d)) ∙ none_more n d (is_member group d && not (answering d)) (λ e. and_left (is_member group d) (not (answering d)) (ap (is_member group) e ∙ none))
         ∙ sym (assoc (nat_lt d (n + 1)) (is_member group d) (not (answering d)));
-    stale = λ p. are.stale p ∙ assoc (nat_lt p.disk n) (is_member group p.disk) (calls_stale was p) ∙ none_more n p.disk (is_member group p.disk && calls_stale was p) (λ e. and_false (is_member group p.disk) (calls_stale was p) (ap (is_member group) e ∙ none))
+    stale = λ p. are.stale p ∙ assoc (nat_lt p.disk n) (is_member group p.disk) (calls_stale was p) ∙ none_more n p.disk (is_member group p.disk && calls_stale was p) (λ e. and_left (is_member group p.disk) (calls_stale was p) (ap (is_member group) e ∙ none))
         ∙ sym (assoc (nat_lt p.disk (n + 1)) (is_member group p.disk) (calls_stale was p));
   }
 
@@ -123,7 +115,7 @@ module _ (group : Descriptor) (answering : Disks) (was : Status) (n : ℕ) (rows
       (marks : (k : ℕ) → has_bit row.stale k ≡ calls_stale was (record { disk = n; pp = k })) (member : is_member group n ≡ true) where
     last : (mark : StatusRow → Bool) (d : ℕ) → list_any (λ (r : StatusRow). r.disk == d && mark r) (rows ++ row ∷ []) ≡ list_any (λ (r : StatusRow). r.disk == d && mark r) rows || ((n == d) && mark row)
     last mark d = list_any-append (λ (r : StatusRow). r.disk == d && mark r) rows (row ∷ [])
-        ∙ ap (λ (b : Bool). list_any (λ (r : StatusRow). r.disk == d && mark r) rows || b) (or_false (row.disk == d && mark row) false refl ∙ ap (λ (m : ℕ). (m == d) && mark row) here)
+        ∙ ap (λ (b : Bool). list_any (λ (r : StatusRow). r.disk == d && mark r) rows || b) (or_when_false (row.disk == d && mark row) false refl ∙ ap (λ (m : ℕ). (m == d) && mark row) here)
 
     pub rows_more : AreMemberRows group answering was (n + 1) (rows ++ row ∷ [])
     rows_more = record {
@@ -134,7 +126,7 @@ module _ (group : Descriptor) (answering : Disks) (was : Status) (n : ℕ) (rows
       low = All-append (λ (r : StatusRow). r.disk < n + 1) rows (row ∷ []) (λ k d lt. (let less = are.low k d lt in omega (arith, less)))
           (All-cons (λ (r : StatusRow). r.disk < n + 1) row [] (omega (arith, here)) (All-nil (λ (r : StatusRow). r.disk < n + 1)));
       have = λ d. list_any-append (λ (r : StatusRow). r.disk == d) rows (row ∷ []) ∙ ap (λ (b : Bool). b || ((row.disk == d) || false)) (are.have d)
-          ∙ ap (λ (b : Bool). (nat_lt d n && is_member group d) || b) (or_false (row.disk == d) false refl ∙ ap (λ (m : ℕ). m == d) here ∙ sym (and_true (n == d)))
+          ∙ ap (λ (b : Bool). (nat_lt d n && is_member group d) || b) (or_when_false (row.disk == d) false refl ∙ ap (λ (m : ℕ). m == d) here ∙ sym (and_true (n == d)))
           ∙ one_more n d (is_member group d) true (λ e. sym (ap (is_member group) e ∙ member));
       missing = λ d. last (λ (r : StatusRow). r.missing) d ∙ ap (λ (b : Bool). b || ((n == d) && row.missing)) (are.missing d ∙ assoc (nat_lt d n) (is_member group d) (not (answering d)))
           ∙ one_more n d (is_member group d && not (answering d)) row.missing (λ e. gone ∙ sym (ap (λ (m : ℕ). is_member group m && not (answering m)) e ∙ ap (λ (b : Bool). b && not (answering n)) member))
@@ -149,9 +141,9 @@ pub no_rows : (group : Descriptor) (answering : Disks) (was : Status) → AreMem
 no_rows group answering was = record {
   rows_rise = record { each = All-nil IsStatusRow; disks_rise = λ i j d less lt. absurd (omega (arith, lt)) };
   low = All-nil (λ (r : StatusRow). r.disk < 0);
-  have = λ d. sym (and_false (nat_lt d 0) (is_member group d) (nothing d));
-  missing = λ d. sym (and_false (nat_lt d 0 && is_member group d) (not (answering d)) (and_false (nat_lt d 0) (is_member group d) (nothing d)));
-  stale = λ p. sym (and_false (nat_lt p.disk 0 && is_member group p.disk) (calls_stale was p) (and_false (nat_lt p.disk 0) (is_member group p.disk) (nothing p.disk)));
+  have = λ d. sym (and_left (nat_lt d 0) (is_member group d) (nothing d));
+  missing = λ d. sym (and_left (nat_lt d 0 && is_member group d) (not (answering d)) (and_left (nat_lt d 0) (is_member group d) (nothing d)));
+  stale = λ p. sym (and_left (nat_lt p.disk 0 && is_member group p.disk) (calls_stale was p) (and_left (nat_lt p.disk 0) (is_member group p.disk) (nothing p.disk)));
 }
   where
     nothing : (d : ℕ) → nat_lt d 0 ≡ false

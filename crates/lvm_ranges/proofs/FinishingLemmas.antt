@@ -9,6 +9,7 @@ use Rattle.lvm_num.specs.Geometry.{partition_of}
 use Rattle.lvm_num.specs.Status.{calls_missing, calls_stale}
 use Rattle.lvm_num.specs.Votes.{is_enough_to_write, total_votes}
 use Rattle.lvm_num.proofs.MarksLemmas.Maps.{find-Some}
+use Rattle.lvm_num.proofs.Booleans.{not_so}
 use Rattle.lvm_disk.specs.Counts.{NoneFalls, Rose}
 use Rattle.lvm_disk.specs.Device.{Device}
 use Rattle.lvm_disk.specs.Paths.{Here, Path, Then}
@@ -33,7 +34,7 @@ use Rattle.lvm_session.specs.Sound.{IsAsked, IsSound, IsTold}
 use Rattle.lvm_session.specs.State.{Core, State, state, votes_there}
 use Rattle.lvm_keeps.proofs.Lists.{all_on, all_push, all_removed}
 use Rattle.lvm_keeps.proofs.KeepsLemmas.Losing.{loss_is_caused}
-use Rattle.lvm_keeps.proofs.Small.{both, is_false, not_so}
+use Rattle.lvm_keeps.proofs.Small.{both, is_false}
 use Rattle.lvm_driver.proofs.passed.Names.{turn_counts, Given, turn_goes}
 use Rattle.lvm_turn_losses.specs.Losing.{LosesVotesByFaults, LostForFaults}
 use Rattle.lvm_driver.specs.Drains.{IsAny}

@@ -2,17 +2,19 @@
 use Rattle.std.proofs.Common.{◌≡◌, inl, inr, ⊎_elim, ℕ, Bool, true, false, ◌&&◌, ◌||◌, not, List, [], ◌∷◌, ◌==◌, refl, sym, ap, subst, ◌∙◌}
 use Rattle.std.specs.Prelude.{IsTrue}
 use Rattle.std.specs.List.{list_any}
+use Rattle.std.proofs.lemmas.Bool.{not_from_false}
 use Rattle.lvm_num.specs.declared.place.Pp.{Pp}
 use Rattle.lvm_num.specs.declared.descriptor.LvRow.{LvRow}
 use Rattle.lvm_num.specs.declared.status.Status.{Status}
 use Rattle.lvm_num.specs.Descriptor.{copies_of}
 use Rattle.lvm_num.specs.Status.{calls_stale}
+use Rattle.lvm_num.proofs.Booleans.{clash_gives}
 use Rattle.lvm_kept.specs.Group.{IsOneOf}
-use Rattle.lvm_crash.proofs.GroupLemmas.Lists.{left_of, right_of, both_of, not_so, so_not}
+use Rattle.lvm_crash.proofs.GroupLemmas.Lists.{left_of, right_of, both_of, not_so}
 use Rattle.lvm_stale.specs.Marking.{IsLeftIn}
 use Rattle.lvm_commit.specs.Settling.{there as not_missing}
 use Rattle.lvm_commit.proofs.AmongLemmas.{one_place}
-use Rattle.lvm_rest.proofs.Rows.{clash, none_passing}
+use Rattle.lvm_rest.proofs.Rows.{none_passing}
 use Rattle.lvm_rest.specs.Marking.{MarkedMayFollow, MarkedLeavesNone, NoneIsLeftBehind}
 
 -- one of a list passes
@@ -61,8 +63,8 @@ marked_leaves_none c group there was next valid marks row lp p one low copy memb
       | inl none ↦ none
       | inr some ↦ absurd (
           let in_there = left_of (there some.0.disk) (not (calls_stale next.value some.0)) some.2 in
-          let was_fresh = so_not (calls_stale was some.0) (sym (marks.answered some.0 in_there) ∙ not_so (calls_stale next.value some.0) (right_of (there some.0.disk) (not (calls_stale next.value some.0)) some.2)) in
-          clash (calls_stale next.value p)
+          let was_fresh = not_from_false (calls_stale was some.0) (sym (marks.answered some.0 in_there) ∙ not_so (calls_stale next.value some.0) (right_of (there some.0.disk) (not (calls_stale next.value some.0)) some.2)) in
+          clash_gives (calls_stale next.value p)
           (marks.marked p (record {
             row = row;
             volume = one;
@@ -79,7 +81,7 @@ pub none_is_left_behind : NoneIsLeftBehind
 none_is_left_behind c group u status same none row lp p volume low copy member gone fresh =
     elim (none_passing (λ (q : Pp). not_missing u q.disk && not (calls_stale status.value q)) (copies_of row lp)) [
       | inl nothing ↦ nothing
-      | inr some ↦ absurd (clash (calls_stale u.wanted p)
+      | inr some ↦ absurd (clash_gives (calls_stale u.wanted p)
           (none p (record {
             row = row;
             volume = volume;

@@ -14,7 +14,7 @@ use Rattle.lvm_num.specs.Descriptor.{IsMember, is_member}
 use Rattle.lvm_num.specs.Disks.{Disks, has}
 use Rattle.lvm_num.specs.Votes.{is_enough_to_write, total_votes, votes_in, votes_of}
 use Rattle.lvm_num.specs.Status.{calls_missing}
-use Rattle.lvm_num.proofs.Booleans.{first_holds}
+use Rattle.lvm_num.proofs.Booleans.{first_holds, same_itself, if_itself, three_hold}
 use Rattle.lvm_disk.specs.Device.{Device}
 use Rattle.lvm_disk.specs.Steps.{GoesDark, IsRange}
 use Rattle.lvm_pbuf.specs.Out.{TakesLowest}
@@ -31,25 +31,15 @@ use Rattle.lvm_starts.specs.Updating.{MayStartStatus, NextOn}
 
 -- ---- a status says the same as itself
 
-itself : (n : ℕ) → (n == n) ≡ true
-itself n = grind (arith)
-
-own_bit : (b : Bool) → (if b then b else not b) ≡ true
-own_bit true = refl
-own_bit false = refl
-
-three : (a b c : Bool) → a ≡ true → b ≡ true → c ≡ true → (a && b && c) ≡ true
-three a b c one two last = rw (one, two, last) refl
-
 rows_own : (rows : List StatusRow) → same_rows rows rows ≡ true
 rows_own [] = refl
 rows_own (row ∷ rows) =
-    ap (λ (b : Bool). b && same_rows rows rows) (three (row.disk == row.disk) (if row.missing then row.missing else not row.missing) (bytes_eq row.stale row.stale) (itself row.disk) (own_bit row.missing) ((bytes_eq-Decides row.stale row.stale).1 refl))
+    ap (λ (b : Bool). b && same_rows rows rows) (three_hold (row.disk == row.disk) (if row.missing then row.missing else not row.missing) (bytes_eq row.stale row.stale) (same_itself row.disk) (if_itself row.missing) ((bytes_eq-Decides row.stale row.stale).1 refl))
     ∙ rows_own rows
 
 pub same_own : (s : Status) → same_status s s ≡ true
 same_own s =
-    ap (λ (b : Bool). b && same_rows s.rows s.rows) (three (s.id == s.id) (if s.big then s.big else not s.big) (bytes_eq s.dirty s.dirty) (itself s.id) (own_bit s.big) ((bytes_eq-Decides s.dirty s.dirty).1 refl)) ∙ rows_own s.rows
+    ap (λ (b : Bool). b && same_rows s.rows s.rows) (three_hold (s.id == s.id) (if s.big then s.big else not s.big) (bytes_eq s.dirty s.dirty) (same_itself s.id) (if_itself s.big) ((bytes_eq-Decides s.dirty s.dirty).1 refl)) ∙ rows_own s.rows
 
 -- ---- what is due
 

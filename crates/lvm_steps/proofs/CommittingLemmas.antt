@@ -1,7 +1,7 @@
 -- A descriptor that differs in one volume keeps the history.
-use Rattle.std.proofs.Common.{◌≡◌, ◌⊎◌, inl, inr, ⊎_elim, ℕ, ◌<◌, true, false, ◌&&◌, List, [], ◌∷◌, ◌++◌, Option, Some, None, refl, sym, ap, subst, ◌∙◌, eq-eqb}
-use Rattle.std.specs.Prelude.{IsTrue, ◌==◌, is_some}
-use Rattle.std.proofs.lemmas.Bool.{eqb-true}
+use Rattle.std.proofs.Common.{◌≡◌, ◌⊎◌, inl, inr, ⊎_elim, ℕ, ◌<◌, true, ◌&&◌, List, [], ◌∷◌, ◌++◌, Option, Some, None, refl, sym, ap, subst, ◌∙◌}
+use Rattle.std.specs.Prelude.{IsTrue, is_some}
+use Rattle.std.proofs.lemmas.Bool.{cases_eq}
 use Rattle.lvm_num.specs.declared.record.Stamp.{Stamp}
 use Rattle.lvm_num.specs.declared.descriptor.PvRow.{PvRow}
 use Rattle.lvm_num.specs.declared.descriptor.LvRow.{LvRow}
@@ -26,7 +26,7 @@ use Rattle.lvm_kept.proofs.ChangesLemmas.Entries.{volume_is_row}
 use Rattle.lvm_kept.proofs.KeptLemmas.{same_block}
 use Rattle.lvm_steps.specs.Committing.{IsServed, CommitKeeps}
 use Rattle.lvm_steps.proofs.GroupLemmas.Revaluing.{new, h, mid, mid_kept, mid_reads, mid_status, mid_members, Behind, behind, members_same, status_same, reads_behind, still_found}
-use Rattle.lvm_steps.proofs.RecordLemmas.{either, clash, split, join, not-itself}
+use Rattle.lvm_steps.proofs.RecordLemmas.{split, join, not-itself}
 
 -- where one row needs a status, there is one
 one_needs : (rows : List LvRow) (s : Option (Stamped Status)) (row : LvRow) → IsOneOf rows row → HasStatus rows s → IsTrue (is_some s)
@@ -36,9 +36,6 @@ one_needs (r ∷ rows) s row one has = has
 each_has : (rows : List LvRow) (s : Option (Stamped Status)) → ((row : LvRow) → IsOneOf rows row → IsTrue (is_some s)) → HasStatus rows s
 each_has [] s each = tt
 each_has (r ∷ rows) s each = each r (inl refl)
-
-same_number : (a b : ℕ) → (a ≡ b) ⊎ (a ≡ b → ⊥)
-same_number a b = ⊎_elim (λ (is : (a == b) ≡ true). inl (eqb-true a b is)) (λ (isnt : (a == b) ≡ false). inr (λ e. clash (a == b) (eq-eqb a b e) isnt)) (either (a == b))
 
 module _ (old : Contents) (shown : ℕ → Option (Stamped Descriptor)) (g : Descriptor) (n : Stamp) (rows : List LvRow)
     (own : (d : ℕ) → (shown d ≡ old.descriptor d) ⊎ ((shown d ≡ Some (record { stamp = n; value = record g { lvs = rows } })) × IsTrue (passes (is_of g.id) (old.descriptor d))))
@@ -85,7 +82,7 @@ module _ (old : Contents) (shown : ℕ → Option (Stamped Descriptor)) (g : Des
       ⊎_elim
       (λ (its : row.number ≡ lv). inr (its, named, is.1, is.2))
       (λ (isnt : row.number ≡ lv → ⊥). inl (subst (λ (x : Descriptor). IsOneOf x.lvs row) (sym is.1) (others row named isnt)))
-      (same_number row.number lv))
+      (cases_eq row.number lv))
       it.how
 
   -- ---- by any quorum's status
@@ -175,7 +172,7 @@ module _ (old : Contents) (shown : ℕ → Option (Stamped Descriptor)) (g : Des
       (λ (its : number ≡ lv). subst (λ (m : ℕ). StandsAs g.mib (volumes_in facts m).standing (volumes_in facts m).shape (volume_of next m)) (sym its) stands)
       (λ (isnt : number ≡ lv → ⊥). subst (λ (o : Option LvRow). StandsAs g.mib (volumes_in facts number).standing (volumes_in facts number).shape o) (sym (volumes number isnt))
       (subst (λ (x : Descriptor). StandsAs x.mib (volumes_in facts number).standing (volumes_in facts number).shape (volume_of x number)) is.1 stood))
-      (same_number number lv)))
+      (cases_eq number lv)))
       it.how
 
   available : (number : ℕ) → IsSettledIn facts number → IsAvailable now facts

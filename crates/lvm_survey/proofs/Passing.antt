@@ -1,18 +1,12 @@
 -- A set of those below a number that pass a test.
-use Rattle.std.proofs.Common.{◌≡◌, inl, inr, ℕ, ◌+◌, ◌<◌, ◌≤◌, Bool, true, false, ◌&&◌, ◌||◌, refl, sym, ap, ◌∙◌, arith}
+use Rattle.std.proofs.Common.{◌≡◌, inl, inr, ℕ, ◌+◌, ◌<◌, ◌≤◌, Bool, true, false, ◌&&◌, ◌||◌, sym, ap, ◌∙◌, arith}
 use Rattle.std.specs.Prelude.{◌==◌, nat_lt}
-use Rattle.std.proofs.lemmas.Bool.{cases_lt, or_right, and_from}
+use Rattle.std.proofs.lemmas.Bool.{cases_lt, or_right, and_from, ne_eqb}
 use Rattle.std.proofs.lemmas.Bool.Decides.{nat_tests, eqb_tells}
 pub use Rattle.std.proofs.lemmas.Bool.{and_right as neither}
+use Rattle.lvm_num.proofs.Booleans.{or_when_false}
 
 -- ---- tests of numbers
-
-or_left : (a b : Bool) → b ≡ false → a || b ≡ a
-or_left true b e = refl
-or_left false b e = e
-
-pub is_other : (d n : ℕ) → (d ≡ n → ⊥) → (d == n) ≡ false
-is_other d n differ = grind (arith, nat_tests)
 
 pub or_itself : (b : Bool) (n : ℕ) → (b || n == n) ≡ true
 or_itself b n = or_right b (n == n) (itself n)
@@ -21,7 +15,7 @@ or_itself b n = or_right b (n == n) (itself n)
     itself n = grind (arith, nat_tests)
 
 pub or_other : (b : Bool) (d n : ℕ) → (d ≡ n → ⊥) → (b || d == n) ≡ b
-or_other b d n differ = or_left b (d == n) (is_other d n differ)
+or_other b d n differ = or_when_false b (d == n) (ne_eqb d n differ)
 
 pub lt_none : (d : ℕ) → nat_lt d 0 ≡ false
 lt_none d = grind (arith, nat_tests)
@@ -48,7 +42,7 @@ PassBelow test i set = (d : ℕ) → set d ≡ nat_lt d i && test d
 pub one_taken : (test set more : ℕ → Bool) (i : ℕ) → PassBelow test i set → test i ≡ true → ((d : ℕ) → more d ≡ set d || d == i) → PassBelow test (i + 1) more
 one_taken test set more i old own new d = elim (eqb_tells d i) [
   | inl same ↦ new d ∙ or_right (set d) (d == i) same.0 ∙ sym (and_from (nat_lt d (i + 1)) (test d) (lt_same d i same.1) (ap test same.1 ∙ own))
-  | inr differ ↦ new d ∙ or_left (set d) (d == i) differ.0 ∙ old d ∙ ap (λ b. b && test d) (sym (lt_other d i differ.1))
+  | inr differ ↦ new d ∙ or_when_false (set d) (d == i) differ.0 ∙ old d ∙ ap (λ b. b && test d) (sym (lt_other d i differ.1))
 ]
 
 -- or it doesn't, and the set stays

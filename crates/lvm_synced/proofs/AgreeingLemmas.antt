@@ -2,6 +2,7 @@
 use Rattle.std.proofs.Common.{◌≡◌, ◌⊎◌, inl, inr, ⊎_elim, ℕ, ◌+◌, ◌++◌, ◌&&◌, ◌==◌, Bool, true, false, not, List, Option, Some, None, refl, sym, ap, subst, ◌∙◌}
 use Rattle.std.specs.Prelude.{IsTrue, IsFalse, nat_le, nat_lt, slice_get, unwrap_or}
 use Rattle.std.specs.Option.{option_map}
+use Rattle.std.proofs.lemmas.Bool.{and_parts}
 use Rattle.lvm_num.specs.declared.descriptor.Descriptor.{Descriptor}
 use Rattle.lvm_num.specs.declared.descriptor.LvRow.{LvRow}
 use Rattle.lvm_num.specs.declared.descriptor.Mode.{Mode}
@@ -28,17 +29,13 @@ use Rattle.lvm_session.specs.State.{Core, State, is_there}
 use Rattle.lvm_invariant.specs.State.{Going, Live, ModelPhase, Queued, Started, ModelState, covers, is_settled_stale, stale_in, told}
 use Rattle.lvm_invariant.specs.Sound.{Agree, MayDiffer, Quiescent}
 use Rattle.lvm_num.specs.Modes.{is_active, is_passive}
+use Rattle.lvm_num.proofs.Booleans.{clash_gives}
 use Rattle.lvm_crash.specs.Session.{as_marks, members_showing}
-use Rattle.lvm_tie_shelf.proofs.WritingLemmas.{and_both}
 use Rattle.lvm_tie.specs.Seen.{IsRequestAt, IsStepAt, SeesRequest, phase_seen}
 use Rattle.lvm_tie.specs.Tied.{IsTied}
 use Rattle.lvm_tie.proofs.StateLemmas.{stale_seen, there_first}
 use Rattle.lvm_tie.proofs.AmongLemmas.{not_true}
 use Rattle.lvm_synced.specs.Agreeing.{AgreeWith, IsCalm, IsLiveOn, IsSettledAt, IsUsableOf, LiveAgree, goes_over, has_started, stands_at}
-
-not_both : {X : Type 0} (b : Bool) → b ≡ true → b ≡ false → X
-not_both true is isnt = absurd (let e : true ≡ false = isnt in cc e)
-not_both false is isnt = absurd (let e : false ≡ true = is in cc e)
 
 and_self : (a : Bool) → a && true ≡ a && a
 and_self true = refl
@@ -84,7 +81,7 @@ module _ (past : List Fact) (s : State) (tied : IsTied past s) where
 
     usable_live : (c : Pp) → IsUsableOf core row lp c → IsLiveOn shown core row lp c
     usable_live c it =
-        let parts = and_both (is_member group c.disk) (not (is_missing core c.disk)) it.there in
+        let parts = and_parts (is_member group c.disk) (not (is_missing core c.disk)) it.there in
         record {
           copy = it.copy;
           shows = tied.recorded.members c.disk parts.0 (there_first past s tied c.disk (not_true (is_missing core c.disk) parts.1));
@@ -108,14 +105,14 @@ module _ (past : List Fact) (s : State) (tied : IsTied past s) where
             let same : q.0 ≡ r = some_same q.0 r (sym q.1 ∙ ap v.queue k.its ∙ started.there) in
             let seen : SeesRequest k.request r = subst (SeesRequest k.request) same q.2 in
             let calm = at.calm k.place k.request k.there (sym seen.write ∙ started.write) (going_started k.request.request.phase (is_begun k.request.request.targets.items) (sym seen.phase ∙ started.going)) in
-            not_both (goes_over k.request.request.ask row.number b)
+            clash_gives (goes_over k.request.request.ask row.number b)
             ((λ t. (sym seen.lv t == row.number) && nat_le (sym seen.first t) b && nat_lt b (sym seen.first t + sym seen.count t)) ∙ over) calm
 
         by_step : IsStepAt core i → ⊥
         by_step k =
             let q = tied.sees.queue.a_step k.copy k.is_open k.row in
             let same : q.0 ≡ r = some_same q.0 r (sym q.1 ∙ ap v.queue k.its ∙ started.there) in
-            not_both r.write started.write (ap (λ (x : Queued). x.write) (sym same) ∙ q.2.write)
+            clash_gives r.write started.write (ap (λ (x : Queued). x.write) (sym same) ∙ q.2.write)
 
     module _ (c : Pp) (usable : IsUsableOf core row lp c) (p : Pp) (other : IsLiveOn shown core row lp p) where
       abbrev first : Live v row.number b c
@@ -125,11 +122,11 @@ module _ (past : List Fact) (s : State) (tied : IsTied past s) where
       second = live p other
 
       differs : (mode : Mode) → row.mode ≡ mode → (active : Bool) → active ≡ is_active mode → MayDiffer v row.number b active → ⊥
-      differs mode is true notes differ = not_both (v.missing c.disk) (differ c first).0 (isnt_missing c usable)
+      differs mode is true notes differ = clash_gives (v.missing c.disk) (differ c first).0 (isnt_missing c usable)
       differs Active is false notes differ = absurd (cc notes)
-      differs Passive is false notes (inl loose) = not_both (told v row.number b).loose loose (tied.good.sound.tied.tight row.number b c first.copy (inr (tied.describes.volumes.mark row at.volume ∙ ap is_passive is)))
-      differs mode is false notes (inr dirty) = not_both (v.missing c.disk) (dirty.missing c first) (isnt_missing c usable)
-      differs Off is false notes (inl loose) = not_both (told v row.number b).loose loose (ap (λ (facts : List Fact). (known facts (Lv row.number) b).loose) tied.sees.facts ∙ at.tight is)
+      differs Passive is false notes (inl loose) = clash_gives (told v row.number b).loose loose (tied.good.sound.tied.tight row.number b c first.copy (inr (tied.describes.volumes.mark row at.volume ∙ ap is_passive is)))
+      differs mode is false notes (inr dirty) = clash_gives (v.missing c.disk) (dirty.missing c first) (isnt_missing c usable)
+      differs Off is false notes (inl loose) = clash_gives (told v row.number b).loose loose (ap (λ (facts : List Fact). (known facts (Lv row.number) b).loose) tied.sees.facts ∙ at.tight is)
 
       agrees : Quiescent v row.number b → stands_at s tied.media p b ≡ stands_at s tied.media c b
       agrees settled = ⊎_elim

@@ -38,6 +38,7 @@ use Rattle.lvm_session.specs.Ends.{keeps_buffer, learned, after_data}
 use Rattle.lvm_sched.specs.Writes.{is_waiting as target_waits}
 use Rattle.lvm_invariant.specs.State.{Stage, Going, Queued}
 use Rattle.lvm_num.specs.Descriptor.{is_pp}
+use Rattle.lvm_num.proofs.Booleans.{clash_gives}
 use Rattle.lvm_invariant.specs.Events.{Read}
 use Rattle.lvm_invariant.proofs.EventsLemmas.Each.{each_keeps}
 use Rattle.lvm_crash.specs.Session.{members_showing, Describes}
@@ -50,7 +51,6 @@ use Rattle.lvm_tie.proofs.SeenLemmas.Changing.{stage_after, same_long, step_apar
 use Rattle.lvm_tie.proofs.StateLemmas.{aimed_of}
 use Rattle.lvm_tie.proofs.TiedLemmas.Orderly.{AreOut, HasTargets, HaveNumbers, HaveTickets, IsDataOut, IsOut, begun_by, numbers_of, orderly_same, out_of, targets_of, tickets_of, valid_of}
 use Rattle.lvm_tie.proofs.TiedLemmas.Tied.{stage_found}
-use Rattle.lvm_tie.proofs.AmongLemmas.{clash}
 use Rattle.lvm_tie.specs.Out.{CarriesStep, CarryTheirs, MayUpdate}
 use Rattle.lvm_tie.specs.Seen.{stage_seen, stage_at, phase_seen, SeesRequest, update_of}
 use Rattle.lvm_tie.specs.Tied.{IsTied, ShowsRecords}
@@ -285,7 +285,7 @@ module _ (past : List Fact) (old new : State) (index : ℕ) (ends : Ends old new
       let entails : Entails core2 o2 ends.ok t.pp new.core = subst (λ (x : Open). Entails core2 x ends.ok t.pp new.core) learned_is (subst (λ (c : Core). Entails c (learned o number ends.ok ends.buf) ends.ok t.pp new.core) after_is learns.entails) in
       let marks : WantsStale (λ p. is_among (due_of core2 o2.request) p || false) core2.status new.core.status =
       subst (λ (e : Option CopyEnd). WantsStale (λ p. is_among (due_of core2 o2.request) p || marked_by_end core2 e p) core2.status new.core.status) no_end entails.marks in
-      let same : new.core.status ≡ core2.status = marks.same (λ p due. clash (is_among (due_of core2 o2.request) p || false) due (none_due p)) in
+      let same : new.core.status ≡ core2.status = marks.same (λ p due. clash_gives (is_among (due_of core2 o2.request) p || false) due (none_due p)) in
       let is : new.core ≡ core2 = entails.is ∙ ap (λ (e : Option CopyEnd). record (with_copy_end core2 e) { status = new.core.status }) no_end ∙ ap (λ (s : Stored). record core2 { status = s }) same in
       let whole : new ≡ state new.device core2 = λ k. record { device = new.device; core = is k } in
       subst (IsTied past) (sym whole) (record {

@@ -6,6 +6,7 @@ use Rattle.std.proofs.lemmas.Bool.{cases_eq}
 use Rattle.std.proofs.lemmas.Bool.Decides.{nat_tests}
 use Rattle.std.proofs.lemmas.Option.{same_Some}
 use Rattle.lvm_num.specs.declared.place.Pp.{Pp}
+use Rattle.lvm_num.proofs.Booleans.{clash_gives}
 use Rattle.lvm_vol.specs.Facts.{Fact, Taken}
 use Rattle.lvm_disk.specs.Device.{Flight, Device, image_of}
 use Rattle.lvm_kept.specs.Contents.{contents_of}
@@ -33,7 +34,7 @@ use Rattle.lvm_invariant.proofs.EventsLemmas.Each.{each_keeps}
 use Rattle.lvm_crash.specs.Session.{Describes}
 use Rattle.lvm_tie_shelf.proofs.RecordsLemmas.Quiet.{quiet_lasts}
 use Rattle.lvm_tie.proofs.OutLemmas.Ties.{carry_on}
-use Rattle.lvm_tie.proofs.AmongLemmas.{clash, or_true}
+use Rattle.lvm_tie.proofs.AmongLemmas.{or_true}
 use Rattle.lvm_tie.specs.Out.{CarriesStep}
 use Rattle.lvm_tie.specs.Seen.{IsRequestAt, IsStepAt, Sees, SeesHand, SeesStep, step_write_in, step_write_of, update_of}
 use Rattle.lvm_tie.specs.Tied.{IsOrderly, IsTied}
@@ -217,7 +218,7 @@ module _ (past : List Fact) (device : Device) (core : Core) (how : CopyEnd) (nea
       a_step = λ d is row. absurd (no_row d is row);
       only = λ j q at. ⊎_elim
           (λ (r : IsRequestAt core j). inl r)
-          (λ (r : IsStepAt core j). clash (has_row core c) (ap (has_row core) (sym (own r.copy r.is_open)) ∙ r.row) none_there)
+          (λ (r : IsStepAt core j). clash_gives (has_row core c) (ap (has_row core) (sym (own r.copy r.is_open)) ∙ r.row) none_there)
           (near.sees.queue.only j q at);
       names = near.sees.queue.names;
     };

@@ -2,6 +2,7 @@
 use Rattle.std.proofs.Common.{◌≡◌, inl, inr, ℕ, zero, suc, ◌+◌, ◌<◌, Bool, true, false, ◌&&◌, not, List, [], ◌∷◌, refl, sym, ap, subst, ◌∙◌, arith}
 use Rattle.std.specs.Prelude.{IsTrue, IsFalse}
 use Rattle.std.specs.List.{list_any, range_with_len}
+use Rattle.std.proofs.lemmas.Bool.{and_parts}
 use Rattle.lvm_num.specs.declared.place.Pp.{Pp}
 use Rattle.lvm_num.specs.declared.descriptor.Descriptor.{Descriptor}
 use Rattle.lvm_num.specs.declared.descriptor.LvRow.{LvRow}
@@ -9,6 +10,7 @@ use Rattle.lvm_num.specs.declared.status.Status.{Status}
 use Rattle.lvm_num.specs.Descriptor.{IsValid, copies_of, is_member, is_pp}
 use Rattle.lvm_num.specs.Disks.{Disks}
 use Rattle.lvm_num.specs.Status.{calls_stale}
+use Rattle.lvm_num.proofs.Booleans.{clash_gives}
 use Rattle.lvm_status.specs.Update.{members_there}
 use Rattle.lvm_kept.specs.Group.{IsOneOf}
 use Rattle.lvm_stale.specs.Marking.{IsLeftIn, is_served}
@@ -17,8 +19,8 @@ use Rattle.lvm_tie.specs.passed.Names.{NoneIsLeft, there}
 use Rattle.lvm_session.specs.State.{Core}
 use Rattle.lvm_session.specs.Judging.{is_missing, is_stale, is_usable, is_wanted_stale}
 use Rattle.lvm_session.specs.Marks.{can_replace, is_among, is_entailed, is_entailed_in, is_left_behind}
-use Rattle.lvm_tie.proofs.AmongLemmas.{any_one, clash, not_true, or_true}
-use Rattle.lvm_tie.proofs.passed.Names.{and_both, pp_same}
+use Rattle.lvm_tie.proofs.AmongLemmas.{any_one, not_true, or_true}
+use Rattle.lvm_tie.proofs.passed.Names.{pp_same}
 
 -- ---- lists
 
@@ -52,8 +54,8 @@ module _ (core : Core) (valid : IsValid core.descriptor) (group : core.status.gr
   module _ (row : LvRow) (volume : IsOneOf core.descriptor.lvs row) (lp : ℕ) where
     serves : (q : Pp) → IsOneOf (copies_of row lp) q → can_replace core q ≡ true → present q.disk && not (calls_stale core.status.wanted q) ≡ true
     serves q one can =
-        let both = and_both (is_usable core q) (not (is_wanted_stale core q)) can in
-        let usable = and_both (not (is_stale core q)) (not (is_missing core q.disk)) both.0 in
+        let both = and_parts (is_usable core q) (not (is_wanted_stale core q)) can in
+        let usable = and_parts (not (is_stale core q)) (not (is_missing core q.disk)) both.0 in
         let member : is_member core.descriptor q.disk ≡ true = is_member_of core.descriptor q (copy_is_placed core.descriptor valid row lp q volume one) in
         let here : present q.disk ≡ true = same_there q.disk ∙ ap (λ (b : Bool). b && not (is_missing core q.disk)) member ∙ usable.1 in
         ap (λ (b : Bool). b && not (calls_stale core.status.wanted q)) here ∙ both.1
@@ -61,9 +63,9 @@ module _ (core : Core) (valid : IsValid core.descriptor) (group : core.status.gr
     left_behind : lp < row.lps → is_left_behind core (copies_of row lp) p ≡ true → IsTrue (calls_stale core.status.wanted p) × (calls_stale core.status.wanted p ≡ false)
     left_behind low is =
         let stale_not = not (is_stale core p) in
-        let all = and_both (is_among (copies_of row lp) p && stale_not && is_missing core p.disk) (list_any (can_replace core) (copies_of row lp)) is in
-        let three = and_both (is_among (copies_of row lp) p && stale_not) (is_missing core p.disk) all.0 in
-        let two = and_both (is_among (copies_of row lp) p) stale_not three.0 in
+        let all = and_parts (is_among (copies_of row lp) p && stale_not && is_missing core p.disk) (list_any (can_replace core) (copies_of row lp)) is in
+        let three = and_parts (is_among (copies_of row lp) p && stale_not) (is_missing core p.disk) all.0 in
+        let two = and_parts (is_among (copies_of row lp) p) stale_not three.0 in
         let among = any_one (is_pp p) (copies_of row lp) two.0 in
         let one : IsOneOf (copies_of row lp) p = subst (IsOneOf (copies_of row lp)) (sym (pp_same p among.0 among.2)) among.1 in
         let other = any_one (can_replace core) (copies_of row lp) all.1 in
@@ -83,4 +85,4 @@ module _ (core : Core) (valid : IsValid core.descriptor) (group : core.status.gr
           let l = any_one (λ (lp : ℕ). is_left_behind core (copies_of v.0 lp) p) (range_with_len 0 v.0.lps) v.2 in
           let low : l.0 < v.0.lps = let high = below 0 v.0.lps l.0 l.1 in omega (arith, high) in
           let both = left_behind v.0 v.1 l.0 low l.2 in
-          clash (calls_stale core.status.wanted p) both.0 both.1
+          clash_gives (calls_stale core.status.wanted p) both.0 both.1

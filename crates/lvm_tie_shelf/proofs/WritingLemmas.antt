@@ -2,7 +2,7 @@
 use Rattle.std.proofs.Common.{◌≡◌, ◌⊎◌, inl, inr, ⊎_elim, ℕ, ◌+◌, ◌-◌, ◌<◌, ◌≤◌, Bool, true, false, ◌&&◌, List, [], length, Option, Some, None, refl, sym, ap, subst, ◌∙◌, arith}
 use Rattle.std.specs.Prelude.{IsTrue, nat_lt, if◌then◌else◌, slice_get, unwrap_or}
 use Rattle.std.proofs.lemmas.Bool.Decides.{nat_tests}
-use Rattle.std.proofs.lemmas.Bool.{and_from}
+use Rattle.std.proofs.lemmas.Bool.{and_from, and_parts}
 use Rattle.lvm_num.specs.declared.place.Pp.{Pp}
 use Rattle.lvm_num.specs.declared.descriptor.Descriptor.{Descriptor}
 use Rattle.lvm_num.specs.declared.status.Status.{Status}
@@ -104,10 +104,6 @@ module _ (sizes : List ℕ) (m n : Media) where
 
 -- ---- a write of a request
 
-pub and_both : (a b : Bool) → IsTrue (a && b) → IsTrue a × IsTrue b
-and_both true b h = (refl, h)
-and_both false b h = absurd cc
-
 module _ (votes : Votes) (s : ModelState) (i : ℕ) (r : Queued) (c : Pp) (value : ℕ → Sector) (group : Descriptor) (in_flight : Option (Stamped Status)) (sizes : List ℕ) (m n : Media) (f : Flight) (well : Bool)
     (valid : IsValid group) (good : Good votes s) (describes : Describes s s.facts group in_flight (contents_of (image_of sizes m)))
     (there : s.queue i ≡ Some r) (aimed : IsTrue (s.is_copy r.lv r.first c)) (transfer : IsTransfer group.mib r value c f) (lands : Lands f well m n) where
@@ -183,7 +179,7 @@ module _ (votes : Votes) (s : ModelState) (i : ℕ) (r : Queued) (c : Pp) (value
   seen_new : (lv b : ℕ) (e : Pp) (t : Bool) → (covers r lv b && is_pp e c) ≡ t → (block lv b e ≡ s.media.block lv b e) ⊎ (IsTrue (covers r lv b) × (e ≡ c) × (block lv b e ≡ value b))
   seen_new lv b e false test = inl (ap (λ t. if t then block_at after group.mib e b else s.media.block lv b e) test)
   seen_new lv b e true test =
-      let both = and_both (covers r lv b) (is_pp e c) test in
+      let both = and_parts (covers r lv b) (is_pp e c) test in
       let own : e ≡ c = pp_same e c both.1 in
       let copy : IsTrue (s.is_copy lv b e) = subst (λ p. IsTrue (s.is_copy lv b p)) (sym own) (copy_here lv b both.0) in
       let chosen : block lv b e ≡ block_at after group.mib e b = ap (λ t. if t then block_at after group.mib e b else s.media.block lv b e) test in

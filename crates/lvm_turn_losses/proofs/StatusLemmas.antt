@@ -5,6 +5,7 @@ use Rattle.lvm_num.specs.declared.place.Pp.{Pp}
 use Rattle.lvm_num.specs.declared.status.Status.{Status}
 use Rattle.lvm_num.specs.Status.{calls_missing, calls_stale}
 use Rattle.lvm_num.specs.Descriptor.{is_pp}
+use Rattle.lvm_num.proofs.Booleans.{not_so}
 use Rattle.lvm_status.specs.declared.change.Change.TheVariants as change
 use Rattle.lvm_status.specs.Update.{Stored, Updates, is_held, is_owed, no_disks, seen}
 use Rattle.lvm_status.specs.Calls.{BecomesMissing, WantsAtEnd, after_end, closed, comes_held, given_up, with_commit, with_end, with_start}
@@ -12,7 +13,7 @@ use Rattle.lvm_session.specs.Ends.{LosesDisk}
 use Rattle.lvm_session.specs.Events.{Begins}
 use Rattle.lvm_session.specs.Marks.{WantsDirty, WantsFresh, WantsStale}
 use Rattle.lvm_session.specs.Turns.{SaysTheSame}
-use Rattle.lvm_keeps_events.proofs.passed.Names.{both, not_so}
+use Rattle.lvm_keeps_events.proofs.passed.Names.{both}
 
 -- the status in flight, or else the committed one
 abbrev pub flown : Stored → Status

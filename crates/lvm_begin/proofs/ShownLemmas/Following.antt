@@ -14,7 +14,7 @@ use Rattle.lvm_num.specs.StatusBytes.{status_of}
 use Rattle.lvm_num.specs.Record.{slot_start, stamp_lt, longest_content}
 use Rattle.lvm_num.specs.Torn.{AllBefore, stamp_of}
 use Rattle.lvm_num.proofs.TornLemmas.Torn.{sectors-fit}
-use Rattle.lvm_num.proofs.Booleans.{clash}
+use Rattle.lvm_num.proofs.Booleans.{clash, place_below, place_turns}
 use Rattle.lvm_rec.specs.Slots.{slot_for}
 use Rattle.lvm_disk.specs.Device.{Image, Range, image_of}
 use Rattle.lvm_kept.specs.Contents.{has_records, note_sector}
@@ -26,7 +26,6 @@ use Rattle.lvm_kept.proofs.TornLemmas.Records.{earlier_stays}
 use Rattle.lvm_rec.specs.declared.homes.Homes.{Homes}
 use Rattle.lvm_rec.specs.Homes.{second_slots, next_slot}
 use Rattle.lvm_write.proofs.WrittenLemmas.Writing.{told_at, changes_more}
-use Rattle.lvm_write.proofs.ShowsLemmas.{slot_two, turns}
 use Rattle.lvm_begin.specs.Beginning.{Beginning, Part, TheDescriptor, TheStatus, TheNotes, describes, states, brought, IsOfParts}
 use Rattle.lvm_begin.specs.Ends.{BothFlip}
 use Rattle.lvm_begin.specs.Shown.{TargetsSpareNewest, OthersSpareNewest, RangesAreOfRecords, StampsAreOfBeginning}
@@ -51,9 +50,9 @@ targets_spare_newest b group status parts next old new was is told_old told_new 
     let by_descriptor = changes_more (IsOfParts b parts) (IsOtherOrRecord (describes b)) start now (beside_descriptors b describe.frames.content state.frames.content parts) by in
     let by_status = changes_more (IsOfParts b parts) (IsOtherOrRecord (states b)) start now (beside_statuses b describe.frames.content state.frames.content parts) by in
     record {
-      descriptor = flipped kind.Descriptor b next d flips target ∙ turns (second_slots kind.Descriptor b.homes d) (slot_for descriptor_of kind.Descriptor (is d))
+      descriptor = flipped kind.Descriptor b next d flips target ∙ place_turns (second_slots kind.Descriptor b.homes d) (slot_for descriptor_of kind.Descriptor (is d))
           (other_comes_next Descriptor descriptor_of (describes b) group start now describe by_descriptor d target (told_at new.media (λ m. StandsOn (describes b) (image_of new.sizes m) d) is told_new described));
-      status = flipped kind.Status b next d flips target ∙ turns (second_slots kind.Status b.homes d) (slot_for status_of kind.Status (is d))
+      status = flipped kind.Status b next d flips target ∙ place_turns (second_slots kind.Status b.homes d) (slot_for status_of kind.Status (is d))
           (other_comes_next Status status_of (states b) status start now state by_status d target (told_at new.media (λ m. StandsOn (states b) (image_of new.sizes m) d) is told_new stated));
     }
 
@@ -102,7 +101,7 @@ module _ (b : Beginning) (fits_descriptor : length b.descriptor.content ≤ long
 
   -- the sector behind each of these places is in none of them
   not_behind : (s : ℕ) → (s ≡ 9) ⊎ (s ≡ 128 + 64 * status_slot) ⊎ (s ≡ 1664 + 1152 * descriptor_slot) → IsPlace s → ⊥
-  not_behind s which place = apart descriptor_slot status_slot (slot_two (second_slots kind.Descriptor b.homes d)) (slot_two (second_slots kind.Status b.homes d)) which place
+  not_behind s which place = apart descriptor_slot status_slot (place_below (second_slots kind.Descriptor b.homes d)) (place_below (second_slots kind.Status b.homes d)) which place
     where
       apart : (i j : ℕ) → i < 2 → j < 2 → (s ≡ 9) ⊎ (s ≡ 128 + 64 * j) ⊎ (s ≡ 1664 + 1152 * i) → (s ≡ 8) ⊎ ((64 + 64 * j ≤ s) × (s < 128 + 64 * j)) ⊎ ((512 + 1152 * i ≤ s) × (s < 1664 + 1152 * i)) → ⊥
       apart i j li lj (inl e) (inl f) = omega (arith, e, f)
@@ -129,7 +128,7 @@ module _ (b : Beginning) (fits_descriptor : length b.descriptor.content ≤ long
       by_first (inl note) = inl (omega (arith, note), ends 9 (omega (arith, note)) (λ place. not_behind 9 (inl refl) place))
       by_first (inr (inl in_status)) = inr (inl (
         status_slot,
-        slot_two (second_slots kind.Status b.homes d),
+        place_below (second_slots kind.Status b.homes d),
         (
           in_status.0,
           let within = ends (128 + 64 * status_slot) in_status.1 (λ place. not_behind (128 + 64 * status_slot) (inr (inl refl)) place) in omega (arith, within),
@@ -137,7 +136,7 @@ module _ (b : Beginning) (fits_descriptor : length b.descriptor.content ≤ long
       ))
       by_first (inr (inr in_descriptor)) = inr (inr (
         descriptor_slot,
-        slot_two (second_slots kind.Descriptor b.homes d),
+        place_below (second_slots kind.Descriptor b.homes d),
         (
           in_descriptor.0,
           let within = ends (1664 + 1152 * descriptor_slot) in_descriptor.1 (λ place. not_behind (1664 + 1152 * descriptor_slot) (inr (inr refl)) place) in omega (arith, within),
@@ -172,9 +171,9 @@ stamps_are_of_beginning b parts old new describes_frames states_frames describes
     all_before kind slot two k inside magic = later_too (stamp_of (old.sector d (slot_start kind slot + k))) b.epoch (before kind d slot was_there two k inside magic)
 
     by_kind : (kind : Kind) → AllBefore kind (record { epoch = b.epoch; seq = 3 }) (slot_start kind slot) (new.sector d)
-    by_kind kind.Descriptor = earlier_stays (describes b) (record { epoch = b.epoch; seq = 3 }) old new describes_frames (λ e. slot_two (second_slots kind.Descriptor b.homes e))
+    by_kind kind.Descriptor = earlier_stays (describes b) (record { epoch = b.epoch; seq = 3 }) old new describes_frames (λ e. place_below (second_slots kind.Descriptor b.homes e))
         (changes_more (IsOfParts b parts) (IsOtherOrRecord (describes b)) old new (beside_descriptors b describes_frames.content states_frames.content parts) by)
         (of_session b.descriptor.stamp b.epoch describes_in.0 describes_in.1) d (all_before kind.Descriptor) slot two
-    by_kind kind.Status = earlier_stays (states b) (record { epoch = b.epoch; seq = 3 }) old new states_frames (λ e. slot_two (second_slots kind.Status b.homes e))
+    by_kind kind.Status = earlier_stays (states b) (record { epoch = b.epoch; seq = 3 }) old new states_frames (λ e. place_below (second_slots kind.Status b.homes e))
         (changes_more (IsOfParts b parts) (IsOtherOrRecord (states b)) old new (beside_statuses b describes_frames.content states_frames.content parts) by)
         (of_session b.status.stamp b.epoch states_in.0 states_in.1) d (all_before kind.Status) slot two

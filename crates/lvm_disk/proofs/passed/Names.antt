@@ -1,5 +1,5 @@
 -- Passed on from the crates below.
-pub use Rattle.lvm_num.proofs.Booleans.{clash, first_holds}
+pub use Rattle.lvm_num.proofs.Booleans.{clash, first_holds, without_first}
 pub use Rattle.lvm_num.proofs.RecordLemmas.Newest.{is_last, is_one}
 pub use Rattle.lvm_num.proofs.RecordLemmas.Records.{joined-same}
 pub use Rattle.lvm_num.proofs.TornLemmas.Torn.{sectors-fit}

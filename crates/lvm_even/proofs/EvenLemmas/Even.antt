@@ -1,6 +1,7 @@
 -- Group commands keep usable copies even, by what they may write.
 use Rattle.std.proofs.Common.{◌≡◌, ◌⊎◌, inl, inr, ⊎_elim, ℕ, zero, suc, ◌+◌, ◌<◌, ◌≤◌, Bool, true, false, List, [], length, Option, Some, refl, sym, ap, subst, ◌∙◌, arith}
 use Rattle.std.specs.Prelude.{IsTrue, IsFalse, nat_lt, if◌then◌else◌}
+use Rattle.std.proofs.lemmas.Bool.{cases_Bool}
 use Rattle.std.proofs.lemmas.Bool.Decides.{nat_tests}
 use Rattle.lvm_num.specs.declared.place.Pp.{Pp}
 use Rattle.lvm_num.specs.declared.record.Kind.{Kind}
@@ -29,7 +30,6 @@ use Rattle.lvm_rest.specs.Rest.{IsEven}
 use Rattle.lvm_rest.specs.Commands.{IsUsable}
 use Rattle.lvm_commit.proofs.AmongLemmas.{contains, of_map, of_rows}
 use Rattle.lvm_steps.proofs.RecordLemmas.{clash}
-use Rattle.lvm_rest.proofs.Rows.{tested}
 use Rattle.lvm_rest.proofs.CommandsLemmas.{free_keeps_even}
 use Rattle.lvm_even.specs.Even.{AreWanted, MklvKeepsEven, RmlvKeepsEven}
 
@@ -89,7 +89,7 @@ module _ (N : Descriptor → Type 0) (S Z : Pp → Type 0) (old new : State) (wa
         (status.stale p (λ chosen. free p chosen (contains _ p (of_rows old.core.descriptor.lvs row p one (of_map row lp p copy)))) stale)
         (sym (ap (λ (s : Status). calls_stale s p) wanted.after) ∙ usable.fresh)))
         (λ isnt. isnt)
-        (tested (calls_stale old.core.status.wanted p));
+        (cases_Bool (calls_stale old.core.status.wanted p));
   }
 
   pub kept_even : IsEven (contents_of before) old.core.descriptor (Some stood) (is_there old.core) → IsEven (contents_of after) old.core.descriptor (Some stands) (is_there new.core)

@@ -10,6 +10,7 @@ use Rattle.lvm_num.specs.declared.descriptor.Mode.TheVariants as mode
 use Rattle.lvm_num.specs.declared.status.Status.{Status}
 use Rattle.lvm_num.specs.Status.{calls_stale, calls_missing}
 use Rattle.lvm_num.proofs.DisksLemmas.{has-zero, has-with}
+use Rattle.lvm_num.proofs.Booleans.{not_so, not_either, neither_holds, second_of_three}
 use Rattle.lvm_disk.specs.declared.shelf.Arrange.TheVariants as arrange
 use Rattle.lvm_status.specs.Update.{is_there, seen}
 use Rattle.lvm_status.specs.Runs.{IsSoundStatus}
@@ -23,7 +24,6 @@ use Rattle.lvm_keeps.proofs.KeepsLemmas.Off.{off_keeps}
 use Rattle.lvm_keeps.proofs.KeepsLemmas.Orders.{order_keeps}
 use Rattle.lvm_keeps.proofs.KeepsLemmas.Losing.{loss_is_caused}
 use Rattle.lvm_faulted.specs.Faulted.{EndedSessionsAreSound, LostVotesAreSound, lost, off, dark, without_disks}
-use Rattle.lvm_session.proofs.Small.{not_so, not_either}
 use Rattle.lvm_session.proofs.WorkedLemmas.Parts.{has_fresh, not_marked, none_missing_at_first as none_missing}
 use Rattle.lvm_session.proofs.SoundLemmas.{sound_while_on}
 use Rattle.lvm_faulted.proofs.FaultedLemmas.Parts.{behind, fitting, is_missing_so, none_stale, origin, request, stale_there, told, which_missing}
@@ -92,17 +92,6 @@ none_made m = refl
 ends : (m : Mode) → GoesOff (lost m) (off m)
 ends m = record { lost = is_lost_so m; idle = refl; is = refl }
 
--- what the status in flight calls stale is wanted so
-still_wanted : (a b : Bool) {X : Type 0} → a ≡ false → a || b ≡ true → b ≡ false → X
-still_wanted true b none is not = not_either none
-still_wanted false true none is not = not_either not
-still_wanted false false none is not = not_so is
-
-either_wanted : (a b : Bool) → a ≡ false → (a || b) || b ≡ true → b ≡ true
-either_wanted true b none is = not_either none
-either_wanted false true none is = refl
-either_wanted false false none is = is
-
 module _ (held : HeldWritesAreSound) (m : Mode) where
   fits : IsFitting (lost m).core
   fits = let f = fitting held m true in record { valid = f.valid; id = refl; rows = f.rows; group = refl; entries = f.entries; notes = f.notes; table = f.table; most = f.most; queue = refl; a_buffer = f.a_buffer; buffers = f.buffers; last = f.last; room = f.room }
@@ -137,7 +126,7 @@ module _ (held : HeldWritesAreSound) (m : Mode) where
     behind = behind m true;
     reviewed = refl;
     fresh = has_fresh m (lost m).core (first_stays m);
-    clearings = λ p is not. still_wanted (calls_stale (status_of fresh) p) (calls_stale (without_disks false) p) (none_stale p) is not;
+    clearings = λ p is not. neither_holds (calls_stale (status_of fresh) p) (calls_stale (without_disks false) p) (none_stale p) is not;
     numbers = numbers m;
   }
 
@@ -147,7 +136,7 @@ module _ (held : HeldWritesAreSound) (m : Mode) where
     votes = o.votes;
     still_missing = o.still_missing;
     missing = o.missing;
-    stale = λ p is. inr (inl (is_missing_so true p.disk (inl (stale_there true p (either_wanted (calls_stale (status_of fresh) p) (calls_stale (without_disks true) p) (none_stale p) is)))));
+    stale = λ p is. inr (inl (is_missing_so true p.disk (inl (stale_there true p (second_of_three (calls_stale (status_of fresh) p) (calls_stale (without_disks true) p) (none_stale p) is)))));
   }
 
   sound : IsSound (lost m)

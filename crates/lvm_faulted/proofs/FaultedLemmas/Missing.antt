@@ -6,6 +6,7 @@ use Rattle.lvm_num.specs.Votes.{votes_by}
 use Rattle.lvm_num.specs.declared.descriptor.Mode.{Mode}
 use Rattle.lvm_num.specs.declared.descriptor.Mode.TheVariants as mode
 use Rattle.lvm_num.specs.Status.{calls_stale}
+use Rattle.lvm_num.proofs.Booleans.{not_so, not_either}
 use Rattle.lvm_status.specs.Update.{seen}
 use Rattle.lvm_status.specs.Runs.{IsSoundStatus}
 use Rattle.lvm_session.specs.declared.event.Event.TheVariants as event
@@ -14,7 +15,6 @@ use Rattle.lvm_session.specs.Left.{updates_left}
 use Rattle.lvm_session.specs.Sound.{IsGoing, IsSound, stays_fresh}
 use Rattle.lvm_session.specs.Worked.{HeldWritesAreSound, first_copy, fresh, status_of}
 use Rattle.lvm_faulted.specs.Faulted.{MissingDisksAreSound, missing_disk, wanting}
-use Rattle.lvm_session.proofs.Small.{not_so, not_either}
 use Rattle.lvm_session.proofs.WorkedLemmas.Parts.{idle_is_sound, none_written, has_fresh, none_missing_at_first as none_missing}
 use Rattle.lvm_session.proofs.SoundLemmas.{sound_while_on}
 use Rattle.lvm_faulted.proofs.FaultedLemmas.Parts.{behind, fitting, none_stale, origin, request, told}

@@ -8,6 +8,7 @@ use Rattle.lvm_num.specs.declared.place.Pp.{Pp}
 use Rattle.lvm_num.specs.declared.descriptor.Mode.{Mode}
 use Rattle.lvm_num.specs.Status.{calls_missing, calls_stale}
 use Rattle.lvm_num.proofs.BitsLemmas.{has-none}
+use Rattle.lvm_num.proofs.Booleans.{not_so, not_either}
 use Rattle.lvm_disk.specs.Counts.{Rose}
 use Rattle.lvm_path.specs.declared.request.Phase.TheVariants as phase
 use Rattle.lvm_session.specs.State.{state}
@@ -17,7 +18,6 @@ use Rattle.lvm_session.specs.Requests.{IsOpenOne}
 use Rattle.lvm_session.specs.Causes.{FailedSince, IsTrueToOrigin}
 use Rattle.lvm_session.specs.Sound.{IsFitting, IsSound, IsTold}
 use Rattle.lvm_session.specs.Worked.{HeldWritesAreSound, a_write, asking, core_of, faultless, fresh, second_copy, held_write, status_of}
-use Rattle.lvm_session.proofs.Small.{not_so, not_either}
 use Rattle.lvm_session.proofs.WorkedLemmas.Parts.{both_copies, none_missing_at_first as none_missing, zeros_at}
 use Rattle.lvm_faulted.specs.Faulted.{faulted, wanting, without_disks}
 

@@ -1,7 +1,8 @@
 -- A flight starts.
-use Rattle.std.proofs.Common.{◌≡◌, ◌<◌, ◌||◌, ◌==◌, [], ◌∷◌, ◌++◌, ℕ, zero, suc, List, Bool, true, false, cond, Option, Some, None, nat_lt, slice_get, slice_index_or, length, refl, sym, ap, subst, arith}
+use Rattle.std.proofs.Common.{◌≡◌, ◌<◌, ◌==◌, [], ◌∷◌, ◌++◌, ℕ, zero, suc, List, Bool, true, false, cond, Option, Some, None, nat_lt, slice_get, slice_index_or, length, refl, sym, ap, subst, arith}
 use Rattle.std.specs.Bool.{MatchBool}
-use Rattle.std.proofs.lemmas.Bool.Decides.{nat_tests}
+use Rattle.std.proofs.lemmas.Bool.{eqb-false}
+use Rattle.lvm_num.proofs.Booleans.{first_fails, second_fails}
 use Rattle.lvm_disk.specs.Device.{Flight, Range, Device}
 use Rattle.lvm_disk.specs.Counts.{Counts, RoseAt}
 use Rattle.lvm_disk.specs.Steps.{IsRange, IsFresh, Logs, Starts}
@@ -10,21 +11,10 @@ use Rattle.lvm_flights.specs.Tickets.{has_ticket}
 use Rattle.lvm_flights.specs.Log.{logged}
 use Rattle.lvm_flights.specs.declared.flying.Flying.{Flying}
 
-different : (n t : ℕ) → (n == t) ≡ false → n ≡ t → ⊥
-different n t is same = grind (arith, nat_tests)
-
-not_this : (b c : Bool) → (b || c) ≡ false → b ≡ false
-not_this false c is = refl
-not_this true c is = is
-
-not_others : (b c : Bool) → (b || c) ≡ false → c ≡ false
-not_others false c is = is
-not_others true c is = absurd (cc)
-
 -- a ticket that no flight has is fresh
 pub fresh : (flights : List Flight) (t : ℕ) → has_ticket t flights ≡ false → IsFresh t flights
 fresh [] t none = tt
-fresh (f ∷ flights) t none = (different f.ticket t (not_this (f.ticket == t) (has_ticket t flights) none), fresh flights t (not_others (f.ticket == t) (has_ticket t flights) none))
+fresh (f ∷ flights) t none = (eqb-false f.ticket t (first_fails (f.ticket == t) (has_ticket t flights) none), fresh flights t (second_fails (f.ticket == t) (has_ticket t flights) none))
 
 logs_by : (b : Bool) (ranges : List Range) (range : Range) → Logs (Some ranges) range (cond b (Some (ranges ++ range ∷ [])) None)
 logs_by true ranges range = refl

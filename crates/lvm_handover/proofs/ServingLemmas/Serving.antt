@@ -12,6 +12,7 @@ use Rattle.lvm_num.specs.Descriptor.{is_member}
 use Rattle.lvm_num.specs.Disks.{has}
 use Rattle.lvm_num.specs.Status.{calls_stale, calls_missing}
 use Rattle.lvm_num.specs.Votes.{is_enough_to_write, votes_in}
+use Rattle.lvm_num.proofs.Booleans.{clash_gives}
 use Rattle.lvm_disk.specs.Counts.{Rose}
 use Rattle.lvm_disk.proofs.CountingLemmas.{rose_after, rose_before}
 use Rattle.lvm_kept.specs.Group.{IsOneOf}
@@ -39,7 +40,7 @@ use Rattle.lvm_session.specs.Sound.{IsAsked, IsCopy, IsFitting, IsGoing, IsOn, I
 use Rattle.lvm_session.proofs.WorkedLemmas.Parts.{idle_is_sound}
 use Rattle.lvm_earlier.specs.passed.Names.{IsSettled, IsSoundBetween}
 use Rattle.lvm_keeps.proofs.Lists.{count_cons}
-use Rattle.lvm_earlier.proofs.passed.Tie.{any_one, clash, or_true}
+use Rattle.lvm_earlier.proofs.passed.Tie.{any_one, or_true}
 use Rattle.lvm_volumes.specs.Endings.{HasFresh}
 use Rattle.lvm_handover.specs.Serving.{CommandsServe, GoesOnWith, IsServed, is_gone}
 use Rattle.lvm_tie_begins.proofs.MarksLemmas.{not_entailed, passes}
@@ -256,10 +257,10 @@ module _ (added : List Pp) (old new : State) (sound : IsSound old) (began : IsSe
       requests = none_of (IsOpenOne core) core.requests requests;
       copy = nobody (IsCopy core) core.copy copy;
       hands = λ n. let none = hands n in omega (arith, none);
-      behind = λ p entailed. clash (is_entailed core p) entailed (not_entailed core fitting.valid fitting.group is.settled.committed goes.left p);
+      behind = λ p entailed. clash_gives (is_entailed core p) entailed (not_entailed core fitting.valid fitting.group is.settled.committed goes.left p);
       reviewed = of_copy (end_of core) None;
       fresh = fresh;
-      clearings = λ p held clear. clash (is_wanted_stale new.core p) (sym (held_as p) ∙ held) clear;
+      clearings = λ p held clear. clash_gives (is_wanted_stale new.core p) (sym (held_as p) ∙ held) clear;
       numbers = goes.numbers;
     }
 

@@ -11,6 +11,7 @@ use Rattle.lvm_num.specs.declared.place.Pp.{Pp}
 use Rattle.lvm_num.specs.Descriptor.{IsPartitionOf, IsValid, copies_of, is_member, volume_of}
 use Rattle.lvm_num.specs.Geometry.{volume_blocks}
 use Rattle.lvm_num.specs.Status.{calls_stale}
+use Rattle.lvm_num.proofs.Booleans.{second_with_first}
 use Rattle.lvm_disk.specs.Counts.{NoneFalls}
 use Rattle.lvm_disk.proofs.CountingLemmas.{none_falls_at_once}
 use Rattle.lvm_vol.specs.declared.entry.Vol.TheVariants.{Lv}
@@ -74,11 +75,6 @@ copies_at d lv lp row at = ap (λ (o : Option LvRow). option_map_or (λ (row : L
 
 -- ---- what a command leaves, by its contract
 
-not_there : (m b : Bool) → m ≡ true → m && not b ≡ false → b ≡ true
-not_there true true member gone = refl
-not_there true false member gone = absurd (cc gone)
-not_there false b member gone = absurd (cc member)
-
 module _ (old : State) (sound : IsSound old) (began : IsSettled old.core) where
   going : IsGoing old.core
   going = (sound.on began.power).going
@@ -123,7 +119,7 @@ module _ (old : State) (sound : IsSound old) (began : IsSettled old.core) where
         (λ (same : left.group ≡ old.core.descriptor). is_member_of old.core.descriptor p (copy_is_placed old.core.descriptor sound.fitting.valid left.its.row left.its.lp p (subst (λ (g : Descriptor). IsOneOf g.lvs left.its.row) same left.its.volume) left.its.one))
         (λ (next : N left.group). members left.group next left.its.row left.its.lp p left.its.volume left.its.one)
         left.known in
-        not_there (is_member old.core.descriptor p.disk) (is_missing new.core p.disk) member
+        second_with_first (is_member old.core.descriptor p.disk) (is_missing new.core p.disk) member
         (subst (λ (g : Descriptor). IsFalse (members_there g new.core.status.wanted p.disk)) (status.group ∙ sound.fitting.group) left.absent)
 
     pub goes_on : IsValid new.core.descriptor → GoesOnWith added old new

@@ -8,7 +8,7 @@ use Rattle.std.proofs.lemmas.List.{append-nil}
 use Rattle.std.proofs.lemmas.List.Elements.{filter_map-append}
 use Rattle.std.proofs.lemmas.List.Folds.{list_any-append}
 use Rattle.lvm_num.specs.Buffer.{Buffer}
-use Rattle.lvm_num.proofs.Booleans.{or_false}
+use Rattle.lvm_num.proofs.Booleans.{or_false, not_so}
 use Rattle.lvm_vol.specs.declared.entry.Outcome.{Outcome}
 use Rattle.lvm_vol.specs.Facts.{Fact, Request, Landed, begun, begun_by}
 use Rattle.lvm_vol.specs.Log.{asked, got_without_bytes, has_id, is_answered, is_open, landed_fact, lands_id, no_request, request_of, takes_id}
@@ -29,7 +29,7 @@ use Rattle.lvm_session.specs.Dark.{AreOpen, AreTold, IsAscending, ended_as, ende
 use Rattle.lvm_session.specs.Requests.{IsLanded}
 use Rattle.lvm_session.specs.Sound.{IsAsked, count_if, hands_with, is_hand, outcome_by, outcome_in, place_in, waits}
 use Rattle.lvm_keeps.proofs.Lists.{count_cons, length_set}
-use Rattle.lvm_keeps.proofs.Small.{both, is_false, not_so}
+use Rattle.lvm_keeps.proofs.Small.{both, is_false}
 use Rattle.lvm_keeps.proofs.SoundLemmas.Telling.{asked_still, open_still}
 
 -- each is made into another, of which two things hold

@@ -4,6 +4,7 @@ use Rattle.std.specs.Prelude.{IfSome, is_none}
 use Rattle.std.specs.Option.{option_map_or}
 use Rattle.lvm_session.specs.passed.Names.{Flight}
 use Rattle.lvm_num.specs.Descriptor.{is_pp}
+use Rattle.lvm_num.proofs.Booleans.{not_so}
 use Rattle.lvm_session.specs.declared.bringing.CopyEnd.{CopyEnd}
 use Rattle.lvm_session.specs.declared.bringing.OpenCopy.{OpenCopy}
 use Rattle.lvm_session.specs.declared.bringing.Step.{Step}
@@ -25,7 +26,6 @@ use Rattle.lvm_session.specs.Causes.{AreCaused, AreCounted, IsAnswered, IsCaused
 use Rattle.lvm_session.specs.Sound.{IsCopy, IsFitting, IsGoing, IsOn, IsSound, IsTold, count_if, is_hand, waiting_rows, with_row, out_with}
 use Rattle.lvm_keeps.specs.Keeps.{CloseKeeps}
 use Rattle.lvm_keeps.proofs.Lists.{all_on}
-use Rattle.lvm_keeps.proofs.Small.{not_so}
 use Rattle.lvm_keeps.proofs.RequestsLemmas.{moved, open_on, landed_on, counted_on, origin_on, if_on}
 use Rattle.lvm_session.specs.Dark.{hand_of_copy}
 

@@ -8,6 +8,7 @@ use Rattle.lvm_num.specs.Buffer.{Buffer}
 use Rattle.lvm_num.specs.declared.place.Pp.{Pp}
 use Rattle.lvm_num.specs.Status.{calls_stale}
 use Rattle.lvm_num.specs.declared.status.Status.{Status}
+use Rattle.lvm_num.proofs.Booleans.{not_so, not_either}
 use Rattle.lvm_session.specs.passed.Names.{Device, Flight, Media, GoesDark, Stored}
 use Rattle.lvm_vol.specs.declared.entry.Outcome.{Outcome}
 use Rattle.lvm_vol.specs.declared.entry.Outcome.TheVariants as outcome
@@ -33,7 +34,6 @@ use Rattle.lvm_keeps.specs.Keeps.{CutKeeps}
 use Rattle.lvm_keeps.proofs.SoundLemmas.Fitting.{still_fits}
 use Rattle.lvm_keeps.proofs.DarkLemmas.Ending.{back_long, copy_over, each_after, failed_before, hands_long, landed_ended, no_copy_hand, none_in_hand, ordered_after, pool_after, requests_after, table_after}
 use Rattle.lvm_keeps.proofs.Lists.{all_mapped, all_on, count_cons}
-use Rattle.lvm_keeps.proofs.Small.{not_either, not_so}
 use Rattle.lvm_keeps.proofs.RequestsLemmas.{if_on}
 use Rattle.lvm_keeps.proofs.SoundLemmas.Telling.{open_still, told_more}
 

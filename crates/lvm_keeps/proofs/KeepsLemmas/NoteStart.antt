@@ -7,6 +7,7 @@ use Rattle.std.proofs.lemmas.Bool.{eq-eqb, eqb-true}
 use Rattle.lvm_num.specs.declared.descriptor.Mode.{Mode}
 use Rattle.lvm_num.specs.declared.descriptor.Mode.TheVariants as mode
 use Rattle.lvm_num.specs.Descriptor.{is_member}
+use Rattle.lvm_num.proofs.Booleans.{not_so}
 use Rattle.lvm_session.specs.passed.Names.{Device, Flight, Range, IsFresh, Starts}
 use Rattle.lvm_mwc.specs.Cache.{after_start, flight_on, has_disk, is_named}
 use Rattle.lvm_mwc.specs.Entries.{note_of, pins_of}
@@ -35,7 +36,7 @@ use Rattle.lvm_keeps.proofs.OwnersLemmas.Launching.{flights_push, none_more, own
 use Rattle.lvm_keeps.proofs.Lists.{all_at, all_on, count_cons, length_set}
 use Rattle.lvm_keeps.proofs.CacheLemmas.{copies_on_members, flight_beside, flight_here, found_all, named_still, same_disks}
 use Rattle.lvm_keeps.proofs.OwnersLemmas.Rows.{all_fly, data_still, rows_by, status_still, step_still}
-use Rattle.lvm_keeps.proofs.Small.{both, not_so}
+use Rattle.lvm_keeps.proofs.Small.{both}
 use Rattle.lvm_keeps.proofs.RequestsLemmas.{if_on, shape_still}
 use Rattle.lvm_keeps.proofs.SoundLemmas.Whole.{sound_still, told_still}
 

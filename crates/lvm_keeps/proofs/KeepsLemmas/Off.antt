@@ -5,6 +5,7 @@ use Rattle.std.specs.List.{AllByRecursion}
 use Rattle.std.specs.Option.{option_map}
 use Rattle.std.proofs.lemmas.List.{length-map}
 use Rattle.lvm_num.specs.declared.place.Pp.{Pp}
+use Rattle.lvm_num.proofs.Booleans.{not_so}
 use Rattle.lvm_vol.specs.declared.entry.Outcome.{Outcome}
 use Rattle.lvm_vol.specs.declared.entry.Outcome.TheVariants as outcome
 use Rattle.lvm_vol.specs.Facts.{Request}
@@ -28,7 +29,6 @@ use Rattle.lvm_keeps.specs.Keeps.{OffKeeps}
 use Rattle.lvm_keeps.proofs.SoundLemmas.Fitting.{still_fits}
 use Rattle.lvm_keeps.proofs.DarkLemmas.Ending.{back_long, copy_over, each_after, failed_before, hands_long, landed_ended, no_copy_hand, none_in_hand, ordered_after, pool_after, requests_after, table_after}
 use Rattle.lvm_keeps.proofs.Lists.{all_mapped, all_on}
-use Rattle.lvm_keeps.proofs.Small.{not_so}
 use Rattle.lvm_keeps.proofs.RequestsLemmas.{if_on}
 
 none_flown : (core : Core) (rows : List Flown) → AreRows core rows [] → rows ≡ []

@@ -8,6 +8,7 @@ use Rattle.std.proofs.lemmas.List.Sums.{count_by-le-length}
 use Rattle.lvm_num.specs.declared.place.Pp.{Pp}
 use Rattle.lvm_num.specs.declared.descriptor.Mode.{Mode}
 use Rattle.lvm_num.specs.declared.descriptor.Mode.TheVariants as mode
+use Rattle.lvm_num.proofs.Booleans.{not_so}
 use Rattle.lvm_session.specs.passed.Names.{Flight}
 use Rattle.lvm_mwc.specs.Cache.{Cached, after_pin}
 use Rattle.lvm_mwc.specs.Entries.{AreEntries, are_all_pinned, pins_of, with_pin as with_entry}
@@ -38,7 +39,7 @@ use Rattle.lvm_keeps.proofs.DarkLemmas.Tables.{ascending_set, rows_set}
 use Rattle.lvm_keeps.proofs.EnabledLemmas.{pins_entry}
 use Rattle.lvm_keeps.proofs.KeepsLemmas.Numbers.{numbered}
 use Rattle.lvm_keeps.proofs.OwnersLemmas.Rows.{all_fly, rows_on}
-use Rattle.lvm_keeps.proofs.Small.{both, is_false, not_so}
+use Rattle.lvm_keeps.proofs.Small.{both, is_false}
 use Rattle.lvm_keeps.proofs.RequestsLemmas.{moved, open_on, bring_on, if_on, no_cause}
 use Rattle.lvm_vol.specs.Log.{is_open}
 use Rattle.lvm_session.specs.Bringing.{has_row, step_row}

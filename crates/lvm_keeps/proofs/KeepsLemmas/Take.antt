@@ -18,7 +18,7 @@ use Rattle.lvm_path.specs.declared.target.Target.{Target}
 use Rattle.lvm_path.specs.Asks.{is_write, lv_of}
 use Rattle.lvm_path.specs.Targets.{are_over, is_begun, is_failed}
 use Rattle.lvm_num.specs.Descriptor.{is_pp}
-use Rattle.lvm_num.proofs.Booleans.{and_false}
+use Rattle.lvm_num.proofs.Booleans.{and_false, not_so}
 use Rattle.lvm_session.specs.declared.answers.Taken.TheVariants as answer
 use Rattle.lvm_session.specs.declared.bringing.OpenCopy.{OpenCopy}
 use Rattle.lvm_session.specs.declared.flown.Owner.TheVariants as owner
@@ -39,7 +39,6 @@ use Rattle.lvm_keeps.specs.Keeps.{TakeKeeps}
 use Rattle.lvm_keeps.proofs.SoundLemmas.Fitting.{still_fits}
 use Rattle.lvm_keeps.proofs.Lists.{all_at, all_on, all_removed, any_removed, count_removed, get_removed, length_removed}
 use Rattle.lvm_keeps.proofs.OwnersLemmas.Rows.{all_fly, rows_on}
-use Rattle.lvm_keeps.proofs.Small.{not_so}
 use Rattle.lvm_keeps.proofs.RequestsLemmas.{moved, open_on, bring_on, landed_on, counted_on, origin_on, copy_on, if_on}
 use Rattle.lvm_keeps.proofs.DarkLemmas.Tables.{apart, ascending_removed, none_named, rows_removed}
 use Rattle.lvm_keeps.proofs.SoundLemmas.Telling.{asked_still, count_still, open_still, told_more}

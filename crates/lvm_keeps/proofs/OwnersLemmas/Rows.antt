@@ -10,6 +10,7 @@ use Rattle.lvm_mwc.specs.declared.entries.CacheEntry.{CacheEntry}
 use Rattle.lvm_mwc.specs.Cache.{Cached}
 use Rattle.lvm_num.specs.declared.status.Status.{Status}
 use Rattle.lvm_num.specs.declared.record.Stamp.{Stamp}
+use Rattle.lvm_num.proofs.Booleans.{not_either}
 use Rattle.lvm_session.specs.declared.bringing.OpenCopy.{OpenCopy}
 use Rattle.lvm_session.specs.declared.bringing.Step.{Step}
 use Rattle.lvm_session.specs.declared.bringing.Step.TheVariants as step
@@ -21,7 +22,6 @@ use Rattle.lvm_session.specs.State.{Core}
 use Rattle.lvm_session.specs.Owners.{AreOwned, AreRows, IsDataOf, IsStatusOf, IsStepOf, IsTransferOf, flies, same_owner}
 use Rattle.lvm_session.specs.Sound.{count_if}
 use Rattle.lvm_keeps.proofs.Lists.{all_on, count_cons}
-use Rattle.lvm_keeps.proofs.Small.{not_either}
 use Rattle.lvm_keeps.proofs.RequestsLemmas.{changed}
 use Rattle.lvm_keeps.proofs.SoundLemmas.Whole.{Told, told_by}
 

@@ -3,6 +3,7 @@ use Rattle.std.proofs.Common.{◌≡◌, ℕ, List, Bool, false, sym, ◌∙◌,
 use Rattle.std.specs.Prelude.{IfSome, slice_index_or}
 use Rattle.std.specs.List.{AllByRecursion}
 use Rattle.lvm_num.specs.Buffer.{Buffer}
+use Rattle.lvm_num.proofs.Booleans.{not_so}
 use Rattle.lvm_vol.specs.Log.{Log}
 use Rattle.lvm_session.specs.declared.bringing.OpenCopy.{OpenCopy}
 use Rattle.lvm_session.specs.declared.open.Open.{Open}
@@ -14,7 +15,6 @@ use Rattle.lvm_session.specs.Placed.{ArePlaced}
 use Rattle.lvm_session.specs.Sound.{IsFitting, IsOn, IsSound, IsTold, is_dark, count_if, out_with}
 use Rattle.lvm_keeps.proofs.CausesLemmas.{Basis, Grounds, answered_still, basis_of, counted_still, grounds}
 use Rattle.lvm_keeps.proofs.Lists.{all_on}
-use Rattle.lvm_keeps.proofs.Small.{not_so}
 
 -- what the requests are told of by
 abbrev pub Told : Type 0

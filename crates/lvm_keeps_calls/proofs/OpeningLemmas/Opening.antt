@@ -3,7 +3,7 @@ use Rattle.std.proofs.Common.{◌≡◌, ◌≤◌, ◌<◌, ◌+◌, ◌-◌, �
 use Rattle.std.specs.Prelude.{All, Err, IsTrue, MatchOption, Ok, Result, count_by, filter, find, is_none, unwrap_or}
 use Rattle.std.specs.List.{AllByRecursion, list_any}
 use Rattle.std.specs.Option.{option_map_or}
-use Rattle.std.proofs.lemmas.Bool.{ltb-true, and_right}
+use Rattle.std.proofs.lemmas.Bool.{ltb-true, and_right, true_from_ne_false}
 use Rattle.std.proofs.lemmas.List.Folds.{list_any-append}
 use Rattle.std.proofs.lemmas.List.Sums.{count_by-le-length}
 use Rattle.lvm_num.specs.declared.descriptor.LvRow.{LvRow}
@@ -14,7 +14,7 @@ use Rattle.lvm_num.specs.Disks.{has}
 use Rattle.lvm_num.specs.Geometry.{partition_blocks, track_group_of}
 use Rattle.lvm_num.specs.Status.{calls_dirty, calls_stale}
 use Rattle.lvm_num.proofs.DescriptorLemmas.Bounds.{few_members, few_volumes}
-use Rattle.lvm_num.proofs.Booleans.{first_holds}
+use Rattle.lvm_num.proofs.Booleans.{first_holds, not_so}
 use Rattle.lvm_disk.specs.Counts.{Counts}
 use Rattle.lvm_disk.specs.Device.{Flight}
 use Rattle.lvm_vol.specs.Log.{next_id}
@@ -57,7 +57,7 @@ use Rattle.lvm_keeps.proofs.CausesLemmas.{counted_still, landed_still, origin_st
 use Rattle.lvm_keeps.proofs.SoundLemmas.Fitting.{still_fits}
 use Rattle.lvm_keeps.proofs.Lists.{all_mapped, all_on}
 use Rattle.lvm_keeps.proofs.OwnersLemmas.Rows.{all_fly, rows_by, status_still}
-use Rattle.lvm_keeps.proofs.Small.{and_on, most_on, none_on, not_so}
+use Rattle.lvm_keeps.proofs.Small.{and_on, most_on, none_on}
 use Rattle.lvm_keeps.proofs.RequestsLemmas.{if_on, laid_on, moved, ready_on, shape_on}
 use Rattle.lvm_keeps.proofs.LeftLemmas.Updates.{one_if}
 use Rattle.lvm_keeps.proofs.SoundLemmas.Whole.{sound_when_on}
@@ -82,10 +82,6 @@ fine_of core copies p is = by (is_settled core p) (is_missing core p.disk) (list
     by true false false d s t o n e = absurd (cc e)
     by true true c d s t o n e = absurd (cc e)
     by false b c d s t o n e = absurd (cc e)
-
-true_so : (a : Bool) → (a ≡ false → ⊥) → a ≡ true
-true_so true none = refl
-true_so false none = absurd (none refl)
 
 none_below : (n : ℕ) → nat_lt n 0 ≡ false
 none_below n = grind (arith)
@@ -263,7 +259,7 @@ module _ (s : State) (sound : IsSound s) (on : s.core.power ≡ power.On) (none 
   stale = first_holds (is_stale core pp) _ fine.settled
 
   wanted : is_wanted_stale core pp ≡ true
-  wanted = true_so (is_wanted_stale core pp) (λ clear. not_so (sym (of_none (λ (k : OpenCopy). is_running k && is_whole core k && is_pp pp k.pp) false) ∙ going.clearings pp (ap (λ b. b || calls_stale (unwrap_or core.status.in_flight core.status.committed) pp) stale) clear))
+  wanted = true_from_ne_false (is_wanted_stale core pp) (λ clear. not_so (sym (of_none (λ (k : OpenCopy). is_running k && is_whole core k && is_pp pp k.pp) false) ∙ going.clearings pp (ap (λ b. b || calls_stale (unwrap_or core.status.in_flight core.status.committed) pp) stale) clear))
 
   bring : IsCopy now.core c
   bring = record {

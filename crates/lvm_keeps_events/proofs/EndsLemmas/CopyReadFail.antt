@@ -39,7 +39,7 @@ use Rattle.lvm_session.specs.Causes.{AreCaused, AreCounted, HaveSourcesFailed, I
 use Rattle.lvm_session.specs.Sound.{IsCopy, IsFitting, IsGoing, IsOn, IsSound, IsTold, count_if, has_number, is_clearing, is_dark, is_hand, out_with, waiting_rows, with_row}
 use Rattle.lvm_keeps.proofs.DarkLemmas.Ending.{back}
 use Rattle.lvm_keeps.proofs.Lists.{all_on, length_set}
-use Rattle.lvm_keeps.proofs.Small.{both, not_so}
+use Rattle.lvm_keeps.proofs.Small.{both}
 use Rattle.lvm_keeps.proofs.RequestsLemmas.{changed, if_on, open_on}
 use Rattle.lvm_keeps_events.specs.Ends.{CopyReadFailKeeps}
 use Rattle.lvm_keeps_events.proofs.EndsLemmas.Counts.{counts_keep}
@@ -58,7 +58,7 @@ use Rattle.lvm_session.specs.Ends.{MissesSource}
 use Rattle.lvm_session.specs.Causes.{FailedSinceOpening}
 use Rattle.lvm_session.specs.Sound.{IsReadFrom}
 use Rattle.std.specs.Prelude.{find, is_none}
-use Rattle.lvm_num.proofs.Booleans.{and_false}
+use Rattle.lvm_num.proofs.Booleans.{and_false, not_so}
 use Rattle.lvm_keeps_events.proofs.OwnersLemmas.Removal.{IsOut, taken_out}
 
 -- ---- lists of partitions

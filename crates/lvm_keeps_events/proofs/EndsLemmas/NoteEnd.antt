@@ -21,6 +21,7 @@ use Rattle.lvm_path.specs.declared.request.Request.{Request}
 use Rattle.lvm_path.specs.declared.target.Target.{Target}
 use Rattle.lvm_path.specs.Asks.{lv_of}
 use Rattle.lvm_num.specs.Buffer.{Buffer}
+use Rattle.lvm_num.proofs.Booleans.{not_so}
 use Rattle.lvm_disk.specs.Device.{Device, Flight, Media}
 use Rattle.lvm_disk.specs.Steps.{EndsDone}
 use Rattle.lvm_session.specs.declared.bringing.OpenCopy.{OpenCopy}
@@ -39,7 +40,7 @@ use Rattle.lvm_keeps.proofs.SoundLemmas.Fitting.{still_fits}
 use Rattle.lvm_keeps.proofs.Lists.{all_on, length_set}
 use Rattle.lvm_keeps.proofs.KeepsLemmas.NoteStart.{each_counted}
 use Rattle.lvm_keeps.proofs.OwnersLemmas.Rows.{data_still, rows_by, status_still, step_still}
-use Rattle.lvm_keeps.proofs.Small.{both, not_so}
+use Rattle.lvm_keeps.proofs.Small.{both}
 use Rattle.lvm_keeps.proofs.RequestsLemmas.{if_on, shape_still}
 use Rattle.lvm_keeps.proofs.SoundLemmas.Whole.{sound_still, told_still}
 use Rattle.lvm_keeps_events.specs.Ends.{NoteEndKeeps}

@@ -11,6 +11,7 @@ use Rattle.lvm_num.specs.declared.descriptor.PvRow.{PvRow}
 use Rattle.lvm_num.specs.declared.record.NoteEntry.{NoteEntry}
 use Rattle.lvm_num.specs.Disks.{has}
 use Rattle.lvm_num.specs.Status.{calls_missing}
+use Rattle.lvm_num.proofs.Booleans.{not_so}
 use Rattle.lvm_mwc.specs.declared.notes.DiskNotes.{DiskNotes}
 use Rattle.lvm_mwc.proofs.NotesLemmas.{named_after_all}
 use Rattle.lvm_mwc.specs.Notes.{both_name, names_group}
@@ -36,7 +37,7 @@ use Rattle.lvm_session.specs.Owners.{flies}
 use Rattle.lvm_session.specs.Sound.{IsGoing, pins}
 use Rattle.lvm_keeps.proofs.Lists.{all_on}
 use Rattle.lvm_keeps.proofs.KeepsLemmas.NoteStart.{each_counted}
-use Rattle.lvm_keeps.proofs.Small.{both, is_false, not_so}
+use Rattle.lvm_keeps.proofs.Small.{both, is_false}
 use Rattle.lvm_keeps_events.proofs.EndsLemmas.NoteEnd.{beside, flight_beside, here}
 use Rattle.lvm_keeps_events.proofs.OwnersLemmas.Removal.{was_out}
 use Rattle.lvm_keeps_events.specs.EndsStatus.{NoteEndFalls, NoteFailFalls, StatusEndFalls}

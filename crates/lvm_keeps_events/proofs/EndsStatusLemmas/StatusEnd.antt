@@ -9,6 +9,7 @@ use Rattle.lvm_num.specs.declared.status.Status.{Status}
 use Rattle.lvm_num.specs.Descriptor.{is_member}
 use Rattle.lvm_num.specs.Disks.{has}
 use Rattle.lvm_num.specs.Status.{calls_missing}
+use Rattle.lvm_num.proofs.Booleans.{not_so}
 use Rattle.lvm_disk.specs.Counts.{Rose}
 use Rattle.lvm_disk.specs.Device.{Device, Flight}
 use Rattle.lvm_mwc.specs.Cache.{flight_on}
@@ -26,7 +27,7 @@ use Rattle.lvm_session.specs.Judging.{is_missing}
 use Rattle.lvm_session.specs.Ends.{EndsAs, FlipsIf}
 use Rattle.lvm_session.specs.Owners.{IsStatusOf, IsTransferOf, flies, same_owner}
 use Rattle.lvm_session.specs.Sound.{IsGoing, IsSound, count_if}
-use Rattle.lvm_keeps.proofs.Small.{both, not_so}
+use Rattle.lvm_keeps.proofs.Small.{both}
 use Rattle.lvm_keeps_events.proofs.EndsLemmas.CopyQuit.{IsBack, is_back}
 use Rattle.lvm_keeps_events.proofs.OwnersLemmas.Removal.{IsOut, as_many, none_left, taken_out, was_out}
 use Rattle.lvm_keeps_events.specs.EndsStatus.{StatusEndKeeps}

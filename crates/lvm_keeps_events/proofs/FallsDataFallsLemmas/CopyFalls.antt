@@ -9,6 +9,7 @@ use Rattle.lvm_num.specs.Disks.{has}
 use Rattle.lvm_num.specs.declared.place.Pp.{Pp}
 use Rattle.lvm_hold.specs.Waiting.{Waiting, without}
 use Rattle.lvm_num.specs.Descriptor.{is_pp}
+use Rattle.lvm_num.proofs.Booleans.{not_so}
 use Rattle.lvm_status.specs.Update.{Stored}
 use Rattle.lvm_session.specs.Bringing.{after_copy_end, copy_ends, end_of, groups_of, is_done_end, is_idle, is_whole, marked_by_end, with_end}
 use Rattle.lvm_session.specs.Judging.{copies_in, is_missing, is_running}
@@ -26,7 +27,6 @@ use Rattle.lvm_session.specs.Sound.{count_if, IsCopy, IsGoing, IsReadFrom}
 use Rattle.lvm_keeps.proofs.FallsLemmas.CopyRead.{few_copies}
 use Rattle.lvm_keeps.proofs.Lists.{count_cons}
 use Rattle.lvm_keeps.proofs.FallsLemmas.Pin.{sum_same}
-use Rattle.lvm_keeps.proofs.Small.{not_so}
 use Rattle.lvm_keeps_events.proofs.EndsLemmas.CopyReadFail.{at_number, is_here}
 use Rattle.lvm_keeps_events.proofs.Lists.{and_false, count_on, or_true}
 use Rattle.lvm_keeps_events.proofs.LeftLemmas.EndedLess.{now, request_less}

@@ -8,6 +8,7 @@ use Rattle.lvm_num.specs.declared.status.Status.{Status}
 use Rattle.lvm_hold.specs.Waiting.{Waiting, without}
 use Rattle.lvm_sched.specs.Writes.{is_waiting as is_unstarted}
 use Rattle.lvm_num.specs.Descriptor.{is_pp}
+use Rattle.lvm_num.proofs.Booleans.{not_so}
 use Rattle.lvm_path.specs.Asks.{is_write}
 use Rattle.lvm_path.specs.Targets.{are_over, end_state, is_done}
 use Rattle.lvm_path.specs.declared.request.Phase.TheVariants as phase
@@ -29,7 +30,6 @@ use Rattle.lvm_session.specs.Left.{begun_left, copy_left, if_so, left_of, read_l
 use Rattle.lvm_session.specs.Sound.{count_if, IsGoing, IsSound}
 use Rattle.lvm_keeps.proofs.LeftLemmas.Leaving.{left_same}
 use Rattle.lvm_keeps.proofs.Lists.{count_same, count_set}
-use Rattle.lvm_keeps.proofs.Small.{not_so}
 use Rattle.lvm_keeps.proofs.RequestsLemmas.{changed}
 use Rattle.lvm_keeps_events.proofs.TargetsLemmas.{at_state}
 use Rattle.lvm_keeps_events.proofs.EndsLemmas.CopyReadFail.{is_here}

@@ -24,12 +24,12 @@ use Rattle.lvm_session.specs.declared.bringing.Step.{Step}
 use Rattle.lvm_session.specs.declared.open.Open.{Open}
 use Rattle.lvm_session.specs.declared.open.Power.TheVariants as power
 use Rattle.lvm_num.specs.Modes.{is_passive}
+use Rattle.lvm_num.proofs.Booleans.{not_so}
 use Rattle.lvm_session.specs.Marks.{is_among}
 use Rattle.lvm_session.specs.Left.{begun_left, copy_left, if_so, is_brought_up, is_held, lacks_dirty, lacks_note, left_of, phase_left, read_left, request_left, status_left, step_left, tried_of, turns_of, unbegun_left, update_work, write_left}
 use Rattle.lvm_session.specs.Requests.{is_past_held, IsOpenOne, IsPhase}
 use Rattle.lvm_session.specs.Sound.{IsCopy, IsGoing, IsSound}
 use Rattle.lvm_keeps.proofs.FallsLemmas.Pin.{sum_same}
-use Rattle.lvm_keeps.proofs.Small.{not_so}
 use Rattle.lvm_keeps_events.proofs.Marking.{count_alike}
 use Rattle.lvm_keeps_events.proofs.EndsGroupLemmas.{c, core_is, ended, gone, IsGone, its, next_so, out, tried, whole_so}
 use Rattle.lvm_keeps_events.proofs.JudgingLemmas.DuesMarks.{own_pp}

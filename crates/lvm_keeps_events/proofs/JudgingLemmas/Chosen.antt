@@ -13,7 +13,7 @@ use Rattle.lvm_num.specs.declared.descriptor.Policy.{Policy}
 use Rattle.lvm_num.specs.Descriptor.{IsVolume, copies_of, is_pp}
 use Rattle.lvm_num.specs.Status.{calls_missing, calls_stale}
 use Rattle.lvm_num.proofs.MarksLemmas.Maps.{find-Some}
-use Rattle.lvm_num.proofs.Booleans.{or_true}
+use Rattle.lvm_num.proofs.Booleans.{or_true, not_so}
 use Rattle.lvm_map.proofs.PlacesLemmas.{laid_out, lp_below, mib_positive}
 use Rattle.lvm_vol.specs.declared.entry.Outcome.TheVariants as outcome
 use Rattle.lvm_sched.specs.Reads.{AreCopiesAbove, IsReadOrder, others}
@@ -47,7 +47,7 @@ use Rattle.lvm_session.specs.Sound.{IsCopy, IsGoing, IsSound, is_clearing}
 use Rattle.lvm_session.proofs.EventsLemmas.{copies_are, order_holds, usable_holds}
 use Rattle.lvm_keeps.proofs.FallsLemmas.Bounding.{take_few}
 use Rattle.lvm_keeps.proofs.Lists.{all_on}
-use Rattle.lvm_keeps.proofs.Small.{both, is_false, not_so}
+use Rattle.lvm_keeps.proofs.Small.{both, is_false}
 use Rattle.lvm_keeps.proofs.DarkLemmas.Tables.{apart as apart_ids}
 use Rattle.lvm_keeps_events.proofs.OnePlace.{one_lp}
 

@@ -17,10 +17,11 @@ use Rattle.lvm_session.specs.Marks.{due_of, due_targets, is_among}
 use Rattle.lvm_session.specs.Requests.{is_failed_and_sure, is_wanted_due, will_be_kept}
 use Rattle.lvm_session.specs.Sound.{count_if}
 use Rattle.lvm_keeps.proofs.Lists.{count_cons}
-use Rattle.lvm_keeps.proofs.Small.{both, not_so}
+use Rattle.lvm_keeps.proofs.Small.{both}
 use Rattle.lvm_keeps_events.proofs.EndsLemmas.CopyReadFail.{pp_is}
 use Rattle.lvm_keeps_events.proofs.Lists.{all_and, all_true_at, and_false, any_at, or_true}
 pub use Rattle.lvm_num.proofs.DescriptorLemmas.Partitions.{one_partition as pp_same}
+use Rattle.lvm_num.proofs.Booleans.{not_so}
 
 -- ---- targets of partitions
 

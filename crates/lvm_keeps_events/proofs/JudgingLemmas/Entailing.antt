@@ -11,6 +11,7 @@ use Rattle.lvm_num.specs.Status.{calls_stale}
 use Rattle.lvm_num.specs.declared.place.Pp.{Pp}
 use Rattle.lvm_hold.specs.Waiting.{Waiting}
 use Rattle.lvm_num.specs.Descriptor.{is_pp}
+use Rattle.lvm_num.proofs.Booleans.{not_so}
 use Rattle.lvm_path.specs.Asks.{at_of, is_write}
 use Rattle.lvm_path.specs.Targets.{are_over, end_state, is_done, is_failed}
 use Rattle.lvm_path.specs.declared.request.Request.{Request}
@@ -28,7 +29,7 @@ use Rattle.lvm_session.specs.Causes.{is_held_stale, IsChosenSince}
 use Rattle.lvm_session.specs.Requests.{IsJudged, IsLaid, may_lack, will_be_kept}
 use Rattle.lvm_session.specs.Sound.{is_clearing, IsCopy, IsGoing}
 use Rattle.lvm_keeps.proofs.Lists.{all_at, all_on, set_beside, set_here}
-use Rattle.lvm_keeps.proofs.Small.{both, is_false, not_so}
+use Rattle.lvm_keeps.proofs.Small.{both, is_false}
 use Rattle.lvm_keeps_events.proofs.TargetsLemmas.{at_state}
 use Rattle.lvm_keeps_events.proofs.JudgingLemmas.DuesMarks.{due_one, has_failed, is_sure_done, IsDueOne, own_pp, pp_same, unsure_among}
 use Rattle.lvm_keeps_events.proofs.SoundLemmas.Failing.{kept, LeavesParts, leaves, parted, pool, queue}

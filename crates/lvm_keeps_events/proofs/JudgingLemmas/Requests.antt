@@ -13,6 +13,7 @@ use Rattle.lvm_num.specs.declared.status.Status.{Status}
 use Rattle.lvm_num.specs.Geometry.{partition_blocks}
 use Rattle.lvm_num.specs.Status.{calls_dirty}
 use Rattle.lvm_num.specs.Descriptor.{is_pp}
+use Rattle.lvm_num.proofs.Booleans.{not_so}
 use Rattle.lvm_hold.specs.declared.queue.Held.{Held}
 use Rattle.lvm_hold.specs.Waiting.{is_blocked}
 use Rattle.lvm_mwc.specs.Cache.{is_named}
@@ -32,7 +33,7 @@ use Rattle.lvm_session.specs.Requests.{IsJudged, IsLaid, IsOpenOne, IsReady, IsR
 use Rattle.lvm_session.specs.Sound.{pins}
 use Rattle.lvm_keeps.proofs.Lists.{all_on}
 use Rattle.lvm_keeps.proofs.KeepsLemmas.NoteStart.{each_counted}
-use Rattle.lvm_keeps.proofs.Small.{and_on, both, is_false, not_so}
+use Rattle.lvm_keeps.proofs.Small.{and_on, both, is_false}
 use Rattle.lvm_keeps.proofs.RequestsLemmas.{shape_still}
 use Rattle.lvm_keeps_events.proofs.EndsLemmas.NoteEnd.{all_true, pinned_by}
 use Rattle.lvm_keeps_events.proofs.Finding.{any_on, count_with, found, some_there}

@@ -9,6 +9,7 @@ use Rattle.lvm_num.specs.declared.place.Pp.{Pp}
 use Rattle.lvm_num.specs.declared.status.Status.{Status}
 use Rattle.lvm_num.specs.Descriptor.{copies_of, is_pp}
 use Rattle.lvm_num.specs.Status.{calls_missing, calls_stale}
+use Rattle.lvm_num.proofs.Booleans.{not_so}
 use Rattle.lvm_hold.specs.Waiting.{Waiting}
 use Rattle.lvm_mwc.specs.declared.notes.DiskNotes.{DiskNotes}
 use Rattle.lvm_status.specs.Update.{Stored, Updates}
@@ -24,7 +25,7 @@ use Rattle.lvm_session.specs.Marks.{WantsStale, can_replace, is_among, is_entail
 use Rattle.lvm_session.specs.Causes.{is_held_stale, was_fresh}
 use Rattle.lvm_session.specs.Sound.{IsCopy, IsGoing, is_clearing, may_be_fresh, stays_fresh}
 use Rattle.lvm_keeps.proofs.KeepsLemmas.Landing.{or_parts}
-use Rattle.lvm_keeps.proofs.Small.{both, is_false, not_so}
+use Rattle.lvm_keeps.proofs.Small.{both, is_false}
 use Rattle.lvm_keeps_events.proofs.EndsLemmas.CopyReadFail.{is_here, pp_is}
 use Rattle.lvm_keeps_events.proofs.OnePlace.{one_lp}
 use Rattle.lvm_keeps_events.proofs.Finding.{any_on, found, row_found, some_there}

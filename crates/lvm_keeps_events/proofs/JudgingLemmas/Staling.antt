@@ -35,6 +35,7 @@ use Rattle.lvm_session.specs.declared.flown.Owner.{Owner}
 use Rattle.lvm_session.specs.declared.flown.Owner.TheVariants as owner
 use Rattle.lvm_session.specs.declared.open.Open.{Open}
 use Rattle.lvm_num.specs.Modes.{is_passive}
+use Rattle.lvm_num.proofs.Booleans.{not_so}
 use Rattle.lvm_session.specs.Marks.{can_replace, is_among, is_entailed, is_entailed_in, is_left_behind, WantsStale}
 use Rattle.lvm_session.specs.Causes.{fails_on, is_blamed, is_held_stale, was_fresh}
 use Rattle.lvm_session.specs.Left.{clean_volumes}
@@ -43,7 +44,7 @@ use Rattle.lvm_session.specs.Requests.{is_failed_and_sure, is_left_out, is_wante
 use Rattle.lvm_session.specs.Sound.{IsCopy, may_be_fresh, stays_fresh}
 use Rattle.lvm_keeps.proofs.KeepsLemmas.Landing.{or_parts}
 use Rattle.lvm_keeps.proofs.OwnersLemmas.Rows.{data_still, status_still, step_still}
-use Rattle.lvm_keeps.proofs.Small.{both, is_false, not_so}
+use Rattle.lvm_keeps.proofs.Small.{both, is_false}
 use Rattle.lvm_keeps.proofs.RequestsLemmas.{shape_still, copy_marked, same_next}
 use Rattle.lvm_keeps.proofs.DarkLemmas.Tables.{apart}
 use Rattle.lvm_keeps_events.proofs.Marking.{count_alike, filter_alike}

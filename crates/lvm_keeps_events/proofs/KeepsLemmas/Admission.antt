@@ -23,7 +23,7 @@ use Rattle.lvm_path.specs.Asks.{is_write, lv_of}
 use Rattle.lvm_path.specs.Targets.{are_over, is_begun, is_done, is_failed, is_over as is_ended}
 use Rattle.lvm_path.specs.Next.{first_phase}
 use Rattle.lvm_num.specs.Descriptor.{is_pp}
-use Rattle.lvm_num.proofs.Booleans.{and_false}
+use Rattle.lvm_num.proofs.Booleans.{and_false, not_so}
 use Rattle.lvm_status.specs.Update.{Stored, seen}
 use Rattle.lvm_status.specs.Runs.{IsSoundStatus}
 use Rattle.lvm_session.specs.declared.bringing.OpenCopy.{OpenCopy}
@@ -45,7 +45,7 @@ use Rattle.lvm_keeps.specs.Keeps.{AdmissionKeeps}
 use Rattle.lvm_keeps.proofs.CausesLemmas.{answered_still, copies_still, counted_still, origin_still}
 use Rattle.lvm_keeps.proofs.Lists.{all_at, all_on, all_set, any_set, count_cons, count_same, count_set, length_set, set_beside}
 use Rattle.lvm_keeps.proofs.OwnersLemmas.Rows.{all_fly, rows_on}
-use Rattle.lvm_keeps.proofs.Small.{not_so, same_blame}
+use Rattle.lvm_keeps.proofs.Small.{same_blame}
 use Rattle.lvm_keeps.proofs.RequestsLemmas.{bring_on, if_on, moved, no_cause, open_on}
 use Rattle.lvm_keeps.proofs.DarkLemmas.Tables.{apart, ascending_set, rows_set}
 use Rattle.lvm_keeps.proofs.SoundLemmas.Whole.{sound_when_on}

@@ -6,6 +6,7 @@ use Rattle.std.specs.Option.{option_map_or}
 use Rattle.std.proofs.lemmas.Bool.{eqb-true, eqb-false}
 use Rattle.lvm_num.specs.Buffer.{Buffer}
 use Rattle.lvm_num.specs.declared.place.Pp.{Pp}
+use Rattle.lvm_num.proofs.Booleans.{not_so}
 use Rattle.lvm_disk.specs.Device.{Flight}
 use Rattle.lvm_vol.specs.declared.entry.Outcome.{Outcome}
 use Rattle.lvm_vol.specs.Facts.{Fact, Request as Asked, Landed}
@@ -49,7 +50,7 @@ use Rattle.lvm_keeps.proofs.KeepsLemmas.Landing.{cause}
 use Rattle.lvm_keeps.proofs.Lists.{all_at, all_on, all_set, any_set, count_set, length_set, set_here, set_beside}
 use Rattle.lvm_keeps.proofs.KeepsLemmas.NoteStart.{each_counted}
 use Rattle.lvm_keeps.proofs.OwnersLemmas.Rows.{all_fly, rows_on}
-use Rattle.lvm_keeps.proofs.Small.{not_so, same_blame}
+use Rattle.lvm_keeps.proofs.Small.{same_blame}
 use Rattle.lvm_keeps.proofs.RequestsLemmas.{bring_on, if_on, moved, open_on}
 use Rattle.lvm_keeps.proofs.SoundLemmas.Telling.{asked_still, count_still}
 use Rattle.lvm_keeps.proofs.SoundLemmas.Whole.{sound_when_on}

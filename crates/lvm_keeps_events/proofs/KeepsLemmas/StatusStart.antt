@@ -21,6 +21,7 @@ use Rattle.lvm_num.specs.Record.{frame, slot_start}
 use Rattle.lvm_rec.specs.Homes.{next_slot}
 use Rattle.lvm_num.specs.Status.{calls_dirty, calls_stale}
 use Rattle.lvm_num.specs.StatusBytes.{status_bytes}
+use Rattle.lvm_num.proofs.Booleans.{not_so, four_hold, if_itself, three_hold}
 use Rattle.lvm_disk.specs.Device.{Device, Flight, Range}
 use Rattle.lvm_disk.specs.Steps.{IsFresh, Starts}
 use Rattle.lvm_path.specs.declared.request.Phase.{Phase}
@@ -58,42 +59,25 @@ use Rattle.lvm_keeps.proofs.SoundLemmas.Fitting.{still_fits}
 use Rattle.lvm_keeps.proofs.OwnersLemmas.Launching.{flights_push, none_more, owners_push, rows_push, taken, tickets_push}
 use Rattle.lvm_keeps.proofs.Lists.{all_on, length_set}
 use Rattle.lvm_keeps.proofs.OwnersLemmas.Rows.{all_fly, data_still, rows_by, step_still}
-use Rattle.lvm_keeps.proofs.Small.{both, not_so}
+use Rattle.lvm_keeps.proofs.Small.{both}
 use Rattle.lvm_keeps.proofs.RequestsLemmas.{if_on, shape_still, copy_marked, same_next}
 use Rattle.lvm_keeps.proofs.SoundLemmas.Whole.{sound_still, told_still}
 use Rattle.lvm_keeps_events.proofs.SoundLemmas.Frame.{launched}
 
 -- ---- a status says the same as itself
 
-same_bool : (b : Bool) → (if b then b else not b) ≡ true
-same_bool true = refl
-same_bool false = refl
-
-all_four : (a b c d : Bool) → a ≡ true → b ≡ true → c ≡ true → d ≡ true → a && b && c && d ≡ true
-all_four true true true true p q r s = refl
-all_four false b c d p q r s = not_so p
-all_four true false c d p q r s = not_so q
-all_four true true false d p q r s = not_so r
-all_four true true true false p q r s = not_so s
-
-all_three : (a b c : Bool) → a ≡ true → b ≡ true → c ≡ true → a && b && c ≡ true
-all_three true true true p q r = refl
-all_three false b c p q r = not_so p
-all_three true false c p q r = not_so q
-all_three true true false p q r = not_so r
-
 bytes_own : (bytes : List ℕ) → bytes_eq bytes bytes ≡ true
 bytes_own bytes = (bytes_eq-Decides bytes bytes).1 refl
 
 row_own : (row : StatusRow) → same_row row row ≡ true
-row_own row = all_three (row.disk == row.disk) (if row.missing then row.missing else not row.missing) (bytes_eq row.stale row.stale) (eq-eqb row.disk row.disk refl) (same_bool row.missing) (bytes_own row.stale)
+row_own row = three_hold (row.disk == row.disk) (if row.missing then row.missing else not row.missing) (bytes_eq row.stale row.stale) (eq-eqb row.disk row.disk refl) (if_itself row.missing) (bytes_own row.stale)
 
 rows_own : (rows : List StatusRow) → same_rows rows rows ≡ true
 rows_own [] = refl
 rows_own (row ∷ rows) = ap (λ b. b && same_rows rows rows) (row_own row) ∙ rows_own rows
 
 pub status_own : (x : Status) → same_status x x ≡ true
-status_own x = all_four (x.id == x.id) (if x.big then x.big else not x.big) (bytes_eq x.dirty x.dirty) (same_rows x.rows x.rows) (eq-eqb x.id x.id refl) (same_bool x.big) (bytes_own x.dirty) (rows_own x.rows)
+status_own x = four_hold (x.id == x.id) (if x.big then x.big else not x.big) (bytes_eq x.dirty x.dirty) (same_rows x.rows x.rows) (eq-eqb x.id x.id refl) (if_itself x.big) (bytes_own x.dirty) (rows_own x.rows)
 
 -- ---- lists
 

@@ -5,6 +5,7 @@ use Rattle.std.specs.Option.{option_map_or}
 use Rattle.lvm_num.specs.declared.place.Pp.{Pp}
 use Rattle.lvm_hold.specs.Waiting.{Waiting}
 use Rattle.lvm_num.specs.Descriptor.{is_pp}
+use Rattle.lvm_num.proofs.Booleans.{not_so}
 use Rattle.lvm_path.specs.Asks.{is_write}
 use Rattle.lvm_path.specs.Targets.{is_begun}
 use Rattle.lvm_path.specs.declared.ask.Ask.{Ask}
@@ -21,7 +22,6 @@ use Rattle.lvm_session.specs.declared.open.Open.{Open}
 use Rattle.lvm_session.specs.Left.{begun_left, copy_left, if_so, is_brought_up, is_held, read_left, request_left, step_left, tried_of, turns_of, unbegun_left, update_work}
 use Rattle.lvm_keeps.proofs.KeepsLemmas.Landing.{or_parts}
 use Rattle.lvm_keeps.proofs.Lists.{all_on}
-use Rattle.lvm_keeps.proofs.Small.{not_so}
 use Rattle.lvm_keeps.proofs.LeftLemmas.Leaving.{phase_still}
 use Rattle.lvm_keeps_events.proofs.JudgingLemmas.DuesMarks.{pp_same}
 use Rattle.lvm_keeps_events.proofs.Lists.{found_at}

@@ -2,6 +2,7 @@
 use Rattle.std.proofs.Common.{◌≡◌, ◌==◌, ◌<◌, ℕ, zero, suc, Bool, true, false, ◌||◌, not, nat_lt, filter, List, [], ◌∷◌, Some, slice_get, slice_set, refl, sym, ◌∙◌, ap, subst, arith, if◌then◌else◌}
 use Rattle.std.specs.List.{list_any, remove, AllByRecursion}
 use Rattle.std.proofs.lemmas.Bool.{eq-eqb, lt-ltb, ltb-true, ne_eqb}
+use Rattle.lvm_num.proofs.Booleans.{not_so}
 use Rattle.lvm_hold.specs.declared.queue.Row.{Row}
 use Rattle.lvm_hold.specs.Waiting.{without}
 use Rattle.lvm_session.specs.declared.open.Open.{Open}
@@ -9,7 +10,6 @@ use Rattle.lvm_session.specs.Judging.{held_of, is_waiting, place_of}
 use Rattle.lvm_session.specs.Dark.{IsAscending}
 use Rattle.lvm_session.specs.Sound.{waiting_rows, with_row}
 use Rattle.lvm_keeps.proofs.Lists.{all_on}
-use Rattle.lvm_keeps.proofs.Small.{not_so}
 
 -- ---- lists
 

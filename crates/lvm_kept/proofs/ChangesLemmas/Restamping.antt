@@ -6,7 +6,7 @@ use Rattle.std.proofs.lemmas.Bool.{eqb-true, and_parts, and_from}
 use Rattle.std.proofs.lemmas.Bool.Decides.{nat_tests}
 use Rattle.lvm_disk.specs.passed.Names.{Stamp, Pp, Mode, LvRow, Descriptor, Status, Disks, track_group_of, copies_of, all_disks, votes_in, CanRead, Stamped, stamp_lt, newest_below}
 use Rattle.lvm_disk.specs.passed.NumDescriptorMode.{Active, Passive, Off}
-use Rattle.lvm_disk.proofs.passed.Names.{more_have_more, more_is_enough, is_one, is_last}
+use Rattle.lvm_disk.proofs.passed.Names.{more_have_more, more_is_enough, is_one, is_last, without_first}
 use Rattle.lvm_vol.specs.declared.entry.Vol.TheVariants.{Lv}
 use Rattle.lvm_vol.specs.Facts.{Fact, Cut}
 use Rattle.lvm_vol.specs.May.{Known, known, IsValue}
@@ -21,11 +21,6 @@ use Rattle.lvm_kept.proofs.CommittedLemmas.Alike.{like_found, alike_stays}
 use Rattle.lvm_kept.proofs.KeptLemmas.{same_blocks}
 
 -- ---- fewer disks
-
--- a member in a set is one among all disks
-among_all : (in_set own room : Bool) → in_set && own && room ≡ true → true && own && room ≡ true
-among_all true own room e = e
-among_all false own room e = absurd cc
 
 -- what holds of all that pass one test holds of all that pass another one which is narrower on them
 pub narrower_on : {X : Type 0} (P : X → Type 0) (p q : X → Bool) (xs : List X) → ((x : X) → IsOneOf xs x → q x ≡ true → p x ≡ true) → AllByRecursion P (filter p xs) → AllByRecursion P (filter q xs)
@@ -194,7 +189,7 @@ module _ (old : Contents) (descriptor : ℕ → Option (Stamped Descriptor)) (ne
               let few : CanRead m.value (members_in old was.0 id m.value) = reads.reads.enough in
               let all : CanRead m.value (members_in old all_disks id m.value) =
               more_is_enough.read m.value (votes_in m.value (members_in old was.0 id m.value)) (votes_in m.value (members_in old all_disks id m.value))
-              (more_have_more m.value (members_in old was.0 id m.value) (members_in old all_disks id m.value) (λ e member i. among_all (was.0 e) (passes (is_of id) (old.descriptor e)) (has_room old e m.value) i)) few in
+              (more_have_more m.value (members_in old was.0 id m.value) (members_in old all_disks id m.value) (λ e member i. without_first (was.0 e) (passes (is_of id) (old.descriptor e)) (has_room old e m.value) i)) few in
               record {
                 group = m.value;
                 by_all = finds_from new all_disks id m newest (subst (λ (v : Disks). CanRead m.value v) (sym (members_same all_disks id m.value)) all);
@@ -219,7 +214,7 @@ module _ (old : Contents) (descriptor : ℕ → Option (Stamped Descriptor)) (ne
 
     copies : (disks : Disks) (id : ℕ) (k : Descriptor) → Finds new disks id k → BlocksKept new facts k (is_voter new disks id) (status_among new disks id)
     copies disks id k f = finding disks id k f (λ v s. BlocksKept new facts k v s)
-        (fewer_blocks new (members_in new disks id k) (members_in new all_disks id k) (λ d i. among_all (disks d) (passes (is_of id) (descriptor d)) (has_room new d k) i) facts k (status_by new disks id k)
+        (fewer_blocks new (members_in new disks id k) (members_in new all_disks id k) (λ d i. without_first (disks d) (passes (is_of id) (descriptor d)) (has_room new d k) i) facts k (status_by new disks id k)
         (across disks id k k (finding_reads new disks id k f).reads (disks, f)))
 
     available : (lv : ℕ) → IsSettledIn facts lv → IsAvailable new facts

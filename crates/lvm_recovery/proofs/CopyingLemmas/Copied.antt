@@ -1,8 +1,9 @@
 -- A copy by a read and a write, and one copy after another.
-use Rattle.std.proofs.Common.{◌≡◌, inl, inr, ℕ, ◌+◌, ◌<◌, Bool, true, false, IsTrue, IsFalse, refl, ◌∙◌, subst, eq-eqb}
+use Rattle.std.proofs.Common.{◌≡◌, inl, inr, ℕ, ◌+◌, ◌<◌, true, false, IsTrue, refl, ◌∙◌, subst, eq-eqb}
 use Rattle.std.specs.Prelude.{◌==◌, ◌⊎◌, List, [], ◌∷◌}
 use Rattle.lvm_num.specs.Buffer.{Buffer, Sector}
 use Rattle.lvm_num.specs.Disks.{Disks}
+use Rattle.lvm_num.proofs.Booleans.{false_by}
 use Rattle.lvm_disk.specs.Counts.{Rose}
 use Rattle.lvm_disk.specs.Device.{Device, Range, image_of}
 use Rattle.lvm_kept.specs.Plans.{Plan, ChangesBy}
@@ -23,14 +24,6 @@ pub use Rattle.std.proofs.lemmas.Bool.{or_right as or_second}
 
 -- ---- what is done is done by more, too
 
-fewer : (t u : Bool) → (IsTrue t → IsTrue u) → IsFalse u → IsFalse t
-fewer true u more off = absurd (both u (more refl) off)
-  where
-    both : (u : Bool) → IsTrue u → IsFalse u → ⊥
-    both true a b = absurd cc
-    both false a b = absurd cc
-fewer false u more off = refl
-
 module _ (T U : Disks) (P Q : Plan) (disks : (d : ℕ) → IsTrue (T d) → IsTrue (U d)) (more : (d s : ℕ) (value : Sector) → P d s value → Q d s value) where
   keeps_wider : (old new : Device) → KeepsShelf T P old new → KeepsShelf U Q old new
   keeps_wider old new keeps = record {
@@ -38,8 +31,8 @@ module _ (T U : Disks) (P Q : Plan) (disks : (d : ℕ) → IsTrue (T d) → IsTr
     arranges = keeps.arranges;
     orders = keeps.orders;
     misses = keeps.misses;
-    starts = λ d off. keeps.starts d (fewer (T d) (U d) (disks d) off);
-    faults = λ d off. keeps.faults d (fewer (T d) (U d) (disks d) off);
+    starts = λ d off. keeps.starts d (false_by (T d) (U d) (disks d) off);
+    faults = λ d off. keeps.faults d (false_by (T d) (U d) (disks d) off);
     wrote = logs_wider P Q old.wrote new.wrote more keeps.wrote;
     media = both_map old.media new.media (λ was is. ChangesBy P (image_of old.sizes was) (image_of new.sizes is)) (λ was is. ChangesBy Q (image_of old.sizes was) (image_of new.sizes is)) keeps.media
         (λ m k was is by. changes_more P Q (image_of old.sizes m) (image_of new.sizes k) more by);

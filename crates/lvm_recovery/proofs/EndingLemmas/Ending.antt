@@ -1,6 +1,6 @@
 -- What planned copies need, and what they leave.
-use Rattle.std.proofs.Common.{◌≡◌, inl, inr, ⊎_elim, ℕ, ◌+◌, ◌*◌, ◌%◌, ◌<◌, ◌≤◌, ◌&&◌, Bool, true, false, not, List, ◌∷◌, Option, Some, slice_get, slice_index_or, refl, sym, subst, ◌∙◌, arith}
-use Rattle.std.specs.Prelude.{IsTrue, IsFalse}
+use Rattle.std.proofs.Common.{◌≡◌, inl, inr, ⊎_elim, ℕ, ◌+◌, ◌*◌, ◌%◌, ◌<◌, ◌≤◌, ◌&&◌, not, List, ◌∷◌, Option, Some, slice_get, slice_index_or, refl, sym, subst, ◌∙◌, arith}
+use Rattle.std.specs.Prelude.{IsTrue}
 use Rattle.std.proofs.Math.Nat.{mod-lt}
 use Rattle.lvm_num.specs.declared.place.Place.{Place}
 use Rattle.lvm_num.specs.declared.place.Pp.{Pp}
@@ -11,7 +11,7 @@ use Rattle.lvm_num.specs.Disks.{Disks}
 use Rattle.lvm_num.specs.Geometry.{data_start, partition_blocks, sectors_needed}
 use Rattle.lvm_num.specs.Descriptor.{IsValid, IsPartitionOf, copies_of, partitions_used}
 use Rattle.lvm_num.specs.Record.{Stamped}
-use Rattle.lvm_num.proofs.Booleans.{first_holds}
+use Rattle.lvm_num.proofs.Booleans.{first_holds, clash_gives}
 use Rattle.lvm_disk.specs.Device.{image_of}
 use Rattle.lvm_kept.specs.Contents.{Contents, contents_of}
 use Rattle.lvm_kept.specs.Group.{IsOneOf, is_named, is_stale_by, fresh_on}
@@ -92,10 +92,6 @@ planned_may_be_made c group status there sizes copies valid have are k d low =
 
 -- ---- the end
 
-one_side : {X : Type 0} (t : Bool) → IsTrue t → IsFalse t → X
-one_side true a b = absurd cc
-one_side false a b = absurd cc
-
 pub equalised_ends : EqualisedEnds
 equalised_ends copies targets sector old mid new group status there was between is valid inside told_old told_mid planned by copied notes_by =
     let notes = note_shows targets sector (image_of mid.sizes between) (image_of new.sizes is) notes_by in
@@ -107,7 +103,7 @@ equalised_ends copies targets sector old mid new group status there was between 
       equalled = planned_are_equalled group status there copies old mid was between valid told_old told_mid planned by copied;
       emptied = record {
         rest = notes.rest;
-        others = λ d isnt. ⊎_elim (λ same. same) (λ own. one_side (there d) (inside d own.0) isnt) (notes.own d);
+        others = λ d isnt. ⊎_elim (λ same. same) (λ own. clash_gives (there d) (inside d own.0) isnt) (notes.own d);
       };
     }
 

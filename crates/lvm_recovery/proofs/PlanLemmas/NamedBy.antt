@@ -11,7 +11,7 @@ use Rattle.std.proofs.lemmas.List.Kept.{Contains-dedup, Contains-from_dedup}
 use Rattle.std.proofs.lemmas.List.Filters.{dedup_is}
 use Rattle.lvm_num.specs.declared.record.NoteEntry.{NoteEntry}
 use Rattle.lvm_num.specs.Disks.{Disks}
-use Rattle.lvm_num.proofs.Booleans.{clash}
+use Rattle.lvm_num.proofs.Booleans.{clash, same_answer}
 use Rattle.lvm_rec.specs.declared.notes.Note.{Note}
 use Rattle.lvm_rec.specs.Note.{noted_of}
 use Rattle.lvm_kept.specs.Group.{IsOneOf, is_named, names_if}
@@ -141,15 +141,9 @@ is_same x y is =
 pub same_self : (x : TrackGroup) → same_group x x ≡ true
 same_self x = ap (λ (t : Bool). t && x.group == x.group) (eq-eqb x.volume x.volume refl) ∙ eq-eqb x.group x.group refl
 
-pub turn : (p q : Bool) → (p ≡ true → q ≡ true) → (q ≡ true → p ≡ true) → p ≡ q
-turn true true f g = refl
-turn true false f g = sym (f refl)
-turn false true f g = g refl
-turn false false f g = refl
-
 pub same_is_equivalence : IsEquivalence same_group
 same_is_equivalence = record {
   refl = same_self;
-  symm = λ x y. turn (same_group x y) (same_group y x) (λ is. subst (λ (z : TrackGroup). same_group z x ≡ true) (is_same x y is) (same_self x)) (λ is. subst (λ (z : TrackGroup). same_group z y ≡ true) (is_same y x is) (same_self y));
+  symm = λ x y. same_answer (same_group x y) (same_group y x) (λ is. subst (λ (z : TrackGroup). same_group z x ≡ true) (is_same x y is) (same_self x)) (λ is. subst (λ (z : TrackGroup). same_group z y ≡ true) (is_same y x is) (same_self y));
   congr = λ x y z is. ap (λ (w : TrackGroup). same_group w z) (is_same x y is);
 }

@@ -15,6 +15,7 @@ use Rattle.lvm_num.specs.Descriptor.{member_of, volume_of}
 use Rattle.lvm_num.specs.Record.{Stamped, newest_below}
 use Rattle.lvm_num.specs.Votes.{all_disks, votes_by, CanRead}
 use Rattle.lvm_num.proofs.VotesLemmas.{read_meets_read}
+use Rattle.lvm_num.proofs.Booleans.{some_if as behind}
 use Rattle.lvm_vol.specs.Facts.{Fact, Cut}
 use Rattle.lvm_vol.specs.May.{Known, known}
 use Rattle.lvm_vol.specs.declared.entry.Vol.TheVariants.{Lv}
@@ -28,11 +29,6 @@ use Rattle.lvm_kept.proofs.ChangesLemmas.Restamping.{fewer_blocks}
 use Rattle.lvm_crash.proofs.StandingLemmas.{shown}
 use Rattle.lvm_crash.proofs.GroupLemmas.Lists.{right_of}
 use Rattle.lvm_rest.specs.Examples.{Pair, status_of, shown_by}
-
--- what stands behind a test is the one thing that stands there
-behind : {X : Type 0} (t : Bool) (x r : X) → (if t then Some x else None) ≡ Some r → r ≡ x
-behind true x r e = cc
-behind false x r e = absurd cc
 
 pub first_partition : (lp : ℕ) → lp < 1 → lp ≡ 0
 first_partition lp low = omega arith

@@ -25,6 +25,7 @@ use Rattle.lvm_mwc.specs.Cache.{has_disk, flight_on, no_notes}
 use Rattle.lvm_status.specs.Update.{Updates, is_held, is_owed, is_there, seen}
 use Rattle.lvm_status.specs.Runs.{IsSoundStatus}
 use Rattle.lvm_num.specs.declared.descriptor.LvRow.{LvRow}
+use Rattle.lvm_num.proofs.Booleans.{not_so, not_either}
 use Rattle.lvm_session.specs.State.{Core}
 use Rattle.lvm_session.specs.Judging.{copies_in, is_stale, is_missing}
 use Rattle.lvm_session.specs.Marks.{is_among, can_replace, is_entailed}
@@ -32,7 +33,7 @@ use Rattle.lvm_session.specs.Placed.{IsPlaced, ArePlaced}
 use Rattle.lvm_session.specs.Causes.{faults_at_first}
 use Rattle.lvm_session.specs.Sound.{count_if, may_be_fresh, stays_fresh}
 use Rattle.lvm_session.specs.Worked.{Says, Moment, mirrored, first_copy, second_copy, status_of, fresh, calm, core_of, faultless}
-use Rattle.lvm_session.proofs.Small.{not_so, not_either, not_none}
+use Rattle.lvm_session.proofs.Small.{not_none}
 
 -- ---- the group
 
@@ -199,16 +200,6 @@ has_fresh m core stays lv lp = by_volume (1 == lv) lp
 
 pub none_missing_at_first : {X : Type 0} (disk : ℕ) → calls_missing (status_of fresh) disk ≡ true → X
 none_missing_at_first disk is = not_so (sym (none_missing false disk) ∙ is)
-
--- what is stale is stale by the one status
-pub one_stale : (a : Bool) → (a || a) || a ≡ true → a ≡ true
-one_stale true is = refl
-one_stale false is = is
-
--- and isn't wanted fresh
-pub none_cleared : (a : Bool) {X : Type 0} → a || a ≡ true → a ≡ false → X
-none_cleared true held clear = not_either clear
-none_cleared false held clear = not_so held
 
 -- ---- its room
 

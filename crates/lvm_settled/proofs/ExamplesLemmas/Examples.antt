@@ -1,7 +1,7 @@
 -- The sessions that are worked by hand are settled.
 use Rattle.std.proofs.Common.{◌≡◌, ⊎_elim, ℕ, zero, suc, ◌+◌, ◌<◌, Bool, true, false, ◌&&◌, ◌||◌, not, [], ◌∷◌, take, is_some, Option, Some, None, refl, sym, ap, subst, ◌∙◌, arith}
 use Rattle.std.specs.Prelude.{IsTrue, IsFalse, ◌==◌, if◌then◌else◌, option_and_then, slice_index_or}
-use Rattle.std.proofs.lemmas.Bool.{eqb-true}
+use Rattle.std.proofs.lemmas.Bool.{eqb-true, ne_eqb}
 use Rattle.std.proofs.lemmas.List.{length-replicate}
 use Rattle.std.proofs.lemmas.List.Elements.{All-cons, All-nil}
 use Rattle.lvm_num.specs.declared.descriptor.Mode.{Mode}
@@ -42,7 +42,7 @@ use Rattle.lvm_core.proofs.SoundLemmas.Own.{sound_ready}
 use Rattle.lvm_rest.specs.Rest.{IsEven, NoneIsBehind}
 use Rattle.lvm_rest.specs.Examples.{Pair, status_of, pair_sizes, framed_group, framed_status, shown_by, media_of, device_of, there_by, history_of, even_pair, naming_note}
 use Rattle.lvm_rest.proofs.ExamplesLemmas.Pairs.{the_descriptor}
-use Rattle.lvm_crash.proofs.WorkedLemmas.Shelf.{group_read, no-magic, not-equal}
+use Rattle.lvm_crash.proofs.WorkedLemmas.Shelf.{group_read, no-magic}
 use Rattle.lvm_rest.proofs.ExamplesLemmas.Sectors.{status_read, group_first, status_first, stands_else, second_zero, second_none, room, told}
 use Rattle.lvm_rest.proofs.ExamplesLemmas.Examples.{valid, there_in, at_both, enough, shows, behind, zeros_even, pairs_rest}
 use Rattle.lvm_settled.specs.Examples.{core_of, noted_cache, noted_core, IsSettledPair, PairsSettle}
@@ -71,7 +71,7 @@ there_at lost x d = by (d == 0) (d == 1) refl refl
     by : (s t : Bool) → (d == 0) ≡ s → (d == 1) ≡ t → at lost d
     by true t e f = subst (at lost) (sym (eqb-true d 0 e)) (at_zero lost)
     by false true e f = subst (at lost) (sym (eqb-true d 1 f)) (at_one lost)
-    by false false e f = neither lost (not-equal 0 d (λ is. clash (d == 0) (ap (λ (n : ℕ). n == 0) (sym is)) e)) (not-equal 1 d (λ is. clash (d == 1) (ap (λ (n : ℕ). n == 1) (sym is)) f)) e f
+    by false false e f = neither lost (ne_eqb 0 d (λ is. clash (d == 0) (ap (λ (n : ℕ). n == 0) (sym is)) e)) (ne_eqb 1 d (λ is. clash (d == 1) (ap (λ (n : ℕ). n == 1) (sym is)) f)) e f
       where
         clash : (b : Bool) → IsTrue b → IsFalse b → ⊥
         clash true g h = absurd cc

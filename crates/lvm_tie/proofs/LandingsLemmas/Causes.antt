@@ -6,6 +6,7 @@ use Rattle.std.proofs.lemmas.Bool.{eqb-true, leb-true, ltb-true}
 use Rattle.lvm_num.specs.declared.descriptor.Descriptor.{Descriptor}
 use Rattle.lvm_num.specs.declared.place.Pp.{Pp}
 use Rattle.lvm_num.specs.Geometry.{partition_blocks, partition_of}
+use Rattle.lvm_num.proofs.Booleans.{not_so}
 use Rattle.lvm_map.proofs.Parts.{parts, whole}
 use Rattle.lvm_map.proofs.PlacesLemmas.{mib_positive}
 use Rattle.lvm_disk.specs.Counts.{NoneFalls, Rose}
@@ -46,7 +47,7 @@ use Rattle.lvm_session.specs.Turns.{Darkens, FinishMakes, Finishes, GoesOff, Mak
 use Rattle.lvm_session.specs.Causes.{AnyFailedSince, AreCaused, AreCounted, HasFailed, IsCaused, IsCounted, IsLandedFor, faults_at_first, is_blamed, was_usable}
 use Rattle.lvm_session.specs.Requests.{IsOpenOne}
 use Rattle.lvm_session.specs.Sound.{IsAsked, IsSound}
-use Rattle.lvm_keeps_events.proofs.passed.Names.{landing_is_caused, all_at, all_on, all_set, loss_is_caused, both, not_so}
+use Rattle.lvm_keeps_events.proofs.passed.Names.{landing_is_caused, all_at, all_on, all_set, loss_is_caused, both}
 use Rattle.lvm_keeps_events.proofs.EndsLemmas.CopyReadFail.{at_number, some_at}
 use Rattle.lvm_keeps_events.proofs.EndsLemmas.Counts.{rose_on, rose_since}
 use Rattle.lvm_keeps_events.proofs.RequestsLemmas.{waits}

@@ -15,6 +15,7 @@ use Rattle.lvm_num.specs.Record.{Frames, Stamped, longest_content, stamp_lt}
 use Rattle.lvm_num.specs.Status.{IsValidStatus, calls_missing}
 use Rattle.lvm_num.specs.StatusBytes.{status_bytes, status_of}
 use Rattle.lvm_num.specs.Votes.{all_disks, is_enough_to_write, total_votes, votes_in, votes_of}
+use Rattle.lvm_num.proofs.Booleans.{place_below}
 use Rattle.lvm_vol.specs.Facts.{Fact}
 use Rattle.lvm_disk.specs.Device.{Image, image_of}
 use Rattle.lvm_rec.proofs.SlotsLemmas.SlotLaws.{may_write}
@@ -71,10 +72,6 @@ not_enough d = ap (is_enough_to_write d) (no_votes (votes_of d) d.pvs) ∙ by d.
 
 not_itself : (s : Stamp) → stamp_lt s s ≡ false
 not_itself s = grind (arith, nat_tests)
-
-slot_below : (b : Bool) → (if b then 1 else 0) < 2
-slot_below true = omega arith
-slot_below false = omega arith
 
 marks_of_some : (id : ℕ) (o : Option (Stamped Status)) (m : Stamped Marks) → marks_shown id o ≡ Some m → (r : Stamped Status) × (o ≡ Some r) × (as_marks r ≡ m)
 marks_of_some id None m is = absurd (cc is)
@@ -172,7 +169,7 @@ module _ (past : List Fact) (old new : State) (tied : IsTied past old) (sound : 
     stamp = refl;
     may = record {
       frames = frames;
-      slots = λ d. slot_below (second_slots kind.Status core.homes d);
+      slots = λ d. place_below (second_slots kind.Status core.homes d);
       there = records_there;
       each = λ d there. may_write Status status_of (on_disk fresh_write d) starts.status (image.sector d) frames reads (tied.recorded.next.spare d there (not_owed d))
           (later_may_go fresh_write (next_stamp core.status.stamp) image d tied.recorded.next.whole tied.recorded.next.before (ap (λ (s : Stamp). stamp_lt s (next_stamp core.status.stamp)) stamp_is ∙ not_itself (next_stamp core.status.stamp)) (records_there d there));

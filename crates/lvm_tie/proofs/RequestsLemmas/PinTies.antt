@@ -1,7 +1,7 @@
 -- A request that pins its track group, tied.
 use Rattle.std.proofs.Common.{◌≡◌, ◌⊎◌, inl, inr, ⊎_elim, ℕ, zero, suc, ◌<◌, ◌≤◌, Bool, true, false, ◌&&◌, ◌||◌, ◌==◌, not, if◌then◌else◌, List, [], ◌∷◌, length, cond, Option, Some, refl, sym, ap, subst, ◌∙◌, arith}
 use Rattle.std.specs.Prelude.{IsTrue, count_by, nat_le, slice_get, slice_set}
-use Rattle.std.proofs.lemmas.Bool.{cases_eq, eq-eqb}
+use Rattle.std.proofs.lemmas.Bool.{cases_eq, eq-eqb, and_parts}
 use Rattle.std.proofs.lemmas.Bool.Decides.{nat_tests}
 use Rattle.std.proofs.lemmas.List.Sums.{sum_by-cons}
 use Rattle.std.proofs.lemmas.Option.{slice_get_within}
@@ -42,7 +42,6 @@ use Rattle.lvm_invariant.specs.Pin.{Pins as MayPin, pinned}
 use Rattle.lvm_invariant.specs.Events.{Pin, ModelStep}
 use Rattle.lvm_invariant.proofs.EventsLemmas.Each.{each_keeps}
 use Rattle.lvm_tie_shelf.proofs.RecordsLemmas.Quiet.{quiet_lasts}
-use Rattle.lvm_tie_shelf.proofs.WritingLemmas.{and_both}
 use Rattle.lvm_tie.proofs.OutLemmas.Ties.{carry_on}
 use Rattle.lvm_tie.specs.Out.{CarriesStep}
 use Rattle.lvm_tie.specs.Seen.{IsRequestAt, IsStepAt, Sees, SeesRequest, phase_seen, update_of}
@@ -144,7 +143,7 @@ module _ (past : List Fact) (old new : State) (place : ℕ) (event : Pins old ne
   orderly = orderly_same old (state old.device core2) tied.write tied.orderly (subst IsSound whole sound) refl refl refl
 
   wants_entry : o.request.phase ≡ phase.WantEntry
-  wants_entry = pins_entry o.request.phase k o.request (and_both (is_pin (next_for core o)) (can_pin core.cache o.request.ask) event.pins).0
+  wants_entry = pins_entry o.request.phase k o.request (and_parts (is_pin (next_for core o)) (can_pin core.cache o.request.ask) event.pins).0
 
   sees2 : SeesRequest o2 q2
   sees2 = record { lv = sees.lv; first = sees.first; count = sees.count; write = sees.write; step = sees.step; phase = refl; several = sees.several; targets = sees.targets; got = sees.got }

@@ -19,6 +19,7 @@ use Rattle.lvm_num.specs.Geometry.{sector_of}
 use Rattle.lvm_num.specs.Note.{Noted, note_bytes, note_in}
 use Rattle.lvm_num.specs.Record.{frame, record_sectors, slot_start}
 use Rattle.lvm_num.proofs.NoteLemmas.{written_is_read}
+use Rattle.lvm_num.proofs.Booleans.{not_so}
 use Rattle.lvm_vol.specs.Facts.{Request as Asked}
 use Rattle.lvm_vol.specs.Log.{no_request, request_of}
 use Rattle.lvm_disk.specs.Device.{Flight}
@@ -62,11 +63,8 @@ all_at P [] k x all there = absurd (cc there)
 all_at P (y ∷ xs) zero x all there = let same : y ≡ x = cc there in subst P same all.0
 all_at P (y ∷ xs) (suc k) x all there = all_at P xs k x all.1 there
 
-false_so : {X : Type 0} → false ≡ true → X
-false_so e = absurd (cc e)
-
 pub any_there : {A : Type 0} (t : A → Bool) (xs : List A) → list_any t xs ≡ true → (k : ℕ) × (x : A) × (slice_get xs k ≡ Some x) × (t x ≡ true)
-any_there t [] is = false_so is
+any_there t [] is = not_so is
 any_there t (x ∷ xs) is = ⊎_elim (λ here. (0, x, refl, here)) (λ later. let r = any_there t xs later in (suc r.0, r.1, r.2, r.3)) (or_cases (t x) (list_any t xs) is)
 
 all_there : {A : Type 0} (t : A → Bool) (xs : List A) (k : ℕ) (x : A) → list_all t xs ≡ true → slice_get xs k ≡ Some x → t x ≡ true
@@ -288,10 +286,10 @@ module _ (s : State) (w : Option RecordWrite) (orderly : IsOrderly s w) where
       by false over = absurd (let e : false ≡ true = sym ((open_one k o there).still over) ∙ some_there (λ (u : Target). is_flying u.state) o.request.targets.items number t at (ap is_flying flying) in cc)
 
   is_flying_state : (x : TargetState) → is_flying x ≡ true → x ≡ target.Flying
-  is_flying_state target.Waiting is = false_so is
+  is_flying_state target.Waiting is = not_so is
   is_flying_state target.Flying is = refl
-  is_flying_state target.Done is = false_so is
-  is_flying_state target.Failed is = false_so is
+  is_flying_state target.Done is = not_so is
+  is_flying_state target.Failed is = not_so is
 
   data_out : (id number : ℕ) (f : Flight) → flies core (owner.Data id number) ≡ true → IsDataOf core id number f → IsDataOut core f id number
   data_out id number f out its =

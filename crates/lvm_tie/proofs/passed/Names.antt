@@ -5,4 +5,4 @@ pub use Rattle.lvm_commit.proofs.RecordLemmas.{status_fits}
 pub use Rattle.lvm_tie_shelf.proofs.DeviceLemmas.{writes_at}
 pub use Rattle.lvm_tie_shelf.proofs.OwnedLemmas.{reads_none}
 pub use Rattle.lvm_tie_shelf.proofs.RecordsLemmas.Quiet.{quiet_lasts}
-pub use Rattle.lvm_tie_shelf.proofs.WritingLemmas.{and_both, pp_same}
+pub use Rattle.lvm_tie_shelf.proofs.WritingLemmas.{pp_same}

@@ -2,6 +2,7 @@
 use Rattle.std.proofs.Common.{◌≡◌, ◌⊎◌, inl, ⊎_elim, ℕ, Bool, true, false, ◌&&◌, ◌==◌, not, eqb-true, List, Option, Some, None, refl, sym, ap, subst, ◌∙◌, arith}
 use Rattle.std.specs.Prelude.{IsTrue, IsFalse, if◌then◌else◌, is_some, option_and_then, option_map}
 use Rattle.std.specs.Option.{option_map_or}
+use Rattle.std.proofs.lemmas.Bool.{and_parts}
 use Rattle.std.proofs.lemmas.Bool.Decides.{nat_tests}
 use Rattle.lvm_num.specs.declared.record.Stamp.{Stamp}
 use Rattle.lvm_num.specs.declared.descriptor.Descriptor.{Descriptor}
@@ -30,7 +31,6 @@ use Rattle.lvm_rest.specs.Rest.{IsAtRest, IsIdle, SeesThat}
 use Rattle.lvm_rest.proofs.GoodLemmas.Rest.{good_is_rest}
 use Rattle.lvm_steps.proofs.GroupLemmas.Members.{parts_of}
 use Rattle.lvm_tie.specs.passed.Names.{Began}
-use Rattle.lvm_tie.proofs.passed.Names.{and_both}
 use Rattle.lvm_tie.proofs.StateLemmas.{there_first}
 use Rattle.lvm_tie.proofs.TiedLemmas.Orderly.{valid_of}
 use Rattle.lvm_tie.proofs.TiedLemmas.Recorded.{shown_of, shows_own}
@@ -139,7 +139,7 @@ module _ (past : List Fact) (s : State) (tied : IsTied past s) (rests : IsRestin
 
   room : (d : ℕ) → IsTrue (is_there core d) → IsTrue (has_room c d group)
   room d there =
-      let parts = and_both (is_member group d) (not (calls_missing core.status.wanted d)) there in
+      let parts = and_parts (is_member group d) (not (calls_missing core.status.wanted d)) there in
       (parts_of c all_disks group.id group d (tied.recorded.members d parts.0 (there_first past s tied d (not_true (calls_missing core.status.wanted d) parts.1)))).2
 
   its_status : ShowsStatus group core.status c

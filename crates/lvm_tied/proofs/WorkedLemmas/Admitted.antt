@@ -13,11 +13,11 @@ use Rattle.lvm_kept.specs.Examples.{row_of}
 use Rattle.lvm_num.specs.Bits.{has_bit}
 use Rattle.lvm_num.specs.Disks.{has}
 use Rattle.lvm_num.specs.Votes.{votes_by}
+use Rattle.lvm_num.proofs.Booleans.{not_so, not_either}
 use Rattle.lvm_path.specs.declared.facts.Next.TheVariants as next
 use Rattle.lvm_session.specs.Judging.{next_for}
 use Rattle.lvm_session.specs.State.{State}
 use Rattle.lvm_status.specs.Calls.{BecomesDirty}
-use Rattle.lvm_session.proofs.Small.{not_so, not_either}
 use Rattle.lvm_session.specs.Calls.{new_open}
 use Rattle.lvm_session.specs.Events.{Admits}
 use Rattle.lvm_keeps_events.proofs.KeepsLemmas.Admission.{admission_keeps}

@@ -15,6 +15,7 @@ use Rattle.lvm_num.specs.Note.{IsEntry}
 use Rattle.lvm_num.specs.Geometry.{sectors_needed}
 use Rattle.lvm_num.specs.Status.{calls_missing}
 use Rattle.lvm_num.proofs.DisksLemmas.{has-zero}
+use Rattle.lvm_num.proofs.Booleans.{not_either}
 use Rattle.lvm_kept.specs.Examples.{member, two}
 use Rattle.lvm_kept.proofs.CommittedLemmas.Finding.{some_same}
 use Rattle.lvm_mwc.specs.declared.notes.DiskNotes.{DiskNotes}
@@ -30,7 +31,6 @@ use Rattle.lvm_invariant.specs.First.{first_copy, second_copy}
 use Rattle.lvm_session.specs.Left.{updates_left}
 use Rattle.lvm_session.specs.Placed.{IsPlaced, ArePlaced}
 use Rattle.lvm_session.specs.Sound.{IsFitting, IsSound}
-use Rattle.lvm_session.proofs.Small.{not_either}
 use Rattle.lvm_session.proofs.WorkedLemmas.Parts.{idle_is_sound, none_written, zeros_at}
 use Rattle.lvm_keeps.specs.Begins.{IsUnused, IsCalm, Begins}
 use Rattle.lvm_keeps.proofs.BeginsLemmas.{beginning_is_sound}

@@ -1,12 +1,12 @@
 -- A session that has just begun is seen as a good state.
-use Rattle.std.proofs.Common.{◌≡◌, inl, ⊎_elim, ℕ, zero, suc, Bool, true, false, ◌&&◌, ◌||◌, ◌==◌, not, [], Some, None, refl, sym, ap, subst, ◌∙◌, arith}
+use Rattle.std.proofs.Common.{◌≡◌, inl, ⊎_elim, ℕ, zero, suc, Bool, true, false, ◌&&◌, ◌||◌, ◌==◌, not, [], Some, None, refl, sym, ap, subst, ◌∙◌}
 use Rattle.std.specs.Prelude.{IsTrue, slice_get, if◌then◌else◌, nat_lt}
-use Rattle.std.proofs.lemmas.Bool.Decides.{nat_tests}
 use Rattle.lvm_num.specs.declared.place.Pp.{Pp}
 use Rattle.lvm_num.specs.declared.descriptor.Mode.{Mode}
 use Rattle.lvm_num.specs.Descriptor.{is_member}
 use Rattle.lvm_num.specs.Record.{Stamped}
 use Rattle.lvm_num.proofs.DisksLemmas.{has-zero}
+use Rattle.lvm_num.proofs.Booleans.{same_turned, not_so}
 use Rattle.lvm_kept.specs.Contents.{contents_of}
 use Rattle.lvm_kept.specs.Examples.{two}
 use Rattle.lvm_kept.proofs.CommittedLemmas.Finding.{some_same}
@@ -25,7 +25,6 @@ use Rattle.lvm_crash.specs.Session.{marks_of, AreVotesOf, Describes}
 use Rattle.lvm_crash.proofs.GroupLemmas.Lists.{right_of}
 use Rattle.lvm_crash.proofs.WorkedLemmas.Worked.{enough, its_marks, on_either}
 use Rattle.lvm_crash.proofs.WorkedLemmas.Shelf.{image, describes, fits_still}
-use Rattle.lvm_session.proofs.Small.{not_so}
 use Rattle.lvm_session.proofs.WorkedLemmas.Parts.{not_marked}
 use Rattle.lvm_tie.specs.Seen.{SeesNote, Sees}
 use Rattle.lvm_tied.specs.Worked.{shown, table, making, core_of}
@@ -60,16 +59,13 @@ it_describes mode stale = let w = shown mode stale in describes w (seen_as mode 
 
 -- ---- it is the session's
 
-swapped : (n m : ℕ) → (n == m) ≡ (m == n)
-swapped n m = grind (arith, nat_tests)
-
 none_at : {A X : Type 0} (k : ℕ) (x : A) → slice_get [] k ≡ Some x → X
 none_at zero x e = absurd cc
 none_at (suc k) x e = absurd cc
 
 module _ (mode : Mode) (stale : Bool) where
   pub there : (d : ℕ) → is_there (core_of mode stale) d ≡ two_disks d
-  there d = ap (λ (t : Bool). is_member (two mode) d && not t) (none_missing mode stale d) ∙ by (0 == d) (1 == d) ∙ (λ t. swapped 0 d t || swapped 1 d t)
+  there d = ap (λ (t : Bool). is_member (two mode) d && not t) (none_missing mode stale d) ∙ by (0 == d) (1 == d) ∙ (λ t. same_turned 0 d t || same_turned 1 d t)
     where
       by : (a b : Bool) → (a || (b || false)) && true ≡ a || b
       by true b = refl

@@ -2,6 +2,7 @@
 use Rattle.std.proofs.Common.{◌≡◌, inr, ℕ, zero, suc, ◌+◌, ◌<◌, Bool, true, false, ◌&&◌, ◌||◌, ◌==◌, List, [], ◌∷◌, length, take, Some, refl, sym, ap, subst, ◌∙◌, arith, eqb-true}
 use Rattle.std.specs.Prelude.{IsTrue, nat_lt, slice_index, if◌then◌else◌}
 use Rattle.std.specs.List.{list_all}
+use Rattle.std.proofs.lemmas.Bool.{ne_eqb}
 use Rattle.std.proofs.lemmas.Bool.Decides.{nat_tests}
 use Rattle.lvm_num.specs.declared.descriptor.Mode.{Mode}
 use Rattle.lvm_num.specs.declared.descriptor.Mode.TheVariants.{Active, Passive, Off}
@@ -13,6 +14,7 @@ use Rattle.lvm_num.specs.Descriptor.{is_member}
 use Rattle.lvm_num.specs.Record.{frame, slot_start, slot_size, kind_magic, stamp_lt}
 use Rattle.lvm_num.specs.Torn.{stamp_of}
 use Rattle.lvm_num.specs.StatusBytes.{status_of}
+use Rattle.lvm_num.proofs.Booleans.{not_so, some_if, not_either}
 use Rattle.lvm_rec.specs.Slots.{slot_for, slot_to_write}
 use Rattle.lvm_kept.specs.Contents.{contents_of, descriptor_on, status_on}
 use Rattle.lvm_kept.specs.Examples.{either_of, stamped, two}
@@ -24,10 +26,9 @@ use Rattle.lvm_commit.specs.Committed.{next_stamp}
 use Rattle.lvm_rec.specs.Homes.{next_slot}
 use Rattle.lvm_crash.specs.Session.{members_showing}
 use Rattle.lvm_crash.specs.Worked.{Shown, framed_group, framed_status, media_of, status_shown}
-use Rattle.lvm_crash.proofs.WorkedLemmas.Worked.{base, behind}
+use Rattle.lvm_crash.proofs.WorkedLemmas.Worked.{base}
 use Rattle.lvm_crash.proofs.GroupLemmas.Lists.{left_of, right_of}
-use Rattle.lvm_crash.proofs.WorkedLemmas.Shelf.{image, not-equal, no-magic, second_zero, status_held, status_none, statuses_on, the_status, descriptors}
-use Rattle.lvm_session.proofs.Small.{not_so, not_either}
+use Rattle.lvm_crash.proofs.WorkedLemmas.Shelf.{image, no-magic, second_zero, status_held, status_none, statuses_on, the_status, descriptors}
 use Rattle.lvm_tie.specs.Out.{MayUpdate}
 use Rattle.lvm_tie.specs.Tied.{ShowsRecords}
 use Rattle.lvm_tied.specs.Worked.{shown, core_of}
@@ -75,7 +76,7 @@ module _ (mode : Mode) (stale : Bool) where
       by false false = zeros-sector
 
   zero_else : (d s : ℕ) → (s ≡ 512 → ⊥) → (s ≡ 64 → ⊥) → media_of w d s ≡ zero_sector
-  zero_else d s a b = by (s == 512) (s == 64) (not-equal s 512 a) (not-equal s 64 b)
+  zero_else d s a b = by (s == 512) (s == 64) (ne_eqb s 512 a) (ne_eqb s 64 b)
     where
       by : (a b : Bool) → a ≡ false → b ≡ false
           → (if a then frame kind.Descriptor (framed_group mode).stamp (framed_group mode).content 0 else if b then frame kind.Status (framed_status w).stamp (framed_status w).content 0 else zero_sector) ≡ zero_sector
@@ -134,7 +135,7 @@ module _ (mode : Mode) (stale : Bool) where
     descriptor = stamped 2 (two mode);
     value = refl;
     described = λ d there. at_both mode (λ (n : ℕ). descriptor_on (image w) n ≡ Some (stamped 2 (two mode))) (descriptors w 0) (descriptors w 1) d (left_of (is_member (two mode) d) _ there);
-    latest = λ d r is own. inr (behind (either_of 0 1 d) (stamped 2 (two mode)) r (sym (descriptors w d) ∙ is));
+    latest = λ d r is own. inr (some_if (either_of 0 1 d) (stamped 2 (two mode)) r (sym (descriptors w d) ∙ is));
     settled = λ none. record {
       stands = status_shown w;
       committed = refl;

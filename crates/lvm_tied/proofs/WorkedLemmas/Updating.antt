@@ -1,6 +1,7 @@
 -- A session in which a write of the status is out is tied.
 use Rattle.std.proofs.Common.{◌≡◌, inr, ℕ, zero, suc, ◌<◌, Bool, true, false, ◌&&◌, ◌||◌, ◌==◌, not, Some, length, refl, sym, ap, ◌∙◌, arith, eqb-true}
 use Rattle.std.specs.Prelude.{if◌then◌else◌, slice_get}
+use Rattle.std.proofs.lemmas.Bool.{ne_eqb}
 use Rattle.lvm_num.specs.declared.descriptor.Mode.TheVariants.{Passive}
 use Rattle.lvm_num.specs.declared.record.Kind.TheVariants as kind
 use Rattle.lvm_num.specs.declared.status.Status.{Status}
@@ -14,7 +15,6 @@ use Rattle.lvm_invariant.specs.First.{two_disks}
 use Rattle.lvm_disk.specs.Steps.{Starts}
 use Rattle.lvm_status.specs.Update.{Stored, seen}
 use Rattle.lvm_status.specs.Calls.{with_update, with_start}
-use Rattle.lvm_crash.proofs.WorkedLemmas.Shelf.{not-equal}
 use Rattle.lvm_session.specs.Events.{Begins, IsStatusWrite, StartsStatus}
 use Rattle.lvm_keeps_events.proofs.KeepsLemmas.StatusStart.{status_start_keeps}
 use Rattle.lvm_tie.proofs.RecordsLemmas.StatusTies.{status_start_ties}
@@ -84,7 +84,7 @@ starts : Starts marked.device recording record_write
 starts = record {
   power = refl;
   fresh = tt;
-  starts = record { here = record { later = omega arith; risen = omega arith }; once = refl; elsewhere = λ d other. ap (λ (t : Bool). if t then 1 else 0) (not-equal d 0 other) };
+  starts = record { here = record { later = omega arith; risen = omega arith }; once = refl; elsewhere = λ d other. ap (λ (t : Bool). if t then 1 else 0) (ne_eqb d 0 other) };
   wrote = tt;
   new_is = refl;
 }

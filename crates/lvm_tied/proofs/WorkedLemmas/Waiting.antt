@@ -1,11 +1,11 @@
 -- A session in which a write waits is tied.
 use Rattle.std.proofs.Common.{ℕ, Bool, List, length, replicate, Ok, refl, sym, ap, arith}
 use Rattle.lvm_num.specs.declared.descriptor.Mode.{Mode}
+use Rattle.lvm_num.proofs.Booleans.{not_so}
 use Rattle.lvm_kept.proofs.CommittedLemmas.Finding.{some_same}
 use Rattle.lvm_session.specs.Calls.{submitted, SubmitGives}
 use Rattle.lvm_session.specs.Asking.{IsAsking, IsAwake}
 use Rattle.lvm_session.specs.Sound.{IsSound}
-use Rattle.lvm_session.proofs.Small.{not_so}
 use Rattle.lvm_keeps_calls.proofs.KeepsLemmas.{submit_keeps}
 use Rattle.lvm_tie.proofs.RequestsLemmas.SubmitTies.{submit_ties}
 use Rattle.lvm_tied.specs.Worked.{making, core_of, begun, a_write, its_bytes, waiting, WaitingAreTied}

@@ -1,6 +1,7 @@
 -- A session in which the write of a copy is out is tied.
 use Rattle.std.proofs.Common.{◌≡◌, ℕ, zero, suc, ◌<◌, Bool, true, false, refl, ap, arith}
 use Rattle.std.specs.Prelude.{if◌then◌else◌, slice_get}
+use Rattle.std.proofs.lemmas.Bool.{ne_eqb}
 use Rattle.lvm_num.specs.declared.descriptor.Mode.TheVariants.{Off}
 use Rattle.lvm_num.specs.declared.descriptor.Policy.TheVariants.{Parallel}
 use Rattle.lvm_num.specs.Bits.{has_bit}
@@ -11,7 +12,6 @@ use Rattle.lvm_vol.specs.Log.{request_of}
 use Rattle.lvm_path.specs.declared.target.Target.{Target}
 use Rattle.lvm_sched.specs.declared.writes.TargetState.TheVariants as stage
 use Rattle.lvm_session.specs.declared.open.Open.{Open}
-use Rattle.lvm_crash.proofs.WorkedLemmas.Shelf.{not-equal}
 use Rattle.lvm_session.specs.Calls.{new_open}
 use Rattle.lvm_session.specs.Events.{admitted_as, IsDataTransfer, IsDueAt, StartsData}
 use Rattle.lvm_keeps_events.proofs.KeepsLemmas.DataStart.{data_start_keeps}
@@ -34,7 +34,7 @@ starts : Starts (admitted Off false).device launched transfer
 starts = record {
   power = refl;
   fresh = tt;
-  starts = record { here = record { later = omega arith; risen = omega arith }; once = refl; elsewhere = λ d other. ap (λ (t : Bool). if t then 1 else 0) (not-equal d 0 other) };
+  starts = record { here = record { later = omega arith; risen = omega arith }; once = refl; elsewhere = λ d other. ap (λ (t : Bool). if t then 1 else 0) (ne_eqb d 0 other) };
   wrote = tt;
   new_is = refl;
 }

@@ -7,11 +7,12 @@ use Rattle.lvm_num.specs.declared.descriptor.PvRow.{PvRow}
 use Rattle.lvm_num.specs.Descriptor.{is_member}
 use Rattle.lvm_num.specs.Votes.{is_enough_to_write, votes_in}
 use Rattle.lvm_num.proofs.VotesLemmas.{more_have_more, more_is_enough}
+use Rattle.lvm_num.proofs.Booleans.{not_so}
 use Rattle.lvm_status.specs.Update.{members_there}
 use Rattle.lvm_session.specs.State.{State, is_there, votes_there}
 use Rattle.lvm_session.specs.Enabled.{is_lost}
 use Rattle.lvm_session.specs.Judging.{is_missing}
-use Rattle.lvm_keeps_events.proofs.passed.Names.{witness, both, is_false, not_so}
+use Rattle.lvm_keeps_events.proofs.passed.Names.{witness, both, is_false}
 use Rattle.lvm_turn_losses.specs.Losing.{HasFailedOn, LosesByFaults, LostForFaults, VotesGoByFaults}
 
 none_of : (rows : List PvRow) → list_any (λ (row : PvRow). false) rows ≡ false

@@ -3,6 +3,7 @@ use Rattle.std.proofs.Common.{◌≡◌, ◌⊎◌, inl, inr, ℕ, Bool, true, f
 use Rattle.std.specs.List.{list_any}
 use Rattle.lvm_num.specs.declared.place.Pp.{Pp}
 use Rattle.lvm_num.specs.Descriptor.{is_pp}
+use Rattle.lvm_num.proofs.Booleans.{not_so}
 use Rattle.lvm_vol.specs.declared.entry.Outcome.{Outcome}
 use Rattle.lvm_sched.specs.declared.writes.TargetState.{TargetState}
 use Rattle.lvm_path.specs.declared.ask.Ask.{Ask}
@@ -16,7 +17,7 @@ use Rattle.lvm_session.specs.Causes.{fails_on}
 use Rattle.lvm_session.specs.Dark.{ended_as}
 use Rattle.lvm_session.specs.Events.{Chooses, ChoosesBy, target_at}
 use Rattle.lvm_session.specs.State.{State}
-use Rattle.lvm_keeps_events.proofs.passed.Names.{both, not_so}
+use Rattle.lvm_keeps_events.proofs.passed.Names.{both}
 use Rattle.lvm_keeps_events.proofs.TargetsLemmas.{at_state}
 use Rattle.lvm_keeps_events.proofs.Lists.{any_at, either, set_either}
 

@@ -7,6 +7,7 @@ use Rattle.lvm_num.specs.Buffer.{Buffer}
 use Rattle.lvm_num.specs.declared.place.Pp.{Pp}
 use Rattle.lvm_num.specs.Status.{calls_stale}
 use Rattle.lvm_num.specs.Descriptor.{is_pp}
+use Rattle.lvm_num.proofs.Booleans.{not_so}
 use Rattle.lvm_disk.specs.Counts.{Rose}
 use Rattle.lvm_path.specs.declared.target.Target.{Target}
 use Rattle.lvm_path.specs.Asks.{is_write, lv_of}
@@ -34,7 +35,7 @@ use Rattle.lvm_session.specs.Marks.{WantsDirtyIf, due_of, end_by_write, hits_cop
 use Rattle.lvm_session.specs.Sound.{IsCopy, IsSound}
 use Rattle.lvm_session.specs.State.{Core, State}
 use Rattle.lvm_session.specs.Turns.{Darkens, FinishMakes, Finishes, GoesOff, Makes, Moves, NoStart, OnMakes, TurnMakes, WasDark, WasOff, WasOn}
-use Rattle.lvm_keeps_events.proofs.passed.Names.{set_here, both, not_so}
+use Rattle.lvm_keeps_events.proofs.passed.Names.{set_here, both}
 use Rattle.lvm_keeps_events.specs.EndsData.{EndsData}
 use Rattle.lvm_keeps_events.proofs.TargetsLemmas.{set_state}
 use Rattle.lvm_keeps_events.proofs.EndsDataLemmas.{aim, aim_is, entails, going, long, mid, o, own, place, rose, there, x}

@@ -5,7 +5,7 @@ use Rattle.std.specs.List.{list_any}
 use Rattle.std.specs.Int.{w16, to_be_bytes}
 use Rattle.std.proofs.Math.Nat.{div-mul-le_self, lt-div-mul-add, div-lt_iff_lt-mul}
 use Rattle.std.proofs.lemmas.Nat.{div-mul-add}
-use Rattle.std.proofs.lemmas.Bool.{cases_Bool, cases_lt, false≢true, eq-eqb, eqb-true}
+use Rattle.std.proofs.lemmas.Bool.{cases_Bool, cases_lt, false≢true, eq-eqb, eqb-true, not_from_false, ne_eqb, eqb-false}
 use Rattle.std.proofs.lemmas.List.{get_or_append_left, get_or-append-add, get_or-drop, get_or-take, length-drop, length-take}
 use Rattle.std.proofs.lemmas.List.Concat.{flat_map-cons}
 use Rattle.std.proofs.lemmas.List.Elements.{All-nil, All-cons, All-tail, All-append}
@@ -18,7 +18,7 @@ use Rattle.lvm_num.specs.DescriptorBytes.{partition_bytes, unfinished, is_at, pa
 use Rattle.lvm_num.specs.Reading.{◌>>=◌, Rest, number_at}
 use Rattle.lvm_num.proofs.Pairs.{All-left, All-right, AllPairs-left}
 use Rattle.lvm_descriptor.proofs.passed.Names.{IsBytes, bind_ok, ok_is, both, from_both, Takes, Takes-then, wide16, number_takes, number_again}
-use Rattle.lvm_vgda.proofs.DescriptorBytesLemmas.MemberLaws.{none_of, then_is, All-snoc, AllPairs-snoc, AllPairs-last, not_true, not_false}
+use Rattle.lvm_vgda.proofs.DescriptorBytesLemmas.MemberLaws.{none_of, then_is, All-snoc, AllPairs-snoc, AllPairs-last, not_true}
 use Rattle.lvm_vgda.proofs.DescriptorLemmas.VolumeLaws.{bare}
 use Rattle.lvm_vgda.proofs.UsedLemmas.{its_member}
 
@@ -62,9 +62,9 @@ unfolding partition_at
 partition_again members used copies own place pp rest each free =
     let small = its_member members pp.disk pp.pp each free.has in
     let disk = number_again w16 _ wide16 (λ n. list_any (λ (row : PvRow). row.disk == n) members && not (list_any (λ (p : Pp). p.disk == n) (unfinished copies own))) place pp.disk (to_be_bytes w16 pp.pp ++ rest)
-    (omega (arith, small.0)) (from_both (list_any (λ (row : PvRow). row.disk == pp.disk) members) (not (list_any (λ (p : Pp). p.disk == pp.disk) (unfinished copies own))) (has_disk members pp free.has) (not_false _ free.apart)) in
+    (omega (arith, small.0)) (from_both (list_any (λ (row : PvRow). row.disk == pp.disk) members) (not (list_any (λ (p : Pp). p.disk == pp.disk) (unfinished copies own))) (has_disk members pp free.has) (not_from_false _ free.apart)) in
     let number = number_again w16 _ wide16 (λ n. list_any (λ (row : PvRow). row.disk == pp.disk && nat_lt n row.pps) members && not (list_any (λ (p : Pp). is_at p pp.disk n) (used ++ own))) (place + 2) pp.pp rest
-    (omega (arith, small.1)) (from_both (list_any (λ (row : PvRow). row.disk == pp.disk && nat_lt pp.pp row.pps) members) (not (list_any (λ (p : Pp). is_at p pp.disk pp.pp) (used ++ own))) free.has (not_false _ free.new)) in
+    (omega (arith, small.1)) (from_both (list_any (λ (row : PvRow). row.disk == pp.disk && nat_lt pp.pp row.pps) members) (not (list_any (λ (p : Pp). is_at p pp.disk pp.pp) (used ++ own))) free.has (not_from_false _ free.new)) in
     let same : place + 2 + 2 ≡ place + 4 = omega arith in
     then_is _ _ _ disk ∙ then_is _ _ _ number ∙ ap (λ n. Ok (pp, (n, rest))) same
 
@@ -82,9 +82,6 @@ pub record Fit (members : List PvRow) (used : List Pp) (copies : ℕ) (own : Lis
 last_at : {X : Type 0} (xs : List X) (x : X) (d : X) → get_or (xs ++ x ∷ []) (length xs) d ≡ x
 last_at xs x d = ap (λ n. get_or (xs ++ x ∷ []) n d) (let e : length xs ≡ length xs + 0 = omega arith in e) ∙ get_or-append-add xs (x ∷ []) 0 d
 
-differs : (m n : ℕ) → m == n ≡ false → m ≢ n
-differs m n isnt same = false≢true (sym isnt ∙ eq-eqb m n same)
-
 strict-more : (copies : ℕ) (own : List Pp) (pp : Pp) → IsStrict copies own → list_any (λ (p : Pp). p.disk == pp.disk) (unfinished copies own) ≡ false → IsStrict copies (own ++ pp ∷ [])
 strict-more copies own pp old apart i j d less lt same = elim (cases_lt j (length own)) [
   | inl before ↦
@@ -100,7 +97,7 @@ strict-more copies own pp old apart i j d less lt same = elim (cases_lt j (lengt
       let isnt = none_of (λ (p : Pp). p.disk == pp.disk) (drop (length own / copies * copies) own) apart (i - length own / copies * copies) d (omega (arith, length-drop (length own / copies * copies) own, begins, less, last)) in
       let here : (get_or (own ++ pp ∷ []) j d) ≡ pp = ap (λ n. get_or (own ++ pp ∷ []) n d) last ∙ last_at own pp d in
       subst (λ (p : Pp). p.disk ≢ (get_or (own ++ pp ∷ []) j d).disk) (at ∙ sym (get_or_append_left own (pp ∷ []) d i (omega (arith, less, last))))
-      (subst (λ (q : Pp). (get_or (drop (length own / copies * copies) own) (i - length own / copies * copies) d).disk ≢ q.disk) (sym here) (differs _ pp.disk isnt))
+      (subst (λ (q : Pp). (get_or (drop (length own / copies * copies) own) (i - length own / copies * copies) d).disk ≢ q.disk) (sym here) (eqb-false _ pp.disk isnt))
 ]
 
 pub is_same : (p q : Pp) → p ≡ q → is_at p q.disk q.pp ≡ true
@@ -169,10 +166,6 @@ is_apart p q apart = elim (cases_Bool (is_at p q.disk q.pp)) [
   | inr isnt ↦ isnt
 ]
 
-unequal : (m n : ℕ) → m ≢ n → m == n ≡ false
-unequal m n apart = elim (cases_Bool (m == n)) [
-  | inl is ↦ absurd (apart (eqb-true m n is))
-  | inr isnt ↦ isnt
 ]
 
 last_is_free : (members : List PvRow) (used : List Pp) (copies : ℕ) (own : List Pp) (pp : Pp) → 0 < copies → Fit members used copies (own ++ pp ∷ []) → IsFree members used copies own pp
@@ -190,7 +183,7 @@ last_is_free members used copies own pp some fit = record {
       let one : get_or (own ++ pp ∷ []) (length own / copies * copies + k) d ≡ get_or own (length own / copies * copies + k) d = get_or_append_left own (pp ∷ []) d (length own / copies * copies + k) inside in
       let two : get_or (own ++ pp ∷ []) (length own) d ≡ pp = last_at own pp d in
       let apart = fit.strict (length own / copies * copies + k) (length own) d inside (omega (arith, length-append own (pp ∷ []))) group in
-      unequal (get_or (drop (length own / copies * copies) own) k d).disk pp.disk
+      ne_eqb (get_or (drop (length own / copies * copies) own) k d).disk pp.disk
       (subst (λ (p : Pp). p.disk ≢ pp.disk) (one ∙ sym here) (subst (λ (q : Pp). (get_or (own ++ pp ∷ []) (length own / copies * copies + k) d).disk ≢ q.disk) two apart)));
   new = list_any_none (λ (p : Pp). is_at p pp.disk pp.pp) (used ++ own)
       (λ k d lt. is_apart (get_or (used ++ own) k d) pp

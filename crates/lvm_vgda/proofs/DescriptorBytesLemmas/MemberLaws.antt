@@ -3,7 +3,7 @@ use Rattle.std.proofs.Common.{◌≡◌, ◌≢◌, inl, inr, ℕ, zero, suc, �
 use Rattle.std.specs.Prelude.{◌==◌, not, nat_le, nat_lt, flat_map, All, AllPairs}
 use Rattle.std.specs.List.{list_all, list_any}
 use Rattle.std.specs.Int.{w8, w16, to_be_bytes}
-use Rattle.std.proofs.lemmas.Bool.{cases_Bool, false≢true, eq-eqb}
+use Rattle.std.proofs.lemmas.Bool.{cases_Bool, false≢true, not_from_false, ne_eqb, eqb-false}
 use Rattle.std.proofs.lemmas.Bool.Decides.{nat_tests}
 use Rattle.std.proofs.lemmas.List.Concat.{flat_map-cons}
 use Rattle.std.proofs.lemmas.List.Elements.{All-append, All-nil, All-cons}
@@ -54,9 +54,6 @@ all_from p (x ∷ xs) each = from_both (p x) (list_all p xs) (each 0 x (omega ar
 pub then_is : {A B : Type 0} (r : Result A ℕ) (f : A → Result B ℕ) (x : A) → r ≡ Ok x → (r >>= f) ≡ f x
 then_is {A} {B} r f x e = ap (λ (read : Result A ℕ). read >>= f) e
 
-pub not_false : (b : Bool) → b ≡ false → not b ≡ true
-not_false b e = rw e refl
-
 -- ---- flags
 
 pub flag_is : (n : ℕ) → is_flag n ≡ true → n ≡ flag (n == 1)
@@ -77,12 +74,6 @@ flag_below true = omega arith
 flag_below false = omega arith
 
 -- ---- a member
-
-pub differs : (m n : ℕ) → m == n ≡ false → m ≢ n
-differs m n isnt same = false≢true (sym isnt ∙ eq-eqb m n same)
-
-pub unequal : (m n : ℕ) → m ≢ n → m == n ≡ false
-unequal m n apart = grind (arith, nat_tests)
 
 pub disk_below : (n : ℕ) → nat_lt n 128 ≡ true → n < 128
 disk_below n e = grind (arith, nat_tests)
@@ -134,7 +125,7 @@ pub member_again : (earlier : List PvRow) (place : ℕ) (row : PvRow) (rest : Li
 unfolding member_at
 member_again earlier place row rest is new =
     let disk = number_again w16 _ wide16 (λ n. nat_lt n 128 && not (list_any (λ (other : PvRow). other.disk == n) earlier)) place row.disk (to_be_bytes w16 row.pps ++ (flag row.spare ∷ (replicate 3 0 ++ rest)))
-    (omega (arith, is.disk)) (from_both (nat_lt row.disk 128) (not (list_any (λ (other : PvRow). other.disk == row.disk) earlier)) (lt_test row.disk 128 is.disk) (not_false _ new)) in
+    (omega (arith, is.disk)) (from_both (nat_lt row.disk 128) (not (list_any (λ (other : PvRow). other.disk == row.disk) earlier)) (lt_test row.disk 128 is.disk) (not_from_false _ new)) in
     let pps = number_again w16 _ wide16 (λ n. nat_le 1 n && nat_le n 1016) (place + 2) row.pps (flag row.spare ∷ (replicate 3 0 ++ rest))
     (omega (arith, is.partitions)) (from_both (nat_le 1 row.pps) (nat_le row.pps 1016) (le_test 1 row.pps is.a_partition) (le_test row.pps 1016 is.partitions)) in
     let spare = byte_again is_flag (place + 2 + 2) (flag row.spare) (replicate 3 0 ++ rest) (is_flag_flag row.spare) in
@@ -160,7 +151,7 @@ pub members-more : (earlier : List PvRow) (row : PvRow) → AreMembers earlier �
 members-more earlier row all is new = record {
   each = All-snoc IsMember earlier row all.each is;
   disks_differ = AllPairs-snoc (λ (a b : PvRow). a.disk ≢ b.disk) earlier row all.disks_differ
-      (λ k d lt. differs (get_or earlier k d).disk row.disk (none_of (λ (other : PvRow). other.disk == row.disk) earlier new k d lt));
+      (λ k d lt. eqb-false (get_or earlier k d).disk row.disk (none_of (λ (other : PvRow). other.disk == row.disk) earlier new k d lt));
 }
 
 pub members_take : (n : ℕ) (earlier : List PvRow) (r : Rest) (x : List PvRow × Rest) → IsBytes r.1 → AreMembers earlier → members_at n earlier r ≡ Ok x → MembersTaken n earlier r x
@@ -201,7 +192,7 @@ members_again (row ∷ own) earlier place rest all =
     let front = front_left earlier row own all in
     let is : IsMember row = (All-right IsMember earlier (row ∷ []) front.each) 0 row (omega arith) in
     let new : IsNew earlier row = list_any_none (λ (other : PvRow). other.disk == row.disk) earlier
-    (λ k d lt. unequal (get_or earlier k d).disk row.disk (AllPairs-last (λ (a b : PvRow). a.disk ≢ b.disk) earlier row front.disks_differ k d lt)) in
+    (λ k d lt. ne_eqb (get_or earlier k d).disk row.disk (AllPairs-last (λ (a b : PvRow). a.disk ≢ b.disk) earlier row front.disks_differ k d lt)) in
     let regrouped : flat_map member_bytes (row ∷ own) ++ rest ≡ member_bytes row ++ (flat_map member_bytes own ++ rest) =
     ap (λ (bytes : List ℕ). bytes ++ rest) (flat_map-cons member_bytes row own) ∙ append_assoc (member_bytes row) (flat_map member_bytes own) rest in
     let parts : (earlier ++ row ∷ []) ++ own ≡ earlier ++ row ∷ own = append_assoc earlier (row ∷ []) own in

@@ -2,7 +2,7 @@
 use Rattle.std.proofs.Common.{◌≡◌, ◌≢◌, inl, inr, ℕ, zero, suc, ◌+◌, ◌*◌, ◌^◌, ◌<◌, ◌≤◌, Bool, true, false, cond, ◌&&◌, ◌||◌, List, [], ◌∷◌, ◌++◌, append-nil, append_assoc, length, get_or, replicate, Some, Result, Ok, Err, refl, sym, ap, subst, ◌∙◌, arith}
 use Rattle.std.specs.Prelude.{◌==◌, ◌-◌, not, nat_le, nat_lt, bytes_eq, find, flat_map, map, All, AllPairs, IfOk}
 use Rattle.std.specs.Int.{w8, w16, w64, to_be_bytes}
-use Rattle.std.proofs.lemmas.Bool.{cases_Bool, false≢true, eq-eqb, eqb-true}
+use Rattle.std.proofs.lemmas.Bool.{cases_Bool, false≢true, eq-eqb, eqb-true, not_from_false}
 use Rattle.std.proofs.lemmas.Bool.Decides.{nat_tests}
 use Rattle.std.proofs.lemmas.List.Elements.{All-nil, All-weaker}
 use Rattle.std.proofs.lemmas.List.Folds.{Any-from_list_any, list_any_at}
@@ -19,7 +19,7 @@ use Rattle.lvm_num.proofs.DescriptorLemmas.Bounds.{few_volumes}
 use Rattle.lvm_descriptor.specs.passed.Names.{Fault, Gives}
 use Rattle.lvm_descriptor.proofs.passed.Names.{IsBytes, bind_ok, ok_is, both, from_both, Takes, bytes_takes, bytes_again, wide16, wide64, number_takes, number_again, number_value, byte_takes, byte_again, zeros_take, zeros_again}
 use Rattle.lvm_vgda.proofs.DescriptorBytesLemmas.NameLaws.{bytes_same, name_takes, name_again}
-use Rattle.lvm_vgda.proofs.DescriptorBytesLemmas.MemberLaws.{all_at, then_is, not_true, not_false, at_least_1, at_most, le_test, flag_is, flag_again, is_flag_flag, MembersTaken, members_take, members_again}
+use Rattle.lvm_vgda.proofs.DescriptorBytesLemmas.MemberLaws.{all_at, then_is, not_true, at_least_1, at_most, le_test, flag_is, flag_again, is_flag_flag, MembersTaken, members_take, members_again}
 use Rattle.lvm_vgda.proofs.DescriptorLemmas.VolumeLaws.{bare, VolumesTaken, volumes_take, volumes_again, bare_length, bare_bytes, bare_volumes, whole_volumes, bare_is}
 use Rattle.lvm_vgda.proofs.DescriptorBytesLemmas.MapLaws.{Has, HasCopies, map_bytes, MapsTaken, maps_take, maps_again}
 
@@ -365,7 +365,7 @@ spelled_is_read d valid =
     let lvs-few : length d.lvs < 2 ^ 16 = omega (arith, head.volumes, few_volumes d.big) in
     let regrouped : descriptor_bytes d ≡ nested d [] = sym (append-nil (descriptor_bytes d)) ∙ regroup d [] in
     let a = version_again d.big 0 s2 in
-    let b = number_again w64 _ wide64 (λ n. not (n == 0)) 4 d.id s3 head.id (not_false (d.id == 0) (is_not d.id head.some_id)) in
+    let b = number_again w64 _ wide64 (λ n. not (n == 0)) 4 d.id s3 head.id (not_from_false (d.id == 0) (is_not d.id head.some_id)) in
     let c = name_again (λ text. true) 12 d.name s4 head.name refl in
     let f = number_again w16 _ wide16 is_size 28 d.mib s5 (size_below d.mib head.size) head.size in
     let g = byte_again is_flag 30 (flag d.quorum) (flag d.even ∷ s7) (is_flag_flag d.quorum) in

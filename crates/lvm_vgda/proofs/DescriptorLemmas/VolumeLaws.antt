@@ -3,7 +3,7 @@ use Rattle.std.proofs.Common.{◌≡◌, ◌≢◌, inl, inr, ℕ, zero, suc, �
 use Rattle.std.specs.Prelude.{not, nat_le, nat_lt, bytes_eq, flat_map, map, All}
 use Rattle.std.specs.List.{list_any, list_all}
 use Rattle.std.specs.Int.{w8, w16, w32, to_be_bytes}
-use Rattle.std.proofs.lemmas.Bool.{cases_Bool, false≢true}
+use Rattle.std.proofs.lemmas.Bool.{cases_Bool, false≢true, not_from_false}
 use Rattle.std.proofs.lemmas.Bool.Decides.{nat_tests}
 use Rattle.std.proofs.lemmas.List.Concat.{flat_map-cons}
 use Rattle.std.proofs.lemmas.List.Elements.{All-nil, All-cons, All-tail}
@@ -20,7 +20,7 @@ use Rattle.lvm_num.specs.Reading.{◌>>=◌, Rest, number_at, zeros_at}
 use Rattle.lvm_num.proofs.Pairs.{All-left, All-right, AllPairs-left}
 use Rattle.lvm_descriptor.proofs.passed.Names.{IsBytes, bind_ok, ok_is, both, from_both, Takes, Takes-then, wide16, wide32, number_takes, number_again, byte_takes, byte_again, zeros_take, zeros_again}
 use Rattle.lvm_vgda.proofs.DescriptorBytesLemmas.NameLaws.{bytes_same, same_bytes, name_takes, name_again}
-use Rattle.lvm_vgda.proofs.DescriptorBytesLemmas.MemberLaws.{none_of, all_at, all_from, then_is, All-snoc, AllPairs-snoc, AllPairs-last, not_true, not_false, at_least_1, at_most, lt_test, le_test}
+use Rattle.lvm_vgda.proofs.DescriptorBytesLemmas.MemberLaws.{none_of, all_at, all_from, then_is, All-snoc, AllPairs-snoc, AllPairs-last, not_true, at_least_1, at_most, lt_test, le_test}
 
 -- ---- codes
 
@@ -144,7 +144,7 @@ volume_again big earlier place row rest is next =
     let d = byte_again (λ n. nat_le n 3) (place + 2 + 1 + 1) (policy_code row.policy) s3 (policy_small row.policy) in
     let f = zeros_again 3 (place + 2 + 1 + 1 + 1) s4 in
     let g = number_again w32 _ wide32 (λ n. nat_le 1 n) (place + 2 + 1 + 1 + 1 + 3) row.lps s5 (omega (arith, is.partitions)) (le_test 1 row.lps is.a_partition) in
-    let h = name_again (λ bytes. not (list_any (λ (other : LvRow). bytes_eq other.name bytes) earlier)) (place + 2 + 1 + 1 + 1 + 3 + 4) row.name last is.name (not_false _ next.unnamed) in
+    let h = name_again (λ bytes. not (list_any (λ (other : LvRow). bytes_eq other.name bytes) earlier)) (place + 2 + 1 + 1 + 1 + 3 + 4) row.name last is.name (not_from_false _ next.unnamed) in
     let i = zeros_again 4 (place + 2 + 1 + 1 + 1 + 3 + 4 + 16) rest in
     let same : place + 2 + 1 + 1 + 1 + 3 + 4 + 16 + 4 ≡ place + 32 = omega arith in
     ap (λ (bytes : List ℕ). volume_at big earlier (place, bytes)) regrouped

@@ -1,7 +1,7 @@
 -- A record written to one disk after another.
 use Rattle.std.proofs.Common.{◌≡◌, inl, inr, ⊎_elim, ℕ, ◌+◌, ◌<◌, ◌≤◌, Bool, true, false, IfSome, IsTrue, IsFalse, length, refl, sym, ◌∙◌, ap, subst, arith}
 use Rattle.std.specs.Prelude.{◌==◌, ◌&&◌, ◌||◌, not, nat_lt, if◌then◌else◌}
-use Rattle.std.proofs.lemmas.Bool.{cases_lt, eqb-true}
+use Rattle.std.proofs.lemmas.Bool.{cases_lt, eqb-true, ne_eqb}
 use Rattle.std.proofs.lemmas.Bool.Decides.{nat_tests, eqb_tells}
 use Rattle.lvm_num.specs.declared.record.Kind.{Kind}
 use Rattle.lvm_num.specs.Buffer.{Buffer, Sector}
@@ -16,7 +16,7 @@ use Rattle.lvm_write.specs.declared.write.Wrote.TheVariants as wrote
 use Rattle.lvm_write.specs.Written.{write_of, HaveRoom, KeepsShelf, StandsTold, written_well}
 use Rattle.lvm_write.specs.Writes.{DiskWritesLeave, RecordWritesEnd}
 use Rattle.lvm_write.specs.Parts.{write_to, PartsStand, WritesPart}
-use Rattle.lvm_survey.proofs.Passing.{is_other, lt_all, lt_none, lt_not, lt_other, lt_same, neither, or_itself, or_other}
+use Rattle.lvm_survey.proofs.Passing.{lt_all, lt_none, lt_not, lt_other, lt_same, neither, or_itself, or_other}
 use Rattle.lvm_write.proofs.WrittenLemmas.Writing.{logs_wider, if_told, told_at, both_map, changes_more, moments_wider, parts_stay}
 use Rattle.lvm_write.proofs.WritesLemmas.{TriedDisks, nothing_tried, none_here, well_here, badly_here, leaves_here, dark_here, stuck_here, no_more, tried_ends}
 
@@ -66,7 +66,7 @@ module _ (one : SlotWrite) (targets : Disks) (homes : Homes) (target : IsTrue (t
 
   -- nothing starts on another disk
   pub starts_alone : (number p q : ℕ) (old new : Device) (how : Moved) → WritesPart (write_to one) one.disk number p q old new how → (d : ℕ) → (d ≡ one.disk → ⊥) → new.counts.starts d ≡ old.counts.starts d
-  starts_alone number p q old new how part d differ = part.keeps.starts d (is_other d one.disk differ)
+  starts_alone number p q old new how part d differ = part.keeps.starts d (ne_eqb d one.disk differ)
 
   pub part_of_all :
       (number p q : ℕ) (old new : Device) (how : Moved) → WritesPart (write_to one) one.disk number p q old new how
