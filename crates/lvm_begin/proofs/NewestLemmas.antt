@@ -1,6 +1,7 @@
 -- What quorums find once all parts of a beginning stand.
 use Rattle.std.proofs.Common.{◌≡◌, ◌⊎◌, inl, inr, ⊎_elim, ℕ, ◌*◌, ◌<◌, ◌≤◌, Bool, true, false, ◌&&◌, length, Option, Some, None, IsTrue, IsFalse, refl, sym, ◌∙◌, ap, subst, eq-eqb, arith}
 use Rattle.std.specs.Prelude.{if◌then◌else◌, nat_lt, nat_le}
+use Rattle.std.proofs.lemmas.Option.{same_Some}
 use Rattle.std.proofs.lemmas.Bool.{eqb-true, and_from, and_parts, cases_Bool}
 use Rattle.std.proofs.lemmas.Bool.Decides.{nat_tests}
 use Rattle.lvm_num.specs.declared.descriptor.Descriptor.{Descriptor}
@@ -18,7 +19,7 @@ use Rattle.lvm_kept.specs.Contents.{Contents, contents_of}
 use Rattle.lvm_kept.specs.Group.{if_passes, passes, is_of, is_status_of, has_room, descriptor_among, is_voter, status_among, Finds, members_in}
 use Rattle.lvm_kept.specs.Committed.{IsWithinDisks}
 use Rattle.lvm_kept.specs.Torn.{written as as_read, DescriptorsChange}
-use Rattle.lvm_kept.proofs.CommittedLemmas.Finding.{some_same, offered, offers, is_offered, finding_reads, finds_from, images_within}
+use Rattle.lvm_kept.proofs.CommittedLemmas.Finding.{offered, offers, is_offered, finding_reads, finds_from, images_within}
 use Rattle.lvm_steps.specs.VaryingOn.{HasNewest}
 use Rattle.lvm_steps.proofs.VaryingOnLemmas.Following.{restamp_is_newest, newest_stays_newest}
 use Rattle.lvm_begin.specs.Beginning.{Beginning, describes, states, MayBeginNew, MayBeginAgain}
@@ -38,7 +39,7 @@ module _ {X : Type 0} (of : X → Bool) (shown : ℕ → Option (Stamped X)) (se
         where
           by_test : (u : Bool) → of s.value ≡ u → (if u then Some s else None) ≡ Some r → r ≡ x
           by_test false fails is = absurd cc
-          by_test true passed is = let same : s ≡ r = some_same s r is in sym same ∙ only s in_set shows passed
+          by_test true passed is = let same : s ≡ r = same_Some s r is in sym same ∙ only s in_set shows passed
 
   pub only_one : (n d : ℕ) → d < n → IsTrue (set d) → shown d ≡ Some x → IsTrue (of x.value) → ((d : ℕ) (r : Stamped X) → IsTrue (set d) → shown d ≡ Some r → IsTrue (of r.value) → r ≡ x) → newest_below (offered of shown set) n ≡ Some x
   only_one n d less in_set shows its only =
@@ -102,7 +103,7 @@ module _ (c : Contents) (b : Beginning) (group : Descriptor) (status : Status) (
       let d : ℕ = common.0 in
       let voter : IsTrue (is_voter c disks id d) = ap (λ (v : Disks). v d) reads.voters ∙ common.2 in
       only_one (is_status_of id) c.status (is_voter c disks id) (as_read (states b) status) c.disks d (within d voter).0 voter (within d voter).1 (eq-eqb status.id id own)
-      (λ e r is shows its. some_same r (as_read (states b) status) (sym shows ∙ (within e is).1))
+      (λ e r is shows its. same_Some r (as_read (states b) status) (sym shows ∙ (within e is).1))
 
 -- ---- a new group
 
@@ -130,7 +131,7 @@ module _ (b : Beginning) (group : Descriptor) (status : Status) (old : Image) (n
   -- no other descriptor of the group is shown
   only_new : (d : ℕ) (r : Stamped Descriptor) → new.descriptor d ≡ Some r → r.value.id ≡ new_id → r ≡ newest_one
   only_new d r shows its = ⊎_elim
-      (λ (target : IsTrue (b.targets d)). some_same r newest_one (sym shows ∙ begun.described d target))
+      (λ (target : IsTrue (b.targets d)). same_Some r newest_one (sym shows ∙ begun.described d target))
       (λ (other : IsFalse (b.targets d)). absurd (may.make.new_id d r (sym (begun.others d other).0 ∙ shows) its))
       (cases_Bool (b.targets d))
 
@@ -226,6 +227,6 @@ again_is_found b forget group status disks was old new may begun = again_finds b
 
 pub status_is_last : StatusIsLast
 status_is_last b forget group status old new begun later d r shows its = ⊎_elim
-    (λ (target : IsTrue (b.targets d)). inr (some_same r (as_read (states b) status) (sym shows ∙ begun.stated d target)))
+    (λ (target : IsTrue (b.targets d)). inr (same_Some r (as_read (states b) status) (sym shows ∙ begun.stated d target)))
     (λ (other : IsFalse (b.targets d)). inl (later d r (sym (begun.others d other).1 ∙ shows) its))
     (cases_Bool (b.targets d))

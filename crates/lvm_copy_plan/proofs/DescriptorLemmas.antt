@@ -1,6 +1,6 @@
 -- The volume of a number, as it is looked up.
-use Rattle.std.proofs.Common.{◌≡◌, ℕ, List, Option, Some, Result, Ok, Err, ap, ◌∙◌}
-use Rattle.std.specs.Prelude.{◌==◌, find, IfOk}
+use Rattle.std.proofs.Common.{◌≡◌, ℕ, List, Option, Some, ap, ◌∙◌}
+use Rattle.std.specs.Prelude.{◌==◌, find}
 use Rattle.lvm_num.specs.declared.descriptor.LvRow.{LvRow}
 use Rattle.lvm_num.specs.declared.descriptor.Descriptor.{Descriptor}
 use Rattle.lvm_num.specs.Descriptor.{volume_of}
@@ -13,7 +13,3 @@ found_is g d lv rows row is of same = volume_is g lv rows row is (of ∙ ap (λ 
 -- and the only one
 pub one_volume : (o : Option LvRow) (a b : LvRow) → o ≡ Some a → o ≡ Some b → a ≡ b
 one_volume o a b is also = cc
-
-pub if_ok : {A E : Type 0} (r : Result A E) (P Q : A → Type 0) → ((x : A) → P x → Q x) → IfOk r P → IfOk r Q
-if_ok (Ok x) P Q more holds = more x holds
-if_ok (Err e) P Q more holds = holds

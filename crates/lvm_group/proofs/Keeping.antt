@@ -2,6 +2,7 @@
 use Rattle.std.proofs.Common.{◌≡◌, ◌⊎◌, inl, inr, ⊎_elim, ℕ, ◌+◌, ◌*◌, ◌^◌, ◌<◌, ◌≤◌, Bool, true, false, ◌&&◌, not, List, [], ◌∷◌, ◌++◌, length, get_or, replicate, Option, Some, None, refl, sym, ap, subst, ◌∙◌, arith, length-append}
 use Rattle.std.specs.Prelude.{nat_lt, nat_le, flat_map, IsTrue, IsFalse}
 use Rattle.std.specs.Int.{w16, w64, to_be_bytes}
+use Rattle.std.proofs.lemmas.Option.{same_Some}
 use Rattle.std.proofs.lemmas.Bool.{eqb-true, eq-eqb, and_from, lt-ltb, le-leb}
 use Rattle.std.proofs.lemmas.Bool.Decides.{nat_tests}
 use Rattle.std.proofs.lemmas.List.{length-map}
@@ -47,7 +48,7 @@ use Rattle.lvm_begin.proofs.ShownLemmas.Shown.{media_by, new_is_shown}
 use Rattle.lvm_vol.specs.Log.{Log}
 use Rattle.lvm_kept.specs.Torn.{written as as_read}
 use Rattle.lvm_kept.specs.Group.{passes, is_of, has_room, descriptor_among, members_in, Finds}
-use Rattle.lvm_kept.proofs.CommittedLemmas.Finding.{some_same, finding_reads, finds_from}
+use Rattle.lvm_kept.proofs.CommittedLemmas.Finding.{finding_reads, finds_from}
 use Rattle.lvm_num.specs.Votes.{all_disks, votes_in}
 use Rattle.lvm_num.proofs.VotesLemmas.{more_have_more, more_is_enough}
 use Rattle.lvm_status.specs.Update.{Updates}
@@ -250,7 +251,7 @@ module _ (w : NewGroup) (device : Device) (homes : Homes) (its : IsBeginning w d
     -- no other descriptor of the group is shown
     only_new : (d : ℕ) (found : Stamped Descriptor) → shown.descriptor d ≡ Some found → found.value.id ≡ w.moment → found ≡ newest
     only_new d found on own = ⊎_elim
-        (λ (named : IsTrue (among w.disks d)). some_same found newest (sym on ∙ begun.described d named))
+        (λ (named : IsTrue (among w.disks d)). same_Some found newest (sym on ∙ begun.described d named))
         (λ (other : IsFalse (among w.disks d)). absurd (may.make.new_id d found (sym (begun.others d other).0 ∙ on) own))
         (on_or_off (among w.disks d))
       where

@@ -1,8 +1,9 @@
 -- A request is submitted.
-use Rattle.std.proofs.Common.{◌≡◌, ◌==◌, ◌≤◌, ◌<◌, ◌+◌, ◌*◌, ◌^◌, ◌&&◌, ◌||◌, ℕ, zero, suc, Bool, true, false, not, nat_lt, nat_le, if◌then◌else◌, List, [], ◌∷◌, ◌++◌, Option, Some, None, length, length-append, slice_get, refl, sym, ◌∙◌, ap, subst, arith}
+use Rattle.std.proofs.Common.{◌≡◌, ◌==◌, ◌≤◌, ◌<◌, ◌+◌, ◌*◌, ◌^◌, ◌&&◌, ◌||◌, ℕ, zero, suc, Bool, true, false, not, nat_lt, nat_le, if◌then◌else◌, List, [], ◌∷◌, ◌++◌, Option, Some, None, length, slice_get, refl, sym, ◌∙◌, ap, subst, arith}
 use Rattle.std.specs.Prelude.{IfSome, MatchBool, MatchOption, Ok, Err, count_by, is_some, unwrap_or}
 use Rattle.std.specs.List.{list_any, AllByRecursion}
 use Rattle.std.specs.Option.{ForSome, option_map_or}
+use Rattle.std.proofs.lemmas.List.{length_push}
 use Rattle.std.proofs.lemmas.Bool.{eqb-true, lt-ltb, ltb-true, ltb-false, ne_eqb}
 use Rattle.std.proofs.lemmas.List.Sums.{count_by-le-length, sum_by_push}
 use Rattle.lvm_num.specs.declared.place.Pp.{Pp}
@@ -78,9 +79,6 @@ module _ {A : Type 0} where
 
   count_push : (t : A → Bool) (xs : List A) (y : A) → count_by t (xs ++ y ∷ []) ≡ count_by t xs + count_if (t y)
   count_push t xs y = sum_by_push (λ x. count_if (t x)) xs y
-
-  long_push : (xs : List A) (y : A) → length (xs ++ y ∷ []) ≡ length xs + 1
-  long_push xs y = length-append xs (y ∷ [])
 
 ascending_push : (os : List Open) (y : Open) → AllByRecursion (λ (o : Open). o.request.id < y.request.id) os → IsAscending os → IsAscending (os ++ y ∷ [])
 ascending_push [] y low all = (tt, tt)
@@ -279,7 +277,7 @@ module _ (s : State) (sound : IsSound s) (client : ℕ) (ask : Ask) (bytes : Opt
       each id false is = open_other core.history sound.told.ordered request refl id is ∙ sound.told.each id ∙ sym (pushed id ∙ ap (λ b. waits core.requests id || b) is ∙ or_false (waits core.requests id))
 
   fitting : IsFitting now.core
-  fitting = let f = sound.fitting in still_fits core now.core f refl f.entries (λ disk. refl) (let long = long_push core.requests made in let free = it.place in omega (arith, long, free)) refl f.room
+  fitting = let f = sound.fitting in still_fits core now.core f refl f.entries (λ disk. refl) (let long = length_push core.requests made in let free = it.place in omega (arith, long, free)) refl f.room
 
   -- ---- the requests
 
@@ -388,7 +386,7 @@ module _ (s : State) (sound : IsSound s) (client : ℕ) (ask : Ask) (bytes : Opt
     fresh = going.fresh;
     clearings = going.clearings;
     numbers =
-        let high = few_updates now.core sound.fitting.valid (let long = long_push core.requests made in let table = sound.fitting.table in let most = sound.fitting.most in omega (arith, long, table, most)) in
+        let high = few_updates now.core sound.fitting.valid (let long = length_push core.requests made in let table = sound.fitting.table in let most = sound.fitting.most in omega (arith, long, table, most)) in
         let left = numbers_left core ask it.history in
         omega (arith, high, left);
   }

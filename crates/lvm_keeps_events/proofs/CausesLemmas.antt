@@ -4,6 +4,7 @@ use Rattle.std.proofs.lemmas.Bool.{eq-eqb, eqb-false, eqb-true}
 use Rattle.std.specs.List.{AllByRecursion, list_any, remove}
 use Rattle.std.specs.Option.{option_map_or}
 use Rattle.std.specs.Prelude.{count_by, IfSome, is_some, slice_index_or, unwrap_or}
+use Rattle.std.proofs.lemmas.Map.Keys.{any_passes_from_place}
 use Rattle.lvm_num.specs.Buffer.{Buffer}
 use Rattle.lvm_num.specs.Disks.{has}
 use Rattle.lvm_num.specs.Status.{calls_stale}
@@ -60,7 +61,7 @@ use Rattle.lvm_keeps_events.proofs.JudgingLemmas.DuesMarks.{among_get, due_one, 
 use Rattle.lvm_keeps_events.proofs.JudgingLemmas.Entailing.{IsEntailed}
 use Rattle.lvm_keeps_events.proofs.SoundLemmas.Failing.{LeavesParts, one_on as one_beside, parted, rows_on as rows_beside}
 use Rattle.lvm_keeps_events.proofs.RequestsLemmas.{asked_now, begun_so, failed_badly, in_data, laid, learnt, none_done, none_flies, others_fly, past, ready, request, shape, told, waits, was_flying}
-use Rattle.lvm_keeps_events.proofs.Lists.{all_and, all_pair, all_true_at, and_false, any_at, any_on, either, found_at, or_true, set_either}
+use Rattle.lvm_keeps_events.proofs.Lists.{all_and, all_pair, all_true_at, and_false, any_on, either, found_at, or_true, set_either}
 use Rattle.lvm_keeps_events.proofs.JudgingLemmas.Staling.{blamed_by, bring_on as bring_staler, clean_same, due_wanted, end_on, entailed_less, held_by, IsStaler, kept_less, left_on as left_staler, may_less, members_same, missing_same, one_on as one_staler, ready_on as ready_staler, rows_on as rows_staler, staler, stays_on, sure_less, wanted_less, wanted_more}
 
 -- ---- small
@@ -455,7 +456,7 @@ module _ (old : State) (sound : IsSound old) (on : old.core.power ≡ power.On) 
         of (inr held) = not_so (held_not held)
 
         by : (b : Bool) → due found.1 ≡ b → list_any (stays_fresh after) copies ≡ true
-        by false none = any_at (stays_fresh after) copies found.0 found.1 found.2 (stays_on mid due wanted writes like found.1 found.3 none)
+        by false none = any_passes_from_place (stays_fresh after) copies found.0 found.1 found.2 (stays_on mid due wanted writes like found.1 found.3 none)
         by true is = of (entailed.due_is found.1 is)
 
     -- ---- causes
@@ -467,7 +468,7 @@ module _ (old : State) (sound : IsSound old) (on : old.core.power ≡ power.On) 
         here : (w : Bool) → is_write ask ≡ w → slice_get targets k ≡ Some t → (fails_on t.pp o ≡ true) ⊎ (is_write ask ≡ false) ⊎ ((ok ≡ false) × (t.pp ≡ aim.pp))
         here false e same = inr (inl e)
         here true e same = inl (ap (λ b. b && is_write ask && list_any (λ (u : Target). is_failed u.state && is_pp t.pp u.pp) targets) waits_so ∙ ap (λ b. b && list_any (λ (u : Target). is_failed u.state && is_pp t.pp u.pp) targets) e
-            ∙ any_at (λ (u : Target). is_failed u.state && is_pp t.pp u.pp) targets k t same (all_and (is_failed t.state) (is_pp t.pp t.pp) failed (own_pp t.pp)))
+            ∙ any_passes_from_place (λ (u : Target). is_failed u.state && is_pp t.pp u.pp) targets k t same (all_and (is_failed t.state) (is_pp t.pp t.pp) failed (own_pp t.pp)))
 
         by : (t ≡ ended) ⊎ (slice_get targets k ≡ Some t) → (fails_on t.pp o ≡ true) ⊎ (is_write ask ≡ false) ⊎ ((ok ≡ false) × (t.pp ≡ aim.pp))
         by (inl is) = inr (inr (failed_badly ok (sym (ap (λ (u : Target). is_failed u.state) is) ∙ failed), ap (λ (u : Target). u.pp) is))
@@ -499,7 +500,7 @@ module _ (old : State) (sound : IsSound old) (on : old.core.power ≡ power.On) 
     fails_blamed p e = ap (λ b. is_missing core p.disk || is_wanted_stale core p || is_held_stale core p || b) e ∙ or_true (is_missing core p.disk || is_wanted_stale core p || is_held_stale core p)
 
     its_fails : (p : Pp) → fails_on p o ≡ true → is_blamed core p ≡ true
-    its_fails p e = fails_blamed p (any_at (fails_on p) core.requests place o there e)
+    its_fails p e = fails_blamed p (any_passes_from_place (fails_on p) core.requests place o there e)
 
     due_blamed : (p : Pp) → due p ≡ true → Blame p
     due_blamed p is = of (entailed.due_is p is)
@@ -665,7 +666,7 @@ module _ (old : State) (sound : IsSound old) (on : old.core.power ≡ power.On) 
           where
             by : (a b : Bool) → is_done t.state ≡ a → a || b ≡ true → b ≡ true
             by false b e some = some
-            by true b e some = not_so (sym unkept ∙ any_at (is_sure_done core) now_targets k t t_there (all_and (is_done t.state) (is_sure core t.pp) e sure))
+            by true b e some = not_so (sym unkept ∙ any_passes_from_place (is_sure_done core) now_targets k t t_there (all_and (is_done t.state) (is_sure core t.pp) e sure))
 
         has_failed_now : (k : ℕ) (t : Target) → slice_get now_targets k ≡ Some t → is_failed t.state ≡ true → HasFailed device t
         has_failed_now k t t_there failed = all_at (IsCaused device after) now_targets k t its_caused t_there (ap (λ b. b || (t.usable && is_blamed after t.pp)) failed)

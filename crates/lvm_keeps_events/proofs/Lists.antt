@@ -30,11 +30,6 @@ module _ {A : Type 0} (t u : A → Bool) (on : (x : A) → t x ≡ true → u x 
       of_one false is = let p : count_if (t x) ≡ 0 = ap count_if is in omega (arith, p)
 
 module _ {A : Type 0} where
-  -- one that is there passes
-  pub any_at : (t : A → Bool) (xs : List A) (k : ℕ) (x : A) → slice_get xs k ≡ Some x → t x ≡ true → list_any t xs ≡ true
-  any_at t [] k x there is = absurd (cc there)
-  any_at t (y ∷ xs) zero x there is = let same : y ≡ x = cc there in ap (λ b. b || list_any t xs) (ap t same ∙ is)
-  any_at t (y ∷ xs) (suc k) x there is = ap (λ b. t y || b) (any_at t xs k x there is) ∙ or_true (t y)
 
   -- of all that pass one that is there does
   pub all_true_at : (t : A → Bool) (xs : List A) (k : ℕ) (x : A) → list_all t xs ≡ true → slice_get xs k ≡ Some x → t x ≡ true

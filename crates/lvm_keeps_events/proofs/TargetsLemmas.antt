@@ -1,5 +1,5 @@
 -- A target of a request whose transfer comes to be at another state.
-use Rattle.std.proofs.Common.{◌≡◌, ◌≤◌, ◌<◌, ◌+◌, ℕ, zero, suc, Bool, true, false, ◌&&◌, ◌||◌, List, [], ◌∷◌, Option, Some, None, length, map, slice_get, slice_set, refl, sym, ◌∙◌, ap, subst, arith}
+use Rattle.std.proofs.Common.{◌≡◌, ◌≤◌, ◌+◌, ℕ, zero, suc, Bool, true, false, ◌&&◌, ◌||◌, List, [], ◌∷◌, Option, Some, None, map, slice_get, slice_set, refl, sym, ◌∙◌, ap, subst, arith}
 use Rattle.std.specs.Prelude.{count_by, slice_index_or}
 use Rattle.std.specs.List.{list_all, list_any, remove, AllByRecursion}
 use Rattle.lvm_num.specs.declared.place.Pp.{Pp}
@@ -15,10 +15,6 @@ use Rattle.lvm_keeps.proofs.Lists.{count_cons}
 -- ---- lists
 
 module _ {A : Type 0} where
-  pub within : (xs : List A) (k : ℕ) (x : A) → slice_get xs k ≡ Some x → k < length xs
-  within [] k x there = absurd (cc there)
-  within (y ∷ xs) zero x there = omega arith
-  within (y ∷ xs) (suc k) x there = let rest = within xs k x there in omega (arith, rest)
 
   pub index_at : (xs : List A) (k : ℕ) (x d : A) → slice_get xs k ≡ Some x → slice_index_or xs k d ≡ x
   index_at [] k x d there = absurd (cc there)

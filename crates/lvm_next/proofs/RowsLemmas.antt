@@ -2,6 +2,7 @@
 use Rattle.std.proofs.Common.{◌≡◌, ◌⊎◌, inl, inr, ℕ, suc, ◌+◌, ◌<◌, Bool, true, false, ◌||◌, ◌&&◌, ◌==◌, List, [], ◌∷◌, ◌++◌, length, get_or, Some, None, refl, sym, ap, subst, ◌∙◌, arith}
 use Rattle.std.specs.Prelude.{if◌then◌else◌, not, nat_lt, find, All, AllPairs}
 use Rattle.std.specs.List.{list_any}
+use Rattle.std.proofs.lemmas.Option.{none-some}
 use Rattle.std.proofs.lemmas.Bool.{cases_lt, cases_eq, eqb-true, and_left}
 use Rattle.std.proofs.lemmas.Bool.Decides.{nat_tests}
 use Rattle.std.proofs.lemmas.List.Elements.{All-tail, All-append, All-cons, All-nil}
@@ -20,11 +21,8 @@ use Rattle.lvm_next.specs.Rows.{AreMemberRows}
 
 -- ---- the row of a disk
 
-is_none : {X : Type 0} (x : X) → None ≡ Some x → ⊥
-is_none x e = cc
-
 pub found_one : {X : Type 0} (P : X → Type 0) (p : X → Bool) (xs : List X) (x : X) → find p xs ≡ Some x → All P xs → P x
-found_one P p [] x e all = absurd (is_none x e)
+found_one P p [] x e all = absurd (none-some x e)
 found_one P p (y ∷ ys) x e all = by_test (p y) e (λ is. found_one P p ys x is (All-tail P y ys all))
   where
     by_test : (t : Bool) → (if t then Some y else find p ys) ≡ Some x → (find p ys ≡ Some x → P x) → P x
@@ -44,7 +42,7 @@ says mark disk row = row.disk == disk && mark row
 -- of rows in the order of their disks at most one is that of the disk
 pub row_says : (mark : StatusRow → Bool) (rows : List StatusRow) (disk : ℕ) (row : StatusRow) → AllPairs (λ (a b : StatusRow). a.disk < b.disk) rows
     → find (λ (r : StatusRow). r.disk == disk) rows ≡ Some row → list_any (λ (r : StatusRow). r.disk == disk && mark r) rows ≡ mark row
-row_says mark [] disk row rise e = absurd (is_none row e)
+row_says mark [] disk row rise e = absurd (none-some row e)
 row_says mark (r ∷ rs) disk row rise e = by_test (r.disk == disk) refl e (λ is. row_says mark rs disk row (pairs_tail (λ (a b : StatusRow). a.disk < b.disk) r rs rise) is)
   where
     later : (a b : ℕ) → a < b → a ≡ disk → (b == disk) ≡ false

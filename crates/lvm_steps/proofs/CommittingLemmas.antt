@@ -1,6 +1,7 @@
 -- A descriptor that differs in one volume keeps the history.
 use Rattle.std.proofs.Common.{◌≡◌, ◌⊎◌, inl, inr, ⊎_elim, ℕ, ◌<◌, true, ◌&&◌, List, [], ◌∷◌, ◌++◌, Option, Some, None, refl, sym, ap, subst, ◌∙◌}
 use Rattle.std.specs.Prelude.{IsTrue, is_some}
+use Rattle.std.proofs.lemmas.Option.{same_Some}
 use Rattle.std.proofs.lemmas.Bool.{cases_eq}
 use Rattle.lvm_num.specs.declared.record.Stamp.{Stamp}
 use Rattle.lvm_num.specs.declared.descriptor.PvRow.{PvRow}
@@ -19,7 +20,7 @@ use Rattle.lvm_kept.specs.Contents.{Contents}
 use Rattle.lvm_kept.specs.Group.{passes, is_of, has_room, is_voter, status_among, Finds, IsFound, members_in, status_by, Reads, ReadsBy, fresh_on, IsBlockOf, IsOneOf, IsSome}
 use Rattle.lvm_kept.specs.Committed.{IsWithinDisks}
 use Rattle.lvm_kept.specs.Kept.{StandsAs, HasStatus, IsBlockKept, BlocksKept, IsSettledIn, IsAvailable, Kept}
-use Rattle.lvm_kept.proofs.CommittedLemmas.Finding.{some_same, finding_reads}
+use Rattle.lvm_kept.proofs.CommittedLemmas.Finding.{finding_reads}
 use Rattle.lvm_kept.proofs.CommittedLemmas.Alike.{like_found, alike_stays}
 use Rattle.lvm_kept.proofs.ChangesLemmas.Restamping.{fewer_blocks}
 use Rattle.lvm_kept.proofs.ChangesLemmas.Entries.{volume_is_row}
@@ -218,13 +219,13 @@ module _ (old : Contents) (shown : ℕ → Option (Stamped Descriptor)) (g : Des
       (λ (old_r : shown d ≡ old.descriptor d). ⊎_elim
       (λ (old_s : shown e ≡ old.descriptor e). kept.lasting.descriptors d e r s (sym old_r ∙ shows) (sym old_s ∙ also) ids stamps)
       (λ (new_s : (shown e ≡ Some (record { stamp = n; value = next })) × IsTrue (passes (is_of g.id) (old.descriptor e))).
-      let same : s ≡ record { stamp = n; value = next } = some_same s (record { stamp = n; value = next }) (sym also ∙ new_s.0) in
+      let same : s ≡ record { stamp = n; value = next } = same_Some s (record { stamp = n; value = next }) (sym also ∙ new_s.0) in
       absurd (other_stamp d r (sym old_r ∙ shows) (ids ∙ ap (λ (x : Stamped Descriptor). x.value.id) same) (stamps ∙ ap (λ (x : Stamped Descriptor). x.stamp) same)))
       (own e))
       (λ (new_r : (shown d ≡ Some (record { stamp = n; value = next })) × IsTrue (passes (is_of g.id) (old.descriptor d))).
-      let same : r ≡ record { stamp = n; value = next } = some_same r (record { stamp = n; value = next }) (sym shows ∙ new_r.0) in ⊎_elim
+      let same : r ≡ record { stamp = n; value = next } = same_Some r (record { stamp = n; value = next }) (sym shows ∙ new_r.0) in ⊎_elim
       (λ (old_s : shown e ≡ old.descriptor e). absurd (other_stamp e s (sym old_s ∙ also) (sym ids ∙ ap (λ (x : Stamped Descriptor). x.value.id) same) (sym stamps ∙ ap (λ (x : Stamped Descriptor). x.stamp) same)))
-      (λ (new_s : (shown e ≡ Some (record { stamp = n; value = next })) × IsTrue (passes (is_of g.id) (old.descriptor e))). same ∙ sym (some_same s (record { stamp = n; value = next }) (sym also ∙ new_s.0)))
+      (λ (new_s : (shown e ≡ Some (record { stamp = n; value = next })) × IsTrue (passes (is_of g.id) (old.descriptor e))). same ∙ sym (same_Some s (record { stamp = n; value = next }) (sym also ∙ new_s.0)))
       (own e))
       (own d)
 

@@ -1,7 +1,7 @@
 -- A set of those below a number that pass a test.
-use Rattle.std.proofs.Common.{◌≡◌, inl, inr, ℕ, ◌+◌, ◌<◌, ◌≤◌, Bool, true, false, ◌&&◌, ◌||◌, sym, ap, ◌∙◌, arith}
+use Rattle.std.proofs.Common.{◌≡◌, inl, inr, ℕ, ◌+◌, ◌≤◌, Bool, true, false, ◌&&◌, ◌||◌, sym, ap, ◌∙◌, arith}
 use Rattle.std.specs.Prelude.{◌==◌, nat_lt}
-use Rattle.std.proofs.lemmas.Bool.{cases_lt, or_right, and_from, ne_eqb}
+use Rattle.std.proofs.lemmas.Bool.{cases_lt, or_right, and_from, ne_eqb, lt-ltb}
 use Rattle.std.proofs.lemmas.Bool.Decides.{nat_tests, eqb_tells}
 pub use Rattle.std.proofs.lemmas.Bool.{and_right as neither}
 use Rattle.lvm_num.proofs.Booleans.{or_when_false}
@@ -29,9 +29,6 @@ lt_same d i e = grind (arith, nat_tests)
 pub lt_other : (d i : ℕ) → (d ≡ i → ⊥) → nat_lt d (i + 1) ≡ nat_lt d i
 lt_other d i e = grind (arith, nat_tests)
 
-pub lt_all : (d n : ℕ) → d < n → nat_lt d n ≡ true
-lt_all d n e = grind (arith, nat_tests)
-
 -- ---- sets
 
 -- those below i that pass, of a set that is taken in order
@@ -55,6 +52,6 @@ one_left test set i old own d = elim (eqb_tells d i) [
 -- where none passes behind a number, the set is of all that pass
 pub all_pass : (test set : ℕ → Bool) (n : ℕ) → ((d : ℕ) → n ≤ d → test d ≡ false) → PassBelow test n set → (d : ℕ) → set d ≡ test d
 all_pass test set n past pass d = elim (cases_lt d n) [
-  | inl less ↦ pass d ∙ ap (λ (b : Bool). b && test d) (lt_all d n less)
+  | inl less ↦ pass d ∙ ap (λ (b : Bool). b && test d) (lt-ltb d n less)
   | inr more ↦ pass d ∙ neither (nat_lt d n) (test d) (past d (omega arith)) ∙ sym (past d (omega arith))
 ]

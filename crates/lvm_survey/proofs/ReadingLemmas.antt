@@ -1,8 +1,9 @@
 -- A survey of disks one after the other.
 use Rattle.std.proofs.Common.{◌≡◌, inl, inr, ◌≤◌, ◌+◌, ◌++◌, [], ◌∷◌, ℕ, List, Option, Some, IfSome, length, slice_get, refl, sym, ◌∙◌, subst, arith}
+use Rattle.std.proofs.lemmas.Option.{slice_get_within}
 use Rattle.std.proofs.lemmas.List.{length-append}
 use Rattle.lvm_area.specs.passed.Names.{Rose, Media, Device, IsReady, image_of, DeviceStep, Path, Stop, IsUntouched, OnlyReads, IsRested, StopGives}
-use Rattle.lvm_area.proofs.passed.Names.{append-path, map-path, only_none, untouched_none, rested_none, only_more, untouched_more, rested_more, stop_more, got_within}
+use Rattle.lvm_area.proofs.passed.Names.{append-path, map-path, only_none, untouched_none, rested_none, only_more, untouched_more, rested_more, stop_more}
 use Rattle.lvm_survey.specs.declared.row.SurveyRow.{SurveyRow}
 use Rattle.lvm_survey.specs.Surveyed.{IsRead}
 use Rattle.lvm_survey.specs.Surveying.{IsSmall, IsSurveyed}
@@ -82,7 +83,7 @@ module _ (n a b c number : ℕ) (old mid new : Device) (rows : List SurveyRow) (
       count = omega (arith, length-append rows (row ∷ []), so_far.count);
       each = λ d other got. elim (got_one_more rows row d other got) [
         | inl before ↦
-            let less = got_within rows d other before in
+            let less = slice_get_within rows d other before in
             kept_row old mid new d other (steps_of b c mid new only) (elsewhere d (λ here. absurd (omega (arith, less, so_far.count)))) (so_far.each d other before)
         | inr (here, it) ↦
             let place : n ≡ d = omega (arith, here, so_far.count) in

@@ -2,6 +2,7 @@
 use Rattle.std.proofs.Common.{◌≡◌, ◌⊎◌, inl, inr, ⊎_elim, ℕ, ◌+◌, ◌++◌, ◌&&◌, ◌==◌, Bool, true, false, not, List, Option, Some, None, refl, sym, ap, subst, ◌∙◌}
 use Rattle.std.specs.Prelude.{IsTrue, IsFalse, nat_le, nat_lt, slice_get, unwrap_or}
 use Rattle.std.specs.Option.{option_map}
+use Rattle.std.proofs.lemmas.Option.{same_Some}
 use Rattle.std.proofs.lemmas.Bool.{and_parts}
 use Rattle.lvm_num.specs.declared.descriptor.Descriptor.{Descriptor}
 use Rattle.lvm_num.specs.declared.descriptor.LvRow.{LvRow}
@@ -18,7 +19,6 @@ use Rattle.lvm_vol.specs.May.{known}
 use Rattle.lvm_disk.specs.Device.{image_of}
 use Rattle.lvm_kept.specs.Contents.{Contents, contents_of}
 use Rattle.lvm_kept.specs.Group.{IsBlockOf, IsOneOf, block_at}
-use Rattle.lvm_kept.proofs.CommittedLemmas.Finding.{some_same}
 use Rattle.lvm_path.specs.declared.request.Phase.{Phase}
 use Rattle.lvm_path.specs.declared.request.Phase.TheVariants as phase
 use Rattle.lvm_path.specs.Asks.{at_of, count_of, is_write, lv_of}
@@ -102,7 +102,7 @@ module _ (past : List Fact) (s : State) (tied : IsTied past s) where
         by_request : IsRequestAt core i → ⊥
         by_request k =
             let q = tied.sees.queue.requests k.place k.request k.there in
-            let same : q.0 ≡ r = some_same q.0 r (sym q.1 ∙ ap v.queue k.its ∙ started.there) in
+            let same : q.0 ≡ r = same_Some q.0 r (sym q.1 ∙ ap v.queue k.its ∙ started.there) in
             let seen : SeesRequest k.request r = subst (SeesRequest k.request) same q.2 in
             let calm = at.calm k.place k.request k.there (sym seen.write ∙ started.write) (going_started k.request.request.phase (is_begun k.request.request.targets.items) (sym seen.phase ∙ started.going)) in
             clash_gives (goes_over k.request.request.ask row.number b)
@@ -111,7 +111,7 @@ module _ (past : List Fact) (s : State) (tied : IsTied past s) where
         by_step : IsStepAt core i → ⊥
         by_step k =
             let q = tied.sees.queue.a_step k.copy k.is_open k.row in
-            let same : q.0 ≡ r = some_same q.0 r (sym q.1 ∙ ap v.queue k.its ∙ started.there) in
+            let same : q.0 ≡ r = same_Some q.0 r (sym q.1 ∙ ap v.queue k.its ∙ started.there) in
             clash_gives r.write started.write (ap (λ (x : Queued). x.write) (sym same) ∙ q.2.write)
 
     module _ (c : Pp) (usable : IsUsableOf core row lp c) (p : Pp) (other : IsLiveOn shown core row lp p) where

@@ -4,7 +4,7 @@ use Rattle.std.specs.Prelude.{IsTrue, ◌^◌, nat_lt, nat_le, slice_get, slice_
 use Rattle.std.specs.List.{list_any}
 use Rattle.std.proofs.lemmas.Bool.Decides.{nat_tests}
 use Rattle.std.proofs.lemmas.Option.{slice_get_within, get_or_from_slice_get}
-use Rattle.std.proofs.lemmas.Bool.{and_from}
+use Rattle.std.proofs.lemmas.Bool.{and_from, lt-ltb}
 use Rattle.lvm_num.specs.declared.record.Kind.TheVariants as kind
 use Rattle.lvm_num.specs.declared.record.Framed.{Framed}
 use Rattle.lvm_num.specs.declared.descriptor.Mode.TheVariants.{Passive}
@@ -55,9 +55,6 @@ use Rattle.lvm_varyon.proofs.GroupLemmas.{same_voters, same_status, holds_finds}
 use Rattle.lvm_varyon.proofs.DescriptorLemmas.{one_place}
 use Rattle.lvm_varyon_plan.proofs.passed.Names.{descriptor_fits}
 use Rattle.lvm_varyon.proofs.RecordLemmas.{status_fits}
-
-within : (d n : ℕ) → d < n → nat_lt d n ≡ true
-within d n lt = grind (arith, nat_tests)
 
 enough_is : (n : ℕ) → data_start ≤ n → nat_le data_start n ≡ true
 enough_is n le = grind (arith, nat_tests)
@@ -196,7 +193,7 @@ module _ (old read : Device) (survey : Survey) (is : IsSurveyOf old read survey)
     there d target =
         let r = target_row d target in
         and_from (nat_lt d (length old.sizes)) (nat_le data_start (slice_index_or old.sizes d 0))
-        (within d (length old.sizes) (slice_get_within old.sizes d r.0.sectors (is.each d r.0 r.1).sectors))
+        (lt-ltb d (length old.sizes) (slice_get_within old.sizes d r.0.sectors (is.each d r.0 r.1).sectors))
         (ap (nat_le data_start) (get_or_from_slice_get old.sizes d r.0.sectors 0 (is.each d r.0 r.1).sectors) ∙ enough_is r.0.sectors r.3)
 
     pub spared : (d : ℕ) → IsTrue (has plan.targets d) → SparesNewest plan.homes (image_of old.sizes media) d

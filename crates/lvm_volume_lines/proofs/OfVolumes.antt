@@ -1,6 +1,7 @@
 -- Commands on volumes of the group that is on, from the session that has come to rest.
-use Rattle.std.proofs.Common.{◌≡◌, ◌≢◌, ◌⊎◌, inl, inr, ◌<◌, ◌^◌, ◌+◌, ℕ, Bool, true, false, not, [], ◌∷◌, List, Option, Some, refl, sym, ◌∙◌, ap, subst, Result, length}
+use Rattle.std.proofs.Common.{◌≡◌, ◌≢◌, ◌⊎◌, inl, inr, ◌<◌, ◌^◌, ◌+◌, ℕ, Bool, true, false, not, [], List, Option, Some, refl, sym, ◌∙◌, ap, subst, Result}
 use Rattle.std.specs.Prelude.{⊤, MatchBool, IfSome}
+use Rattle.std.proofs.lemmas.List.{nil_from_length}
 use Rattle.lvm_num.specs.declared.place.Pp.{Pp}
 use Rattle.lvm_num.specs.declared.descriptor.Descriptor.{Descriptor}
 use Rattle.lvm_disk.specs.Device.{Device, HasSectors, IsReady}
@@ -35,10 +36,6 @@ use Rattle.lvm_volume_lines.proofs.Resting.{IsStill, TurnsKeep, still_turns, tur
 -- the session goes on after an answer that doesn't end it
 pub if_on : {X : Type 0} (given : Result X GroupFault) (P : Type 0) → IfOn given P → is_over given ≡ false → P
 if_on given P on goes = subst (λ (over : Bool). MatchBool over ⊤ P) goes on
-
-no_open : {X : Type 0} (xs : List X) → length xs ≡ 0 → xs ≡ []
-no_open [] none = refl
-no_open (x ∷ xs) none = absurd (cc (none))
 
 -- ---- a session that is held again
 
@@ -89,7 +86,7 @@ module _ {S : Type 0} (device : S → Device) (stage : Stage S) (fits : IsFittin
   -- the session that is on
   module _ (core : Core) (its : session_in stage ≡ Some core) where
     pub no_requests : core.requests ≡ []
-    no_requests = no_open core.requests (sym (ap open_in its) ∙ none)
+    no_requests = nil_from_length core.requests (sym (ap open_in its) ∙ none)
 
     pub was_on : IsOnBetween (device (shelf_in stage)) core
     was_on = subst (λ (o : Option Core). IfSome o (IsOnBetween (device (shelf_in stage)))) its between.session

@@ -1,6 +1,7 @@
 -- A descriptor in which a volume has more copies, and what the further ones are.
 use Rattle.std.proofs.Common.{◌≡◌, ◌≢◌, ◌⊎◌, inl, inr, ⊎_elim, ℕ, zero, suc, ◌+◌, ◌*◌, ◌%◌, ◌<◌, ◌≤◌, true, ◌&&◌, List, [], ◌∷◌, length, get_or, take, drop, Some, sym, ap, subst, ◌∙◌, arith}
 use Rattle.std.specs.Prelude.{◌==◌, All, Contains, IsTrue, slice_get}
+use Rattle.std.proofs.lemmas.Option.{slice_get-get_or}
 use Rattle.std.proofs.lemmas.Bool.{false≢true, cases_lt}
 use Rattle.std.proofs.lemmas.List.{length-take-le, length-drop, get_or-take, get_or-drop, take-append-drop}
 use Rattle.std.proofs.lemmas.List.Folds.{list_any_at}
@@ -14,7 +15,6 @@ use Rattle.lvm_num.proofs.AmongLemmas.{one_of_either, one_of_left}
 use Rattle.lvm_map.specs.FirstFit.{is_among, IsAllocated, more_copies}
 use Rattle.lvm_map.specs.Laws.{IsNewPlace}
 use Rattle.lvm_map.proofs.FirstFitLemmas.FreeLists.{is_pp-same}
-use Rattle.lvm_map.proofs.FirstFitLemmas.Fitting.{get-get_or}
 use Rattle.lvm_map.proofs.LawsLemmas.NewPlaces.{new_place}
 use Rattle.lvm_map.proofs.PlacesLemmas.{volume_at, laid_out}
 use Rattle.lvm_map.proofs.FirstFitLemmas.Validity.{more_are_valid, copies_stay}
@@ -49,7 +49,7 @@ module _ (d : Descriptor) (usable : Disks) (lv copies : ℕ) (row : LvRow) (pps 
   pub valid_more : copies ≤ 3 → IsValid next
   valid_more most =
       let at = volume_at d lv row volume in
-      let there : slice_get d.lvs at.place ≡ Some row = get-get_or d.lvs at.place row at.within ∙ ap Some (at.there row) in
+      let there : slice_get d.lvs at.place ≡ Some row = slice_get-get_or d.lvs at.place row at.within ∙ ap Some (at.there row) in
       subst (λ (rows : List LvRow). IsValid (record d { lvs = rows })) (sym (is_set lv copies pps d.lvs at.place row valid.volumes.numbers_rise there at.its))
       (more_are_valid d usable row at.place copies pps valid there more most all)
 
@@ -77,7 +77,7 @@ module _ (d : Descriptor) (usable : Disks) (lv copies : ℕ) (row : LvRow) (pps 
       }
 
   place : (k : ℕ) (e : Pp) → k < length pps → row.copies ≤ k % copies → IsNewPlace d usable (more_copies row copies) (take k pps) (get_or pps k e)
-  place k e lt past = new_place d usable (more_copies row copies) pps k (get_or pps k e) valid all.fits (get-get_or pps k e lt) past
+  place k e lt past = new_place d usable (more_copies row copies) pps k (get_or pps k e) valid all.fits (slice_get-get_or pps k e lt) past
 
   -- they are partitions of usable members,
   pub places_of : All (IsPartitionOf d) (further_copies new row.copies)

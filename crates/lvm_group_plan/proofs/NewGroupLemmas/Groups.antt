@@ -2,7 +2,7 @@
 use Rattle.std.proofs.Common.{◌≡◌, ◌≢◌, ⊎_elim, ℕ, zero, suc, ◌-◌, ◌^◌, ◌<◌, ◌≤◌, Bool, true, false, ◌&&◌, ◌||◌, List, [], ◌∷◌, length, get_or, Some, None, refl, sym, ap, subst, ◌∙◌, arith}
 use Rattle.std.specs.Prelude.{◌==◌, nat_le, map, filter, AllPairs, IsTrue, slice_get}
 use Rattle.std.specs.List.{list_any}
-use Rattle.std.proofs.lemmas.Bool.{cases_lt, eqb-true, eq-eqb}
+use Rattle.std.proofs.lemmas.Bool.{cases_lt, eqb-true, eq-eqb, leb-false}
 use Rattle.std.proofs.lemmas.Bool.Decides.{nat_tests}
 use Rattle.std.proofs.lemmas.List.{get_or-map, length-map, length-replicate}
 use Rattle.std.proofs.lemmas.List.Elements.{All-map, All-filter}
@@ -25,12 +25,9 @@ size_positive (suc mib) is = omega arith
 
 -- ---- the disks that are named
 
-within : (n disk : ℕ) → nat_le n disk ≡ false → disk < n
-within n disk is = grind (arith, nat_tests)
-
 -- each of them is there,
 pub is_there : (sizes disks : List ℕ) → first_absent sizes disks ≡ None → (k d : ℕ) → k < length disks → get_or disks k d < length sizes
-is_there sizes disks there k d lt = within (length sizes) (get_or disks k d) (none_found (λ disk. nat_le (length sizes) disk) disks there k d lt)
+is_there sizes disks there k d lt = leb-false (length sizes) (get_or disks k d) (none_found (λ disk. nat_le (length sizes) disk) disks there k d lt)
 
 some_count : (n : ℕ) → n == 0 ≡ false → 1 ≤ n
 some_count n is = grind (arith, nat_tests)
@@ -162,7 +159,7 @@ pub is_placed : (sizes : List ℕ) (mib : ℕ) (disks : List ℕ) → 1 ≤ mib 
     → (k : ℕ) → k < length disks → IsPlaced sizes mib (member_for sizes mib (get_or disks k 0))
 is_placed sizes mib disks some there fit k lt = record {
   there = is_there sizes disks there k 0 lt;
-  within = λ size is.
+  leb-false = λ size is.
       needs size mib (partition_count (sectors_on sizes (get_or disks k 0)) mib) some (ap (λ s. partition_count s mib) (size_at sizes (get_or disks k 0) size is)) (has_partition sizes mib disks fit k 0 lt);
 }
 

@@ -5,6 +5,7 @@ use Rattle.std.proofs.lemmas.Nat.{mod_below}
 use Rattle.std.specs.List.{AllByRecursion}
 use Rattle.std.specs.Option.{option_map_or}
 use Rattle.std.specs.Prelude.{IfSome, unwrap_or}
+use Rattle.std.proofs.lemmas.Map.Keys.{any_passes_from_place}
 use Rattle.lvm_num.specs.Buffer.{Buffer}
 use Rattle.lvm_num.specs.Geometry.{partition_blocks}
 use Rattle.lvm_num.specs.Status.{calls_stale}
@@ -35,7 +36,7 @@ use Rattle.lvm_keeps_events.proofs.JudgingLemmas.DuesMarks.{due_one, has_failed,
 use Rattle.lvm_keeps_events.proofs.SoundLemmas.Failing.{kept, LeavesParts, leaves, parted, pool, queue}
 use Rattle.lvm_keeps_events.proofs.RequestsLemmas.{failed_badly, its, learnt, request}
 use Rattle.lvm_keeps_events.proofs.Groups.{group_low, whole_passes}
-use Rattle.lvm_keeps_events.proofs.Lists.{all_and, and_false, any_at, either, none_by, or_false, or_true}
+use Rattle.lvm_keeps_events.proofs.Lists.{all_and, and_false, either, none_by, or_false, or_true}
 
 -- What is left of the copy, the hold queue and the pool, and which partitions are due to be stale, where the request has learned so of this partition.
 pub record IsEntailed (core : Core) (o : Open) (ok : Bool) (p : Pp) (queue : Waiting) (copy : Option OpenCopy) (pool : List Bool) (due : Pp → Bool) : Type 0 where
@@ -187,7 +188,7 @@ module _ (core : Core) (going : IsGoing core) (place target : ℕ) (o : Open) (t
           where
             of : (b : Bool) → is_sure core t.pp ≡ b → b ≡ false
             of false s = refl
-            of true s = not_so (sym unkept ∙ any_at (is_sure_done core) x.request.targets.items k t t_there (all_and (is_done t.state) (is_sure core t.pp) did s))
+            of true s = not_so (sym unkept ∙ any_passes_from_place (is_sure_done core) x.request.targets.items k t t_there (all_and (is_done t.state) (is_sure core t.pp) did s))
 
         by : (k : ℕ) (t : Target) → slice_get x.request.targets.items k ≡ Some t → (a b : Bool) → is_done t.state ≡ a → is_caught core group t.pp ≡ b → a && b ≡ false
         by k t t_there false b i j = refl

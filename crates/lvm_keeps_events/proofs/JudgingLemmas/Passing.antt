@@ -5,6 +5,7 @@ use Rattle.std.proofs.lemmas.List.Folds.{list_any-append}
 use Rattle.std.specs.List.{AllByRecursion, list_any, range_with_len, remove}
 use Rattle.std.specs.Option.{option_map_or}
 use Rattle.std.specs.Prelude.{count_by, IfSome, is_none, slice_index_or, unwrap_or}
+use Rattle.std.proofs.lemmas.Map.Keys.{any_passes_from_place}
 use Rattle.lvm_num.specs.Buffer.{Buffer}
 use Rattle.lvm_num.specs.Descriptor.{copies_of, is_member, is_pp}
 use Rattle.lvm_num.specs.Disks.{has}
@@ -69,7 +70,7 @@ use Rattle.lvm_keeps_events.proofs.SoundLemmas.Over.{even_rows, without_step}
 use Rattle.lvm_keeps_events.proofs.OwnersLemmas.Removal.{as_many, given_back, none_left, others as others_of, rows_left, tickets_left}
 use Rattle.lvm_keeps_events.proofs.JudgingLemmas.DuesMarks.{among_get, own_pp, pp_same}
 use Rattle.lvm_keeps_events.proofs.Groups.{group_low, some_size, whole_passes}
-use Rattle.lvm_keeps_events.proofs.Lists.{all_and, all_pair, all_there, any_at, any_on, found_at, or_true}
+use Rattle.lvm_keeps_events.proofs.Lists.{all_and, all_pair, all_there, any_on, found_at, or_true}
 use Rattle.lvm_map.proofs.Parts.{whole}
 
 -- ---- the hold queue
@@ -637,7 +638,7 @@ module _ (s : State) (sound : IsSound s) (on : s.core.power ≡ power.On) (c : O
           where
             of : (b : Bool) → (w && is_pp found.1 c.pp) ≡ b → list_any (may_be_fresh core) (copies_in core.descriptor lv lp) ≡ true
             of true e = by_source (ap (is_among (copies_in core.descriptor lv lp)) (sym (pp_same found.1 c.pp (both w (is_pp found.1 c.pp) e).1)) ∙ among_get (copies_in core.descriptor lv lp) found.0 found.1 found.2)
-            of false e = any_at (may_be_fresh core) (copies_in core.descriptor lv lp) found.0 found.1 found.2
+            of false e = any_passes_from_place (may_be_fresh core) (copies_in core.descriptor lv lp) found.0 found.1 found.2
                 (sym (ap (λ b. was_fresh core found.1 || not (is_settled core found.1 && b)) (like.stale found.1 ∙ ap (λ b. is_wanted_stale core found.1 && not b) e ∙ and_true (is_wanted_stale core found.1))) ∙ found.3)
               where
                 and_true : (a : Bool) → a && true ≡ a

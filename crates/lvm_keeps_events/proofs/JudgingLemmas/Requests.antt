@@ -3,6 +3,7 @@ use Rattle.std.proofs.Common.{◌≡◌, ◌⊎◌, inl, inr, ◌==◌, ◌≤�
 use Rattle.std.specs.Prelude.{count_by}
 use Rattle.std.specs.List.{list_any, AllByRecursion}
 use Rattle.std.specs.Option.{option_map_or}
+use Rattle.std.proofs.lemmas.Map.Keys.{any_passes_from_place}
 use Rattle.std.proofs.lemmas.Bool.{lt-ltb, ltb-false}
 use Rattle.std.proofs.lemmas.Bool.Decides.{nat_tests}
 use Rattle.std.proofs.lemmas.Nat.{mod_below}
@@ -36,7 +37,7 @@ use Rattle.lvm_keeps.proofs.KeepsLemmas.NoteStart.{each_counted}
 use Rattle.lvm_keeps.proofs.Small.{and_on, both, is_false}
 use Rattle.lvm_keeps.proofs.RequestsLemmas.{shape_still}
 use Rattle.lvm_keeps_events.proofs.EndsLemmas.NoteEnd.{all_true, pinned_by}
-use Rattle.lvm_keeps_events.proofs.Finding.{any_on, count_with, found, some_there}
+use Rattle.lvm_keeps_events.proofs.Finding.{any_on, count_with, found}
 use Rattle.lvm_keeps_events.proofs.CallsLemmas.{in_flight_of}
 use Rattle.lvm_keeps_events.proofs.JudgingLemmas.Review.{Clears, WriteEnd, Reviewed, and_of, flies_is, mid, now, of_now, or_right, pp_self, settled_on, sure_by, wanted_on}
 
@@ -164,8 +165,8 @@ module _ (e : WriteEnd) (r : Reviewed e) (names : NamesStay e) (caught : (group 
         carried t e2 = let parts = both (is_done t.state) (is_caught after group t.pp) e2 in and_of (is_done t.state) (is_caught core group t.pp) parts.0 (turned (is_caught core group t.pp) (is_caught after group t.pp) (caught group t.pp) parts.1)
 
         by_sure : (t : Target) (i : ℕ) → slice_get x.request.targets.items i ≡ Some t → is_done t.state ≡ true → (is_sure core t.pp ≡ true) ⊎ Clears core t.pp → is_kept core x.request || will_be_kept core x.request ≡ true
-        by_sure t i at done (inl sure) = ap (λ b. b || will_be_kept core x.request) (some_there (λ (u : Target). is_done u.state && is_sure core u.pp) x.request.targets.items i t at (and_of (is_done t.state) (is_sure core t.pp) done sure))
-        by_sure t i at done (inr c) = or_right (is_kept core x.request) (will_be_kept core x.request) (some_there (λ (u : Target). is_done u.state && is_caught core group u.pp) x.request.targets.items i t at
+        by_sure t i at done (inl sure) = ap (λ b. b || will_be_kept core x.request) (any_passes_from_place (λ (u : Target). is_done u.state && is_sure core u.pp) x.request.targets.items i t at (and_of (is_done t.state) (is_sure core t.pp) done sure))
+        by_sure t i at done (inr c) = or_right (is_kept core x.request) (will_be_kept core x.request) (any_passes_from_place (λ (u : Target). is_done u.state && is_caught core group u.pp) x.request.targets.items i t at
             (and_of (is_done t.state) (is_caught core group t.pp) done (whole_caught core x.request laid t.pp c)))
 
         by : (b : Bool) → is_kept after x.request ≡ b → b || will_be_kept after x.request ≡ true → is_kept core x.request || will_be_kept core x.request ≡ true

@@ -3,6 +3,7 @@ use Rattle.std.proofs.Common.{◌≡◌, ◌⊎◌, inl, inr, ◌==◌, ℕ, Boo
 use Rattle.std.specs.Prelude.{IfSome, unwrap_or}
 use Rattle.std.specs.List.{list_any, range_with_len}
 use Rattle.std.specs.Option.{option_map_or}
+use Rattle.std.proofs.lemmas.Map.Keys.{any_passes_from_place}
 use Rattle.std.proofs.lemmas.Bool.{eq-eqb, or_left}
 use Rattle.lvm_num.specs.declared.descriptor.LvRow.{LvRow}
 use Rattle.lvm_num.specs.declared.place.Pp.{Pp}
@@ -28,7 +29,7 @@ use Rattle.lvm_keeps.proofs.KeepsLemmas.Landing.{or_parts}
 use Rattle.lvm_keeps.proofs.Small.{both, is_false}
 use Rattle.lvm_keeps_events.proofs.EndsLemmas.CopyReadFail.{is_here, pp_is}
 use Rattle.lvm_keeps_events.proofs.OnePlace.{one_lp}
-use Rattle.lvm_keeps_events.proofs.Finding.{any_on, found, row_found, some_there}
+use Rattle.lvm_keeps_events.proofs.Finding.{any_on, found, row_found}
 use Rattle.lvm_keeps_events.proofs.CallsLemmas.{Follows, Loses, in_flight_of}
 pub use Rattle.std.proofs.lemmas.Bool.{and_from as and_of}
 pub use Rattle.std.proofs.lemmas.Bool.{or_right}
@@ -453,9 +454,9 @@ module _ (e : WriteEnd) (r : Reviewed e) where
       held = ap (λ (s : Status). is_stale after one.0 || calls_stale s one.0) flies_is ∙ ap (λ s. s || calls_stale (in_flight_of old) one.0) (stale_is one.0 ∙ still_fresh) ∙ fresh.1
 
       by : (b : Bool) → is_entailed (mid e) one.0 ≡ b → list_any (stays_fresh after) copies ≡ true
-      by false is = some_there (stays_fresh after) copies one.1 one.0 one.2 (and_of (not (is_held_stale after one.0)) (not (is_wanted_stale after one.0)) (ap not held)
+      by false is = any_passes_from_place (stays_fresh after) copies one.1 one.0 one.2 (and_of (not (is_held_stale after one.0)) (not (is_wanted_stale after one.0)) (ap not held)
           (ap not (still_clear one.0 (is_false (is_wanted_stale old one.0) parts.1) is (unmarked e one.0 still_fresh))))
-      by true is = subst (λ ps. list_any (stays_fresh after) ps ≡ true) (sym same) (some_there (stays_fresh after) (copies_of left.row left.lp) other.1 other.0 other.2 (fresh_other other.0 other.3))
+      by true is = subst (λ ps. list_any (stays_fresh after) ps ≡ true) (sym same) (any_passes_from_place (stays_fresh after) (copies_of left.row left.lp) other.1 other.0 other.2 (fresh_other other.0 other.3))
         where
           left : IsLeft (mid e) one.0
           left = left_behind (mid e) one.0 is
@@ -468,5 +469,5 @@ module _ (e : WriteEnd) (r : Reviewed e) where
 
           same : copies ≡ copies_of left.row left.lp
           same =
-              let at = one_lp old.descriptor e.going.fitting.valid lv lp left.row.number left.lp one.0 (some_there (is_pp one.0) copies one.1 one.0 one.2 (pp_self one.0)) (ap (λ ps. is_among ps one.0) its ∙ left.among) in
+              let at = one_lp old.descriptor e.going.fitting.valid lv lp left.row.number left.lp one.0 (any_passes_from_place (is_pp one.0) copies one.1 one.0 one.2 (pp_self one.0)) (ap (λ ps. is_among ps one.0) its ∙ left.among) in
               ap (λ n. copies_in old.descriptor n lp) at.0 ∙ ap (λ n. copies_in old.descriptor left.row.number n) at.1 ∙ its

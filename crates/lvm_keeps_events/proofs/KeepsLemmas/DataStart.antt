@@ -3,6 +3,7 @@ use Rattle.std.proofs.Common.{◌≡◌, ◌⊎◌, inl, inr, ◌==◌, ◌≤�
 use Rattle.std.specs.Prelude.{AllPairs, count_by, slice_index_or}
 use Rattle.std.specs.List.{list_any, AllByRecursion}
 use Rattle.std.specs.Option.{option_map_or}
+use Rattle.std.proofs.lemmas.Option.{slice_get_within}
 use Rattle.std.proofs.lemmas.Bool.{eq-eqb, eqb-true, eqb-false, ne_eqb}
 use Rattle.lvm_num.specs.declared.place.Pp.{Pp}
 use Rattle.lvm_num.specs.declared.descriptor.Mode.{Mode}
@@ -47,7 +48,7 @@ use Rattle.lvm_keeps.proofs.KeepsLemmas.Starting.{first_start_is_whole}
 use Rattle.lvm_keeps.proofs.RequestsLemmas.{bring_on, if_on, no_cause, open_on}
 use Rattle.lvm_keeps.proofs.DarkLemmas.Tables.{apart, ascending_set, rows_set}
 use Rattle.lvm_keeps.proofs.SoundLemmas.Whole.{sound_when_on}
-use Rattle.lvm_keeps_events.proofs.TargetsLemmas.{all_true_set, any_here, at_state, count_none, neither, not_all_set, only_at, pp_at, pps_set, set_state, within}
+use Rattle.lvm_keeps_events.proofs.TargetsLemmas.{all_true_set, any_here, at_state, count_none, neither, not_all_set, only_at, pp_at, pps_set, set_state}
 use Rattle.lvm_keeps_events.proofs.WritesLemmas.{StartsAt, starts_at}
 use Rattle.lvm_keeps_events.proofs.SoundLemmas.Frame.{after, fitting_on, launched}
 
@@ -204,7 +205,7 @@ module _ (s : State) (sound : IsSound s) (on : s.core.power ≡ power.On) (place
   shape : IsShaped now.core begun
   shape = let a = request.shape in record {
     targets = all_set (IsTarget core o.request.ask) (IsTarget now.core o.request.ask) target_on targets target flying (target_on flying (moved (all_at (IsTarget core o.request.ask) targets target aim a.targets aim_is))) a.targets;
-    phase_is = (let low = within targets target aim aim_is in omega (arith, low, same_long), λ write. not_over);
+    phase_is = (let low = slice_get_within targets target aim aim_is in omega (arith, low, same_long), λ write. not_over);
     hand = a.hand ∙ ap (λ b. not (is_write o.request.ask) && b) (sym (any_set (λ (t : Target). is_done t.state) targets target aim flying aim_is (sym (ap is_done at_rest))));
     room = a.room;
     differ = λ i j d less high. a_differ i j d less high;
@@ -242,7 +243,7 @@ module _ (s : State) (sound : IsSound s) (on : s.core.power ≡ power.On) (place
 
   one : IsOpenOne now.core begun
   one = record {
-    laid = let l = its.laid in record { within = l.within; blocks = l.blocks; most = let most = l.most in omega (arith, most, same_long); id = l.id };
+    laid = let l = its.laid in record { slice_get_within = l.within; blocks = l.blocks; most = let most = l.most in omega (arith, most, same_long); id = l.id };
     waits = λ e. record { shape = shape; ready = ready; judged = judged };
     over = λ e. absurd (not_so (sym e ∙ waits));
     still = λ e. absurd (not_so (sym e ∙ waits));

@@ -3,6 +3,7 @@ use Rattle.std.proofs.Common.{◌≡◌, ◌⊎◌, inl, inr, ◌==◌, ◌≤�
 use Rattle.std.specs.Prelude.{IfSome, find, is_none, slice_index_or, unwrap_or}
 use Rattle.std.specs.List.{AllByRecursion}
 use Rattle.std.specs.Option.{option_map_or}
+use Rattle.std.proofs.lemmas.List.Elements.{filter_agree}
 use Rattle.std.proofs.lemmas.Bool.{ne_eqb}
 use Rattle.lvm_num.specs.Buffer.{Buffer}
 use Rattle.lvm_num.specs.declared.place.Pp.{Pp}
@@ -37,7 +38,6 @@ use Rattle.lvm_keeps.proofs.Lists.{all_on}
 use Rattle.lvm_keeps.proofs.Small.{both, is_false}
 use Rattle.lvm_keeps.proofs.RequestsLemmas.{copy_stepped, same_next}
 use Rattle.lvm_keeps_events.proofs.SoundLemmas.Over.{even_rows, none_filter, out_no_hand, without_step}
-use Rattle.lvm_keeps_events.proofs.Finding.{filter_alike}
 use Rattle.lvm_keeps_events.proofs.JudgingLemmas.Review.{Clears, WriteEnd, Reviewed, and_of, due, flies_is, its_copy, left_behind, mid, missing_is, not_wanted, now, pp_self, held_by, settled_on, stale_is, still_clear, to_be_cleared, uncleared, usable_is, wanted_on}
 
 -- it goes on as it is, or ends, which is an update less and less work
@@ -127,7 +127,7 @@ module _ (e : WriteEnd) (status : Stored) (marks : WantsStale (due e) e.next sta
       by (Some c) is its = bring c is its
 
   sources_same : (c : OpenCopy) → sources_of after c ≡ sources_of (mid e) c
-  sources_same c = filter_alike (λ (p : Pp). not (is_pp p c.pp) && is_usable after p) (λ (p : Pp). not (is_pp p c.pp) && is_usable (mid e) p) (λ p. ap (λ b. not (is_pp p c.pp) && b) (usable_is e going_on p)) (copies_in core.descriptor c.lv c.lp)
+  sources_same c = filter_agree (λ (p : Pp). not (is_pp p c.pp) && is_usable after p) (λ (p : Pp). not (is_pp p c.pp) && is_usable (mid e) p) (λ p. ap (λ b. not (is_pp p c.pp) && b) (usable_is e going_on p)) (copies_in core.descriptor c.lv c.lp)
 
   cleared_by : (c : OpenCopy) → is_cleared after c ≡ true → is_cleared (mid e) c ≡ true
   cleared_by c is =

@@ -2,6 +2,7 @@
 use Rattle.std.proofs.Common.{◌≡◌, ◌⊎◌, inl, inr, ⊎_elim, ℕ, ◌<◌, Bool, true, false, ◌&&◌, List, [], ◌∷◌, ◌++◌, Option, Some, None, refl, sym, ap, subst, ◌∙◌, arith}
 use Rattle.std.specs.Prelude.{IsTrue, ◌==◌, not, if◌then◌else◌, filter}
 use Rattle.std.specs.List.{AllByRecursion}
+use Rattle.std.proofs.lemmas.Option.{same_Some}
 use Rattle.std.proofs.lemmas.Bool.{eqb-true, and_parts, and_from}
 use Rattle.std.proofs.lemmas.Bool.Decides.{nat_tests}
 use Rattle.lvm_disk.specs.passed.Names.{Stamp, Pp, Mode, LvRow, Descriptor, Status, Disks, track_group_of, copies_of, all_disks, votes_in, CanRead, Stamped, stamp_lt, newest_below}
@@ -15,7 +16,7 @@ use Rattle.lvm_kept.specs.Group.{IsOneOf, if_passes, passes, is_of, is_status_of
 use Rattle.lvm_kept.specs.Kept.{HasStatus, MayDiffer, BlocksKept, IsSettledIn, IsAvailable, Kept}
 use Rattle.lvm_kept.specs.Committed.{IsWithinDisks}
 use Rattle.lvm_kept.specs.Changes.{RestampingKeeps}
-use Rattle.lvm_kept.proofs.CommittedLemmas.Finding.{some_same, offered, is_offered, offers, finding_reads, finds_from}
+use Rattle.lvm_kept.proofs.CommittedLemmas.Finding.{offered, is_offered, offers, finding_reads, finds_from}
 use Rattle.lvm_kept.proofs.ChangesLemmas.Entries.{volume_is_row}
 use Rattle.lvm_kept.proofs.CommittedLemmas.Alike.{like_found, alike_stays}
 use Rattle.lvm_kept.proofs.KeptLemmas.{same_blocks}
@@ -95,7 +96,7 @@ module _ (old : Contents) (descriptor : ℕ → Option (Stamped Descriptor)) (ne
     no_next : (e : ℕ) → IsTrue (disks e) → descriptor e ≡ Some next → e < old.disks → next.value.id ≡ id → ⊥
     no_next e in_set is lt same =
         let last = is_last Descriptor (offered (is_of id) descriptor disks) old.disks e next lt (offers (is_of id) descriptor disks e next in_set is (Rattle.std.proofs.Common.eq-eqb next.value.id id same)) in
-        let it : last.0 ≡ m = some_same last.0 m (sym last.1 ∙ newest) in
+        let it : last.0 ≡ m = same_Some last.0 m (sym last.1 ∙ newest) in
         let low : stamp_lt m.stamp next.stamp ≡ true = later d m stood (its ∙ sym same) in
         never (stamp_lt m.stamp next.stamp) low (ap (λ (x : Stamped Descriptor). stamp_lt x.stamp next.stamp) (sym it) ∙ last.2)
       where
@@ -136,7 +137,7 @@ module _ (old : Contents) (descriptor : ℕ → Option (Stamped Descriptor)) (ne
       let its : m.value.id ≡ id = eqb-true m.value.id id from.1 in
       ⊎_elim
       (λ same. inr (newest_before disks id m newest one.0 (sym same ∙ from.0) its))
-      (λ is. let it : m ≡ next = some_same m next (sym from.0 ∙ is.0) in inl (it, ap (λ (x : Stamped Descriptor). x.value.id) (sym it) ∙ its))
+      (λ is. let it : m ≡ next = same_Some m next (sym from.0 ∙ is.0) in inl (it, ap (λ (x : Stamped Descriptor). x.value.id) (sym it) ∙ its))
       (own one.0)
 
   -- what is found was found
@@ -169,7 +170,7 @@ module _ (old : Contents) (descriptor : ℕ → Option (Stamped Descriptor)) (ne
       let from = is_offered (is_of id) old.descriptor all_disks one.0 f.newest one.2 in
       ⊎_elim
       (λ same. from_offer one.0 f.newest one.1 (same ∙ from.0) from.1)
-      (λ is. from_offer one.0 next one.1 is.0 (ap (λ (n : ℕ). n == id) (sym is.1.2 ∙ ap (λ (x : Stamped Descriptor). x.value.id) (some_same is.1.0 f.newest (sym is.1.1 ∙ from.0))) ∙ from.1))
+      (λ is. from_offer one.0 next one.1 is.0 (ap (λ (n : ℕ). n == id) (sym is.1.2 ∙ ap (λ (x : Stamped Descriptor). x.value.id) (same_Some is.1.0 f.newest (sym is.1.1 ∙ from.0))) ∙ from.1))
       (own one.0)
     where
       -- any disk that shows the group has a newest one among all
@@ -179,7 +180,7 @@ module _ (old : Contents) (descriptor : ℕ → Option (Stamped Descriptor)) (ne
           let m : Stamped Descriptor = last.0 in
           ⊎_elim
           (λ is_next. by_found m last.1 (subst (λ (x : Stamped Descriptor). IsFound old id x.value) (sym is_next.0) (subst (λ (n : ℕ). IsFound old n next.value) is_next.1 found)))
-          (λ was. by_found m last.1 (subst (λ (x : Stamped Descriptor). IsFound old id x.value) (some_same f.newest m (sym f.found ∙ was)) (subst (λ (h : Descriptor). IsFound old id h) (sym f.is) (all_disks, f))))
+          (λ was. by_found m last.1 (subst (λ (x : Stamped Descriptor). IsFound old id x.value) (same_Some f.newest m (sym f.found ∙ was)) (subst (λ (h : Descriptor). IsFound old id h) (sym f.is) (all_disks, f))))
           (old_or_next all_disks id m last.1)
         where
           -- what some disks can read all can
@@ -235,12 +236,12 @@ module _ (old : Contents) (descriptor : ℕ → Option (Stamped Descriptor)) (ne
     one_of d e r s is also ids stamps = ⊎_elim
         (λ old_r. ⊎_elim
         (λ old_s. kept.lasting.descriptors d e r s (sym old_r ∙ is) (sym old_s ∙ also) ids stamps)
-        (λ new_s. let same : s ≡ next = some_same s next (sym also ∙ new_s.0) in
+        (λ new_s. let same : s ≡ next = same_Some s next (sym also ∙ new_s.0) in
         absurd (clash d r (sym old_r ∙ is) (ids ∙ ap (λ (x : Stamped Descriptor). x.value.id) same) (stamps ∙ ap (λ (x : Stamped Descriptor). x.stamp) same)))
         (own e))
-        (λ new_r. let same : r ≡ next = some_same r next (sym is ∙ new_r.0) in ⊎_elim
+        (λ new_r. let same : r ≡ next = same_Some r next (sym is ∙ new_r.0) in ⊎_elim
         (λ old_s. absurd (clash e s (sym old_s ∙ also) (sym ids ∙ ap (λ (x : Stamped Descriptor). x.value.id) same) (sym stamps ∙ ap (λ (x : Stamped Descriptor). x.stamp) same)))
-        (λ new_s. same ∙ sym (some_same s next (sym also ∙ new_s.0)))
+        (λ new_s. same ∙ sym (same_Some s next (sym also ∙ new_s.0)))
         (own e))
         (own d)
       where

@@ -1,13 +1,14 @@
 -- Descriptors of one group: what some disks find all disks find.
 use Rattle.std.proofs.Common.{◌≡◌, ⊎_elim, ℕ, Bool, true, ◌&&◌, [], Option, None, Some, refl, sym, ap, subst, ◌∙◌, eq-eqb}
 use Rattle.std.specs.Prelude.{IsTrue}
+use Rattle.std.proofs.lemmas.Option.{same_Some}
 use Rattle.std.proofs.lemmas.Bool.{eqb-true}
 use Rattle.lvm_disk.specs.passed.Names.{Descriptor, Disks, is_member, all_disks, votes_in, is_enough_to_read, CanRead, Stamped}
 use Rattle.lvm_disk.proofs.passed.Names.{is_one, is_last, more_have_more, more_is_enough, without_first}
 use Rattle.lvm_kept.specs.Contents.{Contents}
 use Rattle.lvm_kept.specs.Group.{passes, is_of, has_room, descriptor_among, is_voter, has_quorum, IsFound, members_in, IsAlike, AreAlike}
 use Rattle.lvm_kept.specs.Committed.{SameVotes, IsWithinDisks, FoundByAll, OneByAllIsOnly, OneShownIsOne, AlikeStays}
-use Rattle.lvm_kept.proofs.CommittedLemmas.Finding.{offered, offers, is_offered, some_same, enough-too, finding_reads, finds_from}
+use Rattle.lvm_kept.proofs.CommittedLemmas.Finding.{offered, offers, is_offered, enough-too, finding_reads, finds_from}
 
 -- ---- groups that differ in their volumes alone
 
@@ -84,16 +85,16 @@ alike_stays old new next writes like alike d e r s is_r is_s same = ⊎_elim
     (λ (r_old : new.descriptor d ≡ old.descriptor d). ⊎_elim
     (λ (s_old : new.descriptor e ≡ old.descriptor e). alike d e r s (sym r_old ∙ is_r) (sym s_old ∙ is_s) same)
     (λ (s_new : new.descriptor e ≡ Some next).
-    let s_is : next ≡ s = some_same next s (sym s_new ∙ is_s) in
+    let s_is : next ≡ s = same_Some next s (sym s_new ∙ is_s) in
     subst (λ (x : Stamped Descriptor). IsAlike r.value x.value) s_is (like d r (sym r_old ∙ is_r) (same ∙ sym (ap (λ (x : Stamped Descriptor). x.value.id) s_is))))
     (writes e))
     (λ (r_new : new.descriptor d ≡ Some next).
-    let r_is : next ≡ r = some_same next r (sym r_new ∙ is_r) in
+    let r_is : next ≡ r = same_Some next r (sym r_new ∙ is_r) in
     ⊎_elim
     (λ (s_old : new.descriptor e ≡ old.descriptor e).
     subst (λ (x : Stamped Descriptor). IsAlike x.value s.value) r_is (sym (like e s (sym s_old ∙ is_s) (sym same ∙ sym (ap (λ (x : Stamped Descriptor). x.value.id) r_is)))))
     (λ (s_new : new.descriptor e ≡ Some next).
-    let s_is : next ≡ s = some_same next s (sym s_new ∙ is_s) in
+    let s_is : next ≡ s = same_Some next s (sym s_new ∙ is_s) in
     ap (λ (x : Stamped Descriptor). record x.value { lvs = [] }) (sym r_is ∙ s_is))
     (writes e))
     (writes d)

@@ -1,6 +1,7 @@
 -- What quorums find of a record that some disks have.
 use Rattle.std.proofs.Common.{◌≡◌, ◌⊎◌, inl, inr, ⊎_elim, ℕ, ◌*◌, ◌<◌, Bool, true, false, ◌&&◌, List, Option, Some, None, refl, sym, ap, subst, ◌∙◌, arith}
 use Rattle.std.specs.Prelude.{IsTrue, if◌then◌else◌, nat_lt, nat_le, sum_by, Result}
+use Rattle.std.proofs.lemmas.Option.{same_Some}
 use Rattle.std.proofs.lemmas.Bool.{ltb-true}
 use Rattle.std.proofs.lemmas.Bool.Decides.{nat_tests}
 use Rattle.lvm_disk.specs.passed.Names.{Stamp, Kind, PvRow, Descriptor, Status, Disks, data_start, descriptor_of, status_of, votes_by, votes_in, all_disks, is_enough_to_read, CanRead, Stamped, stamp_lt, newest_below}
@@ -32,10 +33,6 @@ kept_is test (Some x) r e =
 unwrap_or_else : {X : Type 0} → X → Option X → X
 unwrap_or_else x None = x
 unwrap_or_else x (Some y) = y
-
-pub some_same : {X : Type 0} (a b : X) → Some a ≡ Some b → a ≡ b
-unfolding unwrap_or_else
-some_same a b e = ap (unwrap_or_else a) e
 
 -- what a disk of a set offers, to those who look for records that pass
 abbrev pub offered : {X : Type 0} → (X → Bool) → (ℕ → Option (Stamped X)) → Disks → ℕ → Option (Stamped X)
@@ -93,7 +90,7 @@ next_is_written X of old new set targets now next stands change own later = reco
   have = λ d i. ⊎_elim (λ same. inl (same ∙ ⊎_elim (λ h. h) (λ h. h) (stands.have d i))) (λ is. inr is.1) (change d);
   newest = λ d r is its. ⊎_elim
       (λ same. ⊎_elim (λ low. inl low) (λ h. inr (inl (⊎_elim (λ e. e) (λ e. e) h))) (stands.newest d r (sym same ∙ is) its))
-      (λ (e : IsTrue (targets d) × (new d ≡ Some next)). inr (inr (some_same r next (sym is ∙ e.1))))
+      (λ (e : IsTrue (targets d) × (new d ≡ Some next)). inr (inr (same_Some r next (sym is ∙ e.1))))
       (change d);
 }
 
@@ -145,8 +142,8 @@ finds_status c id set now next within stands disks g f meets =
 pub finds_descriptor : QuorumFindsDescriptor
 unfolding descriptor_among
 finds_descriptor c id set now next within stands disks g f meets = ⊎_elim
-    (λ e. inl (sym f.is ∙ ap (λ (r : Stamped Descriptor). r.value) (some_same f.newest now (sym f.found ∙ e))))
-    (λ e. inr (sym f.is ∙ ap (λ (r : Stamped Descriptor). r.value) (some_same f.newest next (sym f.found ∙ e))))
+    (λ e. inl (sym f.is ∙ ap (λ (r : Stamped Descriptor). r.value) (same_Some f.newest now (sym f.found ∙ e))))
+    (λ e. inr (sym f.is ∙ ap (λ (r : Stamped Descriptor). r.value) (same_Some f.newest next (sym f.found ∙ e))))
     (newest_among Descriptor (is_of id) c.descriptor disks set c.disks now next stands meets.0 (voter_in c disks id meets.0 meets.1) meets.2 within.descriptors)
 
 pub meets_writers : QuorumMeetsWriters

@@ -1,6 +1,7 @@
 -- What first fit chooses is free.
 use Rattle.std.proofs.Common.{◌≡◌, ◌≢◌, ℕ, zero, suc, ◌%◌, ◌<◌, ◌≤◌, Bool, true, false, cond, ◌&&◌, not, List, [], ◌∷◌, ◌++◌, length, get_or, take, Some, nat_lt, refl, sym, ap, subst, ◌∙◌, arith, rules}
 use Rattle.std.specs.Prelude.{◌==◌, All, AllPairs, find, filter, flat_map, slice_get}
+use Rattle.std.proofs.lemmas.Option.{slice_get_within}
 use Rattle.std.proofs.lemmas.Bool.{eq-eqb, not-true, or_parts}
 use Rattle.std.proofs.lemmas.Bool.Decides.{nat_tests}
 use Rattle.std.proofs.lemmas.List.{length-take-le}
@@ -15,7 +16,6 @@ use Rattle.lvm_num.proofs.Pairs.{AllPairs-right}
 use Rattle.lvm_map.specs.FirstFit.{is_among, has_partition_on, partitions_of, free_of, may_take, choices, Asked, others_in, kept_next, IsFirstFit}
 use Rattle.lvm_map.specs.Laws.{IsNewPlace}
 use Rattle.lvm_map.proofs.FirstFitLemmas.FreeLists.{free-head_disk, partitions-at, partitions-size, AllPairs-first}
-use Rattle.lvm_map.proofs.FirstFitLemmas.Fitting.{get-within}
 
 -- ---- the member of a choice
 
@@ -107,7 +107,7 @@ and_parts false b c is = absurd cc
 pub new_place : (d : Descriptor) (usable : Disks) (asked : Asked) (pps : List Pp) (k : ℕ) (pp : Pp) → IsValid d → IsFirstFit d usable asked pps
     → slice_get pps k ≡ Some pp → asked.kept ≤ k % asked.copies → IsNewPlace d usable asked (take k pps) pp
 new_place d usable asked pps k pp valid fits is new =
-    let lt : k < length pps = get-within pps k pp is in
+    let lt : k < length pps = slice_get_within pps k pp is in
     let front = take k pps in
     let size : length front ≡ k = length-take-le k pps (omega arith) in
     let past : asked.kept ≤ length front % asked.copies = subst (λ n. asked.kept ≤ n % asked.copies) (sym size) new in

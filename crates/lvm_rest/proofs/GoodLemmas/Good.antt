@@ -1,6 +1,7 @@
 -- A session at rest is in a good state, and describes its disks.
 use Rattle.std.proofs.Common.{◌≡◌, ◌⊎◌, inl, inr, ⊎_elim, ℕ, zero, suc, ◌<◌, ◌≤◌, Bool, true, false, ◌&&◌, not, List, [], Option, Some, None, refl, sym, ap, subst, ◌∙◌, arith, rules}
 use Rattle.std.specs.Prelude.{IsTrue, IsFalse, ◌==◌, if◌then◌else◌, option_map}
+use Rattle.std.proofs.lemmas.Option.{same_Some}
 use Rattle.std.proofs.lemmas.Bool.{eq-eqb, eqb-true, cases_Bool, not_from_false}
 use Rattle.lvm_num.specs.declared.place.Pp.{Pp}
 use Rattle.lvm_num.specs.declared.descriptor.Mode.{Mode}
@@ -22,7 +23,7 @@ use Rattle.lvm_kept.specs.Contents.{Contents, contents_of}
 use Rattle.lvm_kept.specs.Group.{status_among, ReadsBy, status_by, is_stale_by, fresh_on, block_at, IsBlockOf, is_named, IsOneOf, IsSome, HoldOne}
 use Rattle.lvm_kept.specs.Kept.{StandsAs, MayDiffer as MayDifferOn, IsBlockKept, BlocksKept}
 use Rattle.lvm_kept.specs.Committed.{IsWithinDisks}
-use Rattle.lvm_kept.proofs.CommittedLemmas.Finding.{some_same, finding_reads, images_within}
+use Rattle.lvm_kept.proofs.CommittedLemmas.Finding.{finding_reads, images_within}
 use Rattle.lvm_commit.specs.Committed.{ShowsCommitted}
 use Rattle.lvm_commit.proofs.LawsLemmas.Found.{only_found, status_read}
 use Rattle.lvm_invariant.specs.State.{Marks, Queued, ModelCopy, ModelState, Live, stale_in, told}
@@ -86,7 +87,7 @@ shown_parts id None r is = nothing r is
 shown_parts id (Some t) r is = by (t.value.id == id) refl is
   where
     by : (b : Bool) → (t.value.id == id) ≡ b → option_map as_marks (if b then Some t else None) ≡ Some r → IsShown id (Some t) r
-    by true own is = record { status = t; is = refl; own = eqb-true t.value.id id own; marks = some_same (as_marks t) r is }
+    by true own is = record { status = t; is = refl; own = eqb-true t.value.id id own; marks = same_Some (as_marks t) r is }
     by false own is = nothing r is
 
 -- a volume that is found has its shape

@@ -3,6 +3,7 @@ use Rattle.std.proofs.Common.{◌≡◌, inl, ℕ, zero, suc, ◌<◌, ◌≤◌
 use Rattle.std.specs.Prelude.{◌≢◌, ◌==◌, AllPairs, is_some, slice_index_or, option_and_then, if◌then◌else◌}
 use Rattle.std.specs.List.{list_any}
 use Rattle.std.specs.Option.{option_map_or}
+use Rattle.std.proofs.lemmas.Option.{same_Some}
 use Rattle.std.proofs.lemmas.List.{drop_all}
 use Rattle.std.proofs.lemmas.List.Elements.{All-nil, All-cons}
 use Rattle.std.proofs.lemmas.List.Kept.{AllPairs-cons}
@@ -19,7 +20,6 @@ use Rattle.lvm_num.specs.Geometry.{sectors_needed}
 use Rattle.lvm_num.specs.Status.{calls_missing}
 use Rattle.lvm_num.proofs.DisksLemmas.{has-zero}
 use Rattle.lvm_kept.specs.Examples.{member, mirror}
-use Rattle.lvm_kept.proofs.CommittedLemmas.Finding.{some_same}
 use Rattle.lvm_mwc.specs.declared.notes.DiskNotes.{DiskNotes}
 use Rattle.lvm_mwc.specs.Cache.{has_disk, flight_on, no_notes}
 use Rattle.lvm_status.specs.Update.{Updates, is_held, is_owed, is_there, seen}
@@ -75,7 +75,7 @@ valid m = record {
 
 -- a disk of 8 MiB has room for 6 partitions of 1 MiB
 sizes : (size : ℕ) → Some 16384 ≡ Some size → sectors_needed 1 6 ≤ size
-sizes size e = let same : 16384 ≡ size = some_same 16384 size e in omega (arith, same)
+sizes size e = let same : 16384 ≡ size = same_Some 16384 size e in omega (arith, same)
 
 -- each member has the sectors that it needs
 of_three : (k : ℕ) (row : PvRow) → k < 3 → slice_index_or (member 0 ∷ member 1 ∷ member 2 ∷ []) k row ≡ row → IsPlaced faultless.sizes 1 row

@@ -1,6 +1,7 @@
 -- The sessions that are worked by hand are settled.
 use Rattle.std.proofs.Common.{◌≡◌, ⊎_elim, ℕ, zero, suc, ◌+◌, ◌<◌, Bool, true, false, ◌&&◌, ◌||◌, not, [], ◌∷◌, take, is_some, Option, Some, None, refl, sym, ap, subst, ◌∙◌, arith}
 use Rattle.std.specs.Prelude.{IsTrue, IsFalse, ◌==◌, if◌then◌else◌, option_and_then, slice_index_or}
+use Rattle.std.proofs.lemmas.Option.{same_Some}
 use Rattle.std.proofs.lemmas.Bool.{eqb-true, ne_eqb}
 use Rattle.std.proofs.lemmas.List.{length-replicate}
 use Rattle.std.proofs.lemmas.List.Elements.{All-cons, All-nil}
@@ -25,7 +26,6 @@ use Rattle.lvm_kept.specs.Contents.{Contents, contents_of}
 use Rattle.lvm_kept.specs.Examples.{stamped, member, two, either_of}
 use Rattle.lvm_kept.specs.Group.{IsOneByAll}
 use Rattle.lvm_kept.proofs.CommittedLemmas.Alike.{one_shown_is_one}
-use Rattle.lvm_kept.proofs.CommittedLemmas.Finding.{some_same}
 use Rattle.lvm_kept.specs.Kept.{Kept}
 use Rattle.lvm_kept.specs.Moments.{Calm}
 use Rattle.lvm_stamps.specs.Behind.{StampsBefore}
@@ -158,8 +158,8 @@ fits x = record {
 
 -- each member has the sectors that it needs
 of_two : (k : ℕ) (row : PvRow) → k < 2 → slice_index_or (member 0 ∷ member 1 ∷ []) k row ≡ row → IsPlaced pair_sizes 1 row
-of_two zero row low is = subst (IsPlaced pair_sizes 1) is (record { there = omega arith; within = λ size e. let same : 16384 ≡ size = some_same 16384 size e in omega (arith, same) })
-of_two (suc zero) row low is = subst (IsPlaced pair_sizes 1) is (record { there = omega arith; within = λ size e. let same : 16384 ≡ size = some_same 16384 size e in omega (arith, same) })
+of_two zero row low is = subst (IsPlaced pair_sizes 1) is (record { there = omega arith; within = λ size e. let same : 16384 ≡ size = same_Some 16384 size e in omega (arith, same) })
+of_two (suc zero) row low is = subst (IsPlaced pair_sizes 1) is (record { there = omega arith; within = λ size e. let same : 16384 ≡ size = same_Some 16384 size e in omega (arith, same) })
 of_two (suc (suc k)) row low is = absurd (omega (arith, low))
 
 sound : (x : Pair) → IsSoundBetween (state (device_of x) (core_of x))

@@ -3,8 +3,7 @@ use Rattle.std.proofs.Common.{◌≡◌, ℕ, ◌+◌, ◌*◌, ◌/◌, ◌%◌
 use Rattle.std.specs.Prelude.{◌==◌, nat_lt}
 use Rattle.std.specs.Int.{bit_at}
 use Rattle.std.specs.List.{list_any, position, position_or_len}
-use Rattle.std.proofs.lemmas.Bool.{lt-ltb, eqb-true}
-use Rattle.std.proofs.lemmas.Bool.Decides.{nat_tests}
+use Rattle.std.proofs.lemmas.Bool.{lt-ltb, eqb-true, le-ltb}
 use Rattle.std.proofs.lemmas.List.{get_or_past, get_or_default}
 use Rattle.std.proofs.lemmas.List.Quantifiers.{position-Some}
 use Rattle.std.proofs.lemmas.Nat.Bits.{bit_at-zero}
@@ -44,8 +43,5 @@ row_found rows disk place d is =
       its = eqb-true (get_or rows place d).disk disk found.1;
     }
 
-not_below : (m n : ℕ) → n ≤ m → nat_lt m n ≡ false
-not_below m n le = grind (arith, nat_tests)
-
 pub past_bits : (bytes : List ℕ) (bit k : ℕ) → bit ≡ k → 8 * length bytes ≤ bit → nat_lt bit (8 * length bytes) ≡ has_bit bytes k
-past_bits bytes bit k same past = not_below bit (8 * length bytes) past ∙ sym (no_bit bytes k (omega arith))
+past_bits bytes bit k same past = le-ltb bit (8 * length bytes) past ∙ sym (no_bit bytes k (omega arith))

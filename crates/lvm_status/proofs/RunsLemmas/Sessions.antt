@@ -3,7 +3,6 @@ use Rattle.std.proofs.Common.{◌≡◌, ◌⊎◌, inl, inr, ℕ, ◌+◌, ◌<
 use Rattle.std.specs.Prelude.{◌==◌, if◌then◌else◌, nat_lt, unwrap_or}
 use Rattle.std.specs.List.{list_any}
 use Rattle.std.proofs.lemmas.Bool.{eq-eqb, eqb-true, false≢true, cases_lt, cases_eq, lt-ltb, or_right, or_parts, false_from_ne_true}
-use Rattle.std.proofs.lemmas.Bool.Decides.{nat_tests}
 use Rattle.lvm_stale.specs.passed.Names.{Pp, Stamp, Status, is_member, is_pp, stamp_lt, calls_stale, calls_missing}
 use Rattle.lvm_status.specs.declared.change.Change.{Change}
 use Rattle.lvm_status.specs.declared.change.Change.TheVariants as change
@@ -125,9 +124,6 @@ written_has_ended (SetStamp stamp) old new step disk is = inl (sym (ap (λ (u : 
 -- the second stamp isn't before the first
 abbrev IsNotBefore : Stamp → Stamp → Type 0
 IsNotBefore a b = (a.epoch < b.epoch) ⊎ ((a.epoch ≡ b.epoch) × (a.seq ≤ b.seq))
-
-not_below : (m n : ℕ) → n ≤ m → nat_lt m n ≡ false
-not_below m n le = grind (arith, nat_tests)
 
 is_later : (a b : Stamp) → (a.epoch < b.epoch) ⊎ ((a.epoch ≡ b.epoch) × (a.seq < b.seq)) → stamp_lt a b ≡ true
 is_later a b (inl less) = or_left (nat_lt a.epoch b.epoch) (a.epoch == b.epoch && nat_lt a.seq b.seq) (lt-ltb a.epoch b.epoch less)

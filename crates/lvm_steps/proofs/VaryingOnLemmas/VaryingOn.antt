@@ -2,6 +2,7 @@
 use Rattle.std.proofs.Common.{◌≡◌, inl, inr, ⊎_elim, ℕ, ◌<◌, Bool, true, false, ◌&&◌, List, [], ◌∷◌, ◌++◌, Option, Some, refl, sym, ap, subst, ◌∙◌, eq-eqb}
 use Rattle.std.specs.Prelude.{IsTrue, IsFalse, not, if◌then◌else◌, filter}
 use Rattle.std.specs.List.{AllByRecursion}
+use Rattle.std.proofs.lemmas.Option.{same_Some}
 use Rattle.std.proofs.lemmas.Bool.{eqb-true, not-true, not_from_false}
 use Rattle.lvm_num.specs.declared.place.Pp.{Pp}
 use Rattle.lvm_num.specs.declared.descriptor.Mode.{Mode}
@@ -25,7 +26,7 @@ use Rattle.lvm_kept.specs.Group.{passes, is_of, has_room, descriptor_among, is_v
 use Rattle.lvm_kept.specs.Committed.{IsWithinDisks}
 use Rattle.lvm_kept.specs.Kept.{MayDiffer, BlocksKept, Kept}
 use Rattle.lvm_kept.specs.Changes.{Serves, StayExcused}
-use Rattle.lvm_kept.proofs.CommittedLemmas.Finding.{some_same, offered, is_offered, offers, finding_reads}
+use Rattle.lvm_kept.proofs.CommittedLemmas.Finding.{offered, is_offered, offers, finding_reads}
 use Rattle.lvm_kept.proofs.ChangesLemmas.Restamping.{restamping_keeps, narrower_on}
 use Rattle.lvm_kept.proofs.ChangesLemmas.Changing.{notes_keep}
 use Rattle.lvm_steps.specs.VaryingOn.{AreShowing, RestampKeeps, HasNewest, OnlyNewestIsFound, MayRestate, RestateKeeps, HasNoActive, NotesOf, ForgettingKeeps}
@@ -72,7 +73,7 @@ module _ (c : Contents) (group : Descriptor) (disks : Disks) (newest : Stamped D
       let last = is_last Descriptor (offered (is_of id) c.descriptor b) c.disks d newest (within.descriptors d newest shows) (offers (is_of id) c.descriptor b d newest in_set shows own) in
       let one = is_one Descriptor (offered (is_of id) c.descriptor b) c.disks f.newest f.found in
       let from = is_offered (is_of id) c.descriptor b one.0 f.newest one.2 in
-      let same : f.newest ≡ last.0 = some_same f.newest last.0 (sym f.found ∙ last.1) in
+      let same : f.newest ≡ last.0 = same_Some f.newest last.0 (sym f.found ∙ last.1) in
       ⊎_elim
       (λ (low : stamp_lt f.newest.stamp newest.stamp ≡ true). absurd (clash (stamp_lt f.newest.stamp newest.stamp) low (ap (λ (r : Stamped Descriptor). stamp_lt r.stamp newest.stamp) same ∙ last.2)))
       (λ (it : f.newest ≡ newest). sym f.is ∙ ap (λ (r : Stamped Descriptor). r.value) it ∙ has.value)

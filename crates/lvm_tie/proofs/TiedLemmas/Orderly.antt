@@ -3,6 +3,7 @@ use Rattle.std.proofs.Common.{◌≡◌, ◌⊎◌, ⊎_elim, ℕ, zero, suc, �
 use Rattle.std.specs.Prelude.{count_by, unwrap_or, AllPairs, IsTrue, nat_lt}
 use Rattle.std.specs.List.{list_any, list_all, AllByRecursion}
 use Rattle.std.specs.Option.{option_map_or}
+use Rattle.std.proofs.lemmas.Map.Keys.{any_passes_from_place}
 use Rattle.std.proofs.lemmas.Bool.Decides.{nat_tests}
 use Rattle.std.proofs.lemmas.Option.{get_or_from_slice_get, slice_get_within}
 use Rattle.std.proofs.lemmas.Bool.{eq-eqb, eqb-true, and_parts, or_cases}
@@ -54,7 +55,6 @@ use Rattle.lvm_session.specs.Requests.{IsOpenOne, IsPhase, IsRequest, IsTarget}
 use Rattle.lvm_session.specs.Sound.{IsAsked, IsGoing, IsOn, IsSound}
 use Rattle.lvm_tie.specs.Out.{AreNotes, IsWriteOf, is_owed_on}
 use Rattle.lvm_tie.specs.Tied.{IsOrderly}
-use Rattle.lvm_keeps_events.proofs.Finding.{some_there}
 
 -- ---- lists
 
@@ -103,11 +103,11 @@ tickets_differ (r ∷ rows) differ zero zero a b at too same = refl
 tickets_differ (r ∷ rows) differ zero (suc k) a b at too same =
     let first : r ≡ a = cc at in
     let is : (b.ticket == r.ticket) ≡ true = eq-eqb b.ticket r.ticket (sym same ∙ ap (λ (x : Flown). x.ticket) (sym first)) in
-    absurd (let e : true ≡ false = sym (some_there (λ (other : Flown). other.ticket == r.ticket) rows k b too is) ∙ differ.0 in cc)
+    absurd (let e : true ≡ false = sym (any_passes_from_place (λ (other : Flown). other.ticket == r.ticket) rows k b too is) ∙ differ.0 in cc)
 tickets_differ (r ∷ rows) differ (suc j) zero a b at too same =
     let first : r ≡ b = cc too in
     let is : (a.ticket == r.ticket) ≡ true = eq-eqb a.ticket r.ticket (same ∙ ap (λ (x : Flown). x.ticket) (sym first)) in
-    absurd (let e : true ≡ false = sym (some_there (λ (other : Flown). other.ticket == r.ticket) rows j a at is) ∙ differ.0 in cc)
+    absurd (let e : true ≡ false = sym (any_passes_from_place (λ (other : Flown). other.ticket == r.ticket) rows j a at is) ∙ differ.0 in cc)
 tickets_differ (r ∷ rows) differ (suc j) (suc k) a b at too same = ap (λ n. suc n) (tickets_differ rows differ.1 j k a b at too same)
 
 -- partitions of targets differ
@@ -136,7 +136,7 @@ pub record HasTargets (core : Core) (o : Open) : Type 0 where
   pub blocks : is_write o.request.ask ≡ true → length (request_of core.history.facts o.request.id).blocks ≡ count_of o.request.ask
 
 pub begun_by : (ts : List Target) (number : ℕ) (t : Target) → slice_get ts number ≡ Some t → is_unstarted t.state ≡ false → is_begun ts ≡ true
-begun_by ts number t there started = some_there (λ (u : Target). not (is_unstarted u.state)) ts number t there (ap not started)
+begun_by ts number t there started = any_passes_from_place (λ (u : Target). not (is_unstarted u.state)) ts number t there (ap not started)
 
 -- ---- what is out
 
@@ -260,7 +260,7 @@ module _ (s : State) (w : Option RecordWrite) (orderly : IsOrderly s w) where
       by true is = refl
       by false is =
           let none = none_counted (λ (f : Flown). same_owner row.owner f.owner) core.flying (going.owned row.owner ∙ ap (λ b. if b then 1 else 0) is) in
-          sym none ∙ some_there (λ (f : Flown). same_owner row.owner f.owner) core.flying k row there (same_self row.owner)
+          sym none ∙ any_passes_from_place (λ (f : Flown). same_owner row.owner f.owner) core.flying k row there (same_self row.owner)
 
   -- a request of which a transfer is out has not landed, and moves its data
   pub record IsMoving (o : Open) : Type 0 where
@@ -283,7 +283,7 @@ module _ (s : State) (w : Option RecordWrite) (orderly : IsOrderly s w) where
 
       by : (b : Bool) → is_waiting o ≡ b → IsMoving o
       by true waits = record { waiting = waits; moving = by_phase o.request.phase refl (waiting_one k o there waits).shape.phase_is }
-      by false over = absurd (let e : false ≡ true = sym ((open_one k o there).still over) ∙ some_there (λ (u : Target). is_flying u.state) o.request.targets.items number t at (ap is_flying flying) in cc)
+      by false over = absurd (let e : false ≡ true = sym ((open_one k o there).still over) ∙ any_passes_from_place (λ (u : Target). is_flying u.state) o.request.targets.items number t at (ap is_flying flying) in cc)
 
   is_flying_state : (x : TargetState) → is_flying x ≡ true → x ≡ target.Flying
   is_flying_state target.Waiting is = not_so is

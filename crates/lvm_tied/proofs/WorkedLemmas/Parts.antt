@@ -2,6 +2,7 @@
 use Rattle.std.proofs.Common.{◌≡◌, ℕ, zero, suc, ◌<◌, ◌≤◌, ◌+◌, ◌^◌, Bool, true, false, ◌&&◌, ◌||◌, ◌==◌, not, [], ◌∷◌, Some, None, refl, subst, arith}
 use Rattle.std.specs.Prelude.{is_some, slice_index_or, option_and_then, if◌then◌else◌}
 use Rattle.std.specs.List.{list_any}
+use Rattle.std.proofs.lemmas.Option.{same_Some}
 use Rattle.std.proofs.lemmas.List.Elements.{All-nil}
 use Rattle.lvm_num.specs.declared.place.Pp.{Pp}
 use Rattle.lvm_num.specs.declared.descriptor.Mode.{Mode}
@@ -17,7 +18,6 @@ use Rattle.lvm_num.specs.Status.{calls_missing}
 use Rattle.lvm_num.proofs.DisksLemmas.{has-zero}
 use Rattle.lvm_num.proofs.Booleans.{not_either}
 use Rattle.lvm_kept.specs.Examples.{member, two}
-use Rattle.lvm_kept.proofs.CommittedLemmas.Finding.{some_same}
 use Rattle.lvm_mwc.specs.declared.notes.DiskNotes.{DiskNotes}
 use Rattle.lvm_mwc.specs.Entries.{AreEntries}
 use Rattle.lvm_mwc.specs.Cache.{has_disk, flight_on, no_notes}
@@ -39,7 +39,7 @@ use Rattle.lvm_tied.specs.Worked.{table, core_of, begun}
 
 -- a disk of 8 MiB has room for 6 partitions of 1 MiB
 room : (size : ℕ) → Some 16384 ≡ Some size → sectors_needed 1 6 ≤ size
-room size e = let same : 16384 ≡ size = some_same 16384 size e in omega (arith, same)
+room size e = let same : 16384 ≡ size = same_Some 16384 size e in omega (arith, same)
 
 of_two : (k : ℕ) (row : PvRow) → k < 2 → slice_index_or (member 0 ∷ member 1 ∷ []) k row ≡ row → IsPlaced sizes 1 row
 of_two zero row low is = subst (IsPlaced sizes 1) is (record { there = omega arith; within = λ size e. room size e })

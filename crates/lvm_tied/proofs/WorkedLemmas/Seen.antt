@@ -1,6 +1,7 @@
 -- A session that has just begun is seen as a good state.
 use Rattle.std.proofs.Common.{◌≡◌, inl, ⊎_elim, ℕ, zero, suc, Bool, true, false, ◌&&◌, ◌||◌, ◌==◌, not, [], Some, None, refl, sym, ap, subst, ◌∙◌}
 use Rattle.std.specs.Prelude.{IsTrue, slice_get, if◌then◌else◌, nat_lt}
+use Rattle.std.proofs.lemmas.Option.{same_Some}
 use Rattle.lvm_num.specs.declared.place.Pp.{Pp}
 use Rattle.lvm_num.specs.declared.descriptor.Mode.{Mode}
 use Rattle.lvm_num.specs.Descriptor.{is_member}
@@ -9,7 +10,6 @@ use Rattle.lvm_num.proofs.DisksLemmas.{has-zero}
 use Rattle.lvm_num.proofs.Booleans.{same_turned, not_so}
 use Rattle.lvm_kept.specs.Contents.{contents_of}
 use Rattle.lvm_kept.specs.Examples.{two}
-use Rattle.lvm_kept.proofs.CommittedLemmas.Finding.{some_same}
 use Rattle.lvm_mwc.specs.declared.notes.DiskNotes.{DiskNotes}
 use Rattle.lvm_mwc.specs.Notes.{names_group}
 use Rattle.lvm_mwc.specs.Cache.{notes_on, no_notes}
@@ -76,8 +76,8 @@ module _ (mode : Mode) (stale : Bool) where
   named d lv g n is = by (0 == d) (1 == d) is
     where
       by : (a b : Bool) → (if a then Some (no_notes 0) else if b then Some (no_notes 1) else None) ≡ Some n → false ≡ names_group n.written.items lv g
-      by true b e = ap (λ (m : DiskNotes). names_group m.written.items lv g) (some_same (no_notes 0) n e)
-      by false true e = ap (λ (m : DiskNotes). names_group m.written.items lv g) (some_same (no_notes 1) n e)
+      by true b e = ap (λ (m : DiskNotes). names_group m.written.items lv g) (same_Some (no_notes 0) n e)
+      by false true e = ap (λ (m : DiskNotes). names_group m.written.items lv g) (same_Some (no_notes 1) n e)
       by false false e = absurd cc
 
   marks : marks_with stale false ≡ marks_of (table mode stale)

@@ -1,8 +1,8 @@
 -- A session in which a write waits is tied.
 use Rattle.std.proofs.Common.{ℕ, Bool, List, length, replicate, Ok, refl, sym, ap, arith}
+use Rattle.std.proofs.lemmas.Option.{same_Some}
 use Rattle.lvm_num.specs.declared.descriptor.Mode.{Mode}
 use Rattle.lvm_num.proofs.Booleans.{not_so}
-use Rattle.lvm_kept.proofs.CommittedLemmas.Finding.{some_same}
 use Rattle.lvm_session.specs.Calls.{submitted, SubmitGives}
 use Rattle.lvm_session.specs.Asking.{IsAsking, IsAwake}
 use Rattle.lvm_session.specs.Sound.{IsSound}
@@ -13,7 +13,7 @@ use Rattle.lvm_tied.proofs.WorkedLemmas.Parts.{is_sound}
 use Rattle.lvm_tied.proofs.WorkedLemmas.Worked.{beginnings_are_tied}
 
 asking : IsAsking a_write its_bytes
-asking = record { group = record { some = omega arith; end = omega arith; group = omega arith; whole = λ e. not_so e }; write = refl; long = λ given is. ap (λ (l : List ℕ). length l) (some_same given (replicate 512 1) (sym is)) }
+asking = record { group = record { some = omega arith; end = omega arith; group = omega arith; whole = λ e. not_so e }; write = refl; long = λ given is. ap (λ (l : List ℕ). length l) (same_Some given (replicate 512 1) (sym is)) }
 
 module _ (mode : Mode) (stale : Bool) where
   gives : SubmitGives (core_of mode stale) (submitted (core_of mode stale) 0 a_write its_bytes) 0 a_write its_bytes (Ok 1)

@@ -1,6 +1,7 @@
 -- On which copies writes of the table have failed.
 use Rattle.std.proofs.Common.{◌≡◌, ◌⊎◌, inl, inr, ℕ, Bool, true, false, ◌&&◌, List, [], ◌∷◌, None, Some, if◌then◌else◌, slice_get, slice_set, map, refl, sym, ap, ◌∙◌}
 use Rattle.std.specs.List.{list_any}
+use Rattle.std.proofs.lemmas.Map.Keys.{any_passes_from_place}
 use Rattle.lvm_num.specs.declared.place.Pp.{Pp}
 use Rattle.lvm_num.specs.Descriptor.{is_pp}
 use Rattle.lvm_num.proofs.Booleans.{not_so}
@@ -19,7 +20,7 @@ use Rattle.lvm_session.specs.Events.{Chooses, ChoosesBy, target_at}
 use Rattle.lvm_session.specs.State.{State}
 use Rattle.lvm_keeps_events.proofs.passed.Names.{both}
 use Rattle.lvm_keeps_events.proofs.TargetsLemmas.{at_state}
-use Rattle.lvm_keeps_events.proofs.Lists.{any_at, either, set_either}
+use Rattle.lvm_keeps_events.proofs.Lists.{either, set_either}
 
 -- the transfer to this partition has failed
 abbrev pub fails_at : Pp → Target → Bool
@@ -33,7 +34,7 @@ none_fails p os place o x there on e = by (set_either (fails_on p) os place x e)
   where
     by : (list_any (fails_on p) os ≡ true) ⊎ (fails_on p x ≡ true) → list_any (fails_on p) os ≡ true
     by (inl was) = was
-    by (inr is) = any_at (fails_on p) os place o there (on is)
+    by (inr is) = any_passes_from_place (fails_on p) os place o there (on is)
 
 -- what has landed has failed on none
 pub landed_fails_not : {X : Type 0} (p : Pp) (o : Open) → is_waiting o ≡ false → fails_on p o ≡ true → X

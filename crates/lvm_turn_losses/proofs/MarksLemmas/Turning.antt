@@ -3,6 +3,7 @@ use Rattle.std.proofs.Common.{◌≡◌, ◌⊎◌, inl, inr, ℕ, Bool, true, f
 use Rattle.std.specs.Prelude.{IfSome, unwrap_or}
 use Rattle.std.specs.List.{list_any}
 use Rattle.std.specs.Option.{option_map_or}
+use Rattle.std.proofs.lemmas.Map.Keys.{any_passes_from_place}
 use Rattle.lvm_num.specs.Buffer.{Buffer}
 use Rattle.lvm_num.specs.declared.place.Pp.{Pp}
 use Rattle.lvm_num.specs.Status.{calls_stale}
@@ -41,7 +42,7 @@ use Rattle.lvm_keeps_events.proofs.TargetsLemmas.{set_state}
 use Rattle.lvm_keeps_events.proofs.EndsDataLemmas.{aim, aim_is, entails, going, long, mid, o, own, place, rose, there, x}
 use Rattle.lvm_keeps_events.proofs.JudgingLemmas.DuesMarks.{IsDueOne, due_one, own_pp, pp_same}
 use Rattle.lvm_keeps_events.proofs.RequestsLemmas.{failed_badly, waits}
-use Rattle.lvm_keeps_events.proofs.Lists.{all_and, any_at, either, set_either}
+use Rattle.lvm_keeps_events.proofs.Lists.{all_and, either, set_either}
 use Rattle.lvm_turn_losses.specs.Marks.{MarksFor, has_failed_on, is_marked, is_open_at}
 use Rattle.lvm_turn_losses.proofs.MarksLemmas.Requests.{chooses_none, ended_fails_not, fails_at, landed_fails_not, none_fails, set_fails}
 use Rattle.lvm_turn_losses.proofs.MarksLemmas.Reviewing.{IsReviewed, after_end_requests, marked_open, marked_whole, reviewed}
@@ -178,7 +179,7 @@ module _ (old : State) (sound : IsSound old) (on : old.core.power ≡ power.On) 
       where
         of : is_waiting was && is_write was.request.ask ≡ true → (list_any (fails_at p) was.request.targets.items ≡ true) ⊎ ((is_failed (end_state ok) ≡ true) × (is_pp p its.pp ≡ true))
             → (has_failed_on old.core p ≡ true) ⊎ Rose (old.device.counts.faults p.disk) (new.device.counts.faults p.disk)
-        of write (inl before) = inl (any_at (fails_on p) old.core.requests (place at id target ok old new sound on ends) was here (all_and (is_waiting was && is_write was.request.ask) (list_any (fails_at p) was.request.targets.items) write before))
+        of write (inl before) = inl (any_passes_from_place (fails_on p) old.core.requests (place at id target ok old new sound on ends) was here (all_and (is_waiting was && is_write was.request.ask) (list_any (fails_at p) was.request.targets.items) write before))
         of write (inr is) = inr (subst (λ (q : Pp). Rose (old.device.counts.faults q.disk) (new.device.counts.faults q.disk)) (sym (pp_same p its.pp is.1)) (rose at id target ok old new sound on ends (failed_badly ok is.0)))
 
         by : (has_failed_on old.core p ≡ true) ⊎ (fails_on p now ≡ true) → (has_failed_on old.core p ≡ true) ⊎ Rose (old.device.counts.faults p.disk) (new.device.counts.faults p.disk)
@@ -200,9 +201,9 @@ module _ (old : State) (sound : IsSound old) (on : old.core.power ≡ power.On) 
 
         by : (is_failed one.it.target.state ≡ true) ⊎ (is_sure between one.it.target.pp ≡ false) → (is_marked old.core p ≡ true) ⊎ (is_missing new.core p.disk ≡ true) ⊎ (has_failed_on new.core p ≡ true)
         by (inl bad) = inr (inr (ap (λ (os : List Open). list_any (fails_on p) os) requests
-            ∙ any_at (fails_on p) (slice_set old.core.requests (place at id target ok old new sound on ends) now) (place at id target ok old new sound on ends) now (set_here old.core.requests (place at id target ok old new sound on ends) was now here)
+            ∙ any_passes_from_place (fails_on p) (slice_set old.core.requests (place at id target ok old new sound on ends) now) (place at id target ok old new sound on ends) now (set_here old.core.requests (place at id target ok old new sound on ends) was now here)
             (all_and (is_waiting was && is_write was.request.ask) (list_any (fails_at p) now.request.targets.items) (all_and (is_waiting was) (is_write was.request.ask) waiting (both (is_write was.request.ask) (are_over now.request.targets.items) one.over).0)
-            (any_at (fails_at p) now.request.targets.items one.it.place one.it.target one.it.there (all_and (is_failed one.it.target.state) (is_pp p one.it.target.pp) bad (ap (is_pp p) (sym one.it.pp_is) ∙ own_pp p))))))
+            (any_passes_from_place (fails_at p) now.request.targets.items one.it.place one.it.target one.it.there (all_and (is_failed one.it.target.state) (is_pp p one.it.target.pp) bad (ap (is_pp p) (sym one.it.pp_is) ∙ own_pp p))))))
         by (inr none_sure) = inl (unsure (is_stale old.core p) (calls_stale (unwrap_or old.core.status.in_flight old.core.status.committed) p) (is_wanted_stale old.core p) (ap (is_sure between) one.it.pp_is ∙ none_sure))
 
     -- the copy that fails with it was whole

@@ -8,7 +8,7 @@ use Rattle.std.proofs.lemmas.Nat.{div-mul-add}
 use Rattle.std.proofs.lemmas.Bool.{cases_Bool, cases_lt, false≢true, eq-eqb, eqb-true, not_from_false, ne_eqb, eqb-false}
 use Rattle.std.proofs.lemmas.List.{get_or_append_left, get_or-append-add, get_or-drop, get_or-take, length-drop, length-take}
 use Rattle.std.proofs.lemmas.List.Concat.{flat_map-cons}
-use Rattle.std.proofs.lemmas.List.Elements.{All-nil, All-cons, All-tail, All-append}
+use Rattle.std.proofs.lemmas.List.Elements.{All-nil, All-cons, All-tail, All-append, All-push}
 use Rattle.std.proofs.lemmas.List.Folds.{list_any_at, list_any_none, Any-from_list_any}
 use Rattle.lvm_num.specs.declared.place.Pp.{Pp}
 use Rattle.lvm_num.specs.declared.descriptor.PvRow.{PvRow}
@@ -18,7 +18,7 @@ use Rattle.lvm_num.specs.DescriptorBytes.{partition_bytes, unfinished, is_at, pa
 use Rattle.lvm_num.specs.Reading.{◌>>=◌, Rest, number_at}
 use Rattle.lvm_num.proofs.Pairs.{All-left, All-right, AllPairs-left}
 use Rattle.lvm_descriptor.proofs.passed.Names.{IsBytes, bind_ok, ok_is, both, from_both, Takes, Takes-then, wide16, number_takes, number_again}
-use Rattle.lvm_vgda.proofs.DescriptorBytesLemmas.MemberLaws.{none_of, then_is, All-snoc, AllPairs-snoc, AllPairs-last, not_true}
+use Rattle.lvm_vgda.proofs.DescriptorBytesLemmas.MemberLaws.{none_of, then_is, AllPairs-snoc, AllPairs-last, not_true}
 use Rattle.lvm_vgda.proofs.DescriptorLemmas.VolumeLaws.{bare}
 use Rattle.lvm_vgda.proofs.UsedLemmas.{its_member}
 
@@ -105,7 +105,7 @@ is_same p q same = from_both (p.disk == q.disk) (p.pp == q.pp) (eq-eqb p.disk q.
 
 pub fit-more : (members : List PvRow) (used : List Pp) (copies : ℕ) (own : List Pp) (pp : Pp) → Fit members used copies own → IsFree members used copies own pp → Fit members used copies (own ++ pp ∷ [])
 fit-more members used copies own pp fit free = record {
-  places = All-snoc (Has members) own pp fit.places free.has;
+  places = All-push (Has members) own pp fit.places free.has;
   strict = strict-more copies own pp fit.strict free.apart;
   once = subst (λ (l : List Pp). AllPairs (λ (a b : Pp). a ≢ b) l) (append_assoc used own (pp ∷ []))
       (AllPairs-snoc (λ (a b : Pp). a ≢ b) (used ++ own) pp fit.once

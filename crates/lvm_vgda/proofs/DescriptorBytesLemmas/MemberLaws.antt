@@ -3,10 +3,10 @@ use Rattle.std.proofs.Common.{◌≡◌, ◌≢◌, inl, inr, ℕ, zero, suc, �
 use Rattle.std.specs.Prelude.{◌==◌, not, nat_le, nat_lt, flat_map, All, AllPairs}
 use Rattle.std.specs.List.{list_all, list_any}
 use Rattle.std.specs.Int.{w8, w16, to_be_bytes}
-use Rattle.std.proofs.lemmas.Bool.{cases_Bool, false≢true, not_from_false, ne_eqb, eqb-false}
+use Rattle.std.proofs.lemmas.Bool.{cases_Bool, false≢true, not_from_false, ne_eqb, eqb-false, lt-ltb, leb-true, le-leb}
 use Rattle.std.proofs.lemmas.Bool.Decides.{nat_tests}
 use Rattle.std.proofs.lemmas.List.Concat.{flat_map-cons}
-use Rattle.std.proofs.lemmas.List.Elements.{All-append, All-nil, All-cons}
+use Rattle.std.proofs.lemmas.List.Elements.{All-push}
 use Rattle.std.proofs.lemmas.List.Folds.{list_any_at, list_any_none}
 use Rattle.lvm_num.specs.declared.descriptor.PvRow.{PvRow}
 use Rattle.lvm_num.specs.Descriptor.{IsMember, AreMembers}
@@ -23,9 +23,6 @@ none_of {X} p xs none k d lt = elim (cases_Bool (p (get_or xs k d))) [
   | inl is ↦ absurd (false≢true (sym none ∙ list_any_at p xs k d lt is))
   | inr isnt ↦ isnt
 ]
-
-pub All-snoc : {X : Type 0} (P : X → Type 0) (xs : List X) (x : X) → All P xs → P x → All P (xs ++ x ∷ [])
-All-snoc P xs x all here = All-append P xs (x ∷ []) all (All-cons P x [] here (All-nil P))
 
 single : {X : Type 0} (x : X) (j : ℕ) (d : X) → j < 1 → get_or (x ∷ []) j d ≡ x
 single x zero d lt = refl
@@ -81,15 +78,6 @@ disk_below n e = grind (arith, nat_tests)
 pub at_least_1 : (n : ℕ) → nat_le 1 n ≡ true → 1 ≤ n
 at_least_1 n e = grind (arith, nat_tests)
 
-pub at_most : (n m : ℕ) → nat_le n m ≡ true → n ≤ m
-at_most n m e = grind (arith, nat_tests)
-
-pub lt_test : (n m : ℕ) → n < m → nat_lt n m ≡ true
-lt_test n m lt = grind (arith, nat_tests)
-
-pub le_test : (n m : ℕ) → n ≤ m → nat_le n m ≡ true
-le_test n m le = grind (arith, nat_tests)
-
 abbrev pub IsNew : List PvRow → PvRow → Type 0
 IsNew earlier row = list_any (λ (other : PvRow). other.disk == row.disk) earlier ≡ false
 
@@ -116,7 +104,7 @@ member_takes earlier r x fits e =
     let made : PvRow × Rest = (record { disk = a.0.0; pps = b.0.0; spare = c.0.0 == 1 }, d.0) in
     subst (λ (y : PvRow × Rest). Takes r (member_bytes y.0) y.1 × IsMember y.0 × IsNew earlier y.0) (ok_is made x d.2) (
       e03,
-      record { disk = disk_below a.0.0 disk.0; a_partition = at_least_1 b.0.0 pps.0; partitions = at_most b.0.0 1016 pps.1 },
+      record { disk = disk_below a.0.0 disk.0; a_partition = at_least_1 b.0.0 pps.0; partitions = leb-true b.0.0 1016 pps.1 },
       not_true (list_any (λ (row : PvRow). row.disk == a.0.0) earlier) disk.1,
     )
 
@@ -125,9 +113,9 @@ pub member_again : (earlier : List PvRow) (place : ℕ) (row : PvRow) (rest : Li
 unfolding member_at
 member_again earlier place row rest is new =
     let disk = number_again w16 _ wide16 (λ n. nat_lt n 128 && not (list_any (λ (other : PvRow). other.disk == n) earlier)) place row.disk (to_be_bytes w16 row.pps ++ (flag row.spare ∷ (replicate 3 0 ++ rest)))
-    (omega (arith, is.disk)) (from_both (nat_lt row.disk 128) (not (list_any (λ (other : PvRow). other.disk == row.disk) earlier)) (lt_test row.disk 128 is.disk) (not_from_false _ new)) in
+    (omega (arith, is.disk)) (from_both (nat_lt row.disk 128) (not (list_any (λ (other : PvRow). other.disk == row.disk) earlier)) (lt-ltb row.disk 128 is.disk) (not_from_false _ new)) in
     let pps = number_again w16 _ wide16 (λ n. nat_le 1 n && nat_le n 1016) (place + 2) row.pps (flag row.spare ∷ (replicate 3 0 ++ rest))
-    (omega (arith, is.partitions)) (from_both (nat_le 1 row.pps) (nat_le row.pps 1016) (le_test 1 row.pps is.a_partition) (le_test row.pps 1016 is.partitions)) in
+    (omega (arith, is.partitions)) (from_both (nat_le 1 row.pps) (nat_le row.pps 1016) (le-leb 1 row.pps is.a_partition) (le-leb row.pps 1016 is.partitions)) in
     let spare = byte_again is_flag (place + 2 + 2) (flag row.spare) (replicate 3 0 ++ rest) (is_flag_flag row.spare) in
     let gap = zeros_again 3 (place + 2 + 2 + 1) rest in
     let same : place + 2 + 2 + 1 + 3 ≡ place + 8 = omega arith in
@@ -149,7 +137,7 @@ pub record MembersTaken (n : ℕ) (earlier : List PvRow) (r : Rest) (x : List Pv
 
 pub members-more : (earlier : List PvRow) (row : PvRow) → AreMembers earlier → IsMember row → IsNew earlier row → AreMembers (earlier ++ row ∷ [])
 members-more earlier row all is new = record {
-  each = All-snoc IsMember earlier row all.each is;
+  each = All-push IsMember earlier row all.each is;
   disks_differ = AllPairs-snoc (λ (a b : PvRow). a.disk ≢ b.disk) earlier row all.disks_differ
       (λ k d lt. eqb-false (get_or earlier k d).disk row.disk (none_of (λ (other : PvRow). other.disk == row.disk) earlier new k d lt));
 }

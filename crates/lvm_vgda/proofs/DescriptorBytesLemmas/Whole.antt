@@ -2,7 +2,7 @@
 use Rattle.std.proofs.Common.{◌≡◌, ◌≢◌, inl, inr, ℕ, zero, suc, ◌+◌, ◌*◌, ◌^◌, ◌<◌, ◌≤◌, Bool, true, false, cond, ◌&&◌, ◌||◌, List, [], ◌∷◌, ◌++◌, append-nil, append_assoc, length, get_or, replicate, Some, Result, Ok, Err, refl, sym, ap, subst, ◌∙◌, arith}
 use Rattle.std.specs.Prelude.{◌==◌, ◌-◌, not, nat_le, nat_lt, bytes_eq, find, flat_map, map, All, AllPairs, IfOk}
 use Rattle.std.specs.Int.{w8, w16, w64, to_be_bytes}
-use Rattle.std.proofs.lemmas.Bool.{cases_Bool, false≢true, eq-eqb, eqb-true, not_from_false}
+use Rattle.std.proofs.lemmas.Bool.{cases_Bool, false≢true, eq-eqb, eqb-true, not_from_false, leb-true, le-leb}
 use Rattle.std.proofs.lemmas.Bool.Decides.{nat_tests}
 use Rattle.std.proofs.lemmas.List.Elements.{All-nil, All-weaker}
 use Rattle.std.proofs.lemmas.List.Folds.{Any-from_list_any, list_any_at}
@@ -19,7 +19,7 @@ use Rattle.lvm_num.proofs.DescriptorLemmas.Bounds.{few_volumes}
 use Rattle.lvm_descriptor.specs.passed.Names.{Fault, Gives}
 use Rattle.lvm_descriptor.proofs.passed.Names.{IsBytes, bind_ok, ok_is, both, from_both, Takes, bytes_takes, bytes_again, wide16, wide64, number_takes, number_again, number_value, byte_takes, byte_again, zeros_take, zeros_again}
 use Rattle.lvm_vgda.proofs.DescriptorBytesLemmas.NameLaws.{bytes_same, name_takes, name_again}
-use Rattle.lvm_vgda.proofs.DescriptorBytesLemmas.MemberLaws.{all_at, then_is, not_true, at_least_1, at_most, le_test, flag_is, flag_again, is_flag_flag, MembersTaken, members_take, members_again}
+use Rattle.lvm_vgda.proofs.DescriptorBytesLemmas.MemberLaws.{all_at, then_is, not_true, at_least_1, flag_is, flag_again, is_flag_flag, MembersTaken, members_take, members_again}
 use Rattle.lvm_vgda.proofs.DescriptorLemmas.VolumeLaws.{bare, VolumesTaken, volumes_take, volumes_again, bare_length, bare_bytes, bare_volumes, whole_volumes, bare_is}
 use Rattle.lvm_vgda.proofs.DescriptorBytesLemmas.MapLaws.{Has, HasCopies, map_bytes, MapsTaken, maps_take, maps_again}
 
@@ -87,7 +87,7 @@ count_takes big even r x fits e =
           let same : a.0.0 ≡ x.0 = one_number r a.0 x a.1 b.1 in
           sym same ∙ eqb-true a.0.0 2 (twice even (a.0.0 == 2) is b.0);
       some = at_least_1 x.0 tests.0;
-      most = at_most x.0 (most_members big) tests.1;
+      most = leb-true x.0 (most_members big) tests.1;
     }
   where
     twice : (p q : Bool) → p ≡ true → p && not q ≡ false → q ≡ true
@@ -103,7 +103,7 @@ unfolding member_count_at
 count_again big even place n rest two some most =
     let small : n < 2 ^ 16 = omega (arith, most, few big) in
     let any = number_again w16 _ wide16 (λ n. true) place n rest small refl in
-    let own = number_again w16 _ wide16 (λ n. nat_le 1 n && nat_le n (most_members big)) place n rest small (from_both (nat_le 1 n) (nat_le n (most_members big)) (le_test 1 n some) (le_test n (most_members big) most)) in
+    let own = number_again w16 _ wide16 (λ n. nat_le 1 n && nat_le n (most_members big)) place n rest small (from_both (nat_le 1 n) (nat_le n (most_members big)) (le-leb 1 n some) (le-leb n (most_members big) most)) in
     then_is _ (λ (count : ℕ × Rest). cond (even && not (count.0 == 2)) (Err (place - 1)) (number_at w16 (λ n. nat_le 1 n && nat_le n (most_members big)) (place, to_be_bytes w16 n ++ rest))) _ any
     ∙ skip (even && not (n == 2)) (place - 1) _ (not_other even two)
     ∙ own
@@ -274,7 +274,7 @@ body_takes big id name mib quorum even r d fits e =
           two = λ is. sym pvs-size ∙ ti.even_two is;
           some = subst (λ x. 1 ≤ x) pvs-size ti.some;
           members_fit = subst (λ x. x ≤ most_members big) pvs-size ti.most;
-          volumes_fit = subst (λ x. x ≤ most_volumes big) lvs-size (at_most j.0 (most_volumes big) tj.1);
+          volumes_fit = subst (λ x. x ≤ most_volumes big) lvs-size (leb-true j.0 (most_volumes big) tj.1);
           members = tl.valid;
           volumes = whole_volumes big n.0 (subst (AreVolumes big) (sym (tn.same ∙ empty)) tm.valid);
           places = tn.places;
@@ -371,7 +371,7 @@ spelled_is_read d valid =
     let g = byte_again is_flag 30 (flag d.quorum) (flag d.even ∷ s7) (is_flag_flag d.quorum) in
     let h = byte_again is_flag 31 (flag d.even) s7 (is_flag_flag d.even) in
     let i = count_again d.big (flag d.even == 1) 32 (length d.pvs) s8 (λ is. head.even (sym (flag_again d.even) ∙ is)) head.a_member head.members in
-    let j = number_again w16 _ wide16 (λ n. nat_le n (most_volumes d.big)) 34 (length d.lvs) s9 lvs-few (le_test (length d.lvs) (most_volumes d.big) head.volumes) in
+    let j = number_again w16 _ wide16 (λ n. nat_le n (most_volumes d.big)) 34 (length d.lvs) s9 lvs-few (le-leb (length d.lvs) (most_volumes d.big) head.volumes) in
     let k = zeros_again 12 36 rest_pvs in
     let l = members_again d.pvs [] 48 rest_lvs valid.members in
     let m = volumes_again d.big d.lvs [] (48 + 8 * length d.pvs) rest_map (bare_volumes d.big d.lvs valid.volumes) in

@@ -1,7 +1,7 @@
 -- A record written to one disk after another.
 use Rattle.std.proofs.Common.{◌≡◌, inl, inr, ⊎_elim, ℕ, ◌+◌, ◌<◌, ◌≤◌, Bool, true, false, IfSome, IsTrue, IsFalse, length, refl, sym, ◌∙◌, ap, subst, arith}
 use Rattle.std.specs.Prelude.{◌==◌, ◌&&◌, ◌||◌, not, nat_lt, if◌then◌else◌}
-use Rattle.std.proofs.lemmas.Bool.{cases_lt, eqb-true, ne_eqb}
+use Rattle.std.proofs.lemmas.Bool.{cases_lt, eqb-true, ne_eqb, lt-ltb}
 use Rattle.std.proofs.lemmas.Bool.Decides.{nat_tests, eqb_tells}
 use Rattle.lvm_num.specs.declared.record.Kind.{Kind}
 use Rattle.lvm_num.specs.Buffer.{Buffer, Sector}
@@ -16,7 +16,7 @@ use Rattle.lvm_write.specs.declared.write.Wrote.TheVariants as wrote
 use Rattle.lvm_write.specs.Written.{write_of, HaveRoom, KeepsShelf, StandsTold, written_well}
 use Rattle.lvm_write.specs.Writes.{DiskWritesLeave, RecordWritesEnd}
 use Rattle.lvm_write.specs.Parts.{write_to, PartsStand, WritesPart}
-use Rattle.lvm_survey.proofs.Passing.{lt_all, lt_none, lt_not, lt_other, lt_same, neither, or_itself, or_other}
+use Rattle.lvm_survey.proofs.Passing.{lt_none, lt_not, lt_other, lt_same, neither, or_itself, or_other}
 use Rattle.lvm_write.proofs.WrittenLemmas.Writing.{logs_wider, if_told, told_at, both_map, changes_more, moments_wider, parts_stay}
 use Rattle.lvm_write.proofs.WritesLemmas.{TriedDisks, nothing_tried, none_here, well_here, badly_here, leaves_here, dark_here, stuck_here, no_more, tried_ends}
 
@@ -215,7 +215,7 @@ module _ (w : RecordWrite) (number p q : ℕ) (old now : Device) (first homes : 
     all_flipped : Flips w.kind (written_well w.targets (has failed)) first homes
     all_flipped = flips_same w.kind (well_below w.targets failed n) (written_well w.targets (has failed)) first homes
         (λ d. ⊎_elim
-        (λ (below : d < n). ap (λ (b : Bool). b && written_well w.targets (has failed) d) (lt_all d n below))
+        (λ (below : d < n). ap (λ (b : Bool). b && written_well w.targets (has failed) d) (lt-ltb d n below))
         (λ (past : n ≤ d).
         let off = no_more w.targets old n room all d past in
         ap (λ (b : Bool). nat_lt d n && (b && not (has failed d))) off ∙ neither (nat_lt d n) false refl ∙ sym (ap (λ (b : Bool). b && not (has failed d)) off))

@@ -1,4 +1,5 @@
 use Rattle.std.proofs.Common.{◌≡◌, sym, ap, subst, ◌∙◌, arith}
+use Rattle.std.proofs.lemmas.Result.{IfOk-weaker}
 use Rattle.lvm_num.specs.declared.descriptor.LvRow.{LvRow}
 use Rattle.lvm_num.specs.Descriptor.{IsValid, volume_of}
 use Rattle.lvm_map.proofs.PlacesLemmas.{volume_is, laid_out}
@@ -6,7 +7,7 @@ use Rattle.lvm_copy_plan.specs.Copies.{with_copies, first_copies}
 use Rattle.lvm_copy_plan.specs.Faults.{MayBeTaken}
 use Rattle.lvm_copy_plan.specs.PlannedCopies.{IsWithFewer}
 use Rattle.lvm_copy_plan.proofs.CopiesLemmas.Fewer.{valid_fewer}
-use Rattle.lvm_copy_plan.proofs.DescriptorLemmas.{found_is, one_volume, if_ok}
+use Rattle.lvm_copy_plan.proofs.DescriptorLemmas.{found_is, one_volume}
 use Rattle.lvm_copy_plan.proofs.copies.fewer.Goals as goal
 
 pub first_copies-requires-clause-whole : goal.first_copies-requires-clause-whole
@@ -42,5 +43,5 @@ returns g c =
     let is : c.in_ok-with_copies.field-0 ≡ with_copies core.descriptor c.args.lv c.args.copies (first_copies row c.args.copies) =
     c.in_ok-with_copies.ensures ∙ (λ t. with_copies (c.descriptor-group.ensures.same t) c.args.lv c.args.copies ((c.as_slice-2.ensures.value ∙ c.in_ok-map.ensures) t)) in
     let valid = valid_fewer core.descriptor c.args.lv c.args.copies row c.requires.group.valid volume may.keeps.shrinks.are.fewer may.keeps.shrinks.are.some in
-    if_ok c.prepare.result (λ next. next ≡ c.in_ok-with_copies.field-0) (IsWithFewer c.args.lv c.args.copies core)
+    IfOk-weaker c.prepare.result (λ next. next ≡ c.in_ok-with_copies.field-0) (IsWithFewer c.args.lv c.args.copies core)
     (λ next its. record { group = c.requires.group; row = row; may = may; is = its ∙ is; valid = subst IsValid (sym (its ∙ is)) valid }) c.prepare.ensures
