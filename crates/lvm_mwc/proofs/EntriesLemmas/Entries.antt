@@ -20,8 +20,6 @@ use Rattle.lvm_mwc.proofs.FirstsLemmas.{IsFirstAt, first_at, NonePasses, none_at
 pub is_entry-same : (lv group : ℕ) (e : CacheEntry) → is_entry lv group e ≡ true → (e.lv ≡ lv) × (e.group ≡ group)
 is_entry-same lv group e is = let both = and_parts (e.lv == lv) (e.group == group) is in (eqb-true e.lv lv both.0, eqb-true e.group group both.1)
 
-]
-
 is_entry-turn : (e f : CacheEntry) → is_entry e.lv e.group f ≡ is_entry f.lv f.group e
 is_entry-turn e f = rw (same_turned f.lv e.lv, same_turned f.group e.group) refl
 

@@ -33,8 +33,6 @@ module _ {X : Type 0} (number : X → ℕ) (test : ℕ → Bool) where
       later true b e = refl
       later false b e = e
 
-]
-
 pub rows_are : (d : Descriptor) (s : Status) → all_rows d s && all_members d s ≡ true → HasItsRows d s
 rows_are d s is disk =
     same_answer (has_row s disk) (is_member d disk)

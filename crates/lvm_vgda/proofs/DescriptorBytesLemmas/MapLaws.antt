@@ -166,8 +166,6 @@ is_apart p q apart = elim (cases_Bool (is_at p q.disk q.pp)) [
   | inr isnt ↦ isnt
 ]
 
-]
-
 last_is_free : (members : List PvRow) (used : List Pp) (copies : ℕ) (own : List Pp) (pp : Pp) → 0 < copies → Fit members used copies (own ++ pp ∷ []) → IsFree members used copies own pp
 last_is_free members used copies own pp some fit = record {
   has = (All-right (Has members) own (pp ∷ []) fit.places) 0 pp (omega arith);
