@@ -10,7 +10,6 @@ pub use Rattle.std.proofs.lemmas.Bool.{and_right as and_right_false}
 pub use Rattle.std.proofs.lemmas.Bool.{or_left}
 pub use Rattle.lvm_num.proofs.Booleans.{first_holds as left_of}
 pub use Rattle.lvm_num.proofs.Booleans.{second_holds as right_of}
-use Rattle.lvm_num.proofs.Booleans.{clash_gives}
 
 -- the value is one of those known
 abbrev pub IsIn : Option (List (List ℕ)) → List ℕ → Type 0

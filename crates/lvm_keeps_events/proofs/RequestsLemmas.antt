@@ -236,7 +236,7 @@ module _ (core : Core) (going : IsGoing core) (place target : ℕ) (o : Open) (t
       two_before two = subst (λ n. 2 ≤ n) same_long two
 
   pub laid : IsLaid core learnt.request
-  laid = let l = its.laid in record { slice_get_within = l.within; blocks = l.blocks; most = let most = l.most in omega (arith, most, same_long); id = l.id }
+  laid = let l = its.laid in record { within = l.within; blocks = l.blocks; most = let most = l.most in omega (arith, most, same_long); id = l.id }
 
   -- ---- the table
 

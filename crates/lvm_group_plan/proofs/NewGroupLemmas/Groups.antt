@@ -159,7 +159,7 @@ pub is_placed : (sizes : List ℕ) (mib : ℕ) (disks : List ℕ) → 1 ≤ mib 
     → (k : ℕ) → k < length disks → IsPlaced sizes mib (member_for sizes mib (get_or disks k 0))
 is_placed sizes mib disks some there fit k lt = record {
   there = is_there sizes disks there k 0 lt;
-  leb-false = λ size is.
+  within = λ size is.
       needs size mib (partition_count (sectors_on sizes (get_or disks k 0)) mib) some (ap (λ s. partition_count s mib) (size_at sizes (get_or disks k 0) size is)) (has_partition sizes mib disks fit k 0 lt);
 }
 

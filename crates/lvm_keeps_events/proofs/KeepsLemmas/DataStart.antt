@@ -243,7 +243,7 @@ module _ (s : State) (sound : IsSound s) (on : s.core.power ≡ power.On) (place
 
   one : IsOpenOne now.core begun
   one = record {
-    laid = let l = its.laid in record { slice_get_within = l.within; blocks = l.blocks; most = let most = l.most in omega (arith, most, same_long); id = l.id };
+    laid = let l = its.laid in record { within = l.within; blocks = l.blocks; most = let most = l.most in omega (arith, most, same_long); id = l.id };
     waits = λ e. record { shape = shape; ready = ready; judged = judged };
     over = λ e. absurd (not_so (sym e ∙ waits));
     still = λ e. absurd (not_so (sym e ∙ waits));
