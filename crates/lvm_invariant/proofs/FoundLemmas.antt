@@ -14,7 +14,7 @@ use Rattle.lvm_invariant.proofs.StateLemmas.Claims.{StatusEndKeepsFound, BeginKe
 earlier : (a b c : Stamp) → stamp_lt a b ≡ true → stamp_lt b c ≡ true → stamp_lt a c ≡ true
 earlier a b c h k = grind (arith, nat_tests)
 
-same_one : (a b : Stamped Marks) → Some a ≡ Some b → a ≡ b
+pub same_one : (a b : Stamped Marks) → Some a ≡ Some b → a ≡ b
 same_one a b e = cc
 
 no_one : {X : Type 0} (a : Stamped Marks) → None ≡ Some a → X

@@ -53,8 +53,8 @@ use Rattle.lvm_keeps.proofs.RequestsLemmas.{bring_on, changed, if_on, no_cause, 
 use Rattle.lvm_keeps.proofs.DarkLemmas.Tables.{rows_set}
 use Rattle.lvm_keeps.proofs.SoundLemmas.Whole.{sound_when_on}
 use Rattle.lvm_keeps_events.proofs.TargetsLemmas.{at_state, pps_set}
-use Rattle.lvm_keeps_events.proofs.OnePlace.{one_lp}
-use Rattle.lvm_keeps_events.proofs.EndsLemmas.CopyReadFail.{at_number, by_place, of_place}
+use Rattle.lvm_keeps_events.proofs.OnePlace.{one_lp, among_at}
+use Rattle.lvm_keeps_events.proofs.EndsLemmas.CopyReadFail.{by_place, of_place}
 use Rattle.lvm_keeps_events.proofs.EndsLemmas.Counts.{counts_keep, rose_since}
 use Rattle.lvm_keeps_events.proofs.OwnersLemmas.Removal.{as_many, count_taken, none_left, others, rows_left, tickets_left}
 use Rattle.lvm_keeps_events.proofs.JudgingLemmas.DuesMarks.{among_get, due_one, is_sure_done, is_sure_target, IsDueOne, IsSpared, left_due, on_one, own_pp, pp_same, spared}
@@ -716,7 +716,7 @@ module _ (old : State) (sound : IsSound old) (on : old.core.power ≡ power.On) 
                 let same_pp = pp_same usable_one.1.pp c.pp its in
                 inl (subst (FailedSinceOpening device failed_copy c.copy) same_pp (since_opening young usable_one.0 usable_one.1 usable_one.2 usable_failed c.copy (bringing.its ∙ ap (λ (q : Pp). Some q) (sym same_pp))))
             by false its =
-                let found = at_number copies usable_one.1.pp (ap (λ ps. is_among ps usable_one.1.pp) same_copies ∙ target_copy usable_one.0 usable_one.1 usable_one.2) in
+                let found = among_at copies usable_one.1.pp (ap (λ ps. is_among ps usable_one.1.pp) same_copies ∙ target_copy usable_one.0 usable_one.1 usable_one.2) in
                 inr (record {
                   each = each_source;
                   number = found.0 + 1;

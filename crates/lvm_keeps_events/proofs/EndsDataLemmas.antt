@@ -41,6 +41,7 @@ use Rattle.lvm_keeps.proofs.Lists.{all_at, get_removed}
 use Rattle.lvm_keeps.proofs.Small.{both}
 use Rattle.lvm_keeps.proofs.RequestsLemmas.{if_on}
 use Rattle.lvm_keeps.proofs.DarkLemmas.Tables.{apart}
+use Rattle.lvm_keeps.proofs.LeftLemmas.Updates.{one_if}
 use Rattle.lvm_keeps_events.proofs.EndsLemmas.CopyQuit.{is_back, IsBack}
 use Rattle.lvm_keeps_events.proofs.EndsLemmas.Counts.{counts_keep}
 use Rattle.lvm_keeps_events.proofs.OwnersLemmas.Removal.{IsOut, taken_out}
@@ -76,10 +77,6 @@ one_named os k j x y ascending there other same = by (j == k) refl
     by : (b : Bool) → (j == k) ≡ b → y ≡ x
     by true is = cc (sym other ∙ ap (slice_get os) (eqb-true j k is) ∙ there)
     by false is = let left = get_removed os k j y (eqb-false j k is) other in absurd (all_at (λ (z : Open). z.request.id ≡ x.request.id → ⊥) (remove os k) left.0 y (apart os k x there ascending) left.1 same)
-
-at_most : (b : Bool) → if_so b 1 ≤ 1
-at_most true = omega arith
-at_most false = omega arith
 
 -- ---- the end
 
@@ -214,7 +211,7 @@ module _ (at id target : ℕ) (ok : Bool) (old new : State) (sound : IsSound old
 
       paid : (b : Bool) → overs ≡ b → if_so (not (same_status new.core.status.wanted (unwrap_or old.core.status.in_flight old.core.status.committed))) 1 + count_if (marks_later x) + option_map_or (copy_updates old.core) old.core.copy 0
           ≤ if_so (not (same_status old.core.status.wanted (unwrap_or old.core.status.in_flight old.core.status.committed))) 1 + count_if (marks_later o) + option_map_or (copy_updates old.core) old.core.copy 0
-      paid true over = let pays = over_pays over in let most = at_most (not (same_status new.core.status.wanted (unwrap_or old.core.status.in_flight old.core.status.committed))) in omega (arith, pays, most)
+      paid true over = let pays = over_pays over in let most = one_if (not (same_status new.core.status.wanted (unwrap_or old.core.status.in_flight old.core.status.committed))) in omega (arith, pays, most)
       paid false ends_later =
           let same : new.core.status ≡ old.core.status = marks.same (λ p e. not_so (sym ends_later ∙ (due_one old.core x.request p (sym (or_false (is_among (due_of old.core x.request) p)) ∙ e)).over)) in
           let wants : if_so (not (same_status new.core.status.wanted (unwrap_or old.core.status.in_flight old.core.status.committed))) 1 ≡ if_so (not (same_status old.core.status.wanted (unwrap_or old.core.status.in_flight old.core.status.committed))) 1
@@ -265,7 +262,7 @@ module _ (at id target : ℕ) (ok : Bool) (old new : State) (sound : IsSound old
           ≤ if_so (not (same_status old.core.status.wanted (unwrap_or old.core.status.in_flight old.core.status.committed))) 1 + count_if (marks_later o) + option_map_or (copy_updates old.core) old.core.copy 0
       paid =
           let less = no_more in
-          let most = at_most (not (same_status new.core.status.wanted (unwrap_or old.core.status.in_flight old.core.status.committed))) in
+          let most = one_if (not (same_status new.core.status.wanted (unwrap_or old.core.status.in_flight old.core.status.committed))) in
           let was : option_map_or (copy_updates old.core) old.core.copy 0 ≡ (if is_whole old.core c then 1 else 2) = ap (λ m. option_map_or (copy_updates old.core) m 0) is ∙ ap (λ b. if not b then 0 else if is_whole old.core c then 1 else 2) runs in
           let some = some_update (is_whole old.core c) in
           omega (arith, less, most, was, some)

@@ -44,6 +44,7 @@ use Rattle.lvm_keeps.proofs.CausesLemmas.{answered_when_on, counted_when_on}
 use Rattle.lvm_keeps.proofs.Lists.{all_on}
 use Rattle.lvm_keeps.proofs.Small.{both, is_false}
 use Rattle.lvm_keeps.proofs.SoundLemmas.Whole.{sound_when_on}
+use Rattle.lvm_keeps.proofs.LeftLemmas.Updates.{one_if}
 use Rattle.lvm_keeps_events.proofs.EndsLemmas.CopyReadFail.{all_tried, by_place, by_sources, none_found, of_place, usable_of}
 use Rattle.lvm_keeps_events.proofs.EndsLemmas.Counts.{counts_keep, rose_since}
 use Rattle.lvm_keeps_events.proofs.SoundLemmas.Copies.{Brings, Fewer, runs_of}
@@ -59,10 +60,6 @@ four false false true d i = inr (inr (inl refl))
 four false false false d i = inr (inr (inr i))
 
 -- ---- how many updates may follow
-
-at_most_one : (b : Bool) → if_so b 1 ≤ 1
-at_most_one true = omega arith
-at_most_one false = omega arith
 
 module _ (e : WriteEnd) (r : Reviewed e) (brings : Brings e r) where
   abbrev core : Core
@@ -130,7 +127,7 @@ module _ (e : WriteEnd) (r : Reviewed e) (brings : Brings e r) where
       seq = ap (λ (u : Updates). u.stamp.seq) r.marks.rest ∙ ap (λ (x : Stamp). x.seq) e.follows.stamp
 
       most : if_so (not (same_status r.status.wanted (unwrap_or r.status.in_flight r.status.committed))) 1 ≤ 1
-      most = at_most_one (not (same_status r.status.wanted (unwrap_or r.status.in_flight r.status.committed)))
+      most = one_if (not (same_status r.status.wanted (unwrap_or r.status.in_flight r.status.committed)))
 
       by : ((e.next.wanted ≡ core.status.wanted) × (count_by (λ (row : PvRow). is_there after row.disk) core.descriptor.pvs ≡ count_by (λ (row : PvRow). is_there core row.disk) core.descriptor.pvs))
           ⊎ (count_by (λ (row : PvRow). is_there after row.disk) core.descriptor.pvs + 1 ≤ count_by (λ (row : PvRow). is_there core row.disk) core.descriptor.pvs)

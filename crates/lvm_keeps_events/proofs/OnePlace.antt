@@ -18,7 +18,7 @@ use Rattle.lvm_session.specs.Judging.{copies_in}
 use Rattle.lvm_session.specs.Marks.{is_among}
 
 -- it stands among them at some place
-among_at : (ps : List Pp) (p : Pp) → is_among ps p ≡ true → (k : ℕ) × (slice_get ps k ≡ Some p)
+pub among_at : (ps : List Pp) (p : Pp) → is_among ps p ≡ true → (k : ℕ) × (slice_get ps k ≡ Some p)
 among_at [] p is = not_so is
 among_at (q ∷ ps) p is = by (p.disk == q.disk) (p.pp == q.pp) refl refl (λ e. among_at ps p e) is
   where

@@ -61,7 +61,7 @@ done_began stage.Done e = refl
 done_began stage.Failed e = refl
 
 -- what a filter leaves passes its test
-some_kept : (t : Pp → Bool) (ps : List Pp) → (length (filter t ps) == 0) ≡ false → list_any t ps ≡ true
+pub some_kept : (t : Pp → Bool) (ps : List Pp) → (length (filter t ps) == 0) ≡ false → list_any t ps ≡ true
 some_kept t [] e = not_either e
 some_kept t (p ∷ ps) e = by (t p) refl (λ f. some_kept t ps f) e
   where

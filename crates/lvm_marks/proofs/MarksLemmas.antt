@@ -1,13 +1,13 @@
 -- Marks one after another.
-use Rattle.std.proofs.Common.{◌≡◌, ◌⊎◌, ⊎_elim, ◌==◌, ◌<◌, ℕ, zero, suc, ◌+◌, ◌-◌, map, length, take, drop, get_or, IsTrue, Bool, true, false, ◌&&◌, ◌||◌, not, List, [], ◌∷◌, ◌++◌, Option, Some, None, if◌then◌else◌, filter, refl, sym, ◌∙◌, ap, subst, arith}
+use Rattle.std.proofs.Common.{◌≡◌, ◌⊎◌, ⊎_elim, ◌==◌, ◌<◌, ℕ, zero, suc, ◌+◌, ◌-◌, length, take, drop, get_or, IsTrue, Bool, true, false, ◌&&◌, ◌||◌, not, List, [], ◌∷◌, ◌++◌, Option, Some, None, if◌then◌else◌, filter, refl, sym, ◌∙◌, ap, subst, arith}
 use Rattle.std.proofs.lemmas.Grind.{common_steps}
 use Rattle.std.specs.List.{list_any}
 use Rattle.lvm_num.specs.declared.place.Pp.{Pp}
 use Rattle.lvm_num.specs.declared.status.Status.{Status}
-use Rattle.lvm_num.specs.declared.status.StatusRow.{StatusRow}
 use Rattle.lvm_num.specs.Descriptor.{is_member, is_pp}
 use Rattle.lvm_num.specs.Status.{calls_stale, calls_missing}
 use Rattle.lvm_stale.specs.Table.{SameMissing}
+use Rattle.lvm_stale.proofs.MarkingLemmas.{any_disk}
 use Rattle.lvm_status.specs.declared.change.Change.TheVariants as change
 use Rattle.lvm_status.specs.Update.{Updates, Stored, seen, is_held, is_owed}
 use Rattle.lvm_status.specs.Calls.{IsMarkable, with_wanted}
@@ -96,13 +96,9 @@ same_pp s p q is stale = subst (λ (x : Pp). calls_stale s x ≡ true) (sym (pps
 
 -- ---- what marks keep
 
-row_by_disks : (rows : List StatusRow) (d : ℕ) → list_any (λ (row : StatusRow). row.disk == d) rows ≡ list_any (λ n. n == d) (map (λ (row : StatusRow). row.disk) rows)
-row_by_disks [] d = refl
-row_by_disks (row ∷ rows) d = ap (λ t. (row.disk == d) || t) (row_by_disks rows d)
-
 pub markable_on : (old new : Status) (p : Pp) → HasSameRows old new → IsMarkable old p → IsMarkable new p
 markable_on old new p rows may = record {
-  row = subst IsTrue (row_by_disks old.rows p.disk ∙ ap (λ ds. list_any (λ n. n == p.disk) ds) (sym rows.disks) ∙ sym (row_by_disks new.rows p.disk)) may.row;
+  row = subst IsTrue (any_disk old.rows p.disk ∙ ap (λ ds. list_any (λ n. n == p.disk) ds) (sym rows.disks) ∙ sym (any_disk new.rows p.disk)) may.row;
   partition = may.partition;
 }
 

@@ -16,8 +16,9 @@ use Rattle.lvm_vol.specs.declared.entry.Vol.TheVariants.{Disk}
 use Rattle.lvm_kept.specs.Raw.{next_write}
 use Rattle.lvm_steps.specs.Requests.{next_read}
 use Rattle.std.specs.Simd.{first_chunks}
+use Rattle.lvm_history.proofs.LogLemmas.Staying.{blocks_begun-push, blocks_begun_same}
 use Rattle.lvm_num.proofs.Booleans.{or_false as or_none}
-use Rattle.lvm_vol.specs.Log.{with_fact, next_request, asked, request_of, has_id, lands_id, is_open, is_uncut, is_uncut_from, is_uncut_after, Log, cut_log, no_request, awaited, need, needed, blocks_begun, spare_entries, spare_bytes}
+use Rattle.lvm_vol.specs.Log.{with_fact, next_request, asked, request_of, has_id, lands_id, is_open, is_uncut, is_uncut_from, is_uncut_after, Log, cut_log, no_request, awaited, need, needed, spare_entries, spare_bytes}
 use Rattle.lvm_vol.specs.declared.entry.Outcome.TheVariants as outcome
 use Rattle.lvm_transfer.specs.declared.moves.Moved.{Moved}
 use Rattle.lvm_transfer.specs.declared.moves.Moved.TheVariants as moved
@@ -87,17 +88,6 @@ needed_more facts f = sum_by-append need facts (f ∷ []) ∙ ap (λ (n : ℕ). 
     last : (f : Fact) → sum_by need (f ∷ []) ≡ need f
     last f = omega arith
 
-blocks_more : (facts : List Fact) (f : Fact) → begun_by f ≡ None → blocks_begun (facts ++ f ∷ []) ≡ blocks_begun facts
-blocks_more facts f none = ap (λ (l : List Request). sum_by (λ r. r.count) l) (begun_more facts f none)
-
-blocks_begin : (facts : List Fact) (r : Request) → blocks_begun (facts ++ Begun r ∷ []) ≡ blocks_begun facts + r.count
-blocks_begin facts r =
-    ap (λ (l : List Request). sum_by (λ r. r.count) l) (filter_map-append begun_by facts (Begun r ∷ []))
-    ∙ sum_by-append (λ (r : Request). r.count) (begun facts) (r ∷ []) ∙ ap (λ (n : ℕ). blocks_begun facts + n) (last r)
-  where
-    last : (r : Request) → sum_by (λ (r : Request). r.count) (r ∷ []) ≡ r.count
-    last r = omega arith
-
 -- with these entries the history has three less to spare, and the bytes of so many blocks
 abbrev HasRoomAfter : Log → ℕ → List Fact → Type 0
 HasRoomAfter log count facts = (spare_entries (record log { facts = facts }) + 3 ≡ spare_entries log) × (spare_bytes (record log { facts = facts }) + 512 * count ≡ spare_bytes log)
@@ -116,9 +106,9 @@ module _ (log : Log) (r : Request) (how : Outcome) (got : List Sector) where
 
   bytes_after : 512 * r.count ≤ spare_bytes log → spare_bytes after + 512 * r.count ≡ spare_bytes log
   bytes_after spare =
-      let one = blocks_begin log.facts r in
-      let two = blocks_more (log.facts ++ Begun r ∷ []) (Landed r how true got) refl in
-      let three = blocks_more ((log.facts ++ Begun r ∷ []) ++ Landed r how true got ∷ []) (Taken r) refl in
+      let one = blocks_begun-push log.facts r in
+      let two = blocks_begun_same (log.facts ++ Begun r ∷ []) (Landed r how true got) refl in
+      let three = blocks_begun_same ((log.facts ++ Begun r ∷ []) ++ Landed r how true got ∷ []) (Taken r) refl in
       omega (arith, one, two, three, spare)
 
 module _ (log last : Log) (r : Request) (how : Moved) (entries : 3 ≤ spare_entries log) (bytes : 512 * r.count ≤ spare_bytes log) where

@@ -1,5 +1,5 @@
 -- Blocks that one word fills.
-use Rattle.std.proofs.Common.{◌≡◌, ℕ, zero, suc, lit<, [], ◌∷◌, ◌^◌, ◌<◌, Bool, true, false, if◌then◌else◌, List, length, take, replicate, get_or, refl, sym, ◌∙◌, ap, arith}
+use Rattle.std.proofs.Common.{◌≡◌, ℕ, zero, suc, lit<, [], ◌∷◌, ◌<◌, Bool, true, false, if◌then◌else◌, List, length, take, replicate, get_or, refl, sym, ◌∙◌, ap}
 use Rattle.std.specs.List.{concat}
 use Rattle.std.specs.Int.{w64, from_be_bytes}
 use Rattle.std.proofs.lemmas.Slice.Eq.{bytes_eq-Decides}
@@ -30,10 +30,6 @@ shown_whole block other = go (is_filled block) (bytes_eq-Decides block (concat (
 -- and one that a word fills by its first eight bytes
 pub shown_short : (block : List ℕ) → block ≡ concat (replicate 64 (take 8 block)) → take 8 block ≡ (if is_filled block then take 8 block else block)
 shown_short block is = ap (λ (t : Bool). if t then take 8 block else block) (sym ((bytes_eq-Decides block (concat (replicate 64 (take 8 block)))).1 is))
-
--- eight bytes are a word
-pub word_fits : (bytes : List ℕ) → ((i : ℕ) → get_or bytes i 0 < 256) → from_be_bytes w64 bytes < 2 ^ 64
-word_fits bytes fits = omega (arith, fits 0, fits 1, fits 2, fits 3, fits 4, fits 5, fits 6, fits 7)
 
 pub front_bytes : (n : ℕ) (bytes : List ℕ) (i : ℕ) → ((i : ℕ) → get_or bytes i 0 < 256) → get_or (take n bytes) i 0 < 256
 front_bytes zero bytes i fits = lit< tt

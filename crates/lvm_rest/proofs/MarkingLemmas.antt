@@ -1,5 +1,5 @@
 -- A table that is marked with the copies that are left behind, as the next status of a session.
-use Rattle.std.proofs.Common.{◌≡◌, inl, inr, ⊎_elim, ℕ, Bool, true, false, ◌&&◌, ◌||◌, not, List, [], ◌∷◌, ◌==◌, refl, sym, ap, subst, ◌∙◌}
+use Rattle.std.proofs.Common.{inl, inr, ⊎_elim, ℕ, Bool, true, false, ◌&&◌, ◌||◌, not, List, [], ◌∷◌, ◌==◌, refl, sym, ap, subst, ◌∙◌}
 use Rattle.std.specs.Prelude.{IsTrue}
 use Rattle.std.specs.List.{list_any}
 use Rattle.std.proofs.lemmas.Bool.{not_from_false}
@@ -9,6 +9,7 @@ use Rattle.lvm_num.specs.declared.status.Status.{Status}
 use Rattle.lvm_num.specs.Descriptor.{copies_of}
 use Rattle.lvm_num.specs.Status.{calls_stale}
 use Rattle.lvm_num.proofs.Booleans.{clash_gives}
+use Rattle.lvm_num.proofs.AmongLemmas.{any_one as some_one}
 use Rattle.lvm_kept.specs.Group.{IsOneOf}
 use Rattle.lvm_crash.proofs.GroupLemmas.Lists.{left_of, right_of, both_of, not_so}
 use Rattle.lvm_stale.specs.Marking.{IsLeftIn}
@@ -16,15 +17,6 @@ use Rattle.lvm_commit.specs.Settling.{there as not_missing}
 use Rattle.lvm_commit.proofs.AmongLemmas.{one_place}
 use Rattle.lvm_rest.proofs.Rows.{none_passing}
 use Rattle.lvm_rest.specs.Marking.{MarkedMayFollow, MarkedLeavesNone, NoneIsLeftBehind}
-
--- one of a list passes
-some_one : {X : Type 0} (test : X → Bool) (xs : List X) → IsTrue (list_any test xs) → (x : X) × IsOneOf xs x × IsTrue (test x)
-some_one test [] is = absurd cc
-some_one test (y ∷ ys) is = by (test y) refl (λ rest. some_one test ys rest) is
-  where
-    by : (t : Bool) → test y ≡ t → (IsTrue (list_any test ys) → (x : _) × IsOneOf ys x × IsTrue (test x)) → IsTrue (t || list_any test ys) → (x : _) × IsOneOf (y ∷ ys) x × IsTrue (test x)
-    by true e further is = (y, inl refl, e)
-    by false e further is = let rest = further is in (rest.0, inr rest.1, rest.2)
 
 any_one : {X : Type 0} (test : X → Bool) (xs : List X) (x : X) → IsOneOf xs x → IsTrue (test x) → IsTrue (list_any test xs)
 any_one test [] x one is = absurd one

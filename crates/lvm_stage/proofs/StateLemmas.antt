@@ -12,6 +12,7 @@ use Rattle.lvm_vol.specs.Order.{Ordered}
 use Rattle.lvm_vol.proofs.LogLemmas.{and_left, and_right, found_of}
 use Rattle.lvm_vol.proofs.FactsLemmas.Order.{numbered, stands-at, stands_begun}
 use Rattle.lvm_history.proofs.LogLemmas.Staying.{answered_stays}
+use Rattle.lvm_history.proofs.LogLemmas.Counting.{three_needed}
 use Rattle.lvm_session.specs.Calls.{is_asked}
 use Rattle.lvm_session.specs.declared.open.Open.{Open}
 use Rattle.lvm_session.specs.Sound.{IsAsked}
@@ -191,20 +192,6 @@ module _ (run : ℕ) (facts : List Fact) (on : Option Core) (ordered : Ordered r
           (λ i j d lt less. rise (suc i) (suc j) d (omega (arith, lt)) (omega (arith, less))) (to 0 p (omega arith)) in
           omega (arith, a, b, rest)
 
--- each request needs three entries
-begun_need : (facts : List Fact) → 3 * length (begun facts) ≤ needed facts
-begun_need [] = omega arith
-begun_need (f ∷ facts) = let all = sum_by-cons need f facts in let here = by f in let rest = begun_need facts in omega (arith, all, here, rest)
-  where
-    more : (n : ℕ) → 3 * length (begun facts) ≤ n + 3 * length (begun facts)
-    more n = omega arith
-
-    by : (g : Fact) → 3 * length (begun (g ∷ facts)) ≤ need g + 3 * length (begun facts)
-    by (Begun r) = omega arith
-    by (Landed r how started got) = more 0
-    by (Taken r) = more 0
-    by _ = more 1
-
 -- so the entries that are needed have room for as many posts
 pub posts_need : (run : ℕ) (facts : List Fact) (on : Option Core) (posts : List Post) → Ordered run [] facts → IsToldOf facts on → ArePosted facts on posts → 3 * length posts ≤ needed facts
-posts_need run facts on posts ordered told its = let few = posts_few run facts on ordered told posts its in let need = begun_need facts in omega (arith, few, need)
+posts_need run facts on posts ordered told its = let few = posts_few run facts on ordered told posts its in let need = three_needed facts in omega (arith, few, need)

@@ -38,12 +38,13 @@ use Rattle.lvm_invariant.specs.Faults.{Faults, HasCause, HasFailed}
 use Rattle.lvm_invariant.specs.State.{Badly, Marks, ModelCopy, Queued, ModelState}
 use Rattle.lvm_crash.specs.Session.{as_marks}
 use Rattle.lvm_keeps_events.proofs.EndsLemmas.Counts.{rose_since}
+use Rattle.lvm_keeps_events.proofs.Lists.{found_at}
 use Rattle.lvm_tie_shelf.proofs.CopiesLemmas.{number_finds}
 use Rattle.lvm_tie_shelf.proofs.WritingLemmas.{pp_same, same_pp}
 use Rattle.lvm_tie.specs.Seen.{IsRequestAt, IsStepAt, SeesCopy, SeesRunning, stage_at, stage_seen}
 use Rattle.lvm_tie.specs.Tied.{IsTied}
 use Rattle.lvm_tie.proofs.StateLemmas.{copy_is, missing_seen, stale_seen, wanted_seen}
-use Rattle.lvm_tie.proofs.TiedLemmas.Orderly.{all_at, any_there, valid_of}
+use Rattle.lvm_tie.proofs.TiedLemmas.Orderly.{all_at, valid_of}
 use Rattle.lvm_tie.specs.Causes.{AreFaultsOf, CausesAreSeen, FaultsAreThere}
 use Rattle.lvm_tie.specs.Landings.{FailuresAreCaused, HadNone, HasCausesSince, HasLandedFor, IsEntryCaused}
 
@@ -92,7 +93,7 @@ failed_on (t ∷ ts) c e = by (is_pp c t.pp) refl e (failed_on ts c)
 
 -- a copy of the list that is found has a number, from 1
 numbered : (test : Pp → Bool) (ps : List Pp) → list_any test ps ≡ true → (number : ℕ) × (p : Pp) × (copy_at ps number ≡ Some p) × (test p ≡ true)
-numbered test ps is = let at = any_there test ps is in (at.0 + 1, at.1, place_of_number at.0 ∙ at.2, at.3)
+numbered test ps is = let at = found_at test ps is in (at.0 + 1, at.1, place_of_number at.0 ∙ at.2, at.3)
   where
     place_of_number : (k : ℕ) → copy_at ps (k + 1) ≡ slice_get ps k
     place_of_number k =

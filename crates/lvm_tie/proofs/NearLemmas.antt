@@ -71,7 +71,7 @@ unlanded (step.Reading source) q out hand = absurd (cc out)
 unlanded (step.Read buf) q out hand = ap has_landed hand.0
 unlanded step.Writing q out hand = absurd (cc out)
 
-no_write : (c : OpenCopy) (s : Step) → is_out s ≡ false → step_write_of c s ≡ None
+pub no_write : (c : OpenCopy) (s : Step) → is_out s ≡ false → step_write_of c s ≡ None
 no_write c step.Idle out = refl
 no_write c (step.Reading source) out = absurd (cc out)
 no_write c (step.Read buf) out = refl

@@ -70,7 +70,7 @@ pub record IsOfItsPartition (core : Core) (c : OpenCopy) : Type 0 where
   pub among : IsOneOf (copies_of row c.lp) c.pp
   pub cursor : c.cursor ≤ groups_of core
 
-one_at : {X : Type 0} (xs : List X) (k : ℕ) (x : X) → slice_get xs k ≡ Some x → IsOneOf xs x
+pub one_at : {X : Type 0} (xs : List X) (k : ℕ) (x : X) → slice_get xs k ≡ Some x → IsOneOf xs x
 one_at [] k x there = absurd (cc there)
 one_at (y ∷ xs) zero x there = inl (let same : y ≡ x = cc there in sym same)
 one_at (y ∷ xs) (suc k) x there = inr (one_at xs k x there)

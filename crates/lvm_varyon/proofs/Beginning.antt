@@ -50,14 +50,11 @@ use Rattle.lvm_varyon_plan.specs.Chosen.{MayComeOn}
 use Rattle.lvm_varyon_plan.specs.Planned.{IsPlan}
 use Rattle.lvm_varyon.specs.Parts.{IsSurveyOf}
 use Rattle.lvm_varyon.specs.Writing.{beginning}
-use Rattle.lvm_varyon.proofs.FoundLemmas.Seeing.{answered_by, read_row, shows_records, row_answers}
+use Rattle.lvm_varyon.proofs.FoundLemmas.Seeing.{answered_by, read_row, shows_records, row_answers, enough_is}
 use Rattle.lvm_varyon.proofs.GroupLemmas.{same_voters, same_status, holds_finds}
 use Rattle.lvm_varyon.proofs.DescriptorLemmas.{one_place}
 use Rattle.lvm_varyon_plan.proofs.passed.Names.{descriptor_fits}
 use Rattle.lvm_varyon.proofs.RecordLemmas.{status_fits}
-
-enough_is : (n : ℕ) → data_start ≤ n → nat_le data_start n ≡ true
-enough_is n le = grind (arith, nat_tests)
 
 -- a voter shows the group's descriptor, and has the room that it needs
 pub voter_shows : (c : Contents) (disks : Disks) (id d : ℕ) → IsTrue (is_voter c disks id d) → IsTrue (passes (is_of id) (c.descriptor d))

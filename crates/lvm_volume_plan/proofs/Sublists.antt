@@ -13,9 +13,6 @@ use Rattle.lvm_core.specs.passed.Names.{IsOneOf}
 pub pairs_one : {X : Type 0} (R : X → X → Type 0) (y : X) → AllPairs R (y ∷ [])
 pairs_one R y i j d less lt = absurd (omega (arith, less, lt))
 
-pub pairs_first : {X : Type 0} (R : X → X → Type 0) (y : X) (xs : List X) → AllPairs R (y ∷ xs) → All (R y) xs
-pairs_first R y xs pairs k d lt = AllPairs-across R (y ∷ []) xs pairs 0 k d (omega arith) lt
-
 pub pairs_rest : {X : Type 0} (R : X → X → Type 0) (y : X) (xs : List X) → AllPairs R (y ∷ xs) → AllPairs R xs
 pairs_rest R y xs pairs = AllPairs-right R (y ∷ []) xs pairs
 

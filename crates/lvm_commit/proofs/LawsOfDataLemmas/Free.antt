@@ -1,5 +1,5 @@
 -- A partition that no volume has: data of copies stands elsewhere.
-use Rattle.std.proofs.Common.{◌≡◌, inl, inr, ℕ, zero, suc, ◌+◌, ◌*◌, ◌%◌, ◌<◌, ◌≤◌, List, [], ◌∷◌, sym, subst, take, drop, arith}
+use Rattle.std.proofs.Common.{◌≡◌, inl, inr, ℕ, zero, suc, ◌+◌, ◌*◌, ◌%◌, ◌<◌, ◌≤◌, List, [], ◌∷◌, subst, take, drop, arith}
 use Rattle.std.specs.Prelude.{Contains}
 use Rattle.std.proofs.lemmas.Bool.{cases_lt}
 use Rattle.std.proofs.lemmas.List.Elements.{Contains-append_left, Contains-append_right}
@@ -11,13 +11,9 @@ use Rattle.lvm_num.specs.Descriptor.{copies_of, partitions_in, partitions_used}
 use Rattle.lvm_num.specs.Geometry.{partition_blocks, sector_of}
 use Rattle.lvm_kept.specs.Group.{IsOneOf}
 use Rattle.lvm_commit.specs.LawsOfData.{IsFree, IsSectorOf}
+use Rattle.lvm_commit.proofs.AmongLemmas.{contains}
 
 -- ---- lists
-
-one_contains : {X : Type 0} (xs : List X) (x : X) → IsOneOf xs x → Contains xs x
-one_contains [] x one = absurd one
-one_contains (y ∷ ys) x (inl here) = (0, omega arith, sym here)
-one_contains (y ∷ ys) x (inr there) = Contains-append_right (y ∷ []) ys x (one_contains ys x there)
 
 one_of_front : {X : Type 0} (n : ℕ) (xs : List X) (x : X) → IsOneOf (take n xs) x → IsOneOf xs x
 one_of_front zero xs x one = absurd one
@@ -32,7 +28,7 @@ one_of_back (suc n) (y ∷ ys) x one = inr (one_of_back n ys x one)
 
 of_volume : (rows : List LvRow) (row : LvRow) (p : Pp) → IsOneOf rows row → IsOneOf row.map p → Contains (partitions_in rows) p
 of_volume [] row p volume one = absurd volume
-of_volume (r ∷ rows) row p (inl here) one = Contains-append_left r.map (partitions_in rows) p (one_contains r.map p (subst (λ (x : LvRow). IsOneOf x.map p) here one))
+of_volume (r ∷ rows) row p (inl here) one = Contains-append_left r.map (partitions_in rows) p (contains r.map p (subst (λ (x : LvRow). IsOneOf x.map p) here one))
 of_volume (r ∷ rows) row p (inr there) one = Contains-append_right r.map (partitions_in rows) p (of_volume rows row p there one)
 
 -- ---- sectors

@@ -5,6 +5,7 @@ use Rattle.std.proofs.lemmas.Bool.{eqb-true, cases_lt}
 use Rattle.std.proofs.lemmas.List.{length-map, length-take-le, length-drop, get_or-take, get_or-drop, get_or_default}
 use Rattle.std.proofs.lemmas.List.Elements.{All-append, All-map}
 use Rattle.std.proofs.Math.Nat.{mul-le-mul_right}
+use Rattle.lvm_stale.proofs.MarkingLemmas.{one_at}
 use Rattle.lvm_num.specs.declared.place.Pp.{Pp}
 use Rattle.lvm_num.specs.declared.descriptor.LvRow.{LvRow}
 use Rattle.lvm_num.specs.declared.descriptor.Descriptor.{Descriptor}
@@ -16,11 +17,6 @@ use Rattle.lvm_copy_plan.specs.Copies.{with_map, with_copies, first_copies}
 use Rattle.lvm_copy_plan.proofs.Parts.{IsPart, all_of, pairs_of, length_of, part_there}
 use Rattle.lvm_copy_plan.proofs.CopiesLemmas.Rows.{other, only, same_number, same_name, keeps_pairs}
 use Rattle.lvm_copy_plan.proofs.CopiesLemmas.More.{none_past}
-
-one_at : {X : Type 0} (xs : List X) (k : ℕ) (e : X) → k < length xs → IsOneOf xs (get_or xs k e)
-one_at [] k e lt = absurd (omega (arith, lt))
-one_at (x ∷ xs) zero e lt = inl refl
-one_at (x ∷ xs) (suc k) e lt = inr (one_at xs k e (omega (arith, lt)))
 
 one_take : {X : Type 0} (n : ℕ) (xs : List X) (x : X) → IsOneOf (take n xs) x → IsOneOf xs x
 one_take zero xs x one = absurd one

@@ -34,7 +34,7 @@ use Rattle.lvm_invariant.specs.First.{two_disks, marks_with, on_both, at_rest}
 use Rattle.lvm_invariant.specs.Worked.{first_group}
 use Rattle.lvm_crash.specs.Session.{marks_shown, members_showing, HasVolumes, HasStatuses, Shows, Describes}
 use Rattle.lvm_crash.specs.Worked.{Shown, sizes, status_shown, note_shown, framed_group, framed_status, media_of}
-use Rattle.lvm_crash.proofs.WorkedLemmas.Worked.{base, stands, volumes, its_marks}
+use Rattle.lvm_crash.proofs.WorkedLemmas.Worked.{base, stands, volumes, its_marks, first_partition}
 use Rattle.lvm_crash.proofs.LastingLemmas.Lasting.{group_stands}
 use Rattle.lvm_num.specs.Disks.{Disks}
 use Rattle.lvm_num.specs.declared.descriptor.Descriptor.{Descriptor}
@@ -62,9 +62,6 @@ status_read w stale dirty e f = subst (λ (v : Shown). status_of (status_bytes (
     back = λ t. record w { stale = sym e t; dirty = sym f t }
 
 -- ---- slots
-
-pub one : (k : ℕ) → k < 1 → k ≡ 0
-one k low = omega arith
 
 pub no-magic : (kind : Kind) → take 2 zero_sector ≡ kind_magic kind → ⊥
 no-magic kind.Descriptor e = absurd (omega (arith, ap (λ (l : List ℕ). get_or l 0 0) e))
@@ -137,9 +134,9 @@ module _ (w : Shown) where
   group_first d = whole_is_read kind.Descriptor (framed_group w.mode) (slot_start kind.Descriptor 0) (media_of w d) (group_frames w.mode) (λ k low. whole k (one_sector w.mode k low))
     where
       one_sector : (mode : Mode) (k : ℕ) → k < record_sectors (length (framed_group mode).content) → k ≡ 0
-      one_sector Active k low = one k low
-      one_sector Passive k low = one k low
-      one_sector Off k low = one k low
+      one_sector Active k low = first_partition k low
+      one_sector Passive k low = first_partition k low
+      one_sector Off k low = first_partition k low
 
       whole : (k : ℕ) → k ≡ 0 → media_of w d (512 + k) ≡ frame kind.Descriptor (framed_group w.mode).stamp (framed_group w.mode).content k
       whole k is = subst (λ (n : ℕ). media_of w d (512 + n) ≡ frame kind.Descriptor (framed_group w.mode).stamp (framed_group w.mode).content n) (sym is) refl
@@ -148,10 +145,10 @@ module _ (w : Shown) where
   status_first d = whole_is_read kind.Status (framed_status w) (slot_start kind.Status 0) (media_of w d) (status_frames w.stale w.dirty) (λ k low. whole k (one_sector w.stale w.dirty k low))
     where
       one_sector : (stale dirty : Bool) (k : ℕ) → k < record_sectors (length (framed_status (record w { stale = stale; dirty = dirty })).content) → k ≡ 0
-      one_sector true true k low = one k low
-      one_sector true false k low = one k low
-      one_sector false true k low = one k low
-      one_sector false false k low = one k low
+      one_sector true true k low = first_partition k low
+      one_sector true false k low = first_partition k low
+      one_sector false true k low = first_partition k low
+      one_sector false false k low = first_partition k low
 
       whole : (k : ℕ) → k ≡ 0 → media_of w d (64 + k) ≡ frame kind.Status (framed_status w).stamp (framed_status w).content k
       whole k is = subst (λ (n : ℕ). media_of w d (64 + n) ≡ frame kind.Status (framed_status w).stamp (framed_status w).content n) (sym is) refl

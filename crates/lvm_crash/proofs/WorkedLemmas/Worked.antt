@@ -50,7 +50,7 @@ within b is = grind (arith, nat_tests)
 without : (b : ℕ) → IsTrue (nat_lt b 2048) → b / 2048 ≡ 0
 without b is = let low : b < 2048 = grind (arith, nat_tests) in omega arith
 
-first_partition : (lp : ℕ) → lp < 1 → lp ≡ 0
+pub first_partition : (lp : ℕ) → lp < 1 → lp ≡ 0
 first_partition lp low = omega arith
 
 -- the two copies

@@ -8,7 +8,7 @@ use Rattle.lvm_num.specs.Votes.{total_votes}
 use Rattle.lvm_disk.specs.Device.{Device, IsReady}
 use Rattle.lvm_disk.specs.Images.{LeavesNoMore}
 use Rattle.lvm_disk.specs.Paths.{DeviceStep, Path, Here, Then, Arranged}
-use Rattle.lvm_disk.specs.Steps.{Cuts, GoesDark, with_order, Arranges, ArrangeGives}
+use Rattle.lvm_disk.specs.Steps.{Cuts, with_order, Arranges, ArrangeGives}
 use Rattle.lvm_disk.specs.declared.shelf.Arrange.TheVariants as arrange
 use Rattle.lvm_disk.proofs.PathsLemmas.{last-path, leaves_on}
 use Rattle.lvm_disk.proofs.StepsLemmas.{arrange_leaves}
@@ -19,6 +19,7 @@ use Rattle.lvm_steps.specs.Moments.{Keeps}
 use Rattle.lvm_steps.specs.Requests.{at}
 use Rattle.lvm_steps.proofs.MomentsLemmas.Spans.{keeps_steps}
 use Rattle.lvm_transfer.specs.Transfer.{Relights}
+use Rattle.lvm_transfer.proofs.TransferLemmas.Ending.{was_cut}
 use Rattle.lvm_session.specs.declared.open.Open.{Open}
 use Rattle.lvm_session.specs.Dark.{after_arrange, all_dark}
 use Rattle.lvm_session.specs.Sound.{IsSound, waits}
@@ -53,16 +54,12 @@ use Rattle.lvm_disk_lines.proofs.DisksLemmas.{off}
 
 -- ---- a cut of the power
 
-gone_dark : (old dark : Device) → old.power ≡ true → GoesDark old dark → Cuts old dark
-gone_dark old dark on (inl off) = absurd (let e = off.0 in cc (e, on))
-gone_dark old dark on (inr cuts) = cuts
-
 module _ (log : Log) (word : ℕ) (old new : ScriptState) (between : IsBetween old.moment old.session old.posts) (cut : IsCut log word old new) where
   abbrev first_device : Device
   first_device = old.moment.device
 
   cuts : Cuts (with_order first_device (arrange.Cut word)) cut.dark
-  cuts = gone_dark (with_order first_device (arrange.Cut word)) cut.dark between.lit.power cut.cut.1
+  cuts = was_cut (with_order first_device (arrange.Cut word)) cut.dark between.lit.power cut.cut.1
 
   still : cut.dark.flights ≡ []
   still = ap (λ (d : Device). d.flights) cuts.new_is
@@ -213,7 +210,7 @@ closed_still dark closed (inr back) none = ap (λ (d : Device). d.flights) back 
 
 -- nothing is out of a shelf whose power was cut, and that was closed
 pub closed_flights : (old dark closed : Device) (word : ℕ) → old.power ≡ true → Arranges old dark (arrange.Cut word) → GivesBack dark closed → closed.flights ≡ []
-closed_flights old dark closed word on cut gives = closed_still dark closed gives (ap (λ (d : Device). d.flights) (gone_dark (with_order old (arrange.Cut word)) dark on cut.1).new_is)
+closed_flights old dark closed word on cut gives = closed_still dark closed gives (ap (λ (d : Device). d.flights) (was_cut (with_order old (arrange.Cut word)) dark on cut.1).new_is)
 
 module _ {S : Type 0} (device : S → Device) (old : Stage S) (by : Holder S) (word : ℕ) (fits : IsFittingStage old) (between : IsBetweenStage device old)
     (shelf : ArrangeGives (device (shelf_in old)) (device (shelf_of by)) (arrange.Cut word) true)

@@ -1,5 +1,5 @@
 -- Each event keeps what is true of a session, and so does a list of them.
-use Rattle.std.proofs.Common.{◌≡◌, ◌⊎◌, inl, inr, ⊎_elim, ℕ, Bool, true, false, [], ◌∷◌, ◌++◌, Some, refl, sym, ap, subst, ◌∙◌, eqb-true, arith, ◌<◌, None}
+use Rattle.std.proofs.Common.{◌≡◌, ◌⊎◌, inl, inr, ⊎_elim, ℕ, Bool, true, false, [], ◌∷◌, ◌++◌, Some, refl, sym, ap, subst, ◌∙◌, eqb-true, arith, ◌<◌}
 use Rattle.std.specs.Prelude.{IsTrue, IsFalse, ◌==◌, if◌then◌else◌}
 use Rattle.std.proofs.lemmas.Bool.{cases_Bool}
 use Rattle.lvm_num.proofs.Booleans.{clash_gives}
@@ -7,7 +7,7 @@ use Rattle.lvm_vol.specs.declared.entry.Outcome.TheVariants as outcome
 use Rattle.lvm_vol.specs.Facts.{Landed as HasLanded, Begun, Taken}
 use Rattle.lvm_invariant.proofs.StateLemmas.Entered.{write_asks, past_unlanded, done_effect, lost_effect, got_effect, got_may, quiet_effect, silent_effect, pin_alike, read_alike, begun_effect, entered_effect}
 use Rattle.lvm_invariant.proofs.ToldLemmas.{told_change, told_landed, told_taken, told_earlier, told_left, told_begun, told_entered}
-use Rattle.lvm_invariant.proofs.EventsLemmas.Others.{plain_keeps, admit_keeps as admit_core}
+use Rattle.lvm_invariant.proofs.EventsLemmas.Others.{plain_keeps, admit_keeps as admit_core, early_not_landed}
 use Rattle.lvm_invariant.proofs.UpdatesLemmas.Getting.{got_keeps as got_core, submit_keeps as submit_core}
 use Rattle.lvm_invariant.proofs.StateLemmas.Writes.{first_keeps as first_core, restaging_keeps as restaging_core, done_keeps as done_core, lost_keeps as lost_core, land_alike}
 use Rattle.lvm_invariant.proofs.EventsLemmas.Marking.{wants_keep as wants_core, begin_keeps as begin_core, commit_keeps as commit_core, update_end_keeps as update_end_core}
@@ -38,7 +38,7 @@ use Rattle.lvm_invariant.specs.Open.{OpenKeeps}
 use Rattle.lvm_invariant.specs.LandGot.{LandGotKeeps}
 use Rattle.lvm_invariant.specs.LandLost.{LandLostKeeps}
 use Rattle.lvm_invariant.specs.Submit.{SubmitKeeps}
-use Rattle.lvm_invariant.specs.State.{ModelPhase, Held, WantEntry, Ready, Going, Queued, ModelState, covers, is_past, has_landed, is_pinning}
+use Rattle.lvm_invariant.specs.State.{ModelPhase, Held, WantEntry, Ready, Going, Queued, ModelState, covers, has_landed, is_pinning}
 use Rattle.lvm_invariant.specs.Pin.{PinKeeps}
 use Rattle.lvm_invariant.specs.Good.{Good}
 use Rattle.lvm_invariant.specs.MoveStatus.{MoveStatusKeeps}
@@ -81,18 +81,12 @@ enter_step_keeps votes s i q r step good = record {
   told = told_entered s.queue s.name s.facts good.told i q r (newest_place s i step.newest) step.step step.reads;
 }
 
-early_unlanded : (r : Queued) → (r.phase ≡ Held) ⊎ (r.phase ≡ WantEntry) ⊎ (r.phase ≡ Ready) ⊎ (IsFalse r.write × IsTrue (is_past r.phase) × (r.got ≡ None)) → IsFalse (has_landed r.phase)
-early_unlanded r (inl e) = ap has_landed e
-early_unlanded r (inr (inl e)) = ap has_landed e
-early_unlanded r (inr (inr (inl e))) = ap has_landed e
-early_unlanded r (inr (inr (inr e))) = past_unlanded r.phase e.1
-
 pub admit_keeps : AdmitKeeps
 admit_keeps votes s i r phase several targets step good = record {
   sound = admit_core s i r phase several targets step good.sound;
   found = found_same _ _ refl good.found;
   told = told_change s.queue s.name s.facts good.told i r step.there (admitted r phase several targets) (record { lv = refl; over = λ lv b. refl; write = refl; value = λ b. refl; step = refl })
-      (λ asked. ⊎_elim (λ (e : phase ≡ WantEntry). ap has_landed e) (λ (e : (phase ≡ Ready) × (IsTrue r.write → IsTrue (s.is_active r.lv) → IsTrue several → ⊥)). ap has_landed e.0) step.phase_now ∙ sym (early_unlanded r step.early));
+      (λ asked. ⊎_elim (λ (e : phase ≡ WantEntry). ap has_landed e) (λ (e : (phase ≡ Ready) × (IsTrue r.write → IsTrue (s.is_active r.lv) → IsTrue several → ⊥)). ap has_landed e.0) step.phase_now ∙ sym (early_not_landed r step.early));
 }
 
 not_phase : {X : Type 0} (p q : ModelPhase) → p ≡ q → IsFalse (has_landed q) → IsTrue (has_landed p) → X

@@ -15,15 +15,13 @@ use Rattle.lvm_invariant.proofs.StateLemmas.Quieting.{nearly, quiet_nearly, quie
 use Rattle.lvm_invariant.specs.LandDone.{done}
 use Rattle.lvm_invariant.specs.Commit.{Commits}
 use Rattle.lvm_invariant.specs.Want.{Replaced, Wants, after_wants}
+use Rattle.lvm_invariant.proofs.FoundLemmas.{same_one}
 
 no_copy : {X : Type 0} (o : Option ModelCopy) (k : ModelCopy) → o ≡ None → o ≡ Some k → X
 no_copy o k a b = absurd cc
 
 no_update : {X : Type 0} (o : Option (Stamped Marks)) (u : Stamped Marks) → o ≡ None → o ≡ Some u → X
 no_update o u a b = absurd cc
-
-same_update : (u w : Stamped Marks) → Some u ≡ Some w → u ≡ w
-same_update u w e = cc
 
 -- a fresh copy whose staleness isn't wanted is fresh by all three
 all_three : (s : ModelState) → Statuses s → (e : Pp) → IsFalse (s.committed.value.stale e) → IsFalse (s.wanted.stale e) → StaysFresh s e
@@ -120,10 +118,10 @@ module _ (s : ModelState) (u : Stamped Marks) (none : s.in_flight ≡ None) (is 
   begun = record s { in_flight = Some u }
 
   is_wanted : (w : Stamped Marks) → Some u ≡ Some w → (c : Pp) → w.value.stale c ≡ s.wanted.stale c
-  is_wanted w e c = ap (λ (x : Stamped Marks). x.value.stale c) (sym (same_update u w e)) ∙ ap (λ (m : Marks). m.stale c) is
+  is_wanted w e c = ap (λ (x : Stamped Marks). x.value.stale c) (sym (same_one u w e)) ∙ ap (λ (m : Marks). m.stale c) is
 
   is_dirty : (w : Stamped Marks) → Some u ≡ Some w → (lv : ℕ) → w.value.dirty lv ≡ s.wanted.dirty lv
-  is_dirty w e lv = ap (λ (x : Stamped Marks). x.value.dirty lv) (sym (same_update u w e)) ∙ ap (λ (m : Marks). m.dirty lv) is
+  is_dirty w e lv = ap (λ (x : Stamped Marks). x.value.dirty lv) (sym (same_one u w e)) ∙ ap (λ (m : Marks). m.dirty lv) is
 
   begun_statuses : Statuses begun
   begun_statuses = record {
@@ -165,7 +163,7 @@ module _ (s : ModelState) (u : Stamped Marks) (open_copy : Option ModelCopy) (st
   committed = record s { committed = u; open_copy = open_copy }
 
   is_u : (w : Stamped Marks) → s.in_flight ≡ Some w → w ≡ u
-  is_u w flies = same_update w u (sym flies ∙ step.flies)
+  is_u w flies = same_one w u (sym flies ∙ step.flies)
 
   complete_after : (c : Pp) → IsTrue (u.value.stale c) → Complete s c → Complete committed c
   complete_after c stale k = record {

@@ -1,11 +1,11 @@
 -- Requests that aren't writes under way.
-use Rattle.std.proofs.Common.{◌≡◌, ◌⊎◌, inl, inr, ⊎_elim, ℕ, ◌<◌, Bool, true, false, ◌&&◌, not, List, Option, Some, None, refl, sym, ap, subst, ◌∙◌, eqb-true, eq-or-lt_of_le, ◌≤◌, arith}
+use Rattle.std.proofs.Common.{◌≡◌, ◌⊎◌, inl, inr, ⊎_elim, ℕ, ◌<◌, Bool, true, false, List, Option, Some, None, refl, sym, ap, subst, ◌∙◌, eqb-true, eq-or-lt_of_le, ◌≤◌, arith}
 use Rattle.std.specs.Prelude.{IsTrue, IsFalse, ◌==◌}
 use Rattle.std.proofs.lemmas.Bool.{cases_lt, cases_Bool, and_left}
 use Rattle.lvm_num.specs.declared.place.Pp.{Pp}
 use Rattle.lvm_num.specs.Geometry.{track_group_of}
 use Rattle.lvm_num.proofs.Booleans.{clash_gives, both_fail}
-use Rattle.lvm_invariant.specs.State.{write_of, Groups, Stage, ModelPhase, Held, WantEntry, Ready, Going, Queued, ModelState, covers, request_of, is_held, is_past, has_landed, is_pinning, stale_in, Live, Started, told}
+use Rattle.lvm_invariant.specs.State.{write_of, Groups, Stage, ModelPhase, Held, WantEntry, Ready, Going, Queued, ModelState, covers, request_of, is_past, has_landed, is_pinning, stale_in, Live, Started, told}
 use Rattle.lvm_invariant.proofs.Small.{IsIn}
 use Rattle.lvm_invariant.specs.Sound.{Conflict, MayDiffer, Agree, Quiescent, Tied, Holds, Sound, the_write}
 use Rattle.lvm_invariant.proofs.SoundLemmas.Sound.{live_same, same_statuses, same_behind}
@@ -19,6 +19,7 @@ use Rattle.lvm_vol.specs.Facts.{Fact}
 use Rattle.lvm_invariant.specs.Admit.{admitted, Admits}
 use Rattle.lvm_invariant.specs.Updates.{put, with_req}
 use Rattle.lvm_invariant.proofs.SoundLemmas.Framing.{framed}
+use Rattle.lvm_invariant.proofs.StateLemmas.Entered.{past_unlanded}
 
 -- ---- a request that isn't a write under way changes, and no block does
 
@@ -93,15 +94,7 @@ plain_keeps s i r n facts cache step alike sound =
 
 -- ---- a request is admitted
 
-past_unlanded : (p : ModelPhase) → IsTrue (is_past p) → IsFalse (has_landed p)
-past_unlanded p h = by (is_held p) (has_landed p) h
-  where
-    by : (a b : Bool) → IsTrue (not a && not b) → IsFalse b
-    by a false e = refl
-    by true true e = absurd cc
-    by false true e = absurd cc
-
-early_not_landed : (r : Queued) → (r.phase ≡ Held) ⊎ (r.phase ≡ WantEntry) ⊎ (r.phase ≡ Ready) ⊎ (IsFalse r.write × IsTrue (is_past r.phase) × (r.got ≡ None)) → IsFalse (has_landed r.phase)
+pub early_not_landed : (r : Queued) → (r.phase ≡ Held) ⊎ (r.phase ≡ WantEntry) ⊎ (r.phase ≡ Ready) ⊎ (IsFalse r.write × IsTrue (is_past r.phase) × (r.got ≡ None)) → IsFalse (has_landed r.phase)
 early_not_landed r (inl e) = ap has_landed e
 early_not_landed r (inr (inl e)) = ap has_landed e
 early_not_landed r (inr (inr (inl e))) = ap has_landed e

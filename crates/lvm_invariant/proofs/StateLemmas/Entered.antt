@@ -28,7 +28,7 @@ use Rattle.lvm_invariant.proofs.MayLemmas.{apart_back, is_open_if, is_calm, afte
 use Rattle.lvm_invariant.proofs.StateLemmas.Effects.{ClosesOnly, DoneEffect, LostEffect, ChangeEffect, GotEffect, JoinEffect}
 use Rattle.lvm_invariant.proofs.UpdatesLemmas.Requests.{staged_was, staged_is}
 use Rattle.lvm_invariant.proofs.StateLemmas.Claims.{Alike}
-use Rattle.lvm_invariant.proofs.CrashLemmas.{the_write_is}
+use Rattle.lvm_invariant.proofs.CrashLemmas.{the_write_is, going_not_landed}
 use Rattle.lvm_invariant.proofs.UpdatesLemmas.Getting.{got_is_allowed}
 use Rattle.lvm_invariant.proofs.StateLemmas.Quieting.{alike_by}
 
@@ -78,9 +78,6 @@ module _ (s : ModelState) (sound : Sound s) (t : Told s.queue s.name s.facts) (i
 
 -- ---- Done and Lost
 
-going_unlanded : (r : Queued) → r.phase ≡ Going → IsFalse (has_landed r.phase)
-going_unlanded r e = ap has_landed e
-
 pub done_effect : (s : ModelState) (i : ℕ) (r : Queued) → Sound s → Told s.queue s.name s.facts → LandsDone s i r → DoneEffect s i r (s.facts ++ HasLanded (s.name i) outcome.Done true [] ∷ [])
 done_effect s i r sound t step =
     let start = step.started in
@@ -89,7 +86,7 @@ done_effect s i r sound t step =
       started = start;
       ended = λ c stage at. ⊎_elim (λ (well : stage ≡ Well). inl well) (λ (bad : (stage ≡ Badly) × IsDropped s r c). inr bad.1) (step.ended c stage at);
       closes = closes_only s sound t i r start.there asked outcome.Done true [] refl;
-      may = λ lv b over. ap (λ (k : Known). k.values) (was_ended s sound t i r start.there asked outcome.Done true [] start.write (going_unlanded r start.going) lv b over)
+      may = λ lv b over. ap (λ (k : Known). k.values) (was_ended s sound t i r start.there asked outcome.Done true [] start.write (going_not_landed r start.going) lv b over)
           ∙ ap (λ (v : List ℕ). Some (v ∷ [])) (brings s sound t i r start.there asked outcome.Done true [] start.write lv b over);
     }
 
@@ -103,7 +100,7 @@ lost_effect s i r sound t step =
       kept = step.kept;
       ended = step.dropped;
       closes = closes_only s sound t i r start.there asked outcome.Lost true [] refl;
-      may = λ lv b over value h. subst (λ (k : Known). IsIn k.values value) (sym (was_ended s sound t i r start.there asked outcome.Lost true [] start.write (going_unlanded r start.going) lv b over))
+      may = λ lv b over value h. subst (λ (k : Known). IsIn k.values value) (sym (was_ended s sound t i r start.there asked outcome.Lost true [] start.write (going_not_landed r start.going) lv b over))
           (⊎_elim
           (λ (old : IsIn (told s lv b).values value). in_more (told s lv b).values (block_of q.blocks q.at b ∷ []) value old)
           (λ (new : ((values : List (List ℕ)) × ((told s lv b).values ≡ Some values)) × (value ≡ r.value b)).

@@ -27,11 +27,13 @@ use Rattle.lvm_session.specs.Sound.{count_if, IsCopy, IsGoing, IsReadFrom}
 use Rattle.lvm_keeps.proofs.FallsLemmas.CopyRead.{few_copies}
 use Rattle.lvm_keeps.proofs.Lists.{count_cons}
 use Rattle.lvm_keeps.proofs.FallsLemmas.Pin.{sum_same}
-use Rattle.lvm_keeps_events.proofs.EndsLemmas.CopyReadFail.{at_number, is_here}
+use Rattle.lvm_keeps_events.proofs.EndsLemmas.CopyReadFail.{is_here}
 use Rattle.lvm_keeps_events.proofs.Lists.{and_false, count_on, or_true}
 use Rattle.lvm_keeps_events.proofs.LeftLemmas.EndedLess.{now, request_less}
-use Rattle.lvm_keeps_events.proofs.FallsDataFallsLemmas.Falling.{after, before, each_less, falls, one_less, rest_left, step_same, sum_most}
+use Rattle.lvm_keeps_events.proofs.FallsDataFallsLemmas.Falling.{after, before, each_less, falls, rest_left, step_same, sum_most}
 use Rattle.lvm_keeps_events.specs.FallsDataFalls.{CopyQuitFalls, CopyReadEndFalls, CopyReadFailFalls, CopyWriteFailFalls}
+use Rattle.lvm_keeps_events.proofs.OnePlace.{among_at}
+use Rattle.lvm_keeps_events.proofs.Finding.{length_taken}
 
 -- ---- counts of what was tried
 
@@ -98,7 +100,7 @@ copy_read_end_falls at old new sound on event = subst (λ (k : Core). left_of k 
   lit = on;
   still_lit = on;
   lost = refl;
-  fewer = one_less old.core.flying at event.row event.returns.there;
+  fewer = length_taken old.core.flying at event.row event.returns.there;
   waiting = refl;
   members = refl;
   rest = step_rest old.core c (step.Read event.buf) c.tried old.core.queue old.core.pool (remove old.core.flying at) event.is_open less;
@@ -124,7 +126,7 @@ copy_read_end_falls at old new sound on event = subst (λ (k : Core). left_of k 
         let was = left_is old.core c event.runs short in
         let is_now = left_is old.core (record c { step = step.Read event.buf }) event.runs short in
         let step_was : step_left c.step (tried_of old.core c) ≡ 6 - 2 * tried_of old.core c = ap (λ (x : Step). step_left x (tried_of old.core c)) event.reads in
-        let found = at_number (copies_in old.core.descriptor c.lv c.lp) event.source reading.0 in
+        let found = among_at (copies_in old.core.descriptor c.lv c.lp) event.source reading.0 in
         let low = count_less (λ (p : Pp). has c.tried p.disk) (copies_in old.core.descriptor c.lv c.lp) found.0 event.source found.1 reading.2 in
         let few = few_copies old.core c (sound.on on).going.fitting.valid its in
         omega (arith, was, is_now, step_was, low, few)
@@ -136,7 +138,7 @@ copy_quit_falls at ok old new sound on event = subst (λ (k : Core). left_of k <
   lit = on;
   still_lit = on;
   lost = refl;
-  fewer = one_less old.core.flying at event.row event.returns.there;
+  fewer = length_taken old.core.flying at event.row event.returns.there;
   waiting = refl;
   members = refl;
   rest = step_rest old.core c step.Idle c.tried made.queue made.pool (remove old.core.flying at) event.is_open (let none = over in omega (arith, none));
@@ -158,7 +160,7 @@ copy_write_fail_falls at old new sound on event = subst (λ (k : Core). left_of 
   lit = on;
   still_lit = on;
   lost = refl;
-  fewer = one_less old.core.flying at event.row event.returns.there;
+  fewer = length_taken old.core.flying at event.row event.returns.there;
   waiting = refl;
   members = refl;
   rest = end_rest old.core c event.is_open event.runs here made.queue made.pool (remove old.core.flying at) step.Idle c.tried ending.SyncFailed;
@@ -244,7 +246,7 @@ copy_read_fail_falls at old new sound on event = by_end (copy_ends mid) refl new
 
     one_more : tried_of old.core c + 1 ≤ count_by (λ (p : Pp). has tried p.disk) copies
     one_more =
-        let found = at_number copies event.source reading.0 in
+        let found = among_at copies event.source reading.0 in
         count_more (λ (p : Pp). has c.tried p.disk) (λ (p : Pp). has tried p.disk) (λ p e. event.misses.tries p.disk ∙ ap (λ b. b || p.disk == event.source.disk) e) copies found.0 event.source found.1 reading.2
         (event.misses.tries event.source.disk ∙ ap (λ b. has c.tried event.source.disk || b) (eq-eqb event.source.disk event.source.disk refl) ∙ or_true (has c.tried event.source.disk))
 
@@ -261,7 +263,7 @@ copy_read_fail_falls at old new sound on event = by_end (copy_ends mid) refl new
       lit = on;
       still_lit = on;
       lost = refl;
-      fewer = one_less old.core.flying at event.row event.returns.there;
+      fewer = length_taken old.core.flying at event.row event.returns.there;
       waiting = refl;
       members = refl;
       rest = step_rest old.core c step.Idle tried old.core.queue mid.pool (remove old.core.flying at) event.is_open less;
@@ -270,7 +272,7 @@ copy_read_fail_falls at old new sound on event = by_end (copy_ends mid) refl new
       lit = on;
       still_lit = on;
       lost = refl;
-      fewer = one_less old.core.flying at event.row event.returns.there;
+      fewer = length_taken old.core.flying at event.row event.returns.there;
       waiting = refl;
       members = refl;
       rest = end_rest old.core c event.is_open event.runs here (record old.core.queue { rows = without c.place old.core.queue.rows }) mid.pool (remove old.core.flying at) step.Idle tried how;

@@ -42,9 +42,10 @@ use Rattle.lvm_keeps_events.proofs.Lists.{or_false}
 use Rattle.lvm_keeps_events.proofs.JudgingLemmas.Staling.{IsStaled, IsStaler, members_same, staled, staler, there_same}
 use Rattle.lvm_keeps_events.specs.EndsData.{EndsData}
 use Rattle.lvm_keeps_events.proofs.LeftLemmas.EndedLess.{copy_high, request_less}
-use Rattle.lvm_keeps_events.proofs.FallsDataFallsLemmas.Falling.{each_less, falls, IsLess, one_less, sum_set_most, votes_same}
+use Rattle.lvm_keeps_events.proofs.FallsDataFallsLemmas.Falling.{each_less, falls, IsLess, sum_set_most, votes_same}
 use Rattle.lvm_keeps_events.proofs.LeftLemmas.StaledLess.{staled_same, status_more}
 use Rattle.lvm_keeps_events.specs.FallsDataFalls.{DataEndFalls}
+use Rattle.lvm_keeps_events.proofs.Finding.{length_taken}
 
 module _ (at id target : ℕ) (ok : Bool) (old new : State) (sound : IsSound old) (on : old.core.power ≡ power.On) (event : EndsData old new at id target ok) where
   abbrev core : Core
@@ -162,7 +163,7 @@ module _ (at id target : ℕ) (ok : Bool) (old new : State) (sound : IsSound old
       lit = on;
       still_lit = on;
       lost = votes_same core after refl (λ d. there_same (parted core queue copy pool) due wanted writes like d);
-      fewer = one_less core.flying at event.row event.returns.there;
+      fewer = length_taken core.flying at event.row event.returns.there;
       waiting = count_same is_waiting core.requests its_place its learned_so its_there refl;
       members = members_same (parted core queue copy pool) due wanted writes like;
       rest =

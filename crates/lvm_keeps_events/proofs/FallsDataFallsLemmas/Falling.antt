@@ -1,7 +1,7 @@
 -- A transfer less is out, and nothing else is left to do but what was.
 use Rattle.std.proofs.Common.{◌*◌, ◌+◌, ◌<◌, [], ap, arith, Bool, false, if◌then◌else◌, length, List, not, refl, slice_get, slice_set, Some, subst, suc, sym, true, zero, ℕ, ◌∙◌, ◌∷◌, ◌≡◌, ◌≤◌}
 use Rattle.std.proofs.lemmas.List.Sums.{sum_by-cons}
-use Rattle.std.specs.List.{AllByRecursion, remove, sum_by}
+use Rattle.std.specs.List.{AllByRecursion, sum_by}
 use Rattle.std.specs.Option.{option_map_or}
 use Rattle.std.specs.Prelude.{count_by}
 use Rattle.lvm_num.specs.Votes.{is_enough_to_write, votes_in, votes_of}
@@ -21,11 +21,6 @@ use Rattle.lvm_keeps.proofs.FallsLemmas.Pin.{sum_same}
 use Rattle.lvm_keeps.proofs.LeftLemmas.Leaving.{request_still}
 
 -- ---- lists
-
-pub one_less : {A : Type 0} (xs : List A) (k : ℕ) (x : A) → slice_get xs k ≡ Some x → length (remove xs k) + 1 ≡ length xs
-one_less [] k x there = absurd (cc there)
-one_less (y ∷ xs) zero x there = omega arith
-one_less (y ∷ xs) (suc k) x there = let rest = one_less xs k x there in omega (arith, rest)
 
 -- ---- sums
 

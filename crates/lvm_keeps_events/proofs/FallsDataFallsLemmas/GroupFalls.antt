@@ -37,9 +37,10 @@ use Rattle.lvm_keeps_events.proofs.Lists.{all_there, or_true}
 use Rattle.lvm_keeps_events.proofs.JudgingLemmas.Passing.{caught_same}
 use Rattle.lvm_keeps_events.specs.EndsGroup.{EndsGroup}
 use Rattle.lvm_keeps_events.proofs.LeftLemmas.EndedLess.{filter_same}
-use Rattle.lvm_keeps_events.proofs.FallsDataFallsLemmas.Falling.{falls, one_less, sum_most, votes_same}
+use Rattle.lvm_keeps_events.proofs.FallsDataFallsLemmas.Falling.{falls, sum_most, votes_same}
 use Rattle.lvm_keeps_events.proofs.LeftLemmas.StaledLess.{status_more}
 use Rattle.lvm_keeps_events.specs.FallsDataFalls.{CopyWriteEndFalls}
+use Rattle.lvm_keeps_events.proofs.Finding.{length_taken}
 
 module _ (at : ℕ) (old new : State) (sound : IsSound old) (on : old.core.power ≡ power.On) (event : EndsGroup old new at) where
   abbrev core : Core
@@ -185,7 +186,7 @@ module _ (at : ℕ) (old new : State) (sound : IsSound old) (on : old.core.power
     lit = on;
     still_lit = on;
     lost = votes_same core after refl there_so;
-    fewer = one_less core.flying at event.row event.returns.there;
+    fewer = length_taken core.flying at event.row event.returns.there;
     waiting = refl;
     members = count_alike (λ (row : PvRow). is_there after row.disk) (λ (row : PvRow). is_there core row.disk) (λ row. there_so row.disk) core.descriptor.pvs;
     rest =

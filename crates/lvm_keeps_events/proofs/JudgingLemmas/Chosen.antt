@@ -50,6 +50,7 @@ use Rattle.lvm_keeps.proofs.Lists.{all_on}
 use Rattle.lvm_keeps.proofs.Small.{both, is_false}
 use Rattle.lvm_keeps.proofs.DarkLemmas.Tables.{apart as apart_ids}
 use Rattle.lvm_keeps_events.proofs.OnePlace.{one_lp}
+use Rattle.lvm_keeps_events.proofs.JudgingLemmas.DuesMarks.{among_get}
 
 -- ---- one that is admitted next
 
@@ -175,11 +176,6 @@ any_filter t u on (x ∷ xs) some = by (u x) (t x) refl refl (λ e. any_filter t
 all_among : (ps : List Pp) → AllByRecursion (λ (p : Pp). is_among ps p ≡ true) ps
 all_among [] = tt
 all_among (q ∷ ps) = (ap (λ b. b || is_among ps q) (ap (λ b. b && q.pp == q.pp) (eq-eqb q.disk q.disk refl) ∙ eq-eqb q.pp q.pp refl), all_on (λ (p : Pp). is_among ps p ≡ true) (λ (p : Pp). is_among (q ∷ ps) p ≡ true) (λ p is. ap (λ b. is_pp p q || b) is ∙ or_true (is_pp p q)) ps (all_among ps))
-
-among_get : (ps : List Pp) (k : ℕ) (p : Pp) → slice_get ps k ≡ Some p → is_among ps p ≡ true
-among_get [] k p there = absurd (cc there)
-among_get (q ∷ ps) zero p there = let same : q ≡ p = cc there in ap (λ (x : Pp). is_pp p x || is_among ps p) same ∙ ap (λ b. b || is_among ps p) (ap (λ b. b && p.pp == p.pp) (eq-eqb p.disk p.disk refl) ∙ eq-eqb p.pp p.pp refl)
-among_get (q ∷ ps) (suc k) p there = ap (λ b. is_pp p q || b) (among_get ps k p there) ∙ or_true (is_pp p q)
 
 index_get : {A : Type 0} (xs : List A) (k : ℕ) (x d : A) → slice_get xs k ≡ Some x → (slice_index_or xs k d ≡ x) × (k < length xs)
 index_get [] k x d there = absurd (cc there)

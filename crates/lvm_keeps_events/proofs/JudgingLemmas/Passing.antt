@@ -64,13 +64,13 @@ use Rattle.lvm_keeps.proofs.RequestsLemmas.{changed, shape_still}
 use Rattle.lvm_keeps.proofs.SoundLemmas.Whole.{sound_when_on}
 use Rattle.lvm_keeps_events.proofs.Marking.{any_alike, count_alike, filter_alike}
 use Rattle.lvm_keeps_events.proofs.OnePlace.{one_lp}
-use Rattle.lvm_keeps_events.proofs.SoundLemmas.Tables.{none_filter}
 use Rattle.lvm_keeps_events.proofs.EndsLemmas.CopyReadFail.{by_place, by_sources, is_here}
-use Rattle.lvm_keeps_events.proofs.SoundLemmas.Over.{even_rows, without_step}
+use Rattle.lvm_keeps_events.proofs.SoundLemmas.Over.{even_rows, without_step, none_filter}
 use Rattle.lvm_keeps_events.proofs.OwnersLemmas.Removal.{as_many, given_back, none_left, others as others_of, rows_left, tickets_left}
 use Rattle.lvm_keeps_events.proofs.JudgingLemmas.DuesMarks.{among_get, own_pp, pp_same}
 use Rattle.lvm_keeps_events.proofs.Groups.{group_low, some_size, whole_passes}
 use Rattle.lvm_keeps_events.proofs.Lists.{all_and, all_pair, all_there, any_on, found_at, or_true}
+use Rattle.lvm_keeps_events.proofs.UncaughtLemmas.{some_kept}
 use Rattle.lvm_map.proofs.Parts.{whole}
 
 -- ---- the hold queue
@@ -122,14 +122,6 @@ row_last step_at [] all = refl
 row_last step_at (row ∷ rows) all = ap (λ b. if b then step_at ∷ row ∷ rows else row ∷ with_row step_at rows) (le-ltb step_at.id row.id (let less = all.0 in omega (arith, less))) ∙ ap (λ (rs : List Row). row ∷ rs) (row_last step_at rows all.1)
 
 -- ---- sources
-
-some_filter : (u : Pp → Bool) (ps : List Pp) → (length (filter u ps) == 0) ≡ false → list_any u ps ≡ true
-some_filter u [] e = absurd (let no : true ≡ false = e in cc no)
-some_filter u (p ∷ ps) e = by (u p) (λ f. some_filter u ps f) e
-  where
-    by : (b : Bool) → ((length (filter u ps) == 0) ≡ false → list_any u ps ≡ true) → (length (if b then p ∷ filter u ps else filter u ps) == 0) ≡ false → b || list_any u ps ≡ true
-    by true rest f = refl
-    by false rest f = rest f
 
 -- the first of those that pass is found where each may be
 one_found : (t u : Pp → Bool) (ps : List Pp) → ((p : Pp) → t p ≡ true) → (length (filter u ps) == 0) ≡ false → is_none (find t (filter u ps)) ≡ false
@@ -631,7 +623,7 @@ module _ (s : State) (sound : IsSound s) (on : s.core.power ≡ power.On) (c : O
         by_source among =
             let same = one_lp core.descriptor sound.fitting.valid lv lp c.lv c.lp c.pp among (among_get (copies_in core.descriptor c.lv c.lp) (c.copy - 1) c.pp (by_place (copies_in core.descriptor c.lv c.lp) c.copy c.pp its.its)) in
             ap (λ n. list_any (may_be_fresh core) (copies_in core.descriptor n lp)) same.0 ∙ ap (λ n. list_any (may_be_fresh core) (copies_in core.descriptor c.lv n)) same.1
-            ∙ any_on (λ (p : Pp). not (is_pp p c.pp) && is_usable core p) (may_be_fresh core) may_source (copies_in core.descriptor c.lv c.lp) (some_filter (λ (p : Pp). not (is_pp p c.pp) && is_usable core p) (copies_in core.descriptor c.lv c.lp) some_source)
+            ∙ any_on (λ (p : Pp). not (is_pp p c.pp) && is_usable core p) (may_be_fresh core) may_source (copies_in core.descriptor c.lv c.lp) (some_kept (λ (p : Pp). not (is_pp p c.pp) && is_usable core p) (copies_in core.descriptor c.lv c.lp) some_source)
 
         by : (k : ℕ) × (p : Pp) × (slice_get (copies_in core.descriptor lv lp) k ≡ Some p) × (may_be_fresh after p ≡ true) → list_any (may_be_fresh core) (copies_in core.descriptor lv lp) ≡ true
         by found = of (w && is_pp found.1 c.pp) refl

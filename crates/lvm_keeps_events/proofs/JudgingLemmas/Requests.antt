@@ -1,5 +1,5 @@
 -- What the requests of a session are judged by after the end of a write and its review.
-use Rattle.std.proofs.Common.{◌≡◌, ◌⊎◌, inl, inr, ◌==◌, ◌≤◌, ◌<◌, ◌+◌, ◌*◌, ◌%◌, ◌/◌, ℕ, zero, suc, Bool, true, false, ◌&&◌, ◌||◌, not, nat_lt, nat_le, if◌then◌else◌, List, [], ◌∷◌, Some, length, slice_get, refl, sym, ◌∙◌, ap, arith}
+use Rattle.std.proofs.Common.{◌≡◌, ◌⊎◌, inl, inr, ◌==◌, ◌≤◌, ◌<◌, ◌%◌, ℕ, Bool, true, false, ◌&&◌, ◌||◌, not, nat_lt, nat_le, if◌then◌else◌, List, [], ◌∷◌, Some, length, slice_get, refl, sym, ◌∙◌, ap, arith}
 use Rattle.std.specs.Prelude.{count_by}
 use Rattle.std.specs.List.{list_any, AllByRecursion}
 use Rattle.std.specs.Option.{option_map_or}
@@ -39,11 +39,13 @@ use Rattle.lvm_keeps.proofs.RequestsLemmas.{shape_still}
 use Rattle.lvm_keeps_events.proofs.EndsLemmas.NoteEnd.{all_true, pinned_by}
 use Rattle.lvm_keeps_events.proofs.Finding.{any_on, count_with, found}
 use Rattle.lvm_keeps_events.proofs.CallsLemmas.{in_flight_of}
-use Rattle.lvm_keeps_events.proofs.JudgingLemmas.Review.{Clears, WriteEnd, Reviewed, and_of, flies_is, mid, now, of_now, or_right, pp_self, settled_on, sure_by, wanted_on}
+use Rattle.lvm_keeps_events.proofs.JudgingLemmas.Review.{Clears, WriteEnd, Reviewed, and_of, flies_is, mid, now, of_now, or_right, settled_on, sure_by, wanted_on}
+use Rattle.lvm_keeps_events.proofs.Groups.{some_blocks, groups_below}
+use Rattle.lvm_keeps_events.proofs.JudgingLemmas.DuesMarks.{own_pp}
 
 -- ---- tests
 
-fewer_due : (n m : ℕ) (k l : Bool) → m ≤ n → (l ≡ true → k ≡ true) → nat_le n (if k then 0 else 1) ≡ true → nat_le m (if l then 0 else 1) ≡ true
+pub fewer_due : (n m : ℕ) (k l : Bool) → m ≤ n → (l ≡ true → k ≡ true) → nat_le n (if k then 0 else 1) ≡ true → nat_le m (if l then 0 else 1) ≡ true
 fewer_due n m true true low on e = passes n m 0 low e
   where
     passes : (a b c : ℕ) → b ≤ a → nat_le a c ≡ true → nat_le b c ≡ true
@@ -71,18 +73,11 @@ turned false c on e = not_so (sym (on refl) ∙ e)
 
 -- ---- track groups
 
-some_blocks : (mib lps n : ℕ) → n + 1 ≤ partition_blocks mib * lps → 0 < partition_blocks mib
-some_blocks zero lps n within = absurd (omega (arith, within))
-some_blocks (suc mib) lps n within = omega arith
-
-groups_below : (n m : ℕ) → n < 2048 * m → n / 256 < 2048 * m / 256
-groups_below n m low = omega (arith, low)
-
 -- a copy that is to be cleared is caught up with
 pub whole_caught : (core : Core) (r : Request) → IsLaid core r → (p : Pp) → Clears core p → is_caught core (group_in core r.ask) p ≡ true
 whole_caught core r laid p c =
     ap (λ m. option_map_or (λ (k : OpenCopy). is_running k && is_pp p k.pp && nat_lt (group_in core r.ask) k.cursor) m false) c.is_open
-    ∙ ap (λ b. b && is_pp p c.copy.pp && nat_lt (group_in core r.ask) c.copy.cursor) c.runs ∙ ap (λ b. b && nat_lt (group_in core r.ask) c.copy.cursor) (ap (is_pp p) c.its ∙ pp_self p)
+    ∙ ap (λ b. b && is_pp p c.copy.pp && nat_lt (group_in core r.ask) c.copy.cursor) c.runs ∙ ap (λ b. b && nat_lt (group_in core r.ask) c.copy.cursor) (ap (is_pp p) c.its ∙ own_pp p)
     ∙ lt-ltb (group_in core r.ask) c.copy.cursor (past c.copy.cursor (is_false (nat_lt c.copy.cursor (groups_of core)) c.whole))
   where
     group_low : group_in core r.ask < groups_of core

@@ -4,7 +4,7 @@ use Rattle.std.specs.Prelude.{IfSome, unwrap_or}
 use Rattle.std.specs.List.{list_any, range_with_len}
 use Rattle.std.specs.Option.{option_map_or}
 use Rattle.std.proofs.lemmas.Map.Keys.{any_passes_from_place}
-use Rattle.std.proofs.lemmas.Bool.{eq-eqb, or_left}
+use Rattle.std.proofs.lemmas.Bool.{or_left}
 use Rattle.lvm_num.specs.declared.descriptor.LvRow.{LvRow}
 use Rattle.lvm_num.specs.declared.place.Pp.{Pp}
 use Rattle.lvm_num.specs.declared.status.Status.{Status}
@@ -31,6 +31,7 @@ use Rattle.lvm_keeps_events.proofs.EndsLemmas.CopyReadFail.{is_here, pp_is}
 use Rattle.lvm_keeps_events.proofs.OnePlace.{one_lp}
 use Rattle.lvm_keeps_events.proofs.Finding.{any_on, found, row_found}
 use Rattle.lvm_keeps_events.proofs.CallsLemmas.{Follows, Loses, in_flight_of}
+use Rattle.lvm_keeps_events.proofs.JudgingLemmas.DuesMarks.{own_pp}
 pub use Rattle.std.proofs.lemmas.Bool.{and_from as and_of}
 pub use Rattle.std.proofs.lemmas.Bool.{or_right}
 
@@ -84,9 +85,6 @@ may_by true s w t v on more e = refl
 may_by false true true t v on more e = not_so (sym (ap not (and_of t v (on refl) (more refl))) ∙ e)
 may_by false true false t v on more e = refl
 may_by false false w t v on more e = refl
-
-pub pp_self : (p : Pp) → is_pp p p ≡ true
-pp_self p = ap (λ b. b && p.pp == p.pp) (eq-eqb p.disk p.disk refl) ∙ eq-eqb p.pp p.pp refl
 
 -- ---- the copy that is to be cleared
 
@@ -469,5 +467,5 @@ module _ (e : WriteEnd) (r : Reviewed e) where
 
           same : copies ≡ copies_of left.row left.lp
           same =
-              let at = one_lp old.descriptor e.going.fitting.valid lv lp left.row.number left.lp one.0 (any_passes_from_place (is_pp one.0) copies one.1 one.0 one.2 (pp_self one.0)) (ap (λ ps. is_among ps one.0) its ∙ left.among) in
+              let at = one_lp old.descriptor e.going.fitting.valid lv lp left.row.number left.lp one.0 (any_passes_from_place (is_pp one.0) copies one.1 one.0 one.2 (own_pp one.0)) (ap (λ ps. is_among ps one.0) its ∙ left.among) in
               ap (λ n. copies_in old.descriptor n lp) at.0 ∙ ap (λ n. copies_in old.descriptor left.row.number n) at.1 ∙ its

@@ -72,6 +72,7 @@ use Rattle.lvm_keeps.proofs.Small.{both, is_false}
 use Rattle.lvm_keeps.proofs.VotesLemmas.{enough_more, more_votes}
 use Rattle.lvm_keeps_events.proofs.TargetsLemmas.{count_none}
 use Rattle.lvm_keeps_events.proofs.JudgingLemmas.Chosen.{there_now}
+use Rattle.lvm_keeps_events.proofs.KeepsLemmas.Admission.{some_long}
 
 -- ---- tests and lists
 
@@ -164,10 +165,6 @@ some_waits (t ∷ ts) some e = by t.state e
     by stage.Flying f = not_so (sym f)
     by stage.Done f = not_so (sym f)
     by stage.Failed f = not_so (sym f)
-
-some_long : {A : Type 0} (t : A → Bool) (xs : List A) → list_any t xs ≡ true → 1 ≤ length xs
-some_long t [] e = not_so e
-some_long t (x ∷ xs) e = omega arith
 
 -- ---- a write whose staleness is settled, where what is wanted is committed
 

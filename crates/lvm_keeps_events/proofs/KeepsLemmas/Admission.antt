@@ -96,7 +96,7 @@ unbegun_done (t ∷ ts) e = by t.state (λ f. unbegun_done ts f) e
     by stage.Done rest f = not_so (sym f)
     by stage.Failed rest f = not_so (sym f)
 
-some_long : {A : Type 0} (t : A → Bool) (xs : List A) → list_any t xs ≡ true → 1 ≤ length xs
+pub some_long : {A : Type 0} (t : A → Bool) (xs : List A) → list_any t xs ≡ true → 1 ≤ length xs
 some_long t [] e = not_so e
 some_long t (x ∷ xs) e = omega arith
 

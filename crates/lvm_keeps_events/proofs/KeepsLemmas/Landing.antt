@@ -56,7 +56,8 @@ use Rattle.lvm_keeps.proofs.SoundLemmas.Telling.{asked_still, count_still}
 use Rattle.lvm_keeps.proofs.SoundLemmas.Whole.{sound_when_on}
 use Rattle.lvm_keeps_events.proofs.LogLemmas.{each_after, got_is, ordered_after, requests_after, table_after}
 use Rattle.lvm_keeps_events.proofs.NextLemmas.{IsEnded, gives}
-use Rattle.lvm_keeps_events.proofs.SoundLemmas.Tables.{any_set_less, landed_rows, none_filter, rows_ascend, step_stays}
+use Rattle.lvm_keeps_events.proofs.SoundLemmas.Tables.{any_set_less, landed_rows, rows_ascend, step_stays}
+use Rattle.lvm_keeps_events.proofs.SoundLemmas.Over.{none_filter}
 
 -- of the cache only the entries change
 pub only_entries : (cache : Cached) (r : Request) → without_pin cache r ≡ record cache { entries = (without_pin cache r).entries }

@@ -173,7 +173,7 @@ status_is core = by core.status.in_flight
     by None = omega arith
     by (Some u) = refl
 
-at_most_update : (b : Bool) → if_so b update_work ≤ 256
+pub at_most_update : (b : Bool) → if_so b update_work ≤ 256
 at_most_update true = omega arith
 at_most_update false = omega arith
 

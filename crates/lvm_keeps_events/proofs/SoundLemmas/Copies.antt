@@ -38,7 +38,8 @@ use Rattle.lvm_keeps.proofs.Lists.{all_on}
 use Rattle.lvm_keeps.proofs.Small.{both, is_false}
 use Rattle.lvm_keeps.proofs.RequestsLemmas.{copy_stepped, same_next}
 use Rattle.lvm_keeps_events.proofs.SoundLemmas.Over.{even_rows, none_filter, out_no_hand, without_step}
-use Rattle.lvm_keeps_events.proofs.JudgingLemmas.Review.{Clears, WriteEnd, Reviewed, and_of, due, flies_is, its_copy, left_behind, mid, missing_is, not_wanted, now, pp_self, held_by, settled_on, stale_is, still_clear, to_be_cleared, uncleared, usable_is, wanted_on}
+use Rattle.lvm_keeps_events.proofs.JudgingLemmas.Review.{Clears, WriteEnd, Reviewed, and_of, due, flies_is, its_copy, left_behind, mid, missing_is, not_wanted, now, held_by, settled_on, stale_is, still_clear, to_be_cleared, uncleared, usable_is, wanted_on}
+use Rattle.lvm_keeps_events.proofs.JudgingLemmas.DuesMarks.{own_pp}
 
 -- it goes on as it is, or ends, which is an update less and less work
 abbrev pub Fewer : (e : WriteEnd) → Reviewed e → Type 0
@@ -318,7 +319,7 @@ module _ (e : WriteEnd) (status : Stored) (marks : WantsStale (due e) e.next sta
           is_done : is_done_end how ≡ true
           is_done = done (is_done_end how)
               (sym (ap (λ m. marked_by_end (mid e) m p) ends ∙ ap (λ m. not (is_done_end how) && option_map_or (λ (y : OpenCopy). is_whole before y && is_pp p y.pp) m false) is
-              ∙ ap (λ b. not (is_done_end how) && (b && is_pp p c.pp)) whole ∙ ap (λ b. not (is_done_end how) && (true && b)) (ap (is_pp p) its_pp ∙ pp_self p)) ∙ none.2)
+              ∙ ap (λ b. not (is_done_end how) && (b && is_pp p c.pp)) whole ∙ ap (λ b. not (is_done_end how) && (true && b)) (ap (is_pp p) its_pp ∙ own_pp p)) ∙ none.2)
 
           cleared : is_cleared (mid e) c ≡ true
           cleared = done_cleared (mid e) c how its_end is_done

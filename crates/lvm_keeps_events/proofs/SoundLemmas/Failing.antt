@@ -32,8 +32,7 @@ use Rattle.lvm_keeps.proofs.OwnersLemmas.Rows.{data_still, status_still}
 use Rattle.lvm_keeps.proofs.Small.{is_false}
 use Rattle.lvm_keeps.proofs.RequestsLemmas.{changed, open_on, copy_stepped, same_next}
 use Rattle.lvm_keeps_events.proofs.OwnersLemmas.Rows.{rows_each}
-use Rattle.lvm_keeps_events.proofs.SoundLemmas.Tables.{none_filter}
-use Rattle.lvm_keeps_events.proofs.SoundLemmas.Over.{even_rows, without_step}
+use Rattle.lvm_keeps_events.proofs.SoundLemmas.Over.{even_rows, without_step, none_filter}
 use Rattle.lvm_keeps_events.proofs.Lists.{or_false}
 
 -- ---- a core in which the copy, the hold queue and the pool have changed

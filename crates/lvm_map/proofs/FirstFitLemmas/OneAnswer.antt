@@ -8,7 +8,7 @@ use Rattle.lvm_num.specs.declared.descriptor.Descriptor.{Descriptor}
 use Rattle.lvm_num.specs.Disks.{Disks}
 use Rattle.lvm_map.specs.FirstFit.{Asked, IsFirstFit, IsAllocated, HasNoPlace, next_fit}
 
-no_pp : Pp
+pub no_pp : Pp
 no_pp = record { disk = 0; pp = 0 }
 
 module _ (d : Descriptor) (usable : Disks) (asked : Asked) where

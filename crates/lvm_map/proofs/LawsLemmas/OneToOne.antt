@@ -27,9 +27,6 @@ then_parts : {X Y : Type 0} (f : X → Option Y) (o : Option X) (y : Y) → opti
 then_parts f None y is = absurd cc
 then_parts f (Some x) y is = (x, refl, is)
 
-no_pp : Pp
-no_pp = record { disk = 0; pp = 0 }
-
 -- a volume, a copy of a logical partition of it, and where it stands among all partitions
 record IsFrom (d : Descriptor) (lv copy block : ℕ) (place : Place) : Type 0 where
   row : LvRow

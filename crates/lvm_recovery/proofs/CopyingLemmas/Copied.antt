@@ -10,12 +10,13 @@ use Rattle.lvm_kept.specs.Plans.{Plan, ChangesBy}
 use Rattle.lvm_transfer.specs.Reading.{IsCutOff}
 use Rattle.lvm_write.specs.Parts.{Spends}
 use Rattle.lvm_write.specs.Written.{KeepsShelf}
-use Rattle.lvm_write.proofs.WrittenLemmas.Writing.{if_told, told_at, both_map, changes_more, logs_wider, moments_on, moments_wider}
-use Rattle.lvm_write.proofs.PartsLemmas.Transfers.{keeps_then, spends_then, spent_then}
+use Rattle.lvm_write.proofs.WrittenLemmas.Writing.{if_told, told_at, both_map, changes_more, logs_wider, moments_wider}
+use Rattle.lvm_write.proofs.PartsLemmas.Transfers.{spent_then}
 use Rattle.lvm_begin.specs.declared.begin.Begun.{Begun}
 use Rattle.lvm_begin.specs.declared.begin.Begun.TheVariants as begun
 use Rattle.lvm_begin.specs.Ends.{HasNoFault}
 use Rattle.lvm_write.specs.Writes.{DiskWritesLeave, IsBack}
+use Rattle.lvm_write.proofs.WritesLemmas.{leaves_then}
 use Rattle.lvm_recovery.specs.declared.copying.Recopy.{Recopy}
 use Rattle.lvm_recovery.proofs.CopyingLemmas.Logged.{in_run, just_first, only_planned, only_then}
 use Rattle.lvm_recovery.specs.Copying.{IsInRun, LogsJust, LogsOnly, StopsInCopy, run_at, IsLeftOut, HasFailedAlone, IsOfStep, HoldsRun, RunHolds, StepGives, is_of_copy, IsOfCopy, CopyGives}
@@ -40,13 +41,6 @@ module _ (T U : Disks) (P Q : Plan) (disks : (d : ℕ) → IsTrue (T d) → IsTr
 
   pub does_wider : (before after : ℕ) (old new : Device) → DiskWritesLeave T P before after old new → DiskWritesLeave U Q before after old new
   does_wider before after old new does = record { keeps = keeps_wider old new does.keeps; spends = does.spends; moments = moments_wider P Q more old new does.moments }
-
-pub does_then : (T : Disks) (P : Plan) (p q r : ℕ) (old mid new : Device) → DiskWritesLeave T P p q old mid → DiskWritesLeave T P q r mid new → DiskWritesLeave T P p r old new
-does_then T P p q r old mid new one two = record {
-  keeps = keeps_then T P old mid new one.keeps two.keeps;
-  spends = spends_then p q r old mid new one.spends two.spends;
-  moments = moments_on P old mid one.keeps.media new one.moments two.moments;
-}
 
 -- ---- what follows transfers that went well
 
@@ -120,7 +114,7 @@ module _ (one : Recopy) (buf : Buffer) (p q : ℕ) (old mid : Device) where
 
     module _ (r : ℕ) (new : Device) where
       both_do : DiskWritesLeave (λ d. d == one.into.disk) (IsOfStep true one.into back) q r mid new → DiskWritesLeave (is_of_copy one) (IsOfCopy old one) p r old new
-      both_do does = does_then (is_of_copy one) (IsOfCopy old one) p q r old mid new (read_does read.does)
+      both_do does = leaves_then (is_of_copy one) (IsOfCopy old one) p q r old mid new (read_does read.does)
           (does_wider (λ d. d == one.into.disk) (is_of_copy one) (IsOfStep true one.into back) (IsOfCopy old one) (λ d is. or_second (d == one.from.disk) (d == one.into.disk) is) brings q r mid new does)
 
       both_log : DiskWritesLeave (λ d. d == one.into.disk) (IsOfStep true one.into back) q r mid new → LogsOnly (IsInRun one.into) old.wrote new.wrote

@@ -12,6 +12,7 @@ use Rattle.std.proofs.lemmas.List.Filters.{dedup_is}
 use Rattle.lvm_num.specs.declared.record.NoteEntry.{NoteEntry}
 use Rattle.lvm_num.specs.Disks.{Disks}
 use Rattle.lvm_num.proofs.Booleans.{clash, same_answer}
+use Rattle.lvm_num.proofs.AmongLemmas.{one_of_left, one_of_right, one_of_either}
 use Rattle.lvm_rec.specs.declared.notes.Note.{Note}
 use Rattle.lvm_rec.specs.Note.{noted_of}
 use Rattle.lvm_kept.specs.Group.{IsOneOf, is_named, names_if}
@@ -23,7 +24,7 @@ use Rattle.lvm_recover.proofs.passed.Names.{contains}
 use Rattle.lvm_recovery.specs.declared.plan.TrackGroup.{TrackGroup}
 use Rattle.lvm_recovery.specs.Plan.{group_of, AreNamed}
 use Rattle.lvm_recovery.proofs.CopyingLemmas.AllCopied.{one_at, at_index}
-use Rattle.lvm_recovery.proofs.PlanLemmas.Naming.{to_left, to_right, either, both}
+use Rattle.lvm_recovery.proofs.PlanLemmas.Naming.{both}
 
 -- a row below one names it
 pub record IsNamedBelow (s : Survey) (disks : Disks) (k : ℕ) (one : TrackGroup) : Type 0 where
@@ -90,11 +91,11 @@ note_more s disks groups new k row note own so_far at on noted is = record {
   each = λ one among. ⊎_elim
       (λ (old : IsOneOf groups one). let it = so_far.each one old in let low = it.below in record { d = it.d; below = omega (arith, low); disk = it.disk; named = it.named })
       (λ (here : IsOneOf (map group_of note.entries.items) one). record { d = k; below = omega arith; disk = ap disks (sym (own.own k row at)) ∙ on; named = says one ∙ its_entry note.entries.items one here })
-      (either groups (map group_of note.entries.items) one (subst (λ (l : List TrackGroup). IsOneOf l one) is among));
+      (one_of_either groups (map group_of note.entries.items) one (subst (λ (l : List TrackGroup). IsOneOf l one) is among));
   all = λ one it. let low = it.below in subst (λ (l : List TrackGroup). IsOneOf l one) (sym is) (⊎_elim
-      (λ (less : it.d < k). to_left groups (map group_of note.entries.items) one (so_far.all one (record { d = it.d; below = less; disk = it.disk; named = it.named })))
+      (λ (less : it.d < k). one_of_left groups (map group_of note.entries.items) one (so_far.all one (record { d = it.d; below = less; disk = it.disk; named = it.named })))
       (λ (more : k ≤ it.d). let here : it.d ≡ k = omega (arith, low, more) in
-      to_right groups (map group_of note.entries.items) one (entry_of note.entries.items one (sym (says one) ∙ subst (λ (n : ℕ). IsTrue (is_named (surveyed s) n one.volume one.group)) here it.named)))
+      one_of_right groups (map group_of note.entries.items) one (entry_of note.entries.items one (sym (says one) ∙ subst (λ (n : ℕ). IsTrue (is_named (surveyed s) n one.volume one.group)) here it.named)))
       (cases_lt it.d k));
 }
   where

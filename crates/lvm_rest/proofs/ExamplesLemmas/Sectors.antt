@@ -20,7 +20,8 @@ use Rattle.lvm_disk.specs.Device.{Image, image_of}
 use Rattle.lvm_kept.specs.Contents.{has_records, descriptor_on, status_on, note_on, data_at, contents_of}
 use Rattle.lvm_kept.specs.Examples.{stamped, either_of, two}
 use Rattle.lvm_kept.proofs.TornLemmas.Standing.{zeros-sector}
-use Rattle.lvm_crash.proofs.WorkedLemmas.Shelf.{group_read, one, no-magic, never_before, none_or}
+use Rattle.lvm_crash.proofs.WorkedLemmas.Shelf.{group_read, no-magic, never_before, none_or}
+use Rattle.lvm_crash.proofs.WorkedLemmas.Worked.{first_partition}
 use Rattle.lvm_rest.specs.Examples.{Pair, status_of, framed_group, framed_status, media_of, pair_sizes, in_data, shown_by}
 
 -- ---- the records are read
@@ -42,13 +43,13 @@ group_frames : (x : Pair) → Frames kind.Descriptor (framed_group x)
 group_frames x = record { some_epoch = λ e. omega (arith, e); epoch = omega arith; some_seq = λ e. omega (arith, e); seq = omega arith; content = omega arith }
 
 status_sectors : (x : Pair) (dirty : Bool) (k : ℕ) → k < record_sectors (length (framed_status (record x { dirty = dirty })).content) → k ≡ 0
-status_sectors x true k low = one k low
-status_sectors x false k low = one k low
+status_sectors x true k low = first_partition k low
+status_sectors x false k low = first_partition k low
 
 -- the first slots hold the records
 pub group_first : (x : Pair) (d : ℕ) → record_in kind.Descriptor (slot_at kind.Descriptor (slot_start kind.Descriptor 0) (media_of x d)) ≡ Some (framed_group x)
 group_first x d = whole_is_read kind.Descriptor (framed_group x) (slot_start kind.Descriptor 0) (media_of x d) (group_frames x)
-    (λ k low. subst (λ (n : ℕ). media_of x d (512 + n) ≡ frame kind.Descriptor (framed_group x).stamp (framed_group x).content n) (sym (one k low)) refl)
+    (λ k low. subst (λ (n : ℕ). media_of x d (512 + n) ≡ frame kind.Descriptor (framed_group x).stamp (framed_group x).content n) (sym (first_partition k low)) refl)
 
 pub status_first : (x : Pair) (d : ℕ) → record_in kind.Status (slot_at kind.Status (slot_start kind.Status 0) (media_of x d)) ≡ Some (framed_status x)
 status_first x d = whole_is_read kind.Status (framed_status x) (slot_start kind.Status 0) (media_of x d) (status_frames x x.dirty)

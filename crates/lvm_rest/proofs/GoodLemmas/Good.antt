@@ -32,13 +32,14 @@ use Rattle.lvm_num.specs.Modes.{is_active, is_passive}
 use Rattle.lvm_num.proofs.Booleans.{clash_gives}
 use Rattle.lvm_invariant.specs.Found.{Votes, Found}
 use Rattle.lvm_invariant.specs.Good.{Good}
+use Rattle.lvm_invariant.proofs.FirstLemmas.{nothing}
 use Rattle.lvm_crash.specs.Session.{as_marks, marks_shown, AreVotesOf, members_showing, GroupStands, HasVolumes, Describes}
 use Rattle.lvm_crash.proofs.MayLemmas.{loose_is_off}
 use Rattle.lvm_crash.proofs.GroupLemmas.Lists.{left_of, right_of, both_of, not_so}
 use Rattle.lvm_rest.specs.Rest.{IsIdle, SeesThat, AreClosed, IsAtRest}
 use Rattle.lvm_rest.specs.Good.{RestIsGood, StillMatches, RestMatches}
 use Rattle.lvm_commit.proofs.AmongLemmas.{one_place}
-use Rattle.lvm_rest.proofs.Rows.{nothing, at_passing, some_passing, none_passing, passes_none, row_is_volume, block_in}
+use Rattle.lvm_rest.proofs.Rows.{at_passing, some_passing, none_passing, passes_none, row_is_volume, block_in}
 use Rattle.lvm_rest.proofs.GoodLemmas.Shapes.{shape_mode}
 use Rattle.lvm_rest.proofs.MayLemmas.{value_uncut, loose_uncut, known_cut}
 

@@ -27,13 +27,14 @@ use Rattle.lvm_invariant.specs.Sound.{MayDiffer, Agree}
 use Rattle.lvm_invariant.specs.Found.{Votes}
 use Rattle.lvm_invariant.specs.Good.{Good}
 use Rattle.lvm_invariant.proofs.CrashLemmas.{core_kept}
+use Rattle.lvm_invariant.proofs.FirstLemmas.{nothing}
 use Rattle.lvm_crash.specs.Session.{AreVotesOf, members_showing, Describes}
 use Rattle.lvm_crash.proofs.GroupLemmas.Blocks.{block_of}
 use Rattle.lvm_crash.proofs.GroupLemmas.Lists.{left_of, right_of, both_of, not_so, of_passing}
 use Rattle.lvm_crash.proofs.LawsLemmas.Remaining.{remains_kept}
 use Rattle.lvm_rest.specs.Rest.{IsIdle, SeesThat}
 use Rattle.lvm_rest.specs.Good.{GoodIsRest}
-use Rattle.lvm_rest.proofs.Rows.{nothing, none_passing}
+use Rattle.lvm_rest.proofs.Rows.{none_passing}
 use Rattle.lvm_rest.proofs.GoodLemmas.Good.{mib_positive}
 
 module _ (votes : Votes) (s : ModelState) (group : Descriptor) (status : Status) (there : Disks) (c : Contents) (are : AreVotesOf group votes) (valid : IsValid group) (within : IsWithinDisks c)

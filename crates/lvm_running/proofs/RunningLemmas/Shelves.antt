@@ -13,12 +13,13 @@ use Rattle.lvm_num.specs.StatusBytes.{status_bytes}
 use Rattle.lvm_num.proofs.TornLemmas.Torn.{sectors-fit}
 use Rattle.lvm_disk.specs.Device.{Device, Flight, Image, IsInFlight, MayLeave, written}
 use Rattle.lvm_disk.specs.Images.{LeavesNoMore}
-use Rattle.lvm_disk.specs.Steps.{Cuts, GoesDark, Removes, Starts, Waits}
+use Rattle.lvm_disk.specs.Steps.{Cuts, GoesDark, Starts, Waits}
 use Rattle.lvm_disk.proofs.DeviceLemmas.{cut_leaves, done_leaves, failed_leaves, in_old_or_new, start_leaves}
 use Rattle.lvm_kept.specs.Contents.{contents_of, data_at, descriptor_on, note_on, note_sector, status_on}
 use Rattle.lvm_kept.specs.Plans.{ChangesBy}
 use Rattle.lvm_kept.specs.Torn.{IsOutside}
 use Rattle.lvm_kept.proofs.TornLemmas.Records.{newest_stays}
+use Rattle.lvm_kept.proofs.PlansLemmas.{of_removed}
 use Rattle.lvm_tie.specs.passed.Names.{FindsNothingNew}
 use Rattle.lvm_tie.proofs.passed.Names.{rest_finds_nothing_new, status_fits, writes_at, reads_none}
 use Rattle.lvm_rec.specs.Homes.{next_slot, second_slots}
@@ -113,22 +114,18 @@ still_out [] after f d s x is = inr is
 still_out (g ∷ before) after f d s x (inl here) = inl here
 still_out (g ∷ before) after f d s x (inr there) = inr (still_out before after f d s x there)
 
-was_out : (f : Flight) (old new : List Flight) → Removes f old new → (d s : ℕ) (x : Sector) → IsInFlight new d s x → IsInFlight old d s x
-was_out f old new removes d s x flies =
-    subst (λ (fs : List Flight). IsInFlight fs d s x) (sym removes.was) (still_out removes.before removes.after f d s x (subst (λ (fs : List Flight). IsInFlight fs d s x) removes.is flies))
-
 end_steps : (ok : Bool) (old new : Device) (ticket : ℕ) (buf : Buffer) → EndsAs ok old new ticket buf → Steps old new
 end_steps true old new ticket buf ends = record {
   sizes = ap (λ (d : Device). d.sizes) ends.new_is;
   orders = ap (λ (d : Device). d.orders) ends.new_is;
   cut = keeps_power old new (ap (λ (d : Device). d.power) ends.new_is);
-  leaves = fewer_leaves old new (was_out ends.flight old.flights new.flights ends.flights) (done_leaves old new ticket buf ends);
+  leaves = fewer_leaves old new (of_removed ends.flight old.flights new.flights ends.flights) (done_leaves old new ticket buf ends);
 }
 end_steps false old new ticket buf ends = record {
   sizes = ap (λ (d : Device). d.sizes) ends.new_is;
   orders = ap (λ (d : Device). d.orders) ends.new_is;
   cut = keeps_power old new (ap (λ (d : Device). d.power) ends.new_is);
-  leaves = fewer_leaves old new (was_out ends.flight old.flights new.flights ends.flights) (failed_leaves old new ticket buf ends);
+  leaves = fewer_leaves old new (of_removed ends.flight old.flights new.flights ends.flights) (failed_leaves old new ticket buf ends);
 }
 
 wait_steps : (old new : Device) → Waits old new → Steps old new

@@ -16,6 +16,7 @@ use Rattle.lvm_num.proofs.Pairs.{AllPairs-right}
 use Rattle.lvm_stale.specs.Rows.{IsRowAt, with_row_at}
 use Rattle.lvm_stale.specs.Table.{SameMembers}
 use Rattle.lvm_num.specs.Descriptor.{is_pp}
+use Rattle.lvm_num.proofs.DisksLemmas.{or-false, and-true}
 
 -- disks that rise
 abbrev pub Rise : List StatusRow → Type 0
@@ -169,14 +170,6 @@ with_row_at-other s disk place was row valid at same f d apart =
 
 -- ---- what each change says
 
-or_right : (b c : Bool) → c ≡ false → b ≡ b || c
-or_right true c is = refl
-or_right false c is = sym is
-
-and_right : (b c : Bool) → c ≡ false → b ≡ b && not c
-and_right true c is = ap not (sym is)
-and_right false c is = refl
-
 -- the partitions of another disk are others
 another : (p pp : Pp) → pp.disk ≢ p.disk → is_pp p pp ≡ false
 another p pp apart = ap (λ b. b && p.pp == pp.pp) (ne_eqb p.disk pp.disk (λ e. apart (sym e)))
@@ -192,7 +185,7 @@ marked s pp place was row valid at same bits p = elim (cases_eq pp.disk p.disk) 
       both.0 ∙ bits p.pp ∙ ap (λ b. b || p.pp == pp.pp) (sym both.1) ∙ ap (λ b. calls_stale s p || b) (sym (its_number p pp it))
   | inr apart ↦
       with_row_at-other s pp.disk place was row valid at same (λ (r : StatusRow). has_bit r.stale p.pp) p.disk apart
-      ∙ or_right (calls_stale s p) (is_pp p pp) (another p pp apart)
+      ∙ or-false (calls_stale s p) (is_pp p pp) (another p pp apart)
 ]
 
 pub cleared : (s : Status) (pp : Pp) (place : ℕ) (was row : StatusRow) → IsValidStatus s → IsRowAt s.rows pp.disk place was → row.disk ≡ was.disk
@@ -203,7 +196,7 @@ cleared s pp place was row valid at same bits p = elim (cases_eq pp.disk p.disk)
       both.0 ∙ bits p.pp ∙ ap (λ b. b && not (p.pp == pp.pp)) (sym both.1) ∙ ap (λ b. calls_stale s p && not b) (sym (its_number p pp it))
   | inr apart ↦
       with_row_at-other s pp.disk place was row valid at same (λ (r : StatusRow). has_bit r.stale p.pp) p.disk apart
-      ∙ and_right (calls_stale s p) (is_pp p pp) (another p pp apart)
+      ∙ and-true (calls_stale s p) (is_pp p pp) (another p pp apart)
 ]
 
 pub set_missing-says : (s : Status) (disk place : ℕ) (was row : StatusRow) (is : Bool) → IsValidStatus s → IsRowAt s.rows disk place was → row.disk ≡ was.disk

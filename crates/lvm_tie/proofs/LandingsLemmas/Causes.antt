@@ -3,6 +3,7 @@ use Rattle.std.proofs.Common.{◌≡◌, ◌≤◌, ◌<◌, ◌+◌, ◌-◌, �
 use Rattle.std.specs.Prelude.{slice_get, slice_index_or, slice_set, unwrap_or}
 use Rattle.std.specs.List.{AllByRecursion, list_any}
 use Rattle.std.proofs.lemmas.Bool.{eqb-true, leb-true, ltb-true}
+use Rattle.lvm_invariant.proofs.FaultsLemmas.{append_all}
 use Rattle.lvm_num.specs.declared.descriptor.Descriptor.{Descriptor}
 use Rattle.lvm_num.specs.declared.place.Pp.{Pp}
 use Rattle.lvm_num.specs.Geometry.{partition_blocks, partition_of}
@@ -48,17 +49,14 @@ use Rattle.lvm_session.specs.Causes.{AnyFailedSince, AreCaused, AreCounted, HasF
 use Rattle.lvm_session.specs.Requests.{IsOpenOne}
 use Rattle.lvm_session.specs.Sound.{IsAsked, IsSound}
 use Rattle.lvm_keeps_events.proofs.passed.Names.{landing_is_caused, all_at, all_on, all_set, loss_is_caused, both}
-use Rattle.lvm_keeps_events.proofs.EndsLemmas.CopyReadFail.{at_number, some_at}
+use Rattle.lvm_keeps_events.proofs.EndsLemmas.CopyReadFail.{some_at}
 use Rattle.lvm_keeps_events.proofs.EndsLemmas.Counts.{rose_on, rose_since}
 use Rattle.lvm_keeps_events.proofs.RequestsLemmas.{waits}
+use Rattle.lvm_keeps_events.proofs.OnePlace.{among_at}
 use Rattle.lvm_tie.specs.Landings.{BeginningHasCauses, FailuresAreCaused, HadNone, HasCausesSince, HasLandedFor, IsEntryCaused, TurnKeepsCauses}
 use Rattle.lvm_tie.proofs.SessionEndsLemmas.Grounds.{Ground, ground, ground_with, learned_same}
 
 -- ---- what was a cause goes on to be one
-
-all_join : {A : Type 0} (P : A → Type 0) (xs ys : List A) → AllByRecursion P xs → AllByRecursion P ys → AllByRecursion P (xs ++ ys)
-all_join P [] ys one two = two
-all_join P (x ∷ xs) ys one two = (one.0, all_join P xs ys one.1 two)
 
 module _ (old new : State) (more : NoneFalls old.device.counts new.device.counts) (descriptor : new.core.descriptor ≡ old.core.descriptor) (origin : new.core.origin ≡ old.core.origin) where
   failed_on : AnyFailedSince old → AnyFailedSince new
@@ -101,7 +99,7 @@ module _ (old new : State) (more : NoneFalls old.device.counts new.device.counts
   goes_on first added facts caused failed was = record {
     since = was.since ++ added;
     is = facts ∙ ap (λ (fs : List Fact). fs ++ added) was.is ∙ append_assoc first was.since added;
-    caused = all_on (IsEntryCaused old) (IsEntryCaused new) entry_on (was.since ++ added) (all_join (IsEntryCaused old) was.since added was.caused caused);
+    caused = all_on (IsEntryCaused old) (IsEntryCaused new) entry_on (was.since ++ added) (append_all (IsEntryCaused old) was.since added was.caused caused);
     failed = failed;
   }
 
@@ -194,7 +192,7 @@ module _ (old : State) (sound : IsSound old) (on : old.core.power ≡ power.On) 
         where
           by : (u : Bool) → was_usable core q ≡ u → u ≡ false
           by false is = refl
-          by true is = let at = at_number ps q one in not_so (sym all ∙ some_at (was_usable core) ps at.0 q at.1 is)
+          by true is = let at = among_at ps q one in not_so (sym all ∙ some_at (was_usable core) ps at.0 q at.1 is)
 
   pub landed_for : (how : Outcome) → IsLandedFor old o how → HasLandedFor old (request_of core.history.facts o.request.id) how
   landed_for outcome.Lost why = failed_among o.request.targets.items why.0 why.1 counted
@@ -231,7 +229,7 @@ dark_caused first old new middle more same is was =
     ∙ ap (λ (fs : List Fact). fs ++ landings outcome.Dark (cut_log middle.history).facts middle.requests) (cut_facts (is_uncut middle.history.facts))
     ∙ append_assoc middle.history.facts (cut_of (is_uncut middle.history.facts)) (landings outcome.Dark (cut_log middle.history).facts middle.requests)
     ∙ ap (λ (fs : List Fact). fs ++ (cut_of (is_uncut middle.history.facts) ++ landings outcome.Dark (cut_log middle.history).facts middle.requests)) (ap (λ (g : Ground). g.2) same))
-    (all_join (IsEntryCaused old) (cut_of (is_uncut middle.history.facts)) (landings outcome.Dark (cut_log middle.history).facts middle.requests) (cut_caused (is_uncut middle.history.facts))
+    (append_all (IsEntryCaused old) (cut_of (is_uncut middle.history.facts)) (landings outcome.Dark (cut_log middle.history).facts middle.requests) (cut_caused (is_uncut middle.history.facts))
     (landings_caused old outcome.Dark (cut_log middle.history).facts (λ r. tt) middle.requests))
     (λ on. absurd (let e : power.Dark ≡ power.On = sym (ap (λ (c : Core). c.power) is) ∙ on in cc))
     was

@@ -70,7 +70,7 @@ use Rattle.lvm_tie_shelf.proofs.RecordsLemmas.Quiet.{quiet_lasts}
 use Rattle.lvm_tie_shelf.proofs.WritingLemmas.{pp_same}
 use Rattle.lvm_tie.proofs.OutLemmas.Ties.{carry_on}
 use Rattle.lvm_tie.proofs.SeenLemmas.Changing.{step_apart, sees_changed}
-use Rattle.lvm_tie.proofs.StateLemmas.{there_is_copy, on_member, missing_seen, usable_seen, wanted_seen}
+use Rattle.lvm_tie.proofs.StateLemmas.{there_is_copy, on_member, missing_seen, usable_seen, wanted_seen, one_at}
 use Rattle.lvm_tie.proofs.ModesLemmas.{active_is}
 use Rattle.lvm_tie.proofs.JudgingLemmas.Rows.{HaveRows, rows_are}
 use Rattle.lvm_tie.proofs.TiedLemmas.Orderly.{HaveNumbers, numbers_of, open_one, waiting_one}
@@ -478,15 +478,10 @@ usable_at core n (p ∷ ps) m one = by (is_usable core p) refl one (usable_at co
     by true is (inr there) rest = later (rest there)
     by false is there rest = later (rest there)
 
-one_of_get : {A : Type 0} (xs : List A) (k : ℕ) (x : A) → slice_get xs k ≡ Some x → IsOneOf xs x
-one_of_get [] k x there = absurd (cc there)
-one_of_get (y ∷ xs) zero x there = inl (let e : y ≡ x = cc there in sym e)
-one_of_get (y ∷ xs) (suc k) x there = inr (one_of_get xs k x there)
-
 -- each of an order is one of what it orders
 ordered_one : (how : Policy) (usable : List ℕ) (last : ℕ) (loads order : List ℕ) (m : ℕ) → IsReadOrder how usable last loads order → IsOneOf order m → IsOneOf usable m
 ordered_one how usable last loads [] m is one = absurd one
-ordered_one how usable last loads (first ∷ more) m is (inl here) = subst (IsOneOf usable) (sym here) (one_of_get usable is.among.0 first (slice_get-get_or usable is.among.0 first is.among.1 ∙ ap (λ (x : ℕ). Some x) is.among.2))
+ordered_one how usable last loads (first ∷ more) m is (inl here) = subst (IsOneOf usable) (sym here) (one_at usable is.among.0 first (slice_get-get_or usable is.among.0 first is.among.1 ∙ ap (λ (x : ℕ). Some x) is.among.2))
 ordered_one how usable last loads (first ∷ more) m is (inr there) = (filter_one (λ copy. not (copy == first)) usable m (subst (λ (xs : List ℕ). IsOneOf xs m) is.then there)).0
 
 index_at : (ps : List Pp) (k : ℕ) (p d : Pp) → slice_get ps k ≡ Some p → slice_index_or ps k d ≡ p
@@ -522,7 +517,7 @@ chosen_by s o targets order chooses = by (is_write ask) refl chooses
           let at = usable_at s.core 1 copies m.0 one in
           let back : m.0 - 1 ≡ at.way = let e = at.number in omega (arith, e) in
           let pp : t.pp ≡ at.pp = ap (λ (x : Target). x.pp) m.2 ∙ ap (λ (k : ℕ). slice_index_or copies k (record { disk = 0; pp = 0 })) back ∙ index_at copies at.way at.pp (record { disk = 0; pp = 0 }) at.there in
-          (subst (IsOneOf copies) (sym pp) (one_of_get copies at.way at.pp at.there), inl (ap (is_usable s.core) pp ∙ at.usable));
+          (subst (IsOneOf copies) (sym pp) (one_at copies at.way at.pp at.there), inl (ap (is_usable s.core) pp ∙ at.usable));
     }
 
 pub admit_ties : AdmitTies

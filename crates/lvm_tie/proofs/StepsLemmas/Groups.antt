@@ -24,13 +24,14 @@ use Rattle.lvm_keeps_events.specs.EndsGroup.{EndsGroup}
 use Rattle.lvm_invariant.specs.State.{Held, Queued, ModelState}
 use Rattle.lvm_invariant.specs.EnterStep.{StepEnters, entered}
 use Rattle.lvm_invariant.specs.Updates.{put, with_name}
+use Rattle.lvm_invariant.proofs.UpdatesLemmas.Requests.{put_same}
 use Rattle.lvm_tie.specs.Seen.{IsRequestAt, IsStepAt, SeesRunning, update_of}
 use Rattle.lvm_tie.specs.Tied.{IsTied}
 use Rattle.lvm_tie.proofs.StateLemmas.{IsOfItsPartition, there_first}
 use Rattle.lvm_tie.proofs.TiedLemmas.Orderly.{all_at}
 use Rattle.lvm_tie.proofs.BringingLemmas.{one_is_copy_of, step_placed}
 use Rattle.lvm_tie.proofs.AmongLemmas.{or_either, and_false}
-use Rattle.lvm_tie.proofs.StepsLemmas.Leaving.{Stands, gone, gone_here, gone_there, put_here, put_there, step_entered}
+use Rattle.lvm_tie.proofs.StepsLemmas.Leaving.{Stands, gone, gone_here, gone_there, put_there, step_entered}
 use Rattle.lvm_tie.proofs.StepsLemmas.Landed.{landed_write, now, q}
 use Rattle.lvm_tie.proofs.StepsLemmas.Stepped.{IsStepped, apart, ended_ties, stepped_ties, wanted_stale}
 use Rattle.lvm_tie.proofs.StepsLemmas.Passing.{d, goes, its, landed, left, member, mid, o2, part, stands_left, there}
@@ -136,7 +137,7 @@ module _ (past : List Fact) (old new : State) (at : ℕ) (tied : IsTied past old
     queue_still = λ k p at_k. put_there (gone v.queue c.place step_q) i next (place_of p.request.id) (apart_next k p at_k)
         ∙ gone_there v.queue c.place step_q (place_of p.request.id) (apart past old new at event.row true event.buf tied event.returns event.own c event.is_open k p at_k);
     name_still = λ k p at_k. let test : (place_of p.request.id == i) ≡ false = (let ne = apart_next k p at_k in grind (arith, nat_tests)) in ap (λ b. if b then no_request else v.name (place_of p.request.id)) test;
-    a_step = λ r. (next, put_here (gone v.queue c.place step_q) i next, record { lv = refl; first = refl; count = refl; write = refl; step = refl; hand = (refl, refl); failed = λ p bad. absurd (cc bad) });
+    a_step = λ r. (next, put_same (gone v.queue c.place step_q) i next, record { lv = refl; first = refl; count = refl; write = refl; step = refl; hand = (refl, refl); failed = λ p bad. absurd (cc bad) });
     only = λ j x at_j. elim (cases_eq j i) [
       | inl is ↦ inr (row_now, sym is)
       | inr ne ↦ inl (still_there j x (sym (put_there (gone v.queue c.place step_q) i next j ne) ∙ at_j))

@@ -50,16 +50,10 @@ use Rattle.lvm_tie.specs.Out.{CarriesStep, CarryTheirs, MayUpdate}
 use Rattle.lvm_tie.specs.Seen.{SeesHand, SeesStep, step_write_in, step_write_of, update_of}
 use Rattle.lvm_tie.specs.Tied.{IsTied, ShowsRecords}
 use Rattle.lvm_tie.proofs.TiedLemmas.Orderly.{AreOut, HaveTickets, IsCopyOut, IsOut, StepIsOut, out_of, tickets_of, valid_of}
-use Rattle.lvm_tie.proofs.OutLemmas.Ended.{HasEnded, IsRow, has_ended, is_row}
+use Rattle.lvm_tie.proofs.OutLemmas.Ended.{HasEnded, IsRow, has_ended, is_row, row_of}
 use Rattle.lvm_tie.proofs.StepsLemmas.Leaving.{Stands}
 
 -- ---- its row
-
-row_of : (core : Core) (w : Option RecordWrite) (gs after : List Flight) (f : Flight) (rs : List Flown) → AreOut core w (gs ++ f ∷ after) rs → (k : ℕ) × (r : Flown) × (slice_get rs k ≡ Some r) × (f.ticket ≡ r.ticket)
-row_of core w [] after f [] out = absurd out
-row_of core w [] after f (r ∷ rs) out = (0, r, refl, out.0)
-row_of core w (g ∷ gs) after f [] out = absurd out
-row_of core w (g ∷ gs) after f (r ∷ rs) out = let x = row_of core w gs after f rs out.2 in (suc x.0, x.1, x.2, x.3)
 
 -- what it carries, if it is a step's
 carried : (core : Core) (w : Option RecordWrite) (v : ModelState) (before after : List Flight) (f : Flight) (rows : List Flown) (index : ℕ) (row : Flown)

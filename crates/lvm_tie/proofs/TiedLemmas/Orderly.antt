@@ -1,13 +1,13 @@
 -- What a sound session says of its requests and of what it has out, as the tie needs it.
-use Rattle.std.proofs.Common.{◌≡◌, ◌⊎◌, ⊎_elim, ℕ, zero, suc, ◌<◌, Bool, true, false, ◌&&◌, ◌||◌, ◌==◌, not, if◌then◌else◌, List, [], ◌∷◌, length, cond, Option, Some, None, slice_get, refl, sym, ap, subst, ◌∙◌, arith}
-use Rattle.std.specs.Prelude.{count_by, unwrap_or, AllPairs, IsTrue, nat_lt}
-use Rattle.std.specs.List.{list_any, list_all, AllByRecursion}
+use Rattle.std.proofs.Common.{◌≡◌, ℕ, zero, suc, ◌<◌, Bool, true, false, ◌&&◌, ◌||◌, ◌==◌, not, if◌then◌else◌, List, [], ◌∷◌, length, Option, Some, None, slice_get, refl, sym, ap, subst, ◌∙◌, arith}
+use Rattle.std.specs.Prelude.{unwrap_or, AllPairs, IsTrue, nat_lt}
+use Rattle.std.specs.List.{AllByRecursion}
 use Rattle.std.specs.Option.{option_map_or}
 use Rattle.std.proofs.lemmas.Map.Keys.{any_passes_from_place}
 use Rattle.std.proofs.lemmas.Bool.Decides.{nat_tests}
 use Rattle.std.proofs.lemmas.Option.{get_or_from_slice_get, slice_get_within}
-use Rattle.std.proofs.lemmas.Bool.{eq-eqb, eqb-true, and_parts, or_cases}
-use Rattle.std.proofs.lemmas.List.Sums.{sum_by-cons}
+use Rattle.std.proofs.lemmas.Bool.{eq-eqb, eqb-true, and_parts}
+use Rattle.lvm_keeps_events.proofs.Lists.{all_true_at, none_of_zero, found_at}
 use Rattle.arrayvec.specs.ArrayVec.{ArrayVec}
 use Rattle.lvm_num.specs.declared.record.NoteEntry.{NoteEntry}
 use Rattle.lvm_num.specs.declared.record.Kind.{Kind}
@@ -62,23 +62,6 @@ pub all_at : {A : Type 0} (P : A → Type 0) (xs : List A) (k : ℕ) (x : A) →
 all_at P [] k x all there = absurd (cc there)
 all_at P (y ∷ xs) zero x all there = let same : y ≡ x = cc there in subst P same all.0
 all_at P (y ∷ xs) (suc k) x all there = all_at P xs k x all.1 there
-
-pub any_there : {A : Type 0} (t : A → Bool) (xs : List A) → list_any t xs ≡ true → (k : ℕ) × (x : A) × (slice_get xs k ≡ Some x) × (t x ≡ true)
-any_there t [] is = not_so is
-any_there t (x ∷ xs) is = ⊎_elim (λ here. (0, x, refl, here)) (λ later. let r = any_there t xs later in (suc r.0, r.1, r.2, r.3)) (or_cases (t x) (list_any t xs) is)
-
-all_there : {A : Type 0} (t : A → Bool) (xs : List A) (k : ℕ) (x : A) → list_all t xs ≡ true → slice_get xs k ≡ Some x → t x ≡ true
-all_there t [] k x all there = absurd (cc there)
-all_there t (y ∷ xs) zero x all there = let same : y ≡ x = cc there in ap t (sym same) ∙ (and_parts (t y) (list_all t xs) all).0
-all_there t (y ∷ xs) (suc k) x all there = all_there t xs k x (and_parts (t y) (list_all t xs) all).1 there
-
-none_counted : {A : Type 0} (t : A → Bool) (xs : List A) → count_by t xs ≡ 0 → list_any t xs ≡ false
-none_counted t [] none = refl
-none_counted t (x ∷ xs) none = by (t x) refl (none_counted t xs)
-  where
-    by : (b : Bool) → t x ≡ b → (count_by t xs ≡ 0 → list_any t xs ≡ false) → b || list_any t xs ≡ false
-    by true is rest = let more = sum_by-cons (λ y. cond (t y) 1 0) x xs in let one : ◌≡◌ {A = ℕ} (cond (t x) 1 0) 1 = ap (λ b. cond b 1 0) is in absurd (omega (arith, more, one, none))
-    by false is rest = rest (let more = sum_by-cons (λ y. cond (t y) 1 0) x xs in let one : ◌≡◌ {A = ℕ} (cond (t x) 1 0) 0 = ap (λ b. cond b 1 0) is in omega (arith, more, one, none))
 
 -- ---- the table
 
@@ -259,7 +242,7 @@ module _ (s : State) (w : Option RecordWrite) (orderly : IsOrderly s w) where
       by : (b : Bool) → flies core row.owner ≡ b → b ≡ true
       by true is = refl
       by false is =
-          let none = none_counted (λ (f : Flown). same_owner row.owner f.owner) core.flying (going.owned row.owner ∙ ap (λ b. if b then 1 else 0) is) in
+          let none = none_of_zero (λ (f : Flown). same_owner row.owner f.owner) core.flying (going.owned row.owner ∙ ap (λ b. if b then 1 else 0) is) in
           sym none ∙ any_passes_from_place (λ (f : Flown). same_owner row.owner f.owner) core.flying k row there (same_self row.owner)
 
   -- a request of which a transfer is out has not landed, and moves its data
@@ -278,7 +261,7 @@ module _ (s : State) (w : Option RecordWrite) (orderly : IsOrderly s w) where
       by_phase phase.WantEntry is its = absurd (let e : false ≡ true = sym its.0 ∙ started in cc)
       by_phase phase.WantRecord is its = absurd (let e : false ≡ true = sym its.0 ∙ started in cc)
       by_phase phase.Data is its = refl
-      by_phase phase.WantStatus is its = absurd (let e : false ≡ true = sym (ap is_over flying) ∙ all_there (λ (u : Target). is_over u.state) o.request.targets.items number t its.1 at in cc)
+      by_phase phase.WantStatus is its = absurd (let e : false ≡ true = sym (ap is_over flying) ∙ all_true_at (λ (u : Target). is_over u.state) o.request.targets.items number t its.1 at in cc)
       by_phase phase.Landed is its = absurd its
 
       by : (b : Bool) → is_waiting o ≡ b → IsMoving o
@@ -293,7 +276,7 @@ module _ (s : State) (w : Option RecordWrite) (orderly : IsOrderly s w) where
 
   data_out : (id number : ℕ) (f : Flight) → flies core (owner.Data id number) ≡ true → IsDataOf core id number f → IsDataOut core f id number
   data_out id number f out its =
-      let found = any_there (λ (o : Open). o.request.id == id && target_flies number o) core.requests out in
+      let found = found_at (λ (o : Open). o.request.id == id && target_flies number o) core.requests out in
       let parts = and_parts (found.1.request.id == id) (target_flies number found.1) found.3 in
       let same : found.0 ≡ its.place = numbers_of found.0 its.place found.1 its.request found.2 its.there (eqb-true found.1.request.id id parts.0 ∙ sym its.own) in
       let own : found.1 ≡ its.request = let e : Some found.1 ≡ Some its.request = sym found.2 ∙ ap (slice_get core.requests) same ∙ its.there in cc in

@@ -27,13 +27,13 @@ use Rattle.lvm_tied.proofs.PairsLemmas.Sound.{is_sound}
 -- ---- sectors
 
 -- a list of bytes by a test
-small : (l : List ℕ) (i : ℕ) → list_all (λ (b : ℕ). nat_lt b 256) l ≡ true → slice_index l i < 256
+pub small : (l : List ℕ) (i : ℕ) → list_all (λ (b : ℕ). nat_lt b 256) l ≡ true → slice_index l i < 256
 small [] zero all = omega arith
 small [] (suc i) all = omega arith
 small (x ∷ xs) zero all = let low : IsTrue (nat_lt x 256) = left_of (nat_lt x 256) (list_all (λ (b : ℕ). nat_lt b 256) xs) all in grind (arith, nat_tests)
 small (x ∷ xs) (suc i) all = small xs i (right_of (nat_lt x 256) (list_all (λ (b : ℕ). nat_lt b 256) xs) all)
 
-tested : (l : Sector) → length l ≡ 512 → list_all (λ (b : ℕ). nat_lt b 256) l ≡ true → IsSector l
+pub tested : (l : Sector) → length l ≡ 512 → list_all (λ (b : ℕ). nat_lt b 256) l ≡ true → IsSector l
 tested l long all = record { long = long; bytes = λ i. small l i all }
 
 group_sector : (mode : Mode) (dirty lost : Bool) (note : Sector) → IsSector (frame kind.Descriptor (framed_group (even_pair mode dirty lost note)).stamp (framed_group (even_pair mode dirty lost note)).content 0)

@@ -3,7 +3,6 @@ use Rattle.std.proofs.Common.{◌≡◌, ℕ, zero, suc, ◌<◌, ◌≤◌, ◌
 use Rattle.std.specs.Prelude.{is_some, slice_index_or, option_and_then, if◌then◌else◌}
 use Rattle.std.specs.List.{list_any}
 use Rattle.std.proofs.lemmas.Option.{same_Some}
-use Rattle.std.proofs.lemmas.List.Elements.{All-nil}
 use Rattle.lvm_num.specs.declared.place.Pp.{Pp}
 use Rattle.lvm_num.specs.declared.descriptor.Mode.{Mode}
 use Rattle.lvm_num.specs.declared.descriptor.Mode.TheVariants.{Active, Passive, Off}
@@ -12,14 +11,12 @@ use Rattle.lvm_num.specs.Bits.{has_bit}
 use Rattle.lvm_num.specs.Disks.{has}
 use Rattle.lvm_num.specs.Votes.{votes_by}
 use Rattle.lvm_num.specs.Descriptor.{is_member}
-use Rattle.lvm_num.specs.Note.{IsEntry}
 use Rattle.lvm_num.specs.Geometry.{sectors_needed}
 use Rattle.lvm_num.specs.Status.{calls_missing}
 use Rattle.lvm_num.proofs.DisksLemmas.{has-zero}
 use Rattle.lvm_num.proofs.Booleans.{not_either}
 use Rattle.lvm_kept.specs.Examples.{member, two}
 use Rattle.lvm_mwc.specs.declared.notes.DiskNotes.{DiskNotes}
-use Rattle.lvm_mwc.specs.Entries.{AreEntries}
 use Rattle.lvm_mwc.specs.Cache.{has_disk, flight_on, no_notes}
 use Rattle.lvm_status.specs.Update.{seen}
 use Rattle.lvm_status.specs.Runs.{IsSoundStatus}
@@ -32,6 +29,7 @@ use Rattle.lvm_session.specs.Left.{updates_left}
 use Rattle.lvm_session.specs.Placed.{IsPlaced, ArePlaced}
 use Rattle.lvm_session.specs.Sound.{IsFitting, IsSound}
 use Rattle.lvm_session.proofs.WorkedLemmas.Parts.{idle_is_sound, none_written, zeros_at}
+use Rattle.lvm_session.proofs.WorkedLemmas.Whole.{no_entries}
 use Rattle.lvm_keeps.specs.Begins.{IsUnused, IsCalm, Begins}
 use Rattle.lvm_keeps.proofs.BeginsLemmas.{beginning_is_sound}
 use Rattle.lvm_rest.proofs.ExamplesLemmas.Examples.{valid}
@@ -45,9 +43,6 @@ of_two : (k : ℕ) (row : PvRow) → k < 2 → slice_index_or (member 0 ∷ memb
 of_two zero row low is = subst (IsPlaced sizes 1) is (record { there = omega arith; within = λ size e. room size e })
 of_two (suc zero) row low is = subst (IsPlaced sizes 1) is (record { there = omega arith; within = λ size e. room size e })
 of_two (suc (suc k)) row low is = absurd (omega (arith, low))
-
-no_entries : AreEntries []
-no_entries = record { most = omega arith; differ = tt; counting = All-nil IsEntry }
 
 module _ (mode : Mode) (stale : Bool) where
   abbrev core : Core

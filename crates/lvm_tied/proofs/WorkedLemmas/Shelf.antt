@@ -1,9 +1,7 @@
 -- The shelf of a session that has just begun.
-use Rattle.std.proofs.Common.{◌≡◌, inr, ℕ, zero, suc, ◌+◌, ◌<◌, Bool, true, false, ◌&&◌, ◌||◌, ◌==◌, List, [], ◌∷◌, length, take, Some, refl, sym, ap, subst, ◌∙◌, arith, eqb-true}
-use Rattle.std.specs.Prelude.{IsTrue, nat_lt, slice_index, if◌then◌else◌}
-use Rattle.std.specs.List.{list_all}
+use Rattle.std.proofs.Common.{◌≡◌, inr, ℕ, zero, suc, ◌+◌, ◌<◌, Bool, true, false, ◌&&◌, ◌||◌, ◌==◌, take, Some, refl, sym, ap, subst, ◌∙◌, arith, eqb-true}
+use Rattle.std.specs.Prelude.{IsTrue, if◌then◌else◌}
 use Rattle.std.proofs.lemmas.Bool.{ne_eqb}
-use Rattle.std.proofs.lemmas.Bool.Decides.{nat_tests}
 use Rattle.lvm_num.specs.declared.descriptor.Mode.{Mode}
 use Rattle.lvm_num.specs.declared.descriptor.Mode.TheVariants.{Active, Passive, Off}
 use Rattle.lvm_num.specs.declared.record.Kind.{Kind}
@@ -27,23 +25,14 @@ use Rattle.lvm_rec.specs.Homes.{next_slot}
 use Rattle.lvm_crash.specs.Session.{members_showing}
 use Rattle.lvm_crash.specs.Worked.{Shown, framed_group, framed_status, media_of, status_shown}
 use Rattle.lvm_crash.proofs.WorkedLemmas.Worked.{base}
-use Rattle.lvm_crash.proofs.GroupLemmas.Lists.{left_of, right_of}
+use Rattle.lvm_crash.proofs.GroupLemmas.Lists.{left_of}
 use Rattle.lvm_crash.proofs.WorkedLemmas.Shelf.{image, no-magic, second_zero, status_held, status_none, statuses_on, the_status, descriptors}
 use Rattle.lvm_tie.specs.Out.{MayUpdate}
 use Rattle.lvm_tie.specs.Tied.{ShowsRecords}
 use Rattle.lvm_tied.specs.Worked.{shown, core_of}
+use Rattle.lvm_tied.proofs.PairsLemmas.Pairs.{tested}
 
 -- ---- sectors
-
--- a list of bytes by a test
-small : (l : List ℕ) (i : ℕ) → list_all (λ (b : ℕ). nat_lt b 256) l ≡ true → slice_index l i < 256
-small [] zero all = omega arith
-small [] (suc i) all = omega arith
-small (x ∷ xs) zero all = let low : IsTrue (nat_lt x 256) = left_of (nat_lt x 256) (list_all (λ (b : ℕ). nat_lt b 256) xs) all in grind (arith, nat_tests)
-small (x ∷ xs) (suc i) all = small xs i (right_of (nat_lt x 256) (list_all (λ (b : ℕ). nat_lt b 256) xs) all)
-
-tested : (l : Sector) → length l ≡ 512 → list_all (λ (b : ℕ). nat_lt b 256) l ≡ true → IsSector l
-tested l long all = record { long = long; bytes = λ i. small l i all }
 
 group_sector : (mode : Mode) → IsSector (frame kind.Descriptor (framed_group mode).stamp (framed_group mode).content 0)
 group_sector Active = tested _ refl refl

@@ -1,5 +1,6 @@
 -- A session that has just begun is tied.
-use Rattle.std.proofs.Common.{◌≡◌, Option, Some, None, refl}
+use Rattle.std.proofs.Common.{None, refl}
+use Rattle.lvm_tie_begins.proofs.BeginsLemmas.Resting.{some_is_none}
 use Rattle.lvm_kept.specs.Examples.{two}
 use Rattle.lvm_crash.specs.Worked.{media_of}
 use Rattle.lvm_crash.proofs.WorkedLemmas.Worked.{groups_have_votes}
@@ -7,10 +8,6 @@ use Rattle.lvm_tied.specs.Worked.{shown, BeginningsAreTied}
 use Rattle.lvm_tied.proofs.WorkedLemmas.Parts.{no_note_flies, is_sound}
 use Rattle.lvm_tied.proofs.WorkedLemmas.Seen.{seen_as, is_good, it_describes, sees}
 use Rattle.lvm_tied.proofs.WorkedLemmas.Shelf.{may_update, members, records}
-
-none_flies : {A X : Type 0} (o : Option A) (x : A) → o ≡ None → o ≡ Some x → X
-none_flies None x none some = absurd cc
-none_flies (Some y) x none some = absurd cc
 
 pub beginnings_are_tied : BeginningsAreTied
 beginnings_are_tied mode stale = let votes = groups_have_votes (two mode) in record {
@@ -33,7 +30,7 @@ beginnings_are_tied mode stale = let votes = groups_have_votes (two mode) in rec
     members = λ d is there. members mode stale d is;
     records = records mode stale;
   };
-  notes = λ d items flies. none_flies _ items (no_note_flies mode stale d) flies;
+  notes = λ d items flies. some_is_none _ items (no_note_flies mode stale d) flies;
   copy_aimed = λ c is row. absurd cc;
   carry = tt;
 }

@@ -38,6 +38,7 @@ use Rattle.lvm_top.specs.Standing.{MayHaveCommitted, StoodBefore, StandsSince, i
 use Rattle.lvm_top.proofs.StandingLemmas.Acknowledged.{only_committed, leaves_on, stands_of}
 use Rattle.lvm_top.proofs.LawsLemmas.Lines.{line_finds_no_more}
 use Rattle.lvm_top.proofs.LeavesLemmas.Varying.{was_found}
+use Rattle.lvm_top.proofs.StandingLemmas.Volumes.{some_of}
 
 -- ---- the lines
 
@@ -106,10 +107,6 @@ pub script_finds : ScriptFindsWhatStands
 script_finds log room past first lines replies last script begin alone = stands log room past first begin script alone
 
 -- ---- a varyon after them
-
-pub some_of : {X : Type 0} (o : Option X) → IsSome o → (x : X) × (o ≡ Some x)
-some_of (Some x) some = (x, refl)
-some_of None some = absurd (cc (some))
 
 -- what was told is told once the transfers of before have ended
 still_told : (o n : Option Media) → BothTold o n (λ was is. Unit {0}) → IsSome o → IsSome n

@@ -18,16 +18,13 @@ use Rattle.lvm_num.specs.Note.{note_in}
 use Rattle.lvm_rec.specs.Slots.{newest_on}
 use Rattle.lvm_kept.specs.Contents.{contents_of, has_records, note_sector, descriptor_on, status_on, note_on}
 use Rattle.lvm_write.specs.Written.{HasRoom}
+use Rattle.lvm_write.proofs.WrittenLemmas.Writing.{if_told}
 use Rattle.lvm_survey.specs.declared.row.SurveyRow.{SurveyRow}
 use Rattle.lvm_survey.specs.declared.row.Survey.{Survey}
 use Rattle.lvm_survey.specs.Surveyed.{surveyed, IsEmpty, IsRead}
 use Rattle.lvm_survey.specs.passed.Names.{under}
 use Rattle.lvm_varyon.specs.Found.{HaveAnswered, records_on, Found}
 use Rattle.lvm_varyon.specs.Parts.{IsSurveyOf}
-
-pub if_told : {X : Type 0} (o : Option X) (P : X → Type 0) → ((x : X) → o ≡ Some x → P x) → IfSome o P
-if_told None P all = tt
-if_told (Some x) P all = all x refl
 
 -- whether a row is that of a disk that answered
 answers : Option SurveyRow → Bool
@@ -55,7 +52,7 @@ enough n e = grind (arith, nat_tests)
 few : (n : ℕ) → nat_le data_start n ≡ false → n < data_start
 few n e = grind (arith, nat_tests)
 
-enough_is : (n : ℕ) → data_start ≤ n → nat_le data_start n ≡ true
+pub enough_is : (n : ℕ) → data_start ≤ n → nat_le data_start n ≡ true
 enough_is n le = grind (arith, nat_tests)
 
 none_at : {X : Type 0} (xs : List X) (d : ℕ) → d < length xs → slice_get xs d ≡ None → ⊥

@@ -1,6 +1,7 @@
 -- A varyon as a part of a run.
 use Rattle.std.proofs.Common.{◌≡◌, ◌≢◌, ℕ, ◌≤◌, Bool, true, false, ◌&&◌, not, IsTrue, arith, List, refl, sym, ap, subst, ◌∙◌}
 use Rattle.std.specs.Prelude.{if◌then◌else◌}
+use Rattle.lvm_write.proofs.WrittenLemmas.Writing.{if_told}
 use Rattle.lvm_num.specs.declared.descriptor.Descriptor.{Descriptor}
 use Rattle.lvm_num.specs.Disks.{Disks}
 use Rattle.lvm_num.specs.Descriptor.{is_member}
@@ -26,7 +27,6 @@ use Rattle.lvm_varyon_plan.proofs.passed.Names.{starts_settled, starts_numbered}
 use Rattle.lvm_varyon.specs.Varied.{IsRecovered, ComesOn, IsRestated, IsAheadOfDisks, IsBrought, last_stamp, log_after}
 use Rattle.lvm_varyon_plan.specs.Chosen.{answering}
 use Rattle.lvm_varyon.proofs.SettlingLemmas.{next_leaves_none}
-use Rattle.lvm_varyon.proofs.FoundLemmas.Seeing.{if_told}
 use Rattle.lvm_varyon.proofs.FoundLemmas.Holding.{holds, notes_home, recovers, restated, shows_recovered, was_told}
 
 -- ---- the span

@@ -18,9 +18,10 @@ use Rattle.lvm_num.specs.DescriptorBytes.{partition_bytes, unfinished, is_at, pa
 use Rattle.lvm_num.specs.Reading.{◌>>=◌, Rest, number_at}
 use Rattle.lvm_num.proofs.Pairs.{All-left, All-right, AllPairs-left}
 use Rattle.lvm_descriptor.proofs.passed.Names.{IsBytes, bind_ok, ok_is, both, from_both, Takes, Takes-then, wide16, number_takes, number_again}
-use Rattle.lvm_vgda.proofs.DescriptorBytesLemmas.MemberLaws.{none_of, then_is, AllPairs-snoc, AllPairs-last, not_true}
+use Rattle.lvm_vgda.proofs.DescriptorBytesLemmas.MemberLaws.{none_of, AllPairs-snoc, AllPairs-last, not_true}
 use Rattle.lvm_vgda.proofs.DescriptorLemmas.VolumeLaws.{bare}
 use Rattle.lvm_vgda.proofs.UsedLemmas.{its_member}
+use Rattle.lvm_vgda.proofs.DescriptorBytesLemmas.MapLoops.{no_map, passes_on}
 
 -- ---- one partition
 
@@ -66,7 +67,7 @@ partition_again members used copies own place pp rest each free =
     let number = number_again w16 _ wide16 (λ n. list_any (λ (row : PvRow). row.disk == pp.disk && nat_lt n row.pps) members && not (list_any (λ (p : Pp). is_at p pp.disk n) (used ++ own))) (place + 2) pp.pp rest
     (omega (arith, small.1)) (from_both (list_any (λ (row : PvRow). row.disk == pp.disk && nat_lt pp.pp row.pps) members) (not (list_any (λ (p : Pp). is_at p pp.disk pp.pp) (used ++ own))) free.has (not_from_false _ free.new)) in
     let same : place + 2 + 2 ≡ place + 4 = omega arith in
-    then_is _ _ _ disk ∙ then_is _ _ _ number ∙ ap (λ n. Ok (pp, (n, rest))) same
+    passes_on _ _ _ disk ∙ passes_on _ _ _ number ∙ ap (λ n. Ok (pp, (n, rest))) same
 
 -- ---- the partitions of one volume
 
@@ -207,7 +208,7 @@ partitions_again members used copies (pp ∷ more) own place rest each some fit 
     let others = partitions_again members used copies more (own ++ pp ∷ []) (place + 4) rest each some (subst (Fit members used copies) (sym parts) fit) in
     let end : place + 4 + 4 * length more ≡ place + 4 * suc (length more) = omega arith in
     ap (λ (bytes : List ℕ). partitions_at members used copies (suc (length more)) own (place, bytes)) regrouped
-    ∙ then_is _ (λ (first : Pp × Rest). partitions_at members used copies (length more) (own ++ first.0 ∷ []) first.1) _ (partition_again members used copies own place pp (flat_map partition_bytes more ++ rest) each free)
+    ∙ passes_on _ (λ (first : Pp × Rest). partitions_at members used copies (length more) (own ++ first.0 ∷ []) first.1) _ (partition_again members used copies own place pp (flat_map partition_bytes more ++ rest) each free)
     ∙ others
     ∙ ap (λ (l : List Pp). Ok (l, (place + 4 + 4 * length more, rest))) parts
     ∙ ap (λ n. Ok (own ++ pp ∷ more, (n, rest))) end
@@ -266,10 +267,6 @@ one_map : (members : List PvRow) (used : List Pp) (row : LvRow) (rows : List LvR
     ≡ (partitions_at members used row.copies (row.lps * row.copies) [] rest >>= λ own. maps_at members (used ++ own.0) rows own.1 >>= λ others. Ok (record row { map = own.0 } ∷ others.0, others.1))
 unfolding maps_at
 one_map members used row rows rest = refl
-
-no_map : (members : List PvRow) (used : List Pp) (rest : Rest) → maps_at members used [] rest ≡ Ok ([], rest)
-unfolding maps_at
-no_map members used rest = refl
 
 pub record MapsTaken (members : List PvRow) (used : List Pp) (rows : List LvRow) (r : Rest) (x : List LvRow × Rest) : Type 0 where
   pub same : map bare x.0 ≡ map bare rows
@@ -339,6 +336,6 @@ maps_again members used (row ∷ lvs) place rest each some laid places once =
     ap (λ (bytes : List ℕ). maps_at members used (bare row ∷ map bare lvs) (place, bytes)) regrouped
     ∙ one_map members used (bare row) (map bare lvs) (place, map_bytes row ++ (flat_map map_bytes lvs ++ rest))
     ∙ ap (λ n. partitions_at members used row.copies n [] (place, map_bytes row ++ (flat_map map_bytes lvs ++ rest)) >>= λ got. maps_at members (used ++ got.0) (map bare lvs) got.1 >>= λ more. Ok (record row { map = got.0 } ∷ more.0, more.1)) (sym here.whole)
-    ∙ then_is _ (λ (got : List Pp × Rest). maps_at members (used ++ got.0) (map bare lvs) got.1 >>= λ more. Ok (record row { map = got.0 } ∷ more.0, more.1)) _ own
-    ∙ then_is _ (λ (more : List LvRow × Rest). Ok (record row { map = row.map } ∷ more.0, more.1)) _ others
+    ∙ passes_on _ (λ (got : List Pp × Rest). maps_at members (used ++ got.0) (map bare lvs) got.1 >>= λ more. Ok (record row { map = got.0 } ∷ more.0, more.1)) _ own
+    ∙ passes_on _ (λ (more : List LvRow × Rest). Ok (record row { map = row.map } ∷ more.0, more.1)) _ others
     ∙ ap (λ n. Ok (row ∷ lvs, (n, rest))) end

@@ -58,7 +58,7 @@ one_map : (members : List PvRow) (used : List Pp) (row : LvRow) (rows : List LvR
 unfolding maps_at
 one_map members used row rows rest = refl
 
-no_map : (members : List PvRow) (used : List Pp) (rest : Rest) → maps_at members used [] rest ≡ Ok ([], rest)
+pub no_map : (members : List PvRow) (used : List Pp) (rest : Rest) → maps_at members used [] rest ≡ Ok ([], rest)
 unfolding maps_at
 no_map members used rest = refl
 

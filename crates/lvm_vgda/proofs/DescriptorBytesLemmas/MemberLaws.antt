@@ -47,10 +47,6 @@ pub all_from : {X : Type 0} (p : X → Bool) (xs : List X) → ((k : ℕ) (d : X
 all_from p [] each = refl
 all_from p (x ∷ xs) each = from_both (p x) (list_all p xs) (each 0 x (omega arith)) (all_from p xs (λ k d lt. each (suc k) d (omega (arith, lt))))
 
--- a step that is known, and what follows
-pub then_is : {A B : Type 0} (r : Result A ℕ) (f : A → Result B ℕ) (x : A) → r ≡ Ok x → (r >>= f) ≡ f x
-then_is {A} {B} r f x e = ap (λ (read : Result A ℕ). read >>= f) e
-
 -- ---- flags
 
 pub flag_is : (n : ℕ) → is_flag n ≡ true → n ≡ flag (n == 1)

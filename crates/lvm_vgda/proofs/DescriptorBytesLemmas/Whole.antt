@@ -19,9 +19,10 @@ use Rattle.lvm_num.proofs.DescriptorLemmas.Bounds.{few_volumes}
 use Rattle.lvm_descriptor.specs.passed.Names.{Fault, Gives}
 use Rattle.lvm_descriptor.proofs.passed.Names.{IsBytes, bind_ok, ok_is, both, from_both, Takes, bytes_takes, bytes_again, wide16, wide64, number_takes, number_again, number_value, byte_takes, byte_again, zeros_take, zeros_again}
 use Rattle.lvm_vgda.proofs.DescriptorBytesLemmas.NameLaws.{bytes_same, name_takes, name_again}
-use Rattle.lvm_vgda.proofs.DescriptorBytesLemmas.MemberLaws.{all_at, then_is, not_true, at_least_1, flag_is, flag_again, is_flag_flag, MembersTaken, members_take, members_again}
+use Rattle.lvm_vgda.proofs.DescriptorBytesLemmas.MemberLaws.{all_at, not_true, at_least_1, flag_is, flag_again, is_flag_flag, MembersTaken, members_take, members_again}
 use Rattle.lvm_vgda.proofs.DescriptorLemmas.VolumeLaws.{bare, VolumesTaken, volumes_take, volumes_again, bare_length, bare_bytes, bare_volumes, whole_volumes, bare_is}
 use Rattle.lvm_vgda.proofs.DescriptorBytesLemmas.MapLaws.{Has, HasCopies, map_bytes, MapsTaken, maps_take, maps_again}
+use Rattle.lvm_vgda.proofs.DescriptorBytesLemmas.MapLoops.{passes_on}
 
 -- ---- the version
 
@@ -50,7 +51,7 @@ version_takes r x fits e =
 version_again : (big : Bool) (place : ℕ) (rest : List ℕ) → version_at (place, descriptor_magic big ++ rest) ≡ Ok (big, (place + 4, rest))
 unfolding version_at
 version_again big place rest =
-    then_is _ _ _ (bytes_again 4 (λ bytes. bytes_eq bytes (descriptor_magic false) || bytes_eq bytes (descriptor_magic true)) place (descriptor_magic big) rest refl (passes big))
+    passes_on _ _ _ (bytes_again 4 (λ bytes. bytes_eq bytes (descriptor_magic false) || bytes_eq bytes (descriptor_magic true)) place (descriptor_magic big) rest refl (passes big))
     ∙ ap (λ b. Ok (b, (place + 4, rest))) (same big)
   where
     passes : (b : Bool) → bytes_eq (descriptor_magic b) (descriptor_magic false) || bytes_eq (descriptor_magic b) (descriptor_magic true) ≡ true
@@ -104,7 +105,7 @@ count_again big even place n rest two some most =
     let small : n < 2 ^ 16 = omega (arith, most, few big) in
     let any = number_again w16 _ wide16 (λ n. true) place n rest small refl in
     let own = number_again w16 _ wide16 (λ n. nat_le 1 n && nat_le n (most_members big)) place n rest small (from_both (nat_le 1 n) (nat_le n (most_members big)) (le-leb 1 n some) (le-leb n (most_members big) most)) in
-    then_is _ (λ (count : ℕ × Rest). cond (even && not (count.0 == 2)) (Err (place - 1)) (number_at w16 (λ n. nat_le 1 n && nat_le n (most_members big)) (place, to_be_bytes w16 n ++ rest))) _ any
+    passes_on _ (λ (count : ℕ × Rest). cond (even && not (count.0 == 2)) (Err (place - 1)) (number_at w16 (λ n. nat_le 1 n && nat_le n (most_members big)) (place, to_be_bytes w16 n ++ rest))) _ any
     ∙ skip (even && not (n == 2)) (place - 1) _ (not_other even two)
     ∙ own
   where
@@ -378,18 +379,18 @@ spelled_is_read d valid =
     let n = maps_again d.pvs [] d.lvs (48 + 8 * length d.pvs + 32 * length d.lvs) [] valid.members.each (copies_of_volumes d.big d.lvs valid.volumes) valid.maps.laid_out
     (All-weaker (IsPartitionOf d) (Has d.pvs) (of_is_has d) (partitions_used d) valid.maps.places) valid.maps.used_once in
     ap descriptor_of regrouped
-    ∙ then_is _ _ _ a
-    ∙ then_is _ _ _ b
-    ∙ then_is _ _ _ c
-    ∙ then_is _ _ _ f
-    ∙ then_is _ _ _ g
-    ∙ then_is _ _ _ h
-    ∙ then_is _ _ _ i
-    ∙ then_is _ _ _ j
-    ∙ then_is _ _ _ k
-    ∙ then_is _ _ _ l
-    ∙ then_is _ _ _ m
-    ∙ then_is _ _ _ n
+    ∙ passes_on _ _ _ a
+    ∙ passes_on _ _ _ b
+    ∙ passes_on _ _ _ c
+    ∙ passes_on _ _ _ f
+    ∙ passes_on _ _ _ g
+    ∙ passes_on _ _ _ h
+    ∙ passes_on _ _ _ i
+    ∙ passes_on _ _ _ j
+    ∙ passes_on _ _ _ k
+    ∙ passes_on _ _ _ l
+    ∙ passes_on _ _ _ m
+    ∙ passes_on _ _ _ n
     ∙ ap (λ x. Ok (record { id = d.id; name = d.name; mib = d.mib; quorum = x; even = flag d.even == 1; big = d.big; pvs = d.pvs; lvs = d.lvs })) (flag_again d.quorum)
     ∙ ap (λ x. Ok (record { id = d.id; name = d.name; mib = d.mib; quorum = d.quorum; even = x; big = d.big; pvs = d.pvs; lvs = d.lvs })) (flag_again d.even)
   where

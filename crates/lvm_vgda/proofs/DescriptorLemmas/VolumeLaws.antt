@@ -19,7 +19,8 @@ use Rattle.lvm_num.specs.Reading.{◌>>=◌, Rest, number_at, zeros_at}
 use Rattle.lvm_num.proofs.Pairs.{All-left, All-right, AllPairs-left}
 use Rattle.lvm_descriptor.proofs.passed.Names.{IsBytes, bind_ok, ok_is, both, from_both, Takes, Takes-then, wide16, wide32, number_takes, number_again, byte_takes, byte_again, zeros_take, zeros_again}
 use Rattle.lvm_vgda.proofs.DescriptorBytesLemmas.NameLaws.{bytes_same, same_bytes, name_takes, name_again}
-use Rattle.lvm_vgda.proofs.DescriptorBytesLemmas.MemberLaws.{none_of, all_at, all_from, then_is, AllPairs-snoc, AllPairs-last, not_true, at_least_1}
+use Rattle.lvm_vgda.proofs.DescriptorBytesLemmas.MemberLaws.{none_of, all_at, all_from, AllPairs-snoc, AllPairs-last, not_true, at_least_1}
+use Rattle.lvm_vgda.proofs.DescriptorBytesLemmas.MapLoops.{passes_on}
 
 -- ---- codes
 
@@ -147,14 +148,14 @@ volume_again big earlier place row rest is next =
     let i = zeros_again 4 (place + 2 + 1 + 1 + 1 + 3 + 4 + 16) rest in
     let same : place + 2 + 1 + 1 + 1 + 3 + 4 + 16 + 4 ≡ place + 32 = omega arith in
     ap (λ (bytes : List ℕ). volume_at big earlier (place, bytes)) regrouped
-    ∙ then_is _ _ _ a
-    ∙ then_is _ _ _ b
-    ∙ then_is _ _ _ c
-    ∙ then_is _ _ _ d
-    ∙ then_is _ _ _ f
-    ∙ then_is _ _ _ g
-    ∙ then_is _ _ _ h
-    ∙ then_is _ _ _ i
+    ∙ passes_on _ _ _ a
+    ∙ passes_on _ _ _ b
+    ∙ passes_on _ _ _ c
+    ∙ passes_on _ _ _ d
+    ∙ passes_on _ _ _ f
+    ∙ passes_on _ _ _ g
+    ∙ passes_on _ _ _ h
+    ∙ passes_on _ _ _ i
     ∙ ap (λ (m : Mode). Ok (record { number = row.number; name = row.name; copies = row.copies; mode = m; policy = policy_named (policy_code row.policy); lps = row.lps; map = [] }, (place + 2 + 1 + 1 + 1 + 3 + 4 + 16 + 4, rest))) (mode_again row.mode)
     ∙ ap (λ (p : Policy). Ok (record { number = row.number; name = row.name; copies = row.copies; mode = row.mode; policy = p; lps = row.lps; map = [] }, (place + 2 + 1 + 1 + 1 + 3 + 4 + 16 + 4, rest))) (policy_again row.policy)
     ∙ ap (λ n. Ok (bare row, (n, rest))) same
