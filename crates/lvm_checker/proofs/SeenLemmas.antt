@@ -8,7 +8,7 @@ use Rattle.std.proofs.lemmas.List.Folds.{list_any-append}
 use Rattle.std.proofs.lemmas.Slice.Eq.{bytes_eq-Decides}
 use Rattle.std.proofs.lemmas.Bool.{eqb-true, or_parts}
 use Rattle.lvm_vol.specs.passed.Names.{Sector, zero_sector}
-use Rattle.lvm_vol.proofs.passed.Names.{and_true, and_false, or_false, same_itself, same_turned}
+use Rattle.lvm_vol.proofs.passed.Names.{and_true, and_false, or_false, same_itself, same_turned, any_map}
 use Rattle.lvm_vol.specs.declared.entry.Vol.{Vol}
 use Rattle.lvm_vol.specs.declared.entry.Vol.TheVariants.{Lv}
 use Rattle.lvm_vol.specs.declared.entry.Outcome.{Outcome}
@@ -51,10 +51,6 @@ any_filter p t (x ∷ xs) = by_test (t x) ∙ ap (λ (b : Bool). (p x && t x) ||
 any_none : {X : Type 0} (p : X → Bool) (xs : List X) → ((x : X) → p x ≡ false) → list_any p xs ≡ false
 any_none p [] none = refl
 any_none p (x ∷ xs) none = ap (λ (t : Bool). t || list_any p xs) (none x) ∙ any_none p xs none
-
-any_map : {X Y : Type 0} (p : Y → Bool) (f : X → Y) (xs : List X) → list_any p (map f xs) ≡ list_any (λ x. p (f x)) xs
-any_map p f [] = refl
-any_map p f (x ∷ xs) = ap (λ (t : Bool). p (f x) || t) (any_map p f xs)
 
 or_comm : (a b : Bool) → (a || b) ≡ (b || a)
 or_comm true true = refl

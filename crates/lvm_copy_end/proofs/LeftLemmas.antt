@@ -1,5 +1,5 @@
 -- Copies that missing disks leave behind are marked one after the other.
-use Rattle.std.proofs.Common.{◌≡◌, ◌<◌, ◌+◌, ℕ, zero, suc, Bool, true, false, not, List, [], ◌∷◌, ◌++◌, length, get_or, take, refl, sym, ◌∙◌, ap, arith}
+use Rattle.std.proofs.Common.{◌≡◌, ◌<◌, ◌+◌, ℕ, suc, Bool, true, false, not, List, [], ◌∷◌, ◌++◌, length, get_or, take, refl, sym, ◌∙◌, ap, arith}
 use Rattle.std.specs.Prelude.{◌&&◌, ◌||◌}
 use Rattle.std.specs.List.{list_any, range_with_len}
 use Rattle.std.proofs.lemmas.Grind.{common_steps}
@@ -9,6 +9,7 @@ use Rattle.lvm_num.specs.declared.descriptor.LvRow.{LvRow}
 use Rattle.lvm_num.specs.declared.status.Status.{Status}
 use Rattle.lvm_num.specs.Descriptor.{copies_of, is_pp}
 use Rattle.lvm_num.specs.Status.{calls_missing, calls_stale}
+use Rattle.lvm_num.proofs.Lists.{range_next}
 use Rattle.lvm_status.specs.Update.{Stored, Updates}
 use Rattle.lvm_session.specs.Marks.{WantsStale, is_among}
 use Rattle.lvm_marks.proofs.MarksLemmas.{already, same_due, then_marked}
@@ -138,11 +139,6 @@ none_left copies old none = already (is_left_among old copies) old (λ p is. abs
     no_test true true false s none is = cc is
     no_test true false m s none is = cc is
     no_test false b m s none is = cc is
-
--- the next logical partition
-range_next : (a n : ℕ) → range_with_len a (suc n) ≡ range_with_len a n ++ (a + n) ∷ []
-range_next a zero = let e : a + 0 ≡ a = omega arith in ap (λ (x : ℕ). x ∷ []) (sym e)
-range_next a (suc n) = let e : (a + 1) + n ≡ a + suc n = omega arith in ap (λ (l : List ℕ). a ∷ l) (range_next (a + 1) n ∙ ap (λ (x : ℕ). range_with_len (a + 1) n ++ x ∷ []) e)
 
 below_next : (s : Stored) (row : LvRow) (n : ℕ) (p : Pp) → (is_left_below s row n p || is_left_among s (copies_of row n) p) ≡ is_left_below s row (n + 1) p
 below_next s row n p =

@@ -5,6 +5,7 @@ use Rattle.std.specs.List.{list_any}
 use Rattle.std.proofs.lemmas.Bool.{ne_eqb, and_right}
 use Rattle.std.proofs.lemmas.List.Folds.{list_any-append}
 use Rattle.lvm_disk.specs.Device.{Flight, image_of}
+use Rattle.lvm_disk.proofs.passed.Names.{all_at}
 use Rattle.lvm_kept.specs.Contents.{contents_of}
 use Rattle.lvm_vol.specs.Facts.{Request, Fact, Begun, Taken, Cut, Stands, joined, same_request}
 use Rattle.lvm_vol.specs.Legal.{Fits, Legal, TakenOnce, lands, takes}
@@ -21,7 +22,6 @@ use Rattle.lvm_invariant.specs.Events.{TakeEarlier}
 use Rattle.lvm_invariant.specs.State.{Queued, ModelState}
 use Rattle.lvm_invariant.specs.TakeEarlier.{TakesEarlier}
 use Rattle.lvm_invariant.proofs.EventsLemmas.Each.{each_keeps}
-use Rattle.lvm_keeps.proofs.Lists.{all_at}
 use Rattle.lvm_ranges.proofs.passed.Names.{quiet_lasts, sees_entered}
 use Rattle.lvm_ranges.specs.passed.Names.{CarriesStep, CarryTheirs, update_of, IsRequestAt, IsStepAt, Sees, IsTied}
 use Rattle.lvm_earlier.proofs.SoundLemmas.{apart_at, one_keeps}

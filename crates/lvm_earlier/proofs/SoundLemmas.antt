@@ -4,6 +4,7 @@ use Rattle.std.specs.Prelude.{count_by, unwrap_or}
 use Rattle.std.specs.List.{list_any, AllByRecursion}
 use Rattle.std.proofs.lemmas.Bool.{eq-eqb, ne_eqb}
 use Rattle.lvm_disk.specs.Device.{Flight}
+use Rattle.lvm_disk.proofs.passed.Names.{all_weaker, all_at}
 use Rattle.lvm_vol.specs.Facts.{Fact}
 use Rattle.lvm_vol.specs.Legal.{begins_in}
 use Rattle.lvm_vol.specs.Log.{is_answered, is_open, no_request, request_of, taken_fact, with_fact}
@@ -22,7 +23,6 @@ use Rattle.lvm_session.specs.Requests.{IsOpenOne}
 use Rattle.lvm_session.specs.Causes.{AreCaused, AreCounted, IsAnswered, IsCaused, IsCausedAmong, IsCounted, IsLandedFor}
 use Rattle.lvm_session.specs.Sound.{IsAsked, IsCopy, IsFitting, IsGoing, IsOn, IsSound, IsTold}
 use Rattle.lvm_keeps.proofs.SoundLemmas.Fitting.{still_fits}
-use Rattle.lvm_keeps.proofs.Lists.{all_at, all_on}
 use Rattle.lvm_keeps.proofs.OwnersLemmas.Rows.{all_fly, rows_on}
 use Rattle.lvm_keeps.proofs.RequestsLemmas.{moved, open_on, bring_on, landed_on, counted_on, origin_on, copy_on, if_on}
 use Rattle.lvm_keeps.proofs.SoundLemmas.Telling.{answered_still, asked_still, count_still, open_still, outcome_still, place_still}
@@ -87,7 +87,7 @@ module _ (s : State) (sound : IsSound s) (id : ℕ) (its : is_answered s.core.hi
     ordered = ordered-push core.history.run [] core.history.facts fact t.ordered follows.0;
     table = record {
       ascending = t.table.ascending;
-      still = all_on (λ (x : Open). is_waiting x ≡ true → is_open core.history.facts x.request.id ≡ true) (λ (x : Open). is_waiting x ≡ true → is_open now.core.history.facts x.request.id ≡ true)
+      still = all_weaker (λ (x : Open). is_waiting x ≡ true → is_open core.history.facts x.request.id ≡ true) (λ (x : Open). is_waiting x ≡ true → is_open now.core.history.facts x.request.id ≡ true)
           (λ x is waiting. open_still core.history.facts fact refl x.request.id refl ∙ is waiting) core.requests t.table.still;
     };
     each = λ n. open_still core.history.facts fact refl n refl ∙ t.each n;
@@ -124,7 +124,7 @@ module _ (s : State) (sound : IsSound s) (id : ℕ) (its : is_answered s.core.hi
       tickets = going.tickets;
       queue = going.queue;
       pinned = going.pinned;
-      requests = all_on (IsOpenOne core) (IsOpenOne now.core) one core.requests going.requests;
+      requests = all_weaker (IsOpenOne core) (IsOpenOne now.core) one core.requests going.requests;
       copy = if_on (IsCopy core) (IsCopy now.core) bring core.copy going.copy;
       hands = going.hands;
       behind = going.behind;
@@ -143,7 +143,7 @@ module _ (s : State) (sound : IsSound s) (id : ℕ) (its : is_answered s.core.hi
     keeps_on = let was = sound.on on in record {
       going = keeps_going;
       rows = rows_on core (with_fact core.history fact) core.requests core.queue core.pool core.flying core.cache.entries core.last data_on core.flying s.device.flights (all_fly core going.owned) was.rows;
-      caused = all_on (AreCaused s.device core) (AreCaused s.device now.core) (λ x all waiting. all_on (IsCaused s.device core) (IsCaused s.device now.core) (λ t why. why) x.request.targets.items (all waiting)) core.requests was.caused;
+      caused = all_weaker (AreCaused s.device core) (AreCaused s.device now.core) (λ x all waiting. all_weaker (IsCaused s.device core) (IsCaused s.device now.core) (λ t why. why) x.request.targets.items (all waiting)) core.requests was.caused;
       chosen = was.chosen;
     }
 
@@ -151,7 +151,7 @@ module _ (s : State) (sound : IsSound s) (id : ℕ) (its : is_answered s.core.hi
   answered_on x why = if_on (IsLandedFor s x) (IsLandedFor now x) (λ how. landed_on s (with_fact core.history fact) core.requests core.queue core.copy core.pool core.flying core.cache.entries core.last x how) x.landed why
 
   counted : (x : Open) → AreCounted s x → AreCounted now x
-  counted x all = all_on (IsCounted s) (IsCounted now) (counted_on s (with_fact core.history fact) core.requests core.queue core.copy core.pool core.flying core.cache.entries core.last) x.request.targets.items all
+  counted x all = all_weaker (IsCounted s) (IsCounted now) (counted_on s (with_fact core.history fact) core.requests core.queue core.copy core.pool core.flying core.cache.entries core.last) x.request.targets.items all
 
   pub one_keeps : IsSound now
   one_keeps = record {
@@ -166,8 +166,8 @@ module _ (s : State) (sound : IsSound s) (id : ℕ) (its : is_answered s.core.hi
     off = sound.off;
     over = λ e. let was = sound.over e in record { landed = was.landed; copy = was.copy; flights = was.flights; flying = was.flying };
     stuck = λ e. let was = sound.stuck e in record { requests = was.requests; copy = was.copy };
-    counted = all_on (AreCounted s) (AreCounted now) counted core.requests sound.counted;
-    answered = all_on (IsAnswered s) (IsAnswered now) answered_on core.requests sound.answered;
+    counted = all_weaker (AreCounted s) (AreCounted now) counted core.requests sound.counted;
+    answered = all_weaker (IsAnswered s) (IsAnswered now) answered_on core.requests sound.answered;
     copy = if_on (λ (c : OpenCopy). IsCausedAmong s (copies_in core.descriptor c.lv c.lp) c) (λ (c : OpenCopy). IsCausedAmong now (copies_in core.descriptor c.lv c.lp) c) (λ c. copy_on s (with_fact core.history fact) core.requests core.queue core.copy core.pool core.flying core.cache.entries core.last (copies_in core.descriptor c.lv c.lp) c) core.copy sound.copy;
     origin = origin_on s (with_fact core.history fact) core.requests core.queue core.copy core.pool core.flying core.cache.entries core.last sound.origin;
   }

@@ -10,6 +10,7 @@ use Rattle.std.proofs.lemmas.Option.{slice_get_within}
 use Rattle.lvm_num.specs.Buffer.{Buffer}
 use Rattle.lvm_num.specs.Descriptor.{IsPartitionOf}
 use Rattle.lvm_num.proofs.MarksLemmas.Maps.{find-Some}
+use Rattle.lvm_num.proofs.Lists.{any_within}
 use Rattle.lvm_sched.specs.declared.writes.TargetState.{TargetState}
 use Rattle.lvm_sched.specs.Writes.{is_flying}
 use Rattle.lvm_status.specs.Calls.{IsMarkable}
@@ -30,7 +31,7 @@ use Rattle.lvm_launch.proofs.passed.Names.{copies_in_are, at_place}
 use Rattle.lvm_copy_end.specs.Ending.{CanEnd, MayEndCopy}
 use Rattle.lvm_session.specs.Owners.{target_flies}
 use Rattle.lvm_session.specs.Requests.{IsOpenOne, IsTarget}
-use Rattle.lvm_reap.proofs.Listing.{any_within, finds, some_there}
+use Rattle.lvm_reap.proofs.Listing.{finds, some_there}
 use Rattle.lvm_copy_end.proofs.BringingLemmas.{markable}
 use Rattle.lvm_ends.specs.Ended.{HasEnded, HasId}
 use Rattle.lvm_ends.proofs.Ended.{among_all, by_copy, can_end, hand_back, hand_kept, left, right, was_out}

@@ -10,6 +10,7 @@ pub use Rattle.std.proofs.lemmas.Bool.{and_right as and_right_false}
 pub use Rattle.std.proofs.lemmas.Bool.{or_left}
 pub use Rattle.lvm_num.proofs.Booleans.{first_holds as left_of}
 pub use Rattle.lvm_num.proofs.Booleans.{second_holds as right_of}
+use Rattle.lvm_num.proofs.Lists.{some_map}
 
 -- the value is one of those known
 abbrev pub IsIn : Option (List (List ℕ)) → List ℕ → Type 0
@@ -36,13 +37,6 @@ in_more (Some xs) more value h = in_left xs more value h
 
 pub in_added : (may : Option (List (List ℕ))) (more xs : List (List ℕ)) (value : List ℕ) → may ≡ Some xs → Stands value more → IsIn (option_map (λ known. known ++ more) may) value
 in_added may more xs value e h = subst (λ (m : Option (List (List ℕ))). IsIn (option_map (λ known. known ++ more) m) value) (sym e) (in_right xs more value h)
-
-some_map : {X Y : Type 0} (f : X → Y) (o : Option X) (y : Y) → option_map f o ≡ Some y → (x : X) × (o ≡ Some x) × (f x ≡ y)
-some_map f None y e = absurd cc
-some_map f (Some x) y e = (x, refl, same (f x) y e)
-  where
-    same : {Y : Type 0} (a b : Y) → Some a ≡ Some b → a ≡ b
-    same a b k = cc
 
 -- what is found in a list is one of its own
 found_in : (test : Request → Bool) (value : Request → Sector) (ws : List Request) (w : Request) → find test ws ≡ Some w → Stands (value w) (map value ws)

@@ -44,6 +44,7 @@ use Rattle.lvm_session.specs.declared.answers.AskFault.TheVariants as fault
 use Rattle.lvm_session.specs.Calls.{ask_fault, fault_by, fault_in, fault_on, has_history, has_numbers, new_open, submitted}
 use Rattle.lvm_session.specs.Dark.{IsAscending}
 use Rattle.lvm_num.specs.Modes.{is_passive}
+use Rattle.lvm_num.proofs.Lists.{all_weaker, all_push, all_at}
 use Rattle.lvm_session.specs.Asking.{IsAsking}
 use Rattle.lvm_session.specs.Left.{copy_updates, marks_later, updates_left}
 use Rattle.lvm_session.specs.Owners.{AreOwned, IsDataOf, flies, target_flies}
@@ -55,7 +56,6 @@ use Rattle.lvm_calls.proofs.CallsLemmas.{IsTaken, history_room, taken}
 use Rattle.lvm_keeps.specs.Keeps.{SubmitKeeps}
 use Rattle.lvm_keeps.proofs.CausesLemmas.{answered_still, copies_still, counted_still, origin_still}
 use Rattle.lvm_keeps.proofs.SoundLemmas.Fitting.{still_fits}
-use Rattle.lvm_keeps.proofs.Lists.{all_at, all_on, all_push}
 use Rattle.lvm_keeps.proofs.OwnersLemmas.Rows.{all_fly, rows_on}
 use Rattle.lvm_keeps.proofs.RequestsLemmas.{bring_on, if_on, moved, open_on}
 use Rattle.lvm_keeps.proofs.SoundLemmas.Telling.{outcome_still}
@@ -415,7 +415,7 @@ module _ (s : State) (sound : IsSound s) (client : ℕ) (ask : Ask) (bytes : Opt
   blamed p = any-push (fails_on p) core.requests made ∙ ap (λ b. list_any (fails_on p) core.requests || b) (and_false (is_write ask)) ∙ or_false (list_any (fails_on p) core.requests)
 
   caused : (x : Open) → AreCaused s.device core x → AreCaused s.device now.core x
-  caused x all waiting = all_on (IsCaused s.device core) (IsCaused s.device now.core) target_caused x.request.targets.items (all waiting)
+  caused x all waiting = all_weaker (IsCaused s.device core) (IsCaused s.device now.core) target_caused x.request.targets.items (all waiting)
     where
       target_caused : (t : Target) → IsCaused s.device core t → IsCaused s.device now.core t
       target_caused t why e = why (sym (ap (λ b. is_failed t.state || (t.usable && (is_missing core t.pp.disk || is_wanted_stale core t.pp || is_held_stale core t.pp || b))) (blamed t.pp)) ∙ e)
@@ -424,7 +424,7 @@ module _ (s : State) (sound : IsSound s) (client : ℕ) (ask : Ask) (bytes : Opt
   keeps_on = let was = sound.on it.on in record {
     going = keeps_going;
     rows = rows_on core history requests queue core.pool core.flying core.cache.entries core.last data_on core.flying s.device.flights (all_fly core going.owned) was.rows;
-    caused = all_push (AreCaused s.device now.core) core.requests made (all_on (AreCaused s.device core) (AreCaused s.device now.core) caused core.requests was.caused) (λ waiting. tt);
+    caused = all_push (AreCaused s.device now.core) core.requests made (all_weaker (AreCaused s.device core) (AreCaused s.device now.core) caused core.requests was.caused) (λ waiting. tt);
     chosen = if_on (λ (c : OpenCopy). AllByRecursion (IsChosenSince core c) core.requests) (λ (c : OpenCopy). AllByRecursion (IsChosenSince now.core c) requests) (λ c all. all_push (IsChosenSince now.core c) core.requests made all (λ waiting older number p at. tt)) core.copy was.chosen;
   }
 
@@ -432,8 +432,8 @@ module _ (s : State) (sound : IsSound s) (client : ℕ) (ask : Ask) (bytes : Opt
 
   pub keeps : IsSound now
   keeps = sound_when_on s now refl refl sound it.on fitting told keeps_on (λ n. let same = hands n in let was = sound.none_lost (ap is_dark it.on) n in omega (arith, same, was))
-      (all_push (AreCounted now) core.requests made (all_on (AreCounted s) (AreCounted now) (counted_still s now refl) core.requests sound.counted) tt)
-      (all_push (IsAnswered now) core.requests made (all_on (IsAnswered s) (IsAnswered now) (answered_still s now refl) core.requests sound.answered) tt) (copies_still s now refl core.copy sound.copy) (origin_still s now refl refl sound.origin)
+      (all_push (AreCounted now) core.requests made (all_weaker (AreCounted s) (AreCounted now) (counted_still s now refl) core.requests sound.counted) tt)
+      (all_push (IsAnswered now) core.requests made (all_weaker (IsAnswered s) (IsAnswered now) (answered_still s now refl) core.requests sound.answered) tt) (copies_still s now refl core.copy sound.copy) (origin_still s now refl refl sound.origin)
 
 pub submit_keeps : SubmitKeeps
 submit_keeps s new client ask bytes answer sound awake asking gives = by (ask_fault s.core ask) refl gives

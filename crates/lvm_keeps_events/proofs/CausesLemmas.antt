@@ -16,6 +16,7 @@ use Rattle.lvm_hold.specs.Waiting.{Waiting}
 use Rattle.lvm_sched.specs.declared.writes.TargetState.TheVariants as stage
 use Rattle.lvm_num.specs.Descriptor.{is_pp}
 use Rattle.lvm_num.proofs.Booleans.{not_so}
+use Rattle.lvm_num.proofs.Lists.{all_weaker, all_at, length_set, set_beside, all_both}
 use Rattle.lvm_path.specs.Asks.{is_write, lv_of}
 use Rattle.lvm_path.specs.Targets.{are_over, end_state, is_done, is_failed, is_over as is_ended}
 use Rattle.lvm_path.specs.declared.ask.Ask.{Ask}
@@ -46,7 +47,7 @@ use Rattle.lvm_session.specs.Requests.{is_left_out, is_wanted_due, IsJudged, IsO
 use Rattle.lvm_session.specs.Sound.{count_if, has_number, is_clearing, is_dark, is_hand, IsAsked, IsCopy, IsFitting, IsGoing, IsOn, IsSound, IsTold, may_be_fresh, out_with, pins, stays_fresh, with_row}
 use Rattle.lvm_keeps.proofs.CausesLemmas.{answered_when_on}
 use Rattle.lvm_keeps.proofs.DarkLemmas.Ending.{back, back_long}
-use Rattle.lvm_keeps.proofs.Lists.{all_at, all_on, all_set, any_set, count_same, count_set, length_set, set_beside, set_here}
+use Rattle.lvm_keeps.proofs.Lists.{all_set, any_set, count_same, count_set, set_here}
 use Rattle.lvm_keeps.proofs.OwnersLemmas.Rows.{rows_by, status_still, step_still}
 use Rattle.lvm_keeps.proofs.Small.{and_on, both, is_false, left_on}
 use Rattle.lvm_keeps.proofs.RequestsLemmas.{bring_on, changed, if_on, no_cause, open_on, ready_on, shape_still}
@@ -61,7 +62,7 @@ use Rattle.lvm_keeps_events.proofs.JudgingLemmas.DuesMarks.{among_get, due_one, 
 use Rattle.lvm_keeps_events.proofs.JudgingLemmas.Entailing.{IsEntailed}
 use Rattle.lvm_keeps_events.proofs.SoundLemmas.Failing.{LeavesParts, one_on as one_beside, parted, rows_on as rows_beside}
 use Rattle.lvm_keeps_events.proofs.RequestsLemmas.{asked_now, begun_so, failed_badly, in_data, laid, learnt, none_done, none_flies, others_fly, past, ready, request, shape, told, waits, was_flying}
-use Rattle.lvm_keeps_events.proofs.Lists.{all_and, all_pair, all_true_at, and_false, any_on, either, found_at, or_true, set_either}
+use Rattle.lvm_keeps_events.proofs.Lists.{all_and, all_true_at, and_false, any_on, either, found_at, or_true, set_either}
 use Rattle.lvm_keeps_events.proofs.JudgingLemmas.Staling.{blamed_by, bring_on as bring_staler, clean_same, due_wanted, end_on, entailed_less, held_by, IsStaler, kept_less, left_on as left_staler, may_less, members_same, missing_same, one_on as one_staler, ready_on as ready_staler, rows_on as rows_staler, staler, stays_on, sure_less, wanted_less, wanted_more}
 
 -- ---- small
@@ -557,13 +558,13 @@ module _ (old : State) (sound : IsSound old) (on : old.core.power ≡ power.On) 
         of (inr blame) = let parts = both t.usable (is_blamed after t.pp) blame in blamed_of parts.0 (blame_back t.pp parts.1)
 
     caused_on : (y : Open) → AreCaused s.device core y × AreCounted old y → AreCaused device after y
-    caused_on y its waiting = all_on (λ (t : Target). IsCaused s.device core t × IsCounted old t) (IsCaused device after) target_caused y.request.targets.items (all_pair (IsCaused s.device core) (IsCounted old) y.request.targets.items (its.0 waiting) its.1)
+    caused_on y its waiting = all_weaker (λ (t : Target). IsCaused s.device core t × IsCounted old t) (IsCaused device after) target_caused y.request.targets.items (all_both (IsCaused s.device core) (IsCounted old) y.request.targets.items (its.0 waiting) its.1)
 
     pairs : AllByRecursion (λ (y : Open). AreCaused s.device core y × AreCounted old y) core.requests
-    pairs = all_pair (AreCaused s.device core) (AreCounted old) core.requests (sound_so.on on).caused sound.counted
+    pairs = all_both (AreCaused s.device core) (AreCounted old) core.requests (sound_so.on on).caused sound.counted
 
     its_pairs : AllByRecursion (λ (t : Target). IsCaused s.device core t × IsCounted old t) targets
-    its_pairs = let both_so = all_at (λ (y : Open). AreCaused s.device core y × AreCounted old y) core.requests place o pairs there in all_pair (IsCaused s.device core) (IsCounted old) targets (both_so.0 waits_so) both_so.1
+    its_pairs = let both_so = all_at (λ (y : Open). AreCaused s.device core y × AreCounted old y) core.requests place o pairs there in all_both (IsCaused s.device core) (IsCounted old) targets (both_so.0 waits_so) both_so.1
 
     its_caused : AllByRecursion (IsCaused device after) now_targets
     its_caused = all_set (λ (t : Target). IsCaused s.device core t × IsCounted old t) (IsCaused device after) target_caused targets target ended ended_caused its_pairs
@@ -583,7 +584,7 @@ module _ (old : State) (sound : IsSound old) (on : old.core.power ≡ power.On) 
         ended_caused e = of (either (is_failed (end_state ok)) (aim.usable && is_blamed after aim.pp) e)
 
     counted_on : (y : Open) → AreCounted s y → AreCounted now y
-    counted_on y all = all_on (IsCounted s) (IsCounted now) (λ t count. record { began = count.began; since = count.since }) y.request.targets.items all
+    counted_on y all = all_weaker (IsCounted s) (IsCounted now) (λ t count. record { began = count.began; since = count.since }) y.request.targets.items all
 
     its_counted : AreCounted now x
     its_counted = let all = all_at (AreCounted s) core.requests place o sound_so.counted there in

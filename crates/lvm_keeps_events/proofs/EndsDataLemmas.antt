@@ -12,6 +12,7 @@ use Rattle.lvm_disk.specs.Steps.{CountsFailure}
 use Rattle.lvm_hold.specs.Waiting.{Waiting, without}
 use Rattle.lvm_num.specs.Descriptor.{is_pp}
 use Rattle.lvm_num.proofs.Booleans.{not_so}
+use Rattle.lvm_num.proofs.Lists.{all_at}
 use Rattle.lvm_path.specs.Asks.{is_write}
 use Rattle.lvm_path.specs.Targets.{are_over, is_begun}
 use Rattle.lvm_path.specs.declared.request.Request.{Request}
@@ -37,7 +38,7 @@ use Rattle.lvm_session.specs.Left.{copy_updates, if_so, marks_later}
 use Rattle.lvm_session.specs.Owners.{IsDataOf, IsTransferOf}
 use Rattle.lvm_session.specs.Requests.{IsShaped, IsTarget}
 use Rattle.lvm_session.specs.Sound.{count_if, IsGoing, IsSound}
-use Rattle.lvm_keeps.proofs.Lists.{all_at, get_removed}
+use Rattle.lvm_keeps.proofs.Lists.{get_removed}
 use Rattle.lvm_keeps.proofs.Small.{both}
 use Rattle.lvm_keeps.proofs.RequestsLemmas.{if_on}
 use Rattle.lvm_keeps.proofs.DarkLemmas.Tables.{apart}

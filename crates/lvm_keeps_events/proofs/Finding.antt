@@ -73,11 +73,6 @@ module _ {A : Type 0} where
           omega (arith, a, b, one, none, all)
       by false e rest some = let a = count_cons t x xs in let b = count_cons u x xs in let one = fewer (t x) (u x) (less x) in let more = rest some in omega (arith, a, b, one, more)
 
-  -- two things hold of each
-  pub all_two : (P Q R : A → Type 0) → ((x : A) → P x → Q x → R x) → (xs : List A) → AllByRecursion P xs → AllByRecursion Q xs → AllByRecursion R xs
-  all_two P Q R on [] all more = tt
-  all_two P Q R on (x ∷ xs) all more = (on x all.0 more.0, all_two P Q R on xs all.1 more.1)
-
   -- where some are kept, one passes
   pub some_kept : (t : A → Bool) (xs : List A) → (length (filter t xs) == 0) ≡ false → list_any t xs ≡ true
   some_kept t [] some = not_so (sym some)

@@ -78,11 +78,6 @@ module _ {A : Type 0} where
       by (inl is) rest = inl (ap (λ b. b || list_any t xs) is)
       by (inr some) rest = of (rest some)
 
-  -- two things that hold of each
-  pub all_pair : (P Q : A → Type 0) (xs : List A) → AllByRecursion P xs → AllByRecursion Q xs → AllByRecursion (λ (x : A). P x × Q x) xs
-  all_pair P Q [] one two = tt
-  all_pair P Q (x ∷ xs) one two = ((one.0, two.0), all_pair P Q xs one.1 two.1)
-
   -- what follows of each one that is there
   pub all_there : (P Q : A → Type 0) (xs : List A) → ((k : ℕ) (x : A) → slice_get xs k ≡ Some x → P x → Q x) → AllByRecursion P xs → AllByRecursion Q xs
   all_there P Q [] on all = tt

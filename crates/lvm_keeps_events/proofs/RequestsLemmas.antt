@@ -10,6 +10,7 @@ use Rattle.lvm_num.specs.Buffer.{Buffer}
 use Rattle.lvm_num.specs.declared.descriptor.Mode.{Mode}
 use Rattle.lvm_num.specs.declared.descriptor.Mode.TheVariants as mode
 use Rattle.lvm_num.proofs.Booleans.{not_so}
+use Rattle.lvm_num.proofs.Lists.{all_at, length_set, set_beside}
 use Rattle.lvm_vol.specs.Log.{is_open}
 use Rattle.lvm_mwc.specs.Cache.{is_named}
 use Rattle.lvm_sched.specs.Writes.{is_flying, is_waiting as is_unstarted}
@@ -32,7 +33,7 @@ use Rattle.lvm_session.specs.Owners.{flies, target_flies}
 use Rattle.lvm_session.specs.Requests.{has_record, is_past_held, IsLaid, IsOpenOne, IsPhase, IsReady, IsRecorded, IsRequest, IsShaped, IsTarget, mode_for}
 use Rattle.lvm_session.specs.Sound.{count_if, IsAsked, IsGoing}
 use Rattle.lvm_keeps.proofs.KeepsLemmas.Landing.{or_parts}
-use Rattle.lvm_keeps.proofs.Lists.{all_at, all_set, any_set, count_set, length_set, set_beside, set_here}
+use Rattle.lvm_keeps.proofs.Lists.{all_set, any_set, count_set, set_here}
 use Rattle.lvm_keeps.proofs.Small.{both, none_on}
 use Rattle.lvm_keeps.proofs.DarkLemmas.Tables.{apart, ascending_set}
 use Rattle.lvm_keeps_events.proofs.TargetsLemmas.{all_true_set, any_here, at_state, only_at, pp_at, set_state}

@@ -16,11 +16,6 @@ use Rattle.lvm_keeps.proofs.Lists.{count_cons}
 
 module _ {A : Type 0} where
 
-  pub index_at : (xs : List A) (k : ℕ) (x d : A) → slice_get xs k ≡ Some x → slice_index_or xs k d ≡ x
-  index_at [] k x d there = absurd (cc there)
-  index_at (y ∷ xs) zero x d there = cc there
-  index_at (y ∷ xs) (suc k) x d there = index_at xs k x d there
-
   pub all_true_set : (t : A → Bool) (xs : List A) (k : ℕ) (x y : A) → slice_get xs k ≡ Some x → t y ≡ t x → list_all t (slice_set xs k y) ≡ list_all t xs
   all_true_set t [] k x y there same = refl
   all_true_set t (z ∷ xs) zero x y there same = let is : z ≡ x = cc there in ap (λ b. b && list_all t xs) (same ∙ ap t (sym is))

@@ -1,10 +1,10 @@
 -- A turn leaves the same requests in the table.
-use Rattle.std.proofs.Common.{◌≡◌, ◌<◌, ◌+◌, ◌||◌, inl, inr, ℕ, Bool, true, false, not, List, [], ◌∷◌, map, length, Some, None, position, slice_get, slice_set, refl, sym, ◌∙◌, ap, if◌then◌else◌, arith}
+use Rattle.std.proofs.Common.{◌≡◌, ◌||◌, inl, inr, ℕ, Bool, true, false, List, [], ◌∷◌, map, length, Some, None, position, slice_get, slice_set, refl, sym, ◌∙◌, ap, if◌then◌else◌}
 use Rattle.std.specs.Prelude.{cond, nat_lt}
 use Rattle.std.specs.List.{list_any, position_or_len}
 use Rattle.std.proofs.lemmas.Bool.{lt-ltb}
 use Rattle.std.proofs.lemmas.List.{length-map}
-use Rattle.lvm_num.proofs.Booleans.{not_so}
+use Rattle.lvm_num.proofs.Lists.{length_set, any_within}
 use Rattle.lvm_vol.specs.declared.entry.Outcome.{Outcome}
 use Rattle.lvm_vol.specs.declared.entry.Outcome.TheVariants as outcome
 use Rattle.lvm_session.specs.declared.event.Event.{Event}
@@ -21,21 +21,12 @@ use Rattle.lvm_session.specs.Events.{landed_as}
 use Rattle.lvm_session.specs.Judging.{is_running, is_waiting}
 use Rattle.lvm_session.specs.State.{Core, State}
 use Rattle.lvm_session.specs.Turns.{Darkens, FinishMakes, Finishes, Makes, Moves, NoStart, OnMakes, TurnMakes, WasDark, WasOff, WasOn}
-use Rattle.lvm_keeps.proofs.Lists.{any_set, length_set}
+use Rattle.lvm_keeps.proofs.Lists.{any_set}
 use Rattle.lvm_keeps_turn.proofs.TellingLemmas.Frames.{copy_stays, marked_stays, note_stays, status_stays}
-
--- one that is found has a place
-before_some : {X : Type 0} (t : X → Bool) (xs : List X) → list_any t xs ≡ true → position_or_len t xs < length xs
-before_some t [] some = not_so some
-before_some t (x ∷ xs) some = by (t x) (before_some t xs) some
-  where
-    by : (b : Bool) → (list_any t xs ≡ true → position_or_len t xs < length xs) → b || list_any t xs ≡ true → cond (not b) (1 + position_or_len t xs) 0 < length (x ∷ xs)
-    by true rest some = omega arith
-    by false rest some = let less = rest some in omega (arith, less)
 
 pub some_position : {X : Type 0} (t : X → Bool) (xs : List X) → list_any t xs ≡ true → position t xs ≡ None → ⊥
 some_position t xs some none =
-    let less = before_some t xs some in
+    let less = any_within t xs some in
     let tested : nat_lt (position_or_len t xs) (length xs) ≡ true = lt-ltb (position_or_len t xs) (length xs) less in
     let found : position t xs ≡ Some (position_or_len t xs) = ap (λ b. cond b (Some (position_or_len t xs)) None) tested in
     absurd (cc (sym found ∙ none))

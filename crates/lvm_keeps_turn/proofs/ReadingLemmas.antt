@@ -5,6 +5,7 @@ use Rattle.std.specs.List.{remove}
 use Rattle.std.proofs.lemmas.Bool.{eqb-true, eqb-false}
 use Rattle.lvm_num.specs.Buffer.{Buffer}
 use Rattle.lvm_num.proofs.Booleans.{not_so}
+use Rattle.lvm_num.proofs.Lists.{all_at, set_beside}
 use Rattle.lvm_disk.specs.Steps.{EndsDone}
 use Rattle.lvm_vol.specs.declared.entry.Outcome.{Outcome}
 use Rattle.lvm_vol.specs.declared.entry.Outcome.TheVariants as outcome
@@ -31,7 +32,7 @@ use Rattle.lvm_session.specs.Turns.{FinishMakes, Finishes, Makes, Moves, NoStart
 use Rattle.lvm_session.specs.Owners.{IsDataOf, IsTransferOf}
 use Rattle.lvm_session.specs.Requests.{IsOpenOne, IsRequest}
 use Rattle.lvm_session.specs.Sound.{IsGoing, IsSound}
-use Rattle.lvm_keeps.proofs.Lists.{all_at, get_removed, set_beside, set_here}
+use Rattle.lvm_keeps.proofs.Lists.{get_removed, set_here}
 use Rattle.lvm_keeps.proofs.DarkLemmas.Tables.{apart}
 use Rattle.lvm_keeps_events.proofs.OwnersLemmas.Removal.{IsOut, taken_out}
 use Rattle.lvm_keeps_events.proofs.NextLemmas.{gives}

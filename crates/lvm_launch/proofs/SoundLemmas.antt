@@ -6,6 +6,7 @@ use Rattle.std.proofs.lemmas.Bool.Decides.{nat_tests}
 use Rattle.std.proofs.Math.Seq.{drop-cons}
 use Rattle.std.proofs.lemmas.List.Sums.{sum_by-cons, sum_by-take-drop}
 use Rattle.lvm_num.specs.Buffer.{zero_sector}
+use Rattle.lvm_num.proofs.Lists.{set_here}
 use Rattle.lvm_vol.specs.Facts.{Request, Fact, Stands, begun}
 use Rattle.lvm_vol.specs.Log.{asked, blocks_begun, blocks_of, got_by}
 use Rattle.lvm_vol.specs.Order.{Ordered}
@@ -88,16 +89,6 @@ module _ (run : ℕ) (facts : List Fact) (ordered : Ordered run [] facts) (id : 
 
 -- ---- one block after the other
 
-pub long_set : {X : Type 0} (xs : List X) (k : ℕ) (x : X) → length (slice_set xs k x) ≡ length xs
-long_set [] k x = refl
-long_set (y ∷ xs) zero x = refl
-long_set (y ∷ xs) (suc k) x = ap suc (long_set xs k x)
-
-get_set : {X : Type 0} (xs : List X) (k : ℕ) (x : X) → k < length xs → slice_get (slice_set xs k x) k ≡ Some x
-get_set [] k x within = absurd (omega (arith, within))
-get_set (y ∷ xs) zero x within = refl
-get_set (y ∷ xs) (suc k) x within = get_set xs k x (omega (arith, within))
-
 get_other : {X : Type 0} (xs : List X) (k j : ℕ) (x : X) → j < k → slice_get (slice_set xs k x) j ≡ slice_get xs j
 get_other [] k j x less = refl
 get_other (y ∷ xs) zero j x less = absurd (omega (arith, less))
@@ -108,7 +99,7 @@ pub block_put : (facts : List Fact) (place k : ℕ) (sectors new : List (List �
     → ((j : ℕ) → j < k → slice_get sectors j ≡ slice_get (blocks_of facts) (place + j)) → (j : ℕ) → j < k + 1 → slice_get new j ≡ slice_get (blocks_of facts) (place + j)
 block_put facts place k sectors new block is within its so_far j less =
     ap (λ (l : List (List ℕ)). slice_get l j) is
-    ∙ ⊎_elim (λ below. get_other sectors k j block below ∙ so_far j below) (λ same. subst (λ n. slice_get (slice_set sectors k block) n ≡ slice_get (blocks_of facts) (place + n)) (sym same) (get_set sectors k block within ∙ sym its)) (below_or_last j k less)
+    ∙ ⊎_elim (λ below. get_other sectors k j block below ∙ so_far j below) (λ same. subst (λ n. slice_get (slice_set sectors k block) n ≡ slice_get (blocks_of facts) (place + n)) (sym same) (set_here sectors k block within ∙ sym its)) (below_or_last j k less)
   where
     below_or_last : (i k : ℕ) → i < k + 1 → (i < k) ⊎ (i ≡ k)
     below_or_last i k less = grind (arith)

@@ -7,6 +7,7 @@ use Rattle.std.proofs.lemmas.List.{append-nil}
 use Rattle.std.proofs.lemmas.Option.{same_Some, none-some}
 use Rattle.lvm_num.specs.declared.record.NoteEntry.{NoteEntry}
 use Rattle.lvm_num.specs.Disks.{has}
+use Rattle.lvm_num.proofs.Lists.{not_nil}
 use Rattle.arrayvec.specs.ArrayVec.{ArrayVec}
 use Rattle.lvm_mwc.specs.declared.entries.CacheEntry.{CacheEntry}
 use Rattle.lvm_mwc.specs.declared.notes.DiskNotes.{DiskNotes}
@@ -125,10 +126,6 @@ and_turn false b c = refl
 all-push : {X : Type 0} (p : X → Bool) (xs : List X) (x : X) → list_all p (xs ++ x ∷ []) ≡ (list_all p xs && p x)
 all-push p [] x = sym (and_true (p x))
 all-push p (y ∷ ys) x = ap (λ (b : Bool). p y && b) (all-push p ys x) ∙ and_turn (p y) (list_all p ys) (p x)
-
-not_nil : {X : Type 0} (xs : List X) (x : X) → xs ++ x ∷ [] ≡ [] → ⊥
-not_nil [] x is = cc
-not_nil (y ∷ ys) x is = cc
 
 tracks_ended_of : (ok : Bool) (flight : Option (ArrayVec NoteEntry)) (disk : ℕ) (written : ArrayVec NoteEntry) (last : List NoteEntry) (failed : List (List NoteEntry))
     → ((lv group : ℕ) → names_group written.items lv group ≡ list_all (λ (sector : List NoteEntry). names_group sector lv group) (last ∷ failed)) → (failed ≡ [] → written.items ≡ last)

@@ -1,5 +1,5 @@
 -- The next status from its rows, its dirty volumes and its marks.
-use Rattle.std.proofs.Common.{◌≡◌, inl, inr, ⊎_elim, ℕ, zero, suc, ◌*◌, ◌^◌, ◌<◌, ◌≤◌, Bool, true, false, ◌||◌, ◌&&◌, ◌==◌, List, [], ◌∷◌, length, get_or, take, drop, Some, None, refl, sym, ap, subst, ◌∙◌, arith, eq-eqb}
+use Rattle.std.proofs.Common.{◌≡◌, inl, inr, ⊎_elim, ℕ, ◌*◌, ◌^◌, ◌<◌, ◌≤◌, Bool, true, false, ◌||◌, ◌&&◌, ◌==◌, List, [], ◌∷◌, length, get_or, drop, Some, None, refl, sym, ap, subst, ◌∙◌, arith, eq-eqb}
 use Rattle.std.specs.Prelude.{Result, Ok, Err, IfOk, IsTrue, IsFalse, if◌then◌else◌, not, nat_lt, find, filter, All}
 use Rattle.std.specs.List.{list_any}
 use Rattle.std.proofs.lemmas.Bool.{eqb-true}
@@ -18,7 +18,7 @@ use Rattle.lvm_num.specs.Disks.{Disks}
 use Rattle.lvm_num.specs.Descriptor.{IsValid, IsMember, IsPartitionOf, is_member, copies_of, partitions_in, most_members}
 use Rattle.lvm_num.specs.Record.{Stamped}
 use Rattle.lvm_num.specs.Status.{IsValidStatus, AreDirty, IsVolumeNumber, calls_stale, calls_dirty}
-use Rattle.lvm_num.proofs.AmongLemmas.{one_of_left, one_of_right}
+use Rattle.lvm_num.proofs.AmongLemmas.{one_of_left, one_of_right, one_of_take, one_of_drop, all_one}
 use Rattle.lvm_kept.specs.Group.{IsOneOf, IsSome}
 use Rattle.lvm_stale.specs.Table.{has_row}
 use Rattle.lvm_next.specs.Next.{IsNextStatus, IsLeftBehind, has_passive}
@@ -29,24 +29,6 @@ use Rattle.lvm_next.proofs.RowsLemmas.{found_one}
 use Rattle.lvm_stale.proofs.MarkingLemmas.{has_row-same}
 
 -- ---- elements
-
-pub all_one : {X : Type 0} (P : X → Type 0) (xs : List X) (x : X) → All P xs → IsOneOf xs x → P x
-all_one P [] x all is = absurd is
-all_one P (y ∷ ys) x all (inl e) = subst P (sym e) (all 0 y (omega arith))
-all_one P (y ∷ ys) x all (inr there) = all_one P ys x (All-tail P y ys all) there
-
-one_of_take : {X : Type 0} (n : ℕ) (xs : List X) (x : X) → IsOneOf (take n xs) x → IsOneOf xs x
-one_of_take zero [] x is = is
-one_of_take zero (y ∷ ys) x is = absurd is
-one_of_take (suc n) [] x is = is
-one_of_take (suc n) (y ∷ ys) x (inl e) = inl e
-one_of_take (suc n) (y ∷ ys) x (inr there) = inr (one_of_take n ys x there)
-
-one_of_drop : {X : Type 0} (n : ℕ) (xs : List X) (x : X) → IsOneOf (drop n xs) x → IsOneOf xs x
-one_of_drop zero [] x is = is
-one_of_drop zero (y ∷ ys) x is = is
-one_of_drop (suc n) [] x is = is
-one_of_drop (suc n) (y ∷ ys) x is = inr (one_of_drop n ys x is)
 
 pub copy_in_map : (row : LvRow) (lp : ℕ) (p : Pp) → IsOneOf (copies_of row lp) p → IsOneOf row.map p
 copy_in_map row lp p is = one_of_drop (lp * row.copies) row.map p (one_of_take row.copies (drop (lp * row.copies) row.map) p is)

@@ -1,5 +1,5 @@
 -- The row that is found of a disk, and rows to which one is added.
-use Rattle.std.proofs.Common.{◌≡◌, ◌⊎◌, inl, inr, ℕ, suc, ◌+◌, ◌<◌, Bool, true, false, ◌||◌, ◌&&◌, ◌==◌, List, [], ◌∷◌, ◌++◌, length, get_or, Some, None, refl, sym, ap, subst, ◌∙◌, arith}
+use Rattle.std.proofs.Common.{◌≡◌, ◌⊎◌, inl, inr, ℕ, ◌+◌, ◌<◌, Bool, true, false, ◌||◌, ◌&&◌, ◌==◌, List, [], ◌∷◌, ◌++◌, length, get_or, Some, None, refl, sym, ap, subst, ◌∙◌, arith}
 use Rattle.std.specs.Prelude.{if◌then◌else◌, not, nat_lt, find, All, AllPairs}
 use Rattle.std.specs.List.{list_any}
 use Rattle.std.proofs.lemmas.Option.{none-some}
@@ -17,6 +17,7 @@ use Rattle.lvm_num.specs.Disks.{Disks}
 use Rattle.lvm_num.specs.Status.{IsStatusRow, calls_stale}
 use Rattle.lvm_num.proofs.MarksLemmas.Maps.{find-None}
 use Rattle.lvm_num.proofs.Booleans.{and_true, or_when_false}
+use Rattle.lvm_num.proofs.Lists.{pairs_head, pairs_tail}
 use Rattle.lvm_next.specs.Rows.{AreMemberRows}
 
 -- ---- the row of a disk
@@ -28,12 +29,6 @@ found_one P p (y ∷ ys) x e all = by_test (p y) e (λ is. found_one P p ys x is
     by_test : (t : Bool) → (if t then Some y else find p ys) ≡ Some x → (find p ys ≡ Some x → P x) → P x
     by_test true is rest = let same : y ≡ x = cc in subst P same (all 0 y (omega arith))
     by_test false is rest = rest is
-
-pairs_tail : {X : Type 0} (R : X → X → Type 0) (x : X) (xs : List X) → AllPairs R (x ∷ xs) → AllPairs R xs
-pairs_tail R x xs pairs i j d less lt = pairs (suc i) (suc j) d (omega (arith, less)) (omega (arith, lt))
-
-pairs_head : {X : Type 0} (R : X → X → Type 0) (x : X) (xs : List X) → AllPairs R (x ∷ xs) → All (R x) xs
-pairs_head R x xs pairs k d lt = pairs 0 (suc k) d (omega arith) (omega (arith, lt))
 
 -- whether a row says so of a disk
 says : (StatusRow → Bool) → ℕ → StatusRow → Bool

@@ -1,8 +1,8 @@
 -- What tests come to, and what follows of two that hold together or clash.
-use Rattle.std.proofs.Common.{◌≡◌, ◌⊎◌, inl, inr, ℕ, ◌<◌, Bool, true, false, not, ◌&&◌, ◌||◌, Some, None, refl, sym, ap, ◌∙◌, arith}
-use Rattle.std.specs.Prelude.{◌==◌, IsTrue, IsFalse, if◌then◌else◌}
+use Rattle.std.proofs.Common.{◌≡◌, ◌⊎◌, inl, inr, ℕ, ◌<◌, Bool, true, false, not, ◌&&◌, ◌||◌, Some, None, refl, sym, ap, ◌∙◌, arith, Option, suc}
+use Rattle.std.specs.Prelude.{◌==◌, IsTrue, IsFalse, if◌then◌else◌, nat_lt}
 use Rattle.std.proofs.lemmas.Bool.{eq-eqb, ne_eqb}
-use Rattle.std.proofs.lemmas.Bool.Decides.{eqb_tells}
+use Rattle.std.proofs.lemmas.Bool.Decides.{eqb_tells, nat_tests}
 
 pub and_true : (b : Bool) → b && true ≡ b
 and_true true = refl
@@ -152,6 +152,14 @@ pub none_if : {X : Type 0} (t : Bool) (x : X) → (if t then Some x else None) �
 none_if true x e = absurd cc
 none_if false x e = refl
 
+pub let_through : {X : Type 0} (test : Bool) (o : Option X) → test ≡ true → (if test then o else None) ≡ o
+let_through true o e = refl
+let_through false o e = absurd cc
+
+pub passed_if : {X : Type 0} (test : Bool) (o : Option X) (r : X) → (if test then o else None) ≡ Some r → (test ≡ true) × (o ≡ Some r)
+passed_if true o r e = (refl, e)
+passed_if false o r e = absurd cc
+
 -- one of the two places 0 and 1, and the other of them
 pub place_below : (b : Bool) → (if b then 1 else 0) < 2
 place_below true = omega arith
@@ -173,3 +181,9 @@ same_turned a b = elim (eqb_tells a b) [
   | inl is ↦ is.0 ∙ sym (eq-eqb b a (sym is.1))
   | inr isnt ↦ isnt.0 ∙ sym (ne_eqb b a (λ same. isnt.1 (sym same)))
 ]
+
+pub none_below : (d : ℕ) → nat_lt d 0 ≡ false
+none_below d = grind (arith, nat_tests)
+
+pub not_first : (k : ℕ) → (suc k == 0) ≡ false
+not_first k = grind (arith, nat_tests)

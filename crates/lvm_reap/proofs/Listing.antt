@@ -1,10 +1,11 @@
 -- The row of a transfer that was out is in the list.
-use Rattle.std.proofs.Common.{◌≡◌, ◌==◌, ◌<◌, ◌+◌, ◌++◌, ℕ, zero, suc, Bool, true, false, ◌||◌, not, cond, List, [], ◌∷◌, Option, Some, None, length, slice_get, slice_index_or, refl, sym, ◌∙◌, ap, subst, arith}
+use Rattle.std.proofs.Common.{◌≡◌, ◌==◌, ◌<◌, ◌++◌, ℕ, zero, suc, Bool, true, cond, List, [], ◌∷◌, Option, Some, None, length, slice_get, slice_index_or, refl, sym, ◌∙◌, ap, subst, arith}
 use Rattle.std.specs.Prelude.{position}
 use Rattle.std.specs.List.{list_any, position_or_len}
 use Rattle.std.proofs.lemmas.Bool.{eq-eqb, lt-ltb, or_left, or_right}
 use Rattle.std.proofs.lemmas.List.Folds.{find_at}
 use Rattle.lvm_num.proofs.MarksLemmas.Maps.{find-Some}
+use Rattle.lvm_num.proofs.Lists.{any_within}
 use Rattle.lvm_disk.specs.Device.{Flight}
 use Rattle.lvm_disk.specs.Steps.{Removes}
 use Rattle.lvm_session.specs.declared.flown.Flown.{Flown}
@@ -12,14 +13,6 @@ use Rattle.lvm_session.specs.State.{Core}
 use Rattle.lvm_session.specs.Owners.{AreRows}
 
 -- ---- a search by a test
-
-pub any_within : {X : Type 0} (t : X → Bool) (rows : List X) → list_any t rows ≡ true → position_or_len t rows < length rows
-any_within t [] is = absurd (cc is)
-any_within t (row ∷ rows) is = by_test (λ e. any_within t rows e) (t row) is
-  where
-    by_test : (list_any t rows ≡ true → position_or_len t rows < length rows) → (b : Bool) → b || list_any t rows ≡ true → cond (not b) (1 + position_or_len t rows) 0 < length (row ∷ rows)
-    by_test rest true e = omega arith
-    by_test rest false e = let less = rest e in omega (arith, less)
 
 -- it finds one, where there is one
 pub finds : {X : Type 0} (t : X → Bool) (rows : List X) → list_any t rows ≡ true → position t rows ≡ Some (position_or_len t rows)

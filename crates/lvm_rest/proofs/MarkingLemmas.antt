@@ -1,6 +1,5 @@
 -- A table that is marked with the copies that are left behind, as the next status of a session.
-use Rattle.std.proofs.Common.{inl, inr, ⊎_elim, ℕ, Bool, true, false, ◌&&◌, ◌||◌, not, List, [], ◌∷◌, ◌==◌, refl, sym, ap, subst, ◌∙◌}
-use Rattle.std.specs.Prelude.{IsTrue}
+use Rattle.std.proofs.Common.{inl, inr, ⊎_elim, ℕ, ◌&&◌, not, List, ◌==◌, sym, ap, subst, ◌∙◌}
 use Rattle.std.specs.List.{list_any}
 use Rattle.std.proofs.lemmas.Bool.{not_from_false}
 use Rattle.lvm_num.specs.declared.place.Pp.{Pp}
@@ -9,7 +8,7 @@ use Rattle.lvm_num.specs.declared.status.Status.{Status}
 use Rattle.lvm_num.specs.Descriptor.{copies_of}
 use Rattle.lvm_num.specs.Status.{calls_stale}
 use Rattle.lvm_num.proofs.Booleans.{clash_gives}
-use Rattle.lvm_num.proofs.AmongLemmas.{any_one as some_one}
+use Rattle.lvm_num.proofs.AmongLemmas.{any_one as some_one, one_any}
 use Rattle.lvm_kept.specs.Group.{IsOneOf}
 use Rattle.lvm_crash.proofs.GroupLemmas.Lists.{left_of, right_of, both_of, not_so}
 use Rattle.lvm_stale.specs.Marking.{IsLeftIn}
@@ -17,19 +16,6 @@ use Rattle.lvm_commit.specs.Settling.{there as not_missing}
 use Rattle.lvm_commit.proofs.AmongLemmas.{one_place}
 use Rattle.lvm_rest.proofs.Rows.{none_passing}
 use Rattle.lvm_rest.specs.Marking.{MarkedMayFollow, MarkedLeavesNone, NoneIsLeftBehind}
-
-any_one : {X : Type 0} (test : X → Bool) (xs : List X) (x : X) → IsOneOf xs x → IsTrue (test x) → IsTrue (list_any test xs)
-any_one test [] x one is = absurd one
-any_one test (y ∷ ys) x (inl here) is = front (test y) (list_any test ys) (ap test (sym here) ∙ is)
-  where
-    front : (a b : Bool) → IsTrue a → IsTrue (a || b)
-    front true b h = refl
-    front false b h = absurd cc
-any_one test (y ∷ ys) x (inr there) is = behind (test y) (list_any test ys) (any_one test ys x there is)
-  where
-    behind : (a b : Bool) → IsTrue b → IsTrue (a || b)
-    behind true b h = refl
-    behind false b h = h
 
 pub marked_may_follow : MarkedMayFollow
 marked_may_follow c group there was next valid members marks = record {
@@ -63,7 +49,7 @@ marked_leaves_none c group there was next valid marks row lp p one low copy memb
             left = record {
               lp = lp;
               below = low;
-              left = record { one = copy; absent = gone; served = any_one (λ (r : Pp). there r.disk && not (calls_stale was r)) (copies_of row lp) some.0 some.1 (both_of (there some.0.disk) (not (calls_stale was some.0)) in_there was_fresh) };
+              left = record { one = copy; absent = gone; served = one_any (λ (r : Pp). there r.disk && not (calls_stale was r)) (copies_of row lp) some.0 some.1 (both_of (there some.0.disk) (not (calls_stale was some.0)) in_there was_fresh) };
             };
           }))
           fresh)
@@ -83,7 +69,7 @@ none_is_left_behind c group u status same none row lp p volume low copy member g
               left = record {
                 one = copy;
                 absent = gone;
-                served = any_one (λ (q : Pp). not_missing u q.disk && not (calls_stale u.wanted q)) (copies_of row lp) some.0 some.1 (sym (ap (λ (s : Status). not_missing u some.0.disk && not (calls_stale s some.0)) same) ∙ some.2);
+                served = one_any (λ (q : Pp). not_missing u q.disk && not (calls_stale u.wanted q)) (copies_of row lp) some.0 some.1 (sym (ap (λ (s : Status). not_missing u some.0.disk && not (calls_stale s some.0)) same) ∙ some.2);
               };
             };
           }))

@@ -1,13 +1,7 @@
 -- Bytes that are written one piece after the other.
-use Rattle.std.proofs.Common.{◌≡◌, ℕ, ◌+◌, ◌<◌, List, [], ◌∷◌, ◌++◌, append-nil, append_assoc, length, get_or, take, sym, ap, ◌∙◌, arith}
+use Rattle.std.proofs.Common.{◌≡◌, ℕ, ◌+◌, ◌<◌, List, ◌++◌, append_assoc, length, get_or, take, sym, ap, ◌∙◌, arith}
 use Rattle.std.specs.Prelude.{flat_map}
-use Rattle.std.proofs.lemmas.List.{take_more}
-use Rattle.std.proofs.lemmas.List.Concat.{flat_map-append}
-
--- one more piece of a list of pieces
-pub pieces-more : {X : Type 0} (f : X → List ℕ) (xs : List X) (k : ℕ) (d : X) → k < length xs → flat_map f (take (k + 1) xs) ≡ flat_map f (take k xs) ++ f (get_or xs k d)
-pieces-more f xs k d lt =
-    ap (flat_map f) (take_more xs k d lt) ∙ flat_map-append f (take k xs) (get_or xs k d ∷ []) ∙ ap (λ (l : List ℕ). flat_map f (take k xs) ++ l) (append-nil (f (get_or xs k d)))
+use Rattle.lvm_num.proofs.Lists.{pieces-more}
 
 pub written-more : {X : Type 0} (f : X → List ℕ) (xs : List X) (k : ℕ) (x : X) (front out new last : List ℕ) → k < length xs
     → out ≡ front ++ flat_map f (take k xs) → new ≡ out ++ last → last ≡ f x → x ≡ get_or xs k x → new ≡ front ++ flat_map f (take (k + 1) xs)

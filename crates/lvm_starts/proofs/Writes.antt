@@ -3,7 +3,6 @@ use Rattle.std.proofs.Common.{◌≡◌, ⊎_elim, inl, inr, ◌<◌, ◌≤◌,
 use Rattle.std.specs.Prelude.{◌&&◌, ◌||◌, Contains, bytes_eq, is_none}
 use Rattle.std.specs.List.{list_any, sum_by}
 use Rattle.std.proofs.lemmas.Bool.{eqb-true}
-use Rattle.std.proofs.lemmas.Bool.Decides.{nat_tests}
 use Rattle.std.proofs.lemmas.List.Sums.{sum_by-cons}
 use Rattle.std.proofs.lemmas.Slice.Eq.{bytes_eq-Decides}
 use Rattle.lvm_num.specs.declared.descriptor.PvRow.{PvRow}
@@ -14,7 +13,7 @@ use Rattle.lvm_num.specs.Descriptor.{IsMember, is_member}
 use Rattle.lvm_num.specs.Disks.{Disks, has}
 use Rattle.lvm_num.specs.Votes.{is_enough_to_write, total_votes, votes_in, votes_of}
 use Rattle.lvm_num.specs.Status.{calls_missing}
-use Rattle.lvm_num.proofs.Booleans.{first_holds, same_itself, if_itself, three_hold}
+use Rattle.lvm_num.proofs.Booleans.{first_holds, same_itself, if_itself, three_hold, none_below}
 use Rattle.lvm_disk.specs.Device.{Device}
 use Rattle.lvm_disk.specs.Steps.{GoesDark, IsRange}
 use Rattle.lvm_pbuf.specs.Out.{TakesLowest}
@@ -71,15 +70,12 @@ sum_none f (row ∷ rows) none = let more = sum_by-cons f row rows in let here =
 no_votes : (d : Descriptor) (set : Disks) → ((disk : ℕ) → set disk ≡ false) → votes_in d set ≡ 0
 no_votes d set none = sum_none (λ (row : PvRow). if set row.disk then votes_of d row.disk else 0) d.pvs (λ row. ap (λ (b : Bool). if b then votes_of d row.disk else 0) (none row.disk))
 
-never_below : (n : ℕ) → nat_lt n 0 ≡ false
-never_below n = grind (arith, nat_tests)
-
 too_few : (d : Descriptor) → is_enough_to_write d 0 ≡ false
 too_few d = by_quorum d.quorum
   where
     by_quorum : (b : Bool) → (if b then nat_lt (total_votes d) (2 * 0) else nat_lt 0 0) ≡ false
-    by_quorum true = never_below (total_votes d)
-    by_quorum false = never_below 0
+    by_quorum true = none_below (total_votes d)
+    by_quorum false = none_below 0
 
 module _ (core : Core) (going : IsGoing core) (due : is_status_due core ≡ true) (votes : is_lost core ≡ false) (new : Stored) where
   in_group : (disk : ℕ) → members_there core.status.group core.status.wanted disk ≡ members_there core.descriptor core.status.wanted disk

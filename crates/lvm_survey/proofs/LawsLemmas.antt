@@ -1,6 +1,6 @@
 -- The records that disks of whole sectors show.
-use Rattle.std.proofs.Common.{◌≡◌, ⊎_elim, ◌+◌, ◌*◌, ◌<◌, ◌≤◌, ◌++◌, [], ◌∷◌, ℕ, zero, suc, List, Bool, true, false, Option, Some, None, Result, Ok, Err, option_and_then, get_or, take, drop, refl, ap, subst, arith}
-use Rattle.std.specs.Prelude.{◌&&◌, nat_le, nat_lt, if◌then◌else◌}
+use Rattle.std.proofs.Common.{◌≡◌, ⊎_elim, ◌+◌, ◌*◌, ◌<◌, ◌≤◌, ◌++◌, [], ◌∷◌, ℕ, zero, suc, List, true, Option, Some, None, Result, Ok, Err, option_and_then, get_or, take, drop, refl, ap, subst, arith}
+use Rattle.std.specs.Prelude.{◌&&◌, nat_le, nat_lt}
 use Rattle.std.proofs.lemmas.Bool.Decides.{nat_tests}
 use Rattle.lvm_num.specs.declared.record.Framed.{Framed}
 use Rattle.lvm_num.specs.declared.record.Kind.{Kind}
@@ -12,6 +12,7 @@ use Rattle.lvm_num.proofs.RecordLemmas.Records.{both_true, bytes-drop, bytes-tak
 use Rattle.lvm_area.specs.passed.Names.{held, newest_on, read_under, slot_of, Image, IsWholeImage, has_records, newest_at, descriptor_on, status_on}
 use Rattle.lvm_num.specs.DescriptorBytes.{descriptor_of}
 use Rattle.lvm_num.specs.StatusBytes.{status_of}
+use Rattle.lvm_num.proofs.Booleans.{passed_if}
 use Rattle.lvm_area.proofs.passed.Names.{read_is_spelled, is_read}
 use Rattle.lvm_survey.specs.Laws.{DescriptorsAreValid, StatusesAreValid}
 
@@ -56,10 +57,6 @@ in_area kind.Status slot low = omega arith
 has_large : (d n size : ℕ) → (nat_lt d n && nat_le 4096 size) ≡ true → 4096 ≤ size
 has_large d n size is = let large : nat_le 4096 size ≡ true = (both_true (nat_lt d n) (nat_le 4096 size) is).1 in grind (arith, nat_tests)
 
-where_some : {X : Type 0} (b : Bool) (o : Option X) (r : X) → (if b then o else None) ≡ Some r → (b ≡ true) × (o ≡ Some r)
-where_some true o r is = (refl, is)
-where_some false o r is = absurd (cc (is))
-
 module _ {X : Type 0} (content_of : List ℕ → Result X ℕ) (k : Kind) (P : X → Type 0) (read : (bytes : List ℕ) (x : X) → AreBytes bytes → content_of bytes ≡ Ok x → P x) (image : Image) (d : ℕ) (whole : IsWholeImage image) (large : 4096 ≤ image.size d) where
   held_valid : (slot : ℕ) (r : Stamped X) → slot < 2 → held content_of k (slot_of k slot (image.sector d)) ≡ Some r → P r.value
   held_valid slot r low is =
@@ -76,7 +73,7 @@ module _ {X : Type 0} (content_of : List ℕ → Result X ℕ) (k : Kind) (P : X
 shown_valid : {X : Type 0} (content_of : List ℕ → Result X ℕ) (k : Kind) (P : X → Type 0) → ((bytes : List ℕ) (x : X) → AreBytes bytes → content_of bytes ≡ Ok x → P x)
     → (image : Image) (d : ℕ) (r : Stamped X) → IsWholeImage image → newest_at content_of k image d ≡ Some r → P r.value
 shown_valid content_of k P read image d r whole is =
-    let has = where_some (has_records image d) (newest_on content_of k (image.sector d)) r is in
+    let has = passed_if (has_records image d) (newest_on content_of k (image.sector d)) r is in
     newest_valid content_of k P read image d whole (has_large d image.disks (image.size d) has.0) r has.1
 
 pub descriptors_valid : DescriptorsAreValid

@@ -17,9 +17,6 @@ or_itself b n = or_right b (n == n) (itself n)
 pub or_other : (b : Bool) (d n : ℕ) → (d ≡ n → ⊥) → (b || d == n) ≡ b
 or_other b d n differ = or_when_false b (d == n) (ne_eqb d n differ)
 
-pub lt_none : (d : ℕ) → nat_lt d 0 ≡ false
-lt_none d = grind (arith, nat_tests)
-
 pub lt_not : (d i : ℕ) → d ≡ i → nat_lt d i ≡ false
 lt_not d i e = grind (arith, nat_tests)
 

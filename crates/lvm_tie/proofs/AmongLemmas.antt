@@ -46,15 +46,6 @@ all_one test [] x h one = absurd one
 all_one test (y ∷ ys) x h (inl is) = ap test is ∙ (and_parts (test y) (list_all test ys) h).0
 all_one test (y ∷ ys) x h (inr one) = all_one test ys x (and_parts (test y) (list_all test ys) h).1 one
 
-pub filter_one : {X : Type 0} (test : X → Bool) (xs : List X) (x : X) → IsOneOf (filter test xs) x → IsOneOf xs x × (test x ≡ true)
-filter_one test [] x one = absurd one
-filter_one test (y ∷ ys) x one = by (test y) refl one (filter_one test ys x)
-  where
-    by : (b : Bool) → test y ≡ b → IsOneOf (if b then y ∷ filter test ys else filter test ys) x → (IsOneOf (filter test ys) x → IsOneOf ys x × (test x ≡ true)) → IsOneOf (y ∷ ys) x × (test x ≡ true)
-    by true is (inl here) rest = (inl here, ap test here ∙ is)
-    by true is (inr there) rest = let r = rest there in (inr r.0, r.1)
-    by false is there rest = let r = rest there in (inr r.0, r.1)
-
 pub one_filter : {X : Type 0} (test : X → Bool) (xs : List X) (x : X) → IsOneOf xs x → test x ≡ true → IsOneOf (filter test xs) x
 one_filter test [] x one passes = absurd one
 one_filter test (y ∷ ys) x (inl here) passes = by (test y) (ap test (sym here) ∙ passes)

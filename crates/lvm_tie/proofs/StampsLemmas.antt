@@ -10,6 +10,7 @@ use Rattle.lvm_num.specs.Geometry.{data_start, sector_of}
 use Rattle.lvm_num.specs.Record.{Frames, frame, record_sectors, slot_start, stamp_lt}
 use Rattle.lvm_num.specs.Status.{IsValidStatus}
 use Rattle.lvm_num.specs.StatusBytes.{status_bytes}
+use Rattle.lvm_num.proofs.Lists.{all_at}
 use Rattle.lvm_vol.specs.declared.entry.Outcome.{Outcome}
 use Rattle.lvm_vol.specs.declared.entry.Outcome.TheVariants as outcome
 use Rattle.lvm_vol.specs.Facts.{Cut, Fact}
@@ -66,7 +67,6 @@ use Rattle.lvm_session.specs.Marks.{WantsDirtyIf, WantsStale}
 use Rattle.lvm_session.specs.Requests.{IsOpenOne, IsTarget}
 use Rattle.lvm_session.specs.Turns.{ArrangesSession, Darkens, FinishMakes, Finishes, Makes, Moves, NoStart, OnMakes, TurnMakes, WasDark, WasOff, WasOn}
 use Rattle.lvm_session.specs.Sound.{IsSound}
-use Rattle.lvm_keeps_events.proofs.passed.Names.{all_at}
 use Rattle.lvm_tie_shelf.proofs.DeviceLemmas.{writes_at}
 use Rattle.lvm_tie_shelf.proofs.OwnedLemmas.{reads_none}
 use Rattle.lvm_tie.specs.Stamps.{AreValid, ArrangeLeavesBefore, CallsStay, IsStamped, KeepsEpoch, StaysOf, TurnIsEarlier, TurnKeepsEpoch, TurnLeavesBefore}

@@ -11,6 +11,7 @@ use Rattle.lvm_num.specs.declared.descriptor.Mode.{Mode}
 use Rattle.lvm_num.specs.declared.descriptor.Mode.TheVariants as mode
 use Rattle.lvm_num.specs.Geometry.{track_group_of}
 use Rattle.lvm_num.specs.Status.{calls_dirty}
+use Rattle.lvm_num.proofs.AmongLemmas.{filter_one}
 use Rattle.lvm_vol.specs.Facts.{Fact}
 use Rattle.lvm_vol.specs.declared.entry.Outcome.TheVariants as outcome
 use Rattle.lvm_kept.specs.Group.{IsOneOf}
@@ -39,7 +40,7 @@ use Rattle.lvm_keeps_events.proofs.passed.Names.{first_start_is_noted}
 use Rattle.lvm_tie.proofs.StateLemmas.{wanted_seen, usable_seen, settled_seen, copy_is_one, on_member, there_is_copy, caught_passed, passed_caught}
 use Rattle.lvm_tie.proofs.ModesLemmas.{active_is, active_mode, passive_is, passive_mode}
 use Rattle.lvm_tie.proofs.TiedLemmas.Orderly.{open_one}
-use Rattle.lvm_tie.proofs.AmongLemmas.{or_left, or_either, or_true, not_true, and_not, any_one, any_none, all_one, filter_one, one_filter, same_lists, stage_of_one, one_todo, its_pp, target_of, few_same}
+use Rattle.lvm_tie.proofs.AmongLemmas.{or_left, or_either, or_true, not_true, and_not, any_one, any_none, all_one, one_filter, same_lists, stage_of_one, one_todo, its_pp, target_of, few_same}
 use Rattle.lvm_tie.specs.Seen.{phase_seen, SeesRequest, SeesNote}
 use Rattle.lvm_tie.specs.Tied.{IsTied}
 

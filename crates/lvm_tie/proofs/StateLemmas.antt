@@ -1,5 +1,5 @@
 -- What the code judges of copies is what the state sees of them.
-use Rattle.std.proofs.Common.{◌≡◌, inl, inr, ℕ, zero, suc, ◌+◌, ◌*◌, ◌/◌, ◌%◌, ◌<◌, ◌≤◌, Bool, true, false, ◌&&◌, ◌||◌, ◌==◌, not, List, [], ◌∷◌, Option, Some, None, refl, sym, ap, subst, ◌∙◌, arith}
+use Rattle.std.proofs.Common.{◌≡◌, inl, inr, ℕ, ◌+◌, ◌*◌, ◌/◌, ◌%◌, ◌<◌, ◌≤◌, Bool, true, false, ◌&&◌, ◌||◌, ◌==◌, not, List, [], ◌∷◌, Option, Some, None, refl, sym, ap, subst, ◌∙◌, arith}
 use Rattle.std.specs.Prelude.{IfSome, IsTrue, find, slice_get, ◌-◌, if◌then◌else◌, nat_le, nat_lt, unwrap_or}
 use Rattle.std.specs.List.{list_any}
 use Rattle.std.specs.Option.{option_map, option_map_or}
@@ -16,6 +16,8 @@ use Rattle.lvm_num.specs.Descriptor.{copies_of, is_member, volume_of, is_pp}
 use Rattle.lvm_num.specs.Geometry.{partition_blocks, partition_of, track_group_of, sector_of, volume_blocks}
 use Rattle.lvm_num.specs.Record.{Stamped}
 use Rattle.lvm_num.specs.Status.{calls_stale, calls_missing}
+use Rattle.lvm_num.proofs.Lists.{all_at}
+use Rattle.lvm_num.proofs.AmongLemmas.{one_at}
 use Rattle.lvm_vol.specs.Facts.{Fact}
 use Rattle.lvm_disk.specs.Device.{image_of}
 use Rattle.lvm_map.proofs.Parts.{parts, whole}
@@ -38,7 +40,7 @@ use Rattle.lvm_crash.specs.Session.{as_marks, members_showing}
 use Rattle.lvm_tie_shelf.proofs.CopiesLemmas.{copy_placed, one_block}
 use Rattle.lvm_tie_shelf.proofs.WritingLemmas.{pp_same, same_pp}
 use Rattle.lvm_tie_shelf.specs.Copies.{IsCopyOf}
-use Rattle.lvm_tie.proofs.TiedLemmas.Orderly.{all_at, open_one, valid_of, waiting_one}
+use Rattle.lvm_tie.proofs.TiedLemmas.Orderly.{open_one, valid_of, waiting_one}
 use Rattle.lvm_tie.specs.Seen.{passed_by, SeesOpen, SeesRunning, SeesCopy}
 use Rattle.lvm_tie.specs.Tied.{IsTied}
 use Rattle.lvm_session.specs.Marks.{is_among}
@@ -69,11 +71,6 @@ pub record IsOfItsPartition (core : Core) (c : OpenCopy) : Type 0 where
   pub lp : c.lp < row.lps
   pub among : IsOneOf (copies_of row c.lp) c.pp
   pub cursor : c.cursor ≤ groups_of core
-
-pub one_at : {X : Type 0} (xs : List X) (k : ℕ) (x : X) → slice_get xs k ≡ Some x → IsOneOf xs x
-one_at [] k x there = absurd (cc there)
-one_at (y ∷ xs) zero x there = inl (let same : y ≡ x = cc there in sym same)
-one_at (y ∷ xs) (suc k) x there = inr (one_at xs k x there)
 
 pub its_partition : (core : Core) (c : OpenCopy) → IsCopy core c → IsOfItsPartition core c
 its_partition core c its = record { row = its.row; volume = its.volume; lp = its.lp; among = by (c.copy == 0) its.its; cursor = its.cursor }

@@ -1,5 +1,5 @@
 -- Where a session leaves no copy behind, missing disks entail nothing.
-use Rattle.std.proofs.Common.{◌≡◌, inl, inr, ℕ, zero, suc, ◌+◌, ◌<◌, Bool, true, false, ◌&&◌, not, List, [], ◌∷◌, refl, sym, ap, subst, ◌∙◌, arith}
+use Rattle.std.proofs.Common.{◌≡◌, ℕ, ◌<◌, Bool, true, false, ◌&&◌, not, [], refl, sym, ap, subst, ◌∙◌, arith}
 use Rattle.std.specs.Prelude.{IsTrue, IsFalse}
 use Rattle.std.specs.List.{list_any, range_with_len}
 use Rattle.std.proofs.lemmas.Bool.{and_parts}
@@ -11,6 +11,7 @@ use Rattle.lvm_num.specs.Descriptor.{IsValid, copies_of, is_member, is_pp}
 use Rattle.lvm_num.specs.Disks.{Disks}
 use Rattle.lvm_num.specs.Status.{calls_stale}
 use Rattle.lvm_num.proofs.Booleans.{clash_gives}
+use Rattle.lvm_num.proofs.AmongLemmas.{one_any, of_range}
 use Rattle.lvm_status.specs.Update.{members_there}
 use Rattle.lvm_kept.specs.Group.{IsOneOf}
 use Rattle.lvm_stale.specs.Marking.{IsLeftIn, is_served}
@@ -19,20 +20,10 @@ use Rattle.lvm_tie.specs.passed.Names.{NoneIsLeft, there}
 use Rattle.lvm_session.specs.State.{Core}
 use Rattle.lvm_session.specs.Judging.{is_missing, is_stale, is_usable, is_wanted_stale}
 use Rattle.lvm_session.specs.Marks.{can_replace, is_among, is_entailed, is_entailed_in, is_left_behind}
-use Rattle.lvm_tie.proofs.AmongLemmas.{any_one, not_true, or_true}
+use Rattle.lvm_tie.proofs.AmongLemmas.{any_one, not_true}
 use Rattle.lvm_tie.proofs.passed.Names.{pp_same}
 
 -- ---- lists
-
-pub passes : {X : Type 0} (test : X → Bool) (xs : List X) (x : X) → IsOneOf xs x → test x ≡ true → list_any test xs ≡ true
-passes test [] x one is = absurd one
-passes test (y ∷ ys) x (inl same) is = or_true (test y) (list_any test ys) (inl (sym (ap test same) ∙ is))
-passes test (y ∷ ys) x (inr later) is = or_true (test y) (list_any test ys) (inr (passes test ys x later is))
-
-below : (first n k : ℕ) → IsOneOf (range_with_len first n) k → k < first + n
-below first zero k one = absurd one
-below first (suc n) k (inl is) = omega (arith, is)
-below first (suc n) k (inr later) = let low = below (first + 1) n k later in omega (arith, low)
 
 -- ---- nothing that missing disks would entail
 
@@ -70,7 +61,7 @@ module _ (core : Core) (valid : IsValid core.descriptor) (group : core.status.gr
         let one : IsOneOf (copies_of row lp) p = subst (IsOneOf (copies_of row lp)) (sym (pp_same p among.0 among.2)) among.1 in
         let other = any_one (can_replace core) (copies_of row lp) all.1 in
         let served : IsTrue (is_served present core.status.wanted (copies_of row lp)) =
-        passes (λ (q : Pp). present q.disk && not (calls_stale core.status.wanted q)) (copies_of row lp) other.0 other.1 (serves other.0 other.1 other.2) in
+        one_any (λ (q : Pp). present q.disk && not (calls_stale core.status.wanted q)) (copies_of row lp) other.0 other.1 (serves other.0 other.1 other.2) in
         let left : IsLeftIn present core.status.wanted core.descriptor.lvs p =
         record { row = row; volume = volume; left = record { lp = lp; below = low; left = record { one = one; absent = absent three.1; served = served } } } in
         (none p left, sym (ap (λ (s : Status). calls_stale s p) committed) ∙ not_true (is_stale core p) two.1)
@@ -83,6 +74,6 @@ module _ (core : Core) (valid : IsValid core.descriptor) (group : core.status.gr
       by true is =
           let v = any_one (λ (row : LvRow). is_entailed_in core row p) core.descriptor.lvs is in
           let l = any_one (λ (lp : ℕ). is_left_behind core (copies_of v.0 lp) p) (range_with_len 0 v.0.lps) v.2 in
-          let low : l.0 < v.0.lps = let high = below 0 v.0.lps l.0 l.1 in omega (arith, high) in
+          let low : l.0 < v.0.lps = let high = of_range 0 v.0.lps l.0 l.1 in omega (arith, high) in
           let both = left_behind v.0 v.1 l.0 low l.2 in
           clash_gives (calls_stale core.status.wanted p) both.0 both.1

@@ -9,6 +9,7 @@ use Rattle.lvm_num.specs.declared.descriptor.LvRow.{LvRow}
 use Rattle.lvm_num.specs.declared.descriptor.Descriptor.{Descriptor}
 use Rattle.lvm_num.specs.Descriptor.{IsValid, copies_of, volume_of}
 use Rattle.lvm_num.specs.Geometry.{partition_blocks, sector_of, track_group_of}
+use Rattle.lvm_num.proofs.Lists.{pairs_tail}
 use Rattle.lvm_kept.specs.Group.{IsOneOf}
 use Rattle.lvm_map.specs.Places.{copy_at, place_on, place_of}
 use Rattle.lvm_map.proofs.Parts.{same_parts, parts, whole}
@@ -21,9 +22,6 @@ pub one_at : {X : Type 0} (xs : List X) (x : X) → IsOneOf xs x → (k : ℕ) �
 one_at [] x one = absurd one
 one_at (y ∷ ys) x (inl is) = (0, omega arith, λ d. sym is)
 one_at (y ∷ ys) x (inr one) = let rest = one_at ys x one in let lt = rest.1 in (suc rest.0, omega arith, rest.2)
-
-pairs_tail : {X : Type 0} (R : X → X → Type 0) (y : X) (ys : List X) → AllPairs R (y ∷ ys) → AllPairs R ys
-pairs_tail R y ys pairs i j d less lt = pairs (suc i) (suc j) d (omega arith) (omega arith)
 
 volume_found : (rows : List LvRow) (row : LvRow) → AllPairs (λ (a b : LvRow). a.number < b.number) rows → IsOneOf rows row → find (λ (r : LvRow). r.number == row.number) rows ≡ Some row
 volume_found [] row rise one = absurd one

@@ -35,6 +35,7 @@ use Rattle.lvm_line.specs.passed.Mirrors.{IsWithFirst, IsWithMore}
 use Rattle.lvm_line.specs.passed.Names.{first_copies, with_copies, with_map}
 use Rattle.lvm_num.specs.declared.descriptor.Mode.TheVariants.{Passive}
 use Rattle.lvm_num.specs.declared.place.Pp.{Pp}
+use Rattle.lvm_num.proofs.Lists.{some_told}
 use Rattle.lvm_volume_plan.specs.declared.new_volume.NewVolume.{NewVolume}
 use Rattle.lvm_volume_plan.specs.NewVolume.{row_for, without_volume}
 use Rattle.lvm_volume_plan.specs.Faults.{ends_session}
@@ -52,7 +53,7 @@ use Rattle.lvm_line.specs.passed.VolumeLines.{Drains, IsDone, StaysOn, MklvDoes,
 use Rattle.lvm_top.specs.OneGroup.{FindsNoPassive}
 use Rattle.lvm_top.specs.Standing.{MayHaveCommitted, StoodBefore, WasDrained}
 use Rattle.lvm_top.proofs.StandingLemmas.Acknowledged.{begun_by}
-use Rattle.lvm_top.proofs.StandingLemmas.Volumes.{as_group, held_mid, some_of}
+use Rattle.lvm_top.proofs.StandingLemmas.Volumes.{as_group, held_mid}
 
 -- no volume of the group that is on is in mode passive
 abbrev pub HasNoPassiveOn : ScriptState → Type 0
@@ -131,7 +132,7 @@ committed_off line (Ok (Some (command.Cut word))) is answer old new off id k it 
 -- what the disks hold is found
 held_found : (device : Device) (core : Core) → IsHeld device core → IsSome device.media → MayBeFound device core.descriptor.id core.descriptor
 held_found device core held told =
-    let m = some_of device.media told in
+    let m = some_told device.media told in
     let shown = told_at device.media (λ (x : Media). HoldsCommitted (image_of device.sizes x) core.descriptor core.status.committed (is_there core) core.status.stamp core.homes) m.0 m.1 held in
     (image_of device.sizes m.0, media_may device m.0 m.1, (all_disks, shown.shows.found))
 

@@ -4,6 +4,7 @@ use Rattle.std.specs.Prelude.{⊤, MatchBool, IfSome}
 use Rattle.std.proofs.lemmas.List.{nil_from_length}
 use Rattle.lvm_num.specs.declared.place.Pp.{Pp}
 use Rattle.lvm_num.specs.declared.descriptor.Descriptor.{Descriptor}
+use Rattle.lvm_num.proofs.Lists.{none_or_some}
 use Rattle.lvm_disk.specs.Device.{Device, HasSectors, IsReady}
 use Rattle.lvm_vol.specs.Facts.{Fact}
 use Rattle.lvm_vol.specs.Log.{Log}
@@ -27,7 +28,7 @@ use Rattle.lvm_range_lines.specs.passed.HolderVariants as holder
 use Rattle.lvm_range_lines.proofs.passed.Stage.{LeavesAnswers}
 use Rattle.lvm_volume_lines.specs.Commands.{HasRested, IsCarriedOut, IsHeldAgain, IsLeftAs, IsLeftOff, IsLeftOn}
 use Rattle.lvm_volume_lines.specs.Volumes.{Drains, IsDone, StaysOn, volume_reply}
-use Rattle.lvm_volume_lines.proofs.Commanding.{Acts, AtMid, ClosesWell, Promised, empty_or, goes_off, goes_on, promised_by, ready_mid, rows_mid}
+use Rattle.lvm_volume_lines.proofs.Commanding.{Acts, AtMid, ClosesWell, Promised, goes_off, goes_on, promised_by, ready_mid, rows_mid}
 use Rattle.lvm_volume_lines.proofs.Ending.{Facts, SameShape, closes_after, one_answer, ready_still, rows_stay}
 use Rattle.lvm_volume_lines.proofs.Resting.{IsStill, TurnsKeep, still_turns, turns_keep}
 
@@ -45,7 +46,7 @@ module _ {S : Type 0} (device : S → Device) (added : List Pp) (driver : S × C
 
   -- the status with which it began has the rows of the members
   pub rows_again : HasItsRows driver.1.descriptor driver.1.origin.table → HasItsRows held.core.descriptor held.core.origin.table
-  rows_again rows = either (empty_or driver.1.descriptor.lvs)
+  rows_again rows = either (none_or_some driver.1.descriptor.lvs)
     where
       either : (driver.1.descriptor.lvs ≡ []) ⊎ (driver.1.descriptor.lvs ≢ []) → HasItsRows held.core.descriptor held.core.origin.table
       either (inl none) = subst (λ (c : Core). HasItsRows c.descriptor c.origin.table) (sym (held.empty none)) rows

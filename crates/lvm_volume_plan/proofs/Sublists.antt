@@ -13,9 +13,6 @@ use Rattle.lvm_core.specs.passed.Names.{IsOneOf}
 pub pairs_one : {X : Type 0} (R : X → X → Type 0) (y : X) → AllPairs R (y ∷ [])
 pairs_one R y i j d less lt = absurd (omega (arith, less, lt))
 
-pub pairs_rest : {X : Type 0} (R : X → X → Type 0) (y : X) (xs : List X) → AllPairs R (y ∷ xs) → AllPairs R xs
-pairs_rest R y xs pairs = AllPairs-right R (y ∷ []) xs pairs
-
 -- ---- one more
 
 module _ {X : Type 0} (xs : List X) (k : ℕ) (y : X) (le : k ≤ length xs) where

@@ -1,5 +1,5 @@
 -- A descriptor in which a volume keeps its first copies.
-use Rattle.std.proofs.Common.{◌≡◌, ◌≢◌, inl, inr, ℕ, zero, suc, ◌+◌, ◌*◌, ◌<◌, ◌≤◌, Bool, true, false, List, [], ◌∷◌, ◌++◌, length, get_or, take, drop, Some, map, refl, sym, ap, subst, ◌∙◌, arith}
+use Rattle.std.proofs.Common.{◌≡◌, ◌≢◌, inl, inr, ℕ, suc, ◌+◌, ◌*◌, ◌<◌, ◌≤◌, Bool, true, false, List, [], ◌∷◌, ◌++◌, length, get_or, take, drop, Some, map, refl, sym, ap, subst, ◌∙◌, arith}
 use Rattle.std.specs.Prelude.{◌==◌, if◌then◌else◌, All, AllPairs}
 use Rattle.std.proofs.lemmas.Bool.{eqb-true, cases_lt}
 use Rattle.std.proofs.lemmas.List.{length-map, length-take-le, length-drop, get_or-take, get_or-drop, get_or_default}
@@ -11,18 +11,13 @@ use Rattle.lvm_num.specs.declared.descriptor.LvRow.{LvRow}
 use Rattle.lvm_num.specs.declared.descriptor.Descriptor.{Descriptor}
 use Rattle.lvm_num.specs.Descriptor.{IsVolume, IsPartitionOf, IsLaidOut, IsValid, copies_of, partitions_in, volume_of}
 use Rattle.lvm_num.proofs.Pairs.{All-left, All-right, AllPairs-left, AllPairs-right, AllPairs-across, AllPairs-append}
+use Rattle.lvm_num.proofs.AmongLemmas.{one_of_take}
 use Rattle.lvm_map.proofs.PlacesLemmas.{laid_out}
 use Rattle.lvm_kept.specs.Group.{IsOneOf}
 use Rattle.lvm_copy_plan.specs.Copies.{with_map, with_copies, first_copies}
 use Rattle.lvm_copy_plan.proofs.Parts.{IsPart, all_of, pairs_of, length_of, part_there}
 use Rattle.lvm_copy_plan.proofs.CopiesLemmas.Rows.{other, only, same_number, same_name, keeps_pairs}
 use Rattle.lvm_copy_plan.proofs.CopiesLemmas.More.{none_past}
-
-one_take : {X : Type 0} (n : ℕ) (xs : List X) (x : X) → IsOneOf (take n xs) x → IsOneOf xs x
-one_take zero xs x one = absurd one
-one_take (suc n) [] x one = absurd one
-one_take (suc n) (y ∷ ys) x (inl here) = inl here
-one_take (suc n) (y ∷ ys) x (inr there) = inr (one_take n ys x there)
 
 -- ---- partitions of the volumes, where one has others
 
@@ -110,7 +105,7 @@ module _ (d : Descriptor) (lv copies : ℕ) (row : LvRow) (valid : IsValid d) (v
 
   pub old_copies : (lp : ℕ) (p : Pp) → IsOneOf (copies_of new lp) p → IsOneOf (copies_of row lp) p
   old_copies lp p one = elim (cases_lt lp row.lps) [
-    | inl lt ↦ one_take copies (copies_of row lp) p (subst (λ (xs : List Pp). IsOneOf xs p) (first_are lp lt) one)
+    | inl lt ↦ one_of_take copies (copies_of row lp) p (subst (λ (xs : List Pp). IsOneOf xs p) (first_are lp lt) one)
     | inr past ↦ absurd (none_past new lp p new_whole past one)
   ]
 

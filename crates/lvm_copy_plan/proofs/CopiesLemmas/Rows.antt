@@ -4,14 +4,13 @@ use Rattle.std.specs.Prelude.{◌==◌, find, option_map, slice_get, All, AllPai
 use Rattle.std.proofs.lemmas.Bool.{eqb-true, false≢true}
 use Rattle.std.proofs.lemmas.List.{get_or-map, length-map}
 use Rattle.std.proofs.lemmas.List.Elements.{All-contains}
-use Rattle.lvm_map.proofs.FirstFitLemmas.FreeLists.{AllPairs-first}
 use Rattle.lvm_num.specs.declared.place.Pp.{Pp}
 use Rattle.lvm_num.specs.declared.descriptor.LvRow.{LvRow}
 use Rattle.lvm_num.specs.declared.descriptor.Descriptor.{Descriptor}
+use Rattle.lvm_num.proofs.Lists.{pairs_head, pairs_tail}
 use Rattle.lvm_kept.specs.Group.{IsOneOf}
 use Rattle.lvm_steps.specs.Committing.{DiffersInVolume}
 use Rattle.lvm_volume_plan.proofs.passed.Names.{contains}
-use Rattle.lvm_volume_plan.proofs.Sublists.{pairs_rest}
 use Rattle.lvm_copy_plan.specs.Copies.{with_map, with_copies}
 
 abbrev has_number : ℕ → LvRow → Bool
@@ -23,12 +22,12 @@ AreRising rows = AllPairs (λ (a b : LvRow). a.number < b.number) rows
 -- the first volume of the number is the only one
 pub only : (lv : ℕ) (rows : List LvRow) (row x : LvRow) → AreRising rows → find (has_number lv) rows ≡ Some row → IsOneOf rows x → x.number ≡ lv → x ≡ row
 only lv [] row x rising is one its = absurd one
-only lv (y ∷ ys) row x rising is one its = by_test (y.number == lv) refl (λ rest among. only lv ys row x (pairs_rest (λ (a b : LvRow). a.number < b.number) y ys rising) rest among its) is one
+only lv (y ∷ ys) row x rising is one its = by_test (y.number == lv) refl (λ rest among. only lv ys row x (pairs_tail (λ (a b : LvRow). a.number < b.number) y ys rising) rest among its) is one
   where
     by_test : (t : Bool) → (y.number == lv) ≡ t → (find (has_number lv) ys ≡ Some row → IsOneOf ys x → x ≡ row) → (if t then Some y else find (has_number lv) ys) ≡ Some row → IsOneOf (y ∷ ys) x → x ≡ row
     by_test true test rest is (inl here) = cc
     by_test true test rest is (inr there) =
-        let less : y.number < x.number = All-contains (λ (b : LvRow). y.number < b.number) ys x (AllPairs-first (λ (a b : LvRow). a.number < b.number) y ys rising) (contains ys x there) in
+        let less : y.number < x.number = All-contains (λ (b : LvRow). y.number < b.number) ys x (pairs_head (λ (a b : LvRow). a.number < b.number) y ys rising) (contains ys x there) in
         let own = eqb-true y.number lv test in
         absurd (omega (arith, less, own, its))
     by_test false test rest is (inl here) = absurd (false≢true (sym test ∙ eq-eqb y.number lv (ap (λ (r : LvRow). r.number) (sym here) ∙ its)))
@@ -136,12 +135,12 @@ module _ (lv copies : ℕ) (pps : List Pp) where
       let same : x ≡ row = cc in
       let own : x.number ≡ lv = ap (λ (r : LvRow). r.number) same ∙ its in
       let here : other x ≡ with_map row copies pps = ap (λ (t : Bool). if t then with_map x copies pps else x) (eq-eqb x.number lv own) ∙ ap (λ (r : LvRow). with_map r copies pps) same in
-      let rest : map other xs ≡ xs = none_other xs (λ k e lt number. let less = AllPairs-first (λ (a b : LvRow). a.number < b.number) x xs rising k e lt in omega (arith, less, own, number)) in
+      let rest : map other xs ≡ xs = none_other xs (λ k e lt number. let less = pairs_head (λ (a b : LvRow). a.number < b.number) x xs rising k e lt in omega (arith, less, own, number)) in
       λ t. here t ∷ rest t
   is_set (x ∷ xs) (suc k) row rising is its =
-      let less : x.number < row.number = before xs k (AllPairs-first (λ (a b : LvRow). a.number < b.number) x xs rising) is in
+      let less : x.number < row.number = before xs k (pairs_head (λ (a b : LvRow). a.number < b.number) x xs rising) is in
       let here : other x ≡ x = apart (x.number == lv) refl (λ same. omega (arith, less, its, same)) in
-      let rest = is_set xs k row (pairs_rest (λ (a b : LvRow). a.number < b.number) x xs rising) is its in
+      let rest = is_set xs k row (pairs_tail (λ (a b : LvRow). a.number < b.number) x xs rising) is its in
       λ t. here t ∷ rest t
     where
       apart : (t : Bool) → (x.number == lv) ≡ t → (x.number ≡ lv → ⊥) → (if t then with_map x copies pps else x) ≡ x

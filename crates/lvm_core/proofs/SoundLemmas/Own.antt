@@ -3,6 +3,7 @@ use Rattle.std.proofs.Common.{◌≡◌, inl, inr, ℕ, zero, suc, ◌≤◌, �
 use Rattle.std.specs.Prelude.{count_by, slice_index_or, ◌==◌}
 use Rattle.std.proofs.lemmas.Bool.Decides.{nat_tests}
 use Rattle.lvm_num.specs.Buffer.{Buffer}
+use Rattle.lvm_num.proofs.Lists.{none_out}
 use Rattle.lvm_disk.specs.Device.{Device, Flight, IsReady}
 use Rattle.lvm_vol.specs.Log.{Log}
 use Rattle.lvm_write.specs.Written.{FreesAtMost, IsDarkened, IsGivenUp}
@@ -37,11 +38,6 @@ pub rooms_stay : (old new : Session) → HasRooms old → SameRooms old new → 
 rooms_stay old new has same sizes = rooms_last old new has same sizes.most sizes.buffers
 
 -- ---- the buffers
-
-pub none_out : (count n : ℕ) → slice_index_or (replicate count false) n false ≡ false
-none_out zero n = refl
-none_out (suc count) zero = refl
-none_out (suc count) (suc n) = none_out count n
 
 all_in : (pool : List Bool) (n : ℕ) → pool ≡ replicate (length pool) false → slice_index_or pool n false ≡ false
 all_in pool n all = ap (λ (p : List Bool). slice_index_or p n false) all ∙ none_out (length pool) n

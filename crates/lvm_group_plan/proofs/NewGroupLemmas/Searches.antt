@@ -8,6 +8,7 @@ use Rattle.std.proofs.lemmas.List.Elements.{filter-append}
 use Rattle.std.proofs.lemmas.List.FromFn.{get_or-range_with_len, length-range_with_len}
 use Rattle.std.proofs.lemmas.List.Folds.{list_any_at}
 use Rattle.std.proofs.lemmas.Map.Views.{any-filter_same}
+use Rattle.lvm_num.proofs.Lists.{range_next}
 use Rattle.lvm_group_plan.specs.NewGroup.{clear_row, disks_in_order}
 
 -- ---- searches
@@ -135,16 +136,6 @@ unfolding disks_in_order
 all_in_order n is = ap (range_with_len 0) is
 
 -- ---- a range and the number behind it
-
-range_next : (a n : ℕ) → range_with_len a (suc n) ≡ range_with_len a n ++ (a + n) ∷ []
-range_next a zero = ap (λ (x : ℕ). x ∷ []) (from_zero a)
-  where
-    from_zero : (a : ℕ) → ◌≡◌ {A = ℕ} a (a + 0)
-    from_zero a = omega arith
-range_next a (suc n) = ap (λ (l : List ℕ). a ∷ l) (range_next (a + 1) n ∙ ap (λ (x : ℕ). range_with_len (a + 1) n ++ x ∷ []) (further a n))
-  where
-    further : (a n : ℕ) → ◌≡◌ {A = ℕ} (a + 1 + n) (a + suc n)
-    further a n = omega arith
 
 pub range_more : (n : ℕ) → range_with_len 0 (n + 1) ≡ range_with_len 0 n ++ n ∷ []
 range_more n = ap (range_with_len 0) (one_more n) ∙ range_next 0 n ∙ ap (λ (x : ℕ). range_with_len 0 n ++ x ∷ []) (none_less n)

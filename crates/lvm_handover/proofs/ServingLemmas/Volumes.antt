@@ -12,6 +12,7 @@ use Rattle.lvm_num.specs.Descriptor.{IsPartitionOf, IsValid, copies_of, is_membe
 use Rattle.lvm_num.specs.Geometry.{volume_blocks}
 use Rattle.lvm_num.specs.Status.{calls_stale}
 use Rattle.lvm_num.proofs.Booleans.{second_with_first}
+use Rattle.lvm_num.proofs.AmongLemmas.{one_any}
 use Rattle.lvm_disk.specs.Counts.{NoneFalls}
 use Rattle.lvm_disk.proofs.CountingLemmas.{none_falls_at_once}
 use Rattle.lvm_vol.specs.declared.entry.Vol.TheVariants.{Lv}
@@ -42,7 +43,6 @@ use Rattle.lvm_volumes.proofs.StagesLemmas.Entering.{many_bound}
 use Rattle.lvm_volumes.proofs.DescriptorLemmas.{places_of}
 use Rattle.lvm_handover.specs.Serving.{GoesOnWith, MayServe, MklvServes, RmlvServes, StaysSound}
 use Rattle.lvm_keeps.proofs.LeftLemmas.Updates.{few_updates}
-use Rattle.lvm_tie_begins.proofs.MarksLemmas.{passes}
 use Rattle.lvm_handover.proofs.CommitSettlingLemmas.{none_left}
 use Rattle.lvm_handover.proofs.ServingLemmas.Serving.{commands_serve}
 
@@ -85,7 +85,7 @@ module _ (old : State) (sound : IsSound old) (began : IsSettled old.core) where
   -- a copy that was fresh when it began has a fresh one beside it
   pub had_fresh : (lv lp : ℕ) (p : Pp) → IsOneOf (copies_in old.core.descriptor lv lp) p → IsFalse (calls_stale old.core.origin.table p) → HasFresh old.core lv lp
   had_fresh lv lp p one fresh =
-      let some = going.fresh lv lp (passes (may_be_fresh old.core) (copies_in old.core.descriptor lv lp) p one (ap (λ (b : Bool). not b || not (is_settled old.core p && is_wanted_stale old.core p)) fresh)) in
+      let some = going.fresh lv lp (one_any (may_be_fresh old.core) (copies_in old.core.descriptor lv lp) p one (ap (λ (b : Bool). not b || not (is_settled old.core p && is_wanted_stale old.core p)) fresh)) in
       weaker (copies_in old.core.descriptor lv lp) some
     where
       second : (a b : Bool) → not a && not b ≡ true → not b ≡ true

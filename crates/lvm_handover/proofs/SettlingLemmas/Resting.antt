@@ -13,6 +13,7 @@ use Rattle.lvm_num.specs.Disks.{has}
 use Rattle.lvm_num.specs.Status.{calls_missing}
 use Rattle.lvm_num.specs.Votes.{CanWrite, is_enough_to_write, votes_in}
 use Rattle.lvm_num.proofs.Booleans.{none_if}
+use Rattle.lvm_num.proofs.Lists.{all_false}
 use Rattle.lvm_mwc.specs.Cache.{flight_on}
 use Rattle.lvm_status.specs.Update.{is_held, is_owed, is_there as is_there_so, seen}
 use Rattle.lvm_session.specs.declared.event.Event.{Event}
@@ -37,10 +38,6 @@ use Rattle.lvm_keeps.proofs.VotesLemmas.{enough_more, more_votes}
 or_none : (a b : Option Event) → or_next a b ≡ None → (a ≡ None) × (b ≡ None)
 or_none None b e = (refl, e)
 or_none (Some it) b e = absurd (cc e)
-
-all_false : {A : Type 0} (t : A → Bool) (xs : List A) → list_any t xs ≡ false → AllByRecursion (λ (x : A). t x ≡ false) xs
-all_false t [] none = tt
-all_false t (x ∷ xs) none = let it = or_parts (t x) (list_any t xs) none in (it.0, all_false t xs it.1)
 
 module _ (s : State) (sound : IsSound s) (drained : IsDrained s) (closed : HasNoneOpen s.core) where
   abbrev core : Core

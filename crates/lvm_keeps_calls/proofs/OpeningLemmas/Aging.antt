@@ -1,7 +1,7 @@
 -- A table all of whose requests are aged.
 use Rattle.std.proofs.Common.{◌≡◌, ◌<◌, ℕ, zero, suc, Bool, true, false, ◌||◌, if◌then◌else◌, nat_lt, List, [], ◌∷◌, ◌++◌, Some, length, map, slice_get, refl, ◌∙◌, ap, arith}
 use Rattle.std.specs.Prelude.{All, count_by}
-use Rattle.std.specs.List.{AllByRecursion, list_any}
+use Rattle.std.specs.List.{list_any}
 use Rattle.std.proofs.lemmas.List.Elements.{All-head, All-tail}
 use Rattle.lvm_vol.specs.Facts.{Fact}
 use Rattle.lvm_vol.specs.Log.{is_open}
@@ -72,10 +72,6 @@ asked_aged facts o its = record {
 }
 
 -- ---- both hold of each
-
-pub all_both : {A : Type 0} (P Q : A → Type 0) (xs : List A) → AllByRecursion P xs → AllByRecursion Q xs → AllByRecursion (λ (x : A). P x × Q x) xs
-all_both P Q [] one two = tt
-all_both P Q (x ∷ xs) one two = ((one.0, two.0), all_both P Q xs one.1 two.1)
 
 -- ---- a row behind all others
 

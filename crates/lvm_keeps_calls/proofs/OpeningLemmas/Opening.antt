@@ -14,7 +14,7 @@ use Rattle.lvm_num.specs.Disks.{has}
 use Rattle.lvm_num.specs.Geometry.{partition_blocks, track_group_of}
 use Rattle.lvm_num.specs.Status.{calls_dirty, calls_stale}
 use Rattle.lvm_num.proofs.DescriptorLemmas.Bounds.{few_members, few_volumes}
-use Rattle.lvm_num.proofs.Booleans.{first_holds, not_so}
+use Rattle.lvm_num.proofs.Booleans.{first_holds, not_so, none_below, not_first}
 use Rattle.lvm_disk.specs.Counts.{Counts}
 use Rattle.lvm_disk.specs.Device.{Flight}
 use Rattle.lvm_vol.specs.Log.{next_id}
@@ -40,6 +40,7 @@ use Rattle.lvm_session.specs.declared.answers.CopyFault.TheVariants as refusal
 use Rattle.lvm_session.specs.Calls.{OpenGives, Opens, aged, copy_at, copy_fault, faults_of, has_numbers, opened, refusal_at}
 use Rattle.lvm_session.specs.Dark.{hand_of_copy}
 use Rattle.lvm_num.specs.Modes.{is_passive}
+use Rattle.lvm_num.proofs.Lists.{all_weaker, all_both}
 use Rattle.lvm_session.specs.Marks.{is_among}
 use Rattle.lvm_session.specs.Asking.{IsAwake}
 use Rattle.lvm_session.specs.Causes.{AreCaused, AreCounted, IsAnswered, IsCaused, IsChosenSince, IsCausedAmong, IsLandedFor, fails_on, faults_at_first, faults_at_opening, is_held_stale}
@@ -55,14 +56,14 @@ use Rattle.lvm_calls.proofs.passed.Names.{few_copies}
 use Rattle.lvm_keeps.specs.Keeps.{OpenKeeps}
 use Rattle.lvm_keeps.proofs.CausesLemmas.{counted_still, landed_still, origin_still}
 use Rattle.lvm_keeps.proofs.SoundLemmas.Fitting.{still_fits}
-use Rattle.lvm_keeps.proofs.Lists.{all_mapped, all_on}
+use Rattle.lvm_keeps.proofs.Lists.{all_mapped}
 use Rattle.lvm_keeps.proofs.OwnersLemmas.Rows.{all_fly, rows_by, status_still}
 use Rattle.lvm_keeps.proofs.Small.{and_on, most_on, none_on}
 use Rattle.lvm_keeps.proofs.RequestsLemmas.{if_on, laid_on, moved, ready_on, shape_on}
 use Rattle.lvm_keeps.proofs.LeftLemmas.Updates.{one_if}
 use Rattle.lvm_keeps.proofs.SoundLemmas.Whole.{sound_when_on}
 use Rattle.lvm_keeps_calls.specs.Opening.{SeenOpenKeeps}
-use Rattle.lvm_keeps_calls.proofs.OpeningLemmas.Aging.{all_both, any_aged, asked_aged, count_aged, get_aged, long_aged, row_last, rows_aged, told_aged}
+use Rattle.lvm_keeps_calls.proofs.OpeningLemmas.Aging.{any_aged, asked_aged, count_aged, get_aged, long_aged, row_last, rows_aged, told_aged}
 
 -- ---- what a copy is that isn't refused
 
@@ -83,13 +84,7 @@ fine_of core copies p is = by (is_settled core p) (is_missing core p.disk) (list
     by true true c d s t o n e = absurd (cc e)
     by false b c d s t o n e = absurd (cc e)
 
-none_below : (n : ℕ) → nat_lt n 0 ≡ false
-none_below n = grind (arith)
-
 -- ---- sources
-
-not_zero : (n : ℕ) → (suc n == 0) ≡ false
-not_zero n = grind (arith)
 
 some_source : (t u : Pp → Bool) (ps : List Pp) → ((p : Pp) → t p ≡ true) → list_any u ps ≡ true → (length (filter u ps) == 0 ≡ false) × (is_none (find t (filter u ps)) ≡ false)
 some_source t u [] free is = not_so is
@@ -97,7 +92,7 @@ some_source t u (p ∷ ps) free is = by (u p) is (λ e. some_source t u ps free 
   where
     by : (b : Bool) → b || list_any u ps ≡ true → (list_any u ps ≡ true → (length (filter u ps) == 0 ≡ false) × (is_none (find t (filter u ps)) ≡ false))
         → (length (if b then p ∷ filter u ps else filter u ps) == 0 ≡ false) × (is_none (find t (if b then p ∷ filter u ps else filter u ps)) ≡ false)
-    by true e rest = (not_zero (length (filter u ps)), ap (λ b. is_none (if b then Some p else find t (filter u ps))) (free p))
+    by true e rest = (not_first (length (filter u ps)), ap (λ b. is_none (if b then Some p else find t (filter u ps))) (free p))
     by false e rest = rest e
 
 -- ---- counts at the opening
@@ -387,7 +382,7 @@ module _ (s : State) (sound : IsSound s) (on : s.core.power ≡ power.On) (none 
   keeps_on = let was = sound.on on in record {
     going = keeps_going;
     rows = rows_by core now.core (λ who. flies core who ≡ true) (λ who f is of. transfer_on who f of) core.flying s.device.flights (all_fly core going.owned) was.rows;
-    caused = all_mapped (AreCaused s.device core) (AreCaused s.device now.core) aged (λ x all waiting. all_on (IsCaused s.device core) (IsCaused s.device now.core) blamed_same x.request.targets.items (all waiting)) core.requests was.caused;
+    caused = all_mapped (AreCaused s.device core) (AreCaused s.device now.core) aged (λ x all waiting. all_weaker (IsCaused s.device core) (IsCaused s.device now.core) blamed_same x.request.targets.items (all waiting)) core.requests was.caused;
     chosen = all_aged core.requests;
   }
 

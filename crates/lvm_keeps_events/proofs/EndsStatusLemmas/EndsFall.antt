@@ -12,6 +12,7 @@ use Rattle.lvm_num.specs.declared.record.NoteEntry.{NoteEntry}
 use Rattle.lvm_num.specs.Disks.{has}
 use Rattle.lvm_num.specs.Status.{calls_missing}
 use Rattle.lvm_num.proofs.Booleans.{not_so}
+use Rattle.lvm_num.proofs.Lists.{all_weaker}
 use Rattle.lvm_mwc.specs.declared.notes.DiskNotes.{DiskNotes}
 use Rattle.lvm_mwc.proofs.NotesLemmas.{named_after_all}
 use Rattle.lvm_mwc.specs.Notes.{both_name, names_group}
@@ -35,7 +36,6 @@ use Rattle.lvm_session.specs.Marks.{Reviews}
 use Rattle.lvm_session.specs.Left.{begun_left, copy_left, if_so, is_held, lacks_dirty, lacks_note, left_of, phase_left, read_left, request_left, status_left, turns_of, unbegun_left, update_work, work_left}
 use Rattle.lvm_session.specs.Owners.{flies}
 use Rattle.lvm_session.specs.Sound.{IsGoing, pins}
-use Rattle.lvm_keeps.proofs.Lists.{all_on}
 use Rattle.lvm_keeps.proofs.KeepsLemmas.NoteStart.{each_counted}
 use Rattle.lvm_keeps.proofs.Small.{both, is_false}
 use Rattle.lvm_keeps_events.proofs.EndsLemmas.NoteEnd.{beside, flight_beside, here}
@@ -149,7 +149,7 @@ module _ (core : Core) (going : IsGoing core) (disk at : ℕ) (row : Flown) (the
   IsKept x = x.request.pinned ≡ true → 1 ≤ pins_of core.cache.entries (lv_of x.request.ask) (group_of x.request.ask)
 
   kept : AllByRecursion IsKept core.requests
-  kept = all_on (λ (x : Open). x.request.pinned ≡ true → 1 ≤ count_by (pins (lv_of x.request.ask) (group_of x.request.ask)) core.requests) IsKept
+  kept = all_weaker (λ (x : Open). x.request.pinned ≡ true → 1 ≤ count_by (pins (lv_of x.request.ask) (group_of x.request.ask)) core.requests) IsKept
       (λ x low is. let was = low is in let same = going.pinned (lv_of x.request.ask) (group_of x.request.ask) in omega (arith, was, same)) core.requests (each_counted core.requests)
 
   requests_less : sum_by (request_left after) core.requests ≤ sum_by (request_left core) core.requests

@@ -10,6 +10,7 @@ use Rattle.lvm_num.specs.Disks.{has}
 use Rattle.lvm_num.specs.Note.{note_bytes}
 use Rattle.lvm_num.specs.Record.{frame, slot_start}
 use Rattle.lvm_num.specs.StatusBytes.{status_bytes}
+use Rattle.lvm_num.proofs.Lists.{length_set}
 use Rattle.lvm_disk.specs.Counts.{Counts, Rose}
 use Rattle.lvm_disk.specs.Device.{Flight, Media}
 use Rattle.lvm_mwc.specs.Cache.{flight_on, has_disk}
@@ -30,7 +31,7 @@ use Rattle.lvm_session.specs.Causes.{IsCausedAmong}
 use Rattle.lvm_session.specs.Owners.{AreOwned, AreRows, IsTransferOf, flies, same_owner}
 use Rattle.lvm_session.specs.Sound.{IsGoing, IsSound, count_if, has_number, is_dark, is_hand}
 use Rattle.lvm_keeps.proofs.DarkLemmas.Ending.{back}
-use Rattle.lvm_keeps.proofs.Lists.{all_removed, length_set}
+use Rattle.lvm_keeps.proofs.Lists.{all_removed}
 use Rattle.lvm_keeps.proofs.OwnersLemmas.Rows.{all_fly}
 use Rattle.lvm_keeps_events.proofs.OwnersLemmas.Removal.{as_many, count_taken, others, rows_left, tickets_left}
 use Rattle.lvm_keeps_events.proofs.SoundLemmas.Copies.{Brings, at_end, by_review, ends_so, goes_on, going_on}

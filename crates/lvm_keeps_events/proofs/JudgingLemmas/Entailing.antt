@@ -13,6 +13,7 @@ use Rattle.lvm_num.specs.declared.place.Pp.{Pp}
 use Rattle.lvm_hold.specs.Waiting.{Waiting}
 use Rattle.lvm_num.specs.Descriptor.{is_pp}
 use Rattle.lvm_num.proofs.Booleans.{not_so}
+use Rattle.lvm_num.proofs.Lists.{all_weaker, all_at, set_beside}
 use Rattle.lvm_path.specs.Asks.{at_of, is_write}
 use Rattle.lvm_path.specs.Targets.{are_over, end_state, is_done, is_failed}
 use Rattle.lvm_path.specs.declared.request.Request.{Request}
@@ -29,7 +30,7 @@ use Rattle.lvm_session.specs.Marks.{due_of, due_targets, hits_copy, is_among}
 use Rattle.lvm_session.specs.Causes.{is_held_stale, IsChosenSince}
 use Rattle.lvm_session.specs.Requests.{IsJudged, IsLaid, may_lack, will_be_kept}
 use Rattle.lvm_session.specs.Sound.{is_clearing, IsCopy, IsGoing}
-use Rattle.lvm_keeps.proofs.Lists.{all_at, all_on, set_beside, set_here}
+use Rattle.lvm_keeps.proofs.Lists.{set_here}
 use Rattle.lvm_keeps.proofs.Small.{both, is_false}
 use Rattle.lvm_keeps_events.proofs.TargetsLemmas.{at_state}
 use Rattle.lvm_keeps_events.proofs.JudgingLemmas.DuesMarks.{due_one, has_failed, is_sure_done, IsDueOne, own_pp, pp_same, unsure_among}
@@ -250,7 +251,7 @@ module _ (core : Core) (going : IsGoing core) (place target : ℕ) (o : Open) (t
       ends = λ k same. ap (λ b. if not b then None else if is_missing core k.pp.disk then Some ending.SyncFailed else if is_whole core k then ends_if (is_cleared core k) ending.Done else end_by_sources core k) (gone k same);
       uncaught = λ write bad. refl;
       uncarried = λ over unkept. none_by (λ (t : Target). is_done t.state && false) x.request.targets.items (λ k t t_there. and_false (is_done t.state));
-      chosen = all_on (IsChosenSince core c) (IsChosenSince core (with_copy_end c ending.SyncFailed)) (λ y all. all) core.requests chosen;
+      chosen = all_weaker (IsChosenSince core c) (IsChosenSince core (with_copy_end c ending.SyncFailed)) (λ y all. all) core.requests chosen;
     }
       where
         by : (q : Pp) → (is_among (due_of core x.request) q ≡ true) ⊎ (marked q ≡ true) → (is_among (due_of core x.request) q ≡ true) ⊎ (is_held_stale core q ≡ true)

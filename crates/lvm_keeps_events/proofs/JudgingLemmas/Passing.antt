@@ -49,6 +49,7 @@ use Rattle.lvm_session.specs.declared.open.Power.TheVariants as power
 use Rattle.lvm_session.specs.Dark.{hand_of_copy}
 use Rattle.lvm_num.specs.Modes.{is_passive}
 use Rattle.lvm_num.proofs.Booleans.{not_so}
+use Rattle.lvm_num.proofs.Lists.{all_weaker, length_set, all_both}
 use Rattle.lvm_session.specs.Marks.{can_replace, is_among, is_entailed, is_entailed_in, is_left_behind}
 use Rattle.lvm_session.specs.Causes.{AreCaused, AreCounted, fails_on, is_blamed, is_held_stale, IsAnswered, IsCaused, IsChosenSince, IsCausedAmong, IsTrueToOrigin, was_fresh}
 use Rattle.lvm_session.specs.Left.{copy_updates, if_so, updates_left}
@@ -57,7 +58,6 @@ use Rattle.lvm_session.specs.Requests.{is_failed_and_sure, is_left_out, is_past_
 use Rattle.lvm_session.specs.Sound.{count_if, is_clearing, is_hand, IsCopy, IsFitting, IsGoing, IsOn, IsSound, IsTold, may_be_fresh, out_with, stays_fresh, waiting_rows, with_row}
 use Rattle.lvm_calls.proofs.LogLemmas.{below_next}
 use Rattle.lvm_keeps.proofs.CausesLemmas.{answered_when_on, counted_when_on}
-use Rattle.lvm_keeps.proofs.Lists.{all_on, length_set}
 use Rattle.lvm_keeps.proofs.OwnersLemmas.Rows.{rows_but_copy}
 use Rattle.lvm_keeps.proofs.Small.{both, is_false}
 use Rattle.lvm_keeps.proofs.RequestsLemmas.{changed, shape_still}
@@ -69,7 +69,7 @@ use Rattle.lvm_keeps_events.proofs.SoundLemmas.Over.{even_rows, without_step, no
 use Rattle.lvm_keeps_events.proofs.OwnersLemmas.Removal.{as_many, given_back, none_left, others as others_of, rows_left, tickets_left}
 use Rattle.lvm_keeps_events.proofs.JudgingLemmas.DuesMarks.{among_get, own_pp, pp_same}
 use Rattle.lvm_keeps_events.proofs.Groups.{group_low, some_size, whole_passes}
-use Rattle.lvm_keeps_events.proofs.Lists.{all_and, all_pair, all_there, any_on, found_at, or_true}
+use Rattle.lvm_keeps_events.proofs.Lists.{all_and, all_there, any_on, found_at, or_true}
 use Rattle.lvm_keeps_events.proofs.UncaughtLemmas.{some_kept}
 use Rattle.lvm_map.proofs.Parts.{whole}
 
@@ -419,9 +419,9 @@ module _ (s : State) (sound : IsSound s) (on : s.core.power ≡ power.On) (c : O
 
       uncaught_so : (is_past_held o.request.phase ≡ true) ⊎ (o.request.targets.items ≡ []) → AllByRecursion (λ (t : Target). may_lack o t && is_caught after (group_in core o.request.ask) t.pp ≡ false) o.request.targets.items
       uncaught_so (inr none) = subst (AllByRecursion (λ (t : Target). may_lack o t && is_caught after (group_in core o.request.ask) t.pp ≡ false)) (sym none) tt
-      uncaught_so (inl past) = all_on (λ (t : Target). IsTarget core o.request.ask t × (may_lack o t && is_caught core (group_in core o.request.ask) t.pp ≡ false)) (λ (t : Target). may_lack o t && is_caught after (group_in core o.request.ask) t.pp ≡ false)
+      uncaught_so (inl past) = all_weaker (λ (t : Target). IsTarget core o.request.ask t × (may_lack o t && is_caught core (group_in core o.request.ask) t.pp ≡ false)) (λ (t : Target). may_lack o t && is_caught after (group_in core o.request.ask) t.pp ≡ false)
           (λ t e. ap (λ b. may_lack o t && b) (caught_so past t.pp e.0.copy) ∙ e.1) o.request.targets.items
-          (all_pair (IsTarget core o.request.ask) (λ (t : Target). may_lack o t && is_caught core (group_in core o.request.ask) t.pp ≡ false) o.request.targets.items its_request.shape.targets (its_request.judged write).uncaught)
+          (all_both (IsTarget core o.request.ask) (λ (t : Target). may_lack o t && is_caught core (group_in core o.request.ask) t.pp ≡ false) o.request.targets.items its_request.shape.targets (its_request.judged write).uncaught)
 
       carried_same : is_past_held o.request.phase ≡ true → will_be_kept after o.request ≡ will_be_kept core o.request
       carried_same past = by o.request.targets.items its_request.shape.targets
@@ -500,7 +500,7 @@ module _ (s : State) (sound : IsSound s) (on : s.core.power ≡ power.On) (c : O
     }
 
     all_ones : AllByRecursion (IsOpenOne after) core.requests
-    all_ones = all_there (λ (o : Open). IsOpenOne core o × (o.request.id < next_id core.history)) (IsOpenOne after) core.requests (λ k o o_there e. one k o o_there e.0 e.1) (all_pair (IsOpenOne core) (λ (o : Open). o.request.id < next_id core.history) core.requests going.requests below)
+    all_ones = all_there (λ (o : Open). IsOpenOne core o × (o.request.id < next_id core.history)) (IsOpenOne after) core.requests (λ k o o_there e. one k o o_there e.0 e.1) (all_both (IsOpenOne core) (λ (o : Open). o.request.id < next_id core.history) core.requests going.requests below)
 
     -- ---- rooms, and the copy
 
@@ -742,8 +742,8 @@ module _ (s : State) (sound : IsSound s) (on : s.core.power ≡ power.On) (c : O
       going = keeps_going;
       rows = rows_but_copy core after refl (λ who. same_owner row.owner who ≡ false) (λ other. not_so (sym other ∙ ap (λ who. same_owner who owner.Copy) own)) (remove core.flying at) (remove s.device.flights at) (others_of core going.owned at row there)
           (rows_left core core.flying s.device.flights at was.rows);
-      caused = all_on (AreCaused s.device core) (AreCaused device after) (λ x all waiting. all_on (IsCaused s.device core) (IsCaused device after) (λ t why e. why (sym (ap (λ b. is_failed t.state || (t.usable && b)) (blamed_same t.pp)) ∙ e)) x.request.targets.items (all waiting)) core.requests was.caused;
-      chosen = all_on (IsChosenSince core c) (IsChosenSince after next) (λ x all. all) core.requests (subst (λ m. IfSome m (λ (k : OpenCopy). AllByRecursion (IsChosenSince core k) core.requests)) is was.chosen);
+      caused = all_weaker (AreCaused s.device core) (AreCaused device after) (λ x all waiting. all_weaker (IsCaused s.device core) (IsCaused device after) (λ t why e. why (sym (ap (λ b. is_failed t.state || (t.usable && b)) (blamed_same t.pp)) ∙ e)) x.request.targets.items (all waiting)) core.requests was.caused;
+      chosen = all_weaker (IsChosenSince core c) (IsChosenSince after next) (λ x all. all) core.requests (subst (λ m. IfSome m (λ (k : OpenCopy). AllByRecursion (IsChosenSince core k) core.requests)) is was.chosen);
     }
 
     copy_caused : IsCausedAmong now (copies_in core.descriptor c.lv c.lp) next
@@ -765,5 +765,5 @@ module _ (s : State) (sound : IsSound s) (on : s.core.power ≡ power.On) (c : O
         at_missing p (inr (inr x)) = inr (inr x)
 
     pub keeps : IsSound now
-    keeps = sound_when_on s now refl refl sound on fitting told keeps_on out (all_on (AreCounted s) (AreCounted now) (counted_when_on s now refl) core.requests sound.counted)
-        (all_on (IsAnswered s) (IsAnswered now) (answered_when_on s now refl on) core.requests sound.answered) copy_caused origin
+    keeps = sound_when_on s now refl refl sound on fitting told keeps_on out (all_weaker (AreCounted s) (AreCounted now) (counted_when_on s now refl) core.requests sound.counted)
+        (all_weaker (IsAnswered s) (IsAnswered now) (answered_when_on s now refl on) core.requests sound.answered) copy_caused origin

@@ -15,6 +15,7 @@ use Rattle.lvm_num.specs.Geometry.{partition_blocks}
 use Rattle.lvm_num.specs.Status.{calls_dirty}
 use Rattle.lvm_num.specs.Descriptor.{is_pp}
 use Rattle.lvm_num.proofs.Booleans.{not_so}
+use Rattle.lvm_num.proofs.Lists.{all_weaker}
 use Rattle.lvm_hold.specs.declared.queue.Held.{Held}
 use Rattle.lvm_hold.specs.Waiting.{is_blocked}
 use Rattle.lvm_mwc.specs.Cache.{is_named}
@@ -32,7 +33,6 @@ use Rattle.lvm_session.specs.Bringing.{groups_of}
 use Rattle.lvm_session.specs.Marks.{is_among}
 use Rattle.lvm_session.specs.Requests.{IsJudged, IsLaid, IsOpenOne, IsReady, IsRecorded, IsShaped, has_record, is_failed_and_sure, is_wanted_dirty, may_lack, mode_for, will_be_kept}
 use Rattle.lvm_session.specs.Sound.{pins}
-use Rattle.lvm_keeps.proofs.Lists.{all_on}
 use Rattle.lvm_keeps.proofs.KeepsLemmas.NoteStart.{each_counted}
 use Rattle.lvm_keeps.proofs.Small.{and_on, both, is_false}
 use Rattle.lvm_keeps.proofs.RequestsLemmas.{shape_still}
@@ -125,7 +125,7 @@ module _ (e : WriteEnd) (r : Reviewed e) (names : NamesStay e) (caught : (group 
   IsKept x = x.request.pinned ≡ true → 1 ≤ pins_of core.cache.entries (lv_of x.request.ask) (group_of x.request.ask)
 
   kept : AllByRecursion IsKept core.requests
-  kept = all_on (λ (x : Open). x.request.pinned ≡ true → 1 ≤ count_by (pins (lv_of x.request.ask) (group_of x.request.ask)) core.requests) IsKept
+  kept = all_weaker (λ (x : Open). x.request.pinned ≡ true → 1 ≤ count_by (pins (lv_of x.request.ask) (group_of x.request.ask)) core.requests) IsKept
       (λ x low is. let was = low is in let same = e.going.pinned (lv_of x.request.ask) (group_of x.request.ask) in omega (arith, was, same)) core.requests (each_counted core.requests)
 
   named_on : (x : Open) → IsKept x → (m : Mode) → IsRecorded m x.request.phase x.request → has_record x.request.phase ≡ true → 2 ≤ length x.request.targets.items → has_names core m x.request ≡ true → has_names after m x.request ≡ true
@@ -173,7 +173,7 @@ module _ (e : WriteEnd) (r : Reviewed e) (names : NamesStay e) (caught : (group 
 
     judged_on : IsJudged core x → IsJudged after x
     judged_on j = record {
-      uncaught = all_on Uncaught (λ (t : Target). may_lack x t && is_caught after group t.pp ≡ false) (λ t is. and_on (may_lack x t) (is_caught core group t.pp) (is_caught after group t.pp) (caught group t.pp) is) x.request.targets.items j.uncaught;
+      uncaught = all_weaker Uncaught (λ (t : Target). may_lack x t && is_caught after group t.pp ≡ false) (λ t is. and_on (may_lack x t) (is_caught core group t.pp) (is_caught after group t.pp) (caught group t.pp) is) x.request.targets.items j.uncaught;
       due = λ status. fewer_due (count_by (is_failed_and_sure core) x.request.targets.items) (count_by (is_failed_and_sure after) x.request.targets.items) (is_kept core x.request || will_be_kept core x.request) (is_kept after x.request || will_be_kept after x.request)
           (count_with Uncaught (is_failed_and_sure core) (is_failed_and_sure after) failed_by x.request.targets.items j.uncaught) kept_by (j.due status);
       all = λ begun p among. out_still (is_among (pps_of x.request.targets.items) p) (is_settled core p) (is_wanted_stale core p) (is_caught core group p) (is_settled after p) (is_wanted_stale after p) (is_caught after group p)

@@ -66,8 +66,9 @@ use Rattle.lvm_session.specs.Requests.{IsOpenOne, IsPhase, IsRecorded, IsRequest
 use Rattle.lvm_session.specs.Sound.{IsCopy, IsGoing, IsSound, count_if, has_number, is_dark, is_hand, pins, waiting_rows, with_row}
 use Rattle.std.proofs.lemmas.Slice.Eq.{bytes_eq-Decides}
 use Rattle.lvm_num.proofs.Booleans.{and_false, not_so, none_if, same_by_if}
+use Rattle.lvm_num.proofs.Lists.{none_each, all_false, all_at}
 use Rattle.lvm_keeps.specs.Falls.{NeverStandsStill}
-use Rattle.lvm_keeps.proofs.Lists.{all_at, count_cons}
+use Rattle.lvm_keeps.proofs.Lists.{count_cons}
 use Rattle.lvm_keeps.proofs.Small.{both, is_false}
 use Rattle.lvm_keeps.proofs.VotesLemmas.{enough_more, more_votes}
 use Rattle.lvm_keeps_events.proofs.TargetsLemmas.{count_none}
@@ -81,17 +82,10 @@ or_none None b e = (refl, e)
 or_none (Some it) b e = absurd (cc e)
 
 module _ {A : Type 0} where
-  pub all_false : (t : A → Bool) (xs : List A) → list_any t xs ≡ false → AllByRecursion (λ (x : A). t x ≡ false) xs
-  all_false t [] none = tt
-  all_false t (x ∷ xs) none = let it = or_parts (t x) (list_any t xs) none in (it.0, all_false t xs it.1)
 
   none_any : (t : A → Bool) (xs : List A) → AllByRecursion (λ (x : A). t x ≡ false) xs → list_any t xs ≡ false
   none_any t [] all = refl
   none_any t (x ∷ xs) all = ap (λ b. b || list_any t xs) all.0 ∙ none_any t xs all.1
-
-  none_each : (t : A → Bool) → ((x : A) → t x ≡ false) → (xs : List A) → list_any t xs ≡ false
-  none_each t none [] = refl
-  none_each t none (x ∷ xs) = ap (λ b. b || list_any t xs) (none x) ∙ none_each t none xs
 
   -- what holds at each place holds of each
   by_places : (P : A → Type 0) (xs : List A) → ((k : ℕ) (x : A) → slice_get xs k ≡ Some x → P x) → AllByRecursion P xs

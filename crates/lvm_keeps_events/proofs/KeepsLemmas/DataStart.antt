@@ -10,6 +10,7 @@ use Rattle.lvm_num.specs.declared.descriptor.Mode.{Mode}
 use Rattle.lvm_num.specs.declared.descriptor.Mode.TheVariants as mode
 use Rattle.lvm_num.specs.Descriptor.{is_pp}
 use Rattle.lvm_num.proofs.Booleans.{and_false, not_so}
+use Rattle.lvm_num.proofs.Lists.{all_weaker, all_at, length_set, set_beside}
 use Rattle.lvm_disk.specs.Device.{Device, Flight, Range}
 use Rattle.lvm_disk.specs.Steps.{IsFresh, Starts}
 use Rattle.lvm_vol.specs.Log.{is_open}
@@ -42,7 +43,7 @@ use Rattle.lvm_session.specs.Sound.{IsAsked, IsCopy, IsGoing, IsOn, IsSound, IsT
 use Rattle.lvm_keeps.specs.Keeps.{DataStartKeeps}
 use Rattle.lvm_keeps.proofs.CausesLemmas.{answered_still, copies_still, counted_still, origin_still}
 use Rattle.lvm_keeps.proofs.OwnersLemmas.Launching.{flights_push, none_more, owners_push, rows_push, taken, tickets_push}
-use Rattle.lvm_keeps.proofs.Lists.{all_at, all_on, all_set, any_set, count_same, count_set, length_set, set_here, set_beside}
+use Rattle.lvm_keeps.proofs.Lists.{all_set, any_set, count_same, count_set, set_here}
 use Rattle.lvm_keeps.proofs.OwnersLemmas.Rows.{all_fly, rows_on}
 use Rattle.lvm_keeps.proofs.KeepsLemmas.Starting.{first_start_is_whole}
 use Rattle.lvm_keeps.proofs.RequestsLemmas.{bring_on, if_on, no_cause, open_on}
@@ -388,7 +389,7 @@ module _ (s : State) (sound : IsSound s) (on : s.core.power ≡ power.On) (place
   target_caused t why e = why (sym (ap (λ b. is_failed t.state || (t.usable && (is_missing core t.pp.disk || is_wanted_stale core t.pp || is_held_stale core t.pp || b))) (blamed t.pp)) ∙ e)
 
   caused : (x : Open) → AreCaused s.device core x → AreCaused device now.core x
-  caused x all waiting = all_on (IsCaused s.device core) (IsCaused device now.core) target_caused x.request.targets.items (all waiting)
+  caused x all waiting = all_weaker (IsCaused s.device core) (IsCaused device now.core) target_caused x.request.targets.items (all waiting)
 
   its_caused : AreCaused s.device core o → AreCaused device now.core begun
   its_caused all waiting = all_set (IsCaused s.device core) (IsCaused device now.core) target_caused targets target flying (target_caused flying moved) (all waiting)

@@ -12,6 +12,7 @@ use Rattle.lvm_num.specs.Disks.{has}
 use Rattle.lvm_num.specs.Status.{calls_stale}
 use Rattle.lvm_num.specs.Descriptor.{is_pp}
 use Rattle.lvm_num.proofs.Booleans.{not_so}
+use Rattle.lvm_num.proofs.Lists.{all_weaker}
 use Rattle.lvm_disk.specs.Device.{Flight}
 use Rattle.lvm_hold.specs.declared.queue.Held.{Held}
 use Rattle.lvm_hold.specs.declared.queue.Row.{Row}
@@ -34,7 +35,6 @@ use Rattle.lvm_session.specs.Left.{copy_left, copy_updates, is_brought_up, step_
 use Rattle.lvm_session.specs.Owners.{IsCopyStepOf, IsStepOf, flies}
 use Rattle.lvm_session.specs.Sound.{IsCopy, IsReadFrom, count_if, is_clearing, is_hand, rows_of, waiting_rows, with_row}
 use Rattle.lvm_keeps.proofs.DarkLemmas.Ending.{back, back_long}
-use Rattle.lvm_keeps.proofs.Lists.{all_on}
 use Rattle.lvm_keeps.proofs.Small.{both, is_false}
 use Rattle.lvm_keeps.proofs.RequestsLemmas.{copy_stepped, same_next}
 use Rattle.lvm_keeps_events.proofs.SoundLemmas.Over.{even_rows, none_filter, out_no_hand, without_step}
@@ -384,7 +384,7 @@ module _ (e : WriteEnd) (status : Stored) (marks : WantsStale (due e) e.next sta
   }
     where
       chosen_over : AllByRecursion (IsChosenSince before c) before.requests → AllByRecursion (IsChosenSince then_on ended) before.requests
-      chosen_over all = all_on (IsChosenSince before c) (IsChosenSince then_on ended) (λ x one. one) before.requests all
+      chosen_over all = all_weaker (IsChosenSince before c) (IsChosenSince then_on ended) (λ x one. one) before.requests all
 
 -- ---- one or the other
 

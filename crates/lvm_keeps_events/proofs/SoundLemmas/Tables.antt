@@ -2,13 +2,13 @@
 use Rattle.std.proofs.Common.{◌≡◌, ◌==◌, ◌<◌, ℕ, zero, suc, Bool, true, false, ◌||◌, not, nat_lt, List, [], ◌∷◌, Some, slice_get, slice_set, refl, sym, ◌∙◌, ap, subst, arith, if◌then◌else◌}
 use Rattle.std.specs.List.{list_any, remove, AllByRecursion}
 use Rattle.std.proofs.lemmas.Bool.{eq-eqb, lt-ltb, ltb-true, ne_eqb}
+use Rattle.lvm_num.proofs.Lists.{all_weaker}
 use Rattle.lvm_hold.specs.declared.queue.Row.{Row}
 use Rattle.lvm_hold.specs.Waiting.{without}
 use Rattle.lvm_session.specs.declared.open.Open.{Open}
 use Rattle.lvm_session.specs.Judging.{held_of, is_waiting, place_of}
 use Rattle.lvm_session.specs.Dark.{IsAscending}
 use Rattle.lvm_session.specs.Sound.{waiting_rows, with_row}
-use Rattle.lvm_keeps.proofs.Lists.{all_on}
 
 -- ---- lists
 
@@ -139,7 +139,7 @@ step_stays step n (row ∷ rows) other all = by (nat_lt step.id row.id) (row.id 
 
         goes : (c : Bool) → with_row step (if not c then row ∷ without n rows else without n rows) ≡ step ∷ (if not c then row ∷ without n rows else without n rows)
         goes false = ap (λ d. if d then step ∷ row ∷ without n rows else row ∷ with_row step (without n rows)) before
-        goes true = first_of_later (without n rows) (kept_later step.id rows (all_on (λ (z : Row). row.id < z.id) (λ (z : Row). step.id < z.id) (λ z low. omega (arith, low, less)) rows all.0))
+        goes true = first_of_later (without n rows) (kept_later step.id rows (all_weaker (λ (z : Row). row.id < z.id) (λ (z : Row). step.id < z.id) (λ z low. omega (arith, low, less)) rows all.0))
     by false true before is rest = ap (λ c. if not c then row ∷ without n (with_row step rows) else without n (with_row step rows)) is ∙ rest
     by false false before is rest =
         ap (λ c. if not c then row ∷ without n (with_row step rows) else without n (with_row step rows)) is ∙ ap (λ (zs : List Row). row ∷ zs) rest

@@ -2,6 +2,7 @@
 use Rattle.std.proofs.Common.{◌≡◌, inl, inr, ℕ, Bool, true, false, Option, Some, None, List, length, refl, ◌∙◌, ap}
 use Rattle.std.specs.Option.{option_map_or}
 use Rattle.lvm_num.specs.Buffer.{Buffer}
+use Rattle.lvm_num.proofs.Lists.{length_set}
 use Rattle.lvm_pbuf.specs.Out.{TakesLowest}
 use Rattle.lvm_session.specs.declared.bringing.CopyEnd.{CopyEnd}
 use Rattle.lvm_session.specs.declared.bringing.CopyEnd.TheVariants as ending
@@ -23,7 +24,6 @@ use Rattle.lvm_session.specs.Marks.{Reviews}
 use Rattle.lvm_session.specs.Turns.{Darkens, FinishMakes, Finishes, GoesOff, Makes, Moves, NoStart, OnMakes, TurnMakes, WasDark, WasOff, WasOn}
 use Rattle.lvm_keeps_turn.specs.Telling.{SameRoom}
 use Rattle.lvm_keeps.proofs.DarkLemmas.Ending.{back_long, hands_long}
-use Rattle.lvm_keeps.proofs.Lists.{length_set}
 
 -- the room that a session has, and whether it goes on
 pub record Framed (old new : Core) : Type 0 where

@@ -5,6 +5,7 @@ use Rattle.std.proofs.lemmas.Option.{same_Some}
 use Rattle.std.proofs.lemmas.Bool.{eqb-true}
 use Rattle.lvm_disk.specs.passed.Names.{Pp, Mode, LvRow, Descriptor, Status, Sector, Disks, volume_of, Stamped, all_disks}
 use Rattle.lvm_disk.specs.passed.NumDescriptorMode.{Active, Passive, Off}
+use Rattle.lvm_disk.proofs.passed.Names.{all_weaker}
 use Rattle.lvm_vol.specs.declared.entry.Vol.{Vol}
 use Rattle.lvm_vol.specs.declared.entry.Vol.TheVariants.{Disk, Lv}
 use Rattle.lvm_vol.specs.Facts.{Request, Fact, Begun, Cut, Stands, is_over, block_of}
@@ -16,7 +17,6 @@ use Rattle.lvm_kept.specs.Group.{status_among, Finds, members_in, ReadsBy, block
 use Rattle.lvm_kept.specs.Kept.{StandsAs, MayDiffer, IsBlockKept, BlocksKept, VolumesAgree, IsSettledIn, IsAvailable, Kept}
 use Rattle.lvm_kept.specs.Changes.{OnlyAllowsMore, BlocksStayKept, MoreIsKept, IsFoundByAll, MayStand, EntryKeeps, BeginningAllowsMore, MayBegin, BeginningStands}
 use Rattle.lvm_kept.proofs.MayLemmas.{cut_adds_more, one_more}
-use Rattle.lvm_kept.proofs.ChangesLemmas.Changing.{map_one}
 use Rattle.lvm_kept.proofs.CommittedLemmas.Finding.{finding_reads}
 
 module _ (c : Contents) (facts : List Fact) (f : Fact) (more : OnlyAllowsMore facts f) where
@@ -33,7 +33,7 @@ module _ (c : Contents) (facts : List Fact) (f : Fact) (more : OnlyAllowsMore fa
 
   block_more : (mib : ℕ) (status : Option (Stamped Status)) (row : LvRow) (copies : List Pp) (b : ℕ) → IsBlockKept c mib status row copies (earlier row.number b) b → IsBlockKept c mib status row copies (now row.number b) b
   block_more mib status row copies b kept = record {
-    allowed = map_one (λ p. IsValue (earlier row.number b) (block_at c mib p b)) (λ p. IsValue (now row.number b) (block_at c mib p b)) (λ p v. more.may row.number b (block_at c mib p b) v) copies kept.allowed;
+    allowed = all_weaker (λ p. IsValue (earlier row.number b) (block_at c mib p b)) (λ p. IsValue (now row.number b) (block_at c mib p b)) (λ p v. more.may row.number b (block_at c mib p b) v) copies kept.allowed;
     equal = ⊎_elim (λ one. inl one) (λ (m : MayDiffer c status row.number row.mode copies (earlier row.number b) b). inr (differ_more status row.number row.mode copies b m)) kept.equal;
   }
 

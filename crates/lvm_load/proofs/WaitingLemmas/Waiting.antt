@@ -9,6 +9,7 @@ use Rattle.std.proofs.lemmas.List.{length-append}
 use Rattle.std.proofs.lemmas.List.Folds.{list_any-append}
 use Rattle.std.proofs.lemmas.List.Quantifiers.{position-Some}
 use Rattle.std.proofs.lemmas.Option.{get_or_from_slice_get, slice_get_past}
+use Rattle.lvm_num.proofs.Lists.{set_beside}
 use Rattle.rand_pcg.specs.Lcg.{Lcg}
 use Rattle.lvm_vol.specs.declared.entry.Outcome.{Outcome}
 use Rattle.lvm_vol.specs.declared.entry.Outcome.TheVariants as outcome
@@ -33,7 +34,7 @@ use Rattle.lvm_session.specs.Events.{Lands}
 use Rattle.lvm_session.specs.Judging.{is_running, is_waiting}
 use Rattle.lvm_session.specs.State.{Core, State}
 use Rattle.lvm_session.specs.Turns.{FinishMakes, Finishes, Makes, Moves, NoStart, OnMakes, TurnMakes, WasDark, WasOff, WasOn}
-use Rattle.lvm_keeps.proofs.Lists.{any_removed, any_set, set_beside, set_here}
+use Rattle.lvm_keeps.proofs.Lists.{any_removed, any_set, set_here}
 use Rattle.lvm_keeps.proofs.Small.{both}
 use Rattle.lvm_keeps_turn.specs.Turning.{is_last}
 use Rattle.lvm_keeps_turn.proofs.TellingLemmas.Frames.{copy_stays, marked_stays, note_stays, status_stays}

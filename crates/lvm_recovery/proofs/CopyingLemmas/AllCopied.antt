@@ -5,6 +5,7 @@ use Rattle.std.proofs.lemmas.Bool.{cases_lt}
 use Rattle.std.proofs.lemmas.List.{append-nil, map-append, take_all}
 use Rattle.lvm_num.specs.Buffer.{Buffer, Sector}
 use Rattle.lvm_num.proofs.Fronts.{suc_front}
+use Rattle.lvm_num.proofs.AmongLemmas.{one_at}
 use Rattle.lvm_disk.specs.Device.{Media, Range, Device, IsReady, image_of}
 use Rattle.lvm_disk.specs.Paths.{Here}
 use Rattle.lvm_kept.specs.Plans.{ChangesBy}
@@ -22,11 +23,6 @@ use Rattle.lvm_recovery.specs.Copying.{IsInRun, IsInOneRun, LogsJust, LogsOnly, 
 use Rattle.lvm_recovery.proofs.CopyingLemmas.Copied.{does_wider, back_then, well_then, failed_then, cut_then, left_then, or_first, or_second}
 
 -- ---- the list
-
-pub one_at : {X : Type 0} (l : List X) (k : ℕ) (x : X) → slice_get l k ≡ Some x → IsOneOf l x
-one_at [] k x is = absurd (cc (is))
-one_at (y ∷ l) zero x is = inl (sym (cc (is)))
-one_at (y ∷ l) (suc k) x is = inr (one_at l k x is)
 
 pub place_of_one : {X : Type 0} (l : List X) (x : X) → IsOneOf l x → (k : ℕ) × (k < length l) × (slice_get l k ≡ Some x)
 place_of_one [] x one = absurd one

@@ -12,7 +12,7 @@ use Rattle.std.proofs.lemmas.List.Filters.{dedup_is}
 use Rattle.lvm_num.specs.declared.record.NoteEntry.{NoteEntry}
 use Rattle.lvm_num.specs.Disks.{Disks}
 use Rattle.lvm_num.proofs.Booleans.{clash, same_answer}
-use Rattle.lvm_num.proofs.AmongLemmas.{one_of_left, one_of_right, one_of_either}
+use Rattle.lvm_num.proofs.AmongLemmas.{one_of_left, one_of_right, one_of_either, one_at}
 use Rattle.lvm_rec.specs.declared.notes.Note.{Note}
 use Rattle.lvm_rec.specs.Note.{noted_of}
 use Rattle.lvm_kept.specs.Group.{IsOneOf, is_named, names_if}
@@ -23,7 +23,7 @@ use Rattle.lvm_survey.specs.Surveyed.{surveyed}
 use Rattle.lvm_recover.proofs.passed.Names.{contains}
 use Rattle.lvm_recovery.specs.declared.plan.TrackGroup.{TrackGroup}
 use Rattle.lvm_recovery.specs.Plan.{group_of, AreNamed}
-use Rattle.lvm_recovery.proofs.CopyingLemmas.AllCopied.{one_at, at_index}
+use Rattle.lvm_recovery.proofs.CopyingLemmas.AllCopied.{at_index}
 use Rattle.lvm_recovery.proofs.PlanLemmas.Naming.{both}
 
 -- a row below one names it

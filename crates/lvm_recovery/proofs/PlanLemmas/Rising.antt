@@ -12,10 +12,11 @@ use Rattle.std.specs.List.Retain.{IsFiltered, DiffersFromLast}
 use Rattle.std.proofs.lemmas.List.Kept.{AllPairs-cons, IsStrictlySortedBy-dedup}
 use Rattle.std.proofs.lemmas.List.Filters.{dedup_is}
 use Rattle.lvm_num.proofs.Booleans.{same_answer}
+use Rattle.lvm_num.proofs.AmongLemmas.{one_at}
 use Rattle.lvm_kept.specs.Group.{IsOneOf}
 use Rattle.lvm_recovery.specs.declared.plan.TrackGroup.{TrackGroup}
 use Rattle.lvm_recovery.specs.Plan.{IsBefore}
-use Rattle.lvm_recovery.proofs.CopyingLemmas.AllCopied.{one_at, at_index}
+use Rattle.lvm_recovery.proofs.CopyingLemmas.AllCopied.{at_index}
 use Rattle.lvm_recovery.proofs.PlanLemmas.NamedBy.{same_group, is_same, same_self}
 
 at_rec : {X : Type 0} (P : X → Type 0) (l : List X) (x : X) → AllByRecursion P l → IsOneOf l x → P x

@@ -11,6 +11,7 @@ use Rattle.lvm_num.specs.Record.{record_sectors, slot_size, slot_start}
 use Rattle.lvm_num.specs.Status.{IsValidStatus}
 use Rattle.lvm_num.specs.StatusBytes.{status_bytes}
 use Rattle.lvm_num.proofs.TornLemmas.Torn.{sectors-fit}
+use Rattle.lvm_num.proofs.Lists.{all_at}
 use Rattle.lvm_disk.specs.Device.{Device, Flight, Image, IsInFlight, MayLeave, written}
 use Rattle.lvm_disk.specs.Images.{LeavesNoMore}
 use Rattle.lvm_disk.specs.Steps.{Cuts, GoesDark, Starts, Waits}
@@ -39,7 +40,6 @@ use Rattle.lvm_session.specs.Requests.{IsOpenOne, IsTarget}
 use Rattle.lvm_session.specs.State.{State}
 use Rattle.lvm_session.specs.Turns.{FinishMakes, Finishes, Makes, Moves, NoStart, OnMakes, TurnMakes, WasDark, WasOff, WasOn}
 use Rattle.lvm_session.specs.Sound.{IsSound}
-use Rattle.lvm_keeps_turn.proofs.passed.Names.{all_at}
 use Rattle.lvm_tie.specs.Spares.{LeavesDescriptors}
 use Rattle.lvm_tie.specs.Stamps.{AreValid}
 use Rattle.lvm_tie.proofs.LandingsLemmas.Causes.{waits_unless}

@@ -13,7 +13,7 @@ use Rattle.lvm_num.specs.declared.descriptor.Mode.TheVariants as mode
 use Rattle.lvm_num.specs.Descriptor.{is_member}
 use Rattle.lvm_num.specs.Status.{calls_stale}
 use Rattle.lvm_num.proofs.DisksLemmas.{has-zero}
-use Rattle.lvm_num.proofs.Booleans.{same_turned, not_so, not_either, or_left, twice_fails}
+use Rattle.lvm_num.proofs.Booleans.{same_turned, not_so, not_either, or_left, twice_fails, not_first}
 use Rattle.lvm_kept.specs.Examples.{mirror}
 use Rattle.lvm_kept.specs.passed.Names.{Begun}
 use Rattle.lvm_mwc.specs.declared.entries.CacheEntry.{CacheEntry}
@@ -55,9 +55,6 @@ no_note_flies disk = by (0 == disk) (1 == disk) (2 == disk)
     by false false false = refl
 
 -- ---- its transfer
-
-not_first : (k : ℕ) → (suc k == 0) ≡ false
-not_first k = grind (arith, nat_tests)
 
 first_not : (k : ℕ) → (0 == suc k) ≡ false
 first_not k = grind (arith, nat_tests)

@@ -5,6 +5,7 @@ use Rattle.std.specs.List.{list_any}
 use Rattle.std.proofs.lemmas.Bool.{eq-eqb, eqb-true, eqb-false}
 use Rattle.std.proofs.lemmas.List.Sums.{count_by-le-length, sum_by-cons}
 use Rattle.lvm_num.specs.Buffer.{Buffer}
+use Rattle.lvm_num.proofs.Lists.{beside_set}
 use Rattle.lvm_session.specs.Sound.{count_if, has_number}
 
 -- the buffer is out
@@ -15,18 +16,6 @@ counted : {A : Type 0} (t : A → Bool) (x : A) (xs : List A) → count_by t (x 
 counted t x xs = sum_by-cons (λ y. count_if (t y)) x xs
 
 -- ---- one comes back
-
-at_set : (pool : List Bool) (n : ℕ) → slice_index_or (slice_set pool n false) n false ≡ false
-at_set [] n = refl
-at_set (b ∷ pool) zero = refl
-at_set (b ∷ pool) (suc n) = at_set pool n
-
-beside_set : (pool : List Bool) (k n : ℕ) → (n ≡ k → ⊥) → slice_index_or (slice_set pool k false) n false ≡ slice_index_or pool n false
-beside_set [] k n other = refl
-beside_set (b ∷ pool) zero zero other = absurd (other refl)
-beside_set (b ∷ pool) zero (suc n) other = refl
-beside_set (b ∷ pool) (suc k) zero other = refl
-beside_set (b ∷ pool) (suc k) (suc n) other = beside_set pool k n (λ e. other (ap suc e))
 
 one_back : (pool : List Bool) (n : ℕ) → slice_index_or pool n false ≡ true → count_by is_out (slice_set pool n false) + 1 ≡ count_by is_out pool
 one_back [] n is = absurd (cc is)

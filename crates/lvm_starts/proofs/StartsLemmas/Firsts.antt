@@ -10,6 +10,7 @@ use Rattle.lvm_num.specs.declared.descriptor.Policy.TheVariants as policy
 use Rattle.lvm_num.specs.declared.descriptor.PvRow.{PvRow}
 use Rattle.lvm_num.specs.Descriptor.{IsPartitionOf, is_pp}
 use Rattle.lvm_num.specs.Disks.{has}
+use Rattle.lvm_num.proofs.Lists.{found_any}
 use Rattle.lvm_disk.specs.Device.{Device}
 use Rattle.lvm_disk.specs.Steps.{IsRange}
 use Rattle.lvm_kept.specs.Contents.{note_sector}
@@ -118,14 +119,6 @@ not_landed core o one wants = by_landed (is_none o.landed) refl
 none_of : {X : Type 0} (o : Option X) → is_none o ≡ true → o ≡ None
 none_of None is = refl
 none_of (Some x) is = absurd (cc is)
-
-found_any : {A : Type 0} (t : A → Bool) (xs : List A) (x : A) → find t xs ≡ Some x → list_any t xs ≡ true
-found_any t [] x is = absurd (cc is)
-found_any {A} t (y ∷ xs) x is = by_test (λ e. found_any t xs x e) (t y) is
-  where
-    by_test : (find t xs ≡ Some x → list_any t xs ≡ true) → (b : Bool) → (if b then Some y else find t xs) ≡ Some x → b || list_any t xs ≡ true
-    by_test rest true e = refl
-    by_test rest false e = rest e
 
 -- ---- transfers of requests
 

@@ -3,7 +3,6 @@ use Rattle.std.proofs.Common.{◌≡◌, ◌⊎◌, inl, inr, ℕ, ◌*◌, Bool
 use Rattle.std.specs.Prelude.{◌==◌, if◌then◌else◌, nat_lt, sum_by, unwrap_or}
 use Rattle.std.specs.List.{list_any}
 use Rattle.std.proofs.lemmas.Bool.{eq-eqb, eqb-true, false≢true, false_from_ne_true, or_from}
-use Rattle.std.proofs.lemmas.Bool.Decides.{nat_tests}
 use Rattle.std.proofs.lemmas.List.Folds.{Any-from_list_any, list_any_at}
 use Rattle.std.proofs.lemmas.List.Sums.{sum_by-cons}
 use Rattle.lvm_stale.specs.passed.Names.{Stamp, PvRow, Descriptor, Status, is_member, Disks, calls_missing, votes_in, total_votes, is_enough_to_write}
@@ -15,7 +14,7 @@ use Rattle.lvm_status.specs.Calls.{Changes, WantsAtEnd, given_up, closed, comes_
 use Rattle.lvm_status.specs.Runs.{Want, Start, NextWrite, Ended, SetStamp, IsSoundStatus, FirstIsSound, StepsStaySound, RunsStaySound}
 pub use Rattle.std.proofs.lemmas.Bool.{and_from as both, not-true as not_false, or_cases as or_tells, or_left}
 pub use Rattle.lvm_stale.proofs.passed.Names.{first_holds as and_left, second_holds as and_right}
-use Rattle.lvm_stale.proofs.passed.Names.{first_with_second}
+use Rattle.lvm_stale.proofs.passed.Names.{first_with_second, none_below}
 
 -- ---- tests
 
@@ -29,14 +28,11 @@ no_sum : (rows : List PvRow) → sum_by (λ (row : PvRow). 0) rows ≡ 0
 no_sum [] = refl
 no_sum (row ∷ rows) = omega (arith, sum_by-cons (λ (r : PvRow). 0) row rows, no_sum rows)
 
-not_below : (n : ℕ) → nat_lt n 0 ≡ false
-not_below n = grind (arith, nat_tests)
-
 pub none_held : (d : Descriptor) → is_enough_to_write d (votes_in d no_disks) ≡ false
 none_held d = ap (is_enough_to_write d) (no_sum d.pvs) ∙ by_quorum d.quorum (total_votes d)
   where
     by_quorum : (quorum : Bool) (total : ℕ) → (if quorum then nat_lt total (2 * 0) else nat_lt 0 0) ≡ false
-    by_quorum true total = not_below total
+    by_quorum true total = none_below total
     by_quorum false total = refl
 
 -- a member in a set is among the members in it

@@ -18,6 +18,7 @@ use Rattle.lvm_num.specs.Record.{Stamped, stamp_lt}
 use Rattle.lvm_num.specs.Note.{Noted}
 use Rattle.lvm_num.specs.Status.{calls_stale, calls_dirty}
 use Rattle.lvm_num.proofs.RecordLemmas.Newest.{is_one, is_last}
+use Rattle.lvm_num.proofs.AmongLemmas.{filter_one}
 use Rattle.lvm_vol.specs.declared.entry.Vol.TheVariants.{Lv}
 use Rattle.lvm_vol.specs.Facts.{Fact, Cut}
 use Rattle.lvm_vol.specs.May.{Known, known, IsValue}
@@ -83,16 +84,6 @@ pub only_newest_is_found : OnlyNewestIsFound
 only_newest_is_found c group disks newest facts within has kept k is = only_found c group disks newest facts within has kept k is
 
 -- ---- the status
-
--- what is found
-kept_in : {X : Type 0} (q : X → Bool) (xs : List X) (x : X) → IsOneOf (filter q xs) x → IsOneOf xs x × (q x ≡ true)
-kept_in q [] x is = absurd is
-kept_in q (y ∷ ys) x is = by_test (q y) refl (kept_in q ys x) is
-  where
-    by_test : (t : Bool) → q y ≡ t → (IsOneOf (filter q ys) x → IsOneOf ys x × (q x ≡ true)) → IsOneOf (if t then y ∷ filter q ys else filter q ys) x → IsOneOf (y ∷ ys) x × (q x ≡ true)
-    by_test true passed rest (inl here) = (inl here, ap q here ∙ passed)
-    by_test true passed rest (inr there) = let r = rest there in (inr r.0, r.1)
-    by_test false passed rest is = let r = rest is in (inr r.0, r.1)
 
 one_of_some : {X : Type 0} (xs : List X) → IsSome xs → (x : X) × IsOneOf xs x
 one_of_some [] some = absurd some
@@ -180,7 +171,7 @@ module _ (c : Contents) (group : Descriptor) (disks targets : Disks) (newest : S
           let found : IsSome (fresh_on (members_in c disks id group) (Some was) row lp) =
           subst (λ (s : Option (Stamped Status)). IsSome (fresh_on (members_in c disks id group) s row lp)) may.status (subst (λ (v : Disks). IsSome (fresh_on v (status_among c disks id) row lp)) by_found.voters some) in
           let q = one_of_some (fresh_on (members_in c disks id group) (Some was) row lp) found in
-          let is = kept_in (tests (members_in c disks id group) was) (copies_of row lp) q.0 q.1 in
+          let is = filter_one (tests (members_in c disks id group) was) (copies_of row lp) q.0 q.1 in
           goes_in (tests (members_in c all_disks id group) next) (copies_of row lp) q.0 is.0 (voter_stays row lp q.0 volume is.0 is.1)
 
   some_of_group : (row : LvRow) (lp : ℕ) → IsOneOf group.lvs row → lp < row.lps → IsSome (fresh_on (members_in c all_disks id group) (Some next) row lp)
@@ -188,7 +179,7 @@ module _ (c : Contents) (group : Descriptor) (disks targets : Disks) (newest : S
       let found : IsSome (fresh_on (members_in c all_disks id group) (Some was) row lp) =
       subst (λ (s : Option (Stamped Status)). IsSome (fresh_on (members_in c all_disks id group) s row lp)) was_read (kept.lasting.some disks id group group by_found.reads (disks, may.newest_is.found) row lp volume inside) in
       let p = one_of_some (fresh_on (members_in c all_disks id group) (Some was) row lp) found in
-      still_fresh row lp p.0 volume (kept_in (tests (members_in c all_disks id group) was) (copies_of row lp) p.0 p.1)
+      still_fresh row lp p.0 volume (filter_one (tests (members_in c all_disks id group) was) (copies_of row lp) p.0 p.1)
 
   serves : Serves c facts id next
   serves = serving c id next facts group (only_found c group disks newest facts within may.newest_is kept) across some_of_group

@@ -13,9 +13,10 @@ use Rattle.lvm_session.specs.Marks.{is_among}
 use Rattle.lvm_invariant.specs.State.{Stage}
 use Rattle.lvm_num.specs.Descriptor.{is_pp}
 use Rattle.lvm_num.proofs.Booleans.{clash_gives}
+use Rattle.lvm_num.proofs.AmongLemmas.{filter_one}
 use Rattle.lvm_tie.proofs.StateLemmas.{among_one}
 use Rattle.lvm_tie.proofs.TiedLemmas.Orderly.{Differ}
-use Rattle.lvm_tie.proofs.AmongLemmas.{filter_one, one_there, target_of}
+use Rattle.lvm_tie.proofs.AmongLemmas.{one_there, target_of}
 use Rattle.lvm_tie.specs.Seen.{stage_at, stage_seen}
 use Rattle.lvm_tie_shelf.proofs.WritingLemmas.{pp_same}
 

@@ -64,17 +64,18 @@ use Rattle.lvm_invariant.proofs.EventsLemmas.Each.{each_keeps}
 use Rattle.lvm_crash.specs.Session.{marks_of, Describes}
 use Rattle.lvm_num.specs.Modes.{is_active}
 use Rattle.lvm_num.proofs.Booleans.{clash_gives}
+use Rattle.lvm_num.proofs.AmongLemmas.{one_at, filter_one}
 use Rattle.lvm_tie_shelf.specs.Owned.{OnlyUpdateSince}
 use Rattle.lvm_tie_shelf.proofs.OwnedLemmas.{covered}
 use Rattle.lvm_tie_shelf.proofs.RecordsLemmas.Quiet.{quiet_lasts}
 use Rattle.lvm_tie_shelf.proofs.WritingLemmas.{pp_same}
 use Rattle.lvm_tie.proofs.OutLemmas.Ties.{carry_on}
 use Rattle.lvm_tie.proofs.SeenLemmas.Changing.{step_apart, sees_changed}
-use Rattle.lvm_tie.proofs.StateLemmas.{there_is_copy, on_member, missing_seen, usable_seen, wanted_seen, one_at}
+use Rattle.lvm_tie.proofs.StateLemmas.{there_is_copy, on_member, missing_seen, usable_seen, wanted_seen}
 use Rattle.lvm_tie.proofs.ModesLemmas.{active_is}
 use Rattle.lvm_tie.proofs.JudgingLemmas.Rows.{HaveRows, rows_are}
 use Rattle.lvm_tie.proofs.TiedLemmas.Orderly.{HaveNumbers, numbers_of, open_one, waiting_one}
-use Rattle.lvm_tie.proofs.AmongLemmas.{or_left, or_either, any_none, filter_one, not_true, stage_of_one, target_of, one_there}
+use Rattle.lvm_tie.proofs.AmongLemmas.{or_left, or_either, any_none, not_true, stage_of_one, target_of, one_there}
 use Rattle.lvm_tie.proofs.OutLemmas.Wanted.{dirty_rest, next_same, records_wanted, sees_wanted, stamp_same, update_same, write_same}
 use Rattle.lvm_tie.specs.Out.{CarriesStep, IsWriteOf}
 use Rattle.lvm_tie.specs.Seen.{stage_at, phase_seen, update_of, SeesRequest, SeesOpen, SeesRunning, SeesCopy, IsRequestAt, IsStepAt, Sees}

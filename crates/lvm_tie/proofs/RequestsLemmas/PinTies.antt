@@ -8,6 +8,7 @@ use Rattle.std.proofs.lemmas.Option.{slice_get_within}
 use Rattle.lvm_num.specs.declared.descriptor.Mode.{Mode}
 use Rattle.lvm_num.specs.declared.descriptor.Mode.TheVariants as mode
 use Rattle.lvm_num.specs.Geometry.{track_group_of}
+use Rattle.lvm_num.proofs.Lists.{set_beside, set_here}
 use Rattle.lvm_vol.specs.Facts.{Fact}
 use Rattle.lvm_disk.specs.Device.{Flight, image_of}
 use Rattle.lvm_kept.specs.Contents.{contents_of}
@@ -46,7 +47,7 @@ use Rattle.lvm_tie.proofs.OutLemmas.Ties.{carry_on}
 use Rattle.lvm_tie.specs.Out.{CarriesStep}
 use Rattle.lvm_tie.specs.Seen.{IsRequestAt, IsStepAt, Sees, SeesRequest, phase_seen, update_of}
 use Rattle.lvm_tie.specs.Tied.{IsOrderly, IsTied}
-use Rattle.lvm_tie.proofs.SeenLemmas.Changing.{sees_changed, set_here, set_there, step_apart}
+use Rattle.lvm_tie.proofs.SeenLemmas.Changing.{sees_changed, step_apart}
 use Rattle.lvm_tie.proofs.ModesLemmas.{active_is, active_mode}
 use Rattle.lvm_tie.proofs.TiedLemmas.Orderly.{numbers_of, open_one, orderly_same, waiting_one}
 use Rattle.lvm_tie.specs.Requests.{PinTies}
@@ -217,7 +218,7 @@ module _ (past : List Fact) (old new : State) (place : ℕ) (event : Pins old ne
           of_place n p there2 is (inl e2) =
               let own : p ≡ o = let x : Some p ≡ Some o = sym there2 ∙ ap (slice_get core.requests) e2 ∙ event.there in cc in
               ap (λ (x : Open). has_entry entries (lv_of x.request.ask) (group_of x.request.ask)) own ∙ own_there
-          of_place n p there2 is (inr ne) = pinned_there (state old.device core2) tied.write orderly n p (set_there core.requests place n o2 ne ∙ there2) is
+          of_place n p there2 is (inr ne) = pinned_there (state old.device core2) tied.write orderly n p (set_beside core.requests place n o2 ne ∙ there2) is
 
   may : MayPin v i q (has_entry entries)
   may = record {

@@ -10,6 +10,7 @@ use Rattle.lvm_num.specs.declared.descriptor.LvRow.{LvRow}
 use Rattle.lvm_num.specs.declared.descriptor.Descriptor.{Descriptor}
 use Rattle.lvm_num.specs.Geometry.{partition_blocks, partition_of, track_group_of, volume_blocks}
 use Rattle.lvm_num.proofs.Booleans.{same_meaning}
+use Rattle.lvm_num.proofs.Lists.{all_at}
 use Rattle.lvm_vol.specs.declared.entry.Vol.TheVariants.{Lv}
 use Rattle.lvm_vol.specs.Facts.{Request as Asked, Fact, Begun, begun, block_of}
 use Rattle.lvm_vol.specs.Legal.{begins_in}
@@ -48,7 +49,7 @@ use Rattle.lvm_tie_shelf.proofs.OwnedLemmas.{covered}
 use Rattle.lvm_tie_shelf.proofs.RecordsLemmas.Quiet.{quiet_lasts}
 use Rattle.lvm_tie.proofs.OutLemmas.Ties.{carry_on}
 use Rattle.lvm_tie.proofs.StateLemmas.{copy_is}
-use Rattle.lvm_tie.proofs.TiedLemmas.Orderly.{all_at, asked_one, open_one, valid_of}
+use Rattle.lvm_tie.proofs.TiedLemmas.Orderly.{asked_one, open_one, valid_of}
 use Rattle.lvm_tie.specs.Out.{CarriesStep}
 use Rattle.lvm_tie.specs.Seen.{update_of, SeesRequest, IsRequestAt, IsStepAt, Sees}
 use Rattle.lvm_tie.specs.Tied.{IsOrderly, IsTied}

@@ -9,6 +9,7 @@ use Rattle.lvm_vol.specs.Log.{next_id, no_request}
 use Rattle.lvm_disk.specs.Device.{HasSectors}
 use Rattle.lvm_num.specs.Descriptor.{is_pp}
 use Rattle.lvm_num.proofs.Booleans.{clash_gives}
+use Rattle.lvm_num.proofs.Lists.{all_at}
 use Rattle.lvm_status.specs.Update.{Stored}
 use Rattle.lvm_session.specs.declared.open.Open.{Open}
 use Rattle.lvm_session.specs.declared.bringing.OpenCopy.{OpenCopy}
@@ -28,7 +29,6 @@ use Rattle.lvm_invariant.proofs.UpdatesLemmas.Requests.{put_same}
 use Rattle.lvm_tie.specs.Seen.{IsRequestAt, IsStepAt, SeesRunning, update_of}
 use Rattle.lvm_tie.specs.Tied.{IsTied}
 use Rattle.lvm_tie.proofs.StateLemmas.{IsOfItsPartition, there_first}
-use Rattle.lvm_tie.proofs.TiedLemmas.Orderly.{all_at}
 use Rattle.lvm_tie.proofs.BringingLemmas.{one_is_copy_of, step_placed}
 use Rattle.lvm_tie.proofs.AmongLemmas.{or_either, and_false}
 use Rattle.lvm_tie.proofs.StepsLemmas.Leaving.{Stands, gone, gone_here, gone_there, put_there, step_entered}

@@ -1,7 +1,6 @@
 -- What a sound session says of its requests and of what it has out, as the tie needs it.
 use Rattle.std.proofs.Common.{◌≡◌, ℕ, zero, suc, ◌<◌, Bool, true, false, ◌&&◌, ◌||◌, ◌==◌, not, if◌then◌else◌, List, [], ◌∷◌, length, Option, Some, None, slice_get, refl, sym, ap, subst, ◌∙◌, arith}
 use Rattle.std.specs.Prelude.{unwrap_or, AllPairs, IsTrue, nat_lt}
-use Rattle.std.specs.List.{AllByRecursion}
 use Rattle.std.specs.Option.{option_map_or}
 use Rattle.std.proofs.lemmas.Map.Keys.{any_passes_from_place}
 use Rattle.std.proofs.lemmas.Bool.Decides.{nat_tests}
@@ -21,6 +20,7 @@ use Rattle.lvm_num.specs.Note.{Noted, note_bytes, note_in}
 use Rattle.lvm_num.specs.Record.{frame, record_sectors, slot_start}
 use Rattle.lvm_num.proofs.NoteLemmas.{written_is_read}
 use Rattle.lvm_num.proofs.Booleans.{not_so}
+use Rattle.lvm_num.proofs.Lists.{all_at}
 use Rattle.lvm_vol.specs.Facts.{Request as Asked}
 use Rattle.lvm_vol.specs.Log.{no_request, request_of}
 use Rattle.lvm_disk.specs.Device.{Flight}
@@ -57,11 +57,6 @@ use Rattle.lvm_tie.specs.Out.{AreNotes, IsWriteOf, is_owed_on}
 use Rattle.lvm_tie.specs.Tied.{IsOrderly}
 
 -- ---- lists
-
-pub all_at : {A : Type 0} (P : A → Type 0) (xs : List A) (k : ℕ) (x : A) → AllByRecursion P xs → slice_get xs k ≡ Some x → P x
-all_at P [] k x all there = absurd (cc there)
-all_at P (y ∷ xs) zero x all there = let same : y ≡ x = cc there in subst P same all.0
-all_at P (y ∷ xs) (suc k) x all there = all_at P xs k x all.1 there
 
 -- ---- the table
 

@@ -1,5 +1,5 @@
 -- What missing disks and the end of the open copy entail is wanted, and the state wants it.
-use Rattle.std.proofs.Common.{◌≡◌, ◌≢◌, ◌⊎◌, inl, inr, ⊎_elim, ℕ, zero, suc, ◌+◌, ◌*◌, ◌<◌, ◌≤◌, Bool, true, false, ◌&&◌, ◌||◌, ◌==◌, not, List, [], ◌∷◌, Option, Some, None, refl, sym, ap, subst, ◌∙◌, arith}
+use Rattle.std.proofs.Common.{◌≡◌, ◌≢◌, ◌⊎◌, inl, inr, ⊎_elim, ℕ, ◌+◌, ◌*◌, ◌<◌, ◌≤◌, Bool, true, false, ◌&&◌, ◌||◌, ◌==◌, not, List, Option, Some, None, refl, sym, ap, subst, ◌∙◌, arith}
 use Rattle.std.specs.Prelude.{IsTrue, IsFalse}
 use Rattle.std.specs.List.{list_any, range_with_len}
 use Rattle.std.proofs.lemmas.Bool.Decides.{nat_tests}
@@ -12,6 +12,7 @@ use Rattle.lvm_num.specs.Descriptor.{IsValid, copies_of, is_member, is_pp}
 use Rattle.lvm_num.specs.Geometry.{partition_blocks}
 use Rattle.lvm_num.specs.Status.{calls_stale}
 use Rattle.lvm_num.proofs.Booleans.{clash_gives}
+use Rattle.lvm_num.proofs.AmongLemmas.{in_range, one_any, of_range}
 use Rattle.lvm_vol.specs.Facts.{Fact}
 use Rattle.lvm_kept.specs.Group.{IsBlockOf, IsOneOf}
 use Rattle.lvm_map.proofs.Parts.{parts}
@@ -40,27 +41,12 @@ IsMarked core v p = (is_stale core p ≡ true) × ((lv : ℕ) × (b : ℕ) × Is
 
 -- ---- lists
 
--- what one passes, any does
-one_any : {X : Type 0} (test : X → Bool) (xs : List X) (x : X) → IsOneOf xs x → test x ≡ true → list_any test xs ≡ true
-one_any test [] x one passes = absurd one
-one_any test (y ∷ ys) x (inl here) passes = or_true (test y) (list_any test ys) (inl (sym (ap test here) ∙ passes))
-one_any test (y ∷ ys) x (inr there) passes = or_true (test y) (list_any test ys) (inr (one_any test ys x there passes))
-
 from_on : (a k : ℕ) → a ≤ k → (k ≡ a) ⊎ (a + 1 ≤ k)
 from_on a k low = by (k == a) refl
   where
     by : (b : Bool) → (k == a) ≡ b → (k ≡ a) ⊎ (a + 1 ≤ k)
     by true is = inl (grind (arith, nat_tests))
     by false is = inr (let ne : k ≢ a = grind (arith, nat_tests) in grind (arith, nat_tests))
-
-in_range : (a n k : ℕ) → a ≤ k → k < a + n → IsOneOf (range_with_len a n) k
-in_range a zero k low high = absurd (omega arith)
-in_range a (suc n) k low high = ⊎_elim (λ same. inl same) (λ above. inr (in_range (a + 1) n k above (omega arith))) (from_on a k low)
-
-of_range : (a n k : ℕ) → IsOneOf (range_with_len a n) k → k < a + n
-of_range a zero k one = absurd one
-of_range a (suc n) k (inl is) = omega arith
-of_range a (suc n) k (inr there) = let r = of_range (a + 1) n k there in omega arith
 
 -- the first block of a logical partition of a volume
 pub first_block : (group : Descriptor) → IsValid group → (row : LvRow) (lp : ℕ) → lp < row.lps → (b : ℕ) × IsBlockOf group.mib row lp b

@@ -1,12 +1,13 @@
 -- A session that has just begun is good.
-use Rattle.std.proofs.Common.{◌≡◌, ℕ, ◌<◌, ◌≤◌, ◌^◌, ◌++◌, Bool, true, false, List, [], ◌∷◌, Option, Some, length, refl, sym, ap, subst, ◌∙◌, arith}
-use Rattle.std.specs.Prelude.{IfSome, if◌then◌else◌, nat_lt}
+use Rattle.std.proofs.Common.{◌≡◌, ℕ, ◌<◌, ◌≤◌, ◌^◌, ◌++◌, Bool, true, false, List, [], ◌∷◌, Some, length, refl, sym, ap, subst, ◌∙◌, arith}
+use Rattle.std.specs.Prelude.{if◌then◌else◌, nat_lt}
 use Rattle.lvm_num.specs.declared.descriptor.Descriptor.{Descriptor}
 use Rattle.lvm_num.specs.declared.descriptor.LvRow.{LvRow}
 use Rattle.lvm_num.specs.declared.record.Stamp.{Stamp}
 use Rattle.lvm_num.specs.declared.status.Status.{Status}
 use Rattle.lvm_num.specs.Disks.{Disks, has}
 use Rattle.lvm_num.specs.Votes.{CanWrite}
+use Rattle.lvm_num.proofs.Lists.{of_told}
 use Rattle.lvm_disk.specs.Device.{Device, Media, image_of}
 use Rattle.lvm_vol.specs.Facts.{Fact, On}
 use Rattle.lvm_vol.specs.Log.{Log}
@@ -52,10 +53,6 @@ use Rattle.lvm_tie_begins.proofs.BeginsLemmas.Beginning.{begins_good}
 use Rattle.lvm_tie_groups.specs.Coming.{IsBegun, IsDriven, IsMadeEven, LeadsTo, MadeServes, VariedIsMadeEven, VariedOnServes}
 use Rattle.lvm_keeps.proofs.LeftLemmas.Updates.{few_updates}
 use Rattle.lvm_tie_begins.proofs.MarksLemmas.{not_entailed}
-
--- what holds of the media that is told
-of_told : {A : Type 0} (P : A → Type 0) (o : Option A) (x : A) → o ≡ Some x → IfSome o P → P x
-of_told {A = A} P o x told holds = subst (λ (o : Option A). IfSome o P) told holds
 
 ordered_before : (run : ℕ) (past facts : List Fact) (f : Fact) → Ordered run past (facts ++ f ∷ []) → Ordered run past facts
 ordered_before run past [] f ordered = tt

@@ -1,5 +1,5 @@
 -- A tied session at rest is settled.
-use Rattle.std.proofs.Common.{◌≡◌, ℕ, suc, ◌+◌, Bool, true, false, ◌||◌, if◌then◌else◌, List, [], ◌∷◌, Option, Some, None, length, replicate, refl, sym, ap, subst, ◌∙◌}
+use Rattle.std.proofs.Common.{◌≡◌, ℕ, ◌+◌, Bool, true, false, ◌||◌, if◌then◌else◌, List, [], ◌∷◌, Option, Some, None, length, replicate, refl, sym, ap, subst, ◌∙◌}
 use Rattle.std.specs.Prelude.{IfSome, count_by, slice_index_or}
 use Rattle.lvm_num.specs.declared.descriptor.Descriptor.{Descriptor}
 use Rattle.lvm_num.specs.declared.record.Kind.TheVariants as kind
@@ -8,6 +8,7 @@ use Rattle.lvm_num.specs.DescriptorBytes.{descriptor_of}
 use Rattle.lvm_num.specs.Record.{Stamped}
 use Rattle.lvm_num.specs.Status.{calls_missing}
 use Rattle.lvm_num.specs.Votes.{CanWrite}
+use Rattle.lvm_num.proofs.Lists.{all_back}
 use Rattle.lvm_vol.specs.Facts.{Fact}
 use Rattle.lvm_vol.specs.Legal.{Legal}
 use Rattle.lvm_rec.specs.Slots.{newest_on}
@@ -41,11 +42,6 @@ none_out : (core : Core) (rows : List Flown) (flights : List Flight) → AreRows
 none_out core [] [] are none = refl
 none_out core [] (f ∷ flights) are none = absurd are
 none_out core (row ∷ rows) flights are none = absurd (cc none)
-
--- a pool of which no buffer is out
-all_back : (pool : List Bool) → ((n : ℕ) → slice_index_or pool n false ≡ false) → pool ≡ replicate (length pool) false
-all_back [] none = refl
-all_back (b ∷ pool) none = ap (λ (x : Bool). x ∷ pool) (none 0) ∙ ap (λ (xs : List Bool). false ∷ xs) (all_back pool (λ n. none (suc n)))
 
 not_counted : (b : Bool) → 0 ≡ count_if b → b ≡ false
 not_counted true is = absurd (cc is)

@@ -2,6 +2,7 @@
 use Rattle.std.proofs.Common.{◌≡◌, ◌⊎◌, inl, inr, ⊎_elim, ℕ, ◌+◌, List, [], ◌∷◌, ◌++◌, Bool, true, false, Option, Some, None, Result, Ok, Err, refl, sym, ap, subst, ◌∙◌, ◌≤◌, length}
 use Rattle.std.specs.Prelude.{IsSome, IsSomeAnd, IfSome}
 use Rattle.lvm_num.specs.declared.descriptor.Descriptor.{Descriptor}
+use Rattle.lvm_num.proofs.Lists.{some_told}
 use Rattle.lvm_disk.specs.Device.{Device, Media}
 use Rattle.lvm_disk.specs.Steps.{BothTold}
 use Rattle.lvm_disk.proofs.PathsLemmas.{last-path}
@@ -38,7 +39,6 @@ use Rattle.lvm_top.specs.Standing.{MayHaveCommitted, StoodBefore, StandsSince, i
 use Rattle.lvm_top.proofs.StandingLemmas.Acknowledged.{only_committed, leaves_on, stands_of}
 use Rattle.lvm_top.proofs.LawsLemmas.Lines.{line_finds_no_more}
 use Rattle.lvm_top.proofs.LeavesLemmas.Varying.{was_found}
-use Rattle.lvm_top.proofs.StandingLemmas.Volumes.{some_of}
 
 -- ---- the lines
 
@@ -120,7 +120,7 @@ varied_found name moment room patience log old left core told (RefusedAtOnce ref
 varied_found name moment room patience log old left core told (StayedOut refused is may out) = absurd (cc (is))
 varied_found name moment room patience log old left core told (WentQuiet may once) =
     let comes = once.goes.gives in
-    let mid_told = some_of once.mid.media (still_told old.media once.mid.media (ends_only once.quiesces.ends).media told) in
+    let mid_told = some_told once.mid.media (still_told old.media once.mid.media (ends_only once.quiesces.ends).media told) in
     let same : core.descriptor ≡ comes.written.group = ap (λ (c : Core). c.descriptor) comes.first.is ∙ comes.first.reserved.descriptor in
     quiet_nothing old once.mid once.quiesces core.descriptor.id core.descriptor
     (subst (λ (d : Descriptor). MayBeFound once.mid d.id d) (sym same) (was_found once.mid left name moment _ comes.written mid_told.0 mid_told.1))

@@ -43,10 +43,6 @@ all_at p [] e k d lt = absurd (omega (arith, lt))
 all_at p (x ∷ xs) e zero d lt = (both (p x) (list_all p xs) e).0
 all_at p (x ∷ xs) e (suc k) d lt = all_at p xs (both (p x) (list_all p xs) e).1 k d (omega (arith, lt))
 
-pub all_from : {X : Type 0} (p : X → Bool) (xs : List X) → ((k : ℕ) (d : X) → k < length xs → p (get_or xs k d) ≡ true) → list_all p xs ≡ true
-all_from p [] each = refl
-all_from p (x ∷ xs) each = from_both (p x) (list_all p xs) (each 0 x (omega arith)) (all_from p xs (λ k d lt. each (suc k) d (omega (arith, lt))))
-
 -- ---- flags
 
 pub flag_is : (n : ℕ) → is_flag n ≡ true → n ≡ flag (n == 1)

@@ -17,9 +17,10 @@ use Rattle.lvm_num.specs.Descriptor.{most_volumes, IsVolume, AreVolumes}
 use Rattle.lvm_num.specs.DescriptorBytes.{mode_code, policy_code, mode_named, policy_named, volume_bytes, name_at, volume_at, volumes_at}
 use Rattle.lvm_num.specs.Reading.{◌>>=◌, Rest, number_at, zeros_at}
 use Rattle.lvm_num.proofs.Pairs.{All-left, All-right, AllPairs-left}
+use Rattle.lvm_num.proofs.Lists.{all_passed}
 use Rattle.lvm_descriptor.proofs.passed.Names.{IsBytes, bind_ok, ok_is, both, from_both, Takes, Takes-then, wide16, wide32, number_takes, number_again, byte_takes, byte_again, zeros_take, zeros_again}
 use Rattle.lvm_vgda.proofs.DescriptorBytesLemmas.NameLaws.{bytes_same, same_bytes, name_takes, name_again}
-use Rattle.lvm_vgda.proofs.DescriptorBytesLemmas.MemberLaws.{none_of, all_at, all_from, AllPairs-snoc, AllPairs-last, not_true, at_least_1}
+use Rattle.lvm_vgda.proofs.DescriptorBytesLemmas.MemberLaws.{none_of, all_at, AllPairs-snoc, AllPairs-last, not_true, at_least_1}
 use Rattle.lvm_vgda.proofs.DescriptorBytesLemmas.MapLoops.{passes_on}
 
 -- ---- codes
@@ -214,7 +215,7 @@ front_left big earlier row own all =
 
 last_is_next : (big : Bool) (earlier : List LvRow) (row : LvRow) → AreVolumes big (earlier ++ row ∷ []) → IsNext earlier row
 last_is_next big earlier row all = record {
-  above = all_from (λ (other : LvRow). nat_lt other.number row.number) earlier
+  above = all_passed (λ (other : LvRow). nat_lt other.number row.number) earlier
       (λ k d lt. lt-ltb (get_or earlier k d).number row.number (AllPairs-last (λ (a b : LvRow). a.number < b.number) earlier row all.numbers_rise k d lt));
   unnamed = list_any_none (λ (other : LvRow). bytes_eq other.name row.name) earlier
       (λ k d lt. apart (get_or earlier k d).name row.name (AllPairs-last (λ (a b : LvRow). a.name ≢ b.name) earlier row all.names_differ k d lt));

@@ -7,6 +7,7 @@ use Rattle.lvm_num.specs.declared.record.Kind.{Kind}
 use Rattle.lvm_num.specs.Buffer.{Buffer, Sector}
 use Rattle.lvm_num.specs.Disks.{Disks, has}
 use Rattle.lvm_num.specs.Record.{frame, record_sectors, slot_start}
+use Rattle.lvm_num.proofs.Booleans.{none_below}
 use Rattle.lvm_disk.specs.Device.{Media, Device, IsReady, image_of}
 use Rattle.lvm_survey.specs.passed.Names.{ChangesBy, RecordWrite, IsOfRecord, StandsOn, Moved, Homes, second_slots, next_slot, Flips}
 use Rattle.lvm_survey.proofs.passed.Names.{never}
@@ -16,7 +17,7 @@ use Rattle.lvm_write.specs.declared.write.Wrote.TheVariants as wrote
 use Rattle.lvm_write.specs.Written.{write_of, HaveRoom, KeepsShelf, StandsTold, written_well}
 use Rattle.lvm_write.specs.Writes.{DiskWritesLeave, RecordWritesEnd}
 use Rattle.lvm_write.specs.Parts.{write_to, PartsStand, WritesPart}
-use Rattle.lvm_survey.proofs.Passing.{lt_none, lt_not, lt_other, lt_same, neither, or_itself, or_other}
+use Rattle.lvm_survey.proofs.Passing.{lt_not, lt_other, lt_same, neither, or_itself, or_other}
 use Rattle.lvm_write.proofs.WrittenLemmas.Writing.{logs_wider, if_told, told_at, both_map, changes_more, moments_wider, parts_stay}
 use Rattle.lvm_write.proofs.WritesLemmas.{TriedDisks, nothing_tried, none_here, well_here, badly_here, leaves_here, dark_here, stuck_here, no_more, tried_ends}
 
@@ -129,7 +130,7 @@ pub record WroteDisks (w : RecordWrite) (number before after : ℕ) (old now : D
 pub none_tried : (w : RecordWrite) (patience : ℕ) (old : Device) (homes : Homes) (failed : ℕ) (buf : Buffer) → IsReady old → ((d : ℕ) → IsFalse (has failed d)) → WroteDisks w buf.number patience patience old old homes homes failed buf 0
 none_tried w patience old homes failed buf ready empty = record {
   all = nothing_tried w.targets (IsOfRecord w) (StandsTold w) (still_stands w) patience old failed buf ready empty;
-  flips = flips_none w.kind (well_below w.targets failed 0) homes (λ d. ap (λ (b : Bool). b && written_well w.targets (has failed) d) (lt_none d));
+  flips = flips_none w.kind (well_below w.targets failed 0) homes (λ d. ap (λ (b : Bool). b && written_well w.targets (has failed) d) (none_below d));
 }
 
 -- the write to the next disk has ended
