@@ -60,7 +60,6 @@ module _ (c : Cached) (disk : ℕ) where
 -- ---- copies stand on members
 
 module _ {A : Type 0} (P : A → Type 0) where
-
   all_left : (xs ys : List A) → AllByRecursion P (xs ++ ys) → AllByRecursion P xs
   all_left [] ys all = tt
   all_left (x ∷ xs) ys all = (all.0, all_left xs ys all.1)

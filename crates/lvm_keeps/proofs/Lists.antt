@@ -7,7 +7,6 @@ use Rattle.lvm_num.proofs.Lists.{all_weaker}
 use Rattle.lvm_session.specs.Sound.{count_if}
 
 module _ {A : Type 0} where
-
   -- one is set
   pub all_set : (P Q : A → Type 0) → ((x : A) → P x → Q x) → (xs : List A) (k : ℕ) (y : A) → Q y → AllByRecursion P xs → AllByRecursion Q (slice_set xs k y)
   all_set P Q on [] k y its all = tt

@@ -30,7 +30,6 @@ module _ {A : Type 0} (t u : A → Bool) (on : (x : A) → t x ≡ true → u x 
       of_one false is = let p : count_if (t x) ≡ 0 = ap count_if is in omega (arith, p)
 
 module _ {A : Type 0} where
-
   -- of all that pass one that is there does
   pub all_true_at : (t : A → Bool) (xs : List A) (k : ℕ) (x : A) → list_all t xs ≡ true → slice_get xs k ≡ Some x → t x ≡ true
   all_true_at t [] k x all there = absurd (cc there)

@@ -15,7 +15,6 @@ use Rattle.lvm_keeps.proofs.Lists.{count_cons}
 -- ---- lists
 
 module _ {A : Type 0} where
-
   pub all_true_set : (t : A → Bool) (xs : List A) (k : ℕ) (x y : A) → slice_get xs k ≡ Some x → t y ≡ t x → list_all t (slice_set xs k y) ≡ list_all t xs
   all_true_set t [] k x y there same = refl
   all_true_set t (z ∷ xs) zero x y there same = let is : z ≡ x = cc there in ap (λ b. b && list_all t xs) (same ∙ ap t (sym is))

@@ -82,7 +82,6 @@ or_none None b e = (refl, e)
 or_none (Some it) b e = absurd (cc e)
 
 module _ {A : Type 0} where
-
   none_any : (t : A → Bool) (xs : List A) → AllByRecursion (λ (x : A). t x ≡ false) xs → list_any t xs ≡ false
   none_any t [] all = refl
   none_any t (x ∷ xs) all = ap (λ b. b || list_any t xs) all.0 ∙ none_any t xs all.1
