@@ -1,2 +1,2 @@
--- Passed on from `lvm_running`.
-pub use Rattle.lvm_earlier.specs.passed.Running.{IsBefore, LeavesSession, RunsOn}
+-- Passed on from `lvm_tie`.
+pub use Rattle.lvm_handover.specs.passed.EarlierRunning.{IsBefore, LeavesSession, RunsOn}

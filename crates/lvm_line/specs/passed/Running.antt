@@ -1,2 +1,2 @@
--- Passed on from `lvm_running`.
-pub use Rattle.lvm_copy_lines.specs.passed.Running.{LeavesSession, RunsOn}
+-- Passed on from `lvm_tie`.
+pub use Rattle.lvm_volume_lines.specs.passed.CopyLinesRunning.{LeavesSession, RunsOn}

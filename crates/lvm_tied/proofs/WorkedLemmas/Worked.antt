@@ -1,6 +1,6 @@
 -- A session that has just begun is tied.
 use Rattle.std.proofs.Common.{None, refl}
-use Rattle.lvm_tie_begins.proofs.BeginsLemmas.Resting.{some_is_none}
+use Rattle.lvm_tie.proofs.BeginsLemmas.Resting.{some_is_none}
 use Rattle.lvm_kept.specs.Examples.{two}
 use Rattle.lvm_crash.specs.Worked.{media_of}
 use Rattle.lvm_crash.proofs.WorkedLemmas.Worked.{groups_have_votes}
