@@ -3,7 +3,7 @@ use Rattle.std.proofs.Common.{◌≡◌, ◌<◌, ◌≤◌, [], ◌∷◌, ◌+
 use Rattle.std.proofs.lemmas.Bool.Decides.{nat_tests}
 use Rattle.lvm_num.specs.Buffer.{Sector}
 use Rattle.lvm_disk.specs.Device.{Flight}
-use Rattle.lvm_media.specs.Media.{sizes_of}
+use Rattle.lvm_memory.specs.Media.{sizes_of}
 use Rattle.lvm_flights.specs.Flights.{Lies, AllLie, NoDelays}
 use Rattle.lvm_flights.specs.Tally.{Tallied}
 use Rattle.lvm_faults.specs.Injection.{Injection}

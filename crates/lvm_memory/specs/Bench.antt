@@ -4,7 +4,7 @@ use Rattle.std.specs.List.{position, remove, AllByRecursion}
 use Rattle.lvm_num.specs.Buffer.{Sector}
 use Rattle.lvm_disk.specs.Device.{Flight, Range, Device}
 use Rattle.lvm_disk.specs.Steps.{BothTold, Cuts}
-use Rattle.lvm_media.specs.Media.{media_of, sizes_of, cut_by, written_by}
+use Rattle.lvm_memory.specs.Media.{media_of, sizes_of, cut_by, written_by}
 use Rattle.lvm_flights.specs.Flights.{passed}
 use Rattle.lvm_flights.specs.Tally.{counts_of}
 use Rattle.lvm_flights.specs.Tickets.{IsLeastFree}

@@ -2,7 +2,7 @@
 use Rattle.std.specs.Prelude.{◌≡◌, ◌≤◌, ℕ, List, Bool, true, false, length}
 use Rattle.lvm_num.specs.Buffer.{Sector}
 use Rattle.lvm_disk.specs.Device.{Flight, AreSectors}
-use Rattle.lvm_media.specs.Media.{media_of, sizes_of}
+use Rattle.lvm_memory.specs.Media.{media_of, sizes_of}
 use Rattle.lvm_flights.specs.Flights.{AllLie}
 use Rattle.lvm_flights.specs.Tally.{Tallied}
 use Rattle.lvm_faults.specs.Injection.{Injection}

@@ -5,10 +5,13 @@ ghost use Rattle.lvm_faults.specs.Injection.{NamesDisks};
 ghost use Rattle.lvm_memory.specs.Sound.{IsSound};
 ghost use Rattle.std.proofs.Props.{props};
 
+use crate::cutting::cut_flights;
+use crate::disk::Disk;
+use crate::making::{blank_disks, image_disks};
+use crate::row::{finish_flight, tear_flight};
 use lvm_disk::{Arrange, Reaped, Shelf, Started};
 use lvm_faults::{Injector, Planned};
 use lvm_flights::{Flying, Tally, WriteLog, first_due, free_ticket, pass_over, rooms, take_flight};
-use lvm_media::{Disk, blank_disks, cut_flights, finish_flight, image_disks, tear_flight};
 use lvm_num::{Memory, Pbuf, Rows};
 use std::alloc::Global;
 
@@ -38,7 +41,7 @@ impl MemShelf {
     ghost use Rattle.std.specs.Prelude.{◌≡◌, ◌⊎◌, ◌<◌, ◌≤◌, ◌%◌, ◌==◌, true, false, [], length, map, slice_index_or, Some, None, IfOk};
     ghost use Rattle.std.specs.List.{All, flat_map, position};
     ghost use Rattle.lvm_disk.specs.Device.{AreSectors};
-    ghost use Rattle.lvm_media.specs.Media.{media_of, sizes_of, blank_disks_of, sectors_in};
+    ghost use Rattle.lvm_memory.specs.Media.{media_of, sizes_of, blank_disks_of, sectors_in};
     ghost use Rattle.lvm_faults.specs.Injection.{NamesDisks};
     ghost use Rattle.lvm_memory.specs.Memory.{disks_of, device_of, bench_of};
     ghost use Rattle.lvm_disk.specs.Steps.{IsRange, Starts, StartGives, Waits, ReapGives};

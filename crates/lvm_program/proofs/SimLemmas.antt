@@ -4,7 +4,7 @@ use Rattle.std.proofs.lemmas.List.{get_or-replicate, length-replicate}
 use Rattle.std.specs.Prelude.{slice_index_or}
 use Rattle.lvm_num.specs.Buffer.{Sector, zero_sector}
 use Rattle.lvm_disk.specs.Device.{Device, image_of}
-use Rattle.lvm_media.specs.Media.{media_of, sizes_of, blank_disks_of}
+use Rattle.lvm_memory.specs.Media.{media_of, sizes_of, blank_disks_of}
 use Rattle.lvm_kept.specs.Changes.{IsBlank}
 use Rattle.lvm_core.specs.declared.parts.Room.{Room}
 use Rattle.lvm_steps.specs.Moments.{IsEarlier, IsUpheld}

@@ -5,7 +5,7 @@ ghost use Rattle.lvm_num.specs.Descriptor.{IsValid};
 ghost use Rattle.lvm_num.specs.Status.{IsValidStatus};
 ghost use Rattle.lvm_num.specs.Votes.{is_enough_to_write, total_votes};
 ghost use Rattle.lvm_kept.specs.Examples.{row_of};
-ghost use Rattle.lvm_media.specs.Media.{blank_disks_of, sizes_of};
+ghost use Rattle.lvm_memory.specs.Media.{blank_disks_of, sizes_of};
 ghost use Rattle.lvm_memory.specs.Memory.{device_of};
 ghost use Rattle.lvm_session.specs.declared.open.Power.TheVariants as power;
 ghost use Rattle.lvm_session_start.specs.Parts.{IsSessionRoom};

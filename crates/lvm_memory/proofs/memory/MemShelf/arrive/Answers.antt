@@ -1,5 +1,5 @@
 use Rattle.std.proofs.Common.{ℕ, length, refl, sym, ap, subst, ◌∙◌}
-use Rattle.lvm_media.specs.Media.{media_of, sizes_of, written_by}
+use Rattle.lvm_memory.specs.Media.{media_of, sizes_of, written_by}
 use Rattle.lvm_flights.specs.Tally.{counts_of}
 use Rattle.lvm_flights.specs.Flights.{flight_of, flights_of, NoDelays}
 use Rattle.lvm_memory.specs.Memory.{device_of}
