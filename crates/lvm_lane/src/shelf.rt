@@ -5,9 +5,12 @@ ghost use Rattle.lvm_flights.specs.Flights.{Lies};
 ghost use Rattle.lvm_disk.specs.Steps.{ChangedAtMost};
 ghost use Rattle.lvm_lane.specs.Sound.{IsSound};
 
+use crate::exclusive::Exclusive;
+use crate::image::{Image, ImageFault, has_image};
+use crate::name::image_name;
+use crate::read_buffer::ReadBuffer;
 use lvm_disk::{Arrange, Reaped, Shelf, Started};
 use lvm_flights::{Flying, Tally, free_ticket, take_flight};
-use lvm_image::{Exclusive, Image, ImageFault, ReadBuffer, has_image, image_name};
 use lvm_io::{Sink, write_all};
 use lvm_num::{DISKS, Memory, Pbuf};
 use std::alloc::Global;

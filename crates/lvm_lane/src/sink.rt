@@ -36,7 +36,7 @@ const SYNC: u64 = 67_108_864;
 
 impl<'a, R: Files> Model for ImageSink<'a, R> {
     ghost use Rattle.std.specs.Prelude.{◌≡◌, None, IsTrue};
-    ghost use Rattle.lvm_image.specs.Sink.{SinkState};
+    ghost use Rattle.lvm_lane.specs.Sink.{SinkState};
 
     ghost Value = { SinkState };
 

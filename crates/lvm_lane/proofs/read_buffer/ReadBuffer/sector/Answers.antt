@@ -1,6 +1,6 @@
 use Rattle.std.proofs.Common.{◌≡◌, ℕ, List, [], ◌/◌, length, slice_index_or, ap, ◌∙◌}
 use Rattle.std.specs.Simd.{first_chunks}
-use Rattle.lvm_image.proofs.read_buffer.ReadBuffer.sector.Goals as goal
+use Rattle.lvm_lane.proofs.read_buffer.ReadBuffer.sector.Goals as goal
 
 pub returns : goal.returns
 returns c = ap (λ (rows : List (List ℕ)). slice_index_or rows c.args.k []) (c.as_chunks.ensures.front ∙ ap (λ (n : ℕ). first_chunks 512 (n / 512) c.deref.result.now) long ∙ ap (first_chunks 512 256) seen)

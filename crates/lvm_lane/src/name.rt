@@ -1,6 +1,6 @@
 //! What image files are called.
 ghost use Rattle.std.specs.Prelude.{◌≡◌};
-ghost use Rattle.lvm_image.specs.Names.{image_name};
+ghost use Rattle.lvm_lane.specs.Names.{image_name};
 
 use arrayvec::ArrayString;
 use itoa::Buffer;
