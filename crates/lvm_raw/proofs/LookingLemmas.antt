@@ -17,7 +17,7 @@ use Rattle.lvm_steps.proofs.RequestsLemmas.Writing.{still_shows_none}
 use Rattle.lvm_piece.proofs.passed.Names.{unwritten_stays_behind}
 use Rattle.lvm_transfer.specs.Transfer.{Relights}
 use Rattle.lvm_transfer.specs.Reading.{OnlyReads, IsCutOff}
-use Rattle.lvm_area.specs.Reading.{descriptor_shown}
+use Rattle.lvm_survey.specs.Reading.{descriptor_shown}
 use Rattle.lvm_raw.specs.declared.fault.RawFault.{RawFault}
 use Rattle.lvm_raw.specs.declared.fault.RawFault.TheVariants as fault
 use Rattle.lvm_vol.specs.Legal.{IsLater}

@@ -9,10 +9,10 @@ use Rattle.lvm_num.specs.declared.record.Stamp.{Stamp}
 use Rattle.lvm_num.specs.Record.{Stamped, announced, joined, may_be, payload_of, record_in, slot_size, slot_start}
 use Rattle.lvm_num.proofs.RecordLemmas.Newest.{of_two}
 use Rattle.lvm_num.proofs.RecordLemmas.Records.{both_true, bytes-drop, bytes-take, then_is}
-use Rattle.lvm_area.specs.passed.Names.{held, newest_on, read_under, slot_of, Image, IsWholeImage, has_records, newest_at, descriptor_on, status_on}
+use Rattle.lvm_survey.specs.passed.AreaNames.{held, newest_on, read_under, slot_of, Image, IsWholeImage, has_records, newest_at, descriptor_on, status_on}
 use Rattle.lvm_num.specs.DescriptorBytes.{descriptor_of}
 use Rattle.lvm_num.specs.StatusBytes.{status_of}
-use Rattle.lvm_area.proofs.passed.Names.{read_is_spelled, is_read}
+use Rattle.lvm_survey.proofs.passed.AreaNames.{read_is_spelled, is_read}
 use Rattle.lvm_survey.specs.Laws.{DescriptorsAreValid, StatusesAreValid}
 
 -- ---- bytes

@@ -3,3 +3,5 @@ pub mod SurveyedLemmas
 pub mod ReadingLemmas
 pub mod LawsLemmas
 pub mod Passing
+pub mod SlotsLemmas
+pub mod AreaReadingLemmas

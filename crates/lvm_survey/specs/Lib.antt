@@ -3,3 +3,4 @@ pub mod Surveyed
 pub mod Rows
 pub mod Surveying
 pub mod Laws
+pub mod Reading

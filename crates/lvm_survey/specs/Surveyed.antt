@@ -6,10 +6,10 @@ use Rattle.lvm_num.specs.Descriptor.{IsValid}
 use Rattle.lvm_num.specs.Status.{IsValidStatus}
 use Rattle.lvm_num.specs.DescriptorBytes.{descriptor_of}
 use Rattle.lvm_num.specs.StatusBytes.{status_of}
-use Rattle.lvm_area.specs.passed.Names.{noted_of, held, slot_of, Image, Contents, has_records, contents_of}
+use Rattle.lvm_survey.specs.passed.AreaNames.{noted_of, held, slot_of, Image, Contents, has_records, contents_of}
 use Rattle.lvm_survey.specs.declared.row.SurveyRow.{SurveyRow}
 use Rattle.lvm_survey.specs.declared.row.Survey.{Survey}
-use Rattle.lvm_area.specs.Reading.{under, home_of}
+use Rattle.lvm_survey.specs.Reading.{under, home_of}
 
 -- what the survey says that the disks show, of their records alone; of a disk whose read failed it says that it shows none
 abbrev pub surveyed : Survey → Contents

@@ -4,13 +4,13 @@ use Rattle.std.specs.Global.{Global}
 use Rattle.lvm_num.specs.Buffer.{Buffer}
 use Rattle.lvm_num.specs.Geometry.{data_start}
 use Rattle.lvm_num.specs.Note.{note_in}
-use Rattle.lvm_area.specs.passed.Names.{noted_of, Rose, Device, image_of, DeviceStep, Path, Stop, IsRested, IsCutOff, IsReadStuck, StopGives}
-use Rattle.lvm_area.specs.declared.area.RecordArea.{RecordArea}
+use Rattle.lvm_survey.specs.passed.AreaNames.{noted_of, Rose, Device, image_of, DeviceStep, Path, Stop, IsRested, IsCutOff, IsReadStuck, StopGives}
+use Rattle.lvm_survey.specs.declared.area.RecordArea.{RecordArea}
 use Rattle.lvm_survey.specs.declared.row.Survey.{Survey}
 use Rattle.lvm_survey.specs.declared.row.SurveyRow.{SurveyRow}
 use Rattle.lvm_survey.specs.declared.survey.Surveyed.{Surveyed}
 use Rattle.lvm_survey.specs.declared.survey.Surveyed.TheVariants as surveyed
-use Rattle.lvm_area.specs.Reading.{AreaRead, IsHome, under}
+use Rattle.lvm_survey.specs.Reading.{AreaRead, IsHome, under}
 use Rattle.lvm_survey.specs.Surveyed.{IsEmpty, IsRead, IsRowValid}
 
 -- ---- what a row says

@@ -1,2 +1,4 @@
 pub mod Names
 pub mod TransferMovesMoved
+pub mod AreaNames
+pub mod AreaTransferMovesMoved

@@ -1,5 +1,5 @@
 //! What is passed on from the crates below.
 
-pub use lvm_area::below::{
-    Homes, Moved, Patience, encode_into, frame, slot_sectors, transfer, write_note,
-};
+pub use lvm_transfer::below::{Homes, Note, Shelf, frame, read_note, slot_sectors, write_note};
+pub use lvm_transfer::{Moved, Patience, Stop, Unread, transfer};
+pub use lvm_vgsa::encode_into;

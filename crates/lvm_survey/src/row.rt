@@ -1,6 +1,6 @@
 //! What was found on each disk of a shelf.
 
-use lvm_area::below::Note;
+use crate::below::Note;
 use lvm_num::{Descriptor, Rows, Stamp, Status};
 
 /// What was found on one disk.

@@ -1,14 +1,14 @@
 //! Reading the records of all disks of a shelf.
 ghost use Rattle.std.specs.Prelude.{◌≡◌, ℕ, ◌<◌, length, false};
-ghost use Rattle.lvm_area.specs.passed.Names.{IsReady, IsUntouched, OnlyReads};
+ghost use Rattle.lvm_survey.specs.passed.AreaNames.{IsReady, IsUntouched, OnlyReads};
 ghost use Rattle.lvm_survey.specs.Rows.{AreRows};
 ghost use Rattle.lvm_survey.specs.Surveyed.{IsEmpty, IsRowValid, IsSurveyValid};
-ghost use Rattle.lvm_area.specs.Reading.{IsAreaValid};
+ghost use Rattle.lvm_survey.specs.Reading.{IsAreaValid};
 ghost use Rattle.lvm_survey.specs.Surveying.{AreHomes, DiskGives, IfSurveyed, IsRowOfArea, IsSmall, RowGives, RowsGive, SurveyEnds};
 
+use crate::area::{RecordArea, read_area};
+use crate::below::{Patience, Shelf, Stop, Unread, read_note};
 use crate::row::{Survey, SurveyRow};
-use lvm_area::below::{Patience, Shelf, Stop, Unread, read_note};
-use lvm_area::{RecordArea, read_area};
 use lvm_num::{Pbuf, Rows, Stamp};
 use std::alloc::Global;
 

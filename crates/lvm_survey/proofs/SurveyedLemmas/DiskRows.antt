@@ -1,19 +1,19 @@
 -- The row of a disk, as its sectors say it.
 use Rattle.std.proofs.Common.{◌≡◌, ◌⊎◌, inl, inr, ◌<◌, ◌≤◌, ◌++◌, [], ◌∷◌, ℕ, zero, suc, List, Bool, true, false, Some, None, length, slice_get, slice_index_or, refl, sym, ◌∙◌, ap, subst, arith}
 use Rattle.std.specs.Prelude.{◌&&◌, nat_le, nat_lt, if◌then◌else◌, option_map}
-use Rattle.lvm_area.specs.passed.Names.{noted_of, held, newest_on, slot_of, Image, Media, Device, image_of, has_records, descriptor_on, status_on, note_on}
+use Rattle.lvm_survey.specs.passed.AreaNames.{noted_of, held, newest_on, slot_of, Image, Media, Device, image_of, has_records, descriptor_on, status_on, note_on}
 use Rattle.std.proofs.lemmas.Bool.Decides.{nat_tests}
 use Rattle.lvm_num.specs.declared.record.Kind.TheVariants as kind
 use Rattle.lvm_num.specs.DescriptorBytes.{descriptor_of}
 use Rattle.lvm_num.specs.Note.{note_in}
 use Rattle.lvm_num.specs.StatusBytes.{status_of}
-use Rattle.lvm_area.specs.declared.area.RecordArea.{RecordArea}
+use Rattle.lvm_survey.specs.declared.area.RecordArea.{RecordArea}
 use Rattle.lvm_survey.specs.declared.row.SurveyRow.{SurveyRow}
-use Rattle.lvm_area.specs.Reading.{home_of, under, IsArea}
+use Rattle.lvm_survey.specs.Reading.{home_of, under, IsArea}
 use Rattle.lvm_survey.specs.Surveyed.{home_on, IsEmpty, IsRead}
 use Rattle.lvm_survey.specs.Surveying.{IsRowOfArea, IsSmall}
-use Rattle.lvm_area.proofs.passed.Names.{or_got}
-use Rattle.lvm_area.proofs.ReadingLemmas.{is_there, where_it_has}
+use Rattle.lvm_survey.proofs.passed.AreaNames.{or_got}
+use Rattle.lvm_survey.proofs.AreaReadingLemmas.{is_there, where_it_has}
 
 -- ---- whether a disk has records
 

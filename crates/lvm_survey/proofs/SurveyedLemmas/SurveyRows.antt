@@ -5,7 +5,7 @@ use Rattle.std.proofs.lemmas.Option.{slice_get_read, slice_get_past}
 use Rattle.lvm_survey.specs.declared.row.SurveyRow.{SurveyRow}
 use Rattle.lvm_survey.specs.declared.row.Survey.{Survey}
 use Rattle.lvm_survey.specs.Surveyed.{surveyed}
-use Rattle.lvm_area.specs.Reading.{under}
+use Rattle.lvm_survey.specs.Reading.{under}
 
 -- the row that a loop reads
 pub row_read : (s : Survey) (items : List SurveyRow) (i : ℕ) (row : SurveyRow) → items ≡ s.rows → i < length items → row ≡ get_or items i row → slice_get s.rows i ≡ Some row

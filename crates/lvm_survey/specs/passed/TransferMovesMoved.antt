@@ -1,2 +1,2 @@
 -- Passed on from the crates below.
-pub use Rattle.lvm_area.specs.passed.TransferMovesMoved.{Dark, Done, Failed, Stuck}
+pub use Rattle.lvm_survey.specs.passed.AreaTransferMovesMoved.{Dark, Done, Failed, Stuck}

@@ -1,5 +1,5 @@
-use Rattle.lvm_area.proofs.ReadingLemmas.{newest_shows}
-use Rattle.lvm_area.proofs.area.read_descriptor.Goals as goal
+use Rattle.lvm_survey.proofs.AreaReadingLemmas.{newest_shows}
+use Rattle.lvm_survey.proofs.area.read_descriptor.Goals as goal
 
 pub returns-clause-shown : goal.returns-clause-shown
 returns-clause-shown g c =

@@ -10,7 +10,7 @@ use Rattle.lvm_num.specs.StatusBytes.{status_of}
 use Rattle.lvm_num.specs.Torn.{Sectors}
 use Rattle.lvm_transfer.specs.passed.Names.{held, newest_on, slot_of, Image, Device, note_sector, contents_of, Latest}
 use Rattle.lvm_transfer.specs.Reading.{SectorsRead}
-use Rattle.lvm_area.specs.declared.area.RecordArea.{RecordArea}
+use Rattle.lvm_survey.specs.declared.area.RecordArea.{RecordArea}
 pub use Rattle.lvm_transfer.specs.passed.Names.{under, home_of, stamped_found, IsHome}
 use Rattle.lvm_num.specs.declared.descriptor.Descriptor.{Descriptor}
 

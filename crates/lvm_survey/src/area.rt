@@ -8,7 +8,7 @@ ghost use Rattle.lvm_num.specs.Status.{IsValidStatus};
 ghost use Rattle.lvm_num.specs.StatusBytes.{status_of};
 ghost use Rattle.lvm_transfer.specs.passed.Names.{stamped_found, held, IsReady, image_of};
 ghost use Rattle.lvm_transfer.specs.Reading.{only_buffer, IsInRecords, ReadsEnd, SectorsRead};
-ghost use Rattle.lvm_area.specs.Reading.{descriptor_shown, AreaRead, IsArea, IsAreaValid, IsLatestOn, IsValidLatest, SlotsRead};
+ghost use Rattle.lvm_survey.specs.Reading.{descriptor_shown, AreaRead, IsArea, IsAreaValid, IsLatestOn, IsValidLatest, SlotsRead};
 
 use crate::found::{descriptor_in, status_in};
 use lvm_num::{Descriptor, Memory, Pbuf, Status};

@@ -1,7 +1,7 @@
 use Rattle.std.proofs.Common.{Ok, Err}
 use Rattle.std.proofs.lemmas.Result.{err_from_is_err_and}
 use Rattle.lvm_transfer.proofs.ReadingLemmas.Following.{reads_then}
-use Rattle.lvm_area.proofs.area.read_area.Goals as goal
+use Rattle.lvm_survey.proofs.area.read_area.Goals as goal
 
 pub returns-in_err-status-clause-reads : goal.returns-in_err-status-clause-reads
 returns-in_err-status-clause-reads g c =

@@ -2,7 +2,7 @@ use Rattle.std.proofs.Common.{◌≡◌, ◌∙◌}
 use Rattle.lvm_num.specs.Record.{joined}
 use Rattle.lvm_transfer.specs.passed.Names.{Media}
 use Rattle.lvm_transfer.proofs.RecordLemmas.{joined-one, told-more}
-use Rattle.lvm_area.proofs.area.read_note.Goals as goal
+use Rattle.lvm_survey.proofs.area.read_note.Goals as goal
 
 pub returns-clause-note : goal.returns-clause-note
 returns-clause-note g c =

@@ -5,7 +5,7 @@ use Rattle.lvm_num.specs.declared.record.Framed.{Framed}
 use Rattle.lvm_num.specs.declared.record.Kind.{Kind}
 use Rattle.lvm_num.specs.Record.{Stamped, record_in, newer}
 use Rattle.lvm_transfer.specs.passed.Names.{held, read_under, slot_of, Media, Found, Latest}
-use Rattle.lvm_area.specs.Reading.{home_of, under, stamped_found, IsLatestOn}
+use Rattle.lvm_survey.specs.Reading.{home_of, under, stamped_found, IsLatestOn}
 
 -- what slots of the same record hold is the same
 pub held_same : {X : Type 0} (content_of : List ℕ → Result X ℕ) (k : Kind) (some all : List ℕ) → record_in k some ≡ record_in k all → held content_of k some ≡ held content_of k all

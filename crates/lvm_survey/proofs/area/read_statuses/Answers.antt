@@ -5,9 +5,9 @@ use Rattle.lvm_num.specs.StatusBytes.{status_of}
 use Rattle.lvm_num.specs.Record.{joined}
 use Rattle.lvm_transfer.specs.passed.Names.{held, Media}
 use Rattle.lvm_transfer.proofs.ReadingLemmas.Following.{reads_then, told_before}
-use Rattle.lvm_area.specs.Reading.{stamped_found}
-use Rattle.lvm_area.proofs.SlotsLemmas.{latest_is}
-use Rattle.lvm_area.proofs.area.read_statuses.Goals as goal
+use Rattle.lvm_survey.specs.Reading.{stamped_found}
+use Rattle.lvm_survey.proofs.SlotsLemmas.{latest_is}
+use Rattle.lvm_survey.proofs.area.read_statuses.Goals as goal
 
 pub read_status_slot-requires-clause-inside : goal.read_status_slot-requires-clause-inside
 read_status_slot-requires-clause-inside g c = record { there = c.requires.there; within = omega (arith, c.requires.large); below = omega arith }

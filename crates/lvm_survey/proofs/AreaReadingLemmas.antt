@@ -7,7 +7,7 @@ use Rattle.lvm_num.specs.declared.record.Stamp.{Stamp}
 use Rattle.lvm_num.specs.declared.descriptor.Descriptor.{Descriptor}
 use Rattle.lvm_num.specs.DescriptorBytes.{descriptor_of}
 use Rattle.lvm_transfer.specs.passed.Names.{newest_on, Media, image_of, has_records, descriptor_on, Latest}
-use Rattle.lvm_area.specs.Reading.{under, descriptor_shown, IsLatestOn}
+use Rattle.lvm_survey.specs.Reading.{under, descriptor_shown, IsLatestOn}
 
 pub is_there : (d n size : ℕ) → d < n → 4096 ≤ size → (nat_lt d n && nat_le 4096 size) ≡ true
 is_there d n size there large = grind (arith, nat_tests)
