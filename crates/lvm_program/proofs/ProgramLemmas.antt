@@ -16,7 +16,7 @@ use Rattle.lvm_top.proofs.RunLemmas.Stopping.{nothing_promised}
 use Rattle.lvm_words.specs.declared.job.Job.{Job}
 use Rattle.lvm_words.specs.declared.job.Job.TheVariants.{Script, Sim, Gen, Weave, Image, Help, Version}
 use Rattle.lvm_words.specs.Words.{bounded, gen_of, image_of, job_of, sim_of, told_of, told_or, weave_by, weave_of, with_five, with_two, work_of}
-use Rattle.lvm_literals.specs.Words.{number_in}
+use Rattle.lvm_operands.specs.Words.{number_in}
 use Rattle.lvm_language.specs.declared.fault.WordsFault.{WordsFault}
 use Rattle.lvm_language.specs.declared.fault.WordsFault.TheVariants.{Usage}
 

@@ -1,14 +1,16 @@
 //! Options in any order, each at most once.
 ghost use Rattle.std.specs.Prelude.{◌≡◌, ◌<◌, Ok, Err};
 ghost use Rattle.lvm_operands.specs.Reading.{is_new, options};
-ghost use Rattle.lvm_options.specs.Options.{mkvg_choice, no_mkvg_options, mklv_choice, no_mklv_options};
+ghost use Rattle.lvm_operands.specs.Options.{mkvg_choice, no_mkvg_options, mklv_choice, no_mklv_options};
 ghost use Rattle.lvm_operands.specs.Rests.{left, Reads, ReadsOption};
 
 use crate::chosen::{MklvOptions, MkvgOptions};
-use lvm_operands::{Misfit, Rest, copies, mode, name, next_word, policy, size};
+use crate::operands::{copies, mode, name, policy, size};
+use crate::rest::{Misfit, Rest};
+use crate::scan::next_word;
 
 // The word is this option, which didn't stand before.
-#[tactic(auto, unfolding(lvm_operands::specs::Reading::is_new))]
+#[tactic(auto, unfolding(crate::specs::Reading::is_new))]
 fn is_new(word: &[u8], name: &[u8], stood: bool) -> bool
     ensures { result ≡ is_new word.now name.now stood }
 {

@@ -5,7 +5,7 @@ use Rattle.std.proofs.lemmas.Bool.{le-ltb}
 use Rattle.std.proofs.lemmas.Bool.Decides.{nat_tests}
 use Rattle.std.specs.List.{list_all}
 use Rattle.std.proofs.Math.Nat.{pow-succ'}
-use Rattle.lvm_literals.specs.Words.{decimal_from, is_digit, number_in, is_hex_digit, hex_from, hex_value, word_in}
+use Rattle.lvm_operands.specs.Words.{decimal_from, is_digit, number_in, is_hex_digit, hex_from, hex_value, word_in}
 
 -- more digits make no smaller number
 pub decimal_grows : (n : ℕ) (digits : List ℕ) → n ≤ decimal_from n digits

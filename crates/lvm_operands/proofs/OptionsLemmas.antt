@@ -2,11 +2,11 @@
 use Rattle.std.proofs.Common.{◌≡◌, ℕ, true, false, List, Some, refl}
 use Rattle.std.specs.Prelude.{codes, is_some}
 use Rattle.std.specs.Option.{option_map}
-use Rattle.lvm_options.specs.declared.chosen.MkvgOptions.{MkvgOptions}
-use Rattle.lvm_options.specs.declared.chosen.MklvOptions.{MklvOptions}
-use Rattle.lvm_literals.specs.Words.{size_in, name_in, copy_count_in, mode_in, policy_in}
+use Rattle.lvm_operands.specs.declared.chosen.MkvgOptions.{MkvgOptions}
+use Rattle.lvm_operands.specs.declared.chosen.MklvOptions.{MklvOptions}
+use Rattle.lvm_operands.specs.Words.{size_in, name_in, copy_count_in, mode_in, policy_in}
 use Rattle.lvm_operands.specs.Reading.{NoOption, Alone, Valued, is_new}
-use Rattle.lvm_options.specs.Options.{mkvg_choice, mklv_choice}
+use Rattle.lvm_operands.specs.Options.{mkvg_choice, mklv_choice}
 
 pub mkvg_force : (o : MkvgOptions) (word : List ℕ) → is_new word (codes "-f") o.force ≡ true → mkvg_choice o word ≡ Alone (record o { force = true })
 mkvg_force o word f = rw f refl

@@ -1,6 +1,6 @@
 //! The bytes of a line.
 ghost use Rattle.std.specs.Prelude.{◌≡◌, ◌<◌, ◌≤◌, length, take, not, position, IfSome, IfNone};
-ghost use Rattle.lvm_literals.specs.Line.{unreadable_at, is_plain, is_remark};
+ghost use Rattle.lvm_operands.specs.LiteralsLine.{unreadable_at, is_plain, is_remark};
 
 const BLANK: u8 = b' ';
 

@@ -2,9 +2,9 @@ use Rattle.std.proofs.Common.{arith, sym, ◌≡◌, ◌≤◌, length, true, ap
 use Rattle.std.proofs.lemmas.Bool.Decides.{nat_tests}
 use Rattle.std.proofs.lemmas.List.{take_all, drop_all}
 use Rattle.std.specs.List.{list_all}
-use Rattle.lvm_literals.specs.Words.{is_digit, decimal_from}
-use Rattle.lvm_literals.proofs.WordsLemmas.{past_limit, is_number}
-use Rattle.lvm_literals.proofs.words.number_of.Goals as goal
+use Rattle.lvm_operands.specs.Words.{is_digit, decimal_from}
+use Rattle.lvm_operands.proofs.WordsLemmas.{past_limit, is_number}
+use Rattle.lvm_operands.proofs.words.number_of.Goals as goal
 
 pub returns-in_default : goal.returns-in_default
 returns-in_default c = sym (past_limit c.args.word.now c.loop-byte.byte-index c.loop-byte.number (omega arith) c.loop-byte.invariant.0 (omega (arith, c.in_default.ensures)))

@@ -1,12 +1,12 @@
 use Rattle.std.proofs.Common.{rules, ◌≡◌, true, false, Some, refl, ap, sym, ◌∙◌}
 use Rattle.std.specs.Prelude.{codes, is_some}
-use Rattle.lvm_literals.specs.Words.{name_in, size_in}
+use Rattle.lvm_operands.specs.Words.{name_in, size_in}
 use Rattle.lvm_operands.specs.Reading.{is_new}
-use Rattle.lvm_options.specs.Options.{mkvg_choice}
+use Rattle.lvm_operands.specs.Options.{mkvg_choice}
 use Rattle.lvm_operands.specs.Rests.{left, word_at}
 use Rattle.lvm_operands.proofs.ReadingLemmas.ManyWords.{options_lack, options_end, alone_is_read, value_is_read, value_misfits}
-use Rattle.lvm_options.proofs.OptionsLemmas.{mkvg_force, mkvg_name, mkvg_size, mkvg_none}
-use Rattle.lvm_options.proofs.options.mkvg_option.Goals as goal
+use Rattle.lvm_operands.proofs.OptionsLemmas.{mkvg_force, mkvg_name, mkvg_size, mkvg_none}
+use Rattle.lvm_operands.proofs.options.mkvg_option.Goals as goal
 
 pub returns-in_default : goal.returns-in_default
 returns-in_default c = (refl, options_lack mkvg_choice c.args.options.now (left c.args.rest) c.in_default.ensures.word)

@@ -1,6 +1,6 @@
 //! What a single word means.
 ghost use Rattle.std.specs.Prelude.{◌≡◌, ◌≤◌, IfSome, if◌then◌else◌};
-ghost use Rattle.lvm_literals.specs.Words.{number_in, number_within, count_in, partition_count_in, turns_in, copy_count_in, size_in, is_hex_digit, hex_value, word_in, name_in, is_padded, disk_in, mode_in, policy_in};
+ghost use Rattle.lvm_operands.specs.Words.{number_in, number_within, count_in, partition_count_in, turns_in, copy_count_in, size_in, is_hex_digit, hex_value, word_in, name_in, is_padded, disk_in, mode_in, policy_in};
 
 use lvm_num::{Mode, Name, Policy};
 

@@ -1,10 +1,10 @@
 -- The options of a line, each at most once.
 use Rattle.std.specs.Prelude.{ℕ, true, false, if◌then◌else◌, List, Some, None, is_some, codes}
 use Rattle.std.specs.Option.{option_map}
-use Rattle.lvm_literals.specs.Words.{copy_count_in, size_in, name_in, mode_in, policy_in}
+use Rattle.lvm_operands.specs.Words.{copy_count_in, size_in, name_in, mode_in, policy_in}
 use Rattle.lvm_operands.specs.Reading.{Choice, NoOption, Alone, Valued, is_new}
-use Rattle.lvm_options.specs.declared.chosen.MkvgOptions.{MkvgOptions}
-use Rattle.lvm_options.specs.declared.chosen.MklvOptions.{MklvOptions}
+use Rattle.lvm_operands.specs.declared.chosen.MkvgOptions.{MkvgOptions}
+use Rattle.lvm_operands.specs.declared.chosen.MklvOptions.{MklvOptions}
 
 -- the options of `mkvg`, of which `-y NAME` must stand
 abbrev pub mkvg_choice : MkvgOptions → List ℕ → Choice MkvgOptions

@@ -1,12 +1,12 @@
 use Rattle.std.proofs.Common.{rules, ◌≡◌, true, false, Some, refl, ap, sym, ◌∙◌}
 use Rattle.std.specs.Prelude.{codes, is_some}
-use Rattle.lvm_literals.specs.Words.{name_in, copy_count_in, mode_in, policy_in}
+use Rattle.lvm_operands.specs.Words.{name_in, copy_count_in, mode_in, policy_in}
 use Rattle.lvm_operands.specs.Reading.{is_new}
-use Rattle.lvm_options.specs.Options.{mklv_choice}
+use Rattle.lvm_operands.specs.Options.{mklv_choice}
 use Rattle.lvm_operands.specs.Rests.{left, word_at}
 use Rattle.lvm_operands.proofs.ReadingLemmas.ManyWords.{options_lack, options_end, value_is_read, value_misfits}
-use Rattle.lvm_options.proofs.OptionsLemmas.{mklv_name, mklv_copies, mklv_mode, mklv_policy, mklv_none}
-use Rattle.lvm_options.proofs.options.mklv_option.Goals as goal
+use Rattle.lvm_operands.proofs.OptionsLemmas.{mklv_name, mklv_copies, mklv_mode, mklv_policy, mklv_none}
+use Rattle.lvm_operands.proofs.options.mklv_option.Goals as goal
 
 pub returns-in_default : goal.returns-in_default
 returns-in_default c = (refl, options_lack mklv_choice c.args.options.now (left c.args.rest) c.in_default.ensures.word)
