@@ -1,2 +1,5 @@
 pub mod Names
 pub mod SessionEventEvent
+pub mod CopiesNames
+pub mod Others
+pub mod CopiesSessionEventEvent

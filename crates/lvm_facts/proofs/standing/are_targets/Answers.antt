@@ -2,8 +2,8 @@ use Rattle.std.proofs.Common.{◌≡◌, ◌||◌, sym, ◌∙◌, arith}
 use Rattle.lvm_num.specs.declared.place.Pp.{Pp}
 use Rattle.lvm_session.specs.Fields.{core_of}
 use Rattle.lvm_session.specs.Judging.{is_usable, is_caught}
-use Rattle.lvm_copies.proofs.JudgingLemmas.{aims_end}
-use Rattle.lvm_copies.proofs.standing.are_targets.Goals as goal
+use Rattle.lvm_facts.proofs.JudgingLemmas.{aims_end}
+use Rattle.lvm_facts.proofs.standing.are_targets.Goals as goal
 
 pub returns : goal.returns
 returns c =

@@ -2,7 +2,7 @@ use Rattle.std.proofs.Common.{◌≡◌, ◌||◌, filter, drop}
 use Rattle.lvm_num.specs.declared.place.Pp.{Pp}
 use Rattle.lvm_session.specs.Fields.{core_of}
 use Rattle.lvm_session.specs.Judging.{pps_of, same_pps, is_usable, is_caught}
-use Rattle.lvm_copies.proofs.standing.are_targets.Given as goal
+use Rattle.lvm_facts.proofs.standing.are_targets.Given as goal
 
 abbrev pub invariant-loop-pp : goal.invariant-loop-pp
 invariant-loop-pp l =
