@@ -9,7 +9,7 @@ use Rattle.lvm_session.specs.declared.bringing.CopyEnd.{CopyEnd}
 use Rattle.lvm_session.specs.State.{Core}
 use Rattle.lvm_session.specs.Bringing.{after_copy_end, marked_by_end, with_end}
 use Rattle.lvm_session.specs.Marks.{WantsStale}
-use Rattle.lvm_marks.proofs.MarksLemmas.{markable_on, same_due, sound_after, then_marked}
+use Rattle.lvm_copy_end.proofs.MarksLemmas.{markable_on, same_due, sound_after, then_marked}
 use Rattle.lvm_copy_end.specs.Ending.{CanEnd, MayEndCopy}
 
 marks_same : (core : Core) (status : Stored) (end : Option CopyEnd) (q : Pp) → marked_by_end (record core { status = status }) end q ≡ marked_by_end core end q

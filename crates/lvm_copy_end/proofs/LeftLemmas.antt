@@ -11,7 +11,7 @@ use Rattle.lvm_num.specs.Descriptor.{copies_of, is_pp}
 use Rattle.lvm_num.specs.Status.{calls_missing, calls_stale}
 use Rattle.lvm_status.specs.Update.{Stored, Updates}
 use Rattle.lvm_session.specs.Marks.{WantsStale, is_among}
-use Rattle.lvm_marks.proofs.MarksLemmas.{already, same_due, then_marked}
+use Rattle.lvm_copy_end.proofs.MarksLemmas.{already, same_due, then_marked}
 use Rattle.lvm_copy_end.specs.Left.{can_stand_in, is_gone, is_left_among, is_left_below, is_left_of}
 
 -- ---- partitions on missing disks alone are marked

@@ -4,3 +4,6 @@ pub mod EndingLemmas
 mod LosingLemmas
 pub mod LeftLemmas
 pub mod BringingLemmas
+pub mod MarksLemmas
+mod Places
+mod DueLemmas

@@ -3,3 +3,4 @@ pub mod Ending
 pub mod Losing
 pub mod Left
 pub mod Reviewing
+pub mod Due

@@ -9,7 +9,7 @@ ghost use Rattle.lvm_status.specs.Update.{seen};
 ghost use Rattle.lvm_session.specs.Marks.{WantsStale, is_among};
 ghost use Rattle.lvm_copy_end.specs.Left.{can_stand_in, is_gone, is_left_among, is_left_below, is_left_of};
 
-use lvm_marks::want_stale;
+use crate::wanted::want_stale;
 use lvm_num::{LvRow, Pp, copies_of};
 use lvm_status::Updater;
 

@@ -4,12 +4,12 @@ ghost use Rattle.lvm_session.specs.declared.open.Open.{Open};
 ghost use Rattle.lvm_session.specs.Fields.{core_of};
 ghost use Rattle.lvm_session.specs.Rooms.{SameRooms};
 ghost use Rattle.lvm_session.specs.Marks.{Entails};
-ghost use Rattle.lvm_marks.specs.Due.{MayMark};
+ghost use Rattle.lvm_copy_end.specs.Due.{MayMark};
 ghost use Rattle.lvm_copy_end.specs.Ending.{MayEndCopy};
 
+use crate::due::mark_due;
 use crate::ending::end_copy_if;
 use crate::hits::end_by_write;
-use lvm_marks::mark_due;
 use lvm_num::Pp;
 use lvm_session::Session;
 

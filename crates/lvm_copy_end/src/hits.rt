@@ -11,7 +11,7 @@ ghost use Rattle.lvm_session.specs.Fields.{core_of};
 ghost use Rattle.lvm_session.specs.Marks.{end_by_write};
 ghost use Rattle.lvm_copy_end.specs.Losing.{fails_with, loses};
 
-use lvm_marks::below::{is_kept, is_pp, is_running, is_sure};
+use crate::below::{is_kept, is_pp, is_running, is_sure};
 use lvm_num::Pp;
 use lvm_path::{Target, are_over};
 use lvm_session::{CopyEnd, Open, OpenCopy, Session};

@@ -6,8 +6,8 @@ ghost use Rattle.lvm_session.specs.Rooms.{SameRooms};
 ghost use Rattle.lvm_session.specs.Marks.{WantsStale};
 ghost use Rattle.lvm_copy_end.specs.Ending.{MayEndCopy, Unclears};
 
-use lvm_marks::below::is_whole;
-use lvm_marks::want_stale;
+use crate::below::is_whole;
+use crate::wanted::want_stale;
 use lvm_num::Pp;
 use lvm_session::{CopyEnd, OpenCopy, Session};
 

@@ -1,2 +1,2 @@
 -- Passed on from the crates below.
-pub use Rattle.lvm_marks.proofs.MarksLemmas.{same_due}
+pub use Rattle.lvm_copy_end.proofs.MarksLemmas.{same_due}

@@ -1,2 +1,2 @@
 -- Passed on from the crates below.
-pub use Rattle.lvm_marks.specs.Due.{MayMark}
+pub use Rattle.lvm_copy_end.specs.Due.{MayMark}

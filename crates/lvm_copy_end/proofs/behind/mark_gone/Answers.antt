@@ -1,4 +1,4 @@
-use Rattle.lvm_marks.proofs.MarksLemmas.{markable_on, sound_after}
+use Rattle.lvm_copy_end.proofs.MarksLemmas.{markable_on, sound_after}
 use Rattle.lvm_copy_end.proofs.LeftLemmas.{gone_more}
 use Rattle.lvm_copy_end.proofs.behind.mark_gone.Goals as goal
 

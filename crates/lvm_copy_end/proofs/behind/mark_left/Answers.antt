@@ -2,7 +2,7 @@ use Rattle.std.proofs.Common.{sym, subst}
 use Rattle.std.specs.Prelude.{All}
 use Rattle.lvm_num.specs.declared.descriptor.LvRow.{LvRow}
 use Rattle.lvm_status.specs.Calls.{IsMarkable}
-use Rattle.lvm_marks.proofs.MarksLemmas.{markable_on, sound_after}
+use Rattle.lvm_copy_end.proofs.MarksLemmas.{markable_on, sound_after}
 use Rattle.lvm_copy_end.proofs.LeftLemmas.{volumes_more}
 use Rattle.lvm_copy_end.proofs.BringingLemmas.{all_at}
 use Rattle.lvm_copy_end.proofs.behind.mark_left.Goals as goal

@@ -4,7 +4,7 @@ use Rattle.std.proofs.lemmas.List.Elements.{All-drop, All-take}
 use Rattle.lvm_num.specs.declared.place.Pp.{Pp}
 use Rattle.lvm_status.specs.Calls.{IsMarkable}
 use Rattle.lvm_session.specs.Marks.{WantsStale}
-use Rattle.lvm_marks.proofs.MarksLemmas.{markable_on, sound_after}
+use Rattle.lvm_copy_end.proofs.MarksLemmas.{markable_on, sound_after}
 use Rattle.lvm_copy_end.specs.Left.{is_left_among}
 use Rattle.lvm_copy_end.proofs.LeftLemmas.{below_more}
 use Rattle.lvm_copy_end.proofs.behind.mark_volume.Goals as goal

@@ -8,7 +8,7 @@ ghost use Rattle.lvm_status.specs.Runs.{IsSoundStatus};
 ghost use Rattle.lvm_path.specs.declared.target.Target.{Target};
 ghost use Rattle.lvm_session.specs.Judging.{pps_of};
 ghost use Rattle.lvm_session.specs.Marks.{WantsStale, is_among};
-ghost use Rattle.lvm_marks.specs.Due.{is_meant, without_place};
+ghost use Rattle.lvm_copy_end.specs.Due.{is_meant, without_place};
 
 use lvm_num::Pp;
 use lvm_path::Target;

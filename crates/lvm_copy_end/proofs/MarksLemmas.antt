@@ -15,7 +15,7 @@ use Rattle.lvm_status.specs.Runs.{IsSoundStatus}
 use Rattle.lvm_path.specs.declared.target.Target.{Target}
 use Rattle.lvm_session.specs.Judging.{pps_of}
 use Rattle.lvm_session.specs.Marks.{WantsStale, HasSameRows, is_among}
-use Rattle.lvm_marks.specs.Due.{is_meant, without_place}
+use Rattle.lvm_copy_end.specs.Due.{is_meant, without_place}
 use Rattle.std.specs.Prelude.{All}
 use Rattle.std.proofs.lemmas.List.{length-drop, take_all}
 use Rattle.std.proofs.lemmas.List.Elements.{All-drop}

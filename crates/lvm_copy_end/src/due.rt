@@ -9,7 +9,7 @@ ghost use Rattle.lvm_session.specs.Fields.{core_of};
 ghost use Rattle.lvm_session.specs.Judging.{pps_of};
 ghost use Rattle.lvm_session.specs.Rooms.{SameRooms};
 ghost use Rattle.lvm_session.specs.Marks.{WantsStale, is_among, due_of};
-ghost use Rattle.lvm_marks.specs.Due.{IsDue, IsFirstSure, IsWithinDue, MayMark, due_among};
+ghost use Rattle.lvm_copy_end.specs.Due.{IsDue, IsFirstSure, IsWithinDue, MayMark, due_among};
 
 use crate::wanted::{mark_others, mark_targets};
 use lvm_facts::below::is_sure;

@@ -1,9 +1,9 @@
 use Rattle.std.proofs.Common.{◌≡◌, ◌+◌, suc, filter, take, ◌∙◌, ap, arith}
 use Rattle.lvm_session.specs.Judging.{pps_of}
 use Rattle.lvm_session.specs.Marks.{is_among}
-use Rattle.lvm_marks.specs.Due.{is_meant}
-use Rattle.lvm_marks.proofs.MarksLemmas.{markable_on, sound_after, then_marked, same_due, one_more_target}
-use Rattle.lvm_marks.proofs.wanted.mark_targets.Goals as goal
+use Rattle.lvm_copy_end.specs.Due.{is_meant}
+use Rattle.lvm_copy_end.proofs.MarksLemmas.{markable_on, sound_after, then_marked, same_due, one_more_target}
+use Rattle.lvm_copy_end.proofs.wanted.mark_targets.Goals as goal
 
 pub mark_if-requires-clause-sound : goal.mark_if-requires-clause-sound
 mark_if-requires-clause-sound c = sound_after _ c.args.updater.now c.loop-target.updater c.loop-target.invariant c.requires.sound

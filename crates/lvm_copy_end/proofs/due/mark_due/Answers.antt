@@ -5,10 +5,10 @@ use Rattle.lvm_session.specs.declared.open.Open.{Open}
 use Rattle.lvm_session.specs.Fields.{core_of}
 use Rattle.lvm_session.specs.Judging.{pps_of}
 use Rattle.lvm_session.specs.Marks.{WantsStale, is_among}
-use Rattle.lvm_marks.specs.Due.{due_among}
-use Rattle.lvm_marks.proofs.Places.{read_same}
-use Rattle.lvm_marks.proofs.DueLemmas.{due_is}
-use Rattle.lvm_marks.proofs.due.mark_due.Goals as goal
+use Rattle.lvm_copy_end.specs.Due.{due_among}
+use Rattle.lvm_copy_end.proofs.Places.{read_same}
+use Rattle.lvm_copy_end.proofs.DueLemmas.{due_is}
+use Rattle.lvm_copy_end.proofs.due.mark_due.Goals as goal
 
 pub returns-clause-marks : goal.returns-clause-marks
 returns-clause-marks c o there =

@@ -12,8 +12,8 @@ use Rattle.lvm_path.specs.Targets.{are_over, is_failed}
 use Rattle.lvm_session.specs.declared.open.Open.{Open}
 use Rattle.lvm_session.specs.State.{Core}
 use Rattle.lvm_session.specs.Judging.{is_kept, is_sure}
-use Rattle.lvm_marks.specs.declared.due.Due.{Due}
-use Rattle.lvm_marks.specs.declared.due.Due.TheVariants as due
+use Rattle.lvm_copy_end.specs.declared.due.Due.{Due}
+use Rattle.lvm_copy_end.specs.declared.due.Due.TheVariants as due
 
 -- its transfer failed, or all are meant
 abbrev pub is_meant : Bool → Target → Bool

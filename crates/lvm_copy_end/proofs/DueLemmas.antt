@@ -5,9 +5,9 @@ use Rattle.lvm_path.specs.declared.target.Target.{Target}
 use Rattle.lvm_path.specs.declared.request.Request.{Request}
 use Rattle.lvm_path.specs.Asks.{is_write}
 use Rattle.lvm_path.specs.Targets.{is_failed, are_over}
-use Rattle.lvm_marks.specs.declared.due.Due.{Due}
-use Rattle.lvm_marks.specs.declared.due.Due.TheVariants as due
-use Rattle.lvm_marks.specs.Due.{IsDue, IsFirstSure, IsWithinDue, due_among, sure_at, without_place}
+use Rattle.lvm_copy_end.specs.declared.due.Due.{Due}
+use Rattle.lvm_copy_end.specs.declared.due.Due.TheVariants as due
+use Rattle.lvm_copy_end.specs.Due.{IsDue, IsFirstSure, IsWithinDue, due_among, sure_at, without_place}
 use Rattle.lvm_session.specs.State.{Core}
 use Rattle.lvm_session.specs.Judging.{is_sure, all_but_sure, pps_of}
 use Rattle.lvm_session.specs.Marks.{due_of, due_targets}

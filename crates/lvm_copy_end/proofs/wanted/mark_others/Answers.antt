@@ -1,5 +1,5 @@
-use Rattle.lvm_marks.proofs.MarksLemmas.{all_marked, others_marked, sound_after, markable_more}
-use Rattle.lvm_marks.proofs.wanted.mark_others.Goals as goal
+use Rattle.lvm_copy_end.proofs.MarksLemmas.{all_marked, others_marked, sound_after, markable_more}
+use Rattle.lvm_copy_end.proofs.wanted.mark_others.Goals as goal
 
 pub returns-in-None : goal.returns-in-None
 returns-in-None c = all_marked c.args.targets.now c.args.sure c.args.updater.now c.mark_targets.new.updater c.in-None.is c.mark_targets.ensures

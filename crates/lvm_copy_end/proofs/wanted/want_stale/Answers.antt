@@ -3,8 +3,8 @@ use Rattle.lvm_num.specs.declared.status.Status.{Status}
 use Rattle.lvm_num.specs.declared.place.Pp.{Pp}
 use Rattle.lvm_num.specs.Status.{calls_stale}
 use Rattle.lvm_num.specs.Descriptor.{is_pp}
-use Rattle.lvm_marks.proofs.MarksLemmas.{already, same_pp}
-use Rattle.lvm_marks.proofs.wanted.want_stale.Goals as goal
+use Rattle.lvm_copy_end.proofs.MarksLemmas.{already, same_pp}
+use Rattle.lvm_copy_end.proofs.wanted.want_stale.Goals as goal
 
 pub returns-else-not-is_stale : goal.returns-else-not-is_stale
 returns-else-not-is_stale c = already (λ (p : Pp). is_pp p c.args.pp) c.args.updater.now
