@@ -15,7 +15,7 @@ use crate::aiming::aims;
 use crate::reading::{Chosen, reading};
 use arrayvec::ArrayVec;
 use lvm_disk::Shelf;
-use lvm_firsts::below::{mode_of, policy_of, unpin};
+use lvm_due::below::{mode_of, policy_of, unpin};
 use lvm_num::{Mode, Policy};
 use lvm_path::{Ask, Target};
 use lvm_session::{Open, Session};

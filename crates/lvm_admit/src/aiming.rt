@@ -11,7 +11,7 @@ ghost use Rattle.lvm_admit.specs.Choosing.{IsThere, MayChoose};
 
 use arrayvec::ArrayVec;
 use lvm_disk::Shelf;
-use lvm_firsts::below::{copies_for, group_in, is_aim, is_usable, partition_blocks};
+use lvm_due::below::{copies_for, group_in, is_aim, is_usable, partition_blocks};
 use lvm_num::Pp;
 use lvm_path::{Ask, Target};
 use lvm_sched::TargetState;

@@ -1,3 +1,3 @@
 //! What is passed on from the crates below.
 
-pub use lvm_firsts::below::group_of;
+pub use lvm_due::below::group_of;

@@ -12,7 +12,7 @@ ghost use Rattle.lvm_admit.specs.Choosing.{IsCopyThere, MayChoose};
 use crate::aiming::target_at;
 use arrayvec::ArrayVec;
 use lvm_disk::Shelf;
-use lvm_firsts::below::{copies_for, is_usable, policy_of};
+use lvm_due::below::{copies_for, is_usable, policy_of};
 use lvm_num::Pp;
 use lvm_path::{Ask, Target};
 use lvm_sched::read_order;

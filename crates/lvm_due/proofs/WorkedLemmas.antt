@@ -6,8 +6,8 @@ use Rattle.lvm_session.specs.declared.open.Open.{Open}
 use Rattle.lvm_session.specs.Busy.{busy_core, got_read, half_written}
 use Rattle.lvm_session.specs.Enabled.{admission_at, data_at, landing_at, note_at, pinning_at}
 use Rattle.lvm_session.specs.Worked.{core_of, flying, flying_write}
-use Rattle.lvm_firsts.specs.declared.span.Span.{Span}
-use Rattle.lvm_firsts.specs.Spans.{is_in}
+use Rattle.lvm_due.specs.declared.span.Span.{Span}
+use Rattle.lvm_due.specs.Spans.{is_in}
 use Rattle.lvm_due.specs.Due.{any_fails, IsDue, IsQuiet}
 use Rattle.lvm_due.specs.Worked.{DuesAreNarrow, nothing, nowhere}
 

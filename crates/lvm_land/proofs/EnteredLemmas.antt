@@ -24,8 +24,8 @@ use Rattle.lvm_over.specs.Hands.{IsOutIf}
 use Rattle.lvm_session.specs.Requests.{IsRequest}
 use Rattle.lvm_session.specs.Sound.{IsAsked, IsGoing, count_if, is_hand, pins}
 use Rattle.lvm_land.specs.Entered.{IsEntered}
-use Rattle.lvm_firsts.proofs.Nexts.{landed_waits, one, queued}
-use Rattle.lvm_firsts.proofs.Places.{at_place}
+use Rattle.lvm_due.proofs.Nexts.{landed_waits, one, queued}
+use Rattle.lvm_due.proofs.FirstsPlaces.{at_place}
 use Rattle.lvm_land.proofs.LogLemmas.{done_begun, got_is, has_done, is_the_got}
 
 counted : (f : Open → Bool) (os : List Open) (k : ℕ) (o : Open) → slice_get os k ≡ Some o → f o ≡ true → 1 ≤ count_by f os

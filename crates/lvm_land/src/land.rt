@@ -15,7 +15,7 @@ ghost use Rattle.lvm_session.specs.Sound.{IsGoing};
 ghost use Rattle.lvm_land.specs.Entered.{IsEntered};
 
 use crate::front::front;
-use lvm_firsts::below::unpin;
+use lvm_due::below::unpin;
 use lvm_history::History;
 use lvm_num::Pbuf;
 use lvm_over::give_back;

@@ -17,8 +17,8 @@ ghost use Rattle.lvm_launch.specs.Launching.{HasFlight, MayLaunch, MayReadCopy, 
 
 use crate::launch::{add_flight, end_dark, take_free};
 use lvm_disk::{Shelf, Started};
-use lvm_enabled::below::partition_blocks;
-use lvm_enabled::next_source;
+use lvm_due::below::partition_blocks;
+use lvm_due::next_source;
 use lvm_num::{Pbuf, Pp};
 use lvm_session::{OpenCopy, Owner, Session, Step, Turned};
 

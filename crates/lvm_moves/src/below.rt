@@ -1,4 +1,3 @@
 //! What is passed on from the crates below.
 
-pub use lvm_due::{Due, is_quiet_for};
-pub use lvm_firsts::is_lost;
+pub use lvm_due::{Due, is_lost, is_quiet_for};

@@ -1,2 +1,2 @@
 -- Passed on from the crates below.
-pub use Rattle.lvm_firsts.proofs.Places.{at_place}
+pub use Rattle.lvm_due.proofs.FirstsPlaces.{at_place}

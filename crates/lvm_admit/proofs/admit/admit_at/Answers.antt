@@ -4,9 +4,9 @@ use Rattle.lvm_path.specs.Asks.{lv_of}
 use Rattle.lvm_session.specs.Fields.{core_of}
 use Rattle.lvm_session.specs.State.{state}
 use Rattle.lvm_session.specs.Events.{admitted_as, last_after, makes_dirty}
-use Rattle.lvm_firsts.proofs.passed.Names.{numbered}
-use Rattle.lvm_firsts.proofs.Nexts.{one}
-use Rattle.lvm_firsts.proofs.Places.{read_same, stands}
+use Rattle.lvm_due.proofs.passed.FirstsNames.{numbered}
+use Rattle.lvm_due.proofs.Nexts.{one}
+use Rattle.lvm_due.proofs.FirstsPlaces.{read_same, stands}
 use Rattle.lvm_admit.proofs.EventsLemmas.{admission_is}
 use Rattle.lvm_admit.proofs.admit.admit_at.Goals as goal
 

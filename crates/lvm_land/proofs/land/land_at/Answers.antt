@@ -1,7 +1,7 @@
 use Rattle.std.proofs.Common.{◌≡◌, ◌∙◌, ap, refl}
 use Rattle.lvm_session.specs.declared.open.Open.{Open}
 use Rattle.lvm_session.specs.Fields.{core_of}
-use Rattle.lvm_firsts.proofs.Places.{read_same, stands}
+use Rattle.lvm_due.proofs.FirstsPlaces.{read_same, stands}
 use Rattle.lvm_land.proofs.EnteredLemmas.{entered, hand_out, inside, its_open, landing_is}
 use Rattle.lvm_land.proofs.land.land_at.Goals as goal
 
