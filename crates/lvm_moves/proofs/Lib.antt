@@ -1,2 +1,8 @@
 mod MovingLemmas
 mod PinningLemmas
+pub mod passed
+mod ChoosingLemmas
+mod EventsLemmas
+mod Fronts
+mod LogLemmas
+mod EnteredLemmas

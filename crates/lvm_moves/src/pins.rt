@@ -10,7 +10,7 @@ ghost use Rattle.lvm_session.specs.Sound.{IsGoing};
 ghost use Rattle.lvm_due.specs.Due.{IsDue};
 ghost use Rattle.lvm_moves.specs.Pinning.{PinGives, PinsAt};
 
-use lvm_admit::below::group_of;
+use crate::below::group_of;
 use lvm_due::{Due, might_pin, next_at};
 use lvm_mwc::Pin;
 use lvm_path::Next;

@@ -7,7 +7,7 @@ use Rattle.lvm_session.specs.Enabled.{first_of, is_lost, parts_to_start}
 use Rattle.lvm_session.specs.Sound.{IsSound}
 use Rattle.lvm_launch.specs.Launching.{HasFlight}
 use Rattle.lvm_starts.specs.Starts.{CanStart}
-use Rattle.lvm_admit.specs.Choosing.{MayChoose}
+use Rattle.lvm_moves.specs.Choosing.{MayChoose}
 
 -- Where a transfer may be started, fewer are out than there are buffers.
 abbrev pub FirstStartHasFlight : Type 0
