@@ -24,11 +24,11 @@ use Rattle.lvm_session.specs.Bringing.{hand_of}
 use Rattle.lvm_session.specs.Calls.{copy_at}
 use Rattle.lvm_session.specs.Dark.{hand_of_copy}
 use Rattle.lvm_session.specs.Marks.{is_among}
-use Rattle.lvm_launch.specs.passed.Names.{IsOutIf}
+use Rattle.lvm_starts.specs.passed.LaunchNames.{IsOutIf}
 use Rattle.lvm_session.specs.Owners.{flies, same_owner}
 use Rattle.lvm_session.specs.Sound.{IsCopy, count_if, is_hand}
-use Rattle.lvm_launch.proofs.passed.Names.{copies_in_are}
-use Rattle.lvm_launch.proofs.OutLemmas.{at_most_one, get_other, is_out as out_of}
+use Rattle.lvm_starts.proofs.passed.LaunchNames.{copies_in_are}
+use Rattle.lvm_starts.proofs.OutLemmas.{at_most_one, get_other, is_out as out_of}
 use Rattle.lvm_reap.specs.Learning.{MayReturn}
 use Rattle.lvm_copy_end.specs.Ending.{CanEnd}
 use Rattle.lvm_copy_end.specs.Reviewing.{IsLocated, MayReview}

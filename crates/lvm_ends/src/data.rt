@@ -11,11 +11,11 @@ ghost use Rattle.lvm_session.specs.Ends.{DataLearns, IsOfData, after_data, given
 ghost use Rattle.lvm_ends.specs.Ended.{HasEnded, HasId};
 
 use lvm_copy_end::entail;
-use lvm_launch::below::give_back;
 use lvm_num::{Pbuf, Pp};
 use lvm_path::Target;
 use lvm_reap::end_flight;
 use lvm_session::{Open, Session};
+use lvm_starts::below::give_back;
 
 fn position_of(requests: &[Open], id: u64) -> Option<usize>
     ensures { result ≡ position (λ (o : Open). o.request.id == id) requests.now }

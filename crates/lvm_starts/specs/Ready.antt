@@ -5,7 +5,7 @@ use Rattle.lvm_session.specs.declared.open.Power.TheVariants as power
 use Rattle.lvm_session.specs.State.{State}
 use Rattle.lvm_session.specs.Enabled.{first_of, is_lost, parts_to_start}
 use Rattle.lvm_session.specs.Sound.{IsSound}
-use Rattle.lvm_launch.specs.Launching.{HasFlight}
+use Rattle.lvm_starts.specs.Launching.{HasFlight}
 use Rattle.lvm_starts.specs.Starts.{CanStart}
 use Rattle.lvm_moves.specs.Choosing.{MayChoose}
 

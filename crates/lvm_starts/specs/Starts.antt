@@ -9,7 +9,7 @@ use Rattle.lvm_session.specs.Judging.{is_missing}
 use Rattle.lvm_session.specs.Enabled.{first_of, is_lost, parts_to_start}
 use Rattle.lvm_session.specs.declared.answers.Turned.{Turned}
 use Rattle.lvm_session.specs.Placed.{ArePlaced}
-use Rattle.lvm_launch.specs.Launching.{HasFlight, MayLaunch, MayNote, MayReadCopy, MayStartData, MayWriteCopy, StartGives}
+use Rattle.lvm_starts.specs.Launching.{HasFlight, MayLaunch, MayNote, MayReadCopy, MayStartData, MayWriteCopy, StartGives}
 use Rattle.lvm_starts.specs.Updating.{MayStartStatus}
 
 -- The group has its votes, one transfer more may be out, and the members are on the shelf but for those that were missing when the session began, which still are.

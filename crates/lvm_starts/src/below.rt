@@ -1,3 +1,5 @@
 //! What is passed on from the crates below.
 
-pub use lvm_launch::below::{arranged, darken, first_start, go_off};
+pub use lvm_due::below::is_running;
+pub use lvm_due::first_start;
+pub use lvm_over::{arranged, darken, give_back, go_off};

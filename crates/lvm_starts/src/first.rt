@@ -2,12 +2,14 @@
 ghost use Rattle.lvm_session.specs.Fields.{core_of};
 ghost use Rattle.lvm_session.specs.Rooms.{HasRooms, SameRooms};
 ghost use Rattle.lvm_session.specs.State.{state};
-ghost use Rattle.lvm_launch.specs.Launching.{StartGives};
+ghost use Rattle.lvm_starts.specs.Launching.{StartGives};
 ghost use Rattle.lvm_starts.specs.Starts.{CanStart};
 
+use crate::copying::{read_copy, write_copy};
+use crate::data::start_data;
+use crate::noting::start_note;
 use crate::start::start_status;
 use lvm_disk::Shelf;
-use lvm_launch::{read_copy, start_data, start_note, write_copy};
 use lvm_session::{Event, Session, Turned};
 
 /// The transfer of an event that starts one is started. Answers `Moved`, or `Dark` where the power is found off.

@@ -7,12 +7,12 @@ ghost use Rattle.lvm_session.specs.Fields.{core_of};
 ghost use Rattle.lvm_session.specs.Rooms.{HasRooms, SameRooms};
 ghost use Rattle.lvm_session.specs.State.{state};
 ghost use Rattle.lvm_session.specs.Events.{Begins};
-ghost use Rattle.lvm_launch.specs.Launching.{MayLaunch, StartGives};
+ghost use Rattle.lvm_starts.specs.Launching.{MayLaunch, StartGives};
 ghost use Rattle.lvm_starts.specs.Updating.{MayStartStatus, NextOn};
 
 use crate::bytes::put_status;
+use crate::launch::{add_flight, end_dark, take_free};
 use lvm_disk::{Shelf, Started};
-use lvm_launch::{add_flight, end_dark, take_free};
 use lvm_num::Kind;
 use lvm_session::{Owner, Session, Turned};
 use lvm_status::Updater;

@@ -21,7 +21,7 @@ use Rattle.lvm_session.specs.Dark.{hand_of_copy}
 use Rattle.lvm_session.specs.Owners.{AreRows}
 use Rattle.lvm_session.specs.Placed.{ArePlaced}
 use Rattle.lvm_session.specs.Sound.{IsGoing, IsSound, count_if, has_number, is_dark, is_hand}
-use Rattle.lvm_launch.specs.Launching.{HasFlight}
+use Rattle.lvm_starts.specs.Launching.{HasFlight}
 use Rattle.lvm_starts.proofs.StartsLemmas.Firsts.{first_can}
 use Rattle.lvm_starts.specs.Ready.{FirstStartCan, FirstStartHasFlight, SessionsMayChoose}
 use Rattle.lvm_starts.proofs.ReadyLemmas.Buffers.{fits, is_out, most, some_in}

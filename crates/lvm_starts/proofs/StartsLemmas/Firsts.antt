@@ -40,7 +40,7 @@ use Rattle.lvm_session.specs.Calls.{copy_at}
 use Rattle.lvm_moves.proofs.passed.AdmitNames.{at_place}
 use Rattle.lvm_session.specs.Requests.{IsOpenOne, IsRequest, IsTarget}
 use Rattle.lvm_session.specs.Sound.{IsCopy}
-use Rattle.lvm_launch.specs.Launching.{HasNote, MayLaunch, MayNote, MayReadCopy, MayStartData, MayWriteCopy}
+use Rattle.lvm_starts.specs.Launching.{HasNote, MayLaunch, MayNote, MayReadCopy, MayStartData, MayWriteCopy}
 use Rattle.lvm_starts.specs.Starts.{CanStart, MayStart}
 use Rattle.lvm_starts.proofs.StartsLemmas.Within.{all_copies, among_copies, at_number, blocks_within, note_within, was_there}
 

@@ -1,2 +1,2 @@
 -- Passed on from the crates below.
-pub use Rattle.lvm_launch.proofs.OutLemmas.{may_end}
+pub use Rattle.lvm_starts.proofs.OutLemmas.{may_end}

@@ -1,3 +1,3 @@
 -- Passed on from the crates below.
-pub use Rattle.lvm_launch.specs.Launching.{StartGives}
-pub use Rattle.lvm_launch.specs.passed.Names.{AreInHand, IsOutIf, MayEnd}
+pub use Rattle.lvm_starts.specs.Launching.{StartGives}
+pub use Rattle.lvm_starts.specs.passed.LaunchNames.{AreInHand, IsOutIf, MayEnd}

@@ -8,7 +8,7 @@ use Rattle.lvm_session.specs.Ends.{learned}
 use Rattle.lvm_session.specs.Marks.{Entails}
 use Rattle.lvm_copy_end.specs.passed.Names.{MayMark}
 use Rattle.lvm_copy_end.specs.Ending.{MayEndCopy}
-use Rattle.lvm_launch.proofs.passed.Names.{read_same}
+use Rattle.lvm_starts.proofs.passed.LaunchNames.{read_same}
 use Rattle.lvm_ends.proofs.EndedLemmas.{its_target, its_there, may_end, may_mark, stands}
 use Rattle.lvm_ends.proofs.Ended.{is_out, within}
 use Rattle.lvm_ends.proofs.data.end_data.Goals as goal

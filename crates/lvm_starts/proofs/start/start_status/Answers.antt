@@ -4,7 +4,7 @@ use Rattle.lvm_pbuf.specs.Out.{IsOut}
 use Rattle.lvm_session.specs.Fields.{core_of}
 use Rattle.lvm_session.specs.State.{state}
 use Rattle.lvm_session.specs.Dark.{all_dark}
-use Rattle.lvm_launch.proofs.OutLemmas.{is_taken, may_end, pool_same}
+use Rattle.lvm_starts.proofs.OutLemmas.{is_taken, may_end, pool_same}
 use Rattle.lvm_starts.proofs.Writes.{dark_status, differs, is_there, its_range, on_shelf, says, some_left, with_status}
 use Rattle.lvm_starts.proofs.start.start_status.Goals as goal
 

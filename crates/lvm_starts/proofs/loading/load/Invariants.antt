@@ -1,6 +1,6 @@
 use Rattle.std.proofs.Common.{◌≡◌, ◌<◌, ◌+◌, ℕ, length, slice_get}
 use Rattle.lvm_vol.specs.Log.{blocks_of}
-use Rattle.lvm_launch.proofs.loading.load.Given as goal
+use Rattle.lvm_starts.proofs.loading.load.Given as goal
 
 abbrev pub invariant-loop-k : goal.invariant-loop-k
 invariant-loop-k l = record {

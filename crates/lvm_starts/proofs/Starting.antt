@@ -30,8 +30,8 @@ use Rattle.lvm_session.specs.Events.{IsDueAt, ReadsCopy, StartsData, StartsNote,
 use Rattle.lvm_session.specs.Turns.{Darkens}
 use Rattle.lvm_over.specs.Hands.{AreInHand, IsOutIf, MayEnd}
 use Rattle.lvm_session.specs.Sound.{IsAsked, IsGoing}
-use Rattle.lvm_launch.proofs.SoundLemmas.{block_is, within}
-use Rattle.lvm_launch.proofs.OutLemmas.{may_end, pool_same}
+use Rattle.lvm_starts.proofs.SoundLemmas.{block_is, within}
+use Rattle.lvm_starts.proofs.OutLemmas.{may_end, pool_same}
 
 -- the power is found off, and nothing else has changed
 pub dark_is : (old : State) (device : Device) (new : Core) → GoesDark old.device device → device.power ≡ false → new ≡ all_dark old.core → Darkens old (state device new)

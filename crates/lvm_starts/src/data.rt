@@ -10,7 +10,7 @@ ghost use Rattle.lvm_session.specs.Fields.{core_of};
 ghost use Rattle.lvm_session.specs.Rooms.{HasRooms, SameRooms};
 ghost use Rattle.lvm_session.specs.State.{state};
 ghost use Rattle.lvm_session.specs.Events.{IsDueAt, begun_as, flown};
-ghost use Rattle.lvm_launch.specs.Launching.{MayLaunch, MayStartData, StartGives};
+ghost use Rattle.lvm_starts.specs.Launching.{MayLaunch, MayStartData, StartGives};
 
 use crate::launch::{add_flight, end_dark, take_free};
 use crate::loading::load;

@@ -6,8 +6,8 @@ use Rattle.lvm_session.specs.Fields.{core_of}
 use Rattle.lvm_session.specs.State.{state}
 use Rattle.lvm_session.specs.Dark.{all_dark}
 use Rattle.lvm_over.specs.Hands.{MayEnd}
-use Rattle.lvm_launch.proofs.Starting.{dark_is, dark_written, hand_out, may_end_written}
-use Rattle.lvm_launch.proofs.copying.write_copy.Goals as goal
+use Rattle.lvm_starts.proofs.Starting.{dark_is, dark_written, hand_out, may_end_written}
+use Rattle.lvm_starts.proofs.copying.write_copy.Goals as goal
 
 pub end_dark-requires-clause-out : goal.end_dark-requires-clause-out
 end_dark-requires-clause-out g c =

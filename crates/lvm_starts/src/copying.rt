@@ -13,7 +13,7 @@ ghost use Rattle.lvm_session.specs.Rooms.{HasRooms, SameRooms};
 ghost use Rattle.lvm_session.specs.State.{state};
 ghost use Rattle.lvm_session.specs.Events.{flown, step_sector};
 ghost use Rattle.lvm_session.specs.Sound.{IsGoing};
-ghost use Rattle.lvm_launch.specs.Launching.{HasFlight, MayLaunch, MayReadCopy, MayWriteCopy, StartGives};
+ghost use Rattle.lvm_starts.specs.Launching.{HasFlight, MayLaunch, MayReadCopy, MayWriteCopy, StartGives};
 
 use crate::launch::{add_flight, end_dark, take_free};
 use lvm_disk::{Shelf, Started};

@@ -1,8 +1,8 @@
 use Rattle.std.proofs.Common.{◌+◌, length, slice_get, sym, ◌∙◌, ap, arith}
 use Rattle.lvm_num.specs.Buffer.{Buffer}
 use Rattle.lvm_vol.specs.Log.{blocks_of}
-use Rattle.lvm_launch.proofs.SoundLemmas.{block_put, long_set}
-use Rattle.lvm_launch.proofs.loading.load.Goals as goal
+use Rattle.lvm_starts.proofs.SoundLemmas.{block_put, long_set}
+use Rattle.lvm_starts.proofs.loading.load.Goals as goal
 
 pub loop-k-preserved : goal.loop-k-preserved
 loop-k-preserved c =

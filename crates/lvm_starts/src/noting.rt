@@ -7,7 +7,7 @@ ghost use Rattle.lvm_session.specs.declared.event.Event.TheVariants as event;
 ghost use Rattle.lvm_session.specs.Fields.{core_of};
 ghost use Rattle.lvm_session.specs.Rooms.{HasRooms, SameRooms};
 ghost use Rattle.lvm_session.specs.State.{state};
-ghost use Rattle.lvm_launch.specs.Launching.{HasNote, MayLaunch, MayNote, StartGives};
+ghost use Rattle.lvm_starts.specs.Launching.{HasNote, MayLaunch, MayNote, StartGives};
 
 use crate::launch::{add_flight, end_dark, take_free};
 use lvm_disk::{Shelf, Started};

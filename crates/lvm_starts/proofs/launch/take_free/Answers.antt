@@ -1,6 +1,6 @@
 use Rattle.std.proofs.Common.{◌≡◌, Bool, true, false, not, refl, sym, ◌∙◌, ap}
 use Rattle.std.proofs.lemmas.List.Folds.{list_any_none}
-use Rattle.lvm_launch.proofs.launch.take_free.Goals as goal
+use Rattle.lvm_starts.proofs.launch.take_free.Goals as goal
 
 pub unreachable-requires : goal.unreachable-requires
 unreachable-requires c =

@@ -4,9 +4,9 @@ use Rattle.lvm_mwc.specs.Cache.{Cached}
 use Rattle.lvm_session.specs.Fields.{core_of}
 use Rattle.lvm_session.specs.State.{state}
 use Rattle.lvm_session.specs.Dark.{all_dark}
-use Rattle.lvm_launch.proofs.OutLemmas.{may_end, pool_same}
-use Rattle.lvm_launch.proofs.Starting.{dark_note, with_cache}
-use Rattle.lvm_launch.proofs.noting.start_note.Goals as goal
+use Rattle.lvm_starts.proofs.OutLemmas.{may_end, pool_same}
+use Rattle.lvm_starts.proofs.Starting.{dark_note, with_cache}
+use Rattle.lvm_starts.proofs.noting.start_note.Goals as goal
 
 pub end_dark-requires-clause-may : goal.end_dark-requires-clause-may
 end_dark-requires-clause-may g c =

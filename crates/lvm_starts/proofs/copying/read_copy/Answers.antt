@@ -6,9 +6,9 @@ use Rattle.lvm_session.specs.Fields.{core_of}
 use Rattle.lvm_session.specs.State.{state}
 use Rattle.lvm_session.specs.Dark.{all_dark}
 use Rattle.lvm_over.specs.Hands.{MayEnd}
-use Rattle.lvm_launch.proofs.OutLemmas.{is_taken, may_end, pool_same}
-use Rattle.lvm_launch.proofs.Starting.{dark_after, next_is, read_starts}
-use Rattle.lvm_launch.proofs.copying.read_copy.Goals as goal
+use Rattle.lvm_starts.proofs.OutLemmas.{is_taken, may_end, pool_same}
+use Rattle.lvm_starts.proofs.Starting.{dark_after, next_is, read_starts}
+use Rattle.lvm_starts.proofs.copying.read_copy.Goals as goal
 
 pub start_read-requires-clause-range : goal.start_read-requires-clause-range
 start_read-requires-clause-range g c =
