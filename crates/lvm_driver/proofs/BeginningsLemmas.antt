@@ -24,7 +24,7 @@ use Rattle.lvm_session.specs.Marks.{can_replace, is_among, is_entailed, is_entai
 use Rattle.lvm_session.specs.Left.{updates_left}
 use Rattle.lvm_session.specs.Worked.{faultless, fresh, mirrored, status_of}
 use Rattle.lvm_session.proofs.WorkedLemmas.Parts.{none_missing, placed, valid}
-use Rattle.lvm_keeps_calls.proofs.KeepsLemmas.{few_updates}
+use Rattle.lvm_keeps_events.proofs.KeepsCallsKeepsLemmas.{few_updates}
 use Rattle.lvm_session_start.specs.declared.parts.Parts.{Parts}
 use Rattle.lvm_session_start.specs.declared.parts.Room.{Room}
 use Rattle.lvm_session_start.specs.Beginning.{MayBegin, first_core}

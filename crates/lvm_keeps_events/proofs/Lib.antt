@@ -28,3 +28,16 @@ pub mod CallsLemmas
 pub mod Keeping
 pub mod EndsStatusLemmas
 pub mod UncaughtLemmas
+pub mod KeepsTurnKeepsLemmas
+pub mod TurningLemmas
+pub mod TellingLemmas
+pub mod KeepsTurnCallsLemmas
+pub mod CountsLemmas
+pub mod ReadingLemmas
+pub mod GeometryLemmas
+pub mod KeepsCallsLogLemmas
+pub mod KeepsCallsKeepsLemmas
+pub mod OpeningLemmas
+pub mod LosingLemmas
+pub mod StatusLemmas
+pub mod TurnLossesMarksLemmas

@@ -8,3 +8,10 @@ pub mod FallsDataFalls
 pub mod FallsMoves
 pub mod EndsStatus
 pub mod Uncaught
+pub mod Turning
+pub mod Reading
+pub mod Telling
+pub mod passed
+pub mod Opening
+pub mod Losing
+pub mod TurnLossesMarks

@@ -22,7 +22,7 @@ use Rattle.lvm_session.specs.Sound.{count_if}
 use Rattle.lvm_session.specs.State.{Core, State}
 use Rattle.lvm_keeps.proofs.Lists.{any_removed, count_cons, count_set}
 use Rattle.lvm_keeps.proofs.Small.{both, not_so}
-use Rattle.lvm_keeps_turn.proofs.CallsLemmas.{SameTable, some_position, turn_leaves_table}
+use Rattle.lvm_keeps_events.proofs.KeepsTurnCallsLemmas.{SameTable, some_position, turn_leaves_table}
 use Rattle.lvm_load.specs.declared.client.Client.{Client}
 use Rattle.lvm_load.specs.Leaving.{WorkloadsLeaveOpen}
 use Rattle.lvm_load.specs.Requests.{ask_of, bytes_of, word_of}

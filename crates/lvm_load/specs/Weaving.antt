@@ -15,7 +15,7 @@ use Rattle.lvm_session.specs.Left.{left_of}
 use Rattle.lvm_session.specs.Sound.{IsSound}
 use Rattle.lvm_session.specs.State.{Core, State}
 use Rattle.lvm_session.specs.Turns.{TurnMakes}
-use Rattle.lvm_keeps_turn.specs.Turning.{is_last}
+use Rattle.lvm_keeps_events.specs.Turning.{is_last}
 use Rattle.lvm_load.specs.declared.client.Client.{Client}
 use Rattle.lvm_load.specs.Requests.{ask_of, bytes_of, word_of}
 

@@ -35,7 +35,7 @@ use Rattle.lvm_keeps.proofs.Lists.{all_on, all_push, all_removed}
 use Rattle.lvm_keeps.proofs.KeepsLemmas.Losing.{loss_is_caused}
 use Rattle.lvm_keeps.proofs.Small.{both, is_false, not_so}
 use Rattle.lvm_driver.proofs.passed.Names.{turn_counts, Given, turn_goes}
-use Rattle.lvm_turn_losses.specs.Losing.{LosesVotesByFaults, LostForFaults}
+use Rattle.lvm_keeps_events.specs.Losing.{LosesVotesByFaults, LostForFaults}
 use Rattle.lvm_driver.specs.Drains.{IsAny}
 use Rattle.lvm_posts.specs.declared.asked.Asked.{Asked}
 use Rattle.lvm_posts.specs.declared.fault.RangeFault.{RangeFault}

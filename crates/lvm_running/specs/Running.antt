@@ -11,7 +11,7 @@ use Rattle.lvm_stamps.specs.Behind.{beginning_at}
 use Rattle.lvm_stamps.specs.Laws.{LeavesBefore}
 use Rattle.lvm_session.specs.declared.open.Power.TheVariants as power
 use Rattle.lvm_session.specs.State.{Core, State}
-use Rattle.lvm_keeps_turn.specs.Telling.{SameRoom}
+use Rattle.lvm_keeps_events.specs.Telling.{SameRoom}
 use Rattle.lvm_tie.specs.GoingOn.{GoesOn}
 use Rattle.lvm_tie.specs.Landings.{HasCausesSince}
 use Rattle.lvm_tie.specs.Spares.{LeavesDescriptors, SparesDescriptors}

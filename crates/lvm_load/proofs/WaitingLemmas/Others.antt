@@ -23,7 +23,7 @@ use Rattle.lvm_session.specs.Sound.{IsAsked, IsSound}
 use Rattle.lvm_session.specs.State.{Core, State}
 use Rattle.lvm_session.specs.Turns.{TurnMakes}
 use Rattle.lvm_keeps.proofs.Lists.{all_at, any_set}
-use Rattle.lvm_keeps_turn.specs.Turning.{is_last}
+use Rattle.lvm_keeps_events.specs.Turning.{is_last}
 use Rattle.lvm_load.specs.declared.client.Client.{Client}
 use Rattle.lvm_load.specs.Waiting.{AreWaiting, AreWaitingBut, OthersWait, landed_by, waits_for}
 use Rattle.lvm_load.specs.Weaving.{NextClient, NoneOpen, TakesEach, TakesFor, Waits, open_of}

@@ -34,8 +34,8 @@ use Rattle.lvm_session.specs.State.{Core, State}
 use Rattle.lvm_session.specs.Turns.{FinishMakes, Finishes, Makes, Moves, NoStart, OnMakes, TurnMakes, WasDark, WasOff, WasOn}
 use Rattle.lvm_keeps.proofs.Lists.{any_removed, any_set, set_beside, set_here}
 use Rattle.lvm_keeps.proofs.Small.{both}
-use Rattle.lvm_keeps_turn.specs.Turning.{is_last}
-use Rattle.lvm_keeps_turn.proofs.TellingLemmas.Frames.{copy_stays, marked_stays, note_stays, status_stays}
+use Rattle.lvm_keeps_events.specs.Turning.{is_last}
+use Rattle.lvm_keeps_events.proofs.TellingLemmas.Frames.{copy_stays, marked_stays, note_stays, status_stays}
 use Rattle.lvm_load.specs.declared.client.Client.{Client}
 use Rattle.lvm_load.specs.Requests.{ask_of, bytes_of, word_of}
 use Rattle.lvm_load.specs.Waiting.{AreWaiting, waits_for}

@@ -9,8 +9,8 @@ use Rattle.lvm_session.specs.declared.open.Power.TheVariants as power
 use Rattle.lvm_session.specs.State.{State}
 use Rattle.lvm_session.specs.Turns.{TurnMakes, WasDark, WasOff, WasOn}
 use Rattle.lvm_session.specs.Sound.{IsSound}
-use Rattle.lvm_keeps_turn.proofs.TellingLemmas.Frames.{turn_room}
-use Rattle.lvm_keeps_turn.proofs.CountsLemmas.{turn_counts}
+use Rattle.lvm_keeps_events.proofs.TellingLemmas.Frames.{turn_room}
+use Rattle.lvm_keeps_events.proofs.CountsLemmas.{turn_counts}
 use Rattle.lvm_tie.specs.Stamps.{AreValid}
 use Rattle.lvm_tie.proofs.LandingsLemmas.Causes.{turn_keeps_causes}
 use Rattle.lvm_tie.proofs.SparesLemmas.{turn_spares_descriptors}

@@ -22,7 +22,7 @@ use Rattle.lvm_session.specs.Ends.{Ends, Learns, NoteLearns}
 use Rattle.lvm_session.specs.Marks.{Reviews}
 use Rattle.lvm_session.specs.State.{Core, State}
 use Rattle.lvm_session.specs.Turns.{Darkens, FinishMakes, Finishes, Makes, Moves, NoStart, OnMakes, TurnMakes, WasDark, WasOff, WasOn}
-use Rattle.lvm_keeps_turn.proofs.TellingLemmas.Frames.{end_framed, event_framed}
+use Rattle.lvm_keeps_events.proofs.TellingLemmas.Frames.{end_framed, event_framed}
 use Rattle.lvm_tie.proofs.SessionEndsLemmas.Grounds.{Ground, learned_same}
 use Rattle.lvm_tie.proofs.SessionEndsLemmas.Histories.{ends_history}
 use Rattle.lvm_running.specs.Running.{GoesOnOrEnds}

@@ -1,7 +1,7 @@
 -- Passed on from the crates below.
-pub use Rattle.lvm_keeps_turn.specs.Reading.{GetsItsBlocks}
-pub use Rattle.lvm_keeps_turn.specs.Telling.{SameRoom, TurnTells, power_by}
-pub use Rattle.lvm_keeps_turn.specs.Turning.{is_last}
+pub use Rattle.lvm_keeps_events.specs.Reading.{GetsItsBlocks}
+pub use Rattle.lvm_keeps_events.specs.Telling.{SameRoom, TurnTells, power_by}
+pub use Rattle.lvm_keeps_events.specs.Turning.{is_last}
 pub use Rattle.lvm_tie.specs.Landings.{HasCausesSince}
 pub use Rattle.lvm_tie.specs.Out.{CarriesStep, CarryTheirs}
 pub use Rattle.lvm_tie.specs.Seen.{IsRequestAt, IsStepAt, Sees, update_of}

@@ -6,7 +6,7 @@ use Rattle.lvm_session.specs.Calls.{submitted, SubmitGives}
 use Rattle.lvm_session.specs.Asking.{IsAsking, IsAwake}
 use Rattle.lvm_session.specs.Sound.{IsSound}
 use Rattle.lvm_session.proofs.Small.{not_so}
-use Rattle.lvm_keeps_calls.proofs.KeepsLemmas.{submit_keeps}
+use Rattle.lvm_keeps_events.proofs.KeepsCallsKeepsLemmas.{submit_keeps}
 use Rattle.lvm_tie.proofs.RequestsLemmas.SubmitTies.{submit_ties}
 use Rattle.lvm_tied.specs.Worked.{making, core_of, begun, a_write, its_bytes, waiting, WaitingAreTied}
 use Rattle.lvm_tied.proofs.WorkedLemmas.Parts.{is_sound}
