@@ -21,13 +21,13 @@ use Rattle.lvm_keeps.proofs.KeepsLemmas.Close.{close_keeps}
 use Rattle.lvm_keeps.proofs.KeepsLemmas.Orders.{order_keeps}
 use Rattle.lvm_keeps.proofs.KeepsLemmas.Take.{take_keeps}
 use Rattle.lvm_keeps_events.proofs.KeepsCallsKeepsLemmas.{submit_keeps}
-use Rattle.lvm_running.proofs.passed.Names.{turn_keeps}
+use Rattle.lvm_tie.proofs.passed.RunningNames.{turn_keeps}
 use Rattle.lvm_keeps_events.proofs.OpeningLemmas.Opening.{seen_open_keeps}
 use Rattle.lvm_keeps_events.specs.passed.KeepsCallsNames.{counts_seen}
-use Rattle.lvm_running.specs.passed.Names.{AreValid}
-use Rattle.lvm_running.specs.Running.{LeavesSession, RunsOn}
-use Rattle.lvm_running.proofs.LawsLemmas.Calls.{calls_run_on}
-use Rattle.lvm_running.proofs.LawsLemmas.Turning.{turn_runs_on}
+use Rattle.lvm_tie.specs.passed.RunningNames.{AreValid}
+use Rattle.lvm_tie.specs.Running.{LeavesSession, RunsOn}
+use Rattle.lvm_tie.proofs.LawsLemmas.Calls.{calls_run_on}
+use Rattle.lvm_tie.proofs.LawsLemmas.Turning.{turn_runs_on}
 use Rattle.lvm_driver.proofs.RoomsLemmas.{rooms_stay}
 
 -- a session that isn't stuck may be asked

@@ -19,8 +19,8 @@ ghost use Rattle.lvm_session.specs.Sound.{IsSound, waits};
 ghost use Rattle.lvm_keeps.specs.Falls.{most_left};
 ghost use Rattle.lvm_keeps_events.specs.passed.KeepsCallsNames.{counts_seen};
 ghost use Rattle.lvm_session_start.specs.Beginning.{AreFaults, MayBegin, first_core};
-ghost use Rattle.lvm_running.specs.passed.Names.{HasCausesSince, AreValid, GetsItsBlocks, TurnTells};
-ghost use Rattle.lvm_running.specs.Running.{LeavesSession, RunsOn};
+ghost use Rattle.lvm_tie.specs.passed.RunningNames.{HasCausesSince, AreValid, GetsItsBlocks, TurnTells};
+ghost use Rattle.lvm_tie.specs.Running.{LeavesSession, RunsOn};
 ghost use Rattle.lvm_driver.specs.Answers.{IsCausedFor, IsCopyCaused, IsOffSince};
 
 use crate::dues::{all_due, submit, take};

@@ -34,7 +34,7 @@ use Rattle.lvm_group.specs.passed.GroupPlan.{given_up, new_group, new_status}
 use Rattle.lvm_earlier.specs.passed.Tie.{IsStamped}
 use Rattle.lvm_handover.specs.Beginning.{HasJustBegun, IsHistory, MadeBegins, Serves, VariedOnBegins}
 use Rattle.lvm_keeps.proofs.LeftLemmas.Updates.{few_updates}
-use Rattle.lvm_tie_begins.proofs.MarksLemmas.{not_entailed}
+use Rattle.lvm_tie.proofs.MarksLemmas.{not_entailed}
 
 -- the stamp of the last record that was written
 abbrev second : ℕ → Stamp

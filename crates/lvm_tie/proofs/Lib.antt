@@ -30,3 +30,8 @@ pub mod EndsWritesLemmas
 pub mod GoingOnLemmas
 pub mod SparesLemmas
 pub mod StampsLemmas
+pub mod BeginsLemmas
+pub mod MarksLemmas
+pub mod RunningLemmas
+pub mod LawsLemmas
+pub mod AgreeingLemmas

@@ -20,3 +20,7 @@ pub mod EndsWrites
 pub mod GoingOn
 pub mod Spares
 pub mod Stamps
+pub mod Begins
+pub mod Running
+pub mod Laws
+pub mod Agreeing

@@ -16,9 +16,9 @@ use Rattle.lvm_settled.specs.passed.Names.{Room, BringsOn, IsStarted, NotesAreHo
 use Rattle.lvm_varyon.specs.Varied.{ComesOn}
 use Rattle.lvm_group.specs.Made.{IsMade}
 use Rattle.lvm_group.specs.passed.GroupPlan.{NewGroup}
-use Rattle.lvm_tie_begins.specs.passed.Names.{IsEven, IsGood}
+use Rattle.lvm_tie.specs.passed.TieBeginsNames.{IsEven, IsGood}
 use Rattle.lvm_varyon.specs.passed.Names.{HasNoPassive}
-use Rattle.lvm_tie_begins.specs.Begins.{ShowsIts, shown_to}
+use Rattle.lvm_tie.specs.Begins.{ShowsIts, shown_to}
 
 -- ---- what their contracts say
 

@@ -42,7 +42,7 @@ use Rattle.lvm_keeps.proofs.Lists.{count_cons}
 use Rattle.lvm_earlier.proofs.passed.Tie.{any_one, clash, or_true}
 use Rattle.lvm_volumes.specs.Endings.{HasFresh}
 use Rattle.lvm_handover.specs.Serving.{CommandsServe, GoesOnWith, IsServed, is_gone}
-use Rattle.lvm_tie_begins.proofs.MarksLemmas.{not_entailed, passes}
+use Rattle.lvm_tie.proofs.MarksLemmas.{not_entailed, passes}
 use Rattle.lvm_keeps.proofs.VotesLemmas.{enough_more, more_votes}
 use Rattle.lvm_handover.proofs.VotesLemmas.{each_row, no_votes, not_enough}
 

@@ -22,7 +22,7 @@ use Rattle.lvm_kept.specs.Group.{IsAlike, IsOneOf}
 use Rattle.lvm_status.specs.Update.{members_there}
 use Rattle.lvm_commit.specs.Settling.{NoneIsLeft, SpendsNumbers}
 use Rattle.lvm_commit.proofs.AmongLemmas.{contains, of_map}
-use Rattle.lvm_tie_begins.proofs.passed.Names.{row_is_volume}
+use Rattle.lvm_tie.proofs.passed.TieBeginsNames.{row_is_volume}
 use Rattle.lvm_next.proofs.NextLemmas.{copy_is_placed, is_member_of}
 use Rattle.lvm_session.specs.State.{Core, State, is_there}
 use Rattle.lvm_session.specs.Judging.{copies_in, is_missing, is_settled, is_wanted_stale}
@@ -41,7 +41,7 @@ use Rattle.lvm_volumes.proofs.StagesLemmas.Entering.{many_bound}
 use Rattle.lvm_volumes.proofs.DescriptorLemmas.{places_of}
 use Rattle.lvm_handover.specs.Serving.{GoesOnWith, MayServe, MklvServes, RmlvServes, StaysSound}
 use Rattle.lvm_keeps.proofs.LeftLemmas.Updates.{few_updates}
-use Rattle.lvm_tie_begins.proofs.MarksLemmas.{passes}
+use Rattle.lvm_tie.proofs.MarksLemmas.{passes}
 use Rattle.lvm_handover.proofs.CommitSettlingLemmas.{none_left}
 use Rattle.lvm_handover.proofs.ServingLemmas.Serving.{commands_serve}
 

@@ -25,7 +25,7 @@ use Rattle.lvm_session.specs.Owners.{flies, same_owner}
 use Rattle.lvm_session.specs.Sound.{IsGoing, IsOn, IsSound, count_if}
 use Rattle.lvm_earlier.specs.passed.Names.{IsSettled, HasNoneOpen, IsSoundBetween}
 use Rattle.lvm_earlier.specs.passed.Driver.{IsDrained}
-use Rattle.lvm_tie_begins.specs.Begins.{IsResting}
+use Rattle.lvm_tie.specs.Begins.{IsResting}
 use Rattle.lvm_handover.specs.Settling.{DrainedRests, MayHandOver}
 use Rattle.lvm_handover.proofs.SoundLemmas.{buffers_back, none_flown, rest_is_quiet, rest_is_sound}
 use Rattle.lvm_handover.proofs.SettlingLemmas.Statuses.{status_is}

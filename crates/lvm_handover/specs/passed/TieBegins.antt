@@ -1,2 +1,2 @@
--- Passed on from `lvm_tie_begins`.
-pub use Rattle.lvm_tie_begins.specs.Begins.{NotesAreHomeIn, IsRested, IsResting, MembersShow, StandsAtRest, shown_to}
+-- Passed on from `lvm_tie`.
+pub use Rattle.lvm_tie.specs.Begins.{NotesAreHomeIn, IsRested, IsResting, MembersShow, StandsAtRest, shown_to}

@@ -45,13 +45,13 @@ use Rattle.lvm_mwc.specs.Cache.{is_named as is_named_by}
 use Rattle.lvm_kept.proofs.CommittedLemmas.Finding.{images_within}
 use Rattle.lvm_varyon.proofs.passed.Names.{quiet_is_even}
 use Rattle.lvm_group.specs.passed.GroupPlan.{given_up, new_group, new_status}
-use Rattle.lvm_tie_begins.specs.passed.Names.{NoneIsBehind, IsGood, moment_of}
-use Rattle.lvm_tie_begins.proofs.passed.Names.{none_is_left_behind}
-use Rattle.lvm_tie_begins.specs.Begins.{BeginsSound, StandsAtRest, Start, begun, shown_to}
-use Rattle.lvm_tie_begins.proofs.BeginsLemmas.Beginning.{begins_good}
+use Rattle.lvm_tie.specs.passed.TieBeginsNames.{NoneIsBehind, IsGood, moment_of}
+use Rattle.lvm_tie.proofs.passed.TieBeginsNames.{none_is_left_behind}
+use Rattle.lvm_tie.specs.Begins.{BeginsSound, StandsAtRest, Start, begun, shown_to}
+use Rattle.lvm_tie.proofs.BeginsLemmas.Beginning.{begins_good}
 use Rattle.lvm_tie_groups.specs.Coming.{IsBegun, IsDriven, IsMadeEven, LeadsTo, MadeServes, VariedIsMadeEven, VariedOnServes}
 use Rattle.lvm_keeps.proofs.LeftLemmas.Updates.{few_updates}
-use Rattle.lvm_tie_begins.proofs.MarksLemmas.{not_entailed}
+use Rattle.lvm_tie.proofs.MarksLemmas.{not_entailed}
 
 -- what holds of the media that is told
 of_told : {A : Type 0} (P : A → Type 0) (o : Option A) (x : A) → o ≡ Some x → IfSome o P → P x

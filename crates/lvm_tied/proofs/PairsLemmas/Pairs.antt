@@ -18,9 +18,9 @@ use Rattle.lvm_rest.specs.Examples.{Pair, device_of, even_pair, framed_group, fr
 use Rattle.lvm_settled.specs.Examples.{IsSettledPair, core_of, noted_core}
 use Rattle.lvm_settled.proofs.ExamplesLemmas.Examples.{pairs_settle}
 use Rattle.lvm_settled.proofs.ExamplesLemmas.Notes.{pairs_have_notes_home}
-use Rattle.lvm_tie_begins.specs.Begins.{StandsAtRest}
-use Rattle.lvm_tie_begins.proofs.BeginsLemmas.Beginning.{first_members}
-use Rattle.lvm_tie_begins.proofs.BeginsLemmas.Resting.{rest_ties}
+use Rattle.lvm_tie.specs.Begins.{StandsAtRest}
+use Rattle.lvm_tie.proofs.BeginsLemmas.Beginning.{first_members}
+use Rattle.lvm_tie.proofs.BeginsLemmas.Resting.{rest_ties}
 use Rattle.lvm_tied.specs.Pairs.{IsRestingPair, PairsAreTied}
 use Rattle.lvm_tied.proofs.PairsLemmas.Sound.{is_sound}
 
