@@ -1,2 +1,2 @@
--- Passed on from `lvm_even`.
-pub use Rattle.lvm_even.proofs.EvenLemmas.Even.{kept_even}
+-- Passed on from `lvm_settled`.
+pub use Rattle.lvm_settled.proofs.EvenLemmas.Even.{kept_even}

@@ -31,7 +31,7 @@ use Rattle.lvm_commit.proofs.AmongLemmas.{contains, of_map, of_rows}
 use Rattle.lvm_steps.proofs.RecordLemmas.{clash}
 use Rattle.lvm_rest.proofs.Rows.{tested}
 use Rattle.lvm_rest.proofs.CommandsLemmas.{free_keeps_even}
-use Rattle.lvm_even.specs.Even.{AreWanted, MklvKeepsEven, RmlvKeepsEven}
+use Rattle.lvm_settled.specs.Even.{AreWanted, MklvKeepsEven, RmlvKeepsEven}
 
 -- records stand below the data
 record_low : (kind : Kind) (slot part len s : ℕ) → slot < 2 → len ≤ longest_content kind → part < record_sectors len → s ≡ slot_start kind slot + part → s < data_start

@@ -21,7 +21,7 @@ use Rattle.lvm_crash.proofs.GroupLemmas.Lists.{of_passing}
 use Rattle.lvm_volumes.specs.passed.Names.{NewVolume, row_for}
 use Rattle.lvm_volumes.proofs.passed.Names.{one_insert, one_filter}
 use Rattle.lvm_volumes.specs.Volumes.{AreZeroed}
-use Rattle.lvm_even.specs.Even.{OffIsEven, ZeroedVolumeIsEven, FewerAreEven}
+use Rattle.lvm_settled.specs.Even.{OffIsEven, ZeroedVolumeIsEven, FewerAreEven}
 
 pub off_is_even : OffIsEven
 off_is_even c group status there off row lp b volume soft inside = absurd (soft (off row volume))

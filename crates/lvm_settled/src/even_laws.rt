@@ -1,5 +1,5 @@
 //! Laws of group commands at rest. Each call does nothing: its contract is the law.
-ghost use Rattle.lvm_even.specs.Even.{MklvKeepsEven, RmlvKeepsEven, OffIsEven, ZeroedVolumeIsEven, FewerAreEven};
+ghost use Rattle.lvm_settled.specs.Even.{MklvKeepsEven, RmlvKeepsEven, OffIsEven, ZeroedVolumeIsEven, FewerAreEven};
 
 /// What `mklv` writes, whatever its answer, keeps the usable copies of the volumes that were there even.
 pub fn mklv_keeps_even()
