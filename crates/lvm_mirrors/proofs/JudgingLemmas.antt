@@ -17,9 +17,9 @@ use Rattle.lvm_session.specs.Judging.{copies_in}
 use Rattle.lvm_session.specs.State.{State}
 use Rattle.lvm_volumes.specs.Endings.{HasFresh, KeepsFresh}
 use Rattle.lvm_volumes.proofs.EndingsLemmas.Fresh.{HasOnePlaceEach, one_stays, keeps_others}
-use Rattle.lvm_copy_plan.specs.Copies.{with_map, with_copies}
-use Rattle.lvm_copy_plan.proofs.CopiesLemmas.More.{none_past}
-use Rattle.lvm_copy_plan.proofs.CopiesLemmas.Rows.{one_found, named, differs}
+use Rattle.lvm_volume_plan.specs.Copies.{with_map, with_copies}
+use Rattle.lvm_volume_plan.proofs.CopiesLemmas.More.{none_past}
+use Rattle.lvm_volume_plan.proofs.CopiesLemmas.Rows.{one_found, named, differs}
 
 pub copies_by : (d : Descriptor) (lv lp : ℕ) (row : LvRow) → volume_of d lv ≡ Some row → copies_in d lv lp ≡ copies_of row lp
 copies_by d lv lp row volume = ap (λ (o : Option LvRow). option_map_or (λ (r : LvRow). copies_of r lp) o []) volume

@@ -22,10 +22,10 @@ use Rattle.lvm_session.specs.State.{is_there}
 use Rattle.lvm_rest.specs.Rest.{IsEven}
 use Rattle.lvm_rest.specs.Commands.{IsUsable, KeepsCopies}
 use Rattle.lvm_rest.proofs.CommandsLemmas.{even_stays}
-use Rattle.lvm_copy_plan.specs.Copies.{with_map, with_copies, first_copies, further_copies}
-use Rattle.lvm_copy_plan.proofs.CopiesLemmas.Rows.{one_found, one_other, own_row}
-use Rattle.lvm_copy_plan.proofs.CopiesLemmas.More as more
-use Rattle.lvm_copy_plan.proofs.CopiesLemmas.Fewer as fewer
+use Rattle.lvm_volume_plan.specs.Copies.{with_map, with_copies, first_copies, further_copies}
+use Rattle.lvm_volume_plan.proofs.CopiesLemmas.Rows.{one_found, one_other, own_row}
+use Rattle.lvm_volume_plan.proofs.CopiesLemmas.More as more
+use Rattle.lvm_volume_plan.proofs.CopiesLemmas.Fewer as fewer
 use Rattle.lvm_mirrors.specs.Mirrors.{KeepsShown}
 use Rattle.lvm_mirrors.specs.Laws.{UsableIsShown, MoreAreEven, FirstAreEven}
 

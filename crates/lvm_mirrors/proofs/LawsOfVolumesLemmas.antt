@@ -29,14 +29,14 @@ use Rattle.lvm_commit.specs.Committed.{ShowsCommitted, HoldsCommitted}
 use Rattle.lvm_commit.specs.LawsOfVolumes.{VolumeServes}
 use Rattle.lvm_commit.proofs.LawsLemmas.Found.{status_read}
 use Rattle.lvm_session.specs.State.{State, is_there}
-use Rattle.lvm_copy_plan.specs.passed.Names.{LetsCommit, IsHeldSince}
+use Rattle.lvm_volume_plan.specs.passed.CopyPlanNames.{LetsCommit, IsHeldSince}
 use Rattle.lvm_rest.specs.Commands.{HasCopiesOf}
 use Rattle.lvm_rest.proofs.CommandsLemmas.{copies_serve}
 use Rattle.lvm_rest.proofs.Rows.{some_passing}
-use Rattle.lvm_copy_plan.specs.Copies.{with_map, with_copies, first_copies, further_copies}
-use Rattle.lvm_copy_plan.proofs.CopiesLemmas.Rows.{one_found, named, own_row, differs}
-use Rattle.lvm_copy_plan.proofs.CopiesLemmas.More as more
-use Rattle.lvm_copy_plan.proofs.CopiesLemmas.Fewer as fewer
+use Rattle.lvm_volume_plan.specs.Copies.{with_map, with_copies, first_copies, further_copies}
+use Rattle.lvm_volume_plan.proofs.CopiesLemmas.Rows.{one_found, named, own_row, differs}
+use Rattle.lvm_volume_plan.proofs.CopiesLemmas.More as more
+use Rattle.lvm_volume_plan.proofs.CopiesLemmas.Fewer as fewer
 
 module _ (d : Descriptor) (lv copies : ℕ) (row : LvRow) (valid : IsValid d) (volume : volume_of d lv ≡ Some row)
     (c : Contents) (status : Status) (there : Disks) (facts : List Fact) (within : IsWithinDisks c) (enough : CanWrite d there) (shows : ShowsCommitted c d status there) (kept : Kept c facts) where

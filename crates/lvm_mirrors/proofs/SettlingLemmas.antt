@@ -15,8 +15,8 @@ use Rattle.lvm_status.specs.Update.{Stored}
 use Rattle.lvm_steps.proofs.RecordLemmas.{either, split}
 use Rattle.lvm_commit.specs.Settling.{there, NoneIsLeft}
 use Rattle.lvm_volumes.proofs.EndingsLemmas.Fresh.{one_any}
-use Rattle.lvm_copy_plan.specs.Copies.{with_map, with_copies}
-use Rattle.lvm_copy_plan.proofs.CopiesLemmas.Rows.{one_found, one_other, own_row}
+use Rattle.lvm_volume_plan.specs.Copies.{with_map, with_copies}
+use Rattle.lvm_volume_plan.proofs.CopiesLemmas.Rows.{one_found, one_other, own_row}
 
 -- Where each copy is an old one or stale, none is left behind that wasn't.
 pub none_left : (d : Descriptor) (lv copies : ℕ) (row : LvRow) (pps : List Pp) (u : Stored) → IsValid d → volume_of d lv ≡ Some row

@@ -28,8 +28,8 @@ use Rattle.lvm_commit.specs.Settling.{NoneIsLeft, MarksLeft, many_there}
 use Rattle.lvm_commit.proofs.AmongLemmas.{contains, one_place}
 use Rattle.lvm_session.specs.Judging.{copies_in, is_wanted_stale}
 use Rattle.lvm_session.specs.State.{Core, State, is_there}
-use Rattle.lvm_copy_plan.specs.passed.Names.{CommitFault, IsSettled, HasSpareNumbers, is_among, AreUnused, Restates, LetsCommit, HasStated, HasCommitted, CommitEnds, MarkEnds, NoPartition, Always, IsHeldSince, Leaves, committing, marking, IfOn, command_answer}
-use Rattle.lvm_copy_plan.proofs.passed.Names.{pp_is}
+use Rattle.lvm_volume_plan.specs.passed.CopyPlanNames.{CommitFault, IsSettled, HasSpareNumbers, is_among, AreUnused, Restates, LetsCommit, HasStated, HasCommitted, CommitEnds, MarkEnds, NoPartition, Always, IsHeldSince, Leaves, committing, marking, IfOn, command_answer}
+use Rattle.lvm_volume_plan.proofs.passed.CopyPlanNames.{pp_is}
 use Rattle.lvm_volumes.specs.Endings.{StillHeld, KeepsFresh}
 use Rattle.lvm_volumes.specs.Stages.{CommandBroke}
 use Rattle.lvm_volumes.proofs.StagesLemmas.Breaking.{broken, broken_since, stopped}
@@ -38,9 +38,9 @@ use Rattle.lvm_volumes.proofs.EndingsLemmas.Fresh.{not_stale, keeps_all, keeps_t
 use Rattle.lvm_volumes.proofs.EndingsLemmas.Holding.{still_by, still_then}
 use Rattle.lvm_volumes.proofs.Leaving.{leaves_wider, leaves_joined}
 use Rattle.lvm_volumes.proofs.SettlingLemmas.{itself, is_used}
-use Rattle.lvm_copy_plan.specs.Copies.{with_map, with_copies, further_copies}
-use Rattle.lvm_copy_plan.specs.PlannedCopies.{ArePlanned}
-use Rattle.lvm_copy_plan.proofs.CopiesLemmas.More as more
+use Rattle.lvm_volume_plan.specs.Copies.{with_map, with_copies, further_copies}
+use Rattle.lvm_volume_plan.specs.PlannedCopies.{ArePlanned}
+use Rattle.lvm_volume_plan.proofs.CopiesLemmas.More as more
 use Rattle.lvm_mirrors.specs.Stages.{adding, AddEnds}
 use Rattle.lvm_mirrors.proofs.JudgingLemmas.{copies_by, keeps_with}
 use Rattle.lvm_mirrors.proofs.SettlingLemmas.{none_left}

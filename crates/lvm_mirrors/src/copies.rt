@@ -1,14 +1,14 @@
 //! The addition and the removal of copies.
-ghost use Rattle.lvm_copy_plan.specs.passed.Names.{state_of, Leaves, IsSettled, TakesCommands, IfOn, command_answer};
+ghost use Rattle.lvm_volume_plan.specs.passed.CopyPlanNames.{state_of, Leaves, IsSettled, TakesCommands, IfOn, command_answer};
 ghost use Rattle.lvm_volumes.specs.Endings.{StillHeld, KeepsFresh};
 ghost use Rattle.lvm_mirrors.specs.Mirrors.{MklvcopyGives, RmlvcopyGives, to_add, to_take};
 ghost use Rattle.lvm_mirrors.specs.Stages.{MayAdd, adding, AddEnds};
 
-use lvm_copy_plan::below::{CommitFault, Driver, GroupFault, Prepared};
-use lvm_copy_plan::{MoreCopies, prepare_fewer};
 use lvm_disk::Shelf;
 use lvm_num::{Pp, Rows};
 use lvm_transfer::Patience;
+use lvm_volume_plan::below::{CommitFault, Driver, GroupFault, Prepared};
+use lvm_volume_plan::{MoreCopies, prepare_fewer};
 use std::alloc::Global;
 
 /// Gives a volume of the group that is on further copies, until it has so many, and answers their partitions. They

@@ -5,4 +5,4 @@ mod copies;
 pub mod laws;
 
 pub use copies::{mklvcopy, rmlvcopy};
-pub use lvm_copy_plan::below::GroupFault;
+pub use lvm_volume_plan::below::GroupFault;

@@ -1,2 +1,5 @@
 pub mod CoreFaultCommitFault
 pub mod Names
+pub mod CopyPlanCoreFaultCommitFault
+pub mod CopyPlanNames
+pub mod VolumePlanFaultGroupFault

@@ -4,14 +4,14 @@ use Rattle.std.specs.Prelude.{Contains}
 use Rattle.lvm_num.specs.declared.place.Pp.{Pp}
 use Rattle.lvm_num.specs.declared.descriptor.Descriptor.{Descriptor}
 use Rattle.lvm_vol.specs.Log.{Log}
-use Rattle.lvm_copy_plan.specs.passed.Names.{CommitFault, Leaves, GroupFault, fault_of, IfOn}
-use Rattle.lvm_copy_plan.specs.passed.CoreFaultCommitFault as commit
+use Rattle.lvm_volume_plan.specs.passed.CopyPlanNames.{CommitFault, Leaves, GroupFault, fault_of, IfOn}
+use Rattle.lvm_volume_plan.specs.passed.CopyPlanCoreFaultCommitFault as commit
 use Rattle.lvm_session.specs.State.{State}
-use Rattle.lvm_copy_plan.specs.passed.VolumePlanFaultGroupFault as fault
+use Rattle.lvm_volume_plan.specs.passed.VolumePlanFaultGroupFault as fault
 use Rattle.lvm_volumes.specs.Stages.{CommandBroke}
 use Rattle.lvm_volumes.proofs.Leaving.{leaves_wider}
-use Rattle.lvm_copy_plan.specs.Faults.{RefusesMklvcopy, RefusesRmlvcopy}
-use Rattle.lvm_copy_plan.specs.PlannedCopies.{ArePlanned, IsWithFewer}
+use Rattle.lvm_volume_plan.specs.CopyPlanFaults.{RefusesMklvcopy, RefusesRmlvcopy}
+use Rattle.lvm_volume_plan.specs.PlannedCopies.{ArePlanned, IsWithFewer}
 use Rattle.lvm_mirrors.specs.Mirrors.{IsFurther, IsWithMore, to_add, AreAdded, MklvcopyGives, RmlvcopyGives}
 use Rattle.lvm_mirrors.specs.Stages.{adding, AreNamed}
 

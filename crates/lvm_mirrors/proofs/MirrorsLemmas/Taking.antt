@@ -19,14 +19,14 @@ use Rattle.lvm_commit.specs.Committed.{IsAlike, HoldsCommitted}
 use Rattle.lvm_commit.specs.LawsOfVolumes.{VolumeServes}
 use Rattle.lvm_commit.specs.Settling.{NoneIsLeft, MarksLeft}
 use Rattle.lvm_session.specs.State.{Core, State, is_there}
-use Rattle.lvm_copy_plan.specs.passed.Names.{IsSettled, LetsCommit, HasCommitted, IsHeldSince, Leaves, committing}
+use Rattle.lvm_volume_plan.specs.passed.CopyPlanNames.{IsSettled, LetsCommit, HasCommitted, IsHeldSince, Leaves, committing}
 use Rattle.lvm_volumes.specs.Endings.{StillHeld, KeepsFresh}
 use Rattle.lvm_volumes.proofs.StagesLemmas.Entering.{commit_still}
 use Rattle.lvm_volumes.proofs.EndingsLemmas.Fresh.{not_stale}
 use Rattle.lvm_volumes.proofs.Leaving.{leaves_wider}
-use Rattle.lvm_copy_plan.specs.Copies.{first_copies}
-use Rattle.lvm_copy_plan.specs.PlannedCopies.{IsWithFewer}
-use Rattle.lvm_copy_plan.proofs.CopiesLemmas.Fewer as fewer
+use Rattle.lvm_volume_plan.specs.Copies.{first_copies}
+use Rattle.lvm_volume_plan.specs.PlannedCopies.{IsWithFewer}
+use Rattle.lvm_volume_plan.proofs.CopiesLemmas.Fewer as fewer
 use Rattle.lvm_mirrors.specs.Mirrors.{IfShown, to_take, AreTaken}
 use Rattle.lvm_mirrors.proofs.JudgingLemmas.{keeps_with}
 use Rattle.lvm_mirrors.proofs.SettlingLemmas.{none_left}

@@ -1,2 +1,2 @@
 -- Passed on from the crates below.
-pub use Rattle.lvm_copy_plan.proofs.CopiesLemmas.Fewer.{old_copies}
+pub use Rattle.lvm_volume_plan.proofs.CopiesLemmas.Fewer.{old_copies}

@@ -1,10 +1,10 @@
 use Rattle.std.proofs.lemmas.Result.{err_from_is_err_and}
-use Rattle.lvm_copy_plan.specs.passed.Names.{CommitFault, state_of, HasStated}
+use Rattle.lvm_volume_plan.specs.passed.CopyPlanNames.{CommitFault, state_of, HasStated}
 use Rattle.lvm_session.specs.State.{State}
 use Rattle.lvm_volumes.specs.Endings.{StillHeld, KeepsFresh}
 use Rattle.lvm_volumes.proofs.StagesLemmas.Breaking.{stopped}
 use Rattle.lvm_volumes.proofs.StagesLemmas.Entering.{has_numbers}
-use Rattle.lvm_copy_plan.specs.PlannedCopies.{ArePlanned}
+use Rattle.lvm_volume_plan.specs.PlannedCopies.{ArePlanned}
 use Rattle.lvm_mirrors.proofs.StagesLemmas.{added_unused, mark_break_leaves, mark_break, mid_numbers, mid_alike, all_leaves, all_still, all_keeps, all_ends}
 use Rattle.lvm_mirrors.proofs.copies.add.Goals as goal
 

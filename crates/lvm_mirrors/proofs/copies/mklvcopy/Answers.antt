@@ -2,14 +2,14 @@ use Rattle.std.proofs.Common.{List, Err, sym, subst}
 use Rattle.std.proofs.lemmas.Result.{err_from_is_err_and}
 use Rattle.lvm_num.specs.declared.place.Pp.{Pp}
 use Rattle.lvm_num.specs.declared.descriptor.Descriptor.{Descriptor}
-use Rattle.lvm_copy_plan.specs.passed.Names.{CommitFault, state_of, IsSettled, GroupFault}
+use Rattle.lvm_volume_plan.specs.passed.CopyPlanNames.{CommitFault, state_of, IsSettled, GroupFault}
 use Rattle.lvm_session.specs.State.{State}
 use Rattle.lvm_volumes.specs.Endings.{StillHeld, KeepsFresh}
 use Rattle.lvm_volumes.proofs.VolumesLemmas.{always_on}
 use Rattle.lvm_volumes.proofs.EndingsLemmas.Fresh.{keeps_none}
 use Rattle.lvm_volumes.proofs.EndingsLemmas.Holding.{still_none}
 use Rattle.lvm_volumes.proofs.Leaving.{leaves_none}
-use Rattle.lvm_copy_plan.specs.PlannedCopies.{ArePlanned}
+use Rattle.lvm_volume_plan.specs.PlannedCopies.{ArePlanned}
 use Rattle.lvm_mirrors.specs.Mirrors.{to_add, AreAdded}
 use Rattle.lvm_mirrors.proofs.MirrorsLemmas.Answering.{refused_more, broke_so, added_leaves, adding_fails, added_given}
 use Rattle.lvm_mirrors.proofs.copies.mklvcopy.Goals as goal

@@ -1,7 +1,7 @@
 use Rattle.std.proofs.Common.{Err}
 use Rattle.std.proofs.lemmas.Result.{err_from_is_err_and}
 use Rattle.lvm_num.specs.declared.descriptor.Descriptor.{Descriptor}
-use Rattle.lvm_copy_plan.specs.passed.Names.{CommitFault, state_of, IsSettled, HasCommitted, GroupFault}
+use Rattle.lvm_volume_plan.specs.passed.CopyPlanNames.{CommitFault, state_of, IsSettled, HasCommitted, GroupFault}
 use Rattle.lvm_session.specs.State.{State}
 use Rattle.lvm_volumes.specs.Endings.{StillHeld, KeepsFresh}
 use Rattle.lvm_volumes.proofs.VolumesLemmas.{always_on}
@@ -10,7 +10,7 @@ use Rattle.lvm_volumes.proofs.StagesLemmas.Entering.{has_numbers}
 use Rattle.lvm_volumes.proofs.EndingsLemmas.Fresh.{keeps_none}
 use Rattle.lvm_volumes.proofs.EndingsLemmas.Holding.{still_none}
 use Rattle.lvm_volumes.proofs.Leaving.{leaves_none}
-use Rattle.lvm_copy_plan.specs.PlannedCopies.{IsWithFewer}
+use Rattle.lvm_volume_plan.specs.PlannedCopies.{IsWithFewer}
 use Rattle.lvm_mirrors.specs.Mirrors.{to_take}
 use Rattle.lvm_mirrors.proofs.MirrorsLemmas.Answering.{refused_fewer, taking_fails}
 use Rattle.lvm_mirrors.proofs.MirrorsLemmas.Taking.{take_alike, take_leaves, take_still, take_keeps, taken}
