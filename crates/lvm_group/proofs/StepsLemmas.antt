@@ -28,17 +28,17 @@ use Rattle.lvm_write.proofs.PartsLemmas.Transfers.{spends_then}
 use Rattle.lvm_begin.specs.Beginning.{Beginning, new_beginning, new_order, IsOfParts, AllStand}
 use Rattle.lvm_begin.specs.Ends.{BothFlip}
 use Rattle.lvm_begin.specs.Kept.{NewStaysKept}
-use Rattle.lvm_group_plan.specs.passed.Names.{Room, Cause, BringsOn, StartsHeld, Parts, IsReservedFor, first_core}
-use Rattle.lvm_group_plan.specs.NewGroup.{NewGroup, among, sectors_on, size_for, new_group, new_status, given_up, first_absent, first_too_small, MayBegin}
+use Rattle.lvm_group.specs.passed.GroupPlanNames.{Room, Cause, BringsOn, StartsHeld, Parts, IsReservedFor, first_core}
+use Rattle.lvm_group.specs.NewGroup.{NewGroup, among, sectors_on, size_for, new_group, new_status, given_up, first_absent, first_too_small, MayBegin}
 use Rattle.lvm_group.specs.Shown.{IfShown, HasGroup, ShowsEarlier, SparesTold}
-use Rattle.lvm_group_plan.specs.Planned.{IsPlanned}
+use Rattle.lvm_group.specs.Planned.{IsPlanned}
 use Rattle.lvm_group.specs.Made.{beginning_for, MkvgRefuses}
 use Rattle.lvm_group.specs.Steps.{LetsMake, AreWritten, WritingFails, NewWritesGive, Stands, cuts_power, cut_at, standing_of}
 use Rattle.lvm_group.specs.declared.look.Free.{Free}
-use Rattle.lvm_group_plan.specs.declared.plan.Plan.{Plan}
+use Rattle.lvm_group.specs.declared.plan.Plan.{Plan}
 use Rattle.lvm_group.proofs.MadeLemmas.Composing.{cut_where, same_beginning, refuses_writing, stands}
 use Rattle.lvm_group.proofs.LogLemmas.{keeps_cut, calm_cut, calm_given}
-use Rattle.lvm_group_plan.proofs.NewGroupLemmas.Groups.{room_among}
+use Rattle.lvm_group.proofs.NewGroupLemmas.Groups.{room_among}
 use Rattle.lvm_group.proofs.Keeping.{IsBeginning, descriptor_fits, status_fits, path_kept, then_behind, starts_held}
 
 -- ---- entries after a cut

@@ -1,1 +1,3 @@
 pub mod GroupPlan
+pub mod CoreRefusedCause
+pub mod GroupPlanNames

@@ -5,7 +5,7 @@ ghost use Rattle.lvm_survey.specs.Surveyed.{surveyed};
 ghost use Rattle.lvm_group.specs.Shown.{HasGroup, ShowsEarlier, ShowsMoment};
 ghost use Rattle.lvm_group.specs.Judged.{IsTaken, IsLastOf, IsFirstFailed, NoneFailed, LetsBegin, RefusesShown};
 
-use lvm_group_plan::below::Cause;
+use crate::below::Cause;
 use lvm_survey::{Survey, SurveyRow};
 
 /// Whether what was found on the disks lets a group be made at the moment.

@@ -10,11 +10,11 @@ ghost use Rattle.lvm_begin.specs.Beginning.{new_beginning, new_order, IsOfParts}
 ghost use Rattle.lvm_begin.specs.Kept.{NewStaysKept};
 ghost use Rattle.lvm_group.specs.Steps.{NewWritesGive};
 
+use crate::below::Cause;
 use crate::look::Free;
+use crate::plan::Plan;
 use lvm_begin::{Begun, begin_new};
 use lvm_disk::Shelf;
-use lvm_group_plan::Plan;
-use lvm_group_plan::below::Cause;
 use lvm_num::DiskSet;
 use lvm_rec::Homes;
 use lvm_transfer::Patience;
