@@ -22,8 +22,8 @@ use Rattle.lvm_kept.proofs.CommittedLemmas.Finding.{images_within}
 use Rattle.lvm_stamps.specs.Behind.{StampsBefore, beginning_at, IsBehind}
 use Rattle.lvm_rec.specs.declared.homes.Homes.{Homes}
 use Rattle.lvm_write.specs.Homes.{SparesNewest}
-use Rattle.lvm_varyon_plan.specs.passed.Names.{ShowsCommitted, LogsOnly}
-use Rattle.lvm_varyon_plan.proofs.passed.Names.{newest_is_beginning, only_planned}
+use Rattle.lvm_varyon.specs.passed.VaryonPlanNames.{ShowsCommitted, LogsOnly}
+use Rattle.lvm_varyon.proofs.passed.VaryonPlanNames.{newest_is_beginning, only_planned}
 use Rattle.lvm_steps.specs.VaryingOn.{HasNewest}
 use Rattle.lvm_steps.proofs.VaryingOnLemmas.Following.{restamp_is_newest}
 use Rattle.lvm_steps.proofs.VaryingOnLemmas.VaryingOn.{restamp_keeps, restate_keeps}
@@ -37,7 +37,7 @@ use Rattle.lvm_begin.proofs.ShownLemmas.Shown.{again_is_shown, media_by}
 use Rattle.lvm_next.specs.Next.{IsNextStatus}
 use Rattle.lvm_next.specs.Restated.{Restated}
 use Rattle.lvm_varyon.specs.Found.{records_on}
-use Rattle.lvm_varyon_plan.specs.Chosen.{answering}
+use Rattle.lvm_varyon.specs.Chosen.{answering}
 use Rattle.lvm_varyon.specs.Varied.{HasWritten}
 use Rattle.lvm_varyon.specs.Writing.{beginning, AllWritten}
 use Rattle.lvm_varyon.proofs.GroupLemmas.{same_voters}

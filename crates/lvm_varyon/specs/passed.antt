@@ -1,2 +1,4 @@
 pub mod Names
 pub mod VaryonPlan
+pub mod CoreRefusedCause
+pub mod VaryonPlanNames

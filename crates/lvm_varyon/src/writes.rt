@@ -10,18 +10,18 @@ ghost use Rattle.lvm_begin.specs.Kept.{AgainStaysKept};
 ghost use Rattle.lvm_write.specs.Writes.{DiskWritesLeave};
 ghost use Rattle.lvm_transfer.specs.Reading.{OnlyReads};
 ghost use Rattle.lvm_write.specs.Parts.{Spends};
-ghost use Rattle.lvm_varyon_plan.specs.passed.Names.{MayCopy, AreApart, EqualisedStaysKept};
+ghost use Rattle.lvm_varyon.specs.passed.VaryonPlanNames.{MayCopy, AreApart, EqualisedStaysKept};
 ghost use Rattle.lvm_varyon.specs.Equal.{EqualGives};
 ghost use Rattle.lvm_varyon.specs.Parts.{SurveyGives, plan_beginning, AgainWritesGive};
 
+use crate::below::{Cause, equalise};
+use crate::plan::Plan;
 use lvm_begin::{Begun, begin_again};
 use lvm_disk::Shelf;
 use lvm_num::{DiskSet, Pbuf};
 use lvm_rec::Homes;
 use lvm_survey::{Survey, Surveyed, survey_disks};
 use lvm_transfer::Patience;
-use lvm_varyon_plan::Plan;
-use lvm_varyon_plan::below::{Cause, equalise};
 use std::alloc::Global;
 
 /// Reads the records of all disks. The buffer that it read with comes back for the writes.

@@ -22,17 +22,17 @@ use Rattle.lvm_write.specs.Homes.{SparesNewest}
 use Rattle.lvm_survey.specs.declared.row.Survey.{Survey}
 use Rattle.lvm_survey.specs.Surveyed.{surveyed}
 use Rattle.lvm_transfer.specs.Reading.{IsUnwritten, IsCutOff}
-use Rattle.lvm_varyon_plan.specs.passed.Names.{Room, Cause, Recopy, IsOfCopies, sources_and_targets, ArePlannedInOrder, ArePlanned}
-use Rattle.lvm_varyon_plan.specs.passed.CoreRefusedCause as cause
+use Rattle.lvm_varyon.specs.passed.VaryonPlanNames.{Room, Cause, Recopy, IsOfCopies, sources_and_targets, ArePlannedInOrder, ArePlanned}
+use Rattle.lvm_varyon.specs.passed.CoreRefusedCause as cause
 use Rattle.lvm_begin.specs.Beginning.{Beginning, Part, again_beginning, IsOfParts, MayBeginAgain}
 use Rattle.lvm_begin.proofs.ShownLemmas.Following.{stamps_are_of_beginning}
 use Rattle.lvm_next.specs.Next.{IsNextStatus}
-use Rattle.lvm_varyon_plan.specs.declared.plan.Plan.{Plan}
-use Rattle.lvm_varyon_plan.specs.Chosen.{answering}
+use Rattle.lvm_varyon.specs.declared.plan.Plan.{Plan}
+use Rattle.lvm_varyon.specs.Chosen.{answering}
 use Rattle.lvm_varyon.specs.Equal.{AllWritesGive, BrokeOff, IsEqualled, OneFailed}
 use Rattle.lvm_varyon.specs.Writing.{beginning, IsStillOut}
 use Rattle.lvm_varyon.specs.Varied.{HasWritten, AtChoice, WasStopped, VaryonStops, IsAheadOfDisks, IsBrought, BringGives, brought_of}
-use Rattle.lvm_varyon_plan.specs.Planned.{NotChosen, IsPlan}
+use Rattle.lvm_varyon.specs.Planned.{NotChosen, IsPlan}
 use Rattle.lvm_varyon.specs.Parts.{IsSurveyOf, StopsReading}
 use Rattle.lvm_varyon.proofs.FoundLemmas.Seeing.{if_told, answered_by, found_at}
 use Rattle.lvm_varyon.proofs.Beginning.{spared, may_begin, target_answers}

@@ -1,2 +1,2 @@
 -- Passed on from the crates below.
-pub use Rattle.lvm_varyon_plan.proofs.passed.Names.{quiet_is_even}
+pub use Rattle.lvm_varyon.proofs.passed.VaryonPlanNames.{quiet_is_even}

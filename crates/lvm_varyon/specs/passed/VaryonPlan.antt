@@ -1,2 +1,2 @@
--- Passed on from `lvm_varyon_plan`.
-pub use Rattle.lvm_varyon_plan.specs.Chosen.{MayComeOn, answering}
+-- Passed on from `lvm_varyon`.
+pub use Rattle.lvm_varyon.specs.Chosen.{MayComeOn, answering}

@@ -10,7 +10,7 @@ ghost use Rattle.lvm_num.specs.Status.{IsValidStatus};
 ghost use Rattle.lvm_survey.specs.Rows.{AreRows};
 ghost use Rattle.lvm_core.specs.Starting.{IsRoom};
 ghost use Rattle.lvm_core.specs.passed.Names.{IsOneGroup};
-ghost use Rattle.lvm_varyon_plan.specs.Planned.{PlanGives, IsPlanFor, cause_of, IsPlanOfChoice};
+ghost use Rattle.lvm_varyon.specs.Planned.{PlanGives, IsPlanFor, cause_of, IsPlanOfChoice};
 
 use lvm_core::below::homes_of;
 use lvm_core::{Cause, Parts, Room, encode_records};

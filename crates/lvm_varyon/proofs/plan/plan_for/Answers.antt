@@ -16,9 +16,9 @@ use Rattle.lvm_next.specs.Next.{IsNextStatus}
 use Rattle.lvm_recovery.specs.declared.copying.Recopy.{Recopy}
 use Rattle.lvm_recovery.specs.Plan.{ArePlannedInOrder}
 use Rattle.lvm_recovery.specs.Planned.{ArePlanned}
-use Rattle.lvm_varyon_plan.specs.declared.plan.Plan.{Plan}
-use Rattle.lvm_varyon_plan.specs.Planned.{IsPlanFor, IsPlanOfChoice}
-use Rattle.lvm_varyon_plan.proofs.plan.plan_for.Goals as goal
+use Rattle.lvm_varyon.specs.declared.plan.Plan.{Plan}
+use Rattle.lvm_varyon.specs.Planned.{IsPlanFor, IsPlanOfChoice}
+use Rattle.lvm_varyon.proofs.plan.plan_for.Goals as goal
 
 no_stamp : Stamp
 no_stamp = record { epoch = 0; seq = 0 }

@@ -21,12 +21,12 @@ use Rattle.lvm_core.specs.declared.parts.Room.{Room}
 use Rattle.lvm_core.specs.declared.refused.Cause.{Cause}
 use Rattle.lvm_core.specs.declared.refused.Cause.TheVariants as cause
 use Rattle.lvm_core.specs.Starting.{IsReservedFor}
-use Rattle.lvm_varyon_plan.specs.declared.plan.Plan.{Plan}
+use Rattle.lvm_varyon.specs.declared.plan.Plan.{Plan}
 use Rattle.lvm_next.specs.Next.{IsNextStatus}
 use Rattle.lvm_recovery.specs.declared.copying.Recopy.{Recopy}
 use Rattle.lvm_recovery.specs.Plan.{ArePlannedInOrder}
 use Rattle.lvm_recovery.specs.Planned.{ArePlanned}
-use Rattle.lvm_varyon_plan.specs.Chosen.{answering, MayComeOn, IsClockBehindGroup}
+use Rattle.lvm_varyon.specs.Chosen.{answering, MayComeOn, IsClockBehindGroup}
 
 -- why no group may come on, by what the survey shows
 abbrev pub NotChosen : Contents → List ℕ → ℕ → Cause → Type 0

@@ -7,7 +7,7 @@ use Rattle.lvm_recovery.specs.declared.plan.TrackGroup.{TrackGroup}
 use Rattle.lvm_recovery.specs.Plan.{copies_named}
 use Rattle.lvm_recovery.specs.Planned.{ArePlanned}
 use Rattle.lvm_recovery.proofs.PlanLemmas.Naming.{named_are_planned}
-use Rattle.lvm_varyon_plan.proofs.plan.copies_for.Goals as goal
+use Rattle.lvm_varyon.proofs.plan.copies_for.Goals as goal
 
 pub returns : goal.returns
 returns c =

@@ -1,7 +1,7 @@
 use Rattle.std.proofs.Common.{◌<◌, arith}
 use Rattle.lvm_num.specs.Record.{last_moment}
-use Rattle.lvm_varyon_plan.proofs.ChosenLemmas.{group_valid, was_valid, not_later, at_last, planned}
-use Rattle.lvm_varyon_plan.proofs.plan.plan_of.Goals as goal
+use Rattle.lvm_varyon.proofs.ChosenLemmas.{group_valid, was_valid, not_later, at_last, planned}
+use Rattle.lvm_varyon.proofs.plan.plan_of.Goals as goal
 
 pub returns-then-moment-eq-LAST : goal.returns-then-moment-eq-LAST
 returns-then-moment-eq-LAST c = at_last c.args.survey.now c.args.name c.in-Ok.choice c.in-Ok.ensures c.args.moment c.if-moment-eq-LAST.true

@@ -1,5 +1,5 @@
 use Rattle.std.proofs.Common.{refl}
-use Rattle.lvm_varyon_plan.proofs.plan.plan_with.Goals as goal
+use Rattle.lvm_varyon.proofs.plan.plan_with.Goals as goal
 
 pub returns : goal.returns
 returns c = record {

@@ -23,9 +23,9 @@ use Rattle.lvm_core.specs.declared.parts.Room.{Room}
 use Rattle.lvm_next.specs.Next.{IsNextStatus}
 use Rattle.lvm_recovery.specs.Plan.{ArePlannedInOrder}
 use Rattle.lvm_recovery.specs.Planned.{ArePlanned}
-use Rattle.lvm_varyon_plan.specs.declared.plan.Plan.{Plan}
-use Rattle.lvm_varyon_plan.specs.Chosen.{Holds, IsClockBehindGroup}
-use Rattle.lvm_varyon_plan.specs.Planned.{IsPlanFor, IsPlan}
+use Rattle.lvm_varyon.specs.declared.plan.Plan.{Plan}
+use Rattle.lvm_varyon.specs.Chosen.{Holds, IsClockBehindGroup}
+use Rattle.lvm_varyon.specs.Planned.{IsPlanFor, IsPlan}
 
 -- a status that is found is valid
 status_valid : (s : Survey) (id : ℕ) (r : Stamped Status) → IsSurveyValid s → status_among (surveyed s) all_disks id ≡ Some r → IsValidStatus r.value
