@@ -10,10 +10,10 @@ use Rattle.lvm_status.specs.Members.{HasItsRows}
 use Rattle.lvm_session.specs.State.{Core, State, is_there}
 use Rattle.lvm_tie_commands.specs.passed.Names.{AreUnused}
 use Rattle.lvm_tie_commands.proofs.passed.Names.{unused_markable}
-use Rattle.lvm_mirrors.specs.passed.Names.{further_copies, with_copies, with_map}
-use Rattle.lvm_mirrors.proofs.passed.CopyPlanCopiesLemmasMore as more
-use Rattle.lvm_mirrors.proofs.passed.Names.{named}
-use Rattle.lvm_mirrors.specs.Mirrors.{AreAdded}
+use Rattle.lvm_volumes.specs.passed.MirrorsNames.{further_copies, with_copies, with_map}
+use Rattle.lvm_volumes.proofs.passed.CopyPlanCopiesLemmasMore as more
+use Rattle.lvm_volumes.proofs.passed.MirrorsNames.{named}
+use Rattle.lvm_volumes.specs.Mirrors.{AreAdded}
 use Rattle.lvm_tie_copies.proofs.CopiesLemmas.Adding.{no_volume}
 
 module _ (lv copies : ℕ) (old new : State) (added : List Pp) (it : AreAdded lv copies old new added) where

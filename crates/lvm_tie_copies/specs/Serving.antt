@@ -4,7 +4,7 @@ use Rattle.lvm_num.specs.declared.place.Pp.{Pp}
 use Rattle.lvm_session.specs.State.{State}
 use Rattle.lvm_session.specs.Sound.{IsSound}
 use Rattle.lvm_tie_commands.specs.passed.Names.{GroupFault, IfOn}
-use Rattle.lvm_mirrors.specs.Mirrors.{MklvcopyGives, RmlvcopyGives, to_add, to_take}
+use Rattle.lvm_volumes.specs.Mirrors.{MklvcopyGives, RmlvcopyGives, to_add, to_take}
 use Rattle.lvm_tie_commands.specs.passed.Handover.{IsCommanded, MayServe, StaysSound}
 
 -- It may be handed over with these copies; where there are none, it is sound as it is too.

@@ -1,1 +1,4 @@
 pub mod Names
+pub mod CopyPlanCopiesLemmasFewer
+pub mod CopyPlanCopiesLemmasMore
+pub mod MirrorsNames

@@ -1,2 +1,3 @@
 pub mod Names
 pub mod VolumePlanFaultGroupFault
+pub mod MirrorsNames

@@ -1,3 +1,3 @@
-//! Passed on from `lvm_mirrors`.
+//! Passed on from `lvm_volumes`.
 
 pub use lvm_stage::below::mirrors::{mklvcopy, rmlvcopy};

@@ -13,9 +13,9 @@ use Rattle.lvm_session.specs.Judging.{copies_in}
 use Rattle.lvm_session.specs.Sound.{IsSound}
 use Rattle.lvm_tie_commands.specs.passed.Names.{Leaves, NoPartition, IsSettled}
 use Rattle.lvm_tie_commands.specs.passed.VolumePlanFaultGroupFault as fault
-use Rattle.lvm_mirrors.specs.passed.Names.{HasFresh, KeepsFresh, StillHeld, first_copies, with_copies}
-use Rattle.lvm_mirrors.proofs.passed.CopyPlanCopiesLemmasFewer as fewer
-use Rattle.lvm_mirrors.specs.Mirrors.{AreTaken, IsWithFirst, to_take}
+use Rattle.lvm_volumes.specs.passed.MirrorsNames.{HasFresh, KeepsFresh, StillHeld, first_copies, with_copies}
+use Rattle.lvm_volumes.proofs.passed.CopyPlanCopiesLemmasFewer as fewer
+use Rattle.lvm_volumes.specs.Mirrors.{AreTaken, IsWithFirst, to_take}
 use Rattle.lvm_tie_commands.proofs.passed.Handover.{found, had_fresh, its_row, may_serve}
 use Rattle.lvm_tie_copies.specs.Serving.{MayServeWith, RmlvcopyServes}
 use Rattle.lvm_tie_copies.proofs.ServingLemmas.Rows.{IsCopyIn, were_or}

@@ -1,2 +1,2 @@
--- Passed on from `lvm_mirrors`.
-pub use Rattle.lvm_mirrors.specs.Mirrors.{AreAdded, AreTaken, IsWithFirst, IsWithMore, MklvcopyGives, RmlvcopyGives, to_add, to_take}
+-- Passed on from `lvm_volumes`.
+pub use Rattle.lvm_volumes.specs.Mirrors.{AreAdded, AreTaken, IsWithFirst, IsWithMore, MklvcopyGives, RmlvcopyGives, to_add, to_take}

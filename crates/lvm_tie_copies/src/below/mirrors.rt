@@ -1,3 +1,3 @@
-//! Passed on from `lvm_mirrors`.
+//! Passed on from `lvm_volumes`.
 
-pub use lvm_mirrors::{mklvcopy, rmlvcopy};
+pub use lvm_volumes::{mklvcopy, rmlvcopy};

@@ -12,8 +12,8 @@ use Rattle.lvm_volumes.specs.Stages.{CommandBroke}
 use Rattle.lvm_volumes.proofs.Leaving.{leaves_wider}
 use Rattle.lvm_volume_plan.specs.CopyPlanFaults.{RefusesMklvcopy, RefusesRmlvcopy}
 use Rattle.lvm_volume_plan.specs.PlannedCopies.{ArePlanned, IsWithFewer}
-use Rattle.lvm_mirrors.specs.Mirrors.{IsFurther, IsWithMore, to_add, AreAdded, MklvcopyGives, RmlvcopyGives}
-use Rattle.lvm_mirrors.specs.Stages.{adding, AreNamed}
+use Rattle.lvm_volumes.specs.Mirrors.{IsFurther, IsWithMore, to_add, AreAdded, MklvcopyGives, RmlvcopyGives}
+use Rattle.lvm_volumes.specs.MirrorsStages.{adding, AreNamed}
 
 -- ---- refusals
 

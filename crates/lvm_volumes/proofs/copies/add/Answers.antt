@@ -5,8 +5,8 @@ use Rattle.lvm_volumes.specs.Endings.{StillHeld, KeepsFresh}
 use Rattle.lvm_volumes.proofs.StagesLemmas.Breaking.{stopped}
 use Rattle.lvm_volumes.proofs.StagesLemmas.Entering.{has_numbers}
 use Rattle.lvm_volume_plan.specs.PlannedCopies.{ArePlanned}
-use Rattle.lvm_mirrors.proofs.StagesLemmas.{added_unused, mark_break_leaves, mark_break, mid_numbers, mid_alike, all_leaves, all_still, all_keeps, all_ends}
-use Rattle.lvm_mirrors.proofs.copies.add.Goals as goal
+use Rattle.lvm_volumes.proofs.MirrorsStagesLemmas.{added_unused, mark_break_leaves, mark_break, mid_numbers, mid_alike, all_leaves, all_still, all_keeps, all_ends}
+use Rattle.lvm_volumes.proofs.copies.add.Goals as goal
 
 pub set_status-requires-clause-numbers : goal.set_status-requires-clause-numbers
 set_status-requires-clause-numbers g c = has_numbers c.args.driver.now.1 c.requires.may.1.1.group c.requires.may.1.1.may.room

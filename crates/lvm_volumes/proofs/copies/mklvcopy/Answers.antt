@@ -10,9 +10,9 @@ use Rattle.lvm_volumes.proofs.EndingsLemmas.Fresh.{keeps_none}
 use Rattle.lvm_volumes.proofs.EndingsLemmas.Holding.{still_none}
 use Rattle.lvm_volumes.proofs.Leaving.{leaves_none}
 use Rattle.lvm_volume_plan.specs.PlannedCopies.{ArePlanned}
-use Rattle.lvm_mirrors.specs.Mirrors.{to_add, AreAdded}
-use Rattle.lvm_mirrors.proofs.MirrorsLemmas.Answering.{refused_more, broke_so, added_leaves, adding_fails, added_given}
-use Rattle.lvm_mirrors.proofs.copies.mklvcopy.Goals as goal
+use Rattle.lvm_volumes.specs.Mirrors.{to_add, AreAdded}
+use Rattle.lvm_volumes.proofs.MirrorsLemmas.Answering.{refused_more, broke_so, added_leaves, adding_fails, added_given}
+use Rattle.lvm_volumes.proofs.copies.mklvcopy.Goals as goal
 
 pub returns-in_err-more : goal.returns-in_err-more
 returns-in_err-more g c =

@@ -27,10 +27,10 @@ use Rattle.lvm_volumes.proofs.Leaving.{leaves_wider}
 use Rattle.lvm_volume_plan.specs.Copies.{first_copies}
 use Rattle.lvm_volume_plan.specs.PlannedCopies.{IsWithFewer}
 use Rattle.lvm_volume_plan.proofs.CopiesLemmas.Fewer as fewer
-use Rattle.lvm_mirrors.specs.Mirrors.{IfShown, to_take, AreTaken}
-use Rattle.lvm_mirrors.proofs.JudgingLemmas.{keeps_with}
-use Rattle.lvm_mirrors.proofs.SettlingLemmas.{none_left}
-use Rattle.lvm_mirrors.proofs.LawsOfVolumesLemmas.{first_serve}
+use Rattle.lvm_volumes.specs.Mirrors.{IfShown, to_take, AreTaken}
+use Rattle.lvm_volumes.proofs.JudgingLemmas.{keeps_with}
+use Rattle.lvm_volumes.proofs.MirrorsSettlingLemmas.{none_left}
+use Rattle.lvm_volumes.proofs.LawsOfVolumesLemmas.{first_serve}
 
 pub take_alike : (lv copies : ℕ) (next : Descriptor) (core : Core) → IsWithFewer lv copies core next → IsAlike next core.descriptor
 take_alike lv copies next core plan = ap (λ (x : Descriptor). record x { lvs = [] }) plan.is

@@ -11,10 +11,10 @@ use Rattle.lvm_volumes.proofs.EndingsLemmas.Fresh.{keeps_none}
 use Rattle.lvm_volumes.proofs.EndingsLemmas.Holding.{still_none}
 use Rattle.lvm_volumes.proofs.Leaving.{leaves_none}
 use Rattle.lvm_volume_plan.specs.PlannedCopies.{IsWithFewer}
-use Rattle.lvm_mirrors.specs.Mirrors.{to_take}
-use Rattle.lvm_mirrors.proofs.MirrorsLemmas.Answering.{refused_fewer, taking_fails}
-use Rattle.lvm_mirrors.proofs.MirrorsLemmas.Taking.{take_alike, take_leaves, take_still, take_keeps, taken}
-use Rattle.lvm_mirrors.proofs.copies.rmlvcopy.Goals as goal
+use Rattle.lvm_volumes.specs.Mirrors.{to_take}
+use Rattle.lvm_volumes.proofs.MirrorsLemmas.Answering.{refused_fewer, taking_fails}
+use Rattle.lvm_volumes.proofs.MirrorsLemmas.Taking.{take_alike, take_leaves, take_still, take_keeps, taken}
+use Rattle.lvm_volumes.proofs.copies.rmlvcopy.Goals as goal
 
 pub returns-in_err-fewer : goal.returns-in_err-fewer
 returns-in_err-fewer g c =

@@ -26,8 +26,8 @@ use Rattle.lvm_volume_plan.specs.Copies.{with_map, with_copies, first_copies, fu
 use Rattle.lvm_volume_plan.proofs.CopiesLemmas.Rows.{one_found, one_other, own_row}
 use Rattle.lvm_volume_plan.proofs.CopiesLemmas.More as more
 use Rattle.lvm_volume_plan.proofs.CopiesLemmas.Fewer as fewer
-use Rattle.lvm_mirrors.specs.Mirrors.{KeepsShown}
-use Rattle.lvm_mirrors.specs.Laws.{UsableIsShown, MoreAreEven, FirstAreEven}
+use Rattle.lvm_volumes.specs.Mirrors.{KeepsShown}
+use Rattle.lvm_volumes.specs.Laws.{UsableIsShown, MoreAreEven, FirstAreEven}
 
 -- where each usable copy is an old one
 stays : (c : Contents) (d : Descriptor) (lv copies : ℕ) (row : LvRow) (pps : List Pp) (status : Option (Stamped Status)) (there : Disks) → IsValid d → volume_of d lv ≡ Some row

@@ -1,5 +1,5 @@
 //! Laws of copies that are added and removed. Each call does nothing: its contract is the law.
-ghost use Rattle.lvm_mirrors.specs.Laws.{UsableIsShown, MoreAreEven, FirstAreEven};
+ghost use Rattle.lvm_volumes.specs.Laws.{UsableIsShown, MoreAreEven, FirstAreEven};
 
 /// What asks `rmlvcopy` of the disks is so where each logical partition keeps a fresh copy on a member that isn't missing.
 pub fn usable_is_shown()

@@ -1,8 +1,8 @@
 //! The addition and the removal of copies.
 ghost use Rattle.lvm_volume_plan.specs.passed.CopyPlanNames.{state_of, Leaves, IsSettled, TakesCommands, IfOn, command_answer};
 ghost use Rattle.lvm_volumes.specs.Endings.{StillHeld, KeepsFresh};
-ghost use Rattle.lvm_mirrors.specs.Mirrors.{MklvcopyGives, RmlvcopyGives, to_add, to_take};
-ghost use Rattle.lvm_mirrors.specs.Stages.{MayAdd, adding, AddEnds};
+ghost use Rattle.lvm_volumes.specs.Mirrors.{MklvcopyGives, RmlvcopyGives, to_add, to_take};
+ghost use Rattle.lvm_volumes.specs.MirrorsStages.{MayAdd, adding, AddEnds};
 
 use lvm_disk::Shelf;
 use lvm_num::{Pp, Rows};

@@ -14,7 +14,7 @@ use Rattle.lvm_volume_plan.specs.passed.CopyPlanNames.{IsHeld}
 use Rattle.lvm_rest.specs.Rest.{IsEven}
 use Rattle.lvm_volume_plan.specs.Copies.{with_copies, first_copies}
 use Rattle.lvm_volume_plan.specs.CopyPlanFaults.{MayBeAdded, MayBeTaken}
-use Rattle.lvm_mirrors.specs.Mirrors.{KeepsShown, IsFurther}
+use Rattle.lvm_volumes.specs.Mirrors.{KeepsShown, IsFurther}
 
 -- Where each logical partition keeps a fresh copy on a member that isn't missing, the disks of a held session show it.
 abbrev pub UsableIsShown : Type 0

@@ -41,10 +41,10 @@ use Rattle.lvm_volumes.proofs.SettlingLemmas.{itself, is_used}
 use Rattle.lvm_volume_plan.specs.Copies.{with_map, with_copies, further_copies}
 use Rattle.lvm_volume_plan.specs.PlannedCopies.{ArePlanned}
 use Rattle.lvm_volume_plan.proofs.CopiesLemmas.More as more
-use Rattle.lvm_mirrors.specs.Stages.{adding, AddEnds}
-use Rattle.lvm_mirrors.proofs.JudgingLemmas.{copies_by, keeps_with}
-use Rattle.lvm_mirrors.proofs.SettlingLemmas.{none_left}
-use Rattle.lvm_mirrors.proofs.LawsOfVolumesLemmas.{more_serve, lets}
+use Rattle.lvm_volumes.specs.MirrorsStages.{adding, AddEnds}
+use Rattle.lvm_volumes.proofs.JudgingLemmas.{copies_by, keeps_with}
+use Rattle.lvm_volumes.proofs.MirrorsSettlingLemmas.{none_left}
+use Rattle.lvm_volumes.proofs.LawsOfVolumesLemmas.{more_serve, lets}
 
 -- what is to be stale is marked
 is_marked : (a b : Bool) → b ≡ true → IsTrue ((a || b) && true)
