@@ -5,3 +5,6 @@ pub mod VotesLemmas
 pub mod SoundLemmas
 pub mod CommitSettlingLemmas
 pub mod BeginningLemmas
+pub mod EarlierSoundLemmas
+pub mod LegalLemmas
+pub mod EarlierLemmas

@@ -6,3 +6,7 @@ pub mod Running
 pub mod TieBegins
 pub mod Varyon
 pub mod Volumes
+pub mod EarlierNames
+pub mod EarlierRanges
+pub mod EarlierRunning
+pub mod Tie

@@ -10,3 +10,9 @@ pub mod TieBegins
 pub mod Varyon
 pub mod VolumePlanFaultGroupFault
 pub mod Volumes
+pub mod EarlierAskRangeFaultVariants
+pub mod EarlierDriver
+pub mod EarlierNames
+pub mod EarlierRanges
+pub mod EarlierRunning
+pub mod EarlierTie

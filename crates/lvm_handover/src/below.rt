@@ -5,4 +5,5 @@ pub mod earlier;
 pub mod ranges;
 pub mod volumes;
 
-pub use lvm_earlier::below::{Post, end_posts};
+pub use lvm_core::Driver;
+pub use lvm_ranges::below::{Post, end_posts};

@@ -30,8 +30,8 @@ use Rattle.lvm_session.specs.Causes.{is_held_stale}
 use Rattle.lvm_session.specs.Left.{updates_left}
 use Rattle.lvm_session.specs.Marks.{is_among}
 use Rattle.lvm_session.specs.Sound.{IsGoing, IsSound, may_be_fresh, stays_fresh}
-use Rattle.lvm_earlier.specs.passed.Names.{KeepsStatus, Leaves, NoPartition, WasLeftBehind, IsSettled}
-use Rattle.lvm_earlier.proofs.passed.Tie.{or_true}
+use Rattle.lvm_handover.specs.passed.EarlierNames.{KeepsStatus, Leaves, NoPartition, WasLeftBehind, IsSettled}
+use Rattle.lvm_handover.proofs.passed.Tie.{or_true}
 use Rattle.lvm_volumes.specs.passed.VolumePlanFaultGroupFault as fault
 use Rattle.lvm_volumes.specs.passed.Names.{NewVolume, HasSpareRoom, row_for, with_volume, without_volume}
 use Rattle.lvm_volumes.proofs.passed.Names.{one_filter, one_insert}

@@ -1,2 +1,2 @@
--- Passed on from `lvm_earlier`.
-pub use Rattle.lvm_earlier.specs.Earlier.{AreGone, with_taken}
+-- Passed on from `lvm_handover`.
+pub use Rattle.lvm_handover.specs.Earlier.{AreGone, with_taken}

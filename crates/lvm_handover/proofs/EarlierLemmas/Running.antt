@@ -18,9 +18,9 @@ use Rattle.lvm_ranges.proofs.passed.Names.{goes_on, goes_entry}
 use Rattle.lvm_ranges.specs.passed.Names.{Asked, AreAnswered, takings}
 use Rattle.lvm_ranges.specs.passed.Running.{RunsOn}
 use Rattle.lvm_ranges.proofs.passed.Running.{runs_both, runs_none}
-use Rattle.lvm_earlier.specs.Earlier.{AreGone, EarlierStaysBeside, StaysBeside, with_taken}
-use Rattle.lvm_earlier.proofs.SoundLemmas.{one_keeps}
-use Rattle.lvm_earlier.proofs.LegalLemmas.{tied_beside}
+use Rattle.lvm_handover.specs.Earlier.{AreGone, EarlierStaysBeside, StaysBeside, with_taken}
+use Rattle.lvm_handover.proofs.EarlierSoundLemmas.{one_keeps}
+use Rattle.lvm_handover.proofs.LegalLemmas.{tied_beside}
 
 -- ---- one answer
 

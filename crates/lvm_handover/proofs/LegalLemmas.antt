@@ -24,7 +24,7 @@ use Rattle.lvm_invariant.proofs.EventsLemmas.Each.{each_keeps}
 use Rattle.lvm_keeps.proofs.Lists.{all_at}
 use Rattle.lvm_ranges.proofs.passed.Names.{quiet_lasts, sees_entered}
 use Rattle.lvm_ranges.specs.passed.Names.{CarriesStep, CarryTheirs, update_of, IsRequestAt, IsStepAt, Sees, IsTied}
-use Rattle.lvm_earlier.proofs.SoundLemmas.{apart_at, one_keeps}
+use Rattle.lvm_handover.proofs.EarlierSoundLemmas.{apart_at, one_keeps}
 
 -- ---- without the cut between an earlier history and this one
 

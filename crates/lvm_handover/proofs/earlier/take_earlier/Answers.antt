@@ -3,9 +3,9 @@ use Rattle.lvm_session.specs.Fields.{core_of}
 use Rattle.lvm_session.specs.Sound.{IsSound}
 use Rattle.lvm_session.specs.State.{Core, state}
 use Rattle.lvm_ranges.specs.passed.Names.{AreAnswered}
-use Rattle.lvm_earlier.specs.Earlier.{AreGone}
-use Rattle.lvm_earlier.proofs.EarlierLemmas.Running.{stays}
-use Rattle.lvm_earlier.proofs.earlier.take_earlier.Goals as goal
+use Rattle.lvm_handover.specs.Earlier.{AreGone}
+use Rattle.lvm_handover.proofs.EarlierLemmas.Running.{stays}
+use Rattle.lvm_handover.proofs.earlier.take_earlier.Goals as goal
 
 pub take_in-session-requires-clause-answered : goal.take_in-session-requires-clause-answered
 take_in-session-requires-clause-answered g c = subst (λ (core : Core). AreAnswered core.history.facts c.args.asked.now) (sym c.into_parts-shelf.ensures.core) c.requires.answered

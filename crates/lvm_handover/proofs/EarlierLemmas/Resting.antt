@@ -7,7 +7,7 @@ use Rattle.lvm_keeps.proofs.SoundLemmas.Telling.{open_still}
 use Rattle.lvm_session.specs.State.{State, state}
 use Rattle.lvm_core.specs.Sound.{IsSoundBetween}
 use Rattle.lvm_ranges.specs.passed.Names.{Asked, takings}
-use Rattle.lvm_earlier.specs.Earlier.{with_taken}
+use Rattle.lvm_handover.specs.Earlier.{with_taken}
 
 -- what has landed has
 pub open_with : (facts : List Fact) (first n id : ℕ) → is_open (facts ++ takings facts first n) id ≡ is_open facts id
