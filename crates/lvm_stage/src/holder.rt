@@ -9,7 +9,7 @@ use lvm_disk::{Arrange, Shelf};
 use lvm_history::History;
 use lvm_quiesce::below::Closed;
 use lvm_session::Power;
-use lvm_tie_copies::below::driver;
+use lvm_tie_commands::below::driver;
 
 /// Who holds the shelf and the history: nobody, while no group is on, or its session.
 #[derive(Drop)]

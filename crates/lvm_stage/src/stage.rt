@@ -12,8 +12,8 @@ use lvm_history::History;
 use lvm_num::{Memory, Name};
 use lvm_quiesce::below::Closed;
 use lvm_session::Power;
-use lvm_tie_copies::below::driver::{self, Driver};
-use lvm_tie_copies::below::{Post, end_posts};
+use lvm_tie_commands::below::driver::{self, Driver};
+use lvm_tie_commands::below::{Post, end_posts};
 use lvm_transfer::relight;
 use std::alloc::Global;
 

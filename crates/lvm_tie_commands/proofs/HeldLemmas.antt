@@ -17,7 +17,7 @@ use Rattle.lvm_settled.specs.passed.EvenNames.{IsEven}
 use Rattle.lvm_settled.proofs.EvenLemmas.Off.{off_is_even}
 use Rattle.lvm_handover.specs.passed.Tie.{SparesDescriptors, SparesOn, IsTied}
 use Rattle.lvm_handover.specs.passed.TieBegins.{IsRested, IsResting, NotesAreHomeIn as AreHome, shown_to}
-use Rattle.lvm_tie_groups.proofs.SettledLemmas.Leaving.{its_disks_hold, its_rest}
+use Rattle.lvm_tie_commands.proofs.SettledLemmas.Leaving.{its_disks_hold, its_rest}
 use Rattle.lvm_tie_commands.specs.Commands.{MayBeCommanded}
 use Rattle.lvm_tie_commands.specs.Standing.{StandsAfter}
 use Rattle.lvm_tie_commands.proofs.LawsOfVolumesLemmas.{alone_is_only}

@@ -1,2 +1,2 @@
--- Passed on from `lvm_tie_groups`.
-pub use Rattle.lvm_tie_copies.proofs.passed.TieGroups.{tied_holds}
+-- Passed on from `lvm_tie_commands`.
+pub use Rattle.lvm_tie_commands.proofs.passed.TieCopiesTieGroups.{tied_holds}

@@ -1,3 +1,3 @@
--- Passed on from `lvm_tie_copies`.
-pub use Rattle.lvm_tie_copies.specs.Copies.{KeepsShownOf}
-pub use Rattle.lvm_tie_copies.specs.Serving.{MayServeWith, added_by}
+-- Passed on from `lvm_tie_commands`.
+pub use Rattle.lvm_tie_commands.specs.Copies.{KeepsShownOf}
+pub use Rattle.lvm_tie_commands.specs.Serving.{MayServeWith, added_by}

@@ -1,3 +1,3 @@
 //! Passed on from `lvm_handover`.
 
-pub use lvm_tie_copies::below::earlier::take_earlier;
+pub use lvm_tie_commands::below::earlier::take_earlier;

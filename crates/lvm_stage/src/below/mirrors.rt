@@ -1,3 +1,3 @@
 //! Passed on from `lvm_volumes`.
 
-pub use lvm_tie_copies::below::mirrors::{mklvcopy, rmlvcopy};
+pub use lvm_tie_commands::below::mirrors::{mklvcopy, rmlvcopy};
