@@ -3,3 +3,7 @@ pub mod GroupsLemmas
 pub mod Coming
 pub mod Listing
 pub mod QuiesceGroupsLemmas
+pub mod ShelvesLemmas
+pub mod DarkLemmas
+pub mod DisksLemmas
+pub mod PostsLemmas

@@ -5,6 +5,7 @@ pub mod driver;
 pub mod earlier;
 pub mod handover;
 pub mod mirrors;
+pub mod quiesce;
 pub mod ranges;
 pub mod stage;
 pub mod volumes;

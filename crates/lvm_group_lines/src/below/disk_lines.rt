@@ -1,3 +1,4 @@
-//! Passed on from `lvm_disk_lines`.
+//! Passed on from `lvm_group_lines`.
 
-pub use lvm_disk_lines::{do_arrange, do_cut, do_read, do_write, lines_reply};
+pub use crate::disks::{do_read, do_write, lines_reply};
+pub use crate::shelves::{do_arrange, do_cut};

@@ -1,3 +1,3 @@
 //! Passed on from `lvm_handover`.
 
-pub use lvm_disk_lines::below::earlier::take_earlier;
+pub use lvm_stage::below::earlier::take_earlier;

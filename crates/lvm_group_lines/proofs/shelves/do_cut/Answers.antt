@@ -1,11 +1,11 @@
 use Rattle.std.proofs.Common.{◌∙◌}
 use Rattle.lvm_disk.specs.declared.shelf.Arrange.TheVariants as arrange
-use Rattle.lvm_disk_lines.specs.Shelves.{CutDoes, CutNotPlanned}
+use Rattle.lvm_group_lines.specs.Shelves.{CutDoes, CutNotPlanned}
 use Rattle.lvm_stage.specs.declared.reply.Refusal.TheVariants as refusal
 use Rattle.lvm_stage.proofs.EndsLemmas.{one_refused}
-use Rattle.lvm_disk_lines.proofs.ShelvesLemmas.Cutting.{cut_ends}
-use Rattle.lvm_disk_lines.proofs.ShelvesLemmas.Ordering.{unarranged_ends}
-use Rattle.lvm_disk_lines.proofs.shelves.do_cut.Goals as goal
+use Rattle.lvm_group_lines.proofs.ShelvesLemmas.Cutting.{cut_ends}
+use Rattle.lvm_group_lines.proofs.ShelvesLemmas.Ordering.{unarranged_ends}
+use Rattle.lvm_group_lines.proofs.shelves.do_cut.Goals as goal
 
 pub returns-then-not-arrange : goal.returns-then-not-arrange
 returns-then-not-arrange g c =

@@ -3,7 +3,7 @@ ghost use Rattle.std.specs.Prelude.{◌≡◌, ◌⊎◌};
 ghost use Rattle.lvm_disk.specs.declared.shelf.Arrange.TheVariants as arrange;
 ghost use Rattle.lvm_stage.specs.Ends.{EndsUnasked};
 ghost use Rattle.lvm_stage.specs.Moments.{Aside};
-ghost use Rattle.lvm_disk_lines.specs.Shelves.{ArrangeDoes, CutDoes};
+ghost use Rattle.lvm_group_lines.specs.Shelves.{ArrangeDoes, CutDoes};
 ghost use Rattle.lvm_stage.specs.Stages.{IsBetweenStage, IsFittingStage};
 
 use lvm_disk::{Arrange, Shelf};

@@ -25,7 +25,7 @@ use Rattle.lvm_stage.specs.passed.TieCommands.{StandsAfter}
 use Rattle.lvm_stage.specs.passed.Quiesce.{IsAheadEach}
 use Rattle.lvm_stage.specs.Ends.{EndsUnasked}
 use Rattle.lvm_stage.specs.Moments.{Aside, GoesOn}
-use Rattle.lvm_disk_lines.specs.Shelves.{ArrangeDoes, IsArranged, over}
+use Rattle.lvm_group_lines.specs.Shelves.{ArrangeDoes, IsArranged, over}
 use Rattle.lvm_stage.specs.Replies.{most_refusals}
 use Rattle.lvm_stage.specs.Stages.{HaveRooms, IsBetweenStage, IsFittingStage, IsOfKind, history_after, history_in, history_of, session_in, session_of, shelf_in, shelf_of, state_in}
 use Rattle.lvm_stage.specs.State.{IsBetween, IsOnBetween, ScriptState, StandsAlone, without_facts}

@@ -1,10 +1,10 @@
 use Rattle.std.proofs.Common.{arith}
-use Rattle.lvm_disk_lines.specs.Shelves.{ArrangeDoes, NotThere, NotPlanned}
+use Rattle.lvm_group_lines.specs.Shelves.{ArrangeDoes, NotThere, NotPlanned}
 use Rattle.lvm_stage.specs.Moments.{Aside}
 use Rattle.lvm_stage.specs.declared.reply.Refusal.TheVariants as refusal
 use Rattle.lvm_stage.proofs.EndsLemmas.{one_refused, refused_ends}
-use Rattle.lvm_disk_lines.proofs.ShelvesLemmas.Ordering.{arranged_ends, unarranged_ends}
-use Rattle.lvm_disk_lines.proofs.shelves.do_arrange.Goals as goal
+use Rattle.lvm_group_lines.proofs.ShelvesLemmas.Ordering.{arranged_ends, unarranged_ends}
+use Rattle.lvm_group_lines.proofs.shelves.do_arrange.Goals as goal
 
 pub returns-then-disk-disks : goal.returns-then-disk-disks
 returns-then-disk-disks g c =

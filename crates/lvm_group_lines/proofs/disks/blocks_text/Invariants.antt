@@ -1,7 +1,7 @@
 use Rattle.std.proofs.Common.{◌≡◌, ◌+◌, ◌++◌, drop}
 use Rattle.std.specs.String.{string_bytes}
-use Rattle.lvm_disk_lines.specs.Disks.{blocks_text}
-use Rattle.lvm_disk_lines.proofs.disks.blocks_text.Given as goal
+use Rattle.lvm_group_lines.specs.Disks.{blocks_text}
+use Rattle.lvm_group_lines.proofs.disks.blocks_text.Given as goal
 
 abbrev pub invariant-loop-block : goal.invariant-loop-block
 invariant-loop-block l = record {

@@ -15,7 +15,7 @@ use Rattle.lvm_raw.specs.declared.fault.RawFault.TheVariants as fault
 use Rattle.lvm_stage.specs.passed.Quiesce.{IsBehindEach, RangeKeepsEach}
 use Rattle.lvm_stage.proofs.passed.Quiesce.{still_is_behind_each}
 use Rattle.lvm_stage.specs.passed.Names.{Post}
-use Rattle.lvm_disk_lines.specs.Disks.{ShowsRead, blocks_text, refusal_by, write_reply}
+use Rattle.lvm_group_lines.specs.Disks.{ShowsRead, blocks_text, refusal_by, write_reply}
 use Rattle.lvm_stage.specs.Ends.{EndsUnasked}
 use Rattle.lvm_stage.specs.Moments.{Aside, GoesOn}
 use Rattle.lvm_stage.specs.Replies.{IsStuck, Shows, InFull, WithoutMemory, most_refusals}

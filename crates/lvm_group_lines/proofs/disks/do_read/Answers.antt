@@ -2,15 +2,15 @@ use Rattle.std.proofs.Common.{◌∙◌, subst, refl, ℕ}
 use Rattle.lvm_steps.specs.Requests.{at}
 use Rattle.lvm_stage.specs.passed.Quiesce.{ReadOnceQuiet}
 use Rattle.lvm_raw.specs.Keeping.{AnswerHasCause}
-use Rattle.lvm_disk_lines.specs.Disks.{ReadDoes, NoReadWhileOn, ReadGoes}
+use Rattle.lvm_group_lines.specs.Disks.{ReadDoes, NoReadWhileOn, ReadGoes}
 use Rattle.lvm_stage.specs.Moments.{Aside}
 use Rattle.lvm_stage.specs.State.{without_facts}
 use Rattle.lvm_stage.specs.declared.reply.Refusal.TheVariants as refusal
 use Rattle.lvm_stage.proofs.EndsLemmas.{unasked_as, refused_ends}
 use Rattle.lvm_stage.proofs.StagesLemmas.Staging.{between_as, fits_as}
-use Rattle.lvm_disk_lines.proofs.DisksLemmas.{off, range_ends, read_once, read_stuck, shows_read}
-use Rattle.lvm_disk_lines.proofs.PostsLemmas.{read_leaves}
-use Rattle.lvm_disk_lines.proofs.disks.do_read.Goals as goal
+use Rattle.lvm_group_lines.proofs.DisksLemmas.{off, range_ends, read_once, read_stuck, shows_read}
+use Rattle.lvm_group_lines.proofs.PostsLemmas.{read_leaves}
+use Rattle.lvm_group_lines.proofs.disks.do_read.Goals as goal
 
 pub returns-in-Err : goal.returns-in-Err
 returns-in-Err g c =

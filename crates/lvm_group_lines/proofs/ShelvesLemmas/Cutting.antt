@@ -33,7 +33,7 @@ use Rattle.lvm_stage.proofs.passed.Quiesce.{fewer_stay_behind}
 use Rattle.lvm_stage.specs.passed.TieCommands.{StandsAfter}
 use Rattle.lvm_stage.specs.Ends.{EndsUnasked}
 use Rattle.lvm_stage.specs.Moments.{Aside, GoesOn, HasBegunHeld}
-use Rattle.lvm_disk_lines.specs.Shelves.{IsCut, CutDoes, PowerIsCut}
+use Rattle.lvm_group_lines.specs.Shelves.{IsCut, CutDoes, PowerIsCut}
 use Rattle.lvm_stage.specs.Replies.{most_refusals}
 use Rattle.lvm_stage.specs.Stages.{GivesBack, HaveRooms, IsBetweenStage, IsFittingStage, history_after, history_in, history_of, posts_ended, session_in, session_of, shelf_in, shelf_of, state_in}
 use Rattle.lvm_stage.specs.State.{ArePosted, IsBetween, IsOnBetween, IsTimely, StandsAlone, ScriptState, log_with, without_facts}
@@ -47,9 +47,9 @@ use Rattle.lvm_stage.proofs.LightingLemmas.{ready_is_lit, still_leaves_descripto
 use Rattle.lvm_stage.proofs.FactsLemmas.{bears_cut}
 use Rattle.lvm_stage.proofs.StateLemmas.{answered_bears, end_posts, none_held, off_posts}
 use Rattle.lvm_stage.proofs.MomentsLemmas.Running.{IsRun, over_goes}
-use Rattle.lvm_disk_lines.proofs.DarkLemmas.{dark_alone, dark_held, dark_is_cut, dark_leaves}
-use Rattle.lvm_disk_lines.proofs.ShelvesLemmas.Ordering.{whose}
-use Rattle.lvm_disk_lines.proofs.DisksLemmas.{off}
+use Rattle.lvm_group_lines.proofs.DarkLemmas.{dark_alone, dark_held, dark_is_cut, dark_leaves}
+use Rattle.lvm_group_lines.proofs.ShelvesLemmas.Ordering.{whose}
+use Rattle.lvm_group_lines.proofs.DisksLemmas.{off}
 
 -- ---- a cut of the power
 

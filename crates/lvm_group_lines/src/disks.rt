@@ -1,6 +1,6 @@
 //! The lines that read or write a range of a disk.
 ghost use Rattle.std.specs.Prelude.{◌≡◌, ◌≤◌, ◌<◌, ◌+◌, ◌^◌, length, IfOk, IfErr};
-ghost use Rattle.lvm_disk_lines.specs.Disks.{WriteDoes, ReadDoes, refusal_by, write_reply, blocks_text};
+ghost use Rattle.lvm_group_lines.specs.Disks.{WriteDoes, ReadDoes, refusal_by, write_reply, blocks_text};
 ghost use Rattle.lvm_stage.specs.Ends.{EndsUnasked};
 ghost use Rattle.lvm_stage.specs.Moments.{Aside};
 ghost use Rattle.lvm_stage.specs.Replies.{Shows};
