@@ -10,17 +10,17 @@ use Rattle.lvm_parse.specs.Grammar.{line_of}
 use Rattle.lvm_parse.specs.Answering.{IsMkvgLine}
 use Rattle.lvm_core.specs.declared.parts.Room.{Room}
 use Rattle.lvm_session.specs.State.{Core}
-use Rattle.lvm_copy_lines.specs.passed.Stage.{CommandEnds, IsAsked, IsLeftBy, is_unheard, GoesOn, InFull, Shows, WithoutMemory, most_refusals, IsBetweenStage, IsFittingStage}
-use Rattle.lvm_copy_lines.specs.passed.Stage.{history_in, history_of, session_in, shelf_in, session_of, state_in, IsBetween, ScriptState, without_facts}
-use Rattle.lvm_copy_lines.specs.passed.Stage.{Holder, Reply, Stage}
-use Rattle.lvm_copy_lines.specs.passed.GroupLines.{MkvgDoes, NoMemoryForLine, NoMkvgWhileOn, DiskShows, DiskOfGroup, GroupShows, GroupThatIsOn}
-use Rattle.lvm_copy_lines.specs.passed.GroupLines.{ListsGroup, ListsMember, ListsVolume, NoGroupForDisk, NoGroupForVolume, NoGroupToList}
-use Rattle.lvm_copy_lines.specs.passed.GroupLines.{NoSuchMember, NoSuchVolume, OtherGroup, VolumeOfGroup, VolumeShows}
+use Rattle.lvm_volume_lines.specs.passed.CopyLinesStage.{CommandEnds, IsAsked, IsLeftBy, is_unheard, GoesOn, InFull, Shows, WithoutMemory, most_refusals, IsBetweenStage, IsFittingStage}
+use Rattle.lvm_volume_lines.specs.passed.CopyLinesStage.{history_in, history_of, session_in, shelf_in, session_of, state_in, IsBetween, ScriptState, without_facts}
+use Rattle.lvm_volume_lines.specs.passed.CopyLinesStage.{Holder, Reply, Stage}
+use Rattle.lvm_volume_lines.specs.passed.CopyLinesGroupLines.{MkvgDoes, NoMemoryForLine, NoMkvgWhileOn, DiskShows, DiskOfGroup, GroupShows, GroupThatIsOn}
+use Rattle.lvm_volume_lines.specs.passed.CopyLinesGroupLines.{ListsGroup, ListsMember, ListsVolume, NoGroupForDisk, NoGroupForVolume, NoGroupToList}
+use Rattle.lvm_volume_lines.specs.passed.CopyLinesGroupLines.{NoSuchMember, NoSuchVolume, OtherGroup, VolumeOfGroup, VolumeShows}
 use Rattle.lvm_line.specs.Lines.{CommandDoes, CommandIsDone, LineDoes, IsLine, IsOrder, asked_after, role_of}
-use Rattle.lvm_copy_lines.specs.passed.HolderVariants as holder
-use Rattle.lvm_copy_lines.specs.passed.RefusalVariants as refusal
-use Rattle.lvm_copy_lines.specs.passed.ReplyVariants as reply
-use Rattle.lvm_copy_lines.proofs.passed.Stage.{one_refused, same_goes, asked_goes}
+use Rattle.lvm_volume_lines.specs.passed.CopyLinesHolderVariants as holder
+use Rattle.lvm_volume_lines.specs.passed.CopyLinesRefusalVariants as refusal
+use Rattle.lvm_volume_lines.specs.passed.CopyLinesReplyVariants as reply
+use Rattle.lvm_volume_lines.proofs.passed.CopyLinesStage.{one_refused, same_goes, asked_goes}
 
 -- ---- how many refusals a listing answers
 
