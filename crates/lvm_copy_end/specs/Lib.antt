@@ -1,4 +1,3 @@
-pub mod passed
 pub mod Ending
 pub mod Losing
 pub mod Left

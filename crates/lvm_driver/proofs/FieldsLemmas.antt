@@ -21,10 +21,10 @@ use Rattle.lvm_keeps.proofs.KeepsLemmas.Close.{close_keeps}
 use Rattle.lvm_keeps.proofs.KeepsLemmas.Orders.{order_keeps}
 use Rattle.lvm_keeps.proofs.KeepsLemmas.Take.{take_keeps}
 use Rattle.lvm_keeps_events.proofs.KeepsCallsKeepsLemmas.{submit_keeps}
-use Rattle.lvm_tie.proofs.passed.RunningNames.{turn_keeps}
+use Rattle.lvm_tie.proofs.passed.Names.{turn_keeps}
 use Rattle.lvm_keeps_events.proofs.OpeningLemmas.Opening.{seen_open_keeps}
-use Rattle.lvm_keeps_events.specs.passed.KeepsCallsNames.{counts_seen}
-use Rattle.lvm_tie.specs.passed.RunningNames.{AreValid}
+use Rattle.lvm_keeps_events.specs.passed.Names.{counts_seen}
+use Rattle.lvm_tie.specs.Stamps.{AreValid}
 use Rattle.lvm_tie.specs.Running.{LeavesSession, RunsOn}
 use Rattle.lvm_tie.proofs.LawsLemmas.Calls.{calls_run_on}
 use Rattle.lvm_tie.proofs.LawsLemmas.Turning.{turn_runs_on}

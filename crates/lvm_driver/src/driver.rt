@@ -17,9 +17,11 @@ ghost use Rattle.lvm_session.specs.Asking.{IsAsking};
 ghost use Rattle.lvm_session.specs.Left.{left_of};
 ghost use Rattle.lvm_session.specs.Sound.{IsSound, waits};
 ghost use Rattle.lvm_keeps.specs.Falls.{most_left};
-ghost use Rattle.lvm_keeps_events.specs.passed.KeepsCallsNames.{counts_seen};
+ghost use Rattle.lvm_keeps_events.specs.passed.Names.{counts_seen};
 ghost use Rattle.lvm_session_start.specs.Beginning.{AreFaults, MayBegin, first_core};
-ghost use Rattle.lvm_tie.specs.passed.RunningNames.{HasCausesSince, AreValid, GetsItsBlocks, TurnTells};
+ghost use Rattle.lvm_tie.specs.Landings.{HasCausesSince};
+ghost use Rattle.lvm_tie.specs.Stamps.{AreValid};
+ghost use Rattle.lvm_tie.specs.passed.Names.{GetsItsBlocks, TurnTells};
 ghost use Rattle.lvm_tie.specs.Running.{LeavesSession, RunsOn};
 ghost use Rattle.lvm_driver.specs.Answers.{IsCausedFor, IsCopyCaused, IsOffSince};
 

@@ -11,7 +11,7 @@ use Rattle.lvm_session.specs.State.{Core}
 use Rattle.lvm_session.specs.Judging.{is_running}
 use Rattle.lvm_session.specs.Bringing.{has_row, is_out, is_whole, step_row}
 use Rattle.lvm_session.specs.Sound.{IsCopy, IsGoing, rows_of, waiting_rows, with_row}
-use Rattle.lvm_due.proofs.passed.Names.{queue_ascends}
+use Rattle.lvm_due.proofs.OrderLemmas.{queue_ascends}
 
 module _ (core : Core) (going : IsGoing core) where
   pub its_copy : (c : OpenCopy) → core.copy ≡ Some c → IsCopy core c

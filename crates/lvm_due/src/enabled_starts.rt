@@ -7,9 +7,11 @@ ghost use Rattle.lvm_session.specs.Sound.{IsGoing};
 ghost use Rattle.lvm_due.specs.Due.{IsDue};
 ghost use Rattle.lvm_due.specs.Plain.{data_or_copy, first_started};
 
-use crate::below::{copy_write, first_data, first_note, has_buffer};
 use crate::due::Due;
+use crate::firsts::first_data;
+use crate::notes::first_note;
 use crate::source::copy_read;
+use crate::starts::{copy_write, has_buffer};
 use crate::status::status_start;
 use lvm_session::{Event, Session};
 

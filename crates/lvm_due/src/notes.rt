@@ -7,7 +7,8 @@ ghost use Rattle.lvm_path.specs.declared.target.Target.{Target};
 ghost use Rattle.lvm_due.specs.Spans.{Spans};
 
 use crate::span::Span;
-use lvm_facts::below::{Event, Open, Session, group_of, is_missing};
+use lvm_facts::below::{Event, Open, Session};
+use lvm_facts::{group_of, is_missing};
 use lvm_path::{Phase, Target};
 
 // Whether a note may be started on the disk of a target, and doesn't name this track group of the volume.

@@ -1,5 +1,4 @@
-pub mod Names
-pub mod SessionEventEvent
 pub mod CopiesNames
+pub mod Names
 pub mod Others
-pub mod CopiesSessionEventEvent
+pub mod SessionEventEvent

@@ -1,6 +1,6 @@
 //! Who waits for whom.
 ghost use Rattle.std.specs.Prelude.{◌≡◌, ◌<◌, ◌^◌};
-ghost use Rattle.lvm_facts.specs.passed.CopiesNames.{core_of, held_of, is_held_back};
+ghost use Rattle.lvm_facts.specs.passed.Names.{core_of, held_of, is_held_back};
 ghost use Rattle.lvm_facts.specs.Queued.{IsQueued};
 
 use crate::below::{Held, Session};

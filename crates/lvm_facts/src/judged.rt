@@ -2,7 +2,7 @@
 ghost use Rattle.std.specs.Prelude.{◌≡◌, ◌||◌, not};
 ghost use Rattle.std.specs.List.{list_all};
 ghost use Rattle.lvm_path.specs.declared.target.Target.{Target};
-ghost use Rattle.lvm_facts.specs.passed.CopiesNames.{core_of, all_but_sure, counts_failed, is_kept, is_marked, is_settled};
+ghost use Rattle.lvm_facts.specs.passed.Names.{core_of, all_but_sure, counts_failed, is_kept, is_marked, is_settled};
 
 use crate::below::Session;
 use crate::standing::{is_settled, is_sure, is_wanted_stale};

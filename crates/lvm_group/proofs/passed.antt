@@ -1,2 +1,1 @@
-pub mod GroupPlan
-pub mod GroupPlanNames
+pub mod Names

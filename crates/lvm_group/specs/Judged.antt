@@ -6,7 +6,7 @@ use Rattle.lvm_num.specs.declared.status.Status.{Status}
 use Rattle.lvm_survey.specs.declared.row.SurveyRow.{SurveyRow}
 use Rattle.lvm_survey.specs.declared.row.Survey.{Survey}
 use Rattle.lvm_survey.specs.Surveyed.{surveyed}
-use Rattle.lvm_group.specs.passed.GroupPlanNames.{Cause}
+use Rattle.lvm_group.specs.passed.Names.{Cause}
 use Rattle.lvm_group.specs.passed.CoreRefusedCause as cause
 use Rattle.lvm_group.specs.Shown.{HasGroup, ShowsEarlier, IsLastShown}
 

@@ -9,7 +9,7 @@ use Rattle.lvm_write.specs.Written.{IsDarkened, IsGivenUp}
 use Rattle.lvm_transfer.specs.Reading.{IsUnwritten, IsRested, IsCutOff, IsReadStuck}
 use Rattle.lvm_begin.specs.Beginning.{Beginning, new_order, IsOfParts, AllStand}
 use Rattle.lvm_begin.specs.Ends.{BothFlip, HasNoFault, StopsAt, IsLowestFailed, WasTriedOnTargets}
-use Rattle.lvm_group.specs.passed.GroupPlanNames.{Cause, Room, Parts, IsReservedFor}
+use Rattle.lvm_group.specs.passed.Names.{Cause, Room, Parts, IsReservedFor}
 use Rattle.lvm_group.specs.passed.CoreRefusedCause as cause
 use Rattle.lvm_group.specs.declared.look.Free.{Free}
 use Rattle.lvm_group.specs.declared.make.Asked.{Asked}

@@ -1,3 +1,2 @@
-pub mod GroupPlan
 pub mod CoreRefusedCause
-pub mod GroupPlanNames
+pub mod Names

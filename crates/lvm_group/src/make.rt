@@ -3,7 +3,7 @@ ghost use Rattle.std.specs.Prelude.{◌≡◌, ◌≢◌, ◌≤◌, length, IfO
 ghost use Rattle.lvm_disk.specs.Device.{IsReady};
 ghost use Rattle.lvm_vol.specs.Log.{spare_entries};
 ghost use Rattle.lvm_stamps.specs.Behind.{ClockIsAhead};
-ghost use Rattle.lvm_group.specs.passed.GroupPlanNames.{BringsOn, StartsHeld, HaveAllLanded, IsRoom, first_core};
+ghost use Rattle.lvm_group.specs.passed.Names.{BringsOn, StartsHeld, HaveAllLanded, IsRoom, first_core};
 ghost use Rattle.lvm_group.specs.NewGroup.{IsWellFormed, given_up};
 ghost use Rattle.lvm_group.specs.Planned.{IsPlannedFor, RefusesPlan};
 ghost use Rattle.lvm_group.specs.Made.{MkvgRefuses};

@@ -22,17 +22,17 @@ use Rattle.lvm_core.specs.Settled.{IsSettled as IsSettledCore}
 use Rattle.lvm_core.specs.Sound.{HaveAllLanded}
 use Rattle.lvm_core.specs.State.{state_of}
 use Rattle.lvm_session.specs.State.{Core, state}
-use Rattle.lvm_group_lines.specs.passed.DiskLinesHandover.{Serves}
-use Rattle.lvm_group_lines.specs.passed.DiskLinesTieCommands.{StandsAfter}
-use Rattle.lvm_group_lines.proofs.passed.DiskLinesTieCommands.{spans_follow}
-use Rattle.lvm_group_lines.specs.passed.DiskLinesNames.{Post, AreAnswered}
-use Rattle.lvm_group_lines.specs.passed.DiskLinesQuiesce.{ClockIsAheadEach, IsAheadEach, BringsOnEach, IsStartedEach}
-use Rattle.lvm_group_lines.proofs.passed.DiskLinesQuiesce.{still_is_behind_each}
+use Rattle.lvm_group_lines.specs.passed.Handover.{Serves}
+use Rattle.lvm_group_lines.specs.passed.TieCommands.{StandsAfter}
+use Rattle.lvm_group_lines.proofs.passed.TieCommands.{spans_follow}
+use Rattle.lvm_group_lines.specs.passed.Names.{Post, AreAnswered}
+use Rattle.lvm_group_lines.specs.passed.Quiesce.{ClockIsAheadEach, IsAheadEach, BringsOnEach, IsStartedEach}
+use Rattle.lvm_group_lines.proofs.passed.Quiesce.{still_is_behind_each}
 use Rattle.lvm_group_lines.specs.Groups.{IsHeldBy, IsLeftBy}
-use Rattle.lvm_group_lines.specs.passed.DiskLinesStage.{CommandEnds, IsRelit, refusal_of, Aside, GoesOn, HasBegunHeld, HaveRooms, IsBetweenStage, IsFittingStage, IsOfKind, history_of, session_of, shelf_of, state_in, ArePosted, IsBetween, StandsAlone, ScriptState, without_facts, Holder, Reply, Stage}
-use Rattle.lvm_group_lines.specs.passed.DiskLinesHolderVariants as holder
-use Rattle.lvm_group_lines.specs.passed.DiskLinesReplyVariants as reply
-use Rattle.lvm_group_lines.proofs.passed.DiskLinesStage.{ahead_later, RefusalLeaves, Rests, lit_up, ready_is_lit, still_leaves_descriptors, Bears, landed_bears, later_bears, open_more, LeavesAnswers, answered_bears, answered_on, off_posts, on_posts}
+use Rattle.lvm_group_lines.specs.passed.Stage.{CommandEnds, IsRelit, refusal_of, Aside, GoesOn, HasBegunHeld, HaveRooms, IsBetweenStage, IsFittingStage, IsOfKind, history_of, session_of, shelf_of, state_in, ArePosted, IsBetween, StandsAlone, ScriptState, without_facts, Holder, Reply, Stage}
+use Rattle.lvm_group_lines.specs.passed.HolderVariants as holder
+use Rattle.lvm_group_lines.specs.passed.ReplyVariants as reply
+use Rattle.lvm_group_lines.proofs.passed.Stage.{ahead_later, RefusalLeaves, Rests, lit_up, ready_is_lit, still_leaves_descriptors, Bears, landed_bears, later_bears, open_more, LeavesAnswers, answered_bears, answered_on, off_posts, on_posts}
 
 -- ---- the clock
 

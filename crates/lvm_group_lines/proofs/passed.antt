@@ -11,16 +11,3 @@ pub mod TieCopies
 pub mod TieGroups
 pub mod Varyon
 pub mod Volumes
-pub mod DiskLinesEarlier
-pub mod DiskLinesGroup
-pub mod DiskLinesHandover
-pub mod DiskLinesNames
-pub mod DiskLinesQuiesce
-pub mod DiskLinesRanges
-pub mod DiskLinesRunning
-pub mod DiskLinesStage
-pub mod DiskLinesTieCommands
-pub mod DiskLinesTieCopies
-pub mod DiskLinesTieGroups
-pub mod DiskLinesVaryon
-pub mod DiskLinesVolumes

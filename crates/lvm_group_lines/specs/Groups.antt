@@ -9,12 +9,11 @@ use Rattle.lvm_core.specs.Sound.{IsSoundBetween}
 use Rattle.lvm_core.specs.State.{state_of}
 use Rattle.lvm_session.specs.Sound.{IsSound}
 use Rattle.lvm_session.specs.State.{Core}
-use Rattle.lvm_group_lines.specs.passed.DiskLinesGroup.{NewGroup}
-use Rattle.lvm_group_lines.specs.passed.DiskLinesQuiesce.{CauseRose, MkvgOnceQuiet, VaryonOnceQuiet}
-use Rattle.lvm_group_lines.specs.passed.DiskLinesStage.{Asks, IsAsked, EndsSession, patience_of_line, IsRelit, refusal_of, IsRefused, IsNotOn, IsOfKind, IsOn}
-use Rattle.lvm_group_lines.specs.passed.DiskLinesStage.{history_of, open_in, session_of, shelf_of, ScriptState, log_with, Holder, Reply}
-use Rattle.lvm_group_lines.specs.passed.DiskLinesRefusalVariants as refusal
-use Rattle.lvm_group_lines.specs.passed.DiskLinesReplyVariants as reply
+use Rattle.lvm_group_lines.specs.passed.Group.{NewGroup}
+use Rattle.lvm_group_lines.specs.passed.Quiesce.{CauseRose, MkvgOnceQuiet, VaryonOnceQuiet}
+use Rattle.lvm_group_lines.specs.passed.Stage.{Asks, EndsSession, Holder, IsAsked, IsNotOn, IsOfKind, IsOn, IsRefused, IsRelit, Reply, ScriptState, history_of, log_with, open_in, patience_of_line, refusal_of, session_of, shelf_of}
+use Rattle.lvm_group_lines.specs.passed.RefusalVariants as refusal
+use Rattle.lvm_group_lines.specs.passed.ReplyVariants as reply
 
 -- ---- what the call has left
 

@@ -7,9 +7,9 @@ use Rattle.lvm_num.specs.Descriptor.{member_of}
 use Rattle.lvm_show.specs.Listings.{group_text, volumes_text, volume_map_text, disk_text}
 use Rattle.lvm_core.specs.Looking.{IsNumberOf, HasNoVolumeNamed}
 use Rattle.lvm_session.specs.State.{Core}
-use Rattle.lvm_group_lines.specs.passed.DiskLinesStage.{Shows, Refusal, Reply}
-use Rattle.lvm_group_lines.specs.passed.DiskLinesRefusalVariants as refusal
-use Rattle.lvm_group_lines.specs.passed.DiskLinesReplyVariants as reply
+use Rattle.lvm_group_lines.specs.passed.Stage.{Shows, Refusal, Reply}
+use Rattle.lvm_group_lines.specs.passed.RefusalVariants as refusal
+use Rattle.lvm_group_lines.specs.passed.ReplyVariants as reply
 
 -- the answer is this refusal
 abbrev pub IsAnswered : Reply → Refusal → Type 0

@@ -1,6 +1,5 @@
 //! What is passed on from the crates below.
 
-pub mod disk_lines;
 pub mod driver;
 pub mod earlier;
 pub mod handover;

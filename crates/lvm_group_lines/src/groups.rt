@@ -8,8 +8,7 @@ ghost use Rattle.lvm_core.specs.Sound.{IsSoundBetween};
 ghost use Rattle.lvm_core.specs.Starting.{IsRoom};
 ghost use Rattle.lvm_core.specs.State.{state_of};
 ghost use Rattle.lvm_group_lines.specs.Groups.{IsHeldBy, IsLeftBy, MkvgDoes, VaryonDoes, VaryoffDoes};
-ghost use Rattle.lvm_group_lines.specs.passed.DiskLinesStage.{IsRelit, refusal_of, CommandEnds, EndsUnasked, Aside, IsBetweenStage, IsFittingStage, IsOfKind};
-ghost use Rattle.lvm_group_lines.specs.passed.DiskLinesStage.{history_of, session_of, shelf_of};
+ghost use Rattle.lvm_group_lines.specs.passed.Stage.{Aside, CommandEnds, EndsUnasked, IsBetweenStage, IsFittingStage, IsOfKind, IsRelit, history_of, refusal_of, session_of, shelf_of};
 
 use crate::below::driver;
 use crate::below::quiesce::{mkvg, varyon};

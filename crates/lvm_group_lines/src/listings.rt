@@ -2,7 +2,7 @@
 ghost use Rattle.std.specs.Prelude.{◌≡◌, ℕ, List, length, IfOk};
 ghost use Rattle.lvm_num.specs.Descriptor.{IsValid};
 ghost use Rattle.lvm_group_lines.specs.Listings.{CopiesShow, DiskShows, GroupShows, MemberShows, NamedShows, VolumeShows};
-ghost use Rattle.lvm_group_lines.specs.passed.DiskLinesStage.{Shows, shelf_in, session_in};
+ghost use Rattle.lvm_group_lines.specs.passed.Stage.{Shows, shelf_in, session_in};
 
 use crate::below::stage::{Holder, Refusal, Reply, Stage};
 use lvm_core::number_of;

@@ -29,9 +29,9 @@ use Rattle.lvm_session_start.specs.Beginning.{first_core}
 use Rattle.lvm_session_start.specs.Parts.{IsReserved}
 use Rattle.lvm_keeps.specs.Begins.{Begins, IsCalm, IsUnused}
 use Rattle.lvm_keeps.proofs.BeginsLemmas.{beginning_is_sound}
-use Rattle.lvm_handover.specs.passed.EarlierNames.{room_of}
-use Rattle.lvm_group.specs.passed.GroupPlan.{given_up, new_group, new_status}
-use Rattle.lvm_handover.specs.passed.EarlierTie.{IsStamped}
+use Rattle.lvm_handover.specs.passed.Names.{room_of}
+use Rattle.lvm_group.specs.NewGroup.{given_up, new_group, new_status}
+use Rattle.lvm_handover.specs.passed.Tie.{IsStamped}
 use Rattle.lvm_handover.specs.Beginning.{HasJustBegun, IsHistory, MadeBegins, Serves, VariedOnBegins}
 use Rattle.lvm_keeps.proofs.LeftLemmas.Updates.{few_updates}
 use Rattle.lvm_tie.proofs.MarksLemmas.{not_entailed}

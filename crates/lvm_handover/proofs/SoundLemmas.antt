@@ -14,7 +14,7 @@ use Rattle.lvm_session.specs.Dark.{hand_of_copy}
 use Rattle.lvm_session.specs.Owners.{AreRows}
 use Rattle.lvm_session.specs.Placed.{ArePlaced}
 use Rattle.lvm_session.specs.Sound.{IsSound, count_if, has_number, hands_with, is_dark, is_hand, out_with, waits}
-use Rattle.lvm_handover.specs.passed.EarlierNames.{HaveAllLanded, HasNoneOpen, IsFittingBetween, IsQuiet, IsSoundBetween}
+use Rattle.lvm_handover.specs.passed.Names.{HaveAllLanded, HasNoneOpen, IsFittingBetween, IsQuiet, IsSoundBetween}
 use Rattle.lvm_tie.specs.Begins.{IsResting}
 
 -- where no transfer is the session's, none is out

@@ -1,12 +1,8 @@
-pub mod Earlier
 pub mod Group
 pub mod Names
 pub mod Ranges
 pub mod Running
+pub mod Tie
 pub mod TieBegins
 pub mod Varyon
 pub mod Volumes
-pub mod EarlierNames
-pub mod EarlierRanges
-pub mod EarlierRunning
-pub mod Tie

@@ -1,6 +1,5 @@
 pub mod AskRangeFaultVariants
 pub mod Driver
-pub mod Earlier
 pub mod Group
 pub mod Names
 pub mod Ranges
@@ -10,9 +9,3 @@ pub mod TieBegins
 pub mod Varyon
 pub mod VolumePlanFaultGroupFault
 pub mod Volumes
-pub mod EarlierAskRangeFaultVariants
-pub mod EarlierDriver
-pub mod EarlierNames
-pub mod EarlierRanges
-pub mod EarlierRunning
-pub mod EarlierTie

@@ -1,3 +1,1 @@
 pub mod Names
-pub mod KeepsTurnNames
-pub mod TurnLossesNames

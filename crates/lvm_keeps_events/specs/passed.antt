@@ -1,1 +1,1 @@
-pub mod KeepsCallsNames
+pub mod Names

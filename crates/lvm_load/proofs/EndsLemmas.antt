@@ -27,7 +27,7 @@ use Rattle.lvm_session.specs.State.{Core, State}
 use Rattle.lvm_session.specs.Turns.{Finds, FindsNothing, TurnMakes}
 use Rattle.lvm_keeps.proofs.Small.{not_so}
 use Rattle.lvm_keeps_events.specs.Turning.{is_last}
-use Rattle.lvm_keeps_events.proofs.passed.KeepsTurnNames.{never_stands_still}
+use Rattle.lvm_keeps_events.proofs.KeepsFallsLemmas.Standing.{never_stands_still}
 use Rattle.lvm_keeps_events.specs.Telling.{IsStill, TurnTells, power_by}
 use Rattle.lvm_keeps_events.proofs.CountsLemmas.{turn_counts}
 use Rattle.lvm_keeps_events.proofs.TellingLemmas.Telling.{turn_tells}

@@ -17,7 +17,7 @@ use Rattle.lvm_session.specs.State.{Core}
 use Rattle.lvm_session.specs.Judging.{is_caught, is_missing, is_running, is_stale, is_usable}
 use Rattle.lvm_session.specs.Bringing.{end_of, end_by_sources, ends_if, is_cleared, is_whole}
 use Rattle.lvm_session.specs.Events.{copy_of}
-use Rattle.lvm_due.proofs.passed.FirstsNames.{place_of}
+use Rattle.lvm_due.proofs.passed.Names.{place_of}
 use Rattle.lvm_moves.specs.Choosing.{IsCopyThere, IsThere, MayChoose}
 
 index_is : (ps : List Pp) (k : ℕ) (p d : Pp) → slice_get ps k ≡ Some p → slice_index_or ps k d ≡ p

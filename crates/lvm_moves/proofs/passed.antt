@@ -1,1 +1,1 @@
-pub mod AdmitNames
+pub mod Names

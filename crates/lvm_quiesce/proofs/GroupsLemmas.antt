@@ -19,7 +19,7 @@ use Rattle.lvm_core.specs.declared.refused.Cause.TheVariants as cause
 use Rattle.lvm_core.specs.declared.refused.Refused.{Refused}
 use Rattle.lvm_core.specs.Coming.{BringsOn, IsStarted, shelf_left, history_left}
 use Rattle.lvm_core.specs.State.{state_of}
-use Rattle.lvm_group.specs.passed.GroupPlan.{NewGroup, MayBegin, RefusesFirst}
+use Rattle.lvm_group.specs.NewGroup.{NewGroup, MayBegin, RefusesFirst}
 use Rattle.lvm_group.specs.Made.{MkvgRefuses, MkvgGives}
 use Rattle.lvm_group.proofs.LogLemmas.{keeps_cut, calm_cut}
 use Rattle.lvm_varyon.specs.Varied.{VaryonRefuses, VariesOnAt, VaryonGives}

@@ -4,7 +4,7 @@ use Rattle.lvm_num.specs.Buffer.{Sector}
 use Rattle.lvm_group_lines.specs.passed.Names.{IsNumberOf, HasNoVolumeNamed}
 use Rattle.lvm_session.specs.Sound.{IsSound}
 use Rattle.lvm_session.specs.State.{Core, State}
-use Rattle.lvm_group_lines.specs.passed.DiskLines.{blocks_text}
+use Rattle.lvm_group_lines.specs.Disks.{blocks_text}
 use Rattle.lvm_group_lines.specs.passed.Running.{RunsOn}
 use Rattle.lvm_posts.specs.declared.asked.Asked.{Asked}
 use Rattle.lvm_posts.specs.declared.fault.RangeFault.{RangeFault}

@@ -13,11 +13,11 @@ ghost use Rattle.lvm_range_lines.specs.Refusals.{ending_of, reply_of};
 
 use crate::refusal::{ask_refusal, range_refusal};
 use lvm_disk::Shelf;
-use lvm_group_lines::below::disk_lines::lines_reply;
 use lvm_group_lines::below::driver::Driver;
 use lvm_group_lines::below::number_of;
 use lvm_group_lines::below::ranges::{ask_range, finish_range, read_blocks};
 use lvm_group_lines::below::stage::{Holder, Refusal, Reply, Stage};
+use lvm_group_lines::lines_reply;
 use lvm_num::{Memory, Name};
 use lvm_posts::{Asked, Post, RangeFault};
 use lvm_transfer::Patience;

@@ -18,7 +18,7 @@ use Rattle.lvm_session.specs.Turns.{Finds, FindsNothing, TurnMakes}
 use Rattle.lvm_keeps.proofs.Small.{not_so}
 use Rattle.lvm_driver.specs.passed.Names.{is_last, RunsOn, TurnTells, power_by}
 use Rattle.lvm_driver.proofs.passed.Names.{turn_ends, runs_both, runs_none, turn_counts}
-use Rattle.lvm_keeps_events.proofs.passed.TurnLossesNames.{never_stands_still}
+use Rattle.lvm_keeps_events.proofs.KeepsFallsLemmas.Standing.{never_stands_still}
 use Rattle.lvm_keeps_events.specs.Losing.{LosesByFaults, LosesVotesByFaults}
 use Rattle.lvm_keeps_events.proofs.LosingLemmas.Losing.{loses_both, loses_none, turn_loses}
 use Rattle.lvm_keeps_events.proofs.LosingLemmas.Votes.{votes_go}

@@ -29,8 +29,8 @@ use Rattle.lvm_session.specs.Judging.{copies_in, is_running}
 use Rattle.lvm_session.specs.Bringing.{hand_of, is_out, is_whole, marked_by_end, step_place, with_end}
 use Rattle.lvm_session.specs.Ends.{CopyLearns, FailsCopy, GoesOn, PassesGroup, StepLearns, StepLeaves, after_quit, with_copy, with_return, without_step}
 use Rattle.lvm_session.specs.Marks.{Reviews, WantsStale}
-use Rattle.lvm_session_turn.proofs.passed.EndsNames.{same_due, copies_in_are, place_of, markable}
-use Rattle.lvm_session_turn.specs.passed.EndsNames.{IsOutIf, CanEnd, MayEndCopy, IsLocated, MayReview}
+use Rattle.lvm_session_turn.proofs.passed.Names.{same_due, copies_in_are, place_of, markable}
+use Rattle.lvm_session_turn.specs.passed.Names.{IsOutIf, CanEnd, MayEndCopy, IsLocated, MayReview}
 use Rattle.lvm_session.specs.Sound.{IsCopy, IsReadFrom}
 use Rattle.lvm_session_turn.specs.Ended.{HasEnded}
 use Rattle.lvm_session_turn.proofs.Ended.{among_all, its_copy, its_place, was_out}

@@ -1,1 +1,1 @@
-pub mod EndsNames
+pub mod Names

@@ -1,3 +1,1 @@
 pub mod Names
-pub mod EndsNames
-pub mod CopyLearnNames

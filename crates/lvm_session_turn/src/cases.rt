@@ -9,7 +9,8 @@ ghost use Rattle.lvm_session_turn.specs.Ended.{HasEnded};
 ghost use Rattle.lvm_session_turn.specs.declared.step.Carry.TheVariants as carry;
 ghost use Rattle.lvm_session_turn.specs.Carried.{IsCarrying};
 
-use crate::below::{end_copy, end_flight, return_flight, review};
+use crate::back::{end_flight, return_flight};
+use crate::below::{end_copy, review};
 use crate::next::pass;
 use crate::step::{hold, leave_step, miss, settle};
 use lvm_num::{Pbuf, Pp};

@@ -8,11 +8,13 @@ ghost use Rattle.lvm_session.specs.Ends.{Learns};
 ghost use Rattle.lvm_session.specs.Turns.{FinishMakes};
 ghost use Rattle.lvm_session.specs.Sound.{IsGoing, IsSound};
 ghost use Rattle.lvm_moves.specs.passed.Names.{IsDue};
-ghost use Rattle.lvm_session_turn.specs.passed.CopyLearnNames.{HasEnded};
+ghost use Rattle.lvm_session_turn.specs.Ended.{HasEnded};
 ghost use Rattle.lvm_session_turn.specs.Finishing.{Rests};
 
-use crate::below::{Back, end_data, end_note, end_status, reap_row};
 use crate::copy_learn::end_step;
+use crate::data::end_data;
+use crate::records::{end_note, end_status};
+use crate::rows::{Back, reap_row};
 use lvm_disk::Shelf;
 use lvm_moves::below::{Due, is_lost, is_quiet_for};
 use lvm_num::Pbuf;

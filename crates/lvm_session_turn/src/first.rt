@@ -8,7 +8,7 @@ ghost use Rattle.lvm_session.specs.Rooms.{HasRooms, SameRooms};
 ghost use Rattle.lvm_session.specs.State.{state};
 ghost use Rattle.lvm_session.specs.Sound.{IsGoing, IsSound};
 ghost use Rattle.lvm_moves.specs.passed.Names.{IsDue};
-ghost use Rattle.lvm_starts.specs.passed.Names.{StartGives};
+ghost use Rattle.lvm_starts.specs.Launching.{StartGives};
 ghost use Rattle.lvm_starts.specs.Starts.{CanStart, StartsFirst};
 ghost use Rattle.lvm_session_turn.specs.Taking.{FirstMakes};
 

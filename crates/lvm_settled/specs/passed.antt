@@ -1,3 +1,2 @@
 pub mod Names
-pub mod EvenNames
 pub mod Volumes

@@ -10,7 +10,7 @@ use Rattle.lvm_steps.proofs.MomentsLemmas.Spans.{keeps_steps}
 use Rattle.lvm_stamps.specs.Behind.{IsBehind}
 use Rattle.lvm_stamps.proofs.LawsLemmas.Shelves.{no_more_stays_behind}
 use Rattle.lvm_session.specs.Sound.{IsLit}
-use Rattle.lvm_tie_commands.specs.passed.TieCopiesTie.{LeavesDescriptors}
+use Rattle.lvm_tie_commands.specs.passed.Tie.{LeavesDescriptors}
 use Rattle.lvm_quiesce.specs.Behind.{IsBehindEach}
 use Rattle.lvm_quiesce.proofs.LawsLemmas.Behind.{still_is_behind_each}
 use Rattle.lvm_quiesce.specs.passed.Names.{Cause}

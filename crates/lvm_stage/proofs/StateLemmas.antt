@@ -16,8 +16,8 @@ use Rattle.lvm_session.specs.Calls.{is_asked}
 use Rattle.lvm_session.specs.declared.open.Open.{Open}
 use Rattle.lvm_session.specs.Sound.{IsAsked}
 use Rattle.lvm_session.specs.State.{Core}
-use Rattle.lvm_tie_commands.specs.passed.TieCopiesEarlier.{AreGone}
-use Rattle.lvm_tie_commands.specs.passed.TieCopiesNames.{Asked, Post, AreAnswered, AreHeld, ended_with}
+use Rattle.lvm_tie_commands.specs.passed.Earlier.{AreGone}
+use Rattle.lvm_tie_commands.specs.passed.Names.{Asked, Post, AreAnswered, AreHeld, ended_with}
 use Rattle.lvm_stage.specs.State.{ArePosted, IsPosted}
 use Rattle.lvm_stage.proofs.FactsLemmas.{Bears}
 

@@ -4,11 +4,11 @@ use Rattle.lvm_disk.specs.Device.{Device, IsReady}
 use Rattle.lvm_kept.specs.Moments.{Moment}
 use Rattle.lvm_steps.specs.Moments.{Keeps}
 use Rattle.lvm_stamps.specs.Behind.{IsAhead}
-use Rattle.lvm_tie_commands.specs.passed.TieCopiesNames.{IsOneByAllOn}
+use Rattle.lvm_tie_commands.specs.passed.Names.{IsOneByAllOn}
 use Rattle.lvm_quiesce.specs.passed.Names.{IsHeld, EntersVolumes, IsSettled as IsSettledCore}
 use Rattle.lvm_session.specs.State.{Core, State, state}
 use Rattle.lvm_disk.specs.Paths.{Path}
-use Rattle.lvm_tie_commands.specs.passed.TieCopiesDriver.{IsAny, IsTurn}
+use Rattle.lvm_tie_commands.specs.passed.Driver.{IsAny, IsTurn}
 use Rattle.lvm_stage.specs.State.{ScriptState, IsAtRest, IsBetween, IsTimely, StandsAlone, StandsBy}
 use Rattle.lvm_stage.specs.Replies.{IsStuck, most_refusals}
 use Rattle.lvm_stage.specs.declared.reply.Refusal.TheVariants as refusal

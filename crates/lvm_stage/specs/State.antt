@@ -5,17 +5,17 @@ use Rattle.lvm_vol.specs.Facts.{Fact}
 pub use Rattle.lvm_vol.specs.Log.{log_with, without_facts}
 use Rattle.lvm_kept.specs.Moments.{Moment}
 use Rattle.lvm_steps.specs.Moments.{Begins}
-use Rattle.lvm_tie_commands.specs.passed.TieCopiesNames.{IsOneByAllOn, Post, IsLaidOut, AreAnswered, AreHeld}
+use Rattle.lvm_tie_commands.specs.passed.Names.{IsOneByAllOn, Post, IsLaidOut, AreAnswered, AreHeld}
 use Rattle.lvm_status.specs.Members.{HasItsRows}
 use Rattle.lvm_session.specs.declared.open.Power.TheVariants as power
 use Rattle.lvm_session.specs.State.{Core, state}
 use Rattle.lvm_session.specs.Sound.{IsLit, IsSound}
-use Rattle.lvm_tie_commands.specs.passed.TieCopiesTie.{LeavesDescriptors, IsStamped}
+use Rattle.lvm_tie_commands.specs.passed.Tie.{LeavesDescriptors, IsStamped}
 use Rattle.lvm_quiesce.specs.passed.Names.{HaveAllLanded, IsSettled as IsSettledCore}
 use Rattle.lvm_quiesce.specs.Behind.{IsAheadEach}
-use Rattle.lvm_tie_commands.specs.passed.TieCopiesEarlier.{AreGone}
-use Rattle.lvm_tie_commands.specs.passed.TieCommands.{StandsAfter}
-use Rattle.lvm_tie_commands.specs.passed.TieCopiesRecover.{HasNoPassive}
+use Rattle.lvm_tie_commands.specs.passed.Earlier.{AreGone}
+use Rattle.lvm_tie_commands.specs.Standing.{StandsAfter}
+use Rattle.lvm_tie_commands.specs.passed.Recover.{HasNoPassive}
 
 -- The shelf and what the history has so far, the session of the group that is on, if one is, the posts whose answers aren't taken, and the clock's last moment.
 pub record ScriptState : Type 0 where

@@ -12,7 +12,7 @@ use Rattle.lvm_num.proofs.RecordLemmas.Records.{both_true, bytes-drop, bytes-tak
 use Rattle.lvm_survey.specs.passed.AreaNames.{held, newest_on, read_under, slot_of, Image, IsWholeImage, has_records, newest_at, descriptor_on, status_on}
 use Rattle.lvm_num.specs.DescriptorBytes.{descriptor_of}
 use Rattle.lvm_num.specs.StatusBytes.{status_of}
-use Rattle.lvm_survey.proofs.passed.AreaNames.{read_is_spelled, is_read}
+use Rattle.lvm_survey.proofs.passed.Names.{read_is_spelled, is_read}
 use Rattle.lvm_survey.specs.Laws.{DescriptorsAreValid, StatusesAreValid}
 
 -- ---- bytes

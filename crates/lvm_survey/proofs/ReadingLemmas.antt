@@ -2,7 +2,7 @@
 use Rattle.std.proofs.Common.{◌≡◌, inl, inr, ◌≤◌, ◌+◌, ◌++◌, [], ◌∷◌, ℕ, List, Option, Some, IfSome, length, slice_get, refl, sym, ◌∙◌, subst, arith}
 use Rattle.std.proofs.lemmas.List.{length-append}
 use Rattle.lvm_survey.specs.passed.AreaNames.{Rose, Media, Device, IsReady, image_of, DeviceStep, Path, Stop, IsUntouched, OnlyReads, IsRested, StopGives}
-use Rattle.lvm_survey.proofs.passed.AreaNames.{append-path, map-path, only_none, untouched_none, rested_none, only_more, untouched_more, rested_more, stop_more, got_within}
+use Rattle.lvm_survey.proofs.passed.Names.{append-path, map-path, only_none, untouched_none, rested_none, only_more, untouched_more, rested_more, stop_more, got_within}
 use Rattle.lvm_survey.specs.declared.row.SurveyRow.{SurveyRow}
 use Rattle.lvm_survey.specs.Surveyed.{IsRead}
 use Rattle.lvm_survey.specs.Surveying.{IsSmall, IsSurveyed}

@@ -1,4 +1,3 @@
+pub mod AreaNames
 pub mod Names
 pub mod TransferMovesMoved
-pub mod AreaNames
-pub mod AreaTransferMovesMoved

@@ -1,3 +1,1 @@
 pub mod Names
-pub mod TieBeginsNames
-pub mod RunningNames

@@ -20,8 +20,8 @@ use Rattle.lvm_commit.proofs.LawsLemmas.Found.{shows_group}
 use Rattle.lvm_session.specs.State.{Core, State, is_there}
 use Rattle.lvm_session.specs.Sound.{IsSound}
 use Rattle.lvm_handover.specs.passed.Names.{IsSettled}
-use Rattle.lvm_settled.specs.passed.EvenNames.{IsEven, NoneIsBehind}
-use Rattle.lvm_settled.proofs.passed.EvenNames.{none_is_left_behind}
+use Rattle.lvm_settled.specs.passed.Names.{IsEven, NoneIsBehind}
+use Rattle.lvm_settled.proofs.passed.Names.{none_is_left_behind}
 use Rattle.lvm_handover.specs.passed.Tie.{SparesDescriptors, IsTied, moment_of}
 use Rattle.lvm_handover.specs.passed.TieBegins.{NotesAreHomeIn, MembersShow, StandsAtRest, shown_to}
 use Rattle.lvm_handover.proofs.passed.TieBegins.{rest_spares, rest_ties}

@@ -10,9 +10,9 @@ use Rattle.lvm_status.specs.Members.{HasItsRows}
 use Rattle.lvm_session.specs.State.{Core, State, is_there}
 use Rattle.lvm_tie_commands.specs.passed.Names.{AreUnused}
 use Rattle.lvm_tie_commands.proofs.passed.Names.{unused_markable}
-use Rattle.lvm_volumes.specs.passed.MirrorsNames.{further_copies, with_copies, with_map}
+use Rattle.lvm_volumes.specs.passed.Names.{further_copies, with_copies, with_map}
 use Rattle.lvm_volumes.proofs.passed.CopyPlanCopiesLemmasMore as more
-use Rattle.lvm_volumes.proofs.passed.MirrorsNames.{named}
+use Rattle.lvm_volumes.proofs.passed.Names.{named}
 use Rattle.lvm_volumes.specs.Mirrors.{AreAdded}
 use Rattle.lvm_tie_commands.proofs.CopiesLemmas.Adding.{no_volume}
 

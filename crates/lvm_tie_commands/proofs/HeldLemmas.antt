@@ -13,7 +13,7 @@ use Rattle.lvm_commit.proofs.LawsOfVolumesLemmas.Others.{one_by_all_is_only_sinc
 use Rattle.lvm_commit.proofs.LawsOfDataLemmas.Still.{still_holds_committed}
 use Rattle.lvm_session.specs.State.{State, is_there}
 use Rattle.lvm_handover.specs.passed.Names.{AreNotesHome, IsHeld, NotesAreHome, StartsHeld, IsSettled}
-use Rattle.lvm_settled.specs.passed.EvenNames.{IsEven}
+use Rattle.lvm_settled.specs.passed.Names.{IsEven}
 use Rattle.lvm_settled.proofs.EvenLemmas.Off.{off_is_even}
 use Rattle.lvm_handover.specs.passed.Tie.{SparesDescriptors, SparesOn, IsTied}
 use Rattle.lvm_handover.specs.passed.TieBegins.{IsRested, IsResting, NotesAreHomeIn as AreHome, shown_to}

@@ -9,8 +9,8 @@ use Rattle.lvm_vol.specs.Log.{asked, has_id, lands_id}
 use Rattle.lvm_vol.specs.Order.{Ordered}
 use Rattle.lvm_vol.proofs.FactsLemmas.Order.{IsNumbered, numbered, stands_begun}
 use Rattle.lvm_kept.specs.Moments.{Calm}
-use Rattle.lvm_tie.specs.passed.TieBeginsNames.{AllLand}
-use Rattle.lvm_tie.proofs.passed.TieBeginsNames.{landed_are_closed}
+use Rattle.lvm_tie.specs.passed.Names.{AllLand}
+use Rattle.lvm_tie.proofs.passed.Names.{landed_are_closed}
 use Rattle.lvm_settled.specs.passed.Names.{HaveAllLanded}
 
 -- a request that stands there is found by its number

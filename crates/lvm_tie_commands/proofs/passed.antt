@@ -5,16 +5,5 @@ pub mod Handover
 pub mod Names
 pub mod Ranges
 pub mod Running
-pub mod TieGroups
 pub mod Varyon
 pub mod Volumes
-pub mod TieCopiesEarlier
-pub mod TieCopiesGroup
-pub mod TieCopiesHandover
-pub mod TieCopiesNames
-pub mod TieCopiesRanges
-pub mod TieCopiesRunning
-pub mod TieCommands
-pub mod TieCopiesTieGroups
-pub mod TieCopiesVaryon
-pub mod TieCopiesVolumes

@@ -15,8 +15,9 @@ use Rattle.lvm_session_start.specs.Beginning.{AreFaults}
 use Rattle.lvm_settled.specs.passed.Names.{Room, BringsOn, IsStarted, NotesAreHome, IsSoundBetween, IsRoom}
 use Rattle.lvm_varyon.specs.Varied.{ComesOn}
 use Rattle.lvm_group.specs.Made.{IsMade}
-use Rattle.lvm_group.specs.passed.GroupPlan.{NewGroup}
-use Rattle.lvm_tie.specs.passed.TieBeginsNames.{IsEven, IsGood}
+use Rattle.lvm_group.specs.NewGroup.{NewGroup}
+use Rattle.lvm_tie.specs.passed.Names.{IsEven}
+use Rattle.lvm_tie.specs.Tied.{IsGood}
 use Rattle.lvm_varyon.specs.passed.Names.{HasNoPassive}
 use Rattle.lvm_tie.specs.Begins.{ShowsIts, shown_to}
 

@@ -6,7 +6,7 @@ use Rattle.lvm_kept.specs.Moments.{Moment}
 use Rattle.lvm_steps.specs.Moments.{Keeps}
 use Rattle.lvm_session.specs.State.{State}
 use Rattle.lvm_tie_commands.specs.passed.Names.{moment_of, GroupFault, IfOn, IsNumberOf}
-use Rattle.lvm_volumes.specs.passed.MirrorsNames.{MayBeTaken}
+use Rattle.lvm_volumes.specs.passed.Names.{MayBeTaken}
 use Rattle.lvm_volumes.specs.Mirrors.{IfShown, KeepsShown, MklvcopyGives, RmlvcopyGives, to_add, to_take}
 use Rattle.lvm_tie_commands.specs.passed.Handover.{IsCommanded}
 use Rattle.lvm_tie_commands.specs.Commands.{IsLeftStandingSince, MayBeCommanded}

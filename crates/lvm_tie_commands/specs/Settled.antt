@@ -11,7 +11,8 @@ use Rattle.lvm_session.specs.State.{State, is_there}
 use Rattle.lvm_session.specs.Sound.{IsSound}
 use Rattle.lvm_settled.specs.Settled.{IsKnown, IsCarried}
 use Rattle.lvm_settled.specs.passed.Names.{IsHeld, NotesAreHome}
-use Rattle.lvm_tie.specs.passed.TieBeginsNames.{SparesDescriptors, SparesOn, IsGood, IsTied}
+use Rattle.lvm_tie.specs.Spares.{SparesDescriptors, SparesOn}
+use Rattle.lvm_tie.specs.Tied.{IsGood, IsTied}
 use Rattle.lvm_tie.specs.Begins.{IsResting, MembersShow}
 
 -- ---- in

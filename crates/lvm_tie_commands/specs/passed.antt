@@ -3,6 +3,7 @@ pub mod Driver
 pub mod Earlier
 pub mod Group
 pub mod Handover
+pub mod Mirrors
 pub mod Names
 pub mod Ranges
 pub mod Recover
@@ -11,18 +12,3 @@ pub mod Tie
 pub mod Varyon
 pub mod VolumePlanFaultGroupFault
 pub mod Volumes
-pub mod TieCopiesAskRangeFaultVariants
-pub mod TieCopiesDriver
-pub mod TieCopiesEarlier
-pub mod TieCopiesGroup
-pub mod TieCopiesHandover
-pub mod Mirrors
-pub mod TieCopiesNames
-pub mod TieCopiesRanges
-pub mod TieCopiesRecover
-pub mod TieCopiesRunning
-pub mod TieCopiesTie
-pub mod TieCommands
-pub mod TieCopiesVaryon
-pub mod TieCopiesVolumePlanFaultGroupFault
-pub mod TieCopiesVolumes

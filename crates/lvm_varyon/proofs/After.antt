@@ -22,8 +22,8 @@ use Rattle.lvm_kept.proofs.CommittedLemmas.Finding.{images_within}
 use Rattle.lvm_stamps.specs.Behind.{StampsBefore, beginning_at, IsBehind}
 use Rattle.lvm_rec.specs.declared.homes.Homes.{Homes}
 use Rattle.lvm_write.specs.Homes.{SparesNewest}
-use Rattle.lvm_varyon.specs.passed.VaryonPlanNames.{ShowsCommitted, LogsOnly}
-use Rattle.lvm_varyon.proofs.passed.VaryonPlanNames.{newest_is_beginning, only_planned}
+use Rattle.lvm_varyon.specs.passed.Names.{ShowsCommitted, LogsOnly}
+use Rattle.lvm_varyon.proofs.passed.Names.{newest_is_beginning, only_planned}
 use Rattle.lvm_steps.specs.VaryingOn.{HasNewest}
 use Rattle.lvm_steps.proofs.VaryingOnLemmas.Following.{restamp_is_newest}
 use Rattle.lvm_steps.proofs.VaryingOnLemmas.VaryingOn.{restamp_keeps, restate_keeps}

@@ -39,7 +39,7 @@ use Rattle.lvm_survey.specs.declared.row.SurveyRow.{SurveyRow}
 use Rattle.lvm_survey.specs.declared.row.Survey.{Survey}
 use Rattle.lvm_survey.specs.Surveyed.{surveyed}
 use Rattle.lvm_survey.specs.passed.Names.{under}
-use Rattle.lvm_varyon.specs.passed.VaryonPlanNames.{Room}
+use Rattle.lvm_varyon.specs.passed.Names.{Room}
 use Rattle.lvm_begin.specs.Beginning.{Beginning, describes, states, MayBeginAgain}
 use Rattle.lvm_next.specs.Next.{IsNextStatus, has_passive}
 use Rattle.lvm_num.specs.Modes.{is_passive}
@@ -53,7 +53,7 @@ use Rattle.lvm_varyon.specs.Writing.{beginning}
 use Rattle.lvm_varyon.proofs.FoundLemmas.Seeing.{answered_by, read_row, shows_records, row_answers}
 use Rattle.lvm_varyon.proofs.GroupLemmas.{same_voters, same_status, holds_finds}
 use Rattle.lvm_varyon.proofs.DescriptorLemmas.{one_place}
-use Rattle.lvm_varyon.proofs.passed.VaryonPlanNames.{descriptor_fits}
+use Rattle.lvm_varyon.proofs.passed.Names.{descriptor_fits}
 use Rattle.lvm_varyon.proofs.RecordLemmas.{status_fits}
 
 within : (d n : ℕ) → d < n → nat_lt d n ≡ true

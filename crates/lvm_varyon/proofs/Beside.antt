@@ -20,7 +20,7 @@ use Rattle.lvm_kept.specs.Contents.{Contents, contents_of, descriptor_on, status
 use Rattle.lvm_kept.specs.Group.{Finds, descriptor_among, has_quorum, is_voter}
 use Rattle.lvm_kept.proofs.PlacesLemmas.{at-same, newest-same}
 use Rattle.lvm_steps.proofs.MakingLemmas.Making.{media_may}
-use Rattle.lvm_varyon.specs.passed.VaryonPlanNames.{MayBeFound, Recopy, IsOfCopies, ArePlanned}
+use Rattle.lvm_varyon.specs.passed.Names.{MayBeFound, Recopy, IsOfCopies, ArePlanned}
 use Rattle.lvm_kept.specs.Plans.{Plan, ChangesBy}
 use Rattle.lvm_kept.specs.Torn.{IsOfNote}
 use Rattle.lvm_stamps.specs.Behind.{StampsBefore, beginning_at, IsBehind}

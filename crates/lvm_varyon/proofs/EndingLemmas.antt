@@ -19,7 +19,7 @@ use Rattle.lvm_survey.specs.declared.row.SurveyRow.{SurveyRow}
 use Rattle.lvm_survey.specs.declared.row.Survey.{Survey}
 use Rattle.lvm_survey.specs.Surveyed.{surveyed}
 use Rattle.lvm_status.specs.Update.{Updates}
-use Rattle.lvm_varyon.specs.passed.VaryonPlanNames.{Room, IsPlaced, ArePlaced, HaveSectors}
+use Rattle.lvm_varyon.specs.passed.Names.{Room, IsPlaced, ArePlaced, HaveSectors}
 use Rattle.lvm_varyon.specs.declared.plan.Plan.{Plan}
 use Rattle.lvm_varyon.specs.Planned.{IsPlan}
 use Rattle.lvm_varyon.specs.Parts.{IsSurveyOf}

@@ -9,7 +9,7 @@ use Rattle.lvm_disk.proofs.PathsLemmas.{map-path}
 use Rattle.lvm_steps.specs.Moments.{StaysKept}
 use Rattle.lvm_steps.proofs.MomentsLemmas.Spans.{fewer_stay_kept}
 use Rattle.lvm_survey.specs.declared.row.Survey.{Survey}
-use Rattle.lvm_varyon.specs.passed.VaryonPlanNames.{Room, MayEqualise}
+use Rattle.lvm_varyon.specs.passed.Names.{Room, MayEqualise}
 use Rattle.lvm_rec.specs.declared.homes.Homes.{Homes}
 use Rattle.lvm_kept.specs.Plans.{ChangesBy}
 use Rattle.lvm_write.proofs.WrittenLemmas.Writing.{both_from}

@@ -17,8 +17,8 @@ use Rattle.lvm_write.specs.Written.{HaveRoom, KeepsShelf}
 use Rattle.lvm_rec.specs.declared.homes.Homes.{Homes}
 use Rattle.lvm_begin.specs.Beginning.{Beginning, again_order, MayBeginAgain}
 use Rattle.lvm_begin.specs.Ends.{HasNoFault, IsLowestFailed}
-pub use Rattle.lvm_varyon.specs.passed.VaryonPlanNames.{Recopy}
-use Rattle.lvm_varyon.specs.passed.VaryonPlanNames.{AreApart, IsCopied, IsInOneRun, IsOfCopies, LogsJust, LogsOnly, MayCopy, StopsAtOne, runs_into, sources_and_targets, MayEqualise, Cause}
+pub use Rattle.lvm_varyon.specs.passed.Names.{Recopy}
+use Rattle.lvm_varyon.specs.passed.Names.{AreApart, IsCopied, IsInOneRun, IsOfCopies, LogsJust, LogsOnly, MayCopy, StopsAtOne, runs_into, sources_and_targets, MayEqualise, Cause}
 use Rattle.lvm_varyon.specs.passed.CoreRefusedCause as cause
 use Rattle.lvm_varyon.specs.declared.plan.Plan.{Plan}
 use Rattle.lvm_varyon.specs.Writing.{AllWritten, OneWriteFailed, WasBrokenOff, IsStillOut}

@@ -10,7 +10,7 @@ use Rattle.lvm_survey.specs.Rows.{AreRows}
 use Rattle.lvm_survey.specs.Surveyed.{IsSurveyValid}
 use Rattle.lvm_transfer.specs.Reading.{IsUnwritten, IsRested, IsCutOff}
 use Rattle.lvm_survey.specs.Surveying.{IsSurveyed}
-use Rattle.lvm_varyon.specs.passed.VaryonPlanNames.{Room, Cause}
+use Rattle.lvm_varyon.specs.passed.Names.{Room, Cause}
 use Rattle.lvm_varyon.specs.passed.CoreRefusedCause as cause
 use Rattle.lvm_begin.specs.Beginning.{Beginning, Part, again_beginning}
 use Rattle.lvm_varyon.specs.declared.plan.Plan.{Plan}

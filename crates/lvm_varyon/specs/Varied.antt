@@ -12,7 +12,7 @@ use Rattle.lvm_kept.specs.Contents.{Contents, contents_of}
 use Rattle.lvm_kept.specs.Recovered.{Recovered}
 use Rattle.lvm_stamps.specs.Behind.{ClockIsAhead, IsBehind}
 use Rattle.lvm_rec.specs.declared.homes.Homes.{Homes}
-use Rattle.lvm_varyon.specs.passed.VaryonPlanNames.{HasNoRecord, HasRecord, IsAmbiguous, LacksQuorum, Room, Cause, Refused, Parts, IsReservedFor, ArePlaced, first_core, Core, HasNoPassive, Recopy, ArePlannedInOrder, ArePlanned}
+use Rattle.lvm_varyon.specs.passed.Names.{HasNoRecord, HasRecord, IsAmbiguous, LacksQuorum, Room, Cause, Refused, Parts, IsReservedFor, ArePlaced, first_core, Core, HasNoPassive, Recopy, ArePlannedInOrder, ArePlanned}
 use Rattle.lvm_transfer.specs.Reading.{IsUnwritten, IsRested, IsCutOff}
 use Rattle.lvm_varyon.specs.passed.CoreRefusedCause as cause
 use Rattle.lvm_begin.specs.Beginning.{Beginning, MayBeginAgain}

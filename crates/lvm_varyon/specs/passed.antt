@@ -1,4 +1,2 @@
-pub mod Names
-pub mod VaryonPlan
 pub mod CoreRefusedCause
-pub mod VaryonPlanNames
+pub mod Names

@@ -10,7 +10,7 @@ ghost use Rattle.lvm_begin.specs.Kept.{AgainStaysKept};
 ghost use Rattle.lvm_write.specs.Writes.{DiskWritesLeave};
 ghost use Rattle.lvm_transfer.specs.Reading.{OnlyReads};
 ghost use Rattle.lvm_write.specs.Parts.{Spends};
-ghost use Rattle.lvm_varyon.specs.passed.VaryonPlanNames.{MayCopy, AreApart, EqualisedStaysKept};
+ghost use Rattle.lvm_varyon.specs.passed.Names.{MayCopy, AreApart, EqualisedStaysKept};
 ghost use Rattle.lvm_varyon.specs.Equal.{EqualGives};
 ghost use Rattle.lvm_varyon.specs.Parts.{SurveyGives, plan_beginning, AgainWritesGive};
 

@@ -10,14 +10,3 @@ pub mod TieCommands
 pub mod TieCopies
 pub mod TieGroups
 pub mod Varyon
-pub mod CopyLinesGroup
-pub mod CopyLinesGroupLines
-pub mod CopyLinesNames
-pub mod CopyLinesQuiesce
-pub mod CopyLinesRanges
-pub mod CopyLinesRunning
-pub mod CopyLinesStage
-pub mod CopyLinesTieCommands
-pub mod CopyLinesTieGroups
-pub mod CopyLinesVaryon
-pub mod VolumeLines

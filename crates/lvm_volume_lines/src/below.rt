@@ -6,6 +6,5 @@ pub mod group_lines;
 pub mod mirrors;
 pub mod range_lines;
 pub mod stage;
-pub mod volume_lines;
 
 pub use lvm_range_lines::below::Post;

@@ -1,5 +1,3 @@
 pub mod CoreFaultCommitFault
 pub mod Names
-pub mod CopyPlanCoreFaultCommitFault
-pub mod CopyPlanNames
 pub mod VolumePlanFaultGroupFault

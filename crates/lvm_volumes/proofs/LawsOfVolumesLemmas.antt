@@ -29,7 +29,7 @@ use Rattle.lvm_commit.specs.Committed.{ShowsCommitted, HoldsCommitted}
 use Rattle.lvm_commit.specs.LawsOfVolumes.{VolumeServes}
 use Rattle.lvm_commit.proofs.LawsLemmas.Found.{status_read}
 use Rattle.lvm_session.specs.State.{State, is_there}
-use Rattle.lvm_volume_plan.specs.passed.CopyPlanNames.{LetsCommit, IsHeldSince}
+use Rattle.lvm_volume_plan.specs.passed.Names.{LetsCommit, IsHeldSince}
 use Rattle.lvm_rest.specs.Commands.{HasCopiesOf}
 use Rattle.lvm_rest.proofs.CommandsLemmas.{copies_serve}
 use Rattle.lvm_rest.proofs.Rows.{some_passing}

@@ -1,4 +1,3 @@
-pub mod Names
 pub mod CopyPlanCopiesLemmasFewer
 pub mod CopyPlanCopiesLemmasMore
-pub mod MirrorsNames
+pub mod Names

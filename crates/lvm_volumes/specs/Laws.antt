@@ -10,7 +10,7 @@ use Rattle.lvm_num.specs.Status.{calls_stale}
 use Rattle.lvm_kept.specs.Contents.{Contents}
 use Rattle.lvm_kept.specs.Group.{IsOneOf}
 use Rattle.lvm_session.specs.State.{State, is_there}
-use Rattle.lvm_volume_plan.specs.passed.CopyPlanNames.{IsHeld}
+use Rattle.lvm_volume_plan.specs.passed.Names.{IsHeld}
 use Rattle.lvm_rest.specs.Rest.{IsEven}
 use Rattle.lvm_volume_plan.specs.Copies.{with_copies, first_copies}
 use Rattle.lvm_volume_plan.specs.CopyPlanFaults.{MayBeAdded, MayBeTaken}

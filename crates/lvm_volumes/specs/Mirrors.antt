@@ -13,7 +13,9 @@ use Rattle.lvm_kept.specs.Group.{members_in, IsOneOf}
 use Rattle.lvm_kept.specs.Moments.{Moment}
 use Rattle.lvm_steps.specs.Moments.{Begins}
 use Rattle.lvm_session.specs.State.{Core, State}
-use Rattle.lvm_volume_plan.specs.passed.CopyPlanNames.{Scope, NoPartition, Always, GroupFault, IsRefused}
+use Rattle.lvm_volume_plan.specs.passed.Names.{Scope, NoPartition, Always}
+use Rattle.lvm_volume_plan.specs.declared.fault.GroupFault.{GroupFault}
+use Rattle.lvm_volume_plan.specs.Faults.{IsRefused}
 use Rattle.lvm_volume_plan.specs.passed.VolumePlanFaultGroupFault as fault
 use Rattle.lvm_volumes.specs.Endings.{CommandDarkened, CommandWentOff, CommandStuck}
 use Rattle.lvm_volume_plan.specs.Copies.{with_map, with_copies, first_copies, further_copies}

@@ -1,5 +1,6 @@
 //! The addition and the removal of copies.
-ghost use Rattle.lvm_volume_plan.specs.passed.CopyPlanNames.{state_of, Leaves, IsSettled, TakesCommands, IfOn, command_answer};
+ghost use Rattle.lvm_volume_plan.specs.passed.Names.{state_of, Leaves, IsSettled};
+ghost use Rattle.lvm_volume_plan.specs.Faults.{TakesCommands, IfOn, command_answer};
 ghost use Rattle.lvm_volumes.specs.Endings.{StillHeld, KeepsFresh};
 ghost use Rattle.lvm_volumes.specs.Mirrors.{MklvcopyGives, RmlvcopyGives, to_add, to_take};
 ghost use Rattle.lvm_volumes.specs.MirrorsStages.{MayAdd, adding, AddEnds};
@@ -7,8 +8,8 @@ ghost use Rattle.lvm_volumes.specs.MirrorsStages.{MayAdd, adding, AddEnds};
 use lvm_disk::Shelf;
 use lvm_num::{Pp, Rows};
 use lvm_transfer::Patience;
-use lvm_volume_plan::below::{CommitFault, Driver, GroupFault, Prepared};
-use lvm_volume_plan::{MoreCopies, prepare_fewer};
+use lvm_volume_plan::below::{CommitFault, Driver, Prepared};
+use lvm_volume_plan::{GroupFault, MoreCopies, prepare_fewer};
 use std::alloc::Global;
 
 /// Gives a volume of the group that is on further copies, until it has so many, and answers their partitions. They

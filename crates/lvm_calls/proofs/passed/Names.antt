@@ -1,2 +1,2 @@
 -- Passed on from the crates below.
-pub use Rattle.lvm_facts.proofs.passed.Names.{few_copies}
+pub use Rattle.lvm_facts.proofs.DescriptorLemmas.Members.{few_copies}

@@ -1,2 +1,3 @@
 -- Passed on from the crates below.
-pub use Rattle.lvm_copy_end.proofs.MarksLemmas.{same_due}
+pub use Rattle.lvm_facts.proofs.DescriptorLemmas.Laid.{laid_out}
+pub use Rattle.lvm_facts.proofs.DescriptorLemmas.Members.{copies_in_are, place_of}

@@ -20,8 +20,8 @@ use Rattle.lvm_steps.proofs.MomentsLemmas.Spans.{group_goes_on}
 use Rattle.lvm_kept.specs.Group.{IsOneOf}
 use Rattle.lvm_status.specs.Update.{Updates, Stored, members_there}
 use Rattle.lvm_stamps.specs.Behind.{IsAhead, ClockIsAhead}
-use Rattle.lvm_group.specs.passed.GroupPlanNames.{NoneIsLeft, Room, HaveAllLanded, IsSettled, HasSpareNumbers, ArePlaced, first_core, Core, Parts}
-use Rattle.lvm_group.proofs.passed.GroupPlanNames.{starts_settled, starts_numbered}
+use Rattle.lvm_group.specs.passed.Names.{NoneIsLeft, Room, HaveAllLanded, IsSettled, HasSpareNumbers, ArePlaced, first_core, Core, Parts}
+use Rattle.lvm_group.proofs.passed.Names.{starts_settled, starts_numbered}
 use Rattle.lvm_group.specs.NewGroup.{NewGroup, size_for, new_group, new_status}
 use Rattle.lvm_group.specs.Made.{IsMade}
 use Rattle.lvm_group.specs.Steps.{Stands}

@@ -6,12 +6,12 @@ use Rattle.lvm_num.specs.Buffer.{Buffer}
 use Rattle.lvm_disk.specs.Device.{Device}
 use Rattle.lvm_vol.specs.Log.{Log}
 use Rattle.lvm_session.specs.State.{Core}
-use Rattle.lvm_group_lines.specs.passed.DiskLinesNames.{Post}
+use Rattle.lvm_group_lines.specs.passed.Names.{Post}
 use Rattle.lvm_group_lines.specs.Groups.{VaryoffDoes, VariesOff}
-use Rattle.lvm_group_lines.specs.passed.DiskLinesStage.{EndsSession, EndsUnasked, Aside, most_refusals, GivesBack, HaveRooms, IsBetweenStage, IsFittingStage, IsOn, history_in, history_of, posts_ended, session_in, session_of, shelf_in, state_in, without_facts, Holder, Reply, Stage}
-use Rattle.lvm_group_lines.specs.passed.DiskLinesHolderVariants as holder
-use Rattle.lvm_group_lines.specs.passed.DiskLinesReplyVariants as reply
-use Rattle.lvm_group_lines.proofs.passed.DiskLinesStage.{unasked_as, ended_goes}
+use Rattle.lvm_group_lines.specs.passed.Stage.{EndsSession, EndsUnasked, Aside, most_refusals, GivesBack, HaveRooms, IsBetweenStage, IsFittingStage, IsOn, history_in, history_of, posts_ended, session_in, session_of, shelf_in, state_in, without_facts, Holder, Reply, Stage}
+use Rattle.lvm_group_lines.specs.passed.HolderVariants as holder
+use Rattle.lvm_group_lines.specs.passed.ReplyVariants as reply
+use Rattle.lvm_group_lines.proofs.passed.Stage.{unasked_as, ended_goes}
 use Rattle.lvm_group_lines.proofs.Coming.{held}
 
 -- a session's history is its holder's

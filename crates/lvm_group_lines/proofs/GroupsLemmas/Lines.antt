@@ -10,12 +10,12 @@ use Rattle.lvm_core.specs.Sound.{IsSoundBetween}
 use Rattle.lvm_core.specs.State.{state_of}
 use Rattle.lvm_session.specs.Sound.{IsSound}
 use Rattle.lvm_session.specs.State.{Core}
-use Rattle.lvm_group_lines.specs.passed.DiskLinesHandover.{HasJustBegun, Serves}
-use Rattle.lvm_group_lines.specs.passed.DiskLinesNames.{Post}
-use Rattle.lvm_group_lines.specs.passed.DiskLinesQuiesce.{CauseRose, IsStartedEach}
+use Rattle.lvm_group_lines.specs.passed.Handover.{HasJustBegun, Serves}
+use Rattle.lvm_group_lines.specs.passed.Names.{Post}
+use Rattle.lvm_group_lines.specs.passed.Quiesce.{CauseRose, IsStartedEach}
 use Rattle.lvm_group_lines.specs.Groups.{Brings}
-use Rattle.lvm_group_lines.specs.passed.DiskLinesStage.{patience_of_line, state_in, Holder, Reply}
-use Rattle.lvm_group_lines.specs.passed.DiskLinesHolderVariants as holder
+use Rattle.lvm_group_lines.specs.passed.Stage.{patience_of_line, state_in, Holder, Reply}
+use Rattle.lvm_group_lines.specs.passed.HolderVariants as holder
 use Rattle.lvm_group_lines.proofs.Coming.{Left, held}
 use Rattle.lvm_group_lines.proofs.QuiesceGroupsLemmas.Quieting.{device_outcome}
 

@@ -15,16 +15,16 @@ use Rattle.lvm_core.specs.Held.{StartsHeld}
 use Rattle.lvm_core.specs.Settled.{IsSettled as IsSettledCore}
 use Rattle.lvm_core.specs.State.{state_of}
 use Rattle.lvm_session.specs.State.{Core}
-use Rattle.lvm_group_lines.specs.passed.DiskLinesHandover.{HasJustBegun, IsHistory, Serves}
-use Rattle.lvm_group_lines.proofs.passed.DiskLinesHandover.{varied_on_begins}
-use Rattle.lvm_group_lines.specs.passed.DiskLinesTieCommands.{StandsAfter}
-use Rattle.lvm_group_lines.proofs.passed.DiskLinesTieCommands.{varied_on_stands}
-use Rattle.lvm_group_lines.specs.passed.DiskLinesVaryon.{ComesOn, VaryonRefuses, VaryonGives, log_after}
-use Rattle.lvm_group_lines.proofs.passed.DiskLinesVaryon.{same_orders, wrote_broken, wrote_equalled, wrote_failed}
-use Rattle.lvm_group_lines.specs.passed.DiskLinesQuiesce.{Quiesces, IsFullFor, VariesOnAt, VaryonOnceQuiet}
+use Rattle.lvm_group_lines.specs.passed.Handover.{HasJustBegun, IsHistory, Serves}
+use Rattle.lvm_group_lines.proofs.passed.Handover.{varied_on_begins}
+use Rattle.lvm_group_lines.specs.passed.TieCommands.{StandsAfter}
+use Rattle.lvm_group_lines.proofs.passed.TieCommands.{varied_on_stands}
+use Rattle.lvm_group_lines.specs.passed.Varyon.{ComesOn, VaryonRefuses, VaryonGives, log_after}
+use Rattle.lvm_group_lines.proofs.passed.Varyon.{same_orders, wrote_broken, wrote_equalled, wrote_failed}
+use Rattle.lvm_group_lines.specs.passed.Quiesce.{Quiesces, IsFullFor, VariesOnAt, VaryonOnceQuiet}
 use Rattle.lvm_group_lines.specs.Groups.{itself}
-use Rattle.lvm_group_lines.specs.passed.DiskLinesStage.{StandsAlone, without_facts}
-use Rattle.lvm_group_lines.proofs.passed.DiskLinesStage.{cut_rooms, RefusalLeaves, Rests, Bears, bears_cut}
+use Rattle.lvm_group_lines.specs.passed.Stage.{StandsAlone, without_facts}
+use Rattle.lvm_group_lines.proofs.passed.Stage.{cut_rooms, RefusalLeaves, Rests, Bears, bears_cut}
 use Rattle.lvm_group_lines.proofs.Coming.{CameOn, StayedOff, stays}
 use Rattle.lvm_group_lines.proofs.QuiesceGroupsLemmas.Quieting.{device_outcome, itself_once, on_once, quiet_orders, stayed_once}
 

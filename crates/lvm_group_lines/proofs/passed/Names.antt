@@ -1,2 +1,2 @@
 -- Passed on from the crates below.
-pub use Rattle.lvm_group_lines.proofs.passed.DiskLinesNames.{turn_counts, turn_keeps, loses_both, loses_none, turn_loses, votes_go, turn_marks}
+pub use Rattle.lvm_stage.proofs.passed.Names.{loses_both, loses_none, turn_counts, turn_keeps, turn_loses, turn_marks, votes_go}

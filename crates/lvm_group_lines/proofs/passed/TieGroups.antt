@@ -1,2 +1,2 @@
 -- Passed on from `lvm_tie_commands`.
-pub use Rattle.lvm_group_lines.proofs.passed.DiskLinesTieGroups.{tied_holds}
+pub use Rattle.lvm_stage.proofs.passed.TieGroups.{tied_holds}

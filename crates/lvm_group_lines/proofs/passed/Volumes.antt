@@ -1,2 +1,2 @@
 -- Passed on from `lvm_volumes`.
-pub use Rattle.lvm_group_lines.proofs.passed.DiskLinesVolumes.{keeps_none, leaves_none}
+pub use Rattle.lvm_stage.proofs.passed.Volumes.{keeps_none, leaves_none}

@@ -1,2 +1,2 @@
 -- Passed on from `lvm_driver`.
-pub use Rattle.lvm_group_lines.specs.passed.DiskLinesDriver.{FailsSo, IsAny, IsCausedFor, IsDrained, IsTurn}
+pub use Rattle.lvm_stage.specs.passed.Driver.{FailsSo, IsAny, IsCausedFor, IsDrained, IsTurn}

@@ -1,2 +1,2 @@
 -- Passed on from `lvm_handover`.
-pub use Rattle.lvm_group_lines.specs.passed.DiskLinesEarlier.{AreGone, with_taken}
+pub use Rattle.lvm_stage.specs.passed.Earlier.{AreGone, with_taken}

@@ -1,2 +1,2 @@
 -- Passed on from `lvm_handover`.
-pub use Rattle.lvm_group_lines.specs.passed.DiskLinesHandover.{IsCommanded, IsServed, MayServe, MayHandOver, StaysSound}
+pub use Rattle.lvm_stage.specs.passed.Handover.{HasJustBegun, IsCommanded, IsHistory, IsServed, MayHandOver, MayServe, Serves, StaysSound}

@@ -1,2 +1,2 @@
 -- Passed on from `lvm_stage`: the variants of `Holder`.
-pub use Rattle.lvm_group_lines.specs.passed.DiskLinesHolderVariants.{Empty, Off, Serving}
+pub use Rattle.lvm_stage.specs.declared.holder.Holder.TheVariants.{Empty, Off, Serving}

@@ -1,4 +1,2 @@
 -- Passed on from `lvm_quiesce`.
-pub use Rattle.lvm_group_lines.specs.passed.DiskLinesQuiesce.{AskedAtRest, CauseRose, IsBehindEach, IsFullFor, KeptFrom, MkvgOnceQuiet, Quiesces}
-pub use Rattle.lvm_group_lines.specs.passed.DiskLinesQuiesce.{RangeOnceQuiet, RangeStaysOut, ReadOnceQuiet, ReadsAtRest, RefusedAtOnce, RejectedAtOnce}
-pub use Rattle.lvm_group_lines.specs.passed.DiskLinesQuiesce.{StayedOut, StaysOut, VaryonOnceQuiet, WentQuiet, WriteOnceQuiet, WritesAtRest}
+pub use Rattle.lvm_stage.specs.passed.Quiesce.{AskedAtRest, BringsOnEach, CauseRose, ClockIsAheadEach, GivesOnceQuiet, IsAheadEach, IsBehindEach, IsFullFor, IsStartedEach, KeptFrom, MkvgOnceQuiet, Quiesces, RangeOnceQuiet, RangeStaysOut, ReadOnceQuiet, ReadsAtRest, RefusedAtOnce, RejectedAtOnce, StayedOut, StaysOut, VariesOnAt, VaryonOnceQuiet, WentQuiet, WriteOnceQuiet, WritesAtRest}

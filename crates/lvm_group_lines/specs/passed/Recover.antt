@@ -1,2 +1,2 @@
 -- Passed on from `lvm_recover`.
-pub use Rattle.lvm_group_lines.specs.passed.DiskLinesRecover.{HasNoPassive}
+pub use Rattle.lvm_stage.specs.passed.Recover.{HasNoPassive}

@@ -1,2 +1,2 @@
 -- Passed on from `lvm_stage`: the variants of `Reply`.
-pub use Rattle.lvm_group_lines.specs.passed.DiskLinesReplyVariants.{Answers, Lines, Ok, Posted, Refused, Silent, Stepped, Synced}
+pub use Rattle.lvm_stage.specs.declared.reply.Reply.TheVariants.{Answers, Lines, Ok, Posted, Refused, Silent, Stepped, Synced}

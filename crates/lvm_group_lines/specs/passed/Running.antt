@@ -1,2 +1,2 @@
 -- Passed on from `lvm_tie`.
-pub use Rattle.lvm_group_lines.specs.passed.DiskLinesRunning.{IsBefore, LeavesSession, RunsOn}
+pub use Rattle.lvm_stage.specs.passed.Running.{IsBefore, LeavesSession, RunsOn}

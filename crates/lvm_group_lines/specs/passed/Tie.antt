@@ -1,2 +1,2 @@
 -- Passed on from `lvm_tie`.
-pub use Rattle.lvm_group_lines.specs.passed.DiskLinesTie.{IsGood, IsStamped, IsTied, LeavesDescriptors, moment_of}
+pub use Rattle.lvm_stage.specs.passed.Tie.{IsGood, IsStamped, IsTied, LeavesDescriptors, moment_of}

@@ -1,2 +1,2 @@
 -- Passed on from `lvm_tie_commands`.
-pub use Rattle.lvm_group_lines.specs.passed.DiskLinesTieCopies.{KeepsShownOf, MayServeWith, added_by}
+pub use Rattle.lvm_stage.specs.passed.TieCopies.{KeepsShownOf, MayServeWith, added_by}

@@ -1,2 +1,2 @@
 -- Passed on from `lvm_varyon`.
-pub use Rattle.lvm_group_lines.specs.passed.DiskLinesVaryon.{HasWritten, IsRecovered, IsRestated, MayComeOn, Recopy, VaryonRefuses, answering, beginning, records_on}
+pub use Rattle.lvm_stage.specs.passed.Varyon.{ComesOn, HasWritten, IsRecovered, IsRestated, MayComeOn, Recopy, VaryonGives, VaryonRefuses, answering, beginning, log_after, records_on}

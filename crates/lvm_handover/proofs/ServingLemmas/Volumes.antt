@@ -22,7 +22,7 @@ use Rattle.lvm_kept.specs.Group.{IsAlike, IsOneOf}
 use Rattle.lvm_status.specs.Update.{members_there}
 use Rattle.lvm_commit.specs.Settling.{NoneIsLeft, SpendsNumbers}
 use Rattle.lvm_commit.proofs.AmongLemmas.{contains, of_map}
-use Rattle.lvm_tie.proofs.passed.TieBeginsNames.{row_is_volume}
+use Rattle.lvm_tie.proofs.passed.Names.{row_is_volume}
 use Rattle.lvm_next.proofs.NextLemmas.{copy_is_placed, is_member_of}
 use Rattle.lvm_session.specs.State.{Core, State, is_there}
 use Rattle.lvm_session.specs.Judging.{copies_in, is_missing, is_settled, is_wanted_stale}
@@ -30,7 +30,7 @@ use Rattle.lvm_session.specs.Causes.{is_held_stale}
 use Rattle.lvm_session.specs.Left.{updates_left}
 use Rattle.lvm_session.specs.Marks.{is_among}
 use Rattle.lvm_session.specs.Sound.{IsGoing, IsSound, may_be_fresh, stays_fresh}
-use Rattle.lvm_handover.specs.passed.EarlierNames.{KeepsStatus, Leaves, NoPartition, WasLeftBehind, IsSettled}
+use Rattle.lvm_handover.specs.passed.Names.{KeepsStatus, Leaves, NoPartition, WasLeftBehind, IsSettled}
 use Rattle.lvm_handover.proofs.passed.Tie.{or_true}
 use Rattle.lvm_volumes.specs.passed.VolumePlanFaultGroupFault as fault
 use Rattle.lvm_volumes.specs.passed.Names.{NewVolume, HasSpareRoom, row_for, with_volume, without_volume}

@@ -1,5 +1,10 @@
 -- Passed on from `lvm_ranges`.
-pub use Rattle.lvm_handover.specs.passed.EarlierRanges.{AllMoved, AnyFailed, AreApart, AreGot, AreSince, AskRangeFault, AskRangeGives, Asks, AwaitCosts}
-pub use Rattle.lvm_handover.specs.passed.EarlierRanges.{AwaitEnds, FinishCosts, FinishGives, Finished, GoingCause, HasEndedWell, HavePiecesLanded, IsAskedFor}
-pub use Rattle.lvm_handover.specs.passed.EarlierRanges.{IsRead, IsUnfinished, KeepsEarlier, KeepsOthers, KeepsTable, LastEnded, Moves, NoMove, OneMove}
-pub use Rattle.lvm_handover.specs.passed.EarlierRanges.{RangeCause, StepEnds, Stuck, TakesRange, TurnsFor, WasStuck, range_fault}
+pub use Rattle.lvm_ranges.specs.Asking.{AskRangeGives, Asks, IsAskedFor, range_fault}
+pub use Rattle.lvm_ranges.specs.Choosing.{AreSince}
+pub use Rattle.lvm_ranges.specs.Finishing.{AnyFailed, FinishCosts, FinishGives, Finished, GoingCause, RangeCause, TakesRange, WasStuck}
+pub use Rattle.lvm_ranges.specs.Keeping.{AreApart, KeepsEarlier, KeepsOthers, KeepsTable}
+pub use Rattle.lvm_ranges.specs.Landing.{AwaitCosts, AwaitEnds, HavePiecesLanded, IsUnfinished, TurnsFor}
+pub use Rattle.lvm_ranges.specs.Reading.{AreGot, HasEndedWell, IsRead}
+pub use Rattle.lvm_ranges.specs.Stepping.{AllMoved, LastEnded, Moves, NoMove, OneMove, StepEnds}
+pub use Rattle.lvm_ranges.specs.declared.landing.Stuck.{Stuck}
+pub use Rattle.lvm_ranges.specs.declared.refusal.AskRangeFault.{AskRangeFault}

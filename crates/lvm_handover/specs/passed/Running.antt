@@ -1,2 +1,2 @@
 -- Passed on from `lvm_tie`.
-pub use Rattle.lvm_handover.specs.passed.EarlierRunning.{IsBefore, LeavesSession, RunsOn}
+pub use Rattle.lvm_ranges.specs.passed.Running.{IsBefore, LeavesSession, RunsOn}

@@ -1,2 +1,2 @@
 -- Passed on from `lvm_tie`.
-pub use Rattle.lvm_tie.specs.Begins.{NotesAreHomeIn, IsRested, IsResting, MembersShow, StandsAtRest, shown_to}
+pub use Rattle.lvm_tie.specs.Begins.{IsRested, IsResting, MembersShow, NotesAreHomeIn, StandsAtRest, shown_to}

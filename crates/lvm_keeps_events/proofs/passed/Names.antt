@@ -1,5 +1,6 @@
 -- Passed on from the crates below.
 pub use Rattle.lvm_calls.proofs.LogLemmas.{below_next}
+pub use Rattle.lvm_keeps.proofs.DarkLemmas.Ending.{back_long, hands_long}
 pub use Rattle.lvm_keeps.proofs.EnabledLemmas.{pins_entry}
 pub use Rattle.lvm_keeps.proofs.KeepsLemmas.Landing.{landing_is_caused, witness}
 pub use Rattle.lvm_keeps.proofs.KeepsLemmas.Losing.{loss_is_caused}

@@ -10,17 +10,13 @@ use Rattle.lvm_parse.specs.Grammar.{line_of}
 use Rattle.lvm_parse.specs.Answering.{IsMkvgLine}
 use Rattle.lvm_core.specs.declared.parts.Room.{Room}
 use Rattle.lvm_session.specs.State.{Core}
-use Rattle.lvm_volume_lines.specs.passed.CopyLinesStage.{CommandEnds, IsAsked, IsLeftBy, is_unheard, GoesOn, InFull, Shows, WithoutMemory, most_refusals, IsBetweenStage, IsFittingStage}
-use Rattle.lvm_volume_lines.specs.passed.CopyLinesStage.{history_in, history_of, session_in, shelf_in, session_of, state_in, IsBetween, ScriptState, without_facts}
-use Rattle.lvm_volume_lines.specs.passed.CopyLinesStage.{Holder, Reply, Stage}
-use Rattle.lvm_volume_lines.specs.passed.CopyLinesGroupLines.{MkvgDoes, NoMemoryForLine, NoMkvgWhileOn, DiskShows, DiskOfGroup, GroupShows, GroupThatIsOn}
-use Rattle.lvm_volume_lines.specs.passed.CopyLinesGroupLines.{ListsGroup, ListsMember, ListsVolume, NoGroupForDisk, NoGroupForVolume, NoGroupToList}
-use Rattle.lvm_volume_lines.specs.passed.CopyLinesGroupLines.{NoSuchMember, NoSuchVolume, OtherGroup, VolumeOfGroup, VolumeShows}
+use Rattle.lvm_volume_lines.specs.passed.Stage.{CommandEnds, GoesOn, Holder, InFull, IsAsked, IsBetween, IsBetweenStage, IsFittingStage, IsLeftBy, Reply, ScriptState, Shows, Stage, WithoutMemory, history_in, history_of, is_unheard, most_refusals, session_in, session_of, shelf_in, state_in, without_facts}
+use Rattle.lvm_volume_lines.specs.passed.GroupLines.{DiskOfGroup, DiskShows, GroupShows, GroupThatIsOn, ListsGroup, ListsMember, ListsVolume, MkvgDoes, NoGroupForDisk, NoGroupForVolume, NoGroupToList, NoMemoryForLine, NoMkvgWhileOn, NoSuchMember, NoSuchVolume, OtherGroup, VolumeOfGroup, VolumeShows}
 use Rattle.lvm_line.specs.Lines.{CommandDoes, CommandIsDone, LineDoes, IsLine, IsOrder, asked_after, role_of}
-use Rattle.lvm_volume_lines.specs.passed.CopyLinesHolderVariants as holder
-use Rattle.lvm_volume_lines.specs.passed.CopyLinesRefusalVariants as refusal
-use Rattle.lvm_volume_lines.specs.passed.CopyLinesReplyVariants as reply
-use Rattle.lvm_volume_lines.proofs.passed.CopyLinesStage.{one_refused, same_goes, asked_goes}
+use Rattle.lvm_volume_lines.specs.passed.HolderVariants as holder
+use Rattle.lvm_volume_lines.specs.passed.RefusalVariants as refusal
+use Rattle.lvm_volume_lines.specs.passed.ReplyVariants as reply
+use Rattle.lvm_volume_lines.proofs.passed.Stage.{one_refused, same_goes, asked_goes}
 
 -- ---- how many refusals a listing answers
 

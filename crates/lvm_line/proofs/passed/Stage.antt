@@ -1,2 +1,2 @@
 -- Passed on from `lvm_stage`.
-pub use Rattle.lvm_volume_lines.proofs.passed.CopyLinesStage.{over_goes}
+pub use Rattle.lvm_volume_lines.proofs.passed.Stage.{over_goes}

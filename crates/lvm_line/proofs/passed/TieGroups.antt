@@ -1,2 +1,2 @@
 -- Passed on from `lvm_tie_commands`.
-pub use Rattle.lvm_volume_lines.proofs.passed.CopyLinesTieGroups.{tied_holds}
+pub use Rattle.lvm_volume_lines.proofs.passed.TieGroups.{tied_holds}

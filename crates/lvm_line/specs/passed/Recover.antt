@@ -1,2 +1,2 @@
 -- Passed on from `lvm_recover`.
-pub use Rattle.lvm_volume_lines.specs.passed.CopyLinesRecover.{HasNoPassive}
+pub use Rattle.lvm_volume_lines.specs.passed.Recover.{HasNoPassive}

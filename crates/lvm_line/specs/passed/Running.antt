@@ -1,2 +1,2 @@
 -- Passed on from `lvm_tie`.
-pub use Rattle.lvm_volume_lines.specs.passed.CopyLinesRunning.{LeavesSession, RunsOn}
+pub use Rattle.lvm_volume_lines.specs.passed.Running.{LeavesSession, RunsOn}

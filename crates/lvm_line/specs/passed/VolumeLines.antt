@@ -1,4 +1,2 @@
 -- Passed on from `lvm_volume_lines`.
-pub use Rattle.lvm_volume_lines.specs.passed.VolumeLines.{BusyMklv, BusyRmlv, Drains, IsDone, IsUndrained, MakesVolume, MklvDoes, MklvEnds, MklvFails}
-pub use Rattle.lvm_volume_lines.specs.passed.VolumeLines.{NoGroupForMklv, NoGroupForRmlv, NoVolumeForRmlv, RemovesVolume, RmlvDoes, RmlvEnds, RmlvFails}
-pub use Rattle.lvm_volume_lines.specs.passed.VolumeLines.{StaysOn, UndrainedMklv, UndrainedRmlv, refusal_for, wanted}
+pub use Rattle.lvm_volume_lines.specs.Volumes.{BusyMklv, BusyRmlv, Drains, IsDone, IsUndrained, MakesVolume, MklvDoes, MklvEnds, MklvFails, NoGroupForMklv, NoGroupForRmlv, NoVolumeForRmlv, RemovesVolume, RmlvDoes, RmlvEnds, RmlvFails, StaysOn, UndrainedMklv, UndrainedRmlv, refusal_for, wanted}

@@ -1,3 +1,3 @@
 -- Passed on from `lvm_group_lines`.
-pub use Rattle.lvm_group_lines.specs.passed.DiskLines.{ArrangeDoes, CutDoes, CutNotPlanned, IsArranged, NoReadWhileOn, NoWriteWhileOn, NotPlanned}
-pub use Rattle.lvm_group_lines.specs.passed.DiskLines.{NotThere, PowerIsCut, ReadDoes, ReadGoes, WriteDoes, WriteGoes, refusal_by}
+pub use Rattle.lvm_group_lines.specs.Shelves.{ArrangeDoes, CutDoes, CutNotPlanned, IsArranged, NotPlanned, NotThere, PowerIsCut}
+pub use Rattle.lvm_group_lines.specs.Disks.{NoReadWhileOn, NoWriteWhileOn, ReadDoes, ReadGoes, WriteDoes, WriteGoes, refusal_by}

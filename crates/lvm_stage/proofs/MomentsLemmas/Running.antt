@@ -27,10 +27,10 @@ use Rattle.lvm_session.specs.Sound.{IsLit, IsSound, is_dark, waits}
 use Rattle.lvm_session.specs.State.{Core, State, state}
 use Rattle.lvm_status.specs.Members.{HasItsRows}
 use Rattle.lvm_quiesce.specs.passed.Names.{HaveAllLanded}
-use Rattle.lvm_tie_commands.specs.passed.TieCopiesTie.{IsGood, moment_of}
-use Rattle.lvm_tie_commands.specs.passed.TieCopiesRunning.{IsBefore, LeavesSession}
+use Rattle.lvm_tie_commands.specs.passed.Tie.{IsGood, moment_of}
+use Rattle.lvm_tie_commands.specs.passed.Running.{IsBefore, LeavesSession}
 use Rattle.lvm_quiesce.specs.Behind.{IsAheadEach}
-use Rattle.lvm_tie_commands.specs.passed.TieCommands.{StandsAfter}
+use Rattle.lvm_tie_commands.specs.Standing.{StandsAfter}
 use Rattle.lvm_stage.specs.Moments.{GoesOn, HasBegunHeld, IsAlone, IsRequesting, Role}
 use Rattle.lvm_stage.specs.Replies.{IsStuck, most_refusals}
 use Rattle.lvm_stage.specs.Stages.{IsClosed}

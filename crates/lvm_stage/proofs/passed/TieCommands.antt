@@ -1,2 +1,6 @@
 -- Passed on from `lvm_tie_commands`.
-pub use Rattle.lvm_tie_commands.proofs.passed.TieCommands.{made_stands, mklv_goes_on, rests, rmlv_goes_on, spans_follow, varied_on_stands}
+pub use Rattle.lvm_tie_commands.proofs.BeginningLemmas.{made_stands, varied_on_stands}
+pub use Rattle.lvm_tie_commands.proofs.CommandsLemmas.Making.{mklv_goes_on}
+pub use Rattle.lvm_tie_commands.proofs.Resting.{rests}
+pub use Rattle.lvm_tie_commands.proofs.CommandsLemmas.Removing.{rmlv_goes_on}
+pub use Rattle.lvm_tie_commands.proofs.MomentsLemmas.{spans_follow}

@@ -1,2 +1,2 @@
 -- Passed on from `lvm_tie`.
-pub use Rattle.lvm_tie_commands.specs.passed.TieCopiesRunning.{IsBefore, LeavesSession, RunsOn}
+pub use Rattle.lvm_tie_commands.specs.passed.Running.{IsBefore, LeavesSession, RunsOn}

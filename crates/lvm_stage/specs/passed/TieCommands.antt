@@ -1,3 +1,3 @@
 -- Passed on from `lvm_tie_commands`.
-pub use Rattle.lvm_tie_commands.specs.passed.TieCommands.{IsAloneAtFirst, IsLeftStanding, IsLeftStandingSince, MayBeCommanded, StandsAfter}
-pub use Rattle.lvm_tie_commands.specs.passed.TieCommands.{StandsSince}
+pub use Rattle.lvm_tie_commands.specs.Commands.{IsAloneAtFirst, IsLeftStanding, IsLeftStandingSince, MayBeCommanded}
+pub use Rattle.lvm_tie_commands.specs.Standing.{StandsAfter, StandsSince}

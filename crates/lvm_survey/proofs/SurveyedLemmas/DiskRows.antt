@@ -12,7 +12,7 @@ use Rattle.lvm_survey.specs.declared.row.SurveyRow.{SurveyRow}
 use Rattle.lvm_survey.specs.Reading.{home_of, under, IsArea}
 use Rattle.lvm_survey.specs.Surveyed.{home_on, IsEmpty, IsRead}
 use Rattle.lvm_survey.specs.Surveying.{IsRowOfArea, IsSmall}
-use Rattle.lvm_survey.proofs.passed.AreaNames.{or_got}
+use Rattle.lvm_survey.proofs.passed.Names.{or_got}
 use Rattle.lvm_survey.proofs.AreaReadingLemmas.{is_there, where_it_has}
 
 -- ---- whether a disk has records

@@ -1,2 +1,2 @@
 -- Passed on from the crates below.
-pub use Rattle.lvm_survey.specs.passed.AreaTransferMovesMoved.{Dark, Done, Failed, Stuck}
+pub use Rattle.lvm_transfer.specs.declared.moves.Moved.TheVariants.{Dark, Done, Failed, Stuck}

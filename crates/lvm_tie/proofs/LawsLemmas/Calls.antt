@@ -27,7 +27,7 @@ use Rattle.lvm_session.specs.Dark.{all_dark, hand_of_copy, is_cut}
 use Rattle.lvm_session.specs.State.{Core, State, state}
 use Rattle.lvm_session.specs.Sound.{IsSound}
 use Rattle.lvm_session.specs.Turns.{ArrangesSession}
-use Rattle.lvm_keeps_events.proofs.passed.KeepsTurnNames.{back_long, hands_long}
+use Rattle.lvm_keeps_events.proofs.passed.Names.{back_long, hands_long}
 use Rattle.lvm_tie.specs.GoingOn.{GoesOn}
 use Rattle.lvm_tie.specs.Landings.{HasCausesSince}
 use Rattle.lvm_tie.specs.Spares.{LeavesDescriptors, SparesDescriptors}

@@ -38,7 +38,7 @@ use Rattle.lvm_session.specs.Requests.{IsOpenOne, IsTarget}
 use Rattle.lvm_session.specs.State.{State}
 use Rattle.lvm_session.specs.Turns.{FinishMakes, Finishes, Makes, Moves, NoStart, OnMakes, TurnMakes, WasDark, WasOff, WasOn}
 use Rattle.lvm_session.specs.Sound.{IsSound}
-use Rattle.lvm_keeps_events.proofs.passed.KeepsTurnNames.{all_at}
+use Rattle.lvm_keeps_events.proofs.passed.Names.{all_at}
 use Rattle.lvm_tie.specs.Spares.{LeavesDescriptors}
 use Rattle.lvm_tie.specs.Stamps.{AreValid}
 use Rattle.lvm_tie.proofs.LandingsLemmas.Causes.{waits_unless}

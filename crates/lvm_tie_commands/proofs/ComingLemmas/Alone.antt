@@ -23,9 +23,9 @@ use Rattle.lvm_session.specs.State.{Core, State, is_there}
 use Rattle.lvm_varyon.specs.passed.Names.{Beginning, IsOfParts, Part, TheDescriptor, TheNotes, TheStatus, new_order}
 use Rattle.lvm_settled.specs.passed.Names.{Room}
 use Rattle.lvm_group.specs.Made.{IsMade, beginning_for}
-use Rattle.lvm_group.specs.passed.GroupPlan.{NewGroup, among, new_group, size_for}
+use Rattle.lvm_group.specs.NewGroup.{NewGroup, among, new_group, size_for}
 use Rattle.lvm_group.specs.Shown.{HasGroup}
-use Rattle.lvm_group.proofs.passed.GroupPlan.{member_among, nothing_missing}
+use Rattle.lvm_group.proofs.NewGroupLemmas.Groups.{member_among, nothing_missing}
 use Rattle.lvm_tie_commands.specs.Coming.{MadeAlone}
 
 -- what the parts of a beginning bring goes to its targets

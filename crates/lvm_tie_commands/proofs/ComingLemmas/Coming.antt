@@ -44,9 +44,10 @@ use Rattle.lvm_settled.proofs.passed.Names.{empty_names_none}
 use Rattle.lvm_mwc.specs.Cache.{is_named as is_named_by}
 use Rattle.lvm_kept.proofs.CommittedLemmas.Finding.{images_within}
 use Rattle.lvm_varyon.proofs.passed.Names.{quiet_is_even}
-use Rattle.lvm_group.specs.passed.GroupPlan.{given_up, new_group, new_status}
-use Rattle.lvm_tie.specs.passed.TieBeginsNames.{NoneIsBehind, IsGood, moment_of}
-use Rattle.lvm_tie.proofs.passed.TieBeginsNames.{none_is_left_behind}
+use Rattle.lvm_group.specs.NewGroup.{given_up, new_group, new_status}
+use Rattle.lvm_tie.specs.passed.Names.{NoneIsBehind}
+use Rattle.lvm_tie.specs.Tied.{IsGood, moment_of}
+use Rattle.lvm_tie.proofs.passed.Names.{none_is_left_behind}
 use Rattle.lvm_tie.specs.Begins.{BeginsSound, StandsAtRest, Start, begun, shown_to}
 use Rattle.lvm_tie.proofs.BeginsLemmas.Beginning.{begins_good}
 use Rattle.lvm_tie_commands.specs.Coming.{IsBegun, IsDriven, IsMadeEven, LeadsTo, MadeServes, VariedIsMadeEven, VariedOnServes}

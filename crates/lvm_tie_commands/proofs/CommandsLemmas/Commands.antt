@@ -22,7 +22,7 @@ use Rattle.lvm_session.specs.Judging.{is_missing}
 use Rattle.lvm_session.specs.Sound.{IsSound}
 use Rattle.lvm_handover.specs.passed.Names.{moment_of, IsHeld, NotesAreHome, StartsHeld, EntersVolumes, IsOfCommand, Leaves, Scope, IsSettled, GroupFault, IfOn, is_over}
 use Rattle.lvm_handover.specs.passed.Volumes.{IfAlone, StillHeld}
-use Rattle.lvm_settled.specs.passed.EvenNames.{IsEven}
+use Rattle.lvm_settled.specs.passed.Names.{IsEven}
 use Rattle.lvm_settled.specs.Even.{AreWanted}
 use Rattle.lvm_handover.specs.passed.Tie.{SparesDescriptors, IsTied}
 use Rattle.lvm_handover.specs.passed.TieBegins.{shown_to}

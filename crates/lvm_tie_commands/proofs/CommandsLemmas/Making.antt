@@ -21,8 +21,8 @@ use Rattle.lvm_handover.proofs.passed.Volumes.{free_of}
 use Rattle.lvm_handover.specs.Serving.{IsCommanded}
 use Rattle.lvm_settled.proofs.EvenLemmas.Even.{mklv_keeps_even}
 use Rattle.lvm_settled.proofs.EvenLemmas.Off.{zeroed_volume_is_even}
-use Rattle.lvm_settled.specs.passed.EvenNames.{IsEven}
-use Rattle.lvm_settled.proofs.passed.EvenNames.{mib_positive}
+use Rattle.lvm_settled.specs.passed.Names.{IsEven}
+use Rattle.lvm_settled.proofs.passed.Names.{mib_positive}
 use Rattle.lvm_handover.specs.passed.TieBegins.{shown_to}
 use Rattle.lvm_tie_commands.specs.Commands.{IsAloneAtFirst, IsLeftStandingSince, MayBeCommanded, MklvGoesOn}
 use Rattle.lvm_tie_commands.proofs.CommandsLemmas.Commands.{KeepsEven, is_alone, keeps_on, left_standing, on_all}

@@ -18,7 +18,8 @@ use Rattle.lvm_map.specs.FirstFit.{IsAllocated, more_copies}
 use Rattle.lvm_map.proofs.FirstFitLemmas.OneAnswer.{map_is_one}
 use Rattle.lvm_session.specs.State.{Core, State, is_there}
 use Rattle.lvm_tie_commands.specs.passed.VolumePlanFaultGroupFault as fault
-use Rattle.lvm_volumes.specs.passed.MirrorsNames.{StillHeld, further_copies, with_copies, with_map, HasFurtherPlaces, IsEven}
+use Rattle.lvm_volumes.specs.Endings.{StillHeld}
+use Rattle.lvm_volumes.specs.passed.Names.{further_copies, with_copies, with_map, HasFurtherPlaces, IsEven}
 use Rattle.lvm_volumes.specs.Mirrors.{AreAdded, IsFurther, IsWithMore, MklvcopyGives, to_add}
 use Rattle.lvm_volumes.proofs.LawsLemmas.{more_are_even}
 use Rattle.lvm_tie_commands.specs.passed.Handover.{IsCommanded}

@@ -11,7 +11,8 @@ use Rattle.lvm_steps.specs.Moments.{Keeps}
 use Rattle.lvm_tie_commands.specs.passed.Names.{IsOneByAllOn, moment_of, NoPartition, IsSettled, GroupFault, IfOn}
 use Rattle.lvm_session.specs.State.{Core, State, is_there}
 use Rattle.lvm_tie_commands.specs.passed.VolumePlanFaultGroupFault as fault
-use Rattle.lvm_volumes.specs.passed.MirrorsNames.{StillHeld, first_copies, with_copies, MayBeTaken, IsEven}
+use Rattle.lvm_volumes.specs.Endings.{StillHeld}
+use Rattle.lvm_volumes.specs.passed.Names.{first_copies, with_copies, MayBeTaken, IsEven}
 use Rattle.lvm_volumes.specs.Mirrors.{AreTaken, IsWithFirst, RmlvcopyGives, to_take}
 use Rattle.lvm_volumes.proofs.LawsLemmas.{first_are_even}
 use Rattle.lvm_tie_commands.specs.passed.Handover.{IsCommanded}

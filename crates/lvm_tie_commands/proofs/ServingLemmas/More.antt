@@ -15,9 +15,10 @@ use Rattle.lvm_session.specs.Marks.{is_among}
 use Rattle.lvm_session.specs.Sound.{IsSound}
 use Rattle.lvm_tie_commands.specs.passed.Names.{Leaves, NoPartition, IsSettled}
 use Rattle.lvm_next.proofs.NextLemmas.{copy_is_placed, is_member_of}
-use Rattle.lvm_volumes.proofs.passed.MirrorsNames.{row_is_volume}
+use Rattle.lvm_volumes.proofs.passed.Names.{row_is_volume}
 use Rattle.lvm_tie_commands.specs.passed.VolumePlanFaultGroupFault as fault
-use Rattle.lvm_volumes.specs.passed.MirrorsNames.{HasFresh, KeepsFresh, StillHeld, further_copies, with_copies, with_map, HasFurtherPlaces}
+use Rattle.lvm_volumes.specs.Endings.{HasFresh, KeepsFresh, StillHeld}
+use Rattle.lvm_volumes.specs.passed.Names.{further_copies, with_copies, with_map, HasFurtherPlaces}
 use Rattle.lvm_volumes.proofs.passed.CopyPlanCopiesLemmasMore as more
 use Rattle.lvm_volumes.specs.Mirrors.{AreAdded, IsFurther, IsWithMore, to_add}
 use Rattle.lvm_tie_commands.proofs.passed.Handover.{copies_at, found, had_fresh, its_row, may_serve, refused_serves}

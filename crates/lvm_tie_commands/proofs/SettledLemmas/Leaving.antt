@@ -29,8 +29,10 @@ use Rattle.lvm_session.specs.Placed.{ArePlaced}
 use Rattle.lvm_session.specs.Sound.{IsOn, IsSound, count_if, has_number, hands_with, is_dark, is_hand, out_with, waits}
 use Rattle.lvm_settled.specs.passed.Names.{HaveAllLanded, IsFittingBetween, IsQuiet, IsSoundBetween, IsSettled}
 use Rattle.lvm_settled.specs.Settled.{IsKnown}
-use Rattle.lvm_tie.specs.passed.TieBeginsNames.{update_of, SparesOn, IsTied, moment_of}
-use Rattle.lvm_tie.proofs.passed.TieBeginsNames.{tied_matches}
+use Rattle.lvm_tie.specs.Seen.{update_of}
+use Rattle.lvm_tie.specs.Spares.{SparesOn}
+use Rattle.lvm_tie.specs.Tied.{IsTied, moment_of}
+use Rattle.lvm_tie.proofs.TiedLemmas.Tied.{tied_matches}
 use Rattle.lvm_tie.specs.Begins.{IsRested, IsResting, ShowsIts}
 use Rattle.lvm_tie.proofs.BeginsLemmas.Rested.{tied_rests}
 use Rattle.lvm_tie_commands.specs.Settled.{IsSettledAfter, MayBeLeft, MayServe, TiedHolds, TiedSettles}

@@ -7,7 +7,7 @@ use Rattle.lvm_vol.specs.Legal.{begins_in}
 use Rattle.lvm_session.specs.declared.flown.Flown.{Flown}
 use Rattle.lvm_session.specs.State.{Core, State}
 use Rattle.lvm_session.specs.Owners.{AreRows}
-use Rattle.lvm_tie.specs.passed.TieBeginsNames.{IsTied}
+use Rattle.lvm_tie.specs.Tied.{IsTied}
 use Rattle.lvm_tie.specs.Begins.{FollowsOn, IsResting, StandsAtRest}
 use Rattle.lvm_tie.proofs.BeginsLemmas.Resting.{rest_ties}
 use Rattle.lvm_tie_commands.specs.Settled.{IsSettledAfter, MayServe, SettledServes, SettledTies}

@@ -1,2 +1,3 @@
 -- Passed on from `lvm_handover`.
-pub use Rattle.lvm_handover.proofs.passed.Earlier.{open_with, resting_with, stays_beside}
+pub use Rattle.lvm_handover.proofs.EarlierLemmas.Resting.{open_with, resting_with}
+pub use Rattle.lvm_handover.proofs.EarlierLemmas.Running.{stays_beside}

@@ -1,2 +1,2 @@
 -- Passed on from `lvm_handover`.
-pub use Rattle.lvm_handover.specs.passed.Earlier.{AreGone, with_taken}
+pub use Rattle.lvm_handover.specs.Earlier.{AreGone, with_taken}

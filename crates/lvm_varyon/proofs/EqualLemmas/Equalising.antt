@@ -9,7 +9,7 @@ use Rattle.lvm_write.specs.Parts.{Spends}
 use Rattle.lvm_write.proofs.PartsLemmas.Transfers.{spends_then, spent_then}
 use Rattle.lvm_begin.specs.declared.begin.Begun.{Begun}
 use Rattle.lvm_begin.specs.declared.begin.Begun.TheVariants as begun
-use Rattle.lvm_varyon.specs.passed.VaryonPlanNames.{Recopy, AllGive, StopsAtOne, EqualiseGives}
+use Rattle.lvm_varyon.specs.passed.Names.{Recopy, AllGive, StopsAtOne, EqualiseGives}
 use Rattle.lvm_varyon.specs.Equal.{CopyFailed, ForgettingFailed, HaveBeenCopied, MakesEqual, StopsEqualling}
 use Rattle.lvm_varyon.specs.Writing.{IsStillOut}
 

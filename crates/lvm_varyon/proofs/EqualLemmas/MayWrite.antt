@@ -6,8 +6,8 @@ use Rattle.lvm_num.specs.Record.{longest_content}
 use Rattle.lvm_disk.specs.Device.{Device}
 use Rattle.lvm_survey.specs.declared.row.Survey.{Survey}
 use Rattle.lvm_survey.specs.Surveyed.{surveyed}
-use Rattle.lvm_varyon.specs.passed.VaryonPlanNames.{Room}
-use Rattle.lvm_varyon.proofs.passed.VaryonPlanNames.{descriptor_fits, planned_may_be_made, planned_are_apart}
+use Rattle.lvm_varyon.specs.passed.Names.{Room}
+use Rattle.lvm_varyon.proofs.passed.Names.{descriptor_fits, planned_may_be_made, planned_are_apart}
 use Rattle.lvm_varyon.specs.declared.plan.Plan.{Plan}
 use Rattle.lvm_varyon.specs.Equal.{MayWritePlan}
 use Rattle.lvm_varyon.specs.Planned.{IsPlan}

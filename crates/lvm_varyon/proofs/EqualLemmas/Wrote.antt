@@ -7,7 +7,7 @@ use Rattle.lvm_num.specs.Record.{Stamped}
 use Rattle.lvm_disk.specs.Counts.{Rose}
 use Rattle.lvm_disk.specs.Device.{Device}
 use Rattle.lvm_kept.specs.Contents.{Contents}
-use Rattle.lvm_varyon.specs.passed.VaryonPlanNames.{MayBeFound, ArePlanned, Recopy, IsOfCopies, sources_and_targets, Cause}
+use Rattle.lvm_varyon.specs.passed.Names.{MayBeFound, ArePlanned, Recopy, IsOfCopies, sources_and_targets, Cause}
 use Rattle.lvm_varyon.proofs.Beside.{beside_found, both_beside, copies_beside, notes_beside}
 use Rattle.lvm_kept.specs.Torn.{IsOfNote}
 use Rattle.lvm_rec.specs.declared.homes.Homes.{Homes}

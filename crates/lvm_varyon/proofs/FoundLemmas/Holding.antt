@@ -20,8 +20,8 @@ use Rattle.lvm_rec.specs.declared.homes.Homes.{Homes}
 use Rattle.lvm_write.specs.Homes.{SparesNewest}
 use Rattle.lvm_status.specs.Update.{Updates}
 use Rattle.lvm_mwc.specs.Cache.{is_named as is_named_by}
-use Rattle.lvm_varyon.specs.passed.VaryonPlanNames.{next_stamp, ShowsCommitted, HoldsCommitted, Core, is_there, Parts, first_core, Room, NotesAreHome, HasNoPassive}
-use Rattle.lvm_varyon.proofs.passed.VaryonPlanNames.{empty_names_none}
+use Rattle.lvm_varyon.specs.passed.Names.{next_stamp, ShowsCommitted, HoldsCommitted, Core, is_there, Parts, first_core, Room, NotesAreHome, HasNoPassive}
+use Rattle.lvm_varyon.proofs.passed.Names.{empty_names_none}
 use Rattle.lvm_next.specs.Restated.{Restated}
 use Rattle.lvm_varyon.specs.Chosen.{answering}
 use Rattle.lvm_varyon.specs.Equal.{MakesEqual}

@@ -22,7 +22,7 @@ use Rattle.lvm_write.specs.Homes.{SparesNewest}
 use Rattle.lvm_survey.specs.declared.row.Survey.{Survey}
 use Rattle.lvm_survey.specs.Surveyed.{surveyed}
 use Rattle.lvm_transfer.specs.Reading.{IsUnwritten, IsCutOff}
-use Rattle.lvm_varyon.specs.passed.VaryonPlanNames.{Room, Cause, Recopy, IsOfCopies, sources_and_targets, ArePlannedInOrder, ArePlanned}
+use Rattle.lvm_varyon.specs.passed.Names.{Room, Cause, Recopy, IsOfCopies, sources_and_targets, ArePlannedInOrder, ArePlanned}
 use Rattle.lvm_varyon.specs.passed.CoreRefusedCause as cause
 use Rattle.lvm_begin.specs.Beginning.{Beginning, Part, again_beginning, IsOfParts, MayBeginAgain}
 use Rattle.lvm_begin.proofs.ShownLemmas.Following.{stamps_are_of_beginning}

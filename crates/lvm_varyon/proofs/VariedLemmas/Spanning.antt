@@ -20,9 +20,9 @@ use Rattle.lvm_steps.proofs.MomentsLemmas.Spans.{keeps_still, steps_go_on, group
 use Rattle.lvm_stamps.specs.Behind.{ClockIsAhead}
 use Rattle.lvm_status.specs.Update.{Updates, members_there}
 use Rattle.lvm_rec.specs.declared.homes.Homes.{Homes}
-use Rattle.lvm_varyon.specs.passed.VaryonPlanNames.{Room, Cause, HoldsCommitted, NoneIsLeft, NotesAreHome, StartsHeld, IsSettled, HasSpareNumbers, Parts, first_core, Core, is_there, HasNoPassive}
+use Rattle.lvm_varyon.specs.passed.Names.{Room, Cause, HoldsCommitted, NoneIsLeft, NotesAreHome, StartsHeld, IsSettled, HasSpareNumbers, Parts, first_core, Core, is_there, HasNoPassive}
 use Rattle.lvm_varyon.specs.passed.CoreRefusedCause as cause
-use Rattle.lvm_varyon.proofs.passed.VaryonPlanNames.{starts_settled, starts_numbered}
+use Rattle.lvm_varyon.proofs.passed.Names.{starts_settled, starts_numbered}
 use Rattle.lvm_varyon.specs.Varied.{IsRecovered, ComesOn, IsRestated, IsAheadOfDisks, IsBrought, last_stamp, log_after}
 use Rattle.lvm_varyon.specs.Chosen.{answering}
 use Rattle.lvm_varyon.proofs.SettlingLemmas.{next_leaves_none}

@@ -4,8 +4,10 @@ use Rattle.std.specs.Prelude.{Contains}
 use Rattle.lvm_num.specs.declared.place.Pp.{Pp}
 use Rattle.lvm_num.specs.declared.descriptor.Descriptor.{Descriptor}
 use Rattle.lvm_vol.specs.Log.{Log}
-use Rattle.lvm_volume_plan.specs.passed.CopyPlanNames.{CommitFault, Leaves, GroupFault, fault_of, IfOn}
-use Rattle.lvm_volume_plan.specs.passed.CopyPlanCoreFaultCommitFault as commit
+use Rattle.lvm_volume_plan.specs.passed.Names.{CommitFault, Leaves}
+use Rattle.lvm_volume_plan.specs.declared.fault.GroupFault.{GroupFault}
+use Rattle.lvm_volume_plan.specs.Faults.{fault_of, IfOn}
+use Rattle.lvm_volume_plan.specs.passed.CoreFaultCommitFault as commit
 use Rattle.lvm_session.specs.State.{State}
 use Rattle.lvm_volume_plan.specs.passed.VolumePlanFaultGroupFault as fault
 use Rattle.lvm_volumes.specs.Stages.{CommandBroke}

@@ -1,5 +1,5 @@
 use Rattle.std.proofs.Common.{sym}
-use Rattle.lvm_copy_end.proofs.passed.MarksNames.{laid_out}
+use Rattle.lvm_copy_end.proofs.passed.Names.{laid_out}
 use Rattle.lvm_copy_end.proofs.judged.copies_beside.Goals as goal
 
 pub copies_of-requires-clause-map : goal.copies_of-requires-clause-map

@@ -1,8 +1,8 @@
 use Rattle.std.proofs.Common.{ap, refl, arith, ◌∙◌}
 use Rattle.lvm_group_lines.specs.Groups.{BusyVaryoff, NoVaryoff, VaryoffDoes}
-use Rattle.lvm_group_lines.specs.passed.DiskLinesStage.{Aside, IsOn, open_in, session_in}
-use Rattle.lvm_group_lines.specs.passed.DiskLinesRefusalVariants as refusal
-use Rattle.lvm_group_lines.proofs.passed.DiskLinesStage.{refused_ends, on_with}
+use Rattle.lvm_group_lines.specs.passed.Stage.{Aside, IsOn, open_in, session_in}
+use Rattle.lvm_group_lines.specs.passed.RefusalVariants as refusal
+use Rattle.lvm_group_lines.proofs.passed.Stage.{refused_ends, on_with}
 use Rattle.lvm_group_lines.proofs.GroupsLemmas.Closing.{closed_ends}
 use Rattle.lvm_group_lines.proofs.Listing.{none_few}
 use Rattle.lvm_group_lines.proofs.groups.do_varyoff.Goals as goal

@@ -2,7 +2,7 @@ use Rattle.std.proofs.Common.{ap, length, ℕ, subst, sym, ◌∙◌}
 use Rattle.lvm_num.specs.declared.descriptor.Descriptor.{Descriptor}
 use Rattle.lvm_num.specs.declared.status.Status.{Status}
 use Rattle.lvm_group_lines.specs.Listings.{DiskOfGroup, MemberShows}
-use Rattle.lvm_group_lines.specs.passed.DiskLinesStage.{session_of, shelf_of, Holder}
+use Rattle.lvm_group_lines.specs.passed.Stage.{session_of, shelf_of, Holder}
 use Rattle.lvm_group_lines.proofs.Listing.{shown_as}
 use Rattle.lvm_group_lines.proofs.listings.list_disk.Goals as goal
 

@@ -6,9 +6,9 @@ use Rattle.lvm_session.specs.Fields.{core_of}
 use Rattle.lvm_session.specs.State.{Core}
 use Rattle.lvm_session.specs.Ends.{learned}
 use Rattle.lvm_session.specs.Marks.{Entails}
-use Rattle.lvm_copy_end.specs.passed.Names.{MayMark}
+use Rattle.lvm_copy_end.specs.Due.{MayMark}
 use Rattle.lvm_copy_end.specs.Ending.{MayEndCopy}
-use Rattle.lvm_starts.proofs.passed.LaunchNames.{read_same}
+use Rattle.lvm_starts.proofs.passed.Names.{read_same}
 use Rattle.lvm_session_turn.proofs.EndedLemmas.{its_target, its_there, may_end, may_mark, stands}
 use Rattle.lvm_session_turn.proofs.Ended.{is_out, within}
 use Rattle.lvm_session_turn.proofs.data.end_data.Goals as goal

@@ -13,7 +13,7 @@ use Rattle.lvm_session.specs.Dark.{all_dark}
 use Rattle.lvm_session.specs.Events.{begun_as, flown}
 use Rattle.lvm_over.specs.Hands.{MayEnd}
 use Rattle.lvm_session.specs.Sound.{IsAsked}
-use Rattle.lvm_due.proofs.passed.EnabledNames.{at_place, read_same}
+use Rattle.lvm_due.proofs.FirstsPlaces.{at_place, read_same}
 use Rattle.lvm_starts.proofs.OutLemmas.{is_taken, may_end, pool_same}
 use Rattle.lvm_starts.proofs.Starting.{carries_own, dark_after, data_starts, its_within}
 use Rattle.lvm_starts.proofs.data.start_data.Goals as goal
