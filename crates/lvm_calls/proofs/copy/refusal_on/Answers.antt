@@ -1,6 +1,0 @@
-use Rattle.std.proofs.Common.{sym}
-use Rattle.lvm_facts.proofs.passed.Names.{laid_out}
-use Rattle.lvm_calls.proofs.copy.refusal_on.Goals as goal
-
-pub refusal_in-requires : goal.refusal_in-requires
-refusal_in-requires c = laid_out c.args.session.now.descriptor c.args.lv c.in-Some.row.now c.requires (sym c.in-Some.ensures)

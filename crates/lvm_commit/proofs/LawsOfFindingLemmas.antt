@@ -1,4 +1,0 @@
-pub mod NoMore
-pub mod Finding
-pub mod HoldingStatus
-pub mod HoldingDescriptor

@@ -1,6 +1,0 @@
-pub mod Leaving
-pub mod Losing
-pub mod Wanting
-pub mod Recording
-pub mod Starting
-pub mod StatusEnding

@@ -1,5 +1,0 @@
-pub mod Committing
-pub mod Stating
-pub mod Buffers
-pub mod Spanning
-pub mod Settled

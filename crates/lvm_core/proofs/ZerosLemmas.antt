@@ -1,3 +1,0 @@
-pub mod Zeroing
-pub mod ZeroEnding
-pub mod ZeroKeeping

@@ -1,4 +1,0 @@
-pub mod Worked
-pub mod Shelf
-pub mod Flights
-pub mod Records

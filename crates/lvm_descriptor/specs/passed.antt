@@ -1,2 +1,0 @@
-pub mod FieldsFaultFault
-pub mod Names

@@ -1,8 +1,0 @@
-pub mod passed
-mod RoomsLemmas
-mod FieldsLemmas
-mod DrainsLemmas
-mod AnswersLemmas
-pub mod BeginningsLemmas
-mod LogLemmas
-mod CallsLemmas

@@ -1,6 +1,0 @@
-use Rattle.lvm_session.specs.Fields.{core_of}
-use Rattle.lvm_session.specs.State.{state}
-use Rattle.lvm_driver.proofs.driver.Driver.copy_state.Goals as goal
-
-pub returns-clause-caused : goal.returns-clause-caused
-returns-clause-caused g c = rw (← c.self.view_is) c.self.invariant.1.copy

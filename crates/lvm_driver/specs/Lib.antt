@@ -1,5 +1,0 @@
-pub mod passed
-pub mod Answers
-pub mod Beginnings
-pub mod Drains
-pub mod Showing

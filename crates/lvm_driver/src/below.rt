@@ -1,4 +1,0 @@
-//! What is passed on from the crates below.
-
-pub use lvm_core::Closed;
-pub use lvm_work_left::below::partition_blocks;

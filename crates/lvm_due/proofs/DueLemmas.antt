@@ -1,5 +1,0 @@
-pub mod Frames
-pub mod Moving
-pub mod Noting
-pub mod Spanning
-pub mod Table

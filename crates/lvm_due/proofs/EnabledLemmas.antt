@@ -1,4 +1,0 @@
-pub mod Alike
-pub mod Calm
-pub mod Unmade
-pub mod Unread

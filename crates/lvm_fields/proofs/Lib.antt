@@ -1,2 +1,0 @@
-pub mod NumReadingLemmas
-pub mod ReadingLemmas

@@ -1,2 +1,0 @@
-pub mod GroupPlan
-pub mod GroupPlanNames

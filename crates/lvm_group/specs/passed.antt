@@ -1,3 +1,0 @@
-pub mod GroupPlan
-pub mod CoreRefusedCause
-pub mod GroupPlanNames

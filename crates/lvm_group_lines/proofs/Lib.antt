@@ -1,9 +1,0 @@
-pub mod passed
-pub mod GroupsLemmas
-pub mod Coming
-pub mod Listing
-pub mod QuiesceGroupsLemmas
-pub mod ShelvesLemmas
-pub mod DarkLemmas
-pub mod DisksLemmas
-pub mod PostsLemmas

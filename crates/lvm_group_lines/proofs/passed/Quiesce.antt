@@ -1,3 +1,0 @@
--- Passed on from `lvm_quiesce`.
-pub use Rattle.lvm_group_lines.proofs.passed.DiskLinesQuiesce.{each_is_behind, ends_leave, ends_leave_no_more, ends_only, fewer_stay_behind}
-pub use Rattle.lvm_group_lines.proofs.passed.DiskLinesQuiesce.{quiet_is_ahead, still_ends, still_is_behind_each}

@@ -1,3 +1,0 @@
-pub mod Marking
-pub mod Serving
-pub mod Volumes

@@ -1,3 +1,0 @@
--- Passed on from `lvm_group`.
-pub use Rattle.lvm_group.proofs.passed.GroupPlan.{are_members, is_there, size_positive, valid_group, valid_status}
-pub use Rattle.lvm_group.proofs.Keeping.{IsBeginning, may_begin}

@@ -1,5 +1,0 @@
-pub mod passed
-pub mod Settling
-pub mod Serving
-pub mod Beginning
-pub mod Earlier

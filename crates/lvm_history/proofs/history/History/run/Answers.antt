@@ -1,6 +1,0 @@
-use Rattle.std.proofs.Common.{[], subst}
-use Rattle.lvm_checker.specs.passed.Names.{Log, Ordered}
-use Rattle.lvm_history.proofs.history.History.run.Goals as goal
-
-pub returns-clause-ordered : goal.returns-clause-ordered
-returns-clause-ordered c = subst (λ (x : Log). Ordered x.run [] x.facts) c.self.view_is c.self.invariant.its_own.ordered

@@ -1,2 +1,0 @@
-pub mod EachCause
-pub mod WholeCauses

@@ -1,3 +1,0 @@
-pub mod Worked
-pub mod Writes
-pub mod Reads

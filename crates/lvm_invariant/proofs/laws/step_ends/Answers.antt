@@ -1,5 +1,0 @@
-use Rattle.lvm_invariant.proofs.EventsLemmas.Each.{end_step_keeps as lemma_of}
-use Rattle.lvm_invariant.proofs.laws.step_ends.Goals as goal
-
-pub returns : goal.returns
-returns c = lemma_of

@@ -1,2 +1,0 @@
--- Counts that never fall.
-pub use Rattle.lvm_num.specs.Counting.{Rose, next_count}

@@ -1,5 +1,0 @@
-pub mod Count
-pub mod Stream
-pub mod Memory
-pub mod Lines
-pub mod Reading

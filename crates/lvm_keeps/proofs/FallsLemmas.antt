@@ -1,6 +1,0 @@
-pub mod Pin
-pub mod Bounding
-pub mod Landing
-pub mod CopyRead
-pub mod NoteStart
-pub mod Over

@@ -1,4 +1,0 @@
-pub mod passed
-pub mod Keeps
-pub mod Falls
-pub mod Begins

@@ -1,4 +1,0 @@
-pub mod Finishing
-pub mod NoteFail
-pub mod StatusEnd
-pub mod EndsFall

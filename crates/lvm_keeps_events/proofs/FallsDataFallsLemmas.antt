@@ -1,4 +1,0 @@
-pub mod Falling
-pub mod CopyFalls
-pub mod DataFalls
-pub mod GroupFalls

@@ -1,3 +1,0 @@
-pub mod CopyWrite
-pub mod DataStart
-pub mod StatusStart

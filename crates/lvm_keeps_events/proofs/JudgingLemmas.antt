@@ -1,7 +1,0 @@
-pub mod Staling
-pub mod DuesMarks
-pub mod Entailing
-pub mod Passing
-pub mod Chosen
-pub mod Review
-pub mod Requests

@@ -1,3 +1,0 @@
-pub mod EndedLess
-pub mod StaledLess
-pub mod FallsStatus

@@ -1,2 +1,0 @@
-mod Aging
-pub mod Opening

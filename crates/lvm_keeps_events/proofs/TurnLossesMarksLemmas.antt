@@ -1,3 +1,0 @@
-pub mod Reviewing
-pub mod Requests
-pub mod Turning

@@ -1,5 +1,0 @@
-use Rattle.lvm_keeps_events.proofs.FallsDataFallsLemmas.CopyFalls.{copy_read_fail_falls}
-use Rattle.lvm_keeps_events.proofs.data_falls_laws.copy_read_fail_falls.Goals as goal
-
-pub returns : goal.returns
-returns c = copy_read_fail_falls

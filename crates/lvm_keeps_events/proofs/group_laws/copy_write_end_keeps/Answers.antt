@@ -1,5 +1,0 @@
-use Rattle.lvm_keeps_events.proofs.EndsGroupLemmas.{copy_write_end_keeps}
-use Rattle.lvm_keeps_events.proofs.group_laws.copy_write_end_keeps.Goals as goal
-
-pub returns : goal.returns
-returns c = copy_write_end_keeps

@@ -1,5 +1,0 @@
-use Rattle.lvm_keeps_events.proofs.KeepsCallsKeepsLemmas.{submit_keeps}
-use Rattle.lvm_keeps_events.proofs.keeps_calls_laws.submit_keeps.Goals as goal
-
-pub returns : goal.returns
-returns c = submit_keeps

@@ -1,5 +1,0 @@
-use Rattle.lvm_keeps_events.proofs.LosingLemmas.Losing.{loses_both}
-use Rattle.lvm_keeps_events.proofs.turn_losses_laws.losses_join.Goals as goal
-
-pub returns : goal.returns
-returns c = loses_both

@@ -1,4 +1,0 @@
-pub mod DiskShelfArrange
-pub mod Names
-pub mod VolEntryOutcome
-pub mod VolEntryVol

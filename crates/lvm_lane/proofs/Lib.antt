@@ -1,3 +1,0 @@
-mod SoundLemmas
-mod StepsLemmas
-mod ImageStepsLemmas

@@ -1,4 +1,0 @@
-pub mod Sound
-pub mod Files
-pub mod Names
-pub mod Sink

@@ -1,4 +1,0 @@
-pub mod passed
-pub mod LinesLemmas
-pub mod CausesLemmas
-pub mod CompleteLemmas

@@ -1,9 +1,0 @@
-use Rattle.lvm_line.proofs.CompleteLemmas.Completing.{lines_complete}
-use Rattle.lvm_line.proofs.CompleteLemmas.Worked.{nothing_may_fail}
-use Rattle.lvm_line.proofs.laws.lines_are_complete.Goals as goal
-
-pub returns-clause-complete : goal.returns-clause-complete
-returns-clause-complete c = lines_complete
-
-pub returns-clause-met : goal.returns-clause-met
-returns-clause-met c = nothing_may_fail

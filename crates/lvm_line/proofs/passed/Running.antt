@@ -1,2 +1,0 @@
--- Passed on from `lvm_tie`.
-pub use Rattle.lvm_volume_lines.proofs.passed.CopyLinesRunning.{runs_both, runs_none}

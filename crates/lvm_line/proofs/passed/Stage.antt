@@ -1,2 +1,0 @@
--- Passed on from `lvm_stage`.
-pub use Rattle.lvm_volume_lines.proofs.passed.CopyLinesStage.{over_goes}

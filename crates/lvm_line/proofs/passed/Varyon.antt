@@ -1,3 +1,0 @@
--- Passed on from `lvm_varyon`.
-pub use Rattle.lvm_volume_lines.proofs.passed.CopyLinesVaryon.{HasWrote, failed_rests, found_restated, holds_finds, status_fits, wrote_broken, wrote_equalled}
-pub use Rattle.lvm_volume_lines.proofs.passed.CopyLinesVaryon.{wrote_failed}

@@ -1,4 +1,0 @@
-pub mod passed
-pub mod Lines
-pub mod Causes
-pub mod Complete

@@ -1,4 +1,0 @@
-//! What is passed on from the crates below.
-
-pub mod driver;
-pub mod stage;

@@ -1,7 +1,0 @@
-pub mod EndsLemmas
-pub mod Counting
-pub mod FactsLemmas
-pub mod WeavingLemmas
-pub mod LeavingLemmas
-pub mod WaitingLemmas
-pub mod RequestsLemmas

@@ -1,6 +1,0 @@
-pub mod Ends
-pub mod Leaving
-pub mod Requests
-pub mod Totals
-pub mod Waiting
-pub mod Weaving

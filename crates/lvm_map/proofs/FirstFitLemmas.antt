@@ -1,5 +1,0 @@
-pub mod Fitting
-pub mod FreeLists
-pub mod OneAnswer
-pub mod UsedMarks
-pub mod Validity

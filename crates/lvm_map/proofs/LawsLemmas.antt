@@ -1,2 +1,0 @@
-pub mod NewPlaces
-pub mod OneToOne

@@ -1,5 +1,0 @@
-pub mod RoomLemmas
-pub mod FirstFitLemmas
-pub mod LawsLemmas
-pub mod Parts
-pub mod PlacesLemmas

@@ -1,4 +1,0 @@
-pub mod FirstFit
-pub mod Laws
-pub mod Places
-pub mod Room

@@ -1,7 +1,0 @@
-use Rattle.std.proofs.Common.{false}
-use Rattle.lvm_memory.specs.Memory.{bench_of}
-use Rattle.lvm_memory.proofs.BenchLemmas.{prompt_started}
-use Rattle.lvm_memory.proofs.memory.MemShelfShelf.start_read.Goals as goal
-
-pub returns-clause-prompt : goal.returns-clause-prompt
-returns-clause-prompt c = prompt_started (bench_of c.args.self.now) (bench_of c.start.new.self) _ false c.start.result c.start.ensures.planned

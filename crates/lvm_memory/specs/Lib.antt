@@ -1,5 +1,0 @@
-pub mod Bench
-pub mod Memory
-pub mod Sound
-pub mod Media
-pub mod Pieces

@@ -1,8 +1,0 @@
-mod MovingLemmas
-mod PinningLemmas
-pub mod passed
-mod ChoosingLemmas
-mod EventsLemmas
-mod Fronts
-mod LogLemmas
-mod EnteredLemmas

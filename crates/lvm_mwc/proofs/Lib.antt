@@ -1,5 +1,0 @@
-pub mod FirstsLemmas
-pub mod EntriesLemmas
-pub mod CacheLemmas
-pub mod NotesLemmas
-pub mod FiltersLemmas

@@ -1,4 +1,0 @@
-pub mod Maps
-pub mod Marks
-pub mod Members
-pub mod Spots

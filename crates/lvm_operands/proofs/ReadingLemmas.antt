@@ -1,2 +1,0 @@
-pub mod ManyWords
-pub mod NextWord

@@ -1,3 +1,0 @@
-pub mod GrammarLemmas
-pub mod WithinLemmas
-pub mod AnsweringLemmas

@@ -1,2 +1,0 @@
-pub mod Out
-pub mod Places

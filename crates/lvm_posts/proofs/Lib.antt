@@ -1,3 +1,0 @@
-pub mod passed
-pub mod DecidingLemmas
-pub mod PostsLemmas

@@ -1,4 +1,0 @@
-pub mod passed
-pub mod Pieces
-pub mod Deciding
-pub mod Posts

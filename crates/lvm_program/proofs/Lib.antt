@@ -1,4 +1,0 @@
-mod StreamLemmas
-mod ProgramLemmas
-mod WovenLemmas
-mod SimLemmas

@@ -1,4 +1,0 @@
-pub mod Blank
-pub mod Program
-pub mod Sim
-pub mod Woven

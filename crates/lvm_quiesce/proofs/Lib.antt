@@ -1,4 +1,0 @@
-pub mod passed
-pub mod LawsLemmas
-pub mod GroupsLemmas
-pub mod RangesLemmas

@@ -1,2 +1,0 @@
-pub mod Voting
-pub mod Chosen

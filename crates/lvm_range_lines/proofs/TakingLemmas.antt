@@ -1,3 +1,0 @@
-pub mod Takings
-pub mod Awaiting
-pub mod Landed

@@ -1,3 +1,0 @@
-pub mod Behind
-pub mod Waits
-pub mod Resting

@@ -1,2 +1,0 @@
--- Passed on from `lvm_tie_commands`.
-pub use Rattle.lvm_group_lines.proofs.passed.TieCommands.{mklv_goes_on, rests, rmlv_goes_on}

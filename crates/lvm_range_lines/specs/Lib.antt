@@ -1,9 +1,0 @@
-pub mod passed
-pub mod Refusals
-pub mod Answers
-pub mod Leaving
-pub mod Requests
-pub mod Waiting
-pub mod Causes
-pub mod Taking
-pub mod Stepping

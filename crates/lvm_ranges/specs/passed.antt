@@ -1,3 +1,0 @@
-pub mod Driver
-pub mod Names
-pub mod Running

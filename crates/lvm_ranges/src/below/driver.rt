@@ -1,4 +1,0 @@
-//! Passed on from `lvm_driver`.
-
-pub use lvm_driver::Driver;
-pub use lvm_driver::below::Closed;

@@ -1,4 +1,0 @@
-pub mod RawLemmas
-pub mod LookingLemmas
-pub mod PiecesLemmas
-pub mod AskingLemmas

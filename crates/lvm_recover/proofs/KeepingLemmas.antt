@@ -1,4 +1,0 @@
-pub mod Copying
-pub mod Equalling
-pub mod Images
-pub mod Moments

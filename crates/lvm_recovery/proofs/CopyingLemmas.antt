@@ -1,4 +1,0 @@
-pub mod Logged
-pub mod Moving
-pub mod Copied
-pub mod AllCopied

@@ -1,4 +1,0 @@
-pub mod Planning
-pub mod Naming
-pub mod NamedBy
-pub mod Rising

@@ -1,4 +1,0 @@
-pub mod Shapes
-pub mod Good
-pub mod Rest
-pub mod Seen

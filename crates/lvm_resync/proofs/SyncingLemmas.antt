@@ -1,4 +1,0 @@
-pub mod Staying
-pub mod Passing
-pub mod Passed
-pub mod Asking

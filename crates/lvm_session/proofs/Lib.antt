@@ -1,9 +1,0 @@
-pub mod passed
-pub mod RoomsLemmas
-pub mod Small
-pub mod EnabledLemmas
-pub mod WorkedLemmas
-pub mod RequestsLemmas
-pub mod SoundLemmas
-mod BusyLemmas
-pub mod EventsLemmas

@@ -1,6 +1,0 @@
-pub mod Parts
-pub mod Whole
-pub mod Flying
-pub mod BroughtUp
-pub mod Worked
-pub mod Waiting

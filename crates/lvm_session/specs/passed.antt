@@ -1,2 +1,0 @@
-pub mod DiskShelfArrange
-pub mod Names

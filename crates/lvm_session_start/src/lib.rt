@@ -1,9 +1,0 @@
-//! A session begins.
-#![tactic(auto)]
-
-mod begin;
-pub mod below;
-mod parts;
-
-pub use begin::{begin_session, first_session};
-pub use parts::{Parts, Room, take_parts};

@@ -1,4 +1,0 @@
-pub mod passed
-pub mod SettledLemmas
-pub mod ExamplesLemmas
-pub mod EvenLemmas

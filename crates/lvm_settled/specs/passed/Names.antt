@@ -1,7 +1,0 @@
--- Passed on from the crates below.
-pub use Rattle.lvm_core.specs.Coming.{BringsOn, IsStarted}
-pub use Rattle.lvm_core.specs.Held.{IsHeld, NotesAreHome}
-pub use Rattle.lvm_core.specs.Settled.{IsSettled}
-pub use Rattle.lvm_core.specs.Sound.{HaveAllLanded, IsFittingBetween, IsQuiet, IsSoundBetween}
-pub use Rattle.lvm_core.specs.Starting.{IsRoom, room_of}
-pub use Rattle.lvm_core.specs.declared.parts.Room.{Room}

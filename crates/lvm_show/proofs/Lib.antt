@@ -1,4 +1,0 @@
-pub mod Appending
-pub mod Found
-mod FirstFitLemmas
-mod DescriptorLemmas

@@ -1,2 +1,0 @@
--- Passed on from `lvm_handover`.
-pub use Rattle.lvm_tie_commands.proofs.passed.TieCopiesEarlier.{open_with, resting_with, stays_beside}

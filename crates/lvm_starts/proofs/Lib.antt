@@ -1,7 +1,0 @@
-pub mod passed
-pub mod StartsLemmas
-mod Writes
-pub mod ReadyLemmas
-mod SoundLemmas
-pub mod OutLemmas
-mod Starting

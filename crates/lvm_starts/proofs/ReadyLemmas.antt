@@ -1,2 +1,0 @@
-mod Buffers
-pub mod Ready

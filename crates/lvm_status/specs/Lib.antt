@@ -1,6 +1,0 @@
-pub mod passed
-pub mod Calls
-pub mod Members
-pub mod Progress
-pub mod Runs
-pub mod Update

@@ -1,2 +1,0 @@
-pub mod NoVolumes
-pub mod Making

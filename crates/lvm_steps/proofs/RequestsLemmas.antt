@@ -1,3 +1,0 @@
-pub mod Masks
-pub mod Writing
-pub mod Reading

@@ -1,2 +1,0 @@
-pub mod VaryingOn
-pub mod Following

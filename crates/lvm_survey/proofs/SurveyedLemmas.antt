@@ -1,2 +1,0 @@
-pub mod DiskRows
-pub mod SurveyRows

@@ -1,4 +1,0 @@
-pub mod Names
-pub mod TransferMovesMoved
-pub mod AreaNames
-pub mod AreaTransferMovesMoved

@@ -1,6 +1,0 @@
-mod disk;
-mod fixtures;
-mod image;
-mod lane;
-mod raw;
-mod trial;

@@ -1,7 +1,0 @@
-mod copies;
-mod faults;
-mod fixtures;
-mod ranges;
-mod requests;
-mod steps;
-mod waits;

@@ -1,4 +1,0 @@
-mod begin;
-mod fixtures;
-mod recovery;
-mod varyon;

@@ -1,4 +1,0 @@
-mod fixtures;
-mod posts;
-mod turn;
-mod vol;

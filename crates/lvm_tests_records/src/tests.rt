@@ -1,7 +1,0 @@
-mod fixtures;
-mod map;
-mod num;
-mod rec;
-mod vgda;
-mod vgsa;
-mod word;

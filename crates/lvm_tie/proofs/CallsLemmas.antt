@@ -1,2 +1,0 @@
-pub mod CloseTies
-pub mod OpenTies

@@ -1,3 +1,0 @@
-pub mod Spanning
-pub mod CallsTurn
-pub mod Turning

@@ -1,5 +1,0 @@
-pub mod TakeTies
-pub mod LandTies
-pub mod MarkedTies
-pub mod GotTies
-pub mod Landings

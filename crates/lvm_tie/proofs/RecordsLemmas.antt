@@ -1,3 +1,0 @@
-pub mod NoteTies
-pub mod MayBegin
-pub mod StatusTies

@@ -1,3 +1,0 @@
-pub mod SubmitTies
-pub mod AdmitTies
-pub mod PinTies

@@ -1,4 +1,0 @@
-pub mod Changing
-pub mod Entered
-pub mod CopySteps
-pub mod Quiet

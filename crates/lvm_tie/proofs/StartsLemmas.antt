@@ -1,4 +1,0 @@
-pub mod LaterTies
-pub mod Datas
-pub mod CopyReads
-pub mod CopyWrites

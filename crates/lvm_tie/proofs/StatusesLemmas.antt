@@ -1,3 +1,0 @@
-pub mod Update
-pub mod Reviewed
-pub mod StatusTies

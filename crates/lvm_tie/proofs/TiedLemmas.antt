@@ -1,4 +1,0 @@
-pub mod Orderly
-pub mod Tied
-pub mod Recorded
-pub mod Ends

@@ -1,5 +1,0 @@
-use Rattle.lvm_tie.proofs.RecordsLemmas.StatusTies.{status_start_ties as its}
-use Rattle.lvm_tie.proofs.records_laws.status_start_ties.Goals as goal
-
-pub returns : goal.returns
-returns c = its

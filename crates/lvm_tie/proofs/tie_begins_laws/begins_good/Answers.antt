@@ -1,5 +1,0 @@
-use Rattle.lvm_tie.proofs.BeginsLemmas.Beginning.{begins_good as its}
-use Rattle.lvm_tie.proofs.tie_begins_laws.begins_good.Goals as goal
-
-pub returns : goal.returns
-returns c = its

@@ -1,2 +1,0 @@
-pub mod PairSectors
-pub mod Examples

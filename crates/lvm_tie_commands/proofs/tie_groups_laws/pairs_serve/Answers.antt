@@ -1,5 +1,0 @@
-use Rattle.lvm_tie_commands.proofs.ExamplesLemmas.Examples.{pairs_serve}
-use Rattle.lvm_tie_commands.proofs.tie_groups_laws.pairs_serve.Goals as goal
-
-pub returns : goal.returns
-returns c = pairs_serve

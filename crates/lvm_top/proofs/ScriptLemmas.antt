@@ -1,2 +1,0 @@
-pub mod Scripting
-pub mod Concluding

@@ -1,4 +1,0 @@
-pub mod Volumes
-pub mod Copying
-pub mod Groups
-pub mod Acknowledged

@@ -1,5 +1,0 @@
-use Rattle.lvm_top.proofs.RunsLemmas.{next_may_begin, two_runs_uphold}
-use Rattle.lvm_top.proofs.laws.runs_follow.Goals as goal
-
-pub returns : goal.returns
-returns c = record { next = next_may_begin; two = two_runs_uphold }

@@ -1,3 +1,0 @@
-//! Passed on from `lvm_line`.
-
-pub use lvm_line::do_line;

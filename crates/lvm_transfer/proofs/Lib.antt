@@ -1,5 +1,0 @@
-pub mod passed
-pub mod TransferLemmas
-pub mod StepsLemmas
-pub mod RecordLemmas
-pub mod ReadingLemmas

@@ -1,4 +1,0 @@
-pub mod Transferring
-pub mod Following
-pub mod Pieces
-pub mod Fronts

@@ -1,4 +1,0 @@
-mod RulesLemmas
-pub mod StepsLemmas
-pub mod ViewsLemmas
-pub mod CallsLemmas

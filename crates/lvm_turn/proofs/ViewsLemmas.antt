@@ -1,3 +1,0 @@
-pub mod Parting
-pub mod Nested
-pub mod Clients

@@ -1,4 +1,0 @@
-pub mod Wrote
-pub mod Equalising
-pub mod AllWrites
-pub mod MayWrite

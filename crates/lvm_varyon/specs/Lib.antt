@@ -1,9 +1,0 @@
-pub mod passed
-pub mod Found
-pub mod Writing
-pub mod Restated
-pub mod Varied
-pub mod Parts
-pub mod Equal
-pub mod Chosen
-pub mod Planned

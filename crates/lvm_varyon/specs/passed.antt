@@ -1,4 +1,0 @@
-pub mod Names
-pub mod VaryonPlan
-pub mod CoreRefusedCause
-pub mod VaryonPlanNames

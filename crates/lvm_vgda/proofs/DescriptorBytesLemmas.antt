@@ -1,5 +1,0 @@
-pub mod NameLaws
-pub mod MemberLaws
-pub mod MapLoops
-pub mod MapLaws
-pub mod Whole

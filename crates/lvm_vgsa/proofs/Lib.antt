@@ -1,4 +1,0 @@
-pub mod StatusBytesLemmas
-pub mod Orders
-pub mod PartsLemmas
-pub mod PuttingLemmas

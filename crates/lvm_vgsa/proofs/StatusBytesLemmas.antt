@@ -1,4 +1,0 @@
-pub mod Many
-pub mod RoundTrip
-pub mod Rows
-pub mod Sizes

@@ -1,6 +1,0 @@
-pub mod passed
-pub mod FactsLemmas
-pub mod LogLemmas
-pub mod LegalLemmas
-pub mod LawsLemmas
-pub mod FrontsLemmas

@@ -1,5 +1,0 @@
-pub mod passed
-pub mod Volumes
-pub mod Commands
-pub mod Copies
-pub mod Resyncing

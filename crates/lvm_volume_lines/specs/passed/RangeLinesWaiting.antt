@@ -1,2 +1,0 @@
--- Passed on from `lvm_range_lines`.
-pub use Rattle.lvm_range_lines.specs.Waiting.{AtRest, Awaits, Goes, InVain, Over, WaitDoes, WaitEnds, WaitsOff, WaitsOn, WhileOff}

@@ -1,2 +1,0 @@
--- Passed on from `lvm_varyon`.
-pub use Rattle.lvm_range_lines.specs.passed.Varyon.{HasWritten, IsRecovered, IsRestated, MayComeOn, Recopy, VaryonRefuses, answering, beginning, records_on}

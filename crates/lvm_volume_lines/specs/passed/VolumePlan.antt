@@ -1,2 +1,0 @@
--- Passed on from `lvm_volume_plan`.
-pub use Rattle.lvm_range_lines.specs.passed.Names.{GroupFault, ends_session, is_over}

@@ -1,6 +1,0 @@
-pub mod passed
-pub mod NewVolumeLemmas
-pub mod Sublists
-pub mod Parts
-pub mod CopiesLemmas
-pub mod DescriptorLemmas

@@ -1,4 +1,0 @@
-pub mod Numbers
-pub mod NewDescriptor
-pub mod OldDescriptor
-pub mod Refusals

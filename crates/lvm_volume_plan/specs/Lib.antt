@@ -1,7 +1,0 @@
-pub mod passed
-pub mod NewVolume
-pub mod Faults
-pub mod PlannedVolume
-pub mod Copies
-pub mod CopyPlanFaults
-pub mod PlannedCopies

@@ -1,5 +1,0 @@
-//! What is passed on from the crates below.
-
-pub use crate::fault::GroupFault;
-pub use lvm_core::below::Patience;
-pub use lvm_core::{CommitFault, Driver, Prepared};

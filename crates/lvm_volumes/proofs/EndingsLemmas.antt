@@ -1,4 +1,0 @@
-pub mod Fresh
-pub mod Holding
-pub mod Zeroing
-pub mod Notes

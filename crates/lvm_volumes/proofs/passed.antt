@@ -1,4 +1,0 @@
-pub mod Names
-pub mod CopyPlanCopiesLemmasFewer
-pub mod CopyPlanCopiesLemmasMore
-pub mod MirrorsNames

@@ -1,7 +1,0 @@
-pub mod passed
-pub mod Endings
-pub mod Volumes
-pub mod Stages
-pub mod Mirrors
-pub mod MirrorsStages
-pub mod Laws

@@ -1,2 +1,0 @@
-pub mod MatchedLemmas
-pub mod WordsLemmas
