@@ -7,21 +7,21 @@ set -u
 cd "$(dirname "$0")/.." || exit 1
 [ $# -gt 0 ] || set -- $(ls scripts/wrong-bodies)
 
-put=()
-trap '[ ${#put[@]} = 0 ] || rm -f "${put[@]}"' EXIT
+put=() made=()
+# away: takes away what was put beside the crates' own edits
+away() {
+    [ ${#put[@]} = 0 ] || rm -f "${put[@]}"
+    [ ${#made[@]} = 0 ] || rmdir "${made[@]}"
+}
+trap away EXIT
+
 for crate; do
-    mkdir -p "crates/$crate/must-fail"
+    [ -d "scripts/wrong-bodies/$crate" ] || { echo "no wrong bodies of $crate" >&2; exit 2; }
+    to=crates/$crate/must-fail
+    [ -d "$to" ] || { mkdir "$to" && made+=("$to"); }
     for edit in scripts/wrong-bodies/"$crate"/*.edit; do
-        to=crates/$crate/must-fail/$(basename "$edit")
-        [ ! -e "$to" ] || { echo "$to is there already" >&2; exit 1; }
-        cp "$edit" "$to" && put+=("$to")
+        [ ! -e "$to/$(basename "$edit")" ] || { echo "$to/$(basename "$edit") is there already" >&2; exit 1; }
+        cp "$edit" "$to" && put+=("$to/$(basename "$edit")")
     done
 done
 rt must-fail "$@"
-status=$?
-rm -f "${put[@]}"
-put=()
-for crate; do
-    rmdir "crates/$crate/must-fail" 2> /dev/null
-done
-exit $status
