@@ -4,9 +4,8 @@
 ghost use Rattle.std.specs.Prelude.{◌≡◌, ◌≤◌, length, IfOk};
 ghost use Rattle.lvm_lane.specs.Files.{device_of, idle_device};
 
-use lvm_image::ImageSink;
 use lvm_io::{Sink, StdSink, StdSource, SystemClock, write_all};
-use lvm_lane::FileShelf;
+use lvm_lane::{FileShelf, ImageSink};
 use lvm_num::{Memory, Text};
 use lvm_program::{ExitStatus, Job, WordsFault, read_words, run_words};
 use std::alloc::{AllocError, Global};

@@ -1,10 +1,8 @@
 -- What a request finds that isn't refused.
-use Rattle.std.proofs.Common.{◌≡◌, ◌<◌, ◌≤◌, ◌+◌, ◌*◌, ℕ, Bool, true, false, List, ◌++◌, ◌∷◌, [], Option, Some, None, length, take, drop, refl, sym, ◌∙◌, ap, arith}
+use Rattle.std.proofs.Common.{◌≡◌, ◌<◌, ◌≤◌, ◌+◌, ◌*◌, ℕ, Bool, true, false, Option, Some, None, length, take, refl, sym, arith}
 use Rattle.std.specs.Prelude.{◌&&◌, nat_le, nat_lt, if◌then◌else◌}
-use Rattle.std.specs.List.{insert}
 use Rattle.std.specs.Option.{option_map_or}
 use Rattle.std.proofs.lemmas.Bool.{leb-true}
-use Rattle.std.proofs.lemmas.List.{drop_all, take_all}
 use Rattle.lvm_num.specs.declared.descriptor.LvRow.{LvRow}
 use Rattle.lvm_num.specs.Descriptor.{volume_of}
 use Rattle.lvm_num.specs.Geometry.{volume_blocks}
@@ -18,10 +16,6 @@ use Rattle.lvm_session.specs.declared.answers.AskFault.{AskFault}
 use Rattle.lvm_session.specs.declared.answers.AskFault.TheVariants as fault
 use Rattle.lvm_session.specs.Calls.{ask_fault, fault_by, fault_in, fault_on, has_history, has_numbers}
 use Rattle.lvm_session.specs.Asking.{IsAwake}
-
--- an item that is put behind all others
-pub put_last : {X : Type 0} (xs : List X) (x : X) → insert xs (length xs) x ≡ xs ++ x ∷ []
-put_last xs x = ap (λ (l : List _). l ++ x ∷ drop (length xs) xs) (take_all (length xs) xs (omega arith)) ∙ ap (λ (l : List _). xs ++ x ∷ l) (drop_all (length xs) xs (omega arith))
 
 -- the history has room
 pub history_room : (core : Core) (ask : Ask) → has_history core ask ≡ true → (3 ≤ spare_entries core.history) × (512 * count_of ask ≤ spare_bytes core.history)

@@ -7,3 +7,11 @@ mod NumbersLemmas
 mod Groups
 pub mod OpeningLemmas
 pub mod Tables
+mod LeavingLemmas
+pub mod EndingLemmas
+mod LosingLemmas
+pub mod LeftLemmas
+pub mod BringingLemmas
+pub mod MarksLemmas
+mod StillPlaces
+mod DueLemmas

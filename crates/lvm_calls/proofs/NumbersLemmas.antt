@@ -1,8 +1,8 @@
 -- Requests begin by rising numbers.
-use Rattle.std.proofs.Common.{◌≡◌, ◌≤◌, ◌<◌, ◌+◌, ◌^◌, ◌==◌, inl, inr, ℕ, zero, suc, Bool, true, false, cond, List, [], ◌∷◌, Option, Some, None, length, take, count_by, slice_get, refl, sym, ◌∙◌, ap, subst, arith}
+use Rattle.std.proofs.Common.{◌≡◌, ◌+◌, ◌==◌, inl, inr, ℕ, zero, suc, Bool, true, false, cond, List, [], ◌∷◌, Option, Some, None, length, take, count_by, slice_get, refl, sym, ◌∙◌, ap, subst, arith}
 use Rattle.std.proofs.lemmas.Bool.Decides.{nat_tests}
 use Rattle.std.proofs.lemmas.List.{take_all}
-use Rattle.std.proofs.lemmas.List.Sums.{count_by-le-length, sum_by-cons}
+use Rattle.std.proofs.lemmas.List.Sums.{sum_by-cons}
 use Rattle.lvm_vol.specs.declared.entry.Entry.{Entry}
 use Rattle.lvm_vol.specs.Facts.{Request, Fact, Making, Made, Split, Removing, Removed, Begun, Landed, Taken, Cut, On, Stands, begun}
 use Rattle.lvm_vol.specs.Legal.{begins_in}
@@ -98,6 +98,3 @@ number_at log k e ordered is =
 -- all that have begun are in the first entries, as many as there are
 pub all_begun : (log : Log) → next_id log ≡ begun_in log (length log.facts) + 1
 all_begun log = ap (λ (facts : List Fact). count_by (begins_in log.run) facts + 1) (sym (take_all (length log.facts) log.facts (omega arith)))
-
-pub few_begun : (log : Log) → length log.facts < 2 ^ 32 → next_id log ≤ 2 ^ 32
-few_begun log few = let counted = count_by-le-length (begins_in log.run) log.facts in omega (arith, counted, few)

@@ -4,7 +4,7 @@ use Rattle.std.specs.List.{list_any, list_all}
 use Rattle.std.proofs.lemmas.List.{length-take, length-drop, get_or-take, get_or-drop, map_more, drop_more}
 use Rattle.std.proofs.lemmas.List.Sums.{sum_by-cons}
 use Rattle.std.proofs.lemmas.Bool.Decides.{nat_tests}
-use Rattle.std.proofs.lemmas.Bool.{eqb-true, and_from, not-true}
+use Rattle.std.proofs.lemmas.Bool.{eqb-true, and_from, not-true, and_parts, not_from_false}
 use Rattle.lvm_vol.specs.declared.entry.Outcome.{Outcome}
 use Rattle.lvm_vol.specs.declared.entry.Outcome.TheVariants as outcome
 use Rattle.lvm_checker.specs.declared.row.Ask.{Ask}
@@ -14,17 +14,9 @@ use Rattle.lvm_vol.specs.Facts.{Request, Fact, Begun, Stands, block_of}
 use Rattle.lvm_vol.specs.May.{known, May}
 use Rattle.lvm_vol.specs.Legal.{begins_in, lands, takes, IsOutcomeOf, Gets, GotMay, TakenOnce, IsLater, Fits, LegalFrom}
 use Rattle.lvm_vol.specs.Log.{is_got}
+use Rattle.lvm_vol.proofs.passed.Names.{same_itself, same_turned}
 use Rattle.lvm_checker.specs.Rows.{no_ask, ask_of, blocks_at, request_in, fact_of, facts_of, is_landing, is_taking}
 use Rattle.lvm_checker.specs.Fitting.{is_begin, is_beginning, is_earlier_on, is_bounded, is_kind}
-use Rattle.lvm_checker.proofs.SeenLemmas.{eq_comm, equal}
-
--- tests that are both true
-pub and_both : (a b : Bool) → IsTrue (a && b) → IsTrue a × IsTrue b
-and_both true b is = (refl, is)
-and_both false b is = absurd (let e : ◌≡◌ {A = Bool} false true = is in cc)
-
-so_not : (a : Bool) → a ≡ false → IsTrue (not a)
-so_not a is = ap not is
 
 module _ (run : ℕ) (asks : List Ask) (blocks : List (List ℕ)) where
   began_of : (id : ℕ) (rows : List Row) → IsTrue (list_any (is_beginning id) rows) → Stands (Begun (request_in run asks blocks id)) (facts_of run asks blocks rows)
@@ -54,7 +46,7 @@ module _ (run : ℕ) (asks : List Ask) (blocks : List (List ℕ)) where
       by_row (row.Begun begun) (inl is) rest =
           let same : request_in run asks blocks begun ≡ r = cc is in
           let own : begun ≡ r.id = ap (λ (q : Request). q.id) same in
-          (ap (λ (t : Bool). t || list_any (is_beginning r.id) rows) (ap (λ (n : ℕ). n == r.id) own ∙ equal r.id), sym same ∙ ap (λ (n : ℕ). request_in run asks blocks n) own)
+          (ap (λ (t : Bool). t || list_any (is_beginning r.id) rows) (ap (λ (n : ℕ). n == r.id) own ∙ same_itself r.id), sym same ∙ ap (λ (n : ℕ). request_in run asks blocks n) own)
       by_row (row.Begun begun) (inr there) rest = late (begun == r.id) (rest there)
       by_row (row.Landed n how started) (inl is) rest = absurd (cc is)
       by_row (row.Landed n how started) (inr there) rest = rest there
@@ -80,7 +72,7 @@ module _ (run : ℕ) (asks : List Ask) (blocks : List (List ℕ)) where
   landing_is r (g ∷ rows) own = ap (λ (t : Bool). t || list_any (lands r) (facts_of run asks blocks rows)) (by_row g) ∙ ap (λ (t : Bool). is_landing r.id g || t) (landing_is r rows own)
     where
       by_row : (h : Row) → lands r (fact_of run asks blocks h) ≡ is_landing r.id h
-      by_row (row.Landed n how started) = ap (λ (t : Bool). t && (r.id == n)) (ap (λ (m : ℕ). m == run) own ∙ equal run) ∙ eq_comm r.id n
+      by_row (row.Landed n how started) = ap (λ (t : Bool). t && (r.id == n)) (ap (λ (m : ℕ). m == run) own ∙ same_itself run) ∙ same_turned r.id n
       by_row _ = refl
 
   taking_is : (r : Request) (rows : List Row) → r.run ≡ run → list_any (takes r) (facts_of run asks blocks rows) ≡ list_any (is_taking r.id) rows
@@ -88,7 +80,7 @@ module _ (run : ℕ) (asks : List Ask) (blocks : List (List ℕ)) where
   taking_is r (g ∷ rows) own = ap (λ (t : Bool). t || list_any (takes r) (facts_of run asks blocks rows)) (by_row g) ∙ ap (λ (t : Bool). is_taking r.id g || t) (taking_is r rows own)
     where
       by_row : (h : Row) → takes r (fact_of run asks blocks h) ≡ is_taking r.id h
-      by_row (row.Taken client n) = ap (λ (t : Bool). t && (r.id == n)) (ap (λ (m : ℕ). m == run) own ∙ equal run) ∙ eq_comm r.id n
+      by_row (row.Taken client n) = ap (λ (t : Bool). t && (r.id == n)) (ap (λ (m : ℕ). m == run) own ∙ same_itself run) ∙ same_turned r.id n
       by_row _ = refl
 
   begins_are : (rows : List Row) → count_by (begins_in run) (facts_of run asks blocks rows) ≡ count_by is_begin rows
@@ -101,12 +93,12 @@ module _ (run : ℕ) (asks : List Ask) (blocks : List (List ℕ)) where
       omega (arith, a, b, one, rest)
     where
       by_row : (h : Row) → begins_in run (fact_of run asks blocks h) ≡ is_begin h
-      by_row (row.Begun n) = equal run
+      by_row (row.Begun n) = same_itself run
       by_row _ = refl
 
   later_of : (moment : ℕ) (rows : List Row) → IsTrue (list_all (is_earlier_on moment) rows) → IsLater (facts_of run asks blocks rows) moment
   later_of moment [] all = tt
-  later_of moment (g ∷ rows) all = by_row g (and_both (is_earlier_on moment g) (list_all (is_earlier_on moment) rows) all) (later_of moment rows (and_both (is_earlier_on moment g) (list_all (is_earlier_on moment) rows) all).1)
+  later_of moment (g ∷ rows) all = by_row g (and_parts (is_earlier_on moment g) (list_all (is_earlier_on moment) rows) all) (later_of moment rows (and_parts (is_earlier_on moment g) (list_all (is_earlier_on moment) rows) all).1)
     where
       by_row : (h : Row) → IsTrue (is_earlier_on moment h) × IsTrue (list_all (is_earlier_on moment) rows) → IsLater (facts_of run asks blocks rows) moment → IsLater (facts_of run asks blocks (h ∷ rows)) moment
       by_row (row.On other) its rest = let test = its.0 in (grind (arith, nat_tests, test), rest)
@@ -133,7 +125,7 @@ module _ (run : ℕ) (asks : List Ask) (blocks : List (List ℕ)) where
   pub begun_fits : (rows : List Row) (id count : ℕ) → count ≡ count_by is_begin rows → IsTrue (id == count + 1) ↔ Fits (facts_of run asks blocks rows) (fact_of run asks blocks (row.Begun id))
   begun_fits rows id count is = (
     λ same. eqb-true id (count + 1) same ∙ ap (λ (n : ℕ). n + 1) (is ∙ sym (begins_are rows)),
-    λ next. ap (λ (n : ℕ). n == count + 1) (next ∙ ap (λ (n : ℕ). n + 1) (begins_are rows ∙ sym is)) ∙ equal (count + 1),
+    λ next. ap (λ (n : ℕ). n == count + 1) (next ∙ ap (λ (n : ℕ). n + 1) (begins_are rows ∙ sym is)) ∙ same_itself (count + 1),
   )
 
   pub on_fits : (rows : List Row) (moment : ℕ) → IsTrue (list_all (is_earlier_on moment) rows) ↔ Fits (facts_of run asks blocks rows) (fact_of run asks blocks (row.On moment))
@@ -145,9 +137,9 @@ module _ (run : ℕ) (asks : List Ask) (blocks : List (List ℕ)) where
     where
       to : IsTrue (list_any (is_beginning id) rows && (ask_of asks id).client == client && list_any (is_landing id) rows && not (list_any (is_taking id) rows)) → TakenOnce (facts_of run asks blocks rows) (record (request_in run asks blocks id) { client = client })
       to is =
-          let three = and_both (list_any (is_beginning id) rows && (ask_of asks id).client == client && list_any (is_landing id) rows) (not (list_any (is_taking id) rows)) is in
-          let two = and_both (list_any (is_beginning id) rows && (ask_of asks id).client == client) (list_any (is_landing id) rows) three.0 in
-          let one = and_both (list_any (is_beginning id) rows) ((ask_of asks id).client == client) two.0 in
+          let three = and_parts (list_any (is_beginning id) rows && (ask_of asks id).client == client && list_any (is_landing id) rows) (not (list_any (is_taking id) rows)) is in
+          let two = and_parts (list_any (is_beginning id) rows && (ask_of asks id).client == client) (list_any (is_landing id) rows) three.0 in
+          let one = and_parts (list_any (is_beginning id) rows) ((ask_of asks id).client == client) two.0 in
           let own = eqb-true (ask_of asks id).client client one.1 in
           record {
             began = subst (λ (n : ℕ). Stands (Begun (record (request_in run asks blocks id) { client = n })) (facts_of run asks blocks rows)) own (began_of id rows one.0);
@@ -161,9 +153,9 @@ module _ (run : ℕ) (asks : List Ask) (blocks : List (List ℕ)) where
           let own : client ≡ (ask_of asks id).client = ap (λ (r : Request). r.client) began.1 in
           and_from (list_any (is_beginning id) rows && (ask_of asks id).client == client && list_any (is_landing id) rows) (not (list_any (is_taking id) rows))
           (and_from (list_any (is_beginning id) rows && (ask_of asks id).client == client) (list_any (is_landing id) rows)
-          (and_from (list_any (is_beginning id) rows) ((ask_of asks id).client == client) began.0 (ap (λ (n : ℕ). n == client) (sym own) ∙ equal client))
+          (and_from (list_any (is_beginning id) rows) ((ask_of asks id).client == client) began.0 (ap (λ (n : ℕ). n == client) (sym own) ∙ same_itself client))
           (sym (landing_is (record (request_in run asks blocks id) { client = client }) rows refl) ∙ once.answered))
-          (so_not (list_any (is_taking id) rows) (sym (taking_is (record (request_in run asks blocks id) { client = client }) rows refl) ∙ once.first))
+          (not_from_false (list_any (is_taking id) rows) (sym (taking_is (record (request_in run asks blocks id) { client = client }) rows refl) ∙ once.first))
 
   kind_of : (how : Outcome) (started : Bool) (r : Request) → IsTrue (is_kind how r.write started) → IsOutcomeOf how r started
   kind_of outcome.Done started r is = is
@@ -180,9 +172,9 @@ module _ (run : ℕ) (asks : List Ask) (blocks : List (List ℕ)) where
   of_kind : (how : Outcome) (started : Bool) (r : Request) → IsOutcomeOf how r started → IsTrue (is_kind how r.write started)
   of_kind outcome.Done started r is = is
   of_kind outcome.Lost started r is = is
-  of_kind outcome.Got started r is = so_not r.write is
-  of_kind outcome.ReadFailed started r is = so_not r.write is
-  of_kind outcome.NoFresh started r is = so_not started is
+  of_kind outcome.Got started r is = not_from_false r.write is
+  of_kind outcome.ReadFailed started r is = not_from_false r.write is
+  of_kind outcome.NoFresh started r is = not_from_false started is
   of_kind outcome.Off started r is = refl
   of_kind outcome.Dark started r is = refl
 
@@ -193,7 +185,7 @@ module _ (run : ℕ) (asks : List Ask) (blocks : List (List ℕ)) where
   ends_of rows id how started t is once =
       let began = row_of_begun (request_in run asks blocks id) rows once.began in
       is ∙ and_from (list_any (is_beginning id) rows && not (list_any (is_landing id) rows)) (is_kind how (ask_of asks id).write started)
-      (and_from (list_any (is_beginning id) rows) (not (list_any (is_landing id) rows)) began.0 (so_not (list_any (is_landing id) rows) (sym (landing_is (request_in run asks blocks id) rows refl) ∙ once.first)))
+      (and_from (list_any (is_beginning id) rows) (not (list_any (is_landing id) rows)) began.0 (not_from_false (list_any (is_landing id) rows) (sym (landing_is (request_in run asks blocks id) rows refl) ∙ once.first)))
       (of_kind how started (request_in run asks blocks id) once.kind)
 
   pub lands_of : (rows : List Row) (id : ℕ) (how : Outcome) (started : Bool) (t : Bool)
@@ -201,8 +193,8 @@ module _ (run : ℕ) (asks : List Ask) (blocks : List (List ℕ)) where
       → GotMay (facts_of run asks blocks rows) (request_in run asks blocks id) how (cond (is_got how) (blocks_at blocks (ask_of asks id)) [])
       → Fits (facts_of run asks blocks rows) (fact_of run asks blocks (row.Landed id how started))
   lands_of rows id how started t is ends reads =
-      let three = and_both (list_any (is_beginning id) rows && not (list_any (is_landing id) rows)) (is_kind how (ask_of asks id).write started) (sym is ∙ ends) in
-      let two = and_both (list_any (is_beginning id) rows) (not (list_any (is_landing id) rows)) three.0 in
+      let three = and_parts (list_any (is_beginning id) rows && not (list_any (is_landing id) rows)) (is_kind how (ask_of asks id).write started) (sym is ∙ ends) in
+      let two = and_parts (list_any (is_beginning id) rows) (not (list_any (is_landing id) rows)) three.0 in
       record {
         began = began_of id rows two.0;
         first = landing_is (request_in run asks blocks id) rows refl ∙ not-true (list_any (is_landing id) rows) two.1;
@@ -276,5 +268,5 @@ module _ (run : ℕ) (asks : List Ask) (blocks : List (List ℕ)) where
 -- each request is bounded, also one that there isn't
 pub bounded_at : (asks : List Ask) (k : ℕ) → list_all is_bounded asks ≡ true → is_bounded (get_or asks k no_ask) ≡ true
 bounded_at [] k all = refl
-bounded_at (a ∷ asks) zero all = let both = and_both (is_bounded a) (list_all is_bounded asks) all in both.0
-bounded_at (a ∷ asks) (suc k) all = let both = and_both (is_bounded a) (list_all is_bounded asks) all in bounded_at asks k both.1
+bounded_at (a ∷ asks) zero all = let both = and_parts (is_bounded a) (list_all is_bounded asks) all in both.0
+bounded_at (a ∷ asks) (suc k) all = let both = and_parts (is_bounded a) (list_all is_bounded asks) all in bounded_at asks k both.1

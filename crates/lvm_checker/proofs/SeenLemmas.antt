@@ -1,15 +1,14 @@
 -- What is seen of one value, row by row, is what is known of the block.
-use Rattle.std.proofs.Common.{◌≡◌, ◌↔◌, IsTrue, inl, inr, ℕ, ◌+◌, ◌≤◌, ◌<◌, ◌&&◌, ◌||◌, ◌==◌, not, nat_lt, Bool, true, false, cond, List, [], ◌∷◌, length, take, drop, get_or, map, filter, reverse, Option, Some, None, is_some, IfSome, refl, sym, ◌∙◌, ap, subst, arith}
+use Rattle.std.proofs.Common.{◌≡◌, ◌↔◌, IsTrue, inl, inr, ℕ, ◌+◌, ◌≤◌, ◌<◌, ◌&&◌, ◌||◌, ◌==◌, not, nat_lt, Bool, true, false, cond, List, [], ◌∷◌, length, take, drop, get_or, map, filter, reverse, Option, Some, None, is_some, IfSome, refl, sym, ◌∙◌, ap, subst}
 use Rattle.std.specs.List.{list_any, fold}
 use Rattle.std.specs.Str.{bytes_eq}
 use Rattle.std.proofs.lemmas.List.{reverse-append, map_more, at_drop_more, take_all, drop_all}
 use Rattle.std.proofs.lemmas.List.Sums.{fold_push}
 use Rattle.std.proofs.lemmas.List.Folds.{list_any-append}
 use Rattle.std.proofs.lemmas.Slice.Eq.{bytes_eq-Decides}
-use Rattle.std.proofs.lemmas.Bool.Decides.{nat_tests}
 use Rattle.std.proofs.lemmas.Bool.{eqb-true, or_parts}
 use Rattle.lvm_vol.specs.passed.Names.{Sector, zero_sector}
-use Rattle.lvm_vol.proofs.passed.Names.{and_true, and_false, or_false}
+use Rattle.lvm_vol.proofs.passed.Names.{and_true, and_false, or_false, same_itself, same_turned, any_map}
 use Rattle.lvm_vol.specs.declared.entry.Vol.{Vol}
 use Rattle.lvm_vol.specs.declared.entry.Vol.TheVariants.{Lv}
 use Rattle.lvm_vol.specs.declared.entry.Outcome.{Outcome}
@@ -53,10 +52,6 @@ any_none : {X : Type 0} (p : X → Bool) (xs : List X) → ((x : X) → p x ≡ 
 any_none p [] none = refl
 any_none p (x ∷ xs) none = ap (λ (t : Bool). t || list_any p xs) (none x) ∙ any_none p xs none
 
-any_map : {X Y : Type 0} (p : Y → Bool) (f : X → Y) (xs : List X) → list_any p (map f xs) ≡ list_any (λ x. p (f x)) xs
-any_map p f [] = refl
-any_map p f (x ∷ xs) = ap (λ (t : Bool). p (f x) || t) (any_map p f xs)
-
 or_comm : (a b : Bool) → (a || b) ≡ (b || a)
 or_comm true true = refl
 or_comm true false = refl
@@ -74,9 +69,6 @@ and_assoc false b c = refl
 not_or : (a b : Bool) → not (a || b) ≡ (not a && not b)
 not_or true b = refl
 not_or false b = refl
-
-pub equal : (n : ℕ) → (n == n) ≡ true
-equal n = grind (arith, nat_tests)
 
 -- which writes are open, told from the front
 
@@ -179,17 +171,6 @@ open_known p facts vol b = open_after p facts vol b nothing_known
 
 -- and of rows
 
-pub eq_comm : (a b : ℕ) → (a == b) ≡ (b == a)
-eq_comm a b = by_test (a == b) refl
-  where
-    by_test : (t : Bool) → (a == b) ≡ t → t ≡ (b == a)
-    by_test true is = let same = eqb-true a b is in sym (ap (λ (n : ℕ). n == a) (sym same) ∙ equal a)
-    by_test false is = by_other (b == a) refl
-      where
-        by_other : (u : Bool) → (b == a) ≡ u → false ≡ u
-        by_other false other = refl
-        by_other true other = let same = eqb-true b a other in absurd (let e : (a == b) ≡ true = ap (λ (n : ℕ). a == n) same ∙ equal a in cc)
-
 module _ (run : ℕ) (asks : List Ask) (blocks : List (List ℕ)) (vol : Vol) (b : ℕ) where
   ending_is : (id : ℕ) → (ask_of asks id).write ≡ true → is_over_ask (ask_of asks id) vol b ≡ true → (r : Row) → closes vol b (request_in run asks blocks id) (fact_of run asks blocks r) ≡ is_ending id vol b r
   ending_is id write over (row.Landed other how started) = by_test (other == id) refl
@@ -200,7 +181,7 @@ module _ (run : ℕ) (asks : List Ask) (blocks : List (List ℕ)) (vol : Vol) (b
           ap (λ (n : ℕ). is_over_ask (ask_of asks n) vol b && (ask_of asks n).write && ((run == run) && (n == id))) same
           ∙ ap (λ (t : Bool). t && (ask_of asks id).write && ((run == run) && (id == id))) over
           ∙ ap (λ (t : Bool). t && ((run == run) && (id == id))) write
-          ∙ ap (λ (t : Bool). t && (id == id)) (equal run) ∙ equal id
+          ∙ ap (λ (t : Bool). t && (id == id)) (same_itself run) ∙ same_itself id
       by_test false is =
           ap (λ (t : Bool). is_over_ask (ask_of asks other) vol b && (ask_of asks other).write && ((run == run) && t)) is
           ∙ ap (λ (t : Bool). is_over_ask (ask_of asks other) vol b && (ask_of asks other).write && t) (and_false (run == run))
@@ -248,7 +229,7 @@ module _ (run : ℕ) (asks : List Ask) (blocks : List (List ℕ)) (vol : Vol) (b
   pub request_open : (n : ℕ) (x : Sector) (rows : List Row) → is_open_in (request_in run asks blocks n) (known (facts_of run asks blocks rows) vol b).open_writes ≡ is_any_open (sought.Request n) asks blocks vol b x rows
   request_open n x rows =
       open_known (same_request (request_in run asks blocks n)) (facts_of run asks blocks rows) vol b
-      ∙ open_rows (sought.Request n) x (same_request (request_in run asks blocks n)) (λ id write. ap (λ (t : Bool). t && (n == id)) (equal run) ∙ eq_comm n id) rows
+      ∙ open_rows (sought.Request n) x (same_request (request_in run asks blocks n)) (λ id write. ap (λ (t : Bool). t && (n == id)) (same_itself run) ∙ same_turned n id) rows
 
   pub some_open : (x : Sector) (rows : List Row) → list_any (λ r. true) (known (facts_of run asks blocks rows) vol b).open_writes ≡ is_any_open sought.Any asks blocks vol b x rows
   some_open x rows = open_known (λ r. true) (facts_of run asks blocks rows) vol b ∙ open_rows sought.Any x (λ r. true) (λ id write. refl) rows

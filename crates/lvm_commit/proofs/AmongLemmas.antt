@@ -9,6 +9,7 @@ use Rattle.lvm_num.specs.declared.place.Pp.{Pp}
 use Rattle.lvm_num.specs.declared.descriptor.LvRow.{LvRow}
 use Rattle.lvm_num.specs.declared.descriptor.Descriptor.{Descriptor}
 use Rattle.lvm_num.specs.Descriptor.{IsValid, copies_of, partitions_in}
+use Rattle.lvm_num.proofs.AmongLemmas.{one_of_left, one_of_right}
 use Rattle.lvm_kept.specs.Group.{IsOneOf}
 
 -- ---- lists without repetition
@@ -21,15 +22,6 @@ contains [] x one = absurd one
 contains (y ∷ ys) x (inl here) = (0, omega arith, sym here)
 contains (y ∷ ys) x (inr there) = Contains-append_right (y ∷ []) ys x (contains ys x there)
 
-left_of : {X : Type 0} (xs ys : List X) (x : X) → IsOneOf xs x → IsOneOf (xs ++ ys) x
-left_of [] ys x one = absurd one
-left_of (y ∷ xs) ys x (inl here) = inl here
-left_of (y ∷ xs) ys x (inr there) = inr (left_of xs ys x there)
-
-right_of : {X : Type 0} (xs ys : List X) (x : X) → IsOneOf ys x → IsOneOf (xs ++ ys) x
-right_of [] ys x one = one
-right_of (y ∷ xs) ys x one = inr (right_of xs ys x one)
-
 apart_tail : (x : Pp) (xs : List Pp) → AreApart (x ∷ xs) → AreApart xs
 apart_tail x xs apart i j d less within = apart (suc i) (suc j) d (omega (arith, less)) (omega (arith, within))
 
@@ -37,7 +29,7 @@ apart_tail x xs apart i j d less within = apart (suc i) (suc j) d (omega (arith,
 not_both : (xs ys : List Pp) (p : Pp) → AreApart (xs ++ ys) → IsOneOf xs p → IsOneOf ys p → ⊥
 not_both [] ys p apart front back = front
 not_both (x ∷ xs) ys p apart (inl here) back =
-    let at = contains (xs ++ ys) p (right_of xs ys p back) in
+    let at = contains (xs ++ ys) p (one_of_right xs ys p back) in
     apart zero (suc at.0) p (omega arith) (omega (arith, at.1)) (sym here ∙ sym at.2)
 not_both (x ∷ xs) ys p apart (inr there) back = not_both xs ys p (apart_tail x (xs ++ ys) apart) there back
 
@@ -88,12 +80,12 @@ one_partition row a b p apart one other = elim (cases_lt a b) [
 ]
 
 pub of_map : (row : LvRow) (lp : ℕ) (p : Pp) → IsOneOf (copies_of row lp) p → IsOneOf row.map p
-of_map row lp p one = subst (λ (m : List Pp). IsOneOf m p) (sym (joined (lp * row.copies) row.map)) (right_of (take (lp * row.copies) row.map) (drop (lp * row.copies) row.map) p (in_back (lp * row.copies) row.copies row.map p one))
+of_map row lp p one = subst (λ (m : List Pp). IsOneOf m p) (sym (joined (lp * row.copies) row.map)) (one_of_right (take (lp * row.copies) row.map) (drop (lp * row.copies) row.map) p (in_back (lp * row.copies) row.copies row.map p one))
 
 pub of_rows : (rows : List LvRow) (row : LvRow) (p : Pp) → IsOneOf rows row → IsOneOf row.map p → IsOneOf (partitions_in rows) p
 of_rows [] row p volume one = absurd volume
-of_rows (r ∷ rows) row p (inl here) one = left_of r.map (partitions_in rows) p (subst (λ (x : LvRow). IsOneOf x.map p) here one)
-of_rows (r ∷ rows) row p (inr there) one = right_of r.map (partitions_in rows) p (of_rows rows row p there one)
+of_rows (r ∷ rows) row p (inl here) one = one_of_left r.map (partitions_in rows) p (subst (λ (x : LvRow). IsOneOf x.map p) here one)
+of_rows (r ∷ rows) row p (inr there) one = one_of_right r.map (partitions_in rows) p (of_rows rows row p there one)
 
 apart_front : (xs ys : List Pp) → AreApart (xs ++ ys) → AreApart xs
 apart_front xs ys apart i j d less within =

@@ -1,7 +1,7 @@
 -- How the writes of an update end, one after another.
 use Rattle.std.proofs.Common.{◌≡◌, ◌⊎◌, inl, inr, ⊎_elim, ℕ, Bool, true, false, ◌&&◌, ◌||◌, not, Option, Some, None, refl, sym, ◌∙◌, ap, subst}
 use Rattle.std.specs.Prelude.{◌==◌, if◌then◌else◌, unwrap_or}
-use Rattle.std.proofs.lemmas.Bool.{eq-eqb, eqb-true, false≢true}
+use Rattle.std.proofs.lemmas.Bool.{eq-eqb, eqb-true, false≢true, false_from_ne_true, or_from}
 use Rattle.std.proofs.lemmas.List.Folds.{Any-from_list_any}
 use Rattle.lvm_num.specs.declared.descriptor.PvRow.{PvRow}
 use Rattle.lvm_num.specs.declared.descriptor.Descriptor.{Descriptor}
@@ -11,12 +11,12 @@ use Rattle.lvm_num.specs.Disks.{Disks, IsLowest}
 use Rattle.lvm_num.specs.Status.{calls_missing}
 use Rattle.lvm_num.specs.Votes.{votes_in, is_enough_to_write, CanWrite}
 use Rattle.lvm_num.proofs.VotesLemmas.{more_is_enough, more_have_more}
+use Rattle.lvm_num.proofs.Booleans.{first_with_second}
 use Rattle.lvm_status.specs.Update.{Updates, no_disks, without_disk, is_there, is_held, is_owed}
 use Rattle.lvm_status.specs.Calls.{WantsAtEnd, closed, comes_held, with_start, with_end, with_commit, after_end}
 use Rattle.lvm_status.specs.Runs.{NextWrite, Ended, IsSoundStatus}
-use Rattle.lvm_status.proofs.Disks.{no_is_false}
 use Rattle.lvm_status.proofs.RunsLemmas.Sessions.{without_update, closed_cases, commit_cases}
-use Rattle.lvm_status.proofs.RunsLemmas.Sound.{and_left, and_right, or_left, neither, none_held, owed_at, steps_stay_sound}
+use Rattle.lvm_status.proofs.RunsLemmas.Sound.{and_left, and_right, or_left, none_held, owed_at, steps_stay_sound}
 use Rattle.lvm_commit.specs.Rounds.{Misses}
 use Rattle.lvm_commit.proofs.RoundsLemmas.Losing.{misses_none, misses_same, misses_more}
 
@@ -37,7 +37,7 @@ record EndsAs (t : Status) (v : Updates) (disk : ℕ) (x : Updates) : Type 0 whe
 
 none_owed : (m : Updates) → is_owed m ≡ false → ((d : ℕ) → m.unstarted d ≡ true → is_member m.group d ≡ true) → (d : ℕ) → m.unstarted d ≡ false
 none_owed m none members d =
-    no_is_false (m.unstarted d)
+    false_from_ne_true (m.unstarted d)
     (λ is. false≢true (sym none ∙ owed_at m.group (λ disk. m.unstarted disk || m.started disk) d (members d is) (ap (λ b. b || m.started d) is)))
 
 -- the update ends, or doesn't
@@ -53,10 +53,6 @@ closes_as t v m disk members it flies =
       held = λ is. absurd (false≢true (sym (none_held m.group) ∙ is));
     })
     it
-
-held_before : (a b : Bool) → not a && b ≡ false → b ≡ true → a ≡ true
-held_before true b e is = refl
-held_before false b e is = absurd (false≢true (sym e ∙ is))
 
 -- it goes on in flight, all that isn't written beside it as it was
 flies_on : (t : Status) (v x : Updates) (disk : ℕ) → x.group ≡ v.group → x.stamp ≡ v.stamp → x.unstarted ≡ v.unstarted → x.started ≡ without_disk v.started disk → x.in_flight ≡ Some t
@@ -76,7 +72,7 @@ commits_as : (t : Status) (v n : Updates) (disk : ℕ) → n.group ≡ v.group �
 commits_as t v n disk group stamp unstarted started flies committed held true e =
     flies_on t v (with_commit n) disk group stamp unstarted started flies (λ is. flies ∙ ap (λ (o : Option Status). Some (unwrap_or o n.committed)) (sym flies))
 commits_as t v n disk group stamp unstarted started flies committed held false e =
-    flies_on t v n disk group stamp unstarted started flies (λ is. flies ∙ ap (λ (s : Status). Some s) (sym (held (held_before (is_held v) (is_held n) e is)) ∙ sym committed))
+    flies_on t v n disk group stamp unstarted started flies (λ is. flies ∙ ap (λ (s : Status). Some s) (sym (held (first_with_second (is_held v) (is_held n) e is)) ∙ sym committed))
 
 flies_still : (t : Status) (n : Updates) → n.in_flight ≡ Some t → (b : Bool) → (if b then with_commit n else n).in_flight ≡ Some t
 flies_still t n flies b = commit_cases (λ m. m.in_flight ≡ Some t) n b flies flies
@@ -302,7 +298,7 @@ module _ (first : Updates) (failed : Disks) where
     no_owed : is_owed u ≡ true → ⊥
     no_owed is =
         let found = Any-from_list_any (λ (row : PvRow). u.unstarted row.disk || u.started row.disk) u.group.pvs is in
-        false≢true (sym (neither (u.unstarted found.1.disk) (u.started found.1.disk) (none found.1.disk) (ending.started found.1.disk)) ∙ found.4)
+        false≢true (sym (or_from (u.unstarted found.1.disk) (u.started found.1.disk) (none found.1.disk) (ending.started found.1.disk)) ∙ found.4)
 
     all_written : u.in_flight ≡ Some first.wanted → (d : ℕ) → is_there u d ≡ true → u.written d ≡ true
     all_written is d here = sym (ap (λ b. b || (u.started d || u.written d)) (none d) ∙ ap (λ b. b || u.written d) (ending.started d)) ∙ ending.sound.each first.wanted is d here

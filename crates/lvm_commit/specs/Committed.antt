@@ -17,7 +17,7 @@ use Rattle.lvm_kept.specs.Group.{has_room, Finds, members_in, IsOneOf}
 pub use Rattle.lvm_kept.specs.Group.{IsAlike}
 use Rattle.lvm_rec.specs.declared.homes.Homes.{Homes}
 use Rattle.lvm_write.specs.Homes.{SparesNewest}
-use Rattle.lvm_stamps.specs.Behind.{StampsBefore}
+use Rattle.lvm_steps.specs.Behind.{StampsBefore}
 
 -- the stamp after this one in its session
 abbrev pub next_stamp : Stamp → Stamp

@@ -19,7 +19,7 @@ use Rattle.lvm_kept.specs.Torn.{IsOfRecord, DescriptorsChange}
 use Rattle.lvm_steps.specs.Requests.{IsOfData}
 use Rattle.lvm_rec.specs.declared.homes.Homes.{Homes}
 use Rattle.lvm_write.specs.Written.{write_of}
-use Rattle.lvm_stamps.specs.Laws.{IsNoLater}
+use Rattle.lvm_steps.specs.Laws.{IsNoLater}
 use Rattle.lvm_commit.specs.Committed.{next_stamp, HoldsCommitted}
 use Rattle.lvm_commit.specs.Laws.{IsLaterDescriptor}
 

@@ -32,7 +32,7 @@ use Rattle.lvm_steps.specs.Requests.{IsOfData, at}
 use Rattle.lvm_steps.specs.Committing.{DiffersInVolume, IsServed, MayCommit}
 use Rattle.lvm_steps.specs.VolumeEntries.{AreZeros}
 use Rattle.lvm_rec.specs.declared.homes.Homes.{Homes}
-use Rattle.lvm_stamps.specs.Laws.{IsNoLater, ShowsBefore}
+use Rattle.lvm_steps.specs.Laws.{IsNoLater, ShowsBefore}
 use Rattle.lvm_commit.specs.Committed.{next_stamp, ShowsCommitted, HoldsCommitted}
 use Rattle.lvm_commit.specs.Laws.{IsLaterDescriptor}
 

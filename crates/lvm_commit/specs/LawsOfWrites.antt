@@ -19,7 +19,7 @@ use Rattle.lvm_kept.specs.Torn.{RecordWrite, IsOfRecord, StandsOn, MayWriteAll}
 use Rattle.lvm_rec.specs.declared.homes.Homes.{Homes}
 use Rattle.lvm_rec.specs.Homes.{Flips}
 use Rattle.lvm_write.specs.Written.{write_of}
-use Rattle.lvm_stamps.specs.Laws.{IsNoLater}
+use Rattle.lvm_steps.specs.Laws.{IsNoLater}
 use Rattle.lvm_commit.specs.Committed.{next_stamp, IsAlike, MayMark, HoldsCommitted}
 use Rattle.lvm_commit.specs.LawsOfVolumes.{VolumeServes, LeavesOthers}
 

@@ -1,12 +1,13 @@
 -- What a call leaves, by what its transfers and its entries did.
 use Rattle.std.proofs.Common.{◌≡◌, ◌⊎◌, inl, inr, ⊎_elim, ℕ, ◌+◌, Bool, true, false, cond, List, [], ◌∷◌, ◌++◌, count_by, Option, Some, None, refl, sym, ap, subst, ◌∙◌, arith}
-use Rattle.std.specs.Prelude.{IfSome, IsSomeAnd, IsTrue, IsFalse, if◌then◌else◌}
+use Rattle.std.specs.Prelude.{IfSome, IsSomeAnd, IsTrue, if◌then◌else◌}
 use Rattle.std.proofs.lemmas.Bool.{false≢true}
 use Rattle.std.proofs.lemmas.List.Sums.{sum_by-append}
 use Rattle.lvm_num.specs.declared.place.Pp.{Pp}
 use Rattle.lvm_num.specs.declared.status.StatusRow.{StatusRow}
 use Rattle.lvm_num.specs.declared.descriptor.Descriptor.{Descriptor}
 use Rattle.lvm_num.specs.Status.{calls_stale, calls_missing}
+use Rattle.lvm_num.proofs.Booleans.{false_by}
 use Rattle.lvm_disk.specs.Device.{Media, Image, Device, image_of, MayLeave}
 use Rattle.lvm_disk.specs.Steps.{BothTold}
 use Rattle.lvm_vol.specs.Facts.{Fact, Cut}
@@ -18,7 +19,7 @@ use Rattle.lvm_commit.proofs.passed.Names.{media_may, later_append}
 use Rattle.lvm_status.specs.Update.{Stored}
 use Rattle.lvm_commit.specs.LawsOfFinding.{FindsNothingNew, FindsNoMore, FindsNothingNewOn, FindsNoMoreOn}
 use Rattle.lvm_commit.specs.Settling.{IsPassedOver}
-use Rattle.lvm_over.specs.passed.Names.{State}
+use Rattle.lvm_session.specs.State.{State}
 use Rattle.lvm_core.specs.Leaves.{WasLeftBehind, KeepsStatus, is_of_volume, EntersVolumes, KeepsHistory, MayBeFound, FindsOnly}
 
 -- ---- what is told
@@ -89,10 +90,6 @@ module _ (N : Descriptor → Type 0) (a b : State) (R : Media → Media → Type
 
 -- ---- the status
 
-pub outside : (t u : Bool) → (IsTrue t → IsTrue u) → IsFalse u → IsFalse t
-outside true u more off = absurd (false≢true (sym off ∙ more refl))
-outside false u more off = refl
-
 -- a copy that a commit passes over is left behind
 pub passed_behind : (N : Descriptor → Type 0) (F : Pp → Type 0) (a b : State) (group : Descriptor) → (group ≡ a.core.descriptor) ⊎ N group
     → ((p : Pp) → (F p → ⊥) → IsTrue (calls_stale a.core.status.wanted p) → IsTrue (calls_stale b.core.status.wanted p))
@@ -103,7 +100,7 @@ passed_behind N F a b group known stale p gone is = record {
   its = is.its;
   absent = is.absent;
   apart = λ same. false≢true (sym is.fresh ∙ ap (calls_stale b.core.status.wanted) same ∙ gone);
-  usable = λ out. outside (calls_stale a.core.status.wanted is.its.other) (calls_stale b.core.status.wanted is.its.other) (stale is.its.other out) is.fresh;
+  usable = λ out. false_by (calls_stale a.core.status.wanted is.its.other) (calls_stale b.core.status.wanted is.its.other) (stale is.its.other out) is.fresh;
   was_there = is.was_there;
 }
 

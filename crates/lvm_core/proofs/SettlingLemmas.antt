@@ -2,7 +2,7 @@
 use Rattle.std.proofs.Common.{◌≡◌, inl, inr, ◌∷◌, ℕ, zero, suc, ◌<◌, ◌≤◌, ◌%◌, ◌++◌, Bool, true, false, ◌&&◌, not, List, [], Some, length, refl, sym, ◌∙◌, ap, subst, arith}
 use Rattle.std.specs.Prelude.{◌==◌, ◌||◌, IsTrue, IfSome, All, Contains, slice_get, get_or}
 use Rattle.std.specs.List.{list_any}
-use Rattle.std.proofs.lemmas.Bool.{eqb-true}
+use Rattle.std.proofs.lemmas.Bool.{eqb-true, false_from_ne_true}
 use Rattle.std.proofs.lemmas.List.Folds.{Any-from_list_any, list_any-from_Any}
 use Rattle.std.proofs.lemmas.List.Elements.{Contains-append_left, Contains-append_right}
 use Rattle.std.proofs.Math.Nat.{mod-lt}
@@ -31,7 +31,9 @@ use Rattle.lvm_kept.specs.Contents.{Contents}
 use Rattle.lvm_stale.specs.Marking.{is_served}
 use Rattle.lvm_commit.specs.LawsOfData.{IsFree}
 use Rattle.lvm_commit.specs.Settling.{NoneIsLeft, there, IsOf, MayCommit, MaySettle, SessionIsHeld}
-use Rattle.lvm_over.specs.passed.Names.{is_dark, Core, State, is_among, is_there}
+use Rattle.lvm_session.specs.Sound.{is_dark}
+use Rattle.lvm_session.specs.State.{Core, State, is_there}
+use Rattle.lvm_session.specs.Marks.{is_among}
 use Rattle.lvm_core.specs.Sound.{IsSoundBetween}
 use Rattle.lvm_core.specs.Held.{IsHeld}
 use Rattle.lvm_core.specs.Settled.{HasSpareNumbers, IsSettled}
@@ -139,10 +141,6 @@ any_same : (p q : Pp → Bool) (xs : List Pp) → ((x : Pp) → IsOneOf xs x →
 any_same p q [] same = refl
 any_same p q (x ∷ xs) same = λ i. same x (inl refl) i || any_same p q xs (λ y is. same y (inr is)) i
 
-pub isnt : (b : Bool) → (b ≡ true → ⊥) → b ≡ false
-isnt true contra = absurd (contra refl)
-isnt false contra = refl
-
 module _ (core : Core) (stale fresh : List Pp) (first : Stored) (marked : IsMarked stale fresh core.status first) (settled : IsSettled core) (group : core.status.group ≡ record core.descriptor { lvs = [] }) where
   pub first_is_of : IsOf core.descriptor first
   first_is_of = sym (marked.rest.group ∙ group)
@@ -162,10 +160,10 @@ module _ (core : Core) (stale fresh : List Pp) (first : Stored) (marked : IsMark
   -- what is wanted says the same of the volumes
   module _ (valid : IsValid core.descriptor) (unused : AreUnused core.descriptor (stale ++ fresh)) where
     not_stale : (row : LvRow) (lp : ℕ) (p : Pp) → IsOneOf core.descriptor.lvs row → IsOneOf (copies_of row lp) p → is_among stale p ≡ false
-    not_stale row lp p volume one = isnt (is_among stale p) (λ is. not_free core.descriptor row lp p valid volume one (unused_at core.descriptor (stale ++ fresh) p unused (Contains-append_left stale fresh p (among_at stale p is))))
+    not_stale row lp p volume one = false_from_ne_true (is_among stale p) (λ is. not_free core.descriptor row lp p valid volume one (unused_at core.descriptor (stale ++ fresh) p unused (Contains-append_left stale fresh p (among_at stale p is))))
 
     not_fresh : (row : LvRow) (lp : ℕ) (p : Pp) → IsOneOf core.descriptor.lvs row → IsOneOf (copies_of row lp) p → is_among fresh p ≡ false
-    not_fresh row lp p volume one = isnt (is_among fresh p) (λ is. not_free core.descriptor row lp p valid volume one (unused_at core.descriptor (stale ++ fresh) p unused (Contains-append_right stale fresh p (among_at fresh p is))))
+    not_fresh row lp p volume one = false_from_ne_true (is_among fresh p) (λ is. not_free core.descriptor row lp p valid volume one (unused_at core.descriptor (stale ++ fresh) p unused (Contains-append_right stale fresh p (among_at fresh p is))))
 
     as_before : (a : Bool) → (a || false) && not false ≡ a
     as_before true = refl

@@ -7,7 +7,7 @@ use Rattle.lvm_commit.specs.passed.Names.{Keeps, at, ClockIsAhead, IsBehind}
 use Rattle.lvm_write.specs.Parts.{Spends}
 use Rattle.lvm_commit.specs.Settling.{NoneIsLeft}
 use Rattle.lvm_core.specs.declared.refused.Refused.{Refused}
-use Rattle.lvm_over.specs.passed.Names.{Core, State}
+use Rattle.lvm_session.specs.State.{Core, State}
 use Rattle.lvm_core.specs.Held.{StartsHeld}
 use Rattle.lvm_core.specs.Settled.{IsSettled, HasSpareNumbers}
 

@@ -5,7 +5,7 @@ use Rattle.lvm_kept.specs.Contents.{contents_of}
 use Rattle.lvm_kept.specs.Group.{is_named}
 use Rattle.lvm_mwc.specs.Cache.{is_named as is_named_by}
 use Rattle.lvm_commit.specs.Committed.{HoldsCommitted}
-use Rattle.lvm_over.specs.passed.Names.{Core, is_there}
+use Rattle.lvm_session.specs.State.{Core, is_there}
 
 -- they hold what the session says is committed
 abbrev pub IsHeld : Device → Core → Type 0

@@ -18,7 +18,7 @@ use Rattle.lvm_commit.specs.passed.Names.{Begins, SpanGoesOn}
 use Rattle.lvm_write.specs.Parts.{Spends}
 use Rattle.lvm_write.specs.Written.{KeepsShelf}
 use Rattle.lvm_commit.specs.Settling.{there, HasAnother, HasSameRows, SpendsNumbers, IsOfStatus, IsOfCommit}
-use Rattle.lvm_over.specs.passed.Names.{State, is_there}
+use Rattle.lvm_session.specs.State.{State, is_there}
 use Rattle.lvm_core.specs.Held.{IsHeld}
 use Rattle.lvm_core.specs.Committing.{moment_of, LetsCommit, StaysBehind}
 use Rattle.lvm_core.specs.Zeros.{IsZeroOf}

@@ -2,8 +2,8 @@
 use Rattle.std.specs.Prelude.{◌≡◌, ◌≢◌, ◌+◌, ◌*◌, ◌^◌, ◌<◌}
 use Rattle.lvm_num.specs.Votes.{CanWrite}
 use Rattle.lvm_commit.specs.Settling.{many_there}
-use Rattle.lvm_over.specs.passed.SessionOpenPower as power
-use Rattle.lvm_over.specs.passed.Names.{Core, is_there}
+use Rattle.lvm_session.specs.declared.open.Power.TheVariants as power
+use Rattle.lvm_session.specs.State.{Core, is_there}
 use Rattle.lvm_core.specs.Sound.{IsQuiet}
 
 -- A session that has begun and is on, at which nothing is under way and nothing is wanted that isn't committed, and whose members that aren't missing have

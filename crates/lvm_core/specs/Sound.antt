@@ -2,13 +2,16 @@
 use Rattle.std.specs.Prelude.{◌≡◌, ◌≤◌, ◌+◌, ℕ, false, true, List, [], None, length, replicate, slice_index_or}
 use Rattle.lvm_num.specs.Descriptor.{IsValid, is_member}
 pub use Rattle.lvm_vol.specs.Log.{HaveAllLanded}
-pub use Rattle.lvm_over.specs.passed.Names.{HasNoneOpen}
+pub use Rattle.lvm_session.specs.Sound.{HasNoneOpen}
 use Rattle.lvm_mwc.specs.Entries.{AreEntries}
 use Rattle.lvm_mwc.specs.Cache.{has_disk, flight_on}
 use Rattle.lvm_status.specs.Members.{HasItsRows}
 use Rattle.lvm_commit.specs.Settling.{IsForgotten}
-use Rattle.lvm_over.specs.passed.SessionOpenPower as power
-use Rattle.lvm_over.specs.passed.Names.{Core, State, is_lost, ArePlaced, IsLit, IsDark, count_if, is_dark, out_with}
+use Rattle.lvm_session.specs.declared.open.Power.TheVariants as power
+use Rattle.lvm_session.specs.State.{Core, State}
+use Rattle.lvm_session.specs.Enabled.{is_lost}
+use Rattle.lvm_session.specs.Placed.{ArePlaced}
+use Rattle.lvm_session.specs.Sound.{IsLit, IsDark, count_if, is_dark, out_with}
 
 -- The parts of a session are of one group, and their rooms agree.
 pub record IsFittingBetween (core : Core) : Type 0 where

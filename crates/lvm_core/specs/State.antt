@@ -1,2 +1,2 @@
 -- The state of a driver: its session and the shelf below.
-pub use Rattle.lvm_over.specs.passed.Names.{state_of}
+pub use Rattle.lvm_session.specs.State.{state_of}

@@ -13,8 +13,9 @@ use Rattle.lvm_commit.specs.declared.commit.CommitEnd.TheVariants as commit_end
 use Rattle.lvm_commit.specs.Settling.{HasSameRows, IsForgotten, IsOfStatus, IsOfCommit, IsPlain, IsPlainStatus, StatusStaysKept, DescriptorStaysKept, StatusFindsNothingNew, CommitFindsNoMore, StaysHeld, ComesHeld, CommitLeaves, SettleEnds}
 use Rattle.lvm_core.specs.declared.fault.CommitFault.{CommitFault}
 use Rattle.lvm_core.specs.declared.fault.CommitFault.TheVariants as fault
-use Rattle.lvm_over.specs.passed.SessionOpenPower as power
-use Rattle.lvm_over.specs.passed.Names.{Core, State, all_dark}
+use Rattle.lvm_session.specs.declared.open.Power.TheVariants as power
+use Rattle.lvm_session.specs.State.{Core, State}
+use Rattle.lvm_session.specs.Dark.{all_dark}
 use Rattle.lvm_core.specs.Committing.{Marks, AreMarked, with_one_out}
 
 -- ---- the marks

@@ -13,7 +13,8 @@ use Rattle.lvm_commit.specs.LawsOfData.{IsSectorOf}
 use Rattle.lvm_commit.specs.LawsOfFinding.{FindsNothingNewOn}
 use Rattle.lvm_core.specs.declared.fault.CommitFault.{CommitFault}
 use Rattle.lvm_core.specs.declared.fault.CommitFault.TheVariants as fault
-use Rattle.lvm_over.specs.passed.Names.{Core, State, all_dark}
+use Rattle.lvm_session.specs.State.{Core, State}
+use Rattle.lvm_session.specs.Dark.{all_dark}
 use Rattle.lvm_core.specs.Held.{IsHeld}
 use Rattle.lvm_core.specs.Committing.{HasGoneDark, IsLeftOut, with_one_out}
 

@@ -5,7 +5,9 @@ ghost use Rattle.lvm_session_start.specs.passed.Names.{IsOut};
 ghost use Rattle.lvm_status.specs.Calls.{IsMarkable};
 ghost use Rattle.lvm_commit.specs.Committed.{IsAlike};
 ghost use Rattle.lvm_commit.specs.Settling.{IfBack, MayCommit};
-ghost use Rattle.lvm_over.specs.passed.Names.{core_of, HasRooms, SameRooms, state};
+ghost use Rattle.lvm_session.specs.Fields.{core_of};
+ghost use Rattle.lvm_session.specs.Rooms.{HasRooms, SameRooms};
+ghost use Rattle.lvm_session.specs.State.{state};
 ghost use Rattle.lvm_core.specs.Sound.{IsFittingBetween, HasNoneOpen};
 ghost use Rattle.lvm_core.specs.Committing.{with_one_out};
 ghost use Rattle.lvm_core.specs.Steps.{EndsAs, EndsWith, CommitsDescriptor, CommitsMarks};
@@ -19,8 +21,7 @@ use lvm_commit::below::{Moved, Patience};
 use lvm_commit::{CommitEnd, commit_descriptor, commit_status};
 use lvm_disk::Shelf;
 use lvm_num::{Descriptor, Pbuf, Pp};
-use lvm_over::below::{Power, Session};
-use lvm_over::darken;
+use lvm_session::{Power, Session, darken};
 
 // The first buffer, where all are in.
 fn take_buffer(session: &mut Session) -> Pbuf

@@ -9,8 +9,14 @@ ghost use Rattle.lvm_write.specs.Written.{KeepsShelf};
 ghost use Rattle.lvm_commit.specs.Committed.{IsAlike};
 ghost use Rattle.lvm_commit.specs.LawsOfData.{IsFree};
 ghost use Rattle.lvm_commit.specs.Settling.{MarksLeft};
-ghost use Rattle.lvm_over.specs.passed.Names.{Open, core_of, HasRooms, state, is_there, votes_there, is_waiting, after_arrange, ArePlaced};
-ghost use Rattle.lvm_over.specs.passed.SessionOpenPower as power;
+ghost use Rattle.lvm_session.specs.declared.open.Open.{Open};
+ghost use Rattle.lvm_session.specs.Fields.{core_of};
+ghost use Rattle.lvm_session.specs.Rooms.{HasRooms};
+ghost use Rattle.lvm_session.specs.State.{state, is_there, votes_there};
+ghost use Rattle.lvm_session.specs.Judging.{is_waiting};
+ghost use Rattle.lvm_session.specs.Dark.{after_arrange};
+ghost use Rattle.lvm_session.specs.Placed.{ArePlaced};
+ghost use Rattle.lvm_session.specs.declared.open.Power.TheVariants as power;
 ghost use Rattle.lvm_core.specs.State.{state_of};
 ghost use Rattle.lvm_core.specs.Looking.{IsNumberOf, HasNoVolumeNamed};
 ghost use Rattle.lvm_core.specs.Sound.{IsSoundBetween, HaveAllLanded};
@@ -29,9 +35,8 @@ use crate::prepared::Prepared;
 use lvm_commit::below::Patience;
 use lvm_disk::{Arrange, Shelf};
 use lvm_num::{Descriptor, Memory, Name, Pp, Stamp};
-use lvm_over::arranged;
-use lvm_over::below::{Power, Session};
 use lvm_rec::Homes;
+use lvm_session::{Power, Session, arranged};
 use lvm_session_start::below::History;
 use lvm_stale::StaleTable;
 use lvm_vol::Entry;
@@ -47,9 +52,9 @@ pub struct Driver<S: Shelf> {
 }
 
 impl<S: Shelf> Model for Driver<S> {
-    ghost use Rattle.lvm_over.specs.passed.Names.{Core, state};
-    ghost use Rattle.lvm_over.specs.passed.Names.{core_of};
-    ghost use Rattle.lvm_over.specs.passed.Names.{HasRooms};
+    ghost use Rattle.lvm_session.specs.State.{Core, state};
+    ghost use Rattle.lvm_session.specs.Fields.{core_of};
+    ghost use Rattle.lvm_session.specs.Rooms.{HasRooms};
     ghost use Rattle.lvm_core.specs.Sound.{IsSoundBetween};
 
     ghost Value = { S × Core };

@@ -1,7 +1,7 @@
 //! What is looked up in a group.
 ghost use Rattle.std.specs.Prelude.{◌≡◌, IfSome, IfNone, IsTrue, IsFalse};
 ghost use Rattle.lvm_core.specs.Looking.{IsNumberOf, HasNoVolumeNamed};
-ghost use Rattle.lvm_over.specs.passed.Names.{IsPlaced, AreAllPlaced};
+ghost use Rattle.lvm_session.specs.Placed.{IsPlaced, AreAllPlaced};
 
 use lvm_disk::Shelf;
 use lvm_num::{Descriptor, Name, PvRow};

@@ -3,7 +3,9 @@ ghost use Rattle.std.specs.Prelude.{◌≡◌, ◌≤◌, IfOk, IsTrue, IsFalse}
 ghost use Rattle.lvm_num.specs.Descriptor.{IsValid};
 ghost use Rattle.lvm_num.specs.Status.{IsValidStatus};
 ghost use Rattle.lvm_vol.specs.Log.{spare_entries};
-ghost use Rattle.lvm_over.specs.passed.Names.{core_of, HasRooms, ArePlaced};
+ghost use Rattle.lvm_session.specs.Fields.{core_of};
+ghost use Rattle.lvm_session.specs.Rooms.{HasRooms};
+ghost use Rattle.lvm_session.specs.Placed.{ArePlaced};
 ghost use Rattle.lvm_session_start.specs.Parts.{IsOneGroup};
 ghost use Rattle.lvm_session_start.specs.Beginning.{AreFaults, first_core};
 ghost use Rattle.lvm_core.specs.Starting.{IsRoom, IsReservedFor, AreReserved, room_of};
@@ -11,9 +13,9 @@ ghost use Rattle.lvm_core.specs.Starting.{IsRoom, IsReservedFor, AreReserved, ro
 use crate::look::are_placed;
 use lvm_disk::Shelf;
 use lvm_num::{Memory, Stamp};
-use lvm_over::below::Session;
 use lvm_quorum::Choice;
 use lvm_rec::Homes;
+use lvm_session::Session;
 use lvm_session_start::below::History;
 use lvm_session_start::{first_session, take_parts};
 use std::alloc::Global;

@@ -31,7 +31,7 @@ impl Prepared {
         requires { IsValid descriptor }
         ensures { IfOk result (λ prepared. prepared ≡ descriptor) }
     {
-        let bytes = lvm_spelling::encode(alloc, &descriptor)?;
+        let bytes = lvm_vgda::encode(alloc, &descriptor)?;
         Ok(Prepared { descriptor, bytes })
     }
 

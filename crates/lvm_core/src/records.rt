@@ -23,7 +23,7 @@ pub fn encode_records(alloc: Global, choice: &Choice) -> Result<RecordBytes, Mem
     ensures descriptor { IfOk result (λ bytes. bytes.descriptor ≡ descriptor_bytes choice.now.descriptor) }
     ensures status { IfOk result (λ bytes. bytes.status ≡ status_bytes choice.now.status) }
 {
-    let descriptor = lvm_spelling::encode(alloc, &choice.descriptor)?;
+    let descriptor = lvm_vgda::encode(alloc, &choice.descriptor)?;
     let status = lvm_vgsa::encode(alloc, &choice.status)?;
     Ok(RecordBytes { descriptor, status })
 }

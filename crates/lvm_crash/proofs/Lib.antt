@@ -4,3 +4,9 @@ pub mod WorkedLemmas
 pub mod LastingLemmas
 pub mod MayLemmas
 pub mod StandingLemmas
+pub mod CopiesLemmas
+pub mod DeviceLemmas
+pub mod OwnedLemmas
+pub mod WritingLemmas
+pub mod RecordsLemmas
+pub mod BringingLemmas

@@ -5,3 +5,8 @@ pub mod Flights
 pub mod Laws
 pub mod Lasting
 pub mod Worked
+pub mod Copies
+pub mod Owned
+pub mod Writing
+pub mod Records
+pub mod Bringing

@@ -1,5 +1,5 @@
 -- Which sessions may begin.
-use Rattle.std.proofs.Common.{◌≡◌, ◌<◌, ◌≤◌, ◌+◌, ◌^◌, ℕ, Bool, true, false, ◌&&◌, ◌||◌, not, List, [], ◌∷◌, length, refl, sym, ◌∙◌, ap, subst, arith}
+use Rattle.std.proofs.Common.{◌≡◌, ◌<◌, ◌≤◌, ◌+◌, ◌^◌, ℕ, Bool, true, false, ◌&&◌, not, List, [], length, refl, sym, ◌∙◌, ap, subst, arith}
 use Rattle.std.specs.Prelude.{IsTrue}
 use Rattle.std.specs.List.{list_any, range_with_len}
 use Rattle.lvm_num.specs.declared.descriptor.Descriptor.{Descriptor}
@@ -13,6 +13,7 @@ use Rattle.lvm_num.specs.Disks.{has}
 use Rattle.lvm_num.specs.Status.{calls_missing}
 use Rattle.lvm_num.specs.Votes.{all_disks, is_enough_to_write, total_votes, votes_by, votes_in}
 use Rattle.lvm_num.proofs.VotesLemmas.{more_have_more, more_is_enough}
+use Rattle.lvm_num.proofs.Lists.{none_each}
 use Rattle.lvm_disk.specs.Device.{Device}
 use Rattle.lvm_vol.specs.Log.{Log}
 use Rattle.lvm_status.specs.Update.{Updates, members_there}
@@ -24,7 +25,7 @@ use Rattle.lvm_session.specs.Marks.{can_replace, is_among, is_entailed, is_entai
 use Rattle.lvm_session.specs.Left.{updates_left}
 use Rattle.lvm_session.specs.Worked.{faultless, fresh, mirrored, status_of}
 use Rattle.lvm_session.proofs.WorkedLemmas.Parts.{none_missing, placed, valid}
-use Rattle.lvm_keeps_calls.proofs.KeepsLemmas.{few_updates}
+use Rattle.lvm_keeps_events.proofs.SubmitKeepsLemmas.{few_updates}
 use Rattle.lvm_session_start.specs.declared.parts.Parts.{Parts}
 use Rattle.lvm_session_start.specs.declared.parts.Room.{Room}
 use Rattle.lvm_session_start.specs.Beginning.{MayBegin, first_core}
@@ -32,10 +33,6 @@ use Rattle.lvm_session_start.specs.Parts.{IsReserved, IsSessionRoom}
 use Rattle.lvm_driver.specs.Beginnings.{EachModeBegins, IsClosedLog, IsShelfOf, IsWholeGroup, WholeGroupsBegin, no_log, third_stamp}
 
 -- ---- nothing that missing disks would entail
-
-none_passes : {A : Type 0} (test : A → Bool) → ((x : A) → test x ≡ false) → (xs : List A) → list_any test xs ≡ false
-none_passes test fails [] = refl
-none_passes test fails (x ∷ xs) = ap (λ b. b || list_any test xs) (fails x) ∙ none_passes test fails xs
 
 module _ (core : Core) (p : Pp) (there : is_missing core p.disk ≡ false) where
   not_behind : (copies : List Pp) → is_left_behind core copies p ≡ false
@@ -48,10 +45,10 @@ module _ (core : Core) (p : Pp) (there : is_missing core p.disk ≡ false) where
       by false b c d gone = refl
 
   not_entailed_in : (row : LvRow) → is_entailed_in core row p ≡ false
-  not_entailed_in row = none_passes (λ (lp : ℕ). is_left_behind core (copies_of row lp) p) (λ lp. not_behind (copies_of row lp)) (range_with_len 0 row.lps)
+  not_entailed_in row = none_each (λ (lp : ℕ). is_left_behind core (copies_of row lp) p) (λ lp. not_behind (copies_of row lp)) (range_with_len 0 row.lps)
 
   not_entailed : is_entailed core p ≡ false
-  not_entailed = none_passes (λ (row : LvRow). is_entailed_in core row p) not_entailed_in core.descriptor.lvs
+  not_entailed = none_each (λ (row : LvRow). is_entailed_in core row p) not_entailed_in core.descriptor.lvs
 
 -- ---- all members are there
 

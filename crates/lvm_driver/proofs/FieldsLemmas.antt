@@ -20,14 +20,14 @@ use Rattle.lvm_session.specs.Sound.{IsSound}
 use Rattle.lvm_keeps.proofs.KeepsLemmas.Close.{close_keeps}
 use Rattle.lvm_keeps.proofs.KeepsLemmas.Orders.{order_keeps}
 use Rattle.lvm_keeps.proofs.KeepsLemmas.Take.{take_keeps}
-use Rattle.lvm_keeps_calls.proofs.KeepsLemmas.{submit_keeps}
-use Rattle.lvm_running.proofs.passed.Names.{turn_keeps}
-use Rattle.lvm_keeps_calls.proofs.OpeningLemmas.Opening.{seen_open_keeps}
-use Rattle.lvm_keeps_calls.specs.passed.Names.{counts_seen}
-use Rattle.lvm_running.specs.passed.Names.{AreValid}
-use Rattle.lvm_running.specs.Running.{LeavesSession, RunsOn}
-use Rattle.lvm_running.proofs.LawsLemmas.Calls.{calls_run_on}
-use Rattle.lvm_running.proofs.LawsLemmas.Turning.{turn_runs_on}
+use Rattle.lvm_keeps_events.proofs.SubmitKeepsLemmas.{submit_keeps}
+use Rattle.lvm_tie.proofs.passed.Names.{turn_keeps}
+use Rattle.lvm_keeps_events.proofs.OpeningLemmas.Opening.{seen_open_keeps}
+use Rattle.lvm_keeps_events.specs.passed.Names.{counts_seen}
+use Rattle.lvm_tie.specs.Stamps.{AreValid}
+use Rattle.lvm_tie.specs.Running.{LeavesSession, RunsOn}
+use Rattle.lvm_tie.proofs.LawsLemmas.Calls.{calls_run_on}
+use Rattle.lvm_tie.proofs.LawsLemmas.Turning.{turn_runs_on}
 use Rattle.lvm_driver.proofs.RoomsLemmas.{rooms_stay}
 
 -- a session that isn't stuck may be asked

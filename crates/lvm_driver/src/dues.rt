@@ -7,7 +7,7 @@ ghost use Rattle.lvm_session.specs.Asking.{IsAsking, IsAwake};
 ghost use Rattle.lvm_session.specs.Sound.{IsTold};
 ghost use Rattle.lvm_session_turn.specs.passed.Names.{IsDue};
 
-use lvm_keeps_calls::below::{submit_request, take as take_answer};
+use lvm_keeps_events::below::{submit_request, take as take_answer};
 use lvm_path::Ask;
 use lvm_session::{AskFault, Session, Taken};
 use lvm_session_turn::below::Due;

@@ -5,3 +5,12 @@ mod WorkedLemmas
 mod Queues
 mod WritesLemmas
 mod JudgingLemmas
+mod DifferingLemmas
+mod Steps
+pub mod Nexts
+pub mod AtPlaces
+pub mod OrderLemmas
+mod VotesLemmas
+pub mod NotNextLemmas
+pub mod SpansLemmas
+mod UsableLemmas

@@ -11,7 +11,7 @@ use Rattle.lvm_session.specs.declared.open.Open.{Open}
 use Rattle.lvm_session.specs.Dark.{IsAscending}
 use Rattle.lvm_session.specs.Judging.{held_of, is_waiting, place_of}
 use Rattle.lvm_session.specs.Sound.{waiting_rows}
-use Rattle.lvm_firsts.proofs.Places.{at_place}
+use Rattle.lvm_due.proofs.AtPlaces.{at_place}
 use Rattle.lvm_due.proofs.DueLemmas.Frames.{long_set}
 
 -- ---- numbers

@@ -24,7 +24,7 @@ use Rattle.lvm_path.specs.Targets.{is_begun, is_failed, states_of, with_state}
 use Rattle.lvm_session.specs.State.{Core}
 use Rattle.lvm_session.specs.Enabled.{target_next}
 use Rattle.lvm_session.specs.Judging.{counts_failed, is_wanted_stale}
-use Rattle.lvm_firsts.proofs.EnabledLemmas.{starts_not}
+use Rattle.lvm_due.proofs.NotNextLemmas.{starts_not}
 
 module _ (k : Facts) (r : Request) (target : ℕ) where
   abbrev goes : Next

@@ -12,9 +12,9 @@ use Rattle.lvm_session.specs.Judging.{counts_failed, held_of, is_failing, is_hel
 use Rattle.lvm_session.specs.Left.{is_held}
 use Rattle.lvm_session.specs.Requests.{wants_entry}
 use Rattle.lvm_session.specs.Enabled.{admission_at, can_pin, data_at, landing_at, note_at, pinning_at}
-use Rattle.lvm_firsts.specs.declared.span.Span.{Span}
-use Rattle.lvm_firsts.specs.Spans.{is_in, Adds, Spans}
-use Rattle.lvm_firsts.specs.Might.{might_pin}
+use Rattle.lvm_due.specs.declared.span.Span.{Span}
+use Rattle.lvm_due.specs.Spans.{is_in, Adds, Spans}
+use Rattle.lvm_due.specs.Might.{might_pin}
 use Rattle.lvm_due.specs.declared.due.Due.{Due}
 use Rattle.lvm_due.specs.Making.{might_make_admission, might_make_data, might_make_landing, might_make_note}
 

@@ -5,7 +5,7 @@ use Rattle.lvm_path.specs.declared.request.Phase.TheVariants as phase
 use Rattle.lvm_path.specs.declared.request.Request.{Request}
 use Rattle.lvm_path.specs.Asks.{is_write}
 use Rattle.lvm_session.specs.Enabled.{wants_record}
-use Rattle.lvm_firsts.specs.Might.{are_at_rest, is_unbegun, might_transfer}
+use Rattle.lvm_due.specs.Might.{are_at_rest, is_unbegun, might_transfer}
 
 -- in this phase it might land
 abbrev pub might_make_landing_in : Phase → Request → Bool

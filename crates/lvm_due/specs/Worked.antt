@@ -1,7 +1,7 @@
 -- Sessions written out, and where their events are due.
 use Rattle.lvm_session.specs.Busy.{busy_core}
 use Rattle.lvm_session.specs.Worked.{core_of, flying}
-use Rattle.lvm_firsts.specs.declared.span.Span.{Span}
+use Rattle.lvm_due.specs.declared.span.Span.{Span}
 use Rattle.lvm_due.specs.declared.due.Due.{Due}
 use Rattle.lvm_due.specs.Due.{IsDue, IsQuiet}
 

@@ -17,9 +17,10 @@ ghost use Rattle.lvm_session.specs.Sound.{IsGoing, IsTold};
 ghost use Rattle.lvm_due.specs.Due.{none, AddsMaking, Covers, HoldsPin, IsDue, IsQuiet, IsQuietFor, Moves};
 
 use crate::making::{might_make_admission, might_make_data, might_make_landing, might_make_note};
+use crate::phases::might_pin;
 use crate::places::{add_if, entries, entries_if, freed_by, join};
 use crate::quiet::{any_fails, is_quiet, place_of, stays_quiet};
-use lvm_firsts::{Span, might_pin};
+use crate::span::Span;
 use lvm_session::{Event, Owner, Session};
 
 /// For each kind of event the places of the table at which it may be due.

@@ -2,8 +2,8 @@
 ghost use Rattle.std.specs.Prelude.{◌≡◌};
 ghost use Rattle.lvm_due.specs.Making.{might_make_admission, might_make_data, might_make_landing, might_make_note};
 
-use lvm_firsts::below::is_unbegun;
-use lvm_firsts::{are_at_rest, might_transfer};
+use crate::below::is_unbegun;
+use crate::phases::{are_at_rest, might_transfer};
 use lvm_path::{Phase, Request};
 
 /// Whether it might land.

@@ -3,7 +3,7 @@ ghost use Rattle.std.specs.Prelude.{◌≡◌, ◌<◌, ◌+◌, ◌^◌, length
 ghost use Rattle.lvm_due.specs.Due.{is_freed, overlap, waits_entry, waits_entry_if, AddsIf, Covers, HoldsPin, Joins};
 ghost use Rattle.lvm_session.specs.Fields.{core_of};
 
-use lvm_firsts::Span;
+use crate::span::Span;
 use lvm_path::{Ask, Phase};
 use lvm_session::{Open, Session};
 

@@ -6,7 +6,7 @@ ghost use Rattle.lvm_session.specs.Fields.{core_of};
 ghost use Rattle.lvm_session.specs.Judging.{counts_failed};
 ghost use Rattle.lvm_due.specs.Due.{any_fails, IsCalm, IsQuiet, IsQuietFor};
 
-use lvm_firsts::below::counts_failed;
+use crate::below::counts_failed;
 use lvm_path::Target;
 use lvm_session::{Open, Owner, Session};
 

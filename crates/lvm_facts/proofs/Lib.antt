@@ -1,3 +1,5 @@
 pub mod passed
 mod Parting
 mod NextLemmas
+mod JudgingLemmas
+pub mod DescriptorLemmas

@@ -1,2 +1,4 @@
+pub mod Session
 pub mod Names
+pub mod Others
 pub mod SessionEventEvent

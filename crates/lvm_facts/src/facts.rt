@@ -3,7 +3,7 @@ ghost use Rattle.std.specs.Prelude.{◌≡◌, ◌≤◌, ◌<◌, ◌^◌, ◌&
 ghost use Rattle.std.specs.List.{list_any, list_all};
 ghost use Rattle.lvm_num.specs.Descriptor.{IsValid};
 ghost use Rattle.lvm_num.specs.Status.{calls_dirty};
-ghost use Rattle.lvm_copies.specs.passed.Names.{is_named, core_of, IsWithin, copies_for, facts_of, has_dirty_mark, has_names, is_changed, is_held_back, is_kept, is_marked, is_pending, is_usable, mode_of, next_for};
+ghost use Rattle.lvm_facts.specs.passed.Names.{is_named, core_of, IsWithin, copies_for, facts_of, has_dirty_mark, has_names, is_changed, is_held_back, is_kept, is_marked, is_pending, is_usable, mode_of, next_for};
 ghost use Rattle.lvm_path.specs.declared.target.Target.{Target};
 ghost use Rattle.lvm_path.specs.declared.request.Phase.TheVariants as phase;
 ghost use Rattle.lvm_path.specs.Asks.{at_of, is_write};
@@ -12,11 +12,11 @@ ghost use Rattle.lvm_path.specs.Targets.{is_begun};
 ghost use Rattle.lvm_facts.specs.Queued.{IsQueued};
 ghost use Rattle.lvm_facts.specs.Reading.{no_facts};
 
+use crate::below::{Open, Session};
 use crate::held::is_held_back;
 use crate::judged::{is_kept, is_marked};
 use crate::pending::is_pending;
-use lvm_copies::below::{Open, Session};
-use lvm_copies::{are_targets, copies_for, group_in, group_of, is_usable, mode_of};
+use crate::standing::{are_targets, copies_for, group_in, group_of, is_usable, mode_of};
 use lvm_num::{Mode, Pp};
 use lvm_path::{Ask, Facts, Next, Phase, Request, Target};
 

@@ -1,9 +1,9 @@
 //! Who waits for whom.
 ghost use Rattle.std.specs.Prelude.{◌≡◌, ◌<◌, ◌^◌};
-ghost use Rattle.lvm_copies.specs.passed.Names.{core_of, held_of, is_held_back};
+ghost use Rattle.lvm_facts.specs.passed.Names.{core_of, held_of, is_held_back};
 ghost use Rattle.lvm_facts.specs.Queued.{IsQueued};
 
-use lvm_copies::below::{Held, Session};
+use crate::below::{Held, Session};
 use lvm_path::{Ask, Request};
 
 /// What a request asks of the hold queue.

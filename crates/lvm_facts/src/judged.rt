@@ -2,10 +2,10 @@
 ghost use Rattle.std.specs.Prelude.{◌≡◌, ◌||◌, not};
 ghost use Rattle.std.specs.List.{list_all};
 ghost use Rattle.lvm_path.specs.declared.target.Target.{Target};
-ghost use Rattle.lvm_copies.specs.passed.Names.{core_of, all_but_sure, counts_failed, is_kept, is_marked, is_settled};
+ghost use Rattle.lvm_facts.specs.passed.Names.{core_of, all_but_sure, counts_failed, is_kept, is_marked, is_settled};
 
-use lvm_copies::below::Session;
-use lvm_copies::{is_settled, is_sure, is_wanted_stale};
+use crate::below::Session;
+use crate::standing::{is_settled, is_sure, is_wanted_stale};
 use lvm_path::below::TargetState;
 use lvm_path::{Request, Target};
 

@@ -6,11 +6,12 @@ ghost use Rattle.lvm_num.specs.Descriptor.{IsValid};
 ghost use Rattle.lvm_num.specs.Geometry.{partition_blocks};
 ghost use Rattle.lvm_path.specs.declared.target.Target.{Target};
 ghost use Rattle.lvm_path.specs.Asks.{at_of};
-ghost use Rattle.lvm_copies.specs.passed.Names.{Open, core_of, IsWithin, counts_failed, is_beside, is_failing, is_pending, is_settled, is_waiting, is_wanted_stale, lp_of};
+ghost use Rattle.lvm_facts.specs.passed.Names.{Open, core_of, IsWithin, counts_failed, is_beside, is_failing, is_pending, is_settled, is_waiting, is_wanted_stale, lp_of};
 
+use crate::below::{Open, Session};
 use crate::judged::counts_failed;
-use lvm_copies::below::{Open, Session};
-use lvm_copies::{copies_for, is_settled, is_wanted_stale, lp_of, partition_blocks};
+use crate::places::partition_blocks;
+use crate::standing::{copies_for, is_settled, is_wanted_stale, lp_of};
 use lvm_num::Pp;
 use lvm_path::{Ask, Request, Target};
 

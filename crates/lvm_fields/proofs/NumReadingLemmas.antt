@@ -8,8 +8,7 @@ use Rattle.std.proofs.lemmas.List.{take_at, drop_at, take-append-drop, length-ta
 use Rattle.std.proofs.lemmas.Nat.{be_bytes_2, be_bytes_4, be_bytes_8, from_be_bytes-to_be_bytes_2, from_be_bytes-to_be_bytes_4, from_be_bytes-to_be_bytes_8}
 use Rattle.lvm_num.specs.Reading.{◌>>=◌, Rest, bytes_at, number_at, zeros_at, end_at}
 use Rattle.lvm_num.proofs.RecordLemmas.Records.{bytes-drop, bytes-take}
-pub use Rattle.std.proofs.lemmas.Bool.{and_parts as both}
-pub use Rattle.std.proofs.lemmas.Bool.{and_from as from_both}
+pub use Rattle.std.proofs.lemmas.Bool.{and_parts as both, and_from as from_both}
 
 abbrev pub IsBytes : List ℕ → Type 0
 IsBytes bytes = (i : ℕ) → get_or bytes i 0 < 256

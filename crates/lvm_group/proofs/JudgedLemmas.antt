@@ -7,11 +7,11 @@ use Rattle.lvm_num.specs.declared.record.Stamp.{Stamp}
 use Rattle.lvm_num.specs.declared.descriptor.Descriptor.{Descriptor}
 use Rattle.lvm_num.specs.declared.status.Status.{Status}
 use Rattle.lvm_num.specs.Record.{Stamped}
-use Rattle.lvm_survey.specs.declared.row.SurveyRow.{SurveyRow}
-use Rattle.lvm_survey.specs.declared.row.Survey.{Survey}
-use Rattle.lvm_survey.specs.Surveyed.{surveyed}
-use Rattle.lvm_survey.specs.passed.Names.{under}
-use Rattle.lvm_survey.proofs.SurveyedLemmas.SurveyRows.{descriptor_shown, status_shown}
+use Rattle.lvm_quorum.specs.declared.row.SurveyRow.{SurveyRow}
+use Rattle.lvm_quorum.specs.declared.row.Survey.{Survey}
+use Rattle.lvm_quorum.specs.Surveyed.{surveyed}
+use Rattle.lvm_quorum.specs.passed.Survey.{under}
+use Rattle.lvm_quorum.proofs.SurveyedLemmas.SurveyRows.{descriptor_shown, status_shown}
 use Rattle.lvm_group.specs.Shown.{HasGroup, ShowsEarlier, ShowsMoment}
 use Rattle.lvm_group.specs.Judged.{IsTaken, HasMoment, IsLastOf}
 

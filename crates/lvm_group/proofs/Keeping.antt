@@ -2,6 +2,7 @@
 use Rattle.std.proofs.Common.{◌≡◌, ◌⊎◌, inl, inr, ⊎_elim, ℕ, ◌+◌, ◌*◌, ◌^◌, ◌<◌, ◌≤◌, Bool, true, false, ◌&&◌, not, List, [], ◌∷◌, ◌++◌, length, get_or, replicate, Option, Some, None, refl, sym, ap, subst, ◌∙◌, arith, length-append}
 use Rattle.std.specs.Prelude.{nat_lt, nat_le, flat_map, IsTrue, IsFalse}
 use Rattle.std.specs.Int.{w16, w64, to_be_bytes}
+use Rattle.std.proofs.lemmas.Option.{same_Some}
 use Rattle.std.proofs.lemmas.Bool.{eqb-true, eq-eqb, and_from, lt-ltb, le-leb}
 use Rattle.std.proofs.lemmas.Bool.Decides.{nat_tests}
 use Rattle.std.proofs.lemmas.List.{length-map}
@@ -29,34 +30,34 @@ use Rattle.lvm_disk.specs.Steps.{BothTold}
 use Rattle.lvm_disk.specs.Paths.{DeviceStep, Path}
 use Rattle.lvm_kept.specs.Plans.{ChangesBy}
 use Rattle.lvm_steps.specs.Moments.{StaysKept}
-use Rattle.lvm_stamps.specs.Behind.{StampsBefore, beginning_at, IsBehind}
-use Rattle.lvm_stamps.proofs.LawsLemmas.Records.{session_may_go}
-use Rattle.lvm_stamps.proofs.LawsLemmas.Stamps.{before_is_behind}
+use Rattle.lvm_steps.specs.Behind.{StampsBefore, beginning_at, IsBehind}
+use Rattle.lvm_steps.proofs.LawsLemmas.Records.{session_may_go}
+use Rattle.lvm_steps.proofs.LawsLemmas.Stamps.{before_is_behind}
 use Rattle.lvm_rec.specs.declared.homes.Homes.{Homes}
 use Rattle.lvm_write.specs.Homes.{SparesNewest}
 use Rattle.lvm_write.specs.Written.{write_of, KeepsShelf}
 use Rattle.lvm_write.proofs.ShowsLemmas.{descriptor_may_be_written, status_may_be_written}
-use Rattle.lvm_begin.specs.Beginning.{Beginning, describes, states, new_order, IsOfParts, AllStand, MayBeginNew}
-use Rattle.lvm_begin.specs.Ends.{BothFlip}
-use Rattle.lvm_begin.specs.Kept.{NewStaysKept}
-use Rattle.lvm_begin.specs.Newest.{FindsBeginning}
-use Rattle.lvm_begin.specs.Shown.{HasBegun}
-use Rattle.lvm_begin.proofs.ShownLemmas.Following.{stamps_are_of_beginning, targets_spare_newest}
-use Rattle.lvm_begin.proofs.NewestLemmas.{only_one, new_is_found, status_is_last}
-use Rattle.lvm_begin.proofs.ShownLemmas.Shown.{media_by, new_is_shown}
+use Rattle.lvm_write.specs.Beginning.{Beginning, describes, states, new_order, IsOfParts, AllStand, MayBeginNew}
+use Rattle.lvm_write.specs.Ends.{BothFlip}
+use Rattle.lvm_write.specs.Kept.{NewStaysKept}
+use Rattle.lvm_write.specs.Newest.{FindsBeginning}
+use Rattle.lvm_write.specs.Shown.{HasBegun}
+use Rattle.lvm_write.proofs.ShownLemmas.Following.{stamps_are_of_beginning, targets_spare_newest}
+use Rattle.lvm_write.proofs.NewestLemmas.{only_one, new_is_found, status_is_last}
+use Rattle.lvm_write.proofs.ShownLemmas.Shown.{media_by, new_is_shown}
 use Rattle.lvm_vol.specs.Log.{Log}
 use Rattle.lvm_kept.specs.Torn.{written as as_read}
 use Rattle.lvm_kept.specs.Group.{passes, is_of, has_room, descriptor_among, members_in, Finds}
-use Rattle.lvm_kept.proofs.CommittedLemmas.Finding.{some_same, finding_reads, finds_from}
+use Rattle.lvm_kept.proofs.CommittedLemmas.Finding.{finding_reads, finds_from}
 use Rattle.lvm_num.specs.Votes.{all_disks, votes_in}
 use Rattle.lvm_num.proofs.VotesLemmas.{more_have_more, more_is_enough}
 use Rattle.lvm_status.specs.Update.{Updates}
-use Rattle.lvm_group_plan.specs.passed.Names.{Room, Began, ShowsCommitted, HoldsCommitted, NotesAreHome, StartsHeld, Parts, IsReservedFor, first_core, Core, is_there}
-use Rattle.lvm_group_plan.proofs.passed.Names.{newest_is_beginning, empty_names_none}
-use Rattle.lvm_group_plan.specs.NewGroup.{NewGroup, among, sectors_on, size_for, member_for, new_group, new_status, first_absent, first_too_small}
+use Rattle.lvm_group.specs.passed.Names.{Room, Began, ShowsCommitted, HoldsCommitted, NotesAreHome, StartsHeld, Parts, IsReservedFor, first_core, Core, is_there}
+use Rattle.lvm_group.proofs.passed.Names.{newest_is_beginning, empty_names_none}
+use Rattle.lvm_group.specs.NewGroup.{NewGroup, among, sectors_on, size_for, member_for, new_group, new_status, first_absent, first_too_small}
 use Rattle.lvm_group.specs.Shown.{IfShown, HasGroup, ShowsEarlier, SparesTold}
 use Rattle.lvm_group.specs.Made.{beginning_for}
-use Rattle.lvm_group_plan.proofs.NewGroupLemmas.Groups.{room_among, placed_among, member_among, nothing_missing, there_among, first_among}
+use Rattle.lvm_group.proofs.NewGroupLemmas.Groups.{room_among, placed_among, member_among, nothing_missing, there_among, first_among}
 use Rattle.lvm_group.proofs.ShownLemmas.{told_by, if_told}
 
 -- a shelf that tells its media now told it before
@@ -250,7 +251,7 @@ module _ (w : NewGroup) (device : Device) (homes : Homes) (its : IsBeginning w d
     -- no other descriptor of the group is shown
     only_new : (d : ℕ) (found : Stamped Descriptor) → shown.descriptor d ≡ Some found → found.value.id ≡ w.moment → found ≡ newest
     only_new d found on own = ⊎_elim
-        (λ (named : IsTrue (among w.disks d)). some_same found newest (sym on ∙ begun.described d named))
+        (λ (named : IsTrue (among w.disks d)). same_Some found newest (sym on ∙ begun.described d named))
         (λ (other : IsFalse (among w.disks d)). absurd (may.make.new_id d found (sym (begun.others d other).0 ∙ on) own))
         (on_or_off (among w.disks d))
       where

@@ -5,3 +5,4 @@ pub mod LogLemmas
 pub mod MadeLemmas
 pub mod Keeping
 pub mod StepsLemmas
+pub mod NewGroupLemmas

@@ -3,8 +3,7 @@ use Rattle.std.proofs.Common.{◌≡◌, inl, inr, ⊎_elim, ℕ, suc, zero, ◌
 use Rattle.lvm_num.specs.Record.{last_moment}
 use Rattle.std.specs.Prelude.{nat_lt, nat_le, slice_get, slice_index_or, IfSome, ◌&&◌, if◌then◌else◌}
 use Rattle.std.proofs.lemmas.Option.{slice_get_within, slice_get_cases}
-use Rattle.std.proofs.lemmas.Bool.{cases_lt}
-use Rattle.std.proofs.lemmas.Bool.Decides.{nat_tests}
+use Rattle.std.proofs.lemmas.Bool.{cases_lt, le-ltb, ltb-true}
 use Rattle.lvm_num.specs.declared.record.Kind.TheVariants as kind
 use Rattle.lvm_num.specs.DescriptorBytes.{descriptor_of}
 use Rattle.lvm_num.specs.StatusBytes.{status_of}
@@ -14,16 +13,16 @@ use Rattle.lvm_disk.specs.Counts.{Rose}
 use Rattle.lvm_disk.specs.Device.{Media, Image, Device, image_of}
 use Rattle.lvm_steps.proofs.RecordLemmas.{split}
 use Rattle.lvm_kept.specs.Contents.{Contents, contents_of, has_records, descriptor_on, status_on}
-use Rattle.lvm_survey.specs.declared.row.SurveyRow.{SurveyRow}
-use Rattle.lvm_survey.specs.declared.row.Survey.{Survey}
-use Rattle.lvm_survey.specs.Surveyed.{surveyed, IsRead as IsRowRead}
-use Rattle.lvm_survey.specs.Surveying.{IsSmall, AreSurveyed}
+use Rattle.lvm_quorum.specs.declared.row.SurveyRow.{SurveyRow}
+use Rattle.lvm_quorum.specs.declared.row.Survey.{Survey}
+use Rattle.lvm_quorum.specs.Surveyed.{surveyed, IsRead as IsRowRead}
+use Rattle.lvm_quorum.specs.Surveying.{IsSmall, AreSurveyed}
 use Rattle.lvm_transfer.specs.Reading.{IsUntouched}
 use Rattle.lvm_rec.specs.declared.homes.Homes.{Homes}
 use Rattle.lvm_write.specs.Homes.{SparesNewest, SpareNewest}
-use Rattle.lvm_survey.proofs.SurveyedLemmas.SurveyRows.{descriptor_shown, status_shown, descriptor_past, status_past}
-use Rattle.lvm_group_plan.specs.passed.Names.{Cause}
-use Rattle.lvm_group_plan.specs.passed.CoreRefusedCause as cause
+use Rattle.lvm_quorum.proofs.SurveyedLemmas.SurveyRows.{descriptor_shown, status_shown, descriptor_past, status_past}
+use Rattle.lvm_group.specs.passed.Names.{Cause}
+use Rattle.lvm_group.specs.passed.CoreRefusedCause as cause
 use Rattle.lvm_group.specs.Shown.{IfShown, HasGroup, ShowsMoment, ShowsEarlier, IsLastShown, IsUnread, AllRead, SparesTold}
 use Rattle.lvm_group.specs.Judged.{IsFirstFailed, NoneFailed, LetsBegin, RefusesShown}
 use Rattle.lvm_group.specs.Steps.{HasOnlyRead, LetsMake, RefusesFound}
@@ -61,16 +60,13 @@ if_told (Some media) P by = by media refl
 
 -- ---- disks that aren't there
 
-below : (d n : ℕ) → n ≤ d → nat_lt d n ≡ false
-below d n le = grind (arith, nat_tests)
-
 no_descriptor : (image : Image) (d : ℕ) → image.disks ≤ d → descriptor_on image d ≡ None
 unfolding descriptor_on
-no_descriptor image d past = ap (λ b. if b && nat_le data_start (image.size d) then newest_on descriptor_of kind.Descriptor (image.sector d) else None) (below d image.disks past)
+no_descriptor image d past = ap (λ b. if b && nat_le data_start (image.size d) then newest_on descriptor_of kind.Descriptor (image.sector d) else None) (le-ltb d image.disks past)
 
 no_status : (image : Image) (d : ℕ) → image.disks ≤ d → status_on image d ≡ None
 unfolding status_on
-no_status image d past = ap (λ b. if b && nat_le data_start (image.size d) then newest_on status_of kind.Status (image.sector d) else None) (below d image.disks past)
+no_status image d past = ap (λ b. if b && nat_le data_start (image.size d) then newest_on status_of kind.Status (image.sector d) else None) (le-ltb d image.disks past)
 
 -- ---- the rows and the disks
 
@@ -85,9 +81,6 @@ none_past : (sizes : List ℕ) (d : ℕ) → length sizes ≤ d → slice_index_
 none_past [] d past = refl
 none_past (x ∷ sizes) zero past = absurd (omega (arith, past))
 none_past (x ∷ sizes) (suc d) past = none_past sizes d (omega (arith, past))
-
-is_lt : (d n : ℕ) → nat_lt d n ≡ true → d < n
-is_lt d n is = grind (arith, nat_tests)
 
 module _ (old new : Device) (s : Survey) (its : IsSurvey old new s) (none : NoneFailed s) (media : Media) (told : old.media ≡ Some media) where
   pub row_read : (d : ℕ) (row : SurveyRow) → slice_get s.rows d ≡ Some row → IsRowRead (image_of old.sizes media) d row
@@ -173,7 +166,7 @@ module _ (old new : Device) (s : Survey) (its : IsSurvey old new s) where
       spare (image_of old.sizes media) d row.0 row.1 (row_read old new s its none media told d row.0 row.1) has)
     where
       there : (d n : ℕ) (b : Bool) → (nat_lt d n && b) ≡ true → d < n
-      there d n b has = is_lt d n (split (nat_lt d n) b has).0
+      there d n b has = ltb-true d n (split (nat_lt d n) b has).0
 
   pub lets_begin : (force : Bool) (moment : ℕ) (free : Free) → HasOnlyRead old new → SpareNewest s free.homes → free.buf.number ≡ 0 → LetsBegin s force moment → LetsMake force moment old new free
   lets_begin force moment free reads spare number lets = record {

@@ -16,29 +16,29 @@ use Rattle.lvm_kept.specs.Moments.{Moment, StaysCalm}
 use Rattle.lvm_steps.specs.Moments.{Keeps}
 use Rattle.lvm_steps.specs.Requests.{at}
 use Rattle.lvm_steps.proofs.MomentsLemmas.Spans.{keeps_still, keeps_steps, steps_go_on, disks_go_out}
-use Rattle.lvm_stamps.specs.Behind.{IsBehind, IsAhead, ClockIsAhead}
-use Rattle.lvm_stamps.proofs.LawsLemmas.Clock.{all_is_behind_next}
-use Rattle.lvm_stamps.proofs.LawsLemmas.Shelves.{unwritten_stays_behind}
+use Rattle.lvm_steps.specs.Behind.{IsBehind, IsAhead, ClockIsAhead}
+use Rattle.lvm_steps.proofs.LawsLemmas.Clock.{all_is_behind_next}
+use Rattle.lvm_steps.proofs.LawsLemmas.Shelves.{unwritten_stays_behind}
 use Rattle.lvm_transfer.specs.Reading.{IsUnwritten, OnlyReads}
 use Rattle.lvm_rec.specs.declared.homes.Homes.{Homes}
 use Rattle.lvm_write.specs.Homes.{SparesNewest}
 use Rattle.lvm_write.specs.Writes.{DiskWritesLeave}
 use Rattle.lvm_write.specs.Written.{HaveRoom, KeepsShelf}
 use Rattle.lvm_write.proofs.PartsLemmas.Transfers.{spends_then}
-use Rattle.lvm_begin.specs.Beginning.{Beginning, new_beginning, new_order, IsOfParts, AllStand}
-use Rattle.lvm_begin.specs.Ends.{BothFlip}
-use Rattle.lvm_begin.specs.Kept.{NewStaysKept}
-use Rattle.lvm_group_plan.specs.passed.Names.{Room, Cause, BringsOn, StartsHeld, Parts, IsReservedFor, first_core}
-use Rattle.lvm_group_plan.specs.NewGroup.{NewGroup, among, sectors_on, size_for, new_group, new_status, given_up, first_absent, first_too_small, MayBegin}
+use Rattle.lvm_write.specs.Beginning.{Beginning, new_beginning, new_order, IsOfParts, AllStand}
+use Rattle.lvm_write.specs.Ends.{BothFlip}
+use Rattle.lvm_write.specs.Kept.{NewStaysKept}
+use Rattle.lvm_group.specs.passed.Names.{Room, Cause, BringsOn, StartsHeld, Parts, IsReservedFor, first_core}
+use Rattle.lvm_group.specs.NewGroup.{NewGroup, among, sectors_on, size_for, new_group, new_status, given_up, first_absent, first_too_small, MayBegin}
 use Rattle.lvm_group.specs.Shown.{IfShown, HasGroup, ShowsEarlier, SparesTold}
-use Rattle.lvm_group_plan.specs.Planned.{IsPlanned}
+use Rattle.lvm_group.specs.Planned.{IsPlanned}
 use Rattle.lvm_group.specs.Made.{beginning_for, MkvgRefuses}
 use Rattle.lvm_group.specs.Steps.{LetsMake, AreWritten, WritingFails, NewWritesGive, Stands, cuts_power, cut_at, standing_of}
 use Rattle.lvm_group.specs.declared.look.Free.{Free}
-use Rattle.lvm_group_plan.specs.declared.plan.Plan.{Plan}
+use Rattle.lvm_group.specs.declared.plan.Plan.{Plan}
 use Rattle.lvm_group.proofs.MadeLemmas.Composing.{cut_where, same_beginning, refuses_writing, stands}
 use Rattle.lvm_group.proofs.LogLemmas.{keeps_cut, calm_cut, calm_given}
-use Rattle.lvm_group_plan.proofs.NewGroupLemmas.Groups.{room_among}
+use Rattle.lvm_group.proofs.NewGroupLemmas.Groups.{room_among}
 use Rattle.lvm_group.proofs.Keeping.{IsBeginning, descriptor_fits, status_fits, path_kept, then_behind, starts_held}
 
 -- ---- entries after a cut

@@ -1,1 +1,1 @@
-pub mod GroupPlan
+pub mod Names

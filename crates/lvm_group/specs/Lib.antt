@@ -3,3 +3,5 @@ pub mod Shown
 pub mod Judged
 pub mod Made
 pub mod Steps
+pub mod NewGroup
+pub mod Planned

@@ -9,11 +9,11 @@ use Rattle.lvm_kept.specs.Plans.{Plan, ChangesBy}
 use Rattle.lvm_rec.specs.declared.homes.Homes.{Homes}
 use Rattle.lvm_write.specs.Written.{LogsPlan, IsDarkened, IsGivenUp}
 use Rattle.lvm_transfer.specs.Reading.{IsUnwritten, IsRested, IsCutOff, IsReadStuck}
-use Rattle.lvm_begin.specs.Beginning.{Beginning, Part, new_beginning, new_order, IsOfParts, AllStand}
-use Rattle.lvm_begin.specs.Ends.{BothFlip, HasNoFault, IsLowestFailed, WasTriedOnTargets}
-use Rattle.lvm_group_plan.specs.passed.Names.{Room, Cause, Refused, Parts, IsReservedFor, first_core, Core}
-use Rattle.lvm_group_plan.specs.passed.CoreRefusedCause as cause
-use Rattle.lvm_group_plan.specs.NewGroup.{NewGroup, among, new_group, new_status, given_up, MayBegin, RefusesFirst}
+use Rattle.lvm_write.specs.Beginning.{Beginning, Part, new_beginning, new_order, IsOfParts, AllStand}
+use Rattle.lvm_write.specs.Ends.{BothFlip, HasNoFault, IsLowestFailed, WasTriedOnTargets}
+use Rattle.lvm_group.specs.passed.Names.{Room, Cause, Refused, Parts, IsReservedFor, first_core, Core}
+use Rattle.lvm_group.specs.passed.CoreRefusedCause as cause
+use Rattle.lvm_group.specs.NewGroup.{NewGroup, among, new_group, new_status, given_up, MayBegin, RefusesFirst}
 use Rattle.lvm_group.specs.Shown.{IfShown, HasGroup, IsClockBehindDisks, IsUnread, AllRead, AreFree, IsClear, SparesTold}
 
 -- ---- what is written

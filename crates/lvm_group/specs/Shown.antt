@@ -8,7 +8,7 @@ use Rattle.lvm_disk.specs.Device.{Device, image_of}
 use Rattle.lvm_kept.specs.Contents.{Contents, contents_of, has_records}
 use Rattle.lvm_rec.specs.declared.homes.Homes.{Homes}
 use Rattle.lvm_write.specs.Homes.{SparesNewest}
-use Rattle.lvm_group_plan.specs.NewGroup.{NewGroup, MayBegin}
+use Rattle.lvm_group.specs.NewGroup.{NewGroup, MayBegin}
 use Rattle.lvm_vol.specs.Log.{Log, spare_entries}
 
 -- what the disks show, where that is told

@@ -7,14 +7,14 @@ use Rattle.lvm_vol.specs.Log.{Log, cut_log}
 use Rattle.lvm_rec.specs.declared.homes.Homes.{Homes}
 use Rattle.lvm_write.specs.Written.{IsDarkened, IsGivenUp}
 use Rattle.lvm_transfer.specs.Reading.{IsUnwritten, IsRested, IsCutOff, IsReadStuck}
-use Rattle.lvm_begin.specs.Beginning.{Beginning, new_order, IsOfParts, AllStand}
-use Rattle.lvm_begin.specs.Ends.{BothFlip, HasNoFault, StopsAt, IsLowestFailed, WasTriedOnTargets}
-use Rattle.lvm_group_plan.specs.passed.Names.{Cause, Room, Parts, IsReservedFor}
-use Rattle.lvm_group_plan.specs.passed.CoreRefusedCause as cause
+use Rattle.lvm_write.specs.Beginning.{Beginning, new_order, IsOfParts, AllStand}
+use Rattle.lvm_write.specs.Ends.{BothFlip, HasNoFault, StopsAt, IsLowestFailed, WasTriedOnTargets}
+use Rattle.lvm_group.specs.passed.Names.{Cause, Room, Parts, IsReservedFor}
+use Rattle.lvm_group.specs.passed.CoreRefusedCause as cause
 use Rattle.lvm_group.specs.declared.look.Free.{Free}
 use Rattle.lvm_group.specs.declared.make.Asked.{Asked}
 use Rattle.lvm_group.specs.declared.make.Standing.{Standing}
-use Rattle.lvm_group_plan.specs.NewGroup.{NewGroup, among, size_for, new_group, new_status, given_up}
+use Rattle.lvm_group.specs.NewGroup.{NewGroup, among, size_for, new_group, new_status, given_up}
 use Rattle.lvm_group.specs.Made.{beginning_for, IsAsBefore}
 use Rattle.lvm_group.specs.Shown.{IfShown, HasGroup, ShowsEarlier, IsClockBehindDisks, IsUnread, AllRead, IsClear, SparesTold}
 

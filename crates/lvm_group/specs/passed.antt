@@ -1,1 +1,2 @@
-pub mod GroupPlan
+pub mod CoreRefusedCause
+pub mod Names

@@ -1,12 +1,12 @@
 //! What the disks show that stands against a new group.
 ghost use Rattle.std.specs.Prelude.{◌≡◌, ◌≢◌, ◌↔◌, ◌⊎◌, ◌<◌, ◌+◌, false, true, Some, IfSome, IfNone, IfOk, IfErr, IsTrue, IsFalse};
-ghost use Rattle.lvm_survey.specs.Rows.{AreRows};
-ghost use Rattle.lvm_survey.specs.Surveyed.{surveyed};
+ghost use Rattle.lvm_quorum.specs.Rows.{AreRows};
+ghost use Rattle.lvm_quorum.specs.Surveyed.{surveyed};
 ghost use Rattle.lvm_group.specs.Shown.{HasGroup, ShowsEarlier, ShowsMoment};
 ghost use Rattle.lvm_group.specs.Judged.{IsTaken, IsLastOf, IsFirstFailed, NoneFailed, LetsBegin, RefusesShown};
 
-use lvm_group_plan::below::Cause;
-use lvm_survey::{Survey, SurveyRow};
+use crate::below::Cause;
+use lvm_quorum::{Survey, SurveyRow};
 
 /// Whether what was found on the disks lets a group be made at the moment.
 pub fn judge(survey: &Survey, force: bool, moment: u64) -> Result<(), Cause>

@@ -4,12 +4,12 @@ ghost use Rattle.lvm_disk.specs.Device.{IsReady};
 ghost use Rattle.lvm_transfer.specs.Reading.{OnlyReads};
 ghost use Rattle.lvm_group.specs.Steps.{LookGives};
 
+use crate::below::Cause;
 use crate::judge::judge;
 use lvm_disk::Shelf;
-use lvm_group_plan::below::Cause;
 use lvm_num::Pbuf;
+use lvm_quorum::{Surveyed, survey_disks};
 use lvm_rec::Homes;
-use lvm_survey::{Surveyed, survey_disks};
 use lvm_transfer::Patience;
 use lvm_write::homes_of;
 use std::alloc::Global;

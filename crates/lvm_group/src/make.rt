@@ -2,18 +2,19 @@
 ghost use Rattle.std.specs.Prelude.{◌≡◌, ◌≢◌, ◌≤◌, length, IfOk, IfErr, []};
 ghost use Rattle.lvm_disk.specs.Device.{IsReady};
 ghost use Rattle.lvm_vol.specs.Log.{spare_entries};
-ghost use Rattle.lvm_stamps.specs.Behind.{ClockIsAhead};
-ghost use Rattle.lvm_group_plan.specs.passed.Names.{BringsOn, StartsHeld, HaveAllLanded, IsRoom, first_core};
-ghost use Rattle.lvm_group_plan.specs.NewGroup.{IsWellFormed, given_up};
-ghost use Rattle.lvm_group_plan.specs.Planned.{IsPlannedFor, RefusesPlan};
+ghost use Rattle.lvm_steps.specs.Behind.{ClockIsAhead};
+ghost use Rattle.lvm_group.specs.passed.Names.{BringsOn, StartsHeld, HaveAllLanded, IsRoom, first_core};
+ghost use Rattle.lvm_group.specs.NewGroup.{IsWellFormed, given_up};
+ghost use Rattle.lvm_group.specs.Planned.{IsPlannedFor, RefusesPlan};
 ghost use Rattle.lvm_group.specs.Made.{MkvgRefuses};
 ghost use Rattle.lvm_group.specs.Steps.{asked_group, cut_at, standing_of, Stands};
 
+use crate::below::{Cause, Parts, Room};
+use crate::checks::size_to_begin;
 use crate::look::look;
+use crate::plan::Plan;
 use crate::write::write;
 use lvm_disk::Shelf;
-use lvm_group_plan::below::{Cause, Parts, Room};
-use lvm_group_plan::{Plan, size_to_begin};
 use lvm_history::History;
 use lvm_num::{Memory, Name};
 use lvm_rec::Homes;

@@ -1,13 +1,13 @@
 //! The making of a group.
 ghost use Rattle.std.specs.Prelude.{IfOk};
 ghost use Rattle.lvm_disk.specs.Device.{IsReady};
-ghost use Rattle.lvm_group_plan.specs.passed.Names.{AreFaults, HaveAllLanded, IsRoom, state_of, BringsOn, IsStarted, shelf_left, history_left};
+ghost use Rattle.lvm_group.specs.passed.Names.{AreFaults, HaveAllLanded, IsRoom, state_of, BringsOn, IsStarted, shelf_left, history_left};
 ghost use Rattle.lvm_group.specs.Made.{MkvgGives};
-ghost use Rattle.lvm_group_plan.specs.NewGroup.{IsWellFormed};
+ghost use Rattle.lvm_group.specs.NewGroup.{IsWellFormed};
 
+use crate::below::{Driver, Refused, Room};
 use crate::make::{Asked, make};
 use lvm_disk::Shelf;
-use lvm_group_plan::below::{Driver, Refused, Room};
 use lvm_history::History;
 use lvm_num::{Name, Stamp};
 use lvm_transfer::Patience;

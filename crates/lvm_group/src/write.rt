@@ -6,18 +6,18 @@ ghost use Rattle.lvm_num.specs.Record.{longest_content};
 ghost use Rattle.lvm_disk.specs.Device.{IsReady};
 ghost use Rattle.lvm_write.specs.Writes.{DiskWritesLeave};
 ghost use Rattle.lvm_write.specs.Written.{HaveRoom};
-ghost use Rattle.lvm_begin.specs.Beginning.{new_beginning, new_order, IsOfParts};
-ghost use Rattle.lvm_begin.specs.Kept.{NewStaysKept};
+ghost use Rattle.lvm_write.specs.Beginning.{new_beginning, new_order, IsOfParts};
+ghost use Rattle.lvm_write.specs.Kept.{NewStaysKept};
 ghost use Rattle.lvm_group.specs.Steps.{NewWritesGive};
 
+use crate::below::Cause;
 use crate::look::Free;
-use lvm_begin::{Begun, begin_new};
+use crate::plan::Plan;
 use lvm_disk::Shelf;
-use lvm_group_plan::Plan;
-use lvm_group_plan::below::Cause;
 use lvm_num::DiskSet;
 use lvm_rec::Homes;
 use lvm_transfer::Patience;
+use lvm_write::{Begun, begin_new};
 
 /// Writes the records of a planned group to its disks, and answers the slots that come next.
 pub fn write<S: Shelf>(

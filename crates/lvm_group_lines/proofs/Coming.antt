@@ -11,8 +11,8 @@ use Rattle.lvm_vol.specs.Order.{Ordered}
 use Rattle.lvm_kept.specs.Moments.{Moment}
 use Rattle.lvm_steps.specs.Moments.{Begins, Keeps}
 use Rattle.lvm_steps.specs.Requests.{at}
-use Rattle.lvm_stamps.specs.Behind.{IsBehind}
-use Rattle.lvm_stamps.proofs.LawsLemmas.Clock.{later_joins}
+use Rattle.lvm_steps.specs.Behind.{IsBehind}
+use Rattle.lvm_steps.proofs.LawsLemmas.Clock.{later_joins}
 use Rattle.lvm_core.specs.declared.refused.Cause.{Cause}
 use Rattle.lvm_core.specs.declared.refused.Cause.TheVariants as cause
 use Rattle.lvm_core.specs.declared.refused.Refused.{Refused}
@@ -22,17 +22,27 @@ use Rattle.lvm_core.specs.Settled.{IsSettled as IsSettledCore}
 use Rattle.lvm_core.specs.Sound.{HaveAllLanded}
 use Rattle.lvm_core.specs.State.{state_of}
 use Rattle.lvm_session.specs.State.{Core, state}
-use Rattle.lvm_disk_lines.specs.passed.Handover.{Serves}
-use Rattle.lvm_disk_lines.specs.passed.TieCommands.{StandsAfter}
-use Rattle.lvm_disk_lines.proofs.passed.TieCommands.{spans_follow}
-use Rattle.lvm_disk_lines.specs.passed.Names.{Post, AreAnswered}
-use Rattle.lvm_disk_lines.specs.passed.Quiesce.{ClockIsAheadEach, IsAheadEach, BringsOnEach, IsStartedEach}
-use Rattle.lvm_disk_lines.proofs.passed.Quiesce.{still_is_behind_each}
+use Rattle.lvm_group_lines.specs.passed.Handover.{Serves}
+use Rattle.lvm_group_lines.specs.passed.TieCommands.{StandsAfter}
+use Rattle.lvm_group_lines.proofs.passed.TieCommands.{spans_follow}
+use Rattle.lvm_group_lines.specs.passed.Names.{Post, AreAnswered}
+use Rattle.lvm_group_lines.specs.passed.Quiesce.{ClockIsAheadEach, IsAheadEach, BringsOnEach, IsStartedEach}
+use Rattle.lvm_group_lines.proofs.passed.Quiesce.{still_is_behind_each}
 use Rattle.lvm_group_lines.specs.Groups.{IsHeldBy, IsLeftBy}
-use Rattle.lvm_disk_lines.specs.passed.Stage.{CommandEnds, IsRelit, refusal_of, Aside, GoesOn, HasBegunHeld, HaveRooms, IsBetweenStage, IsFittingStage, IsOfKind, history_of, session_of, shelf_of, state_in, ArePosted, IsBetween, StandsAlone, ScriptState, without_facts, Holder, Reply, Stage}
-use Rattle.lvm_disk_lines.specs.passed.HolderVariants as holder
-use Rattle.lvm_disk_lines.specs.passed.ReplyVariants as reply
-use Rattle.lvm_disk_lines.proofs.passed.Stage.{ahead_later, RefusalLeaves, Rests, lit_up, ready_is_lit, still_leaves_descriptors, Bears, landed_bears, later_bears, open_more, LeavesAnswers, answered_bears, answered_on, off_posts, on_posts}
+use Rattle.lvm_group_lines.specs.Ends.{CommandEnds}
+use Rattle.lvm_group_lines.specs.Lighting.{IsRelit, refusal_of}
+use Rattle.lvm_group_lines.specs.Moments.{Aside, GoesOn, HasBegunHeld}
+use Rattle.lvm_group_lines.specs.Stages.{HaveRooms, IsBetweenStage, IsFittingStage, IsOfKind, history_of, session_of, shelf_of, state_in}
+use Rattle.lvm_group_lines.specs.State.{ArePosted, IsBetween, StandsAlone, ScriptState, without_facts}
+use Rattle.lvm_group_lines.specs.declared.holder.Holder.{Holder}
+use Rattle.lvm_group_lines.specs.declared.reply.Reply.{Reply}
+use Rattle.lvm_group_lines.specs.declared.stage.Stage.{Stage}
+use Rattle.lvm_group_lines.specs.declared.holder.Holder.TheVariants as holder
+use Rattle.lvm_group_lines.specs.declared.reply.Reply.TheVariants as reply
+use Rattle.lvm_group_lines.proofs.MomentsLemmas.Going.{ahead_later}
+use Rattle.lvm_group_lines.proofs.LightingLemmas.{RefusalLeaves, Rests, lit_up, ready_is_lit, still_leaves_descriptors}
+use Rattle.lvm_group_lines.proofs.FactsLemmas.{Bears, landed_bears, later_bears, open_more}
+use Rattle.lvm_group_lines.proofs.StateLemmas.{LeavesAnswers, answered_bears, answered_on, off_posts, on_posts}
 
 -- ---- the clock
 

@@ -3,3 +3,15 @@ pub mod GroupsLemmas
 pub mod Coming
 pub mod Listing
 pub mod QuiesceGroupsLemmas
+pub mod ShelvesLemmas
+pub mod DarkLemmas
+pub mod DisksLemmas
+pub mod PostsLemmas
+pub mod LogLemmas
+pub mod EndsLemmas
+pub mod MomentsLemmas
+pub mod StagesLemmas
+pub mod LightingLemmas
+pub mod FactsLemmas
+pub mod StateLemmas
+pub mod RepliesLemmas

@@ -1,13 +1,9 @@
-pub mod Earlier
 pub mod Group
 pub mod Handover
 pub mod Names
 pub mod Quiesce
 pub mod Ranges
-pub mod Running
-pub mod Stage
 pub mod TieCommands
-pub mod TieCopies
-pub mod TieGroups
 pub mod Varyon
 pub mod Volumes
+pub mod Tie

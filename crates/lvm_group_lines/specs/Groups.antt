@@ -9,12 +9,18 @@ use Rattle.lvm_core.specs.Sound.{IsSoundBetween}
 use Rattle.lvm_core.specs.State.{state_of}
 use Rattle.lvm_session.specs.Sound.{IsSound}
 use Rattle.lvm_session.specs.State.{Core}
-use Rattle.lvm_disk_lines.specs.passed.Group.{NewGroup}
-use Rattle.lvm_disk_lines.specs.passed.Quiesce.{CauseRose, MkvgOnceQuiet, VaryonOnceQuiet}
-use Rattle.lvm_disk_lines.specs.passed.Stage.{Asks, IsAsked, EndsSession, patience_of_line, IsRelit, refusal_of, IsRefused, IsNotOn, IsOfKind, IsOn}
-use Rattle.lvm_disk_lines.specs.passed.Stage.{history_of, open_in, session_of, shelf_of, ScriptState, log_with, Holder, Reply}
-use Rattle.lvm_disk_lines.specs.passed.RefusalVariants as refusal
-use Rattle.lvm_disk_lines.specs.passed.ReplyVariants as reply
+use Rattle.lvm_group_lines.specs.passed.Group.{NewGroup}
+use Rattle.lvm_group_lines.specs.passed.Quiesce.{CauseRose, MkvgOnceQuiet, VaryonOnceQuiet}
+use Rattle.lvm_group_lines.specs.Asking.{Asks, EndsSession, IsAsked}
+use Rattle.lvm_group_lines.specs.declared.holder.Holder.{Holder}
+use Rattle.lvm_group_lines.specs.Stages.{IsNotOn, IsOfKind, IsOn, history_of, open_in, session_of, shelf_of}
+use Rattle.lvm_group_lines.specs.Replies.{IsRefused}
+use Rattle.lvm_group_lines.specs.Lighting.{IsRelit, refusal_of}
+use Rattle.lvm_group_lines.specs.declared.reply.Reply.{Reply}
+use Rattle.lvm_group_lines.specs.State.{ScriptState, log_with}
+use Rattle.lvm_group_lines.specs.Ends.{patience_of_line}
+use Rattle.lvm_group_lines.specs.declared.reply.Refusal.TheVariants as refusal
+use Rattle.lvm_group_lines.specs.declared.reply.Reply.TheVariants as reply
 
 -- ---- what the call has left
 

@@ -1,3 +1,13 @@
 pub mod passed
 pub mod Groups
 pub mod Listings
+pub mod Disks
+pub mod Shelves
+pub mod Asking
+pub mod Ends
+pub mod Lighting
+pub mod Moments
+pub mod Refusals
+pub mod Replies
+pub mod Stages
+pub mod State

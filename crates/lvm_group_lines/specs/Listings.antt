@@ -7,9 +7,11 @@ use Rattle.lvm_num.specs.Descriptor.{member_of}
 use Rattle.lvm_show.specs.Listings.{group_text, volumes_text, volume_map_text, disk_text}
 use Rattle.lvm_core.specs.Looking.{IsNumberOf, HasNoVolumeNamed}
 use Rattle.lvm_session.specs.State.{Core}
-use Rattle.lvm_disk_lines.specs.passed.Stage.{Shows, Refusal, Reply}
-use Rattle.lvm_disk_lines.specs.passed.RefusalVariants as refusal
-use Rattle.lvm_disk_lines.specs.passed.ReplyVariants as reply
+use Rattle.lvm_group_lines.specs.Replies.{Shows}
+use Rattle.lvm_group_lines.specs.declared.reply.Refusal.{Refusal}
+use Rattle.lvm_group_lines.specs.declared.reply.Reply.{Reply}
+use Rattle.lvm_group_lines.specs.declared.reply.Refusal.TheVariants as refusal
+use Rattle.lvm_group_lines.specs.declared.reply.Reply.TheVariants as reply
 
 -- the answer is this refusal
 abbrev pub IsAnswered : Reply → Refusal → Type 0

@@ -2,11 +2,14 @@
 ghost use Rattle.std.specs.Prelude.{◌≡◌, ℕ, List, length, IfOk};
 ghost use Rattle.lvm_num.specs.Descriptor.{IsValid};
 ghost use Rattle.lvm_group_lines.specs.Listings.{CopiesShow, DiskShows, GroupShows, MemberShows, NamedShows, VolumeShows};
-ghost use Rattle.lvm_disk_lines.specs.passed.Stage.{Shows, shelf_in, session_in};
+ghost use Rattle.lvm_group_lines.specs.Replies.{Shows};
+ghost use Rattle.lvm_group_lines.specs.Stages.{shelf_in, session_in};
 
+use crate::holder::Holder;
+use crate::reply::{Refusal, Reply};
+use crate::stage::Stage;
 use lvm_core::number_of;
 use lvm_disk::Shelf;
-use lvm_disk_lines::below::stage::{Holder, Refusal, Reply, Stage};
 use lvm_num::{Descriptor, Memory, Name, Text, has_member};
 use lvm_show::{show_disk, show_group, show_map, show_volumes};
 use lvm_stale::StaleTable;

@@ -29,12 +29,12 @@ use Rattle.lvm_session_start.specs.Beginning.{first_core}
 use Rattle.lvm_session_start.specs.Parts.{IsReserved}
 use Rattle.lvm_keeps.specs.Begins.{Begins, IsCalm, IsUnused}
 use Rattle.lvm_keeps.proofs.BeginsLemmas.{beginning_is_sound}
-use Rattle.lvm_earlier.specs.passed.Names.{room_of}
-use Rattle.lvm_group.specs.passed.GroupPlan.{given_up, new_group, new_status}
-use Rattle.lvm_earlier.specs.passed.Tie.{IsStamped}
+use Rattle.lvm_handover.specs.passed.Names.{room_of}
+use Rattle.lvm_group.specs.NewGroup.{given_up, new_group, new_status}
+use Rattle.lvm_handover.specs.passed.Tie.{IsStamped}
 use Rattle.lvm_handover.specs.Beginning.{HasJustBegun, IsHistory, MadeBegins, Serves, VariedOnBegins}
 use Rattle.lvm_keeps.proofs.LeftLemmas.Updates.{few_updates}
-use Rattle.lvm_tie_begins.proofs.MarksLemmas.{not_entailed}
+use Rattle.lvm_tie.proofs.MarksLemmas.{not_entailed}
 
 -- the stamp of the last record that was written
 abbrev second : ℕ → Stamp

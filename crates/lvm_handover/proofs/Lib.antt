@@ -3,5 +3,8 @@ pub mod SettlingLemmas
 pub mod ServingLemmas
 pub mod VotesLemmas
 pub mod SoundLemmas
-pub mod CommitSettlingLemmas
+pub mod NoneLeftLemmas
 pub mod BeginningLemmas
+pub mod EarlierAnswersLemmas
+pub mod LegalLemmas
+pub mod EarlierLemmas

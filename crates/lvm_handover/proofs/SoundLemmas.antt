@@ -1,8 +1,9 @@
 -- A session of requests at which nothing is under way is sound between commands.
-use Rattle.std.proofs.Common.{◌≡◌, ℕ, zero, suc, ◌+◌, Bool, true, false, List, [], ◌∷◌, Option, length, replicate, refl, sym, ap, ◌∙◌}
+use Rattle.std.proofs.Common.{◌≡◌, ℕ, ◌+◌, Bool, true, false, List, [], ◌∷◌, Option, length, replicate, refl, sym, ap, ◌∙◌}
 use Rattle.std.specs.Prelude.{count_by, slice_index_or}
 use Rattle.lvm_num.specs.Buffer.{Buffer}
 use Rattle.lvm_num.specs.Status.{calls_missing}
+use Rattle.lvm_num.proofs.Lists.{all_back}
 use Rattle.lvm_disk.specs.Device.{Flight}
 use Rattle.lvm_session.specs.declared.bringing.OpenCopy.{OpenCopy}
 use Rattle.lvm_session.specs.declared.flown.Flown.{Flown}
@@ -14,8 +15,8 @@ use Rattle.lvm_session.specs.Dark.{hand_of_copy}
 use Rattle.lvm_session.specs.Owners.{AreRows}
 use Rattle.lvm_session.specs.Placed.{ArePlaced}
 use Rattle.lvm_session.specs.Sound.{IsSound, count_if, has_number, hands_with, is_dark, is_hand, out_with, waits}
-use Rattle.lvm_earlier.specs.passed.Names.{HaveAllLanded, HasNoneOpen, IsFittingBetween, IsQuiet, IsSoundBetween}
-use Rattle.lvm_tie_begins.specs.Begins.{IsResting}
+use Rattle.lvm_handover.specs.passed.Names.{HaveAllLanded, HasNoneOpen, IsFittingBetween, IsQuiet, IsSoundBetween}
+use Rattle.lvm_tie.specs.Begins.{IsResting}
 
 -- where no transfer is the session's, none is out
 none_out : (core : Core) (rows : List Flown) (flights : List Flight) → AreRows core rows flights → rows ≡ [] → flights ≡ []
@@ -28,11 +29,6 @@ pub none_flown : (core : Core) (rows : List Flown) (flights : List Flight) → A
 none_flown core [] flights are none = refl
 none_flown core (row ∷ rows) [] are none = absurd are
 none_flown core (row ∷ rows) (f ∷ flights) are none = absurd (cc none)
-
--- a pool of which no buffer is out
-all_back : (pool : List Bool) → ((n : ℕ) → slice_index_or pool n false ≡ false) → pool ≡ replicate (length pool) false
-all_back [] none = refl
-all_back (b ∷ pool) none = ap (λ (x : Bool). x ∷ pool) (none zero) ∙ ap (λ (xs : List Bool). false ∷ xs) (all_back pool (λ n. none (suc n)))
 
 not_counted : (b : Bool) → 0 ≡ count_if b → b ≡ false
 not_counted true is = absurd (cc is)

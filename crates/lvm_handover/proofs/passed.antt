@@ -1,8 +1,6 @@
-pub mod Earlier
 pub mod Group
 pub mod Names
 pub mod Ranges
-pub mod Running
-pub mod TieBegins
+pub mod Tie
 pub mod Varyon
 pub mod Volumes

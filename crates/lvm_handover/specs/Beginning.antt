@@ -8,11 +8,11 @@ use Rattle.lvm_commit.specs.Settling.{NoneIsLeft}
 use Rattle.lvm_session.specs.State.{State}
 use Rattle.lvm_session.specs.Sound.{IsSound}
 use Rattle.lvm_session_start.specs.Beginning.{AreFaults}
-use Rattle.lvm_earlier.specs.passed.Names.{Room, IsSettled, IsSoundBetween}
+use Rattle.lvm_handover.specs.passed.Names.{Room, IsSettled, IsSoundBetween}
 use Rattle.lvm_varyon.specs.Varied.{ComesOn}
 use Rattle.lvm_group.specs.Made.{IsMade}
-use Rattle.lvm_group.specs.passed.GroupPlan.{NewGroup}
-use Rattle.lvm_earlier.specs.passed.Tie.{IsStamped}
+use Rattle.lvm_group.specs.NewGroup.{NewGroup}
+use Rattle.lvm_handover.specs.passed.Tie.{IsStamped}
 
 -- what each history is that was made: its entries are in their order, and their numbers are of four bytes
 pub record IsHistory (log : Log) : Type 0 where

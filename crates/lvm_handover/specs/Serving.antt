@@ -17,7 +17,7 @@ use Rattle.lvm_session.specs.Judging.{copies_in, is_missing, is_wanted_stale}
 use Rattle.lvm_session.specs.Left.{updates_left}
 use Rattle.lvm_session.specs.Marks.{is_among}
 use Rattle.lvm_session.specs.Sound.{IsSound}
-use Rattle.lvm_earlier.specs.passed.Names.{Leaves, Scope, IsSettled, IsSoundBetween}
+use Rattle.lvm_handover.specs.passed.Names.{Leaves, Scope, IsSettled, IsSoundBetween}
 use Rattle.lvm_volumes.specs.passed.Names.{GroupFault, NewVolume, IfOn}
 use Rattle.lvm_volumes.specs.Endings.{HasFresh, KeepsFresh, StillHeld}
 use Rattle.lvm_volumes.specs.Volumes.{MklvGives, RmlvGives, to_make, to_remove}

@@ -2,9 +2,9 @@
 use Rattle.std.specs.Prelude.{◌≢◌}
 use Rattle.lvm_session.specs.State.{State}
 use Rattle.lvm_session.specs.Sound.{IsSound}
-use Rattle.lvm_earlier.specs.passed.Names.{HasNoneOpen}
-use Rattle.lvm_tie_begins.specs.Begins.{IsResting}
-use Rattle.lvm_earlier.specs.passed.Driver.{IsDrained}
+use Rattle.lvm_handover.specs.passed.Names.{HasNoneOpen}
+use Rattle.lvm_tie.specs.Begins.{IsResting}
+use Rattle.lvm_handover.specs.passed.Driver.{IsDrained}
 
 -- Nothing is left to be made of it, neither a request nor a copy is open, and the epoch of its stamps is some moment.
 pub record MayHandOver (s : State) : Type 0 where

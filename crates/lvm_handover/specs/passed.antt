@@ -1,12 +1,9 @@
 pub mod AskRangeFaultVariants
 pub mod Driver
-pub mod Earlier
 pub mod Group
 pub mod Names
 pub mod Ranges
-pub mod Running
 pub mod Tie
-pub mod TieBegins
 pub mod Varyon
 pub mod VolumePlanFaultGroupFault
 pub mod Volumes

@@ -1,8 +1,8 @@
 //! What is passed on from the crates below.
 
 pub mod driver;
-pub mod earlier;
 pub mod ranges;
 pub mod volumes;
 
-pub use lvm_earlier::below::{Post, end_posts};
+pub use lvm_core::Driver;
+pub use lvm_ranges::below::{Post, end_posts};

@@ -4,12 +4,12 @@ ghost use Rattle.lvm_status.specs.Calls.{IsMarkable};
 ghost use Rattle.lvm_status.specs.Members.{HasItsRows};
 ghost use Rattle.lvm_session.specs.State.{state};
 ghost use Rattle.lvm_session.specs.Sound.{IsSound};
-ghost use Rattle.lvm_earlier.specs.passed.Names.{IsSettled, IsSoundBetween};
+ghost use Rattle.lvm_handover.specs.passed.Names.{IsSettled, IsSoundBetween};
 ghost use Rattle.lvm_handover.specs.Settling.{MayHandOver};
 ghost use Rattle.lvm_handover.specs.Serving.{IsServed, MarksAdded, MarksMissing, MayServe};
 
+use crate::below::{Driver as CoreDriver, driver};
 use lvm_disk::Shelf;
-use lvm_earlier::below::{Driver as CoreDriver, driver};
 use lvm_num::{Descriptor, Pp};
 use lvm_stale::StaleTable;
 

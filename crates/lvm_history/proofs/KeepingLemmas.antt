@@ -17,7 +17,7 @@ use Rattle.lvm_checker.specs.declared.row.Row.TheVariants as row
 use Rattle.lvm_checker.specs.Fitting.{is_bounded}
 use Rattle.lvm_checker.specs.Rows.{facts_of, no_ask, ask_of, is_landing, is_taking}
 use Rattle.lvm_history.specs.Keeping.{ask_at, ask_found, is_open_by, awaited_by, is_answered_by, entry_kept, IsOneOfAsks, asks_from, row_of, IsKept, IsRoomy, if_uncut, blocks_first, Holdings, log_of, IsSound}
-use Rattle.lvm_checker.proofs.passed.Names.{IdsFrom, stands_last, stands-at, stands_begun, numbered, begun-push, any-push, ordered-push, found_of, and_left, open_of, follows_taken, count_begun}
+use Rattle.lvm_checker.proofs.passed.Names.{IdsFrom, stands_last, stands-at, stands_begun, numbered, begun-push, any-push, ordered-push, found_of, and_left, open_of, follows_taken, count_begun, four_hold}
 use Rattle.lvm_history.proofs.LogLemmas.Keeping.{counts, ask-back, length-asks, length-flat, length-held, asks-push, facts-back, blocks_aside, blocks-begun, blocks-landed, blocks-read, held_same, unlanded_id, place_of}
 use Rattle.lvm_history.proofs.LogLemmas.Counting.{stands_get, find_at, find_below, counted, three_needed, no_taking_yet, landing_same, taking_same, needed-push, length-push}
 
@@ -168,9 +168,6 @@ row_room k f sound follows fits =
     let is = sound.roomy.counted in let room = sound.rows_fit in
     omega (arith, total, needed-push k.run facts f, length-push k.run facts f, rows, is, room, fits)
 
-and4 : (a b c d : Bool) → a ≡ true → b ≡ true → c ≡ true → d ≡ true → (a && b && c && d) ≡ true
-and4 a b c d pa pb pc pd = ap (λ (t : Bool). t && b && c && d) pa ∙ ap (λ (t : Bool). t && c && d) pb ∙ ap (λ (t : Bool). t && d) pc ∙ pd
-
 -- what has landed can be taken
 answered_landed : (run : ℕ) (facts : List Fact) (id : ℕ) (how : Outcome) (started : Bool) (got : List (List ℕ)) → Ordered run [] facts → is_open facts id ≡ true
     → is_answered (facts ++ Landed (request_of facts id) how started got ∷ []) (request_of facts id).client id ≡ true
@@ -183,7 +180,7 @@ answered_landed run facts id how started got ordered still =
     let e : asked (facts ++ f ∷ []) id ≡ Some r = ap (λ (rs : List Request). find (has_id id) rs) b ∙ its.its.found in
     let same : request_of (facts ++ f ∷ []) id ≡ r = ap (λ (o : Option Request). unwrap_or o no_request) e in
     let own_id : (r.id == id) ≡ true = ap (λ (n : ℕ). n == id) its.its.own ∙ equal id in
-    and4 (is_some (asked (facts ++ f ∷ []) id)) ((request_of (facts ++ f ∷ []) id).client == r.client) (list_any (lands_id id) (facts ++ f ∷ [])) (not (list_any (takes_id id) (facts ++ f ∷ [])))
+    four_hold (is_some (asked (facts ++ f ∷ []) id)) ((request_of (facts ++ f ∷ []) id).client == r.client) (list_any (lands_id id) (facts ++ f ∷ [])) (not (list_any (takes_id id) (facts ++ f ∷ [])))
     (ap (λ (o : Option Request). is_some o) e)
     (ap (λ (x : Request). x.client == r.client) same ∙ equal r.client)
     (any-push (lands_id id) facts f ∙ ap (λ (t : Bool). list_any (lands_id id) facts || t) own_id ∙ or_true (list_any (lands_id id) facts))

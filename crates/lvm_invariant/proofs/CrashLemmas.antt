@@ -1,13 +1,15 @@
 -- Each crash image agrees with the history.
 use Rattle.std.proofs.Common.{◌≡◌, ◌⊎◌, inl, inr, ⊎_elim, ℕ, Bool, true, false, ◌&&◌, List, Option, Some, None, refl, sym, ap, subst, ◌∙◌}
 use Rattle.std.specs.Prelude.{IsTrue, IsFalse, map, if◌then◌else◌}
+use Rattle.std.proofs.lemmas.Bool.{and_left}
 use Rattle.lvm_num.specs.declared.place.Pp.{Pp}
 use Rattle.lvm_num.specs.Geometry.{track_group_of}
 use Rattle.lvm_num.specs.Record.{Stamped}
+use Rattle.lvm_num.proofs.Booleans.{clash_gives}
 use Rattle.lvm_vol.specs.Facts.{Request, block_of}
 use Rattle.lvm_vol.specs.May.{Known, cut, is_off, is_some_open}
 use Rattle.lvm_invariant.specs.State.{write_of, Marks, Groups, View, Going, Queued, ModelState, covers, request_of, has_landed, stale_in, Live, Named, Started, told}
-use Rattle.lvm_invariant.proofs.Small.{IsIn, never, and_right_false, and_left_false, or_left, or_right, in_more, in_added, brought_in, some_open}
+use Rattle.lvm_invariant.proofs.Small.{IsIn, and_right_false, or_left, or_right, in_more, in_added, brought_in, some_open}
 use Rattle.lvm_invariant.specs.Sound.{MayDiffer, Agree, Quiescent, Busy, Recorded, StaysFresh, Sound}
 use Rattle.lvm_invariant.specs.Crash.{CopyBrings, IsCrash, Fresh, MayDifferAfter, BlockKept, IsPossible, Widens, CoreIsKept}
 
@@ -76,7 +78,7 @@ module _ (s : ModelState) (sound : Sound s) where
       is_live c fresh = record {
         copy = fresh.copy;
         counts = inl (elim possible [
-          | inl is ↦ and_left_false (s.committed.value.stale c) (stale_in s.in_flight c) (ap (λ (m : Marks). m.stale c) (sym is) ∙ fresh.fresh)
+          | inl is ↦ and_left (s.committed.value.stale c) (stale_in s.in_flight c) (ap (λ (m : Marks). m.stale c) (sym is) ∙ fresh.fresh)
           | inr flies ↦ and_right_false (s.committed.value.stale c) (stale_in s.in_flight c) (ap (λ (o : Option (Stamped Marks)). stale_in o c) flies.1 ∙ ap (λ (m : Marks). m.stale c) (sym flies.2) ∙ fresh.fresh)
         ]);
       }
@@ -88,7 +90,7 @@ module _ (s : ModelState) (sound : Sound s) where
         | inr rest ↦ elim rest [
           | inl brings ↦ absurd (settled.calm brings.id brings.req brings.started brings.over)
           | inr k ↦ k.is ∙ ⊎_elim
-              (λ (loose : IsTrue (told s lv b).loose). never (told s lv b).loose loose tight)
+              (λ (loose : IsTrue (told s lv b).loose). clash_gives (told s lv b).loose loose tight)
               (λ (equal : (e : Pp) → Live s lv b e → s.media.block lv b e ≡ k.values b). sym (equal c live))
               (brought_seen lv b c k).1
         ]
@@ -118,7 +120,7 @@ module _ (s : ModelState) (sound : Sound s) where
       equal_if_settled : (active loose : Bool) → s.is_active lv ≡ active → (told s lv b).loose ≡ loose → Quiescent s lv b → Agree s lv b ⊎ MayDiffer s lv b active
           → ((value : List ℕ) × ((c : Pp) → Fresh s marks lv b c → v.block lv b c ≡ value)) ⊎ MayDifferAfter s v marks (after lv b) lv b active
       equal_if_settled active false on tight settled (inl agree) = inl (agree.0, λ c fresh. same_if_calm settled tight c (is_live c fresh) ∙ agree.1 c (is_live c fresh))
-      equal_if_settled true true on loose settled (inl agree) = inr (λ c fresh. never (told s lv b).loose loose (sound.tied.tight lv b c fresh.copy (inl on)))
+      equal_if_settled true true on loose settled (inl agree) = inr (λ c fresh. clash_gives (told s lv b).loose loose (sound.tied.tight lv b c fresh.copy (inl on)))
       equal_if_settled false true on loose settled (inl agree) = inr (inl (wide.loose lv b loose))
       equal_if_settled true loose on l settled (inr differ) = inr (λ c fresh. named_after c.disk lv (track_group_of b) (differ c (is_live c fresh)).1)
       equal_if_settled false loose on l settled (inr (inl is)) = inr (inl (wide.loose lv b is))

@@ -4,6 +4,7 @@ use Rattle.std.specs.Prelude.{IsTrue, if◌then◌else◌}
 use Rattle.std.specs.List.{AllByRecursion}
 use Rattle.lvm_num.specs.declared.place.Pp.{Pp}
 use Rattle.lvm_num.specs.Record.{Stamped}
+use Rattle.lvm_num.proofs.Lists.{all_weaker, all_push}
 use Rattle.lvm_disk.specs.Counts.{Rose}
 use Rattle.lvm_vol.specs.declared.entry.Outcome.{Outcome}
 use Rattle.lvm_vol.specs.declared.entry.Outcome.TheVariants as outcome
@@ -14,16 +15,9 @@ use Rattle.lvm_invariant.specs.Caused.{LandingIsCaused, FactIsCaused, Since, Cau
 use Rattle.lvm_invariant.specs.Why.{asked_at}
 use Rattle.lvm_invariant.proofs.CountingLemmas.{rose_then}
 
-map_all : {X : Type 0} (P Q : X → Type 0) → ((x : X) → P x → Q x) → (xs : List X) → AllByRecursion P xs → AllByRecursion Q xs
-map_all P Q f [] all = tt
-map_all P Q f (x ∷ xs) all = (f x all.0, map_all P Q f xs all.1)
-
 pub append_all : {X : Type 0} (P : X → Type 0) (xs ys : List X) → AllByRecursion P xs → AllByRecursion P ys → AllByRecursion P (xs ++ ys)
 append_all P [] ys all more = more
 append_all P (x ∷ xs) ys all more = (all.0, append_all P xs ys all.1 more)
-
-push_all : {X : Type 0} (P : X → Type 0) (xs : List X) (x : X) → AllByRecursion P xs → P x → AllByRecursion P (xs ++ x ∷ [])
-push_all P xs x all last = append_all P xs (x ∷ []) all (last, tt)
 
 -- Counts go on from w, and the place that an event enters, if any, is asked then.
 module _ (w : Faults) (now : ℕ → ℕ) (place : Option ℕ) (rises : (d : ℕ) → w.now d ≤ now d) where
@@ -71,13 +65,13 @@ module _ (w : Faults) (now : ℕ → ℕ) (place : Option ℕ) (rises : (d : ℕ
 
     since_then : Since after new new.facts
     since_then =
-        let old : AllByRecursion (FactIsCaused after new) caused.landed.since = map_all (FactIsCaused w s) (FactIsCaused after new) fact_stays caused.landed.since caused.landed.caused in
+        let old : AllByRecursion (FactIsCaused after new) caused.landed.since = all_weaker (FactIsCaused w s) (FactIsCaused after new) fact_stays caused.landed.since caused.landed.caused in
         ⊎_elim
         (λ (same : new.facts ≡ s.facts). record { since = caused.landed.since; is = same ∙ caused.landed.is; caused = old })
         (λ (more : (f : Fact) × (new.facts ≡ s.facts ++ f ∷ []) × FactIsCaused after new f). record {
           since = caused.landed.since ++ more.0 ∷ [];
           is = more.1 ∙ ap (λ (l : List Fact). l ++ more.0 ∷ []) caused.landed.is ∙ append_assoc w.past caused.landed.since (more.0 ∷ []);
-          caused = push_all (FactIsCaused after new) caused.landed.since more.0 old more.2;
+          caused = all_push (FactIsCaused after new) caused.landed.since more.0 old more.2;
         })
         change.landed
 

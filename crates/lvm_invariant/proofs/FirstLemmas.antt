@@ -11,18 +11,14 @@ use Rattle.lvm_invariant.specs.Good.{Good}
 use Rattle.lvm_invariant.specs.Sound.{Sound}
 use Rattle.lvm_num.specs.Descriptor.{is_pp}
 use Rattle.lvm_num.specs.Record.{Stamped}
-use Rattle.lvm_num.proofs.Booleans.{and_false}
+use Rattle.lvm_num.proofs.Booleans.{and_false, clash_gives, not_so}
 use Rattle.lvm_invariant.specs.State.{Marks, ModelCopy, ModelState}
 use Rattle.lvm_num.specs.Modes.{is_active, is_passive}
-use Rattle.lvm_invariant.proofs.Small.{never}
 pub use Rattle.lvm_invariant.proofs.Small.{left_of as left, right_of as right, both_of as both}
 use Rattle.lvm_invariant.proofs.ToldLemmas.{told_of_none}
 
 pub nothing : {X A : Type 0} (a : A) → None ≡ Some a → X
 nothing a e = absurd cc
-
-pub not_so : {X : Type 0} → false ≡ true → X
-not_so e = absurd cc
 
 -- what is known of a block once the volume is made, if the block is one of it
 abbrev known_by : Mode → Bool → Known
@@ -67,7 +63,7 @@ module _ (mode : Mode) (stale : Bool) (open_copy : Option ModelCopy) (brought : 
     };
     statuses = record {
       stale_flies = λ c u flies old fresh. nothing u flies;
-      stale_is_wanted = λ c old n. never (stale && is_pp c second_copy) old n;
+      stale_is_wanted = λ c old n. clash_gives (stale && is_pp c second_copy) old n;
       flying_is_wanted = λ c u flies old n. nothing u flies;
       kept = λ lv b c copy. (
         first_copy,

@@ -4,9 +4,9 @@ use Rattle.std.specs.Prelude.{IsTrue}
 use Rattle.std.proofs.lemmas.Bool.Decides.{nat_tests}
 use Rattle.lvm_num.specs.declared.record.Stamp.{Stamp}
 use Rattle.lvm_num.specs.Record.{Stamped, stamp_lt}
+use Rattle.lvm_num.proofs.Booleans.{clash_gives}
 use Rattle.lvm_invariant.specs.State.{Marks, View, ModelState}
 use Rattle.lvm_invariant.specs.Crash.{IsCrash, IsPossible}
-use Rattle.lvm_invariant.proofs.Small.{never}
 use Rattle.lvm_invariant.specs.Found.{Votes, Found, IsNewest, QuorumFinds}
 use Rattle.lvm_invariant.proofs.StateLemmas.Claims.{StatusEndKeepsFound, BeginKeepsFound, CommitKeepsFound, UpdateEndKeepsFound}
 
@@ -14,7 +14,7 @@ use Rattle.lvm_invariant.proofs.StateLemmas.Claims.{StatusEndKeepsFound, BeginKe
 earlier : (a b c : Stamp) → stamp_lt a b ≡ true → stamp_lt b c ≡ true → stamp_lt a c ≡ true
 earlier a b c h k = grind (arith, nat_tests)
 
-same_one : (a b : Stamped Marks) → Some a ≡ Some b → a ≡ b
+pub same_one : (a b : Stamped Marks) → Some a ≡ Some b → a ≡ b
 same_one a b e = cc
 
 no_one : {X : Type 0} (a : Stamped Marks) → None ≡ Some a → X
@@ -43,8 +43,8 @@ module _ (votes : Votes) (s : ModelState) (found : Found votes s) (v : View) (cr
       let x = shows d b in
       let last = newest.last d x.0 a x.1 in
       ⊎_elim
-      (λ (is : x.0 ≡ s.committed). never (stamp_lt r.stamp x.0.stamp) (ap (λ (y : Stamped Marks). stamp_lt r.stamp y.stamp) is ∙ older) last)
-      (λ (later : stamp_lt s.committed.stamp x.0.stamp ≡ true). never (stamp_lt r.stamp x.0.stamp) (earlier r.stamp s.committed.stamp x.0.stamp older later) last)
+      (λ (is : x.0 ≡ s.committed). clash_gives (stamp_lt r.stamp x.0.stamp) (ap (λ (y : Stamped Marks). stamp_lt r.stamp y.stamp) is ∙ older) last)
+      (λ (later : stamp_lt s.committed.stamp x.0.stamp ≡ true). clash_gives (stamp_lt r.stamp x.0.stamp) (earlier r.stamp s.committed.stamp x.0.stamp older later) last)
       x.2
 
   finds : IsTrue (votes.reads set) → IsPossible s r.value

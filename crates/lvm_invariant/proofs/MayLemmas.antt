@@ -3,6 +3,7 @@ use Rattle.std.proofs.Common.{◌≡◌, ◌⊎◌, inl, inr, ⊎_elim, ℕ, ◌
 use Rattle.std.specs.Prelude.{IsTrue, IsFalse, ◌==◌, if◌then◌else◌, option_map, filter, nat_lt}
 use Rattle.std.specs.List.{find}
 use Rattle.lvm_num.specs.Buffer.{Sector, zero_sector}
+use Rattle.lvm_num.proofs.Booleans.{clash_gives}
 use Rattle.lvm_vol.specs.declared.entry.Vol.{Vol}
 use Rattle.lvm_vol.specs.declared.entry.Vol.TheVariants.{Lv}
 use Rattle.lvm_vol.specs.declared.entry.Outcome.{Outcome}
@@ -14,7 +15,7 @@ use Rattle.lvm_vol.proofs.LawsLemmas.Knowing.{known-push, ended_open, read_open}
 use Rattle.lvm_vol.proofs.LawsLemmas.Legality.{grow_legal, counted_well, same_self}
 use Rattle.lvm_vol.proofs.FactsLemmas.Order.{stands_left, stands_last}
 use Rattle.lvm_invariant.specs.State.{write_in, write_of}
-use Rattle.lvm_invariant.proofs.Small.{never, left_of as and_left, right_of as and_right, both_of as both}
+use Rattle.lvm_invariant.proofs.Small.{left_of as and_left, right_of as and_right, both_of as both}
 
 -- ---- names
 
@@ -34,7 +35,7 @@ pub apart_back : (r s : Request) → IsFalse (same_request r s) → IsFalse (sam
 apart_back r s h = by_test (same_request s r) refl
   where
     by_test : (t : Bool) → same_request s r ≡ t → IsFalse t
-    by_test true is = never (same_request r s) (same_by r s (sym (same_run s r is)) (sym (same_id s r is))) h
+    by_test true is = clash_gives (same_request r s) (same_by r s (sym (same_run s r is)) (sym (same_id s r is))) h
     by_test false is = refl
 
 -- ---- the open writes without one
@@ -42,7 +43,7 @@ apart_back r s h = by_test (same_request s r) refl
 found_step : (request other s : Request) (ws : List Request) (a c : Bool) → same_request request s ≡ a → same_request other s ≡ c → IsFalse (same_request other request)
     → find (same_request other) (filter (λ (x : Request). not (same_request request x)) ws) ≡ find (same_request other) ws
     → find (same_request other) (if not a then s ∷ filter (λ (x : Request). not (same_request request x)) ws else filter (λ (x : Request). not (same_request request x)) ws) ≡ (if c then Some s else find (same_request other) ws)
-found_step request other s ws true true is_a is_c apart later = never (same_request other request) (same_both request s other is_a is_c) apart
+found_step request other s ws true true is_a is_c apart later = clash_gives (same_request other request) (same_both request s other is_a is_c) apart
 found_step request other s ws true false is_a is_c apart later = later
 found_step request other s ws false true is_a is_c apart later = ap (λ (t : Bool). if t then Some s else find (same_request other) (filter (λ (x : Request). not (same_request request x)) ws)) is_c
 found_step request other s ws false false is_a is_c apart later = ap (λ (t : Bool). if t then Some s else find (same_request other) (filter (λ (x : Request). not (same_request request x)) ws)) is_c ∙ later
@@ -196,7 +197,7 @@ module _ (facts : List Fact) (r : Request) (lv b : ℕ) where
       ∙ ap (λ (t : Bool). option_map (λ (s : Request). block_of s.blocks s.at b) (if t then Some r else find (same_request r) before.open_writes)) (same_self r)
 
   pub beginning_outside : IsFalse (is_over r (Lv lv) b) → is_open_in r before.open_writes ≡ false → write_of b begun_now r ≡ None
-  beginning_outside off none = after_beginning (λ (k : Known). write_of b k r ≡ None) (none_if b r before.open_writes none) (λ h. never (is_over r (Lv lv) b) (and_right r.write (is_over r (Lv lv) b) h) off)
+  beginning_outside off none = after_beginning (λ (k : Known). write_of b k r ≡ None) (none_if b r before.open_writes none) (λ h. clash_gives (is_over r (Lv lv) b) (and_right r.write (is_over r (Lv lv) b) h) off)
 
 -- ---- an open write began
 

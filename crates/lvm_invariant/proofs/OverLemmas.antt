@@ -3,7 +3,7 @@ use Rattle.std.proofs.Common.{◌≡◌, ◌⊎◌, inl, inr, ⊎_elim, ℕ, Boo
 use Rattle.std.specs.Prelude.{IsTrue, IsFalse, ◌==◌, option_map}
 use Rattle.std.specs.List.{list_any}
 use Rattle.std.proofs.lemmas.List.{append-nil}
-use Rattle.std.proofs.lemmas.Bool.{or_right as or_second}
+use Rattle.std.proofs.lemmas.Bool.{or_right as or_second, cases_Bool}
 use Rattle.lvm_vol.specs.declared.entry.Outcome.{Outcome}
 use Rattle.lvm_vol.specs.declared.entry.Outcome.TheVariants as outcome
 use Rattle.lvm_vol.specs.Facts.{Landed as HasLanded, Request, Fact, Begun, Taken, Cut, Stands, same_request, block_of}
@@ -12,6 +12,7 @@ use Rattle.lvm_vol.proofs.LawsLemmas.Knowing.{known-push}
 use Rattle.lvm_vol.proofs.LawsLemmas.Legality.{legal_push}
 use Rattle.lvm_vol.proofs.FactsLemmas.Order.{any-push, stands_left}
 use Rattle.lvm_num.specs.Buffer.{Sector}
+use Rattle.lvm_num.proofs.Booleans.{clash_gives}
 use Rattle.lvm_vol.specs.declared.entry.Vol.TheVariants.{Lv}
 use Rattle.lvm_vol.specs.Legal.{lands, Legal, IsOutcomeOf, GotMay}
 use Rattle.lvm_invariant.specs.Off.{OffKeeps}
@@ -21,9 +22,8 @@ use Rattle.lvm_invariant.specs.Over.{IsDistinct, IsUnlanded, is_going, AreOpen, 
 use Rattle.lvm_invariant.specs.Sound.{Sound}
 use Rattle.lvm_invariant.specs.Cut.{CutKeeps}
 use Rattle.lvm_invariant.specs.Crash.{BlockKept, Widens}
-use Rattle.lvm_invariant.proofs.Small.{never, IsIn, or_left, or_right, in_more, in_added, brought_in, some_open}
+use Rattle.lvm_invariant.proofs.Small.{IsIn, or_left, or_right, in_more, in_added, brought_in, some_open}
 use Rattle.lvm_invariant.proofs.MayLemmas.{is_open_if, is_calm, after_landing, landing_mode, landing_others, landing_ended}
-use Rattle.lvm_invariant.proofs.UpdatesLemmas.Requests.{decided}
 use Rattle.lvm_invariant.proofs.CrashLemmas.{is_open, cut_widens, block_kept}
 use Rattle.lvm_invariant.proofs.StateLemmas.Entered.{write_asks}
 
@@ -31,7 +31,7 @@ use Rattle.lvm_invariant.proofs.StateLemmas.Entered.{write_asks}
 off_or_dark : (P : Outcome → Type 0) → P outcome.Off → P outcome.Dark → (how : Outcome) → IsFalse (is_calm how) → P how
 off_or_dark P off dark outcome.Off over = off
 off_or_dark P off dark outcome.Dark over = dark
-off_or_dark P off dark _ over = never true refl over
+off_or_dark P off dark _ over = clash_gives true refl over
 
 kind_over : (how : Outcome) → IsFalse (is_calm how) → (q : Request) (started : Bool) → IsOutcomeOf how q started
 kind_over how over q started = off_or_dark (λ (h : Outcome). IsOutcomeOf h q started) tt tt how over
@@ -101,7 +101,7 @@ module _ (s : ModelState) (sound : Sound s) (t : Told s.queue s.name s.facts) (h
     loose_next lv b h = same_block lv b (λ (k : Known). IsTrue k.loose) h (λ x. off_loose q started x (known facts (Lv lv) b) h)
 
     apart_from : (j : ℕ) → Stands j places → IsFalse (j == i)
-    apart_from j there = ⊎_elim (λ (same : IsTrue (j == i)). absurd (not_again (subst (λ (k : ℕ). Stands k places) (eqb-true _ _ same) there))) (λ (f : IsFalse (j == i)). f) (decided (j == i))
+    apart_from j there = ⊎_elim (λ (same : IsTrue (j == i)). absurd (not_again (subst (λ (k : ℕ). Stands k places) (eqb-true _ _ same) there))) (λ (f : IsFalse (j == i)). f) (cases_Bool (j == i))
 
     now_cared : (lv b : ℕ) (r : Queued) → Started s i r → IsTrue (covers r lv b) → write_of b (known facts (Lv lv) b) q ≡ Some (r.value b) → IsCared s next lv b r
     now_cared lv b r start inside is_open =

@@ -1,30 +1,17 @@
 -- Small facts on tests, values and what is known of a block.
 use Rattle.std.proofs.Common.{◌≡◌, inl, inr, ℕ, Bool, true, false, ◌&&◌, ◌||◌, List, [], ◌∷◌, ◌++◌, Option, Some, None, refl, sym, ap, subst}
-use Rattle.std.specs.Prelude.{IsTrue, IsFalse, map, find, if◌then◌else◌, option_map, IsSomeAnd}
+use Rattle.std.specs.Prelude.{IsTrue, map, find, if◌then◌else◌, option_map, IsSomeAnd}
 use Rattle.lvm_num.specs.Buffer.{Sector}
 use Rattle.lvm_vol.specs.Facts.{Request, Stands, same_request, block_of}
 use Rattle.lvm_invariant.specs.State.{write_in}
 use Rattle.lvm_vol.specs.May.{is_some_open}
-pub use Rattle.std.proofs.lemmas.Bool.{and_from as both_of}
-pub use Rattle.std.proofs.lemmas.Bool.{and_right as and_right_false}
-pub use Rattle.std.proofs.lemmas.Bool.{or_left}
-pub use Rattle.lvm_num.proofs.Booleans.{first_holds as left_of}
-pub use Rattle.lvm_num.proofs.Booleans.{second_holds as right_of}
+pub use Rattle.std.proofs.lemmas.Bool.{and_from as both_of, and_right as and_right_false, or_left}
+pub use Rattle.lvm_num.proofs.Booleans.{first_holds as left_of, second_holds as right_of}
+use Rattle.lvm_num.proofs.Lists.{some_map}
 
 -- the value is one of those known
 abbrev pub IsIn : Option (List (List ℕ)) → List ℕ → Type 0
 IsIn values value = IsSomeAnd values (λ vs. Stands value vs)
-
-pub never : {X : Type 0} (a : Bool) → IsTrue a → IsFalse a → X
-never a t f = absurd cc
-
-pub false_by : (a w : Bool) → (IsTrue a → IsTrue w) → IsFalse w → IsFalse a
-false_by true w f h = never w (f refl) h
-false_by false w f h = refl
-
-pub and_left_false : (a b : Bool) → IsFalse a → IsFalse (a && b)
-and_left_false true b h = absurd cc
-and_left_false false b h = refl
 
 pub or_right : (a b c : Bool) → IsTrue b → IsTrue c → IsTrue (a || (b && c))
 or_right true b c h k = refl
@@ -47,13 +34,6 @@ in_more (Some xs) more value h = in_left xs more value h
 
 pub in_added : (may : Option (List (List ℕ))) (more xs : List (List ℕ)) (value : List ℕ) → may ≡ Some xs → Stands value more → IsIn (option_map (λ known. known ++ more) may) value
 in_added may more xs value e h = subst (λ (m : Option (List (List ℕ))). IsIn (option_map (λ known. known ++ more) m) value) (sym e) (in_right xs more value h)
-
-some_map : {X Y : Type 0} (f : X → Y) (o : Option X) (y : Y) → option_map f o ≡ Some y → (x : X) × (o ≡ Some x) × (f x ≡ y)
-some_map f None y e = absurd cc
-some_map f (Some x) y e = (x, refl, same (f x) y e)
-  where
-    same : {Y : Type 0} (a b : Y) → Some a ≡ Some b → a ≡ b
-    same a b k = cc
 
 -- what is found in a list is one of its own
 found_in : (test : Request → Bool) (value : Request → Sector) (ws : List Request) (w : Request) → find test ws ≡ Some w → Stands (value w) (map value ws)

@@ -2,7 +2,7 @@
 use Rattle.std.proofs.Common.{◌≡◌, ⊎_elim, ℕ, ◌+◌, ◌<◌, Bool, true, false, ◌||◌, List, [], ◌∷◌, ◌++◌, Option, Some, None, refl, sym, ap, subst, ◌∙◌, eq-eqb, arith, count_by}
 use Rattle.std.specs.Prelude.{IsTrue, IsFalse, ◌==◌, if◌then◌else◌}
 use Rattle.std.specs.List.{list_any}
-use Rattle.lvm_num.proofs.Booleans.{or_false, or_true}
+use Rattle.lvm_num.proofs.Booleans.{or_false, or_true, clash_gives}
 use Rattle.lvm_vol.specs.declared.entry.Vol.TheVariants.{Lv}
 use Rattle.lvm_vol.specs.declared.entry.Outcome.{Outcome}
 use Rattle.lvm_vol.specs.Facts.{Request, Fact, Begun, Landed, Taken, Stands, same_request}
@@ -12,7 +12,6 @@ use Rattle.lvm_vol.proofs.FactsLemmas.Order.{any-push, stands_left, stands_last}
 use Rattle.lvm_invariant.specs.State.{Queued, covers, has_landed}
 use Rattle.lvm_invariant.specs.Updates.{put, without, with_name, land}
 use Rattle.lvm_invariant.specs.Told.{IsRequestOf, Told}
-use Rattle.lvm_invariant.proofs.Small.{never}
 use Rattle.lvm_invariant.proofs.UpdatesLemmas.Requests.{put_cases}
 use Rattle.lvm_invariant.proofs.UpdatesLemmas.Getting.{named_at, named_other}
 use Rattle.lvm_invariant.proofs.MayLemmas.{later_apart, apart_back}
@@ -133,7 +132,7 @@ module _ (queue : ℕ → Option Queued) (name : ℕ → Request) (facts : List 
         (put_cases queue i j r m h)
 
     not_same : (p k : ℕ) → p ≡ i → k ≡ i → IsFalse (k == p) → ⊥
-    not_same p k is_p is_k other = never (k == p) (eq-eqb k p (is_k ∙ sym is_p)) other
+    not_same p k is_p is_k other = clash_gives (k == p) (eq-eqb k p (is_k ∙ sym is_p)) other
 
     apart_now : (IsFalse r.step → (j : ℕ) (e : Queued) → queue j ≡ Some e → IsFalse e.step → IsFalse (same_request q (name j)))
         → (p k : ℕ) (m n : Queued) → put queue i r p ≡ Some m → put queue i r k ≡ Some n → IsFalse m.step → IsFalse n.step → IsFalse (k == p) → IsFalse (same_request (with_name name i q k) (with_name name i q p))
@@ -167,18 +166,18 @@ module _ (queue : ℕ → Option Queued) (name : ℕ → Request) (facts : List 
               (λ a. any-push (takes q) facts (Begun q) ∙ or_false (list_any (takes q) facts) ∙ untaken facts q t.legal none)
               (λ j m h a. any-push (takes (name j)) facts (Begun q) ∙ or_false (list_any (takes (name j)) facts) ∙ t.untaken j m h a);
           apart = apart_now (λ a j e h b. later_apart facts q (name j) t.legal above (t.began j e h b));
-          steps_read = by_place (λ (x : Request) (m : Queued). IsTrue m.step → IsFalse m.write) (λ step. never r.step step asked) t.steps_read;
+          steps_read = by_place (λ (x : Request) (m : Queued). IsTrue m.step → IsFalse m.write) (λ step. clash_gives r.step step asked) t.steps_read;
         }
 
     -- a step of a copy enters
     pub told_entered : IsTrue r.step → IsFalse r.write → Told (put queue i r) (with_name name i q) facts
     told_entered step reads = record {
       legal = t.legal;
-      same = by_place (λ (x : Request) (m : Queued). IsFalse m.step → IsRequestOf x m) (λ a. never r.step step a) t.same;
-      began = by_place (λ (x : Request) (m : Queued). IsFalse m.step → Stands (Begun x) facts) (λ a. never r.step step a) t.began;
-      ended = by_place (λ (x : Request) (m : Queued). IsFalse m.step → list_any (lands x) facts ≡ has_landed m.phase) (λ a. never r.step step a) t.ended;
-      untaken = by_place (λ (x : Request) (m : Queued). IsFalse m.step → list_any (takes x) facts ≡ false) (λ a. never r.step step a) t.untaken;
-      apart = apart_now (λ a. never r.step step a);
+      same = by_place (λ (x : Request) (m : Queued). IsFalse m.step → IsRequestOf x m) (λ a. clash_gives r.step step a) t.same;
+      began = by_place (λ (x : Request) (m : Queued). IsFalse m.step → Stands (Begun x) facts) (λ a. clash_gives r.step step a) t.began;
+      ended = by_place (λ (x : Request) (m : Queued). IsFalse m.step → list_any (lands x) facts ≡ has_landed m.phase) (λ a. clash_gives r.step step a) t.ended;
+      untaken = by_place (λ (x : Request) (m : Queued). IsFalse m.step → list_any (takes x) facts ≡ false) (λ a. clash_gives r.step step a) t.untaken;
+      apart = apart_now (λ a. clash_gives r.step step a);
       steps_read = by_place (λ (x : Request) (m : Queued). IsTrue m.step → IsFalse m.write) (λ s. reads) t.steps_read;
     }
 

@@ -5,11 +5,12 @@ use Rattle.lvm_num.specs.declared.place.Pp.{Pp}
 use Rattle.lvm_disk.specs.Counts.{Rose}
 use Rattle.lvm_invariant.specs.State.{ModelState, Stage, Todo, Badly}
 use Rattle.lvm_num.specs.Descriptor.{is_pp}
+use Rattle.lvm_num.proofs.Booleans.{not_so}
 use Rattle.lvm_invariant.specs.Found.{Votes}
 use Rattle.lvm_invariant.specs.Events.{Event, Allows, AllowsAll, made, after_all}
 use Rattle.lvm_invariant.specs.First.{first_copy, second_copy, at_rest}
 use Rattle.lvm_invariant.specs.Worked.{none_fresh, read_fails, first_at}
-use Rattle.lvm_invariant.proofs.FirstLemmas.{nothing, not_so}
+use Rattle.lvm_invariant.proofs.FirstLemmas.{nothing}
 use Rattle.lvm_invariant.proofs.WorkedLemmas.Reads.{read_fails_allowed, none_fresh_allowed}
 use Rattle.lvm_invariant.specs.Faults.{Faults}
 use Rattle.lvm_invariant.specs.Why.{Why, enters, asked_at, CausedStep}

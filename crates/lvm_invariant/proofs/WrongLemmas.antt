@@ -11,7 +11,7 @@ use Rattle.lvm_num.specs.Geometry.{track_group_of}
 use Rattle.lvm_vol.specs.May.{Known, unknown, cut, IsValue}
 use Rattle.std.proofs.lemmas.Bool.Decides.{nat_tests}
 use Rattle.lvm_num.specs.Descriptor.{is_pp}
-use Rattle.lvm_invariant.proofs.Small.{never}
+use Rattle.lvm_num.proofs.Booleans.{clash_gives, not_so}
 use Rattle.lvm_invariant.specs.State.{Marks, Groups, View, Flying, ModelState, covers, told, Started}
 use Rattle.lvm_invariant.specs.Found.{Votes}
 use Rattle.lvm_invariant.specs.Good.{Good}
@@ -20,7 +20,7 @@ use Rattle.lvm_invariant.specs.Events.{Event, CommitUpdate, EndUpdate, AllowsAll
 use Rattle.lvm_invariant.specs.First.{two_disks, first_copy, second_copy, is_either, marks_with, stamped, on_both, at_rest}
 use Rattle.lvm_invariant.specs.Worked.{ones, held, both_out, only, recording, written, writing, all_passed, asked, first_group}
 use Rattle.lvm_invariant.specs.Wrong.{asking, going_out, StartsUnrecorded, empty_note, NoteLacksEntry, half_done, DoneUnsettled, ClearedUnpassed, CopyIsSkipped, one_reads, both_write, halfway, Misleads, CommittedEarly, EndedUncommitted, TwoVotes, LeftFresh, none_is_fresh, NoneFresh, differing, NamesAreNeeded}
-use Rattle.lvm_invariant.proofs.FirstLemmas.{nothing, not_so, left, right, both, first_is_good, bringing_up_is_good}
+use Rattle.lvm_invariant.proofs.FirstLemmas.{nothing, left, right, both, first_is_good, bringing_up_is_good}
 use Rattle.lvm_invariant.proofs.WorkedLemmas.Worked.{leads}
 use Rattle.lvm_invariant.proofs.WorkedLemmas.Writes.{submits, admits, recorded, brought, brought_whole, second_wanted, each_mode_writes, write_ends}
 
@@ -196,7 +196,7 @@ left_fresh votes mode enough = record {
 pub none_fresh : NoneFresh
 none_fresh votes mode enough = record {
   good = first_is_good votes mode false enough;
-  broken = λ kept. let one = (kept _ none_is_fresh 1 0 (as_it_stands _) (inl refl)).some first_copy refl in never (is_either one.0) one.1.copy one.1.fresh;
+  broken = λ kept. let one = (kept _ none_is_fresh 1 0 (as_it_stands _) (inl refl)).some first_copy refl in clash_gives (is_either one.0) one.1.copy one.1.fresh;
 }
 
 -- ---- names

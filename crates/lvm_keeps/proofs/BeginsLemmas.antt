@@ -1,11 +1,13 @@
 -- A session as it begins.
-use Rattle.std.proofs.Common.{◌≡◌, ◌==◌, if◌then◌else◌, inl, ℕ, zero, suc, ◌+◌, Bool, true, false, ◌&&◌, ◌||◌, not, List, [], ◌∷◌, replicate, Option, None, length, refl, sym, ◌∙◌, ap, subst, arith}
-use Rattle.std.specs.Prelude.{IfSome, count_by, is_some, slice_index_or, unwrap_or}
+use Rattle.std.proofs.Common.{◌≡◌, ◌==◌, if◌then◌else◌, inl, ℕ, ◌+◌, Bool, true, false, ◌&&◌, ◌||◌, not, List, [], Option, None, length, refl, sym, ◌∙◌, ap, subst, arith}
+use Rattle.std.specs.Prelude.{count_by, is_some, slice_index_or, unwrap_or}
 use Rattle.std.specs.List.{list_any, AllByRecursion}
 use Rattle.std.specs.Option.{option_map_or}
 use Rattle.lvm_num.specs.declared.place.Pp.{Pp}
 use Rattle.lvm_num.specs.declared.status.Status.{Status}
 use Rattle.lvm_num.specs.Status.{calls_stale, calls_missing}
+use Rattle.lvm_num.proofs.Booleans.{not_so}
+use Rattle.lvm_num.proofs.Lists.{none_out, all_of_none, if_none, any_as}
 use Rattle.lvm_session.specs.passed.Names.{Flight}
 use Rattle.lvm_mwc.specs.Entries.{pins_of}
 use Rattle.lvm_mwc.specs.declared.entries.CacheEntry.{CacheEntry}
@@ -23,24 +25,8 @@ use Rattle.lvm_session.specs.Requests.{IsOpenOne}
 use Rattle.lvm_session.specs.Causes.{AreCaused, AreCounted, IsAnswered, IsChosenSince, IsCausedAmong, is_held_stale, is_over}
 use Rattle.lvm_session.specs.Sound.{IsAsked, IsCopy, IsGoing, IsOn, IsSound, IsTold, count_if, hands_with, is_dark, is_hand, may_be_fresh, out_with, pins, stays_fresh, waiting_rows, waits, with_row, has_number}
 use Rattle.lvm_keeps.specs.Begins.{Begins, BeginningIsSound}
-use Rattle.lvm_keeps.proofs.Small.{not_so}
 
 -- ---- what holds of nothing
-
-none_of : {A : Type 0} (P : A → Type 0) (xs : List A) → xs ≡ [] → AllByRecursion P xs
-none_of P xs empty = subst (AllByRecursion P) (sym empty) tt
-
-nobody : {A : Type 0} (P : A → Type 0) (m : Option A) → m ≡ None → IfSome m P
-nobody P m none = subst (λ n. IfSome n P) (sym none) tt
-
-free_pool : (many n : ℕ) → slice_index_or (replicate many false) n false ≡ false
-free_pool zero n = refl
-free_pool (suc many) zero = refl
-free_pool (suc many) (suc n) = free_pool many n
-
-any_as : {A : Type 0} (f g : A → Bool) → ((x : A) → f x ≡ g x) → (xs : List A) → list_any f xs ≡ list_any g xs
-any_as f g same [] = refl
-any_as f g same (x ∷ xs) = ap (λ b. b || list_any f xs) (same x) ∙ ap (λ b. g x || b) (any_as f g same xs)
 
 module _ (s : State) (first : Begins s) where
   abbrev core : Core
@@ -81,7 +67,7 @@ module _ (s : State) (first : Begins s) where
     ordered = first.ordered;
     table = subst (AreTold core.history.facts) (sym first.unused.requests) (record { ascending = tt; still = tt });
     each = λ id. first.landed id ∙ sym (ap (λ (os : List Open). waits os id) first.unused.requests);
-    requests = none_of (IsAsked core.history.facts) core.requests first.unused.requests;
+    requests = all_of_none (IsAsked core.history.facts) core.requests first.unused.requests;
   }
 
   none_fly : (t : Flown → Bool) → count_by t core.flying ≡ 0
@@ -100,7 +86,7 @@ module _ (s : State) (first : Begins s) where
   hands n = ap (λ (os : List Open). count_by (λ (o : Open). is_hand n o.got) os + count_if (is_hand n (hand_of_copy core.copy))) first.unused.requests ∙ ap (λ m. 0 + count_if (is_hand n (hand_of_copy m))) first.unused.copy
 
   free : (n : ℕ) → count_if (slice_index_or core.pool n false) ≡ 0
-  free n = ap (λ (pool : List Bool). count_if (slice_index_or pool n false)) first.unused.pool ∙ ap count_if (free_pool (length core.pool) n)
+  free n = ap (λ (pool : List Bool). count_if (slice_index_or pool n false)) first.unused.pool ∙ ap count_if (none_out (length core.pool) n)
 
   out : (n : ℕ) → out_with s.device core n ≡ 0
   out n =
@@ -117,8 +103,8 @@ module _ (s : State) (first : Begins s) where
     tickets = subst HaveTickets (sym first.unused.flying) tt;
     queue = first.unused.rows ∙ sym (of_copy (λ (c : OpenCopy). if has_row core c then with_row (step_row core c) (waiting_rows core.requests) else waiting_rows core.requests) (waiting_rows core.requests) ∙ ap waiting_rows first.unused.requests);
     pinned = λ lv group. ap (λ (es : List CacheEntry). pins_of es lv group) first.unused.entries ∙ sym (ap (count_by (pins lv group)) first.unused.requests);
-    requests = none_of (IsOpenOne core) core.requests first.unused.requests;
-    copy = nobody (IsCopy core) core.copy first.unused.copy;
+    requests = all_of_none (IsOpenOne core) core.requests first.unused.requests;
+    copy = if_none (IsCopy core) core.copy first.unused.copy;
     hands = λ n. let none = hands n in omega (arith, none);
     behind = λ p is. not_so (sym (first.behind p) ∙ is);
     reviewed = of_copy (end_of core) None;
@@ -131,8 +117,8 @@ module _ (s : State) (first : Begins s) where
   on = record {
     going = going;
     rows = subst (λ (rows : List Flown). AreRows core rows s.device.flights) (sym first.unused.flying) (subst (AreRows core []) (sym first.idle) tt);
-    caused = none_of (AreCaused s.device core) core.requests first.unused.requests;
-    chosen = nobody (λ (c : OpenCopy). AllByRecursion (IsChosenSince core c) core.requests) core.copy first.unused.copy;
+    caused = all_of_none (AreCaused s.device core) core.requests first.unused.requests;
+    chosen = if_none (λ (c : OpenCopy). AllByRecursion (IsChosenSince core c) core.requests) core.copy first.unused.copy;
   }
 
   pub is_sound : IsSound s
@@ -148,9 +134,9 @@ module _ (s : State) (first : Begins s) where
     off = λ e. not_off (sym first.power ∙ e);
     over = λ e. not_so (sym (ap is_over first.power) ∙ e);
     stuck = λ e. not_stuck (sym first.power ∙ e);
-    counted = none_of (AreCounted s) core.requests first.unused.requests;
-    answered = none_of (IsAnswered s) core.requests first.unused.requests;
-    copy = nobody (λ (c : OpenCopy). IsCausedAmong s (copies_in core.descriptor c.lv c.lp) c) core.copy first.unused.copy;
+    counted = all_of_none (AreCounted s) core.requests first.unused.requests;
+    answered = all_of_none (IsAnswered s) core.requests first.unused.requests;
+    copy = if_none (λ (c : OpenCopy). IsCausedAmong s (copies_in core.descriptor c.lv c.lp) c) core.copy first.unused.copy;
     origin = record {
       since = first.faults;
       votes = first.votes;

@@ -1,7 +1,7 @@
 -- The notes of a cache after the start of one.
-use Rattle.std.proofs.Common.{◌≡◌, ◌==◌, ◌≤◌, ◌*◌, ◌&&◌, ◌||◌, ℕ, zero, suc, Bool, true, false, List, [], ◌∷◌, ◌++◌, Option, Some, None, refl, sym, ◌∙◌, ap, subst, arith, if◌then◌else◌}
-use Rattle.std.specs.Prelude.{All, drop, find, is_some, option_and_then, take}
-use Rattle.std.specs.List.{AllByRecursion, list_any}
+use Rattle.std.proofs.Common.{◌≡◌, ◌==◌, ◌≤◌, ◌*◌, ◌&&◌, ◌||◌, ℕ, zero, suc, Bool, true, false, List, [], ◌∷◌, ◌++◌, Option, Some, None, refl, sym, ◌∙◌, ap, subst, if◌then◌else◌}
+use Rattle.std.specs.Prelude.{drop, find, is_some, option_and_then, take}
+use Rattle.std.specs.List.{AllByRecursion}
 use Rattle.std.specs.Option.{option_map, option_map_or}
 use Rattle.std.proofs.lemmas.Bool.{eqb-true, eqb-false, ne_eqb}
 use Rattle.lvm_num.specs.declared.place.Pp.{Pp}
@@ -9,6 +9,8 @@ use Rattle.lvm_num.specs.declared.descriptor.Descriptor.{Descriptor}
 use Rattle.lvm_num.specs.declared.descriptor.LvRow.{LvRow}
 use Rattle.lvm_num.specs.declared.descriptor.PvRow.{PvRow}
 use Rattle.lvm_num.specs.Descriptor.{IsPartitionOf, IsValid, copies_of, is_member, partitions_in, volume_of}
+use Rattle.lvm_num.proofs.Booleans.{not_so}
+use Rattle.lvm_num.proofs.Lists.{all_weaker, by_place, found_any}
 use Rattle.lvm_mwc.specs.declared.notes.DiskNotes.{DiskNotes}
 use Rattle.lvm_mwc.specs.Cache.{Cached, after_start, flight_on, has_disk, is_named, notes_on, started}
 use Rattle.lvm_mwc.specs.Entries.{note_of, pins_of}
@@ -18,8 +20,6 @@ use Rattle.lvm_mwc.proofs.FirstsLemmas.{find-with, find-with_other}
 use Rattle.lvm_mwc.proofs.NotesLemmas.{named_after_all}
 use Rattle.lvm_session.specs.Judging.{copies_in}
 use Rattle.lvm_session.specs.Marks.{is_among}
-use Rattle.lvm_keeps.proofs.Lists.{all_on}
-use Rattle.lvm_keeps.proofs.Small.{not_so}
 
 -- ---- its disk, and the others
 
@@ -60,10 +60,6 @@ module _ (c : Cached) (disk : ℕ) where
 -- ---- copies stand on members
 
 module _ {A : Type 0} (P : A → Type 0) where
-  by_place : (xs : List A) → All P xs → AllByRecursion P xs
-  by_place [] all = tt
-  by_place (x ∷ xs) all = (all 0 x (omega arith), by_place xs (λ k d low. all (suc k) d (omega (arith, low))))
-
   all_left : (xs ys : List A) → AllByRecursion P (xs ++ ys) → AllByRecursion P xs
   all_left [] ys all = tt
   all_left (x ∷ xs) ys all = (all.0, all_left xs ys all.1)
@@ -102,14 +98,6 @@ on_member d (r ∷ rows) row lv is all = by (λ e. on_member d rows row lv e (al
     by rest true e = let same : r ≡ row = cc e in subst (λ (x : LvRow). AllByRecursion (IsOnMember d) x.map) same (all_left (IsOnMember d) r.map (partitions_in rows) all)
     by rest false e = rest e
 
-found_any : {A : Type 0} (t : A → Bool) (xs : List A) (x : A) → find t xs ≡ Some x → list_any t xs ≡ true
-found_any t [] x is = absurd (cc is)
-found_any {A} t (y ∷ xs) x is = by (λ e. found_any t xs x e) (t y) is
-  where
-    by : (find t xs ≡ Some x → list_any t xs ≡ true) → (b : Bool) → (if b then Some y else find t xs) ≡ Some x → b || list_any t xs ≡ true
-    by rest true e = refl
-    by rest false e = rest e
-
 member_found : (d : Descriptor) (p : Pp) → IsPartitionOf d p → IsOnMember d p
 member_found d p its = found_any (λ (row : PvRow). row.disk == p.disk) d.pvs its.0 its.1
 
@@ -125,7 +113,7 @@ pub copies_on_members : (d : Descriptor) (lv lp : ℕ) (p : Pp) → IsValid d �
 copies_on_members d lv lp p valid among = by (volume_of d lv) refl among
   where
     all_places : AllByRecursion (IsOnMember d) (partitions_in d.lvs)
-    all_places = all_on (IsPartitionOf d) (IsOnMember d) (member_found d) (partitions_in d.lvs) (by_place (IsPartitionOf d) (partitions_in d.lvs) valid.maps.places)
+    all_places = all_weaker (IsPartitionOf d) (IsOnMember d) (member_found d) (partitions_in d.lvs) (by_place (IsPartitionOf d) (partitions_in d.lvs) valid.maps.places)
 
     by : (m : Option LvRow) → volume_of d lv ≡ m → is_among (option_map_or (λ (row : LvRow). copies_of row lp) m []) p ≡ true → is_member d p.disk ≡ true
     by None none e = not_so e

@@ -4,6 +4,8 @@ use Rattle.std.specs.Prelude.{IfSome}
 use Rattle.lvm_num.specs.declared.descriptor.Descriptor.{Descriptor}
 use Rattle.lvm_num.specs.declared.place.Pp.{Pp}
 use Rattle.lvm_num.specs.declared.status.Status.{Status}
+use Rattle.lvm_num.proofs.Booleans.{not_so}
+use Rattle.lvm_num.proofs.Lists.{all_weaker}
 use Rattle.lvm_vol.specs.declared.entry.Outcome.{Outcome}
 use Rattle.lvm_vol.specs.declared.entry.Outcome.TheVariants as outcome
 use Rattle.arrayvec.specs.ArrayVec.{ArrayVec}
@@ -18,8 +20,6 @@ use Rattle.lvm_session.specs.declared.origin.Origin.{Origin}
 use Rattle.lvm_session.specs.Judging.{copies_in}
 use Rattle.lvm_session.specs.State.{State, state}
 use Rattle.lvm_session.specs.Causes.{AreCounted, HaveSourcesFailed, IsAnswered, IsCausedAmong, IsCounted, IsLandedFor, IsTrueToOrigin, is_over}
-use Rattle.lvm_keeps.proofs.Lists.{all_on}
-use Rattle.lvm_keeps.proofs.Small.{not_so}
 use Rattle.lvm_keeps.proofs.RequestsLemmas.{if_on}
 
 -- what causes are read off: the counts of faults, the group, what the session began with, its power, and the statuses that are committed and wanted
@@ -60,7 +60,7 @@ module _ (s now : State) (same : grounds s ≡ grounds now) where
   answered_still o why = if_on (IsLandedFor s o) (IsLandedFor now o) (landed_still o o refl) o.landed why
 
   pub counted_still : (o : Open) → AreCounted s o → AreCounted now o
-  counted_still o all = subst (λ (g : Grounds). AreCounted (on now g) o) same (all_on (IsCounted s) (IsCounted (on now (grounds s))) (λ t its. record { began = its.began; since = its.since }) o.request.targets.items all)
+  counted_still o all = subst (λ (g : Grounds). AreCounted (on now g) o) same (all_weaker (IsCounted s) (IsCounted (on now (grounds s))) (λ t its. record { began = its.began; since = its.since }) o.request.targets.items all)
 
   -- a step of the copy changes nothing of it
   pub copy_still : (copies : List Pp) (c : OpenCopy) (at : Step) → IsCausedAmong s copies c → IsCausedAmong now copies (record c { step = at })
@@ -112,4 +112,4 @@ module _ (s now : State) (same : basis_of s ≡ basis_of now) where
   answered_when_on on o why = if_on (IsLandedFor s o) (IsLandedFor now o) (landed_when_on on o) o.landed why
 
   pub counted_when_on : (o : Open) → AreCounted s o → AreCounted now o
-  counted_when_on o all = subst (λ (b : Basis). AreCounted (on_basis now b) o) same (all_on (IsCounted s) (IsCounted (on_basis now (basis_of s))) (λ t its. record { began = its.began; since = its.since }) o.request.targets.items all)
+  counted_when_on o all = subst (λ (b : Basis). AreCounted (on_basis now b) o) same (all_weaker (IsCounted s) (IsCounted (on_basis now (basis_of s))) (λ t its. record { began = its.began; since = its.since }) o.request.targets.items all)

@@ -3,6 +3,7 @@ use Rattle.std.proofs.Common.{◌≡◌, ℕ, Bool, true, false, ◌&&◌, ◌||
 use Rattle.std.specs.Prelude.{position}
 use Rattle.std.specs.List.{list_any}
 use Rattle.std.specs.Option.{option_map_or}
+use Rattle.lvm_num.proofs.Booleans.{not_so}
 use Rattle.lvm_vol.specs.declared.entry.Outcome.TheVariants as outcome
 use Rattle.lvm_path.specs.declared.facts.Facts.{Facts}
 use Rattle.lvm_path.specs.declared.facts.Next.{Next}
@@ -16,7 +17,6 @@ use Rattle.lvm_path.specs.Targets.{is_done, is_begun, states_of}
 use Rattle.lvm_path.specs.Next.{next_in, next_chosen, next_data, next_read, next_write, start_or_wait}
 use Rattle.lvm_path.specs.passed.Names.{is_flying, is_waiting as is_unstarted, next_target}
 use Rattle.lvm_session.specs.Enabled.{is_pin}
-use Rattle.lvm_keeps.proofs.Small.{not_so}
 
 -- ---- a pin
 

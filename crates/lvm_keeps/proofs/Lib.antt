@@ -12,3 +12,7 @@ pub mod OwnersLemmas
 pub mod CacheLemmas
 pub mod FallsLemmas
 pub mod BeginsLemmas
+mod FaultedLemmas
+mod FailingLemmas
+mod CopiesLemmas
+mod UnreadLemmas

@@ -1,24 +1,16 @@
 -- What holds of each element of a list as one is set, added or goes.
-use Rattle.std.proofs.Common.{◌≡◌, ◌≤◌, ◌+◌, ℕ, zero, suc, Bool, false, ◌||◌, List, [], ◌∷◌, ◌++◌, Some, length, map, slice_get, slice_set, refl, sym, ◌∙◌, ap, subst, arith}
+use Rattle.std.proofs.Common.{◌≡◌, ◌≤◌, ◌+◌, ℕ, zero, suc, Bool, false, ◌||◌, List, [], ◌∷◌, Some, length, map, slice_get, slice_set, refl, sym, ◌∙◌, ap, arith}
 use Rattle.std.specs.Prelude.{count_by}
 use Rattle.std.specs.List.{list_any, remove, AllByRecursion}
 use Rattle.std.proofs.lemmas.List.Sums.{sum_by-cons}
+use Rattle.lvm_num.proofs.Lists.{all_weaker}
 use Rattle.lvm_session.specs.Sound.{count_if}
 
 module _ {A : Type 0} where
-  pub all_on : (P Q : A → Type 0) → ((x : A) → P x → Q x) → (xs : List A) → AllByRecursion P xs → AllByRecursion Q xs
-  all_on P Q on [] all = tt
-  all_on P Q on (x ∷ xs) all = (on x all.0, all_on P Q on xs all.1)
-
-  pub all_at : (P : A → Type 0) (xs : List A) (k : ℕ) (x : A) → AllByRecursion P xs → slice_get xs k ≡ Some x → P x
-  all_at P [] k x all there = absurd (cc there)
-  all_at P (y ∷ xs) zero x all there = let same : y ≡ x = cc there in subst P same all.0
-  all_at P (y ∷ xs) (suc k) x all there = all_at P xs k x all.1 there
-
   -- one is set
   pub all_set : (P Q : A → Type 0) → ((x : A) → P x → Q x) → (xs : List A) (k : ℕ) (y : A) → Q y → AllByRecursion P xs → AllByRecursion Q (slice_set xs k y)
   all_set P Q on [] k y its all = tt
-  all_set P Q on (x ∷ xs) zero y its all = (its, all_on P Q on xs all.1)
+  all_set P Q on (x ∷ xs) zero y its all = (its, all_weaker P Q on xs all.1)
   all_set P Q on (x ∷ xs) (suc k) y its all = (on x all.0, all_set P Q on xs k y its all.1)
 
   pub any_set : (t : A → Bool) (xs : List A) (k : ℕ) (x y : A) → slice_get xs k ≡ Some x → t y ≡ t x → list_any t (slice_set xs k y) ≡ list_any t xs
@@ -26,22 +18,10 @@ module _ {A : Type 0} where
   any_set t (z ∷ xs) zero x y there same = let is : z ≡ x = cc there in ap (λ b. b || list_any t xs) (same ∙ ap t (sym is))
   any_set t (z ∷ xs) (suc k) x y there same = ap (λ b. t z || b) (any_set t xs k x y there same)
 
-  pub length_set : (xs : List A) (k : ℕ) (y : A) → length (slice_set xs k y) ≡ length xs
-  length_set [] k y = refl
-  length_set (x ∷ xs) zero y = refl
-  length_set (x ∷ xs) (suc k) y = ap suc (length_set xs k y)
-
   pub set_here : (xs : List A) (k : ℕ) (x y : A) → slice_get xs k ≡ Some x → slice_get (slice_set xs k y) k ≡ Some y
   set_here [] k x y there = absurd (cc there)
   set_here (z ∷ xs) zero x y there = refl
   set_here (z ∷ xs) (suc k) x y there = set_here xs k x y there
-
-  pub set_beside : (xs : List A) (k j : ℕ) (y : A) → (j ≡ k → ⊥) → slice_get (slice_set xs k y) j ≡ slice_get xs j
-  set_beside [] k j y other = refl
-  set_beside (z ∷ xs) zero zero y other = absurd (other refl)
-  set_beside (z ∷ xs) zero (suc j) y other = refl
-  set_beside (z ∷ xs) (suc k) zero y other = refl
-  set_beside (z ∷ xs) (suc k) (suc j) y other = set_beside xs k j y (λ e. other (ap suc e))
 
   pub count_cons : (t : A → Bool) (x : A) (xs : List A) → count_by t (x ∷ xs) ≡ count_if (t x) + count_by t xs
   count_cons t x xs = sum_by-cons (λ y. count_if (t y)) x xs
@@ -65,11 +45,6 @@ module _ {A : Type 0} where
       let all = count_set t xs k x y there in
       let one : count_if (t y) ≡ count_if (t x) = ap count_if same in
       omega (arith, all, one)
-
-  -- one is added
-  pub all_push : (P : A → Type 0) (xs : List A) (y : A) → AllByRecursion P xs → P y → AllByRecursion P (xs ++ y ∷ [])
-  all_push P [] y all its = (its, tt)
-  all_push P (x ∷ xs) y all its = (all.0, all_push P xs y all.1 its)
 
   -- one goes
   pub all_removed : (P : A → Type 0) (xs : List A) (k : ℕ) → AllByRecursion P xs → AllByRecursion P (remove xs k)

@@ -9,6 +9,7 @@ use Rattle.lvm_num.specs.Buffer.{Buffer}
 use Rattle.lvm_num.specs.Descriptor.{volume_of, is_pp}
 use Rattle.lvm_session.specs.Calls.{copy_at}
 use Rattle.lvm_num.specs.Disks.{has}
+use Rattle.lvm_num.proofs.Lists.{all_weaker}
 use Rattle.lvm_vol.specs.declared.entry.Outcome.{Outcome}
 use Rattle.lvm_vol.specs.declared.entry.Outcome.TheVariants as outcome
 use Rattle.lvm_vol.specs.Log.{Log, next_id}
@@ -30,7 +31,6 @@ use Rattle.lvm_session.specs.Marks.{is_among}
 use Rattle.lvm_session.specs.Requests.{IsTarget, IsShaped, IsReady, IsJudged, IsLaid, IsOpenOne, is_failed_and_sure, may_lack, will_be_kept}
 use Rattle.lvm_session.specs.Causes.{IsCounted, IsLandedFor, IsCausedAmong, IsTrueToOrigin, HaveSourcesFailed}
 use Rattle.lvm_session.specs.Sound.{IsCopy, IsReadFrom}
-use Rattle.lvm_keeps.proofs.Lists.{all_on}
 use Rattle.lvm_keeps.proofs.Small.{and_on, left_on, most_on, none_on}
 
 -- what the targets of a request are read off
@@ -43,7 +43,7 @@ placing core = (core.descriptor, core.origin.table)
 -- where that stays, so does the shape of each request
 pub shape_still : (core now : Core) → placing core ≡ placing now → (o : Open) → IsShaped core o → IsShaped now o
 shape_still core now same o s = record {
-  targets = all_on (IsTarget core o.request.ask) (IsTarget now o.request.ask) on o.request.targets.items s.targets;
+  targets = all_weaker (IsTarget core o.request.ask) (IsTarget now o.request.ask) on o.request.targets.items s.targets;
   phase_is = s.phase_is;
   hand = s.hand;
   room = s.room;
@@ -116,7 +116,7 @@ module _ (core : Core) (history : Log) (requests : List Open) (queue : Waiting) 
 
     pub judged_on : IsJudged core o → IsJudged changed o
     judged_on j = record {
-      uncaught = all_on (λ (t : Target). may_lack o t && is_caught core (group_in core o.request.ask) t.pp ≡ false) (λ (t : Target). may_lack o t && is_caught changed (group_in core o.request.ask) t.pp ≡ false)
+      uncaught = all_weaker (λ (t : Target). may_lack o t && is_caught core (group_in core o.request.ask) t.pp ≡ false) (λ (t : Target). may_lack o t && is_caught changed (group_in core o.request.ask) t.pp ≡ false)
           (λ t is. and_on (may_lack o t) (is_caught core (group_in core o.request.ask) t.pp) (is_caught changed (group_in core o.request.ask) t.pp) (caught t.pp) is) o.request.targets.items j.uncaught;
       due = λ status. most_on (count_by (is_failed_and_sure core) o.request.targets.items) (is_kept core o.request) (will_be_kept core o.request) (will_be_kept changed o.request)
           (none_on (λ (t : Target). is_done t.state && is_caught core (group_in core o.request.ask) t.pp) (λ (t : Target). is_done t.state && is_caught changed (group_in core o.request.ask) t.pp)

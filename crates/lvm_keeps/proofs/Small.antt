@@ -3,9 +3,8 @@ use Rattle.std.proofs.Common.{◌≡◌, ◌≤◌, ℕ, Bool, true, false, ◌&
 use Rattle.std.specs.Prelude.{nat_le}
 use Rattle.std.specs.List.{list_any}
 use Rattle.std.proofs.lemmas.Bool.Decides.{nat_tests}
-pub use Rattle.std.proofs.lemmas.Bool.{and_parts as both}
-pub use Rattle.std.proofs.lemmas.Bool.{not-true as is_false}
-pub use Rattle.lvm_session.proofs.Small.{not_either, not_so}
+pub use Rattle.std.proofs.lemmas.Bool.{and_parts as both, not-true as is_false}
+use Rattle.lvm_num.proofs.Booleans.{not_so}
 
 -- a test that comes to fail makes no conjunction hold
 pub and_on : (a b c : Bool) → (b ≡ false → c ≡ false) → a && b ≡ false → a && c ≡ false

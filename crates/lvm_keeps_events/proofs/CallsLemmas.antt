@@ -2,6 +2,7 @@
 use Rattle.std.proofs.Common.{◌≡◌, ◌⊎◌, inl, inr, ◌==◌, ℕ, Bool, true, false, ◌&&◌, ◌||◌, not, if◌then◌else◌, List, [], ◌∷◌, Option, Some, None, map, refl, sym, ◌∙◌, ap, subst}
 use Rattle.std.specs.Prelude.{unwrap_or}
 use Rattle.std.specs.List.{list_any}
+use Rattle.std.proofs.lemmas.Map.Keys.{any_passes_from_place}
 use Rattle.std.proofs.lemmas.Bool.{eqb-true}
 use Rattle.lvm_num.specs.declared.descriptor.PvRow.{PvRow}
 use Rattle.lvm_num.specs.declared.place.Pp.{Pp}
@@ -10,14 +11,15 @@ use Rattle.lvm_num.specs.declared.status.StatusRow.{StatusRow}
 use Rattle.lvm_num.specs.Descriptor.{is_member}
 use Rattle.lvm_num.specs.Disks.{has}
 use Rattle.lvm_num.specs.Status.{calls_missing, calls_stale}
+use Rattle.lvm_num.proofs.Booleans.{not_so}
 use Rattle.lvm_stale.specs.Table.{has_row}
 use Rattle.lvm_status.specs.Calls.{BecomesMissing, closed}
 use Rattle.lvm_status.specs.Runs.{IsSoundStatus}
 use Rattle.lvm_status.specs.Update.{Stored, Updates, is_held, is_owed, no_disks, seen}
 use Rattle.lvm_session.specs.State.{Core}
 use Rattle.lvm_session.specs.Judging.{is_missing, is_wanted_stale}
-use Rattle.lvm_keeps.proofs.Small.{both, is_false, not_so}
-use Rattle.lvm_keeps_events.proofs.Finding.{found, some_there}
+use Rattle.lvm_keeps.proofs.Small.{both, is_false}
+use Rattle.lvm_keeps_events.proofs.Finding.{found}
 
 -- the status in flight, or else the committed one
 abbrev pub in_flight_of : Core → Status
@@ -62,7 +64,7 @@ module _ (x : Updates) where
   owed : (d : ℕ) → is_member x.group d ≡ true → x.started d ≡ true → is_owed x ≡ true
   owed d member started =
       let one = found (λ (row : PvRow). row.disk == d) x.group.pvs member in
-      some_there (λ (row : PvRow). x.unstarted row.disk || x.started row.disk) x.group.pvs one.1 one.0 one.2 (right (x.unstarted one.0.disk) (ap x.started (eqb-true one.0.disk d one.3) ∙ started))
+      any_passes_from_place (λ (row : PvRow). x.unstarted row.disk || x.started row.disk) x.group.pvs one.1 one.0 one.2 (right (x.unstarted one.0.disk) (ap x.started (eqb-true one.0.disk d one.3) ∙ started))
     where
       right : (a : Bool) {b : Bool} → b ≡ true → a || b ≡ true
       right true e = refl

@@ -4,6 +4,7 @@ use Rattle.std.proofs.lemmas.Bool.{eq-eqb, eqb-false, eqb-true}
 use Rattle.std.specs.List.{AllByRecursion, list_any, remove}
 use Rattle.std.specs.Option.{option_map_or}
 use Rattle.std.specs.Prelude.{count_by, IfSome, is_some, slice_index_or, unwrap_or}
+use Rattle.std.proofs.lemmas.Map.Keys.{any_passes_from_place}
 use Rattle.lvm_num.specs.Buffer.{Buffer}
 use Rattle.lvm_num.specs.Disks.{has}
 use Rattle.lvm_num.specs.Status.{calls_stale}
@@ -14,6 +15,8 @@ use Rattle.lvm_disk.specs.Device.{Device, Flight, Media}
 use Rattle.lvm_hold.specs.Waiting.{Waiting}
 use Rattle.lvm_sched.specs.declared.writes.TargetState.TheVariants as stage
 use Rattle.lvm_num.specs.Descriptor.{is_pp}
+use Rattle.lvm_num.proofs.Booleans.{not_so}
+use Rattle.lvm_num.proofs.Lists.{all_weaker, all_at, length_set, set_beside, all_both}
 use Rattle.lvm_path.specs.Asks.{is_write, lv_of}
 use Rattle.lvm_path.specs.Targets.{are_over, end_state, is_done, is_failed, is_over as is_ended}
 use Rattle.lvm_path.specs.declared.ask.Ask.{Ask}
@@ -44,22 +47,22 @@ use Rattle.lvm_session.specs.Requests.{is_left_out, is_wanted_due, IsJudged, IsO
 use Rattle.lvm_session.specs.Sound.{count_if, has_number, is_clearing, is_dark, is_hand, IsAsked, IsCopy, IsFitting, IsGoing, IsOn, IsSound, IsTold, may_be_fresh, out_with, pins, stays_fresh, with_row}
 use Rattle.lvm_keeps.proofs.CausesLemmas.{answered_when_on}
 use Rattle.lvm_keeps.proofs.DarkLemmas.Ending.{back, back_long}
-use Rattle.lvm_keeps.proofs.Lists.{all_at, all_on, all_set, any_set, count_same, count_set, length_set, set_beside, set_here}
+use Rattle.lvm_keeps.proofs.Lists.{all_set, any_set, count_same, count_set, set_here}
 use Rattle.lvm_keeps.proofs.OwnersLemmas.Rows.{rows_by, status_still, step_still}
-use Rattle.lvm_keeps.proofs.Small.{and_on, both, is_false, left_on, not_so}
+use Rattle.lvm_keeps.proofs.Small.{and_on, both, is_false, left_on}
 use Rattle.lvm_keeps.proofs.RequestsLemmas.{bring_on, changed, if_on, no_cause, open_on, ready_on, shape_still}
 use Rattle.lvm_keeps.proofs.DarkLemmas.Tables.{rows_set}
 use Rattle.lvm_keeps.proofs.SoundLemmas.Whole.{sound_when_on}
 use Rattle.lvm_keeps_events.proofs.TargetsLemmas.{at_state, pps_set}
-use Rattle.lvm_keeps_events.proofs.OnePlace.{one_lp}
-use Rattle.lvm_keeps_events.proofs.EndsLemmas.CopyReadFail.{at_number, by_place, of_place}
+use Rattle.lvm_keeps_events.proofs.OnePlace.{one_lp, among_at}
+use Rattle.lvm_keeps_events.proofs.EndsLemmas.CopyReadFail.{by_place, of_place}
 use Rattle.lvm_keeps_events.proofs.EndsLemmas.Counts.{counts_keep, rose_since}
 use Rattle.lvm_keeps_events.proofs.OwnersLemmas.Removal.{as_many, count_taken, none_left, others, rows_left, tickets_left}
 use Rattle.lvm_keeps_events.proofs.JudgingLemmas.DuesMarks.{among_get, due_one, is_sure_done, is_sure_target, IsDueOne, IsSpared, left_due, on_one, own_pp, pp_same, spared}
 use Rattle.lvm_keeps_events.proofs.JudgingLemmas.Entailing.{IsEntailed}
 use Rattle.lvm_keeps_events.proofs.SoundLemmas.Failing.{LeavesParts, one_on as one_beside, parted, rows_on as rows_beside}
 use Rattle.lvm_keeps_events.proofs.RequestsLemmas.{asked_now, begun_so, failed_badly, in_data, laid, learnt, none_done, none_flies, others_fly, past, ready, request, shape, told, waits, was_flying}
-use Rattle.lvm_keeps_events.proofs.Lists.{all_and, all_pair, all_true_at, and_false, any_at, any_on, either, found_at, or_true, set_either}
+use Rattle.lvm_keeps_events.proofs.Lists.{all_and, all_true_at, and_false, any_on, either, found_at, or_true, set_either}
 use Rattle.lvm_keeps_events.proofs.JudgingLemmas.Staling.{blamed_by, bring_on as bring_staler, clean_same, due_wanted, end_on, entailed_less, held_by, IsStaler, kept_less, left_on as left_staler, may_less, members_same, missing_same, one_on as one_staler, ready_on as ready_staler, rows_on as rows_staler, staler, stays_on, sure_less, wanted_less, wanted_more}
 
 -- ---- small
@@ -454,7 +457,7 @@ module _ (old : State) (sound : IsSound old) (on : old.core.power ≡ power.On) 
         of (inr held) = not_so (held_not held)
 
         by : (b : Bool) → due found.1 ≡ b → list_any (stays_fresh after) copies ≡ true
-        by false none = any_at (stays_fresh after) copies found.0 found.1 found.2 (stays_on mid due wanted writes like found.1 found.3 none)
+        by false none = any_passes_from_place (stays_fresh after) copies found.0 found.1 found.2 (stays_on mid due wanted writes like found.1 found.3 none)
         by true is = of (entailed.due_is found.1 is)
 
     -- ---- causes
@@ -466,7 +469,7 @@ module _ (old : State) (sound : IsSound old) (on : old.core.power ≡ power.On) 
         here : (w : Bool) → is_write ask ≡ w → slice_get targets k ≡ Some t → (fails_on t.pp o ≡ true) ⊎ (is_write ask ≡ false) ⊎ ((ok ≡ false) × (t.pp ≡ aim.pp))
         here false e same = inr (inl e)
         here true e same = inl (ap (λ b. b && is_write ask && list_any (λ (u : Target). is_failed u.state && is_pp t.pp u.pp) targets) waits_so ∙ ap (λ b. b && list_any (λ (u : Target). is_failed u.state && is_pp t.pp u.pp) targets) e
-            ∙ any_at (λ (u : Target). is_failed u.state && is_pp t.pp u.pp) targets k t same (all_and (is_failed t.state) (is_pp t.pp t.pp) failed (own_pp t.pp)))
+            ∙ any_passes_from_place (λ (u : Target). is_failed u.state && is_pp t.pp u.pp) targets k t same (all_and (is_failed t.state) (is_pp t.pp t.pp) failed (own_pp t.pp)))
 
         by : (t ≡ ended) ⊎ (slice_get targets k ≡ Some t) → (fails_on t.pp o ≡ true) ⊎ (is_write ask ≡ false) ⊎ ((ok ≡ false) × (t.pp ≡ aim.pp))
         by (inl is) = inr (inr (failed_badly ok (sym (ap (λ (u : Target). is_failed u.state) is) ∙ failed), ap (λ (u : Target). u.pp) is))
@@ -498,7 +501,7 @@ module _ (old : State) (sound : IsSound old) (on : old.core.power ≡ power.On) 
     fails_blamed p e = ap (λ b. is_missing core p.disk || is_wanted_stale core p || is_held_stale core p || b) e ∙ or_true (is_missing core p.disk || is_wanted_stale core p || is_held_stale core p)
 
     its_fails : (p : Pp) → fails_on p o ≡ true → is_blamed core p ≡ true
-    its_fails p e = fails_blamed p (any_at (fails_on p) core.requests place o there e)
+    its_fails p e = fails_blamed p (any_passes_from_place (fails_on p) core.requests place o there e)
 
     due_blamed : (p : Pp) → due p ≡ true → Blame p
     due_blamed p is = of (entailed.due_is p is)
@@ -555,13 +558,13 @@ module _ (old : State) (sound : IsSound old) (on : old.core.power ≡ power.On) 
         of (inr blame) = let parts = both t.usable (is_blamed after t.pp) blame in blamed_of parts.0 (blame_back t.pp parts.1)
 
     caused_on : (y : Open) → AreCaused s.device core y × AreCounted old y → AreCaused device after y
-    caused_on y its waiting = all_on (λ (t : Target). IsCaused s.device core t × IsCounted old t) (IsCaused device after) target_caused y.request.targets.items (all_pair (IsCaused s.device core) (IsCounted old) y.request.targets.items (its.0 waiting) its.1)
+    caused_on y its waiting = all_weaker (λ (t : Target). IsCaused s.device core t × IsCounted old t) (IsCaused device after) target_caused y.request.targets.items (all_both (IsCaused s.device core) (IsCounted old) y.request.targets.items (its.0 waiting) its.1)
 
     pairs : AllByRecursion (λ (y : Open). AreCaused s.device core y × AreCounted old y) core.requests
-    pairs = all_pair (AreCaused s.device core) (AreCounted old) core.requests (sound_so.on on).caused sound.counted
+    pairs = all_both (AreCaused s.device core) (AreCounted old) core.requests (sound_so.on on).caused sound.counted
 
     its_pairs : AllByRecursion (λ (t : Target). IsCaused s.device core t × IsCounted old t) targets
-    its_pairs = let both_so = all_at (λ (y : Open). AreCaused s.device core y × AreCounted old y) core.requests place o pairs there in all_pair (IsCaused s.device core) (IsCounted old) targets (both_so.0 waits_so) both_so.1
+    its_pairs = let both_so = all_at (λ (y : Open). AreCaused s.device core y × AreCounted old y) core.requests place o pairs there in all_both (IsCaused s.device core) (IsCounted old) targets (both_so.0 waits_so) both_so.1
 
     its_caused : AllByRecursion (IsCaused device after) now_targets
     its_caused = all_set (λ (t : Target). IsCaused s.device core t × IsCounted old t) (IsCaused device after) target_caused targets target ended ended_caused its_pairs
@@ -581,7 +584,7 @@ module _ (old : State) (sound : IsSound old) (on : old.core.power ≡ power.On) 
         ended_caused e = of (either (is_failed (end_state ok)) (aim.usable && is_blamed after aim.pp) e)
 
     counted_on : (y : Open) → AreCounted s y → AreCounted now y
-    counted_on y all = all_on (IsCounted s) (IsCounted now) (λ t count. record { began = count.began; since = count.since }) y.request.targets.items all
+    counted_on y all = all_weaker (IsCounted s) (IsCounted now) (λ t count. record { began = count.began; since = count.since }) y.request.targets.items all
 
     its_counted : AreCounted now x
     its_counted = let all = all_at (AreCounted s) core.requests place o sound_so.counted there in
@@ -664,7 +667,7 @@ module _ (old : State) (sound : IsSound old) (on : old.core.power ≡ power.On) 
           where
             by : (a b : Bool) → is_done t.state ≡ a → a || b ≡ true → b ≡ true
             by false b e some = some
-            by true b e some = not_so (sym unkept ∙ any_at (is_sure_done core) now_targets k t t_there (all_and (is_done t.state) (is_sure core t.pp) e sure))
+            by true b e some = not_so (sym unkept ∙ any_passes_from_place (is_sure_done core) now_targets k t t_there (all_and (is_done t.state) (is_sure core t.pp) e sure))
 
         has_failed_now : (k : ℕ) (t : Target) → slice_get now_targets k ≡ Some t → is_failed t.state ≡ true → HasFailed device t
         has_failed_now k t t_there failed = all_at (IsCaused device after) now_targets k t its_caused t_there (ap (λ b. b || (t.usable && is_blamed after t.pp)) failed)
@@ -714,7 +717,7 @@ module _ (old : State) (sound : IsSound old) (on : old.core.power ≡ power.On) 
                 let same_pp = pp_same usable_one.1.pp c.pp its in
                 inl (subst (FailedSinceOpening device failed_copy c.copy) same_pp (since_opening young usable_one.0 usable_one.1 usable_one.2 usable_failed c.copy (bringing.its ∙ ap (λ (q : Pp). Some q) (sym same_pp))))
             by false its =
-                let found = at_number copies usable_one.1.pp (ap (λ ps. is_among ps usable_one.1.pp) same_copies ∙ target_copy usable_one.0 usable_one.1 usable_one.2) in
+                let found = among_at copies usable_one.1.pp (ap (λ ps. is_among ps usable_one.1.pp) same_copies ∙ target_copy usable_one.0 usable_one.1 usable_one.2) in
                 inr (record {
                   each = each_source;
                   number = found.0 + 1;

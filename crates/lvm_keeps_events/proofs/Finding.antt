@@ -2,13 +2,14 @@
 use Rattle.std.proofs.Common.{◌≡◌, ◌==◌, ◌<◌, ◌≤◌, ◌+◌, ℕ, zero, suc, Bool, true, false, ◌||◌, if◌then◌else◌, List, [], ◌∷◌, Some, length, get_or, slice_get, refl, sym, ◌∙◌, ap, arith}
 use Rattle.std.specs.Prelude.{AllPairs, count_by, filter, find, sum_by}
 use Rattle.std.specs.List.{list_any, remove, AllByRecursion}
+use Rattle.std.proofs.lemmas.Map.Keys.{any_passes_from_place}
 use Rattle.std.proofs.lemmas.Bool.{eq-eqb, ne_eqb}
 use Rattle.std.proofs.lemmas.List.Sums.{sum_by-cons}
 use Rattle.lvm_num.specs.declared.descriptor.LvRow.{LvRow}
 use Rattle.lvm_num.proofs.Pairs.{AllPairs-right}
+use Rattle.lvm_num.proofs.Booleans.{not_so}
 use Rattle.lvm_session.specs.Sound.{count_if}
 use Rattle.lvm_keeps.proofs.Lists.{count_cons}
-use Rattle.lvm_keeps.proofs.Small.{not_so}
 
 module _ {A : Type 0} where
   pub found : (t : A → Bool) (xs : List A) → list_any t xs ≡ true → (x : A) × (i : ℕ) × (slice_get xs i ≡ Some x) × (t x ≡ true)
@@ -19,18 +20,9 @@ module _ {A : Type 0} where
       by true e rest some = (x, zero, refl, e)
       by false e rest some = let one = rest some in (one.0, suc one.1, one.2, one.3)
 
-  pub some_there : (t : A → Bool) (xs : List A) (i : ℕ) (x : A) → slice_get xs i ≡ Some x → t x ≡ true → list_any t xs ≡ true
-  some_there t [] i x at is = absurd (cc at)
-  some_there t (y ∷ xs) zero x at is = let same : y ≡ x = cc at in ap (λ b. b || list_any t xs) (ap t same ∙ is)
-  some_there t (y ∷ xs) (suc i) x at is = by (t y) (some_there t xs i x at is)
-    where
-      by : (b : Bool) → list_any t xs ≡ true → b || list_any t xs ≡ true
-      by true rest = refl
-      by false rest = rest
-
   -- another test passes where the first one does
   pub any_on : (t u : A → Bool) → ((x : A) → t x ≡ true → u x ≡ true) → (xs : List A) → list_any t xs ≡ true → list_any u xs ≡ true
-  any_on t u on xs some = let one = found t xs some in some_there u xs one.1 one.0 one.2 (on one.0 one.3)
+  any_on t u on xs some = let one = found t xs some in any_passes_from_place u xs one.1 one.0 one.2 (on one.0 one.3)
 
   -- so it is where something is known of each
   pub any_with : (P : A → Type 0) (t u : A → Bool) → ((x : A) → P x → t x ≡ true → u x ≡ true) → (xs : List A) → AllByRecursion P xs → list_any t xs ≡ true → list_any u xs ≡ true
@@ -80,15 +72,6 @@ module _ {A : Type 0} where
           let all = count_with (λ (y : A). Unit {0}) t u (λ y known. less y) xs (any_known xs) in
           omega (arith, a, b, one, none, all)
       by false e rest some = let a = count_cons t x xs in let b = count_cons u x xs in let one = fewer (t x) (u x) (less x) in let more = rest some in omega (arith, a, b, one, more)
-
-  pub filter_alike : (t u : A → Bool) → ((x : A) → t x ≡ u x) → (xs : List A) → filter t xs ≡ filter u xs
-  filter_alike t u same [] = refl
-  filter_alike t u same (x ∷ xs) = ap (λ b. if b then x ∷ filter t xs else filter t xs) (same x) ∙ ap (λ (ys : List A). if u x then x ∷ ys else ys) (filter_alike t u same xs)
-
-  -- two things hold of each
-  pub all_two : (P Q R : A → Type 0) → ((x : A) → P x → Q x → R x) → (xs : List A) → AllByRecursion P xs → AllByRecursion Q xs → AllByRecursion R xs
-  all_two P Q R on [] all more = tt
-  all_two P Q R on (x ∷ xs) all more = (on x all.0 more.0, all_two P Q R on xs all.1 more.1)
 
   -- where some are kept, one passes
   pub some_kept : (t : A → Bool) (xs : List A) → (length (filter t xs) == 0) ≡ false → list_any t xs ≡ true

@@ -11,11 +11,11 @@ use Rattle.lvm_session.specs.State.{Core}
 use Rattle.lvm_session.specs.Requests.{IsLaid}
 use Rattle.lvm_keeps.proofs.Small.{is_false}
 
-some_blocks : (mib lps n : ℕ) → n + 1 ≤ partition_blocks mib * lps → 0 < partition_blocks mib
+pub some_blocks : (mib lps n : ℕ) → n + 1 ≤ partition_blocks mib * lps → 0 < partition_blocks mib
 some_blocks zero lps n within = absurd (omega (arith, within))
 some_blocks (suc mib) lps n within = omega arith
 
-groups_below : (n m : ℕ) → n < 2048 * m → n / 256 < 2048 * m / 256
+pub groups_below : (n m : ℕ) → n < 2048 * m → n / 256 < 2048 * m / 256
 groups_below n m low = omega (arith, low)
 
 pub some_size : (core : Core) (r : Request) → IsLaid core r → 0 < partition_blocks core.descriptor.mib

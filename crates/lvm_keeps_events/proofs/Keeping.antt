@@ -34,19 +34,21 @@ use Rattle.lvm_session.specs.Bringing.{copy_ends, end_by_sources, end_of, ends_i
 use Rattle.lvm_session.specs.Enabled.{same_status}
 use Rattle.lvm_session.specs.Calls.{copy_at}
 use Rattle.lvm_num.specs.Modes.{is_passive}
+use Rattle.lvm_num.proofs.Booleans.{not_so}
+use Rattle.lvm_num.proofs.Lists.{all_weaker, all_two}
 use Rattle.lvm_session.specs.Marks.{is_entailed}
 use Rattle.lvm_session.specs.Causes.{AreCaused, AreCounted, FailedSince, FailedSinceOpening, HasFailed, HaveSourcesFailed, IsAnswered, IsCaused, IsCausedAmong, IsCounted, IsTrueToOrigin, fails_on, faults_at_first, faults_at_opening, is_blamed, is_held_stale}
 use Rattle.lvm_session.specs.Left.{clean_volumes, if_so, updates_left}
 use Rattle.lvm_session.specs.Owners.{AreOwned, AreRows, HaveTickets}
 use Rattle.lvm_session.specs.Sound.{IsCopy, IsFitting, IsGoing, IsOn, IsSound, IsTold, count_if, has_number, is_dark, out_with}
 use Rattle.lvm_keeps.proofs.CausesLemmas.{answered_when_on, counted_when_on}
-use Rattle.lvm_keeps.proofs.Lists.{all_on}
-use Rattle.lvm_keeps.proofs.Small.{both, is_false, not_so}
+use Rattle.lvm_keeps.proofs.Small.{both, is_false}
 use Rattle.lvm_keeps.proofs.SoundLemmas.Whole.{sound_when_on}
+use Rattle.lvm_keeps.proofs.LeftLemmas.Updates.{one_if}
 use Rattle.lvm_keeps_events.proofs.EndsLemmas.CopyReadFail.{all_tried, by_place, by_sources, none_found, of_place, usable_of}
 use Rattle.lvm_keeps_events.proofs.EndsLemmas.Counts.{counts_keep, rose_since}
 use Rattle.lvm_keeps_events.proofs.SoundLemmas.Copies.{Brings, Fewer, runs_of}
-use Rattle.lvm_keeps_events.proofs.Finding.{all_two, count_alike, count_less, found, some_kept}
+use Rattle.lvm_keeps_events.proofs.Finding.{count_alike, count_less, found, some_kept}
 use Rattle.lvm_keeps_events.proofs.CallsLemmas.{Follows, Loses, in_flight_of}
 use Rattle.lvm_keeps_events.proofs.JudgingLemmas.Requests.{NamesStay, requests_on}
 use Rattle.lvm_keeps_events.proofs.JudgingLemmas.Review.{Clears, WriteEnd, Reviewed, and_of, behind_now, flies_is, fresh_now, held_by, here, its_copy, left_behind, mid, missing_is, missing_on, nothing_new, now, or_right, undone, sure_by, usable_is, wanted_by, was_there}
@@ -58,10 +60,6 @@ four false false true d i = inr (inr (inl refl))
 four false false false d i = inr (inr (inr i))
 
 -- ---- how many updates may follow
-
-at_most_one : (b : Bool) → if_so b 1 ≤ 1
-at_most_one true = omega arith
-at_most_one false = omega arith
 
 module _ (e : WriteEnd) (r : Reviewed e) (brings : Brings e r) where
   abbrev core : Core
@@ -129,7 +127,7 @@ module _ (e : WriteEnd) (r : Reviewed e) (brings : Brings e r) where
       seq = ap (λ (u : Updates). u.stamp.seq) r.marks.rest ∙ ap (λ (x : Stamp). x.seq) e.follows.stamp
 
       most : if_so (not (same_status r.status.wanted (unwrap_or r.status.in_flight r.status.committed))) 1 ≤ 1
-      most = at_most_one (not (same_status r.status.wanted (unwrap_or r.status.in_flight r.status.committed)))
+      most = one_if (not (same_status r.status.wanted (unwrap_or r.status.in_flight r.status.committed)))
 
       by : ((e.next.wanted ≡ core.status.wanted) × (count_by (λ (row : PvRow). is_there after row.disk) core.descriptor.pvs ≡ count_by (λ (row : PvRow). is_there core row.disk) core.descriptor.pvs))
           ⊎ (count_by (λ (row : PvRow). is_there after row.disk) core.descriptor.pvs + 1 ≤ count_by (λ (row : PvRow). is_there core row.disk) core.descriptor.pvs)
@@ -425,5 +423,5 @@ module _ (old : State) (sound : IsSound old) (on : old.core.power ≡ power.On) 
       keeps_on = record { going = keeps_going; rows = rows; caused = caused; chosen = brings.chosen (sound.on on).chosen }
 
       pub keeps : IsSound done
-      keeps = sound_when_on between done refl refl sound_between on fitting told keeps_on out (all_on (AreCounted between) (AreCounted done) (counted_when_on between done refl) first.requests sound_between.counted)
-          (all_on (IsAnswered between) (IsAnswered done) (answered_when_on between done refl on) first.requests sound_between.answered) copy_caused origin
+      keeps = sound_when_on between done refl refl sound_between on fitting told keeps_on out (all_weaker (AreCounted between) (AreCounted done) (counted_when_on between done refl) first.requests sound_between.counted)
+          (all_weaker (IsAnswered between) (IsAnswered done) (answered_when_on between done refl on) first.requests sound_between.answered) copy_caused origin

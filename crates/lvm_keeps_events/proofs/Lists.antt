@@ -4,12 +4,10 @@ use Rattle.std.specs.List.{AllByRecursion, list_all, list_any}
 use Rattle.std.specs.Prelude.{count_by}
 use Rattle.lvm_session.specs.Sound.{count_if}
 use Rattle.lvm_keeps.proofs.Lists.{count_cons}
-use Rattle.lvm_keeps.proofs.Small.{both, not_so}
-pub use Rattle.std.proofs.lemmas.Bool.{and_from as all_and}
-pub use Rattle.std.proofs.lemmas.Bool.{or_cases as either}
-pub use Rattle.lvm_num.proofs.Booleans.{or_true}
-pub use Rattle.lvm_num.proofs.Booleans.{or_false}
-pub use Rattle.lvm_num.proofs.Booleans.{and_false}
+use Rattle.lvm_keeps.proofs.Small.{both}
+pub use Rattle.std.proofs.lemmas.Bool.{and_from as all_and, or_cases as either}
+pub use Rattle.lvm_num.proofs.Booleans.{or_true, or_false, and_false}
+use Rattle.lvm_num.proofs.Booleans.{not_so}
 
 module _ {A : Type 0} (t u : A → Bool) (on : (x : A) → t x ≡ true → u x ≡ true) where
   pub any_on : (xs : List A) → list_any t xs ≡ true → list_any u xs ≡ true
@@ -29,12 +27,6 @@ module _ {A : Type 0} (t u : A → Bool) (on : (x : A) → t x ≡ true → u x 
       of_one false is = let p : count_if (t x) ≡ 0 = ap count_if is in omega (arith, p)
 
 module _ {A : Type 0} where
-  -- one that is there passes
-  pub any_at : (t : A → Bool) (xs : List A) (k : ℕ) (x : A) → slice_get xs k ≡ Some x → t x ≡ true → list_any t xs ≡ true
-  any_at t [] k x there is = absurd (cc there)
-  any_at t (y ∷ xs) zero x there is = let same : y ≡ x = cc there in ap (λ b. b || list_any t xs) (ap t same ∙ is)
-  any_at t (y ∷ xs) (suc k) x there is = ap (λ b. t y || b) (any_at t xs k x there is) ∙ or_true (t y)
-
   -- of all that pass one that is there does
   pub all_true_at : (t : A → Bool) (xs : List A) (k : ℕ) (x : A) → list_all t xs ≡ true → slice_get xs k ≡ Some x → t x ≡ true
   all_true_at t [] k x all there = absurd (cc there)
@@ -81,11 +73,6 @@ module _ {A : Type 0} where
       by : (t x ≡ true) ⊎ (list_any t (slice_set xs k y) ≡ true) → (list_any t (slice_set xs k y) ≡ true → (list_any t xs ≡ true) ⊎ (t y ≡ true)) → (t x || list_any t xs ≡ true) ⊎ (t y ≡ true)
       by (inl is) rest = inl (ap (λ b. b || list_any t xs) is)
       by (inr some) rest = of (rest some)
-
-  -- two things that hold of each
-  pub all_pair : (P Q : A → Type 0) (xs : List A) → AllByRecursion P xs → AllByRecursion Q xs → AllByRecursion (λ (x : A). P x × Q x) xs
-  all_pair P Q [] one two = tt
-  all_pair P Q (x ∷ xs) one two = ((one.0, two.0), all_pair P Q xs one.1 two.1)
 
   -- what follows of each one that is there
   pub all_there : (P Q : A → Type 0) (xs : List A) → ((k : ℕ) (x : A) → slice_get xs k ≡ Some x → P x → Q x) → AllByRecursion P xs → AllByRecursion Q xs

@@ -4,7 +4,8 @@ use Rattle.std.specs.Prelude.{MatchBool, is_some, take, unwrap_or}
 use Rattle.std.specs.List.{list_any, remove, AllByRecursion}
 use Rattle.std.proofs.lemmas.Bool.{eq-eqb, eqb-true, ne_eqb}
 use Rattle.lvm_num.specs.Buffer.{Buffer, Sector}
-use Rattle.lvm_num.proofs.Booleans.{or_true, or_false}
+use Rattle.lvm_num.proofs.Booleans.{or_true, or_false, not_so}
+use Rattle.lvm_num.proofs.Lists.{all_at}
 use Rattle.lvm_vol.specs.declared.entry.Outcome.{Outcome}
 use Rattle.lvm_vol.specs.Facts.{Fact, Request as Asked, Landed}
 use Rattle.lvm_vol.specs.Log.{asked, is_got, is_open, lands_id, no_request, request_of, takes_id}
@@ -16,8 +17,7 @@ use Rattle.lvm_session.specs.Judging.{is_waiting}
 use Rattle.lvm_session.specs.Dark.{AreTold}
 use Rattle.lvm_session.specs.Events.{got_blocks, landed_as}
 use Rattle.lvm_session.specs.Sound.{IsAsked, outcome_by, outcome_in, waits}
-use Rattle.lvm_keeps.proofs.Lists.{all_at, any_set}
-use Rattle.lvm_keeps.proofs.Small.{not_so}
+use Rattle.lvm_keeps.proofs.Lists.{any_set}
 use Rattle.lvm_keeps.proofs.DarkLemmas.Tables.{apart, ascending_set}
 use Rattle.lvm_keeps.proofs.SoundLemmas.Telling.{asked_still, open_still, place_still, told_more}
 use Rattle.lvm_keeps_events.proofs.SoundLemmas.Tables.{all_set_beside, only_set}

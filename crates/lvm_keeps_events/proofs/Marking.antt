@@ -38,6 +38,8 @@ use Rattle.lvm_session.specs.Judging.{copies_in, group_in, has_dirty_mark, has_n
 use Rattle.lvm_session.specs.Bringing.{copy_ends, end_by_sources, end_of, ends_if, is_cleared, is_idle, is_whole, sources_of}
 use Rattle.lvm_session.specs.Enabled.{same_status}
 use Rattle.lvm_num.specs.Modes.{is_passive}
+use Rattle.lvm_num.proofs.Booleans.{not_so}
+use Rattle.lvm_num.proofs.Lists.{all_weaker}
 use Rattle.lvm_session.specs.Marks.{WantsDirty, can_replace, is_among, is_entailed, is_entailed_in, is_left_behind}
 use Rattle.lvm_session.specs.Left.{clean_volumes, if_so}
 use Rattle.lvm_session.specs.Owners.{AreOwned}
@@ -45,9 +47,8 @@ use Rattle.lvm_session.specs.Requests.{IsOpenOne, is_failed_and_sure, is_left_ou
 use Rattle.lvm_session.specs.Causes.{AreCaused, AreCounted, HaveSourcesFailed, IsAnswered, IsCaused, IsCausedAmong, IsTrueToOrigin, fails_on, is_blamed, is_held_stale, was_fresh}
 use Rattle.lvm_session.specs.Sound.{IsCopy, IsFitting, IsGoing, IsOn, IsSound, IsTold, count_if, is_dark, may_be_fresh, stays_fresh}
 use Rattle.lvm_keeps.proofs.CausesLemmas.{answered_when_on, counted_when_on}
-use Rattle.lvm_keeps.proofs.Lists.{all_on, count_cons}
+use Rattle.lvm_keeps.proofs.Lists.{count_cons}
 use Rattle.lvm_keeps.proofs.OwnersLemmas.Rows.{rows_still}
-use Rattle.lvm_keeps.proofs.Small.{not_so}
 use Rattle.lvm_keeps.proofs.RequestsLemmas.{if_on, shape_still, copy_marked, same_next}
 use Rattle.lvm_keeps.proofs.SoundLemmas.Whole.{sound_when_on}
 
@@ -291,7 +292,7 @@ module _ (s : State) (sound : IsSound s) (on : s.core.power ≡ power.On) (lv : 
     tickets = going.tickets;
     queue = going.queue;
     pinned = going.pinned;
-    requests = all_on (IsOpenOne core) (IsOpenOne now.core) one core.requests going.requests;
+    requests = all_weaker (IsOpenOne core) (IsOpenOne now.core) one core.requests going.requests;
     copy = if_on (IsCopy core) (IsCopy now.core) bring core.copy going.copy;
     hands = going.hands;
     behind = λ p e. wanted_same p ∙ going.behind p (sym (entailed_same p) ∙ e);
@@ -322,7 +323,7 @@ module _ (s : State) (sound : IsSound s) (on : s.core.power ≡ power.On) (lv : 
   keeps_on = let was = sound.on on in record {
     going = keeps_going;
     rows = rows_still core now.core refl refl refl going.owned s.device.flights was.rows;
-    caused = all_on (AreCaused s.device core) (AreCaused s.device now.core) (λ x all waiting. all_on (IsCaused s.device core) (IsCaused s.device now.core) target_caused x.request.targets.items (all waiting)) core.requests was.caused;
+    caused = all_weaker (AreCaused s.device core) (AreCaused s.device now.core) (λ x all waiting. all_weaker (IsCaused s.device core) (IsCaused s.device now.core) target_caused x.request.targets.items (all waiting)) core.requests was.caused;
     chosen = was.chosen;
   }
 
@@ -355,8 +356,8 @@ module _ (s : State) (sound : IsSound s) (on : s.core.power ≡ power.On) (lv : 
       at_missing p (inr (inr x)) = inr (inr x)
 
   pub keeps : IsSound now
-  keeps = sound_when_on s now refl refl sound on fitting told keeps_on (λ n. sound.none_lost (ap is_dark on) n) (all_on (AreCounted s) (AreCounted now) (counted_when_on s now refl) core.requests sound.counted)
-      (all_on (IsAnswered s) (IsAnswered now) (answered_when_on s now refl on) core.requests sound.answered)
+  keeps = sound_when_on s now refl refl sound on fitting told keeps_on (λ n. sound.none_lost (ap is_dark on) n) (all_weaker (AreCounted s) (AreCounted now) (counted_when_on s now refl) core.requests sound.counted)
+      (all_weaker (IsAnswered s) (IsAnswered now) (answered_when_on s now refl on) core.requests sound.answered)
       (if_on (λ (c : OpenCopy). IsCausedAmong s (copies_in core.descriptor c.lv c.lp) c) (λ (c : OpenCopy). IsCausedAmong now (copies_in core.descriptor c.lv c.lp) c) copy_caused core.copy sound.copy) origin
 
 -- ---- what is wanted so

@@ -3,6 +3,7 @@ use Rattle.std.proofs.Common.{◌≡◌, ◌≤◌, ◌+◌, ℕ, Bool, true, fa
 use Rattle.std.specs.Prelude.{count_by}
 use Rattle.std.specs.List.{list_any}
 use Rattle.std.specs.Option.{option_map_or}
+use Rattle.lvm_num.proofs.Booleans.{not_so}
 use Rattle.lvm_vol.specs.declared.entry.Outcome.{Outcome}
 use Rattle.lvm_vol.specs.declared.entry.Outcome.TheVariants as outcome
 use Rattle.lvm_vol.specs.Log.{is_got}
@@ -22,7 +23,6 @@ use Rattle.lvm_session.specs.Requests.{IsPhase}
 use Rattle.lvm_session.specs.Sound.{count_if}
 use Rattle.lvm_keeps.proofs.KeepsLemmas.Landing.{Gives, by_admit, by_choice, by_landing, by_pin, by_start, by_test, by_wait}
 use Rattle.lvm_keeps.proofs.Lists.{count_cons}
-use Rattle.lvm_keeps.proofs.Small.{not_so}
 
 -- A read has got its blocks exactly where a transfer of it has succeeded; a write lands in another way. None is out any more.
 pub record IsEnded (o : Open) (how : Outcome) : Type 0 where

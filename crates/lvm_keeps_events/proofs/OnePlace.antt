@@ -9,16 +9,16 @@ use Rattle.lvm_num.specs.declared.descriptor.Descriptor.{Descriptor}
 use Rattle.lvm_num.specs.declared.descriptor.LvRow.{LvRow}
 use Rattle.lvm_num.specs.Descriptor.{IsValid, copies_of, volume_of}
 use Rattle.lvm_num.specs.Geometry.{partition_blocks, partition_of}
+use Rattle.lvm_num.proofs.Booleans.{not_so}
 use Rattle.lvm_map.specs.Places.{copy_at, place_of, place_on}
 use Rattle.lvm_map.proofs.LawsLemmas.OneToOne.{is_same}
 use Rattle.lvm_map.proofs.Parts.{parts, same_parts}
 use Rattle.lvm_map.proofs.PlacesLemmas.{mib_positive}
 use Rattle.lvm_session.specs.Judging.{copies_in}
 use Rattle.lvm_session.specs.Marks.{is_among}
-use Rattle.lvm_keeps.proofs.Small.{not_so}
 
 -- it stands among them at some place
-among_at : (ps : List Pp) (p : Pp) → is_among ps p ≡ true → (k : ℕ) × (slice_get ps k ≡ Some p)
+pub among_at : (ps : List Pp) (p : Pp) → is_among ps p ≡ true → (k : ℕ) × (slice_get ps k ≡ Some p)
 among_at [] p is = not_so is
 among_at (q ∷ ps) p is = by (p.disk == q.disk) (p.pp == q.pp) refl refl (λ e. among_at ps p e) is
   where

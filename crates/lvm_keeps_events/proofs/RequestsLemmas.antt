@@ -4,9 +4,13 @@ use Rattle.std.proofs.lemmas.Bool.{eq-eqb, eqb-false, eqb-true, ne_eqb}
 use Rattle.std.specs.List.{list_any}
 use Rattle.std.specs.Option.{option_map_or}
 use Rattle.std.specs.Prelude.{AllPairs, IfSome, is_some}
+use Rattle.std.proofs.lemmas.Option.{slice_get_within}
+use Rattle.std.proofs.lemmas.Map.Keys.{any_passes_from_place}
 use Rattle.lvm_num.specs.Buffer.{Buffer}
 use Rattle.lvm_num.specs.declared.descriptor.Mode.{Mode}
 use Rattle.lvm_num.specs.declared.descriptor.Mode.TheVariants as mode
+use Rattle.lvm_num.proofs.Booleans.{not_so}
+use Rattle.lvm_num.proofs.Lists.{all_at, length_set, set_beside}
 use Rattle.lvm_vol.specs.Log.{is_open}
 use Rattle.lvm_mwc.specs.Cache.{is_named}
 use Rattle.lvm_sched.specs.Writes.{is_flying, is_waiting as is_unstarted}
@@ -29,13 +33,13 @@ use Rattle.lvm_session.specs.Owners.{flies, target_flies}
 use Rattle.lvm_session.specs.Requests.{has_record, is_past_held, IsLaid, IsOpenOne, IsPhase, IsReady, IsRecorded, IsRequest, IsShaped, IsTarget, mode_for}
 use Rattle.lvm_session.specs.Sound.{count_if, IsAsked, IsGoing}
 use Rattle.lvm_keeps.proofs.KeepsLemmas.Landing.{or_parts}
-use Rattle.lvm_keeps.proofs.Lists.{all_at, all_set, any_set, count_set, length_set, set_beside, set_here}
-use Rattle.lvm_keeps.proofs.Small.{both, none_on, not_so}
+use Rattle.lvm_keeps.proofs.Lists.{all_set, any_set, count_set, set_here}
+use Rattle.lvm_keeps.proofs.Small.{both, none_on}
 use Rattle.lvm_keeps.proofs.DarkLemmas.Tables.{apart, ascending_set}
-use Rattle.lvm_keeps_events.proofs.TargetsLemmas.{all_true_set, any_here, at_state, only_at, pp_at, set_state, within}
+use Rattle.lvm_keeps_events.proofs.TargetsLemmas.{all_true_set, any_here, at_state, only_at, pp_at, set_state}
 use Rattle.lvm_keeps_events.proofs.SoundLemmas.Tables.{only_set}
 use Rattle.lvm_keeps_events.proofs.OwnersLemmas.Removal.{was_out}
-use Rattle.lvm_keeps_events.proofs.Lists.{all_true_at, and_false, any_at, none_of_zero}
+use Rattle.lvm_keeps_events.proofs.Lists.{all_true_at, and_false, none_of_zero}
 
 -- a transfer that is out has begun and not ended
 is_flying_so : (st : TargetState) → is_flying st ≡ true → st ≡ stage.Flying
@@ -87,13 +91,13 @@ module _ (core : Core) (going : IsGoing core) (place target : ℕ) (o : Open) (t
     where
       by : (b : Bool) → is_waiting o ≡ b → b ≡ true
       by true is = refl
-      by false is = not_so (sym (its.still is) ∙ any_at (λ (t : Target). is_flying t.state) targets target aim aim_is (ap is_flying was_flying))
+      by false is = not_so (sym (its.still is) ∙ any_passes_from_place (λ (t : Target). is_flying t.state) targets target aim aim_is (ap is_flying was_flying))
 
   pub request : IsRequest core o
   request = its.waits waits
 
   pub begun_so : is_begun targets ≡ true
-  begun_so = any_at (λ (t : Target). not (is_unstarted t.state)) targets target aim aim_is (ap (λ st. not (is_unstarted st)) was_flying)
+  begun_so = any_passes_from_place (λ (t : Target). not (is_unstarted t.state)) targets target aim aim_is (ap (λ st. not (is_unstarted st)) was_flying)
 
   pub not_over : are_over targets ≡ false
   not_over = by (are_over targets) refl
@@ -146,7 +150,7 @@ module _ (core : Core) (going : IsGoing core) (place target : ℕ) (o : Open) (t
 
   phase_by : (b : Bool) → over ≡ b → IsPhase (if b then phase.WantStatus else o.request.phase) learnt
   phase_by true e = let parts = both (is_write o.request.ask) (are_over now_targets) e in (parts.0, parts.1)
-  phase_by false e = subst (λ p. IsPhase p learnt) (sym in_data) (let low = within targets target aim aim_is in omega (arith, low, same_long), λ write. by (is_write o.request.ask) (are_over now_targets) write e)
+  phase_by false e = subst (λ p. IsPhase p learnt) (sym in_data) (let low = slice_get_within targets target aim aim_is in omega (arith, low, same_long), λ write. by (is_write o.request.ask) (are_over now_targets) write e)
     where
       by : (w x : Bool) → w ≡ true → w && x ≡ false → x ≡ false
       by true x i j = j

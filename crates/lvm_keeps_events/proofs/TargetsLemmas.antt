@@ -1,8 +1,9 @@
 -- A target of a request whose transfer comes to be at another state.
-use Rattle.std.proofs.Common.{◌≡◌, ◌≤◌, ◌<◌, ◌+◌, ℕ, zero, suc, Bool, true, false, ◌&&◌, ◌||◌, List, [], ◌∷◌, Option, Some, None, length, map, slice_get, slice_set, refl, sym, ◌∙◌, ap, subst, arith}
+use Rattle.std.proofs.Common.{◌≡◌, ◌≤◌, ◌+◌, ℕ, zero, suc, Bool, true, false, ◌&&◌, ◌||◌, List, [], ◌∷◌, Option, Some, None, map, slice_get, slice_set, refl, sym, ◌∙◌, ap, subst, arith}
 use Rattle.std.specs.Prelude.{count_by, slice_index_or}
 use Rattle.std.specs.List.{list_all, list_any, remove, AllByRecursion}
 use Rattle.lvm_num.specs.declared.place.Pp.{Pp}
+use Rattle.lvm_num.proofs.Booleans.{not_so}
 use Rattle.lvm_sched.specs.declared.writes.TargetState.{TargetState}
 use Rattle.lvm_path.specs.declared.target.Target.{Target}
 use Rattle.lvm_path.specs.Targets.{states_of, with_state}
@@ -10,21 +11,10 @@ use Rattle.lvm_session.specs.declared.open.Open.{Open}
 use Rattle.lvm_session.specs.Judging.{pps_of}
 use Rattle.lvm_session.specs.Sound.{count_if}
 use Rattle.lvm_keeps.proofs.Lists.{count_cons}
-use Rattle.lvm_keeps.proofs.Small.{not_so}
 
 -- ---- lists
 
 module _ {A : Type 0} where
-  pub within : (xs : List A) (k : ℕ) (x : A) → slice_get xs k ≡ Some x → k < length xs
-  within [] k x there = absurd (cc there)
-  within (y ∷ xs) zero x there = omega arith
-  within (y ∷ xs) (suc k) x there = let rest = within xs k x there in omega (arith, rest)
-
-  pub index_at : (xs : List A) (k : ℕ) (x d : A) → slice_get xs k ≡ Some x → slice_index_or xs k d ≡ x
-  index_at [] k x d there = absurd (cc there)
-  index_at (y ∷ xs) zero x d there = cc there
-  index_at (y ∷ xs) (suc k) x d there = index_at xs k x d there
-
   pub all_true_set : (t : A → Bool) (xs : List A) (k : ℕ) (x y : A) → slice_get xs k ≡ Some x → t y ≡ t x → list_all t (slice_set xs k y) ≡ list_all t xs
   all_true_set t [] k x y there same = refl
   all_true_set t (z ∷ xs) zero x y there same = let is : z ≡ x = cc there in ap (λ b. b && list_all t xs) (same ∙ ap t (sym is))

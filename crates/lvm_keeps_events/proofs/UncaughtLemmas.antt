@@ -3,6 +3,7 @@ use Rattle.std.proofs.Common.{◌&&◌, ◌==◌, [], ap, arith, Bool, false, fi
 use Rattle.std.specs.List.{list_any}
 use Rattle.std.specs.Option.{option_map_or}
 use Rattle.std.specs.Prelude.{IfSome, count_by, unwrap_or}
+use Rattle.std.proofs.lemmas.Map.Keys.{any_passes_from_place}
 use Rattle.std.proofs.lemmas.Bool.Decides.{nat_tests}
 use Rattle.lvm_num.specs.declared.place.Pp.{Pp}
 use Rattle.lvm_num.specs.Status.{calls_stale}
@@ -10,6 +11,8 @@ use Rattle.lvm_sched.specs.declared.writes.TargetState.{TargetState}
 use Rattle.lvm_sched.specs.declared.writes.TargetState.TheVariants as stage
 use Rattle.lvm_sched.specs.Writes.{is_waiting as target_waits}
 use Rattle.lvm_num.specs.Descriptor.{is_pp}
+use Rattle.lvm_num.proofs.Booleans.{not_so, not_either, first_fails}
+use Rattle.lvm_num.proofs.Lists.{all_at}
 use Rattle.lvm_path.specs.declared.request.Phase.{Phase}
 use Rattle.lvm_path.specs.declared.request.Phase.TheVariants as phase
 use Rattle.lvm_path.specs.declared.target.Target.{Target}
@@ -25,19 +28,14 @@ use Rattle.lvm_session.specs.Marks.{is_among}
 use Rattle.lvm_session.specs.Causes.{was_fresh}
 use Rattle.lvm_session.specs.Requests.{is_failed_and_sure, is_left_out, IsJudged, IsOpenOne, IsPhase, IsRequest, IsTarget, may_lack, wants_status, will_be_kept}
 use Rattle.lvm_session.specs.Sound.{IsCopy, IsGoing, may_be_fresh, stays_fresh}
-use Rattle.lvm_keeps.proofs.Lists.{all_at}
-use Rattle.lvm_keeps.proofs.Small.{both, not_either, not_so}
+use Rattle.lvm_keeps.proofs.Small.{both}
 use Rattle.lvm_keeps_events.proofs.OnePlace.{one_lp}
 use Rattle.lvm_keeps_events.proofs.EndsLemmas.CopyReadFail.{by_place, by_sources, is_here}
 use Rattle.lvm_keeps_events.proofs.JudgingLemmas.DuesMarks.{among_get, IsOn, on_one, pp_same}
-use Rattle.lvm_keeps_events.proofs.Lists.{all_and, all_true_at, and_false, any_at, any_on, found_at, none_of_zero, or_false, or_true}
+use Rattle.lvm_keeps_events.proofs.Lists.{all_and, all_true_at, and_false, any_on, found_at, none_of_zero, or_false, or_true}
 use Rattle.lvm_keeps_events.specs.Uncaught.{LostIsUncaught}
 
 -- ---- small
-
-neither : (a b : Bool) → a || b ≡ false → a ≡ false
-neither true b e = not_either e
-neither false b e = refl
 
 first_of : (a b : Bool) → a || b ≡ true → b ≡ false → a ≡ true
 first_of true b e other = refl
@@ -63,7 +61,7 @@ done_began stage.Done e = refl
 done_began stage.Failed e = refl
 
 -- what a filter leaves passes its test
-some_kept : (t : Pp → Bool) (ps : List Pp) → (length (filter t ps) == 0) ≡ false → list_any t ps ≡ true
+pub some_kept : (t : Pp → Bool) (ps : List Pp) → (length (filter t ps) == 0) ≡ false → list_any t ps ≡ true
 some_kept t [] e = not_either e
 some_kept t (p ∷ ps) e = by (t p) refl (λ f. some_kept t ps f) e
   where
@@ -149,24 +147,24 @@ module _ (core : Core) (going : IsGoing core) (o : Open) (one : IsOpenOne core o
       by true is = not_so (sym (all_at (λ (u : Target). may_lack o u && is_caught core group u.pp ≡ false) targets number t judged.uncaught there) ∙ all_and (may_lack o t) (is_caught core group t.pp) is caught)
 
   done : is_done t.state ≡ true
-  done = first_of (is_done t.state) (is_failed t.state) (over number t there) (neither (is_failed t.state) o.older sound_target)
+  done = first_of (is_done t.state) (is_failed t.state) (over number t there) (first_fails (is_failed t.state) o.older sound_target)
 
   -- so none has that is sure
   none_failed : list_any (is_failed_and_sure core) targets ≡ false
   none_failed =
       none_of_zero (is_failed_and_sure core) targets
       (none_allowed (count_by (is_failed_and_sure core) targets) (is_kept core o.request) (will_be_kept core o.request)
-      (any_at (λ (u : Target). is_done u.state && is_caught core group u.pp) targets number t there (all_and (is_done t.state) (is_caught core group t.pp) done caught)) (judged.due ended))
+      (any_passes_from_place (λ (u : Target). is_done u.state && is_caught core group u.pp) targets number t there (all_and (is_done t.state) (is_caught core group t.pp) done caught)) (judged.due ended))
 
   -- a sure copy is a target that succeeded
   kept_by : (p : Pp) → is_among (copies_for core o.request.ask) p ≡ true → is_stale core p ≡ false → is_wanted_stale core p ≡ false → is_kept core o.request ≡ true
-  kept_by p copy fresh unwanted = any_at (λ (x : Target). is_done x.state && is_sure core x.pp) targets on.place on.target on.there (all_and (is_done on.target.state) (is_sure core on.target.pp) well sure)
+  kept_by p copy fresh unwanted = any_passes_from_place (λ (x : Target). is_done x.state && is_sure core x.pp) targets on.place on.target on.there (all_and (is_done on.target.state) (is_sure core on.target.pp) well sure)
     where
       left_out : is_left_out core o.request.ask p ≡ false
       left_out = ap (λ b. b && is_wanted_stale core p && not (is_caught core group p)) (unsettled core p fresh)
 
       begun : is_begun targets ≡ true
-      begun = any_at (λ (u : Target). not (target_waits u.state)) targets number t there (done_began t.state done)
+      begun = any_passes_from_place (λ (u : Target). not (target_waits u.state)) targets number t there (done_began t.state done)
 
       on : IsOn targets p
       on = on_one targets p (sym (ap (λ b. is_among (pps_of targets) p || b) left_out ∙ or_false (is_among (pps_of targets) p)) ∙ judged.all begun p copy)
@@ -179,7 +177,7 @@ module _ (core : Core) (going : IsGoing core) (o : Open) (one : IsOpenOne core o
         where
           by : (b : Bool) → is_failed on.target.state ≡ b → is_done on.target.state ≡ true
           by false fine = first_of (is_done on.target.state) (is_failed on.target.state) (over on.place on.target on.there) fine
-          by true failed = not_so (sym none_failed ∙ any_at (is_failed_and_sure core) targets on.place on.target on.there (all_and (is_failed on.target.state) (is_sure core on.target.pp) failed sure))
+          by true failed = not_so (sym none_failed ∙ any_passes_from_place (is_failed_and_sure core) targets on.place on.target on.there (all_and (is_failed on.target.state) (is_sure core on.target.pp) failed sure))
 
   -- the copy that has passed it has a copy beside it that stays fresh
   kept_beside : (c : OpenCopy) → core.copy ≡ Some c → is_running c ≡ true → is_pp t.pp c.pp ≡ true → is_kept core o.request ≡ true
@@ -198,7 +196,7 @@ module _ (core : Core) (going : IsGoing core) (o : Open) (one : IsOpenOne core o
       some_may = by (is_whole core c) refl
         where
           by : (b : Bool) → is_whole core c ≡ b → list_any (may_be_fresh core) (copies_beside core c) ≡ true
-          by true whole = any_at (may_be_fresh core) (copies_beside core c) (c.copy - 1) c.pp its_place (clearing_may core c.pp (bring.clearing runs whole).1)
+          by true whole = any_passes_from_place (may_be_fresh core) (copies_beside core c) (c.copy - 1) c.pp its_place (clearing_may core c.pp (bring.clearing runs whole).1)
           by false short =
               any_on (λ (q : Pp). not (is_pp q c.pp) && is_usable core q) (may_be_fresh core) (usable_may core c.pp) (copies_beside core c)
               (some_kept (λ (q : Pp). not (is_pp q c.pp) && is_usable core q) (copies_beside core c) (has_source core c (by_sources core c None runs (is_here core c runs goes_on) short goes_on)))

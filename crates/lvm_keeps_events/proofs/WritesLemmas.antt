@@ -5,6 +5,7 @@ use Rattle.std.specs.List.{list_any}
 use Rattle.std.specs.Option.{option_map_or}
 use Rattle.lvm_num.specs.declared.descriptor.Policy.{Policy}
 use Rattle.lvm_num.specs.declared.descriptor.Policy.TheVariants as policy
+use Rattle.lvm_num.proofs.Lists.{index_is}
 use Rattle.lvm_vol.specs.declared.entry.Outcome.TheVariants as outcome
 use Rattle.lvm_mwc.proofs.FirstsLemmas.{first_at}
 use Rattle.lvm_sched.specs.declared.writes.TargetState.{TargetState}
@@ -22,7 +23,7 @@ use Rattle.lvm_path.specs.Next.{next_chosen, next_data, next_in, next_read, next
 use Rattle.lvm_session.specs.Enabled.{target_next}
 use Rattle.lvm_keeps.proofs.Small.{both}
 use Rattle.lvm_keeps.proofs.KeepsLemmas.Starting.{not_starting}
-use Rattle.lvm_keeps_events.proofs.TargetsLemmas.{index_at, states_at}
+use Rattle.lvm_keeps_events.proofs.TargetsLemmas.{states_at}
 
 -- A request that starts a target has its record, or gets it now; its target waits, and a read tries no other.
 pub record StartsAt (p : Phase) (k : Facts) (r : Request) (target : ℕ) : Type 0 where
@@ -32,7 +33,7 @@ pub record StartsAt (p : Phase) (k : Facts) (r : Request) (target : ℕ) : Type 
   pub alone : p ≡ phase.Data → is_write r.ask ≡ false → (list_any (λ (t : Target). is_flying t.state) r.targets.items ≡ false) × (list_any (λ (t : Target). is_done t.state) r.targets.items ≡ false)
 
 found_passes : {A : Type 0} (t : A → Bool) (xs : List A) (k : ℕ) (x : A) → position t xs ≡ Some k → slice_get xs k ≡ Some x → t x ≡ true
-found_passes t xs k x is there = ap t (sym (index_at xs k x x there)) ∙ (first_at t xs x k is).passes
+found_passes t xs k x is there = ap t (sym (index_is xs k x x there)) ∙ (first_at t xs x k is).passes
 
 policy_waits : (how : Policy) (states : List TargetState) (k : ℕ) (state : TargetState) → next_target how states ≡ Some k → slice_get states k ≡ Some state → is_unstarted state ≡ true
 policy_waits policy.Sequential states k state is there = by (list_any is_flying states) is

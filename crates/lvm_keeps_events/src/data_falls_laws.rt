@@ -1,5 +1,5 @@
 //! Laws: what the end of a transfer of a sound session leaves is less work.
-ghost use Rattle.lvm_keeps_events.specs.FallsDataFalls.{CopyQuitFalls, CopyReadEndFalls, CopyReadFailFalls, CopyWriteEndFalls, CopyWriteFailFalls, DataEndFalls};
+ghost use Rattle.lvm_keeps_events.specs.EndFalls.{CopyQuitFalls, CopyReadEndFalls, CopyReadFailFalls, CopyWriteEndFalls, CopyWriteFailFalls, DataEndFalls};
 
 /// The end of a transfer of a request, well or badly, leaves less work.
 pub fn data_end_falls()

@@ -1,6 +1,6 @@
 //! Laws: what a request of a sound session leaves that moves on is sound.
 ghost use Rattle.lvm_keeps.specs.Keeps.{AdmissionKeeps, LandingKeeps};
-ghost use Rattle.lvm_keeps_events.specs.FallsMoves.{AdmissionFalls};
+ghost use Rattle.lvm_keeps_events.specs.MoveFalls.{AdmissionFalls};
 
 /// A request that lands leaves the session sound.
 pub fn landing_keeps()

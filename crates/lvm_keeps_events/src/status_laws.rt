@@ -1,5 +1,5 @@
 //! Laws: what the end of a write of a note or of the status leaves of a sound session is sound, and less work.
-ghost use Rattle.lvm_keeps_events.specs.EndsStatus.{NoteEndFalls, NoteFailFalls, NoteFailKeeps, StatusEndFalls, StatusEndKeeps};
+ghost use Rattle.lvm_keeps_events.specs.StatusEnds.{NoteEndFalls, NoteFailFalls, NoteFailKeeps, StatusEndFalls, StatusEndKeeps};
 
 /// The write of a note that fails leaves the session sound: its disk is missing.
 pub fn note_fail_keeps()

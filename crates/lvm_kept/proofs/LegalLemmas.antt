@@ -4,9 +4,10 @@ use Rattle.std.specs.List.{list_any}
 use Rattle.std.proofs.lemmas.List.Sums.{sum_by-append}
 use Rattle.std.proofs.lemmas.Bool.Decides.{nat_tests}
 use Rattle.std.proofs.lemmas.Bool.{eqb-true}
-use Rattle.lvm_vol.specs.Facts.{Request, Fact, Begun, Landed, Taken, Stands, same_request}
+use Rattle.lvm_vol.specs.Facts.{Request, Fact, Begun, Landed, Taken, Stands}
 use Rattle.lvm_vol.specs.Legal.{begins_in, lands, takes, Fits, Legal, LegalFrom, IsOutcomeOf, GotMay}
 use Rattle.lvm_vol.specs.declared.entry.Outcome.{Outcome}
+use Rattle.lvm_vol.proofs.LawsLemmas.Legality.{same_self}
 
 -- one entry more that fits
 pub legal_more : (past facts : List Fact) (f : Fact) → LegalFrom past facts → Fits (past ++ facts) f → LegalFrom past (facts ++ f ∷ [])
@@ -129,9 +130,6 @@ any_last t (g ∷ past) f is = or_true (t g) (list_any t (past ++ f ∷ [])) (an
     or_true true b is = refl
     or_true false b is = is
 
-pub lands_itself : (r : Request) → same_request r r ≡ true
-lands_itself r = let a : (r.run == r.run) ≡ true = grind (arith, nat_tests) in let b : (r.id == r.id) ≡ true = grind (arith, nat_tests) in cc
-
 -- a request with the next number goes through: begun, landed, taken
 pub through_legal : (facts : List Fact) (r : Request) (how : Outcome) (started : Bool) (got : List (List ℕ)) → LegalFrom [] facts → r.id ≡ count_by (begins_in r.run) facts + 1
     → IsOutcomeOf how r started → GotMay (facts ++ Begun r ∷ []) r how got → LegalFrom [] (((facts ++ Begun r ∷ []) ++ Landed r how started got ∷ []) ++ Taken r ∷ [])
@@ -143,7 +141,7 @@ through_legal facts r how started got legal next kind may =
     legal_more [] ((facts ++ Begun r ∷ []) ++ Landed r how started got ∷ []) (Taken r) landed
     (record {
       began = stands_first (facts ++ Begun r ∷ []) (Landed r how started got) (Begun r) (stands_last facts (Begun r));
-      answered = any_last (lands r) (facts ++ Begun r ∷ []) (Landed r how started got) (lands_itself r);
+      answered = any_last (lands r) (facts ++ Begun r ∷ []) (Landed r how started got) (same_self r);
       first = any_more (takes r) (facts ++ Begun r ∷ []) (Landed r how started got) (any_more (takes r) facts (Begun r) not_taken refl) refl;
     })
 

@@ -1,10 +1,11 @@
 -- What one block may have while a request goes through.
-use Rattle.std.proofs.Common.{◌≡◌, inl, inr, ◌&&◌, ◌||◌, ◌∷◌, ◌++◌, [], ℕ, List, Bool, Option, Some, None, true, not, cond, refl, sym, ◌∙◌, ap, map, IfSome}
-use Rattle.std.proofs.lemmas.Bool.{eq-eqb}
+use Rattle.std.proofs.Common.{◌≡◌, inl, inr, ◌||◌, ◌∷◌, ◌++◌, [], ℕ, List, Bool, Option, Some, None, true, not, cond, sym, ◌∙◌, ap, map, IfSome}
 use Rattle.lvm_disk.specs.passed.Names.{Sector}
 use Rattle.lvm_vol.specs.declared.entry.Vol.{Vol}
-use Rattle.lvm_vol.specs.Facts.{Request, Fact, Stands, same_request, block_of}
-use Rattle.lvm_vol.specs.May.{Knowledge, after, after_fact, known, nothing_known, change, source, also, is_open_in, without}
+use Rattle.lvm_vol.specs.Facts.{Request, Fact, Stands, block_of}
+use Rattle.lvm_vol.specs.May.{Knowledge, known, nothing_known, change, source, also, is_open_in, without}
+use Rattle.lvm_vol.proofs.LawsLemmas.Legality.{same_self}
+use Rattle.lvm_vol.proofs.LawsLemmas.Knowing.{after-append}
 
 pub one_left_of : (x : Sector) (ys zs : List Sector) → Stands x ys → Stands x (ys ++ zs)
 one_left_of x [] zs is = absurd is
@@ -56,18 +57,8 @@ cut_adds_it (Some vs) r writes b x is = one_right_of x vs (block_of r.blocks r.a
 
 -- ---- one entry more
 
-pub after-append : (k : Knowledge) (fs gs : List Fact) → after k (fs ++ gs) ≡ after (after k fs) gs
-after-append k [] gs = refl
-after-append k (f ∷ fs) gs = after-append (after_fact f k) fs gs
-
 pub known_more : (facts : List Fact) (f : Fact) (vol : Vol) (b : ℕ) → known (facts ++ f ∷ []) vol b ≡ change f vol b (known facts (source f vol) b)
 known_more facts f vol b = ap (λ (k : Knowledge). k vol b) (after-append nothing_known facts (f ∷ []))
-
-pub same_self : (r : Request) → same_request r r ≡ true
-same_self r = let a = eq-eqb r.run r.run refl in let b = eq-eqb r.id r.id refl in both _ _ a b
-  where
-    both : (a b : Bool) → a ≡ true → b ≡ true → (a && b) ≡ true
-    both a b p q = cc
 
 pub open_now : (r : Request) (writes : List Request) → is_open_in r (r ∷ writes) ≡ true
 open_now r writes = ap (λ (b : Bool). b || is_open_in r writes) (same_self r)

@@ -1,2 +1,3 @@
 mod SoundLemmas
 mod StepsLemmas
+mod ImageStepsLemmas

@@ -2,11 +2,11 @@
 use Rattle.std.proofs.Common.{◌≡◌, ◌≤◌, ◌<◌, ◌++◌, [], ◌∷◌, ℕ, List, Bool, true, false, cond, None, length, refl, sym, ◌∙◌, ap, subst, arith, length-append}
 use Rattle.std.specs.List.{remove}
 use Rattle.lvm_disk.specs.Device.{Flight, Range}
-use Rattle.lvm_flights.specs.Flights.{Lies, AllLie}
-use Rattle.lvm_flights.specs.Tally.{Tallied}
-use Rattle.lvm_flights.specs.Log.{logged}
-use Rattle.lvm_flights.proofs.FlightsLemmas.Starting.{lie_more}
-use Rattle.lvm_flights.proofs.FlightsLemmas.Ending.{lie_less, length-less}
+use Rattle.lvm_memory.specs.Flights.{Lies, AllLie}
+use Rattle.lvm_memory.specs.Tally.{Tallied}
+use Rattle.lvm_memory.specs.Log.{logged}
+use Rattle.lvm_memory.proofs.FlightsLemmas.Starting.{lie_more}
+use Rattle.lvm_memory.proofs.FlightsLemmas.Ending.{lie_less, length-less}
 use Rattle.lvm_lane.specs.Sound.{IsSound}
 
 -- one transfer more

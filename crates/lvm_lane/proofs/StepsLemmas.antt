@@ -5,9 +5,9 @@ use Rattle.lvm_num.specs.Buffer.{Buffer}
 use Rattle.lvm_disk.specs.Device.{Flight}
 use Rattle.lvm_disk.specs.Counts.{Counts}
 use Rattle.lvm_disk.specs.Steps.{Removes, ChangedAtMost, EndsDone, EndsFailed, CountsFailure}
-use Rattle.lvm_flights.specs.Flights.{flight_of}
-use Rattle.lvm_flights.specs.declared.flying.Flying.{Flying}
-use Rattle.lvm_flights.proofs.FlightsLemmas.Ending.{removed}
+use Rattle.lvm_memory.specs.Flights.{flight_of}
+use Rattle.lvm_memory.specs.declared.flying.Flying.{Flying}
+use Rattle.lvm_memory.proofs.FlightsLemmas.Ending.{removed}
 use Rattle.lvm_lane.specs.Files.{working_device}
 
 pub ends_done :

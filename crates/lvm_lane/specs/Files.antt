@@ -4,8 +4,8 @@ use Rattle.lvm_disk.specs.Device.{Flight, Device}
 use Rattle.lvm_disk.specs.declared.shelf.Reaped.{Reaped}
 use Rattle.lvm_disk.specs.declared.shelf.Reaped.TheVariants as reaped
 use Rattle.lvm_disk.specs.Counts.{Counts}
-use Rattle.lvm_flights.specs.Tally.{counts_of}
-use Rattle.lvm_flights.specs.Flights.{flights_of}
+use Rattle.lvm_memory.specs.Tally.{counts_of}
+use Rattle.lvm_memory.specs.Flights.{flights_of}
 use Rattle.lvm_lane.specs.declared.shelf.FileShelf.{FileShelf}
 
 -- disks of these sizes whose content isn't told, that take no arrangements and at which nothing has happened yet

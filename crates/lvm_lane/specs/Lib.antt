@@ -1,2 +1,4 @@
 pub mod Sound
 pub mod Files
+pub mod Names
+pub mod Sink

@@ -1,14 +1,16 @@
 //! Image files as a shelf of disks.
 ghost use Rattle.std.specs.Prelude.{◌≡◌, ◌≤◌, ◌<◌, true, length, vec_capacity};
-ghost use Rattle.lvm_flights.specs.Flights.{flight_of, flights_of};
-ghost use Rattle.lvm_flights.specs.Flights.{Lies};
+ghost use Rattle.lvm_memory.specs.Flights.{flight_of, flights_of, Lies};
 ghost use Rattle.lvm_disk.specs.Steps.{ChangedAtMost};
 ghost use Rattle.lvm_lane.specs.Sound.{IsSound};
 
+use crate::exclusive::Exclusive;
+use crate::image::{Image, ImageFault, has_image};
+use crate::name::image_name;
+use crate::read_buffer::ReadBuffer;
 use lvm_disk::{Arrange, Reaped, Shelf, Started};
-use lvm_flights::{Flying, Tally, free_ticket, take_flight};
-use lvm_image::{Exclusive, Image, ImageFault, ReadBuffer, has_image, image_name};
 use lvm_io::{Sink, write_all};
+use lvm_memory::{Flying, Tally, free_ticket, take_flight};
 use lvm_num::{DISKS, Memory, Pbuf};
 use std::alloc::Global;
 use std::fs::OpenFile;

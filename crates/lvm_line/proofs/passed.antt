@@ -1,7 +1,6 @@
 pub mod Group
 pub mod Quiesce
-pub mod Running
-pub mod Stage
 pub mod TieCommands
-pub mod TieGroups
 pub mod Varyon
+pub mod Tie
+pub mod GroupLines

@@ -13,20 +13,20 @@ use Rattle.lvm_core.specs.Looking.{IsNumberOf}
 use Rattle.lvm_session.specs.Causes.{AnyFailedSince, was_usable}
 use Rattle.lvm_session.specs.Judging.{copies_in, is_missing}
 use Rattle.lvm_session.specs.State.{Core, state}
-use Rattle.lvm_copy_lines.specs.passed.Names.{LostForFaults}
+use Rattle.lvm_volume_lines.specs.passed.Names.{LostForFaults}
 use Rattle.lvm_num.specs.declared.descriptor.Descriptor.{Descriptor}
 use Rattle.lvm_num.specs.Descriptor.{is_member}
 use Rattle.lvm_disk.specs.Device.{Device}
-use Rattle.lvm_copy_lines.specs.passed.Recover.{HasNoPassive}
-use Rattle.lvm_copy_lines.specs.passed.Varyon.{IsRestated, IsRecovered}
-use Rattle.lvm_copy_lines.specs.passed.Quiesce.{Quiesces}
-use Rattle.lvm_copy_lines.specs.passed.Ranges.{AnyFailed}
-use Rattle.lvm_copy_lines.specs.passed.Resync.{AnyFails}
-use Rattle.lvm_copy_lines.specs.passed.VolumeLines.{IsUndrained}
-use Rattle.lvm_copy_lines.specs.passed.Stage.{patience_of_line, ScriptState, IsTimely, Refusal}
+use Rattle.lvm_volume_lines.specs.passed.Recover.{HasNoPassive}
+use Rattle.lvm_volume_lines.specs.passed.Varyon.{IsRestated, IsRecovered}
+use Rattle.lvm_volume_lines.specs.passed.Quiesce.{Quiesces}
+use Rattle.lvm_volume_lines.specs.passed.Ranges.{AnyFailed}
+use Rattle.lvm_volume_lines.specs.passed.Resync.{AnyFails}
+use Rattle.lvm_volume_lines.specs.Volumes.{IsUndrained}
+use Rattle.lvm_volume_lines.specs.passed.GroupLines.{patience_of_line, ScriptState, IsTimely, Refusal}
 use Rattle.lvm_line.specs.Lines.{IsLine}
-use Rattle.lvm_copy_lines.specs.passed.RefusalVariants as refusal
-use Rattle.lvm_copy_lines.specs.passed.ReplyVariants as reply
+use Rattle.lvm_volume_lines.specs.passed.RefusalVariants as refusal
+use Rattle.lvm_volume_lines.specs.passed.ReplyVariants as reply
 
 -- the disk that a line reads or writes
 abbrev pub disk_of : Result (Option Command) Misfit → Option ℕ

@@ -9,10 +9,10 @@ use Rattle.lvm_parse.specs.Grammar.{line_of}
 use Rattle.lvm_core.specs.declared.parts.Room.{Room}
 use Rattle.lvm_session.specs.Enabled.{is_lost}
 use Rattle.lvm_session.specs.State.{Core, state}
-use Rattle.lvm_copy_lines.specs.passed.Resync.{AnyFails}
-use Rattle.lvm_copy_lines.specs.passed.Stage.{Refusal, ScriptState, patience_of_line}
-use Rattle.lvm_copy_lines.specs.passed.RefusalVariants as refusal
-use Rattle.lvm_copy_lines.specs.passed.ReplyVariants as reply
+use Rattle.lvm_volume_lines.specs.passed.Resync.{AnyFails}
+use Rattle.lvm_volume_lines.specs.passed.GroupLines.{Refusal, ScriptState, patience_of_line}
+use Rattle.lvm_volume_lines.specs.passed.RefusalVariants as refusal
+use Rattle.lvm_volume_lines.specs.passed.ReplyVariants as reply
 use Rattle.lvm_line.specs.Lines.{IsLine}
 
 -- no transfer has failed, the power wasn't cut, and it didn't wait a million times

@@ -9,20 +9,17 @@ use Rattle.lvm_parse.specs.declared.command.Command.TheVariants as command
 use Rattle.lvm_operands.specs.declared.rest.Misfit.{Misfit}
 use Rattle.lvm_parse.specs.Grammar.{line_of}
 use Rattle.lvm_core.specs.declared.parts.Room.{Room}
-use Rattle.lvm_copy_lines.specs.passed.DiskLines.{ReadDoes, WriteDoes, ArrangeDoes, CutDoes}
-use Rattle.lvm_copy_lines.specs.passed.Stage.{CommandEnds, GoesOn, Role, Aside, OfGroup, OfGroupWhere, OfRequests, IsRefused, IsStuck, IsBetween, ScriptState, Reply}
-use Rattle.lvm_copy_lines.specs.passed.Stage.{IsFittingStage, IsLeftBy, Stage, history_in, state_in, without_facts}
+use Rattle.lvm_volume_lines.specs.passed.GroupLines.{ReadDoes, WriteDoes, ArrangeDoes, CutDoes, Aside, CommandEnds, GoesOn, IsBetween, IsFittingStage, IsLeftBy, IsRefused, IsStuck, OfGroup, OfGroupWhere, OfRequests, Reply, Role, ScriptState, Stage, history_in, state_in, without_facts, MkvgDoes, VaryonDoes, VaryoffDoes, GroupShows, VolumeShows, DiskShows}
 use Rattle.lvm_line.specs.declared.line.InPlace.{InPlace}
 use Rattle.lvm_line.specs.declared.line.InPlace.TheVariants as in_place
-use Rattle.lvm_copy_lines.specs.passed.GroupLines.{MkvgDoes, VaryonDoes, VaryoffDoes, GroupShows, VolumeShows, DiskShows}
-use Rattle.lvm_copy_lines.specs.passed.RangeLines.{RdDoes, WrDoes, PostDoes, StepDoes}
-use Rattle.lvm_copy_lines.specs.passed.RangeLinesWaiting.{WaitDoes}
-use Rattle.lvm_copy_lines.specs.Copies.{MklvcopyDoes, RmlvcopyDoes}
-use Rattle.lvm_copy_lines.specs.Resyncing.{SyncGroupDoes, SyncVolumeDoes}
-use Rattle.lvm_copy_lines.specs.passed.TieCopies.{KeepsShownOf}
-use Rattle.lvm_copy_lines.specs.passed.VolumeLines.{MklvDoes, RmlvDoes, wanted}
-use Rattle.lvm_copy_lines.specs.passed.RefusalVariants as refusal
-use Rattle.lvm_copy_lines.specs.passed.ReplyVariants as reply
+use Rattle.lvm_volume_lines.specs.passed.RangeLines.{RdDoes, WrDoes, PostDoes, StepDoes}
+use Rattle.lvm_volume_lines.specs.passed.RangeLinesWaiting.{WaitDoes}
+use Rattle.lvm_volume_lines.specs.Copies.{MklvcopyDoes, RmlvcopyDoes}
+use Rattle.lvm_volume_lines.specs.Resyncing.{SyncGroupDoes, SyncVolumeDoes}
+use Rattle.lvm_volume_lines.specs.passed.TieCommands.{KeepsShownOf}
+use Rattle.lvm_volume_lines.specs.Volumes.{MklvDoes, RmlvDoes, wanted}
+use Rattle.lvm_volume_lines.specs.passed.RefusalVariants as refusal
+use Rattle.lvm_volume_lines.specs.passed.ReplyVariants as reply
 
 -- a listing leaves the whole state
 abbrev pub IsListed : ScriptState → ScriptState → Type 0 → Type 0

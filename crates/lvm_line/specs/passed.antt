@@ -1,9 +1,6 @@
-pub mod CopyLines
-pub mod DiskLines
 pub mod Group
 pub mod GroupLines
 pub mod HolderVariants
-pub mod Mirrors
 pub mod Names
 pub mod Quiesce
 pub mod QuiescedVariants
@@ -14,8 +11,6 @@ pub mod Recover
 pub mod RefusalVariants
 pub mod ReplyVariants
 pub mod Resync
-pub mod Running
-pub mod Stage
 pub mod Tie
 pub mod TieCommands
 pub mod Varyon

@@ -5,21 +5,19 @@ ghost use Rattle.lvm_core.specs.declared.parts.Room.{Room};
 ghost use Rattle.lvm_parse.specs.Grammar.{line_of};
 ghost use Rattle.lvm_parse.specs.Within.{IsWithin};
 ghost use Rattle.lvm_line.specs.Lines.{CommandInPlace, CommandIsDone, DoesInPlace, IsFinished, IsLine, StandsBehind, asked_after};
-ghost use Rattle.lvm_copy_lines.specs.passed.Stage.{history_in, session_in, state_in, IsBetweenStage, IsFittingStage};
-ghost use Rattle.lvm_copy_lines.specs.passed.Stage.{without_facts};
+ghost use Rattle.lvm_volume_lines.specs.passed.GroupLines.{IsBetweenStage, IsFittingStage, history_in, session_in, state_in, without_facts};
 
-use lvm_copy_lines::below::disk_lines::{do_arrange, do_cut, do_read, do_write};
-use lvm_copy_lines::below::group_lines::{
-    do_mkvg, do_varyoff, do_varyon, list_disk, list_group, list_volume,
-};
-use lvm_copy_lines::below::range_lines::{do_post, do_rd, do_step, do_wait, do_wr};
-use lvm_copy_lines::below::stage::{Answered, Refusal, Reply, Stage};
-use lvm_copy_lines::below::volume_lines::{do_mklv, do_rmlv};
-use lvm_copy_lines::{do_mklvcopy, do_rmlvcopy, do_sync_group, do_sync_volume};
 use lvm_core::Room;
 use lvm_disk::{Arrange, Shelf};
 use lvm_io::Clock;
 use lvm_parse::{Command, ParseFault, parse};
+use lvm_volume_lines::below::disk_lines::{do_arrange, do_cut, do_read, do_write};
+use lvm_volume_lines::below::group_lines::{
+    do_mkvg, do_varyoff, do_varyon, list_disk, list_group, list_volume,
+};
+use lvm_volume_lines::below::range_lines::{do_post, do_rd, do_step, do_wait, do_wr};
+use lvm_volume_lines::below::stage::{Answered, Refusal, Reply, Stage};
+use lvm_volume_lines::{do_mklv, do_mklvcopy, do_rmlv, do_rmlvcopy, do_sync_group, do_sync_volume};
 use std::alloc::Global;
 
 // Does what a command asks for.

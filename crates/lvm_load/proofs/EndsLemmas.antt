@@ -3,13 +3,14 @@ use Rattle.std.proofs.Common.{◌≡◌, ◌≤◌, ◌+◌, ◌-◌, ◌&&◌, 
 use Rattle.std.specs.Prelude.{Result, Ok, Err, MatchOption, is_some}
 use Rattle.std.specs.List.{list_any, AllByRecursion}
 use Rattle.std.proofs.lemmas.Bool.{leb-true}
+use Rattle.lvm_num.proofs.Booleans.{not_so}
 use Rattle.rand_pcg.specs.Lcg.{Lcg}
 use Rattle.lvm_disk.specs.Counts.{RoseBy}
 use Rattle.lvm_disk.specs.Device.{Device}
 use Rattle.lvm_disk.proofs.CountingLemmas.{rose_by_after, rose_by_more, rose_by_none}
 use Rattle.lvm_vol.specs.Facts.{Fact}
 use Rattle.lvm_vol.specs.Log.{next_id}
-use Rattle.lvm_draws.specs.Draws.{draw_at}
+use Rattle.lvm_load.specs.Draws.{draw_at}
 use Rattle.lvm_path.specs.declared.ask.Ask.{Ask}
 use Rattle.lvm_session.specs.declared.answers.AskFault.{AskFault}
 use Rattle.lvm_session.specs.declared.answers.AskFault.TheVariants as fault
@@ -25,12 +26,11 @@ use Rattle.lvm_session.specs.Requests.{IsLanded}
 use Rattle.lvm_session.specs.Sound.{IsSound}
 use Rattle.lvm_session.specs.State.{Core, State}
 use Rattle.lvm_session.specs.Turns.{Finds, FindsNothing, TurnMakes}
-use Rattle.lvm_keeps.proofs.Small.{not_so}
-use Rattle.lvm_keeps_turn.specs.Turning.{is_last}
-use Rattle.lvm_keeps_turn.proofs.passed.Names.{never_stands_still}
-use Rattle.lvm_keeps_turn.specs.Telling.{IsStill, TurnTells, power_by}
-use Rattle.lvm_keeps_turn.proofs.CountsLemmas.{turn_counts}
-use Rattle.lvm_keeps_turn.proofs.TellingLemmas.Telling.{turn_tells}
+use Rattle.lvm_keeps_events.specs.Turning.{is_last}
+use Rattle.lvm_keeps_events.proofs.KeepsFallsLemmas.Standing.{never_stands_still}
+use Rattle.lvm_keeps_events.specs.Telling.{IsStill, TurnTells, power_by}
+use Rattle.lvm_keeps_events.proofs.CountsLemmas.{turn_counts}
+use Rattle.lvm_keeps_events.proofs.TellingLemmas.Telling.{turn_tells}
 use Rattle.lvm_load.specs.declared.client.Client.{Client}
 use Rattle.lvm_load.specs.declared.workload.Woven.{Woven}
 use Rattle.lvm_load.specs.declared.totals.Totals.{Totals}

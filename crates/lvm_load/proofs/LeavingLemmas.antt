@@ -7,10 +7,11 @@ use Rattle.std.proofs.lemmas.Bool.{or_right}
 use Rattle.std.proofs.lemmas.List.{length-append}
 use Rattle.std.proofs.lemmas.List.Edits.{length-remove}
 use Rattle.std.proofs.lemmas.Option.{slice_get_within}
+use Rattle.lvm_num.proofs.Booleans.{not_so}
 use Rattle.rand_pcg.specs.Lcg.{Lcg}
 use Rattle.lvm_vol.specs.declared.entry.Outcome.{Outcome}
 use Rattle.lvm_vol.specs.Log.{next_id}
-use Rattle.lvm_draws.specs.Draws.{draw_at}
+use Rattle.lvm_load.specs.Draws.{draw_at}
 use Rattle.lvm_path.specs.Asks.{count_of}
 use Rattle.lvm_session.specs.declared.answers.AskFault.{AskFault}
 use Rattle.lvm_session.specs.declared.answers.Taken.{Taken}
@@ -21,8 +22,8 @@ use Rattle.lvm_session.specs.Judging.{is_waiting}
 use Rattle.lvm_session.specs.Sound.{count_if}
 use Rattle.lvm_session.specs.State.{Core, State}
 use Rattle.lvm_keeps.proofs.Lists.{any_removed, count_cons, count_set}
-use Rattle.lvm_keeps.proofs.Small.{both, not_so}
-use Rattle.lvm_keeps_turn.proofs.CallsLemmas.{SameTable, some_position, turn_leaves_table}
+use Rattle.lvm_keeps.proofs.Small.{both}
+use Rattle.lvm_keeps_events.proofs.TurnCallsLemmas.{SameTable, some_position, turn_leaves_table}
 use Rattle.lvm_load.specs.declared.client.Client.{Client}
 use Rattle.lvm_load.specs.Leaving.{WorkloadsLeaveOpen}
 use Rattle.lvm_load.specs.Requests.{ask_of, bytes_of, word_of}

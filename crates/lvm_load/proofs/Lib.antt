@@ -5,3 +5,4 @@ pub mod WeavingLemmas
 pub mod LeavingLemmas
 pub mod WaitingLemmas
 pub mod RequestsLemmas
+pub mod ScriptLemmas

@@ -27,7 +27,7 @@ use Rattle.lvm_session.specs.State.{Core, State, is_there}
 use Rattle.lvm_session.specs.Turns.{Finds, FindsNothing}
 use Rattle.lvm_driver.specs.passed.Names.{RunsOn}
 use Rattle.lvm_driver.proofs.passed.Names.{runs_both, runs_none, stays_unstuck}
-use Rattle.lvm_keeps_turn.specs.Telling.{TurnTells}
+use Rattle.lvm_keeps_events.specs.Telling.{TurnTells}
 use Rattle.lvm_load.specs.declared.client.Client.{Client}
 use Rattle.lvm_load.specs.Weaving.{NextClient, NoClient, NoneOpen, Takes, TakesFor, TakesEach, Turns, Waits, idle_after, turns_left}
 

@@ -4,3 +4,5 @@ pub mod Requests
 pub mod Totals
 pub mod Waiting
 pub mod Weaving
+pub mod Draws
+pub mod Script

@@ -3,7 +3,7 @@ use Rattle.std.specs.Prelude.{◌≡◌, ◌⊎◌, ◌≤◌, ℕ, ◌+◌, ◌
 use Rattle.std.specs.List.{list_any}
 use Rattle.std.specs.Option.{option_map_or}
 use Rattle.rand_pcg.specs.Lcg.{Lcg}
-use Rattle.lvm_draws.specs.Draws.{after_draw, after_word, draw_at, seeded, word_at}
+use Rattle.lvm_load.specs.Draws.{after_draw, after_word, draw_at, seeded, word_at}
 use Rattle.lvm_session.specs.declared.answers.AskFault.{AskFault}
 use Rattle.lvm_session.specs.declared.answers.AskFault.TheVariants as fault
 use Rattle.lvm_session.specs.declared.answers.Taken.{Taken}
@@ -15,7 +15,7 @@ use Rattle.lvm_session.specs.Left.{left_of}
 use Rattle.lvm_session.specs.Sound.{IsSound}
 use Rattle.lvm_session.specs.State.{Core, State}
 use Rattle.lvm_session.specs.Turns.{TurnMakes}
-use Rattle.lvm_keeps_turn.specs.Turning.{is_last}
+use Rattle.lvm_keeps_events.specs.Turning.{is_last}
 use Rattle.lvm_load.specs.declared.client.Client.{Client}
 use Rattle.lvm_load.specs.Requests.{ask_of, bytes_of, word_of}
 

@@ -2,16 +2,16 @@
 ghost use Rattle.std.specs.Prelude.{◌≡◌, ◌≤◌, ◌<◌, ◌+◌, ◌-◌, ◌*◌, ◌||◌, ◌==◌, ℕ, Some, false, nat_lt, length, vec_capacity};
 ghost use Rattle.std.specs.Option.{option_map_or};
 ghost use Rattle.lvm_session.specs.declared.open.Power.TheVariants as power;
-ghost use Rattle.lvm_keeps_turn.specs.Turning.{is_last};
+ghost use Rattle.lvm_keeps_events.specs.Turning.{is_last};
 ghost use Rattle.lvm_driver.specs.passed.Names.{RunsOn};
 ghost use Rattle.lvm_session.specs.State.{state_of};
-ghost use Rattle.lvm_draws.specs.Draws.{after_draw};
+ghost use Rattle.lvm_load.specs.Draws.{after_draw};
 ghost use Rattle.lvm_load.specs.Waiting.{AreWaiting, AreWaitingBut, OthersWait, landed_by};
 ghost use Rattle.lvm_load.specs.Weaving.{AsksDrawn, TakesFor, TakesEach, Turns, goes_on, idle_after, open_of, turns_left};
 
 use crate::request::submit_drawn;
+use crate::words::draw_request;
 use lvm_disk::Shelf;
-use lvm_draws::draw_request;
 use lvm_driver::Driver;
 use lvm_session::{AskFault, Taken, Turned};
 use lvm_vol::Entry;

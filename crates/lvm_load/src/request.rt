@@ -6,8 +6,8 @@ ghost use Rattle.lvm_driver.specs.passed.Names.{RunsOn};
 ghost use Rattle.lvm_session.specs.State.{state_of};
 ghost use Rattle.lvm_load.specs.Requests.{ask_of, block_count, bytes_of, first_block};
 
+use crate::words::Draw;
 use lvm_disk::Shelf;
-use lvm_draws::Draw;
 use lvm_driver::Driver;
 use lvm_path::Ask;
 use lvm_posts::fill_bytes;

@@ -1,6 +1,7 @@
 -- The places of a volume's blocks.
 use Rattle.std.proofs.Common.{◌≡◌, inl, inr, ℕ, zero, suc, ◌+◌, ◌-◌, ◌*◌, ◌<◌, ◌≤◌, Bool, true, false, cond, ◌&&◌, ◌||◌, List, [], ◌∷◌, length, get_or, drop, Option, Some, None, refl, sym, ap, subst, ◌∙◌, arith, rules, mul_comm}
 use Rattle.std.specs.Prelude.{◌==◌, All, IsTrue, find, slice_get, option_map, option_and_then}
+use Rattle.std.proofs.lemmas.Option.{slice_get-get_or, slice_get_past}
 use Rattle.std.proofs.lemmas.Bool.{eqb-true, cases_lt, cases_eq}
 use Rattle.std.proofs.lemmas.Bool.Decides.{nat_tests}
 use Rattle.std.proofs.lemmas.List.{get_or-take, get_or-drop, length-take, length-drop, drop_all}
@@ -15,8 +16,6 @@ use Rattle.lvm_num.specs.Descriptor.{IsLaidOut, IsValid, copies_of, is_size, par
 use Rattle.lvm_num.proofs.MarksLemmas.Maps.{find-Some}
 use Rattle.lvm_map.specs.FirstFit.{is_among}
 use Rattle.lvm_map.specs.Places.{copy_at, place_on, place_of, IsBlockOfCopy}
-use Rattle.lvm_map.proofs.RoomLemmas.Choices.{past}
-use Rattle.lvm_map.proofs.FirstFitLemmas.Fitting.{get-get_or}
 use Rattle.lvm_map.proofs.FirstFitLemmas.FreeLists.{is_pp-same}
 
 -- ---- a valid descriptor
@@ -72,14 +71,14 @@ copy_there row lp copy e whole lt first last =
     let rest = length-drop (lp * row.copies) row.map in
     let size = length-take row.copies (drop (lp * row.copies) row.map) in
     ap (λ b. cond b None (slice_get (copies_of row lp) (copy - 1))) some
-    ∙ get-get_or (copies_of row lp) (copy - 1) e (omega arith)
+    ∙ slice_get-get_or (copies_of row lp) (copy - 1) e (omega arith)
     ∙ ap (λ (pp : Pp). Some pp) (get_or-take row.copies (drop (lp * row.copies) row.map) (copy - 1) e (omega arith) ∙ get_or-drop (lp * row.copies) row.map (copy - 1) e)
 
 pub no_copy : (row : LvRow) (lp copy : ℕ) → row.copies < copy → copy_at row lp copy ≡ None
 no_copy row lp copy more =
     let some : copy == 0 ≡ false = grind (arith, nat_tests) in
     let size = length-take row.copies (drop (lp * row.copies) row.map) in
-    ap (λ b. cond b None (slice_get (copies_of row lp) (copy - 1))) some ∙ past (copies_of row lp) (copy - 1) (omega arith)
+    ap (λ b. cond b None (slice_get (copies_of row lp) (copy - 1))) some ∙ slice_get_past (copies_of row lp) (copy - 1) (omega arith)
 
 pub no_partition : (row : LvRow) (lp copy : ℕ) → length row.map ≡ row.lps * row.copies → row.lps ≤ lp → copy_at row lp copy ≡ None
 no_partition row lp copy whole more = by_copy (copy == 0)
@@ -89,7 +88,7 @@ no_partition row lp copy whole more = by_copy (copy == 0)
 
     by_copy : (b : Bool) → cond b None (slice_get (copies_of row lp) (copy - 1)) ≡ None
     by_copy true = refl
-    by_copy false = past (copies_of row lp) (copy - 1) (omega (arith, length-take row.copies (drop (lp * row.copies) row.map), ap (λ (pps : List Pp). length pps) none))
+    by_copy false = slice_get_past (copies_of row lp) (copy - 1) (omega (arith, length-take row.copies (drop (lp * row.copies) row.map), ap (λ (pps : List Pp). length pps) none))
 
 -- ---- a place
 

@@ -3,14 +3,14 @@ use Rattle.std.proofs.Common.{◌≡◌, ◌<◌, ◌==◌, [], ◌∷◌, ℕ, 
 use Rattle.std.proofs.lemmas.Bool.Decides.{nat_tests}
 use Rattle.std.specs.List.{filter, position, remove, AllByRecursion}
 use Rattle.lvm_disk.specs.Device.{Range}
-use Rattle.lvm_faults.specs.Injection.{Injection, due, after_act, after_acts, next_call, cut_planned}
+use Rattle.lvm_memory.specs.Injection.{Injection, due, after_act, after_acts, next_call, cut_planned}
 use Rattle.lvm_memory.specs.Bench.{Bench, Begins, DarkensBy, StartsAsPlanned, ReapsAsPlanned, IsPromptAct, IsPrompt, IsNoWait}
-use Rattle.lvm_flights.specs.Flights.{NoDelays, flights_of, delays_of}
-use Rattle.lvm_flights.specs.declared.flying.Flying.{Flying}
-use Rattle.lvm_flights.proofs.TicketsLemmas.{none_passed, none_removed, none_more}
-use Rattle.lvm_faults.specs.declared.injector.Act.{Act}
-use Rattle.lvm_faults.specs.declared.injector.Act.TheVariants.{Fail, Delay}
-use Rattle.lvm_faults.specs.declared.injector.Planned.{Planned}
+use Rattle.lvm_memory.specs.Flights.{NoDelays, flights_of, delays_of}
+use Rattle.lvm_memory.specs.declared.flying.Flying.{Flying}
+use Rattle.lvm_memory.proofs.TicketsLemmas.{none_passed, none_removed, none_more}
+use Rattle.lvm_memory.specs.declared.injector.Act.{Act}
+use Rattle.lvm_memory.specs.declared.injector.Act.TheVariants.{Fail, Delay}
+use Rattle.lvm_memory.specs.declared.injector.Planned.{Planned}
 use Rattle.lvm_disk.specs.declared.shelf.Started.{Started}
 use Rattle.lvm_disk.specs.declared.shelf.Started.TheVariants as started
 use Rattle.lvm_disk.specs.declared.shelf.Reaped.{Reaped}

@@ -4,8 +4,8 @@ use Rattle.lvm_num.specs.Buffer.{Buffer, Sector}
 use Rattle.lvm_disk.specs.Device.{Media, Flight, Device, written, IsInFlight, IsTorn}
 use Rattle.lvm_disk.specs.Counts.{Counts}
 use Rattle.lvm_disk.specs.Steps.{PutsSome}
-use Rattle.lvm_media.specs.Media.{picks, written_by, cut_by}
-use Rattle.lvm_flights.specs.Flights.{writes}
+use Rattle.lvm_memory.specs.Media.{picks, written_by, cut_by}
+use Rattle.lvm_memory.specs.Flights.{writes}
 
 either : (b : Bool) (o : Option Sector) (x : Sector) → (cond b (unwrap_or o x) x ≡ x) ⊎ (o ≡ Some (cond b (unwrap_or o x) x))
 either false o x = inl refl

@@ -1,5 +1,12 @@
 mod SoundLemmas
 mod DeviceLemmas
-mod FlightsLemmas
+mod DepartureLemmas
 mod StepsLemmas
 mod BenchLemmas
+mod BufferLemmas
+mod PiecesLemmas
+pub mod MediaLemmas
+mod GivenUpLemmas
+pub mod TicketsLemmas
+pub mod FlightsLemmas
+pub mod InjectionLemmas

@@ -1,11 +1,11 @@
 -- A call begins.
 use Rattle.std.proofs.Common.{◌≡◌, ℕ, List, Bool, length, ◌∙◌, ap}
-use Rattle.lvm_faults.specs.Injection.{Injection, due, next_call, begun}
+use Rattle.lvm_memory.specs.Injection.{Injection, due, next_call, begun}
 use Rattle.lvm_num.specs.Buffer.{Sector}
 use Rattle.lvm_disk.specs.Device.{Flight}
-use Rattle.lvm_flights.specs.Tally.{Tallied}
+use Rattle.lvm_memory.specs.Tally.{Tallied}
 use Rattle.lvm_memory.specs.Sound.{IsSound}
-use Rattle.lvm_faults.proofs.InjectionLemmas.{length-after_acts}
+use Rattle.lvm_memory.proofs.InjectionLemmas.{length-after_acts}
 
 -- a call that begins leaves the list of failing disks as long
 pub sound_begun :

@@ -5,14 +5,14 @@ use Rattle.lvm_num.specs.Buffer.{Buffer, Sector}
 use Rattle.lvm_disk.specs.Device.{Media, Flight, Device, AreSectors, written}
 use Rattle.lvm_disk.specs.Counts.{Counts}
 use Rattle.lvm_disk.specs.Steps.{BothTold, Removes, Puts, PutsSome, Reads, ChangedAtMost, EndsDone, EndsFailed, CountsFailure}
-use Rattle.lvm_media.specs.Media.{media_of, sizes_of, written_by}
-use Rattle.lvm_flights.specs.Flights.{AllLie}
-use Rattle.lvm_flights.specs.Tally.{Tallied}
-use Rattle.lvm_faults.specs.Injection.{Injection}
+use Rattle.lvm_memory.specs.Media.{media_of, sizes_of, written_by}
+use Rattle.lvm_memory.specs.Flights.{AllLie}
+use Rattle.lvm_memory.specs.Tally.{Tallied}
+use Rattle.lvm_memory.specs.Injection.{Injection}
 use Rattle.lvm_memory.specs.Sound.{IsSound}
-use Rattle.lvm_flights.proofs.FlightsLemmas.Ending.{removed, lie_less, length-less}
+use Rattle.lvm_memory.proofs.FlightsLemmas.Ending.{removed, lie_less, length-less}
 use Rattle.lvm_memory.proofs.DeviceLemmas.{written_in_part}
-use Rattle.lvm_media.proofs.MediaLemmas.Laying.{length-sizes}
+use Rattle.lvm_memory.proofs.MediaLemmas.Laying.{length-sizes}
 
 as_many : (disks disks1 : List (List Sector)) → sizes_of disks1 ≡ sizes_of disks → length disks1 ≡ length disks
 as_many disks disks1 sizes = sym (length-sizes disks1) ∙ ap (λ (l : List ℕ). length l) sizes ∙ length-sizes disks

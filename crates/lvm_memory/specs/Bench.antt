@@ -4,15 +4,15 @@ use Rattle.std.specs.List.{position, remove, AllByRecursion}
 use Rattle.lvm_num.specs.Buffer.{Sector}
 use Rattle.lvm_disk.specs.Device.{Flight, Range, Device}
 use Rattle.lvm_disk.specs.Steps.{BothTold, Cuts}
-use Rattle.lvm_media.specs.Media.{media_of, sizes_of, cut_by, written_by}
-use Rattle.lvm_flights.specs.Flights.{passed}
-use Rattle.lvm_flights.specs.Tally.{counts_of}
-use Rattle.lvm_flights.specs.Tickets.{IsLeastFree}
-use Rattle.lvm_flights.specs.Log.{logged}
-use Rattle.lvm_faults.specs.Injection.{Injection, begun, cut_planned, fails}
-use Rattle.lvm_faults.specs.declared.injector.Act.{Act}
-use Rattle.lvm_faults.specs.declared.injector.Act.TheVariants.{Delay}
-use Rattle.lvm_faults.specs.declared.injector.Planned.{Planned}
+use Rattle.lvm_memory.specs.Media.{media_of, sizes_of, cut_by, written_by}
+use Rattle.lvm_memory.specs.Flights.{passed}
+use Rattle.lvm_memory.specs.Tally.{counts_of}
+use Rattle.lvm_memory.specs.Tickets.{IsLeastFree}
+use Rattle.lvm_memory.specs.Log.{logged}
+use Rattle.lvm_memory.specs.Injection.{Injection, begun, cut_planned, fails}
+use Rattle.lvm_memory.specs.declared.injector.Act.{Act}
+use Rattle.lvm_memory.specs.declared.injector.Act.TheVariants.{Delay}
+use Rattle.lvm_memory.specs.declared.injector.Planned.{Planned}
 use Rattle.lvm_disk.specs.declared.shelf.Arrange.{Arrange}
 use Rattle.lvm_disk.specs.declared.shelf.Arrange.TheVariants as arrange
 use Rattle.lvm_disk.specs.declared.shelf.Started.{Started}

@@ -1,3 +1,10 @@
 pub mod Bench
 pub mod Memory
 pub mod Sound
+pub mod Media
+pub mod Pieces
+pub mod Flights
+pub mod Tickets
+pub mod Tally
+pub mod Log
+pub mod Injection

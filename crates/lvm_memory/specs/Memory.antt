@@ -2,9 +2,9 @@
 use Rattle.std.specs.Prelude.{List, Some, true}
 use Rattle.lvm_num.specs.Buffer.{Sector}
 use Rattle.lvm_disk.specs.Device.{Device}
-use Rattle.lvm_media.specs.Media.{media_of, sizes_of}
-use Rattle.lvm_flights.specs.Tally.{counts_of}
-use Rattle.lvm_flights.specs.Flights.{flights_of, delays_of}
+use Rattle.lvm_memory.specs.Media.{media_of, sizes_of}
+use Rattle.lvm_memory.specs.Tally.{counts_of}
+use Rattle.lvm_memory.specs.Flights.{flights_of, delays_of}
 use Rattle.lvm_memory.specs.Bench.{Bench}
 use Rattle.lvm_memory.specs.declared.memory.MemShelf.{MemShelf}
 

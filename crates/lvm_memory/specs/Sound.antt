@@ -2,10 +2,10 @@
 use Rattle.std.specs.Prelude.{◌≡◌, ◌≤◌, ℕ, List, Bool, true, false, length}
 use Rattle.lvm_num.specs.Buffer.{Sector}
 use Rattle.lvm_disk.specs.Device.{Flight, AreSectors}
-use Rattle.lvm_media.specs.Media.{media_of, sizes_of}
-use Rattle.lvm_flights.specs.Flights.{AllLie}
-use Rattle.lvm_flights.specs.Tally.{Tallied}
-use Rattle.lvm_faults.specs.Injection.{Injection}
+use Rattle.lvm_memory.specs.Media.{media_of, sizes_of}
+use Rattle.lvm_memory.specs.Flights.{AllLie}
+use Rattle.lvm_memory.specs.Tally.{Tallied}
+use Rattle.lvm_memory.specs.Injection.{Injection}
 
 -- the lists by disk are as long as there are disks, flights lie within their disks, and there is room for all that a cut frees
 pub record IsSound (disks : List (List Sector)) (flights : List Flight) (freed flights_room freed_room : ℕ) (power : Bool) (tally : Tallied) (injection : Injection) : Type 0 where

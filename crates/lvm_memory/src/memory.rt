@@ -1,14 +1,21 @@
 //! A shelf of disks in memory, with faults by plan.
 ghost use Rattle.std.specs.Prelude.{◌≡◌, false, length, replicate, vec_capacity, IfOk};
-ghost use Rattle.lvm_flights.specs.Flights.{flights_of, delays_of, NoDelays};
-ghost use Rattle.lvm_faults.specs.Injection.{NamesDisks};
+ghost use Rattle.lvm_memory.specs.Flights.{flights_of, delays_of, NoDelays};
+ghost use Rattle.lvm_memory.specs.Injection.{NamesDisks};
 ghost use Rattle.lvm_memory.specs.Sound.{IsSound};
 ghost use Rattle.std.proofs.Props.{props};
 
+use crate::cutting::cut_flights;
+use crate::disk::Disk;
+use crate::flying::Flying;
+use crate::injector::{Injector, Planned};
+use crate::making::{blank_disks, image_disks};
+use crate::queue::{first_due, free_ticket, pass_over, take_flight};
+use crate::room::rooms;
+use crate::row::{finish_flight, tear_flight};
+use crate::tally::Tally;
+use crate::write_log::WriteLog;
 use lvm_disk::{Arrange, Reaped, Shelf, Started};
-use lvm_faults::{Injector, Planned};
-use lvm_flights::{Flying, Tally, WriteLog, first_due, free_ticket, pass_over, rooms, take_flight};
-use lvm_media::{Disk, blank_disks, cut_flights, finish_flight, image_disks, tear_flight};
 use lvm_num::{Memory, Pbuf, Rows};
 use std::alloc::Global;
 
@@ -38,8 +45,8 @@ impl MemShelf {
     ghost use Rattle.std.specs.Prelude.{◌≡◌, ◌⊎◌, ◌<◌, ◌≤◌, ◌%◌, ◌==◌, true, false, [], length, map, slice_index_or, Some, None, IfOk};
     ghost use Rattle.std.specs.List.{All, flat_map, position};
     ghost use Rattle.lvm_disk.specs.Device.{AreSectors};
-    ghost use Rattle.lvm_media.specs.Media.{media_of, sizes_of, blank_disks_of, sectors_in};
-    ghost use Rattle.lvm_faults.specs.Injection.{NamesDisks};
+    ghost use Rattle.lvm_memory.specs.Media.{media_of, sizes_of, blank_disks_of, sectors_in};
+    ghost use Rattle.lvm_memory.specs.Injection.{NamesDisks};
     ghost use Rattle.lvm_memory.specs.Memory.{disks_of, device_of, bench_of};
     ghost use Rattle.lvm_disk.specs.Steps.{IsRange, Starts, StartGives, Waits, ReapGives};
     ghost use Rattle.lvm_memory.specs.Bench.{fresh_bench, with_plan, DarkensBy, Begins, Departs, StartsAsPlanned, Passes, ReapsThen, ReapsAsPlanned};

@@ -26,7 +26,7 @@ use Rattle.lvm_session.specs.Enabled.{can_pin, is_pin, may_pin, pinning, pinning
 use Rattle.lvm_session.specs.Events.{Pins}
 use Rattle.lvm_session.specs.Sound.{IsGoing, pins}
 use Rattle.lvm_session.specs.Worked.{faultless}
-use Rattle.lvm_firsts.proofs.SpansLemmas.{first_due, narrowed, none_due}
+use Rattle.lvm_due.proofs.SpansLemmas.{first_due, narrowed, none_due}
 use Rattle.lvm_due.specs.declared.due.Due.{Due}
 use Rattle.lvm_due.specs.Due.{IsDue}
 use Rattle.lvm_moves.specs.Pinning.{PinGives, PinsAt}

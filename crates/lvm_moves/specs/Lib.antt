@@ -1,3 +1,9 @@
 pub mod passed
 pub mod Moving
 pub mod Pinning
+pub mod Choosing
+pub mod Entered
+pub mod Starts
+pub mod Updating
+pub mod Ready
+pub mod Launching

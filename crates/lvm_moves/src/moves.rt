@@ -8,15 +8,14 @@ ghost use Rattle.lvm_session.specs.Fields.{core_of};
 ghost use Rattle.lvm_session.specs.Rooms.{SameRooms};
 ghost use Rattle.lvm_session.specs.Sound.{IsGoing};
 ghost use Rattle.lvm_due.specs.Due.{IsDue};
-ghost use Rattle.lvm_admit.specs.Choosing.{MayChoose};
+ghost use Rattle.lvm_moves.specs.Choosing.{MayChoose};
 ghost use Rattle.lvm_moves.specs.Moving.{FirstGives};
 
+use crate::admit::admit_at;
+use crate::land::land_at;
 use crate::pins::pin_first;
-use lvm_admit::admit_at;
 use lvm_disk::Shelf;
-use lvm_due::{Due, holds_pin, is_quiet};
-use lvm_firsts::{first_admission, first_landing};
-use lvm_land::land_at;
+use lvm_due::{Due, first_admission, first_landing, holds_pin, is_quiet};
 use lvm_session::{Event, Session};
 use lvm_vol::Outcome;
 

@@ -10,9 +10,8 @@ ghost use Rattle.lvm_session.specs.Sound.{IsGoing};
 ghost use Rattle.lvm_due.specs.Due.{IsDue};
 ghost use Rattle.lvm_moves.specs.Pinning.{PinGives, PinsAt};
 
-use lvm_admit::below::group_of;
-use lvm_due::Due;
-use lvm_firsts::{might_pin, next_at};
+use crate::below::group_of;
+use lvm_due::{Due, might_pin, next_at};
 use lvm_mwc::Pin;
 use lvm_path::Next;
 use lvm_session::{Open, Session};

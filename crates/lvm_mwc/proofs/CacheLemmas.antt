@@ -107,7 +107,7 @@ pub not_ended : (s : Cached) (disk : ℕ) (ok : Bool) → position (is_of_disk d
 not_ended s disk ok at = ap (cached s.entries) (sym ((none_at (is_of_disk disk) s.notes at).changed (ended ok)))
 
 -- its disk stays
-ended_on : (ok : Bool) (n : DiskNotes) → (ended ok n).disk ≡ n.disk
+pub ended_on : (ok : Bool) (n : DiskNotes) → (ended ok n).disk ≡ n.disk
 ended_on ok n = by n.flight
   where
     by : (flight : Option (ArrayVec NoteEntry)) → (option_map_or (λ (f : ArrayVec NoteEntry). record n { written = record { items = ended_as ok n.written.items f.items }; flight = None }) flight n).disk ≡ n.disk

@@ -1,16 +1,12 @@
 -- The first element that passes a test: where it stands, and the list without it or with it changed.
 use Rattle.std.proofs.Common.{◌≡◌, ◌<◌, ◌≤◌, ◌+◌, ◌||◌, not, option_map, count_by, ℕ, zero, suc, List, [], ◌∷◌, Some, None, Option, Bool, true, false, cond, nat_lt, length, get_or, set, refl, sym, ◌∙◌, ap, arith}
-use Rattle.std.specs.List.{list_any, find, position, position_or_len, remove}
+use Rattle.std.specs.List.{list_any, find, position, position_or_len, remove, All}
 use Rattle.std.proofs.lemmas.Bool.{ltb-false, or_parts}
 use Rattle.std.proofs.lemmas.List.Quantifiers.{position-Some}
 use Rattle.std.proofs.lemmas.List.Sums.{fails_before_first, count_by-le-length, sum_by-cons}
-use Rattle.std.specs.List.{All}
 use Rattle.std.proofs.lemmas.List.Elements.{All-cons, All-head, All-tail}
+use Rattle.lvm_num.proofs.Booleans.{none_if}
 use Rattle.lvm_mwc.specs.Firsts.{without_first, with_first}
-
-past_end : (test : Bool) (n : ℕ) → cond test (Some n) None ≡ None → test ≡ false
-past_end false n is = refl
-past_end true n is = cc
 
 module _ {X : Type 0} where
   -- the first that passes stands at k
@@ -71,7 +67,7 @@ module _ {X : Type 0} where
   pub none_at : (p : X → Bool) (xs : List X) → position p xs ≡ None → NonePasses p xs
   none_at p xs is =
       let n = position_or_len p xs in
-      let past : length xs ≤ n = ltb-false n (length xs) (past_end (nat_lt n (length xs)) n is) in
+      let past : length xs ≤ n = ltb-false n (length xs) (none_if (nat_lt n (length xs)) n is) in
       none_passes p xs (no_any p xs (λ j d below. fails_before_first p xs j d (omega arith)))
 
   -- how many fail

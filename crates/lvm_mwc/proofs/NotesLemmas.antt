@@ -7,6 +7,7 @@ use Rattle.std.proofs.lemmas.List.{append-nil}
 use Rattle.std.proofs.lemmas.Option.{same_Some, none-some}
 use Rattle.lvm_num.specs.declared.record.NoteEntry.{NoteEntry}
 use Rattle.lvm_num.specs.Disks.{has}
+use Rattle.lvm_num.proofs.Lists.{not_nil}
 use Rattle.arrayvec.specs.ArrayVec.{ArrayVec}
 use Rattle.lvm_mwc.specs.declared.entries.CacheEntry.{CacheEntry}
 use Rattle.lvm_mwc.specs.declared.notes.DiskNotes.{DiskNotes}
@@ -16,7 +17,7 @@ use Rattle.lvm_mwc.specs.Notes.{is_of_disk, names_group, both_name, common, MayS
 use Rattle.lvm_mwc.specs.Cache.{Cached, IsNew, notes_on, is_named, no_notes, after_start, after_end, started, ended}
 use Rattle.lvm_mwc.specs.Runs.{Call, Pins, Unpins, StartsNote, NoteEnds, after, after_all, IsPinnedBefore, Sectors, no_sectors, sectors_ended, sectors_in, sectors_after, Knows}
 use Rattle.lvm_mwc.proofs.FirstsLemmas.{find-with, find-with_other}
-use Rattle.lvm_mwc.proofs.CacheLemmas.{notes_of}
+use Rattle.lvm_mwc.proofs.CacheLemmas.{notes_of, ended_on}
 use Rattle.lvm_mwc.proofs.EntriesLemmas.Pins.{note-names, pinned_is_there}
 
 -- ---- what two notes share
@@ -59,9 +60,6 @@ ended_there : (ok : Bool) (flight : Option (ArrayVec NoteEntry)) (disk : ℕ) (w
 ended_there ok None disk written = refl
 ended_there ok (Some f) disk written = refl
 
-ended_stays : (ok : Bool) (n : DiskNotes) → (ended ok n).disk ≡ n.disk
-ended_stays ok n = ended_there ok n.flight n.disk n.written
-
 -- ---- what is named stays named
 
 abbrev named_in : ℕ → ℕ → Option DiskNotes → Bool
@@ -91,8 +89,8 @@ named_after_start true c d disk lv group same there named = ap (named_in lv grou
 named_after_start false c d disk lv group other there named = ap (named_in lv group) (on_other c d disk (started c.entries) (λ n. refl) other) ∙ named
 
 named_after_end : (own : Bool) (c : Cached) (d disk : ℕ) (ok : Bool) (lv group : ℕ) → (d == disk) ≡ own → is_named c disk lv group ≡ true → is_named (after_end c d ok) disk lv group ≡ true
-named_after_end true c d disk ok lv group same named = ap (named_in lv group) (on_same c d disk (ended ok) (ended_stays ok) same) ∙ named_ended ok lv group (notes_on c disk) named
-named_after_end false c d disk ok lv group other named = ap (named_in lv group) (on_other c d disk (ended ok) (ended_stays ok) other) ∙ named
+named_after_end true c d disk ok lv group same named = ap (named_in lv group) (on_same c d disk (ended ok) (ended_on ok) same) ∙ named_ended ok lv group (notes_on c disk) named
+named_after_end false c d disk ok lv group other named = ap (named_in lv group) (on_other c d disk (ended ok) (ended_on ok) other) ∙ named
 
 named_after : (c : Cached) (call : Call) (disk lv group : ℕ) → 0 < pins_of c.entries lv group → is_named c disk lv group ≡ true → is_named (after c call) disk lv group ≡ true
 named_after c (Pins l g) disk lv group pinned named = named_after_pin (are_all_pinned c.entries l g) c l g disk lv group named
@@ -129,10 +127,6 @@ all-push : {X : Type 0} (p : X → Bool) (xs : List X) (x : X) → list_all p (x
 all-push p [] x = sym (and_true (p x))
 all-push p (y ∷ ys) x = ap (λ (b : Bool). p y && b) (all-push p ys x) ∙ and_turn (p y) (list_all p ys) (p x)
 
-not_nil : {X : Type 0} (xs : List X) (x : X) → xs ++ x ∷ [] ≡ [] → ⊥
-not_nil [] x is = cc
-not_nil (y ∷ ys) x is = cc
-
 tracks_ended_of : (ok : Bool) (flight : Option (ArrayVec NoteEntry)) (disk : ℕ) (written : ArrayVec NoteEntry) (last : List NoteEntry) (failed : List (List NoteEntry))
     → ((lv group : ℕ) → names_group written.items lv group ≡ list_all (λ (sector : List NoteEntry). names_group sector lv group) (last ∷ failed)) → (failed ≡ [] → written.items ≡ last)
     → Tracks (ended ok (notes_of disk written flight)) (sectors_ended ok (record { last = last; failed = failed; flight = option_map (λ (note : ArrayVec NoteEntry). note.items) flight }))
@@ -166,12 +160,12 @@ tracks_start false c d disk s other on = record {
 tracks_end : (own : Bool) (c : Cached) (d disk : ℕ) (ok : Bool) (s : Sectors) → (d == disk) ≡ own → TracksOn c disk s → TracksOn (after_end c d ok) disk (cond own (sectors_ended ok s) s)
 tracks_end true c d disk ok s same on = record {
   notes = ended ok on.notes;
-  there = on_same c d disk (ended ok) (ended_stays ok) same ∙ ap (option_map (ended ok)) on.there;
+  there = on_same c d disk (ended ok) (ended_on ok) same ∙ ap (option_map (ended ok)) on.there;
   tracks = tracks_ended ok on.notes s on.tracks;
 }
 tracks_end false c d disk ok s other on = record {
   notes = on.notes;
-  there = on_other c d disk (ended ok) (ended_stays ok) other ∙ on.there;
+  there = on_other c d disk (ended ok) (ended_on ok) other ∙ on.there;
   tracks = on.tracks;
 }
 

@@ -1,7 +1,7 @@
 -- The front of a list, and of bytes in blocks of 512, with one more.
-use Rattle.std.proofs.Common.{◌≡◌, ◌+◌, ◌*◌, ◌≤◌, ◌++◌, ◌∷◌, [], ℕ, zero, suc, List, Some, length, take, drop, slice_get, refl, ◌∙◌, ap, arith, length-drop}
+use Rattle.std.proofs.Common.{◌≡◌, ◌+◌, ◌*◌, ◌≤◌, ◌++◌, ◌∷◌, [], ℕ, zero, suc, List, Some, length, take, drop, slice_get, ◌∙◌, ap, arith, length-drop}
 use Rattle.std.specs.Simd.{first_chunks}
-use Rattle.std.proofs.lemmas.List.{take_all, take-append-le, drop-append-le}
+use Rattle.std.proofs.lemmas.List.{take_all, take-append-le, drop-append-le, nil_from_length}
 
 -- one more of a list's front
 pub suc_front : {X : Type 0} (xs : List X) (k : ℕ) (x : X) → slice_get xs k ≡ Some x → take (suc k) xs ≡ take k xs ++ x ∷ []
@@ -9,14 +9,10 @@ suc_front [] k x is = absurd (cc (is))
 suc_front (y ∷ xs) zero x is = cc
 suc_front (y ∷ xs) (suc k) x is = ap (λ (l : List _). y ∷ l) (suc_front xs k x is)
 
-none_left : {X : Type 0} (xs : List X) → length xs ≡ 0 → xs ≡ []
-none_left [] is = refl
-none_left (x ∷ xs) is = absurd (omega (arith, is))
-
 -- one more chunk of bytes
 pub suc_chunks : (k : ℕ) (bytes more : List ℕ) → length bytes ≡ 512 * k → length more ≡ 512 → first_chunks 512 (suc k) (bytes ++ more) ≡ first_chunks 512 k bytes ++ more ∷ []
 suc_chunks zero bytes more long one =
-    let empty : bytes ≡ [] = none_left bytes (omega (arith, long)) in
+    let empty : bytes ≡ [] = nil_from_length bytes (omega (arith, long)) in
     ap (λ (l : List ℕ). first_chunks 512 1 (l ++ more)) empty ∙ ap (λ (l : List ℕ). l ∷ []) (take_all 512 more (omega (arith, one)))
 suc_chunks (suc k) bytes more long one =
     let enough : 512 ≤ length bytes = omega (arith, long) in

@@ -4,6 +4,7 @@ pub mod DescriptorLemmas
 pub mod DisksLemmas
 pub mod TornLemmas
 pub mod Fronts
+pub mod Lists
 pub mod AmongLemmas
 pub mod MarksLemmas
 pub mod NameLemmas

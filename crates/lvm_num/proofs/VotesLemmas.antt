@@ -2,7 +2,7 @@
 use Rattle.std.proofs.Common.{◌≡◌, ◌≢◌, ◌⊎◌, inl, inr, ℕ, suc, ◌+◌, ◌*◌, ◌<◌, ◌≤◌, Bool, true, false, ◌||◌, List, [], ◌∷◌, length, get_or, take, refl, sym, ap, subst, ◌∙◌, arith}
 use Rattle.std.specs.Prelude.{◌==◌, IsTrue, nat_lt, nat_le, if◌then◌else◌, sum_by, All, AllPairs}
 use Rattle.std.specs.List.{list_any}
-use Rattle.std.proofs.lemmas.Bool.{false≢true, eq-eqb, eqb-true, or_parts}
+use Rattle.std.proofs.lemmas.Bool.{false≢true, eq-eqb, eqb-true, or_parts, ne_eqb}
 use Rattle.std.proofs.lemmas.Bool.Decides.{nat_tests}
 use Rattle.std.proofs.lemmas.List.Elements.{All-head, All-tail}
 use Rattle.std.proofs.lemmas.List.Folds.{list_any_at}
@@ -11,6 +11,7 @@ use Rattle.lvm_num.specs.declared.descriptor.PvRow.{PvRow}
 use Rattle.lvm_num.specs.declared.descriptor.Descriptor.{Descriptor}
 use Rattle.lvm_num.specs.Disks.{Disks}
 use Rattle.lvm_num.specs.Votes.{votes_by, votes_of, votes_in, all_disks, total_votes, ShareMember, ReadMeetsWrite, ReadMeetsRead, WriteMeetsWrite, ReadIsWrite, MoreHaveMore, MoreIsEnough}
+use Rattle.lvm_num.proofs.Booleans.{same_itself}
 
 -- ---- two sets whose votes together are more than all
 
@@ -61,12 +62,6 @@ pub leaves : (b : Bool) (m n : ℕ) → b ≡ false → ◌≡◌ {A = ℕ} (if 
 leaves true m n e = absurd (false≢true (sym e))
 leaves false m n e = refl
 
-itself : (n : ℕ) → n == n ≡ true
-itself n = eq-eqb n n refl
-
-others : (m n : ℕ) → m ≢ n → m == n ≡ false
-others m n apart = grind (arith, nat_tests)
-
 -- a disk that is no member has none
 pub votes_by-none : (even : Bool) (rows : List PvRow) (disk : ℕ) → list_any (λ (row : PvRow). row.disk == disk) rows ≡ false → votes_by even rows disk ≡ 0
 unfolding votes_by
@@ -100,8 +95,8 @@ votes_by-other even (only ∷ []) e disk is (inl apart) = absurd (apart (eqb-tru
 votes_by-other even (only ∷ []) e disk is (inr (inl many)) = absurd (omega (arith, many))
 votes_by-other even (only ∷ []) e disk is (inr (inr both)) = absurd (omega (arith, both.1))
 votes_by-other even (a ∷ b ∷ []) e disk is (inl apart) =
-    leaves (a.disk == disk) (if even then 1 else 2) (if b.disk == disk then 1 else 0) (others a.disk disk apart)
-    ∙ picks (b.disk == disk) 1 0 (second (a.disk == disk) (b.disk == disk) (others a.disk disk apart) is)
+    leaves (a.disk == disk) (if even then 1 else 2) (if b.disk == disk then 1 else 0) (ne_eqb a.disk disk apart)
+    ∙ picks (b.disk == disk) 1 0 (second (a.disk == disk) (b.disk == disk) (ne_eqb a.disk disk apart) is)
   where
     second : (p q : Bool) → p ≡ false → p || (q || false) ≡ true → q ≡ true
     second true q none h = absurd (false≢true (sym none))
@@ -139,11 +134,11 @@ votes_by-many even (a ∷ b ∷ c ∷ rows) disk many is = picks (list_any (λ (
 
 first-votes : (even : Bool) (row : PvRow) (rows : List PvRow) → 1 ≤ votes_by even (row ∷ rows) row.disk
 unfolding votes_by
-first-votes even row [] = omega (arith, picks (row.disk == row.disk) 2 0 (itself row.disk))
-first-votes true row (second ∷ []) = omega (arith, picks (row.disk == row.disk) 1 (if second.disk == row.disk then 1 else 0) (itself row.disk))
-first-votes false row (second ∷ []) = omega (arith, picks (row.disk == row.disk) 2 (if second.disk == row.disk then 1 else 0) (itself row.disk))
+first-votes even row [] = omega (arith, picks (row.disk == row.disk) 2 0 (same_itself row.disk))
+first-votes true row (second ∷ []) = omega (arith, picks (row.disk == row.disk) 1 (if second.disk == row.disk then 1 else 0) (same_itself row.disk))
+first-votes false row (second ∷ []) = omega (arith, picks (row.disk == row.disk) 2 (if second.disk == row.disk then 1 else 0) (same_itself row.disk))
 first-votes even row (second ∷ third ∷ rows) =
-    omega (arith, votes_by-many even (row ∷ second ∷ third ∷ rows) row.disk (omega arith) (list_any_at (λ (r : PvRow). r.disk == row.disk) (row ∷ second ∷ third ∷ rows) 0 row (omega arith) (itself row.disk)))
+    omega (arith, votes_by-many even (row ∷ second ∷ third ∷ rows) row.disk (omega arith) (list_any_at (λ (r : PvRow). r.disk == row.disk) (row ∷ second ∷ third ∷ rows) 0 row (omega arith) (same_itself row.disk)))
 
 -- ---- the votes of all
 
@@ -172,21 +167,21 @@ total_by even rows = sum_by (counted (votes_by even rows) all_disks) rows
 pub total-many : (even : Bool) (rows : List PvRow) → 3 ≤ length rows → sum_by (counted (votes_by even rows) all_disks) rows ≡ length rows
 total-many even rows many = sum-ones (counted (votes_by even rows) all_disks) rows (λ k row lt.
     let disk = (get_or rows k row).disk in
-    votes_by-many even rows disk many (list_any_at (λ (r : PvRow). r.disk == disk) rows k row lt (itself disk)))
+    votes_by-many even rows disk many (list_any_at (λ (r : PvRow). r.disk == disk) rows k row lt (same_itself disk)))
 
 pub total-one : (even : Bool) (row : PvRow) → sum_by (counted (votes_by even (row ∷ [])) all_disks) (row ∷ []) ≡ 2
 unfolding votes_by
-total-one even row = omega (arith, picks (row.disk == row.disk) 2 0 (itself row.disk))
+total-one even row = omega (arith, picks (row.disk == row.disk) 2 0 (same_itself row.disk))
 
 pub total-two : (even : Bool) (a b : PvRow) → a.disk ≢ b.disk → sum_by (counted (votes_by even (a ∷ b ∷ [])) all_disks) (a ∷ b ∷ []) ≡ (if even then 2 else 3)
 unfolding votes_by
 total-two true a b apart =
-    let first = picks (a.disk == a.disk) 1 (if b.disk == a.disk then 1 else 0) (itself a.disk) in
-    let second = leaves (a.disk == b.disk) 1 (if b.disk == b.disk then 1 else 0) (others a.disk b.disk apart) ∙ picks (b.disk == b.disk) 1 0 (itself b.disk) in
+    let first = picks (a.disk == a.disk) 1 (if b.disk == a.disk then 1 else 0) (same_itself a.disk) in
+    let second = leaves (a.disk == b.disk) 1 (if b.disk == b.disk then 1 else 0) (ne_eqb a.disk b.disk apart) ∙ picks (b.disk == b.disk) 1 0 (same_itself b.disk) in
     omega (arith, first, second)
 total-two false a b apart =
-    let first = picks (a.disk == a.disk) 2 (if b.disk == a.disk then 1 else 0) (itself a.disk) in
-    let second = leaves (a.disk == b.disk) 2 (if b.disk == b.disk then 1 else 0) (others a.disk b.disk apart) ∙ picks (b.disk == b.disk) 1 0 (itself b.disk) in
+    let first = picks (a.disk == a.disk) 2 (if b.disk == a.disk then 1 else 0) (same_itself a.disk) in
+    let second = leaves (a.disk == b.disk) 2 (if b.disk == b.disk then 1 else 0) (ne_eqb a.disk b.disk apart) ∙ picks (b.disk == b.disk) 1 0 (same_itself b.disk) in
     omega (arith, first, second)
 
 -- ---- what is enough

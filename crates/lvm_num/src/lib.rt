@@ -7,7 +7,6 @@ mod bits;
 mod clones;
 mod descriptor;
 mod disks;
-pub mod laws;
 mod listed;
 mod name;
 mod numbers;

@@ -1,2 +1,5 @@
 pub mod ReadingLemmas
 pub mod LineLemmas
+mod WordsLemmas
+pub mod OptionsLemmas
+pub mod OptionsReadingLemmas

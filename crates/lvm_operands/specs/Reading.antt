@@ -4,7 +4,7 @@ use Rattle.std.specs.List.{list_any}
 use Rattle.lvm_operands.specs.declared.range.BlockRange.{BlockRange}
 use Rattle.lvm_operands.specs.declared.rest.Misfit.{Misfit}
 use Rattle.lvm_operands.specs.Line.{WordAt, Left}
-use Rattle.lvm_literals.specs.Words.{only, number_in, count_in, disk_in}
+use Rattle.lvm_operands.specs.Words.{only, number_in, count_in, disk_in}
 
 -- the words from a column on don't fit
 abbrev pub misfit : {T : Type 0} → ℕ → Result T Misfit

@@ -6,8 +6,8 @@ ghost use Rattle.lvm_operands.specs.Rests.{left};
 use crate::operands::misfit;
 use crate::rest::{Misfit, Rest};
 use crate::scan::next_word;
+use crate::words::disk_of;
 use arrayvec::ArrayVec;
-use lvm_literals::disk_of;
 
 const MOST_DISKS: usize = 128;
 

@@ -1,12 +1,12 @@
 //! The next word of a line: an operand, an option that stands alone, or none.
 ghost use Rattle.std.specs.Prelude.{◌≡◌, [], MatchResult};
-ghost use Rattle.lvm_literals.specs.Words.{disk_in, number_in, count_in, word_in, name_in, partition_count_in, turns_in, size_in, copy_count_in, mode_in, policy_in};
+ghost use Rattle.lvm_operands.specs.Words.{disk_in, number_in, count_in, word_in, name_in, partition_count_in, turns_in, size_in, copy_count_in, mode_in, policy_in};
 ghost use Rattle.lvm_operands.specs.Reading.{next_column, is_next, operand, option, ends, last};
 ghost use Rattle.lvm_operands.specs.Rests.{left, word_at, with_word, fitted, Reads};
 
 use crate::rest::{Misfit, Rest, Word};
 use crate::scan::next_word;
-use lvm_literals::{
+use crate::words::{
     copy_count_of, count_of, disk_of, hex_word, mode_of, name_of, number_of, partition_count_of,
     policy_of, size_of, turns_of,
 };

@@ -10,8 +10,7 @@ use crate::rules::{
     cut, fail, heal, lslv, lspv, lsvg, mklv, mklvcopy, mkvg, post, rd, rmlv, rmlvcopy, step,
     syncvg, varyoffvg, varyonvg, wait, wr,
 };
-use lvm_literals::{is_remark, unreadable_at};
-use lvm_operands::{Misfit, Rest, Word, misfit, next_word};
+use lvm_operands::{Misfit, Rest, Word, is_remark, misfit, next_word, unreadable_at};
 use std::alloc::Global;
 
 // What a line asks for whose first word this is, where it is one of those of disks.

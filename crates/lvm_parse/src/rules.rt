@@ -7,11 +7,10 @@ ghost use Rattle.lvm_parse.specs.Answering.{Answers};
 use crate::command::{Command, ParseFault};
 use lvm_num::{Mode, Policy, Rows};
 use lvm_operands::{
-    Misfit, Rest, blocks, disk, disks, ends, is_disk_next, last_blocks, last_copies, last_disk,
-    last_name, last_partitions, last_pattern, last_turns, misfit, name, next_column, next_word,
-    option,
+    Misfit, MklvOptions, MkvgOptions, Rest, blocks, disk, disks, ends, is_disk_next, last_blocks,
+    last_copies, last_disk, last_name, last_partitions, last_pattern, last_turns, misfit,
+    mklv_options, mkvg_options, name, next_column, next_word, option,
 };
-use lvm_options::{MklvOptions, MkvgOptions, mklv_options, mkvg_options};
 use std::alloc::Global;
 
 // `rd DISK BLOCK COUNT`

@@ -1,5 +1,5 @@
 -- Buffers at the places of their numbers.
-use Rattle.std.proofs.Common.{◌≡◌, ◌<◌, ◌≤◌, ◌+◌, ◌⊎◌, ℕ, zero, suc, List, [], ◌∷◌, ◌++◌, Option, Some, None, Bool, true, false, not, cond, nat_lt, is_some, is_none, option_map, IfSome, map, length, get_or, set, replicate, refl, sym, ◌∙◌, ap, inl, inr, arith}
+use Rattle.std.proofs.Common.{◌≡◌, ◌<◌, ◌≤◌, ◌+◌, ◌⊎◌, ℕ, zero, suc, List, [], ◌∷◌, ◌++◌, Option, Some, None, Bool, true, false, not, nat_lt, is_some, is_none, option_map, IfSome, map, length, get_or, set, replicate, refl, sym, ◌∙◌, ap, inl, inr, arith}
 use Rattle.std.specs.List.{list_any, position, position_or_len, slice_get}
 use Rattle.std.proofs.lemmas.Option.{same_Some, none-some, get_or_from_slice_get, slice_get-map, slice_get-get_or, slice_get_within}
 use Rattle.std.proofs.lemmas.List.{length-append, map-append, replicate-append-replicate}
@@ -9,6 +9,7 @@ use Rattle.std.proofs.lemmas.List.Sums.{fails_before_first}
 use Rattle.std.proofs.lemmas.Bool.{ltb-false}
 use Rattle.std.proofs.Math.ListN.{length-set}
 use Rattle.lvm_num.specs.Buffer.{Buffer}
+use Rattle.lvm_num.proofs.Booleans.{none_if}
 use Rattle.lvm_pbuf.specs.Out.{TakesLowest, AreAllOut}
 use Rattle.lvm_pbuf.specs.Places.{IsAtHome}
 
@@ -32,11 +33,6 @@ in_of : (place : Option Buffer) → is_some place ≡ true → is_none place ≡
 in_of (Some buf) is = refl
 in_of None is = cc
 
--- no place passes
-none_passes : (test : Bool) (n : ℕ) → cond test (Some n) None ≡ None → test ≡ false
-none_passes false n is = refl
-none_passes true n is = cc
-
 pub any_inside : (places : List (Option Buffer)) → list_any is_some places ≡ list_any not (map is_none places)
 any_inside [] = refl
 any_inside (Some buf ∷ places) = refl
@@ -45,7 +41,7 @@ any_inside (None ∷ places) = any_inside places
 pub all_out : (places : List (Option Buffer)) → position is_some places ≡ None → AreAllOut (map is_none places)
 all_out places is =
     let n = position_or_len is_some places in
-    let past : length places ≤ n = ltb-false n (length places) (none_passes (nat_lt n (length places)) n is) in
+    let past : length places ≤ n = ltb-false n (length places) (none_if (nat_lt n (length places)) n is) in
     All-map (λ out. out ≡ true) is_none places (λ k d within. out_of (get_or places k d) (fails_before_first is_some places k d (omega arith)))
 
 -- the lowest number that is in

@@ -5,6 +5,7 @@ use Rattle.std.specs.List.{list_any, AllByRecursion}
 use Rattle.std.specs.Option.{option_or}
 use Rattle.std.proofs.lemmas.Bool.{eqb-true, ne_eqb}
 use Rattle.std.proofs.lemmas.List.{append-nil}
+use Rattle.lvm_num.proofs.Booleans.{not_so}
 use Rattle.lvm_disk.specs.Device.{Device}
 use Rattle.lvm_kept.specs.Moments.{Moment}
 use Rattle.lvm_steps.specs.Moments.{Keeps}
@@ -24,7 +25,7 @@ use Rattle.lvm_session.specs.declared.open.Open.{Open}
 use Rattle.lvm_session.specs.Calls.{is_asked}
 use Rattle.lvm_session.specs.Requests.{IsLanded}
 use Rattle.lvm_session.specs.Sound.{IsAsked, outcome_by, outcome_in}
-use Rattle.lvm_keeps.proofs.Small.{both, not_so}
+use Rattle.lvm_keeps.proofs.Small.{both}
 use Rattle.lvm_posts.specs.declared.asked.Asked.{Asked}
 use Rattle.lvm_posts.specs.declared.fault.RangeFault.{RangeFault}
 use Rattle.lvm_posts.specs.Posts.{AreAnswered, OverSessionsHaveAnswered, landing_by, takings}

@@ -5,7 +5,7 @@ ghost use Rattle.lvm_posts.specs.Pieces.{IsLaidOut, filled, piece_lp};
 
 use crate::asked::Asked;
 use lvm_num::fill;
-use lvm_raw::below::append;
+use lvm_raw::append;
 
 // A piece ends at a multiple of so many blocks.
 const GROUP: u64 = 256;

@@ -8,7 +8,7 @@ use Rattle.lvm_memory.specs.declared.memory.MemShelf.{MemShelf}
 use Rattle.lvm_program.specs.Program.{OnDrawn, OnScript, OnSim, OnText, IsGenerated, IsUnrun}
 use Rattle.lvm_top.specs.Run.{Promises, ran}
 use Rattle.lvm_top.specs.Script.{Stream}
-use Rattle.lvm_draws.proofs.ScriptLemmas.Growing.{front_at_first}
+use Rattle.lvm_load.proofs.ScriptLemmas.Growing.{front_at_first}
 use Rattle.lvm_top.specs.declared.run.Ended.{Ended}
 use Rattle.lvm_top.specs.declared.status.ExitStatus.{ExitStatus}
 use Rattle.lvm_top.specs.declared.status.ExitStatus.TheVariants as ended
@@ -16,9 +16,9 @@ use Rattle.lvm_top.proofs.RunLemmas.Stopping.{nothing_promised}
 use Rattle.lvm_words.specs.declared.job.Job.{Job}
 use Rattle.lvm_words.specs.declared.job.Job.TheVariants.{Script, Sim, Gen, Weave, Image, Help, Version}
 use Rattle.lvm_words.specs.Words.{bounded, gen_of, image_of, job_of, sim_of, told_of, told_or, weave_by, weave_of, with_five, with_two, work_of}
-use Rattle.lvm_literals.specs.Words.{number_in}
-use Rattle.lvm_language.specs.declared.fault.WordsFault.{WordsFault}
-use Rattle.lvm_language.specs.declared.fault.WordsFault.TheVariants.{Usage}
+use Rattle.lvm_operands.specs.Words.{number_in}
+use Rattle.lvm_words.specs.declared.fault.WordsFault.{WordsFault}
+use Rattle.lvm_words.specs.declared.fault.WordsFault.TheVariants.{Usage}
 
 -- what always holds, holds where the words ask for a script over the files
 pub on_script : (asked : Result Job WordsFault) (P : Type 0) → P → OnScript asked P

@@ -4,13 +4,13 @@ use Rattle.std.proofs.lemmas.List.{get_or-replicate, length-replicate}
 use Rattle.std.specs.Prelude.{slice_index_or}
 use Rattle.lvm_num.specs.Buffer.{Sector, zero_sector}
 use Rattle.lvm_disk.specs.Device.{Device, image_of}
-use Rattle.lvm_media.specs.Media.{media_of, sizes_of, blank_disks_of}
+use Rattle.lvm_memory.specs.Media.{media_of, sizes_of, blank_disks_of}
 use Rattle.lvm_kept.specs.Changes.{IsBlank}
 use Rattle.lvm_core.specs.declared.parts.Room.{Room}
 use Rattle.lvm_steps.specs.Moments.{IsEarlier, IsUpheld}
 use Rattle.lvm_steps.proofs.MomentsLemmas.Zeros.{blank_is_earlier}
-use Rattle.lvm_stamps.specs.Behind.{IsBehind}
-use Rattle.lvm_stamps.proofs.LawsLemmas.Records.{blank_is_behind}
+use Rattle.lvm_steps.specs.Behind.{IsBehind}
+use Rattle.lvm_steps.proofs.LawsLemmas.Records.{blank_is_behind}
 use Rattle.lvm_top.specs.Blank.{IsToldBlank}
 use Rattle.lvm_top.specs.Standing.{HasFewDisks}
 use Rattle.lvm_top.specs.Run.{Run, Promises, WhereAlone}

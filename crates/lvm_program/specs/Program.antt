@@ -2,7 +2,7 @@
 use Rattle.std.specs.Prelude.{◌≡◌, ◌⊎◌, ◌++◌, ℕ, List, [], Option, Some, None, Result, Ok, Err, codes}
 use Rattle.lvm_io.specs.Count.{Rose, next_count}
 use Rattle.lvm_io.specs.Stream.{WhereTold, WritesFront}
-use Rattle.lvm_draws.specs.Script.{script_text}
+use Rattle.lvm_load.specs.Script.{script_text}
 use Rattle.lvm_program.specs.Blank.{blank_image}
 use Rattle.lvm_steps.specs.Moments.{ImagesKept, IsUpheld}
 use Rattle.lvm_vol.specs.Facts.{joined}
@@ -16,7 +16,7 @@ use Rattle.lvm_top.specs.declared.status.ExitStatus.{ExitStatus}
 use Rattle.lvm_top.specs.declared.status.ExitStatus.TheVariants as ended
 use Rattle.lvm_words.specs.declared.job.Job.{Job}
 use Rattle.lvm_words.specs.declared.job.Job.TheVariants.{Script, Sim, Gen, Weave, Image, Help, Version}
-use Rattle.lvm_language.specs.declared.fault.WordsFault.{WordsFault}
+use Rattle.lvm_words.specs.declared.fault.WordsFault.{WordsFault}
 
 -- what holds where the words ask for a script over the files
 abbrev pub OnScript : Result Job WordsFault → Type 0 → Type 0

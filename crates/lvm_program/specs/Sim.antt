@@ -1,7 +1,7 @@
 -- The run over disks in memory that the words of the command line ask for.
 use Rattle.std.specs.Prelude.{◌*◌, ℕ, [], replicate}
 use Rattle.lvm_disk.specs.Device.{Device}
-use Rattle.lvm_media.specs.Media.{blank_disks_of}
+use Rattle.lvm_memory.specs.Media.{blank_disks_of}
 use Rattle.lvm_memory.specs.Bench.{fresh_bench}
 use Rattle.lvm_core.specs.declared.parts.Room.{Room}
 

@@ -9,7 +9,7 @@ use Rattle.lvm_vol.specs.Legal.{Legal}
 use Rattle.lvm_vol.specs.Log.{Log}
 use Rattle.lvm_kept.specs.Moments.{Moment}
 use Rattle.lvm_steps.specs.Moments.{ImagesKept, IsUpheld}
-use Rattle.lvm_stamps.specs.Behind.{IsAhead, IsBehind}
+use Rattle.lvm_steps.specs.Behind.{IsAhead, IsBehind}
 use Rattle.lvm_parse.specs.Grammar.{line_of}
 use Rattle.lvm_core.specs.declared.parts.Room.{Room}
 use Rattle.lvm_session.specs.State.{Core, State, state}
@@ -21,9 +21,9 @@ use Rattle.lvm_load.specs.Ends.{HasCauses}
 use Rattle.lvm_load.specs.Totals.{entries_since, totals_of}
 use Rattle.lvm_load.specs.Weaving.{Weaves, first_weaving}
 use Rattle.lvm_top.specs.passed.Lines.{IsLine, asked_after, role_of}
-use Rattle.lvm_top.specs.passed.Running.{RunsOn}
+use Rattle.lvm_top.specs.passed.Tie.{RunsOn}
 use Rattle.lvm_top.specs.passed.ReplyVariants as reply
-use Rattle.lvm_top.specs.passed.Stage.{IsAlone, IsClosed, OfRequests, Reply, ScriptState}
+use Rattle.lvm_top.specs.passed.GroupLines.{IsAlone, IsClosed, OfRequests, Reply, ScriptState}
 use Rattle.lvm_top.specs.passed.Texts.{counted}
 use Rattle.lvm_top.specs.declared.run.Ended.{Ended}
 use Rattle.lvm_top.specs.declared.script.Stop.{Stop}

@@ -2,8 +2,8 @@
 ghost use Rattle.lvm_program.specs.Program.{IsGenerated};
 ghost use Rattle.lvm_top.specs.Script.{passage};
 
-use lvm_draws::{ScriptFault, write_script};
 use lvm_io::Sink;
+use lvm_load::{ScriptFault, write_script};
 use lvm_top::ExitStatus;
 use std::alloc::Global;
 

@@ -8,7 +8,7 @@ use Rattle.lvm_kept.specs.Moments.{StaysCalm}
 use Rattle.lvm_steps.specs.Moments.{Keeps}
 use Rattle.lvm_steps.specs.Requests.{at}
 use Rattle.lvm_steps.proofs.MomentsLemmas.Spans.{keeps_still, keeps_steps, spans_join}
-use Rattle.lvm_stamps.proofs.LawsLemmas.Clock.{all_is_behind_next}
+use Rattle.lvm_steps.proofs.LawsLemmas.Clock.{all_is_behind_next}
 use Rattle.lvm_write.specs.Parts.{Spends}
 use Rattle.lvm_write.proofs.PartsLemmas.Transfers.{rose_then, spends_none, spends_then}
 use Rattle.lvm_session.specs.State.{Core, State}
@@ -19,7 +19,7 @@ use Rattle.lvm_core.specs.declared.refused.Cause.TheVariants as cause
 use Rattle.lvm_core.specs.declared.refused.Refused.{Refused}
 use Rattle.lvm_core.specs.Coming.{BringsOn, IsStarted, shelf_left, history_left}
 use Rattle.lvm_core.specs.State.{state_of}
-use Rattle.lvm_group.specs.passed.GroupPlan.{NewGroup, MayBegin, RefusesFirst}
+use Rattle.lvm_group.specs.NewGroup.{NewGroup, MayBegin, RefusesFirst}
 use Rattle.lvm_group.specs.Made.{MkvgRefuses, MkvgGives}
 use Rattle.lvm_group.proofs.LogLemmas.{keeps_cut, calm_cut}
 use Rattle.lvm_varyon.specs.Varied.{VaryonRefuses, VariesOnAt, VaryonGives}

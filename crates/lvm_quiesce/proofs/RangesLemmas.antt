@@ -18,7 +18,7 @@ use Rattle.lvm_write.proofs.PartsLemmas.Transfers.{rose_then, spends_then}
 use Rattle.lvm_core.proofs.SoundLemmas.Dark.{cut_landed}
 use Rattle.lvm_core.proofs.LeavesLemmas.{keeps_cut as entries_keep_cut}
 use Rattle.lvm_group.proofs.LogLemmas.{keeps_cut, calm_cut}
-use Rattle.lvm_raw.specs.passed.Names.{HaveAllLanded, NoneComesOn}
+use Rattle.lvm_raw.specs.OnePieceKeeping.{HaveAllLanded, NoneComesOn}
 use Rattle.lvm_raw.specs.declared.fault.RawFault.{RawFault}
 use Rattle.lvm_raw.specs.declared.fault.RawFault.TheVariants as fault
 use Rattle.lvm_raw.specs.Asking.{IsRejected}

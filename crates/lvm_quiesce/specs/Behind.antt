@@ -3,8 +3,8 @@ use Rattle.std.specs.Prelude.{ℕ, ◌<◌, ◌≤◌, ◌-◌, ◌^◌, List}
 use Rattle.lvm_disk.specs.Device.{Device}
 use Rattle.lvm_vol.specs.Facts.{Fact}
 use Rattle.lvm_vol.specs.Legal.{IsLater}
-use Rattle.lvm_stamps.specs.Behind.{beginning_at}
-use Rattle.lvm_stamps.specs.Laws.{LeavesBefore}
+use Rattle.lvm_steps.specs.Behind.{beginning_at}
+use Rattle.lvm_steps.specs.Laws.{LeavesBefore}
 
 -- what stands on each crash image is of sessions from before this moment
 abbrev pub IsBehindEach : ℕ → Device → Type 0

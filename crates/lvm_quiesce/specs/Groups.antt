@@ -6,7 +6,7 @@ use Rattle.lvm_vol.specs.Log.{Log, spare_entries, cut_log}
 use Rattle.lvm_kept.specs.Moments.{StaysCalm}
 use Rattle.lvm_steps.specs.Moments.{Keeps}
 use Rattle.lvm_steps.specs.Requests.{at}
-use Rattle.lvm_stamps.specs.Behind.{IsBehind}
+use Rattle.lvm_steps.specs.Behind.{IsBehind}
 use Rattle.lvm_write.specs.Parts.{Spends}
 use Rattle.lvm_core.specs.passed.Names.{NoneIsLeft, AreFaults}
 use Rattle.lvm_session.specs.State.{Core, State}
@@ -16,7 +16,7 @@ use Rattle.lvm_core.specs.declared.refused.Cause.TheVariants as cause
 use Rattle.lvm_core.specs.declared.refused.Refused.{Refused}
 use Rattle.lvm_core.specs.Held.{StartsHeld}
 use Rattle.lvm_core.specs.Settled.{IsSettled, HasSpareNumbers}
-use Rattle.lvm_group.specs.passed.GroupPlan.{NewGroup, MayBegin, RefusesFirst}
+use Rattle.lvm_group.specs.NewGroup.{NewGroup, MayBegin, RefusesFirst}
 use Rattle.lvm_group.specs.Made.{MkvgGives}
 pub use Rattle.lvm_varyon.specs.Varied.{VariesOnAt}
 use Rattle.lvm_quiesce.specs.Behind.{ClockIsAheadEach}

@@ -6,7 +6,7 @@ use Rattle.lvm_vol.specs.Facts.{Fact}
 use Rattle.lvm_kept.specs.Moments.{Moment}
 use Rattle.lvm_steps.specs.Moments.{StaysKept, Keeps}
 use Rattle.lvm_steps.specs.Requests.{at}
-use Rattle.lvm_stamps.specs.Behind.{IsBehind, ClockIsAhead}
+use Rattle.lvm_steps.specs.Behind.{IsBehind, ClockIsAhead}
 use Rattle.lvm_core.specs.passed.Names.{IsOneByAllOn}
 use Rattle.lvm_quiesce.specs.Behind.{IsBehindEach, ClockIsAheadEach}
 use Rattle.lvm_quiesce.specs.Ends.{Quiesces, QuiesceGives, StartsNothing}

@@ -6,10 +6,10 @@ use Rattle.lvm_vol.specs.Log.{Log, cut_log}
 use Rattle.lvm_kept.specs.Moments.{Moment, StaysCalm}
 use Rattle.lvm_steps.specs.Moments.{Keeps}
 use Rattle.lvm_steps.specs.Requests.{at as moment_of}
-use Rattle.lvm_stamps.specs.Behind.{IsBehind}
+use Rattle.lvm_steps.specs.Behind.{IsBehind}
 use Rattle.lvm_transfer.specs.Transfer.{Relights}
 use Rattle.lvm_write.specs.Parts.{Spends}
-use Rattle.lvm_raw.specs.passed.Names.{KeepsArrangements, HaveAllLanded, NoneComesOn}
+use Rattle.lvm_raw.specs.OnePieceKeeping.{KeepsArrangements, HaveAllLanded, NoneComesOn}
 use Rattle.lvm_raw.specs.declared.fault.RawFault.{RawFault}
 use Rattle.lvm_raw.specs.declared.fault.RawFault.TheVariants as fault
 use Rattle.lvm_raw.specs.Asking.{IsRejected, MayAsk}

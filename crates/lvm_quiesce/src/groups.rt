@@ -5,7 +5,7 @@ ghost use Rattle.lvm_core.specs.Coming.{shelf_left, history_left};
 ghost use Rattle.lvm_core.specs.Sound.{HaveAllLanded};
 ghost use Rattle.lvm_core.specs.Starting.{IsRoom};
 ghost use Rattle.lvm_core.specs.State.{state_of};
-ghost use Rattle.lvm_group.specs.passed.GroupPlan.{IsWellFormed};
+ghost use Rattle.lvm_group.specs.NewGroup.{IsWellFormed};
 ghost use Rattle.lvm_quiesce.specs.Groups.{BringsOnEach, CauseRose, IsStartedEach, MkvgOnceQuiet, RestGives, VaryonOnceQuiet};
 
 use crate::ends::{Quiesced, quiesce};

@@ -1,3 +1,10 @@
 pub mod RecordLemmas
 pub mod KeptGroupLemmas
 pub mod GroupsLemmas
+pub mod passed
+pub mod SurveyedLemmas
+pub mod ReadingLemmas
+pub mod LawsLemmas
+pub mod Passing
+pub mod SlotsLemmas
+pub mod ShownDescriptorLemmas

@@ -1,14 +1,14 @@
 //! Which group a name chooses.
 ghost use Rattle.std.specs.Prelude.{◌≡◌, IfOk};
-ghost use Rattle.lvm_survey.specs.Surveyed.{surveyed, IsSurveyValid};
+ghost use Rattle.lvm_quorum.specs.Surveyed.{surveyed, IsSurveyValid};
 ghost use Rattle.lvm_quorum.specs.Choosing.{ChooseGives};
 ghost use Rattle.lvm_quorum.specs.Groups.{GroupGives};
-ghost use Rattle.lvm_survey.specs.Rows.{AreRows};
+ghost use Rattle.lvm_quorum.specs.Rows.{AreRows};
 
 use crate::groups::{greatest_epoch, group_of};
 use crate::names::{first_named, has_record, other_named};
+use crate::row::Survey;
 use lvm_num::{Descriptor, DiskSet, Memory, Name, Status, clone_descriptor, clone_status};
-use lvm_survey::Survey;
 use std::alloc::Global;
 
 /// The group that a name chooses, by the disks that answered.

@@ -6,14 +6,14 @@ ghost use Rattle.lvm_num.specs.Disks.{has};
 ghost use Rattle.lvm_num.specs.Geometry.{sectors_needed};
 ghost use Rattle.lvm_num.specs.Record.{newest_below};
 ghost use Rattle.lvm_num.specs.Votes.{all_disks};
-ghost use Rattle.lvm_survey.specs.passed.Names.{descriptor_among, members_in, if_passes, passes, is_of, is_status_of, under};
-ghost use Rattle.lvm_survey.specs.Surveyed.{surveyed};
+ghost use Rattle.lvm_quorum.specs.passed.Survey.{descriptor_among, members_in, if_passes, passes, is_of, is_status_of, under};
+ghost use Rattle.lvm_quorum.specs.Surveyed.{surveyed};
 ghost use Rattle.lvm_quorum.specs.Groups.{shown_record_if, IsGroup, IsLastEpoch};
-ghost use Rattle.lvm_survey.specs.Rows.{AreRows};
+ghost use Rattle.lvm_quorum.specs.Rows.{AreRows};
 
+use crate::row::{Survey, SurveyRow};
 use crate::shown::{Shown, descriptor_of, epoch_of, newer, status_of};
 use lvm_num::{Descriptor, DiskSet, Status};
-use lvm_survey::{Survey, SurveyRow};
 
 /// A group as the disks show it: its newest descriptor, its voters and their newest status.
 #[derive(Drop)]

@@ -1,15 +1,15 @@
 //! Which groups have a name, by the newest descriptors of the disks.
 ghost use Rattle.std.specs.Prelude.{◌≡◌, ◌≢◌, ℕ, IfSome, IfNone, IsTrue, IsFalse, is_some};
 ghost use Rattle.lvm_num.specs.Votes.{all_disks};
-ghost use Rattle.lvm_survey.specs.passed.Names.{status_among, under};
-ghost use Rattle.lvm_survey.specs.Surveyed.{surveyed};
+ghost use Rattle.lvm_quorum.specs.passed.Survey.{status_among, under};
+ghost use Rattle.lvm_quorum.specs.Surveyed.{surveyed};
 ghost use Rattle.lvm_quorum.specs.Choosing.{HasName, HasRecord, HasNoRecord};
 ghost use Rattle.lvm_quorum.specs.Groups.{IsNamedBy};
-ghost use Rattle.lvm_survey.specs.Rows.{AreRows};
+ghost use Rattle.lvm_quorum.specs.Rows.{AreRows};
 
 use crate::groups::group_of;
+use crate::row::{Survey, SurveyRow};
 use lvm_num::Name;
-use lvm_survey::{Survey, SurveyRow};
 
 /// The first group that has the name.
 pub fn first_named(survey: &Survey, name: &Name) -> Option<u64>

@@ -1,11 +1,11 @@
 //! A record as a disk shows it.
 ghost use Rattle.std.specs.Prelude.{◌≡◌};
 ghost use Rattle.lvm_num.specs.Record.{newer};
-ghost use Rattle.lvm_survey.specs.passed.Names.{if_passes, is_of, is_status_of, under};
+ghost use Rattle.lvm_quorum.specs.passed.Survey.{if_passes, is_of, is_status_of, under};
 ghost use Rattle.lvm_quorum.specs.Groups.{shown_record_if, epoch_of};
 
+use crate::row::SurveyRow;
 use lvm_num::{Descriptor, Stamp, Status};
-use lvm_survey::SurveyRow;
 
 /// A record that a disk shows, under its stamp.
 #[derive(Drop)]

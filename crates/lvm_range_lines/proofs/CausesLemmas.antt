@@ -1,12 +1,12 @@
 -- Why posts of a session that goes on were answered otherwise than well.
 use Rattle.std.proofs.Common.{◌≡◌, ◌≤◌, ℕ, List, Ok, Err, refl, sym, ◌∙◌, subst}
 use Rattle.std.specs.List.{AllByRecursion}
+use Rattle.lvm_num.proofs.Lists.{all_weaker}
 use Rattle.lvm_disk.specs.Device.{Device}
 use Rattle.lvm_session.specs.declared.open.Open.{Open}
 use Rattle.lvm_session.specs.declared.open.Power.TheVariants as power
 use Rattle.lvm_session.specs.Causes.{faults_at_first}
 use Rattle.lvm_session.specs.State.{State}
-use Rattle.lvm_keeps.proofs.Lists.{all_on}
 use Rattle.lvm_posts.specs.declared.posts.Post.{Post}
 use Rattle.lvm_group_lines.specs.passed.Ranges.{AreSince, GoingCause}
 use Rattle.lvm_group_lines.proofs.passed.Ranges.{counted_since, going_cause, rows_stay}
@@ -33,7 +33,7 @@ module _ (faults : ℕ → ℕ) where
   post_caused post first old new (Ok done) takes was = tt
   post_caused post first old new (Err why) (OfThis own range) was = λ its.
       subst (λ (d : Device). GoingCause faults post.asked old.core d why) (range.shelf ∙ was.device)
-      (going_cause faults post.asked old new why was.on (all_on (AreSince faults) (λ (o : Open). post.asked.first ≤ o.request.id → AreSince faults o) (λ o since above. since) old.core.requests was.since) range)
+      (going_cause faults post.asked old new why was.on (all_weaker (AreSince faults) (λ (o : Open). post.asked.first ≤ o.request.id → AreSince faults o) (λ o since above. since) old.core.requests was.since) range)
   post_caused post first old new (Err why) (OfEarlier have total is same ends) was = λ its. absurd (cc (sym its ∙ is))
 
   posts_caused : {first : State} {posts : List Post} {now : State} {answers : List Ending} (takes : TakesPosts first posts now answers) → IsStill faults first first → ArePostsCaused faults first.device takes

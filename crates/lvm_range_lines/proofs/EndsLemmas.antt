@@ -2,10 +2,17 @@
 use Rattle.std.proofs.Common.{◌≡◌, ◌≤◌, ℕ, refl, sym, ◌∙◌, ap, subst}
 use Rattle.lvm_disk.specs.Device.{Device}
 use Rattle.lvm_vol.specs.Log.{Log}
-use Rattle.lvm_group_lines.specs.passed.Stage.{Holder, Refusal, Reply, Stage, EndsUnasked, OfRequests, IsRefused, most_refusals, IsBetweenStage}
-use Rattle.lvm_group_lines.specs.passed.Stage.{IsFittingStage, history_in, state_in, ScriptState, without_facts}
-use Rattle.lvm_group_lines.specs.passed.ReplyVariants as reply
-use Rattle.lvm_group_lines.proofs.passed.Stage.{refused_ends, still_ends, unasked_as}
+use Rattle.lvm_group_lines.specs.declared.holder.Holder.{Holder}
+use Rattle.lvm_group_lines.specs.declared.reply.Refusal.{Refusal}
+use Rattle.lvm_group_lines.specs.declared.reply.Reply.{Reply}
+use Rattle.lvm_group_lines.specs.declared.stage.Stage.{Stage}
+use Rattle.lvm_group_lines.specs.Ends.{EndsUnasked}
+use Rattle.lvm_group_lines.specs.Moments.{OfRequests}
+use Rattle.lvm_group_lines.specs.Replies.{IsRefused, most_refusals}
+use Rattle.lvm_group_lines.specs.Stages.{IsBetweenStage, IsFittingStage, history_in, state_in}
+use Rattle.lvm_group_lines.specs.State.{ScriptState, without_facts}
+use Rattle.lvm_group_lines.specs.declared.reply.Reply.TheVariants as reply
+use Rattle.lvm_group_lines.proofs.EndsLemmas.{refused_ends, still_ends, unasked_as}
 
 -- the stage with this holder
 abbrev pub held_by : {S : Type 0} → Stage S → Holder S → Stage S

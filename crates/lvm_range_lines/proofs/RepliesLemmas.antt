@@ -10,10 +10,14 @@ use Rattle.lvm_posts.specs.declared.fault.RangeFault.TheVariants as fault
 use Rattle.lvm_posts.specs.declared.posts.Post.{Post}
 use Rattle.lvm_group_lines.specs.passed.Ranges.{AskRangeFault}
 use Rattle.lvm_group_lines.specs.passed.AskRangeFaultVariants as ask
-use Rattle.lvm_group_lines.specs.passed.Stage.{ComesTo, InFull, IsCarried, Refusal, Reply, Shows, Stage, WithoutMemory, is_unheard}
-use Rattle.lvm_group_lines.specs.passed.HolderVariants as holder
-use Rattle.lvm_group_lines.specs.passed.RefusalVariants as refusal
-use Rattle.lvm_group_lines.specs.passed.ReplyVariants as reply
+use Rattle.lvm_group_lines.specs.Stages.{ComesTo, IsCarried}
+use Rattle.lvm_group_lines.specs.Replies.{InFull, Shows, WithoutMemory, is_unheard}
+use Rattle.lvm_group_lines.specs.declared.reply.Refusal.{Refusal}
+use Rattle.lvm_group_lines.specs.declared.reply.Reply.{Reply}
+use Rattle.lvm_group_lines.specs.declared.stage.Stage.{Stage}
+use Rattle.lvm_group_lines.specs.declared.holder.Holder.TheVariants as holder
+use Rattle.lvm_group_lines.specs.declared.reply.Refusal.TheVariants as refusal
+use Rattle.lvm_group_lines.specs.declared.reply.Reply.TheVariants as reply
 use Rattle.lvm_range_lines.specs.Refusals.{ask_refusal, is_stuck, range_refusal}
 use Rattle.lvm_range_lines.specs.Requests.{AsksByName, HasNone, NoMemory, Refuses, ShowsBlocks, ShowsThem, Takes}
 

@@ -4,7 +4,7 @@ use Rattle.lvm_session.specs.declared.answers.Turned.{Turned}
 use Rattle.lvm_session.specs.declared.answers.Turned.TheVariants as turned
 use Rattle.lvm_session.specs.State.{State}
 use Rattle.lvm_group_lines.specs.passed.Ranges.{AllMoved, LastEnded, StepEnds}
-use Rattle.lvm_group_lines.specs.passed.Stage.{most_refusals}
+use Rattle.lvm_group_lines.specs.Replies.{most_refusals}
 use Rattle.lvm_range_lines.specs.Stepping.{StopsAs, step_reply}
 
 -- it is one refusal at most

@@ -8,9 +8,13 @@ use Rattle.lvm_session.specs.declared.open.Power.TheVariants as power
 use Rattle.lvm_session.specs.State.{Core, State, state}
 use Rattle.lvm_posts.specs.declared.fault.RangeFault.{RangeFault}
 use Rattle.lvm_posts.specs.declared.posts.Post.{Post}
-use Rattle.lvm_group_lines.specs.passed.HolderVariants as holder
-use Rattle.lvm_group_lines.specs.passed.Stage.{Reply, Stage, EndsUnasked, OfRequests, patience_of_line, IsBetweenStage, IsClosed, IsFittingStage, IsLeftBy}
-use Rattle.lvm_group_lines.specs.passed.Stage.{posts_ended, ArePosted, ScriptState}
+use Rattle.lvm_group_lines.specs.declared.holder.Holder.TheVariants as holder
+use Rattle.lvm_group_lines.specs.declared.reply.Reply.{Reply}
+use Rattle.lvm_group_lines.specs.declared.stage.Stage.{Stage}
+use Rattle.lvm_group_lines.specs.Ends.{EndsUnasked, patience_of_line}
+use Rattle.lvm_group_lines.specs.Moments.{OfRequests}
+use Rattle.lvm_group_lines.specs.Stages.{IsBetweenStage, IsClosed, IsFittingStage, IsLeftBy, posts_ended}
+use Rattle.lvm_group_lines.specs.State.{ArePosted, ScriptState}
 use Rattle.lvm_range_lines.specs.Refusals.{is_stuck}
 
 -- ---- states

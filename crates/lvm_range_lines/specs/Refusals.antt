@@ -4,9 +4,11 @@ use Rattle.lvm_posts.specs.declared.fault.RangeFault.{RangeFault}
 use Rattle.lvm_posts.specs.declared.fault.RangeFault.TheVariants as fault
 use Rattle.lvm_group_lines.specs.passed.Ranges.{AskRangeFault}
 use Rattle.lvm_group_lines.specs.passed.AskRangeFaultVariants as ask
-use Rattle.lvm_group_lines.specs.passed.Stage.{Refusal, Reply, reply_text}
-use Rattle.lvm_group_lines.specs.passed.RefusalVariants as refusal
-use Rattle.lvm_group_lines.specs.passed.ReplyVariants as reply
+use Rattle.lvm_group_lines.specs.declared.reply.Refusal.{Refusal}
+use Rattle.lvm_group_lines.specs.declared.reply.Reply.{Reply}
+use Rattle.lvm_group_lines.specs.Replies.{reply_text}
+use Rattle.lvm_group_lines.specs.declared.reply.Refusal.TheVariants as refusal
+use Rattle.lvm_group_lines.specs.declared.reply.Reply.TheVariants as reply
 
 -- why a range isn't asked for, as the refusal of its line
 abbrev pub ask_refusal : AskRangeFault → Refusal

@@ -4,15 +4,18 @@ use Rattle.lvm_num.specs.Buffer.{Sector}
 use Rattle.lvm_group_lines.specs.passed.Names.{IsNumberOf, HasNoVolumeNamed}
 use Rattle.lvm_session.specs.Sound.{IsSound}
 use Rattle.lvm_session.specs.State.{Core, State}
-use Rattle.lvm_group_lines.specs.passed.DiskLines.{blocks_text}
-use Rattle.lvm_group_lines.specs.passed.Running.{RunsOn}
+use Rattle.lvm_group_lines.specs.Disks.{blocks_text}
+use Rattle.lvm_group_lines.specs.passed.Tie.{RunsOn}
 use Rattle.lvm_posts.specs.declared.asked.Asked.{Asked}
 use Rattle.lvm_posts.specs.declared.fault.RangeFault.{RangeFault}
 use Rattle.lvm_posts.specs.declared.posts.Post.{Post}
 use Rattle.lvm_group_lines.specs.passed.Ranges.{AskRangeFault, AskRangeGives, FinishGives, AreGot, RangeCause}
-use Rattle.lvm_group_lines.specs.passed.Stage.{ScriptState, IsRefused, Shows, Refusal, Reply}
-use Rattle.lvm_group_lines.specs.passed.RefusalVariants as refusal
-use Rattle.lvm_group_lines.specs.passed.ReplyVariants as reply
+use Rattle.lvm_group_lines.specs.State.{ScriptState}
+use Rattle.lvm_group_lines.specs.Replies.{IsRefused, Shows}
+use Rattle.lvm_group_lines.specs.declared.reply.Refusal.{Refusal}
+use Rattle.lvm_group_lines.specs.declared.reply.Reply.{Reply}
+use Rattle.lvm_group_lines.specs.declared.reply.Refusal.TheVariants as refusal
+use Rattle.lvm_group_lines.specs.declared.reply.Reply.TheVariants as reply
 use Rattle.lvm_range_lines.specs.Leaving.{EndsBy, GoesOnWith, Waited, session_over}
 use Rattle.lvm_range_lines.specs.Refusals.{ask_refusal, range_refusal}
 

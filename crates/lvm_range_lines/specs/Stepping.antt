@@ -8,11 +8,13 @@ use Rattle.lvm_session.specs.declared.open.Power.TheVariants as power
 use Rattle.lvm_session.specs.Sound.{IsSound}
 use Rattle.lvm_session.specs.State.{Core, State, votes_there}
 use Rattle.lvm_group_lines.specs.passed.Names.{LosesVotesByFaults}
-use Rattle.lvm_group_lines.specs.passed.Running.{RunsOn}
+use Rattle.lvm_group_lines.specs.passed.Tie.{RunsOn}
 use Rattle.lvm_group_lines.specs.passed.Ranges.{StepEnds}
-use Rattle.lvm_group_lines.specs.passed.Stage.{ScriptState, IsRefused, Reply}
-use Rattle.lvm_group_lines.specs.passed.RefusalVariants as refusal
-use Rattle.lvm_group_lines.specs.passed.ReplyVariants as reply
+use Rattle.lvm_group_lines.specs.State.{ScriptState}
+use Rattle.lvm_group_lines.specs.Replies.{IsRefused}
+use Rattle.lvm_group_lines.specs.declared.reply.Reply.{Reply}
+use Rattle.lvm_group_lines.specs.declared.reply.Refusal.TheVariants as refusal
+use Rattle.lvm_group_lines.specs.declared.reply.Reply.TheVariants as reply
 use Rattle.lvm_range_lines.specs.Leaving.{CarriesTo, session_over}
 
 -- the reply where so many turns have moved, and the last one answered so

@@ -18,9 +18,11 @@ use Rattle.lvm_posts.specs.declared.asked.Asked.{Asked}
 use Rattle.lvm_posts.specs.declared.posts.Post.{Post}
 use Rattle.lvm_posts.specs.Posts.{AreAnswered, AreHeld}
 use Rattle.lvm_group_lines.specs.passed.Ranges.{Stuck, AreApart, HavePiecesLanded, IsUnfinished, TurnsFor}
-use Rattle.lvm_group_lines.specs.passed.Earlier.{AreGone}
-use Rattle.lvm_group_lines.specs.passed.Running.{RunsOn}
-use Rattle.lvm_group_lines.specs.passed.Stage.{Reply, Stage, IsEnded, history_in, session_in, shelf_in}
+use Rattle.lvm_group_lines.specs.passed.Handover.{AreGone}
+use Rattle.lvm_group_lines.specs.passed.Tie.{RunsOn}
+use Rattle.lvm_group_lines.specs.declared.reply.Reply.{Reply}
+use Rattle.lvm_group_lines.specs.declared.stage.Stage.{Stage}
+use Rattle.lvm_group_lines.specs.Stages.{IsEnded, history_in, session_in, shelf_in}
 use Rattle.lvm_range_lines.specs.declared.answers.Answers.{Answers}
 use Rattle.lvm_range_lines.specs.Answers.{Gathers, Tells}
 use Rattle.lvm_range_lines.specs.Leaving.{serving}

@@ -6,16 +6,17 @@ use Rattle.lvm_session.specs.declared.open.Power.TheVariants as power
 use Rattle.lvm_session.specs.Causes.{is_over}
 use Rattle.lvm_session.specs.Sound.{IsSound}
 use Rattle.lvm_session.specs.State.{Core, State, state}
-use Rattle.lvm_group_lines.specs.passed.Running.{RunsOn}
+use Rattle.lvm_group_lines.specs.passed.Tie.{RunsOn}
 use Rattle.lvm_group_lines.specs.passed.Driver.{IsCausedFor, IsAny, IsTurn}
 use Rattle.lvm_posts.specs.declared.posts.Post.{Post}
 use Rattle.lvm_posts.specs.Deciding.{RangeEnds}
 use Rattle.lvm_posts.specs.Posts.{takings}
 use Rattle.lvm_group_lines.specs.passed.Ranges.{HavePiecesLanded, IsUnfinished, TakesRange}
-use Rattle.lvm_group_lines.specs.passed.Earlier.{with_taken}
-use Rattle.lvm_group_lines.specs.passed.Stage.{ScriptState, Reply}
-use Rattle.lvm_group_lines.specs.passed.RefusalVariants as refusal
-use Rattle.lvm_group_lines.specs.passed.ReplyVariants as reply
+use Rattle.lvm_group_lines.specs.passed.Handover.{with_taken}
+use Rattle.lvm_group_lines.specs.State.{ScriptState}
+use Rattle.lvm_group_lines.specs.declared.reply.Reply.{Reply}
+use Rattle.lvm_group_lines.specs.declared.reply.Refusal.TheVariants as refusal
+use Rattle.lvm_group_lines.specs.declared.reply.Reply.TheVariants as reply
 use Rattle.lvm_range_lines.specs.Answers.{Tells}
 use Rattle.lvm_range_lines.specs.Leaving.{GoesOnWith, IsOverWith, Waited, session_over}
 use Rattle.lvm_range_lines.specs.Refusals.{Ending}

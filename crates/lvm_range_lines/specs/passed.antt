@@ -1,11 +1,9 @@
 pub mod AskRangeFaultVariants
-pub mod DiskLines
 pub mod Driver
 pub mod Group
 pub mod GroupLines
 pub mod Handover
 pub mod HolderVariants
-pub mod Mirrors
 pub mod Names
 pub mod Quiesce
 pub mod QuiescedVariants
@@ -13,11 +11,8 @@ pub mod Ranges
 pub mod Recover
 pub mod RefusalVariants
 pub mod ReplyVariants
-pub mod Running
-pub mod Stage
 pub mod Tie
 pub mod TieCommands
-pub mod TieCopies
 pub mod Varyon
 pub mod VolumePlanFaultGroupFault
 pub mod Volumes

@@ -5,7 +5,7 @@ ghost use Rattle.lvm_range_lines.specs.Answers.{Gathers, IsOf, Tells};
 ghost use Rattle.lvm_range_lines.specs.Refusals.{Ending, answer_text, refusal_in, refusals_in};
 
 use crate::refusal::range_refusal;
-use lvm_group_lines::below::stage::{Refusal, Reply, push_refusal_line};
+use lvm_group_lines::{Refusal, Reply, push_refusal_line};
 use lvm_num::Text;
 use lvm_posts::RangeFault;
 use std::alloc::{AllocError, Global};

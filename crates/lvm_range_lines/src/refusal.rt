@@ -2,8 +2,8 @@
 ghost use Rattle.std.specs.Prelude.{◌≡◌};
 ghost use Rattle.lvm_range_lines.specs.Refusals.{ask_refusal, range_refusal};
 
+use lvm_group_lines::Refusal;
 use lvm_group_lines::below::ranges::AskRangeFault;
-use lvm_group_lines::below::stage::Refusal;
 use lvm_posts::RangeFault;
 
 /// Why a range isn't asked for.

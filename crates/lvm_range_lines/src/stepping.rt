@@ -2,14 +2,16 @@
 ghost use Rattle.std.specs.Prelude.{◌≡◌};
 ghost use Rattle.lvm_session.specs.Sound.{IsSound};
 ghost use Rattle.lvm_session.specs.State.{state_of};
-ghost use Rattle.lvm_group_lines.specs.passed.Stage.{EndsUnasked, OfRequests, IsBetweenStage, IsFittingStage};
+ghost use Rattle.lvm_group_lines.specs.Ends.{EndsUnasked};
+ghost use Rattle.lvm_group_lines.specs.Moments.{OfRequests};
+ghost use Rattle.lvm_group_lines.specs.Stages.{IsBetweenStage, IsFittingStage};
 ghost use Rattle.lvm_range_lines.specs.Leaving.{serving};
 ghost use Rattle.lvm_range_lines.specs.Stepping.{StepDoes, step_reply};
 
 use lvm_disk::Shelf;
 use lvm_group_lines::below::driver::Driver;
 use lvm_group_lines::below::ranges::step;
-use lvm_group_lines::below::stage::{Answered, Holder, Refusal, Reply, Stage};
+use lvm_group_lines::{Answered, Holder, Refusal, Reply, Stage};
 use lvm_posts::Post;
 use lvm_session::Turned;
 

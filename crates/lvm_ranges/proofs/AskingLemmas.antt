@@ -5,6 +5,7 @@ use Rattle.std.specs.List.{list_any}
 use Rattle.std.proofs.lemmas.Bool.{ne_eqb}
 use Rattle.std.proofs.lemmas.List.{length-append}
 use Rattle.std.proofs.lemmas.List.Folds.{list_any-append}
+use Rattle.lvm_num.proofs.Booleans.{not_so}
 use Rattle.lvm_vol.specs.declared.entry.Outcome.{Outcome}
 use Rattle.lvm_vol.specs.declared.entry.Outcome.TheVariants as outcome
 use Rattle.lvm_vol.specs.declared.entry.Vol.TheVariants.{Lv}
@@ -20,7 +21,6 @@ use Rattle.lvm_session.specs.declared.open.Open.{Open}
 use Rattle.lvm_session.specs.Calls.{is_asked, new_open}
 use Rattle.lvm_session.specs.Sound.{outcome_by, outcome_in}
 use Rattle.lvm_session.specs.State.{Core}
-use Rattle.lvm_keeps.proofs.Small.{not_so}
 use Rattle.lvm_keeps.proofs.SoundLemmas.Telling.{outcome_still}
 use Rattle.lvm_driver.proofs.passed.Names.{next_is}
 use Rattle.lvm_posts.specs.declared.asked.Asked.{Asked}

@@ -2,6 +2,7 @@
 use Rattle.std.proofs.Common.{◌≡◌, ◌≤◌, ℕ, zero, suc, inl, inr, Bool, true, false, List, [], ◌∷◌, map, Some, slice_get, slice_set, sym, ap, subst, if◌then◌else◌, arith}
 use Rattle.std.specs.List.{AllByRecursion}
 use Rattle.lvm_num.specs.declared.place.Pp.{Pp}
+use Rattle.lvm_num.proofs.Lists.{all_weaker, all_at}
 use Rattle.lvm_vol.specs.declared.entry.Outcome.{Outcome}
 use Rattle.lvm_vol.specs.declared.entry.Outcome.TheVariants as outcome
 use Rattle.lvm_sched.specs.declared.writes.TargetState.{TargetState}
@@ -23,7 +24,7 @@ use Rattle.lvm_session.specs.Events.{Chooses, ChoosesBy, copy_of, landed_as, tar
 use Rattle.lvm_session.specs.Judging.{aims, copies_for, is_running, is_waiting}
 use Rattle.lvm_session.specs.State.{Core, State}
 use Rattle.lvm_session.specs.Turns.{FinishMakes, Finishes, Makes, Moves, NoStart, OnMakes, TurnMakes, WasDark, WasOff, WasOn}
-use Rattle.lvm_keeps.proofs.Lists.{all_at, all_mapped, all_on, all_set}
+use Rattle.lvm_keeps.proofs.Lists.{all_mapped, all_set}
 use Rattle.lvm_driver.proofs.passed.Names.{copy_stays, marked_stays, note_stays, status_stays}
 use Rattle.lvm_ranges.specs.Choosing.{AreSince, TurnChoosesSince}
 
@@ -145,13 +146,13 @@ none_before (t ∷ ts) = (omega arith, none_before ts)
 
 pub turn_chooses : TurnChoosesSince
 turn_chooses old new answer made faults from low all =
-    all_on (IsSo IsAny faults from) (λ (o : Open). from ≤ o.request.id → AreSince faults o) (λ o is. is.1) new.core.requests
-    (turn_since old new IsAny faults from low (all_on (λ (o : Open). from ≤ o.request.id → AreSince faults o) (IsSo IsAny faults from) (λ o is. (tt, is)) old.core.requests all) answer made)
+    all_weaker (IsSo IsAny faults from) (λ (o : Open). from ≤ o.request.id → AreSince faults o) (λ o is. is.1) new.core.requests
+    (turn_since old new IsAny faults from low (all_weaker (λ (o : Open). from ≤ o.request.id → AreSince faults o) (IsSo IsAny faults from) (λ o is. (tt, is)) old.core.requests all) answer made)
 
 -- what holds of the number and the ask of each request goes on to hold
 pub turn_keeps_asks : (old new : State) (answer : Turned) → TurnMakes old new answer → (Holds : ℕ → Ask → Type 0) → AllByRecursion (λ (o : Open). Holds o.request.id o.request.ask) old.core.requests
     → AllByRecursion (λ (o : Open). Holds o.request.id o.request.ask) new.core.requests
 turn_keeps_asks old new answer made Holds all =
-    all_on (IsSo Holds none 0) (λ (o : Open). Holds o.request.id o.request.ask) (λ o is. is.0) new.core.requests
+    all_weaker (IsSo Holds none 0) (λ (o : Open). Holds o.request.id o.request.ask) (λ o is. is.0) new.core.requests
     (turn_since old new Holds none 0 (λ disk. omega arith)
-    (all_on (λ (o : Open). Holds o.request.id o.request.ask) (IsSo Holds none 0) (λ o is. (is, λ above. none_before o.request.targets.items)) old.core.requests all) answer made)
+    (all_weaker (λ (o : Open). Holds o.request.id o.request.ask) (IsSo Holds none 0) (λ o is. (is, λ above. none_before o.request.targets.items)) old.core.requests all) answer made)

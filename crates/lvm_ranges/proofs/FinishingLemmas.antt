@@ -9,6 +9,8 @@ use Rattle.lvm_num.specs.Geometry.{partition_of}
 use Rattle.lvm_num.specs.Status.{calls_missing, calls_stale}
 use Rattle.lvm_num.specs.Votes.{is_enough_to_write, total_votes}
 use Rattle.lvm_num.proofs.MarksLemmas.Maps.{find-Some}
+use Rattle.lvm_num.proofs.Booleans.{not_so}
+use Rattle.lvm_num.proofs.Lists.{all_weaker, all_push}
 use Rattle.lvm_disk.specs.Counts.{NoneFalls, Rose}
 use Rattle.lvm_disk.specs.Device.{Device}
 use Rattle.lvm_disk.specs.Paths.{Here, Path, Then}
@@ -31,11 +33,11 @@ use Rattle.lvm_session.specs.Enabled.{is_lost}
 use Rattle.lvm_session.specs.Judging.{copies_for, copies_in}
 use Rattle.lvm_session.specs.Sound.{IsAsked, IsSound, IsTold}
 use Rattle.lvm_session.specs.State.{Core, State, state, votes_there}
-use Rattle.lvm_keeps.proofs.Lists.{all_on, all_push, all_removed}
+use Rattle.lvm_keeps.proofs.Lists.{all_removed}
 use Rattle.lvm_keeps.proofs.KeepsLemmas.Losing.{loss_is_caused}
-use Rattle.lvm_keeps.proofs.Small.{both, is_false, not_so}
+use Rattle.lvm_keeps.proofs.Small.{both, is_false}
 use Rattle.lvm_driver.proofs.passed.Names.{turn_counts, Given, turn_goes}
-use Rattle.lvm_turn_losses.specs.Losing.{LosesVotesByFaults, LostForFaults}
+use Rattle.lvm_keeps_events.specs.Losing.{LosesVotesByFaults, LostForFaults}
 use Rattle.lvm_driver.specs.Drains.{IsAny}
 use Rattle.lvm_posts.specs.declared.asked.Asked.{Asked}
 use Rattle.lvm_posts.specs.declared.fault.RangeFault.{RangeFault}
@@ -59,7 +61,7 @@ use Rattle.lvm_ranges.proofs.ChoosingLemmas.{turn_chooses, turn_keeps_asks}
 
 -- what was asked for before has an earlier number
 none_earlier : (core : Core) (faults : ℕ → ℕ) → IsTold core → AreAllSince faults (next_id core.history) core
-none_earlier core faults told = all_on (IsAsked core.history.facts) (λ (o : Open). next_id core.history ≤ o.request.id → AreSince faults o) (λ o its above. absurd (below o its above)) core.requests told.requests
+none_earlier core faults told = all_weaker (IsAsked core.history.facts) (λ (o : Open). next_id core.history ≤ o.request.id → AreSince faults o) (λ o its above. absurd (below o its above)) core.requests told.requests
   where
     below : (o : Open) → IsAsked core.history.facts o → next_id core.history ≤ o.request.id → ⊥
     below o its above = let less = earlier core.history told.ordered o.request.id (ap is_some its.told) in absurd (omega (arith, less, above))
@@ -120,7 +122,7 @@ pieces_asked {write} {lv} {at} {end} {first} (OnePiece {from = from} {n = n} {co
 
 -- what was asked for before is none of them
 none_yet_asked : (lv at : ℕ) (core : Core) → IsTold core → AreAllPieces lv at (next_id core.history) core
-none_yet_asked lv at core told = all_on (IsAsked core.history.facts) (λ (o : Open). IsPiece lv at (next_id core.history) o.request.id o.request.ask)
+none_yet_asked lv at core told = all_weaker (IsAsked core.history.facts) (λ (o : Open). IsPiece lv at (next_id core.history) o.request.id o.request.ask)
     (λ o its k is. absurd (let less = earlier core.history told.ordered o.request.id (ap is_some its.told) in omega (arith, less, is))) core.requests told.requests
 
 -- ---- nor while it is waited for
@@ -260,7 +262,7 @@ module _ (lv : ℕ) (first mid end : State) (asked : Asked) (left : ℕ) (answer
   piece_cause k outcome.ReadFailed why is it =
       let same : fault.ReadFailed ≡ why = cc is in
       subst (RangeCause lv left first end) same (failed_at_end (some_failed first.device.counts.faults mid.device it.request.request.targets.items it.cause.0
-      (all_on (λ (t : Target). (is_failed t.state ≡ true) × HasFailed mid.device t) (λ (t : Target). t.usable ≡ true → HasFailed mid.device t) (λ t its usable. its.1) it.request.request.targets.items it.cause.1)
+      (all_weaker (λ (t : Target). (is_failed t.state ≡ true) × HasFailed mid.device t) (λ (t : Target). t.usable ≡ true → HasFailed mid.device t) (λ t its usable. its.1) it.request.request.targets.items it.cause.1)
       (own_since k outcome.ReadFailed it)))
   piece_cause k outcome.NoFresh why is it = let same : fault.NoFresh (piece_lp asked k) ≡ why = cc is in subst (RangeCause lv left first end) same (lacks k it)
   piece_cause k outcome.Off why is it =
@@ -272,8 +274,8 @@ module _ (lv : ℕ) (first mid end : State) (asked : Asked) (left : ℕ) (answer
 
 -- since it began the targets of its requests were chosen
 pub counted_since : (s : State) → IsSound s → AllByRecursion (AreSince (faults_at_first s.core)) s.core.requests
-counted_since s sound = all_on (AreCounted s) (AreSince (faults_at_first s.core))
-    (λ o its. all_on (IsCounted s) (λ (t : Target). faults_at_first s.core t.pp.disk ≤ t.faults) (λ t is. is.began) o.request.targets.items its) s.core.requests sound.counted
+counted_since s sound = all_weaker (AreCounted s) (AreSince (faults_at_first s.core))
+    (λ o its. all_weaker (IsCounted s) (λ (t : Target). faults_at_first s.core t.pp.disk ≤ t.faults) (λ t is. is.began) o.request.targets.items its) s.core.requests sound.counted
 
 module _ (faults : ℕ → ℕ) (asked : Asked) (old new : State) (why : RangeFault) (on : old.core.power ≡ power.On) (since : AreAllSince faults asked.first old.core) (takes : TakesRange asked old new (Err why)) where
   rose_at_end : (disk : ℕ) × Rose (faults disk) (old.device.counts.faults disk) → (disk : ℕ) × Rose (faults disk) (new.device.counts.faults disk)
@@ -292,7 +294,7 @@ module _ (faults : ℕ → ℕ) (asked : Asked) (old new : State) (why : RangeFa
   piece_going k outcome.ReadFailed w less is it =
       let same : fault.ReadFailed ≡ w = cc is in
       subst (GoingCause faults asked old.core new.device) same (rose_at_end (some_failed faults old.device it.request.request.targets.items it.cause.0
-      (all_on (λ (t : Target). (is_failed t.state ≡ true) × HasFailed old.device t) (λ (t : Target). t.usable ≡ true → HasFailed old.device t) (λ t its usable. its.1) it.request.request.targets.items it.cause.1)
+      (all_weaker (λ (t : Target). (is_failed t.state ≡ true) × HasFailed old.device t) (λ (t : Target). t.usable ≡ true → HasFailed old.device t) (λ t its usable. its.1) it.request.request.targets.items it.cause.1)
       (row_since faults asked old k outcome.ReadFailed it since)))
   piece_going k outcome.NoFresh w less is it =
       let same : fault.NoFresh (piece_lp asked k) ≡ w = cc is in

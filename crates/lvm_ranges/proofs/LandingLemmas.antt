@@ -2,6 +2,7 @@
 use Rattle.std.proofs.Common.{◌≡◌, ◌≤◌, ◌<◌, ◌+◌, ◌-◌, ◌&&◌, ◌||◌, ◌==◌, ◌⊎◌, inl, inr, ℕ, Bool, true, false, List, [], ◌∷◌, refl, sym, ◌∙◌, ap, subst, arith}
 use Rattle.std.specs.Prelude.{Ok}
 use Rattle.std.specs.List.{list_any, AllByRecursion}
+use Rattle.lvm_num.proofs.Booleans.{not_so}
 use Rattle.lvm_disk.specs.Counts.{RoseBy}
 use Rattle.lvm_disk.specs.Paths.{Here, Path, Then}
 use Rattle.lvm_disk.proofs.CountingLemmas.{rose_by_after, rose_by_more, rose_by_none}
@@ -15,13 +16,12 @@ use Rattle.lvm_session.specs.Requests.{IsLanded}
 use Rattle.lvm_session.specs.Sound.{IsOver, IsSound, waits}
 use Rattle.lvm_session.specs.State.{State}
 use Rattle.lvm_session.specs.Turns.{Finds, FindsNothing, TurnMakes}
-use Rattle.lvm_keeps.proofs.Small.{not_so}
 use Rattle.lvm_driver.specs.passed.Names.{is_last, RunsOn, TurnTells, power_by}
 use Rattle.lvm_driver.proofs.passed.Names.{turn_ends, runs_both, runs_none, turn_counts}
-use Rattle.lvm_turn_losses.proofs.passed.Names.{never_stands_still}
-use Rattle.lvm_turn_losses.specs.Losing.{LosesByFaults, LosesVotesByFaults}
-use Rattle.lvm_turn_losses.proofs.LosingLemmas.Losing.{loses_both, loses_none, turn_loses}
-use Rattle.lvm_turn_losses.proofs.LosingLemmas.Votes.{votes_go}
+use Rattle.lvm_keeps_events.proofs.KeepsFallsLemmas.Standing.{never_stands_still}
+use Rattle.lvm_keeps_events.specs.Losing.{LosesByFaults, LosesVotesByFaults}
+use Rattle.lvm_keeps_events.proofs.LosingLemmas.Losing.{loses_both, loses_none, turn_loses}
+use Rattle.lvm_keeps_events.proofs.LosingLemmas.Votes.{votes_go}
 use Rattle.lvm_driver.specs.Drains.{IsAny, LastTurn, NoTurn, ThenMoves, ThenWaits, TurnsWhile}
 use Rattle.lvm_posts.specs.declared.asked.Asked.{Asked}
 use Rattle.lvm_ranges.specs.Keeping.{KeepsTable}

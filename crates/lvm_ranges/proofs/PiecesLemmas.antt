@@ -12,6 +12,7 @@ use Rattle.lvm_num.specs.declared.descriptor.LvRow.{LvRow}
 use Rattle.lvm_num.specs.declared.descriptor.Descriptor.{Descriptor}
 use Rattle.lvm_num.specs.Descriptor.{IsValid, volume_of}
 use Rattle.lvm_num.specs.Geometry.{volume_blocks}
+use Rattle.lvm_num.proofs.Booleans.{not_so}
 use Rattle.lvm_vol.specs.declared.entry.Vol.TheVariants.{Lv}
 use Rattle.lvm_vol.specs.Facts.{Begun, Fact}
 use Rattle.lvm_vol.specs.Legal.{begins_in}
@@ -30,7 +31,6 @@ use Rattle.lvm_session.specs.declared.open.Power.TheVariants as power
 use Rattle.lvm_session.specs.Calls.{SubmitGives, ask_fault, fault_by, fault_in as ask_fault_in, fault_on, has_history, has_numbers, is_asked, new_open, submitted}
 use Rattle.lvm_session.specs.Sound.{count_if}
 use Rattle.lvm_session.specs.State.{Core}
-use Rattle.lvm_keeps.proofs.Small.{not_so}
 use Rattle.lvm_driver.proofs.passed.Names.{blocks_fit}
 use Rattle.lvm_posts.specs.declared.asked.Asked.{Asked}
 use Rattle.lvm_ranges.specs.declared.refusal.AskRangeFault.{AskRangeFault}

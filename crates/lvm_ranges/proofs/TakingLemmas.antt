@@ -8,6 +8,8 @@ use Rattle.std.proofs.lemmas.List.Edits.{length-remove}
 use Rattle.std.proofs.lemmas.List.Quantifiers.{position-Some}
 use Rattle.std.proofs.lemmas.Option.{slice_get_within}
 use Rattle.lvm_num.specs.Votes.{total_votes}
+use Rattle.lvm_num.proofs.Booleans.{not_so}
+use Rattle.lvm_num.proofs.Lists.{all_at}
 use Rattle.lvm_vol.specs.declared.entry.Outcome.{Outcome}
 use Rattle.lvm_vol.specs.declared.entry.Outcome.TheVariants as outcome
 use Rattle.lvm_vol.specs.Facts.{Fact, Request, begun}
@@ -22,8 +24,8 @@ use Rattle.lvm_session.specs.Causes.{IsAnswered, IsLandedFor}
 use Rattle.lvm_session.specs.Judging.{is_waiting}
 use Rattle.lvm_session.specs.Sound.{IsAsked, IsSound, outcome_in, waits}
 use Rattle.lvm_session.specs.State.{Core, State, votes_there}
-use Rattle.lvm_keeps.proofs.Lists.{all_at, any_removed}
-use Rattle.lvm_keeps.proofs.Small.{both, not_so}
+use Rattle.lvm_keeps.proofs.Lists.{any_removed}
+use Rattle.lvm_keeps.proofs.Small.{both}
 use Rattle.lvm_keeps.proofs.SoundLemmas.Telling.{answered_still, open_still, outcome_still}
 use Rattle.lvm_driver.proofs.passed.Names.{some_position, runs_both, runs_none}
 use Rattle.lvm_driver.specs.passed.Names.{RunsOn}

@@ -14,7 +14,7 @@ use Rattle.lvm_session.specs.Causes.{AnyFailedSince, IsLandedFor, was_usable}
 use Rattle.lvm_session.specs.Judging.{copies_for, copies_in}
 use Rattle.lvm_session.specs.Sound.{outcome_in}
 use Rattle.lvm_session.specs.State.{Core, State, state, votes_there}
-use Rattle.lvm_turn_losses.specs.Losing.{LosesVotesByFaults, LostForFaults}
+use Rattle.lvm_keeps_events.specs.Losing.{LosesVotesByFaults, LostForFaults}
 use Rattle.lvm_driver.specs.Drains.{IsAny, TurnsWhile}
 use Rattle.lvm_posts.specs.declared.asked.Asked.{Asked}
 use Rattle.lvm_posts.specs.declared.fault.RangeFault.{RangeFault}

@@ -1,3 +1,3 @@
 pub mod Driver
 pub mod Names
-pub mod Running
+pub mod Tie

@@ -1,5 +1,6 @@
 -- The place of a piece in its range, the room that it needs, and its words.
 use Rattle.std.proofs.Common.{◌≡◌, ◌≤◌, ◌<◌, ◌-◌, ◌+◌, ◌*◌, ◌/◌, ◌%◌, ◌^◌, ℕ, List, Some, length, slice_get, sym, ◌∙◌, ap, subst, arith}
+use Rattle.std.proofs.lemmas.Option.{slice_get_within}
 use Rattle.std.proofs.Math.Nat.{mod-add-div, add-mul-mod_self_left}
 use Rattle.lvm_num.specs.Buffer.{Sector}
 use Rattle.lvm_num.specs.Word.{fill_of}
@@ -9,16 +10,15 @@ use Rattle.lvm_vol.specs.Log.{Log, spare_entries, spare_bytes}
 use Rattle.lvm_kept.specs.Moments.{Moment}
 use Rattle.lvm_steps.specs.Requests.{IsInNoGroup}
 use Rattle.lvm_transfer.specs.declared.moves.Moved.{Moved}
-use Rattle.lvm_transfer.proofs.RecordLemmas.{got_within}
 use Rattle.lvm_raw.specs.Asking.{IsInData, HasRoomForPieces}
-use Rattle.lvm_piece.specs.Asking.{MayAskPiece}
-use Rattle.lvm_piece.specs.Pieces.{AreFilled, WritesPiece}
+use Rattle.lvm_raw.specs.OnePieceAsking.{MayAskPiece}
+use Rattle.lvm_raw.specs.OnePiece.{AreFilled, WritesPiece}
 use Rattle.lvm_raw.specs.Pieces.{piece_end, piece_count}
 
 -- a piece of a range within the data of a disk
 piece_range : (first now : Device) (disk at count from to : ℕ) → IsInData first disk at count → now.sizes ≡ first.sizes → from < to → to ≤ at + count → to ≤ from + 256 → IsRange now disk from (to - from)
 piece_range first now disk at count from to inside same some within most = record {
-  there = subst (λ (l : List ℕ). disk < length l) (sym same) (got_within first.sizes disk inside.size inside.is);
+  there = subst (λ (l : List ℕ). disk < length l) (sym same) (slice_get_within first.sizes disk inside.size inside.is);
   some = omega (arith, some);
   most = omega (arith, most);
   within = λ size is.

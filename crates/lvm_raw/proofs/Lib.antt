@@ -2,3 +2,8 @@ pub mod RawLemmas
 pub mod LookingLemmas
 pub mod PiecesLemmas
 pub mod AskingLemmas
+pub mod passed
+pub mod Fronts
+pub mod LogLemmas
+pub mod OnePieceKeepingLemmas
+pub mod RequestsLemmas

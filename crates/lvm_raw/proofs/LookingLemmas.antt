@@ -14,15 +14,15 @@ use Rattle.lvm_steps.specs.Requests.{IsInNoGroup, at as moment_of}
 use Rattle.lvm_steps.proofs.MomentsLemmas.Spans.{keeps_still, keeps_steps, later_append}
 use Rattle.lvm_steps.proofs.EnteringLemmas.{quiet_goes_on, calm_goes_on}
 use Rattle.lvm_steps.proofs.RequestsLemmas.Writing.{still_shows_none}
-use Rattle.lvm_piece.proofs.passed.Names.{unwritten_stays_behind}
+use Rattle.lvm_raw.proofs.passed.Names.{unwritten_stays_behind}
 use Rattle.lvm_transfer.specs.Transfer.{Relights}
 use Rattle.lvm_transfer.specs.Reading.{OnlyReads, IsCutOff}
-use Rattle.lvm_area.specs.Reading.{descriptor_shown}
+use Rattle.lvm_quorum.specs.Reading.{descriptor_shown}
 use Rattle.lvm_raw.specs.declared.fault.RawFault.{RawFault}
 use Rattle.lvm_raw.specs.declared.fault.RawFault.TheVariants as fault
 use Rattle.lvm_vol.specs.Legal.{IsLater}
-use Rattle.lvm_piece.proofs.LogLemmas.{cut_lands}
-use Rattle.lvm_piece.specs.Keeping.{HaveAllLanded, NoneComesOn, KeepsArrangements, KeepsOlder}
+use Rattle.lvm_raw.proofs.LogLemmas.{cut_lands}
+use Rattle.lvm_raw.specs.OnePieceKeeping.{HaveAllLanded, NoneComesOn, KeepsArrangements, KeepsOlder}
 use Rattle.lvm_raw.specs.Keeping.{AnswerHasCause, IsUnstuck, RangeKeeps}
 use Rattle.lvm_raw.specs.Looking.{ShowsDescriptor, FindsNone, LookFails, look_ends}
 use Rattle.lvm_raw.specs.Raw.{WasServed}

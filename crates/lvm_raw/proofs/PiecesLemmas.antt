@@ -12,8 +12,8 @@ use Rattle.lvm_transfer.specs.declared.moves.Moved.{Moved}
 use Rattle.lvm_transfer.specs.declared.moves.Moved.TheVariants as moved
 use Rattle.lvm_raw.specs.declared.fault.RawFault.{RawFault}
 use Rattle.lvm_raw.specs.declared.fault.RawFault.TheVariants as fault
-use Rattle.lvm_piece.specs.Requests.{WasAnswered, HasFront, IsHeard}
-use Rattle.lvm_piece.specs.Keeping.{KeepsArrangements, KeepsOlder, HaveAllLanded, NoneComesOn, MoveRose, PieceKeeps}
+use Rattle.lvm_raw.specs.Requests.{WasAnswered, HasFront, IsHeard}
+use Rattle.lvm_raw.specs.OnePieceKeeping.{KeepsArrangements, KeepsOlder, HaveAllLanded, NoneComesOn, MoveRose, PieceKeeps}
 use Rattle.lvm_raw.specs.Keeping.{AnswerHasCause, IsUnstuck, RangeKeeps}
 use Rattle.lvm_raw.specs.Pieces.{piece_end, answer_after, answer_of, grown, with_front, SettlesPiece, PiecesGo, NoPiece, OnePiece, RangeGoes, WentThrough, WasBroken}
 

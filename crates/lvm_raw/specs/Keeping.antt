@@ -4,7 +4,7 @@ use Rattle.lvm_disk.specs.Counts.{Rose, RoseBy, Counts}
 use Rattle.lvm_disk.specs.Device.{IsReady}
 use Rattle.lvm_kept.specs.Moments.{Moment, StaysCalm}
 use Rattle.lvm_steps.specs.Moments.{Keeps}
-use Rattle.lvm_piece.specs.Keeping.{KeepsArrangements, KeepsOlder, HaveAllLanded, NoneComesOn}
+use Rattle.lvm_raw.specs.OnePieceKeeping.{KeepsArrangements, KeepsOlder, HaveAllLanded, NoneComesOn}
 use Rattle.lvm_raw.specs.declared.fault.RawFault.{RawFault}
 use Rattle.lvm_raw.specs.declared.fault.RawFault.TheVariants as fault
 

@@ -1,7 +1,10 @@
-pub mod passed
 pub mod Pieces
 pub mod Keeping
 pub mod Asking
 pub mod Looking
 pub mod Raw
 pub mod Ends
+pub mod Requests
+pub mod OnePieceAsking
+pub mod OnePiece
+pub mod OnePieceKeeping

@@ -7,7 +7,7 @@ use Rattle.lvm_kept.specs.Contents.{descriptor_on}
 use Rattle.lvm_steps.specs.Requests.{IsInNoGroup}
 use Rattle.lvm_transfer.specs.Transfer.{Relights}
 use Rattle.lvm_transfer.specs.Reading.{OnlyReads, IsUntouched, IsCutOff, IsReadStuck, AllWereRead, OneReadFailed}
-use Rattle.lvm_area.specs.Reading.{SlotsRead}
+use Rattle.lvm_quorum.specs.Reading.{SlotsRead}
 use Rattle.lvm_raw.specs.declared.fault.RawFault.{RawFault}
 use Rattle.lvm_raw.specs.declared.fault.RawFault.TheVariants as fault
 

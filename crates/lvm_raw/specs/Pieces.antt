@@ -4,8 +4,8 @@ use Rattle.lvm_num.specs.Buffer.{Buffer, Sector}
 use Rattle.lvm_kept.specs.Moments.{Moment}
 use Rattle.lvm_transfer.specs.declared.moves.Moved.{Moved}
 use Rattle.lvm_transfer.specs.declared.moves.Moved.TheVariants as moved
-use Rattle.lvm_piece.specs.Requests.{WasAnswered}
-use Rattle.lvm_piece.specs.Pieces.{WritesPiece, ReadsPiece}
+use Rattle.lvm_raw.specs.Requests.{WasAnswered}
+use Rattle.lvm_raw.specs.OnePiece.{WritesPiece, ReadsPiece}
 use Rattle.lvm_raw.specs.declared.fault.RawFault.{RawFault}
 use Rattle.lvm_raw.specs.declared.fault.RawFault.TheVariants as fault
 

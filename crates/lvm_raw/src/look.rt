@@ -6,10 +6,10 @@ ghost use Rattle.lvm_raw.specs.Keeping.{RangeKeeps};
 ghost use Rattle.lvm_raw.specs.Looking.{FindsNone, LookFails, look_ends};
 
 use crate::fault::RawFault;
-use lvm_area::read_descriptor;
 use lvm_disk::Shelf;
 use lvm_history::History;
 use lvm_num::Pbuf;
+use lvm_quorum::read_descriptor;
 use lvm_transfer::{Patience, Stop, Unread, relight};
 use std::alloc::Global;
 

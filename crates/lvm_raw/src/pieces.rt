@@ -2,17 +2,18 @@
 ghost use Rattle.std.specs.Prelude.{◌≡◌, ◌≤◌, ◌<◌, ◌^◌, ◌+◌, [], length, vec_len, vec_capacity, Ok, IfOk};
 ghost use Rattle.lvm_disk.specs.Device.{IsReady};
 ghost use Rattle.lvm_steps.specs.Requests.{IsInNoGroup, at as moment_of};
-ghost use Rattle.lvm_piece.specs.Requests.{HasFront};
+ghost use Rattle.lvm_raw.specs.Requests.{HasFront};
 ghost use Rattle.lvm_raw.specs.Asking.{MayAsk};
 ghost use Rattle.lvm_raw.specs.Keeping.{RangeKeeps};
 ghost use Rattle.lvm_raw.specs.Pieces.{answer_of, grown, with_front, SettlesPiece, WritesGo, ReadsGo};
 
+use crate::blocks::keep_front;
 use crate::check::piece_end;
 use crate::fault::RawFault;
+use crate::request::{read_piece, write_piece};
 use lvm_disk::Shelf;
 use lvm_history::History;
 use lvm_num::{Pbuf, Rows};
-use lvm_piece::{keep_front, read_piece, write_piece};
 use lvm_transfer::{Moved, Patience};
 
 // Notes the first failure, and hands the buffer of a transfer back that the disk answered.

@@ -2,7 +2,7 @@
 use Rattle.std.proofs.Common.{◌≡◌, inl, inr, ⊎_elim, ℕ, ◌+◌, ◌-◌, ◌*◌, ◌/◌, ◌%◌, ◌<◌, ◌≤◌, Bool, true, false, ◌&&◌, not, List, [], ◌∷◌, Some, None, refl, sym, ap, subst, ◌∙◌, arith}
 use Rattle.std.specs.Prelude.{IsTrue, IsFalse, ◌==◌, if◌then◌else◌, nat_le, nat_lt, filter, find, slice_get, ◌||◌}
 use Rattle.std.specs.List.{list_any}
-use Rattle.std.proofs.lemmas.Bool.{eqb-true}
+use Rattle.std.proofs.lemmas.Bool.{eqb-true, cases_Bool}
 use Rattle.std.proofs.lemmas.Bool.Decides.{nat_tests}
 use Rattle.std.proofs.lemmas.Nat.{div-mul-add, mod-mul-add}
 use Rattle.lvm_num.specs.declared.place.Pp.{Pp}
@@ -18,16 +18,17 @@ use Rattle.lvm_num.specs.Geometry.{partition_blocks, partition_of, track_group_o
 use Rattle.lvm_num.specs.Descriptor.{IsPartitionOf, IsValid, copies_of, is_member, partitions_used}
 use Rattle.lvm_num.specs.Record.{Stamped}
 use Rattle.lvm_num.specs.Status.{calls_stale}
+use Rattle.lvm_num.proofs.Booleans.{clash_gives, same_answer}
 use Rattle.lvm_disk.specs.Device.{Flight, written}
 use Rattle.lvm_kept.specs.Contents.{contents_of}
 use Rattle.lvm_kept.proofs.PlacesLemmas.{blocks_are_sectors}
 use Rattle.std.proofs.Math.Nat.{mod-lt}
 use Rattle.lvm_kept.specs.Group.{is_stale_by, is_named, fresh_on, block_at, IsOneOf}
-use Rattle.lvm_next.specs.Next.{IsLeftBehind, IsNextStatus}
+use Rattle.lvm_write.specs.Next.{IsLeftBehind, IsNextStatus}
 use Rattle.lvm_crash.proofs.GroupLemmas.Lists.{left_of, right_of, one_passes}
 use Rattle.lvm_rest.proofs.passed.Names.{contains, of_map, of_rows}
 use Rattle.lvm_rest.proofs.GoodLemmas.Good.{mib_positive}
-use Rattle.lvm_rest.proofs.Rows.{clash, tested, none_passing}
+use Rattle.lvm_rest.proofs.Rows.{none_passing}
 use Rattle.lvm_recover.specs.Recopied.{IsToEqual}
 use Rattle.lvm_recover.specs.Beginning.{NextLeavesNone, UsableStay, TrackGroupIsPlanned, TrackGroupIsEqual}
 
@@ -49,12 +50,6 @@ on_member group row lp p valid one copy =
     let part : IsPartitionOf group p = subst (IsPartitionOf group) at.2 (valid.maps.places at.0 p at.1) in
     found_is_member group.pvs p.disk part.0 part.1
 
-same_by : (a b : Bool) → (IsTrue a → IsTrue b) → (IsTrue b → IsTrue a) → a ≡ b
-same_by true true f g = refl
-same_by true false f g = sym (f refl)
-same_by false true f g = g refl
-same_by false false f g = refl
-
 filter_same : {X : Type 0} (p q : X → Bool) (xs : List X) → ((x : X) → IsOneOf xs x → p x ≡ q x) → filter p xs ≡ filter q xs
 filter_same p q [] same = refl
 filter_same p q (x ∷ xs) same =
@@ -67,8 +62,8 @@ module _ (group : Descriptor) (answering : Disks) (was next : Stamped Status) (v
   same_marks : (row : LvRow) (lp : ℕ) (p : Pp) → IsOneOf group.lvs row → IsOneOf (copies_of row lp) p → IsTrue (answering p.disk) → calls_stale next.value p ≡ calls_stale was.value p
   same_marks row lp p one copy in_answering =
       let its = is.stale p (on_member group row lp p valid one copy) in
-      same_by (calls_stale next.value p) (calls_stale was.value p)
-      (λ stale. ⊎_elim (λ was_so. was_so) (λ (left : IsLeftBehind group answering was p). clash (answering p.disk) in_answering left.absent) (its.0 stale))
+      same_answer (calls_stale next.value p) (calls_stale was.value p)
+      (λ stale. ⊎_elim (λ was_so. was_so) (λ (left : IsLeftBehind group answering was p). clash_gives (answering p.disk) in_answering left.absent) (its.0 stale))
       (λ stale. its.1 (inl stale))
 
   pub usable_same : (row : LvRow) (lp : ℕ) → IsOneOf group.lvs row → fresh_on answering (Some next) row lp ≡ fresh_on answering (Some was) row lp
@@ -76,13 +71,13 @@ module _ (group : Descriptor) (answering : Disks) (was next : Stamped Status) (v
       (λ p copy. ⊎_elim
       (λ (yes : IsTrue (answering p.disk)). ap (λ (t : Bool). answering p.disk && not t) (same_marks row lp p one copy yes))
       (λ (none : IsFalse (answering p.disk)). ap (λ (t : Bool). t && not (is_stale_by (Some next) p)) none ∙ sym (ap (λ (t : Bool). t && not (is_stale_by (Some was) p)) none))
-      (tested (answering p.disk)))
+      (cases_Bool (answering p.disk)))
 
   pub leaves_none : (row : LvRow) (lp : ℕ) (p : Pp) → IsOneOf group.lvs row → lp < row.lps → IsOneOf (copies_of row lp) p → IsFalse (answering p.disk) → IsFalse (is_stale_by (Some next) p)
       → fresh_on answering (Some next) row lp ≡ []
   leaves_none row lp p one low copy gone fresh = elim (none_passing (λ (q : Pp). answering q.disk && not (is_stale_by (Some was) q)) (copies_of row lp)) [
     | inl none ↦ usable_same row lp one ∙ none
-    | inr some ↦ absurd (clash (calls_stale next.value p)
+    | inr some ↦ absurd (clash_gives (calls_stale next.value p)
         ((is.stale p (on_member group row lp p valid one copy)).1 (inr (record {
           row = row;
           lp = lp;

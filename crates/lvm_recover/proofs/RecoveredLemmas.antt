@@ -2,6 +2,7 @@
 use Rattle.std.proofs.Common.{◌≡◌, ◌⊎◌, inl, inr, ⊎_elim, ℕ, Bool, true, false, ◌&&◌, ◌||◌, ◌==◌, List, [], ◌∷◌, Option, Some, refl, sym, ap, subst, ◌∙◌}
 use Rattle.std.specs.Prelude.{if◌then◌else◌, not, find, is_some, option_map}
 use Rattle.std.specs.List.{list_any, AllByRecursion}
+use Rattle.std.proofs.lemmas.Bool.{not_from_false}
 use Rattle.lvm_num.specs.declared.place.Pp.{Pp}
 use Rattle.lvm_num.specs.declared.descriptor.Mode.{Mode}
 use Rattle.lvm_num.specs.declared.descriptor.Mode.TheVariants.{Active, Passive, Off}
@@ -22,15 +23,15 @@ use Rattle.lvm_kept.specs.Contents.{Contents}
 use Rattle.lvm_kept.specs.Group.{descriptor_among, is_voter, status_among, is_stale_by, fresh, fresh_on, block_at, IsBlockOf, IsOneOf, IsSome, HoldOne}
 use Rattle.lvm_kept.specs.Kept.{Kept}
 use Rattle.lvm_kept.specs.Recovered.{IsMadeEqual, MadeEqual, IsCopied, IsLeftBehind as IsLeftBehindBy, Recovered}
-use Rattle.lvm_next.specs.Next.{IsLeftBehind, has_passive}
+use Rattle.lvm_write.specs.Next.{IsLeftBehind, has_passive}
 use Rattle.lvm_num.specs.Modes.{is_passive}
+use Rattle.lvm_num.proofs.Booleans.{clash_gives}
 use Rattle.lvm_recover.specs.Recopied.{IsToEqual, IsFromFirst, IsRecopied, HoldFirst, AreEqualled}
 use Rattle.lvm_recover.proofs.BeginningLemmas.{usable_same}
 use Rattle.lvm_recover.proofs.KeepingLemmas.Equalling.{even_there}
 use Rattle.lvm_recover.specs.Recovered.{HasNoPassive, Recovers, RecoveredByCopying}
 use Rattle.lvm_steps.proofs.RecordLemmas.{split, join}
-use Rattle.lvm_crash.proofs.GroupLemmas.Lists.{not_so, so_not}
-use Rattle.lvm_rest.proofs.Rows.{clash}
+use Rattle.lvm_crash.proofs.GroupLemmas.Lists.{not_so}
 
 -- ---- members and modes
 
@@ -207,7 +208,7 @@ module _ (old begun copied new : Contents) (ranges : List Range) (disks : Disks)
     found = status_now;
     missing = λ d. (
       λ e. let two = split (is_member group d) (not (there d)) (sym (is.restated.next.missing d) ∙ e) in (member_is d ∙ two.0, not_so (there d) two.1),
-      λ e. is.restated.next.missing d ∙ join (is_member group d) (not (there d)) (sym (member_is d) ∙ e.0) (so_not (there d) e.1),
+      λ e. is.restated.next.missing d ∙ join (is_member group d) (not (there d)) (sym (member_is d) ∙ e.0) (not_from_false (there d) e.1),
     );
     stale = λ p row member. let its = is.restated.next.stale p (sym (member_is p.disk) ∙ ap is_some member) in (
       λ e. ⊎_elim (λ was_so. inl (stale_was p ∙ was_so)) (λ l. inr (left p l)) (its.0 e),
@@ -215,7 +216,7 @@ module _ (old begun copied new : Contents) (ranges : List Range) (disks : Disks)
     );
     strangers = λ p none. is.restated.next.strangers p (sym (member_is p.disk) ∙ ap is_some none);
     dirty = λ lv. (
-      λ e. let two = split (calls_dirty was.value lv) (has_passive group lv) (sym (is.restated.next.dirty lv) ∙ e) in clash (has_passive group lv) two.1 (none_passive group.lvs lv soft),
+      λ e. let two = split (calls_dirty was.value lv) (has_passive group lv) (sym (is.restated.next.dirty lv) ∙ e) in clash_gives (has_passive group lv) two.1 (none_passive group.lvs lv soft),
       λ e. absurd (soft e.row e.volume e.mode),
     );
     notes = λ d lv track_group voter. is.empty d lv track_group voter;

@@ -15,7 +15,7 @@ use Rattle.lvm_kept.specs.Committed.{IsWithinDisks}
 use Rattle.lvm_kept.specs.Kept.{Kept}
 use Rattle.lvm_kept.specs.Recovered.{IsRecordRange, IsCopyRange, Recovered}
 use Rattle.lvm_rest.specs.passed.Names.{ShowsCommitted}
-use Rattle.lvm_next.specs.Restated.{Restated}
+use Rattle.lvm_write.specs.Restated.{Restated}
 use Rattle.lvm_recover.specs.Recopied.{IsRecopied, AreEqualled, OnlyNotesOf}
 
 -- no volume of the group is in mode passive

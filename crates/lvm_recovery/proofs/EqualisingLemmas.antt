@@ -14,9 +14,9 @@ use Rattle.lvm_recover.specs.passed.Names.{StaysKept}
 use Rattle.lvm_write.specs.Notes.{empty_note_sector}
 use Rattle.lvm_write.specs.Written.{IsWriting}
 use Rattle.lvm_write.proofs.WrittenLemmas.Writing.{told_at, both_at, changes_more}
-use Rattle.lvm_begin.proofs.PathsLemmas.Untold.{untold_kept}
-use Rattle.lvm_begin.specs.declared.begin.Begun.{Begun}
-use Rattle.lvm_begin.specs.declared.begin.Begun.TheVariants as begun
+use Rattle.lvm_write.proofs.PathsLemmas.Untold.{untold_kept}
+use Rattle.lvm_write.specs.declared.begin.Begun.{Begun}
+use Rattle.lvm_write.specs.declared.begin.Begun.TheVariants as begun
 use Rattle.lvm_recover.specs.Recopied.{IsFromFirst}
 use Rattle.lvm_recover.proofs.KeepingLemmas.Moments.{copying_stays_kept, emptying_stays_kept}
 use Rattle.lvm_recovery.specs.declared.copying.Recopy.{Recopy}

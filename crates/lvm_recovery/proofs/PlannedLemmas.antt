@@ -1,5 +1,5 @@
 -- Copies that are planned.
-use Rattle.std.proofs.Common.{◌≡◌, ◌⊎◌, inl, inr, ⊎_elim, ℕ, zero, suc, ◌+◌, ◌-◌, ◌*◌, ◌/◌, ◌%◌, ◌<◌, ◌&&◌, not, List, [], ◌∷◌, Option, Some, slice_get, slice_index_or, refl, sym, ap, subst, ◌∙◌, arith, All, AllPairs}
+use Rattle.std.proofs.Common.{◌≡◌, ◌⊎◌, inl, inr, ⊎_elim, ℕ, suc, ◌+◌, ◌-◌, ◌*◌, ◌/◌, ◌%◌, ◌<◌, ◌&&◌, not, List, [], ◌∷◌, Option, Some, refl, sym, ap, subst, ◌∙◌, arith, AllPairs}
 use Rattle.std.specs.Prelude.{filter}
 use Rattle.std.specs.List.{AllByRecursion}
 use Rattle.std.proofs.lemmas.Nat.{div-mul-add}
@@ -16,6 +16,8 @@ use Rattle.lvm_num.specs.Disks.{Disks}
 use Rattle.lvm_num.specs.Geometry.{partition_of, track_group_of, sector_of}
 use Rattle.lvm_num.specs.Descriptor.{IsValid, IsLaidOut, copies_of}
 use Rattle.lvm_num.specs.Record.{Stamped}
+use Rattle.lvm_num.proofs.Lists.{index_is}
+use Rattle.lvm_num.proofs.AmongLemmas.{all_one}
 use Rattle.lvm_disk.specs.Device.{Media, Device, image_of}
 use Rattle.lvm_disk.specs.Steps.{BothTold}
 use Rattle.lvm_kept.specs.Contents.{Contents, contents_of}
@@ -36,14 +38,6 @@ use Rattle.lvm_map.specs.Places.{place_on}
 use Rattle.lvm_recovery.proofs.CopyingLemmas.AllCopied.{place_of_one}
 
 -- ---- lists
-
-index_is : {X : Type 0} (l : List X) (k : ℕ) (x d : X) → slice_get l k ≡ Some x → slice_index_or l k d ≡ x
-index_is [] k x d is = absurd (cc (is))
-index_is (y ∷ l) zero x d is = cc (is)
-index_is (y ∷ l) (suc k) x d is = index_is l k x d is
-
-pub at_one : {X : Type 0} (P : X → Type 0) (l : List X) (x : X) → All P l → IsOneOf l x → P x
-at_one P l x all one = let it = place_of_one l x one in subst P (index_is l it.0 x x it.2) (all it.0 x it.1)
 
 first_to_other : {X : Type 0} (R : X → X → Type 0) (l : List X) (first x : X) (others : List X) → AllPairs R l → l ≡ first ∷ others → IsOneOf others x → R first x
 first_to_other R l first x others pairs is one =
@@ -67,7 +61,7 @@ module _ (group : Descriptor) (valid : IsValid group) (status : Option (Stamped 
 
   first_is_no_other : (row : LvRow) (lp : ℕ) (first : Pp) (others : List Pp) → IsOneOf group.lvs row → lp < row.lps → fresh_on there status row lp ≡ first ∷ others → IsOneOf others first → ⊥
   first_is_no_other row lp first others volume low is one =
-      let laid : IsLaidOut row = at_one IsLaidOut group.lvs row valid.maps.laid_out volume in
+      let laid : IsLaidOut row = all_one IsLaidOut group.lvs row valid.maps.laid_out volume in
       first_to_other (λ (a b : Pp). a.disk ≡ b.disk → ⊥) (fresh_on there status row lp) first first others
       (AllPairs-filter (λ (a b : Pp). a.disk ≡ b.disk → ⊥) (λ (q : Pp). there q.disk && not (is_stale_by status q)) (copies_of row lp) (laid.strict lp low)) is one refl
 

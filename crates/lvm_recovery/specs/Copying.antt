@@ -10,9 +10,9 @@ use Rattle.lvm_disk.specs.Device.{Media, Range, Flight, Device}
 use Rattle.lvm_disk.specs.Steps.{BothTold}
 use Rattle.lvm_kept.specs.Group.{IsOneOf}
 use Rattle.lvm_transfer.specs.Reading.{IsCutOff}
-use Rattle.lvm_begin.specs.declared.begin.Begun.{Begun}
-use Rattle.lvm_begin.specs.declared.begin.Begun.TheVariants as begun
-use Rattle.lvm_begin.specs.Ends.{HasNoFault}
+use Rattle.lvm_write.specs.declared.begin.Begun.{Begun}
+use Rattle.lvm_write.specs.declared.begin.Begun.TheVariants as begun
+use Rattle.lvm_write.specs.Ends.{HasNoFault}
 use Rattle.lvm_write.specs.Writes.{DiskWritesLeave, IsBack}
 use Rattle.lvm_recovery.specs.declared.copying.Recopy.{Recopy}
 

@@ -10,9 +10,9 @@ use Rattle.lvm_kept.specs.Contents.{contents_of}
 use Rattle.lvm_kept.specs.Torn.{IsOfNote}
 use Rattle.lvm_recover.specs.passed.Names.{StaysKept}
 use Rattle.lvm_write.specs.Notes.{empty_note_sector, NoteTold}
-use Rattle.lvm_begin.specs.declared.begin.Begun.{Begun}
-use Rattle.lvm_begin.specs.declared.begin.Begun.TheVariants as begun
-use Rattle.lvm_begin.specs.Runs.{OneGives}
+use Rattle.lvm_write.specs.declared.begin.Begun.{Begun}
+use Rattle.lvm_write.specs.declared.begin.Begun.TheVariants as begun
+use Rattle.lvm_write.specs.Runs.{OneGives}
 use Rattle.lvm_recover.specs.Keeping.{MayRecover}
 use Rattle.lvm_recovery.specs.declared.copying.Recopy.{Recopy}
 use Rattle.lvm_recovery.specs.Copying.{AllGive}

@@ -3,10 +3,10 @@ ghost use Rattle.std.specs.Prelude.{All};
 ghost use Rattle.lvm_disk.specs.Device.{IsReady};
 ghost use Rattle.lvm_recovery.specs.Copying.{IsFull, StepGives, CopyGives, AllGive, MayTransfer, MayCopy, AreApart};
 
-use lvm_begin::Begun;
 use lvm_disk::Shelf;
 use lvm_num::{Pbuf, Place};
 use lvm_transfer::{Moved, Patience, transfer};
+use lvm_write::Begun;
 
 // The sectors of a track group, which are those of a buffer.
 const RUN: u32 = 256;

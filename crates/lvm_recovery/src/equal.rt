@@ -7,10 +7,10 @@ ghost use Rattle.lvm_recovery.specs.Copying.{IsFull, MayCopy, AreApart};
 ghost use Rattle.lvm_recovery.specs.Equalising.{EqualiseGives, EqualisedStaysKept};
 
 use crate::copying::{Recopy, copy_all};
-use lvm_begin::{Begun, forget_notes};
 use lvm_disk::Shelf;
 use lvm_num::{DiskSet, Pbuf};
 use lvm_transfer::Patience;
+use lvm_write::{Begun, forget_notes};
 
 /// Makes these copies one after another, and then writes a note without entries to each target, under the epoch,
 /// up to the first transfer that doesn't end well: notes are emptied once all copies are made. It takes no memory.

@@ -4,15 +4,15 @@ ghost use Rattle.std.specs.Option.{option_copied};
 ghost use Rattle.lvm_num.specs.declared.descriptor.LvRow.{LvRow};
 ghost use Rattle.lvm_num.specs.Descriptor.{IsLaidOut, IsValid};
 ghost use Rattle.lvm_num.specs.Disks.{has};
-ghost use Rattle.lvm_survey.specs.Rows.{AreRows};
-ghost use Rattle.lvm_survey.specs.Surveyed.{surveyed};
+ghost use Rattle.lvm_quorum.specs.Rows.{AreRows};
+ghost use Rattle.lvm_quorum.specs.Surveyed.{surveyed};
 ghost use Rattle.lvm_recovery.specs.Plan.{AreNamed, AreRising, group_of, usable_by, copies_from, copies_of_group, copies_named};
 ghost use Rattle.lvm_map.specs.Places.{place_on};
 
 use crate::copying::Recopy;
 use lvm_num::{Descriptor, DiskSet, LvRow, Memory, Mode, NoteEntry, Place, Pp};
+use lvm_quorum::Survey;
 use lvm_stale::StaleTable;
-use lvm_survey::Survey;
 use std::alloc::Global;
 
 /// A track group of a volume.

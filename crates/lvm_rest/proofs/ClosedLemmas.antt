@@ -2,7 +2,8 @@
 use Rattle.std.proofs.Common.{◌≡◌, ◌⊎◌, inl, inr, ⊎_elim, ℕ, ◌+◌, Bool, true, false, ◌&&◌, ◌||◌, not, List, [], ◌∷◌, ◌++◌, refl, sym, ap, subst, ◌∙◌, arith, count_by}
 use Rattle.std.specs.Prelude.{IsTrue, IsFalse, if◌then◌else◌, filter}
 use Rattle.std.specs.List.{list_any}
-use Rattle.std.proofs.lemmas.Bool.{not-true}
+use Rattle.std.proofs.lemmas.Bool.{not-true, cases_Bool}
+use Rattle.lvm_num.proofs.Booleans.{clash_gives}
 use Rattle.lvm_vol.specs.declared.entry.Vol.{Vol}
 use Rattle.lvm_vol.specs.declared.entry.Vol.TheVariants.{Lv}
 use Rattle.lvm_vol.specs.Facts.{Request, Fact, Making, Made, Split, Removing, Removed, Begun, Landed, Taken, Cut, On, Stands, same_vol, same_request, is_over, block_of}
@@ -15,7 +16,6 @@ use Rattle.lvm_invariant.proofs.MayLemmas.{apart_back, filtered, changed, open_b
 use Rattle.lvm_invariant.proofs.Small.{left_of as and_left, right_of as and_right}
 use Rattle.lvm_kept.proofs.RawLemmas.Keeping.{cut_calm}
 use Rattle.lvm_rest.specs.Closed.{EntryIsCalm, LandedAreClosed, CalmIsClosed}
-use Rattle.lvm_rest.proofs.Rows.{clash, tested}
 
 -- what stands in a list that grew by one stood there, or is that one
 last_or_before : {X : Type 0} (x y : X) (xs : List X) → Stands x (xs ++ y ∷ []) → Stands x xs ⊎ (y ≡ x)
@@ -39,17 +39,17 @@ once_step past f q fits = record {
   one = λ r s is also same. ⊎_elim
       (λ (old : Stands (Begun r) past). ⊎_elim
       (λ (old_s : Stands (Begun s) past). q.one r s old old_s same)
-      (λ (new_s : f ≡ Begun s). clash (same_request s r) (back r s same) (next s new_s r old))
+      (λ (new_s : f ≡ Begun s). clash_gives (same_request s r) (back r s same) (next s new_s r old))
       (last_or_before (Begun s) f past also))
       (λ (new : f ≡ Begun r). ⊎_elim
-      (λ (old_s : Stands (Begun s) past). clash (same_request r s) same (next r new s old_s))
+      (λ (old_s : Stands (Begun s) past). clash_gives (same_request r s) same (next r new s old_s))
       (λ (new_s : f ≡ Begun s). begun_same s r (sym new_s ∙ new))
       (last_or_before (Begun s) f past also))
       (last_or_before (Begun r) f past is);
 }
   where
     back : (r s : Request) → IsTrue (same_request r s) → IsTrue (same_request s r)
-    back r s same = ⊎_elim (λ is. is) (λ apart. clash (same_request r s) same (apart_back s r apart)) (tested (same_request s r))
+    back r s same = ⊎_elim (λ is. is) (λ apart. clash_gives (same_request r s) same (apart_back s r apart)) (cases_Bool (same_request s r))
 
     -- a request that begins next has another name than those before
     next : (r : Request) → f ≡ Begun r → (s : Request) → Stands (Begun s) past → IsFalse (same_request r s)
@@ -101,14 +101,14 @@ module _ (past : List Fact) (q : ArePending past) where
 
       -- it isn't this one
       other : IsPending past vol b w → Stands w (known past vol b).open_writes → (IsTrue (same_request w r) → ⊥) → IsPending (past ++ Landed r how started got ∷ []) vol b w
-      other was there apart = still (Landed r how started got) vol b w was (⊎_elim (λ is. absurd (apart is)) (λ isnt. isnt) (tested (same_request w r)))
+      other was there apart = still (Landed r how started got) vol b w was (⊎_elim (λ is. absurd (apart is)) (λ isnt. isnt) (cases_Bool (same_request w r)))
 
       -- a request of the name is this one
       is_this : Stands w (known past vol b).open_writes → IsTrue (same_request w r) → r ≡ w
       is_this there same = (once past q.legal).one w r (open_began past q.legal vol b w there) fits.began same
 
       by : (t : Bool) → is_over r vol b ≡ t → Stands w (if t then landed r how started (block_of r.blocks r.at b) (block_of got r.at b) (known past vol b) else known past vol b).open_writes → IsPending (past ++ Landed r how started got ∷ []) vol b w
-      by false off there = let was = q.each vol b w there in other was there (λ same. clash (is_over w vol b) was.over (subst (λ (x : Request). IsFalse (is_over x vol b)) (is_this there same) off))
+      by false off there = let was = q.each vol b w there in other was there (λ same. clash_gives (is_over w vol b) was.over (subst (λ (x : Request). IsFalse (is_over x vol b)) (is_this there same) off))
       by true over there = by_write r.write refl there
         where
           by_write : (t : Bool) → r.write ≡ t
@@ -116,7 +116,7 @@ module _ (past : List Fact) (q : ArePending past) where
               → IsPending (past ++ Landed r how started got ∷ []) vol b w
           by_write false reads there =
               let stood = subst (Stands w) (read_open how (block_of got r.at b) (known past vol b)) there in
-              let was = q.each vol b w stood in other was stood (λ same. clash w.write was.write (subst (λ (x : Request). IsFalse x.write) (is_this stood same) reads))
+              let was = q.each vol b w stood in other was stood (λ same. clash_gives w.write was.write (subst (λ (x : Request). IsFalse x.write) (is_this stood same) reads))
           by_write true writes there = by_open (is_open_in r (known past vol b).open_writes) refl there
             where
               by_open : (t : Bool) → is_open_in r (known past vol b).open_writes ≡ t → Stands w (if t then ended r how started (block_of r.blocks r.at b) (known past vol b) else known past vol b).open_writes → IsPending (past ++ Landed r how started got ∷ []) vol b w
@@ -124,8 +124,8 @@ module _ (past : List Fact) (q : ArePending past) where
                   let left = subst (Stands w) (ended_open r how started (block_of r.blocks r.at b) (known past vol b)) there in
                   let stood = filtered (λ (x : Request). not (same_request r x)) (known past vol b).open_writes w left in
                   let apart = not-true (same_request r w) (passed (λ (x : Request). not (same_request r x)) (known past vol b).open_writes w left) in
-                  other (q.each vol b w stood) stood (λ same. clash (same_request w r) same (apart_back r w apart))
-              by_open false is stood = other (q.each vol b w stood) stood (λ same. clash (is_open_in r (known past vol b).open_writes) (opened (known past vol b).open_writes stood (is_this stood same)) is)
+                  other (q.each vol b w stood) stood (λ same. clash_gives (same_request w r) same (apart_back r w apart))
+              by_open false is stood = other (q.each vol b w stood) stood (λ same. clash_gives (is_open_in r (known past vol b).open_writes) (opened (known past vol b).open_writes stood (is_this stood same)) is)
                 where
                   opened : (ws : List Request) → Stands w ws → r ≡ w → IsTrue (is_open_in r ws)
                   opened [] h e = absurd h
@@ -188,5 +188,5 @@ pub landed_are_closed : LandedAreClosed
 landed_are_closed past facts legal closed all_land vol b = none_in (known (past ++ facts) vol b).open_writes (λ w h. ⊎_elim
     (λ (old : (v : Vol) × Stands w (known past v b).open_writes). subst (Stands w) (closed old.0 b) old.1)
     (λ (begun : Stands (Begun w) facts).
-    clash (list_any (lands w) (past ++ facts)) (any_back (lands w) past facts (all_land w begun)) ((are_pending (past ++ facts) legal).each vol b w h).unlanded_yet)
+    clash_gives (list_any (lands w) (past ++ facts)) (any_back (lands w) past facts (all_land w begun)) ((are_pending (past ++ facts) legal).each vol b w h).unlanded_yet)
     (open_since facts (known past) vol b w (subst (λ (k : Knowledge). Stands w (k vol b).open_writes) (known-append past facts) h)))

@@ -1,6 +1,7 @@
 -- What group commands leave at rest.
 use Rattle.std.proofs.Common.{◌≡◌, inl, inr, ⊎_elim, ℕ, ◌<◌, Bool, true, ◌&&◌, not, List, [], ◌∷◌, ◌++◌, Option, Some, refl, sym, ap, subst, ◌∙◌}
 use Rattle.std.specs.Prelude.{IsTrue, IsFalse, is_some}
+use Rattle.std.proofs.lemmas.Bool.{cases_Bool, not_from_false}
 use Rattle.lvm_num.specs.declared.place.Pp.{Pp}
 use Rattle.lvm_num.specs.declared.descriptor.Mode.{Mode}
 use Rattle.lvm_num.specs.declared.descriptor.Mode.TheVariants.{Active, Passive, Off}
@@ -29,10 +30,10 @@ use Rattle.lvm_commit.specs.Committed.{ShowsCommitted}
 use Rattle.lvm_commit.specs.Laws.{IsLaterStatus}
 use Rattle.lvm_commit.proofs.LawsOfDataLemmas.Free.{none_stands}
 use Rattle.lvm_commit.proofs.LawsLemmas.Found.{shows_group, only_found, status_read}
-use Rattle.lvm_crash.proofs.GroupLemmas.Lists.{left_of, right_of, both_of, not_so, so_not, of_passing, one_passes}
+use Rattle.lvm_crash.proofs.GroupLemmas.Lists.{left_of, right_of, both_of, not_so, of_passing, one_passes}
 use Rattle.lvm_rest.specs.Rest.{IsEven, NoneIsBehind}
 use Rattle.lvm_rest.specs.Commands.{IsUsable, KeepsCopies, IsUniform, EvenStays, FreeKeepsEven, BehindStays, HasCopiesOf, CopiesServe, MayClean, CleaningFollows}
-use Rattle.lvm_rest.proofs.Rows.{tested, at_passing, some_passing, none_passing, passes_none}
+use Rattle.lvm_rest.proofs.Rows.{at_passing, some_passing, none_passing, passes_none}
 
 abbrev passing : Option (Stamped Status) → Disks → Pp → Bool
 passing status set p = set p.disk && not (is_stale_by status p)
@@ -41,7 +42,7 @@ usable_of : (status : Option (Stamped Status)) (set : Disks) (p : Pp) → IsTrue
 usable_of status set p is = record { in_there = left_of (set p.disk) (not (is_stale_by status p)) is; fresh = not_so (is_stale_by status p) (right_of (set p.disk) (not (is_stale_by status p)) is) }
 
 passing_of : (status : Option (Stamped Status)) (set : Disks) (p : Pp) → IsUsable status set p → IsTrue (passing status set p)
-passing_of status set p is = both_of (set p.disk) (not (is_stale_by status p)) is.in_there (so_not (is_stale_by status p) is.fresh)
+passing_of status set p is = both_of (set p.disk) (not (is_stale_by status p)) is.in_there (not_from_false (is_stale_by status p) is.fresh)
 
 -- ---- even
 
@@ -82,7 +83,7 @@ pub behind_stays : BehindStays
 behind_stays old new group was is before after members fewer marks lost none row lp p one low copy member gone fresh = ⊎_elim
     (λ (there : IsTrue (before p.disk)). lost row lp p one low copy there gone fresh)
     (λ (away : IsFalse (before p.disk)). none_left row lp one (none row lp p one low copy (sym (members p.disk) ∙ member) away (marks row lp p one copy fresh)))
-    (tested (before p.disk))
+    (cases_Bool (before p.disk))
   where
     none_left : (row : LvRow) (lp : ℕ) → IsOneOf group.lvs row → fresh_on before was row lp ≡ [] → fresh_on after is row lp ≡ []
     none_left row lp one none = elim (none_passing (passing is after) (copies_of row lp)) [
@@ -196,7 +197,7 @@ module _ (c : Contents) (group : Descriptor) (status : Status) (there : Disks) (
         ⊎_elim
         (λ (is : IsTrue (there p.disk)). passing_of stands there p (record { in_there = is; fresh = u.fresh }))
         (λ (isnt : IsFalse (there p.disk)). absurd (subst IsSome (none_behind row lp p one low copy u.in_there isnt u.fresh) some))
-        (tested (there p.disk))
+        (cases_Bool (there p.disk))
 
     pub clean_blocks : BlocksKept c facts group members (Some next)
     clean_blocks row lp b one inside = by row.mode refl
@@ -237,7 +238,7 @@ module _ (c : Contents) (group : Descriptor) (status : Status) (there : Disks) (
             (λ some. cleaned is (some lp inside.inside))
             (may.dirty row one is dirty))
             (λ (tidy : IsFalse (calls_dirty shows.stands.value row.number)). still (λ soft d. absurd (clash (calls_dirty shows.stands.value row.number) d tidy)))
-            (tested (calls_dirty shows.stands.value row.number))
+            (cases_Bool (calls_dirty shows.stands.value row.number))
 
     pub clean_some : (row : LvRow) (lp : ℕ) → IsOneOf group.lvs row → lp < row.lps → IsSome (fresh_on members (Some next) row lp)
     clean_some row lp one low =

@@ -1,41 +1,21 @@
 -- A table that is marked with the copies that are left behind, as the next status of a session.
-use Rattle.std.proofs.Common.{◌≡◌, inl, inr, ⊎_elim, ℕ, Bool, true, false, ◌&&◌, ◌||◌, not, List, [], ◌∷◌, ◌==◌, refl, sym, ap, subst, ◌∙◌}
-use Rattle.std.specs.Prelude.{IsTrue}
+use Rattle.std.proofs.Common.{inl, inr, ⊎_elim, ℕ, ◌&&◌, not, List, ◌==◌, sym, ap, subst, ◌∙◌}
 use Rattle.std.specs.List.{list_any}
+use Rattle.std.proofs.lemmas.Bool.{not_from_false}
 use Rattle.lvm_num.specs.declared.place.Pp.{Pp}
 use Rattle.lvm_num.specs.declared.descriptor.LvRow.{LvRow}
 use Rattle.lvm_num.specs.declared.status.Status.{Status}
 use Rattle.lvm_num.specs.Descriptor.{copies_of}
 use Rattle.lvm_num.specs.Status.{calls_stale}
+use Rattle.lvm_num.proofs.Booleans.{clash_gives}
+use Rattle.lvm_num.proofs.AmongLemmas.{any_one as some_one, one_any}
 use Rattle.lvm_kept.specs.Group.{IsOneOf}
-use Rattle.lvm_crash.proofs.GroupLemmas.Lists.{left_of, right_of, both_of, not_so, so_not}
+use Rattle.lvm_crash.proofs.GroupLemmas.Lists.{left_of, right_of, both_of, not_so}
 use Rattle.lvm_stale.specs.Marking.{IsLeftIn}
 use Rattle.lvm_commit.specs.Settling.{there as not_missing}
 use Rattle.lvm_commit.proofs.AmongLemmas.{one_place}
-use Rattle.lvm_rest.proofs.Rows.{clash, none_passing}
+use Rattle.lvm_rest.proofs.Rows.{none_passing}
 use Rattle.lvm_rest.specs.Marking.{MarkedMayFollow, MarkedLeavesNone, NoneIsLeftBehind}
-
--- one of a list passes
-some_one : {X : Type 0} (test : X → Bool) (xs : List X) → IsTrue (list_any test xs) → (x : X) × IsOneOf xs x × IsTrue (test x)
-some_one test [] is = absurd cc
-some_one test (y ∷ ys) is = by (test y) refl (λ rest. some_one test ys rest) is
-  where
-    by : (t : Bool) → test y ≡ t → (IsTrue (list_any test ys) → (x : _) × IsOneOf ys x × IsTrue (test x)) → IsTrue (t || list_any test ys) → (x : _) × IsOneOf (y ∷ ys) x × IsTrue (test x)
-    by true e further is = (y, inl refl, e)
-    by false e further is = let rest = further is in (rest.0, inr rest.1, rest.2)
-
-any_one : {X : Type 0} (test : X → Bool) (xs : List X) (x : X) → IsOneOf xs x → IsTrue (test x) → IsTrue (list_any test xs)
-any_one test [] x one is = absurd one
-any_one test (y ∷ ys) x (inl here) is = front (test y) (list_any test ys) (ap test (sym here) ∙ is)
-  where
-    front : (a b : Bool) → IsTrue a → IsTrue (a || b)
-    front true b h = refl
-    front false b h = absurd cc
-any_one test (y ∷ ys) x (inr there) is = behind (test y) (list_any test ys) (any_one test ys x there is)
-  where
-    behind : (a b : Bool) → IsTrue b → IsTrue (a || b)
-    behind true b h = refl
-    behind false b h = h
 
 pub marked_may_follow : MarkedMayFollow
 marked_may_follow c group there was next valid members marks = record {
@@ -61,15 +41,15 @@ marked_leaves_none c group there was next valid marks row lp p one low copy memb
       | inl none ↦ none
       | inr some ↦ absurd (
           let in_there = left_of (there some.0.disk) (not (calls_stale next.value some.0)) some.2 in
-          let was_fresh = so_not (calls_stale was some.0) (sym (marks.answered some.0 in_there) ∙ not_so (calls_stale next.value some.0) (right_of (there some.0.disk) (not (calls_stale next.value some.0)) some.2)) in
-          clash (calls_stale next.value p)
+          let was_fresh = not_from_false (calls_stale was some.0) (sym (marks.answered some.0 in_there) ∙ not_so (calls_stale next.value some.0) (right_of (there some.0.disk) (not (calls_stale next.value some.0)) some.2)) in
+          clash_gives (calls_stale next.value p)
           (marks.marked p (record {
             row = row;
             volume = one;
             left = record {
               lp = lp;
               below = low;
-              left = record { one = copy; absent = gone; served = any_one (λ (r : Pp). there r.disk && not (calls_stale was r)) (copies_of row lp) some.0 some.1 (both_of (there some.0.disk) (not (calls_stale was some.0)) in_there was_fresh) };
+              left = record { one = copy; absent = gone; served = one_any (λ (r : Pp). there r.disk && not (calls_stale was r)) (copies_of row lp) some.0 some.1 (both_of (there some.0.disk) (not (calls_stale was some.0)) in_there was_fresh) };
             };
           }))
           fresh)
@@ -79,7 +59,7 @@ pub none_is_left_behind : NoneIsLeftBehind
 none_is_left_behind c group u status same none row lp p volume low copy member gone fresh =
     elim (none_passing (λ (q : Pp). not_missing u q.disk && not (calls_stale status.value q)) (copies_of row lp)) [
       | inl nothing ↦ nothing
-      | inr some ↦ absurd (clash (calls_stale u.wanted p)
+      | inr some ↦ absurd (clash_gives (calls_stale u.wanted p)
           (none p (record {
             row = row;
             volume = volume;
@@ -89,7 +69,7 @@ none_is_left_behind c group u status same none row lp p volume low copy member g
               left = record {
                 one = copy;
                 absent = gone;
-                served = any_one (λ (q : Pp). not_missing u q.disk && not (calls_stale u.wanted q)) (copies_of row lp) some.0 some.1 (sym (ap (λ (s : Status). not_missing u some.0.disk && not (calls_stale s some.0)) same) ∙ some.2);
+                served = one_any (λ (q : Pp). not_missing u q.disk && not (calls_stale u.wanted q)) (copies_of row lp) some.0 some.1 (sym (ap (λ (s : Status). not_missing u some.0.disk && not (calls_stale s some.0)) same) ∙ some.2);
               };
             };
           }))

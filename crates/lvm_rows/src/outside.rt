@@ -2,8 +2,8 @@
 
 use crate::fault::Fault;
 use crate::parse;
-use lvm_faults::Planned;
 use lvm_io::{MemSink, MemSource};
+use lvm_memory::Planned;
 use lvm_num::Rows;
 use std::alloc::Global;
 

@@ -1,7 +1,7 @@
 //! The words of a case.
 
 use crate::fault::Fault;
-use lvm_faults::{Act, Planned};
+use lvm_memory::{Act, Planned};
 use lvm_num::Text;
 use std::alloc::Global;
 

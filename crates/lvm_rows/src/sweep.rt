@@ -7,9 +7,8 @@ use crate::fault::Fault;
 use crate::outside::{Outside, Streams};
 use crate::run::{Sizes, blank, judged, run};
 use crate::script::Script;
-use lvm_faults::{Act, Planned};
 use lvm_io::MemClock;
-use lvm_memory::MemShelf;
+use lvm_memory::{Act, MemShelf, Planned};
 use std::alloc::Global;
 use std::collections::BTreeSet;
 

@@ -19,6 +19,7 @@ use Rattle.lvm_num.specs.declared.status.Status.{Status}
 use Rattle.lvm_num.specs.Descriptor.{IsVolume, IsPartitionOf, IsLaidOut, IsValid, copies_of}
 use Rattle.lvm_num.specs.Status.{calls_stale, calls_missing}
 use Rattle.lvm_num.proofs.DisksLemmas.{has-zero, has-with}
+use Rattle.lvm_num.proofs.Booleans.{same_turned, not_so, not_either, or_left, twice_fails, thrice_holds}
 use Rattle.lvm_kept.specs.Examples.{member}
 use Rattle.lvm_kept.specs.passed.Names.{Begun, Ordered}
 use Rattle.lvm_mwc.specs.declared.entries.CacheEntry.{CacheEntry}
@@ -41,11 +42,11 @@ use Rattle.lvm_session.specs.Causes.{AreCaused, AreCounted, IsChosenSince, IsCau
 use Rattle.lvm_session.specs.Sound.{count_if, may_be_fresh, out_with, stays_fresh, IsAsked, IsCopy, IsFitting, IsTold, IsGoing, IsOn, IsSound}
 use Rattle.lvm_session.specs.Worked.{behind, begun_write, second_copy, status_of}
 use Rattle.lvm_session.specs.Busy.{BusyIsSound, begun_read, busy_core, busy_device, data_flight, got_read, group_of_three, half_written, other_part, part, target_at, wide, writing}
-use Rattle.lvm_session.proofs.Small.{not_so, not_either, not_none, or_left}
+use Rattle.lvm_session.proofs.Small.{not_none}
 use Rattle.lvm_session.proofs.SoundLemmas.{sound_while_on}
 use Rattle.lvm_session.proofs.RequestsLemmas.{laid_in, shaped, waits_with}
-use Rattle.lvm_session.proofs.WorkedLemmas.Parts.{update_is_sound, none_cleared, none_missing, not_marked, one_stale, placed, valid as valid_before, zeros_at}
-use Rattle.lvm_session.proofs.WorkedLemmas.Flying.{no_note_flies, notes_named, one_entry, one_pin, turned}
+use Rattle.lvm_session.proofs.WorkedLemmas.Parts.{update_is_sound, none_missing, not_marked, placed, valid as valid_before, zeros_at}
+use Rattle.lvm_session.proofs.WorkedLemmas.Flying.{no_note_flies, notes_named, one_entry, one_pin}
 use Rattle.lvm_session.proofs.WorkedLemmas.Whole.{begun_so}
 
 -- ---- the group
@@ -162,7 +163,7 @@ none_flies (suc zero) = refl
 none_flies (suc (suc target)) = refl
 
 owned : AreOwned busy_core
-owned (owner.Data id target) = by (id == 1) (target == 0) (1 == id) (2 == id) (target_flies target half_written) (target_flies target got_read) (turned 1 id) (first_flies target) (none_flies target)
+owned (owner.Data id target) = by (id == 1) (target == 0) (1 == id) (2 == id) (target_flies target half_written) (target_flies target got_read) (same_turned 1 id) (first_flies target) (none_flies target)
   where
     none : (d : Bool) → ◌≡◌ {A = ℕ} (count_if (d && false || false)) 0
     none true = refl
@@ -233,7 +234,7 @@ each_is disk is =
     ap (λ t. t || (has 0 disk || has 1 disk)) (on_others disk)
     ∙ ap (λ t. disk == 1 || disk == 2 || (t || has 1 disk)) (has-zero disk)
     ∙ ap (λ t. disk == 1 || disk == 2 || t) (has-with 0 0 (omega arith) disk ∙ ap (λ t. t || disk == 0) (has-zero disk))
-    ∙ ap (λ t. t || disk == 2 || disk == 0) (turned disk 1) ∙ ap (λ t. 1 == disk || t || disk == 0) (turned disk 2) ∙ ap (λ t. 1 == disk || 2 == disk || t) (turned disk 0)
+    ∙ ap (λ t. t || disk == 2 || disk == 0) (same_turned disk 1) ∙ ap (λ t. 1 == disk || t || disk == 0) (same_turned disk 2) ∙ ap (λ t. 1 == disk || 2 == disk || t) (same_turned disk 0)
     ∙ by (0 == disk) (1 == disk) (2 == disk) (calls_missing busy_core.status.wanted disk) is
   where
     by : (a b c d : Bool) → (a || (b || (c || false))) && not d ≡ true → b || c || a ≡ true
@@ -382,7 +383,7 @@ goes_on = record {
   behind = λ p is. none_behind p is;
   reviewed = runs_on;
   fresh = has_fresh;
-  clearings = λ p held clear. none_cleared (calls_stale (status_of behind) p) held clear;
+  clearings = λ p held clear. twice_fails (calls_stale (status_of behind) p) held clear;
   numbers = numbers;
 }
 
@@ -410,7 +411,7 @@ is_sound =
         votes = votes;
         still_missing = λ disk is. not_so (sym (none_missing true disk) ∙ is);
         missing = λ disk is. inl is;
-        stale = λ p is. inl (one_stale (calls_stale (status_of behind) p) is);
+        stale = λ p is. inl (thrice_holds (calls_stale (status_of behind) p) is);
       };
     })
 

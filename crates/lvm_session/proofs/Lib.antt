@@ -7,3 +7,6 @@ pub mod RequestsLemmas
 pub mod SoundLemmas
 mod BusyLemmas
 pub mod EventsLemmas
+mod HandsLemmas
+mod DarkLemmas
+mod LogLemmas

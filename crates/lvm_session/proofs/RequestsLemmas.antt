@@ -6,6 +6,7 @@ use Rattle.lvm_num.specs.Buffer.{Buffer}
 use Rattle.lvm_num.specs.declared.descriptor.LvRow.{LvRow}
 use Rattle.lvm_num.specs.Descriptor.{volume_of}
 use Rattle.lvm_num.specs.Geometry.{volume_blocks}
+use Rattle.lvm_num.proofs.Booleans.{not_so, not_either}
 use Rattle.lvm_path.specs.passed.Names.{is_flying}
 use Rattle.lvm_path.specs.declared.request.Request.{Request}
 use Rattle.lvm_path.specs.declared.target.Target.{Target}
@@ -15,7 +16,6 @@ use Rattle.lvm_session.specs.declared.open.Open.{Open}
 use Rattle.lvm_session.specs.State.{Core}
 use Rattle.lvm_session.specs.Judging.{is_waiting}
 use Rattle.lvm_session.specs.Requests.{IsLaid, IsOpenOne, IsPhase, IsRequest, IsShaped, IsTarget, is_past_held}
-use Rattle.lvm_session.proofs.Small.{not_so, not_either}
 
 -- it lies in one track group of this volume
 pub laid_in : {core : Core} {r : Request} (row : LvRow) → volume_of core.descriptor (lv_of r.ask) ≡ Some row → 1 ≤ count_of r.ask → at_of r.ask + count_of r.ask ≤ volume_blocks core.descriptor.mib row.lps

@@ -20,3 +20,4 @@ pub mod Sound
 pub mod Asking
 pub mod Worked
 pub mod Busy
+pub mod Hands

@@ -1,22 +1,28 @@
 //! A session of a group beside its shelf: what it has, how the copies of its volumes stand, what each
-//! request is told, and which event comes first; what each event makes of it and its shelf; and what holds
-//! of it at every moment, and how much work is left in it.
+//! request is told, and which event comes first; what each event makes of it and its shelf; what holds of
+//! it at every moment, and how much work is left in it; and its end, where what is open lands and what is
+//! in hand goes back.
 #![tactic(auto)]
 
 mod answers;
 pub mod below;
 mod bringing;
+mod ends;
 mod event;
 mod flown;
+mod landings;
 mod laws;
 mod open;
+mod orders;
 mod origin;
 mod session;
 
 pub use answers::{AskFault, CopyFault, CopyState, Taken, Turned};
 pub use bringing::{CopyEnd, OpenCopy, Step};
+pub use ends::{darken, go_off};
 pub use event::Event;
 pub use flown::{Flown, Owner};
+pub use landings::give_back;
 pub use laws::{
     admission_marks, answers_are_told, beginnings_are_sound, blame_needs_faults, busy_is_sound,
     commit_lowers_work, copies_are_sound, darkness_keeps_notes, flying_writes_are_sound,
@@ -24,5 +30,6 @@ pub use laws::{
     unsettled_is_fresh, waiting_writes_pin,
 };
 pub use open::{Open, Power};
+pub use orders::arranged;
 pub use origin::Origin;
 pub use session::Session;

@@ -10,9 +10,9 @@ use Rattle.lvm_session.specs.declared.answers.Turned.{Turned}
 use Rattle.lvm_session.specs.declared.answers.Turned.TheVariants as turned
 use Rattle.lvm_session.specs.Events.{StartsData, begun_as}
 use Rattle.lvm_session.specs.Turns.{Makes, Moves, NoStart, OnMakes, is_start}
-use Rattle.lvm_starts.specs.passed.Names.{StartGives}
+use Rattle.lvm_moves.specs.Launching.{StartGives}
 use Rattle.lvm_moves.specs.Moving.{FirstGives}
-use Rattle.lvm_starts.specs.Starts.{CanStart, StartsFirst}
+use Rattle.lvm_moves.specs.Starts.{CanStart, StartsFirst}
 use Rattle.lvm_session_turn.specs.Taking.{FirstMakes}
 
 -- ---- the parts

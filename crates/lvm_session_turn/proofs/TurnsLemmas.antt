@@ -15,7 +15,7 @@ use Rattle.lvm_session.specs.Ends.{EndsAs, Returns}
 use Rattle.lvm_session.specs.Turns.{Darkens, FinishMakes}
 use Rattle.lvm_session.specs.Owners.{AreRows}
 use Rattle.lvm_session.specs.Sound.{IsSound, count_if, has_number}
-use Rattle.lvm_copy_learn.specs.passed.Names.{HasEnded}
+use Rattle.lvm_session_turn.specs.Ended.{HasEnded}
 use Rattle.lvm_session_turn.specs.Finishing.{Rests}
 
 -- ---- the list is that of the flights

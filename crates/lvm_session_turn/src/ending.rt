@@ -8,16 +8,17 @@ ghost use Rattle.lvm_session.specs.Ends.{Learns};
 ghost use Rattle.lvm_session.specs.Turns.{FinishMakes};
 ghost use Rattle.lvm_session.specs.Sound.{IsGoing, IsSound};
 ghost use Rattle.lvm_moves.specs.passed.Names.{IsDue};
-ghost use Rattle.lvm_copy_learn.specs.passed.Names.{HasEnded};
+ghost use Rattle.lvm_session_turn.specs.Ended.{HasEnded};
 ghost use Rattle.lvm_session_turn.specs.Finishing.{Rests};
 
-use lvm_copy_learn::below::{Back, end_data, end_note, end_status, reap_row};
-use lvm_copy_learn::end_step;
+use crate::copy_learn::end_step;
+use crate::data::end_data;
+use crate::records::{end_note, end_status};
+use crate::rows::{Back, reap_row};
 use lvm_disk::Shelf;
-use lvm_moves::below::{Due, is_lost, is_quiet_for};
+use lvm_moves::below::{Due, darken, go_off, is_lost, is_quiet_for};
 use lvm_num::Pbuf;
 use lvm_session::{Owner, Session, Turned};
-use lvm_starts::below::{darken, go_off};
 
 // The owner of a transfer that has ended learns how.
 fn learn(session: &mut Session, at: usize, owner: Owner, ok: bool, buf: Pbuf)

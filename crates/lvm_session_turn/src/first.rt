@@ -8,16 +8,14 @@ ghost use Rattle.lvm_session.specs.Rooms.{HasRooms, SameRooms};
 ghost use Rattle.lvm_session.specs.State.{state};
 ghost use Rattle.lvm_session.specs.Sound.{IsGoing, IsSound};
 ghost use Rattle.lvm_moves.specs.passed.Names.{IsDue};
-ghost use Rattle.lvm_starts.specs.passed.Names.{StartGives};
-ghost use Rattle.lvm_starts.specs.Starts.{CanStart, StartsFirst};
+ghost use Rattle.lvm_moves.specs.Launching.{StartGives};
+ghost use Rattle.lvm_moves.specs.Starts.{CanStart, StartsFirst};
 ghost use Rattle.lvm_session_turn.specs.Taking.{FirstMakes};
 
 use lvm_disk::Shelf;
-use lvm_moves::below::{Due, is_lost};
-use lvm_moves::{land_first, move_first};
+use lvm_moves::below::{Due, first_start, is_lost};
+use lvm_moves::{land_first, make_start, move_first};
 use lvm_session::{Event, Session, Turned};
-use lvm_starts::below::first_start;
-use lvm_starts::make_start;
 
 // The transfer of an event that starts one is.
 fn start<S: Shelf>(session: &mut Session, shelf: &mut S, event: Event, due: &mut Due) -> Turned

@@ -8,8 +8,8 @@ ghost use Rattle.lvm_session.specs.Turns.{ArrangesSession};
 ghost use Rattle.lvm_session.specs.Sound.{IsSound};
 
 use lvm_disk::{Arrange, Shelf};
+use lvm_moves::below::arranged;
 use lvm_session::Session;
-use lvm_starts::below::arranged;
 
 /// The shelf is given an order: a disk fails or heals, or the power is cut, which ends the session. Answers whether
 /// the shelf takes such orders; one that doesn't changes nothing.

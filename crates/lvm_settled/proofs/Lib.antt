@@ -1,3 +1,4 @@
 pub mod passed
 pub mod SettledLemmas
 pub mod ExamplesLemmas
+pub mod EvenLemmas

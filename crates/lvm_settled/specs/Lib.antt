@@ -1,3 +1,4 @@
 pub mod passed
 pub mod Settled
 pub mod Examples
+pub mod Even

@@ -14,8 +14,9 @@ use Rattle.lvm_num.specs.declared.descriptor.Descriptor.{Descriptor}
 use Rattle.lvm_num.specs.Descriptor.{IsValid, IsPartitionOf, partitions_used, is_pp}
 use Rattle.lvm_num.proofs.MarksLemmas.Maps.{find-Some}
 use Rattle.lvm_num.proofs.Pairs.{AllPairs-right}
+use Rattle.lvm_num.proofs.Lists.{pairs_head}
 use Rattle.lvm_map.specs.FirstFit.{is_among, partitions_of, free_of}
-use Rattle.lvm_map.proofs.FirstFitLemmas.FreeLists.{is_pp-true, is_pp-same, is_pp-apart, partitions-size, AllPairs-first}
+use Rattle.lvm_map.proofs.FirstFitLemmas.FreeLists.{is_pp-true, is_pp-same, is_pp-apart, partitions-size}
 
 abbrev one_if : Bool → ℕ
 one_if b = cond b 1 0
@@ -123,7 +124,7 @@ free_and_used row (u ∷ us) apart within =
     let rest = free_and_used row us (AllPairs-right (λ (a b : Pp). a ≢ b) (u ∷ []) us apart) (All-tail (λ (v : Pp). v.disk ≡ row.disk → v.pp < row.pps) u us within) in
     let without = without_one (λ pp. not (is_among us pp)) (λ pp. not (is_among (u ∷ us) pp)) u
     (λ x. not_or (is_pp u x) (is_among us x))
-    (ap not (not_among u us (AllPairs-first (λ (a b : Pp). a ≢ b) u us apart)))
+    (ap not (not_among u us (pairs_head (λ (a b : Pp). a ≢ b) u us apart)))
     (partitions_of row) in
     let next = sum_by-cons (λ (v : Pp). cond (v.disk == row.disk) 1 0) u us in
     let its : count_by (is_pp u) (partitions_of row) ≡ cond (u.disk == row.disk) 1 0 = elim (cases_Bool (u.disk == row.disk)) [

@@ -2,3 +2,7 @@ pub mod Appending
 pub mod Found
 mod FirstFitLemmas
 mod DescriptorLemmas
+mod BlocksLemmas
+mod RefusalsLemmas
+mod NameLemmas
+mod Digits

@@ -12,7 +12,7 @@ use Rattle.lvm_num.specs.Descriptor.{copies_of, member_of, volume_of}
 use Rattle.lvm_num.specs.Status.{calls_stale, calls_missing}
 use Rattle.lvm_num.specs.Votes.{total_votes}
 use Rattle.lvm_show.specs.Counts.{all_partitions, free_on, all_free, all_stale, stale_on, stale_in, missing_members, carriers, quorum_votes}
-use Rattle.lvm_replies.specs.Texts.{disk_name, counted, four_digits}
+use Rattle.lvm_show.specs.Texts.{disk_name, counted, four_digits}
 
 -- ---- a group
 

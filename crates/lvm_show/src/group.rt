@@ -7,8 +7,8 @@ ghost use Rattle.lvm_show.specs.Listings.{group_text, name_line, sizes_text, par
 use crate::counts::{
     all_free, all_partitions, all_stale, carriers, missing_members, quorum_votes, stale_in,
 };
+use crate::words::{push_counted, text_of};
 use lvm_num::{Descriptor, LvRow, Memory, Text};
-use lvm_replies::{push_counted, text_of};
 use lvm_stale::StaleTable;
 use std::alloc::{AllocError, Global};
 

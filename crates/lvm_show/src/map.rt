@@ -5,8 +5,8 @@ ghost use Rattle.lvm_num.specs.declared.descriptor.LvRow.{LvRow};
 ghost use Rattle.lvm_num.specs.Descriptor.{IsValid, IsLaidOut, volume_of, copies_of};
 ghost use Rattle.lvm_show.specs.Listings.{copy_text, partition_line, map_text, volume_map_text};
 
+use crate::words::FourDigits;
 use lvm_num::{Descriptor, LvRow, Memory, Pp, Text, copies_of, volume_among};
-use lvm_replies::FourDigits;
 use lvm_stale::StaleTable;
 use std::alloc::{AllocError, Global};
 

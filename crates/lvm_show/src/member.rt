@@ -8,8 +8,8 @@ ghost use Rattle.lvm_num.specs.Descriptor.{IsValid, member_of};
 ghost use Rattle.lvm_show.specs.Listings.{state_text, member_state, member_counts, member_text, disk_text};
 
 use crate::counts::{free_on, stale_on};
+use crate::words::text_of;
 use lvm_num::{Descriptor, Memory, PvRow, Text};
-use lvm_replies::text_of;
 use lvm_stale::StaleTable;
 use std::alloc::{AllocError, Global};
 

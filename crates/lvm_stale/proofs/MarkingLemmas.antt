@@ -2,7 +2,7 @@
 use Rattle.std.proofs.Common.{◌≡◌, ◌⊎◌, inl, inr, ⊎_elim, ℕ, zero, suc, ◌+◌, ◌*◌, ◌<◌, ◌≤◌, Bool, true, false, ◌||◌, ◌&&◌, ◌==◌, List, [], ◌∷◌, length, get_or, take, drop, map, refl, sym, ap, subst, ◌∙◌, arith}
 use Rattle.std.specs.Prelude.{IsTrue, IsFalse, not, All}
 use Rattle.std.specs.List.{list_any}
-use Rattle.std.proofs.lemmas.Bool.{cases_lt, or_left, or_right}
+use Rattle.std.proofs.lemmas.Bool.{cases_lt, or_left, or_right, or_cases}
 use Rattle.std.proofs.lemmas.List.{take_more, get_or_default}
 use Rattle.std.proofs.lemmas.List.Elements.{All-take, All-drop}
 use Rattle.lvm_num.specs.declared.place.Pp.{Pp}
@@ -16,7 +16,7 @@ use Rattle.lvm_num.specs.Descriptor.{copies_of, partitions_in, is_pp}
 use Rattle.lvm_num.specs.Status.{IsValidStatus, calls_stale}
 use Rattle.lvm_num.specs.Among.{IsOneOf}
 use Rattle.lvm_num.proofs.AmongLemmas.{one_of_left, one_of_right, one_of_either}
-use Rattle.lvm_num.proofs.Booleans.{clash}
+use Rattle.lvm_num.proofs.Booleans.{clash, or_when_false}
 use Rattle.lvm_num.proofs.DescriptorLemmas.Partitions.{one_partition, same_partition}
 use Rattle.lvm_stale.specs.Table.{has_row, SameMembers, SameMissing}
 use Rattle.lvm_stale.specs.Marking.{is_served, IsLeft, IsLeftBelow, IsLeftIn, Marks, HasMark}
@@ -53,18 +53,6 @@ pub markable_copies : (s : Status) (row : LvRow) (lp : ℕ) → All (HasMark s) 
 markable_copies s row lp all = All-take (HasMark s) row.copies (drop (lp * row.copies) row.map) (All-drop (HasMark s) (lp * row.copies) row.map all)
 
 -- ---- marks
-
-either : (a b : Bool) → IsTrue (a || b) → IsTrue a ⊎ IsTrue b
-either true b is = inl refl
-either false b is = inr is
-
-both : (a b : Bool) → IsTrue (a && b) → IsTrue a × IsTrue b
-both true b is = (refl, is)
-both false b is = absurd cc
-
-or_none : (a b : Bool) → b ≡ false → a || b ≡ a
-or_none true b e = refl
-or_none false b e = e
 
 module _ (answering : Disks) where
   pub marks_none : (P : Pp → Type 0) (s : Status) → IsValidStatus s → ((p : Pp) → P p → ⊥) → Marks answering P s s
@@ -111,8 +99,8 @@ module _ (answering : Disks) where
     dirty = dirty;
     kept = λ p is. stale p ∙ or_left (calls_stale old p) (is_pp p pp) is;
     marked = λ p is. stale p ∙ or_right (calls_stale old p) (is_pp p pp) (same_partition p pp is);
-    only = λ p is. ⊎_elim (λ was. inl was) (λ here. inr (one_partition p pp here)) (either (calls_stale old p) (is_pp p pp) (sym (stale p) ∙ is));
-    answered = λ p is. stale p ∙ or_none (calls_stale old p) (is_pp p pp) (not_it (is_pp p pp) p is refl);
+    only = λ p is. ⊎_elim (λ was. inl was) (λ here. inr (one_partition p pp here)) (or_cases (calls_stale old p) (is_pp p pp) (sym (stale p) ∙ is));
+    answered = λ p is. stale p ∙ or_when_false (calls_stale old p) (is_pp p pp) (not_it (is_pp p pp) p is refl);
   }
     where
       not_it : (t : Bool) (p : Pp) → IsTrue (answering p.disk) → is_pp p pp ≡ t → t ≡ false

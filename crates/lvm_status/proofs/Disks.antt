@@ -2,7 +2,7 @@
 use Rattle.std.proofs.Common.{◌≡◌, inl, inr, ℕ, ◌+◌, ◌<◌, Bool, true, false, ◌&&◌, ◌||◌, not, List, length, get_or, take, refl, sym, ap, ◌∙◌, arith}
 use Rattle.std.specs.Prelude.{◌==◌}
 use Rattle.std.specs.List.{list_any}
-use Rattle.std.proofs.lemmas.Bool.{eq-eqb, eqb-true}
+use Rattle.std.proofs.lemmas.Bool.{eq-eqb, eqb-true, false_from_ne_true}
 use Rattle.std.proofs.lemmas.Bool.Decides.{eqb_tells}
 use Rattle.std.proofs.lemmas.List.Folds.{Any-from_list_any, list_any_more}
 use Rattle.lvm_stale.specs.passed.Names.{PvRow, Descriptor, IsValid, is_member, Disks}
@@ -65,12 +65,9 @@ leaves is gone has_gone old now e = e ∙ sym (ap (λ b. old || (is && not b)) h
     without false true = refl
     without false false = refl
 
-pub no_is_false : (b : Bool) → (b ≡ true → ⊥) → b ≡ false
-no_is_false b never = elim (bool_tells b) [ inl is ↦ absurd (never is) | inr isnt ↦ isnt ]
-
 -- a test for equal numbers, either way round
 pub swap : (m n : ℕ) → m == n ≡ n == m
 swap m n = elim (eqb_tells m n) [
   | inl same ↦ same.0 ∙ sym (eq-eqb n m (sym same.1))
-  | inr apart ↦ apart.0 ∙ sym (no_is_false (n == m) (λ is. apart.1 (sym (eqb-true n m is))))
+  | inr apart ↦ apart.0 ∙ sym (false_from_ne_true (n == m) (λ is. apart.1 (sym (eqb-true n m is))))
 ]

@@ -1,7 +1,8 @@
 -- A descriptor that differs in one volume keeps the history.
-use Rattle.std.proofs.Common.{◌≡◌, ◌⊎◌, inl, inr, ⊎_elim, ℕ, ◌<◌, true, false, ◌&&◌, List, [], ◌∷◌, ◌++◌, Option, Some, None, refl, sym, ap, subst, ◌∙◌, eq-eqb}
-use Rattle.std.specs.Prelude.{IsTrue, ◌==◌, is_some}
-use Rattle.std.proofs.lemmas.Bool.{eqb-true}
+use Rattle.std.proofs.Common.{◌≡◌, ◌⊎◌, inl, inr, ⊎_elim, ℕ, ◌<◌, true, ◌&&◌, List, [], ◌∷◌, ◌++◌, Option, Some, None, refl, sym, ap, subst, ◌∙◌}
+use Rattle.std.specs.Prelude.{IsTrue, is_some}
+use Rattle.std.proofs.lemmas.Option.{same_Some}
+use Rattle.std.proofs.lemmas.Bool.{cases_eq}
 use Rattle.lvm_num.specs.declared.record.Stamp.{Stamp}
 use Rattle.lvm_num.specs.declared.descriptor.PvRow.{PvRow}
 use Rattle.lvm_num.specs.declared.descriptor.LvRow.{LvRow}
@@ -19,14 +20,14 @@ use Rattle.lvm_kept.specs.Contents.{Contents}
 use Rattle.lvm_kept.specs.Group.{passes, is_of, has_room, is_voter, status_among, Finds, IsFound, members_in, status_by, Reads, ReadsBy, fresh_on, IsBlockOf, IsOneOf, IsSome}
 use Rattle.lvm_kept.specs.Committed.{IsWithinDisks}
 use Rattle.lvm_kept.specs.Kept.{StandsAs, HasStatus, IsBlockKept, BlocksKept, IsSettledIn, IsAvailable, Kept}
-use Rattle.lvm_kept.proofs.CommittedLemmas.Finding.{some_same, finding_reads}
+use Rattle.lvm_kept.proofs.CommittedLemmas.Finding.{finding_reads}
 use Rattle.lvm_kept.proofs.CommittedLemmas.Alike.{like_found, alike_stays}
 use Rattle.lvm_kept.proofs.ChangesLemmas.Restamping.{fewer_blocks}
 use Rattle.lvm_kept.proofs.ChangesLemmas.Entries.{volume_is_row}
 use Rattle.lvm_kept.proofs.KeptLemmas.{same_block}
 use Rattle.lvm_steps.specs.Committing.{IsServed, CommitKeeps}
 use Rattle.lvm_steps.proofs.GroupLemmas.Revaluing.{new, h, mid, mid_kept, mid_reads, mid_status, mid_members, Behind, behind, members_same, status_same, reads_behind, still_found}
-use Rattle.lvm_steps.proofs.RecordLemmas.{either, clash, split, join, not-itself}
+use Rattle.lvm_steps.proofs.RecordLemmas.{split, join, not-itself}
 
 -- where one row needs a status, there is one
 one_needs : (rows : List LvRow) (s : Option (Stamped Status)) (row : LvRow) → IsOneOf rows row → HasStatus rows s → IsTrue (is_some s)
@@ -36,9 +37,6 @@ one_needs (r ∷ rows) s row one has = has
 each_has : (rows : List LvRow) (s : Option (Stamped Status)) → ((row : LvRow) → IsOneOf rows row → IsTrue (is_some s)) → HasStatus rows s
 each_has [] s each = tt
 each_has (r ∷ rows) s each = each r (inl refl)
-
-same_number : (a b : ℕ) → (a ≡ b) ⊎ (a ≡ b → ⊥)
-same_number a b = ⊎_elim (λ (is : (a == b) ≡ true). inl (eqb-true a b is)) (λ (isnt : (a == b) ≡ false). inr (λ e. clash (a == b) (eq-eqb a b e) isnt)) (either (a == b))
 
 module _ (old : Contents) (shown : ℕ → Option (Stamped Descriptor)) (g : Descriptor) (n : Stamp) (rows : List LvRow)
     (own : (d : ℕ) → (shown d ≡ old.descriptor d) ⊎ ((shown d ≡ Some (record { stamp = n; value = record g { lvs = rows } })) × IsTrue (passes (is_of g.id) (old.descriptor d))))
@@ -85,7 +83,7 @@ module _ (old : Contents) (shown : ℕ → Option (Stamped Descriptor)) (g : Des
       ⊎_elim
       (λ (its : row.number ≡ lv). inr (its, named, is.1, is.2))
       (λ (isnt : row.number ≡ lv → ⊥). inl (subst (λ (x : Descriptor). IsOneOf x.lvs row) (sym is.1) (others row named isnt)))
-      (same_number row.number lv))
+      (cases_eq row.number lv))
       it.how
 
   -- ---- by any quorum's status
@@ -175,7 +173,7 @@ module _ (old : Contents) (shown : ℕ → Option (Stamped Descriptor)) (g : Des
       (λ (its : number ≡ lv). subst (λ (m : ℕ). StandsAs g.mib (volumes_in facts m).standing (volumes_in facts m).shape (volume_of next m)) (sym its) stands)
       (λ (isnt : number ≡ lv → ⊥). subst (λ (o : Option LvRow). StandsAs g.mib (volumes_in facts number).standing (volumes_in facts number).shape o) (sym (volumes number isnt))
       (subst (λ (x : Descriptor). StandsAs x.mib (volumes_in facts number).standing (volumes_in facts number).shape (volume_of x number)) is.1 stood))
-      (same_number number lv)))
+      (cases_eq number lv)))
       it.how
 
   available : (number : ℕ) → IsSettledIn facts number → IsAvailable now facts
@@ -221,13 +219,13 @@ module _ (old : Contents) (shown : ℕ → Option (Stamped Descriptor)) (g : Des
       (λ (old_r : shown d ≡ old.descriptor d). ⊎_elim
       (λ (old_s : shown e ≡ old.descriptor e). kept.lasting.descriptors d e r s (sym old_r ∙ shows) (sym old_s ∙ also) ids stamps)
       (λ (new_s : (shown e ≡ Some (record { stamp = n; value = next })) × IsTrue (passes (is_of g.id) (old.descriptor e))).
-      let same : s ≡ record { stamp = n; value = next } = some_same s (record { stamp = n; value = next }) (sym also ∙ new_s.0) in
+      let same : s ≡ record { stamp = n; value = next } = same_Some s (record { stamp = n; value = next }) (sym also ∙ new_s.0) in
       absurd (other_stamp d r (sym old_r ∙ shows) (ids ∙ ap (λ (x : Stamped Descriptor). x.value.id) same) (stamps ∙ ap (λ (x : Stamped Descriptor). x.stamp) same)))
       (own e))
       (λ (new_r : (shown d ≡ Some (record { stamp = n; value = next })) × IsTrue (passes (is_of g.id) (old.descriptor d))).
-      let same : r ≡ record { stamp = n; value = next } = some_same r (record { stamp = n; value = next }) (sym shows ∙ new_r.0) in ⊎_elim
+      let same : r ≡ record { stamp = n; value = next } = same_Some r (record { stamp = n; value = next }) (sym shows ∙ new_r.0) in ⊎_elim
       (λ (old_s : shown e ≡ old.descriptor e). absurd (other_stamp e s (sym old_s ∙ also) (sym ids ∙ ap (λ (x : Stamped Descriptor). x.value.id) same) (sym stamps ∙ ap (λ (x : Stamped Descriptor). x.stamp) same)))
-      (λ (new_s : (shown e ≡ Some (record { stamp = n; value = next })) × IsTrue (passes (is_of g.id) (old.descriptor e))). same ∙ sym (some_same s (record { stamp = n; value = next }) (sym also ∙ new_s.0)))
+      (λ (new_s : (shown e ≡ Some (record { stamp = n; value = next })) × IsTrue (passes (is_of g.id) (old.descriptor e))). same ∙ sym (same_Some s (record { stamp = n; value = next }) (sym also ∙ new_s.0)))
       (own e))
       (own d)
 

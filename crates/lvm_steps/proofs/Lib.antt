@@ -12,3 +12,4 @@ pub mod CommittingLemmas
 pub mod VolumeEntriesLemmas
 pub mod WorkedSessionLemmas
 pub mod EnteringLemmas
+pub mod LawsLemmas

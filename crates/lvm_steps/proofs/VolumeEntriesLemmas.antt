@@ -13,6 +13,7 @@ use Rattle.lvm_num.specs.Descriptor.{copies_of}
 use Rattle.lvm_num.specs.Votes.{all_disks}
 use Rattle.lvm_num.specs.Record.{Stamped}
 use Rattle.lvm_num.specs.Status.{calls_stale}
+use Rattle.lvm_num.proofs.Booleans.{first_alone}
 use Rattle.lvm_vol.specs.declared.entry.Vol.{Vol}
 use Rattle.lvm_vol.specs.declared.entry.Vol.TheVariants.{Disk, Lv}
 use Rattle.lvm_vol.specs.Facts.{Fact, Making, Made, Removing, Removed, Cut}
@@ -138,11 +139,6 @@ each_passing P q (x ∷ xs) each = by_test (q x) (each_passing P q xs (λ y is. 
     by_test true rest = (each x (inl refl), rest)
     by_test false rest = rest
 
-fresh_passes : (a b : Bool) → a ≡ true → b ≡ false → a && not b ≡ true
-fresh_passes true false p q = refl
-fresh_passes true true p q = absurd cc
-fresh_passes false b p q = absurd cc
-
 pub zeros_serve : ZerosServe
 zeros_serve c facts group row are = record {
   status = λ b k reads. ap is_some (are.found b k reads).1;
@@ -159,5 +155,5 @@ zeros_serve c facts group row are = record {
       let one = found.2 lp inside in
       subst (λ (s : Option (Stamped Status)). IsSome (fresh_on (members_in c all_disks group.id group) s row lp)) (sym found.1)
       (goes_in (λ (p : Pp). members_in c all_disks group.id group p.disk && not (calls_stale found.0.value p)) (copies_of row lp) one.0 one.1
-      (fresh_passes (members_in c all_disks group.id group one.0.disk) (calls_stale found.0.value one.0) one.2 one.3));
+      (first_alone (members_in c all_disks group.id group one.0.disk) (calls_stale found.0.value one.0) one.2 one.3));
 }

@@ -1,6 +1,7 @@
 -- Small groups in the making.
 use Rattle.std.proofs.Common.{◌≡◌, ◌⊎◌, inl, inr, ℕ, Bool, true, false, [], Some, None, refl, sym, ap, ◌∙◌, arith}
 use Rattle.std.specs.Prelude.{IsTrue, ◌==◌, ◌&&◌, if◌then◌else◌}
+use Rattle.std.proofs.lemmas.Option.{same_Some, none-some}
 use Rattle.std.proofs.lemmas.Bool.{eqb-true}
 use Rattle.lvm_num.specs.declared.descriptor.Descriptor.{Descriptor}
 use Rattle.lvm_num.specs.Disks.{Disks}
@@ -10,11 +11,11 @@ use Rattle.lvm_num.proofs.RecordLemmas.Newest.{is_one}
 use Rattle.lvm_kept.specs.Group.{passes, is_of, has_room, descriptor_among, is_voter, has_quorum, Finds, Reads}
 use Rattle.lvm_kept.specs.Kept.{Kept}
 use Rattle.lvm_kept.specs.Examples.{stamped, three, only}
-use Rattle.lvm_kept.proofs.CommittedLemmas.Finding.{some_same, offered, is_offered}
+use Rattle.lvm_kept.proofs.CommittedLemmas.Finding.{offered, is_offered}
 use Rattle.lvm_steps.specs.Making.{MayMake}
 use Rattle.lvm_steps.specs.WorkedMaking.{four_blank, status_of_three, half_stated, half_described, other_two, overwritten, left_over, with_left_over, newcomer, of_one_id, WorkedMaking}
 use Rattle.lvm_steps.proofs.MakingLemmas.NoVolumes.{empty_kept, statuses_may_change, descriptors_may_change}
-use Rattle.lvm_steps.proofs.RecordLemmas.{no_some, first}
+use Rattle.lvm_steps.proofs.RecordLemmas.{first}
 
 -- ---- nothing is shown
 
@@ -22,29 +23,29 @@ finds_nothing : (disks : Disks) (id : ℕ) (g : Descriptor) → Finds four_blank
 unfolding descriptor_among
 finds_nothing disks id g f =
     let one = is_one Descriptor (offered (is_of id) four_blank.descriptor disks) four_blank.disks f.newest f.found in
-    no_some f.newest (is_offered (is_of id) four_blank.descriptor disks one.0 f.newest one.2).0
+    none-some f.newest (is_offered (is_of id) four_blank.descriptor disks one.0 f.newest one.2).0
 
 pub blank : Kept four_blank []
-blank = empty_kept four_blank [] (λ d r shows. absurd (no_some r shows)) (record {
+blank = empty_kept four_blank [] (λ d r shows. absurd (none-some r shows)) (record {
   unsettled = λ lv settled. absurd cc;
   raw = λ d b there none low high. tt;
   common = λ a b id g h r s. absurd (finds_nothing r.found.0 id g r.found.1);
   size = λ id g h f k. absurd (finds_nothing f.0 id g f.1);
   partitions = λ id g h f k. absurd (finds_nothing f.0 id g f.1);
-  descriptors = λ d e r s shows. absurd (no_some r shows);
-  statuses = λ d e r s shows. absurd (no_some r shows);
-  alike = λ d e r s shows. absurd (no_some r shows);
+  descriptors = λ d e r s shows. absurd (none-some r shows);
+  statuses = λ d e r s shows. absurd (none-some r shows);
+  alike = λ d e r s shows. absurd (none-some r shows);
 })
 
 -- ---- a status, and a descriptor
 
 may_three : MayMake half_stated three
-may_three = record { empty = λ d r shows. absurd (no_some r shows); new_id = λ d r shows. absurd (no_some r shows); no_volume = refl; a_member = omega arith }
+may_three = record { empty = λ d r shows. absurd (none-some r shows); new_id = λ d r shows. absurd (none-some r shows); no_volume = refl; a_member = omega arith }
 
 stated : Kept half_stated []
 stated = statuses_may_change three all_disks status_of_three four_blank half_stated []
-    (record { empty = λ d r shows. absurd (no_some r shows); new_id = λ d r shows. absurd (no_some r shows); no_volume = refl; a_member = omega arith })
-    (λ d r shows. absurd (no_some r shows))
+    (record { empty = λ d r shows. absurd (none-some r shows); new_id = λ d r shows. absurd (none-some r shows); no_volume = refl; a_member = omega arith })
+    (λ d r shows. absurd (none-some r shows))
     (record { own = λ d. by_tests (d == 2) (d == 3); rest = refl })
     blank
   where
@@ -64,8 +65,8 @@ described = descriptors_may_change three all_disks (stamped 2 three) half_stated
 
 -- what the third disk shows is group 50 without a volume
 pub shows_three : (t : Bool) (r : Stamped Descriptor) → (if t then Some (stamped 2 three) else None) ≡ Some r → r ≡ stamped 2 three
-shows_three true r shows = sym (some_same (stamped 2 three) r shows)
-shows_three false r shows = absurd (no_some r shows)
+shows_three true r shows = sym (same_Some (stamped 2 three) r shows)
+shows_three false r shows = absurd (none-some r shows)
 
 forced : Kept overwritten []
 forced = descriptors_may_change other_two all_disks (stamped 4 other_two) half_described overwritten []
@@ -85,7 +86,7 @@ forced = descriptors_may_change other_two all_disks (stamped 4 other_two) half_d
 
 alone : Kept with_left_over []
 alone = descriptors_may_change left_over all_disks (stamped 2 left_over) four_blank with_left_over []
-    (record { empty = λ d r shows. absurd (no_some r shows); new_id = λ d r shows. absurd (no_some r shows); no_volume = refl; a_member = omega arith })
+    (record { empty = λ d r shows. absurd (none-some r shows); new_id = λ d r shows. absurd (none-some r shows); no_volume = refl; a_member = omega arith })
     refl (record { own = λ d. by_test (d == 3); rest = refl }) blank
   where
     by_test : (t : Bool) → ((if t then Some (stamped 2 left_over) else None) ≡ None) ⊎ (IsTrue true × ((if t then Some (stamped 2 left_over) else None) ≡ Some (stamped 2 left_over)))

@@ -1,6 +1,7 @@
 -- A group of three, varied on, and with a volume in the making.
 use Rattle.std.proofs.Common.{◌≡◌, ◌⊎◌, inl, inr, ℕ, ◌<◌, ◌≤◌, ◌/◌, Bool, true, false, ◌&&◌, List, [], ◌∷◌, ◌++◌, length, Option, Some, None, refl, sym, ap, subst, ◌∙◌, arith}
 use Rattle.std.specs.Prelude.{IsTrue, IsFalse, ◌==◌, nat_lt, ◌*◌, if◌then◌else◌, find}
+use Rattle.std.proofs.lemmas.Option.{same_Some, none-some as no_some}
 use Rattle.std.proofs.lemmas.Bool.{eqb-true}
 use Rattle.std.proofs.lemmas.Bool.Decides.{nat_tests}
 use Rattle.lvm_num.specs.declared.descriptor.Mode.TheVariants as mode
@@ -26,7 +27,7 @@ use Rattle.lvm_kept.specs.Kept.{Kept}
 use Rattle.lvm_kept.specs.Changes.{IsFoundByNone}
 use Rattle.lvm_kept.specs.Examples.{stamped, three, only, either_of}
 use Rattle.lvm_kept.proofs.CommittedLemmas.Alike.{one_shown_is_one}
-use Rattle.lvm_kept.proofs.CommittedLemmas.Finding.{some_same, offered, is_offered, offers}
+use Rattle.lvm_kept.proofs.CommittedLemmas.Finding.{offered, is_offered, offers}
 use Rattle.lvm_steps.specs.Committing.{IsServed}
 use Rattle.lvm_steps.specs.VaryingOn.{HasNewest}
 use Rattle.lvm_steps.specs.WorkedMaking.{four_blank, status_of_three}
@@ -37,7 +38,7 @@ use Rattle.lvm_steps.proofs.VaryingOnLemmas.Following.{restamp_is_newest}
 use Rattle.lvm_steps.proofs.CommittingLemmas.{commit_keeps}
 use Rattle.lvm_steps.proofs.VolumeEntriesLemmas.{volume_begins, zeros_serve}
 use Rattle.lvm_steps.proofs.WorkedMakingLemmas.{blank}
-use Rattle.lvm_steps.proofs.RecordLemmas.{no_some, first, second}
+use Rattle.lvm_steps.proofs.RecordLemmas.{first, second}
 
 -- written to the disks of a test, or to none
 put : {X : Type 0} (x o : Option X) (t : Bool) → ((if t then x else o) ≡ o) ⊎ (IsTrue t × ((if t then x else o) ≡ x))
@@ -45,7 +46,7 @@ put x o true = inr (refl, refl)
 put x o false = inl refl
 
 written : {X : Type 0} (x : X) (t : Bool) (r : X) → (if t then Some x else None) ≡ Some r → (t ≡ true) × (r ≡ x)
-written x true r e = (refl, sym (some_same x r e))
+written x true r e = (refl, sym (same_Some x r e))
 written x false r e = absurd (no_some r e)
 
 -- ---- the group

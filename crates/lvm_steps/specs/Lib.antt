@@ -10,3 +10,5 @@ pub mod Committing
 pub mod VolumeEntries
 pub mod WorkedSession
 pub mod Entering
+pub mod Behind
+pub mod Laws

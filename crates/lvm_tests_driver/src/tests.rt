@@ -1,7 +1,10 @@
+mod beside;
 mod copies;
 mod faults;
 mod fixtures;
 mod ranges;
 mod requests;
 mod steps;
+mod sync;
+mod sync_faults;
 mod waits;

@@ -1,4 +1,5 @@
-//! Tests of the making of groups, of their coming on, and of their recovery after a crash, by public calls alone.
+//! Tests of surveys, choices and writes of records, of commits, of beginnings of groups, of their coming on, and of
+//! their recovery after a crash, by public calls alone.
 #![tactic(auto)]
 
 #[cfg(test)]

@@ -1,4 +1,11 @@
 mod begin;
+mod choice;
+mod commit;
+mod disks;
+mod epochs;
 mod fixtures;
+mod members;
 mod recovery;
+mod survey;
 mod varyon;
+mod write;

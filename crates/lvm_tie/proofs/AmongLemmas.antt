@@ -2,6 +2,7 @@
 use Rattle.std.proofs.Common.{◌≡◌, ◌⊎◌, inl, inr, ⊎_elim, ℕ, zero, suc, Bool, true, false, ◌&&◌, ◌||◌, not, List, [], ◌∷◌, length, Some, refl, sym, ap, ◌∙◌, arith}
 use Rattle.std.specs.Prelude.{filter, if◌then◌else◌, slice_get, nat_le}
 use Rattle.std.specs.List.{list_any, list_all}
+use Rattle.std.proofs.lemmas.Bool.{and_parts, not-false}
 use Rattle.std.proofs.lemmas.Bool.Decides.{nat_tests}
 use Rattle.std.proofs.lemmas.Option.{same_Some}
 use Rattle.lvm_num.specs.declared.place.Pp.{Pp}
@@ -14,29 +15,20 @@ use Rattle.lvm_path.specs.declared.target.Target.{Target}
 use Rattle.lvm_path.specs.Targets.{is_begun}
 use Rattle.lvm_session.specs.Judging.{same_pps, pps_of}
 use Rattle.lvm_invariant.specs.State.{Stage, Todo}
-use Rattle.lvm_tie_shelf.proofs.WritingLemmas.{and_both, pp_same, same_pp}
+use Rattle.lvm_crash.proofs.WritingLemmas.{pp_same, same_pp}
 use Rattle.lvm_tie.specs.Seen.{stage_seen, stage_at}
-pub use Rattle.std.proofs.lemmas.Bool.{or_parts as or_left}
-pub use Rattle.std.proofs.lemmas.Bool.{or_cases as or_either}
-pub use Rattle.std.proofs.lemmas.Bool.{not-true as not_true}
+pub use Rattle.std.proofs.lemmas.Bool.{or_parts as or_left, or_cases as or_either, not-true as not_true}
 pub use Rattle.lvm_num.proofs.Booleans.{and_false}
+use Rattle.lvm_num.proofs.Booleans.{clash_gives}
 
 pub or_true : (a b : Bool) → (a ≡ true) ⊎ (b ≡ true) → (a || b) ≡ true
 or_true true b h = refl
 or_true false b (inl h) = absurd cc
 or_true false b (inr h) = h
 
-pub not_false : (a : Bool) → not a ≡ false → a ≡ true
-not_false true h = refl
-not_false false h = absurd cc
-
 pub and_not : (a b : Bool) → (a && not b) ≡ false → a ≡ true → b ≡ true
-and_not true b h is = not_false b h
+and_not true b h is = not-false b h
 and_not false b h is = absurd cc
-
-pub clash : {X : Type 0} (b : Bool) → b ≡ true → b ≡ false → X
-clash true h k = absurd cc
-clash false h k = absurd cc
 
 pub any_one : {X : Type 0} (test : X → Bool) (xs : List X) → list_any test xs ≡ true → (x : X) × IsOneOf xs x × (test x ≡ true)
 any_one test [] h = absurd cc
@@ -49,17 +41,8 @@ any_none test (y ∷ ys) x h (inr one) = any_none test ys x (or_left (test y) (l
 
 pub all_one : {X : Type 0} (test : X → Bool) (xs : List X) (x : X) → list_all test xs ≡ true → IsOneOf xs x → test x ≡ true
 all_one test [] x h one = absurd one
-all_one test (y ∷ ys) x h (inl is) = ap test is ∙ (and_both (test y) (list_all test ys) h).0
-all_one test (y ∷ ys) x h (inr one) = all_one test ys x (and_both (test y) (list_all test ys) h).1 one
-
-pub filter_one : {X : Type 0} (test : X → Bool) (xs : List X) (x : X) → IsOneOf (filter test xs) x → IsOneOf xs x × (test x ≡ true)
-filter_one test [] x one = absurd one
-filter_one test (y ∷ ys) x one = by (test y) refl one (filter_one test ys x)
-  where
-    by : (b : Bool) → test y ≡ b → IsOneOf (if b then y ∷ filter test ys else filter test ys) x → (IsOneOf (filter test ys) x → IsOneOf ys x × (test x ≡ true)) → IsOneOf (y ∷ ys) x × (test x ≡ true)
-    by true is (inl here) rest = (inl here, ap test here ∙ is)
-    by true is (inr there) rest = let r = rest there in (inr r.0, r.1)
-    by false is there rest = let r = rest there in (inr r.0, r.1)
+all_one test (y ∷ ys) x h (inl is) = ap test is ∙ (and_parts (test y) (list_all test ys) h).0
+all_one test (y ∷ ys) x h (inr one) = all_one test ys x (and_parts (test y) (list_all test ys) h).1 one
 
 pub one_filter : {X : Type 0} (test : X → Bool) (xs : List X) (x : X) → IsOneOf xs x → test x ≡ true → IsOneOf (filter test xs) x
 one_filter test [] x one passes = absurd one
@@ -80,7 +63,7 @@ same_lists [] [] h = refl
 same_lists [] (q ∷ qs) h = absurd cc
 same_lists (p ∷ ps) [] h = absurd cc
 same_lists (p ∷ ps) (q ∷ qs) h =
-    let both = and_both (is_pp p q) (same_pps ps qs) h in
+    let both = and_parts (is_pp p q) (same_pps ps qs) h in
     let head : p ≡ q = pp_same p q both.0 in
     let tail : ps ≡ qs = same_lists ps qs both.1 in
     λ t. head t ∷ tail t
@@ -108,7 +91,7 @@ one_todo (t ∷ ts) e none one = by (is_pp e t.pp) refl one (one_todo ts e (or_l
   where
     by : (b : Bool) → is_pp e t.pp ≡ b → IsOneOf (pps_of (t ∷ ts)) e → (IsOneOf (pps_of ts) e → stage_at ts e ≡ Some Todo) → (if b then Some (stage_seen t.state) else stage_at ts e) ≡ Some Todo
     by true is here rest = ap (λ (x : Stage). Some x) (waits_todo t.state (or_left (not (is_waiting t.state)) (is_begun ts) none).0)
-    by false is (inl here) rest = clash (is_pp e t.pp) (same_pp e t.pp here) is
+    by false is (inl here) rest = clash_gives (is_pp e t.pp) (same_pp e t.pp here) is
     by false is (inr there) rest = rest there
 
 -- the partition of a target is one of those

@@ -1,11 +1,12 @@
 -- The blocks of a step of the copy that is being brought up: those of one track group of its logical partition.
-use Rattle.std.proofs.Common.{◌≡◌, ℕ, ◌+◌, ◌-◌, ◌*◌, ◌<◌, ◌≤◌, Bool, true, false, List, refl, sym, ap, subst, ◌∙◌, arith}
+use Rattle.std.proofs.Common.{◌≡◌, ℕ, ◌+◌, ◌-◌, ◌*◌, ◌<◌, ◌≤◌, true, false, List, sym, ap, subst, ◌∙◌, arith}
 use Rattle.std.specs.Prelude.{IsTrue}
 use Rattle.lvm_num.specs.declared.place.Pp.{Pp}
 use Rattle.lvm_num.specs.declared.descriptor.Descriptor.{Descriptor}
 use Rattle.lvm_num.specs.Descriptor.{copies_of, is_member}
 use Rattle.lvm_num.specs.Geometry.{partition_blocks, track_group_of}
 use Rattle.lvm_num.specs.Status.{calls_missing}
+use Rattle.lvm_num.proofs.Booleans.{same_meaning}
 use Rattle.lvm_vol.specs.Facts.{Fact}
 use Rattle.lvm_map.proofs.Parts.{parts}
 use Rattle.lvm_map.proofs.LawsLemmas.OneToOne.{is_data}
@@ -18,18 +19,12 @@ use Rattle.lvm_session.specs.State.{Core, State}
 use Rattle.lvm_session.specs.Bringing.{block_at, groups_of}
 use Rattle.lvm_invariant.specs.State.{Queued, ModelState, covers}
 use Rattle.lvm_invariant.specs.Submit.{IsPlaced}
-use Rattle.lvm_tie_shelf.specs.Copies.{IsCopyOf}
-use Rattle.lvm_tie_shelf.proofs.CopiesLemmas.{copy_placed}
-use Rattle.lvm_tie_shelf.proofs.OwnedLemmas.{covered}
+use Rattle.lvm_crash.specs.Copies.{IsCopyOf}
+use Rattle.lvm_crash.proofs.CopiesLemmas.{copy_placed}
+use Rattle.lvm_crash.proofs.OwnedLemmas.{covered}
 use Rattle.lvm_tie.specs.Tied.{IsTied}
 use Rattle.lvm_tie.proofs.StateLemmas.{IsOfItsPartition, found_any}
 use Rattle.lvm_tie.proofs.TiedLemmas.Orderly.{valid_of}
-
--- what is meant by one thing is one
-pub same_meaning : {X : Type 0} (a b : Bool) → (IsTrue a → X) → (X → IsTrue a) → (IsTrue b → X) → (X → IsTrue b) → a ≡ b
-same_meaning true b ax xa bx xb = sym (xb (ax refl))
-same_meaning false true ax xa bx xb = xa (bx refl)
-same_meaning false false ax xa bx xb = refl
 
 module _ (past : List Fact) (s : State) (tied : IsTied past s) (c : OpenCopy) (its : IsOfItsPartition s.core c) (less : c.cursor < groups_of s.core) where
   abbrev core : Core

@@ -3,7 +3,7 @@ use Rattle.std.proofs.Common.{◌≡◌, ◌⊎◌, inl, inr, ℕ, suc, ◌+◌,
 use Rattle.std.specs.Prelude.{IfSome, IsTrue, slice_get, unwrap_or}
 use Rattle.std.specs.List.{AllByRecursion, list_any}
 use Rattle.std.specs.Option.{option_map, option_map_or}
-use Rattle.std.proofs.lemmas.Bool.{eqb-true, or_right}
+use Rattle.std.proofs.lemmas.Bool.{eqb-true, or_right, and_parts}
 use Rattle.std.proofs.lemmas.Bool.Decides.{nat_tests}
 use Rattle.lvm_num.specs.declared.descriptor.LvRow.{LvRow}
 use Rattle.lvm_num.specs.declared.place.Pp.{Pp}
@@ -13,6 +13,8 @@ use Rattle.lvm_num.specs.Disks.{has}
 use Rattle.lvm_num.specs.Geometry.{partition_of}
 use Rattle.lvm_num.specs.Record.{Stamped}
 use Rattle.lvm_num.specs.Status.{calls_missing, calls_stale}
+use Rattle.lvm_num.proofs.Booleans.{not_so, not_either}
+use Rattle.lvm_num.proofs.Lists.{all_at}
 use Rattle.lvm_disk.specs.Counts.{Rose}
 use Rattle.lvm_vol.specs.declared.entry.Outcome.{Outcome}
 use Rattle.lvm_vol.specs.declared.entry.Outcome.TheVariants as outcome
@@ -37,22 +39,17 @@ use Rattle.lvm_invariant.specs.Faults.{Faults, HasCause, HasFailed}
 use Rattle.lvm_invariant.specs.State.{Badly, Marks, ModelCopy, Queued, ModelState}
 use Rattle.lvm_crash.specs.Session.{as_marks}
 use Rattle.lvm_keeps_events.proofs.EndsLemmas.Counts.{rose_since}
-use Rattle.lvm_tie_shelf.proofs.CopiesLemmas.{number_finds}
-use Rattle.lvm_tie_shelf.proofs.WritingLemmas.{and_both, pp_same, same_pp}
+use Rattle.lvm_keeps_events.proofs.Lists.{found_at}
+use Rattle.lvm_crash.proofs.CopiesLemmas.{number_finds}
+use Rattle.lvm_crash.proofs.WritingLemmas.{pp_same, same_pp}
 use Rattle.lvm_tie.specs.Seen.{IsRequestAt, IsStepAt, SeesCopy, SeesRunning, stage_at, stage_seen}
 use Rattle.lvm_tie.specs.Tied.{IsTied}
 use Rattle.lvm_tie.proofs.StateLemmas.{copy_is, missing_seen, stale_seen, wanted_seen}
-use Rattle.lvm_tie.proofs.TiedLemmas.Orderly.{all_at, any_there, valid_of}
+use Rattle.lvm_tie.proofs.TiedLemmas.Orderly.{valid_of}
 use Rattle.lvm_tie.specs.Causes.{AreFaultsOf, CausesAreSeen, FaultsAreThere}
 use Rattle.lvm_tie.specs.Landings.{FailuresAreCaused, HadNone, HasCausesSince, HasLandedFor, IsEntryCaused}
 
 -- ---- small
-
-so_false : {X : Type 0} → true ≡ false → X
-so_false e = absurd cc
-
-so_true : {X : Type 0} → false ≡ true → X
-so_true e = absurd cc
 
 not_both : (m : Bool) → not (m && false) ≡ true
 not_both true = refl
@@ -60,8 +57,8 @@ not_both false = refl
 
 known_by : (m o : Bool) → m ≡ true → not (m && not o) ≡ true → o ≡ true
 known_by true true is e = refl
-known_by true false is e = so_true e
-known_by false o is e = so_true is
+known_by true false is e = not_so e
+known_by false o is e = not_so is
 
 neither : (a b : Bool) → (a ≡ true → ⊥) → (b ≡ true → ⊥) → not a && not b ≡ true
 neither true b one two = absurd (one refl)
@@ -97,7 +94,7 @@ failed_on (t ∷ ts) c e = by (is_pp c t.pp) refl e (failed_on ts c)
 
 -- a copy of the list that is found has a number, from 1
 numbered : (test : Pp → Bool) (ps : List Pp) → list_any test ps ≡ true → (number : ℕ) × (p : Pp) × (copy_at ps number ≡ Some p) × (test p ≡ true)
-numbered test ps is = let at = any_there test ps is in (at.0 + 1, at.1, place_of_number at.0 ∙ at.2, at.3)
+numbered test ps is = let at = found_at test ps is in (at.0 + 1, at.1, place_of_number at.0 ∙ at.2, at.3)
   where
     place_of_number : (k : ℕ) → copy_at ps (k + 1) ≡ slice_get ps k
     place_of_number k =
@@ -184,7 +181,7 @@ module _ (past first : List Fact) (s : State) (w : Faults) (tied : IsTied past s
         where
           whole : (b : Bool) → is_whole core c ≡ b → is_stale core c.pp ≡ true
           whole true all = ((copy_is past s tied c is).clearing runs all).0
-          whole false short = (and_both (is_stale core c.pp) (calls_stale (unwrap_or core.status.in_flight core.status.committed) c.pp) ((copy_is past s tied c is).stale runs short).0).0
+          whole false short = (and_parts (is_stale core c.pp) (calls_stale (unwrap_or core.status.in_flight core.status.committed) c.pp) ((copy_is past s tied c is).stale runs short).0).0
 
       running : (c : OpenCopy) → core.copy ≡ Some c → (b : Bool) → is_running c ≡ b → SeesRunning b (groups_of core) c v.open_copy → HasCause w o.target
       running c is true runs sees =
@@ -220,7 +217,7 @@ module _ (past first : List Fact) (s : State) (w : Faults) (tied : IsTied past s
   tried_failed copy is_open disk tried =
       let copies = copies_in core.descriptor copy.lv copy.lp in
       let one = numbered (λ (p : Pp). not (is_pp p copy.pp) && p.disk == disk) copies ((copy_is past s tied copy is_open).tried disk tried) in
-      let same : one.1.disk ≡ disk = eqb-true one.1.disk disk (and_both (not (is_pp one.1 copy.pp)) (one.1.disk == disk) one.3).1 in
+      let same : one.1.disk ≡ disk = eqb-true one.1.disk disk (and_parts (not (is_pp one.1 copy.pp)) (one.1.disk == disk) one.3).1 in
       let caused : IsCausedAmong s copies copy = subst (λ (m : Option OpenCopy). IfSome m (λ (x : OpenCopy). IsCausedAmong s (copies_in core.descriptor x.lv x.lp) x)) is_open sound.copy in
       subst (λ d. Rose (w.asked copy.place d) (w.now d)) same
       (subst (Rose (w.asked copy.place one.1.disk)) (sym (faults.now one.1.disk))
@@ -264,7 +261,7 @@ module _ (past first : List Fact) (s : State) (w : Faults) (tied : IsTied past s
           by : (a m : Bool) → calls_stale core.origin.table c ≡ a → calls_missing core.origin.table c.disk ≡ m → not a && not m ≡ false → IsTrue (w.stale c) ⊎ IsTrue (w.missing c.disk)
           by true m stale missing e = inl (faults.stale c ∙ stale)
           by false true stale missing e = inr (gone c.disk missing)
-          by false false stale missing e = so_false e
+          by false false stale missing e = not_either e
 
   landing_is : (r : Asked) (how : Outcome) → HasLandedFor s r how → LandingIsCaused w v r how
   landing_is r outcome.Lost why = (why.0, failed_of why.0 why.1)

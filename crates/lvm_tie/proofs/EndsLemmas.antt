@@ -1,6 +1,6 @@
 -- The end of a read's transfer, tied.
 use Rattle.std.proofs.Common.{◌≡◌, ◌⊎◌, inl, inr, ℕ, zero, suc, ◌-◌, Bool, true, false, ◌&&◌, ◌||◌, ◌==◌, not, List, [], ◌∷◌, Option, Some, None, refl, sym, ap, subst, ◌∙◌, arith}
-use Rattle.std.specs.Prelude.{IsTrue, if◌then◌else◌, slice_get, slice_set, nat_le}
+use Rattle.std.specs.Prelude.{IsTrue, if◌then◌else◌, slice_get, slice_set, nat_le, slice_index_or}
 use Rattle.std.specs.List.{list_any, remove}
 use Rattle.std.specs.Option.{option_map, option_map_or}
 use Rattle.std.proofs.lemmas.Bool.{cases_eq}
@@ -27,49 +27,41 @@ use Rattle.lvm_session.specs.declared.bringing.Step.TheVariants as step
 use Rattle.lvm_session.specs.declared.flown.Owner.{Owner}
 use Rattle.lvm_session.specs.declared.flown.Owner.TheVariants as owner
 use Rattle.lvm_session.specs.State.{Core, State, state}
-use Rattle.lvm_session.specs.Judging.{is_waiting, place_of}
-use Rattle.lvm_invariant.specs.State.{ModelState}
+use Rattle.lvm_session.specs.Judging.{is_waiting, place_of, is_running, is_kept, pps_of}
+use Rattle.lvm_invariant.specs.State.{ModelState, Stage, Going, Queued, Marks, covers, ModelPhase}
 use Rattle.lvm_path.specs.declared.request.Phase.TheVariants as phase
 use Rattle.lvm_path.specs.Next.{with_end}
-use Rattle.lvm_session.specs.Judging.{is_running}
-use Rattle.lvm_session.specs.Bringing.{has_row, is_out, is_whole}
+use Rattle.lvm_session.specs.Bringing.{has_row, is_out, is_whole, marked_by_end, with_back, with_end as with_copy_end}
 use Rattle.lvm_session.specs.Events.{IsDataTransfer}
-use Rattle.lvm_session.specs.Ends.{keeps_buffer, learned, after_data}
+use Rattle.lvm_session.specs.Ends.{keeps_buffer, learned, after_data, DataLearns, Ends}
 use Rattle.lvm_sched.specs.Writes.{is_waiting as target_waits}
-use Rattle.lvm_invariant.specs.State.{Stage, Going, Queued}
 use Rattle.lvm_num.specs.Descriptor.{is_pp}
+use Rattle.lvm_num.proofs.Booleans.{clash_gives}
 use Rattle.lvm_invariant.specs.Events.{Read}
 use Rattle.lvm_invariant.proofs.EventsLemmas.Each.{each_keeps}
 use Rattle.lvm_crash.specs.Session.{members_showing, Describes}
-use Rattle.lvm_tie_shelf.proofs.BringingLemmas.{read_leaves, read_gets}
-use Rattle.lvm_tie_shelf.proofs.RecordsLemmas.Quiet.{quiet_lasts, update_goes_on}
-use Rattle.lvm_tie_shelf.specs.Bringing.{IsReading, in_buffer}
-use Rattle.lvm_tie_shelf.specs.Owned.{OnlyUpdateSince}
-use Rattle.lvm_tie_shelf.specs.Writing.{stage_of}
+use Rattle.lvm_crash.proofs.BringingLemmas.{read_leaves, read_gets}
+use Rattle.lvm_crash.proofs.RecordsLemmas.Quiet.{quiet_lasts, update_goes_on}
+use Rattle.lvm_crash.specs.Bringing.{IsReading, in_buffer}
+use Rattle.lvm_crash.specs.Owned.{OnlyUpdateSince}
+use Rattle.lvm_crash.specs.Writing.{stage_of}
 use Rattle.lvm_tie.proofs.SeenLemmas.Changing.{stage_after, same_long, step_apart, sees_changed}
 use Rattle.lvm_tie.proofs.StateLemmas.{aimed_of}
 use Rattle.lvm_tie.proofs.TiedLemmas.Orderly.{AreOut, HasTargets, HaveNumbers, HaveTickets, IsDataOut, IsOut, begun_by, numbers_of, orderly_same, out_of, targets_of, tickets_of, valid_of}
 use Rattle.lvm_tie.proofs.TiedLemmas.Tied.{stage_found}
-use Rattle.lvm_tie.proofs.AmongLemmas.{clash}
 use Rattle.lvm_tie.specs.Out.{CarriesStep, CarryTheirs, MayUpdate}
 use Rattle.lvm_tie.specs.Seen.{stage_seen, stage_at, phase_seen, SeesRequest, update_of}
 use Rattle.lvm_tie.specs.Tied.{IsTied, ShowsRecords}
-use Rattle.lvm_session.specs.Judging.{is_kept, pps_of}
-use Rattle.lvm_session.specs.Bringing.{marked_by_end, with_back, with_end as with_copy_end}
 use Rattle.lvm_session.specs.Marks.{WantsStale, Entails, is_among, due_targets, due_of, end_by_write}
-use Rattle.lvm_invariant.specs.State.{Marks, covers}
 use Rattle.lvm_invariant.specs.Updates.{put}
-use Rattle.std.specs.Prelude.{slice_index_or}
 use Rattle.std.proofs.lemmas.Option.{same_Some}
-use Rattle.lvm_invariant.specs.State.{ModelPhase}
 use Rattle.lvm_invariant.specs.Read.{Reads as Reading, reading}
-use Rattle.lvm_session.specs.Ends.{DataLearns, Ends}
 use Rattle.lvm_session.specs.Sound.{IsSound}
 use Rattle.lvm_tie.specs.Ends.{ReadEndTies}
 use Rattle.lvm_tie.proofs.OutLemmas.Ended.{HasEnded, IsRow, has_ended, is_row}
 
 -- the target that has changed
-state_there : (ts : List Target) (number : ℕ) (t : Target) (state : TargetState) → slice_get ts number ≡ Some t → slice_get (with_state ts number state) number ≡ Some (record t { state = state })
+pub state_there : (ts : List Target) (number : ℕ) (t : Target) (state : TargetState) → slice_get ts number ≡ Some t → slice_get (with_state ts number state) number ≡ Some (record t { state = state })
 state_there [] number t state there = absurd cc
 state_there (u ∷ us) zero t state there = ap (λ (x : Target). Some (record x { state = state })) (same_Some u t there)
 state_there (u ∷ us) (suc number) t state there = state_there us number t state there
@@ -285,7 +277,7 @@ module _ (past : List Fact) (old new : State) (index : ℕ) (ends : Ends old new
       let entails : Entails core2 o2 ends.ok t.pp new.core = subst (λ (x : Open). Entails core2 x ends.ok t.pp new.core) learned_is (subst (λ (c : Core). Entails c (learned o number ends.ok ends.buf) ends.ok t.pp new.core) after_is learns.entails) in
       let marks : WantsStale (λ p. is_among (due_of core2 o2.request) p || false) core2.status new.core.status =
       subst (λ (e : Option CopyEnd). WantsStale (λ p. is_among (due_of core2 o2.request) p || marked_by_end core2 e p) core2.status new.core.status) no_end entails.marks in
-      let same : new.core.status ≡ core2.status = marks.same (λ p due. clash (is_among (due_of core2 o2.request) p || false) due (none_due p)) in
+      let same : new.core.status ≡ core2.status = marks.same (λ p due. clash_gives (is_among (due_of core2 o2.request) p || false) due (none_due p)) in
       let is : new.core ≡ core2 = entails.is ∙ ap (λ (e : Option CopyEnd). record (with_copy_end core2 e) { status = new.core.status }) no_end ∙ ap (λ (s : Stored). record core2 { status = s }) same in
       let whole : new ≡ state new.device core2 = λ k. record { device = new.device; core = is k } in
       subst (IsTied past) (sym whole) (record {

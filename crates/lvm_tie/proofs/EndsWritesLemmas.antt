@@ -3,7 +3,7 @@ use Rattle.std.proofs.Common.{◌≡◌, ◌⊎◌, inl, inr, ⊎_elim, ℕ, zer
 use Rattle.std.specs.Prelude.{IfSome, IsFalse, IsTrue, filter, if◌then◌else◌, nat_le, slice_get, slice_set}
 use Rattle.std.specs.List.{list_any, remove}
 use Rattle.std.specs.Option.{option_map_or}
-use Rattle.std.proofs.lemmas.Bool.{cases_eq}
+use Rattle.std.proofs.lemmas.Bool.{cases_eq, and_parts}
 use Rattle.std.proofs.lemmas.Bool.Decides.{nat_tests}
 use Rattle.std.proofs.lemmas.Option.{same_Some}
 use Rattle.lvm_num.specs.declared.place.Pp.{Pp}
@@ -20,7 +20,7 @@ use Rattle.lvm_kept.specs.Group.{IsOneOf}
 use Rattle.lvm_kept.specs.Places.{SameRecords}
 use Rattle.lvm_kept.specs.Torn.{RecordWrite}
 use Rattle.lvm_num.specs.Descriptor.{is_pp}
-use Rattle.lvm_num.proofs.Booleans.{and_false}
+use Rattle.lvm_num.proofs.Booleans.{and_false, clash_gives, false_by}
 use Rattle.lvm_status.specs.Update.{Stored}
 use Rattle.lvm_sched.specs.Writes.{is_waiting as target_waits}
 use Rattle.lvm_sched.specs.declared.writes.TargetState.{TargetState}
@@ -56,16 +56,16 @@ use Rattle.lvm_invariant.proofs.EventsLemmas.Each.{each_keeps}
 use Rattle.lvm_invariant.proofs.StateLemmas.Rules.{each_has}
 use Rattle.lvm_crash.specs.Left.{KeepsGroup}
 use Rattle.lvm_crash.specs.Session.{Describes, marks_of, members_showing}
-use Rattle.lvm_tie_shelf.proofs.OwnedLemmas.{covers_its}
-use Rattle.lvm_tie_shelf.proofs.RecordsLemmas.Quiet.{quiet_lasts, update_goes_on}
-use Rattle.lvm_tie_shelf.proofs.WritingLemmas.{and_both, group_kept, pp_same, records_same, same_pp, write_ends}
-use Rattle.lvm_tie_shelf.specs.Owned.{OnlyUpdateSince}
-use Rattle.lvm_tie_shelf.specs.Writing.{WriteEnded, after_write, stage_of}
+use Rattle.lvm_crash.proofs.OwnedLemmas.{covers_its}
+use Rattle.lvm_crash.proofs.RecordsLemmas.Quiet.{quiet_lasts, update_goes_on}
+use Rattle.lvm_crash.proofs.WritingLemmas.{group_kept, pp_same, records_same, same_pp, write_ends}
+use Rattle.lvm_crash.specs.Owned.{OnlyUpdateSince}
+use Rattle.lvm_crash.specs.Writing.{WriteEnded, after_write, stage_of}
 use Rattle.lvm_tie.proofs.SeenLemmas.Changing.{same_long, sees_changed, stage_after, step_apart, target_was}
 use Rattle.lvm_tie.proofs.StateLemmas.{among_one, aimed_of, copy_is}
 use Rattle.lvm_tie.proofs.TiedLemmas.Orderly.{AreOut, Differ, HasTargets, HaveNumbers, HaveTickets, IsDataOut, IsOut, begun_by, numbers_of, open_one, out_of, targets_of, tickets_of, valid_of}
 use Rattle.lvm_tie.proofs.TiedLemmas.Tied.{DataParts, data_parts}
-use Rattle.lvm_tie.proofs.AmongLemmas.{any_one, clash, its_pp, not_true, one_there, or_either, or_true, target_of}
+use Rattle.lvm_tie.proofs.AmongLemmas.{any_one, its_pp, not_true, one_there, or_either, or_true, target_of}
 use Rattle.lvm_tie.proofs.OutLemmas.Wanted.{next_same, records_wanted, sees_wanted, stamp_same, update_same, write_same}
 use Rattle.lvm_tie.proofs.TiedLemmas.Recorded.{records_kept}
 use Rattle.lvm_tie.specs.Out.{CarriesStep, CarryTheirs, IsWriteOf, MayUpdate}
@@ -105,11 +105,6 @@ put_there v i q = let test : (i == i) ≡ true = grind (arith, nat_tests) in ap 
 going_either : (b : Bool) → phase_seen (if b then phase.WantStatus else phase.Data) true ≡ Going
 going_either true = refl
 going_either false = refl
-
--- what is false is so where it implies what is
-falls : (a b : Bool) → (a ≡ true → b ≡ true) → b ≡ false → a ≡ false
-falls true b f h = clash b (f refl) h
-falls false b f h = refl
 
 -- what is entailed is wanted, and then the copy ends
 entailed_is : (old : Core) (o : Open) (ok : Bool) (p : Pp) (new : Core) → Entails old o ok p new → new ≡ with_copy_end (record old { status = new.status }) (end_by_write old o ok p)
@@ -332,7 +327,7 @@ module _ (past : List Fact) (old new : State) (index : ℕ) (ends : Ends old new
       by : (b : Bool) → is_kept core2 o2.request ≡ b → Stays core2 ts2 (if b then filter (λ (x : Target). is_failed x.state) ts2 else all_but_sure core2 ts2)
       by true is =
           let u = any_one (λ (x : Target). is_done x.state && is_sure core2 x.pp) ts2 is in
-          let both = and_both (is_done u.0.state) (is_sure core2 u.0.pp) u.2 in
+          let both = and_parts (is_done u.0.state) (is_sure core2 u.0.pp) u.2 in
           done_stays core2 ts2 u.0 (are_apart ts2 differ2) u.1 both.0 both.1
       by false is =
           let kept = each_has w i q2 good_w.sound (record { there = (put_there v i q2); write = parts.started.write; going = parts.started.going }) covers_first in
@@ -346,10 +341,10 @@ module _ (past : List Fact) (old new : State) (index : ℕ) (ends : Ends old new
       subst (λ (c : Pp). IsTrue (v.is_copy (lv_of o.request.ask) (at_of o.request.ask) c)) was.2 (aimed_of past old tied learns.place there.0 o was.0 learns.its.there out.waiting was.1)
 
   keeper_fresh : calls_stale old.core.status.committed stays.keeper.pp ≡ false
-  keeper_fresh = not_true (calls_stale old.core.status.committed stays.keeper.pp) (and_both (not (calls_stale old.core.status.committed stays.keeper.pp)) (not (calls_stale old.core.status.wanted stays.keeper.pp)) stays.sure).0
+  keeper_fresh = not_true (calls_stale old.core.status.committed stays.keeper.pp) (and_parts (not (calls_stale old.core.status.committed stays.keeper.pp)) (not (calls_stale old.core.status.wanted stays.keeper.pp)) stays.sure).0
 
   keeper_wanted : calls_stale old.core.status.wanted stays.keeper.pp ≡ false
-  keeper_wanted = not_true (calls_stale old.core.status.wanted stays.keeper.pp) (and_both (not (calls_stale old.core.status.committed stays.keeper.pp)) (not (calls_stale old.core.status.wanted stays.keeper.pp)) stays.sure).1
+  keeper_wanted = not_true (calls_stale old.core.status.wanted stays.keeper.pp) (and_parts (not (calls_stale old.core.status.committed stays.keeper.pp)) (not (calls_stale old.core.status.wanted stays.keeper.pp)) stays.sure).1
 
   -- what is due is one of its targets
   record IsTargets (p : Pp) : Type 0 where
@@ -390,16 +385,16 @@ module _ (past : List Fact) (old new : State) (index : ℕ) (ends : Ends old new
           (λ bad. record {
             one = record t { state = end_state ends.ok };
             its_one = (its_pp ts2 number (record t { state = end_state ends.ok }) (state_there ts number t (end_state ends.ok) learns.its.aim_is)).1;
-            there = pp_same t.pp c.pp (and_both (not ends.ok) (is_pp t.pp c.pp) bad).1;
+            there = pp_same t.pp c.pp (and_parts (not ends.ok) (is_pp t.pp c.pp) bad).1;
           })
-          (λ lost. due_one c.pp (and_both (are_over ts2 && not (is_kept core2 o2.request) && not o.older) (is_among (due_of core2 o2.request) c.pp) lost).1)
+          (λ lost. due_one c.pp (and_parts (are_over ts2 && not (is_kept core2 o2.request) && not o.older) (is_among (due_of core2 o2.request) c.pp) lost).1)
           (or_either (not ends.ok && is_pp t.pp c.pp) (are_over ts2 && not (is_kept core2 o2.request) && not o.older && is_among (due_of core2 o2.request) c.pp) test)
 
       of : ending.SyncFailed ≡ h → (m : Option OpenCopy) → old.core.copy ≡ m → option_map_or (hits_copy core2 o2 ends.ok t.pp) m false ≡ true → IsHit h
       of so None none test = absurd (cc test)
       of so (Some c) open_is test =
-          let outer = and_both (is_write o.request.ask && is_running c) (not ends.ok && is_pp t.pp c.pp || (are_over ts2 && not (is_kept core2 o2.request) && not o.older && is_among (due_of core2 o2.request) c.pp)) test in
-          record { copy = c; is_open = open_is; running = (and_both (is_write o.request.ask) (is_running c) outer.0).1; target = which c outer.1; fails = sym so }
+          let outer = and_parts (is_write o.request.ask && is_running c) (not ends.ok && is_pp t.pp c.pp || (are_over ts2 && not (is_kept core2 o2.request) && not o.older && is_among (due_of core2 o2.request) c.pp)) test in
+          record { copy = c; is_open = open_is; running = (and_parts (is_write o.request.ask) (is_running c) outer.0).1; target = which c outer.1; fails = sym so }
 
       by : (b : Bool) → option_map_or (hits_copy core2 o2 ends.ok t.pp) old.core.copy false ≡ b → ends_if b ending.SyncFailed ≡ Some h → IsHit h
       by false test so = absurd (cc so)
@@ -419,9 +414,9 @@ module _ (past : List Fact) (old new : State) (index : ℕ) (ends : Ends old new
       by None none test = absurd (cc test)
       by (Some h) some test =
           let x : IsHit h = hit h some in
-          let both = and_both (not (is_done_end h)) (option_map_or (λ (c : OpenCopy). is_whole core2 c && is_pp p c.pp) old.core.copy false) test in
+          let both = and_parts (not (is_done_end h)) (option_map_or (λ (c : OpenCopy). is_whole core2 c && is_pp p c.pp) old.core.copy false) test in
           let here : (is_whole old.core x.copy && is_pp p x.copy.pp) ≡ true = sym (ap (λ (m : Option OpenCopy). option_map_or (λ (c : OpenCopy). is_whole old.core c && is_pp p c.pp) m false) x.is_open) ∙ both.1 in
-          let parts_of = and_both (is_whole old.core x.copy) (is_pp p x.copy.pp) here in
+          let parts_of = and_parts (is_whole old.core x.copy) (is_pp p x.copy.pp) here in
           record { kind = h; its_hit = x; all = parts_of.0; same = pp_same p x.copy.pp parts_of.1 }
 
   keeper_not_marked : marked_by_end core2 how stays.keeper.pp ≡ false
@@ -432,7 +427,7 @@ module _ (past : List Fact) (old new : State) (index : ℕ) (ends : Ends old new
       by true is =
           let m = marked stays.keeper.pp is in
           let stale = ((copy_is past old tied m.its_hit.copy m.its_hit.is_open).clearing m.its_hit.running m.all).0 in
-          clash (calls_stale old.core.status.committed stays.keeper.pp) (ap (calls_stale old.core.status.committed) m.same ∙ stale) keeper_fresh
+          clash_gives (calls_stale old.core.status.committed stays.keeper.pp) (ap (calls_stale old.core.status.committed) m.same ∙ stale) keeper_fresh
 
   module _ (status : Stored) (wants : WantsStale due core2.status status) where
     from_target : (p : Pp) → IsTargets p → Replaced w (marks_of status.wanted) p
@@ -489,7 +484,7 @@ module _ (past : List Fact) (old new : State) (index : ℕ) (ends : Ends old new
       added = λ p is. ⊎_elim (λ was. inl (ap (λ (m : Marks). m.stale p) tied.sees.status.wanted ∙ was)) (λ its. replaced p its) (or_either (calls_stale old.core.status.wanted p) (due p) (sym (wants.stale p) ∙ is));
       open_same = open_same how ends_stale;
       open_there = open_there how;
-      behind = λ lv b c e copy fresh gone other usable kept. still c (good_w.sound.behind.left_behind lv b c e copy fresh gone other usable (falls (w.wanted.stale e) (calls_stale status.wanted e) (still e) kept));
+      behind = λ lv b c e copy fresh gone other usable kept. still c (good_w.sound.behind.left_behind lv b c e copy fresh gone other usable (false_by (w.wanted.stale e) (calls_stale status.wanted e) (still e) kept));
     }
 
     abbrev event : Event

@@ -30,3 +30,10 @@ pub mod EndsWritesLemmas
 pub mod GoingOnLemmas
 pub mod SparesLemmas
 pub mod StampsLemmas
+pub mod RunningLemmas
+pub mod LawsLemmas
+pub mod AgreeingLemmas
+pub mod BeginsLemmas
+pub mod MarksLemmas
+pub mod WorkedLemmas
+pub mod PairsLemmas

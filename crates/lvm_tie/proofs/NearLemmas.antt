@@ -6,6 +6,7 @@ use Rattle.std.proofs.lemmas.Bool.{cases_eq}
 use Rattle.std.proofs.lemmas.Bool.Decides.{nat_tests}
 use Rattle.std.proofs.lemmas.Option.{same_Some}
 use Rattle.lvm_num.specs.declared.place.Pp.{Pp}
+use Rattle.lvm_num.proofs.Booleans.{clash_gives}
 use Rattle.lvm_vol.specs.Facts.{Fact, Taken}
 use Rattle.lvm_disk.specs.Device.{Flight, Device, image_of}
 use Rattle.lvm_kept.specs.Contents.{contents_of}
@@ -19,9 +20,8 @@ use Rattle.lvm_session.specs.declared.bringing.CopyEnd.{CopyEnd}
 use Rattle.lvm_session.specs.declared.flown.Owner.{Owner}
 use Rattle.lvm_session.specs.declared.flown.Owner.TheVariants as owner
 use Rattle.lvm_session.specs.State.{Core, state}
-use Rattle.lvm_session.specs.Judging.{is_running, place_of}
+use Rattle.lvm_session.specs.Judging.{is_running, place_of, is_missing}
 use Rattle.lvm_session.specs.Bringing.{after_copy_end, block_at, copy_ends, end_by_sources, end_of, ends_if, groups_of, hand_of, has_row, is_cleared, is_out, is_whole, with_back, with_end}
-use Rattle.lvm_session.specs.Judging.{is_missing}
 use Rattle.lvm_session.specs.declared.bringing.CopyEnd.TheVariants as ending
 use Rattle.lvm_invariant.specs.State.{ModelCopy, Queued, ModelState, has_landed}
 use Rattle.lvm_invariant.specs.Good.{Good}
@@ -31,9 +31,9 @@ use Rattle.lvm_invariant.specs.Updates.{land, with_req}
 use Rattle.lvm_invariant.specs.Events.{EndStep, Take}
 use Rattle.lvm_invariant.proofs.EventsLemmas.Each.{each_keeps}
 use Rattle.lvm_crash.specs.Session.{Describes}
-use Rattle.lvm_tie_shelf.proofs.RecordsLemmas.Quiet.{quiet_lasts}
+use Rattle.lvm_crash.proofs.RecordsLemmas.Quiet.{quiet_lasts}
 use Rattle.lvm_tie.proofs.OutLemmas.Ties.{carry_on}
-use Rattle.lvm_tie.proofs.AmongLemmas.{clash, or_true}
+use Rattle.lvm_tie.proofs.AmongLemmas.{or_true}
 use Rattle.lvm_tie.specs.Out.{CarriesStep}
 use Rattle.lvm_tie.specs.Seen.{IsRequestAt, IsStepAt, Sees, SeesHand, SeesStep, step_write_in, step_write_of, update_of}
 use Rattle.lvm_tie.specs.Tied.{IsOrderly, IsTied}
@@ -70,7 +70,7 @@ unlanded (step.Reading source) q out hand = absurd (cc out)
 unlanded (step.Read buf) q out hand = ap has_landed hand.0
 unlanded step.Writing q out hand = absurd (cc out)
 
-no_write : (c : OpenCopy) (s : Step) → is_out s ≡ false → step_write_of c s ≡ None
+pub no_write : (c : OpenCopy) (s : Step) → is_out s ≡ false → step_write_of c s ≡ None
 no_write c step.Idle out = refl
 no_write c (step.Reading source) out = absurd (cc out)
 no_write c (step.Read buf) out = refl
@@ -217,7 +217,7 @@ module _ (past : List Fact) (device : Device) (core : Core) (how : CopyEnd) (nea
       a_step = λ d is row. absurd (no_row d is row);
       only = λ j q at. ⊎_elim
           (λ (r : IsRequestAt core j). inl r)
-          (λ (r : IsStepAt core j). clash (has_row core c) (ap (has_row core) (sym (own r.copy r.is_open)) ∙ r.row) none_there)
+          (λ (r : IsStepAt core j). clash_gives (has_row core c) (ap (has_row core) (sym (own r.copy r.is_open)) ∙ r.row) none_there)
           (near.sees.queue.only j q at);
       names = near.sees.queue.names;
     };

@@ -2,6 +2,7 @@
 use Rattle.std.proofs.Common.{◌≡◌, ◌⊎◌, inl, inr, ⊎_elim, ℕ, ◌+◌, ◌<◌, ◌≤◌, Bool, true, false, ◌&&◌, not, List, Option, Some, None, is_some, refl, sym, ap, subst, ◌∙◌, arith}
 use Rattle.std.specs.Prelude.{Err, IfSome, IsSomeAnd, IsTrue, MatchOption, Ok, Result, if◌then◌else◌, position}
 use Rattle.std.specs.Option.{option_map_or}
+use Rattle.std.proofs.lemmas.Bool.{and_parts}
 use Rattle.lvm_num.specs.declared.descriptor.Descriptor.{Descriptor}
 use Rattle.lvm_num.specs.declared.place.Pp.{Pp}
 use Rattle.lvm_num.specs.declared.record.Kind.TheVariants as kind
@@ -51,7 +52,6 @@ use Rattle.lvm_session.specs.Events.{Begins, StartsStatus}
 use Rattle.lvm_session.specs.Judging.{is_running}
 use Rattle.lvm_session.specs.Marks.{Reviews, WantsDirtyIf, WantsStale}
 use Rattle.lvm_session.specs.Turns.{ArrangesSession, Darkens, FinishMakes, Finishes, Makes, Moves, NoStart, OnMakes, TurnMakes, WasDark, WasOff, WasOn}
-use Rattle.lvm_tie_shelf.proofs.WritingLemmas.{and_both}
 use Rattle.lvm_tie.specs.Spares.{CallsSpareDescriptors, LeavesDescriptors, OverLeavesDescriptors, SparesDescriptors, SparesOn, TiedLeavesDescriptors, TurnSparesDescriptors}
 use Rattle.lvm_tie.proofs.UpdateLemmas.{missing_then}
 use Rattle.lvm_tie.proofs.TiedLemmas.Tied.{tied_matches}
@@ -126,7 +126,7 @@ by_parts : (old new : Core) → new.descriptor ≡ old.descriptor → ((d : ℕ)
 by_parts old new descriptor slots missing = record {
   slots = slots;
   fewer = λ d there.
-      let both = and_both (is_member new.descriptor d) (not (calls_missing new.status.wanted d)) there in
+      let both = and_parts (is_member new.descriptor d) (not (calls_missing new.status.wanted d)) there in
       let member : is_member old.descriptor d ≡ true = ap (λ (g : Descriptor). is_member g d) (sym descriptor) ∙ both.0 in
       let present : calls_missing old.status.wanted d ≡ false = missing d (not_true (calls_missing new.status.wanted d) both.1) in
       λ t. member t && not (present t);

@@ -10,6 +10,7 @@ use Rattle.lvm_num.specs.Geometry.{data_start, sector_of}
 use Rattle.lvm_num.specs.Record.{Frames, frame, record_sectors, slot_start, stamp_lt}
 use Rattle.lvm_num.specs.Status.{IsValidStatus}
 use Rattle.lvm_num.specs.StatusBytes.{status_bytes}
+use Rattle.lvm_num.proofs.Lists.{all_at}
 use Rattle.lvm_vol.specs.declared.entry.Outcome.{Outcome}
 use Rattle.lvm_vol.specs.declared.entry.Outcome.TheVariants as outcome
 use Rattle.lvm_vol.specs.Facts.{Cut, Fact}
@@ -24,11 +25,11 @@ use Rattle.lvm_disk.proofs.DeviceLemmas.{cut_leaves, done_leaves, failed_leaves,
 use Rattle.lvm_disk.proofs.StepsLemmas.{arrange_leaves}
 use Rattle.lvm_kept.specs.Contents.{note_sector}
 use Rattle.lvm_kept.specs.Torn.{RecordWrite}
-use Rattle.lvm_stamps.specs.Behind.{beginning_at}
-use Rattle.lvm_stamps.specs.Laws.{IsOtherOrEarlier, LeavesBefore}
-use Rattle.lvm_stamps.proofs.LawsLemmas.Clock.{later_joins}
-use Rattle.lvm_stamps.proofs.LawsLemmas.Stamps.{session_is_before_later}
-use Rattle.lvm_stamps.proofs.LawsLemmas.Writes.{earlier_keep_before, notes_and_data_are_outside}
+use Rattle.lvm_steps.specs.Behind.{beginning_at}
+use Rattle.lvm_steps.specs.Laws.{IsOtherOrEarlier, LeavesBefore}
+use Rattle.lvm_steps.proofs.LawsLemmas.Clock.{later_joins}
+use Rattle.lvm_steps.proofs.LawsLemmas.Stamps.{session_is_before_later}
+use Rattle.lvm_steps.proofs.LawsLemmas.Writes.{earlier_keep_before, notes_and_data_are_outside}
 use Rattle.lvm_status.specs.declared.change.Change.{Change}
 use Rattle.lvm_status.specs.declared.change.Change.TheVariants as change
 use Rattle.lvm_status.specs.Update.{Stored, Updates, is_held, is_owed, no_disks, seen}
@@ -66,9 +67,8 @@ use Rattle.lvm_session.specs.Marks.{WantsDirtyIf, WantsStale}
 use Rattle.lvm_session.specs.Requests.{IsOpenOne, IsTarget}
 use Rattle.lvm_session.specs.Turns.{ArrangesSession, Darkens, FinishMakes, Finishes, Makes, Moves, NoStart, OnMakes, TurnMakes, WasDark, WasOff, WasOn}
 use Rattle.lvm_session.specs.Sound.{IsSound}
-use Rattle.lvm_keeps_events.proofs.passed.Names.{all_at}
-use Rattle.lvm_tie_shelf.proofs.DeviceLemmas.{writes_at}
-use Rattle.lvm_tie_shelf.proofs.OwnedLemmas.{reads_none}
+use Rattle.lvm_crash.proofs.DeviceLemmas.{writes_at}
+use Rattle.lvm_crash.proofs.OwnedLemmas.{reads_none}
 use Rattle.lvm_tie.specs.Stamps.{AreValid, ArrangeLeavesBefore, CallsStay, IsStamped, KeepsEpoch, StaysOf, TurnIsEarlier, TurnKeepsEpoch, TurnLeavesBefore}
 use Rattle.lvm_tie.proofs.SessionEndsLemmas.Grounds.{Ground, learned_same}
 use Rattle.lvm_tie.proofs.LandingsLemmas.Causes.{waits_unless}

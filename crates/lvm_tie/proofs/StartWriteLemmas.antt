@@ -3,6 +3,7 @@ use Rattle.std.proofs.Common.{◌≡◌, ◌⊎◌, inl, inr, ⊎_elim, ℕ, Boo
 use Rattle.std.specs.Prelude.{IsTrue, IsFalse, if◌then◌else◌, nat_le, slice_get, option_and_then}
 use Rattle.std.specs.List.{list_any, list_all}
 use Rattle.std.specs.Option.{option_map_or}
+use Rattle.std.proofs.lemmas.Bool.{and_parts, not-false}
 use Rattle.std.proofs.lemmas.Bool.Decides.{nat_tests}
 use Rattle.lvm_num.specs.declared.place.Pp.{Pp}
 use Rattle.lvm_num.specs.declared.record.NoteEntry.{NoteEntry}
@@ -10,6 +11,7 @@ use Rattle.lvm_num.specs.declared.descriptor.Mode.{Mode}
 use Rattle.lvm_num.specs.declared.descriptor.Mode.TheVariants as mode
 use Rattle.lvm_num.specs.Geometry.{track_group_of}
 use Rattle.lvm_num.specs.Status.{calls_dirty}
+use Rattle.lvm_num.proofs.AmongLemmas.{filter_one}
 use Rattle.lvm_vol.specs.Facts.{Fact}
 use Rattle.lvm_vol.specs.declared.entry.Outcome.TheVariants as outcome
 use Rattle.lvm_kept.specs.Group.{IsOneOf}
@@ -35,11 +37,10 @@ use Rattle.lvm_session.specs.Enabled.{target_due, target_next}
 use Rattle.lvm_invariant.specs.State.{Stage, Todo, Ready, Groups, Marks, Queued, ModelState, is_usable as sees_usable, is_settled_stale, HasPassed}
 use Rattle.lvm_invariant.specs.StartWrite.{MayStart}
 use Rattle.lvm_keeps_events.proofs.passed.Names.{first_start_is_noted}
-use Rattle.lvm_tie_shelf.proofs.WritingLemmas.{and_both}
 use Rattle.lvm_tie.proofs.StateLemmas.{wanted_seen, usable_seen, settled_seen, copy_is_one, on_member, there_is_copy, caught_passed, passed_caught}
 use Rattle.lvm_tie.proofs.ModesLemmas.{active_is, active_mode, passive_is, passive_mode}
 use Rattle.lvm_tie.proofs.TiedLemmas.Orderly.{open_one}
-use Rattle.lvm_tie.proofs.AmongLemmas.{or_left, or_either, or_true, not_true, not_false, and_not, any_one, any_none, all_one, filter_one, one_filter, same_lists, stage_of_one, one_todo, its_pp, target_of, few_same}
+use Rattle.lvm_tie.proofs.AmongLemmas.{or_left, or_either, or_true, not_true, and_not, any_one, any_none, all_one, one_filter, same_lists, stage_of_one, one_todo, its_pp, target_of, few_same}
 use Rattle.lvm_tie.specs.Seen.{phase_seen, SeesRequest, SeesNote}
 use Rattle.lvm_tie.specs.Tied.{IsTied}
 
@@ -89,8 +90,8 @@ start_tells k r number writes early is = by r.phase refl is
     by phase.WantRecord at start =
         let on = if k.named && k.dirty && not k.pending then next_write r.policy r.targets.items else next.Wait in
         let c = chosen k on number start (λ p. waiting k.named k.dirty k.pending p) in
-        let both = and_both (k.named && k.dirty) (not k.pending) (no_start (k.named && k.dirty && not k.pending) (next_write r.policy r.targets.items) number c.3) in
-        let two = and_both k.named k.dirty both.0 in
+        let both = and_parts (k.named && k.dirty) (not k.pending) (no_start (k.named && k.dirty && not k.pending) (next_write r.policy r.targets.items) number c.3) in
+        let two = and_parts k.named k.dirty both.0 in
         record { pending = c.0; usable = c.1; changed = c.2; record_is = inl (at, two.0, two.1) }
       where
         waiting : (a b p : Bool) → p ≡ true → target_next (if a && b && not p then next_write r.policy r.targets.items else next.Wait) ≡ None
@@ -173,12 +174,12 @@ module _ (past : List Fact) (s : State) (tied : IsTied past s) (o : Open) (numbe
   -- its disk is there
   there_too : (e : Pp) → IsAim e → IsTrue (is_there core e.disk)
   there_too e a = ⊎_elim
-      (λ (usable : IsTrue (sees_usable v e)). by_missing (v.missing e.disk) refl (and_both (not (v.committed.value.stale e)) (not (v.missing e.disk)) usable).1)
+      (λ (usable : IsTrue (sees_usable v e)). by_missing (v.missing e.disk) refl (and_parts (not (v.committed.value.stale e)) (not (v.missing e.disk)) usable).1)
       (λ (p : HasPassed v q.lv (track_group_of q.first) e). by_missing (v.missing e.disk) refl (ap not (subst (λ (c : Pp). IsFalse (v.missing c.disk)) p.target (tied.good.sound.statuses.open_there p.copy p.is_open))))
       (counts_seen e a)
     where
       by_missing : (b : Bool) → v.missing e.disk ≡ b → not (v.missing e.disk) ≡ true → IsTrue (is_there core e.disk)
-      by_missing b is gone = not_false (is_there core e.disk) (sym (tied.sees.status.missing e.disk) ∙ not_true (v.missing e.disk) gone)
+      by_missing b is gone = not-false (is_there core e.disk) (sym (tied.sees.status.missing e.disk) ∙ not_true (v.missing e.disk) gone)
 
   listed : (e : Pp) (stage : Stage) → q.targets e ≡ Some stage → IsOneOf (pps_of ts) e × (stage ≡ Todo)
   listed e stage is = stage_of_one ts e stage early (sym (sees.targets e) ∙ is)
@@ -207,7 +208,7 @@ module _ (past : List Fact) (s : State) (tied : IsTied past s) (o : Open) (numbe
   source : (p : Pp) × IsTrue (v.is_copy q.lv q.first p) × IsTrue (sees_usable v p)
   source =
       let found = any_one (is_usable core) (copies_for core ask) tells.usable in
-      let missing : is_missing core found.0.disk ≡ false = not_true (is_missing core found.0.disk) (and_both _ (not (is_missing core found.0.disk)) found.2).1 in
+      let missing : is_missing core found.0.disk ≡ false = not_true (is_missing core found.0.disk) (and_parts _ (not (is_missing core found.0.disk)) found.2).1 in
       (found.0, (λ t. v.is_copy (sees.lv t) (sees.first t) found.0) ∙ there_is_copy past s tied ask inside found.0 found.1 missing, usable_seen past s tied found.0 (on_member past s tied ask inside found.0 found.1) ∙ found.2)
 
   -- one of several targets has the records that its volume keeps
@@ -228,7 +229,7 @@ module _ (past : List Fact) (s : State) (tied : IsTied past s) (o : Open) (numbe
       let target = target_of ts e one in
       let on_disk : is_named core.cache e.disk (lv_of ask) (group_of ask) ≡ true = subst (λ (p : Pp). is_named core.cache p.disk (lv_of ask) (group_of ask) ≡ true) target.2 (all_one (λ (u : Target). is_named core.cache u.pp.disk (lv_of ask) (group_of ask)) ts target.0 all target.1) in
       let notes = names_of e.disk (notes_on core.cache e.disk) on_disk in
-      let both = and_both (names_group notes.0.written.items (lv_of ask) (group_of ask)) (option_map_or (λ (flight : ArrayVec NoteEntry). names_group flight.items (lv_of ask) (group_of ask)) notes.0.flight true) notes.2 in
+      let both = and_parts (names_group notes.0.written.items (lv_of ask) (group_of ask)) (option_map_or (λ (flight : ArrayVec NoteEntry). names_group flight.items (lv_of ask) (group_of ask)) notes.0.flight true) notes.2 in
       let flight_is : flight_on core.cache e.disk ≡ notes.0.flight = ap (λ (x : Option DiskNotes). option_and_then (λ (n : DiskNotes). n.flight) x) notes.1 in (
         (λ t. v.home_note e.disk (sees.lv t) (track_group_of (sees.first t))) ∙ tied.sees.notes.home e.disk (lv_of ask) (group_of ask) notes.0 (there_too e (aim_of e one)) notes.1 ∙ both.0,
         λ n flies. (λ t. n (sees.lv t) (track_group_of (sees.first t))) ∙ in_flight n notes.0.flight both.1 (subst (λ x. SeesNote x notes.0.flight) flies (subst (SeesNote (v.flying_note e.disk)) flight_is (tied.sees.notes.flying e.disk))),
@@ -243,7 +244,7 @@ module _ (past : List Fact) (s : State) (tied : IsTied past s) (o : Open) (numbe
       let m : mode_of core ask ≡ mode.Passive = passive_mode (mode_of core ask) (sym (passive_is past s tied ask inside) ∙ ap v.is_passive (sym sees.lv) ∙ passive) in
       let its = recorded (sym sees.several ∙ several) in
       let mark = subst (λ (x : Mode). has_dirty_mark core x o.request ≡ true) m its.1 in
-      let both = and_both (calls_dirty core.status.committed (lv_of ask)) _ mark in
+      let both = and_parts (calls_dirty core.status.committed (lv_of ask)) _ mark in
       ap (λ (x : Marks). x.dirty q.lv) tied.sees.status.committed ∙ ap (calls_dirty core.status.committed) sees.lv ∙ both.0
 
   pub may_start : MayStart v (place_of o.request.id) q t.pp

@@ -1,8 +1,10 @@
 -- What the code judges of copies is what the state sees of them.
-use Rattle.std.proofs.Common.{◌≡◌, inl, inr, ℕ, zero, suc, ◌+◌, ◌*◌, ◌/◌, ◌%◌, ◌<◌, ◌≤◌, Bool, true, false, ◌&&◌, ◌||◌, ◌==◌, not, List, [], ◌∷◌, Option, Some, None, refl, sym, ap, subst, ◌∙◌, arith}
+use Rattle.std.proofs.Common.{◌≡◌, inl, inr, ℕ, ◌+◌, ◌*◌, ◌/◌, ◌%◌, ◌<◌, ◌≤◌, Bool, true, false, ◌&&◌, ◌||◌, ◌==◌, not, List, [], ◌∷◌, Option, Some, None, refl, sym, ap, subst, ◌∙◌, arith}
 use Rattle.std.specs.Prelude.{IfSome, IsTrue, find, slice_get, ◌-◌, if◌then◌else◌, nat_le, nat_lt, unwrap_or}
 use Rattle.std.specs.List.{list_any}
 use Rattle.std.specs.Option.{option_map, option_map_or}
+use Rattle.std.proofs.Math.Bool.{not-not}
+use Rattle.std.proofs.lemmas.Bool.{and_parts}
 use Rattle.std.proofs.lemmas.Bool.Decides.{nat_tests}
 use Rattle.lvm_num.specs.declared.place.Pp.{Pp}
 use Rattle.lvm_num.specs.declared.descriptor.PvRow.{PvRow}
@@ -14,6 +16,8 @@ use Rattle.lvm_num.specs.Descriptor.{copies_of, is_member, volume_of, is_pp}
 use Rattle.lvm_num.specs.Geometry.{partition_blocks, partition_of, track_group_of, sector_of, volume_blocks}
 use Rattle.lvm_num.specs.Record.{Stamped}
 use Rattle.lvm_num.specs.Status.{calls_stale, calls_missing}
+use Rattle.lvm_num.proofs.Lists.{all_at}
+use Rattle.lvm_num.proofs.AmongLemmas.{one_at}
 use Rattle.lvm_vol.specs.Facts.{Fact}
 use Rattle.lvm_disk.specs.Device.{image_of}
 use Rattle.lvm_map.proofs.Parts.{parts, whole}
@@ -33,10 +37,10 @@ use Rattle.lvm_session.specs.Judging.{copies_in, copies_for, group_in, is_usable
 use Rattle.lvm_session.specs.Bringing.{groups_of}
 use Rattle.lvm_invariant.specs.State.{Marks, ModelCopy, ModelState, is_usable as sees_usable, is_settled_stale, stale_in, HasPassed}
 use Rattle.lvm_crash.specs.Session.{as_marks, members_showing}
-use Rattle.lvm_tie_shelf.proofs.CopiesLemmas.{copy_placed, one_block}
-use Rattle.lvm_tie_shelf.proofs.WritingLemmas.{and_both, pp_same, same_pp}
-use Rattle.lvm_tie_shelf.specs.Copies.{IsCopyOf}
-use Rattle.lvm_tie.proofs.TiedLemmas.Orderly.{all_at, open_one, valid_of, waiting_one}
+use Rattle.lvm_crash.proofs.CopiesLemmas.{copy_placed, one_block}
+use Rattle.lvm_crash.proofs.WritingLemmas.{pp_same, same_pp}
+use Rattle.lvm_crash.specs.Copies.{IsCopyOf}
+use Rattle.lvm_tie.proofs.TiedLemmas.Orderly.{open_one, valid_of, waiting_one}
 use Rattle.lvm_tie.specs.Seen.{passed_by, SeesOpen, SeesRunning, SeesCopy}
 use Rattle.lvm_tie.specs.Tied.{IsTied}
 use Rattle.lvm_session.specs.Marks.{is_among}
@@ -51,10 +55,6 @@ found_any (r ∷ rs) disk row is = by (r.disk == disk) refl is (found_any rs dis
         → (b || list_any (λ (x : PvRow). x.disk == disk) rs) ≡ true
     by true test here rest = refl
     by false test there rest = rest there
-
-not_not : (b : Bool) → not (not b) ≡ b
-not_not true = refl
-not_not false = refl
 
 pub among_one : (ps : List Pp) (p : Pp) → is_among ps p ≡ true → IsOneOf ps p
 among_one [] p is = absurd (cc is)
@@ -71,11 +71,6 @@ pub record IsOfItsPartition (core : Core) (c : OpenCopy) : Type 0 where
   pub lp : c.lp < row.lps
   pub among : IsOneOf (copies_of row c.lp) c.pp
   pub cursor : c.cursor ≤ groups_of core
-
-one_at : {X : Type 0} (xs : List X) (k : ℕ) (x : X) → slice_get xs k ≡ Some x → IsOneOf xs x
-one_at [] k x there = absurd (cc there)
-one_at (y ∷ xs) zero x there = inl (let same : y ≡ x = cc there in sym same)
-one_at (y ∷ xs) (suc k) x there = inr (one_at xs k x there)
 
 pub its_partition : (core : Core) (c : OpenCopy) → IsCopy core c → IsOfItsPartition core c
 its_partition core c its = record { row = its.row; volume = its.volume; lp = its.lp; among = by (c.copy == 0) its.its; cursor = its.cursor }
@@ -104,7 +99,7 @@ module _ (past : List Fact) (s : State) (tied : IsTied past s) where
   wanted_seen p = ap (λ (m : Marks). m.stale p) tied.sees.status.wanted
 
   pub missing_seen : (disk : ℕ) → is_member group disk ≡ true → v.missing disk ≡ is_missing core disk
-  missing_seen disk member = tied.sees.status.missing disk ∙ ap (λ b. not (b && not (is_missing core disk))) member ∙ not_not (is_missing core disk)
+  missing_seen disk member = tied.sees.status.missing disk ∙ ap (λ b. not (b && not (is_missing core disk))) member ∙ not-not (is_missing core disk)
 
   pub usable_seen : (p : Pp) → is_member group p.disk ≡ true → sees_usable v p ≡ is_usable core p
   usable_seen p member = let a = stale_seen p in let b = missing_seen p.disk member in λ t. not (a t) && not (b t)
@@ -112,7 +107,7 @@ module _ (past : List Fact) (s : State) (tied : IsTied past s) where
   -- settled by both statuses
   pub settled_seen : (p : Pp) → is_settled core p ≡ true → IsTrue (is_settled_stale v p)
   settled_seen p settled =
-      let both = and_both (calls_stale core.status.committed p) (calls_stale (unwrap_or core.status.in_flight core.status.committed) p) settled in
+      let both = and_parts (calls_stale core.status.committed p) (calls_stale (unwrap_or core.status.in_flight core.status.committed) p) settled in
       (λ t. stale_seen p t && stale_in (tied.sees.status.in_flight t) p) ∙ by core.status.in_flight both
     where
       by : (u : Option Status) → IsTrue (calls_stale core.status.committed p) × IsTrue (calls_stale (unwrap_or u core.status.committed) p)
@@ -227,8 +222,8 @@ module _ (past : List Fact) (s : State) (tied : IsTied past s) where
         by : (o : Option OpenCopy) → core.copy ≡ o → option_map_or (λ (c : OpenCopy). is_running c && is_pp p c.pp && nat_lt (group_in core ask) c.cursor) o false ≡ true → HasPassed v (lv_of ask) (track_group_of (at_of ask)) p
         by None is test = absurd cc
         by (Some c) is test =
-            let outer = and_both (is_running c && is_pp p c.pp) (nat_lt (group_in core ask) c.cursor) test in
-            let inner = and_both (is_running c) (is_pp p c.pp) outer.0 in
+            let outer = and_parts (is_running c && is_pp p c.pp) (nat_lt (group_in core ask) c.cursor) test in
+            let inner = and_parts (is_running c) (is_pp p c.pp) outer.0 in
             let same : p ≡ c.pp = pp_same p c.pp inner.1 in
             let below : group_in core ask < c.cursor = let h : nat_lt (group_in core ask) c.cursor ≡ true = outer.1 in grind (arith, nat_tests) in
             let sees : SeesOpen (groups_of core) c v.open_copy = subst (λ (b : Bool). SeesRunning b (groups_of core) c v.open_copy) inner.0 (subst (λ (x : Option OpenCopy). SeesCopy (groups_of core) x v.open_copy) is tied.sees.open_copy) in
@@ -255,7 +250,7 @@ module _ (past : List Fact) (s : State) (tied : IsTied past s) where
             let same : p ≡ c.pp = sym passed.target ∙ ap (λ (x : ModelCopy). x.target) open_same ∙ sees.target in
             let its = beside c p (of_its c is) one same in
             let by_cursor : IsTrue (passed_by (groups_of core) c (lv_of ask) (track_group_of (at_of ask))) = sym (sees.passed (lv_of ask) (track_group_of (at_of ask))) ∙ ap (λ (x : ModelCopy). x.passed (lv_of ask) (track_group_of (at_of ask))) (sym open_same) ∙ passed.passed in
-            let outer = and_both ((lv_of ask == c.lv) && nat_le (groups_of core * c.lp) (track_group_of (at_of ask))) (nat_lt (track_group_of (at_of ask)) (groups_of core * c.lp + c.cursor)) by_cursor in
+            let outer = and_parts ((lv_of ask == c.lv) && nat_le (groups_of core * c.lp) (track_group_of (at_of ask))) (nat_lt (track_group_of (at_of ask)) (groups_of core * c.lp + c.cursor)) by_cursor in
             let lt : track_group_of (at_of ask) < groups_of core * c.lp + c.cursor = let h : nat_lt (track_group_of (at_of ask)) (groups_of core * c.lp + c.cursor) ≡ true = outer.1 in grind (arith, nat_tests) in
             let product : groups_of core * lp ≡ groups_of core * c.lp = ap (λ n. groups_of core * n) its.same_lp in
             let g = group_at in

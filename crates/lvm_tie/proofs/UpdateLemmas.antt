@@ -2,6 +2,7 @@
 use Rattle.std.proofs.Common.{◌≡◌, ◌⊎◌, inl, inr, ℕ, Bool, true, false, ◌&&◌, ◌||◌, ◌==◌, not, eqb-true, List, [], Option, Some, None, refl, sym, ap, subst, ◌∙◌, arith}
 use Rattle.std.specs.Prelude.{if◌then◌else◌, unwrap_or}
 use Rattle.std.specs.List.{list_any}
+use Rattle.std.proofs.lemmas.Bool.{and_parts}
 use Rattle.std.proofs.lemmas.Bool.Decides.{nat_tests}
 use Rattle.std.proofs.lemmas.Option.{same_Some}
 use Rattle.lvm_num.specs.declared.descriptor.Descriptor.{Descriptor}
@@ -11,15 +12,14 @@ use Rattle.lvm_num.specs.Descriptor.{is_member}
 use Rattle.lvm_num.specs.Disks.{Disks, has}
 use Rattle.lvm_num.specs.Status.{calls_missing}
 use Rattle.lvm_num.specs.Votes.{is_enough_to_write, votes_in}
-use Rattle.lvm_num.proofs.Booleans.{and_true}
+use Rattle.lvm_num.proofs.Booleans.{and_true, clash_gives}
 use Rattle.lvm_status.specs.Update.{Stored, Updates, is_held, is_owed, no_disks, seen, with_disk, without_disk}
 use Rattle.lvm_status.specs.Calls.{WantsAtEnd, after_end, comes_held, with_commit, with_end}
 use Rattle.lvm_status.specs.Runs.{IsSoundStatus}
 use Rattle.lvm_crash.specs.Session.{marks_of}
-use Rattle.lvm_tie.proofs.AmongLemmas.{clash, not_true, or_true}
+use Rattle.lvm_tie.proofs.AmongLemmas.{not_true, or_true}
 use Rattle.lvm_tie.proofs.OutLemmas.Losing.{not_owed_by}
 use Rattle.lvm_tie.specs.Out.{is_owed_on}
-use Rattle.lvm_tie_shelf.proofs.WritingLemmas.{and_both}
 pub use Rattle.std.proofs.lemmas.Bool.{cases_Bool as decided}
 
 -- ---- what the update learns
@@ -56,7 +56,7 @@ never u disk wanted = by (is_held u)
 
 pub commits_well : (u : Updates) (disk : ℕ) (ok : Bool) (wanted : Status) → comes_held u (with_end u disk ok wanted) ≡ true → ok ≡ true
 commits_well u disk true wanted is = refl
-commits_well u disk false wanted is = clash (comes_held u (with_end u disk false wanted)) is (never u disk wanted)
+commits_well u disk false wanted is = clash_gives (comes_held u (with_end u disk false wanted)) is (never u disk wanted)
 
 pub held_before : (u : Updates) (disk : ℕ) (ok : Bool) (wanted : Status) → comes_held u (with_end u disk ok wanted) ≡ false → is_held (with_end u disk ok wanted) ≡ true → is_held u ≡ true
 held_before u disk ok wanted none held = by (is_held u) (is_held (with_end u disk ok wanted)) none held
@@ -148,7 +148,7 @@ module _ (old status new : Stored) (group : Descriptor) (disk : ℕ) (ok : Bool)
   pub enough : commits ≡ true → is_enough_to_write group (votes_in group (with_disk (has old.writes.written) disk)) ≡ true
   enough now =
       let well = commits_well (seen old) disk ok status.wanted now in
-      let both = and_both (not (is_held (seen old))) (is_held (with_end (seen old) disk ok status.wanted)) now in
+      let both = and_parts (not (is_held (seen old))) (is_held (with_end (seen old) disk ok status.wanted)) now in
       subst (λ (g : Descriptor). is_enough_to_write g (votes_in g (with_disk (has old.writes.written) disk)) ≡ true) group_is (subst (λ b. is_held (with_end (seen old) disk b status.wanted) ≡ true) well both.1)
 
   -- it was held before, where it isn't committed by this end
@@ -186,7 +186,7 @@ module _ (old status new : Stored) (group : Descriptor) (disk : ℕ) (ok : Bool)
     where
       out : (b : Bool) → has old.writes.unstarted disk ≡ b → b ≡ false
       out false is = refl
-      out true is = clash (has old.writes.started disk) flew (sound.unstarted disk is).1
+      out true is = clash_gives (has old.writes.started disk) flew (sound.unstarted disk is).1
 
       not_both : (a b : Bool) → (a || (b && not true)) ≡ true → a ≡ true
       not_both true b h = refl
@@ -195,7 +195,7 @@ module _ (old status new : Stored) (group : Descriptor) (disk : ℕ) (ok : Bool)
 
       by : (e : Bool) → (d == disk) ≡ e → (has old.writes.unstarted d || (has old.writes.started d && not e)) ≡ true → e ≡ false
       by false at h = refl
-      by true at h = clash (has old.writes.unstarted d) (not_both (has old.writes.unstarted d) (has old.writes.started d) h) (ap (has old.writes.unstarted) (eqb-true d disk at) ∙ out (has old.writes.unstarted disk) refl)
+      by true at h = clash_gives (has old.writes.unstarted d) (not_both (has old.writes.unstarted d) (has old.writes.started d) h) (ap (has old.writes.unstarted) (eqb-true d disk at) ∙ out (has old.writes.unstarted disk) refl)
 
   -- ---- where it is over
 
@@ -209,7 +209,7 @@ module _ (old status new : Stored) (group : Descriptor) (disk : ℕ) (ok : Bool)
   none_written done d = ap (λ (x : Updates). x.written d) (new_so true done)
 
   pub held_over : over ≡ true → is_held mid ≡ true
-  held_over done = (and_both (is_held mid) (not (is_owed mid)) done).0
+  held_over done = (and_parts (is_held mid) (not (is_owed mid)) done).0
 
   -- what is committed is the update
   pub over_committed : over ≡ true → new.committed ≡ value
@@ -221,7 +221,7 @@ module _ (old status new : Stored) (group : Descriptor) (disk : ℕ) (ok : Bool)
 
   none_left : over ≡ true → (d : ℕ) → is_member group d ≡ true → (has old.writes.unstarted d || (has old.writes.started d && not (d == disk))) ≡ false
   none_left done d member =
-      let none : is_owed mid ≡ false = not_true (is_owed mid) (and_both (is_held mid) (not (is_owed mid)) done).1 in
+      let none : is_owed mid ≡ false = not_true (is_owed mid) (and_parts (is_held mid) (not (is_owed mid)) done).1 in
       let pvs : mid.group.pvs ≡ group.pvs = ap (λ (x : Updates). x.group.pvs) mid_is ∙ ap (λ (g : Descriptor). g.pvs) group_is in
       sym (ap (λ (x : Updates). x.unstarted d || x.started d) mid_is)
       ∙ not_owed_by (λ n. mid.unstarted n || mid.started n) group.pvs d member (subst (λ (rows : List PvRow). list_any (λ (r : PvRow). mid.unstarted r.disk || mid.started r.disk) rows ≡ false) pvs none)
@@ -232,7 +232,7 @@ module _ (old status new : Stored) (group : Descriptor) (disk : ℕ) (ok : Bool)
     where
       here : d ≡ disk → (d == disk) ≡ true → (b : Bool) → ok ≡ b → written_then (seen old) disk b d ≡ true
       here same test true well = or_true (has old.writes.written d) (d == disk) (inr test)
-      here same test false badly = clash (calls_missing status.wanted disk) (lost_then disk ok old.wanted status.wanted wants badly) (ap (calls_missing status.wanted) (sym same) ∙ present)
+      here same test false badly = clash_gives (calls_missing status.wanted disk) (lost_then disk ok old.wanted status.wanted wants badly) (ap (calls_missing status.wanted) (sym same) ∙ present)
 
       kept : (b : Bool) → has old.writes.written d ≡ true → written_then (seen old) disk b d ≡ true
       kept true had = or_true (has old.writes.written d) (d == disk) (inl had)

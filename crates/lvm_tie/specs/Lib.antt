@@ -20,3 +20,9 @@ pub mod EndsWrites
 pub mod GoingOn
 pub mod Spares
 pub mod Stamps
+pub mod Running
+pub mod Laws
+pub mod Agreeing
+pub mod Begins
+pub mod Worked
+pub mod Pairs

@@ -13,7 +13,7 @@ use Rattle.lvm_invariant.specs.State.{ModelCopy, ModelState}
 use Rattle.lvm_invariant.specs.Found.{Votes}
 use Rattle.lvm_invariant.specs.Good.{Good}
 use Rattle.lvm_crash.specs.Session.{Describes}
-use Rattle.lvm_tie_shelf.specs.Owned.{OnlyUpdateSince}
+use Rattle.lvm_crash.specs.Owned.{OnlyUpdateSince}
 use Rattle.lvm_tie.specs.Out.{AreNotes, CarryTheirs}
 use Rattle.lvm_tie.specs.Seen.{Sees, update_of}
 use Rattle.lvm_tie.specs.Tied.{IsSetting, IsCopyAimed, IsOrderly, IsTied, HoldsRecords}

@@ -12,7 +12,7 @@ use Rattle.lvm_num.specs.StatusBytes.{status_bytes, status_of}
 use Rattle.lvm_rec.specs.Slots.{slot_for}
 use Rattle.lvm_disk.specs.Device.{Image, Flight, IsWholeImage}
 use Rattle.lvm_kept.specs.Torn.{RecordWrite}
-use Rattle.lvm_stamps.specs.Behind.{StampsBefore}
+use Rattle.lvm_steps.specs.Behind.{StampsBefore}
 use Rattle.lvm_mwc.specs.Cache.{flight_on}
 use Rattle.lvm_status.specs.Update.{Stored, members_there}
 use Rattle.lvm_commit.specs.Committed.{next_stamp}

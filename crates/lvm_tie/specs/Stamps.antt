@@ -6,8 +6,8 @@ use Rattle.lvm_num.specs.Status.{IsValidStatus}
 use Rattle.lvm_vol.specs.Legal.{IsLater}
 use Rattle.lvm_disk.specs.declared.shelf.Arrange.{Arrange}
 use Rattle.lvm_disk.specs.Counts.{Counts}
-use Rattle.lvm_stamps.specs.Behind.{beginning_at}
-use Rattle.lvm_stamps.specs.Laws.{LeavesBefore}
+use Rattle.lvm_steps.specs.Behind.{beginning_at}
+use Rattle.lvm_steps.specs.Laws.{LeavesBefore}
 use Rattle.lvm_status.specs.Update.{Stored}
 use Rattle.lvm_path.specs.declared.ask.Ask.{Ask}
 use Rattle.lvm_session.specs.State.{Core, State}

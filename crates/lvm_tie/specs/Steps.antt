@@ -5,7 +5,7 @@ use Rattle.lvm_session.specs.declared.flown.Owner.TheVariants as owner
 use Rattle.lvm_session.specs.State.{State}
 use Rattle.lvm_session.specs.Ends.{CopyLearns, Ends}
 use Rattle.lvm_keeps_events.specs.Ends.{EndsMiss, EndsQuit, EndsRead, EndsWrite}
-use Rattle.lvm_keeps_events.specs.EndsGroup.{EndsGroup}
+use Rattle.lvm_keeps_events.specs.GroupEnds.{EndsGroup}
 use Rattle.lvm_tie.specs.Tied.{Ties}
 
 -- A transfer of a copy that had ended before leaves a tied session tied, where the shelf has whole sectors.

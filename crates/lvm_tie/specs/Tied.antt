@@ -27,7 +27,7 @@ use Rattle.lvm_invariant.specs.State.{ModelState}
 use Rattle.lvm_invariant.specs.Found.{Votes}
 use Rattle.lvm_invariant.specs.Good.{Good}
 use Rattle.lvm_crash.specs.Session.{AreVotesOf, members_showing, Describes}
-use Rattle.lvm_tie_shelf.specs.Owned.{OnlyUpdateSince, AllOwned}
+use Rattle.lvm_crash.specs.Owned.{OnlyUpdateSince, AllOwned}
 use Rattle.lvm_tie.specs.Out.{AreNotes, CarryTheirs, IsWriteOf, MayUpdate}
 use Rattle.lvm_tie.specs.Seen.{update_of, Sees}
 

@@ -4,6 +4,7 @@ use Rattle.std.specs.Prelude.{◌≢◌}
 use Rattle.lvm_num.specs.declared.descriptor.Descriptor.{Descriptor}
 use Rattle.lvm_num.specs.declared.status.Status.{Status}
 use Rattle.lvm_num.specs.Status.{calls_missing}
+use Rattle.lvm_num.proofs.Lists.{some_told, of_told}
 use Rattle.lvm_disk.specs.Device.{HasSectors, Media, image_of}
 use Rattle.lvm_disk.proofs.PathsLemmas.{last-path}
 use Rattle.lvm_vol.specs.Facts.{Fact}
@@ -20,13 +21,11 @@ use Rattle.lvm_handover.proofs.passed.Names.{empty_names_none, quiet_is_even}
 use Rattle.lvm_mwc.specs.Cache.{is_named as is_named_by}
 use Rattle.lvm_kept.proofs.CommittedLemmas.Finding.{images_within}
 use Rattle.lvm_steps.proofs.MakingLemmas.Making.{media_may}
-use Rattle.lvm_handover.specs.passed.Tie.{SparesDescriptors, IsTied}
-use Rattle.lvm_handover.specs.passed.TieBegins.{shown_to}
+use Rattle.lvm_handover.specs.passed.Tie.{SparesDescriptors, IsTied, shown_to}
 use Rattle.lvm_tie_commands.specs.Beginning.{HasBegun, MadeStands, VariedOnStands}
 use Rattle.lvm_tie_commands.proofs.MomentsLemmas.{calm_at}
-use Rattle.lvm_tie_commands.proofs.HeldLemmas.{some_told}
 use Rattle.lvm_tie_commands.proofs.Resting.{landed}
-use Rattle.lvm_tie_commands.proofs.BeginsLemmas.{Held, members_show, of_told, ties}
+use Rattle.lvm_tie_commands.proofs.BeginsLemmas.{Held, members_show, ties}
 
 module _ (run : ℕ) (first : Moment) (s : State) (begun : HasBegun run first s) (table : s.core.status.wanted ≡ s.core.origin.table) (whole : HasSectors s.device)
     (one : IsOneByAllOn s.device) (none : HasNoPassive s.core.descriptor) (quiet : (d lv track_group : ℕ) → is_named_by s.core.cache d lv track_group ≡ false) (past : List Fact) (begins : Begins run past first) where

@@ -1,11 +1,12 @@
 -- A settled session is tied, by what stands on its disks.
-use Rattle.std.proofs.Common.{◌≡◌, ℕ, ◌<◌, ◌^◌, ◌++◌, not, false, true, List, Option, Some, refl, ap, subst, ◌∙◌}
-use Rattle.std.specs.Prelude.{IfSome, IsTrue, count_by}
+use Rattle.std.proofs.Common.{◌≡◌, ℕ, ◌<◌, ◌^◌, ◌++◌, not, false, true, List, Some, refl, ap, subst, ◌∙◌}
+use Rattle.std.specs.Prelude.{IsTrue, count_by}
 use Rattle.lvm_num.specs.declared.descriptor.Descriptor.{Descriptor}
 use Rattle.lvm_num.specs.Descriptor.{is_member}
 use Rattle.lvm_num.specs.Disks.{Disks}
 use Rattle.lvm_num.specs.Status.{calls_missing}
 use Rattle.lvm_num.specs.Votes.{all_disks}
+use Rattle.lvm_num.proofs.Lists.{of_told}
 use Rattle.lvm_disk.specs.Device.{AreSectors, HasSectors, Media, image_of}
 use Rattle.lvm_vol.specs.Facts.{Fact}
 use Rattle.lvm_vol.specs.Legal.{begins_in}
@@ -20,16 +21,11 @@ use Rattle.lvm_commit.proofs.LawsLemmas.Found.{shows_group}
 use Rattle.lvm_session.specs.State.{Core, State, is_there}
 use Rattle.lvm_session.specs.Sound.{IsSound}
 use Rattle.lvm_handover.specs.passed.Names.{IsSettled}
-use Rattle.lvm_even.specs.passed.Names.{IsEven, NoneIsBehind}
-use Rattle.lvm_even.proofs.passed.Names.{none_is_left_behind}
-use Rattle.lvm_handover.specs.passed.Tie.{SparesDescriptors, IsTied, moment_of}
-use Rattle.lvm_handover.specs.passed.TieBegins.{NotesAreHomeIn, MembersShow, StandsAtRest, shown_to}
-use Rattle.lvm_handover.proofs.passed.TieBegins.{rest_spares, rest_ties}
+use Rattle.lvm_settled.specs.passed.Names.{IsEven, NoneIsBehind}
+use Rattle.lvm_settled.proofs.passed.Names.{none_is_left_behind}
+use Rattle.lvm_handover.specs.passed.Tie.{SparesDescriptors, IsTied, moment_of, NotesAreHomeIn, MembersShow, StandsAtRest, shown_to}
+use Rattle.lvm_handover.proofs.passed.Tie.{rest_spares, rest_ties}
 use Rattle.lvm_tie_commands.proofs.Resting.{left, rests}
-
--- what holds of the media that is told
-pub of_told : {A : Type 0} (P : A → Type 0) (o : Option A) (x : A) → o ≡ Some x → IfSome o P → P x
-of_told {A = A} P o x told holds = subst (λ (o : Option A). IfSome o P) told holds
 
 -- the disks hold what a session says, where this stands on them
 abbrev pub Held : State → Media → Type 0

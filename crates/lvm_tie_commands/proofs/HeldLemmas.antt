@@ -1,7 +1,8 @@
 -- What stands on the disks of a session before a command.
-use Rattle.std.proofs.Common.{◌≡◌, ◌⊎◌, inl, inr, ⊎_elim, ℕ, List, [], ◌∷◌, Option, None, Some, refl, sym, subst}
-use Rattle.std.specs.Prelude.{◌≢◌, IfSome, IsSome}
+use Rattle.std.proofs.Common.{◌≡◌, ⊎_elim, ℕ, List, [], Option, Some, sym, subst}
+use Rattle.std.specs.Prelude.{◌≢◌, IfSome}
 use Rattle.lvm_num.specs.declared.descriptor.LvRow.{LvRow}
+use Rattle.lvm_num.proofs.Lists.{none_or_some, some_told, of_told}
 use Rattle.lvm_disk.specs.Device.{Media, image_of}
 use Rattle.lvm_vol.specs.Facts.{Fact}
 use Rattle.lvm_kept.specs.Group.{IsOneOf}
@@ -13,24 +14,15 @@ use Rattle.lvm_commit.proofs.LawsOfVolumesLemmas.Others.{one_by_all_is_only_sinc
 use Rattle.lvm_commit.proofs.LawsOfDataLemmas.Still.{still_holds_committed}
 use Rattle.lvm_session.specs.State.{State, is_there}
 use Rattle.lvm_handover.specs.passed.Names.{AreNotesHome, IsHeld, NotesAreHome, StartsHeld, IsSettled}
-use Rattle.lvm_even.specs.passed.Names.{IsEven}
-use Rattle.lvm_even.proofs.EvenLemmas.Off.{off_is_even}
-use Rattle.lvm_handover.specs.passed.Tie.{SparesDescriptors, SparesOn, IsTied}
-use Rattle.lvm_handover.specs.passed.TieBegins.{IsRested, IsResting, NotesAreHomeIn as AreHome, shown_to}
-use Rattle.lvm_tie_groups.proofs.SettledLemmas.Leaving.{its_disks_hold, its_rest}
+use Rattle.lvm_settled.specs.passed.Names.{IsEven}
+use Rattle.lvm_settled.proofs.EvenLemmas.Off.{off_is_even}
+use Rattle.lvm_handover.specs.passed.Tie.{SparesDescriptors, SparesOn, IsTied, IsRested, IsResting, NotesAreHomeIn as AreHome, shown_to}
+use Rattle.lvm_tie_commands.proofs.SettledLemmas.Leaving.{its_disks_hold, its_rest}
 use Rattle.lvm_tie_commands.specs.Commands.{MayBeCommanded}
 use Rattle.lvm_tie_commands.specs.Standing.{StandsAfter}
 use Rattle.lvm_tie_commands.proofs.LawsOfVolumesLemmas.{alone_is_only}
 use Rattle.lvm_tie_commands.proofs.Resting.{rests, still}
-use Rattle.lvm_tie_commands.proofs.BeginsLemmas.{Held, of_told}
-
-pub none_or_some : {X : Type 0} (xs : List X) → (xs ≡ []) ⊎ (xs ≢ [])
-none_or_some [] = inl refl
-none_or_some (x ∷ xs) = inr (λ none. cc none)
-
-pub some_told : {X : Type 0} (o : Option X) → IsSome o → (x : X) × (o ≡ Some x)
-some_told None told = absurd (cc told)
-some_told (Some x) told = (x, refl)
+use Rattle.lvm_tie_commands.proofs.BeginsLemmas.{Held}
 
 -- The disks hold what the session says, their notes are home, no other group is found on them, and the usable copies are even.
 pub record Carries (s : State) (media : Media) : Type 0 where

@@ -10,7 +10,7 @@ use Rattle.lvm_kept.specs.Group.{IsFound, IsOneByAll, IsOnlyGroup, descriptor_am
 use Rattle.lvm_commit.specs.LawsOfVolumes.{IsOneByAllOn, IsOnlyGroupOn}
 use Rattle.lvm_commit.proofs.LawsOfFindingLemmas.NoMore.{data_finds_nothing_new}
 use Rattle.lvm_commit.proofs.LawsOfDataLemmas.Still.{still_image}
-use Rattle.lvm_even.specs.passed.Names.{IsAlone}
+use Rattle.lvm_settled.specs.passed.Names.{IsAlone}
 
 -- what has a quorum among all disks is found
 quorum_finds : (c : Contents) (id : ℕ) → IsTrue (has_quorum c all_disks id) → (k : Descriptor) × IsFound c id k

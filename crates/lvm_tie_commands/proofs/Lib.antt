@@ -6,3 +6,10 @@ pub mod BeginsLemmas
 pub mod HeldLemmas
 pub mod CommandsLemmas
 pub mod BeginningLemmas
+pub mod ServingLemmas
+pub mod CopiesLemmas
+pub mod CallsLemmas
+pub mod CalmLemmas
+pub mod SettledLemmas
+pub mod ComingLemmas
+pub mod ExamplesLemmas

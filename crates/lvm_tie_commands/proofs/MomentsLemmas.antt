@@ -5,6 +5,7 @@ use Rattle.std.specs.List.{find, list_any}
 use Rattle.std.proofs.lemmas.Bool.{eq-eqb, eqb-true}
 use Rattle.std.proofs.lemmas.List.{append-nil}
 use Rattle.std.proofs.lemmas.List.Folds.{list_any-append}
+use Rattle.lvm_num.proofs.Booleans.{first_fails}
 use Rattle.lvm_disk.specs.Paths.{Path, Here, Then}
 use Rattle.lvm_disk.proofs.PathsLemmas.{append-path, last-path, map-path}
 use Rattle.lvm_vol.specs.declared.entry.Outcome.{Outcome}
@@ -17,7 +18,7 @@ use Rattle.lvm_vol.proofs.FactsLemmas.Order.{IsNumbered, any-push, numbered, sta
 use Rattle.lvm_kept.specs.Moments.{Calm, Enters, Moment, Moves, Step}
 use Rattle.lvm_kept.proofs.MomentsLemmas.Chaining.{span_told}
 use Rattle.lvm_steps.specs.Moments.{Begins, Holds, Keeps, Upholds}
-use Rattle.lvm_even.proofs.passed.Names.{landed_are_closed}
+use Rattle.lvm_settled.proofs.passed.Names.{landed_are_closed}
 use Rattle.lvm_handover.specs.passed.Names.{HaveAllLanded}
 
 -- ---- what a span enters
@@ -33,10 +34,6 @@ grows {first = first} (Then path step p) = grown first.facts _ _ step (grows pat
 
 -- ---- what begins later lands later
 
-or_left : (a b : Bool) → a || b ≡ false → a ≡ false
-or_left true b is = is
-or_left false b is = refl
-
 -- a request hasn't landed before it begins
 not_landed : (before facts : List Fact) (r : Request) → Legal (before ++ facts) → Stands (Begun r) facts → list_any (lands r) before ≡ false
 not_landed before [] r legal none = absurd none
@@ -45,7 +42,7 @@ not_landed before (f ∷ facts) r legal (inl is) =
     let number : r.id ≡ count_by (begins_in r.run) before + 1 = subst (λ (g : Fact). Fits before g) is both.1 in
     unlanded before r both.0 (omega (arith, number))
 not_landed before (f ∷ facts) r legal (inr there) =
-    or_left (list_any (lands r) before) (lands r f)
+    first_fails (list_any (lands r) before) (lands r f)
     (sym (any-push (lands r) before f) ∙ not_landed (before ++ f ∷ []) facts r (subst Legal (sym (append_assoc before (f ∷ []) facts)) legal) there)
 
 -- ---- each has landed

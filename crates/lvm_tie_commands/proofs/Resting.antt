@@ -6,9 +6,9 @@ use Rattle.lvm_session.specs.declared.open.Open.{Open}
 use Rattle.lvm_handover.specs.passed.Names.{IsSettled, HaveAllLanded}
 use Rattle.lvm_commit.specs.Settling.{NoneIsLeft}
 use Rattle.lvm_handover.proofs.SoundLemmas.{rest_is_still}
-use Rattle.lvm_handover.proofs.CommitSettlingLemmas.{none_left}
+use Rattle.lvm_handover.proofs.NoneLeftLemmas.{none_left}
 use Rattle.lvm_handover.proofs.ServingLemmas.Serving.{nobody_flies, none_flying}
-use Rattle.lvm_handover.specs.passed.TieBegins.{IsResting}
+use Rattle.lvm_handover.specs.passed.Tie.{IsResting}
 
 module _ (s : State) (sound : IsSound s) (settled : IsSettled s.core) where
   going : IsGoing s.core

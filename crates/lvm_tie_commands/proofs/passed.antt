@@ -1,10 +1,8 @@
-pub mod Earlier
-pub mod Even
 pub mod Group
 pub mod Handover
 pub mod Names
 pub mod Ranges
-pub mod Running
-pub mod TieGroups
 pub mod Varyon
 pub mod Volumes
+pub mod Tie
+pub mod Settled

@@ -2,3 +2,8 @@ pub mod passed
 pub mod Standing
 pub mod Commands
 pub mod Beginning
+pub mod Copies
+pub mod Serving
+pub mod Settled
+pub mod Coming
+pub mod Examples

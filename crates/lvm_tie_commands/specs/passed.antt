@@ -1,12 +1,10 @@
 pub mod AskRangeFaultVariants
 pub mod Driver
-pub mod Earlier
 pub mod Group
 pub mod Handover
 pub mod Names
 pub mod Ranges
 pub mod Recover
-pub mod Running
 pub mod Tie
 pub mod Varyon
 pub mod VolumePlanFaultGroupFault

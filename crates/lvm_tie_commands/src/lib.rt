@@ -1,7 +1,15 @@
-//! What stands on the disks of a session: as a command has begun it, and over the making and the removal of volumes.
+//! A session is tied as a command has begun it or has left it, and the next command finds it settled: what
+//! stands on its disks once volumes or copies are made or removed, and that it is sound with requests.
 #![tactic(auto)]
 
 pub mod below;
+mod copies_laws;
+mod groups_laws;
 mod laws;
 
+pub use copies_laws::{mklvcopy_goes_on, mklvcopy_serves, rmlvcopy_goes_on, rmlvcopy_serves};
+pub use groups_laws::{
+    made_alone, made_serves, pairs_serve, settled_serves, settled_ties, tied_holds, tied_settles,
+    varied_is_made_even, varied_on_serves,
+};
 pub use laws::{made_stands, mklv_goes_on, rmlv_goes_on, varied_on_stands};

@@ -18,8 +18,8 @@ use Rattle.lvm_commit.specs.Laws.{IsLaterDescriptor}
 use Rattle.lvm_commit.specs.LawsOfFinding.{FindsNoMore}
 use Rattle.lvm_commit.proofs.LawsOfFindingLemmas.NoMore.{descriptor_finds_no_more, rest_finds_nothing_new, data_finds_nothing_new}
 use Rattle.lvm_commit.proofs.LawsOfDataLemmas.Still.{still_image}
-use Rattle.lvm_begin.specs.Beginning.{Beginning, Part, describes, states, IsOfParts}
-use Rattle.lvm_begin.proofs.ContentsLemmas.{descriptors_show, rest_shows}
+use Rattle.lvm_write.specs.Beginning.{Beginning, Part, describes, states, IsOfParts}
+use Rattle.lvm_write.proofs.ContentsLemmas.{descriptors_show, rest_shows}
 use Rattle.lvm_core.specs.Leaves.{MayBeFound}
 
 -- ---- on the media

@@ -9,15 +9,15 @@ use Rattle.lvm_kept.specs.Moments.{Moment}
 use Rattle.lvm_session.specs.declared.open.Power.{Power}
 use Rattle.lvm_session.specs.Sound.{IsSound}
 use Rattle.lvm_posts.specs.declared.posts.Post.{Post}
-use Rattle.lvm_line.specs.passed.Stage.{Holder, IsClosed, IsOfKind, history_of, session_of, shelf_of, IsBetween}
+use Rattle.lvm_line.specs.passed.GroupLines.{Holder, IsClosed, IsOfKind, history_of, session_of, shelf_of, IsBetween}
 use Rattle.lvm_line.specs.passed.HolderVariants as holder
 use Rattle.lvm_session.specs.declared.answers.Turned.{Turned}
 use Rattle.lvm_session.specs.declared.answers.Turned.TheVariants as turned
 use Rattle.lvm_session.specs.declared.open.Power.TheVariants as power
 use Rattle.lvm_session.specs.State.{Core, State, state}
 use Rattle.lvm_session.specs.Turns.{TurnMakes}
-use Rattle.lvm_line.specs.passed.Running.{RunsOn}
-use Rattle.lvm_line.proofs.passed.Running.{runs_both, runs_none}
+use Rattle.lvm_line.specs.passed.Tie.{RunsOn}
+use Rattle.lvm_line.proofs.passed.Tie.{runs_both, runs_none}
 use Rattle.lvm_line.specs.passed.Names.{TurnTells}
 use Rattle.lvm_line.specs.passed.Ranges.{Moves, NoMove, OneMove}
 use Rattle.lvm_top.specs.Ending.{Concludes, IsQuietNow, IsServed, MakesTurns, NoneIsServed, NothingIsLeft, RestsNow, RunsOut, TurnsAreMade}

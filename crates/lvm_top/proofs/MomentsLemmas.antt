@@ -4,8 +4,8 @@ use Rattle.lvm_disk.specs.Device.{Media, Device, image_of}
 use Rattle.lvm_kept.specs.Changes.{IsBlank}
 use Rattle.lvm_steps.specs.Moments.{IsEarlier}
 use Rattle.lvm_steps.proofs.MomentsLemmas.Zeros.{blank_is_earlier}
-use Rattle.lvm_stamps.specs.Behind.{IsBehind}
-use Rattle.lvm_stamps.proofs.LawsLemmas.Records.{blank_is_behind}
+use Rattle.lvm_steps.specs.Behind.{IsBehind}
+use Rattle.lvm_steps.proofs.LawsLemmas.Records.{blank_is_behind}
 use Rattle.lvm_top.specs.Blank.{IsToldBlank}
 
 pub told_earlier : (run : ℕ) (device : Device) → IsToldBlank device → IsEarlier run device []

@@ -10,16 +10,15 @@ use Rattle.lvm_num.specs.Geometry.{data_start, partition_blocks}
 use Rattle.lvm_num.specs.Name.{is_name}
 use Rattle.lvm_disk.specs.Device.{Media, Flight, Device, IsReady, image_of}
 use Rattle.lvm_vol.specs.Log.{Log}
-use Rattle.lvm_stamps.specs.Behind.{IsBehind}
+use Rattle.lvm_steps.specs.Behind.{IsBehind}
 use Rattle.lvm_rec.specs.declared.homes.Homes.{Homes}
-use Rattle.lvm_begin.specs.Beginning.{Part, IsOfParts}
+use Rattle.lvm_write.specs.Beginning.{Part, IsOfParts}
 use Rattle.lvm_core.specs.declared.refused.Cause.{Cause}
 use Rattle.lvm_core.specs.declared.refused.Cause.TheVariants as cause
 use Rattle.lvm_core.specs.Leaves.{MayBeFound}
-use Rattle.lvm_line.specs.passed.Group.{NewGroup, sizes_in_order, least_size, most_sectors, size_for, new_group, new_status, beginning_for}
-use Rattle.lvm_line.specs.passed.Group.{IsAsBefore, Breaks, MkvgRefuses, IsClear, SparesTold}
+use Rattle.lvm_line.specs.passed.Group.{NewGroup, sizes_in_order, least_size, most_sectors, size_for, new_group, new_status, beginning_for, IsAsBefore, Breaks, MkvgRefuses, IsClear, SparesTold}
 use Rattle.lvm_line.proofs.passed.Group.{is_there, are_members, valid_group, valid_status, size_positive, IsBeginning, may_begin}
-use Rattle.lvm_line.specs.passed.Stage.{refusal_of, IsBrokenOff}
+use Rattle.lvm_line.specs.passed.GroupLines.{refusal_of, IsBrokenOff}
 use Rattle.lvm_line.specs.passed.ReplyVariants as reply
 use Rattle.lvm_top.proofs.Begun.{MayDescribe, IsIts, begun_finds}
 use Rattle.lvm_top.proofs.Devices.{IsShelf, same_nothing, unwritten_nothing}

@@ -18,7 +18,7 @@ use Rattle.lvm_kept.specs.Group.{passes, is_of, descriptor_among, is_voter, has_
 use Rattle.lvm_kept.proofs.ChangesLemmas.Blank.{no_descriptor}
 use Rattle.lvm_kept.proofs.MomentsLemmas.Chaining.{span_sizes}
 use Rattle.lvm_kept.proofs.CommittedLemmas.Finding.{offered, is_offered}
-use Rattle.lvm_begin.specs.Beginning.{new_order}
+use Rattle.lvm_write.specs.Beginning.{new_order}
 use Rattle.lvm_commit.specs.LawsOfVolumes.{IsOneByAllOn}
 use Rattle.lvm_commit.proofs.LawsOfFindingLemmas.NoMore.{data_finds_nothing_new}
 use Rattle.lvm_commit.proofs.LawsOfDataLemmas.Still.{still_image}
@@ -30,18 +30,12 @@ use Rattle.lvm_session.specs.State.{Core, State}
 use Rattle.lvm_line.specs.passed.Quiesce.{MkvgOnceQuiet, RefusedAtOnce, StayedOut, WentQuiet}
 use Rattle.lvm_line.specs.passed.Tie.{LeavesDescriptors}
 use Rattle.lvm_kept.specs.Moments.{Moment}
-use Rattle.lvm_core.specs.Leaves.{EntersVolumes, Scope, is_of_volume}
+use Rattle.lvm_core.specs.Leaves.{EntersVolumes, Scope, is_of_volume, MayBeFound}
 use Rattle.lvm_volume_plan.specs.declared.new_volume.NewVolume.{NewVolume}
-use Rattle.lvm_core.specs.Leaves.{MayBeFound}
 use Rattle.lvm_line.specs.passed.Group.{NewGroup, new_group, MkvgRefuses, IfShown, HasGroup}
-use Rattle.lvm_line.specs.passed.Stage.{patience_of_line, Asks, IsAllowed, IsAlone, OfGroup, OfRequests, Role, IsStuck, ScriptState, IsTimely, StandsAlone, log_with}
-use Rattle.lvm_line.specs.passed.Stage.{Reply}
-use Rattle.lvm_line.specs.passed.GroupLines.{IsLeft, MkvgDoes, NoMemoryForLine, NoMkvgWhileOn, Makes, asked_for, itself, outcome_of}
+use Rattle.lvm_line.specs.passed.GroupLines.{patience_of_line, Asks, IsAllowed, IsAlone, OfGroup, OfRequests, Role, IsStuck, ScriptState, IsTimely, StandsAlone, log_with, Reply, IsLeft, MkvgDoes, NoMemoryForLine, NoMkvgWhileOn, Makes, asked_for, itself, outcome_of}
 use Rattle.lvm_line.specs.Lines.{LineDoes, role_of}
-use Rattle.lvm_line.specs.passed.VolumeLines.{Drains, IsDone, MklvDoes, RmlvDoes, NoGroupForMklv, BusyMklv, UndrainedMklv, MakesVolume, MklvFails}
-use Rattle.lvm_line.specs.passed.VolumeLines.{NoGroupForRmlv, BusyRmlv, UndrainedRmlv, NoVolumeForRmlv, RemovesVolume, RmlvFails, wanted}
-use Rattle.lvm_line.specs.passed.CopyLines.{MklvcopyDoes, NoGroupForMklvcopy, BusyMklvcopy, UndrainedMklvcopy, NoVolumeForMklvcopy, AddsCopies, MklvcopyFails}
-use Rattle.lvm_line.specs.passed.CopyLines.{RmlvcopyDoes, NoGroupForRmlvcopy, BusyRmlvcopy, UndrainedRmlvcopy, NoVolumeForRmlvcopy, RemovesCopies, RmlvcopyFails}
+use Rattle.lvm_line.specs.passed.VolumeLines.{Drains, IsDone, MklvDoes, RmlvDoes, NoGroupForMklv, BusyMklv, UndrainedMklv, MakesVolume, MklvFails, NoGroupForRmlv, BusyRmlv, UndrainedRmlv, NoVolumeForRmlv, RemovesVolume, RmlvFails, wanted, MklvcopyDoes, NoGroupForMklvcopy, BusyMklvcopy, UndrainedMklvcopy, NoVolumeForMklvcopy, AddsCopies, MklvcopyFails, RmlvcopyDoes, NoGroupForRmlvcopy, BusyRmlvcopy, UndrainedRmlvcopy, NoVolumeForRmlvcopy, RemovesCopies, RmlvcopyFails}
 use Rattle.lvm_top.specs.Script.{Script, NoLine, NextLine, AreAllowed, EndsAllowed, StaysAlone, Ends, AtLine, InLine, EndsAlone, EndsHeard, entry_state, empty_log, facts_of}
 use Rattle.lvm_top.specs.Run.{exit_state}
 use Rattle.lvm_top.proofs.ScriptLemmas.Concluding.{how_ended, stuck_ends, stuck_still}

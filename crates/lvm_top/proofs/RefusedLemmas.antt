@@ -5,7 +5,7 @@ use Rattle.lvm_parse.specs.Grammar.{line_of}
 use Rattle.lvm_core.specs.declared.parts.Room.{Room}
 use Rattle.lvm_line.specs.Complete.{NothingFailed}
 use Rattle.lvm_line.specs.Lines.{IsLine}
-use Rattle.lvm_line.specs.passed.Stage.{Reply, ScriptState}
+use Rattle.lvm_line.specs.passed.GroupLines.{Reply, ScriptState}
 use Rattle.lvm_line.specs.passed.ReplyVariants as reply
 use Rattle.lvm_line.proofs.CausesLemmas.Causing.{has_cause}
 use Rattle.lvm_line.proofs.CompleteLemmas.Completing.{lines_complete}

@@ -11,9 +11,9 @@ use Rattle.lvm_vol.specs.Log.{Log}
 use Rattle.lvm_vol.specs.Order.{Ordered}
 use Rattle.lvm_steps.specs.Moments.{IsEarlier}
 use Rattle.lvm_steps.proofs.MomentsLemmas.Spans.{runs_follow}
-use Rattle.lvm_stamps.specs.Behind.{IsBehind, IsAhead}
-use Rattle.lvm_stamps.proofs.LawsLemmas.Clock.{later_is_later_too, joined_is_later}
-use Rattle.lvm_stamps.proofs.LawsLemmas.Stamps.{later_is_ahead_too}
+use Rattle.lvm_steps.specs.Behind.{IsBehind, IsAhead}
+use Rattle.lvm_steps.proofs.LawsLemmas.Clock.{later_is_later_too, joined_is_later}
+use Rattle.lvm_steps.proofs.LawsLemmas.Stamps.{later_is_ahead_too}
 use Rattle.lvm_top.specs.Run.{Run, Promises, RanAlone}
 use Rattle.lvm_top.specs.Runs.{TellsOfItself, NextMayBegin, TwoRunsUphold}
 use Rattle.lvm_top.specs.Script.{empty_log, facts_of}

@@ -7,9 +7,9 @@ use Rattle.lvm_session.specs.State.{Core, State, state}
 use Rattle.lvm_session.specs.Sound.{IsSound}
 use Rattle.lvm_session.specs.Turns.{TurnMakes}
 use Rattle.lvm_line.specs.passed.Names.{TurnTells}
-use Rattle.lvm_line.specs.passed.Running.{RunsOn}
+use Rattle.lvm_line.specs.passed.Tie.{RunsOn}
 use Rattle.lvm_line.specs.passed.Ranges.{Moves}
-use Rattle.lvm_line.specs.passed.Stage.{IsClosed}
+use Rattle.lvm_line.specs.passed.GroupLines.{IsClosed}
 
 -- turns are made until one doesn't move, and no turn more
 pub record MakesTurns (old new : State) : Type 0 where

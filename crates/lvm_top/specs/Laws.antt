@@ -8,14 +8,14 @@ use Rattle.lvm_vol.specs.Log.{Log}
 use Rattle.lvm_parse.specs.declared.command.Command.TheVariants as command
 use Rattle.lvm_parse.specs.Grammar.{line_of}
 use Rattle.lvm_steps.specs.Moments.{Begins, IsEarlier}
-use Rattle.lvm_stamps.specs.Behind.{IsBehind}
+use Rattle.lvm_steps.specs.Behind.{IsBehind}
 use Rattle.lvm_core.specs.declared.parts.Room.{Room}
 use Rattle.lvm_core.specs.Leaves.{MayBeFound}
 use Rattle.lvm_session.specs.State.{Core}
 use Rattle.lvm_line.specs.Causes.{IsBroughtBack}
 use Rattle.lvm_line.specs.Lines.{IsLine, role_of}
 use Rattle.lvm_line.specs.passed.Quiesce.{Quiesces}
-use Rattle.lvm_line.specs.passed.Stage.{IsStuck, ScriptState, IsTimely, Reply}
+use Rattle.lvm_line.specs.passed.GroupLines.{IsStuck, ScriptState, IsTimely, Reply}
 use Rattle.lvm_line.specs.passed.Tie.{LeavesDescriptors}
 use Rattle.lvm_line.specs.passed.ReplyVariants as reply
 use Rattle.lvm_top.specs.declared.status.ExitStatus.{ExitStatus}

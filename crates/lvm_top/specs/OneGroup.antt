@@ -7,11 +7,11 @@ use Rattle.lvm_vol.specs.Log.{Log}
 use Rattle.lvm_parse.specs.declared.command.Command.TheVariants as command
 use Rattle.lvm_parse.specs.Grammar.{line_of}
 use Rattle.lvm_steps.specs.Moments.{IsEarlier}
-use Rattle.lvm_stamps.specs.Behind.{IsBehind}
+use Rattle.lvm_steps.specs.Behind.{IsBehind}
 use Rattle.lvm_core.specs.declared.parts.Room.{Room}
 use Rattle.lvm_core.specs.Leaves.{MayBeFound}
 use Rattle.lvm_line.specs.passed.Recover.{HasNoPassive}
-use Rattle.lvm_line.specs.passed.Stage.{ScriptState, Reply}
+use Rattle.lvm_line.specs.passed.GroupLines.{ScriptState, Reply}
 use Rattle.lvm_top.specs.Run.{Run, IsRun, RanAlone}
 use Rattle.lvm_top.specs.Script.{Script, NoLine, NextLine, AreAllowed, EndsAllowed, StaysAlone, Ends, AtLine, InLine}
 use Rattle.lvm_top.specs.Blank.{IsToldBlank}

@@ -6,7 +6,7 @@ use Rattle.lvm_core.specs.declared.parts.Room.{Room}
 use Rattle.lvm_parse.specs.Grammar.{line_of}
 use Rattle.lvm_line.specs.Causes.{HasCause}
 use Rattle.lvm_line.specs.Complete.{IsOwn, NothingFailed}
-use Rattle.lvm_line.specs.passed.Stage.{Reply, ScriptState, patience_of_line}
+use Rattle.lvm_line.specs.passed.GroupLines.{Reply, ScriptState, patience_of_line}
 use Rattle.lvm_line.specs.passed.ReplyVariants as reply
 use Rattle.lvm_top.specs.Script.{AtLine, Ends, InLine, NextLine, NoLine, Script}
 

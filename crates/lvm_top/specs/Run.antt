@@ -7,14 +7,14 @@ use Rattle.lvm_io.specs.Stream.{WhereTold}
 use Rattle.lvm_vol.specs.Facts.{joined}
 use Rattle.lvm_vol.specs.Legal.{Legal}
 use Rattle.lvm_vol.specs.Log.{Log}
-use Rattle.lvm_stamps.specs.Behind.{IsBehind, IsAhead}
+use Rattle.lvm_steps.specs.Behind.{IsBehind, IsAhead}
 use Rattle.lvm_parse.specs.declared.command.Command.TheVariants as command
 use Rattle.lvm_parse.specs.Grammar.{line_of}
 use Rattle.lvm_core.specs.declared.parts.Room.{Room}
 use Rattle.lvm_line.specs.passed.Recover.{HasNoPassive}
 use Rattle.lvm_line.specs.passed.RefusalVariants as refusal
 use Rattle.lvm_line.specs.passed.ReplyVariants as reply
-use Rattle.lvm_line.specs.passed.Stage.{IsAlone, OfRequests, Reply, ScriptState}
+use Rattle.lvm_line.specs.passed.GroupLines.{IsAlone, OfRequests, Reply, ScriptState}
 use Rattle.lvm_line.specs.passed.Varyon.{IsRecovered}
 use Rattle.lvm_top.specs.Ending.{Concludes}
 use Rattle.lvm_top.specs.Refused.{AreForCause, EndsForCause}

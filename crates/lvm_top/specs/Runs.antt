@@ -4,7 +4,7 @@ use Rattle.lvm_steps.specs.Moments.{ImagesKept, IsEarlier}
 use Rattle.lvm_vol.specs.Facts.{Fact, joined}
 use Rattle.lvm_vol.specs.Legal.{Legal, begins_in}
 use Rattle.lvm_vol.specs.Order.{Ordered}
-use Rattle.lvm_stamps.specs.Behind.{IsBehind}
+use Rattle.lvm_steps.specs.Behind.{IsBehind}
 use Rattle.lvm_top.specs.Run.{Run, Promises, RanAlone}
 use Rattle.lvm_top.specs.Script.{facts_of}
 use Rattle.lvm_top.specs.Blank.{IsToldBlank}

@@ -10,7 +10,7 @@ use Rattle.lvm_vol.specs.Log.{Log}
 use Rattle.lvm_core.specs.declared.parts.Room.{Room}
 use Rattle.lvm_parse.specs.Grammar.{line_of}
 use Rattle.lvm_line.specs.Lines.{IsLine, role_of}
-use Rattle.lvm_line.specs.passed.Stage.{IsAllowed, IsAlone, Role, Aside, OfGroup, OfGroupWhere, OfRequests, reply_text, refusals_of, IsStuck, ScriptState, Reply}
+use Rattle.lvm_line.specs.passed.GroupLines.{IsAllowed, IsAlone, Role, Aside, OfGroup, OfGroupWhere, OfRequests, reply_text, refusals_of, IsStuck, ScriptState, Reply}
 use Rattle.lvm_line.specs.passed.RefusalVariants as refusal
 use Rattle.lvm_line.specs.passed.ReplyVariants as reply
 

@@ -15,11 +15,9 @@ use Rattle.lvm_core.specs.Held.{IsHeld}
 use Rattle.lvm_core.specs.Looking.{IsNumberOf}
 use Rattle.lvm_session.specs.State.{Core, State}
 use Rattle.lvm_line.specs.passed.Group.{new_group}
-use Rattle.lvm_line.specs.passed.Volumes.{IsWith}
-use Rattle.lvm_line.specs.passed.Mirrors.{IsWithFirst, IsWithMore}
+use Rattle.lvm_line.specs.passed.Volumes.{IsWith, IsWithFirst, IsWithMore}
 use Rattle.lvm_core.specs.Leaves.{MayBeFound}
-use Rattle.lvm_line.specs.passed.GroupLines.{asked_for}
-use Rattle.lvm_line.specs.passed.Stage.{IsAlone, IsBrokenOff, Role, IsAtRest, StandsBy, ScriptState, Reply}
+use Rattle.lvm_line.specs.passed.GroupLines.{asked_for, IsAlone, IsBrokenOff, Role, IsAtRest, StandsBy, ScriptState, Reply}
 use Rattle.lvm_line.specs.passed.VolumeLines.{Drains, wanted}
 use Rattle.lvm_line.specs.passed.ReplyVariants as reply
 use Rattle.lvm_top.specs.Script.{Script, NoLine, NextLine, Ends, AtLine, InLine}

@@ -4,7 +4,7 @@ use Rattle.lvm_io.specs.Count.{Rose}
 use Rattle.lvm_io.specs.Stream.{WhereTold}
 use Rattle.lvm_vol.specs.Log.{Log}
 use Rattle.lvm_core.specs.declared.parts.Room.{Room}
-use Rattle.lvm_line.specs.passed.Stage.{ScriptState}
+use Rattle.lvm_line.specs.passed.GroupLines.{ScriptState}
 use Rattle.lvm_top.specs.Script.{Passage, AreDone, AreAllRead, AreDoneBut, IsLineLeft, EndsHeard, EndsStuck}
 use Rattle.lvm_top.specs.declared.status.ExitStatus.{ExitStatus}
 use Rattle.lvm_top.specs.declared.status.ExitStatus.TheVariants as ended

@@ -4,7 +4,7 @@ use Rattle.lvm_io.specs.Count.{Rose}
 use Rattle.lvm_io.specs.Lines.{TakesFirst, has_feed}
 use Rattle.lvm_io.specs.Reading.{Reading, to_come, lines_left, CountsGiven}
 use Rattle.lvm_io.specs.Stream.{WhereTold}
-use Rattle.lvm_line.specs.passed.Stage.{reply_text, refusals_of, IsStuck, Reply}
+use Rattle.lvm_line.specs.passed.GroupLines.{reply_text, refusals_of, IsStuck, Reply}
 use Rattle.lvm_top.specs.Script.{Passage, Says}
 use Rattle.lvm_top.specs.declared.script.Stop.{Stop}
 use Rattle.lvm_top.specs.declared.script.Stop.TheVariants as stop

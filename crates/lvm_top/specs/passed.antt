@@ -2,6 +2,6 @@ pub mod HolderVariants
 pub mod Lines
 pub mod Recover
 pub mod ReplyVariants
-pub mod Running
-pub mod Stage
 pub mod Texts
+pub mod Tie
+pub mod GroupLines

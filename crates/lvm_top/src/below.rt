@@ -4,4 +4,4 @@ pub mod driver;
 pub mod line;
 pub mod stage;
 
-pub use lvm_replies::push_counted;
+pub use lvm_show::push_counted;

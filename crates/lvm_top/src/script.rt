@@ -3,8 +3,7 @@ ghost use Rattle.std.specs.Prelude.{◌≡◌, ◌↔◌, ◌+◌, ◌++◌, ◌
 ghost use Rattle.lvm_io.specs.Count.{Rose};
 ghost use Rattle.lvm_io.specs.Stream.{WhereTold, WritesFront};
 ghost use Rattle.lvm_core.specs.Starting.{IsRoom};
-ghost use Rattle.lvm_line.specs.passed.Stage.{reply_text, most_refusals, refusals_of, IsStuck, history_in, session_in, state_in};
-ghost use Rattle.lvm_line.specs.passed.Stage.{IsBetweenStage, IsFittingStage, without_facts};
+ghost use Rattle.lvm_line.specs.passed.GroupLines.{reply_text, most_refusals, refusals_of, IsStuck, history_in, session_in, state_in, IsBetweenStage, IsFittingStage, without_facts};
 ghost use Rattle.lvm_top.specs.Script.{Says, is_made_late, passage};
 ghost use Rattle.lvm_top.specs.Statuses.{GoesUntil};
 ghost use Rattle.lvm_top.specs.Turn.{ReadsLine, ReadsNone, Tells, stop_after};
@@ -15,7 +14,7 @@ use lvm_io::{Clock, Lines, NextLine, Sink, SinkFault, Source, write_all};
 use lvm_line::below::stage::{Refusal, Reply, Stage, memory_text, refusal_line};
 use lvm_line::{InPlace, answer_line, finish_line};
 use lvm_num::{Memory, Rows, Text};
-use lvm_replies::{show_stepped, show_synced};
+use lvm_show::{show_stepped, show_synced};
 use std::alloc::Global;
 
 /// Why a run ends before the input does.

@@ -1,5 +1,5 @@
 -- Bytes of sectors that follow each other.
-use Rattle.std.proofs.Common.{length, ◌≡◌, ◌+◌, ◌<◌, ◌++◌, [], ◌∷◌, ℕ, zero, suc, List, Option, Some, None, IfSome, take, slice_get, slice_index_or, min, ◌-◌, inl, inr, append-nil, append_assoc, refl, sym, ◌∙◌, ap, arith}
+use Rattle.std.proofs.Common.{◌≡◌, ◌+◌, ◌<◌, ◌++◌, [], ◌∷◌, ℕ, zero, suc, List, Option, Some, None, IfSome, take, slice_get, slice_index_or, min, ◌-◌, inl, inr, append-nil, append_assoc, refl, sym, ◌∙◌, ap, arith}
 use Rattle.std.specs.List.{flat_map}
 use Rattle.std.proofs.lemmas.Bool.{cases_lt}
 use Rattle.lvm_disk.specs.passed.Names.{Sector, joined}
@@ -103,8 +103,3 @@ told-always P None always = tt
 told-always P (Some x) always = always x
 
 -- ---- places in lists
-
-pub got_within : {X : Type 0} (xs : List X) (i : ℕ) (x : X) → slice_get xs i ≡ Some x → i < length xs
-got_within [] i x is = absurd (cc (is))
-got_within (y ∷ xs) zero x is = omega arith
-got_within (y ∷ xs) (suc i) x is = let less = got_within xs i x is in omega arith

@@ -1,5 +1,5 @@
 -- Each step keeps the rule of the turn.
-use Rattle.std.proofs.Common.{◌≡◌, ◌≢◌, ℕ, ◌+◌, ◌%◌, ◌^◌, ◌<◌, ◌≤◌, Bool, true, false, true≢false, Option, Some, None, List, [], ◌∷◌, length, set, refl, sym, ap, ◌∙◌, subst, ⊎_elim, inl, inr, arith, eq-eqb}
+use Rattle.std.proofs.Common.{◌≡◌, ◌≢◌, ℕ, ◌+◌, ◌%◌, ◌^◌, ◌<◌, ◌≤◌, Bool, true, false, Option, Some, None, List, [], ◌∷◌, length, set, refl, sym, ap, ◌∙◌, subst, ⊎_elim, inl, inr, arith, eq-eqb}
 use Rattle.std.specs.Prelude.{if◌then◌else◌, slice_index, slice_set, ◌==◌}
 use mathlib.Core.Option.{some, none, some-ne-none, some-injective}
 use mathlib.Core.Option as maybe
@@ -8,6 +8,7 @@ use native.Mathlib.Decide.{ℕ_discrete}
 use lib.ListN.{get_elem?}
 use prog.Atomic.{either}
 use Rattle.std.specs.Option.{unwrap_or}
+use Rattle.std.proofs.lemmas.Bool.{false_from_ne_true, both_ways}
 use Rattle.atomic_table.specs.Table.{State, Me, step, Act, keeps, takes, gives, stepped, Valid, carried_after, Allows}
 use Rattle.atomic_table.proofs.Lists.{at_set, set_here, set_else, exchanged}
 use Rattle.lvm_vol.specs.Fronts.{Told, own, Begins, NoneFell}
@@ -22,10 +23,6 @@ use Rattle.lvm_vol.proofs.FrontsLemmas.{begins_itself, begins_further, none_fell
 use Rattle.lvm_turn.proofs.RulesLemmas.Growing.{index_below, after_set, fits_on, still_placed}
 use Rattle.lvm_turn.proofs.RulesLemmas.Rules.{still_taken}
 
-bool_cases : (b : Bool) → (b ≡ true → ⊥) → b ≡ false
-bool_cases true never = absurd (never refl)
-bool_cases false never = refl
-
 renewed_holds : (history : List Fact) (xs : List Client) (c : ℕ) (l : List Fact) → Owns xs c l → Holds (renewed history xs) c
 renewed_holds history [] c l h = absurd h
 renewed_holds history (x ∷ xs) c l h = ⊎_elim
@@ -39,9 +36,6 @@ renewed_owns history (x ∷ xs) c l h = ⊎_elim
     (λ (t : (x.number ≡ c) × (own x.number history ≡ l)). ((x.own, inl (t.0, refl)), ap (λ k. own k history) (sym t.0) ∙ t.1))
     (λ (t : Owns (renewed history xs) c l). let u = renewed_owns history xs c l t in ((u.0.0, inr u.0.1), u.1))
     h
-
-off : (b : Bool) → b ≡ false → b ≡ true → ⊥
-off b f t = true≢false (sym t ∙ f)
 
 module _ {V : Type 0} (tells : V → Told) (past : V → Option (List (List Sector))) (always : V → Type 0) (n : ℕ) (root : Fixed) where
   abbrev St : Type 0
@@ -62,7 +56,7 @@ module _ {V : Type 0} (tells : V → Told) (past : V → Option (List (List Sect
       let f = r.each id v at in
       let quiet : (j : ℕ) (u : View) → get_elem? (set s.views id w) j ≡ some u → u.inside ≡ true → (j ≢ id) × (get_elem? s.views j ≡ some u) =
       λ j u e is. ⊎_elim
-      (λ (x : (j ≡ id) × (w ≡ u)). absurd (off u.inside (sym (ap (λ (y : View). y.inside) x.1) ∙ out.outside) is))
+      (λ (x : (j ≡ id) × (w ≡ u)). absurd (both_ways u.inside (sym (ap (λ (y : View). y.inside) x.1) ∙ out.outside) is))
       (λ (x : (j ≢ id) × (get_elem? s.views j ≡ some u)). x)
       (at_set s.views id j w u e) in
       record {
@@ -85,7 +79,7 @@ module _ {V : Type 0} (tells : V → Told) (past : V → Option (List (List Sect
               home = free.home;
             })
             (λ (taken : IsTaken tells past always r.history r.best r.turn s).
-            let apart : taken.seat ≢ id = λ e. off v.inside out.outside
+            let apart : taken.seat ≢ id = λ e. both_ways v.inside out.outside
             (ap (λ (y : View). y.inside) (some-injective v taken.view (sym at ∙ ap (λ k. get_elem? s.views k) (sym e) ∙ taken.there)) ∙ taken.holder.inside) in
             inr record {
               odd = taken.odd;
@@ -142,7 +136,7 @@ module _ {V : Type 0} (tells : V → Told) (past : V → Option (List (List Sect
           holder = record { inside = refl; number = refl; front = free.home.entries_are; counts = free.home.counts_are; client = out.client };
           alone = λ j u e inside. ⊎_elim
               (λ (x : (j ≡ id) × (w ≡ u)). x.0)
-              (λ (x : (j ≢ id) × (get_elem? s.views j ≡ some u)). absurd (off u.inside (free.nobody_inside j u x.1) inside))
+              (λ (x : (j ≢ id) × (get_elem? s.views j ≡ some u)). absurd (both_ways u.inside (free.nobody_inside j u x.1) inside))
               (at_set s.views id j w u e);
           homes = ap (λ hs. slice_set hs 0 none) free.homes;
         };
@@ -195,7 +189,7 @@ module _ {V : Type 0} (tells : V → Told) (past : V → Option (List (List Sect
 
   held : (s : St) (r : Rule s) (id : ℕ) (v : View) → v.inside ≡ true → get_elem? s.views id ≡ some v → Held s r id v
   held s r id v inside at = ⊎_elim
-      (λ (free : IsFree tells past always r.history root r.best r.turn s). absurd (off v.inside (free.nobody_inside id v at) inside))
+      (λ (free : IsFree tells past always r.history root r.best r.turn s). absurd (both_ways v.inside (free.nobody_inside id v at) inside))
       (λ (taken : IsTaken tells past always r.history r.best r.turn s).
       let here : id ≡ taken.seat = taken.alone id v at inside in
       let same : taken.view ≡ v = some-injective taken.view v (sym taken.there ∙ ap (λ k. get_elem? s.views k) (sym here) ∙ at) in
@@ -305,7 +299,7 @@ module _ {V : Type 0} (tells : V → Told) (past : V → Option (List (List Sect
       let low = r.low in
       let number = h.holder.number in
       let outside : (j : ℕ) (u : View) → get_elem? (set s.views id w) j ≡ some u → u.inside ≡ false =
-      after_set (λ j u. u.inside ≡ false) s.views id w refl (λ j u ne e. bool_cases u.inside (λ i. ne (h.alone j u e i))) in (
+      after_set (λ j u. u.inside ≡ false) s.views id w refl (λ j u ne e. false_from_ne_true u.inside (λ i. ne (h.alone j u e i))) in (
         w,
         gives,
         tt,

@@ -19,25 +19,25 @@ use Rattle.lvm_kept.specs.Plans.{ChangesBy}
 use Rattle.lvm_kept.specs.Recovered.{IsRecordRange}
 use Rattle.lvm_kept.specs.Torn.{written as as_read, DescriptorsChange, StatusesChange}
 use Rattle.lvm_kept.proofs.CommittedLemmas.Finding.{images_within}
-use Rattle.lvm_stamps.specs.Behind.{StampsBefore, beginning_at, IsBehind}
+use Rattle.lvm_steps.specs.Behind.{StampsBefore, beginning_at, IsBehind}
 use Rattle.lvm_rec.specs.declared.homes.Homes.{Homes}
 use Rattle.lvm_write.specs.Homes.{SparesNewest}
-use Rattle.lvm_varyon_plan.specs.passed.Names.{ShowsCommitted, LogsOnly}
-use Rattle.lvm_varyon_plan.proofs.passed.Names.{newest_is_beginning, only_planned}
+use Rattle.lvm_varyon.specs.passed.Names.{ShowsCommitted, LogsOnly}
+use Rattle.lvm_varyon.proofs.passed.Names.{newest_is_beginning, only_planned}
 use Rattle.lvm_steps.specs.VaryingOn.{HasNewest}
 use Rattle.lvm_steps.proofs.VaryingOnLemmas.Following.{restamp_is_newest}
 use Rattle.lvm_steps.proofs.VaryingOnLemmas.VaryingOn.{restamp_keeps, restate_keeps}
-use Rattle.lvm_begin.specs.Beginning.{Beginning, again_order, describes, states, MayBeginAgain, IsOfParts}
-use Rattle.lvm_begin.specs.Newest.{FindsBeginning}
-use Rattle.lvm_begin.specs.Shown.{HasBegun}
-use Rattle.lvm_begin.proofs.ShownLemmas.Following.{targets_spare_newest, ranges_are_of_records, stamps_are_of_beginning}
-use Rattle.lvm_begin.proofs.VaryingOnLemmas.{may_restate}
-use Rattle.lvm_begin.proofs.NewestLemmas.{all_find_newest, again_is_found, status_is_last}
-use Rattle.lvm_begin.proofs.ShownLemmas.Shown.{again_is_shown, media_by}
-use Rattle.lvm_next.specs.Next.{IsNextStatus}
-use Rattle.lvm_next.specs.Restated.{Restated}
+use Rattle.lvm_write.specs.Beginning.{Beginning, again_order, describes, states, MayBeginAgain, IsOfParts}
+use Rattle.lvm_write.specs.Newest.{FindsBeginning}
+use Rattle.lvm_write.specs.Shown.{HasBegun}
+use Rattle.lvm_write.proofs.ShownLemmas.Following.{targets_spare_newest, ranges_are_of_records, stamps_are_of_beginning}
+use Rattle.lvm_write.proofs.VaryingOnLemmas.{may_restate}
+use Rattle.lvm_write.proofs.NewestLemmas.{all_find_newest, again_is_found, status_is_last}
+use Rattle.lvm_write.proofs.ShownLemmas.Shown.{again_is_shown, media_by}
+use Rattle.lvm_write.specs.Next.{IsNextStatus}
+use Rattle.lvm_write.specs.Restated.{Restated}
 use Rattle.lvm_varyon.specs.Found.{records_on}
-use Rattle.lvm_varyon_plan.specs.Chosen.{answering}
+use Rattle.lvm_varyon.specs.Chosen.{answering}
 use Rattle.lvm_varyon.specs.Varied.{HasWritten}
 use Rattle.lvm_varyon.specs.Writing.{beginning, AllWritten}
 use Rattle.lvm_varyon.proofs.GroupLemmas.{same_voters}

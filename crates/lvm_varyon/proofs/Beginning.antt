@@ -4,7 +4,7 @@ use Rattle.std.specs.Prelude.{IsTrue, ◌^◌, nat_lt, nat_le, slice_get, slice_
 use Rattle.std.specs.List.{list_any}
 use Rattle.std.proofs.lemmas.Bool.Decides.{nat_tests}
 use Rattle.std.proofs.lemmas.Option.{slice_get_within, get_or_from_slice_get}
-use Rattle.std.proofs.lemmas.Bool.{and_from}
+use Rattle.std.proofs.lemmas.Bool.{and_from, lt-ltb}
 use Rattle.lvm_num.specs.declared.record.Kind.TheVariants as kind
 use Rattle.lvm_num.specs.declared.record.Framed.{Framed}
 use Rattle.lvm_num.specs.declared.descriptor.Mode.TheVariants.{Passive}
@@ -26,41 +26,35 @@ use Rattle.lvm_kept.specs.Contents.{Contents, contents_of, has_records}
 use Rattle.lvm_kept.specs.Group.{passes, is_of, has_room, descriptor_among, is_voter, status_among, Finds, fresh_on, IsOneOf, IsSome}
 use Rattle.lvm_kept.specs.Torn.{MayWriteAll}
 use Rattle.lvm_steps.specs.VaryingOn.{Carries}
-use Rattle.lvm_stamps.specs.Behind.{StampsBefore, IsBehind}
-use Rattle.lvm_stamps.specs.Laws.{ShowsBefore}
-use Rattle.lvm_stamps.proofs.LawsLemmas.Stamps.{behind_is_before}
-use Rattle.lvm_stamps.proofs.LawsLemmas.Records.{shown_is_before, session_may_go}
+use Rattle.lvm_steps.specs.Behind.{StampsBefore, IsBehind}
+use Rattle.lvm_steps.specs.Laws.{ShowsBefore}
+use Rattle.lvm_steps.proofs.LawsLemmas.Stamps.{behind_is_before}
+use Rattle.lvm_steps.proofs.LawsLemmas.Records.{shown_is_before, session_may_go}
 use Rattle.lvm_vgda.proofs.DescriptorBytesLemmas.Whole.{spelled_is_read}
 use Rattle.lvm_vgsa.proofs.StatusBytesLemmas.RoundTrip.{is_read_again}
 use Rattle.lvm_write.specs.Homes.{SparesNewest}
 use Rattle.lvm_write.specs.Written.{write_of, HaveRoom}
 use Rattle.lvm_write.proofs.ShowsLemmas.{descriptor_may_be_written, status_may_be_written}
-use Rattle.lvm_survey.specs.declared.row.SurveyRow.{SurveyRow}
-use Rattle.lvm_survey.specs.declared.row.Survey.{Survey}
-use Rattle.lvm_survey.specs.Surveyed.{surveyed}
-use Rattle.lvm_survey.specs.passed.Names.{under}
-use Rattle.lvm_varyon_plan.specs.passed.Names.{Room}
-use Rattle.lvm_begin.specs.Beginning.{Beginning, describes, states, MayBeginAgain}
-use Rattle.lvm_next.specs.Next.{IsNextStatus, has_passive}
+use Rattle.lvm_quorum.specs.declared.row.SurveyRow.{SurveyRow}
+use Rattle.lvm_quorum.specs.declared.row.Survey.{Survey}
+use Rattle.lvm_quorum.specs.Surveyed.{surveyed}
+use Rattle.lvm_quorum.specs.passed.Survey.{under}
+use Rattle.lvm_varyon.specs.passed.Names.{Room}
+use Rattle.lvm_write.specs.Beginning.{Beginning, describes, states, MayBeginAgain}
+use Rattle.lvm_write.specs.Next.{IsNextStatus, has_passive}
 use Rattle.lvm_num.specs.Modes.{is_passive}
-use Rattle.lvm_next.proofs.NextLemmas.{copy_is_placed, is_member_of}
-use Rattle.lvm_varyon_plan.specs.declared.plan.Plan.{Plan}
+use Rattle.lvm_write.proofs.NextLemmas.{copy_is_placed, is_member_of}
+use Rattle.lvm_varyon.specs.declared.plan.Plan.{Plan}
 use Rattle.lvm_varyon.specs.Found.{records_on}
-use Rattle.lvm_varyon_plan.specs.Chosen.{MayComeOn}
-use Rattle.lvm_varyon_plan.specs.Planned.{IsPlan}
+use Rattle.lvm_varyon.specs.Chosen.{MayComeOn}
+use Rattle.lvm_varyon.specs.Planned.{IsPlan}
 use Rattle.lvm_varyon.specs.Parts.{IsSurveyOf}
 use Rattle.lvm_varyon.specs.Writing.{beginning}
-use Rattle.lvm_varyon.proofs.FoundLemmas.Seeing.{answered_by, read_row, shows_records, row_answers}
+use Rattle.lvm_varyon.proofs.FoundLemmas.Seeing.{answered_by, read_row, shows_records, row_answers, enough_is}
 use Rattle.lvm_varyon.proofs.GroupLemmas.{same_voters, same_status, holds_finds}
 use Rattle.lvm_varyon.proofs.DescriptorLemmas.{one_place}
-use Rattle.lvm_varyon_plan.proofs.passed.Names.{descriptor_fits}
+use Rattle.lvm_varyon.proofs.passed.Names.{descriptor_fits}
 use Rattle.lvm_varyon.proofs.RecordLemmas.{status_fits}
-
-within : (d n : ℕ) → d < n → nat_lt d n ≡ true
-within d n lt = grind (arith, nat_tests)
-
-enough_is : (n : ℕ) → data_start ≤ n → nat_le data_start n ≡ true
-enough_is n le = grind (arith, nat_tests)
 
 -- a voter shows the group's descriptor, and has the room that it needs
 pub voter_shows : (c : Contents) (disks : Disks) (id d : ℕ) → IsTrue (is_voter c disks id d) → IsTrue (passes (is_of id) (c.descriptor d))
@@ -196,7 +190,7 @@ module _ (old read : Device) (survey : Survey) (is : IsSurveyOf old read survey)
     there d target =
         let r = target_row d target in
         and_from (nat_lt d (length old.sizes)) (nat_le data_start (slice_index_or old.sizes d 0))
-        (within d (length old.sizes) (slice_get_within old.sizes d r.0.sectors (is.each d r.0 r.1).sectors))
+        (lt-ltb d (length old.sizes) (slice_get_within old.sizes d r.0.sectors (is.each d r.0 r.1).sectors))
         (ap (nat_le data_start) (get_or_from_slice_get old.sizes d r.0.sectors 0 (is.each d r.0 r.1).sectors) ∙ enough_is r.0.sectors r.3)
 
     pub spared : (d : ℕ) → IsTrue (has plan.targets d) → SparesNewest plan.homes (image_of old.sizes media) d

@@ -20,12 +20,12 @@ use Rattle.lvm_kept.specs.Contents.{Contents, contents_of, descriptor_on, status
 use Rattle.lvm_kept.specs.Group.{Finds, descriptor_among, has_quorum, is_voter}
 use Rattle.lvm_kept.proofs.PlacesLemmas.{at-same, newest-same}
 use Rattle.lvm_steps.proofs.MakingLemmas.Making.{media_may}
-use Rattle.lvm_varyon_plan.specs.passed.Names.{MayBeFound, Recopy, IsOfCopies, ArePlanned}
+use Rattle.lvm_varyon.specs.passed.Names.{MayBeFound, Recopy, IsOfCopies, ArePlanned}
 use Rattle.lvm_kept.specs.Plans.{Plan, ChangesBy}
 use Rattle.lvm_kept.specs.Torn.{IsOfNote}
-use Rattle.lvm_stamps.specs.Behind.{StampsBefore, beginning_at, IsBehind}
-use Rattle.lvm_stamps.specs.Laws.{IsOtherOrEarlier}
-use Rattle.lvm_stamps.proofs.LawsLemmas.Writes.{changes_widen, earlier_keep_before, notes_and_data_are_outside}
+use Rattle.lvm_steps.specs.Behind.{StampsBefore, beginning_at, IsBehind}
+use Rattle.lvm_steps.specs.Laws.{IsOtherOrEarlier}
+use Rattle.lvm_steps.proofs.LawsLemmas.Writes.{changes_widen, earlier_keep_before, notes_and_data_are_outside}
 use Rattle.lvm_rec.specs.declared.homes.Homes.{Homes}
 use Rattle.lvm_write.specs.Homes.{SparesNewest}
 use Rattle.lvm_write.specs.Written.{KeepsShelf}

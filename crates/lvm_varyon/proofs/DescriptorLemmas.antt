@@ -10,7 +10,7 @@ use Rattle.lvm_num.specs.declared.descriptor.Descriptor.{Descriptor}
 use Rattle.lvm_num.specs.Descriptor.{IsValid, copies_of, partitions_in}
 use Rattle.lvm_num.proofs.Pairs.{AllPairs-left, AllPairs-right}
 use Rattle.lvm_kept.specs.Group.{IsOneOf}
-use Rattle.lvm_next.proofs.NextLemmas.{copy_in_map, in_partitions}
+use Rattle.lvm_write.proofs.NextLemmas.{copy_in_map, in_partitions}
 
 -- where an element stands
 record At {X : Type 0} (xs : List X) (x : X) : Type 0 where

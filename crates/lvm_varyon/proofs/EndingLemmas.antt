@@ -1,6 +1,6 @@
 -- The members that answer have the sectors that their partitions need.
 use Rattle.std.proofs.Common.{◌≡◌, ◌≢◌, inl, inr, ℕ, ◌≤◌, Bool, true, false, ◌&&◌, ◌==◌, suc, List, [], ◌∷◌, get_or, Option, Some, refl, sym, ap, subst, ◌∙◌, arith}
-use Rattle.std.specs.Prelude.{IsTrue, not, nat_le, unwrap_or, option_map, find, slice_get, if◌then◌else◌, Contains, AllPairs}
+use Rattle.std.specs.Prelude.{IsTrue, nat_le, unwrap_or, option_map, find, slice_get, if◌then◌else◌, Contains, AllPairs}
 use Rattle.std.specs.List.{list_any}
 use Rattle.std.proofs.lemmas.Bool.{cases_lt, eqb-true, eq-eqb, and_parts}
 use Rattle.std.proofs.lemmas.Bool.Decides.{nat_tests}
@@ -14,14 +14,15 @@ use Rattle.lvm_num.specs.Descriptor.{is_member}
 use Rattle.lvm_num.specs.Disks.{has}
 use Rattle.lvm_num.specs.Geometry.{sectors_needed}
 use Rattle.lvm_num.specs.Status.{calls_missing}
+use Rattle.lvm_num.proofs.Booleans.{second_with_first}
 use Rattle.lvm_disk.specs.Device.{Device}
-use Rattle.lvm_survey.specs.declared.row.SurveyRow.{SurveyRow}
-use Rattle.lvm_survey.specs.declared.row.Survey.{Survey}
-use Rattle.lvm_survey.specs.Surveyed.{surveyed}
+use Rattle.lvm_quorum.specs.declared.row.SurveyRow.{SurveyRow}
+use Rattle.lvm_quorum.specs.declared.row.Survey.{Survey}
+use Rattle.lvm_quorum.specs.Surveyed.{surveyed}
 use Rattle.lvm_status.specs.Update.{Updates}
-use Rattle.lvm_varyon_plan.specs.passed.Names.{Room, IsPlaced, ArePlaced, HaveSectors}
-use Rattle.lvm_varyon_plan.specs.declared.plan.Plan.{Plan}
-use Rattle.lvm_varyon_plan.specs.Planned.{IsPlan}
+use Rattle.lvm_varyon.specs.passed.Names.{Room, IsPlaced, ArePlaced, HaveSectors}
+use Rattle.lvm_varyon.specs.declared.plan.Plan.{Plan}
+use Rattle.lvm_varyon.specs.Planned.{IsPlan}
 use Rattle.lvm_varyon.specs.Parts.{IsSurveyOf}
 use Rattle.lvm_varyon.proofs.Beginning.{target_row, target_room}
 
@@ -56,11 +57,6 @@ row_found (r ∷ rs) d row e = by_test (r.disk == d) refl e (row_found rs d row)
     by_test true is found rest = let same : r ≡ row = cc (found) in ((0, omega arith, same), ap (λ (x : PvRow). x.disk) (sym same) ∙ eqb-true r.disk d is)
     by_test false is found rest = let it = rest found in let low = it.0.1 in ((suc it.0.0, omega (arith, low), it.0.2), it.1)
 
-answers_if : (m a : Bool) → m ≡ true → (m && not a) ≡ false → a ≡ true
-answers_if true true is e = refl
-answers_if true false is e = absurd cc
-answers_if false a is e = absurd cc
-
 module _ (old read : Device) (survey : Survey) (is : IsSurveyOf old read survey) (name : List ℕ) (moment : ℕ) (some : moment ≢ 0) (room : Room) (plan : Plan) (by : IsPlan survey name moment room plan) where
   -- the disk of a member that answers is as large as its partitions need
   large_enough : (row : PvRow) → Contains by.group.pvs row → IsTrue (has plan.targets row.disk) → (r : SurveyRow) × (slice_get old.sizes row.disk ≡ Some r.sectors) × (sectors_needed by.group.mib row.pps ≤ r.sectors)
@@ -77,7 +73,7 @@ module _ (old read : Device) (survey : Survey) (is : IsSurveyOf old read survey)
 
   place : (row : PvRow) → Contains by.group.pvs row → calls_missing by.next row.disk ≡ false → IsPlaced old.sizes by.group.mib row
   place row there present =
-      let answers : IsTrue (has plan.targets row.disk) = answers_if (is_member by.group row.disk) (has plan.targets row.disk) (member_there by.group.pvs row there) (sym (by.next_is.missing row.disk) ∙ present) in
+      let answers : IsTrue (has plan.targets row.disk) = second_with_first (is_member by.group row.disk) (has plan.targets row.disk) (member_there by.group.pvs row there) (sym (by.next_is.missing row.disk) ∙ present) in
       let r = large_enough row there answers in
       record {
         there = slice_get_within old.sizes row.disk r.0.sectors r.1;

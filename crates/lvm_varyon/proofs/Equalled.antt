@@ -20,16 +20,16 @@ use Rattle.lvm_kept.specs.Group.{descriptor_among, is_named, names_if, status_am
 use Rattle.lvm_kept.specs.Plans.{ChangesBy}
 use Rattle.lvm_kept.specs.Torn.{IsOfNote}
 use Rattle.lvm_kept.proofs.CommittedLemmas.Finding.{finding_reads}
-use Rattle.lvm_stamps.specs.Behind.{StampsBefore}
-use Rattle.lvm_stamps.proofs.LawsLemmas.Writes.{changes_widen}
+use Rattle.lvm_steps.specs.Behind.{StampsBefore}
+use Rattle.lvm_steps.proofs.LawsLemmas.Writes.{changes_widen}
 use Rattle.lvm_rec.specs.declared.homes.Homes.{Homes}
 use Rattle.lvm_write.specs.Homes.{SparesNewest}
 use Rattle.lvm_write.specs.Notes.{empty_note_sector}
 use Rattle.lvm_write.proofs.WrittenLemmas.Writing.{changes_then, told_at}
-use Rattle.lvm_varyon_plan.specs.passed.Names.{ShowsCommitted, IsOfCopies, ShowsEqualised, MayEqualise, ArePlanned}
-use Rattle.lvm_next.specs.Restated.{Restated}
-use Rattle.lvm_varyon_plan.proofs.passed.Names.{group_same, status_same, shows_other, equalised_ends, next_same_plan, restated_may_equalise, same_notes_same_plan}
-use Rattle.lvm_varyon_plan.specs.Chosen.{answering}
+use Rattle.lvm_varyon.specs.passed.Names.{ShowsCommitted, IsOfCopies, ShowsEqualised, MayEqualise, ArePlanned}
+use Rattle.lvm_write.specs.Restated.{Restated}
+use Rattle.lvm_varyon.proofs.passed.Names.{group_same, status_same, shows_other, equalised_ends, next_same_plan, restated_may_equalise, same_notes_same_plan}
+use Rattle.lvm_varyon.specs.Chosen.{answering}
 use Rattle.lvm_varyon.specs.Equal.{MakesEqual}
 use Rattle.lvm_varyon.proofs.Beside.{IsBesideSlots, beside_keeps_before, beside_spares, copies_beside, notes_beside}
 use Rattle.lvm_varyon.proofs.After.{HasRecords, MayHaveRecords, restated, same_names, shown_is, shows, spares}

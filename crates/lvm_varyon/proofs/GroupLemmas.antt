@@ -9,7 +9,7 @@ use Rattle.lvm_num.specs.Votes.{all_disks, votes_in, is_enough_to_read}
 use Rattle.lvm_kept.specs.Contents.{Contents}
 use Rattle.lvm_kept.specs.Group.{if_passes, passes, is_of, is_status_of, has_room, descriptor_among, is_voter, has_quorum, status_among, Finds}
 use Rattle.lvm_varyon.specs.Found.{records_on}
-use Rattle.lvm_varyon_plan.specs.Chosen.{Holds}
+use Rattle.lvm_varyon.specs.Chosen.{Holds}
 
 module _ (disks : Disks) (c : Contents) (id : ℕ) where
   alone : Contents

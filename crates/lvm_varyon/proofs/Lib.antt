@@ -13,3 +13,4 @@ pub mod VariedLemmas
 pub mod EqualLemmas
 pub mod PathsLemmas
 pub mod SettlingLemmas
+pub mod ChosenLemmas

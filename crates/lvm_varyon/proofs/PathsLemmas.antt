@@ -8,20 +8,20 @@ use Rattle.lvm_disk.specs.Paths.{DeviceStep, Path}
 use Rattle.lvm_disk.proofs.PathsLemmas.{map-path}
 use Rattle.lvm_steps.specs.Moments.{StaysKept}
 use Rattle.lvm_steps.proofs.MomentsLemmas.Spans.{fewer_stay_kept}
-use Rattle.lvm_survey.specs.declared.row.Survey.{Survey}
-use Rattle.lvm_varyon_plan.specs.passed.Names.{Room, MayEqualise}
+use Rattle.lvm_quorum.specs.declared.row.Survey.{Survey}
+use Rattle.lvm_varyon.specs.passed.Names.{Room, MayEqualise}
 use Rattle.lvm_rec.specs.declared.homes.Homes.{Homes}
 use Rattle.lvm_kept.specs.Plans.{ChangesBy}
-use Rattle.lvm_write.proofs.WrittenLemmas.Writing.{both_from}
-use Rattle.lvm_begin.specs.Beginning.{Beginning, again_beginning, again_order, IsOfParts, MayBeginAgain}
-use Rattle.lvm_begin.proofs.PathsLemmas.Keeping.{kept_then}
-use Rattle.lvm_varyon_plan.specs.declared.plan.Plan.{Plan}
-use Rattle.lvm_varyon_plan.specs.Planned.{IsPlan}
+use Rattle.lvm_write.proofs.WrittenLemmas.Writing.{both_from, if_told}
+use Rattle.lvm_write.specs.Beginning.{Beginning, again_beginning, again_order, IsOfParts, MayBeginAgain}
+use Rattle.lvm_write.proofs.PathsLemmas.Keeping.{kept_then}
+use Rattle.lvm_varyon.specs.declared.plan.Plan.{Plan}
+use Rattle.lvm_varyon.specs.Planned.{IsPlan}
 use Rattle.lvm_varyon.specs.Parts.{IsSurveyOf}
 use Rattle.lvm_varyon.specs.Varied.{IsAheadOfDisks}
 use Rattle.lvm_varyon.specs.Equal.{AllWritesKeep}
 use Rattle.lvm_varyon.specs.Writing.{beginning, AllWritten}
-use Rattle.lvm_varyon.proofs.FoundLemmas.Seeing.{if_told, answered_by}
+use Rattle.lvm_varyon.proofs.FoundLemmas.Seeing.{answered_by}
 use Rattle.lvm_varyon.proofs.Beginning.{may_begin}
 use Rattle.lvm_varyon.proofs.VariedLemmas.Bringing.{has_written, may_have, targets_are}
 use Rattle.lvm_varyon.proofs.Equalled.{may_equalise}

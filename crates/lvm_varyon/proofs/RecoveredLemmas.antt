@@ -17,9 +17,9 @@ use Rattle.lvm_kept.proofs.CommittedLemmas.Finding.{images_within}
 use Rattle.lvm_rec.specs.declared.homes.Homes.{Homes}
 use Rattle.lvm_write.specs.Notes.{empty_note_sector}
 use Rattle.lvm_write.specs.Written.{IsInPlan}
-use Rattle.lvm_varyon_plan.specs.passed.Names.{ShowsCommitted, IsRecopied, AreNamedEqualled, OnlyNotesOf, HasNoPassive, IsInOneRun, LogsOnly, ArePlanned}
-use Rattle.lvm_varyon_plan.proofs.passed.Names.{named_are_all, recovered_by_copying, same_notes_same_plan, only_planned, only_then, only_told, only_wider, runs_are_of_copies}
-use Rattle.lvm_varyon_plan.specs.Chosen.{answering}
+use Rattle.lvm_varyon.specs.passed.Names.{ShowsCommitted, IsRecopied, AreNamedEqualled, OnlyNotesOf, HasNoPassive, IsInOneRun, LogsOnly, ArePlanned}
+use Rattle.lvm_varyon.proofs.passed.Names.{named_are_all, recovered_by_copying, same_notes_same_plan, only_planned, only_then, only_told, only_wider, runs_are_of_copies}
+use Rattle.lvm_varyon.specs.Chosen.{answering}
 use Rattle.lvm_varyon.specs.Equal.{MakesEqual}
 use Rattle.lvm_varyon.proofs.After.{HasRecords, MayHaveRecords, found, record_ranges, records_keep, restated, same_data, same_names, shows, voters}
 use Rattle.lvm_varyon.proofs.Equalled.{ends, enough, names_as_found, none_named}

@@ -12,9 +12,9 @@ use Rattle.lvm_num.specs.Status.{calls_stale, calls_missing}
 use Rattle.lvm_kept.specs.Group.{IsOneOf, IsSome}
 use Rattle.lvm_steps.proofs.RecordLemmas.{either, clash, first, second, join}
 use Rattle.lvm_status.specs.Update.{Stored}
-use Rattle.lvm_varyon_plan.specs.passed.Names.{there, NoneIsLeft}
-use Rattle.lvm_next.specs.Next.{IsLeftBehind, IsNextStatus}
-use Rattle.lvm_next.proofs.NextLemmas.{is_member_of, copy_is_placed}
+use Rattle.lvm_varyon.specs.passed.Names.{there, NoneIsLeft}
+use Rattle.lvm_write.specs.Next.{IsLeftBehind, IsNextStatus}
+use Rattle.lvm_write.proofs.NextLemmas.{is_member_of, copy_is_placed}
 
 -- one of a list that passes one test passes another
 some_passes : (f h : Pp → Bool) (xs : List Pp) → ((x : Pp) → IsOneOf xs x → IsTrue (f x) → IsTrue (h x)) → IsTrue (list_any f xs) → IsSome (filter h xs)

@@ -15,12 +15,12 @@ use Rattle.lvm_transfer.specs.Reading.{IsRested, IsCutOff}
 use Rattle.lvm_write.specs.Notes.{empty_note_sector, NoteTold}
 use Rattle.lvm_write.specs.Written.{HaveRoom, KeepsShelf}
 use Rattle.lvm_rec.specs.declared.homes.Homes.{Homes}
-use Rattle.lvm_begin.specs.Beginning.{Beginning, again_order, MayBeginAgain}
-use Rattle.lvm_begin.specs.Ends.{HasNoFault, IsLowestFailed}
-pub use Rattle.lvm_varyon_plan.specs.passed.Names.{Recopy}
-use Rattle.lvm_varyon_plan.specs.passed.Names.{AreApart, IsCopied, IsInOneRun, IsOfCopies, LogsJust, LogsOnly, MayCopy, StopsAtOne, runs_into, sources_and_targets, MayEqualise, Cause}
-use Rattle.lvm_varyon_plan.specs.passed.CoreRefusedCause as cause
-use Rattle.lvm_varyon_plan.specs.declared.plan.Plan.{Plan}
+use Rattle.lvm_write.specs.Beginning.{Beginning, again_order, MayBeginAgain}
+use Rattle.lvm_write.specs.Ends.{HasNoFault, IsLowestFailed}
+pub use Rattle.lvm_varyon.specs.passed.Names.{Recopy}
+use Rattle.lvm_varyon.specs.passed.Names.{AreApart, IsCopied, IsInOneRun, IsOfCopies, LogsJust, LogsOnly, MayCopy, StopsAtOne, runs_into, sources_and_targets, MayEqualise, Cause}
+use Rattle.lvm_varyon.specs.passed.CoreRefusedCause as cause
+use Rattle.lvm_varyon.specs.declared.plan.Plan.{Plan}
 use Rattle.lvm_varyon.specs.Writing.{AllWritten, OneWriteFailed, WasBrokenOff, IsStillOut}
 
 -- ---- copies, and then notes

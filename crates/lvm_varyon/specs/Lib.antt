@@ -5,3 +5,5 @@ pub mod Restated
 pub mod Varied
 pub mod Parts
 pub mod Equal
+pub mod Chosen
+pub mod Planned

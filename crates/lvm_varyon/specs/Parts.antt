@@ -4,17 +4,17 @@ use Rattle.lvm_num.specs.Buffer.{Buffer}
 use Rattle.lvm_num.specs.Disks.{has}
 use Rattle.lvm_disk.specs.Device.{Device}
 use Rattle.lvm_rec.specs.declared.homes.Homes.{Homes}
-use Rattle.lvm_survey.specs.declared.row.Survey.{Survey}
-use Rattle.lvm_survey.specs.declared.row.SurveyRow.{SurveyRow}
-use Rattle.lvm_survey.specs.Rows.{AreRows}
-use Rattle.lvm_survey.specs.Surveyed.{IsSurveyValid}
+use Rattle.lvm_quorum.specs.declared.row.Survey.{Survey}
+use Rattle.lvm_quorum.specs.declared.row.SurveyRow.{SurveyRow}
+use Rattle.lvm_quorum.specs.Rows.{AreRows}
+use Rattle.lvm_quorum.specs.Surveyed.{IsSurveyValid}
 use Rattle.lvm_transfer.specs.Reading.{IsUnwritten, IsRested, IsCutOff}
-use Rattle.lvm_survey.specs.Surveying.{IsSurveyed}
-use Rattle.lvm_varyon_plan.specs.passed.Names.{Room, Cause}
-use Rattle.lvm_varyon_plan.specs.passed.CoreRefusedCause as cause
-use Rattle.lvm_begin.specs.Beginning.{Beginning, Part, again_beginning}
-use Rattle.lvm_varyon_plan.specs.declared.plan.Plan.{Plan}
-use Rattle.lvm_varyon_plan.specs.Planned.{IsPlan}
+use Rattle.lvm_quorum.specs.Surveying.{IsSurveyed}
+use Rattle.lvm_varyon.specs.passed.Names.{Room, Cause}
+use Rattle.lvm_varyon.specs.passed.CoreRefusedCause as cause
+use Rattle.lvm_write.specs.Beginning.{Beginning, Part, again_beginning}
+use Rattle.lvm_varyon.specs.declared.plan.Plan.{Plan}
+use Rattle.lvm_varyon.specs.Planned.{IsPlan}
 use Rattle.lvm_varyon.specs.Writing.{AllWritten, WasBrokenOff, OneWriteFailed, IsStillOut}
 
 -- ---- the reading

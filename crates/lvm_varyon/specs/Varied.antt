@@ -10,16 +10,16 @@ use Rattle.lvm_disk.specs.Device.{Media, Device, image_of}
 use Rattle.lvm_vol.specs.Log.{Log, spare_entries, cut_log}
 use Rattle.lvm_kept.specs.Contents.{Contents, contents_of}
 use Rattle.lvm_kept.specs.Recovered.{Recovered}
-use Rattle.lvm_stamps.specs.Behind.{ClockIsAhead, IsBehind}
+use Rattle.lvm_steps.specs.Behind.{ClockIsAhead, IsBehind}
 use Rattle.lvm_rec.specs.declared.homes.Homes.{Homes}
-use Rattle.lvm_varyon_plan.specs.passed.Names.{HasNoRecord, HasRecord, IsAmbiguous, LacksQuorum, Room, Cause, Refused, Parts, IsReservedFor, ArePlaced, first_core, Core, HasNoPassive, Recopy, ArePlannedInOrder, ArePlanned}
+use Rattle.lvm_varyon.specs.passed.Names.{HasNoRecord, HasRecord, IsAmbiguous, LacksQuorum, Room, Cause, Refused, Parts, IsReservedFor, ArePlaced, first_core, Core, HasNoPassive, Recopy, ArePlannedInOrder, ArePlanned}
 use Rattle.lvm_transfer.specs.Reading.{IsUnwritten, IsRested, IsCutOff}
-use Rattle.lvm_varyon_plan.specs.passed.CoreRefusedCause as cause
-use Rattle.lvm_begin.specs.Beginning.{Beginning, MayBeginAgain}
+use Rattle.lvm_varyon.specs.passed.CoreRefusedCause as cause
+use Rattle.lvm_write.specs.Beginning.{Beginning, MayBeginAgain}
 use Rattle.lvm_varyon.specs.Found.{Found, HaveAnswered}
-use Rattle.lvm_next.specs.Next.{IsNextStatus}
-use Rattle.lvm_varyon_plan.specs.Chosen.{answering, MayComeOn, IsClockBehindGroup}
-use Rattle.lvm_next.specs.Restated.{Restated}
+use Rattle.lvm_write.specs.Next.{IsNextStatus}
+use Rattle.lvm_varyon.specs.Chosen.{answering, MayComeOn, IsClockBehindGroup}
+use Rattle.lvm_write.specs.Restated.{Restated}
 use Rattle.lvm_varyon.specs.Writing.{beginning, Writes, IsStillOut}
 use Rattle.lvm_varyon.specs.Equal.{IsEqualled, OneFailed, BrokeOff}
 use Rattle.lvm_varyon.specs.Restated.{WhereTold}

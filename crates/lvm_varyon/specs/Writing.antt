@@ -11,8 +11,8 @@ use Rattle.lvm_rec.specs.declared.homes.Homes.{Homes}
 use Rattle.lvm_write.specs.Homes.{SparesNewest}
 use Rattle.lvm_write.specs.Written.{KeepsShelf}
 use Rattle.lvm_transfer.specs.Reading.{IsUnwritten, IsRested}
-use Rattle.lvm_begin.specs.Beginning.{Beginning, Part, again_beginning, IsOfParts, AllStand}
-use Rattle.lvm_begin.specs.Ends.{BothFlip, HasNoFault, StopsAt, IsLowestFailed, WasTriedOnTargets}
+use Rattle.lvm_write.specs.Beginning.{Beginning, Part, again_beginning, IsOfParts, AllStand}
+use Rattle.lvm_write.specs.Ends.{BothFlip, HasNoFault, StopsAt, IsLowestFailed, WasTriedOnTargets}
 
 -- the records that go to the members that answer: the descriptor under sequence 1 of the moment, the status under sequence 2
 abbrev pub beginning : ℕ → Descriptor → Status → Disks → Homes → Beginning

@@ -1,2 +1,2 @@
+pub mod CoreRefusedCause
 pub mod Names
-pub mod VaryonPlan

@@ -3,22 +3,22 @@ ghost use Rattle.std.specs.Prelude.{◌≡◌, ◌≢◌, ◌+◌, IfOk, IfErr};
 ghost use Rattle.lvm_disk.specs.Device.{IsReady};
 ghost use Rattle.lvm_disk.specs.Paths.{DeviceStep, Path};
 ghost use Rattle.lvm_steps.specs.Moments.{StaysKept};
-ghost use Rattle.lvm_stamps.specs.Behind.{IsBehind};
-ghost use Rattle.lvm_varyon_plan.specs.passed.Names.{AreFaults, HaveAllLanded, IsRoom, state_of, BringsOn, IsStarted, shelf_left, history_left};
+ghost use Rattle.lvm_steps.specs.Behind.{IsBehind};
+ghost use Rattle.lvm_varyon.specs.passed.Names.{AreFaults, HaveAllLanded, IsRoom, state_of, BringsOn, IsStarted, shelf_left, history_left};
 ghost use Rattle.lvm_varyon.specs.Varied.{VariesOnAt, BringGives, IsAheadOfDisks, brought_of, log_after, VaryonStops};
 ghost use Rattle.lvm_transfer.specs.Reading.{OnlyReads};
 ghost use Rattle.lvm_write.specs.Parts.{Spends};
 ghost use Rattle.lvm_varyon.specs.Parts.{IsPlannedBy, plan_beginning};
 ghost use Rattle.lvm_varyon.specs.Equal.{AllWritesGive, AllWritesKeep, MayWritePlan};
 
+use crate::below::{Cause, Driver, Parts, Refused, Room};
+use crate::plan::{Plan, plan_of};
 use crate::writes::{make_equal, read_disks, write_plan};
 use lvm_disk::Shelf;
 use lvm_history::History;
 use lvm_num::{Name, Pbuf, Stamp};
 use lvm_rec::Homes;
 use lvm_transfer::Patience;
-use lvm_varyon_plan::below::{Cause, Driver, Parts, Refused, Room};
-use lvm_varyon_plan::{Plan, plan_of};
 use std::alloc::Global;
 
 /// Varies the group of a name on: reads the records of all disks of the shelf, chooses the group's newest

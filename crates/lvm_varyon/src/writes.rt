@@ -5,23 +5,23 @@ ghost use Rattle.lvm_num.specs.Disks.{has};
 ghost use Rattle.lvm_num.specs.Record.{longest_content};
 ghost use Rattle.lvm_disk.specs.Device.{IsReady};
 ghost use Rattle.lvm_write.specs.Written.{HaveRoom};
-ghost use Rattle.lvm_begin.specs.Beginning.{again_beginning, again_order, IsOfParts};
-ghost use Rattle.lvm_begin.specs.Kept.{AgainStaysKept};
+ghost use Rattle.lvm_write.specs.Beginning.{again_beginning, again_order, IsOfParts};
+ghost use Rattle.lvm_write.specs.Kept.{AgainStaysKept};
 ghost use Rattle.lvm_write.specs.Writes.{DiskWritesLeave};
 ghost use Rattle.lvm_transfer.specs.Reading.{OnlyReads};
 ghost use Rattle.lvm_write.specs.Parts.{Spends};
-ghost use Rattle.lvm_varyon_plan.specs.passed.Names.{MayCopy, AreApart, EqualisedStaysKept};
+ghost use Rattle.lvm_varyon.specs.passed.Names.{MayCopy, AreApart, EqualisedStaysKept};
 ghost use Rattle.lvm_varyon.specs.Equal.{EqualGives};
 ghost use Rattle.lvm_varyon.specs.Parts.{SurveyGives, plan_beginning, AgainWritesGive};
 
-use lvm_begin::{Begun, begin_again};
+use crate::below::{Cause, equalise};
+use crate::plan::Plan;
 use lvm_disk::Shelf;
 use lvm_num::{DiskSet, Pbuf};
+use lvm_quorum::{Survey, Surveyed, survey_disks};
 use lvm_rec::Homes;
-use lvm_survey::{Survey, Surveyed, survey_disks};
 use lvm_transfer::Patience;
-use lvm_varyon_plan::Plan;
-use lvm_varyon_plan::below::{Cause, equalise};
+use lvm_write::{Begun, begin_again};
 use std::alloc::Global;
 
 /// Reads the records of all disks. The buffer that it read with comes back for the writes.

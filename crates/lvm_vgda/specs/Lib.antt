@@ -1,2 +1,5 @@
 pub mod Used
 pub mod Laws
+pub mod passed
+pub mod Parts
+pub mod Spelling

@@ -2,12 +2,13 @@
 ghost use Rattle.std.specs.Prelude.{IfOk, Ok};
 ghost use Rattle.lvm_num.specs.declared.descriptor.Descriptor.{Descriptor as descriptor};
 ghost use Rattle.lvm_num.specs.DescriptorBytes.{IsDescriptor, descriptor_of};
-ghost use Rattle.lvm_descriptor.specs.passed.Names.{Gives, rest_of};
-ghost use Rattle.lvm_descriptor.specs.Parts.{descriptor_by_parts, rows_at};
+ghost use Rattle.lvm_vgda.specs.passed.Names.{Gives, rest_of};
+ghost use Rattle.lvm_vgda.specs.Parts.{descriptor_by_parts, rows_at};
 
+use crate::below::{Fault, Unread, all, behind};
+use crate::head::{begin_at, counts_at, name_at, rules_at};
 use crate::maps::maps_at;
-use lvm_descriptor::below::{Fault, Unread, all, behind};
-use lvm_descriptor::{begin_at, counts_at, members_at, name_at, rules_at, volumes_at};
+use crate::rows::{members_at, volumes_at};
 use lvm_num::{Descriptor, LvRow, PvRow, Rows};
 use std::alloc::Global;
 
@@ -21,7 +22,7 @@ pub fn decode(alloc: Global, bytes: &[u8]) -> Result<Descriptor, Fault>
     descriptor_of(alloc, bytes)
 }
 
-#[tactic(auto, unfolding(lvm_descriptor::specs::Parts::descriptor_by_parts))]
+#[tactic(auto, unfolding(crate::specs::Parts::descriptor_by_parts))]
 fn descriptor_of(alloc: Global, bytes: &[u8]) -> Result<Descriptor, Fault>
     ensures { Gives (λ d. d) result (descriptor_by_parts bytes.now) }
 {
@@ -47,7 +48,7 @@ fn descriptor_of(alloc: Global, bytes: &[u8]) -> Result<Descriptor, Fault>
 }
 
 // So many members, and so many volumes with their partitions.
-#[tactic(auto, unfolding(lvm_descriptor::specs::Parts::rows_at))]
+#[tactic(auto, unfolding(crate::specs::Parts::rows_at))]
 fn rows_at(
     alloc: Global,
     big: bool,

@@ -2,10 +2,11 @@
 use Rattle.std.proofs.Common.{◌≡◌, ℕ, zero, suc, ◌<◌, Bool, true, List, [], ◌∷◌, ◌++◌, length, get_or, refl, subst, arith, length-append}
 use Rattle.std.specs.Prelude.{All, AllPairs}
 use Rattle.std.specs.List.{list_all}
-use Rattle.std.proofs.lemmas.Bool.{and_parts, and_from}
+use Rattle.std.proofs.lemmas.Bool.{and_parts}
 use Rattle.std.proofs.lemmas.List.{get_or_at, get_or_append_left}
 use Rattle.std.proofs.lemmas.List.Elements.{All-push}
 use Rattle.std.proofs.lemmas.List.Quantifiers.{all_pairs_push}
+use Rattle.lvm_num.proofs.Lists.{all_passed}
 
 -- each has the property, and each is before all behind it
 pub record InOrder (X : Type 0) (P : X → Type 0) (R : X → X → Type 0) (xs : List X) : Type 0 where
@@ -16,10 +17,6 @@ passed_at : {X : Type 0} (test : X → Bool) (xs : List X) (k : ℕ) (d : X) →
 passed_at test [] k d all lt = absurd (omega (arith, lt))
 passed_at test (x ∷ xs) zero d all lt = (and_parts (test x) (list_all test xs) all).0
 passed_at test (x ∷ xs) (suc k) d all lt = passed_at test xs k d (and_parts (test x) (list_all test xs) all).1 (omega (arith, lt))
-
-passed_all : {X : Type 0} (test : X → Bool) (xs : List X) → ((k : ℕ) (d : X) → k < length xs → test (get_or xs k d) ≡ true) → list_all test xs ≡ true
-passed_all test [] each = refl
-passed_all test (x ∷ xs) each = and_from (test x) (list_all test xs) (each 0 x (omega arith)) (passed_all test xs (λ k d lt. each (suc k) d (omega arith)))
 
 pub order_push : (X : Type 0) (P : X → Type 0) (R : X → X → Type 0) (before : X → X → Bool) → ((a b : X) → before a b ≡ true → R a b) → (xs : List X) (x : X) → InOrder X P R xs → P x
     → list_all (λ y. before y x) xs ≡ true → InOrder X P R (xs ++ x ∷ [])
@@ -47,7 +44,7 @@ pub order_behind : (X : Type 0) (P : X → Type 0) (R : X → X → Type 0) (bef
     → list_all (λ y. before y x) xs ≡ true
 order_behind X P R before means xs x good =
     let size = length-append xs (x ∷ []) in
-    passed_all (λ y. before y x) xs (λ k d lt.
+    all_passed (λ y. before y x) xs (λ k d lt.
     means (get_or xs k d) x
     (subst (λ (a : X). R a x) (get_or_append_left xs (x ∷ []) d k lt)
     (subst (λ (b : X). R (get_or (xs ++ x ∷ []) k d) b) (get_or_at xs x [] d (length xs) refl) (good.ordered k (length xs) d lt (omega arith)))))

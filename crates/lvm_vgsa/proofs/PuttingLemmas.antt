@@ -1,8 +1,8 @@
 -- Bytes that are put one piece after the other.
-use Rattle.std.proofs.Common.{◌≡◌, ℕ, ◌+◌, ◌<◌, ◌≤◌, List, [], ◌∷◌, ◌++◌, append-nil, append_assoc, length, get_or, take, drop, sym, ap, subst, ◌∙◌, arith}
+use Rattle.std.proofs.Common.{◌≡◌, ℕ, ◌+◌, ◌<◌, ◌≤◌, List, [], ◌++◌, append-nil, append_assoc, length, get_or, take, drop, sym, ap, subst, ◌∙◌, arith}
 use Rattle.std.specs.Prelude.{flat_map}
-use Rattle.std.proofs.lemmas.List.{take_at, drop_at, drop-drop, take-append-drop, take_more, length-append, length-take-le}
-use Rattle.std.proofs.lemmas.List.Concat.{flat_map-append}
+use Rattle.std.proofs.lemmas.List.{take_at, drop_at, drop-drop, take-append-drop, length-append, length-take-le}
+use Rattle.lvm_num.proofs.Lists.{pieces-more}
 use Rattle.lvm_vgsa.specs.Putting.{Puts}
 
 pub puts_none : (old : List ℕ) (at : ℕ) → Puts old old at []
@@ -27,11 +27,6 @@ puts_both old mid new at end first second one two is fits =
     ∙ ap (λ (xs : List ℕ). xs ++ second ++ drop (end + length second) mid) before
     ∙ ap (λ (xs : List ℕ). take at old ++ first ++ second ++ xs) after
     ∙ ap (λ (xs : List ℕ). xs ++ drop (at + length (first ++ second)) old) (append_assoc (take at old) first second)
-
--- one more piece of a list of pieces
-pub pieces-more : {X : Type 0} (f : X → List ℕ) (xs : List X) (k : ℕ) (d : X) → k < length xs → flat_map f (take (k + 1) xs) ≡ flat_map f (take k xs) ++ f (get_or xs k d)
-pieces-more f xs k d lt =
-    ap (flat_map f) (take_more xs k d lt) ∙ flat_map-append f (take k xs) (get_or xs k d ∷ []) ∙ ap (λ (l : List ℕ). flat_map f (take k xs) ++ l) (append-nil (f (get_or xs k d)))
 
 -- three pieces from the front on
 pub puts_three : (old a b new : List ℕ) (m n : ℕ) (first second third : List ℕ) → Puts old a 0 first → Puts a b m second → Puts b new n third

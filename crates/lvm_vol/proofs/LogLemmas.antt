@@ -5,8 +5,7 @@ use Rattle.std.proofs.lemmas.Bool.{eqb-true, not-true}
 use Rattle.lvm_vol.specs.Facts.{Request, Fact, Begun, Taken, Stands, begun}
 use Rattle.lvm_vol.specs.Log.{has_id, asked, no_request, request_of, lands_id, takes_id, is_open, is_answered}
 use Rattle.lvm_vol.specs.Order.{Follows}
-pub use Rattle.lvm_num.proofs.Booleans.{first_holds as and_left}
-pub use Rattle.lvm_num.proofs.Booleans.{second_holds as and_right}
+pub use Rattle.lvm_num.proofs.Booleans.{first_holds as and_left, second_holds as and_right}
 
 -- a request that was found
 

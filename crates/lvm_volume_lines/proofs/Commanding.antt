@@ -1,10 +1,11 @@
 -- Commands on the session that is on: how states go on over them.
-use Rattle.std.proofs.Common.{◌≡◌, ◌≢◌, ◌⊎◌, inl, inr, ◌+◌, ◌≤◌, [], ◌∷◌, ℕ, List, Bool, true, false, Option, Some, None, IfSome, IfNone, length, get_or, refl, sym, ◌∙◌, ap, subst, arith}
+use Rattle.std.proofs.Common.{◌≡◌, ◌≢◌, ◌⊎◌, inl, inr, ◌+◌, ◌≤◌, [], ℕ, List, Bool, true, false, Option, Some, None, IfSome, IfNone, length, get_or, refl, sym, ◌∙◌, ap, subst, arith}
 use Rattle.std.specs.List.{list_any}
 use Rattle.std.proofs.lemmas.List.{length-map}
 use Rattle.lvm_num.specs.Buffer.{Buffer}
 use Rattle.lvm_num.specs.Votes.{total_votes}
 use Rattle.lvm_num.specs.declared.descriptor.Descriptor.{Descriptor}
+use Rattle.lvm_num.proofs.Lists.{none_or_some}
 use Rattle.lvm_disk.specs.Device.{Device, IsReady}
 use Rattle.lvm_disk.specs.Images.{LeavesNoMore}
 use Rattle.lvm_disk.specs.Paths.{DeviceStep, Path, Here}
@@ -16,8 +17,8 @@ use Rattle.lvm_kept.specs.Moments.{Moment}
 use Rattle.lvm_steps.specs.Moments.{Begins, Keeps}
 use Rattle.lvm_steps.specs.Requests.{at}
 use Rattle.lvm_steps.proofs.MomentsLemmas.Spans.{keeps_steps}
-use Rattle.lvm_stamps.specs.Behind.{IsBehind}
-use Rattle.lvm_stamps.proofs.LawsLemmas.Shelves.{no_more_stays_behind}
+use Rattle.lvm_steps.specs.Behind.{IsBehind}
+use Rattle.lvm_steps.proofs.LawsLemmas.Shelves.{no_more_stays_behind}
 use Rattle.lvm_transfer.specs.Transfer.{Relights}
 use Rattle.lvm_status.specs.Members.{HasItsRows}
 use Rattle.lvm_session.specs.Calls.{is_asked}
@@ -32,11 +33,10 @@ use Rattle.lvm_core.specs.Sound.{HaveAllLanded, IsSoundBetween}
 use Rattle.lvm_commit.specs.LawsOfVolumes.{IsOneByAllOn}
 use Rattle.lvm_range_lines.proofs.passed.Quiesce.{each_is_behind, still_is_behind_each}
 use Rattle.lvm_range_lines.specs.passed.Names.{Post, AreAnswered, AreHeld, ended_with}
-use Rattle.lvm_range_lines.specs.passed.Running.{IsBefore, LeavesSession}
-use Rattle.lvm_range_lines.specs.passed.Tie.{IsStamped, IsGood}
+use Rattle.lvm_range_lines.specs.passed.Tie.{IsBefore, LeavesSession, IsStamped, IsGood}
 use Rattle.lvm_range_lines.specs.passed.TieCommands.{IsAloneAtFirst, MayBeCommanded, StandsAfter, StandsSince}
-use Rattle.lvm_range_lines.specs.passed.Stage.{GoesOn, HasBegunHeld, IsAllowed, IsAlone, Role, IsStuck, most_refusals, posts_ended, ArePosted, IsBetween, IsOnBetween, IsTimely, StandsAlone, StandsBy, ScriptState, Reply}
-use Rattle.lvm_range_lines.proofs.passed.Stage.{relit_path, was_session, ready_is_lit, still_leaves_descriptors, LeavesAnswers, end_posts, none_held, on_posts}
+use Rattle.lvm_range_lines.specs.passed.GroupLines.{GoesOn, HasBegunHeld, IsAllowed, IsAlone, Role, IsStuck, most_refusals, posts_ended, ArePosted, IsBetween, IsOnBetween, IsTimely, StandsAlone, StandsBy, ScriptState, Reply}
+use Rattle.lvm_range_lines.proofs.passed.GroupLines.{relit_path, was_session, ready_is_lit, still_leaves_descriptors, LeavesAnswers, end_posts, none_held, on_posts}
 
 -- ---- what a command promises, whatever its answer
 
@@ -61,10 +61,6 @@ promised_by scope before after old new leaves = record {
 -- a line of this role acts on the session that is on, which stands alone
 abbrev pub Acts : Role → Type 0
 Acts role = (old new : ScriptState) → IsAlone role old new → IfSome old.session (StandsAlone old.moment.device)
-
-pub empty_or : {X : Type 0} (xs : List X) → (xs ≡ []) ⊎ (xs ≢ [])
-empty_or [] = inl refl
-empty_or (x ∷ xs) = inr (λ e. cc (e))
 
 -- The session of the state has come to rest so.
 pub record AtMid (old : ScriptState) (core : Core) (mid : State) : Type 0 where
@@ -134,14 +130,14 @@ module _ (old : ScriptState) (core : Core) (mid : State) (its : AtMid old core m
       keeps_then = (its.leaves.good first good_first).1 (subst (Keeps run first) moment_is span)
 
     keeps_mid : Keeps run first (moment_of mid)
-    keeps_mid = by (empty_or core.descriptor.lvs)
+    keeps_mid = by (none_or_some core.descriptor.lvs)
       where
         by : (core.descriptor.lvs ≡ []) ⊎ (core.descriptor.lvs ≢ []) → Keeps run first (moment_of mid)
         by (inl none) = subst (λ (s : State). Keeps run first (moment_of s)) (sym (its.empty none)) (subst (Keeps run first) moment_is span)
         by (inr some) = keeps_then some
 
     stands_mid : StandsSince run first mid
-    stands_mid = by (empty_or core.descriptor.lvs)
+    stands_mid = by (none_or_some core.descriptor.lvs)
       where
         by : (core.descriptor.lvs ≡ []) ⊎ (core.descriptor.lvs ≢ []) → StandsSince run first mid
         by (inl none) = subst (StandsSince run first) (sym (its.empty none)) stands_first

@@ -1,5 +1,6 @@
 -- How a session comes to rest, by the turns that were made.
-use Rattle.std.proofs.Common.{◌≡◌, ◌≤◌, ◌-◌, ℕ, [], ◌∷◌, IfSome, length, List, refl, sym, ◌∙◌, ap, subst, arith}
+use Rattle.std.proofs.Common.{◌≡◌, ◌≤◌, ◌-◌, ℕ, IfSome, length, refl, sym, ◌∙◌, ap, subst, arith}
+use Rattle.std.proofs.lemmas.List.{nil_from_length}
 use Rattle.lvm_disk.specs.Counts.{RoseBy}
 use Rattle.lvm_disk.specs.Device.{Device}
 use Rattle.lvm_disk.specs.Paths.{Path, Here}
@@ -11,24 +12,20 @@ use Rattle.lvm_core.specs.Settled.{IsSettled}
 use Rattle.lvm_core.specs.Sound.{IsSoundBetween}
 use Rattle.lvm_core.specs.State.{state_of}
 use Rattle.lvm_range_lines.specs.passed.Driver.{FailsSo, IsAny, IsDrained, IsTurn}
-use Rattle.lvm_range_lines.specs.passed.Running.{RunsOn}
-use Rattle.lvm_range_lines.proofs.passed.Running.{runs_none}
+use Rattle.lvm_range_lines.specs.passed.Tie.{RunsOn}
+use Rattle.lvm_range_lines.proofs.passed.Tie.{runs_none}
 use Rattle.lvm_range_lines.specs.passed.Handover.{MayHandOver}
-use Rattle.lvm_range_lines.specs.passed.Stage.{IsOfKind, open_in, session_of, shelf_of, IsOnBetween, Holder}
+use Rattle.lvm_range_lines.specs.passed.GroupLines.{IsOfKind, open_in, session_of, shelf_of, IsOnBetween, Holder}
 use Rattle.lvm_range_lines.specs.passed.HolderVariants as holder
 use Rattle.lvm_volume_lines.specs.Commands.{HasBrokenOff, HasRested, IsTurned}
 use Rattle.lvm_volume_lines.proofs.Resting.{none_stay, turns_keep}
-
-no_open : {X : Type 0} (xs : List X) → length xs ≡ 0 → xs ≡ []
-no_open [] none = refl
-no_open (x ∷ xs) none = absurd (cc (none))
 
 -- a session that was drained may be settled
 pub may_settle : (old new : State) → IsOnBetween old.device old.core → length old.core.requests ≡ 0 → Path IsTurn IsAny old new → RunsOn old new → IsDrained new → MayHandOver new
 may_settle old new on none path runs drained = record {
   drained = drained;
   none = record {
-    requests = none_stay old.core.requests new.core.requests (no_open old.core.requests none) (turns_keep old new on.sound path).table.long;
+    requests = none_stay old.core.requests new.core.requests (nil_from_length old.core.requests none) (turns_keep old new on.sound path).table.long;
     copy = runs.copy on.copy;
   };
   epoch = ((runs.leaves.epoch (λ dark. let e : power.On ≡ power.Dark = sym drained.on ∙ dark in cc e)).stamped on.stamped).some_epoch;

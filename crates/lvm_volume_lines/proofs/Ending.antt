@@ -14,7 +14,7 @@ use Rattle.lvm_status.specs.Members.{HasItsRows}
 use Rattle.lvm_range_lines.specs.passed.Volumes.{MklvGives, RmlvGives}
 use Rattle.lvm_range_lines.specs.passed.RefusalVariants as refusal
 use Rattle.lvm_range_lines.specs.passed.ReplyVariants as reply
-use Rattle.lvm_range_lines.specs.passed.Stage.{most_refusals}
+use Rattle.lvm_range_lines.specs.passed.GroupLines.{most_refusals}
 use Rattle.lvm_volume_lines.proofs.Commanding.{ClosesWell, closes_dark, closes_lit}
 use Rattle.lvm_volume_lines.specs.Volumes.{volume_reply}
 use Rattle.lvm_range_lines.specs.passed.Names.{GroupFault, NewVolume, is_over}

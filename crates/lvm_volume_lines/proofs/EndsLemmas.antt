@@ -19,22 +19,18 @@ use Rattle.lvm_core.specs.Sound.{HaveAllLanded}
 use Rattle.lvm_core.specs.State.{state_of}
 use Rattle.lvm_range_lines.specs.passed.Driver.{FailsSo}
 use Rattle.lvm_range_lines.specs.passed.Names.{AreAnswered, ended_with}
-use Rattle.lvm_range_lines.specs.passed.Running.{LeavesSession}
-use Rattle.lvm_range_lines.proofs.passed.Running.{stays_unstuck}
-use Rattle.lvm_range_lines.specs.passed.Stage.{EndsUnasked, patience_of_line, GoesOn, Role, IsStuck, most_refusals, HaveRooms, IsBetweenStage, IsClosed, IsEnded, IsFittingStage, IsOfKind, history_in, open_in, posts_ended, session_in, session_of, shelf_in, state_in, ArePosted, IsAtRest, ScriptState, without_facts, Holder, Reply, Stage}
+use Rattle.lvm_range_lines.specs.passed.Tie.{LeavesSession}
+use Rattle.lvm_range_lines.proofs.passed.Tie.{stays_unstuck}
+use Rattle.lvm_range_lines.specs.passed.GroupLines.{EndsUnasked, patience_of_line, GoesOn, Role, IsStuck, most_refusals, HaveRooms, IsBetweenStage, IsClosed, IsEnded, IsFittingStage, history_in, open_in, posts_ended, session_in, shelf_in, state_in, ArePosted, IsAtRest, ScriptState, without_facts, Reply, Stage}
 use Rattle.lvm_range_lines.specs.passed.HolderVariants as holder
 use Rattle.lvm_range_lines.specs.passed.ReplyVariants as reply
-use Rattle.lvm_range_lines.proofs.passed.Stage.{one_refused, LeavesAnswers, end_posts, none_held, IsRun, over_goes, over_landed}
+use Rattle.lvm_range_lines.proofs.passed.GroupLines.{one_refused, LeavesAnswers, end_posts, none_held, IsRun, over_goes, over_landed}
+use Rattle.lvm_range_lines.proofs.LeavingLemmas.Ending.{off_kind}
 use Rattle.lvm_volume_lines.specs.Commands.{HasBrokenOff}
 use Rattle.lvm_volume_lines.specs.Volumes.{IsUndrained, drain_refusal}
 use Rattle.lvm_volume_lines.proofs.Commanding.{Acts}
 use Rattle.lvm_volume_lines.proofs.OfVolumes.{first_at, its_history, no_requests, still_first, was_on}
 use Rattle.lvm_volume_lines.proofs.Resting.{TurnsKeep, dark_or_still, turns_keep}
-
-none_of_kind : {S : Type 0} (by : Holder S) → session_of by ≡ None → IsOfKind by
-none_of_kind (holder.Off shelf history) none = tt
-none_of_kind (holder.Empty driver) none = absurd (cc (none))
-none_of_kind (holder.Serving driver) none = absurd (cc (none))
 
 module _ {S : Type 0} (role : Role) (acts : Acts role) (device : S → Device) (stage : Stage S) (fits : IsFittingStage stage) (between : IsBetweenStage device stage) (none : open_in (session_in stage) ≡ 0) (patience : ℕ) (driver : S × Core) (why : CommitFault)
     (broken : HasBrokenOff device stage.holder patience_of_line patience driver why) (it : Stage S) (answer : Reply) (ended : IsEnded device driver stage.posts.items it)
@@ -168,7 +164,7 @@ module _ {S : Type 0} (role : Role) (acts : Acts role) (device : S → Device) (
     goes = goes last;
     rooms = log_same;
     fits = record {
-      kind = none_of_kind it.holder ended.session;
+      kind = off_kind it.holder ended.session;
       few = subst (λ (l : Log). l.room < 2 ^ 32) (sym log_same) fits.few;
       rooms = subst (λ (l : Log). HaveRooms l.room it.posts it.bytes) (sym log_same) (rooms (history_in stage).room fits.rooms);
     };

@@ -10,7 +10,7 @@ use Rattle.lvm_core.specs.Sound.{HaveAllLanded}
 use Rattle.lvm_session.specs.State.{Core, State}
 use Rattle.lvm_range_lines.specs.passed.Names.{Asked, AreAnswered, GroupFault, NewVolume}
 use Rattle.lvm_range_lines.specs.passed.Volumes.{MklvGives, RmlvGives, HasEntered, making, removing}
-use Rattle.lvm_range_lines.proofs.passed.Stage.{Bears, open_more, bears_cut, landed_bears, answered_bears, answered_on}
+use Rattle.lvm_range_lines.proofs.passed.GroupLines.{Bears, open_more, bears_cut, landed_bears, answered_bears, answered_on}
 use Rattle.lvm_range_lines.specs.passed.VolumePlanFaultGroupFault as fault
 
 -- a volume's entries leave this true, and a cut does

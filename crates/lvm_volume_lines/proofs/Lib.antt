@@ -8,3 +8,7 @@ pub mod OfVolumes
 pub mod EndsLemmas
 pub mod ServingLemmas
 pub mod VolumesLemmas
+pub mod Giving
+pub mod CopiesServingLemmas
+pub mod CopiesLemmas
+pub mod ResyncingLemmas

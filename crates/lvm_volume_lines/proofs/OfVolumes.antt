@@ -1,8 +1,10 @@
 -- Commands on volumes of the group that is on, from the session that has come to rest.
-use Rattle.std.proofs.Common.{◌≡◌, ◌≢◌, ◌⊎◌, inl, inr, ◌<◌, ◌^◌, ◌+◌, ℕ, Bool, true, false, not, [], ◌∷◌, List, Option, Some, refl, sym, ◌∙◌, ap, subst, Result, length}
+use Rattle.std.proofs.Common.{◌≡◌, ◌≢◌, ◌⊎◌, inl, inr, ◌<◌, ◌^◌, ◌+◌, ℕ, Bool, true, false, not, [], List, Option, Some, refl, sym, ◌∙◌, ap, subst, Result}
 use Rattle.std.specs.Prelude.{⊤, MatchBool, IfSome}
+use Rattle.std.proofs.lemmas.List.{nil_from_length}
 use Rattle.lvm_num.specs.declared.place.Pp.{Pp}
 use Rattle.lvm_num.specs.declared.descriptor.Descriptor.{Descriptor}
+use Rattle.lvm_num.proofs.Lists.{none_or_some}
 use Rattle.lvm_disk.specs.Device.{Device, HasSectors, IsReady}
 use Rattle.lvm_vol.specs.Facts.{Fact}
 use Rattle.lvm_vol.specs.Log.{Log}
@@ -17,16 +19,16 @@ use Rattle.lvm_core.specs.Settled.{IsSettled as IsSettledCore}
 use Rattle.lvm_core.specs.Sound.{HaveAllLanded}
 use Rattle.lvm_core.specs.State.{state_of}
 use Rattle.lvm_disk.proofs.PathsLemmas.{last-path}
-use Rattle.lvm_range_lines.specs.passed.Running.{LeavesSession}
+use Rattle.lvm_range_lines.specs.passed.Tie.{LeavesSession}
 use Rattle.lvm_range_lines.specs.passed.TieCommands.{IsAloneAtFirst, IsLeftStanding, IsLeftStandingSince, MayBeCommanded, StandsAfter}
 use Rattle.lvm_range_lines.specs.passed.Volumes.{StillHeld}
 use Rattle.lvm_range_lines.specs.passed.Names.{GroupFault, IfOn, is_over}
-use Rattle.lvm_range_lines.specs.passed.Stage.{CommandEnds, EndsUnasked, patience_of_line, GoesOn, IsAllowed, Role, HaveRooms, IsBetweenStage, IsFittingStage, IsOfKind, history_of, open_in, session_in, session_of, shelf_in, history_in, state_in, IsAtRest, IsOnBetween, ScriptState, without_facts, Holder, Reply, Stage}
+use Rattle.lvm_range_lines.specs.passed.GroupLines.{CommandEnds, EndsUnasked, patience_of_line, GoesOn, IsAllowed, Role, HaveRooms, IsBetweenStage, IsFittingStage, IsOfKind, history_of, open_in, session_in, session_of, shelf_in, history_in, state_in, IsAtRest, IsOnBetween, ScriptState, without_facts, Holder, Reply, Stage}
 use Rattle.lvm_range_lines.specs.passed.HolderVariants as holder
-use Rattle.lvm_range_lines.proofs.passed.Stage.{LeavesAnswers}
+use Rattle.lvm_range_lines.proofs.passed.GroupLines.{LeavesAnswers}
 use Rattle.lvm_volume_lines.specs.Commands.{HasRested, IsCarriedOut, IsHeldAgain, IsLeftAs, IsLeftOff, IsLeftOn}
 use Rattle.lvm_volume_lines.specs.Volumes.{Drains, IsDone, StaysOn, volume_reply}
-use Rattle.lvm_volume_lines.proofs.Commanding.{Acts, AtMid, ClosesWell, Promised, empty_or, goes_off, goes_on, promised_by, ready_mid, rows_mid}
+use Rattle.lvm_volume_lines.proofs.Commanding.{Acts, AtMid, ClosesWell, Promised, goes_off, goes_on, promised_by, ready_mid, rows_mid}
 use Rattle.lvm_volume_lines.proofs.Ending.{Facts, SameShape, closes_after, one_answer, ready_still, rows_stay}
 use Rattle.lvm_volume_lines.proofs.Resting.{IsStill, TurnsKeep, still_turns, turns_keep}
 
@@ -36,10 +38,6 @@ use Rattle.lvm_volume_lines.proofs.Resting.{IsStill, TurnsKeep, still_turns, tur
 pub if_on : {X : Type 0} (given : Result X GroupFault) (P : Type 0) → IfOn given P → is_over given ≡ false → P
 if_on given P on goes = subst (λ (over : Bool). MatchBool over ⊤ P) goes on
 
-no_open : {X : Type 0} (xs : List X) → length xs ≡ 0 → xs ≡ []
-no_open [] none = refl
-no_open (x ∷ xs) none = absurd (cc (none))
-
 -- ---- a session that is held again
 
 module _ {S : Type 0} (device : S → Device) (added : List Pp) (driver : S × Core) (by : Holder S) (held : IsHeldAgain device added driver by) where
@@ -48,7 +46,7 @@ module _ {S : Type 0} (device : S → Device) (added : List Pp) (driver : S × C
 
   -- the status with which it began has the rows of the members
   pub rows_again : HasItsRows driver.1.descriptor driver.1.origin.table → HasItsRows held.core.descriptor held.core.origin.table
-  rows_again rows = either (empty_or driver.1.descriptor.lvs)
+  rows_again rows = either (none_or_some driver.1.descriptor.lvs)
     where
       either : (driver.1.descriptor.lvs ≡ []) ⊎ (driver.1.descriptor.lvs ≢ []) → HasItsRows held.core.descriptor held.core.origin.table
       either (inl none) = subst (λ (c : Core). HasItsRows c.descriptor c.origin.table) (sym (held.empty none)) rows
@@ -89,7 +87,7 @@ module _ {S : Type 0} (device : S → Device) (stage : Stage S) (fits : IsFittin
   -- the session that is on
   module _ (core : Core) (its : session_in stage ≡ Some core) where
     pub no_requests : core.requests ≡ []
-    no_requests = no_open core.requests (sym (ap open_in its) ∙ none)
+    no_requests = nil_from_length core.requests (sym (ap open_in its) ∙ none)
 
     pub was_on : IsOnBetween (device (shelf_in stage)) core
     was_on = subst (λ (o : Option Core). IfSome o (IsOnBetween (device (shelf_in stage)))) its between.session

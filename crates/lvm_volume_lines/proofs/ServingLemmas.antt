@@ -8,14 +8,14 @@ use Rattle.lvm_session.specs.State.{Core, State}
 use Rattle.lvm_core.specs.Looking.{HasNoVolumeNamed}
 use Rattle.lvm_core.specs.State.{state_of}
 use Rattle.lvm_range_lines.specs.passed.Handover.{IsCommanded}
-use Rattle.lvm_range_lines.specs.passed.TieCopies.{MayServeWith}
+use Rattle.lvm_range_lines.specs.passed.TieCommands.{MayServeWith}
 use Rattle.lvm_range_lines.proofs.passed.Handover.{mklv_serves}
 use Rattle.lvm_range_lines.proofs.passed.TieCommands.{mklv_goes_on}
 use Rattle.lvm_range_lines.specs.passed.Names.{GroupFault, NewVolume}
 use Rattle.lvm_range_lines.specs.passed.VolumePlanFaultGroupFault as fault
 use Rattle.lvm_range_lines.specs.passed.Volumes.{MklvGives, to_make}
 use Rattle.lvm_range_lines.proofs.passed.Volumes.{keeps_none, leaves_none}
-use Rattle.lvm_range_lines.specs.passed.Stage.{EndsUnasked, patience_of_line, GoesOn, Role, HaveRooms, IsBetweenStage, IsFittingStage, IsOfKind, history_in, open_in, session_in, shelf_in, state_in, ScriptState, without_facts, Holder, Reply, Stage}
+use Rattle.lvm_range_lines.specs.passed.GroupLines.{EndsUnasked, patience_of_line, GoesOn, Role, HaveRooms, IsBetweenStage, IsFittingStage, IsOfKind, history_in, open_in, session_in, shelf_in, state_in, ScriptState, without_facts, Holder, Reply, Stage}
 use Rattle.lvm_range_lines.specs.passed.RefusalVariants as refusal
 use Rattle.lvm_range_lines.specs.passed.ReplyVariants as reply
 use Rattle.lvm_volume_lines.specs.Commands.{HasRested, IsHeldAgain}

@@ -4,9 +4,6 @@ pub mod Names
 pub mod Quiesce
 pub mod RangeLines
 pub mod Ranges
-pub mod Running
-pub mod Stage
 pub mod TieCommands
-pub mod TieCopies
-pub mod TieGroups
 pub mod Varyon
+pub mod Tie

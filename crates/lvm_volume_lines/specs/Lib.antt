@@ -1,3 +1,5 @@
 pub mod passed
 pub mod Volumes
 pub mod Commands
+pub mod Copies
+pub mod Resyncing

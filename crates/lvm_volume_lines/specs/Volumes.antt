@@ -17,10 +17,10 @@ use Rattle.lvm_core.specs.Leaves.{IsOfCommand, KeepsStatus, FindsOnly, Scope}
 use Rattle.lvm_core.specs.Looking.{IsNumberOf, HasNoVolumeNamed}
 use Rattle.lvm_core.specs.Settled.{IsSettled}
 use Rattle.lvm_range_lines.specs.passed.Driver.{FailsSo, IsAny, IsTurn}
-use Rattle.lvm_range_lines.specs.passed.Running.{RunsOn}
+use Rattle.lvm_range_lines.specs.passed.Tie.{RunsOn}
 use Rattle.lvm_range_lines.specs.passed.VolumePlanFaultGroupFault as fault
 use Rattle.lvm_range_lines.specs.passed.Volumes.{MklvGives, RmlvGives, to_make, to_remove}
-use Rattle.lvm_range_lines.specs.passed.Stage.{patience_of_line, IsRefused, IsOn, IsNotOn, open_in, posts_ended, IsAtRest, ScriptState, Refusal, Reply}
+use Rattle.lvm_range_lines.specs.passed.GroupLines.{patience_of_line, IsRefused, IsOn, IsNotOn, open_in, posts_ended, IsAtRest, ScriptState, Refusal, Reply}
 use Rattle.lvm_range_lines.specs.passed.RefusalVariants as refusal
 use Rattle.lvm_range_lines.specs.passed.ReplyVariants as reply
 

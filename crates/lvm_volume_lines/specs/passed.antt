@@ -1,12 +1,10 @@
 pub mod AskRangeFaultVariants
-pub mod DiskLines
 pub mod Driver
 pub mod Group
 pub mod GroupFaultVariants
 pub mod GroupLines
 pub mod Handover
 pub mod HolderVariants
-pub mod Mirrors
 pub mod Names
 pub mod Quiesce
 pub mod QuiescedVariants
@@ -16,11 +14,10 @@ pub mod Ranges
 pub mod Recover
 pub mod RefusalVariants
 pub mod ReplyVariants
-pub mod Running
-pub mod Stage
+pub mod Resync
+pub mod SyncFaultVariants
 pub mod Tie
 pub mod TieCommands
-pub mod TieCopies
 pub mod Varyon
 pub mod VolumePlan
 pub mod VolumePlanFaultGroupFault

@@ -1,3 +1,6 @@
 pub mod passed
 pub mod NewVolumeLemmas
 pub mod Sublists
+pub mod Parts
+pub mod CopiesLemmas
+pub mod DescriptorLemmas

@@ -1,8 +1,9 @@
 -- Lists with one element more, and with those that a test leaves.
 use Rattle.std.proofs.Common.{◌≡◌, ◌⊎◌, inl, inr, ⊎_elim, ℕ, zero, suc, ◌+◌, ◌<◌, ◌≤◌, Bool, true, false, cond, List, [], ◌∷◌, ◌++◌, length, get_or, take, drop, sym, subst, arith}
 use Rattle.std.specs.Prelude.{filter, insert, All, AllPairs}
+use Rattle.std.proofs.lemmas.List.Kept.{AllPairs-cons}
 use Rattle.std.proofs.lemmas.List.{length-drop, length-take-le, take-append-drop, get_or-take, get_or-drop}
-use Rattle.std.proofs.lemmas.List.Elements.{All-append, All-cons, All-take, All-drop, All-filter}
+use Rattle.std.proofs.lemmas.List.Elements.{All-append, All-cons, All-take, All-drop}
 use Rattle.lvm_num.proofs.Pairs.{AllPairs-left, AllPairs-right, AllPairs-across, AllPairs-append}
 use Rattle.lvm_num.proofs.AmongLemmas.{one_of_left, one_of_right, one_of_either}
 use Rattle.lvm_core.specs.passed.Names.{IsOneOf}
@@ -12,28 +13,6 @@ use Rattle.lvm_core.specs.passed.Names.{IsOneOf}
 pub pairs_one : {X : Type 0} (R : X → X → Type 0) (y : X) → AllPairs R (y ∷ [])
 pairs_one R y i j d less lt = absurd (omega (arith, less, lt))
 
-pub pairs_cons : {X : Type 0} (R : X → X → Type 0) (y : X) (xs : List X) → All (R y) xs → AllPairs R xs → AllPairs R (y ∷ xs)
-pairs_cons R y xs first rest = AllPairs-append R (y ∷ []) xs (pairs_one R y) rest across
-  where
-    across : (i j : ℕ) (d : _) → i < 1 → j < length xs → R (get_or (y ∷ []) i d) (get_or xs j d)
-    across zero j d i-lt j-lt = first j d j-lt
-    across (suc i) j d i-lt j-lt = absurd (omega (arith, i-lt))
-
-pub pairs_first : {X : Type 0} (R : X → X → Type 0) (y : X) (xs : List X) → AllPairs R (y ∷ xs) → All (R y) xs
-pairs_first R y xs pairs k d lt = AllPairs-across R (y ∷ []) xs pairs 0 k d (omega arith) lt
-
-pub pairs_rest : {X : Type 0} (R : X → X → Type 0) (y : X) (xs : List X) → AllPairs R (y ∷ xs) → AllPairs R xs
-pairs_rest R y xs pairs = AllPairs-right R (y ∷ []) xs pairs
-
--- those that a test leaves
-pub pairs_filter : {X : Type 0} (R : X → X → Type 0) (p : X → Bool) (xs : List X) → AllPairs R xs → AllPairs R (filter p xs)
-pairs_filter R p [] pairs = pairs
-pairs_filter {X} R p (x ∷ xs) pairs = by_test (p x) (pairs_filter R p xs (pairs_rest R x xs pairs))
-  where
-    by_test : (t : Bool) → AllPairs R (filter p xs) → AllPairs R (cond t (x ∷ filter p xs) (filter p xs))
-    by_test true rest = pairs_cons R x (filter p xs) (All-filter p (R x) xs (pairs_first R x xs pairs)) rest
-    by_test false rest = rest
-
 -- ---- one more
 
 module _ {X : Type 0} (xs : List X) (k : ℕ) (y : X) (le : k ≤ length xs) where
@@ -42,7 +21,7 @@ module _ {X : Type 0} (xs : List X) (k : ℕ) (y : X) (le : k ≤ length xs) whe
 
   pub pairs_insert : (R : X → X → Type 0) → AllPairs R xs → ((i : ℕ) (d : X) → i < k → R (get_or xs i d) y) → ((i : ℕ) (d : X) → k ≤ i → i < length xs → R y (get_or xs i d)) → AllPairs R (insert xs k y)
   pairs_insert R pairs before behind = AllPairs-append R (take k xs) (y ∷ drop k xs) (AllPairs-left R (take k xs) (drop k xs) both)
-      (pairs_cons R y (drop k xs) after (AllPairs-right R (take k xs) (drop k xs) both)) across
+      (AllPairs-cons R y (drop k xs) after (AllPairs-right R (take k xs) (drop k xs) both)) across
     where
       both : AllPairs R (take k xs ++ drop k xs)
       both = subst (AllPairs R) (sym (take-append-drop k xs)) pairs

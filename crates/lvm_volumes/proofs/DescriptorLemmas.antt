@@ -1,6 +1,7 @@
 -- The partitions that first fit gives a volume.
 use Rattle.std.proofs.Common.{◌≡◌, ◌≢◌, inl, inr, ℕ, zero, suc, ◌+◌, ◌*◌, ◌<◌, ◌≤◌, true, ◌&&◌, List, [], ◌∷◌, length, get_or, take, drop, refl, sym, subst, ◌∙◌, arith}
 use Rattle.std.specs.Prelude.{◌==◌, All, AllPairs, Contains, IsTrue}
+use Rattle.std.proofs.lemmas.Option.{slice_get-get_or}
 use Rattle.std.proofs.lemmas.Bool.{cases_lt, false≢true}
 use Rattle.std.proofs.lemmas.List.{length-take-le, length-drop, get_or-take, get_or-drop, get_or_default}
 use Rattle.std.proofs.lemmas.List.Folds.{list_any_at}
@@ -13,7 +14,6 @@ use Rattle.lvm_num.specs.Disks.{Disks}
 use Rattle.lvm_map.specs.FirstFit.{is_among, IsAllocated, new_volume}
 use Rattle.lvm_map.specs.Laws.{IsNewPlace}
 use Rattle.lvm_map.proofs.FirstFitLemmas.FreeLists.{is_pp-same}
-use Rattle.lvm_map.proofs.FirstFitLemmas.Fitting.{get-get_or}
 use Rattle.lvm_map.proofs.LawsLemmas.NewPlaces.{new_place}
 use Rattle.lvm_kept.specs.Group.{IsOneOf}
 
@@ -22,7 +22,7 @@ among_is xs pp has = list_any_at (λ (p : Pp). p.disk == pp.disk && p.pp == pp.p
 
 module _ (d : Descriptor) (usable : Disks) (lps copies : ℕ) (map : List Pp) (valid : IsValid d) (all : IsAllocated d usable (new_volume lps copies) map) where
   place : (k : ℕ) (e : Pp) → k < length map → IsNewPlace d usable (new_volume lps copies) (take k map) (get_or map k e)
-  place k e lt = new_place d usable (new_volume lps copies) map k (get_or map k e) valid all.fits (get-get_or map k e lt) (omega arith)
+  place k e lt = new_place d usable (new_volume lps copies) map k (get_or map k e) valid all.fits (slice_get-get_or map k e lt) (omega arith)
 
   -- they are partitions of usable members,
   pub places_of : All (IsPartitionOf d) map

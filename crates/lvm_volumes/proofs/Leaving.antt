@@ -9,6 +9,7 @@ use Rattle.lvm_num.specs.Buffer.{Sector}
 use Rattle.lvm_num.specs.Disks.{Disks}
 use Rattle.lvm_num.specs.Descriptor.{is_member}
 use Rattle.lvm_num.specs.Status.{calls_stale, calls_missing}
+use Rattle.lvm_num.proofs.Booleans.{false_by}
 use Rattle.lvm_disk.specs.Counts.{Rose, NoneFalls}
 use Rattle.lvm_disk.specs.Device.{Device}
 use Rattle.lvm_kept.specs.Moments.{Moment}
@@ -16,7 +17,7 @@ use Rattle.lvm_kept.specs.Torn.{RecordWrite}
 use Rattle.lvm_kept.specs.Plans.{Plan}
 use Rattle.lvm_status.specs.Update.{members_there}
 use Rattle.lvm_volume_plan.specs.passed.Names.{KeepsShelf, there, IsOfSession, StatesGroup, IsOfStatus, IsOfCommit, IsZeroOf, IsHeld, Scope, NoPartition, IsHeldSince, IsOfCommand, WasLeftBehind, MayBeFound, Leaves}
-use Rattle.lvm_volume_plan.proofs.passed.Names.{keeps_here, keeps_then, spends_none, spends_then, keeps_wider, outside, keeps_same, same_status}
+use Rattle.lvm_volume_plan.proofs.passed.Names.{keeps_here, keeps_then, spends_none, spends_then, keeps_wider, keeps_same, same_status}
 use Rattle.lvm_session.specs.State.{State, is_there, moment_of}
 use Rattle.lvm_steps.specs.Moments.{SpanGoesOn}
 use Rattle.lvm_volumes.specs.Endings.{StillHeld, IfAlone, commanding}
@@ -32,7 +33,7 @@ rose_from a b c le rose = record { later = omega (arith, rose.later, le); risen 
 -- ---- wider plans
 
 pub wider : (T U : Disks) (P Q : Plan) (old new : Device) → ((d : ℕ) → IsTrue (T d) → IsTrue (U d)) → ((d s : ℕ) (value : Sector) → P d s value → Q d s value) → KeepsShelf T P old new → KeepsShelf U Q old new
-wider T U P Q old new targets more keeps = keeps_wider T U P Q old new (λ d off. outside (T d) (U d) (targets d) off) more keeps
+wider T U P Q old new targets more keeps = keeps_wider T U P Q old new (λ d off. false_by (T d) (U d) (targets d) off) more keeps
 
 -- ---- members
 
@@ -175,7 +176,7 @@ module _ (N : Descriptor → Type 0) (Z : Pp → Type 0) where
     group = is.group;
     known = is.known;
     its = is.its;
-    absent = outside (there c.core.status p.disk) (there b.core.status p.disk) (less p.disk) is.absent;
+    absent = false_by (there c.core.status p.disk) (there b.core.status p.disk) (less p.disk) is.absent;
     apart = is.apart;
     usable = is.usable;
     was_there = is.was_there;
@@ -193,7 +194,7 @@ module _ (N : Descriptor → Type 0) (Z : Pp → Type 0) where
     its = is.its;
     absent = is.absent;
     apart = is.apart;
-    usable = λ out. outside (calls_stale a.core.status.wanted is.its.other) (calls_stale b.core.status.wanted is.its.other) (stale is.its.other out) (is.usable out);
+    usable = λ out. false_by (calls_stale a.core.status.wanted is.its.other) (calls_stale b.core.status.wanted is.its.other) (stale is.its.other out) (is.usable out);
     was_there = less is.its.other.disk is.was_there;
   }
 

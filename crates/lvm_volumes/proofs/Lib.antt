@@ -6,3 +6,9 @@ pub mod Leaving
 pub mod StagesLemmas
 pub mod StandingLemmas
 pub mod VolumesLemmas
+pub mod LawsOfVolumesLemmas
+pub mod JudgingLemmas
+pub mod MirrorSettlingLemmas
+pub mod MirrorStagesLemmas
+pub mod MirrorsLemmas
+pub mod LawsLemmas

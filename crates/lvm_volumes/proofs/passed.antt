@@ -1,1 +1,3 @@
+pub mod CopyPlanCopiesLemmasFewer
+pub mod CopyPlanCopiesLemmasMore
 pub mod Names

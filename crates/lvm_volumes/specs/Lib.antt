@@ -2,3 +2,6 @@ pub mod passed
 pub mod Endings
 pub mod Volumes
 pub mod Stages
+pub mod Mirrors
+pub mod MirrorStages
+pub mod Laws

@@ -1,7 +1,10 @@
-//! The making and the removal of volumes of a group that is on.
+//! The making and the removal of volumes, and of copies of volumes, of a group that is on.
 #![tactic(auto)]
 
+mod copies;
+pub mod laws;
 mod volumes;
 
+pub use copies::{mklvcopy, rmlvcopy};
 pub use lvm_volume_plan::GroupFault;
 pub use volumes::{mklv, rmlv};

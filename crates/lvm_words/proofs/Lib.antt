@@ -1,2 +1,3 @@
 pub mod MatchedLemmas
 pub mod WordsLemmas
+pub mod CommandLineLemmas

@@ -12,16 +12,16 @@ use Rattle.clap.specs.declared.builder.value_parser.ValueParser.{ValueParser}
 use Rattle.clap.specs.declared.builder.value_parser.ValueParser.TheVariants as parser
 use Rattle.clap.specs.declared.error.kind.ErrorKind.TheVariants as kind
 use Rattle.clap.proofs.OnLiterals.{clap_on_literals}
-use Rattle.lvm_literals.specs.Words.{number_in}
-use Rattle.lvm_language.specs.CommandLine.{is_plain, is_signed, lvm_app, script_app, weave_app}
+use Rattle.lvm_operands.specs.Words.{number_in}
+use Rattle.lvm_words.specs.CommandLine.{is_plain, is_signed, lvm_app, script_app, weave_app}
 use Rattle.lvm_words.specs.Matched.{job_matched, unsigned_in, with_all, with_both}
 use Rattle.lvm_words.specs.Words.{IsWithin, bounded, gen_of, image_of, work_of, sim_of, weave_by, weave_of, with_five, with_two}
 use Rattle.lvm_words.specs.declared.job.Job.{Job}
 use Rattle.lvm_words.specs.declared.job.Job.TheVariants as job
-use Rattle.lvm_language.specs.declared.fault.WordsFault.{WordsFault}
-use Rattle.lvm_language.specs.declared.fault.WordsFault.TheVariants.{Usage}
+use Rattle.lvm_words.specs.declared.fault.WordsFault.{WordsFault}
+use Rattle.lvm_words.specs.declared.fault.WordsFault.TheVariants.{Usage}
 use Rattle.lvm_words.proofs.MatchedLemmas.{accepted_number, both_true, number_accepted, number_is_plain, number_parts, number_read, plain_parts}
-use Rattle.lvm_language.proofs.CommandLineLemmas.{app_for, clients_parser, disks_parser, fails, fails_first, first_parser, five_entered, five_five, five_four, five_kinds, five_more, five_none, five_one, five_three, five_two, gen, image, level, level_more, level_none, level_one, level_two, mib_parser, none_fault, Numbered, numbered_entered, numbered_fault, requests_parser, script_alone, script_fault, script_more, second_parser, seed_parser, sim, two_kinds, unknown_fault, weave_fault}
+use Rattle.lvm_words.proofs.CommandLineLemmas.{app_for, clients_parser, disks_parser, fails, fails_first, first_parser, five_entered, five_five, five_four, five_kinds, five_more, five_none, five_one, five_three, five_two, gen, image, level, level_more, level_none, level_one, level_two, mib_parser, none_fault, Numbered, numbered_entered, numbered_fault, requests_parser, script_alone, script_fault, script_more, second_parser, seed_parser, sim, two_kinds, unknown_fault, weave_fault}
 
 pub data Outcome (words : List Text) : Type 0 where
   asks : (j : Job) → work_of words ≡ Ok j → IsWithin j → fault_of lvm_app words ≡ [] → job_matched (subcommand_of lvm_app words) ≡ Some j → Outcome words

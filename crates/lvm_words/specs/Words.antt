@@ -1,10 +1,10 @@
 -- The language of the command line.
 use Rattle.std.specs.Prelude.{ℕ, ◌≤◌, nat_le, ◌&&◌, if◌then◌else◌, List, [], ◌∷◌, Option, Some, None, Result, Ok, Err, codes, bytes_eq}
-use Rattle.lvm_literals.specs.Words.{number_in}
+use Rattle.lvm_operands.specs.Words.{number_in}
 use Rattle.lvm_words.specs.declared.job.Job.{Job}
 use Rattle.lvm_words.specs.declared.job.Job.TheVariants.{Script, Sim, Gen, Weave, Image, Help, Version}
-use Rattle.lvm_language.specs.declared.fault.WordsFault.{WordsFault}
-use Rattle.lvm_language.specs.declared.fault.WordsFault.TheVariants.{Usage}
+use Rattle.lvm_words.specs.declared.fault.WordsFault.{WordsFault}
+use Rattle.lvm_words.specs.declared.fault.WordsFault.TheVariants.{Usage}
 
 -- 1 to 32 disks of 1 to 64 MiB
 abbrev pub sim_of : Option ℕ → Option ℕ → Result Job WordsFault

@@ -1,9 +1,9 @@
 //! Words that may be of the language, whatever they say.
 ghost use Rattle.std.specs.Prelude.{◌≡◌, IfOk, Err, true, false, map};
 ghost use Rattle.std.specs.List.{list_all};
-ghost use Rattle.lvm_language.specs.CommandLine.{is_signed, is_plain};
+ghost use Rattle.lvm_words.specs.CommandLine.{is_signed, is_plain};
 
-use lvm_language::WordsFault;
+use crate::fault::WordsFault;
 use lvm_num::Text;
 use std::alloc::Global;
 

@@ -2,10 +2,11 @@
 ghost use Rattle.std.specs.Prelude.{◌≡◌, Ok, Err, IfOk, IfSome};
 ghost use Rattle.lvm_words.specs.Words.{told_by, told_of, work_of, job_of, IsWithin};
 
+use crate::fault::WordsFault;
 use crate::job::Job;
+use crate::language::parse;
 use crate::matched::job_in;
 use crate::plain::plain_words;
-use lvm_language::{WordsFault, parse};
 use lvm_num::Text;
 use std::alloc::Global;
 

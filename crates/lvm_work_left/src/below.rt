@@ -1,3 +1,3 @@
 //! What is passed on from the crates below.
 
-pub use lvm_copies::partition_blocks;
+pub use lvm_facts::partition_blocks;

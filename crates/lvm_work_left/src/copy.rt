@@ -9,7 +9,7 @@ ghost use Rattle.lvm_session.specs.Fields.{core_of};
 ghost use Rattle.lvm_session.specs.Left.{copy_left, step_left, tried_of, update_work};
 ghost use Rattle.lvm_session.specs.Sound.{IsCopy};
 
-use lvm_copies::{copies_beside, is_running, is_whole, partition_blocks};
+use lvm_facts::{copies_beside, is_running, is_whole, partition_blocks};
 use lvm_num::Pp;
 use lvm_session::{OpenCopy, Session, Step};
 

@@ -11,7 +11,7 @@ ghost use Rattle.lvm_session.specs.Requests.{IsLaid};
 ghost use Rattle.lvm_session.specs.Sound.{IsGoing};
 
 use crate::writes::{waiting_targets, write_left};
-use lvm_firsts::below::is_waiting;
+use lvm_due::below::is_waiting;
 use lvm_path::{Phase, Request, any_is_done};
 use lvm_session::{Open, Session};
 

@@ -9,8 +9,8 @@ ghost use Rattle.lvm_session.specs.Sound.{IsGoing};
 use crate::copy::copy_left;
 use crate::requests::requests_left;
 use crate::status::{members_left, status_left};
-use lvm_firsts::below::is_waiting;
-use lvm_firsts::is_lost;
+use lvm_due::below::is_waiting;
+use lvm_due::is_lost;
 use lvm_session::{Power, Session};
 
 // While the votes are there.

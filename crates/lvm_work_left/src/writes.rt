@@ -7,10 +7,10 @@ ghost use Rattle.lvm_session.specs.Judging.{IsWithin, copies_for, is_changed};
 ghost use Rattle.lvm_session.specs.Left.{begun_left, if_so, is_brought_up, is_held, lacks_dirty, lacks_note, phase_left, turns_of, unbegun_left, waiting_targets, write_left};
 ghost use Rattle.lvm_session.specs.Requests.{IsLaid};
 
-use lvm_copies::{
+use lvm_due::below::is_changed;
+use lvm_facts::{
     copies_for, group_of, is_missing, is_pp, is_running, is_settled, is_usable, mode_of,
 };
-use lvm_firsts::below::is_changed;
 use lvm_num::{Mode, Pp};
 use lvm_path::{Phase, Request, Target, are_over};
 use lvm_sched::TargetState;

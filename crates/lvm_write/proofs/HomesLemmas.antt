@@ -4,10 +4,10 @@ use Rattle.std.specs.Prelude.{◌==◌, slice_get}
 use Rattle.std.specs.Option.{option_map_or}
 use Rattle.std.proofs.lemmas.Option.{slice_get_past}
 use Rattle.lvm_num.specs.declared.record.Kind.{Kind}
-use Rattle.lvm_survey.specs.declared.row.SurveyRow.{SurveyRow}
-use Rattle.lvm_survey.specs.declared.row.Survey.{Survey}
+use Rattle.lvm_quorum.specs.declared.row.SurveyRow.{SurveyRow}
+use Rattle.lvm_quorum.specs.declared.row.Survey.{Survey}
 use Rattle.lvm_write.specs.Homes.{home_by, in_first_slot}
-use Rattle.lvm_survey.proofs.Passing.{PassBelow, all_pass}
+use Rattle.lvm_quorum.proofs.Passing.{PassBelow, all_pass}
 
 pub home_told : (kind : Kind) (s : Survey) (d : ℕ) (row : SurveyRow) → slice_get s.rows d ≡ Some row → in_first_slot kind s d ≡ (home_by kind row == 0)
 home_told kind s d row at = ap (λ (o : Option SurveyRow). option_map_or (λ (r : SurveyRow). home_by kind r == 0) o false) at

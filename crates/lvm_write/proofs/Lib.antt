@@ -5,3 +5,17 @@ pub mod WritesLemmas
 pub mod HomesLemmas
 pub mod ShowsLemmas
 pub mod NotesLemmas
+pub mod BeginningLemmas
+pub mod RunsLemmas
+pub mod EndsLemmas
+pub mod PathsLemmas
+pub mod TornLemmas
+pub mod ContentsLemmas
+pub mod VaryingOnLemmas
+pub mod KeptLemmas
+pub mod SlotsLemmas
+pub mod ShownLemmas
+pub mod NewestLemmas
+pub mod Counting
+pub mod RowsLemmas
+pub mod NextLemmas

@@ -1,13 +1,12 @@
 -- A consistency record written to a disk.
 use Rattle.std.proofs.Common.{◌≡◌, ⊎_elim, ℕ, ◌-◌, Bool, true, false, Some, None, IsTrue, List, [], ◌∷◌, length, slice_get, refl, sym, ◌∙◌, ap, subst, arith, eq-eqb}
 use Rattle.std.specs.Prelude.{slice_set, ◌==◌, ◌&&◌, nat_le, nat_lt, if◌then◌else◌}
-use Rattle.std.proofs.lemmas.Bool.{eqb-true, ltb-true, leb-true}
+use Rattle.std.proofs.lemmas.Bool.{eqb-true, ltb-true, leb-true, ne_eqb}
 use Rattle.std.proofs.lemmas.Bool.Decides.{nat_tests}
 use Rattle.lvm_num.specs.Buffer.{Buffer, Sector}
 use Rattle.lvm_num.specs.Disks.{Disks}
 use Rattle.lvm_disk.specs.Device.{Device, image_of}
-use Rattle.lvm_survey.specs.passed.Names.{note_sector, ChangesBy, IsPlanned, IsOfNote, flight_of, Moved}
-use Rattle.lvm_survey.proofs.Passing.{is_other}
+use Rattle.lvm_quorum.specs.passed.Survey.{note_sector, ChangesBy, IsPlanned, IsOfNote, flight_of, Moved}
 use Rattle.lvm_write.specs.Notes.{NoteTold}
 use Rattle.lvm_write.specs.Parts.{DoesPart}
 use Rattle.lvm_write.specs.Written.{KeepsShelf}
@@ -58,4 +57,4 @@ module _ (a b : Sector) (disk number p q : ℕ) (old new : Device) (how : Moved)
 
   -- nothing starts on another disk
   pub note_alone : (d : ℕ) → (d ≡ disk → ⊥) → new.counts.starts d ≡ old.counts.starts d
-  note_alone d differ = (part (λ x. x == disk) (eq-eqb disk disk refl)).keeps.starts d (is_other d disk differ)
+  note_alone d differ = (part (λ x. x == disk) (eq-eqb disk disk refl)).keeps.starts d (ne_eqb d disk differ)

@@ -1,6 +1,6 @@
 -- What the disks show while a record is written to them, and afterwards.
-use Rattle.std.proofs.Common.{◌≡◌, ◌⊎◌, inl, inr, ℕ, ◌<◌, Bool, true, false, not, Option, Some, sym, subst, arith}
-use Rattle.std.specs.Prelude.{if◌then◌else◌, List, Result, IsTrue}
+use Rattle.std.proofs.Common.{◌≡◌, ℕ, true, Option, Some, subst}
+use Rattle.std.specs.Prelude.{List, Result, IsTrue}
 use Rattle.lvm_num.specs.declared.descriptor.Descriptor.{Descriptor}
 use Rattle.lvm_num.specs.declared.status.Status.{Status}
 use Rattle.lvm_num.specs.declared.record.Framed.{Framed}
@@ -10,30 +10,20 @@ use Rattle.lvm_num.specs.Disks.{Disks}
 use Rattle.lvm_num.specs.DescriptorBytes.{descriptor_of}
 use Rattle.lvm_num.specs.StatusBytes.{status_of}
 use Rattle.lvm_num.specs.Record.{Frames}
-use Rattle.lvm_survey.specs.passed.Names.{MayWrite, has_records, ChangesBy, RecordWrite, MayWriteAll, IsOfRecord, StandsOn, on_disk, Homes, second_slots}
-use Rattle.lvm_survey.proofs.passed.Names.{may_write, descriptor_shows, status_shows, wider, whole_is_new}
+use Rattle.lvm_num.proofs.Booleans.{place_below}
+use Rattle.lvm_quorum.specs.passed.Survey.{MayWrite, has_records, ChangesBy, RecordWrite, MayWriteAll, IsOfRecord, StandsOn, on_disk, Homes, second_slots}
+use Rattle.lvm_quorum.proofs.passed.Names.{may_write, descriptor_shows, status_shows, wider, whole_is_new}
 use Rattle.lvm_disk.specs.Device.{Media, Image, Device, image_of, MayLeave}
 use Rattle.lvm_disk.specs.Steps.{BothTold}
 use Rattle.lvm_write.specs.Written.{write_of, IsWriting}
 use Rattle.lvm_write.specs.Shows.{DescriptorMayBeWritten, StatusMayBeWritten, DescriptorsOldOrNew, StatusesOldOrNew, WrittenIsNewest}
 use Rattle.lvm_write.proofs.WrittenLemmas.Writing.{told_at}
 
-pub slot_two : (b : Bool) → (if b then 1 else 0) < 2
-slot_two true = omega arith
-slot_two false = omega arith
-
--- the other slot of the two
-pub turns : (t : Bool) (slot : ℕ) → ((◌≡◌ {A = ℕ} (if t then 1 else 0) 0) × (slot ≡ 1)) ⊎ ((◌≡◌ {A = ℕ} (if t then 1 else 0) 1) × (slot ≡ 0)) → ◌≡◌ {A = ℕ} (if not t then 1 else 0) slot
-turns true slot (inl is) = let wrong = is.0 in absurd (omega (arith, wrong))
-turns true slot (inr is) = sym is.1
-turns false slot (inl is) = sym is.1
-turns false slot (inr is) = let wrong = is.0 in absurd (omega (arith, wrong))
-
 -- a record may go to all targets where it may go to each
 all_may : (X : Type 0) (content_of : List ℕ → Result X ℕ) (k : Kind) (framed : Framed) (next : X) (targets : Disks) (homes : Homes) (image : Image) → Frames k framed
     → ((d : ℕ) → IsTrue (targets d) → has_records image d ≡ true) → ((d : ℕ) → IsTrue (targets d) → MayWrite X content_of (on_disk (write_of k framed targets homes) d) next (image.sector d))
     → MayWriteAll X content_of (write_of k framed targets homes) next image
-all_may X content_of k framed next targets homes image frames there each = record { frames = frames; slots = λ d. slot_two (second_slots k homes d); there = there; each = each }
+all_may X content_of k framed next targets homes image frames there each = record { frames = frames; slots = λ d. place_below (second_slots k homes d); there = there; each = each }
 
 pub descriptor_may_be_written : DescriptorMayBeWritten
 descriptor_may_be_written framed group targets homes image frames reads fit =

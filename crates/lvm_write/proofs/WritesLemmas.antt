@@ -9,10 +9,10 @@ use Rattle.lvm_num.specs.Disks.{Disks, has}
 use Rattle.lvm_disk.specs.Counts.{Rose}
 use Rattle.lvm_disk.specs.Device.{Device, IsReady}
 use Rattle.lvm_disk.specs.Paths.{Here}
-use Rattle.lvm_survey.specs.passed.Names.{Plan, Moved}
-use Rattle.lvm_survey.proofs.passed.Names.{never}
-use Rattle.lvm_survey.specs.passed.TransferMovesMoved as moved
-use Rattle.lvm_survey.proofs.Passing.{or_itself, or_other}
+use Rattle.lvm_quorum.specs.passed.Survey.{Plan, Moved}
+use Rattle.lvm_quorum.proofs.passed.Names.{never}
+use Rattle.lvm_quorum.specs.passed.TransferMovesMoved as moved
+use Rattle.lvm_quorum.proofs.Passing.{or_itself, or_other}
 use Rattle.lvm_write.specs.declared.write.Wrote.TheVariants as wrote
 use Rattle.lvm_write.specs.Written.{HasRoom, HaveRoom, KeepsShelf, EndsOn, written_well}
 use Rattle.lvm_write.specs.Parts.{DoesPart}

@@ -6,11 +6,11 @@ use Rattle.lvm_num.specs.declared.record.Kind.TheVariants as kind
 use Rattle.lvm_num.specs.Disks.{Disks}
 use Rattle.lvm_num.specs.DescriptorBytes.{descriptor_of}
 use Rattle.lvm_num.specs.StatusBytes.{status_of}
-use Rattle.lvm_survey.specs.passed.Names.{slot_for, has_records, Homes, next_slot}
+use Rattle.lvm_quorum.specs.passed.Survey.{slot_for, has_records, Homes, next_slot}
 use Rattle.lvm_disk.specs.Device.{Image}
-use Rattle.lvm_survey.specs.declared.row.SurveyRow.{SurveyRow}
-use Rattle.lvm_survey.specs.declared.row.Survey.{Survey}
-use Rattle.lvm_survey.specs.Surveyed.{IsRead}
+use Rattle.lvm_quorum.specs.declared.row.SurveyRow.{SurveyRow}
+use Rattle.lvm_quorum.specs.declared.row.Survey.{Survey}
+use Rattle.lvm_quorum.specs.Surveyed.{IsRead}
 
 -- the slot with the newest record of a kind by a row, 2 where there is none
 abbrev pub home_by : Kind → SurveyRow → ℕ

@@ -5,3 +5,12 @@ pub mod Parts
 pub mod Writes
 pub mod Shows
 pub mod Notes
+pub mod Beginning
+pub mod Ends
+pub mod Kept
+pub mod Newest
+pub mod Runs
+pub mod Shown
+pub mod Next
+pub mod Rows
+pub mod Restated

@@ -1,3 +1,3 @@
 //! What is passed on from the crates below.
 
-pub use lvm_survey::below::{Moved, Patience, encode_into, transfer};
+pub use lvm_quorum::below::{Moved, Patience, encode_into, transfer};

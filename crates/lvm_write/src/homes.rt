@@ -2,13 +2,13 @@
 ghost use Rattle.std.specs.Prelude.{◌≡◌, ℕ};
 ghost use Rattle.lvm_num.specs.declared.record.Kind.{Kind};
 ghost use Rattle.lvm_num.specs.Disks.{has};
-ghost use Rattle.lvm_survey.specs.passed.Names.{second_slots};
+ghost use Rattle.lvm_quorum.specs.passed.Survey.{second_slots};
 ghost use Rattle.lvm_write.specs.Homes.{home_by, in_first_slot, SpareNewest};
-ghost use Rattle.lvm_survey.specs.Rows.{AreRows};
+ghost use Rattle.lvm_quorum.specs.Rows.{AreRows};
 
 use lvm_num::{DiskSet, Kind};
-use lvm_survey::below::Homes;
-use lvm_survey::{Survey, SurveyRow};
+use lvm_quorum::below::Homes;
+use lvm_quorum::{Survey, SurveyRow};
 
 /// The slots that come next after what was found: slot 1 where the newest record stands in slot 0,
 /// else slot 0.

@@ -2,7 +2,7 @@
 ghost use Rattle.std.specs.Prelude.{IsTrue};
 ghost use Rattle.lvm_num.specs.Disks.{Disks, has};
 ghost use Rattle.lvm_disk.specs.Device.{IsReady};
-ghost use Rattle.lvm_survey.specs.passed.Names.{IsOfNote};
+ghost use Rattle.lvm_quorum.specs.passed.Survey.{IsOfNote};
 ghost use Rattle.lvm_write.specs.Notes.{empty_note_sector, NoteTold};
 ghost use Rattle.lvm_write.specs.Parts.{DoesPart, IfMoved};
 ghost use Rattle.lvm_write.specs.Written.{HasRoom, HaveRoom};
@@ -11,7 +11,7 @@ ghost use Rattle.lvm_write.specs.Writes.{DiskWritesLeave, DiskWritesEnd};
 use crate::write::Wrote;
 use lvm_disk::Shelf;
 use lvm_num::{DiskSet, Pbuf};
-use lvm_survey::below::{Moved, Patience, transfer, write_note};
+use lvm_quorum::below::{Moved, Patience, transfer, write_note};
 
 // The sector of a disk's consistency record.
 const NOTE: u64 = 8;

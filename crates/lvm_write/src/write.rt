@@ -3,14 +3,14 @@ ghost use Rattle.std.specs.Prelude.{◌≡◌, ◌≢◌, ◌+◌, ◌<◌, ◌�
 ghost use Rattle.lvm_num.specs.Disks.{has};
 ghost use Rattle.lvm_num.specs.Record.{frame, longest_content, record_sectors, slot_start};
 ghost use Rattle.lvm_disk.specs.Device.{IsReady};
-ghost use Rattle.lvm_survey.specs.passed.Names.{IsOfRecord};
+ghost use Rattle.lvm_quorum.specs.passed.Survey.{IsOfRecord};
 ghost use Rattle.lvm_write.specs.Written.{write_of, HasRoom, HaveRoom};
 ghost use Rattle.lvm_write.specs.Parts.{write_to, PartsStand, IfMoved, WritesPart};
 ghost use Rattle.lvm_write.specs.Writes.{DiskWritesLeave, RecordWritesEnd};
 
 use lvm_disk::Shelf;
 use lvm_num::{DiskSet, Kind, Pbuf, Stamp};
-use lvm_survey::below::{Homes, Moved, Patience, frame, slot_sectors, transfer};
+use lvm_quorum::below::{Homes, Moved, Patience, frame, slot_sectors, transfer};
 
 const PIECE: u32 = 256;
 

@@ -1,6 +1,7 @@
 -- A status or a descriptor that has been written is the committed one.
 use Rattle.std.proofs.Common.{◌≡◌, ◌⊎◌, inl, inr, ⊎_elim, ℕ, ◌<◌, true, Option, Some, refl, sym, ap, subst, ◌∙◌, eq-eqb}
 use Rattle.std.specs.Prelude.{IsTrue, ◌&&◌, []}
+use Rattle.std.proofs.lemmas.Option.{same_Some}
 use Rattle.std.proofs.lemmas.Bool.{eqb-true}
 use Rattle.lvm_num.specs.declared.descriptor.Descriptor.{Descriptor}
 use Rattle.lvm_num.specs.declared.status.Status.{Status}
@@ -13,7 +14,7 @@ use Rattle.lvm_num.proofs.VotesLemmas.{read_meets_write, more_have_more, more_is
 use Rattle.lvm_kept.specs.Contents.{Contents}
 use Rattle.lvm_kept.specs.Group.{passes, is_of, descriptor_among, members_in}
 use Rattle.lvm_kept.specs.Committed.{DescriptorStands, IsWithinDisks}
-use Rattle.lvm_kept.proofs.CommittedLemmas.Finding.{some_same, enough-too, finds_from, newest_among}
+use Rattle.lvm_kept.proofs.CommittedLemmas.Finding.{enough-too, finds_from, newest_among}
 use Rattle.lvm_commit.specs.Committed.{IsAlike, Began, ShowsCommitted}
 use Rattle.lvm_commit.specs.Laws.{IsLaterDescriptor, StatusIsCommitted, DescriptorIsCommitted}
 use Rattle.lvm_kept.proofs.GroupLemmas.{with_others, still_finds}
@@ -62,7 +63,7 @@ status_is_committed group status there targets written next old new shows its la
       stated = on;
       last = λ d r e own. ⊎_elim
           (λ (same : new.status d ≡ old.status d). inl (later d r (sym same ∙ e) own))
-          (λ (put : IsTrue (targets d) × (new.status d ≡ Some next)). inr (some_same r next (sym e ∙ put.1)))
+          (λ (put : IsTrue (targets d) × (new.status d ≡ Some next)). inr (same_Some r next (sym e ∙ put.1)))
           (change.own d);
     })
 
@@ -109,7 +110,7 @@ module _ (old : Contents) (shown : ℕ → Option (Stamped Descriptor)) (group :
   latest : (d : ℕ) (r : Stamped Descriptor) → shown d ≡ Some r → r.value.id ≡ id → (stamp_lt r.stamp next.stamp ≡ true) ⊎ (r ≡ next)
   latest d r e its = ⊎_elim
       (λ (same : shown d ≡ old.descriptor d). inl (later d r (sym same ∙ e) (its ∙ id_is)))
-      (λ (put : IsTrue (targets d) × (shown d ≡ Some next)). inr (some_same r next (sym e ∙ put.1)))
+      (λ (put : IsTrue (targets d) × (shown d ≡ Some next)). inr (same_Some r next (sym e ∙ put.1)))
       (own d)
 
   stands : DescriptorStands new id written next next
@@ -138,7 +139,7 @@ module _ (old : Contents) (shown : ℕ → Option (Stamped Descriptor)) (group :
     enough = reads_too shows.disks shows.began.enough;
     alike = λ d r member e. ⊎_elim
         (λ (same : shown d ≡ old.descriptor d). shows.began.alike d r (sym (members_same shows.disks d) ∙ member) (sym same ∙ e) ∙ sym alike)
-        (λ (put : IsTrue (targets d) × (shown d ≡ Some next)). is_next r (some_same r next (sym e ∙ put.1)))
+        (λ (put : IsTrue (targets d) × (shown d ≡ Some next)). is_next r (same_Some r next (sym e ∙ put.1)))
         (own d);
     since = λ d m r q e its member f. ⊎_elim
         (λ (same : shown d ≡ old.descriptor d). ⊎_elim
@@ -146,9 +147,9 @@ module _ (old : Contents) (shown : ℕ → Option (Stamped Descriptor)) (group :
         (λ (is : IsAlike r.value group). inl (is ∙ sym alike))
         (λ (low : stamp_lt r.stamp q.stamp ≡ true). inr low)
         (shows.began.since d m r q (sym same ∙ e) (its ∙ id_is) (sym (members_same shows.disks m) ∙ member) (sym was ∙ f)))
-        (λ (put : IsTrue (targets m) × (shown m ≡ Some next)). inr (subst (λ (x : Stamped Descriptor). stamp_lt r.stamp x.stamp ≡ true) (sym (some_same q next (sym f ∙ put.1))) (later d r (sym same ∙ e) (its ∙ id_is))))
+        (λ (put : IsTrue (targets m) × (shown m ≡ Some next)). inr (subst (λ (x : Stamped Descriptor). stamp_lt r.stamp x.stamp ≡ true) (sym (same_Some q next (sym f ∙ put.1))) (later d r (sym same ∙ e) (its ∙ id_is))))
         (own m))
-        (λ (put : IsTrue (targets d) × (shown d ≡ Some next)). inl (is_next r (some_same r next (sym e ∙ put.1))))
+        (λ (put : IsTrue (targets d) × (shown d ≡ Some next)). inl (is_next r (same_Some r next (sym e ∙ put.1))))
         (own d);
   }
     where

@@ -1,6 +1,7 @@
 -- What quorums find of a session's group: the committed descriptor and the committed status.
 use Rattle.std.proofs.Common.{◌≡◌, ◌⊎◌, inl, inr, ⊎_elim, ℕ, ◌<◌, Bool, true, false, List, Option, Some, refl, sym, ap, subst, ◌∙◌, eq-eqb}
 use Rattle.std.specs.Prelude.{IsTrue, []}
+use Rattle.std.proofs.lemmas.Option.{same_Some}
 use Rattle.std.proofs.lemmas.Bool.{eqb-true}
 use Rattle.lvm_num.specs.declared.descriptor.Descriptor.{Descriptor}
 use Rattle.lvm_num.specs.declared.status.Status.{Status}
@@ -14,7 +15,7 @@ use Rattle.lvm_kept.specs.Contents.{Contents}
 use Rattle.lvm_kept.specs.Group.{passes, is_of, is_status_of, descriptor_among, Finds, IsFound, members_in, status_by, Reads}
 use Rattle.lvm_kept.specs.Committed.{Stands, DescriptorStands, StatusStands, IsWithinDisks}
 use Rattle.lvm_kept.specs.Kept.{Kept}
-use Rattle.lvm_kept.proofs.CommittedLemmas.Finding.{some_same, offered, is_offered, offers, finding_reads, finds_descriptor, meets_writers, newest_among}
+use Rattle.lvm_kept.proofs.CommittedLemmas.Finding.{offered, is_offered, offers, finding_reads, finds_descriptor, meets_writers, newest_among}
 use Rattle.lvm_steps.proofs.RecordLemmas.{clash}
 use Rattle.lvm_commit.specs.Committed.{IsAlike, ShowsCommitted}
 use Rattle.lvm_commit.specs.Laws.{OnlyCommittedIsFound, CommittedStatusIsRead, NewestIsBeginning}
@@ -25,7 +26,7 @@ not_before : (X : Type 0) (of : X → Bool) (on : ℕ → Option (Stamped X)) (s
     → d < n → IsTrue (set d) → on d ≡ Some r → IsTrue (of r.value) → newest_below (offered of on set) n ≡ Some newest → stamp_lt newest.stamp r.stamp ≡ false
 not_before X of on set n d r newest lt in_set shows own found =
     let last = is_last X (offered of on set) n d r lt (offers of on set d r in_set shows own) in
-    let same : newest ≡ last.0 = some_same newest last.0 (sym found ∙ last.1) in
+    let same : newest ≡ last.0 = same_Some newest last.0 (sym found ∙ last.1) in
     ap (λ (x : Stamped X). stamp_lt x.stamp r.stamp) same ∙ last.2
 
 -- a record that all of these have, and no other one that isn't earlier, stands with itself as the next one
@@ -108,9 +109,9 @@ committed_status_is_read c group status there facts within enough shows kept b k
 pub newest_is_beginning : NewestIsBeginning
 newest_is_beginning c group disks newest has = record {
   enough = (finding_reads c disks group.id group has.found).reads.enough;
-  alike = λ d r member shows. is_group r (some_same r newest (sym shows ∙ has.have d member));
+  alike = λ d r member shows. is_group r (same_Some r newest (sym shows ∙ has.have d member));
   since = λ d m r q shows its member also. ⊎_elim
-      (λ (low : stamp_lt r.stamp newest.stamp ≡ true). inr (subst (λ (x : Stamped Descriptor). stamp_lt r.stamp x.stamp ≡ true) (sym (some_same q newest (sym also ∙ has.have m member))) low))
+      (λ (low : stamp_lt r.stamp newest.stamp ≡ true). inr (subst (λ (x : Stamped Descriptor). stamp_lt r.stamp x.stamp ≡ true) (sym (same_Some q newest (sym also ∙ has.have m member))) low))
       (λ (same : r ≡ newest). inl (is_group r same))
       (has.last d r shows its);
 }

@@ -1,5 +1,5 @@
 -- The next status of a session keeps the history.
-use Rattle.std.proofs.Common.{◌≡◌, inl, inr, ⊎_elim, ℕ, ◌<◌, Bool, true, false, ◌&&◌, List, [], ◌∷◌, ◌++◌, Option, Some, refl, sym, subst, ◌∙◌}
+use Rattle.std.proofs.Common.{◌≡◌, inl, inr, ⊎_elim, ℕ, ◌<◌, Bool, true, ◌&&◌, List, [], ◌∷◌, ◌++◌, Option, Some, refl, sym, subst, ◌∙◌}
 use Rattle.std.specs.Prelude.{IsTrue, not}
 use Rattle.std.proofs.lemmas.Bool.{and_from, not-true, not_from_false}
 use Rattle.lvm_num.specs.Geometry.{track_group_of}
@@ -15,6 +15,7 @@ use Rattle.lvm_num.specs.Descriptor.{copies_of}
 use Rattle.lvm_num.specs.Votes.{all_disks}
 use Rattle.lvm_num.specs.Record.{Stamped}
 use Rattle.lvm_num.proofs.AmongLemmas.{of_passing}
+use Rattle.lvm_num.proofs.Booleans.{clash_gives}
 use Rattle.lvm_vol.specs.declared.entry.Vol.TheVariants.{Lv}
 use Rattle.lvm_vol.specs.Facts.{Fact, Cut}
 use Rattle.lvm_vol.specs.May.{Known, known, IsValue}
@@ -45,10 +46,6 @@ same_marks c group was next stale dirty = record {
 
 -- ---- lists
 
-no_true : {X : Type 0} (t : Bool) → t ≡ true → t ≡ false → X
-no_true true a b = absurd cc
-no_true false a b = absurd cc
-
 -- ---- a status with the marks of another, and further ones
 
 module _ (c : Contents) (group : Descriptor) (was next : Stamped Status) (marks : MayMark c group was.value next.value) where
@@ -60,7 +57,7 @@ module _ (c : Contents) (group : Descriptor) (was next : Stamped Status) (marks 
   still_fresh set row lp p one copy is =
       let parts = split (set p.disk) (not (is_stale_by (Some next) p)) is in
       and_from (set p.disk) (not (is_stale_by (Some was) p)) parts.0 (not_from_false (is_stale_by (Some was) p) (⊎_elim
-      (λ (stale : is_stale_by (Some was) p ≡ true). no_true (is_stale_by (Some next) p) (marks.stale row lp p one copy stale) (not-true (is_stale_by (Some next) p) parts.1))
+      (λ (stale : is_stale_by (Some was) p ≡ true). clash_gives (is_stale_by (Some next) p) (marks.stale row lp p one copy stale) (not-true (is_stale_by (Some next) p) parts.1))
       (λ fresh. fresh)
       (either (is_stale_by (Some was) p))))
 
@@ -96,7 +93,7 @@ module _ (c : Contents) (group : Descriptor) (was next : Stamped Status) (marks 
       let parts = split (members p.0.disk) (not (is_stale_by (Some was) p.0)) p.2 in
       ⊎_elim
       (λ (stale : is_stale_by (Some next) p.0 ≡ true). ⊎_elim
-      (λ (was_so : IsTrue (calls_stale was.value p.0)). no_true (calls_stale was.value p.0) was_so (not-true (is_stale_by (Some was) p.0) parts.1))
+      (λ (was_so : IsTrue (calls_stale was.value p.0)). clash_gives (calls_stale was.value p.0) was_so (not-true (is_stale_by (Some was) p.0) parts.1))
       (λ other. one_passes (passing next members) (copies_of row lp) other.0 other.1 (and_from (members other.0.disk) (not (is_stale_by (Some next) other.0)) other.3 (not_from_false (is_stale_by (Some next) other.0) other.2)))
       (marks.added row lp p.0 one low p.1 stale))
       (λ fresh. one_passes (passing next members) (copies_of row lp) p.0 p.1 (and_from (members p.0.disk) (not (is_stale_by (Some next) p.0)) parts.0 (not_from_false (is_stale_by (Some next) p.0) fresh)))

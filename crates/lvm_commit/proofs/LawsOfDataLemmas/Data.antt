@@ -1,6 +1,7 @@
 -- Data in a free partition keeps the history.
 use Rattle.std.proofs.Common.{◌≡◌, inl, ⊎_elim, ℕ, true, ◌&&◌, List, Option, None, sym, ap, subst, ◌∙◌}
 use Rattle.std.specs.Prelude.{IsTrue, not}
+use Rattle.std.proofs.lemmas.Option.{none-some}
 use Rattle.lvm_num.specs.declared.place.Pp.{Pp}
 use Rattle.lvm_num.specs.declared.descriptor.Descriptor.{Descriptor}
 use Rattle.lvm_num.specs.declared.status.Status.{Status}
@@ -18,7 +19,7 @@ use Rattle.lvm_kept.specs.Kept.{Kept}
 use Rattle.lvm_kept.specs.Changes.{BlocksChange}
 use Rattle.lvm_kept.proofs.ChangesLemmas.Changing.{data_keeps}
 use Rattle.lvm_kept.proofs.CommittedLemmas.Finding.{finding_reads}
-use Rattle.lvm_steps.proofs.RecordLemmas.{split, no_some}
+use Rattle.lvm_steps.proofs.RecordLemmas.{split}
 use Rattle.lvm_commit.specs.Committed.{ShowsCommitted}
 use Rattle.lvm_commit.specs.LawsOfData.{IsFree, IsSectorOf, PartitionChange, FreeDataKeeps}
 use Rattle.lvm_commit.proofs.LawsLemmas.Found.{shows_group, only_found}
@@ -47,7 +48,7 @@ module _ (group : Descriptor) (status : Status) (there : Disks) (pp : Pp) (old n
   raw_same : (d b : ℕ) → old.descriptor d ≡ None → new.block d b ≡ old.block d b
   raw_same d b none = ⊎_elim
       (λ same. same)
-      (λ (its : IsSectorOf group.mib pp d b). absurd (no_some shows.descriptor (sym none ∙ ap old.descriptor its.disk ∙ shows.described pp.disk on_it)))
+      (λ (its : IsSectorOf group.mib pp d b). absurd (none-some shows.descriptor (sym none ∙ ap old.descriptor its.disk ∙ shows.described pp.disk on_it)))
       (change.each d b)
 
   pub free_kept : Kept new facts

@@ -1,5 +1,5 @@
 -- A partition that no volume has: data of copies stands elsewhere.
-use Rattle.std.proofs.Common.{◌≡◌, inl, inr, ℕ, zero, suc, ◌+◌, ◌*◌, ◌%◌, ◌<◌, ◌≤◌, List, [], ◌∷◌, sym, subst, take, drop, arith}
+use Rattle.std.proofs.Common.{◌≡◌, inl, inr, ℕ, zero, suc, ◌+◌, ◌*◌, ◌%◌, ◌<◌, ◌≤◌, List, [], ◌∷◌, subst, drop, arith}
 use Rattle.std.specs.Prelude.{Contains}
 use Rattle.std.proofs.lemmas.Bool.{cases_lt}
 use Rattle.std.proofs.lemmas.List.Elements.{Contains-append_left, Contains-append_right}
@@ -9,30 +9,16 @@ use Rattle.lvm_num.specs.declared.descriptor.LvRow.{LvRow}
 use Rattle.lvm_num.specs.declared.descriptor.Descriptor.{Descriptor}
 use Rattle.lvm_num.specs.Descriptor.{copies_of, partitions_in, partitions_used}
 use Rattle.lvm_num.specs.Geometry.{partition_blocks, sector_of}
+use Rattle.lvm_num.proofs.AmongLemmas.{one_of_take, one_of_drop}
 use Rattle.lvm_kept.specs.Group.{IsOneOf}
 use Rattle.lvm_commit.specs.LawsOfData.{IsFree, IsSectorOf}
+use Rattle.lvm_commit.proofs.AmongLemmas.{contains}
 
 -- ---- lists
 
-one_contains : {X : Type 0} (xs : List X) (x : X) → IsOneOf xs x → Contains xs x
-one_contains [] x one = absurd one
-one_contains (y ∷ ys) x (inl here) = (0, omega arith, sym here)
-one_contains (y ∷ ys) x (inr there) = Contains-append_right (y ∷ []) ys x (one_contains ys x there)
-
-one_of_front : {X : Type 0} (n : ℕ) (xs : List X) (x : X) → IsOneOf (take n xs) x → IsOneOf xs x
-one_of_front zero xs x one = absurd one
-one_of_front (suc n) [] x one = absurd one
-one_of_front (suc n) (y ∷ ys) x (inl here) = inl here
-one_of_front (suc n) (y ∷ ys) x (inr there) = inr (one_of_front n ys x there)
-
-one_of_back : {X : Type 0} (n : ℕ) (xs : List X) (x : X) → IsOneOf (drop n xs) x → IsOneOf xs x
-one_of_back zero xs x one = one
-one_of_back (suc n) [] x one = absurd one
-one_of_back (suc n) (y ∷ ys) x one = inr (one_of_back n ys x one)
-
 of_volume : (rows : List LvRow) (row : LvRow) (p : Pp) → IsOneOf rows row → IsOneOf row.map p → Contains (partitions_in rows) p
 of_volume [] row p volume one = absurd volume
-of_volume (r ∷ rows) row p (inl here) one = Contains-append_left r.map (partitions_in rows) p (one_contains r.map p (subst (λ (x : LvRow). IsOneOf x.map p) here one))
+of_volume (r ∷ rows) row p (inl here) one = Contains-append_left r.map (partitions_in rows) p (contains r.map p (subst (λ (x : LvRow). IsOneOf x.map p) here one))
 of_volume (r ∷ rows) row p (inr there) one = Contains-append_right r.map (partitions_in rows) p (of_volume rows row p there one)
 
 -- ---- sectors
@@ -61,4 +47,4 @@ partition_is mib p pp b is =
 pub none_stands : (group : Descriptor) (pp : Pp) (row : LvRow) (lp b : ℕ) (p : Pp) → IsFree group pp → IsOneOf group.lvs row → IsOneOf (copies_of row lp) p → IsSectorOf group.mib pp p.disk (sector_of group.mib p.pp b) → ⊥
 none_stands group pp row lp b p free volume one is =
     free (subst (λ (x : Pp). Contains (partitions_used group) x) (partition_is group.mib p pp b is)
-    (of_volume group.lvs row p volume (one_of_back (lp * row.copies) row.map p (one_of_front row.copies (drop (lp * row.copies) row.map) p one))))
+    (of_volume group.lvs row p volume (one_of_drop (lp * row.copies) row.map p (one_of_take row.copies (drop (lp * row.copies) row.map) p one))))

@@ -1,6 +1,7 @@
 -- What stays committed while no record is written, and the moments of a write of data.
 use Rattle.std.proofs.Common.{◌≡◌, ◌⊎◌, inl, inr, ⊎_elim, ℕ, ◌+◌, ◌<◌, List, [], Option, Some, None, refl, sym, ap, subst, ◌∙◌, arith}
 use Rattle.std.specs.Prelude.{nat_lt, if◌then◌else◌}
+use Rattle.std.proofs.lemmas.Option.{none-some}
 use Rattle.lvm_num.specs.declared.place.Pp.{Pp}
 use Rattle.lvm_num.specs.declared.record.Kind.{Kind}
 use Rattle.lvm_num.specs.declared.record.Kind.TheVariants as kind
@@ -20,8 +21,7 @@ use Rattle.lvm_kept.proofs.PlacesLemmas.{room-same, data_writes}
 use Rattle.lvm_kept.proofs.CommittedLemmas.Finding.{images_within}
 use Rattle.lvm_steps.specs.Moments.{ImagesKept, StaysKept}
 use Rattle.lvm_steps.specs.Requests.{IsOfData}
-use Rattle.lvm_steps.proofs.RecordLemmas.{no_some}
-use Rattle.lvm_stamps.proofs.LawsLemmas.Writes.{data_keeps_before}
+use Rattle.lvm_steps.proofs.LawsLemmas.Writes.{data_keeps_before}
 use Rattle.lvm_commit.specs.Committed.{next_stamp, ShowsCommitted}
 use Rattle.lvm_commit.specs.LawsOfData.{IsSectorOf, PartitionChange, IsFlightOf, FreeDataGoesOn, DataKeepsCommitted, StillHoldsCommitted, TransferHoldsCommitted}
 use Rattle.lvm_commit.proofs.LawsLemmas.Committed.{still_shows}
@@ -64,7 +64,7 @@ still_holds_committed group status there stamp homes device media told still hol
 pub data_differs : (f : Flight) → IsOfData f → (before image : Image) → DiffersBy f before image → SameRecords before image
 data_differs f its before image differs = record {
   same = differs.same;
-  sectors = λ d s lt. ⊎_elim (λ same. same) (λ put. absurd (no_some (image.sector d s) (sym (its d s lt) ∙ put))) (differs.each d s);
+  sectors = λ d s lt. ⊎_elim (λ same. same) (λ put. absurd (none-some (image.sector d s) (sym (its d s lt) ∙ put))) (differs.each d s);
 }
 
 pub transfer_holds_committed : TransferHoldsCommitted

@@ -1,6 +1,7 @@
 -- What is found is what was found before, or the next descriptor.
 use Rattle.std.proofs.Common.{◌≡◌, ◌⊎◌, inl, inr, ⊎_elim, ℕ, ◌<◌, Bool, true, false, ◌&&◌, Option, Some, None, refl, sym, ap, subst, ◌∙◌}
 use Rattle.std.specs.Prelude.{IsTrue, if◌then◌else◌}
+use Rattle.std.proofs.lemmas.Option.{same_Some}
 use Rattle.std.proofs.lemmas.Bool.{eqb-true}
 use Rattle.lvm_num.specs.declared.descriptor.Descriptor.{Descriptor}
 use Rattle.lvm_num.specs.declared.status.Status.{Status}
@@ -16,7 +17,7 @@ use Rattle.lvm_kept.specs.Contents.{Contents, contents_of, data_at}
 use Rattle.lvm_kept.specs.Group.{if_passes, passes, is_of, has_room, descriptor_among, is_voter, has_quorum, Finds, IsFound}
 use Rattle.lvm_kept.specs.Places.{SameRecords}
 use Rattle.lvm_kept.proofs.PlacesLemmas.{data_writes}
-use Rattle.lvm_kept.proofs.CommittedLemmas.Finding.{some_same, offered, offers, is_offered}
+use Rattle.lvm_kept.proofs.CommittedLemmas.Finding.{offered, offers, is_offered}
 use Rattle.lvm_steps.proofs.RecordLemmas.{either, clash}
 use Rattle.lvm_steps.proofs.MakingLemmas.Making.{media_may}
 use Rattle.lvm_write.proofs.WrittenLemmas.Writing.{if_told, told_at, both_at}
@@ -80,7 +81,7 @@ module _ (old : Contents) (shown : ℕ → Option (Stamped Descriptor)) (targets
     not_shown at was its d in_set shows = ⊎_elim
         (λ (test : is_of id next.value ≡ true).
         let last = is_last Descriptor (offered (is_of id) shown set) old.disks d next (within d next shows) (offers (is_of id) shown set d next in_set shows test) in
-        let same : is.newest ≡ last.0 = some_same is.newest last.0 (sym is.found ∙ last.1) in
+        let same : is.newest ≡ last.0 = same_Some is.newest last.0 (sym is.found ∙ last.1) in
         absurd (clash (stamp_lt is.newest.stamp next.stamp) (later at is.newest was (eqb-true is.newest.value.id id its ∙ sym (eqb-true next.value.id id test)))
         (ap (λ (r : Stamped Descriptor). stamp_lt r.stamp next.stamp) same ∙ last.2)))
         (λ test. test)
@@ -94,7 +95,7 @@ module _ (old : Contents) (shown : ℕ → Option (Stamped Descriptor)) (targets
         ⊎_elim
         (λ (same : shown one.0 ≡ old.descriptor one.0). inl (was_found set is (not_shown one.0 (sym same ∙ from.0) from.1)))
         (λ (put : IsTrue (targets one.0) × (shown one.0 ≡ Some next)).
-        let it : is.newest ≡ next = some_same is.newest next (sym from.0 ∙ put.1) in
+        let it : is.newest ≡ next = same_Some is.newest next (sym from.0 ∙ put.1) in
         inr (sym (eqb-true is.newest.value.id id from.1) ∙ ap (λ (r : Stamped Descriptor). r.value.id) it, sym is.is ∙ ap (λ (r : Stamped Descriptor). r.value) it))
         (own one.0)
 

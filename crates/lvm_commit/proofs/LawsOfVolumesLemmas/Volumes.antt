@@ -16,8 +16,8 @@ use Rattle.lvm_kept.specs.Kept.{Kept}
 use Rattle.lvm_kept.proofs.CommittedLemmas.Finding.{images_within}
 use Rattle.lvm_steps.proofs.MomentsLemmas.Spans.{entry_goes_on}
 use Rattle.lvm_steps.proofs.VolumeEntriesLemmas.{volume_begins, volume_is_made, volume_is_gone}
-use Rattle.lvm_stamps.proofs.LawsLemmas.Records.{shown_is_before}
-use Rattle.lvm_stamps.proofs.LawsLemmas.Stamps.{later_is_after_too}
+use Rattle.lvm_steps.proofs.LawsLemmas.Records.{shown_is_before}
+use Rattle.lvm_steps.proofs.LawsLemmas.Stamps.{later_is_after_too}
 use Rattle.lvm_commit.specs.Committed.{next_stamp, ShowsCommitted}
 use Rattle.lvm_commit.specs.LawsOfVolumes.{NextIsLater, CommittedMayCommit, ZerosAreFound, IsOnlyGroup, NamedIsFound, UnnamedIsNotFound, VolumeBeginsInSession, VolumeIsMadeInSession, VolumeIsGoneInSession}
 use Rattle.lvm_commit.proofs.LawsLemmas.Found.{shows_group, only_found, status_read}

@@ -19,7 +19,7 @@ use Rattle.lvm_status.specs.Update.{Stored}
 use Rattle.lvm_rec.specs.declared.homes.Homes.{Homes}
 use Rattle.lvm_write.specs.Written.{write_of, KeepsShelf, IsWriting, written_well}
 use Rattle.lvm_write.proofs.WrittenLemmas.Writing.{told_at}
-use Rattle.lvm_stamps.specs.Laws.{IsNoLater}
+use Rattle.lvm_steps.specs.Laws.{IsNoLater}
 use Rattle.lvm_commit.specs.Committed.{next_stamp, HoldsCommitted}
 use Rattle.lvm_commit.specs.LawsOfWrites.{StandsWritten}
 use Rattle.lvm_commit.specs.Settling.{there, IsOf, SessionIsHeld}

@@ -12,6 +12,7 @@ use Rattle.lvm_num.specs.Disks.{Disks}
 use Rattle.lvm_num.specs.DescriptorBytes.{descriptor_of}
 use Rattle.lvm_num.specs.StatusBytes.{status_of}
 use Rattle.lvm_num.specs.Record.{Frames, stamp_lt}
+use Rattle.lvm_num.proofs.Booleans.{place_below, place_turns}
 use Rattle.lvm_rec.specs.Slots.{slot_for, IsTornWrite, BothBefore}
 use Rattle.lvm_disk.specs.Device.{Image, IsWholeImage}
 use Rattle.lvm_kept.specs.Contents.{Contents, contents_of, has_records, descriptor_on, status_on}
@@ -25,12 +26,12 @@ use Rattle.lvm_rec.specs.declared.homes.Homes.{Homes}
 use Rattle.lvm_rec.specs.Homes.{second_slots, next_slot}
 use Rattle.lvm_write.specs.Written.{write_of}
 use Rattle.lvm_write.specs.Shows.{IsSlotFit}
-use Rattle.lvm_write.proofs.ShowsLemmas.{descriptor_may_be_written, status_may_be_written, slot_two, turns}
-use Rattle.lvm_stamps.specs.Behind.{StampsBefore}
-use Rattle.lvm_stamps.specs.Laws.{IsNoLater}
-use Rattle.lvm_stamps.proofs.LawsLemmas.Records.{later_may_go}
-use Rattle.lvm_stamps.proofs.LawsLemmas.Stamps.{later_is_after_too}
-use Rattle.lvm_stamps.proofs.LawsLemmas.Writes.{record_is_before_next}
+use Rattle.lvm_write.proofs.ShowsLemmas.{descriptor_may_be_written, status_may_be_written}
+use Rattle.lvm_steps.specs.Behind.{StampsBefore}
+use Rattle.lvm_steps.specs.Laws.{IsNoLater}
+use Rattle.lvm_steps.proofs.LawsLemmas.Records.{later_may_go}
+use Rattle.lvm_steps.proofs.LawsLemmas.Stamps.{later_is_after_too}
+use Rattle.lvm_steps.proofs.LawsLemmas.Writes.{record_is_before_next}
 use Rattle.lvm_commit.specs.Committed.{next_stamp, HoldsCommitted}
 use Rattle.lvm_commit.specs.LawsOfVolumes.{LeavesOthers}
 use Rattle.lvm_commit.specs.LawsOfWrites.{StatusMayGo, DescriptorMayGo, StatusWriteKeeps, DescriptorWriteKeeps, StandsWritten, StatusIsHeld, DescriptorIsHeld, StatusWriteLeavesOthers, DescriptorWriteLeavesOthers}
@@ -77,12 +78,12 @@ module _ (image : Image) (group : Descriptor) (status : Status) (there : Disks) 
 
     -- the slot that comes next spares the newest
     own_spared : (X : Type 0) (content_of : List ℕ → Result X ℕ) (x : X) → content_of framed.content ≡ Ok x → next_slot which after d ≡ slot_for content_of which (new.sector d)
-    own_spared X content_of x reads = flipped ∙ turns (second_slots which homes d) (slot_for content_of which (new.sector d))
-        (turned (on_disk w d) (image.sector d) (new.sector d) frames (slot_two (second_slots which homes d)) torn X content_of x reads (both_before d on) (stands.stands d is))
+    own_spared X content_of x reads = flipped ∙ place_turns (second_slots which homes d) (slot_for content_of which (new.sector d))
+        (turned (on_disk w d) (image.sector d) (new.sector d) frames (place_below (second_slots which homes d)) torn X content_of x reads (both_before d on) (stands.stands d is))
 
     other_spared : (X : Type 0) (content_of : List ℕ → Result X ℕ) (other : Kind) → (other ≡ which → ⊥) → next_slot other homes d ≡ slot_for content_of other (image.sector d) → next_slot other after d ≡ slot_for content_of other (new.sector d)
     other_spared X content_of other apart spares = ap (λ (t : Bool). if t then 1 else 0) (stands.flips.other other apart d) ∙ spares
-        ∙ sym (other_kind (on_disk w d) (image.sector d) (new.sector d) frames (slot_two (second_slots which homes d)) torn content_of other apart)
+        ∙ sym (other_kind (on_disk w d) (image.sector d) (new.sector d) frames (place_below (second_slots which homes d)) torn content_of other apart)
 
     has_records_then : has_records new d ≡ true
     has_records_then = room-same image new stands.changes.same d ∙ holds.there d on

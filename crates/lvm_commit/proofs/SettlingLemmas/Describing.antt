@@ -7,6 +7,7 @@ use Rattle.lvm_num.specs.Buffer.{Buffer, Sector}
 use Rattle.lvm_num.specs.DescriptorBytes.{descriptor_of}
 use Rattle.lvm_num.specs.Record.{Frames}
 use Rattle.lvm_num.specs.Votes.{CanWrite}
+use Rattle.lvm_num.proofs.Booleans.{place_below}
 use Rattle.lvm_vol.specs.Facts.{Fact}
 use Rattle.lvm_disk.specs.Device.{Device, image_of, HasSectors}
 use Rattle.lvm_disk.proofs.PathsLemmas.{map-path, last-path}
@@ -28,7 +29,6 @@ use Rattle.lvm_commit.proofs.SettlingLemmas.Round.{record_goes, quorum_lost, som
 use Rattle.lvm_commit.proofs.SettlingLemmas.Ready.{spends_none}
 use Rattle.lvm_commit.proofs.LawsOfWritesLemmas.Holding.{with_told}
 use Rattle.lvm_commit.proofs.LawsOfFindingLemmas.HoldingDescriptor.{descriptor_moment_kept, descriptor_moment_finds}
-use Rattle.lvm_write.proofs.ShowsLemmas.{slot_two}
 
 module _ (first mid : Stored) (homes after : Homes) (old m : Device) (content : List ℕ) (number p q : ℕ) (r : CommitEnd)
     (gives : RecordGives (session_write kind.Descriptor content (stamped first) homes) number p q (stamped first) mid homes after old m r) where
@@ -72,7 +72,7 @@ module _ (first mid : Stored) (homes after : Homes) (old m : Device) (content : 
           inl (record { kind = refl; content_is = refl }),
           record {
             frames = frames;
-            slots = λ disk. slot_two (second_slots kind.Descriptor homes disk);
+            slots = λ disk. place_below (second_slots kind.Descriptor homes disk);
             targets = λ disk is. is;
             epoch = refl;
             later = omega arith;

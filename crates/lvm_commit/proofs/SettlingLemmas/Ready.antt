@@ -1,6 +1,5 @@
 -- What a session needs before it writes records, it has after one too.
-use Rattle.std.proofs.Common.{◌≡◌, ℕ, ◌+◌, ◌≤◌, None, List, IsTrue, sym, ◌∙◌, ap, arith}
-use Rattle.std.specs.Prelude.{slice_get}
+use Rattle.std.proofs.Common.{◌≡◌, ℕ, ◌+◌, ◌≤◌, None, IsTrue, sym, ◌∙◌, ap, arith}
 use Rattle.lvm_num.specs.declared.record.Stamp.{Stamp}
 use Rattle.lvm_num.specs.declared.descriptor.Descriptor.{Descriptor}
 use Rattle.lvm_num.specs.Descriptor.{is_member}
@@ -8,15 +7,12 @@ use Rattle.lvm_num.specs.Status.{calls_missing}
 use Rattle.lvm_num.specs.Votes.{CanWrite}
 use Rattle.lvm_disk.specs.Device.{Device}
 use Rattle.lvm_status.specs.Update.{Stored}
-use Rattle.lvm_write.specs.Written.{HasRoom}
+use Rattle.lvm_write.proofs.PartsLemmas.Transfers.{still_room}
 use Rattle.lvm_commit.specs.Committed.{next_stamp}
 use Rattle.lvm_commit.specs.Settling.{there, many_there, MaySettle, HasNumbers, SpendsNumbers, OnlyLoses}
 use Rattle.lvm_commit.proofs.SettlingLemmas.Chaining.{loses_less}
 use Rattle.lvm_commit.proofs.SettlingLemmas.Round.{no_more_there, fewer_there}
 use Rattle.lvm_commit.proofs.RoundsLemmas.Wanting.{row_stays}
-
-pub room_on : (old new : Device) (d : ℕ) → new.sizes ≡ old.sizes → HasRoom old d → HasRoom new d
-room_on old new d same room = (room.0, ap (λ (sizes : List ℕ). slice_get sizes d) same ∙ room.1, room.2)
 
 pub may_settle_on :
     (d : Descriptor) (first last : Stored) (old new : Device) → MaySettle d first old → OnlyLoses first last old new → last.in_flight ≡ None → last.stamp.epoch ≡ first.stamp.epoch → new.sizes ≡ old.sizes → CanWrite last.group (there last)
@@ -28,7 +24,7 @@ may_settle_on d first last old new may loses idle epoch sizes votes = record {
   id = loses.rows.id ∙ may.id ∙ ap (λ (g : Descriptor). g.id) (sym loses.group);
   rows = λ disk. row_stays first.wanted last.wanted loses.rows disk ∙ may.rows disk ∙ ap (λ (g : Descriptor). is_member g disk) (sym loses.group);
   epoch = λ zero. may.epoch (sym epoch ∙ zero);
-  room = λ disk is. room_on old new disk sizes (may.room disk (loses_less first last old new loses disk is));
+  room = λ disk is. still_room old new disk sizes (may.room disk (loses_less first last old new loses disk is));
   votes = votes;
 }
 

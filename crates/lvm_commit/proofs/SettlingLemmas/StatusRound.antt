@@ -7,6 +7,7 @@ use Rattle.lvm_num.specs.Buffer.{Buffer, Sector}
 use Rattle.lvm_num.specs.Status.{calls_missing, IsValidStatus}
 use Rattle.lvm_num.specs.StatusBytes.{status_bytes, status_of}
 use Rattle.lvm_num.specs.Record.{Frames}
+use Rattle.lvm_num.proofs.Booleans.{place_below}
 use Rattle.lvm_disk.specs.Device.{Device, HasSectors}
 use Rattle.lvm_disk.specs.Paths.{DeviceStep, Path}
 use Rattle.lvm_disk.proofs.PathsLemmas.{map-path, last-path}
@@ -25,7 +26,6 @@ use Rattle.lvm_commit.proofs.SettlingLemmas.Chaining.{Goes, keeps_wider, record_
 use Rattle.lvm_commit.proofs.SettlingLemmas.Round.{record_goes, none_or_some, failed_is_missing, stamp_taken}
 use Rattle.lvm_commit.proofs.LawsOfWritesLemmas.Holding.{with_told}
 use Rattle.lvm_commit.proofs.LawsOfFindingLemmas.HoldingStatus.{status_moment_kept, status_moment_finds, status_holds}
-use Rattle.lvm_write.proofs.ShowsLemmas.{slot_two}
 
 -- ---- whose sectors are written
 
@@ -46,7 +46,7 @@ module _ (d : Descriptor) (now last : Stored) (slots next : Homes) (mid new : De
       let seq : last.stamp.seq ≡ now.stamp.seq + 1 = ap (λ (x : Stamp). x.seq) stamp_then in (
         w,
         record { kind = refl; status = now.wanted; own = may.id; content = refl },
-        record { frames = frames; slots = λ disk. slot_two (second_slots kind.Status slots disk); targets = λ disk is. is; epoch = refl; later = omega arith; latest = omega (arith, seq); its = is },
+        record { frames = frames; slots = λ disk. place_below (second_slots kind.Status slots disk); targets = λ disk is. is; epoch = refl; later = omega arith; latest = omega (arith, seq); its = is },
       )
 
   before : Goes (IsOfRecord w) left after (stamped now) last mid new

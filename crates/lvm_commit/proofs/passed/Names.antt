@@ -1,6 +1,6 @@
 -- Passed on from the crates below.
-pub use Rattle.lvm_stamps.proofs.LawsLemmas.Shelves.{data_stays_behind, earlier_stays_behind}
-pub use Rattle.lvm_stamps.proofs.LawsLemmas.Stamps.{session_is_before_later}
+pub use Rattle.lvm_steps.proofs.LawsLemmas.Shelves.{data_stays_behind, earlier_stays_behind}
+pub use Rattle.lvm_steps.proofs.LawsLemmas.Stamps.{session_is_before_later}
 pub use Rattle.lvm_steps.proofs.ChangesLemmas.{put_keeps, serving}
 pub use Rattle.lvm_steps.proofs.EnteringLemmas.{calm_goes_on, quiet_goes_on}
 pub use Rattle.lvm_steps.proofs.GroupLemmas.Members.{member_of_parts}

@@ -1,6 +1,6 @@
 -- Passed on from the crates below.
-pub use Rattle.lvm_stamps.specs.Behind.{ClockIsAhead, IsBehind, beginning_at}
-pub use Rattle.lvm_stamps.specs.Laws.{IsOtherOrEarlier}
+pub use Rattle.lvm_steps.specs.Behind.{ClockIsAhead, IsBehind, beginning_at}
+pub use Rattle.lvm_steps.specs.Laws.{IsOtherOrEarlier}
 pub use Rattle.lvm_steps.specs.Committing.{DiffersInVolume, IsServed}
 pub use Rattle.lvm_steps.specs.Moments.{Begins, Holds, ImagesKept, Keeps, SpanGoesOn, StaysKept}
 pub use Rattle.lvm_steps.specs.Requests.{at}

@@ -22,7 +22,7 @@ use Rattle.lvm_commit.specs.LawsOfVolumes.{VolumeServes}
 use Rattle.lvm_commit.specs.Settling.{MayCommit, IsOf, IsOfCommit, IsPlain, SessionIsHeld, ComesHeld}
 use Rattle.lvm_commit.proofs.SettlingLemmas.Chaining.{keeps_wider}
 use Rattle.lvm_core.specs.declared.fault.CommitFault.{CommitFault}
-use Rattle.lvm_over.specs.passed.Names.{Core, State, is_there}
+use Rattle.lvm_session.specs.State.{Core, State, is_there}
 use Rattle.lvm_core.specs.Sound.{IsSoundBetween}
 use Rattle.lvm_core.specs.Held.{IsHeld}
 use Rattle.lvm_core.specs.Settled.{IsSettled}

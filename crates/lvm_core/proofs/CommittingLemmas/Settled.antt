@@ -28,8 +28,11 @@ use Rattle.lvm_commit.specs.Settling.{HasSameRows, IsForgotten, there, many_ther
 use Rattle.lvm_commit.proofs.RoundsLemmas.Wanting.{row_stays}
 use Rattle.lvm_commit.proofs.SettlingLemmas.Chaining.{stays_before}
 use Rattle.lvm_core.specs.declared.fault.CommitFault.{CommitFault}
-use Rattle.lvm_over.specs.passed.SessionOpenPower as power
-use Rattle.lvm_over.specs.passed.Names.{Core, State, state, is_there, all_dark, IsPlaced, ArePlaced, is_dark}
+use Rattle.lvm_session.specs.declared.open.Power.TheVariants as power
+use Rattle.lvm_session.specs.State.{Core, State, state, is_there}
+use Rattle.lvm_session.specs.Dark.{all_dark}
+use Rattle.lvm_session.specs.Placed.{IsPlaced, ArePlaced}
+use Rattle.lvm_session.specs.Sound.{is_dark}
 use Rattle.lvm_core.specs.Sound.{HasNoneOpen, IsFittingBetween, IsSoundBetween}
 use Rattle.lvm_core.specs.Settled.{IsSettled}
 use Rattle.lvm_core.specs.Committing.{with_one_out, RecordsEnd, FailsCommitted, moment_of, StaysBehind}

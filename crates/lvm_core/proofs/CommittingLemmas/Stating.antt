@@ -1,7 +1,7 @@
 -- What a session and its shelf are after a status with marks was committed.
 use Rattle.std.proofs.Common.{◌≡◌, ◌⊎◌, ℕ, ◌<◌, ◌++◌, Bool, true, false, List, refl, sym, ◌∙◌, ap, subst, ⊎_elim, inl, inr}
 use Rattle.std.specs.Prelude.{◌&&◌, ◌||◌, not, IsTrue, Result, IsOk, Contains}
-use Rattle.std.proofs.lemmas.Bool.{false≢true}
+use Rattle.std.proofs.lemmas.Bool.{false≢true, false_from_ne_true as isnt}
 use Rattle.lvm_num.specs.declared.place.Pp.{Pp}
 use Rattle.lvm_num.specs.declared.record.Stamp.{Stamp}
 use Rattle.lvm_num.specs.declared.descriptor.Descriptor.{Descriptor}
@@ -22,7 +22,8 @@ use Rattle.lvm_commit.specs.Settling.{IsPassedOver, there, IsOf, IsOfStatus, IsP
 use Rattle.lvm_commit.proofs.SettlingLemmas.Chaining.{keeps_wider}
 use Rattle.lvm_commit.proofs.RoundsLemmas.Leaving.{passed_before}
 use Rattle.lvm_core.specs.declared.fault.CommitFault.{CommitFault}
-use Rattle.lvm_over.specs.passed.Names.{State, is_among, is_there}
+use Rattle.lvm_session.specs.State.{State, is_there}
+use Rattle.lvm_session.specs.Marks.{is_among}
 use Rattle.lvm_core.specs.Sound.{IsSoundBetween}
 use Rattle.lvm_core.specs.Held.{IsHeld}
 use Rattle.lvm_core.specs.Settled.{IsSettled}
@@ -33,7 +34,7 @@ use Rattle.lvm_core.proofs.LeavesLemmas.{finds_nothing, passed_behind}
 use Rattle.lvm_core.proofs.SoundLemmas.Own.{SameSizes}
 use Rattle.lvm_core.proofs.CommittingLemmas.Spanning.{path_falls}
 use Rattle.lvm_core.proofs.CommittingLemmas.Settled.{IsBegun, there_is, there_first, group_is, settles_sound, settles_numbers, records_end, fails_committed, sizes_stay, settles_history, settles_keep, settles_calm, settles_behind}
-use Rattle.lvm_core.proofs.SettlingLemmas.{among_at, isnt, holds_session, first_is_of, begun, first_held, wants_marks, none_first, first_none}
+use Rattle.lvm_core.proofs.SettlingLemmas.{among_at, holds_session, first_is_of, begun, first_held, wants_marks, none_first, first_none}
 
 -- ---- marks
 

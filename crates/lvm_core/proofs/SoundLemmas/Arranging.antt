@@ -6,8 +6,11 @@ use Rattle.lvm_disk.specs.Device.{Device, Flight}
 use Rattle.lvm_disk.specs.Steps.{Cuts, GoesDark, with_order, ArrangeGives}
 use Rattle.lvm_disk.specs.declared.shelf.Arrange.{Arrange}
 use Rattle.lvm_disk.specs.declared.shelf.Arrange.TheVariants as arrange
-use Rattle.lvm_over.specs.passed.SessionOpenPower as power
-use Rattle.lvm_over.specs.passed.Names.{Core, state, all_dark, after_arrange, ArePlaced, IsDark, has_number, is_dark}
+use Rattle.lvm_session.specs.declared.open.Power.TheVariants as power
+use Rattle.lvm_session.specs.State.{Core, state}
+use Rattle.lvm_session.specs.Dark.{all_dark, after_arrange}
+use Rattle.lvm_session.specs.Placed.{ArePlaced}
+use Rattle.lvm_session.specs.Sound.{IsDark, has_number, is_dark}
 use Rattle.lvm_core.specs.Sound.{HasNoneOpen, IsSoundBetween}
 use Rattle.lvm_core.proofs.SoundLemmas.Dark.{cut_core, cut_fits, cut_landed, dark_is, on_shelf, out_is}
 use Rattle.lvm_core.proofs.SoundLemmas.Own.{SameSizes, same_sizes}

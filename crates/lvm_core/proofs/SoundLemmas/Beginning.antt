@@ -11,8 +11,9 @@ use Rattle.lvm_session_start.specs.passed.Names.{Waiting}
 use Rattle.lvm_mwc.specs.Entries.{AreEntries}
 use Rattle.lvm_status.specs.Update.{Updates}
 use Rattle.lvm_rec.specs.declared.homes.Homes.{Homes}
-use Rattle.lvm_over.specs.passed.SessionOpenPower as power
-use Rattle.lvm_over.specs.passed.Names.{Core, state, ArePlaced}
+use Rattle.lvm_session.specs.declared.open.Power.TheVariants as power
+use Rattle.lvm_session.specs.State.{Core, state}
+use Rattle.lvm_session.specs.Placed.{ArePlaced}
 use Rattle.lvm_session_start.specs.declared.parts.Parts.{Parts}
 use Rattle.lvm_session_start.specs.Parts.{IsReserved}
 use Rattle.lvm_session_start.specs.Beginning.{first_core}

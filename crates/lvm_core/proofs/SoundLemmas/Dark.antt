@@ -5,9 +5,15 @@ use Rattle.lvm_disk.specs.Device.{Device, Flight}
 use Rattle.lvm_vol.specs.Facts.{Fact, Cut, begun_by}
 use Rattle.lvm_vol.specs.Log.{Log, cut_log, is_uncut, lands_id, with_fact}
 use Rattle.lvm_session_start.proofs.passed.Names.{open_still}
-use Rattle.lvm_over.specs.passed.Names.{Open, Power, Flown, OpenCopy, Core, AreTold, all_dark, hand_of_copy, count_if, hands_with, has_number, is_hand, out_with}
-use Rattle.lvm_over.specs.passed.SessionOpenPower as power
-use Rattle.lvm_over.specs.Hands.{AreInHand, IsOutIf, MayEnd}
+use Rattle.lvm_session.specs.declared.open.Open.{Open}
+use Rattle.lvm_session.specs.declared.open.Power.{Power}
+use Rattle.lvm_session.specs.declared.flown.Flown.{Flown}
+use Rattle.lvm_session.specs.declared.bringing.OpenCopy.{OpenCopy}
+use Rattle.lvm_session.specs.State.{Core}
+use Rattle.lvm_session.specs.Dark.{AreTold, all_dark, hand_of_copy}
+use Rattle.lvm_session.specs.Sound.{count_if, hands_with, has_number, is_hand, out_with}
+use Rattle.lvm_session.specs.declared.open.Power.TheVariants as power
+use Rattle.lvm_session.specs.Hands.{AreInHand, IsOutIf, MayEnd}
 use Rattle.lvm_core.specs.Sound.{HasNoneOpen, HaveAllLanded, IsFittingBetween}
 
 -- ---- the session afterwards

@@ -6,7 +6,7 @@ use Rattle.lvm_vol.specs.declared.entry.Entry.TheVariants as entry
 use Rattle.lvm_vol.specs.Facts.{Fact, Making, Made, Removing, Removed}
 use Rattle.lvm_vol.specs.Log.{is_open, with_fact, plain_fact}
 use Rattle.lvm_session_start.proofs.passed.Names.{open_still}
-use Rattle.lvm_over.specs.passed.Names.{Core, state}
+use Rattle.lvm_session.specs.State.{Core, state}
 use Rattle.lvm_core.specs.Sound.{IsSoundBetween}
 use Rattle.lvm_core.specs.Entering.{IsOfVolume}
 use Rattle.lvm_core.proofs.SoundLemmas.Own.{fits_with}

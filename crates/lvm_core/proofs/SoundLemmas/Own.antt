@@ -3,12 +3,21 @@ use Rattle.std.proofs.Common.{◌≡◌, inl, inr, ℕ, zero, suc, ◌≤◌, �
 use Rattle.std.specs.Prelude.{count_by, slice_index_or, ◌==◌}
 use Rattle.std.proofs.lemmas.Bool.Decides.{nat_tests}
 use Rattle.lvm_num.specs.Buffer.{Buffer}
+use Rattle.lvm_num.proofs.Lists.{none_out}
 use Rattle.lvm_disk.specs.Device.{Device, Flight, IsReady}
 use Rattle.lvm_vol.specs.Log.{Log}
 use Rattle.lvm_write.specs.Written.{FreesAtMost, IsDarkened, IsGivenUp}
-use Rattle.lvm_over.specs.passed.Names.{Power, Session, core_of, HasRooms, SameRooms, Core, state, is_lost, all_dark, ArePlaced, count_if, has_number, is_dark, out_with}
-use Rattle.lvm_over.specs.passed.SessionOpenPower as power
-use Rattle.lvm_over.proofs.passed.Names.{rooms_last}
+use Rattle.lvm_session.specs.declared.open.Power.{Power}
+use Rattle.lvm_session.specs.declared.session.Session.{Session}
+use Rattle.lvm_session.specs.Fields.{core_of}
+use Rattle.lvm_session.specs.Rooms.{HasRooms, SameRooms}
+use Rattle.lvm_session.specs.State.{Core, state}
+use Rattle.lvm_session.specs.Enabled.{is_lost}
+use Rattle.lvm_session.specs.Dark.{all_dark}
+use Rattle.lvm_session.specs.Placed.{ArePlaced}
+use Rattle.lvm_session.specs.Sound.{count_if, has_number, is_dark, out_with}
+use Rattle.lvm_session.specs.declared.open.Power.TheVariants as power
+use Rattle.lvm_session.proofs.RoomsLemmas.{rooms_last}
 use Rattle.lvm_core.specs.Sound.{HasNoneOpen, HaveAllLanded, IsFittingBetween, IsSoundBetween}
 use Rattle.lvm_core.specs.Committing.{with_one_out}
 use Rattle.lvm_core.proofs.SoundLemmas.Dark.{cut_core, cut_fits, fits_again, cut_landed, dark_is, on_shelf, out_is}
@@ -37,11 +46,6 @@ pub rooms_stay : (old new : Session) → HasRooms old → SameRooms old new → 
 rooms_stay old new has same sizes = rooms_last old new has same sizes.most sizes.buffers
 
 -- ---- the buffers
-
-pub none_out : (count n : ℕ) → slice_index_or (replicate count false) n false ≡ false
-none_out zero n = refl
-none_out (suc count) zero = refl
-none_out (suc count) (suc n) = none_out count n
 
 all_in : (pool : List Bool) (n : ℕ) → pool ≡ replicate (length pool) false → slice_index_or pool n false ≡ false
 all_in pool n all = ap (λ (p : List Bool). slice_index_or p n false) all ∙ none_out (length pool) n

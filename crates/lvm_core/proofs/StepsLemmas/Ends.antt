@@ -6,14 +6,16 @@ use Rattle.lvm_num.specs.declared.descriptor.Descriptor.{Descriptor}
 use Rattle.lvm_num.specs.Descriptor.{IsValid}
 use Rattle.lvm_num.specs.DescriptorBytes.{descriptor_bytes}
 use Rattle.lvm_disk.specs.Device.{Device}
-use Rattle.lvm_over.specs.passed.Names.{IsOut, Core, State, all_dark}
+use Rattle.lvm_session.specs.passed.Names.{IsOut}
+use Rattle.lvm_session.specs.State.{Core, State}
+use Rattle.lvm_session.specs.Dark.{all_dark}
 use Rattle.lvm_status.specs.Update.{Stored}
 use Rattle.lvm_rec.specs.declared.homes.Homes.{Homes}
 use Rattle.lvm_commit.specs.declared.commit.CommitEnd.{CommitEnd}
 use Rattle.lvm_commit.specs.declared.commit.CommitEnd.TheVariants as commit_end
 use Rattle.lvm_commit.specs.Settling.{IfBack, EndsAtOnce, IsOfStatus, IsOfCommit, StatusStaysKept, DescriptorStaysKept, StatusFindsNothingNew, CommitFindsNoMore, CommitLeaves, SettleEnds, StatusEnds, DescriptorEnds}
 use Rattle.lvm_core.specs.declared.fault.CommitFault.{CommitFault}
-use Rattle.lvm_over.specs.passed.SessionOpenPower as power
+use Rattle.lvm_session.specs.declared.open.Power.TheVariants as power
 use Rattle.lvm_core.specs.Committing.{with_one_out}
 use Rattle.lvm_core.specs.Steps.{IsMarked, EndsAs, CoreEnds, CommitsDescriptor, CommitsMarks, EndsWith}
 use Rattle.lvm_core.proofs.CommittingLemmas.Buffers.{one_is_out, back_again}

@@ -20,7 +20,7 @@ use Rattle.lvm_status.specs.Calls.{BecomesStale, BecomesFresh, IsMarkable, close
 use Rattle.lvm_write.specs.Written.{HaveRoom}
 use Rattle.lvm_commit.specs.Settling.{HasSameRows, IsForgotten, MayCommit, MaySettle, many_there, there}
 use Rattle.lvm_commit.proofs.RoundsLemmas.Wanting.{row_stays}
-use Rattle.lvm_over.specs.passed.Names.{is_among}
+use Rattle.lvm_session.specs.Marks.{is_among}
 use Rattle.lvm_core.specs.Committing.{Marks}
 use Rattle.lvm_core.specs.Steps.{IsMarked, WantsMarksAtMost}
 pub use Rattle.lvm_num.proofs.DescriptorLemmas.Partitions.{one_partition as pp_is}

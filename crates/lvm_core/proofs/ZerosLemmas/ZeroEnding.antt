@@ -17,7 +17,8 @@ use Rattle.lvm_commit.proofs.LawsOfDataLemmas.Still.{data_keeps_committed}
 use Rattle.lvm_commit.proofs.LawsOfFindingLemmas.NoMore.{data_finds_nothing_new}
 use Rattle.lvm_kept.specs.Contents.{contents_of}
 use Rattle.lvm_core.specs.declared.fault.CommitFault.{CommitFault}
-use Rattle.lvm_over.specs.passed.Names.{Core, State, is_there, all_dark}
+use Rattle.lvm_session.specs.State.{Core, State, is_there}
+use Rattle.lvm_session.specs.Dark.{all_dark}
 use Rattle.lvm_core.specs.Held.{IsHeld}
 use Rattle.lvm_core.specs.Committing.{with_one_out, StaysBehind}
 use Rattle.lvm_core.specs.Zeros.{IsZeroOf, KeepsRecords, ZeroEnds, GoesOnAfter, WritesZeros}

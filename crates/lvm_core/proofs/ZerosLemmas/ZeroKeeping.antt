@@ -32,7 +32,10 @@ use Rattle.lvm_commit.specs.Settling.{SpendsNumbers}
 use Rattle.lvm_commit.proofs.SettlingLemmas.Chaining.{keeps_wider}
 use Rattle.lvm_commit.proofs.LawsOfDataLemmas.Data.{free_data_keeps}
 use Rattle.lvm_core.specs.declared.fault.CommitFault.{CommitFault}
-use Rattle.lvm_over.specs.passed.Names.{Core, State, state, is_there, all_dark, ArePlaced, is_dark}
+use Rattle.lvm_session.specs.State.{Core, State, state, is_there}
+use Rattle.lvm_session.specs.Dark.{all_dark}
+use Rattle.lvm_session.specs.Placed.{ArePlaced}
+use Rattle.lvm_session.specs.Sound.{is_dark}
 use Rattle.lvm_core.specs.Sound.{HasNoneOpen, IsSoundBetween}
 use Rattle.lvm_core.specs.Held.{IsHeld}
 use Rattle.lvm_core.specs.Settled.{IsSettled}

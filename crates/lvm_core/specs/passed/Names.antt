@@ -5,7 +5,9 @@ pub use Rattle.lvm_commit.specs.LawsOfVolumes.{HasFreshCopies, IsOneByAllOn, IsO
 pub use Rattle.lvm_commit.specs.Settling.{HasLostQuorum, IsOfCommit, IsOfSession, IsOfStatus, IsPassedOver, MarksLeft, NoneIsLeft, StatesGroup, many_there, there}
 pub use Rattle.lvm_kept.specs.Group.{IsOneOf}
 pub use Rattle.lvm_quorum.specs.declared.choice.Choice.{Choice}
-pub use Rattle.lvm_over.specs.passed.Names.{ArePlaced, IsPlaced, Core, State, is_among, is_there, votes_there}
+pub use Rattle.lvm_session.specs.Placed.{ArePlaced, IsPlaced}
+pub use Rattle.lvm_session.specs.State.{Core, State, is_there, votes_there}
+pub use Rattle.lvm_session.specs.Marks.{is_among}
 pub use Rattle.lvm_session_start.specs.Beginning.{AreFaults, first_core}
 pub use Rattle.lvm_session_start.specs.Parts.{IsOneGroup}
 pub use Rattle.lvm_session_start.specs.declared.parts.Parts.{Parts}

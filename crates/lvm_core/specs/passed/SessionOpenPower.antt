@@ -1,2 +1,2 @@
 -- Passed on from the crates below.
-pub use Rattle.lvm_over.specs.passed.SessionOpenPower.{Dark, Off, On}
+pub use Rattle.lvm_session.specs.declared.open.Power.TheVariants.{Dark, Off, On}

@@ -1,6 +1,7 @@
 -- What a session sees kept of a block is kept on the disks.
 use Rattle.std.proofs.Common.{◌≡◌, inl, inr, ⊎_elim, ℕ, ◌+◌, ◌*◌, ◌≤◌, ◌/◌, Bool, ◌&&◌, not, List, Some, refl, ap, subst, ◌∙◌, arith}
 use Rattle.std.specs.Prelude.{IsTrue}
+use Rattle.std.proofs.lemmas.Bool.{not_from_false}
 use Rattle.std.proofs.lemmas.Nat.{div-mul-add}
 use Rattle.lvm_num.specs.declared.place.Pp.{Pp}
 use Rattle.lvm_num.specs.declared.descriptor.Mode.{Mode}
@@ -24,7 +25,7 @@ use Rattle.lvm_invariant.specs.State.{ModelState}
 use Rattle.lvm_invariant.specs.Crash.{Fresh, MayDifferAfter, BlockKept}
 use Rattle.lvm_crash.specs.Session.{marks_of, view_of, members_showing, HasVolumes}
 use Rattle.lvm_num.specs.Modes.{is_active, is_passive}
-use Rattle.lvm_crash.proofs.GroupLemmas.Lists.{left_of, right_of, both_of, not_so, so_not, of_passing, one_passes}
+use Rattle.lvm_crash.proofs.GroupLemmas.Lists.{left_of, right_of, both_of, not_so, of_passing, one_passes}
 
 -- a member among some disks is one among all
 member_there : (c : Contents) (disks : Disks) (group : Descriptor) (d : ℕ) → IsTrue (members_in c disks group.id group d) → IsTrue (members_showing c group d)
@@ -74,7 +75,7 @@ module _ (s : ModelState) (facts : List Fact) (group : Descriptor) (c : Contents
       let stays = kept.some one_copy.0 ((volumes.copies row lp b one_copy.0 one inside).1 (one_copy.1, one_copy.2)) in
       let at = (volumes.copies row lp b stays.0 one inside).0 stays.1.copy in
       one_passes (λ p. members_showing c group p.disk && not (is_stale_by (Some r) p)) (copies_of row lp) stays.0 at.0
-      (both_of (members_showing c group stays.0.disk) (not (is_stale_by (Some r) stays.0)) at.1 (so_not (is_stale_by (Some r) stays.0) stays.1.fresh))
+      (both_of (members_showing c group stays.0.disk) (not (is_stale_by (Some r) stays.0)) at.1 (not_from_false (is_stale_by (Some r) stays.0) stays.1.fresh))
 
 -- each logical partition has a block
 pub block_of : (mib lp : ℕ) → 1 ≤ mib → partition_of mib (lp * partition_blocks mib) ≡ lp

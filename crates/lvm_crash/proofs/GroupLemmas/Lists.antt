@@ -1,14 +1,10 @@
 -- Lists of which those are left that pass a test.
-use Rattle.std.proofs.Common.{inl, inr, Bool, true, false, not, List, [], ◌∷◌, refl, sym, ap, ◌∙◌}
-use Rattle.std.specs.Prelude.{IsTrue, IsFalse, filter, if◌then◌else◌}
+use Rattle.std.proofs.Common.{inl, inr, Bool, true, false, List, [], ◌∷◌, sym, ap, ◌∙◌}
+use Rattle.std.specs.Prelude.{IsTrue, filter, if◌then◌else◌}
 use Rattle.lvm_kept.specs.Group.{IsOneOf, IsSome}
 pub use Rattle.lvm_num.proofs.AmongLemmas.{of_passing}
 pub use Rattle.lvm_invariant.proofs.Small.{left_of, right_of, both_of}
 pub use Rattle.std.proofs.lemmas.Bool.{not-true as not_so}
-
-pub so_not : (b : Bool) → IsFalse b → IsTrue (not b)
-so_not true h = absurd cc
-so_not false h = refl
 
 -- where one passes, one is left
 pub one_passes : {X : Type 0} (test : X → Bool) (list : List X) (x : X) → IsOneOf list x → IsTrue (test x) → IsSome (filter test list)

@@ -1,10 +1,10 @@
 -- What is asked of statuses is kept.
 use Rattle.std.proofs.Common.{◌≡◌, ⊎_elim, true, Some, None, refl, sym, ap, ◌∙◌, arith}
+use Rattle.std.proofs.lemmas.Option.{same_Some}
 use Rattle.std.proofs.lemmas.Bool.Decides.{nat_tests}
 use Rattle.lvm_num.specs.declared.record.Stamp.{Stamp}
 use Rattle.lvm_num.specs.declared.status.Status.{Status}
 use Rattle.lvm_num.specs.Record.{Stamped, stamp_lt}
-use Rattle.lvm_kept.proofs.CommittedLemmas.Finding.{some_same}
 use Rattle.lvm_crash.specs.Lasting.{StatusesLast}
 
 not_before : (a : Stamp) → stamp_lt a a ≡ true → ⊥
@@ -14,10 +14,10 @@ pub statuses_last : StatusesLast
 statuses_last = record {
   begins = λ s group c u has own later. record {
     same = refl;
-    own = λ v is. ap (λ (x : Stamped Status). x.value.id) (sym (some_same u v is)) ∙ own;
+    own = λ v is. ap (λ (x : Stamped Status). x.value.id) (sym (same_Some u v is)) ∙ own;
     once = has.once;
     new = λ v d r is there ids stamps.
-        let one : u ≡ v = some_same u v is in
+        let one : u ≡ v = same_Some u v is in
         absurd (not_before u.stamp (ap (λ (x : Stamp). stamp_lt x u.stamp) (sym (stamps ∙ ap (λ (x : Stamped Status). x.stamp) (sym one))) ∙ later d r there (ids ∙ ap (λ (x : Stamped Status). x.value.id) (sym one))));
   };
   moves = λ s new group in_flight old now has same each. record {
@@ -26,18 +26,18 @@ statuses_last = record {
     once = λ d e r t is also ids stamps. ⊎_elim
         (λ old_r. ⊎_elim
         (λ old_t. has.once d e r t (sym old_r ∙ is) (sym old_t ∙ also) ids stamps)
-        (λ new_t. let one : t ≡ new_t.0 = some_same t new_t.0 (sym also ∙ new_t.2) in
+        (λ new_t. let one : t ≡ new_t.0 = same_Some t new_t.0 (sym also ∙ new_t.2) in
         has.new new_t.0 d r new_t.1 (sym old_r ∙ is) (ids ∙ ap (λ (x : Stamped Status). x.value.id) one) (stamps ∙ ap (λ (x : Stamped Status). x.stamp) one) ∙ sym one)
         (each e))
-        (λ new_r. let one : r ≡ new_r.0 = some_same r new_r.0 (sym is ∙ new_r.2) in ⊎_elim
+        (λ new_r. let one : r ≡ new_r.0 = same_Some r new_r.0 (sym is ∙ new_r.2) in ⊎_elim
         (λ old_t. one
         ∙ sym (has.new new_r.0 e t new_r.1 (sym old_t ∙ also) (sym ids ∙ ap (λ (x : Stamped Status). x.value.id) one) (sym stamps ∙ ap (λ (x : Stamped Status). x.stamp) one)))
-        (λ new_t. one ∙ some_same new_r.0 new_t.0 (sym new_r.1 ∙ new_t.1) ∙ sym (some_same t new_t.0 (sym also ∙ new_t.2)))
+        (λ new_t. one ∙ same_Some new_r.0 new_t.0 (sym new_r.1 ∙ new_t.1) ∙ sym (same_Some t new_t.0 (sym also ∙ new_t.2)))
         (each e))
         (each d);
     new = λ u d r is there ids stamps. ⊎_elim
         (λ old_r. has.new u d r is (sym old_r ∙ there) ids stamps)
-        (λ new_r. some_same r new_r.0 (sym there ∙ new_r.2) ∙ some_same new_r.0 u (sym new_r.1 ∙ is))
+        (λ new_r. same_Some r new_r.0 (sym there ∙ new_r.2) ∙ same_Some new_r.0 u (sym new_r.1 ∙ is))
         (each d);
   };
   ends = λ s group in_flight c has. record {

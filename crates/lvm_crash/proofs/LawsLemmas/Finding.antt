@@ -1,6 +1,7 @@
 -- Which status the members of a group that can read find after a loss of power.
-use Rattle.std.proofs.Common.{◌≡◌, ⊎_elim, ℕ, ◌<◌, Bool, true, false, Option, Some, None, refl, sym, ap, ◌∙◌}
-use Rattle.std.specs.Prelude.{IsTrue, option_map, if◌then◌else◌}
+use Rattle.std.proofs.Common.{◌≡◌, ⊎_elim, ℕ, ◌<◌, Option, Some, None, refl, sym, ap, ◌∙◌}
+use Rattle.std.specs.Prelude.{IsTrue, option_map}
+use Rattle.std.proofs.lemmas.Option.{same_Some}
 use Rattle.lvm_num.specs.declared.status.Status.{Status}
 use Rattle.lvm_num.specs.declared.descriptor.Descriptor.{Descriptor}
 use Rattle.lvm_num.specs.Disks.{Disks}
@@ -8,10 +9,11 @@ use Rattle.lvm_num.specs.Record.{Stamped, stamp_lt}
 use Rattle.lvm_num.specs.Votes.{CanRead}
 use Rattle.lvm_num.proofs.VotesLemmas.{read_meets_write}
 use Rattle.lvm_num.proofs.RecordLemmas.Newest.{is_one, is_last}
+use Rattle.lvm_num.proofs.Booleans.{let_through, passed_if}
 use Rattle.lvm_kept.specs.Contents.{Contents}
 use Rattle.lvm_kept.specs.Group.{if_passes, is_status_of, members_in, status_by}
 use Rattle.lvm_kept.specs.Committed.{IsWithinDisks}
-use Rattle.lvm_kept.proofs.CommittedLemmas.Finding.{passed, some_same, offered, is_offered}
+use Rattle.lvm_kept.proofs.CommittedLemmas.Finding.{offered, is_offered}
 use Rattle.lvm_invariant.specs.State.{Marks, ModelState}
 use Rattle.lvm_invariant.specs.Found.{Votes, Found, HasIt}
 use Rattle.lvm_invariant.specs.Crash.{IsCrash, IsPossible}
@@ -21,11 +23,7 @@ use Rattle.lvm_crash.specs.Session.{marks_of, as_marks, marks_shown, view_of, Ar
 -- marks are shown by a record
 shown_by : (o : Option (Stamped Status)) (x : Stamped Marks) → option_map as_marks o ≡ Some x → (r : Stamped Status) × (o ≡ Some r) × (x ≡ as_marks r)
 shown_by None x e = absurd cc
-shown_by (Some r) x e = (r, refl, sym (some_same (as_marks r) x e))
-
-let_through : {X : Type 0} (test : Bool) (o : Option X) → test ≡ true → (if test then o else None) ≡ o
-let_through true o e = refl
-let_through false o e = absurd cc
+shown_by (Some r) x e = (r, refl, sym (same_Some (as_marks r) x e))
 
 -- the status that members find, and that it is one of the two
 pub record FindsStatus (s : ModelState) (group : Descriptor) (c : Contents) (disks : Disks) : Type 0 where
@@ -63,10 +61,10 @@ module _ (votes : Votes) (s : ModelState) (group : Descriptor) (c : Contents) (a
 
   module _ (d : ℕ) (r : Stamped Status) (e : offer d ≡ Some r) where
     in_set : IsTrue (set d)
-    in_set = (passed (set d) (if_passes (is_status_of group.id) (c.status d)) r e).0
+    in_set = (passed_if (set d) (if_passes (is_status_of group.id) (c.status d)) r e).0
 
     its_marks : marks_shown group.id (c.status d) ≡ Some (as_marks r)
-    its_marks = ap (option_map as_marks) (passed (set d) (if_passes (is_status_of group.id) (c.status d)) r e).1
+    its_marks = ap (option_map as_marks) (passed_if (set d) (if_passes (is_status_of group.id) (c.status d)) r e).1
 
   pub finds_status : FindsStatus s group c disks
   finds_status =
@@ -85,6 +83,6 @@ module _ (votes : Votes) (s : ModelState) (group : Descriptor) (c : Contents) (a
               let e : offer d ≡ Some r.0 = let_through (set d) (if_passes (is_status_of group.id) (c.status d)) member ∙ r.1 in
               let newest = is_last Status offer c.disks d r.0 (inside d r.0 e) e in
               ap (λ (x : Stamped Marks). stamp_lt last.0.stamp x.stamp) r.2
-              ∙ ap (λ (x : Stamped Status). stamp_lt x.stamp r.0.stamp) (some_same last.0 newest.0 (sym last.1 ∙ newest.1)) ∙ newest.2;
+              ∙ ap (λ (x : Stamped Status). stamp_lt x.stamp r.0.stamp) (same_Some last.0 newest.0 (sym last.1 ∙ newest.1)) ∙ newest.2;
         });
       }

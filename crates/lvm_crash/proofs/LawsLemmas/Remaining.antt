@@ -1,6 +1,7 @@
 -- What a loss of power leaves keeps the history.
 use Rattle.std.proofs.Common.{◌≡◌, inl, inr, ⊎_elim, ℕ, ◌*◌, ◌<◌, ◌≤◌, Bool, true, false, List, [], ◌∷◌, ◌++◌, length, Option, Some, None, refl, sym, ap, subst, ◌∙◌}
 use Rattle.std.specs.Prelude.{IsTrue, ◌==◌, option_map, find, if◌then◌else◌}
+use Rattle.std.proofs.lemmas.Option.{same_Some}
 use Rattle.std.proofs.lemmas.Bool.{eq-eqb, eqb-true}
 use Rattle.lvm_num.specs.declared.descriptor.PvRow.{PvRow}
 use Rattle.lvm_num.specs.declared.descriptor.LvRow.{LvRow}
@@ -23,7 +24,7 @@ use Rattle.lvm_kept.specs.Contents.{Contents}
 use Rattle.lvm_kept.specs.Group.{is_voter, status_among, Finds, IsFound, members_in, status_by, Reads, ReadsBy, fresh_on, names_if, IsOneOf, IsSome}
 use Rattle.lvm_kept.specs.Kept.{HasStatus, IsBlockKept, BlocksKept, RawAgrees, IsAvailable, StandsAs, Kept}
 use Rattle.lvm_kept.specs.Committed.{IsWithinDisks}
-use Rattle.lvm_kept.proofs.CommittedLemmas.Finding.{some_same, finding_reads}
+use Rattle.lvm_kept.proofs.CommittedLemmas.Finding.{finding_reads}
 use Rattle.lvm_kept.proofs.ChangesLemmas.Entries.{volume_is_row}
 use Rattle.lvm_kept.proofs.GroupLemmas.{still_finds, finds_before}
 use Rattle.lvm_invariant.specs.State.{ModelState}
@@ -189,7 +190,7 @@ module _ (old : Contents) (status : ℕ → Option (Stamped Status)) (note : ℕ
 
     partitions : (id : ℕ) (g h : Descriptor) → IsFound new id g → IsFound new id h → (d : ℕ) (p q : PvRow) → member_of g d ≡ Some p → member_of h d ≡ Some q → p.pps ≡ q.pps
     partitions id g h is also d p q of_g of_h = by_id id group.id
-        (λ same. ap (λ (row : PvRow). row.pps) (some_same p q (sym of_g ∙ ap (λ (k : Descriptor). member_of k d) (one_group_of id g h same is also) ∙ of_h)))
+        (λ same. ap (λ (row : PvRow). row.pps) (same_Some p q (sym of_g ∙ ap (λ (k : Descriptor). member_of k d) (one_group_of id g h same is also) ∙ of_h)))
         (λ apart. others.partitions id g h apart is also d p q of_g of_h)
 
     -- ---- one set, by its own descriptor and its own status

@@ -1,6 +1,7 @@
 -- The shelf of a worked session: what its records say.
 use Rattle.std.proofs.Common.{◌≡◌, ℕ, ◌+◌, ◌<◌, Bool, true, false, ◌&&◌, ◌||◌, ◌==◌, List, [], length, take, get_or, Option, Some, None, Ok, refl, sym, ap, subst, ◌∙◌, arith, eqb-true}
 use Rattle.std.specs.Prelude.{if◌then◌else◌, nat_lt, nat_le, option_and_then}
+use Rattle.std.proofs.lemmas.Bool.{ne_eqb}
 use Rattle.std.proofs.lemmas.Bool.Decides.{nat_tests}
 use Rattle.std.proofs.lemmas.List.Elements.{All-cons, All-nil}
 use Rattle.lvm_num.specs.declared.place.Pp.{Pp}
@@ -33,11 +34,11 @@ use Rattle.lvm_invariant.specs.First.{two_disks, marks_with, on_both, at_rest}
 use Rattle.lvm_invariant.specs.Worked.{first_group}
 use Rattle.lvm_crash.specs.Session.{marks_shown, members_showing, HasVolumes, HasStatuses, Shows, Describes}
 use Rattle.lvm_crash.specs.Worked.{Shown, sizes, status_shown, note_shown, framed_group, framed_status, media_of}
-use Rattle.lvm_crash.proofs.WorkedLemmas.Worked.{base, behind, stands, volumes, its_marks}
+use Rattle.lvm_crash.proofs.WorkedLemmas.Worked.{base, stands, volumes, its_marks, first_partition}
 use Rattle.lvm_crash.proofs.LastingLemmas.Lasting.{group_stands}
 use Rattle.lvm_num.specs.Disks.{Disks}
 use Rattle.lvm_num.specs.declared.descriptor.Descriptor.{Descriptor}
-use Rattle.lvm_num.proofs.Booleans.{and_false}
+use Rattle.lvm_num.proofs.Booleans.{and_false, some_if}
 
 -- ---- the records are read
 
@@ -61,12 +62,6 @@ status_read w stale dirty e f = subst (λ (v : Shown). status_of (status_bytes (
     back = λ t. record w { stale = sym e t; dirty = sym f t }
 
 -- ---- slots
-
-pub one : (k : ℕ) → k < 1 → k ≡ 0
-one k low = omega arith
-
-pub not-equal : (a b : ℕ) → (a ≡ b → ⊥) → (a == b) ≡ false
-not-equal a b differ = grind (arith, nat_tests)
 
 pub no-magic : (kind : Kind) → take 2 zero_sector ≡ kind_magic kind → ⊥
 no-magic kind.Descriptor e = absurd (omega (arith, ap (λ (l : List ℕ). get_or l 0 0) e))
@@ -107,9 +102,9 @@ module _ (w : Shown) where
 
   zero_else : (d s : ℕ) → (s ≡ 512 → ⊥) → (s ≡ 64 → ⊥) → (s ≡ 8 → ⊥) → media_of w d s ≡ zero_sector
   zero_else d s a b c =
-      ap (λ (t : Bool). if t then frame kind.Descriptor (framed_group w.mode).stamp (framed_group w.mode).content 0 else if s == slot_start kind.Status 0 then frame kind.Status (framed_status w).stamp (framed_status w).content 0 else if w.named && s == note_sector then note_bytes note_shown else zero_sector) (not-equal s 512 a)
-      ∙ ap (λ (t : Bool). if t then frame kind.Status (framed_status w).stamp (framed_status w).content 0 else if w.named && s == note_sector then note_bytes note_shown else zero_sector) (not-equal s 64 b)
-      ∙ ap (λ (t : Bool). if w.named && t then note_bytes note_shown else zero_sector) (not-equal s 8 c)
+      ap (λ (t : Bool). if t then frame kind.Descriptor (framed_group w.mode).stamp (framed_group w.mode).content 0 else if s == slot_start kind.Status 0 then frame kind.Status (framed_status w).stamp (framed_status w).content 0 else if w.named && s == note_sector then note_bytes note_shown else zero_sector) (ne_eqb s 512 a)
+      ∙ ap (λ (t : Bool). if t then frame kind.Status (framed_status w).stamp (framed_status w).content 0 else if w.named && s == note_sector then note_bytes note_shown else zero_sector) (ne_eqb s 64 b)
+      ∙ ap (λ (t : Bool). if w.named && t then note_bytes note_shown else zero_sector) (ne_eqb s 8 c)
       ∙ ap (λ (t : Bool). if t then note_bytes note_shown else zero_sector) (and_false w.named)
 
   pub second_zero : (kind : Kind) (d k : ℕ) → k < slot_size kind → media_of w d (slot_start kind 1 + k) ≡ zero_sector
@@ -139,9 +134,9 @@ module _ (w : Shown) where
   group_first d = whole_is_read kind.Descriptor (framed_group w.mode) (slot_start kind.Descriptor 0) (media_of w d) (group_frames w.mode) (λ k low. whole k (one_sector w.mode k low))
     where
       one_sector : (mode : Mode) (k : ℕ) → k < record_sectors (length (framed_group mode).content) → k ≡ 0
-      one_sector Active k low = one k low
-      one_sector Passive k low = one k low
-      one_sector Off k low = one k low
+      one_sector Active k low = first_partition k low
+      one_sector Passive k low = first_partition k low
+      one_sector Off k low = first_partition k low
 
       whole : (k : ℕ) → k ≡ 0 → media_of w d (512 + k) ≡ frame kind.Descriptor (framed_group w.mode).stamp (framed_group w.mode).content k
       whole k is = subst (λ (n : ℕ). media_of w d (512 + n) ≡ frame kind.Descriptor (framed_group w.mode).stamp (framed_group w.mode).content n) (sym is) refl
@@ -150,10 +145,10 @@ module _ (w : Shown) where
   status_first d = whole_is_read kind.Status (framed_status w) (slot_start kind.Status 0) (media_of w d) (status_frames w.stale w.dirty) (λ k low. whole k (one_sector w.stale w.dirty k low))
     where
       one_sector : (stale dirty : Bool) (k : ℕ) → k < record_sectors (length (framed_status (record w { stale = stale; dirty = dirty })).content) → k ≡ 0
-      one_sector true true k low = one k low
-      one_sector true false k low = one k low
-      one_sector false true k low = one k low
-      one_sector false false k low = one k low
+      one_sector true true k low = first_partition k low
+      one_sector true false k low = first_partition k low
+      one_sector false true k low = first_partition k low
+      one_sector false false k low = first_partition k low
 
       whole : (k : ℕ) → k ≡ 0 → media_of w d (64 + k) ≡ frame kind.Status (framed_status w).stamp (framed_status w).content k
       whole k is = subst (λ (n : ℕ). media_of w d (64 + n) ≡ frame kind.Status (framed_status w).stamp (framed_status w).content n) (sym is) refl
@@ -194,7 +189,7 @@ module _ (w : Shown) where
       λ t. record { disks = 2; size = image.size; descriptor = λ d. descriptor d t; status = status_on image; note = note_on image; block = data_at image }
 
   pub the_status : (d : ℕ) (r : Stamped Status) → status_on image d ≡ Some r → r ≡ status_shown w
-  the_status d r is = behind (either_of 0 1 d) (status_shown w) r (sym (statuses_on d) ∙ is)
+  the_status d r is = some_if (either_of 0 1 d) (status_shown w) r (sym (statuses_on d) ∙ is)
 
   -- names of the notes
 

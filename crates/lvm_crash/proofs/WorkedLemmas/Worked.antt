@@ -18,7 +18,7 @@ use Rattle.lvm_vol.specs.declared.entry.Vol.TheVariants.{Lv}
 use Rattle.lvm_vol.specs.May.{known, unknown}
 use Rattle.lvm_num.specs.Buffer.{zero_sector}
 use Rattle.lvm_num.specs.Status.{calls_stale, calls_dirty}
-use Rattle.lvm_num.proofs.Booleans.{or_false, and_false}
+use Rattle.lvm_num.proofs.Booleans.{or_false, and_false, same_turned, some_if}
 use Rattle.lvm_kept.specs.Contents.{Contents}
 use Rattle.lvm_kept.specs.Examples.{stamped, row_of, mirror, two, of_two, either_of, no_note, zeros}
 use Rattle.lvm_kept.specs.Group.{descriptor_among, is_voter, has_quorum, Finds, IsFound, IsOneOf}
@@ -40,11 +40,6 @@ groups_have_votes group = (
   record { reads = λ set. refl; writes = λ set. refl },
 )
 
--- what stands behind a test is the one thing that stands there
-pub behind : {X : Type 0} (t : Bool) (x r : X) → (if t then Some x else None) ≡ Some r → r ≡ x
-behind true x r e = cc
-behind false x r e = absurd cc
-
 pub enough : (mode : Mode) → IsTrue (is_enough_to_write (two mode) (votes_in (two mode) two_disks))
 unfolding votes_by
 enough mode = refl
@@ -55,7 +50,7 @@ within b is = grind (arith, nat_tests)
 without : (b : ℕ) → IsTrue (nat_lt b 2048) → b / 2048 ≡ 0
 without b is = let low : b < 2048 = grind (arith, nat_tests) in omega arith
 
-first_partition : (lp : ℕ) → lp < 1 → lp ≡ 0
+pub first_partition : (lp : ℕ) → lp < 1 → lp ≡ 0
 first_partition lp low = omega arith
 
 -- the two copies
@@ -79,7 +74,7 @@ module _ (mode : Mode) where
   base = record (of_two mode false no_note zeros) { size = λ d. slice_index_or sizes d 0 }
 
   the_descriptor : (d : ℕ) (r : Stamped Descriptor) → base.descriptor d ≡ Some r → r ≡ stamped 2 (two mode)
-  the_descriptor d r e = behind (either_of 0 1 d) (stamped 2 (two mode)) r e
+  the_descriptor d r e = some_if (either_of 0 1 d) (stamped 2 (two mode)) r e
 
   found : Finds base all_disks 50 (two mode)
   unfolding has_quorum is_voter descriptor_among newest_below votes_by
@@ -174,9 +169,6 @@ no_bit d p = has-none 127 p
 first_bit : (d p : ℕ) → has_bit (row_of d true).stale p ≡ (p == 0)
 first_bit d p = has-set (replicate 127 0) 0 (omega arith) p ∙ ap (λ (t : Bool). t || (p == 0)) (has-none 127 p)
 
-swapped : (n m : ℕ) → (n == m) ≡ (m == n)
-swapped n m = grind (arith, nat_tests)
-
 which_stale : (w : Shown) (p : Pp) → calls_stale (status_shown w).value p ≡ (w.stale && is_pp p second_copy)
 which_stale w p = by w.stale
   where
@@ -186,7 +178,7 @@ which_stale w p = by w.stale
     by : (stale : Bool) → ((0 == p.disk) && has_bit (row_of 0 false).stale p.pp) || (((1 == p.disk) && has_bit (row_of 1 stale).stale p.pp) || false) ≡ (stale && is_pp p second_copy)
     by true = ap (λ (t : Bool). t || (((1 == p.disk) && has_bit (row_of 1 true).stale p.pp) || false)) none_of_first
         ∙ or_false ((1 == p.disk) && has_bit (row_of 1 true).stale p.pp)
-        ∙ ap (λ (t : Bool). t && has_bit (row_of 1 true).stale p.pp) (swapped 1 p.disk) ∙ ap (λ (t : Bool). (p.disk == 1) && t) (first_bit 1 p.pp)
+        ∙ ap (λ (t : Bool). t && has_bit (row_of 1 true).stale p.pp) (same_turned 1 p.disk) ∙ ap (λ (t : Bool). (p.disk == 1) && t) (first_bit 1 p.pp)
     by false = ap (λ (t : Bool). t || (((1 == p.disk) && has_bit (row_of 1 false).stale p.pp) || false)) none_of_first
         ∙ or_false ((1 == p.disk) && has_bit (row_of 1 false).stale p.pp)
         ∙ ap (λ (t : Bool). (1 == p.disk) && t) (no_bit 1 p.pp) ∙ and_false (1 == p.disk)
@@ -195,7 +187,7 @@ which_dirty : (w : Shown) (lv : ℕ) → calls_dirty (status_shown w).value lv �
 which_dirty w lv = by w.dirty
   where
     by : (dirty : Bool) → calls_dirty (record (status_shown w).value { dirty = if dirty then 1 ∷ [] else [] }) lv ≡ (dirty && lv == 1)
-    by true = or_false (1 == lv) ∙ swapped 1 lv
+    by true = or_false (1 == lv) ∙ same_turned 1 lv
     by false = refl
 
 pub its_marks : (w : Shown) → as_marks (status_shown w) ≡ record { stamp = (status_shown w).stamp; value = marks_with w.stale w.dirty }

@@ -20,10 +20,10 @@ use Rattle.lvm_session.specs.Judging.{facts_of, is_beside, is_failing, is_held_b
 use Rattle.lvm_session.specs.Enabled.{admission_at, can_pin, data_at, is_admit, is_pin, landing_at, note_at, outcome_next, pinning_at, target_next}
 use Rattle.lvm_session.specs.Left.{is_held}
 use Rattle.lvm_session.specs.Requests.{wants_entry}
-use Rattle.lvm_firsts.proofs.EnabledLemmas.{pins_not}
-use Rattle.lvm_firsts.specs.Might.{might_pin}
-use Rattle.lvm_firsts.specs.declared.span.Span.{Span}
-use Rattle.lvm_firsts.specs.Spans.{is_in, Spans}
+use Rattle.lvm_due.proofs.NotNextLemmas.{pins_not}
+use Rattle.lvm_due.specs.Might.{might_pin}
+use Rattle.lvm_due.specs.declared.span.Span.{Span}
+use Rattle.lvm_due.specs.Spans.{is_in, Spans}
 use Rattle.lvm_due.specs.declared.due.Due.{Due}
 use Rattle.lvm_due.specs.Due.{AddsMaking, Covers, IsDue, Joins, Moves}
 use Rattle.lvm_due.specs.Making.{might_make_admission, might_make_data, might_make_landing, might_make_note}

@@ -33,8 +33,8 @@ use Rattle.lvm_session.specs.Ends.{NoteLearns}
 use Rattle.lvm_session.specs.Events.{StartsNote, with_flight}
 use Rattle.lvm_session.specs.Enabled.{admission_at, can_pin, data_at, is_admit, is_pin, is_unnamed, landing_at, note_at, note_due, outcome_next, pinning_at, target_next, wants_record}
 use Rattle.lvm_session.specs.Judging.{facts_of, group_of, has_names, held_of, is_held_back, is_missing, is_pending, mode_of, next_for, place_of}
-use Rattle.lvm_firsts.specs.declared.span.Span.{Span}
-use Rattle.lvm_firsts.specs.Spans.{Spans}
+use Rattle.lvm_due.specs.declared.span.Span.{Span}
+use Rattle.lvm_due.specs.Spans.{Spans}
 use Rattle.lvm_due.specs.declared.due.Due.{Due}
 use Rattle.lvm_due.specs.Due.{IsDue, ReadsSame}
 use Rattle.lvm_due.proofs.EnabledLemmas.Alike.{none_chosen, none_mapped}

@@ -6,8 +6,8 @@ use Rattle.lvm_session.specs.declared.event.Event.{Event}
 use Rattle.lvm_session.specs.declared.open.Open.{Open}
 use Rattle.lvm_session.specs.State.{Core}
 use Rattle.lvm_session.specs.Enabled.{admission_at, data_at, landing_at, note_at, pinning_at}
-use Rattle.lvm_firsts.specs.declared.span.Span.{Span}
-use Rattle.lvm_firsts.specs.Spans.{is_in, Skips, Spans}
+use Rattle.lvm_due.specs.declared.span.Span.{Span}
+use Rattle.lvm_due.specs.Spans.{is_in, Skips, Spans}
 use Rattle.lvm_due.specs.declared.due.Due.{Due}
 use Rattle.lvm_due.specs.Due.{none, AddsIf, Covers, IsDue, Joins}
 

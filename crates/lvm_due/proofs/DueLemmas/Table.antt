@@ -25,10 +25,10 @@ use Rattle.lvm_session.specs.Enabled.{admission_at, can_pin, data_at, landing_at
 use Rattle.lvm_session.specs.Judging.{counts_failed, facts_of, held_of, is_beside, is_failing, is_held_back, is_pending, is_waiting, place_of}
 use Rattle.lvm_session.specs.Sound.{IsAsked, IsTold}
 use Rattle.lvm_mwc.specs.Cache.{Cached}
-use Rattle.lvm_firsts.proofs.Places.{at_place}
-use Rattle.lvm_firsts.specs.declared.span.Span.{Span}
-use Rattle.lvm_firsts.specs.Might.{might_pin}
-use Rattle.lvm_firsts.specs.Spans.{is_in, Shifts, Spans}
+use Rattle.lvm_due.proofs.AtPlaces.{at_place}
+use Rattle.lvm_due.specs.declared.span.Span.{Span}
+use Rattle.lvm_due.specs.Might.{might_pin}
+use Rattle.lvm_due.specs.Spans.{is_in, Shifts, Spans}
 use Rattle.lvm_due.specs.declared.due.Due.{Due}
 use Rattle.lvm_due.specs.Due.{AddsMaking, IsDue, ReadsSame}
 use Rattle.lvm_due.specs.Making.{might_make_admission, might_make_data, might_make_landing, might_make_note}

@@ -1,13 +1,9 @@
 -- What shows that a session is calm.
-use Rattle.std.proofs.Common.{◌≡◌, Bool, true, false, Option, Some, None, refl, sym, ◌∙◌}
-use Rattle.std.specs.Prelude.{◌≢◌, ◌↔◌, IsTrue, is_some}
+use Rattle.std.proofs.Common.{◌≡◌, Bool, true, false, refl, sym, ◌∙◌}
+use Rattle.std.specs.Prelude.{◌≢◌, ◌↔◌, IsTrue}
 use Rattle.lvm_num.specs.declared.status.Status.{Status}
 use Rattle.lvm_session.specs.Enabled.{same_status}
 use Rattle.lvm_session.proofs.EnabledLemmas.{status_one}
-
-pub none_there : {A : Type 0} (x : Option A) → is_some x ≡ false → x ≡ None
-none_there None is = refl
-none_there (Some a) is = absurd (cc is)
 
 -- two statuses that don't differ are one
 pub same_one : (a b : Status) (differ : Bool) → (IsTrue differ ↔ (a ≢ b)) → differ ≡ false → a ≡ b

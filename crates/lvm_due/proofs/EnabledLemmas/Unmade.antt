@@ -13,8 +13,8 @@ use Rattle.lvm_session.specs.declared.open.Open.{Open}
 use Rattle.lvm_session.specs.State.{Core}
 use Rattle.lvm_session.specs.Judging.{facts_of}
 use Rattle.lvm_session.specs.Enabled.{admission_at, can_pin, data_at, is_unnamed, landing_at, note_at, pinning_at}
-use Rattle.lvm_firsts.specs.Might.{are_at_rest, is_unbegun, might_admit_in, might_land_in, might_pin, might_start_in}
-use Rattle.lvm_firsts.proofs.EnabledLemmas.{admits_not, lands_not, pins_not, starts_not}
+use Rattle.lvm_due.specs.Might.{are_at_rest, is_unbegun, might_admit_in, might_land_in, might_pin, might_start_in}
+use Rattle.lvm_due.proofs.NotNextLemmas.{admits_not, lands_not, pins_not, starts_not}
 use Rattle.lvm_due.specs.Making.{might_make_admission, might_make_admission_in, might_make_data, might_make_data_in, might_make_landing, might_make_landing_in, might_make_note}
 
 lands_by : (r : Request) (p : Phase) → might_make_landing_in p r ≡ false → might_land_in p r false ≡ false

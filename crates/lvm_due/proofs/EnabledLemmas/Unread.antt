@@ -12,7 +12,7 @@ use Rattle.lvm_path.specs.declared.request.Request.{Request}
 use Rattle.lvm_path.specs.Next.{next_chosen, next_in, next_write, start_or_wait}
 use Rattle.lvm_path.specs.Targets.{states_of}
 use Rattle.lvm_session.specs.Enabled.{is_admit, is_pin, outcome_next, target_next}
-use Rattle.lvm_firsts.proofs.EnabledLemmas.{starts_not}
+use Rattle.lvm_due.proofs.NotNextLemmas.{starts_not}
 use Rattle.lvm_session.specs.Left.{is_held}
 
 module _ (r : Request) (k : Facts) where

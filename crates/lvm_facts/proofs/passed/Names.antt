@@ -1,3 +1,2 @@
 -- Passed on from the crates below.
-pub use Rattle.lvm_copies.proofs.DescriptorLemmas.Laid.{laid_out}
-pub use Rattle.lvm_copies.proofs.DescriptorLemmas.Members.{copies_in_are, few_copies, few_in, numbered, place_of}
+pub use Rattle.lvm_session.proofs.passed.Names.{blocked_tells}

@@ -1,2 +1,2 @@
 -- Passed on from the crates below.
-pub use Rattle.lvm_copies.specs.passed.SessionEventEvent.{Admit, Land, StartData}
+pub use Rattle.lvm_session.specs.declared.event.Event.TheVariants.{Admit, Land, StartData}

@@ -12,17 +12,17 @@ use Rattle.lvm_write.specs.Parts.{Spends}
 use Rattle.lvm_write.specs.Written.{LogsPlan, KeepsShelf, IsDarkened, IsGivenUp}
 use Rattle.lvm_write.proofs.PartsLemmas.Transfers.{darkened_then, given_up_then}
 use Rattle.lvm_transfer.specs.Reading.{IsUnwritten, IsRested}
-use Rattle.lvm_begin.specs.Beginning.{Beginning, Part, new_beginning, new_order, IsOfParts, Stands as PartStands}
-use Rattle.lvm_begin.specs.Ends.{BothFlip, HasNoFault, StopsAt, IsLowestFailed, WasTriedOnTargets}
-use Rattle.lvm_group_plan.specs.passed.Names.{Room, Cause}
-use Rattle.lvm_group_plan.specs.passed.CoreRefusedCause as cause
-use Rattle.lvm_group_plan.specs.NewGroup.{NewGroup, among, size_for, given_up, MayBegin, RefusesFirst}
+use Rattle.lvm_write.specs.Beginning.{Beginning, Part, new_beginning, new_order, IsOfParts, Stands as PartStands}
+use Rattle.lvm_write.specs.Ends.{BothFlip, HasNoFault, StopsAt, IsLowestFailed, WasTriedOnTargets}
+use Rattle.lvm_group.specs.passed.Names.{Room, Cause}
+use Rattle.lvm_group.specs.passed.CoreRefusedCause as cause
+use Rattle.lvm_group.specs.NewGroup.{NewGroup, among, size_for, given_up, MayBegin, RefusesFirst}
 use Rattle.lvm_group.specs.Shown.{IsClear}
-use Rattle.lvm_group_plan.specs.Planned.{IsPlanned, RefusesPlan}
+use Rattle.lvm_group.specs.Planned.{IsPlanned, RefusesPlan}
 use Rattle.lvm_group.specs.Made.{beginning_for, IsAsBefore, StopsAtWrite, Breaks, HasRead, MkvgRefuses}
 use Rattle.lvm_group.specs.Steps.{HasOnlyRead, LetsMake, RefusesFound, AreWritten, WritingFails, Stands, cuts_power}
 use Rattle.lvm_group.specs.declared.look.Free.{Free}
-use Rattle.lvm_group_plan.specs.declared.plan.Plan.{Plan}
+use Rattle.lvm_group.specs.declared.plan.Plan.{Plan}
 
 -- ---- refusals before the first write
 

@@ -19,15 +19,15 @@ use Rattle.lvm_steps.proofs.EnteringLemmas.{calm_goes_on}
 use Rattle.lvm_steps.proofs.MomentsLemmas.Spans.{group_goes_on}
 use Rattle.lvm_kept.specs.Group.{IsOneOf}
 use Rattle.lvm_status.specs.Update.{Updates, Stored, members_there}
-use Rattle.lvm_stamps.specs.Behind.{IsAhead, ClockIsAhead}
-use Rattle.lvm_group_plan.specs.passed.Names.{NoneIsLeft, Room, HaveAllLanded, IsSettled, HasSpareNumbers, ArePlaced, first_core, Core, Parts}
-use Rattle.lvm_group_plan.proofs.passed.Names.{starts_settled, starts_numbered}
-use Rattle.lvm_group_plan.specs.NewGroup.{NewGroup, size_for, new_group, new_status}
+use Rattle.lvm_steps.specs.Behind.{IsAhead, ClockIsAhead}
+use Rattle.lvm_group.specs.passed.Names.{NoneIsLeft, Room, HaveAllLanded, IsSettled, HasSpareNumbers, ArePlaced, first_core, Core, Parts}
+use Rattle.lvm_group.proofs.passed.Names.{starts_settled, starts_numbered}
+use Rattle.lvm_group.specs.NewGroup.{NewGroup, size_for, new_group, new_status}
 use Rattle.lvm_group.specs.Made.{IsMade}
 use Rattle.lvm_group.specs.Steps.{Stands}
 use Rattle.lvm_group.specs.declared.make.Standing.{Standing}
 use Rattle.lvm_group.proofs.LogLemmas.{spare_given, landed_given, later_given}
-use Rattle.lvm_group_plan.proofs.NewGroupLemmas.Groups.{are_placed, nothing_missing}
+use Rattle.lvm_group.proofs.NewGroupLemmas.Groups.{are_placed, nothing_missing}
 
 -- where there is no volume no copy is left behind
 none_left_of_none : (d : Descriptor) (u : Stored) → d.lvs ≡ [] → NoneIsLeft d u

@@ -6,19 +6,22 @@ use Rattle.lvm_num.specs.Buffer.{Buffer}
 use Rattle.lvm_disk.specs.Device.{Device}
 use Rattle.lvm_vol.specs.Log.{Log}
 use Rattle.lvm_session.specs.State.{Core}
-use Rattle.lvm_disk_lines.specs.passed.Names.{Post}
+use Rattle.lvm_group_lines.specs.passed.Names.{Post}
 use Rattle.lvm_group_lines.specs.Groups.{VaryoffDoes, VariesOff}
-use Rattle.lvm_disk_lines.specs.passed.Stage.{EndsSession, EndsUnasked, Aside, most_refusals, GivesBack, HaveRooms, IsBetweenStage, IsFittingStage, IsOn, history_in, history_of, posts_ended, session_in, session_of, shelf_in, state_in, without_facts, Holder, Reply, Stage}
-use Rattle.lvm_disk_lines.specs.passed.HolderVariants as holder
-use Rattle.lvm_disk_lines.specs.passed.ReplyVariants as reply
-use Rattle.lvm_disk_lines.proofs.passed.Stage.{unasked_as, ended_goes}
+use Rattle.lvm_group_lines.specs.Asking.{EndsSession}
+use Rattle.lvm_group_lines.specs.Ends.{EndsUnasked}
+use Rattle.lvm_group_lines.specs.Moments.{Aside}
+use Rattle.lvm_group_lines.specs.Replies.{most_refusals}
+use Rattle.lvm_group_lines.specs.Stages.{GivesBack, HaveRooms, IsBetweenStage, IsFittingStage, IsOn, history_in, posts_ended, session_in, shelf_in, state_in}
+use Rattle.lvm_group_lines.specs.State.{without_facts}
+use Rattle.lvm_group_lines.specs.declared.reply.Reply.{Reply}
+use Rattle.lvm_group_lines.specs.declared.stage.Stage.{Stage}
+use Rattle.lvm_group_lines.specs.declared.holder.Holder.TheVariants as holder
+use Rattle.lvm_group_lines.specs.declared.reply.Reply.TheVariants as reply
+use Rattle.lvm_group_lines.proofs.EndsLemmas.{unasked_as}
+use Rattle.lvm_group_lines.proofs.MomentsLemmas.Going.{ended_goes}
+use Rattle.lvm_group_lines.proofs.ShelvesLemmas.Ordering.{whose}
 use Rattle.lvm_group_lines.proofs.Coming.{held}
-
--- a session's history is its holder's
-whose : {S : Type 0} (it : Holder S) (core : Core) → session_of it ≡ Some core → core.history ≡ history_of it
-whose (holder.Off shelf history) core is = absurd (cc (is))
-whose (holder.Empty driver) core is = let e : driver.1 ≡ core = cc (is) in ap (λ (c : Core). c.history) (sym e)
-whose (holder.Serving driver) core is = let e : driver.1 ≡ core = cc (is) in ap (λ (c : Core). c.history) (sym e)
 
 module _ {S : Type 0} (device : S → Device) (old : Stage S) (fits : IsFittingStage old) (between : IsBetweenStage device old) (core : Core) (session : session_in old ≡ Some core) (none : core.requests ≡ [])
     (shelf : S) (log : Log) (posts : Vec Post) (bytes : Vec ℕ) (closed : GivesBack (device (shelf_in old)) (device shelf)) (kept : log ≡ history_in old) (ended : posts.items ≡ posts_ended (session_in old) old.posts.items)

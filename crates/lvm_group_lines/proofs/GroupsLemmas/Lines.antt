@@ -10,12 +10,15 @@ use Rattle.lvm_core.specs.Sound.{IsSoundBetween}
 use Rattle.lvm_core.specs.State.{state_of}
 use Rattle.lvm_session.specs.Sound.{IsSound}
 use Rattle.lvm_session.specs.State.{Core}
-use Rattle.lvm_disk_lines.specs.passed.Handover.{HasJustBegun, Serves}
-use Rattle.lvm_disk_lines.specs.passed.Names.{Post}
-use Rattle.lvm_disk_lines.specs.passed.Quiesce.{CauseRose, IsStartedEach}
+use Rattle.lvm_group_lines.specs.passed.Handover.{HasJustBegun, Serves}
+use Rattle.lvm_group_lines.specs.passed.Names.{Post}
+use Rattle.lvm_group_lines.specs.passed.Quiesce.{CauseRose, IsStartedEach}
 use Rattle.lvm_group_lines.specs.Groups.{Brings}
-use Rattle.lvm_disk_lines.specs.passed.Stage.{patience_of_line, state_in, Holder, Reply}
-use Rattle.lvm_disk_lines.specs.passed.HolderVariants as holder
+use Rattle.lvm_group_lines.specs.Ends.{patience_of_line}
+use Rattle.lvm_group_lines.specs.Stages.{state_in}
+use Rattle.lvm_group_lines.specs.declared.holder.Holder.{Holder}
+use Rattle.lvm_group_lines.specs.declared.reply.Reply.{Reply}
+use Rattle.lvm_group_lines.specs.declared.holder.Holder.TheVariants as holder
 use Rattle.lvm_group_lines.proofs.Coming.{Left, held}
 use Rattle.lvm_group_lines.proofs.QuiesceGroupsLemmas.Quieting.{device_outcome}
 

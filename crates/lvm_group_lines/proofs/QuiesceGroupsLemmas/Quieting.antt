@@ -6,10 +6,12 @@ use Rattle.lvm_core.specs.declared.refused.Cause.{Cause}
 use Rattle.lvm_core.specs.declared.refused.Cause.TheVariants as cause
 use Rattle.lvm_core.specs.declared.refused.Refused.{Refused}
 use Rattle.lvm_session.specs.State.{Core}
-use Rattle.lvm_disk_lines.specs.passed.Quiesce.{Quiesces, GivesOnceQuiet, RefusedAtOnce, StayedOut, WentQuiet, StaysOut}
-use Rattle.lvm_disk_lines.proofs.passed.Quiesce.{ends_only}
-use Rattle.lvm_disk_lines.specs.passed.Stage.{without_facts}
-use Rattle.lvm_disk_lines.proofs.passed.Stage.{cut_rooms, Rests, bears_cut}
+use Rattle.lvm_group_lines.specs.passed.Quiesce.{Quiesces, GivesOnceQuiet, RefusedAtOnce, StayedOut, WentQuiet, StaysOut}
+use Rattle.lvm_group_lines.proofs.passed.Quiesce.{ends_only}
+use Rattle.lvm_group_lines.specs.State.{without_facts}
+use Rattle.lvm_group_lines.proofs.LogLemmas.{cut_rooms}
+use Rattle.lvm_group_lines.proofs.LightingLemmas.{Rests}
+use Rattle.lvm_group_lines.proofs.FactsLemmas.{bears_cut}
 use Rattle.lvm_group_lines.proofs.Coming.{StayedOff, stays}
 
 -- no order is given while transfers end

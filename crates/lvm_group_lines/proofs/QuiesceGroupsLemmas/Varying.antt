@@ -15,16 +15,18 @@ use Rattle.lvm_core.specs.Held.{StartsHeld}
 use Rattle.lvm_core.specs.Settled.{IsSettled as IsSettledCore}
 use Rattle.lvm_core.specs.State.{state_of}
 use Rattle.lvm_session.specs.State.{Core}
-use Rattle.lvm_disk_lines.specs.passed.Handover.{HasJustBegun, IsHistory, Serves}
-use Rattle.lvm_disk_lines.proofs.passed.Handover.{varied_on_begins}
-use Rattle.lvm_disk_lines.specs.passed.TieCommands.{StandsAfter}
-use Rattle.lvm_disk_lines.proofs.passed.TieCommands.{varied_on_stands}
-use Rattle.lvm_disk_lines.specs.passed.Varyon.{ComesOn, VaryonRefuses, VaryonGives, log_after}
-use Rattle.lvm_disk_lines.proofs.passed.Varyon.{same_orders, wrote_broken, wrote_equalled, wrote_failed}
-use Rattle.lvm_disk_lines.specs.passed.Quiesce.{Quiesces, IsFullFor, VariesOnAt, VaryonOnceQuiet}
+use Rattle.lvm_group_lines.specs.passed.Handover.{HasJustBegun, IsHistory, Serves}
+use Rattle.lvm_group_lines.proofs.passed.Handover.{varied_on_begins}
+use Rattle.lvm_group_lines.specs.passed.TieCommands.{StandsAfter}
+use Rattle.lvm_group_lines.proofs.passed.TieCommands.{varied_on_stands}
+use Rattle.lvm_group_lines.specs.passed.Varyon.{ComesOn, VaryonRefuses, VaryonGives, log_after}
+use Rattle.lvm_group_lines.proofs.passed.Varyon.{same_orders, wrote_broken, wrote_equalled, wrote_failed}
+use Rattle.lvm_group_lines.specs.passed.Quiesce.{Quiesces, IsFullFor, VariesOnAt, VaryonOnceQuiet}
 use Rattle.lvm_group_lines.specs.Groups.{itself}
-use Rattle.lvm_disk_lines.specs.passed.Stage.{StandsAlone, without_facts}
-use Rattle.lvm_disk_lines.proofs.passed.Stage.{cut_rooms, RefusalLeaves, Rests, Bears, bears_cut}
+use Rattle.lvm_group_lines.specs.State.{StandsAlone, without_facts}
+use Rattle.lvm_group_lines.proofs.LogLemmas.{cut_rooms}
+use Rattle.lvm_group_lines.proofs.LightingLemmas.{RefusalLeaves, Rests}
+use Rattle.lvm_group_lines.proofs.FactsLemmas.{Bears, bears_cut}
 use Rattle.lvm_group_lines.proofs.Coming.{CameOn, StayedOff, stays}
 use Rattle.lvm_group_lines.proofs.QuiesceGroupsLemmas.Quieting.{device_outcome, itself_once, on_once, quiet_orders, stayed_once}
 

@@ -1,2 +1,3 @@
 -- Passed on from the crates below.
-pub use Rattle.lvm_disk_lines.proofs.passed.Names.{turn_counts, turn_keeps, loses_both, loses_none, turn_loses, votes_go, turn_marks}
+pub use Rattle.lvm_quiesce.proofs.passed.Names.{cut_landed}
+pub use Rattle.lvm_tie_commands.proofs.passed.Names.{loses_both, loses_none, over_answered, turn_counts, turn_keeps, turn_loses, turn_marks, votes_go}

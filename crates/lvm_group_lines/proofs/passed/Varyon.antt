@@ -1,3 +1,2 @@
 -- Passed on from `lvm_varyon`.
-pub use Rattle.lvm_disk_lines.proofs.passed.Varyon.{HasWrote, failed_rests, failed_rose, found_restated, holds_finds, status_fits, wrote_broken, wrote_equalled}
-pub use Rattle.lvm_disk_lines.proofs.passed.Varyon.{wrote_failed}
+pub use Rattle.lvm_tie_commands.proofs.passed.Varyon.{HasWrote, failed_rests, failed_rose, found_restated, holds_finds, same_orders, status_fits, wrote_broken, wrote_equalled, wrote_failed}

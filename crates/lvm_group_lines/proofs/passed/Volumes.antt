@@ -1,2 +1,2 @@
 -- Passed on from `lvm_volumes`.
-pub use Rattle.lvm_disk_lines.proofs.passed.Volumes.{keeps_none, leaves_none}
+pub use Rattle.lvm_tie_commands.proofs.passed.Volumes.{keeps_none, leaves_none}

@@ -1,2 +1,2 @@
 -- Passed on from `lvm_driver`.
-pub use Rattle.lvm_disk_lines.specs.passed.Driver.{FailsSo, IsAny, IsCausedFor, IsDrained, IsTurn}
+pub use Rattle.lvm_tie_commands.specs.passed.Driver.{FailsSo, IsAny, IsCausedFor, IsDrained, IsTurn}

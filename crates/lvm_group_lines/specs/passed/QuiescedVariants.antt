@@ -1,2 +1,2 @@
 -- Passed on from `lvm_quiesce`: the variants of `Quiesced`.
-pub use Rattle.lvm_disk_lines.specs.passed.QuiescedVariants.{Dark, Stuck}
+pub use Rattle.lvm_quiesce.specs.declared.ends.Quiesced.TheVariants.{Dark, Stuck}

@@ -1,2 +1,2 @@
 -- Passed on from `lvm_recover`.
-pub use Rattle.lvm_disk_lines.specs.passed.Recover.{HasNoPassive}
+pub use Rattle.lvm_tie_commands.specs.passed.Recover.{HasNoPassive}

@@ -1,2 +1,2 @@
 -- Passed on from `lvm_tie`.
-pub use Rattle.lvm_disk_lines.specs.passed.Tie.{IsGood, IsStamped, IsTied, LeavesDescriptors, moment_of}
+pub use Rattle.lvm_tie_commands.specs.passed.Tie.{IsBefore, LeavesSession, RunsOn, IsGood, IsStamped, IsTied, LeavesDescriptors, moment_of}

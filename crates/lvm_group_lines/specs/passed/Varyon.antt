@@ -1,2 +1,2 @@
 -- Passed on from `lvm_varyon`.
-pub use Rattle.lvm_disk_lines.specs.passed.Varyon.{HasWritten, IsRecovered, IsRestated, MayComeOn, Recopy, VaryonRefuses, answering, beginning, records_on}
+pub use Rattle.lvm_tie_commands.specs.passed.Varyon.{ComesOn, HasWritten, IsRecovered, IsRestated, MayComeOn, Recopy, VaryonGives, VaryonRefuses, answering, beginning, log_after, records_on}

@@ -1,3 +1,3 @@
 //! Passed on from `lvm_driver`.
 
-pub use lvm_disk_lines::below::driver::Driver;
+pub use lvm_tie_commands::below::driver::Driver;

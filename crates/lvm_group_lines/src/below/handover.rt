@@ -1,3 +1,3 @@
 //! Passed on from `lvm_handover`.
 
-pub use lvm_disk_lines::below::handover::{serve, settle};
+pub use lvm_tie_commands::below::handover::{serve, settle};

@@ -1,3 +1,3 @@
-//! Passed on from `lvm_mirrors`.
+//! Passed on from `lvm_volumes`.
 
-pub use lvm_disk_lines::below::mirrors::{mklvcopy, rmlvcopy};
+pub use lvm_tie_commands::below::mirrors::{mklvcopy, rmlvcopy};

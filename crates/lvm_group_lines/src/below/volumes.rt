@@ -1,3 +1,3 @@
 //! Passed on from `lvm_volumes`.
 
-pub use lvm_disk_lines::below::volumes::{GroupFault, mklv, rmlv};
+pub use lvm_tie_commands::below::volumes::{GroupFault, mklv, rmlv};

@@ -1,6 +1,6 @@
 -- A session that a command on its group leaves settled is sound with requests too.
 use Rattle.std.proofs.Common.{◌≡◌, ◌==◌, ◌⊎◌, inl, inr, ⊎_elim, ℕ, ◌+◌, ◌≤◌, ◌<◌, ◌^◌, Bool, true, false, ◌&&◌, ◌||◌, not, List, [], ◌∷◌, Option, None, length, if◌then◌else◌, refl, sym, ◌∙◌, ap, subst, arith}
-use Rattle.std.specs.Prelude.{Contains, IfSome, IsTrue, count_by, is_some, slice_index_or, unwrap_or}
+use Rattle.std.specs.Prelude.{Contains, IsTrue, count_by, is_some, slice_index_or, unwrap_or}
 use Rattle.std.specs.List.{list_any, AllByRecursion}
 use Rattle.std.specs.Option.{option_map_or}
 use Rattle.std.proofs.lemmas.Bool.{eq-eqb}
@@ -12,6 +12,9 @@ use Rattle.lvm_num.specs.Descriptor.{is_member}
 use Rattle.lvm_num.specs.Disks.{has}
 use Rattle.lvm_num.specs.Status.{calls_stale, calls_missing}
 use Rattle.lvm_num.specs.Votes.{is_enough_to_write, votes_in}
+use Rattle.lvm_num.proofs.Booleans.{clash_gives}
+use Rattle.lvm_num.proofs.Lists.{all_of_none, if_none, any_as}
+use Rattle.lvm_num.proofs.AmongLemmas.{one_any}
 use Rattle.lvm_disk.specs.Counts.{Rose}
 use Rattle.lvm_disk.proofs.CountingLemmas.{rose_after, rose_before}
 use Rattle.lvm_kept.specs.Group.{IsOneOf}
@@ -37,26 +40,16 @@ use Rattle.lvm_session.specs.Placed.{ArePlaced, IsPlaced}
 use Rattle.lvm_session.specs.Requests.{IsOpenOne}
 use Rattle.lvm_session.specs.Sound.{IsAsked, IsCopy, IsFitting, IsGoing, IsOn, IsSound, IsTold, count_if, hands_with, is_hand, may_be_fresh, pins, stays_fresh, waiting_rows, waits, with_row}
 use Rattle.lvm_session.proofs.WorkedLemmas.Parts.{idle_is_sound}
-use Rattle.lvm_earlier.specs.passed.Names.{IsSettled, IsSoundBetween}
+use Rattle.lvm_handover.specs.passed.Names.{IsSettled, IsSoundBetween}
 use Rattle.lvm_keeps.proofs.Lists.{count_cons}
-use Rattle.lvm_earlier.proofs.passed.Tie.{any_one, clash, or_true}
+use Rattle.lvm_handover.proofs.passed.Tie.{any_one, or_true}
 use Rattle.lvm_volumes.specs.Endings.{HasFresh}
 use Rattle.lvm_handover.specs.Serving.{CommandsServe, GoesOnWith, IsServed, is_gone}
-use Rattle.lvm_tie_begins.proofs.MarksLemmas.{not_entailed, passes}
+use Rattle.lvm_tie.proofs.MarksLemmas.{not_entailed}
 use Rattle.lvm_keeps.proofs.VotesLemmas.{enough_more, more_votes}
 use Rattle.lvm_handover.proofs.VotesLemmas.{each_row, no_votes, not_enough}
 
 -- ---- what holds of nothing
-
-none_of : {A : Type 0} (P : A → Type 0) (xs : List A) → xs ≡ [] → AllByRecursion P xs
-none_of {A = A} P xs empty = subst (AllByRecursion P) (sym empty) tt
-
-nobody : {A : Type 0} (P : A → Type 0) (m : Option A) → m ≡ None → IfSome m P
-nobody {A = A} P m none = subst (λ (n : Option A). IfSome n P) (sym none) tt
-
-any_as : {A : Type 0} (f g : A → Bool) → ((x : A) → f x ≡ g x) → (xs : List A) → list_any f xs ≡ list_any g xs
-any_as f g same [] = refl
-any_as f g same (x ∷ xs) = ap (λ (b : Bool). b || list_any f xs) (same x) ∙ ap (λ (b : Bool). g x || b) (any_as f g same xs)
 
 its_own : (who : Owner) → same_owner who who ≡ true
 its_own (owner.Data id target) = ap (λ (b : Bool). b && target == target) (eq-eqb id id refl) ∙ eq-eqb target target refl
@@ -208,7 +201,7 @@ module _ (added : List Pp) (old new : State) (sound : IsSound old) (began : IsSe
       ordered = goes.ordered;
       table = subst (AreTold core.history.facts) (sym requests) (record { ascending = tt; still = tt });
       each = λ id. is.sound.landed id ∙ sym (ap (λ (os : List Open). waits os id) requests);
-      requests = none_of (IsAsked core.history.facts) core.requests requests;
+      requests = all_of_none (IsAsked core.history.facts) core.requests requests;
     }
 
     of_copy : {A : Type 0} (f : OpenCopy → A) (none : A) → option_map_or f core.copy none ≡ none
@@ -240,7 +233,7 @@ module _ (added : List Pp) (old new : State) (sound : IsSound old) (began : IsSe
 
         by : (p : Pp) → IsOneOf (copies_in core.descriptor lv lp) p → (a b : Bool) → calls_stale t p ≡ a → is_wanted_stale new.core p ≡ b → may_be_fresh core p ≡ true → HasFresh new.core lv lp
         by p of_it false b was now may = let both = apart (calls_stale t p) (calls_stale old.core.origin.table p) (is_among added p) (stale_as p) was in goes.fresh lv lp p of_it both.0 both.1
-        by p of_it true false was now may = passes (λ (q : Pp). not (is_wanted_stale new.core q)) (copies_in core.descriptor lv lp) p of_it (ap not now)
+        by p of_it true false was now may = one_any (λ (q : Pp). not (is_wanted_stale new.core q)) (copies_in core.descriptor lv lp) p of_it (ap not now)
         by p of_it true true was now may =
             absurd (let no : false ≡ true = sym (ap (λ (b : Bool). not b || not (is_settled new.core p && is_wanted_stale new.core p)) was ∙ ap not (settled_as p) ∙ ap not now) ∙ may in cc no)
 
@@ -253,13 +246,13 @@ module _ (added : List Pp) (old new : State) (sound : IsSound old) (began : IsSe
       tickets = subst HaveTickets (sym flying) tt;
       queue = rows ∙ sym (of_copy (λ (c : OpenCopy). if has_row core c then with_row (step_row core c) (waiting_rows core.requests) else waiting_rows core.requests) (waiting_rows core.requests) ∙ ap waiting_rows requests);
       pinned = λ lv group. ap (λ (c : Cached). pins_of c.entries lv group) cache ∙ old_going.pinned lv group ∙ ap (count_by (pins lv group)) began.quiet.requests ∙ sym (ap (count_by (pins lv group)) requests);
-      requests = none_of (IsOpenOne core) core.requests requests;
-      copy = nobody (IsCopy core) core.copy copy;
+      requests = all_of_none (IsOpenOne core) core.requests requests;
+      copy = if_none (IsCopy core) core.copy copy;
       hands = λ n. let none = hands n in omega (arith, none);
-      behind = λ p entailed. clash (is_entailed core p) entailed (not_entailed core fitting.valid fitting.group is.settled.committed goes.left p);
+      behind = λ p entailed. clash_gives (is_entailed core p) entailed (not_entailed core fitting.valid fitting.group is.settled.committed goes.left p);
       reviewed = of_copy (end_of core) None;
       fresh = fresh;
-      clearings = λ p held clear. clash (is_wanted_stale new.core p) (sym (held_as p) ∙ held) clear;
+      clearings = λ p held clear. clash_gives (is_wanted_stale new.core p) (sym (held_as p) ∙ held) clear;
       numbers = goes.numbers;
     }
 
@@ -267,8 +260,8 @@ module _ (added : List Pp) (old new : State) (sound : IsSound old) (began : IsSe
     on = record {
       going = going;
       rows = subst (λ (fs : List Flown). AreRows core fs new.device.flights) (sym flying) (subst (AreRows core []) (sym idle) tt);
-      caused = none_of (AreCaused new.device core) core.requests requests;
-      chosen = nobody (λ (c : OpenCopy). AllByRecursion (IsChosenSince core c) core.requests) core.copy copy;
+      caused = all_of_none (AreCaused new.device core) core.requests requests;
+      chosen = if_none (λ (c : OpenCopy). AllByRecursion (IsChosenSince core c) core.requests) core.copy copy;
     }
 
     -- ---- its members
@@ -350,9 +343,9 @@ module _ (added : List Pp) (old new : State) (sound : IsSound old) (began : IsSe
       off = is.sound.off;
       over = λ e. absurd (let no : false ≡ true = sym (ap is_over is.settled.power) ∙ e in cc no);
       stuck = λ e. absurd (let no : power.On ≡ power.Stuck = sym is.settled.power ∙ e in cc no);
-      counted = none_of (AreCounted s) core.requests requests;
-      answered = none_of (IsAnswered s) core.requests requests;
-      copy = nobody (λ (c : OpenCopy). IsCausedAmong s (copies_in core.descriptor c.lv c.lp) c) core.copy copy;
+      counted = all_of_none (AreCounted s) core.requests requests;
+      answered = all_of_none (IsAnswered s) core.requests requests;
+      copy = if_none (λ (c : OpenCopy). IsCausedAmong s (copies_in core.descriptor c.lv c.lp) c) core.copy copy;
       origin = true_to_origin;
     }
 

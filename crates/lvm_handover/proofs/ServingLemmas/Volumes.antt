@@ -11,6 +11,8 @@ use Rattle.lvm_num.specs.declared.place.Pp.{Pp}
 use Rattle.lvm_num.specs.Descriptor.{IsPartitionOf, IsValid, copies_of, is_member, volume_of}
 use Rattle.lvm_num.specs.Geometry.{volume_blocks}
 use Rattle.lvm_num.specs.Status.{calls_stale}
+use Rattle.lvm_num.proofs.Booleans.{second_with_first}
+use Rattle.lvm_num.proofs.AmongLemmas.{one_any}
 use Rattle.lvm_disk.specs.Counts.{NoneFalls}
 use Rattle.lvm_disk.proofs.CountingLemmas.{none_falls_at_once}
 use Rattle.lvm_vol.specs.declared.entry.Vol.TheVariants.{Lv}
@@ -22,16 +24,16 @@ use Rattle.lvm_kept.specs.Group.{IsAlike, IsOneOf}
 use Rattle.lvm_status.specs.Update.{members_there}
 use Rattle.lvm_commit.specs.Settling.{NoneIsLeft, SpendsNumbers}
 use Rattle.lvm_commit.proofs.AmongLemmas.{contains, of_map}
-use Rattle.lvm_tie_begins.proofs.passed.Names.{row_is_volume}
-use Rattle.lvm_next.proofs.NextLemmas.{copy_is_placed, is_member_of}
+use Rattle.lvm_tie.proofs.passed.Names.{row_is_volume}
+use Rattle.lvm_write.proofs.NextLemmas.{copy_is_placed, is_member_of}
 use Rattle.lvm_session.specs.State.{Core, State, is_there}
 use Rattle.lvm_session.specs.Judging.{copies_in, is_missing, is_settled, is_wanted_stale}
 use Rattle.lvm_session.specs.Causes.{is_held_stale}
 use Rattle.lvm_session.specs.Left.{updates_left}
 use Rattle.lvm_session.specs.Marks.{is_among}
 use Rattle.lvm_session.specs.Sound.{IsGoing, IsSound, may_be_fresh, stays_fresh}
-use Rattle.lvm_earlier.specs.passed.Names.{KeepsStatus, Leaves, NoPartition, WasLeftBehind, IsSettled}
-use Rattle.lvm_earlier.proofs.passed.Tie.{or_true}
+use Rattle.lvm_handover.specs.passed.Names.{KeepsStatus, Leaves, NoPartition, WasLeftBehind, IsSettled}
+use Rattle.lvm_handover.proofs.passed.Tie.{or_true}
 use Rattle.lvm_volumes.specs.passed.VolumePlanFaultGroupFault as fault
 use Rattle.lvm_volumes.specs.passed.Names.{NewVolume, HasSpareRoom, row_for, with_volume, without_volume}
 use Rattle.lvm_volumes.proofs.passed.Names.{one_filter, one_insert}
@@ -41,8 +43,7 @@ use Rattle.lvm_volumes.proofs.StagesLemmas.Entering.{many_bound}
 use Rattle.lvm_volumes.proofs.DescriptorLemmas.{places_of}
 use Rattle.lvm_handover.specs.Serving.{GoesOnWith, MayServe, MklvServes, RmlvServes, StaysSound}
 use Rattle.lvm_keeps.proofs.LeftLemmas.Updates.{few_updates}
-use Rattle.lvm_tie_begins.proofs.MarksLemmas.{passes}
-use Rattle.lvm_handover.proofs.CommitSettlingLemmas.{none_left}
+use Rattle.lvm_handover.proofs.NoneLeftLemmas.{none_left}
 use Rattle.lvm_handover.proofs.ServingLemmas.Serving.{commands_serve}
 
 -- ---- rows
@@ -74,11 +75,6 @@ copies_at d lv lp row at = ap (λ (o : Option LvRow). option_map_or (λ (row : L
 
 -- ---- what a command leaves, by its contract
 
-not_there : (m b : Bool) → m ≡ true → m && not b ≡ false → b ≡ true
-not_there true true member gone = refl
-not_there true false member gone = absurd (cc gone)
-not_there false b member gone = absurd (cc member)
-
 module _ (old : State) (sound : IsSound old) (began : IsSettled old.core) where
   going : IsGoing old.core
   going = (sound.on began.power).going
@@ -89,7 +85,7 @@ module _ (old : State) (sound : IsSound old) (began : IsSettled old.core) where
   -- a copy that was fresh when it began has a fresh one beside it
   pub had_fresh : (lv lp : ℕ) (p : Pp) → IsOneOf (copies_in old.core.descriptor lv lp) p → IsFalse (calls_stale old.core.origin.table p) → HasFresh old.core lv lp
   had_fresh lv lp p one fresh =
-      let some = going.fresh lv lp (passes (may_be_fresh old.core) (copies_in old.core.descriptor lv lp) p one (ap (λ (b : Bool). not b || not (is_settled old.core p && is_wanted_stale old.core p)) fresh)) in
+      let some = going.fresh lv lp (one_any (may_be_fresh old.core) (copies_in old.core.descriptor lv lp) p one (ap (λ (b : Bool). not b || not (is_settled old.core p && is_wanted_stale old.core p)) fresh)) in
       weaker (copies_in old.core.descriptor lv lp) some
     where
       second : (a b : Bool) → not a && not b ≡ true → not b ≡ true
@@ -123,7 +119,7 @@ module _ (old : State) (sound : IsSound old) (began : IsSettled old.core) where
         (λ (same : left.group ≡ old.core.descriptor). is_member_of old.core.descriptor p (copy_is_placed old.core.descriptor sound.fitting.valid left.its.row left.its.lp p (subst (λ (g : Descriptor). IsOneOf g.lvs left.its.row) same left.its.volume) left.its.one))
         (λ (next : N left.group). members left.group next left.its.row left.its.lp p left.its.volume left.its.one)
         left.known in
-        not_there (is_member old.core.descriptor p.disk) (is_missing new.core p.disk) member
+        second_with_first (is_member old.core.descriptor p.disk) (is_missing new.core p.disk) member
         (subst (λ (g : Descriptor). IsFalse (members_there g new.core.status.wanted p.disk)) (status.group ∙ sound.fitting.group) left.absent)
 
     pub goes_on : IsValid new.core.descriptor → GoesOnWith added old new

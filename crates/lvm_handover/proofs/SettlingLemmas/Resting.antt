@@ -2,7 +2,7 @@
 use Rattle.std.proofs.Common.{◌≡◌, ◌⊎◌, inl, inr, ◌≤◌, ℕ, zero, suc, Bool, true, false, ◌&&◌, ◌||◌, not, List, [], ◌∷◌, Option, Some, None, length, replicate, if◌then◌else◌, refl, sym, ap, ◌∙◌, arith}
 use Rattle.std.specs.Prelude.{count_by, is_none, is_some}
 use Rattle.std.specs.List.{list_any, AllByRecursion}
-use Rattle.std.proofs.lemmas.Bool.{or_parts}
+use Rattle.std.proofs.lemmas.Bool.{or_parts, not-false}
 use Rattle.arrayvec.specs.ArrayVec.{ArrayVec}
 use Rattle.lvm_num.specs.declared.descriptor.Descriptor.{Descriptor}
 use Rattle.lvm_num.specs.declared.descriptor.PvRow.{PvRow}
@@ -12,6 +12,8 @@ use Rattle.lvm_num.specs.Descriptor.{is_member}
 use Rattle.lvm_num.specs.Disks.{has}
 use Rattle.lvm_num.specs.Status.{calls_missing}
 use Rattle.lvm_num.specs.Votes.{CanWrite, is_enough_to_write, votes_in}
+use Rattle.lvm_num.proofs.Booleans.{none_if}
+use Rattle.lvm_num.proofs.Lists.{all_false}
 use Rattle.lvm_mwc.specs.Cache.{flight_on}
 use Rattle.lvm_status.specs.Update.{is_held, is_owed, is_there as is_there_so, seen}
 use Rattle.lvm_session.specs.declared.event.Event.{Event}
@@ -23,9 +25,9 @@ use Rattle.lvm_session.specs.State.{Core, State, is_there, votes_there}
 use Rattle.lvm_session.specs.Enabled.{first_of, has_buffer, is_status_due, landing, or_next, parts_to_settle, parts_to_start, same_status}
 use Rattle.lvm_session.specs.Owners.{flies, same_owner}
 use Rattle.lvm_session.specs.Sound.{IsGoing, IsOn, IsSound, count_if}
-use Rattle.lvm_earlier.specs.passed.Names.{IsSettled, HasNoneOpen, IsSoundBetween}
-use Rattle.lvm_earlier.specs.passed.Driver.{IsDrained}
-use Rattle.lvm_tie_begins.specs.Begins.{IsResting}
+use Rattle.lvm_handover.specs.passed.Names.{IsSettled, HasNoneOpen, IsSoundBetween}
+use Rattle.lvm_handover.specs.passed.Driver.{IsDrained}
+use Rattle.lvm_tie.specs.Begins.{IsResting}
 use Rattle.lvm_handover.specs.Settling.{DrainedRests, MayHandOver}
 use Rattle.lvm_handover.proofs.SoundLemmas.{buffers_back, none_flown, rest_is_quiet, rest_is_sound}
 use Rattle.lvm_handover.proofs.SettlingLemmas.Statuses.{status_is}
@@ -36,18 +38,6 @@ use Rattle.lvm_keeps.proofs.VotesLemmas.{enough_more, more_votes}
 or_none : (a b : Option Event) → or_next a b ≡ None → (a ≡ None) × (b ≡ None)
 or_none None b e = (refl, e)
 or_none (Some it) b e = absurd (cc e)
-
-not_due : (b : Bool) (e : Event) → (if b then Some e else None) ≡ None → b ≡ false
-not_due true e is = absurd (cc is)
-not_due false e is = refl
-
-not_false : (b : Bool) → not b ≡ false → b ≡ true
-not_false true e = refl
-not_false false e = absurd (cc e)
-
-all_false : {A : Type 0} (t : A → Bool) (xs : List A) → list_any t xs ≡ false → AllByRecursion (λ (x : A). t x ≡ false) xs
-all_false t [] none = tt
-all_false t (x ∷ xs) none = let it = or_parts (t x) (list_any t xs) none in (it.0, all_false t xs it.1)
 
 module _ (s : State) (sound : IsSound s) (drained : IsDrained s) (closed : HasNoneOpen s.core) where
   abbrev core : Core
@@ -93,12 +83,12 @@ module _ (s : State) (sound : IsSound s) (drained : IsDrained s) (closed : HasNo
       (or_none (if has_buffer core then (if is_status_due core then Some event.StartStatus else None) else None) _ both.1).0
 
   no_status : is_status_due core ≡ false
-  no_status = not_due (is_status_due core) event.StartStatus (sym (ap (λ (b : Bool). if b then (if is_status_due core then Some event.StartStatus else None) else None) buffer) ∙ starts)
+  no_status = none_if (is_status_due core) event.StartStatus (sym (ap (λ (b : Bool). if b then (if is_status_due core then Some event.StartStatus else None) else None) buffer) ∙ starts)
 
   -- ---- what is wanted is committed
 
   can_write : CanWrite core.descriptor (is_there core)
-  can_write = not_false (is_enough_to_write core.descriptor (votes_there core)) drained.votes
+  can_write = not-false (is_enough_to_write core.descriptor (votes_there core)) drained.votes
 
   settled_status : (core.status.in_flight ≡ None) × (core.status.committed ≡ core.status.wanted)
   settled_status = by core.status.in_flight refl
@@ -135,7 +125,7 @@ module _ (s : State) (sound : IsSound s) (drained : IsDrained s) (closed : HasNo
       due_as m is = sym (ap (λ (m : Option Status). if is_none m then not (same_status core.status.wanted core.status.committed) else list_any (λ (r : PvRow). has core.status.writes.unstarted r.disk) core.status.group.pvs) is) ∙ no_status
 
       by : (m : Option Status) → core.status.in_flight ≡ m → (core.status.in_flight ≡ None) × (core.status.committed ≡ core.status.wanted)
-      by None is = (is, sym (status_is core.status.wanted core.status.committed (not_false (same_status core.status.wanted core.status.committed) (due_as None is))))
+      by None is = (is, sym (status_is core.status.wanted core.status.committed (not-false (same_status core.status.wanted core.status.committed) (due_as None is))))
       by (Some t) is = absurd (let no = open_none t is (due_as (Some t) is) (going.status.open_still t is) in cc no)
 
   pub rests : IsResting core

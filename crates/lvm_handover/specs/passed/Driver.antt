@@ -1,2 +1,2 @@
 -- Passed on from `lvm_driver`.
-pub use Rattle.lvm_earlier.specs.passed.Driver.{FailsSo, IsAny, IsCausedFor, IsDrained, IsTurn}
+pub use Rattle.lvm_ranges.specs.passed.Driver.{FailsSo, IsAny, IsCausedFor, IsDrained, IsTurn}

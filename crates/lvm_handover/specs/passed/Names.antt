@@ -1,4 +1,12 @@
 -- Passed on from the crates below.
-pub use Rattle.lvm_earlier.specs.passed.Names.{AreUnused, moment_of, AreNotesHome, IsHeld, NotesAreHome, StartsHeld, EntersVolumes, IsOfCommand, Leaves, NoPartition, Scope, IsNumberOf, IsSettled, HaveAllLanded, Room, TurnTells, power_by, IsLaidOut, AreAnswered, AreHeld, ended_with, Asked, Post, LosesByFaults, LosesVotesByFaults, LostForFaults}
+pub use Rattle.lvm_core.specs.Committing.{AreUnused, moment_of}
+pub use Rattle.lvm_core.specs.Held.{AreNotesHome, IsHeld, NotesAreHome, StartsHeld}
+pub use Rattle.lvm_core.specs.Leaves.{EntersVolumes, IsOfCommand, KeepsStatus, Leaves, NoPartition, Scope, WasLeftBehind}
+pub use Rattle.lvm_core.specs.Looking.{IsNumberOf}
+pub use Rattle.lvm_core.specs.Settled.{IsSettled}
+pub use Rattle.lvm_core.specs.Sound.{HasNoneOpen, HaveAllLanded, IsFittingBetween, IsQuiet, IsSoundBetween}
+pub use Rattle.lvm_core.specs.Starting.{room_of}
+pub use Rattle.lvm_core.specs.declared.parts.Room.{Room}
+pub use Rattle.lvm_ranges.specs.passed.Names.{AreAnswered, AreHeld, Asked, IsLaidOut, LosesByFaults, LosesVotesByFaults, LostForFaults, Post, TurnTells, ended_with, power_by}
 pub use Rattle.lvm_varyon.specs.passed.Names.{HasNoPassive}
-pub use Rattle.lvm_volumes.specs.passed.Names.{IfOn, ends_session, fault_of, is_over, row_for, with_volume, without_volume, GroupFault, NewVolume}
+pub use Rattle.lvm_volumes.specs.passed.Names.{GroupFault, IfOn, NewVolume, ends_session, fault_of, is_over, row_for, with_volume, without_volume}

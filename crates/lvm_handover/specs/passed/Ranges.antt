@@ -1,5 +1,10 @@
 -- Passed on from `lvm_ranges`.
-pub use Rattle.lvm_earlier.specs.passed.Ranges.{AllMoved, AnyFailed, AreApart, AreGot, AreSince, AskRangeFault, AskRangeGives, Asks, AwaitCosts}
-pub use Rattle.lvm_earlier.specs.passed.Ranges.{AwaitEnds, FinishCosts, FinishGives, Finished, GoingCause, HasEndedWell, HavePiecesLanded, IsAskedFor}
-pub use Rattle.lvm_earlier.specs.passed.Ranges.{IsRead, IsUnfinished, KeepsEarlier, KeepsOthers, KeepsTable, LastEnded, Moves, NoMove, OneMove}
-pub use Rattle.lvm_earlier.specs.passed.Ranges.{RangeCause, StepEnds, Stuck, TakesRange, TurnsFor, WasStuck, range_fault}
+pub use Rattle.lvm_ranges.specs.Asking.{AskRangeGives, Asks, IsAskedFor, range_fault}
+pub use Rattle.lvm_ranges.specs.Choosing.{AreSince}
+pub use Rattle.lvm_ranges.specs.Finishing.{AnyFailed, FinishCosts, FinishGives, Finished, GoingCause, RangeCause, TakesRange, WasStuck}
+pub use Rattle.lvm_ranges.specs.Keeping.{AreApart, KeepsEarlier, KeepsOthers, KeepsTable}
+pub use Rattle.lvm_ranges.specs.Landing.{AwaitCosts, AwaitEnds, HavePiecesLanded, IsUnfinished, TurnsFor}
+pub use Rattle.lvm_ranges.specs.Reading.{AreGot, HasEndedWell, IsRead}
+pub use Rattle.lvm_ranges.specs.Stepping.{AllMoved, LastEnded, Moves, NoMove, OneMove, StepEnds}
+pub use Rattle.lvm_ranges.specs.declared.landing.Stuck.{Stuck}
+pub use Rattle.lvm_ranges.specs.declared.refusal.AskRangeFault.{AskRangeFault}

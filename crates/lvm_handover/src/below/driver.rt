@@ -1,3 +1,3 @@
 //! Passed on from `lvm_driver`.
 
-pub use lvm_earlier::below::driver::{Closed, Driver};
+pub use lvm_ranges::below::driver::{Closed, Driver};

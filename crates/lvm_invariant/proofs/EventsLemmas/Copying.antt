@@ -1,14 +1,16 @@
 -- The copy that is brought up.
 use Rattle.std.proofs.Common.{◌≡◌, ◌⊎◌, inl, inr, ⊎_elim, ℕ, Bool, true, false, List, Option, Some, None, refl, sym, ap, subst, ◌∙◌}
 use Rattle.std.specs.Prelude.{IsTrue, IsFalse}
+use Rattle.std.proofs.lemmas.Bool.{cases_Bool, and_left}
 use Rattle.lvm_num.specs.declared.place.Pp.{Pp}
 use Rattle.lvm_num.specs.Geometry.{track_group_of}
-use Rattle.lvm_invariant.proofs.Small.{IsIn, never, false_by, and_left_false}
+use Rattle.lvm_num.proofs.Booleans.{clash_gives, false_by}
+use Rattle.lvm_invariant.proofs.Small.{IsIn}
 use Rattle.lvm_invariant.specs.State.{Marks, ModelCopy, StepWrite, Going, Queued, ModelState, covers, stale_in, is_settled_stale, HasPassed, Live, Started, told}
 use Rattle.lvm_invariant.specs.Sound.{Complete, Statuses, MayDiffer, Agree, Quiescent, Blocks, Holds, Sound}
 use Rattle.lvm_invariant.proofs.SoundLemmas.Sound.{complete_same, live_same, equal_same, recorded_same, each_same}
 use Rattle.lvm_invariant.proofs.StateLemmas.Claims.{Quiet, CopyWriteKeepsCore, OpenKeepsCore, ClearKeepsCore}
-use Rattle.lvm_invariant.proofs.UpdatesLemmas.Requests.{decided, alone, past_of, one_req}
+use Rattle.lvm_invariant.proofs.UpdatesLemmas.Requests.{alone, past_of, one_req}
 use Rattle.lvm_invariant.proofs.StateLemmas.Quieting.{quiet_of, quiet_sound}
 use Rattle.lvm_invariant.specs.CopyWrite.{Passes, CopyWrites}
 use Rattle.lvm_invariant.specs.Updates.{with_block}
@@ -25,7 +27,7 @@ module _ (s : ModelState) (i : ℕ) (r : Queued) (value : ℕ → List ℕ) (tar
   elsewhere : (j lv b : ℕ) (e : Queued) → Started s j e → IsTrue (covers e lv b) → IsTrue (covers r lv b) → ⊥
   elsewhere j lv b e started over_e over =
       let same : i ≡ j = alone s sound i j r e step.there started.there step.past (past_of e.phase Going started.going refl) (record { lv = lv; block = b; first = over; second = over_e; writes = inr started.write }) in
-      never r.write (ap (λ (q : Queued). q.write) (one_req (sym step.there ∙ ap s.queue same ∙ started.there)) ∙ started.write) step.read
+      clash_gives r.write (ap (λ (q : Queued). q.write) (one_req (sym step.there ∙ ap s.queue same ∙ started.there)) ∙ started.write) step.read
 
   -- a copy that is live now was live, or it is the target and has the value there
   live_was : (lv b : ℕ) (c : Pp) → Live new lv b c → Live s lv b c ⊎ ((c ≡ target) × IsTrue (covers r lv b) × (block lv b c ≡ value b))
@@ -52,13 +54,13 @@ module _ (s : ModelState) (i : ℕ) (r : Queued) (value : ℕ → List ℕ) (tar
   off_block : (lv b : ℕ) → IsFalse (covers r lv b) → (c : Pp) → block lv b c ≡ s.media.block lv b c
   off_block lv b off c = ⊎_elim
       (λ (same : block lv b c ≡ s.media.block lv b c). same)
-      (λ (h : IsTrue (covers r lv b) × (c ≡ target) × (block lv b c ≡ value b)). never (covers r lv b) h.0 off)
+      (λ (h : IsTrue (covers r lv b) × (c ≡ target) × (block lv b c ≡ value b)). clash_gives (covers r lv b) h.0 off)
       (step.media lv b c)
 
   off_live : (lv b : ℕ) → IsFalse (covers r lv b) → (c : Pp) → Live new lv b c → Live s lv b c
   off_live lv b off c live = ⊎_elim
       (λ (l : Live s lv b c). l)
-      (λ (h : (c ≡ target) × IsTrue (covers r lv b) × (block lv b c ≡ value b)). never (covers r lv b) h.1 off)
+      (λ (h : (c ≡ target) × IsTrue (covers r lv b) × (block lv b c ≡ value b)). clash_gives (covers r lv b) h.1 off)
       (live_was lv b c live)
 
   -- where it goes and the block isn't loose, each live copy holds the value afterwards
@@ -87,7 +89,7 @@ module _ (s : ModelState) (i : ℕ) (r : Queued) (value : ℕ → List ℕ) (tar
       (seen lv b over).1
     where
       by_mode : (x : Bool) → s.is_active lv ≡ x → IsTrue (told s lv b).loose → Agree new lv b ⊎ MayDiffer new lv b x
-      by_mode true is loose = let at = sound.tied.inside i r step.there lv b over in never (told s lv b).loose loose (sound.tied.tight lv b at.0 at.1 (inl is))
+      by_mode true is loose = let at = sound.tied.inside i r step.there lv b over in clash_gives (told s lv b).loose loose (sound.tied.tight lv b at.0 at.1 (inl is))
       by_mode false is loose = inr (inl loose)
 
   settled_now : (lv b : ℕ) → Quiescent s lv b → Quiescent new lv b
@@ -96,18 +98,18 @@ module _ (s : ModelState) (i : ℕ) (r : Queued) (value : ℕ → List ℕ) (tar
     allowed = λ c live. ⊎_elim
         (λ (over : IsTrue (covers r lv b)). allowed_on lv b settled over c live)
         (λ (off : IsFalse (covers r lv b)). subst (IsIn (told s lv b).values) (sym (off_block lv b off c)) (settled.allowed c (off_live lv b off c live)))
-        (decided (covers r lv b));
+        (cases_Bool (covers r lv b));
     equal = ⊎_elim
         (λ (over : IsTrue (covers r lv b)). equal_on lv b over (s.is_active lv) refl)
         (λ (off : IsFalse (covers r lv b)). equal_same s new refl lv b (λ h. h) (λ c live. (off_live lv b off c live, off_block lv b off c)) (s.is_active lv) settled.equal)
-        (decided (covers r lv b));
+        (cases_Bool (covers r lv b));
   }
 
   was_started : (j : ℕ) (e : Queued) → Started new j e → Started s j e
   was_started j e started = record { there = started.there; write = started.write; going = started.going }
 
   off_if_started : (j lv b : ℕ) (e : Queued) → Started s j e → IsTrue (covers e lv b) → IsFalse (covers r lv b)
-  off_if_started j lv b e started over = ⊎_elim (λ (h : IsTrue (covers r lv b)). absurd (elsewhere j lv b e started over h)) (λ (f : IsFalse (covers r lv b)). f) (decided (covers r lv b))
+  off_if_started j lv b e started over = ⊎_elim (λ (h : IsTrue (covers r lv b)). absurd (elsewhere j lv b e started over h)) (λ (f : IsFalse (covers r lv b)). f) (cases_Bool (covers r lv b))
 
   copy_blocks : Blocks new
   copy_blocks = record {
@@ -131,7 +133,7 @@ module _ (s : ModelState) (i : ℕ) (r : Queued) (value : ℕ → List ℕ) (tar
   some_live j lv b e there over =
       let inside = sound.tied.inside j e there lv b over in
       let kept = sound.statuses.kept lv b inside.0 inside.1 in
-      (kept.0, record { copy = kept.1; counts = inl (and_left_false (s.committed.value.stale kept.0) (stale_in s.in_flight kept.0) kept.2.committed) })
+      (kept.0, record { copy = kept.1; counts = inl (and_left (s.committed.value.stale kept.0) (stale_in s.in_flight kept.0) kept.2.committed) })
 
   -- what a read knows of a value there stays true
   equal_now : (j lv b : ℕ) (e : Queued) (v : List ℕ) → s.queue j ≡ Some e → IsTrue (covers e lv b) → IsTrue (told s lv b).loose ⊎ ((c : Pp) → Live s lv b c → s.media.block lv b c ≡ v)
@@ -145,7 +147,7 @@ module _ (s : ModelState) (i : ℕ) (r : Queued) (value : ℕ → List ℕ) (tar
       inr (λ c live. on_block lv b on same c live ∙ sym (same l.0 l.1) ∙ equal l.0 l.1))
       (seen lv b on).1)
       (λ (off : IsFalse (covers r lv b)). inr (λ c live. off_block lv b off c ∙ equal c (off_live lv b off c live)))
-      (decided (covers r lv b))
+      (cases_Bool (covers r lv b))
 
   copy_holds : Holds new
   copy_holds = record {
@@ -225,7 +227,7 @@ module _ (s : ModelState) (o : ModelCopy) (step : Opens s o) (sound : Sound s) w
       let quiet : Quiet s opened = quiet_of s opened refl refl (λ lv b c live. record {
         copy = live.copy;
         counts = ⊎_elim (λ (f : IsFalse (is_settled_stale s c)). inl f)
-            (λ (k : HasPassed opened lv (track_group_of b) c). never (o.passed lv (track_group_of b)) (ap (λ (q : ModelCopy). q.passed lv (track_group_of b)) (the_copy o k.copy k.is_open) ∙ k.passed) (step.passed lv (track_group_of b))) live.counts;
+            (λ (k : HasPassed opened lv (track_group_of b) c). clash_gives (o.passed lv (track_group_of b)) (ap (λ (q : ModelCopy). q.passed lv (track_group_of b)) (the_copy o k.copy k.is_open) ∙ k.passed) (step.passed lv (track_group_of b))) live.counts;
       }) (λ lv h. h) (λ d h. h) in
       quiet_sound s opened quiet sound (record {
         home = sound.notes.home;
@@ -253,7 +255,7 @@ module _ (s : ModelState) (wanted : Marks) (c : Pp) (step : Clears s wanted c) (
 
   complete_if : (e : Pp) → IsTrue (s.wanted.stale e) → IsFalse (wanted.stale e) → Complete cleared e
   complete_if e w m = ⊎_elim
-      (λ (h : IsTrue (wanted.stale e)). never (wanted.stale e) h m)
+      (λ (h : IsTrue (wanted.stale e)). clash_gives (wanted.stale e) h m)
       (λ (is : e ≡ c). complete_same s cleared refl e (subst (λ (p : Pp). Complete s p) (sym is) step.complete))
       (step.still e w)
 
@@ -270,11 +272,11 @@ module _ (s : ModelState) (wanted : Marks) (c : Pp) (step : Clears s wanted c) (
           stale_is_wanted = λ e stale m. ⊎_elim
               (λ (w : IsTrue (s.wanted.stale e)). complete_if e w m)
               (λ (f : IsFalse (s.wanted.stale e)). complete_same s cleared refl e (sound.statuses.stale_is_wanted e stale f))
-              (decided (s.wanted.stale e));
+              (cases_Bool (s.wanted.stale e));
           flying_is_wanted = λ e u f stale m. ⊎_elim
               (λ (w : IsTrue (s.wanted.stale e)). complete_if e w m)
               (λ (h : IsFalse (s.wanted.stale e)). complete_same s cleared refl e (sound.statuses.flying_is_wanted e u f stale h))
-              (decided (s.wanted.stale e));
+              (cases_Bool (s.wanted.stale e));
           kept = λ lv b e copy. let k = sound.statuses.kept lv b e copy in (k.0, k.1, record { committed = k.2.committed; flying = k.2.flying; wanted = false_by (wanted.stale k.0) (s.wanted.stale k.0) (step.added k.0) k.2.wanted });
           open_there = sound.statuses.open_there;
           open_stale = λ o is. ⊎_elim

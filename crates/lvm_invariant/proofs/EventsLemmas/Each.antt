@@ -1,11 +1,13 @@
 -- Each event keeps what is true of a session, and so does a list of them.
-use Rattle.std.proofs.Common.{◌≡◌, ◌⊎◌, inl, inr, ⊎_elim, ℕ, Bool, true, false, [], ◌∷◌, ◌++◌, Some, refl, sym, ap, subst, ◌∙◌, eqb-true, arith, ◌<◌, None}
+use Rattle.std.proofs.Common.{◌≡◌, ◌⊎◌, inl, inr, ⊎_elim, ℕ, Bool, true, false, [], ◌∷◌, ◌++◌, Some, refl, sym, ap, subst, ◌∙◌, eqb-true, arith, ◌<◌}
 use Rattle.std.specs.Prelude.{IsTrue, IsFalse, ◌==◌, if◌then◌else◌}
+use Rattle.std.proofs.lemmas.Bool.{cases_Bool}
+use Rattle.lvm_num.proofs.Booleans.{clash_gives}
 use Rattle.lvm_vol.specs.declared.entry.Outcome.TheVariants as outcome
 use Rattle.lvm_vol.specs.Facts.{Landed as HasLanded, Begun, Taken}
 use Rattle.lvm_invariant.proofs.StateLemmas.Entered.{write_asks, past_unlanded, done_effect, lost_effect, got_effect, got_may, quiet_effect, silent_effect, pin_alike, read_alike, begun_effect, entered_effect}
 use Rattle.lvm_invariant.proofs.ToldLemmas.{told_change, told_landed, told_taken, told_earlier, told_left, told_begun, told_entered}
-use Rattle.lvm_invariant.proofs.EventsLemmas.Others.{plain_keeps, admit_keeps as admit_core}
+use Rattle.lvm_invariant.proofs.EventsLemmas.Others.{plain_keeps, admit_keeps as admit_core, early_not_landed}
 use Rattle.lvm_invariant.proofs.UpdatesLemmas.Getting.{got_keeps as got_core, submit_keeps as submit_core}
 use Rattle.lvm_invariant.proofs.StateLemmas.Writes.{first_keeps as first_core, restaging_keeps as restaging_core, done_keeps as done_core, lost_keeps as lost_core, land_alike}
 use Rattle.lvm_invariant.proofs.EventsLemmas.Marking.{wants_keep as wants_core, begin_keeps as begin_core, commit_keeps as commit_core, update_end_keeps as update_end_core}
@@ -36,7 +38,7 @@ use Rattle.lvm_invariant.specs.Open.{OpenKeeps}
 use Rattle.lvm_invariant.specs.LandGot.{LandGotKeeps}
 use Rattle.lvm_invariant.specs.LandLost.{LandLostKeeps}
 use Rattle.lvm_invariant.specs.Submit.{SubmitKeeps}
-use Rattle.lvm_invariant.specs.State.{ModelPhase, Held, WantEntry, Ready, Going, Queued, ModelState, covers, is_past, has_landed, is_pinning}
+use Rattle.lvm_invariant.specs.State.{ModelPhase, Held, WantEntry, Ready, Going, Queued, ModelState, covers, has_landed, is_pinning}
 use Rattle.lvm_invariant.specs.Pin.{PinKeeps}
 use Rattle.lvm_invariant.specs.Good.{Good}
 use Rattle.lvm_invariant.specs.MoveStatus.{MoveStatusKeeps}
@@ -46,15 +48,13 @@ use Rattle.lvm_invariant.specs.LandNoFresh.{LandNoFreshKeeps}
 use Rattle.lvm_invariant.specs.StartNote.{StartNoteKeeps}
 use Rattle.lvm_invariant.specs.BeginUpdate.{BeginUpdateKeeps}
 use Rattle.lvm_invariant.specs.Clear.{ClearKeeps}
-use Rattle.lvm_invariant.proofs.Small.{never}
 use Rattle.lvm_invariant.proofs.StateLemmas.Quieting.{nearly}
-use Rattle.lvm_invariant.proofs.UpdatesLemmas.Requests.{decided}
 use Rattle.lvm_invariant.proofs.FoundLemmas.{status_end_keeps_found, begin_keeps_found, commit_keeps_found, update_end_keeps_found, keeping_found, found_same}
 use Rattle.lvm_invariant.proofs.CrashLemmas.{core_kept}
 use Rattle.lvm_invariant.specs.Sound.{Sound}
 
 newest_place : (s : ModelState) (i : ℕ) → ((j : ℕ) (e : Queued) → s.queue j ≡ Some e → j < i) → (j : ℕ) (e : Queued) → s.queue j ≡ Some e → IsFalse (j == i)
-newest_place s i newest j e at = ⊎_elim (λ (same : IsTrue (j == i)). absurd (not_itself (subst (λ (k : ℕ). k < i) (eqb-true _ _ same) (newest j e at)))) (λ (f : IsFalse (j == i)). f) (decided (j == i))
+newest_place s i newest j e at = ⊎_elim (λ (same : IsTrue (j == i)). absurd (not_itself (subst (λ (k : ℕ). k < i) (eqb-true _ _ same) (newest j e at)))) (λ (f : IsFalse (j == i)). f) (cases_Bool (j == i))
   where
     not_itself : {k : ℕ} → k < k → ⊥
     not_itself h = omega (arith, h)
@@ -81,22 +81,16 @@ enter_step_keeps votes s i q r step good = record {
   told = told_entered s.queue s.name s.facts good.told i q r (newest_place s i step.newest) step.step step.reads;
 }
 
-early_unlanded : (r : Queued) → (r.phase ≡ Held) ⊎ (r.phase ≡ WantEntry) ⊎ (r.phase ≡ Ready) ⊎ (IsFalse r.write × IsTrue (is_past r.phase) × (r.got ≡ None)) → IsFalse (has_landed r.phase)
-early_unlanded r (inl e) = ap has_landed e
-early_unlanded r (inr (inl e)) = ap has_landed e
-early_unlanded r (inr (inr (inl e))) = ap has_landed e
-early_unlanded r (inr (inr (inr e))) = past_unlanded r.phase e.1
-
 pub admit_keeps : AdmitKeeps
 admit_keeps votes s i r phase several targets step good = record {
   sound = admit_core s i r phase several targets step good.sound;
   found = found_same _ _ refl good.found;
   told = told_change s.queue s.name s.facts good.told i r step.there (admitted r phase several targets) (record { lv = refl; over = λ lv b. refl; write = refl; value = λ b. refl; step = refl })
-      (λ asked. ⊎_elim (λ (e : phase ≡ WantEntry). ap has_landed e) (λ (e : (phase ≡ Ready) × (IsTrue r.write → IsTrue (s.is_active r.lv) → IsTrue several → ⊥)). ap has_landed e.0) step.phase_now ∙ sym (early_unlanded r step.early));
+      (λ asked. ⊎_elim (λ (e : phase ≡ WantEntry). ap has_landed e) (λ (e : (phase ≡ Ready) × (IsTrue r.write → IsTrue (s.is_active r.lv) → IsTrue several → ⊥)). ap has_landed e.0) step.phase_now ∙ sym (early_not_landed r step.early));
 }
 
 not_phase : {X : Type 0} (p q : ModelPhase) → p ≡ q → IsFalse (has_landed q) → IsTrue (has_landed p) → X
-not_phase p q e un h = never (has_landed p) h (ap has_landed e ∙ un)
+not_phase p q e un h = clash_gives (has_landed p) h (ap has_landed e ∙ un)
 
 wait_not_going : {X : Type 0} (p : ModelPhase) → p ≡ WantEntry → p ≡ Going → X
 wait_not_going p a b = let e : ◌≡◌ {A = Bool} false true = ap is_pinning (sym a ∙ b) in absurd cc
@@ -121,12 +115,12 @@ pin_keeps votes s i r cache step good = record {
 pub read_keeps : ReadKeeps
 read_keeps votes s i r c stage got step good = record {
   sound = plain_keeps s i r (reading r c stage got) s.facts s.cache
-      (silent_effect s i r (reading r c stage got) s.cache step.there (λ write e. never r.write write step.read) (λ write e. never r.write write step.read)
+      (silent_effect s i r (reading r c stage got) s.cache step.there (λ write e. clash_gives r.write write step.read) (λ write e. clash_gives r.write write step.read)
       (λ value h. ⊎_elim
       (λ (old : r.got ≡ Some value). inl old)
       (λ (new : (lv b : ℕ) → IsTrue (covers r lv b) → value b ≡ s.media.block lv b c). inr (λ lv b over. (c, step.was.0, step.was.1, new lv b over)))
       (step.gets value h))
-      (λ write pins on several. never r.write write step.read) (λ j e at write pins on several cached. cached))
+      (λ write pins on several. clash_gives r.write write step.read) (λ j e at write pins on several cached. cached))
       (read_alike r c stage got step.past step.was) good.sound;
   found = found_same _ _ refl good.found;
   told = told_change s.queue s.name s.facts good.told i r step.there (reading r c stage got) (record { lv = refl; over = λ lv b. refl; write = refl; value = λ b. refl; step = refl }) (λ asked. sym (past_unlanded r.phase step.past));
@@ -176,7 +170,7 @@ land_got_keeps votes s i r got step good = record {
 pub land_read_failed_keeps : LandReadFailedKeeps
 land_read_failed_keeps votes s i r step good = record {
   sound = plain_keeps s i r (land r) (s.facts ++ HasLanded (s.name i) outcome.ReadFailed true [] ∷ []) s.cache
-      (quiet_effect s i r outcome.ReadFailed true refl good.sound good.told step.there step.request (λ write e. never r.write write step.read))
+      (quiet_effect s i r outcome.ReadFailed true refl good.sound good.told step.there step.request (λ write e. clash_gives r.write write step.read))
       (land_alike r (past_unlanded r.phase step.past)) good.sound;
   found = found_same _ _ refl good.found;
   told = told_landed s.queue s.name s.facts good.told i r step.there step.request (past_unlanded r.phase step.past) outcome.ReadFailed true [] ((good.told.same i r step.there step.request).write ∙ step.read) tt;
@@ -196,7 +190,7 @@ land_no_fresh_keeps votes s i r step good = record {
     is_going _ = false
 
     not_going : {X : Type 0} (p q : ModelPhase) → p ≡ Going → p ≡ q → IsFalse (is_going q) → X
-    not_going p q e k f = never (is_going p) (ap is_going e) (ap is_going k ∙ f)
+    not_going p q e k f = clash_gives (is_going p) (ap is_going e) (ap is_going k ∙ f)
 
     unstarted : (p : ModelPhase) → p ≡ Going → (p ≡ Held) ⊎ (IsTrue r.write × ((p ≡ WantEntry) ⊎ (p ≡ Ready))) → ⊥
     unstarted p e (inl k) = not_going p Held e k refl
@@ -208,11 +202,11 @@ land_no_fresh_keeps votes s i r step good = record {
 pub end_step_keeps : EndStepKeeps
 end_step_keeps votes s i r step good = record {
   sound = plain_keeps s i r (land r) s.facts s.cache
-      (silent_effect s i r (land r) s.cache step.there (λ write e. never r.write write reads) (λ write e. never r.write write reads) (λ value h. inl h)
-      (λ write pins on several. never r.write write reads) (λ j e at write pins on several cached. cached))
+      (silent_effect s i r (land r) s.cache step.there (λ write e. clash_gives r.write write reads) (λ write e. clash_gives r.write write reads) (λ value h. inl h)
+      (λ write pins on several. clash_gives r.write write reads) (λ j e at write pins on several cached. cached))
       (land_alike r step.unlanded) good.sound;
   found = found_same _ _ refl good.found;
-  told = told_change s.queue s.name s.facts good.told i r step.there (land r) (record { lv = refl; over = λ lv b. refl; write = refl; value = λ b. refl; step = refl }) (λ asked. never r.step step.step asked);
+  told = told_change s.queue s.name s.facts good.told i r step.there (land r) (record { lv = refl; over = λ lv b. refl; write = refl; value = λ b. refl; step = refl }) (λ asked. clash_gives r.step step.step asked);
 }
   where
     reads : IsFalse r.write
@@ -259,7 +253,7 @@ take_keeps votes s i r step good = record {
   told = ⊎_elim
       (λ (is_step : IsTrue r.step). subst (λ (b : Bool). Told (without s.queue i) s.name (if b then s.facts else s.facts ++ Taken (s.name i) ∷ [])) (sym is_step) (told_left s.queue s.name s.facts good.told i r step.there))
       (λ (asked : IsFalse r.step). subst (λ (b : Bool). Told (without s.queue i) s.name (if b then s.facts else s.facts ++ Taken (s.name i) ∷ [])) (sym asked) (told_taken s.queue s.name s.facts good.told i r step.there asked step.landed))
-      (decided r.step);
+      (cases_Bool r.step);
 }
   where
     by_test : (lv b : ℕ) (t : Bool) → known (if t then s.facts else s.facts ++ Taken (s.name i) ∷ []) (Lv lv) b ≡ known s.facts (Lv lv) b

@@ -1,28 +1,27 @@
 -- What is wanted, under way and committed.
 use Rattle.std.proofs.Common.{◌≡◌, ◌⊎◌, inl, inr, ⊎_elim, ℕ, Bool, true, false, ◌&&◌, Option, Some, None, refl, sym, ap, subst, ◌∙◌}
 use Rattle.std.specs.Prelude.{IsTrue, IsFalse}
+use Rattle.std.proofs.lemmas.Bool.{cases_Bool, and_left}
 use Rattle.lvm_num.specs.declared.place.Pp.{Pp}
 use Rattle.lvm_num.specs.Geometry.{track_group_of}
 use Rattle.lvm_num.specs.Record.{Stamped}
+use Rattle.lvm_num.proofs.Booleans.{clash_gives, false_by}
 use Rattle.lvm_invariant.specs.State.{Marks, ModelCopy, ModelState, stale_in, is_settled_stale, HasPassed, Live}
 use Rattle.lvm_invariant.specs.Sound.{Complete, StaysFresh, Statuses, Sound, Nearly}
 use Rattle.lvm_invariant.proofs.SoundLemmas.Sound.{complete_same}
 use Rattle.lvm_invariant.proofs.StateLemmas.Claims.{Quiet, WantsKeep, BeginKeeps, CommitKeepsCore, UpdateEndKeeps}
-use Rattle.lvm_invariant.proofs.Small.{never, false_by, and_left_false, and_right_false}
-use Rattle.lvm_invariant.proofs.UpdatesLemmas.Requests.{decided}
+use Rattle.lvm_invariant.proofs.Small.{and_right_false}
 use Rattle.lvm_invariant.proofs.StateLemmas.Quieting.{nearly, quiet_nearly, quiet_of, quiet_sound}
 use Rattle.lvm_invariant.specs.LandDone.{done}
 use Rattle.lvm_invariant.specs.Commit.{Commits}
 use Rattle.lvm_invariant.specs.Want.{Replaced, Wants, after_wants}
+use Rattle.lvm_invariant.proofs.FoundLemmas.{same_one}
 
 no_copy : {X : Type 0} (o : Option ModelCopy) (k : ModelCopy) → o ≡ None → o ≡ Some k → X
 no_copy o k a b = absurd cc
 
 no_update : {X : Type 0} (o : Option (Stamped Marks)) (u : Stamped Marks) → o ≡ None → o ≡ Some u → X
 no_update o u a b = absurd cc
-
-same_update : (u w : Stamped Marks) → Some u ≡ Some w → u ≡ w
-same_update u w e = cc
 
 -- a fresh copy whose staleness isn't wanted is fresh by all three
 all_three : (s : ModelState) → Statuses s → (e : Pp) → IsFalse (s.committed.value.stale e) → IsFalse (s.wanted.stale e) → StaysFresh s e
@@ -32,11 +31,11 @@ all_three s st e fresh wanted = record {
       (λ (stale : IsTrue (u.value.stale e)).
       let k : Complete s e = st.flying_is_wanted e u flies stale wanted in
       ⊎_elim
-      (λ (c : IsTrue (s.committed.value.stale k.copy.target)). never (s.committed.value.stale e) (subst (λ (p : Pp). IsTrue (s.committed.value.stale p)) k.target c) fresh)
-      (λ (w : IsTrue (s.wanted.stale k.copy.target)). never (s.wanted.stale e) (subst (λ (p : Pp). IsTrue (s.wanted.stale p)) k.target w) wanted)
+      (λ (c : IsTrue (s.committed.value.stale k.copy.target)). clash_gives (s.committed.value.stale e) (subst (λ (p : Pp). IsTrue (s.committed.value.stale p)) k.target c) fresh)
+      (λ (w : IsTrue (s.wanted.stale k.copy.target)). clash_gives (s.wanted.stale e) (subst (λ (p : Pp). IsTrue (s.wanted.stale p)) k.target w) wanted)
       (st.open_stale k.copy k.is_open))
       (λ (n : IsFalse (u.value.stale e)). n)
-      (decided (u.value.stale e));
+      (cases_Bool (u.value.stale e));
   wanted = wanted;
 }
 
@@ -66,7 +65,7 @@ module _ (s : ModelState) (wanted : Marks) (missing : ℕ → Bool) (open_copy :
       step.open_same
 
   complete_unless : (c : Pp) → IsFalse (wanted.stale c) → Complete s c → Complete new c
-  complete_unless c n k = ⊎_elim (λ (w : IsTrue (wanted.stale c)). never (wanted.stale c) w n) (λ (h : Complete new c). h) (complete_now c k)
+  complete_unless c n k = ⊎_elim (λ (w : IsTrue (wanted.stale c)). clash_gives (wanted.stale c) w n) (λ (h : Complete new c). h) (complete_now c k)
 
   kept_now : (e : Pp) → IsFalse (wanted.stale e) → StaysFresh s e → StaysFresh new e
   kept_now e n k = record { committed = k.committed; flying = k.flying; wanted = n }
@@ -83,13 +82,13 @@ module _ (s : ModelState) (wanted : Marks) (missing : ℕ → Bool) (open_copy :
         let old = was.statuses.kept lv b c copy in
         ⊎_elim
         (λ (w : IsTrue (wanted.stale old.0)). ⊎_elim
-        (λ (before : IsTrue (s.wanted.stale old.0)). never (s.wanted.stale old.0) before old.2.wanted)
+        (λ (before : IsTrue (s.wanted.stale old.0)). clash_gives (s.wanted.stale old.0) before old.2.wanted)
         (⊎_elim
         (λ (by : Replaced s wanted old.0). (by.other, was.tied.owner lv b by.lv by.block old.0 by.other old.1 by.copy by.other_copy, kept_now by.other by.kept (all_three s was.statuses by.other by.fresh (not_before by.other by.kept))))
         (λ (none : (l k : ℕ) → IsTrue (s.is_copy l k old.0) → ⊥). absurd (none lv b old.1)))
         (step.added old.0 w))
         (λ (n : IsFalse (wanted.stale old.0)). (old.0, old.1, kept_now old.0 n old.2))
-        (decided (wanted.stale old.0));
+        (cases_Bool (wanted.stale old.0));
     open_there = step.open_there;
     open_stale = λ o is. ⊎_elim
         (λ (same : open_copy ≡ s.open_copy). ⊎_elim (λ (c : IsTrue (s.committed.value.stale o.target)). inl c) (λ (w : IsTrue (s.wanted.stale o.target)). inr (step.still o.target w)) (was.statuses.open_stale o (sym same ∙ is)))
@@ -119,16 +118,16 @@ module _ (s : ModelState) (u : Stamped Marks) (none : s.in_flight ≡ None) (is 
   begun = record s { in_flight = Some u }
 
   is_wanted : (w : Stamped Marks) → Some u ≡ Some w → (c : Pp) → w.value.stale c ≡ s.wanted.stale c
-  is_wanted w e c = ap (λ (x : Stamped Marks). x.value.stale c) (sym (same_update u w e)) ∙ ap (λ (m : Marks). m.stale c) is
+  is_wanted w e c = ap (λ (x : Stamped Marks). x.value.stale c) (sym (same_one u w e)) ∙ ap (λ (m : Marks). m.stale c) is
 
   is_dirty : (w : Stamped Marks) → Some u ≡ Some w → (lv : ℕ) → w.value.dirty lv ≡ s.wanted.dirty lv
-  is_dirty w e lv = ap (λ (x : Stamped Marks). x.value.dirty lv) (sym (same_update u w e)) ∙ ap (λ (m : Marks). m.dirty lv) is
+  is_dirty w e lv = ap (λ (x : Stamped Marks). x.value.dirty lv) (sym (same_one u w e)) ∙ ap (λ (m : Marks). m.dirty lv) is
 
   begun_statuses : Statuses begun
   begun_statuses = record {
     stale_flies = λ c w flies stale fresh. inr (complete_same s begun refl c (sound.statuses.stale_is_wanted c stale (sym (is_wanted w flies c) ∙ fresh)));
     stale_is_wanted = λ c stale n. complete_same s begun refl c (sound.statuses.stale_is_wanted c stale n);
-    flying_is_wanted = λ c w flies stale n. never (s.wanted.stale c) (sym (is_wanted w flies c) ∙ stale) n;
+    flying_is_wanted = λ c w flies stale n. clash_gives (s.wanted.stale c) (sym (is_wanted w flies c) ∙ stale) n;
     kept = λ lv b c copy. let k = sound.statuses.kept lv b c copy in (k.0, k.1, record { committed = k.2.committed; flying = λ w flies. is_wanted w flies k.0 ∙ k.2.wanted; wanted = k.2.wanted });
     open_there = sound.statuses.open_there;
     open_stale = sound.statuses.open_stale;
@@ -145,8 +144,8 @@ module _ (s : ModelState) (u : Stamped Marks) (none : s.in_flight ≡ None) (is 
         (λ (stale : IsTrue (s.committed.value.stale c)).
         let k = sound.statuses.stale_is_wanted c stale (ap (λ (m : Marks). m.stale c) (sym is) ∙ (ap (λ (t : Bool). t && u.value.stale c) (sym stale) ∙ f)) in
         inr (record { copy = k.copy; is_open = k.is_open; target = k.target; passed = k.passed lv b live.copy }))
-        (λ (fresh : IsFalse (s.committed.value.stale c)). inl (and_left_false (s.committed.value.stale c) (stale_in s.in_flight c) fresh))
-        (decided (s.committed.value.stale c)))
+        (λ (fresh : IsFalse (s.committed.value.stale c)). inl (and_left (s.committed.value.stale c) (stale_in s.in_flight c) fresh))
+        (cases_Bool (s.committed.value.stale c)))
         (λ (k : HasPassed begun lv (track_group_of b) c). inr (record { copy = k.copy; is_open = k.is_open; target = k.target; passed = k.passed }))
         live.counts;
   }
@@ -164,7 +163,7 @@ module _ (s : ModelState) (u : Stamped Marks) (open_copy : Option ModelCopy) (st
   committed = record s { committed = u; open_copy = open_copy }
 
   is_u : (w : Stamped Marks) → s.in_flight ≡ Some w → w ≡ u
-  is_u w flies = same_update w u (sym flies ∙ step.flies)
+  is_u w flies = same_one w u (sym flies ∙ step.flies)
 
   complete_after : (c : Pp) → IsTrue (u.value.stale c) → Complete s c → Complete committed c
   complete_after c stale k = record {
@@ -173,13 +172,13 @@ module _ (s : ModelState) (u : Stamped Marks) (open_copy : Option ModelCopy) (st
     passed = k.passed;
     is_open = ⊎_elim
         (λ (same : open_copy ≡ Some k.copy). same)
-        (λ (fresh : IsFalse (u.value.stale k.copy.target)). never (u.value.stale c) stale (subst (λ (p : Pp). IsFalse (u.value.stale p)) k.target fresh))
+        (λ (fresh : IsFalse (u.value.stale k.copy.target)). clash_gives (u.value.stale c) stale (subst (λ (p : Pp). IsFalse (u.value.stale p)) k.target fresh))
         (step.open_done k.copy k.is_open);
   }
 
   committed_statuses : Statuses committed
   committed_statuses = record {
-    stale_flies = λ c w flies stale fresh. never (u.value.stale c) stale (ap (λ (x : Stamped Marks). x.value.stale c) (sym (is_u w flies)) ∙ fresh);
+    stale_flies = λ c w flies stale fresh. clash_gives (u.value.stale c) stale (ap (λ (x : Stamped Marks). x.value.stale c) (sym (is_u w flies)) ∙ fresh);
     stale_is_wanted = λ c stale n. complete_after c stale (sound.statuses.flying_is_wanted c u step.flies stale n);
     flying_is_wanted = λ c w flies stale n. complete_after c (ap (λ (x : Stamped Marks). x.value.stale c) (sym (is_u w flies)) ∙ stale) (sound.statuses.flying_is_wanted c w flies stale n);
     kept = λ lv b c copy. let k = sound.statuses.kept lv b c copy in (k.0, k.1, record { committed = k.2.flying u step.flies; flying = k.2.flying; wanted = k.2.wanted });
@@ -238,7 +237,7 @@ module _ (s : ModelState) (done : s.in_flight ≡ Some s.committed) (sound : Sou
       let quiet : Quiet s ended = quiet_of s ended refl refl (λ lv b c live. record {
         copy = live.copy;
         counts = ⊎_elim
-            (λ (f : IsFalse (s.committed.value.stale c && true)). inl (and_left_false (s.committed.value.stale c) (stale_in s.in_flight c) (once (s.committed.value.stale c) f)))
+            (λ (f : IsFalse (s.committed.value.stale c && true)). inl (and_left (s.committed.value.stale c) (stale_in s.in_flight c) (once (s.committed.value.stale c) f)))
             (λ (k : HasPassed ended lv (track_group_of b) c). inr (record { copy = k.copy; is_open = k.is_open; target = k.target; passed = k.passed }))
             live.counts;
       }) (λ lv h. h) (λ d h. h) in

@@ -1,11 +1,11 @@
 -- Notes start and end.
 use Rattle.std.proofs.Common.{◌≡◌, ◌⊎◌, inl, inr, ⊎_elim, ℕ, Option, Some, None, refl, sym, ap, subst, ◌∙◌}
 use Rattle.std.specs.Prelude.{IsTrue, IsFalse}
+use Rattle.lvm_num.proofs.Booleans.{clash_gives}
 use Rattle.lvm_invariant.specs.State.{Groups, ModelState, Named}
 use Rattle.lvm_invariant.specs.Sound.{Sound}
 use Rattle.lvm_invariant.proofs.SoundLemmas.Sound.{live_same, same_statuses, same_behind, keeping_live, keeping_statuses}
 use Rattle.lvm_invariant.proofs.StateLemmas.Claims.{Quiet, StartNoteKeepsCore, EndNoteKeepsCore, keeping_requests}
-use Rattle.lvm_invariant.proofs.Small.{never}
 use Rattle.lvm_invariant.specs.EndNote.{EndsNote}
 use Rattle.lvm_invariant.specs.Updates.{with_names}
 use Rattle.lvm_invariant.specs.StartNote.{StartsNote}
@@ -46,7 +46,7 @@ module _ (s : ModelState) (flying : ℕ → Option Groups) (step : StartsNote s 
   }
 
   named_now : (d lv g : ℕ) → IsTrue (s.missing d) ⊎ IsTrue (s.cache lv g) → Named s d lv g → Named new d lv g
-  named_now d lv g (inl gone) named = named_then d lv g (λ is. never (s.missing d) gone (subst (λ (e : ℕ). IsFalse (s.missing e)) (sym is) step.there)) named
+  named_now d lv g (inl gone) named = named_then d lv g (λ is. clash_gives (s.missing d) gone (subst (λ (e : ℕ). IsFalse (s.missing e)) (sym is) step.there)) named
   named_now d lv g (inr cached) named = named_then d lv g (λ is. cached) named
 
 pub start_note_keeps : StartNoteKeepsCore

@@ -1,15 +1,16 @@
 -- Requests that aren't writes under way.
-use Rattle.std.proofs.Common.{◌≡◌, ◌⊎◌, inl, inr, ⊎_elim, ℕ, ◌<◌, Bool, true, false, ◌&&◌, not, List, Option, Some, None, refl, sym, ap, subst, ◌∙◌, eqb-true, eq-or-lt_of_le, ◌≤◌, arith}
+use Rattle.std.proofs.Common.{◌≡◌, ◌⊎◌, inl, inr, ⊎_elim, ℕ, ◌<◌, Bool, true, false, List, Option, Some, None, refl, sym, ap, subst, ◌∙◌, eqb-true, eq-or-lt_of_le, ◌≤◌, arith}
 use Rattle.std.specs.Prelude.{IsTrue, IsFalse, ◌==◌}
-use Rattle.std.proofs.lemmas.Bool.{cases_lt}
+use Rattle.std.proofs.lemmas.Bool.{cases_lt, cases_Bool, and_left}
 use Rattle.lvm_num.specs.declared.place.Pp.{Pp}
 use Rattle.lvm_num.specs.Geometry.{track_group_of}
-use Rattle.lvm_invariant.specs.State.{write_of, Groups, Stage, ModelPhase, Held, WantEntry, Ready, Going, Queued, ModelState, covers, request_of, is_held, is_past, has_landed, is_pinning, stale_in, Live, Started, told}
-use Rattle.lvm_invariant.proofs.Small.{IsIn, never, and_left_false}
+use Rattle.lvm_num.proofs.Booleans.{clash_gives, both_fail}
+use Rattle.lvm_invariant.specs.State.{write_of, Groups, Stage, ModelPhase, Held, WantEntry, Ready, Going, Queued, ModelState, covers, request_of, is_past, has_landed, is_pinning, stale_in, Live, Started, told}
+use Rattle.lvm_invariant.proofs.Small.{IsIn}
 use Rattle.lvm_invariant.specs.Sound.{Conflict, MayDiffer, Agree, Quiescent, Tied, Holds, Sound, the_write}
 use Rattle.lvm_invariant.proofs.SoundLemmas.Sound.{live_same, same_statuses, same_behind}
 use Rattle.lvm_invariant.proofs.StateLemmas.Claims.{Frame, Calmer, PlainKeeps, AdmitKeepsCore}
-use Rattle.lvm_invariant.proofs.UpdatesLemmas.Requests.{decided, put_cases, put_other, past_of, past_not_landed, one_req}
+use Rattle.lvm_invariant.proofs.UpdatesLemmas.Requests.{put_cases, put_other, past_of, past_not_landed, one_req}
 use Rattle.lvm_invariant.proofs.StateLemmas.Calm.{calm_blocks, calmer_of}
 use Rattle.lvm_invariant.proofs.StateLemmas.Writes.{from_put}
 use Rattle.lvm_vol.specs.declared.entry.Vol.TheVariants.{Lv}
@@ -18,6 +19,7 @@ use Rattle.lvm_vol.specs.Facts.{Fact}
 use Rattle.lvm_invariant.specs.Admit.{admitted, Admits}
 use Rattle.lvm_invariant.specs.Updates.{put, with_req}
 use Rattle.lvm_invariant.proofs.SoundLemmas.Framing.{framed}
+use Rattle.lvm_invariant.proofs.StateLemmas.Entered.{past_unlanded}
 
 -- ---- a request that isn't a write under way changes, and no block does
 
@@ -42,7 +44,7 @@ module _ (s : ModelState) (i : ℕ) (r n : Queued) (facts : List Fact) (cache : 
         let is : r ≡ e = one_req (sym there ∙ ap s.queue (sym (eqb-true _ _ same)) ∙ started.there) in
         absurd (calm (ap (λ (q : Queued). q.write) is ∙ started.write) (ap (λ (q : Queued). q.phase) is ∙ started.going)))
         (λ (other : IsFalse (j == i)). put_other s.queue i j n other ∙ started.there)
-        (decided (j == i));
+        (cases_Bool (j == i));
   }
 
   pub calmer_plain : Calmer s plain
@@ -92,15 +94,7 @@ plain_keeps s i r n facts cache step alike sound =
 
 -- ---- a request is admitted
 
-past_unlanded : (p : ModelPhase) → IsTrue (is_past p) → IsFalse (has_landed p)
-past_unlanded p h = by (is_held p) (has_landed p) h
-  where
-    by : (a b : Bool) → IsTrue (not a && not b) → IsFalse b
-    by a false e = refl
-    by true true e = absurd cc
-    by false true e = absurd cc
-
-early_not_landed : (r : Queued) → (r.phase ≡ Held) ⊎ (r.phase ≡ WantEntry) ⊎ (r.phase ≡ Ready) ⊎ (IsFalse r.write × IsTrue (is_past r.phase) × (r.got ≡ None)) → IsFalse (has_landed r.phase)
+pub early_not_landed : (r : Queued) → (r.phase ≡ Held) ⊎ (r.phase ≡ WantEntry) ⊎ (r.phase ≡ Ready) ⊎ (IsFalse r.write × IsTrue (is_past r.phase) × (r.got ≡ None)) → IsFalse (has_landed r.phase)
 early_not_landed r (inl e) = ap has_landed e
 early_not_landed r (inr (inl e)) = ap has_landed e
 early_not_landed r (inr (inr (inl e))) = ap has_landed e
@@ -116,11 +110,6 @@ write_not_going r (inl e) w g = early_not_going r.phase (inl e) g
 write_not_going r (inr (inl e)) w g = early_not_going r.phase (inr (inl e)) g
 write_not_going r (inr (inr (inl e))) w g = early_not_going r.phase (inr (inr e)) g
 write_not_going r (inr (inr (inr e))) w g = let c : ◌≡◌ {A = Bool} true false = sym w ∙ e.0 in cc
-
-usable_parts : (stale missing : Bool) → IsTrue (not stale && not missing) → IsFalse stale × IsFalse missing
-usable_parts true missing h = absurd cc
-usable_parts false true h = absurd cc
-usable_parts false false h = (refl, refl)
 
 module _ (s : ModelState) (i : ℕ) (r : Queued) (phase : ModelPhase) (several : Bool) (targets : Pp → Option Stage) (step : Admits s i r phase several targets) (sound : Sound s) where
   abbrev n : Queued
@@ -171,7 +160,7 @@ module _ (s : ModelState) (i : ℕ) (r : Queued) (phase : ModelPhase) (several :
       (λ (low : by.0 < i). past_not_landed by.1.phase e_past (step.free by.0 by.1 by.2.there low (record { lv = lv; block = b; first = by.3; second = over; writes = inl by.2.write })))
       (λ (rest : i ≤ by.0). ⊎_elim
       (λ (same : i ≡ by.0). calm (ap (λ (q : Queued). q.write) (one_req (sym step.there ∙ ap s.queue same ∙ by.2.there)) ∙ by.2.write) (ap (λ (q : Queued). q.phase) (one_req (sym step.there ∙ ap s.queue same ∙ by.2.there)) ∙ by.2.going))
-      (λ (low : i < by.0). never (has_landed r.phase) (sound.holds.order by.0 i by.1 r by.2.there step.there low (record { lv = lv; block = b; first = over; second = by.3; writes = inr by.2.write }) e_past) un)
+      (λ (low : i < by.0). clash_gives (has_landed r.phase) (sound.holds.order by.0 i by.1 r by.2.there step.there low (record { lv = lv; block = b; first = over; second = by.3; writes = inr by.2.write }) e_past) un)
       (eq-or-lt_of_le rest))
       (cases_lt by.0 i)))
       (sound.blocks.each lv b)
@@ -181,9 +170,9 @@ module _ (s : ModelState) (i : ℕ) (r : Queued) (phase : ModelPhase) (several :
   read_now lv b over read c x at =
       let place = sound.tied.place i r step.there lv b over in
       let u = step.usable read c x at in
-      let parts = usable_parts (s.committed.value.stale c) (s.missing c.disk) u.1 in
+      let parts = both_fail (s.committed.value.stale c) (s.missing c.disk) u.1 in
       let copy : IsTrue (s.is_copy lv b c) = subst (λ (v : ℕ). IsTrue (s.is_copy v b c)) (sym place.0) (ap (λ (g : Pp → Bool). g c) place.2 ∙ u.0) in
-      let live : Live s lv b c = record { copy = copy; counts = inl (and_left_false (s.committed.value.stale c) (stale_in s.in_flight c) parts.0) } in
+      let live : Live s lv b c = record { copy = copy; counts = inl (and_left (s.committed.value.stale c) (stale_in s.in_flight c) parts.0) } in
       let settled = quiet_there lv b over in (
         settled.allowed c live,
         ⊎_elim
@@ -193,9 +182,9 @@ module _ (s : ModelState) (i : ℕ) (r : Queued) (phase : ModelPhase) (several :
       )
     where
       by_mode : (active : Bool) (lv b : ℕ) → MayDiffer s lv b active → (c : Pp) → Live s lv b c → IsFalse (s.missing c.disk) → IsTrue (told s lv b).loose
-      by_mode true lv b differ c live there = never (s.missing c.disk) (differ c live).0 there
+      by_mode true lv b differ c live there = clash_gives (s.missing c.disk) (differ c live).0 there
       by_mode false lv b (inl loose) c live there = loose
-      by_mode false lv b (inr d) c live there = never (s.missing c.disk) (d.missing c live) there
+      by_mode false lv b (inr d) c live there = clash_gives (s.missing c.disk) (d.missing c live) there
 
   admit_holds : Holds new
   admit_holds = record {
@@ -205,7 +194,7 @@ module _ (s : ModelState) (i : ℕ) (r : Queued) (phase : ModelPhase) (several :
         (λ (other : IsFalse (q == i) × (s.queue q ≡ Some e)). step.free q e other.1 (subst (λ (k : ℕ). q < k) is_p.0 low) (conflict_as e m conflict is_p.1))
         (put_cases s.queue i q n e at_q))
         (λ (old_p : IsFalse (p == i) × (s.queue p ≡ Some m)). ⊎_elim
-        (λ (is_q : (q ≡ i) × (n ≡ e)). never (has_landed r.phase) (sound.holds.order p i m r old_p.1 step.there (subst (λ (k : ℕ). k < p) is_q.0 low) (conflict_back e m conflict is_q.1) past) un)
+        (λ (is_q : (q ≡ i) × (n ≡ e)). clash_gives (has_landed r.phase) (sound.holds.order p i m r old_p.1 step.there (subst (λ (k : ℕ). k < p) is_q.0 low) (conflict_back e m conflict is_q.1) past) un)
         (λ (other : IsFalse (q == i) × (s.queue q ≡ Some e)). sound.holds.order p q m e old_p.1 other.1 low conflict past)
         (put_cases s.queue i q n e at_q))
         (put_cases s.queue i p n m at_p);
@@ -253,7 +242,7 @@ module _ (s : ModelState) (i : ℕ) (r : Queued) (phase : ModelPhase) (several :
       home = sound.notes.home;
       pinned = λ j m h write pins on sev. ⊎_elim
           (λ (is : (j ≡ i) × (n ≡ m)). ⊎_elim
-          (λ (e : phase ≡ WantEntry). never (is_pinning m.phase) pins (ap (λ (q : Queued). is_pinning q.phase) (sym is.1) ∙ ap is_pinning e))
+          (λ (e : phase ≡ WantEntry). clash_gives (is_pinning m.phase) pins (ap (λ (q : Queued). is_pinning q.phase) (sym is.1) ∙ ap is_pinning e))
           (λ (e : (phase ≡ Ready) × (IsTrue r.write → IsTrue (s.is_active r.lv) → IsTrue several → ⊥)). absurd (e.1 (ap (λ (q : Queued). q.write) is.1 ∙ write) (ap (λ (q : Queued). s.is_active q.lv) is.1 ∙ on) (ap (λ (q : Queued). q.several) is.1 ∙ sev)))
           step.phase_now)
           (λ (other : IsFalse (j == i) × (s.queue j ≡ Some m)). sound.notes.pinned j m other.1 write pins on sev)

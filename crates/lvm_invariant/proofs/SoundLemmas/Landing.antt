@@ -1,14 +1,16 @@
 -- A write that has started lands.
 use Rattle.std.proofs.Common.{◌≡◌, ◌⊎◌, inl, inr, ⊎_elim, ℕ, List, Option, Some, sym, ap, subst, ◌∙◌, eq-eqb, eqb-true, refl}
 use Rattle.std.specs.Prelude.{IsTrue, IsFalse, ◌==◌}
+use Rattle.std.proofs.lemmas.Bool.{cases_Bool}
 use Rattle.lvm_num.specs.declared.place.Pp.{Pp}
 use Rattle.lvm_num.specs.Geometry.{track_group_of}
+use Rattle.lvm_num.proofs.Booleans.{clash_gives}
 use Rattle.lvm_vol.specs.May.{Known, known}
-use Rattle.lvm_invariant.proofs.Small.{IsIn, never}
+use Rattle.lvm_invariant.proofs.Small.{IsIn}
 use Rattle.lvm_invariant.specs.State.{Stage, Well, Going, Landed, ModelPhase, Queued, ModelState, covers, is_settled_stale, HasPassed, Live, Started, told}
 use Rattle.lvm_invariant.specs.Sound.{Agree, Quiescent, Blocks, Sound}
 use Rattle.lvm_invariant.proofs.StateLemmas.Effects.{ClosesOnly, DoneEffect, LostEffect}
-use Rattle.lvm_invariant.proofs.UpdatesLemmas.Requests.{decided, put_cases, put_other, one_write, one_req}
+use Rattle.lvm_invariant.proofs.UpdatesLemmas.Requests.{put_cases, put_other, one_write, one_req}
 use Rattle.lvm_vol.specs.Legal.{lands}
 use Rattle.lvm_vol.specs.declared.entry.Vol.TheVariants.{Lv}
 use Rattle.lvm_vol.specs.Facts.{Fact}
@@ -30,7 +32,7 @@ module _ (s : ModelState) (sound : Sound s) (i : ℕ) (r : Queued) (facts : List
   ]
 
   elsewhere : (j lv b : ℕ) (e : Queued) → IsFalse (j == i) → Started s j e → IsTrue (covers e lv b) → IsTrue (covers r lv b) → ⊥
-  elsewhere j lv b e other started over over_r = never (j == i) (eq-eqb j i (sym (one_write s sound i j lv b r e started_r started over_r over))) other
+  elsewhere j lv b e other started over over_r = clash_gives (j == i) (eq-eqb j i (sym (one_write s sound i j lv b r e started_r started over_r over))) other
 
   settled_off : (lv b : ℕ) → IsFalse (covers r lv b) → Quiescent s lv b → Quiescent new lv b
   settled_off lv b off settled = record {
@@ -51,15 +53,15 @@ module _ (s : ModelState) (sound : Sound s) (i : ℕ) (r : Queued) (facts : List
         (λ (off : IsFalse (covers r lv b)). ⊎_elim
         (λ (settled : Quiescent s lv b). inl (settled_off lv b off settled))
         (λ (by : (j : ℕ) × (e : Queued) × Started s j e × IsTrue (covers e lv b)). ⊎_elim
-        (λ (same : IsTrue (by.0 == i)). never (covers r lv b) (ap (λ (q : Queued). covers q lv b) (one_req (sym started_r.there ∙ ap s.queue (sym (eqb-true _ _ same)) ∙ by.2.there)) ∙ by.3) off)
+        (λ (same : IsTrue (by.0 == i)). clash_gives (covers r lv b) (ap (λ (q : Queued). covers q lv b) (one_req (sym started_r.there ∙ ap s.queue (sym (eqb-true _ _ same)) ∙ by.2.there)) ∙ by.3) off)
         (λ (other : IsFalse (by.0 == i)). inr (by.0, by.1, record { there = put_other s.queue i by.0 (land r) other ∙ by.2.there; write = by.2.write; going = by.2.going }, by.3))
-        (decided (by.0 == i)))
+        (cases_Bool (by.0 == i)))
         (sound.blocks.each lv b))
-        (decided (covers r lv b));
+        (cases_Bool (covers r lv b));
     busy = λ j lv b e started over.
         let was = started_before j e started in
         let busy = sound.blocks.busy j lv b e was.1 over in
-        let off : IsFalse (covers r lv b) = ⊎_elim (λ (over_r : IsTrue (covers r lv b)). absurd (elsewhere j lv b e was.0 was.1 over over_r)) (λ (n : IsFalse (covers r lv b)). n) (decided (covers r lv b)) in
+        let off : IsFalse (covers r lv b) = ⊎_elim (λ (over_r : IsTrue (covers r lv b)). absurd (elsewhere j lv b e was.0 was.1 over over_r)) (λ (n : IsFalse (covers r lv b)). n) (cases_Bool (covers r lv b)) in
         record {
           known = subst (λ (k : Known). (values : List (List ℕ)) × (k.values ≡ Some values)) (sym (closes.outside lv b off)) busy.known;
           aimed = λ f live. busy.aimed f (live_same s new refl lv b f live);
@@ -76,7 +78,7 @@ dropped_not_live : (s : ModelState) (sound : Sound s) (i : ℕ) (r : Queued) →
 dropped_not_live s sound i r started lv b over e dropped live =
     let place = sound.tied.place i r started.there lv b over in
     ⊎_elim
-    (λ (fresh : IsFalse (is_settled_stale s e)). never (is_settled_stale s e) dropped.stale fresh)
+    (λ (fresh : IsFalse (is_settled_stale s e)). clash_gives (is_settled_stale s e) dropped.stale fresh)
     (λ (k : HasPassed s lv (track_group_of b) e). dropped.uncaught (subst (λ (g : ℕ). HasPassed s r.lv g e) place.1 (subst (λ (v : ℕ). HasPassed s v (track_group_of b) e) place.0 k)))
     live.counts
 

@@ -1,12 +1,14 @@
 -- A transfer of a write that has started starts or ends.
 use Rattle.std.proofs.Common.{◌≡◌, ◌⊎◌, inl, inr, ⊎_elim, ℕ, List, Some, sym, ap, subst, ◌∙◌, eq-eqb, eqb-true, refl}
 use Rattle.std.specs.Prelude.{IsTrue, IsFalse, ◌==◌}
+use Rattle.std.proofs.lemmas.Bool.{cases_Bool}
 use Rattle.lvm_num.specs.declared.place.Pp.{Pp}
 use Rattle.lvm_num.specs.Geometry.{track_group_of}
-use Rattle.lvm_invariant.proofs.Small.{IsIn, never}
+use Rattle.lvm_num.proofs.Booleans.{clash_gives}
+use Rattle.lvm_invariant.proofs.Small.{IsIn}
 use Rattle.lvm_invariant.specs.State.{Stage, Well, Queued, ModelState, covers, Started, told}
 use Rattle.lvm_invariant.specs.Sound.{Quiescent, Busy, Recorded, Blocks, Sound}
-use Rattle.lvm_invariant.proofs.UpdatesLemmas.Requests.{decided, put_same, put_other, staged_at, staged_was, staged_is, one_write, one_req, started_cases, by_started}
+use Rattle.lvm_invariant.proofs.UpdatesLemmas.Requests.{put_same, put_other, staged_at, staged_was, staged_is, one_write, one_req, started_cases, by_started}
 use Rattle.lvm_invariant.specs.Transfer.{Restages, restaged}
 use Rattle.lvm_invariant.specs.Updates.{staged}
 use Rattle.lvm_invariant.proofs.SoundLemmas.Sound.{live_same, named_same, equal_same, recorded_same}
@@ -78,7 +80,7 @@ module _ (s : ModelState) (sound : Sound s) (i : ℕ) (r : Queued) (c : Pp) (sta
   busy_kept : (j lv b : ℕ) (e : Queued) → IsFalse (j == i) → Started s j e → IsTrue (covers e lv b) → Busy new e lv b
   busy_kept j lv b e other started over =
       let busy = sound.blocks.busy j lv b e started over in
-      let off : IsTrue (covers r lv b) → ⊥ = λ over_r. never (j == i) (eq-eqb j i (sym (one_write s sound i j lv b r e step.started started over_r over))) other in
+      let off : IsTrue (covers r lv b) → ⊥ = λ over_r. clash_gives (j == i) (eq-eqb j i (sym (one_write s sound i j lv b r e step.started started over_r over))) other in
       record {
         known = busy.known;
         aimed = λ f live. busy.aimed f (live_same s new refl lv b f live);
@@ -93,7 +95,7 @@ module _ (s : ModelState) (sound : Sound s) (i : ℕ) (r : Queued) (c : Pp) (sta
         (λ (by : (j : ℕ) × (e : Queued) × Started s j e × IsTrue (covers e lv b)). ⊎_elim
         (λ (same : IsTrue (by.0 == i)). inr (i, next, is_started, ap (λ (q : Queued). covers q lv b) (one_req (sym step.started.there ∙ ap s.queue (sym (eqb-true _ _ same)) ∙ by.2.there)) ∙ by.3))
         (λ (other : IsFalse (by.0 == i)). inr (by.0, by.1, record { there = put_other s.queue i by.0 next other ∙ by.2.there; write = by.2.write; going = by.2.going }, by.3))
-        (decided (by.0 == i)))
+        (cases_Bool (by.0 == i)))
         (sound.blocks.each lv b);
     busy = by_started s new i next refl (Busy new) busy_now busy_kept;
     recorded = by_started s new i next refl (Recorded new) recorded_now (λ j lv b e other started over. recorded_same s new refl lv b e (sound.blocks.recorded j lv b e started over));

@@ -1,14 +1,15 @@
 -- The first transfer of a write.
 use Rattle.std.proofs.Common.{◌≡◌, ◌⊎◌, inl, inr, ⊎_elim, ℕ, Bool, true, false, ◌&&◌, not, List, Option, Some, None, refl, sym, ap, subst, ◌∙◌, eqb-true}
 use Rattle.std.specs.Prelude.{IsTrue, IsFalse, ◌==◌}
+use Rattle.std.proofs.lemmas.Bool.{cases_Bool}
 use Rattle.lvm_num.specs.declared.place.Pp.{Pp}
 use Rattle.lvm_num.specs.Geometry.{track_group_of}
 use Rattle.lvm_num.specs.Record.{Stamped}
-use Rattle.lvm_num.proofs.Booleans.{first_holds}
-use Rattle.lvm_invariant.proofs.Small.{IsIn, never}
+use Rattle.lvm_num.proofs.Booleans.{first_holds, clash_gives, both_fail}
+use Rattle.lvm_invariant.proofs.Small.{IsIn}
 use Rattle.lvm_invariant.specs.State.{Marks, Stage, Todo, Flying, Well, ModelPhase, Ready, Going, Queued, ModelState, covers, stale_in, is_settled_stale, is_usable, HasPassed, Live, Named, Started, told}
 use Rattle.lvm_invariant.specs.Sound.{Quiescent, Busy, Recorded, Blocks, Complete, Sound}
-use Rattle.lvm_invariant.proofs.UpdatesLemmas.Requests.{decided, put_same, put_other, staged_cases, staged_was, staged_is, alone, past_of, one_req, started_cases, by_started}
+use Rattle.lvm_invariant.proofs.UpdatesLemmas.Requests.{put_same, put_other, staged_cases, staged_was, staged_is, alone, past_of, one_req, started_cases, by_started}
 use Rattle.lvm_invariant.specs.StartWrite.{MayStart, going, started_first}
 use Rattle.lvm_invariant.proofs.SoundLemmas.Sound.{live_same, equal_same, recorded_same}
 
@@ -26,11 +27,6 @@ usable_of true missing a b = absurd cc
 usable_of false true a b = absurd cc
 usable_of false false a b = refl
 
-usable_fresh : (stale missing : Bool) → IsTrue (not stale && not missing) → IsFalse stale × IsFalse missing
-usable_fresh true missing h = absurd cc
-usable_fresh false true h = absurd cc
-usable_fresh false false h = (refl, refl)
-
 module _ (s : ModelState) (sound : Sound s) (i : ℕ) (r : Queued) (c : Pp) (may : MayStart s i r c) where
   abbrev new : ModelState
   new = started_first s i r c
@@ -40,22 +36,22 @@ module _ (s : ModelState) (sound : Sound s) (i : ℕ) (r : Queued) (c : Pp) (may
 
   -- where nothing is pending, each live copy of its partition is a target
   settled_true : (e : Pp) → IsTrue (s.is_copy r.lv r.first e) → IsTrue (s.wanted.stale e) → IsFalse (is_settled_stale s e) → ⊥
-  settled_true e copy wanted live = never (is_settled_stale s e) (may.quiet e copy wanted) live
+  settled_true e copy wanted live = clash_gives (is_settled_stale s e) (may.quiet e copy wanted) live
 
   source_kept : IsFalse (s.wanted.stale may.source)
   source_kept = ⊎_elim
-      (λ (w : IsTrue (s.wanted.stale may.source)). never (s.committed.value.stale may.source) (first_holds (s.committed.value.stale may.source) (stale_in s.in_flight may.source) (may.quiet may.source may.source_copy w)) (usable_fresh (s.committed.value.stale may.source) (s.missing may.source.disk) may.source_usable).0)
+      (λ (w : IsTrue (s.wanted.stale may.source)). clash_gives (s.committed.value.stale may.source) (first_holds (s.committed.value.stale may.source) (stale_in s.in_flight may.source) (may.quiet may.source may.source_copy w)) (both_fail (s.committed.value.stale may.source) (s.missing may.source.disk) may.source_usable).0)
       (λ (n : IsFalse (s.wanted.stale may.source)). n)
-      (decided (s.wanted.stale may.source))
+      (cases_Bool (s.wanted.stale may.source))
 
   target_if_fresh : (e : Pp) → IsTrue (s.is_copy r.lv r.first e) → IsFalse (is_settled_stale s e) → IsFalse (s.committed.value.stale e) → r.targets e ≡ Some Todo
   target_if_fresh e copy live fresh = ⊎_elim
       (λ (gone : IsTrue (s.missing e.disk)). absurd (settled_true e copy (sound.behind.left_behind r.lv r.first e may.source copy fresh gone may.source_copy may.source_usable source_kept) live))
       (λ (there : IsFalse (s.missing e.disk)). may.each e copy (inl (usable_of (s.committed.value.stale e) (s.missing e.disk) fresh there)))
-      (decided (s.missing e.disk))
+      (cases_Bool (s.missing e.disk))
 
   flying_fresh : (o : Option (Stamped Marks)) (e : Pp) → IsTrue (s.committed.value.stale e) → IsFalse (s.committed.value.stale e && stale_in o e) → (u : Stamped Marks) × (o ≡ Some u) × IsFalse (u.value.stale e)
-  flying_fresh None e stale live = never (s.committed.value.stale e && true) (ap (λ (t : Bool). t && true) stale) live
+  flying_fresh None e stale live = clash_gives (s.committed.value.stale e && true) (ap (λ (t : Bool). t && true) stale) live
   flying_fresh (Some u) e stale live = (u, refl, sym (ap (λ (t : Bool). t && u.value.stale e) stale) ∙ live)
 
   target_if_cleared : (e : Pp) → IsTrue (s.is_copy r.lv r.first e) → IsFalse (is_settled_stale s e) → IsTrue (s.committed.value.stale e) → r.targets e ≡ Some Todo
@@ -67,12 +63,12 @@ module _ (s : ModelState) (sound : Sound s) (i : ℕ) (r : Queued) (c : Pp) (may
       (sound.statuses.stale_flies e flies.0 flies.1 stale flies.2)
 
   target_if_live : (e : Pp) → IsTrue (s.is_copy r.lv r.first e) → IsFalse (is_settled_stale s e) ⊎ HasPassed s r.lv (track_group_of r.first) e → r.targets e ≡ Some Todo
-  target_if_live e copy (inl live) = ⊎_elim (target_if_cleared e copy live) (target_if_fresh e copy live) (decided (s.committed.value.stale e))
+  target_if_live e copy (inl live) = ⊎_elim (target_if_cleared e copy live) (target_if_fresh e copy live) (cases_Bool (s.committed.value.stale e))
   target_if_live e copy (inr caught) = may.each e copy (inr caught)
 
   there_if_target : (e : Pp) (stage : Stage) → r.targets e ≡ Some stage → IsFalse (s.missing e.disk)
   there_if_target e stage at = ⊎_elim
-      (λ (u : IsTrue (is_usable s e)). (usable_fresh (s.committed.value.stale e) (s.missing e.disk) u).1)
+      (λ (u : IsTrue (is_usable s e)). (both_fail (s.committed.value.stale e) (s.missing e.disk) u).1)
       (λ (k : HasPassed s r.lv (track_group_of r.first) e). subst (λ (f : Pp). IsFalse (s.missing f.disk)) k.target (sound.statuses.open_there k.copy k.is_open))
       (may.usable e stage at)
 
@@ -99,12 +95,12 @@ module _ (s : ModelState) (sound : Sound s) (i : ℕ) (r : Queued) (c : Pp) (may
       let is : r ≡ e = one_req (sym may.there ∙ ap s.queue (sym (eqb-true _ _ same)) ∙ started.there) in
       not_both e.phase (ap (λ (q : Queued). q.phase) (sym is) ∙ may.ready) started.going)
       (λ (n : IsFalse (j == i)). n)
-      (decided (j == i))
+      (cases_Bool (j == i))
 
   calm_now : (lv b : ℕ) → IsFalse (covers r lv b) → Quiescent s lv b → Quiescent new lv b
   calm_now lv b off settled = record {
     calm = λ j e started over. ⊎_elim
-        (λ (is : (j ≡ i) × (next ≡ e)). never (covers r lv b) (ap (λ (q : Queued). covers q lv b) is.1 ∙ over) off)
+        (λ (is : (j ≡ i) × (next ≡ e)). clash_gives (covers r lv b) (ap (λ (q : Queued). covers q lv b) is.1 ∙ over) off)
         (λ (old : IsFalse (j == i) × Started s j e). settled.calm j e old.1 over)
         (started_cases s new i next refl j e started);
     allowed = λ e live. settled.allowed e (live_same s new refl lv b e live);
@@ -171,7 +167,7 @@ module _ (s : ModelState) (sound : Sound s) (i : ℕ) (r : Queued) (c : Pp) (may
         (λ (by : (j : ℕ) × (e : Queued) × Started s j e × IsTrue (covers e lv b)).
         inr (by.0, by.1, record { there = put_other s.queue i by.0 next (another by.0 by.1 by.2) ∙ by.2.there; write = by.2.write; going = by.2.going }, by.3))
         (sound.blocks.each lv b))
-        (decided (covers r lv b));
+        (cases_Bool (covers r lv b));
     busy = by_started s new i next refl (Busy new) busy_now busy_kept;
     recorded = by_started s new i next refl (Recorded new) recorded_now (λ j lv b e other started over. recorded_same s new refl lv b e (sound.blocks.recorded j lv b e started over));
   }

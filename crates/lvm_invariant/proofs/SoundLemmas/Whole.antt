@@ -1,14 +1,16 @@
 -- Each event keeps what is true of a session.
 use Rattle.std.proofs.Common.{◌≡◌, inl, inr, ⊎_elim, ℕ, Bool, true, false, Option, Some, None, refl, sym, ap, subst, ◌∙◌, eqb-true}
 use Rattle.std.specs.Prelude.{IsTrue, IsFalse, ◌==◌, if◌then◌else◌, List}
+use Rattle.std.proofs.lemmas.Bool.{cases_Bool}
 use Rattle.lvm_num.specs.declared.place.Pp.{Pp}
 use Rattle.lvm_num.specs.Record.{Stamped}
+use Rattle.lvm_num.proofs.Booleans.{clash_gives}
 use Rattle.lvm_invariant.specs.State.{Marks, Queued, ModelState, has_landed, is_pinning, Live, Started, told, write_of}
 use Rattle.lvm_invariant.specs.Sound.{Sound}
 use Rattle.lvm_invariant.proofs.SoundLemmas.Sound.{live_same, same_behind, same_statuses}
 use Rattle.lvm_invariant.proofs.StateLemmas.Claims.{Frame, Calmer}
-use Rattle.lvm_invariant.proofs.Small.{never, IsIn}
-use Rattle.lvm_invariant.proofs.UpdatesLemmas.Requests.{decided, one_req}
+use Rattle.lvm_invariant.proofs.Small.{IsIn}
+use Rattle.lvm_invariant.proofs.UpdatesLemmas.Requests.{one_req}
 use Rattle.lvm_invariant.proofs.StateLemmas.Calm.{calm_blocks, calmer_of}
 use Rattle.lvm_invariant.proofs.StateLemmas.Quieting.{alike_same, quiet_of, quiet_sound}
 use Rattle.lvm_invariant.specs.Take.{Takes}
@@ -71,10 +73,10 @@ module _ (s : ModelState) (i : ℕ) (r : Queued) (step : Takes s i r) where
 
   stays : (j : ℕ) (e : Queued) → Started s j e → without s.queue i j ≡ Some e
   stays j e started = ⊎_elim
-      (λ (same : IsTrue (j == i)). never (has_landed r.phase) step.landed
+      (λ (same : IsTrue (j == i)). clash_gives (has_landed r.phase) step.landed
       (ap (λ (q : Queued). has_landed q.phase) (one_req (sym step.there ∙ ap s.queue (sym (eqb-true _ _ same)) ∙ started.there)) ∙ ap has_landed started.going))
       (λ (other : IsFalse (j == i)). ap (λ (t : Bool). if t then None else s.queue j) other ∙ started.there)
-      (decided (j == i))
+      (cases_Bool (j == i))
 
   pub taken_core : Sound s → (facts : List Fact) → ((lv b : ℕ) → known facts (Lv lv) b ≡ told s lv b) → Sound (record s { queue = without s.queue i; facts = facts })
   taken_core sound facts same_known = left_core s (without s.queue i) before stays sound facts same_known

@@ -2,7 +2,7 @@
 use Rattle.std.proofs.Common.{◌≡◌, ◌⊎◌, inl, inr, ⊎_elim, ℕ, ◌+◌, ◌<◌, ◌≤◌, Bool, true, false, ◌&&◌, List, [], ◌∷◌, ◌++◌, Option, Some, None, refl, sym, ap, subst, ◌∙◌, eq-eqb, arith, count_by, IfSome, nat_le, nat_lt}
 use Rattle.std.specs.Prelude.{IsTrue, IsFalse, ◌==◌, if◌then◌else◌}
 use Rattle.std.proofs.lemmas.Bool.Decides.{nat_tests}
-use Rattle.std.proofs.lemmas.Bool.{and_from}
+use Rattle.std.proofs.lemmas.Bool.{and_from, cases_Bool}
 use Rattle.lvm_vol.specs.declared.entry.Vol.{Vol}
 use Rattle.lvm_vol.specs.declared.entry.Outcome.{Outcome}
 use Rattle.lvm_vol.specs.declared.entry.Outcome.TheVariants as outcome
@@ -10,6 +10,7 @@ use Rattle.lvm_vol.specs.Facts.{Landed as HasLanded, Request, Fact, Begun, Stand
 use Rattle.lvm_vol.specs.May.{ended, read, May, Known, known}
 use Rattle.lvm_num.specs.declared.place.Pp.{Pp}
 use Rattle.lvm_num.specs.Geometry.{track_group_of}
+use Rattle.lvm_num.proofs.Booleans.{clash_gives}
 use Rattle.lvm_vol.specs.declared.entry.Vol.TheVariants.{Lv}
 use Rattle.lvm_vol.specs.Legal.{begins_in, Gets}
 use Rattle.lvm_invariant.specs.EnterStep.{StepEnters}
@@ -22,18 +23,18 @@ use Rattle.lvm_invariant.specs.LandLost.{LandsLost}
 use Rattle.lvm_invariant.specs.Submit.{Submits}
 use Rattle.lvm_invariant.specs.State.{Groups, Stage, Well, Badly, ModelPhase, Held, WantEntry, Ready, Going, Landed, Queued, ModelState, covers, told, has_landed, is_past, is_pinning}
 use Rattle.lvm_invariant.specs.Sound.{Sound}
-use Rattle.lvm_invariant.proofs.Small.{IsIn, never, in_more, in_added}
+use Rattle.lvm_invariant.proofs.Small.{IsIn, in_more, in_added}
 use Rattle.lvm_invariant.proofs.MayLemmas.{apart_back, is_open_if, is_calm, after_landing, landing_mode, landing_tight, landing_others, landing_outside, landing_ended, landing_read, beginning_values, beginning_loose, beginning_mode, beginning_others, beginning_own, beginning_outside, later_apart, not_open}
 use Rattle.lvm_invariant.proofs.StateLemmas.Effects.{ClosesOnly, DoneEffect, LostEffect, ChangeEffect, GotEffect, JoinEffect}
-use Rattle.lvm_invariant.proofs.UpdatesLemmas.Requests.{decided, staged_was, staged_is}
+use Rattle.lvm_invariant.proofs.UpdatesLemmas.Requests.{staged_was, staged_is}
 use Rattle.lvm_invariant.proofs.StateLemmas.Claims.{Alike}
-use Rattle.lvm_invariant.proofs.CrashLemmas.{the_write_is}
+use Rattle.lvm_invariant.proofs.CrashLemmas.{the_write_is, going_not_landed}
 use Rattle.lvm_invariant.proofs.UpdatesLemmas.Getting.{got_is_allowed}
 use Rattle.lvm_invariant.proofs.StateLemmas.Quieting.{alike_by}
 
 -- a write is no step of a copy
 pub write_asks : (s : ModelState) → Told s.queue s.name s.facts → (j : ℕ) (e : Queued) → s.queue j ≡ Some e → IsTrue e.write → IsFalse e.step
-write_asks s t j e at write = ⊎_elim (λ (step : IsTrue e.step). never e.write write (t.steps_read j e at step)) (λ (f : IsFalse e.step). f) (decided e.step)
+write_asks s t j e at write = ⊎_elim (λ (step : IsTrue e.step). clash_gives e.write write (t.steps_read j e at step)) (λ (f : IsFalse e.step). f) (cases_Bool e.step)
 
 pub past_unlanded : (p : ModelPhase) → IsTrue (is_past p) → IsFalse (has_landed p)
 past_unlanded Held past = absurd cc
@@ -77,9 +78,6 @@ module _ (s : ModelState) (sound : Sound s) (t : Told s.queue s.name s.facts) (i
 
 -- ---- Done and Lost
 
-going_unlanded : (r : Queued) → r.phase ≡ Going → IsFalse (has_landed r.phase)
-going_unlanded r e = ap has_landed e
-
 pub done_effect : (s : ModelState) (i : ℕ) (r : Queued) → Sound s → Told s.queue s.name s.facts → LandsDone s i r → DoneEffect s i r (s.facts ++ HasLanded (s.name i) outcome.Done true [] ∷ [])
 done_effect s i r sound t step =
     let start = step.started in
@@ -88,7 +86,7 @@ done_effect s i r sound t step =
       started = start;
       ended = λ c stage at. ⊎_elim (λ (well : stage ≡ Well). inl well) (λ (bad : (stage ≡ Badly) × IsDropped s r c). inr bad.1) (step.ended c stage at);
       closes = closes_only s sound t i r start.there asked outcome.Done true [] refl;
-      may = λ lv b over. ap (λ (k : Known). k.values) (was_ended s sound t i r start.there asked outcome.Done true [] start.write (going_unlanded r start.going) lv b over)
+      may = λ lv b over. ap (λ (k : Known). k.values) (was_ended s sound t i r start.there asked outcome.Done true [] start.write (going_not_landed r start.going) lv b over)
           ∙ ap (λ (v : List ℕ). Some (v ∷ [])) (brings s sound t i r start.there asked outcome.Done true [] start.write lv b over);
     }
 
@@ -102,7 +100,7 @@ lost_effect s i r sound t step =
       kept = step.kept;
       ended = step.dropped;
       closes = closes_only s sound t i r start.there asked outcome.Lost true [] refl;
-      may = λ lv b over value h. subst (λ (k : Known). IsIn k.values value) (sym (was_ended s sound t i r start.there asked outcome.Lost true [] start.write (going_unlanded r start.going) lv b over))
+      may = λ lv b over value h. subst (λ (k : Known). IsIn k.values value) (sym (was_ended s sound t i r start.there asked outcome.Lost true [] start.write (going_not_landed r start.going) lv b over))
           (⊎_elim
           (λ (old : IsIn (told s lv b).values value). in_more (told s lv b).values (block_of q.blocks q.at b ∷ []) value old)
           (λ (new : ((values : List (List ℕ)) × ((told s lv b).values ≡ Some values)) × (value ≡ r.value b)).
@@ -123,7 +121,7 @@ got_effect s i r got sound t step = record {
       (λ (over : IsTrue (covers r lv b)). was_read s sound t i r step.there step.request outcome.Got true got step.read lv b over
       ∙ ap (λ (x : Bool). if x then told s lv b else record (told s lv b) { values = Some (block_of got (s.name i).at b ∷ []) }) loose)
       (λ (off : IsFalse (covers r lv b)). (closes_only s sound t i r step.there step.request outcome.Got true got refl).outside lv b off)
-      (decided (covers r lv b));
+      (cases_Bool (covers r lv b));
   tight = λ lv b over tight. ap (λ (k : Known). k.values) (was_read s sound t i r step.there step.request outcome.Got true got step.read lv b over)
       ∙ ap (λ (x : Bool). (if x then told s lv b else record (told s lv b) { values = Some (block_of got (s.name i).at b ∷ []) }).values) tight
       ∙ ap (λ (v : List ℕ). Some (v ∷ [])) (step.blocks lv b over);
@@ -157,7 +155,7 @@ got_may s i r got sound t step =
 -- ---- NoFresh and ReadFailed
 
 not_going : {X : Type 0} (p : ModelPhase) → IsTrue (has_landed p) → p ≡ Going → X
-not_going p h e = never (has_landed p) h (ap has_landed e)
+not_going p h e = clash_gives (has_landed p) h (ap has_landed e)
 
 -- nothing changes of what each block may have
 abbrev pub quiet_landing : Outcome → Bool
@@ -188,10 +186,10 @@ quiet_effect s i r how started quiet sound t there asked calm = record {
   modes = λ lv b. landing_mode s.facts (s.name i) how started [] lv b;
   writes = λ lv b j e at write which. ⊎_elim
       (λ (other : IsFalse (j == i)). landing_others s.facts (s.name i) how started [] lv b (s.name j) (t.apart i j r e there at asked (write_asks s t j e at write) other))
-      (λ (un : IsFalse (has_landed Landed)). never true refl un)
+      (λ (un : IsFalse (has_landed Landed)). clash_gives true refl un)
       which;
   got = λ value h. inl h;
-  pinning = λ write pins on several. never (is_pinning Landed) pins refl;
+  pinning = λ write pins on several. clash_gives (is_pinning Landed) pins refl;
   cache_keeps = λ j e at write pins on several cached. cached;
 }
 
@@ -216,10 +214,10 @@ silent_effect s i r n cache there calm calm_now got pinning keeps = record {
 }
 
 pub pin_alike : (r : Queued) → r.phase ≡ WantEntry → Alike r (record r { phase = Ready })
-pin_alike r waits = alike_by r (record r { phase = Ready }) refl (λ h. ap is_past waits) (λ h. ap has_landed waits) (λ h. never (has_landed r.phase) h (ap has_landed waits)) (λ e y at. (y, at)) (λ e y at. (y, at))
+pin_alike r waits = alike_by r (record r { phase = Ready }) refl (λ h. ap is_past waits) (λ h. ap has_landed waits) (λ h. clash_gives (has_landed r.phase) h (ap has_landed waits)) (λ e y at. (y, at)) (λ e y at. (y, at))
 
 pub read_alike : (r : Queued) (c : Pp) (stage : Stage) (got : Option (ℕ → List ℕ)) → IsTrue (is_past r.phase) → (x : Stage) × (r.targets c ≡ Some x) → Alike r (reading r c stage got)
-read_alike r c stage got past was = alike_by r (reading r c stage got) refl (λ h. past) (λ h. past_unlanded r.phase past) (λ h. never (has_landed r.phase) h (past_unlanded r.phase past))
+read_alike r c stage got past was = alike_by r (reading r c stage got) refl (λ h. past) (λ h. past_unlanded r.phase past) (λ h. clash_gives (has_landed r.phase) h (past_unlanded r.phase past))
     (λ e y at. staged_was r.targets c e stage y at was.0 was.1) (λ e y at. staged_is r.targets c e stage y at)
 
 -- ---- beginnings
@@ -237,7 +235,7 @@ begun_effect s i q r sound t step =
       own = λ write lv b. ⊎_elim
           (λ (over : IsTrue (covers r lv b)). beginning_own s.facts q lv b (step.same.write ∙ write) (step.same.over lv b ∙ over) ∙ ap (λ (v : List ℕ). Some v) (step.same.value lv b write over) ∙ sym (the_write_is r.write (covers r lv b) (r.value b) write over))
           (λ (off : IsFalse (covers r lv b)). beginning_outside s.facts q lv b (step.same.over lv b ∙ off) (not_open s.facts q (Lv lv) b t.legal above) ∙ sym (no_write r.write (covers r lv b) (r.value b) off))
-          (decided (covers r lv b));
+          (cases_Bool (covers r lv b));
       others = λ lv b j e at write other. beginning_others s.facts q lv b (s.name j) (apart_back q (s.name j) (later_apart s.facts q (s.name j) t.legal above (t.began j e at (write_asks s t j e at write))));
       place = step.placed.place;
       inside = step.placed.inside;
@@ -255,7 +253,7 @@ entered_effect s i q r step = record {
   may = λ lv b. refl;
   loose = λ lv b. refl;
   modes = λ lv b. refl;
-  own = λ write lv b. never r.write write step.reads;
+  own = λ write lv b. clash_gives r.write write step.reads;
   others = λ lv b j e at write other. refl;
   place = step.placed.place;
   inside = step.placed.inside;

@@ -1,15 +1,17 @@
 -- What is true of a session is kept by the events of a write's data.
 use Rattle.std.proofs.Common.{◌≡◌, ◌⊎◌, inl, inr, ⊎_elim, ℕ, true, false, List, Some, refl, sym, ap, subst, ◌∙◌}
 use Rattle.std.specs.Prelude.{IsTrue, IsFalse, ◌==◌}
+use Rattle.std.proofs.lemmas.Bool.{cases_Bool}
 use Rattle.lvm_num.specs.declared.place.Pp.{Pp}
+use Rattle.lvm_num.proofs.Booleans.{clash_gives}
 use Rattle.lvm_vol.specs.May.{Known}
-use Rattle.lvm_invariant.proofs.Small.{IsIn, never}
+use Rattle.lvm_invariant.proofs.Small.{IsIn}
 use Rattle.lvm_invariant.specs.State.{Stage, Todo, Flying, Ready, Going, Landed, Queued, ModelState, covers, is_past, has_landed, is_pinning, Live, Started, told}
 use Rattle.lvm_invariant.specs.Sound.{Sound, Blocks}
 use Rattle.lvm_invariant.proofs.SoundLemmas.Sound.{live_same}
 use Rattle.lvm_invariant.proofs.StateLemmas.Effects.{ClosesOnly}
 use Rattle.lvm_invariant.proofs.StateLemmas.Claims.{Alike, Seen, Frame, FirstKeeps, RestagingKeeps, DoneKeeps, LostKeeps}
-use Rattle.lvm_invariant.proofs.UpdatesLemmas.Requests.{decided, put_cases, staged_was, staged_is, alone, past_of, one_req}
+use Rattle.lvm_invariant.proofs.UpdatesLemmas.Requests.{put_cases, staged_was, staged_is, alone, past_of, one_req}
 use Rattle.lvm_invariant.proofs.SoundLemmas.StartFirst.{first_blocks}
 use Rattle.lvm_invariant.proofs.SoundLemmas.Restage.{restaged_blocks}
 use Rattle.lvm_invariant.proofs.SoundLemmas.Landing.{done_blocks, lost_blocks}
@@ -45,7 +47,7 @@ module _ (s : ModelState) (sound : Sound s) (i : ℕ) (r n : Queued) (there : s.
   not_read write past j lv b e v seen over =
       let same : i ≡ j = alone s sound i j r e there seen.there past seen.past (record { lv = lv; block = b; first = over; second = seen.over; writes = inl write }) in
       let is : r ≡ e = one_req (sym there ∙ ap s.queue same ∙ seen.there) in
-      never r.write write (ap (λ (q : Queued). q.write) is ∙ seen.read)
+      clash_gives r.write write (ap (λ (q : Queued). q.write) is ∙ seen.read)
 
 -- ---- a transfer starts or ends
 
@@ -92,7 +94,7 @@ restaging_keeps s i r c stage block step sound =
     (restaged_blocks s sound i r c stage block step)
 
 going_alike : (s : ModelState) (i : ℕ) (r : Queued) (c : Pp) → MayStart s i r c → Alike r (going r c)
-going_alike s i r c may = alike_by r (going r c) refl (λ h. past_of r.phase Ready may.ready refl) (λ h. ap has_landed may.ready) (λ h. never (has_landed r.phase) h (ap has_landed may.ready))
+going_alike s i r c may = alike_by r (going r c) refl (λ h. past_of r.phase Ready may.ready refl) (λ h. ap has_landed may.ready) (λ h. clash_gives (has_landed r.phase) h (ap has_landed may.ready))
     (λ e y at. staged_was r.targets c e Flying y at Todo may.target) (λ e y at. staged_is r.targets c e Flying y at)
 
 pub first_keeps : FirstKeeps
@@ -102,7 +104,7 @@ first_keeps s i r c may sound = goes_on s sound i r (going r c) s.media.block ma
 -- ---- landing
 
 pub land_alike : (r : Queued) → IsFalse (has_landed r.phase) → Alike r (land r)
-land_alike r un = alike_by r (land r) refl (λ h. off h) (λ h. never true refl h) (λ h. refl) (λ e y at. (y, at)) (λ e y at. (y, at))
+land_alike r un = alike_by r (land r) refl (λ h. off h) (λ h. clash_gives true refl h) (λ h. refl) (λ e y at. (y, at)) (λ e y at. (y, at))
   where
     off : {X : Type 0} → IsTrue (is_past Landed) → X
     off h = absurd cc
@@ -115,7 +117,7 @@ module _ (s : ModelState) (sound : Sound s) (i : ℕ) (r : Queued) (facts : List
   land_frame = record {
     from = λ j m h. from_put s sound i r (land r) started.there (land_alike r un) j m h;
     writes = λ j m h write unlanded lv b. ⊎_elim
-        (λ (is : (j ≡ i) × (land r ≡ m)). never (has_landed m.phase) (ap (λ (q : Queued). has_landed q.phase) (sym is.1)) unlanded)
+        (λ (is : (j ≡ i) × (land r ≡ m)). clash_gives (has_landed m.phase) (ap (λ (q : Queued). has_landed q.phase) (sym is.1)) unlanded)
         (λ (other : IsFalse (j == i) × (s.queue j ≡ Some m)). closes.others lv b j m other.1 write other.0)
         (put_cases s.queue i j (land r) m h);
     same = refl;
@@ -125,7 +127,7 @@ module _ (s : ModelState) (sound : Sound s) (i : ℕ) (r : Queued) (facts : List
         let off : IsFalse (covers r lv b) = ⊎_elim
         (λ (over : IsTrue (covers r lv b)). absurd (not_read s sound i r (land r) started.there (land_alike r un) started.write (past_of r.phase Going started.going refl) j lv b e v seen over))
         (λ (k : IsFalse (covers r lv b)). k)
-        (decided (covers r lv b)) in
+        (cases_Bool (covers r lv b)) in
         let same = closes.outside lv b off in (
           subst (λ (k : Known). IsIn k.values v) (sym same) seen.allowed,
           ⊎_elim
@@ -135,7 +137,7 @@ module _ (s : ModelState) (sound : Sound s) (i : ℕ) (r : Queued) (facts : List
         );
     still = λ j lv b e m f seen h past. refl;
     got = λ j e m value was is got. inl (got_put s sound i r (land r) started.there (land_alike r un) (λ v h. h) j e m value was is got);
-    pinning = λ j e m was is write pins on several. inl (pins_put s sound i r (land r) started.there (land_alike r un) (λ h. never false h refl) j e m was is pins);
+    pinning = λ j e m was is write pins on several. inl (pins_put s sound i r (land r) started.there (land_alike r un) (λ h. clash_gives false h refl) j e m was is pins);
     cache = λ j e h write pinning on several cached. cached;
   }
 

@@ -1,16 +1,18 @@
 -- A read lands with what it got; a request begins.
 use Rattle.std.specs.Prelude.{if◌then◌else◌, IsTrue, IsFalse, ◌==◌}
 use Rattle.std.proofs.Common.{◌≡◌, ◌⊎◌, inl, inr, ⊎_elim, ℕ, ◌<◌, Bool, false, List, [], ◌∷◌, Option, Some, refl, sym, ap, subst, ◌∙◌, eqb-true, arith, eq-eqb}
+use Rattle.std.proofs.lemmas.Bool.{cases_Bool, and_left}
 use Rattle.lvm_num.specs.declared.place.Pp.{Pp}
 use Rattle.lvm_num.specs.Geometry.{track_group_of}
+use Rattle.lvm_num.proofs.Booleans.{clash_gives}
 use Rattle.lvm_vol.specs.May.{Known, is_off, known}
 use Rattle.lvm_invariant.specs.State.{write_of, ModelPhase, Held, Going, Landed, Queued, ModelState, covers, is_past, has_landed, is_pinning, stale_in, Live, Started, told}
-use Rattle.lvm_invariant.proofs.Small.{IsIn, never, and_left_false}
+use Rattle.lvm_invariant.proofs.Small.{IsIn}
 use Rattle.lvm_invariant.specs.Sound.{Quiescent, Blocks, Tied, Holds, Sound, the_write}
 use Rattle.lvm_invariant.proofs.SoundLemmas.Sound.{live_same, same_behind, same_statuses, equal_same, recorded_same, each_same}
 use Rattle.lvm_invariant.proofs.StateLemmas.Effects.{GotEffect, JoinEffect}
 use Rattle.lvm_invariant.proofs.StateLemmas.Claims.{Frame, Calmer, GotKeeps, GotIsAllowed, SubmitKeepsCore}
-use Rattle.lvm_invariant.proofs.UpdatesLemmas.Requests.{decided, put_cases, put_other, alone, past_of, past_not_landed, one_req}
+use Rattle.lvm_invariant.proofs.UpdatesLemmas.Requests.{put_cases, put_other, alone, past_of, past_not_landed, one_req}
 use Rattle.lvm_invariant.proofs.StateLemmas.Calm.{calm_blocks, calmer_of}
 use Rattle.lvm_invariant.proofs.StateLemmas.Writes.{from_put, got_put, pins_put, land_alike}
 use Rattle.lvm_vol.specs.Facts.{Fact, Request}
@@ -23,7 +25,7 @@ module _ (s : ModelState) (i : ℕ) (r : Queued) (value : ℕ → List ℕ) (fac
   new = landed s i r facts
 
   un : IsFalse (has_landed r.phase)
-  un = ⊎_elim (λ (l : IsTrue (has_landed r.phase)). absurd (past_not_landed r.phase step.past l)) (λ (f : IsFalse (has_landed r.phase)). f) (decided (has_landed r.phase))
+  un = ⊎_elim (λ (l : IsTrue (has_landed r.phase)). absurd (past_not_landed r.phase step.past l)) (λ (f : IsFalse (has_landed r.phase)). f) (cases_Bool (has_landed r.phase))
 
   -- the copy that holds what it got, and that this is allowed and what all live copies hold, unless the block is loose
   seen_here : (lv b : ℕ) → IsTrue (covers r lv b) → IsIn (told s lv b).values (value b) × (IsTrue (told s lv b).loose ⊎ ((e : Pp) → Live s lv b e → s.media.block lv b e ≡ value b))
@@ -38,13 +40,13 @@ module _ (s : ModelState) (i : ℕ) (r : Queued) (value : ℕ → List ℕ) (fac
         step.tight lv b over tight,
         over,
         ⊎_elim
-            (λ (loose : IsTrue (told s lv b).loose). never (told s lv b).loose loose tight)
+            (λ (loose : IsTrue (told s lv b).loose). clash_gives (told s lv b).loose loose tight)
             (λ (equal : (e : Pp) → Live s lv b e → s.media.block lv b e ≡ value b). equal)
             (seen_here lv b over).1,
       ))
-      (decided (told s lv b).loose))
+      (cases_Bool (told s lv b).loose))
       (λ (off : IsFalse (covers r lv b)). inl (step.closes.outside lv b off))
-      (decided (covers r lv b))
+      (cases_Bool (covers r lv b))
 
   started_was : (j : ℕ) (e : Queued) → Started new j e → Started s j e
   started_was j e started = ⊎_elim
@@ -60,16 +62,16 @@ module _ (s : ModelState) (i : ℕ) (r : Queued) (value : ℕ → List ℕ) (fac
     write = started.write;
     going = started.going;
     there = ⊎_elim
-        (λ (same : IsTrue (j == i)). never r.write (ap (λ (q : Queued). q.write) (one_req (sym step.there ∙ ap s.queue (sym (eqb-true _ _ same)) ∙ started.there)) ∙ started.write) step.read)
+        (λ (same : IsTrue (j == i)). clash_gives r.write (ap (λ (q : Queued). q.write) (one_req (sym step.there ∙ ap s.queue (sym (eqb-true _ _ same)) ∙ started.there)) ∙ started.write) step.read)
         (λ (other : IsFalse (j == i)). put_other s.queue i j (land r) other ∙ started.there)
-        (decided (j == i));
+        (cases_Bool (j == i));
   }
 
   -- no write that has started goes where it went
   elsewhere : (j lv b : ℕ) (e : Queued) → Started s j e → IsTrue (covers e lv b) → IsTrue (covers r lv b) → ⊥
   elsewhere j lv b e started over_e over =
       let same : i ≡ j = alone s sound i j r e step.there started.there step.past (past_of e.phase Going started.going refl) (record { lv = lv; block = b; first = over; second = over_e; writes = inr started.write }) in
-      never r.write (ap (λ (q : Queued). q.write) (one_req (sym step.there ∙ ap s.queue same ∙ started.there)) ∙ started.write) step.read
+      clash_gives r.write (ap (λ (q : Queued). q.write) (one_req (sym step.there ∙ ap s.queue same ∙ started.there)) ∙ started.write) step.read
 
   settled_now : (lv b : ℕ) → Quiescent s lv b → Quiescent new lv b
   settled_now lv b settled = record {
@@ -86,7 +88,7 @@ module _ (s : ModelState) (i : ℕ) (r : Queued) (value : ℕ → List ℕ) (fac
   }
 
   off_if_started : (j lv b : ℕ) (e : Queued) → Started s j e → IsTrue (covers e lv b) → known facts (Lv lv) b ≡ told s lv b
-  off_if_started j lv b e started over = step.closes.outside lv b (⊎_elim (λ (h : IsTrue (covers r lv b)). absurd (elsewhere j lv b e started over h)) (λ (f : IsFalse (covers r lv b)). f) (decided (covers r lv b)))
+  off_if_started j lv b e started over = step.closes.outside lv b (⊎_elim (λ (h : IsTrue (covers r lv b)). absurd (elsewhere j lv b e started over h)) (λ (f : IsFalse (covers r lv b)). f) (cases_Bool (covers r lv b)))
 
   got_blocks : Blocks new
   got_blocks = record {
@@ -109,7 +111,7 @@ module _ (s : ModelState) (i : ℕ) (r : Queued) (value : ℕ → List ℕ) (fac
   got_frame = record {
     from = λ j m h. from_put s sound i r (land r) step.there (land_alike r un) j m h;
     writes = λ j m h write unlanded lv b. ⊎_elim
-        (λ (is : (j ≡ i) × (land r ≡ m)). never (has_landed m.phase) (ap (λ (q : Queued). has_landed q.phase) (sym is.1)) unlanded)
+        (λ (is : (j ≡ i) × (land r ≡ m)). clash_gives (has_landed m.phase) (ap (λ (q : Queued). has_landed q.phase) (sym is.1)) unlanded)
         (λ (other : IsFalse (j == i) × (s.queue j ≡ Some m)). step.closes.others lv b j m other.1 write other.0)
         (put_cases s.queue i j (land r) m h);
     same = refl;
@@ -126,7 +128,7 @@ module _ (s : ModelState) (i : ℕ) (r : Queued) (value : ℕ → List ℕ) (fac
         (λ (one : ((known facts (Lv lv) b).values ≡ Some (value b ∷ [])) × IsTrue (covers r lv b) × ((e : Pp) → Live s lv b e → s.media.block lv b e ≡ value b)).
         let inside = sound.tied.inside i r step.there lv b one.1 in
         let kept = sound.statuses.kept lv b inside.0 inside.1 in
-        let live : Live s lv b kept.0 = record { copy = kept.1; counts = inl (and_left_false (s.committed.value.stale kept.0) (stale_in s.in_flight kept.0) kept.2.committed) } in
+        let live : Live s lv b kept.0 = record { copy = kept.1; counts = inl (and_left (s.committed.value.stale kept.0) (stale_in s.in_flight kept.0) kept.2.committed) } in
         ⊎_elim
         (λ (loose : IsTrue (told s lv b).loose).
         let same = step.loose lv b loose in
@@ -137,7 +139,7 @@ module _ (s : ModelState) (i : ℕ) (r : Queued) (value : ℕ → List ℕ) (fac
         (known_now lv b);
     still = λ j lv b e m f seen h past. refl;
     got = λ j e m v was is got. inl (got_put s sound i r (land r) step.there (land_alike r un) (λ w h. h) j e m v was is got);
-    pinning = λ j e m was is write pins on several. inl (pins_put s sound i r (land r) step.there (land_alike r un) (λ h. never false h refl) j e m was is pins);
+    pinning = λ j e m was is write pins on several. inl (pins_put s sound i r (land r) step.there (land_alike r un) (λ h. clash_gives false h refl) j e m was is pins);
     cache = λ j e h write pinning on several cached. cached;
   }
 
@@ -166,10 +168,10 @@ module _ (s : ModelState) (i : ℕ) (given : Request) (r : Queued) (facts : List
   not_both_ways a b = omega (arith, a, b)
 
   fresh_number : (j : ℕ) (e : Queued) → s.queue j ≡ Some e → IsFalse (j == i)
-  fresh_number j e there = ⊎_elim (λ (same : IsTrue (j == i)). absurd (not_itself (subst (λ (k : ℕ). k < i) (eqb-true _ _ same) (step.newest j e there)))) (λ (f : IsFalse (j == i)). f) (decided (j == i))
+  fresh_number j e there = ⊎_elim (λ (same : IsTrue (j == i)). absurd (not_itself (subst (λ (k : ℕ). k < i) (eqb-true _ _ same) (step.newest j e there)))) (λ (f : IsFalse (j == i)). f) (cases_Bool (j == i))
 
   held_not_past : {X : Type 0} (p : ModelPhase) → p ≡ Held → IsTrue (is_past p) → X
-  held_not_past p e h = never (is_past p) h (ap is_past e)
+  held_not_past p e h = clash_gives (is_past p) h (ap is_past e)
 
   calmer_next : Calmer s next
   calmer_next = calmer_of s next refl
@@ -239,7 +241,7 @@ module _ (s : ModelState) (i : ℕ) (given : Request) (r : Queued) (facts : List
     notes = record {
       home = sound.notes.home;
       pinned = λ j m h write pins on several. ⊎_elim
-          (λ (is : (j ≡ i) × (r ≡ m)). never (is_pinning m.phase) pins (ap (λ (q : Queued). is_pinning q.phase) (sym is.1) ∙ ap is_pinning step.held))
+          (λ (is : (j ≡ i) × (r ≡ m)). clash_gives (is_pinning m.phase) pins (ap (λ (q : Queued). is_pinning q.phase) (sym is.1) ∙ ap is_pinning step.held))
           (λ (other : IsFalse (j == i) × (s.queue j ≡ Some m)). sound.notes.pinned j m other.1 write pins on several)
           (put_cases s.queue i j r m h);
     };

@@ -1,5 +1,5 @@
 -- Requests by their numbers, and which of them conflict.
-use Rattle.std.proofs.Common.{◌≡◌, ◌⊎◌, inl, inr, ⊎_elim, ℕ, ◌<◌, Bool, true, false, ◌&&◌, Option, Some, refl, sym, ap, subst, ◌∙◌, eqb-true, eq-eqb, eq-or-lt_of_le, ◌≤◌}
+use Rattle.std.proofs.Common.{◌≡◌, ◌⊎◌, inl, inr, ⊎_elim, ℕ, ◌<◌, Bool, true, false, Option, Some, refl, sym, ap, subst, ◌∙◌, eqb-true, eq-eqb, eq-or-lt_of_le, ◌≤◌}
 use Rattle.std.specs.Prelude.{IsTrue, IsFalse, ◌==◌, if◌then◌else◌}
 use Rattle.std.proofs.lemmas.Bool.{cases_lt}
 use Rattle.std.proofs.lemmas.Option.{same_Some}
@@ -12,11 +12,6 @@ use Rattle.lvm_num.proofs.DescriptorLemmas.Partitions.{one_partition}
 
 pub one_req : {a b : Queued} → Some a ≡ Some b → a ≡ b
 one_req h = cc
-
--- a test, with what it found
-pub decided : (t : Bool) → IsTrue t ⊎ IsFalse t
-decided true = inl refl
-decided false = inr refl
 
 pub put_cases : (queue : ℕ → Option Queued) (i j : ℕ) (r e : Queued) → put queue i r j ≡ Some e → ((j ≡ i) × (r ≡ e)) ⊎ (IsFalse (j == i) × (queue j ≡ Some e))
 put_cases queue i j r e h = by_test (j == i) refl h
@@ -55,10 +50,6 @@ staged_cases targets c e stage x h = by_test (is_pp e c) h
         some_stage : (a b : Stage) → Some a ≡ Some b → a ≡ b
         some_stage a b q = cc
     by_test false k = inr k
-
-and_both : (a b : Bool) → IsTrue (a && b) → IsTrue a × IsTrue b
-and_both true b h = (refl, h)
-and_both false b h = absurd cc
 
 -- what was a target at some stage, if the stage of one target changes
 pub staged_was : (targets : Pp → Option Stage) (c e : Pp) (stage x : Stage) → staged targets c stage e ≡ Some x → (y : Stage) → targets c ≡ Some y → (z : Stage) × (targets e ≡ Some z)

@@ -12,6 +12,7 @@ use Rattle.lvm_vol.specs.Facts.{block_of}
 use Rattle.lvm_vol.specs.May.{Known, known}
 use Rattle.lvm_invariant.specs.State.{Stage, Todo, Flying, Well, Badly, Ready, Queued, ModelState, covers, has_landed, is_usable, told}
 use Rattle.lvm_num.specs.Descriptor.{is_pp}
+use Rattle.lvm_num.proofs.Booleans.{not_so}
 use Rattle.lvm_invariant.specs.Found.{Votes}
 use Rattle.lvm_invariant.specs.Good.{Good}
 use Rattle.lvm_invariant.specs.Submit.{Submits}
@@ -19,7 +20,7 @@ use Rattle.lvm_invariant.specs.Over.{IsUnlanded, is_going, AreOpen}
 use Rattle.lvm_invariant.specs.Events.{AllowsAll, Admit, Read, TakeEarlier, LandGot, LandReadFailed, LandNoFresh}
 use Rattle.lvm_invariant.specs.First.{two_disks, first_copy, second_copy, marks_with, stamped, at_rest, bringing_up}
 use Rattle.lvm_invariant.specs.Worked.{held, waiting, ready, one_out, both_out, asked_read, held_read, first_at, chosen, reading_first, zero_blocks, failed_first, second_at, chosen_again, reading_second, has_read, read_out, read_gets, read_fails, none_passed, passed_by, step_held, step_read, step_out, stepping, step_ends, all_passed, clearing, first_group, disks_lost, none_fresh, after_loss, with_earlier, writing, ReadEnds, CopyIsBroughtUp, DisksAreLost, CutMeetsWrite, EarlierIsTaken}
-use Rattle.lvm_invariant.proofs.FirstLemmas.{nothing, not_so, left, right, both, first_is_good, bringing_up_is_good}
+use Rattle.lvm_invariant.proofs.FirstLemmas.{nothing, left, right, both, first_is_good, bringing_up_is_good}
 use Rattle.lvm_invariant.proofs.SoundLemmas.Whole.{told_core}
 use Rattle.lvm_invariant.proofs.WorkedLemmas.Worked.{leads, allows_append, first_put, none_below, pp_is, at_either, placed, update_allowed}
 use Rattle.lvm_invariant.proofs.ToldLemmas.{told_of_none}

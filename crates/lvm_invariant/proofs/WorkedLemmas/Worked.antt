@@ -15,9 +15,9 @@ use Rattle.lvm_invariant.specs.Events.{Event, Steps, AllowsAll, after_all, made}
 use Rattle.lvm_invariant.specs.First.{two_disks, first_copy, is_either, stamped, on_both, at_rest}
 use Rattle.lvm_invariant.specs.Worked.{Leads, update, named_on, first_group}
 use Rattle.lvm_invariant.proofs.EventsLemmas.Each.{each_moment}
-use Rattle.lvm_invariant.proofs.FirstLemmas.{nothing, not_so, left, right, both}
-use Rattle.lvm_invariant.proofs.Small.{never}
+use Rattle.lvm_invariant.proofs.FirstLemmas.{nothing, left, right, both}
 pub use Rattle.lvm_num.proofs.DescriptorLemmas.Partitions.{one_partition as pp_is}
+use Rattle.lvm_num.proofs.Booleans.{clash_gives, not_so}
 
 -- ---- runs of events
 
@@ -33,9 +33,6 @@ allows_append votes [] more s none rest = rest
 allows_append votes (event ∷ events) more s allowed rest = (allowed.0, allows_append votes events more (made event s) allowed.1 rest)
 
 -- ---- one request in the queue
-
-pub not_either : {X : Type 0} → true ≡ false → X
-not_either e = absurd cc
 
 pub first_put : (i : ℕ) (n : Queued) (j : ℕ) (e : Queued) → put (λ k. None) i n j ≡ Some e → (j ≡ i) × (e ≡ n)
 first_put i n j e = by_test (j == i) refl
@@ -131,7 +128,7 @@ update_allowed votes s was seq marks enough none wanted later status there clear
             added = λ c h. inl (ap (λ (m : Marks). m.stale c) wanted ∙ h);
             open_same = inl refl;
             open_there = λ o is. nothing o is;
-            behind = λ lv b c e copy fresh gone other usable kept. absurd (never (s.missing c.disk) gone (there c.disk));
+            behind = λ lv b c e copy fresh gone other usable kept. absurd (clash_gives (s.missing c.disk) gone (there c.disk));
           };
         },
         (record { committed = refl; ended = λ d. refl }, tt),

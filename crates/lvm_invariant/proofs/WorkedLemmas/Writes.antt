@@ -9,6 +9,7 @@ use Rattle.lvm_num.specs.Record.{Stamped}
 use Rattle.lvm_invariant.specs.State.{Marks, Stage, Todo, Flying, Well, Badly, WantEntry, Ready, Queued, ModelState, covers, stale_in, is_usable, Groups}
 use Rattle.lvm_invariant.specs.Updates.{land}
 use Rattle.lvm_num.specs.Descriptor.{is_pp}
+use Rattle.lvm_num.proofs.Booleans.{clash_gives, not_so, not_either}
 use Rattle.lvm_invariant.specs.Found.{Votes}
 use Rattle.lvm_invariant.specs.Submit.{Submits}
 use Rattle.lvm_invariant.specs.Admit.{Admits}
@@ -17,9 +18,8 @@ use Rattle.lvm_invariant.specs.LandDone.{IsDropped}
 use Rattle.lvm_invariant.specs.Events.{AllowsAll, after_all, made, Submit, Admit, StartWrite, Transfer, LandDone, LandLost, Take}
 use Rattle.lvm_invariant.specs.First.{two_disks, no_disk, first_copy, second_copy, is_either, marks_with, stamped, at_rest}
 use Rattle.lvm_invariant.specs.Worked.{asked, held, both_at, phase_in, ready, one_out, both_out, first_group, named_on, only, note_to, no_note, update, recording, zeros, writing_out, writing, written, one_failed, one_fails, both_failed, both_fail, updating_out, noting_out, IsWriting, EachModeWrites, RecordsGoOut, WriteEnds}
-use Rattle.lvm_invariant.proofs.FirstLemmas.{nothing, not_so, left, right, both, first_is_good}
-use Rattle.lvm_invariant.proofs.Small.{never}
-use Rattle.lvm_invariant.proofs.WorkedLemmas.Worked.{leads, allows_append, not_either, first_put, none_below, pp_is, on_two, at_either, placed, note_ends, update_allowed}
+use Rattle.lvm_invariant.proofs.FirstLemmas.{nothing, left, right, both, first_is_good}
+use Rattle.lvm_invariant.proofs.WorkedLemmas.Worked.{leads, allows_append, first_put, none_below, pp_is, on_two, at_either, placed, note_ends, update_allowed}
 use Rattle.lvm_invariant.specs.StartWrite.{MayStart}
 
 -- ---- it is asked and admitted
@@ -159,7 +159,7 @@ may_go s there copies usable unwanted named dirty = record {
   source_usable = usable first_copy;
   usable = λ e stage at. inl (usable e);
   each = λ e copy is. its_target e (sym (copies e) ∙ copy);
-  quiet = λ e copy stale. never (s.wanted.stale e) stale (unwanted e);
+  quiet = λ e copy stale. clash_gives (s.wanted.stale e) stale (unwanted e);
   named = λ on several e stage at. named on e (aimed e stage at).0;
   dirty = λ soft several. dirty soft;
   single = λ one e f x y at_e at_f. not_either one;
@@ -209,7 +209,7 @@ module _ (s : ModelState) (none_open : s.open_copy ≡ None) (copy_is : (c : Pp)
     (none_wanted : s.wanted ≡ marks_with false false) (none_missing : (d : ℕ) → IsFalse (s.missing d)) where
   pub second_wanted : Wants s (marks_with true false) no_disk None
   second_wanted = record {
-    missing_still = λ d h. absurd (never (s.missing d) h (none_missing d));
+    missing_still = λ d h. absurd (clash_gives (s.missing d) h (none_missing d));
     still = λ c h. not_so (sym (ap (λ (m : Marks). m.stale c) none_wanted) ∙ h);
     still_dirty = λ lv h. not_so (sym (ap (λ (m : Marks). m.dirty lv) none_wanted) ∙ h);
     added = λ c h. inr (inl (record {

@@ -1,5 +1,5 @@
 -- All requests that wait land at once, as a session ends.
-use Rattle.std.proofs.Common.{◌≡◌, ◌==◌, ◌≤◌, ◌<◌, ◌+◌, ℕ, zero, suc, Bool, true, false, ◌&&◌, ◌||◌, not, List, [], ◌∷◌, ◌++◌, Option, Some, None, length, map, refl, sym, ◌∙◌, ap, subst, arith, append_assoc, if◌then◌else◌}
+use Rattle.std.proofs.Common.{◌≡◌, ◌==◌, ◌≤◌, ◌<◌, ◌+◌, ℕ, Bool, true, false, ◌&&◌, ◌||◌, not, List, [], ◌∷◌, ◌++◌, Option, Some, None, length, map, refl, sym, ◌∙◌, ap, subst, arith, append_assoc, if◌then◌else◌}
 use Rattle.std.specs.Prelude.{IfSome, count_by, filter, is_none, is_some, nat_lt, slice_index_or, slice_set, unwrap_or}
 use Rattle.std.specs.List.{AllByRecursion, find, list_any, sum_by}
 use Rattle.std.specs.Option.{option_map}
@@ -8,7 +8,8 @@ use Rattle.std.proofs.lemmas.List.{append-nil}
 use Rattle.std.proofs.lemmas.List.Elements.{filter_map-append}
 use Rattle.std.proofs.lemmas.List.Folds.{list_any-append}
 use Rattle.lvm_num.specs.Buffer.{Buffer}
-use Rattle.lvm_num.proofs.Booleans.{or_false}
+use Rattle.lvm_num.proofs.Booleans.{or_false, not_so}
+use Rattle.lvm_num.proofs.Lists.{at_set, beside_set, length_set}
 use Rattle.lvm_vol.specs.declared.entry.Outcome.{Outcome}
 use Rattle.lvm_vol.specs.Facts.{Fact, Request, Landed, begun, begun_by}
 use Rattle.lvm_vol.specs.Log.{asked, got_without_bytes, has_id, is_answered, is_open, landed_fact, lands_id, no_request, request_of, takes_id}
@@ -28,8 +29,8 @@ use Rattle.lvm_session.specs.Judging.{is_running, is_waiting}
 use Rattle.lvm_session.specs.Dark.{AreOpen, AreTold, IsAscending, ended_as, ended_copy, hand_of_copy, landings, with_hands}
 use Rattle.lvm_session.specs.Requests.{IsLanded}
 use Rattle.lvm_session.specs.Sound.{IsAsked, count_if, hands_with, is_hand, outcome_by, outcome_in, place_in, waits}
-use Rattle.lvm_keeps.proofs.Lists.{count_cons, length_set}
-use Rattle.lvm_keeps.proofs.Small.{both, is_false, not_so}
+use Rattle.lvm_keeps.proofs.Lists.{count_cons}
+use Rattle.lvm_keeps.proofs.Small.{both, is_false}
 use Rattle.lvm_keeps.proofs.SoundLemmas.Telling.{asked_still, open_still}
 
 -- each is made into another, of which two things hold
@@ -285,18 +286,6 @@ module _ (how : Outcome) where
       requests_after = mapped_two (IsAsked facts) (λ (o : Open). is_waiting o ≡ true → is_open facts o.request.id ≡ true) (IsAsked after) (ended_as how) asked_after os requests table.still
 
 -- ---- what was in hand comes back
-
-at_set : (pool : List Bool) (n : ℕ) → slice_index_or (slice_set pool n false) n false ≡ false
-at_set [] n = refl
-at_set (b ∷ pool) zero = refl
-at_set (b ∷ pool) (suc n) = at_set pool n
-
-beside_set : (pool : List Bool) (k n : ℕ) → (n ≡ k → ⊥) → slice_index_or (slice_set pool k false) n false ≡ slice_index_or pool n false
-beside_set [] k n other = refl
-beside_set (b ∷ pool) zero zero other = absurd (other refl)
-beside_set (b ∷ pool) zero (suc n) other = refl
-beside_set (b ∷ pool) (suc k) zero other = refl
-beside_set (b ∷ pool) (suc k) (suc n) other = beside_set pool k n (λ e. other (ap suc e))
 
 at_most_one : (b : Bool) → count_if b ≤ 1
 at_most_one true = omega arith

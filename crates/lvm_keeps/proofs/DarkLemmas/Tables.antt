@@ -2,12 +2,13 @@
 use Rattle.std.proofs.Common.{◌≡◌, ◌<◌, ◌==◌, ℕ, zero, suc, Bool, true, false, ◌&&◌, ◌||◌, List, [], ◌∷◌, ◌++◌, Some, slice_get, slice_set, sym, ◌∙◌, ap, subst, refl, arith, if◌then◌else◌}
 use Rattle.std.specs.List.{list_any, remove, AllByRecursion}
 use Rattle.std.proofs.lemmas.Bool.{eqb-true}
+use Rattle.lvm_num.proofs.Lists.{all_weaker, all_at}
 use Rattle.lvm_session.specs.declared.open.Open.{Open}
 use Rattle.lvm_session.specs.Judging.{is_waiting, place_of, held_of}
 use Rattle.lvm_session.specs.Dark.{IsAscending}
 use Rattle.lvm_session.specs.passed.Names.{Row}
 use Rattle.lvm_session.specs.Sound.{waiting_rows}
-use Rattle.lvm_keeps.proofs.Lists.{all_at, all_on, all_removed}
+use Rattle.lvm_keeps.proofs.Lists.{all_removed}
 
 -- one that has another's number stands as well among later ones
 module _ (x y : Open) (same : y.request.id ≡ x.request.id) where
@@ -46,7 +47,7 @@ rows_set (o ∷ os) (suc k) x y there same = split o (slice_set os k y) ∙ ap (
 pub apart : (os : List Open) (k : ℕ) (o : Open) → slice_get os k ≡ Some o → IsAscending os → AllByRecursion (λ (x : Open). x.request.id ≡ o.request.id → ⊥) (remove os k)
 apart [] k o there all = absurd (cc there)
 apart (x ∷ os) zero o there all = let is : x ≡ o = cc there in
-    all_on (λ (later : Open). x.request.id < later.request.id) (λ (later : Open). later.request.id ≡ o.request.id → ⊥) (λ later low e. let same : x.request.id ≡ o.request.id = ap (λ (z : Open). z.request.id) is in absurd (omega (arith, low, e, same))) os all.0
+    all_weaker (λ (later : Open). x.request.id < later.request.id) (λ (later : Open). later.request.id ≡ o.request.id → ⊥) (λ later low e. let same : x.request.id ≡ o.request.id = ap (λ (z : Open). z.request.id) is in absurd (omega (arith, low, e, same))) os all.0
 apart (x ∷ os) (suc k) o there all = (λ e. let low = all_at (λ (later : Open). x.request.id < later.request.id) os k o all.0 there in absurd (omega (arith, low, e)), apart os k o there all.1)
 
 pub ascending_removed : (os : List Open) (k : ℕ) → IsAscending os → IsAscending (remove os k)

@@ -13,6 +13,7 @@ use Rattle.lvm_num.specs.Descriptor.{IsValid, IsVolume, copies_of}
 use Rattle.lvm_num.specs.Disks.{Disks, has}
 use Rattle.lvm_num.specs.Votes.{is_enough_to_write, total_votes, votes_of}
 use Rattle.lvm_num.proofs.MarksLemmas.Maps.{find-Some}
+use Rattle.lvm_num.proofs.Booleans.{not_so}
 use Rattle.lvm_session.specs.passed.Names.{members_there}
 use Rattle.lvm_path.specs.declared.request.Phase.{Phase}
 use Rattle.lvm_path.specs.declared.request.Phase.TheVariants as phase
@@ -35,7 +36,6 @@ use Rattle.lvm_session.specs.Left.{begun_left, copy_left, if_so, is_brought_up, 
 use Rattle.lvm_session.specs.Requests.{IsLaid, IsOpenOne}
 use Rattle.lvm_session.specs.Sound.{IsGoing, count_if}
 use Rattle.lvm_keeps.specs.Falls.{LeftIsBounded, most_left}
-use Rattle.lvm_keeps.proofs.Small.{not_so}
 
 -- ---- what is small
 

@@ -4,6 +4,7 @@ use Rattle.std.specs.Prelude.{count_by}
 use Rattle.std.specs.List.{list_any, sum_by}
 use Rattle.std.specs.Option.{option_map_or}
 use Rattle.lvm_num.specs.declared.descriptor.PvRow.{PvRow}
+use Rattle.lvm_num.proofs.Lists.{all_at}
 use Rattle.lvm_vol.specs.declared.entry.Outcome.{Outcome}
 use Rattle.lvm_mwc.specs.Cache.{Cached, after_unpin}
 use Rattle.lvm_path.specs.declared.facts.Next.TheVariants as next
@@ -24,7 +25,7 @@ use Rattle.lvm_session.specs.Left.{begun_left, copy_left, if_so, left_by, left_o
 use Rattle.lvm_session.specs.Requests.{IsOpenOne}
 use Rattle.lvm_session.specs.Sound.{count_if}
 use Rattle.lvm_keeps.specs.Falls.{LandingFalls}
-use Rattle.lvm_keeps.proofs.Lists.{all_at, count_set}
+use Rattle.lvm_keeps.proofs.Lists.{count_set}
 use Rattle.lvm_keeps.proofs.LeftLemmas.Leaving.{left_same, grows}
 use Rattle.lvm_keeps.proofs.FallsLemmas.Pin.{sum_less}
 use Rattle.lvm_keeps.proofs.RequestsLemmas.{changed}

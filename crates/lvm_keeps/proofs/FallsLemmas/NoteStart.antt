@@ -8,6 +8,8 @@ use Rattle.std.proofs.lemmas.List.Sums.{sum_by-cons}
 use Rattle.arrayvec.specs.ArrayVec.{ArrayVec}
 use Rattle.lvm_num.specs.declared.record.NoteEntry.{NoteEntry}
 use Rattle.lvm_num.specs.declared.descriptor.PvRow.{PvRow}
+use Rattle.lvm_num.proofs.Booleans.{not_so}
+use Rattle.lvm_num.proofs.Lists.{all_at}
 use Rattle.lvm_mwc.specs.Cache.{after_start, flight_names, flight_on, is_named}
 use Rattle.lvm_mwc.specs.Entries.{note_of, pins_of}
 use Rattle.lvm_mwc.specs.Notes.{names_group}
@@ -29,10 +31,10 @@ use Rattle.lvm_session.specs.Left.{begun_left, copy_left, if_so, is_held, lacks_
 use Rattle.lvm_session.specs.Requests.{IsPhase}
 use Rattle.lvm_session.specs.Sound.{count_if}
 use Rattle.lvm_keeps.specs.Falls.{NoteStartFalls}
-use Rattle.lvm_keeps.proofs.Lists.{all_at, count_cons}
+use Rattle.lvm_keeps.proofs.Lists.{count_cons}
 use Rattle.lvm_keeps.proofs.CacheLemmas.{flight_beside, named_still}
 use Rattle.lvm_keeps.proofs.KeepsLemmas.NoteStart.{aim, found, its, kept, no_flight, noted, record_due, waiting}
-use Rattle.lvm_keeps.proofs.Small.{both, is_false, not_so}
+use Rattle.lvm_keeps.proofs.Small.{both, is_false}
 use Rattle.lvm_keeps.proofs.LeftLemmas.Leaving.{lit}
 
 -- ---- counts and sums

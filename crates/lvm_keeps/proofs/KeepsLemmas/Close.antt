@@ -4,6 +4,8 @@ use Rattle.std.specs.Prelude.{IfSome, is_none}
 use Rattle.std.specs.Option.{option_map_or}
 use Rattle.lvm_session.specs.passed.Names.{Flight}
 use Rattle.lvm_num.specs.Descriptor.{is_pp}
+use Rattle.lvm_num.proofs.Booleans.{not_so}
+use Rattle.lvm_num.proofs.Lists.{all_weaker}
 use Rattle.lvm_session.specs.declared.bringing.CopyEnd.{CopyEnd}
 use Rattle.lvm_session.specs.declared.bringing.OpenCopy.{OpenCopy}
 use Rattle.lvm_session.specs.declared.bringing.Step.{Step}
@@ -24,8 +26,6 @@ use Rattle.lvm_session.specs.Requests.{IsOpenOne}
 use Rattle.lvm_session.specs.Causes.{AreCaused, AreCounted, IsAnswered, IsCaused, IsCounted, IsLandedFor, is_over}
 use Rattle.lvm_session.specs.Sound.{IsCopy, IsFitting, IsGoing, IsOn, IsSound, IsTold, count_if, is_hand, waiting_rows, with_row, out_with}
 use Rattle.lvm_keeps.specs.Keeps.{CloseKeeps}
-use Rattle.lvm_keeps.proofs.Lists.{all_on}
-use Rattle.lvm_keeps.proofs.Small.{not_so}
 use Rattle.lvm_keeps.proofs.RequestsLemmas.{moved, open_on, landed_on, counted_on, origin_on, if_on}
 use Rattle.lvm_session.specs.Dark.{hand_of_copy}
 
@@ -90,7 +90,7 @@ module _ (s : State) (sound : IsSound s) (c : OpenCopy) (is : s.core.copy ≡ So
       queue = going.queue ∙ of_copy (λ (k : OpenCopy). if has_row core k then with_row (step_row core k) (waiting_rows core.requests) else waiting_rows core.requests) (waiting_rows core.requests)
           (ap (λ b. if b then with_row (step_row core c) (waiting_rows core.requests) else waiting_rows core.requests) no_row);
       pinned = going.pinned;
-      requests = all_on (IsOpenOne core) (IsOpenOne now.core) one core.requests going.requests;
+      requests = all_weaker (IsOpenOne core) (IsOpenOne now.core) one core.requests going.requests;
       copy = tt;
       hands = λ n. let was = going.hands n in omega (arith, was);
       behind = going.behind;
@@ -119,7 +119,7 @@ module _ (s : State) (sound : IsSound s) (c : OpenCopy) (is : s.core.copy ≡ So
     keeps_on = let was = sound.on on in record {
       going = keeps_going;
       rows = rows_on core.flying s.device.flights was.rows;
-      caused = all_on (AreCaused s.device core) (AreCaused s.device now.core) (λ x all waiting. all_on (IsCaused s.device core) (IsCaused s.device now.core) (λ t why. why) x.request.targets.items (all waiting)) core.requests was.caused;
+      caused = all_weaker (AreCaused s.device core) (AreCaused s.device now.core) (λ x all waiting. all_weaker (IsCaused s.device core) (IsCaused s.device now.core) (λ t why. why) x.request.targets.items (all waiting)) core.requests was.caused;
       chosen = tt;
     }
 
@@ -143,8 +143,8 @@ module _ (s : State) (sound : IsSound s) (c : OpenCopy) (is : s.core.copy ≡ So
       off = sound.off;
       over = λ e. let was = sound.over e in record { landed = was.landed; copy = tt; flights = was.flights; flying = was.flying };
       stuck = λ e. let was = sound.stuck e in record { requests = was.requests; copy = refl };
-      counted = all_on (AreCounted s) (AreCounted now) (λ x all. all_on (IsCounted s) (IsCounted now) (counted_on s core.history core.requests core.queue None core.pool core.flying core.cache.entries core.last) x.request.targets.items all) core.requests sound.counted;
-      answered = all_on (IsAnswered s) (IsAnswered now) (λ x why. if_on (IsLandedFor s x) (IsLandedFor now x) (λ how. landed_on s core.history core.requests core.queue None core.pool core.flying core.cache.entries core.last x how) x.landed why) core.requests sound.answered;
+      counted = all_weaker (AreCounted s) (AreCounted now) (λ x all. all_weaker (IsCounted s) (IsCounted now) (counted_on s core.history core.requests core.queue None core.pool core.flying core.cache.entries core.last) x.request.targets.items all) core.requests sound.counted;
+      answered = all_weaker (IsAnswered s) (IsAnswered now) (λ x why. if_on (IsLandedFor s x) (IsLandedFor now x) (λ how. landed_on s core.history core.requests core.queue None core.pool core.flying core.cache.entries core.last x how) x.landed why) core.requests sound.answered;
       copy = tt;
       origin = origin_on s core.history core.requests core.queue None core.pool core.flying core.cache.entries core.last sound.origin;
     }

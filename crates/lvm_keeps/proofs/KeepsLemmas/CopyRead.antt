@@ -7,6 +7,8 @@ use Rattle.std.proofs.lemmas.Bool.{eq-eqb}
 use Rattle.lvm_num.specs.declared.place.Pp.{Pp}
 use Rattle.lvm_num.specs.Disks.{has}
 use Rattle.lvm_num.specs.Descriptor.{is_pp}
+use Rattle.lvm_num.proofs.Booleans.{not_so}
+use Rattle.lvm_num.proofs.Lists.{all_weaker, length_set}
 use Rattle.lvm_session.specs.passed.Names.{Device, Flight, Range, IsFresh, Starts}
 use Rattle.lvm_session.specs.declared.bringing.CopyEnd.{CopyEnd}
 use Rattle.lvm_session.specs.declared.bringing.CopyEnd.TheVariants as ending
@@ -33,9 +35,8 @@ use Rattle.lvm_keeps.specs.Keeps.{CopyReadKeeps}
 use Rattle.lvm_keeps.proofs.CausesLemmas.{copy_still, origin_still}
 use Rattle.lvm_keeps.proofs.SoundLemmas.Fitting.{still_fits}
 use Rattle.lvm_keeps.proofs.OwnersLemmas.Launching.{flights_push, none_more, owners_push, rows_push, taken, tickets_push}
-use Rattle.lvm_keeps.proofs.Lists.{all_on, length_set}
 use Rattle.lvm_keeps.proofs.OwnersLemmas.Rows.{all_fly, rows_but_copy}
-use Rattle.lvm_keeps.proofs.Small.{both, is_false, not_so}
+use Rattle.lvm_keeps.proofs.Small.{both, is_false}
 use Rattle.lvm_keeps.proofs.RequestsLemmas.{changed, open_on, copy_stepped, same_next}
 use Rattle.lvm_keeps.proofs.SoundLemmas.Whole.{sound_still, told_still}
 
@@ -189,7 +190,7 @@ module _ (s : State) (sound : IsSound s) (on : s.core.power ≡ power.On) (c : O
     tickets = tickets_push core row core.flying s.device.flights (sound.on on).rows fresh going.tickets;
     queue = queue;
     pinned = going.pinned;
-    requests = all_on (IsOpenOne core) (IsOpenOne now.core) one core.requests going.requests;
+    requests = all_weaker (IsOpenOne core) (IsOpenOne now.core) one core.requests going.requests;
     copy = bring;
     hands = λ n. let was = going.hands n in let none = no_hand n in let more = taken core.pool f.buf.number n free in omega (arith, was, none, more);
     behind = going.behind;
@@ -204,8 +205,8 @@ module _ (s : State) (sound : IsSound s) (on : s.core.power ≡ power.On) (c : O
     going = keeps_going;
     rows = rows_push now.core row f (record { ticket = refl; long = long; disk = refl; own = (reading, refl, record { disk_is = reads.disk_is; first = reads.first; count = reads.count; write_is = reads.write_is }) }) core.flying s.device.flights
         (rows_but_copy core now.core refl (λ who. flies core who ≡ true) (λ fly. not_so (sym none_out ∙ fly)) core.flying s.device.flights (all_fly core going.owned) was.rows);
-    caused = all_on (AreCaused s.device core) (AreCaused device now.core) (λ x all waiting. all_on (IsCaused s.device core) (IsCaused device now.core) (λ t why. why) x.request.targets.items (all waiting)) core.requests was.caused;
-    chosen = all_on (IsChosenSince core c) (IsChosenSince now.core reading) (λ x all. all) core.requests (subst (λ m. IfSome m (λ (k : OpenCopy). AllByRecursion (IsChosenSince core k) core.requests)) is was.chosen);
+    caused = all_weaker (AreCaused s.device core) (AreCaused device now.core) (λ x all waiting. all_weaker (IsCaused s.device core) (IsCaused device now.core) (λ t why. why) x.request.targets.items (all waiting)) core.requests was.caused;
+    chosen = all_weaker (IsChosenSince core c) (IsChosenSince now.core reading) (λ x all. all) core.requests (subst (λ m. IfSome m (λ (k : OpenCopy). AllByRecursion (IsChosenSince core k) core.requests)) is was.chosen);
   }
 
   -- ---- all of it

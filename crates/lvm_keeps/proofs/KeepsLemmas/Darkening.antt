@@ -8,6 +8,8 @@ use Rattle.lvm_num.specs.Buffer.{Buffer}
 use Rattle.lvm_num.specs.declared.place.Pp.{Pp}
 use Rattle.lvm_num.specs.Status.{calls_stale}
 use Rattle.lvm_num.specs.declared.status.Status.{Status}
+use Rattle.lvm_num.proofs.Booleans.{not_so, not_either}
+use Rattle.lvm_num.proofs.Lists.{all_weaker}
 use Rattle.lvm_session.specs.passed.Names.{Device, Flight, Media, GoesDark, Stored}
 use Rattle.lvm_vol.specs.declared.entry.Outcome.{Outcome}
 use Rattle.lvm_vol.specs.declared.entry.Outcome.TheVariants as outcome
@@ -32,8 +34,7 @@ use Rattle.lvm_session.specs.Sound.{IsAsked, IsFitting, IsSound, IsTold, count_i
 use Rattle.lvm_keeps.specs.Keeps.{CutKeeps}
 use Rattle.lvm_keeps.proofs.SoundLemmas.Fitting.{still_fits}
 use Rattle.lvm_keeps.proofs.DarkLemmas.Ending.{back_long, copy_over, each_after, failed_before, hands_long, landed_ended, no_copy_hand, none_in_hand, ordered_after, pool_after, requests_after, table_after}
-use Rattle.lvm_keeps.proofs.Lists.{all_mapped, all_on, count_cons}
-use Rattle.lvm_keeps.proofs.Small.{not_either, not_so}
+use Rattle.lvm_keeps.proofs.Lists.{all_mapped, count_cons}
 use Rattle.lvm_keeps.proofs.RequestsLemmas.{if_on}
 use Rattle.lvm_keeps.proofs.SoundLemmas.Telling.{open_still, told_more}
 
@@ -58,11 +59,11 @@ cut_told core t = by (is_uncut core.history.facts)
       ordered = ordered-push core.history.run [] core.history.facts Cut t.ordered tt;
       table = record {
         ascending = t.table.ascending;
-        still = all_on (λ (o : Open). is_waiting o ≡ true → is_open core.history.facts o.request.id ≡ true) (λ (o : Open). is_waiting o ≡ true → is_open (core.history.facts ++ Cut ∷ []) o.request.id ≡ true)
+        still = all_weaker (λ (o : Open). is_waiting o ≡ true → is_open core.history.facts o.request.id ≡ true) (λ (o : Open). is_waiting o ≡ true → is_open (core.history.facts ++ Cut ∷ []) o.request.id ≡ true)
             (λ o is waiting. open_still core.history.facts Cut refl o.request.id refl ∙ is waiting) core.requests t.table.still;
       };
       each = λ id. open_still core.history.facts Cut refl id refl ∙ t.each id;
-      requests = all_on (IsAsked core.history.facts) (IsAsked (core.history.facts ++ Cut ∷ [])) asked_on core.requests t.requests;
+      requests = all_weaker (IsAsked core.history.facts) (IsAsked (core.history.facts ++ Cut ∷ [])) asked_on core.requests t.requests;
     }
 
 -- ---- what was out is given up
@@ -97,9 +98,9 @@ module _ (s : State) (sound : IsSound s) where
   was_over = by core.power refl
     where
       by : (p : Power) → core.power ≡ p → AllByRecursion (λ (o : Open). is_waiting o ≡ false → IsLanded o) core.requests
-      by power.On e = all_on (IsOpenOne core) (λ (o : Open). is_waiting o ≡ false → IsLanded o) (λ o it. it.over) core.requests (sound.on e).going.requests
-      by power.Off e = all_on IsLanded (λ (o : Open). is_waiting o ≡ false → IsLanded o) (λ o it none. it) core.requests (sound.over (ap is_over e)).landed
-      by power.Dark e = all_on IsLanded (λ (o : Open). is_waiting o ≡ false → IsLanded o) (λ o it none. it) core.requests (sound.over (ap is_over e)).landed
+      by power.On e = all_weaker (IsOpenOne core) (λ (o : Open). is_waiting o ≡ false → IsLanded o) (λ o it. it.over) core.requests (sound.on e).going.requests
+      by power.Off e = all_weaker IsLanded (λ (o : Open). is_waiting o ≡ false → IsLanded o) (λ o it none. it) core.requests (sound.over (ap is_over e)).landed
+      by power.Dark e = all_weaker IsLanded (λ (o : Open). is_waiting o ≡ false → IsLanded o) (λ o it none. it) core.requests (sound.over (ap is_over e)).landed
       by power.Stuck e = subst (AllByRecursion (λ (o : Open). is_waiting o ≡ false → IsLanded o)) (sym (sound.stuck e).requests) tt
 
   module _ (media : Option Media) (freed : List Buffer) (cuts : ℕ)
@@ -154,7 +155,7 @@ module _ (s : State) (sound : IsSound s) where
     counted o all = by (is_waiting o)
       where
         each : AllByRecursion (IsCounted now) o.request.targets.items
-        each = all_on (IsCounted s) (IsCounted now) (λ t its. record { began = its.began; since = its.since }) o.request.targets.items all
+        each = all_weaker (IsCounted s) (IsCounted now) (λ t its. record { began = its.began; since = its.since }) o.request.targets.items all
 
         by : (b : Bool) → AreCounted now (if b then record o { request = with_landing o.request; got = None; landed = Some outcome.Dark } else o)
         by true = each

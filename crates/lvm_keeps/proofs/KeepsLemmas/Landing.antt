@@ -5,6 +5,8 @@ use Rattle.std.specs.List.{list_any, AllByRecursion}
 use Rattle.std.specs.Option.{option_map_or}
 use Rattle.lvm_num.specs.declared.place.Pp.{Pp}
 use Rattle.lvm_num.specs.Status.{calls_stale, calls_missing}
+use Rattle.lvm_num.proofs.Booleans.{not_so}
+use Rattle.lvm_num.proofs.Lists.{all_at}
 use Rattle.lvm_vol.specs.declared.entry.Outcome.{Outcome}
 use Rattle.lvm_vol.specs.declared.entry.Outcome.TheVariants as outcome
 use Rattle.lvm_mwc.proofs.FirstsLemmas.{none_at}
@@ -27,8 +29,7 @@ use Rattle.lvm_session.specs.Requests.{IsOpenOne, IsPhase, is_past_held}
 use Rattle.lvm_session.specs.Causes.{AnyFailedSince, AreCaused, FailedSince, HasFailed, IsCaused, IsLandedFor, fails_on, is_blamed, was_fresh, was_usable}
 use Rattle.lvm_session.specs.Sound.{IsSound}
 use Rattle.lvm_keeps.specs.Keeps.{LandingIsCaused}
-use Rattle.lvm_keeps.proofs.Lists.{all_at}
-use Rattle.lvm_keeps.proofs.Small.{both, is_false, not_so}
+use Rattle.lvm_keeps.proofs.Small.{both, is_false}
 pub use Rattle.std.proofs.lemmas.Bool.{or_parts}
 
 -- ---- what holds where a request lands so next

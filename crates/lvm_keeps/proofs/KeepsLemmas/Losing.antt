@@ -8,6 +8,7 @@ use Rattle.lvm_num.specs.Disks.{Disks}
 use Rattle.lvm_num.specs.Status.{calls_missing}
 use Rattle.lvm_num.specs.Votes.{votes_in}
 use Rattle.lvm_num.proofs.VotesLemmas.{more_have_more, more_is_enough}
+use Rattle.lvm_num.proofs.Booleans.{not_so}
 use Rattle.lvm_session.specs.passed.Names.{members_there}
 use Rattle.lvm_session.specs.State.{Core, State, is_there, votes_there}
 use Rattle.lvm_session.specs.Judging.{is_missing}
@@ -16,7 +17,7 @@ use Rattle.lvm_session.specs.Causes.{AnyFailedSince, FailedSince}
 use Rattle.lvm_session.specs.Sound.{IsSound}
 use Rattle.lvm_keeps.specs.Keeps.{LossIsCaused}
 use Rattle.lvm_keeps.proofs.KeepsLemmas.Landing.{witness}
-use Rattle.lvm_keeps.proofs.Small.{both, is_false, not_so}
+use Rattle.lvm_keeps.proofs.Small.{both, is_false}
 
 none_of : (rows : List PvRow) → list_any (λ (row : PvRow). false) rows ≡ false
 none_of [] = refl

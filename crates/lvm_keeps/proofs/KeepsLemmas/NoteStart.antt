@@ -7,6 +7,8 @@ use Rattle.std.proofs.lemmas.Bool.{eq-eqb, eqb-true}
 use Rattle.lvm_num.specs.declared.descriptor.Mode.{Mode}
 use Rattle.lvm_num.specs.declared.descriptor.Mode.TheVariants as mode
 use Rattle.lvm_num.specs.Descriptor.{is_member}
+use Rattle.lvm_num.proofs.Booleans.{not_so}
+use Rattle.lvm_num.proofs.Lists.{all_weaker, all_at, length_set}
 use Rattle.lvm_session.specs.passed.Names.{Device, Flight, Range, IsFresh, Starts}
 use Rattle.lvm_mwc.specs.Cache.{after_start, flight_on, has_disk, is_named}
 use Rattle.lvm_mwc.specs.Entries.{note_of, pins_of}
@@ -32,10 +34,10 @@ use Rattle.lvm_keeps.specs.Keeps.{NoteStartKeeps}
 use Rattle.lvm_keeps.proofs.CausesLemmas.{copies_still, origin_still}
 use Rattle.lvm_keeps.proofs.SoundLemmas.Fitting.{still_fits}
 use Rattle.lvm_keeps.proofs.OwnersLemmas.Launching.{flights_push, none_more, owners_push, rows_push, taken, tickets_push}
-use Rattle.lvm_keeps.proofs.Lists.{all_at, all_on, count_cons, length_set}
+use Rattle.lvm_keeps.proofs.Lists.{count_cons}
 use Rattle.lvm_keeps.proofs.CacheLemmas.{copies_on_members, flight_beside, flight_here, found_all, named_still, same_disks}
 use Rattle.lvm_keeps.proofs.OwnersLemmas.Rows.{all_fly, data_still, rows_by, status_still, step_still}
-use Rattle.lvm_keeps.proofs.Small.{both, not_so}
+use Rattle.lvm_keeps.proofs.Small.{both}
 use Rattle.lvm_keeps.proofs.RequestsLemmas.{if_on, shape_still}
 use Rattle.lvm_keeps.proofs.SoundLemmas.Whole.{sound_still, told_still}
 
@@ -56,7 +58,7 @@ each_counted (o ∷ os) = (
       let more = count_cons (pins (lv_of o.request.ask) (group_of o.request.ask)) o os in
       let one : count_if (pins (lv_of o.request.ask) (group_of o.request.ask) o) ≡ 1 = ap count_if (pins_self o e) in
       omega (arith, more, one),
-  all_on (IsCountedIn os) (IsCountedIn (o ∷ os)) (λ x low e. let more = count_cons (pins (lv_of x.request.ask) (group_of x.request.ask)) o os in let was = low e in omega (arith, more, was)) os (each_counted os),
+  all_weaker (IsCountedIn os) (IsCountedIn (o ∷ os)) (λ x low e. let more = count_cons (pins (lv_of x.request.ask) (group_of x.request.ask)) o os in let was = low e in omega (arith, more, was)) os (each_counted os),
 )
 
 -- one that has its record with two targets or more holds its pin
@@ -149,7 +151,7 @@ module _ (s : State) (sound : IsSound s) (on : s.core.power ≡ power.On) (place
   IsKept x = x.request.pinned ≡ true → 1 ≤ pins_of core.cache.entries (lv_of x.request.ask) (group_of x.request.ask)
 
   pub kept : AllByRecursion IsKept core.requests
-  kept = all_on (IsCountedIn core.requests) IsKept (λ x low e. let was = low e in let same = going.pinned (lv_of x.request.ask) (group_of x.request.ask) in omega (arith, was, same)) core.requests (each_counted core.requests)
+  kept = all_weaker (IsCountedIn core.requests) IsKept (λ x low e. let was = low e in let same = going.pinned (lv_of x.request.ask) (group_of x.request.ask) in omega (arith, was, same)) core.requests (each_counted core.requests)
 
   named_on : (x : Open) → IsKept x → (m : Mode) → IsRecorded m x.request.phase x.request → has_record x.request.phase ≡ true → 2 ≤ length x.request.targets.items → has_names core m x.request ≡ true → has_names now.core m x.request ≡ true
   named_on x keep mode.Active rec has two names = all_true (λ (t : Target). is_named core.cache t.pp.disk (lv_of x.request.ask) (group_of x.request.ask)) (λ (t : Target). is_named now.core.cache t.pp.disk (lv_of x.request.ask) (group_of x.request.ask))

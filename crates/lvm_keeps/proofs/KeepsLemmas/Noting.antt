@@ -2,6 +2,8 @@
 use Rattle.std.proofs.Common.{◌≡◌, ◌≤◌, ℕ, Bool, true, false, ◌&&◌, ◌||◌, not, Some, None, length, slice_get, refl, sym, ◌∙◌, ap, if◌then◌else◌}
 use Rattle.lvm_num.specs.declared.descriptor.Mode.{Mode}
 use Rattle.lvm_num.specs.declared.descriptor.Mode.TheVariants as mode
+use Rattle.lvm_num.proofs.Booleans.{not_so}
+use Rattle.lvm_num.proofs.Lists.{all_at}
 use Rattle.lvm_vol.specs.declared.entry.Outcome.TheVariants as outcome
 use Rattle.lvm_path.specs.declared.facts.Facts.{Facts}
 use Rattle.lvm_path.specs.declared.facts.Next.{Next}
@@ -19,8 +21,7 @@ use Rattle.lvm_session.specs.Enabled.{target_due, target_next}
 use Rattle.lvm_session.specs.Requests.{IsOpenOne, IsReady, has_record, mode_for}
 use Rattle.lvm_session.specs.Sound.{IsSound}
 use Rattle.lvm_keeps.specs.Keeps.{FirstStartIsNoted}
-use Rattle.lvm_keeps.proofs.Lists.{all_at}
-use Rattle.lvm_keeps.proofs.Small.{both, not_so}
+use Rattle.lvm_keeps.proofs.Small.{both}
 use Rattle.lvm_keeps.proofs.KeepsLemmas.Starting.{IsClear, not_starting, starts_clear}
 
 -- it goes on as it would if nothing else mattered

@@ -5,6 +5,8 @@ use Rattle.std.specs.List.{AllByRecursion}
 use Rattle.std.specs.Option.{option_map}
 use Rattle.std.proofs.lemmas.List.{length-map}
 use Rattle.lvm_num.specs.declared.place.Pp.{Pp}
+use Rattle.lvm_num.proofs.Booleans.{not_so}
+use Rattle.lvm_num.proofs.Lists.{all_weaker}
 use Rattle.lvm_vol.specs.declared.entry.Outcome.{Outcome}
 use Rattle.lvm_vol.specs.declared.entry.Outcome.TheVariants as outcome
 use Rattle.lvm_vol.specs.Facts.{Request}
@@ -27,8 +29,7 @@ use Rattle.lvm_session.specs.Sound.{IsFitting, IsGoing, IsSound, IsTold, count_i
 use Rattle.lvm_keeps.specs.Keeps.{OffKeeps}
 use Rattle.lvm_keeps.proofs.SoundLemmas.Fitting.{still_fits}
 use Rattle.lvm_keeps.proofs.DarkLemmas.Ending.{back_long, copy_over, each_after, failed_before, hands_long, landed_ended, no_copy_hand, none_in_hand, ordered_after, pool_after, requests_after, table_after}
-use Rattle.lvm_keeps.proofs.Lists.{all_mapped, all_on}
-use Rattle.lvm_keeps.proofs.Small.{not_so}
+use Rattle.lvm_keeps.proofs.Lists.{all_mapped}
 use Rattle.lvm_keeps.proofs.RequestsLemmas.{if_on}
 
 none_flown : (core : Core) (rows : List Flown) → AreRows core rows [] → rows ≡ []
@@ -66,7 +67,7 @@ module _ (s : State) (sound : IsSound s) (on : s.core.power ≡ power.On) (lost 
   }
 
   landed : AllByRecursion IsLanded now.core.requests
-  landed = landed_ended outcome.Off core.requests (all_on (IsOpenOne core) (λ (o : Open). is_waiting o ≡ false → IsLanded o) (λ o it. it.over) core.requests going.requests)
+  landed = landed_ended outcome.Off core.requests (all_weaker (IsOpenOne core) (λ (o : Open). is_waiting o ≡ false → IsLanded o) (λ o it. it.over) core.requests going.requests)
 
   lit : is_dark core.power ≡ false
   lit = ap is_dark on
@@ -101,7 +102,7 @@ module _ (s : State) (sound : IsSound s) (on : s.core.power ≡ power.On) (lost 
   counted o all = by (is_waiting o)
     where
       same : AllByRecursion (IsCounted now) o.request.targets.items
-      same = all_on (IsCounted s) (IsCounted now) (λ t its. record { began = its.began; since = its.since }) o.request.targets.items all
+      same = all_weaker (IsCounted s) (IsCounted now) (λ t its. record { began = its.began; since = its.since }) o.request.targets.items all
 
       by : (b : Bool) → AreCounted now (if b then record o { request = with_landing o.request; got = None; landed = Some outcome.Off } else o)
       by true = same

@@ -8,6 +8,8 @@ use Rattle.std.proofs.lemmas.List.Sums.{count_by-le-length}
 use Rattle.lvm_num.specs.declared.place.Pp.{Pp}
 use Rattle.lvm_num.specs.declared.descriptor.Mode.{Mode}
 use Rattle.lvm_num.specs.declared.descriptor.Mode.TheVariants as mode
+use Rattle.lvm_num.proofs.Booleans.{not_so}
+use Rattle.lvm_num.proofs.Lists.{all_weaker, all_at, length_set, set_beside}
 use Rattle.lvm_session.specs.passed.Names.{Flight}
 use Rattle.lvm_mwc.specs.Cache.{Cached, after_pin}
 use Rattle.lvm_mwc.specs.Entries.{AreEntries, are_all_pinned, pins_of, with_pin as with_entry}
@@ -33,12 +35,12 @@ use Rattle.lvm_session.specs.Sound.{IsAsked, IsCopy, IsFitting, IsGoing, IsOn, I
 use Rattle.lvm_keeps.specs.Keeps.{PinKeeps}
 use Rattle.lvm_keeps.proofs.CausesLemmas.{answered_still, copies_still, counted_still, origin_still}
 use Rattle.lvm_keeps.proofs.SoundLemmas.Fitting.{still_fits}
-use Rattle.lvm_keeps.proofs.Lists.{all_at, all_on, all_set, any_set, count_same, count_set, length_set, set_here, set_beside}
+use Rattle.lvm_keeps.proofs.Lists.{all_set, any_set, count_same, count_set, set_here}
 use Rattle.lvm_keeps.proofs.DarkLemmas.Tables.{ascending_set, rows_set}
 use Rattle.lvm_keeps.proofs.EnabledLemmas.{pins_entry}
 use Rattle.lvm_keeps.proofs.KeepsLemmas.Numbers.{numbered}
 use Rattle.lvm_keeps.proofs.OwnersLemmas.Rows.{all_fly, rows_on}
-use Rattle.lvm_keeps.proofs.Small.{both, is_false, not_so}
+use Rattle.lvm_keeps.proofs.Small.{both, is_false}
 use Rattle.lvm_keeps.proofs.RequestsLemmas.{moved, open_on, bring_on, if_on, no_cause}
 use Rattle.lvm_vol.specs.Log.{is_open}
 use Rattle.lvm_session.specs.Bringing.{has_row, step_row}
@@ -238,7 +240,7 @@ module _ (s : State) (sound : IsSound s) (on : s.core.power ≡ power.On) (place
   blamed p = any_set (fails_on p) core.requests place o pinned there refl
 
   caused : (x : Open) → AreCaused s.device core x → AreCaused s.device now.core x
-  caused x all waiting = all_on (IsCaused s.device core) (IsCaused s.device now.core) target_caused x.request.targets.items (all waiting)
+  caused x all waiting = all_weaker (IsCaused s.device core) (IsCaused s.device now.core) target_caused x.request.targets.items (all waiting)
     where
       target_caused : (t : Target) → IsCaused s.device core t → IsCaused s.device now.core t
       target_caused t why e = why (sym (ap (λ b. is_failed t.state || (t.usable && (is_missing core t.pp.disk || is_wanted_stale core t.pp || is_held_stale core t.pp || b))) (blamed t.pp)) ∙ e)

@@ -13,6 +13,8 @@ use Rattle.lvm_num.specs.Geometry.{partition_blocks, volume_blocks}
 use Rattle.lvm_num.specs.Status.{calls_stale}
 use Rattle.lvm_num.proofs.MarksLemmas.Maps.{find-Some}
 use Rattle.lvm_num.proofs.DescriptorLemmas.Partitions.{one_partition}
+use Rattle.lvm_num.proofs.Booleans.{not_so}
+use Rattle.lvm_num.proofs.Lists.{all_at}
 use Rattle.lvm_vol.specs.declared.entry.Outcome.TheVariants as outcome
 use Rattle.lvm_path.specs.declared.facts.Facts.{Facts}
 use Rattle.lvm_path.specs.declared.facts.Next.{Next}
@@ -36,8 +38,7 @@ use Rattle.lvm_session.specs.Causes.{is_held_stale}
 use Rattle.lvm_session.specs.Sound.{IsGoing, IsSound, is_clearing}
 use Rattle.lvm_keeps.specs.Keeps.{FirstStartIsWhole}
 use Rattle.lvm_keeps.proofs.KeepsLemmas.Landing.{or_parts, witness}
-use Rattle.lvm_keeps.proofs.Lists.{all_at}
-use Rattle.lvm_keeps.proofs.Small.{both, is_false, not_so}
+use Rattle.lvm_keeps.proofs.Small.{both, is_false}
 
 -- ---- one that starts its data finds nothing pending, a copy that it can use, and its targets as they should be
 

@@ -18,7 +18,8 @@ use Rattle.lvm_path.specs.declared.target.Target.{Target}
 use Rattle.lvm_path.specs.Asks.{is_write, lv_of}
 use Rattle.lvm_path.specs.Targets.{are_over, is_begun, is_failed}
 use Rattle.lvm_num.specs.Descriptor.{is_pp}
-use Rattle.lvm_num.proofs.Booleans.{and_false}
+use Rattle.lvm_num.proofs.Booleans.{and_false, not_so}
+use Rattle.lvm_num.proofs.Lists.{all_weaker, all_at}
 use Rattle.lvm_session.specs.declared.answers.Taken.TheVariants as answer
 use Rattle.lvm_session.specs.declared.bringing.OpenCopy.{OpenCopy}
 use Rattle.lvm_session.specs.declared.flown.Owner.TheVariants as owner
@@ -37,9 +38,8 @@ use Rattle.lvm_session.specs.Causes.{AreCaused, AreCounted, IsAnswered, IsCaused
 use Rattle.lvm_session.specs.Sound.{IsAsked, IsCopy, IsFitting, IsGoing, IsOn, IsSound, IsTold, count_if, is_hand, out_with, pins, with_row}
 use Rattle.lvm_keeps.specs.Keeps.{TakeKeeps}
 use Rattle.lvm_keeps.proofs.SoundLemmas.Fitting.{still_fits}
-use Rattle.lvm_keeps.proofs.Lists.{all_at, all_on, all_removed, any_removed, count_removed, get_removed, length_removed}
+use Rattle.lvm_keeps.proofs.Lists.{all_removed, any_removed, count_removed, get_removed, length_removed}
 use Rattle.lvm_keeps.proofs.OwnersLemmas.Rows.{all_fly, rows_on}
-use Rattle.lvm_keeps.proofs.Small.{not_so}
 use Rattle.lvm_keeps.proofs.RequestsLemmas.{moved, open_on, bring_on, landed_on, counted_on, origin_on, copy_on, if_on}
 use Rattle.lvm_keeps.proofs.DarkLemmas.Tables.{apart, ascending_removed, none_named, rows_removed}
 use Rattle.lvm_keeps.proofs.SoundLemmas.Telling.{asked_still, count_still, open_still, told_more}
@@ -111,7 +111,7 @@ module _ (s : State) (sound : IsSound s) (place : ℕ) (o : Open) (there : slice
     ordered = ordered-push core.history.run [] core.history.facts fact t.ordered follows.0;
     table = record {
       ascending = ascending_removed core.requests place t.table.ascending;
-      still = all_on Still StillNow (λ x is waiting. open_still core.history.facts fact refl x.request.id refl ∙ is waiting) left (all_removed Still core.requests place t.table.still);
+      still = all_weaker Still StillNow (λ x is waiting. open_still core.history.facts fact refl x.request.id refl ∙ is waiting) left (all_removed Still core.requests place t.table.still);
     };
     each = λ id. open_still core.history.facts fact refl id refl ∙ t.each id ∙ sym (any_removed (λ (x : Open). is_waiting x && x.request.id == id) core.requests place o there (ap (λ b. b && o.request.id == id) over));
     requests = both_on left others (all_removed (IsAsked core.history.facts) core.requests place t.requests);
@@ -162,7 +162,7 @@ module _ (s : State) (sound : IsSound s) (place : ℕ) (o : Open) (there : slice
       tickets = going.tickets;
       queue = going.queue ∙ ap (λ rows. option_map_or (λ (c : OpenCopy). if has_row core c then with_row (step_row core c) rows else rows) core.copy rows) (sym (rows_removed core.requests place o there over));
       pinned = λ lv group. going.pinned lv group ∙ sym (count_removed (pins lv group) core.requests place o there (ap (λ b. b && lv_of o.request.ask == lv && group_of o.request.ask == group) landed.pinned));
-      requests = all_on (IsOpenOne core) (IsOpenOne now.core) one left (all_removed (IsOpenOne core) core.requests place going.requests);
+      requests = all_weaker (IsOpenOne core) (IsOpenOne now.core) one left (all_removed (IsOpenOne core) core.requests place going.requests);
       copy = if_on (IsCopy core) (IsCopy now.core) bring core.copy going.copy;
       hands = λ n. let same = hands n in let was = going.hands n in omega (arith, same, was);
       behind = going.behind;
@@ -192,7 +192,7 @@ module _ (s : State) (sound : IsSound s) (place : ℕ) (o : Open) (there : slice
     blamed p = any_removed (fails_on p) core.requests place o there (ap (λ b. b && is_write o.request.ask && list_any (λ (t : Target). is_failed t.state && is_pp p t.pp) o.request.targets.items) over)
 
     caused : (x : Open) → AreCaused s.device core x → AreCaused s.device now.core x
-    caused x all waiting = all_on (IsCaused s.device core) (IsCaused s.device now.core) target_caused x.request.targets.items (all waiting)
+    caused x all waiting = all_weaker (IsCaused s.device core) (IsCaused s.device now.core) target_caused x.request.targets.items (all waiting)
       where
         target_caused : (t : Target) → IsCaused s.device core t → IsCaused s.device now.core t
         target_caused t why e = why (sym (ap (λ b. is_failed t.state || (t.usable && (is_missing core t.pp.disk || is_wanted_stale core t.pp || is_held_stale core t.pp || b))) (blamed t.pp)) ∙ e)
@@ -201,7 +201,7 @@ module _ (s : State) (sound : IsSound s) (place : ℕ) (o : Open) (there : slice
     keeps_on = let was = sound.on on in record {
       going = keeps_going;
       rows = rows_on core (with_fact core.history fact) left core.queue core.pool core.flying core.cache.entries core.last data_on core.flying s.device.flights (all_fly core going.owned) was.rows;
-      caused = all_on (AreCaused s.device core) (AreCaused s.device now.core) caused left (all_removed (AreCaused s.device core) core.requests place was.caused);
+      caused = all_weaker (AreCaused s.device core) (AreCaused s.device now.core) caused left (all_removed (AreCaused s.device core) core.requests place was.caused);
       chosen = if_on (λ (c : OpenCopy). AllByRecursion (IsChosenSince core c) core.requests) (λ (c : OpenCopy). AllByRecursion (IsChosenSince now.core c) left) (λ c all. all_removed (IsChosenSince core c) core.requests place all) core.copy was.chosen;
     }
 
@@ -212,7 +212,7 @@ module _ (s : State) (sound : IsSound s) (place : ℕ) (o : Open) (there : slice
   answered x why = if_on (IsLandedFor s x) (IsLandedFor now x) (λ how. landed_on s (with_fact core.history fact) left core.queue core.copy core.pool core.flying core.cache.entries core.last x how) x.landed why
 
   counted : (x : Open) → AreCounted s x → AreCounted now x
-  counted x all = all_on (IsCounted s) (IsCounted now) (counted_on s (with_fact core.history fact) left core.queue core.copy core.pool core.flying core.cache.entries core.last) x.request.targets.items all
+  counted x all = all_weaker (IsCounted s) (IsCounted now) (counted_on s (with_fact core.history fact) left core.queue core.copy core.pool core.flying core.cache.entries core.last) x.request.targets.items all
 
   pub keeps : IsSound now
   keeps = record {
@@ -227,8 +227,8 @@ module _ (s : State) (sound : IsSound s) (place : ℕ) (o : Open) (there : slice
     off = sound.off;
     over = λ e. let was = sound.over e in record { landed = all_removed IsLanded core.requests place was.landed; copy = was.copy; flights = was.flights; flying = was.flying };
     stuck = λ e. absurd (let none : slice_get [] place ≡ Some o = sym (ap (λ (os : List Open). slice_get os place) (sound.stuck e).requests) ∙ there in cc none);
-    counted = all_on (AreCounted s) (AreCounted now) counted left (all_removed (AreCounted s) core.requests place sound.counted);
-    answered = all_on (IsAnswered s) (IsAnswered now) answered left (all_removed (IsAnswered s) core.requests place sound.answered);
+    counted = all_weaker (AreCounted s) (AreCounted now) counted left (all_removed (AreCounted s) core.requests place sound.counted);
+    answered = all_weaker (IsAnswered s) (IsAnswered now) answered left (all_removed (IsAnswered s) core.requests place sound.answered);
     copy = if_on (λ (c : OpenCopy). IsCausedAmong s (copies_in core.descriptor c.lv c.lp) c) (λ (c : OpenCopy). IsCausedAmong now (copies_in core.descriptor c.lv c.lp) c) (λ c. copy_on s (with_fact core.history fact) left core.queue core.copy core.pool core.flying core.cache.entries core.last (copies_in core.descriptor c.lv c.lp) c) core.copy sound.copy;
     origin = origin_on s (with_fact core.history fact) left core.queue core.copy core.pool core.flying core.cache.entries core.last sound.origin;
   }

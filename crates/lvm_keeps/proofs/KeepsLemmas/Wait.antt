@@ -1,6 +1,7 @@
 -- No transfer has ended, or a client has given an order to the shelf.
 use Rattle.std.proofs.Common.{◌⊎◌, inl, inr, ℕ, List, sym, subst}
 use Rattle.lvm_num.specs.declared.place.Pp.{Pp}
+use Rattle.lvm_num.proofs.Lists.{all_weaker}
 use Rattle.lvm_session.specs.passed.Names.{Device, Orders}
 use Rattle.lvm_vol.specs.declared.entry.Outcome.{Outcome}
 use Rattle.lvm_vol.specs.declared.entry.Outcome.TheVariants as outcome
@@ -11,7 +12,6 @@ use Rattle.lvm_session.specs.Judging.{copies_in}
 use Rattle.lvm_session.specs.Causes.{AreCounted, HaveSourcesFailed, IsAnswered, IsCausedAmong, IsCounted, IsLandedFor}
 use Rattle.lvm_session.specs.Sound.{IsSound}
 use Rattle.lvm_keeps.specs.Keeps.{WaitKeeps}
-use Rattle.lvm_keeps.proofs.Lists.{all_on}
 use Rattle.lvm_keeps.proofs.RequestsLemmas.{if_on}
 
 -- of the shelf only the count of waits and the orders have changed
@@ -48,8 +48,8 @@ module _ (s : State) (waits : ℕ) (orders : Orders) where
     off = sound.off;
     over = λ e. let was = sound.over e in record { landed = was.landed; copy = was.copy; flights = was.flights; flying = was.flying };
     stuck = sound.stuck;
-    counted = all_on (AreCounted s) (AreCounted waited) (λ o all. all_on (IsCounted s) (IsCounted waited) (λ t its. record { began = its.began; since = its.since }) o.request.targets.items all) s.core.requests sound.counted;
-    answered = all_on (IsAnswered s) (IsAnswered waited) (λ o why. if_on (IsLandedFor s o) (IsLandedFor waited o) (landed_on o) o.landed why) s.core.requests sound.answered;
+    counted = all_weaker (AreCounted s) (AreCounted waited) (λ o all. all_weaker (IsCounted s) (IsCounted waited) (λ t its. record { began = its.began; since = its.since }) o.request.targets.items all) s.core.requests sound.counted;
+    answered = all_weaker (IsAnswered s) (IsAnswered waited) (λ o why. if_on (IsLandedFor s o) (IsLandedFor waited o) (landed_on o) o.landed why) s.core.requests sound.answered;
     copy = if_on (λ (c : OpenCopy). IsCausedAmong s (copies_in s.core.descriptor c.lv c.lp) c) (λ (c : OpenCopy). IsCausedAmong waited (copies_in s.core.descriptor c.lv c.lp) c) (λ c. copy_on (copies_in s.core.descriptor c.lv c.lp) c) s.core.copy sound.copy;
     origin = let was = sound.origin in record { since = was.since; votes = was.votes; still_missing = was.still_missing; missing = was.missing; stale = was.stale };
   }

@@ -10,6 +10,8 @@ use Rattle.lvm_mwc.specs.declared.entries.CacheEntry.{CacheEntry}
 use Rattle.lvm_mwc.specs.Cache.{Cached}
 use Rattle.lvm_num.specs.declared.status.Status.{Status}
 use Rattle.lvm_num.specs.declared.record.Stamp.{Stamp}
+use Rattle.lvm_num.proofs.Booleans.{not_either}
+use Rattle.lvm_num.proofs.Lists.{all_weaker}
 use Rattle.lvm_session.specs.declared.bringing.OpenCopy.{OpenCopy}
 use Rattle.lvm_session.specs.declared.bringing.Step.{Step}
 use Rattle.lvm_session.specs.declared.bringing.Step.TheVariants as step
@@ -20,8 +22,7 @@ use Rattle.lvm_session.specs.declared.open.Open.{Open}
 use Rattle.lvm_session.specs.State.{Core}
 use Rattle.lvm_session.specs.Owners.{AreOwned, AreRows, IsDataOf, IsStatusOf, IsStepOf, IsTransferOf, flies, same_owner}
 use Rattle.lvm_session.specs.Sound.{count_if}
-use Rattle.lvm_keeps.proofs.Lists.{all_on, count_cons}
-use Rattle.lvm_keeps.proofs.Small.{not_either}
+use Rattle.lvm_keeps.proofs.Lists.{count_cons}
 use Rattle.lvm_keeps.proofs.RequestsLemmas.{changed}
 use Rattle.lvm_keeps.proofs.SoundLemmas.Whole.{Told, told_by}
 
@@ -42,11 +43,11 @@ each_counts (row ∷ rows) = (
   let more = count_cons (λ (f : Flown). same_owner row.owner f.owner) row rows in
       let one : count_if (same_owner row.owner row.owner) ≡ 1 = ap count_if (same_self row.owner) in
       omega (arith, more, one),
-  all_on (λ (r : Flown). 1 ≤ counted_in rows r) (λ (r : Flown). 1 ≤ counted_in (row ∷ rows) r) (λ r low. let more = count_cons (λ (f : Flown). same_owner r.owner f.owner) row rows in omega (arith, low, more)) rows (each_counts rows),
+  all_weaker (λ (r : Flown). 1 ≤ counted_in rows r) (λ (r : Flown). 1 ≤ counted_in (row ∷ rows) r) (λ r low. let more = count_cons (λ (f : Flown). same_owner r.owner f.owner) row rows in omega (arith, low, more)) rows (each_counts rows),
 )
 
 pub all_fly : (core : Core) → AreOwned core → AllByRecursion (λ (row : Flown). flies core row.owner ≡ true) core.flying
-all_fly core owned = all_on (λ (row : Flown). 1 ≤ counted_in core.flying row) (λ (row : Flown). flies core row.owner ≡ true) (λ row low. by row low (flies core row.owner) refl) core.flying (each_counts core.flying)
+all_fly core owned = all_weaker (λ (row : Flown). 1 ≤ counted_in core.flying row) (λ (row : Flown). flies core row.owner ≡ true) (λ row low. by row low (flies core row.owner) refl) core.flying (each_counts core.flying)
   where
     by : (row : Flown) → 1 ≤ counted_in core.flying row → (b : Bool) → flies core row.owner ≡ b → b ≡ true
     by row low true is = refl

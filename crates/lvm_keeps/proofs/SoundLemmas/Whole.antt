@@ -3,6 +3,8 @@ use Rattle.std.proofs.Common.{◌≡◌, ℕ, List, Bool, false, sym, ◌∙◌,
 use Rattle.std.specs.Prelude.{IfSome, slice_index_or}
 use Rattle.std.specs.List.{AllByRecursion}
 use Rattle.lvm_num.specs.Buffer.{Buffer}
+use Rattle.lvm_num.proofs.Booleans.{not_so}
+use Rattle.lvm_num.proofs.Lists.{all_weaker}
 use Rattle.lvm_vol.specs.Log.{Log}
 use Rattle.lvm_session.specs.declared.bringing.OpenCopy.{OpenCopy}
 use Rattle.lvm_session.specs.declared.open.Open.{Open}
@@ -13,8 +15,6 @@ use Rattle.lvm_session.specs.Causes.{AreCounted, IsAnswered, IsCausedAmong, IsTr
 use Rattle.lvm_session.specs.Placed.{ArePlaced}
 use Rattle.lvm_session.specs.Sound.{IsFitting, IsOn, IsSound, IsTold, is_dark, count_if, out_with}
 use Rattle.lvm_keeps.proofs.CausesLemmas.{Basis, Grounds, answered_still, basis_of, counted_still, grounds}
-use Rattle.lvm_keeps.proofs.Lists.{all_on}
-use Rattle.lvm_keeps.proofs.Small.{not_so}
 
 -- what the requests are told of by
 abbrev pub Told : Type 0
@@ -62,5 +62,5 @@ module _ (s now : State) (same : basis_of s ≡ basis_of now) (shelf : shelf_of 
 pub sound_still : (s now : State) → grounds s ≡ grounds now → shelf_of s ≡ shelf_of now → IsSound s → s.core.power ≡ power.On → s.core.requests ≡ now.core.requests → IsFitting now.core → IsTold now.core → IsOn now
     → ((n : ℕ) → out_with now.device now.core n ≡ count_if (slice_index_or now.core.pool n false)) → IfSome now.core.copy (λ (c : OpenCopy). IsCausedAmong now (copies_in now.core.descriptor c.lv c.lp) c) → IsTrueToOrigin now → IsSound now
 sound_still s now same shelf sound on requests fitting told keeps_on out copy origin = sound_when_on s now (ap (λ (g : Grounds). (g.0, g.1, g.2, g.3)) same) shelf sound on fitting told keeps_on out
-    (subst (λ (os : List Open). AllByRecursion (AreCounted now) os) requests (all_on (AreCounted s) (AreCounted now) (counted_still s now same) s.core.requests sound.counted))
-    (subst (λ (os : List Open). AllByRecursion (IsAnswered now) os) requests (all_on (IsAnswered s) (IsAnswered now) (answered_still s now same) s.core.requests sound.answered)) copy origin
+    (subst (λ (os : List Open). AllByRecursion (AreCounted now) os) requests (all_weaker (AreCounted s) (AreCounted now) (counted_still s now same) s.core.requests sound.counted))
+    (subst (λ (os : List Open). AllByRecursion (IsAnswered now) os) requests (all_weaker (IsAnswered s) (IsAnswered now) (answered_still s now same) s.core.requests sound.answered)) copy origin

@@ -1,5 +1,4 @@
 -- Passed on from the crates below.
-pub use Rattle.lvm_session.specs.passed.Names.{IsOut, Homes}
 pub use Rattle.lvm_session.specs.Causes.{faults_at_first}
 pub use Rattle.lvm_session.specs.Fields.{core_of}
 pub use Rattle.lvm_session.specs.Left.{updates_left}
@@ -9,3 +8,4 @@ pub use Rattle.lvm_session.specs.Rooms.{HasRooms}
 pub use Rattle.lvm_session.specs.Sound.{IsFitting, IsLit, IsSound}
 pub use Rattle.lvm_session.specs.State.{Core, state}
 pub use Rattle.lvm_session.specs.declared.open.Open.{Open}
+pub use Rattle.lvm_session.specs.passed.Names.{Homes, IsOut}

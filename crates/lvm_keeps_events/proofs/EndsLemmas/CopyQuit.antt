@@ -36,8 +36,6 @@ use Rattle.lvm_session.specs.Requests.{IsOpenOne}
 use Rattle.lvm_session.specs.Causes.{AreCaused, AreCounted, HaveSourcesFailed, IsAnswered, IsCaused, IsChosenSince, IsCausedAmong, IsCounted, IsLandedFor, IsTrueToOrigin, is_over}
 use Rattle.lvm_session.specs.Sound.{IsCopy, IsFitting, IsGoing, IsOn, IsSound, IsTold, count_if, has_number, is_clearing, is_dark, is_hand, out_with, waiting_rows, with_row}
 use Rattle.lvm_keeps.proofs.DarkLemmas.Ending.{back}
-use Rattle.lvm_keeps.proofs.Lists.{all_on, length_set}
-use Rattle.lvm_keeps.proofs.Small.{not_so}
 use Rattle.lvm_keeps.proofs.RequestsLemmas.{changed, if_on, open_on}
 use Rattle.lvm_keeps_events.specs.Ends.{CopyQuitKeeps}
 use Rattle.lvm_keeps_events.proofs.EndsLemmas.Counts.{counts_keep}

@@ -1,6 +1,6 @@
 -- The read of the copy that is open has failed.
 use Rattle.std.proofs.Common.{◌≡◌, ◌≤◌, ◌⊎◌, inl, inr, ◌==◌, ◌+◌, ◌-◌, ℕ, zero, suc, Bool, true, false, ◌&&◌, ◌||◌, not, if◌then◌else◌, List, [], ◌∷◌, Option, Some, None, length, slice_get, refl, sym, ◌∙◌, ap, subst, arith}
-use Rattle.std.specs.Prelude.{IfSome, count_by, filter, nat_lt, slice_index_or, slice_set}
+use Rattle.std.specs.Prelude.{IfSome, count_by, filter, nat_lt, slice_index_or, slice_set, find, is_none}
 use Rattle.std.specs.List.{list_any, remove, AllByRecursion}
 use Rattle.std.proofs.lemmas.Bool.{eq-eqb, eqb-true, eqb-false, ne_eqb}
 use Rattle.lvm_hold.specs.Conflicts.{conflicts}
@@ -25,54 +25,39 @@ use Rattle.lvm_session.specs.declared.flown.Owner.TheVariants as owner
 use Rattle.lvm_session.specs.declared.open.Open.{Open}
 use Rattle.lvm_session.specs.declared.open.Power.TheVariants as power
 use Rattle.lvm_session.specs.State.{Core, State, state}
-use Rattle.lvm_session.specs.Judging.{copies_in, group_in, held_of, is_missing, is_running, is_stale, is_wanted_stale, is_waiting, place_of}
+use Rattle.lvm_session.specs.Judging.{copies_in, group_in, held_of, is_missing, is_running, is_stale, is_wanted_stale, is_waiting, place_of, is_sure, is_usable}
 use Rattle.lvm_session.specs.declared.bringing.CopyEnd.TheVariants as ending
 use Rattle.lvm_status.specs.Update.{Stored}
 use Rattle.lvm_session.specs.Events.{IsCopyTransfer}
-use Rattle.lvm_session.specs.Bringing.{copy_ends, hand_of, is_done_end, marked_by_end, end_by_sources, end_of, ends_if, is_cleared, has_row, is_idle, is_out, is_whole, step_row}
+use Rattle.lvm_session.specs.Bringing.{copy_ends, hand_of, is_done_end, marked_by_end, end_by_sources, end_of, ends_if, is_cleared, has_row, is_idle, is_out, is_whole, step_row, after_copy_end, next_source, sources_of, with_end}
 use Rattle.lvm_session.specs.Dark.{hand_of_copy}
-use Rattle.lvm_session.specs.Ends.{EndsAs, after_quit}
+use Rattle.lvm_session.specs.Ends.{EndsAs, after_quit, MissesSource}
 use Rattle.lvm_session.specs.Left.{copy_updates}
 use Rattle.lvm_session.specs.Owners.{AreOwned, AreRows, IsCopyStepOf, IsRowOf, IsStepOf, IsTransferOf, flies, same_owner}
 use Rattle.lvm_session.specs.Requests.{IsOpenOne}
-use Rattle.lvm_session.specs.Causes.{AreCaused, AreCounted, HaveSourcesFailed, IsAnswered, IsCaused, IsChosenSince, IsCausedAmong, IsCounted, IsLandedFor, IsTrueToOrigin, faults_at_opening, is_over}
-use Rattle.lvm_session.specs.Sound.{IsCopy, IsFitting, IsGoing, IsOn, IsSound, IsTold, count_if, has_number, is_clearing, is_dark, is_hand, out_with, waiting_rows, with_row}
+use Rattle.lvm_session.specs.Causes.{AreCaused, AreCounted, HaveSourcesFailed, IsAnswered, IsCaused, IsChosenSince, IsCausedAmong, IsCounted, IsLandedFor, IsTrueToOrigin, faults_at_opening, is_over, FailedSinceOpening}
+use Rattle.lvm_session.specs.Sound.{IsCopy, IsFitting, IsGoing, IsOn, IsSound, IsTold, count_if, has_number, is_clearing, is_dark, is_hand, out_with, waiting_rows, with_row, IsReadFrom}
 use Rattle.lvm_keeps.proofs.DarkLemmas.Ending.{back}
-use Rattle.lvm_keeps.proofs.Lists.{all_on, length_set}
-use Rattle.lvm_keeps.proofs.Small.{both, not_so}
+use Rattle.lvm_keeps.proofs.Small.{both}
 use Rattle.lvm_keeps.proofs.RequestsLemmas.{changed, if_on, open_on}
 use Rattle.lvm_keeps_events.specs.Ends.{CopyReadFailKeeps}
-use Rattle.lvm_keeps_events.proofs.EndsLemmas.Counts.{counts_keep}
-use Rattle.lvm_keeps_events.proofs.EndsLemmas.Counts.{rose_since}
+use Rattle.lvm_keeps_events.proofs.EndsLemmas.Counts.{counts_keep, rose_since}
 use Rattle.lvm_keeps_events.proofs.EndsLemmas.CopyQuit.{IsBack, is_back}
 use Rattle.lvm_keeps_events.proofs.SoundLemmas.Over.{keeps as keeps_over}
 use Rattle.lvm_keeps_events.proofs.EndsLemmas.Again.{keeps as keeps_on}
 use Rattle.lvm_keeps_events.proofs.EndsLemmas.CopyWriteFail.{faulted, step_out}
 use Rattle.lvm_session.specs.declared.bringing.CopyEnd.{CopyEnd}
-use Rattle.lvm_session.specs.Bringing.{after_copy_end, next_source, sources_of, with_end}
-use Rattle.lvm_session.specs.Judging.{is_sure, is_usable}
 use Rattle.lvm_num.specs.Disks.{has}
 use Rattle.lvm_session.specs.Calls.{copy_at}
-use Rattle.lvm_session.specs.Marks.{is_among, is_entailed}
-use Rattle.lvm_session.specs.Ends.{MissesSource}
-use Rattle.lvm_session.specs.Causes.{FailedSinceOpening}
-use Rattle.lvm_session.specs.Sound.{IsReadFrom}
-use Rattle.std.specs.Prelude.{find, is_none}
-use Rattle.lvm_num.proofs.Booleans.{and_false}
+use Rattle.lvm_session.specs.Marks.{is_entailed}
+use Rattle.lvm_num.proofs.Booleans.{and_false, not_so}
 use Rattle.lvm_keeps_events.proofs.OwnersLemmas.Removal.{IsOut, taken_out}
+use Rattle.lvm_keeps_events.proofs.OnePlace.{among_at}
 
 -- ---- lists of partitions
 
 pub pp_is : (p q : Pp) → is_pp p q ≡ true → q ≡ p
 pp_is p q is = let parts = both (p.disk == q.disk) (p.pp == q.pp) is in let disk = eqb-true p.disk q.disk parts.0 in let pp = eqb-true p.pp q.pp parts.1 in sym (λ i. record { disk = disk i; pp = pp i })
-
-pub at_number : (ps : List Pp) (p : Pp) → is_among ps p ≡ true → (i : ℕ) × (slice_get ps i ≡ Some p)
-at_number [] p is = not_so is
-at_number (q ∷ ps) p is = by (is_pp p q) refl (λ e. at_number ps p e) is
-  where
-    by : (b : Bool) → is_pp p q ≡ b → (is_among ps p ≡ true → (i : ℕ) × (slice_get ps i ≡ Some p)) → b || is_among ps p ≡ true → (i : ℕ) × (slice_get (q ∷ ps) i ≡ Some p)
-    by true same more e = (0, ap (λ (r : Pp). Some r) (pp_is p q same))
-    by false other more e = let rest = more e in (suc rest.0, rest.1)
 
 pub some_at : (t : Pp → Bool) (ps : List Pp) (i : ℕ) (p : Pp) → slice_get ps i ≡ Some p → t p ≡ true → list_any t ps ≡ true
 some_at t [] i p at is = absurd (cc at)
@@ -239,7 +224,7 @@ copy_read_fail_keeps at old new sound on event = by_end (copy_ends mid) refl new
         by : (b : Bool) → has c.tried disk ≡ b → b || disk == event.source.disk ≡ true → list_any (λ (p : Pp). not (is_pp p c.pp) && p.disk == disk) copies ≡ true
         by true had e = its.tried disk had
         by false new_one e =
-            let found = at_number copies event.source reading.0 in
+            let found = among_at copies event.source reading.0 in
             let same = eqb-true disk event.source.disk e in
             some_at (λ (p : Pp). not (is_pp p c.pp) && p.disk == disk) copies found.0 event.source found.1 (ap (λ (b : Bool). not b && event.source.disk == disk) reading.1 ∙ eq-eqb event.source.disk disk (sym same))
 
@@ -275,7 +260,7 @@ copy_read_fail_keeps at old new sound on event = by_end (copy_ends mid) refl new
         sources e = record { each = each; number = found.0 + 1; source = event.source; source_is = of_place copies found.0 event.source found.1; other = reading.1; one = rose_of (found.0 + 1) event.source (of_place copies found.0 event.source found.1) refl }
           where
             found : (i : ℕ) × (slice_get copies i ≡ Some event.source)
-            found = at_number copies event.source reading.0
+            found = among_at copies event.source reading.0
 
             none : is_none (next_source mid resting) ≡ true
             none = all_tried mid resting (by_sources mid resting (Some ending.SyncFailed) event.runs here short e)

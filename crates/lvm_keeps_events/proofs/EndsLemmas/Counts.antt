@@ -3,6 +3,7 @@ use Rattle.std.proofs.Common.{◌≡◌, ◌⊎◌, inl, inr, ◌≤◌, ◌+◌
 use Rattle.std.specs.Prelude.{IfSome}
 use Rattle.std.specs.List.{AllByRecursion}
 use Rattle.lvm_num.specs.declared.place.Pp.{Pp}
+use Rattle.lvm_num.proofs.Lists.{all_weaker}
 use Rattle.lvm_disk.specs.Counts.{Counts, Rose}
 use Rattle.lvm_disk.specs.Device.{Media}
 use Rattle.lvm_vol.specs.declared.entry.Outcome.{Outcome}
@@ -15,7 +16,6 @@ use Rattle.lvm_session.specs.State.{Core, State, state}
 use Rattle.lvm_session.specs.Judging.{copies_in}
 use Rattle.lvm_session.specs.Causes.{AreCaused, AreCounted, FailedSince, FailedSinceOpening, HasFailed, HaveSourcesFailed, IsAnswered, IsCaused, IsCausedAmong, IsCounted, IsLandedFor, IsTrueToOrigin, faults_at_first, faults_at_opening}
 use Rattle.lvm_session.specs.Sound.{IsOn, IsSound}
-use Rattle.lvm_keeps.proofs.Lists.{all_on}
 use Rattle.lvm_keeps.proofs.RequestsLemmas.{if_on}
 use Rattle.lvm_keeps_events.specs.Ends.{CountsKeep}
 
@@ -43,8 +43,8 @@ module _ (s : State) (media : Option Media) (counts : Counts) (sound : IsSound s
   landed_on : (o : Open) (how : Outcome) → IsLandedFor s o how → IsLandedFor now o how
   landed_on o outcome.Done why = why
   landed_on o outcome.Got why = why
-  landed_on o outcome.Lost why = (why.0, all_on (λ (t : Target). t.usable ≡ true → HasFailed s.device t) (λ (t : Target). t.usable ≡ true → HasFailed now.device t) (λ t its can. failed_on t (its can)) o.request.targets.items why.1)
-  landed_on o outcome.ReadFailed why = (why.0, all_on (λ (t : Target). (is_failed t.state ≡ true) × HasFailed s.device t) (λ (t : Target). (is_failed t.state ≡ true) × HasFailed now.device t) (λ t its. (its.0, failed_on t its.1)) o.request.targets.items why.1)
+  landed_on o outcome.Lost why = (why.0, all_weaker (λ (t : Target). t.usable ≡ true → HasFailed s.device t) (λ (t : Target). t.usable ≡ true → HasFailed now.device t) (λ t its can. failed_on t (its can)) o.request.targets.items why.1)
+  landed_on o outcome.ReadFailed why = (why.0, all_weaker (λ (t : Target). (is_failed t.state ≡ true) × HasFailed s.device t) (λ (t : Target). (is_failed t.state ≡ true) × HasFailed now.device t) (λ t its. (its.0, failed_on t its.1)) o.request.targets.items why.1)
   landed_on o outcome.NoFresh (inl why) = inl (why.0, since_on why.0 why.1)
   landed_on o outcome.NoFresh (inr why) = inr why
   landed_on o outcome.Off why = why
@@ -103,7 +103,7 @@ module _ (s : State) (media : Option Media) (counts : Counts) (sound : IsSound s
     on = λ e. let was = sound.on e in record {
       going = was.going;
       rows = was.rows;
-      caused = all_on (AreCaused s.device core) (AreCaused now.device core) (λ x all waiting. all_on (IsCaused s.device core) (IsCaused now.device core) (λ t why f. failed_on t (why f)) x.request.targets.items (all waiting)) core.requests was.caused;
+      caused = all_weaker (AreCaused s.device core) (AreCaused now.device core) (λ x all waiting. all_weaker (IsCaused s.device core) (IsCaused now.device core) (λ t why f. failed_on t (why f)) x.request.targets.items (all waiting)) core.requests was.caused;
       chosen = was.chosen;
     };
     lit = λ lit. let was = sound.lit lit in record { power = was.power; freed = was.freed };
@@ -111,8 +111,8 @@ module _ (s : State) (media : Option Media) (counts : Counts) (sound : IsSound s
     off = sound.off;
     over = λ e. let was = sound.over e in record { landed = was.landed; copy = was.copy; flights = was.flights; flying = was.flying };
     stuck = sound.stuck;
-    counted = all_on (AreCounted s) (AreCounted now) (λ x all. all_on (IsCounted s) (IsCounted now) counted_on x.request.targets.items all) core.requests sound.counted;
-    answered = all_on (IsAnswered s) (IsAnswered now) (λ x why. if_on (IsLandedFor s x) (IsLandedFor now x) (landed_on x) x.landed why) core.requests sound.answered;
+    counted = all_weaker (AreCounted s) (AreCounted now) (λ x all. all_weaker (IsCounted s) (IsCounted now) counted_on x.request.targets.items all) core.requests sound.counted;
+    answered = all_weaker (IsAnswered s) (IsAnswered now) (λ x why. if_on (IsLandedFor s x) (IsLandedFor now x) (landed_on x) x.landed why) core.requests sound.answered;
     copy = if_on (λ (c : OpenCopy). IsCausedAmong s (copies_in core.descriptor c.lv c.lp) c) (λ (c : OpenCopy). IsCausedAmong now (copies_in core.descriptor c.lv c.lp) c) (λ c. copy_on (copies_in core.descriptor c.lv c.lp) c) core.copy sound.copy;
     origin = origin;
   }

@@ -5,6 +5,8 @@ use Rattle.std.specs.List.{list_any, sum_by}
 use Rattle.std.specs.Option.{option_map_or}
 use Rattle.std.proofs.lemmas.List.Sums.{count_by-le-length, sum_by-cons}
 use Rattle.lvm_num.specs.declared.descriptor.PvRow.{PvRow}
+use Rattle.lvm_num.proofs.Booleans.{not_so}
+use Rattle.lvm_num.proofs.Lists.{all_at}
 use Rattle.lvm_sched.specs.declared.writes.TargetState.TheVariants as stage
 use Rattle.lvm_sched.specs.Writes.{is_waiting as is_unstarted}
 use Rattle.lvm_path.specs.declared.request.Phase.{Phase}
@@ -24,9 +26,8 @@ use Rattle.lvm_session.specs.Left.{begun_left, copy_left, if_so, is_held, lacks_
 use Rattle.lvm_session.specs.Requests.{IsOpenOne, IsPhase, IsRequest}
 use Rattle.lvm_session.specs.Sound.{IsSound, count_if}
 use Rattle.lvm_keeps.proofs.LeftLemmas.Leaving.{left_same, lit}
-use Rattle.lvm_keeps.proofs.Lists.{all_at, any_set, count_set}
+use Rattle.lvm_keeps.proofs.Lists.{any_set, count_set}
 use Rattle.lvm_keeps.proofs.FallsLemmas.Pin.{sum_same}
-use Rattle.lvm_keeps.proofs.Small.{not_so}
 use Rattle.lvm_keeps_events.specs.Falls.{DataStartFalls}
 use Rattle.lvm_keeps_events.proofs.TargetsLemmas.{any_here, at_state, set_state}
 use Rattle.lvm_keeps_events.proofs.KeepsLemmas.DataStart.{unstarted}

@@ -14,6 +14,7 @@ use Rattle.lvm_num.specs.Descriptor.{is_member, most_members, is_pp}
 use Rattle.lvm_num.specs.Disks.{has}
 use Rattle.lvm_num.specs.Status.{calls_stale}
 use Rattle.lvm_num.proofs.DescriptorLemmas.Bounds.{few_members}
+use Rattle.lvm_num.proofs.Booleans.{not_so}
 use Rattle.lvm_path.specs.declared.request.Phase.TheVariants as phase
 use Rattle.lvm_status.specs.declared.writes.Writes.{Writes}
 use Rattle.lvm_status.specs.Update.{Stored, Updates, seen}
@@ -33,7 +34,7 @@ use Rattle.lvm_session.specs.Left.{copy_left, if_so, is_brought_up, is_held, lac
 use Rattle.lvm_session.specs.Sound.{IsGoing, count_if, is_clearing}
 use Rattle.lvm_keeps.proofs.Lists.{count_cons}
 use Rattle.lvm_keeps.proofs.FallsLemmas.Pin.{sum_same}
-use Rattle.lvm_keeps.proofs.Small.{both, not_so}
+use Rattle.lvm_keeps.proofs.Small.{both}
 use Rattle.lvm_keeps.proofs.LeftLemmas.Leaving.{request_still, lit}
 use Rattle.lvm_keeps.proofs.FallsLemmas.NoteStart.{count_less, one_less}
 use Rattle.lvm_keeps_events.specs.Falls.{StatusStartFalls}

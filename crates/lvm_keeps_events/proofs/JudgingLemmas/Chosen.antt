@@ -5,7 +5,7 @@ use Rattle.std.specs.List.{list_any, remove, AllByRecursion}
 use Rattle.std.specs.Option.{option_map_or}
 use Rattle.std.proofs.lemmas.Bool.{cases_lt, eq-eqb, eqb-true, ne_eqb}
 use Rattle.std.proofs.lemmas.List.{length-map}
-use Rattle.std.proofs.lemmas.List.Elements.{All-nil, All-cons, All-head, All-tail}
+use Rattle.std.proofs.lemmas.List.Elements.{All-nil, All-cons}
 use Rattle.std.proofs.lemmas.List.Kept.{AllPairs-cons, AllPairs-filter}
 use Rattle.lvm_num.specs.declared.place.Pp.{Pp}
 use Rattle.lvm_num.specs.declared.descriptor.LvRow.{LvRow}
@@ -13,7 +13,8 @@ use Rattle.lvm_num.specs.declared.descriptor.Policy.{Policy}
 use Rattle.lvm_num.specs.Descriptor.{IsVolume, copies_of, is_pp}
 use Rattle.lvm_num.specs.Status.{calls_missing, calls_stale}
 use Rattle.lvm_num.proofs.MarksLemmas.Maps.{find-Some}
-use Rattle.lvm_num.proofs.Booleans.{or_true}
+use Rattle.lvm_num.proofs.Booleans.{or_true, not_so}
+use Rattle.lvm_num.proofs.Lists.{any_map, all_weaker, by_place, few_filter}
 use Rattle.lvm_map.proofs.PlacesLemmas.{laid_out, lp_below, mib_positive}
 use Rattle.lvm_vol.specs.declared.entry.Outcome.TheVariants as outcome
 use Rattle.lvm_sched.specs.Reads.{AreCopiesAbove, IsReadOrder, others}
@@ -46,10 +47,10 @@ use Rattle.lvm_session.specs.Causes.{HasFailed, IsCaused, fails_on, is_blamed, i
 use Rattle.lvm_session.specs.Sound.{IsCopy, IsGoing, IsSound, is_clearing}
 use Rattle.lvm_session.proofs.EventsLemmas.{copies_are, order_holds, usable_holds}
 use Rattle.lvm_keeps.proofs.FallsLemmas.Bounding.{take_few}
-use Rattle.lvm_keeps.proofs.Lists.{all_on}
-use Rattle.lvm_keeps.proofs.Small.{both, is_false, not_so}
+use Rattle.lvm_keeps.proofs.Small.{both, is_false}
 use Rattle.lvm_keeps.proofs.DarkLemmas.Tables.{apart as apart_ids}
 use Rattle.lvm_keeps_events.proofs.OnePlace.{one_lp}
+use Rattle.lvm_keeps_events.proofs.JudgingLemmas.DuesMarks.{among_get}
 
 -- ---- one that is admitted next
 
@@ -138,14 +139,6 @@ all_into : {A B : Type 0} (P : A → Type 0) (Q : B → Type 0) (f : A → B) �
 all_into P Q f on [] all = tt
 all_into P Q f on (x ∷ xs) all = (on x all.0, all_into P Q f on xs all.1)
 
-by_place : {A : Type 0} (P : A → Type 0) (xs : List A) → All P xs → AllByRecursion P xs
-by_place P [] all = tt
-by_place P (x ∷ xs) all = (All-head P x xs all, by_place P xs (All-tail P x xs all))
-
-any_into : {A B : Type 0} (t : B → Bool) (f : A → B) (xs : List A) → list_any t (map f xs) ≡ list_any (λ x. t (f x)) xs
-any_into t f [] = refl
-any_into t f (x ∷ xs) = ap (λ b. t (f x) || b) (any_into t f xs)
-
 all_filter : {A : Type 0} (P : A → Type 0) (t : A → Bool) (xs : List A) → AllByRecursion P xs → AllByRecursion (λ (x : A). P x × (t x ≡ true)) (filter t xs)
 all_filter P t [] all = tt
 all_filter {A} P t (x ∷ xs) all = by (t x) refl (all_filter P t xs all.1)
@@ -153,14 +146,6 @@ all_filter {A} P t (x ∷ xs) all = by (t x) refl (all_filter P t xs all.1)
     by : (b : Bool) → t x ≡ b → AllByRecursion (λ (y : A). P y × (t y ≡ true)) (filter t xs) → AllByRecursion (λ (y : A). P y × (t y ≡ true)) (if b then x ∷ filter t xs else filter t xs)
     by true is rest = ((all.0, is), rest)
     by false is rest = rest
-
-few_filter : {A : Type 0} (t : A → Bool) (xs : List A) → length (filter t xs) ≤ length xs
-few_filter t [] = omega arith
-few_filter t (x ∷ xs) = by (t x) (few_filter t xs)
-  where
-    by : (b : Bool) → length (filter t xs) ≤ length xs → length (if b then x ∷ filter t xs else filter t xs) ≤ length (x ∷ xs)
-    by true few = omega (arith, few)
-    by false few = omega (arith, few)
 
 any_filter : {A : Type 0} (t u : A → Bool) → ((x : A) → u x ≡ true → t x ≡ true) → (xs : List A) → list_any u xs ≡ true → list_any u (filter t xs) ≡ true
 any_filter t u on [] some = some
@@ -174,12 +159,7 @@ any_filter t u on (x ∷ xs) some = by (u x) (t x) refl refl (λ e. any_filter t
 
 all_among : (ps : List Pp) → AllByRecursion (λ (p : Pp). is_among ps p ≡ true) ps
 all_among [] = tt
-all_among (q ∷ ps) = (ap (λ b. b || is_among ps q) (ap (λ b. b && q.pp == q.pp) (eq-eqb q.disk q.disk refl) ∙ eq-eqb q.pp q.pp refl), all_on (λ (p : Pp). is_among ps p ≡ true) (λ (p : Pp). is_among (q ∷ ps) p ≡ true) (λ p is. ap (λ b. is_pp p q || b) is ∙ or_true (is_pp p q)) ps (all_among ps))
-
-among_get : (ps : List Pp) (k : ℕ) (p : Pp) → slice_get ps k ≡ Some p → is_among ps p ≡ true
-among_get [] k p there = absurd (cc there)
-among_get (q ∷ ps) zero p there = let same : q ≡ p = cc there in ap (λ (x : Pp). is_pp p x || is_among ps p) same ∙ ap (λ b. b || is_among ps p) (ap (λ b. b && p.pp == p.pp) (eq-eqb p.disk p.disk refl) ∙ eq-eqb p.pp p.pp refl)
-among_get (q ∷ ps) (suc k) p there = ap (λ b. is_pp p q || b) (among_get ps k p there) ∙ or_true (is_pp p q)
+all_among (q ∷ ps) = (ap (λ b. b || is_among ps q) (ap (λ b. b && q.pp == q.pp) (eq-eqb q.disk q.disk refl) ∙ eq-eqb q.pp q.pp refl), all_weaker (λ (p : Pp). is_among ps p ≡ true) (λ (p : Pp). is_among (q ∷ ps) p ≡ true) (λ p is. ap (λ b. is_pp p q || b) is ∙ or_true (is_pp p q)) ps (all_among ps))
 
 index_get : {A : Type 0} (xs : List A) (k : ℕ) (x d : A) → slice_get xs k ≡ Some x → (slice_index_or xs k d ≡ x) × (k < length xs)
 index_get [] k x d there = absurd (cc there)
@@ -295,7 +275,7 @@ module _ (s : State) (sound : IsSound s) (on : s.core.power ≡ power.On) (place
   -- only it has its number
   own_all : AllByRecursion (λ (e : Open). e.request.id ≡ o.request.id → is_begun e.request.targets.items ≡ false) core.requests
   own_all = back (λ (e : Open). e.request.id ≡ o.request.id → is_begun e.request.targets.items ≡ false) core.requests place there (λ e. unbegun)
-      (all_on (λ (e : Open). e.request.id ≡ o.request.id → ⊥) (λ (e : Open). e.request.id ≡ o.request.id → is_begun e.request.targets.items ≡ false) (λ e other f. absurd (other f)) (remove core.requests place) (apart_ids core.requests place o there sound.told.table.ascending))
+      (all_weaker (λ (e : Open). e.request.id ≡ o.request.id → ⊥) (λ (e : Open). e.request.id ≡ o.request.id → is_begun e.request.targets.items ≡ false) (λ e other f. absurd (other f)) (remove core.requests place) (apart_ids core.requests place o there sound.told.table.ascending))
     where
       back : (P : Open → Type 0) (xs : List Open) (k : ℕ) → slice_get xs k ≡ Some o → P o → AllByRecursion P (remove xs k) → AllByRecursion P xs
       back P [] k at its all = tt
@@ -454,7 +434,7 @@ module _ (s : State) (sound : IsSound s) (on : s.core.power ≡ power.On) (place
     fresh = all_into IsGood (λ (t : Target). t.state ≡ stage.Waiting) (target_at s ask) (λ p g. refl) ps good;
     differ = λ i j d less high e. differ i j d.pp less (subst (λ n. j < n) (length-map ps (target_at s ask)) high) (sym (pps_at ps i d) ∙ e ∙ pps_at ps j d);
     few = subst (λ n. n ≤ 3) (sym (length-map ps (target_at s ask))) short;
-    usable = any_into (λ (t : Target). t.usable) (target_at s ask) ps ∙ can;
+    usable = any_map (λ (t : Target). t.usable) (target_at s ask) ps ∙ can;
     faults = all_into IsGood (λ (t : Target). t.faults ≡ s.device.counts.faults t.pp.disk) (target_at s ask) (λ p g. refl) ps good;
     caused = all_into IsGood (IsCaused s.device core) (target_at s ask) good_caused ps good;
   }

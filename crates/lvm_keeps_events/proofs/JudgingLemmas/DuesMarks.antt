@@ -3,6 +3,7 @@ use Rattle.std.proofs.Common.{◌&&◌, ◌<◌, ◌==◌, [], ap, arith, Bool, 
 use Rattle.std.proofs.lemmas.Bool.{eq-eqb, le-leb}
 use Rattle.std.specs.List.{list_any}
 use Rattle.std.specs.Prelude.{AllPairs, count_by, slice_index_or}
+use Rattle.std.proofs.lemmas.Map.Keys.{any_passes_from_place}
 use Rattle.lvm_num.specs.declared.place.Pp.{Pp}
 use Rattle.lvm_sched.specs.declared.writes.TargetState.{TargetState}
 use Rattle.lvm_sched.specs.declared.writes.TargetState.TheVariants as stage
@@ -17,10 +18,11 @@ use Rattle.lvm_session.specs.Marks.{due_of, due_targets, is_among}
 use Rattle.lvm_session.specs.Requests.{is_failed_and_sure, is_wanted_due, will_be_kept}
 use Rattle.lvm_session.specs.Sound.{count_if}
 use Rattle.lvm_keeps.proofs.Lists.{count_cons}
-use Rattle.lvm_keeps.proofs.Small.{both, not_so}
+use Rattle.lvm_keeps.proofs.Small.{both}
 use Rattle.lvm_keeps_events.proofs.EndsLemmas.CopyReadFail.{pp_is}
-use Rattle.lvm_keeps_events.proofs.Lists.{all_and, all_true_at, and_false, any_at, or_true}
+use Rattle.lvm_keeps_events.proofs.Lists.{all_and, all_true_at, and_false, or_true}
 pub use Rattle.lvm_num.proofs.DescriptorLemmas.Partitions.{one_partition as pp_same}
+use Rattle.lvm_num.proofs.Booleans.{not_so}
 
 -- ---- targets of partitions
 
@@ -276,7 +278,7 @@ module _ (core : Core) where
               where
                 of : (b : Bool) → is_sure core one.target.pp ≡ b → b ≡ false
                 of false s = refl
-                of true s = not_so (sym is ∙ any_at is_sure_done r.targets.items one.place one.target one.there (all_and (is_done one.target.state) (is_sure core one.target.pp) did s))
+                of true s = not_so (sym is ∙ any_passes_from_place is_sure_done r.targets.items one.place one.target one.there (all_and (is_done one.target.state) (is_sure core one.target.pp) did s))
 
             blame : (a b : Bool) → is_failed one.target.state ≡ a → is_done one.target.state ≡ b → b || a ≡ true → (is_failed one.target.state ≡ true) ⊎ (is_sure core one.target.pp ≡ false)
             blame true b i j k = inl i
@@ -296,7 +298,7 @@ module _ (core : Core) where
 
         by : (b : Bool) → is_kept core r ≡ b → IsSpared is_sure_target r.targets.items (if b then filter has_failed r.targets.items else all_but_sure core r.targets.items)
         by true is = let it = kept_spared r.targets.items differ is in record { place = it.place; target = it.target; there = it.there; passes = (both (is_done it.target.state) (is_sure core it.target.pp) it.passes).1; apart = it.apart }
-        by false is = sure_spared r.targets.items differ (any_at is_sure_target r.targets.items one.it.place one.it.target one.it.there (sym (ap (is_sure core) one.it.pp_is) ∙ sure))
+        by false is = sure_spared r.targets.items differ (any_passes_from_place is_sure_target r.targets.items one.it.place one.it.target one.it.there (sym (ap (is_sure core) one.it.pp_is) ∙ sure))
 
     -- where the staleness that is due is wanted nothing is left
     pub left_due : (after : Core) → is_write r.ask && are_over r.targets.items ≡ true → ((p : Pp) → is_among (due_of core r) p ≡ true → is_sure after p ≡ false)

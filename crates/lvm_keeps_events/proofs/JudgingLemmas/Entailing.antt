@@ -5,12 +5,15 @@ use Rattle.std.proofs.lemmas.Nat.{mod_below}
 use Rattle.std.specs.List.{AllByRecursion}
 use Rattle.std.specs.Option.{option_map_or}
 use Rattle.std.specs.Prelude.{IfSome, unwrap_or}
+use Rattle.std.proofs.lemmas.Map.Keys.{any_passes_from_place}
 use Rattle.lvm_num.specs.Buffer.{Buffer}
 use Rattle.lvm_num.specs.Geometry.{partition_blocks}
 use Rattle.lvm_num.specs.Status.{calls_stale}
 use Rattle.lvm_num.specs.declared.place.Pp.{Pp}
 use Rattle.lvm_hold.specs.Waiting.{Waiting}
 use Rattle.lvm_num.specs.Descriptor.{is_pp}
+use Rattle.lvm_num.proofs.Booleans.{not_so}
+use Rattle.lvm_num.proofs.Lists.{all_weaker, all_at, set_beside}
 use Rattle.lvm_path.specs.Asks.{at_of, is_write}
 use Rattle.lvm_path.specs.Targets.{are_over, end_state, is_done, is_failed}
 use Rattle.lvm_path.specs.declared.request.Request.{Request}
@@ -27,14 +30,14 @@ use Rattle.lvm_session.specs.Marks.{due_of, due_targets, hits_copy, is_among}
 use Rattle.lvm_session.specs.Causes.{is_held_stale, IsChosenSince}
 use Rattle.lvm_session.specs.Requests.{IsJudged, IsLaid, may_lack, will_be_kept}
 use Rattle.lvm_session.specs.Sound.{is_clearing, IsCopy, IsGoing}
-use Rattle.lvm_keeps.proofs.Lists.{all_at, all_on, set_beside, set_here}
-use Rattle.lvm_keeps.proofs.Small.{both, is_false, not_so}
+use Rattle.lvm_keeps.proofs.Lists.{set_here}
+use Rattle.lvm_keeps.proofs.Small.{both, is_false}
 use Rattle.lvm_keeps_events.proofs.TargetsLemmas.{at_state}
 use Rattle.lvm_keeps_events.proofs.JudgingLemmas.DuesMarks.{due_one, has_failed, is_sure_done, IsDueOne, own_pp, pp_same, unsure_among}
 use Rattle.lvm_keeps_events.proofs.SoundLemmas.Failing.{kept, LeavesParts, leaves, parted, pool, queue}
 use Rattle.lvm_keeps_events.proofs.RequestsLemmas.{failed_badly, its, learnt, request}
 use Rattle.lvm_keeps_events.proofs.Groups.{group_low, whole_passes}
-use Rattle.lvm_keeps_events.proofs.Lists.{all_and, and_false, any_at, either, none_by, or_false, or_true}
+use Rattle.lvm_keeps_events.proofs.Lists.{all_and, and_false, either, none_by, or_false, or_true}
 
 -- What is left of the copy, the hold queue and the pool, and which partitions are due to be stale, where the request has learned so of this partition.
 pub record IsEntailed (core : Core) (o : Open) (ok : Bool) (p : Pp) (queue : Waiting) (copy : Option OpenCopy) (pool : List Bool) (due : Pp → Bool) : Type 0 where
@@ -186,7 +189,7 @@ module _ (core : Core) (going : IsGoing core) (place target : ℕ) (o : Open) (t
           where
             of : (b : Bool) → is_sure core t.pp ≡ b → b ≡ false
             of false s = refl
-            of true s = not_so (sym unkept ∙ any_at (is_sure_done core) x.request.targets.items k t t_there (all_and (is_done t.state) (is_sure core t.pp) did s))
+            of true s = not_so (sym unkept ∙ any_passes_from_place (is_sure_done core) x.request.targets.items k t t_there (all_and (is_done t.state) (is_sure core t.pp) did s))
 
         by : (k : ℕ) (t : Target) → slice_get x.request.targets.items k ≡ Some t → (a b : Bool) → is_done t.state ≡ a → is_caught core group t.pp ≡ b → a && b ≡ false
         by k t t_there false b i j = refl
@@ -248,7 +251,7 @@ module _ (core : Core) (going : IsGoing core) (place target : ℕ) (o : Open) (t
       ends = λ k same. ap (λ b. if not b then None else if is_missing core k.pp.disk then Some ending.SyncFailed else if is_whole core k then ends_if (is_cleared core k) ending.Done else end_by_sources core k) (gone k same);
       uncaught = λ write bad. refl;
       uncarried = λ over unkept. none_by (λ (t : Target). is_done t.state && false) x.request.targets.items (λ k t t_there. and_false (is_done t.state));
-      chosen = all_on (IsChosenSince core c) (IsChosenSince core (with_copy_end c ending.SyncFailed)) (λ y all. all) core.requests chosen;
+      chosen = all_weaker (IsChosenSince core c) (IsChosenSince core (with_copy_end c ending.SyncFailed)) (λ y all. all) core.requests chosen;
     }
       where
         by : (q : Pp) → (is_among (due_of core x.request) q ≡ true) ⊎ (marked q ≡ true) → (is_among (due_of core x.request) q ≡ true) ⊎ (is_held_stale core q ≡ true)

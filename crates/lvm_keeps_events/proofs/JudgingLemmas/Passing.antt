@@ -5,6 +5,7 @@ use Rattle.std.proofs.lemmas.List.Folds.{list_any-append}
 use Rattle.std.specs.List.{AllByRecursion, list_any, range_with_len, remove}
 use Rattle.std.specs.Option.{option_map_or}
 use Rattle.std.specs.Prelude.{count_by, IfSome, is_none, slice_index_or, unwrap_or}
+use Rattle.std.proofs.lemmas.Map.Keys.{any_passes_from_place}
 use Rattle.lvm_num.specs.Buffer.{Buffer}
 use Rattle.lvm_num.specs.Descriptor.{copies_of, is_member, is_pp}
 use Rattle.lvm_num.specs.Disks.{has}
@@ -47,6 +48,8 @@ use Rattle.lvm_session.specs.declared.open.Open.{Open}
 use Rattle.lvm_session.specs.declared.open.Power.TheVariants as power
 use Rattle.lvm_session.specs.Dark.{hand_of_copy}
 use Rattle.lvm_num.specs.Modes.{is_passive}
+use Rattle.lvm_num.proofs.Booleans.{not_so}
+use Rattle.lvm_num.proofs.Lists.{all_weaker, length_set, all_both}
 use Rattle.lvm_session.specs.Marks.{can_replace, is_among, is_entailed, is_entailed_in, is_left_behind}
 use Rattle.lvm_session.specs.Causes.{AreCaused, AreCounted, fails_on, is_blamed, is_held_stale, IsAnswered, IsCaused, IsChosenSince, IsCausedAmong, IsTrueToOrigin, was_fresh}
 use Rattle.lvm_session.specs.Left.{copy_updates, if_so, updates_left}
@@ -55,20 +58,19 @@ use Rattle.lvm_session.specs.Requests.{is_failed_and_sure, is_left_out, is_past_
 use Rattle.lvm_session.specs.Sound.{count_if, is_clearing, is_hand, IsCopy, IsFitting, IsGoing, IsOn, IsSound, IsTold, may_be_fresh, out_with, stays_fresh, waiting_rows, with_row}
 use Rattle.lvm_calls.proofs.LogLemmas.{below_next}
 use Rattle.lvm_keeps.proofs.CausesLemmas.{answered_when_on, counted_when_on}
-use Rattle.lvm_keeps.proofs.Lists.{all_on, length_set}
 use Rattle.lvm_keeps.proofs.OwnersLemmas.Rows.{rows_but_copy}
-use Rattle.lvm_keeps.proofs.Small.{both, is_false, not_so}
+use Rattle.lvm_keeps.proofs.Small.{both, is_false}
 use Rattle.lvm_keeps.proofs.RequestsLemmas.{changed, shape_still}
 use Rattle.lvm_keeps.proofs.SoundLemmas.Whole.{sound_when_on}
 use Rattle.lvm_keeps_events.proofs.Marking.{any_alike, count_alike, filter_alike}
 use Rattle.lvm_keeps_events.proofs.OnePlace.{one_lp}
-use Rattle.lvm_keeps_events.proofs.SoundLemmas.Tables.{none_filter}
 use Rattle.lvm_keeps_events.proofs.EndsLemmas.CopyReadFail.{by_place, by_sources, is_here}
-use Rattle.lvm_keeps_events.proofs.SoundLemmas.Over.{even_rows, without_step}
+use Rattle.lvm_keeps_events.proofs.SoundLemmas.Over.{even_rows, without_step, none_filter}
 use Rattle.lvm_keeps_events.proofs.OwnersLemmas.Removal.{as_many, given_back, none_left, others as others_of, rows_left, tickets_left}
 use Rattle.lvm_keeps_events.proofs.JudgingLemmas.DuesMarks.{among_get, own_pp, pp_same}
 use Rattle.lvm_keeps_events.proofs.Groups.{group_low, some_size, whole_passes}
-use Rattle.lvm_keeps_events.proofs.Lists.{all_and, all_pair, all_there, any_at, any_on, found_at, or_true}
+use Rattle.lvm_keeps_events.proofs.Lists.{all_and, all_there, any_on, found_at, or_true}
+use Rattle.lvm_keeps_events.proofs.UncaughtLemmas.{some_kept}
 use Rattle.lvm_map.proofs.Parts.{whole}
 
 -- ---- the hold queue
@@ -120,14 +122,6 @@ row_last step_at [] all = refl
 row_last step_at (row ∷ rows) all = ap (λ b. if b then step_at ∷ row ∷ rows else row ∷ with_row step_at rows) (le-ltb step_at.id row.id (let less = all.0 in omega (arith, less))) ∙ ap (λ (rs : List Row). row ∷ rs) (row_last step_at rows all.1)
 
 -- ---- sources
-
-some_filter : (u : Pp → Bool) (ps : List Pp) → (length (filter u ps) == 0) ≡ false → list_any u ps ≡ true
-some_filter u [] e = absurd (let no : true ≡ false = e in cc no)
-some_filter u (p ∷ ps) e = by (u p) (λ f. some_filter u ps f) e
-  where
-    by : (b : Bool) → ((length (filter u ps) == 0) ≡ false → list_any u ps ≡ true) → (length (if b then p ∷ filter u ps else filter u ps) == 0) ≡ false → b || list_any u ps ≡ true
-    by true rest f = refl
-    by false rest f = rest f
 
 -- the first of those that pass is found where each may be
 one_found : (t u : Pp → Bool) (ps : List Pp) → ((p : Pp) → t p ≡ true) → (length (filter u ps) == 0) ≡ false → is_none (find t (filter u ps)) ≡ false
@@ -425,9 +419,9 @@ module _ (s : State) (sound : IsSound s) (on : s.core.power ≡ power.On) (c : O
 
       uncaught_so : (is_past_held o.request.phase ≡ true) ⊎ (o.request.targets.items ≡ []) → AllByRecursion (λ (t : Target). may_lack o t && is_caught after (group_in core o.request.ask) t.pp ≡ false) o.request.targets.items
       uncaught_so (inr none) = subst (AllByRecursion (λ (t : Target). may_lack o t && is_caught after (group_in core o.request.ask) t.pp ≡ false)) (sym none) tt
-      uncaught_so (inl past) = all_on (λ (t : Target). IsTarget core o.request.ask t × (may_lack o t && is_caught core (group_in core o.request.ask) t.pp ≡ false)) (λ (t : Target). may_lack o t && is_caught after (group_in core o.request.ask) t.pp ≡ false)
+      uncaught_so (inl past) = all_weaker (λ (t : Target). IsTarget core o.request.ask t × (may_lack o t && is_caught core (group_in core o.request.ask) t.pp ≡ false)) (λ (t : Target). may_lack o t && is_caught after (group_in core o.request.ask) t.pp ≡ false)
           (λ t e. ap (λ b. may_lack o t && b) (caught_so past t.pp e.0.copy) ∙ e.1) o.request.targets.items
-          (all_pair (IsTarget core o.request.ask) (λ (t : Target). may_lack o t && is_caught core (group_in core o.request.ask) t.pp ≡ false) o.request.targets.items its_request.shape.targets (its_request.judged write).uncaught)
+          (all_both (IsTarget core o.request.ask) (λ (t : Target). may_lack o t && is_caught core (group_in core o.request.ask) t.pp ≡ false) o.request.targets.items its_request.shape.targets (its_request.judged write).uncaught)
 
       carried_same : is_past_held o.request.phase ≡ true → will_be_kept after o.request ≡ will_be_kept core o.request
       carried_same past = by o.request.targets.items its_request.shape.targets
@@ -506,7 +500,7 @@ module _ (s : State) (sound : IsSound s) (on : s.core.power ≡ power.On) (c : O
     }
 
     all_ones : AllByRecursion (IsOpenOne after) core.requests
-    all_ones = all_there (λ (o : Open). IsOpenOne core o × (o.request.id < next_id core.history)) (IsOpenOne after) core.requests (λ k o o_there e. one k o o_there e.0 e.1) (all_pair (IsOpenOne core) (λ (o : Open). o.request.id < next_id core.history) core.requests going.requests below)
+    all_ones = all_there (λ (o : Open). IsOpenOne core o × (o.request.id < next_id core.history)) (IsOpenOne after) core.requests (λ k o o_there e. one k o o_there e.0 e.1) (all_both (IsOpenOne core) (λ (o : Open). o.request.id < next_id core.history) core.requests going.requests below)
 
     -- ---- rooms, and the copy
 
@@ -629,14 +623,14 @@ module _ (s : State) (sound : IsSound s) (on : s.core.power ≡ power.On) (c : O
         by_source among =
             let same = one_lp core.descriptor sound.fitting.valid lv lp c.lv c.lp c.pp among (among_get (copies_in core.descriptor c.lv c.lp) (c.copy - 1) c.pp (by_place (copies_in core.descriptor c.lv c.lp) c.copy c.pp its.its)) in
             ap (λ n. list_any (may_be_fresh core) (copies_in core.descriptor n lp)) same.0 ∙ ap (λ n. list_any (may_be_fresh core) (copies_in core.descriptor c.lv n)) same.1
-            ∙ any_on (λ (p : Pp). not (is_pp p c.pp) && is_usable core p) (may_be_fresh core) may_source (copies_in core.descriptor c.lv c.lp) (some_filter (λ (p : Pp). not (is_pp p c.pp) && is_usable core p) (copies_in core.descriptor c.lv c.lp) some_source)
+            ∙ any_on (λ (p : Pp). not (is_pp p c.pp) && is_usable core p) (may_be_fresh core) may_source (copies_in core.descriptor c.lv c.lp) (some_kept (λ (p : Pp). not (is_pp p c.pp) && is_usable core p) (copies_in core.descriptor c.lv c.lp) some_source)
 
         by : (k : ℕ) × (p : Pp) × (slice_get (copies_in core.descriptor lv lp) k ≡ Some p) × (may_be_fresh after p ≡ true) → list_any (may_be_fresh core) (copies_in core.descriptor lv lp) ≡ true
         by found = of (w && is_pp found.1 c.pp) refl
           where
             of : (b : Bool) → (w && is_pp found.1 c.pp) ≡ b → list_any (may_be_fresh core) (copies_in core.descriptor lv lp) ≡ true
             of true e = by_source (ap (is_among (copies_in core.descriptor lv lp)) (sym (pp_same found.1 c.pp (both w (is_pp found.1 c.pp) e).1)) ∙ among_get (copies_in core.descriptor lv lp) found.0 found.1 found.2)
-            of false e = any_at (may_be_fresh core) (copies_in core.descriptor lv lp) found.0 found.1 found.2
+            of false e = any_passes_from_place (may_be_fresh core) (copies_in core.descriptor lv lp) found.0 found.1 found.2
                 (sym (ap (λ b. was_fresh core found.1 || not (is_settled core found.1 && b)) (like.stale found.1 ∙ ap (λ b. is_wanted_stale core found.1 && not b) e ∙ and_true (is_wanted_stale core found.1))) ∙ found.3)
               where
                 and_true : (a : Bool) → a && true ≡ a
@@ -748,8 +742,8 @@ module _ (s : State) (sound : IsSound s) (on : s.core.power ≡ power.On) (c : O
       going = keeps_going;
       rows = rows_but_copy core after refl (λ who. same_owner row.owner who ≡ false) (λ other. not_so (sym other ∙ ap (λ who. same_owner who owner.Copy) own)) (remove core.flying at) (remove s.device.flights at) (others_of core going.owned at row there)
           (rows_left core core.flying s.device.flights at was.rows);
-      caused = all_on (AreCaused s.device core) (AreCaused device after) (λ x all waiting. all_on (IsCaused s.device core) (IsCaused device after) (λ t why e. why (sym (ap (λ b. is_failed t.state || (t.usable && b)) (blamed_same t.pp)) ∙ e)) x.request.targets.items (all waiting)) core.requests was.caused;
-      chosen = all_on (IsChosenSince core c) (IsChosenSince after next) (λ x all. all) core.requests (subst (λ m. IfSome m (λ (k : OpenCopy). AllByRecursion (IsChosenSince core k) core.requests)) is was.chosen);
+      caused = all_weaker (AreCaused s.device core) (AreCaused device after) (λ x all waiting. all_weaker (IsCaused s.device core) (IsCaused device after) (λ t why e. why (sym (ap (λ b. is_failed t.state || (t.usable && b)) (blamed_same t.pp)) ∙ e)) x.request.targets.items (all waiting)) core.requests was.caused;
+      chosen = all_weaker (IsChosenSince core c) (IsChosenSince after next) (λ x all. all) core.requests (subst (λ m. IfSome m (λ (k : OpenCopy). AllByRecursion (IsChosenSince core k) core.requests)) is was.chosen);
     }
 
     copy_caused : IsCausedAmong now (copies_in core.descriptor c.lv c.lp) next
@@ -771,5 +765,5 @@ module _ (s : State) (sound : IsSound s) (on : s.core.power ≡ power.On) (c : O
         at_missing p (inr (inr x)) = inr (inr x)
 
     pub keeps : IsSound now
-    keeps = sound_when_on s now refl refl sound on fitting told keeps_on out (all_on (AreCounted s) (AreCounted now) (counted_when_on s now refl) core.requests sound.counted)
-        (all_on (IsAnswered s) (IsAnswered now) (answered_when_on s now refl on) core.requests sound.answered) copy_caused origin
+    keeps = sound_when_on s now refl refl sound on fitting told keeps_on out (all_weaker (AreCounted s) (AreCounted now) (counted_when_on s now refl) core.requests sound.counted)
+        (all_weaker (IsAnswered s) (IsAnswered now) (answered_when_on s now refl on) core.requests sound.answered) copy_caused origin

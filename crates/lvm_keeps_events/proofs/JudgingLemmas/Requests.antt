@@ -1,8 +1,9 @@
 -- What the requests of a session are judged by after the end of a write and its review.
-use Rattle.std.proofs.Common.{◌≡◌, ◌⊎◌, inl, inr, ◌==◌, ◌≤◌, ◌<◌, ◌+◌, ◌*◌, ◌%◌, ◌/◌, ℕ, zero, suc, Bool, true, false, ◌&&◌, ◌||◌, not, nat_lt, nat_le, if◌then◌else◌, List, [], ◌∷◌, Some, length, slice_get, refl, sym, ◌∙◌, ap, arith}
+use Rattle.std.proofs.Common.{◌≡◌, ◌⊎◌, inl, inr, ◌==◌, ◌≤◌, ◌<◌, ◌%◌, ℕ, Bool, true, false, ◌&&◌, ◌||◌, not, nat_lt, nat_le, if◌then◌else◌, List, [], ◌∷◌, Some, length, slice_get, refl, sym, ◌∙◌, ap, arith}
 use Rattle.std.specs.Prelude.{count_by}
 use Rattle.std.specs.List.{list_any, AllByRecursion}
 use Rattle.std.specs.Option.{option_map_or}
+use Rattle.std.proofs.lemmas.Map.Keys.{any_passes_from_place}
 use Rattle.std.proofs.lemmas.Bool.{lt-ltb, ltb-false}
 use Rattle.std.proofs.lemmas.Bool.Decides.{nat_tests}
 use Rattle.std.proofs.lemmas.Nat.{mod_below}
@@ -13,6 +14,8 @@ use Rattle.lvm_num.specs.declared.status.Status.{Status}
 use Rattle.lvm_num.specs.Geometry.{partition_blocks}
 use Rattle.lvm_num.specs.Status.{calls_dirty}
 use Rattle.lvm_num.specs.Descriptor.{is_pp}
+use Rattle.lvm_num.proofs.Booleans.{not_so}
+use Rattle.lvm_num.proofs.Lists.{all_weaker}
 use Rattle.lvm_hold.specs.declared.queue.Held.{Held}
 use Rattle.lvm_hold.specs.Waiting.{is_blocked}
 use Rattle.lvm_mwc.specs.Cache.{is_named}
@@ -30,18 +33,19 @@ use Rattle.lvm_session.specs.Bringing.{groups_of}
 use Rattle.lvm_session.specs.Marks.{is_among}
 use Rattle.lvm_session.specs.Requests.{IsJudged, IsLaid, IsOpenOne, IsReady, IsRecorded, IsShaped, has_record, is_failed_and_sure, is_wanted_dirty, may_lack, mode_for, will_be_kept}
 use Rattle.lvm_session.specs.Sound.{pins}
-use Rattle.lvm_keeps.proofs.Lists.{all_on}
 use Rattle.lvm_keeps.proofs.KeepsLemmas.NoteStart.{each_counted}
-use Rattle.lvm_keeps.proofs.Small.{and_on, both, is_false, not_so}
+use Rattle.lvm_keeps.proofs.Small.{and_on, both, is_false}
 use Rattle.lvm_keeps.proofs.RequestsLemmas.{shape_still}
 use Rattle.lvm_keeps_events.proofs.EndsLemmas.NoteEnd.{all_true, pinned_by}
-use Rattle.lvm_keeps_events.proofs.Finding.{any_on, count_with, found, some_there}
+use Rattle.lvm_keeps_events.proofs.Finding.{any_on, count_with, found}
 use Rattle.lvm_keeps_events.proofs.CallsLemmas.{in_flight_of}
-use Rattle.lvm_keeps_events.proofs.JudgingLemmas.Review.{Clears, WriteEnd, Reviewed, and_of, flies_is, mid, now, of_now, or_right, pp_self, settled_on, sure_by, wanted_on}
+use Rattle.lvm_keeps_events.proofs.JudgingLemmas.Review.{Clears, WriteEnd, Reviewed, and_of, flies_is, mid, now, of_now, or_right, settled_on, sure_by, wanted_on}
+use Rattle.lvm_keeps_events.proofs.Groups.{some_blocks, groups_below}
+use Rattle.lvm_keeps_events.proofs.JudgingLemmas.DuesMarks.{own_pp}
 
 -- ---- tests
 
-fewer_due : (n m : ℕ) (k l : Bool) → m ≤ n → (l ≡ true → k ≡ true) → nat_le n (if k then 0 else 1) ≡ true → nat_le m (if l then 0 else 1) ≡ true
+pub fewer_due : (n m : ℕ) (k l : Bool) → m ≤ n → (l ≡ true → k ≡ true) → nat_le n (if k then 0 else 1) ≡ true → nat_le m (if l then 0 else 1) ≡ true
 fewer_due n m true true low on e = passes n m 0 low e
   where
     passes : (a b c : ℕ) → b ≤ a → nat_le a c ≡ true → nat_le b c ≡ true
@@ -69,18 +73,11 @@ turned false c on e = not_so (sym (on refl) ∙ e)
 
 -- ---- track groups
 
-some_blocks : (mib lps n : ℕ) → n + 1 ≤ partition_blocks mib * lps → 0 < partition_blocks mib
-some_blocks zero lps n within = absurd (omega (arith, within))
-some_blocks (suc mib) lps n within = omega arith
-
-groups_below : (n m : ℕ) → n < 2048 * m → n / 256 < 2048 * m / 256
-groups_below n m low = omega (arith, low)
-
 -- a copy that is to be cleared is caught up with
 pub whole_caught : (core : Core) (r : Request) → IsLaid core r → (p : Pp) → Clears core p → is_caught core (group_in core r.ask) p ≡ true
 whole_caught core r laid p c =
     ap (λ m. option_map_or (λ (k : OpenCopy). is_running k && is_pp p k.pp && nat_lt (group_in core r.ask) k.cursor) m false) c.is_open
-    ∙ ap (λ b. b && is_pp p c.copy.pp && nat_lt (group_in core r.ask) c.copy.cursor) c.runs ∙ ap (λ b. b && nat_lt (group_in core r.ask) c.copy.cursor) (ap (is_pp p) c.its ∙ pp_self p)
+    ∙ ap (λ b. b && is_pp p c.copy.pp && nat_lt (group_in core r.ask) c.copy.cursor) c.runs ∙ ap (λ b. b && nat_lt (group_in core r.ask) c.copy.cursor) (ap (is_pp p) c.its ∙ own_pp p)
     ∙ lt-ltb (group_in core r.ask) c.copy.cursor (past c.copy.cursor (is_false (nat_lt c.copy.cursor (groups_of core)) c.whole))
   where
     group_low : group_in core r.ask < groups_of core
@@ -128,7 +125,7 @@ module _ (e : WriteEnd) (r : Reviewed e) (names : NamesStay e) (caught : (group 
   IsKept x = x.request.pinned ≡ true → 1 ≤ pins_of core.cache.entries (lv_of x.request.ask) (group_of x.request.ask)
 
   kept : AllByRecursion IsKept core.requests
-  kept = all_on (λ (x : Open). x.request.pinned ≡ true → 1 ≤ count_by (pins (lv_of x.request.ask) (group_of x.request.ask)) core.requests) IsKept
+  kept = all_weaker (λ (x : Open). x.request.pinned ≡ true → 1 ≤ count_by (pins (lv_of x.request.ask) (group_of x.request.ask)) core.requests) IsKept
       (λ x low is. let was = low is in let same = e.going.pinned (lv_of x.request.ask) (group_of x.request.ask) in omega (arith, was, same)) core.requests (each_counted core.requests)
 
   named_on : (x : Open) → IsKept x → (m : Mode) → IsRecorded m x.request.phase x.request → has_record x.request.phase ≡ true → 2 ≤ length x.request.targets.items → has_names core m x.request ≡ true → has_names after m x.request ≡ true
@@ -163,8 +160,8 @@ module _ (e : WriteEnd) (r : Reviewed e) (names : NamesStay e) (caught : (group 
         carried t e2 = let parts = both (is_done t.state) (is_caught after group t.pp) e2 in and_of (is_done t.state) (is_caught core group t.pp) parts.0 (turned (is_caught core group t.pp) (is_caught after group t.pp) (caught group t.pp) parts.1)
 
         by_sure : (t : Target) (i : ℕ) → slice_get x.request.targets.items i ≡ Some t → is_done t.state ≡ true → (is_sure core t.pp ≡ true) ⊎ Clears core t.pp → is_kept core x.request || will_be_kept core x.request ≡ true
-        by_sure t i at done (inl sure) = ap (λ b. b || will_be_kept core x.request) (some_there (λ (u : Target). is_done u.state && is_sure core u.pp) x.request.targets.items i t at (and_of (is_done t.state) (is_sure core t.pp) done sure))
-        by_sure t i at done (inr c) = or_right (is_kept core x.request) (will_be_kept core x.request) (some_there (λ (u : Target). is_done u.state && is_caught core group u.pp) x.request.targets.items i t at
+        by_sure t i at done (inl sure) = ap (λ b. b || will_be_kept core x.request) (any_passes_from_place (λ (u : Target). is_done u.state && is_sure core u.pp) x.request.targets.items i t at (and_of (is_done t.state) (is_sure core t.pp) done sure))
+        by_sure t i at done (inr c) = or_right (is_kept core x.request) (will_be_kept core x.request) (any_passes_from_place (λ (u : Target). is_done u.state && is_caught core group u.pp) x.request.targets.items i t at
             (and_of (is_done t.state) (is_caught core group t.pp) done (whole_caught core x.request laid t.pp c)))
 
         by : (b : Bool) → is_kept after x.request ≡ b → b || will_be_kept after x.request ≡ true → is_kept core x.request || will_be_kept core x.request ≡ true
@@ -176,7 +173,7 @@ module _ (e : WriteEnd) (r : Reviewed e) (names : NamesStay e) (caught : (group 
 
     judged_on : IsJudged core x → IsJudged after x
     judged_on j = record {
-      uncaught = all_on Uncaught (λ (t : Target). may_lack x t && is_caught after group t.pp ≡ false) (λ t is. and_on (may_lack x t) (is_caught core group t.pp) (is_caught after group t.pp) (caught group t.pp) is) x.request.targets.items j.uncaught;
+      uncaught = all_weaker Uncaught (λ (t : Target). may_lack x t && is_caught after group t.pp ≡ false) (λ t is. and_on (may_lack x t) (is_caught core group t.pp) (is_caught after group t.pp) (caught group t.pp) is) x.request.targets.items j.uncaught;
       due = λ status. fewer_due (count_by (is_failed_and_sure core) x.request.targets.items) (count_by (is_failed_and_sure after) x.request.targets.items) (is_kept core x.request || will_be_kept core x.request) (is_kept after x.request || will_be_kept after x.request)
           (count_with Uncaught (is_failed_and_sure core) (is_failed_and_sure after) failed_by x.request.targets.items j.uncaught) kept_by (j.due status);
       all = λ begun p among. out_still (is_among (pps_of x.request.targets.items) p) (is_settled core p) (is_wanted_stale core p) (is_caught core group p) (is_settled after p) (is_wanted_stale after p) (is_caught after group p)

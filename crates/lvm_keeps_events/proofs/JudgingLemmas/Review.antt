@@ -3,12 +3,14 @@ use Rattle.std.proofs.Common.{◌≡◌, ◌⊎◌, inl, inr, ◌==◌, ℕ, Boo
 use Rattle.std.specs.Prelude.{IfSome, unwrap_or}
 use Rattle.std.specs.List.{list_any, range_with_len}
 use Rattle.std.specs.Option.{option_map_or}
-use Rattle.std.proofs.lemmas.Bool.{eq-eqb, or_left}
+use Rattle.std.proofs.lemmas.Map.Keys.{any_passes_from_place}
+use Rattle.std.proofs.lemmas.Bool.{or_left}
 use Rattle.lvm_num.specs.declared.descriptor.LvRow.{LvRow}
 use Rattle.lvm_num.specs.declared.place.Pp.{Pp}
 use Rattle.lvm_num.specs.declared.status.Status.{Status}
 use Rattle.lvm_num.specs.Descriptor.{copies_of, is_pp}
 use Rattle.lvm_num.specs.Status.{calls_missing, calls_stale}
+use Rattle.lvm_num.proofs.Booleans.{not_so}
 use Rattle.lvm_hold.specs.Waiting.{Waiting}
 use Rattle.lvm_mwc.specs.declared.notes.DiskNotes.{DiskNotes}
 use Rattle.lvm_status.specs.Update.{Stored, Updates}
@@ -24,13 +26,13 @@ use Rattle.lvm_session.specs.Marks.{WantsStale, can_replace, is_among, is_entail
 use Rattle.lvm_session.specs.Causes.{is_held_stale, was_fresh}
 use Rattle.lvm_session.specs.Sound.{IsCopy, IsGoing, is_clearing, may_be_fresh, stays_fresh}
 use Rattle.lvm_keeps.proofs.KeepsLemmas.Landing.{or_parts}
-use Rattle.lvm_keeps.proofs.Small.{both, is_false, not_so}
+use Rattle.lvm_keeps.proofs.Small.{both, is_false}
 use Rattle.lvm_keeps_events.proofs.EndsLemmas.CopyReadFail.{is_here, pp_is}
 use Rattle.lvm_keeps_events.proofs.OnePlace.{one_lp}
-use Rattle.lvm_keeps_events.proofs.Finding.{any_on, found, row_found, some_there}
+use Rattle.lvm_keeps_events.proofs.Finding.{any_on, found, row_found}
 use Rattle.lvm_keeps_events.proofs.CallsLemmas.{Follows, Loses, in_flight_of}
-pub use Rattle.std.proofs.lemmas.Bool.{and_from as and_of}
-pub use Rattle.std.proofs.lemmas.Bool.{or_right}
+use Rattle.lvm_keeps_events.proofs.JudgingLemmas.DuesMarks.{own_pp}
+pub use Rattle.std.proofs.lemmas.Bool.{and_from as and_of, or_right}
 
 -- ---- what has ended
 
@@ -82,9 +84,6 @@ may_by true s w t v on more e = refl
 may_by false true true t v on more e = not_so (sym (ap not (and_of t v (on refl) (more refl))) ∙ e)
 may_by false true false t v on more e = refl
 may_by false false w t v on more e = refl
-
-pub pp_self : (p : Pp) → is_pp p p ≡ true
-pp_self p = ap (λ b. b && p.pp == p.pp) (eq-eqb p.disk p.disk refl) ∙ eq-eqb p.pp p.pp refl
 
 -- ---- the copy that is to be cleared
 
@@ -452,9 +451,9 @@ module _ (e : WriteEnd) (r : Reviewed e) where
       held = ap (λ (s : Status). is_stale after one.0 || calls_stale s one.0) flies_is ∙ ap (λ s. s || calls_stale (in_flight_of old) one.0) (stale_is one.0 ∙ still_fresh) ∙ fresh.1
 
       by : (b : Bool) → is_entailed (mid e) one.0 ≡ b → list_any (stays_fresh after) copies ≡ true
-      by false is = some_there (stays_fresh after) copies one.1 one.0 one.2 (and_of (not (is_held_stale after one.0)) (not (is_wanted_stale after one.0)) (ap not held)
+      by false is = any_passes_from_place (stays_fresh after) copies one.1 one.0 one.2 (and_of (not (is_held_stale after one.0)) (not (is_wanted_stale after one.0)) (ap not held)
           (ap not (still_clear one.0 (is_false (is_wanted_stale old one.0) parts.1) is (unmarked e one.0 still_fresh))))
-      by true is = subst (λ ps. list_any (stays_fresh after) ps ≡ true) (sym same) (some_there (stays_fresh after) (copies_of left.row left.lp) other.1 other.0 other.2 (fresh_other other.0 other.3))
+      by true is = subst (λ ps. list_any (stays_fresh after) ps ≡ true) (sym same) (any_passes_from_place (stays_fresh after) (copies_of left.row left.lp) other.1 other.0 other.2 (fresh_other other.0 other.3))
         where
           left : IsLeft (mid e) one.0
           left = left_behind (mid e) one.0 is
@@ -467,5 +466,5 @@ module _ (e : WriteEnd) (r : Reviewed e) where
 
           same : copies ≡ copies_of left.row left.lp
           same =
-              let at = one_lp old.descriptor e.going.fitting.valid lv lp left.row.number left.lp one.0 (some_there (is_pp one.0) copies one.1 one.0 one.2 (pp_self one.0)) (ap (λ ps. is_among ps one.0) its ∙ left.among) in
+              let at = one_lp old.descriptor e.going.fitting.valid lv lp left.row.number left.lp one.0 (any_passes_from_place (is_pp one.0) copies one.1 one.0 one.2 (own_pp one.0)) (ap (λ ps. is_among ps one.0) its ∙ left.among) in
               ap (λ n. copies_in old.descriptor n lp) at.0 ∙ ap (λ n. copies_in old.descriptor left.row.number n) at.1 ∙ its

@@ -1,6 +1,5 @@
 -- More partitions come to be wanted stale.
-use Rattle.std.proofs.Common.{◌&&◌, ◌==◌, [], ap, arith, Bool, false, find, if◌then◌else◌, inl, inr, length, List, map, nat_le, None, not, Option, refl, Some, subst, sym, true, ◌||◌, ℕ, ◌∙◌, ◌∷◌, ◌≡◌, ◌≤◌, ◌⊎◌}
-use Rattle.std.proofs.lemmas.Bool.{le-leb, leb-true}
+use Rattle.std.proofs.Common.{◌&&◌, ◌==◌, [], ap, Bool, false, find, if◌then◌else◌, inl, inr, length, List, map, None, not, Option, refl, Some, subst, sym, true, ◌||◌, ℕ, ◌∙◌, ◌∷◌, ◌≡◌, ◌≤◌, ◌⊎◌}
 use Rattle.std.specs.List.{list_any, range_with_len}
 use Rattle.std.specs.Prelude.{count_by, is_none, unwrap_or}
 use Rattle.lvm_num.specs.Descriptor.{copies_of, is_member, is_pp}
@@ -35,6 +34,7 @@ use Rattle.lvm_session.specs.declared.flown.Owner.{Owner}
 use Rattle.lvm_session.specs.declared.flown.Owner.TheVariants as owner
 use Rattle.lvm_session.specs.declared.open.Open.{Open}
 use Rattle.lvm_num.specs.Modes.{is_passive}
+use Rattle.lvm_num.proofs.Booleans.{not_so}
 use Rattle.lvm_session.specs.Marks.{can_replace, is_among, is_entailed, is_entailed_in, is_left_behind, WantsStale}
 use Rattle.lvm_session.specs.Causes.{fails_on, is_blamed, is_held_stale, was_fresh}
 use Rattle.lvm_session.specs.Left.{clean_volumes}
@@ -43,12 +43,13 @@ use Rattle.lvm_session.specs.Requests.{is_failed_and_sure, is_left_out, is_wante
 use Rattle.lvm_session.specs.Sound.{IsCopy, may_be_fresh, stays_fresh}
 use Rattle.lvm_keeps.proofs.KeepsLemmas.Landing.{or_parts}
 use Rattle.lvm_keeps.proofs.OwnersLemmas.Rows.{data_still, status_still, step_still}
-use Rattle.lvm_keeps.proofs.Small.{both, is_false, not_so}
+use Rattle.lvm_keeps.proofs.Small.{both, is_false}
 use Rattle.lvm_keeps.proofs.RequestsLemmas.{shape_still, copy_marked, same_next}
 use Rattle.lvm_keeps.proofs.DarkLemmas.Tables.{apart}
 use Rattle.lvm_keeps_events.proofs.Marking.{count_alike, filter_alike}
 use Rattle.lvm_keeps_events.proofs.Lists.{all_and, any_on, count_on, or_false, or_true}
 use Rattle.lvm_keeps_events.proofs.OwnersLemmas.Rows.{rows_each}
+use Rattle.lvm_keeps_events.proofs.JudgingLemmas.Requests.{fewer_due}
 
 -- ---- the status
 
@@ -106,13 +107,6 @@ staled due old next its wants = record {
 }
 
 -- ---- what is judged by it
-
--- fewer may be left over, unless one is kept that wasn't
-fewer_due : (n m : ℕ) (a b : Bool) → m ≤ n → (b ≡ true → a ≡ true) → nat_le n (if a then 0 else 1) ≡ true → nat_le m (if b then 0 else 1) ≡ true
-fewer_due n m true true less on e = le-leb m 0 (let low = leb-true n 0 e in omega (arith, low, less))
-fewer_due n m true false less on e = le-leb m 1 (let low = leb-true n 0 e in omega (arith, low, less))
-fewer_due n m false true less on e = not_so (on refl)
-fewer_due n m false false less on e = le-leb m 1 (let low = leb-true n 1 e in omega (arith, low, less))
 
 module _ (core : Core) (due : Pp → Bool) (wanted : Status) (writes : Writes) (like : IsStaler due core.status.wanted wanted) where
   abbrev pub staler : Core

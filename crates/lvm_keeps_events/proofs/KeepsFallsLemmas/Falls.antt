@@ -15,7 +15,7 @@ use Rattle.lvm_keeps.proofs.FallsLemmas.Pin.{pin_falls}
 use Rattle.lvm_keeps_events.proofs.FallsLemmas.CopyWrite.{copy_write_falls}
 use Rattle.lvm_keeps_events.proofs.FallsLemmas.DataStart.{data_start_falls}
 use Rattle.lvm_keeps_events.proofs.FallsLemmas.StatusStart.{status_start_falls}
-use Rattle.lvm_keeps_events.proofs.FallsMovesLemmas.{admission_falls}
+use Rattle.lvm_keeps_events.proofs.MoveFallsLemmas.{admission_falls}
 
 -- a request lands by it
 abbrev IsLanding : Event → Type 0

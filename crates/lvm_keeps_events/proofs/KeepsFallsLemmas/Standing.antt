@@ -65,13 +65,15 @@ use Rattle.lvm_session.specs.Owners.{AreRows, flies, same_owner, target_flies}
 use Rattle.lvm_session.specs.Requests.{IsOpenOne, IsPhase, IsRecorded, IsRequest, is_failed_and_sure, is_past_held, is_wanted_due, is_wanted_dirty, mode_for, wants_status, will_be_kept}
 use Rattle.lvm_session.specs.Sound.{IsCopy, IsGoing, IsSound, count_if, has_number, is_dark, is_hand, pins, waiting_rows, with_row}
 use Rattle.std.proofs.lemmas.Slice.Eq.{bytes_eq-Decides}
-use Rattle.lvm_num.proofs.Booleans.{and_false}
+use Rattle.lvm_num.proofs.Booleans.{and_false, not_so, none_if, same_by_if}
+use Rattle.lvm_num.proofs.Lists.{none_each, all_false, all_at}
 use Rattle.lvm_keeps.specs.Falls.{NeverStandsStill}
-use Rattle.lvm_keeps.proofs.Lists.{all_at, count_cons}
-use Rattle.lvm_keeps.proofs.Small.{both, is_false, not_so}
+use Rattle.lvm_keeps.proofs.Lists.{count_cons}
+use Rattle.lvm_keeps.proofs.Small.{both, is_false}
 use Rattle.lvm_keeps.proofs.VotesLemmas.{enough_more, more_votes}
 use Rattle.lvm_keeps_events.proofs.TargetsLemmas.{count_none}
 use Rattle.lvm_keeps_events.proofs.JudgingLemmas.Chosen.{there_now}
+use Rattle.lvm_keeps_events.proofs.KeepsLemmas.Admission.{some_long}
 
 -- ---- tests and lists
 
@@ -80,17 +82,9 @@ or_none None b e = (refl, e)
 or_none (Some it) b e = absurd (cc e)
 
 module _ {A : Type 0} where
-  pub all_false : (t : A → Bool) (xs : List A) → list_any t xs ≡ false → AllByRecursion (λ (x : A). t x ≡ false) xs
-  all_false t [] none = tt
-  all_false t (x ∷ xs) none = let it = or_parts (t x) (list_any t xs) none in (it.0, all_false t xs it.1)
-
   none_any : (t : A → Bool) (xs : List A) → AllByRecursion (λ (x : A). t x ≡ false) xs → list_any t xs ≡ false
   none_any t [] all = refl
   none_any t (x ∷ xs) all = ap (λ b. b || list_any t xs) all.0 ∙ none_any t xs all.1
-
-  none_each : (t : A → Bool) → ((x : A) → t x ≡ false) → (xs : List A) → list_any t xs ≡ false
-  none_each t none [] = refl
-  none_each t none (x ∷ xs) = ap (λ b. b || list_any t xs) (none x) ∙ none_each t none xs
 
   -- what holds at each place holds of each
   by_places : (P : A → Type 0) (xs : List A) → ((k : ℕ) (x : A) → slice_get xs k ≡ Some x → P x) → AllByRecursion P xs
@@ -102,11 +96,6 @@ none_made : (make : ℕ → Open → Option Event) (k : ℕ) (os : List Open) �
 none_made make k [] none place o there = absurd (cc there)
 none_made make k (x ∷ os) none zero o there = let is : x ≡ o = cc there in (let same : k + 0 ≡ k = omega arith in ap (λ n. make n o) same) ∙ ap (make k) (sym is) ∙ (or_none (make k x) (first_from make (k + 1) os) none).0
 none_made make k (x ∷ os) none (suc place) o there = (let same : k + suc place ≡ k + 1 + place = omega arith in ap (λ n. make n o) same) ∙ none_made make (k + 1) os (or_none (make k x) (first_from make (k + 1) os) none).1 place o there
-
--- an event that there is none of isn't due
-not_due : (b : Bool) (e : Event) → (if b then Some e else None) ≡ None → b ≡ false
-not_due true e is = absurd (cc is)
-not_due false e is = refl
 
 no_option : {A : Type 0} (f : A → Event) (m : Option A) → option_map f m ≡ None → m ≡ None
 no_option f None is = refl
@@ -169,10 +158,6 @@ some_waits (t ∷ ts) some e = by t.state e
     by stage.Flying f = not_so (sym f)
     by stage.Done f = not_so (sym f)
     by stage.Failed f = not_so (sym f)
-
-some_long : {A : Type 0} (t : A → Bool) (xs : List A) → list_any t xs ≡ true → 1 ≤ length xs
-some_long t [] e = not_so e
-some_long t (x ∷ xs) e = omega arith
 
 -- ---- a write whose staleness is settled, where what is wanted is committed
 
@@ -295,17 +280,11 @@ unpinned_all (e ∷ es) differ none =
 
 -- ---- statuses that say the same are one
 
-bits_are : (a b : Bool) → (if a then b else not b) ≡ true → a ≡ b
-bits_are true true e = refl
-bits_are true false e = not_so e
-bits_are false true e = not_so e
-bits_are false false e = refl
-
 row_is : (a b : StatusRow) → same_row a b ≡ true → a ≡ b
 row_is a b e =
     let first = both (a.disk == b.disk && (if a.missing then b.missing else not b.missing)) (bytes_eq a.stale b.stale) e in
     let second = both (a.disk == b.disk) (if a.missing then b.missing else not b.missing) first.0 in
-    ap (λ n. record a { disk = n }) (eqb-true a.disk b.disk second.0) ∙ ap (λ (t : Bool). record a { disk = b.disk; missing = t }) (bits_are a.missing b.missing second.1)
+    ap (λ n. record a { disk = n }) (eqb-true a.disk b.disk second.0) ∙ ap (λ (t : Bool). record a { disk = b.disk; missing = t }) (same_by_if a.missing b.missing second.1)
     ∙ ap (λ (x : List ℕ). record b { stale = x }) ((bytes_eq-Decides a.stale b.stale).0 first.1)
 
 rows_are : (xs ys : List StatusRow) → same_rows xs ys ≡ true → xs ≡ ys
@@ -319,7 +298,7 @@ status_is a b e =
     let third = both (a.id == b.id && (if a.big then b.big else not b.big) && bytes_eq a.dirty b.dirty) (same_rows a.rows b.rows) e in
     let second = both (a.id == b.id && (if a.big then b.big else not b.big)) (bytes_eq a.dirty b.dirty) third.0 in
     let first = both (a.id == b.id) (if a.big then b.big else not b.big) second.0 in
-    ap (λ n. record a { id = n }) (eqb-true a.id b.id first.0) ∙ ap (λ (t : Bool). record a { id = b.id; big = t }) (bits_are a.big b.big first.1)
+    ap (λ n. record a { id = n }) (eqb-true a.id b.id first.0) ∙ ap (λ (t : Bool). record a { id = b.id; big = t }) (same_by_if a.big b.big first.1)
     ∙ ap (λ (x : List ℕ). record a { id = b.id; big = b.big; dirty = x }) ((bytes_eq-Decides a.dirty b.dirty).0 second.1) ∙ ap (λ (rs : List StatusRow). record b { rows = rs }) (rows_are a.rows b.rows third.1)
 
 -- ---- rows of the hold queue
@@ -424,10 +403,10 @@ module _ (s : State) (sound : IsSound s) (on : s.core.power ≡ power.On) (votes
       by m e = no_option (event.Land (0 + place)) m e
 
   no_admission : (place : ℕ) (o : Open) → slice_get core.requests place ≡ Some o → is_admit (next_for core o) ≡ false
-  no_admission place o there = not_due (may_be_admitted core o) (event.Admit (0 + place)) (none_made (admission_at core) 0 core.requests (or_none (first_from (admission_at core) 0 core.requests) _ (or_none (landing core) _ settle_start.0).1).0 place o there)
+  no_admission place o there = none_if (may_be_admitted core o) (event.Admit (0 + place)) (none_made (admission_at core) 0 core.requests (or_none (first_from (admission_at core) 0 core.requests) _ (or_none (landing core) _ settle_start.0).1).0 place o there)
 
   no_pinning : (place : ℕ) (o : Open) → slice_get core.requests place ≡ Some o → may_pin core o ≡ false
-  no_pinning place o there = not_due (may_pin core o) (event.Pin (0 + place))
+  no_pinning place o there = none_if (may_pin core o) (event.Pin (0 + place))
       (none_made (pinning_at core) 0 core.requests (or_none (first_from (pinning_at core) 0 core.requests) None (or_none (first_from (admission_at core) 0 core.requests) _ (or_none (landing core) _ settle_start.0).1).1).0 place o there)
 
   -- ---- a buffer is in the pool
@@ -449,7 +428,7 @@ module _ (s : State) (sound : IsSound s) (on : s.core.power ≡ power.On) (votes
   starts_4 = (or_none (if has_buffer core then (if option_map_or (may_read core) core.copy false then Some event.ReadCopy else None) else None) (first_of (copy_write ∷ []) core) starts_3).1
 
   no_write : option_map_or may_write core.copy false ≡ false
-  no_write = not_due (option_map_or may_write core.copy false) event.WriteCopy (or_none (if option_map_or may_write core.copy false then Some event.WriteCopy else None) None starts_4).0
+  no_write = none_if (option_map_or may_write core.copy false) event.WriteCopy (or_none (if option_map_or may_write core.copy false then Some event.WriteCopy else None) None starts_4).0
 
   no_copy_hand : hand_of_copy core.copy ≡ None
   no_copy_hand = by core.copy going.copy no_write
@@ -514,7 +493,7 @@ module _ (s : State) (sound : IsSound s) (on : s.core.power ≡ power.On) (votes
   -- ---- what may be started with it
 
   no_status : is_status_due core ≡ false
-  no_status = not_due (is_status_due core) event.StartStatus (sym (ap (λ (b : Bool). if b then (if is_status_due core then Some event.StartStatus else None) else None) buffer) ∙ starts)
+  no_status = none_if (is_status_due core) event.StartStatus (sym (ap (λ (b : Bool). if b then (if is_status_due core then Some event.StartStatus else None) else None) buffer) ∙ starts)
 
   no_notes : first_from (note_at core) 0 core.requests ≡ None
   no_notes = sym (ap (λ (b : Bool). if b then first_from (note_at core) 0 core.requests else None) buffer) ∙ (or_none (if has_buffer core then first_from (note_at core) 0 core.requests else None) (first_of parts_after_notes core) starts_1).0
@@ -523,7 +502,7 @@ module _ (s : State) (sound : IsSound s) (on : s.core.power ≡ power.On) (votes
   no_data = sym (ap (λ (b : Bool). if b then first_from (data_at core) 0 core.requests else None) buffer) ∙ (or_none (if has_buffer core then first_from (data_at core) 0 core.requests else None) (first_of parts_after_data core) starts_2).0
 
   no_read : option_map_or (may_read core) core.copy false ≡ false
-  no_read = not_due (option_map_or (may_read core) core.copy false) event.ReadCopy (sym (ap (λ (b : Bool). if b then (if option_map_or (may_read core) core.copy false then Some event.ReadCopy else None) else None) buffer)
+  no_read = none_if (option_map_or (may_read core) core.copy false) event.ReadCopy (sym (ap (λ (b : Bool). if b then (if option_map_or (may_read core) core.copy false then Some event.ReadCopy else None) else None) buffer)
       ∙ (or_none (if has_buffer core then (if option_map_or (may_read core) core.copy false then Some event.ReadCopy else None) else None) (first_of (copy_write ∷ []) core) starts_3).0)
 
   no_note : (place : ℕ) (o : Open) → slice_get core.requests place ≡ Some o → note_due core o ≡ None

@@ -23,7 +23,7 @@ use Rattle.lvm_path.specs.Asks.{is_write, lv_of}
 use Rattle.lvm_path.specs.Targets.{are_over, is_begun, is_done, is_failed, is_over as is_ended}
 use Rattle.lvm_path.specs.Next.{first_phase}
 use Rattle.lvm_num.specs.Descriptor.{is_pp}
-use Rattle.lvm_num.proofs.Booleans.{and_false}
+use Rattle.lvm_num.proofs.Booleans.{and_false, not_so}
 use Rattle.lvm_status.specs.Update.{Stored, seen}
 use Rattle.lvm_status.specs.Runs.{IsSoundStatus}
 use Rattle.lvm_session.specs.declared.bringing.OpenCopy.{OpenCopy}
@@ -35,6 +35,7 @@ use Rattle.lvm_session.specs.Judging.{copies_in, facts_of, group_in, has_dirty_m
 use Rattle.lvm_session.specs.Bringing.{has_row, step_row}
 use Rattle.lvm_session.specs.Events.{Chooses, admitted_as, after_admission, last_after, makes_dirty, without_pin}
 use Rattle.lvm_num.specs.Modes.{is_passive}
+use Rattle.lvm_num.proofs.Lists.{all_weaker, all_at, length_set, set_beside}
 use Rattle.lvm_session.specs.Marks.{WantsDirty, WantsDirtyIf}
 use Rattle.lvm_session.specs.Left.{marks_later}
 use Rattle.lvm_session.specs.Owners.{AreOwned, IsDataOf, flies, target_flies}
@@ -43,9 +44,9 @@ use Rattle.lvm_session.specs.Causes.{AreCaused, AreCounted, IsAnswered, IsCaused
 use Rattle.lvm_session.specs.Sound.{IsAsked, IsCopy, IsFitting, IsGoing, IsOn, IsSound, IsTold, count_if, is_dark, is_hand, out_with, pins, with_row}
 use Rattle.lvm_keeps.specs.Keeps.{AdmissionKeeps}
 use Rattle.lvm_keeps.proofs.CausesLemmas.{answered_still, copies_still, counted_still, origin_still}
-use Rattle.lvm_keeps.proofs.Lists.{all_at, all_on, all_set, any_set, count_cons, count_same, count_set, length_set, set_beside}
+use Rattle.lvm_keeps.proofs.Lists.{all_set, any_set, count_cons, count_same, count_set}
 use Rattle.lvm_keeps.proofs.OwnersLemmas.Rows.{all_fly, rows_on}
-use Rattle.lvm_keeps.proofs.Small.{not_so, same_blame}
+use Rattle.lvm_keeps.proofs.Small.{same_blame}
 use Rattle.lvm_keeps.proofs.RequestsLemmas.{bring_on, if_on, moved, no_cause, open_on}
 use Rattle.lvm_keeps.proofs.DarkLemmas.Tables.{apart, ascending_set, rows_set}
 use Rattle.lvm_keeps.proofs.SoundLemmas.Whole.{sound_when_on}
@@ -96,7 +97,7 @@ unbegun_done (t ∷ ts) e = by t.state (λ f. unbegun_done ts f) e
     by stage.Done rest f = not_so (sym f)
     by stage.Failed rest f = not_so (sym f)
 
-some_long : {A : Type 0} (t : A → Bool) (xs : List A) → list_any t xs ≡ true → 1 ≤ length xs
+pub some_long : {A : Type 0} (t : A → Bool) (xs : List A) → list_any t xs ≡ true → 1 ≤ length xs
 some_long t [] e = not_so e
 some_long t (x ∷ xs) e = omega arith
 
@@ -208,7 +209,7 @@ module _ (s : State) (sound : IsSound s) (on : s.core.power ≡ power.On) (place
         laid = let l = its.laid in record { within = l.within; blocks = l.blocks; most = omega (arith, few); id = l.id };
         waits = λ e. record {
           shape = record {
-            targets = all_on (IsTarget core o.request.ask) (IsTarget now.core o.request.ask) (λ t i. record { copy = i.copy; sector = i.sector; there = i.there }) targets its_choice.aims;
+            targets = all_weaker (IsTarget core o.request.ask) (IsTarget now.core o.request.ask) (λ t i. record { copy = i.copy; sector = i.sector; there = i.there }) targets its_choice.aims;
             phase_is = phase_by made several some many.0 many.1 fresh still refl m (is_write o.request.ask) refl several refl;
             hand = request.shape.hand ∙ ap (λ b. not (is_write o.request.ask) && b) (unbegun_done o.request.targets.items unbegun ∙ sym none_done);
             room = request.shape.room;
@@ -224,7 +225,7 @@ module _ (s : State) (sound : IsSound s) (on : s.core.power ≡ power.On) (place
             dirty = λ has two. marks_by made several some many.0 many.1 fresh still refl now.core m (is_write o.request.ask) several refl has two;
           };
           judged = λ write. record {
-            uncaught = all_on (λ (t : Target). t.state ≡ stage.Waiting) (λ (t : Target). may_lack made t && is_caught core (group_in core o.request.ask) t.pp ≡ false)
+            uncaught = all_weaker (λ (t : Target). t.state ≡ stage.Waiting) (λ (t : Target). may_lack made t && is_caught core (group_in core o.request.ask) t.pp ≡ false)
                 (λ t e. ap (λ (st : TargetState). (is_failed st || false) && is_caught core (group_in core o.request.ask) t.pp) e) targets its_choice.fresh;
             due = λ status. not_so (sym (no_status m (is_write o.request.ask) several) ∙ status);
             all = λ begun p among. not_so (sym fresh ∙ begun);
@@ -354,11 +355,11 @@ module _ (s : State) (sound : IsSound s) (on : s.core.power ≡ power.On) (place
       (λ is. any_set_less (fails_on t.pp) core.requests place made (none_failed t.pp) is) e)
 
   caused : (x : Open) → AreCaused s.device core x → AreCaused s.device now.core x
-  caused x all waiting = all_on (IsCaused s.device core) (IsCaused s.device now.core) target_caused x.request.targets.items (all waiting)
+  caused x all waiting = all_weaker (IsCaused s.device core) (IsCaused s.device now.core) target_caused x.request.targets.items (all waiting)
 
   -- its targets are new, and count the faults of now
   its_chosen : (c : OpenCopy) → IsCausedAmong s (copies_in core.descriptor c.lv c.lp) c → IsChosenSince now.core c made
-  its_chosen c why waiting older number p at = all_on (λ (t : Target). t.faults ≡ s.device.counts.faults t.pp.disk) (λ (t : Target). t.pp ≡ p → faults_at_opening c number ≤ t.faults)
+  its_chosen c why waiting older number p at = all_weaker (λ (t : Target). t.faults ≡ s.device.counts.faults t.pp.disk) (λ (t : Target). t.pp ≡ p → faults_at_opening c number ≤ t.faults)
       (λ t now_is same. let low = why.since number p at in let here : s.device.counts.faults t.pp.disk ≡ s.device.counts.faults p.disk = ap (λ (q : Pp). s.device.counts.faults q.disk) same in omega (arith, now_is, low, here)) targets its_choice.faults
 
   chosen_on : (m : Option OpenCopy) → IfSome m (λ (c : OpenCopy). IsCausedAmong s (copies_in core.descriptor c.lv c.lp) c) → IfSome m (λ (c : OpenCopy). AllByRecursion (IsChosenSince core c) core.requests) → IfSome m (λ (c : OpenCopy). AllByRecursion (IsChosenSince now.core c) requests)
@@ -369,7 +370,7 @@ module _ (s : State) (sound : IsSound s) (on : s.core.power ≡ power.On) (place
   keeps_on = let was = sound.on on in record {
     going = keeps_going;
     rows = rows_on core core.history requests core.queue core.pool core.flying entries last data_on core.flying s.device.flights (all_fly core going.owned) was.rows;
-    caused = all_set (AreCaused s.device core) (AreCaused s.device now.core) caused core.requests place made (λ waiting. all_on (IsCaused s.device core) (IsCaused s.device now.core) target_caused targets its_choice.caused) was.caused;
+    caused = all_set (AreCaused s.device core) (AreCaused s.device now.core) caused core.requests place made (λ waiting. all_weaker (IsCaused s.device core) (IsCaused s.device now.core) target_caused targets its_choice.caused) was.caused;
     chosen = chosen_on core.copy sound.copy was.chosen;
   }
 
@@ -379,7 +380,7 @@ module _ (s : State) (sound : IsSound s) (on : s.core.power ≡ power.On) (place
   out n = let same = hands n in omega (arith, same)
 
   its_counted : AreCounted now made
-  its_counted = all_on (λ (t : Target). t.faults ≡ s.device.counts.faults t.pp.disk) (IsCounted now) (λ t same. let began = sound.origin.since t.pp.disk in record { began = omega (arith, began, same); since = omega (arith, same) }) targets its_choice.faults
+  its_counted = all_weaker (λ (t : Target). t.faults ≡ s.device.counts.faults t.pp.disk) (IsCounted now) (λ t same. let began = sound.origin.since t.pp.disk in record { began = omega (arith, began, same); since = omega (arith, same) }) targets its_choice.faults
 
   pub keeps : IsSound now
   keeps = sound_when_on s now refl refl sound on fitting told keeps_on (λ n. out n ∙ sound.none_lost (ap is_dark on) n)
@@ -500,13 +501,13 @@ module _ (s : State) (sound : IsSound s) (on : s.core.power ≡ power.On) (place
 
       choice_between : IsChosen between o targets
       choice_between = let c = choice in record {
-        aims = all_on (IsTarget s.core o.request.ask) (IsTarget between.core o.request.ask) (λ t i. record { copy = i.copy; sector = i.sector; there = i.there }) targets c.aims;
+        aims = all_weaker (IsTarget s.core o.request.ask) (IsTarget between.core o.request.ask) (λ t i. record { copy = i.copy; sector = i.sector; there = i.there }) targets c.aims;
         fresh = c.fresh;
         differ = c.differ;
         few = c.few;
         usable = c.usable;
         faults = c.faults;
-        caused = all_on (IsCaused s.device s.core) (IsCaused s.device between.core) (marked_caused s sound on (lv_of o.request.ask) status.wanted status.writes mark.like mark.started status_sound row one_of.laid.within.volume passive clean) targets c.caused;
+        caused = all_weaker (IsCaused s.device s.core) (IsCaused s.device between.core) (marked_caused s sound on (lv_of o.request.ask) status.wanted status.writes mark.like mark.started status_sound row one_of.laid.within.volume passive clean) targets c.caused;
       }
 
       wanted_so : is_wanted_dirty between.core (mode_for between.core o.request.ask) o.request.ask ≡ true

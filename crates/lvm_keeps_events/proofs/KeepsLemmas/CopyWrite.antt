@@ -5,6 +5,8 @@ use Rattle.std.specs.List.{AllByRecursion}
 use Rattle.std.specs.Option.{option_map_or}
 use Rattle.lvm_num.specs.Buffer.{Buffer}
 use Rattle.lvm_num.specs.Descriptor.{is_pp}
+use Rattle.lvm_num.proofs.Booleans.{not_so}
+use Rattle.lvm_num.proofs.Lists.{all_weaker}
 use Rattle.lvm_disk.specs.Device.{Device, Flight, Range}
 use Rattle.lvm_disk.specs.Steps.{IsFresh}
 use Rattle.lvm_session.specs.declared.bringing.OpenCopy.{OpenCopy}
@@ -28,9 +30,8 @@ use Rattle.lvm_session.specs.Sound.{IsCopy, IsGoing, IsOn, IsSound, IsTold, coun
 use Rattle.lvm_keeps.specs.Keeps.{CopyWriteKeeps}
 use Rattle.lvm_keeps.proofs.CausesLemmas.{copy_still, origin_still}
 use Rattle.lvm_keeps.proofs.OwnersLemmas.Launching.{flights_push, none_more, owners_push, rows_push, tickets_push}
-use Rattle.lvm_keeps.proofs.Lists.{all_on}
 use Rattle.lvm_keeps.proofs.OwnersLemmas.Rows.{all_fly, rows_but_copy}
-use Rattle.lvm_keeps.proofs.Small.{both, not_so}
+use Rattle.lvm_keeps.proofs.Small.{both}
 use Rattle.lvm_keeps.proofs.RequestsLemmas.{open_on, copy_stepped, same_next}
 use Rattle.lvm_keeps.proofs.SoundLemmas.Whole.{sound_still, told_still}
 use Rattle.lvm_keeps_events.proofs.SoundLemmas.Frame.{after, fitting_on, launched}
@@ -121,7 +122,7 @@ module _ (s : State) (sound : IsSound s) (on : s.core.power ≡ power.On) (c : O
     tickets = tickets_push core row core.flying s.device.flights (sound.on on).rows fresh going.tickets;
     queue = queue;
     pinned = going.pinned;
-    requests = all_on (IsOpenOne core) (IsOpenOne now.core) one core.requests going.requests;
+    requests = all_weaker (IsOpenOne core) (IsOpenOne now.core) one core.requests going.requests;
     copy = bring;
     hands = λ n. let was = going.hands n in omega (arith, was);
     behind = going.behind;
@@ -136,8 +137,8 @@ module _ (s : State) (sound : IsSound s) (on : s.core.power ≡ power.On) (c : O
     going = keeps_going;
     rows = rows_push now.core row f (record { ticket = refl; long = long; disk = refl; own = (writing, refl, record { disk_is = writes.disk_is; first = writes.first; count = writes.count; write_is = writes.write_is }) }) core.flying s.device.flights
         (rows_but_copy core now.core refl (λ who. flies core who ≡ true) (λ fly. not_so (sym none_out ∙ fly)) core.flying s.device.flights (all_fly core going.owned) was.rows);
-    caused = all_on (AreCaused s.device core) (AreCaused device now.core) (λ x all waiting. all_on (IsCaused s.device core) (IsCaused device now.core) (λ t why. why) x.request.targets.items (all waiting)) core.requests was.caused;
-    chosen = all_on (IsChosenSince core c) (IsChosenSince now.core writing) (λ x all. all) core.requests (subst (λ m. IfSome m (λ (k : OpenCopy). AllByRecursion (IsChosenSince core k) core.requests)) is was.chosen);
+    caused = all_weaker (AreCaused s.device core) (AreCaused device now.core) (λ x all waiting. all_weaker (IsCaused s.device core) (IsCaused device now.core) (λ t why. why) x.request.targets.items (all waiting)) core.requests was.caused;
+    chosen = all_weaker (IsChosenSince core c) (IsChosenSince now.core writing) (λ x all. all) core.requests (subst (λ m. IfSome m (λ (k : OpenCopy). AllByRecursion (IsChosenSince core k) core.requests)) is was.chosen);
   }
 
   -- ---- all of it

@@ -3,12 +3,14 @@ use Rattle.std.proofs.Common.{◌≡◌, ◌⊎◌, inl, inr, ◌==◌, ◌≤�
 use Rattle.std.specs.Prelude.{AllPairs, count_by, slice_index_or}
 use Rattle.std.specs.List.{list_any, AllByRecursion}
 use Rattle.std.specs.Option.{option_map_or}
+use Rattle.std.proofs.lemmas.Option.{slice_get_within}
 use Rattle.std.proofs.lemmas.Bool.{eq-eqb, eqb-true, eqb-false, ne_eqb}
 use Rattle.lvm_num.specs.declared.place.Pp.{Pp}
 use Rattle.lvm_num.specs.declared.descriptor.Mode.{Mode}
 use Rattle.lvm_num.specs.declared.descriptor.Mode.TheVariants as mode
 use Rattle.lvm_num.specs.Descriptor.{is_pp}
-use Rattle.lvm_num.proofs.Booleans.{and_false}
+use Rattle.lvm_num.proofs.Booleans.{and_false, not_so}
+use Rattle.lvm_num.proofs.Lists.{all_weaker, all_at, length_set, set_beside}
 use Rattle.lvm_disk.specs.Device.{Device, Flight, Range}
 use Rattle.lvm_disk.specs.Steps.{IsFresh, Starts}
 use Rattle.lvm_vol.specs.Log.{is_open}
@@ -41,14 +43,13 @@ use Rattle.lvm_session.specs.Sound.{IsAsked, IsCopy, IsGoing, IsOn, IsSound, IsT
 use Rattle.lvm_keeps.specs.Keeps.{DataStartKeeps}
 use Rattle.lvm_keeps.proofs.CausesLemmas.{answered_still, copies_still, counted_still, origin_still}
 use Rattle.lvm_keeps.proofs.OwnersLemmas.Launching.{flights_push, none_more, owners_push, rows_push, taken, tickets_push}
-use Rattle.lvm_keeps.proofs.Lists.{all_at, all_on, all_set, any_set, count_same, count_set, length_set, set_here, set_beside}
+use Rattle.lvm_keeps.proofs.Lists.{all_set, any_set, count_same, count_set, set_here}
 use Rattle.lvm_keeps.proofs.OwnersLemmas.Rows.{all_fly, rows_on}
-use Rattle.lvm_keeps.proofs.Small.{not_so}
 use Rattle.lvm_keeps.proofs.KeepsLemmas.Starting.{first_start_is_whole}
 use Rattle.lvm_keeps.proofs.RequestsLemmas.{bring_on, if_on, no_cause, open_on}
 use Rattle.lvm_keeps.proofs.DarkLemmas.Tables.{apart, ascending_set, rows_set}
 use Rattle.lvm_keeps.proofs.SoundLemmas.Whole.{sound_when_on}
-use Rattle.lvm_keeps_events.proofs.TargetsLemmas.{all_true_set, any_here, at_state, count_none, neither, not_all_set, only_at, pp_at, pps_set, set_state, within}
+use Rattle.lvm_keeps_events.proofs.TargetsLemmas.{all_true_set, any_here, at_state, count_none, neither, not_all_set, only_at, pp_at, pps_set, set_state}
 use Rattle.lvm_keeps_events.proofs.WritesLemmas.{StartsAt, starts_at}
 use Rattle.lvm_keeps_events.proofs.SoundLemmas.Frame.{after, fitting_on, launched}
 
@@ -205,7 +206,7 @@ module _ (s : State) (sound : IsSound s) (on : s.core.power ≡ power.On) (place
   shape : IsShaped now.core begun
   shape = let a = request.shape in record {
     targets = all_set (IsTarget core o.request.ask) (IsTarget now.core o.request.ask) target_on targets target flying (target_on flying (moved (all_at (IsTarget core o.request.ask) targets target aim a.targets aim_is))) a.targets;
-    phase_is = (let low = within targets target aim aim_is in omega (arith, low, same_long), λ write. not_over);
+    phase_is = (let low = slice_get_within targets target aim aim_is in omega (arith, low, same_long), λ write. not_over);
     hand = a.hand ∙ ap (λ b. not (is_write o.request.ask) && b) (sym (any_set (λ (t : Target). is_done t.state) targets target aim flying aim_is (sym (ap is_done at_rest))));
     room = a.room;
     differ = λ i j d less high. a_differ i j d less high;
@@ -388,7 +389,7 @@ module _ (s : State) (sound : IsSound s) (on : s.core.power ≡ power.On) (place
   target_caused t why e = why (sym (ap (λ b. is_failed t.state || (t.usable && (is_missing core t.pp.disk || is_wanted_stale core t.pp || is_held_stale core t.pp || b))) (blamed t.pp)) ∙ e)
 
   caused : (x : Open) → AreCaused s.device core x → AreCaused device now.core x
-  caused x all waiting = all_on (IsCaused s.device core) (IsCaused device now.core) target_caused x.request.targets.items (all waiting)
+  caused x all waiting = all_weaker (IsCaused s.device core) (IsCaused device now.core) target_caused x.request.targets.items (all waiting)
 
   its_caused : AreCaused s.device core o → AreCaused device now.core begun
   its_caused all waiting = all_set (IsCaused s.device core) (IsCaused device now.core) target_caused targets target flying (target_caused flying moved) (all waiting)

@@ -6,6 +6,8 @@ use Rattle.std.specs.Option.{option_map_or}
 use Rattle.std.proofs.lemmas.Bool.{eqb-true, eqb-false}
 use Rattle.lvm_num.specs.Buffer.{Buffer}
 use Rattle.lvm_num.specs.declared.place.Pp.{Pp}
+use Rattle.lvm_num.proofs.Booleans.{not_so}
+use Rattle.lvm_num.proofs.Lists.{all_weaker, all_at, length_set, set_beside}
 use Rattle.lvm_disk.specs.Device.{Flight}
 use Rattle.lvm_vol.specs.declared.entry.Outcome.{Outcome}
 use Rattle.lvm_vol.specs.Facts.{Fact, Request as Asked, Landed}
@@ -46,16 +48,17 @@ use Rattle.lvm_keeps.proofs.CausesLemmas.{answered_still, copies_still, counted_
 use Rattle.lvm_keeps.proofs.DarkLemmas.Ending.{back, back_long}
 use Rattle.lvm_keeps.proofs.SoundLemmas.Fitting.{still_fits}
 use Rattle.lvm_keeps.proofs.KeepsLemmas.Landing.{cause}
-use Rattle.lvm_keeps.proofs.Lists.{all_at, all_on, all_set, any_set, count_set, length_set, set_here, set_beside}
+use Rattle.lvm_keeps.proofs.Lists.{all_set, any_set, count_set, set_here}
 use Rattle.lvm_keeps.proofs.KeepsLemmas.NoteStart.{each_counted}
 use Rattle.lvm_keeps.proofs.OwnersLemmas.Rows.{all_fly, rows_on}
-use Rattle.lvm_keeps.proofs.Small.{not_so, same_blame}
+use Rattle.lvm_keeps.proofs.Small.{same_blame}
 use Rattle.lvm_keeps.proofs.RequestsLemmas.{bring_on, if_on, moved, open_on}
 use Rattle.lvm_keeps.proofs.SoundLemmas.Telling.{asked_still, count_still}
 use Rattle.lvm_keeps.proofs.SoundLemmas.Whole.{sound_when_on}
 use Rattle.lvm_keeps_events.proofs.LogLemmas.{each_after, got_is, ordered_after, requests_after, table_after}
 use Rattle.lvm_keeps_events.proofs.NextLemmas.{IsEnded, gives}
-use Rattle.lvm_keeps_events.proofs.SoundLemmas.Tables.{any_set_less, landed_rows, none_filter, rows_ascend, step_stays}
+use Rattle.lvm_keeps_events.proofs.SoundLemmas.Tables.{any_set_less, landed_rows, rows_ascend, step_stays}
+use Rattle.lvm_keeps_events.proofs.SoundLemmas.Over.{none_filter}
 
 -- of the cache only the entries change
 pub only_entries : (cache : Cached) (r : Request) → without_pin cache r ≡ record cache { entries = (without_pin cache r).entries }
@@ -289,7 +292,7 @@ module _ (s : State) (sound : IsSound s) (on : s.core.power ≡ power.On) (place
   blamed_before p is = any_set_less (fails_on p) core.requests place landed refl is
 
   caused : (x : Open) → AreCaused s.device core x → AreCaused s.device now.core x
-  caused x all waiting = all_on (IsCaused s.device core) (IsCaused s.device now.core) target_caused x.request.targets.items (all waiting)
+  caused x all waiting = all_weaker (IsCaused s.device core) (IsCaused s.device now.core) target_caused x.request.targets.items (all waiting)
     where
       target_caused : (t : Target) → IsCaused s.device core t → IsCaused s.device now.core t
       target_caused t why e = why (same_blame (is_failed t.state) t.usable (is_missing core t.pp.disk) (is_wanted_stale core t.pp) (is_held_stale core t.pp) (list_any (fails_on t.pp) core.requests) (list_any (fails_on t.pp) requests) (blamed_before t.pp) e)

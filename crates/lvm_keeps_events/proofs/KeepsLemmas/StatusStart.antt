@@ -21,6 +21,8 @@ use Rattle.lvm_num.specs.Record.{frame, slot_start}
 use Rattle.lvm_rec.specs.Homes.{next_slot}
 use Rattle.lvm_num.specs.Status.{calls_dirty, calls_stale}
 use Rattle.lvm_num.specs.StatusBytes.{status_bytes}
+use Rattle.lvm_num.proofs.Booleans.{not_so, four_hold, if_itself, three_hold}
+use Rattle.lvm_num.proofs.Lists.{any_as, all_weaker, length_set}
 use Rattle.lvm_disk.specs.Device.{Device, Flight, Range}
 use Rattle.lvm_disk.specs.Steps.{IsFresh, Starts}
 use Rattle.lvm_path.specs.declared.request.Phase.{Phase}
@@ -56,50 +58,28 @@ use Rattle.lvm_keeps.specs.Keeps.{StatusStartKeeps}
 use Rattle.lvm_keeps.proofs.CausesLemmas.{copies_still}
 use Rattle.lvm_keeps.proofs.SoundLemmas.Fitting.{still_fits}
 use Rattle.lvm_keeps.proofs.OwnersLemmas.Launching.{flights_push, none_more, owners_push, rows_push, taken, tickets_push}
-use Rattle.lvm_keeps.proofs.Lists.{all_on, length_set}
 use Rattle.lvm_keeps.proofs.OwnersLemmas.Rows.{all_fly, data_still, rows_by, step_still}
-use Rattle.lvm_keeps.proofs.Small.{both, not_so}
+use Rattle.lvm_keeps.proofs.Small.{both}
 use Rattle.lvm_keeps.proofs.RequestsLemmas.{if_on, shape_still, copy_marked, same_next}
 use Rattle.lvm_keeps.proofs.SoundLemmas.Whole.{sound_still, told_still}
 use Rattle.lvm_keeps_events.proofs.SoundLemmas.Frame.{launched}
 
 -- ---- a status says the same as itself
 
-same_bool : (b : Bool) → (if b then b else not b) ≡ true
-same_bool true = refl
-same_bool false = refl
-
-all_four : (a b c d : Bool) → a ≡ true → b ≡ true → c ≡ true → d ≡ true → a && b && c && d ≡ true
-all_four true true true true p q r s = refl
-all_four false b c d p q r s = not_so p
-all_four true false c d p q r s = not_so q
-all_four true true false d p q r s = not_so r
-all_four true true true false p q r s = not_so s
-
-all_three : (a b c : Bool) → a ≡ true → b ≡ true → c ≡ true → a && b && c ≡ true
-all_three true true true p q r = refl
-all_three false b c p q r = not_so p
-all_three true false c p q r = not_so q
-all_three true true false p q r = not_so r
-
 bytes_own : (bytes : List ℕ) → bytes_eq bytes bytes ≡ true
 bytes_own bytes = (bytes_eq-Decides bytes bytes).1 refl
 
 row_own : (row : StatusRow) → same_row row row ≡ true
-row_own row = all_three (row.disk == row.disk) (if row.missing then row.missing else not row.missing) (bytes_eq row.stale row.stale) (eq-eqb row.disk row.disk refl) (same_bool row.missing) (bytes_own row.stale)
+row_own row = three_hold (row.disk == row.disk) (if row.missing then row.missing else not row.missing) (bytes_eq row.stale row.stale) (eq-eqb row.disk row.disk refl) (if_itself row.missing) (bytes_own row.stale)
 
 rows_own : (rows : List StatusRow) → same_rows rows rows ≡ true
 rows_own [] = refl
 rows_own (row ∷ rows) = ap (λ b. b && same_rows rows rows) (row_own row) ∙ rows_own rows
 
 pub status_own : (x : Status) → same_status x x ≡ true
-status_own x = all_four (x.id == x.id) (if x.big then x.big else not x.big) (bytes_eq x.dirty x.dirty) (same_rows x.rows x.rows) (eq-eqb x.id x.id refl) (same_bool x.big) (bytes_own x.dirty) (rows_own x.rows)
+status_own x = four_hold (x.id == x.id) (if x.big then x.big else not x.big) (bytes_eq x.dirty x.dirty) (same_rows x.rows x.rows) (eq-eqb x.id x.id refl) (if_itself x.big) (bytes_own x.dirty) (rows_own x.rows)
 
 -- ---- lists
-
-any_same : {A : Type 0} (t u : A → Bool) → ((x : A) → t x ≡ u x) → (xs : List A) → list_any t xs ≡ list_any u xs
-any_same t u same [] = refl
-any_same t u same (x ∷ xs) = ap (λ b. b || list_any t xs) (same x) ∙ ap (λ b. u x || b) (any_same t u same xs)
 
 -- ---- which status is in flight
 
@@ -356,14 +336,14 @@ module _ (s : State) (sound : IsSound s) (on : s.core.power ≡ power.On) (disk 
     tickets = tickets_push core row core.flying s.device.flights (sound.on on).rows fresh going.tickets;
     queue = going.queue;
     pinned = going.pinned;
-    requests = all_on (IsOpenOne core) (IsOpenOne now.core) one core.requests going.requests;
+    requests = all_weaker (IsOpenOne core) (IsOpenOne now.core) one core.requests going.requests;
     copy = if_on (IsCopy core) (IsCopy now.core) bring core.copy going.copy;
     hands = λ n. let low = going.hands n in let more = taken core.pool f.buf.number n free in omega (arith, low, more);
     behind = going.behind;
     reviewed = reviewed;
     fresh = λ lv lp may.
-        sym (any_same (stays_fresh core) (stays_fresh now.core) stays (copies_in core.descriptor lv lp))
-        ∙ going.fresh lv lp (any_same (may_be_fresh core) (may_be_fresh now.core) (λ p. ap (λ b. was_fresh core p || not b) (settled_on p)) (copies_in core.descriptor lv lp) ∙ may);
+        sym (any_as (stays_fresh core) (stays_fresh now.core) stays (copies_in core.descriptor lv lp))
+        ∙ going.fresh lv lp (any_as (may_be_fresh core) (may_be_fresh now.core) (λ p. ap (λ b. was_fresh core p || not b) (settled_on p)) (copies_in core.descriptor lv lp) ∙ may);
     clearings = λ p held clear. going.clearings p (by (is_held_stale core p) (is_held_stale now.core p) (is_wanted_stale core p) (held_on p) held clear) clear;
     numbers = numbers;
   }
@@ -391,7 +371,7 @@ module _ (s : State) (sound : IsSound s) (on : s.core.power ≡ power.On) (disk 
   keeps_on its = let old = sound.on on in record {
     going = keeps_going;
     rows = rows_push now.core row f (record { ticket = refl; long = long; disk = refl; own = its }) core.flying s.device.flights (rows_by core now.core (λ who. flies core who ≡ true) transfer_on core.flying s.device.flights (all_fly core going.owned) old.rows);
-    caused = all_on (AreCaused s.device core) (AreCaused device now.core) (λ x all waiting. all_on (IsCaused s.device core) (IsCaused device now.core) (λ t why e. why (ap (λ b. is_failed t.state || (t.usable && b)) (blamed t.pp) ∙ e)) x.request.targets.items (all waiting)) core.requests old.caused;
+    caused = all_weaker (AreCaused s.device core) (AreCaused device now.core) (λ x all waiting. all_weaker (IsCaused s.device core) (IsCaused device now.core) (λ t why e. why (ap (λ b. is_failed t.state || (t.usable && b)) (blamed t.pp) ∙ e)) x.request.targets.items (all waiting)) core.requests old.caused;
     chosen = old.chosen;
   }
 

@@ -5,6 +5,8 @@ use Rattle.std.specs.Option.{option_map_or}
 use Rattle.lvm_num.specs.declared.place.Pp.{Pp}
 use Rattle.lvm_hold.specs.Waiting.{Waiting}
 use Rattle.lvm_num.specs.Descriptor.{is_pp}
+use Rattle.lvm_num.proofs.Booleans.{not_so}
+use Rattle.lvm_num.proofs.Lists.{all_weaker}
 use Rattle.lvm_path.specs.Asks.{is_write}
 use Rattle.lvm_path.specs.Targets.{is_begun}
 use Rattle.lvm_path.specs.declared.ask.Ask.{Ask}
@@ -20,12 +22,10 @@ use Rattle.lvm_session.specs.declared.flown.Flown.{Flown}
 use Rattle.lvm_session.specs.declared.open.Open.{Open}
 use Rattle.lvm_session.specs.Left.{begun_left, copy_left, if_so, is_brought_up, is_held, read_left, request_left, step_left, tried_of, turns_of, unbegun_left, update_work}
 use Rattle.lvm_keeps.proofs.KeepsLemmas.Landing.{or_parts}
-use Rattle.lvm_keeps.proofs.Lists.{all_on}
-use Rattle.lvm_keeps.proofs.Small.{not_so}
 use Rattle.lvm_keeps.proofs.LeftLemmas.Leaving.{phase_still}
 use Rattle.lvm_keeps_events.proofs.JudgingLemmas.DuesMarks.{pp_same}
 use Rattle.lvm_keeps_events.proofs.Lists.{found_at}
-use Rattle.lvm_keeps_events.proofs.FallsDataFallsLemmas.Falling.{each_less, sum_drops, sum_most}
+use Rattle.lvm_keeps_events.proofs.EndFallsLemmas.Falling.{each_less, sum_drops, sum_most}
 
 pub filter_same : (t u : Pp → Bool) (ps : List Pp) → AllByRecursion (λ (p : Pp). t p ≡ u p) ps → filter t ps ≡ filter u ps
 filter_same t u [] same = refl
@@ -78,7 +78,7 @@ module _ (core : Core) (c : OpenCopy) (is : core.copy ≡ Some c) (runs : is_run
   -- where it isn't among a request's copies the request has the same targets
   aims_same : (ask : Ask) → list_any (λ (p : Pp). is_pp p c.pp) (copies_for core ask) ≡ false → aims now ask ≡ aims core ask
   aims_same ask none = filter_same (λ (p : Pp). is_usable core p || false) (λ (p : Pp). is_usable core p || is_caught core (group_in core ask) p) (copies_for core ask)
-      (all_on (λ (p : Pp). is_pp p c.pp ≡ false) (λ (p : Pp). is_usable core p || false ≡ is_usable core p || is_caught core (group_in core ask) p)
+      (all_weaker (λ (p : Pp). is_pp p c.pp ≡ false) (λ (p : Pp). is_usable core p || false ≡ is_usable core p || is_caught core (group_in core ask) p)
       (λ p e. sym (ap (λ b. is_usable core p || b) (ap (λ m. option_map_or (λ (k : OpenCopy). is_running k && is_pp p k.pp && nat_lt (group_in core ask) k.cursor) m false) is ∙ ap (λ b. is_running c && b && nat_lt (group_in core ask) c.cursor) e ∙ nothing (is_running c) (nat_lt (group_in core ask) c.cursor))))
       (copies_for core ask) (each_fails (λ (p : Pp). is_pp p c.pp) (copies_for core ask) none))
     where

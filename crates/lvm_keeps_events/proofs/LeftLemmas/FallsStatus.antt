@@ -32,9 +32,10 @@ use Rattle.lvm_session.specs.Judging.{copies_for, group_in, group_of, is_caught,
 use Rattle.lvm_session.specs.Bringing.{copy_ends, end_of, is_whole}
 use Rattle.lvm_session.specs.Enabled.{is_lost, same_status}
 use Rattle.lvm_num.specs.Modes.{is_passive}
+use Rattle.lvm_num.proofs.Booleans.{not_so, not_either}
 use Rattle.lvm_session.specs.Left.{begun_left, copy_left, if_so, is_brought_up, is_held, lacks_dirty, lacks_note, left_by, left_of, phase_left, read_left, request_left, status_left, turns_of, unbegun_left, unstarted_writes, update_work, work_left, write_left}
 use Rattle.lvm_session.specs.Sound.{IsCopy, count_if}
-use Rattle.lvm_keeps.proofs.Small.{both, is_false, not_either, not_so}
+use Rattle.lvm_keeps.proofs.Small.{both, is_false}
 use Rattle.lvm_keeps.proofs.FallsLemmas.Landing.{left_some}
 use Rattle.lvm_keeps_events.proofs.EndsLemmas.CopyReadFail.{is_here, pp_is}
 use Rattle.lvm_keeps_events.proofs.SoundLemmas.Copies.{Brings, Fewer}
@@ -172,7 +173,7 @@ status_is core = by core.status.in_flight
     by None = omega arith
     by (Some u) = refl
 
-at_most_update : (b : Bool) → if_so b update_work ≤ 256
+pub at_most_update : (b : Bool) → if_so b update_work ≤ 256
 at_most_update true = omega arith
 at_most_update false = omega arith
 

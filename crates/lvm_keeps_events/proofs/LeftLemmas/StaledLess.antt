@@ -1,5 +1,5 @@
 -- What is left of a session in which more partitions are wanted stale: the same of its requests, and at most one update more.
-use Rattle.std.proofs.Common.{◌&&◌, ◌*◌, ◌+◌, ap, arith, Bool, false, if◌then◌else◌, List, None, not, Option, refl, Some, true, ◌||◌, ℕ, ◌∙◌, ◌≡◌, ◌≤◌}
+use Rattle.std.proofs.Common.{◌&&◌, ◌*◌, ◌+◌, ap, arith, Bool, if◌then◌else◌, List, None, not, Option, refl, Some, ◌||◌, ℕ, ◌∙◌, ◌≡◌, ◌≤◌}
 use Rattle.std.specs.Option.{option_map_or}
 use Rattle.std.specs.Prelude.{count_by}
 use Rattle.lvm_num.specs.Disks.{has}
@@ -22,6 +22,7 @@ use Rattle.lvm_session.specs.Left.{begun_left, if_so, is_brought_up, is_held, la
 use Rattle.lvm_keeps.proofs.FallsLemmas.Pin.{sum_same}
 use Rattle.lvm_keeps_events.proofs.Marking.{count_alike, filter_alike}
 use Rattle.lvm_keeps_events.proofs.JudgingLemmas.Staling.{dirty_same, IsStaler, missing_same, staler, usable_same}
+use Rattle.lvm_keeps_events.proofs.LeftLemmas.FallsStatus.{at_most_update}
 
 module _ (core : Core) (due : Pp → Bool) (wanted : Status) (writes : Writes) (like : IsStaler due core.status.wanted wanted) where
   abbrev now : Core
@@ -58,10 +59,6 @@ module _ (core : Core) (due : Pp → Bool) (wanted : Status) (writes : Writes) (
 
 -- ---- the update
 
-most : (b : Bool) → if_so b update_work ≤ 256
-most true = omega arith
-most false = omega arith
-
 -- where other things are wanted, and the writes of the update in flight are the same
 pub status_more : (core : Core) (wanted : Status) (writes : Writes) → ((d : ℕ) → has writes.unstarted d ≡ has core.status.writes.unstarted d) → status_left (record core { status = record core.status { wanted = wanted; writes = writes } }) ≤ status_left core + 256
 status_more core wanted writes same = by core.status.in_flight
@@ -71,5 +68,5 @@ status_more core wanted writes same = by core.status.in_flight
 
     by : (m : Option Status) → option_map_or (λ (u : Status). 2 * count_by (λ (r : PvRow). has writes.unstarted r.disk) core.status.group.pvs + if_so (not (same_status wanted u)) update_work) m (if_so (not (same_status wanted core.status.committed)) update_work)
         ≤ option_map_or (λ (u : Status). 2 * count_by (λ (r : PvRow). has core.status.writes.unstarted r.disk) core.status.group.pvs + if_so (not (same_status core.status.wanted u)) update_work) m (if_so (not (same_status core.status.wanted core.status.committed)) update_work) + 256
-    by None = let high = most (not (same_status wanted core.status.committed)) in omega (arith, high)
-    by (Some u) = let equal = unstarted in let high = most (not (same_status wanted u)) in omega (arith, equal, high)
+    by None = let high = at_most_update (not (same_status wanted core.status.committed)) in omega (arith, high)
+    by (Some u) = let equal = unstarted in let high = at_most_update (not (same_status wanted u)) in omega (arith, equal, high)

@@ -4,6 +4,7 @@ use Rattle.std.specs.Prelude.{count_by, slice_index_or, slice_set}
 use Rattle.std.specs.List.{list_any, remove, AllByRecursion}
 use Rattle.std.proofs.lemmas.Bool.{eq-eqb}
 use Rattle.lvm_num.specs.Buffer.{Buffer}
+use Rattle.lvm_num.proofs.Booleans.{not_so}
 use Rattle.lvm_disk.specs.Device.{Flight, Media}
 use Rattle.lvm_disk.specs.Steps.{Removes}
 use Rattle.lvm_session.specs.declared.flown.Flown.{Flown}
@@ -15,7 +16,6 @@ use Rattle.lvm_session.specs.Owners.{AreOwned, AreRows, HaveTickets, IsRowOf, fl
 use Rattle.lvm_session.specs.Sound.{IsSound, count_if, hands_with, has_number, is_dark, is_hand, out_with}
 use Rattle.lvm_keeps.proofs.DarkLemmas.Ending.{back}
 use Rattle.lvm_keeps.proofs.Lists.{count_cons}
-use Rattle.lvm_keeps.proofs.Small.{not_so}
 
 -- ---- one of a list goes
 

@@ -3,6 +3,7 @@ use Rattle.std.proofs.Common.{◌≡◌, ◌⊎◌, inl, inr, ◌==◌, ◌≤�
 use Rattle.std.specs.Prelude.{IfSome, find, is_none, slice_index_or, unwrap_or}
 use Rattle.std.specs.List.{AllByRecursion}
 use Rattle.std.specs.Option.{option_map_or}
+use Rattle.std.proofs.lemmas.List.Elements.{filter_agree}
 use Rattle.std.proofs.lemmas.Bool.{ne_eqb}
 use Rattle.lvm_num.specs.Buffer.{Buffer}
 use Rattle.lvm_num.specs.declared.place.Pp.{Pp}
@@ -10,6 +11,8 @@ use Rattle.lvm_num.specs.declared.status.Status.{Status}
 use Rattle.lvm_num.specs.Disks.{has}
 use Rattle.lvm_num.specs.Status.{calls_stale}
 use Rattle.lvm_num.specs.Descriptor.{is_pp}
+use Rattle.lvm_num.proofs.Booleans.{not_so}
+use Rattle.lvm_num.proofs.Lists.{all_weaker}
 use Rattle.lvm_disk.specs.Device.{Flight}
 use Rattle.lvm_hold.specs.declared.queue.Held.{Held}
 use Rattle.lvm_hold.specs.declared.queue.Row.{Row}
@@ -32,12 +35,11 @@ use Rattle.lvm_session.specs.Left.{copy_left, copy_updates, is_brought_up, step_
 use Rattle.lvm_session.specs.Owners.{IsCopyStepOf, IsStepOf, flies}
 use Rattle.lvm_session.specs.Sound.{IsCopy, IsReadFrom, count_if, is_clearing, is_hand, rows_of, waiting_rows, with_row}
 use Rattle.lvm_keeps.proofs.DarkLemmas.Ending.{back, back_long}
-use Rattle.lvm_keeps.proofs.Lists.{all_on}
-use Rattle.lvm_keeps.proofs.Small.{both, is_false, not_so}
+use Rattle.lvm_keeps.proofs.Small.{both, is_false}
 use Rattle.lvm_keeps.proofs.RequestsLemmas.{copy_stepped, same_next}
 use Rattle.lvm_keeps_events.proofs.SoundLemmas.Over.{even_rows, none_filter, out_no_hand, without_step}
-use Rattle.lvm_keeps_events.proofs.Finding.{filter_alike}
-use Rattle.lvm_keeps_events.proofs.JudgingLemmas.Review.{Clears, WriteEnd, Reviewed, and_of, due, flies_is, its_copy, left_behind, mid, missing_is, not_wanted, now, pp_self, held_by, settled_on, stale_is, still_clear, to_be_cleared, uncleared, usable_is, wanted_on}
+use Rattle.lvm_keeps_events.proofs.JudgingLemmas.Review.{Clears, WriteEnd, Reviewed, and_of, due, flies_is, its_copy, left_behind, mid, missing_is, not_wanted, now, held_by, settled_on, stale_is, still_clear, to_be_cleared, uncleared, usable_is, wanted_on}
+use Rattle.lvm_keeps_events.proofs.JudgingLemmas.DuesMarks.{own_pp}
 
 -- it goes on as it is, or ends, which is an update less and less work
 abbrev pub Fewer : (e : WriteEnd) → Reviewed e → Type 0
@@ -126,7 +128,7 @@ module _ (e : WriteEnd) (status : Stored) (marks : WantsStale (due e) e.next sta
       by (Some c) is its = bring c is its
 
   sources_same : (c : OpenCopy) → sources_of after c ≡ sources_of (mid e) c
-  sources_same c = filter_alike (λ (p : Pp). not (is_pp p c.pp) && is_usable after p) (λ (p : Pp). not (is_pp p c.pp) && is_usable (mid e) p) (λ p. ap (λ b. not (is_pp p c.pp) && b) (usable_is e going_on p)) (copies_in core.descriptor c.lv c.lp)
+  sources_same c = filter_agree (λ (p : Pp). not (is_pp p c.pp) && is_usable after p) (λ (p : Pp). not (is_pp p c.pp) && is_usable (mid e) p) (λ p. ap (λ b. not (is_pp p c.pp) && b) (usable_is e going_on p)) (copies_in core.descriptor c.lv c.lp)
 
   cleared_by : (c : OpenCopy) → is_cleared after c ≡ true → is_cleared (mid e) c ≡ true
   cleared_by c is =
@@ -317,7 +319,7 @@ module _ (e : WriteEnd) (status : Stored) (marks : WantsStale (due e) e.next sta
           is_done : is_done_end how ≡ true
           is_done = done (is_done_end how)
               (sym (ap (λ m. marked_by_end (mid e) m p) ends ∙ ap (λ m. not (is_done_end how) && option_map_or (λ (y : OpenCopy). is_whole before y && is_pp p y.pp) m false) is
-              ∙ ap (λ b. not (is_done_end how) && (b && is_pp p c.pp)) whole ∙ ap (λ b. not (is_done_end how) && (true && b)) (ap (is_pp p) its_pp ∙ pp_self p)) ∙ none.2)
+              ∙ ap (λ b. not (is_done_end how) && (b && is_pp p c.pp)) whole ∙ ap (λ b. not (is_done_end how) && (true && b)) (ap (is_pp p) its_pp ∙ own_pp p)) ∙ none.2)
 
           cleared : is_cleared (mid e) c ≡ true
           cleared = done_cleared (mid e) c how its_end is_done
@@ -382,7 +384,7 @@ module _ (e : WriteEnd) (status : Stored) (marks : WantsStale (due e) e.next sta
   }
     where
       chosen_over : AllByRecursion (IsChosenSince before c) before.requests → AllByRecursion (IsChosenSince then_on ended) before.requests
-      chosen_over all = all_on (IsChosenSince before c) (IsChosenSince then_on ended) (λ x one. one) before.requests all
+      chosen_over all = all_weaker (IsChosenSince before c) (IsChosenSince then_on ended) (λ x one. one) before.requests all
 
 -- ---- one or the other
 

@@ -3,6 +3,8 @@ use Rattle.std.proofs.Common.{◌≡◌, ◌<◌, ◌^◌, ℕ, ◌+◌, Bool, t
 use Rattle.std.specs.Prelude.{IfSome, count_by, slice_index_or}
 use Rattle.std.specs.List.{remove, AllByRecursion}
 use Rattle.lvm_num.specs.declared.place.Pp.{Pp}
+use Rattle.lvm_num.proofs.Booleans.{not_so}
+use Rattle.lvm_num.proofs.Lists.{all_weaker}
 use Rattle.lvm_disk.specs.Device.{Device, Media}
 use Rattle.lvm_hold.specs.declared.queue.Row.{Row}
 use Rattle.lvm_session.specs.declared.bringing.CopyEnd.{CopyEnd}
@@ -23,9 +25,7 @@ use Rattle.lvm_session.specs.Causes.{AreCaused, IsCaused, IsChosenSince, IsCause
 use Rattle.lvm_session.specs.Sound.{IsCopy, IsFitting, IsGoing, IsOn, IsSound, IsTold, count_if, is_clearing, out_with, waiting_rows, with_row}
 use Rattle.lvm_keeps.proofs.CausesLemmas.{copy_still, origin_still}
 use Rattle.lvm_keeps.proofs.SoundLemmas.Fitting.{still_fits}
-use Rattle.lvm_keeps.proofs.Lists.{all_on}
 use Rattle.lvm_keeps.proofs.OwnersLemmas.Rows.{rows_but_copy}
-use Rattle.lvm_keeps.proofs.Small.{not_so}
 use Rattle.lvm_keeps.proofs.RequestsLemmas.{changed}
 use Rattle.lvm_keeps.proofs.SoundLemmas.Whole.{sound_still, told_still}
 use Rattle.lvm_keeps_events.proofs.OwnersLemmas.Removal.{as_many, none_left, others, rows_left, tickets_left}
@@ -80,7 +80,7 @@ module _ (s : State) (sound : IsSound s) (on : s.core.power ≡ power.On) (c : O
       tickets = tickets_left core.flying at going.tickets;
       queue = queue;
       pinned = going.pinned;
-      requests = all_on (IsOpenOne core) (IsOpenOne now.core) one core.requests going.requests;
+      requests = all_weaker (IsOpenOne core) (IsOpenOne now.core) one core.requests going.requests;
       copy = bring;
       hands = λ n. let all = out n in omega (arith, all);
       behind = going.behind;
@@ -95,8 +95,8 @@ module _ (s : State) (sound : IsSound s) (on : s.core.power ≡ power.On) (c : O
       going = keeps_going;
       rows = rows_but_copy core now.core refl (λ who. same_owner row.owner who ≡ false) (λ other. not_so (sym other ∙ ap (λ who. same_owner who owner.Copy) own)) (remove core.flying at) (remove s.device.flights at) (others core going.owned at row there)
           (rows_left core core.flying s.device.flights at was.rows);
-      caused = all_on (AreCaused s.device core) (AreCaused device now.core) (λ x all waiting. all_on (IsCaused s.device core) (IsCaused device now.core) (λ t why. why) x.request.targets.items (all waiting)) core.requests was.caused;
-      chosen = all_on (IsChosenSince core c) (IsChosenSince now.core after) (λ x all. all) core.requests (subst (λ m. IfSome m (λ (k : OpenCopy). AllByRecursion (IsChosenSince core k) core.requests)) is was.chosen);
+      caused = all_weaker (AreCaused s.device core) (AreCaused device now.core) (λ x all waiting. all_weaker (IsCaused s.device core) (IsCaused device now.core) (λ t why. why) x.request.targets.items (all waiting)) core.requests was.caused;
+      chosen = all_weaker (IsChosenSince core c) (IsChosenSince now.core after) (λ x all. all) core.requests (subst (λ m. IfSome m (λ (k : OpenCopy). AllByRecursion (IsChosenSince core k) core.requests)) is was.chosen);
     }
 
     pub session_still : IsSound now

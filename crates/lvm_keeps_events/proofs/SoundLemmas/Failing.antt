@@ -6,6 +6,7 @@ use Rattle.std.specs.Option.{option_map_or}
 use Rattle.std.specs.Prelude.{IfSome, slice_index_or}
 use Rattle.lvm_num.specs.Buffer.{Buffer}
 use Rattle.lvm_num.specs.declared.place.Pp.{Pp}
+use Rattle.lvm_num.proofs.Booleans.{not_so}
 use Rattle.lvm_disk.specs.Device.{Flight}
 use Rattle.lvm_hold.specs.Conflicts.{conflicts}
 use Rattle.lvm_hold.specs.Waiting.{is_blocked, Waiting, without}
@@ -28,11 +29,10 @@ use Rattle.lvm_session.specs.Requests.{IsOpenOne}
 use Rattle.lvm_session.specs.Sound.{count_if, is_hand, IsCopy, IsGoing, IsReadFrom, rows_of, waiting_rows, with_row}
 use Rattle.lvm_keeps.proofs.DarkLemmas.Ending.{back, back_long}
 use Rattle.lvm_keeps.proofs.OwnersLemmas.Rows.{data_still, status_still}
-use Rattle.lvm_keeps.proofs.Small.{is_false, not_so}
+use Rattle.lvm_keeps.proofs.Small.{is_false}
 use Rattle.lvm_keeps.proofs.RequestsLemmas.{changed, open_on, copy_stepped, same_next}
 use Rattle.lvm_keeps_events.proofs.OwnersLemmas.Rows.{rows_each}
-use Rattle.lvm_keeps_events.proofs.SoundLemmas.Tables.{none_filter}
-use Rattle.lvm_keeps_events.proofs.SoundLemmas.Over.{even_rows, without_step}
+use Rattle.lvm_keeps_events.proofs.SoundLemmas.Over.{even_rows, without_step, none_filter}
 use Rattle.lvm_keeps_events.proofs.Lists.{or_false}
 
 -- ---- a core in which the copy, the hold queue and the pool have changed

@@ -12,6 +12,8 @@ use Rattle.lvm_num.specs.Buffer.{Buffer}
 use Rattle.lvm_num.specs.declared.place.Pp.{Pp}
 use Rattle.lvm_num.specs.Disks.{has}
 use Rattle.lvm_num.specs.Descriptor.{is_pp}
+use Rattle.lvm_num.proofs.Booleans.{not_so}
+use Rattle.lvm_num.proofs.Lists.{length_set}
 use Rattle.lvm_disk.specs.Device.{Device, Flight}
 use Rattle.lvm_session.specs.Dark.{hand_of_copy}
 use Rattle.lvm_session.specs.declared.bringing.OpenCopy.{OpenCopy}
@@ -31,8 +33,6 @@ use Rattle.lvm_session.specs.Owners.{flies}
 use Rattle.lvm_session.specs.Requests.{IsOpenOne}
 use Rattle.lvm_session.specs.Causes.{IsCausedAmong}
 use Rattle.lvm_session.specs.Sound.{IsCopy, IsGoing, IsSound, count_if, is_clearing, is_hand, waiting_rows, with_row}
-use Rattle.lvm_keeps.proofs.Lists.{length_set}
-use Rattle.lvm_keeps.proofs.Small.{not_so}
 use Rattle.lvm_keeps.proofs.RequestsLemmas.{changed, open_on, copy_stepped, same_next}
 use Rattle.lvm_keeps_events.proofs.SoundLemmas.CopyEnded.{session_still}
 use Rattle.lvm_keeps_events.proofs.OwnersLemmas.Removal.{given_back, others, was_out}

@@ -1,15 +1,14 @@
 -- The table of open requests, and its rows in the hold queue, as one request lands.
-use Rattle.std.proofs.Common.{◌≡◌, ◌==◌, ◌<◌, ℕ, zero, suc, Bool, true, false, ◌||◌, not, nat_lt, filter, List, [], ◌∷◌, Some, slice_get, slice_set, refl, sym, ◌∙◌, ap, subst, arith, if◌then◌else◌}
+use Rattle.std.proofs.Common.{◌≡◌, ◌==◌, ◌<◌, ℕ, zero, suc, Bool, true, false, ◌||◌, not, nat_lt, List, [], ◌∷◌, Some, slice_get, slice_set, refl, sym, ◌∙◌, ap, subst, arith, if◌then◌else◌}
 use Rattle.std.specs.List.{list_any, remove, AllByRecursion}
 use Rattle.std.proofs.lemmas.Bool.{eq-eqb, lt-ltb, ltb-true, ne_eqb}
+use Rattle.lvm_num.proofs.Lists.{all_weaker}
 use Rattle.lvm_hold.specs.declared.queue.Row.{Row}
 use Rattle.lvm_hold.specs.Waiting.{without}
 use Rattle.lvm_session.specs.declared.open.Open.{Open}
 use Rattle.lvm_session.specs.Judging.{held_of, is_waiting, place_of}
 use Rattle.lvm_session.specs.Dark.{IsAscending}
 use Rattle.lvm_session.specs.Sound.{waiting_rows, with_row}
-use Rattle.lvm_keeps.proofs.Lists.{all_on}
-use Rattle.lvm_keeps.proofs.Small.{not_so}
 
 -- ---- lists
 
@@ -37,15 +36,6 @@ module _ {A : Type 0} where
       by : (b : Bool) → (list_any t (slice_set xs k y) ≡ true → list_any t xs ≡ true) → b || list_any t (slice_set xs k y) ≡ true → b || list_any t xs ≡ true
       by true rest e = refl
       by false rest e = rest e
-
-  pub none_filter : (t u : A → Bool) (xs : List A) → list_any t xs ≡ false → list_any t (filter u xs) ≡ false
-  none_filter t u [] none = refl
-  none_filter t u (x ∷ xs) none = by (t x) (u x) refl (λ e. none_filter t u xs e) none
-    where
-      by : (a b : Bool) → t x ≡ a → (list_any t xs ≡ false → list_any t (filter u xs) ≡ false) → a || list_any t xs ≡ false → list_any t (if b then x ∷ filter u xs else filter u xs) ≡ false
-      by true b is rest e = not_so (sym e)
-      by false true is rest e = ap (λ c. c || list_any t (filter u xs)) is ∙ rest e
-      by false false is rest e = rest e
 
 -- of the others none passes
 pub only_set : (t : Open → Bool) (os : List Open) (k : ℕ) (o y : Open) → slice_get os k ≡ Some o → AllByRecursion (λ (x : Open). x.request.id ≡ o.request.id → ⊥) (remove os k)
@@ -149,7 +139,7 @@ step_stays step n (row ∷ rows) other all = by (nat_lt step.id row.id) (row.id 
 
         goes : (c : Bool) → with_row step (if not c then row ∷ without n rows else without n rows) ≡ step ∷ (if not c then row ∷ without n rows else without n rows)
         goes false = ap (λ d. if d then step ∷ row ∷ without n rows else row ∷ with_row step (without n rows)) before
-        goes true = first_of_later (without n rows) (kept_later step.id rows (all_on (λ (z : Row). row.id < z.id) (λ (z : Row). step.id < z.id) (λ z low. omega (arith, low, less)) rows all.0))
+        goes true = first_of_later (without n rows) (kept_later step.id rows (all_weaker (λ (z : Row). row.id < z.id) (λ (z : Row). step.id < z.id) (λ z low. omega (arith, low, less)) rows all.0))
     by false true before is rest = ap (λ c. if not c then row ∷ without n (with_row step rows) else without n (with_row step rows)) is ∙ rest
     by false false before is rest =
         ap (λ c. if not c then row ∷ without n (with_row step rows) else without n (with_row step rows)) is ∙ ap (λ (zs : List Row). row ∷ zs) rest

@@ -1,8 +1,8 @@
 -- Changes of data and of notes, under the same descriptors and statuses.
 use Rattle.std.proofs.Common.{◌≡◌, ◌⊎◌, inl, inr, ⊎_elim, ℕ, List, [], ◌∷◌, ◌++◌, Option, refl, sym, subst, ◌∙◌}
-use Rattle.std.specs.List.{AllByRecursion}
 use Rattle.lvm_disk.specs.passed.Names.{Pp, LvRow, Mode, Descriptor, Status, Sector, Disks, all_disks, Stamped, Noted}
 use Rattle.lvm_disk.specs.passed.NumDescriptorMode.{Active, Passive, Off}
+use Rattle.lvm_disk.proofs.passed.Names.{all_two}
 use Rattle.lvm_vol.specs.declared.entry.Vol.TheVariants.{Disk, Lv}
 use Rattle.lvm_vol.specs.Facts.{Fact, Cut}
 use Rattle.lvm_vol.specs.May.{Known, known, May, IsValue}
@@ -10,14 +10,6 @@ use Rattle.lvm_kept.specs.Contents.{Contents}
 use Rattle.lvm_kept.specs.Group.{descriptor_among, is_voter, has_quorum, status_among, Finds, IsFound, members_in, status_by, Reads, fresh_on, block_at, IsSome, HoldOne}
 use Rattle.lvm_kept.specs.Kept.{HasStatus, MayDiffer, IsBlockKept, BlocksKept, RawAgrees, IsAvailable, Kept}
 use Rattle.lvm_kept.specs.Changes.{Unchanged, Excused, BlocksChange, DataChangeKeeps, StayExcused, NoteChangeKeeps}
-
-pub map_all : {X : Type 0} (P Q R : X → Type 0) → ((x : X) → P x → Q x → R x) → (xs : List X) → AllByRecursion P xs → AllByRecursion Q xs → AllByRecursion R xs
-map_all P Q R f [] p q = tt
-map_all P Q R f (x ∷ xs) p q = (f x p.0 q.0, map_all P Q R f xs p.1 q.1)
-
-pub map_one : {X : Type 0} (P R : X → Type 0) → ((x : X) → P x → R x) → (xs : List X) → AllByRecursion P xs → AllByRecursion R xs
-map_one P R f [] p = tt
-map_one P R f (x ∷ xs) p = (f x p.0, map_one P R f xs p.1)
 
 -- other notes and other data under the same descriptors and statuses
 abbrev pub with : Contents → (ℕ → Option Noted) → (ℕ → ℕ → Sector) → Contents
@@ -115,9 +107,9 @@ module _ (old : Contents) (block : ℕ → ℕ → Sector) where
   block_kept : (mib : ℕ) (status : Option (Stamped Status)) (row : LvRow) (copies : List Pp) (k : Known) (b : ℕ)
       → Unchanged old written mib copies b ⊎ Excused old written mib status row copies k b → IsBlockKept old mib status row copies k b → IsBlockKept written mib status row copies k b
   block_kept mib status row copies k b (inl unchanged) kept = record {
-    allowed = map_all (λ p. block_at written mib p b ≡ block_at old mib p b) (λ p. IsValue k (block_at old mib p b)) (λ p. IsValue k (block_at written mib p b)) (λ p e h. subst (IsValue k) (sym e) h) copies unchanged kept.allowed;
+    allowed = all_two (λ p. block_at written mib p b ≡ block_at old mib p b) (λ p. IsValue k (block_at old mib p b)) (λ p. IsValue k (block_at written mib p b)) (λ p e h. subst (IsValue k) (sym e) h) copies unchanged kept.allowed;
     equal = ⊎_elim
-        (λ (one : HoldOne old mib copies b). inl (one.0, map_all (λ p. block_at written mib p b ≡ block_at old mib p b) (λ p. block_at old mib p b ≡ one.0) (λ p. block_at written mib p b ≡ one.0) (λ p e h. e ∙ h) copies unchanged one.1))
+        (λ (one : HoldOne old mib copies b). inl (one.0, all_two (λ p. block_at written mib p b ≡ block_at old mib p b) (λ p. block_at old mib p b ≡ one.0) (λ p. block_at written mib p b ≡ one.0) (λ p e h. e ∙ h) copies unchanged one.1))
         (λ (m : MayDiffer old status row.number row.mode copies k b). inr (differ status row.number row.mode copies k b m))
         kept.equal;
   }

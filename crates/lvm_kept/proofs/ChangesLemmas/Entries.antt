@@ -1,9 +1,11 @@
 -- What an entry changes of the agreement.
 use Rattle.std.proofs.Common.{◌≡◌, ◌⊎◌, inl, inr, ⊎_elim, ℕ, Bool, true, false, ◌&&◌, ◌||◌, List, [], ◌∷◌, ◌++◌, map, Option, Some, None, refl, sym, ap, subst, ◌∙◌}
 use Rattle.std.specs.Prelude.{IsTrue, if◌then◌else◌, ◌==◌, IsSomeAnd, is_some, find}
+use Rattle.std.proofs.lemmas.Option.{same_Some}
 use Rattle.std.proofs.lemmas.Bool.{eqb-true}
 use Rattle.lvm_disk.specs.passed.Names.{Pp, Mode, LvRow, Descriptor, Status, Sector, Disks, volume_of, Stamped, all_disks}
 use Rattle.lvm_disk.specs.passed.NumDescriptorMode.{Active, Passive, Off}
+use Rattle.lvm_disk.proofs.passed.Names.{all_weaker}
 use Rattle.lvm_vol.specs.declared.entry.Vol.{Vol}
 use Rattle.lvm_vol.specs.declared.entry.Vol.TheVariants.{Disk, Lv}
 use Rattle.lvm_vol.specs.Facts.{Request, Fact, Begun, Cut, Stands, is_over, block_of}
@@ -15,8 +17,7 @@ use Rattle.lvm_kept.specs.Group.{status_among, Finds, members_in, ReadsBy, block
 use Rattle.lvm_kept.specs.Kept.{StandsAs, MayDiffer, IsBlockKept, BlocksKept, VolumesAgree, IsSettledIn, IsAvailable, Kept}
 use Rattle.lvm_kept.specs.Changes.{OnlyAllowsMore, BlocksStayKept, MoreIsKept, IsFoundByAll, MayStand, EntryKeeps, BeginningAllowsMore, MayBegin, BeginningStands}
 use Rattle.lvm_kept.proofs.MayLemmas.{cut_adds_more, one_more}
-use Rattle.lvm_kept.proofs.ChangesLemmas.Changing.{map_one}
-use Rattle.lvm_kept.proofs.CommittedLemmas.Finding.{some_same, finding_reads}
+use Rattle.lvm_kept.proofs.CommittedLemmas.Finding.{finding_reads}
 
 module _ (c : Contents) (facts : List Fact) (f : Fact) (more : OnlyAllowsMore facts f) where
   abbrev earlier : ℕ → ℕ → Known
@@ -32,7 +33,7 @@ module _ (c : Contents) (facts : List Fact) (f : Fact) (more : OnlyAllowsMore fa
 
   block_more : (mib : ℕ) (status : Option (Stamped Status)) (row : LvRow) (copies : List Pp) (b : ℕ) → IsBlockKept c mib status row copies (earlier row.number b) b → IsBlockKept c mib status row copies (now row.number b) b
   block_more mib status row copies b kept = record {
-    allowed = map_one (λ p. IsValue (earlier row.number b) (block_at c mib p b)) (λ p. IsValue (now row.number b) (block_at c mib p b)) (λ p v. more.may row.number b (block_at c mib p b) v) copies kept.allowed;
+    allowed = all_weaker (λ p. IsValue (earlier row.number b) (block_at c mib p b)) (λ p. IsValue (now row.number b) (block_at c mib p b)) (λ p v. more.may row.number b (block_at c mib p b) v) copies kept.allowed;
     equal = ⊎_elim (λ one. inl one) (λ (m : MayDiffer c status row.number row.mode copies (earlier row.number b) b). inr (differ_more status row.number row.mode copies b m)) kept.equal;
   }
 
@@ -54,7 +55,7 @@ found_is_row p [] row e = absurd cc
 found_is_row p (r ∷ rows) row e = by_test (p r) (found_is_row p rows row) e
   where
     by_test : (t : Bool) → (find p rows ≡ Some row → IsOneOf rows row) → (if t then Some r else find p rows) ≡ Some row → IsOneOf (r ∷ rows) row
-    by_test true rest is = inl (sym (some_same r row is))
+    by_test true rest is = inl (sym (same_Some r row is))
     by_test false rest is = inr (rest is)
 
 pub volume_is_row : (group : Descriptor) (lv : ℕ) (row : LvRow) → volume_of group lv ≡ Some row → IsOneOf group.lvs row

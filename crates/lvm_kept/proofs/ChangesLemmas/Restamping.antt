@@ -2,11 +2,12 @@
 use Rattle.std.proofs.Common.{◌≡◌, ◌⊎◌, inl, inr, ⊎_elim, ℕ, ◌<◌, Bool, true, false, ◌&&◌, List, [], ◌∷◌, ◌++◌, Option, Some, None, refl, sym, ap, subst, ◌∙◌, arith}
 use Rattle.std.specs.Prelude.{IsTrue, ◌==◌, not, if◌then◌else◌, filter}
 use Rattle.std.specs.List.{AllByRecursion}
+use Rattle.std.proofs.lemmas.Option.{same_Some}
 use Rattle.std.proofs.lemmas.Bool.{eqb-true, and_parts, and_from}
 use Rattle.std.proofs.lemmas.Bool.Decides.{nat_tests}
 use Rattle.lvm_disk.specs.passed.Names.{Stamp, Pp, Mode, LvRow, Descriptor, Status, Disks, track_group_of, copies_of, all_disks, votes_in, CanRead, Stamped, stamp_lt, newest_below}
 use Rattle.lvm_disk.specs.passed.NumDescriptorMode.{Active, Passive, Off}
-use Rattle.lvm_disk.proofs.passed.Names.{more_have_more, more_is_enough, is_one, is_last}
+use Rattle.lvm_disk.proofs.passed.Names.{more_have_more, more_is_enough, is_one, is_last, without_first}
 use Rattle.lvm_vol.specs.declared.entry.Vol.TheVariants.{Lv}
 use Rattle.lvm_vol.specs.Facts.{Fact, Cut}
 use Rattle.lvm_vol.specs.May.{Known, known, IsValue}
@@ -15,17 +16,12 @@ use Rattle.lvm_kept.specs.Group.{IsOneOf, if_passes, passes, is_of, is_status_of
 use Rattle.lvm_kept.specs.Kept.{HasStatus, MayDiffer, BlocksKept, IsSettledIn, IsAvailable, Kept}
 use Rattle.lvm_kept.specs.Committed.{IsWithinDisks}
 use Rattle.lvm_kept.specs.Changes.{RestampingKeeps}
-use Rattle.lvm_kept.proofs.CommittedLemmas.Finding.{some_same, offered, is_offered, offers, finding_reads, finds_from}
+use Rattle.lvm_kept.proofs.CommittedLemmas.Finding.{offered, is_offered, offers, finding_reads, finds_from}
 use Rattle.lvm_kept.proofs.ChangesLemmas.Entries.{volume_is_row}
 use Rattle.lvm_kept.proofs.CommittedLemmas.Alike.{like_found, alike_stays}
 use Rattle.lvm_kept.proofs.KeptLemmas.{same_blocks}
 
 -- ---- fewer disks
-
--- a member in a set is one among all disks
-among_all : (in_set own room : Bool) → in_set && own && room ≡ true → true && own && room ≡ true
-among_all true own room e = e
-among_all false own room e = absurd cc
 
 -- what holds of all that pass one test holds of all that pass another one which is narrower on them
 pub narrower_on : {X : Type 0} (P : X → Type 0) (p q : X → Bool) (xs : List X) → ((x : X) → IsOneOf xs x → q x ≡ true → p x ≡ true) → AllByRecursion P (filter p xs) → AllByRecursion P (filter q xs)
@@ -100,7 +96,7 @@ module _ (old : Contents) (descriptor : ℕ → Option (Stamped Descriptor)) (ne
     no_next : (e : ℕ) → IsTrue (disks e) → descriptor e ≡ Some next → e < old.disks → next.value.id ≡ id → ⊥
     no_next e in_set is lt same =
         let last = is_last Descriptor (offered (is_of id) descriptor disks) old.disks e next lt (offers (is_of id) descriptor disks e next in_set is (Rattle.std.proofs.Common.eq-eqb next.value.id id same)) in
-        let it : last.0 ≡ m = some_same last.0 m (sym last.1 ∙ newest) in
+        let it : last.0 ≡ m = same_Some last.0 m (sym last.1 ∙ newest) in
         let low : stamp_lt m.stamp next.stamp ≡ true = later d m stood (its ∙ sym same) in
         never (stamp_lt m.stamp next.stamp) low (ap (λ (x : Stamped Descriptor). stamp_lt x.stamp next.stamp) (sym it) ∙ last.2)
       where
@@ -141,7 +137,7 @@ module _ (old : Contents) (descriptor : ℕ → Option (Stamped Descriptor)) (ne
       let its : m.value.id ≡ id = eqb-true m.value.id id from.1 in
       ⊎_elim
       (λ same. inr (newest_before disks id m newest one.0 (sym same ∙ from.0) its))
-      (λ is. let it : m ≡ next = some_same m next (sym from.0 ∙ is.0) in inl (it, ap (λ (x : Stamped Descriptor). x.value.id) (sym it) ∙ its))
+      (λ is. let it : m ≡ next = same_Some m next (sym from.0 ∙ is.0) in inl (it, ap (λ (x : Stamped Descriptor). x.value.id) (sym it) ∙ its))
       (own one.0)
 
   -- what is found was found
@@ -174,7 +170,7 @@ module _ (old : Contents) (descriptor : ℕ → Option (Stamped Descriptor)) (ne
       let from = is_offered (is_of id) old.descriptor all_disks one.0 f.newest one.2 in
       ⊎_elim
       (λ same. from_offer one.0 f.newest one.1 (same ∙ from.0) from.1)
-      (λ is. from_offer one.0 next one.1 is.0 (ap (λ (n : ℕ). n == id) (sym is.1.2 ∙ ap (λ (x : Stamped Descriptor). x.value.id) (some_same is.1.0 f.newest (sym is.1.1 ∙ from.0))) ∙ from.1))
+      (λ is. from_offer one.0 next one.1 is.0 (ap (λ (n : ℕ). n == id) (sym is.1.2 ∙ ap (λ (x : Stamped Descriptor). x.value.id) (same_Some is.1.0 f.newest (sym is.1.1 ∙ from.0))) ∙ from.1))
       (own one.0)
     where
       -- any disk that shows the group has a newest one among all
@@ -184,7 +180,7 @@ module _ (old : Contents) (descriptor : ℕ → Option (Stamped Descriptor)) (ne
           let m : Stamped Descriptor = last.0 in
           ⊎_elim
           (λ is_next. by_found m last.1 (subst (λ (x : Stamped Descriptor). IsFound old id x.value) (sym is_next.0) (subst (λ (n : ℕ). IsFound old n next.value) is_next.1 found)))
-          (λ was. by_found m last.1 (subst (λ (x : Stamped Descriptor). IsFound old id x.value) (some_same f.newest m (sym f.found ∙ was)) (subst (λ (h : Descriptor). IsFound old id h) (sym f.is) (all_disks, f))))
+          (λ was. by_found m last.1 (subst (λ (x : Stamped Descriptor). IsFound old id x.value) (same_Some f.newest m (sym f.found ∙ was)) (subst (λ (h : Descriptor). IsFound old id h) (sym f.is) (all_disks, f))))
           (old_or_next all_disks id m last.1)
         where
           -- what some disks can read all can
@@ -194,7 +190,7 @@ module _ (old : Contents) (descriptor : ℕ → Option (Stamped Descriptor)) (ne
               let few : CanRead m.value (members_in old was.0 id m.value) = reads.reads.enough in
               let all : CanRead m.value (members_in old all_disks id m.value) =
               more_is_enough.read m.value (votes_in m.value (members_in old was.0 id m.value)) (votes_in m.value (members_in old all_disks id m.value))
-              (more_have_more m.value (members_in old was.0 id m.value) (members_in old all_disks id m.value) (λ e member i. among_all (was.0 e) (passes (is_of id) (old.descriptor e)) (has_room old e m.value) i)) few in
+              (more_have_more m.value (members_in old was.0 id m.value) (members_in old all_disks id m.value) (λ e member i. without_first (was.0 e) (passes (is_of id) (old.descriptor e)) (has_room old e m.value) i)) few in
               record {
                 group = m.value;
                 by_all = finds_from new all_disks id m newest (subst (λ (v : Disks). CanRead m.value v) (sym (members_same all_disks id m.value)) all);
@@ -219,7 +215,7 @@ module _ (old : Contents) (descriptor : ℕ → Option (Stamped Descriptor)) (ne
 
     copies : (disks : Disks) (id : ℕ) (k : Descriptor) → Finds new disks id k → BlocksKept new facts k (is_voter new disks id) (status_among new disks id)
     copies disks id k f = finding disks id k f (λ v s. BlocksKept new facts k v s)
-        (fewer_blocks new (members_in new disks id k) (members_in new all_disks id k) (λ d i. among_all (disks d) (passes (is_of id) (descriptor d)) (has_room new d k) i) facts k (status_by new disks id k)
+        (fewer_blocks new (members_in new disks id k) (members_in new all_disks id k) (λ d i. without_first (disks d) (passes (is_of id) (descriptor d)) (has_room new d k) i) facts k (status_by new disks id k)
         (across disks id k k (finding_reads new disks id k f).reads (disks, f)))
 
     available : (lv : ℕ) → IsSettledIn facts lv → IsAvailable new facts
@@ -240,12 +236,12 @@ module _ (old : Contents) (descriptor : ℕ → Option (Stamped Descriptor)) (ne
     one_of d e r s is also ids stamps = ⊎_elim
         (λ old_r. ⊎_elim
         (λ old_s. kept.lasting.descriptors d e r s (sym old_r ∙ is) (sym old_s ∙ also) ids stamps)
-        (λ new_s. let same : s ≡ next = some_same s next (sym also ∙ new_s.0) in
+        (λ new_s. let same : s ≡ next = same_Some s next (sym also ∙ new_s.0) in
         absurd (clash d r (sym old_r ∙ is) (ids ∙ ap (λ (x : Stamped Descriptor). x.value.id) same) (stamps ∙ ap (λ (x : Stamped Descriptor). x.stamp) same)))
         (own e))
-        (λ new_r. let same : r ≡ next = some_same r next (sym is ∙ new_r.0) in ⊎_elim
+        (λ new_r. let same : r ≡ next = same_Some r next (sym is ∙ new_r.0) in ⊎_elim
         (λ old_s. absurd (clash e s (sym old_s ∙ also) (sym ids ∙ ap (λ (x : Stamped Descriptor). x.value.id) same) (sym stamps ∙ ap (λ (x : Stamped Descriptor). x.stamp) same)))
-        (λ new_s. same ∙ sym (some_same s next (sym also ∙ new_s.0)))
+        (λ new_s. same ∙ sym (same_Some s next (sym also ∙ new_s.0)))
         (own e))
         (own d)
       where

@@ -1,12 +1,13 @@
 -- Changes of statuses, under the same descriptors.
 use Rattle.std.proofs.Common.{◌≡◌, ◌⊎◌, ⊎_elim, ℕ, ◌<◌, List, [], ◌∷◌, Option, Some, refl, sym, ap, subst, ◌∙◌}
+use Rattle.std.proofs.lemmas.Option.{same_Some}
 use Rattle.lvm_disk.specs.passed.Names.{LvRow, Descriptor, Status, Disks, all_disks, Stamped}
 use Rattle.lvm_vol.specs.Facts.{Fact}
 use Rattle.lvm_kept.specs.Contents.{Contents}
 use Rattle.lvm_kept.specs.Group.{descriptor_among, is_voter, has_quorum, status_among, Finds, IsFound, members_in, status_by, Reads, ReadsBy, fresh_on, IsOneOf, IsSome}
 use Rattle.lvm_kept.specs.Kept.{HasStatus, BlocksKept, IsSettledIn, IsAvailable, Kept}
 use Rattle.lvm_kept.specs.Changes.{Serves, HasNoVolume, StatusChangeKeeps}
-use Rattle.lvm_kept.proofs.CommittedLemmas.Finding.{some_same, finding_reads}
+use Rattle.lvm_kept.proofs.CommittedLemmas.Finding.{finding_reads}
 use Rattle.lvm_kept.proofs.ChangesLemmas.Entries.{volume_is_row}
 use Rattle.lvm_kept.proofs.KeptLemmas.{same_blocks}
 
@@ -118,12 +119,12 @@ module _ (old : Contents) (status : ℕ → Option (Stamped Status)) where
     one_of d e r s is also ids stamps = ⊎_elim
         (λ old_r. ⊎_elim
         (λ old_s. kept.lasting.statuses d e r s (sym old_r ∙ is) (sym old_s ∙ also) ids stamps)
-        (λ new_s. let same : s ≡ next = some_same s next (sym also ∙ new_s) in
+        (λ new_s. let same : s ≡ next = same_Some s next (sym also ∙ new_s) in
         stamp d r (sym old_r ∙ is) (ids ∙ ap (λ (x : Stamped Status). x.value.id) same) (stamps ∙ ap (λ (x : Stamped Status). x.stamp) same) ∙ sym same)
         (own e))
-        (λ new_r. let same : r ≡ next = some_same r next (sym is ∙ new_r) in ⊎_elim
+        (λ new_r. let same : r ≡ next = same_Some r next (sym is ∙ new_r) in ⊎_elim
         (λ old_s. same ∙ sym (stamp e s (sym old_s ∙ also) (sym ids ∙ ap (λ (x : Stamped Status). x.value.id) same) (sym stamps ∙ ap (λ (x : Stamped Status). x.stamp) same)))
-        (λ new_s. same ∙ sym (some_same s next (sym also ∙ new_s)))
+        (λ new_s. same ∙ sym (same_Some s next (sym also ∙ new_s)))
         (own e))
         (own d)
 

@@ -1,13 +1,14 @@
 -- Descriptors of one group: what some disks find all disks find.
-use Rattle.std.proofs.Common.{◌≡◌, ⊎_elim, ℕ, Bool, true, false, ◌&&◌, [], Option, None, Some, refl, sym, ap, subst, ◌∙◌, eq-eqb}
+use Rattle.std.proofs.Common.{◌≡◌, ⊎_elim, ℕ, Bool, true, ◌&&◌, [], Option, None, Some, refl, sym, ap, subst, ◌∙◌, eq-eqb}
 use Rattle.std.specs.Prelude.{IsTrue}
+use Rattle.std.proofs.lemmas.Option.{same_Some}
 use Rattle.std.proofs.lemmas.Bool.{eqb-true}
 use Rattle.lvm_disk.specs.passed.Names.{Descriptor, Disks, is_member, all_disks, votes_in, is_enough_to_read, CanRead, Stamped}
-use Rattle.lvm_disk.proofs.passed.Names.{is_one, is_last, more_have_more, more_is_enough}
+use Rattle.lvm_disk.proofs.passed.Names.{is_one, is_last, more_have_more, more_is_enough, without_first}
 use Rattle.lvm_kept.specs.Contents.{Contents}
 use Rattle.lvm_kept.specs.Group.{passes, is_of, has_room, descriptor_among, is_voter, has_quorum, IsFound, members_in, IsAlike, AreAlike}
 use Rattle.lvm_kept.specs.Committed.{SameVotes, IsWithinDisks, FoundByAll, OneByAllIsOnly, OneShownIsOne, AlikeStays}
-use Rattle.lvm_kept.proofs.CommittedLemmas.Finding.{offered, offers, is_offered, some_same, enough-too, finding_reads, finds_from}
+use Rattle.lvm_kept.proofs.CommittedLemmas.Finding.{offered, offers, is_offered, enough-too, finding_reads, finds_from}
 
 -- ---- groups that differ in their volumes alone
 
@@ -44,10 +45,6 @@ newest_of_all c id d r within shows own =
     let last = is_last Descriptor (offered (is_of id) c.descriptor all_disks) c.disks d r (within.descriptors d r shows) (offers (is_of id) c.descriptor all_disks d r refl shows own) in
     (last.0, last.1)
 
-among_all : (in_set own room : Bool) → in_set && own && room ≡ true → true && own && room ≡ true
-among_all true own room e = e
-among_all false own room e = absurd cc
-
 pub found_by_all : FoundByAll
 found_by_all c disks id g within alike f =
     let shown = shown_by c disks id f.newest f.found in
@@ -57,7 +54,7 @@ found_by_all c disks id g within alike f =
     let like : IsAlike m.value g = like_found c alike id g (disks, f) there.0 m there.1 there.2 in
     let enough : CanRead m.value (members_in c disks id g) = enough-too m.value g (members_in c disks id g) (same_votes m.value g like) ∙ (finding_reads c disks id g f).reads.enough in
     let more : (d : ℕ) → IsTrue (is_member m.value d) → IsTrue (members_in c disks id g d) → IsTrue (members_in c all_disks id m.value d)
-    = λ d member is. ap (λ (room : Bool). true && passes (is_of id) (c.descriptor d) && room) (same_room c d m.value g like) ∙ among_all (disks d) (passes (is_of id) (c.descriptor d)) (has_room c d g) is in
+    = λ d member is. ap (λ (room : Bool). true && passes (is_of id) (c.descriptor d) && room) (same_room c d m.value g like) ∙ without_first (disks d) (passes (is_of id) (c.descriptor d)) (has_room c d g) is in
     let can : CanRead m.value (members_in c all_disks id m.value)
     = more_is_enough.read m.value (votes_in m.value (members_in c disks id g)) (votes_in m.value (members_in c all_disks id m.value)) (more_have_more m.value (members_in c disks id g) (members_in c all_disks id m.value) more) enough in
     (finds_from c all_disks id m all.1 can).quorum
@@ -88,16 +85,16 @@ alike_stays old new next writes like alike d e r s is_r is_s same = ⊎_elim
     (λ (r_old : new.descriptor d ≡ old.descriptor d). ⊎_elim
     (λ (s_old : new.descriptor e ≡ old.descriptor e). alike d e r s (sym r_old ∙ is_r) (sym s_old ∙ is_s) same)
     (λ (s_new : new.descriptor e ≡ Some next).
-    let s_is : next ≡ s = some_same next s (sym s_new ∙ is_s) in
+    let s_is : next ≡ s = same_Some next s (sym s_new ∙ is_s) in
     subst (λ (x : Stamped Descriptor). IsAlike r.value x.value) s_is (like d r (sym r_old ∙ is_r) (same ∙ sym (ap (λ (x : Stamped Descriptor). x.value.id) s_is))))
     (writes e))
     (λ (r_new : new.descriptor d ≡ Some next).
-    let r_is : next ≡ r = some_same next r (sym r_new ∙ is_r) in
+    let r_is : next ≡ r = same_Some next r (sym r_new ∙ is_r) in
     ⊎_elim
     (λ (s_old : new.descriptor e ≡ old.descriptor e).
     subst (λ (x : Stamped Descriptor). IsAlike x.value s.value) r_is (sym (like e s (sym s_old ∙ is_s) (sym same ∙ sym (ap (λ (x : Stamped Descriptor). x.value.id) r_is)))))
     (λ (s_new : new.descriptor e ≡ Some next).
-    let s_is : next ≡ s = some_same next s (sym s_new ∙ is_s) in
+    let s_is : next ≡ s = same_Some next s (sym s_new ∙ is_s) in
     ap (λ (x : Stamped Descriptor). record x.value { lvs = [] }) (sym r_is ∙ s_is))
     (writes e))
     (writes d)

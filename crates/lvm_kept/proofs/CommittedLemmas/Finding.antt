@@ -1,10 +1,11 @@
 -- What quorums find of a record that some disks have.
 use Rattle.std.proofs.Common.{◌≡◌, ◌⊎◌, inl, inr, ⊎_elim, ℕ, ◌*◌, ◌<◌, Bool, true, false, ◌&&◌, List, Option, Some, None, refl, sym, ap, subst, ◌∙◌, arith}
 use Rattle.std.specs.Prelude.{IsTrue, if◌then◌else◌, nat_lt, nat_le, sum_by, Result}
+use Rattle.std.proofs.lemmas.Option.{same_Some}
 use Rattle.std.proofs.lemmas.Bool.{ltb-true}
 use Rattle.std.proofs.lemmas.Bool.Decides.{nat_tests}
 use Rattle.lvm_disk.specs.passed.Names.{Stamp, Kind, PvRow, Descriptor, Status, Disks, data_start, descriptor_of, status_of, votes_by, votes_in, all_disks, is_enough_to_read, CanRead, Stamped, stamp_lt, newest_below}
-use Rattle.lvm_disk.proofs.passed.Names.{read_meets_write, read_meets_read, is_one, is_last, first_holds}
+use Rattle.lvm_disk.proofs.passed.Names.{read_meets_write, read_meets_read, is_one, is_last, first_holds, let_through, passed_if}
 use Rattle.lvm_rec.specs.Slots.{newest_on}
 use Rattle.lvm_disk.specs.Device.{Image}
 use Rattle.lvm_kept.specs.Contents.{has_records, newest_at, descriptor_on, status_on, Contents}
@@ -13,29 +14,16 @@ use Rattle.lvm_kept.specs.Committed.{SameVotes, Stands, ImagesAreWithin, QuorumM
 
 -- ---- records behind tests
 
--- a value behind a test: the test passed
-pub passed : {X : Type 0} (test : Bool) (o : Option X) (r : X) → (if test then o else None) ≡ Some r → (test ≡ true) × (o ≡ Some r)
-passed true o r e = (refl, e)
-passed false o r e = absurd cc
-
-let_through : {X : Type 0} (test : Bool) (o : Option X) → test ≡ true → (if test then o else None) ≡ o
-let_through true o e = refl
-let_through false o e = absurd cc
-
 kept_is : {X : Type 0} (test : X → Bool) (o : Option (Stamped X)) (r : Stamped X) → if_passes test o ≡ Some r → (o ≡ Some r) × (test r.value ≡ true)
 kept_is test None r e = absurd cc
 kept_is test (Some x) r e =
-    let p = passed (test x.value) (Some x) r e in
+    let p = passed_if (test x.value) (Some x) r e in
     let same : x ≡ r = cc in
     (p.1, subst (λ (y : _). test y.value ≡ true) same p.0)
 
 unwrap_or_else : {X : Type 0} → X → Option X → X
 unwrap_or_else x None = x
 unwrap_or_else x (Some y) = y
-
-pub some_same : {X : Type 0} (a b : X) → Some a ≡ Some b → a ≡ b
-unfolding unwrap_or_else
-some_same a b e = ap (unwrap_or_else a) e
 
 -- what a disk of a set offers, to those who look for records that pass
 abbrev pub offered : {X : Type 0} → (X → Bool) → (ℕ → Option (Stamped X)) → Disks → ℕ → Option (Stamped X)
@@ -45,7 +33,7 @@ pub offers : {X : Type 0} (of : X → Bool) (on : ℕ → Option (Stamped X)) (s
 offers of on set d r in_set is own = let_through (set d) (if_passes of (on d)) in_set ∙ ap (if_passes of) is ∙ let_through (of r.value) (Some r) own
 
 pub is_offered : {X : Type 0} (of : X → Bool) (on : ℕ → Option (Stamped X)) (set : Disks) (d : ℕ) (r : Stamped X) → offered of on set d ≡ Some r → (on d ≡ Some r) × IsTrue (of r.value)
-is_offered of on set d r e = kept_is of (on d) r (passed (set d) (if_passes of (on d)) r e).1
+is_offered of on set d r e = kept_is of (on d) r (passed_if (set d) (if_passes of (on d)) r e).1
 
 -- ---- stamps
 
@@ -93,7 +81,7 @@ next_is_written X of old new set targets now next stands change own later = reco
   have = λ d i. ⊎_elim (λ same. inl (same ∙ ⊎_elim (λ h. h) (λ h. h) (stands.have d i))) (λ is. inr is.1) (change d);
   newest = λ d r is its. ⊎_elim
       (λ same. ⊎_elim (λ low. inl low) (λ h. inr (inl (⊎_elim (λ e. e) (λ e. e) h))) (stands.newest d r (sym same ∙ is) its))
-      (λ (e : IsTrue (targets d) × (new d ≡ Some next)). inr (inr (some_same r next (sym is ∙ e.1))))
+      (λ (e : IsTrue (targets d) × (new d ≡ Some next)). inr (inr (same_Some r next (sym is ∙ e.1))))
       (change d);
 }
 
@@ -145,8 +133,8 @@ finds_status c id set now next within stands disks g f meets =
 pub finds_descriptor : QuorumFindsDescriptor
 unfolding descriptor_among
 finds_descriptor c id set now next within stands disks g f meets = ⊎_elim
-    (λ e. inl (sym f.is ∙ ap (λ (r : Stamped Descriptor). r.value) (some_same f.newest now (sym f.found ∙ e))))
-    (λ e. inr (sym f.is ∙ ap (λ (r : Stamped Descriptor). r.value) (some_same f.newest next (sym f.found ∙ e))))
+    (λ e. inl (sym f.is ∙ ap (λ (r : Stamped Descriptor). r.value) (same_Some f.newest now (sym f.found ∙ e))))
+    (λ e. inr (sym f.is ∙ ap (λ (r : Stamped Descriptor). r.value) (same_Some f.newest next (sym f.found ∙ e))))
     (newest_among Descriptor (is_of id) c.descriptor disks set c.disks now next stands meets.0 (voter_in c disks id meets.0 meets.1) meets.2 within.descriptors)
 
 pub meets_writers : QuorumMeetsWriters
@@ -196,7 +184,7 @@ finding_reads c disks id g f =
 -- ---- images
 
 here : {X : Type 0} (content_of : List ℕ → Result X ℕ) (kind : Kind) (image : Image) (d : ℕ) (r : Stamped X) → newest_at content_of kind image d ≡ Some r → d < image.disks
-here content_of kind image d r e = ltb-true d image.disks (first_holds (nat_lt d image.disks) (nat_le data_start (image.size d)) (passed (has_records image d) (newest_on content_of kind (image.sector d)) r e).0)
+here content_of kind image d r e = ltb-true d image.disks (first_holds (nat_lt d image.disks) (nat_le data_start (image.size d)) (passed_if (has_records image d) (newest_on content_of kind (image.sector d)) r e).0)
 
 pub images_within : ImagesAreWithin
 unfolding descriptor_on status_on

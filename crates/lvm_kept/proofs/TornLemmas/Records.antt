@@ -1,6 +1,7 @@
 -- A record that is being written to some disks, whatever else is.
 use Rattle.std.proofs.Common.{◌≡◌, ◌⊎◌, inl, inr, ⊎_elim, ℕ, ◌+◌, ◌-◌, ◌<◌, ◌≤◌, Bool, true, false, ◌&&◌, List, length, take, Option, Some, None, Result, refl, sym, ap, subst, ◌∙◌, arith}
 use Rattle.std.specs.Prelude.{IsTrue, IsFalse, nat_le, nat_lt, if◌then◌else◌}
+use Rattle.std.proofs.lemmas.Bool.{cases_Bool}
 use Rattle.std.proofs.lemmas.Bool.Decides.{nat_tests}
 use Rattle.lvm_disk.specs.passed.Names.{Stamp, Kind, Descriptor, Status, Sector, data_start, descriptor_of, status_of, Frames, Stamped, frame, record_sectors, slot_start, slot_size, stamp_lt, Sectors, AllBefore, stamp_of}
 use Rattle.lvm_disk.specs.passed.NumRecordKind as kind
@@ -43,10 +44,6 @@ slot-from kind.Status slot k = omega arith
 slot-to : (kind : Kind) (slot k : ℕ) → slot < 2 → k < slot_size kind → slot_start kind slot + k < slot_start kind 1 + slot_size kind
 slot-to kind.Descriptor slot k two lt = omega arith
 slot-to kind.Status slot k two lt = omega arith
-
-pub is_or_not : (b : Bool) → IsTrue b ⊎ IsFalse b
-is_or_not true = inl refl
-is_or_not false = inr refl
 
 -- what a plan brings to the place of a part of the record is that part
 pub part_is : (w : RecordWrite) (d part : ℕ) (value : Sector) → Frames w.kind w.framed → w.slots d < 2 → part < record_sectors (length w.framed.content)
@@ -121,7 +118,7 @@ pub newest_is : (X : Type 0) → NewestIsOldOrNew X
 newest_is X content_of w x old new d may by = ⊎_elim
     (λ (t : IsTrue (w.targets d)). on_target w old new by d X content_of x may t)
     (λ (f : IsFalse (w.targets d)). inl (stays w old new by d content_of f))
-    (is_or_not (w.targets d))
+    (cases_Bool (w.targets d))
 
 pub whole_is_new : (X : Type 0) → WholeIsNew X
 whole_is_new X content_of w x old new d may by t stands = whole w old new by d X content_of x may t stands

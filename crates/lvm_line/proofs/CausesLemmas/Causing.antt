@@ -16,35 +16,26 @@ use Rattle.lvm_raw.specs.Keeping.{FaultRose}
 use Rattle.lvm_raw.specs.Raw.{log_with as log_of}
 use Rattle.lvm_kept.specs.Moments.{Moment}
 use Rattle.lvm_steps.specs.Requests.{at as moment_of}
-use Rattle.lvm_copy_lines.specs.passed.Quiesce.{AskedAtRest, KeptFrom, RangeOnceQuiet, RangeStaysOut, ReadOnceQuiet, ReadsAtRest, WriteOnceQuiet}
-use Rattle.lvm_copy_lines.specs.passed.Quiesce.{WritesAtRest, RejectedAtOnce as RejectedAtOnceRange, Quiesces, CauseRose, IsFullFor, MkvgOnceQuiet}
-use Rattle.lvm_copy_lines.specs.passed.Quiesce.{RefusedAtOnce, StayedOut, StaysOut, VaryonOnceQuiet, WentQuiet}
+use Rattle.lvm_volume_lines.specs.passed.Quiesce.{AskedAtRest, CauseRose, IsFullFor, KeptFrom, MkvgOnceQuiet, Quiesces, RangeOnceQuiet, RangeStaysOut, ReadOnceQuiet, ReadsAtRest, RefusedAtOnce, RejectedAtOnce as RejectedAtOnceRange, StayedOut, StaysOut, VaryonOnceQuiet, WentQuiet, WriteOnceQuiet, WritesAtRest}
 use Rattle.lvm_core.specs.declared.parts.Room.{Room}
 use Rattle.lvm_core.specs.declared.refused.Cause.{Cause}
 use Rattle.lvm_core.specs.declared.refused.Cause.TheVariants as cause
 use Rattle.lvm_core.specs.declared.refused.Refused.{Refused}
 use Rattle.lvm_session.specs.State.{Core}
-use Rattle.lvm_copy_lines.specs.passed.Group.{NewGroup, RefusesFirst, MkvgRefuses}
-use Rattle.lvm_copy_lines.specs.passed.Varyon.{VaryonRefuses}
-use Rattle.lvm_copy_lines.proofs.passed.Quiesce.{quiet_is_ahead, ends_only}
-use Rattle.lvm_copy_lines.proofs.passed.Varyon.{failed_rose}
+use Rattle.lvm_volume_lines.specs.passed.Group.{NewGroup, RefusesFirst, MkvgRefuses}
+use Rattle.lvm_volume_lines.specs.passed.Varyon.{VaryonRefuses}
+use Rattle.lvm_volume_lines.proofs.passed.Quiesce.{quiet_is_ahead, ends_only}
+use Rattle.lvm_volume_lines.proofs.passed.Varyon.{failed_rose}
 use Rattle.lvm_line.specs.Causes.{HasCause, HasFailed, IsBroughtBack, RoseOn, VaryonLaw, disk_of}
-use Rattle.lvm_copy_lines.specs.passed.Stage.{patience_of_line, IsBetween, IsRelit, refusal_of, Shows, InFull, WithoutMemory, ScriptState, log_with, Refusal}
-use Rattle.lvm_copy_lines.specs.passed.DiskLines.{refusal_by, NoWriteWhileOn, WriteGoes, NoReadWhileOn, ReadGoes, NotThere, NotPlanned, IsArranged}
-use Rattle.lvm_copy_lines.specs.passed.DiskLines.{CutNotPlanned, PowerIsCut}
-use Rattle.lvm_copy_lines.specs.passed.GroupLines.{Brings, IsLeft, asked_for, itself, outcome_of, NoVaryonWhileOn, Varies, NoMemoryForLine}
-use Rattle.lvm_copy_lines.specs.passed.GroupLines.{NoMkvgWhileOn, Makes, NoVaryoff, BusyVaryoff, VariesOff, NoGroupToList, GroupThatIsOn}
-use Rattle.lvm_copy_lines.specs.passed.GroupLines.{OtherGroup, ListsGroup, NoGroupForVolume, VolumeOfGroup, NoSuchVolume, ListsVolume}
-use Rattle.lvm_copy_lines.specs.passed.GroupLines.{NoGroupForDisk, DiskOfGroup, NoSuchMember, ListsMember}
+use Rattle.lvm_volume_lines.specs.passed.GroupLines.{patience_of_line, IsBetween, IsRelit, refusal_of, Shows, InFull, WithoutMemory, ScriptState, log_with, Refusal, CutNotPlanned, IsArranged, NoReadWhileOn, NoWriteWhileOn, NotPlanned, NotThere, PowerIsCut, ReadGoes, WriteGoes, refusal_by, Brings, BusyVaryoff, DiskOfGroup, GroupThatIsOn, IsLeft, ListsGroup, ListsMember, ListsVolume, Makes, NoGroupForDisk, NoGroupForVolume, NoGroupToList, NoMemoryForLine, NoMkvgWhileOn, NoSuchMember, NoSuchVolume, NoVaryoff, NoVaryonWhileOn, OtherGroup, Varies, VariesOff, VolumeOfGroup, asked_for, itself, outcome_of}
 use Rattle.lvm_line.specs.Lines.{LineDoes}
-use Rattle.lvm_copy_lines.specs.passed.VolumeLines.{NoGroupForMklv, BusyMklv, UndrainedMklv, MakesVolume, MklvFails, NoGroupForRmlv, BusyRmlv, UndrainedRmlv, NoVolumeForRmlv, RemovesVolume, RmlvFails, refusal_for, wanted}
-use Rattle.lvm_copy_lines.specs.passed.RefusalVariants as refusal
-use Rattle.lvm_copy_lines.specs.passed.ReplyVariants as reply
-use Rattle.lvm_copy_lines.proofs.passed.GroupLines.{clock_is_ahead}
-use Rattle.lvm_copy_lines.specs.Copies.{NoGroupForMklvcopy, BusyMklvcopy, UndrainedMklvcopy, NoVolumeForMklvcopy, AddsCopies, MklvcopyFails}
-use Rattle.lvm_copy_lines.specs.Copies.{NoGroupForRmlvcopy, BusyRmlvcopy, UndrainedRmlvcopy, NoVolumeForRmlvcopy, RemovesCopies, RmlvcopyFails}
-use Rattle.lvm_copy_lines.proofs.passed.VolumeLines.{mklv_facts, rmlv_facts}
-use Rattle.lvm_copy_lines.proofs.Giving.{mklvcopy_facts, rmlvcopy_facts}
+use Rattle.lvm_volume_lines.specs.Volumes.{NoGroupForMklv, BusyMklv, UndrainedMklv, MakesVolume, MklvFails, NoGroupForRmlv, BusyRmlv, UndrainedRmlv, NoVolumeForRmlv, RemovesVolume, RmlvFails, refusal_for, wanted}
+use Rattle.lvm_volume_lines.specs.passed.RefusalVariants as refusal
+use Rattle.lvm_volume_lines.specs.passed.ReplyVariants as reply
+use Rattle.lvm_volume_lines.proofs.passed.GroupLines.{clock_is_ahead}
+use Rattle.lvm_volume_lines.specs.Copies.{AddsCopies, BusyMklvcopy, BusyRmlvcopy, MklvcopyFails, NoGroupForMklvcopy, NoGroupForRmlvcopy, NoVolumeForMklvcopy, NoVolumeForRmlvcopy, RemovesCopies, RmlvcopyFails, UndrainedMklvcopy, UndrainedRmlvcopy}
+use Rattle.lvm_volume_lines.proofs.Ending.{mklv_facts, rmlv_facts}
+use Rattle.lvm_volume_lines.proofs.Giving.{mklvcopy_facts, rmlvcopy_facts}
 use Rattle.lvm_line.proofs.CausesLemmas.Faulting.{known_group, undrained}
 use Rattle.lvm_line.proofs.CausesLemmas.Knowing.{IsOther, Known, by_reply, easy, has_by}
 use Rattle.lvm_line.proofs.CausesLemmas.Requesting.{rd_told, wr_told, post_told, wait_told, step_told, sync_group_told, sync_volume_told}

@@ -19,16 +19,16 @@ use Rattle.lvm_core.specs.declared.fault.CommitFault.TheVariants as commit
 use Rattle.lvm_line.specs.Causes.{HasCause, HasFailed, HasLostMember}
 use Rattle.lvm_write.proofs.PartsLemmas.Transfers.{rose_then}
 use Rattle.lvm_disk.proofs.CountingLemmas.{rose_before}
-use Rattle.lvm_copy_lines.specs.passed.Stage.{IsBetween, Refusal, Reply, patience_of_line, ScriptState}
-use Rattle.lvm_copy_lines.specs.passed.RefusalVariants as refusal
-use Rattle.lvm_copy_lines.specs.passed.ReplyVariants as reply
-use Rattle.lvm_copy_lines.specs.passed.VolumeLines.{Drains, IsLeft, IsUndrained, drain_refusal, refusal_for}
-use Rattle.lvm_copy_lines.proofs.passed.VolumeLines.{FaultFacts}
-use Rattle.lvm_copy_lines.proofs.passed.Ranges.{off_votes}
+use Rattle.lvm_volume_lines.specs.passed.GroupLines.{IsBetween, Refusal, Reply, patience_of_line, ScriptState}
+use Rattle.lvm_volume_lines.specs.passed.RefusalVariants as refusal
+use Rattle.lvm_volume_lines.specs.passed.ReplyVariants as reply
+use Rattle.lvm_volume_lines.specs.Volumes.{Drains, IsLeft, IsUndrained, drain_refusal, refusal_for}
+use Rattle.lvm_volume_lines.proofs.Ending.{FaultFacts}
+use Rattle.lvm_volume_lines.proofs.passed.Ranges.{off_votes}
 use Rattle.lvm_line.proofs.CausesLemmas.Knowing.{IsOther, Known, has_by}
 use Rattle.lvm_line.proofs.CausesLemmas.Turns.{dark_cause, off_cause, stuck_cause}
-use Rattle.lvm_copy_lines.specs.passed.Names.{GroupFault, ends_session}
-use Rattle.lvm_copy_lines.specs.passed.VolumePlanFaultGroupFault as fault
+use Rattle.lvm_volume_lines.specs.passed.Names.{GroupFault, ends_session}
+use Rattle.lvm_volume_lines.specs.passed.VolumePlanFaultGroupFault as fault
 
 -- votes that are too few to write are at most half
 at_most_half : (group : Descriptor) (have : ℕ) → IsFalse (is_enough_to_write group have) → 2 * have ≤ total_votes group

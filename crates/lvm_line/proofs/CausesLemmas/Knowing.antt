@@ -4,9 +4,9 @@ use Rattle.lvm_parse.specs.declared.command.Command.{Command}
 use Rattle.lvm_parse.specs.declared.command.Command.TheVariants as command
 use Rattle.lvm_operands.specs.declared.rest.Misfit.{Misfit}
 use Rattle.lvm_line.specs.Causes.{CauseOf, HasCause}
-use Rattle.lvm_copy_lines.specs.passed.Stage.{ScriptState, Refusal}
-use Rattle.lvm_copy_lines.specs.passed.RefusalVariants as refusal
-use Rattle.lvm_copy_lines.specs.passed.ReplyVariants as reply
+use Rattle.lvm_volume_lines.specs.passed.GroupLines.{ScriptState, Refusal}
+use Rattle.lvm_volume_lines.specs.passed.RefusalVariants as refusal
+use Rattle.lvm_volume_lines.specs.passed.ReplyVariants as reply
 
 -- its cause, and that what quorums lack is told before a write
 pub record Known (read : Result (Option Command) Misfit) (why : Refusal) (old new : ScriptState) : Type 0 where

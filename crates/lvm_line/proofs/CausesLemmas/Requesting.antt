@@ -8,21 +8,21 @@ use Rattle.lvm_session.specs.declared.answers.Turned.{Turned}
 use Rattle.lvm_session.specs.declared.answers.Turned.TheVariants as turned
 use Rattle.lvm_session.specs.Calls.{has_numbers}
 use Rattle.lvm_session.specs.State.{Core, State, votes_there}
-use Rattle.lvm_copy_lines.proofs.passed.Names.{votes_go}
+use Rattle.lvm_volume_lines.proofs.passed.Names.{votes_go}
 use Rattle.lvm_posts.specs.declared.asked.Asked.{Asked}
 use Rattle.lvm_posts.specs.declared.fault.RangeFault.{RangeFault}
 use Rattle.lvm_posts.specs.declared.fault.RangeFault.TheVariants as fault
-use Rattle.lvm_copy_lines.specs.passed.Ranges.{AskRangeFault, RangeCause}
-use Rattle.lvm_copy_lines.specs.passed.AskRangeFaultVariants as ask
-use Rattle.lvm_copy_lines.specs.Resyncing.{IsSynced, NoGroupForSync, NoVolumeForSync, NothingSyncs, OtherGroupForSync, SyncGroupDoes, SyncVolumeDoes, SyncsGroup, SyncsVolume, sync_reply}
-use Rattle.lvm_copy_lines.specs.passed.Resync.{Copy, SyncCause, SyncFault, group_copies, group_fault, volume_copies, volume_fault}
-use Rattle.lvm_copy_lines.specs.passed.SyncFaultVariants as sync
-use Rattle.lvm_copy_lines.specs.passed.RangeLines.{FailsBy, FailsIf, CarriesBy, StopsAs, session_over, Tells, TellsAll, TellsNone, Ending, ask_refusal, range_refusal, EndsWell, Fails, IsFinished, Finishes, NoMemory, NotBegun, NotPosted, NotThere, OnVolume, Posted, Posts, PostDoes, RdDoes, ShowsBlocks, ShowsThem, There, WhileOff, WrDoes, NoStepWhileOff, NothingMoves, StepDoes, Steps, step_reply}
-use Rattle.lvm_copy_lines.specs.passed.RangeLinesWaiting.{AtRest, Awaits, Goes, InVain, Over, WaitDoes, WaitEnds, WhileOff as WaitsWhileOff}
-use Rattle.lvm_copy_lines.specs.passed.Stage.{InFull, IsBetween, Shows, WithoutMemory, ScriptState, Refusal, Reply, is_unheard}
-use Rattle.lvm_copy_lines.specs.passed.RefusalVariants as refusal
-use Rattle.lvm_copy_lines.specs.passed.ReplyVariants as reply
-use Rattle.lvm_copy_lines.proofs.passed.Ranges.{off_votes}
+use Rattle.lvm_volume_lines.specs.passed.Ranges.{AskRangeFault, RangeCause}
+use Rattle.lvm_volume_lines.specs.passed.AskRangeFaultVariants as ask
+use Rattle.lvm_volume_lines.specs.Resyncing.{IsSynced, NoGroupForSync, NoVolumeForSync, NothingSyncs, OtherGroupForSync, SyncGroupDoes, SyncVolumeDoes, SyncsGroup, SyncsVolume, sync_reply}
+use Rattle.lvm_volume_lines.specs.passed.Resync.{Copy, SyncCause, SyncFault, group_copies, group_fault, volume_copies, volume_fault}
+use Rattle.lvm_volume_lines.specs.passed.SyncFaultVariants as sync
+use Rattle.lvm_volume_lines.specs.passed.RangeLines.{FailsBy, FailsIf, CarriesBy, StopsAs, session_over, Tells, TellsAll, TellsNone, Ending, ask_refusal, range_refusal, EndsWell, Fails, IsFinished, Finishes, NoMemory, NotBegun, NotPosted, NotThere, OnVolume, Posted, Posts, PostDoes, RdDoes, ShowsBlocks, ShowsThem, There, WhileOff, WrDoes, NoStepWhileOff, NothingMoves, StepDoes, Steps, step_reply}
+use Rattle.lvm_volume_lines.specs.passed.RangeLinesWaiting.{AtRest, Awaits, Goes, InVain, Over, WaitDoes, WaitEnds, WhileOff as WaitsWhileOff}
+use Rattle.lvm_volume_lines.specs.passed.GroupLines.{InFull, IsBetween, Shows, WithoutMemory, ScriptState, Refusal, Reply, is_unheard}
+use Rattle.lvm_volume_lines.specs.passed.RefusalVariants as refusal
+use Rattle.lvm_volume_lines.specs.passed.ReplyVariants as reply
+use Rattle.lvm_volume_lines.proofs.passed.Ranges.{off_votes}
 use Rattle.lvm_line.specs.Causes.{TurnCause}
 use Rattle.lvm_line.proofs.CausesLemmas.Turns.{dark_cause, failed_cause, fails_counts, leaves_counts, off_cause, over_counts, stuck_cause}
 

@@ -10,13 +10,12 @@ use Rattle.lvm_session.specs.State.{Core, State, state}
 use Rattle.lvm_posts.specs.declared.asked.Asked.{Asked}
 use Rattle.lvm_posts.specs.declared.fault.RangeFault.{RangeFault}
 use Rattle.lvm_posts.specs.declared.fault.RangeFault.TheVariants as fault
-use Rattle.lvm_copy_lines.specs.passed.Ranges.{AskRangeFault, RangeCause}
-use Rattle.lvm_copy_lines.specs.passed.AskRangeFaultVariants as ask
-use Rattle.lvm_copy_lines.specs.passed.RangeLines.{EndsWell, Fails, FailsBy, Finishes, IsFinished, NoMemory, NotBegun, NotThere, OnVolume, RdDoes, ShowsBlocks, ShowsThem, There, WhileOff, WrDoes}
-use Rattle.lvm_copy_lines.specs.passed.RangeLines.{ask_refusal, range_refusal, session_over}
-use Rattle.lvm_copy_lines.specs.passed.Stage.{InFull, Refusal, Reply, Shows, ScriptState, WithoutMemory}
-use Rattle.lvm_copy_lines.specs.passed.RefusalVariants as refusal
-use Rattle.lvm_copy_lines.specs.passed.ReplyVariants as reply
+use Rattle.lvm_volume_lines.specs.passed.Ranges.{AskRangeFault, RangeCause}
+use Rattle.lvm_volume_lines.specs.passed.AskRangeFaultVariants as ask
+use Rattle.lvm_volume_lines.specs.passed.RangeLines.{EndsWell, Fails, FailsBy, Finishes, IsFinished, NoMemory, NotBegun, NotThere, OnVolume, RdDoes, ShowsBlocks, ShowsThem, There, WhileOff, WrDoes, ask_refusal, range_refusal, session_over}
+use Rattle.lvm_volume_lines.specs.passed.GroupLines.{InFull, Refusal, Reply, Shows, ScriptState, WithoutMemory}
+use Rattle.lvm_volume_lines.specs.passed.RefusalVariants as refusal
+use Rattle.lvm_volume_lines.specs.passed.ReplyVariants as reply
 use Rattle.lvm_line.specs.Causes.{LackedSource, RangeLineCause, TurnCause}
 use Rattle.lvm_line.proofs.CausesLemmas.Turns.{leaves_counts}
 

@@ -10,11 +10,11 @@ use Rattle.lvm_session.specs.declared.open.Power.TheVariants as power
 use Rattle.lvm_session.specs.Causes.{AnyFailedSince}
 use Rattle.lvm_session.specs.Sound.{IsSound, is_dark}
 use Rattle.lvm_session.specs.State.{Core, State, state}
-use Rattle.lvm_copy_lines.specs.passed.Names.{LostForFaults}
-use Rattle.lvm_copy_lines.specs.passed.Ranges.{AnyFailed}
-use Rattle.lvm_copy_lines.specs.passed.RangeLines.{FailsIf, IsOverWith, CarriesBy}
-use Rattle.lvm_copy_lines.specs.passed.Running.{LeavesSession}
-use Rattle.lvm_copy_lines.specs.passed.Stage.{IsBetween, IsClosed, ScriptState, patience_of_line}
+use Rattle.lvm_volume_lines.specs.passed.Names.{LostForFaults}
+use Rattle.lvm_volume_lines.specs.passed.Ranges.{AnyFailed}
+use Rattle.lvm_volume_lines.specs.passed.RangeLines.{FailsIf, IsOverWith, CarriesBy}
+use Rattle.lvm_volume_lines.specs.passed.Tie.{LeavesSession}
+use Rattle.lvm_volume_lines.specs.passed.GroupLines.{IsBetween, IsClosed, ScriptState, patience_of_line}
 use Rattle.lvm_line.specs.Causes.{HasFailedInSession}
 
 -- ---- what is left has the counts of the shelf

@@ -7,11 +7,11 @@ use Rattle.lvm_core.specs.declared.parts.Room.{Room}
 use Rattle.lvm_vol.specs.Log.{Log}
 use Rattle.lvm_operands.specs.Reading.{ends, operand}
 use Rattle.lvm_parse.specs.Grammar.{line_of}
-use Rattle.lvm_copy_lines.specs.passed.RangeLines.{NoStepWhileOff}
-use Rattle.lvm_copy_lines.specs.passed.Stage.{IsBetween, Reply, ScriptState}
-use Rattle.lvm_copy_lines.specs.passed.RefusalVariants as refusal
-use Rattle.lvm_copy_lines.specs.passed.ReplyVariants as reply
-use Rattle.lvm_copy_lines.proofs.passed.Stage.{same_goes}
+use Rattle.lvm_volume_lines.specs.passed.RangeLines.{NoStepWhileOff}
+use Rattle.lvm_volume_lines.specs.passed.GroupLines.{IsBetween, Reply, ScriptState}
+use Rattle.lvm_volume_lines.specs.passed.RefusalVariants as refusal
+use Rattle.lvm_volume_lines.specs.passed.ReplyVariants as reply
+use Rattle.lvm_volume_lines.proofs.passed.GroupLines.{same_goes}
 use Rattle.lvm_line.specs.Complete.{NothingMayFail, NoneRose, NothingFailed}
 use Rattle.lvm_line.specs.Lines.{IsLine, role_of}
 

@@ -10,17 +10,12 @@ use Rattle.lvm_parse.specs.Grammar.{line_of}
 use Rattle.lvm_parse.specs.Answering.{IsMkvgLine}
 use Rattle.lvm_core.specs.declared.parts.Room.{Room}
 use Rattle.lvm_session.specs.State.{Core}
-use Rattle.lvm_copy_lines.specs.passed.Stage.{CommandEnds, IsAsked, IsLeftBy, is_unheard, GoesOn, InFull, Shows, WithoutMemory, most_refusals, IsBetweenStage, IsFittingStage}
-use Rattle.lvm_copy_lines.specs.passed.Stage.{history_in, history_of, session_in, shelf_in, session_of, state_in, IsBetween, ScriptState, without_facts}
-use Rattle.lvm_copy_lines.specs.passed.Stage.{Holder, Reply, Stage}
-use Rattle.lvm_copy_lines.specs.passed.GroupLines.{MkvgDoes, NoMemoryForLine, NoMkvgWhileOn, DiskShows, DiskOfGroup, GroupShows, GroupThatIsOn}
-use Rattle.lvm_copy_lines.specs.passed.GroupLines.{ListsGroup, ListsMember, ListsVolume, NoGroupForDisk, NoGroupForVolume, NoGroupToList}
-use Rattle.lvm_copy_lines.specs.passed.GroupLines.{NoSuchMember, NoSuchVolume, OtherGroup, VolumeOfGroup, VolumeShows}
+use Rattle.lvm_volume_lines.specs.passed.GroupLines.{CommandEnds, GoesOn, Holder, InFull, IsAsked, IsBetween, IsBetweenStage, IsFittingStage, IsLeftBy, Reply, ScriptState, Shows, Stage, WithoutMemory, history_in, history_of, is_unheard, most_refusals, session_in, session_of, shelf_in, state_in, without_facts, DiskOfGroup, DiskShows, GroupShows, GroupThatIsOn, ListsGroup, ListsMember, ListsVolume, MkvgDoes, NoGroupForDisk, NoGroupForVolume, NoGroupToList, NoMemoryForLine, NoMkvgWhileOn, NoSuchMember, NoSuchVolume, OtherGroup, VolumeOfGroup, VolumeShows}
 use Rattle.lvm_line.specs.Lines.{CommandDoes, CommandIsDone, LineDoes, IsLine, IsOrder, asked_after, role_of}
-use Rattle.lvm_copy_lines.specs.passed.HolderVariants as holder
-use Rattle.lvm_copy_lines.specs.passed.RefusalVariants as refusal
-use Rattle.lvm_copy_lines.specs.passed.ReplyVariants as reply
-use Rattle.lvm_copy_lines.proofs.passed.Stage.{one_refused, same_goes, asked_goes}
+use Rattle.lvm_volume_lines.specs.passed.HolderVariants as holder
+use Rattle.lvm_volume_lines.specs.passed.RefusalVariants as refusal
+use Rattle.lvm_volume_lines.specs.passed.ReplyVariants as reply
+use Rattle.lvm_volume_lines.proofs.passed.GroupLines.{one_refused, same_goes, asked_goes}
 
 -- ---- how many refusals a listing answers
 

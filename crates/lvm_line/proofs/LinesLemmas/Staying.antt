@@ -6,9 +6,8 @@ use Rattle.lvm_core.specs.declared.parts.Room.{Room}
 use Rattle.lvm_parse.specs.declared.command.Command.{Command}
 use Rattle.lvm_operands.specs.declared.rest.Misfit.{Misfit}
 use Rattle.lvm_parse.specs.Grammar.{line_of}
-use Rattle.lvm_copy_lines.specs.passed.Stage.{CommandEnds, IsBetweenStage, IsFittingStage, IsLeftBy, IsStuck, Reply, Stage, history_in, is_unheard, most_refusals}
-use Rattle.lvm_copy_lines.specs.passed.Stage.{shelf_in, state_in, without_facts}
-use Rattle.lvm_copy_lines.proofs.passed.Stage.{left_still}
+use Rattle.lvm_volume_lines.specs.passed.GroupLines.{CommandEnds, IsBetweenStage, IsFittingStage, IsLeftBy, IsStuck, Reply, Stage, history_in, is_unheard, most_refusals, shelf_in, state_in, without_facts}
+use Rattle.lvm_volume_lines.proofs.passed.GroupLines.{left_still}
 use Rattle.lvm_line.specs.Lines.{CommandDoes, CommandInPlace, DoesInPlace, IsFinished, IsOrder, LineDoes, LineEnds, StandsBehind, asked_after, role_of}
 use Rattle.lvm_line.specs.declared.line.InPlace.{InPlace}
 use Rattle.lvm_line.specs.declared.line.InPlace.TheVariants as in_place

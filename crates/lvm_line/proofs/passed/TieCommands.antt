@@ -1,2 +1,2 @@
 -- Passed on from `lvm_tie_commands`.
-pub use Rattle.lvm_copy_lines.proofs.passed.TieCommands.{rests}
+pub use Rattle.lvm_volume_lines.proofs.passed.TieCommands.{rests, tied_holds}

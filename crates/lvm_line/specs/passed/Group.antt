@@ -1,3 +1,2 @@
 -- Passed on from `lvm_group`.
-pub use Rattle.lvm_copy_lines.specs.passed.Group.{Breaks, HasGroup, IfShown, IsAsBefore, IsClear, NewGroup, MkvgRefuses, SparesTold, beginning_for}
-pub use Rattle.lvm_copy_lines.specs.passed.Group.{least_size, most_sectors, new_group, new_status, size_for, sizes_in_order}
+pub use Rattle.lvm_volume_lines.specs.passed.Group.{Breaks, HasGroup, IfShown, IsAsBefore, IsClear, MkvgRefuses, NewGroup, SparesTold, beginning_for, least_size, most_sectors, new_group, new_status, size_for, sizes_in_order}

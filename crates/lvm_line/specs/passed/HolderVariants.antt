@@ -1,2 +1,2 @@
--- Passed on from `lvm_stage`: the variants of `Holder`.
-pub use Rattle.lvm_copy_lines.specs.passed.HolderVariants.{Empty, Off, Serving}
+-- Passed on from `lvm_group_lines`: the variants of `Holder`.
+pub use Rattle.lvm_volume_lines.specs.passed.HolderVariants.{Empty, Off, Serving}

@@ -1,4 +1,2 @@
 -- Passed on from `lvm_range_lines`.
-pub use Rattle.lvm_copy_lines.specs.passed.RangeLines.{EndsBy, EndsWell, Fails, FailsIf, Finishes, GoesOnWith, IsFinished, IsNotAsked, IsOverWith}
-pub use Rattle.lvm_copy_lines.specs.passed.RangeLines.{CarriesBy, NoStepWhileOff, NotBegun, NotPosted, NotThere, NothingMoves, OnVolume, Posted, Posts}
-pub use Rattle.lvm_copy_lines.specs.passed.RangeLines.{StepDoes, Steps, There, WhileOff}
+pub use Rattle.lvm_volume_lines.specs.passed.RangeLines.{CarriesBy, EndsBy, EndsWell, Fails, FailsIf, Finishes, GoesOnWith, IsFinished, IsNotAsked, IsOverWith, NoStepWhileOff, NotBegun, NotPosted, NotThere, NothingMoves, OnVolume, Posted, Posts, StepDoes, Steps, There, WhileOff}

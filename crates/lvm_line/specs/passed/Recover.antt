@@ -1,2 +1,2 @@
 -- Passed on from `lvm_recover`.
-pub use Rattle.lvm_copy_lines.specs.passed.Recover.{HasNoPassive}
+pub use Rattle.lvm_volume_lines.specs.passed.Recover.{HasNoPassive}

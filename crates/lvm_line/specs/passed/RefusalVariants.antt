@@ -1,2 +1,2 @@
--- Passed on from `lvm_stage`: the variants of `Refusal`.
-pub use Rattle.lvm_copy_lines.specs.passed.RefusalVariants.{Memory, NoQuorum, Stuck}
+-- Passed on from `lvm_group_lines`: the variants of `Refusal`.
+pub use Rattle.lvm_volume_lines.specs.passed.RefusalVariants.{Memory, NoQuorum, Stuck}

@@ -1,2 +1,2 @@
 -- Passed on from `lvm_resync`.
-pub use Rattle.lvm_copy_lines.specs.passed.Resync.{Copy, SyncFault, group_copies, group_fault, volume_copies, volume_fault}
+pub use Rattle.lvm_volume_lines.specs.passed.Resync.{Copy, SyncFault, group_copies, group_fault, volume_copies, volume_fault}

@@ -1,2 +1,2 @@
 -- Passed on from `lvm_tie`.
-pub use Rattle.lvm_copy_lines.specs.passed.Tie.{IsGood, IsTied, LeavesDescriptors}
+pub use Rattle.lvm_volume_lines.specs.passed.Tie.{LeavesSession, RunsOn, IsGood, IsTied, LeavesDescriptors}

@@ -1,2 +1,2 @@
 -- Passed on from `lvm_tie_commands`.
-pub use Rattle.lvm_copy_lines.specs.passed.TieCommands.{StandsAfter}
+pub use Rattle.lvm_volume_lines.specs.passed.TieCommands.{StandsAfter}

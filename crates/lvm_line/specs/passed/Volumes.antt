@@ -1,2 +1,2 @@
 -- Passed on from `lvm_volumes`.
-pub use Rattle.lvm_copy_lines.specs.passed.Volumes.{IsWith}
+pub use Rattle.lvm_volume_lines.specs.passed.Volumes.{IsWithFirst, IsWithMore, IsWith}

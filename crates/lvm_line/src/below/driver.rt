@@ -1,3 +1,3 @@
 //! Passed on from `lvm_driver`.
 
-pub use lvm_copy_lines::below::driver::Driver;
+pub use lvm_volume_lines::below::driver::Driver;

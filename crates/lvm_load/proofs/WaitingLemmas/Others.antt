@@ -5,6 +5,7 @@ use Rattle.std.specs.List.{AllByRecursion, find, list_any, position_or_len}
 use Rattle.std.specs.Option.{option_map_or}
 use Rattle.std.proofs.lemmas.Bool.{and_left, and_parts, and_right, eqb-false, eqb-true, lt-ltb, ltb-true, ne_eqb}
 use Rattle.std.proofs.lemmas.Option.{cond_some, same_Some}
+use Rattle.lvm_num.proofs.Lists.{all_at}
 use Rattle.lvm_vol.specs.declared.entry.Entry.{Entry}
 use Rattle.lvm_vol.specs.declared.entry.Entry.TheVariants as entry
 use Rattle.lvm_vol.specs.declared.entry.Outcome.{Outcome}
@@ -22,8 +23,8 @@ use Rattle.lvm_session.specs.Judging.{is_waiting}
 use Rattle.lvm_session.specs.Sound.{IsAsked, IsSound}
 use Rattle.lvm_session.specs.State.{Core, State}
 use Rattle.lvm_session.specs.Turns.{TurnMakes}
-use Rattle.lvm_keeps.proofs.Lists.{all_at, any_set}
-use Rattle.lvm_keeps_turn.specs.Turning.{is_last}
+use Rattle.lvm_keeps.proofs.Lists.{any_set}
+use Rattle.lvm_keeps_events.specs.Turning.{is_last}
 use Rattle.lvm_load.specs.declared.client.Client.{Client}
 use Rattle.lvm_load.specs.Waiting.{AreWaiting, AreWaitingBut, OthersWait, landed_by, waits_for}
 use Rattle.lvm_load.specs.Weaving.{NextClient, NoneOpen, TakesEach, TakesFor, Waits, open_of}

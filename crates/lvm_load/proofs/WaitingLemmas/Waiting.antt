@@ -1,19 +1,21 @@
 -- Each client that has a request open has one in the table that waits.
-use Rattle.std.proofs.Common.{◌≡◌, ◌≤◌, ◌<◌, ◌+◌, ◌==◌, ◌&&◌, ◌||◌, inl, inr, ⊎_elim, ℕ, zero, suc, Bool, true, false, List, [], ◌∷◌, length, Option, Some, None, slice_get, slice_set, refl, sym, ap, ◌∙◌, subst, arith}
+use Rattle.std.proofs.Common.{◌≡◌, ◌≤◌, ◌<◌, ◌+◌, ◌==◌, ◌&&◌, ◌||◌, inl, inr, ⊎_elim, ℕ, zero, suc, Bool, true, false, List, length, Option, Some, None, slice_get, slice_set, refl, sym, ap, ◌∙◌, subst, arith}
 use Rattle.std.specs.Prelude.{Err, MatchOption, Ok, is_none, nat_lt, position, set}
 use Rattle.std.specs.List.{list_any}
 use Rattle.std.specs.Option.{option_map_or}
+use Rattle.std.proofs.lemmas.Map.Keys.{any_passes_from_place}
 use Rattle.std.proofs.lemmas.Bool.{cases_lt, eq-eqb, eqb-true, eqb-false, ltb-false, or_right, or_parts}
 use Rattle.std.proofs.lemmas.List.{length-append}
 use Rattle.std.proofs.lemmas.List.Folds.{list_any-append}
 use Rattle.std.proofs.lemmas.List.Quantifiers.{position-Some}
 use Rattle.std.proofs.lemmas.Option.{get_or_from_slice_get, slice_get_past}
+use Rattle.lvm_num.proofs.Lists.{set_beside}
 use Rattle.rand_pcg.specs.Lcg.{Lcg}
 use Rattle.lvm_vol.specs.declared.entry.Outcome.{Outcome}
 use Rattle.lvm_vol.specs.declared.entry.Outcome.TheVariants as outcome
 use Rattle.lvm_vol.specs.Facts.{Fact}
 use Rattle.lvm_vol.specs.Log.{next_id}
-use Rattle.lvm_draws.specs.Draws.{draw_at}
+use Rattle.lvm_load.specs.Draws.{draw_at}
 use Rattle.lvm_path.specs.declared.ask.Ask.{Ask}
 use Rattle.lvm_path.specs.Asks.{count_of}
 use Rattle.lvm_session.specs.declared.answers.AskFault.{AskFault}
@@ -32,10 +34,10 @@ use Rattle.lvm_session.specs.Events.{Lands}
 use Rattle.lvm_session.specs.Judging.{is_running, is_waiting}
 use Rattle.lvm_session.specs.State.{Core, State}
 use Rattle.lvm_session.specs.Turns.{FinishMakes, Finishes, Makes, Moves, NoStart, OnMakes, TurnMakes, WasDark, WasOff, WasOn}
-use Rattle.lvm_keeps.proofs.Lists.{any_removed, any_set, set_beside, set_here}
+use Rattle.lvm_keeps.proofs.Lists.{any_removed, any_set, set_here}
 use Rattle.lvm_keeps.proofs.Small.{both}
-use Rattle.lvm_keeps_turn.specs.Turning.{is_last}
-use Rattle.lvm_keeps_turn.proofs.TellingLemmas.Frames.{copy_stays, marked_stays, note_stays, status_stays}
+use Rattle.lvm_keeps_events.specs.Turning.{is_last}
+use Rattle.lvm_keeps_events.proofs.TellingLemmas.Frames.{copy_stays, marked_stays, note_stays, status_stays}
 use Rattle.lvm_load.specs.declared.client.Client.{Client}
 use Rattle.lvm_load.specs.Requests.{ask_of, bytes_of, word_of}
 use Rattle.lvm_load.specs.Waiting.{AreWaiting, waits_for}
@@ -155,16 +157,6 @@ not_its k id o j id1 beside asks = by_test (o.request.client == (j + 1)) refl (e
     by_test true is client = absurd (beside (let own = eqb-true o.request.client (j + 1) is in omega (arith, own, client)))
     by_test false is client = ap (λ b. b && (o.request.id == id1)) is
 
--- one that is there, and so
-any_there : {A : Type 0} (t : A → Bool) (xs : List A) (k : ℕ) (x : A) → slice_get xs k ≡ Some x → t x ≡ true → list_any t xs ≡ true
-any_there t [] k x there is = absurd (cc there)
-any_there t (y ∷ xs) zero x there is = let same : y ≡ x = cc there in ap (λ b. b || list_any t xs) (ap t same ∙ is)
-any_there t (y ∷ xs) (suc k) x there is = ap (λ b. t y || b) (any_there t xs k x there is) ∙ or_true (t y)
-  where
-    or_true : (b : Bool) → b || true ≡ true
-    or_true true = refl
-    or_true false = refl
-
 same_left : (k : ℕ) (old new : State) (clients after : List Client) → new.core ≡ old.core → new.device ≡ old.device → ((id : ℕ) → open_of after k ≡ Some id → list_any (waits_for (k + 1) id) new.core.requests ≡ true)
     → ((j : ℕ) → (j ≡ k → ⊥) → open_of after j ≡ open_of clients j) → LeftBy k old new clients after
 same_left k old new clients after same shelf own others = record {
@@ -190,7 +182,7 @@ module _ (k : ℕ) (old new : State) (clients after : List Client) where
           let asks = found (k + 1) id old.core.requests place o at there in
           let so : waits_for (k + 1) id o ≡ true = ap (λ b. b && is_waiting o) asks ∙ ap is_none waits in
           subst (λ n. list_any (waits_for (k + 1) n) new.core.requests ≡ true) it
-          (ap (λ (c : Core). list_any (waits_for (k + 1) id) c.requests) takes.1 ∙ any_there (waits_for (k + 1) id) old.core.requests place o there so))
+          (ap (λ (c : Core). list_any (waits_for (k + 1) id) c.requests) takes.1 ∙ any_passes_from_place (waits_for (k + 1) id) old.core.requests place o there so))
           (λ j other. ap (λ (cs : List Client). open_of cs j) still)
       at_place place o at there (Some how) landed takes = absurd (never_yet how o.place (count_of o.request.ask) takes.0)
 

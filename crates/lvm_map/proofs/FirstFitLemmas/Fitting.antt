@@ -2,6 +2,7 @@
 use Rattle.std.proofs.Common.{◌≡◌, ◌≢◌, inl, inr, ℕ, zero, suc, ◌%◌, ◌<◌, Bool, true, false, cond, ◌&&◌, ◌||◌, List, [], ◌∷◌, ◌++◌, append_assoc, length, get_or, Some, None, refl, sym, ap, subst, ◌∙◌, arith}
 use Rattle.std.specs.Prelude.{◌==◌, All, AllPairs, IsTrue, nat_lt, filter, slice_get, position}
 use Rattle.std.specs.Bool.{MatchBool}
+use Rattle.std.proofs.lemmas.Option.{slice_get_within, slice_get-get_or}
 use Rattle.std.proofs.lemmas.Bool.{cases_lt}
 use Rattle.std.proofs.lemmas.List.{length_push, take-append-le, take_all}
 use Rattle.std.proofs.lemmas.List.Folds.{list_any-append}
@@ -16,16 +17,6 @@ use Rattle.lvm_map.proofs.FirstFitLemmas.FreeLists.{members-known}
 use Rattle.lvm_map.proofs.RoomLemmas.Choices.{nothing_taken, first_taken, taken_from}
 
 -- ---- places of a list
-
-pub get-within : {X : Type 0} (xs : List X) (k : ℕ) (x : X) → slice_get xs k ≡ Some x → k < length xs
-get-within [] k x is = absurd cc
-get-within (y ∷ ys) zero x is = omega arith
-get-within (y ∷ ys) (suc k) x is = omega (arith, get-within ys k x is)
-
-pub get-get_or : {X : Type 0} (xs : List X) (k : ℕ) (d : X) → k < length xs → slice_get xs k ≡ Some (get_or xs k d)
-get-get_or [] k d lt = absurd (omega arith)
-get-get_or (y ∷ ys) zero d lt = refl
-get-get_or (y ∷ ys) (suc k) d lt = get-get_or ys k d (omega arith)
 
 pub get-left : {X : Type 0} (xs ys : List X) (k : ℕ) → k < length xs → slice_get (xs ++ ys) k ≡ slice_get xs k
 get-left [] ys k lt = absurd (omega arith)
@@ -53,9 +44,9 @@ fits-more d usable asked front pp fits next k lt = elim (cases_lt k (length fron
 -- a copy that is kept is used already
 known : (used front old : List Pp) (k : ℕ) (pp : Pp) → All (λ (p : Pp). IsTrue (is_among used p)) old → Some pp ≡ slice_get old k → is_among (used ++ front) pp ≡ true
 known used front old k pp all is =
-    let at = get-get_or old k pp (get-within old k pp (sym is)) in
+    let at = slice_get-get_or old k pp (slice_get_within old k pp (sym is)) in
     let same : get_or old k pp ≡ pp = cc in
-    let here : is_among used pp ≡ true = search (ap (is_among used) (sym same), all k pp (get-within old k pp (sym is))) in
+    let here : is_among used pp ≡ true = search (ap (is_among used) (sym same), all k pp (slice_get_within old k pp (sym is))) in
     list_any-append (λ (p : Pp). p.disk == pp.disk && p.pp == pp.pp) used front ∙ ap (λ b. b || is_among front pp) here
 
 module _ (d : Descriptor) (usable : Disks) (asked : Asked) (front : List Pp) (old new : List (List Pp)) where

@@ -13,8 +13,8 @@ use Rattle.lvm_num.specs.Descriptor.{is_pp}
 use Rattle.lvm_num.proofs.Pairs.{AllPairs-right}
 use Rattle.lvm_num.proofs.Booleans.{or_false}
 use Rattle.lvm_map.specs.FirstFit.{is_among, partitions_of, free_of}
-pub use Rattle.lvm_num.proofs.DescriptorLemmas.Partitions.{one_partition as is_pp-true}
-pub use Rattle.lvm_num.proofs.DescriptorLemmas.Partitions.{same_partition as is_pp-same}
+pub use Rattle.lvm_num.proofs.DescriptorLemmas.Partitions.{one_partition as is_pp-true, same_partition as is_pp-same}
+use Rattle.lvm_num.proofs.Lists.{pairs_head}
 
 -- ---- one partition
 
@@ -44,9 +44,6 @@ map_same {X} f g (x ∷ xs) same =
     let here : f x ≡ g x = All-head (λ (y : X). f y ≡ g y) x xs same in
     let rest : map f xs ≡ map g xs = map_same f g xs (All-tail (λ (y : X). f y ≡ g y) x xs same) in
     λ t. here t ∷ rest t
-
-pub AllPairs-first : {X : Type 0} (R : X → X → Type 0) (x : X) (xs : List X) → AllPairs R (x ∷ xs) → All (R x) xs
-AllPairs-first R x xs all k d lt = all 0 (suc k) d (omega arith) (omega (arith, lt))
 
 -- ---- the partitions of a member
 
@@ -128,7 +125,7 @@ without_first p q pp rest (y ∷ ys) says apart is =
         ∙ filter_same q p ys
         (All-weaker (λ (x : Pp). y ≢ x) (λ (x : Pp). q x ≡ p x)
         (λ x differs. says x ∙ ap (λ b. p x && not b) (is_pp-apart pp x (λ e. differs (sym same ∙ e))) ∙ and_true (p x))
-        ys (AllPairs-first (λ (a b : Pp). a ≢ b) y ys apart))
+        ys (pairs_head (λ (a b : Pp). a ≢ b) y ys apart))
         ∙ others
     by_test false test here later =
         let gone : q y ≡ false = says y ∙ ap (λ b. b && not (is_pp pp y)) test in
@@ -169,11 +166,11 @@ members-taken used pp rest (row ∷ rows) zero apart is =
     let others : map (free_of (used ++ pp ∷ [])) rows ≡ map (free_of used) rows =
     map_same (free_of (used ++ pp ∷ [])) (free_of used) rows
     (All-weaker (λ (r : PvRow). row.disk ≢ r.disk) (λ (r : PvRow). free_of (used ++ pp ∷ []) r ≡ free_of used r)
-    (λ r differs. free-apart used pp r (λ e. differs (sym disk ∙ e))) rows (AllPairs-first (λ (a b : PvRow). a.disk ≢ b.disk) row rows apart)) in
+    (λ r differs. free-apart used pp r (λ e. differs (sym disk ∙ e))) rows (pairs_head (λ (a b : PvRow). a.disk ≢ b.disk) row rows apart)) in
     λ t. here t ∷ others t
 members-taken used pp rest (row ∷ rows) (suc i) apart is =
     let found = its_member used rows i pp rest is in
     let here : free_of (used ++ pp ∷ []) row ≡ free_of used row =
-    free-apart used pp row (λ e. AllPairs-first (λ (a b : PvRow). a.disk ≢ b.disk) row rows apart i row found.0 (sym e ∙ found.1 row)) in
+    free-apart used pp row (λ e. pairs_head (λ (a b : PvRow). a.disk ≢ b.disk) row rows apart i row found.0 (sym e ∙ found.1 row)) in
     let others = members-taken used pp rest rows i (AllPairs-right (λ (a b : PvRow). a.disk ≢ b.disk) (row ∷ []) rows apart) is in
     λ t. here t ∷ others t

@@ -1,9 +1,8 @@
 -- The marks of the partitions that volumes use.
-use Rattle.std.proofs.Common.{◌≡◌, ◌≢◌, inl, inr, ℕ, zero, suc, ◌*◌, ◌+◌, ◌<◌, ◌≤◌, Bool, true, false, cond, ◌||◌, not, List, [], ◌∷◌, ◌++◌, map, get_or, refl, sym, ap, ◌∙◌, arith}
+use Rattle.std.proofs.Common.{◌≡◌, inl, inr, ℕ, zero, suc, ◌*◌, ◌+◌, ◌<◌, ◌≤◌, Bool, true, false, cond, ◌||◌, not, List, [], ◌∷◌, ◌++◌, map, get_or, refl, sym, ap, ◌∙◌, arith}
 use Rattle.std.specs.Prelude.{◌==◌, All, filter}
 use Rattle.std.specs.List.{list_any, range_with_len}
-use Rattle.std.proofs.lemmas.Bool.{cases_Bool, eqb-true}
-use Rattle.std.proofs.lemmas.Bool.Decides.{nat_tests}
+use Rattle.std.proofs.lemmas.Bool.{cases_Bool, eqb-true, eq-eqb}
 use Rattle.std.proofs.lemmas.List.Elements.{All-head, All-tail, All-weaker}
 use Rattle.std.proofs.lemmas.List.FromFn.{filter_of_map_range_with_len_more}
 use Rattle.lvm_num.specs.declared.place.Pp.{Pp}
@@ -34,12 +33,6 @@ map_bounded d valid = maps_bounded d.lvs (used_bounded d valid)
 
 -- ---- marks as numbers and as partitions
 
-differ : (m n : ℕ) → m ≢ n → m == n ≡ false
-differ m n apart = grind (arith, nat_tests)
-
-same : (m n : ℕ) → m ≡ n → m == n ≡ true
-same m n e = grind (arith, nat_tests)
-
 spot_is : (pp x : Pp) → IsBounded pp → x.pp < 1016 → spot x == spot pp ≡ is_pp pp x
 spot_is pp x bound low = elim (cases_Bool (spot x == spot pp)) [
   | inl is ↦
@@ -49,7 +42,7 @@ spot_is pp x bound low = elim (cases_Bool (spot x == spot pp)) [
       let place : pp.pp ≡ x.pp = omega arith in
       is ∙ sym (is_pp-same pp x (λ t. record { disk = disk t; pp = place t }))
   | inr isnt ↦
-      isnt ∙ sym (is_pp-apart pp x (λ e. true_false (sym (same (spot x) (spot pp) (ap spot (sym e))) ∙ isnt)))
+      isnt ∙ sym (is_pp-apart pp x (λ e. true_false (sym (eq-eqb (spot x) (spot pp) (ap spot (sym e))) ∙ isnt)))
 ]
   where
     true_false : true ≡ false → ⊥

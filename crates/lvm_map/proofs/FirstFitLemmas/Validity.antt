@@ -1,6 +1,7 @@
 -- The descriptor with what was allocated is valid.
 use Rattle.std.proofs.Common.{◌≡◌, ◌≢◌, ◌⊎◌, inl, inr, ℕ, suc, ◌+◌, ◌-◌, ◌*◌, ◌/◌, ◌%◌, ◌<◌, ◌≤◌, true, false, cond, ◌&&◌, ◌||◌, List, ◌∷◌, ◌++◌, length, get_or, set, take, drop, Some, nat_lt, refl, sym, ap, subst, ◌∙◌, arith}
 use Rattle.std.specs.Prelude.{◌==◌, All, AllPairs, insert, slice_get}
+use Rattle.std.proofs.lemmas.Option.{slice_get_within, slice_get-get_or}
 use Rattle.std.proofs.lemmas.Bool.{cases_lt, cases_eq, eq-eqb, false≢true, or_left, or_right}
 use Rattle.std.proofs.lemmas.Bool.Decides.{nat_tests}
 use Rattle.std.proofs.lemmas.List.{get_or-take, get_or-drop, get_or_append_left, get_or-append_right, get_or-append-add, get_or-set_same, get_or-set_other, length-set, length-append, length-drop, length-take, length-take-le, set-get_or, set_split, take-append-drop, same_lists}
@@ -17,7 +18,6 @@ use Rattle.lvm_num.proofs.Pairs.{All-left, All-right, AllPairs-left, AllPairs-ri
 use Rattle.lvm_map.specs.FirstFit.{is_among, has_partition_on, choices, Asked, kept_next, others_in, IsFirstFit, IsAllocated, new_volume, more_copies}
 use Rattle.lvm_map.specs.Laws.{IsNewPlace}
 use Rattle.lvm_map.proofs.FirstFitLemmas.FreeLists.{is_pp-same}
-use Rattle.lvm_map.proofs.FirstFitLemmas.Fitting.{get-within, get-get_or}
 use Rattle.lvm_map.proofs.LawsLemmas.NewPlaces.{new_place}
 use Rattle.lvm_map.proofs.Parts.{same_parts, parts, whole}
 
@@ -104,17 +104,17 @@ kept_place d usable asked pps k fits lt kept =
     ∙ ap (λ b. cond b (kept_next asked front) (slice_get (choices d usable (partitions_used d ++ front) (others_in asked front)) 0)) (sym test)
     ∙ fits k lt in
     record {
-      within = let e : Pp = record { disk = 0; pp = 0 } in get-within asked.old j (get_or pps k e) (next ∙ get-get_or pps k e lt);
+      within = let e : Pp = record { disk = 0; pp = 0 } in slice_get_within asked.old j (get_or pps k e) (next ∙ slice_get-get_or pps k e lt);
       is = λ e.
-          let at = next ∙ get-get_or pps k e lt in
-          let own = get-get_or asked.old j e (get-within asked.old j (get_or pps k e) at) in
+          let at = next ∙ slice_get-get_or pps k e lt in
+          let own = slice_get-get_or asked.old j e (slice_get_within asked.old j (get_or pps k e) at) in
           cc;
     }
 
 module _ (d : Descriptor) (valid : IsValid d) (usable : Disks) (asked : Asked) (pps : List Pp) (all : IsAllocated d usable asked pps) (front back : List Pp)
     (used : partitions_used d ≡ front ++ (asked.old ++ back)) where
   new : (k : ℕ) (e : Pp) → k < length pps → asked.kept ≤ k % asked.copies → IsNewPlace d usable asked (take k pps) (get_or pps k e)
-  new k e lt past = new_place d usable asked pps k (get_or pps k e) valid all.fits (get-get_or pps k e lt) past
+  new k e lt past = new_place d usable asked pps k (get_or pps k e) valid all.fits (slice_get-get_or pps k e lt) past
 
   kept : (k : ℕ) → k < length pps → k % asked.copies < asked.kept → IsKept asked pps k
   kept k lt below = kept_place d usable asked pps k all.fits lt below
@@ -363,8 +363,8 @@ pub more_are_valid : (d : Descriptor) (usable : Disks) (row : LvRow) (k copies :
     → row.copies < copies → copies ≤ 3 → IsAllocated d usable (more_copies row copies) pps
     → IsValid (record d { lvs = set d.lvs k (record row { copies = copies; map = pps }) })
 more_are_valid d usable row k copies pps valid is more most all =
-    let lt = get-within d.lvs k row is in
-    let there : (e : LvRow) → get_or d.lvs k e ≡ row = λ e. let at = get-get_or d.lvs k e lt in cc in
+    let lt = slice_get_within d.lvs k row is in
+    let there : (e : LvRow) → get_or d.lvs k e ≡ row = λ e. let at = slice_get-get_or d.lvs k e lt in cc in
     grown_is_valid d valid row k copies pps lt there more most usable all
 
 -- ---- the copies that were there

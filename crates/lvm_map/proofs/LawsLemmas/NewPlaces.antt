@@ -1,6 +1,7 @@
 -- What first fit chooses is free.
 use Rattle.std.proofs.Common.{◌≡◌, ◌≢◌, ℕ, zero, suc, ◌%◌, ◌<◌, ◌≤◌, Bool, true, false, cond, ◌&&◌, not, List, [], ◌∷◌, ◌++◌, length, get_or, take, Some, nat_lt, refl, sym, ap, subst, ◌∙◌, arith, rules}
 use Rattle.std.specs.Prelude.{◌==◌, All, AllPairs, find, filter, flat_map, slice_get}
+use Rattle.std.proofs.lemmas.Option.{slice_get_within}
 use Rattle.std.proofs.lemmas.Bool.{eq-eqb, not-true, or_parts}
 use Rattle.std.proofs.lemmas.Bool.Decides.{nat_tests}
 use Rattle.std.proofs.lemmas.List.{length-take-le}
@@ -12,10 +13,10 @@ use Rattle.lvm_num.specs.declared.descriptor.Descriptor.{Descriptor}
 use Rattle.lvm_num.specs.Descriptor.{IsValid, member_of, partitions_used}
 use Rattle.lvm_num.specs.Disks.{Disks}
 use Rattle.lvm_num.proofs.Pairs.{AllPairs-right}
+use Rattle.lvm_num.proofs.Lists.{pairs_head}
 use Rattle.lvm_map.specs.FirstFit.{is_among, has_partition_on, partitions_of, free_of, may_take, choices, Asked, others_in, kept_next, IsFirstFit}
 use Rattle.lvm_map.specs.Laws.{IsNewPlace}
-use Rattle.lvm_map.proofs.FirstFitLemmas.FreeLists.{free-head_disk, partitions-at, partitions-size, AllPairs-first}
-use Rattle.lvm_map.proofs.FirstFitLemmas.Fitting.{get-within}
+use Rattle.lvm_map.proofs.FirstFitLemmas.FreeLists.{free-head_disk, partitions-at, partitions-size}
 
 -- ---- the member of a choice
 
@@ -72,7 +73,7 @@ member_is (first ∷ rows) zero row apart lt there =
     let same : first ≡ row = there row in
     ap (λ b. cond b (Some first) (find (λ (r : PvRow). r.disk == row.disk) rows)) (eq-eqb first.disk row.disk (ap (λ (r : PvRow). r.disk) same)) ∙ ap (λ (r : PvRow). Some r) same
 member_is (first ∷ rows) (suc i) row apart lt there =
-    let differs : first.disk ≢ row.disk = λ same. AllPairs-first (λ (a b : PvRow). a.disk ≢ b.disk) first rows apart i row (omega arith) (same ∙ ap (λ (r : PvRow). r.disk) (sym (there row))) in
+    let differs : first.disk ≢ row.disk = λ same. pairs_head (λ (a b : PvRow). a.disk ≢ b.disk) first rows apart i row (omega arith) (same ∙ ap (λ (r : PvRow). r.disk) (sym (there row))) in
     let test : first.disk == row.disk ≡ false = grind (arith, nat_tests) in
     ap (λ b. cond b (Some first) (find (λ (r : PvRow). r.disk == row.disk) rows)) test
     ∙ member_is rows i row (AllPairs-right (λ (a b : PvRow). a.disk ≢ b.disk) (first ∷ []) rows apart) (omega arith) there
@@ -107,7 +108,7 @@ and_parts false b c is = absurd cc
 pub new_place : (d : Descriptor) (usable : Disks) (asked : Asked) (pps : List Pp) (k : ℕ) (pp : Pp) → IsValid d → IsFirstFit d usable asked pps
     → slice_get pps k ≡ Some pp → asked.kept ≤ k % asked.copies → IsNewPlace d usable asked (take k pps) pp
 new_place d usable asked pps k pp valid fits is new =
-    let lt : k < length pps = get-within pps k pp is in
+    let lt : k < length pps = slice_get_within pps k pp is in
     let front = take k pps in
     let size : length front ≡ k = length-take-le k pps (omega arith) in
     let past : asked.kept ≤ length front % asked.copies = subst (λ n. asked.kept ≤ n % asked.copies) (sym size) new in

@@ -12,6 +12,7 @@ use Rattle.lvm_num.specs.declared.descriptor.LvRow.{LvRow}
 use Rattle.lvm_num.specs.declared.descriptor.Descriptor.{Descriptor}
 use Rattle.lvm_num.specs.Geometry.{partition_blocks, partition_of}
 use Rattle.lvm_num.specs.Descriptor.{IsPartitionOf, IsValid, partitions_in, partitions_used, volume_of}
+use Rattle.lvm_num.proofs.Lists.{some_map}
 use Rattle.lvm_map.specs.Places.{copy_at, place_on, place_of}
 use Rattle.lvm_map.specs.Laws.{AreSame, IsDataOf}
 use Rattle.lvm_map.proofs.Parts.{same_parts, whole}
@@ -19,16 +20,9 @@ use Rattle.lvm_map.proofs.PlacesLemmas.{mib_positive, IsVolumeAt, volume_at, lai
 
 -- ---- what a place comes from
 
-map_parts : {X Y : Type 0} (f : X → Y) (o : Option X) (y : Y) → option_map f o ≡ Some y → (x : X) × (o ≡ Some x) × (f x ≡ y)
-map_parts f None y is = absurd cc
-map_parts f (Some x) y is = (x, refl, cc)
-
 then_parts : {X Y : Type 0} (f : X → Option Y) (o : Option X) (y : Y) → option_and_then f o ≡ Some y → (x : X) × (o ≡ Some x) × (f x ≡ Some y)
 then_parts f None y is = absurd cc
 then_parts f (Some x) y is = (x, refl, is)
-
-no_pp : Pp
-no_pp = record { disk = 0; pp = 0 }
 
 -- a volume, a copy of a logical partition of it, and where it stands among all partitions
 record IsFrom (d : Descriptor) (lv copy block : ℕ) (place : Place) : Type 0 where
@@ -44,7 +38,7 @@ from : (d : Descriptor) (lv copy block : ℕ) (place : Place) → IsValid d → 
 from d lv copy block place valid is =
     let volume = then_parts (λ (r : LvRow). option_map (λ pp. place_on d.mib pp block) (copy_at r (partition_of d.mib block) copy)) (volume_of d lv) place is in
     let row = volume.0 in
-    let of = map_parts (λ (pp : Pp). place_on d.mib pp block) (copy_at row (partition_of d.mib block) copy) place volume.2 in
+    let of = some_map (λ (pp : Pp). place_on d.mib pp block) (copy_at row (partition_of d.mib block) copy) place volume.2 in
     let laid = laid_out d lv row valid volume.1 in
     let there = copy_is row (partition_of d.mib block) copy of.0 laid.whole of.1 in
     record {

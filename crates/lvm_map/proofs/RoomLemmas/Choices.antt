@@ -1,7 +1,8 @@
 -- The first choice of a place, by the free partitions of each member.
-use Rattle.std.proofs.Common.{◌≡◌, ◌≢◌, inl, inr, ℕ, zero, suc, ◌+◌, ◌<◌, ◌≤◌, Bool, true, false, cond, ◌&&◌, not, List, [], ◌∷◌, ◌++◌, length, map, drop, get_or, set, Option, Some, None, refl, sym, ap, ◌∙◌, arith}
+use Rattle.std.proofs.Common.{◌≡◌, ◌≢◌, inl, inr, ℕ, zero, suc, ◌+◌, ◌<◌, Bool, true, false, cond, ◌&&◌, not, List, [], ◌∷◌, ◌++◌, length, map, drop, get_or, set, Option, Some, None, refl, sym, ap, ◌∙◌, arith}
 use Rattle.std.specs.Prelude.{AllPairs, nat_lt, filter, flat_map, position, option_and_then, option_to_list, slice_get, find}
 use Rattle.std.specs.List.{position_or_len}
+use Rattle.std.proofs.lemmas.Option.{slice_get_past}
 use Rattle.std.proofs.lemmas.Bool.{cases_lt, lt-ltb}
 use Rattle.std.proofs.lemmas.List.{length-map, map-set}
 use Rattle.std.proofs.lemmas.List.Folds.{find_at}
@@ -56,11 +57,6 @@ first_choice usable used others (row ∷ rows) = by_tests (first_choice usable u
 
 -- ---- what is found has a position
 
-pub past : {X : Type 0} (xs : List X) (k : ℕ) → length xs ≤ k → slice_get xs k ≡ None
-past [] k le = refl
-past (x ∷ xs) zero le = absurd (omega arith)
-past (x ∷ xs) (suc k) le = past xs k (omega arith)
-
 pub find_position : {X : Type 0} (p : X → Bool) (xs : List X) → find p xs ≡ option_and_then (slice_get xs) (position p xs)
 find_position {X} p xs = find_at p xs ∙ by_place (nat_lt (position_or_len p xs) (length xs)) refl
   where
@@ -69,7 +65,7 @@ find_position {X} p xs = find_at p xs ∙ by_place (nat_lt (position_or_len p xs
     by_place true is = refl
     by_place false is = elim (cases_lt (position_or_len p xs) (length xs)) [
       | inl less ↦ absurd (true_false (sym (lt-ltb (position_or_len p xs) (length xs) less) ∙ is))
-      | inr more ↦ past xs (position_or_len p xs) more
+      | inr more ↦ slice_get_past xs (position_or_len p xs) more
     ]
       where
         true_false : true ≡ false → ⊥

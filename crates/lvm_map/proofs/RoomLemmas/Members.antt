@@ -10,6 +10,7 @@ use Rattle.lvm_num.specs.declared.descriptor.PvRow.{PvRow}
 use Rattle.lvm_num.specs.declared.descriptor.Descriptor.{Descriptor}
 use Rattle.lvm_num.specs.Descriptor.{IsMember, IsValid}
 use Rattle.lvm_num.specs.Disks.{Disks}
+use Rattle.lvm_num.proofs.Lists.{few_filter}
 use Rattle.lvm_map.specs.FirstFit.{is_among, free_of, may_take, partitions_of, choices}
 use Rattle.lvm_map.specs.Room.{room_of}
 use Rattle.lvm_map.proofs.FirstFitLemmas.FreeLists.{partitions-size}
@@ -49,20 +50,12 @@ list_at f (x ∷ xs) (suc i) d lt all = list_at f xs i d (omega arith) (All-tail
 pub sum-lists : {X : Type 0} (f : X → List Pp) (xs : List X) → sum_by (λ (free : List Pp). length free) (map f xs) ≡ sum_by (λ x. length (f x)) xs
 sum-lists f xs = fold-map (λ total (free : List Pp). total + length free) f 0 xs
 
-count-le : {X : Type 0} (p : X → Bool) (xs : List X) → length (filter p xs) ≤ length xs
-count-le p [] = omega arith
-count-le {X} p (x ∷ xs) = by_test (p x) (count-le p xs)
-  where
-    by_test : (b : Bool) → length (filter p xs) ≤ length xs → length (cond b (x ∷ filter p xs) (filter p xs)) ≤ length (x ∷ xs)
-    by_test true le = omega arith
-    by_test false le = omega arith
-
 free-le : (used : List Pp) (row : PvRow) → row.pps ≤ 1016 → length (free_of used row) ≤ 1016
-free-le used row most = omega (arith, count-le (λ pp. not (is_among used pp)) (partitions_of row), partitions-size row)
+free-le used row most = omega (arith, few_filter (λ pp. not (is_among used pp)) (partitions_of row), partitions-size row)
 
 module _ (d : Descriptor) (valid : IsValid d) (usable : Disks) (used : List Pp) where
   pub few_members : length (room_of d usable used) ≤ 128
-  few_members = omega (arith, length-map (filter (may_take usable []) d.pvs) (free_of used), count-le (may_take usable []) d.pvs, members)
+  few_members = omega (arith, length-map (filter (may_take usable []) d.pvs) (free_of used), few_filter (may_take usable []) d.pvs, members)
     where
       by_size : (big : Bool) → cond big 128 32 ≤ 128
       by_size true = omega arith

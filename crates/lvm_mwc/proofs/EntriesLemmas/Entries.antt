@@ -1,16 +1,15 @@
 -- The entries of a cache after a pin and after an unpin.
-use Rattle.std.proofs.Common.{◌≡◌, ◌≢◌, ◌^◌, ◌<◌, ◌≤◌, ◌+◌, ◌-◌, ◌++◌, ◌||◌, ◌&&◌, ◌==◌, not, ℕ, suc, List, [], ◌∷◌, Some, None, Option, Bool, true, false, cond, nat_lt, length, get_or, set, refl, sym, ◌∙◌, ap, arith, count_by, inl, inr}
-use Rattle.std.specs.List.{list_any, position, remove, refill}
+use Rattle.std.proofs.Common.{◌≡◌, ◌≢◌, ◌^◌, ◌<◌, ◌≤◌, ◌+◌, ◌-◌, ◌++◌, ◌||◌, ◌&&◌, ◌==◌, not, ℕ, suc, List, [], ◌∷◌, Some, None, Option, Bool, true, false, cond, nat_lt, length, get_or, set, refl, sym, ◌∙◌, ap, arith, count_by}
+use Rattle.std.specs.List.{list_any, position, remove, refill, All}
 use Rattle.std.specs.Option.{option_map_or}
-use Rattle.std.proofs.lemmas.Bool.{and_parts, and_right, or_parts, or_from, lt-ltb, le-ltb, eqb-true, eq-eqb, ne_eqb, eqb-false, ltb-true, ltb-false}
-use Rattle.std.proofs.lemmas.Bool.Decides.{eqb_tells}
+use Rattle.std.proofs.lemmas.Bool.{and_parts, and_right, or_parts, or_from, lt-ltb, le-ltb, eqb-true, ne_eqb, eqb-false, ltb-true, ltb-false}
 use Rattle.std.proofs.lemmas.List.{append-nil, length-set, length-append, take_all}
 use Rattle.std.proofs.lemmas.List.Sums.{count_by-le-length}
 use Rattle.std.proofs.Math.Seq.{drop-length}
-use Rattle.std.specs.List.{All}
 use Rattle.std.proofs.lemmas.List.Elements.{All-nil, All-cons, All-head, All-tail, All-push, All-map}
 use Rattle.lvm_num.specs.declared.record.NoteEntry.{NoteEntry}
 use Rattle.lvm_num.specs.Note.{IsEntry}
+use Rattle.lvm_num.proofs.Booleans.{same_turned}
 use Rattle.lvm_mwc.specs.declared.entries.CacheEntry.{CacheEntry}
 use Rattle.lvm_mwc.specs.Firsts.{without_first, with_first}
 use Rattle.lvm_mwc.specs.Entries.{is_entry, is_unpinned, has_entry, pins_of, are_all_pinned, room_for, with_pin, with_unpin, note_of, Differ, AreEntries, MakesRoom}
@@ -20,14 +19,8 @@ use Rattle.lvm_mwc.proofs.FirstsLemmas.{IsFirstAt, first_at, NonePasses, none_at
 pub is_entry-same : (lv group : ℕ) (e : CacheEntry) → is_entry lv group e ≡ true → (e.lv ≡ lv) × (e.group ≡ group)
 is_entry-same lv group e is = let both = and_parts (e.lv == lv) (e.group == group) is in (eqb-true e.lv lv both.0, eqb-true e.group group both.1)
 
-turn : (a b : ℕ) → (a == b) ≡ (b == a)
-turn a b = elim (eqb_tells a b) [
-  | inl is ↦ is.0 ∙ sym (eq-eqb b a (sym is.1))
-  | inr isnt ↦ isnt.0 ∙ sym (ne_eqb b a (λ same. isnt.1 (sym same)))
-]
-
 is_entry-turn : (e f : CacheEntry) → is_entry e.lv e.group f ≡ is_entry f.lv f.group e
-is_entry-turn e f = rw (turn f.lv e.lv, turn f.group e.group) refl
+is_entry-turn e f = rw (same_turned f.lv e.lv, same_turned f.group e.group) refl
 
 -- ---- room
 

@@ -2,9 +2,8 @@
 use Rattle.std.proofs.Common.{◌≡◌, ◌≢◌, ◌⊎◌, ⊎_elim, ℕ, ◌+◌, ◌<◌, Bool, true, false, ◌||◌, List, [], ◌∷◌, ◌++◌, append-nil, length, get_or, take, drop, refl, sym, ap, subst, ◌∙◌, arith}
 use Rattle.std.specs.Prelude.{◌==◌, All, AllPairs}
 use Rattle.std.specs.List.{list_any}
-use Rattle.std.proofs.lemmas.Bool.{false≢true, eq-eqb, eqb-true, or_parts, or_cases}
+use Rattle.std.proofs.lemmas.Bool.{false≢true, eq-eqb, eqb-true, or_parts, or_cases, ne_eqb}
 use Rattle.std.proofs.lemmas.List.{take_more, drop_more, take-append-drop, get_or_append_left, get_or_default, length-append}
-use Rattle.std.proofs.lemmas.Bool.Decides.{nat_tests}
 use Rattle.std.proofs.lemmas.List.Concat.{flat_map-append}
 use Rattle.std.proofs.lemmas.List.Elements.{All-more, All-append}
 use Rattle.std.proofs.lemmas.List.Folds.{list_any_more, list_any_at, list_any_none, list_any-append}
@@ -59,9 +58,6 @@ marked_not_free counts before now map i e lt marked is free =
     (sym (marked (spot (get_or map i e))) ∙ is))
 
 -- ---- one map after the other
-
-differs : (m n : ℕ) → m ≢ n → m == n ≡ false
-differs m n apart = grind (arith, nat_tests)
 
 -- the partitions of the maps up to a row and with it, and of all maps
 partitions-more : (lvs : List LvRow) (i : ℕ) (e : LvRow) → i < length lvs → partitions_in (take (i + 1) lvs) ≡ partitions_in (take i lvs) ++ (get_or lvs i e).map
@@ -120,7 +116,7 @@ counted_is_free counts before now lvs i e lt none marked all =
       free = λ k d k-lt.
           let unseen : list_any (λ (pp : Pp). spot (get_or own k d) == spot pp) old-pps ≡ false =
           list_any_none (λ (pp : Pp). spot (get_or own k d) == spot pp) old-pps
-          (λ j q j-lt. differs (spot (get_or own k d)) (spot (get_or old-pps j q))
+          (λ j q j-lt. ne_eqb (spot (get_or own k d)) (spot (get_or old-pps j q))
           (λ same. AllPairs-across (λ (a b : Pp). spot a ≢ spot b) old-pps (own ++ rest) once j k q j-lt (omega (arith, k-lt, length-append own rest))
           (sym same ∙ ap spot (get_or_default own k d q k-lt ∙ sym (get_or_append_left own rest q k k-lt))))) in
           marked (spot (get_or own k d)) ∙ ap (λ b. b || list_any (λ (pp : Pp). spot (get_or own k d) == spot pp) old-pps) (none (spot (get_or own k d))) ∙ unseen;

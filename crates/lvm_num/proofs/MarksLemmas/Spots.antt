@@ -2,8 +2,7 @@
 use Rattle.std.proofs.Common.{◌≡◌, ◌≢◌, ℕ, suc, ◌<◌, ◌≤◌, true, false, eqb, List, [], ◌∷◌, length, map, get_or, subst, arith}
 use Rattle.std.specs.Prelude.{◌==◌, All, AllPairs}
 use Rattle.std.specs.List.{list_any, IsDistinct}
-use Rattle.std.proofs.lemmas.Bool.{eqb-true}
-use Rattle.std.proofs.lemmas.Bool.Decides.{nat_tests}
+use Rattle.std.proofs.lemmas.Bool.{eqb-true, ne_eqb}
 use Rattle.std.proofs.lemmas.List.{length-map}
 use Rattle.std.proofs.lemmas.List.Elements.{All-map, All-head, All-tail, recursion_from_All}
 use Rattle.std.proofs.lemmas.List.Folds.{Any-from_list_any}
@@ -32,16 +31,13 @@ spot-same a b a-in b-in same =
     let pp : a.pp ≡ b.pp = omega arith in
     λ t. record { disk = disk t; pp = pp t }
 
-differ : (m n : ℕ) → m ≢ n → eqb m n ≡ false
-differ m n apart = grind (arith, nat_tests)
-
 distinct : (pps : List Pp) → All IsBounded pps → AllPairs (λ (a b : Pp). a ≢ b) pps → IsDistinct eqb (map spot pps)
 unfolding IsDistinct
 distinct [] in_bounds apart = tt
 distinct (pp ∷ pps) in_bounds apart = (
   recursion_from_All (λ y. eqb (spot pp) y ≡ false) (map spot pps)
       (All-map (λ y. eqb (spot pp) y ≡ false) spot pps
-      (λ k d lt. differ (spot pp) (spot (get_or pps k d))
+      (λ k d lt. ne_eqb (spot pp) (spot (get_or pps k d))
       (λ same. apart 0 (suc k) d (omega arith) (omega (arith, lt))
       (spot-same pp (get_or pps k d) (All-head IsBounded pp pps in_bounds) (All-tail IsBounded pp pps in_bounds k d lt) same)))),
   distinct pps (All-tail IsBounded pp pps in_bounds) (AllPairs-right (λ (a b : Pp). a ≢ b) (pp ∷ []) pps apart),

@@ -22,7 +22,7 @@ is_one X at zero r e = absurd cc
 is_one X at (suc n) r e = ⊎_elim (λ (h : newest_below at n ≡ Some r). let d = is_one X at n r h in (d.0, omega (arith, d.1), d.2)) (λ (h : at n ≡ Some r). (n, omega arith, h)) (of_two (newest_below at n) (at n) r e)
 
 -- a stamp isn't before itself, and what isn't before a stamp isn't before an earlier one
-not_itself : (a : Stamp) → stamp_lt a a ≡ false
+pub not_itself : (a : Stamp) → stamp_lt a a ≡ false
 not_itself a = grind (arith, nat_tests)
 
 -- a isn't before b, and b isn't before c

@@ -3,7 +3,6 @@ use Rattle.std.proofs.Common.{◌≡◌, ⊎_elim, inl, inr, ℕ, ◌+◌, ◌�
 use Rattle.std.specs.Int.{w32, w64, from_be_bytes}
 use Rattle.std.proofs.lemmas.Bool.{cases_lt}
 use Rattle.std.proofs.lemmas.List.{take-append-le, drop-append-le, length-drop}
-use Rattle.std.proofs.lemmas.Bool.Decides.{nat_tests}
 use Rattle.std.proofs.lemmas.Nat.{from_be_bytes-to_be_bytes_4, from_be_bytes-to_be_bytes_8}
 use Rattle.lvm_num.specs.declared.record.Stamp.{Stamp}
 use Rattle.lvm_num.specs.declared.record.Kind.{Kind}
@@ -12,9 +11,7 @@ use Rattle.lvm_num.specs.Record.{slot_size, record_sectors, frame, Frames, stamp
 use Rattle.lvm_num.specs.Torn.{Carries, slot_at, stamp_of, BeforeIsFresh, BeforeIsOlder, BeforeIsKept}
 use Rattle.lvm_num.proofs.RecordLemmas.Records.{enough}
 use Rattle.lvm_num.proofs.TornLemmas.Torn.{frame-carries, sectors-fit, begins, slot-some, Reads, reads, front-length}
-
-not-itself : (a : Stamp) → stamp_lt a a ≡ false
-not-itself a = grind (arith, nat_tests)
+use Rattle.lvm_num.proofs.RecordLemmas.Newest.{not_itself}
 
 -- the stamp that a sector carries stands in it
 pub carried : (kind : Kind) (r : Framed) (sector : List ℕ) → Frames kind r → Carries kind r.stamp sector → stamp_of sector ≡ r.stamp
@@ -27,7 +24,7 @@ pub before_is_fresh : BeforeIsFresh
 before_is_fresh kind r first sectors frames before k lt has =
     let now : stamp_lt (stamp_of (sectors (first + k))) r.stamp ≡ true = before k (omega (arith, lt, sectors-fit kind (length r.content) frames.content)) has.magic in
     let same : stamp_of (sectors (first + k)) ≡ r.stamp = carried kind r (sectors (first + k)) frames has in
-    absurd (differ (sym (not-itself r.stamp) ∙ ap (λ (s : Stamp). stamp_lt s r.stamp) (sym same) ∙ now))
+    absurd (differ (sym (not_itself r.stamp) ∙ ap (λ (s : Stamp). stamp_lt s r.stamp) (sym same) ∙ now))
   where
     differ : false ≡ true → ⊥
     differ e = absurd cc

@@ -12,7 +12,7 @@ use Rattle.lvm_operands.specs.declared.rest.Misfit.{Misfit}
 use Rattle.lvm_operands.specs.Reading.{operand, ends, options, is_new, disks}
 use Rattle.lvm_parse.specs.Grammar.{line_of}
 use Rattle.lvm_top.specs.passed.Lines.{role_of}
-use Rattle.lvm_top.specs.passed.Stage.{IsAllowed, ScriptState}
+use Rattle.lvm_top.specs.passed.GroupLines.{IsAllowed, ScriptState}
 use Rattle.lvm_top.specs.OneGroup.{IsUnforced}
 use Rattle.lvm_program.specs.Woven.{IsSized, copy_count, mklv_line, mkvg_line}
 

@@ -12,7 +12,7 @@ use Rattle.lvm_vol.specs.Log.{Log}
 use Rattle.lvm_kept.specs.Moments.{Moment}
 use Rattle.lvm_steps.specs.Moments.{ImagesKept, IsUpheld, Keeps}
 use Rattle.lvm_steps.proofs.MomentsLemmas.Spans.{keeps_still, span_upholds}
-use Rattle.lvm_stamps.specs.Behind.{IsAhead, IsBehind}
+use Rattle.lvm_steps.specs.Behind.{IsAhead, IsBehind}
 use Rattle.lvm_parse.specs.Grammar.{line_of}
 use Rattle.lvm_parse.specs.declared.command.Command.{Command}
 use Rattle.lvm_operands.specs.declared.rest.Misfit.{Misfit}
@@ -28,11 +28,11 @@ use Rattle.lvm_load.specs.Totals.{entries_since, totals_of}
 use Rattle.lvm_load.specs.Weaving.{Weaves, Weaving}
 use Rattle.lvm_load.proofs.FactsLemmas.{Gains, begun_still, gains_none, gains_then, turn_gains, weave_gains}
 use Rattle.lvm_top.specs.passed.HolderVariants as holder
-use Rattle.lvm_top.specs.passed.Running.{RunsOn}
+use Rattle.lvm_top.specs.passed.Tie.{RunsOn}
 use Rattle.lvm_top.specs.passed.ReplyVariants as reply
 use Rattle.lvm_top.specs.passed.Lines.{IsLine, asked_after, role_of}
 use Rattle.lvm_top.specs.passed.Recover.{HasNoPassive}
-use Rattle.lvm_top.specs.passed.Stage.{Holder, IsBetween, IsBetweenStage, IsOfKind, IsAllowed, IsAlone, IsStuck, IsTimely, OfRequests, Reply, Stage, StandsAlone, StandsBy, ScriptState, history_in, history_of, moment_in, most_refusals, session_in, session_of, shelf_of, state_in, without_facts}
+use Rattle.lvm_top.specs.passed.GroupLines.{Holder, IsBetween, IsBetweenStage, IsOfKind, IsAllowed, IsAlone, IsStuck, IsTimely, OfRequests, Reply, Stage, StandsAlone, StandsBy, ScriptState, history_in, history_of, moment_in, most_refusals, session_in, session_of, shelf_of, state_in, without_facts}
 use Rattle.lvm_top.specs.declared.run.Ended.{Ended}
 use Rattle.lvm_top.specs.declared.status.ExitStatus.{ExitStatus}
 use Rattle.lvm_top.specs.declared.status.ExitStatus.TheVariants as ended

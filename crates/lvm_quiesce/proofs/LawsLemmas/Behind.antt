@@ -3,9 +3,9 @@ use Rattle.std.proofs.Common.{ℕ, List}
 use Rattle.lvm_disk.specs.Device.{Device}
 use Rattle.lvm_disk.specs.Images.{LeavesNoMore}
 use Rattle.lvm_vol.specs.Facts.{Fact}
-use Rattle.lvm_stamps.specs.Behind.{beginning_at, ClockIsAhead}
-use Rattle.lvm_stamps.proofs.LawsLemmas.Stamps.{later_is_after_too, session_is_from_moment}
-use Rattle.lvm_stamps.proofs.LawsLemmas.Shelves.{still_keeps_before, left_is_before}
+use Rattle.lvm_steps.specs.Behind.{beginning_at, ClockIsAhead}
+use Rattle.lvm_steps.proofs.LawsLemmas.Stamps.{later_is_after_too, session_is_from_moment}
+use Rattle.lvm_steps.proofs.LawsLemmas.Shelves.{still_keeps_before, left_is_before}
 use Rattle.lvm_quiesce.specs.Behind.{IsBehindEach, ClockIsAheadEach}
 use Rattle.lvm_quiesce.specs.Laws.{EndsStayBehind, StillIsBehindEach, EachIsBehind, LaterIsBehindEach, StillIsAheadEach, QuietIsAhead}
 use Rattle.lvm_quiesce.proofs.LawsLemmas.Ending.{ends_leave, ends_leave_no_more}

@@ -1,19 +1,18 @@
 -- The greatest epoch, row by row.
 use Rattle.std.proofs.Common.{◌≡◌, ◌⊎◌, inl, inr, ⊎_elim, ℕ, ◌+◌, ◌<◌, ◌≤◌, Bool, true, false, max, Option, Some, None, length, refl, sym, ap, subst, ◌∙◌, arith}
 use Rattle.std.specs.Prelude.{if◌then◌else◌, ◌==◌}
-use Rattle.std.proofs.lemmas.Bool.{eq-eqb, cases_lt}
-use Rattle.std.proofs.lemmas.Bool.Decides.{eqb_tells}
+use Rattle.std.proofs.lemmas.Bool.{eq-eqb, cases_lt, eqb-true}
 use Rattle.lvm_num.specs.declared.descriptor.Descriptor.{Descriptor}
 use Rattle.lvm_num.specs.declared.status.Status.{Status}
 use Rattle.lvm_num.specs.Record.{Stamped}
 use Rattle.lvm_num.specs.Votes.{all_disks}
 use Rattle.lvm_num.proofs.RecordLemmas.Newest.{is_one}
-use Rattle.lvm_survey.specs.passed.Names.{Contents, if_passes, is_of, is_status_of, descriptor_among}
-use Rattle.lvm_survey.specs.declared.row.Survey.{Survey}
-use Rattle.lvm_survey.specs.Surveyed.{surveyed}
+use Rattle.lvm_quorum.specs.passed.Survey.{Contents, if_passes, is_of, is_status_of, descriptor_among}
+use Rattle.lvm_quorum.specs.declared.row.Survey.{Survey}
+use Rattle.lvm_quorum.specs.Surveyed.{surveyed}
 use Rattle.lvm_quorum.specs.Choosing.{IsGreatestEpoch}
 use Rattle.lvm_quorum.specs.Groups.{epoch_of, epoch_on, IsLastEpoch}
-use Rattle.lvm_survey.proofs.SurveyedLemmas.SurveyRows.{descriptor_past, status_past}
+use Rattle.lvm_quorum.proofs.SurveyedLemmas.SurveyRows.{descriptor_past, status_past}
 
 -- the greatest of the first i
 pub record IsGreatestBelow (f : ℕ → ℕ) (i greatest : ℕ) : Type 0 where
@@ -68,9 +67,6 @@ shows : {X : Type 0} (test : X → Bool) (o : Option (Stamped X)) (seen : ℕ) �
 shows test None seen e = inl (sym e)
 shows test (Some r) seen e = by_test test r seen (test r.value) refl e
 
-same_number : (a b : ℕ) → a == b ≡ true → a ≡ b
-same_number a b e = elim (eqb_tells a b) [ inl same ↦ same.1 | inr differ ↦ absurd (let no = differ.0 in cc) ]
-
 which : (a b seen : ℕ) → max a b ≡ seen → (a ≡ seen) ⊎ (b ≡ seen)
 which a b seen e = elim (cases_lt a b) [ inl less ↦ inr (omega arith) | inr more ↦ inl (omega arith) ]
 
@@ -90,7 +86,7 @@ found_on c id r e =
     offered (Some x) h =
         let k = kept (x.value.id == id) x r h in
         let same : x ≡ r = cc in
-        (k.1, subst (λ (y : Stamped Descriptor). y.value.id ≡ id) same (same_number x.value.id id k.0))
+        (k.1, subst (λ (y : Stamped Descriptor). y.value.id ≡ id) same (eqb-true x.value.id id k.0))
 
 -- the epoch is that of a record of the group on a disk
 abbrev IsShown : Contents → ℕ → ℕ → Type 0
@@ -123,9 +119,9 @@ seen_is_greatest c id seen group found last = record {
     on_disk : (d : ℕ) → epoch_on c id d ≡ seen → IsShown c id seen
     on_disk d e = ⊎_elim
         (λ (a : epoch_of (if_passes (is_of id) (c.descriptor d)) ≡ seen). ⊎_elim of_none
-        (λ (s : (r : Stamped Descriptor) × (c.descriptor d ≡ Some r) × (is_of id r.value ≡ true) × (r.stamp.epoch ≡ seen)). inl (d, s.0, s.1, same_number s.0.value.id id s.2, s.3))
+        (λ (s : (r : Stamped Descriptor) × (c.descriptor d ≡ Some r) × (is_of id r.value ≡ true) × (r.stamp.epoch ≡ seen)). inl (d, s.0, s.1, eqb-true s.0.value.id id s.2, s.3))
         (shows (is_of id) (c.descriptor d) seen a))
         (λ (b : epoch_of (if_passes (is_status_of id) (c.status d)) ≡ seen). ⊎_elim of_none
-        (λ (s : (r : Stamped Status) × (c.status d ≡ Some r) × (is_status_of id r.value ≡ true) × (r.stamp.epoch ≡ seen)). inr (d, s.0, s.1, same_number s.0.value.id id s.2, s.3))
+        (λ (s : (r : Stamped Status) × (c.status d ≡ Some r) × (is_status_of id r.value ≡ true) × (r.stamp.epoch ≡ seen)). inr (d, s.0, s.1, eqb-true s.0.value.id id s.2, s.3))
         (shows (is_status_of id) (c.status d) seen b))
         (which (epoch_of (if_passes (is_of id) (c.descriptor d))) (epoch_of (if_passes (is_status_of id) (c.status d))) seen e)

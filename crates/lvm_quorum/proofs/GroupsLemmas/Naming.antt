@@ -4,13 +4,13 @@ use Rattle.std.specs.Prelude.{slice_get}
 use Rattle.std.proofs.lemmas.Bool.{cases_lt}
 use Rattle.lvm_num.specs.declared.descriptor.Descriptor.{Descriptor}
 use Rattle.lvm_num.specs.Record.{Stamped}
-use Rattle.lvm_survey.specs.declared.row.SurveyRow.{SurveyRow}
-use Rattle.lvm_survey.specs.declared.row.Survey.{Survey}
-use Rattle.lvm_survey.specs.Surveyed.{surveyed}
-use Rattle.lvm_survey.specs.passed.Names.{under}
+use Rattle.lvm_quorum.specs.declared.row.SurveyRow.{SurveyRow}
+use Rattle.lvm_quorum.specs.declared.row.Survey.{Survey}
+use Rattle.lvm_quorum.specs.Surveyed.{surveyed}
+use Rattle.lvm_quorum.specs.passed.Survey.{under}
 use Rattle.lvm_quorum.specs.Choosing.{HasName}
 use Rattle.lvm_quorum.specs.Groups.{IsNamedBy}
-use Rattle.lvm_survey.proofs.SurveyedLemmas.SurveyRows.{descriptor_shown, descriptor_past}
+use Rattle.lvm_quorum.proofs.SurveyedLemmas.SurveyRows.{descriptor_shown, descriptor_past}
 
 -- a disk gives the name to one group
 pub one_id : (o : Option (Stamped Descriptor)) (name : List ℕ) (a b : ℕ) → IsNamedBy o name a → IsNamedBy o name b → a ≡ b

@@ -1,16 +1,16 @@
 -- What is chosen of a group, and by a name.
-use Rattle.std.proofs.Common.{◌≡◌, ℕ, Bool, false, Option, Some, None, refl, sym, ap, subst, ◌∙◌}
-use Rattle.std.specs.Prelude.{IfSome, slice_get, option_and_then, is_some, if◌then◌else◌}
+use Rattle.std.proofs.Common.{◌≡◌, ℕ, Bool, Option, Some, None, refl, sym, ap, subst, ◌∙◌}
+use Rattle.std.specs.Prelude.{IfSome, slice_get, option_and_then, if◌then◌else◌}
 use Rattle.lvm_num.specs.declared.descriptor.Descriptor.{Descriptor}
 use Rattle.lvm_num.specs.declared.record.Stamp.{Stamp}
 use Rattle.lvm_num.specs.Descriptor.{IsValid}
 use Rattle.lvm_num.specs.Disks.{Disks}
 use Rattle.lvm_num.specs.Record.{Stamped, newest_below}
 use Rattle.lvm_num.specs.Votes.{all_disks, votes_in, is_enough_to_read}
-use Rattle.lvm_survey.specs.passed.Names.{Contents, if_passes, passes, is_status_of, descriptor_among, is_voter, has_quorum, status_among, under}
-use Rattle.lvm_survey.specs.declared.row.SurveyRow.{SurveyRow}
-use Rattle.lvm_survey.specs.declared.row.Survey.{Survey}
-use Rattle.lvm_survey.specs.Surveyed.{surveyed, IsSurveyValid}
+use Rattle.lvm_quorum.specs.passed.Survey.{Contents, if_passes, passes, is_status_of, descriptor_among, is_voter, has_quorum, status_among, under}
+use Rattle.lvm_quorum.specs.declared.row.SurveyRow.{SurveyRow}
+use Rattle.lvm_quorum.specs.declared.row.Survey.{Survey}
+use Rattle.lvm_quorum.specs.Surveyed.{surveyed, IsSurveyValid}
 use Rattle.lvm_quorum.proofs.RecordLemmas.{newest_none}
 use Rattle.lvm_quorum.proofs.KeptGroupLemmas.Voting.{no_voters}
 use Rattle.lvm_quorum.proofs.GroupsLemmas.Epochs.{found_on}
@@ -52,8 +52,3 @@ unfolding has_quorum
 quorum_is c id have r enough found votes is =
     is ∙ ap (is_enough_to_read r.value) votes
     ∙ sym (ap (passes (λ (g : Descriptor). is_enough_to_read g (votes_in g (is_voter c all_disks id)))) found)
-
--- a test that says that there is none
-pub is_none : {X : Type 0} (o : Option X) → is_some o ≡ false → o ≡ None
-is_none None e = refl
-is_none (Some x) e = absurd cc

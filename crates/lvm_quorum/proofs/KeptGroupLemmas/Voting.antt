@@ -9,13 +9,13 @@ use Rattle.lvm_num.specs.declared.descriptor.Descriptor.{Descriptor}
 use Rattle.lvm_num.specs.Geometry.{sectors_needed}
 use Rattle.lvm_num.specs.Record.{Stamped}
 use Rattle.lvm_num.specs.Votes.{all_disks}
-use Rattle.lvm_survey.specs.passed.Names.{Contents, passes, is_of, has_room, members_in, descriptor_among, is_voter, under}
-use Rattle.lvm_survey.specs.declared.row.SurveyRow.{SurveyRow}
-use Rattle.lvm_survey.specs.declared.row.Survey.{Survey}
-use Rattle.lvm_survey.specs.Surveyed.{surveyed}
-use Rattle.lvm_survey.specs.Rows.{AreRows}
-use Rattle.lvm_survey.proofs.SurveyedLemmas.SurveyRows.{descriptor_shown, size_shown, descriptor_past}
-use Rattle.lvm_survey.proofs.Passing.{neither, PassBelow, all_pass}
+use Rattle.lvm_quorum.specs.passed.Survey.{Contents, passes, is_of, has_room, members_in, descriptor_among, is_voter, under}
+use Rattle.lvm_quorum.specs.declared.row.SurveyRow.{SurveyRow}
+use Rattle.lvm_quorum.specs.declared.row.Survey.{Survey}
+use Rattle.lvm_quorum.specs.Surveyed.{surveyed}
+use Rattle.lvm_quorum.specs.Rows.{AreRows}
+use Rattle.lvm_quorum.proofs.SurveyedLemmas.SurveyRows.{descriptor_shown, size_shown, descriptor_past}
+use Rattle.lvm_quorum.proofs.Passing.{neither, PassBelow, all_pass}
 
 past_rows : (s : Survey) (id : ℕ) (g : Descriptor) (d : ℕ) → length s.rows ≤ d → members_in (surveyed s) all_disks id g d ≡ false
 past_rows s id g d past = ap (λ (o : Option (Stamped Descriptor)). passes (is_of id) o && has_room (surveyed s) d g) (descriptor_past s d past)

@@ -9,28 +9,33 @@ use Rattle.lvm_disk.specs.Device.{Device}
 use Rattle.lvm_kept.specs.Moments.{Moment}
 use Rattle.lvm_steps.specs.Moments.{Keeps}
 use Rattle.lvm_steps.specs.Requests.{at}
-use Rattle.lvm_stamps.specs.Behind.{IsAhead, beginning_at}
-use Rattle.lvm_stamps.proofs.LawsLemmas.Shelves.{left_is_before}
+use Rattle.lvm_steps.specs.Behind.{IsAhead, beginning_at}
+use Rattle.lvm_steps.proofs.LawsLemmas.Shelves.{left_is_before}
 use Rattle.lvm_vol.specs.Facts.{Fact}
 use Rattle.lvm_vol.specs.Log.{Log}
 use Rattle.lvm_session.specs.declared.open.Power.{Power}
 use Rattle.lvm_session.specs.declared.open.Power.TheVariants as power
 use Rattle.lvm_session.specs.Causes.{is_over}
 use Rattle.lvm_session.specs.Sound.{IsLit, IsSound, is_dark}
-use Rattle.lvm_group_lines.specs.passed.Tie.{moment_of}
+use Rattle.lvm_group_lines.specs.passed.Tie.{moment_of, LeavesSession, RunsOn}
 use Rattle.lvm_session.specs.State.{Core, votes_there, state_of}
-use Rattle.lvm_group_lines.specs.passed.Running.{LeavesSession, RunsOn}
-use Rattle.lvm_group_lines.proofs.passed.Running.{stays_unstuck}
+use Rattle.lvm_group_lines.proofs.passed.Tie.{stays_unstuck}
 use Rattle.lvm_posts.specs.declared.posts.Post.{Post}
 use Rattle.lvm_posts.specs.Posts.{ended_with}
 use Rattle.lvm_posts.proofs.PostsLemmas.{over_answered}
-use Rattle.lvm_group_lines.specs.passed.Stage.{Holder, Reply, Stage, EndsUnasked, GoesOn, OfRequests, most_refusals, HaveRooms, IsBetweenStage}
-use Rattle.lvm_group_lines.specs.passed.Stage.{IsCarried, IsClosed, IsEnded, IsFittingStage, IsOfKind, history_in, moment_in, posts_ended, session_of}
-use Rattle.lvm_group_lines.specs.passed.Stage.{shelf_in, state_in, ArePosted, IsOnBetween, IsTimely, ScriptState, without_facts}
-use Rattle.lvm_group_lines.specs.passed.HolderVariants as holder
-use Rattle.lvm_group_lines.specs.passed.RefusalVariants as refusal
-use Rattle.lvm_group_lines.specs.passed.ReplyVariants as reply
-use Rattle.lvm_group_lines.proofs.passed.Stage.{end_posts, IsRun, before_end, later_end, over_goes, run_goes, spanned}
+use Rattle.lvm_group_lines.specs.declared.holder.Holder.{Holder}
+use Rattle.lvm_group_lines.specs.declared.reply.Reply.{Reply}
+use Rattle.lvm_group_lines.specs.declared.stage.Stage.{Stage}
+use Rattle.lvm_group_lines.specs.Ends.{EndsUnasked}
+use Rattle.lvm_group_lines.specs.Moments.{GoesOn, OfRequests}
+use Rattle.lvm_group_lines.specs.Replies.{most_refusals}
+use Rattle.lvm_group_lines.specs.Stages.{HaveRooms, IsBetweenStage, IsCarried, IsClosed, IsEnded, IsFittingStage, IsOfKind, history_in, moment_in, posts_ended, session_of, shelf_in, state_in}
+use Rattle.lvm_group_lines.specs.State.{ArePosted, IsOnBetween, IsTimely, ScriptState, without_facts}
+use Rattle.lvm_group_lines.specs.declared.holder.Holder.TheVariants as holder
+use Rattle.lvm_group_lines.specs.declared.reply.Refusal.TheVariants as refusal
+use Rattle.lvm_group_lines.specs.declared.reply.Reply.TheVariants as reply
+use Rattle.lvm_group_lines.proofs.StateLemmas.{end_posts}
+use Rattle.lvm_group_lines.proofs.MomentsLemmas.Running.{IsRun, before_end, later_end, over_goes, run_goes, spanned}
 use Rattle.lvm_range_lines.specs.Leaving.{IsOverWith, CarriesTo, CarriesBy, serving}
 
 -- ---- as states

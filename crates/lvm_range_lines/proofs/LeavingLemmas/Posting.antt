@@ -10,12 +10,12 @@ use Rattle.lvm_session.specs.Calls.{is_asked}
 use Rattle.lvm_session.specs.declared.open.Open.{Open}
 use Rattle.lvm_session.specs.Sound.{IsAsked}
 use Rattle.lvm_session.specs.State.{Core}
-use Rattle.lvm_group_lines.specs.passed.Earlier.{AreGone}
+use Rattle.lvm_group_lines.specs.passed.Handover.{AreGone}
 use Rattle.lvm_posts.specs.declared.asked.Asked.{Asked}
 use Rattle.lvm_posts.specs.declared.posts.Post.{Post}
 use Rattle.lvm_posts.specs.Posts.{AreAnswered, AreHeld}
 use Rattle.lvm_group_lines.specs.passed.Ranges.{IsAskedFor, AreApart, KeepsEarlier, KeepsOthers, KeepsTable}
-use Rattle.lvm_group_lines.specs.passed.Stage.{ArePosted, IsPosted}
+use Rattle.lvm_group_lines.specs.State.{ArePosted, IsPosted}
 use Rattle.lvm_range_lines.specs.Leaving.{KeepsPosts}
 use Rattle.lvm_range_lines.specs.Requests.{post_of}
 use Rattle.lvm_range_lines.specs.Taking.{LeavesOthers}

@@ -10,14 +10,20 @@ use Rattle.lvm_session.specs.declared.open.Power.{Power}
 use Rattle.lvm_session.specs.declared.open.Power.TheVariants as power
 use Rattle.lvm_session.specs.Sound.{IsSound}
 use Rattle.lvm_session.specs.State.{Core, state, state_of}
-use Rattle.lvm_group_lines.specs.passed.Running.{RunsOn}
+use Rattle.lvm_group_lines.specs.passed.Tie.{RunsOn}
 use Rattle.lvm_posts.specs.declared.asked.Asked.{Asked}
 use Rattle.lvm_posts.specs.declared.posts.Post.{Post}
 use Rattle.lvm_group_lines.specs.passed.Ranges.{AskRangeFault, Asks, IsAskedFor, range_fault}
 use Rattle.lvm_group_lines.proofs.passed.Ranges.{room_first}
-use Rattle.lvm_group_lines.specs.passed.Stage.{Reply, Stage, EndsUnasked, OfRequests, most_refusals, HaveRooms, IsBetweenStage, IsCarried, IsFittingStage, state_in, ArePosted}
-use Rattle.lvm_group_lines.specs.passed.ReplyVariants as reply
-use Rattle.lvm_group_lines.proofs.passed.Stage.{posts_need}
+use Rattle.lvm_group_lines.specs.declared.reply.Reply.{Reply}
+use Rattle.lvm_group_lines.specs.declared.stage.Stage.{Stage}
+use Rattle.lvm_group_lines.specs.Ends.{EndsUnasked}
+use Rattle.lvm_group_lines.specs.Moments.{OfRequests}
+use Rattle.lvm_group_lines.specs.Replies.{most_refusals}
+use Rattle.lvm_group_lines.specs.Stages.{HaveRooms, IsBetweenStage, IsCarried, IsFittingStage, state_in}
+use Rattle.lvm_group_lines.specs.State.{ArePosted}
+use Rattle.lvm_group_lines.specs.declared.reply.Reply.TheVariants as reply
+use Rattle.lvm_group_lines.proofs.StateLemmas.{posts_need}
 use Rattle.lvm_range_lines.specs.Leaving.{KeepsPosts, serving}
 use Rattle.lvm_range_lines.specs.Requests.{AsksByName, PostDoes, Posted, There, post_of}
 use Rattle.lvm_range_lines.proofs.LeavingLemmas.Ending.{carried_ends, runs_to}

@@ -13,22 +13,26 @@ use Rattle.lvm_session.specs.declared.open.Power.TheVariants as power
 use Rattle.lvm_session.specs.Causes.{is_over}
 use Rattle.lvm_session.specs.Sound.{IsSound}
 use Rattle.lvm_session.specs.State.{Core, State, state, votes_there, state_of}
-use Rattle.lvm_group_lines.specs.passed.Running.{RunsOn}
-use Rattle.lvm_group_lines.proofs.passed.Running.{runs_both}
+use Rattle.lvm_group_lines.specs.passed.Tie.{RunsOn}
+use Rattle.lvm_group_lines.proofs.passed.Tie.{runs_both}
 use Rattle.lvm_posts.specs.declared.asked.Asked.{Asked}
 use Rattle.lvm_posts.specs.declared.fault.RangeFault.{RangeFault}
 use Rattle.lvm_posts.specs.declared.fault.RangeFault.TheVariants as fault
 use Rattle.lvm_posts.specs.declared.posts.Post.{Post}
 use Rattle.lvm_posts.specs.Deciding.{AllWell, FirstFails, RangeEnds, fault_by}
 use Rattle.lvm_posts.specs.Pieces.{piece_lp}
-use Rattle.lvm_group_lines.specs.passed.Ranges.{AskRangeGives, Asks, IsAskedFor, range_fault, AskRangeFault, FinishGives, Finished, WasStuck}
-use Rattle.lvm_group_lines.specs.passed.Ranges.{KeepsOthers, IsUnfinished, RangeCause}
+use Rattle.lvm_group_lines.specs.passed.Ranges.{AskRangeFault, AskRangeGives, Asks, FinishGives, Finished, IsAskedFor, IsUnfinished, KeepsOthers, RangeCause, WasStuck, range_fault}
 use Rattle.lvm_group_lines.proofs.passed.Ranges.{range_cause}
-use Rattle.lvm_group_lines.specs.passed.Stage.{Reply, Stage, EndsUnasked, OfRequests, InFull, Shows, WithoutMemory, most_refusals, HaveRooms}
-use Rattle.lvm_group_lines.specs.passed.Stage.{ComesTo, IsBetweenStage, IsCarried, IsFittingStage, state_in, ArePosted, ScriptState, is_unheard}
-use Rattle.lvm_group_lines.specs.passed.HolderVariants as holder
-use Rattle.lvm_group_lines.specs.passed.ReplyVariants as reply
-use Rattle.lvm_group_lines.proofs.passed.Stage.{over_landed}
+use Rattle.lvm_group_lines.specs.declared.reply.Reply.{Reply}
+use Rattle.lvm_group_lines.specs.declared.stage.Stage.{Stage}
+use Rattle.lvm_group_lines.specs.Ends.{EndsUnasked}
+use Rattle.lvm_group_lines.specs.Moments.{OfRequests}
+use Rattle.lvm_group_lines.specs.Replies.{InFull, Shows, WithoutMemory, is_unheard, most_refusals}
+use Rattle.lvm_group_lines.specs.Stages.{ComesTo, HaveRooms, IsBetweenStage, IsCarried, IsFittingStage, state_in}
+use Rattle.lvm_group_lines.specs.State.{ArePosted, ScriptState}
+use Rattle.lvm_group_lines.specs.declared.holder.Holder.TheVariants as holder
+use Rattle.lvm_group_lines.specs.declared.reply.Reply.TheVariants as reply
+use Rattle.lvm_group_lines.proofs.MomentsLemmas.Running.{over_landed}
 use Rattle.lvm_range_lines.specs.Leaving.{EndsBy, FailsIf, KeepsPosts, Waited, serving}
 use Rattle.lvm_range_lines.specs.Refusals.{Ending, ending_of, is_stuck, range_refusal, reply_of}
 use Rattle.lvm_range_lines.specs.Requests.{AsksByName, EndsWell, Fails, Finishes, IsFinished, NoMemory, OnVolume, ShowsBlocks, ShowsThem, There}

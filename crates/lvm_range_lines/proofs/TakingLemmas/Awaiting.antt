@@ -8,8 +8,8 @@ use Rattle.lvm_disk.proofs.PathsLemmas.{append-path}
 use Rattle.lvm_disk.proofs.CountingLemmas.{rose_by_none}
 use Rattle.lvm_session.specs.State.{State}
 use Rattle.lvm_group_lines.specs.passed.Driver.{IsAny}
-use Rattle.lvm_group_lines.specs.passed.Running.{RunsOn}
-use Rattle.lvm_group_lines.proofs.passed.Running.{runs_both, runs_none}
+use Rattle.lvm_group_lines.specs.passed.Tie.{RunsOn}
+use Rattle.lvm_group_lines.proofs.passed.Tie.{runs_both, runs_none}
 use Rattle.lvm_posts.specs.declared.posts.Post.{Post}
 use Rattle.lvm_group_lines.specs.passed.Ranges.{Stuck, KeepsTable, AwaitEnds, HavePiecesLanded, IsUnfinished, TurnsFor}
 use Rattle.lvm_group_lines.proofs.passed.Ranges.{table_same, table_then}

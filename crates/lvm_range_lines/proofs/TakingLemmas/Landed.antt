@@ -12,12 +12,15 @@ use Rattle.lvm_session.specs.declared.open.Power.TheVariants as power
 use Rattle.lvm_session.specs.Causes.{is_over}
 use Rattle.lvm_session.specs.Sound.{IsSound}
 use Rattle.lvm_session.specs.State.{Core, votes_there, state_of}
-use Rattle.lvm_group_lines.specs.passed.Running.{RunsOn}
+use Rattle.lvm_group_lines.specs.passed.Tie.{RunsOn}
 use Rattle.lvm_posts.specs.declared.posts.Post.{Post}
 use Rattle.lvm_posts.specs.Posts.{ended_with}
 use Rattle.lvm_posts.proofs.PostsLemmas.{over_answered}
-use Rattle.lvm_group_lines.specs.passed.Stage.{Reply, Stage, HaveRooms, IsEnded, IsFittingStage, history_in, posts_ended, ArePosted}
-use Rattle.lvm_group_lines.proofs.passed.Stage.{end_posts}
+use Rattle.lvm_group_lines.specs.declared.reply.Reply.{Reply}
+use Rattle.lvm_group_lines.specs.declared.stage.Stage.{Stage}
+use Rattle.lvm_group_lines.specs.Stages.{HaveRooms, IsEnded, IsFittingStage, history_in, posts_ended}
+use Rattle.lvm_group_lines.specs.State.{ArePosted}
+use Rattle.lvm_group_lines.proofs.StateLemmas.{end_posts}
 use Rattle.lvm_range_lines.specs.Leaving.{serving}
 use Rattle.lvm_range_lines.specs.Taking.{GoesBehind, IsClosedBehind, LandedEnds}
 use Rattle.lvm_range_lines.proofs.LeavingLemmas.Ending.{off_kind}

@@ -2,21 +2,21 @@
 use Rattle.std.proofs.Common.{◌≡◌, inl, inr, ◌≤◌, ◌<◌, ◌+◌, ◌-◌, ◌^◌, ◌++◌, ℕ, zero, suc, true, false, List, [], ◌∷◌, Option, Some, None, IfSome, length, take, drop, get_or, refl, sym, ◌∙◌, ap, subst, append_assoc, arith}
 use Rattle.std.specs.List.{list_any}
 use Rattle.std.proofs.lemmas.Bool.{ne_eqb}
-use Rattle.std.proofs.lemmas.List.{append-nil}
+use Rattle.std.proofs.lemmas.List.{append-nil, length-append}
 use Rattle.lvm_vol.specs.Facts.{Fact}
 use Rattle.lvm_vol.specs.Legal.{IsLater}
 use Rattle.lvm_vol.specs.Log.{Log, is_answered, request_of, taken_fact}
 use Rattle.lvm_vol.proofs.LogLemmas.{follows_taken}
 use Rattle.lvm_history.proofs.LogLemmas.Staying.{answered_stays}
-use Rattle.lvm_stamps.proofs.LawsLemmas.Clock.{later_joins}
+use Rattle.lvm_steps.proofs.LawsLemmas.Clock.{later_joins}
 use Rattle.lvm_session.specs.State.{Core, State, state}
 use Rattle.lvm_posts.specs.declared.asked.Asked.{Asked}
 use Rattle.lvm_posts.specs.declared.posts.Post.{Post}
 use Rattle.lvm_posts.specs.Posts.{AreAnswered, takings}
 use Rattle.lvm_group_lines.specs.passed.Ranges.{AreApart, KeepsOthers, HavePiecesLanded}
-use Rattle.lvm_group_lines.specs.passed.Earlier.{AreGone, with_taken}
-use Rattle.lvm_group_lines.proofs.passed.Earlier.{open_with}
-use Rattle.lvm_group_lines.specs.passed.Stage.{ArePosted, IsPosted}
+use Rattle.lvm_group_lines.specs.passed.Handover.{AreGone, with_taken}
+use Rattle.lvm_group_lines.proofs.passed.Handover.{open_with}
+use Rattle.lvm_group_lines.specs.State.{ArePosted, IsPosted}
 use Rattle.lvm_disk.specs.Device.{Device}
 use Rattle.lvm_kept.specs.Moments.{Moment}
 use Rattle.lvm_steps.specs.Moments.{Keeps}
@@ -24,10 +24,9 @@ use Rattle.lvm_steps.specs.Requests.{at}
 use Rattle.lvm_session.specs.declared.open.Open.{Open}
 use Rattle.lvm_session.specs.declared.open.Power.TheVariants as power
 use Rattle.lvm_session.specs.Calls.{is_asked}
-use Rattle.lvm_group_lines.specs.passed.Running.{RunsOn}
-use Rattle.lvm_group_lines.proofs.passed.Running.{runs_both, runs_none}
+use Rattle.lvm_group_lines.specs.passed.Tie.{RunsOn}
+use Rattle.lvm_group_lines.proofs.passed.Tie.{runs_both, runs_none}
 use Rattle.lvm_posts.specs.Deciding.{RangeEnds}
-use Rattle.std.proofs.lemmas.List.{length-append}
 use Rattle.lvm_range_lines.specs.declared.answers.Answers.{Answers}
 use Rattle.lvm_range_lines.specs.Answers.{Gathers}
 use Rattle.lvm_range_lines.specs.Refusals.{Ending}

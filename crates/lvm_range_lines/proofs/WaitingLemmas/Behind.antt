@@ -12,13 +12,18 @@ use Rattle.lvm_group_lines.specs.passed.Names.{is_of_volume, HaveAllLanded}
 use Rattle.lvm_keeps.proofs.Lists.{count_cons}
 use Rattle.lvm_session.specs.State.{Core, State}
 use Rattle.lvm_group_lines.specs.passed.Quiesce.{IsBehindEach}
-use Rattle.lvm_stamps.specs.Behind.{IsBehind}
+use Rattle.lvm_steps.specs.Behind.{IsBehind}
 use Rattle.lvm_session.specs.Sound.{IsLit}
 use Rattle.lvm_group_lines.specs.passed.Tie.{LeavesDescriptors}
 use Rattle.lvm_posts.specs.declared.posts.Post.{Post}
 use Rattle.lvm_posts.specs.Posts.{takings}
-use Rattle.lvm_group_lines.specs.passed.HolderVariants as holder
-use Rattle.lvm_group_lines.specs.passed.Stage.{Reply, Stage, GoesOn, HasBegunHeld, IsAlone, OfRequests, IsStuck, most_refusals, HaveRooms, IsFittingStage, history_in, session_in, shelf_in, state_in, ArePosted, IsOnBetween, StandsAlone, ScriptState}
+use Rattle.lvm_group_lines.specs.declared.holder.Holder.TheVariants as holder
+use Rattle.lvm_group_lines.specs.declared.reply.Reply.{Reply}
+use Rattle.lvm_group_lines.specs.declared.stage.Stage.{Stage}
+use Rattle.lvm_group_lines.specs.Moments.{GoesOn, HasBegunHeld, IsAlone, OfRequests}
+use Rattle.lvm_group_lines.specs.Replies.{IsStuck, most_refusals}
+use Rattle.lvm_group_lines.specs.Stages.{HaveRooms, IsFittingStage, history_in, session_in, shelf_in, state_in}
+use Rattle.lvm_group_lines.specs.State.{ArePosted, IsOnBetween, StandsAlone, ScriptState}
 use Rattle.lvm_group_lines.specs.passed.TieCommands.{StandsAfter}
 use Rattle.lvm_range_lines.specs.declared.answers.Answers.{Answers}
 use Rattle.lvm_range_lines.specs.Answers.{Gathers, Tells, TellsAll, TellsNone}

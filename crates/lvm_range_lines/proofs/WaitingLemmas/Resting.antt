@@ -9,12 +9,18 @@ use Rattle.lvm_steps.specs.Requests.{at}
 use Rattle.lvm_session.specs.State.{Core, State, state, state_of}
 use Rattle.lvm_session.specs.Sound.{IsSound}
 use Rattle.lvm_group_lines.specs.passed.Names.{IsSettled as IsSettledCore}
-use Rattle.lvm_group_lines.specs.passed.Running.{RunsOn}
+use Rattle.lvm_group_lines.specs.passed.Tie.{RunsOn}
 use Rattle.lvm_posts.specs.declared.posts.Post.{Post}
 use Rattle.lvm_group_lines.specs.passed.TieCommands.{StandsAfter}
-use Rattle.lvm_group_lines.specs.passed.Stage.{Reply, Stage, EndsUnasked, GoesOn, OfRequests, HaveRooms, IsBetweenStage, IsFittingStage, history_in, session_in, shelf_in, state_in, ArePosted, IsOnBetween, ScriptState, without_facts}
-use Rattle.lvm_group_lines.specs.passed.ReplyVariants as reply
-use Rattle.lvm_group_lines.proofs.passed.Stage.{still_goes, IsToldOf, posts_few}
+use Rattle.lvm_group_lines.specs.declared.reply.Reply.{Reply}
+use Rattle.lvm_group_lines.specs.declared.stage.Stage.{Stage}
+use Rattle.lvm_group_lines.specs.Ends.{EndsUnasked}
+use Rattle.lvm_group_lines.specs.Moments.{GoesOn, OfRequests}
+use Rattle.lvm_group_lines.specs.Stages.{HaveRooms, IsBetweenStage, IsFittingStage, history_in, session_in, shelf_in, state_in}
+use Rattle.lvm_group_lines.specs.State.{ArePosted, IsOnBetween, ScriptState, without_facts}
+use Rattle.lvm_group_lines.specs.declared.reply.Reply.TheVariants as reply
+use Rattle.lvm_group_lines.proofs.MomentsLemmas.Going.{still_goes}
+use Rattle.lvm_group_lines.proofs.StateLemmas.{IsToldOf, posts_few}
 use Rattle.lvm_range_lines.specs.Answers.{Tells}
 use Rattle.lvm_range_lines.specs.Leaving.{resting}
 use Rattle.lvm_range_lines.specs.Refusals.{Ending}

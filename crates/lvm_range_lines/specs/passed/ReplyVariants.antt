@@ -1,2 +1,2 @@
--- Passed on from `lvm_stage`: the variants of `Reply`.
-pub use Rattle.lvm_group_lines.specs.passed.ReplyVariants.{Answers, Lines, Ok, Posted, Refused, Silent, Stepped, Synced}
+-- Passed on from `lvm_group_lines`: the variants of `Reply`.
+pub use Rattle.lvm_group_lines.specs.declared.reply.Reply.TheVariants.{Answers, Lines, Ok, Posted, Refused, Silent, Stepped, Synced}

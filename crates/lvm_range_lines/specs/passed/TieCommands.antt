@@ -1,3 +1,2 @@
 -- Passed on from `lvm_tie_commands`.
-pub use Rattle.lvm_group_lines.specs.passed.TieCommands.{IsAloneAtFirst, IsLeftStanding, IsLeftStandingSince, MayBeCommanded, StandsAfter}
-pub use Rattle.lvm_group_lines.specs.passed.TieCommands.{StandsSince}
+pub use Rattle.lvm_group_lines.specs.passed.TieCommands.{IsAloneAtFirst, IsLeftStanding, IsLeftStandingSince, KeepsShownOf, MayBeCommanded, MayServeWith, StandsAfter, StandsSince, added_by}

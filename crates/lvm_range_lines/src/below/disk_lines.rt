@@ -1,3 +1,3 @@
-//! Passed on from `lvm_disk_lines`.
+//! Passed on from `lvm_group_lines`.
 
-pub use lvm_group_lines::below::disk_lines::{do_arrange, do_cut, do_read, do_write};
+pub use lvm_group_lines::{do_arrange, do_cut, do_read, do_write};

@@ -4,7 +4,7 @@ use Rattle.std.specs.Prelude.{is_some, unwrap_or}
 use Rattle.std.specs.List.{list_any}
 use Rattle.std.proofs.lemmas.List.{append-nil}
 use Rattle.std.proofs.lemmas.List.Folds.{list_any-append}
-use Rattle.lvm_num.proofs.Booleans.{or_false}
+use Rattle.lvm_num.proofs.Booleans.{or_false, not_so}
 use Rattle.lvm_vol.specs.declared.entry.Outcome.{Outcome}
 use Rattle.lvm_vol.specs.declared.entry.Outcome.TheVariants as outcome
 use Rattle.lvm_vol.specs.Facts.{Fact, Request, Begun, Stands, begun, begun_by}
@@ -19,7 +19,6 @@ use Rattle.lvm_session.specs.Judging.{is_waiting}
 use Rattle.lvm_session.specs.Sound.{outcome_by, outcome_in}
 use Rattle.lvm_session.specs.State.{Core}
 use Rattle.lvm_keeps.proofs.DarkLemmas.Ending.{asked_same}
-use Rattle.lvm_keeps.proofs.Small.{not_so}
 use Rattle.lvm_keeps.proofs.SoundLemmas.Telling.{asked_still, outcome_still}
 use Rattle.lvm_ranges.specs.Keeping.{KeepsRequests}
 use Rattle.lvm_ranges.specs.Reading.{AreReads, IsReadAt, NoRead, OneRead}

@@ -1,8 +1,10 @@
 -- Passed on from the crates below.
-pub use Rattle.lvm_driver.proofs.passed.Names.{at_place, counted_at, seen_open_keeps, turn_counts, turn_keeps, leaves_both, leaves_none, stays_unstuck, Given, given, turn_goes, any_one, clash, or_true, goes_entry, goes_on, sees_entered, quiet_lasts, and_both}
-pub use Rattle.lvm_turn_losses.proofs.passed.Names.{of_place, own_pp, pp_same, never_stands_still}
+pub use Rattle.lvm_driver.proofs.passed.Names.{at_place, counted_at, seen_open_keeps, turn_counts, turn_keeps, leaves_both, leaves_none, stays_unstuck, Given, given, turn_goes, any_one, or_true, goes_entry, goes_on, sees_entered, quiet_lasts}
+pub use Rattle.lvm_keeps_events.proofs.EndsLemmas.CopyReadFail.{of_place}
+pub use Rattle.lvm_keeps_events.proofs.JudgingLemmas.DuesMarks.{own_pp, pp_same}
+pub use Rattle.lvm_keeps_events.proofs.KeepsFallsLemmas.Standing.{never_stands_still}
 pub use Rattle.lvm_posts.proofs.PostsLemmas.{over_answered}
-pub use Rattle.lvm_turn_losses.proofs.LosingLemmas.Losing.{loses_both, loses_none, turn_loses}
-pub use Rattle.lvm_turn_losses.proofs.LosingLemmas.Votes.{votes_go}
-pub use Rattle.lvm_turn_losses.proofs.MarksLemmas.Reviewing.{reviewed}
-pub use Rattle.lvm_turn_losses.proofs.MarksLemmas.Turning.{turn_marks}
+pub use Rattle.lvm_keeps_events.proofs.LosingLemmas.Losing.{loses_both, loses_none, turn_loses}
+pub use Rattle.lvm_keeps_events.proofs.LosingLemmas.Votes.{votes_go}
+pub use Rattle.lvm_keeps_events.proofs.LossesLemmas.Reviewing.{reviewed}
+pub use Rattle.lvm_keeps_events.proofs.LossesLemmas.Turning.{turn_marks}

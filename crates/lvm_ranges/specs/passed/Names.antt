@@ -8,5 +8,5 @@ pub use Rattle.lvm_posts.specs.Pieces.{IsLaidOut}
 pub use Rattle.lvm_posts.specs.Posts.{AreAnswered, AreHeld, ended_with, takings}
 pub use Rattle.lvm_posts.specs.declared.asked.Asked.{Asked}
 pub use Rattle.lvm_posts.specs.declared.posts.Post.{Post}
-pub use Rattle.lvm_turn_losses.specs.Losing.{LosesByFaults, LosesVotesByFaults, LostForFaults}
-pub use Rattle.lvm_turn_losses.specs.Marks.{MarksFor, has_failed_on, is_lasting, is_marked, is_open_at}
+pub use Rattle.lvm_keeps_events.specs.Losing.{LosesByFaults, LosesVotesByFaults, LostForFaults}
+pub use Rattle.lvm_keeps_events.specs.Losses.{MarksFor, has_failed_on, is_lasting, is_marked, is_open_at}

@@ -1,12 +1,12 @@
 -- Which refusals come before anything is asked of a disk.
 use Rattle.std.proofs.Common.{◌≡◌, ◌⊎◌, ⊎_elim, inl, inr, ◌+◌, ◌-◌, [], ℕ, List, Some, slice_get, Result, Ok, Err, refl, sym, ◌∙◌, ap, subst, arith}
+use Rattle.std.proofs.lemmas.Option.{slice_get_within}
 use Rattle.lvm_num.specs.Buffer.{Buffer, Sector}
 use Rattle.lvm_disk.specs.Device.{Device}
 use Rattle.lvm_vol.specs.Log.{Log}
 use Rattle.lvm_kept.specs.Moments.{Moment}
 use Rattle.lvm_transfer.specs.declared.moves.Moved.{Moved}
 use Rattle.lvm_transfer.specs.declared.moves.Moved.TheVariants as moved
-use Rattle.lvm_transfer.proofs.RecordLemmas.{got_within}
 use Rattle.lvm_raw.specs.declared.fault.RawFault.{RawFault}
 use Rattle.lvm_raw.specs.declared.fault.RawFault.TheVariants as fault
 use Rattle.lvm_raw.specs.Asking.{IsNoDisk, IsInData, IsOutside, HasRoomForPieces, IsFull, IsRejected, MayAsk}
@@ -23,7 +23,7 @@ use Rattle.lvm_raw.proofs.LookingLemmas.{look_rooms, unserved}
 
 module _ (device : Device) (log : Log) (disk at count : ℕ) where
   not_there : (size : ℕ) → slice_get device.sizes disk ≡ Some size → IsNoDisk device disk → ⊥
-  not_there size is none = let less = got_within device.sizes disk size is in omega (arith, less, none)
+  not_there size is none = let less = slice_get_within device.sizes disk size is in omega (arith, less, none)
 
   one_size : (a b : ℕ) → slice_get device.sizes disk ≡ Some a → slice_get device.sizes disk ≡ Some b → a ≡ b
   one_size a b p q = cc

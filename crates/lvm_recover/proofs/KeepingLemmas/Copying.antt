@@ -1,6 +1,7 @@
 -- What the copying keeps.
 use Rattle.std.proofs.Common.{◌≡◌, ◌⊎◌, inl, inr, ⊎_elim, ℕ, Bool, true, false, ◌&&◌, not, List, [], ◌∷◌, ◌++◌, Option, Some, refl, sym, ap, subst, ◌∙◌}
 use Rattle.std.specs.Prelude.{IsTrue, filter, if◌then◌else◌}
+use Rattle.std.proofs.lemmas.Option.{none-some}
 use Rattle.lvm_num.specs.declared.place.Pp.{Pp}
 use Rattle.lvm_num.specs.declared.descriptor.Mode.{Mode}
 use Rattle.lvm_num.specs.declared.descriptor.Mode.TheVariants.{Active, Passive, Off}
@@ -22,7 +23,6 @@ use Rattle.lvm_kept.specs.Committed.{IsWithinDisks}
 use Rattle.lvm_kept.specs.Changes.{Unchanged, Excused, BlocksChange}
 use Rattle.lvm_kept.proofs.ChangesLemmas.Changing.{data_keeps}
 use Rattle.lvm_kept.proofs.CommittedLemmas.Finding.{finding_reads}
-use Rattle.lvm_steps.proofs.RecordLemmas.{no_some}
 use Rattle.lvm_rest.specs.passed.Names.{ShowsCommitted}
 use Rattle.lvm_rest.proofs.passed.Names.{shows_group, only_found, status_read}
 use Rattle.lvm_steps.proofs.GroupLemmas.Members.{one_group, parts_of, member_of_parts}
@@ -201,7 +201,7 @@ module _ (group : Descriptor) (status : Status) (there : Disks) (old new : Conte
         (λ same. inl same)
         (λ (from : IsFromFirst old group stands there d b (new.block d b)). absurd (
         let of = left_passes (usable_on there) (copies_of from.row from.lp) (from.first ∷ from.others) from.usable from.copy (inr from.one) in
-        no_some shows.descriptor (sym none ∙ ap old.descriptor (sym from.disk) ∙ shows.described from.copy.disk (left_of (there from.copy.disk) (not (is_stale_by stands from.copy)) of.1))))
+        none-some shows.descriptor (sym none ∙ ap old.descriptor (sym from.disk) ∙ shows.described from.copy.disk (left_of (there from.copy.disk) (not (is_stale_by stands from.copy)) of.1))))
         (change.each d b);
   }) kept
 

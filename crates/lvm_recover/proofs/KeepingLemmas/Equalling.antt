@@ -2,6 +2,7 @@
 use Rattle.std.proofs.Common.{◌≡◌, ◌⊎◌, inl, inr, ⊎_elim, ℕ, Bool, true, ◌&&◌, not, List, [], ◌∷◌, ◌++◌, Option, Some, refl, sym, ap, subst, ◌∙◌}
 use Rattle.std.specs.Prelude.{IsTrue, IsFalse}
 use Rattle.std.specs.List.{AllByRecursion}
+use Rattle.std.proofs.lemmas.Bool.{cases_Bool}
 use Rattle.lvm_num.specs.declared.place.Pp.{Pp}
 use Rattle.lvm_num.specs.declared.descriptor.Mode.{Mode}
 use Rattle.lvm_num.specs.declared.descriptor.Mode.TheVariants.{Active, Passive, Off}
@@ -14,6 +15,7 @@ use Rattle.lvm_num.specs.Geometry.{track_group_of, sector_of}
 use Rattle.lvm_num.specs.Note.{Noted}
 use Rattle.lvm_num.specs.Record.{Stamped}
 use Rattle.lvm_num.specs.Votes.{all_disks, CanWrite}
+use Rattle.lvm_num.proofs.Booleans.{clash_gives}
 use Rattle.lvm_vol.specs.declared.entry.Vol.TheVariants.{Lv}
 use Rattle.lvm_vol.specs.Facts.{Fact, Cut}
 use Rattle.lvm_vol.specs.May.{Known, known}
@@ -31,7 +33,7 @@ use Rattle.lvm_crash.specs.Session.{members_showing}
 use Rattle.lvm_crash.proofs.LawsLemmas.Remaining.{by_id}
 use Rattle.lvm_crash.proofs.GroupLemmas.Lists.{left_of, right_of, both_of, not_so, of_passing}
 use Rattle.lvm_rest.specs.Rest.{NoneIsBehind}
-use Rattle.lvm_rest.proofs.Rows.{clash, tested, at_passing, none_passing, passes_none}
+use Rattle.lvm_rest.proofs.Rows.{at_passing, none_passing, passes_none}
 use Rattle.lvm_recover.specs.Recopied.{IsRecopied, HoldFirst, IsToEqual, AreActiveEven, OnlyNotesOf}
 use Rattle.lvm_recover.specs.Keeping.{NamedAreAll, QuietIsEven, EqualledIsEven, NotesMayGo}
 use Rattle.lvm_recover.proofs.KeepingLemmas.Copying.{left_passes, from_own}
@@ -135,7 +137,7 @@ module _ (group : Descriptor) (status : Status) (there : Disks) (old : Contents)
           | inl none ↦ inr (still_differ stands group row lp b set k (λ p copy use_. ⊎_elim
               (λ (in_there : IsTrue (there p.disk)). absurd (passes_none (usable_on there) (copies_of row lp) p none copy (both_of (there p.disk) (not (is_stale_by stands p)) in_there (right_of (set p.disk) (not (is_stale_by stands p)) use_))))
               (λ isnt. isnt)
-              (tested (there p.disk))) Active named)
+              (cases_Bool (there p.disk))) Active named)
           | inr some ↦ inl (
               let hold = even row lp b one is inside in (
                 hold.0,
@@ -146,7 +148,7 @@ module _ (group : Descriptor) (status : Status) (there : Disks) (old : Contents)
                     (λ (isnt : IsFalse (there p.disk)). absurd (passes_none (usable_on there) (copies_of row lp) some.0
                     (none_behind row lp p one inside.inside copy (in_members p.disk (left_of (set p.disk) (not (is_stale_by stands p)) use_)) isnt (not_so (is_stale_by stands p) (right_of (set p.disk) (not (is_stale_by stands p)) use_)))
                     some.1 some.2))
-                    (tested (there p.disk))),
+                    (cases_Bool (there p.disk))),
               ))
         ]
 
@@ -157,7 +159,7 @@ module _ (group : Descriptor) (status : Status) (there : Disks) (old : Contents)
       | inr differ ↦ inr (still_differ s g row lp b set (known (facts ++ Cut ∷ []) (Lv row.number) b) (λ p copy use_. ⊎_elim
           (λ (in_there : IsTrue (there p.disk)). absurd (apart (one_group (old.descriptor p.disk) id group.id (show p.disk (left_of (set p.disk) (not (is_stale_by s p)) use_)) (shows_group old group status there shows p.disk in_there))))
           (λ isnt. isnt)
-          (tested (there p.disk))) row.mode differ)
+          (cases_Bool (there p.disk))) row.mode differ)
     ]
 
     of_reads : (id : ℕ) (b : Disks) (h k : Descriptor) (set : Disks) → ((d : ℕ) → IsTrue (set d) → IsTrue (members_in old all_disks id k d)) → Reads old b id h → IsFound old id k
@@ -204,6 +206,6 @@ quiet_is_even c group status there facts valid within enough shows none quiet ke
     equalled_is_even group status there c c facts valid within enough shows (record { rest = refl; each = λ d s. inl refl }) (λ row lp b one inside made. absurd (by row one b row.mode refl made)) kept
   where
     by : (row : LvRow) → IsOneOf group.lvs row → (b : ℕ) (mode : Mode) → row.mode ≡ mode → IsToEqual c (Some shows.stands) there mode row.number b → ⊥
-    by row one b Active is named = absurd (clash (is_named c named.0 row.number (track_group_of b)) named.2 (quiet named.0 row.number (track_group_of b) named.1))
+    by row one b Active is named = absurd (clash_gives (is_named c named.0 row.number (track_group_of b)) named.2 (quiet named.0 row.number (track_group_of b) named.1))
     by row one b Passive is dirty = none row one is
     by row one b Off is never = never

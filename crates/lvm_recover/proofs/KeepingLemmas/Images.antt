@@ -1,8 +1,7 @@
 -- What transfers of recovery leave on disks.
 use Rattle.std.proofs.Common.{◌≡◌, ◌⊎◌, inl, inr, ⊎_elim, ℕ, Bool, true, false, refl, sym, ap, subst, ◌∙◌, arith}
-use Rattle.std.specs.Prelude.{if◌then◌else◌, nat_lt}
+use Rattle.std.specs.Prelude.{if◌then◌else◌, nat_lt, []}
 use Rattle.lvm_num.specs.Geometry.{data_start, sector_of}
-use Rattle.std.specs.Prelude.{[]}
 use Rattle.lvm_disk.specs.Device.{Image}
 use Rattle.lvm_kept.specs.Contents.{data_at, contents_of}
 use Rattle.lvm_kept.proofs.PlacesLemmas.{data_writes}

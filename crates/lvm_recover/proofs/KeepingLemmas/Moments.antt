@@ -15,9 +15,9 @@ use Rattle.lvm_recover.proofs.KeepingLemmas.Copying.{recopied}
 use Rattle.lvm_recover.proofs.KeepingLemmas.Equalling.{even_there, notes_gone}
 use Rattle.lvm_recover.proofs.KeepingLemmas.Images.{images_are_recopied}
 use Rattle.lvm_recover.proofs.Showing.{shows_other_data, behind_other_data}
-use Rattle.lvm_rest.proofs.Rows.{clash}
 use Rattle.lvm_num.specs.declared.descriptor.Mode.{Mode}
 use Rattle.lvm_num.specs.declared.descriptor.Mode.TheVariants.{Active, Off}
+use Rattle.lvm_num.proofs.Booleans.{clash_gives}
 use Rattle.lvm_recover.specs.Recopied.{IsToEqual, AreActiveEven}
 
 not_off : Active ≡ Off → ⊥
@@ -44,7 +44,7 @@ emptying_stays_kept group status there targets sector old now copied may change 
     (λ made. equalled row lp b one active inside (subst (λ (m : Mode). IsToEqual c (Some may.shows.stands) there m row.number b) active made)) (λ off. not_off (sym active ∙ off)) inside))
     (record {
       rest = notes.rest;
-      others = λ d isnt. ⊎_elim (λ same. same) (λ own. clash (there d) (in_there d own.0) isnt) (notes.own d);
+      others = λ d isnt. ⊎_elim (λ same. same) (λ own. clash_gives (there d) (in_there d own.0) isnt) (notes.own d);
     })
 
 -- changes by a plan follow one another

@@ -4,27 +4,25 @@ use Rattle.std.specs.Prelude.{List, [], ◌∷◌, ◌++◌, take, drop}
 use Rattle.std.proofs.lemmas.Bool.{cases_lt}
 use Rattle.std.proofs.lemmas.List.{append-nil, map-append, take_all}
 use Rattle.lvm_num.specs.Buffer.{Buffer, Sector}
+use Rattle.lvm_num.proofs.Fronts.{suc_front}
+use Rattle.lvm_num.proofs.AmongLemmas.{one_at}
 use Rattle.lvm_disk.specs.Device.{Media, Range, Device, IsReady, image_of}
 use Rattle.lvm_disk.specs.Paths.{Here}
 use Rattle.lvm_kept.specs.Plans.{ChangesBy}
 use Rattle.lvm_kept.specs.Group.{IsOneOf}
 use Rattle.lvm_write.proofs.WrittenLemmas.Writing.{if_told, told_at, both_at, both_map, writing_here}
 use Rattle.lvm_write.proofs.PartsLemmas.Transfers.{keeps_here, spends_none}
-use Rattle.lvm_begin.specs.declared.begin.Begun.{Begun}
-use Rattle.lvm_begin.specs.declared.begin.Begun.TheVariants as begun
-use Rattle.lvm_begin.specs.Ends.{HasNoFault}
+use Rattle.lvm_write.specs.declared.begin.Begun.{Begun}
+use Rattle.lvm_write.specs.declared.begin.Begun.TheVariants as begun
+use Rattle.lvm_write.specs.Ends.{HasNoFault}
 use Rattle.lvm_write.specs.Writes.{DiskWritesLeave, IsBack}
+use Rattle.lvm_write.proofs.WritesLemmas.{leaves_then}
 use Rattle.lvm_recovery.specs.declared.copying.Recopy.{Recopy}
 use Rattle.lvm_recovery.proofs.CopyingLemmas.Logged.{just_none, just_then, only_none, only_then, only_wider}
 use Rattle.lvm_recovery.specs.Copying.{IsInRun, IsInOneRun, LogsJust, LogsOnly, StopsAtOne, StopsInCopy, run_at, runs_into, IsFull, is_of_copy, IsOfCopy, IsCopied, CopyGives, sources_and_targets, IsOfCopies, AreApart, AllGive}
-use Rattle.lvm_recovery.proofs.CopyingLemmas.Copied.{does_wider, does_then, back_then, well_then, failed_then, cut_then, left_then, or_first, or_second}
+use Rattle.lvm_recovery.proofs.CopyingLemmas.Copied.{does_wider, back_then, well_then, failed_then, cut_then, left_then, or_first, or_second}
 
 -- ---- the list
-
-pub one_at : {X : Type 0} (l : List X) (k : ℕ) (x : X) → slice_get l k ≡ Some x → IsOneOf l x
-one_at [] k x is = absurd (cc (is))
-one_at (y ∷ l) zero x is = inl (sym (cc (is)))
-one_at (y ∷ l) (suc k) x is = inr (one_at l k x is)
 
 pub place_of_one : {X : Type 0} (l : List X) (x : X) → IsOneOf l x → (k : ℕ) × (k < length l) × (slice_get l k ≡ Some x)
 place_of_one [] x one = absurd one
@@ -35,12 +33,6 @@ pub at_index : {X : Type 0} (l : List X) (k : ℕ) (d : X) → k < length l → 
 at_index [] k d low = absurd (omega (arith, low))
 at_index (x ∷ l) zero d low = refl
 at_index (x ∷ l) (suc k) d low = at_index l k d (omega (arith, low))
-
--- one more of the front
-take_one_more : {X : Type 0} (l : List X) (k : ℕ) (x : X) → slice_get l k ≡ Some x → take (suc k) l ≡ take k l ++ x ∷ []
-take_one_more {X = X} [] k x is = absurd (cc (is))
-take_one_more {X = X} (y ∷ l) zero x is = let e : y ≡ x = cc (is) in ap (λ (z : X). z ∷ []) e
-take_one_more {X = X} (y ∷ l) (suc k) x is = ap (λ (m : List X). y ∷ m) (take_one_more l k x is)
 
 -- the front, one, and those behind it
 split_at_one : {X : Type 0} (l : List X) (k : ℕ) (x : X) → slice_get l k ≡ Some x → l ≡ take k l ++ x ∷ drop (suc k) l
@@ -126,7 +118,7 @@ module _ (copies : List Recopy) (apart : AreApart copies) (number p q : ℕ) (ol
     next_does does = does_wider (is_of_copy one) (sources_and_targets copies) (IsOfCopy now one) (IsOfCopies old copies) (λ d is. disks_among copies one d among is) brings q r now new does
 
     all_do : DiskWritesLeave (is_of_copy one) (IsOfCopy now one) q r now new → DiskWritesLeave (sources_and_targets copies) (IsOfCopies old copies) p r old new
-    all_do does = does_then (sources_and_targets copies) (IsOfCopies old copies) p q r old now new so_far.does (next_does does)
+    all_do does = leaves_then (sources_and_targets copies) (IsOfCopies old copies) p q r old now new so_far.does (next_does does)
 
     all_log : LogsOnly (IsInRun one.into) now.wrote new.wrote → LogsOnly (IsInOneRun copies) old.wrote new.wrote
     all_log logs = only_then (IsInOneRun copies) old.wrote now.wrote new.wrote so_far.ranges (only_wider (IsInRun one.into) (IsInOneRun copies) now.wrote new.wrote (λ range inside. (one, among, inside)) logs)
@@ -160,7 +152,7 @@ module _ (copies : List Recopy) (apart : AreApart copies) (number p q : ℕ) (ol
 
     -- their second runs were written in their order
     runs_more : runs_into (take k copies) ++ run_at one.into ∷ [] ≡ runs_into (take (k + 1) copies)
-    runs_more = sym (ap runs_into (ap (λ (n : ℕ). take n copies) (add-one k) ∙ take_one_more copies k one at) ∙ map-append (λ (c : Recopy). run_at c.into) (take k copies) (one ∷ []))
+    runs_more = sym (ap runs_into (ap (λ (n : ℕ). take n copies) (add-one k) ∙ suc_front copies k one at) ∙ map-append (λ (c : Recopy). run_at c.into) (take k copies) (one ∷ []))
 
     more_write : LogsJust (run_at one.into ∷ []) now.wrote new.wrote → LogsJust (runs_into (take (k + 1) copies)) old.wrote new.wrote
     more_write told = subst (λ (l : List Range). LogsJust l old.wrote new.wrote) runs_more (just_then (runs_into (take k copies)) (run_at one.into ∷ []) old.wrote now.wrote new.wrote so_far.writes told)

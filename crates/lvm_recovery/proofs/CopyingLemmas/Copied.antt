@@ -1,35 +1,28 @@
 -- A copy by a read and a write, and one copy after another.
-use Rattle.std.proofs.Common.{◌≡◌, inl, inr, ℕ, ◌+◌, ◌<◌, Bool, true, false, IsTrue, IsFalse, refl, ◌∙◌, subst, eq-eqb}
+use Rattle.std.proofs.Common.{◌≡◌, inl, inr, ℕ, ◌+◌, ◌<◌, true, false, IsTrue, refl, ◌∙◌, subst, eq-eqb}
 use Rattle.std.specs.Prelude.{◌==◌, ◌⊎◌, List, [], ◌∷◌}
 use Rattle.lvm_num.specs.Buffer.{Buffer, Sector}
 use Rattle.lvm_num.specs.Disks.{Disks}
+use Rattle.lvm_num.proofs.Booleans.{false_by}
 use Rattle.lvm_disk.specs.Counts.{Rose}
 use Rattle.lvm_disk.specs.Device.{Device, Range, image_of}
 use Rattle.lvm_kept.specs.Plans.{Plan, ChangesBy}
 use Rattle.lvm_transfer.specs.Reading.{IsCutOff}
 use Rattle.lvm_write.specs.Parts.{Spends}
 use Rattle.lvm_write.specs.Written.{KeepsShelf}
-use Rattle.lvm_write.proofs.WrittenLemmas.Writing.{if_told, told_at, both_map, changes_more, logs_wider, moments_on, moments_wider}
-use Rattle.lvm_write.proofs.PartsLemmas.Transfers.{keeps_then, spends_then, spent_then}
-use Rattle.lvm_begin.specs.declared.begin.Begun.{Begun}
-use Rattle.lvm_begin.specs.declared.begin.Begun.TheVariants as begun
-use Rattle.lvm_begin.specs.Ends.{HasNoFault}
+use Rattle.lvm_write.proofs.WrittenLemmas.Writing.{if_told, told_at, both_map, changes_more, logs_wider, moments_wider}
+use Rattle.lvm_write.proofs.PartsLemmas.Transfers.{spent_then}
+use Rattle.lvm_write.specs.declared.begin.Begun.{Begun}
+use Rattle.lvm_write.specs.declared.begin.Begun.TheVariants as begun
+use Rattle.lvm_write.specs.Ends.{HasNoFault}
 use Rattle.lvm_write.specs.Writes.{DiskWritesLeave, IsBack}
+use Rattle.lvm_write.proofs.WritesLemmas.{leaves_then}
 use Rattle.lvm_recovery.specs.declared.copying.Recopy.{Recopy}
 use Rattle.lvm_recovery.proofs.CopyingLemmas.Logged.{in_run, just_first, only_planned, only_then}
 use Rattle.lvm_recovery.specs.Copying.{IsInRun, LogsJust, LogsOnly, StopsInCopy, run_at, IsLeftOut, HasFailedAlone, IsOfStep, HoldsRun, RunHolds, StepGives, is_of_copy, IsOfCopy, CopyGives}
-pub use Rattle.std.proofs.lemmas.Bool.{or_left as or_first}
-pub use Rattle.std.proofs.lemmas.Bool.{or_right as or_second}
+pub use Rattle.std.proofs.lemmas.Bool.{or_left as or_first, or_right as or_second}
 
 -- ---- what is done is done by more, too
-
-fewer : (t u : Bool) → (IsTrue t → IsTrue u) → IsFalse u → IsFalse t
-fewer true u more off = absurd (both u (more refl) off)
-  where
-    both : (u : Bool) → IsTrue u → IsFalse u → ⊥
-    both true a b = absurd cc
-    both false a b = absurd cc
-fewer false u more off = refl
 
 module _ (T U : Disks) (P Q : Plan) (disks : (d : ℕ) → IsTrue (T d) → IsTrue (U d)) (more : (d s : ℕ) (value : Sector) → P d s value → Q d s value) where
   keeps_wider : (old new : Device) → KeepsShelf T P old new → KeepsShelf U Q old new
@@ -38,8 +31,8 @@ module _ (T U : Disks) (P Q : Plan) (disks : (d : ℕ) → IsTrue (T d) → IsTr
     arranges = keeps.arranges;
     orders = keeps.orders;
     misses = keeps.misses;
-    starts = λ d off. keeps.starts d (fewer (T d) (U d) (disks d) off);
-    faults = λ d off. keeps.faults d (fewer (T d) (U d) (disks d) off);
+    starts = λ d off. keeps.starts d (false_by (T d) (U d) (disks d) off);
+    faults = λ d off. keeps.faults d (false_by (T d) (U d) (disks d) off);
     wrote = logs_wider P Q old.wrote new.wrote more keeps.wrote;
     media = both_map old.media new.media (λ was is. ChangesBy P (image_of old.sizes was) (image_of new.sizes is)) (λ was is. ChangesBy Q (image_of old.sizes was) (image_of new.sizes is)) keeps.media
         (λ m k was is by. changes_more P Q (image_of old.sizes m) (image_of new.sizes k) more by);
@@ -47,13 +40,6 @@ module _ (T U : Disks) (P Q : Plan) (disks : (d : ℕ) → IsTrue (T d) → IsTr
 
   pub does_wider : (before after : ℕ) (old new : Device) → DiskWritesLeave T P before after old new → DiskWritesLeave U Q before after old new
   does_wider before after old new does = record { keeps = keeps_wider old new does.keeps; spends = does.spends; moments = moments_wider P Q more old new does.moments }
-
-pub does_then : (T : Disks) (P : Plan) (p q r : ℕ) (old mid new : Device) → DiskWritesLeave T P p q old mid → DiskWritesLeave T P q r mid new → DiskWritesLeave T P p r old new
-does_then T P p q r old mid new one two = record {
-  keeps = keeps_then T P old mid new one.keeps two.keeps;
-  spends = spends_then p q r old mid new one.spends two.spends;
-  moments = moments_on P old mid one.keeps.media new one.moments two.moments;
-}
 
 -- ---- what follows transfers that went well
 
@@ -127,7 +113,7 @@ module _ (one : Recopy) (buf : Buffer) (p q : ℕ) (old mid : Device) where
 
     module _ (r : ℕ) (new : Device) where
       both_do : DiskWritesLeave (λ d. d == one.into.disk) (IsOfStep true one.into back) q r mid new → DiskWritesLeave (is_of_copy one) (IsOfCopy old one) p r old new
-      both_do does = does_then (is_of_copy one) (IsOfCopy old one) p q r old mid new (read_does read.does)
+      both_do does = leaves_then (is_of_copy one) (IsOfCopy old one) p q r old mid new (read_does read.does)
           (does_wider (λ d. d == one.into.disk) (is_of_copy one) (IsOfStep true one.into back) (IsOfCopy old one) (λ d is. or_second (d == one.from.disk) (d == one.into.disk) is) brings q r mid new does)
 
       both_log : DiskWritesLeave (λ d. d == one.into.disk) (IsOfStep true one.into back) q r mid new → LogsOnly (IsInRun one.into) old.wrote new.wrote

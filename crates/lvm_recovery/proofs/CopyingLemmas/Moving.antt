@@ -1,5 +1,5 @@
 -- One transfer of 256 sectors of data on a shelf at rest.
-use Rattle.std.proofs.Common.{◌≡◌, inl, inr, ⊎_elim, ℕ, ◌+◌, ◌-◌, ◌<◌, ◌≤◌, Bool, true, false, Option, Some, None, length, slice_get, get_or, IsTrue, IsFalse, refl, sym, ◌∙◌, ap, subst, arith, eq-eqb}
+use Rattle.std.proofs.Common.{◌≡◌, inl, inr, ⊎_elim, ℕ, ◌+◌, ◌-◌, ◌<◌, ◌≤◌, Bool, true, false, Option, Some, None, length, slice_get, get_or, IsFalse, refl, sym, ◌∙◌, ap, subst, arith, eq-eqb}
 use Rattle.std.specs.Prelude.{◌⊎◌, ◌==◌, ◌&&◌, List, [], nat_le, nat_lt, if◌then◌else◌, unwrap_or}
 use Rattle.std.proofs.lemmas.Bool.{eqb-true, ltb-true, leb-true}
 use Rattle.std.proofs.lemmas.Bool.Decides.{nat_tests}
@@ -8,6 +8,7 @@ use Rattle.std.specs.Bool.{MatchBool}
 use Rattle.lvm_num.specs.declared.place.Place.{Place}
 use Rattle.lvm_num.specs.Buffer.{Buffer, Sector}
 use Rattle.lvm_num.specs.Geometry.{data_start}
+use Rattle.lvm_num.proofs.Booleans.{clash_gives}
 use Rattle.lvm_disk.specs.Counts.{Counts, Rose, RoseAt, RoseBy}
 use Rattle.lvm_disk.specs.Device.{Media, Flight, Range, Device, IsReady, IsTorn, written}
 use Rattle.lvm_disk.specs.Steps.{Logs, BothTold, CountsFailure, IsFault, Puts, PutsSome}
@@ -22,15 +23,10 @@ use Rattle.lvm_transfer.proofs.TransferLemmas.Ending.{one_left}
 use Rattle.lvm_transfer.proofs.StepsLemmas.{done_effect, out_flights}
 use Rattle.lvm_write.specs.Written.{IsWriting, IsInPlan}
 use Rattle.lvm_write.proofs.WrittenLemmas.Writing.{logs_one, logs_same, both_map, adds_writing, media_written, stand_told}
-use Rattle.lvm_begin.specs.declared.begin.Begun.{Begun}
-use Rattle.lvm_begin.specs.declared.begin.Begun.TheVariants as begun
+use Rattle.lvm_write.specs.declared.begin.Begun.{Begun}
+use Rattle.lvm_write.specs.declared.begin.Begun.TheVariants as begun
 use Rattle.lvm_recovery.specs.Copying.{IsFull, IsOfStep, RunHolds, HasMoved, HowStep, StepGives, StepWrites}
 use Rattle.lvm_recovery.proofs.CopyingLemmas.Logged.{just_none, just_step}
-
--- the disk is on one side alone
-clash : {X : Type 0} (t : Bool) → IsTrue t → IsFalse t → X
-clash true a b = absurd cc
-clash false a b = absurd cc
 
 -- each sector of a full buffer is there
 at_place : (l : List Sector) (i : ℕ) → i < length l → (value : Sector) × (slice_get l i ≡ Some value)
@@ -284,7 +280,7 @@ module _ (write : Bool) (place : Place) (buf : Buffer) (before ticket : ℕ) (ol
   step_gives after how gives rests falls waits path =
       let done = effect how gives rests in
       let moments = map-path (IsWriting (IsOfStep write place buf) old) (λ x. adds_writing (IsOfStep write place buf) (flight_of 0 write place.disk place.sector 256 buf) old x ready.flights (step_planned write place buf)) path in
-      let other : (d : ℕ) → IsFalse (d == place.disk) → d ≡ place.disk → ⊥ = λ d off here. clash (d == place.disk) (eq-eqb d place.disk here) off in
+      let other : (d : ℕ) → IsFalse (d == place.disk) → d ≡ place.disk → ⊥ = λ d off here. clash_gives (d == place.disk) (eq-eqb d place.disk here) off in
       record {
         does = record {
           keeps = record {

@@ -1,6 +1,6 @@
 -- What planned copies need, and what they leave.
-use Rattle.std.proofs.Common.{◌≡◌, inl, inr, ⊎_elim, ℕ, ◌+◌, ◌*◌, ◌%◌, ◌<◌, ◌≤◌, ◌&&◌, Bool, true, false, not, List, ◌∷◌, Option, Some, slice_get, slice_index_or, refl, sym, subst, ◌∙◌, arith}
-use Rattle.std.specs.Prelude.{IsTrue, IsFalse}
+use Rattle.std.proofs.Common.{◌≡◌, inl, inr, ⊎_elim, ℕ, ◌+◌, ◌*◌, ◌%◌, ◌<◌, ◌≤◌, ◌&&◌, not, List, ◌∷◌, Option, Some, slice_get, slice_index_or, refl, sym, subst, ◌∙◌, arith}
+use Rattle.std.specs.Prelude.{IsTrue}
 use Rattle.std.proofs.Math.Nat.{mod-lt}
 use Rattle.lvm_num.specs.declared.place.Place.{Place}
 use Rattle.lvm_num.specs.declared.place.Pp.{Pp}
@@ -11,7 +11,8 @@ use Rattle.lvm_num.specs.Disks.{Disks}
 use Rattle.lvm_num.specs.Geometry.{data_start, partition_blocks, sectors_needed}
 use Rattle.lvm_num.specs.Descriptor.{IsValid, IsPartitionOf, copies_of, partitions_used}
 use Rattle.lvm_num.specs.Record.{Stamped}
-use Rattle.lvm_num.proofs.Booleans.{first_holds}
+use Rattle.lvm_num.proofs.Booleans.{first_holds, clash_gives}
+use Rattle.lvm_num.proofs.AmongLemmas.{all_one, one_at}
 use Rattle.lvm_disk.specs.Device.{image_of}
 use Rattle.lvm_kept.specs.Contents.{Contents, contents_of}
 use Rattle.lvm_kept.specs.Group.{IsOneOf, is_named, is_stale_by, fresh_on}
@@ -27,8 +28,8 @@ use Rattle.lvm_recovery.specs.Planned.{IsPlannedCopy}
 use Rattle.lvm_map.specs.Places.{place_on}
 use Rattle.lvm_recover.proofs.BeginningLemmas.{usable_stay, next_leaves_none, is_at}
 use Rattle.lvm_recovery.specs.Ending.{NextSamePlan, RestatedMayEqualise, SameNotesSamePlan, HaveSectors, PlannedMayBeMade, EqualisedEnds}
-use Rattle.lvm_recovery.proofs.CopyingLemmas.AllCopied.{one_at, at_index}
-use Rattle.lvm_recovery.proofs.PlannedLemmas.{at_one, planned_are_from_first, planned_are_equalled}
+use Rattle.lvm_recovery.proofs.CopyingLemmas.AllCopied.{at_index}
+use Rattle.lvm_recovery.proofs.PlannedLemmas.{planned_are_from_first, planned_are_equalled}
 
 other_plan : (a b : Contents) (group : Descriptor) (status : Option (Stamped Status)) (there : Disks) (one : Recopy) → ((d lv g : ℕ) → IsTrue (there d) → is_named a d lv g ≡ is_named b d lv g)
     → IsPlannedCopy a group status there one → IsPlannedCopy b group status there one
@@ -66,7 +67,7 @@ room_of : (group : Descriptor) (status : Option (Stamped Status)) (there : Disks
     → fresh_on there status row lp ≡ usable → IsOneOf usable p → place ≡ place_on group.mib p (g * 256) → MayTransfer sizes place
 room_of group status there sizes row lp g usable p place valid have volume is one at =
     let passed = left_passes (λ (q : Pp). there q.disk && not (is_stale_by status q)) (copies_of row lp) usable is p one in
-    let of = at_one (IsPartitionOf group) (partitions_used group) p valid.maps.places (of_rows group.lvs row p volume (of_map row lp p passed.0)) in
+    let of = all_one (IsPartitionOf group) (partitions_used group) p valid.maps.places (of_rows group.lvs row p volume (of_map row lp p passed.0)) in
     let large = have p.disk of.0 (first_holds (there p.disk) (not (is_stale_by status p)) passed.1) of.1 in
     let some = mib_positive group valid in
     let positive : 0 < partition_blocks group.mib = omega (arith, some) in
@@ -92,10 +93,6 @@ planned_may_be_made c group status there sizes copies valid have are k d low =
 
 -- ---- the end
 
-one_side : {X : Type 0} (t : Bool) → IsTrue t → IsFalse t → X
-one_side true a b = absurd cc
-one_side false a b = absurd cc
-
 pub equalised_ends : EqualisedEnds
 equalised_ends copies targets sector old mid new group status there was between is valid inside told_old told_mid planned by copied notes_by =
     let notes = note_shows targets sector (image_of mid.sizes between) (image_of new.sizes is) notes_by in
@@ -107,7 +104,7 @@ equalised_ends copies targets sector old mid new group status there was between 
       equalled = planned_are_equalled group status there copies old mid was between valid told_old told_mid planned by copied;
       emptied = record {
         rest = notes.rest;
-        others = λ d isnt. ⊎_elim (λ same. same) (λ own. one_side (there d) (inside d own.0) isnt) (notes.own d);
+        others = λ d isnt. ⊎_elim (λ same. same) (λ own. clash_gives (there d) (inside d own.0) isnt) (notes.own d);
       };
     }
 

@@ -11,19 +11,20 @@ use Rattle.std.proofs.lemmas.List.Kept.{Contains-dedup, Contains-from_dedup}
 use Rattle.std.proofs.lemmas.List.Filters.{dedup_is}
 use Rattle.lvm_num.specs.declared.record.NoteEntry.{NoteEntry}
 use Rattle.lvm_num.specs.Disks.{Disks}
-use Rattle.lvm_num.proofs.Booleans.{clash}
+use Rattle.lvm_num.proofs.Booleans.{clash, same_answer}
+use Rattle.lvm_num.proofs.AmongLemmas.{one_of_left, one_of_right, one_of_either, one_at}
 use Rattle.lvm_rec.specs.declared.notes.Note.{Note}
 use Rattle.lvm_rec.specs.Note.{noted_of}
 use Rattle.lvm_kept.specs.Group.{IsOneOf, is_named, names_if}
-use Rattle.lvm_survey.specs.declared.row.Survey.{Survey}
-use Rattle.lvm_survey.specs.declared.row.SurveyRow.{SurveyRow}
-use Rattle.lvm_survey.specs.Rows.{AreRows}
-use Rattle.lvm_survey.specs.Surveyed.{surveyed}
+use Rattle.lvm_quorum.specs.declared.row.Survey.{Survey}
+use Rattle.lvm_quorum.specs.declared.row.SurveyRow.{SurveyRow}
+use Rattle.lvm_quorum.specs.Rows.{AreRows}
+use Rattle.lvm_quorum.specs.Surveyed.{surveyed}
 use Rattle.lvm_recover.proofs.passed.Names.{contains}
 use Rattle.lvm_recovery.specs.declared.plan.TrackGroup.{TrackGroup}
 use Rattle.lvm_recovery.specs.Plan.{group_of, AreNamed}
-use Rattle.lvm_recovery.proofs.CopyingLemmas.AllCopied.{one_at, at_index}
-use Rattle.lvm_recovery.proofs.PlanLemmas.Naming.{to_left, to_right, either, both}
+use Rattle.lvm_recovery.proofs.CopyingLemmas.AllCopied.{at_index}
+use Rattle.lvm_recovery.proofs.PlanLemmas.Naming.{both}
 
 -- a row below one names it
 pub record IsNamedBelow (s : Survey) (disks : Disks) (k : ℕ) (one : TrackGroup) : Type 0 where
@@ -90,11 +91,11 @@ note_more s disks groups new k row note own so_far at on noted is = record {
   each = λ one among. ⊎_elim
       (λ (old : IsOneOf groups one). let it = so_far.each one old in let low = it.below in record { d = it.d; below = omega (arith, low); disk = it.disk; named = it.named })
       (λ (here : IsOneOf (map group_of note.entries.items) one). record { d = k; below = omega arith; disk = ap disks (sym (own.own k row at)) ∙ on; named = says one ∙ its_entry note.entries.items one here })
-      (either groups (map group_of note.entries.items) one (subst (λ (l : List TrackGroup). IsOneOf l one) is among));
+      (one_of_either groups (map group_of note.entries.items) one (subst (λ (l : List TrackGroup). IsOneOf l one) is among));
   all = λ one it. let low = it.below in subst (λ (l : List TrackGroup). IsOneOf l one) (sym is) (⊎_elim
-      (λ (less : it.d < k). to_left groups (map group_of note.entries.items) one (so_far.all one (record { d = it.d; below = less; disk = it.disk; named = it.named })))
+      (λ (less : it.d < k). one_of_left groups (map group_of note.entries.items) one (so_far.all one (record { d = it.d; below = less; disk = it.disk; named = it.named })))
       (λ (more : k ≤ it.d). let here : it.d ≡ k = omega (arith, low, more) in
-      to_right groups (map group_of note.entries.items) one (entry_of note.entries.items one (sym (says one) ∙ subst (λ (n : ℕ). IsTrue (is_named (surveyed s) n one.volume one.group)) here it.named)))
+      one_of_right groups (map group_of note.entries.items) one (entry_of note.entries.items one (sym (says one) ∙ subst (λ (n : ℕ). IsTrue (is_named (surveyed s) n one.volume one.group)) here it.named)))
       (cases_lt it.d k));
 }
   where
@@ -141,15 +142,9 @@ is_same x y is =
 pub same_self : (x : TrackGroup) → same_group x x ≡ true
 same_self x = ap (λ (t : Bool). t && x.group == x.group) (eq-eqb x.volume x.volume refl) ∙ eq-eqb x.group x.group refl
 
-pub turn : (p q : Bool) → (p ≡ true → q ≡ true) → (q ≡ true → p ≡ true) → p ≡ q
-turn true true f g = refl
-turn true false f g = sym (f refl)
-turn false true f g = g refl
-turn false false f g = refl
-
 pub same_is_equivalence : IsEquivalence same_group
 same_is_equivalence = record {
   refl = same_self;
-  symm = λ x y. turn (same_group x y) (same_group y x) (λ is. subst (λ (z : TrackGroup). same_group z x ≡ true) (is_same x y is) (same_self x)) (λ is. subst (λ (z : TrackGroup). same_group z y ≡ true) (is_same y x is) (same_self y));
+  symm = λ x y. same_answer (same_group x y) (same_group y x) (λ is. subst (λ (z : TrackGroup). same_group z x ≡ true) (is_same x y is) (same_self x)) (λ is. subst (λ (z : TrackGroup). same_group z y ≡ true) (is_same y x is) (same_self y));
   congr = λ x y z is. ap (λ (w : TrackGroup). same_group w z) (is_same x y is);
 }

@@ -1,5 +1,5 @@
 -- The copies of what is named are exactly the planned ones.
-use Rattle.std.proofs.Common.{◌≡◌, ◌⊎◌, inl, inr, ⊎_elim, ℕ, ◌+◌, ◌*◌, ◌==◌, ◌++◌, ◌&&◌, Bool, true, false, List, [], ◌∷◌, Option, Some, None, find, flat_map, map, filter, refl, sym, ap, subst, ◌∙◌, arith}
+use Rattle.std.proofs.Common.{◌≡◌, inl, inr, ⊎_elim, ℕ, ◌*◌, ◌==◌, ◌&&◌, Bool, true, false, List, [], ◌∷◌, Option, Some, None, find, flat_map, map, filter, refl, sym, ap, subst, ◌∙◌, arith}
 use Rattle.std.specs.Prelude.{if◌then◌else◌, nat_lt}
 use Rattle.std.proofs.lemmas.Bool.{eqb-true, ltb-true}
 use Rattle.std.proofs.lemmas.Bool.Decides.{nat_tests}
@@ -17,6 +17,7 @@ use Rattle.lvm_kept.specs.Contents.{Contents}
 use Rattle.lvm_kept.specs.Group.{IsOneOf, fresh_on}
 use Rattle.lvm_kept.proofs.ChangesLemmas.Entries.{volume_is_row}
 use Rattle.lvm_num.specs.Modes.{is_active}
+use Rattle.lvm_num.proofs.AmongLemmas.{one_of_left, one_of_right, one_of_either}
 use Rattle.lvm_recover.proofs.passed.Names.{row_is_volume}
 use Rattle.lvm_recovery.specs.declared.copying.Recopy.{Recopy}
 use Rattle.lvm_recovery.specs.declared.plan.TrackGroup.{TrackGroup}
@@ -27,28 +28,14 @@ pub use Rattle.std.proofs.lemmas.Bool.{and_parts as both}
 
 -- ---- lists
 
-pub to_left : {X : Type 0} (a b : List X) (x : X) → IsOneOf a x → IsOneOf (a ++ b) x
-to_left [] b x one = absurd one
-to_left (y ∷ a) b x (inl same) = inl same
-to_left (y ∷ a) b x (inr one) = inr (to_left a b x one)
-
-pub to_right : {X : Type 0} (a b : List X) (x : X) → IsOneOf b x → IsOneOf (a ++ b) x
-to_right [] b x one = one
-to_right (y ∷ a) b x one = inr (to_right a b x one)
-
-pub either : {X : Type 0} (a b : List X) (x : X) → IsOneOf (a ++ b) x → IsOneOf a x ⊎ IsOneOf b x
-either [] b x one = inr one
-either (y ∷ a) b x (inl same) = inl (inl same)
-either (y ∷ a) b x (inr one) = ⊎_elim (λ l. inl (inr l)) (λ r. inr r) (either a b x one)
-
 of_flat : {X Y : Type 0} (f : X → List Y) (l : List X) (y : Y) → IsOneOf (flat_map f l) y → (x : X) × IsOneOf l x × IsOneOf (f x) y
 of_flat f [] y one = absurd one
-of_flat f (x ∷ l) y one = ⊎_elim (λ here. (x, inl refl, here)) (λ rest. let it = of_flat f l y rest in (it.0, inr it.1, it.2)) (either (f x) (flat_map f l) y one)
+of_flat f (x ∷ l) y one = ⊎_elim (λ here. (x, inl refl, here)) (λ rest. let it = of_flat f l y rest in (it.0, inr it.1, it.2)) (one_of_either (f x) (flat_map f l) y one)
 
 to_flat : {X Y : Type 0} (f : X → List Y) (l : List X) (x : X) (y : Y) → IsOneOf l x → IsOneOf (f x) y → IsOneOf (flat_map f l) y
 to_flat f [] x y among one = absurd among
-to_flat f (z ∷ l) x y (inl same) one = to_left (f z) (flat_map f l) y (subst (λ w. IsOneOf (f w) y) same one)
-to_flat f (z ∷ l) x y (inr among) one = to_right (f z) (flat_map f l) y (to_flat f l x y among one)
+to_flat f (z ∷ l) x y (inl same) one = one_of_left (f z) (flat_map f l) y (subst (λ w. IsOneOf (f w) y) same one)
+to_flat f (z ∷ l) x y (inr among) one = one_of_right (f z) (flat_map f l) y (to_flat f l x y among one)
 
 pub of_map : {X Y : Type 0} (f : X → Y) (l : List X) (y : Y) → IsOneOf (map f l) y → (x : X) × IsOneOf l x × (y ≡ f x)
 of_map f [] y one = absurd one

@@ -9,20 +9,20 @@ use Rattle.lvm_num.specs.declared.descriptor.Descriptor.{Descriptor}
 use Rattle.lvm_num.specs.declared.status.Status.{Status}
 use Rattle.lvm_num.specs.Disks.{Disks}
 use Rattle.lvm_num.specs.Descriptor.{IsValid, IsLaidOut, IsMember, IsPartitionOf, volume_of, partitions_used}
+use Rattle.lvm_num.proofs.AmongLemmas.{all_one, one_at}
 use Rattle.lvm_kept.proofs.ChangesLemmas.Entries.{volume_is_row}
 use Rattle.lvm_recover.proofs.passed.Names.{of_rows}
 use Rattle.lvm_recovery.specs.declared.copying.Recopy.{Recopy}
 use Rattle.lvm_recovery.specs.declared.plan.TrackGroup.{TrackGroup}
 use Rattle.lvm_recovery.specs.Plan.{copies_of_group, copies_of_found, copies_named}
-use Rattle.lvm_recovery.proofs.CopyingLemmas.AllCopied.{one_at, at_index}
-use Rattle.lvm_recovery.proofs.PlannedLemmas.{at_one}
+use Rattle.lvm_recovery.proofs.CopyingLemmas.AllCopied.{at_index}
 
 -- the row that was found is the volume's
 pub row_found : (group : Descriptor) (rows : List LvRow) (number : ℕ) (o : Option LvRow) → rows ≡ group.lvs → o ≡ find (λ (r : LvRow). r.number == number) rows → volume_of group number ≡ o
 row_found group rows number o same found = ap (λ (l : List LvRow). find (λ (r : LvRow). r.number == number) l) (sym same) ∙ sym found
 
 pub is_laid_out : (group : Descriptor) (rows : List LvRow) (number : ℕ) (row : LvRow) → IsValid group → rows ≡ group.lvs → Some row ≡ find (λ (r : LvRow). r.number == number) rows → IsLaidOut row
-is_laid_out group rows number row valid same found = at_one IsLaidOut group.lvs row valid.maps.laid_out (volume_is_row group number row (row_found group rows number (Some row) same found))
+is_laid_out group rows number row valid same found = all_one IsLaidOut group.lvs row valid.maps.laid_out (volume_is_row group number row (row_found group rows number (Some row) same found))
 
 -- a member is a disk of the shelf
 disk_of : (rows : List PvRow) (disk : ℕ) (row : PvRow) → All IsMember rows → find (λ (r : PvRow). r.disk == disk) rows ≡ Some row → disk < 128
@@ -37,7 +37,7 @@ pub places_below : (group : Descriptor) (rows : List LvRow) (number : ℕ) (row 
 places_below group rows number row valid same found k d low =
     let volume = volume_is_row group number row (row_found group rows number (Some row) same found) in
     let p = slice_index_or row.map k d in
-    let of = at_one (IsPartitionOf group) (partitions_used group) p valid.maps.places (of_rows group.lvs row p volume (one_at row.map k p (at_index row.map k d low))) in
+    let of = all_one (IsPartitionOf group) (partitions_used group) p valid.maps.places (of_rows group.lvs row p volume (one_at row.map k p (at_index row.map k d low))) in
     disk_of group.pvs p.disk of.0 valid.members.each of.1
 
 -- one more

@@ -11,11 +11,13 @@ use Rattle.std.specs.List.Sorted.{IsSorted, IsStrictlySortedBy}
 use Rattle.std.specs.List.Retain.{IsFiltered, DiffersFromLast}
 use Rattle.std.proofs.lemmas.List.Kept.{AllPairs-cons, IsStrictlySortedBy-dedup}
 use Rattle.std.proofs.lemmas.List.Filters.{dedup_is}
+use Rattle.lvm_num.proofs.Booleans.{same_answer}
+use Rattle.lvm_num.proofs.AmongLemmas.{one_at}
 use Rattle.lvm_kept.specs.Group.{IsOneOf}
 use Rattle.lvm_recovery.specs.declared.plan.TrackGroup.{TrackGroup}
 use Rattle.lvm_recovery.specs.Plan.{IsBefore}
-use Rattle.lvm_recovery.proofs.CopyingLemmas.AllCopied.{one_at, at_index}
-use Rattle.lvm_recovery.proofs.PlanLemmas.NamedBy.{same_group, is_same, same_self, turn}
+use Rattle.lvm_recovery.proofs.CopyingLemmas.AllCopied.{at_index}
+use Rattle.lvm_recovery.proofs.PlanLemmas.NamedBy.{same_group, is_same, same_self}
 
 at_rec : {X : Type 0} (P : X → Type 0) (l : List X) (x : X) → AllByRecursion P l → IsOneOf l x → P x
 at_rec P [] x all one = absurd one
@@ -72,5 +74,5 @@ self_is_equal : (x : TrackGroup) → is_eq (by_place x x) ≡ true
 self_is_equal x = ap (λ (r : Ordering). is_eq (ordering_then r (nat_cmp x.group x.group))) (cmp_self x.volume) ∙ ap is_eq (cmp_self x.group)
 
 pub ties_are_same : (x y : TrackGroup) → same_group x y ≡ eq_by_cmp by_place x y
-ties_are_same x y = turn (same_group x y) (is_eq (by_place x y)) (λ is. subst (λ (z : TrackGroup). is_eq (by_place x z) ≡ true) (is_same x y is) (self_is_equal x))
+ties_are_same x y = same_answer (same_group x y) (is_eq (by_place x y)) (λ is. subst (λ (z : TrackGroup). is_eq (by_place x z) ≡ true) (is_same x y is) (self_is_equal x))
     (λ is. subst (λ (z : TrackGroup). same_group x z ≡ true) (equal_by x y (nat_cmp x.volume y.volume) (nat_cmp x.group y.group) refl refl is) (same_self x))

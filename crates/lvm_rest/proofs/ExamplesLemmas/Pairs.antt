@@ -1,6 +1,7 @@
 -- The two disks that are worked by hand keep their history.
 use Rattle.std.proofs.Common.{◌≡◌, inl, inr, ⊎_elim, ℕ, ◌<◌, ◌/◌, Bool, true, false, ◌&&◌, List, [], ◌∷◌, ◌++◌, Option, Some, None, refl, sym, ap, subst, ◌∙◌, arith}
 use Rattle.std.specs.Prelude.{IsTrue, ◌==◌, nat_lt, if◌then◌else◌, is_some}
+use Rattle.std.proofs.lemmas.Option.{same_Some}
 use Rattle.std.proofs.lemmas.Bool.Decides.{nat_tests}
 use Rattle.lvm_num.specs.declared.place.Pp.{Pp}
 use Rattle.lvm_num.specs.declared.descriptor.Mode.{Mode}
@@ -15,6 +16,7 @@ use Rattle.lvm_num.specs.Descriptor.{member_of, volume_of}
 use Rattle.lvm_num.specs.Record.{Stamped, newest_below}
 use Rattle.lvm_num.specs.Votes.{all_disks, votes_by, CanRead}
 use Rattle.lvm_num.proofs.VotesLemmas.{read_meets_read}
+use Rattle.lvm_num.proofs.Booleans.{some_if as behind}
 use Rattle.lvm_vol.specs.Facts.{Fact, Cut}
 use Rattle.lvm_vol.specs.May.{Known, known}
 use Rattle.lvm_vol.specs.declared.entry.Vol.TheVariants.{Lv}
@@ -23,16 +25,11 @@ use Rattle.lvm_kept.specs.Contents.{Contents}
 use Rattle.lvm_kept.specs.Examples.{stamped, mirror, two, either_of}
 use Rattle.lvm_kept.specs.Group.{descriptor_among, is_voter, has_quorum, status_among, Finds, IsFound, Reads, ReadsBy, members_in, status_by, fresh_on, fresh, IsOneOf, IsSome, HoldOne}
 use Rattle.lvm_kept.specs.Kept.{StandsAs, HasStatus, MayDiffer, IsBlockKept, BlocksKept, Kept}
-use Rattle.lvm_kept.proofs.CommittedLemmas.Finding.{some_same, finding_reads}
+use Rattle.lvm_kept.proofs.CommittedLemmas.Finding.{finding_reads}
 use Rattle.lvm_kept.proofs.ChangesLemmas.Restamping.{fewer_blocks}
 use Rattle.lvm_crash.proofs.StandingLemmas.{shown}
 use Rattle.lvm_crash.proofs.GroupLemmas.Lists.{right_of}
 use Rattle.lvm_rest.specs.Examples.{Pair, status_of, shown_by}
-
--- what stands behind a test is the one thing that stands there
-behind : {X : Type 0} (t : Bool) (x r : X) → (if t then Some x else None) ≡ Some r → r ≡ x
-behind true x r e = cc
-behind false x r e = absurd cc
 
 pub first_partition : (lp : ℕ) → lp < 1 → lp ≡ 0
 first_partition lp low = omega arith
@@ -233,7 +230,7 @@ module _ (x : Pair) where
           some = some;
           size = λ id g h is also. ap (λ (k : Descriptor). k.mib) (group_is id g is ∙ sym (group_is id h also));
           partitions = λ id g h is also d p q one other. ap (λ (r : PvRow). r.pps)
-              (some_same p q (sym one ∙ ap (λ (k : Descriptor). member_of k d) (group_is id g is ∙ sym (group_is id h also)) ∙ other));
+              (same_Some p q (sym one ∙ ap (λ (k : Descriptor). member_of k d) (group_is id g is ∙ sym (group_is id h also)) ∙ other));
           descriptors = λ d e r s is also ids stamps. the_descriptor d r is ∙ sym (the_descriptor e s also);
           statuses = λ d e r s is also ids stamps. the_status d r is ∙ sym (the_status e s also);
           alike = λ d e r s is also ids. ap (λ (x : Stamped Descriptor). record x.value { lvs = [] }) (the_descriptor d r is ∙ sym (the_descriptor e s also));

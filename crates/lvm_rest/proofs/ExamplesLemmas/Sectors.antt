@@ -1,6 +1,7 @@
 -- The two disks that are worked by hand, sector by sector.
 use Rattle.std.proofs.Common.{◌≡◌, ℕ, ◌+◌, ◌<◌, Bool, true, false, ◌&&◌, ◌==◌, [], length, take, Option, Some, None, Ok, refl, sym, ap, subst, ◌∙◌, arith, eqb-true}
 use Rattle.std.specs.Prelude.{if◌then◌else◌, nat_lt, nat_le, option_and_then}
+use Rattle.std.proofs.lemmas.Bool.{ne_eqb}
 use Rattle.std.proofs.lemmas.Bool.Decides.{nat_tests}
 use Rattle.lvm_num.specs.declared.record.Framed.{Framed}
 use Rattle.lvm_num.specs.declared.record.Kind.{Kind}
@@ -19,7 +20,8 @@ use Rattle.lvm_disk.specs.Device.{Image, image_of}
 use Rattle.lvm_kept.specs.Contents.{has_records, descriptor_on, status_on, note_on, data_at, contents_of}
 use Rattle.lvm_kept.specs.Examples.{stamped, either_of, two}
 use Rattle.lvm_kept.proofs.TornLemmas.Standing.{zeros-sector}
-use Rattle.lvm_crash.proofs.WorkedLemmas.Shelf.{group_read, one, not-equal, no-magic, never_before, none_or}
+use Rattle.lvm_crash.proofs.WorkedLemmas.Shelf.{group_read, no-magic, never_before, none_or}
+use Rattle.lvm_crash.proofs.WorkedLemmas.Worked.{first_partition}
 use Rattle.lvm_rest.specs.Examples.{Pair, status_of, framed_group, framed_status, media_of, pair_sizes, in_data, shown_by}
 
 -- ---- the records are read
@@ -41,13 +43,13 @@ group_frames : (x : Pair) → Frames kind.Descriptor (framed_group x)
 group_frames x = record { some_epoch = λ e. omega (arith, e); epoch = omega arith; some_seq = λ e. omega (arith, e); seq = omega arith; content = omega arith }
 
 status_sectors : (x : Pair) (dirty : Bool) (k : ℕ) → k < record_sectors (length (framed_status (record x { dirty = dirty })).content) → k ≡ 0
-status_sectors x true k low = one k low
-status_sectors x false k low = one k low
+status_sectors x true k low = first_partition k low
+status_sectors x false k low = first_partition k low
 
 -- the first slots hold the records
 pub group_first : (x : Pair) (d : ℕ) → record_in kind.Descriptor (slot_at kind.Descriptor (slot_start kind.Descriptor 0) (media_of x d)) ≡ Some (framed_group x)
 group_first x d = whole_is_read kind.Descriptor (framed_group x) (slot_start kind.Descriptor 0) (media_of x d) (group_frames x)
-    (λ k low. subst (λ (n : ℕ). media_of x d (512 + n) ≡ frame kind.Descriptor (framed_group x).stamp (framed_group x).content n) (sym (one k low)) refl)
+    (λ k low. subst (λ (n : ℕ). media_of x d (512 + n) ≡ frame kind.Descriptor (framed_group x).stamp (framed_group x).content n) (sym (first_partition k low)) refl)
 
 pub status_first : (x : Pair) (d : ℕ) → record_in kind.Status (slot_at kind.Status (slot_start kind.Status 0) (media_of x d)) ≡ Some (framed_status x)
 status_first x d = whole_is_read kind.Status (framed_status x) (slot_start kind.Status 0) (media_of x d) (status_frames x x.dirty)
@@ -60,9 +62,9 @@ module _ (x : Pair) (zeros_below : (d s : ℕ) → s < 4096 → x.stands d s ≡
   -- past the first slots and the note stands what stands there
   pub stands_else : (d s : ℕ) → (s ≡ 512 → ⊥) → (s ≡ 64 → ⊥) → (s ≡ 8 → ⊥) → media_of x d s ≡ x.stands d s
   stands_else d s a b n =
-      ap (λ (t : Bool). if t then frame kind.Descriptor (framed_group x).stamp (framed_group x).content 0 else if s == slot_start kind.Status 0 then frame kind.Status (framed_status x).stamp (framed_status x).content 0 else if s == 8 then x.note else x.stands d s) (not-equal s 512 a)
-      ∙ ap (λ (t : Bool). if t then frame kind.Status (framed_status x).stamp (framed_status x).content 0 else if s == 8 then x.note else x.stands d s) (not-equal s 64 b)
-      ∙ ap (λ (t : Bool). if t then x.note else x.stands d s) (not-equal s 8 n)
+      ap (λ (t : Bool). if t then frame kind.Descriptor (framed_group x).stamp (framed_group x).content 0 else if s == slot_start kind.Status 0 then frame kind.Status (framed_status x).stamp (framed_status x).content 0 else if s == 8 then x.note else x.stands d s) (ne_eqb s 512 a)
+      ∙ ap (λ (t : Bool). if t then frame kind.Status (framed_status x).stamp (framed_status x).content 0 else if s == 8 then x.note else x.stands d s) (ne_eqb s 64 b)
+      ∙ ap (λ (t : Bool). if t then x.note else x.stands d s) (ne_eqb s 8 n)
 
   pub second_zero : (kind : Kind) (d k : ℕ) → k < slot_size kind → media_of x d (slot_start kind 1 + k) ≡ zero_sector
   second_zero kind.Descriptor d k low = stands_else d (slot_start kind.Descriptor 1 + k) (λ e. omega (arith, e)) (λ e. omega (arith, e)) (λ e. omega (arith, e)) ∙ zeros_below d (slot_start kind.Descriptor 1 + k) (omega (arith, low))

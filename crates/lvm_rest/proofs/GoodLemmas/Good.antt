@@ -1,7 +1,8 @@
 -- A session at rest is in a good state, and describes its disks.
 use Rattle.std.proofs.Common.{◌≡◌, ◌⊎◌, inl, inr, ⊎_elim, ℕ, zero, suc, ◌<◌, ◌≤◌, Bool, true, false, ◌&&◌, not, List, [], Option, Some, None, refl, sym, ap, subst, ◌∙◌, arith, rules}
 use Rattle.std.specs.Prelude.{IsTrue, IsFalse, ◌==◌, if◌then◌else◌, option_map}
-use Rattle.std.proofs.lemmas.Bool.{eq-eqb, eqb-true}
+use Rattle.std.proofs.lemmas.Option.{same_Some}
+use Rattle.std.proofs.lemmas.Bool.{eq-eqb, eqb-true, cases_Bool, not_from_false}
 use Rattle.lvm_num.specs.declared.place.Pp.{Pp}
 use Rattle.lvm_num.specs.declared.descriptor.Mode.{Mode}
 use Rattle.lvm_num.specs.declared.descriptor.Mode.TheVariants.{Active, Passive, Off}
@@ -22,21 +23,23 @@ use Rattle.lvm_kept.specs.Contents.{Contents, contents_of}
 use Rattle.lvm_kept.specs.Group.{status_among, ReadsBy, status_by, is_stale_by, fresh_on, block_at, IsBlockOf, is_named, IsOneOf, IsSome, HoldOne}
 use Rattle.lvm_kept.specs.Kept.{StandsAs, MayDiffer as MayDifferOn, IsBlockKept, BlocksKept}
 use Rattle.lvm_kept.specs.Committed.{IsWithinDisks}
-use Rattle.lvm_kept.proofs.CommittedLemmas.Finding.{some_same, finding_reads, images_within}
+use Rattle.lvm_kept.proofs.CommittedLemmas.Finding.{finding_reads, images_within}
 use Rattle.lvm_commit.specs.Committed.{ShowsCommitted}
 use Rattle.lvm_commit.proofs.LawsLemmas.Found.{only_found, status_read}
 use Rattle.lvm_invariant.specs.State.{Marks, Queued, ModelCopy, ModelState, Live, stale_in, told}
 use Rattle.lvm_invariant.specs.Sound.{MayDiffer, Agree, Quiescent, Sound}
 use Rattle.lvm_num.specs.Modes.{is_active, is_passive}
+use Rattle.lvm_num.proofs.Booleans.{clash_gives}
 use Rattle.lvm_invariant.specs.Found.{Votes, Found}
 use Rattle.lvm_invariant.specs.Good.{Good}
+use Rattle.lvm_invariant.proofs.FirstLemmas.{nothing}
 use Rattle.lvm_crash.specs.Session.{as_marks, marks_shown, AreVotesOf, members_showing, GroupStands, HasVolumes, Describes}
 use Rattle.lvm_crash.proofs.MayLemmas.{loose_is_off}
-use Rattle.lvm_crash.proofs.GroupLemmas.Lists.{left_of, right_of, both_of, not_so, so_not}
+use Rattle.lvm_crash.proofs.GroupLemmas.Lists.{left_of, right_of, both_of, not_so}
 use Rattle.lvm_rest.specs.Rest.{IsIdle, SeesThat, AreClosed, IsAtRest}
 use Rattle.lvm_rest.specs.Good.{RestIsGood, StillMatches, RestMatches}
 use Rattle.lvm_commit.proofs.AmongLemmas.{one_place}
-use Rattle.lvm_rest.proofs.Rows.{clash, nothing, tested, at_passing, some_passing, none_passing, passes_none, row_is_volume, block_in}
+use Rattle.lvm_rest.proofs.Rows.{at_passing, some_passing, none_passing, passes_none, row_is_volume, block_in}
 use Rattle.lvm_rest.proofs.GoodLemmas.Shapes.{shape_mode}
 use Rattle.lvm_rest.proofs.MayLemmas.{value_uncut, loose_uncut, known_cut}
 
@@ -58,7 +61,7 @@ mode_on Off (inl on) = absurd cc
 mode_on Off (inr on) = absurd cc
 
 not_off : (mode : Mode) → IsFalse (is_off mode) → mode ≡ Off → ⊥
-not_off mode on is = clash (is_off mode) (ap is_off is) on
+not_off mode on is = clash_gives (is_off mode) (ap is_off is) on
 
 size_positive : (mib : ℕ) → is_size mib ≡ true → 1 ≤ mib
 size_positive zero is = absurd cc
@@ -85,7 +88,7 @@ shown_parts id None r is = nothing r is
 shown_parts id (Some t) r is = by (t.value.id == id) refl is
   where
     by : (b : Bool) → (t.value.id == id) ≡ b → option_map as_marks (if b then Some t else None) ≡ Some r → IsShown id (Some t) r
-    by true own is = record { status = t; is = refl; own = eqb-true t.value.id id own; marks = some_same (as_marks t) r is }
+    by true own is = record { status = t; is = refl; own = eqb-true t.value.id id own; marks = same_Some (as_marks t) r is }
     by false own is = nothing r is
 
 -- a volume that is found has its shape
@@ -157,7 +160,7 @@ module _ (votes : Votes) (s : ModelState) (group : Descriptor) (status : Status)
       by false h = absurd cc
 
   is_gone : (d : ℕ) → IsFalse (there d) → IsTrue (s.missing d)
-  is_gone d isnt = sees.missing d ∙ so_not (there d) isnt
+  is_gone d isnt = sees.missing d ∙ not_from_false (there d) isnt
 
   no_flight : {X : Type 0} (u : Stamped Marks) → s.in_flight ≡ Some u → X
   no_flight u is = nothing u (sym idle.in_flight ∙ is)
@@ -188,7 +191,7 @@ module _ (votes : Votes) (s : ModelState) (group : Descriptor) (status : Status)
       }
 
   passes : (row : LvRow) (lp : ℕ) (p : Pp) (set : Disks) → IsOfBlock row lp p → IsTrue (set p.disk) → IsTrue (usable set p)
-  passes row lp p set of in_set = both_of (set p.disk) (not (is_stale_by (Some stands) p)) in_set (so_not (is_stale_by (Some stands) p) of.fresh)
+  passes row lp p set of in_set = both_of (set p.disk) (not (is_stale_by (Some stands) p)) in_set (not_from_false (is_stale_by (Some stands) p) of.fresh)
 
   module _ (row : LvRow) (lp b : ℕ) (one : IsOneOf group.lvs row) (inside : IsBlockOf group.mib row lp b) where
     agree_on : (set : Disks) → HoldOne c group.mib (fresh_on set (Some stands) row lp) b → ((p : Pp) → Live s row.number b p → IsTrue (set p.disk)) → Agree s row.number b
@@ -212,12 +215,12 @@ module _ (votes : Votes) (s : ModelState) (group : Descriptor) (status : Status)
       | inl none ↦ inr (λ p live. ⊎_elim
           (λ (is : IsTrue (there p.disk)). let of = live_of row lp b p one inside live in absurd (passes_none (usable there) (copies_of row lp) p none of.copy (passes row lp p there of is)))
           (λ (isnt : IsFalse (there p.disk)). is_gone p.disk isnt)
-          (tested (there p.disk)))
+          (cases_Bool (there p.disk)))
       | inr some ↦ inl (agree_on there (rest.even row lp b one on inside) (λ p live. ⊎_elim
           (λ (is : IsTrue (there p.disk)). is)
           (λ (isnt : IsFalse (there p.disk)). let of = live_of row lp b p one inside live in
           absurd (passes_none (usable there) (copies_of row lp) some.0 (rest.behind row lp p one inside.inside of.copy of.member isnt of.fresh) some.1 some.2))
-          (tested (there p.disk))))
+          (cases_Bool (there p.disk))))
     ]
 
     all_members : Agree s row.number b ⊎ MayDifferOn c (Some stands) row.number row.mode (fresh_on members (Some stands) row lp) (cut b (known s.facts (Lv row.number) b)) b
@@ -281,11 +284,11 @@ module _ (votes : Votes) (s : ModelState) (group : Descriptor) (status : Status)
   tight : (lv b : ℕ) (p : Pp) → IsTrue (s.is_copy lv b p) → IsTrue (s.is_active lv) ⊎ IsTrue (s.is_passive lv) → IsFalse (told s lv b).loose
   tight lv b p copy = at_copy (λ n b. IsTrue (s.is_active n) ⊎ IsTrue (s.is_passive n) → IsFalse (told s n b).loose) lv b p copy
       (λ row lp one inside on. ⊎_elim
-      (λ (is : IsTrue (told s row.number b).loose). clash (is_off row.mode)
+      (λ (is : IsTrue (told s row.number b).loose). clash_gives (is_off row.mode)
       (ap is_off (sym (mode_is row lp b one inside)) ∙ loose_is_off s.facts (Lv row.number) b is)
       (mode_on row.mode (⊎_elim (λ (a : IsTrue (s.is_active row.number)). inl (sym (sees.copies.notes row one) ∙ a)) (λ (a : IsTrue (s.is_passive row.number)). inr (sym (sees.copies.mark row one) ∙ a)) on)))
       (λ isnt. isnt)
-      (tested (told s row.number b).loose))
+      (cases_Bool (told s row.number b).loose))
 
   owner : (lv b l d : ℕ) (p q : Pp) → IsTrue (s.is_copy lv b p) → IsTrue (s.is_copy l d p) → IsTrue (s.is_copy l d q) → IsTrue (s.is_copy lv b q)
   owner lv b l d p q one two three =
@@ -314,7 +317,7 @@ module _ (votes : Votes) (s : ModelState) (group : Descriptor) (status : Status)
       let q_at = (sees.copies.copies at.row at.lp b q at.volume at.inside).0 (subst (λ (n : ℕ). IsTrue (s.is_copy n b q)) (sym at.number) other) in
       passes_none (usable there) (copies_of at.row at.lp) q
       (rest.behind at.row at.lp p at.volume at.inside.inside p_at.0 p_at.1 (gone p.disk missing) (sym (committed_stale p) ∙ fresh)) q_at.0
-      (both_of (there q.disk) (not (is_stale_by (Some stands) q)) (here q.disk there_is) (so_not (is_stale_by (Some stands) q) (sym (committed_stale q) ∙ also)))
+      (both_of (there q.disk) (not (is_stale_by (Some stands) q)) (here q.disk there_is) (not_from_false (is_stale_by (Some stands) q) (sym (committed_stale q) ∙ also)))
 
   sound : Sound s
   sound = record {
@@ -333,7 +336,7 @@ module _ (votes : Votes) (s : ModelState) (group : Descriptor) (status : Status)
     };
     statuses = record {
       stale_flies = λ p u flies stale fresh. no_flight u flies;
-      stale_is_wanted = λ p stale fresh. clash (s.committed.value.stale p) stale (sym (wanted_stale p) ∙ fresh);
+      stale_is_wanted = λ p stale fresh. clash_gives (s.committed.value.stale p) stale (sym (wanted_stale p) ∙ fresh);
       flying_is_wanted = λ p u flies stale fresh. no_flight u flies;
       kept = λ lv b p copy. let q = kept lv b p copy in (
         q.0,

@@ -1,6 +1,7 @@
 -- Where a session in a good state has nothing under way, its disks are at rest.
 use Rattle.std.proofs.Common.{◌≡◌, ◌⊎◌, inl, inr, ℕ, ◌*◌, ◌<◌, Bool, true, false, ◌&&◌, not, [], Some, None, refl, sym, ap, ◌∙◌}
 use Rattle.std.specs.Prelude.{IsTrue, IsFalse}
+use Rattle.std.proofs.lemmas.Bool.{not_from_false, and_left}
 use Rattle.lvm_num.specs.declared.place.Pp.{Pp}
 use Rattle.lvm_num.specs.declared.descriptor.Mode.{Mode}
 use Rattle.lvm_num.specs.declared.descriptor.Mode.TheVariants.{Active, Passive, Off}
@@ -21,22 +22,20 @@ use Rattle.lvm_commit.proofs.LawsLemmas.Found.{shows_group}
 use Rattle.lvm_commit.proofs.passed.Names.{member_of_parts}
 use Rattle.lvm_invariant.specs.State.{Marks, ModelState, Live, stale_in, told}
 use Rattle.lvm_num.specs.Modes.{is_active, is_passive}
+use Rattle.lvm_num.proofs.Booleans.{clash_gives}
 use Rattle.lvm_invariant.specs.Sound.{MayDiffer, Agree}
 use Rattle.lvm_invariant.specs.Found.{Votes}
 use Rattle.lvm_invariant.specs.Good.{Good}
 use Rattle.lvm_invariant.proofs.CrashLemmas.{core_kept}
+use Rattle.lvm_invariant.proofs.FirstLemmas.{nothing}
 use Rattle.lvm_crash.specs.Session.{AreVotesOf, members_showing, Describes}
 use Rattle.lvm_crash.proofs.GroupLemmas.Blocks.{block_of}
-use Rattle.lvm_crash.proofs.GroupLemmas.Lists.{left_of, right_of, both_of, not_so, so_not, of_passing}
+use Rattle.lvm_crash.proofs.GroupLemmas.Lists.{left_of, right_of, both_of, not_so, of_passing}
 use Rattle.lvm_crash.proofs.LawsLemmas.Remaining.{remains_kept}
 use Rattle.lvm_rest.specs.Rest.{IsIdle, SeesThat}
 use Rattle.lvm_rest.specs.Good.{GoodIsRest}
-use Rattle.lvm_rest.proofs.Rows.{clash, nothing, none_passing}
+use Rattle.lvm_rest.proofs.Rows.{none_passing}
 use Rattle.lvm_rest.proofs.GoodLemmas.Good.{mib_positive}
-
-not_both : (a b : Bool) → IsFalse a → IsFalse (a && b)
-not_both true b h = absurd cc
-not_both false b h = refl
 
 module _ (votes : Votes) (s : ModelState) (group : Descriptor) (status : Status) (there : Disks) (c : Contents) (are : AreVotesOf group votes) (valid : IsValid group) (within : IsWithinDisks c)
     (shows : ShowsCommitted c group status there) (idle : IsIdle s) (sees : SeesThat s group shows.stands there c) (good : Good votes s) (describes : Describes s s.facts group None c) where
@@ -73,7 +72,7 @@ module _ (votes : Votes) (s : ModelState) (group : Descriptor) (status : Status)
   live_of : (row : LvRow) (lp b : ℕ) (p : Pp) → IsOneOf group.lvs row → IsBlockOf group.mib row lp b → IsOneOf (copies_of row lp) p → IsTrue (usable p) → Live s row.number b p
   live_of row lp b p one inside copy use_ = record {
     copy = copy_of row lp b p one inside copy use_;
-    counts = inl (not_both (s.committed.value.stale p) (stale_in s.in_flight p)
+    counts = inl (and_left (s.committed.value.stale p) (stale_in s.in_flight p)
         (committed_stale p ∙ not_so (is_stale_by (Some stands) p) (right_of (there p.disk) (not (is_stale_by (Some stands) p)) use_)));
   }
 
@@ -88,7 +87,7 @@ module _ (votes : Votes) (s : ModelState) (group : Descriptor) (status : Status)
       never none = ([], of_passing (λ p. block_at c group.mib p b ≡ []) usable (copies_of row lp) (λ p copy use_. absurd (none p copy use_)))
 
       not_loose : (p : Pp) → IsOneOf (copies_of row lp) p → IsTrue (usable p) → IsTrue (s.is_active row.number) ⊎ IsTrue (s.is_passive row.number) → IsTrue (told s row.number b).loose → ⊥
-      not_loose p copy use_ consistent loose = clash (told s row.number b).loose loose (good.sound.tied.tight row.number b p (copy_of row lp b p one inside copy use_) consistent)
+      not_loose p copy use_ consistent loose = clash_gives (told s row.number b).loose loose (good.sound.tied.tight row.number b p (copy_of row lp b p one inside copy use_) consistent)
 
       by : (mode : Mode) → row.mode ≡ mode → (active : Bool) → active ≡ is_active mode → Agree s row.number b ⊎ MayDiffer s row.number b active → HoldOne c group.mib (fresh_on there (Some stands) row lp) b
       by mode is active notes (inl agree) = (
@@ -97,11 +96,11 @@ module _ (votes : Votes) (s : ModelState) (group : Descriptor) (status : Status)
             (λ p copy use_. let live = live_of row lp b p one inside copy use_ in sym (sees.blocks row.number b p live.copy) ∙ agree.1 p live),
       )
       by mode is true notes (inr differ) = never (λ p copy use_.
-          clash (s.missing p.disk) (differ p (live_of row lp b p one inside copy use_)).0 (isnt_missing p.disk (left_of (there p.disk) (not (is_stale_by (Some stands) p)) use_)))
+          clash_gives (s.missing p.disk) (differ p (live_of row lp b p one inside copy use_)).0 (isnt_missing p.disk (left_of (there p.disk) (not (is_stale_by (Some stands) p)) use_)))
       by Active is false notes (inr differ) = absurd cc
       by Passive is false notes (inr (inl loose)) = never (λ p copy use_. not_loose p copy use_ (inr (sees.copies.mark row one ∙ ap is_passive is)) loose)
       by Passive is false notes (inr (inr dirty)) = never (λ p copy use_.
-          clash (s.missing p.disk) (dirty.missing p (live_of row lp b p one inside copy use_)) (isnt_missing p.disk (left_of (there p.disk) (not (is_stale_by (Some stands) p)) use_)))
+          clash_gives (s.missing p.disk) (dirty.missing p (live_of row lp b p one inside copy use_)) (isnt_missing p.disk (left_of (there p.disk) (not (is_stale_by (Some stands) p)) use_)))
       by Off is false notes (inr differ) = absurd (on is)
 
   behind : (row : LvRow) (lp : ℕ) (p : Pp) → IsOneOf group.lvs row → lp < row.lps → IsOneOf (copies_of row lp) p → IsTrue (members_showing c group p.disk) → IsFalse (there p.disk) → IsFalse (is_stale_by (Some stands) p)
@@ -113,11 +112,11 @@ module _ (votes : Votes) (s : ModelState) (group : Descriptor) (status : Status)
         let inside : IsBlockOf group.mib row lp b = record { inside = low; partition = block_of group.mib lp (mib_positive group valid) } in
         let in_set = left_of (there some.0.disk) (not (is_stale_by (Some stands) some.0)) some.2 in
         let fresh_too = committed_stale some.0 ∙ not_so (is_stale_by (Some stands) some.0) (right_of (there some.0.disk) (not (is_stale_by (Some stands) some.0)) some.2) in
-        let stale = good.sound.behind.left_behind row.number b p some.0 ((sees.copies.copies row lp b p one inside).1 (copy, member)) (committed_stale p ∙ fresh) (sees.missing p.disk ∙ so_not (there p.disk) gone)
+        let stale = good.sound.behind.left_behind row.number b p some.0 ((sees.copies.copies row lp b p one inside).1 (copy, member)) (committed_stale p ∙ fresh) (sees.missing p.disk ∙ not_from_false (there p.disk) gone)
         (copy_of row lp b some.0 one inside some.1 some.2)
-        (both_of (not (s.committed.value.stale some.0)) (not (s.missing some.0.disk)) (so_not (s.committed.value.stale some.0) fresh_too) (so_not (s.missing some.0.disk) (isnt_missing some.0.disk in_set)))
+        (both_of (not (s.committed.value.stale some.0)) (not (s.missing some.0.disk)) (not_from_false (s.committed.value.stale some.0) fresh_too) (not_from_false (s.missing some.0.disk) (isnt_missing some.0.disk in_set)))
         (ap (λ (m : Marks). m.stale some.0) idle.wanted ∙ fresh_too) in
-        clash (s.wanted.stale p) stale (ap (λ (m : Marks). m.stale p) idle.wanted ∙ committed_stale p ∙ fresh)
+        clash_gives (s.wanted.stale p) stale (ap (λ (m : Marks). m.stale p) idle.wanted ∙ committed_stale p ∙ fresh)
         )
   ]
 

@@ -2,6 +2,7 @@
 use Rattle.std.proofs.Common.{◌≡◌, ◌↔◌, inl, inr, ℕ, ◌<◌, Bool, true, false, ◌&&◌, ◌||◌, not, List, [], ◌∷◌, Option, Some, None, refl, sym, ap, subst, ◌∙◌, arith}
 use Rattle.std.specs.Prelude.{IsTrue, ◌==◌, nat_lt, if◌then◌else◌, find}
 use Rattle.std.specs.List.{list_any}
+use Rattle.std.proofs.lemmas.Option.{same_Some}
 use Rattle.std.proofs.lemmas.Bool.{eqb-true, eq-eqb}
 use Rattle.std.proofs.lemmas.Bool.Decides.{nat_tests}
 use Rattle.lvm_num.specs.declared.place.Pp.{Pp}
@@ -16,7 +17,6 @@ use Rattle.lvm_vol.specs.declared.entry.Vol.TheVariants.{Lv}
 use Rattle.lvm_vol.specs.Facts.{Fact}
 use Rattle.lvm_kept.specs.Contents.{Contents}
 use Rattle.lvm_kept.specs.Group.{is_named, IsBlockOf, IsOneOf}
-use Rattle.lvm_kept.proofs.CommittedLemmas.Finding.{some_same}
 use Rattle.lvm_invariant.specs.State.{ModelState}
 use Rattle.lvm_num.specs.Modes.{is_active, is_passive}
 use Rattle.lvm_crash.specs.Session.{as_marks, marks_of, view_of, members_showing, IsBlockIn}
@@ -81,7 +81,7 @@ row_of [] lv row is = absurd cc
 row_of (r ∷ rs) lv row is = by (r.number == lv) refl (λ rest. row_of rs lv row rest) is
   where
     by : (t : Bool) → (r.number == lv) ≡ t → (find (λ (r : LvRow). r.number == lv) rs ≡ Some row → IsRowOf rs lv row) → (if t then Some r else find (λ (r : LvRow). r.number == lv) rs) ≡ Some row → IsRowOf (r ∷ rs) lv row
-    by true e further h = let same : row ≡ r = sym (some_same r row h) in record { one = inl same; number = ap (λ (x : LvRow). x.number) same ∙ eqb-true r.number lv e }
+    by true e further h = let same : row ≡ r = sym (same_Some r row h) in record { one = inl same; number = ap (λ (x : LvRow). x.number) same ∙ eqb-true r.number lv e }
     by false e further h = let rest = further h in record { one = inr rest.one; number = rest.number }
 
 module _ (facts : List Fact) (group : Descriptor) (stands : Stamped Status) (there : Disks) (c : Contents) (valid : IsValid group) where

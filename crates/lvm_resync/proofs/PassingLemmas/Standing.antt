@@ -3,7 +3,7 @@ use Rattle.std.proofs.Common.{◌≡◌, ◌⊎◌, inl, inr, ◌≤◌, ℕ, Bo
 use Rattle.std.specs.Prelude.{IfSome, count_by, is_none, slice_index_or}
 use Rattle.std.specs.List.{list_any, AllByRecursion}
 use Rattle.std.specs.Option.{option_map_or}
-use Rattle.std.proofs.lemmas.Bool.{or_parts}
+use Rattle.std.proofs.lemmas.Bool.{or_parts, not-false}
 use Rattle.lvm_num.specs.declared.descriptor.Descriptor.{Descriptor}
 use Rattle.lvm_num.specs.declared.descriptor.PvRow.{PvRow}
 use Rattle.lvm_num.specs.declared.status.Status.{Status}
@@ -12,6 +12,8 @@ use Rattle.lvm_num.specs.Descriptor.{is_member}
 use Rattle.lvm_num.specs.Disks.{has}
 use Rattle.lvm_num.specs.Status.{calls_missing}
 use Rattle.lvm_num.specs.Votes.{is_enough_to_write, votes_in}
+use Rattle.lvm_num.proofs.Booleans.{none_if}
+use Rattle.lvm_num.proofs.Lists.{all_false}
 use Rattle.lvm_disk.specs.Device.{Flight}
 use Rattle.lvm_status.specs.Update.{is_held, is_owed, is_there as is_there_so, seen}
 use Rattle.lvm_session.specs.declared.answers.CopyState.TheVariants as copy
@@ -50,18 +52,6 @@ none_flown core (row ∷ rows) (f ∷ flights) are none = absurd (cc none)
 or_none : (a b : Option Event) → or_next a b ≡ None → (a ≡ None) × (b ≡ None)
 or_none None b e = (refl, e)
 or_none (Some it) b e = absurd (cc e)
-
-not_due : (b : Bool) (e : Event) → (if b then Some e else None) ≡ None → b ≡ false
-not_due true e is = absurd (cc is)
-not_due false e is = refl
-
-not_false : (b : Bool) → not b ≡ false → b ≡ true
-not_false true e = refl
-not_false false e = absurd (cc e)
-
-all_false : {A : Type 0} (t : A → Bool) (xs : List A) → list_any t xs ≡ false → AllByRecursion (λ (x : A). t x ≡ false) xs
-all_false t [] none = tt
-all_false t (x ∷ xs) none = let it = or_parts (t x) (list_any t xs) none in (it.0, all_false t xs it.1)
 
 module _ (s : State) (sound : IsSound s) (drained : IsDrained s) where
   abbrev core : Core
@@ -140,7 +130,7 @@ module _ (s : State) (sound : IsSound s) (drained : IsDrained s) where
         (or_none (if has_buffer core then (if is_status_due core then Some event.StartStatus else None) else None) _ both.1).0
 
     no_status : is_status_due core ≡ false
-    no_status = not_due (is_status_due core) event.StartStatus (sym (ap (λ (b : Bool). if b then (if is_status_due core then Some event.StartStatus else None) else None) buffer) ∙ starts)
+    no_status = none_if (is_status_due core) event.StartStatus (sym (ap (λ (b : Bool). if b then (if is_status_due core then Some event.StartStatus else None) else None) buffer) ∙ starts)
 
     pub still_settled : core.status.in_flight ≡ None
     still_settled = by core.status.in_flight refl
@@ -151,7 +141,7 @@ module _ (s : State) (sound : IsSound s) (drained : IsDrained s) where
             (more_votes core.status.group (is_there core) (seen core.status).written core.status.group.pvs (each core.status.group.pvs (all_false (λ (r : PvRow). has core.status.writes.unstarted r.disk) core.status.group.pvs none))) enough
           where
             enough : is_enough_to_write core.status.group (votes_in core.status.group (is_there core)) ≡ true
-            enough = ap (λ (d : Descriptor). is_enough_to_write d (votes_in d (is_there core))) going.fitting.group ∙ not_false (is_enough_to_write core.descriptor (votes_there core)) drained.votes
+            enough = ap (λ (d : Descriptor). is_enough_to_write d (votes_in d (is_there core))) going.fitting.group ∙ not-false (is_enough_to_write core.descriptor (votes_there core)) drained.votes
 
             there_is : (d : ℕ) → is_there core d ≡ true → is_there_so (seen core.status) d ≡ true
             there_is d e = ap (λ (g : Descriptor). is_member g d && not (calls_missing core.status.wanted d)) going.fitting.group ∙ e

@@ -4,7 +4,6 @@ use Rattle.std.specs.List.{All, Contains, filter, slice_get}
 use Rattle.std.proofs.lemmas.Option.{slice_get_within, get_or_from_slice_get}
 use Rattle.std.proofs.lemmas.List.{append-nil, take_all, take_more}
 use Rattle.std.proofs.lemmas.Bool.{cases_lt, eq-eqb}
-use Rattle.std.proofs.lemmas.Bool.Decides.{eqb_tells}
 use Rattle.lvm_num.specs.declared.descriptor.Policy.{Policy}
 use Rattle.std.proofs.lemmas.List.Elements.{All-get_or, All-from_get_or, Contains-get_or, filter-append}
 use Rattle.std.proofs.lemmas.List.Filters.{length-filter_both}
@@ -108,10 +107,6 @@ others_same usable first i within same =
 pub others_room : (usable : List ℕ) (first i : ℕ) → AreCopies usable → Contains usable first → i < length usable → (get_or usable i 0 == first) ≡ false → length (first ∷ others (take i usable) first) < 3
 others_room usable first i are among within other =
     omega (arith, copies_few 0 usable (omega arith) are, others_fewer usable first among, front_fewer usable first (i + 1), ap length (others_more usable first i within other), length-append (others (take i usable) first) (get_or usable i 0 ∷ []))
-
--- a copy that isn't the first
-pub differs : (copy first : ℕ) → (copy ≡ first → ⊥) → (copy == first) ≡ false
-differs copy first other = elim (eqb_tells copy first) [ inl same ↦ absurd (other same.1) | inr not_same ↦ not_same.0 ]
 
 pub order_done : (how : Policy) (usable loads : List ℕ) (last first i : ℕ) → length usable ≤ i → Contains usable first → IsFirst how usable last loads first → (items : List ℕ) → items ≡ first ∷ others (take i usable) first → IsReadOrder how usable last loads items
 order_done how usable loads last first i all among chosen items is =

@@ -7,6 +7,7 @@ use Rattle.lvm_num.specs.declared.descriptor.Mode.TheVariants as mode
 use Rattle.lvm_num.specs.Descriptor.{copies_of}
 use Rattle.lvm_num.specs.Status.{calls_stale}
 use Rattle.lvm_num.specs.Votes.{votes_by, votes_in, is_enough_to_write}
+use Rattle.lvm_num.proofs.Booleans.{not_so, not_either, twice_fails, thrice_holds}
 use Rattle.lvm_kept.specs.Examples.{mirror}
 use Rattle.lvm_status.specs.Update.{members_there}
 use Rattle.lvm_session.specs.State.{state}
@@ -17,9 +18,9 @@ use Rattle.lvm_session.specs.Left.{updates_left}
 use Rattle.lvm_session.specs.Causes.{IsCausedAmong}
 use Rattle.lvm_session.specs.Sound.{stays_fresh, IsCopy, IsFitting, IsTold, IsGoing}
 use Rattle.lvm_session.specs.Worked.{mirrored, first_copy, bringing_up, bringing, core_of, status_of, behind, faultless, CopiesAreSound}
-use Rattle.lvm_session.proofs.Small.{not_so, not_either, not_none}
+use Rattle.lvm_session.proofs.Small.{not_none}
 use Rattle.lvm_session.proofs.SoundLemmas.{sound_while_on}
-use Rattle.lvm_session.proofs.WorkedLemmas.Parts.{placed, not_marked, status_is_sound, none_behind, none_cleared, none_missing, has_fresh, notes_fit, one_stale, none_out, no_fault, zeros_at}
+use Rattle.lvm_session.proofs.WorkedLemmas.Parts.{placed, not_marked, status_is_sound, none_behind, none_missing, has_fresh, notes_fit, none_out, no_fault, zeros_at}
 use Rattle.lvm_session.proofs.WorkedLemmas.Whole.{no_entries, fitting, owned}
 
 module _ (m : Mode) where
@@ -92,7 +93,7 @@ goes_on m = record {
   behind = λ p is. none_behind m true p is;
   reviewed = runs_on m;
   fresh = has_fresh m (core_of (bringing m)) (first_stays m);
-  clearings = λ p held clear. none_cleared (calls_stale (status_of behind) p) held clear;
+  clearings = λ p held clear. twice_fails (calls_stale (status_of behind) p) held clear;
   numbers = numbers m;
 }
 
@@ -112,6 +113,6 @@ copies_are_sound m =
         votes = votes m;
         still_missing = λ disk is. not_so (sym (none_missing true disk) ∙ is);
         missing = λ disk is. inl is;
-        stale = λ p is. inl (one_stale (calls_stale (status_of behind) p) is);
+        stale = λ p is. inl (thrice_holds (calls_stale (status_of behind) p) is);
       };
     })

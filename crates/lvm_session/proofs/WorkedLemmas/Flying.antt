@@ -13,6 +13,7 @@ use Rattle.lvm_num.specs.declared.descriptor.Mode.TheVariants as mode
 use Rattle.lvm_num.specs.Descriptor.{is_member}
 use Rattle.lvm_num.specs.Status.{calls_stale}
 use Rattle.lvm_num.proofs.DisksLemmas.{has-zero}
+use Rattle.lvm_num.proofs.Booleans.{same_turned, not_so, not_either, or_left, twice_fails, not_first}
 use Rattle.lvm_kept.specs.Examples.{mirror}
 use Rattle.lvm_kept.specs.passed.Names.{Begun}
 use Rattle.lvm_mwc.specs.declared.entries.CacheEntry.{CacheEntry}
@@ -28,10 +29,9 @@ use Rattle.lvm_session.specs.Requests.{IsOpenOne}
 use Rattle.lvm_session.specs.Causes.{IsCaused, IsCounted}
 use Rattle.lvm_session.specs.Sound.{count_if, out_with, IsAsked, IsFitting, IsTold, IsGoing}
 use Rattle.lvm_session.specs.Worked.{mirrored, first_copy, second_copy, target_on, flying_write, naming, flying, first_flight, begun_write, core_of, status_of, fresh, faultless, FlyingWritesAreSound}
-use Rattle.lvm_session.proofs.Small.{not_so, not_either, or_left}
 use Rattle.lvm_session.proofs.SoundLemmas.{sound_while_on}
 use Rattle.lvm_session.proofs.RequestsLemmas.{laid_in, shaped, waits_with}
-use Rattle.lvm_session.proofs.WorkedLemmas.Parts.{none_cleared, has_fresh, placed, status_is_sound, none_behind}
+use Rattle.lvm_session.proofs.WorkedLemmas.Parts.{has_fresh, placed, status_is_sound, none_behind}
 use Rattle.lvm_session.proofs.WorkedLemmas.Whole.{begun_so, first_stays, fitting, true_to_origin}
 
 -- ---- its notes
@@ -56,12 +56,6 @@ no_note_flies disk = by (0 == disk) (1 == disk) (2 == disk)
 
 -- ---- its transfer
 
-pub turned : (a b : ℕ) → (a == b) ≡ (b == a)
-turned a b = grind (arith, nat_tests)
-
-not_first : (k : ℕ) → (suc k == 0) ≡ false
-not_first k = grind (arith, nat_tests)
-
 first_not : (k : ℕ) → (0 == suc k) ≡ false
 first_not k = grind (arith, nat_tests)
 
@@ -72,7 +66,7 @@ first_flies (suc zero) = refl
 first_flies (suc (suc target)) = sym (not_first (suc target))
 
 owned : AreOwned (core_of flying)
-owned (owner.Data id target) = by (id == 1) (target == 0) (1 == id) (target_flies target flying_write) (turned 1 id) (first_flies target)
+owned (owner.Data id target) = by (id == 1) (target == 0) (1 == id) (target_flies target flying_write) (same_turned 1 id) (first_flies target)
   where
     by : (a b c d : Bool) → c ≡ a → d ≡ b → 0 + count_if (a && b) ≡ count_if (c && d || false)
     by true true c d e f = sym (ap (λ (t : Bool). count_if (t && d || false)) e ∙ ap (λ (t : Bool). count_if (t || false)) f)
@@ -175,7 +169,7 @@ goes_on = record {
   behind = λ p is. none_behind mode.Active false p is;
   reviewed = refl;
   fresh = has_fresh mode.Active (core_of flying) (first_stays mode.Active);
-  clearings = λ p held clear. none_cleared (calls_stale (status_of fresh) p) held clear;
+  clearings = λ p held clear. twice_fails (calls_stale (status_of fresh) p) held clear;
   numbers = numbers;
 }
 

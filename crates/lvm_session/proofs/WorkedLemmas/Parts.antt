@@ -3,6 +3,7 @@ use Rattle.std.proofs.Common.{◌≡◌, inl, ℕ, zero, suc, ◌<◌, ◌≤◌
 use Rattle.std.specs.Prelude.{◌≢◌, ◌==◌, AllPairs, is_some, slice_index_or, option_and_then, if◌then◌else◌}
 use Rattle.std.specs.List.{list_any}
 use Rattle.std.specs.Option.{option_map_or}
+use Rattle.std.proofs.lemmas.Option.{same_Some}
 use Rattle.std.proofs.lemmas.List.{drop_all}
 use Rattle.std.proofs.lemmas.List.Elements.{All-nil, All-cons}
 use Rattle.std.proofs.lemmas.List.Kept.{AllPairs-cons}
@@ -19,12 +20,12 @@ use Rattle.lvm_num.specs.Geometry.{sectors_needed}
 use Rattle.lvm_num.specs.Status.{calls_missing}
 use Rattle.lvm_num.proofs.DisksLemmas.{has-zero}
 use Rattle.lvm_kept.specs.Examples.{member, mirror}
-use Rattle.lvm_kept.proofs.CommittedLemmas.Finding.{some_same}
 use Rattle.lvm_mwc.specs.declared.notes.DiskNotes.{DiskNotes}
 use Rattle.lvm_mwc.specs.Cache.{has_disk, flight_on, no_notes}
 use Rattle.lvm_status.specs.Update.{Updates, is_held, is_owed, is_there, seen}
 use Rattle.lvm_status.specs.Runs.{IsSoundStatus}
 use Rattle.lvm_num.specs.declared.descriptor.LvRow.{LvRow}
+use Rattle.lvm_num.proofs.Booleans.{not_so, not_either}
 use Rattle.lvm_session.specs.State.{Core}
 use Rattle.lvm_session.specs.Judging.{copies_in, is_stale, is_missing}
 use Rattle.lvm_session.specs.Marks.{is_among, can_replace, is_entailed}
@@ -32,7 +33,7 @@ use Rattle.lvm_session.specs.Placed.{IsPlaced, ArePlaced}
 use Rattle.lvm_session.specs.Causes.{faults_at_first}
 use Rattle.lvm_session.specs.Sound.{count_if, may_be_fresh, stays_fresh}
 use Rattle.lvm_session.specs.Worked.{Says, Moment, mirrored, first_copy, second_copy, status_of, fresh, calm, core_of, faultless}
-use Rattle.lvm_session.proofs.Small.{not_so, not_either, not_none}
+use Rattle.lvm_session.proofs.Small.{not_none}
 
 -- ---- the group
 
@@ -74,7 +75,7 @@ valid m = record {
 
 -- a disk of 8 MiB has room for 6 partitions of 1 MiB
 sizes : (size : ℕ) → Some 16384 ≡ Some size → sectors_needed 1 6 ≤ size
-sizes size e = let same : 16384 ≡ size = some_same 16384 size e in omega (arith, same)
+sizes size e = let same : 16384 ≡ size = same_Some 16384 size e in omega (arith, same)
 
 -- each member has the sectors that it needs
 of_three : (k : ℕ) (row : PvRow) → k < 3 → slice_index_or (member 0 ∷ member 1 ∷ member 2 ∷ []) k row ≡ row → IsPlaced faultless.sizes 1 row
@@ -199,16 +200,6 @@ has_fresh m core stays lv lp = by_volume (1 == lv) lp
 
 pub none_missing_at_first : {X : Type 0} (disk : ℕ) → calls_missing (status_of fresh) disk ≡ true → X
 none_missing_at_first disk is = not_so (sym (none_missing false disk) ∙ is)
-
--- what is stale is stale by the one status
-pub one_stale : (a : Bool) → (a || a) || a ≡ true → a ≡ true
-one_stale true is = refl
-one_stale false is = is
-
--- and isn't wanted fresh
-pub none_cleared : (a : Bool) {X : Type 0} → a || a ≡ true → a ≡ false → X
-none_cleared true held clear = not_either clear
-none_cleared false held clear = not_so held
 
 -- ---- its room
 

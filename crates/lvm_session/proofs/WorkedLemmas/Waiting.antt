@@ -7,6 +7,7 @@ use Rattle.lvm_num.specs.Votes.{votes_by}
 use Rattle.lvm_num.specs.declared.place.Pp.{Pp}
 use Rattle.lvm_num.specs.declared.descriptor.Mode.TheVariants as mode
 use Rattle.lvm_num.specs.Status.{calls_stale}
+use Rattle.lvm_num.proofs.Booleans.{not_so, not_either, twice_fails}
 use Rattle.lvm_kept.specs.Examples.{mirror}
 use Rattle.lvm_kept.specs.passed.Names.{Begun}
 use Rattle.lvm_path.specs.passed.SchedWritesTargetState as stage
@@ -23,10 +24,9 @@ use Rattle.lvm_session.specs.Requests.{IsOpenOne}
 use Rattle.lvm_session.specs.Causes.{IsCaused, IsCounted}
 use Rattle.lvm_session.specs.Sound.{count_if, IsAsked, IsFitting, IsTold, IsGoing, IsSound}
 use Rattle.lvm_session.specs.Worked.{first_copy, second_copy, target_on, two_targets, waiting, asking, a_write, begun_write, core_of, status_of, fresh, faultless, WaitingWritesPin}
-use Rattle.lvm_session.proofs.Small.{not_so, not_either}
 use Rattle.lvm_session.proofs.SoundLemmas.{sound_while_on}
 use Rattle.lvm_session.proofs.RequestsLemmas.{laid_in, shaped, waits_with}
-use Rattle.lvm_session.proofs.WorkedLemmas.Parts.{none_cleared, has_fresh, placed, status_is_sound, none_behind, notes_fit, none_out}
+use Rattle.lvm_session.proofs.WorkedLemmas.Parts.{has_fresh, placed, status_is_sound, none_behind, notes_fit, none_out}
 use Rattle.lvm_session.proofs.WorkedLemmas.Whole.{no_entries, begun_so, first_stays, fitting, owned, true_to_origin}
 
 abbrev entering : Open
@@ -109,7 +109,7 @@ goes_on = record {
   behind = λ p is. none_behind mode.Active false p is;
   reviewed = refl;
   fresh = has_fresh mode.Active (core_of waiting) (first_stays mode.Active);
-  clearings = λ p held clear. none_cleared (calls_stale (status_of fresh) p) held clear;
+  clearings = λ p held clear. twice_fails (calls_stale (status_of fresh) p) held clear;
   numbers = numbers;
 }
 

@@ -11,6 +11,7 @@ use Rattle.lvm_num.specs.Note.{IsEntry}
 use Rattle.lvm_num.specs.Descriptor.{is_member}
 use Rattle.lvm_num.specs.Status.{calls_stale}
 use Rattle.lvm_num.proofs.DisksLemmas.{has-zero}
+use Rattle.lvm_num.proofs.Booleans.{not_so, not_either, twice_fails, thrice_holds}
 use Rattle.lvm_kept.specs.Examples.{mirror}
 use Rattle.lvm_kept.specs.passed.Names.{Begun, Ordered}
 use Rattle.lvm_mwc.specs.Entries.{AreEntries}
@@ -24,10 +25,9 @@ use Rattle.lvm_session.specs.Requests.{IsOpenOne, IsRecorded}
 use Rattle.lvm_session.specs.Causes.{IsTrueToOrigin}
 use Rattle.lvm_session.specs.Sound.{count_if, stays_fresh, IsAsked, IsFitting, IsTold, IsGoing}
 use Rattle.lvm_session.specs.Worked.{Moment, mirrored, first_copy, calm, held_write, asking, a_write, begun_write, core_of, status_of, fresh, faultless, BeginningsAreSound, HeldWritesAreSound}
-use Rattle.lvm_session.proofs.Small.{not_so, not_either}
 use Rattle.lvm_session.proofs.SoundLemmas.{sound_while_on}
 use Rattle.lvm_session.proofs.RequestsLemmas.{laid_in, shaped, waits_with}
-use Rattle.lvm_session.proofs.WorkedLemmas.Parts.{none_cleared, valid, placed, notes_fit, no_note_flies, status_is_sound, none_behind, none_missing_at_first, has_fresh, one_stale, none_out, no_fault}
+use Rattle.lvm_session.proofs.WorkedLemmas.Parts.{valid, placed, notes_fit, no_note_flies, status_is_sound, none_behind, none_missing_at_first, has_fresh, none_out, no_fault}
 
 pub no_entries : AreEntries []
 no_entries = record { most = omega arith; differ = tt; counting = All-nil IsEntry }
@@ -89,7 +89,7 @@ goes_on m = record {
   behind = λ p is. none_behind m false p is;
   reviewed = refl;
   fresh = has_fresh m (core_of (calm m)) (first_stays m);
-  clearings = λ p held clear. none_cleared (calls_stale (status_of fresh) p) held clear;
+  clearings = λ p held clear. twice_fails (calls_stale (status_of fresh) p) held clear;
   numbers = numbers m;
 }
 
@@ -100,7 +100,7 @@ true_to_origin m = record {
   votes = refl;
   still_missing = λ disk is. none_missing_at_first disk is;
   missing = λ disk is. inl is;
-  stale = λ p is. inl (one_stale (calls_stale (status_of fresh) p) is);
+  stale = λ p is. inl (thrice_holds (calls_stale (status_of fresh) p) is);
 }
 
 pub beginnings_are_sound : BeginningsAreSound
@@ -190,7 +190,7 @@ held_goes_on m = record {
   behind = λ p is. none_behind m false p is;
   reviewed = refl;
   fresh = has_fresh m (core_of (held_write m)) (first_stays m);
-  clearings = λ p held clear. none_cleared (calls_stale (status_of fresh) p) held clear;
+  clearings = λ p held clear. twice_fails (calls_stale (status_of fresh) p) held clear;
   numbers = held_numbers m;
 }
 

@@ -6,13 +6,14 @@ use Rattle.lvm_num.specs.Disks.{has}
 use Rattle.lvm_num.specs.Votes.{votes_by}
 use Rattle.lvm_num.specs.Descriptor.{is_member}
 use Rattle.lvm_num.specs.declared.place.Pp.{Pp}
+use Rattle.lvm_num.proofs.Booleans.{not_so, not_either, or_left}
 use Rattle.lvm_kept.specs.passed.VolEntryOutcome as outcome
 use Rattle.lvm_path.specs.declared.target.Target.{Target}
 use Rattle.lvm_session.specs.declared.open.Power.TheVariants as power
 use Rattle.lvm_session.specs.State.{Core}
 use Rattle.lvm_session.specs.Worked.{AdmissionMarks, CommitLowersWork, UnsettledIsFresh, ReadsMayLag, StandingStillIsUnsound, BlameNeedsFaults, AnswersAreTold, DarknessKeepsNotes, UnpinnedWritesMove, read_targets, unpinned_write}
 use Rattle.lvm_session.proofs.RequestsLemmas.{shaped}
-use Rattle.lvm_session.proofs.Small.{not_so, not_either, not_risen, or_left}
+use Rattle.lvm_session.proofs.Small.{not_risen}
 
 pub admission_marks : AdmissionMarks
 unfolding votes_by has_bit has

@@ -1,7 +1,8 @@
 -- The sessions that are worked by hand are settled.
 use Rattle.std.proofs.Common.{◌≡◌, ⊎_elim, ℕ, zero, suc, ◌+◌, ◌<◌, Bool, true, false, ◌&&◌, ◌||◌, not, [], ◌∷◌, take, is_some, Option, Some, None, refl, sym, ap, subst, ◌∙◌, arith}
 use Rattle.std.specs.Prelude.{IsTrue, IsFalse, ◌==◌, if◌then◌else◌, option_and_then, slice_index_or}
-use Rattle.std.proofs.lemmas.Bool.{eqb-true}
+use Rattle.std.proofs.lemmas.Option.{same_Some}
+use Rattle.std.proofs.lemmas.Bool.{eqb-true, ne_eqb}
 use Rattle.std.proofs.lemmas.List.{length-replicate}
 use Rattle.std.proofs.lemmas.List.Elements.{All-cons, All-nil}
 use Rattle.lvm_num.specs.declared.descriptor.Mode.{Mode}
@@ -25,10 +26,9 @@ use Rattle.lvm_kept.specs.Contents.{Contents, contents_of}
 use Rattle.lvm_kept.specs.Examples.{stamped, member, two, either_of}
 use Rattle.lvm_kept.specs.Group.{IsOneByAll}
 use Rattle.lvm_kept.proofs.CommittedLemmas.Alike.{one_shown_is_one}
-use Rattle.lvm_kept.proofs.CommittedLemmas.Finding.{some_same}
 use Rattle.lvm_kept.specs.Kept.{Kept}
 use Rattle.lvm_kept.specs.Moments.{Calm}
-use Rattle.lvm_stamps.specs.Behind.{StampsBefore}
+use Rattle.lvm_steps.specs.Behind.{StampsBefore}
 use Rattle.lvm_core.specs.passed.Names.{SparesNewest, ShowsCommitted, HoldsCommitted}
 use Rattle.lvm_mwc.specs.Cache.{Cached, has_disk, no_notes}
 use Rattle.lvm_mwc.specs.declared.notes.DiskNotes.{DiskNotes}
@@ -42,7 +42,7 @@ use Rattle.lvm_core.proofs.SoundLemmas.Own.{sound_ready}
 use Rattle.lvm_rest.specs.Rest.{IsEven, NoneIsBehind}
 use Rattle.lvm_rest.specs.Examples.{Pair, status_of, pair_sizes, framed_group, framed_status, shown_by, media_of, device_of, there_by, history_of, even_pair, naming_note}
 use Rattle.lvm_rest.proofs.ExamplesLemmas.Pairs.{the_descriptor}
-use Rattle.lvm_crash.proofs.WorkedLemmas.Shelf.{group_read, no-magic, not-equal}
+use Rattle.lvm_crash.proofs.WorkedLemmas.Shelf.{group_read, no-magic}
 use Rattle.lvm_rest.proofs.ExamplesLemmas.Sectors.{status_read, group_first, status_first, stands_else, second_zero, second_none, room, told}
 use Rattle.lvm_rest.proofs.ExamplesLemmas.Examples.{valid, there_in, at_both, enough, shows, behind, zeros_even, pairs_rest}
 use Rattle.lvm_settled.specs.Examples.{core_of, noted_cache, noted_core, IsSettledPair, PairsSettle}
@@ -71,7 +71,7 @@ there_at lost x d = by (d == 0) (d == 1) refl refl
     by : (s t : Bool) → (d == 0) ≡ s → (d == 1) ≡ t → at lost d
     by true t e f = subst (at lost) (sym (eqb-true d 0 e)) (at_zero lost)
     by false true e f = subst (at lost) (sym (eqb-true d 1 f)) (at_one lost)
-    by false false e f = neither lost (not-equal 0 d (λ is. clash (d == 0) (ap (λ (n : ℕ). n == 0) (sym is)) e)) (not-equal 1 d (λ is. clash (d == 1) (ap (λ (n : ℕ). n == 1) (sym is)) f)) e f
+    by false false e f = neither lost (ne_eqb 0 d (λ is. clash (d == 0) (ap (λ (n : ℕ). n == 0) (sym is)) e)) (ne_eqb 1 d (λ is. clash (d == 1) (ap (λ (n : ℕ). n == 1) (sym is)) f)) e f
       where
         clash : (b : Bool) → IsTrue b → IsFalse b → ⊥
         clash true g h = absurd cc
@@ -158,8 +158,8 @@ fits x = record {
 
 -- each member has the sectors that it needs
 of_two : (k : ℕ) (row : PvRow) → k < 2 → slice_index_or (member 0 ∷ member 1 ∷ []) k row ≡ row → IsPlaced pair_sizes 1 row
-of_two zero row low is = subst (IsPlaced pair_sizes 1) is (record { there = omega arith; within = λ size e. let same : 16384 ≡ size = some_same 16384 size e in omega (arith, same) })
-of_two (suc zero) row low is = subst (IsPlaced pair_sizes 1) is (record { there = omega arith; within = λ size e. let same : 16384 ≡ size = some_same 16384 size e in omega (arith, same) })
+of_two zero row low is = subst (IsPlaced pair_sizes 1) is (record { there = omega arith; within = λ size e. let same : 16384 ≡ size = same_Some 16384 size e in omega (arith, same) })
+of_two (suc zero) row low is = subst (IsPlaced pair_sizes 1) is (record { there = omega arith; within = λ size e. let same : 16384 ≡ size = same_Some 16384 size e in omega (arith, same) })
 of_two (suc (suc k)) row low is = absurd (omega (arith, low))
 
 sound : (x : Pair) → IsSoundBetween (state (device_of x) (core_of x))

@@ -1,12 +1,12 @@
 -- Numbers of volumes that rise, with one more and with one less.
-use Rattle.std.proofs.Common.{◌≡◌, ◌≢◌, inl, inr, ℕ, suc, ◌+◌, ◌-◌, ◌<◌, ◌≤◌, Bool, true, false, ◌||◌, List, ◌∷◌, length, get_or, take, drop, refl, sym, ap, subst, ◌∙◌, arith, drop-cons, Ok, Err}
+use Rattle.std.proofs.Common.{◌≡◌, inl, inr, ℕ, suc, ◌+◌, ◌-◌, ◌<◌, ◌≤◌, Bool, true, false, ◌||◌, List, ◌∷◌, length, get_or, take, drop, refl, sym, ap, subst, ◌∙◌, arith, drop-cons, Ok, Err}
 use Rattle.std.specs.Prelude.{◌==◌, if◌then◌else◌, insert, remove}
 use Rattle.std.specs.List.{list_any}
 use Rattle.std.specs.Ordering.{nat_cmp}
 use Rattle.std.specs.List.Sorted.{IsBinarySearchResult}
 use Rattle.std.proofs.lemmas.List.Sorted.{searched}
-use Rattle.std.proofs.lemmas.Bool.{cases_lt, cases_eq, eq-eqb}
-use Rattle.std.proofs.lemmas.Bool.Decides.{eqb_tells, nat_tests}
+use Rattle.std.proofs.lemmas.Bool.{cases_lt, cases_eq, eq-eqb, ne_eqb}
+use Rattle.std.proofs.lemmas.Bool.Decides.{eqb_tells}
 use Rattle.std.proofs.lemmas.List.{take-append-drop, get_or_default}
 use Rattle.std.proofs.lemmas.List.Edits.{length-insert, length-remove, get_or-insert_below, get_or-insert_at, get_or-insert_above, get_or-remove_below, get_or-remove_above}
 use Rattle.std.proofs.lemmas.List.Elements.{All-append, All-cons, All-take, All-drop}
@@ -104,9 +104,6 @@ dirty-remove xs x i all at = record {
 
 -- ---- which numbers are among them
 
-differ : (m n : ℕ) → m ≢ n → m == n ≡ false
-differ m n apart = grind (arith, nat_tests)
-
 or_swap : (a b c : Bool) → a || (b || c) ≡ b || (a || c)
 or_swap true true c = refl
 or_swap true false c = refl
@@ -132,7 +129,7 @@ sets-insert xs x i is yes_is n = elim (eqb_tells n x) [
       any-insert (λ m. m == n) xs i x ∙ ap (λ b. b || list_any (λ m. m == n) xs) (eq-eqb x n (sym same.1)) ∙ sym yes_is
       ∙ ap (λ b. if b then is else list_any (λ m. m == n) xs) (sym same.0)
   | inr apart ↦
-      any-insert (λ m. m == n) xs i x ∙ ap (λ b. b || list_any (λ m. m == n) xs) (differ x n (λ e. apart.1 (sym e)))
+      any-insert (λ m. m == n) xs i x ∙ ap (λ b. b || list_any (λ m. m == n) xs) (ne_eqb x n (λ e. apart.1 (sym e)))
       ∙ ap (λ b. if b then is else list_any (λ m. m == n) xs) (sym apart.0)
 ]
 
@@ -146,10 +143,10 @@ gone xs x i all at =
     elim (cases_lt k i) [
       | inl below ↦
           let here = get_or-remove_below xs i 0 k below at.within in
-          differ (get_or (remove xs i) k d) x (λ e. absurd (omega (arith, e, k-is, here, at.it, all.numbers_rise k i 0 below at.within)))
+          ne_eqb (get_or (remove xs i) k d) x (λ e. absurd (omega (arith, e, k-is, here, at.it, all.numbers_rise k i 0 below at.within)))
       | inr past ↦
           let here = get_or-remove_above xs i 0 k past at.within in
-          differ (get_or (remove xs i) k d) x (λ e. absurd (omega (arith, e, k-is, here, at.it, all.numbers_rise i (k + 1) 0 (omega arith) (omega (arith, size, lt)))))
+          ne_eqb (get_or (remove xs i) k d) x (λ e. absurd (omega (arith, e, k-is, here, at.it, all.numbers_rise i (k + 1) 0 (omega arith) (omega (arith, size, lt)))))
     ])
 
 pub sets-remove : (xs : List ℕ) (x i : ℕ) (is : Bool) → AreDirty xs → StandsAt xs x i → is ≡ false → SetsAmong xs (remove xs i) x is
@@ -158,7 +155,7 @@ sets-remove xs x i is all at no_is n = elim (eqb_tells n x) [
       ap (λ v. list_any (λ m. m == v) (remove xs i)) same.1 ∙ gone xs x i all at ∙ sym no_is
       ∙ ap (λ b. if b then is else list_any (λ m. m == n) xs) (sym same.0)
   | inr apart ↦
-      ap (λ b. b || list_any (λ m. m == n) (remove xs i)) (sym (differ (get_or xs i 0) n (λ e. apart.1 (sym e ∙ at.it))))
+      ap (λ b. b || list_any (λ m. m == n) (remove xs i)) (sym (ne_eqb (get_or xs i 0) n (λ e. apart.1 (sym e ∙ at.it))))
       ∙ any-remove (λ m. m == n) xs i at.within
       ∙ ap (λ b. if b then is else list_any (λ m. m == n) xs) (sym apart.0)
 ]
@@ -179,8 +176,8 @@ sets-absent xs x i is at no_is n = elim (eqb_tells n x) [
       (λ k d lt.
       let k-is = get_or_default xs k d 0 lt in
       elim (cases_lt k i) [
-        | inl below ↦ differ (get_or xs k d) n (λ e. absurd (omega (arith, e, k-is, same.1, at.below k below)))
-        | inr past ↦ differ (get_or xs k d) n (λ e. absurd (omega (arith, e, k-is, same.1, at.above k past lt)))
+        | inl below ↦ ne_eqb (get_or xs k d) n (λ e. absurd (omega (arith, e, k-is, same.1, at.below k below)))
+        | inr past ↦ ne_eqb (get_or xs k d) n (λ e. absurd (omega (arith, e, k-is, same.1, at.above k past lt)))
       ])
       ∙ sym no_is ∙ ap (λ b. if b then is else list_any (λ m. m == n) xs) (sym same.0)
   | inr apart ↦ ap (λ b. if b then is else list_any (λ m. m == n) xs) (sym apart.0)

@@ -2,8 +2,8 @@
 use Rattle.std.proofs.Common.{◌≡◌, ◌≢◌, inl, inr, ℕ, zero, suc, ◌<◌, Bool, true, false, ◌&&◌, ◌||◌, not, List, [], ◌∷◌, length, map, get_or, set, refl, sym, ap, ◌∙◌, arith}
 use Rattle.std.specs.Prelude.{◌==◌, if◌then◌else◌, AllPairs}
 use Rattle.std.specs.List.{list_any}
-use Rattle.std.proofs.lemmas.Bool.{cases_eq, eq-eqb}
-use Rattle.std.proofs.lemmas.Bool.Decides.{eqb_tells, nat_tests}
+use Rattle.std.proofs.lemmas.Bool.{cases_eq, eq-eqb, ne_eqb}
+use Rattle.std.proofs.lemmas.Bool.Decides.{eqb_tells}
 use Rattle.std.proofs.lemmas.List.{length-set}
 use Rattle.std.proofs.lemmas.List.Elements.{All-set}
 use Rattle.std.proofs.lemmas.List.Folds.{list_any_none}
@@ -16,6 +16,7 @@ use Rattle.lvm_num.proofs.Pairs.{AllPairs-right}
 use Rattle.lvm_stale.specs.Rows.{IsRowAt, with_row_at}
 use Rattle.lvm_stale.specs.Table.{SameMembers}
 use Rattle.lvm_num.specs.Descriptor.{is_pp}
+use Rattle.lvm_num.proofs.DisksLemmas.{or-false, and-true}
 
 -- disks that rise
 abbrev pub Rise : List StatusRow → Type 0
@@ -28,9 +29,6 @@ rise-tail first rows rise = AllPairs-right (λ (a b : StatusRow). a.disk < b.dis
 later : (first : StatusRow) (rows : List StatusRow) → Rise (first ∷ rows) → (k : ℕ) (d : StatusRow) → k < length rows → first.disk < (get_or rows k d).disk
 later first rows rise k d lt = rise 0 (suc k) d (omega arith) (omega (arith, lt))
 
-differ : (m n : ℕ) → m ≢ n → m == n ≡ false
-differ m n apart = grind (arith, nat_tests)
-
 -- what a test says of one disk
 abbrev pub says : (StatusRow → Bool) → ℕ → List StatusRow → Bool
 says f disk rows = list_any (λ (row : StatusRow). row.disk == disk && f row) rows
@@ -40,7 +38,7 @@ silent : (f : StatusRow → Bool) (first : StatusRow) (rows : List StatusRow) �
 silent f first rows rise =
     list_any_none (λ (row : StatusRow). row.disk == first.disk && f row) rows
     (λ k d lt. let less : first.disk < (get_or rows k d).disk = later first rows rise k d lt in
-    ap (λ b. b && f (get_or rows k d)) (differ (get_or rows k d).disk first.disk (omega arith)))
+    ap (λ b. b && f (get_or rows k d)) (ne_eqb (get_or rows k d).disk first.disk (omega arith)))
 
 head-case : (f : StatusRow → Bool) (disk : ℕ) (row first : StatusRow) (rows : List StatusRow) → row.disk ≡ first.disk → Rise (first ∷ rows)
     → (row.disk == disk && f row) || says f disk rows ≡ (if row.disk == disk then f row else (first.disk == disk && f first) || says f disk rows)
@@ -62,7 +60,7 @@ tail-case : (f : StatusRow → Bool) (disk : ℕ) (row first : StatusRow) (rows 
     → (first.disk == disk && f first) || now ≡ (if row.disk == disk then f row else (first.disk == disk && f first) || says f disk rows)
 tail-case f disk row first rows now less is = elim (eqb_tells row.disk disk) [
   | inl same ↦
-      let other : first.disk == disk ≡ false = differ first.disk disk (omega (arith, same.1)) in
+      let other : first.disk == disk ≡ false = ne_eqb first.disk disk (omega (arith, same.1)) in
       rw (is, same.0, other) refl
   | inr isnt ↦ rw (is, isnt.0) refl
 ]
@@ -167,22 +165,14 @@ with_row_at-its s disk place was row valid at same f d it =
 pub with_row_at-other : (s : Status) (disk place : ℕ) (was row : StatusRow) → IsValidStatus s → IsRowAt s.rows disk place was → row.disk ≡ was.disk
     → (f : StatusRow → Bool) → (d : ℕ) → disk ≢ d → says f d (set s.rows place row) ≡ says f d s.rows
 with_row_at-other s disk place was row valid at same f d apart =
-    let row-is : row.disk == d ≡ false = differ row.disk d (λ e. apart (sym at.its ∙ sym same ∙ e)) in
+    let row-is : row.disk == d ≡ false = ne_eqb row.disk d (λ e. apart (sym at.its ∙ sym same ∙ e)) in
     after s disk place was row valid at same f d ∙ ap (λ b. if b then f row else says f d s.rows) row-is
 
 -- ---- what each change says
 
-or_right : (b c : Bool) → c ≡ false → b ≡ b || c
-or_right true c is = refl
-or_right false c is = sym is
-
-and_right : (b c : Bool) → c ≡ false → b ≡ b && not c
-and_right true c is = ap not (sym is)
-and_right false c is = refl
-
 -- the partitions of another disk are others
 another : (p pp : Pp) → pp.disk ≢ p.disk → is_pp p pp ≡ false
-another p pp apart = ap (λ b. b && p.pp == pp.pp) (differ p.disk pp.disk (λ e. apart (sym e)))
+another p pp apart = ap (λ b. b && p.pp == pp.pp) (ne_eqb p.disk pp.disk (λ e. apart (sym e)))
 
 its_number : (p pp : Pp) → pp.disk ≡ p.disk → is_pp p pp ≡ (p.pp == pp.pp)
 its_number p pp is = ap (λ b. b && p.pp == pp.pp) (eq-eqb p.disk pp.disk (sym is))
@@ -195,7 +185,7 @@ marked s pp place was row valid at same bits p = elim (cases_eq pp.disk p.disk) 
       both.0 ∙ bits p.pp ∙ ap (λ b. b || p.pp == pp.pp) (sym both.1) ∙ ap (λ b. calls_stale s p || b) (sym (its_number p pp it))
   | inr apart ↦
       with_row_at-other s pp.disk place was row valid at same (λ (r : StatusRow). has_bit r.stale p.pp) p.disk apart
-      ∙ or_right (calls_stale s p) (is_pp p pp) (another p pp apart)
+      ∙ or-false (calls_stale s p) (is_pp p pp) (another p pp apart)
 ]
 
 pub cleared : (s : Status) (pp : Pp) (place : ℕ) (was row : StatusRow) → IsValidStatus s → IsRowAt s.rows pp.disk place was → row.disk ≡ was.disk
@@ -206,7 +196,7 @@ cleared s pp place was row valid at same bits p = elim (cases_eq pp.disk p.disk)
       both.0 ∙ bits p.pp ∙ ap (λ b. b && not (p.pp == pp.pp)) (sym both.1) ∙ ap (λ b. calls_stale s p && not b) (sym (its_number p pp it))
   | inr apart ↦
       with_row_at-other s pp.disk place was row valid at same (λ (r : StatusRow). has_bit r.stale p.pp) p.disk apart
-      ∙ and_right (calls_stale s p) (is_pp p pp) (another p pp apart)
+      ∙ and-true (calls_stale s p) (is_pp p pp) (another p pp apart)
 ]
 
 pub set_missing-says : (s : Status) (disk place : ℕ) (was row : StatusRow) (is : Bool) → IsValidStatus s → IsRowAt s.rows disk place was → row.disk ≡ was.disk
@@ -217,7 +207,7 @@ set_missing-says s disk place was row is valid at same now d = elim (cases_eq di
       ∙ ap (λ b. if b then is else calls_missing s d) (sym (eq-eqb d disk (sym it)))
   | inr apart ↦
       with_row_at-other s disk place was row valid at same (λ (r : StatusRow). r.missing) d apart
-      ∙ ap (λ b. if b then is else calls_missing s d) (sym (differ d disk (λ e. apart (sym e))))
+      ∙ ap (λ b. if b then is else calls_missing s d) (sym (ne_eqb d disk (λ e. apart (sym e))))
 ]
 
 -- a disk that is missing already, or is there, leaves the table as it is

@@ -1,15 +1,15 @@
 -- What a search in the rows of a table finds.
-use Rattle.std.proofs.Common.{◌≡◌, ℕ, ◌+◌, ◌*◌, ◌/◌, ◌%◌, ◌<◌, ◌≤◌, Bool, true, false, cond, ◌||◌, not, List, [], ◌∷◌, length, get_or, Some, None, sym, ap, ◌∙◌, arith}
+use Rattle.std.proofs.Common.{◌≡◌, ℕ, ◌*◌, ◌/◌, ◌%◌, ◌≤◌, Bool, true, false, cond, List, length, get_or, Some, None, sym, ap, ◌∙◌, arith}
 use Rattle.std.specs.Prelude.{◌==◌, nat_lt}
 use Rattle.std.specs.Int.{bit_at}
 use Rattle.std.specs.List.{list_any, position, position_or_len}
-use Rattle.std.proofs.lemmas.Bool.{lt-ltb, eqb-true}
-use Rattle.std.proofs.lemmas.Bool.Decides.{nat_tests}
+use Rattle.std.proofs.lemmas.Bool.{lt-ltb, eqb-true, le-ltb}
 use Rattle.std.proofs.lemmas.List.{get_or_past, get_or_default}
 use Rattle.std.proofs.lemmas.List.Quantifiers.{position-Some}
 use Rattle.std.proofs.lemmas.Nat.Bits.{bit_at-zero}
 use Rattle.lvm_num.specs.declared.status.StatusRow.{StatusRow}
 use Rattle.lvm_num.specs.Bits.{has_bit}
+use Rattle.lvm_num.proofs.Lists.{any_within}
 use Rattle.lvm_stale.specs.Rows.{IsRowAt}
 
 -- no bit behind the last byte is set
@@ -18,20 +18,10 @@ unfolding has_bit
 no_bit bytes k past =
     ap (λ byte. bit_at byte (k % 8) == 1) (get_or_past bytes (k / 8) 0 (omega arith)) ∙ ap (λ bit. bit == 1) (bit_at-zero (k % 8))
 
--- where one passes, the first that passes has a place
-first_within : {X : Type 0} (p : X → Bool) (xs : List X) → list_any p xs ≡ true → position_or_len p xs < length xs
-first_within p [] some = absurd cc
-first_within {X} p (x ∷ xs) some = by_test (p x) some (first_within p xs)
-  where
-    by_test : (b : Bool) → b || list_any p xs ≡ true → (list_any p xs ≡ true → position_or_len p xs < length xs)
-        → cond (not b) (1 + position_or_len p xs) 0 < length (x ∷ xs)
-    by_test true is rest = omega arith
-    by_test false is rest = omega (arith, rest is)
-
 pub none_nowhere : {X : Type 0} (p : X → Bool) (xs : List X) → list_any p xs ≡ true → None ≡ position p xs → ⊥
 none_nowhere {X} p xs some none =
     let here : position p xs ≡ Some (position_or_len p xs) =
-    ap (λ b. cond b (Some (position_or_len p xs)) None) (lt-ltb (position_or_len p xs) (length xs) (first_within p xs some)) in
+    ap (λ b. cond b (Some (position_or_len p xs)) None) (lt-ltb (position_or_len p xs) (length xs) (any_within p xs some)) in
     cc
 
 pub row_found : (rows : List StatusRow) (disk place : ℕ) (d : StatusRow) → Some place ≡ position (λ (row : StatusRow). row.disk == disk) rows
@@ -44,8 +34,5 @@ row_found rows disk place d is =
       its = eqb-true (get_or rows place d).disk disk found.1;
     }
 
-not_below : (m n : ℕ) → n ≤ m → nat_lt m n ≡ false
-not_below m n le = grind (arith, nat_tests)
-
 pub past_bits : (bytes : List ℕ) (bit k : ℕ) → bit ≡ k → 8 * length bytes ≤ bit → nat_lt bit (8 * length bytes) ≡ has_bit bytes k
-past_bits bytes bit k same past = not_below bit (8 * length bytes) past ∙ sym (no_bit bytes k (omega arith))
+past_bits bytes bit k same past = le-ltb bit (8 * length bytes) past ∙ sym (no_bit bytes k (omega arith))

@@ -6,8 +6,9 @@ use Rattle.std.proofs.lemmas.Bool.{eq-eqb, eqb-true, false≢true}
 use Rattle.std.proofs.lemmas.List.Folds.{Any-from_list_any, list_any_at, list_all_at}
 use Rattle.lvm_stale.specs.passed.Names.{PvRow, Descriptor, StatusRow, Status, is_member}
 use Rattle.lvm_stale.specs.Table.{has_row}
+use Rattle.lvm_stale.proofs.passed.Names.{same_answer}
 use Rattle.lvm_status.specs.Members.{HasItsRows, all_rows, all_members}
-use Rattle.lvm_status.proofs.Disks.{bool_tells, no_is_false}
+use Rattle.lvm_status.proofs.Disks.{bool_tells}
 use Rattle.lvm_status.proofs.RunsLemmas.Sound.{and_left, and_right, both}
 
 -- elements by their numbers, of which each passes a test, and one is found
@@ -32,15 +33,9 @@ module _ {X : Type 0} (number : X → ℕ) (test : ℕ → Bool) where
       later true b e = refl
       later false b e = e
 
-same_answers : (a b : Bool) → (a ≡ true → b ≡ true) → (b ≡ true → a ≡ true) → a ≡ b
-same_answers a b there back = elim (bool_tells a) [
-  | inl is ↦ is ∙ sym (there is)
-  | inr isnt ↦ isnt ∙ sym (no_is_false b (λ is. false≢true (sym isnt ∙ back is)))
-]
-
 pub rows_are : (d : Descriptor) (s : Status) → all_rows d s && all_members d s ≡ true → HasItsRows d s
 rows_are d s is disk =
-    same_answers (has_row s disk) (is_member d disk)
+    same_answer (has_row s disk) (is_member d disk)
     (passes (λ (row : StatusRow). row.disk) (is_member d) s.rows disk (and_right (all_rows d s) (all_members d s) is))
     (passes (λ (member : PvRow). member.disk) (has_row s) d.pvs disk (and_left (all_rows d s) (all_members d s) is))
 

@@ -2,15 +2,13 @@
 use Rattle.std.proofs.Common.{◌≡◌, ◌⊎◌, inl, inr, ℕ, ◌+◌, ◌<◌, ◌≤◌, Bool, true, false, ◌&&◌, not, List, [], ◌∷◌, Option, Some, None, refl, sym, ap, subst, ◌∙◌, arith}
 use Rattle.std.specs.Prelude.{◌==◌, if◌then◌else◌, nat_lt, unwrap_or}
 use Rattle.std.specs.List.{list_any}
-use Rattle.std.proofs.lemmas.Bool.{eq-eqb, eqb-true, false≢true, cases_lt, cases_eq, lt-ltb, or_right, or_parts}
-use Rattle.std.proofs.lemmas.Bool.Decides.{nat_tests}
+use Rattle.std.proofs.lemmas.Bool.{eq-eqb, eqb-true, false≢true, cases_lt, cases_eq, lt-ltb, or_right, or_parts, false_from_ne_true}
 use Rattle.lvm_stale.specs.passed.Names.{Pp, Stamp, Status, is_member, is_pp, stamp_lt, calls_stale, calls_missing}
 use Rattle.lvm_status.specs.declared.change.Change.{Change}
 use Rattle.lvm_status.specs.declared.change.Change.TheVariants as change
 use Rattle.lvm_status.specs.Update.{Updates, no_disks, is_held, is_owed, is_settled_stale}
 use Rattle.lvm_status.specs.Calls.{Changes, WantsAtEnd, given_up, closed, comes_held, with_end, with_commit}
 use Rattle.lvm_status.specs.Runs.{Call, Want, Start, NextWrite, Ended, SetStamp, Step, IsSoundStatus, SetsForward, RunsForward, StaysStale, wants_fresh, InFlightStays, CommitsAreHeld, WrittenHasEnded, StampsRise, SettledStays, MissingStays, MissingIsNotWritten}
-use Rattle.lvm_status.proofs.Disks.{no_is_false}
 use Rattle.lvm_status.proofs.RunsLemmas.Sound.{and_left, and_right, both, not_false, or_tells, or_left, flies, with_end_and_commit, end_nearly, gradual, runs_stay_sound, if_grows}
 
 -- ---- an update that ends
@@ -126,9 +124,6 @@ written_has_ended (SetStamp stamp) old new step disk is = inl (sym (ap (λ (u : 
 -- the second stamp isn't before the first
 abbrev IsNotBefore : Stamp → Stamp → Type 0
 IsNotBefore a b = (a.epoch < b.epoch) ⊎ ((a.epoch ≡ b.epoch) × (a.seq ≤ b.seq))
-
-not_below : (m n : ℕ) → n ≤ m → nat_lt m n ≡ false
-not_below m n le = grind (arith, nat_tests)
 
 is_later : (a b : Stamp) → (a.epoch < b.epoch) ⊎ ((a.epoch ≡ b.epoch) × (a.seq < b.seq)) → stamp_lt a b ≡ true
 is_later a b (inl less) = or_left (nat_lt a.epoch b.epoch) (a.epoch == b.epoch && nat_lt a.seq b.seq) (lt-ltb a.epoch b.epoch less)
@@ -275,7 +270,7 @@ missing_stays (call ∷ calls) old new disk run is = missing_stays calls run.0 n
 pub missing_is_not_written : MissingIsNotWritten
 missing_is_not_written calls old new disk sound run is =
     let now = missing_stays calls old new disk run is in
-    no_is_false (new.unstarted disk)
+    false_from_ne_true (new.unstarted disk)
     (λ due.
     let there = ((runs_stay_sound calls old new sound run).unstarted disk due).0 in
     false≢true (sym (not_false (calls_missing new.wanted disk) (and_right (is_member new.group disk) (not (calls_missing new.wanted disk)) there)) ∙ now))

@@ -2,8 +2,7 @@
 use Rattle.std.proofs.Common.{◌≡◌, ◌⊎◌, inl, inr, ℕ, ◌*◌, Bool, true, false, ◌&&◌, ◌||◌, not, List, [], ◌∷◌, Option, Some, None, refl, sym, ap, subst, ◌∙◌, arith, get_or}
 use Rattle.std.specs.Prelude.{◌==◌, if◌then◌else◌, nat_lt, sum_by, unwrap_or}
 use Rattle.std.specs.List.{list_any}
-use Rattle.std.proofs.lemmas.Bool.{eq-eqb, eqb-true, false≢true}
-use Rattle.std.proofs.lemmas.Bool.Decides.{nat_tests}
+use Rattle.std.proofs.lemmas.Bool.{eq-eqb, eqb-true, false≢true, false_from_ne_true, or_from}
 use Rattle.std.proofs.lemmas.List.Folds.{Any-from_list_any, list_any_at}
 use Rattle.std.proofs.lemmas.List.Sums.{sum_by-cons}
 use Rattle.lvm_stale.specs.passed.Names.{Stamp, PvRow, Descriptor, Status, is_member, Disks, calls_missing, votes_in, total_votes, is_enough_to_write}
@@ -13,14 +12,11 @@ use Rattle.lvm_status.specs.declared.change.Change.TheVariants as change
 use Rattle.lvm_status.specs.Update.{Updates, no_disks, with_disk, without_disk, members_there, is_there, is_held, is_owed}
 use Rattle.lvm_status.specs.Calls.{Changes, WantsAtEnd, given_up, closed, comes_held, with_wanted, with_update, with_start, with_end, with_commit}
 use Rattle.lvm_status.specs.Runs.{Want, Start, NextWrite, Ended, SetStamp, IsSoundStatus, FirstIsSound, StepsStaySound, RunsStaySound}
-use Rattle.lvm_status.proofs.Disks.{no_is_false}
 pub use Rattle.std.proofs.lemmas.Bool.{and_from as both, not-true as not_false, or_cases as or_tells, or_left}
 pub use Rattle.lvm_stale.proofs.passed.Names.{first_holds as and_left, second_holds as and_right}
+use Rattle.lvm_stale.proofs.passed.Names.{first_with_second, none_below}
 
 -- ---- tests
-
-pub neither : (a b : Bool) → a ≡ false → b ≡ false → a || b ≡ false
-neither a b a-is b-is = ap (λ c. c || b) a-is ∙ b-is
 
 pub option_tells : (o : Option Status) → (o ≡ None) ⊎ ((t : Status) × (o ≡ Some t))
 option_tells None = inl refl
@@ -32,14 +28,11 @@ no_sum : (rows : List PvRow) → sum_by (λ (row : PvRow). 0) rows ≡ 0
 no_sum [] = refl
 no_sum (row ∷ rows) = omega (arith, sum_by-cons (λ (r : PvRow). 0) row rows, no_sum rows)
 
-not_below : (n : ℕ) → nat_lt n 0 ≡ false
-not_below n = grind (arith, nat_tests)
-
 pub none_held : (d : Descriptor) → is_enough_to_write d (votes_in d no_disks) ≡ false
 none_held d = ap (is_enough_to_write d) (no_sum d.pvs) ∙ by_quorum d.quorum (total_votes d)
   where
     by_quorum : (quorum : Bool) (total : ℕ) → (if quorum then nat_lt total (2 * 0) else nat_lt 0 0) ≡ false
-    by_quorum true total = not_below total
+    by_quorum true total = none_below total
     by_quorum false total = refl
 
 -- a member in a set is among the members in it
@@ -164,7 +157,7 @@ want_sound c u wanted sound made =
           ∙ sound.each t flies disk (there_before u.group u.wanted wanted disk (λ now. (g.keeps disk now).1) is);
       idle = λ none disk.
           let old = sound.idle none disk in
-          (no_is_false (given_up c u.unstarted disk) (λ is. false≢true (sym old.0 ∙ (g.gives disk is).0)), old.1, old.2, old.3);
+          (false_from_ne_true (given_up c u.unstarted disk) (λ is. false≢true (sym old.0 ∙ (g.gives disk is).0)), old.1, old.2, old.3);
       held = sound.held;
       committed_missing = λ disk is. g.grows disk (sound.committed_missing disk is);
       in_flight_missing = λ t flies disk is. g.grows disk (sound.in_flight_missing t flies disk is);
@@ -204,7 +197,7 @@ next_sound u disk sound is_lowest =
       unstarted = λ d is.
           let old = sound.unstarted d (and_left (u.unstarted d) (not (d == disk)) is) in
           let apart = not_false (d == disk) (and_right (u.unstarted d) (not (d == disk)) is) in
-          (old.0, neither (u.started d) (d == disk) old.1 apart, old.2, old.3);
+          (old.0, or_from (u.started d) (d == disk) old.1 apart, old.2, old.3);
       started = λ d is. elim (or_tells (u.started d) (d == disk) is) [
         | inl before ↦ sound.started d before
         | inr same ↦ ap (is_member u.group) (eqb-true d disk same) ∙ member
@@ -239,7 +232,7 @@ ends_there false false false e h = absurd (false≢true h)
 -- of the write that ends, and of the others that aren't started
 apart_from : (u : Updates) (disk d : ℕ) → IsSoundStatus u → u.started disk ≡ true → u.unstarted d ≡ true → d == disk ≡ false
 apart_from u disk d sound out is =
-    no_is_false (d == disk) (λ same. false≢true (sym (sound.unstarted d is).1 ∙ ap u.started (eqb-true d disk same) ∙ out))
+    false_from_ne_true (d == disk) (λ same. false≢true (sym (sound.unstarted d is).1 ∙ ap u.started (eqb-true d disk same) ∙ out))
 
 -- the same, whatever is committed, but for what is held
 ends_nearly : (u : Updates) (disk : ℕ) (ok : Bool) (wanted committed : Status) → IsSoundStatus u → u.started disk ≡ true → WantsAtEnd disk ok u.wanted wanted
@@ -252,7 +245,7 @@ ends_nearly u disk true wanted committed sound out wants held missing =
       unstarted = λ d is.
           let old = sound.unstarted d is in
           let apart = apart_from u disk d sound out is in
-          (ap (λ b. is_member u.group d && not b) (same d) ∙ old.0, ap (λ b. b && not (d == disk)) old.1, neither (u.written d) (d == disk) old.2 apart, old.3);
+          (ap (λ b. is_member u.group d && not b) (same d) ∙ old.0, ap (λ b. b && not (d == disk)) old.1, or_from (u.written d) (d == disk) old.2 apart, old.3);
       started = λ d is. sound.started d (and_left (u.started d) (not (d == disk)) is);
       failed = λ d is. same d ∙ sound.failed d is;
       each = λ t flies d is.
@@ -268,7 +261,7 @@ ends_nearly u disk false wanted committed sound out wants held missing = record 
       let old = sound.unstarted d is in
       let apart = apart_from u disk d sound out is in
       let same : calls_missing wanted d ≡ calls_missing u.wanted d = wants.missing d ∙ ap (λ b. if b then true else calls_missing u.wanted d) apart in
-      (ap (λ b. is_member u.group d && not b) same ∙ old.0, ap (λ b. b && not (d == disk)) old.1, old.2, neither (u.failed d) (d == disk) old.3 apart);
+      (ap (λ b. is_member u.group d && not b) same ∙ old.0, ap (λ b. b && not (d == disk)) old.1, old.2, or_from (u.failed d) (d == disk) old.3 apart);
   started = λ d is. sound.started d (and_left (u.started d) (not (d == disk)) is);
   failed = λ d is. elim (or_tells (u.failed d) (d == disk) is) [
     | inl before ↦ wants.missing d ∙ if_grows (d == disk) (calls_missing u.wanted d) (sound.failed d before)
@@ -284,10 +277,6 @@ ends_nearly u disk false wanted committed sound out wants held missing = record 
   committed_missing = λ d is. wants.missing d ∙ if_grows (d == disk) (calls_missing u.wanted d) (missing d is);
   in_flight_missing = λ t flies d is. wants.missing d ∙ if_grows (d == disk) (calls_missing u.wanted d) (sound.in_flight_missing t flies d is);
 }
-
-held_before : (a b : Bool) → not a && b ≡ false → b ≡ true → a ≡ true
-held_before true b e is = refl
-held_before false b e is = absurd (false≢true (sym e ∙ is))
 
 never_both : (a : Bool) → not a && a ≡ false
 never_both true = refl
@@ -315,7 +304,7 @@ good_end u disk wanted sound out wants = by_test (comes_held u (with_end u disk 
         (λ d is. sound.in_flight_missing f.0 f.1 d (ap (λ (o : Option Status). calls_missing (unwrap_or o u.committed) d) (sym f.1) ∙ is))
     by_test false e =
         ends_nearly u disk true wanted u.committed sound out wants
-        (λ is. sound.held (held_before (is_held u) (is_held (with_end u disk true wanted)) e is))
+        (λ is. sound.held (first_with_second (is_held u) (is_held (with_end u disk true wanted)) e is))
         sound.committed_missing
 
 bad_end : (u : Updates) (disk : ℕ) (wanted : Status) → IsSoundStatus u → u.started disk ≡ true → WantsAtEnd disk false u.wanted wanted → IsNearly (with_end_and_commit u disk false wanted)

@@ -1,6 +1,7 @@
 -- Descriptors under one stamp, with one list of volumes and with another.
 use Rattle.std.proofs.Common.{◌≡◌, ◌⊎◌, inl, inr, ⊎_elim, ℕ, zero, suc, Bool, true, false, ◌&&◌, List, Option, Some, None, refl, sym, ap, subst, ◌∙◌, eq-eqb}
 use Rattle.std.specs.Prelude.{IsTrue, ◌==◌, if◌then◌else◌, option_map}
+use Rattle.std.proofs.lemmas.Option.{same_Some}
 use Rattle.std.proofs.lemmas.Bool.{eqb-true}
 use Rattle.lvm_num.specs.declared.record.Stamp.{Stamp}
 use Rattle.lvm_num.specs.declared.descriptor.LvRow.{LvRow}
@@ -14,7 +15,7 @@ use Rattle.lvm_kept.specs.Contents.{Contents}
 use Rattle.lvm_kept.specs.Group.{if_passes, passes, is_of, is_status_of, has_room, descriptor_among, is_voter, has_quorum, Finds, IsFound, members_in, status_by, Reads}
 use Rattle.lvm_kept.specs.Committed.{IsWithinDisks}
 use Rattle.lvm_kept.specs.Kept.{Kept}
-use Rattle.lvm_kept.proofs.CommittedLemmas.Finding.{some_same, offered, is_offered}
+use Rattle.lvm_kept.proofs.CommittedLemmas.Finding.{offered, is_offered}
 use Rattle.lvm_kept.proofs.ChangesLemmas.Restamping.{restamping_keeps, members_same as restamped_members, status_same as restamped_status, reads_before as restamped_reads}
 use Rattle.lvm_steps.proofs.RecordLemmas.{split, join, not-itself}
 
@@ -184,7 +185,7 @@ module _ (old : Contents) (shown : ℕ → Option (Stamped Descriptor)) (g : Des
       by_test true is d shows its finds =
           let it : f.newest ≡ next = ⊎_elim
           (λ (same : shown d ≡ old.descriptor d). absurd (not_next d f.newest (sym same ∙ shows) is))
-          (λ (put : (shown d ≡ Some next) × IsTrue (passes (is_of g.id) (old.descriptor d))). some_same f.newest next (sym shows ∙ put.0))
+          (λ (put : (shown d ≡ Some next) × IsTrue (passes (is_of g.id) (old.descriptor d))). same_Some f.newest next (sym shows ∙ put.0))
           (own d) in
           let e : (back_if g.lvs (is_next g n f.newest) f.newest).value ≡ g = ap (λ (r : Stamped Descriptor). (back g n r).value) it ∙ ap (λ (r : Stamped Descriptor). r.value) next_back in
           let k_is : k ≡ h = sym f.is ∙ ap (λ (r : Stamped Descriptor). r.value) it in

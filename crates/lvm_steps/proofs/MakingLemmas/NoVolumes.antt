@@ -1,6 +1,7 @@
 -- What is kept where no disk shows a descriptor that names a volume.
 use Rattle.std.proofs.Common.{◌≡◌, inl, inr, ⊎_elim, ℕ, ◌<◌, ◌≤◌, Bool, true, false, ◌&&◌, List, [], ◌∷◌, ◌++◌, length, Option, Some, None, refl, sym, ap, subst, ◌∙◌, eq-eqb}
 use Rattle.std.specs.Prelude.{IsTrue, ◌==◌, not, if◌then◌else◌, find}
+use Rattle.std.proofs.lemmas.Option.{same_Some}
 use Rattle.std.proofs.lemmas.Bool.{eqb-true}
 use Rattle.lvm_num.specs.declared.descriptor.PvRow.{PvRow}
 use Rattle.lvm_num.specs.declared.descriptor.LvRow.{LvRow}
@@ -21,7 +22,7 @@ use Rattle.lvm_kept.specs.Contents.{Contents}
 use Rattle.lvm_kept.specs.Group.{if_passes, passes, is_of, has_room, descriptor_among, is_voter, has_quorum, Finds, IsFound, members_in, Reads, AreAlike, IsOneOf}
 use Rattle.lvm_kept.specs.Kept.{StandsAs, HasStatus, RawAgrees, IsSettledIn, IsAvailable, Kept}
 use Rattle.lvm_kept.specs.Torn.{DescriptorsChange}
-use Rattle.lvm_kept.proofs.CommittedLemmas.Finding.{some_same, offered, is_offered}
+use Rattle.lvm_kept.proofs.CommittedLemmas.Finding.{offered, is_offered}
 use Rattle.lvm_kept.proofs.CommittedLemmas.Alike.{alike_stays}
 use Rattle.lvm_kept.proofs.ChangesLemmas.Changing.{notes_keep}
 use Rattle.lvm_kept.proofs.ChangesLemmas.Restating.{statuses_keep}
@@ -215,7 +216,7 @@ module _ (old new : Contents) (group : Descriptor) (targets : Disks) (next : Sta
       let its : f.newest.value.id ≡ v = eqb-true f.newest.value.id v from.1 in
       ⊎_elim
       (λ (same : shown one.0 ≡ old.descriptor one.0). absurd (fresh one.0 f.newest (sym same ∙ from.0) its))
-      (λ (put : IsTrue (targets one.0) × (shown one.0 ≡ Some next)). sym f.is ∙ ap (λ (r : Stamped Descriptor). r.value) (some_same f.newest next (sym from.0 ∙ put.1)) ∙ is)
+      (λ (put : IsTrue (targets one.0) × (shown one.0 ≡ Some next)). sym f.is ∙ ap (λ (r : Stamped Descriptor). r.value) (same_Some f.newest next (sym from.0 ∙ put.1)) ∙ is)
       (change.own one.0)
 
   -- a claim of two that are found, of another group or of the new one
@@ -232,7 +233,7 @@ module _ (old new : Contents) (group : Descriptor) (targets : Disks) (next : Sta
   pub names_none : NamesNoVolume new
   names_none d r shows = ⊎_elim
       (λ (same : shown d ≡ old.descriptor d). may.empty d r (sym same ∙ shows))
-      (λ (put : IsTrue (targets d) × (shown d ≡ Some next)). ap (λ (x : Stamped Descriptor). x.value.lvs) (some_same r next (sym shows ∙ put.1)) ∙ ap (λ (g : Descriptor). g.lvs) is ∙ may.no_volume)
+      (λ (put : IsTrue (targets d) × (shown d ≡ Some next)). ap (λ (x : Stamped Descriptor). x.value.lvs) (same_Some r next (sym shows ∙ put.1)) ∙ ap (λ (g : Descriptor). g.lvs) is ∙ may.no_volume)
       (change.own d)
 
   module _ (facts : List Fact) (kept : Kept old facts) where
@@ -252,11 +253,11 @@ module _ (old new : Contents) (group : Descriptor) (targets : Disks) (next : Sta
     one_of d e r s shows also ids stamps = ⊎_elim
         (λ (old_r : shown d ≡ old.descriptor d). ⊎_elim
         (λ (old_s : shown e ≡ old.descriptor e). kept.lasting.descriptors d e r s (sym old_r ∙ shows) (sym old_s ∙ also) ids stamps)
-        (λ (new_s : IsTrue (targets e) × (shown e ≡ Some next)). absurd (fresh d r (sym old_r ∙ shows) (ids ∙ ap (λ (x : Stamped Descriptor). x.value.id) (some_same s next (sym also ∙ new_s.1)))))
+        (λ (new_s : IsTrue (targets e) × (shown e ≡ Some next)). absurd (fresh d r (sym old_r ∙ shows) (ids ∙ ap (λ (x : Stamped Descriptor). x.value.id) (same_Some s next (sym also ∙ new_s.1)))))
         (change.own e))
-        (λ (new_r : IsTrue (targets d) × (shown d ≡ Some next)). let same : r ≡ next = some_same r next (sym shows ∙ new_r.1) in ⊎_elim
+        (λ (new_r : IsTrue (targets d) × (shown d ≡ Some next)). let same : r ≡ next = same_Some r next (sym shows ∙ new_r.1) in ⊎_elim
         (λ (old_s : shown e ≡ old.descriptor e). absurd (fresh e s (sym old_s ∙ also) (sym ids ∙ ap (λ (x : Stamped Descriptor). x.value.id) same)))
-        (λ (new_s : IsTrue (targets e) × (shown e ≡ Some next)). same ∙ sym (some_same s next (sym also ∙ new_s.1)))
+        (λ (new_s : IsTrue (targets e) × (shown e ≡ Some next)). same ∙ sym (same_Some s next (sym also ∙ new_s.1)))
         (change.own e))
         (change.own d)
 
@@ -276,7 +277,7 @@ module _ (old new : Contents) (group : Descriptor) (targets : Disks) (next : Sta
           (λ its. ap (λ (x : Descriptor). x.mib) (found_new f.0 g (subst (λ (n : ℕ). Finds new f.0 n g) (sym its) f.1) ∙ sym (found_new k.0 h (subst (λ (n : ℕ). Finds new k.0 n h) (sym its) k.1))));
       partitions = λ id g h f k d p q is_p is_q. of_both id (p.pps ≡ q.pps) (λ differ. kept.lasting.partitions id g h (is_found_before id differ g f) (is_found_before id differ h k) d p q is_p is_q)
           (λ its. let same : g ≡ h = found_new f.0 g (subst (λ (n : ℕ). Finds new f.0 n g) (sym its) f.1) ∙ sym (found_new k.0 h (subst (λ (n : ℕ). Finds new k.0 n h) (sym its) k.1)) in
-          ap (λ (x : PvRow). x.pps) (some_same p q (sym is_p ∙ ap (λ (x : Descriptor). member_of x d) same ∙ is_q)));
+          ap (λ (x : PvRow). x.pps) (same_Some p q (sym is_p ∙ ap (λ (x : Descriptor). member_of x d) same ∙ is_q)));
       descriptors = one_of;
       statuses = λ d e r s shows also. kept.lasting.statuses d e r s (subst (λ (c : Contents). c.status d ≡ Some r) change.rest shows) (subst (λ (c : Contents). c.status e ≡ Some s) change.rest also);
       alike = alike_stays old new next (λ d. ⊎_elim (λ same. inl same) (λ put. inr put.1) (change.own d)) (λ d r shows same. absurd (fresh d r shows same)) kept.lasting.alike;

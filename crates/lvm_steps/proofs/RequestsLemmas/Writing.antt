@@ -9,12 +9,13 @@ use Rattle.lvm_vol.specs.declared.entry.Outcome.{Outcome}
 use Rattle.lvm_vol.specs.declared.entry.Outcome.TheVariants as outcome
 use Rattle.lvm_vol.specs.Facts.{Fact, Request, Begun, Landed, Taken, Cut, Stands, is_over}
 use Rattle.lvm_vol.specs.Legal.{begins_in, lands, takes, IsOutcomeOf, GotMay}
+use Rattle.lvm_vol.proofs.LawsLemmas.Legality.{same_self}
 use Rattle.lvm_kept.specs.Contents.{contents_of, descriptor_on}
 use Rattle.lvm_kept.specs.Kept.{RawAgrees, Kept}
 use Rattle.lvm_kept.specs.Moments.{Moment, Calm}
 use Rattle.lvm_kept.specs.Raw.{RawKept, raw_request, Carries, OnlyAdds, IsStill}
 use Rattle.lvm_kept.specs.Places.{SameRecords}
-use Rattle.lvm_kept.proofs.LegalLemmas.{stands_last, stands_first, any_more, any_last, lands_itself, first_landing, first_taking}
+use Rattle.lvm_kept.proofs.LegalLemmas.{stands_last, stands_first, any_more, any_last, first_landing, first_taking}
 use Rattle.lvm_kept.proofs.RawLemmas.Keeping.{either, begun_kept, done_kept, lost_kept, kept_closed, cut_calm}
 use Rattle.lvm_kept.proofs.RawLemmas.Carrying.{over_here}
 use Rattle.lvm_kept.proofs.PlacesLemmas.{descriptor-same}
@@ -93,7 +94,7 @@ lands_moment run first r device facts how started got way disk kind reads raw = 
   span = entry_goes_on run first device facts (Landed r how started got) way.span (λ past begins holds. record { began = way.began past; first = way.unlanded past begins; kind = kind; reads = reads past begins holds })
       (λ past begins holds image may. disk_entry_keeps (contents_of image) (past ++ facts) (Landed r how started got) disk (raw past begins holds image may) (holds.kept image may));
   began = λ past. regroup (Stands (Begun r)) past facts (Landed r how started got) (stands_first (past ++ facts) (Landed r how started got) (Begun r) (way.began past));
-  answered = λ past. regroup (λ (l : List Fact). list_any (lands r) l ≡ true) past facts (Landed r how started got) (any_last (lands r) (past ++ facts) (Landed r how started got) (lands_itself r));
+  answered = λ past. regroup (λ (l : List Fact). list_any (lands r) l ≡ true) past facts (Landed r how started got) (any_last (lands r) (past ++ facts) (Landed r how started got) (same_self r));
   untaken = λ past begins. regroup (λ (l : List Fact). list_any (takes r) l ≡ false) past facts (Landed r how started got) (any_more (takes r) (past ++ facts) (Landed r how started got) (way.untaken past begins) refl);
 }
 

@@ -1,6 +1,7 @@
 -- The moments of a varyon, and what each of its writes finds.
 use Rattle.std.proofs.Common.{◌≡◌, ◌⊎◌, inl, inr, ⊎_elim, ℕ, ◌<◌, ◌≤◌, true, ◌&&◌, length, Option, Some, None, refl, sym, ap, subst, ◌∙◌, eq-eqb}
 use Rattle.std.specs.Prelude.{IsTrue}
+use Rattle.std.proofs.lemmas.Option.{same_Some}
 use Rattle.std.proofs.lemmas.Bool.{eqb-true}
 use Rattle.lvm_num.specs.declared.descriptor.Descriptor.{Descriptor}
 use Rattle.lvm_num.specs.declared.status.Status.{Status}
@@ -16,7 +17,7 @@ use Rattle.lvm_kept.specs.Contents.{Contents, contents_of}
 use Rattle.lvm_kept.specs.Group.{passes, is_of, has_room, descriptor_among, is_voter, Finds, members_in, ReadsBy}
 use Rattle.lvm_kept.specs.Committed.{IsWithinDisks}
 use Rattle.lvm_kept.specs.Torn.{written as as_read, DescriptorsChange, Alone, Note}
-use Rattle.lvm_kept.proofs.CommittedLemmas.Finding.{some_same, offered, is_offered, offers, finding_reads, finds_from, images_within}
+use Rattle.lvm_kept.proofs.CommittedLemmas.Finding.{offered, is_offered, offers, finding_reads, finds_from, images_within}
 use Rattle.lvm_kept.proofs.TornLemmas.Records.{descriptor_shows, status_shows}
 use Rattle.lvm_kept.proofs.TornLemmas.Standing.{note_shows}
 use Rattle.lvm_steps.specs.Moments.{ImagesKept}
@@ -58,7 +59,7 @@ module _ (group : Descriptor) (disks targets : Disks) (next : Stamped Descriptor
   last : (d : ℕ) (r : Stamped Descriptor) → new.descriptor d ≡ Some r → r.value.id ≡ id → (stamp_lt r.stamp next.stamp ≡ true) ⊎ (r ≡ next)
   last d r shows its = ⊎_elim
       (λ (same : new.descriptor d ≡ old.descriptor d). inl (may.later d r (sym same ∙ shows) its))
-      (λ (is : IsTrue (targets d) × (new.descriptor d ≡ Some next)). inr (some_same r next (sym shows ∙ is.1)))
+      (λ (is : IsTrue (targets d) × (new.descriptor d ≡ Some next)). inr (same_Some r next (sym shows ∙ is.1)))
       (change.own d)
 
   can_read : CanRead group (members_in new disks id group)

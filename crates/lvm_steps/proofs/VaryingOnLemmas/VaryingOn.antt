@@ -2,6 +2,7 @@
 use Rattle.std.proofs.Common.{◌≡◌, inl, inr, ⊎_elim, ℕ, ◌<◌, Bool, true, false, ◌&&◌, List, [], ◌∷◌, ◌++◌, Option, Some, refl, sym, ap, subst, ◌∙◌, eq-eqb}
 use Rattle.std.specs.Prelude.{IsTrue, IsFalse, not, if◌then◌else◌, filter}
 use Rattle.std.specs.List.{AllByRecursion}
+use Rattle.std.proofs.lemmas.Option.{same_Some}
 use Rattle.std.proofs.lemmas.Bool.{eqb-true, not-true, not_from_false}
 use Rattle.lvm_num.specs.declared.place.Pp.{Pp}
 use Rattle.lvm_num.specs.declared.descriptor.Mode.{Mode}
@@ -17,6 +18,7 @@ use Rattle.lvm_num.specs.Record.{Stamped, stamp_lt}
 use Rattle.lvm_num.specs.Note.{Noted}
 use Rattle.lvm_num.specs.Status.{calls_stale, calls_dirty}
 use Rattle.lvm_num.proofs.RecordLemmas.Newest.{is_one, is_last}
+use Rattle.lvm_num.proofs.AmongLemmas.{filter_one}
 use Rattle.lvm_vol.specs.declared.entry.Vol.TheVariants.{Lv}
 use Rattle.lvm_vol.specs.Facts.{Fact, Cut}
 use Rattle.lvm_vol.specs.May.{Known, known, IsValue}
@@ -25,7 +27,7 @@ use Rattle.lvm_kept.specs.Group.{passes, is_of, has_room, descriptor_among, is_v
 use Rattle.lvm_kept.specs.Committed.{IsWithinDisks}
 use Rattle.lvm_kept.specs.Kept.{MayDiffer, BlocksKept, Kept}
 use Rattle.lvm_kept.specs.Changes.{Serves, StayExcused}
-use Rattle.lvm_kept.proofs.CommittedLemmas.Finding.{some_same, offered, is_offered, offers, finding_reads}
+use Rattle.lvm_kept.proofs.CommittedLemmas.Finding.{offered, is_offered, offers, finding_reads}
 use Rattle.lvm_kept.proofs.ChangesLemmas.Restamping.{restamping_keeps, narrower_on}
 use Rattle.lvm_kept.proofs.ChangesLemmas.Changing.{notes_keep}
 use Rattle.lvm_steps.specs.VaryingOn.{AreShowing, RestampKeeps, HasNewest, OnlyNewestIsFound, MayRestate, RestateKeeps, HasNoActive, NotesOf, ForgettingKeeps}
@@ -72,7 +74,7 @@ module _ (c : Contents) (group : Descriptor) (disks : Disks) (newest : Stamped D
       let last = is_last Descriptor (offered (is_of id) c.descriptor b) c.disks d newest (within.descriptors d newest shows) (offers (is_of id) c.descriptor b d newest in_set shows own) in
       let one = is_one Descriptor (offered (is_of id) c.descriptor b) c.disks f.newest f.found in
       let from = is_offered (is_of id) c.descriptor b one.0 f.newest one.2 in
-      let same : f.newest ≡ last.0 = some_same f.newest last.0 (sym f.found ∙ last.1) in
+      let same : f.newest ≡ last.0 = same_Some f.newest last.0 (sym f.found ∙ last.1) in
       ⊎_elim
       (λ (low : stamp_lt f.newest.stamp newest.stamp ≡ true). absurd (clash (stamp_lt f.newest.stamp newest.stamp) low (ap (λ (r : Stamped Descriptor). stamp_lt r.stamp newest.stamp) same ∙ last.2)))
       (λ (it : f.newest ≡ newest). sym f.is ∙ ap (λ (r : Stamped Descriptor). r.value) it ∙ has.value)
@@ -82,16 +84,6 @@ pub only_newest_is_found : OnlyNewestIsFound
 only_newest_is_found c group disks newest facts within has kept k is = only_found c group disks newest facts within has kept k is
 
 -- ---- the status
-
--- what is found
-kept_in : {X : Type 0} (q : X → Bool) (xs : List X) (x : X) → IsOneOf (filter q xs) x → IsOneOf xs x × (q x ≡ true)
-kept_in q [] x is = absurd is
-kept_in q (y ∷ ys) x is = by_test (q y) refl (kept_in q ys x) is
-  where
-    by_test : (t : Bool) → q y ≡ t → (IsOneOf (filter q ys) x → IsOneOf ys x × (q x ≡ true)) → IsOneOf (if t then y ∷ filter q ys else filter q ys) x → IsOneOf (y ∷ ys) x × (q x ≡ true)
-    by_test true passed rest (inl here) = (inl here, ap q here ∙ passed)
-    by_test true passed rest (inr there) = let r = rest there in (inr r.0, r.1)
-    by_test false passed rest is = let r = rest is in (inr r.0, r.1)
 
 one_of_some : {X : Type 0} (xs : List X) → IsSome xs → (x : X) × IsOneOf xs x
 one_of_some [] some = absurd some
@@ -179,7 +171,7 @@ module _ (c : Contents) (group : Descriptor) (disks targets : Disks) (newest : S
           let found : IsSome (fresh_on (members_in c disks id group) (Some was) row lp) =
           subst (λ (s : Option (Stamped Status)). IsSome (fresh_on (members_in c disks id group) s row lp)) may.status (subst (λ (v : Disks). IsSome (fresh_on v (status_among c disks id) row lp)) by_found.voters some) in
           let q = one_of_some (fresh_on (members_in c disks id group) (Some was) row lp) found in
-          let is = kept_in (tests (members_in c disks id group) was) (copies_of row lp) q.0 q.1 in
+          let is = filter_one (tests (members_in c disks id group) was) (copies_of row lp) q.0 q.1 in
           goes_in (tests (members_in c all_disks id group) next) (copies_of row lp) q.0 is.0 (voter_stays row lp q.0 volume is.0 is.1)
 
   some_of_group : (row : LvRow) (lp : ℕ) → IsOneOf group.lvs row → lp < row.lps → IsSome (fresh_on (members_in c all_disks id group) (Some next) row lp)
@@ -187,7 +179,7 @@ module _ (c : Contents) (group : Descriptor) (disks targets : Disks) (newest : S
       let found : IsSome (fresh_on (members_in c all_disks id group) (Some was) row lp) =
       subst (λ (s : Option (Stamped Status)). IsSome (fresh_on (members_in c all_disks id group) s row lp)) was_read (kept.lasting.some disks id group group by_found.reads (disks, may.newest_is.found) row lp volume inside) in
       let p = one_of_some (fresh_on (members_in c all_disks id group) (Some was) row lp) found in
-      still_fresh row lp p.0 volume (kept_in (tests (members_in c all_disks id group) was) (copies_of row lp) p.0 p.1)
+      still_fresh row lp p.0 volume (filter_one (tests (members_in c all_disks id group) was) (copies_of row lp) p.0 p.1)
 
   serves : Serves c facts id next
   serves = serving c id next facts group (only_found c group disks newest facts within may.newest_is kept) across some_of_group

@@ -4,8 +4,7 @@ use crate::tests::fixtures::{blank_shelf, check, plan_of, start};
 use Answer::*;
 use Step::*;
 use lvm_disk::{Arrange, Reaped, Shelf, Started};
-use lvm_faults::{Act, Planned, names_disks};
-use lvm_memory::MemShelf;
+use lvm_memory::{Act, MemShelf, Planned, names_disks};
 use lvm_num::Pbuf;
 use std::process::Abort;
 

@@ -2,9 +2,8 @@
 ghost use Rattle.std.specs.Prelude.{◌≡◌};
 
 use lvm_disk::{Shelf, Started};
-use lvm_faults::{Planned, names_disks};
 use lvm_io::MemSink;
-use lvm_memory::MemShelf;
+use lvm_memory::{MemShelf, Planned, names_disks};
 use lvm_num::{Pbuf, Rows};
 use std::process::Abort;
 

@@ -2,8 +2,8 @@
 use crate::tests::fixtures::check;
 use crate::tests::trial::{Fault, MOST_OF_NEW, Trial};
 use Step::*;
-use lvm_image::{Exclusive, ImageSink};
 use lvm_io::{Images, Put, Sink};
+use lvm_lane::{Exclusive, ImageSink};
 use std::rt::Files;
 
 // What is asked of the sink.

@@ -1,7 +1,7 @@
 //! A system with one folder and one file, `hdisk1.img`, which watches the calls on it.
 ghost use Rattle.std.specs.Prelude.{◌≤◌, length, IfOk};
 
-use lvm_image::Exclusive;
+use lvm_lane::Exclusive;
 use lvm_num::fill;
 use std::alloc::Allocator;
 use std::cell::{Cell, RefCell};

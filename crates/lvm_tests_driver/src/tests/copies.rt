@@ -4,7 +4,7 @@ use crate::tests::fixtures::{
 };
 use crate::tests::steps::{Step, break_off, does, play, play_out};
 use lvm_disk::{Arrange, Shelf};
-use lvm_faults::{Act, Planned};
+use lvm_memory::{Act, Planned};
 use lvm_num::Mode;
 use lvm_ranges::below::driver::Driver;
 use lvm_session::{CopyFault, CopyState, Taken};

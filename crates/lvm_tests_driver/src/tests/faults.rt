@@ -7,7 +7,7 @@ use crate::tests::fixtures::{
 use crate::tests::steps::{Step, does, play, play_out};
 use lvm_core::CommitFault;
 use lvm_disk::{Arrange, Shelf};
-use lvm_faults::{Act, Planned};
+use lvm_memory::{Act, Planned};
 use lvm_num::{Mode, Policy};
 use lvm_ranges::below::driver::Driver;
 use lvm_session::{AskFault, CopyFault, Taken, Turned};

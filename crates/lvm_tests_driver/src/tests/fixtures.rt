@@ -5,7 +5,7 @@ ghost use Rattle.lvm_num.specs.Descriptor.{IsValid};
 ghost use Rattle.lvm_num.specs.Status.{IsValidStatus};
 ghost use Rattle.lvm_num.specs.Votes.{is_enough_to_write, total_votes};
 ghost use Rattle.lvm_kept.specs.Examples.{row_of};
-ghost use Rattle.lvm_media.specs.Media.{blank_disks_of, sizes_of};
+ghost use Rattle.lvm_memory.specs.Media.{blank_disks_of, sizes_of};
 ghost use Rattle.lvm_memory.specs.Memory.{device_of};
 ghost use Rattle.lvm_session.specs.declared.open.Power.TheVariants as power;
 ghost use Rattle.lvm_session_start.specs.Parts.{IsSessionRoom};
@@ -15,9 +15,8 @@ ghost use Rattle.lvm_vol.specs.Log.{empty_log, spare_entries};
 
 use lvm_core::CommitFault;
 use lvm_disk::{Arrange, Shelf};
-use lvm_faults::{Planned, names_disks};
 use lvm_history::History;
-use lvm_memory::MemShelf;
+use lvm_memory::{MemShelf, Planned, names_disks};
 use lvm_num::{
     Descriptor, DiskSet, LvRow, Mode, Name, Policy, Pp, PvRow, Rows, Stamp, Status, StatusRow,
     VolumeNumbers, fill, word_of,
@@ -26,6 +25,7 @@ use lvm_path::Ask;
 use lvm_ranges::below::driver::{Closed, Driver};
 use lvm_ranges::below::whole_groups_begin;
 use lvm_rec::Homes;
+use lvm_resync::{SyncFault, sync_volume};
 use lvm_session::{AskFault, CopyFault, CopyState, Power, Taken, Turned};
 use lvm_session_start::{Room, take_parts};
 use lvm_transfer::Patience;
@@ -51,6 +51,8 @@ pub struct Setup {
     /// The room of its history, in entries and in bytes.
     pub entries: u32,
     pub bytes: u64,
+    /// The number of the last stamp before it.
+    pub seq: u32,
 }
 
 /// An active volume with two copies of eight track groups.
@@ -64,6 +66,19 @@ pub const MIRROR: Setup = Setup {
     pool: 16,
     entries: 1000,
     bytes: 100_000,
+    seq: 3,
+};
+
+/// The second of these copies is stale.
+pub const STALE: Setup = Setup {
+    stale: true,
+    ..MIRROR
+};
+
+/// Two copies, neither of which is stale, of a volume in mode off.
+pub const FRESH: Setup = Setup {
+    mode: Mode::Off,
+    ..MIRROR
 };
 
 pub static MODES: [Mode; 3] = [Mode::Active, Mode::Passive, Mode::Off];
@@ -229,6 +244,15 @@ fn history(rt: &(impl Abort + AllocGlobal), setup: &Setup) -> History
     History::new(rt.alloc(), 50, setup.entries, setup.bytes).expect(rt, "memory")
 }
 
+// The last stamp before the session, behind which there are numbers for its updates.
+fn last_stamp(rt: &impl Abort, seq: u32) -> Stamp
+    ensures is { result ≡ record { epoch = 50; seq = seq } }
+    ensures few { seq < 4294965000 }
+{
+    assert!(rt; seq < 4_294_965_000);
+    Stamp { epoch: 50, seq }
+}
+
 /// The session of a group, on whose disks this happens.
 pub fn begin(rt: &(impl Abort + AllocGlobal), setup: &Setup, plan: &[Planned]) -> Driver<MemShelf> {
     let group = group(rt, setup);
@@ -239,12 +263,11 @@ pub fn begin(rt: &(impl Abort + AllocGlobal), setup: &Setup, plan: &[Planned]) -
         descriptor: DiskSet::empty(),
         status: DiskSet::empty(),
     };
-    let stamp = Stamp { epoch: 50, seq: 3 };
     Driver::start(
         parts,
         shelf(rt, setup.mib, plan),
         history(rt, setup),
-        stamp,
+        last_stamp(rt, setup.seq),
         homes,
     )
 }
@@ -369,4 +392,11 @@ pub fn close<S: Shelf>(rt: &impl Abort, driver: Driver<S>) -> S {
     let Closed { shelf, history } = driver.close();
     assert!(rt; history.is_legal());
     shelf
+}
+
+/// Brings up the stale copies of the volume.
+pub fn sync<S: Shelf>(rt: &impl Abort, driver: &mut Driver<S>) -> Result<u32, SyncFault> {
+    goes_on(rt, driver);
+    let mut patience = Patience { left: 1_000 };
+    sync_volume(driver, 1, &mut patience)
 }

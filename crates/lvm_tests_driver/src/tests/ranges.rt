@@ -7,7 +7,7 @@ ghost use Rattle.lvm_ranges.specs.Reading.{IsRead};
 use crate::tests::fixtures::{MIRROR, Setup, begin, check, close, goes_on, order};
 use crate::tests::steps::{Step, play};
 use lvm_disk::{Arrange, Shelf};
-use lvm_faults::{Act, Planned};
+use lvm_memory::{Act, Planned};
 use lvm_num::{Mode, word_of};
 use lvm_posts::{Asked, RangeFault};
 use lvm_ranges::below::driver::Driver;

@@ -2,7 +2,7 @@
 use crate::tests::fixtures::{MIRROR, Setup, begin, check, close, turn, write};
 use crate::tests::steps::{Step, does, play, play_out};
 use lvm_disk::Shelf;
-use lvm_faults::{Act, Planned};
+use lvm_memory::{Act, Planned};
 use lvm_ranges::below::driver::Driver;
 use lvm_session::{Taken, Turned};
 use std::process::Abort;

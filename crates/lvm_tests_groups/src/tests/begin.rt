@@ -1,18 +1,17 @@
 //! Groups that are made, and that come on again.
-ghost use Rattle.lvm_survey.specs.Rows.{AreRows};
-ghost use Rattle.lvm_survey.specs.Surveyed.{IsSurveyValid};
+ghost use Rattle.lvm_quorum.specs.Rows.{AreRows};
+ghost use Rattle.lvm_quorum.specs.Surveyed.{IsSurveyValid};
 
+use crate::tests::disks::{blank_shelf, survey};
 use crate::tests::fixtures::{
     Begin, begin_first, begin_next, change, check, first_three, image_shelf, images_of, name_of,
     row,
 };
+use crate::tests::members::{group, stamp, status};
 use lvm_disk::Shelf;
-use lvm_faults::{Act, Planned};
-use lvm_memory::MemShelf;
+use lvm_memory::{Act, MemShelf, Planned};
 use lvm_num::{Descriptor, Stamp, Status};
-use lvm_quorum::{Choice, ChooseFault, choose};
-use lvm_survey::{Survey, SurveyRow};
-use lvm_tests_shelves::{blank_shelf, group, stamp, status, survey};
+use lvm_quorum::{Choice, ChooseFault, Survey, SurveyRow, choose};
 use std::process::Abort;
 
 const SECTOR: usize = 512;

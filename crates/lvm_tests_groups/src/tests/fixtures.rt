@@ -1,14 +1,13 @@
 //! What the tests share: what stands on disks in memory, and groups that begin there.
-use lvm_begin::{Begun, begin_again, begin_new};
+use crate::tests::disks::{self, all_disks, has_room, survey};
+use crate::tests::members::{first_homes, status};
 use lvm_disk::Shelf;
-use lvm_faults::Planned;
-use lvm_memory::MemShelf;
+use lvm_memory::{MemShelf, Planned};
 use lvm_num::{Descriptor, DiskSet, Name, Pbuf, Rows};
+use lvm_quorum::{Survey, SurveyRow};
 use lvm_rec::Homes;
-use lvm_survey::{Survey, SurveyRow};
-use lvm_tests_shelves::{all_disks, first_homes, has_room, status, survey};
 use lvm_transfer::{Patience, relight};
-use lvm_write::homes_of;
+use lvm_write::{Begun, begin_again, begin_new, homes_of};
 use std::process::Abort;
 
 /// Ends the test where this isn't so, and says of what.
@@ -43,7 +42,7 @@ pub fn image_shelf(
     images: &[Vec<u8>],
     plan: &[Planned],
 ) -> MemShelf {
-    lvm_tests_shelves::image_shelf(rt.alloc(), rows_of(rt, images), plan, 0).expect(rt, "disks")
+    disks::image_shelf(rt.alloc(), rows_of(rt, images), plan, 0).expect(rt, "disks")
 }
 
 /// Changes bytes of the disks, each on a disk at a place.
@@ -68,7 +67,7 @@ pub fn name_of(rt: &impl Abort, name: &[u8]) -> Name {
 
 fn descriptor_bytes(rt: &(impl Abort + AllocGlobal), group: &Descriptor) -> Rows<u8> {
     assert!(rt; group.is_valid());
-    lvm_spelling::encode(rt.alloc(), group).expect(rt, "memory")
+    lvm_vgda::encode(rt.alloc(), group).expect(rt, "memory")
 }
 
 fn status_bytes(rt: &(impl Abort + AllocGlobal), id: u64, count: u16) -> Rows<u8> {

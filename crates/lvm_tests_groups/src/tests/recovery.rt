@@ -3,8 +3,7 @@ use crate::tests::fixtures::{change, check, image_shelf, images_of};
 use crate::tests::varyon::{Answer, VariedOn, WHOLE, heal, made, vary};
 use lvm_core::Cause;
 use lvm_disk::Shelf;
-use lvm_faults::{Act, Planned};
-use lvm_memory::MemShelf;
+use lvm_memory::{Act, MemShelf, Planned};
 use lvm_num::Mode;
 use std::process::Abort;
 

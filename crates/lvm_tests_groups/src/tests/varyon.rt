@@ -1,12 +1,12 @@
 //! Groups of two disks that come on, and that don't.
+use crate::tests::disks::blank_shelf;
 use crate::tests::fixtures::{Begin, begin_first, check, images_of, name_of};
+use crate::tests::members::{group, volume};
 use lvm_core::{Cause, Driver, Room};
 use lvm_disk::{Arrange, Shelf};
-use lvm_faults::{Act, Planned};
 use lvm_history::History;
-use lvm_memory::MemShelf;
+use lvm_memory::{Act, MemShelf, Planned};
 use lvm_num::{Mode, Pp};
-use lvm_tests_shelves::{blank_shelf, group, volume};
 use lvm_transfer::{Patience, relight};
 use lvm_varyon::varyon;
 use std::process::Abort;

@@ -1,9 +1,9 @@
 ghost use Rattle.std.specs.Prelude.{IsTrue};
-ghost use Rattle.lvm_replies.specs.Refusals.{is_refusal};
+ghost use Rattle.lvm_show.specs.Refusals.{is_refusal};
 
 use crate::tests::fixtures::{check, check_at};
 use lvm_num::{Text, fill};
-use lvm_replies::{
+use lvm_show::{
     Carried, Refusal, push_refusal, show_block, show_refusal, show_stepped, show_synced,
 };
 use std::process::Abort;

@@ -1,9 +1,8 @@
 use crate::tests::fixtures::{check, check_at};
 use lvm_fields::Fault;
 use lvm_num::{Descriptor, LvRow, Mode, Name, Policy, Pp, PvRow, Rows};
-use lvm_spelling::encode;
 use lvm_tests_values::{Member, group, members};
-use lvm_vgda::decode;
+use lvm_vgda::{decode, encode};
 use std::process::Abort;
 
 // A group of three disks without a volume.

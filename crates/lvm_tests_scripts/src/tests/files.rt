@@ -1,9 +1,8 @@
 // The program over image files of the folder in which the test runs.
 
 use crate::tests::outside::{check, run, sink};
-use lvm_image::ImageSink;
 use lvm_io::MemSink;
-use lvm_lane::FileShelf;
+use lvm_lane::{FileShelf, ImageSink};
 use std::fs;
 use std::fs::File;
 use std::process::Abort;

@@ -5,7 +5,6 @@ use Rattle.lvm_vol.specs.Facts.{Fact}
 use Rattle.lvm_disk.specs.Device.{Flight}
 use Rattle.lvm_session.specs.declared.bringing.OpenCopy.{OpenCopy}
 use Rattle.lvm_session.specs.declared.bringing.CopyEnd.{CopyEnd}
-use Rattle.lvm_session.specs.declared.bringing.Step.{Step}
 use Rattle.lvm_session.specs.declared.bringing.Step.TheVariants as step
 use Rattle.lvm_session.specs.declared.flown.Flown.{Flown}
 use Rattle.lvm_session.specs.declared.flown.Owner.{Owner}
@@ -18,10 +17,11 @@ use Rattle.lvm_session.specs.Calls.{Closes, closed, copy_state, state_at_end}
 use Rattle.lvm_session.specs.Sound.{IsSound}
 use Rattle.lvm_invariant.specs.State.{ModelState}
 use Rattle.lvm_tie.specs.Out.{CarriesStep, CarryTheirs}
-use Rattle.lvm_tie.specs.Seen.{IsRequestAt, IsStepAt, Sees, SeesCopy, SeesRunning, step_write_in, step_write_of}
+use Rattle.lvm_tie.specs.Seen.{IsRequestAt, IsStepAt, Sees, SeesCopy, SeesRunning, step_write_in}
 use Rattle.lvm_tie.specs.Tied.{IsTied}
 use Rattle.lvm_tie.proofs.TiedLemmas.Orderly.{orderly_same}
 use Rattle.lvm_tie.specs.Calls.{CloseTies}
+use Rattle.lvm_tie.proofs.NearLemmas.{no_write as step_none}
 
 -- one that isn't running by what a caller sees has ended, and nothing of it is out
 pub record IsEnded (c : OpenCopy) : Type 0 where
@@ -41,12 +41,6 @@ ended_of core ended c is = has_ended c (λ cursor h. ended cursor (ap (λ (m : O
 
 no_row : (core : Core) (c : OpenCopy) → IsEnded c → has_row core c ≡ false
 no_row core c ended = (λ t. ended.still t || (ended.over t && not (is_whole core c)))
-
-step_none : (c : OpenCopy) (s : Step) → is_out s ≡ false → step_write_of c s ≡ None
-step_none c step.Idle h = refl
-step_none c (step.Reading source) h = absurd (cc h)
-step_none c (step.Read buf) h = refl
-step_none c step.Writing h = absurd (cc h)
 
 module _ (past : List Fact) (s : State) (tied : IsTied past s) (ended : (cursor : ℕ) → copy_state s.core ≡ copy.Running cursor → ⊥) (sound : IsSound (state s.device (closed s.core))) where
   abbrev core : Core

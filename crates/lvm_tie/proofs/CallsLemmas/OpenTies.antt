@@ -3,11 +3,12 @@ use Rattle.std.proofs.Common.{◌≡◌, inl, inr, ⊎_elim, ℕ, zero, suc, ◌
 use Rattle.std.specs.Prelude.{IsTrue, IsFalse, MatchOption, Ok, Err, is_some, nat_le, nat_lt, slice_get}
 use Rattle.std.specs.List.{list_any}
 use Rattle.std.specs.Option.{option_map_or}
-use Rattle.std.proofs.lemmas.Bool.{cases_eq}
+use Rattle.std.proofs.lemmas.Bool.{cases_eq, and_parts}
 use Rattle.std.proofs.lemmas.Bool.Decides.{nat_tests}
 use Rattle.lvm_num.specs.declared.place.Pp.{Pp}
 use Rattle.lvm_num.specs.declared.descriptor.LvRow.{LvRow}
 use Rattle.lvm_num.specs.Descriptor.{copies_of, is_member, volume_of, is_pp}
+use Rattle.lvm_num.proofs.Lists.{all_at}
 use Rattle.lvm_vol.specs.Facts.{Fact}
 use Rattle.lvm_vol.specs.Log.{next_id, no_request}
 use Rattle.lvm_disk.specs.Counts.{Counts}
@@ -37,13 +38,12 @@ use Rattle.lvm_invariant.specs.Events.{EnterStep, Open as Opening, ModelStep}
 use Rattle.lvm_invariant.specs.Good.{Good}
 use Rattle.lvm_invariant.proofs.EventsLemmas.Each.{each_keeps}
 use Rattle.lvm_crash.specs.Session.{Describes}
-use Rattle.lvm_tie_shelf.proofs.RecordsLemmas.Quiet.{quiet_lasts}
-use Rattle.lvm_tie_shelf.proofs.WritingLemmas.{and_both}
+use Rattle.lvm_crash.proofs.RecordsLemmas.Quiet.{quiet_lasts}
 use Rattle.lvm_tie.specs.Out.{CarriesStep, CarryTheirs}
 use Rattle.lvm_tie.specs.Seen.{IsRequestAt, IsStepAt, Sees, SeesCopy, SeesRequest, SeesStep, passed_by, update_of}
 use Rattle.lvm_tie.specs.Tied.{IsTied}
 use Rattle.lvm_tie.proofs.StateLemmas.{IsOfItsPartition, its_partition, missing_seen, stale_seen, there_first}
-use Rattle.lvm_tie.proofs.TiedLemmas.Orderly.{all_at, orderly_same}
+use Rattle.lvm_tie.proofs.TiedLemmas.Orderly.{orderly_same}
 use Rattle.lvm_tie.proofs.BringingLemmas.{one_is_copy_of, step_member, step_placed}
 use Rattle.lvm_tie.specs.Calls.{OpenTies}
 
@@ -153,7 +153,7 @@ module _ (past : List Fact) (s : State) (new : Core) (counts : Counts) (lv lp nu
   none_open = subst (λ (m : Option OpenCopy). SeesCopy (groups_of core) m v.open_copy) may.none tied.sees.open_copy
 
   stale_now : is_stale core opens.pp ≡ true
-  stale_now = (and_both (is_stale core opens.pp) _ may.settled).0
+  stale_now = (and_parts (is_stale core opens.pp) _ may.settled).0
 
   member : is_member core.descriptor opens.pp.disk ≡ true
   member = step_member past s tied c its some_groups opens.pp its.among

@@ -12,7 +12,7 @@ use Rattle.lvm_kept.specs.Torn.{RecordWrite}
 use Rattle.lvm_session.specs.declared.open.Power.TheVariants as power
 use Rattle.lvm_session.specs.State.{State, state}
 use Rattle.lvm_session.specs.Sound.{IsSound}
-use Rattle.lvm_tie_shelf.specs.Owned.{OnlyUpdateSince}
+use Rattle.lvm_crash.specs.Owned.{OnlyUpdateSince}
 use Rattle.lvm_tie.specs.Seen.{update_of}
 use Rattle.lvm_tie.specs.Tied.{IsTied, IsGood, moment_of}
 use Rattle.lvm_tie.proofs.TiedLemmas.Tied.{good_upholds, good_goes_on}

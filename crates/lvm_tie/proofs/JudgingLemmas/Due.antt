@@ -12,11 +12,13 @@ use Rattle.lvm_session.specs.Judging.{all_but_sure, is_sure, pps_of}
 use Rattle.lvm_session.specs.Marks.{is_among}
 use Rattle.lvm_invariant.specs.State.{Stage}
 use Rattle.lvm_num.specs.Descriptor.{is_pp}
+use Rattle.lvm_num.proofs.Booleans.{clash_gives}
+use Rattle.lvm_num.proofs.AmongLemmas.{filter_one}
 use Rattle.lvm_tie.proofs.StateLemmas.{among_one}
 use Rattle.lvm_tie.proofs.TiedLemmas.Orderly.{Differ}
-use Rattle.lvm_tie.proofs.AmongLemmas.{clash, filter_one, one_there, target_of}
+use Rattle.lvm_tie.proofs.AmongLemmas.{one_there, target_of}
 use Rattle.lvm_tie.specs.Seen.{stage_at, stage_seen}
-use Rattle.lvm_tie_shelf.proofs.WritingLemmas.{pp_same}
+use Rattle.lvm_crash.proofs.WritingLemmas.{pp_same}
 
 -- ---- targets that differ
 
@@ -67,13 +69,13 @@ sure_stays core (t ∷ ts) u apart one sure = by (is_sure core t.pp) refl (λ th
     by false is after = later one
       where
         later : IsOneOf (t ∷ ts) u → Stays core (t ∷ ts) (t ∷ all_but_sure core ts)
-        later (inl here) = clash (is_sure core t.pp) (ap (λ (x : Target). is_sure core x.pp) (sym here) ∙ sure) is
+        later (inl here) = clash_gives (is_sure core t.pp) (ap (λ (x : Target). is_sure core x.pp) (sym here) ∙ sure) is
         later (inr there) = let rest = after there in record {
           keeper = rest.keeper;
           one = inr rest.one;
           sure = rest.sure;
           others = λ x inside. ⊎_elim
-              (λ (here : x ≡ t). (inl here, λ same. clash (is_sure core t.pp) (ap (is_sure core) (ap (λ (y : Target). y.pp) (sym here) ∙ same) ∙ rest.sure) is))
+              (λ (here : x ≡ t). (inl here, λ same. clash_gives (is_sure core t.pp) (ap (is_sure core) (ap (λ (y : Target). y.pp) (sym here) ∙ same) ∙ rest.sure) is))
               (λ there2. let r = rest.others x there2 in (inr r.0, r.1))
               inside;
         }

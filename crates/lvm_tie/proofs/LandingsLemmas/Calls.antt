@@ -2,6 +2,7 @@
 use Rattle.std.proofs.Common.{◌≡◌, ℕ, Bool, true, false, ◌&&◌, List, [], ◌∷◌, Option, Some, None, refl, sym, ap, subst, ◌∙◌}
 use Rattle.std.specs.Prelude.{MatchOption, map, position, if◌then◌else◌, Result, Ok, Err}
 use Rattle.std.specs.List.{AllByRecursion}
+use Rattle.lvm_num.proofs.Lists.{all_push}
 use Rattle.lvm_disk.specs.declared.shelf.Arrange.{Arrange}
 use Rattle.lvm_disk.specs.Counts.{NoneFalls, Counts}
 use Rattle.lvm_disk.specs.Paths.{Arranged}
@@ -22,7 +23,7 @@ use Rattle.lvm_session.specs.declared.answers.Taken.{Taken as Answer}
 use Rattle.lvm_session.specs.Calls.{OpenGives, Opens, SubmitGives, TakeAt, TakeGives, TakesLanded, after_take, aged, ask_fault, copy_fault, is_asked, new_open, submitted}
 use Rattle.lvm_session.specs.Dark.{all_dark, is_cut}
 use Rattle.lvm_session.specs.Turns.{ArrangesSession}
-use Rattle.lvm_keeps_events.proofs.passed.Names.{all_mapped, all_push, all_removed}
+use Rattle.lvm_keeps_events.proofs.passed.Names.{all_mapped, all_removed}
 use Rattle.lvm_tie.specs.Landings.{CallsKeepCauses, FailuresAreCaused, HasCausesSince}
 use Rattle.lvm_tie.proofs.SessionEndsLemmas.Grounds.{ground}
 use Rattle.lvm_tie.proofs.LandingsLemmas.Causes.{dark_caused, goes_on, stays_caused, stays_with}

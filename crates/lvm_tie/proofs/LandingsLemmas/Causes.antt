@@ -3,9 +3,12 @@ use Rattle.std.proofs.Common.{◌≡◌, ◌≤◌, ◌<◌, ◌+◌, ◌-◌, �
 use Rattle.std.specs.Prelude.{slice_get, slice_index_or, slice_set, unwrap_or}
 use Rattle.std.specs.List.{AllByRecursion, list_any}
 use Rattle.std.proofs.lemmas.Bool.{eqb-true, leb-true, ltb-true}
+use Rattle.lvm_invariant.proofs.FaultsLemmas.{append_all}
 use Rattle.lvm_num.specs.declared.descriptor.Descriptor.{Descriptor}
 use Rattle.lvm_num.specs.declared.place.Pp.{Pp}
 use Rattle.lvm_num.specs.Geometry.{partition_blocks, partition_of}
+use Rattle.lvm_num.proofs.Booleans.{not_so}
+use Rattle.lvm_num.proofs.Lists.{all_weaker, all_at}
 use Rattle.lvm_map.proofs.Parts.{parts, whole}
 use Rattle.lvm_map.proofs.PlacesLemmas.{mib_positive}
 use Rattle.lvm_disk.specs.Counts.{NoneFalls, Rose}
@@ -46,18 +49,15 @@ use Rattle.lvm_session.specs.Turns.{Darkens, FinishMakes, Finishes, GoesOff, Mak
 use Rattle.lvm_session.specs.Causes.{AnyFailedSince, AreCaused, AreCounted, HasFailed, IsCaused, IsCounted, IsLandedFor, faults_at_first, is_blamed, was_usable}
 use Rattle.lvm_session.specs.Requests.{IsOpenOne}
 use Rattle.lvm_session.specs.Sound.{IsAsked, IsSound}
-use Rattle.lvm_keeps_events.proofs.passed.Names.{landing_is_caused, all_at, all_on, all_set, loss_is_caused, both, not_so}
-use Rattle.lvm_keeps_events.proofs.EndsLemmas.CopyReadFail.{at_number, some_at}
+use Rattle.lvm_keeps_events.proofs.passed.Names.{landing_is_caused, all_set, loss_is_caused, both}
+use Rattle.lvm_keeps_events.proofs.EndsLemmas.CopyReadFail.{some_at}
 use Rattle.lvm_keeps_events.proofs.EndsLemmas.Counts.{rose_on, rose_since}
 use Rattle.lvm_keeps_events.proofs.RequestsLemmas.{waits}
+use Rattle.lvm_keeps_events.proofs.OnePlace.{among_at}
 use Rattle.lvm_tie.specs.Landings.{BeginningHasCauses, FailuresAreCaused, HadNone, HasCausesSince, HasLandedFor, IsEntryCaused, TurnKeepsCauses}
 use Rattle.lvm_tie.proofs.SessionEndsLemmas.Grounds.{Ground, ground, ground_with, learned_same}
 
 -- ---- what was a cause goes on to be one
-
-all_join : {A : Type 0} (P : A → Type 0) (xs ys : List A) → AllByRecursion P xs → AllByRecursion P ys → AllByRecursion P (xs ++ ys)
-all_join P [] ys one two = two
-all_join P (x ∷ xs) ys one two = (one.0, all_join P xs ys one.1 two)
 
 module _ (old new : State) (more : NoneFalls old.device.counts new.device.counts) (descriptor : new.core.descriptor ≡ old.core.descriptor) (origin : new.core.origin ≡ old.core.origin) where
   failed_on : AnyFailedSince old → AnyFailedSince new
@@ -100,13 +100,13 @@ module _ (old new : State) (more : NoneFalls old.device.counts new.device.counts
   goes_on first added facts caused failed was = record {
     since = was.since ++ added;
     is = facts ∙ ap (λ (fs : List Fact). fs ++ added) was.is ∙ append_assoc first was.since added;
-    caused = all_on (IsEntryCaused old) (IsEntryCaused new) entry_on (was.since ++ added) (all_join (IsEntryCaused old) was.since added was.caused caused);
+    caused = all_weaker (IsEntryCaused old) (IsEntryCaused new) entry_on (was.since ++ added) (append_all (IsEntryCaused old) was.since added was.caused caused);
     failed = failed;
   }
 
 -- a disk that has failed has failed later too
 failures_on : (old new : Device) → NoneFalls old.counts new.counts → (ts : List Target) → AllByRecursion (λ (t : Target). is_failed t.state ≡ true → HasFailed old t) ts → AllByRecursion (λ (t : Target). is_failed t.state ≡ true → HasFailed new t) ts
-failures_on old new more = all_on (λ (t : Target). is_failed t.state ≡ true → HasFailed old t) (λ (t : Target). is_failed t.state ≡ true → HasFailed new t)
+failures_on old new more = all_weaker (λ (t : Target). is_failed t.state ≡ true → HasFailed old t) (λ (t : Target). is_failed t.state ≡ true → HasFailed new t)
     (λ t was failed. rose_on t.faults (old.counts.faults t.pp.disk) (new.counts.faults t.pp.disk) (more.faults t.pp.disk) (was failed))
 
 pub request_on : (old new : Device) → NoneFalls old.counts new.counts → (o : Open) → FailuresAreCaused old o → FailuresAreCaused new o
@@ -122,7 +122,7 @@ stays_with first old new more requests same failed was =
 -- where they stay
 pub stays_caused : (first : List Fact) (old new : State) → NoneFalls old.device.counts new.device.counts → ground new.core ≡ ground old.core → HasCausesSince first old → HasCausesSince first new
 stays_caused first old new more same was = stays_with first old new more old.core.requests same
-    (λ on. all_on (FailuresAreCaused old.device) (FailuresAreCaused new.device) (request_on old.device new.device more) old.core.requests (was.failed on)) was
+    (λ on. all_weaker (FailuresAreCaused old.device) (FailuresAreCaused new.device) (request_on old.device new.device more) old.core.requests (was.failed on)) was
 
 -- ---- a landing
 
@@ -193,12 +193,12 @@ module _ (old : State) (sound : IsSound old) (on : old.core.power ≡ power.On) 
         where
           by : (u : Bool) → was_usable core q ≡ u → u ≡ false
           by false is = refl
-          by true is = let at = at_number ps q one in not_so (sym all ∙ some_at (was_usable core) ps at.0 q at.1 is)
+          by true is = let at = among_at ps q one in not_so (sym all ∙ some_at (was_usable core) ps at.0 q at.1 is)
 
   pub landed_for : (how : Outcome) → IsLandedFor old o how → HasLandedFor old (request_of core.history.facts o.request.id) how
   landed_for outcome.Lost why = failed_among o.request.targets.items why.0 why.1 counted
   landed_for outcome.ReadFailed why =
-      failed_among o.request.targets.items why.0 (all_on (λ (t : Target). (is_failed t.state ≡ true) × HasFailed old.device t) (λ (t : Target). t.usable ≡ true → HasFailed old.device t) (λ t is usable. is.1) o.request.targets.items why.1) counted
+      failed_among o.request.targets.items why.0 (all_weaker (λ (t : Target). (is_failed t.state ≡ true) × HasFailed old.device t) (λ (t : Target). t.usable ≡ true → HasFailed old.device t) (λ t is usable. is.1) o.request.targets.items why.1) counted
   landed_for outcome.Off why = loss_is_caused old sound why.1
   landed_for outcome.NoFresh (inl why) = inl why
   landed_for outcome.NoFresh (inr none) = inr (had_none none)
@@ -230,7 +230,7 @@ dark_caused first old new middle more same is was =
     ∙ ap (λ (fs : List Fact). fs ++ landings outcome.Dark (cut_log middle.history).facts middle.requests) (cut_facts (is_uncut middle.history.facts))
     ∙ append_assoc middle.history.facts (cut_of (is_uncut middle.history.facts)) (landings outcome.Dark (cut_log middle.history).facts middle.requests)
     ∙ ap (λ (fs : List Fact). fs ++ (cut_of (is_uncut middle.history.facts) ++ landings outcome.Dark (cut_log middle.history).facts middle.requests)) (ap (λ (g : Ground). g.2) same))
-    (all_join (IsEntryCaused old) (cut_of (is_uncut middle.history.facts)) (landings outcome.Dark (cut_log middle.history).facts middle.requests) (cut_caused (is_uncut middle.history.facts))
+    (append_all (IsEntryCaused old) (cut_of (is_uncut middle.history.facts)) (landings outcome.Dark (cut_log middle.history).facts middle.requests) (cut_caused (is_uncut middle.history.facts))
     (landings_caused old outcome.Dark (cut_log middle.history).facts (λ r. tt) middle.requests))
     (λ on. absurd (let e : power.Dark ≡ power.On = sym (ap (λ (c : Core). c.power) is) ∙ on in cc))
     was
@@ -271,7 +271,7 @@ module _ (first : List Fact) (old new : State) (sound : IsSound old) (was : HasC
   failures_of on place o there = by (is_waiting o) refl
     where
       by : (b : Bool) → is_waiting o ≡ b → AllByRecursion (λ (t : Target). is_failed t.state ≡ true → HasFailed old.device t) o.request.targets.items
-      by true waits = all_on (IsCaused old.device old.core) (λ (t : Target). is_failed t.state ≡ true → HasFailed old.device t)
+      by true waits = all_weaker (IsCaused old.device old.core) (λ (t : Target). is_failed t.state ≡ true → HasFailed old.device t)
           (λ t caused failed. caused (ap (λ b. b || (t.usable && is_blamed old.core t.pp)) failed)) o.request.targets.items
           (all_at (AreCaused old.device old.core) old.core.requests place o (sound.on on).caused there waits)
       by false over = all_at (FailuresAreCaused old.device) old.core.requests place o (was.failed on) there over

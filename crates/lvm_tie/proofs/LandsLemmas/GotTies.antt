@@ -1,9 +1,8 @@
 -- Landings of reads, tied.
 use Rattle.std.proofs.Common.{◌≡◌, ℕ, zero, suc, ◌+◌, ◌-◌, ◌<◌, ◌≤◌, Bool, true, false, ◌||◌, not, List, [], ◌∷◌, ◌++◌, length, take, Option, Some, None, refl, sym, ap, subst, ◌∙◌, arith}
 use Rattle.std.specs.Prelude.{IsTrue, if◌then◌else◌, slice_index_or, position, nat_lt, cond}
-use Rattle.std.specs.List.{position_or_len}
+use Rattle.std.specs.List.{position_or_len, list_any}
 use Rattle.std.proofs.lemmas.Bool.Decides.{nat_tests}
-use Rattle.std.specs.List.{list_any}
 use Rattle.std.specs.Option.{option_map_or}
 use Rattle.std.proofs.lemmas.List.{length-take}
 use Rattle.lvm_num.specs.Buffer.{Buffer, Sector}
@@ -29,7 +28,7 @@ use Rattle.lvm_invariant.specs.Updates.{landed}
 use Rattle.lvm_invariant.specs.LandGot.{LandsGot}
 use Rattle.lvm_invariant.specs.LandReadFailed.{ReadFails}
 use Rattle.lvm_invariant.specs.Events.{LandGot, LandReadFailed, ModelStep}
-use Rattle.lvm_tie_shelf.proofs.OwnedLemmas.{covered}
+use Rattle.lvm_crash.proofs.OwnedLemmas.{covered}
 use Rattle.lvm_tie.proofs.AmongLemmas.{any_none}
 use Rattle.lvm_tie.specs.Seen.{stage_seen, phase_seen, SeesRequest}
 use Rattle.lvm_tie.proofs.TiedLemmas.Orderly.{HasTargets, numbers_of, targets_of}

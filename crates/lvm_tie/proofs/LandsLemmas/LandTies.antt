@@ -22,7 +22,7 @@ use Rattle.lvm_path.specs.declared.request.Phase.{Phase}
 use Rattle.lvm_path.specs.declared.request.Phase.TheVariants as phase
 use Rattle.lvm_path.specs.declared.target.Target.{Target}
 use Rattle.lvm_path.specs.Asks.{count_of, is_write}
-use Rattle.lvm_path.specs.Targets.{is_begun}
+use Rattle.lvm_path.specs.Targets.{is_begun, is_done, states_of}
 use Rattle.lvm_session.specs.declared.open.Open.{Open}
 use Rattle.lvm_session.specs.declared.bringing.OpenCopy.{OpenCopy}
 use Rattle.lvm_session.specs.declared.bringing.Step.{Step}
@@ -30,15 +30,15 @@ use Rattle.lvm_session.specs.declared.bringing.Step.TheVariants as step
 use Rattle.lvm_session.specs.declared.flown.Owner.{Owner}
 use Rattle.lvm_session.specs.declared.flown.Owner.TheVariants as owner
 use Rattle.lvm_session.specs.State.{Core, State, state}
-use Rattle.lvm_session.specs.Judging.{is_running, place_of, IsWithin}
+use Rattle.lvm_session.specs.Judging.{is_running, place_of, IsWithin, is_usable, copies_for, facts_of}
 use Rattle.lvm_session.specs.Bringing.{is_out, is_whole}
 use Rattle.lvm_session.specs.Events.{Lands, after_landing, got_blocks, landed_as, without_pin}
-use Rattle.lvm_invariant.specs.State.{Queued, ModelState}
+use Rattle.lvm_invariant.specs.State.{Queued, ModelState, Stage, ModelPhase, Held, WantEntry, Ready, Going, Well, Badly, HasPassed, Started, is_settled_stale}
 use Rattle.lvm_invariant.specs.Updates.{put, land, landed}
-use Rattle.lvm_invariant.specs.Events.{Event, ModelStep}
+use Rattle.lvm_invariant.specs.Events.{Event, ModelStep, LandNoFresh}
 use Rattle.lvm_invariant.proofs.EventsLemmas.Each.{each_keeps}
 use Rattle.lvm_crash.specs.Lasting.{AsksOf}
-use Rattle.lvm_tie_shelf.proofs.RecordsLemmas.Quiet.{quiet_lasts}
+use Rattle.lvm_crash.proofs.RecordsLemmas.Quiet.{quiet_lasts}
 use Rattle.lvm_tie.proofs.OutLemmas.Ties.{carry_on}
 use Rattle.lvm_tie.proofs.SeenLemmas.Changing.{step_apart, sees_changed}
 use Rattle.lvm_tie.proofs.SeenLemmas.Entered.{sees_entered}
@@ -49,12 +49,8 @@ use Rattle.lvm_tie.specs.Seen.{update_of, SeesRequest, Sees, phase_seen}
 use Rattle.lvm_tie.proofs.TiedLemmas.Orderly.{HaveNumbers, numbers_of}
 use Rattle.lvm_tie.specs.Tied.{IsOrderly, IsTied}
 use Rattle.lvm_tie.proofs.EventsLemmas.{cache_is, entries_stay}
-use Rattle.lvm_path.specs.Targets.{is_done, states_of}
 use Rattle.lvm_path.specs.Next.{start_or_wait, next_chosen, next_write, next_read, next_in}
-use Rattle.lvm_session.specs.Judging.{is_usable, copies_for, facts_of}
-use Rattle.lvm_invariant.specs.State.{Stage, ModelPhase, Held, WantEntry, Ready, Going, Well, Badly, HasPassed, Started, is_settled_stale}
 use Rattle.lvm_invariant.specs.LandNoFresh.{FindsNoFresh}
-use Rattle.lvm_invariant.specs.Events.{LandNoFresh}
 
 module _ (past : List Fact) (old new : State) (place : ℕ) (how : Outcome) (lands : Lands old new place how) (tied : IsTied past old) (q : Queued) (event : Event) (numbers : HaveNumbers old.core)
     (at : tied.view.queue (place_of lands.request.request.id) ≡ Some q) (sees : SeesRequest lands.request q) where

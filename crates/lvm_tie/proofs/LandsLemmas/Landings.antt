@@ -10,6 +10,7 @@ use Rattle.lvm_vol.specs.declared.entry.Outcome.{Outcome}
 use Rattle.lvm_vol.specs.declared.entry.Outcome.TheVariants as outcome
 use Rattle.lvm_sched.specs.Writes.{is_flying, is_waiting as target_waits, next_target}
 use Rattle.lvm_num.specs.declared.descriptor.Policy.{Policy}
+use Rattle.lvm_num.proofs.Lists.{all_at}
 use Rattle.lvm_sched.specs.declared.writes.TargetState.{TargetState}
 use Rattle.lvm_sched.specs.declared.writes.TargetState.TheVariants as target
 use Rattle.lvm_path.specs.declared.facts.Facts.{Facts}
@@ -33,7 +34,7 @@ use Rattle.lvm_kept.specs.Group.{IsOneOf}
 use Rattle.lvm_invariant.specs.State.{HasPassed}
 use Rattle.lvm_tie.specs.Tied.{IsOrderly, IsTied}
 use Rattle.lvm_tie.proofs.StateLemmas.{among_one, passed_caught}
-use Rattle.lvm_tie.proofs.TiedLemmas.Orderly.{all_at, asked_one, open_one, request_is, waiting_one}
+use Rattle.lvm_tie.proofs.TiedLemmas.Orderly.{asked_one, open_one, request_is, waiting_one}
 use Rattle.lvm_tie.proofs.AmongLemmas.{one_there}
 use Rattle.lvm_tie.specs.Lands.{LandTies}
 use Rattle.lvm_tie.proofs.LandsLemmas.LandTies.{no_fresh_ties}

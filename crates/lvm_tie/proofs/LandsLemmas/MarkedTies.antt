@@ -27,7 +27,7 @@ use Rattle.lvm_num.specs.Descriptor.{is_pp}
 use Rattle.lvm_invariant.specs.LandDone.{IsDropped, LandsDone}
 use Rattle.lvm_invariant.specs.LandLost.{LandsLost}
 use Rattle.lvm_invariant.specs.Events.{LandDone, LandLost, ModelStep}
-use Rattle.lvm_tie_shelf.proofs.WritingLemmas.{pp_same}
+use Rattle.lvm_crash.proofs.WritingLemmas.{pp_same}
 use Rattle.lvm_tie.proofs.StateLemmas.{settled_seen}
 use Rattle.lvm_tie.proofs.AmongLemmas.{all_one}
 use Rattle.lvm_tie.specs.Seen.{stage_seen, stage_at, phase_seen, SeesRequest}

@@ -30,7 +30,7 @@ use Rattle.lvm_invariant.specs.Updates.{without}
 use Rattle.lvm_invariant.specs.Take.{Takes, taken}
 use Rattle.lvm_invariant.specs.Events.{Take}
 use Rattle.lvm_invariant.proofs.EventsLemmas.Each.{each_keeps}
-use Rattle.lvm_tie_shelf.proofs.RecordsLemmas.Quiet.{quiet_lasts}
+use Rattle.lvm_crash.proofs.RecordsLemmas.Quiet.{quiet_lasts}
 use Rattle.lvm_tie.proofs.OutLemmas.Ties.{carry_on}
 use Rattle.lvm_tie.proofs.SeenLemmas.Entered.{sees_entered}
 use Rattle.lvm_tie.proofs.TiedLemmas.Orderly.{HaveNumbers, numbers_of, open_one}

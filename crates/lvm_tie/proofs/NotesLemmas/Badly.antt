@@ -3,7 +3,7 @@ use Rattle.std.proofs.Common.{◌≡◌, inl, inr, ℕ, ◌^◌, ◌<◌, Bool, 
 use Rattle.std.specs.Prelude.{IsTrue, ◌≢◌, if◌then◌else◌}
 use Rattle.std.specs.List.{remove}
 use Rattle.std.specs.Option.{option_map, option_map_or}
-use Rattle.std.proofs.lemmas.Bool.{cases_eq}
+use Rattle.std.proofs.lemmas.Bool.{cases_eq, and_parts, ne_eqb}
 use Rattle.std.proofs.lemmas.Bool.Decides.{nat_tests}
 use Rattle.lvm_num.specs.declared.descriptor.Descriptor.{Descriptor}
 use Rattle.lvm_num.specs.declared.record.Stamp.{Stamp}
@@ -14,6 +14,7 @@ use Rattle.lvm_num.specs.Disks.{Disks, has}
 use Rattle.lvm_num.specs.Note.{IsNote}
 use Rattle.lvm_num.specs.Record.{Stamped}
 use Rattle.lvm_num.specs.Status.{calls_missing, calls_stale}
+use Rattle.lvm_num.proofs.Booleans.{clash_gives}
 use Rattle.lvm_vol.specs.Facts.{Fact}
 use Rattle.lvm_disk.specs.Device.{Flight, Image, image_of}
 use Rattle.lvm_kept.specs.Contents.{contents_of}
@@ -22,7 +23,7 @@ use Rattle.lvm_mwc.specs.declared.notes.DiskNotes.{DiskNotes}
 use Rattle.lvm_mwc.specs.Cache.{after_end as after_note_end, flight_on, notes_on}
 use Rattle.lvm_mwc.specs.Notes.{names_group}
 use Rattle.lvm_status.specs.Update.{Stored, is_held, seen}
-use Rattle.lvm_stamps.specs.Behind.{StampsBefore}
+use Rattle.lvm_steps.specs.Behind.{StampsBefore}
 use Rattle.lvm_commit.specs.Committed.{next_stamp}
 use Rattle.lvm_rec.specs.declared.homes.Homes.{Homes}
 use Rattle.lvm_session.specs.declared.bringing.OpenCopy.{OpenCopy}
@@ -45,14 +46,13 @@ use Rattle.lvm_invariant.specs.Want.{Wants, after_wants}
 use Rattle.lvm_invariant.proofs.EventsLemmas.Each.{each_keeps}
 use Rattle.lvm_crash.specs.Session.{Describes, as_marks, marks_of, members_showing}
 use Rattle.lvm_crash.specs.Flights.{Matches}
-use Rattle.lvm_tie_shelf.proofs.RecordsLemmas.Quiet.{quiet_lasts, updates_last}
-use Rattle.lvm_tie_shelf.proofs.WritingLemmas.{and_both}
-use Rattle.lvm_tie_shelf.specs.Owned.{IsNoteFlight, OnlyUpdateSince}
-use Rattle.lvm_tie_shelf.specs.Records.{flying_after}
+use Rattle.lvm_crash.proofs.RecordsLemmas.Quiet.{quiet_lasts, updates_last}
+use Rattle.lvm_crash.specs.Owned.{IsNoteFlight, OnlyUpdateSince}
+use Rattle.lvm_crash.specs.Records.{flying_after}
 use Rattle.lvm_tie.proofs.StateLemmas.{there_first}
 use Rattle.lvm_tie.proofs.TiedLemmas.Orderly.{IsNoteOut, valid_of}
 use Rattle.lvm_tie.proofs.TiedLemmas.Tied.{tied_matches}
-use Rattle.lvm_tie.proofs.AmongLemmas.{clash, not_true}
+use Rattle.lvm_tie.proofs.AmongLemmas.{not_true}
 use Rattle.lvm_tie.proofs.TiedLemmas.Recorded.{NoMoreThere, no_update_of, records_last, shows_last, shows_update, status_lasts}
 use Rattle.lvm_tie.specs.Out.{AreNotes, CarriesStep, CarryTheirs, IsWriteOf, MayUpdate}
 use Rattle.lvm_tie.specs.Seen.{Sees, SeesNote, update_of}
@@ -62,7 +62,7 @@ use Rattle.lvm_tie.specs.Near.{IsNear, IsRunning, open_after}
 use Rattle.lvm_tie.specs.Wanted.{HasOwners, IsBrought, KeepsFresh, SeesMarks}
 use Rattle.lvm_tie.proofs.NearLemmas.{ends_running, near_ties, with_end_status}
 use Rattle.lvm_tie.proofs.WantedLemmas.Reviewing.{none_opened, opened, review_is_wanted}
-use Rattle.lvm_tie.proofs.NotesLemmas.Ended.{apart, ended, here_too, its_row, none_is_some, not_here, out, own, own_sector, since_ended}
+use Rattle.lvm_tie.proofs.NotesLemmas.Ended.{ended, here_too, its_row, none_is_some, not_here, out, own, own_sector, since_ended}
 use Rattle.lvm_tie.proofs.NotesLemmas.Landing.{HasLanded, has_landed, same_descriptors, same_members, same_statuses, update_may}
 use Rattle.lvm_tie.proofs.OutLemmas.Losing as losing
 
@@ -147,7 +147,7 @@ module _ (past : List Fact) (old new : State) (at disk : ℕ) (row : Flown) (buf
 
   was_there : (d : ℕ) → is_there core2 d ≡ true → WasThere d
   was_there d there =
-      let parts = and_both (is_member group d) (not (calls_missing lost.wanted d)) there in
+      let parts = and_parts (is_member group d) (not (calls_missing lost.wanted d)) there in
       let now = by (d == disk) refl (sym (loses.wants.missing d) ∙ not_true (calls_missing lost.wanted d) parts.1) in
       record { member = parts.0; there = now.0; other = now.1 }
     where
@@ -176,7 +176,7 @@ module _ (past : List Fact) (old new : State) (at disk : ℕ) (row : Flown) (buf
     where
       by : (b : Bool) → is_there core2 d ≡ b → IsTrue (not b)
       by false there = refl
-      by true there = clash (is_there core d) (was_in d there) (not_true (is_there core d) (sym (tied.sees.status.missing d) ∙ gone))
+      by true there = clash_gives (is_there core d) (was_in d there) (not_true (is_there core d) (sym (tied.sees.status.missing d) ∙ gone))
 
   sees_marks : SeesMarks core2 v missing
   sees_marks = record { committed = tied.sees.status.committed ∙ ap marks_of (sym committed_lost); wanted = tied.sees.status.wanted ∙ sym marks_lost; missing_is = λ d. refl; still = still }
@@ -225,10 +225,10 @@ module _ (past : List Fact) (old new : State) (at disk : ℕ) (row : Flown) (buf
     where
       by : (b : Bool) → is_there core2 f.disk ≡ b → IsTrue (not b)
       by false there = refl
-      by true there = clash (f.disk == disk) (let e : f.disk ≡ disk = its_out.disk_is in grind (arith, nat_tests)) (was_there f.disk there).other
+      by true there = clash_gives (f.disk == disk) (let e : f.disk ≡ disk = its_out.disk_is in grind (arith, nat_tests)) (was_there f.disk there).other
 
   landed : HasLanded v1 group (update_of core.status) f.disk own1.note false (contents_of is)
-  landed = has_landed tied.votes v1 group (update_of core.status) old.device new.device.flights tied.media its_end.media f false good1 matches1 its_end.removes own1 its_end.lands (λ there. clash (v1.missing f.disk) gone_now there) (inr gone_now)
+  landed = has_landed tied.votes v1 group (update_of core.status) old.device new.device.flights tied.media its_end.media f false good1 matches1 its_end.removes own1 its_end.lands (λ there. clash_gives (v1.missing f.disk) gone_now there) (inr gone_now)
 
   abbrev v2 : ModelState
   v2 = after_note v1 landed.names landed.home (flying_after v1 f.disk)
@@ -284,7 +284,7 @@ module _ (past : List Fact) (old new : State) (at disk : ℕ) (row : Flown) (buf
   home_now : (d lv g : ℕ) (n : DiskNotes) → IsTrue (is_there core3 d) → notes_on core3.cache d ≡ Some n → landed.home d lv g ≡ names_group n.written.items lv g
   home_now d lv g n there its =
       let w = was_out d there in
-      let ne : d ≡ f.disk → ⊥ = λ e. clash (d == disk) (let e2 : f.disk ≡ disk = its_out.disk_is in grind (arith, nat_tests)) w.other in
+      let ne : d ≡ f.disk → ⊥ = λ e. clash_gives (d == disk) (let e2 : f.disk ≡ disk = its_out.disk_is in grind (arith, nat_tests)) w.other in
       ap (λ (x : Groups). x lv g) (landed.others d ne) ∙ tied.sees.notes.home d lv g n (was_in d (sym (there_same d) ∙ there)) (sym (beside core.cache disk false d w.other) ∙ its)
 
   flying_now : (d : ℕ) → SeesNote (flying_after v1 f.disk d) (flight_on core3.cache d)
@@ -294,7 +294,7 @@ module _ (past : List Fact) (old new : State) (at disk : ℕ) (row : Flown) (buf
     | inr ne ↦
         let test : (d == f.disk) ≡ false = let nowhere : d ≡ f.disk → ⊥ = not_here past old new at disk false row buf its_owner returns tied d ne in grind (arith, nat_tests) in
         subst (λ (x : Option Groups). SeesNote x (flight_on core3.cache d)) (sym (ap (λ b. if b then None else v.flying_note d) test))
-        (subst (SeesNote (v.flying_note d)) (sym (flight_beside core.cache disk false d (apart d disk ne))) (tied.sees.notes.flying d))
+        (subst (SeesNote (v.flying_note d)) (sym (flight_beside core.cache disk false d (ne_eqb d disk ne))) (tied.sees.notes.flying d))
   ]
 
   none_flies : {X : Type 0} (u : Stamped Status) → over ≡ true → update_of status ≡ Some u → X
@@ -389,7 +389,7 @@ module _ (past : List Fact) (old new : State) (at disk : ℕ) (row : Flown) (buf
   notes_fit : AreNotes core3
   notes_fit d items flies = elim (cases_eq d disk) [
     | inl e ↦ none_is_some items (sym (ap (flight_on core3.cache) e ∙ none_here core.cache disk false) ∙ flies)
-    | inr ne ↦ subst (λ (st : Stamp). IsNote (record { stamp = st.epoch; entries = items.items })) (sym stamp_same) (tied.notes d items (sym (flight_beside core.cache disk false d (apart d disk ne)) ∙ flies))
+    | inr ne ↦ subst (λ (st : Stamp). IsNote (record { stamp = st.epoch; entries = items.items })) (sym stamp_same) (tied.notes d items (sym (flight_beside core.cache disk false d (ne_eqb d disk ne)) ∙ flies))
   ]
 
   carries : (g : Flight) (who : Owner) → CarriesStep core v g who → CarriesStep core3 v3 g who

@@ -1,6 +1,7 @@
 -- The write of a note that has ended, as the state has it out.
 use Rattle.std.proofs.Common.{◌≡◌, ℕ, Bool, true, false, ◌==◌, List, Option, Some, None, refl, sym, ap, subst, ◌∙◌, arith}
 use Rattle.std.specs.Prelude.{IsTrue, IsFalse, if◌then◌else◌, option_and_then, is_some}
+use Rattle.std.proofs.lemmas.Bool.{and_parts}
 use Rattle.std.proofs.lemmas.Bool.Decides.{nat_tests}
 use Rattle.lvm_num.specs.declared.descriptor.Descriptor.{Descriptor}
 use Rattle.lvm_num.specs.declared.record.Kind.TheVariants as kind
@@ -28,9 +29,8 @@ use Rattle.lvm_session.specs.Sound.{IsOn}
 use Rattle.lvm_keeps_events.proofs.OwnersLemmas.Removal.{taken_out}
 use Rattle.lvm_invariant.specs.State.{Groups, ModelState}
 use Rattle.lvm_crash.specs.Session.{members_showing}
-use Rattle.lvm_tie_shelf.proofs.RecordsLemmas.Quiet.{update_goes_on}
-use Rattle.lvm_tie_shelf.proofs.WritingLemmas.{and_both}
-use Rattle.lvm_tie_shelf.specs.Owned.{IsNoteFlight, OnlyUpdateSince}
+use Rattle.lvm_crash.proofs.RecordsLemmas.Quiet.{update_goes_on}
+use Rattle.lvm_crash.specs.Owned.{IsNoteFlight, OnlyUpdateSince}
 use Rattle.lvm_tie.proofs.StateLemmas.{missing_seen, there_first}
 use Rattle.lvm_tie.proofs.TiedLemmas.Orderly.{AreOut, IsNoteOut, IsOut, out_of, tickets_of}
 use Rattle.lvm_tie.specs.Seen.{SeesNote}
@@ -152,7 +152,7 @@ module _ (past : List Fact) (old new : State) (at disk : ℕ) (ok : Bool) (row :
   room there =
       let here : is_missing core disk ≡ false = sym (missing_seen past old tied disk member) ∙ ap v.missing (sym out.disk_is) ∙ there in
       let shown : IsTrue (members_showing (contents_of was) core.descriptor disk) = tied.recorded.members disk member (there_first past old tied disk here) in
-      ap (has_records was) out.disk_is ∙ shows_records was core.descriptor.id disk (and_both (passes (is_of core.descriptor.id) ((contents_of was).descriptor disk)) (has_room (contents_of was) disk core.descriptor) shown).0
+      ap (has_records was) out.disk_is ∙ shows_records was core.descriptor.id disk (and_parts (passes (is_of core.descriptor.id) ((contents_of was).descriptor disk)) (has_room (contents_of was) disk core.descriptor) shown).0
 
   pub since_ended : (x : Option RecordWrite) (u : Option (Stamped Status)) → OnlyUpdateSince old.device x u → OnlyUpdateSince new.device x u
   since_ended None None since = tt
@@ -165,6 +165,3 @@ module _ (past : List Fact) (old new : State) (at disk : ℕ) (ok : Bool) (row :
 
   pub not_here : (d : ℕ) → (d ≡ disk → ⊥) → d ≡ f.disk → ⊥
   not_here d ne e = ne (e ∙ out.disk_is)
-
-pub apart : (d disk : ℕ) → (d ≡ disk → ⊥) → (d == disk) ≡ false
-apart d disk ne = grind (arith, nat_tests)

@@ -1,5 +1,5 @@
 -- What the end of a note's write leaves, whether its disk has room for records or not.
-use Rattle.std.proofs.Common.{◌≡◌, ◌⊎◌, inl, inr, ⊎_elim, ℕ, ◌+◌, ◌-◌, ◌<◌, ◌≤◌, Bool, true, false, ◌&&◌, ◌==◌, List, Some, None, refl, sym, ap, subst, ◌∙◌, arith, eqb-true}
+use Rattle.std.proofs.Common.{◌≡◌, ◌⊎◌, inl, inr, ⊎_elim, ℕ, ◌+◌, ◌-◌, ◌<◌, ◌≤◌, Bool, true, false, ◌&&◌, ◌==◌, List, Some, None, refl, sym, ap, subst, ◌∙◌, arith, eqb-true, Option, take}
 use Rattle.std.specs.Prelude.{IsTrue, IsFalse, if◌then◌else◌, slice_get}
 use Rattle.std.proofs.lemmas.Bool.{cases_eq}
 use Rattle.std.proofs.lemmas.Bool.Decides.{nat_tests}
@@ -13,7 +13,6 @@ use Rattle.lvm_num.specs.Note.{Noted, note_in}
 use Rattle.lvm_num.specs.Record.{Stamped, slot_start, stamp_lt}
 use Rattle.lvm_num.specs.StatusBytes.{status_of}
 use Rattle.lvm_num.specs.Torn.{stamp_of}
-use Rattle.std.proofs.Common.{Option, take}
 use Rattle.std.proofs.lemmas.Option.{same_Some}
 use Rattle.lvm_disk.specs.Device.{Media, Image, Flight, Device, image_of}
 use Rattle.lvm_disk.specs.Steps.{Removes}
@@ -36,12 +35,12 @@ use Rattle.lvm_crash.specs.Flights.{Matches}
 use Rattle.lvm_crash.proofs.LawsLemmas.Images.{images_remain}
 use Rattle.lvm_crash.proofs.LastingLemmas.Lasting.{description_lasts}
 use Rattle.lvm_crash.proofs.LastingLemmas.Statuses.{statuses_last}
-use Rattle.lvm_tie_shelf.specs.Owned.{IsNoteFlight}
-use Rattle.lvm_tie_shelf.specs.Writing.{Lands}
-use Rattle.lvm_tie_shelf.specs.Records.{home_after, flying_after, NoteEnded}
-use Rattle.lvm_tie_shelf.proofs.DeviceLemmas.{writes_at}
-use Rattle.lvm_tie_shelf.proofs.RecordsLemmas.Notes.{note_ends}
-use Rattle.lvm_tie_shelf.proofs.RecordsLemmas.Records.{may_leave}
+use Rattle.lvm_crash.specs.Owned.{IsNoteFlight}
+use Rattle.lvm_crash.specs.Writing.{Lands}
+use Rattle.lvm_crash.specs.Records.{home_after, flying_after, NoteEnded}
+use Rattle.lvm_crash.proofs.DeviceLemmas.{writes_at}
+use Rattle.lvm_crash.proofs.RecordsLemmas.Notes.{note_ends}
+use Rattle.lvm_crash.proofs.RecordsLemmas.Records.{may_leave}
 use Rattle.lvm_tie.specs.Out.{MayUpdate}
 
 -- The write of a note has ended on a disk: what is home there is the note, unless the disk is missing, and elsewhere what it was.

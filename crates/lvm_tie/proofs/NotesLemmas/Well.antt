@@ -3,7 +3,7 @@ use Rattle.std.proofs.Common.{◌≡◌, inl, inr, ℕ, true, false, ◌==◌, n
 use Rattle.std.specs.Prelude.{IsTrue, if◌then◌else◌}
 use Rattle.std.specs.List.{remove}
 use Rattle.std.specs.Option.{option_map, option_map_or}
-use Rattle.std.proofs.lemmas.Bool.{cases_eq}
+use Rattle.std.proofs.lemmas.Bool.{cases_eq, ne_eqb}
 use Rattle.std.proofs.lemmas.Bool.Decides.{nat_tests}
 use Rattle.arrayvec.specs.ArrayVec.{ArrayVec}
 use Rattle.lvm_num.specs.declared.record.NoteEntry.{NoteEntry}
@@ -17,7 +17,7 @@ use Rattle.lvm_mwc.specs.Notes.{names_group}
 use Rattle.lvm_session.specs.declared.flown.Owner.{Owner}
 use Rattle.lvm_session.specs.declared.flown.Owner.TheVariants as owner
 use Rattle.lvm_session.specs.State.{Core, State, state, is_there}
-use Rattle.lvm_session.specs.Ends.{with_return}
+use Rattle.lvm_session.specs.Ends.{with_return, Returns, NoteLearns}
 use Rattle.lvm_session.specs.Sound.{IsSound}
 use Rattle.lvm_keeps_events.proofs.EndsLemmas.NoteEnd.{here, beside, none_here, flight_beside}
 use Rattle.lvm_invariant.specs.State.{Groups, ModelState}
@@ -25,8 +25,8 @@ use Rattle.lvm_invariant.specs.EndNote.{after_note}
 use Rattle.lvm_invariant.specs.Events.{EndNote}
 use Rattle.lvm_invariant.proofs.EventsLemmas.Each.{each_keeps}
 use Rattle.lvm_crash.specs.Session.{members_showing, Describes}
-use Rattle.lvm_tie_shelf.specs.Owned.{IsNoteFlight}
-use Rattle.lvm_tie_shelf.specs.Records.{flying_after}
+use Rattle.lvm_crash.specs.Owned.{IsNoteFlight}
+use Rattle.lvm_crash.specs.Records.{flying_after}
 use Rattle.lvm_tie.proofs.TiedLemmas.Orderly.{IsNoteOut, orderly_same}
 use Rattle.lvm_tie.proofs.TiedLemmas.Tied.{tied_matches}
 use Rattle.lvm_tie.proofs.TiedLemmas.Recorded.{no_update_of, records_last, status_lasts}
@@ -36,8 +36,7 @@ use Rattle.lvm_tie.specs.Tied.{IsTied, ShowsRecords}
 use Rattle.lvm_tie.proofs.OutLemmas.Ended.{HasEnded}
 use Rattle.lvm_tie.proofs.NotesLemmas.Landing.{HasLanded, has_landed, same_descriptors, same_members, same_statuses, update_may}
 use Rattle.lvm_session.specs.declared.flown.Flown.{Flown}
-use Rattle.lvm_session.specs.Ends.{Returns, NoteLearns}
-use Rattle.lvm_tie.proofs.NotesLemmas.Ended.{apart, ended, has_notes, here_too, its_row, none_is_some, not_here, out, own, own_names, own_sector, room, since_ended, some_of}
+use Rattle.lvm_tie.proofs.NotesLemmas.Ended.{ended, has_notes, here_too, its_row, none_is_some, not_here, out, own, own_names, own_sector, room, since_ended, some_of}
 
 module _ (past : List Fact) (old new : State) (at disk : ℕ) (row : Flown) (buf : Buffer) (its_owner : row.owner ≡ owner.Note disk) (returns : Returns old new at row true buf) (learned : NoteLearns old.core at disk true buf new.core) (tied : IsTied past old) (sound : IsSound new) where
   abbrev core : Core
@@ -93,7 +92,7 @@ module _ (past : List Fact) (old new : State) (at disk : ℕ) (row : Flown) (buf
         let not_missing : v.missing f.disk ≡ false = ap v.missing (its_out.disk_is ∙ sym e) ∙ tied.sees.status.missing d ∙ ap not there in
         ap (λ k. landed.home k lv g) (e ∙ sym its_out.disk_is) ∙ ap (λ (x : Groups). x lv g) (landed.own refl not_missing) ∙ own_names past old new at disk true row buf its_owner returns tied lv g
         ∙ ap (λ (items : List NoteEntry). names_group items lv g) (sym (written_is n (ap (notes_on next.cache) (sym e) ∙ is)))
-    | inr ne ↦ ap (λ (x : Groups). x lv g) (landed.others d (not_here past old new at disk true row buf its_owner returns tied d ne)) ∙ tied.sees.notes.home d lv g n there (sym (beside core.cache disk true d (apart d disk ne)) ∙ is)
+    | inr ne ↦ ap (λ (x : Groups). x lv g) (landed.others d (not_here past old new at disk true row buf its_owner returns tied d ne)) ∙ tied.sees.notes.home d lv g n there (sym (beside core.cache disk true d (ne_eqb d disk ne)) ∙ is)
   ]
 
   flying_now : (d : ℕ) → SeesNote (flying_after v f.disk d) (flight_on next.cache d)
@@ -103,7 +102,7 @@ module _ (past : List Fact) (old new : State) (at disk : ℕ) (row : Flown) (buf
     | inr ne ↦
         let test : (d == f.disk) ≡ false = let no : d ≡ f.disk → ⊥ = not_here past old new at disk true row buf its_owner returns tied d ne in grind (arith, nat_tests) in
         subst (λ (x : Option Groups). SeesNote x (flight_on next.cache d)) (sym (ap (λ b. if b then None else v.flying_note d) test))
-        (subst (SeesNote (v.flying_note d)) (sym (flight_beside core.cache disk true d (apart d disk ne))) (tied.sees.notes.flying d))
+        (subst (SeesNote (v.flying_note d)) (sym (flight_beside core.cache disk true d (ne_eqb d disk ne))) (tied.sees.notes.flying d))
   ]
 
   sees : Sees past next w
@@ -129,7 +128,7 @@ module _ (past : List Fact) (old new : State) (at disk : ℕ) (row : Flown) (buf
   notes_fit : AreNotes next
   notes_fit d items flies = elim (cases_eq d disk) [
     | inl e ↦ none_is_some items (sym (ap (flight_on next.cache) e ∙ none_here core.cache disk true) ∙ flies)
-    | inr ne ↦ tied.notes d items (sym (flight_beside core.cache disk true d (apart d disk ne)) ∙ flies)
+    | inr ne ↦ tied.notes d items (sym (flight_beside core.cache disk true d (ne_eqb d disk ne)) ∙ flies)
   ]
 
   whole : new ≡ state new.device next

@@ -13,8 +13,8 @@ use Rattle.lvm_session.specs.declared.flown.Flown.{Flown}
 use Rattle.lvm_session.specs.declared.flown.Owner.{Owner}
 use Rattle.lvm_session.specs.State.{Core}
 use Rattle.lvm_invariant.specs.State.{ModelState}
-use Rattle.lvm_tie_shelf.proofs.WritingLemmas.{ends_land}
-use Rattle.lvm_tie_shelf.specs.Writing.{Lands}
+use Rattle.lvm_crash.proofs.WritingLemmas.{ends_land}
+use Rattle.lvm_crash.specs.Writing.{Lands}
 use Rattle.lvm_tie.proofs.TiedLemmas.Orderly.{IsOut, AreOut, HaveTickets}
 use Rattle.lvm_tie.specs.Out.{CarriesStep, CarryTheirs}
 use Rattle.lvm_session.specs.Ends.{EndsAs}
@@ -61,7 +61,7 @@ has_ended old new ticket false buf m ends told = let l = ends_land.failed old ne
 
 -- ---- its row
 
-row_of : (core : Core) (w : Option RecordWrite) (gs after : List Flight) (f : Flight) (rs : List Flown) → AreOut core w (gs ++ f ∷ after) rs → (k : ℕ) × (r : Flown) × (slice_get rs k ≡ Some r) × (f.ticket ≡ r.ticket)
+pub row_of : (core : Core) (w : Option RecordWrite) (gs after : List Flight) (f : Flight) (rs : List Flown) → AreOut core w (gs ++ f ∷ after) rs → (k : ℕ) × (r : Flown) × (slice_get rs k ≡ Some r) × (f.ticket ≡ r.ticket)
 row_of core w [] after f [] out = absurd out
 row_of core w [] after f (r ∷ rs) out = (0, r, refl, out.0)
 row_of core w (g ∷ gs) after f [] out = absurd out

@@ -3,6 +3,7 @@ use Rattle.std.proofs.Common.{◌≡◌, inl, inr, ⊎_elim, ℕ, Bool, true, fa
 use Rattle.std.specs.Prelude.{if◌then◌else◌}
 use Rattle.std.specs.List.{list_any}
 use Rattle.std.specs.Option.{option_map}
+use Rattle.std.proofs.lemmas.Bool.{and_parts}
 use Rattle.lvm_num.specs.declared.descriptor.Descriptor.{Descriptor}
 use Rattle.lvm_num.specs.declared.descriptor.PvRow.{PvRow}
 use Rattle.lvm_num.specs.declared.status.Status.{Status}
@@ -20,7 +21,6 @@ use Rattle.lvm_invariant.specs.Crash.{Brings, CopyBrings}
 use Rattle.lvm_invariant.specs.Want.{after_wants}
 use Rattle.lvm_crash.specs.Session.{marks_of}
 use Rattle.lvm_crash.specs.Flights.{HasOut, OnlyUpdateIsOut}
-use Rattle.lvm_tie_shelf.proofs.WritingLemmas.{and_both}
 use Rattle.lvm_tie.proofs.AmongLemmas.{not_true, or_left}
 use Rattle.lvm_tie.specs.Out.{is_owed_on}
 use Rattle.lvm_tie.specs.Seen.{update_of}
@@ -113,10 +113,10 @@ module _ (old lost new : Stored) (disk : ℕ) (group : Descriptor) (group_is : o
 
   -- where it has ended, it was committed, and nothing of it is out
   pub flew : over ≡ true → (old.in_flight ≡ Some old.committed) × (is_held (seen old) ≡ true)
-  flew ends = let held : is_held (seen old) ≡ true = (and_both (is_held mid) (not (is_owed mid)) ends).0 in (sound.held held, held)
+  flew ends = let held : is_held (seen old) ≡ true = (and_parts (is_held mid) (not (is_owed mid)) ends).0 in (sound.held held, held)
 
   none_left : over ≡ true → (d : ℕ) → is_member old.group d ≡ true → left_on d ≡ false
-  none_left ends d member = not_owed_by left_on old.group.pvs d member (not_true (is_owed mid) (and_both (is_held mid) (not (is_owed mid)) ends).1)
+  none_left ends d member = not_owed_by left_on old.group.pvs d member (not_true (is_owed mid) (and_parts (is_held mid) (not (is_owed mid)) ends).1)
 
   pub none_started : over ≡ true → (d : ℕ) → has old.writes.started d ≡ false
   none_started ends d = by (has old.writes.started d) refl

@@ -9,7 +9,7 @@ use Rattle.lvm_num.proofs.RecordLemmas.Records.{joined-same}
 use Rattle.lvm_rec.specs.Slots.{held, slot_for, slot_of, slot_to_write}
 use Rattle.lvm_disk.specs.Device.{Image, IsWholeImage}
 use Rattle.lvm_kept.specs.Places.{SameRecords}
-use Rattle.lvm_stamps.proofs.LawsLemmas.Writes.{data_keeps_before}
+use Rattle.lvm_steps.proofs.LawsLemmas.Writes.{data_keeps_before}
 use Rattle.lvm_commit.specs.Committed.{next_stamp}
 use Rattle.lvm_status.specs.Update.{Stored}
 use Rattle.lvm_rec.specs.declared.homes.Homes.{Homes}

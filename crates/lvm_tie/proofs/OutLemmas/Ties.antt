@@ -1,9 +1,8 @@
 -- The start of a transfer of a request, tied.
-use Rattle.std.proofs.Common.{◌≡◌, inl, inr, ℕ, zero, suc, ◌+◌, ◌≤◌, Bool, false, ◌&&◌, ◌||◌, ◌==◌, not, List, [], ◌∷◌, ◌++◌, Option, Some, None, refl, sym, ap, subst, ◌∙◌, arith}
+use Rattle.std.proofs.Common.{◌≡◌, inl, inr, ℕ, ◌+◌, ◌≤◌, Bool, false, ◌&&◌, ◌||◌, ◌==◌, not, List, [], ◌∷◌, ◌++◌, Option, Some, None, refl, sym, ap, subst, ◌∙◌, arith}
 use Rattle.std.specs.Prelude.{IsTrue, if◌then◌else◌, slice_get}
 use Rattle.std.proofs.lemmas.Bool.{cases_eq}
 use Rattle.std.proofs.lemmas.Bool.Decides.{nat_tests}
-use Rattle.std.proofs.lemmas.Option.{same_Some}
 use Rattle.lvm_num.specs.declared.record.Kind.{Kind}
 use Rattle.lvm_num.specs.declared.status.Status.{Status}
 use Rattle.lvm_num.specs.Geometry.{data_start}
@@ -15,9 +14,7 @@ use Rattle.lvm_disk.specs.Paths.{Started}
 use Rattle.lvm_kept.specs.Contents.{contents_of}
 use Rattle.lvm_kept.specs.Plans.{IsPlanned}
 use Rattle.lvm_kept.specs.Torn.{RecordWrite, IsOtherOrRecord}
-use Rattle.lvm_sched.specs.declared.writes.TargetState.{TargetState}
 use Rattle.lvm_path.specs.declared.target.Target.{Target}
-use Rattle.lvm_path.specs.Targets.{with_state}
 use Rattle.lvm_path.specs.Next.{with_start}
 use Rattle.lvm_session.specs.declared.open.Open.{Open}
 use Rattle.lvm_session.specs.declared.bringing.OpenCopy.{OpenCopy}
@@ -36,20 +33,14 @@ use Rattle.lvm_invariant.specs.Events.{Event, ModelStep}
 use Rattle.lvm_invariant.proofs.EventsLemmas.Each.{each_keeps}
 use Rattle.lvm_crash.specs.Session.{members_showing, Describes}
 use Rattle.lvm_crash.specs.Lasting.{AsksOf}
-use Rattle.lvm_tie_shelf.proofs.DeviceLemmas.{writes_at}
-use Rattle.lvm_tie_shelf.proofs.RecordsLemmas.Quiet.{quiet_lasts, update_goes_on}
-use Rattle.lvm_tie_shelf.specs.Owned.{UpdateSince, OnlyUpdateSince}
+use Rattle.lvm_crash.proofs.DeviceLemmas.{writes_at}
+use Rattle.lvm_crash.proofs.RecordsLemmas.Quiet.{quiet_lasts, update_goes_on}
+use Rattle.lvm_crash.specs.Owned.{UpdateSince, OnlyUpdateSince}
 use Rattle.lvm_tie.proofs.SeenLemmas.Changing.{sees_changed, step_apart}
 use Rattle.lvm_tie.proofs.TiedLemmas.Orderly.{AreOut, HaveNumbers, out_of}
 use Rattle.lvm_tie.specs.Out.{CarriesStep, CarryTheirs, MayUpdate}
 use Rattle.lvm_tie.specs.Seen.{SeesRequest, update_of}
 use Rattle.lvm_tie.specs.Tied.{IsOrderly, IsTied, ShowsRecords}
-
--- the target that has changed
-pub state_there : (ts : List Target) (number : ℕ) (t : Target) (state : TargetState) → slice_get ts number ≡ Some t → slice_get (with_state ts number state) number ≡ Some (record t { state = state })
-state_there [] number t state there = absurd cc
-state_there (u ∷ us) zero t state there = ap (λ (x : Target). Some (record x { state = state })) (same_Some u t there)
-state_there (u ∷ us) (suc number) t state there = state_there us number t state there
 
 -- a transfer of data goes outside the slots of statuses
 pub data_planned : (device : Device) (w : RecordWrite) (u : Stamped Status) (f : Flight) → UpdateSince device w u → data_start ≤ f.first → IsPlanned (IsOtherOrRecord w) f

@@ -2,6 +2,7 @@
 use Rattle.std.proofs.Common.{◌≡◌, ℕ, Bool, true, false, not, List, [], ◌++◌, Option, Some, None, is_some, slice_get, refl, sym, ap, subst, ◌∙◌, append_assoc}
 use Rattle.std.specs.Prelude.{IsFalse}
 use Rattle.std.specs.Option.{option_map_or}
+use Rattle.std.proofs.Math.Bool.{not-not}
 use Rattle.std.proofs.lemmas.Bool.{not-true}
 use Rattle.arrayvec.specs.ArrayVec.{ArrayVec}
 use Rattle.lvm_num.specs.declared.record.NoteEntry.{NoteEntry}
@@ -51,10 +52,6 @@ module _ (past : List Fact) (s : State) (tied : IsTied past s) where
   pub over_of : (k : ℕ) (o : Open) → slice_get s.core.requests k ≡ Some o → is_waiting o ≡ false → o.request.phase ≡ phase.Landed
   over_of k o there over = ((open_one s tied.write tied.orderly k o there).over over).phase_is
 
-not_not : (b : Bool) → not (not b) ≡ b
-not_not true = refl
-not_not false = refl
-
 module _ (past : List Fact) (s : State) (tied : IsTied past s) (lost : is_lost s.core ≡ true) (idle : s.device.flights ≡ []) where
   abbrev v : ModelState
   v = tied.view
@@ -73,7 +70,7 @@ module _ (past : List Fact) (s : State) (tied : IsTied past s) (lost : is_lost s
 
   few : IsFalse (tied.votes.writes (λ d. not (w.missing d)))
   few =
-      let each : (d : ℕ) → not (v.missing d) ≡ is_there core d = λ d. ap not (tied.sees.status.missing d) ∙ not_not (is_there core d) in
+      let each : (d : ℕ) → not (v.missing d) ≡ is_there core d = λ d. ap not (tied.sees.status.missing d) ∙ not-not (is_there core d) in
       let same : (λ (d : ℕ). not (v.missing d)) ≡ is_there core = λ t d. each d t in
       tied.setting.are_votes.writes (λ d. not (v.missing d)) ∙ ap (λ (set : Disks). is_enough_to_write core.descriptor (votes_in core.descriptor set)) same
       ∙ not-true (is_enough_to_write core.descriptor (votes_in core.descriptor (is_there core))) lost

@@ -2,6 +2,7 @@
 use Rattle.std.proofs.Common.{◌≡◌, ⊎_elim, inl, inr, ℕ, Bool, true, false, ◌||◌, if◌then◌else◌, List, [], ◌∷◌, ◌++◌, refl, sym, ap, subst, ◌∙◌, append_assoc, eqb-true}
 use Rattle.std.specs.Prelude.{IsTrue, IsFalse, ◌==◌}
 use Rattle.std.specs.List.{list_any}
+use Rattle.std.proofs.lemmas.Bool.{cases_Bool}
 use Rattle.std.proofs.lemmas.List.{append-nil}
 use Rattle.lvm_num.specs.Buffer.{Sector}
 use Rattle.lvm_vol.specs.declared.entry.Vol.{Vol}
@@ -22,7 +23,6 @@ use Rattle.lvm_steps.proofs.EntriesLemmas.{volumes-append}
 use Rattle.lvm_invariant.specs.State.{ModelState}
 use Rattle.lvm_invariant.specs.Told.{Told}
 use Rattle.lvm_invariant.specs.Over.{IsDistinct, IsUnlanded, landings}
-use Rattle.lvm_invariant.proofs.UpdatesLemmas.Requests.{decided}
 
 -- ---- one read
 
@@ -71,7 +71,7 @@ module _ (s : ModelState) (t : Told s.queue s.name s.facts) (started : ℕ → B
       let mine = each i (inl refl) in
       let own = way.waits i (inl refl) in
       let apart : (j : ℕ) → Stands j places → IsFalse (j == i) = λ j there. ⊎_elim
-      (λ (same : IsTrue (j == i)). absurd (once (subst (λ (k : ℕ). Stands k places) (eqb-true j i same) there))) (λ (f : IsFalse (j == i)). f) (decided (j == i)) in
+      (λ (same : IsTrue (j == i)). absurd (once (subst (λ (k : ℕ). Stands k places) (eqb-true j i same) there))) (λ (f : IsFalse (j == i)). f) (cases_Bool (j == i)) in
       record {
         legal = (legal_push facts fact).1 (way.legal, record { began = own.0; first = own.1; kind = tt; reads = tt });
         kept = λ c p. read_kept facts (s.name i) (started i) reads c (way.kept c p);

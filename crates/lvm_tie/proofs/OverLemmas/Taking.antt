@@ -1,6 +1,7 @@
 -- Answers that are taken.
 use Rattle.std.proofs.Common.{◌≡◌, ℕ, List, [], ◌∷◌, ◌++◌, Option, Some, None, position, slice_get, refl, sym, ap, subst}
 use Rattle.std.specs.Prelude.{MatchOption, is_none}
+use Rattle.lvm_num.proofs.Lists.{all_at}
 use Rattle.lvm_vol.specs.declared.entry.Outcome.{Outcome}
 use Rattle.lvm_vol.specs.Facts.{Fact, Taken}
 use Rattle.lvm_vol.specs.Legal.{takes}
@@ -17,7 +18,6 @@ use Rattle.lvm_session.specs.Calls.{is_asked, TakeAt, TakesLanded}
 use Rattle.lvm_session.specs.declared.open.Open.{Open}
 use Rattle.lvm_session.specs.State.{Core, State}
 use Rattle.lvm_session.specs.Sound.{IsAsked, IsSound}
-use Rattle.lvm_tie.proofs.TiedLemmas.Orderly.{all_at}
 use Rattle.lvm_tie.specs.Over.{TakeGoesOn}
 
 module _ (first : Moment) (old : State) (sound : IsSound old) (span : Keeps old.core.history.run first (at old.device old.core.history.facts)) where

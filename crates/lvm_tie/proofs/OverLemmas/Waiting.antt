@@ -3,6 +3,7 @@ use Rattle.std.proofs.Common.{◌≡◌, inl, inr, ℕ, zero, suc, ◌*◌, ◌<
 use Rattle.std.specs.Prelude.{IsFalse}
 use Rattle.std.specs.List.{list_any, list_all, AllByRecursion}
 use Rattle.std.specs.Option.{option_map_or}
+use Rattle.lvm_num.proofs.Lists.{all_at}
 use Rattle.lvm_vol.specs.declared.entry.Outcome.{Outcome}
 use Rattle.lvm_vol.specs.Facts.{Request as Asked, Fact, Landed as HasLanded, Stands}
 use Rattle.lvm_vol.specs.Log.{request_of, landed_fact, is_got, got_without_bytes, blocks_begun_with}
@@ -21,7 +22,6 @@ use Rattle.lvm_session.specs.Requests.{IsPhase, IsShaped}
 use Rattle.lvm_invariant.specs.State.{Queued, ModelState, has_landed}
 use Rattle.lvm_invariant.specs.Over.{IsDistinct, AreOpen, is_going, landings}
 use Rattle.lvm_tie.specs.Seen.{phase_seen, SeesRequest, IsRequestAt}
-use Rattle.lvm_tie.proofs.TiedLemmas.Orderly.{all_at}
 
 -- ---- their places
 

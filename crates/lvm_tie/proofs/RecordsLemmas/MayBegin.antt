@@ -1,6 +1,6 @@
 -- When the update that a sound session begins may be written.
-use Rattle.std.proofs.Common.{◌≡◌, ◌⊎◌, inl, inr, ⊎_elim, ℕ, ◌*◌, ◌^◌, ◌<◌, ◌≤◌, Bool, true, false, ◌&&◌, ◌||◌, ◌==◌, not, eqb-true, if◌then◌else◌, List, [], ◌∷◌, length, Option, Some, None, refl, sym, ap, subst, ◌∙◌, arith}
-use Rattle.std.specs.Prelude.{IsTrue, Ok, nat_lt, sum_by, ◌≢◌}
+use Rattle.std.proofs.Common.{◌≡◌, ◌⊎◌, inl, inr, ⊎_elim, ℕ, ◌^◌, ◌<◌, ◌≤◌, Bool, true, false, ◌&&◌, ◌||◌, ◌==◌, not, eqb-true, if◌then◌else◌, List, [], ◌∷◌, length, Option, Some, None, refl, sym, ap, subst, ◌∙◌, arith}
+use Rattle.std.specs.Prelude.{IsTrue, Ok, sum_by, ◌≢◌}
 use Rattle.std.specs.Option.{option_map}
 use Rattle.std.proofs.lemmas.Bool.Decides.{nat_tests}
 use Rattle.std.proofs.lemmas.List.Sums.{sum_by-cons}
@@ -14,7 +14,8 @@ use Rattle.lvm_num.specs.Descriptor.{is_member}
 use Rattle.lvm_num.specs.Record.{Frames, Stamped, longest_content, stamp_lt}
 use Rattle.lvm_num.specs.Status.{IsValidStatus, calls_missing}
 use Rattle.lvm_num.specs.StatusBytes.{status_bytes, status_of}
-use Rattle.lvm_num.specs.Votes.{all_disks, is_enough_to_write, total_votes, votes_in, votes_of}
+use Rattle.lvm_num.specs.Votes.{all_disks, is_enough_to_write, votes_in}
+use Rattle.lvm_num.proofs.Booleans.{place_below}
 use Rattle.lvm_vol.specs.Facts.{Fact}
 use Rattle.lvm_disk.specs.Device.{Image, image_of}
 use Rattle.lvm_rec.proofs.SlotsLemmas.SlotLaws.{may_write}
@@ -25,11 +26,11 @@ use Rattle.lvm_kept.specs.Contents.{Contents, contents_of, has_records}
 use Rattle.lvm_kept.specs.Group.{is_of, is_status_of, members_in, passes}
 use Rattle.lvm_kept.proofs.CommittedLemmas.Finding.{finding_reads}
 use Rattle.lvm_kept.specs.Torn.{MayWriteAll, RecordWrite, on_disk}
-use Rattle.lvm_stamps.specs.Laws.{ShowsBefore}
-use Rattle.lvm_stamps.proofs.LawsLemmas.Records.{later_may_go, shown_is_before}
-use Rattle.lvm_status.specs.Update.{Updates, no_disks, seen}
-use Rattle.lvm_status.specs.Update.{members_there}
+use Rattle.lvm_steps.specs.Laws.{ShowsBefore}
+use Rattle.lvm_steps.proofs.LawsLemmas.Records.{later_may_go, shown_is_before}
+use Rattle.lvm_status.specs.Update.{Updates, no_disks, seen, members_there}
 use Rattle.lvm_status.specs.Calls.{with_start, with_update}
+use Rattle.lvm_status.proofs.RunsLemmas.Sound.{none_held}
 use Rattle.lvm_rec.specs.Homes.{next_slot, second_slots}
 use Rattle.lvm_session.specs.declared.open.Power.TheVariants as power
 use Rattle.lvm_session.specs.State.{Core, State, is_there}
@@ -62,19 +63,8 @@ no_votes f (row ∷ rows) =
     let rest = no_votes f rows in
     omega (arith, more, none, rest)
 
-not_enough : (d : Descriptor) → is_enough_to_write d (votes_in d no_disks) ≡ false
-not_enough d = ap (is_enough_to_write d) (no_votes (votes_of d) d.pvs) ∙ by d.quorum
-  where
-    by : (b : Bool) → (if b then nat_lt (total_votes d) (2 * 0) else nat_lt 0 0) ≡ false
-    by true = grind (arith, nat_tests)
-    by false = refl
-
 not_itself : (s : Stamp) → stamp_lt s s ≡ false
 not_itself s = grind (arith, nat_tests)
-
-slot_below : (b : Bool) → (if b then 1 else 0) < 2
-slot_below true = omega arith
-slot_below false = omega arith
 
 marks_of_some : (id : ℕ) (o : Option (Stamped Status)) (m : Stamped Marks) → marks_shown id o ≡ Some m → (r : Stamped Status) × (o ≡ Some r) × (as_marks r ≡ m)
 marks_of_some id None m is = absurd (cc is)
@@ -172,12 +162,12 @@ module _ (past : List Fact) (old new : State) (tied : IsTied past old) (sound : 
     stamp = refl;
     may = record {
       frames = frames;
-      slots = λ d. slot_below (second_slots kind.Status core.homes d);
+      slots = λ d. place_below (second_slots kind.Status core.homes d);
       there = records_there;
       each = λ d there. may_write Status status_of (on_disk fresh_write d) starts.status (image.sector d) frames reads (tied.recorded.next.spare d there (not_owed d))
           (later_may_go fresh_write (next_stamp core.status.stamp) image d tied.recorded.next.whole tied.recorded.next.before (ap (λ (s : Stamp). stamp_lt s (next_stamp core.status.stamp)) stamp_is ∙ not_itself (next_stamp core.status.stamp)) (records_there d there));
     };
-    none_has = not_enough core.status.group;
+    none_has = none_held core.status.group;
     own = ap (λ (x : Status). x.id) value_is ∙ tied.orderly.sound.fitting.id;
     later = later;
     last = λ d r at same. lower d r at;

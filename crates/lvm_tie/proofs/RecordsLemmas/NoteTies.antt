@@ -2,7 +2,7 @@
 use Rattle.std.proofs.Common.{◌≡◌, inl, inr, ℕ, suc, ◌+◌, ◌<◌, Bool, true, false, ◌&&◌, ◌==◌, not, List, [], ◌∷◌, ◌++◌, Option, Some, None, refl, sym, ap, subst, ◌∙◌, arith, eqb-true}
 use Rattle.std.specs.Prelude.{IsTrue, IsFalse, if◌then◌else◌, find, slice_get, is_none, is_some, option_and_then, length}
 use Rattle.std.specs.Option.{option_map}
-use Rattle.std.proofs.lemmas.Bool.{cases_eq}
+use Rattle.std.proofs.lemmas.Bool.{cases_eq, and_parts}
 use Rattle.std.proofs.lemmas.List.{length-map}
 use Rattle.std.proofs.lemmas.Bool.Decides.{nat_tests}
 use Rattle.lvm_num.specs.declared.record.Kind.{Kind}
@@ -42,10 +42,9 @@ use Rattle.lvm_invariant.specs.StartNote.{StartsNote as NoteStarts}
 use Rattle.lvm_invariant.specs.Events.{StartNote}
 use Rattle.lvm_invariant.proofs.EventsLemmas.Each.{each_keeps}
 use Rattle.lvm_crash.specs.Session.{members_showing, Describes}
-use Rattle.lvm_tie_shelf.proofs.DeviceLemmas.{writes_at}
-use Rattle.lvm_tie_shelf.proofs.RecordsLemmas.Quiet.{quiet_lasts, update_goes_on}
-use Rattle.lvm_tie_shelf.proofs.WritingLemmas.{and_both}
-use Rattle.lvm_tie_shelf.specs.Owned.{UpdateSince, OnlyUpdateSince}
+use Rattle.lvm_crash.proofs.DeviceLemmas.{writes_at}
+use Rattle.lvm_crash.proofs.RecordsLemmas.Quiet.{quiet_lasts, update_goes_on}
+use Rattle.lvm_crash.specs.Owned.{UpdateSince, OnlyUpdateSince}
 use Rattle.lvm_session.specs.Sound.{IsSound}
 use Rattle.lvm_tie.proofs.StateLemmas.{aimed_of, copy_is_one, on_member, missing_seen}
 use Rattle.lvm_tie.proofs.TiedLemmas.Orderly.{open_one, orderly_same, out_of}
@@ -166,8 +165,8 @@ module _ (past : List Fact) (old new : State) (place disk : ℕ) (starts : Start
   is_due =
       let due = due_target core starts.request disk starts.due in
       let t : Target = due.1 in
-      let outer = and_both (not (is_missing core t.pp.disk) && is_none (flight_on core.cache t.pp.disk)) (not (is_named core.cache t.pp.disk (lv_of starts.request.request.ask) (group_of starts.request.request.ask))) due.3 in
-      let inner = and_both (not (is_missing core t.pp.disk)) (is_none (flight_on core.cache t.pp.disk)) outer.0 in
+      let outer = and_parts (not (is_missing core t.pp.disk) && is_none (flight_on core.cache t.pp.disk)) (not (is_named core.cache t.pp.disk (lv_of starts.request.request.ask) (group_of starts.request.request.ask))) due.3 in
+      let inner = and_parts (not (is_missing core t.pp.disk)) (is_none (flight_on core.cache t.pp.disk)) outer.0 in
       let one = copy_is_one past old tied starts.request.request.ask inside t.pp (aimed_of past old tied place due.0 starts.request t starts.there waiting due.2) in
       let member : is_member core.descriptor t.pp.disk ≡ true = on_member past old tied starts.request.request.ask inside t.pp one in
       let missing : v.missing t.pp.disk ≡ false = missing_seen past old tied t.pp.disk (on_member past old tied starts.request.request.ask inside t.pp one) ∙ not_true (is_missing core t.pp.disk) inner.0 in

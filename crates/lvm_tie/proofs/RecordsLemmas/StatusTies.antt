@@ -14,6 +14,7 @@ use Rattle.lvm_num.specs.Status.{IsValidStatus}
 use Rattle.lvm_num.specs.StatusBytes.{status_bytes}
 use Rattle.lvm_num.specs.declared.record.Stamp.{Stamp}
 use Rattle.lvm_num.specs.Record.{Stamped, slot_start, slot_size, stamp_lt}
+use Rattle.lvm_num.proofs.Booleans.{clash_gives}
 use Rattle.lvm_vol.specs.Facts.{Fact}
 use Rattle.lvm_disk.specs.Device.{Media, Flight, Device, image_of, IsInFlight}
 use Rattle.lvm_disk.specs.Paths.{Started}
@@ -21,8 +22,8 @@ use Rattle.lvm_kept.specs.Contents.{contents_of}
 use Rattle.lvm_kept.specs.Plans.{IsPlanned}
 use Rattle.lvm_kept.specs.Torn.{RecordWrite, IsOtherOrRecord}
 use Rattle.lvm_kept.proofs.PlansLemmas.{plan_begins}
-use Rattle.lvm_stamps.specs.Laws.{IsNoLater}
-use Rattle.lvm_stamps.proofs.LawsLemmas.Stamps.{later_is_after_too}
+use Rattle.lvm_steps.specs.Laws.{IsNoLater}
+use Rattle.lvm_steps.proofs.LawsLemmas.Stamps.{later_is_after_too}
 use Rattle.lvm_commit.specs.Committed.{next_stamp}
 use Rattle.lvm_rec.specs.declared.homes.Homes.{Homes}
 use Rattle.lvm_status.specs.Update.{Stored, Updates, seen, is_held, MayStart}
@@ -40,13 +41,12 @@ use Rattle.lvm_invariant.specs.MoveStatus.{moved}
 use Rattle.lvm_invariant.specs.Events.{MoveStatus}
 use Rattle.lvm_invariant.proofs.EventsLemmas.Each.{each_keeps}
 use Rattle.lvm_crash.specs.Session.{marks_of, as_marks, members_showing, Describes}
-use Rattle.lvm_tie_shelf.proofs.DeviceLemmas.{of_one}
-use Rattle.lvm_tie_shelf.proofs.OwnedLemmas.{What, what, Data, OfStep, OfNote, OfUpdate, in_slots}
-use Rattle.lvm_tie_shelf.proofs.RecordsLemmas.Quiet.{quiet_lasts, updates_last, update_goes_on}
-use Rattle.lvm_tie_shelf.specs.Owned.{IsStatusFlight, UpdateSince, OnlyUpdateSince}
+use Rattle.lvm_crash.proofs.DeviceLemmas.{of_one}
+use Rattle.lvm_crash.proofs.OwnedLemmas.{What, what, Data, OfStep, OfNote, OfUpdate, in_slots}
+use Rattle.lvm_crash.proofs.RecordsLemmas.Quiet.{quiet_lasts, updates_last, update_goes_on}
+use Rattle.lvm_crash.specs.Owned.{IsStatusFlight, UpdateSince, OnlyUpdateSince}
 use Rattle.lvm_tie.proofs.TiedLemmas.Orderly.{IsStatusOut, IsOut, AreOut, out_of}
 use Rattle.lvm_tie.proofs.TiedLemmas.Tied.{tied_owns}
-use Rattle.lvm_tie.proofs.AmongLemmas.{clash}
 use Rattle.lvm_tie.proofs.TiedLemmas.Recorded.{records_last}
 use Rattle.lvm_tie.specs.Out.{AreNotes, CarriesStep, CarryTheirs, IsUpdateWrite, IsWriteOf, MayUpdate, is_owed_on}
 use Rattle.lvm_tie.specs.Seen.{update_of, Sees}
@@ -159,8 +159,8 @@ module _ (past : List Fact) (old new : State) (starts : StartsStatus old new) (t
             since = record { is_status = its.is_status; stamp = its.stamp; began = image_of old.device.sizes tied.media; may = its.may; way = plan_begins (IsOtherOrRecord write) old.device tied.media tied.setting.told (nothing_out past old tied write its.is_status no_write) };
             committed = ap (λ (x : Updates). x.committed) is;
             wanted = ap (λ (x : Updates). x.wanted) is;
-            written = λ d had. clash (has status.writes.written d) had (ap (λ (x : Updates). x.written d) is);
-            held = λ x now enough. clash (is_held (seen status)) enough (ap is_held is ∙ its.none_has);
+            written = λ d had. clash_gives (has status.writes.written d) had (ap (λ (x : Updates). x.written d) is);
+            held = λ x now enough. clash_gives (is_held (seen status)) enough (ap is_held is ∙ its.none_has);
           }
 
   abbrev v0 : ModelState

@@ -3,7 +3,7 @@ use Rattle.std.proofs.Common.{◌≡◌, ◌⊎◌, inl, inr, ⊎_elim, ℕ, zer
 use Rattle.std.specs.Prelude.{IsTrue, IsFalse, if◌then◌else◌, slice_get, slice_set, nat_le, nat_lt, position, is_some, slice_index_or}
 use Rattle.std.specs.List.{list_any}
 use Rattle.std.specs.Option.{option_map_or}
-use Rattle.std.proofs.lemmas.Bool.{cases_eq}
+use Rattle.std.proofs.lemmas.Bool.{cases_eq, and_parts}
 use Rattle.std.proofs.lemmas.Bool.Decides.{nat_tests}
 use Rattle.std.proofs.lemmas.Option.{slice_get-get_or, same_Some}
 use Rattle.lvm_num.specs.Buffer.{Buffer}
@@ -63,17 +63,19 @@ use Rattle.lvm_invariant.specs.Want.{Wants, after_wants}
 use Rattle.lvm_invariant.proofs.EventsLemmas.Each.{each_keeps}
 use Rattle.lvm_crash.specs.Session.{marks_of, Describes}
 use Rattle.lvm_num.specs.Modes.{is_active}
-use Rattle.lvm_tie_shelf.specs.Owned.{OnlyUpdateSince}
-use Rattle.lvm_tie_shelf.proofs.OwnedLemmas.{covered}
-use Rattle.lvm_tie_shelf.proofs.RecordsLemmas.Quiet.{quiet_lasts}
-use Rattle.lvm_tie_shelf.proofs.WritingLemmas.{and_both, pp_same}
+use Rattle.lvm_num.proofs.Booleans.{clash_gives}
+use Rattle.lvm_num.proofs.AmongLemmas.{one_at, filter_one}
+use Rattle.lvm_crash.specs.Owned.{OnlyUpdateSince}
+use Rattle.lvm_crash.proofs.OwnedLemmas.{covered}
+use Rattle.lvm_crash.proofs.RecordsLemmas.Quiet.{quiet_lasts}
+use Rattle.lvm_crash.proofs.WritingLemmas.{pp_same}
 use Rattle.lvm_tie.proofs.OutLemmas.Ties.{carry_on}
 use Rattle.lvm_tie.proofs.SeenLemmas.Changing.{step_apart, sees_changed}
 use Rattle.lvm_tie.proofs.StateLemmas.{there_is_copy, on_member, missing_seen, usable_seen, wanted_seen}
 use Rattle.lvm_tie.proofs.ModesLemmas.{active_is}
 use Rattle.lvm_tie.proofs.JudgingLemmas.Rows.{HaveRows, rows_are}
 use Rattle.lvm_tie.proofs.TiedLemmas.Orderly.{HaveNumbers, numbers_of, open_one, waiting_one}
-use Rattle.lvm_tie.proofs.AmongLemmas.{or_left, or_either, any_none, filter_one, not_true, clash, stage_of_one, target_of, one_there}
+use Rattle.lvm_tie.proofs.AmongLemmas.{or_left, or_either, any_none, not_true, stage_of_one, target_of, one_there}
 use Rattle.lvm_tie.proofs.OutLemmas.Wanted.{dirty_rest, next_same, records_wanted, sees_wanted, stamp_same, update_same, write_same}
 use Rattle.lvm_tie.specs.Out.{CarriesStep, IsWriteOf}
 use Rattle.lvm_tie.specs.Seen.{stage_at, phase_seen, update_of, SeesRequest, SeesOpen, SeesRunning, SeesCopy, IsRequestAt, IsStepAt, Sees}
@@ -232,7 +234,7 @@ module _ (past : List Fact) (old new : State) (place : ℕ) (admits : Admits old
           conflict.writes in
           let both : conflicts (held_of r.request.request.ask) (held_of ask) ≡ true = λ k. block k && write k in
           let less2 : nat_lt (place_of r.request.request.id) i ≡ true = let e3 : place_of r.request.request.id ≡ j = r.its in let lt : place_of r.request.request.id < i = omega arith in grind (arith, nat_tests) in
-          clash (nat_lt row.id i && conflicts row.ask (held_of ask)) (λ k. less2 k && both k) (any_none (λ (x : Row). nat_lt x.id i && conflicts x.ask (held_of ask)) core.queue.rows row unblocked (rows.requests r.place r.request r.there waiting))
+          clash_gives (nat_lt row.id i && conflicts row.ask (held_of ask)) (λ k. less2 k && both k) (any_none (λ (x : Row). nat_lt x.id i && conflicts x.ask (held_of ask)) core.queue.rows row unblocked (rows.requests r.place r.request r.there waiting))
 
       by_step : is_held_back core o.request ≡ false → IsStepAt core j → IsTrue (has_landed e.phase)
       by_step unblocked r =
@@ -242,12 +244,12 @@ module _ (past : List Fact) (old new : State) (place : ℕ) (admits : Admits old
           let block = common e conflict.lv conflict.block conflict.first conflict.second row.ask (sym s.2.lv ∙ ap (λ (x : Queued). x.lv) same) (sym s.2.first ∙ ap (λ (x : Queued). x.first) same) (sym s.2.count ∙ ap (λ (x : Queued). x.count) same) in
           let write : is_write ask ≡ true =
           ⊎_elim
-          (λ w. clash e.write w (ap (λ (x : Queued). x.write) (sym same) ∙ s.2.write))
+          (λ w. clash_gives e.write w (ap (λ (x : Queued). x.write) (sym same) ∙ s.2.write))
           (λ w. sym sees.write ∙ w)
           conflict.writes in
           let both : conflicts row.ask (held_of ask) ≡ true = λ k. block k && (false || (write k && true)) in
           let less2 : nat_lt r.copy.place i ≡ true = let e3 : r.copy.place ≡ j = r.its in let lt : r.copy.place < i = omega arith in grind (arith, nat_tests) in
-          clash (nat_lt row.id i && conflicts row.ask (held_of ask)) (λ k. less2 k && both k) (any_none (λ (x : Row). nat_lt x.id i && conflicts x.ask (held_of ask)) core.queue.rows row unblocked (rows.a_step r.copy r.is_open r.row))
+          clash_gives (nat_lt row.id i && conflicts row.ask (held_of ask)) (λ k. less2 k && both k) (any_none (λ (x : Row). nat_lt x.id i && conflicts x.ask (held_of ask)) core.queue.rows row unblocked (rows.a_step r.copy r.is_open r.row))
 
       past_by : (phase_seen o.request.phase (is_begun o.request.targets.items) ≡ WantEntry) ⊎ (phase_seen o.request.phase (is_begun o.request.targets.items) ≡ Ready) → IsTrue (is_past q.phase)
       past_by (inl is) = ap is_past (sees.phase ∙ is)
@@ -262,7 +264,7 @@ module _ (past : List Fact) (old new : State) (place : ℕ) (admits : Admits old
   aims_seen number t there =
       let c = chosen.each number t there in
       there_is_copy past old tied ask inside t.pp c.0 (⊎_elim
-      (λ usable. not_true (is_missing core t.pp.disk) (and_both (not (Rattle.lvm_session.specs.Judging.is_stale core t.pp)) (not (is_missing core t.pp.disk)) usable).1)
+      (λ usable. not_true (is_missing core t.pp.disk) (and_parts (not (Rattle.lvm_session.specs.Judging.is_stale core t.pp)) (not (is_missing core t.pp.disk)) usable).1)
       (λ caught. by core.copy refl tied.sees.open_copy caught.1 c.0)
       c.1)
     where
@@ -274,8 +276,8 @@ module _ (past : List Fact) (old new : State) (place : ℕ) (admits : Admits old
       by : (x : Option OpenCopy) → core.copy ≡ x → SeesCopy (groups_of core) x v.open_copy → option_map_or (λ (c : OpenCopy). is_running c && is_pp t.pp c.pp && nat_lt (group_in core ask) c.cursor) x false ≡ true → IsOneOf (copies_for core ask) t.pp → is_missing core t.pp.disk ≡ false
       by None is none h one = absurd cc
       by (Some c) is sees_it h one =
-          let outer = and_both (is_running c && is_pp t.pp c.pp) (nat_lt (group_in core ask) c.cursor) h in
-          let inner = and_both (is_running c) (is_pp t.pp c.pp) outer.0 in
+          let outer = and_parts (is_running c && is_pp t.pp c.pp) (nat_lt (group_in core ask) c.cursor) h in
+          let inner = and_parts (is_running c) (is_pp t.pp c.pp) outer.0 in
           running c (subst (λ (b : Bool). SeesRunning b (groups_of core) c v.open_copy) inner.0 sees_it) (pp_same t.pp c.pp inner.1) one
 
   usable : IsFalse q.write → (c : Pp) (x : Stage) → targets2 c ≡ Some x → IsTrue (v.is_copy q.lv q.first c) × IsTrue (Rattle.lvm_invariant.specs.State.is_usable v c)
@@ -288,7 +290,7 @@ module _ (past : List Fact) (old new : State) (place : ℕ) (admits : Admits old
         (λ k. v.is_copy (sees.lv k) (sees.first k) c) ∙ subst (λ (p : Pp). IsTrue (v.is_copy (lv_of ask) (at_of ask) p)) t.2 copy,
         subst (λ (p : Pp). IsTrue (Rattle.lvm_invariant.specs.State.is_usable v p)) t.2 (⊎_elim
             (λ u. usable_seen past old tied t.0.pp (on_member past old tied ask inside t.0.pp its.0) ∙ u)
-            (λ caught. clash (is_write ask) caught.0 (sym sees.write ∙ read))
+            (λ caught. clash_gives (is_write ask) caught.0 (sym sees.write ∙ read))
             its.1),
       )
 
@@ -477,15 +479,10 @@ usable_at core n (p ∷ ps) m one = by (is_usable core p) refl one (usable_at co
     by true is (inr there) rest = later (rest there)
     by false is there rest = later (rest there)
 
-one_of_get : {A : Type 0} (xs : List A) (k : ℕ) (x : A) → slice_get xs k ≡ Some x → IsOneOf xs x
-one_of_get [] k x there = absurd (cc there)
-one_of_get (y ∷ xs) zero x there = inl (let e : y ≡ x = cc there in sym e)
-one_of_get (y ∷ xs) (suc k) x there = inr (one_of_get xs k x there)
-
 -- each of an order is one of what it orders
 ordered_one : (how : Policy) (usable : List ℕ) (last : ℕ) (loads order : List ℕ) (m : ℕ) → IsReadOrder how usable last loads order → IsOneOf order m → IsOneOf usable m
 ordered_one how usable last loads [] m is one = absurd one
-ordered_one how usable last loads (first ∷ more) m is (inl here) = subst (IsOneOf usable) (sym here) (one_of_get usable is.among.0 first (slice_get-get_or usable is.among.0 first is.among.1 ∙ ap (λ (x : ℕ). Some x) is.among.2))
+ordered_one how usable last loads (first ∷ more) m is (inl here) = subst (IsOneOf usable) (sym here) (one_at usable is.among.0 first (slice_get-get_or usable is.among.0 first is.among.1 ∙ ap (λ (x : ℕ). Some x) is.among.2))
 ordered_one how usable last loads (first ∷ more) m is (inr there) = (filter_one (λ copy. not (copy == first)) usable m (subst (λ (xs : List ℕ). IsOneOf xs m) is.then there)).0
 
 index_at : (ps : List Pp) (k : ℕ) (p d : Pp) → slice_get ps k ≡ Some p → slice_index_or ps k d ≡ p
@@ -521,7 +518,7 @@ chosen_by s o targets order chooses = by (is_write ask) refl chooses
           let at = usable_at s.core 1 copies m.0 one in
           let back : m.0 - 1 ≡ at.way = let e = at.number in omega (arith, e) in
           let pp : t.pp ≡ at.pp = ap (λ (x : Target). x.pp) m.2 ∙ ap (λ (k : ℕ). slice_index_or copies k (record { disk = 0; pp = 0 })) back ∙ index_at copies at.way at.pp (record { disk = 0; pp = 0 }) at.there in
-          (subst (IsOneOf copies) (sym pp) (one_of_get copies at.way at.pp at.there), inl (ap (is_usable s.core) pp ∙ at.usable));
+          (subst (IsOneOf copies) (sym pp) (one_at copies at.way at.pp at.there), inl (ap (is_usable s.core) pp ∙ at.usable));
     }
 
 pub admit_ties : AdmitTies

@@ -1,13 +1,14 @@
 -- A request that pins its track group, tied.
 use Rattle.std.proofs.Common.{◌≡◌, ◌⊎◌, inl, inr, ⊎_elim, ℕ, zero, suc, ◌<◌, ◌≤◌, Bool, true, false, ◌&&◌, ◌||◌, ◌==◌, not, if◌then◌else◌, List, [], ◌∷◌, length, cond, Option, Some, refl, sym, ap, subst, ◌∙◌, arith}
 use Rattle.std.specs.Prelude.{IsTrue, count_by, nat_le, slice_get, slice_set}
-use Rattle.std.proofs.lemmas.Bool.{cases_eq, eq-eqb}
+use Rattle.std.proofs.lemmas.Bool.{cases_eq, eq-eqb, and_parts}
 use Rattle.std.proofs.lemmas.Bool.Decides.{nat_tests}
 use Rattle.std.proofs.lemmas.List.Sums.{sum_by-cons}
 use Rattle.std.proofs.lemmas.Option.{slice_get_within}
 use Rattle.lvm_num.specs.declared.descriptor.Mode.{Mode}
 use Rattle.lvm_num.specs.declared.descriptor.Mode.TheVariants as mode
 use Rattle.lvm_num.specs.Geometry.{track_group_of}
+use Rattle.lvm_num.proofs.Lists.{set_beside, set_here}
 use Rattle.lvm_vol.specs.Facts.{Fact}
 use Rattle.lvm_disk.specs.Device.{Flight, image_of}
 use Rattle.lvm_kept.specs.Contents.{contents_of}
@@ -41,13 +42,12 @@ use Rattle.lvm_invariant.specs.Updates.{put}
 use Rattle.lvm_invariant.specs.Pin.{Pins as MayPin, pinned}
 use Rattle.lvm_invariant.specs.Events.{Pin, ModelStep}
 use Rattle.lvm_invariant.proofs.EventsLemmas.Each.{each_keeps}
-use Rattle.lvm_tie_shelf.proofs.RecordsLemmas.Quiet.{quiet_lasts}
-use Rattle.lvm_tie_shelf.proofs.WritingLemmas.{and_both}
+use Rattle.lvm_crash.proofs.RecordsLemmas.Quiet.{quiet_lasts}
 use Rattle.lvm_tie.proofs.OutLemmas.Ties.{carry_on}
 use Rattle.lvm_tie.specs.Out.{CarriesStep}
 use Rattle.lvm_tie.specs.Seen.{IsRequestAt, IsStepAt, Sees, SeesRequest, phase_seen, update_of}
 use Rattle.lvm_tie.specs.Tied.{IsOrderly, IsTied}
-use Rattle.lvm_tie.proofs.SeenLemmas.Changing.{sees_changed, set_here, set_there, step_apart}
+use Rattle.lvm_tie.proofs.SeenLemmas.Changing.{sees_changed, step_apart}
 use Rattle.lvm_tie.proofs.ModesLemmas.{active_is, active_mode}
 use Rattle.lvm_tie.proofs.TiedLemmas.Orderly.{numbers_of, open_one, orderly_same, waiting_one}
 use Rattle.lvm_tie.specs.Requests.{PinTies}
@@ -144,7 +144,7 @@ module _ (past : List Fact) (old new : State) (place : ℕ) (event : Pins old ne
   orderly = orderly_same old (state old.device core2) tied.write tied.orderly (subst IsSound whole sound) refl refl refl
 
   wants_entry : o.request.phase ≡ phase.WantEntry
-  wants_entry = pins_entry o.request.phase k o.request (and_both (is_pin (next_for core o)) (can_pin core.cache o.request.ask) event.pins).0
+  wants_entry = pins_entry o.request.phase k o.request (and_parts (is_pin (next_for core o)) (can_pin core.cache o.request.ask) event.pins).0
 
   sees2 : SeesRequest o2 q2
   sees2 = record { lv = sees.lv; first = sees.first; count = sees.count; write = sees.write; step = sees.step; phase = refl; several = sees.several; targets = sees.targets; got = sees.got }
@@ -218,7 +218,7 @@ module _ (past : List Fact) (old new : State) (place : ℕ) (event : Pins old ne
           of_place n p there2 is (inl e2) =
               let own : p ≡ o = let x : Some p ≡ Some o = sym there2 ∙ ap (slice_get core.requests) e2 ∙ event.there in cc in
               ap (λ (x : Open). has_entry entries (lv_of x.request.ask) (group_of x.request.ask)) own ∙ own_there
-          of_place n p there2 is (inr ne) = pinned_there (state old.device core2) tied.write orderly n p (set_there core.requests place n o2 ne ∙ there2) is
+          of_place n p there2 is (inr ne) = pinned_there (state old.device core2) tied.write orderly n p (set_beside core.requests place n o2 ne ∙ there2) is
 
   may : MayPin v i q (has_entry entries)
   may = record {

@@ -9,6 +9,8 @@ use Rattle.lvm_num.specs.declared.place.Pp.{Pp}
 use Rattle.lvm_num.specs.declared.descriptor.LvRow.{LvRow}
 use Rattle.lvm_num.specs.declared.descriptor.Descriptor.{Descriptor}
 use Rattle.lvm_num.specs.Geometry.{partition_blocks, partition_of, track_group_of, volume_blocks}
+use Rattle.lvm_num.proofs.Booleans.{same_meaning}
+use Rattle.lvm_num.proofs.Lists.{all_at}
 use Rattle.lvm_vol.specs.declared.entry.Vol.TheVariants.{Lv}
 use Rattle.lvm_vol.specs.Facts.{Request as Asked, Fact, Begun, begun, block_of}
 use Rattle.lvm_vol.specs.Legal.{begins_in}
@@ -43,11 +45,11 @@ use Rattle.lvm_invariant.specs.State.{Held, Queued, ModelState, covers}
 use Rattle.lvm_invariant.specs.Submit.{IsPlaced, Submits, submitted as sees_submitted}
 use Rattle.lvm_invariant.specs.Events.{Event, Submit}
 use Rattle.lvm_invariant.proofs.EventsLemmas.Each.{each_keeps}
-use Rattle.lvm_tie_shelf.proofs.OwnedLemmas.{covered}
-use Rattle.lvm_tie_shelf.proofs.RecordsLemmas.Quiet.{quiet_lasts}
+use Rattle.lvm_crash.proofs.OwnedLemmas.{covered}
+use Rattle.lvm_crash.proofs.RecordsLemmas.Quiet.{quiet_lasts}
 use Rattle.lvm_tie.proofs.OutLemmas.Ties.{carry_on}
 use Rattle.lvm_tie.proofs.StateLemmas.{copy_is}
-use Rattle.lvm_tie.proofs.TiedLemmas.Orderly.{all_at, asked_one, open_one, valid_of}
+use Rattle.lvm_tie.proofs.TiedLemmas.Orderly.{asked_one, open_one, valid_of}
 use Rattle.lvm_tie.specs.Out.{CarriesStep}
 use Rattle.lvm_tie.specs.Seen.{update_of, SeesRequest, IsRequestAt, IsStepAt, Sees}
 use Rattle.lvm_tie.specs.Tied.{IsOrderly, IsTied}
@@ -89,12 +91,6 @@ find_last test (x ∷ xs) y none is = by (test x) refl none (find_last test xs y
     by : (b : Bool) → test x ≡ b → (if b then Some x else find test xs) ≡ None → (find test xs ≡ None → test y ≡ true → find test (xs ++ y ∷ []) ≡ Some y) → (if test x then Some x else find test (xs ++ y ∷ [])) ≡ Some y
     by true its h rest = absurd cc
     by false its h rest = ap (λ b. if b then Some x else find test (xs ++ y ∷ [])) its ∙ rest h is
-
--- what is meant by one thing is one
-same_meaning : {X : Type 0} (a b : Bool) → (IsTrue a → X) → (X → IsTrue a) → (IsTrue b → X) → (X → IsTrue b) → a ≡ b
-same_meaning true b ax xa bx xb = sym (xb (ax refl))
-same_meaning false true ax xa bx xb = xa (bx refl)
-same_meaning false false ax xa bx xb = refl
 
 -- blocks of one track group are of one logical partition
 same_partition : (mib b k : ℕ) → 1 ≤ mib → track_group_of (b + k) ≡ track_group_of b → partition_of mib (b + k) ≡ partition_of mib b

@@ -1,5 +1,5 @@
 -- One request of the table changes.
-use Rattle.std.proofs.Common.{◌≡◌, inl, inr, ⊎_elim, ℕ, zero, suc, ◌<◌, Bool, true, false, ◌==◌, not, List, [], ◌∷◌, length, Some, refl, sym, ap, subst, ◌∙◌, arith}
+use Rattle.std.proofs.Common.{◌≡◌, inl, inr, ⊎_elim, ℕ, zero, suc, ◌<◌, Bool, true, false, ◌==◌, List, [], ◌∷◌, length, Some, refl, sym, ap, subst, ◌∙◌, arith}
 use Rattle.std.specs.Prelude.{if◌then◌else◌, slice_get, slice_set}
 use Rattle.std.proofs.lemmas.Bool.{cases_eq}
 use Rattle.std.proofs.lemmas.Bool.Decides.{nat_tests}
@@ -22,23 +22,12 @@ use Rattle.lvm_session.specs.Bringing.{has_row}
 use Rattle.lvm_invariant.specs.State.{Queued, ModelState}
 use Rattle.lvm_invariant.specs.Updates.{put, staged, with_block}
 use Rattle.lvm_num.specs.Descriptor.{is_pp}
-use Rattle.lvm_tie_shelf.proofs.WritingLemmas.{pp_same}
+use Rattle.lvm_num.proofs.Lists.{set_beside, set_here}
+use Rattle.lvm_crash.proofs.WritingLemmas.{pp_same}
 use Rattle.lvm_tie.proofs.TiedLemmas.Orderly.{HaveNumbers}
 use Rattle.lvm_tie.specs.Seen.{stage_seen, stage_at, SeesRequest, IsRequestAt, IsStepAt, Sees}
 
 -- ---- a list of which one changes
-
-pub set_here : {X : Type 0} (xs : List X) (k : ℕ) (x : X) → k < length xs → slice_get (slice_set xs k x) k ≡ Some x
-set_here [] k x lt = absurd (omega arith)
-set_here (y ∷ ys) zero x lt = refl
-set_here (y ∷ ys) (suc k) x lt = set_here ys k x (omega arith)
-
-pub set_there : {X : Type 0} (xs : List X) (k j : ℕ) (x : X) → (j ≡ k → ⊥) → slice_get (slice_set xs k x) j ≡ slice_get xs j
-set_there [] k j x not = refl
-set_there (y ∷ ys) zero zero x not = absurd (not refl)
-set_there (y ∷ ys) zero (suc j) x not = refl
-set_there (y ∷ ys) (suc k) zero x not = refl
-set_there (y ∷ ys) (suc k) (suc j) x not = set_there ys k j x (λ e. not (omega arith))
 
 -- ---- a target changes
 
@@ -120,13 +109,13 @@ module _ (past : List Fact) (core : Core) (v : ModelState) (place : ℕ) (o o2 :
       requests = λ k p at. elim (cases_eq k place) [
         | inl e ↦ let own : p ≡ o2 = same_Some p o2 (sym at ∙ ap (slice_get (slice_set core.requests place o2)) e ∙ set_here core.requests place o2 within) in
             (q2, put_here (place_of p.request.id) (ap (λ (x : Open). place_of x.request.id) own ∙ ap place_of same_id), subst (λ (x : Open). SeesRequest x q2) (sym own) sees_new)
-        | inr ne ↦ let was = sym (set_there core.requests place k o2 ne) ∙ at in let s = sees.queue.requests k p was in (s.0, put_there (place_of p.request.id) (other_place k p ne was) ∙ s.1, s.2)
+        | inr ne ↦ let was = sym (set_beside core.requests place k o2 ne) ∙ at in let s = sees.queue.requests k p was in (s.0, put_there (place_of p.request.id) (other_place k p ne was) ∙ s.1, s.2)
       ];
       a_step = λ c is row. let s = sees.queue.a_step c is row in (s.0, put_there c.place (step_apart c is row) ∙ s.1, s.2);
       only = λ j q at. elim (cases_eq j i) [
         | inl e ↦ inl (record { place = place; request = o2; there = set_here core.requests place o2 within; its = ap place_of same_id ∙ sym e })
         | inr ne ↦ ⊎_elim
-            (λ (r : IsRequestAt core j). inl (record { place = r.place; request = r.request; there = set_there core.requests place r.place o2 (λ e. ne (sym r.its ∙ ap (λ (x : Open). place_of x.request.id) (same_Some r.request o (sym r.there ∙ ap (slice_get core.requests) e ∙ there)))) ∙ r.there; its = r.its }))
+            (λ (r : IsRequestAt core j). inl (record { place = r.place; request = r.request; there = set_beside core.requests place r.place o2 (λ e. ne (sym r.its ∙ ap (λ (x : Open). place_of x.request.id) (same_Some r.request o (sym r.there ∙ ap (slice_get core.requests) e ∙ there)))) ∙ r.there; its = r.its }))
             (λ (r : IsStepAt core j). inr r)
             (sees.queue.only j q (sym (put_there j ne) ∙ at))
       ];
@@ -134,7 +123,7 @@ module _ (past : List Fact) (core : Core) (v : ModelState) (place : ℕ) (o o2 :
         | inl e ↦ let own : p ≡ o2 = same_Some p o2 (sym at ∙ ap (slice_get (slice_set core.requests place o2)) e ∙ set_here core.requests place o2 within) in
             let id : p.request.id ≡ o.request.id = ap (λ (x : Open). x.request.id) own ∙ same_id in
             ap (λ n. v.name (place_of n)) id ∙ sees.queue.names place o there ∙ ap (Rattle.lvm_vol.specs.Log.request_of core.history.facts) (sym id)
-        | inr ne ↦ sees.queue.names k p (sym (set_there core.requests place k o2 ne) ∙ at)
+        | inr ne ↦ sees.queue.names k p (sym (set_beside core.requests place k o2 ne) ∙ at)
       ];
     };
     facts = sees.facts;

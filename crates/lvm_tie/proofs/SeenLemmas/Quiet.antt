@@ -2,6 +2,7 @@
 use Rattle.std.proofs.Common.{◌≡◌, ⊎_elim, ℕ, suc, Bool, true, false, ◌&&◌, ◌==◌, if◌then◌else◌, List, [], ◌∷◌, ◌++◌, Option, Some, None, slice_get, refl, sym, ap, subst, ◌∙◌, eq-eqb, eqb-true}
 use Rattle.std.specs.Prelude.{count_by}
 use Rattle.std.specs.Option.{option_map_or}
+use Rattle.std.proofs.lemmas.Map.Keys.{any_passes_from_place}
 use Rattle.lvm_num.specs.declared.place.Pp.{Pp}
 use Rattle.lvm_num.specs.declared.descriptor.Descriptor.{Descriptor}
 use Rattle.lvm_num.specs.declared.status.Status.{Status}
@@ -37,7 +38,6 @@ use Rattle.lvm_crash.specs.Flights.{OnlyUpdateIsOut, Matches}
 use Rattle.lvm_tie.specs.Seen.{stage_seen, stage_at, SeesRequest, SeesHand, SeesStep, IsRequestAt, IsStepAt, update_of}
 use Rattle.lvm_tie.specs.Tied.{IsTied}
 use Rattle.lvm_tie.proofs.TiedLemmas.Tied.{tied_matches}
-use Rattle.lvm_keeps_events.proofs.Finding.{some_there}
 
 -- ---- nothing is out
 
@@ -229,5 +229,5 @@ module _ (past : List Fact) (s : State) (tied : IsTied past s) where
         let own : target_flies t.0 at.request ≡ true = ap (λ (m : Option Target). option_map_or (λ (u : Target). is_flying u.state) m false) t.2 ∙ t.3 in
         let id = at.request.request.id in
         let has : flies core (owner.Data id t.0) ≡ true =
-        some_there (λ (o : Open). o.request.id == id && target_flies t.0 o) core.requests at.place at.request at.there (ap (λ b. b && target_flies t.0 at.request) (eq-eqb id id refl) ∙ own) in
+        any_passes_from_place (λ (o : Open). o.request.id == id && target_flies t.0 o) core.requests at.place at.request at.there (ap (λ b. b && target_flies t.0 at.request) (eq-eqb id id refl) ∙ own) in
         no_one (sym has ∙ flies_none (owner.Data id t.0))

@@ -2,11 +2,13 @@
 use Rattle.std.proofs.Common.{◌≡◌, ◌⊎◌, inl, inr, ⊎_elim, ℕ, ◌+◌, ◌<◌, ◌≤◌, Bool, true, false, ◌&&◌, ◌||◌, ◌==◌, not, if◌then◌else◌, List, [], ◌∷◌, ◌++◌, Option, Some, None, refl, sym, ap, subst, ◌∙◌, arith}
 use Rattle.std.specs.Prelude.{IsTrue, IsFalse, filter, find, nat_lt}
 use Rattle.std.specs.List.{list_any}
+use Rattle.std.proofs.lemmas.Bool.{and_parts}
 use Rattle.std.proofs.lemmas.Bool.Decides.{nat_tests}
 use Rattle.lvm_num.specs.declared.place.Pp.{Pp}
 use Rattle.lvm_num.specs.Descriptor.{is_member, is_pp}
 use Rattle.lvm_num.specs.Disks.{has}
 use Rattle.lvm_num.specs.Geometry.{sector_of}
+use Rattle.lvm_num.proofs.Booleans.{clash_gives}
 use Rattle.lvm_vol.specs.Facts.{Fact}
 use Rattle.lvm_disk.specs.Device.{image_of}
 use Rattle.lvm_kept.specs.Contents.{contents_of}
@@ -35,16 +37,16 @@ use Rattle.lvm_invariant.specs.Events.{Admit, Read, ModelStep}
 use Rattle.lvm_invariant.specs.Good.{Good}
 use Rattle.lvm_invariant.proofs.EventsLemmas.Each.{each_keeps}
 use Rattle.lvm_crash.specs.Session.{Describes}
-use Rattle.lvm_tie_shelf.proofs.OwnedLemmas.{covered}
-use Rattle.lvm_tie_shelf.proofs.RecordsLemmas.Quiet.{quiet_lasts}
-use Rattle.lvm_tie_shelf.proofs.WritingLemmas.{and_both, pp_same, same_pp}
+use Rattle.lvm_crash.proofs.OwnedLemmas.{covered}
+use Rattle.lvm_crash.proofs.RecordsLemmas.Quiet.{quiet_lasts}
+use Rattle.lvm_crash.proofs.WritingLemmas.{pp_same, same_pp}
 use Rattle.lvm_tie.specs.Seen.{IsRequestAt, IsStepAt, Sees, SeesCopy, SeesHand, SeesOpen, SeesRequest, SeesRunning, SeesStep, phase_seen, step_write_of, update_of}
 use Rattle.lvm_tie.specs.Tied.{IsTied}
 use Rattle.lvm_tie.proofs.StateLemmas.{IsOfItsPartition, of_its, there_first, usable_seen}
 use Rattle.lvm_tie.proofs.TiedLemmas.Orderly.{open_one}
 use Rattle.lvm_tie.proofs.JudgingLemmas.Rows.{rows_are}
 use Rattle.lvm_tie.proofs.BringingLemmas.{one_is_copy_of, step_member}
-use Rattle.lvm_tie.proofs.AmongLemmas.{any_none, clash, not_true, or_true}
+use Rattle.lvm_tie.proofs.AmongLemmas.{any_none, not_true, or_true}
 use Rattle.lvm_tie.specs.Starts.{CopyReadTies}
 use Rattle.lvm_tie.proofs.SeenLemmas.CopySteps.{copy_started, sees_step_on}
 
@@ -85,10 +87,10 @@ module _ (past : List Fact) (old new : State) (tied : IsTied past old) (sound : 
 
   may_now : MayReadNow
   may_now =
-      let a = and_both (is_running c && not (is_whole core c) && is_idle c.step && is_free_step core c) _ reads.may in
-      let b = and_both (is_running c && not (is_whole core c) && is_idle c.step) (is_free_step core c) a.0 in
-      let d = and_both (is_running c && not (is_whole core c)) (is_idle c.step) b.0 in
-      let e = and_both (is_running c) (not (is_whole core c)) d.0 in
+      let a = and_parts (is_running c && not (is_whole core c) && is_idle c.step && is_free_step core c) _ reads.may in
+      let b = and_parts (is_running c && not (is_whole core c) && is_idle c.step) (is_free_step core c) a.0 in
+      let d = and_parts (is_running c && not (is_whole core c)) (is_idle c.step) b.0 in
+      let e = and_parts (is_running c) (not (is_whole core c)) d.0 in
       record { runs = e.0; part = not_true (is_whole core c) e.1; idle = d.1; free = b.1 }
 
   idle_is : (s : Step) → is_idle s ≡ true → s ≡ step.Idle
@@ -107,7 +109,7 @@ module _ (past : List Fact) (old new : State) (tied : IsTied past old) (sound : 
   its = of_its past old tied c reads.is_open
 
   less : c.cursor < groups_of core
-  less = let h : not (nat_lt c.cursor (groups_of core)) ≡ false = may_now.part in let k : nat_lt c.cursor (groups_of core) ≡ true = Rattle.lvm_tie.proofs.AmongLemmas.not_false (nat_lt c.cursor (groups_of core)) h in grind (arith, nat_tests)
+  less = let h : not (nat_lt c.cursor (groups_of core)) ≡ false = may_now.part in let k : nat_lt c.cursor (groups_of core) ≡ true = Rattle.std.proofs.lemmas.Bool.not-false (nat_lt c.cursor (groups_of core)) h in grind (arith, nat_tests)
 
   abbrev q : Queued
   q = (tied.sees.queue.a_step c reads.is_open row).0
@@ -125,7 +127,7 @@ module _ (past : List Fact) (old new : State) (tied : IsTied past old) (sound : 
   found = found_source _ (λ (p : Pp). not (is_pp p c.pp) && is_usable core p) (copies_in core.descriptor c.lv c.lp) source reads.source_is
 
   usable : is_usable core source ≡ true
-  usable = (and_both (not (is_pp source c.pp)) (is_usable core source) found.1).1
+  usable = (and_parts (not (is_pp source c.pp)) (is_usable core source) found.1).1
 
   among : IsOneOf (Rattle.lvm_num.specs.Descriptor.copies_of its.row c.lp) source
   among = subst (λ (ps : List Pp). IsOneOf ps source) (ap (λ m. Rattle.std.specs.Option.option_map_or (λ (r : Rattle.lvm_num.specs.declared.descriptor.LvRow.LvRow). Rattle.lvm_num.specs.Descriptor.copies_of r c.lp) m []) its.volume) found.0
@@ -134,7 +136,7 @@ module _ (past : List Fact) (old new : State) (tied : IsTied past old) (sound : 
   member = step_member past old tied c its less source among
 
   there : is_missing core source.disk ≡ false
-  there = not_true (is_missing core source.disk) (and_both (not (is_stale core source)) (not (is_missing core source.disk)) usable).1
+  there = not_true (is_missing core source.disk) (and_parts (not (is_stale core source)) (not (is_missing core source.disk)) usable).1
 
   source_copy : IsTrue (v.is_copy c.lv (block_at core c) source)
   source_copy = one_is_copy_of past old tied c its less source among member (there_first past old tied source.disk there)
@@ -177,7 +179,7 @@ module _ (past : List Fact) (old new : State) (tied : IsTied past old) (sound : 
           e_sees = subst (SeesRequest r.request) same s.2
 
           writes : is_write r.request.request.ask ≡ true
-          writes = ⊎_elim (λ w2. sym e_sees.write ∙ w2) (λ w2. clash q.write w2 sees.write) conflict.writes
+          writes = ⊎_elim (λ w2. sym e_sees.write ∙ w2) (λ w2. clash_gives q.write w2 sees.write) conflict.writes
 
           block : have_common_block (held_of r.request.request.ask) (step_of core c) ≡ true
           block =
@@ -205,7 +207,7 @@ module _ (past : List Fact) (old new : State) (tied : IsTied past old) (sound : 
               let row2 : Row = record { id = place_of r.request.request.id; ask = held_of r.request.request.ask } in
               let both : conflicts (held_of r.request.request.ask) (step_of core c) ≡ true = (λ k. block k && ((writes k && true) || false)) in
               let lt : nat_lt (place_of r.request.request.id) i ≡ true = (let k : place_of r.request.request.id ≡ j = r.its in let l : place_of r.request.request.id < i = omega (arith, k, before) in grind (arith, nat_tests)) in
-              clash (nat_lt row2.id i && conflicts row2.ask (step_of core c)) (λ k. lt k && both k)
+              clash_gives (nat_lt row2.id i && conflicts row2.ask (step_of core c)) (λ k. lt k && both k)
               (any_none (λ (x : Row). nat_lt x.id i && conflicts x.ask (step_of core c)) core.queue.rows row2 (not_true (Rattle.lvm_hold.specs.Waiting.is_blocked core.queue.rows i (step_of core c)) may_now.free)
               ((rows_are old tied.write tied.orderly).requests r.place r.request r.there waits))
 

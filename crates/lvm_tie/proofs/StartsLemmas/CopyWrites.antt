@@ -1,6 +1,7 @@
 -- The write by which a copy is brought up, tied as it starts.
 use Rattle.std.proofs.Common.{◌≡◌, inl, inr, ℕ, zero, suc, ◌+◌, ◌-◌, ◌<◌, true, false, ◌&&◌, not, List, [], ◌∷◌, ◌++◌, length, Option, Some, refl, sym, ap, subst, ◌∙◌, arith}
 use Rattle.std.specs.Prelude.{IfSome, slice_get, slice_index_or}
+use Rattle.std.proofs.lemmas.Bool.{and_parts}
 use Rattle.lvm_num.specs.Buffer.{Buffer, Sector}
 use Rattle.lvm_num.specs.Geometry.{sector_of}
 use Rattle.lvm_vol.specs.Facts.{Fact}
@@ -19,8 +20,7 @@ use Rattle.lvm_invariant.specs.State.{Queued, ModelState, StepWrite, is_past}
 use Rattle.lvm_invariant.specs.CopyWrite.{copied}
 use Rattle.lvm_invariant.specs.Events.{CopyWrite, ModelStep}
 use Rattle.lvm_invariant.proofs.EventsLemmas.Each.{each_keeps}
-use Rattle.lvm_tie_shelf.proofs.RecordsLemmas.Quiet.{quiet_lasts}
-use Rattle.lvm_tie_shelf.proofs.WritingLemmas.{and_both}
+use Rattle.lvm_crash.proofs.RecordsLemmas.Quiet.{quiet_lasts}
 use Rattle.lvm_tie.specs.Out.{CarriesStep}
 use Rattle.lvm_tie.specs.Seen.{Sees, SeesHand, SeesStep, update_of}
 use Rattle.lvm_tie.specs.Tied.{IsTied}
@@ -40,7 +40,7 @@ module _ (past : List Fact) (old new : State) (tied : IsTied past old) (sound : 
   c = writes.copy
 
   runs : is_running c ≡ true
-  runs = (and_both (is_running c) _ writes.may).0
+  runs = (and_parts (is_running c) _ writes.may).0
 
   its_copy : IsCopy core c
   its_copy = copy_is past old tied c writes.is_open

@@ -26,7 +26,8 @@ use Rattle.lvm_tie.proofs.TiedLemmas.Tied.{stage_found}
 use Rattle.lvm_tie.specs.Seen.{stage_seen, phase_seen, SeesRequest}
 use Rattle.lvm_tie.specs.Tied.{IsOrderly, IsTied}
 use Rattle.lvm_tie.proofs.StartWriteLemmas.{may_start}
-use Rattle.lvm_tie.proofs.OutLemmas.Ties.{state_there, started_ties}
+use Rattle.lvm_tie.proofs.OutLemmas.Ties.{started_ties}
+use Rattle.lvm_tie.proofs.EndsLemmas.{state_there}
 
 module _ (past : List Fact) (old new : State) (place number : ℕ) (starts : StartsData old new place number) (tied : IsTied past old) (waits : is_open_waiting starts.its.request ≡ true) where
   abbrev o : Open

@@ -2,6 +2,7 @@
 use Rattle.std.proofs.Common.{◌≡◌, ◌⊎◌, inl, inr, ⊎_elim, ℕ, Bool, true, false, ◌&&◌, ◌||◌, ◌==◌, not, eqb-true, List, Option, Some, None, refl, sym, ap, subst, ◌∙◌}
 use Rattle.std.specs.Prelude.{IsTrue, IsFalse, if◌then◌else◌, unwrap_or}
 use Rattle.std.specs.Option.{option_map_or}
+use Rattle.std.proofs.lemmas.Bool.{and_parts}
 use Rattle.std.proofs.lemmas.Option.{same_Some}
 use Rattle.lvm_num.specs.declared.place.Pp.{Pp}
 use Rattle.lvm_num.specs.declared.descriptor.Descriptor.{Descriptor}
@@ -11,6 +12,7 @@ use Rattle.lvm_num.specs.Descriptor.{is_member, is_pp}
 use Rattle.lvm_num.specs.Disks.{Disks, has}
 use Rattle.lvm_num.specs.Record.{Stamped}
 use Rattle.lvm_num.specs.Status.{calls_missing, calls_stale}
+use Rattle.lvm_num.proofs.Booleans.{clash_gives}
 use Rattle.lvm_vol.specs.Facts.{Fact}
 use Rattle.lvm_disk.specs.Device.{image_of}
 use Rattle.lvm_kept.specs.Contents.{Contents, contents_of}
@@ -35,12 +37,11 @@ use Rattle.lvm_invariant.specs.MoveStatus.{moved}
 use Rattle.lvm_invariant.specs.Events.{CommitUpdate, Want}
 use Rattle.lvm_invariant.proofs.EventsLemmas.Each.{each_keeps}
 use Rattle.lvm_crash.specs.Session.{Describes, HasVolumes, as_marks, marks_of, members_showing}
-use Rattle.lvm_tie_shelf.proofs.RecordsLemmas.Quiet.{quiet_lasts}
-use Rattle.lvm_tie_shelf.proofs.WritingLemmas.{and_both}
-use Rattle.lvm_tie_shelf.specs.Records.{StatusEnded, statuses_of}
+use Rattle.lvm_crash.proofs.RecordsLemmas.Quiet.{quiet_lasts}
+use Rattle.lvm_crash.specs.Records.{StatusEnded, statuses_of}
 use Rattle.lvm_tie.proofs.StateLemmas.{there_first}
 use Rattle.lvm_tie.proofs.TiedLemmas.Orderly.{valid_of}
-use Rattle.lvm_tie.proofs.AmongLemmas.{clash, or_either, or_true}
+use Rattle.lvm_tie.proofs.AmongLemmas.{or_either, or_true}
 use Rattle.lvm_tie.specs.Tied.{IsTied}
 use Rattle.lvm_tie.specs.Near.{open_after}
 use Rattle.lvm_tie.specs.Wanted.{HasOwners, IsBrought, KeepsFresh, SeesMarks}
@@ -147,14 +148,14 @@ module _ (past : List Fact) (old new : State) (index disk : ℕ) (ok : Bool) (ro
   -- a disk that is there was
   pub was_there : (d : ℕ) → is_there core1 d ≡ true → is_there core d ≡ true
   was_there d there =
-      let parts = and_both (is_member group d) (not (calls_missing stored.wanted d)) there in
+      let parts = and_parts (is_member group d) (not (calls_missing stored.wanted d)) there in
       let member = parts.0 in
       let before = missing_then disk ok core.status.wanted stored.wanted learns.wants d (not_true_is (calls_missing stored.wanted d) parts.1) in
       λ k. member k && not (before k)
 
   shows : (d : ℕ) → IsTrue (is_there core1 d) → IsTrue (members d)
   shows d there =
-      let parts = and_both (is_member group d) (not (is_missing core d)) (was_there d there) in
+      let parts = and_parts (is_member group d) (not (is_missing core d)) (was_there d there) in
       ap (λ (c : Contents). members_showing c group d) (kept past old new index disk ok row buf its_owner returns tied).rest ∙ tied.recorded.members d parts.0 (there_first past old tied d (not_true_is (is_missing core d) parts.1))
 
   owners : HasOwners v
@@ -177,7 +178,7 @@ module _ (past : List Fact) (old new : State) (index disk : ℕ) (ok : Bool) (ro
       where
         by : (b : Bool) → is_there core1 d ≡ b → IsTrue (not b)
         by false is = refl
-        by true is = clash (is_there core d) (was_there d is) (not_true_is (is_there core d) (sym (tied.sees.status.missing d) ∙ gone))
+        by true is = clash_gives (is_there core d) (was_there d is) (not_true_is (is_there core d) (sym (tied.sees.status.missing d) ∙ gone))
 
     sees : SeesMarks core1 v1 missing
     sees = record { committed = tied.sees.status.committed ∙ ap marks_of (sym committed_same); wanted = wanted_seen; missing_is = λ d. refl; still = still }
@@ -254,7 +255,7 @@ module _ (past : List Fact) (old new : State) (index disk : ℕ) (ok : Bool) (ro
 
     -- one that is whole ends only as done
     whole_done : (c : OpenCopy) → core.copy ≡ Some c → is_running c ≡ true → (e : CopyEnd) → how ≡ Some e → is_whole core1 c ≡ true → (is_cleared core1 c ≡ true) × (e ≡ ending.Done)
-    whole_done c is runs e ends all = ⊎_elim (λ gone. clash (is_missing core1 c.pp.disk) gone.0 (running c is runs).1) (λ its_end. its_end) (whole_ends core1 c runs e all (end_at c is ∙ ends))
+    whole_done c is runs e ends all = ⊎_elim (λ gone. clash_gives (is_missing core1 c.pp.disk) gone.0 (running c is runs).1) (λ its_end. its_end) (whole_ends core1 c runs e all (end_at c is ∙ ends))
 
     -- so none is marked by its end
     marked : (p : Pp) → marked_by_end core1 how p ≡ true → IsMarked core1 cleared p
@@ -263,10 +264,10 @@ module _ (past : List Fact) (old new : State) (index disk : ℕ) (ok : Bool) (ro
         at : (e : CopyEnd) → how ≡ Some e → marked_by_end core1 (Some e) p ≡ true → IsMarked core1 cleared p
         at e ends h =
             let r = ends_running core1 e ends in
-            let parts = and_both (not (is_done_end e)) (is_whole core1 r.copy && is_pp p r.copy.pp) (sym (ap (λ (m : Option OpenCopy). not (is_done_end e) && option_map_or (λ (c : OpenCopy). is_whole core1 c && is_pp p c.pp) m false) r.is_open) ∙ h) in
-            let both = and_both (is_whole core1 r.copy) (is_pp p r.copy.pp) parts.1 in
+            let parts = and_parts (not (is_done_end e)) (is_whole core1 r.copy && is_pp p r.copy.pp) (sym (ap (λ (m : Option OpenCopy). not (is_done_end e) && option_map_or (λ (c : OpenCopy). is_whole core1 c && is_pp p c.pp) m false) r.is_open) ∙ h) in
+            let both = and_parts (is_whole core1 r.copy) (is_pp p r.copy.pp) parts.1 in
             let d = whole_done r.copy r.is_open r.runs e ends both.0 in
-            clash (is_done_end e) (ap is_done_end d.1) (not_true_is (is_done_end e) parts.0)
+            clash_gives (is_done_end e) (ap is_done_end d.1) (not_true_is (is_done_end e) parts.0)
 
         by : (m : Option CopyEnd) → how ≡ m → marked_by_end core1 m p ≡ true → IsMarked core1 cleared p
         by None ends h = absurd (cc h)
@@ -278,7 +279,7 @@ module _ (past : List Fact) (old new : State) (index disk : ℕ) (ok : Bool) (ro
       where
         of : (c : OpenCopy) → core.copy ≡ Some c → (b : Bool) → is_running c ≡ b → (x : OpenCopy) × (core.copy ≡ Some x) × (is_running x ≡ true)
         of c is true runs = (c, is, runs)
-        of c is false over = absurd (let e : None ≡ Some o = sym (none_opened past old tied (λ d there runs. clash (is_running d) runs (ap is_running (same_Some d c (sym there ∙ is)) ∙ over))) ∙ at in cc)
+        of c is false over = absurd (let e : None ≡ Some o = sym (none_opened past old tied (λ d there runs. clash_gives (is_running d) runs (ap is_running (same_Some d c (sym there ∙ is)) ∙ over))) ∙ at in cc)
 
         by : (m : Option OpenCopy) → core.copy ≡ m → (x : OpenCopy) × (core.copy ≡ Some x) × (is_running x ≡ true)
         by None is = absurd (let e : None ≡ Some o = sym (none_opened past old tied (λ d there runs. let e2 : None ≡ Some d = sym is ∙ there in cc)) ∙ at in cc)
@@ -293,7 +294,7 @@ module _ (past : List Fact) (old new : State) (index disk : ℕ) (ok : Bool) (ro
       where
         by : (c : OpenCopy) → core.copy ≡ Some c → is_running c ≡ true → IsBrought core v c → (w : Bool) → is_whole core1 c ≡ w → is_wanted_stale core c.pp ≡ true
         by c is runs b false part = b.part part
-        by c is runs b true all = clash (is_done_end e) (ap is_done_end (whole_done c is runs e ends all).1) not_done
+        by c is runs b true all = clash_gives (is_done_end e) (ap is_done_end (whole_done c is runs e ends all).1) not_done
 
     still_wanted : (p : Pp) → is_wanted_stale core p ≡ true → IsTrue (calls_stale status.wanted p)
     still_wanted p is = review.marks.stale p ∙ or_true (is_wanted_stale core1 p) (is_entailed core1 p || marked_by_end core1 how p) (inl (stale_same p ∙ is))
@@ -337,7 +338,7 @@ module _ (past : List Fact) (old new : State) (index disk : ℕ) (ok : Bool) (ro
             → IsTrue (calls_stale t c.pp) ⊎ IsTrue (v.wanted.stale c.pp)
         of c is runs b false part which = inr (ap (λ (m : Marks). m.stale c.pp) tied.sees.status.wanted ∙ b.part part)
         of c is runs b true all (inl none) = parts c.pp (is_stale core1 c.pp) (calls_stale (unwrap_or stored.in_flight stored.committed) c.pp) (is_wanted_stale core1 c.pp) refl refl refl ((goes_on core1 c runs (end_at c is ∙ none)).1 all)
-        of c is runs b true all (inr some) = clash (is_done_end some.0) (ap is_done_end (whole_done c is runs some.0 some.1 all).1) some.2
+        of c is runs b true all (inr some) = clash_gives (is_done_end some.0) (ap is_done_end (whole_done c is runs some.0 some.1 all).1) some.2
 
     -- one that is done is fresh by the update
     fresh_then : (e : CopyEnd) → how ≡ Some e → is_done_end e ≡ true → (o : ModelCopy) → v.open_copy ≡ Some o → IsFalse (calls_stale t o.target)
@@ -347,11 +348,11 @@ module _ (past : List Fact) (old new : State) (index disk : ℕ) (ok : Bool) (ro
         ap (calls_stale t) (b.target o at) ∙ of r.0 r.1 r.2 (is_whole core1 r.0) refl
       where
         of : (c : OpenCopy) → core.copy ≡ Some c → is_running c ≡ true → (w : Bool) → is_whole core1 c ≡ w → calls_stale t c.pp ≡ false
-        of c is runs false part = clash (is_done_end e) is_done (part_ends core1 c runs e part (end_at c is ∙ ends))
+        of c is runs false part = clash_gives (is_done_end e) is_done (part_ends core1 c runs e part (end_at c is ∙ ends))
         of c is runs true all =
             let d = whole_done c is runs e ends all in
-            let a = and_both (not (is_stale core1 c.pp) && not (calls_stale (unwrap_or stored.in_flight stored.committed) c.pp)) (not (is_wanted_stale core1 c.pp)) d.0 in
-            let f = and_both (not (is_stale core1 c.pp)) (not (calls_stale (unwrap_or stored.in_flight stored.committed) c.pp)) a.0 in
+            let a = and_parts (not (is_stale core1 c.pp) && not (calls_stale (unwrap_or stored.in_flight stored.committed) c.pp)) (not (is_wanted_stale core1 c.pp)) d.0 in
+            let f = and_parts (not (is_stale core1 c.pp)) (not (calls_stale (unwrap_or stored.in_flight stored.committed) c.pp)) a.0 in
             sym (ap (λ (s : Status). calls_stale s c.pp) committed_is) ∙ not_true_is (is_stale core1 c.pp) f.0
 
     commits_so : Commits v1 (as_marks u) done

@@ -3,6 +3,7 @@ use Rattle.std.proofs.Common.{◌≡◌, ⊎_elim, ℕ, Bool, true, false, ◌&&
 use Rattle.std.specs.Prelude.{IsTrue}
 use Rattle.std.specs.List.{remove}
 use Rattle.std.specs.Option.{option_map, option_map_or}
+use Rattle.std.proofs.lemmas.Bool.{and_parts}
 use Rattle.std.proofs.lemmas.Option.{same_Some}
 use Rattle.lvm_num.specs.declared.descriptor.Descriptor.{Descriptor}
 use Rattle.lvm_num.specs.declared.status.Status.{Status}
@@ -12,6 +13,7 @@ use Rattle.lvm_num.specs.Disks.{has}
 use Rattle.lvm_num.specs.Note.{IsNote}
 use Rattle.lvm_num.specs.Record.{Stamped}
 use Rattle.lvm_num.specs.Status.{calls_missing}
+use Rattle.lvm_num.proofs.Booleans.{clash_gives}
 use Rattle.lvm_vol.specs.Facts.{Fact}
 use Rattle.lvm_disk.specs.Device.{Flight, HasSectors, image_of}
 use Rattle.lvm_kept.specs.Contents.{Contents, contents_of}
@@ -31,12 +33,11 @@ use Rattle.lvm_session.specs.Sound.{IsGoing, IsSound}
 use Rattle.lvm_invariant.specs.State.{Marks, ModelState}
 use Rattle.lvm_invariant.specs.Good.{Good}
 use Rattle.lvm_crash.specs.Session.{Describes, as_marks, marks_of, members_showing}
-use Rattle.lvm_tie_shelf.proofs.RecordsLemmas.Quiet.{update_goes_on, updates_last}
-use Rattle.lvm_tie_shelf.proofs.WritingLemmas.{and_both}
-use Rattle.lvm_tie_shelf.specs.Owned.{OnlyUpdateSince}
-use Rattle.lvm_tie_shelf.specs.Records.{statuses_of}
+use Rattle.lvm_crash.proofs.RecordsLemmas.Quiet.{update_goes_on, updates_last}
+use Rattle.lvm_crash.specs.Owned.{OnlyUpdateSince}
+use Rattle.lvm_crash.specs.Records.{statuses_of}
 use Rattle.lvm_tie.proofs.TiedLemmas.Recorded.{records_last, shows_last, shows_update}
-use Rattle.lvm_tie.proofs.AmongLemmas.{clash, not_true, or_either}
+use Rattle.lvm_tie.proofs.AmongLemmas.{not_true, or_either}
 use Rattle.lvm_tie.specs.Out.{AreNotes, CarriesStep, CarryTheirs, IsUpdateWrite, IsWriteOf, MayUpdate}
 use Rattle.lvm_tie.specs.Seen.{Sees, update_of}
 use Rattle.lvm_tie.specs.Tied.{IsOrderly, IsTied, ShowsRecords, ShowsStatus}
@@ -283,7 +284,7 @@ module _ (past : List Fact) (old new : State) (index disk : ℕ) (ok : Bool) (ro
         (none_started core.status stored status group disk ok t going.fitting.group going.status its.flies its.out.started learns.wants learns.ended learns.reviews.marks.rest done) in
         tied_with None None
         (sees None (ap (option_map as_marks) (sym no_update))
-        (λ d has_it. clash (has status.writes.written d) has_it (none_written core.status stored status group disk ok t going.fitting.group going.status its.flies its.out.started learns.wants learns.ended learns.reviews.marks.rest done d))
+        (λ d has_it. clash_gives (has status.writes.written d) has_it (none_written core.status stored status group disk ok t going.fitting.group going.status its.flies its.out.started learns.wants learns.ended learns.reviews.marks.rest done d))
         (λ y is enough. absurd (let e : None ≡ Some y = sym no_update ∙ is in cc)))
         last.0
         (subst (λ (o : Option (Stamped Status)). Describes (with_update_in None) v.facts group o now) (sym no_update) last.1)
@@ -293,7 +294,7 @@ module _ (past : List Fact) (old new : State) (index disk : ℕ) (ok : Bool) (ro
           stands = u;
           committed = sym (over_committed core.status stored status group disk ok t going.fitting.group going.status its.flies its.out.started learns.wants learns.ended learns.reviews.marks.rest done);
           stated = λ d there.
-              let parts = and_both (is_member group d) (not (calls_missing status.wanted d)) there in
+              let parts = and_parts (is_member group d) (not (calls_missing status.wanted d)) there in
               let present : calls_missing stored.wanted d ≡ false = sym (learns.reviews.marks.missing d) ∙ not_true (calls_missing status.wanted d) parts.1 in
               shows_update v2 v.facts group u now reviewed.describes d (have d (all_written core.status stored status group disk ok t going.fitting.group going.status its.flies its.out.started learns.wants learns.ended learns.reviews.marks.rest done d parts.0 present));
           last = shows_last tied.votes v2 v.facts group u now reviewed.describes reviewed.good.found (reviewed.held (held_over core.status stored status group disk ok t going.fitting.group going.status its.flies its.out.started learns.wants learns.ended learns.reviews.marks.rest done)) flies;

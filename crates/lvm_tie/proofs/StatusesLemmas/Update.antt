@@ -2,6 +2,7 @@
 use Rattle.std.proofs.Common.{◌≡◌, ◌⊎◌, inl, inr, ⊎_elim, ℕ, ◌+◌, ◌-◌, ◌^◌, ◌<◌, Bool, true, false, ◌&&◌, ◌==◌, not, eqb-true, List, length, Option, Some, None, refl, sym, ap, subst, ◌∙◌, arith}
 use Rattle.std.specs.Prelude.{IfSome, IsTrue, ◌≢◌, if◌then◌else◌, slice_get}
 use Rattle.std.specs.Option.{option_map}
+use Rattle.std.proofs.lemmas.Bool.{and_parts}
 use Rattle.std.proofs.lemmas.Bool.Decides.{nat_tests}
 use Rattle.lvm_num.specs.declared.descriptor.Descriptor.{Descriptor}
 use Rattle.lvm_num.specs.declared.record.Kind.{Kind}
@@ -14,16 +15,17 @@ use Rattle.lvm_num.specs.Disks.{has}
 use Rattle.lvm_num.specs.Record.{Stamped, frame, record_sectors, slot_start, stamp_lt}
 use Rattle.lvm_num.specs.Status.{calls_missing}
 use Rattle.lvm_num.specs.StatusBytes.{status_of}
+use Rattle.lvm_num.proofs.Booleans.{clash_gives, place_turns}
 use Rattle.lvm_rec.specs.Slots.{slot_for}
 use Rattle.lvm_vol.specs.Facts.{Fact}
 use Rattle.lvm_disk.specs.Device.{Flight, HasSectors, Image, Media, Device, MayLeave, image_of, IsWholeImage}
 use Rattle.lvm_kept.specs.Contents.{Contents, contents_of}
 use Rattle.lvm_kept.specs.Plans.{ChangesBy}
 use Rattle.lvm_kept.specs.Torn.{IsOfRecord, IsOtherOrRecord, RecordWrite, StandsOn}
-use Rattle.lvm_stamps.specs.Behind.{StampsBefore}
-use Rattle.lvm_stamps.proofs.LawsLemmas.Writes.{record_keeps_before}
+use Rattle.lvm_steps.specs.Behind.{StampsBefore}
+use Rattle.lvm_steps.proofs.LawsLemmas.Writes.{record_keeps_before}
 use Rattle.lvm_rec.proofs.SlotsLemmas.Next.{slot_for_same}
-use Rattle.lvm_begin.proofs.SlotsLemmas.{other_comes_next}
+use Rattle.lvm_write.proofs.SlotsLemmas.{other_comes_next}
 use Rattle.lvm_commit.specs.Committed.{next_stamp}
 use Rattle.lvm_status.specs.Update.{Stored, members_there}
 use Rattle.lvm_rec.specs.declared.homes.Homes.{Homes}
@@ -41,18 +43,17 @@ use Rattle.lvm_crash.specs.Session.{as_marks, marks_shown}
 use Rattle.lvm_crash.specs.Left.{KeepsGroup}
 use Rattle.lvm_crash.specs.Flights.{Matches}
 use Rattle.lvm_crash.proofs.LawsLemmas.Images.{images_remain}
-use Rattle.lvm_tie_shelf.proofs.DeviceLemmas.{at_writes, writes_at}
-use Rattle.lvm_tie_shelf.proofs.OwnedLemmas.{in_slots}
-use Rattle.lvm_tie_shelf.proofs.RecordsLemmas.Records.{may_leave, status_ends}
-use Rattle.lvm_tie_shelf.specs.Owned.{IsStatusFlight, OnlyUpdateSince, UpdateSince}
-use Rattle.lvm_tie_shelf.specs.Records.{StatusEnded, statuses_of}
+use Rattle.lvm_crash.proofs.DeviceLemmas.{at_writes, writes_at}
+use Rattle.lvm_crash.proofs.OwnedLemmas.{in_slots}
+use Rattle.lvm_crash.proofs.RecordsLemmas.Records.{may_leave, status_ends}
+use Rattle.lvm_crash.specs.Owned.{IsStatusFlight, OnlyUpdateSince, UpdateSince}
+use Rattle.lvm_crash.specs.Records.{StatusEnded, statuses_of}
 use Rattle.lvm_tie.proofs.TiedLemmas.Orderly.{AreOut, IsOfUpdateOut, IsOut, IsStatusOut, out_of, tickets_of}
 use Rattle.lvm_tie.proofs.TiedLemmas.Tied.{tied_matches}
-use Rattle.lvm_tie.proofs.AmongLemmas.{clash, not_true, or_true}
+use Rattle.lvm_tie.proofs.AmongLemmas.{not_true, or_true}
 use Rattle.lvm_tie.specs.Out.{IsUpdateWrite, IsWriteOf, MayUpdate, is_owed_on}
 use Rattle.lvm_tie.specs.Seen.{update_of}
 use Rattle.lvm_tie.specs.Tied.{IsTied}
-use Rattle.lvm_tie_shelf.proofs.WritingLemmas.{and_both}
 use Rattle.lvm_tie.proofs.OutLemmas.Ended.{HasEnded, IsRow, has_ended, is_row}
 
 -- ---- the update in flight
@@ -95,13 +96,6 @@ is_written device core v (Some w) f disk since update flying out = by core.statu
     }
 
 -- ---- slots
-
--- the other slot of the two
-turns : (t : Bool) (slot : ℕ) → ((◌≡◌ {A = ℕ} (if t then 1 else 0) 0) × (slot ≡ 1)) ⊎ ((◌≡◌ {A = ℕ} (if t then 1 else 0) 1) × (slot ≡ 0)) → ◌≡◌ {A = ℕ} (if not t then 1 else 0) slot
-turns true slot (inl is) = let wrong = is.0 in absurd (omega (arith, wrong))
-turns true slot (inr is) = sym is.1
-turns false slot (inl is) = sym is.1
-turns false slot (inr is) = let wrong = is.0 in absurd (omega (arith, wrong))
 
 -- those of the other disks stay
 pub slots_beside : (ok : Bool) (disk : ℕ) (old new : Homes) → FlipsIf ok disk old new → (d : ℕ) → (d == disk) ≡ false → next_slot kind.Status new d ≡ next_slot kind.Status old d
@@ -217,14 +211,14 @@ module _ (past : List Fact) (old new : State) (index disk : ℕ) (ok : Bool) (ro
       (other_comes_next Status status_of w written.value written.since.began is written.since.may by_update disk written.out.target (subst (λ n. StandsOn w is n) written.out.disk_is (all_stands well))) in
       let slots : w.slots disk ≡ next_slot kind.Status core.homes disk = written.update.slots disk owed_here in
       slot_flipped disk core.homes homes (subst (λ b. FlipsIf b disk core.homes homes) well flips)
-      ∙ turns (second_slots kind.Status core.homes disk) (slot_for status_of kind.Status (is.sector disk))
+      ∙ place_turns (second_slots kind.Status core.homes disk) (slot_for status_of kind.Status (is.sector disk))
       (⊎_elim (λ zero. inl (sym slots ∙ zero.0, zero.1)) (λ one. inr (sym slots ∙ one.0, one.1)) other)
 
   -- no sector of another disk has changed
   same_beside : (d s : ℕ) → (d == disk) ≡ false → is.sector d s ≡ was.sector d s
   same_beside d s other = ⊎_elim
       (λ same. same)
-      (λ brings. clash (d == disk) (let e : f.disk ≡ d = (writes_at f d s (ended.media d s) brings).disk in let e2 : f.disk ≡ disk = written.out.disk_is in grind (arith, nat_tests)) other)
+      (λ brings. clash_gives (d == disk) (let e : f.disk ≡ d = (writes_at f d s (ended.media d s) brings).disk in let e2 : f.disk ≡ disk = written.out.disk_is in grind (arith, nat_tests)) other)
       (ended.lands.some d s)
 
   spare_beside : (homes : Homes) → FlipsIf ok disk core.homes homes → (d : ℕ) → (d == disk) ≡ false → IsTrue (members_there group core.status.wanted d) → is_owed_on core.status d ≡ false
@@ -247,14 +241,14 @@ module _ (past : List Fact) (old new : State) (index disk : ℕ) (ok : Bool) (ro
         (ap (λ (st : Stamp). stamp_lt st (next_stamp s.stamp)) (written.since.stamp ∙ sym stamp) ∙ is_next s.stamp) by_record
         (subst (λ (st : Stamp). StampsBefore (next_stamp st) was) (sym stamp) tied.recorded.next.before);
     spare = λ d there owed.
-        let parts = and_both (is_member group d) (not (calls_missing s.wanted d)) there in
+        let parts = and_parts (is_member group d) (not (calls_missing s.wanted d)) there in
         let here : calls_missing s.wanted d ≡ false = not_true (calls_missing s.wanted d) parts.1 in
         by d parts.0 here owed (d == disk) refl;
   }
     where
       at_disk : calls_missing s.wanted disk ≡ false → (b : Bool) → ok ≡ b → next_slot kind.Status homes disk ≡ slot_for status_of kind.Status (is.sector disk)
       at_disk here true well = spare_here homes well flips
-      at_disk here false badly = clash (calls_missing s.wanted disk) (lost badly) here
+      at_disk here false badly = clash_gives (calls_missing s.wanted disk) (lost badly) here
 
       by : (d : ℕ) → is_member group d ≡ true → calls_missing s.wanted d ≡ false → is_owed_on s d ≡ false → (b : Bool) → (d == disk) ≡ b → next_slot kind.Status homes d ≡ slot_for status_of kind.Status (is.sector d)
       by d member here owed true at =

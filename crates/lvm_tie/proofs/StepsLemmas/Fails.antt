@@ -3,6 +3,7 @@ use Rattle.std.proofs.Common.{◌≡◌, inl, ℕ, false, ◌&&◌, List, Option
 use Rattle.std.specs.Prelude.{slice_set}
 use Rattle.lvm_num.specs.Descriptor.{is_pp}
 use Rattle.lvm_num.specs.declared.place.Pp.{Pp}
+use Rattle.lvm_num.proofs.Booleans.{clash_gives}
 use Rattle.lvm_vol.specs.Facts.{Fact}
 use Rattle.lvm_disk.specs.Device.{HasSectors}
 use Rattle.lvm_status.specs.Update.{Stored}
@@ -17,7 +18,6 @@ use Rattle.lvm_keeps_events.specs.Ends.{EndsWrite}
 use Rattle.lvm_invariant.specs.State.{ModelState}
 use Rattle.lvm_tie.specs.Tied.{IsTied}
 use Rattle.lvm_tie.proofs.StateLemmas.{copy_is}
-use Rattle.lvm_tie.proofs.AmongLemmas.{clash}
 use Rattle.lvm_tie.proofs.StepsLemmas.Landed.{landed_write}
 use Rattle.lvm_tie.proofs.StepsLemmas.Stepped.{ended_ties, wanted_stale}
 use Rattle.lvm_tie.specs.Steps.{CopyWriteFailTies}
@@ -38,7 +38,7 @@ module _ (past : List Fact) (old new : State) (at : ℕ) (tied : IsTied past old
   none_due p = ap (λ (m : Option OpenCopy). Rattle.std.specs.Option.option_map_or (λ (x : OpenCopy). is_whole old.core x && is_pp p x.pp) m false) event.is_open ∙ ap (λ b. b && is_pp p c.pp) part
 
   same : new.core.status ≡ old.core.status
-  same = event.fails.marks.same (λ p due. clash (marked_by_end old.core (Some ending.SyncFailed) p) due (none_due p))
+  same = event.fails.marks.same (λ p due. clash_gives (marked_by_end old.core (Some ending.SyncFailed) p) due (none_due p))
 
   abbrev resting : Core
   resting = with_copy (with_return old.core at event.buf) (record c { step = step.Idle })

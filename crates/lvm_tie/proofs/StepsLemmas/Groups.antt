@@ -1,13 +1,15 @@
 -- The write by which a copy is brought up ends well, and more track groups follow: its next step enters the queue.
 use Rattle.std.proofs.Common.{◌≡◌, inl, inr, ⊎_elim, ℕ, ◌<◌, Bool, true, false, ◌&&◌, ◌==◌, not, if◌then◌else◌, List, [], Option, Some, None, refl, sym, ap, subst, ◌∙◌, arith}
 use Rattle.std.specs.Prelude.{IsTrue, nat_lt, slice_get, slice_set}
-use Rattle.std.proofs.lemmas.Bool.{cases_eq}
+use Rattle.std.proofs.lemmas.Bool.{cases_eq, not-false}
 use Rattle.std.proofs.lemmas.Bool.Decides.{nat_tests}
 use Rattle.lvm_num.specs.declared.place.Pp.{Pp}
 use Rattle.lvm_vol.specs.Facts.{Fact}
 use Rattle.lvm_vol.specs.Log.{next_id, no_request}
 use Rattle.lvm_disk.specs.Device.{HasSectors}
 use Rattle.lvm_num.specs.Descriptor.{is_pp}
+use Rattle.lvm_num.proofs.Booleans.{clash_gives}
+use Rattle.lvm_num.proofs.Lists.{all_at}
 use Rattle.lvm_status.specs.Update.{Stored}
 use Rattle.lvm_session.specs.declared.open.Open.{Open}
 use Rattle.lvm_session.specs.declared.bringing.OpenCopy.{OpenCopy}
@@ -19,17 +21,17 @@ use Rattle.lvm_session.specs.Ends.{with_step}
 use Rattle.lvm_session.specs.Marks.{Reviews, is_entailed}
 use Rattle.lvm_session.specs.Sound.{IsSound}
 use Rattle.lvm_keeps_events.proofs.passed.Names.{below_next}
-use Rattle.lvm_keeps_events.specs.EndsGroup.{EndsGroup}
+use Rattle.lvm_keeps_events.specs.GroupEnds.{EndsGroup}
 use Rattle.lvm_invariant.specs.State.{Held, Queued, ModelState}
 use Rattle.lvm_invariant.specs.EnterStep.{StepEnters, entered}
 use Rattle.lvm_invariant.specs.Updates.{put, with_name}
+use Rattle.lvm_invariant.proofs.UpdatesLemmas.Requests.{put_same}
 use Rattle.lvm_tie.specs.Seen.{IsRequestAt, IsStepAt, SeesRunning, update_of}
 use Rattle.lvm_tie.specs.Tied.{IsTied}
 use Rattle.lvm_tie.proofs.StateLemmas.{IsOfItsPartition, there_first}
-use Rattle.lvm_tie.proofs.TiedLemmas.Orderly.{all_at}
 use Rattle.lvm_tie.proofs.BringingLemmas.{one_is_copy_of, step_placed}
-use Rattle.lvm_tie.proofs.AmongLemmas.{clash, not_false, or_either, and_false}
-use Rattle.lvm_tie.proofs.StepsLemmas.Leaving.{Stands, gone, gone_here, gone_there, put_here, put_there, step_entered}
+use Rattle.lvm_tie.proofs.AmongLemmas.{or_either, and_false}
+use Rattle.lvm_tie.proofs.StepsLemmas.Leaving.{Stands, gone, gone_here, gone_there, put_there, step_entered}
 use Rattle.lvm_tie.proofs.StepsLemmas.Landed.{landed_write, now, q}
 use Rattle.lvm_tie.proofs.StepsLemmas.Stepped.{IsStepped, apart, ended_ties, stepped_ties, wanted_stale}
 use Rattle.lvm_tie.proofs.StepsLemmas.Passing.{d, goes, its, landed, left, member, mid, o2, part, stands_left, there}
@@ -70,7 +72,7 @@ module _ (past : List Fact) (old new : State) (at : ℕ) (tied : IsTied past old
   same : new.core.status ≡ core.status
   same = reviews.marks.same (λ p due. ⊎_elim
       (λ (entailed : is_entailed on p ≡ true). (tied.orderly.sound.on tied.orderly.on).going.behind p entailed)
-      (λ marked. clash (marked_by_end on (copy_ends on) p) marked (unmarked (copy_ends on) p))
+      (λ marked. clash_gives (marked_by_end on (copy_ends on) p) marked (unmarked (copy_ends on) p))
       (or_either (is_entailed on p) (marked_by_end on (copy_ends on) p) due))
 
   core_is : (how : Option CopyEnd) → copy_ends on ≡ how → new.core ≡ with_end on how
@@ -86,7 +88,7 @@ module _ (past : List Fact) (old new : State) (at : ℕ) (tied : IsTied past old
   i = step_place core
 
   next_less : e.cursor < groups_of core
-  next_less = let h : not (nat_lt e.cursor (groups_of core)) ≡ false = short in let k : nat_lt e.cursor (groups_of core) ≡ true = not_false (nat_lt e.cursor (groups_of core)) h in grind (arith, nat_tests)
+  next_less = let h : not (nat_lt e.cursor (groups_of core)) ≡ false = short in let k : nat_lt e.cursor (groups_of core) ≡ true = not-false (nat_lt e.cursor (groups_of core)) h in grind (arith, nat_tests)
 
   next_its : IsOfItsPartition core e
   next_its = let t = its past old new at tied sectors event in record { row = t.row; volume = t.volume; lp = t.lp; among = t.among; cursor = (let lt = next_less in omega (arith, lt)) }
@@ -135,7 +137,7 @@ module _ (past : List Fact) (old new : State) (at : ℕ) (tied : IsTied past old
     queue_still = λ k p at_k. put_there (gone v.queue c.place step_q) i next (place_of p.request.id) (apart_next k p at_k)
         ∙ gone_there v.queue c.place step_q (place_of p.request.id) (apart past old new at event.row true event.buf tied event.returns event.own c event.is_open k p at_k);
     name_still = λ k p at_k. let test : (place_of p.request.id == i) ≡ false = (let ne = apart_next k p at_k in grind (arith, nat_tests)) in ap (λ b. if b then no_request else v.name (place_of p.request.id)) test;
-    a_step = λ r. (next, put_here (gone v.queue c.place step_q) i next, record { lv = refl; first = refl; count = refl; write = refl; step = refl; hand = (refl, refl); failed = λ p bad. absurd (cc bad) });
+    a_step = λ r. (next, put_same (gone v.queue c.place step_q) i next, record { lv = refl; first = refl; count = refl; write = refl; step = refl; hand = (refl, refl); failed = λ p bad. absurd (cc bad) });
     only = λ j x at_j. elim (cases_eq j i) [
       | inl is ↦ inr (row_now, sym is)
       | inr ne ↦ inl (still_there j x (sym (put_there (gone v.queue c.place step_q) i next j ne) ∙ at_j))

@@ -18,7 +18,7 @@ use Rattle.lvm_disk.specs.Device.{AreSectors, Flight, HasSectors, Image, Media, 
 use Rattle.lvm_kept.specs.Contents.{Contents, contents_of}
 use Rattle.lvm_kept.specs.Places.{SameRecords}
 use Rattle.lvm_kept.specs.Torn.{RecordWrite}
-use Rattle.lvm_stamps.proofs.LawsLemmas.Writes.{data_keeps_before}
+use Rattle.lvm_steps.proofs.LawsLemmas.Writes.{data_keeps_before}
 use Rattle.lvm_commit.specs.Committed.{next_stamp}
 use Rattle.lvm_rec.proofs.SlotsLemmas.Next.{slot_for_same}
 use Rattle.lvm_status.specs.Update.{Stored}
@@ -39,27 +39,21 @@ use Rattle.lvm_invariant.specs.Events.{CopyWrite}
 use Rattle.lvm_invariant.proofs.EventsLemmas.Each.{each_keeps}
 use Rattle.lvm_crash.specs.Left.{KeepsGroup}
 use Rattle.lvm_crash.specs.Session.{Describes, members_showing}
-use Rattle.lvm_tie_shelf.specs.Bringing.{PassesOver}
-use Rattle.lvm_tie_shelf.specs.Owned.{IsTransfer, OnlyUpdateSince}
-use Rattle.lvm_tie_shelf.specs.Writing.{after_write}
-use Rattle.lvm_tie_shelf.proofs.BringingLemmas.{read_leaves, step_ends}
-use Rattle.lvm_tie_shelf.proofs.RecordsLemmas.Quiet.{update_goes_on}
-use Rattle.lvm_tie_shelf.proofs.WritingLemmas.{group_kept, records_same}
+use Rattle.lvm_crash.specs.Bringing.{PassesOver}
+use Rattle.lvm_crash.specs.Owned.{IsTransfer, OnlyUpdateSince}
+use Rattle.lvm_crash.specs.Writing.{after_write}
+use Rattle.lvm_crash.proofs.BringingLemmas.{read_leaves, step_ends}
+use Rattle.lvm_crash.proofs.RecordsLemmas.Quiet.{update_goes_on}
+use Rattle.lvm_crash.proofs.WritingLemmas.{group_kept, records_same}
 use Rattle.lvm_tie.proofs.TiedLemmas.Recorded.{records_kept}
 use Rattle.lvm_tie.specs.Out.{CarriesStep, CarryTheirs, MayUpdate}
 use Rattle.lvm_tie.specs.Seen.{SeesHand, SeesStep, step_write_in, step_write_of, update_of}
 use Rattle.lvm_tie.specs.Tied.{IsTied, ShowsRecords}
 use Rattle.lvm_tie.proofs.TiedLemmas.Orderly.{AreOut, HaveTickets, IsCopyOut, IsOut, StepIsOut, out_of, tickets_of, valid_of}
-use Rattle.lvm_tie.proofs.OutLemmas.Ended.{HasEnded, IsRow, has_ended, is_row}
+use Rattle.lvm_tie.proofs.OutLemmas.Ended.{HasEnded, IsRow, has_ended, is_row, row_of}
 use Rattle.lvm_tie.proofs.StepsLemmas.Leaving.{Stands}
 
 -- ---- its row
-
-row_of : (core : Core) (w : Option RecordWrite) (gs after : List Flight) (f : Flight) (rs : List Flown) → AreOut core w (gs ++ f ∷ after) rs → (k : ℕ) × (r : Flown) × (slice_get rs k ≡ Some r) × (f.ticket ≡ r.ticket)
-row_of core w [] after f [] out = absurd out
-row_of core w [] after f (r ∷ rs) out = (0, r, refl, out.0)
-row_of core w (g ∷ gs) after f [] out = absurd out
-row_of core w (g ∷ gs) after f (r ∷ rs) out = let x = row_of core w gs after f rs out.2 in (suc x.0, x.1, x.2, x.3)
 
 -- what it carries, if it is a step's
 carried : (core : Core) (w : Option RecordWrite) (v : ModelState) (before after : List Flight) (f : Flight) (rows : List Flown) (index : ℕ) (row : Flown)

@@ -17,18 +17,16 @@ use Rattle.lvm_invariant.specs.Good.{Good}
 use Rattle.lvm_invariant.specs.Take.{taken}
 use Rattle.lvm_invariant.specs.Want.{Wants}
 use Rattle.lvm_invariant.proofs.EventsLemmas.Each.{each_keeps}
+use Rattle.lvm_invariant.proofs.UpdatesLemmas.Requests.{put_same}
 use Rattle.lvm_crash.specs.Lasting.{AsksOf}
 use Rattle.lvm_crash.specs.Session.{Describes}
-use Rattle.lvm_tie_shelf.proofs.RecordsLemmas.Quiet.{quiet_lasts}
+use Rattle.lvm_crash.proofs.RecordsLemmas.Quiet.{quiet_lasts}
 
 -- ---- the queue
 
 -- a place of the queue whose step has ended and left it
 abbrev pub gone : (ℕ → Option Queued) → ℕ → Queued → ℕ → Option Queued
 gone queue i q = without (put queue i (land q)) i
-
-pub put_here : (queue : ℕ → Option Queued) (i : ℕ) (q : Queued) → put queue i q i ≡ Some q
-put_here queue i q = let test : (i == i) ≡ true = grind (arith, nat_tests) in ap (λ b. if b then Some q else queue i) test
 
 pub put_there : (queue : ℕ → Option Queued) (i : ℕ) (q : Queued) (j : ℕ) → (j ≡ i → ⊥) → put queue i q j ≡ queue j
 put_there queue i q j ne = let test : (j == i) ≡ false = grind (arith, nat_tests) in ap (λ b. if b then Some q else queue j) test
@@ -60,7 +58,7 @@ module _ (votes : Votes) (group : Descriptor) (update : Option (Stamped Status))
       let s1 : ModelState = with_req s i (land q) in
       let s2 : ModelState = taken s1 i (land q) in
       let first = quiet (EndStep i q) s s1 (record { there = at; step = is_step; unlanded = going }, refl) tt refl refl refl stands in
-      let second = quiet (Take i (land q)) s1 s2 (record { there = put_here s.queue i (land q); landed = refl }, refl) tt refl refl refl first in
+      let second = quiet (Take i (land q)) s1 s2 (record { there = put_same s.queue i (land q); landed = refl }, refl) tt refl refl refl first in
       let same : s2 ≡ record s { queue = gone s.queue i q } = λ t. record s { queue = gone s.queue i q; facts = if is_step t then s.facts else s.facts ++ Taken (s.name i) ∷ [] } in
       subst (Stands votes group update c) same second
 

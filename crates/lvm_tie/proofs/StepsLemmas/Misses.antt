@@ -6,6 +6,7 @@ use Rattle.lvm_num.specs.declared.place.Pp.{Pp}
 use Rattle.lvm_num.specs.Disks.{has}
 use Rattle.lvm_vol.specs.Facts.{Fact}
 use Rattle.lvm_num.specs.Descriptor.{is_pp}
+use Rattle.lvm_num.proofs.Booleans.{clash_gives}
 use Rattle.lvm_status.specs.Update.{Stored}
 use Rattle.lvm_session.specs.declared.bringing.OpenCopy.{OpenCopy}
 use Rattle.lvm_session.specs.declared.bringing.CopyEnd.{CopyEnd}
@@ -21,11 +22,11 @@ use Rattle.lvm_invariant.specs.CopyWrite.{copied}
 use Rattle.lvm_invariant.specs.Events.{Read}
 use Rattle.lvm_invariant.specs.Read.{reading}
 use Rattle.lvm_invariant.specs.Updates.{put}
-use Rattle.lvm_tie_shelf.proofs.WritingLemmas.{pp_same}
+use Rattle.lvm_crash.proofs.WritingLemmas.{pp_same}
 use Rattle.lvm_tie.specs.Seen.{SeesHand, SeesStep, update_of}
 use Rattle.lvm_tie.specs.Tied.{IsTied}
 use Rattle.lvm_tie.proofs.StateLemmas.{copy_is}
-use Rattle.lvm_tie.proofs.AmongLemmas.{clash, or_either, or_true, and_false}
+use Rattle.lvm_tie.proofs.AmongLemmas.{or_either, or_true, and_false}
 use Rattle.lvm_tie.proofs.StepsLemmas.Leaving.{Stands, quiet}
 use Rattle.lvm_tie.proofs.StepsLemmas.Landed.{at_q, hand, landed_read, now, q, read_stands, sees}
 use Rattle.lvm_tie.proofs.StepsLemmas.Stepped.{ended_ties, going_ties, wanted_stale}
@@ -58,7 +59,7 @@ module _ (past : List Fact) (old new : State) (at : ℕ) (tied : IsTied past old
   same : new.core.status ≡ core.status
   same = event.misses.reviews.marks.same (λ p due. ⊎_elim
       (λ (entailed : is_entailed mid p ≡ true). (tied.orderly.sound.on tied.orderly.on).going.behind p entailed)
-      (λ marked. clash (marked_by_end mid (copy_ends mid) p) marked (unmarked (copy_ends mid) p))
+      (λ marked. clash_gives (marked_by_end mid (copy_ends mid) p) marked (unmarked (copy_ends mid) p))
       (or_either (is_entailed mid p) (marked_by_end mid (copy_ends mid) p) due))
 
   core_is : (e : Option CopyEnd) → copy_ends mid ≡ e → new.core ≡ with_end mid e

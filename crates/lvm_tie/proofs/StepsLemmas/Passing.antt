@@ -1,6 +1,7 @@
 -- The write by which a copy is brought up ends well: it passes one track group.
 use Rattle.std.proofs.Common.{◌≡◌, ◌⊎◌, inl, inr, ℕ, ◌+◌, ◌*◌, ◌<◌, ◌≤◌, Bool, true, false, ◌&&◌, ◌||◌, ◌==◌, not, List, [], Option, Some, None, refl, sym, ap, subst, ◌∙◌, arith}
 use Rattle.std.specs.Prelude.{IsTrue, nat_le, nat_lt}
+use Rattle.std.proofs.lemmas.Bool.{and_parts, not-false}
 use Rattle.std.proofs.lemmas.Bool.Decides.{nat_tests}
 use Rattle.lvm_num.specs.declared.place.Pp.{Pp}
 use Rattle.lvm_num.specs.Descriptor.{is_member}
@@ -14,16 +15,14 @@ use Rattle.lvm_session.specs.Judging.{is_missing, is_stale}
 use Rattle.lvm_session.specs.Bringing.{block_at, groups_of, is_idle, is_whole, step_place}
 use Rattle.lvm_session.specs.Ends.{GoesOn, with_return, without_step}
 use Rattle.lvm_session.specs.Sound.{IsCopy}
-use Rattle.lvm_keeps_events.specs.EndsGroup.{EndsGroup}
+use Rattle.lvm_keeps_events.specs.GroupEnds.{EndsGroup}
 use Rattle.lvm_invariant.specs.State.{ModelCopy, Queued, ModelState, covers}
 use Rattle.lvm_invariant.specs.CopyWrite.{copied}
-use Rattle.lvm_tie_shelf.specs.Bringing.{PassesOver}
-use Rattle.lvm_tie_shelf.proofs.WritingLemmas.{and_both}
+use Rattle.lvm_crash.specs.Bringing.{PassesOver}
 use Rattle.lvm_tie.specs.Seen.{SeesCopy, SeesOpen, SeesRunning, SeesStep, passed_by, update_of}
 use Rattle.lvm_tie.specs.Tied.{IsTied}
 use Rattle.lvm_tie.proofs.StateLemmas.{IsOfItsPartition, copy_is, missing_seen, of_its}
 use Rattle.lvm_tie.proofs.BringingLemmas.{groups_are, step_member}
-use Rattle.lvm_tie.proofs.AmongLemmas.{not_false}
 use Rattle.lvm_tie.proofs.StepsLemmas.Leaving.{Stands, gone, step_left}
 use Rattle.lvm_tie.proofs.StepsLemmas.Landed.{HasLanded, at_q, landed_write, now, q, sees}
 use Rattle.lvm_tie.proofs.StepsLemmas.Stepped.{going}
@@ -33,8 +32,8 @@ use Rattle.lvm_tie.proofs.StepsLemmas.Stepped.{going}
 -- where one lies
 pub within : (base n g : ℕ) (a : Bool) → (a && nat_le base g && nat_lt g (base + n)) ≡ true → (a ≡ true) × (base ≤ g) × (g < base + n)
 within base n g a h =
-    let outer = and_both (a && nat_le base g) (nat_lt g (base + n)) h in
-    let inner = and_both a (nat_le base g) outer.0 in
+    let outer = and_parts (a && nat_le base g) (nat_lt g (base + n)) h in
+    let inner = and_parts a (nat_le base g) outer.0 in
     let low : nat_le base g ≡ true = inner.1 in
     let high : nat_lt g (base + n) ≡ true = outer.1 in
     (inner.0, grind (arith, nat_tests), grind (arith, nat_tests))
@@ -72,7 +71,7 @@ module _ (past : List Fact) (old new : State) (at : ℕ) (tied : IsTied past old
   part = its_copy.under_way event.runs (ap is_idle event.writes)
 
   pub less : event.copy.cursor < groups_of old.core
-  less = let h : not (nat_lt c.cursor (groups_of core)) ≡ false = part in let k : nat_lt c.cursor (groups_of core) ≡ true = not_false (nat_lt c.cursor (groups_of core)) h in grind (arith, nat_tests)
+  less = let h : not (nat_lt c.cursor (groups_of core)) ≡ false = part in let k : nat_lt c.cursor (groups_of core) ≡ true = not-false (nat_lt c.cursor (groups_of core)) h in grind (arith, nat_tests)
 
   pub its : IsOfItsPartition old.core event.copy
   its = of_its past old tied c event.is_open
@@ -88,7 +87,7 @@ module _ (past : List Fact) (old new : State) (at : ℕ) (tied : IsTied past old
   there = sym (missing_seen past old tied c.pp.disk member) ∙ subst (λ (p : Pp). v.missing p.disk ≡ false) seen_open.target (tied.good.sound.statuses.open_there seen_open.copy seen_open.is_open)
 
   pub stale : is_stale old.core event.copy.pp ≡ true
-  stale = (and_both (is_stale core c.pp) _ (its_copy.stale event.runs part).0).0
+  stale = (and_parts (is_stale core c.pp) _ (its_copy.stale event.runs part).0).0
 
   -- ---- what it has passed
 

@@ -19,8 +19,8 @@ use Rattle.lvm_invariant.specs.Events.{Read}
 use Rattle.lvm_invariant.specs.Read.{reading}
 use Rattle.lvm_invariant.specs.Updates.{put}
 use Rattle.lvm_num.specs.Descriptor.{is_pp}
-use Rattle.lvm_tie_shelf.specs.Bringing.{IsReading, in_buffer}
-use Rattle.lvm_tie_shelf.proofs.BringingLemmas.{read_gets}
+use Rattle.lvm_crash.specs.Bringing.{IsReading, in_buffer}
+use Rattle.lvm_crash.proofs.BringingLemmas.{read_gets}
 use Rattle.lvm_tie.specs.Seen.{SeesHand, SeesStep, update_of}
 use Rattle.lvm_tie.specs.Tied.{IsTied}
 use Rattle.lvm_tie.proofs.StateLemmas.{copy_is}

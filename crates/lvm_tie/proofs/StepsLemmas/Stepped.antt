@@ -23,20 +23,16 @@ use Rattle.lvm_session.specs.Sound.{IsCopy, IsSound}
 use Rattle.lvm_invariant.specs.State.{ModelCopy, Queued, ModelState, has_landed}
 use Rattle.lvm_invariant.specs.CopyWrite.{copied}
 use Rattle.lvm_invariant.specs.Updates.{put, with_block}
+use Rattle.lvm_invariant.proofs.UpdatesLemmas.Requests.{put_same}
 use Rattle.lvm_tie.specs.Out.{CarriesStep, CarryTheirs}
-use Rattle.lvm_tie.specs.Seen.{IsRequestAt, IsStepAt, Sees, SeesCopy, SeesOpen, SeesRunning, SeesStep, step_write_of, update_of}
+use Rattle.lvm_tie.specs.Seen.{IsRequestAt, IsStepAt, Sees, SeesCopy, SeesOpen, SeesRunning, SeesStep, update_of}
 use Rattle.lvm_tie.specs.Tied.{IsTied}
 use Rattle.lvm_tie.proofs.StateLemmas.{copy_is, wanted_seen}
 use Rattle.lvm_tie.proofs.TiedLemmas.Orderly.{orderly_same}
 use Rattle.lvm_tie.proofs.OutLemmas.Ended.{HasEnded}
-use Rattle.lvm_tie.proofs.StepsLemmas.Leaving.{Stands, copy_over, gone, gone_here, gone_there, put_here, put_there, step_left}
+use Rattle.lvm_tie.proofs.StepsLemmas.Leaving.{Stands, copy_over, gone, gone_here, gone_there, put_there, step_left}
 use Rattle.lvm_tie.proofs.StepsLemmas.Landed.{HasLanded, at_q, ended, hand, now, out, q, row_there, sees, since}
-
-step_none : (c : OpenCopy) (s : Step) → is_out s ≡ false → step_write_of c s ≡ None
-step_none c step.Idle h = refl
-step_none c (step.Reading source) h = absurd (cc h)
-step_none c (step.Read buf) h = refl
-step_none c step.Writing h = absurd (cc h)
+use Rattle.lvm_tie.proofs.NearLemmas.{no_write}
 
 -- ---- what is seen
 
@@ -81,7 +77,7 @@ module _ (past : List Fact) (core : Core) (v : ModelState) (c d : OpenCopy) (poo
     status = sees_v.status;
     notes = sees_v.notes;
     open_copy = its.open_seen;
-    step_write = sym (step_none d d.step its.rests);
+    step_write = sym (no_write d d.step its.rests);
   }
 
 -- the copy goes on with the same track groups behind it
@@ -227,7 +223,7 @@ module _ (past : List Fact) (old new : State) (at : ℕ) (row : Flown) (ok : Boo
           rests = rests;
           queue_still = λ k p there. put_there v.queue i next (place_of p.request.id) (apart k p there);
           name_still = λ k p there. refl;
-          a_step = λ r. (next, put_here v.queue i next, seen_step);
+          a_step = λ r. (next, put_same v.queue i next, seen_step);
           only = λ j x there. elim (cases_eq j i) [
             | inl e ↦ inr (row_now, sym e)
             | inr ne ↦ inl (ne, sym (put_there v.queue i next j ne) ∙ there)

@@ -2,7 +2,7 @@
 use Rattle.std.proofs.Common.{◌≡◌, ◌⊎◌, inl, inr, ⊎_elim, ℕ, ◌+◌, ◌*◌, ◌%◌, ◌<◌, ◌≤◌, Bool, true, false, ◌&&◌, ◌==◌, not, if◌then◌else◌, List, Option, Some, None, refl, sym, ap, subst, ◌∙◌, arith}
 use Rattle.std.specs.Prelude.{IsTrue, IsFalse, nat_le, nat_lt, slice_get, slice_set}
 use Rattle.std.specs.List.{list_any, range_with_len}
-use Rattle.std.proofs.lemmas.Bool.{cases_eq}
+use Rattle.std.proofs.lemmas.Bool.{cases_eq, and_parts}
 use Rattle.std.proofs.lemmas.Bool.Decides.{nat_tests}
 use Rattle.lvm_num.specs.declared.descriptor.LvRow.{LvRow}
 use Rattle.lvm_num.specs.declared.place.Pp.{Pp}
@@ -12,7 +12,7 @@ use Rattle.lvm_num.specs.Geometry.{partition_blocks, sector_of, track_group_of}
 use Rattle.lvm_num.specs.Note.{IsNote}
 use Rattle.lvm_num.specs.Record.{Stamped}
 use Rattle.lvm_num.specs.Status.{calls_stale}
-use Rattle.lvm_num.proofs.Booleans.{and_true}
+use Rattle.lvm_num.proofs.Booleans.{and_true, clash_gives}
 use Rattle.lvm_vol.specs.Facts.{Fact}
 use Rattle.lvm_disk.specs.Device.{HasSectors, image_of}
 use Rattle.lvm_kept.proofs.ChangesLemmas.Entries.{volume_is_row}
@@ -31,24 +31,24 @@ use Rattle.lvm_session.specs.Bringing.{copy_ends, end_by_sources, ends_if, group
 use Rattle.lvm_session.specs.Ends.{GoesOn, with_copy}
 use Rattle.lvm_session.specs.Marks.{Reviews, WantsFresh, can_replace, is_among, is_entailed, is_entailed_in, is_left_behind}
 use Rattle.lvm_session.specs.Sound.{IsSound}
-use Rattle.lvm_keeps_events.specs.EndsGroup.{EndsGroup}
+use Rattle.lvm_keeps_events.specs.GroupEnds.{EndsGroup}
 use Rattle.lvm_invariant.specs.State.{Marks, Queued, ModelState}
 use Rattle.lvm_invariant.specs.Clear.{Clears}
 use Rattle.lvm_invariant.specs.Events.{Clear}
 use Rattle.lvm_invariant.specs.Sound.{Complete}
 use Rattle.lvm_crash.specs.Session.{Describes, marks_of}
-use Rattle.lvm_tie_shelf.specs.Copies.{IsCopyOf}
-use Rattle.lvm_tie_shelf.specs.Owned.{OnlyUpdateSince}
-use Rattle.lvm_tie_shelf.proofs.CopiesLemmas.{one_block}
-use Rattle.lvm_tie_shelf.proofs.OwnedLemmas.{copy_of}
-use Rattle.lvm_tie_shelf.proofs.WritingLemmas.{and_both, pp_same}
+use Rattle.lvm_crash.specs.Copies.{IsCopyOf}
+use Rattle.lvm_crash.specs.Owned.{OnlyUpdateSince}
+use Rattle.lvm_crash.proofs.CopiesLemmas.{one_block}
+use Rattle.lvm_crash.proofs.OwnedLemmas.{copy_of}
+use Rattle.lvm_crash.proofs.WritingLemmas.{pp_same}
 use Rattle.lvm_tie.specs.Seen.{Sees, SeesRunning, passed_by, update_of}
 use Rattle.lvm_tie.specs.Tied.{IsTied}
 use Rattle.lvm_tie.proofs.StateLemmas.{IsOfItsPartition, stale_seen, wanted_seen}
 use Rattle.lvm_tie.proofs.TiedLemmas.Orderly.{valid_of}
 use Rattle.lvm_tie.proofs.BringingLemmas.{groups_are}
 use Rattle.lvm_tie.proofs.OutLemmas.Wanted.{next_same, records_wanted, sees_wanted, stamp_same, stays_open, update_same, write_same}
-use Rattle.lvm_tie.proofs.AmongLemmas.{any_one, clash, not_true, or_either, and_false}
+use Rattle.lvm_tie.proofs.AmongLemmas.{any_one, not_true, or_either, and_false}
 use Rattle.lvm_tie.proofs.StepsLemmas.Leaving.{Stands, gone, gone_here, gone_there, quiet}
 use Rattle.lvm_tie.proofs.StepsLemmas.Landed.{HasLanded, ended, now, q, since}
 use Rattle.lvm_tie.proofs.StepsLemmas.Stepped.{IsStepped, apart, carry_none, sees_stepped}
@@ -67,9 +67,9 @@ entailed_fresh core p is =
     let row = any_one (λ (r : LvRow). is_entailed_in core r p) core.descriptor.lvs is in
     let lp = any_one (λ (n : ℕ). is_left_behind core (copies_of row.0 n) p) (range_with_len 0 row.0.lps) row.2 in
     let copies = copies_of row.0 lp.0 in
-    let a = and_both (is_among copies p && not (is_stale core p) && is_missing core p.disk) (list_any (can_replace core) copies) lp.2 in
-    let b = and_both (is_among copies p && not (is_stale core p)) (is_missing core p.disk) a.0 in
-    not_true (is_stale core p) (and_both (is_among copies p) (not (is_stale core p)) b.0).1
+    let a = and_parts (is_among copies p && not (is_stale core p) && is_missing core p.disk) (list_any (can_replace core) copies) lp.2 in
+    let b = and_parts (is_among copies p && not (is_stale core p)) (is_missing core p.disk) a.0 in
+    not_true (is_stale core p) (and_parts (is_among copies p) (not (is_stale core p)) b.0).1
 
 module _ (past : List Fact) (old new : State) (at : ℕ) (tied : IsTied past old) (sound : IsSound new) (sectors : HasSectors new.device) (event : EndsGroup old new at)
     (full : is_whole old.core (d past old new at tied sectors event) ≡ true) where
@@ -144,7 +144,7 @@ module _ (past : List Fact) (old new : State) (at : ℕ) (tied : IsTied past old
         where
           by : (b : Bool) → is_pp p c.pp ≡ b → b ≡ false
           by false is2 = refl
-          by true is2 = clash (is_stale core p) (ap (is_stale core) (pp_same p c.pp is2) ∙ own_stale) (entailed_fresh core p was)
+          by true is2 = clash_gives (is_stale core p) (ap (is_stale core) (pp_same p c.pp is2) ∙ own_stale) (entailed_fresh core p was)
 
   no_end : copy_ends on ≡ None
   no_end =
@@ -156,7 +156,7 @@ module _ (past : List Fact) (old new : State) (at : ℕ) (tied : IsTied past old
   same : new.core.status ≡ status
   same = reviews.marks.same (λ p due. ⊎_elim
       (λ (entailed : is_entailed on p ≡ true). entailed_wanted p entailed)
-      (λ marked. clash (marked_by_end on (copy_ends on) p) marked (ap (λ (m : Option CopyEnd). marked_by_end on m p) no_end))
+      (λ marked. clash_gives (marked_by_end on (copy_ends on) p) marked (ap (λ (m : Option CopyEnd). marked_by_end on m p) no_end))
       (or_either (is_entailed on p) (marked_by_end on (copy_ends on) p) due))
 
   core_is : new.core ≡ on
@@ -215,17 +215,17 @@ module _ (past : List Fact) (old new : State) (at : ℕ) (tied : IsTied past old
     where
       by : (b : Bool) → is_pp p c.pp ≡ b → b ≡ false
       by false is = refl
-      by true is = clash (v.committed.value.stale p) (stale_seen past old tied p ∙ ap (is_stale core) (pp_same p c.pp is) ∙ own_stale) fresh
+      by true is = clash_gives (v.committed.value.stale p) (stale_seen past old tied p ∙ ap (is_stale core) (pp_same p c.pp is) ∙ own_stale) fresh
 
   clears : Clears was marks c.pp
   clears = record {
     complete = complete;
     stale = stale_seen past old tied c.pp ∙ own_stale;
     still = still;
-    added = λ p is. seen_stale p ∙ (and_both (calls_stale core.status.wanted p) (not (is_pp p c.pp)) (sym (fresher.stale p) ∙ is)).0;
+    added = λ p is. seen_stale p ∙ (and_parts (calls_stale core.status.wanted p) (not (is_pp p c.pp)) (sym (fresher.stale p) ∙ is)).0;
     still_dirty = λ lv is. ap (λ (ns : List ℕ). list_any (λ n. n == lv) ns) fresher.dirty ∙ sym (ap (λ (m : Marks). m.dirty lv) tied.sees.status.wanted) ∙ is;
     behind = λ lv b x y copy fresh missing other usable kept.
-        let y_fresh : v.committed.value.stale y ≡ false = not_true (v.committed.value.stale y) (and_both (not (v.committed.value.stale y)) (not (v.missing y.disk)) usable).0 in
+        let y_fresh : v.committed.value.stale y ≡ false = not_true (v.committed.value.stale y) (and_parts (not (v.committed.value.stale y)) (not (v.missing y.disk)) usable).0 in
         others_same x (not_own x fresh) ∙ tied.good.sound.behind.left_behind lv b x y copy fresh missing other usable (sym (others_same y (not_own y y_fresh)) ∙ kept);
   }
     where

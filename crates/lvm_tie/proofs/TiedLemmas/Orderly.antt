@@ -1,12 +1,12 @@
 -- What a sound session says of its requests and of what it has out, as the tie needs it.
-use Rattle.std.proofs.Common.{◌≡◌, ◌⊎◌, ⊎_elim, ℕ, zero, suc, ◌<◌, Bool, true, false, ◌&&◌, ◌||◌, ◌==◌, not, if◌then◌else◌, List, [], ◌∷◌, length, cond, Option, Some, None, slice_get, refl, sym, ap, subst, ◌∙◌, arith}
-use Rattle.std.specs.Prelude.{count_by, unwrap_or, AllPairs, IsTrue, nat_lt}
-use Rattle.std.specs.List.{list_any, list_all, AllByRecursion}
+use Rattle.std.proofs.Common.{◌≡◌, ℕ, zero, suc, ◌<◌, Bool, true, false, ◌&&◌, ◌||◌, ◌==◌, not, if◌then◌else◌, List, [], ◌∷◌, length, Option, Some, None, slice_get, refl, sym, ap, subst, ◌∙◌, arith}
+use Rattle.std.specs.Prelude.{unwrap_or, AllPairs, IsTrue, nat_lt}
 use Rattle.std.specs.Option.{option_map_or}
+use Rattle.std.proofs.lemmas.Map.Keys.{any_passes_from_place}
 use Rattle.std.proofs.lemmas.Bool.Decides.{nat_tests}
 use Rattle.std.proofs.lemmas.Option.{get_or_from_slice_get, slice_get_within}
-use Rattle.std.proofs.lemmas.Bool.{eq-eqb, eqb-true, and_parts, or_cases}
-use Rattle.std.proofs.lemmas.List.Sums.{sum_by-cons}
+use Rattle.std.proofs.lemmas.Bool.{eq-eqb, eqb-true, and_parts}
+use Rattle.lvm_keeps_events.proofs.Lists.{all_true_at, none_of_zero, found_at}
 use Rattle.arrayvec.specs.ArrayVec.{ArrayVec}
 use Rattle.lvm_num.specs.declared.record.NoteEntry.{NoteEntry}
 use Rattle.lvm_num.specs.declared.record.Kind.{Kind}
@@ -19,6 +19,8 @@ use Rattle.lvm_num.specs.Geometry.{sector_of}
 use Rattle.lvm_num.specs.Note.{Noted, note_bytes, note_in}
 use Rattle.lvm_num.specs.Record.{frame, record_sectors, slot_start}
 use Rattle.lvm_num.proofs.NoteLemmas.{written_is_read}
+use Rattle.lvm_num.proofs.Booleans.{not_so}
+use Rattle.lvm_num.proofs.Lists.{all_at}
 use Rattle.lvm_vol.specs.Facts.{Request as Asked}
 use Rattle.lvm_vol.specs.Log.{no_request, request_of}
 use Rattle.lvm_disk.specs.Device.{Flight}
@@ -53,34 +55,8 @@ use Rattle.lvm_session.specs.Requests.{IsOpenOne, IsPhase, IsRequest, IsTarget}
 use Rattle.lvm_session.specs.Sound.{IsAsked, IsGoing, IsOn, IsSound}
 use Rattle.lvm_tie.specs.Out.{AreNotes, IsWriteOf, is_owed_on}
 use Rattle.lvm_tie.specs.Tied.{IsOrderly}
-use Rattle.lvm_keeps_events.proofs.Finding.{some_there}
 
 -- ---- lists
-
-pub all_at : {A : Type 0} (P : A → Type 0) (xs : List A) (k : ℕ) (x : A) → AllByRecursion P xs → slice_get xs k ≡ Some x → P x
-all_at P [] k x all there = absurd (cc there)
-all_at P (y ∷ xs) zero x all there = let same : y ≡ x = cc there in subst P same all.0
-all_at P (y ∷ xs) (suc k) x all there = all_at P xs k x all.1 there
-
-false_so : {X : Type 0} → false ≡ true → X
-false_so e = absurd (cc e)
-
-pub any_there : {A : Type 0} (t : A → Bool) (xs : List A) → list_any t xs ≡ true → (k : ℕ) × (x : A) × (slice_get xs k ≡ Some x) × (t x ≡ true)
-any_there t [] is = false_so is
-any_there t (x ∷ xs) is = ⊎_elim (λ here. (0, x, refl, here)) (λ later. let r = any_there t xs later in (suc r.0, r.1, r.2, r.3)) (or_cases (t x) (list_any t xs) is)
-
-all_there : {A : Type 0} (t : A → Bool) (xs : List A) (k : ℕ) (x : A) → list_all t xs ≡ true → slice_get xs k ≡ Some x → t x ≡ true
-all_there t [] k x all there = absurd (cc there)
-all_there t (y ∷ xs) zero x all there = let same : y ≡ x = cc there in ap t (sym same) ∙ (and_parts (t y) (list_all t xs) all).0
-all_there t (y ∷ xs) (suc k) x all there = all_there t xs k x (and_parts (t y) (list_all t xs) all).1 there
-
-none_counted : {A : Type 0} (t : A → Bool) (xs : List A) → count_by t xs ≡ 0 → list_any t xs ≡ false
-none_counted t [] none = refl
-none_counted t (x ∷ xs) none = by (t x) refl (none_counted t xs)
-  where
-    by : (b : Bool) → t x ≡ b → (count_by t xs ≡ 0 → list_any t xs ≡ false) → b || list_any t xs ≡ false
-    by true is rest = let more = sum_by-cons (λ y. cond (t y) 1 0) x xs in let one : ◌≡◌ {A = ℕ} (cond (t x) 1 0) 1 = ap (λ b. cond b 1 0) is in absurd (omega (arith, more, one, none))
-    by false is rest = rest (let more = sum_by-cons (λ y. cond (t y) 1 0) x xs in let one : ◌≡◌ {A = ℕ} (cond (t x) 1 0) 0 = ap (λ b. cond b 1 0) is in omega (arith, more, one, none))
 
 -- ---- the table
 
@@ -105,11 +81,11 @@ tickets_differ (r ∷ rows) differ zero zero a b at too same = refl
 tickets_differ (r ∷ rows) differ zero (suc k) a b at too same =
     let first : r ≡ a = cc at in
     let is : (b.ticket == r.ticket) ≡ true = eq-eqb b.ticket r.ticket (sym same ∙ ap (λ (x : Flown). x.ticket) (sym first)) in
-    absurd (let e : true ≡ false = sym (some_there (λ (other : Flown). other.ticket == r.ticket) rows k b too is) ∙ differ.0 in cc)
+    absurd (let e : true ≡ false = sym (any_passes_from_place (λ (other : Flown). other.ticket == r.ticket) rows k b too is) ∙ differ.0 in cc)
 tickets_differ (r ∷ rows) differ (suc j) zero a b at too same =
     let first : r ≡ b = cc too in
     let is : (a.ticket == r.ticket) ≡ true = eq-eqb a.ticket r.ticket (same ∙ ap (λ (x : Flown). x.ticket) (sym first)) in
-    absurd (let e : true ≡ false = sym (some_there (λ (other : Flown). other.ticket == r.ticket) rows j a at is) ∙ differ.0 in cc)
+    absurd (let e : true ≡ false = sym (any_passes_from_place (λ (other : Flown). other.ticket == r.ticket) rows j a at is) ∙ differ.0 in cc)
 tickets_differ (r ∷ rows) differ (suc j) (suc k) a b at too same = ap (λ n. suc n) (tickets_differ rows differ.1 j k a b at too same)
 
 -- partitions of targets differ
@@ -138,7 +114,7 @@ pub record HasTargets (core : Core) (o : Open) : Type 0 where
   pub blocks : is_write o.request.ask ≡ true → length (request_of core.history.facts o.request.id).blocks ≡ count_of o.request.ask
 
 pub begun_by : (ts : List Target) (number : ℕ) (t : Target) → slice_get ts number ≡ Some t → is_unstarted t.state ≡ false → is_begun ts ≡ true
-begun_by ts number t there started = some_there (λ (u : Target). not (is_unstarted u.state)) ts number t there (ap not started)
+begun_by ts number t there started = any_passes_from_place (λ (u : Target). not (is_unstarted u.state)) ts number t there (ap not started)
 
 -- ---- what is out
 
@@ -261,8 +237,8 @@ module _ (s : State) (w : Option RecordWrite) (orderly : IsOrderly s w) where
       by : (b : Bool) → flies core row.owner ≡ b → b ≡ true
       by true is = refl
       by false is =
-          let none = none_counted (λ (f : Flown). same_owner row.owner f.owner) core.flying (going.owned row.owner ∙ ap (λ b. if b then 1 else 0) is) in
-          sym none ∙ some_there (λ (f : Flown). same_owner row.owner f.owner) core.flying k row there (same_self row.owner)
+          let none = none_of_zero (λ (f : Flown). same_owner row.owner f.owner) core.flying (going.owned row.owner ∙ ap (λ b. if b then 1 else 0) is) in
+          sym none ∙ any_passes_from_place (λ (f : Flown). same_owner row.owner f.owner) core.flying k row there (same_self row.owner)
 
   -- a request of which a transfer is out has not landed, and moves its data
   pub record IsMoving (o : Open) : Type 0 where
@@ -280,22 +256,22 @@ module _ (s : State) (w : Option RecordWrite) (orderly : IsOrderly s w) where
       by_phase phase.WantEntry is its = absurd (let e : false ≡ true = sym its.0 ∙ started in cc)
       by_phase phase.WantRecord is its = absurd (let e : false ≡ true = sym its.0 ∙ started in cc)
       by_phase phase.Data is its = refl
-      by_phase phase.WantStatus is its = absurd (let e : false ≡ true = sym (ap is_over flying) ∙ all_there (λ (u : Target). is_over u.state) o.request.targets.items number t its.1 at in cc)
+      by_phase phase.WantStatus is its = absurd (let e : false ≡ true = sym (ap is_over flying) ∙ all_true_at (λ (u : Target). is_over u.state) o.request.targets.items number t its.1 at in cc)
       by_phase phase.Landed is its = absurd its
 
       by : (b : Bool) → is_waiting o ≡ b → IsMoving o
       by true waits = record { waiting = waits; moving = by_phase o.request.phase refl (waiting_one k o there waits).shape.phase_is }
-      by false over = absurd (let e : false ≡ true = sym ((open_one k o there).still over) ∙ some_there (λ (u : Target). is_flying u.state) o.request.targets.items number t at (ap is_flying flying) in cc)
+      by false over = absurd (let e : false ≡ true = sym ((open_one k o there).still over) ∙ any_passes_from_place (λ (u : Target). is_flying u.state) o.request.targets.items number t at (ap is_flying flying) in cc)
 
   is_flying_state : (x : TargetState) → is_flying x ≡ true → x ≡ target.Flying
-  is_flying_state target.Waiting is = false_so is
+  is_flying_state target.Waiting is = not_so is
   is_flying_state target.Flying is = refl
-  is_flying_state target.Done is = false_so is
-  is_flying_state target.Failed is = false_so is
+  is_flying_state target.Done is = not_so is
+  is_flying_state target.Failed is = not_so is
 
   data_out : (id number : ℕ) (f : Flight) → flies core (owner.Data id number) ≡ true → IsDataOf core id number f → IsDataOut core f id number
   data_out id number f out its =
-      let found = any_there (λ (o : Open). o.request.id == id && target_flies number o) core.requests out in
+      let found = found_at (λ (o : Open). o.request.id == id && target_flies number o) core.requests out in
       let parts = and_parts (found.1.request.id == id) (target_flies number found.1) found.3 in
       let same : found.0 ≡ its.place = numbers_of found.0 its.place found.1 its.request found.2 its.there (eqb-true found.1.request.id id parts.0 ∙ sym its.own) in
       let own : found.1 ≡ its.request = let e : Some found.1 ≡ Some its.request = sym found.2 ∙ ap (slice_get core.requests) same ∙ its.there in cc in

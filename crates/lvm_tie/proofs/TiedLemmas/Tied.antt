@@ -38,9 +38,9 @@ use Rattle.lvm_invariant.specs.State.{Flying, Going, Groups, Queued, ModelState,
 use Rattle.lvm_num.specs.Descriptor.{is_pp}
 use Rattle.lvm_crash.specs.Flights.{Matches}
 use Rattle.lvm_crash.proofs.LawsLemmas.Images.{images_kept}
-use Rattle.lvm_tie_shelf.proofs.OwnedLemmas.{owners_have_out, covers_its}
-use Rattle.lvm_tie_shelf.proofs.WritingLemmas.{pp_same, same_pp}
-use Rattle.lvm_tie_shelf.specs.Owned.{IsTransfer, IsDataFlight, IsOfUpdate, IsOwned, AllOwned}
+use Rattle.lvm_crash.proofs.OwnedLemmas.{owners_have_out, covers_its}
+use Rattle.lvm_crash.proofs.WritingLemmas.{pp_same, same_pp}
+use Rattle.lvm_crash.specs.Owned.{IsTransfer, IsDataFlight, IsOfUpdate, IsOwned, AllOwned}
 use Rattle.lvm_tie.proofs.StateLemmas.{aimed_of}
 use Rattle.lvm_tie.proofs.TiedLemmas.Orderly.{AreOut, Differ, HasTargets, IsCopyOut, IsDataOut, IsNoteOut, IsOfUpdateOut, IsOut, StepIsOut, begun_by, out_of, targets_of, valid_of}
 use Rattle.lvm_tie.specs.Out.{CarriesStep, CarryTheirs}

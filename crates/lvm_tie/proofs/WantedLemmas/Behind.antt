@@ -1,9 +1,9 @@
 -- What missing disks and the end of the open copy entail is wanted, and the state wants it.
-use Rattle.std.proofs.Common.{◌≡◌, ◌≢◌, ◌⊎◌, inl, inr, ⊎_elim, ℕ, zero, suc, ◌+◌, ◌*◌, ◌<◌, ◌≤◌, Bool, true, false, ◌&&◌, ◌||◌, ◌==◌, not, List, [], ◌∷◌, Option, Some, None, refl, sym, ap, subst, ◌∙◌, arith}
+use Rattle.std.proofs.Common.{◌≡◌, ◌≢◌, ◌⊎◌, inl, inr, ⊎_elim, ℕ, ◌+◌, ◌*◌, ◌<◌, ◌≤◌, Bool, true, false, ◌&&◌, ◌||◌, ◌==◌, not, List, Option, Some, None, refl, sym, ap, subst, ◌∙◌, arith}
 use Rattle.std.specs.Prelude.{IsTrue, IsFalse}
 use Rattle.std.specs.List.{list_any, range_with_len}
 use Rattle.std.proofs.lemmas.Bool.Decides.{nat_tests}
-use Rattle.std.proofs.lemmas.Bool.{cases_Bool}
+use Rattle.std.proofs.lemmas.Bool.{cases_Bool, and_parts, not-false}
 use Rattle.lvm_num.specs.declared.place.Pp.{Pp}
 use Rattle.lvm_num.specs.declared.descriptor.LvRow.{LvRow}
 use Rattle.lvm_num.specs.declared.descriptor.Descriptor.{Descriptor}
@@ -11,6 +11,8 @@ use Rattle.lvm_num.specs.Disks.{Disks}
 use Rattle.lvm_num.specs.Descriptor.{IsValid, copies_of, is_member, is_pp}
 use Rattle.lvm_num.specs.Geometry.{partition_blocks}
 use Rattle.lvm_num.specs.Status.{calls_stale}
+use Rattle.lvm_num.proofs.Booleans.{clash_gives}
+use Rattle.lvm_num.proofs.AmongLemmas.{in_range, one_any, of_range}
 use Rattle.lvm_vol.specs.Facts.{Fact}
 use Rattle.lvm_kept.specs.Group.{IsBlockOf, IsOneOf}
 use Rattle.lvm_map.proofs.Parts.{parts}
@@ -26,12 +28,12 @@ use Rattle.lvm_session.specs.Marks.{WantsStale, can_replace, is_among, is_left_b
 use Rattle.lvm_invariant.specs.State.{Marks, ModelCopy, ModelState}
 use Rattle.lvm_invariant.specs.Want.{Replaced, Wants}
 use Rattle.lvm_crash.specs.Session.{marks_of, HasVolumes}
-use Rattle.lvm_tie_shelf.proofs.CopiesLemmas.{copy_placed}
-use Rattle.lvm_tie_shelf.proofs.WritingLemmas.{and_both, same_pp}
-use Rattle.lvm_tie_shelf.specs.Copies.{IsCopyOf}
+use Rattle.lvm_crash.proofs.CopiesLemmas.{copy_placed}
+use Rattle.lvm_crash.proofs.WritingLemmas.{same_pp}
+use Rattle.lvm_crash.specs.Copies.{IsCopyOf}
 use Rattle.lvm_tie.proofs.StateLemmas.{among_one, found_any}
 use Rattle.lvm_tie.specs.Wanted.{HasOwners, KeepsFresh, SeesMarks}
-use Rattle.lvm_tie.proofs.AmongLemmas.{or_left, or_either, or_true, any_one, not_true, not_false, and_not, clash}
+use Rattle.lvm_tie.proofs.AmongLemmas.{or_left, or_either, or_true, any_one, not_true, and_not}
 
 -- it is stale, and a copy that the state sees
 abbrev pub IsMarked : Core → ModelState → Pp → Type 0
@@ -39,27 +41,12 @@ IsMarked core v p = (is_stale core p ≡ true) × ((lv : ℕ) × (b : ℕ) × Is
 
 -- ---- lists
 
--- what one passes, any does
-one_any : {X : Type 0} (test : X → Bool) (xs : List X) (x : X) → IsOneOf xs x → test x ≡ true → list_any test xs ≡ true
-one_any test [] x one passes = absurd one
-one_any test (y ∷ ys) x (inl here) passes = or_true (test y) (list_any test ys) (inl (sym (ap test here) ∙ passes))
-one_any test (y ∷ ys) x (inr there) passes = or_true (test y) (list_any test ys) (inr (one_any test ys x there passes))
-
 from_on : (a k : ℕ) → a ≤ k → (k ≡ a) ⊎ (a + 1 ≤ k)
 from_on a k low = by (k == a) refl
   where
     by : (b : Bool) → (k == a) ≡ b → (k ≡ a) ⊎ (a + 1 ≤ k)
     by true is = inl (grind (arith, nat_tests))
     by false is = inr (let ne : k ≢ a = grind (arith, nat_tests) in grind (arith, nat_tests))
-
-in_range : (a n k : ℕ) → a ≤ k → k < a + n → IsOneOf (range_with_len a n) k
-in_range a zero k low high = absurd (omega arith)
-in_range a (suc n) k low high = ⊎_elim (λ same. inl same) (λ above. inr (in_range (a + 1) n k above (omega arith))) (from_on a k low)
-
-of_range : (a n k : ℕ) → IsOneOf (range_with_len a n) k → k < a + n
-of_range a zero k one = absurd one
-of_range a (suc n) k (inl is) = omega arith
-of_range a (suc n) k (inr there) = let r = of_range (a + 1) n k there in omega arith
 
 -- the first block of a logical partition of a volume
 pub first_block : (group : Descriptor) → IsValid group → (row : LvRow) (lp : ℕ) → lp < row.lps → (b : ℕ) × IsBlockOf group.mib row lp b
@@ -116,12 +103,12 @@ module _ (core : Core) (v : ModelState) (missing : ℕ → Bool) (how : Option C
       let row = any_one (λ (r : LvRow). is_entailed_in core r p) group.lvs is in
       let lp = any_one (λ (n : ℕ). is_left_behind core (copies_of row.0 n) p) (range_with_len 0 row.0.lps) row.2 in
       let copies = copies_of row.0 lp.0 in
-      let a = and_both (is_among copies p && not (is_stale core p) && is_missing core p.disk) (list_any (can_replace core) copies) lp.2 in
-      let c = and_both (is_among copies p && not (is_stale core p)) (is_missing core p.disk) a.0 in
-      let b = and_both (is_among copies p) (not (is_stale core p)) c.0 in
+      let a = and_parts (is_among copies p && not (is_stale core p) && is_missing core p.disk) (list_any (can_replace core) copies) lp.2 in
+      let c = and_parts (is_among copies p && not (is_stale core p)) (is_missing core p.disk) a.0 in
+      let b = and_parts (is_among copies p) (not (is_stale core p)) c.0 in
       let e = any_one (can_replace core) copies a.1 in
-      let f = and_both (is_usable core e.0) (not (is_wanted_stale core e.0)) e.2 in
-      let g = and_both (not (is_stale core e.0)) (not (is_missing core e.0.disk)) f.0 in
+      let f = and_parts (is_usable core e.0) (not (is_wanted_stale core e.0)) e.2 in
+      let g = and_parts (not (is_stale core e.0)) (not (is_missing core e.0.disk)) f.0 in
       record {
         row = row.0;
         one = row.1;
@@ -142,7 +129,7 @@ module _ (core : Core) (v : ModelState) (missing : ℕ → Bool) (how : Option C
     where
       by : (b : Bool) → is_entailed core p ≡ b → b ≡ false
       by false is = refl
-      by true is = clash (is_missing core p.disk) (left p is).gone there
+      by true is = clash_gives (is_missing core p.disk) (left p is).gone there
 
   -- one that is fresh by what is committed isn't the one that is marked
   unmarked : (p : Pp) → is_stale core p ≡ false → marked_by_end core how p ≡ false
@@ -150,7 +137,7 @@ module _ (core : Core) (v : ModelState) (missing : ℕ → Bool) (how : Option C
     where
       by : (b : Bool) → marked_by_end core how p ≡ b → b ≡ false
       by false is = refl
-      by true is = clash (is_stale core p) (marked p is).0 fresh
+      by true is = clash_gives (is_stale core p) (marked p is).0 fresh
 
   -- one that is sure and can be read isn't due
   stays_sure : (p : Pp) → is_stale core p ≡ false → is_missing core p.disk ≡ false → is_wanted_stale core p ≡ false → IsFalse (marks.stale p)
@@ -183,7 +170,7 @@ module _ (core : Core) (v : ModelState) (missing : ℕ → Bool) (how : Option C
       (λ hidden. inr (λ lv b copy.
       let inside = volumes.inside lv b p copy in
       let own = (volumes.copies inside.row inside.lp b p inside.volume inside.inside).0 (subst (λ n. IsTrue (v.is_copy n b p)) (sym inside.number) copy) in
-      clash (members p.disk) own.1 hidden))
+      clash_gives (members p.disk) own.1 hidden))
       (cases_Bool (members p.disk))
 
   replaced_marked : (p : Pp) → marked_by_end core how p ≡ true → Replaced v marks p
@@ -214,10 +201,10 @@ module _ (core : Core) (v : ModelState) (missing : ℕ → Bool) (how : Option C
       let its = (volumes.copies row lp b c inside.volume inside.inside).0 (subst (λ n. IsTrue (v.is_copy n b c)) (sym inside.number) copy) in
       let others = (volumes.copies row lp b q inside.volume inside.inside).0 (subst (λ n. IsTrue (v.is_copy n b q)) (sym inside.number) other) in
       let member = on_member row lp b c inside.volume inside.inside its.0 in
-      let use_ = and_both (not (v.committed.value.stale q)) (not (missing q.disk)) usable in
+      let use_ = and_parts (not (v.committed.value.stale q)) (not (missing q.disk)) usable in
       let q_fresh : is_stale core q ≡ false = sym (stale_seen q) ∙ not_true (v.committed.value.stale q) use_.0 in
-      let q_shown : is_there core q.disk ≡ true = not_false (is_there core q.disk) (sym (sees.missing_is q.disk) ∙ not_true (missing q.disk) use_.1) in
-      let q_there : is_missing core q.disk ≡ false = not_true (is_missing core q.disk) (and_both (is_member group q.disk) (not (is_missing core q.disk)) q_shown).1 in
+      let q_shown : is_there core q.disk ≡ true = not-false (is_there core q.disk) (sym (sees.missing_is q.disk) ∙ not_true (missing q.disk) use_.1) in
+      let q_there : is_missing core q.disk ≡ false = not_true (is_missing core q.disk) (and_parts (is_member group q.disk) (not (is_missing core q.disk)) q_shown).1 in
       let q_kept : is_wanted_stale core q ≡ false = (or_left (is_wanted_stale core q) (due q) (sym (wants.stale q) ∙ kept)).0 in
       let can : can_replace core q ≡ true = λ k. (not (q_fresh k) && not (q_there k)) && not (q_kept k) in
       let c_fresh : is_stale core c ≡ false = sym (stale_seen c) ∙ fresh in

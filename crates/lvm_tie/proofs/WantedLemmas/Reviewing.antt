@@ -2,11 +2,13 @@
 use Rattle.std.proofs.Common.{◌≡◌, ◌⊎◌, inl, inr, ℕ, Bool, true, false, ◌&&◌, ◌||◌, not, List, Option, Some, None, refl, sym, ap, subst, ◌∙◌}
 use Rattle.std.specs.Prelude.{IsTrue, IsFalse, ◌==◌, if◌then◌else◌, is_none, length, unwrap_or}
 use Rattle.std.specs.Option.{option_map_or}
+use Rattle.std.proofs.lemmas.Bool.{and_parts, not-false}
 use Rattle.std.proofs.lemmas.Option.{same_Some}
 use Rattle.lvm_num.specs.declared.place.Pp.{Pp}
 use Rattle.lvm_num.specs.Disks.{Disks}
 use Rattle.lvm_num.specs.Descriptor.{IsValid, is_member, is_pp}
 use Rattle.lvm_num.specs.Status.{calls_stale}
+use Rattle.lvm_num.proofs.Booleans.{clash_gives}
 use Rattle.lvm_vol.specs.Facts.{Fact}
 use Rattle.lvm_kept.proofs.ChangesLemmas.Entries.{volume_is_row}
 use Rattle.lvm_session.specs.declared.bringing.OpenCopy.{OpenCopy}
@@ -19,10 +21,10 @@ use Rattle.lvm_session.specs.Marks.{Reviews, is_entailed}
 use Rattle.lvm_invariant.specs.State.{ModelCopy, ModelState}
 use Rattle.lvm_invariant.specs.Want.{Wants}
 use Rattle.lvm_crash.specs.Session.{HasVolumes, marks_of}
-use Rattle.lvm_tie_shelf.proofs.WritingLemmas.{and_both, pp_same, same_pp}
+use Rattle.lvm_crash.proofs.WritingLemmas.{pp_same, same_pp}
 use Rattle.lvm_tie.proofs.StateLemmas.{copy_is, of_its, there_first}
 use Rattle.lvm_tie.proofs.TiedLemmas.Orderly.{valid_of}
-use Rattle.lvm_tie.proofs.AmongLemmas.{clash, not_false, not_true, or_true}
+use Rattle.lvm_tie.proofs.AmongLemmas.{not_true, or_true}
 use Rattle.lvm_tie.specs.Seen.{SeesCopy, SeesRunning}
 use Rattle.lvm_tie.specs.Tied.{IsTied}
 use Rattle.lvm_tie.specs.Near.{open_after}
@@ -85,8 +87,8 @@ opened past s tied c is runs =
     let own = copy_is past s tied c is in
     let open_there : IsFalse (v.missing sees.copy.target.disk) = tied.good.sound.statuses.open_there sees.copy sees.is_open in
     let at : IsFalse (v.missing c.pp.disk) = ap (λ (p : Pp). v.missing p.disk) (sym sees.target) ∙ open_there in
-    let there : is_there core c.pp.disk ≡ true = not_false (is_there core c.pp.disk) (sym (tied.sees.status.missing c.pp.disk) ∙ at) in
-    let both = and_both (is_member core.descriptor c.pp.disk) (not (is_missing core c.pp.disk)) there in
+    let there : is_there core c.pp.disk ≡ true = not-false (is_there core c.pp.disk) (sym (tied.sees.status.missing c.pp.disk) ∙ at) in
+    let both = and_parts (is_member core.descriptor c.pp.disk) (not (is_missing core c.pp.disk)) there in
     let gone = not_true (is_missing core c.pp.disk) both.1 in
     let b = first_block core.descriptor (valid_of s tied.write tied.orderly) its.row c.lp its.lp in
     let shown = tied.recorded.members c.pp.disk both.0 (there_first past s tied c.pp.disk gone) in (
@@ -131,8 +133,8 @@ module _ (core new : Core) (v : ModelState) (missing : ℕ → Bool) (facts : Li
       at e ends h =
           let its = ends_running core e ends in
           let b = brought its.copy its.is_open its.runs in
-          let parts = and_both (not (is_done_end e)) (is_whole core its.copy && is_pp p its.copy.pp) (sym (ap (λ (m : Option OpenCopy). not (is_done_end e) && option_map_or (λ (c : OpenCopy). is_whole core c && is_pp p c.pp) m false) its.is_open) ∙ h) in
-          let both = and_both (is_whole core its.copy) (is_pp p its.copy.pp) parts.1 in
+          let parts = and_parts (not (is_done_end e)) (is_whole core its.copy && is_pp p its.copy.pp) (sym (ap (λ (m : Option OpenCopy). not (is_done_end e) && option_map_or (λ (c : OpenCopy). is_whole core c && is_pp p c.pp) m false) its.is_open) ∙ h) in
+          let both = and_parts (is_whole core its.copy) (is_pp p its.copy.pp) parts.1 in
           let same : p ≡ its.copy.pp = pp_same p its.copy.pp both.1 in
           (ap (is_stale core) same ∙ b.whole both.0, (b.there.0, b.there.1, ap (v.is_copy b.there.0 b.there.1) same ∙ b.there.2))
 
@@ -156,9 +158,9 @@ module _ (core new : Core) (v : ModelState) (missing : ℕ → Bool) (facts : Li
 
       cleared_not : (c : OpenCopy) → is_stale core c.pp ≡ true → is_cleared core c ≡ true → ⊥
       cleared_not c stale cleared =
-          let a = and_both (not (is_stale core c.pp) && not (calls_stale (unwrap_or core.status.in_flight core.status.committed) c.pp)) (not (is_wanted_stale core c.pp)) cleared in
-          let b = and_both (not (is_stale core c.pp)) (not (calls_stale (unwrap_or core.status.in_flight core.status.committed) c.pp)) a.0 in
-          clash (is_stale core c.pp) stale (not_true (is_stale core c.pp) b.0)
+          let a = and_parts (not (is_stale core c.pp) && not (calls_stale (unwrap_or core.status.in_flight core.status.committed) c.pp)) (not (is_wanted_stale core c.pp)) cleared in
+          let b = and_parts (not (is_stale core c.pp)) (not (calls_stale (unwrap_or core.status.in_flight core.status.committed) c.pp)) a.0 in
+          clash_gives (is_stale core c.pp) stale (not_true (is_stale core c.pp) b.0)
 
       by : (c : OpenCopy) → core.copy ≡ Some c → is_running c ≡ true → IsBrought core v c → (w : Bool) → is_whole core c ≡ w → (is_wanted_stale core c.pp ≡ true) ⊎ ((is_entailed core c.pp || marked_by_end core how c.pp) ≡ true)
       by c is runs b false part = inl (b.part part)
@@ -181,7 +183,7 @@ module _ (core new : Core) (v : ModelState) (missing : ℕ → Bool) (facts : Li
 
       of : (c : OpenCopy) → core.copy ≡ Some c → (b : Bool) → is_running c ≡ b → IsFalse (missing o.target.disk)
       of c is true runs = found c is runs
-      of c is false over = absurd (let e : None ≡ Some o = sym (none (λ d there runs. clash (is_running d) runs (ap is_running (same_Some d c (sym there ∙ is)) ∙ over))) ∙ at in cc)
+      of c is false over = absurd (let e : None ≡ Some o = sym (none (λ d there runs. clash_gives (is_running d) runs (ap is_running (same_Some d c (sym there ∙ is)) ∙ over))) ∙ at in cc)
 
       by : (m : Option OpenCopy) → core.copy ≡ m → IsFalse (missing o.target.disk)
       by None is = absurd (let e : None ≡ Some o = sym (none (λ d there runs. let e2 : None ≡ Some d = sym is ∙ there in cc)) ∙ at in cc)

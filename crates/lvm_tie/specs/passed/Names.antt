@@ -3,4 +3,10 @@ pub use Rattle.lvm_commit.specs.Committed.{Began, HoldsCommitted, ShowsCommitted
 pub use Rattle.lvm_commit.specs.LawsOfFinding.{FindsNothingNew}
 pub use Rattle.lvm_commit.specs.LawsOfVolumes.{IsOneByAllOn}
 pub use Rattle.lvm_commit.specs.Settling.{NoneIsLeft, there}
-pub use Rattle.lvm_tie_shelf.specs.Owned.{OnlyUpdateSince}
+pub use Rattle.lvm_crash.specs.Owned.{OnlyUpdateSince}
+pub use Rattle.lvm_keeps_events.specs.Reading.{GetsItsBlocks}
+pub use Rattle.lvm_keeps_events.specs.Telling.{SameRoom, TurnTells, power_by}
+pub use Rattle.lvm_keeps_events.specs.Turning.{is_last}
+pub use Rattle.lvm_rest.specs.Closed.{AllLand}
+pub use Rattle.lvm_rest.specs.Examples.{Pair, device_of, even_pair, framed_group, framed_status, media_of, pair_sizes, past_of}
+pub use Rattle.lvm_rest.specs.Rest.{IsEven, NoneIsBehind}

@@ -5,6 +5,7 @@ use Rattle.lvm_num.specs.declared.status.Status.{Status}
 use Rattle.lvm_num.specs.Descriptor.{is_member}
 use Rattle.lvm_num.specs.Record.{Stamped}
 use Rattle.lvm_num.specs.Status.{calls_missing}
+use Rattle.lvm_num.proofs.Lists.{of_told}
 use Rattle.lvm_disk.specs.Device.{HasSectors, Media, image_of}
 use Rattle.lvm_disk.specs.Steps.{BothTold}
 use Rattle.lvm_disk.proofs.PathsLemmas.{last-path}
@@ -22,17 +23,16 @@ use Rattle.lvm_session.specs.Judging.{is_missing}
 use Rattle.lvm_session.specs.Sound.{IsSound}
 use Rattle.lvm_handover.specs.passed.Names.{moment_of, IsHeld, NotesAreHome, StartsHeld, EntersVolumes, IsOfCommand, Leaves, Scope, IsSettled, GroupFault, IfOn, is_over}
 use Rattle.lvm_handover.specs.passed.Volumes.{IfAlone, StillHeld}
-use Rattle.lvm_even.specs.passed.Names.{IsEven}
-use Rattle.lvm_even.specs.Even.{AreWanted}
-use Rattle.lvm_handover.specs.passed.Tie.{SparesDescriptors, IsTied}
-use Rattle.lvm_handover.specs.passed.TieBegins.{shown_to}
+use Rattle.lvm_settled.specs.passed.Names.{IsEven}
+use Rattle.lvm_settled.specs.Even.{AreWanted}
+use Rattle.lvm_handover.specs.passed.Tie.{SparesDescriptors, IsTied, shown_to}
 use Rattle.lvm_tie_commands.specs.Commands.{IsLeftStanding, MayBeCommanded}
 use Rattle.lvm_tie_commands.specs.Standing.{StandsAfter}
 use Rattle.lvm_tie_commands.proofs.LawsOfVolumesLemmas.{only_is_one_on}
 use Rattle.lvm_tie_commands.proofs.MomentsLemmas.{calm_at}
 use Rattle.lvm_tie_commands.proofs.HeldLemmas.{Carries, are_home, carries, holds_before, is_held}
 use Rattle.lvm_tie_commands.proofs.Resting.{landed}
-use Rattle.lvm_tie_commands.proofs.BeginsLemmas.{Held, members_show, of_told, ties}
+use Rattle.lvm_tie_commands.proofs.BeginsLemmas.{Held, members_show, ties}
 
 -- where all three hold of a command whose session goes on, so does what follows from them
 pub on_all : {A : Type 0} (answer : Result A GroupFault) (P Q R S : Type 0) → IfOn answer P → IfOn answer Q → IfOn answer R → (P → Q → R → S) → IfOn answer S

@@ -1,5 +1,2 @@
 -- Passed on from `lvm_ranges`.
-pub use Rattle.lvm_handover.specs.passed.Ranges.{AllMoved, AnyFailed, AreApart, AreGot, AreSince, AskRangeFault, AskRangeGives, Asks, AwaitCosts}
-pub use Rattle.lvm_handover.specs.passed.Ranges.{AwaitEnds, FinishCosts, FinishGives, Finished, GoingCause, HasEndedWell, HavePiecesLanded}
-pub use Rattle.lvm_handover.specs.passed.Ranges.{IsAskedFor, IsRead, IsUnfinished, KeepsEarlier, KeepsOthers, KeepsTable, LastEnded, Moves, NoMove}
-pub use Rattle.lvm_handover.specs.passed.Ranges.{OneMove, RangeCause, StepEnds, Stuck, TakesRange, TurnsFor, WasStuck, range_fault}
+pub use Rattle.lvm_handover.specs.passed.Ranges.{AllMoved, AnyFailed, AreApart, AreGot, AreSince, AskRangeFault, AskRangeGives, Asks, AwaitCosts, AwaitEnds, FinishCosts, FinishGives, Finished, GoingCause, HasEndedWell, HavePiecesLanded, IsAskedFor, IsRead, IsUnfinished, KeepsEarlier, KeepsOthers, KeepsTable, LastEnded, Moves, NoMove, OneMove, RangeCause, StepEnds, Stuck, TakesRange, TurnsFor, WasStuck, range_fault}

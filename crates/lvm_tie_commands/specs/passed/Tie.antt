@@ -1,2 +1,2 @@
 -- Passed on from `lvm_tie`.
-pub use Rattle.lvm_handover.specs.passed.Tie.{IsGood, IsStamped, IsTied, LeavesDescriptors, moment_of}
+pub use Rattle.lvm_handover.specs.passed.Tie.{IsBefore, IsGood, IsStamped, IsTied, LeavesDescriptors, LeavesSession, RunsOn, moment_of}

@@ -1,3 +1,2 @@
 -- Passed on from `lvm_varyon`.
-pub use Rattle.lvm_handover.specs.passed.Varyon.{ComesOn, HasWritten, IsRecovered, IsRestated, MayComeOn, Recopy, VaryonRefuses, VaryonGives, answering}
-pub use Rattle.lvm_handover.specs.passed.Varyon.{beginning, log_after, records_on}
+pub use Rattle.lvm_handover.specs.passed.Varyon.{ComesOn, HasWritten, IsRecovered, IsRestated, MayComeOn, Recopy, VaryonGives, VaryonRefuses, answering, beginning, log_after, records_on}

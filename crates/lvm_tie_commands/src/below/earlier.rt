@@ -1,3 +1,3 @@
-//! Passed on from `lvm_earlier`.
+//! Passed on from `lvm_handover`.
 
-pub use lvm_handover::below::earlier::take_earlier;
+pub use lvm_handover::take_earlier;

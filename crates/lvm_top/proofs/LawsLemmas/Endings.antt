@@ -9,7 +9,7 @@ use Rattle.lvm_parse.specs.Grammar.{line_of}
 use Rattle.lvm_core.specs.declared.parts.Room.{Room}
 use Rattle.lvm_line.specs.Causes.{HasCause}
 use Rattle.lvm_line.specs.Lines.{IsLine}
-use Rattle.lvm_line.specs.passed.Stage.{Reply, ScriptState, patience_of_line}
+use Rattle.lvm_line.specs.passed.GroupLines.{Reply, ScriptState, patience_of_line}
 use Rattle.lvm_line.specs.passed.RefusalVariants as refusal
 use Rattle.lvm_line.specs.passed.ReplyVariants as reply
 use Rattle.lvm_line.proofs.CausesLemmas.Causing.{has_cause}

@@ -13,31 +13,22 @@ use Rattle.lvm_operands.specs.declared.rest.Misfit.{Misfit}
 use Rattle.lvm_parse.specs.Grammar.{line_of}
 use Rattle.lvm_core.specs.declared.parts.Room.{Room}
 use Rattle.lvm_core.specs.Leaves.{MayBeFound}
-use Rattle.lvm_line.specs.passed.Stage.{patience_of_line, IsStuck, ScriptState, IsTimely, Reply, is_unheard}
-use Rattle.lvm_line.specs.passed.DiskLines.{WriteDoes, ReadDoes, NoWriteWhileOn, WriteGoes, NoReadWhileOn, ReadGoes, ArrangeDoes, NotThere}
-use Rattle.lvm_line.specs.passed.DiskLines.{NotPlanned, IsArranged, CutDoes, CutNotPlanned, PowerIsCut}
+use Rattle.lvm_line.specs.passed.GroupLines.{patience_of_line, IsStuck, ScriptState, IsTimely, Reply, is_unheard, WriteDoes, ReadDoes, NoWriteWhileOn, WriteGoes, NoReadWhileOn, ReadGoes, ArrangeDoes, NotThere, NotPlanned, IsArranged, CutDoes, CutNotPlanned, PowerIsCut, VaryoffDoes, NoVaryoff, BusyVaryoff, VariesOff}
 use Rattle.lvm_line.specs.passed.Quiesce.{RejectedAtOnce, KeptFrom, AskedAtRest}
-use Rattle.lvm_line.specs.passed.GroupLines.{VaryoffDoes, NoVaryoff, BusyVaryoff, VariesOff}
 use Rattle.lvm_line.specs.Lines.{LineDoes, role_of}
 use Rattle.lvm_posts.specs.declared.asked.Asked.{Asked}
 use Rattle.lvm_posts.specs.declared.posts.Post.{Post}
 use Rattle.lvm_posts.specs.declared.fault.RangeFault.{RangeFault}
 use Rattle.lvm_posts.specs.declared.fault.RangeFault.TheVariants as range_fault
-use Rattle.lvm_line.specs.passed.RangeLines.{EndsBy, GoesOnWith, IsOverWith, CarriesBy, OnVolume, WhileOff, NotThere as VolumeNotThere, There}
-use Rattle.lvm_line.specs.passed.RangeLines.{IsNotAsked, Posts, NotPosted, Posted, IsFinished, Finishes, NotBegun, EndsWell, Fails, StepDoes}
-use Rattle.lvm_line.specs.passed.RangeLines.{NoStepWhileOff, NothingMoves, Steps}
-use Rattle.lvm_line.specs.passed.RangeLinesWaiting.{WaitDoes, WhileOff as WaitsWhileOff, AtRest, Awaits, WaitsOff, WaitsOn, WaitEnds, Goes, Over}
-use Rattle.lvm_line.specs.passed.CopyLines.{IsSynced, NoGroupForSync, NoVolumeForSync, NothingSyncs, OtherGroupForSync, SyncGroupDoes, SyncVolumeDoes}
-use Rattle.lvm_line.specs.passed.CopyLines.{SyncsGroup, SyncsVolume}
+use Rattle.lvm_line.specs.passed.RangeLines.{EndsBy, GoesOnWith, IsOverWith, CarriesBy, OnVolume, WhileOff, NotThere as VolumeNotThere, There, IsNotAsked, Posts, NotPosted, Posted, IsFinished, Finishes, NotBegun, EndsWell, Fails, StepDoes, NoStepWhileOff, NothingMoves, Steps, FailsIf}
+use Rattle.lvm_line.specs.passed.RangeLinesWaiting.{WaitDoes, WhileOff as WaitsWhileOff, AtRest, Awaits, WaitsOff, WaitsOn, WaitEnds, Goes, Over, InVain}
+use Rattle.lvm_line.specs.passed.VolumeLines.{IsSynced, NoGroupForSync, NoVolumeForSync, NothingSyncs, OtherGroupForSync, SyncGroupDoes, SyncVolumeDoes, SyncsGroup, SyncsVolume}
 use Rattle.lvm_line.specs.passed.Resync.{Copy, SyncFault, group_copies, group_fault, volume_copies, volume_fault}
-use Rattle.lvm_line.specs.passed.RangeLines.{FailsIf}
-use Rattle.lvm_line.specs.passed.RangeLinesWaiting.{InVain}
 use Rattle.lvm_steps.specs.Requests.{at as moment_of}
 use Rattle.lvm_session.specs.declared.open.Power.{Power}
 use Rattle.lvm_session.specs.declared.open.Power.TheVariants as power
 use Rattle.lvm_session.specs.State.{Core, State, state}
-use Rattle.lvm_line.specs.passed.Tie.{LeavesDescriptors}
-use Rattle.lvm_line.specs.passed.Running.{RunsOn}
+use Rattle.lvm_line.specs.passed.Tie.{LeavesDescriptors, RunsOn}
 use Rattle.lvm_top.specs.Laws.{LineFindsNoMore}
 use Rattle.lvm_top.specs.Standing.{MayHaveCommitted, StoodBefore}
 use Rattle.lvm_top.proofs.Devices.{IsShelf, NothingNew, then_nothing, same_nothing, fewer_nothing}

@@ -2,6 +2,7 @@
 use Rattle.std.proofs.Common.{◌≡◌, inl, inr, ◌++◌, ◌||◌, ◌∷◌, ℕ, false, List, [], Option, Some, Result, Ok, refl, sym, ap, subst, ◌∙◌}
 use Rattle.std.specs.Prelude.{IsSomeAnd}
 use Rattle.std.proofs.lemmas.List.{append-nil}
+use Rattle.lvm_num.proofs.Lists.{not_nil}
 use Rattle.lvm_disk.specs.Device.{Device}
 use Rattle.lvm_vol.specs.Log.{Log}
 use Rattle.lvm_parse.specs.declared.command.Command.{Command}
@@ -17,7 +18,7 @@ use Rattle.lvm_line.specs.passed.Quiesce.{Quiesces}
 use Rattle.lvm_line.specs.passed.Recover.{HasNoPassive}
 use Rattle.lvm_line.specs.passed.RefusalVariants as refusal
 use Rattle.lvm_line.specs.passed.ReplyVariants as reply
-use Rattle.lvm_line.specs.passed.Stage.{ScriptState, Reply}
+use Rattle.lvm_line.specs.passed.GroupLines.{ScriptState, Reply}
 use Rattle.lvm_line.specs.passed.Varyon.{IsRecovered}
 use Rattle.lvm_line.proofs.CausesLemmas.Causing.{nothing_written, varyon_restates}
 use Rattle.lvm_line.proofs.passed.Quiesce.{still_ends}
@@ -28,17 +29,13 @@ use Rattle.lvm_top.proofs.ScriptLemmas.Scripting.{begins_timely, script_went}
 
 -- ---- a run of one line
 
-none_behind : {A : Type 0} (xs : List A) (x : A) → xs ++ x ∷ [] ≡ [] → ⊥
-none_behind [] x e = cc e
-none_behind (first ∷ xs) x e = cc e
-
 is_only : {A : Type 0} (xs : List A) (x only : A) → xs ++ x ∷ [] ≡ only ∷ [] → (xs ≡ []) × (x ≡ only)
 is_only [] x only e = (refl, cc e)
-is_only (first ∷ xs) x only e = absurd (none_behind xs x (let rest : xs ++ x ∷ [] ≡ [] = cc e in rest))
+is_only (first ∷ xs) x only e = absurd (not_nil xs x (let rest : xs ++ x ∷ [] ≡ [] = cc e in rest))
 
 no_line : {log : Log} {room : Room} {first last : ScriptState} {lines : List (List ℕ)} {replies : List Reply} → Script log room first lines replies last → lines ≡ [] → last ≡ first
 no_line NoLine e = refl
-no_line (NextLine {lines = lines} line answer said heard says earlier it) e = absurd (none_behind lines line e)
+no_line (NextLine {lines = lines} line answer said heard says earlier it) e = absurd (not_nil lines line e)
 
 -- the one line, by what was written for it
 record IsOneLine (log : Log) (room : Room) (first last : ScriptState) (line : List ℕ) (said : Reply) : Type 0 where

@@ -2,6 +2,7 @@
 use Rattle.std.proofs.Common.{◌≡◌, ◌⊎◌, inl, inr, ⊎_elim, ℕ, ◌+◌, List, [], ◌∷◌, ◌++◌, Bool, true, false, Option, Some, None, Result, Ok, Err, refl, sym, ap, subst, ◌∙◌, ◌≤◌, length}
 use Rattle.std.specs.Prelude.{IsSome, IsSomeAnd, IfSome}
 use Rattle.lvm_num.specs.declared.descriptor.Descriptor.{Descriptor}
+use Rattle.lvm_num.proofs.Lists.{some_told}
 use Rattle.lvm_disk.specs.Device.{Device, Media}
 use Rattle.lvm_disk.specs.Steps.{BothTold}
 use Rattle.lvm_disk.proofs.PathsLemmas.{last-path}
@@ -23,8 +24,7 @@ use Rattle.lvm_line.specs.passed.TieCommands.{StandsAfter as StandsAfterPast}
 use Rattle.lvm_line.specs.passed.Quiesce.{RefusedAtOnce, StayedOut, VaryonOnceQuiet, WentQuiet}
 use Rattle.lvm_line.proofs.passed.Quiesce.{ends_only}
 use Rattle.lvm_core.specs.Leaves.{MayBeFound}
-use Rattle.lvm_line.specs.passed.GroupLines.{IsLeft, VaryonDoes, NoVaryonWhileOn, Varies, itself, outcome_of}
-use Rattle.lvm_line.specs.passed.Stage.{patience_of_line, IsAlone, Role, IsStuck, StandsAlone, StandsBy, ScriptState, log_with, Reply}
+use Rattle.lvm_line.specs.passed.GroupLines.{IsLeft, VaryonDoes, NoVaryonWhileOn, Varies, itself, outcome_of, patience_of_line, IsAlone, Role, IsStuck, StandsAlone, StandsBy, ScriptState, log_with, Reply}
 use Rattle.lvm_line.specs.Lines.{LineDoes, IsLine, role_of}
 use Rattle.lvm_line.specs.passed.ReplyVariants as reply
 use Rattle.lvm_top.specs.Script.{Says, Script, NoLine, NextLine, StaysAlone, Ends, AtLine, InLine, EndsAlone, EndsHeard, entry_state, empty_log, facts_of}
@@ -107,10 +107,6 @@ script_finds log room past first lines replies last script begin alone = stands 
 
 -- ---- a varyon after them
 
-pub some_of : {X : Type 0} (o : Option X) → IsSome o → (x : X) × (o ≡ Some x)
-some_of (Some x) some = (x, refl)
-some_of None some = absurd (cc (some))
-
 -- what was told is told once the transfers of before have ended
 still_told : (o n : Option Media) → BothTold o n (λ was is. Unit {0}) → IsSome o → IsSome n
 still_told (Some x) (Some y) both some = refl
@@ -123,7 +119,7 @@ varied_found name moment room patience log old left core told (RefusedAtOnce ref
 varied_found name moment room patience log old left core told (StayedOut refused is may out) = absurd (cc (is))
 varied_found name moment room patience log old left core told (WentQuiet may once) =
     let comes = once.goes.gives in
-    let mid_told = some_of once.mid.media (still_told old.media once.mid.media (ends_only once.quiesces.ends).media told) in
+    let mid_told = some_told once.mid.media (still_told old.media once.mid.media (ends_only once.quiesces.ends).media told) in
     let same : core.descriptor ≡ comes.written.group = ap (λ (c : Core). c.descriptor) comes.first.is ∙ comes.first.reserved.descriptor in
     quiet_nothing old once.mid once.quiesces core.descriptor.id core.descriptor
     (subst (λ (d : Descriptor). MayBeFound once.mid d.id d) (sym same) (was_found once.mid left name moment _ comes.written mid_told.0 mid_told.1))

@@ -12,9 +12,8 @@ use Rattle.lvm_session.specs.State.{State}
 use Rattle.lvm_line.specs.passed.QuiescedVariants as quiesced
 use Rattle.lvm_line.specs.passed.Quiesce.{Quiesces, StaysOut, RangeStaysOut}
 use Rattle.lvm_line.proofs.passed.Quiesce.{ends_leave, ends_leave_no_more}
-use Rattle.lvm_line.specs.passed.Tie.{LeavesDescriptors}
-use Rattle.lvm_line.specs.passed.Running.{LeavesSession, RunsOn}
-use Rattle.lvm_line.specs.passed.Stage.{IsRelit, IsClosed}
+use Rattle.lvm_line.specs.passed.Tie.{LeavesDescriptors, LeavesSession, RunsOn}
+use Rattle.lvm_line.specs.passed.GroupLines.{IsRelit, IsClosed}
 use Rattle.lvm_top.proofs.Devices.{NothingNew, then_nothing, same_nothing, fewer_nothing}
 use Rattle.lvm_top.proofs.LeavesLemmas.Transfers.{relit_nothing}
 

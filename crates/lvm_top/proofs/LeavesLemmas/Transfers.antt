@@ -13,11 +13,11 @@ use Rattle.lvm_transfer.specs.Transfer.{WaitsOnly, IsOut, TransferGives, Relight
 use Rattle.lvm_raw.specs.declared.fault.RawFault.{RawFault}
 use Rattle.lvm_raw.specs.declared.fault.RawFault.TheVariants as fault
 use Rattle.lvm_raw.specs.Looking.{LookFails}
-use Rattle.lvm_piece.specs.Pieces.{WritesPiece, ReadsPiece}
+use Rattle.lvm_raw.specs.OnePiece.{WritesPiece, ReadsPiece}
 use Rattle.lvm_raw.specs.Pieces.{piece_end, PiecesGo, NoPiece, OnePiece, RangeGoes, WentThrough, WasBroken}
 use Rattle.lvm_raw.specs.Raw.{Rejected, Unasked, Asked, WriteGives, ReadGives}
-use Rattle.lvm_piece.specs.Requests.{RelightsAfter, ShelfAfter}
-use Rattle.lvm_piece.proofs.KeepingLemmas.{brings_data}
+use Rattle.lvm_raw.specs.Requests.{RelightsAfter, ShelfAfter}
+use Rattle.lvm_raw.proofs.OnePieceKeepingLemmas.{brings_data}
 use Rattle.lvm_top.proofs.Devices.{NothingNew, then_nothing, same_nothing, fewer_nothing, data_nothing}
 
 -- ---- one transfer

@@ -23,16 +23,16 @@ use Rattle.lvm_kept.specs.Plans.{ChangesBy}
 use Rattle.lvm_kept.specs.Torn.{MayWriteAll}
 use Rattle.lvm_kept.proofs.CommittedLemmas.Finding.{offered, is_offered}
 use Rattle.lvm_steps.proofs.MakingLemmas.Making.{media_may}
-use Rattle.lvm_stamps.specs.Behind.{StampsBefore, IsBehind}
-use Rattle.lvm_stamps.specs.Laws.{ShowsBefore}
-use Rattle.lvm_stamps.proofs.LawsLemmas.Records.{session_may_go, shown_is_before}
-use Rattle.lvm_stamps.proofs.LawsLemmas.Stamps.{behind_is_before}
-use Rattle.lvm_survey.proofs.LawsLemmas.{descriptors_valid}
+use Rattle.lvm_steps.specs.Behind.{StampsBefore, IsBehind}
+use Rattle.lvm_steps.specs.Laws.{ShowsBefore}
+use Rattle.lvm_steps.proofs.LawsLemmas.Records.{session_may_go, shown_is_before}
+use Rattle.lvm_steps.proofs.LawsLemmas.Stamps.{behind_is_before}
+use Rattle.lvm_quorum.proofs.LawsLemmas.{descriptors_valid}
 use Rattle.lvm_write.specs.Homes.{SparesNewest}
 use Rattle.lvm_write.specs.Written.{write_of, KeepsShelf}
 use Rattle.lvm_write.proofs.ShowsLemmas.{descriptor_may_be_written, status_may_be_written}
 use Rattle.lvm_write.proofs.WrittenLemmas.Writing.{told_at}
-use Rattle.lvm_begin.specs.Beginning.{Beginning, Part, describes, states, IsOfParts}
+use Rattle.lvm_write.specs.Beginning.{Beginning, Part, describes, states, IsOfParts}
 use Rattle.lvm_core.proofs.RecordLemmas.{descriptor_fits}
 use Rattle.lvm_core.specs.Leaves.{MayBeFound}
 use Rattle.lvm_line.specs.passed.Varyon.{answering, MayComeOn, records_on, HasWritten, Recopy, beginning}

@@ -5,11 +5,10 @@ use Rattle.lvm_io.specs.Count.{Rose}
 use Rattle.lvm_io.proofs.StreamLemmas.Told.{told_same}
 use Rattle.lvm_vol.specs.Facts.{Fact}
 use Rattle.lvm_vol.specs.Log.{Log}
-use Rattle.lvm_stamps.specs.Behind.{IsBehind, IsAhead}
-use Rattle.lvm_stamps.proofs.LawsLemmas.Stamps.{later_is_ahead_too}
+use Rattle.lvm_steps.specs.Behind.{IsBehind, IsAhead}
+use Rattle.lvm_steps.proofs.LawsLemmas.Stamps.{later_is_ahead_too}
 use Rattle.lvm_core.specs.declared.parts.Room.{Room}
-use Rattle.lvm_line.specs.passed.Stage.{shelf_in, history_in, moment_in, session_in, state_in, IsBetweenStage, Stage, IsAtRest, IsBetween, ScriptState}
-use Rattle.lvm_line.specs.passed.Stage.{without_facts}
+use Rattle.lvm_line.specs.passed.GroupLines.{shelf_in, history_in, moment_in, session_in, state_in, IsBetweenStage, Stage, IsAtRest, IsBetween, ScriptState, without_facts}
 use Rattle.std.specs.Global.{Vec}
 use Rattle.lvm_posts.specs.declared.posts.Post.{Post}
 use Rattle.lvm_line.specs.passed.HolderVariants as holder

@@ -9,7 +9,7 @@ use Rattle.lvm_parse.specs.Grammar.{line_of}
 use Rattle.lvm_kept.specs.Moments.{Moment}
 use Rattle.lvm_steps.specs.Moments.{Keeps, IsUpheld}
 use Rattle.lvm_steps.proofs.MomentsLemmas.Spans.{keeps_still, span_upholds}
-use Rattle.lvm_stamps.specs.Behind.{IsBehind, IsAhead}
+use Rattle.lvm_steps.specs.Behind.{IsBehind, IsAhead}
 use Rattle.lvm_core.specs.declared.parts.Room.{Room}
 use Rattle.lvm_core.specs.Settled.{IsSettled as IsSettledCore}
 use Rattle.lvm_session.specs.declared.answers.Turned.{Turned}
@@ -19,13 +19,12 @@ use Rattle.lvm_session.specs.Sound.{IsSound}
 use Rattle.lvm_line.specs.passed.Names.{power_by}
 use Rattle.lvm_session.specs.declared.answers.Turned.TheVariants as turned
 use Rattle.lvm_session.specs.declared.open.Power.{Power}
-use Rattle.lvm_line.specs.passed.Tie.{LeavesDescriptors}
-use Rattle.lvm_line.specs.passed.Running.{RunsOn}
+use Rattle.lvm_line.specs.passed.Tie.{LeavesDescriptors, RunsOn}
 use Rattle.lvm_line.specs.Lines.{role_of}
-use Rattle.lvm_line.specs.passed.Stage.{GoesOn, IsAlone, OfRequests, IsClosed, ArePosted, ScriptState, IsAtRest, IsBetween, IsTimely, StandsBy, Reply}
+use Rattle.lvm_line.specs.passed.GroupLines.{GoesOn, IsAlone, OfRequests, IsClosed, ArePosted, ScriptState, IsAtRest, IsBetween, IsTimely, StandsBy, Reply}
 use Rattle.lvm_line.specs.passed.RefusalVariants as refusal
 use Rattle.lvm_line.specs.passed.ReplyVariants as reply
-use Rattle.lvm_line.proofs.passed.Stage.{over_goes}
+use Rattle.lvm_line.proofs.passed.GroupLines.{over_goes}
 use Rattle.lvm_top.specs.declared.status.ExitStatus.{ExitStatus}
 use Rattle.lvm_top.specs.declared.status.ExitStatus.TheVariants as ended
 use Rattle.lvm_top.specs.Ending.{Concludes, NoneIsOn, NoneIsServed, IsServed, NothingIsLeft, TurnsAreMade, RestsNow}

@@ -15,16 +15,15 @@ use Rattle.lvm_io.proofs.LinesLemmas.Feeds.{first_of}
 use Rattle.lvm_vol.specs.Log.{Log}
 use Rattle.lvm_kept.specs.Moments.{Moment}
 use Rattle.lvm_steps.specs.Moments.{Keeps}
-use Rattle.lvm_stamps.specs.Behind.{IsBehind, IsAhead}
-use Rattle.lvm_stamps.proofs.LawsLemmas.Stamps.{later_is_ahead_too}
+use Rattle.lvm_steps.specs.Behind.{IsBehind, IsAhead}
+use Rattle.lvm_steps.proofs.LawsLemmas.Stamps.{later_is_ahead_too}
 use Rattle.lvm_core.specs.declared.parts.Room.{Room}
 use Rattle.lvm_parse.specs.Grammar.{line_of}
 use Rattle.lvm_line.proofs.passed.Quiesce.{still_is_behind_each, each_is_behind}
 use Rattle.lvm_line.specs.passed.Tie.{LeavesDescriptors}
 use Rattle.lvm_posts.specs.declared.posts.Post.{Post}
 use Rattle.lvm_line.specs.Lines.{IsLine, role_of}
-use Rattle.lvm_line.specs.passed.Stage.{IsRequesting, Role, Aside, OfGroup, OfGroupWhere, OfRequests, reply_text, refusals_of, most_refusals, IsStuck, ScriptState}
-use Rattle.lvm_line.specs.passed.Stage.{IsAtRest, IsTimely, StandsBy, Reply}
+use Rattle.lvm_line.specs.passed.GroupLines.{IsRequesting, Role, Aside, OfGroup, OfGroupWhere, OfRequests, reply_text, refusals_of, most_refusals, IsStuck, ScriptState, IsAtRest, IsTimely, StandsBy, Reply}
 use Rattle.lvm_top.specs.Script.{Stream, Passage, Says, Script, NoLine, NextLine, StaysAlone, Ends, AtLine, InLine, EndsAlone, EndsHeard, AreBefore, AreDone, AreAllRead, AreDoneBut, ComesBehind, IsLineLeft, MakeRequests, is_made_late, is_requesting, texts_of, refusals_in, entry_state}
 use Rattle.lvm_top.specs.Statuses.{GoesUntil}
 use Rattle.lvm_top.specs.declared.script.Stop.{Stop}

@@ -21,21 +21,16 @@ use Rattle.lvm_core.specs.Held.{IsHeld}
 use Rattle.lvm_core.specs.Settled.{IsSettled}
 use Rattle.lvm_session.specs.State.{Core, State, is_there}
 use Rattle.lvm_core.specs.Leaves.{MayBeFound}
-use Rattle.lvm_line.specs.passed.Volumes.{IsWith}
-use Rattle.lvm_line.specs.passed.Mirrors.{IsWithFirst, IsWithMore}
-use Rattle.lvm_line.specs.passed.CopyLines.{NoGroupForMklvcopy, BusyMklvcopy, UndrainedMklvcopy, NoVolumeForMklvcopy, AddsCopies, MklvcopyFails}
-use Rattle.lvm_line.specs.passed.CopyLines.{NoGroupForRmlvcopy, BusyRmlvcopy, UndrainedRmlvcopy, NoVolumeForRmlvcopy, RemovesCopies, RmlvcopyFails}
+use Rattle.lvm_line.specs.passed.Volumes.{IsWith, IsWithFirst, IsWithMore}
+use Rattle.lvm_line.specs.passed.VolumeLines.{NoGroupForMklvcopy, BusyMklvcopy, UndrainedMklvcopy, NoVolumeForMklvcopy, AddsCopies, MklvcopyFails, NoGroupForRmlvcopy, BusyRmlvcopy, UndrainedRmlvcopy, NoVolumeForRmlvcopy, RemovesCopies, RmlvcopyFails, StaysOn, NoGroupForMklv, BusyMklv, UndrainedMklv, MakesVolume, MklvFails, NoGroupForRmlv, BusyRmlv, UndrainedRmlv, NoVolumeForRmlv, RemovesVolume, RmlvFails, wanted}
 use Rattle.lvm_core.specs.Looking.{IsNumberOf}
 use Rattle.lvm_line.specs.passed.Group.{NewGroup, new_group}
 use Rattle.lvm_core.specs.declared.refused.Cause.{Cause}
 use Rattle.lvm_line.specs.passed.Quiesce.{MkvgOnceQuiet, RefusedAtOnce, StayedOut, WentQuiet}
 use Rattle.lvm_line.proofs.passed.Quiesce.{ends_only}
 use Rattle.lvm_line.specs.passed.Tie.{LeavesDescriptors}
-use Rattle.lvm_line.specs.passed.GroupLines.{IsLeft, Varies, NoVaryonWhileOn, NoMemoryForLine, NoMkvgWhileOn, Makes, asked_for, itself, outcome_of}
-use Rattle.lvm_line.specs.passed.Stage.{patience_of_line, HasBegunHeld, IsStuck, ScriptState, log_with, Reply}
+use Rattle.lvm_line.specs.passed.GroupLines.{IsLeft, Varies, NoVaryonWhileOn, NoMemoryForLine, NoMkvgWhileOn, Makes, asked_for, itself, outcome_of, patience_of_line, HasBegunHeld, IsStuck, ScriptState, log_with, Reply}
 use Rattle.lvm_line.specs.Lines.{CommandDoes, LineDoes, role_of}
-use Rattle.lvm_line.specs.passed.VolumeLines.{StaysOn, NoGroupForMklv, BusyMklv, UndrainedMklv, MakesVolume, MklvFails, NoGroupForRmlv, BusyRmlv}
-use Rattle.lvm_line.specs.passed.VolumeLines.{UndrainedRmlv, NoVolumeForRmlv, RemovesVolume, RmlvFails, wanted}
 use Rattle.lvm_line.specs.passed.ReplyVariants as reply
 use Rattle.lvm_volume_plan.specs.declared.new_volume.NewVolume.{NewVolume}
 use Rattle.lvm_top.specs.Standing.{IsToCommit, StoodBefore, is_group_command, is_acknowledged, StandsOf, IsCommitted, OfAnother, WasDrained}

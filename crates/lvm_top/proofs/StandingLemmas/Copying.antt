@@ -7,15 +7,11 @@ use Rattle.lvm_parse.specs.declared.command.Command.TheVariants as command
 use Rattle.lvm_core.specs.Looking.{IsNumberOf}
 use Rattle.lvm_core.specs.Leaves.{MayBeFound}
 use Rattle.lvm_session.specs.State.{Core, State}
-use Rattle.lvm_line.specs.passed.Mirrors.{IsWithFirst, IsWithMore}
+use Rattle.lvm_line.specs.passed.Volumes.{IsWithFirst, IsWithMore}
 use Rattle.lvm_line.specs.passed.Tie.{LeavesDescriptors}
-use Rattle.lvm_line.specs.passed.Stage.{IsBrokenOff, OfGroup}
-use Rattle.lvm_line.specs.passed.Stage.{ScriptState}
-use Rattle.lvm_line.specs.passed.Stage.{Reply}
+use Rattle.lvm_line.specs.passed.GroupLines.{IsBrokenOff, OfGroup, ScriptState, Reply}
 use Rattle.lvm_line.specs.passed.ReplyVariants as reply
-use Rattle.lvm_line.specs.passed.VolumeLines.{Drains, refusal_for}
-use Rattle.lvm_line.specs.passed.CopyLines.{MklvcopyDoes, NoGroupForMklvcopy, BusyMklvcopy, UndrainedMklvcopy, NoVolumeForMklvcopy, AddsCopies, MklvcopyFails, MklvcopyEnds}
-use Rattle.lvm_line.specs.passed.CopyLines.{RmlvcopyDoes, NoGroupForRmlvcopy, BusyRmlvcopy, UndrainedRmlvcopy, NoVolumeForRmlvcopy, RemovesCopies, RmlvcopyFails, RmlvcopyEnds}
+use Rattle.lvm_line.specs.passed.VolumeLines.{Drains, refusal_for, MklvcopyDoes, NoGroupForMklvcopy, BusyMklvcopy, UndrainedMklvcopy, NoVolumeForMklvcopy, AddsCopies, MklvcopyFails, MklvcopyEnds, RmlvcopyDoes, NoGroupForRmlvcopy, BusyRmlvcopy, UndrainedRmlvcopy, NoVolumeForRmlvcopy, RemovesCopies, RmlvcopyFails, RmlvcopyEnds}
 use Rattle.lvm_top.specs.Standing.{MayHaveCommitted, StoodBefore, WasDrained}
 use Rattle.lvm_top.proofs.Devices.{same_nothing}
 use Rattle.lvm_top.proofs.StandingLemmas.Volumes.{done_finds, idle_nothing, undrained_nothing}

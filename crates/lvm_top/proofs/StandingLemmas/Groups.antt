@@ -7,21 +7,19 @@ use Rattle.lvm_vol.specs.Log.{Log}
 use Rattle.lvm_parse.specs.declared.command.Command.TheVariants as command
 use Rattle.lvm_parse.specs.Grammar.{line_of}
 use Rattle.lvm_parse.proofs.WithinLemmas.{line_is_within}
-use Rattle.lvm_stamps.specs.Behind.{IsBehind}
-use Rattle.lvm_begin.specs.Beginning.{new_order}
+use Rattle.lvm_steps.specs.Behind.{IsBehind}
+use Rattle.lvm_write.specs.Beginning.{new_order}
 use Rattle.lvm_core.specs.declared.parts.Room.{Room}
 use Rattle.lvm_core.specs.declared.refused.Cause.{Cause}
 use Rattle.lvm_core.specs.declared.refused.Cause.TheVariants as cause
 use Rattle.lvm_core.specs.Leaves.{MayBeFound}
 use Rattle.lvm_line.specs.passed.Group.{new_group}
-use Rattle.lvm_line.specs.passed.Stage.{patience_of_line, refusal_of, IsStuck, Asks, IsAsked, IsBrokenOff, ScriptState, IsTimely, log_with, Reply}
-use Rattle.lvm_line.specs.passed.GroupLines.{IsLeft, MkvgDoes, NoMemoryForLine, NoMkvgWhileOn, Makes, VaryonDoes, NoVaryonWhileOn, Varies, asked_for}
-use Rattle.lvm_line.specs.passed.GroupLines.{itself, outcome_of}
+use Rattle.lvm_line.specs.passed.GroupLines.{patience_of_line, refusal_of, IsStuck, Asks, IsAsked, IsBrokenOff, ScriptState, IsTimely, log_with, Reply, IsLeft, MkvgDoes, NoMemoryForLine, NoMkvgWhileOn, Makes, VaryonDoes, NoVaryonWhileOn, Varies, asked_for, itself, outcome_of}
 use Rattle.lvm_line.specs.passed.Quiesce.{Quiesces, MkvgOnceQuiet, RefusedAtOnce, StayedOut, VaryonOnceQuiet, WentQuiet}
 use Rattle.lvm_line.proofs.passed.Quiesce.{each_is_behind, fewer_stay_behind, ends_leave, ends_only}
 use Rattle.lvm_core.specs.declared.refused.Refused.{Refused}
 use Rattle.lvm_session.specs.State.{Core}
-use Rattle.lvm_stamps.proofs.LawsLemmas.Stamps.{later_is_ahead_too}
+use Rattle.lvm_steps.proofs.LawsLemmas.Stamps.{later_is_ahead_too}
 use Rattle.lvm_line.specs.passed.ReplyVariants as reply
 use Rattle.lvm_line.specs.passed.Varyon.{VaryonRefuses}
 use Rattle.lvm_line.proofs.passed.Varyon.{failed_rests, wrote_broken, wrote_equalled, wrote_failed}

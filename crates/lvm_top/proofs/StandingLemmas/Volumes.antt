@@ -1,5 +1,5 @@
 -- What is found after a volume was to be made or removed: what was found before, or what was to be committed.
-use Rattle.std.proofs.Common.{◌≡◌, ◌⊎◌, inl, inr, ⊎_elim, ℕ, [], ◌∷◌, ◌++◌, List, Bool, false, Option, Some, None, IfSome, Result, Ok, Err, refl, sym, ap, subst, ◌∙◌}
+use Rattle.std.proofs.Common.{◌≡◌, ◌⊎◌, inl, inr, ⊎_elim, ℕ, [], ◌∷◌, ◌++◌, List, Bool, false, Option, Some, IfSome, Result, Ok, Err, refl, sym, ap, subst, ◌∙◌}
 use Rattle.std.specs.Prelude.{IsSome, IsSomeAnd}
 use Rattle.lvm_num.specs.Votes.{all_disks}
 use Rattle.lvm_disk.specs.Device.{Media, image_of}
@@ -10,6 +10,7 @@ use Rattle.lvm_num.specs.declared.descriptor.Descriptor.{Descriptor}
 use Rattle.lvm_num.specs.declared.descriptor.LvRow.{LvRow}
 use Rattle.lvm_num.specs.declared.descriptor.Mode.{Mode}
 use Rattle.lvm_num.specs.declared.descriptor.Policy.{Policy}
+use Rattle.lvm_num.proofs.Lists.{some_told}
 use Rattle.lvm_parse.specs.declared.command.Command.{Command}
 use Rattle.lvm_parse.specs.declared.command.Command.TheVariants as command
 use Rattle.lvm_operands.specs.declared.rest.Misfit.{Misfit}
@@ -24,13 +25,10 @@ use Rattle.lvm_core.specs.Looking.{IsNumberOf}
 use Rattle.lvm_core.specs.Leaves.{MayBeFound, Scope}
 use Rattle.lvm_session.specs.State.{Core, State, is_there, state}
 use Rattle.lvm_line.specs.passed.Tie.{LeavesDescriptors, IsGood, IsTied}
-use Rattle.lvm_line.proofs.passed.TieGroups.{tied_holds}
+use Rattle.lvm_line.proofs.passed.TieCommands.{tied_holds, rests}
 use Rattle.lvm_line.specs.passed.TieCommands.{StandsAfter}
-use Rattle.lvm_line.proofs.passed.TieCommands.{rests}
-use Rattle.lvm_line.specs.passed.Stage.{IsBrokenOff, OfGroup, OfGroupWhere, ScriptState, StandsAlone, Reply}
-use Rattle.lvm_line.specs.passed.VolumeLines.{Drains, IsDone, IsUndrained, StaysOn, MklvDoes, RmlvDoes, NoGroupForMklv, BusyMklv, UndrainedMklv}
-use Rattle.lvm_line.specs.passed.VolumeLines.{MakesVolume, MklvFails, NoGroupForRmlv, BusyRmlv, UndrainedRmlv, NoVolumeForRmlv, RemovesVolume}
-use Rattle.lvm_line.specs.passed.VolumeLines.{RmlvFails, MklvEnds, RmlvEnds, refusal_for, wanted}
+use Rattle.lvm_line.specs.passed.GroupLines.{IsBrokenOff, OfGroup, OfGroupWhere, ScriptState, StandsAlone, Reply}
+use Rattle.lvm_line.specs.passed.VolumeLines.{Drains, IsDone, IsUndrained, StaysOn, MklvDoes, RmlvDoes, NoGroupForMklv, BusyMklv, UndrainedMklv, MakesVolume, MklvFails, NoGroupForRmlv, BusyRmlv, UndrainedRmlv, NoVolumeForRmlv, RemovesVolume, RmlvFails, MklvEnds, RmlvEnds, refusal_for, wanted}
 use Rattle.lvm_line.specs.passed.ReplyVariants as reply
 use Rattle.lvm_line.specs.Lines.{IsLine, LineDoes}
 use Rattle.lvm_top.specs.Standing.{MayHaveCommitted, StoodBefore, HeldAtRest, StandsSince}
@@ -41,10 +39,6 @@ use Rattle.lvm_volume_plan.specs.declared.fault.GroupFault.{GroupFault}
 use Rattle.lvm_volume_plan.specs.declared.fault.GroupFault.TheVariants as fault
 use Rattle.lvm_volume_plan.specs.NewVolume.{without_volume}
 use Rattle.lvm_volume_plan.specs.Faults.{ends_session}
-
-pub some_of : {X : Type 0} (o : Option X) → IsSome o → (x : X) × (o ≡ Some x)
-some_of (Some x) some = (x, refl)
-some_of None some = absurd (cc (some))
 
 -- what stands before a line that asks for more stands before a command on the group
 pub as_group : (run : ℕ) (Holds : State → Type 0) (old new : ScriptState) → StoodBefore run (OfGroupWhere Holds) old new → StoodBefore run OfGroup old new
@@ -94,7 +88,7 @@ module _ (run : ℕ) (old new : ScriptState) (leaves : LeavesDescriptors old.mom
   pub found_before : IsSome old.moment.device.media → (core : Core) (left : ℕ) (mid : State) → old.session ≡ Some core → Drains core old left mid → MayBeFound old.moment.device core.descriptor.id core.descriptor
   found_before told core left mid some drains =
       let so = held_so core left mid some drains in
-      let m = some_of mid.device.media (so.1 told) in
+      let m = some_told mid.device.media (so.1 told) in
       let shown = told_at mid.device.media (λ (x : Media). HoldsCommitted (image_of mid.device.sizes x) mid.core.descriptor mid.core.status.committed (is_there mid.core) mid.core.status.stamp mid.core.homes) m.0 m.1 so.0 in
       let found : MayBeFound mid.device mid.core.descriptor.id mid.core.descriptor = (image_of mid.device.sizes m.0, media_may mid.device m.0 m.1, (all_disks, shown.shows.found)) in
       drained_nothing core left mid drains core.descriptor.id core.descriptor (subst (λ (d : Descriptor). MayBeFound mid.device d.id d) drains.runs.leaves.keeps.descriptor found)

@@ -1,2 +1,2 @@
 -- Passed on from the crates below.
-pub use Rattle.lvm_replies.specs.Texts.{counted}
+pub use Rattle.lvm_show.specs.Texts.{counted}

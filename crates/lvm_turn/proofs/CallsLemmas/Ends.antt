@@ -1,5 +1,6 @@
 -- How a turn begins and ends.
-use Rattle.std.proofs.Common.{◌≡◌, ℕ, zero, suc, ◌<◌, ◌≤◌, Bool, true, false, true≢false, Option, Some, None, List, [], ◌∷◌, refl, sym, ap, ◌∙◌, subst, ⊎_elim, inl, inr, arith, replicate}
+use Rattle.std.proofs.Common.{◌≡◌, ℕ, zero, suc, ◌<◌, ◌≤◌, true, false, Option, Some, None, List, [], ◌∷◌, refl, sym, ap, ◌∙◌, subst, ⊎_elim, inl, inr, arith, replicate}
+use Rattle.std.proofs.lemmas.Bool.{both_ways}
 use mathlib.Core.Option.{some, some-ne-none, some-injective}
 use mathlib.Core.Logic.{dite}
 use native.Mathlib.Decide.{ℕ_discrete}
@@ -12,9 +13,6 @@ use Rattle.lvm_turn.specs.Views.{HoldsAll, opener, Fixed, View, Owns, Holds, up_
 use Rattle.lvm_turn.specs.Rules.{fixed_of, Fits, IsFree, IsTaken, TurnRule}
 use Rattle.lvm_turn.specs.Calls.{Continues, MayPut}
 use Rattle.lvm_turn.proofs.StepsLemmas.{continues}
-
-off : (b : Bool) → b ≡ false → b ≡ true → ⊥
-off b f t = true≢false (sym t ∙ f)
 
 in_range : (n c : ℕ) (l : List Fact) → Owns (up_to n) c l → (0 < c) × (c ≤ n) × (l ≡ [])
 in_range zero c l h = absurd h
@@ -82,7 +80,7 @@ module _ {V : Type 0} (tells : V → Told) (past : V → Option (List (List Sect
       let m = (r.each id v at).clients c mine.0 mine.1 in
       let same : id ≡ taken.seat = m.0 ∙ sym k.0 in
       let view : v ≡ taken.view = some-injective v taken.view (sym at ∙ ap (λ j. get_elem? s.views j) same ∙ taken.there) in
-      absurd (off v.inside outside (ap (λ (u : View). u.inside) view ∙ taken.holder.inside)))
+      absurd (both_ways v.inside outside (ap (λ (u : View). u.inside) view ∙ taken.holder.inside)))
       r.place
 
   -- so by what a pass is known to know

@@ -1,7 +1,7 @@
 -- Passes are cut in two and made one.
 use Rattle.std.proofs.Common.{◌≡◌, ◌≢◌, ℕ, zero, suc, ◌⊎◌, eqb, Bool, true, false, true≢false, cond, not, Option, List, [], ◌∷◌, ◌++◌, length, set, ◌<◌, ◌≤◌, refl, sym, ap, ◌∙◌, subst, ⊎_elim, inl, inr, arith, eq-eqb, ne_eqb, length-set}
 use Rattle.std.specs.Prelude.{filter, ◌==◌}
-use Rattle.std.proofs.lemmas.Bool.{not-true}
+use Rattle.std.proofs.lemmas.Bool.{not-true, eqb-true, both_ways}
 use mathlib.Core.Option.{some, some-ne-none, some-injective}
 use mathlib.Core.Logic.{dite}
 use native.Mathlib.Decide.{ℕ_discrete}
@@ -17,9 +17,6 @@ use Rattle.lvm_turn.proofs.ViewsLemmas.Nested.{greater_below, greater_whole}
 use Rattle.lvm_turn.proofs.RulesLemmas.Growing.{index_below, after_set}
 use Rattle.lvm_turn.proofs.RulesLemmas.Rules.{over_views, still_taken}
 
-off : (b : Bool) → b ≡ false → b ≡ true → ⊥
-off b f t = true≢false (sym t ∙ f)
-
 -- a client's place, once it has moved
 abbrev moved : (ℕ → ℕ) → ℕ → ℕ → ℕ → ℕ
 moved seat_of client to c = cond (eqb c client) to (seat_of c)
@@ -29,9 +26,6 @@ moved_here seat_of client to c e = ap (λ b. cond b to (seat_of c)) (eq-eqb c cl
 
 moved_else : (seat_of : ℕ → ℕ) (client to c : ℕ) → c ≢ client → moved seat_of client to c ≡ seat_of c
 moved_else seat_of client to c ne = ap (λ b. cond b to (seat_of c)) (ne_eqb c client ne)
-
-eqb_is : (a b : ℕ) → (a == b) ≡ true → a ≡ b
-eqb_is a b e = dite (ℕ_discrete a b) (λ same. same) (λ apart. absurd (true≢false (sym e ∙ ne_eqb a b apart)))
 
 module _ (p : Client → Bool) where
   kept_by : (x : Client) (xs ys : List Client) (c : ℕ) (l : List Fact) (b : Bool) → p x ≡ b → (Owns ys c l → Owns xs c l × ((y : Client) × (p y ≡ true) × (y.number ≡ c)))
@@ -50,7 +44,7 @@ module _ (p : Client → Bool) where
   stays_by : (x : Client) (xs ys : List Client) (c : ℕ) (l : List Fact) (b : Bool) → p x ≡ b → (x.number ≡ c → p x ≡ true) → (Owns xs c l → Owns ys c l)
       → Owns (x ∷ xs) c l → Owns (cond b (x ∷ ys) ys) c l
   stays_by x xs ys c l true is passes rec h = ⊎_elim (λ (t : (x.number ≡ c) × (x.own ≡ l)). inl t) (λ (t : Owns xs c l). inr (rec t)) h
-  stays_by x xs ys c l false is passes rec h = ⊎_elim (λ (t : (x.number ≡ c) × (x.own ≡ l)). absurd (off (p x) is (passes t.0))) (λ (t : Owns xs c l). rec t) h
+  stays_by x xs ys c l false is passes rec h = ⊎_elim (λ (t : (x.number ≡ c) × (x.own ≡ l)). absurd (both_ways (p x) is (passes t.0))) (λ (t : Owns xs c l). rec t) h
 
   stays_owns : (xs : List Client) (c : ℕ) (l : List Fact) → ((x : Client) → x.number ≡ c → p x ≡ true) → Owns xs c l → Owns (filter p xs) c l
   stays_owns [] c l passes h = h
@@ -59,13 +53,13 @@ module _ (p : Client → Bool) where
 without_fewer : (xs : List Client) (k c : ℕ) (l : List Fact) → Owns (without k xs) c l → Owns xs c l × (c ≢ k)
 without_fewer xs k c l h =
     let t = kept_owns (λ x. not (x.number == k)) xs c l h in
-    (t.0, λ (e : c ≡ k). off (t.1.0.number == k) (not-true _ t.1.1) (eq-eqb t.1.0.number k (t.1.2 ∙ e)))
+    (t.0, λ (e : c ≡ k). both_ways (t.1.0.number == k) (not-true _ t.1.1) (eq-eqb t.1.0.number k (t.1.2 ∙ e)))
 
 without_keeps : (xs : List Client) (k c : ℕ) → Holds xs c → c ≢ k → Holds (without k xs) c
 without_keeps xs k c h ne = (h.0, stays_owns (λ x. not (x.number == k)) xs c h.0 (λ x e. ap not (ne_eqb x.number k (λ same. ne (sym e ∙ same)))) h.1)
 
 only_fewer : (xs : List Client) (k c : ℕ) (l : List Fact) → Owns (only k xs) c l → Owns xs c l × (c ≡ k)
-only_fewer xs k c l h = let t = kept_owns (λ x. x.number == k) xs c l h in (t.0, sym t.1.2 ∙ eqb_is t.1.0.number k t.1.1)
+only_fewer xs k c l h = let t = kept_owns (λ x. x.number == k) xs c l h in (t.0, sym t.1.2 ∙ eqb-true t.1.0.number k t.1.1)
 
 only_keeps : (xs : List Client) (k c : ℕ) → Holds xs c → c ≡ k → Holds (only k xs) c
 only_keeps xs k c h e = (h.0, stays_owns (λ x. x.number == k) xs c h.0 (λ x is. eq-eqb x.number k (is ∙ e)) h.1)
@@ -151,7 +145,7 @@ module _ {V : Type 0} (tells : V → Told) (past : V → Option (List (List Sect
         home = free.home;
       })
       (λ (taken : IsTaken tells past always r.history r.best r.turn s).
-      let apart : taken.seat ≢ id = λ e. off v.inside outside
+      let apart : taken.seat ≢ id = λ e. both_ways v.inside outside
       (ap (λ (y : View). y.inside) (some-injective v taken.view (sym at ∙ ap (λ k. get_elem? s.views k) (sym e) ∙ taken.there)) ∙ taken.holder.inside) in
       inr record {
         odd = taken.odd;
@@ -160,7 +154,7 @@ module _ {V : Type 0} (tells : V → Told) (past : V → Option (List (List Sect
         there = there taken.seat taken.view apart taken.there;
         holder = taken.holder;
         alone = after_cut (λ j u. u.inside ≡ true → j ≡ taken.seat) s.views id left right
-            (λ i. absurd (off v.inside outside i)) (λ i. absurd (off v.inside outside i)) (λ j u ne e. taken.alone j u e);
+            (λ i. absurd (both_ways v.inside outside i)) (λ i. absurd (both_ways v.inside outside i)) (λ j u ne e. taken.alone j u e);
         homes = taken.homes;
       })
       r.place)
@@ -229,7 +223,7 @@ module _ {V : Type 0} (tells : V → Told) (past : V → Option (List (List Sect
         home = free.home;
       })
       (λ (taken : IsTaken tells past always r.history r.best r.turn s).
-      let apart' : taken.seat ≢ other = λ e. off u.inside outside
+      let apart' : taken.seat ≢ other = λ e. both_ways u.inside outside
       (ap (λ (y : View). y.inside) (some-injective u taken.view (sym there ∙ ap (λ k. get_elem? s.views k) (sym e) ∙ taken.there)) ∙ taken.holder.inside) in
       dite (ℕ_discrete taken.seat id)
       (λ (e : taken.seat ≡ id).

@@ -5,11 +5,11 @@ use Rattle.lvm_disk.specs.Device.{Device}
 use Rattle.lvm_rec.specs.declared.homes.Homes.{Homes}
 use Rattle.lvm_write.specs.Parts.{Spends}
 use Rattle.lvm_write.proofs.PartsLemmas.Transfers.{spent_then}
-use Rattle.lvm_varyon_plan.specs.passed.Names.{Cause, Recopy, EqualisedStaysKept}
-use Rattle.lvm_varyon_plan.specs.passed.CoreRefusedCause as cause
-use Rattle.lvm_begin.specs.Beginning.{Beginning, again_order}
-use Rattle.lvm_begin.specs.Kept.{AgainStaysKept}
-use Rattle.lvm_begin.proofs.PathsLemmas.Keeping.{kept_then}
+use Rattle.lvm_varyon.specs.passed.Names.{Cause, Recopy, EqualisedStaysKept}
+use Rattle.lvm_varyon.specs.passed.CoreRefusedCause as cause
+use Rattle.lvm_write.specs.Beginning.{Beginning, again_order}
+use Rattle.lvm_write.specs.Kept.{AgainStaysKept}
+use Rattle.lvm_write.proofs.PathsLemmas.Keeping.{kept_then}
 use Rattle.lvm_varyon.specs.Equal.{AllWritesGive, AllWritesKeep, EqualGives}
 use Rattle.lvm_varyon.specs.Parts.{StopsWriting}
 use Rattle.lvm_varyon.specs.Writing.{AllWritten}

@@ -7,9 +7,9 @@ use Rattle.lvm_disk.specs.Device.{Device}
 use Rattle.lvm_transfer.specs.Reading.{IsCutOff}
 use Rattle.lvm_write.specs.Parts.{Spends}
 use Rattle.lvm_write.proofs.PartsLemmas.Transfers.{spends_then, spent_then}
-use Rattle.lvm_begin.specs.declared.begin.Begun.{Begun}
-use Rattle.lvm_begin.specs.declared.begin.Begun.TheVariants as begun
-use Rattle.lvm_varyon_plan.specs.passed.Names.{Recopy, AllGive, StopsAtOne, EqualiseGives}
+use Rattle.lvm_write.specs.declared.begin.Begun.{Begun}
+use Rattle.lvm_write.specs.declared.begin.Begun.TheVariants as begun
+use Rattle.lvm_varyon.specs.passed.Names.{Recopy, AllGive, StopsAtOne, EqualiseGives}
 use Rattle.lvm_varyon.specs.Equal.{CopyFailed, ForgettingFailed, HaveBeenCopied, MakesEqual, StopsEqualling}
 use Rattle.lvm_varyon.specs.Writing.{IsStillOut}
 

@@ -4,13 +4,13 @@ use Rattle.lvm_num.specs.declared.record.Kind.TheVariants as kind
 use Rattle.lvm_num.specs.Disks.{has}
 use Rattle.lvm_num.specs.Record.{longest_content}
 use Rattle.lvm_disk.specs.Device.{Device}
-use Rattle.lvm_survey.specs.declared.row.Survey.{Survey}
-use Rattle.lvm_survey.specs.Surveyed.{surveyed}
-use Rattle.lvm_varyon_plan.specs.passed.Names.{Room}
-use Rattle.lvm_varyon_plan.proofs.passed.Names.{descriptor_fits, planned_may_be_made, planned_are_apart}
-use Rattle.lvm_varyon_plan.specs.declared.plan.Plan.{Plan}
+use Rattle.lvm_quorum.specs.declared.row.Survey.{Survey}
+use Rattle.lvm_quorum.specs.Surveyed.{surveyed}
+use Rattle.lvm_varyon.specs.passed.Names.{Room}
+use Rattle.lvm_varyon.proofs.passed.Names.{descriptor_fits, planned_may_be_made, planned_are_apart}
+use Rattle.lvm_varyon.specs.declared.plan.Plan.{Plan}
 use Rattle.lvm_varyon.specs.Equal.{MayWritePlan}
-use Rattle.lvm_varyon_plan.specs.Planned.{IsPlan}
+use Rattle.lvm_varyon.specs.Planned.{IsPlan}
 use Rattle.lvm_varyon.specs.Parts.{IsSurveyOf}
 use Rattle.lvm_varyon.proofs.Beginning.{targets_have_room}
 use Rattle.lvm_varyon.proofs.EndingLemmas.{have_sectors}

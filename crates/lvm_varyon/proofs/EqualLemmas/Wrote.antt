@@ -7,15 +7,15 @@ use Rattle.lvm_num.specs.Record.{Stamped}
 use Rattle.lvm_disk.specs.Counts.{Rose}
 use Rattle.lvm_disk.specs.Device.{Device}
 use Rattle.lvm_kept.specs.Contents.{Contents}
-use Rattle.lvm_varyon_plan.specs.passed.Names.{MayBeFound, ArePlanned, Recopy, IsOfCopies, sources_and_targets, Cause}
+use Rattle.lvm_varyon.specs.passed.Names.{MayBeFound, ArePlanned, Recopy, IsOfCopies, sources_and_targets, Cause}
 use Rattle.lvm_varyon.proofs.Beside.{beside_found, both_beside, copies_beside, notes_beside}
 use Rattle.lvm_kept.specs.Torn.{IsOfNote}
 use Rattle.lvm_rec.specs.declared.homes.Homes.{Homes}
 use Rattle.lvm_write.specs.Notes.{empty_note_sector}
 use Rattle.lvm_write.specs.Written.{KeepsShelf}
 use Rattle.lvm_write.proofs.PartsLemmas.Transfers.{keeps_here}
-use Rattle.lvm_begin.specs.Beginning.{Beginning, Part, again_order, IsOfParts}
-use Rattle.lvm_varyon_plan.specs.passed.CoreRefusedCause as cause
+use Rattle.lvm_write.specs.Beginning.{Beginning, Part, again_order, IsOfParts}
+use Rattle.lvm_varyon.specs.passed.CoreRefusedCause as cause
 use Rattle.lvm_varyon.specs.Equal.{AllWritesGive, BrokeOff, IsEqualled, OneFailed, OnlyForgets, StopsBehind}
 
 pub record HasWrote (b : Beginning) (copies : List Recopy) (read new : Device) : Type 0 where

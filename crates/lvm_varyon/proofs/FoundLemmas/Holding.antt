@@ -15,15 +15,15 @@ use Rattle.lvm_disk.specs.Steps.{BothTold}
 use Rattle.lvm_vol.specs.Log.{Log}
 use Rattle.lvm_kept.specs.Contents.{Contents, contents_of, has_records}
 use Rattle.lvm_kept.specs.Recovered.{Recovered}
-use Rattle.lvm_stamps.specs.Behind.{StampsBefore, IsBehind}
+use Rattle.lvm_steps.specs.Behind.{StampsBefore, IsBehind}
 use Rattle.lvm_rec.specs.declared.homes.Homes.{Homes}
 use Rattle.lvm_write.specs.Homes.{SparesNewest}
 use Rattle.lvm_status.specs.Update.{Updates}
 use Rattle.lvm_mwc.specs.Cache.{is_named as is_named_by}
-use Rattle.lvm_varyon_plan.specs.passed.Names.{next_stamp, ShowsCommitted, HoldsCommitted, Core, is_there, Parts, first_core, Room, NotesAreHome, HasNoPassive}
-use Rattle.lvm_varyon_plan.proofs.passed.Names.{empty_names_none}
-use Rattle.lvm_next.specs.Restated.{Restated}
-use Rattle.lvm_varyon_plan.specs.Chosen.{answering}
+use Rattle.lvm_varyon.specs.passed.Names.{next_stamp, ShowsCommitted, HoldsCommitted, Core, is_there, Parts, first_core, Room, NotesAreHome, HasNoPassive}
+use Rattle.lvm_varyon.proofs.passed.Names.{empty_names_none}
+use Rattle.lvm_write.specs.Restated.{Restated}
+use Rattle.lvm_varyon.specs.Chosen.{answering}
 use Rattle.lvm_varyon.specs.Equal.{MakesEqual}
 use Rattle.lvm_varyon.specs.Found.{HaveAnswered}
 use Rattle.lvm_varyon.specs.Varied.{IsAheadOfDisks, IsBrought, last_stamp}

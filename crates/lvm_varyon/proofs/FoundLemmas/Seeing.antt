@@ -3,7 +3,7 @@ use Rattle.std.proofs.Common.{◌≡◌, ◌⊎◌, inl, inr, List, ◌∷◌, z
 use Rattle.std.specs.Prelude.{IsTrue, IsFalse, not, nat_lt, nat_le, if◌then◌else◌, option_and_then, option_map, unwrap_or, slice_get, slice_index_or, IfSome}
 use Rattle.std.proofs.lemmas.Bool.{cases_lt, and_parts, not-true}
 use Rattle.std.proofs.lemmas.Bool.Decides.{nat_tests}
-use Rattle.std.proofs.lemmas.Option.{slice_get_past, get_or_from_slice_get, same_Some}
+use Rattle.std.proofs.lemmas.Option.{slice_get_past, get_or_from_slice_get, same_Some, none-some}
 use Rattle.lvm_num.specs.Disks.{Disks}
 use Rattle.lvm_num.specs.Geometry.{data_start}
 use Rattle.lvm_rec.specs.Note.{noted_of}
@@ -18,16 +18,13 @@ use Rattle.lvm_num.specs.Note.{note_in}
 use Rattle.lvm_rec.specs.Slots.{newest_on}
 use Rattle.lvm_kept.specs.Contents.{contents_of, has_records, note_sector, descriptor_on, status_on, note_on}
 use Rattle.lvm_write.specs.Written.{HasRoom}
-use Rattle.lvm_survey.specs.declared.row.SurveyRow.{SurveyRow}
-use Rattle.lvm_survey.specs.declared.row.Survey.{Survey}
-use Rattle.lvm_survey.specs.Surveyed.{surveyed, IsEmpty, IsRead}
-use Rattle.lvm_survey.specs.passed.Names.{under}
+use Rattle.lvm_write.proofs.WrittenLemmas.Writing.{if_told}
+use Rattle.lvm_quorum.specs.declared.row.SurveyRow.{SurveyRow}
+use Rattle.lvm_quorum.specs.declared.row.Survey.{Survey}
+use Rattle.lvm_quorum.specs.Surveyed.{surveyed, IsEmpty, IsRead}
+use Rattle.lvm_quorum.specs.passed.Survey.{under}
 use Rattle.lvm_varyon.specs.Found.{HaveAnswered, records_on, Found}
 use Rattle.lvm_varyon.specs.Parts.{IsSurveyOf}
-
-pub if_told : {X : Type 0} (o : Option X) (P : X → Type 0) → ((x : X) → o ≡ Some x → P x) → IfSome o P
-if_told None P all = tt
-if_told (Some x) P all = all x refl
 
 -- whether a row is that of a disk that answered
 answers : Option SurveyRow → Bool
@@ -55,14 +52,8 @@ enough n e = grind (arith, nat_tests)
 few : (n : ℕ) → nat_le data_start n ≡ false → n < data_start
 few n e = grind (arith, nat_tests)
 
-enough_is : (n : ℕ) → data_start ≤ n → nat_le data_start n ≡ true
+pub enough_is : (n : ℕ) → data_start ≤ n → nat_le data_start n ≡ true
 enough_is n le = grind (arith, nat_tests)
-
-within : (d n : ℕ) → d < n → nat_lt d n ≡ true
-within d n lt = grind (arith, nat_tests)
-
-none_some : {X : Type 0} (x : X) → None ≡ Some x → ⊥
-none_some x e = cc
 
 none_at : {X : Type 0} (xs : List X) (d : ℕ) → d < length xs → slice_get xs d ≡ None → ⊥
 none_at [] d lt e = absurd (omega (arith, lt))
@@ -79,7 +70,7 @@ module _ (old new : Device) (survey : Survey) (is : IsSurveyOf old new survey) w
     where
       by_place : (d < length survey.rows) ⊎ (length survey.rows ≤ d) → ⊥
       by_place (inl lt) = none_at survey.rows d lt none
-      by_place (inr ge) = none_some size (sym (slice_get_past old.sizes d (let all = is.all in omega (arith, ge, all))) ∙ there)
+      by_place (inr ge) = none-some size (sym (slice_get_past old.sizes d (let all = is.all in omega (arith, ge, all))) ∙ there)
 
   pub answered_row : (d : ℕ) → IsTrue (answered_by survey d) → (row : SurveyRow) × (slice_get survey.rows d ≡ Some row) × (row.failed ≡ false) × (data_start ≤ row.sectors)
   unfolding answered_by answers

@@ -12,29 +12,31 @@ use Rattle.lvm_kept.specs.Contents.{Contents}
 use Rattle.lvm_kept.specs.Plans.{ChangesBy}
 use Rattle.lvm_kept.specs.Torn.{IsOfNote}
 use Rattle.lvm_write.specs.Notes.{empty_note_sector}
-use Rattle.lvm_stamps.specs.Behind.{StampsBefore, beginning_at, IsBehind}
-use Rattle.lvm_stamps.proofs.LawsLemmas.Stamps.{later_is_ahead_too, before_is_behind}
-use Rattle.lvm_stamps.proofs.LawsLemmas.Shelves.{unwritten_stays_behind}
-use Rattle.lvm_stamps.proofs.LawsLemmas.Records.{all_is_behind_end}
+use Rattle.lvm_steps.specs.Behind.{StampsBefore, beginning_at, IsBehind}
+use Rattle.lvm_steps.proofs.LawsLemmas.Stamps.{later_is_ahead_too, before_is_behind}
+use Rattle.lvm_steps.proofs.LawsLemmas.Shelves.{unwritten_stays_behind}
+use Rattle.lvm_steps.proofs.LawsLemmas.Records.{all_is_behind_end}
 use Rattle.lvm_write.specs.Written.{KeepsShelf}
 use Rattle.lvm_rec.specs.declared.homes.Homes.{Homes}
 use Rattle.lvm_write.specs.Homes.{SparesNewest}
-use Rattle.lvm_survey.specs.declared.row.Survey.{Survey}
-use Rattle.lvm_survey.specs.Surveyed.{surveyed}
+use Rattle.lvm_write.proofs.WrittenLemmas.Writing.{if_told}
+use Rattle.lvm_write.proofs.PartsLemmas.Transfers.{rose_then}
+use Rattle.lvm_quorum.specs.declared.row.Survey.{Survey}
+use Rattle.lvm_quorum.specs.Surveyed.{surveyed}
 use Rattle.lvm_transfer.specs.Reading.{IsUnwritten, IsCutOff}
-use Rattle.lvm_varyon_plan.specs.passed.Names.{Room, Cause, Recopy, IsOfCopies, sources_and_targets, ArePlannedInOrder, ArePlanned}
-use Rattle.lvm_varyon_plan.specs.passed.CoreRefusedCause as cause
-use Rattle.lvm_begin.specs.Beginning.{Beginning, Part, again_beginning, IsOfParts, MayBeginAgain}
-use Rattle.lvm_begin.proofs.ShownLemmas.Following.{stamps_are_of_beginning}
-use Rattle.lvm_next.specs.Next.{IsNextStatus}
-use Rattle.lvm_varyon_plan.specs.declared.plan.Plan.{Plan}
-use Rattle.lvm_varyon_plan.specs.Chosen.{answering}
+use Rattle.lvm_varyon.specs.passed.Names.{Room, Cause, Recopy, IsOfCopies, sources_and_targets, ArePlannedInOrder, ArePlanned}
+use Rattle.lvm_varyon.specs.passed.CoreRefusedCause as cause
+use Rattle.lvm_write.specs.Beginning.{Beginning, Part, again_beginning, IsOfParts, MayBeginAgain}
+use Rattle.lvm_write.proofs.ShownLemmas.Following.{stamps_are_of_beginning}
+use Rattle.lvm_write.specs.Next.{IsNextStatus}
+use Rattle.lvm_varyon.specs.declared.plan.Plan.{Plan}
+use Rattle.lvm_varyon.specs.Chosen.{answering}
 use Rattle.lvm_varyon.specs.Equal.{AllWritesGive, BrokeOff, IsEqualled, OneFailed}
 use Rattle.lvm_varyon.specs.Writing.{beginning, IsStillOut}
 use Rattle.lvm_varyon.specs.Varied.{HasWritten, AtChoice, WasStopped, VaryonStops, IsAheadOfDisks, IsBrought, BringGives, brought_of}
-use Rattle.lvm_varyon_plan.specs.Planned.{NotChosen, IsPlan}
+use Rattle.lvm_varyon.specs.Planned.{NotChosen, IsPlan}
 use Rattle.lvm_varyon.specs.Parts.{IsSurveyOf, StopsReading}
-use Rattle.lvm_varyon.proofs.FoundLemmas.Seeing.{if_told, answered_by, found_at}
+use Rattle.lvm_varyon.proofs.FoundLemmas.Seeing.{answered_by, found_at}
 use Rattle.lvm_varyon.proofs.Beginning.{spared, may_begin, target_answers}
 use Rattle.lvm_varyon.proofs.Beside.{beside_stays_behind, copies_beside, notes_beside}
 use Rattle.lvm_varyon.proofs.EndingLemmas.{placed}
@@ -75,14 +77,6 @@ stops_choosing old new name moment patience survey is cause.GroupExists why = wh
 stops_choosing old new name moment patience survey is _ why = absurd why
 
 -- ---- the writes
-
-pub rose_on : (m n a b c : ℕ) → RoseBy m a b → RoseBy n b c → RoseBy (m + n) a c
-rose_on m n a b c one two =
-    let x = one.later in
-    let y = two.later in
-    let r = one.risen in
-    let s = two.risen in
-    record { later = omega (arith, x, y); risen = omega (arith, x, y, r, s) }
 
 module _ (old read : Device) (survey : Survey) (is : IsSurveyOf old read survey) (name : List ℕ) (moment : ℕ) (some : moment ≢ 0) (room : Room) (plan : Plan) (by : IsPlan survey name moment room plan) where
   pub targets_are : has plan.targets ≡ answering (surveyed survey) by.group
@@ -134,7 +128,7 @@ module _ (old read : Device) (survey : Survey) (is : IsSurveyOf old read survey)
       power = out.power;
       cuts = out.cuts ∙ is.rested.cuts;
       waited = subst (λ (n : ℕ). RoseBy n old.counts.waits new.counts.waits) (let e : (before - between) + between ≡ before = omega arith in e)
-          (rose_on (before - between) between old.counts.waits read.counts.waits new.counts.waits waited out.waited);
+          (rose_then (before - between) between old.counts.waits read.counts.waits new.counts.waits waited out.waited);
     }
 
     cut_off : IsCutOff read new → IsCutOff old new

@@ -1,6 +1,7 @@
 -- A varyon as a part of a run.
 use Rattle.std.proofs.Common.{◌≡◌, ◌≢◌, ℕ, ◌≤◌, Bool, true, false, ◌&&◌, not, IsTrue, arith, List, refl, sym, ap, subst, ◌∙◌}
 use Rattle.std.specs.Prelude.{if◌then◌else◌}
+use Rattle.lvm_write.proofs.WrittenLemmas.Writing.{if_told}
 use Rattle.lvm_num.specs.declared.descriptor.Descriptor.{Descriptor}
 use Rattle.lvm_num.specs.Disks.{Disks}
 use Rattle.lvm_num.specs.Descriptor.{is_member}
@@ -17,16 +18,15 @@ use Rattle.lvm_steps.specs.Moments.{Keeps, StaysKept}
 use Rattle.lvm_steps.specs.Requests.{at}
 use Rattle.lvm_steps.proofs.EnteringLemmas.{quiet_goes_on, calm_goes_on}
 use Rattle.lvm_steps.proofs.MomentsLemmas.Spans.{keeps_still, steps_go_on, group_goes_on}
-use Rattle.lvm_stamps.specs.Behind.{ClockIsAhead}
+use Rattle.lvm_steps.specs.Behind.{ClockIsAhead}
 use Rattle.lvm_status.specs.Update.{Updates, members_there}
 use Rattle.lvm_rec.specs.declared.homes.Homes.{Homes}
-use Rattle.lvm_varyon_plan.specs.passed.Names.{Room, Cause, HoldsCommitted, NoneIsLeft, NotesAreHome, StartsHeld, IsSettled, HasSpareNumbers, Parts, first_core, Core, is_there, HasNoPassive}
-use Rattle.lvm_varyon_plan.specs.passed.CoreRefusedCause as cause
-use Rattle.lvm_varyon_plan.proofs.passed.Names.{starts_settled, starts_numbered}
+use Rattle.lvm_varyon.specs.passed.Names.{Room, Cause, HoldsCommitted, NoneIsLeft, NotesAreHome, StartsHeld, IsSettled, HasSpareNumbers, Parts, first_core, Core, is_there, HasNoPassive}
+use Rattle.lvm_varyon.specs.passed.CoreRefusedCause as cause
+use Rattle.lvm_varyon.proofs.passed.Names.{starts_settled, starts_numbered}
 use Rattle.lvm_varyon.specs.Varied.{IsRecovered, ComesOn, IsRestated, IsAheadOfDisks, IsBrought, last_stamp, log_after}
-use Rattle.lvm_varyon_plan.specs.Chosen.{answering}
+use Rattle.lvm_varyon.specs.Chosen.{answering}
 use Rattle.lvm_varyon.proofs.SettlingLemmas.{next_leaves_none}
-use Rattle.lvm_varyon.proofs.FoundLemmas.Seeing.{if_told}
 use Rattle.lvm_varyon.proofs.FoundLemmas.Holding.{holds, notes_home, recovers, restated, shows_recovered, was_told}
 
 -- ---- the span

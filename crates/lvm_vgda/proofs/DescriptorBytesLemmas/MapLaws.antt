@@ -5,10 +5,10 @@ use Rattle.std.specs.List.{list_any}
 use Rattle.std.specs.Int.{w16, to_be_bytes}
 use Rattle.std.proofs.Math.Nat.{div-mul-le_self, lt-div-mul-add, div-lt_iff_lt-mul}
 use Rattle.std.proofs.lemmas.Nat.{div-mul-add}
-use Rattle.std.proofs.lemmas.Bool.{cases_Bool, cases_lt, false≢true, eq-eqb, eqb-true}
+use Rattle.std.proofs.lemmas.Bool.{cases_Bool, cases_lt, false≢true, eq-eqb, eqb-true, not_from_false, ne_eqb, eqb-false}
 use Rattle.std.proofs.lemmas.List.{get_or_append_left, get_or-append-add, get_or-drop, get_or-take, length-drop, length-take}
 use Rattle.std.proofs.lemmas.List.Concat.{flat_map-cons}
-use Rattle.std.proofs.lemmas.List.Elements.{All-nil, All-cons, All-tail, All-append}
+use Rattle.std.proofs.lemmas.List.Elements.{All-nil, All-cons, All-tail, All-append, All-push}
 use Rattle.std.proofs.lemmas.List.Folds.{list_any_at, list_any_none, Any-from_list_any}
 use Rattle.lvm_num.specs.declared.place.Pp.{Pp}
 use Rattle.lvm_num.specs.declared.descriptor.PvRow.{PvRow}
@@ -17,10 +17,11 @@ use Rattle.lvm_num.specs.Descriptor.{IsMember, IsLaidOut, partitions_in}
 use Rattle.lvm_num.specs.DescriptorBytes.{partition_bytes, unfinished, is_at, partition_at, partitions_at, maps_at}
 use Rattle.lvm_num.specs.Reading.{◌>>=◌, Rest, number_at}
 use Rattle.lvm_num.proofs.Pairs.{All-left, All-right, AllPairs-left}
-use Rattle.lvm_descriptor.proofs.passed.Names.{IsBytes, bind_ok, ok_is, both, from_both, Takes, Takes-then, wide16, number_takes, number_again}
-use Rattle.lvm_vgda.proofs.DescriptorBytesLemmas.MemberLaws.{none_of, then_is, All-snoc, AllPairs-snoc, AllPairs-last, not_true, not_false}
+use Rattle.lvm_vgda.proofs.passed.Names.{IsBytes, bind_ok, ok_is, both, from_both, Takes, Takes-then, wide16, number_takes, number_again}
+use Rattle.lvm_vgda.proofs.DescriptorBytesLemmas.MemberLaws.{none_of, AllPairs-snoc, AllPairs-last, not_true}
 use Rattle.lvm_vgda.proofs.DescriptorLemmas.VolumeLaws.{bare}
 use Rattle.lvm_vgda.proofs.UsedLemmas.{its_member}
+use Rattle.lvm_vgda.proofs.DescriptorBytesLemmas.MapLoops.{no_map, passes_on}
 
 -- ---- one partition
 
@@ -62,11 +63,11 @@ unfolding partition_at
 partition_again members used copies own place pp rest each free =
     let small = its_member members pp.disk pp.pp each free.has in
     let disk = number_again w16 _ wide16 (λ n. list_any (λ (row : PvRow). row.disk == n) members && not (list_any (λ (p : Pp). p.disk == n) (unfinished copies own))) place pp.disk (to_be_bytes w16 pp.pp ++ rest)
-    (omega (arith, small.0)) (from_both (list_any (λ (row : PvRow). row.disk == pp.disk) members) (not (list_any (λ (p : Pp). p.disk == pp.disk) (unfinished copies own))) (has_disk members pp free.has) (not_false _ free.apart)) in
+    (omega (arith, small.0)) (from_both (list_any (λ (row : PvRow). row.disk == pp.disk) members) (not (list_any (λ (p : Pp). p.disk == pp.disk) (unfinished copies own))) (has_disk members pp free.has) (not_from_false _ free.apart)) in
     let number = number_again w16 _ wide16 (λ n. list_any (λ (row : PvRow). row.disk == pp.disk && nat_lt n row.pps) members && not (list_any (λ (p : Pp). is_at p pp.disk n) (used ++ own))) (place + 2) pp.pp rest
-    (omega (arith, small.1)) (from_both (list_any (λ (row : PvRow). row.disk == pp.disk && nat_lt pp.pp row.pps) members) (not (list_any (λ (p : Pp). is_at p pp.disk pp.pp) (used ++ own))) free.has (not_false _ free.new)) in
+    (omega (arith, small.1)) (from_both (list_any (λ (row : PvRow). row.disk == pp.disk && nat_lt pp.pp row.pps) members) (not (list_any (λ (p : Pp). is_at p pp.disk pp.pp) (used ++ own))) free.has (not_from_false _ free.new)) in
     let same : place + 2 + 2 ≡ place + 4 = omega arith in
-    then_is _ _ _ disk ∙ then_is _ _ _ number ∙ ap (λ n. Ok (pp, (n, rest))) same
+    passes_on _ _ _ disk ∙ passes_on _ _ _ number ∙ ap (λ n. Ok (pp, (n, rest))) same
 
 -- ---- the partitions of one volume
 
@@ -81,9 +82,6 @@ pub record Fit (members : List PvRow) (used : List Pp) (copies : ℕ) (own : Lis
 
 last_at : {X : Type 0} (xs : List X) (x : X) (d : X) → get_or (xs ++ x ∷ []) (length xs) d ≡ x
 last_at xs x d = ap (λ n. get_or (xs ++ x ∷ []) n d) (let e : length xs ≡ length xs + 0 = omega arith in e) ∙ get_or-append-add xs (x ∷ []) 0 d
-
-differs : (m n : ℕ) → m == n ≡ false → m ≢ n
-differs m n isnt same = false≢true (sym isnt ∙ eq-eqb m n same)
 
 strict-more : (copies : ℕ) (own : List Pp) (pp : Pp) → IsStrict copies own → list_any (λ (p : Pp). p.disk == pp.disk) (unfinished copies own) ≡ false → IsStrict copies (own ++ pp ∷ [])
 strict-more copies own pp old apart i j d less lt same = elim (cases_lt j (length own)) [
@@ -100,7 +98,7 @@ strict-more copies own pp old apart i j d less lt same = elim (cases_lt j (lengt
       let isnt = none_of (λ (p : Pp). p.disk == pp.disk) (drop (length own / copies * copies) own) apart (i - length own / copies * copies) d (omega (arith, length-drop (length own / copies * copies) own, begins, less, last)) in
       let here : (get_or (own ++ pp ∷ []) j d) ≡ pp = ap (λ n. get_or (own ++ pp ∷ []) n d) last ∙ last_at own pp d in
       subst (λ (p : Pp). p.disk ≢ (get_or (own ++ pp ∷ []) j d).disk) (at ∙ sym (get_or_append_left own (pp ∷ []) d i (omega (arith, less, last))))
-      (subst (λ (q : Pp). (get_or (drop (length own / copies * copies) own) (i - length own / copies * copies) d).disk ≢ q.disk) (sym here) (differs _ pp.disk isnt))
+      (subst (λ (q : Pp). (get_or (drop (length own / copies * copies) own) (i - length own / copies * copies) d).disk ≢ q.disk) (sym here) (eqb-false _ pp.disk isnt))
 ]
 
 pub is_same : (p q : Pp) → p ≡ q → is_at p q.disk q.pp ≡ true
@@ -108,7 +106,7 @@ is_same p q same = from_both (p.disk == q.disk) (p.pp == q.pp) (eq-eqb p.disk q.
 
 pub fit-more : (members : List PvRow) (used : List Pp) (copies : ℕ) (own : List Pp) (pp : Pp) → Fit members used copies own → IsFree members used copies own pp → Fit members used copies (own ++ pp ∷ [])
 fit-more members used copies own pp fit free = record {
-  places = All-snoc (Has members) own pp fit.places free.has;
+  places = All-push (Has members) own pp fit.places free.has;
   strict = strict-more copies own pp fit.strict free.apart;
   once = subst (λ (l : List Pp). AllPairs (λ (a b : Pp). a ≢ b) l) (append_assoc used own (pp ∷ []))
       (AllPairs-snoc (λ (a b : Pp). a ≢ b) (used ++ own) pp fit.once
@@ -169,12 +167,6 @@ is_apart p q apart = elim (cases_Bool (is_at p q.disk q.pp)) [
   | inr isnt ↦ isnt
 ]
 
-unequal : (m n : ℕ) → m ≢ n → m == n ≡ false
-unequal m n apart = elim (cases_Bool (m == n)) [
-  | inl is ↦ absurd (apart (eqb-true m n is))
-  | inr isnt ↦ isnt
-]
-
 last_is_free : (members : List PvRow) (used : List Pp) (copies : ℕ) (own : List Pp) (pp : Pp) → 0 < copies → Fit members used copies (own ++ pp ∷ []) → IsFree members used copies own pp
 last_is_free members used copies own pp some fit = record {
   has = (All-right (Has members) own (pp ∷ []) fit.places) 0 pp (omega arith);
@@ -190,7 +182,7 @@ last_is_free members used copies own pp some fit = record {
       let one : get_or (own ++ pp ∷ []) (length own / copies * copies + k) d ≡ get_or own (length own / copies * copies + k) d = get_or_append_left own (pp ∷ []) d (length own / copies * copies + k) inside in
       let two : get_or (own ++ pp ∷ []) (length own) d ≡ pp = last_at own pp d in
       let apart = fit.strict (length own / copies * copies + k) (length own) d inside (omega (arith, length-append own (pp ∷ []))) group in
-      unequal (get_or (drop (length own / copies * copies) own) k d).disk pp.disk
+      ne_eqb (get_or (drop (length own / copies * copies) own) k d).disk pp.disk
       (subst (λ (p : Pp). p.disk ≢ pp.disk) (one ∙ sym here) (subst (λ (q : Pp). (get_or (own ++ pp ∷ []) (length own / copies * copies + k) d).disk ≢ q.disk) two apart)));
   new = list_any_none (λ (p : Pp). is_at p pp.disk pp.pp) (used ++ own)
       (λ k d lt. is_apart (get_or (used ++ own) k d) pp
@@ -216,7 +208,7 @@ partitions_again members used copies (pp ∷ more) own place rest each some fit 
     let others = partitions_again members used copies more (own ++ pp ∷ []) (place + 4) rest each some (subst (Fit members used copies) (sym parts) fit) in
     let end : place + 4 + 4 * length more ≡ place + 4 * suc (length more) = omega arith in
     ap (λ (bytes : List ℕ). partitions_at members used copies (suc (length more)) own (place, bytes)) regrouped
-    ∙ then_is _ (λ (first : Pp × Rest). partitions_at members used copies (length more) (own ++ first.0 ∷ []) first.1) _ (partition_again members used copies own place pp (flat_map partition_bytes more ++ rest) each free)
+    ∙ passes_on _ (λ (first : Pp × Rest). partitions_at members used copies (length more) (own ++ first.0 ∷ []) first.1) _ (partition_again members used copies own place pp (flat_map partition_bytes more ++ rest) each free)
     ∙ others
     ∙ ap (λ (l : List Pp). Ok (l, (place + 4 + 4 * length more, rest))) parts
     ∙ ap (λ n. Ok (own ++ pp ∷ more, (n, rest))) end
@@ -275,10 +267,6 @@ one_map : (members : List PvRow) (used : List Pp) (row : LvRow) (rows : List LvR
     ≡ (partitions_at members used row.copies (row.lps * row.copies) [] rest >>= λ own. maps_at members (used ++ own.0) rows own.1 >>= λ others. Ok (record row { map = own.0 } ∷ others.0, others.1))
 unfolding maps_at
 one_map members used row rows rest = refl
-
-no_map : (members : List PvRow) (used : List Pp) (rest : Rest) → maps_at members used [] rest ≡ Ok ([], rest)
-unfolding maps_at
-no_map members used rest = refl
 
 pub record MapsTaken (members : List PvRow) (used : List Pp) (rows : List LvRow) (r : Rest) (x : List LvRow × Rest) : Type 0 where
   pub same : map bare x.0 ≡ map bare rows
@@ -348,6 +336,6 @@ maps_again members used (row ∷ lvs) place rest each some laid places once =
     ap (λ (bytes : List ℕ). maps_at members used (bare row ∷ map bare lvs) (place, bytes)) regrouped
     ∙ one_map members used (bare row) (map bare lvs) (place, map_bytes row ++ (flat_map map_bytes lvs ++ rest))
     ∙ ap (λ n. partitions_at members used row.copies n [] (place, map_bytes row ++ (flat_map map_bytes lvs ++ rest)) >>= λ got. maps_at members (used ++ got.0) (map bare lvs) got.1 >>= λ more. Ok (record row { map = got.0 } ∷ more.0, more.1)) (sym here.whole)
-    ∙ then_is _ (λ (got : List Pp × Rest). maps_at members (used ++ got.0) (map bare lvs) got.1 >>= λ more. Ok (record row { map = got.0 } ∷ more.0, more.1)) _ own
-    ∙ then_is _ (λ (more : List LvRow × Rest). Ok (record row { map = row.map } ∷ more.0, more.1)) _ others
+    ∙ passes_on _ (λ (got : List Pp × Rest). maps_at members (used ++ got.0) (map bare lvs) got.1 >>= λ more. Ok (record row { map = got.0 } ∷ more.0, more.1)) _ own
+    ∙ passes_on _ (λ (more : List LvRow × Rest). Ok (record row { map = row.map } ∷ more.0, more.1)) _ others
     ∙ ap (λ n. Ok (row ∷ lvs, (n, rest))) end

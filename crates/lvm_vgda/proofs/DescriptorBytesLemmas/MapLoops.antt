@@ -12,8 +12,8 @@ use Rattle.lvm_num.specs.declared.descriptor.LvRow.{LvRow}
 use Rattle.lvm_num.specs.Descriptor.{partitions_in}
 use Rattle.lvm_num.specs.DescriptorBytes.{unfinished, partition_at, partitions_at, maps_at}
 use Rattle.lvm_num.specs.Reading.{◌>>=◌, Rest, number_at}
-use Rattle.lvm_descriptor.specs.passed.Names.{Fault, Fails}
-use Rattle.lvm_descriptor.specs.passed.FieldsFaultFault as faults
+use Rattle.lvm_vgda.specs.passed.Names.{Fault, Fails}
+use Rattle.lvm_vgda.specs.passed.FieldsFaultFault as faults
 use Rattle.lvm_vgda.specs.Used.{free_at}
 
 -- a step that fails, and one that goes on
@@ -58,7 +58,7 @@ one_map : (members : List PvRow) (used : List Pp) (row : LvRow) (rows : List LvR
 unfolding maps_at
 one_map members used row rows rest = refl
 
-no_map : (members : List PvRow) (used : List Pp) (rest : Rest) → maps_at members used [] rest ≡ Ok ([], rest)
+pub no_map : (members : List PvRow) (used : List Pp) (rest : Rest) → maps_at members used [] rest ≡ Ok ([], rest)
 unfolding maps_at
 no_map members used rest = refl
 

@@ -3,17 +3,17 @@ use Rattle.std.proofs.Common.{◌≡◌, ◌≢◌, inl, inr, ℕ, zero, suc, �
 use Rattle.std.specs.Prelude.{◌==◌, not, nat_le, nat_lt, flat_map, All, AllPairs}
 use Rattle.std.specs.List.{list_all, list_any}
 use Rattle.std.specs.Int.{w8, w16, to_be_bytes}
-use Rattle.std.proofs.lemmas.Bool.{cases_Bool, false≢true, eq-eqb}
+use Rattle.std.proofs.lemmas.Bool.{cases_Bool, false≢true, not_from_false, ne_eqb, eqb-false, lt-ltb, leb-true, le-leb}
 use Rattle.std.proofs.lemmas.Bool.Decides.{nat_tests}
 use Rattle.std.proofs.lemmas.List.Concat.{flat_map-cons}
-use Rattle.std.proofs.lemmas.List.Elements.{All-append, All-nil, All-cons}
+use Rattle.std.proofs.lemmas.List.Elements.{All-push}
 use Rattle.std.proofs.lemmas.List.Folds.{list_any_at, list_any_none}
 use Rattle.lvm_num.specs.declared.descriptor.PvRow.{PvRow}
 use Rattle.lvm_num.specs.Descriptor.{IsMember, AreMembers}
 use Rattle.lvm_num.specs.DescriptorBytes.{flag, is_flag, member_bytes, member_at, members_at}
 use Rattle.lvm_num.specs.Reading.{◌>>=◌, Rest, number_at, zeros_at}
 use Rattle.lvm_num.proofs.Pairs.{All-left, All-right, AllPairs-left, AllPairs-append, AllPairs-across}
-use Rattle.lvm_descriptor.proofs.passed.Names.{IsBytes, bind_ok, ok_is, both, from_both, Takes, Takes-then, byte_takes, byte_again, wide16, number_takes, number_again, zeros_take, zeros_again}
+use Rattle.lvm_vgda.proofs.passed.Names.{IsBytes, bind_ok, ok_is, both, from_both, Takes, Takes-then, byte_takes, byte_again, wide16, number_takes, number_again, zeros_take, zeros_again}
 pub use Rattle.std.proofs.lemmas.Bool.{not-true as not_true}
 
 -- ---- lists that grow at their end
@@ -23,9 +23,6 @@ none_of {X} p xs none k d lt = elim (cases_Bool (p (get_or xs k d))) [
   | inl is ↦ absurd (false≢true (sym none ∙ list_any_at p xs k d lt is))
   | inr isnt ↦ isnt
 ]
-
-pub All-snoc : {X : Type 0} (P : X → Type 0) (xs : List X) (x : X) → All P xs → P x → All P (xs ++ x ∷ [])
-All-snoc P xs x all here = All-append P xs (x ∷ []) all (All-cons P x [] here (All-nil P))
 
 single : {X : Type 0} (x : X) (j : ℕ) (d : X) → j < 1 → get_or (x ∷ []) j d ≡ x
 single x zero d lt = refl
@@ -45,17 +42,6 @@ pub all_at : {X : Type 0} (p : X → Bool) (xs : List X) → list_all p xs ≡ t
 all_at p [] e k d lt = absurd (omega (arith, lt))
 all_at p (x ∷ xs) e zero d lt = (both (p x) (list_all p xs) e).0
 all_at p (x ∷ xs) e (suc k) d lt = all_at p xs (both (p x) (list_all p xs) e).1 k d (omega (arith, lt))
-
-pub all_from : {X : Type 0} (p : X → Bool) (xs : List X) → ((k : ℕ) (d : X) → k < length xs → p (get_or xs k d) ≡ true) → list_all p xs ≡ true
-all_from p [] each = refl
-all_from p (x ∷ xs) each = from_both (p x) (list_all p xs) (each 0 x (omega arith)) (all_from p xs (λ k d lt. each (suc k) d (omega (arith, lt))))
-
--- a step that is known, and what follows
-pub then_is : {A B : Type 0} (r : Result A ℕ) (f : A → Result B ℕ) (x : A) → r ≡ Ok x → (r >>= f) ≡ f x
-then_is {A} {B} r f x e = ap (λ (read : Result A ℕ). read >>= f) e
-
-pub not_false : (b : Bool) → b ≡ false → not b ≡ true
-not_false b e = rw e refl
 
 -- ---- flags
 
@@ -78,26 +64,11 @@ flag_below false = omega arith
 
 -- ---- a member
 
-pub differs : (m n : ℕ) → m == n ≡ false → m ≢ n
-differs m n isnt same = false≢true (sym isnt ∙ eq-eqb m n same)
-
-pub unequal : (m n : ℕ) → m ≢ n → m == n ≡ false
-unequal m n apart = grind (arith, nat_tests)
-
 pub disk_below : (n : ℕ) → nat_lt n 128 ≡ true → n < 128
 disk_below n e = grind (arith, nat_tests)
 
 pub at_least_1 : (n : ℕ) → nat_le 1 n ≡ true → 1 ≤ n
 at_least_1 n e = grind (arith, nat_tests)
-
-pub at_most : (n m : ℕ) → nat_le n m ≡ true → n ≤ m
-at_most n m e = grind (arith, nat_tests)
-
-pub lt_test : (n m : ℕ) → n < m → nat_lt n m ≡ true
-lt_test n m lt = grind (arith, nat_tests)
-
-pub le_test : (n m : ℕ) → n ≤ m → nat_le n m ≡ true
-le_test n m le = grind (arith, nat_tests)
 
 abbrev pub IsNew : List PvRow → PvRow → Type 0
 IsNew earlier row = list_any (λ (other : PvRow). other.disk == row.disk) earlier ≡ false
@@ -125,7 +96,7 @@ member_takes earlier r x fits e =
     let made : PvRow × Rest = (record { disk = a.0.0; pps = b.0.0; spare = c.0.0 == 1 }, d.0) in
     subst (λ (y : PvRow × Rest). Takes r (member_bytes y.0) y.1 × IsMember y.0 × IsNew earlier y.0) (ok_is made x d.2) (
       e03,
-      record { disk = disk_below a.0.0 disk.0; a_partition = at_least_1 b.0.0 pps.0; partitions = at_most b.0.0 1016 pps.1 },
+      record { disk = disk_below a.0.0 disk.0; a_partition = at_least_1 b.0.0 pps.0; partitions = leb-true b.0.0 1016 pps.1 },
       not_true (list_any (λ (row : PvRow). row.disk == a.0.0) earlier) disk.1,
     )
 
@@ -134,9 +105,9 @@ pub member_again : (earlier : List PvRow) (place : ℕ) (row : PvRow) (rest : Li
 unfolding member_at
 member_again earlier place row rest is new =
     let disk = number_again w16 _ wide16 (λ n. nat_lt n 128 && not (list_any (λ (other : PvRow). other.disk == n) earlier)) place row.disk (to_be_bytes w16 row.pps ++ (flag row.spare ∷ (replicate 3 0 ++ rest)))
-    (omega (arith, is.disk)) (from_both (nat_lt row.disk 128) (not (list_any (λ (other : PvRow). other.disk == row.disk) earlier)) (lt_test row.disk 128 is.disk) (not_false _ new)) in
+    (omega (arith, is.disk)) (from_both (nat_lt row.disk 128) (not (list_any (λ (other : PvRow). other.disk == row.disk) earlier)) (lt-ltb row.disk 128 is.disk) (not_from_false _ new)) in
     let pps = number_again w16 _ wide16 (λ n. nat_le 1 n && nat_le n 1016) (place + 2) row.pps (flag row.spare ∷ (replicate 3 0 ++ rest))
-    (omega (arith, is.partitions)) (from_both (nat_le 1 row.pps) (nat_le row.pps 1016) (le_test 1 row.pps is.a_partition) (le_test row.pps 1016 is.partitions)) in
+    (omega (arith, is.partitions)) (from_both (nat_le 1 row.pps) (nat_le row.pps 1016) (le-leb 1 row.pps is.a_partition) (le-leb row.pps 1016 is.partitions)) in
     let spare = byte_again is_flag (place + 2 + 2) (flag row.spare) (replicate 3 0 ++ rest) (is_flag_flag row.spare) in
     let gap = zeros_again 3 (place + 2 + 2 + 1) rest in
     let same : place + 2 + 2 + 1 + 3 ≡ place + 8 = omega arith in
@@ -158,9 +129,9 @@ pub record MembersTaken (n : ℕ) (earlier : List PvRow) (r : Rest) (x : List Pv
 
 pub members-more : (earlier : List PvRow) (row : PvRow) → AreMembers earlier → IsMember row → IsNew earlier row → AreMembers (earlier ++ row ∷ [])
 members-more earlier row all is new = record {
-  each = All-snoc IsMember earlier row all.each is;
+  each = All-push IsMember earlier row all.each is;
   disks_differ = AllPairs-snoc (λ (a b : PvRow). a.disk ≢ b.disk) earlier row all.disks_differ
-      (λ k d lt. differs (get_or earlier k d).disk row.disk (none_of (λ (other : PvRow). other.disk == row.disk) earlier new k d lt));
+      (λ k d lt. eqb-false (get_or earlier k d).disk row.disk (none_of (λ (other : PvRow). other.disk == row.disk) earlier new k d lt));
 }
 
 pub members_take : (n : ℕ) (earlier : List PvRow) (r : Rest) (x : List PvRow × Rest) → IsBytes r.1 → AreMembers earlier → members_at n earlier r ≡ Ok x → MembersTaken n earlier r x
@@ -201,7 +172,7 @@ members_again (row ∷ own) earlier place rest all =
     let front = front_left earlier row own all in
     let is : IsMember row = (All-right IsMember earlier (row ∷ []) front.each) 0 row (omega arith) in
     let new : IsNew earlier row = list_any_none (λ (other : PvRow). other.disk == row.disk) earlier
-    (λ k d lt. unequal (get_or earlier k d).disk row.disk (AllPairs-last (λ (a b : PvRow). a.disk ≢ b.disk) earlier row front.disks_differ k d lt)) in
+    (λ k d lt. ne_eqb (get_or earlier k d).disk row.disk (AllPairs-last (λ (a b : PvRow). a.disk ≢ b.disk) earlier row front.disks_differ k d lt)) in
     let regrouped : flat_map member_bytes (row ∷ own) ++ rest ≡ member_bytes row ++ (flat_map member_bytes own ++ rest) =
     ap (λ (bytes : List ℕ). bytes ++ rest) (flat_map-cons member_bytes row own) ∙ append_assoc (member_bytes row) (flat_map member_bytes own) rest in
     let parts : (earlier ++ row ∷ []) ++ own ≡ earlier ++ row ∷ own = append_assoc earlier (row ∷ []) own in

@@ -2,7 +2,7 @@
 use Rattle.std.proofs.Common.{◌≡◌, ◌≢◌, inl, inr, ℕ, zero, suc, ◌+◌, ◌*◌, ◌^◌, ◌<◌, ◌≤◌, Bool, true, false, cond, ◌&&◌, ◌||◌, List, [], ◌∷◌, ◌++◌, append-nil, append_assoc, length, get_or, replicate, Some, Result, Ok, Err, refl, sym, ap, subst, ◌∙◌, arith}
 use Rattle.std.specs.Prelude.{◌==◌, ◌-◌, not, nat_le, nat_lt, bytes_eq, find, flat_map, map, All, AllPairs, IfOk}
 use Rattle.std.specs.Int.{w8, w16, w64, to_be_bytes}
-use Rattle.std.proofs.lemmas.Bool.{cases_Bool, false≢true, eq-eqb, eqb-true}
+use Rattle.std.proofs.lemmas.Bool.{cases_Bool, false≢true, eq-eqb, eqb-true, not_from_false, leb-true, le-leb}
 use Rattle.std.proofs.lemmas.Bool.Decides.{nat_tests}
 use Rattle.std.proofs.lemmas.List.Elements.{All-nil, All-weaker}
 use Rattle.std.proofs.lemmas.List.Folds.{Any-from_list_any, list_any_at}
@@ -16,12 +16,13 @@ use Rattle.lvm_num.specs.DescriptorBytes.{flag, is_flag, descriptor_magic, membe
 use Rattle.lvm_num.specs.Reading.{◌>>=◌, Rest, bytes_at, number_at, zeros_at, end_at}
 use Rattle.lvm_num.proofs.MarksLemmas.Maps.{find-Some}
 use Rattle.lvm_num.proofs.DescriptorLemmas.Bounds.{few_volumes}
-use Rattle.lvm_descriptor.specs.passed.Names.{Fault, Gives}
-use Rattle.lvm_descriptor.proofs.passed.Names.{IsBytes, bind_ok, ok_is, both, from_both, Takes, bytes_takes, bytes_again, wide16, wide64, number_takes, number_again, number_value, byte_takes, byte_again, zeros_take, zeros_again}
+use Rattle.lvm_vgda.specs.passed.Names.{Fault, Gives}
+use Rattle.lvm_vgda.proofs.passed.Names.{IsBytes, bind_ok, ok_is, both, from_both, Takes, bytes_takes, bytes_again, wide16, wide64, number_takes, number_again, number_value, byte_takes, byte_again, zeros_take, zeros_again}
 use Rattle.lvm_vgda.proofs.DescriptorBytesLemmas.NameLaws.{bytes_same, name_takes, name_again}
-use Rattle.lvm_vgda.proofs.DescriptorBytesLemmas.MemberLaws.{all_at, then_is, not_true, not_false, at_least_1, at_most, le_test, flag_is, flag_again, is_flag_flag, MembersTaken, members_take, members_again}
+use Rattle.lvm_vgda.proofs.DescriptorBytesLemmas.MemberLaws.{all_at, not_true, at_least_1, flag_is, flag_again, is_flag_flag, MembersTaken, members_take, members_again}
 use Rattle.lvm_vgda.proofs.DescriptorLemmas.VolumeLaws.{bare, VolumesTaken, volumes_take, volumes_again, bare_length, bare_bytes, bare_volumes, whole_volumes, bare_is}
 use Rattle.lvm_vgda.proofs.DescriptorBytesLemmas.MapLaws.{Has, HasCopies, map_bytes, MapsTaken, maps_take, maps_again}
+use Rattle.lvm_vgda.proofs.DescriptorBytesLemmas.MapLoops.{passes_on}
 
 -- ---- the version
 
@@ -50,7 +51,7 @@ version_takes r x fits e =
 version_again : (big : Bool) (place : ℕ) (rest : List ℕ) → version_at (place, descriptor_magic big ++ rest) ≡ Ok (big, (place + 4, rest))
 unfolding version_at
 version_again big place rest =
-    then_is _ _ _ (bytes_again 4 (λ bytes. bytes_eq bytes (descriptor_magic false) || bytes_eq bytes (descriptor_magic true)) place (descriptor_magic big) rest refl (passes big))
+    passes_on _ _ _ (bytes_again 4 (λ bytes. bytes_eq bytes (descriptor_magic false) || bytes_eq bytes (descriptor_magic true)) place (descriptor_magic big) rest refl (passes big))
     ∙ ap (λ b. Ok (b, (place + 4, rest))) (same big)
   where
     passes : (b : Bool) → bytes_eq (descriptor_magic b) (descriptor_magic false) || bytes_eq (descriptor_magic b) (descriptor_magic true) ≡ true
@@ -87,7 +88,7 @@ count_takes big even r x fits e =
           let same : a.0.0 ≡ x.0 = one_number r a.0 x a.1 b.1 in
           sym same ∙ eqb-true a.0.0 2 (twice even (a.0.0 == 2) is b.0);
       some = at_least_1 x.0 tests.0;
-      most = at_most x.0 (most_members big) tests.1;
+      most = leb-true x.0 (most_members big) tests.1;
     }
   where
     twice : (p q : Bool) → p ≡ true → p && not q ≡ false → q ≡ true
@@ -103,8 +104,8 @@ unfolding member_count_at
 count_again big even place n rest two some most =
     let small : n < 2 ^ 16 = omega (arith, most, few big) in
     let any = number_again w16 _ wide16 (λ n. true) place n rest small refl in
-    let own = number_again w16 _ wide16 (λ n. nat_le 1 n && nat_le n (most_members big)) place n rest small (from_both (nat_le 1 n) (nat_le n (most_members big)) (le_test 1 n some) (le_test n (most_members big) most)) in
-    then_is _ (λ (count : ℕ × Rest). cond (even && not (count.0 == 2)) (Err (place - 1)) (number_at w16 (λ n. nat_le 1 n && nat_le n (most_members big)) (place, to_be_bytes w16 n ++ rest))) _ any
+    let own = number_again w16 _ wide16 (λ n. nat_le 1 n && nat_le n (most_members big)) place n rest small (from_both (nat_le 1 n) (nat_le n (most_members big)) (le-leb 1 n some) (le-leb n (most_members big) most)) in
+    passes_on _ (λ (count : ℕ × Rest). cond (even && not (count.0 == 2)) (Err (place - 1)) (number_at w16 (λ n. nat_le 1 n && nat_le n (most_members big)) (place, to_be_bytes w16 n ++ rest))) _ any
     ∙ skip (even && not (n == 2)) (place - 1) _ (not_other even two)
     ∙ own
   where
@@ -274,7 +275,7 @@ body_takes big id name mib quorum even r d fits e =
           two = λ is. sym pvs-size ∙ ti.even_two is;
           some = subst (λ x. 1 ≤ x) pvs-size ti.some;
           members_fit = subst (λ x. x ≤ most_members big) pvs-size ti.most;
-          volumes_fit = subst (λ x. x ≤ most_volumes big) lvs-size (at_most j.0 (most_volumes big) tj.1);
+          volumes_fit = subst (λ x. x ≤ most_volumes big) lvs-size (leb-true j.0 (most_volumes big) tj.1);
           members = tl.valid;
           volumes = whole_volumes big n.0 (subst (AreVolumes big) (sym (tn.same ∙ empty)) tm.valid);
           places = tn.places;
@@ -365,31 +366,31 @@ spelled_is_read d valid =
     let lvs-few : length d.lvs < 2 ^ 16 = omega (arith, head.volumes, few_volumes d.big) in
     let regrouped : descriptor_bytes d ≡ nested d [] = sym (append-nil (descriptor_bytes d)) ∙ regroup d [] in
     let a = version_again d.big 0 s2 in
-    let b = number_again w64 _ wide64 (λ n. not (n == 0)) 4 d.id s3 head.id (not_false (d.id == 0) (is_not d.id head.some_id)) in
+    let b = number_again w64 _ wide64 (λ n. not (n == 0)) 4 d.id s3 head.id (not_from_false (d.id == 0) (is_not d.id head.some_id)) in
     let c = name_again (λ text. true) 12 d.name s4 head.name refl in
     let f = number_again w16 _ wide16 is_size 28 d.mib s5 (size_below d.mib head.size) head.size in
     let g = byte_again is_flag 30 (flag d.quorum) (flag d.even ∷ s7) (is_flag_flag d.quorum) in
     let h = byte_again is_flag 31 (flag d.even) s7 (is_flag_flag d.even) in
     let i = count_again d.big (flag d.even == 1) 32 (length d.pvs) s8 (λ is. head.even (sym (flag_again d.even) ∙ is)) head.a_member head.members in
-    let j = number_again w16 _ wide16 (λ n. nat_le n (most_volumes d.big)) 34 (length d.lvs) s9 lvs-few (le_test (length d.lvs) (most_volumes d.big) head.volumes) in
+    let j = number_again w16 _ wide16 (λ n. nat_le n (most_volumes d.big)) 34 (length d.lvs) s9 lvs-few (le-leb (length d.lvs) (most_volumes d.big) head.volumes) in
     let k = zeros_again 12 36 rest_pvs in
     let l = members_again d.pvs [] 48 rest_lvs valid.members in
     let m = volumes_again d.big d.lvs [] (48 + 8 * length d.pvs) rest_map (bare_volumes d.big d.lvs valid.volumes) in
     let n = maps_again d.pvs [] d.lvs (48 + 8 * length d.pvs + 32 * length d.lvs) [] valid.members.each (copies_of_volumes d.big d.lvs valid.volumes) valid.maps.laid_out
     (All-weaker (IsPartitionOf d) (Has d.pvs) (of_is_has d) (partitions_used d) valid.maps.places) valid.maps.used_once in
     ap descriptor_of regrouped
-    ∙ then_is _ _ _ a
-    ∙ then_is _ _ _ b
-    ∙ then_is _ _ _ c
-    ∙ then_is _ _ _ f
-    ∙ then_is _ _ _ g
-    ∙ then_is _ _ _ h
-    ∙ then_is _ _ _ i
-    ∙ then_is _ _ _ j
-    ∙ then_is _ _ _ k
-    ∙ then_is _ _ _ l
-    ∙ then_is _ _ _ m
-    ∙ then_is _ _ _ n
+    ∙ passes_on _ _ _ a
+    ∙ passes_on _ _ _ b
+    ∙ passes_on _ _ _ c
+    ∙ passes_on _ _ _ f
+    ∙ passes_on _ _ _ g
+    ∙ passes_on _ _ _ h
+    ∙ passes_on _ _ _ i
+    ∙ passes_on _ _ _ j
+    ∙ passes_on _ _ _ k
+    ∙ passes_on _ _ _ l
+    ∙ passes_on _ _ _ m
+    ∙ passes_on _ _ _ n
     ∙ ap (λ x. Ok (record { id = d.id; name = d.name; mib = d.mib; quorum = x; even = flag d.even == 1; big = d.big; pvs = d.pvs; lvs = d.lvs })) (flag_again d.quorum)
     ∙ ap (λ x. Ok (record { id = d.id; name = d.name; mib = d.mib; quorum = d.quorum; even = x; big = d.big; pvs = d.pvs; lvs = d.lvs })) (flag_again d.even)
   where

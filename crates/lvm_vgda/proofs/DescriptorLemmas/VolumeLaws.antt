@@ -3,10 +3,9 @@ use Rattle.std.proofs.Common.{◌≡◌, ◌≢◌, inl, inr, ℕ, zero, suc, �
 use Rattle.std.specs.Prelude.{not, nat_le, nat_lt, bytes_eq, flat_map, map, All}
 use Rattle.std.specs.List.{list_any, list_all}
 use Rattle.std.specs.Int.{w8, w16, w32, to_be_bytes}
-use Rattle.std.proofs.lemmas.Bool.{cases_Bool, false≢true}
-use Rattle.std.proofs.lemmas.Bool.Decides.{nat_tests}
+use Rattle.std.proofs.lemmas.Bool.{cases_Bool, false≢true, not_from_false, ltb-true, lt-ltb, leb-true, le-leb}
 use Rattle.std.proofs.lemmas.List.Concat.{flat_map-cons}
-use Rattle.std.proofs.lemmas.List.Elements.{All-nil, All-cons, All-tail}
+use Rattle.std.proofs.lemmas.List.Elements.{All-nil, All-cons, All-tail, All-push}
 use Rattle.std.proofs.lemmas.List.Folds.{list_any_none}
 use Rattle.lvm_num.specs.declared.descriptor.LvRow.{LvRow}
 use Rattle.lvm_num.specs.declared.descriptor.Mode.{Mode}
@@ -18,9 +17,11 @@ use Rattle.lvm_num.specs.Descriptor.{most_volumes, IsVolume, AreVolumes}
 use Rattle.lvm_num.specs.DescriptorBytes.{mode_code, policy_code, mode_named, policy_named, volume_bytes, name_at, volume_at, volumes_at}
 use Rattle.lvm_num.specs.Reading.{◌>>=◌, Rest, number_at, zeros_at}
 use Rattle.lvm_num.proofs.Pairs.{All-left, All-right, AllPairs-left}
-use Rattle.lvm_descriptor.proofs.passed.Names.{IsBytes, bind_ok, ok_is, both, from_both, Takes, Takes-then, wide16, wide32, number_takes, number_again, byte_takes, byte_again, zeros_take, zeros_again}
+use Rattle.lvm_num.proofs.Lists.{all_passed}
+use Rattle.lvm_vgda.proofs.passed.Names.{IsBytes, bind_ok, ok_is, both, from_both, Takes, Takes-then, wide16, wide32, number_takes, number_again, byte_takes, byte_again, zeros_take, zeros_again}
 use Rattle.lvm_vgda.proofs.DescriptorBytesLemmas.NameLaws.{bytes_same, same_bytes, name_takes, name_again}
-use Rattle.lvm_vgda.proofs.DescriptorBytesLemmas.MemberLaws.{none_of, all_at, all_from, then_is, All-snoc, AllPairs-snoc, AllPairs-last, not_true, not_false, at_least_1, at_most, lt_test, le_test}
+use Rattle.lvm_vgda.proofs.DescriptorBytesLemmas.MemberLaws.{none_of, all_at, AllPairs-snoc, AllPairs-last, not_true, at_least_1}
+use Rattle.lvm_vgda.proofs.DescriptorBytesLemmas.MapLoops.{passes_on}
 
 -- ---- codes
 
@@ -28,7 +29,7 @@ mode_is : (n : ℕ) → nat_le n 2 ≡ true → n ≡ mode_code (mode_named n)
 mode_is zero e = refl
 mode_is (suc zero) e = refl
 mode_is (suc (suc zero)) e = refl
-mode_is (suc (suc (suc n))) e = absurd (omega (arith, at_most (suc (suc (suc n))) 2 e))
+mode_is (suc (suc (suc n))) e = absurd (omega (arith, leb-true (suc (suc (suc n))) 2 e))
 
 mode_again : (mode : Mode) → mode_named (mode_code mode) ≡ mode
 mode_again Off = refl
@@ -45,7 +46,7 @@ policy_is zero e = refl
 policy_is (suc zero) e = refl
 policy_is (suc (suc zero)) e = refl
 policy_is (suc (suc (suc zero))) e = refl
-policy_is (suc (suc (suc (suc n)))) e = absurd (omega (arith, at_most (suc (suc (suc (suc n)))) 3 e))
+policy_is (suc (suc (suc (suc n)))) e = absurd (omega (arith, leb-true (suc (suc (suc (suc n)))) 3 e))
 
 policy_again : (policy : Policy) → policy_named (policy_code policy) ≡ policy
 policy_again Parallel = refl
@@ -111,9 +112,9 @@ volume_takes big earlier r x fits e =
       took = ai;
       is = record {
         a_number = at_least_1 a.0.0 number.0;
-        number = at_most a.0.0 (most_volumes big) number.1;
+        number = leb-true a.0.0 (most_volumes big) number.1;
         a_copy = at_least_1 b.0.0 copies.0;
-        copies = at_most b.0.0 3 copies.1;
+        copies = leb-true b.0.0 3 copies.1;
         a_partition = at_least_1 g.0.0 tg.1;
         partitions = tg.2;
         name = th.1;
@@ -137,25 +138,25 @@ volume_again big earlier place row rest is next =
     let a = number_again w16 _ wide16 (λ n. nat_le 1 n && nat_le n (most_volumes big) && list_all (λ (other : LvRow). nat_lt other.number n) earlier) place row.number (row.copies ∷ mode_code row.mode ∷ policy_code row.policy ∷ s3)
     (omega (arith, is.number, most))
     (from_both (nat_le 1 row.number && nat_le row.number (most_volumes big)) (list_all (λ (other : LvRow). nat_lt other.number row.number) earlier)
-    (from_both (nat_le 1 row.number) (nat_le row.number (most_volumes big)) (le_test 1 row.number is.a_number) (le_test row.number (most_volumes big) is.number)) next.above) in
+    (from_both (nat_le 1 row.number) (nat_le row.number (most_volumes big)) (le-leb 1 row.number is.a_number) (le-leb row.number (most_volumes big) is.number)) next.above) in
     let b = byte_again (λ n. nat_le 1 n && nat_le n 3) (place + 2) row.copies (mode_code row.mode ∷ policy_code row.policy ∷ s3)
-    (from_both (nat_le 1 row.copies) (nat_le row.copies 3) (le_test 1 row.copies is.a_copy) (le_test row.copies 3 is.copies)) in
+    (from_both (nat_le 1 row.copies) (nat_le row.copies 3) (le-leb 1 row.copies is.a_copy) (le-leb row.copies 3 is.copies)) in
     let c = byte_again (λ n. nat_le n 2) (place + 2 + 1) (mode_code row.mode) (policy_code row.policy ∷ s3) (mode_small row.mode) in
     let d = byte_again (λ n. nat_le n 3) (place + 2 + 1 + 1) (policy_code row.policy) s3 (policy_small row.policy) in
     let f = zeros_again 3 (place + 2 + 1 + 1 + 1) s4 in
-    let g = number_again w32 _ wide32 (λ n. nat_le 1 n) (place + 2 + 1 + 1 + 1 + 3) row.lps s5 (omega (arith, is.partitions)) (le_test 1 row.lps is.a_partition) in
-    let h = name_again (λ bytes. not (list_any (λ (other : LvRow). bytes_eq other.name bytes) earlier)) (place + 2 + 1 + 1 + 1 + 3 + 4) row.name last is.name (not_false _ next.unnamed) in
+    let g = number_again w32 _ wide32 (λ n. nat_le 1 n) (place + 2 + 1 + 1 + 1 + 3) row.lps s5 (omega (arith, is.partitions)) (le-leb 1 row.lps is.a_partition) in
+    let h = name_again (λ bytes. not (list_any (λ (other : LvRow). bytes_eq other.name bytes) earlier)) (place + 2 + 1 + 1 + 1 + 3 + 4) row.name last is.name (not_from_false _ next.unnamed) in
     let i = zeros_again 4 (place + 2 + 1 + 1 + 1 + 3 + 4 + 16) rest in
     let same : place + 2 + 1 + 1 + 1 + 3 + 4 + 16 + 4 ≡ place + 32 = omega arith in
     ap (λ (bytes : List ℕ). volume_at big earlier (place, bytes)) regrouped
-    ∙ then_is _ _ _ a
-    ∙ then_is _ _ _ b
-    ∙ then_is _ _ _ c
-    ∙ then_is _ _ _ d
-    ∙ then_is _ _ _ f
-    ∙ then_is _ _ _ g
-    ∙ then_is _ _ _ h
-    ∙ then_is _ _ _ i
+    ∙ passes_on _ _ _ a
+    ∙ passes_on _ _ _ b
+    ∙ passes_on _ _ _ c
+    ∙ passes_on _ _ _ d
+    ∙ passes_on _ _ _ f
+    ∙ passes_on _ _ _ g
+    ∙ passes_on _ _ _ h
+    ∙ passes_on _ _ _ i
     ∙ ap (λ (m : Mode). Ok (record { number = row.number; name = row.name; copies = row.copies; mode = m; policy = policy_named (policy_code row.policy); lps = row.lps; map = [] }, (place + 2 + 1 + 1 + 1 + 3 + 4 + 16 + 4, rest))) (mode_again row.mode)
     ∙ ap (λ (p : Policy). Ok (record { number = row.number; name = row.name; copies = row.copies; mode = row.mode; policy = p; lps = row.lps; map = [] }, (place + 2 + 1 + 1 + 1 + 3 + 4 + 16 + 4, rest))) (policy_again row.policy)
     ∙ ap (λ n. Ok (bare row, (n, rest))) same
@@ -174,14 +175,11 @@ pub record VolumesTaken (big : Bool) (n : ℕ) (earlier : List LvRow) (r : Rest)
   pub valid : AreVolumes big x.0
   pub empty : All (λ row. row ≡ bare row) own
 
-lt_of : (m n : ℕ) → nat_lt m n ≡ true → m < n
-lt_of m n e = grind (arith, nat_tests)
-
 pub volumes-more : (big : Bool) (earlier : List LvRow) (row : LvRow) → AreVolumes big earlier → IsVolume big row → IsNext earlier row → AreVolumes big (earlier ++ row ∷ [])
 volumes-more big earlier row all is next = record {
-  each = All-snoc (IsVolume big) earlier row all.each is;
+  each = All-push (IsVolume big) earlier row all.each is;
   numbers_rise = AllPairs-snoc (λ (a b : LvRow). a.number < b.number) earlier row all.numbers_rise
-      (λ k d lt. lt_of (get_or earlier k d).number row.number (all_at (λ (other : LvRow). nat_lt other.number row.number) earlier next.above k d lt));
+      (λ k d lt. ltb-true (get_or earlier k d).number row.number (all_at (λ (other : LvRow). nat_lt other.number row.number) earlier next.above k d lt));
   names_differ = AllPairs-snoc (λ (a b : LvRow). a.name ≢ b.name) earlier row all.names_differ
       (λ k d lt same. false≢true (sym (none_of (λ (other : LvRow). bytes_eq other.name row.name) earlier next.unnamed k d lt) ∙ same_bytes (get_or earlier k d).name row.name same));
 }
@@ -217,8 +215,8 @@ front_left big earlier row own all =
 
 last_is_next : (big : Bool) (earlier : List LvRow) (row : LvRow) → AreVolumes big (earlier ++ row ∷ []) → IsNext earlier row
 last_is_next big earlier row all = record {
-  above = all_from (λ (other : LvRow). nat_lt other.number row.number) earlier
-      (λ k d lt. lt_test (get_or earlier k d).number row.number (AllPairs-last (λ (a b : LvRow). a.number < b.number) earlier row all.numbers_rise k d lt));
+  above = all_passed (λ (other : LvRow). nat_lt other.number row.number) earlier
+      (λ k d lt. lt-ltb (get_or earlier k d).number row.number (AllPairs-last (λ (a b : LvRow). a.number < b.number) earlier row all.numbers_rise k d lt));
   unnamed = list_any_none (λ (other : LvRow). bytes_eq other.name row.name) earlier
       (λ k d lt. apart (get_or earlier k d).name row.name (AllPairs-last (λ (a b : LvRow). a.name ≢ b.name) earlier row all.names_differ k d lt));
 }

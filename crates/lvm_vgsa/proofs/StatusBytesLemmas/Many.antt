@@ -1,6 +1,6 @@
 -- Values that are read one after the other, each of them after the earlier ones.
 use Rattle.std.proofs.Common.{◌≡◌, ℕ, zero, suc, ◌&&◌, List, [], ◌∷◌, ◌++◌, Result, Ok, Err, refl}
-use Rattle.std.specs.Prelude.{◌==◌, false, nat_le, nat_lt, length, insert}
+use Rattle.std.specs.Prelude.{◌==◌, false, nat_le, nat_lt, length}
 use Rattle.std.specs.List.{list_all}
 use Rattle.std.specs.Int.{w16}
 use Rattle.lvm_num.specs.declared.status.StatusRow.{StatusRow}
@@ -39,10 +39,6 @@ pub many_numbers : (n : ℕ) (earlier : List ℕ) (rest : Rest) → numbers_at n
 unfolding many numbers_at
 many_numbers zero earlier rest = refl
 many_numbers (suc n) earlier rest = λ t. volume_at earlier rest >>= λ number. many_numbers n (earlier ++ number.0 ∷ []) number.1 t
-
-pub insert_last : {X : Type 0} (xs : List X) (x : X) → insert xs (length xs) x ≡ xs ++ x ∷ []
-insert_last [] x = refl
-insert_last (y ∷ xs) x = λ t. y ∷ insert_last xs x t
 
 -- ---- the end
 

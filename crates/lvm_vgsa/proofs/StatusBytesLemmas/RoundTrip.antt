@@ -2,7 +2,7 @@
 use Rattle.std.proofs.Common.{◌≡◌, ◌⊎◌, inl, inr, ℕ, zero, suc, ◌+◌, ◌%◌, ◌^◌, ◌<◌, ◌≤◌, Bool, true, false, List, [], ◌∷◌, ◌++◌, length, Result, Ok, Err, refl, sym, ap, subst, ◌∙◌, append-nil, arith}
 use Rattle.std.specs.Prelude.{◌==◌, ◌&&◌, ◌||◌, not, nat_le, slice_index, if◌then◌else◌, flat_map, bytes_eq, IfOk}
 use Rattle.std.specs.Int.{w16, w64, to_be_bytes}
-use Rattle.std.proofs.lemmas.Bool.{and_parts, and_from, or_cases, eqb-true}
+use Rattle.std.proofs.lemmas.Bool.{and_parts, and_from, or_cases, eqb-true, leb-true, le-leb}
 use Rattle.std.proofs.lemmas.Bool.Decides.{nat_tests}
 use Rattle.std.proofs.lemmas.Slice.Eq.{bytes_eq-Decides}
 use Rattle.lvm_num.specs.declared.status.StatusRow.{StatusRow}
@@ -109,12 +109,6 @@ head_again v place count number bytes few small count-fits size-fits =
 abbrev dirty_count_test : ℕ → Bool
 dirty_count_test n = nat_le 1 n && nat_le n 511
 
-le_from : (a b : ℕ) → nat_le a b ≡ true → a ≤ b
-le_from a b h = grind (arith, nat_tests)
-
-le_test : (a b : ℕ) → a ≤ b → nat_le a b ≡ true
-le_test a b h = grind (arith, nat_tests)
-
 -- which dirty volumes a version may have
 record MayBeDirty (v : ℕ) (dirty : List ℕ) : Type 0 where
   pub some : v ≡ 3 → 0 < length dirty
@@ -139,7 +133,7 @@ some_take rest x fits e =
     let a = bind_ok (number_at w16 dirty_count_test rest) (λ count. numbers_at count.0 [] count.1) x e in
     let count = number_takes w16 (2 ^ 16) wide16 dirty_count_test rest a.0 fits a.1 in
     let numbers = numbers_take a.0.0 a.0.1 x count.0.fits a.2 in
-    let least : 1 ≤ a.0.0 = le_from 1 a.0.0 (and_parts (nat_le 1 a.0.0) (nat_le a.0.0 511) count.1).0 in
+    let least : 1 ≤ a.0.0 = leb-true 1 a.0.0 (and_parts (nat_le 1 a.0.0) (nat_le a.0.0 511) count.1).0 in
     let some : 0 < length x.0 = omega (arith, least, numbers.1) in
     let both : Takes rest (to_be_bytes w16 a.0.0 ++ flat_map (to_be_bytes w16) x.0) x.1 = Takes-then rest (to_be_bytes w16 a.0.0) a.0.1 (flat_map (to_be_bytes w16) x.0) x.1 count.0 numbers.0 in
     let spelled : to_be_bytes w16 a.0.0 ++ flat_map (to_be_bytes w16) x.0 ≡ dirty_bytes x.0 =
@@ -185,11 +179,11 @@ at_three count number big (n ∷ dirty) some few is = record { version = refl; s
 
 three_is : (count number : ℕ) (big : Bool) (dirty : List ℕ) → count ≤ 128 → 0 < length dirty → size_test 3 count number ≡ true → big ≡ (number == 1) → Agrees 3 count number big dirty
 three_is count zero big dirty few some size is =
-    let small : count ≤ 32 = le_from count 32 (and_parts (nat_le 0 1) (0 == 1 || nat_le count 32) size).1 in
+    let small : count ≤ 32 = leb-true count 32 (and_parts (nat_le 0 1) (0 == 1 || nat_le count 32) size).1 in
     at_three count 0 big dirty some (subst (λ (b : Bool). count ≤ most_members b) (sym is) small) (ap flag is)
 three_is count (suc zero) big dirty few some size is = at_three count 1 big dirty some (subst (λ (b : Bool). count ≤ most_members b) (sym is) few) (ap flag is)
 three_is count (suc (suc k)) big dirty few some size is =
-    let small : suc (suc k) ≤ 1 = le_from (suc (suc k)) 1 (and_parts (nat_le (suc (suc k)) 1) (suc (suc k) == 1 || nat_le count 32) size).0 in absurd (omega (arith, small))
+    let small : suc (suc k) ≤ 1 = leb-true (suc (suc k)) 1 (and_parts (nat_le (suc (suc k)) 1) (suc (suc k) == 1 || nat_le count 32) size).0 in absurd (omega (arith, small))
 
 abbrev Agreeing : ℕ → ℕ → Bool → List ℕ → ℕ → Type 0
 Agreeing count number big dirty v = count_test v count ≡ true → size_test v count number ≡ true → big ≡ (v == 2 || number == 1) → MayBeDirty v dirty → Agrees v count number big dirty
@@ -199,13 +193,13 @@ agree v count number big dirty is =
     elim is [
       | inl one ↦ subst (Agreeing count number big dirty) (sym one) (λ c s b m.
           let none : number ≡ 0 = eqb-true number 0 s in
-          at_one count number big dirty (le_from count 32 (and_parts (nat_le 1 count) (nat_le count 32) c).1) none (b ∙ ap (λ k. 1 == 2 || k == 1) none) (m.none refl))
+          at_one count number big dirty (leb-true count 32 (and_parts (nat_le 1 count) (nat_le count 32) c).1) none (b ∙ ap (λ k. 1 == 2 || k == 1) none) (m.none refl))
       | inr more ↦
           elim more [
             | inl two ↦ subst (Agreeing count number big dirty) (sym two) (λ c s b m.
-                at_two count number big dirty (le_from count 128 (and_parts (nat_le 1 count) (nat_le count 128) c).1) (eqb-true number 0 s) b (m.none refl))
+                at_two count number big dirty (leb-true count 128 (and_parts (nat_le 1 count) (nat_le count 128) c).1) (eqb-true number 0 s) b (m.none refl))
             | inr three ↦ subst (Agreeing count number big dirty) (sym three) (λ c s b m.
-                three_is count number big dirty (le_from count 128 (and_parts (nat_le 1 count) (nat_le count 128) c).1) (m.some refl) s b)
+                three_is count number big dirty (leb-true count 128 (and_parts (nat_le 1 count) (nat_le count 128) c).1) (m.some refl) s b)
           ]
     ]
 
@@ -258,7 +252,7 @@ is_read bytes s fits e =
     let dirty = dirty_takes a.0.0 d.0.1 f.0 version.1 rows.0.fits f.1 in
     let end = end_takes (made b.0.0 c.0.0.1 d.0.0 f.0.0) f.0.1.0 f.0.1.1 s f.2 in
     let agrees = agree a.0.0 c.0.0.0 head.number c.0.0.1 f.0.0 version.1 head.count head.size head.big dirty.may in
-    let least : 1 ≤ c.0.0.0 = le_from 1 c.0.0.0 (and_parts (nat_le 1 c.0.0.0) (nat_le c.0.0.0 (most_members (nat_le 2 a.0.0))) head.count).0 in
+    let least : 1 ≤ c.0.0.0 = leb-true 1 c.0.0.0 (and_parts (nat_le 1 c.0.0.0) (nat_le c.0.0.0 (most_members (nat_le 2 a.0.0))) head.count).0 in
     let many : length d.0.0 ≡ c.0.0.0 = rows.1 in
     let valid : IsValidStatus (made b.0.0 c.0.0.1 d.0.0 f.0.0) = record {
       some_id = not_zero b.0.0 id.1;
@@ -296,14 +290,14 @@ record Writes (v count : ℕ) (big : Bool) (dirty : List ℕ) : Type 0 where
   pub small : number_of big dirty ≤ 1
 
 count_to : (count most : ℕ) → 1 ≤ count → count ≤ most → nat_le 1 count && nat_le count most ≡ true
-count_to count most some few = and_from (nat_le 1 count) (nat_le count most) (le_test 1 count some) (le_test count most few)
+count_to count most some few = and_from (nat_le 1 count) (nat_le count most) (le-leb 1 count some) (le-leb count most few)
 
 writes : (count : ℕ) (big : Bool) (dirty : List ℕ) → 1 ≤ count → count ≤ most_members big → (v : ℕ) × Writes v count big dirty
 writes count true [] some few = (2, record { is = inr (inl refl); version = refl; rows = count_to count 128 some few; size = refl; told = refl; small = omega arith })
 writes count false [] some few = (1, record { is = inl refl; version = refl; rows = count_to count 32 some few; size = refl; told = refl; small = omega arith })
 writes count true (n ∷ dirty) some few = (3, record { is = inr (inr refl); version = refl; rows = count_to count 128 some few; size = refl; told = refl; small = omega arith })
 writes count false (n ∷ dirty) some few =
-    (3, record { is = inr (inr refl); version = refl; rows = count_to count 128 some (omega (arith, few)); size = le_test count 32 few; told = refl; small = omega arith })
+    (3, record { is = inr (inr refl); version = refl; rows = count_to count 128 some (omega (arith, few)); size = le-leb count 32 few; told = refl; small = omega arith })
 
 dirty_again : (big : Bool) (dirty : List ℕ) (p : ℕ) (bytes : List ℕ) → AreDirty dirty → (q : ℕ) × (dirty_at (version_of big dirty) (p, dirty_bytes dirty ++ bytes) ≡ Ok (dirty, (q, bytes)))
 unfolding dirty_at

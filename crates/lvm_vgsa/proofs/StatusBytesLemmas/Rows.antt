@@ -3,7 +3,7 @@ use Rattle.std.proofs.Common.{◌≡◌, ℕ, zero, suc, ◌+◌, ◌^◌, ◌<�
 use Rattle.std.specs.Prelude.{◌==◌, ◌&&◌, nat_le, nat_lt, flat_map}
 use Rattle.std.specs.List.{list_all}
 use Rattle.std.specs.Int.{w8, w16, to_be_bytes}
-use Rattle.std.proofs.lemmas.Bool.{and_parts, and_from, ltb-true}
+use Rattle.std.proofs.lemmas.Bool.{and_parts, and_from, ltb-true, lt-ltb}
 use Rattle.std.proofs.lemmas.Bool.Decides.{nat_tests}
 use Rattle.std.proofs.lemmas.List.{length-append}
 use Rattle.std.proofs.lemmas.List.Concat.{flat_map-append}
@@ -126,15 +126,12 @@ flag_fits : (b : Bool) → (flag b < 256) × (is_flag (flag b) ≡ true) × ((fl
 flag_fits true = (omega arith, refl, refl, refl)
 flag_fits false = (omega arith, refl, refl, refl)
 
-lt_test : (a b : ℕ) → a < b → nat_lt a b ≡ true
-lt_test a b lt = grind (arith, nat_tests)
-
 rows_again_one : ReadsAgain StatusRow status_row_at status_row_bytes RowsInOrder
 unfolding status_row_at
 rows_again_one earlier row p bytes good =
     let valid = order_last StatusRow IsStatusRow (λ (a b : StatusRow). a.disk < b.disk) earlier row good in
-    let behind = order_behind StatusRow IsStatusRow (λ (a b : StatusRow). a.disk < b.disk) row_before (λ a b h. lt_test a.disk b.disk h) earlier row good in
-    let test : disk_test earlier row.disk ≡ true = and_from (nat_lt row.disk 128) (list_all (λ (r : StatusRow). nat_lt r.disk row.disk) earlier) (lt_test row.disk 128 valid.disk) behind in
+    let behind = order_behind StatusRow IsStatusRow (λ (a b : StatusRow). a.disk < b.disk) row_before (λ a b h. lt-ltb a.disk b.disk h) earlier row good in
+    let test : disk_test earlier row.disk ≡ true = and_from (nat_lt row.disk 128) (list_all (λ (r : StatusRow). nat_lt r.disk row.disk) earlier) (lt-ltb row.disk 128 valid.disk) behind in
     let missing = flag_fits row.missing in
     let tail : List ℕ = 0 ∷ (row.stale ++ 0 ∷ bytes) in
     let disk-read = number_again w16 (2 ^ 16) wide16 (disk_test earlier) p row.disk (flag row.missing ∷ 0 ∷ (row.stale ++ 0 ∷ bytes)) (omega (arith, valid.disk)) test in
@@ -187,7 +184,7 @@ numbers_take_one earlier rest x fits good e =
 numbers_again_one : ReadsAgain ℕ volume_at (to_be_bytes w16) NumbersInOrder
 numbers_again_one earlier n p bytes good =
     let valid = order_last ℕ IsVolumeNumber (λ (a b : ℕ). a < b) earlier n good in
-    let behind = order_behind ℕ IsVolumeNumber (λ (a b : ℕ). a < b) nat_lt lt_test earlier n good in
+    let behind = order_behind ℕ IsVolumeNumber (λ (a b : ℕ). a < b) nat_lt lt-ltb earlier n good in
     let bounds = and_from (nat_le 1 n) (nat_le n 511) (le_test 1 n valid.least) (le_test n 511 valid.most) in
     let test : volume_test earlier n ≡ true = and_from (nat_le 1 n && nat_le n 511) (list_all (λ m. nat_lt m n) earlier) bounds behind in
     (p + 2, number_again w16 (2 ^ 16) wide16 (volume_test earlier) p n bytes (omega (arith, valid.most)) test)

@@ -6,6 +6,7 @@ use Rattle.std.proofs.lemmas.List.Folds.{list_any-append}
 use Rattle.std.proofs.lemmas.List.Elements.{filter_map-append}
 use Rattle.std.proofs.lemmas.Bool.Decides.{nat_tests}
 use Rattle.std.proofs.lemmas.Bool.{eqb-true, or_cases}
+use Rattle.lvm_num.proofs.Booleans.{first_fails, second_fails}
 use Rattle.lvm_vol.specs.declared.entry.Outcome.{Outcome}
 use Rattle.lvm_vol.specs.Facts.{Request, Fact, Making, Made, Split, Removing, Removed, Begun, Landed, Taken, Cut, On, Stands, begun, begun_by}
 use Rattle.lvm_vol.specs.Log.{lands_id, takes_id, is_got, got_by}
@@ -85,14 +86,6 @@ stands_begun [] r none = absurd none
 stands_begun (f ∷ facts) r (inl is) = subst (λ (g : Fact). Stands r (cons_option (begun_by g) (begun facts))) (sym is) (inl refl)
 stands_begun (f ∷ facts) r (inr there) = stands-cons_option (begun_by f) (begun facts) r (stands_begun facts r there)
 
-or_left : (a b : Bool) → (a || b) ≡ false → a ≡ false
-or_left true b is = is
-or_left false b is = refl
-
-or_right : (a b : Bool) → (a || b) ≡ false → b ≡ false
-or_right true b is = absurd (let e : ◌≡◌ {A = Bool} true false = is in cc)
-or_right false b is = is
-
 got_none : (id : ℕ) (f : Fact) → lands_id id f ≡ false → got_by id f ≡ None
 got_none id (Landed r how started got) other = if_none (is_got how) (r.id == id) got other
   where
@@ -106,8 +99,8 @@ got_none id _ other = refl
 pub got_nothing : (id : ℕ) (facts : List Fact) → list_any (lands_id id) facts ≡ false → filter_map (got_by id) facts ≡ []
 got_nothing id [] none = refl
 got_nothing id (f ∷ facts) none =
-    ap (λ (o : Option (List (List ℕ))). cons_option o (filter_map (got_by id) facts)) (got_none id f (or_left (lands_id id f) (list_any (lands_id id) facts) none))
-    ∙ got_nothing id facts (or_right (lands_id id f) (list_any (lands_id id) facts) none)
+    ap (λ (o : Option (List (List ℕ))). cons_option o (filter_map (got_by id) facts)) (got_none id f (first_fails (lands_id id f) (list_any (lands_id id) facts) none))
+    ∙ got_nothing id facts (second_fails (lands_id id f) (list_any (lands_id id) facts) none)
 
 pub got-push : (id : ℕ) (facts : List Fact) (f : Fact) → filter_map (got_by id) (facts ++ f ∷ []) ≡ filter_map (got_by id) facts ++ cons_option (got_by id f) []
 got-push id facts f = filter_map-append (got_by id) facts (f ∷ [])

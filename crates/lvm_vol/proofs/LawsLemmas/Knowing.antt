@@ -1,15 +1,15 @@
 -- How what is known of a block grows with a history.
-use Rattle.std.proofs.Common.{◌≡◌, ℕ, ◌&&◌, ◌||◌, not, nat_lt, Bool, true, false, cond, List, [], ◌∷◌, ◌++◌, Option, Some, None, ◌==◌, arith, IfSome, map, refl, sym, ◌∙◌, ap, subst}
-use Rattle.std.proofs.lemmas.Bool.Decides.{nat_tests}
+use Rattle.std.proofs.Common.{◌≡◌, ℕ, ◌&&◌, ◌||◌, not, nat_lt, Bool, true, false, cond, List, [], ◌∷◌, ◌++◌, Option, Some, None, IfSome, map, refl, sym, ◌∙◌, ap, subst}
 use Rattle.lvm_num.specs.Buffer.{Sector, zero_sector}
 use Rattle.lvm_vol.specs.declared.entry.Vol.{Vol}
 use Rattle.lvm_vol.specs.declared.entry.Vol.TheVariants.{Disk, Lv}
 use Rattle.lvm_vol.specs.declared.entry.Outcome.{Outcome}
 use Rattle.lvm_vol.specs.declared.entry.Outcome.TheVariants as outcome
-use Rattle.lvm_vol.specs.Facts.{Request, Fact, Making, Made, Split, Removing, Removed, Begun, Landed, Taken, Cut, On, Stands, same_vol, same_request, is_over, block_of}
+use Rattle.lvm_vol.specs.Facts.{Request, Fact, Making, Made, Split, Removing, Removed, Begun, Landed, Taken, Cut, On, Stands, same_vol, is_over, block_of}
 use Rattle.lvm_vol.specs.May.{Known, Knowledge, nothing_known, is_open_in, without, is_off, is_some_open, also, ended, read, landed, cut, source, change, after_fact, after, known, May}
 use Rattle.lvm_vol.specs.Laws.{KnownPush, OthersStay, DoneCloses, GotFixes, LandedCloses, DisksAreTight, CutEndsAll, MayGrows, is_about, is_settling, is_fixing}
 use Rattle.lvm_vol.proofs.FactsLemmas.Order.{stands_left}
+use Rattle.lvm_vol.proofs.LawsLemmas.Legality.{same_self}
 
 pub after-append : (k : Knowledge) (facts more : List Fact) → after k (facts ++ more) ≡ after (after k facts) more
 after-append k [] more = refl
@@ -162,21 +162,15 @@ read_open outcome.Got x k = by_loose k.loose
     by_loose false = refl
 read_open _ x k = refl
 
-same_as_itself : (r : Request) → same_request r r ≡ true
-same_as_itself r =
-    let a : (r.run == r.run) ≡ true = grind (arith, nat_tests) in
-    let b : (r.id == r.id) ≡ true = grind (arith, nat_tests) in
-    ap (λ (t : Bool). t && (r.id == r.id)) a ∙ b
-
 -- a write alone is open before it lands, and none after
 landed_alone : (r : Request) (how : Outcome) (started : Bool) (x y : Sector) (k : Known) → r.write ≡ true → k.open_writes ≡ r ∷ [] → (landed r how started x y k).open_writes ≡ []
 landed_alone r how started x y k write alone =
-    let still : is_open_in r k.open_writes ≡ true = ap (λ (l : List Request). is_open_in r l) alone ∙ ap (λ (t : Bool). t || false) (same_as_itself r) in
+    let still : is_open_in r k.open_writes ≡ true = ap (λ (l : List Request). is_open_in r l) alone ∙ ap (λ (t : Bool). t || false) (same_self r) in
     ap (λ (t : Bool). (cond t (cond (is_open_in r k.open_writes) (ended r how started x k) k) (read how y k)).open_writes) write
     ∙ ap (λ (t : Bool). (cond t (ended r how started x k) k).open_writes) still
     ∙ ended_open r how started x k
     ∙ ap (λ (l : List Request). without r l) alone
-    ∙ ap (λ (t : Bool). cond (not t) (r ∷ []) []) (same_as_itself r)
+    ∙ ap (λ (t : Bool). cond (not t) (r ∷ []) []) (same_self r)
 
 landed_none : (r : Request) (how : Outcome) (started : Bool) (x y : Sector) (k : Known) → k.open_writes ≡ [] → (landed r how started x y k).open_writes ≡ []
 landed_none r how started x y k none =

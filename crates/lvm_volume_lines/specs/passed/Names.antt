@@ -1,2 +1,2 @@
 -- Passed on from the crates below.
-pub use Rattle.lvm_range_lines.specs.passed.Names.{first_copies, with_copies, with_map, TurnTells, power_by, AreAnswered, Post, LostForFaults, ends_session, GroupFault}
+pub use Rattle.lvm_range_lines.specs.passed.Names.{AreAnswered, GroupFault, LostForFaults, Post, TurnTells, ends_session, first_copies, power_by, with_copies, with_map}

@@ -1,7 +1,6 @@
 -- Passed on from `lvm_range_lines`.
 pub use Rattle.lvm_range_lines.specs.Answers.{Tells, TellsAll, TellsNone}
-pub use Rattle.lvm_range_lines.specs.Leaving.{EndsBy, FailsBy, FailsIf, GoesOnWith, IsOverWith, CarriesBy, serving, session_over}
+pub use Rattle.lvm_range_lines.specs.Leaving.{CarriesBy, EndsBy, FailsBy, FailsIf, GoesOnWith, IsOverWith, serving, session_over}
 pub use Rattle.lvm_range_lines.specs.Refusals.{Ending, ask_refusal, range_refusal}
-pub use Rattle.lvm_range_lines.specs.Requests.{EndsWell, Fails, Finishes, IsFinished, IsNotAsked, NoMemory, NotBegun, NotPosted, NotThere, OnVolume}
-pub use Rattle.lvm_range_lines.specs.Requests.{PostDoes, Posted, Posts, RdDoes, ShowsBlocks, ShowsThem, There, WhileOff, WrDoes}
+pub use Rattle.lvm_range_lines.specs.Requests.{EndsWell, Fails, Finishes, IsFinished, IsNotAsked, NoMemory, NotBegun, NotPosted, NotThere, OnVolume, PostDoes, Posted, Posts, RdDoes, ShowsBlocks, ShowsThem, There, WhileOff, WrDoes}
 pub use Rattle.lvm_range_lines.specs.Stepping.{NoStepWhileOff, NothingMoves, StepDoes, Steps, StopsAs, step_reply}

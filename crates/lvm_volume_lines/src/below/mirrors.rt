@@ -1,3 +1,3 @@
-//! Passed on from `lvm_mirrors`.
+//! Passed on from `lvm_volumes`.
 
 pub use lvm_range_lines::below::mirrors::{mklvcopy, rmlvcopy};

@@ -1,6 +1,7 @@
 -- The descriptor without a volume.
 use Rattle.std.proofs.Common.{◌≡◌, ◌≢◌, inl, inr, ℕ, ◌<◌, ◌≤◌, Bool, true, false, cond, List, [], ◌∷◌, length, get_or, Option, Some, None, refl, sym, ap, subst, ◌∙◌, eq-eqb, arith}
 use Rattle.std.specs.Prelude.{◌==◌, not, find, filter, All, AllPairs, if◌then◌else◌}
+use Rattle.std.proofs.lemmas.List.Kept.{AllPairs-filter}
 use Rattle.std.proofs.lemmas.Bool.{eqb-true}
 use Rattle.std.proofs.lemmas.List.{get_or_default}
 use Rattle.std.proofs.lemmas.List.Elements.{All-filter, All-append}
@@ -12,7 +13,7 @@ use Rattle.lvm_num.proofs.Pairs.{All-left, All-right, AllPairs-left, AllPairs-ri
 use Rattle.lvm_core.specs.passed.Names.{IsOneOf, DiffersInVolume}
 use Rattle.lvm_map.proofs.FirstFitLemmas.Validity.{with_volumes}
 use Rattle.lvm_volume_plan.specs.NewVolume.{without_volume}
-use Rattle.lvm_volume_plan.proofs.Sublists.{pairs_filter, one_filter}
+use Rattle.lvm_volume_plan.proofs.Sublists.{one_filter}
 
 abbrev has_number : ℕ → LvRow → Bool
 has_number m row = row.number == m
@@ -55,8 +56,8 @@ pub valid_without : (d : Descriptor) (lv : ℕ) → IsValid d → IsValid (witho
 valid_without d lv valid = with_volumes d (filter p d.lvs) valid
     (record {
       each = All-filter p (IsVolume d.big) d.lvs valid.volumes.each;
-      numbers_rise = pairs_filter (λ (a b : LvRow). a.number < b.number) p d.lvs valid.volumes.numbers_rise;
-      names_differ = pairs_filter (λ (a b : LvRow). a.name ≢ b.name) p d.lvs valid.volumes.names_differ;
+      numbers_rise = AllPairs-filter (λ (a b : LvRow). a.number < b.number) p d.lvs valid.volumes.numbers_rise;
+      names_differ = AllPairs-filter (λ (a b : LvRow). a.name ≢ b.name) p d.lvs valid.volumes.names_differ;
     })
     (omega (arith, valid.head.volumes, fewer p d.lvs))
     (record {

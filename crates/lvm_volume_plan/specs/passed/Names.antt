@@ -1,5 +1,4 @@
 -- Passed on from the crates below.
-pub use Rattle.lvm_core.specs.passed.Names.{HoldsCommitted, IsAlike, ShowsCommitted, IsFree, IsSectorOf, HasFreshCopies, IsOnlyGroupOn, IsOnlyGroupSince, LeavesCommitted, VolumeServes, HasLostQuorum, IsOfCommit, IsOfSession, IsOfStatus, IsPassedOver, MarksLeft, NoneIsLeft, StatesGroup, is_among, many_there, there, IsDarkened, IsGivenUp, KeepsShelf}
 pub use Rattle.lvm_core.specs.Committing.{AreUnused, CommitEnds, HasCommitted, HasGoneDark, HasStated, IsLeftOut, LetsCommit, MarkEnds, RecordsEnd, Restates, moment_of, with_one_out}
 pub use Rattle.lvm_core.specs.Entering.{IsOfVolume}
 pub use Rattle.lvm_core.specs.Held.{AreNotesHome, IsHeld, NotesAreHome}
@@ -8,3 +7,4 @@ pub use Rattle.lvm_core.specs.Settled.{HasSpareNumbers, IsSettled}
 pub use Rattle.lvm_core.specs.State.{state_of}
 pub use Rattle.lvm_core.specs.Zeros.{HasZeroed, IsAsBefore, IsZeroOf, IsZeroed, KeepsRecords, ZeroEnds}
 pub use Rattle.lvm_core.specs.declared.fault.CommitFault.{CommitFault}
+pub use Rattle.lvm_core.specs.passed.Names.{HasFreshCopies, HasLostQuorum, HoldsCommitted, IsAlike, IsDarkened, IsFree, IsGivenUp, IsOfCommit, IsOfSession, IsOfStatus, IsOnlyGroupOn, IsOnlyGroupSince, IsPassedOver, IsSectorOf, KeepsShelf, LeavesCommitted, MarksLeft, NoneIsLeft, ShowsCommitted, StatesGroup, VolumeServes, is_among, many_there, there}

@@ -8,6 +8,7 @@ use Rattle.lvm_num.specs.declared.descriptor.Descriptor.{Descriptor}
 use Rattle.lvm_num.specs.declared.status.Status.{Status}
 use Rattle.lvm_num.specs.Descriptor.{IsPartitionOf, is_member, is_pp}
 use Rattle.lvm_num.specs.Status.{calls_stale, calls_missing}
+use Rattle.lvm_num.proofs.Booleans.{first_alone}
 use Rattle.lvm_disk.specs.Counts.{Rose}
 use Rattle.lvm_vol.specs.Log.{Log}
 use Rattle.lvm_map.specs.FirstFit.{has_partition_on}
@@ -90,11 +91,6 @@ present true false is = (refl, refl)
 present true true is = absurd (false≢true is)
 present false b is = absurd (false≢true is)
 
-is_present : (m b : Bool) → IsTrue m → IsFalse b → IsTrue (m && not b)
-is_present true false member isnt = refl
-is_present true true member isnt = absurd (false≢true (sym isnt))
-is_present false b member isnt = absurd (false≢true member)
-
 module _ (map : List Pp) (p q : ℕ) (a b : State) (settled : IsSettled a.core) (unused : AreUnusedOn a.core map) (group : AreOfOneGroup a.core) (done : HasStated a.core.descriptor a b) (marks : Restates [] map a b) (leaves : Leaves (marking [] map) p q a b) where
   abbrev gone : ℕ → Bool
   gone = calls_missing b.core.status.wanted
@@ -108,7 +104,7 @@ module _ (map : List Pp) (p q : ℕ) (a b : State) (settled : IsSettled a.core) 
   -- a disk that isn't missing had no fault
   unhurt : (d : ℕ) → IsTrue (has_partition_on map d) → IsFalse (gone d) → b.device.counts.faults d ≡ a.device.counts.faults d
   unhurt d on isnt = done.well d (subst (λ (g : Descriptor). IsTrue (members_there g b.core.status.wanted d)) (sym (leaves.status.group ∙ group.status))
-      (is_present (is_member a.core.descriptor d) (gone d) (present (is_member a.core.descriptor d) (calls_missing a.core.status.wanted d) (member d on)).0 isnt))
+      (first_alone (is_member a.core.descriptor d) (gone d) (present (is_member a.core.descriptor d) (calls_missing a.core.status.wanted d) (member d on)).0 isnt))
 
   pub missing_fails : (disk : ℕ) → IsLowestMissing b.core.status.committed map disk → DiskFailsFirst map disk a b
   missing_fails disk low = record {
@@ -125,7 +121,7 @@ module _ (map : List Pp) (p q : ℕ) (a b : State) (settled : IsSettled a.core) 
 
   module _ (none : All (λ (pp : Pp). calls_missing b.core.status.committed pp.disk ≡ false) map) where
     here : All (λ (pp : Pp). IsTrue (is_there b.core pp.disk)) map
-    here k e lt = is_present (is_member b.core.descriptor (get_or map k e).disk) (gone (get_or map k e).disk)
+    here k e lt = first_alone (is_member b.core.descriptor (get_or map k e).disk) (gone (get_or map k e).disk)
         (subst (λ (d : Descriptor). IsTrue (is_member d (get_or map k e).disk)) (sym same) (present (is_member a.core.descriptor (get_or map k e).disk) (calls_missing a.core.status.wanted (get_or map k e).disk) (unused.there k e lt)).0)
         (subst (λ (s : Status). IsFalse (calls_missing s (get_or map k e).disk)) done.settled.committed (none k e lt))
 

@@ -1,12 +1,13 @@
 -- The entries of a volume in a session, and the commit between them.
-use Rattle.std.proofs.Common.{◌≡◌, inl, ℕ, ◌≤◌, Bool, true, false, [], ◌∷◌, Option, Some, None, Result, refl, sym, ap, subst, ◌∙◌, arith}
+use Rattle.std.proofs.Common.{◌≡◌, inl, ℕ, ◌≤◌, [], ◌∷◌, Option, Some, None, Result, refl, sym, ap, subst, ◌∙◌, arith}
 use Rattle.std.specs.Prelude.{IfSome, not, length}
 use Rattle.std.proofs.lemmas.List.Sums.{sum_by-append, count_by-le-length}
 use Rattle.lvm_num.specs.declared.place.Pp.{Pp}
 use Rattle.lvm_num.specs.declared.descriptor.Descriptor.{Descriptor}
 use Rattle.lvm_num.specs.declared.descriptor.PvRow.{PvRow}
-use Rattle.lvm_num.specs.Descriptor.{IsValid, is_member, most_members}
+use Rattle.lvm_num.specs.Descriptor.{IsValid, is_member}
 use Rattle.lvm_num.specs.Status.{calls_missing}
+use Rattle.lvm_num.proofs.DescriptorLemmas.Bounds.{few_members}
 use Rattle.lvm_disk.specs.Device.{Media, Image, IsReady, image_of, MayLeave}
 use Rattle.lvm_vol.specs.declared.entry.Entry.{Entry}
 use Rattle.lvm_vol.specs.declared.entry.Entry.TheVariants as entry
@@ -99,15 +100,11 @@ commit_still next p q a b leaves left done id members none_next =
 
 -- ---- sequence numbers
 
-most : (b : Bool) → most_members b ≤ 128
-most true = omega arith
-most false = omega arith
-
 pub many_bound : (core : Core) → IsValid core.descriptor → core.status.group ≡ record core.descriptor { lvs = [] } → many_there core.status ≤ 128
 many_bound core valid group =
     let all = count_by-le-length (λ (row : PvRow). not (calls_missing core.status.wanted row.disk)) core.status.group.pvs in
     let same : length core.status.group.pvs ≡ length core.descriptor.pvs = ap (λ (d : Descriptor). length d.pvs) group in
-    omega (arith, all, same, valid.head.members, most core.descriptor.big)
+    omega (arith, all, same, valid.head.members, few_members core.descriptor.big)
 
 pub has_numbers : (core : Core) → AreOfOneGroup core → HasSpareRoom core → HasSpareNumbers core
 has_numbers core group room = let many = many_bound core group.valid group.status in omega (arith, many, room.numbers)

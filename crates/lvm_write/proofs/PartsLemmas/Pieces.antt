@@ -11,9 +11,9 @@ use Rattle.lvm_disk.specs.Device.{Media, Flight, Range, Device, Orders, IsReady,
 use Rattle.lvm_disk.specs.Steps.{Logs, BothTold, Cuts, CountsFailure, IsRecordRead, IsFault, Puts}
 use Rattle.lvm_disk.specs.Paths.{DeviceStep, Path}
 use Rattle.lvm_disk.proofs.PathsLemmas.{map-path, last-path}
-use Rattle.lvm_survey.specs.passed.Names.{OnlyAdds, Plan, IsPlanned, IsOfRecord, IsOut, TransferGives, Rests, flight_of, Moved}
-use Rattle.lvm_survey.proofs.passed.Names.{never, one_left, out_flights}
-use Rattle.lvm_survey.specs.passed.TransferMovesMoved as moved
+use Rattle.lvm_quorum.specs.passed.Survey.{OnlyAdds, Plan, IsPlanned, IsOfRecord, IsOut, TransferGives, Rests, flight_of, Moved}
+use Rattle.lvm_quorum.proofs.passed.Names.{never, one_left, out_flights}
+use Rattle.lvm_quorum.specs.passed.TransferMovesMoved as moved
 use Rattle.lvm_write.specs.declared.write.SlotWrite.{SlotWrite}
 use Rattle.lvm_write.specs.Written.{IsWriting, IsInPlan}
 use Rattle.lvm_write.specs.Parts.{write_to, CountsEnd, LeavesShelf, IfReturned, DoesPart}

@@ -1,22 +1,23 @@
 -- A record written to one disk after another.
 use Rattle.std.proofs.Common.{◌≡◌, inl, inr, ⊎_elim, ℕ, ◌+◌, ◌<◌, ◌≤◌, Bool, true, false, IfSome, IsTrue, IsFalse, length, refl, sym, ◌∙◌, ap, subst, arith}
 use Rattle.std.specs.Prelude.{◌==◌, ◌&&◌, ◌||◌, not, nat_lt, if◌then◌else◌}
-use Rattle.std.proofs.lemmas.Bool.{cases_lt, eqb-true}
+use Rattle.std.proofs.lemmas.Bool.{cases_lt, eqb-true, ne_eqb, lt-ltb}
 use Rattle.std.proofs.lemmas.Bool.Decides.{nat_tests, eqb_tells}
 use Rattle.lvm_num.specs.declared.record.Kind.{Kind}
 use Rattle.lvm_num.specs.Buffer.{Buffer, Sector}
 use Rattle.lvm_num.specs.Disks.{Disks, has}
 use Rattle.lvm_num.specs.Record.{frame, record_sectors, slot_start}
+use Rattle.lvm_num.proofs.Booleans.{none_below}
 use Rattle.lvm_disk.specs.Device.{Media, Device, IsReady, image_of}
-use Rattle.lvm_survey.specs.passed.Names.{ChangesBy, RecordWrite, IsOfRecord, StandsOn, Moved, Homes, second_slots, next_slot, Flips}
-use Rattle.lvm_survey.proofs.passed.Names.{never}
-use Rattle.lvm_survey.specs.passed.TransferMovesMoved as moved
+use Rattle.lvm_quorum.specs.passed.Survey.{ChangesBy, RecordWrite, IsOfRecord, StandsOn, Moved, Homes, second_slots, next_slot, Flips}
+use Rattle.lvm_quorum.proofs.passed.Names.{never}
+use Rattle.lvm_quorum.specs.passed.TransferMovesMoved as moved
 use Rattle.lvm_write.specs.declared.write.SlotWrite.{SlotWrite}
 use Rattle.lvm_write.specs.declared.write.Wrote.TheVariants as wrote
 use Rattle.lvm_write.specs.Written.{write_of, HaveRoom, KeepsShelf, StandsTold, written_well}
 use Rattle.lvm_write.specs.Writes.{DiskWritesLeave, RecordWritesEnd}
 use Rattle.lvm_write.specs.Parts.{write_to, PartsStand, WritesPart}
-use Rattle.lvm_survey.proofs.Passing.{is_other, lt_all, lt_none, lt_not, lt_other, lt_same, neither, or_itself, or_other}
+use Rattle.lvm_quorum.proofs.Passing.{lt_not, lt_other, lt_same, neither, or_itself, or_other}
 use Rattle.lvm_write.proofs.WrittenLemmas.Writing.{logs_wider, if_told, told_at, both_map, changes_more, moments_wider, parts_stay}
 use Rattle.lvm_write.proofs.WritesLemmas.{TriedDisks, nothing_tried, none_here, well_here, badly_here, leaves_here, dark_here, stuck_here, no_more, tried_ends}
 
@@ -66,7 +67,7 @@ module _ (one : SlotWrite) (targets : Disks) (homes : Homes) (target : IsTrue (t
 
   -- nothing starts on another disk
   pub starts_alone : (number p q : ℕ) (old new : Device) (how : Moved) → WritesPart (write_to one) one.disk number p q old new how → (d : ℕ) → (d ≡ one.disk → ⊥) → new.counts.starts d ≡ old.counts.starts d
-  starts_alone number p q old new how part d differ = part.keeps.starts d (is_other d one.disk differ)
+  starts_alone number p q old new how part d differ = part.keeps.starts d (ne_eqb d one.disk differ)
 
   pub part_of_all :
       (number p q : ℕ) (old new : Device) (how : Moved) → WritesPart (write_to one) one.disk number p q old new how
@@ -129,7 +130,7 @@ pub record WroteDisks (w : RecordWrite) (number before after : ℕ) (old now : D
 pub none_tried : (w : RecordWrite) (patience : ℕ) (old : Device) (homes : Homes) (failed : ℕ) (buf : Buffer) → IsReady old → ((d : ℕ) → IsFalse (has failed d)) → WroteDisks w buf.number patience patience old old homes homes failed buf 0
 none_tried w patience old homes failed buf ready empty = record {
   all = nothing_tried w.targets (IsOfRecord w) (StandsTold w) (still_stands w) patience old failed buf ready empty;
-  flips = flips_none w.kind (well_below w.targets failed 0) homes (λ d. ap (λ (b : Bool). b && written_well w.targets (has failed) d) (lt_none d));
+  flips = flips_none w.kind (well_below w.targets failed 0) homes (λ d. ap (λ (b : Bool). b && written_well w.targets (has failed) d) (none_below d));
 }
 
 -- the write to the next disk has ended
@@ -215,7 +216,7 @@ module _ (w : RecordWrite) (number p q : ℕ) (old now : Device) (first homes : 
     all_flipped : Flips w.kind (written_well w.targets (has failed)) first homes
     all_flipped = flips_same w.kind (well_below w.targets failed n) (written_well w.targets (has failed)) first homes
         (λ d. ⊎_elim
-        (λ (below : d < n). ap (λ (b : Bool). b && written_well w.targets (has failed) d) (lt_all d n below))
+        (λ (below : d < n). ap (λ (b : Bool). b && written_well w.targets (has failed) d) (lt-ltb d n below))
         (λ (past : n ≤ d).
         let off = no_more w.targets old n room all d past in
         ap (λ (b : Bool). nat_lt d n && (b && not (has failed d))) off ∙ neither (nat_lt d n) false refl ∙ sym (ap (λ (b : Bool). b && not (has failed d)) off))

@@ -1,2 +1,2 @@
 -- Passed on from the crates below.
-pub use Rattle.lvm_survey.proofs.passed.Names.{out_flights, one_left, spelled_is_read, is_read_again, dirty_small, few_rows, length-status}
+pub use Rattle.lvm_quorum.proofs.passed.Names.{dirty_small, few_rows, is_read_again, length-status, one_left, out_flights, spelled_is_read}

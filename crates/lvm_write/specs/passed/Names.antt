@@ -1,2 +1,2 @@
 -- Passed on from the crates below.
-pub use Rattle.lvm_survey.specs.passed.Names.{TransferGives, flight_of, Moved}
+pub use Rattle.lvm_quorum.specs.passed.Survey.{Moved, TransferGives, flight_of}

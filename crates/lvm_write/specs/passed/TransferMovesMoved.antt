@@ -1,2 +1,2 @@
 -- Passed on from the crates below.
-pub use Rattle.lvm_survey.specs.passed.TransferMovesMoved.{Dark, Done, Failed, Stuck}
+pub use Rattle.lvm_quorum.specs.passed.TransferMovesMoved.{Dark, Done, Failed, Stuck}

@@ -4,7 +4,9 @@ use Rattle.lvm_disk.specs.Device.{Device}
 use Rattle.lvm_commit.proofs.passed.Names.{spelled_is_read}
 use Rattle.lvm_commit.specs.Settling.{IsContentOf, IsOfCommit, CommitLeaves, MayCommit}
 use Rattle.lvm_core.proofs.CommittingLemmas.Committing.{may_next}
-use Rattle.lvm_over.specs.passed.Names.{Session, state, core_of}
+use Rattle.lvm_session.specs.declared.session.Session.{Session}
+use Rattle.lvm_session.specs.State.{state}
+use Rattle.lvm_session.specs.Fields.{core_of}
 use Rattle.lvm_core.specs.Steps.{CoreEnds}
 use Rattle.lvm_core.proofs.StepsLemmas.Ends.{descriptor_numbered, is_out, core_ends_with, status_ends, commits_descriptor}
 use Rattle.lvm_core.proofs.RecordLemmas.{descriptor_fits}

@@ -1,6 +1,6 @@
 use Rattle.std.proofs.Common.{Bool, List, refl, ap}
-use Rattle.lvm_over.specs.passed.SessionOpenPower as power
-use Rattle.lvm_over.specs.passed.Names.{core_of}
+use Rattle.lvm_session.specs.declared.open.Power.TheVariants as power
+use Rattle.lvm_session.specs.Fields.{core_of}
 use Rattle.lvm_core.proofs.commit.go_on.Goals as goal
 
 pub returns-in-Done-clause-ends : goal.returns-in-Done-clause-ends

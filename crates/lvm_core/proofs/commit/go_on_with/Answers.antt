@@ -1,4 +1,4 @@
-use Rattle.lvm_over.specs.passed.Names.{core_of}
+use Rattle.lvm_session.specs.Fields.{core_of}
 use Rattle.lvm_core.proofs.StepsLemmas.Ends.{well_with, badly_with}
 use Rattle.lvm_core.proofs.commit.go_on_with.Goals as goal
 

@@ -1,7 +1,9 @@
 use Rattle.std.proofs.Common.{sym, ◌∙◌, ap, subst}
 use Rattle.lvm_status.specs.Update.{Stored}
 use Rattle.lvm_commit.specs.Settling.{MayCommit, IsOfStatus, StatusStaysKept, CommitLeaves}
-use Rattle.lvm_over.specs.passed.Names.{Session, state, core_of}
+use Rattle.lvm_session.specs.declared.session.Session.{Session}
+use Rattle.lvm_session.specs.State.{state}
+use Rattle.lvm_session.specs.Fields.{core_of}
 use Rattle.lvm_core.specs.Steps.{IsMarked}
 use Rattle.lvm_core.proofs.StepsLemmas.Ends.{status_numbered, is_out, core_ends, status_ends, commits_marks, at_once}
 use Rattle.lvm_core.proofs.StepsLemmas.Marking.{may_commit}

@@ -2,7 +2,8 @@ use Rattle.std.proofs.Common.{ℕ, Bool, false, List, refl, ◌∙◌, ap, subst
 use Rattle.std.specs.Prelude.{◌==◌, slice_set}
 use Rattle.lvm_commit.specs.passed.TransferMovesMoved as moved
 use Rattle.lvm_write.specs.Parts.{DoesPart}
-use Rattle.lvm_over.specs.passed.Names.{Session, core_of}
+use Rattle.lvm_session.specs.declared.session.Session.{Session}
+use Rattle.lvm_session.specs.Fields.{core_of}
 use Rattle.lvm_core.specs.Zeros.{IsZeroOf, IsZeroed}
 use Rattle.lvm_core.proofs.CommittingLemmas.Buffers.{back_again}
 use Rattle.lvm_core.proofs.commit.zero.Goals as goal

@@ -1,7 +1,7 @@
 use Rattle.std.proofs.Common.{◌≡◌, ℕ, ◌<◌, false, get_or}
 use Rattle.lvm_num.specs.declared.descriptor.PvRow.{PvRow}
 use Rattle.lvm_num.specs.Status.{calls_missing}
-use Rattle.lvm_over.specs.passed.Names.{IsPlaced}
+use Rattle.lvm_session.specs.Placed.{IsPlaced}
 use Rattle.lvm_core.proofs.look.are_placed.Given as goal
 
 abbrev pub invariant-loop-row : goal.invariant-loop-row

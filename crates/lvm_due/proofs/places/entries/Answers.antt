@@ -1,5 +1,5 @@
 use Rattle.std.proofs.Common.{ap, subst, arith}
-use Rattle.lvm_firsts.proofs.Places.{stands}
+use Rattle.lvm_due.proofs.AtPlaces.{stands}
 use Rattle.lvm_due.specs.Due.{Covers, waits_entry}
 use Rattle.lvm_due.proofs.DueLemmas.Spanning.{covers_more, covers_none}
 use Rattle.lvm_due.proofs.places.entries.Goals as goal

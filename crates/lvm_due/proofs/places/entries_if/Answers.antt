@@ -1,5 +1,5 @@
 use Rattle.std.proofs.Common.{Bool, length, sym, ap, subst}
-use Rattle.lvm_firsts.specs.declared.span.Span.{Span}
+use Rattle.lvm_due.specs.declared.span.Span.{Span}
 use Rattle.lvm_due.specs.Due.{waits_entry_if, Covers}
 use Rattle.lvm_due.proofs.DueLemmas.Spanning.{covers_nothing}
 use Rattle.lvm_due.proofs.places.entries_if.Goals as goal

@@ -1,6 +1,6 @@
 use Rattle.std.proofs.Common.{sym, ap}
 use Rattle.lvm_session.specs.declared.open.Open.{Open}
-use Rattle.lvm_firsts.proofs.Places.{read_same}
+use Rattle.lvm_due.proofs.AtPlaces.{read_same}
 use Rattle.lvm_due.proofs.places.holds_pin.Goals as goal
 
 pub returns : goal.returns

@@ -1,6 +1,6 @@
 use Rattle.std.proofs.Common.{◌∙◌, ap}
 use Rattle.lvm_session.specs.Fields.{core_of}
-use Rattle.lvm_firsts.proofs.Places.{read_same}
+use Rattle.lvm_due.proofs.AtPlaces.{read_same}
 use Rattle.lvm_due.specs.Due.{any_fails}
 use Rattle.lvm_due.proofs.quiet.any_fails.Goals as goal
 

@@ -1,7 +1,8 @@
 use Rattle.std.proofs.Common.{sym, ◌∙◌, ap}
 use Rattle.std.specs.Option.{option_copied}
 use Rattle.std.proofs.lemmas.Bool.{not-true}
-use Rattle.lvm_due.proofs.EnabledLemmas.Calm.{none_there, same_one}
+use Rattle.lvm_num.proofs.Lists.{none_there}
+use Rattle.lvm_due.proofs.EnabledLemmas.Calm.{same_one}
 use Rattle.lvm_due.proofs.quiet.is_calm.Goals as goal
 
 pub returns : goal.returns

@@ -1,6 +1,6 @@
 use Rattle.std.proofs.Common.{◌∙◌, refl}
-use Rattle.lvm_copies.proofs.passed.Names.{blocked_tells}
-use Rattle.lvm_copies.specs.passed.Names.{core_of, held_of, place_of}
+use Rattle.lvm_facts.proofs.passed.Names.{blocked_tells}
+use Rattle.lvm_facts.specs.passed.Names.{core_of, held_of, place_of}
 use Rattle.lvm_facts.proofs.held.is_held_back.Goals as goal
 
 pub blocked_by-requires : goal.blocked_by-requires

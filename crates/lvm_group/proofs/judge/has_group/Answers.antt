@@ -1,8 +1,8 @@
 use Rattle.std.proofs.Common.{◌≡◌, inl, inr, length, Some, ap, subst, arith}
 use Rattle.std.specs.Prelude.{slice_get}
 use Rattle.std.proofs.lemmas.Bool.{cases_lt}
-use Rattle.lvm_survey.specs.declared.row.SurveyRow.{SurveyRow}
-use Rattle.lvm_survey.proofs.SurveyedLemmas.SurveyRows.{row_read}
+use Rattle.lvm_quorum.specs.declared.row.SurveyRow.{SurveyRow}
+use Rattle.lvm_quorum.proofs.SurveyedLemmas.SurveyRows.{row_read}
 use Rattle.lvm_group.specs.Judged.{IsTaken}
 use Rattle.lvm_group.proofs.JudgedLemmas.{taken_shows, none_shown, same_row}
 use Rattle.lvm_group.proofs.judge.has_group.Goals as goal

@@ -3,7 +3,7 @@ use Rattle.std.specs.Prelude.{is_some}
 use Rattle.std.proofs.lemmas.Bool.{cases_lt}
 use Rattle.lvm_num.specs.declared.descriptor.Descriptor.{Descriptor}
 use Rattle.lvm_num.specs.declared.status.Status.{Status}
-use Rattle.lvm_survey.specs.declared.row.SurveyRow.{SurveyRow}
+use Rattle.lvm_quorum.specs.declared.row.SurveyRow.{SurveyRow}
 use Rattle.lvm_group.specs.Judged.{HasMoment, IsLastOf}
 use Rattle.lvm_group.proofs.judge.last_of.Goals as goal
 use Rattle.lvm_group.proofs.judge.last_of.Goals.{then-is_some, else-is_some}

@@ -1,6 +1,6 @@
 use Rattle.std.proofs.Common.{◌≡◌, length, ap, arith}
-use Rattle.lvm_survey.specs.declared.row.SurveyRow.{SurveyRow}
-use Rattle.lvm_survey.proofs.SurveyedLemmas.SurveyRows.{row_read}
+use Rattle.lvm_quorum.specs.declared.row.SurveyRow.{SurveyRow}
+use Rattle.lvm_quorum.proofs.SurveyedLemmas.SurveyRows.{row_read}
 use Rattle.lvm_group.proofs.JudgedLemmas.{last_more, last_all, last_shown}
 use Rattle.lvm_group.proofs.judge.last_shown.Goals as goal
 

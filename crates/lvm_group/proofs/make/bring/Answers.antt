@@ -3,9 +3,9 @@ use Rattle.std.specs.Prelude.{IfOk, IfErr}
 use Rattle.std.proofs.lemmas.Result.{err_from_is_err_and}
 use Rattle.lvm_vol.specs.Log.{Log, spare_entries}
 use Rattle.lvm_rec.specs.declared.homes.Homes.{Homes}
-use Rattle.lvm_group_plan.specs.passed.Names.{BringsOn, StartsHeld, first_core, Cause}
-use Rattle.lvm_group_plan.specs.NewGroup.{NewGroup}
-use Rattle.lvm_group_plan.specs.Planned.{IsPlannedFor}
+use Rattle.lvm_group.specs.passed.Names.{BringsOn, StartsHeld, first_core, Cause}
+use Rattle.lvm_group.specs.NewGroup.{NewGroup}
+use Rattle.lvm_group.specs.Planned.{IsPlannedFor}
 use Rattle.lvm_group.specs.Made.{MkvgRefuses}
 use Rattle.lvm_group.specs.Steps.{asked_group, cut_at, Stands}
 use Rattle.lvm_group.proofs.MadeLemmas.Composing.{refuses_reading}

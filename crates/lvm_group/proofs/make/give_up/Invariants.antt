@@ -1,5 +1,5 @@
 use Rattle.std.proofs.Common.{◌≡◌, take}
-use Rattle.lvm_group_plan.specs.NewGroup.{given_up}
+use Rattle.lvm_group.specs.NewGroup.{given_up}
 use Rattle.lvm_group.proofs.make.give_up.Given as goal
 
 abbrev pub invariant-loop-disk : goal.invariant-loop-disk

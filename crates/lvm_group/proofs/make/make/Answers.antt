@@ -4,12 +4,12 @@ use Rattle.std.proofs.lemmas.Result.{err_from_is_err_and}
 use Rattle.lvm_vol.specs.Log.{Log}
 use Rattle.lvm_steps.specs.Requests.{at}
 use Rattle.lvm_steps.proofs.MomentsLemmas.Spans.{keeps_still}
-use Rattle.lvm_stamps.proofs.LawsLemmas.Clock.{all_is_behind_next}
+use Rattle.lvm_steps.proofs.LawsLemmas.Clock.{all_is_behind_next}
 use Rattle.lvm_write.proofs.PartsLemmas.Transfers.{spends_none}
-use Rattle.lvm_group_plan.specs.passed.Names.{Cause, StartsHeld, Parts, first_core}
+use Rattle.lvm_group.specs.passed.Names.{Cause, StartsHeld, Parts, first_core}
 use Rattle.lvm_group.specs.declared.make.Standing.{Standing}
-use Rattle.lvm_group_plan.specs.NewGroup.{NewGroup}
-use Rattle.lvm_group_plan.specs.Planned.{IsPlannedFor, RefusesPlan}
+use Rattle.lvm_group.specs.NewGroup.{NewGroup}
+use Rattle.lvm_group.specs.Planned.{IsPlannedFor, RefusesPlan}
 use Rattle.lvm_group.specs.Made.{MkvgRefuses}
 use Rattle.lvm_group.specs.Steps.{asked_group, Stands}
 use Rattle.lvm_group.proofs.MadeLemmas.Composing.{refuses_plan}

@@ -1,10 +1,10 @@
 use Rattle.std.proofs.Common.{◌≡◌, inl, inr, ℕ, ◌≤◌, List, Option, None, IsTrue, refl, sym, subst}
 use Rattle.std.proofs.lemmas.Result.{err_from_is_err_and}
 use Rattle.lvm_num.specs.Descriptor.{is_size}
-use Rattle.lvm_group_plan.specs.NewGroup.{NewGroup, first_too_small, size_for}
-use Rattle.lvm_group_plan.specs.Planned.{IsPlanned}
+use Rattle.lvm_group.specs.NewGroup.{NewGroup, first_too_small, size_for}
+use Rattle.lvm_group.specs.Planned.{IsPlanned}
 use Rattle.lvm_group.specs.Steps.{asked_group}
-use Rattle.lvm_group_plan.proofs.NewGroupLemmas.Groups.{size_positive}
+use Rattle.lvm_group.proofs.NewGroupLemmas.Groups.{size_positive}
 use Rattle.lvm_group.proofs.make.plan_for.Goals as goal
 
 pub returns-in_err-size-clause-refused : goal.returns-in_err-size-clause-refused

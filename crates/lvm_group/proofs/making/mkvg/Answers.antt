@@ -1,8 +1,8 @@
 use Rattle.std.proofs.Common.{sym, subst}
 use Rattle.lvm_vol.specs.Log.{Log}
 use Rattle.lvm_steps.specs.Requests.{at}
-use Rattle.lvm_group_plan.specs.passed.Names.{Core, AreFaults, StartsHeld, BringsOn}
-use Rattle.lvm_group_plan.specs.NewGroup.{NewGroup}
+use Rattle.lvm_group.specs.passed.Names.{Core, AreFaults, StartsHeld, BringsOn}
+use Rattle.lvm_group.specs.NewGroup.{NewGroup}
 use Rattle.lvm_group.specs.Made.{IsMade}
 use Rattle.lvm_group.specs.Steps.{Stands}
 use Rattle.lvm_group.proofs.MadeLemmas.Starting.{spare_left, still_landed, placed, made, settles, keeps_on, calm_on, none_left}

@@ -4,8 +4,8 @@ use Rattle.lvm_num.specs.Disks.{Disks, has}
 use Rattle.lvm_num.specs.Record.{longest_content}
 use Rattle.lvm_rec.specs.declared.homes.Homes.{Homes}
 use Rattle.lvm_write.specs.Writes.{DiskWritesLeave}
-use Rattle.lvm_begin.specs.Beginning.{Beginning, new_beginning, new_order, IsOfParts}
-use Rattle.lvm_begin.specs.Kept.{NewStaysKept}
+use Rattle.lvm_write.specs.Beginning.{Beginning, new_beginning, new_order, IsOfParts}
+use Rattle.lvm_write.specs.Kept.{NewStaysKept}
 use Rattle.lvm_group.specs.Steps.{NewWritesGive}
 use Rattle.lvm_group.proofs.write.write.Goals as goal
 

@@ -1,10 +1,12 @@
 use Rattle.std.proofs.Common.{ℕ, IfErr, ◌∙◌, sym, subst, arith}
-use Rattle.lvm_disk_lines.specs.passed.Quiesce.{CauseRose, MkvgOnceQuiet}
+use Rattle.lvm_group_lines.specs.passed.Quiesce.{CauseRose, MkvgOnceQuiet}
 use Rattle.lvm_group_lines.specs.Groups.{MkvgDoes, NoMkvgWhileOn, Makes, asked_for, itself}
-use Rattle.lvm_disk_lines.specs.passed.Stage.{CommandEnds, Aside}
-use Rattle.lvm_disk_lines.specs.passed.HolderVariants as holder
-use Rattle.lvm_disk_lines.specs.passed.RefusalVariants as refusal
-use Rattle.lvm_disk_lines.proofs.passed.Stage.{asked_ends, ends_as, one_refused, asked_stays, between_as, fits_as}
+use Rattle.lvm_group_lines.specs.Ends.{CommandEnds}
+use Rattle.lvm_group_lines.specs.Moments.{Aside}
+use Rattle.lvm_group_lines.specs.declared.holder.Holder.TheVariants as holder
+use Rattle.lvm_group_lines.specs.declared.reply.Refusal.TheVariants as refusal
+use Rattle.lvm_group_lines.proofs.EndsLemmas.{asked_ends, ends_as, one_refused}
+use Rattle.lvm_group_lines.proofs.StagesLemmas.Staging.{asked_stays, between_as, fits_as}
 use Rattle.lvm_group_lines.proofs.Coming.{Left, dark_still, held, outcome_ends}
 use Rattle.lvm_group_lines.proofs.GroupsLemmas.Lines.{all_serve, brings, may_hold}
 use Rattle.lvm_group_lines.proofs.QuiesceGroupsLemmas.Making.{came, itself_gives, serves, stands, stayed}

@@ -1,8 +1,10 @@
 use Rattle.std.proofs.Common.{ap, refl, arith, ◌∙◌}
 use Rattle.lvm_group_lines.specs.Groups.{BusyVaryoff, NoVaryoff, VaryoffDoes}
-use Rattle.lvm_disk_lines.specs.passed.Stage.{Aside, IsOn, open_in, session_in}
-use Rattle.lvm_disk_lines.specs.passed.RefusalVariants as refusal
-use Rattle.lvm_disk_lines.proofs.passed.Stage.{refused_ends, on_with}
+use Rattle.lvm_group_lines.specs.Moments.{Aside}
+use Rattle.lvm_group_lines.specs.Stages.{IsOn, open_in, session_in}
+use Rattle.lvm_group_lines.specs.declared.reply.Refusal.TheVariants as refusal
+use Rattle.lvm_group_lines.proofs.EndsLemmas.{refused_ends}
+use Rattle.lvm_group_lines.proofs.StagesLemmas.Staging.{on_with}
 use Rattle.lvm_group_lines.proofs.GroupsLemmas.Closing.{closed_ends}
 use Rattle.lvm_group_lines.proofs.Listing.{none_few}
 use Rattle.lvm_group_lines.proofs.groups.do_varyoff.Goals as goal

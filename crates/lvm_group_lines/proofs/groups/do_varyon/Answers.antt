@@ -1,10 +1,12 @@
 use Rattle.std.proofs.Common.{ℕ, IfErr, ◌∙◌, sym, subst}
-use Rattle.lvm_disk_lines.specs.passed.Quiesce.{CauseRose, VaryonOnceQuiet}
+use Rattle.lvm_group_lines.specs.passed.Quiesce.{CauseRose, VaryonOnceQuiet}
 use Rattle.lvm_group_lines.specs.Groups.{VaryonDoes, NoVaryonWhileOn, Varies, itself}
-use Rattle.lvm_disk_lines.specs.passed.Stage.{CommandEnds, Aside}
-use Rattle.lvm_disk_lines.specs.passed.HolderVariants as holder
-use Rattle.lvm_disk_lines.specs.passed.RefusalVariants as refusal
-use Rattle.lvm_disk_lines.proofs.passed.Stage.{asked_ends, ends_as, one_refused, asked_stays, between_as, fits_as}
+use Rattle.lvm_group_lines.specs.Ends.{CommandEnds}
+use Rattle.lvm_group_lines.specs.Moments.{Aside}
+use Rattle.lvm_group_lines.specs.declared.holder.Holder.TheVariants as holder
+use Rattle.lvm_group_lines.specs.declared.reply.Refusal.TheVariants as refusal
+use Rattle.lvm_group_lines.proofs.EndsLemmas.{asked_ends, ends_as, one_refused}
+use Rattle.lvm_group_lines.proofs.StagesLemmas.Staging.{asked_stays, between_as, fits_as}
 use Rattle.lvm_group_lines.proofs.Coming.{Left, dark_still, held, outcome_ends}
 use Rattle.lvm_group_lines.proofs.GroupsLemmas.Lines.{all_serve, all_stand, brings, may_hold}
 use Rattle.lvm_group_lines.proofs.QuiesceGroupsLemmas.Varying.{came, itself_gives, serves, stands, stayed}

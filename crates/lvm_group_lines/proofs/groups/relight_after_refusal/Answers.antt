@@ -1,4 +1,4 @@
-use Rattle.lvm_disk_lines.proofs.passed.Stage.{left_alone}
+use Rattle.lvm_group_lines.proofs.LightingLemmas.{left_alone}
 use Rattle.lvm_group_lines.proofs.groups.relight_after_refusal.Goals as goal
 
 pub returns-in_default : goal.returns-in_default

@@ -2,7 +2,8 @@ use Rattle.std.proofs.Common.{ap, length, ℕ, subst, sym, ◌∙◌}
 use Rattle.lvm_num.specs.declared.descriptor.Descriptor.{Descriptor}
 use Rattle.lvm_num.specs.declared.status.Status.{Status}
 use Rattle.lvm_group_lines.specs.Listings.{DiskOfGroup, MemberShows}
-use Rattle.lvm_disk_lines.specs.passed.Stage.{session_of, shelf_of, Holder}
+use Rattle.lvm_group_lines.specs.Stages.{session_of, shelf_of}
+use Rattle.lvm_group_lines.specs.declared.holder.Holder.{Holder}
 use Rattle.lvm_group_lines.proofs.Listing.{shown_as}
 use Rattle.lvm_group_lines.proofs.listings.list_disk.Goals as goal
 

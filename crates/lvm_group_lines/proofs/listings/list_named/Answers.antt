@@ -1,7 +1,7 @@
 use Rattle.std.proofs.Common.{◌≡◌, Bool, List, ℕ, ap, rules, subst, sym, if◌then◌else◌, refl}
 use Rattle.lvm_show.specs.Listings.{group_text, volumes_text}
 use Rattle.lvm_group_lines.specs.Listings.{ListsGroup, OtherGroup}
-use Rattle.lvm_disk_lines.specs.passed.Stage.{Shows}
+use Rattle.lvm_group_lines.specs.Replies.{Shows}
 use Rattle.lvm_group_lines.proofs.listings.list_named.Goals as goal
 
 pub returns-then-volumes : goal.returns-then-volumes

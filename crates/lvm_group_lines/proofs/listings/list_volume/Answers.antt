@@ -2,7 +2,7 @@ use Rattle.std.proofs.Common.{ap}
 use Rattle.lvm_num.specs.declared.descriptor.Descriptor.{Descriptor}
 use Rattle.lvm_num.specs.declared.status.Status.{Status}
 use Rattle.lvm_group_lines.specs.Listings.{CopiesShow, VolumeOfGroup}
-use Rattle.lvm_disk_lines.specs.passed.Stage.{session_of}
+use Rattle.lvm_group_lines.specs.Stages.{session_of}
 use Rattle.lvm_group_lines.proofs.Listing.{shown_as}
 use Rattle.lvm_group_lines.proofs.listings.list_volume.Goals as goal
 

@@ -1,7 +1,7 @@
 use Rattle.std.proofs.Common.{sym, subst}
 use Rattle.lvm_session.specs.Fields.{core_of}
 use Rattle.lvm_session.specs.State.{Core, state}
-use Rattle.lvm_earlier.specs.passed.Names.{IsSoundBetween}
+use Rattle.lvm_handover.specs.passed.Names.{IsSoundBetween}
 use Rattle.lvm_handover.proofs.SettlingLemmas.Resting.{is_between, is_settled}
 use Rattle.lvm_handover.proofs.handover.settle.Goals as goal
 

@@ -1,4 +1,4 @@
-use Rattle.lvm_keeps_events.proofs.FallsDataFallsLemmas.CopyFalls.{copy_quit_falls}
+use Rattle.lvm_keeps_events.proofs.EndFallsLemmas.CopyFalls.{copy_quit_falls}
 use Rattle.lvm_keeps_events.proofs.data_falls_laws.copy_quit_falls.Goals as goal
 
 pub returns : goal.returns

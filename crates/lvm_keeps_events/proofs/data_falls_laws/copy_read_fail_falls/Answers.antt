@@ -1,4 +1,4 @@
-use Rattle.lvm_keeps_events.proofs.FallsDataFallsLemmas.CopyFalls.{copy_read_fail_falls}
+use Rattle.lvm_keeps_events.proofs.EndFallsLemmas.CopyFalls.{copy_read_fail_falls}
 use Rattle.lvm_keeps_events.proofs.data_falls_laws.copy_read_fail_falls.Goals as goal
 
 pub returns : goal.returns

@@ -1,4 +1,4 @@
-use Rattle.lvm_keeps_events.proofs.FallsDataFallsLemmas.GroupFalls.{copy_write_end_falls}
+use Rattle.lvm_keeps_events.proofs.EndFallsLemmas.GroupFalls.{copy_write_end_falls}
 use Rattle.lvm_keeps_events.proofs.data_falls_laws.copy_write_end_falls.Goals as goal
 
 pub returns : goal.returns

@@ -1,4 +1,4 @@
-use Rattle.lvm_keeps_events.proofs.FallsMovesLemmas.{admission_falls}
+use Rattle.lvm_keeps_events.proofs.MoveFallsLemmas.{admission_falls}
 use Rattle.lvm_keeps_events.proofs.moves_laws.admission_falls.Goals as goal
 
 pub returns : goal.returns

@@ -1,4 +1,4 @@
-use Rattle.lvm_keeps_events.proofs.EndsStatusLemmas.NoteFail.{note_fail_keeps}
+use Rattle.lvm_keeps_events.proofs.StatusEndsLemmas.NoteFail.{note_fail_keeps}
 use Rattle.lvm_keeps_events.proofs.status_laws.note_fail_keeps.Goals as goal
 
 pub returns : goal.returns

@@ -1,4 +1,4 @@
-use Rattle.lvm_keeps_events.proofs.EndsStatusLemmas.EndsFall.{status_end_falls}
+use Rattle.lvm_keeps_events.proofs.StatusEndsLemmas.EndsFall.{status_end_falls}
 use Rattle.lvm_keeps_events.proofs.status_laws.status_end_falls.Goals as goal
 
 pub returns : goal.returns

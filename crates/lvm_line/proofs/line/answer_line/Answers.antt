@@ -4,8 +4,8 @@ use Rattle.lvm_operands.specs.declared.rest.Misfit.{Misfit}
 use Rattle.lvm_parse.specs.Grammar.{line_of}
 use Rattle.lvm_parse.proofs.WithinLemmas.{line_is_within}
 use Rattle.lvm_operands.specs.Reading.{misfit}
-use Rattle.lvm_copy_lines.specs.passed.Stage.{Reply, shelf_in}
-use Rattle.lvm_copy_lines.specs.passed.ReplyVariants as reply
+use Rattle.lvm_volume_lines.specs.passed.GroupLines.{Reply, shelf_in}
+use Rattle.lvm_volume_lines.specs.passed.ReplyVariants as reply
 use Rattle.lvm_line.specs.Lines.{CommandInPlace, IsLeftToDo}
 use Rattle.lvm_line.proofs.LinesLemmas.Answering.{mkvg_left}
 use Rattle.lvm_line.proofs.LinesLemmas.Staying.{done_in_place, still_in_place}

@@ -1,6 +1,5 @@
 use Rattle.std.proofs.Common.{◌≤◌, refl, sym, subst, ℕ, List, length}
-use Rattle.lvm_copy_lines.specs.passed.Stage.{CommandEnds, Aside, most_refusals, session_in, shelf_in, Reply}
-use Rattle.lvm_copy_lines.specs.passed.GroupLines.{MkvgDoes, DiskShows, GroupShows, VolumeShows}
+use Rattle.lvm_volume_lines.specs.passed.GroupLines.{CommandEnds, Aside, most_refusals, session_in, shelf_in, Reply, MkvgDoes, DiskShows, GroupShows, VolumeShows}
 use Rattle.lvm_line.proofs.LinesLemmas.Lining.{done_by, listed_by, one_disk, one_group, one_volume, served_by}
 use Rattle.lvm_line.proofs.line.do_command.Goals as goal
 

@@ -1,10 +1,10 @@
 use Rattle.std.proofs.Common.{◌≡◌, ◌≤◌, ◌∙◌, ap, refl, sym, subst, arith, None, Some, Ok, Option}
 use Rattle.lvm_parse.specs.declared.command.Command.{Command}
 use Rattle.lvm_operands.specs.Reading.{misfit}
-use Rattle.lvm_copy_lines.specs.passed.Stage.{most_refusals, shelf_in, history_in, state_in, without_facts, Reply, Stage}
-use Rattle.lvm_copy_lines.specs.passed.RefusalVariants as refusal
-use Rattle.lvm_copy_lines.specs.passed.ReplyVariants as reply
-use Rattle.lvm_copy_lines.proofs.passed.Stage.{one_refused, asked_stays}
+use Rattle.lvm_volume_lines.specs.passed.GroupLines.{most_refusals, shelf_in, history_in, state_in, without_facts, Reply, Stage}
+use Rattle.lvm_volume_lines.specs.passed.RefusalVariants as refusal
+use Rattle.lvm_volume_lines.specs.passed.ReplyVariants as reply
+use Rattle.lvm_volume_lines.proofs.passed.GroupLines.{one_refused, asked_stays}
 use Rattle.lvm_parse.proofs.WithinLemmas.{line_is_within}
 use Rattle.lvm_line.proofs.LinesLemmas.Lining.{line_read, line_still, line_unread, asked_once, asked_so, stage_named}
 use Rattle.lvm_line.proofs.line.do_line.Goals as goal

@@ -1,5 +1,5 @@
 use Rattle.std.proofs.Common.{sym, subst}
-use Rattle.lvm_copy_lines.specs.passed.Stage.{Reply}
+use Rattle.lvm_volume_lines.specs.passed.GroupLines.{Reply}
 use Rattle.lvm_line.specs.Lines.{DoesInPlace, IsFinished}
 use Rattle.lvm_line.specs.declared.line.InPlace.{InPlace}
 use Rattle.lvm_line.proofs.LinesLemmas.Staying.{finished_as, finished_from}

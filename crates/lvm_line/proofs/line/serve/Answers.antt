@@ -1,7 +1,7 @@
 use Rattle.std.proofs.Common.{None, Some, Ok, refl, sym, subst}
 use Rattle.lvm_parse.specs.declared.command.Command.{Command}
 use Rattle.lvm_parse.specs.declared.command.Command.TheVariants as command
-use Rattle.lvm_copy_lines.specs.passed.Stage.{CommandEnds, session_in}
+use Rattle.lvm_volume_lines.specs.passed.GroupLines.{CommandEnds, session_in}
 use Rattle.lvm_line.specs.Lines.{CommandDoes, IsOrder, role_of}
 use Rattle.lvm_line.proofs.LinesLemmas.Answering.{left_over}
 use Rattle.lvm_line.proofs.LinesLemmas.Lining.{heard_disk, heard_group, heard_volume, one_disk, one_group, one_volume}

@@ -3,7 +3,7 @@ use Rattle.std.specs.Prelude.{nat_lt}
 use Rattle.std.proofs.lemmas.Bool.{ltb-true}
 use Rattle.lvm_vol.specs.Log.{Log}
 use Rattle.lvm_session.specs.Left.{left_of}
-use Rattle.lvm_keeps_turn.specs.Turning.{is_last}
+use Rattle.lvm_keeps_events.specs.Turning.{is_last}
 use Rattle.lvm_session.specs.State.{state_of}
 use Rattle.lvm_driver.proofs.passed.Names.{runs_both}
 use Rattle.lvm_load.specs.Waiting.{OthersWait}

@@ -4,7 +4,7 @@ use Rattle.lvm_session.specs.Fields.{core_of}
 use Rattle.lvm_session.specs.Enabled.{admission}
 use Rattle.lvm_moves.specs.Pinning.{PinGives}
 use Rattle.lvm_session.specs.Sound.{IsGoing}
-use Rattle.lvm_admit.specs.Choosing.{MayChoose}
+use Rattle.lvm_moves.specs.Choosing.{MayChoose}
 use Rattle.lvm_moves.specs.Moving.{FirstGives}
 use Rattle.lvm_moves.proofs.MovingLemmas.{admit_gives, land_gives, pin_gives}
 use Rattle.lvm_moves.proofs.moves.move_first.Goals as goal

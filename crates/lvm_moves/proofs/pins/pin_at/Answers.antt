@@ -3,8 +3,8 @@ use Rattle.lvm_session.specs.declared.open.Open.{Open}
 use Rattle.lvm_session.specs.Enabled.{may_pin}
 use Rattle.lvm_session.specs.Fields.{core_of}
 use Rattle.lvm_session.specs.Judging.{facts_of, next_for}
-use Rattle.lvm_firsts.proofs.EnabledLemmas.{pins_not}
-use Rattle.lvm_firsts.proofs.Places.{read_same}
+use Rattle.lvm_due.proofs.NotNextLemmas.{pins_not}
+use Rattle.lvm_due.proofs.AtPlaces.{read_same}
 use Rattle.lvm_moves.proofs.PinningLemmas.{other_waits}
 use Rattle.lvm_moves.proofs.pins.pin_at.Goals as goal
 

@@ -4,8 +4,8 @@ use Rattle.lvm_path.specs.Asks.{lv_of}
 use Rattle.lvm_path.specs.Next.{with_pin}
 use Rattle.lvm_session.specs.declared.open.Open.{Open}
 use Rattle.lvm_session.specs.Fields.{core_of}
-use Rattle.lvm_firsts.proofs.Nexts.{one}
-use Rattle.lvm_firsts.proofs.Places.{read_same, stands}
+use Rattle.lvm_due.proofs.Nexts.{one}
+use Rattle.lvm_due.proofs.AtPlaces.{read_same, stands}
 use Rattle.lvm_moves.proofs.PinningLemmas.{numbered, pins_so, stays_so, may_not}
 use Rattle.lvm_moves.proofs.pins.pin_group.Goals as goal
 

@@ -1,5 +1,5 @@
 use Rattle.std.proofs.Common.{sym, subst}
-use Rattle.lvm_literals.specs.Words.{disk_in}
+use Rattle.lvm_operands.specs.Words.{disk_in}
 use Rattle.lvm_operands.specs.Reading.{operand}
 use Rattle.lvm_operands.specs.Rests.{left, word_at, Reads}
 use Rattle.lvm_operands.proofs.ReadingLemmas.NextWord.{operand_is}

@@ -1,7 +1,7 @@
 use Rattle.std.proofs.Common.{inl, inr, refl, sym, ◌∙◌, ap, subst}
 use Rattle.lvm_parse.specs.Grammar.{line_of}
 use Rattle.lvm_top.specs.passed.Lines.{IsLine, asked_after}
-use Rattle.lvm_top.specs.passed.Stage.{IsStuck, Reply, history_in, state_in, without_facts}
+use Rattle.lvm_top.specs.passed.GroupLines.{IsStuck, Reply, history_in, state_in, without_facts}
 use Rattle.lvm_top.specs.passed.ReplyVariants as reply
 use Rattle.lvm_program.specs.Woven.{HasGroup, NoGroup}
 use Rattle.lvm_top.proofs.TurnLemmas.{renamed}

@@ -1,6 +1,6 @@
 use Rattle.std.proofs.Common.{◌∙◌, ap, subst}
 use Rattle.lvm_top.specs.passed.HolderVariants as holder
-use Rattle.lvm_top.specs.passed.Stage.{history_in, moment_in, session_in, state_in, without_facts}
+use Rattle.lvm_top.specs.passed.GroupLines.{history_in, moment_in, session_in, state_in, without_facts}
 use Rattle.lvm_program.specs.Woven.{EndsWoven, exit_of, mklv_line, mkvg_line}
 use Rattle.lvm_top.proofs.RunLemmas.Stopping.{first_between, first_state}
 use Rattle.lvm_program.proofs.WovenLemmas.Woven.{asks_so, made_by, made_few, made_serves, makes_so, the_promises_woven, unwoven}

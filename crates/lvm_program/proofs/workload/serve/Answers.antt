@@ -4,8 +4,8 @@ use Rattle.lvm_vol.specs.Log.{Log}
 use Rattle.lvm_load.specs.Totals.{entries_since, totals_of}
 use Rattle.lvm_load.specs.Weaving.{first_weaving}
 use Rattle.lvm_session.specs.State.{state_of}
-use Rattle.lvm_top.specs.passed.Stage.{without_facts}
-use Rattle.lvm_top.proofs.passed.Running.{runs_both}
+use Rattle.lvm_top.specs.passed.GroupLines.{without_facts}
+use Rattle.lvm_top.proofs.passed.Tie.{runs_both}
 use Rattle.lvm_program.proofs.WovenLemmas.Woven.{causes_still, runs_unstuck}
 use Rattle.lvm_program.proofs.workload.serve.Goals as goal
 

@@ -1,7 +1,7 @@
 use Rattle.std.proofs.Common.{ℕ, refl, sym, subst}
 use Rattle.lvm_vol.specs.Log.{Log, spare_entries}
 use Rattle.lvm_core.specs.Sound.{HaveAllLanded}
-use Rattle.lvm_group.specs.passed.GroupPlan.{NewGroup, MayBegin, RefusesFirst}
+use Rattle.lvm_group.specs.NewGroup.{NewGroup, MayBegin, RefusesFirst}
 use Rattle.lvm_quiesce.specs.Groups.{RefusedAtOnce}
 use Rattle.lvm_quiesce.proofs.GroupsLemmas.{none_brings, first_rose, stayed_out, made}
 use Rattle.lvm_quiesce.proofs.groups.mkvg.Goals as goal

@@ -1,6 +1,6 @@
 use Rattle.std.proofs.Common.{sym, ap, ◌∙◌}
 use Rattle.lvm_num.specs.Disks.{has}
-use Rattle.lvm_survey.specs.Surveyed.{surveyed}
+use Rattle.lvm_quorum.specs.Surveyed.{surveyed}
 use Rattle.lvm_quorum.specs.Groups.{shown_record, shown_record_if}
 use Rattle.lvm_quorum.proofs.KeptGroupLemmas.Chosen.{found_valid, no_status, votes_are, quorum_is}
 use Rattle.lvm_quorum.proofs.GroupsLemmas.Epochs.{seen_is_greatest}

@@ -1,10 +1,10 @@
 use Rattle.std.proofs.Common.{◌≡◌, max, length, sym, ap, ◌∙◌, arith}
-use Rattle.lvm_survey.specs.passed.Names.{if_passes, is_of, is_status_of}
-use Rattle.lvm_survey.specs.declared.row.SurveyRow.{SurveyRow}
-use Rattle.lvm_survey.specs.Surveyed.{surveyed}
+use Rattle.lvm_quorum.specs.passed.Survey.{if_passes, is_of, is_status_of}
+use Rattle.lvm_quorum.specs.declared.row.SurveyRow.{SurveyRow}
+use Rattle.lvm_quorum.specs.Surveyed.{surveyed}
 use Rattle.lvm_quorum.specs.Groups.{epoch_of, epoch_on}
 use Rattle.lvm_quorum.proofs.GroupsLemmas.Epochs.{greatest_none, greatest_more, greatest_all}
-use Rattle.lvm_survey.proofs.SurveyedLemmas.SurveyRows.{row_read, descriptor_shown, status_shown}
+use Rattle.lvm_quorum.proofs.SurveyedLemmas.SurveyRows.{row_read, descriptor_shown, status_shown}
 use Rattle.lvm_quorum.proofs.groups.greatest_epoch.Goals as goal
 
 pub loop-row-init : goal.loop-row-init

@@ -1,4 +1,4 @@
-use Rattle.lvm_survey.specs.Surveyed.{surveyed}
+use Rattle.lvm_quorum.specs.Surveyed.{surveyed}
 use Rattle.lvm_quorum.specs.Groups.{epoch_on}
 use Rattle.lvm_quorum.proofs.GroupsLemmas.Epochs.{IsGreatestBelow}
 use Rattle.lvm_quorum.proofs.groups.greatest_epoch.Given as goal

@@ -1,11 +1,11 @@
 use Rattle.std.proofs.Common.{◌≡◌, length, refl, sym, ap, ◌∙◌, arith}
 use Rattle.lvm_num.specs.Record.{newer, newest_below}
-use Rattle.lvm_survey.specs.passed.Names.{descriptor_among, if_passes, is_of}
-use Rattle.lvm_survey.specs.declared.row.SurveyRow.{SurveyRow}
-use Rattle.lvm_survey.specs.Surveyed.{surveyed}
+use Rattle.lvm_quorum.specs.passed.Survey.{descriptor_among, if_passes, is_of}
+use Rattle.lvm_quorum.specs.declared.row.SurveyRow.{SurveyRow}
+use Rattle.lvm_quorum.specs.Surveyed.{surveyed}
 use Rattle.lvm_quorum.specs.Groups.{shown_record_if}
 use Rattle.lvm_quorum.proofs.RecordLemmas.{newest_more}
-use Rattle.lvm_survey.proofs.SurveyedLemmas.SurveyRows.{row_read, descriptor_shown}
+use Rattle.lvm_quorum.proofs.SurveyedLemmas.SurveyRows.{row_read, descriptor_shown}
 use Rattle.lvm_quorum.proofs.groups.newest_descriptor.Goals as goal
 
 pub loop-row-init : goal.loop-row-init

@@ -2,12 +2,12 @@ use Rattle.std.proofs.Common.{◌≡◌, length, None, refl, sym, ap, ◌∙◌,
 use Rattle.std.specs.Prelude.{if◌then◌else◌}
 use Rattle.lvm_num.specs.Disks.{has}
 use Rattle.lvm_num.specs.Record.{newer, newest_below}
-use Rattle.lvm_survey.specs.passed.Names.{if_passes, is_status_of}
-use Rattle.lvm_survey.specs.declared.row.SurveyRow.{SurveyRow}
-use Rattle.lvm_survey.specs.Surveyed.{surveyed}
+use Rattle.lvm_quorum.specs.passed.Survey.{if_passes, is_status_of}
+use Rattle.lvm_quorum.specs.declared.row.SurveyRow.{SurveyRow}
+use Rattle.lvm_quorum.specs.Surveyed.{surveyed}
 use Rattle.lvm_quorum.specs.Groups.{shown_record_if}
 use Rattle.lvm_quorum.proofs.RecordLemmas.{newest_more, newer_none, picked, left_out}
-use Rattle.lvm_survey.proofs.SurveyedLemmas.SurveyRows.{row_read, status_shown}
+use Rattle.lvm_quorum.proofs.SurveyedLemmas.SurveyRows.{row_read, status_shown}
 use Rattle.lvm_quorum.proofs.groups.newest_status.Goals as goal
 use Rattle.lvm_quorum.proofs.groups.newest_status.Goals.{then-has, else-has}
 

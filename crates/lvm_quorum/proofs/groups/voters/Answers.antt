@@ -2,11 +2,11 @@ use Rattle.std.proofs.Common.{◌≡◌, ℕ, ◌||◌, length, sym, ap, ◌∙�
 use Rattle.std.specs.Prelude.{◌==◌}
 use Rattle.lvm_num.specs.Disks.{has}
 use Rattle.lvm_num.specs.Votes.{all_disks}
-use Rattle.lvm_survey.specs.passed.Names.{members_in}
-use Rattle.lvm_survey.specs.declared.row.SurveyRow.{SurveyRow}
-use Rattle.lvm_survey.specs.Surveyed.{surveyed}
-use Rattle.lvm_survey.proofs.SurveyedLemmas.SurveyRows.{row_read}
-use Rattle.lvm_survey.proofs.Passing.{one_taken, one_left}
+use Rattle.lvm_quorum.specs.passed.Survey.{members_in}
+use Rattle.lvm_quorum.specs.declared.row.SurveyRow.{SurveyRow}
+use Rattle.lvm_quorum.specs.Surveyed.{surveyed}
+use Rattle.lvm_quorum.proofs.SurveyedLemmas.SurveyRows.{row_read}
+use Rattle.lvm_quorum.proofs.Passing.{one_taken, one_left}
 use Rattle.lvm_quorum.proofs.KeptGroupLemmas.Voting.{all_taken, member_told}
 use Rattle.lvm_quorum.proofs.groups.voters.Goals as goal
 use Rattle.lvm_quorum.proofs.groups.voters.Goals.{then-is_voter, else-is_voter}

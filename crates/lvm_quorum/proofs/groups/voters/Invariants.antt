@@ -1,8 +1,8 @@
 use Rattle.lvm_num.specs.Disks.{has}
 use Rattle.lvm_num.specs.Votes.{all_disks}
-use Rattle.lvm_survey.specs.passed.Names.{members_in}
-use Rattle.lvm_survey.specs.Surveyed.{surveyed}
-use Rattle.lvm_survey.proofs.Passing.{PassBelow}
+use Rattle.lvm_quorum.specs.passed.Survey.{members_in}
+use Rattle.lvm_quorum.specs.Surveyed.{surveyed}
+use Rattle.lvm_quorum.proofs.Passing.{PassBelow}
 use Rattle.lvm_quorum.proofs.groups.voters.Given as goal
 
 abbrev pub invariant-loop-row : goal.invariant-loop-row

@@ -1,10 +1,10 @@
 use Rattle.std.proofs.Common.{◌≡◌, ℕ, length, None, sym, ap, subst, ◌∙◌, arith}
 use Rattle.lvm_num.specs.Votes.{all_disks}
-use Rattle.lvm_survey.specs.passed.Names.{status_among, under}
-use Rattle.lvm_survey.specs.declared.row.SurveyRow.{SurveyRow}
-use Rattle.lvm_survey.specs.Surveyed.{surveyed}
-use Rattle.lvm_survey.proofs.SurveyedLemmas.SurveyRows.{row_read}
-use Rattle.lvm_quorum.proofs.KeptGroupLemmas.Chosen.{is_none}
+use Rattle.lvm_num.proofs.Lists.{none_there}
+use Rattle.lvm_quorum.specs.passed.Survey.{status_among, under}
+use Rattle.lvm_quorum.specs.declared.row.SurveyRow.{SurveyRow}
+use Rattle.lvm_quorum.specs.Surveyed.{surveyed}
+use Rattle.lvm_quorum.proofs.SurveyedLemmas.SurveyRows.{row_read}
 use Rattle.lvm_quorum.proofs.GroupsLemmas.Naming.{one_id, named_more, named_all}
 use Rattle.lvm_quorum.proofs.names.has_record.Goals as goal
 use Rattle.lvm_quorum.proofs.names.has_record.Goals.{in-Some+else-has_status, in_default}
@@ -20,7 +20,7 @@ loop-row-preserved c =
       | in-Some+else-has_status w ↦
           λ id named. subst (λ (n : ℕ). status_among (surveyed s) all_disks n ≡ None)
           (one_id (under row.descriptor row.descriptor_stamp) c.args.name.now w.in-Some.id id w.in-Some.ensures.some named)
-          (is_none (status_among (surveyed s) all_disks w.in-Some.id) (sym w.has_status.ensures ∙ w.if-has_status.false))
+          (none_there (status_among (surveyed s) all_disks w.in-Some.id) (sym w.has_status.ensures ∙ w.if-has_status.false))
       | in_default w ↦ λ id named. absurd (w.in_default.ensures.none id named)
     ])
 

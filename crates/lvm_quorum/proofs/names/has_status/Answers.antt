@@ -1,6 +1,6 @@
 use Rattle.std.proofs.Common.{sym, ap}
 use Rattle.std.specs.Prelude.{is_some}
-use Rattle.lvm_survey.specs.Surveyed.{surveyed}
+use Rattle.lvm_quorum.specs.Surveyed.{surveyed}
 use Rattle.lvm_quorum.proofs.KeptGroupLemmas.Chosen.{no_status}
 use Rattle.lvm_quorum.proofs.names.has_status.Goals as goal
 

@@ -1,5 +1,5 @@
 use Rattle.std.proofs.Common.{◌≡◌, ℕ, ◌<◌}
-use Rattle.lvm_survey.specs.Surveyed.{surveyed}
+use Rattle.lvm_quorum.specs.Surveyed.{surveyed}
 use Rattle.lvm_quorum.specs.Groups.{IsNamedBy}
 use Rattle.lvm_quorum.proofs.names.other_named.Given as goal
 

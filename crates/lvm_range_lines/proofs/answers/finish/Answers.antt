@@ -1,7 +1,7 @@
 use Rattle.std.proofs.Common.{◌≡◌, ◌++◌, ℕ, List, refl, ◌∙◌, ap, subst}
 use Rattle.std.specs.Prelude.{codes}
 use Rattle.std.specs.String.{string_bytes}
-use Rattle.lvm_group_lines.specs.passed.ReplyVariants as reply
+use Rattle.lvm_group_lines.specs.declared.reply.Reply.TheVariants as reply
 use Rattle.lvm_range_lines.specs.Answers.{IsOf, TellsAll, TellsNone}
 use Rattle.lvm_range_lines.specs.Refusals.{answers_text}
 use Rattle.lvm_range_lines.proofs.answers.finish.Goals as goal

@@ -4,7 +4,7 @@ use Rattle.lvm_num.specs.declared.descriptor.Descriptor.{Descriptor}
 use Rattle.lvm_group_lines.specs.passed.Names.{HasNoVolumeNamed, IsNumberOf}
 use Rattle.lvm_posts.specs.declared.asked.Asked.{Asked}
 use Rattle.lvm_group_lines.specs.passed.Ranges.{AskRangeFault, AskRangeGives}
-use Rattle.lvm_group_lines.proofs.passed.Running.{runs_none}
+use Rattle.lvm_group_lines.proofs.passed.Tie.{runs_none}
 use Rattle.lvm_session.specs.State.{state_of}
 use Rattle.lvm_range_lines.specs.Requests.{HasNone, Refuses, Takes}
 use Rattle.lvm_range_lines.proofs.LookingLemmas.{fault_same}

@@ -1,9 +1,9 @@
 use Rattle.std.proofs.Common.{List, refl, sym, subst}
 use Rattle.lvm_num.specs.Buffer.{Sector}
 use Rattle.lvm_vol.specs.Log.{Log}
-use Rattle.lvm_group_lines.specs.passed.DiskLines.{blocks_text}
+use Rattle.lvm_group_lines.specs.Disks.{blocks_text}
 use Rattle.lvm_group_lines.specs.passed.Ranges.{AreGot, HasEndedWell, IsRead}
-use Rattle.lvm_group_lines.specs.passed.Stage.{Shows}
+use Rattle.lvm_group_lines.specs.Replies.{Shows}
 use Rattle.lvm_range_lines.specs.Requests.{NoMemory, ShowsThem}
 use Rattle.lvm_range_lines.proofs.requests.blocks_reply.Goals as goal
 

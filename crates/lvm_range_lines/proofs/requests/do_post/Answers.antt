@@ -1,8 +1,9 @@
 use Rattle.std.proofs.Common.{false, ap, refl, subst}
-use Rattle.lvm_group_lines.specs.passed.HolderVariants as holder
-use Rattle.lvm_group_lines.specs.passed.RefusalVariants as refusal
-use Rattle.lvm_group_lines.specs.passed.ReplyVariants as reply
-use Rattle.lvm_group_lines.specs.passed.Stage.{ComesTo, Holder, IsOfKind, session_of}
+use Rattle.lvm_group_lines.specs.declared.holder.Holder.TheVariants as holder
+use Rattle.lvm_group_lines.specs.declared.reply.Refusal.TheVariants as refusal
+use Rattle.lvm_group_lines.specs.declared.reply.Reply.TheVariants as reply
+use Rattle.lvm_group_lines.specs.Stages.{ComesTo, IsOfKind, session_of}
+use Rattle.lvm_group_lines.specs.declared.holder.Holder.{Holder}
 use Rattle.lvm_range_lines.specs.Requests.{PostDoes, NotThere, WhileOff}
 use Rattle.lvm_range_lines.proofs.EndsLemmas.{between_now, ends_with, fits_now, refused_as}
 use Rattle.lvm_range_lines.proofs.LookingLemmas.{none_named}

@@ -1,8 +1,9 @@
 use Rattle.std.proofs.Common.{Some, refl, subst}
 use Rattle.std.specs.Prelude.{Result}
 use Rattle.lvm_posts.specs.declared.asked.Asked.{Asked}
-use Rattle.lvm_group_lines.specs.passed.Stage.{Refusal, HaveRooms}
-use Rattle.lvm_group_lines.specs.passed.ReplyVariants as reply
+use Rattle.lvm_group_lines.specs.declared.reply.Refusal.{Refusal}
+use Rattle.lvm_group_lines.specs.Stages.{HaveRooms}
+use Rattle.lvm_group_lines.specs.declared.reply.Reply.TheVariants as reply
 use Rattle.lvm_range_lines.specs.Requests.{AsksByName, NotPosted, Posts}
 use Rattle.lvm_range_lines.proofs.RequestsLemmas.Adding.{has_place, posted_ends}
 use Rattle.lvm_range_lines.proofs.RepliesLemmas.{carried_by, not_asked_heard}

@@ -3,8 +3,9 @@ use Rattle.std.specs.Prelude.{Result}
 use Rattle.lvm_session.specs.declared.open.Power.TheVariants as power
 use Rattle.lvm_posts.specs.declared.asked.Asked.{Asked}
 use Rattle.lvm_session.specs.State.{state_of}
-use Rattle.lvm_group_lines.specs.passed.Stage.{Refusal, HaveRooms}
-use Rattle.lvm_group_lines.specs.passed.ReplyVariants as reply
+use Rattle.lvm_group_lines.specs.declared.reply.Refusal.{Refusal}
+use Rattle.lvm_group_lines.specs.Stages.{HaveRooms}
+use Rattle.lvm_group_lines.specs.declared.reply.Reply.TheVariants as reply
 use Rattle.lvm_range_lines.specs.Requests.{AsksByName, Finishes, NotBegun, ShowsBlocks}
 use Rattle.lvm_range_lines.proofs.RepliesLemmas.{blocks_heard, carried_by, not_asked_heard}
 use Rattle.lvm_range_lines.proofs.RequestsLemmas.Lines.{asks_at, at_range, blocks_few, finished_ends}

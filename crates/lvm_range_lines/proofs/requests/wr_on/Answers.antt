@@ -2,8 +2,11 @@ use Rattle.std.proofs.Common.{◌≡◌, ◌≤◌, Some, refl, sym, ◌∙◌, 
 use Rattle.std.specs.Prelude.{Result}
 use Rattle.lvm_session.specs.declared.open.Power.TheVariants as power
 use Rattle.lvm_posts.specs.declared.asked.Asked.{Asked}
-use Rattle.lvm_group_lines.specs.passed.Stage.{Refusal, Reply, HaveRooms, is_unheard, most_refusals}
-use Rattle.lvm_group_lines.specs.passed.ReplyVariants as reply
+use Rattle.lvm_group_lines.specs.declared.reply.Refusal.{Refusal}
+use Rattle.lvm_group_lines.specs.declared.reply.Reply.{Reply}
+use Rattle.lvm_group_lines.specs.Stages.{HaveRooms}
+use Rattle.lvm_group_lines.specs.Replies.{is_unheard, most_refusals}
+use Rattle.lvm_group_lines.specs.declared.reply.Reply.TheVariants as reply
 use Rattle.lvm_range_lines.specs.Requests.{AsksByName, Finishes, NotBegun}
 use Rattle.lvm_range_lines.proofs.RepliesLemmas.{carried_by, not_asked_heard}
 use Rattle.lvm_range_lines.proofs.RequestsLemmas.Lines.{finished_ends}

@@ -1,7 +1,9 @@
 use Rattle.std.proofs.Common.{◌≤◌, sym, ◌∙◌, ap, subst, arith}
-use Rattle.lvm_group_lines.specs.passed.HolderVariants as holder
-use Rattle.lvm_group_lines.specs.passed.RefusalVariants as refusal
-use Rattle.lvm_group_lines.specs.passed.Stage.{Reply, most_refusals, IsOfKind, session_of}
+use Rattle.lvm_group_lines.specs.declared.holder.Holder.TheVariants as holder
+use Rattle.lvm_group_lines.specs.declared.reply.Refusal.TheVariants as refusal
+use Rattle.lvm_group_lines.specs.declared.reply.Reply.{Reply}
+use Rattle.lvm_group_lines.specs.Replies.{most_refusals}
+use Rattle.lvm_group_lines.specs.Stages.{IsOfKind, session_of}
 use Rattle.lvm_range_lines.specs.Stepping.{NoStepWhileOff, NothingMoves, StepDoes}
 use Rattle.lvm_range_lines.proofs.EndsLemmas.{between_now, ends_with, fits_now, refused_as, still_as}
 use Rattle.lvm_range_lines.proofs.stepping.do_step.Goals as goal

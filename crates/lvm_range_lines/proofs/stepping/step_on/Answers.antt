@@ -1,6 +1,9 @@
 use Rattle.std.proofs.Common.{◌≤◌, refl, sym, ◌∙◌, subst, arith}
 use Rattle.lvm_session.specs.State.{state_of}
-use Rattle.lvm_group_lines.specs.passed.Stage.{Reply, Stage, most_refusals, HaveRooms, IsCarried}
+use Rattle.lvm_group_lines.specs.declared.reply.Reply.{Reply}
+use Rattle.lvm_group_lines.specs.declared.stage.Stage.{Stage}
+use Rattle.lvm_group_lines.specs.Replies.{most_refusals}
+use Rattle.lvm_group_lines.specs.Stages.{HaveRooms, IsCarried}
 use Rattle.lvm_range_lines.specs.Stepping.{StepDoes, Steps}
 use Rattle.lvm_range_lines.proofs.LeavingLemmas.Ending.{RunsTo, carried_ends, carried_leaves, runs_to}
 use Rattle.lvm_range_lines.proofs.LeavingLemmas.Posting.{table_posts}

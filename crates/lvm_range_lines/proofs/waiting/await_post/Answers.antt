@@ -1,6 +1,6 @@
 use Rattle.std.proofs.Common.{refl, arith}
 use Rattle.lvm_session.specs.State.{state_of}
-use Rattle.lvm_group_lines.proofs.passed.Running.{runs_none}
+use Rattle.lvm_group_lines.proofs.passed.Tie.{runs_none}
 use Rattle.lvm_group_lines.proofs.passed.Ranges.{table_same}
 use Rattle.lvm_range_lines.specs.Taking.{IsGone}
 use Rattle.lvm_range_lines.proofs.TakingLemmas.Awaiting.{awaits_range, no_wait}

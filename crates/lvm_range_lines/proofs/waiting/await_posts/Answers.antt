@@ -1,7 +1,7 @@
 use Rattle.std.proofs.Common.{None, arith}
 use Rattle.lvm_posts.specs.declared.posts.Post.{Post}
 use Rattle.lvm_session.specs.State.{state_of}
-use Rattle.lvm_group_lines.proofs.passed.Running.{stays_unstuck}
+use Rattle.lvm_group_lines.proofs.passed.Tie.{stays_unstuck}
 use Rattle.lvm_range_lines.proofs.TakingLemmas.Awaiting.{all_awaited, none_awaited, one_awaited, one_in_vain, runs_now, table_now, waited_now}
 use Rattle.lvm_range_lines.proofs.waiting.await_posts.Goals as goal
 

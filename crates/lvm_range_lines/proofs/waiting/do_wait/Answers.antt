@@ -1,7 +1,7 @@
 use Rattle.std.proofs.Common.{◌<◌, ◌^◌, [], Some, None, length, refl, subst}
 use Rattle.lvm_vol.specs.Log.{Log}
 use Rattle.lvm_vol.specs.Order.{Ordered}
-use Rattle.lvm_group_lines.specs.passed.HolderVariants as holder
+use Rattle.lvm_group_lines.specs.declared.holder.Holder.TheVariants as holder
 use Rattle.lvm_range_lines.specs.Waiting.{WaitDoes}
 use Rattle.lvm_range_lines.proofs.EndsLemmas.{between_now, ends_with, fits_now, held_by}
 use Rattle.lvm_range_lines.proofs.WaitingLemmas.Resting.{few_posts, off_ends}

@@ -1,8 +1,8 @@
 use Rattle.std.proofs.Common.{◌≡◌, ℕ, sym, ◌∙◌, ap, subst, Some}
 use Rattle.lvm_session.specs.State.{Core, state, state_of}
-use Rattle.lvm_group_lines.specs.passed.Running.{RunsOn}
-use Rattle.lvm_group_lines.specs.passed.Earlier.{with_taken}
-use Rattle.lvm_group_lines.proofs.passed.Earlier.{stays_beside}
+use Rattle.lvm_group_lines.specs.passed.Tie.{RunsOn}
+use Rattle.lvm_group_lines.specs.passed.Handover.{with_taken}
+use Rattle.lvm_group_lines.proofs.passed.Handover.{stays_beside}
 use Rattle.lvm_range_lines.specs.Taking.{LeavesOthers}
 use Rattle.lvm_range_lines.specs.Waiting.{OfEarlier, OfThis}
 use Rattle.lvm_range_lines.proofs.TakingLemmas.Takings.{answered_of, earlier_leaves, gone_of, others_leave}

@@ -6,12 +6,12 @@ use Rattle.lvm_session.specs.Calls.{is_asked}
 use Rattle.lvm_session.specs.Fields.{core_of}
 use Rattle.lvm_session.specs.Sound.{IsSound}
 use Rattle.lvm_session.specs.State.{Core, state, state_of}
-use Rattle.lvm_group_lines.specs.passed.Running.{RunsOn}
-use Rattle.lvm_group_lines.specs.passed.Earlier.{with_taken}
+use Rattle.lvm_group_lines.specs.passed.Tie.{RunsOn}
+use Rattle.lvm_group_lines.specs.passed.Handover.{with_taken}
 use Rattle.lvm_group_lines.specs.passed.Names.{IsSoundBetween as IsSoundAtRest}
 use Rattle.lvm_posts.specs.Deciding.{RangeEnds}
 use Rattle.lvm_posts.specs.Posts.{AreAnswered}
-use Rattle.lvm_group_lines.proofs.passed.Earlier.{resting_with, stays_beside}
+use Rattle.lvm_group_lines.proofs.passed.Handover.{resting_with, stays_beside}
 use Rattle.lvm_range_lines.specs.Taking.{LeavesOthers, StaysKept}
 use Rattle.lvm_range_lines.specs.Waiting.{OfEarlier}
 use Rattle.lvm_range_lines.proofs.TakingLemmas.Takings.{earlier_leaves, enters_taken, gone_rest}

@@ -1,7 +1,8 @@
 use Rattle.std.proofs.Common.{◌<◌, ◌^◌, List, Some, length, sym, subst, arith}
 use Rattle.lvm_session.specs.State.{state_of}
 use Rattle.lvm_posts.specs.declared.posts.Post.{Post}
-use Rattle.lvm_group_lines.specs.passed.Stage.{HaveRooms, ArePosted}
+use Rattle.lvm_group_lines.specs.Stages.{HaveRooms}
+use Rattle.lvm_group_lines.specs.State.{ArePosted}
 use Rattle.lvm_range_lines.specs.Answers.{Tells}
 use Rattle.lvm_range_lines.specs.Waiting.{TakesPosts}
 use Rattle.lvm_range_lines.proofs.WaitingLemmas.Resting.{rest_ends}

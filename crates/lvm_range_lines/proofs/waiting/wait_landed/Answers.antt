@@ -1,7 +1,8 @@
 use Rattle.std.proofs.Common.{◌<◌, ◌^◌, List, Some, length, sym, ◌∙◌, subst, arith}
 use Rattle.lvm_session.specs.State.{state_of}
 use Rattle.lvm_posts.specs.declared.posts.Post.{Post}
-use Rattle.lvm_group_lines.specs.passed.Stage.{HaveRooms, IsFittingStage, ArePosted}
+use Rattle.lvm_group_lines.specs.Stages.{HaveRooms, IsFittingStage}
+use Rattle.lvm_group_lines.specs.State.{ArePosted}
 use Rattle.lvm_range_lines.specs.Answers.{Tells}
 use Rattle.lvm_range_lines.specs.Waiting.{AllHaveLanded, TakesPosts}
 use Rattle.lvm_range_lines.proofs.TakingLemmas.Landed.{closed_landed, few_ended, fits_ended, fits_on, goes_landed, not_on, over_by, posted_ended}

@@ -2,7 +2,8 @@ use Rattle.std.proofs.Common.{◌<◌, ◌^◌, List, Option, None, length, sym,
 use Rattle.lvm_vol.specs.Log.{Log}
 use Rattle.lvm_session.specs.State.{Core}
 use Rattle.lvm_posts.specs.declared.posts.Post.{Post}
-use Rattle.lvm_group_lines.specs.passed.Stage.{HaveRooms, history_in, posts_ended, ArePosted}
+use Rattle.lvm_group_lines.specs.Stages.{HaveRooms, history_in, posts_ended}
+use Rattle.lvm_group_lines.specs.State.{ArePosted}
 use Rattle.lvm_range_lines.specs.Answers.{Tells}
 use Rattle.lvm_range_lines.proofs.WaitingLemmas.Behind.{fits_behind, is_behind}
 use Rattle.lvm_range_lines.proofs.waiting.wait_off.Goals as goal

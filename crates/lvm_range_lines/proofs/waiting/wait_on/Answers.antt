@@ -5,10 +5,11 @@ use Rattle.lvm_disk.specs.Paths.{Path}
 use Rattle.lvm_session.specs.declared.open.Power.TheVariants as power
 use Rattle.lvm_group_lines.specs.passed.Driver.{IsAny}
 use Rattle.lvm_session.specs.State.{state_of}
-use Rattle.lvm_group_lines.proofs.passed.Running.{stays_unstuck}
+use Rattle.lvm_group_lines.proofs.passed.Tie.{stays_unstuck}
 use Rattle.lvm_posts.specs.declared.posts.Post.{Post}
 use Rattle.lvm_posts.specs.Pieces.{IsLaidOut}
-use Rattle.lvm_group_lines.specs.passed.Stage.{Stage, HaveRooms, IsEnded}
+use Rattle.lvm_group_lines.specs.declared.stage.Stage.{Stage}
+use Rattle.lvm_group_lines.specs.Stages.{HaveRooms, IsEnded}
 use Rattle.lvm_range_lines.specs.Waiting.{AllHaveLanded, IsAwaited, TurnsForPosts}
 use Rattle.lvm_range_lines.proofs.LeavingLemmas.Posting.{table_posts}
 use Rattle.lvm_range_lines.proofs.TakingLemmas.Landed.{fits_on}

@@ -1,14 +1,14 @@
 use Rattle.std.proofs.Common.{◌≡◌, slice_index_or, Err, inl, refl, arith}
+use Rattle.std.proofs.lemmas.Option.{slice_get_within}
 use Rattle.lvm_num.specs.Buffer.{Buffer}
 use Rattle.lvm_steps.specs.Requests.{at as moment_of}
-use Rattle.lvm_transfer.proofs.RecordLemmas.{got_within}
 use Rattle.lvm_transfer.proofs.RecordLemmas.{or_got}
 use Rattle.lvm_raw.proofs.PiecesLemmas.{range_none}
 use Rattle.lvm_raw.proofs.RawLemmas.Refusing.{rejected_rose}
 use Rattle.lvm_raw.proofs.disk.ask.Goals as goal
 
 pub look-requires-clause-there : goal.look-requires-clause-there
-look-requires-clause-there g c = got_within (g.S.Shelf.device c.args.shelf.now).sizes c.args.disk c.in-Ok.ensures.ok.inside.size c.in-Ok.ensures.ok.inside.is
+look-requires-clause-there g c = slice_get_within (g.S.Shelf.device c.args.shelf.now).sizes c.args.disk c.in-Ok.ensures.ok.inside.size c.in-Ok.ensures.ok.inside.is
 
 pub look-requires-clause-large : goal.look-requires-clause-large
 look-requires-clause-large g c =

@@ -6,9 +6,9 @@ use Rattle.lvm_steps.specs.Requests.{at as moment_of}
 use Rattle.lvm_raw.specs.declared.fault.RawFault.{RawFault}
 use Rattle.lvm_raw.specs.declared.fault.RawFault.TheVariants as fault
 use Rattle.lvm_raw.specs.Asking.{HasRoomForPieces}
-use Rattle.lvm_piece.specs.Keeping.{PieceKeeps}
+use Rattle.lvm_raw.specs.OnePieceKeeping.{PieceKeeps}
 use Rattle.lvm_raw.specs.Keeping.{RangeKeeps}
-use Rattle.lvm_piece.specs.Pieces.{ReadsPiece}
+use Rattle.lvm_raw.specs.OnePiece.{ReadsPiece}
 use Rattle.lvm_raw.specs.Pieces.{piece_end, answer_of, ReadsGo, with_front}
 use Rattle.lvm_raw.proofs.PiecesLemmas.{SoFar, at_first, one_more_to, all_went, was_broken_at, settled_ended, got_more, got_whole}
 use Rattle.lvm_raw.proofs.AskingLemmas.{piece_asked, room_next}

@@ -2,7 +2,7 @@ use Rattle.std.proofs.Common.{◌≡◌, ◌≤◌, ◌<◌, ◌+◌, ◌-◌, [
 use Rattle.lvm_steps.specs.Requests.{at as moment_of}
 use Rattle.lvm_raw.specs.declared.fault.RawFault.TheVariants as fault
 use Rattle.lvm_raw.specs.Asking.{HasRoomForPieces}
-use Rattle.lvm_piece.specs.Pieces.{ReadsPiece}
+use Rattle.lvm_raw.specs.OnePiece.{ReadsPiece}
 use Rattle.lvm_raw.specs.Pieces.{with_front}
 use Rattle.lvm_raw.proofs.PiecesLemmas.{SoFar}
 use Rattle.lvm_raw.proofs.pieces.read_pieces.Given as goal

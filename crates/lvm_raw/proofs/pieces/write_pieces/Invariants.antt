@@ -2,7 +2,7 @@ use Rattle.std.proofs.Common.{◌≡◌, ◌≤◌, ◌<◌, ◌+◌, ◌-◌, v
 use Rattle.lvm_steps.specs.Requests.{at as moment_of}
 use Rattle.lvm_raw.specs.declared.fault.RawFault.TheVariants as fault
 use Rattle.lvm_raw.specs.Asking.{HasRoomForPieces}
-use Rattle.lvm_piece.specs.Pieces.{WritesPiece}
+use Rattle.lvm_raw.specs.OnePiece.{WritesPiece}
 use Rattle.lvm_raw.proofs.PiecesLemmas.{SoFar}
 use Rattle.lvm_raw.proofs.pieces.write_pieces.Given as goal
 

@@ -1,7 +1,7 @@
 use Rattle.std.proofs.Common.{inl, arith}
 use Rattle.lvm_session.specs.Fields.{core_of}
 use Rattle.lvm_session.specs.State.{state}
-use Rattle.lvm_starts.proofs.passed.Names.{may_end}
+use Rattle.lvm_moves.proofs.OutLemmas.{may_end}
 use Rattle.lvm_session_turn.proofs.TurnsLemmas.{has_ended}
 use Rattle.lvm_session_turn.proofs.ending.end_one.Goals as goal
 

@@ -1,6 +1,6 @@
 use Rattle.std.proofs.Common.{arith}
 use Rattle.lvm_session.specs.Fields.{core_of}
-use Rattle.lvm_starts.proofs.passed.Names.{may_end}
+use Rattle.lvm_moves.proofs.OutLemmas.{may_end}
 use Rattle.lvm_session_turn.proofs.ending.rest.Goals as goal
 
 pub go_off-requires : goal.go_off-requires

@@ -2,8 +2,8 @@ use Rattle.std.proofs.Common.{◌∙◌, ap, subst}
 use Rattle.lvm_session.specs.Enabled.{is_lost}
 use Rattle.lvm_session.specs.Fields.{core_of}
 use Rattle.lvm_session.specs.State.{Core, state}
-use Rattle.lvm_starts.proofs.ReadyLemmas.Ready.{first_start_can, sessions_may_choose}
-use Rattle.lvm_starts.specs.Starts.{StartsFirst}
+use Rattle.lvm_moves.proofs.ReadyLemmas.Ready.{first_start_can, sessions_may_choose}
+use Rattle.lvm_moves.specs.Starts.{StartsFirst}
 use Rattle.lvm_session_turn.proofs.TakingLemmas.{settles, starts_first}
 use Rattle.lvm_session_turn.proofs.first.settle_or_start.Goals as goal
 

@@ -1,7 +1,7 @@
 use Rattle.std.proofs.Common.{sym, ◌∙◌}
 use Rattle.lvm_session.specs.Fields.{core_of}
 use Rattle.lvm_session.specs.State.{state}
-use Rattle.lvm_starts.proofs.ReadyLemmas.Ready.{first_start_can}
+use Rattle.lvm_moves.proofs.ReadyLemmas.Ready.{first_start_can}
 use Rattle.lvm_session_turn.proofs.first.start_first.Goals as goal
 
 pub start-requires-clause-may : goal.start-requires-clause-may

@@ -1,8 +1,8 @@
 use Rattle.std.proofs.Common.{◌≡◌, ◌∙◌, sym, ap, subst, true, false}
 use Rattle.lvm_vol.specs.Log.{Log}
 use Rattle.lvm_session.specs.State.{Core, state_of}
-use Rattle.lvm_line.specs.passed.Running.{RunsOn}
-use Rattle.lvm_line.specs.passed.Stage.{IsClosed}
+use Rattle.lvm_line.specs.passed.Tie.{RunsOn}
+use Rattle.lvm_line.specs.passed.GroupLines.{IsClosed}
 use Rattle.lvm_top.specs.Ending.{MakesTurns}
 use Rattle.lvm_top.proofs.EndingLemmas.{out_still, out_turned}
 use Rattle.lvm_top.proofs.run.run_out.Goals as goal

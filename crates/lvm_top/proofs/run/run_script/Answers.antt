@@ -1,5 +1,5 @@
 use Rattle.std.proofs.Common.{◌≤◌, ⊎_elim, inl, inr, ap, arith}
-use Rattle.lvm_line.specs.passed.Stage.{without_facts}
+use Rattle.lvm_line.specs.passed.GroupLines.{without_facts}
 use Rattle.lvm_line.specs.passed.HolderVariants as holder
 use Rattle.lvm_top.proofs.RunLemmas.Stopping.{first_between, first_state, how_stopped, later, nothing_promised, the_promises}
 use Rattle.lvm_top.proofs.run.run_script.Goals as goal

@@ -2,7 +2,7 @@ use Rattle.std.proofs.Common.{◌∙◌, ℕ, sym, refl, subst, arith}
 use Rattle.lvm_io.specs.Reading.{Reading}
 use Rattle.lvm_line.specs.Lines.{DoesInPlace}
 use Rattle.lvm_line.specs.declared.line.InPlace.{InPlace}
-use Rattle.lvm_line.specs.passed.Stage.{history_in, state_in, without_facts}
+use Rattle.lvm_line.specs.passed.GroupLines.{history_in, state_in, without_facts}
 use Rattle.lvm_top.specs.Turn.{ReadsLine, ReadsNone, Tells}
 use Rattle.lvm_top.proofs.ScriptLemmas.Scripting.{RunSoFar, at_start, through, none_read, line_told, line_ends}
 use Rattle.lvm_top.proofs.TurnLemmas.{renamed, stuck_is_off, no_end, ended_not}

@@ -1,5 +1,5 @@
 use Rattle.std.proofs.Common.{◌≡◌}
-use Rattle.lvm_line.specs.passed.Stage.{history_in, state_in, IsBetweenStage, IsFittingStage, without_facts}
+use Rattle.lvm_line.specs.passed.GroupLines.{history_in, state_in, IsBetweenStage, IsFittingStage, without_facts}
 use Rattle.lvm_top.proofs.ScriptLemmas.Scripting.{RunSoFar}
 use Rattle.lvm_top.proofs.script.do_lines.Given as goal
 

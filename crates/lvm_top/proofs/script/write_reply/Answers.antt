@@ -1,5 +1,5 @@
 use Rattle.std.proofs.Common.{◌∙◌, sym, arith}
-use Rattle.lvm_line.specs.passed.Stage.{reply_text}
+use Rattle.lvm_line.specs.passed.GroupLines.{reply_text}
 use Rattle.lvm_top.specs.Script.{passage}
 use Rattle.lvm_top.proofs.TurnLemmas.{wrote, took_all, failed, stops_stuck, goes_only, ends_for}
 use Rattle.lvm_top.proofs.ScriptLemmas.Scripting.{said_few}

@@ -2,10 +2,10 @@ use Rattle.std.proofs.Common.{◌≡◌, sym, ap, subst, arith}
 use Rattle.lvm_disk.specs.Device.{Device}
 use Rattle.lvm_disk.specs.Paths.{Here}
 use Rattle.lvm_vol.specs.Log.{Log, spare_entries}
-use Rattle.lvm_stamps.proofs.LawsLemmas.Clock.{all_is_behind_next}
+use Rattle.lvm_steps.proofs.LawsLemmas.Clock.{all_is_behind_next}
 use Rattle.lvm_write.proofs.PartsLemmas.Transfers.{spends_none}
-use Rattle.lvm_varyon_plan.specs.passed.Names.{AreFaults, BringsOn, StartsHeld}
-use Rattle.lvm_varyon_plan.specs.passed.CoreRefusedCause as cause
+use Rattle.lvm_varyon.specs.passed.Names.{AreFaults, BringsOn, StartsHeld}
+use Rattle.lvm_varyon.specs.passed.CoreRefusedCause as cause
 use Rattle.lvm_varyon.specs.Varied.{ComesOn, IsRestated, IsRecovered, VaryonRefuses}
 use Rattle.lvm_varyon.proofs.VariedLemmas.Refusing.{refused_gives, refuses_so, some_spare}
 use Rattle.lvm_varyon.proofs.VariedLemmas.Spanning.{ahead_of, refused_keeps, refused_calm, comes_on, starts_held, none_left, settles, is_restated, is_recovered, on_keeps, on_calm}

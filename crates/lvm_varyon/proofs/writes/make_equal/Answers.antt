@@ -1,9 +1,9 @@
 use Rattle.std.proofs.Common.{List, subst, sym}
 use Rattle.std.specs.Prelude.{All}
 use Rattle.lvm_num.specs.Disks.{has}
-use Rattle.lvm_begin.specs.declared.begin.Begun.{Begun}
-use Rattle.lvm_begin.specs.declared.begin.Begun.TheVariants as begun
-use Rattle.lvm_varyon_plan.specs.passed.Names.{Recopy, AreApart, MayCopy, EqualiseGives, EqualisedStaysKept}
+use Rattle.lvm_write.specs.declared.begin.Begun.{Begun}
+use Rattle.lvm_write.specs.declared.begin.Begun.TheVariants as begun
+use Rattle.lvm_varyon.specs.passed.Names.{Recopy, AreApart, MayCopy, EqualiseGives, EqualisedStaysKept}
 use Rattle.lvm_varyon.proofs.EqualLemmas.Equalising.{got_stuck, made_equal, one_failed, spends_all, went_dark}
 use Rattle.lvm_varyon.proofs.writes.make_equal.Goals as goal
 

@@ -3,9 +3,9 @@ use Rattle.lvm_num.specs.declared.record.Kind.TheVariants as kind
 use Rattle.lvm_num.specs.Disks.{has}
 use Rattle.lvm_num.specs.Record.{longest_content}
 use Rattle.lvm_write.specs.Writes.{DiskWritesLeave}
-use Rattle.lvm_begin.specs.Beginning.{Beginning, again_beginning, again_order, IsOfParts}
-use Rattle.lvm_begin.specs.Kept.{AgainStaysKept}
-use Rattle.lvm_varyon_plan.specs.declared.plan.Plan.{Plan}
+use Rattle.lvm_write.specs.Beginning.{Beginning, again_beginning, again_order, IsOfParts}
+use Rattle.lvm_write.specs.Kept.{AgainStaysKept}
+use Rattle.lvm_varyon.specs.declared.plan.Plan.{Plan}
 use Rattle.lvm_varyon.specs.Parts.{plan_beginning, AgainWritesGive}
 use Rattle.lvm_varyon.proofs.writes.write_plan.Goals as goal
 

@@ -1,10 +1,11 @@
 use Rattle.std.proofs.Common.{◌≡◌, ℕ, [], ◌∷◌, ◌++◌, List, length, Ok, ap, subst, ◌∙◌, arith, length-append}
 use Rattle.std.specs.Prelude.{insert}
+use Rattle.std.proofs.lemmas.List.Edits.{insert_end}
 use Rattle.std.proofs.lemmas.Result.{err_from_is_err_and}
 use Rattle.lvm_num.specs.StatusBytes.{numbers_at}
 use Rattle.lvm_fields.specs.Reading.{Fails, rest_of}
 use Rattle.lvm_fields.proofs.ReadingLemmas.{goes_on, ends, is_done}
-use Rattle.lvm_vgsa.proofs.StatusBytesLemmas.Many.{numbers_repeat, volume_at, insert_last}
+use Rattle.lvm_vgsa.proofs.StatusBytesLemmas.Many.{numbers_repeat, volume_at}
 use Rattle.lvm_vgsa.proofs.reading.numbers_at.Goals as goal
 
 pub returns-in_err-number : goal.returns-in_err-number
@@ -21,7 +22,7 @@ loop-preserved c =
     let after = rest_of c.in_ok-number.after in
     let read = subst (λ (l : List ℕ). volume_at l rest ≡ Ok (c.in_ok-number.number, after)) c.as_slice.ensures c.in_ok-number.ensures in
     let more : c.insert.new.self ≡ c.loop.numbers ++ c.in_ok-number.number ∷ [] =
-    c.insert.ensures ∙ ap (λ k. insert c.loop.numbers k c.in_ok-number.number) c.len.ensures ∙ insert_last c.loop.numbers c.in_ok-number.number in (
+    c.insert.ensures ∙ ap (λ k. insert c.loop.numbers k c.in_ok-number.number) c.len.ensures ∙ insert_end c.loop.numbers c.in_ok-number.number in (
       omega (arith, ap (length {A = ℕ}) more, length-append c.loop.numbers (c.in_ok-number.number ∷ []), c.loop.invariant.0),
       rw more (goes_on volume_at numbers_at numbers_repeat c.args.count c.loop.counter c.loop.numbers rest c.in_ok-number.number after (numbers_at c.args.count [] (rest_of c.args.unread)) c.loop-test.true read c.loop.invariant.1),
     )

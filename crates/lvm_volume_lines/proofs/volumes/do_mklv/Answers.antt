@@ -4,10 +4,10 @@ use Rattle.lvm_core.specs.Sound.{HaveAllLanded}
 use Rattle.lvm_range_lines.proofs.passed.TieCommands.{mklv_goes_on}
 use Rattle.lvm_range_lines.specs.passed.Names.{AreAnswered}
 use Rattle.lvm_range_lines.specs.passed.Volumes.{MklvGives, to_make}
-use Rattle.lvm_range_lines.specs.passed.Stage.{EndsUnasked, OfGroup, IsOn, open_in, session_in, Refusal, Reply, Stage}
+use Rattle.lvm_range_lines.specs.passed.GroupLines.{EndsUnasked, OfGroup, IsOn, open_in, session_in, Refusal, Reply, Stage}
 use Rattle.lvm_range_lines.specs.passed.RefusalVariants as refusal
 use Rattle.lvm_range_lines.specs.passed.ReplyVariants as reply
-use Rattle.lvm_range_lines.proofs.passed.Stage.{refused_ends}
+use Rattle.lvm_range_lines.proofs.passed.GroupLines.{refused_ends}
 use Rattle.lvm_volume_lines.specs.Commands.{HasBrokenOff, HasRested, none_added}
 use Rattle.lvm_volume_lines.specs.Volumes.{MklvDoes, BusyMklv, NoGroupForMklv, UndrainedMklv, drain_refusal, wanted}
 use Rattle.lvm_volume_lines.proofs.Commanding.{rows_mid}

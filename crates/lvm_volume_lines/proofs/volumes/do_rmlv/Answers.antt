@@ -4,10 +4,10 @@ use Rattle.lvm_core.specs.Sound.{HaveAllLanded}
 use Rattle.lvm_range_lines.proofs.passed.TieCommands.{rmlv_goes_on}
 use Rattle.lvm_range_lines.specs.passed.Names.{AreAnswered}
 use Rattle.lvm_range_lines.specs.passed.Volumes.{RmlvGives, to_remove}
-use Rattle.lvm_range_lines.specs.passed.Stage.{EndsUnasked, OfGroup, open_in, session_in, Refusal, Reply, Stage}
+use Rattle.lvm_range_lines.specs.passed.GroupLines.{EndsUnasked, OfGroup, open_in, session_in, Refusal, Reply, Stage}
 use Rattle.lvm_range_lines.specs.passed.RefusalVariants as refusal
 use Rattle.lvm_range_lines.specs.passed.ReplyVariants as reply
-use Rattle.lvm_range_lines.proofs.passed.Stage.{refused_ends}
+use Rattle.lvm_range_lines.proofs.passed.GroupLines.{refused_ends}
 use Rattle.lvm_volume_lines.specs.Commands.{HasBrokenOff, HasRested, none_added}
 use Rattle.lvm_volume_lines.specs.Volumes.{RmlvDoes, BusyRmlv, NoGroupForRmlv, NoVolumeForRmlv, UndrainedRmlv, drain_refusal}
 use Rattle.lvm_volume_lines.proofs.Commanding.{rows_mid}

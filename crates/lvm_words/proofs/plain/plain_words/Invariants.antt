@@ -1,6 +1,6 @@
 use Rattle.std.proofs.Common.{◌≡◌, true, map, take}
 use Rattle.std.specs.List.{list_all}
-use Rattle.lvm_language.specs.CommandLine.{is_plain}
+use Rattle.lvm_words.specs.CommandLine.{is_plain}
 use Rattle.lvm_words.proofs.plain.plain_words.Given as goal
 
 abbrev pub invariant-loop-word : goal.invariant-loop-word

@@ -1,12 +1,12 @@
 use Rattle.std.proofs.Common.{Bor, ◌≡◌, ◌∙◌, map, Option, Result, Ok, Err, IfOk, sym, ap, subst}
 use Rattle.std.specs.Prelude.{ok_or}
 use Rattle.clap.specs.Words.{Text, fault_of, subcommand_of}
-use Rattle.lvm_language.specs.CommandLine.{lvm_app}
+use Rattle.lvm_words.specs.CommandLine.{lvm_app}
 use Rattle.lvm_words.specs.Matched.{job_matched}
 use Rattle.lvm_words.specs.Words.{IsWithin, work_of}
 use Rattle.lvm_words.specs.declared.job.Job.{Job}
-use Rattle.lvm_language.specs.declared.fault.WordsFault.{WordsFault}
-use Rattle.lvm_language.specs.declared.fault.WordsFault.TheVariants.{Usage}
+use Rattle.lvm_words.specs.declared.fault.WordsFault.{WordsFault}
+use Rattle.lvm_words.specs.declared.fault.WordsFault.TheVariants.{Usage}
 use Rattle.lvm_words.proofs.WordsLemmas.{handed_on, job_found, none_asked, not_plain}
 use Rattle.lvm_words.proofs.read.read_work.Goals as goal
 

@@ -2,7 +2,7 @@ use Rattle.std.proofs.Common.{◌≤◌, List, get_or, length, sym, subst, ◌<�
 use Rattle.std.specs.Prelude.{All}
 use Rattle.lvm_num.specs.declared.place.Pp.{Pp}
 use Rattle.lvm_session.specs.Judging.{copies_in}
-use Rattle.lvm_copies.proofs.DescriptorLemmas.Members.{copies_in_are, few_in, place_of}
+use Rattle.lvm_facts.proofs.DescriptorLemmas.Members.{copies_in_are, few_in, place_of}
 use Rattle.lvm_work_left.proofs.copy.tried_of.Goals as goal
 
 pub count_tried-requires-clause-disks : goal.count_tried-requires-clause-disks

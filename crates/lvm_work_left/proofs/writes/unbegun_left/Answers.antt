@@ -4,7 +4,7 @@ use Rattle.std.specs.Prelude.{List}
 use Rattle.lvm_path.specs.Asks.{lv_of}
 use Rattle.lvm_session.specs.Fields.{core_of}
 use Rattle.lvm_session.specs.Judging.{lp_of}
-use Rattle.lvm_copies.proofs.DescriptorLemmas.Members.{few_in}
+use Rattle.lvm_facts.proofs.DescriptorLemmas.Members.{few_in}
 use Rattle.lvm_work_left.proofs.writes.unbegun_left.Goals as goal
 
 pub all_turns-requires : goal.all_turns-requires

@@ -2,10 +2,10 @@ use Rattle.std.proofs.Common.{◌≡◌, ℕ, ◌||◌, length, false, sym, ap, 
 use Rattle.std.specs.Prelude.{◌==◌}
 use Rattle.std.proofs.lemmas.Bool.Decides.{nat_tests}
 use Rattle.lvm_num.specs.Disks.{has}
-use Rattle.lvm_survey.specs.declared.row.SurveyRow.{SurveyRow}
+use Rattle.lvm_quorum.specs.declared.row.SurveyRow.{SurveyRow}
 use Rattle.lvm_write.specs.Homes.{in_first_slot}
-use Rattle.lvm_survey.proofs.SurveyedLemmas.SurveyRows.{row_read}
-use Rattle.lvm_survey.proofs.Passing.{one_taken, one_left}
+use Rattle.lvm_quorum.proofs.SurveyedLemmas.SurveyRows.{row_read}
+use Rattle.lvm_quorum.proofs.Passing.{one_taken, one_left}
 use Rattle.lvm_write.proofs.HomesLemmas.{home_told, all_homes}
 use Rattle.lvm_write.proofs.homes.in_first_slot.Goals as goal
 use Rattle.lvm_write.proofs.homes.in_first_slot.Goals.{then-home-eq0, else-home-eq0}

@@ -1,6 +1,6 @@
 use Rattle.std.proofs.Common.{◌+◌, arith, sym, ◌∙◌}
 use Rattle.lvm_num.specs.Disks.{has}
-use Rattle.lvm_survey.specs.passed.TransferMovesMoved as moved
+use Rattle.lvm_quorum.specs.passed.TransferMovesMoved as moved
 use Rattle.lvm_write.specs.declared.write.SlotWrite.{SlotWrite}
 use Rattle.lvm_write.specs.Written.{write_of}
 use Rattle.lvm_write.proofs.WrittenLemmas.Disks.{none_tried, slot_still, disk_skipped, disk_written, disk_failed, disk_leaves, disk_dark, disk_stuck, disks_end, as_joined, part_of_all, stands_of_all, starts_alone}

@@ -1,5 +1,6 @@
 use Rattle.std.proofs.Common.{sym, subst}
-use Rattle.lvm_over.specs.passed.Names.{Core, state, core_of}
+use Rattle.lvm_session.specs.State.{Core, state}
+use Rattle.lvm_session.specs.Fields.{core_of}
 use Rattle.lvm_core.specs.Sound.{IsSoundBetween}
 use Rattle.lvm_core.proofs.SoundLemmas.Arranging.{arranged_sizes, arranged_sound}
 use Rattle.lvm_core.proofs.SoundLemmas.Dark.{may_end}

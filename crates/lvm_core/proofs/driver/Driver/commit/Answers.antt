@@ -1,6 +1,7 @@
 use Rattle.std.proofs.Common.{sym, subst, arith}
 use Rattle.lvm_commit.specs.Committed.{IsAlike}
-use Rattle.lvm_over.specs.passed.Names.{Core, state, core_of}
+use Rattle.lvm_session.specs.State.{Core, state}
+use Rattle.lvm_session.specs.Fields.{core_of}
 use Rattle.lvm_core.specs.Settled.{IsSettled, HasSpareNumbers}
 use Rattle.lvm_core.proofs.SettlingLemmas.{may_commit_now}
 use Rattle.lvm_core.proofs.CommittingLemmas.Committing.{descriptor_sound, descriptor_sizes, descriptor_ends, descriptor_fails, descriptor_leaves}

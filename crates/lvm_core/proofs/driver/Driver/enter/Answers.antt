@@ -1,6 +1,7 @@
 use Rattle.std.proofs.Common.{sym, subst}
 use Rattle.lvm_vol.specs.Log.{Log}
-use Rattle.lvm_over.specs.passed.Names.{state, core_of}
+use Rattle.lvm_session.specs.State.{state}
+use Rattle.lvm_session.specs.Fields.{core_of}
 use Rattle.lvm_core.specs.Sound.{IsSoundBetween}
 use Rattle.lvm_core.proofs.SoundLemmas.Entering.{entered_sound}
 use Rattle.lvm_core.proofs.driver.Driver.enter.Goals as goal

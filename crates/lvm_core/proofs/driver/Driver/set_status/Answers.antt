@@ -1,5 +1,6 @@
 use Rattle.std.proofs.Common.{◌++◌, sym, subst, arith}
-use Rattle.lvm_over.specs.passed.Names.{Core, state, core_of}
+use Rattle.lvm_session.specs.State.{Core, state}
+use Rattle.lvm_session.specs.Fields.{core_of}
 use Rattle.lvm_core.specs.Settled.{IsSettled, HasSpareNumbers}
 use Rattle.lvm_core.specs.Committing.{AreUnused}
 use Rattle.lvm_core.proofs.SettlingLemmas.{may_commit_now, unused_markable}

@@ -1,5 +1,5 @@
 use Rattle.std.proofs.Common.{sym, subst}
-use Rattle.lvm_over.specs.passed.Names.{Core, state}
+use Rattle.lvm_session.specs.State.{Core, state}
 use Rattle.lvm_core.specs.Sound.{IsSoundBetween}
 use Rattle.lvm_core.proofs.SoundLemmas.Beginning.{sound_first}
 use Rattle.lvm_core.proofs.driver.Driver.start.Goals as goal

@@ -2,7 +2,8 @@ use Rattle.std.proofs.Common.{sym, subst}
 use Rattle.std.specs.Prelude.{IsTrue}
 use Rattle.lvm_num.specs.Descriptor.{IsPartitionOf}
 use Rattle.lvm_commit.specs.LawsOfData.{IsFree}
-use Rattle.lvm_over.specs.passed.Names.{Core, state, is_there, core_of}
+use Rattle.lvm_session.specs.State.{Core, state, is_there}
+use Rattle.lvm_session.specs.Fields.{core_of}
 use Rattle.lvm_core.specs.Settled.{IsSettled}
 use Rattle.lvm_core.proofs.SoundLemmas.Own.{rooms_stay}
 use Rattle.lvm_core.proofs.ZerosLemmas.ZeroEnding.{zero_keeps_records}

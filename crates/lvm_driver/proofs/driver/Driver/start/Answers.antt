@@ -1,6 +1,6 @@
 use Rattle.std.proofs.Common.{ap, ◌∙◌}
 use Rattle.lvm_session.specs.State.{Core}
-use Rattle.lvm_running.proofs.passed.Names.{beginning_has_causes}
+use Rattle.lvm_tie.proofs.LandingsLemmas.Causes.{beginning_has_causes}
 use Rattle.lvm_driver.proofs.driver.Driver.start.Goals as goal
 
 pub returns-clause-causes : goal.returns-clause-causes

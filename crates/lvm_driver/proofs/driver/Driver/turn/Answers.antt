@@ -1,6 +1,6 @@
 use Rattle.lvm_session.specs.Fields.{core_of}
 use Rattle.lvm_session.specs.State.{state}
-use Rattle.lvm_running.proofs.passed.Names.{turn_gets, turn_tells}
+use Rattle.lvm_tie.proofs.passed.Names.{turn_gets, turn_tells}
 use Rattle.lvm_driver.proofs.FieldsLemmas.{turn_on}
 use Rattle.lvm_driver.proofs.driver.Driver.turn.Goals as goal
 

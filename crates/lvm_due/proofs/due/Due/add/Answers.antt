@@ -1,6 +1,6 @@
 use Rattle.std.proofs.Common.{Bool, subst}
 use Rattle.lvm_session.specs.declared.open.Open.{Open}
-use Rattle.lvm_firsts.proofs.Places.{read_same}
+use Rattle.lvm_due.proofs.AtPlaces.{read_same}
 use Rattle.lvm_due.specs.declared.due.Due.{Due}
 use Rattle.lvm_due.specs.Due.{AddsIf, AddsMaking}
 use Rattle.lvm_due.proofs.due.Due.add.Goals as goal

@@ -1,6 +1,6 @@
 use Rattle.std.proofs.Common.{length, ap}
 use Rattle.lvm_session.specs.Fields.{core_of}
-use Rattle.lvm_firsts.specs.declared.span.Span.{Span}
+use Rattle.lvm_due.specs.declared.span.Span.{Span}
 use Rattle.lvm_due.specs.Due.{none, waits_entry_if}
 use Rattle.lvm_due.proofs.DueLemmas.Moving.{admission_moves}
 use Rattle.lvm_due.proofs.DueLemmas.Spanning.{covers_nothing}

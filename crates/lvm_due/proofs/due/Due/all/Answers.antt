@@ -1,5 +1,5 @@
 use Rattle.std.proofs.Common.{ap}
-use Rattle.lvm_firsts.specs.declared.span.Span.{Span}
+use Rattle.lvm_due.specs.declared.span.Span.{Span}
 use Rattle.lvm_due.proofs.DueLemmas.Spanning.{all_due}
 use Rattle.lvm_due.proofs.due.Due.all.Goals as goal
 

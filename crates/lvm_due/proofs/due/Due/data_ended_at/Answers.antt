@@ -1,5 +1,5 @@
 use Rattle.std.proofs.Common.{length, ap}
-use Rattle.lvm_firsts.specs.declared.span.Span.{Span}
+use Rattle.lvm_due.specs.declared.span.Span.{Span}
 use Rattle.lvm_due.specs.Due.{none}
 use Rattle.lvm_due.proofs.DueLemmas.Spanning.{covers_nothing}
 use Rattle.lvm_due.proofs.due.Due.data_ended_at.Goals as goal

@@ -2,7 +2,7 @@ use Rattle.std.proofs.Common.{length, sym, ◌∙◌, ap, subst}
 use Rattle.std.proofs.lemmas.Bool.{not-true}
 use Rattle.lvm_session.specs.Fields.{core_of}
 use Rattle.lvm_session.specs.State.{Core}
-use Rattle.lvm_firsts.specs.declared.span.Span.{Span}
+use Rattle.lvm_due.specs.declared.span.Span.{Span}
 use Rattle.lvm_due.specs.Due.{none, IsDue}
 use Rattle.lvm_due.proofs.DueLemmas.Moving.{start_moves_now}
 use Rattle.lvm_due.proofs.DueLemmas.Spanning.{covers_nothing}

@@ -1,6 +1,6 @@
 use Rattle.std.proofs.Common.{refl}
 use Rattle.lvm_session.specs.Fields.{core_of}
-use Rattle.lvm_firsts.proofs.Places.{stands}
+use Rattle.lvm_due.proofs.AtPlaces.{stands}
 use Rattle.lvm_due.specs.Due.{is_freed, waits_entry_if}
 use Rattle.lvm_due.proofs.EnabledLemmas.Unmade.{land_none}
 use Rattle.lvm_due.proofs.DueLemmas.Moving.{landed_might_not, landing_moves}

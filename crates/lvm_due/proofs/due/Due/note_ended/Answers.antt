@@ -1,6 +1,6 @@
 use Rattle.std.proofs.Common.{ap, arith}
 use Rattle.lvm_session.specs.Fields.{core_of}
-use Rattle.lvm_firsts.specs.declared.span.Span.{Span}
+use Rattle.lvm_due.specs.declared.span.Span.{Span}
 use Rattle.lvm_due.proofs.DueLemmas.Noting.{note_ends_due}
 use Rattle.lvm_due.proofs.due.Due.note_ended.Goals as goal
 

@@ -1,9 +1,9 @@
 use Rattle.std.proofs.Common.{◌≡◌, ◌++◌, ◌∷◌, [], ◌∙◌, List, None, false, refl, subst, ap}
-use Rattle.lvm_flights.specs.Flights.{flight_of, flights_of}
-use Rattle.lvm_flights.specs.Tally.{counts_of}
-use Rattle.lvm_flights.specs.Tickets.{has_ticket}
-use Rattle.lvm_flights.specs.declared.flying.Flying.{Flying}
-use Rattle.lvm_flights.proofs.FlightsLemmas.Starting.{started, flights_more, range_lies}
+use Rattle.lvm_memory.specs.Flights.{flight_of, flights_of}
+use Rattle.lvm_memory.specs.Tally.{counts_of}
+use Rattle.lvm_memory.specs.Tickets.{has_ticket}
+use Rattle.lvm_memory.specs.declared.flying.Flying.{Flying}
+use Rattle.lvm_memory.proofs.FlightsLemmas.Starting.{started, flights_more, range_lies}
 use Rattle.lvm_lane.specs.Files.{device_of}
 use Rattle.lvm_lane.proofs.SoundLemmas.{sound_queued, untold}
 use Rattle.lvm_lane.proofs.shelf.FileShelf.start.Goals as goal

@@ -1,8 +1,7 @@
 use Rattle.std.proofs.Common.{ℕ, List, length, refl, sym, ap, arith}
-use Rattle.lvm_flights.specs.Flights.{flight_of, flights_of}
-use Rattle.lvm_flights.specs.Flights.{Lies}
-use Rattle.lvm_flights.specs.Tally.{counts_of}
-use Rattle.lvm_flights.specs.declared.flying.Flying.{Flying}
+use Rattle.lvm_memory.specs.Flights.{flight_of, flights_of, Lies}
+use Rattle.lvm_memory.specs.Tally.{counts_of}
+use Rattle.lvm_memory.specs.declared.flying.Flying.{Flying}
 use Rattle.lvm_lane.proofs.SoundLemmas.{sound_taken}
 use Rattle.lvm_lane.proofs.StepsLemmas.{ends_done, ends_failed, counted_alike}
 use Rattle.lvm_lane.proofs.shelf.FileShelfShelf.reap.Goals as goal

@@ -1,10 +1,10 @@
 use Rattle.std.proofs.Common.{ℕ, length, refl, sym, ap, subst, ◌∙◌}
-use Rattle.lvm_media.specs.Media.{media_of, sizes_of, written_by}
-use Rattle.lvm_flights.specs.Tally.{counts_of}
-use Rattle.lvm_flights.specs.Flights.{flight_of, flights_of, NoDelays}
+use Rattle.lvm_memory.specs.Media.{media_of, sizes_of, written_by}
+use Rattle.lvm_memory.specs.Tally.{counts_of}
+use Rattle.lvm_memory.specs.Flights.{flight_of, flights_of, NoDelays}
 use Rattle.lvm_memory.specs.Memory.{device_of}
-use Rattle.lvm_flights.specs.declared.flying.Flying.{Flying}
-use Rattle.lvm_flights.proofs.TicketsLemmas.{none_passed, none_removed}
+use Rattle.lvm_memory.specs.declared.flying.Flying.{Flying}
+use Rattle.lvm_memory.proofs.TicketsLemmas.{none_passed, none_removed}
 use Rattle.lvm_memory.proofs.StepsLemmas.{sound_arrived, failed, done}
 use Rattle.lvm_memory.proofs.memory.MemShelf.arrive.Goals as goal
 

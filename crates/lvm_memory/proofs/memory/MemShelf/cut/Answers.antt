@@ -1,7 +1,7 @@
 use Rattle.std.proofs.Common.{inr, ap}
-use Rattle.lvm_flights.specs.Flights.{flights_of}
-use Rattle.lvm_media.specs.Media.{media_of}
-use Rattle.lvm_flights.specs.Tally.{counts_of}
+use Rattle.lvm_memory.specs.Flights.{flights_of}
+use Rattle.lvm_memory.specs.Media.{media_of}
+use Rattle.lvm_memory.specs.Tally.{counts_of}
 use Rattle.lvm_memory.specs.Memory.{device_of}
 use Rattle.lvm_memory.proofs.DeviceLemmas.{torn_like, darkened}
 use Rattle.lvm_memory.proofs.memory.MemShelf.cut.Goals as goal

@@ -1,11 +1,11 @@
 use Rattle.std.proofs.Common.{◌≡◌, ◌++◌, ◌∷◌, [], ◌∙◌, List, false, subst, ap}
-use Rattle.lvm_flights.specs.Flights.{flight_of, flights_of, delays_of}
-use Rattle.lvm_flights.specs.Tally.{counts_of}
-use Rattle.lvm_flights.specs.Tickets.{has_ticket}
+use Rattle.lvm_memory.specs.Flights.{flight_of, flights_of, delays_of}
+use Rattle.lvm_memory.specs.Tally.{counts_of}
+use Rattle.lvm_memory.specs.Tickets.{has_ticket}
 use Rattle.lvm_memory.specs.Memory.{device_of}
-use Rattle.lvm_flights.specs.declared.flying.Flying.{Flying}
-use Rattle.lvm_flights.proofs.FlightsLemmas.Starting.{started, flights_more, delays_more, range_lies}
-use Rattle.lvm_memory.proofs.FlightsLemmas.{sound_departed, delays_departed}
+use Rattle.lvm_memory.specs.declared.flying.Flying.{Flying}
+use Rattle.lvm_memory.proofs.FlightsLemmas.Starting.{started, flights_more, delays_more, range_lies}
+use Rattle.lvm_memory.proofs.DepartureLemmas.{sound_departed, delays_departed}
 use Rattle.lvm_memory.proofs.memory.MemShelf.depart.Goals as goal
 
 pub invariant_of-self : goal.invariant_of-self

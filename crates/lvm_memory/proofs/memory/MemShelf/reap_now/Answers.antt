@@ -1,8 +1,8 @@
 use Rattle.std.proofs.Common.{◌==◌, ◌∙◌, List, sym, ap}
 use Rattle.std.specs.List.{position}
-use Rattle.lvm_flights.specs.Flights.{delays_of}
-use Rattle.lvm_flights.specs.declared.flying.Flying.{Flying}
-use Rattle.lvm_flights.proofs.TicketsLemmas.{due-position}
+use Rattle.lvm_memory.specs.Flights.{delays_of}
+use Rattle.lvm_memory.specs.declared.flying.Flying.{Flying}
+use Rattle.lvm_memory.proofs.TicketsLemmas.{due-position}
 use Rattle.lvm_memory.proofs.memory.MemShelf.reap_now.Goals as goal
 
 pub arrive-requires-clause-first : goal.arrive-requires-clause-first

@@ -1,3 +1,0 @@
-pub mod passed
-mod ChoosingLemmas
-mod EventsLemmas

@@ -1,5 +1,0 @@
-use Rattle.lvm_begin.proofs.NewestLemmas.{all_find_newest, new_is_found, again_is_found, status_is_last}
-use Rattle.lvm_begin.proofs.laws.beginning_is_found.Goals as goal
-
-pub returns : goal.returns
-returns c = record { new = new_is_found; again = again_is_found; all = all_find_newest; last = status_is_last }

@@ -1,0 +1,44 @@
+//! The partition of a copy that ends otherwise than fresh is to be stale again.
+ghost use Rattle.std.specs.Prelude.{◌≡◌, Some};
+ghost use Rattle.lvm_session.specs.Bringing.{is_whole, marked_by_end};
+ghost use Rattle.lvm_session.specs.Fields.{core_of};
+ghost use Rattle.lvm_session.specs.Rooms.{SameRooms};
+ghost use Rattle.lvm_session.specs.Marks.{WantsStale};
+ghost use Rattle.lvm_calls.specs.Ending.{MayEndCopy, Unclears};
+
+use crate::below::is_whole;
+use crate::wanted::want_stale;
+use lvm_num::Pp;
+use lvm_session::{CopyEnd, OpenCopy, Session};
+
+// The partition of the copy that is open, where its clearing was wanted and it doesn't end as fresh.
+fn unclears(session: &Session, how: CopyEnd) -> Option<Pp>
+    ensures { Unclears (core_of session.now) how result }
+{
+    match &session.copy {
+        None => None,
+        Some(copy) => match how {
+            CopyEnd::Done => None,
+            CopyEnd::SyncFailed | CopyEnd::NoFresh | CopyEnd::Ended => {
+                if is_whole(session, copy) {
+                    Some(copy.pp)
+                } else {
+                    None
+                }
+            }
+        },
+    }
+}
+
+/// Its partition becomes wanted stale, where its clearing was wanted and it doesn't end as fresh.
+pub fn mark_end(session: &mut Session, how: CopyEnd)
+    requires { MayEndCopy (core_of session.old) }
+    ensures core { core_of session.new ≡ record (core_of session.old) { status = session.new.updater } }
+    ensures marks { WantsStale (marked_by_end (core_of session.old) (Some how)) session.old.updater session.new.updater }
+    ensures rooms { SameRooms session.old session.new }
+{
+    match unclears(session, how) {
+        None => {}
+        Some(pp) => want_stale(&mut session.updater, pp),
+    }
+}

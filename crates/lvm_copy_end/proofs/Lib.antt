@@ -1,6 +1,0 @@
-pub mod passed
-mod WaitingLemmas
-pub mod EndingLemmas
-mod LosingLemmas
-pub mod LeftLemmas
-pub mod BringingLemmas

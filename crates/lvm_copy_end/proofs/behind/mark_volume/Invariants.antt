@@ -1,6 +1,0 @@
-use Rattle.lvm_session.specs.Marks.{WantsStale}
-use Rattle.lvm_copy_end.specs.Left.{is_left_below}
-use Rattle.lvm_copy_end.proofs.behind.mark_volume.Given as goal
-
-abbrev pub invariant-loop-lp : goal.invariant-loop-lp
-invariant-loop-lp l = WantsStale (is_left_below l.initial.updater l.volume l.lp) l.initial.updater l.updater

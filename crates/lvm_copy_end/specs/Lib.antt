@@ -1,5 +1,0 @@
-pub mod passed
-pub mod Ending
-pub mod Losing
-pub mod Left
-pub mod Reviewing

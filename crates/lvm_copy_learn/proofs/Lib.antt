@@ -1,2 +1,0 @@
-mod EndsLemmas
-mod WaitingLemmas

@@ -1,3 +1,0 @@
-pub mod passed
-pub mod Copies
-pub mod Resyncing

@@ -1,3 +1,0 @@
--- Passed on from `lvm_disk_lines`.
-pub use Rattle.lvm_volume_lines.specs.passed.DiskLines.{ArrangeDoes, CutDoes, CutNotPlanned, IsArranged, NoReadWhileOn, NoWriteWhileOn, NotPlanned}
-pub use Rattle.lvm_volume_lines.specs.passed.DiskLines.{NotThere, PowerIsCut, ReadDoes, ReadGoes, WriteDoes, WriteGoes, refusal_by}

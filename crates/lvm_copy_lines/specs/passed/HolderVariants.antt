@@ -1,2 +1,0 @@
--- Passed on from `lvm_stage`: the variants of `Holder`.
-pub use Rattle.lvm_volume_lines.specs.passed.HolderVariants.{Empty, Off, Serving}

@@ -1,2 +1,0 @@
--- Passed on from `lvm_ranges`.
-pub use Rattle.lvm_volume_lines.specs.passed.Ranges.{AnyFailed, AskRangeFault, Moves, NoMove, OneMove, RangeCause}

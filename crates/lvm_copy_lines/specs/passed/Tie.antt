@@ -1,2 +1,0 @@
--- Passed on from `lvm_tie`.
-pub use Rattle.lvm_volume_lines.specs.passed.Tie.{IsGood, IsTied, LeavesDescriptors}

@@ -1,2 +1,0 @@
--- Passed on from `lvm_tie_commands`.
-pub use Rattle.lvm_volume_lines.specs.passed.TieCommands.{StandsAfter}

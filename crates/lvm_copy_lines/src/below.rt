@@ -1,8 +1,0 @@
-//! What is passed on from the crates below.
-
-pub mod disk_lines;
-pub mod driver;
-pub mod group_lines;
-pub mod range_lines;
-pub mod stage;
-pub mod volume_lines;

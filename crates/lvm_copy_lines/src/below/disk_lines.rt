@@ -1,3 +1,0 @@
-//! Passed on from `lvm_disk_lines`.
-
-pub use lvm_volume_lines::below::disk_lines::{do_arrange, do_cut, do_read, do_write};

@@ -1,5 +1,0 @@
-//! Passed on from `lvm_group_lines`.
-
-pub use lvm_volume_lines::below::group_lines::{
-    do_mkvg, do_varyoff, do_varyon, list_disk, list_group, list_volume,
-};

@@ -1,5 +1,0 @@
-//! Passed on from `lvm_stage`.
-
-pub use lvm_volume_lines::below::stage::{
-    Answered, Holder, Refusal, Reply, Stage, memory_text, refusal_line, take_rooms,
-};

@@ -1,4 +1,0 @@
-pub mod passed
-pub mod Parts
-pub mod CopiesLemmas
-pub mod DescriptorLemmas

@@ -1,7 +1,0 @@
-use Rattle.std.proofs.Common.{ℕ, ◌<◌}
-use Rattle.std.specs.Prelude.{IsTrue}
-use Rattle.lvm_copy_plan.specs.Faults.{keeps_fresh}
-use Rattle.lvm_copy_plan.proofs.copies.first_loss.Given as goal
-
-abbrev pub invariant-loop-lp : goal.invariant-loop-lp
-invariant-loop-lp l = (n : ℕ) → n < l.lp → IsTrue (keeps_fresh l.table l.row l.copies n)

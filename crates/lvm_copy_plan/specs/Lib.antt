@@ -1,4 +1,0 @@
-pub mod passed
-pub mod Copies
-pub mod Faults
-pub mod PlannedCopies

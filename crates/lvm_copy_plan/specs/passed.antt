@@ -1,3 +1,0 @@
-pub mod CoreFaultCommitFault
-pub mod Names
-pub mod VolumePlanFaultGroupFault

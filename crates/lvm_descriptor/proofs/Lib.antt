@@ -1,3 +1,0 @@
-pub mod passed
-pub mod DescriptorBytesLemmas
-pub mod PartsLemmas

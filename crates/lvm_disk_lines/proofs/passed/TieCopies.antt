@@ -1,2 +1,0 @@
--- Passed on from `lvm_tie_copies`.
-pub use Rattle.lvm_stage.proofs.passed.TieCopies.{added_markable, has_volumes, mklvcopy_goes_on, mklvcopy_serves, rmlvcopy_goes_on, rmlvcopy_serves}

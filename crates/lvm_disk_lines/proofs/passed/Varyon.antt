@@ -1,3 +1,0 @@
--- Passed on from `lvm_varyon`.
-pub use Rattle.lvm_stage.proofs.passed.Varyon.{HasWrote, failed_rests, failed_rose, found_restated, holds_finds, same_orders, status_fits, wrote_broken, wrote_equalled}
-pub use Rattle.lvm_stage.proofs.passed.Varyon.{wrote_failed}

@@ -1,4 +1,0 @@
--- Passed on from `lvm_group`.
-pub use Rattle.lvm_stage.specs.passed.Group.{Breaks, HasGroup, IfShown, IsAsBefore, IsClear, IsMade, MayBegin, MkvgGives, NewGroup, MkvgRefuses}
-pub use Rattle.lvm_stage.specs.passed.Group.{RefusesFirst, SparesTold, beginning_for, given_up, least_size, most_sectors, new_group, new_status}
-pub use Rattle.lvm_stage.specs.passed.Group.{size_for, sizes_in_order}

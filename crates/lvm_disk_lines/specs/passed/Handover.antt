@@ -1,2 +1,0 @@
--- Passed on from `lvm_handover`.
-pub use Rattle.lvm_stage.specs.passed.Handover.{HasJustBegun, IsCommanded, IsHistory, IsServed, MayServe, MayHandOver, Serves, StaysSound}

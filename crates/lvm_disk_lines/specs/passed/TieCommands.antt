@@ -1,3 +1,0 @@
--- Passed on from `lvm_tie_commands`.
-pub use Rattle.lvm_stage.specs.passed.TieCommands.{IsAloneAtFirst, IsLeftStanding, IsLeftStandingSince, MayBeCommanded, StandsAfter}
-pub use Rattle.lvm_stage.specs.passed.TieCommands.{StandsSince}

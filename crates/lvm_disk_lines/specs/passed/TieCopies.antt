@@ -1,2 +1,0 @@
--- Passed on from `lvm_tie_copies`.
-pub use Rattle.lvm_stage.specs.passed.TieCopies.{KeepsShownOf, MayServeWith, added_by}

@@ -1,3 +1,0 @@
-//! Passed on from `lvm_quiesce`.
-
-pub use lvm_stage::below::quiesce::{mkvg, varyon};

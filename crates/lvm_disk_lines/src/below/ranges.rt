@@ -1,5 +1,0 @@
-//! Passed on from `lvm_ranges`.
-
-pub use lvm_stage::below::ranges::{
-    AskRangeFault, Stuck, ask_range, await_range, finish_range, read_blocks, step, take_range,
-};

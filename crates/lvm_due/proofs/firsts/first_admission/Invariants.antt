@@ -1,0 +1,10 @@
+use Rattle.std.proofs.Common.{◌-◌}
+use Rattle.lvm_facts.specs.passed.Names.{core_of, admission_at}
+use Rattle.lvm_due.specs.Spans.{Spans}
+use Rattle.lvm_due.proofs.firsts.first_admission.Given as goal
+
+abbrev pub invariant-loop-span : goal.invariant-loop-span
+invariant-loop-span l = Spans (admission_at (core_of l.session)) l.session.requests.items l.span
+
+abbrev pub decreases-loop-span : goal.decreases-loop-span
+decreases-loop-span l = l.span.to - l.span.from

@@ -1,4 +1,0 @@
-pub mod passed
-pub mod SoundLemmas
-pub mod LegalLemmas
-pub mod EarlierLemmas

@@ -1,4 +1,0 @@
-pub mod Names
-pub mod Ranges
-pub mod Running
-pub mod Tie

@@ -1,6 +1,0 @@
-pub mod AskRangeFaultVariants
-pub mod Driver
-pub mod Names
-pub mod Ranges
-pub mod Running
-pub mod Tie

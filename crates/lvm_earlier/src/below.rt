@@ -1,7 +1,0 @@
-//! What is passed on from the crates below.
-
-pub mod driver;
-pub mod ranges;
-
-pub use lvm_core::Driver;
-pub use lvm_ranges::below::{Post, end_posts};

@@ -1,5 +1,0 @@
-use Rattle.lvm_enabled.proofs.EnabledLemmas.{differ_is}
-use Rattle.lvm_enabled.proofs.status.differs.Goals as goal
-
-pub returns : goal.returns
-returns c = differ_is c.args.session.now.updater.wanted c.args.session.now.updater.committed c.differs.result c.differs.ensures

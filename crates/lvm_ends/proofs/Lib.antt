@@ -1,4 +1,0 @@
-pub mod passed
-mod EndedLemmas
-pub mod Ended
-mod Owning

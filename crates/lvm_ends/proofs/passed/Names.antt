@@ -1,4 +1,0 @@
--- Passed on from the crates below.
-pub use Rattle.lvm_launch.proofs.passed.Names.{copies_in_are, place_of}
-pub use Rattle.lvm_copy_end.proofs.BringingLemmas.{markable}
-pub use Rattle.lvm_copy_end.proofs.passed.Names.{same_due}

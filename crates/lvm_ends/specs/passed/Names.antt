@@ -1,4 +1,0 @@
--- Passed on from the crates below.
-pub use Rattle.lvm_copy_end.specs.Ending.{CanEnd, MayEndCopy}
-pub use Rattle.lvm_copy_end.specs.Reviewing.{IsLocated, MayReview}
-pub use Rattle.lvm_launch.specs.passed.Names.{IsOutIf}

@@ -1,4 +1,0 @@
--- Passed on from the crates below.
-pub use Rattle.lvm_rest.proofs.ClosedLemmas.{landed_are_closed}
-pub use Rattle.lvm_rest.proofs.GoodLemmas.Good.{mib_positive}
-pub use Rattle.lvm_rest.proofs.MarkingLemmas.{none_is_left_behind}

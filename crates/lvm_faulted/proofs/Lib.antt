@@ -1,4 +1,0 @@
-mod FaultedLemmas
-mod FailingLemmas
-mod CopiesLemmas
-mod UnreadLemmas

@@ -1,5 +1,0 @@
-use Rattle.lvm_faulted.proofs.CopiesLemmas.{carried_writes_are_unsound}
-use Rattle.lvm_faulted.proofs.laws.carried_writes_are_unsound.Goals as goal
-
-pub returns : goal.returns
-returns c = carried_writes_are_unsound

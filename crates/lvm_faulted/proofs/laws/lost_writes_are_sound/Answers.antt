@@ -1,5 +1,0 @@
-use Rattle.lvm_faulted.proofs.FailingLemmas.{lost_writes_are_sound}
-use Rattle.lvm_faulted.proofs.laws.lost_writes_are_sound.Goals as goal
-
-pub returns : goal.returns
-returns c = lost_writes_are_sound c.held_writes_are_sound.ensures

@@ -1,4 +1,0 @@
-pub mod Faulted
-pub mod Failing
-pub mod Copies
-pub mod Unread

@@ -1,6 +1,0 @@
-use Rattle.lvm_faults.specs.Injection.{next_call}
-use Rattle.lvm_faults.proofs.InjectionLemmas.{DoneSoFar}
-use Rattle.lvm_faults.proofs.injector.Injector.begin.Given as goal
-
-abbrev pub invariant-loop-i : goal.invariant-loop-i
-invariant-loop-i l = DoneSoFar l.fn.self.plan (next_call l.fn.self) (record l.fn.self { calls = next_call l.fn.self }) l.self l.cut l.i

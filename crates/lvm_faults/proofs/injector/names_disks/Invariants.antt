@@ -1,6 +1,0 @@
-use Rattle.std.proofs.Common.{drop}
-use Rattle.lvm_faults.specs.Injection.{NamesDisks}
-use Rattle.lvm_faults.proofs.injector.names_disks.Given as goal
-
-abbrev pub invariant-loop-planned : goal.invariant-loop-planned
-invariant-loop-planned l = (NamesDisks l.disks (drop l.planned-index l.plan) → NamesDisks l.disks l.plan) × (NamesDisks l.disks l.plan → NamesDisks l.disks (drop l.planned-index l.plan))

@@ -1,2 +1,0 @@
-pub mod Might
-pub mod Spans

@@ -1,7 +1,0 @@
-//! What is passed on from the crates below.
-
-pub use lvm_facts::below::{
-    copies_beside, copies_for, group_in, group_of, is_aim, is_pp, is_running, is_usable, is_whole,
-    mode_of, partition_blocks, policy_of, unpin,
-};
-pub use lvm_facts::{counts_failed, is_changed, is_unbegun, is_waiting};

@@ -1,2 +1,0 @@
-pub mod TicketsLemmas
-pub mod FlightsLemmas

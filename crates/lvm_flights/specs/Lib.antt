@@ -1,4 +1,0 @@
-pub mod Flights
-pub mod Tickets
-pub mod Tally
-pub mod Log

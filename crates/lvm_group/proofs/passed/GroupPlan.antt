@@ -1,2 +1,0 @@
--- Passed on from `lvm_group_plan`.
-pub use Rattle.lvm_group_plan.proofs.NewGroupLemmas.Groups.{are_members, is_there, member_among, nothing_missing, size_positive, valid_group, valid_status}

@@ -1,2 +1,0 @@
--- Passed on from `lvm_group_plan`.
-pub use Rattle.lvm_group_plan.specs.NewGroup.{IsWellFormed, MayBegin, NewGroup, RefusesFirst, among, given_up, least_size, most_sectors, new_group, new_status, size_for, sizes_in_order}

@@ -1,3 +1,0 @@
--- Passed on from `lvm_disk_lines`.
-pub use Rattle.lvm_disk_lines.specs.Disks.{NoReadWhileOn, NoWriteWhileOn, ReadDoes, ReadGoes, WriteDoes, WriteGoes, blocks_text, refusal_by}
-pub use Rattle.lvm_disk_lines.specs.Shelves.{ArrangeDoes, CutDoes, CutNotPlanned, IsArranged, NotPlanned, NotThere, PowerIsCut}

@@ -1,6 +1,0 @@
-//! Passed on from `lvm_stage`.
-
-pub use lvm_disk_lines::below::stage::{
-    Answered, Holder, Refusal, Reply, Stage, memory_text, push_refusal_line, refusal_line,
-    take_rooms,
-};

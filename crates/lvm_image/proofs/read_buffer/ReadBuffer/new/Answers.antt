@@ -1,4 +1,0 @@
-use Rattle.lvm_image.proofs.read_buffer.ReadBuffer.new.Goals as goal
-
-pub returns-in-Ok : goal.returns-in-Ok
-returns-in-Ok c = c.in-Ok.ensures.items_if_clones_equal (λ y same. same)

@@ -1,0 +1,5 @@
+use Rattle.lvm_keeps.proofs.FailingLemmas.{unsettled_writes_are_sound}
+use Rattle.lvm_keeps.proofs.faulted_laws.unsettled_writes_are_sound.Goals as goal
+
+pub returns : goal.returns
+returns c = unsettled_writes_are_sound c.held_writes_are_sound.ensures

@@ -1,4 +1,0 @@
-pub mod GeometryLemmas
-pub mod LogLemmas
-pub mod KeepsLemmas
-pub mod OpeningLemmas

@@ -1,5 +1,0 @@
-use Rattle.lvm_keeps_turn.proofs.CountsLemmas.{turn_counts}
-use Rattle.lvm_keeps_turn.proofs.tells.counts_never_fall.Goals as goal
-
-pub returns : goal.returns
-returns c = turn_counts

@@ -1,5 +1,0 @@
-use Rattle.lvm_keeps_turn.proofs.ReadingLemmas.{turn_gets}
-use Rattle.lvm_keeps_turn.proofs.tells.reads_get_theirs.Goals as goal
-
-pub returns : goal.returns
-returns c = λ old new answer sound made. turn_gets old new sound answer made

@@ -1,3 +1,0 @@
-pub mod Turning
-pub mod Reading
-pub mod Telling

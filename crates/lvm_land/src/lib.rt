@@ -1,7 +1,0 @@
-//! Requests land.
-#![tactic(auto)]
-
-mod front;
-mod land;
-
-pub use land::land_at;

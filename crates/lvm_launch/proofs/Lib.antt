@@ -1,4 +1,0 @@
-pub mod passed
-mod SoundLemmas
-pub mod OutLemmas
-mod Starting

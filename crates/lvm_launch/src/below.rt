@@ -1,5 +1,0 @@
-//! What is passed on from the crates below.
-
-pub use lvm_enabled::below::is_running;
-pub use lvm_enabled::first_start;
-pub use lvm_over::{arranged, darken, give_back, go_off};

@@ -1,2 +1,0 @@
--- Passed on from `lvm_running`.
-pub use Rattle.lvm_copy_lines.proofs.passed.Running.{runs_both, runs_none}

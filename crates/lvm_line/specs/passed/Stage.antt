@@ -1,6 +1,0 @@
--- Passed on from `lvm_stage`.
-pub use Rattle.lvm_copy_lines.specs.passed.Stage.{ArePosted, Aside, Asks, GoesOn, HasBegunHeld, Holder, IsAllowed, IsAlone, IsAsked, IsAtRest}
-pub use Rattle.lvm_copy_lines.specs.passed.Stage.{IsBetween, IsBetweenStage, IsBrokenOff, IsClosed, IsFittingStage, IsOfKind, IsRelit, IsRequesting}
-pub use Rattle.lvm_copy_lines.specs.passed.Stage.{IsStuck, IsTimely, OfGroup, OfGroupWhere, OfRequests, Reply, Role, Stage, StandsAlone, StandsBy}
-pub use Rattle.lvm_copy_lines.specs.passed.Stage.{ScriptState, history_in, history_of, is_unheard, log_with, moment_in, most_refusals, patience_of_line}
-pub use Rattle.lvm_copy_lines.specs.passed.Stage.{refusal_of, refusals_of, reply_text, session_in, session_of, shelf_in, shelf_of, state_in, without_facts}

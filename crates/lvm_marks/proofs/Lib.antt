@@ -1,4 +1,0 @@
-pub mod passed
-pub mod MarksLemmas
-mod Places
-mod DueLemmas

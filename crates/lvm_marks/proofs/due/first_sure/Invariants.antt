@@ -1,7 +1,0 @@
-use Rattle.std.proofs.Common.{◌≡◌, ◌<◌, ℕ, false}
-use Rattle.lvm_session.specs.Fields.{core_of}
-use Rattle.lvm_marks.specs.Due.{sure_at}
-use Rattle.lvm_marks.proofs.due.first_sure.Given as goal
-
-abbrev pub invariant-loop-k : goal.invariant-loop-k
-invariant-loop-k l = (j : ℕ) → j < l.k → sure_at (core_of l.session) l.targets j ≡ false

@@ -1,4 +1,0 @@
-mod BufferLemmas
-mod PiecesLemmas
-pub mod MediaLemmas
-mod FlightsLemmas

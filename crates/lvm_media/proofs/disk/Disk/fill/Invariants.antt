@@ -1,6 +1,0 @@
-use Rattle.lvm_media.specs.Pieces.{joined}
-use Rattle.lvm_media.proofs.BufferLemmas.{FillSoFar}
-use Rattle.lvm_media.proofs.disk.Disk.fill.Given as goal
-
-abbrev pub invariant-loop-i : goal.invariant-loop-i
-invariant-loop-i l = FillSoFar (joined l.self-inside.pieces.items) l.first l.count l.initial.buf l.buf l.i

@@ -1,5 +1,0 @@
-use Rattle.lvm_media.proofs.PiecesLemmas.Putting.{cut_again}
-use Rattle.lvm_media.proofs.disk.Disk.put.Goals as goal
-
-pub invariant_of-self : goal.invariant_of-self
-invariant_of-self c = cut_again c.loop-i.self-inside.count c.self.inside.pieces.items c.loop-i.self-inside.pieces.items c.loop-i.invariant.count c.loop-i.invariant.cut

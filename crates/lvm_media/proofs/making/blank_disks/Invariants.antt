@@ -1,7 +1,0 @@
-use Rattle.std.proofs.Common.{replicate}
-use Rattle.lvm_num.specs.Buffer.{zero_sector}
-use Rattle.lvm_media.proofs.MediaLemmas.MadeSoFar.{MadeSoFar}
-use Rattle.lvm_media.proofs.making.blank_disks.Given as goal
-
-abbrev pub invariant-loop-count : goal.invariant-loop-count
-invariant-loop-count l = MadeSoFar (λ count. replicate count zero_sector) l.sizes l.disks.items l.count-index

@@ -1,2 +1,0 @@
-pub mod Media
-pub mod Pieces

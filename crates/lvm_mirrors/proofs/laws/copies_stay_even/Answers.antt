@@ -1,5 +1,0 @@
-use Rattle.lvm_mirrors.proofs.LawsLemmas.{more_are_even, first_are_even}
-use Rattle.lvm_mirrors.proofs.laws.copies_stay_even.Goals as goal
-
-pub returns : goal.returns
-returns c = record { more = more_are_even; fewer = first_are_even }

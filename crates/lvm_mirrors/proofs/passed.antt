@@ -1,3 +1,0 @@
-pub mod CopyPlanCopiesLemmasFewer
-pub mod CopyPlanCopiesLemmasMore
-pub mod Names

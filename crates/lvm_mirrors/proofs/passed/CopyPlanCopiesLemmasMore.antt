@@ -1,2 +1,0 @@
--- Passed on from the crates below.
-pub use Rattle.lvm_copy_plan.proofs.CopiesLemmas.More.{free_of, old_or_further, places_of}

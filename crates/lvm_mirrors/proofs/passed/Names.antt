@@ -1,3 +1,0 @@
--- Passed on from the crates below.
-pub use Rattle.lvm_copy_plan.proofs.CopiesLemmas.Rows.{named, one_found, one_other, own_row}
-pub use Rattle.lvm_rest.proofs.Rows.{row_is_volume}

@@ -1,4 +1,0 @@
-pub mod passed
-pub mod Mirrors
-pub mod Stages
-pub mod Laws

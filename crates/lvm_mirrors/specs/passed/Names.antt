@@ -1,5 +1,0 @@
--- Passed on from the crates below.
-pub use Rattle.lvm_copy_plan.specs.Copies.{first_copies, further_copies, with_copies, with_map}
-pub use Rattle.lvm_copy_plan.specs.Faults.{HasFurtherPlaces, MayBeTaken}
-pub use Rattle.lvm_rest.specs.Rest.{IsEven}
-pub use Rattle.lvm_volumes.specs.Endings.{HasFresh, KeepsFresh, StillHeld}

@@ -1,0 +1,5 @@
+use Rattle.lvm_moves.proofs.ReadyLemmas.Ready.{first_start_can}
+use Rattle.lvm_moves.proofs.laws.first_start_can.Goals as goal
+
+pub returns : goal.returns
+returns c = first_start_can

@@ -1,2 +1,0 @@
-pub mod OptionsLemmas
-pub mod ReadingLemmas

@@ -1,4 +1,0 @@
-pub mod passed
-mod HandsLemmas
-mod DarkLemmas
-mod LogLemmas

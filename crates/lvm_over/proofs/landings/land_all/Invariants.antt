@@ -1,6 +1,0 @@
-use Rattle.std.proofs.Common.{drop}
-use Rattle.lvm_over.proofs.DarkLemmas.{IsLanding}
-use Rattle.lvm_over.proofs.landings.land_all.Given as goal
-
-abbrev pub invariant-loop-open : goal.invariant-loop-open
-invariant-loop-open l = IsLanding l.how l.initial.history l.history l.requests (drop l.open-index l.requests)

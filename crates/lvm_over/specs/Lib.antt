@@ -1,2 +1,0 @@
-pub mod passed
-pub mod Hands

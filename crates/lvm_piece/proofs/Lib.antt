@@ -1,5 +1,0 @@
-pub mod passed
-pub mod Fronts
-pub mod LogLemmas
-pub mod KeepingLemmas
-pub mod RequestsLemmas

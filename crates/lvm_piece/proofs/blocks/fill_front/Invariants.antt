@@ -1,9 +1,0 @@
-use Rattle.std.proofs.Common.{◌≡◌, length, take}
-use Rattle.lvm_piece.specs.Pieces.{AreFilled}
-use Rattle.lvm_piece.proofs.blocks.fill_front.Given as goal
-
-abbrev pub invariant-loop-k : goal.invariant-loop-k
-invariant-loop-k l = record {
-  filled : AreFilled l.fn.word (take l.k l.buf.sectors);
-  long : length (take l.k l.buf.sectors) ≡ l.k;
-}

@@ -1,4 +1,0 @@
-pub mod Requests
-pub mod Asking
-pub mod Pieces
-pub mod Keeping

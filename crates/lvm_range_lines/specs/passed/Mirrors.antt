@@ -1,2 +1,0 @@
--- Passed on from `lvm_mirrors`.
-pub use Rattle.lvm_group_lines.specs.passed.Mirrors.{AreAdded, AreTaken, IsWithFirst, IsWithMore, MklvcopyGives, RmlvcopyGives, to_add, to_take}

@@ -1,2 +1,0 @@
--- Passed on from `lvm_running`.
-pub use Rattle.lvm_group_lines.specs.passed.Running.{IsBefore, LeavesSession, RunsOn}

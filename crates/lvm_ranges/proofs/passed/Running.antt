@@ -1,2 +1,0 @@
--- Passed on from `lvm_running`.
-pub use Rattle.lvm_driver.proofs.passed.Names.{calls_run_on, runs_both, runs_none, stays_unstuck}

@@ -1,2 +1,0 @@
-pub mod Reaping
-pub mod Learning

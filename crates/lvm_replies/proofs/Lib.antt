@@ -1,4 +1,0 @@
-mod BlocksLemmas
-mod RefusalsLemmas
-mod NameLemmas
-mod Digits

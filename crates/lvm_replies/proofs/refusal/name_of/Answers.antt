@@ -1,6 +1,0 @@
-use Rattle.lvm_replies.proofs.RefusalsLemmas.{past}
-use Rattle.std.proofs.Common.{arith}
-use Rattle.lvm_replies.proofs.refusal.name_of.Goals as goal
-
-pub returns-in-33-to-255 : goal.returns-in-33-to-255
-returns-in-33-to-255 c = past c.args.number (omega arith)

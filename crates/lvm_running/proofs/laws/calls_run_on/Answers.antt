@@ -1,5 +1,0 @@
-use Rattle.lvm_running.proofs.LawsLemmas.Calls.{calls_run_on as its}
-use Rattle.lvm_running.proofs.laws.calls_run_on.Goals as goal
-
-pub returns : goal.returns
-returns c = its

@@ -1,3 +1,0 @@
-pub mod passed
-pub mod Running
-pub mod Laws

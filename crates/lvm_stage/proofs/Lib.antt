@@ -1,9 +1,0 @@
-pub mod passed
-pub mod LogLemmas
-pub mod EndsLemmas
-pub mod MomentsLemmas
-pub mod StagesLemmas
-pub mod LightingLemmas
-pub mod FactsLemmas
-pub mod StateLemmas
-pub mod RepliesLemmas

@@ -1,2 +1,0 @@
--- Passed on from `lvm_group`.
-pub use Rattle.lvm_tie_copies.proofs.passed.Group.{IsBeginning, are_members, is_there, may_begin, size_positive, valid_group, valid_status}

@@ -1,3 +1,0 @@
--- Passed on from `lvm_ranges`.
-pub use Rattle.lvm_tie_copies.proofs.passed.Ranges.{answered_for, counted_since, ended_well, going_cause, off_votes, range_cause, reads_on}
-pub use Rattle.lvm_tie_copies.proofs.passed.Ranges.{room_first, rows_stay, table_same, table_then, turn_table}

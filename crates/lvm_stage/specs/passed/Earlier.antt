@@ -1,2 +1,0 @@
--- Passed on from `lvm_earlier`.
-pub use Rattle.lvm_tie_copies.specs.passed.Earlier.{AreGone, with_taken}

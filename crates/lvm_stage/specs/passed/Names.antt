@@ -1,3 +1,0 @@
--- Passed on from the crates below.
-pub use Rattle.lvm_tie_copies.specs.passed.Names.{first_copies, with_copies, with_map, TurnTells, power_by, AreAnswered, AreHeld, ended_with, Asked, Post, LosesByFaults, LosesVotesByFaults, LostForFaults, IfOn, ends_session, fault_of, is_over, GroupFault, NewVolume}
-pub use Rattle.lvm_quiesce.specs.passed.Names.{IsSettled, HaveAllLanded}

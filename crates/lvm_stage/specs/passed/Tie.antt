@@ -1,2 +1,0 @@
--- Passed on from `lvm_tie`.
-pub use Rattle.lvm_tie_copies.specs.passed.Tie.{IsGood, IsStamped, IsTied, LeavesDescriptors, moment_of}

@@ -1,3 +1,0 @@
--- Passed on from `lvm_varyon`.
-pub use Rattle.lvm_tie_copies.specs.passed.Varyon.{ComesOn, HasWritten, IsRecovered, IsRestated, MayComeOn, Recopy, VaryonRefuses, VaryonGives, answering}
-pub use Rattle.lvm_tie_copies.specs.passed.Varyon.{beginning, log_after, records_on}

@@ -1,2 +1,0 @@
--- Passed on from the crates below.
-pub use Rattle.lvm_tie_copies.specs.passed.VolumePlanFaultGroupFault.{Busy, CopyLimit, Dark, DiskFailed, HistoryFull, LastFresh, Memory, NoRoom, NoVolume, Stuck, TooMany, VolumeExists, WentOff}

@@ -1,2 +1,0 @@
--- Passed on from `lvm_volumes`.
-pub use Rattle.lvm_tie_copies.specs.passed.Volumes.{HasEntered, IsWith, MklvGives, RmlvGives, StillHeld, making, removing, to_make, to_remove}

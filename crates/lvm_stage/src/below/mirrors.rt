@@ -1,3 +1,0 @@
-//! Passed on from `lvm_mirrors`.
-
-pub use lvm_tie_copies::below::mirrors::{mklvcopy, rmlvcopy};

@@ -1,5 +1,0 @@
-use Rattle.lvm_stamps.proofs.LawsLemmas.Records.{shown_is_before, later_may_go, session_may_go}
-use Rattle.lvm_stamps.proofs.laws.later_may_go.Goals as goal
-
-pub returns : goal.returns
-returns c = record { shown = shown_is_before; go = later_may_go; session = session_may_go }

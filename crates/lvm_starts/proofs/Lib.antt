@@ -1,4 +1,0 @@
-pub mod passed
-pub mod StartsLemmas
-mod Writes
-pub mod ReadyLemmas

@@ -1,5 +1,0 @@
-use Rattle.lvm_starts.proofs.ReadyLemmas.Ready.{first_start_can}
-use Rattle.lvm_starts.proofs.laws.first_start_can.Goals as goal
-
-pub returns : goal.returns
-returns c = first_start_can

@@ -1,5 +1,0 @@
-use Rattle.lvm_starts.proofs.ReadyLemmas.Ready.{sessions_may_choose}
-use Rattle.lvm_starts.proofs.laws.sessions_may_choose.Goals as goal
-
-pub returns : goal.returns
-returns c = sessions_may_choose

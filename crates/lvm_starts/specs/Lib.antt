@@ -1,4 +1,0 @@
-pub mod passed
-pub mod Starts
-pub mod Updating
-pub mod Ready

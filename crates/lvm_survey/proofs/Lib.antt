@@ -1,5 +1,0 @@
-pub mod passed
-pub mod SurveyedLemmas
-pub mod ReadingLemmas
-pub mod LawsLemmas
-pub mod Passing

@@ -1,5 +1,0 @@
-use Rattle.lvm_survey.proofs.ReadingLemmas.{Rows}
-use Rattle.lvm_survey.proofs.survey.survey_rows.Given as goal
-
-abbrev pub invariant-loop-disk : goal.invariant-loop-disk
-invariant-loop-disk g l = Rows l.disk l.fn.patience.left l.patience.left l.fn.buf.number (g.S.Shelf.device l.fn.shelf) (g.S.Shelf.device l.shelf) l.rows.items l.back.number

@@ -1,5 +1,0 @@
-pub mod passed
-pub mod Surveyed
-pub mod Rows
-pub mod Surveying
-pub mod Laws

@@ -1,5 +1,0 @@
-use Rattle.std.proofs.Common.{sym, ◌∙◌}
-use Rattle.lvm_tests_commit.proofs.tests.commit.describe.Goals as goal
-
-pub returns : goal.returns
-returns g c = c.requires.own ∙ sym c.commit_descriptor.ensures.leaves.loses.group

@@ -1,5 +1,0 @@
-//! Tests of commits, by public calls alone.
-#![tactic(auto)]
-
-#[cfg(test)]
-mod tests;

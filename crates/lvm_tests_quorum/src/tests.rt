@@ -1,4 +1,0 @@
-mod choice;
-mod fixtures;
-mod survey;
-mod write;

@@ -1,4 +1,0 @@
-mod faults;
-mod fixtures;
-mod orders;
-mod sync;

@@ -1,0 +1,107 @@
+-- Over the removal of copies.
+use Rattle.std.proofs.Common.{◌≡◌, ◌⊎◌, inl, inr, ⊎_elim, ℕ, [], Some, Result, Ok, Err, sym, ap, subst, ◌∙◌}
+use Rattle.std.specs.Prelude.{◌≢◌}
+use Rattle.lvm_num.specs.declared.descriptor.Descriptor.{Descriptor}
+use Rattle.lvm_num.specs.declared.descriptor.LvRow.{LvRow}
+use Rattle.lvm_num.specs.Descriptor.{is_member}
+use Rattle.lvm_disk.specs.Device.{image_of}
+use Rattle.lvm_kept.specs.Contents.{contents_of}
+use Rattle.lvm_kept.specs.Moments.{Moment}
+use Rattle.lvm_steps.specs.Moments.{Keeps}
+use Rattle.lvm_tie_commands.specs.passed.Names.{IsOneByAllOn, moment_of, NoPartition, IsSettled, GroupFault, IfOn}
+use Rattle.lvm_session.specs.State.{Core, State, is_there}
+use Rattle.lvm_tie_commands.specs.passed.VolumePlanFaultGroupFault as fault
+use Rattle.lvm_volumes.specs.Endings.{StillHeld}
+use Rattle.lvm_volumes.specs.passed.Names.{first_copies, with_copies, MayBeTaken, IsEven}
+use Rattle.lvm_volumes.specs.Mirrors.{AreTaken, IsWithFirst, RmlvcopyGives, to_take}
+use Rattle.lvm_volumes.proofs.LawsLemmas.{first_are_even}
+use Rattle.lvm_tie_commands.specs.passed.Handover.{IsCommanded}
+use Rattle.lvm_tie_commands.proofs.passed.Settled.{kept_even}
+use Rattle.lvm_tie_commands.specs.Commands.{IsLeftStandingSince, MayBeCommanded}
+use Rattle.lvm_tie_commands.proofs.CommandsLemmas.Commands.{KeepsEven, keeps_on, left_standing, on_all}
+use Rattle.lvm_tie_commands.specs.Copies.{KeepsShownIfTaken, RmlvcopyGoesOn}
+use Rattle.lvm_tie_commands.proofs.CopiesLemmas.Adding.{no_volume}
+
+-- nothing has happened, or nothing stood against it
+abbrev MightOrNot : ℕ → ℕ → State → State → Type 0
+MightOrNot lv copies old new = (new ≡ old) ⊎ ((row : LvRow) × MayBeTaken lv copies old.core row)
+
+might_or_not : (lv copies before : ℕ) (old new : State) (answer : Result (Unit {0}) GroupFault) → RmlvcopyGives lv copies before old new answer → MightOrNot lv copies old new
+might_or_not lv copies before old new (Ok done) gives = inr (gives.row, gives.may)
+might_or_not lv copies before old new (Err fault.Dark) gives = ⊎_elim (λ refused. inl refused.0) (λ ended. inr (ended.row, ended.may)) gives
+might_or_not lv copies before old new (Err (fault.WentOff have total)) gives = ⊎_elim (λ refused. inl refused.0) (λ ended. inr (ended.row, ended.may)) gives
+might_or_not lv copies before old new (Err fault.Stuck) gives = inr (gives.row, gives.may)
+might_or_not lv copies before old new (Err (fault.DiskFailed disk)) gives = absurd gives
+might_or_not lv copies before old new (Err fault.Busy) gives = inl gives.0
+might_or_not lv copies before old new (Err fault.NoVolume) gives = inl gives.0
+might_or_not lv copies before old new (Err fault.VolumeExists) gives = absurd gives
+might_or_not lv copies before old new (Err (fault.CopyLimit now)) gives = inl gives.0
+might_or_not lv copies before old new (Err (fault.LastFresh lp)) gives = inl gives.0
+might_or_not lv copies before old new (Err (fault.TooMany limit)) gives = absurd gives
+might_or_not lv copies before old new (Err (fault.NoRoom free)) gives = absurd gives
+might_or_not lv copies before old new (Err fault.HistoryFull) gives = inl gives.0
+might_or_not lv copies before old new (Err fault.Memory) gives = inl gives.0
+
+-- the descriptor is as it was, or the volume has fewer copies
+abbrev AreTakenOrNot : ℕ → ℕ → State → State → Type 0
+AreTakenOrNot lv copies old new = (new.core.descriptor ≡ old.core.descriptor) ⊎ AreTaken lv copies old new
+
+refused : (lv copies : ℕ) (old new : State) → new ≡ old → AreTakenOrNot lv copies old new
+refused lv copies old new same = inl (ap (λ (s : State). s.core.descriptor) same)
+
+taken_or_not : (lv copies before : ℕ) (old new : State) (answer : Result (Unit {0}) GroupFault) → RmlvcopyGives lv copies before old new answer → IfOn answer (AreTakenOrNot lv copies old new)
+taken_or_not lv copies before old new (Ok done) gives = inr gives
+taken_or_not lv copies before old new (Err fault.Dark) gives = tt
+taken_or_not lv copies before old new (Err (fault.WentOff have total)) gives = tt
+taken_or_not lv copies before old new (Err fault.Stuck) gives = tt
+taken_or_not lv copies before old new (Err (fault.DiskFailed disk)) gives = absurd gives
+taken_or_not lv copies before old new (Err fault.Busy) gives = refused lv copies old new gives.0
+taken_or_not lv copies before old new (Err fault.NoVolume) gives = refused lv copies old new gives.0
+taken_or_not lv copies before old new (Err fault.VolumeExists) gives = absurd gives
+taken_or_not lv copies before old new (Err (fault.CopyLimit now)) gives = refused lv copies old new gives.0
+taken_or_not lv copies before old new (Err (fault.LastFresh lp)) gives = refused lv copies old new gives.0
+taken_or_not lv copies before old new (Err (fault.TooMany limit)) gives = absurd gives
+taken_or_not lv copies before old new (Err (fault.NoRoom free)) gives = absurd gives
+taken_or_not lv copies before old new (Err fault.HistoryFull) gives = refused lv copies old new gives.0
+taken_or_not lv copies before old new (Err fault.Memory) gives = refused lv copies old new gives.0
+
+module _ (run : ℕ) (first : Moment) (lv copies before after : ℕ) (old new : State) (answer : Result (Unit {0}) GroupFault)
+    (may : MayBeCommanded run first old) (shown : KeepsShownIfTaken run first lv copies old new) (c : IsCommanded (to_take lv copies old.core) before after old new answer) where
+  keeps : MightOrNot lv copies old new → Keeps run first (moment_of new)
+  keeps might = ⊎_elim
+      (λ (same : new ≡ old). subst (λ (s : State). Keeps run first (moment_of s)) (sym same) may.keeps)
+      (λ (it : (row : LvRow) × MayBeTaken lv copies old.core row). keeps_on run first old new may c.began (to_take lv copies old.core) before after c.leaves (shown it.0 it.1))
+      might
+
+  module _ (taken : AreTakenOrNot lv copies old new) where
+    descriptor_is : (it : AreTaken lv copies old new) → new.core.descriptor ≡ with_copies old.core.descriptor lv copies (first_copies it.row copies)
+    descriptor_is it = ap (λ (s : Core). s.descriptor) it.is
+
+    members : (d : ℕ) → is_member new.core.descriptor d ≡ is_member old.core.descriptor d
+    members d = ⊎_elim (λ (same : new.core.descriptor ≡ old.core.descriptor). ap (λ (g : Descriptor). is_member g d) same) (λ (it : AreTaken lv copies old new). ap (λ (g : Descriptor). is_member g d) (descriptor_is it)) taken
+
+    keeps_even : KeepsEven old new
+    keeps_even was is stood stands told told_new wanted even =
+        let kept : IsEven (contents_of (image_of new.device.sizes is)) old.core.descriptor (Some stands) (is_there new.core) = kept_even (IsWithFirst lv copies old.core) NoPartition NoPartition old new was is stood stands c.leaves.writes c.leaves.status (λ pp none. absurd none) told told_new wanted even in
+        ⊎_elim
+        (λ (same : new.core.descriptor ≡ old.core.descriptor). subst (λ (g : Descriptor). IsEven (contents_of (image_of new.device.sizes is)) g (Some stands) (is_there new.core)) (sym same) kept)
+        (λ (it : AreTaken lv copies old new). subst (λ (g : Descriptor). IsEven (contents_of (image_of new.device.sizes is)) g (Some stands) (is_there new.core)) (sym (descriptor_is it))
+        (first_are_even (contents_of (image_of new.device.sizes is)) old lv copies it.row stands (is_there new.core) may.sound.fitting.valid it.may kept))
+        taken
+
+    had_some : new.core.descriptor.lvs ≢ [] → old.core.descriptor.lvs ≡ [] → IsOneByAllOn old.device
+    had_some some none = absurd (⊎_elim
+        (λ (same : new.core.descriptor ≡ old.core.descriptor). some (ap (λ (g : Descriptor). g.lvs) same ∙ none))
+        (λ (it : AreTaken lv copies old new). no_volume old.core.descriptor lv it.row none it.may.keeps.shrinks.found.volume)
+        taken)
+
+    left_so : Keeps run first (moment_of new) → IsSettled new.core → StillHeld old new → IsLeftStandingSince run first new
+    left_so span on still whole past begins = left_standing run first old new may c.began (to_take lv copies old.core) before after c.leaves on still members keeps_even had_some span whole past begins
+
+pub rmlvcopy_goes_on : RmlvcopyGoesOn
+rmlvcopy_goes_on run first lv copies before after old new answer may shown c gives =
+    let span : Keeps run first (moment_of new) = keeps run first lv copies before after old new answer may shown c (might_or_not lv copies before old new answer gives) in (
+      span,
+      on_all answer (IsSettled new.core) (StillHeld old new) (AreTakenOrNot lv copies old new) (IsLeftStandingSince run first new) c.on c.still (taken_or_not lv copies before old new answer gives)
+          (λ on still taken. left_so run first lv copies before after old new answer may shown c taken span on still),
+    )

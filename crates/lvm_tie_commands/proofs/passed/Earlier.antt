@@ -1,2 +1,0 @@
--- Passed on from `lvm_earlier`.
-pub use Rattle.lvm_handover.proofs.passed.Earlier.{open_with, resting_with, stays_beside}

@@ -1,0 +1,2 @@
+-- Passed on from `lvm_tie`.
+pub use Rattle.lvm_handover.proofs.passed.Tie.{calls_run_on, runs_both, runs_none, stays_unstuck}

@@ -1,0 +1,25 @@
+//! Laws of sessions over commands on copies. Each call does nothing: its contract is the law.
+ghost use Rattle.lvm_tie_commands.specs.Copies.{MklvcopyGoesOn, RmlvcopyGoesOn};
+ghost use Rattle.lvm_tie_commands.specs.Serving.{MklvcopyServes, RmlvcopyServes};
+
+/// A sound session that `mklvcopy` leaves on is sound with requests, once the added copies count as stale from its
+/// beginning.
+pub fn mklvcopy_serves()
+    ensures { MklvcopyServes }
+{}
+
+/// So is one that `rmlvcopy` leaves on.
+pub fn rmlvcopy_serves()
+    ensures { RmlvcopyServes }
+{}
+
+/// A span goes on over `mklvcopy`, whatever it answers; and what stands on the disks of the session goes on to stand,
+/// where this does.
+pub fn mklvcopy_goes_on()
+    ensures { MklvcopyGoesOn }
+{}
+
+/// So they do over `rmlvcopy`, where each logical partition keeps a fresh copy on a member that shows the group.
+pub fn rmlvcopy_goes_on()
+    ensures { RmlvcopyGoesOn }
+{}

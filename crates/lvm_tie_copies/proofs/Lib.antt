@@ -1,4 +1,0 @@
-pub mod passed
-pub mod ServingLemmas
-pub mod CopiesLemmas
-pub mod CallsLemmas

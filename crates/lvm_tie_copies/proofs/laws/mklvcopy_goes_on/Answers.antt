@@ -1,5 +1,0 @@
-use Rattle.lvm_tie_copies.proofs.CopiesLemmas.Adding.{mklvcopy_goes_on}
-use Rattle.lvm_tie_copies.proofs.laws.mklvcopy_goes_on.Goals as goal
-
-pub returns : goal.returns
-returns c = mklvcopy_goes_on

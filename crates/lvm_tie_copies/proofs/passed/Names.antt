@@ -1,2 +1,0 @@
--- Passed on from the crates below.
-pub use Rattle.lvm_tie_commands.proofs.passed.Names.{turn_counts, turn_keeps, over_answered, loses_both, loses_none, turn_loses, votes_go, turn_marks}

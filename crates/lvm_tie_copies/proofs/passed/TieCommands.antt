@@ -1,6 +1,0 @@
--- Passed on from `lvm_tie_commands`.
-pub use Rattle.lvm_tie_commands.proofs.BeginningLemmas.{made_stands, varied_on_stands}
-pub use Rattle.lvm_tie_commands.proofs.MomentsLemmas.{spans_follow}
-pub use Rattle.lvm_tie_commands.proofs.CommandsLemmas.Making.{mklv_goes_on}
-pub use Rattle.lvm_tie_commands.proofs.CommandsLemmas.Removing.{rmlv_goes_on}
-pub use Rattle.lvm_tie_commands.proofs.Resting.{rests}

@@ -1,4 +1,0 @@
-pub mod MomentsLemmas
-pub mod SettledLemmas
-pub mod ComingLemmas
-pub mod ExamplesLemmas

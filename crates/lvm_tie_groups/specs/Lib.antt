@@ -1,3 +1,0 @@
-pub mod Settled
-pub mod Coming
-pub mod Examples

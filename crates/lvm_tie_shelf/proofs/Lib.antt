@@ -1,6 +1,0 @@
-pub mod CopiesLemmas
-pub mod DeviceLemmas
-pub mod OwnedLemmas
-pub mod WritingLemmas
-pub mod RecordsLemmas
-pub mod BringingLemmas

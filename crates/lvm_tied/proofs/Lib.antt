@@ -1,2 +1,0 @@
-pub mod WorkedLemmas
-pub mod PairsLemmas

@@ -1,5 +1,0 @@
-use Rattle.lvm_tied.proofs.WorkedLemmas.Updating.{updating_is_tied as its}
-use Rattle.lvm_tied.proofs.laws.updating_is_tied.Goals as goal
-
-pub returns : goal.returns
-returns c = its

@@ -1,0 +1,2 @@
+-- Passed on from `lvm_tie`.
+pub use Rattle.lvm_line.specs.passed.Tie.{RunsOn}

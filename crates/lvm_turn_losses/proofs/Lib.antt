@@ -1,4 +1,0 @@
-pub mod passed
-pub mod LosingLemmas
-pub mod StatusLemmas
-pub mod MarksLemmas

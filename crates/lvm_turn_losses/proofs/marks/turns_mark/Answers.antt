@@ -1,5 +1,0 @@
-use Rattle.lvm_turn_losses.proofs.MarksLemmas.Turning.{turn_marks}
-use Rattle.lvm_turn_losses.proofs.marks.turns_mark.Goals as goal
-
-pub returns : goal.returns
-returns c = λ old new answer sound made. turn_marks old new sound answer made

@@ -1,7 +1,0 @@
-//! Laws of turns. The call does nothing: its contract is the law.
-ghost use Rattle.lvm_turn_losses.specs.Marks.{TurnsMark};
-
-/// A turn of a sound session makes copies stale for their causes alone, and only the copy that is open fresh.
-pub fn turns_mark()
-    ensures { TurnsMark }
-{}

@@ -1,2 +1,0 @@
-pub mod CoreRefusedCause
-pub mod Names
