@@ -2,7 +2,7 @@
 import sys,os,subprocess,time,re,collections,threading
 name=sys.argv[1]; test='--test' in sys.argv
 inc=f'/tmp/inc/{name}'; subprocess.run(['rm','-rf',inc])
-os.environ['INC']=inc; p=subprocess.Popen(['python3','/work/h/chk.py','/work/h/n',name,*(['--test'] if test else []),'--jobs','1'],stdout=open(f'/tmp/prof_{name}.log','w'),stderr=subprocess.STDOUT)
+os.environ['INC']=inc; p=subprocess.Popen(['python3','/work/h/chk.py','/work/h/g3',name,*(['--test'] if test else []),'--jobs','1'],stdout=open(f'/tmp/prof_{name}.log','w'),stderr=subprocess.STDOUT)
 HZ=os.sysconf('SC_CLK_TCK'); seen={}; rows=[]; last=0.0
 def cpu():
     for it in os.listdir('/proc'):
