@@ -36,7 +36,7 @@ impl<F> Model for Image<F> {
 }
 
 /// Whether a disk has a file, or something else of that name, as the system tells; where it doesn't tell, it has.
-pub fn has_image<R: Files>(rt: &R, disk: u16) -> bool {
+pub(crate) fn has_image<R: Files>(rt: &R, disk: u16) -> bool {
     match fs::exists(rt, image_name(disk).as_str()) {
         Ok(there) => there,
         Err(_) => true,
@@ -97,7 +97,7 @@ impl<F: Read + Write + Seek + OpenFile + Exclusive + Drop> Image<F> {
     /// The image of a disk, which is this program's alone from now on. It has the whole sectors of the
     /// file. A file that can't be opened for writing is opened for reading alone. Where another program
     /// holds the file, the error is of the kind `WouldBlock`. No clause says which file it is.
-    pub fn open<R: Files<File = F>>(rt: &R, disk: u16) -> io::Result<Image<F>> {
+    pub(crate) fn open<R: Files<File = F>>(rt: &R, disk: u16) -> io::Result<Image<F>> {
         let (file, bytes) = open_file(rt, image_name(disk).as_str())?;
         Ok(Image {
             file: Some(file),

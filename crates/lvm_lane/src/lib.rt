@@ -10,7 +10,7 @@ mod shelf;
 mod sink;
 
 pub use exclusive::Exclusive;
-pub use image::{Image, ImageFault, has_image};
+pub use image::{Image, ImageFault};
 pub use name::image_name;
 pub use read_buffer::ReadBuffer;
 pub use shelf::FileShelf;

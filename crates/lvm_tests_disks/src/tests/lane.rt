@@ -194,8 +194,10 @@ fn see_case<S: Shelf>(rt: &(impl Abort + AllocGlobal), case: &Case, trial: &Tria
 }
 
 fn is_left(trial: &Trial, file: &[(u64, u32, u64)]) -> bool {
-    file.iter()
-        .all(|(first, count, word)| trial.holds(*first, *count, *word))
+    file.iter().all(|(first, count, word)| {
+        let is = trial.holds(*first, *count, *word);
+        is && !trial.holds(*first, *count, word.wrapping_add(1))
+    })
 }
 
 // What goes wrong while the trial system's file is opened, the room of the sink, the sectors that disk 1 has
@@ -322,6 +324,7 @@ fn see_bytes(rt: &(impl Abort + Files + AllocGlobal)) {
     check(rt, bytes.len() == 300 * 512 + 100, "the length");
     check(rt, at == Some(18 * 512 + 6), "the first byte");
     check(rt, are_filled(&bytes, 18, 256, 5000), "the words");
+    check(rt, !are_filled(&bytes, 18, 256, 5001), "no others");
 }
 
 fn len_of(rt: &(impl Abort + Files)) -> u64 {

@@ -1,6 +1,6 @@
 //! What the tests share: a driver over three disks in memory, on the first of which a volume has its copies, and what
 //! they ask of it.
-ghost use Rattle.std.specs.Prelude.{◌≡◌, ◌≤◌, ◌<◌, ◌+◌, ◌*◌, ◌^◌, true, false, [], ◌∷◌};
+ghost use Rattle.std.specs.Prelude.{◌≡◌, ◌≤◌, ◌<◌, ◌+◌, ◌*◌, ◌^◌, true, false, [], ◌∷◌, IsTrue};
 ghost use Rattle.lvm_num.specs.Descriptor.{IsValid};
 ghost use Rattle.lvm_num.specs.Status.{IsValidStatus};
 ghost use Rattle.lvm_num.specs.Votes.{is_enough_to_write, total_votes};
@@ -32,7 +32,9 @@ use lvm_transfer::Patience;
 use std::process::Abort;
 
 /// Ends the test where this isn't so, and says of what.
-pub fn check(rt: &impl Abort, is: bool, what: &str) {
+pub fn check(rt: &impl Abort, is: bool, what: &str)
+    ensures { IsTrue is }
+{
     assert!(rt; is, "{what}");
 }
 

@@ -1,4 +1,5 @@
 //! What the tests share: what stands on disks in memory, and groups that begin there.
+ghost use Rattle.std.specs.Prelude.{IsTrue};
 use crate::tests::disks::{self, all_disks, has_room, survey};
 use crate::tests::members::{first_homes, status};
 use lvm_disk::Shelf;
@@ -11,7 +12,9 @@ use lvm_write::{Begun, begin_again, begin_new, homes_of};
 use std::process::Abort;
 
 /// Ends the test where this isn't so, and says of what.
-pub fn check(rt: &impl Abort, is: bool, what: &str) {
+pub fn check(rt: &impl Abort, is: bool, what: &str)
+    ensures { IsTrue is }
+{
     assert!(rt; is, "{what}");
 }
 

@@ -1,8 +1,11 @@
 //! How the tests check.
+ghost use Rattle.std.specs.Prelude.{IsTrue};
 
 use std::process::Abort;
 
 /// Ends the test where this isn't so, and says of what.
-pub fn check(rt: &impl Abort, is: bool, what: &str) {
+pub fn check(rt: &impl Abort, is: bool, what: &str)
+    ensures { IsTrue is }
+{
     assert!(rt; is, "{what}");
 }

@@ -11,6 +11,8 @@ pub fn check(rt: &impl Abort, is: bool, what: &str)
 }
 
 /// The same, with a place or a count.
-pub fn check_at(rt: &impl Abort, is: bool, what: &str, at: usize) {
+pub fn check_at(rt: &impl Abort, is: bool, what: &str, at: usize)
+    ensures { IsTrue is }
+{
     assert!(rt; is, "{what} {at}");
 }

@@ -1,4 +1,5 @@
 // Sources, sinks and words for a run, and what is wanted of it.
+ghost use Rattle.std.specs.Prelude.{IsTrue};
 ghost use Rattle.lvm_disk.specs.Device.{IsReady};
 ghost use Rattle.lvm_memory.specs.Memory.{device_of};
 
@@ -10,7 +11,9 @@ use lvm_program::{Ended, run_words};
 use std::process::Abort;
 
 /// Ends the test where this isn't so, and says of what.
-pub fn check(rt: &impl Abort, is: bool, what: &str) {
+pub fn check(rt: &impl Abort, is: bool, what: &str)
+    ensures { IsTrue is }
+{
     assert!(rt; is, "{what}");
 }
 
