@@ -1,5 +1,6 @@
 //! What the tests share: what stands on disks in memory, and groups that begin there.
 ghost use Rattle.std.specs.Prelude.{IsTrue};
+
 use crate::tests::disks::{self, all_disks, has_room, survey};
 use crate::tests::members::{first_homes, status};
 use lvm_disk::Shelf;

@@ -1,5 +1,6 @@
 //! What ends a test.
 ghost use Rattle.std.specs.Prelude.{IsTrue};
+
 use std::process::Abort;
 
 /// Ends the test where this isn't so, and says of what.
