@@ -1,3 +1,4 @@
 pub mod passed
 pub mod SeenLemmas
 pub mod RowsLemmas
+pub mod ToldLemmas

@@ -1,4 +1,5 @@
 pub mod passed
 pub mod Rows
 pub mod Seen
+pub mod Told
 pub mod Fitting

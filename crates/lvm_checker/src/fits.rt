@@ -7,8 +7,9 @@ ghost use Rattle.lvm_checker.specs.declared.row.Row.TheVariants.{Landed};
 ghost use Rattle.lvm_vol.specs.Log.{is_got};
 ghost use Rattle.lvm_checker.specs.Fitting.{is_beginning, is_begin, is_earlier_on, is_bounded, is_kind};
 
+use crate::recent::may_have;
 use crate::row::{Ask, Row};
-use crate::values::{Block, ask_or_none, is_allowed};
+use crate::values::{Block, ask_or_none};
 use lvm_vol::Outcome;
 
 /// Whether the request of this number has landed.
@@ -83,7 +84,7 @@ fn may_get(before: &[Row], id: u64, asks: &[Ask], blocks: &[[u8; 512]]) -> bool
             vol: ask.vol,
             number: ask.at + u64::from(k),
         };
-        if !is_allowed(before, asks, blocks, block, &blocks[place]) {
+        if !may_have(before, asks, blocks, block, &blocks[place]) {
             return false;
         }
     }

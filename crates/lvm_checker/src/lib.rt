@@ -4,9 +4,11 @@
 
 pub mod below;
 mod fits;
+mod recent;
 mod row;
 mod values;
 
 pub use fits::{has_landed, is_legal, is_taken};
+pub use recent::may_have;
 pub use row::{Ask, Row};
 pub use values::{Block, is_allowed};

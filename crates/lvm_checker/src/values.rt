@@ -10,7 +10,7 @@ ghost use Rattle.lvm_vol.specs.passed.Names.{zero_sector};
 ghost use Rattle.lvm_vol.specs.Facts.{block_of};
 ghost use Rattle.lvm_vol.specs.May.{is_off, known, May};
 ghost use Rattle.lvm_checker.specs.Rows.{ask_of, blocks_at, facts_of};
-ghost use Rattle.lvm_checker.specs.Seen.{is_over_ask, is_ending, is_opening, id_of, is_any_open, row_source, origin_of, seen_ended, seen_read, seen_step};
+ghost use Rattle.lvm_checker.specs.Seen.{is_over_ask, is_ending, is_opening, id_of, is_any_open, row_source, origin_of, seen_of, seen_ended, seen_read, seen_step};
 
 use crate::row::{Ask, Row};
 use lvm_vol::below::Mode;
@@ -65,14 +65,14 @@ pub fn ask_or_none(asks: &[Ask], id: u64) -> Ask
 }
 
 /// Whether the request is over the block of the volume.
-fn is_over(ask: &Ask, block: Block) -> bool
+pub(crate) fn is_over(ask: &Ask, block: Block) -> bool
     ensures { result ≡ is_over_ask ask.now block.vol block.number }
 {
     ask.vol == block.vol && ask.at <= block.number && block.number - ask.at < u64::from(ask.count)
 }
 
 /// Whether the request brings this value to the block, or has got it there.
-fn brings(ask: &Ask, blocks: &[[u8; 512]], block: Block, value: &[u8; 512]) -> bool
+pub(crate) fn brings(ask: &Ask, blocks: &[[u8; 512]], block: Block, value: &[u8; 512]) -> bool
     requires { is_over_ask ask.now block.vol block.number ≡ true }
     ensures { result ≡ bytes_eq (block_of (blocks_at blocks.now ask.now) ask.now.at block.number) value.now }
 {
@@ -140,7 +140,7 @@ fn id_of(row: &Row) -> u64
 }
 
 /// Whether one of the writes that are looked for is open at the block after the rows.
-fn is_open_after(
+pub(crate) fn is_open_after(
     rows: &[Row],
     asks: &[Ask],
     blocks: &[[u8; 512]],
@@ -161,7 +161,7 @@ fn is_open_after(
 }
 
 /// Of which volume the block's value was before the row.
-fn source_of(row: &Row, vol: Vol) -> Vol
+pub(crate) fn source_of(row: &Row, vol: Vol) -> Vol
     ensures { result ≡ row_source row.now vol }
 {
     match *row {
@@ -220,13 +220,13 @@ fn after_read(seen: Seen, outcome: Outcome, same: bool) -> Seen
     }
 }
 
-fn is_zeros(value: &[u8; 512]) -> bool
+pub(crate) fn is_zeros(value: &[u8; 512]) -> bool
     ensures { result ≡ bytes_eq zero_sector value.now }
 {
     [0; 512].as_slice() == value.as_slice()
 }
 
-fn is_off(mode: Mode) -> bool
+pub(crate) fn is_off(mode: Mode) -> bool
     ensures { result ≡ is_off mode }
 {
     matches!(mode, Mode::Off)
@@ -298,17 +298,16 @@ fn followed(here: Vol, row: &Row, rest: &[Row], vol: Vol) -> Vol
     }
 }
 
-/// Whether the block of the volume may have the value after the rows: its values are unknown, or this
-/// is one of them.
-pub fn is_allowed(
+/// What is seen of the block of the volume after the rows.
+pub(crate) fn seen_after(
     rows: &[Row],
     asks: &[Ask],
     blocks: &[[u8; 512]],
     block: Block,
     value: &[u8; 512],
-) -> bool
+) -> Seen
     ensures { (run : ℕ) → let facts = facts_of run asks.now blocks.now rows.now in
-        IsTrue result ↔ May (known facts block.vol block.number) value.now }
+        result ≡ seen_of (known facts block.vol block.number) value.now }
 {
     let mut here = origin(rows, block.vol);
     let mut seen = Seen {
@@ -325,7 +324,22 @@ pub fn is_allowed(
         };
         seen = after_row(seen, &rows[..k], row, asks, blocks, there, value);
     }
-    allows(seen)
+    seen
+}
+
+/// The same as `may_have`, row by row from the first to the last, as the values are defined. Slow: what the other is
+/// compared with.
+pub fn is_allowed(
+    rows: &[Row],
+    asks: &[Ask],
+    blocks: &[[u8; 512]],
+    block: Block,
+    value: &[u8; 512],
+) -> bool
+    ensures { (run : ℕ) → let facts = facts_of run asks.now blocks.now rows.now in
+        IsTrue result ↔ May (known facts block.vol block.number) value.now }
+{
+    allows(seen_after(rows, asks, blocks, block, value))
 }
 
 fn allows(seen: Seen) -> bool

@@ -1,3 +1,4 @@
 pub mod Found
 pub mod Statuses
+pub mod Shown
 pub mod Committed

@@ -11,3 +11,4 @@ pub mod Counting
 pub mod UpdateLemmas
 pub mod RecordLemmas
 pub mod SettlingLemmas
+pub mod HoldingRoundsLemmas

@@ -11,14 +11,13 @@ use Rattle.lvm_vol.specs.Facts.{Fact}
 use Rattle.lvm_disk.specs.Device.{Device, image_of}
 use Rattle.lvm_disk.specs.Paths.{DeviceStep, Path}
 use Rattle.lvm_kept.specs.Contents.{Contents, contents_of}
-use Rattle.lvm_kept.specs.Group.{IsFound, status_by, Reads}
+use Rattle.lvm_kept.specs.Group.{Finds, IsFound, status_by, Reads}
 use Rattle.lvm_kept.specs.Committed.{IsWithinDisks}
 use Rattle.lvm_kept.specs.Kept.{Kept}
 use Rattle.lvm_kept.specs.Torn.{RecordWrite, MayWriteAll, written as as_read, StatusesChange, DescriptorsChange, Alone}
 use Rattle.lvm_steps.specs.Moments.{StaysKept}
 use Rattle.lvm_steps.specs.Making.{IsWritten}
-use Rattle.lvm_steps.specs.VaryingOn.{HasNewest}
-use Rattle.lvm_commit.specs.Committed.{IsAlike, MayMark, Began, ShowsCommitted}
+use Rattle.lvm_commit.specs.Committed.{IsAlike, MayMark, ShowsCommitted}
 
 -- ---- what is found
 
@@ -35,9 +34,10 @@ CommittedStatusIsRead = (c : Contents) (group : Descriptor) (status : Status) (t
 
 -- ---- how a session begins
 
--- So a session may begin with disks that have the group's newest descriptor.
-abbrev pub NewestIsBeginning : Type 0
-NewestIsBeginning = (c : Contents) (group : Descriptor) (disks : Disks) (newest : Stamped Descriptor) → HasNewest c group disks newest → Began c group disks
+-- Where all that is shown of the group is this descriptor, as of a new one, nothing else is found. (Of one that is varied on `OnlyNewestIsFound` says so.)
+abbrev pub ShownIsOnly : Type 0
+ShownIsOnly = (c : Contents) (group : Descriptor) → ((d : ℕ) (r : Stamped Descriptor) → c.descriptor d ≡ Some r → r.value.id ≡ group.id → r.value ≡ group)
+    → (disks : Disks) (k : Descriptor) → Finds c disks group.id k → k ≡ group
 
 -- ---- the next status
 

@@ -1,5 +1,5 @@
 -- What a session's disks show of a volume that is being made or removed.
-use Rattle.std.specs.Prelude.{◌≡◌, ℕ, ◌<◌, ◌++◌, ◌∷◌, [], List, None, IsTrue, IsFalse, is_some}
+use Rattle.std.specs.Prelude.{◌≡◌, ℕ, ◌<◌, ◌==◌, Bool, ◌++◌, ◌∷◌, [], List, None, IsTrue, IsFalse, is_some}
 use Rattle.lvm_num.specs.declared.place.Pp.{Pp}
 use Rattle.lvm_num.specs.declared.record.Stamp.{Stamp}
 use Rattle.lvm_num.specs.declared.descriptor.Mode.{Mode}
@@ -13,13 +13,13 @@ use Rattle.lvm_num.specs.Record.{Stamped}
 use Rattle.lvm_num.specs.Status.{calls_stale}
 use Rattle.lvm_num.specs.Votes.{all_disks, CanWrite}
 use Rattle.lvm_vol.specs.declared.entry.Vol.TheVariants.{Lv}
-use Rattle.lvm_vol.specs.Facts.{Fact, Making, Made, Removed, Cut}
+use Rattle.lvm_vol.specs.Facts.{Fact, Making, Made, Split, Removed, Cut}
 use Rattle.lvm_vol.specs.May.{known, IsValue}
 use Rattle.lvm_vol.specs.Standing.{Open, volumes_in}
 use Rattle.lvm_disk.specs.Device.{Image, Flight, Device, image_of, MayLeave, IsWholeImage}
 use Rattle.lvm_disk.specs.Steps.{BothTold}
 use Rattle.lvm_kept.specs.Contents.{Contents, contents_of}
-use Rattle.lvm_kept.specs.Group.{Finds, IsFound, IsOneByAll, block_at, IsBlockOf, IsOneOf}
+use Rattle.lvm_kept.specs.Group.{Finds, IsFound, IsOneFound, block_at, IsBlockOf, IsOneOf}
 pub use Rattle.lvm_kept.specs.Group.{IsOnlyGroup}
 use Rattle.lvm_kept.specs.Committed.{IsWithinDisks}
 use Rattle.lvm_kept.specs.Kept.{StandsAs, Kept}
@@ -29,7 +29,8 @@ use Rattle.lvm_kept.specs.Raw.{OnlyAdds}
 use Rattle.lvm_kept.specs.Torn.{DescriptorsChange}
 use Rattle.lvm_steps.specs.Moments.{Begins, Keeps}
 use Rattle.lvm_steps.specs.Requests.{IsOfData, at}
-use Rattle.lvm_steps.specs.Committing.{DiffersInVolume, IsServed, MayCommit}
+use Rattle.lvm_steps.specs.Committing.{DiffersInVolume, IsServed}
+use Rattle.lvm_parting.specs.Among.{DiffersAmong, MayCommitAmong}
 use Rattle.lvm_steps.specs.VolumeEntries.{AreZeros}
 use Rattle.lvm_rec.specs.declared.homes.Homes.{Homes}
 use Rattle.lvm_steps.specs.Laws.{IsNoLater, ShowsBefore}
@@ -50,11 +51,21 @@ pub record VolumeServes (c : Contents) (facts : List Fact) (group : Descriptor) 
   pub stands : StandsAs group.mib (volumes_in facts lv).standing (volumes_in facts lv).shape (volume_of next lv)
   pub served : (row : LvRow) → IsOneOf next.lvs row → row.number ≡ lv → IsServed c facts group row
 
+-- So it is asked where it differs by several, of each of them.
+pub record VolumesServe (c : Contents) (facts : List Fact) (group : Descriptor) (among : ℕ → Bool) (next : Descriptor) : Type 0 where
+  pub differs : DiffersAmong among group next
+  pub stands : (lv : ℕ) → IsTrue (among lv) → StandsAs group.mib (volumes_in facts lv).standing (volumes_in facts lv).shape (volume_of next lv)
+  pub served : (row : LvRow) → IsOneOf next.lvs row → IsTrue (among row.number) → IsServed c facts group row
+
+-- One is several.
+abbrev pub OneServes : Type 0
+OneServes = (c : Contents) (facts : List Fact) (group : Descriptor) (lv : ℕ) (next : Descriptor) → VolumeServes c facts group lv next → VolumesServe c facts group (λ n. n == lv) next
+
 -- Then it may be, since the disks show what is committed.
 abbrev pub CommittedMayCommit : Type 0
-CommittedMayCommit = (c : Contents) (group : Descriptor) (status : Status) (there targets : Disks) (facts : List Fact) (lv : ℕ) (next : Stamped Descriptor)
-    → ShowsCommitted c group status there → ((d : ℕ) → IsTrue (targets d) → IsTrue (there d)) → IsLaterDescriptor c group next → VolumeServes c facts group lv next.value
-    → MayCommit c facts group lv targets next
+CommittedMayCommit = (c : Contents) (group : Descriptor) (status : Status) (there targets : Disks) (facts : List Fact) (among : ℕ → Bool) (next : Stamped Descriptor)
+    → ShowsCommitted c group status there → ((d : ℕ) → IsTrue (targets d) → IsTrue (there d)) → IsLaterDescriptor c group next → VolumesServe c facts group among next.value
+    → MayCommitAmong c facts group among targets next
 
 -- each logical partition of the volume has a copy on a member that isn't missing, which the status doesn't call stale
 abbrev pub HasFreshCopies : Status → Disks → LvRow → Type 0
@@ -100,18 +111,18 @@ abbrev pub OnlyGroupStaysOn : Type 0
 OnlyGroupStaysOn = (id : ℕ) (old new : Device)
     → new.flights ≡ [] → BothTold old.media new.media (λ was is. LeavesOthers (contents_of (image_of old.sizes was)) (contents_of (image_of new.sizes is)) id) → IsOnlyGroupOn old id → IsOnlyGroupOn new id
 
--- on no crash image have two groups a quorum among all disks
-abbrev pub IsOneByAllOn : Device → Type 0
-IsOneByAllOn device = (image : Image) → MayLeave device image → IsOneByAll (contents_of image)
+-- on each crash image whatever sets of disks find is of one group
+abbrev pub IsOneFoundOn : Device → Type 0
+IsOneFoundOn device = (image : Image) → MayLeave device image → IsOneFound (contents_of image)
 
 -- by whatever was told before a span, no crash image finds another group
 abbrev pub IsOnlyGroupSince : ℕ → Moment → Device → ℕ → Type 0
 IsOnlyGroupSince run first device id = (past : List Fact) → Begins run past first → IsOnlyGroupOn device id
 
 -- The first is enough for the second at the end of a span, where each crash image finds the group.
-abbrev pub OneByAllIsOnlySince : Type 0
-OneByAllIsOnlySince = (run : ℕ) (first : Moment) (device : Device) (facts : List Fact) (group : Descriptor)
-    → Keeps run first (at device facts) → ((image : Image) → MayLeave device image → Finds (contents_of image) all_disks group.id group) → IsOneByAllOn device
+abbrev pub OneFoundIsOnlySince : Type 0
+OneFoundIsOnlySince = (run : ℕ) (first : Moment) (device : Device) (facts : List Fact) (group : Descriptor)
+    → Keeps run first (at device facts) → ((image : Image) → MayLeave device image → Finds (contents_of image) all_disks group.id group) → IsOneFoundOn device
     → IsOnlyGroupSince run first device group.id
 
 -- A volume that the committed descriptor names is found by all,
@@ -134,6 +145,12 @@ abbrev pub VolumeBeginsInSession : Type 0
 VolumeBeginsInSession = (run : ℕ) (first : Moment) (device : Device) (facts : List Fact) (group : Descriptor) (status : Status) (there : Disks) (lv blocks : ℕ) (mode : Mode)
     → Keeps run first (at device facts) → CanWrite group there → LeavesCommitted run first device group status there → volume_of group lv ≡ None
     → Keeps run first (at device (facts ++ Making lv blocks mode ∷ []))
+
+-- or copies of one that is named may be about to become it,
+abbrev pub VolumeSplitsInSession : Type 0
+VolumeSplitsInSession = (run : ℕ) (first : Moment) (device : Device) (facts : List Fact) (group : Descriptor) (status : Status) (there : Disks) (from lv : ℕ)
+    → Keeps run first (at device facts) → CanWrite group there → LeavesCommitted run first device group status there → volume_of group lv ≡ None
+    → Keeps run first (at device (facts ++ Split from lv ∷ []))
 
 -- is made once it is named,
 abbrev pub VolumeIsMadeInSession : Type 0

@@ -1,5 +1,5 @@
 -- What the disks of a session hold once a record of it stands, and that it may be written.
-use Rattle.std.specs.Prelude.{◌≡◌, ℕ, List, Ok, IsTrue}
+use Rattle.std.specs.Prelude.{◌≡◌, ℕ, Bool, List, Ok, IsTrue}
 use Rattle.lvm_num.specs.declared.record.Kind.TheVariants as kind
 use Rattle.lvm_num.specs.declared.record.Stamp.{Stamp}
 use Rattle.lvm_num.specs.declared.record.Framed.{Framed}
@@ -21,7 +21,7 @@ use Rattle.lvm_rec.specs.Homes.{Flips}
 use Rattle.lvm_write.specs.Written.{write_of}
 use Rattle.lvm_steps.specs.Laws.{IsNoLater}
 use Rattle.lvm_commit.specs.Committed.{next_stamp, IsAlike, MayMark, HoldsCommitted}
-use Rattle.lvm_commit.specs.LawsOfVolumes.{VolumeServes, LeavesOthers}
+use Rattle.lvm_commit.specs.LawsOfVolumes.{VolumesServe, LeavesOthers}
 
 -- ---- before it is written
 
@@ -45,10 +45,10 @@ StatusWriteKeeps = (group : Descriptor) (status next : Status) (there : Disks) (
     → IsWholeImage old → CanWrite group there → HoldsCommitted old group status there stamp homes → Frames kind.Status framed → status_of framed.content ≡ Ok next → next.id ≡ group.id → MayMark (contents_of old) group status next
     → IsNoLater (next_stamp stamp) framed.stamp → ChangesBy (IsOfRecord (write_of kind.Status framed there homes)) old new → Kept (contents_of old) facts → Kept (contents_of new) facts
 
--- and so it is of a descriptor that the history lets differ from the group by one volume.
+-- and so it is of a descriptor that the history lets differ from the group by some volumes.
 abbrev pub DescriptorWriteKeeps : Type 0
-DescriptorWriteKeeps = (group next : Descriptor) (lv : ℕ) (status : Status) (there : Disks) (stamp : Stamp) (homes : Homes) (framed : Framed) (old new : Image) (facts : List Fact)
-    → IsWholeImage old → HoldsCommitted old group status there stamp homes → Frames kind.Descriptor framed → descriptor_of framed.content ≡ Ok next → VolumeServes (contents_of old) facts group lv next
+DescriptorWriteKeeps = (group next : Descriptor) (among : ℕ → Bool) (status : Status) (there : Disks) (stamp : Stamp) (homes : Homes) (framed : Framed) (old new : Image) (facts : List Fact)
+    → IsWholeImage old → HoldsCommitted old group status there stamp homes → Frames kind.Descriptor framed → descriptor_of framed.content ≡ Ok next → VolumesServe (contents_of old) facts group among next
     → IsNoLater (next_stamp stamp) framed.stamp → ChangesBy (IsOfRecord (write_of kind.Descriptor framed there homes)) old new → Kept (contents_of old) facts → Kept (contents_of new) facts
 
 -- ---- once it stands

@@ -61,6 +61,12 @@ CommitsRound next first last (commit_end.WentOff have total buf) = last.committe
 CommitsRound next first last commit_end.Dark = last.committed ≡ first.committed
 CommitsRound next first last commit_end.Stuck = last.committed ≡ first.committed
 
+-- What is in flight behind one record is what was wanted, and what is committed that or what was; and what was wanted stale is.
+pub record HoldsRound (first last : Stored) : Type 0 where
+  pub in_flight : (last.in_flight ≡ Some first.wanted) ⊎ (last.in_flight ≡ None)
+  pub committed : (last.committed ≡ first.committed) ⊎ (last.committed ≡ first.wanted)
+  pub stale : (p : Pp) → calls_stale first.wanted p ≡ true → calls_stale last.wanted p ≡ true
+
 -- what is wanted is in flight, and no write of it has started
 pub record IsInFlight (u : Stored) : Type 0 where
   pub flies : u.in_flight ≡ Some u.wanted
@@ -84,6 +90,7 @@ pub record HasEnded (failed : Disks) (first last : Stored) : Type 0 where
   pub wanted : Misses (λ d. there first d && failed d) first.wanted last.wanted
   pub committed : CanWrite last.group (there last) → (last.in_flight ≡ None) × (last.committed ≡ first.wanted)
   pub short : IsFalse (is_enough_to_write last.group (votes_in last.group (there last))) → last.committed ≡ first.committed
+  pub flown : (last.in_flight ≡ Some first.wanted) ⊎ (last.in_flight ≡ None)
   pub forgotten : IsForgotten last
 
 -- the disks are wanted missing

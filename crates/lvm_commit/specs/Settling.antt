@@ -1,5 +1,5 @@
 -- How a session commits its records: what a commit needs, what it writes, and what it leaves.
-use Rattle.std.specs.Prelude.{◌≡◌, ◌⊎◌, ◌≢◌, ℕ, ◌+◌, ◌^◌, ◌<◌, ◌≤◌, false, not, List, [], length, None, Ok, IsTrue, IsFalse, IfSome, count_by}
+use Rattle.std.specs.Prelude.{◌≡◌, ◌⊎◌, ◌≢◌, ℕ, ◌+◌, ◌^◌, ◌<◌, ◌≤◌, false, not, List, [], length, None, Ok, IsTrue, IsFalse, IfSome, count_by, ◌||◌, Bool, true, unwrap_or}
 use Rattle.lvm_num.specs.declared.record.Kind.{Kind}
 use Rattle.lvm_num.specs.declared.record.Kind.TheVariants as kind
 use Rattle.lvm_num.specs.declared.place.Pp.{Pp}
@@ -35,7 +35,7 @@ use Rattle.lvm_write.specs.Written.{write_of, HaveRoom, KeepsShelf, StandsTold, 
 use Rattle.lvm_commit.specs.declared.commit.CommitEnd.{CommitEnd}
 use Rattle.lvm_commit.specs.declared.commit.CommitEnd.TheVariants as commit_end
 use Rattle.lvm_commit.specs.Committed.{next_stamp, IsAlike, MayMark, HoldsCommitted}
-use Rattle.lvm_commit.specs.LawsOfVolumes.{VolumeServes, LeavesOthers}
+use Rattle.lvm_commit.specs.LawsOfVolumes.{VolumesServe, LeavesOthers}
 use Rattle.lvm_commit.specs.LawsOfFinding.{FindsNothingNewOn, FindsNoMoreOn}
 
 -- ---- the answers
@@ -223,11 +223,11 @@ WantsMarks device group u = IfSome device.media (λ media. MayMark (contents_of 
 abbrev pub StatusStaysKept : Descriptor → Stored → Homes → Device → Device → Type 0
 StatusStaysKept group first homes old new = Path DeviceStep (λ d. WantsMarks old group first → SessionIsHeld old group first homes → StaysKept old d) old new
 
--- So it is while the next descriptor is committed, which the history lets differ from the group by one volume.
+-- So it is while the next descriptor is committed, which the history lets differ from the group by some volumes.
 abbrev pub DescriptorStaysKept : List ℕ → Stored → Homes → Device → Device → Type 0
 DescriptorStaysKept content first homes old new = Path DeviceStep
-    (λ d. (group next : Descriptor) (lv : ℕ) (facts : List Fact) → descriptor_of content ≡ Ok next → IsOf group first → SessionIsHeld old group first homes
-    → IfSome old.media (λ media. VolumeServes (contents_of (image_of old.sizes media)) facts group lv next) → ImagesKept old facts → ImagesKept d facts)
+    (λ d. (group next : Descriptor) (among : ℕ → Bool) (facts : List Fact) → descriptor_of content ≡ Ok next → IsOf group first → SessionIsHeld old group first homes
+    → IfSome old.media (λ media. VolumesServe (contents_of (image_of old.sizes media)) facts group among next) → ImagesKept old facts → ImagesKept d facts)
     old new
 
 -- ---- what is found
@@ -248,7 +248,7 @@ OthersAreLeft id old new = BothTold old.media new.media (λ was is. LeavesOthers
 -- Where the disks held what was committed, they hold what now is, and other groups are left as they were: of the same group,
 abbrev pub StaysHeld : Stored → Stored → Homes → Homes → Device → Device → Type 0
 StaysHeld first last homes_old homes_new old new =
-    (group : Descriptor) → IsOf group first → WantsMarks old group first → SessionIsHeld old group first homes_old → SessionIsHeld new group last homes_new × OthersAreLeft group.id old new
+    (group : Descriptor) → IsOf group first → SessionIsHeld old group first homes_old → SessionIsHeld new group last homes_new × OthersAreLeft group.id old new
 
 -- or of the next one, which differs from it in its volumes alone.
 abbrev pub ComesHeld : List ℕ → Stored → Stored → Homes → Homes → Device → Device → Type 0
@@ -275,6 +275,14 @@ pub record WasCommitted (first : Stored) (status : Status) (below : ℕ) (old ne
 -- What was committed still is, or what a record of the call before its last one committed.
 abbrev pub StaysCommitted : Stored → Stored → Device → Device → Type 0
 StaysCommitted first last old new = (last.committed ≡ first.committed) ⊎ WasCommitted first last.committed last.stamp.seq old new
+
+-- what is committed or in flight calls it stale
+abbrev pub is_held_so : Stored → Pp → Bool
+is_held_so u p = calls_stale u.committed p || calls_stale (unwrap_or u.in_flight u.committed) p
+
+-- Neither calls a further partition stale that isn't wanted stale.
+abbrev pub HoldsWithin : Stored → Stored → Type 0
+HoldsWithin first last = (p : Pp) → is_held_so last p ≡ true → (is_held_so first p ≡ true) ⊎ (calls_stale last.wanted p ≡ true)
 
 -- ---- what a commit leaves, and how it ends
 

@@ -2,7 +2,7 @@
 ghost use Rattle.std.specs.Prelude.{◌≡◌, ◌≤◌, length};
 ghost use Rattle.lvm_num.specs.declared.record.Kind.TheVariants as kind;
 ghost use Rattle.lvm_num.specs.Record.{longest_content};
-ghost use Rattle.lvm_commit.specs.Settling.{EndsAtOnce, MayCommit, IsContentOf, IsOfStatus, IsOfCommit, StatusStaysKept, DescriptorStaysKept, StatusFindsNothingNew, CommitFindsNoMore, CommitLeaves, StatusEnds, DescriptorEnds};
+ghost use Rattle.lvm_commit.specs.Settling.{EndsAtOnce, HoldsWithin, MayCommit, IsContentOf, IsOfStatus, IsOfCommit, StatusStaysKept, DescriptorStaysKept, StatusFindsNothingNew, CommitFindsNoMore, CommitLeaves, StatusEnds, DescriptorEnds};
 
 use crate::write::{is_committed, write_descriptor, write_wanted};
 use lvm_disk::Shelf;
@@ -45,6 +45,7 @@ pub fn commit_status<S: Shelf>(
     ensures leaves { CommitLeaves d.now (IsOfStatus updater.old updater.new) patience.old.left patience.new.left updater.old updater.new (S.device shelf.old) (S.device shelf.new) }
     ensures finds { StatusFindsNothingNew updater.old homes.old (S.device shelf.old) (S.device shelf.new) }
     ensures kept { StatusStaysKept d.now updater.old homes.old (S.device shelf.old) (S.device shelf.new) }
+    ensures held { HoldsWithin updater.old updater.new }
 {
     let mut buf = buf;
     while !is_committed(updater) {
@@ -79,6 +80,7 @@ pub fn commit_descriptor<S: Shelf>(
     ensures leaves { CommitLeaves d.now (IsOfCommit content.now updater.old updater.new) patience.old.left patience.new.left updater.old updater.new (S.device shelf.old) (S.device shelf.new) }
     ensures finds { CommitFindsNoMore content.now updater.old homes.old (S.device shelf.old) (S.device shelf.new) }
     ensures kept { DescriptorStaysKept content.now updater.old homes.old (S.device shelf.old) (S.device shelf.new) }
+    ensures held { HoldsWithin updater.old updater.new }
 {
     match write_descriptor(shelf, d, updater, homes, content, buf, patience) {
         CommitEnd::Done { buf } => commit_status(shelf, d, updater, homes, bytes, buf, patience),

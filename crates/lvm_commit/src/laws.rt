@@ -1,7 +1,7 @@
 //! Laws of the commits of a session. Each call does nothing: its contract is the law.
-ghost use Rattle.lvm_commit.specs.Laws.{OnlyCommittedIsFound, CommittedStatusIsRead, NewestIsBeginning, StatusFollows, StatusGoesOn, StatusIsCommitted, DescriptorIsCommitted};
+ghost use Rattle.lvm_commit.specs.Laws.{OnlyCommittedIsFound, CommittedStatusIsRead, ShownIsOnly, StatusFollows, StatusGoesOn, StatusIsCommitted, DescriptorIsCommitted};
 ghost use Rattle.lvm_commit.specs.LawsOfData.{FreeDataKeeps, FreeDataGoesOn, DataKeepsCommitted, StillHoldsCommitted, TransferHoldsCommitted};
-ghost use Rattle.lvm_commit.specs.LawsOfVolumes.{NextIsLater, CommittedMayCommit, ZerosAreFound, DescriptorLeavesOthers, RestLeavesOthers, OnlyGroupStays, OnlyGroupStaysByData, OnlyGroupStaysOn, OneByAllIsOnlySince, NamedIsFound, UnnamedIsNotFound, VolumeBeginsInSession, VolumeIsMadeInSession, VolumeIsGoneInSession};
+ghost use Rattle.lvm_commit.specs.LawsOfVolumes.{NextIsLater, OneServes, CommittedMayCommit, ZerosAreFound, DescriptorLeavesOthers, RestLeavesOthers, OnlyGroupStays, OnlyGroupStaysByData, OnlyGroupStaysOn, OneFoundIsOnlySince, NamedIsFound, UnnamedIsNotFound, VolumeBeginsInSession, VolumeSplitsInSession, VolumeIsMadeInSession, VolumeIsGoneInSession};
 ghost use Rattle.lvm_commit.specs.LawsOfFinding.{DescriptorFindsNoMore, RestFindsNothingNew, StatusWriteFindsNothingNew, DescriptorWriteFindsNoMore, TransferFindsNothingNew};
 ghost use Rattle.lvm_commit.specs.LawsOfWrites.{StatusMayGo, DescriptorMayGo, StatusWriteKeeps, DescriptorWriteKeeps, StatusIsHeld, DescriptorIsHeld, StatusWriteLeavesOthers, DescriptorWriteLeavesOthers};
 
@@ -11,9 +11,9 @@ pub fn committed_is_found()
     ensures status { CommittedStatusIsRead }
 {}
 
-/// A session begins with disks that have the newest descriptor of its group.
+/// Of a group of which all disks show one descriptor nothing else is found.
 pub fn session_begins()
-    ensures { NewestIsBeginning }
+    ensures { ShownIsOnly }
 {}
 
 /// The next status keeps the history, at each moment while it is written, and is committed once it is.
@@ -33,21 +33,21 @@ pub fn next_is_later()
     ensures { NextIsLater }
 {}
 
-/// The descriptor that names a new volume, or one no more, may be committed where the history says that the volume is being made or removed.
+/// The descriptor that names a new volume, or one no more, may be committed where the history says that the volume is being made or removed; and so may one in which several differ.
 pub fn volume_may_be_committed()
+    ensures one { OneServes }
     ensures descriptor { CommittedMayCommit }
     ensures zeros { ZerosAreFound }
 {}
 
-/// Nothing that a session writes makes another group found, so the only group stays the only one. It is the only one where it alone has a quorum among all
-/// disks, since of what is kept any disks find only what all find.
+/// Nothing that a session writes makes another group found, so the only group stays the only one. It is the only one where what is found is of one group.
 pub fn only_group_stays()
     ensures descriptor { DescriptorLeavesOthers }
     ensures rest { RestLeavesOthers }
     ensures only { OnlyGroupStays }
     ensures blocks { OnlyGroupStaysByData }
     ensures on { OnlyGroupStaysOn }
-    ensures since { OneByAllIsOnlySince }
+    ensures since { OneFoundIsOnlySince }
 {}
 
 /// Where no other group is found, a volume is found by all as soon as the committed descriptor names it, and by none where it doesn't.
@@ -59,6 +59,7 @@ pub fn volume_is_found()
 /// So are the entries of a volume parts of spans: it may be in the making, is made once it is named, and is gone once it isn't any more.
 pub fn entries_of_volumes_go_on()
     ensures begins { VolumeBeginsInSession }
+    ensures splits { VolumeSplitsInSession }
     ensures made { VolumeIsMadeInSession }
     ensures gone { VolumeIsGoneInSession }
 {}

@@ -13,7 +13,7 @@ ghost use Rattle.lvm_status.specs.Members.{HasItsRows};
 ghost use Rattle.lvm_write.specs.Written.{HaveRoom};
 ghost use Rattle.lvm_commit.specs.Committed.{next_stamp};
 ghost use Rattle.lvm_commit.specs.Settling.{MaySettle, IsOf, there};
-ghost use Rattle.lvm_commit.specs.Rounds.{IsInFlight, Starts, IsSent, HasEnded, HasLost, HasMarked, MarksRound, CommitsRound, IsByVotes, stamped, session_write, RecordGives};
+ghost use Rattle.lvm_commit.specs.Rounds.{IsInFlight, Starts, IsSent, HasEnded, HasLost, HasMarked, MarksRound, CommitsRound, HoldsRound, IsByVotes, stamped, session_write, RecordGives};
 
 use crate::commit::CommitEnd;
 use lvm_disk::Shelf;
@@ -44,6 +44,7 @@ pub fn write_wanted<S: Shelf>(
     ensures valid { IsValidStatus updater.old.wanted }
     ensures marks { MarksRound d.now updater.old updater.new }
     ensures committed { CommitsRound updater.old.wanted updater.old updater.new result }
+    ensures held { HoldsRound updater.old updater.new }
 {
     match send_wanted(shelf, updater, homes, bytes, buf, patience) {
         Wrote::Ended { failed, buf } => {
@@ -112,6 +113,7 @@ pub fn write_descriptor<S: Shelf>(
     ensures frames { Frames kind.Descriptor (record { stamp = next_stamp updater.old.stamp; content = content.now }) }
     ensures marks { MarksRound d.now updater.old updater.new }
     ensures committed { CommitsRound updater.old.committed updater.old updater.new result }
+    ensures held { HoldsRound updater.old updater.new }
 {
     match send_descriptor(shelf, d, updater, homes, content, buf, patience) {
         Wrote::Ended { failed, buf } => {

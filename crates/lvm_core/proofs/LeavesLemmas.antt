@@ -6,7 +6,7 @@ use Rattle.std.proofs.lemmas.List.Sums.{sum_by-append}
 use Rattle.lvm_num.specs.declared.place.Pp.{Pp}
 use Rattle.lvm_num.specs.declared.status.StatusRow.{StatusRow}
 use Rattle.lvm_num.specs.declared.descriptor.Descriptor.{Descriptor}
-use Rattle.lvm_num.specs.Status.{calls_stale, calls_missing}
+use Rattle.lvm_num.specs.Status.{calls_stale, calls_missing, calls_dirty}
 use Rattle.lvm_num.proofs.Booleans.{false_by}
 use Rattle.lvm_disk.specs.Device.{Media, Image, Device, image_of, MayLeave}
 use Rattle.lvm_disk.specs.Steps.{BothTold}
@@ -105,13 +105,13 @@ passed_behind N F a b group known stale p gone is = record {
 }
 
 -- where the status is the same
-pub same_status : (N : Descriptor → Type 0) (S F : Pp → Type 0) (a b : State) → b.core.status ≡ a.core.status → KeepsStatus N S F a b
-same_status N S F a b same = record {
+pub same_status : (N : Descriptor → Type 0) (S F : Pp → Type 0) (D : ℕ → Type 0) (a b : State) → b.core.status ≡ a.core.status → KeepsStatus N S F D a b
+same_status N S F D a b same = record {
   group = ap (λ (s : Stored). s.group) same;
   rows = record { id = ap (λ (s : Stored). s.wanted.id) same; big = ap (λ (s : Stored). s.wanted.big) same; disks = ap (λ (s : Stored). Rattle.std.specs.Prelude.map (λ (r : StatusRow). r.disk) s.wanted.rows) same };
   stale = λ p off is. subst (λ (s : Stored). IsTrue (calls_stale s.wanted p)) (sym same) is;
   further = λ p is. inl (subst (λ (s : Stored). IsTrue (calls_stale s.wanted p)) same is);
-  dirty = ap (λ (s : Stored). s.wanted.dirty) same;
+  dirty = λ lv out. ap (λ (s : Stored). calls_dirty s.wanted lv) same;
   stays = λ d is. subst (λ (s : Stored). IsTrue (calls_missing s.wanted d)) (sym same) is;
   lost = λ d is isnt. absurd (false≢true (sym isnt ∙ subst (λ (s : Stored). IsTrue (calls_missing s.wanted d)) same is));
 }

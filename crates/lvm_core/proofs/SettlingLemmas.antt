@@ -1,5 +1,5 @@
 -- A session may commit its records while nothing is under way, and what stands on its disks then.
-use Rattle.std.proofs.Common.{◌≡◌, inl, inr, ◌∷◌, ℕ, zero, suc, ◌<◌, ◌≤◌, ◌%◌, ◌++◌, Bool, true, false, ◌&&◌, not, List, [], Some, length, refl, sym, ◌∙◌, ap, subst, arith}
+use Rattle.std.proofs.Common.{◌≡◌, ◌⊎◌, inl, inr, ◌∷◌, ℕ, zero, suc, ◌<◌, ◌≤◌, ◌%◌, ◌++◌, Bool, true, false, ◌&&◌, not, List, [], Some, length, refl, sym, ◌∙◌, ap, subst, arith}
 use Rattle.std.specs.Prelude.{◌==◌, ◌||◌, IsTrue, IfSome, All, Contains, slice_get, get_or}
 use Rattle.std.specs.List.{list_any}
 use Rattle.std.proofs.lemmas.Bool.{eqb-true, false_from_ne_true}
@@ -8,6 +8,7 @@ use Rattle.std.proofs.lemmas.List.Elements.{Contains-append_left, Contains-appen
 use Rattle.std.proofs.Math.Nat.{mod-lt}
 use Rattle.std.proofs.lemmas.Option.{slice_get-get_or}
 use Rattle.lvm_num.specs.declared.place.Pp.{Pp}
+use Rattle.lvm_num.specs.declared.descriptor.Mode.TheVariants.{Passive}
 use Rattle.lvm_num.specs.declared.descriptor.PvRow.{PvRow}
 use Rattle.lvm_num.specs.declared.descriptor.LvRow.{LvRow}
 use Rattle.lvm_num.specs.declared.descriptor.Descriptor.{Descriptor}
@@ -26,7 +27,7 @@ use Rattle.lvm_status.specs.Calls.{IsMarkable}
 use Rattle.lvm_status.specs.Update.{Stored, members_there}
 use Rattle.lvm_rec.specs.declared.homes.Homes.{Homes}
 use Rattle.lvm_write.specs.Written.{HasRoom}
-use Rattle.lvm_commit.specs.Committed.{MayMark, HoldsCommitted}
+use Rattle.lvm_commit.specs.Committed.{AreOne, MayMark, HoldsCommitted}
 use Rattle.lvm_kept.specs.Contents.{Contents}
 use Rattle.lvm_stale.specs.Marking.{is_served}
 use Rattle.lvm_commit.specs.LawsOfData.{IsFree}
@@ -37,8 +38,8 @@ use Rattle.lvm_session.specs.Marks.{is_among}
 use Rattle.lvm_core.specs.Sound.{IsSoundBetween}
 use Rattle.lvm_core.specs.Held.{IsHeld}
 use Rattle.lvm_core.specs.Settled.{HasSpareNumbers, IsSettled}
-use Rattle.lvm_core.specs.Committing.{AreUnused, AreMarked}
-use Rattle.lvm_core.specs.Steps.{IsMarked}
+use Rattle.lvm_core.specs.Committing.{AreUnused, AreMarked, AreDirtied, is_in}
+use Rattle.lvm_core.specs.Steps.{IsMarked, IsDirtied, WantsMarksAtMost}
 use Rattle.lvm_commit.proofs.LawsOfDataLemmas.Free.{none_stands}
 use Rattle.lvm_core.proofs.StepsLemmas.Marking.{pp_is}
 use Rattle.lvm_core.proofs.CommittingLemmas.Settled.{IsBegun, there_is}
@@ -141,21 +142,44 @@ any_same : (p q : Pp → Bool) (xs : List Pp) → ((x : Pp) → IsOneOf xs x →
 any_same p q [] same = refl
 any_same p q (x ∷ xs) same = λ i. same x (inl refl) i || any_same p q xs (λ y is. same y (inr is)) i
 
-module _ (core : Core) (stale fresh : List Pp) (first : Stored) (marked : IsMarked stale fresh core.status first) (settled : IsSettled core) (group : core.status.group ≡ record core.descriptor { lvs = [] }) where
+module _ (core : Core) (first : Stored) (rest : WantsMarksAtMost core.status first) (group : core.status.group ≡ record core.descriptor { lvs = [] }) where
   pub first_is_of : IsOf core.descriptor first
-  first_is_of = sym (marked.rest.group ∙ group)
+  first_is_of = sym (rest.group ∙ group)
 
   pub begun : IsBegun core first
-  begun = record { group = marked.rest.group; stamp = marked.rest.stamp; committed = marked.rest.committed; rows = marked.rest.rows; missing = marked.rest.missing; forgotten = marked.rest.forgotten }
+  begun = record { group = rest.group; stamp = rest.stamp; committed = rest.committed; rows = rest.rows; missing = rest.missing; forgotten = rest.forgotten }
 
   -- the disks hold what was committed, whatever is wanted now
   pub first_held : (device : Device) → IsHeld device core → SessionIsHeld device core.descriptor first core.homes
   first_held device held =
       let Held : Status → Disks → Stamp → Type 0 = λ c s t. IfSome device.media (λ media. HoldsCommitted (image_of device.sizes media) core.descriptor c s t core.homes) in
-      let same : there first ≡ is_there core = λ t d. is_member ((marked.rest.group ∙ group) t) d && not (marked.rest.missing d t) in
-      subst (λ (c : Status). Held c (there first) first.stamp) (sym marked.rest.committed)
+      let same : there first ≡ is_there core = λ t d. is_member ((rest.group ∙ group) t) d && not (rest.missing d t) in
+      subst (λ (c : Status). Held c (there first) first.stamp) (sym rest.committed)
       (subst (λ (s : Disks). Held core.status.committed s first.stamp) (sym same)
-      (subst (λ (t : Stamp). Held core.status.committed (is_there core) t) (sym marked.rest.stamp) held))
+      (subst (λ (t : Stamp). Held core.status.committed (is_there core) t) (sym rest.stamp) held))
+
+  -- none is left behind by what is wanted now where none was, if it says the same of the volumes
+  pub none_by : ((row : LvRow) (lp : ℕ) (p : Pp) → IsOneOf core.descriptor.lvs row → IsOneOf (copies_of row lp) p → calls_stale first.wanted p ≡ calls_stale core.status.wanted p)
+      → NoneIsLeft core.descriptor core.status → NoneIsLeft core.descriptor first
+  none_by same_wanted none p left =
+      let copies = copies_of left.row left.left.lp in
+      let there_same : there first ≡ there core.status = (λ t d. is_member (rest.group t) d && not (rest.missing d t)) in
+      let serves : is_served (there core.status) core.status.wanted copies ≡ is_served (there first) first.wanted copies =
+      any_same (λ (q : Pp). there core.status q.disk && not (calls_stale core.status.wanted q)) (λ (q : Pp). there first q.disk && not (calls_stale first.wanted q)) copies
+      (λ q copy. sym (λ t. there_same t q.disk && not (same_wanted left.row left.left.lp q left.volume copy t))) in
+      same_wanted left.row left.left.lp p left.volume left.left.left.one ∙ none p (record {
+        row = left.row;
+        volume = left.volume;
+        left = record {
+          lp = left.left.lp;
+          below = left.left.below;
+          left = record { one = left.left.left.one; absent = sym (λ t. there_same t p.disk) ∙ left.left.left.absent; served = serves ∙ left.left.left.served };
+        };
+      })
+
+-- ---- marks of partitions
+
+module _ (core : Core) (stale fresh : List Pp) (first : Stored) (marked : IsMarked stale fresh core.status first) (settled : IsSettled core) (group : core.status.group ≡ record core.descriptor { lvs = [] }) where
 
   -- what is wanted says the same of the volumes
   module _ (valid : IsValid core.descriptor) (unused : AreUnused core.descriptor (stale ++ fresh)) where
@@ -182,29 +206,48 @@ module _ (core : Core) (stale fresh : List Pp) (first : Stored) (marked : IsMark
 
     -- so none is left behind by what is wanted now where none was
     pub first_none : NoneIsLeft core.descriptor core.status → NoneIsLeft core.descriptor first
-    first_none none p left =
-        let copies = copies_of left.row left.left.lp in
-        let there_same : there first ≡ there core.status = (λ t d. is_member (marked.rest.group t) d && not (marked.rest.missing d t)) in
-        let serves : is_served (there core.status) core.status.wanted copies ≡ is_served (there first) first.wanted copies =
-        any_same (λ (q : Pp). there core.status q.disk && not (calls_stale core.status.wanted q)) (λ (q : Pp). there first q.disk && not (calls_stale first.wanted q)) copies
-        (λ q copy. sym (λ t. there_same t q.disk && not (same_wanted left.row left.left.lp q left.volume copy t))) in
-        same_wanted left.row left.left.lp p left.volume left.left.left.one ∙ none p (record {
-          row = left.row;
-          volume = left.volume;
-          left = record {
-            lp = left.left.lp;
-            below = left.left.below;
-            left = record { one = left.left.left.one; absent = sym (λ t. there_same t p.disk) ∙ left.left.left.absent; served = serves ∙ left.left.left.served };
-          };
-        })
+    first_none none = none_by core first marked.rest group same_wanted none
 
     pub wants_marks : (c : Contents) → MayMark c core.descriptor first.committed first.wanted
     wants_marks c = record {
       stale = λ row lp p volume one is. same_stale row lp p volume one ∙ is;
       added = λ row lp p volume low one is. inl (sym (same_stale row lp p volume one) ∙ is);
-      dirty = λ row volume soft is. ap (λ (dirty : List ℕ). list_any (λ n. n == row.number) dirty) marked.rest.dirty ∙ ap (λ (s : Status). calls_dirty s row.number) committed_is ∙ is;
+      dirty = λ row volume soft is. inl (ap (λ (dirty : List ℕ). list_any (λ n. n == row.number) dirty) marked.dirty ∙ ap (λ (s : Status). calls_dirty s row.number) committed_is ∙ is);
     }
 
   -- where all is so already
   pub none_first : AreMarked stale fresh core.status.committed → first ≡ core.status
   none_first marks = marked.same (subst (AreMarked stale fresh) settled.committed marks)
+
+-- ---- marks of volumes
+
+pub in_at : (numbers : List ℕ) (lv : ℕ) → is_in numbers lv ≡ true → Contains numbers lv
+in_at numbers lv is =
+    let found = Any-from_list_any (λ (n : ℕ). lv == n) numbers is in
+    subst (Contains numbers) (sym (eqb-true lv found.1 found.4)) (found.0, found.2, found.3)
+
+module _ (core : Core) (dirty clean : List ℕ) (first : Stored) (marked : IsDirtied dirty clean core.status first) (settled : IsSettled core) where
+  -- a mark that doesn't go stays
+  stays : (a b c : Bool) → a ≡ true → c ≡ false → ((a || b) && not c) ≡ true
+  stays true b false is isnt = refl
+  stays true b true is isnt = absurd (cc isnt)
+  stays false b c is isnt = absurd (cc is)
+
+  pub wants_dirt : (c : Contents) → ((row : LvRow) → IsOneOf core.descriptor.lvs row → row.mode ≡ Passive → Contains clean row.number → AreOne c core.descriptor core.status.committed row) → MayMark c core.descriptor first.committed first.wanted
+  wants_dirt c one = record {
+    stale = λ row lp p volume copy is. marked.stale p ∙ sym (ap (λ (s : Status). calls_stale s p) was) ∙ is;
+    added = λ row lp p volume low copy is. inl (ap (λ (s : Status). calls_stale s p) was ∙ sym (marked.stale p) ∙ is);
+    dirty = λ row volume soft is. by row volume soft is (is_in clean row.number) refl;
+  }
+    where
+      was : first.committed ≡ core.status.wanted
+      was = marked.rest.committed ∙ settled.committed
+
+      by : (row : LvRow) → IsOneOf core.descriptor.lvs row → row.mode ≡ Passive → IsTrue (calls_dirty first.committed row.number) → (t : Bool) → is_in clean row.number ≡ t → IsTrue (calls_dirty first.wanted row.number) ⊎ AreOne c core.descriptor first.committed row
+      by row volume soft is true among = inr (subst (λ (s : Status). AreOne c core.descriptor s row) (sym marked.rest.committed) (one row volume soft (in_at clean row.number among)))
+      by row volume soft is false among =
+          inl (marked.marks row.number ∙ stays (calls_dirty core.status.wanted row.number) (is_in dirty row.number) (is_in clean row.number) (sym (ap (λ (s : Status). calls_dirty s row.number) was) ∙ is) among)
+
+  -- where all is so already
+  pub no_dirt : AreDirtied dirty clean core.status.committed → first ≡ core.status
+  no_dirt marks = marked.same (subst (AreDirtied dirty clean) settled.committed marks)

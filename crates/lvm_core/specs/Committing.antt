@@ -1,20 +1,25 @@
 -- How the calls end by which a session commits a descriptor or marks.
-use Rattle.std.specs.Prelude.{◌≡◌, ◌⊎◌, ℕ, ◌<◌, Bool, true, false, ◌&&◌, ◌||◌, ◌++◌, not, List, Result, Ok, Err, IsTrue, IfSome, All, slice_set}
+use Rattle.std.specs.Prelude.{◌≡◌, ◌⊎◌, ℕ, ◌<◌, ◌==◌, Bool, true, false, ◌&&◌, ◌||◌, ◌++◌, not, List, Contains, Result, Ok, Err, IsTrue, IfSome, All, slice_set}
+use Rattle.std.specs.List.{list_any}
 use Rattle.lvm_num.specs.declared.place.Pp.{Pp}
+use Rattle.lvm_num.specs.declared.descriptor.Mode.TheVariants.{Passive}
+use Rattle.lvm_num.specs.declared.descriptor.LvRow.{LvRow}
 use Rattle.lvm_num.specs.declared.descriptor.Descriptor.{Descriptor}
 use Rattle.lvm_num.specs.declared.status.Status.{Status}
 use Rattle.lvm_num.specs.declared.record.Kind.TheVariants as kind
 use Rattle.lvm_num.specs.Descriptor.{IsPartitionOf}
 use Rattle.lvm_num.specs.DescriptorBytes.{descriptor_bytes}
-use Rattle.lvm_num.specs.Status.{calls_stale}
+use Rattle.lvm_num.specs.Status.{calls_stale, calls_dirty}
 use Rattle.lvm_disk.specs.Device.{IsReady, image_of}
 use Rattle.lvm_vol.specs.Facts.{Fact}
 use Rattle.lvm_kept.specs.Contents.{contents_of}
+use Rattle.lvm_kept.specs.Group.{IsOneOf}
 use Rattle.lvm_kept.specs.Moments.{Moment}
 use Rattle.lvm_commit.specs.passed.Names.{Begins, Holds, IsBehind}
 use Rattle.lvm_write.specs.Written.{IsDarkened, IsGivenUp}
+use Rattle.lvm_commit.specs.Committed.{AreOne}
 use Rattle.lvm_commit.specs.LawsOfData.{IsFree}
-use Rattle.lvm_commit.specs.LawsOfVolumes.{VolumeServes}
+use Rattle.lvm_commit.specs.LawsOfVolumes.{VolumeServes, VolumesServe}
 use Rattle.lvm_commit.specs.Settling.{NoneIsLeft, IsPassedOver, HasLostQuorum, AreWell, SpendsNumbers, StaysCommitted, IsPlain}
 use Rattle.lvm_core.specs.declared.fault.CommitFault.{CommitFault}
 use Rattle.lvm_core.specs.declared.fault.CommitFault.TheVariants as fault
@@ -113,9 +118,47 @@ pub record Restates (stale fresh : List Pp) (old new : State) : Type 0 where
   pub only : (p : Pp) → IsTrue (calls_stale new.core.status.wanted p) → IsTrue (marks_of stale fresh old.core.status.wanted p) ⊎ IsPassedOver old.core.descriptor old.core.status new.core.status p
   pub none : NoneIsLeft old.core.descriptor old.core.status → NoneIsLeft old.core.descriptor new.core.status
 
+-- ---- volumes that are dirty
+
+-- the number is one of these
+abbrev pub is_in : List ℕ → ℕ → Bool
+is_in numbers lv = list_any (λ n. lv == n) numbers
+
+-- whether a volume is dirty once these are and those aren't
+abbrev pub dirt_of : List ℕ → List ℕ → Status → ℕ → Bool
+dirt_of dirty clean old lv = (calls_dirty old lv || is_in dirty lv) && not (is_in clean lv)
+
+-- these volumes are dirty and those not, where they weren't, and all others are as they were
+abbrev pub Dirties : List ℕ → List ℕ → Status → Status → Type 0
+Dirties dirty clean old new = (lv : ℕ) → calls_dirty new lv ≡ dirt_of dirty clean old lv
+
+-- they already are so
+pub record AreDirtied (to_dirty to_clean : List ℕ) (s : Status) : Type 0 where
+  pub dirty : All (λ (lv : ℕ). calls_dirty s lv ≡ true) to_dirty
+  pub clean : All (λ (lv : ℕ). calls_dirty s lv ≡ false) to_clean
+
+-- What is wanted of the status afterwards has these marks, and the copies are stale that members left behind which became missing.
+pub record Redirties (dirty clean : List ℕ) (old new : State) : Type 0 where
+  pub marks : Dirties dirty clean old.core.status.wanted new.core.status.wanted
+  pub kept : (p : Pp) → IsTrue (calls_stale old.core.status.wanted p) → IsTrue (calls_stale new.core.status.wanted p)
+  pub only : (p : Pp) → IsTrue (calls_stale new.core.status.wanted p) → IsTrue (calls_stale old.core.status.wanted p) ⊎ IsPassedOver old.core.descriptor old.core.status new.core.status p
+  pub none : NoneIsLeft old.core.descriptor old.core.status → NoneIsLeft old.core.descriptor new.core.status
+
+-- The fresh copies of each volume of these numbers are one, by what stands on the media; a number of no volume in mode passive asks nothing.
+abbrev pub MayGoClean : List ℕ → State → Type 0
+MayGoClean clean s = IfSome s.device.media (λ media. (row : LvRow) → IsOneOf s.core.descriptor.lvs row → row.mode ≡ Passive → Contains clean row.number
+    → AreOne (contents_of (image_of s.device.sizes media)) s.core.descriptor s.core.status.committed row)
+
 -- ---- the moments
 
--- In a history that may have stood before the span, what lets the session's next descriptor be committed: a volume is being made or removed by it.
+-- In a history that may have stood before the span, what lets the session's next descriptor be committed: volumes are being made or removed by it, or have other
+-- copies; these alone differ,
+abbrev pub LetsCommitAmong : (ℕ → Bool) → Descriptor → ℕ → Moment → State → Type 0
+LetsCommitAmong among next run first s =
+    (past : List Fact) → Begins run past first → Holds past (moment_of s)
+    → IfSome s.device.media (λ media. VolumesServe (contents_of (image_of s.device.sizes media)) (past ++ s.core.history.facts) s.core.descriptor among next)
+
+-- or one alone.
 abbrev pub LetsCommit : ℕ → Descriptor → ℕ → Moment → State → Type 0
 LetsCommit lv next run first s =
     (past : List Fact) → Begins run past first → Holds past (moment_of s)

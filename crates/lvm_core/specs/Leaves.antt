@@ -1,9 +1,9 @@
 -- What each call of a session leaves, whatever its answer.
-use Rattle.std.specs.Prelude.{◌≡◌, ◌≢◌, ◌⊎◌, ℕ, ◌≤◌, ◌<◌, Bool, true, false, List, [], count_by, Contains, IsTrue, IsFalse}
+use Rattle.std.specs.Prelude.{◌≡◌, ◌≢◌, ◌⊎◌, ℕ, ◌≤◌, ◌<◌, ◌++◌, Bool, true, false, List, [], count_by, Contains, IsTrue, IsFalse}
 use Rattle.lvm_num.specs.declared.place.Pp.{Pp}
 use Rattle.lvm_num.specs.declared.descriptor.Descriptor.{Descriptor}
 use Rattle.lvm_num.specs.DescriptorBytes.{descriptor_bytes}
-use Rattle.lvm_num.specs.Status.{calls_stale, calls_missing}
+use Rattle.lvm_num.specs.Status.{calls_stale, calls_missing, calls_dirty}
 use Rattle.lvm_disk.specs.Counts.{Rose, NoneFalls}
 use Rattle.lvm_disk.specs.Device.{Image, Device, MayLeave}
 use Rattle.lvm_vol.specs.declared.entry.Vol.TheVariants.{Lv}
@@ -20,18 +20,19 @@ use Rattle.lvm_write.specs.Written.{KeepsShelf}
 use Rattle.lvm_commit.specs.Settling.{there, HasAnother, HasSameRows, SpendsNumbers, IsOfStatus, IsOfCommit}
 use Rattle.lvm_session.specs.State.{State, is_there}
 use Rattle.lvm_core.specs.Held.{IsHeld}
-use Rattle.lvm_core.specs.Committing.{moment_of, LetsCommit, StaysBehind}
+use Rattle.lvm_core.specs.Committing.{moment_of, LetsCommitAmong, MayGoClean, StaysBehind}
 use Rattle.lvm_core.specs.Zeros.{IsZeroOf}
 
 -- ---- what a call may do
 
--- What a call may do: commit descriptors of which `next` holds, write zeros to partitions of which `zeros` holds, make partitions stale and fresh, spend so
--- many numbers; and under which premise a span goes on with it.
+-- What a call may do: commit descriptors of which `next` holds, write zeros to partitions of which `zeros` holds, make partitions stale and fresh, and volumes dirty
+-- or not, spend so many numbers; and under which premise a span goes on with it.
 pub record Scope : Type 1 where
   pub next : Descriptor → Type 0
   pub zeros : Pp → Type 0
   pub stale : Pp → Type 0
   pub fresh : Pp → Type 0
+  pub marks : ℕ → Type 0
   pub numbers : ℕ
   pub lets : State → State → ℕ → Moment → Type 0
 
@@ -40,6 +41,9 @@ NoDescriptor next = ⊥
 
 abbrev pub NoPartition : Pp → Type 0
 NoPartition pp = ⊥
+
+abbrev pub NoVolume : ℕ → Type 0
+NoVolume lv = ⊥
 
 -- by whatever was told before a span, the disks hold what the session says
 abbrev pub IsHeldSince : ℕ → Moment → State → Type 0
@@ -51,15 +55,19 @@ Always old new run first = Unit {0}
 
 -- this descriptor is committed, which the history has to let be
 abbrev pub committing : Descriptor → Scope
-committing d = record { next = λ next. next ≡ d; zeros = NoPartition; stale = NoPartition; fresh = NoPartition; numbers = 1; lets = λ old new run first. (lv : ℕ) × LetsCommit lv d run first old }
+committing d = record { next = λ next. next ≡ d; zeros = NoPartition; stale = NoPartition; fresh = NoPartition; marks = NoVolume; numbers = 1; lets = λ old new run first. (among : ℕ → Bool) × LetsCommitAmong among d run first old }
 
 -- these partitions are marked
 abbrev pub marking : List Pp → List Pp → Scope
-marking to_stale to_fresh = record { next = NoDescriptor; zeros = NoPartition; stale = Contains to_stale; fresh = Contains to_fresh; numbers = 1; lets = Always }
+marking to_stale to_fresh = record { next = NoDescriptor; zeros = NoPartition; stale = Contains to_stale; fresh = Contains to_fresh; marks = NoVolume; numbers = 1; lets = Always }
+
+-- these volumes become dirty and those clean, which their copies have to let be
+abbrev pub dirtying : List ℕ → List ℕ → Scope
+dirtying to_dirty to_clean = record { next = NoDescriptor; zeros = NoPartition; stale = NoPartition; fresh = NoPartition; marks = Contains (to_dirty ++ to_clean); numbers = 1; lets = λ old new run first. MayGoClean to_clean old }
 
 -- zeros are written to a partition
 abbrev pub zeroing : Pp → Scope
-zeroing pp = record { next = NoDescriptor; zeros = λ p. p ≡ pp; stale = NoPartition; fresh = NoPartition; numbers = 0; lets = Always }
+zeroing pp = record { next = NoDescriptor; zeros = λ p. p ≡ pp; stale = NoPartition; fresh = NoPartition; marks = NoVolume; numbers = 0; lets = Always }
 
 -- ---- what was written
 
@@ -81,13 +89,13 @@ pub record WasLeftBehind (N : Descriptor → Type 0) (F : Pp → Type 0) (old ne
   pub was_there : IsTrue (there old.core.status its.other.disk)
 
 -- What is wanted of the status afterwards: members have become missing, each after a transfer to it has failed; stale ones of the partitions of which F holds
--- may be fresh, and further ones are stale only where S holds or as copies that were left behind.
-pub record KeepsStatus (N : Descriptor → Type 0) (S F : Pp → Type 0) (old new : State) : Type 0 where
+-- may be fresh, further ones are stale only where S holds or as copies that were left behind, and volumes of which D holds may be dirty or not.
+pub record KeepsStatus (N : Descriptor → Type 0) (S F : Pp → Type 0) (D : ℕ → Type 0) (old new : State) : Type 0 where
   pub group : new.core.status.group ≡ old.core.status.group
   pub rows : HasSameRows old.core.status.wanted new.core.status.wanted
   pub stale : (p : Pp) → (F p → ⊥) → IsTrue (calls_stale old.core.status.wanted p) → IsTrue (calls_stale new.core.status.wanted p)
   pub further : (p : Pp) → IsTrue (calls_stale new.core.status.wanted p) → IsTrue (calls_stale old.core.status.wanted p) ⊎ S p ⊎ WasLeftBehind N F old new p
-  pub dirty : new.core.status.wanted.dirty ≡ old.core.status.wanted.dirty
+  pub dirty : (lv : ℕ) → (D lv → ⊥) → calls_dirty new.core.status.wanted lv ≡ calls_dirty old.core.status.wanted lv
   pub stays : (d : ℕ) → IsTrue (calls_missing old.core.status.wanted d) → IsTrue (calls_missing new.core.status.wanted d)
   pub lost : (d : ℕ) → IsTrue (calls_missing new.core.status.wanted d) → IsFalse (calls_missing old.core.status.wanted d)
       → IsTrue (is_there old.core d) × Rose (old.device.counts.faults d) (new.device.counts.faults d)
@@ -128,7 +136,7 @@ FindsOnly N old new = IsHeld old.device old.core → (id : ℕ) (k : Descriptor)
 -- What a call leaves that may do this, with the patience before and after, whatever its answer.
 pub record Leaves (scope : Scope) (before after : ℕ) (old new : State) : Type 0 where
   pub writes : KeepsShelf (is_there old.core) (IsOfCommand scope.next scope.zeros old new) old.device new.device
-  pub status : KeepsStatus scope.next scope.stale scope.fresh old new
+  pub status : KeepsStatus scope.next scope.stale scope.fresh scope.marks old new
   -- the stamps are of the same session, and rise
   pub numbers : SpendsNumbers scope.numbers old.core.status new.core.status
   pub history : KeepsHistory old.core.history new.core.history

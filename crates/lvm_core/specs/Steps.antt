@@ -6,7 +6,7 @@ use Rattle.lvm_num.specs.declared.descriptor.Descriptor.{Descriptor}
 use Rattle.lvm_num.specs.Descriptor.{IsValid}
 use Rattle.lvm_num.specs.DescriptorBytes.{descriptor_bytes}
 use Rattle.lvm_kept.specs.Plans.{Plan}
-use Rattle.lvm_stale.specs.Table.{SameMissing}
+use Rattle.lvm_stale.specs.Table.{SameMissing, SameStale}
 use Rattle.lvm_status.specs.Update.{Stored}
 use Rattle.lvm_commit.specs.declared.commit.CommitEnd.{CommitEnd}
 use Rattle.lvm_commit.specs.declared.commit.CommitEnd.TheVariants as commit_end
@@ -16,11 +16,11 @@ use Rattle.lvm_core.specs.declared.fault.CommitFault.TheVariants as fault
 use Rattle.lvm_session.specs.declared.open.Power.TheVariants as power
 use Rattle.lvm_session.specs.State.{Core, State}
 use Rattle.lvm_session.specs.Dark.{all_dark}
-use Rattle.lvm_core.specs.Committing.{Marks, AreMarked, with_one_out}
+use Rattle.lvm_core.specs.Committing.{Marks, AreMarked, Dirties, AreDirtied, with_one_out}
 
 -- ---- the marks
 
--- Of what is wanted at most the marks of partitions have changed, and nothing is in flight.
+-- Of what is wanted at most marks have changed, and nothing is in flight.
 pub record WantsMarksAtMost (old new : Stored) : Type 0 where
   pub group : new.group ≡ old.group
   pub committed : new.committed ≡ old.committed
@@ -28,14 +28,21 @@ pub record WantsMarksAtMost (old new : Stored) : Type 0 where
   pub stamp : new.stamp ≡ old.stamp
   pub rows : HasSameRows old.wanted new.wanted
   pub missing : SameMissing old.wanted new.wanted
-  pub dirty : new.wanted.dirty ≡ old.wanted.dirty
   pub forgotten : IsForgotten old → IsForgotten new
 
--- These marks are wanted now, and nothing else is.
+-- These marks of partitions are wanted now, and nothing else is.
 pub record IsMarked (to_stale to_fresh : List Pp) (old new : Stored) : Type 0 where
   pub rest : WantsMarksAtMost old new
+  pub dirty : new.wanted.dirty ≡ old.wanted.dirty
   pub marks : Marks to_stale to_fresh old.wanted new.wanted
   pub same : AreMarked to_stale to_fresh old.wanted → new ≡ old
+
+-- These marks of volumes are wanted now, and nothing else is.
+pub record IsDirtied (to_dirty to_clean : List ℕ) (old new : Stored) : Type 0 where
+  pub rest : WantsMarksAtMost old new
+  pub stale : SameStale old.wanted new.wanted
+  pub marks : Dirties to_dirty to_clean old.wanted new.wanted
+  pub same : AreDirtied to_dirty to_clean old.wanted → new ≡ old
 
 -- ---- after the records
 
@@ -75,13 +82,22 @@ pub record CommitsDescriptor (next : Descriptor) (before after : ℕ) (old new :
   pub finds : CommitFindsNoMore (descriptor_bytes next) old.core.status old.core.homes old.device new.device
   pub kept : DescriptorStaysKept (descriptor_bytes next) old.core.status old.core.homes old.device new.device
 
--- These marks were made, and the status written.
-pub record CommitsMarks (to_stale to_fresh : List Pp) (before after : ℕ) (old new : State) (answer : Result (Unit {0}) CommitFault) : Type 0 where
+-- Marks were wanted as this says, and the status written.
+pub record CommitsStatus (Wants : Stored → Stored → Type 0) (before after : ℕ) (old new : State) (answer : Result (Unit {0}) CommitFault) : Type 0 where
   pub first : Stored
-  pub marked : IsMarked to_stale to_fresh old.core.status first
+  pub wants : Wants old.core.status first
+  pub rest : WantsMarksAtMost old.core.status first
   pub how : CommitEnd
   pub settles : Settles (StaysHeld first new.core.status old.core.homes new.core.homes old.device new.device) (IsPlainStatus first new.core.status old.core.homes old.device new.device) old.core.descriptor
       (IsOfStatus first new.core.status) first before after old new how answer
   pub finds : StatusFindsNothingNew first old.core.homes old.device new.device
   pub kept : StatusStaysKept old.core.descriptor first old.core.homes old.device new.device
   pub same : first.wanted ≡ first.committed → (answer ≡ Ok tt) × (new.device ≡ old.device) × (new.core ≡ record old.core { status = first })
+
+-- with these partitions stale and those fresh
+abbrev pub CommitsMarks : List Pp → List Pp → ℕ → ℕ → State → State → Result (Unit {0}) CommitFault → Type 0
+CommitsMarks to_stale to_fresh = CommitsStatus (IsMarked to_stale to_fresh)
+
+-- with these volumes dirty and those not
+abbrev pub CommitsDirt : List ℕ → List ℕ → ℕ → ℕ → State → State → Result (Unit {0}) CommitFault → Type 0
+CommitsDirt to_dirty to_clean = CommitsStatus (IsDirtied to_dirty to_clean)

@@ -4,17 +4,18 @@ ghost use Rattle.lvm_disk.specs.Device.{IsReady};
 ghost use Rattle.lvm_session_start.specs.passed.Names.{IsOut};
 ghost use Rattle.lvm_status.specs.Calls.{IsMarkable};
 ghost use Rattle.lvm_commit.specs.Committed.{IsAlike};
-ghost use Rattle.lvm_commit.specs.Settling.{IfBack, MayCommit};
+ghost use Rattle.lvm_commit.specs.Settling.{HoldsWithin, IfBack, MayCommit};
 ghost use Rattle.lvm_session.specs.Fields.{core_of};
 ghost use Rattle.lvm_session.specs.Rooms.{HasRooms, SameRooms};
 ghost use Rattle.lvm_session.specs.State.{state};
 ghost use Rattle.lvm_core.specs.Sound.{IsFittingBetween, HasNoneOpen};
 ghost use Rattle.lvm_core.specs.Committing.{with_one_out};
-ghost use Rattle.lvm_core.specs.Steps.{EndsAs, EndsWith, CommitsDescriptor, CommitsMarks};
+ghost use Rattle.lvm_num.specs.Status.{IsVolumeNumber};
+ghost use Rattle.lvm_core.specs.Steps.{EndsAs, EndsWith, CommitsDescriptor, CommitsMarks, CommitsDirt};
 ghost use Rattle.lvm_core.specs.Zeros.{WritesZeros, HasSectorsOf};
 
 use crate::fault::CommitFault;
-use crate::marks::mark;
+use crate::marks::{mark, mark_volumes};
 use crate::prepared::Prepared;
 use crate::zero::write_zeros;
 use lvm_commit::below::{Moved, Patience};
@@ -130,6 +131,7 @@ pub fn commit<S: Shelf>(
     requires settled { session.old.updater.committed ≡ session.old.updater.wanted }
     requires alike { IsAlike next session.old.descriptor }
     ensures does { CommitsDescriptor next patience.old.left patience.new.left (state (S.device shelf.old) (core_of session.old)) (state (S.device shelf.new) (core_of session.new)) result }
+    ensures held { HoldsWithin session.old.updater session.new.updater }
     ensures rooms { SameRooms session.old session.new }
 {
     let (descriptor, content) = next.into_parts();
@@ -162,9 +164,41 @@ pub fn set_status<S: Shelf>(
     requires may { MayCommit 1 session.old.descriptor session.old.updater (S.device shelf.old) }
     requires markable { All (IsMarkable session.old.updater.wanted) (stale.now ++ fresh.now) }
     ensures does { CommitsMarks stale.now fresh.now patience.old.left patience.new.left (state (S.device shelf.old) (core_of session.old)) (state (S.device shelf.new) (core_of session.new)) result }
+    ensures held { HoldsWithin session.old.updater session.new.updater }
     ensures rooms { SameRooms session.old session.new }
 {
     mark(&mut session.updater, stale, fresh);
+    let buf = take_buffer(session);
+    let settled = commit_status(
+        shelf,
+        &session.descriptor,
+        &mut session.updater,
+        &mut session.homes,
+        &mut session.bytes,
+        buf,
+        patience,
+    );
+    go_on(session, settled)
+}
+
+/// Commits a status with these volumes dirty and those not.
+pub fn mark_dirty<S: Shelf>(
+    session: &mut Session,
+    shelf: &mut S,
+    dirty: &[u16],
+    clean: &[u16],
+    patience: &mut Patience,
+) -> Result<(), CommitFault>
+    requires fitting { IsFittingBetween (core_of session.old) }
+    requires none { HasNoneOpen (core_of session.old) }
+    requires buffers { session.old.pool ≡ replicate (length session.old.pool) false }
+    requires rooms { HasRooms session.old }
+    requires may { MayCommit 1 session.old.descriptor session.old.updater (S.device shelf.old) }
+    requires numbers { All IsVolumeNumber (dirty.now ++ clean.now) }
+    ensures does { CommitsDirt dirty.now clean.now patience.old.left patience.new.left (state (S.device shelf.old) (core_of session.old)) (state (S.device shelf.new) (core_of session.new)) result }
+    ensures rooms { SameRooms session.old session.new }
+{
+    mark_volumes(&mut session.updater, dirty, clean);
     let buf = take_buffer(session);
     let settled = commit_status(
         shelf,

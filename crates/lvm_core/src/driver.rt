@@ -1,6 +1,7 @@
 //! A session over its shelf.
 ghost use Rattle.std.specs.Prelude.{◌≡◌, ◌==◌, ◌≤◌, ◌<◌, ◌+◌, ◌-◌, ◌++◌, ◌^◌, [], length, slice_get, false, Some, IfSome, IfNone, IfOk, IsOk, IsTrue, All};
 ghost use Rattle.lvm_num.specs.Descriptor.{IsValid, IsPartitionOf};
+ghost use Rattle.lvm_num.specs.Status.{IsVolumeNumber};
 ghost use Rattle.lvm_num.specs.Votes.{total_votes};
 ghost use Rattle.lvm_vol.specs.Log.{spare_entries, with_fact, plain_fact};
 ghost use Rattle.lvm_disk.specs.Device.{IsReady};
@@ -8,7 +9,7 @@ ghost use Rattle.lvm_disk.specs.Steps.{MayArrange, ArrangeGives};
 ghost use Rattle.lvm_write.specs.Written.{KeepsShelf};
 ghost use Rattle.lvm_commit.specs.Committed.{IsAlike};
 ghost use Rattle.lvm_commit.specs.LawsOfData.{IsFree};
-ghost use Rattle.lvm_commit.specs.Settling.{MarksLeft};
+ghost use Rattle.lvm_commit.specs.Settling.{HoldsWithin, MarksLeft};
 ghost use Rattle.lvm_session.specs.declared.open.Open.{Open};
 ghost use Rattle.lvm_session.specs.Fields.{core_of};
 ghost use Rattle.lvm_session.specs.Rooms.{HasRooms};
@@ -22,12 +23,12 @@ ghost use Rattle.lvm_core.specs.Looking.{IsNumberOf, HasNoVolumeNamed};
 ghost use Rattle.lvm_core.specs.Sound.{IsSoundBetween, HaveAllLanded};
 ghost use Rattle.lvm_session_start.specs.Beginning.{AreFaults, first_core};
 ghost use Rattle.lvm_core.specs.Settled.{IsSettled, HasSpareNumbers};
-ghost use Rattle.lvm_core.specs.Committing.{CommitEnds, MarkEnds, FailsCommitted, AreUnused, AreMarked, Restates};
+ghost use Rattle.lvm_core.specs.Committing.{CommitEnds, MarkEnds, FailsCommitted, AreUnused, AreMarked, Restates, AreDirtied, Redirties};
 ghost use Rattle.lvm_core.specs.Zeros.{ZeroEnds, KeepsRecords, IsZeroOf};
-ghost use Rattle.lvm_core.specs.Leaves.{Leaves, committing, marking, zeroing};
+ghost use Rattle.lvm_core.specs.Leaves.{Leaves, committing, marking, dirtying, zeroing};
 ghost use Rattle.lvm_core.specs.Entering.{IsOfVolume};
 
-use crate::commit::{commit, set_status, zero};
+use crate::commit::{commit, mark_dirty, set_status, zero};
 use crate::fault::CommitFault;
 use crate::look::number_of;
 use crate::parts::Parts;
@@ -164,6 +165,7 @@ impl<S: Shelf> Driver<S> {
         ensures fails { FailsCommitted (state_of S.device self.old) (state_of S.device self.new) result }
         // whatever the answer
         ensures left { MarksLeft next self.old.1.status self.new.1.status }
+        ensures held { HoldsWithin self.old.1.status self.new.1.status }
         ensures leaves { Leaves (committing next) patience.old.left patience.new.left (state_of S.device self.old) (state_of S.device self.new) }
     {
         commit(&mut self.session, &mut self.shelf, next, patience)
@@ -190,9 +192,36 @@ impl<S: Shelf> Driver<S> {
         ensures nothing { AreMarked stale.now fresh.now self.old.1.status.committed → IsOk result × (S.device self.new.0 ≡ S.device self.old.0) × (self.new.1 ≡ self.old.1) }
         // whatever the answer
         ensures marks { Restates stale.now fresh.now (state_of S.device self.old) (state_of S.device self.new) }
+        ensures held { HoldsWithin self.old.1.status self.new.1.status }
         ensures leaves { Leaves (marking stale.now fresh.now) patience.old.left patience.new.left (state_of S.device self.old) (state_of S.device self.new) }
     {
         set_status(&mut self.session, &mut self.shelf, stale, fresh, patience)
+    }
+
+    /// Commits a status with these volumes dirty and those not. Where nothing changes by it, nothing is written.
+    /// A member whose write fails becomes missing, and the status says so before the call answers, and calls the
+    /// copies stale that it leaves behind.
+    ///
+    /// # Errors
+    ///
+    /// As of `commit`.
+    pub fn mark_dirty(
+        &mut self,
+        dirty: &[u16],
+        clean: &[u16],
+        patience: &mut Patience,
+    ) -> Result<(), CommitFault>
+        requires settled { IsSettled self.old.1 }
+        requires numbers { HasSpareNumbers self.old.1 }
+        requires volumes { All IsVolumeNumber (dirty.now ++ clean.now) }
+        ensures ends { MarkEnds patience.old.left (state_of S.device self.old) (state_of S.device self.new) result }
+        ensures fails { FailsCommitted (state_of S.device self.old) (state_of S.device self.new) result }
+        ensures nothing { AreDirtied dirty.now clean.now self.old.1.status.committed → IsOk result × (S.device self.new.0 ≡ S.device self.old.0) × (self.new.1 ≡ self.old.1) }
+        // whatever the answer
+        ensures marks { Redirties dirty.now clean.now (state_of S.device self.old) (state_of S.device self.new) }
+        ensures leaves { Leaves (dirtying dirty.now clean.now) patience.old.left patience.new.left (state_of S.device self.old) (state_of S.device self.new) }
+    {
+        mark_dirty(&mut self.session, &mut self.shelf, dirty, clean, patience)
     }
 
     /// Writes zeros to a partition that no volume has, of a member that isn't missing.

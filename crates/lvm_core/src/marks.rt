@@ -1,7 +1,8 @@
-//! Marks of partitions that are stale or fresh.
+//! Marks of partitions that are stale or fresh, and of volumes that are dirty or not.
 ghost use Rattle.std.specs.Prelude.{◌≡◌, ◌++◌, [], None, All};
 ghost use Rattle.lvm_status.specs.Calls.{IsMarkable};
-ghost use Rattle.lvm_core.specs.Steps.{IsMarked};
+ghost use Rattle.lvm_num.specs.Status.{IsVolumeNumber};
+ghost use Rattle.lvm_core.specs.Steps.{IsMarked, IsDirtied};
 
 use lvm_num::Pp;
 use lvm_status::{Change, Updater};
@@ -36,6 +37,40 @@ fn mark_fresh(updater: &mut Updater, pps: &[Pp])
     for pp in pps {
         if updater.wanted().is_stale(*pp) {
             updater.want(Change::Fresh(*pp));
+        }
+    }
+}
+
+/// Wants these volumes dirty and those not, where they aren't so already.
+pub fn mark_volumes(updater: &mut Updater, dirty: &[u16], clean: &[u16])
+    requires idle { updater.old.in_flight ≡ None }
+    requires numbers { All IsVolumeNumber (dirty.now ++ clean.now) }
+    ensures { IsDirtied dirty.now clean.now updater.old updater.new }
+{
+    mark_dirty(updater, dirty);
+    mark_clean(updater, clean);
+}
+
+fn mark_dirty(updater: &mut Updater, numbers: &[u16])
+    requires idle { updater.old.in_flight ≡ None }
+    requires numbers { All IsVolumeNumber numbers.now }
+    ensures { IsDirtied numbers.now [] updater.old updater.new }
+{
+    for number in numbers {
+        if !updater.wanted().is_dirty(*number) {
+            updater.want(Change::Dirty(*number));
+        }
+    }
+}
+
+fn mark_clean(updater: &mut Updater, numbers: &[u16])
+    requires idle { updater.old.in_flight ≡ None }
+    requires numbers { All IsVolumeNumber numbers.now }
+    ensures { IsDirtied [] numbers.now updater.old updater.new }
+{
+    for number in numbers {
+        if updater.wanted().is_dirty(*number) {
+            updater.want(Change::Clean(*number));
         }
     }
 }

@@ -67,6 +67,6 @@ step_ends votes s i r value target open_copy step_write group in_flight sizes m 
           (may, refl) good tt describes
           (group_kept votes s i r target value group in_flight sizes m n f well valid good describes there aimed transfer lands)
           (shows_records sizes m n s (copied s block open_copy step_write) group in_flight
-          (records_same votes s i r target value group in_flight sizes m n f well valid good describes there aimed transfer lands) describes.shown refl (λ d lv g. refl) (λ d. refl)
+          (records_same votes s i r target value group in_flight sizes m n f well valid good describes there aimed transfer lands) describes.shown refl refl (λ d lv g. refl) (λ d. refl)
           (shown votes s i r target value group in_flight sizes m n f well valid good describes there aimed transfer lands));
     }

@@ -1,5 +1,5 @@
 -- What is out is what the state has out.
-use Rattle.std.proofs.Common.{◌≡◌, ◌⊎◌, inl, inr, ℕ, ◌+◌, ◌-◌, ◌*◌, ◌<◌, ◌≤◌, Bool, true, false, ◌&&◌, List, length, Option, Some, None, refl, sym, ap, subst, ◌∙◌, arith}
+use Rattle.std.proofs.Common.{◌≡◌, ◌⊎◌, inl, inr, ℕ, ◌+◌, ◌-◌, ◌*◌, ◌/◌, ◌%◌, ◌<◌, ◌≤◌, Bool, true, false, ◌&&◌, List, length, Option, Some, None, refl, sym, ap, subst, ◌∙◌, arith}
 use Rattle.std.specs.Prelude.{IsTrue, ◌==◌, nat_le, nat_lt, slice_get}
 use Rattle.std.proofs.lemmas.Bool.Decides.{nat_tests}
 use Rattle.lvm_num.specs.declared.place.Pp.{Pp}
@@ -9,25 +9,27 @@ use Rattle.lvm_num.specs.declared.record.Kind.{Kind}
 use Rattle.lvm_num.specs.declared.record.Kind.TheVariants as kind
 use Rattle.lvm_num.specs.Buffer.{Sector}
 use Rattle.lvm_num.specs.Disks.{Disks}
-use Rattle.lvm_num.specs.Descriptor.{IsValid}
-use Rattle.lvm_num.specs.Geometry.{data_start, sector_of}
+use Rattle.lvm_num.specs.declared.descriptor.LvRow.{LvRow}
+use Rattle.lvm_num.specs.Descriptor.{IsValid, copies_of}
+use Rattle.lvm_num.specs.Geometry.{data_start, partition_blocks, sector_of}
 use Rattle.lvm_num.specs.Note.{note_in}
 use Rattle.lvm_num.specs.Record.{Stamped, frame, record_sectors, slot_start, slot_size}
 use Rattle.lvm_vol.specs.Facts.{Fact}
 use Rattle.lvm_disk.specs.Device.{Flight, Device, image_of, written}
 use Rattle.lvm_kept.specs.Contents.{note_sector, Contents, contents_of}
-use Rattle.lvm_kept.specs.Group.{names_if, is_of, passes, has_room}
+use Rattle.lvm_kept.specs.Group.{names_if, is_of, passes, has_room, IsOneOf, IsBlockOf}
 use Rattle.lvm_kept.specs.Torn.{RecordWrite, IsOfRecord, IsOutside}
-use Rattle.lvm_invariant.specs.State.{Groups, Queued, ModelState, covers}
+use Rattle.lvm_invariant.specs.State.{Groups, Queued, Beside, ModelState, covers}
 use Rattle.lvm_invariant.specs.Crash.{Brings, CopyBrings}
 use Rattle.lvm_invariant.specs.Sound.{Tied}
-use Rattle.lvm_crash.specs.Session.{members_showing, HasVolumes}
+use Rattle.lvm_crash.specs.Session.{members_showing, IsPlaceOf, IsFreePlace, HasVolumes}
 use Rattle.lvm_crash.specs.Flights.{OnlyUpdateIsOut}
-use Rattle.lvm_crash.specs.Copies.{IsCopyOf}
+use Rattle.lvm_crash.specs.Copies.{IsCopyOf, AreOne}
 use Rattle.lvm_crash.specs.Owned.{IsTransfer, IsDataFlight, IsStepFlight, IsNoteFlight, IsStatusFlight, IsOfUpdate, IsOwned, UpdateSince, OnlyUpdateSince, OwnersHaveOut}
 use Rattle.lvm_crash.proofs.CopiesLemmas.{one_block, next_sector}
 use Rattle.lvm_crash.proofs.DeviceLemmas.{writes_at, of_one}
 use Rattle.lvm_map.proofs.PlacesLemmas.{mib_positive}
+use Rattle.lvm_map.proofs.Parts.{same_parts, whole}
 
 -- ---- a request's blocks
 
@@ -49,12 +51,59 @@ covers_its r k lt =
     λ t. own t && low t && high t
 
 module _ (group : Descriptor) (valid : IsValid group) (s : ModelState) (facts : List Fact) (members : Disks) (tied : Tied s) (volumes : HasVolumes s facts group members) where
-  -- a copy of the state is one of the group, on a member that is there
-  pub copy_of : (lv b : ℕ) (p : Pp) → IsTrue (s.is_copy lv b p) → IsCopyOf group lv b p × IsTrue (members p.disk)
+  -- a copy of the state is one of the group, or the partition beside, on a member that is there
+  pub record IsPlaced (lv b : ℕ) (p : Pp) : Type 0 where
+    pub row : LvRow
+    pub lp : ℕ
+    pub volume : IsOneOf group.lvs row
+    pub number : row.number ≡ lv
+    pub inside : IsBlockOf group.mib row lp b
+    pub place : IsPlaceOf s.beside row lp b p
+    pub member : IsTrue (members p.disk)
+
+  pub copy_of : (lv b : ℕ) (p : Pp) → IsTrue (s.is_copy lv b p) → IsPlaced lv b p
   copy_of lv b p copy =
       let inside = volumes.inside lv b p copy in
       let both = (volumes.copies inside.row inside.lp b p inside.volume inside.inside).0 (subst (λ n. IsTrue (s.is_copy n b p)) (sym inside.number) copy) in
-      (record { row = inside.row; lp = inside.lp; volume = inside.volume; number = inside.number; inside = inside.inside; copy = both.0 }, both.1)
+      record { row = inside.row; lp = inside.lp; volume = inside.volume; number = inside.number; inside = inside.inside; place = both.0; member = both.1 }
+
+  -- no two of them stand at one sector
+  one_place : (lv b l c : ℕ) (p q : Pp) → IsPlaced lv b p → IsPlaced l c q → p.disk ≡ q.disk → sector_of group.mib p.pp b ≡ sector_of group.mib q.pp c → AreOne lv b p l c q
+  one_place lv b l c p q x y disk sector = by s.beside volumes.free x.place y.place
+    where
+      parts_same : (p.pp ≡ q.pp) × (b % partition_blocks group.mib ≡ c % partition_blocks group.mib)
+      parts_same =
+          let size = partition_blocks group.mib in
+          let some = mib_positive group valid in
+          let own : b % size < size = omega arith in
+          let its : c % size < size = omega arith in
+          same_parts size p.pp q.pp (b % size) (c % size) own its (omega (arith, sector))
+
+      one_partition_of : p ≡ q
+      one_partition_of = λ t. record { disk = disk t; pp = parts_same.0 t }
+
+      is_copy_of : (n d : ℕ) (e : Pp) (k : IsPlaced n d e) → IsOneOf (copies_of k.row k.lp) e → IsCopyOf group n d e
+      is_copy_of n d e k copy = record { row = k.row; lp = k.lp; volume = k.volume; number = k.number; inside = k.inside; copy = copy }
+
+      by : (o : Option Beside) → ((z : Beside) → o ≡ Some z → IsFreePlace group z) → IsPlaceOf o x.row x.lp b p → IsPlaceOf o y.row y.lp c q → AreOne lv b p l c q
+      by None free one other = one_block group lv b l c p q valid (is_copy_of lv b p x one) (is_copy_of l c q y other) disk sector
+      by (Some z) free (inl one) (inl other) = one_block group lv b l c p q valid (is_copy_of lv b p x one) (is_copy_of l c q y other) disk sector
+      by (Some z) free (inl one) (inr other) = absurd ((free z refl).free x.row x.lp x.volume x.inside.inside (subst (λ (e : Pp). IsOneOf (copies_of x.row x.lp) e) (one_partition_of ∙ other.0) one))
+      by (Some z) free (inr one) (inl other) = absurd ((free z refl).free y.row y.lp y.volume y.inside.inside (subst (λ (e : Pp). IsOneOf (copies_of y.row y.lp) e) (sym one_partition_of ∙ one.0) other))
+      by (Some z) free (inr one) (inr other) =
+          let same = (free z refl).one x.row.number b y.row.number c one.1 other.1 in
+          record {
+            volume = sym x.number ∙ same.0 ∙ y.number;
+            block =
+              let size = partition_blocks group.mib in
+              let some = mib_positive group valid in
+              let first : b / size * size + b % size ≡ b = whole size b (omega arith) in
+              let second : c / size * size + c % size ≡ c = whole size c (omega arith) in
+              let part : b / size ≡ c / size = same.1 in
+              let rest : b % size ≡ c % size = parts_same.1 in
+              sym first ∙ (λ t. part t * size + rest t) ∙ second;
+            copy = one_partition_of;
+          }
 
   -- the copies of its first block are those of each
   pub copy_too : (i : ℕ) (r : Queued) (lv b : ℕ) (c : Pp) → s.queue i ≡ Some r → IsTrue (covers r lv b) → IsTrue (s.is_copy r.lv r.first c) → IsTrue (s.is_copy r.lv b c)
@@ -81,7 +130,7 @@ module _ (group : Descriptor) (valid : IsValid group) (s : ModelState) (facts : 
       let lt : k < r.count = omega arith in
       let over = covers_its r k lt in
       let place : sector_of group.mib p.pp b ≡ sector_of group.mib c.pp (r.first + k) = let first : f.first ≡ sector_of group.mib c.pp r.first = transfer.first in let e = stands_at i r c.pp k there lt in omega arith in
-      let same = one_block group lv b r.lv (r.first + k) p c valid (copy_of lv b p copy).0 (copy_of r.lv (r.first + k) c (copy_too i r r.lv (r.first + k) c there over aimed)).0 (sym at.disk ∙ transfer.disk) place in
+      let same = one_place lv b r.lv (r.first + k) p c (copy_of lv b p copy) (copy_of r.lv (r.first + k) c (copy_too i r r.lv (r.first + k) c there over aimed)) (sym at.disk ∙ transfer.disk) place in
       record {
         over = subst (λ n. IsTrue (covers r n b)) (sym same.volume) (subst (λ n. IsTrue (covers r r.lv n)) (sym same.block) over);
         copy = same.copy;
@@ -267,11 +316,11 @@ owners_have_out s facts group w in_flight device media valid tied volumes all si
 
     raw : (d at : ℕ) (x : Sector) → (contents_of (image_of device.sizes media)).descriptor d ≡ None → data_start ≤ at → (f : Flight) → written f d at ≡ Some x → What s group w f d at x → ⊥
     raw d at x none low f brings (Data own high) =
-        let c = (copy_of group valid s facts (members_showing (contents_of (image_of device.sizes media)) group) tied volumes own.req.lv own.req.first own.copy own.aimed).1 in
+        let c = (copy_of group valid s facts (members_showing (contents_of (image_of device.sizes media)) group) tied volumes own.req.lv own.req.first own.copy own.aimed).member in
         let same : own.copy.disk ≡ d = sym own.transfer.disk ∙ (writes_at f d at x brings).disk in
         not_member (contents_of (image_of device.sizes media)) group d none (subst (λ n. IsTrue (members_showing (contents_of (image_of device.sizes media)) group n)) same c)
     raw d at x none low f brings (OfStep own high) =
-        let c = (copy_of group valid s facts (members_showing (contents_of (image_of device.sizes media)) group) tied volumes own.req.lv own.req.first own.step.target own.aimed).1 in
+        let c = (copy_of group valid s facts (members_showing (contents_of (image_of device.sizes media)) group) tied volumes own.req.lv own.req.first own.step.target own.aimed).member in
         let same : own.step.target.disk ≡ d = sym own.transfer.disk ∙ (writes_at f d at x brings).disk in
         not_member (contents_of (image_of device.sizes media)) group d none (subst (λ n. IsTrue (members_showing (contents_of (image_of device.sizes media)) group n)) same c)
     raw d at x none low f brings (OfNote its) = let e : at ≡ 8 = its.place in absurd (omega arith)

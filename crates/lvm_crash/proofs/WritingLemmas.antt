@@ -17,7 +17,7 @@ use Rattle.lvm_kept.specs.Contents.{Contents, contents_of, descriptor_on, status
 use Rattle.lvm_kept.specs.Group.{block_at, names_if}
 use Rattle.lvm_kept.specs.Places.{SameRecords}
 use Rattle.lvm_kept.proofs.PlacesLemmas.{descriptor-same, status-same, note-same, blocks_are_sectors}
-use Rattle.lvm_invariant.specs.State.{Flying, Well, Queued, ModelState, covers}
+use Rattle.lvm_invariant.specs.State.{Flying, Well, Queued, Beside, ModelState, covers}
 use Rattle.lvm_invariant.specs.Found.{Votes}
 use Rattle.lvm_invariant.specs.Good.{Good}
 use Rattle.lvm_invariant.specs.Events.{Transfer}
@@ -92,13 +92,13 @@ module _ (sizes : List ℕ) (m n : Media) where
 
   -- the state goes on showing them
   pub shows_records : (s new : ModelState) (group : Descriptor) (in_flight : Option (Stamped Status)) → SameRecords was is → Shows s group in_flight old
-      → new.in_flight ≡ s.in_flight → ((d lv g : ℕ) → new.media.names d lv g ≡ s.media.names d lv g) → ((d : ℕ) → new.media.status d ≡ s.media.status d)
+      → new.in_flight ≡ s.in_flight → new.beside ≡ s.beside → ((d lv g : ℕ) → new.media.names d lv g ≡ s.media.names d lv g) → ((d : ℕ) → new.media.status d ≡ s.media.status d)
       → ((lv b : ℕ) (p : Pp) → IsTrue (new.is_copy lv b p) → new.media.block lv b p ≡ block_at now group.mib p b) → Shows new group in_flight now
-  shows_records s new group in_flight same shows flight names status blocks = record {
+  shows_records s new group in_flight same shows flight beside names status blocks = record {
     blocks = blocks;
     names = λ d lv g. names d lv g ∙ shows.names d lv g ∙ ap (λ note. names_if note lv g) (sym (note-same was is d same.same (same.sectors d 8 (omega arith))));
-    status = λ d. status d ∙ shows.status d ∙ ap (marks_shown group.id) (sym (status-same was is same d));
-    statuses = statuses_last.moves s new group in_flight old now shows.statuses flight (λ d. inl (status-same was is same d));
+    status = λ d. status d ∙ shows.status d ∙ ap (marks_shown s.beside group.id) (sym (status-same was is same d)) ∙ ap (λ (o : Option Beside). marks_shown o group.id (now.status d)) (sym beside);
+    statuses = statuses_last.moves s new group in_flight old now shows.statuses flight beside (λ d. inl (status-same was is same d));
   }
 
 -- ---- a write of a request
@@ -130,7 +130,7 @@ module _ (votes : Votes) (s : ModelState) (i : ℕ) (r : Queued) (c : Pp) (value
   }
 
   member : IsTrue (members c.disk)
-  member = (copy_of group valid s s.facts members good.sound.tied describes.volumes r.lv r.first c aimed).1
+  member = (copy_of group valid s s.facts members good.sound.tied describes.volumes r.lv r.first c aimed).member
 
   raw_same : (d at : ℕ) → before.descriptor d ≡ None → data_start ≤ at → n d at ≡ m d at
   raw_same d at none low = ⊎_elim (λ same. same) (λ brings. absurd (not_member before group d none (subst (λ k. IsTrue (members k)) (sym (in_data d at (n d at) brings).1) member))) (lands.some d at)
@@ -218,7 +218,7 @@ write_ends votes s i r c group in_flight sizes m n f well valid good describes s
           (may, refl) good tt describes
           (group_kept votes s i r c r.value group in_flight sizes m n f well valid good describes started.there aimed transfer lands)
           (shows_records sizes m n s (restaged s i r c (stage_of well) block) group in_flight
-          (records_same votes s i r c r.value group in_flight sizes m n f well valid good describes started.there aimed transfer lands) describes.shown refl (λ d lv g. refl) (λ d. refl)
+          (records_same votes s i r c r.value group in_flight sizes m n f well valid good describes started.there aimed transfer lands) describes.shown refl refl (λ d lv g. refl) (λ d. refl)
           (shown votes s i r c r.value group in_flight sizes m n f well valid good describes started.there aimed transfer lands));
     }
   where

@@ -28,7 +28,7 @@ DescriptionLasts =
 -- An update begins under a stamp later than each status of its group that stands; its writes bring it to disks, or leave what they had; it ends.
 pub record StatusesLast : Type 0 where
   pub begins : (s : ModelState) (group : Descriptor) (c : Contents) (u : Stamped Status) → HasStatuses s group None c → u.value.id ≡ group.id
-      → ((d : ℕ) (r : Stamped Status) → c.status d ≡ Some r → r.value.id ≡ u.value.id → stamp_lt r.stamp u.stamp ≡ true) → HasStatuses (record s { in_flight = Some (as_marks u) }) group (Some u) c
-  pub moves : (s new : ModelState) (group : Descriptor) (in_flight : Option (Stamped Status)) (old now : Contents) → HasStatuses s group in_flight old → new.in_flight ≡ s.in_flight
+      → ((d : ℕ) (r : Stamped Status) → c.status d ≡ Some r → r.value.id ≡ u.value.id → stamp_lt r.stamp u.stamp ≡ true) → HasStatuses (record s { in_flight = Some (as_marks s.beside u) }) group (Some u) c
+  pub moves : (s new : ModelState) (group : Descriptor) (in_flight : Option (Stamped Status)) (old now : Contents) → HasStatuses s group in_flight old → new.in_flight ≡ s.in_flight → new.beside ≡ s.beside
       → ((d : ℕ) → (now.status d ≡ old.status d) ⊎ ((u : Stamped Status) × (in_flight ≡ Some u) × (now.status d ≡ Some u))) → HasStatuses new group in_flight now
   pub ends : (s : ModelState) (group : Descriptor) (in_flight : Option (Stamped Status)) (c : Contents) → HasStatuses s group in_flight c → HasStatuses (record s { in_flight = None }) group None c

@@ -9,7 +9,7 @@ use Rattle.lvm_disk.specs.Paths.{DeviceStep}
 use Rattle.lvm_kept.specs.Contents.{Contents, contents_of, has_records}
 use Rattle.lvm_kept.specs.Plans.{StepIsPlanned}
 use Rattle.lvm_kept.specs.Torn.{RecordWrite, IsOtherOrRecord}
-use Rattle.lvm_invariant.specs.State.{Marks, Groups, ModelState}
+use Rattle.lvm_invariant.specs.State.{Marks, Groups, Beside, ModelState}
 use Rattle.lvm_invariant.specs.Found.{Votes}
 use Rattle.lvm_invariant.specs.Good.{Good}
 use Rattle.lvm_invariant.specs.Events.{Event, ModelStep}
@@ -24,13 +24,13 @@ use Rattle.lvm_crash.specs.Writing.{Lands}
 -- ---- statuses
 
 -- what the state sees of the statuses that stand
-abbrev pub statuses_of : ℕ → Contents → ℕ → Option (Stamped Marks)
-statuses_of id now d = marks_shown id (now.status d)
+abbrev pub statuses_of : Option Beside → ℕ → Contents → ℕ → Option (Stamped Marks)
+statuses_of beside id now d = marks_shown beside id (now.status d)
 
 -- A write of the update has ended on a disk.
 pub record StatusEnded (s : ModelState) (group : Descriptor) (u : Stamped Status) (disk : ℕ) (well : Bool) (flying : ℕ → Bool) (now : Contents) : Type 0 where
-  pub may : Moves s (as_marks u) (statuses_of group.id now)
-  pub describes : Describes (moved s (statuses_of group.id now) flying) s.facts group (Some u) now
+  pub may : Moves s (as_marks s.beside u) (statuses_of s.beside group.id now)
+  pub describes : Describes (moved s (statuses_of s.beside group.id now) flying) s.facts group (Some u) now
   pub stands : IsTrue well → now.status disk ≡ Some u
 
 abbrev pub StatusEndMatches : Type 0
@@ -73,11 +73,11 @@ QuietLasts =
 -- An update begins under a stamp that is later than each of its group that stands, and ends.
 pub record UpdatesLast : Type 0 where
   pub begins : (votes : Votes) (s : ModelState) (group : Descriptor) (c : Contents) (u : Stamped Status) → Good votes s → Describes s s.facts group None c → u.value.id ≡ group.id
-      → (as_marks u).value ≡ s.wanted → stamp_lt s.committed.stamp u.stamp ≡ true
+      → (as_marks s.beside u).value ≡ s.wanted → stamp_lt s.committed.stamp u.stamp ≡ true
       → ((d : ℕ) (r : Stamped Status) → c.status d ≡ Some r → r.value.id ≡ u.value.id → stamp_lt r.stamp u.stamp ≡ true)
-      → Good votes (record s { in_flight = Some (as_marks u) }) × Describes (record s { in_flight = Some (as_marks u) }) s.facts group (Some u) c
+      → Good votes (record s { in_flight = Some (as_marks s.beside u) }) × Describes (record s { in_flight = Some (as_marks s.beside u) }) s.facts group (Some u) c
   pub ends : (votes : Votes) (s : ModelState) (group : Descriptor) (c : Contents) (u : Stamped Status) → Good votes s → Describes s s.facts group (Some u) c
-      → s.committed ≡ as_marks u → ((d : ℕ) → s.status_flying d ≡ false) → Good votes (record s { in_flight = None }) × Describes (record s { in_flight = None }) s.facts group None c
+      → s.committed ≡ as_marks s.beside u → ((d : ℕ) → s.status_flying d ≡ false) → Good votes (record s { in_flight = None }) × Describes (record s { in_flight = None }) s.facts group None c
 
 -- An update that is being written goes on being so at each step of the shelf that starts nothing else in the slots of statuses.
 abbrev pub UpdateGoesOn : Type 0

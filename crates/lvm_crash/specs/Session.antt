@@ -1,12 +1,13 @@
 -- A session of a group, and what stands on the disks: when the one describes the other.
-use Rattle.std.specs.Prelude.{◌≡◌, ◌⊎◌, ◌↔◌, ℕ, ◌<◌, ◌≤◌, List, [], length, Option, Some, IsTrue, option_map}
+use Rattle.std.specs.Prelude.{◌≡◌, ◌⊎◌, ◌↔◌, ℕ, ◌<◌, ◌≤◌, Bool, false, ◌||◌, List, [], length, Option, Some, None, IsTrue, option_map}
 use Rattle.lvm_num.specs.declared.place.Pp.{Pp}
 use Rattle.lvm_num.specs.declared.descriptor.PvRow.{PvRow}
 use Rattle.lvm_num.specs.declared.descriptor.LvRow.{LvRow}
 use Rattle.lvm_num.specs.declared.descriptor.Descriptor.{Descriptor}
 use Rattle.lvm_num.specs.declared.status.Status.{Status}
 use Rattle.lvm_num.specs.Disks.{Disks}
-use Rattle.lvm_num.specs.Descriptor.{copies_of, member_of, volume_of}
+use Rattle.lvm_num.specs.Descriptor.{copies_of, member_of, volume_of, is_pp}
+use Rattle.lvm_num.specs.Geometry.{partition_of}
 use Rattle.lvm_num.specs.Status.{calls_stale, calls_dirty}
 use Rattle.lvm_num.specs.Votes.{all_disks, votes_in, is_enough_to_read, is_enough_to_write}
 use Rattle.lvm_num.specs.Record.{Stamped}
@@ -15,28 +16,33 @@ use Rattle.lvm_vol.specs.Facts.{Fact}
 use Rattle.lvm_vol.specs.May.{known}
 use Rattle.lvm_vol.specs.Standing.{volumes_in}
 use Rattle.lvm_kept.specs.Contents.{Contents}
-use Rattle.lvm_kept.specs.Group.{if_passes, is_status_of, Finds, IsFound, members_in, Reads, AreAlike, block_at, IsBlockOf, is_named, IsOneOf}
+use Rattle.lvm_kept.specs.Group.{if_passes, is_status_of, Finds, IsFound, members_in, Reads, block_at, IsBlockOf, is_named, IsOneOf}
 use Rattle.lvm_kept.specs.Kept.{StandsAs, RawAgrees}
-use Rattle.lvm_invariant.specs.State.{Marks, View, ModelState}
+use Rattle.lvm_invariant.specs.State.{Marks, View, Beside, ModelState}
 use Rattle.lvm_num.specs.Modes.{is_active, is_passive}
 use Rattle.lvm_invariant.specs.Found.{Votes}
 
 -- ---- what a session sees of the disks
 
--- the marks of a status
-abbrev pub marks_of : Status → Marks
-marks_of status = record { stale = calls_stale status; dirty = calls_dirty status }
+-- it is the partition beside the group's copies
+abbrev pub is_beside : Option Beside → Pp → Bool
+is_beside None p = false
+is_beside (Some o) p = is_pp p o.place
 
-abbrev pub as_marks : Stamped Status → Stamped Marks
-as_marks r = record { stamp = r.stamp; value = marks_of r.value }
+-- the marks of a status, as they are seen: the partition beside counts as stale
+abbrev pub marks_of : Option Beside → Status → Marks
+marks_of beside status = record { stale = λ p. is_beside beside p || calls_stale status p; dirty = calls_dirty status }
+
+abbrev pub as_marks : Option Beside → Stamped Status → Stamped Marks
+as_marks beside r = record { stamp = r.stamp; value = marks_of beside r.value }
 
 -- those of the newest status of a disk, if it is of the group
-abbrev pub marks_shown : ℕ → Option (Stamped Status) → Option (Stamped Marks)
-marks_shown id shown = option_map as_marks (if_passes (is_status_of id) shown)
+abbrev pub marks_shown : Option Beside → ℕ → Option (Stamped Status) → Option (Stamped Marks)
+marks_shown beside id shown = option_map (as_marks beside) (if_passes (is_status_of id) shown)
 
 -- what the disks show to a session of the group
-abbrev pub view_of : Descriptor → Contents → View
-view_of group c = record { block = λ lv b p. block_at c group.mib p b; names = is_named c; status = λ d. marks_shown group.id (c.status d) }
+abbrev pub view_of : Option Beside → Descriptor → Contents → View
+view_of beside group c = record { block = λ lv b p. block_at c group.mib p b; names = is_named c; status = λ d. marks_shown beside group.id (c.status d) }
 
 -- ---- the group
 
@@ -66,8 +72,6 @@ pub record GroupStands (c : Contents) (group : Descriptor) : Type 0 where
   pub others : OthersStand c group.id
   -- descriptors of a group under one stamp are one
   pub once : (d e : ℕ) (r t : Stamped Descriptor) → c.descriptor d ≡ Some r → c.descriptor e ≡ Some t → r.value.id ≡ t.value.id → r.stamp ≡ t.stamp → r ≡ t
-  -- and those of a group differ in its volumes alone
-  pub alike : AreAlike c
 
 -- ---- its volumes
 
@@ -79,10 +83,21 @@ pub record IsBlockIn (group : Descriptor) (lv b : ℕ) : Type 0 where
   pub number : row.number ≡ lv
   pub inside : IsBlockOf group.mib row lp b
 
--- The session's copies are those of the group that stand on members which are there, of which each logical partition has one; its
+-- a copy of a logical partition, or the partition beside, for this block
+abbrev pub IsPlaceOf : Option Beside → LvRow → ℕ → ℕ → Pp → Type 0
+IsPlaceOf None row lp b p = IsOneOf (copies_of row lp) p
+IsPlaceOf (Some o) row lp b p = IsOneOf (copies_of row lp) p ⊎ ((p ≡ o.place) × IsTrue (o.its row.number b))
+
+-- No volume has the partition beside, and it stands for blocks of one logical partition.
+pub record IsFreePlace (group : Descriptor) (o : Beside) : Type 0 where
+  pub free : (row : LvRow) (lp : ℕ) → IsOneOf group.lvs row → lp < row.lps → IsOneOf (copies_of row lp) o.place → ⊥
+  pub one : (lv b l c : ℕ) → IsTrue (o.its lv b) → IsTrue (o.its l c) → (lv ≡ l) × (partition_of group.mib b ≡ partition_of group.mib c)
+
+-- The session's copies are those of the group that stand on members which are there, of which each logical partition has one, and the partition beside; its
 -- modes are the group's, and the history has the group's volumes.
 pub record HasVolumes (s : ModelState) (facts : List Fact) (group : Descriptor) (members : Disks) : Type 0 where
-  pub copies : (row : LvRow) (lp b : ℕ) (p : Pp) → IsOneOf group.lvs row → IsBlockOf group.mib row lp b → IsTrue (s.is_copy row.number b p) ↔ (IsOneOf (copies_of row lp) p × IsTrue (members p.disk))
+  pub copies : (row : LvRow) (lp b : ℕ) (p : Pp) → IsOneOf group.lvs row → IsBlockOf group.mib row lp b → IsTrue (s.is_copy row.number b p) ↔ (IsPlaceOf s.beside row lp b p × IsTrue (members p.disk))
+  pub free : (o : Beside) → s.beside ≡ Some o → IsFreePlace group o
   pub inside : (lv b : ℕ) (p : Pp) → IsTrue (s.is_copy lv b p) → IsBlockIn group lv b
   pub some : (row : LvRow) (lp : ℕ) → IsOneOf group.lvs row → lp < row.lps → (p : Pp) × IsOneOf (copies_of row lp) p × IsTrue (members p.disk)
   pub notes : (row : LvRow) → IsOneOf group.lvs row → s.is_active row.number ≡ is_active row.mode
@@ -94,7 +109,7 @@ pub record HasVolumes (s : ModelState) (facts : List Fact) (group : Descriptor) 
 
 -- The status in flight is this one, of the group, and statuses of a group under one stamp are one.
 pub record HasStatuses (s : ModelState) (group : Descriptor) (in_flight : Option (Stamped Status)) (c : Contents) : Type 0 where
-  pub same : s.in_flight ≡ option_map as_marks in_flight
+  pub same : s.in_flight ≡ option_map (as_marks s.beside) in_flight
   pub own : (u : Stamped Status) → in_flight ≡ Some u → u.value.id ≡ group.id
   pub once : (d e : ℕ) (r t : Stamped Status) → c.status d ≡ Some r → c.status e ≡ Some t → r.value.id ≡ t.value.id → r.stamp ≡ t.stamp → r ≡ t
   pub new : (u : Stamped Status) (d : ℕ) (r : Stamped Status) → in_flight ≡ Some u → c.status d ≡ Some r → r.value.id ≡ u.value.id → r.stamp ≡ u.stamp → r ≡ u
@@ -105,7 +120,7 @@ pub record HasStatuses (s : ModelState) (group : Descriptor) (in_flight : Option
 pub record Shows (s : ModelState) (group : Descriptor) (in_flight : Option (Stamped Status)) (c : Contents) : Type 0 where
   pub blocks : (lv b : ℕ) (p : Pp) → IsTrue (s.is_copy lv b p) → s.media.block lv b p ≡ block_at c group.mib p b
   pub names : (d lv track_group : ℕ) → s.media.names d lv track_group ≡ is_named c d lv track_group
-  pub status : (d : ℕ) → s.media.status d ≡ marks_shown group.id (c.status d)
+  pub status : (d : ℕ) → s.media.status d ≡ marks_shown s.beside group.id (c.status d)
   pub statuses : HasStatuses s group in_flight c
 
 -- So is all that stands on the disks, and disks in no group hold what the history allows. (The history is the state's while the session is on;

@@ -7,7 +7,7 @@ ghost use Rattle.lvm_checker.specs.Rows.{is_landing, is_taking};
 ghost use Rattle.lvm_history.specs.Keeping.{row_of, blocks_first, ask_found, is_open_by, awaited_by, is_answered_by, entry_kept, IsOneOfAsks};
 
 use lvm_checker::below::{Entry, Memory, Outcome, Vol};
-use lvm_checker::{Ask, Block, Row, has_landed, is_allowed, is_legal, is_taken};
+use lvm_checker::{Ask, Block, Row, has_landed, is_legal, is_taken, may_have};
 use std::alloc::Global;
 use std::marker::Model;
 
@@ -237,12 +237,12 @@ impl History {
     }
 
     /// Whether the block of the volume may have this value now: its values are unknown, or this is one
-    /// of them. Looks through all entries.
+    /// of them. Looks from the newest entry back, up to the first that fixes the block's values.
     pub fn may_of(&self, vol: Vol, block: u64, value: &[u8; 512]) -> bool
         ensures { IsTrue result ↔ May (known self.now.facts vol block) value.now }
     {
         let block = Block { vol, number: block };
-        is_allowed(&self.rows, &self.asks, &self.blocks, block, value)
+        may_have(&self.rows, &self.asks, &self.blocks, block, value)
     }
 
     /// Whether the history is legal: requests are numbered, landed and taken in their order, each lands

@@ -1,11 +1,10 @@
 -- Lists of those that are inside.
-use Rattle.std.proofs.Common.{◌≡◌, ◌==◌, ◌<◌, ◌≤◌, ◌&&◌, ◌++◌, ◌⊎◌, [], ◌∷◌, ℕ, zero, suc, List, Option, Some, None, Bool, true, false, cond, nat_lt, reverse, refl, sym, ◌∙◌, ap, subst, inl, inr, arith}
+use Rattle.std.proofs.Common.{◌≡◌, ◌==◌, ◌<◌, ◌≤◌, ◌&&◌, ◌++◌, ◌⊎◌, [], ◌∷◌, ℕ, zero, suc, List, Option, Some, None, Bool, true, false, cond, nat_lt, refl, sym, ◌∙◌, ap, subst, inl, inr, arith}
 use Rattle.std.specs.List.{All, Contains, find, filter}
-use Rattle.std.specs.Option.{option_map, option_or, IsSomeAnd, IfSome, is_some}
+use Rattle.std.specs.Option.{option_map, IsSomeAnd, IfSome, is_some}
 use Rattle.std.proofs.lemmas.Option.{same_Some}
-use Rattle.std.proofs.lemmas.Bool.{eqb-true, eq-eqb, ltb-true, lt-ltb, ne_eqb, and_parts}
-use Rattle.std.proofs.lemmas.List.{reverse-append}
-use Rattle.std.proofs.lemmas.List.Folds.{Any-from_list_any, find-append, list_any-from_Any}
+use Rattle.std.proofs.lemmas.Bool.{eqb-true, eq-eqb, ltb-true, lt-ltb, and_parts}
+use Rattle.std.proofs.lemmas.List.Folds.{Any-from_list_any, list_any-from_Any}
 use Rattle.std.proofs.lemmas.List.Elements.{All-nil, All-head, All-tail, All-push, All-filter, All-contains}
 use Rattle.lvm_hold.specs.declared.queue.Held.{Held}
 use Rattle.lvm_hold.specs.declared.queue.Row.{Row}
@@ -170,27 +169,3 @@ inside_tells rows id (Some row) order is =
     let it : IsFound (λ (row : Row). row.id == id) rows row = found (λ (row : Row). row.id == id) rows row is in
     (λ _. record { row = row; among = it.among; its = eqb-true row.id id it.passes }, λ _. refl)
 inside_tells rows id None order is = (λ some. cc, λ inside. absurd (inside_is_found rows id order inside is))
-
--- ---- from the end
-
--- none behind the one of this id has it
-none_behind : (id : ℕ) (first : Row) (rows : List Row) → (first.id == id) ≡ true → All (λ (later : Row). first.id < later.id) rows → find (λ (r : Row). r.id == id) rows ≡ None
-none_behind id first [] its below = refl
-none_behind id first (row ∷ rows) its below =
-    let less : first.id < row.id = All-head (λ (later : Row). first.id < later.id) row rows below in
-    let same : first.id ≡ id = eqb-true first.id id its in
-    let other : (row.id == id) ≡ false = ne_eqb row.id id (λ is. absurd (omega arith)) in
-    rw other (none_behind id first rows its (All-tail (λ (later : Row). first.id < later.id) row rows below))
-
-one_end : (test : Bool) (row : Row) (o : Option Row) → (test ≡ true → o ≡ None) → option_or o (cond test (Some row) None) ≡ cond test (Some row) o
-one_end true row o none = rw (none refl) refl
-one_end false row None none = refl
-one_end false row (Some other) none = refl
-
--- ids differ, so the first of an id is the last of it
-pub found_from_end : (id : ℕ) (rows : List Row) → IsAscending rows → find (λ (r : Row). r.id == id) (reverse rows) ≡ find (λ (r : Row). r.id == id) rows
-found_from_end id [] order = refl
-found_from_end id (row ∷ rows) order =
-    let its : Row → Bool = λ r. r.id == id in
-    ap (find its) (reverse-append (row ∷ []) rows) ∙ find-append its (reverse rows) (row ∷ []) ∙ ap (λ (o : Option Row). option_or o (cond (its row) (Some row) None)) (found_from_end id rows order.1)
-    ∙ one_end (its row) row (find its rows) (λ is. none_behind id row rows is order.0)

@@ -1,3 +1,4 @@
 pub mod Conflicts
 pub mod Waiting
 pub mod Order
+pub mod Chains

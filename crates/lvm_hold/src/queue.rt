@@ -1,10 +1,8 @@
 //! What was asked for and has not landed, in order of ids.
-ghost use Rattle.std.specs.Prelude.{◌≡◌, ◌==◌, ◌<◌, ◌≤◌, ◌+◌, ◌++◌, [], ◌∷◌, ◌↔◌, ℕ, length, nat_lt, IsTrue, IfOk, IfSome, IsSomeAnd};
-ghost use Rattle.std.specs.List.{find};
-ghost use Rattle.std.specs.Option.{option_copied};
-ghost use Rattle.lvm_hold.specs.Conflicts.{conflicts, have_common_block, is_write, IsInGroup};
-ghost use Rattle.lvm_hold.specs.Order.{IsAscending, first_conflict};
+ghost use Rattle.std.specs.Prelude.{◌≡◌, ◌<◌, ◌≤◌, ◌+◌, ◌++◌, [], ◌∷◌, ◌↔◌, ℕ, length, None, IsTrue, IfOk, IfSome, IsSomeAnd, vec_len, vec_capacity, replicate};
+ghost use Rattle.lvm_hold.specs.Conflicts.{IsInGroup};
 
+use crate::chains::{HEADS, first_in_chain, head_of, last_of, link, place_of};
 use lvm_num::Memory;
 use std::alloc::Global;
 use std::marker::Model;
@@ -34,18 +32,22 @@ pub struct Row {
 pub struct Queue {
     room: u32,
     rows: Vec<Row>,
+    // Of each row the next one of its chain, by its id.
+    nexts: Vec<Option<u64>>,
+    // Of each chain the first row.
+    heads: Vec<Option<u64>>,
 }
 
 impl Model for Queue {
     ghost use Rattle.std.specs.Prelude.{◌≤◌, vec_capacity};
     ghost use Rattle.lvm_hold.specs.Waiting.{Waiting};
-    ghost use Rattle.lvm_hold.specs.Order.{IsAscending};
+    ghost use Rattle.lvm_hold.specs.Chains.{IsChained};
 
     ghost Value = { Waiting };
 
     ghost view = { λ q. record { room = q.room; rows = q.rows.items } };
 
-    ghost invariant = { λ q. (q.room ≤ vec_capacity q.rows) × IsAscending q.rows.items };
+    ghost invariant = { λ q. (q.room ≤ vec_capacity q.rows) × (q.room ≤ vec_capacity q.nexts) × IsChained q.rows.items q.nexts.items q.heads.items };
 }
 
 impl Queue {
@@ -55,10 +57,20 @@ impl Queue {
     pub fn new(alloc: Global, room: u32) -> Result<Queue, Memory>
         ensures { IfOk result (λ queue. queue ≡ record { room = room; rows = [] }) }
     {
-        match Vec::with_capacity(alloc, room as usize) {
-            Ok(rows) => Ok(Queue { room, rows }),
-            Err(_) => Err(Memory),
-        }
+        let mut heads = Vec::new(alloc);
+        let (Ok(rows), Ok(nexts), Ok(())) = (
+            Vec::with_capacity(alloc, room as usize),
+            Vec::with_capacity(alloc, room as usize),
+            heads.resize(HEADS, None),
+        ) else {
+            return Err(Memory);
+        };
+        Ok(Queue {
+            room,
+            rows,
+            nexts,
+            heads,
+        })
     }
 
     /// A request or a copy step enters behind all that are inside.
@@ -68,10 +80,11 @@ impl Queue {
         requires blocks { IsInGroup ask }
         ensures { self.new ≡ record self.old { rows = self.old.rows ++ record { id = id; ask = ask } ∷ [] } }
     {
-        match self.rows.push(Row { id, ask }) {
-            Ok(()) => {}
-            Err(_) => unreachable!(),
-        }
+        let head = head_of(&ask);
+        let before = last_of(&self.rows, head);
+        link(&mut self.heads, &mut self.nexts, before, head, Some(id));
+        append(&mut self.rows, Row { id, ask });
+        append(&mut self.nexts, None);
     }
 
     /// One that is inside leaves.
@@ -79,14 +92,21 @@ impl Queue {
         requires { IsInside self.old.rows id }
         ensures { self.new ≡ record self.old { rows = without id self.old.rows } }
     {
-        self.rows.retain(|row| row.id != id);
+        if let Some(place) = place_of(&self.rows, id) {
+            let head = head_of(&self.rows[place].ask);
+            let before = last_of(&self.rows[..place], head);
+            let next = self.nexts[place];
+            link(&mut self.heads, &mut self.nexts, before, head, next);
+            self.rows.remove(place);
+            self.nexts.remove(place);
+        }
     }
 
     /// Whether the one of this id is inside.
     pub fn has(&self, id: u64) -> bool
         ensures { IsTrue result ↔ IsInside self.now.rows id }
     {
-        row_of(&self.rows, id).is_some()
+        place_of(&self.rows, id).is_some()
     }
 
     /// The least earlier id that one which is inside waits for.
@@ -95,49 +115,19 @@ impl Queue {
         ensures blocks { IfSome result (λ earlier. Blocks self.now.rows earlier id) }
         ensures least { (earlier : ℕ) → Blocks self.now.rows earlier id → IsSomeAnd result (λ least. least ≤ earlier) }
     {
-        let this = row_of(&self.rows, id)?;
-        first_conflict(&self.rows, this)
+        let place = place_of(&self.rows, id)?;
+        first_in_chain(&self.rows, &self.nexts, &self.heads, &self.rows[place])
     }
 }
 
-// The one of this id. It is looked for from the end, since mostly it came last.
-fn row_of(rows: &[Row], id: u64) -> Option<&Row>
-    requires { IsAscending rows.now }
-    ensures { option_copied result ≡ find (λ row. row.id == id) rows.now }
+// Adds an item to items that have room.
+fn append<T>(items: &mut Vec<T>, item: T)
+    requires { vec_len items.old < vec_capacity items.old }
+    ensures items { items.new.items ≡ items.old.items ++ item ∷ [] }
+    ensures capacity { vec_capacity items.old ≤ vec_capacity items.new }
 {
-    rows.iter().rev().find(|row| row.id == id)
-}
-
-// The first that is earlier than this one and conflicts with it.
-fn first_conflict(rows: &[Row], this: &Row) -> Option<u64>
-    ensures { result ≡ first_conflict rows.now this.now }
-{
-    rows.iter()
-        .find(|row| row.id < this.id && conflicts(&row.ask, &this.ask))
-        .map(|row| row.id)
-}
-
-fn conflicts(a: &Held, b: &Held) -> bool
-    ensures { result ≡ conflicts a.now b.now }
-{
-    have_common_block(a, b) && (is_write(a) || is_write(b))
-}
-
-fn have_common_block(a: &Held, b: &Held) -> bool
-    ensures { result ≡ have_common_block a.now b.now }
-{
-    a.lv == b.lv && is_before_end(a.at, b) && is_before_end(b.at, a)
-}
-
-// Whether a block is before the end of what one asks for.
-fn is_before_end(block: u64, of: &Held) -> bool
-    ensures { result ≡ nat_lt block (of.now.at + of.now.count) }
-{
-    block < of.at || block - of.at < u64::from(of.count)
-}
-
-fn is_write(a: &Held) -> bool
-    ensures { result ≡ is_write a.now }
-{
-    a.write && !a.copy
+    match items.push(item) {
+        Ok(()) => {}
+        Err(_) => unreachable!(),
+    }
 }

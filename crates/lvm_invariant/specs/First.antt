@@ -60,6 +60,7 @@ at_rest mode stale = record {
   flying_note = λ d. None;
   open_copy = None;
   step_write = None;
+  beside = None;
 }
 
 -- one that is active and has nothing stale

@@ -63,6 +63,11 @@ pub record StepWrite : Type 0 where
   pub target : Pp
   pub place : ℕ
 
+-- a partition that no volume of the group has yet, and the blocks for which it is to stand
+pub record Beside : Type 0 where
+  pub place : Pp
+  pub its : ℕ → ℕ → Bool
+
 pub record ModelState : Type 0 where
   pub media : View
   pub queue : ℕ → Option Queued
@@ -84,6 +89,8 @@ pub record ModelState : Type 0 where
   pub flying_note : ℕ → Option Groups
   pub open_copy : Option ModelCopy
   pub step_write : Option StepWrite
+  -- the partition that is brought up beside the group's copies: it is a copy of the state, and counts as stale whatever statuses say
+  pub beside : Option Beside
 
 abbrev pub covers : Queued → ℕ → ℕ → Bool
 covers r lv b = r.lv == lv && nat_le r.first b && nat_lt b (r.first + r.count)

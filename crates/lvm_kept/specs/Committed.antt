@@ -3,7 +3,7 @@ use Rattle.std.specs.Prelude.{◌≡◌, ◌⊎◌, ℕ, ◌<◌, ◌≤◌, Boo
 use Rattle.lvm_disk.specs.passed.Names.{Descriptor, Status, Disks, Stamped, stamp_lt, all_disks, CanWrite}
 use Rattle.lvm_disk.specs.Device.{Image}
 use Rattle.lvm_kept.specs.Contents.{Contents, contents_of}
-use Rattle.lvm_kept.specs.Group.{is_of, is_status_of, is_voter, has_quorum, status_among, Finds, IsAlike, AreAlike, IsOneByAll, IsOnlyGroup}
+use Rattle.lvm_kept.specs.Group.{is_of, is_status_of, is_voter, status_among, Finds, IsFound, IsOneFound, IsOnlyGroup}
 
 -- the two give each set of disks the same votes
 pub record SameVotes (a b : Descriptor) : Type 0 where
@@ -73,22 +73,10 @@ NextIsCommitted X =
 
 -- ---- descriptors of one group
 
--- What some disks find all disks find, where descriptors of a group differ in its volumes alone.
-abbrev pub FoundByAll : Type 0
-FoundByAll = (c : Contents) (disks : Disks) (id : ℕ) (g : Descriptor) → IsWithinDisks c → AreAlike c → Finds c disks id g → IsTrue (has_quorum c all_disks id)
-
--- So where at most one group has a quorum among all disks, no set of disks finds another one than that.
-abbrev pub OneByAllIsOnly : Type 0
-OneByAllIsOnly = (c : Contents) (disks : Disks) (g : Descriptor) → IsWithinDisks c → AreAlike c → IsOneByAll c → Finds c disks g.id g → IsOnlyGroup c g.id
+-- Where what is found is of one group, no set of disks finds another one than that which one finds.
+abbrev pub OneFoundIsOnly : Type 0
+OneFoundIsOnly = (c : Contents) (g : Descriptor) → IsOneFound c → IsFound c g.id g → IsOnlyGroup c g.id
 
 -- It is so where all that disks show is of one group.
 abbrev pub OneShownIsOne : Type 0
-OneShownIsOne = (c : Contents) → ((d e : ℕ) (r s : Stamped Descriptor) → c.descriptor d ≡ Some r → c.descriptor e ≡ Some s → r.value.id ≡ s.value.id) → IsOneByAll c
-
--- A record that is written to some disks leaves descriptors alike, where all that are shown of its group differ from it in their volumes alone.
-abbrev pub AlikeStays : Type 0
-AlikeStays =
-    (old new : Contents) (next : Stamped Descriptor)
-    → ((d : ℕ) → (new.descriptor d ≡ old.descriptor d) ⊎ (new.descriptor d ≡ Some next))
-    → ((d : ℕ) (r : Stamped Descriptor) → old.descriptor d ≡ Some r → r.value.id ≡ next.value.id → IsAlike r.value next.value)
-    → AreAlike old → AreAlike new
+OneShownIsOne = (c : Contents) → ((d e : ℕ) (r s : Stamped Descriptor) → c.descriptor d ≡ Some r → c.descriptor e ≡ Some s → r.value.id ≡ s.value.id) → IsOneFound c

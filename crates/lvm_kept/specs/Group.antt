@@ -81,13 +81,9 @@ FindingReads = (c : Contents) (disks : Disks) (id : ℕ) (group : Descriptor) �
 abbrev pub IsAlike : Descriptor → Descriptor → Type 0
 IsAlike a b = record a { lvs = [] } ≡ record b { lvs = [] }
 
--- whichever disks show descriptors of one group, these differ in their volumes alone
-abbrev pub AreAlike : Contents → Type 0
-AreAlike c = (d e : ℕ) (r s : Stamped Descriptor) → c.descriptor d ≡ Some r → c.descriptor e ≡ Some s → r.value.id ≡ s.value.id → IsAlike r.value s.value
-
--- at most one group has a quorum among all disks
-abbrev pub IsOneByAll : Contents → Type 0
-IsOneByAll c = (v w : ℕ) → IsTrue (has_quorum c all_disks v) → IsTrue (has_quorum c all_disks w) → v ≡ w
+-- whatever sets of disks find is of one group
+abbrev pub IsOneFound : Contents → Type 0
+IsOneFound c = (v w : ℕ) (g h : Descriptor) → IsFound c v g → IsFound c w h → v ≡ w
 
 -- no set of disks finds another group
 abbrev pub IsOnlyGroup : Contents → ℕ → Type 0

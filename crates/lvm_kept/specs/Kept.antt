@@ -8,7 +8,7 @@ use Rattle.lvm_vol.specs.Facts.{Fact, Cut}
 use Rattle.lvm_vol.specs.May.{Known, known, May, IsValue}
 use Rattle.lvm_vol.specs.Standing.{Standing, Absent, Open, Settled, Shape, volumes_in}
 use Rattle.lvm_kept.specs.Contents.{Contents}
-use Rattle.lvm_kept.specs.Group.{is_voter, status_among, Finds, IsFound, members_in, status_by, Reads, AreAlike, is_dirty_by, fresh_on, fresh, block_at, IsBlockOf, is_named, IsOneOf, IsSome, HoldOne}
+use Rattle.lvm_kept.specs.Group.{is_voter, status_among, Finds, IsFound, members_in, status_by, Reads, is_dirty_by, fresh_on, fresh, block_at, IsBlockOf, is_named, IsOneOf, IsSome, HoldOne}
 
 -- ---- volumes
 
@@ -111,8 +111,6 @@ pub record Lasting (c : Contents) (facts : List Fact) : Type 0 where
   -- records of a group under one stamp are one
   pub descriptors : (d e : ℕ) (r s : Stamped Descriptor) → c.descriptor d ≡ Some r → c.descriptor e ≡ Some s → r.value.id ≡ s.value.id → r.stamp ≡ s.stamp → r ≡ s
   pub statuses : (d e : ℕ) (r s : Stamped Status) → c.status d ≡ Some r → c.status e ≡ Some s → r.value.id ≡ s.value.id → r.stamp ≡ s.stamp → r ≡ s
-  -- and descriptors of a group differ in its volumes alone
-  pub alike : AreAlike c
 
 -- What the disks show keeps the history.
 pub record Kept (c : Contents) (facts : List Fact) : Type 0 where

@@ -2,7 +2,7 @@
 ghost use Rattle.lvm_kept.specs.Places.{DataWritesKeepRecords, RecordWritesKeepData, BlocksAreSectors};
 ghost use Rattle.lvm_kept.specs.Torn.{NewestStays, WritingBegins, StepKeepsWriting, AloneIsAmongOthers, NewestIsOldOrNew, WholeIsNew, DescriptorWriteShows, StatusWriteShows, EndedPartStands, StandingPartStays, NoteWriteShows, EarlierStaysBefore, ZerosAreBefore};
 ghost use Rattle.lvm_kept.specs.Group.{FindingReads};
-ghost use Rattle.lvm_kept.specs.Committed.{ImagesAreWithin, QuorumMeetsWriters, QuorumsMeet, QuorumFindsStatus, QuorumFindsDescriptor, NextIsWritten, NextIsCommitted, FoundByAll, OneByAllIsOnly, OneShownIsOne, AlikeStays};
+ghost use Rattle.lvm_kept.specs.Committed.{ImagesAreWithin, QuorumMeetsWriters, QuorumsMeet, QuorumFindsStatus, QuorumFindsDescriptor, NextIsWritten, NextIsCommitted, OneFoundIsOnly, OneShownIsOne};
 ghost use Rattle.lvm_kept.specs.Examples.{FreshThree, SecondAway, StaleCopy, NamedDifference, HalfMade};
 ghost use Rattle.lvm_kept.specs.Changes.{BlankIsKept, DataChangeKeeps, NoteChangeKeeps, StatusChangeKeeps, RestampingKeeps, EntryKeeps, MoreIsKept, BeginningAllowsMore, BeginningStands};
 
@@ -62,13 +62,10 @@ pub fn quorums_find()
     ensures descriptor { QuorumFindsDescriptor }
 {}
 
-/// Where descriptors of a group differ in its volumes alone, what some disks find of groups all disks find: so with at most one group
-/// that has a quorum among all of them no set of disks finds another one. And they go on differing in volumes alone as records are written.
-pub fn groups_are_alike()
-    ensures all { FoundByAll }
-    ensures only { OneByAllIsOnly }
+/// Where whatever sets of disks find is of one group, no set of disks finds another one, as where all that is shown is of one.
+pub fn one_group_is_only()
+    ensures only { OneFoundIsOnly }
     ensures one { OneShownIsOne }
-    ensures stays { AlikeStays }
 {}
 
 /// A later record that is being written stands beside the committed one, and alone on the disks that have it.

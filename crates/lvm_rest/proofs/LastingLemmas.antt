@@ -9,6 +9,7 @@ use Rattle.lvm_num.specs.Note.{Noted}
 use Rattle.lvm_num.specs.Record.{Stamped}
 use Rattle.lvm_num.specs.Votes.{all_disks}
 use Rattle.lvm_kept.specs.Contents.{Contents}
+use Rattle.lvm_kept.proofs.GroupLemmas.{finds_before}
 use Rattle.lvm_commit.specs.Committed.{ShowsCommitted}
 use Rattle.lvm_crash.proofs.LawsLemmas.Remaining.{after}
 use Rattle.lvm_rest.specs.Lasting.{StatusIsOn, CommittedLasts}
@@ -22,8 +23,7 @@ module _ (group : Descriptor) (was : Status) (stands : Stamped Status) (before n
   lasts on = (
     record {
       found = after old status note block all_disks group.id group shows.found;
-      disks = shows.disks;
-      began = record { enough = shows.began.enough; alike = shows.began.alike; since = shows.began.since };
+      only = λ disks k f. shows.only disks k (finds_before old status note block disks group.id k f);
       descriptor = shows.descriptor;
       value = shows.value;
       latest = shows.latest;

@@ -32,7 +32,7 @@ marked_may_follow c group there was next valid members marks = record {
         members q.0.disk in_there,
       )))
       (marks.only p stale);
-  dirty = λ row one soft is. ap (λ (numbers : List ℕ). list_any (λ n. n == row.number) numbers) marks.dirty ∙ is;
+  dirty = λ row one soft is. inl (ap (λ (numbers : List ℕ). list_any (λ n. n == row.number) numbers) marks.dirty ∙ is);
 }
 
 pub marked_leaves_none : MarkedLeavesNone

@@ -21,7 +21,6 @@ use Rattle.lvm_kept.specs.Group.{passes, is_of, has_room, is_voter, status_among
 use Rattle.lvm_kept.specs.Committed.{IsWithinDisks}
 use Rattle.lvm_kept.specs.Kept.{StandsAs, HasStatus, IsBlockKept, BlocksKept, IsSettledIn, IsAvailable, Kept}
 use Rattle.lvm_kept.proofs.CommittedLemmas.Finding.{finding_reads}
-use Rattle.lvm_kept.proofs.CommittedLemmas.Alike.{like_found, alike_stays}
 use Rattle.lvm_kept.proofs.ChangesLemmas.Restamping.{fewer_blocks}
 use Rattle.lvm_kept.proofs.ChangesLemmas.Entries.{volume_is_row}
 use Rattle.lvm_kept.proofs.KeptLemmas.{same_block}
@@ -254,7 +253,6 @@ module _ (old : Contents) (shown : ℕ → Option (Stamped Descriptor)) (g : Des
       partitions = partitions;
       descriptors = one_of;
       statuses = kept.lasting.statuses;
-      alike = alike_stays old now written (λ d. ⊎_elim (λ same. inl same) (λ put. inr put.0) (own d)) (like_found old kept.lasting.alike g.id g found) kept.lasting.alike;
     };
   }
 

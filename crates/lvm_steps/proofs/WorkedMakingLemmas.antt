@@ -34,7 +34,6 @@ blank = empty_kept four_blank [] (λ d r shows. absurd (none-some r shows)) (rec
   partitions = λ id g h f k. absurd (finds_nothing f.0 id g f.1);
   descriptors = λ d e r s shows. absurd (none-some r shows);
   statuses = λ d e r s shows. absurd (none-some r shows);
-  alike = λ d e r s shows. absurd (none-some r shows);
 })
 
 -- ---- a status, and a descriptor

@@ -9,7 +9,7 @@ use Rattle.lvm_num.specs.Disks.{Disks}
 use Rattle.lvm_num.specs.Record.{Stamped}
 use Rattle.lvm_vol.specs.Facts.{Making}
 use Rattle.lvm_kept.specs.Contents.{Contents}
-use Rattle.lvm_kept.specs.Group.{IsOneByAll}
+use Rattle.lvm_kept.specs.Group.{IsOneFound}
 use Rattle.lvm_kept.specs.Kept.{Kept}
 use Rattle.lvm_kept.specs.Examples.{stamped, three, row_of, status_of_rows, only, either_of}
 use Rattle.lvm_steps.specs.WorkedMaking.{four_blank, status_of_three}
@@ -55,8 +55,8 @@ half_committed = record of_three { descriptor = λ d. if only 1 d then Some (sta
 -- All of these keep what they should, each by the law of the step that leads to it.
 pub record WorkedSession : Type 0 where
   pub settled : Kept of_three []
-  -- and no other group has a quorum there
-  pub one : IsOneByAll of_three
+  -- and no other group is found there
+  pub one : IsOneFound of_three
   pub half_on : Kept half_restamped []
   pub stamped_anew : Kept restamped []
   pub stated_anew : Kept half_restated []

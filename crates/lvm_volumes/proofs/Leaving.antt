@@ -16,7 +16,7 @@ use Rattle.lvm_kept.specs.Moments.{Moment}
 use Rattle.lvm_kept.specs.Torn.{RecordWrite}
 use Rattle.lvm_kept.specs.Plans.{Plan}
 use Rattle.lvm_status.specs.Update.{members_there}
-use Rattle.lvm_volume_plan.specs.passed.Names.{KeepsShelf, there, IsOfSession, StatesGroup, IsOfStatus, IsOfCommit, IsZeroOf, IsHeld, Scope, NoPartition, IsHeldSince, IsOfCommand, WasLeftBehind, MayBeFound, Leaves}
+use Rattle.lvm_volume_plan.specs.passed.Names.{KeepsShelf, there, IsOfSession, StatesGroup, IsOfStatus, IsOfCommit, IsZeroOf, IsHeld, Scope, NoPartition, NoVolume, IsHeldSince, IsOfCommand, WasLeftBehind, MayBeFound, Leaves}
 use Rattle.lvm_volume_plan.proofs.passed.Names.{keeps_here, keeps_then, spends_none, spends_then, keeps_wider, keeps_same, same_status}
 use Rattle.lvm_session.specs.State.{State, is_there, moment_of}
 use Rattle.lvm_steps.specs.Moments.{SpanGoesOn}
@@ -54,7 +54,7 @@ there_less a b group stays d is = there_before a.core.status.group a.core.status
 -- ---- wider scopes
 
 module _ (V W : Scope) (next : (d : Descriptor) → V.next d → W.next d) (zeros : (pp : Pp) → V.zeros pp → W.zeros pp) (stale : (pp : Pp) → V.stale pp → W.stale pp) (fresh : (pp : Pp) → V.fresh pp → W.fresh pp)
-    (numbers : V.numbers ≤ W.numbers) (p q : ℕ) (a b : State) (lets : (run : ℕ) (first : Moment) → IsHeldSince run first a → W.lets a b run first → V.lets a b run first) where
+    (marks : (lv : ℕ) → V.marks lv → W.marks lv) (numbers : V.numbers ≤ W.numbers) (p q : ℕ) (a b : State) (lets : (run : ℕ) (first : Moment) → IsHeldSince run first a → W.lets a b run first → V.lets a b run first) where
   behind_wider : (pp : Pp) → WasLeftBehind V.next V.fresh a b pp → WasLeftBehind W.next W.fresh a b pp
   behind_wider pp is = record {
     group = is.group;
@@ -75,7 +75,7 @@ module _ (V W : Scope) (next : (d : Descriptor) → V.next d → W.next d) (zero
       rows = leaves.status.rows;
       stale = λ pp out. leaves.status.stale pp (λ its. out (fresh pp its));
       further = λ pp is. ⊎_elim (λ x. inl x) (⊎_elim (λ y. inr (inl (stale pp y))) (λ z. inr (inr (behind_wider pp z)))) (leaves.status.further pp is);
-      dirty = leaves.status.dirty;
+      dirty = λ lv out. leaves.status.dirty lv (λ its. out (marks lv its));
       stays = leaves.status.stays;
       lost = leaves.status.lost;
     };
@@ -106,7 +106,7 @@ falls_none a = record { starts = λ d. omega arith; misses = λ d. omega arith; 
 pub leaves_none : (W : Scope) (p : ℕ) (s : State) → Leaves W p p s s
 leaves_none W p s = record {
   writes = keeps_here (is_there s.core) (IsOfCommand W.next W.zeros s s) s.device;
-  status = same_status W.next W.stale W.fresh s s refl;
+  status = same_status W.next W.stale W.fresh W.marks s s refl;
   numbers = record { epoch = refl; rises = omega arith; most = omega arith };
   history = keeps_same s.core.history s.core.history refl;
   spans = λ run first held only span. span;
@@ -198,14 +198,14 @@ module _ (N : Descriptor → Type 0) (Z : Pp → Type 0) where
     was_there = less is.its.other.disk is.was_there;
   }
 
-  -- a command that may also make such partitions stale, under such a premise
-  abbrev pub scoped : (Pp → Type 0) → (State → State → ℕ → Moment → Type 0) → ℕ → Scope
-  scoped S L numbers = record { next = N; zeros = Z; stale = S; fresh = Z; numbers = numbers; lets = L }
+  -- a command that may also make such partitions stale and such volumes dirty or not, under such a premise
+  abbrev pub scoped : (Pp → Type 0) → (ℕ → Type 0) → (State → State → ℕ → Moment → Type 0) → ℕ → Scope
+  scoped S D L numbers = record { next = N; zeros = Z; stale = S; fresh = Z; marks = D; numbers = numbers; lets = L }
 
-  pub leaves_joined : (S : Pp → Type 0) (J K L : State → State → ℕ → Moment → Type 0) (m n p q r : ℕ) (a b c : State) → (b.core.descriptor ≡ a.core.descriptor) ⊎ N b.core.descriptor → b.core.descriptor.mib ≡ a.core.descriptor.mib
-      → ((d : ℕ) → is_member b.core.descriptor d ≡ is_member a.core.descriptor d) → Leaves (scoped S J m) p q a b → (IsHeld a.device a.core → IsHeld b.device b.core) → Leaves (scoped S K n) q r b c
-      → ((run : ℕ) (first : Moment) → IsHeldSince run first a → L a c run first → SpanGoesOn run first (moment_of a) (moment_of c)) → Leaves (scoped S L (m + n)) p r a c
-  leaves_joined S J K L m n p q r a b c from mib members one still two spans = record {
+  pub leaves_joined : (S : Pp → Type 0) (D : ℕ → Type 0) (J K L : State → State → ℕ → Moment → Type 0) (m n p q r : ℕ) (a b c : State) → (b.core.descriptor ≡ a.core.descriptor) ⊎ N b.core.descriptor → b.core.descriptor.mib ≡ a.core.descriptor.mib
+      → ((d : ℕ) → is_member b.core.descriptor d ≡ is_member a.core.descriptor d) → Leaves (scoped S D J m) p q a b → (IsHeld a.device a.core → IsHeld b.device b.core) → Leaves (scoped S D K n) q r b c
+      → ((run : ℕ) (first : Moment) → IsHeldSince run first a → L a c run first → SpanGoesOn run first (moment_of a) (moment_of c)) → Leaves (scoped S D L (m + n)) p r a c
+  leaves_joined S D J K L m n p q r a b c from mib members one still two spans = record {
     writes = keeps_then (is_there a.core) (IsOfCommand N Z a c) a.device b.device c.device
         (wider (is_there a.core) (is_there a.core) (IsOfCommand N Z a b) (IsOfCommand N Z a c) a.device b.device (λ d is. is)
         (command_first a b c one.status.group one.status.stays one.numbers.epoch one.numbers.rises two.numbers.rises) one.writes)
@@ -220,7 +220,7 @@ module _ (N : Descriptor → Type 0) (Z : Pp → Type 0) where
           (⊎_elim (λ its. inr (inl its)) (λ gone. inr (inr (behind_first Z a b c (there_less b c two.status.group two.status.stays) p gone)))) (one.status.further p before))
           (⊎_elim (λ its. inr (inl its)) (λ gone. inr (inr (behind_second Z a b c from one.status.stale (there_less a b one.status.group one.status.stays) p gone))))
           (two.status.further p is);
-      dirty = two.status.dirty ∙ one.status.dirty;
+      dirty = λ lv out. two.status.dirty lv out ∙ one.status.dirty lv out;
       stays = λ d is. two.status.stays d (one.status.stays d is);
       lost = λ d is isnt. lost d (calls_missing b.core.status.wanted d) refl is isnt;
     };
@@ -249,7 +249,7 @@ module _ (N : Descriptor → Type 0) (Z : Pp → Type 0) where
 
   pub leaves_then : (m n p q r : ℕ) (a b c : State) → (b.core.descriptor ≡ a.core.descriptor) ⊎ N b.core.descriptor → b.core.descriptor.mib ≡ a.core.descriptor.mib → ((d : ℕ) → is_member b.core.descriptor d ≡ is_member a.core.descriptor d)
       → Leaves (commanding N Z m) p q a b → StillHeld a b → Leaves (commanding N Z n) q r b c → Leaves (commanding N Z (m + n)) p r a c
-  leaves_then m n p q r a b c from mib members one still two = leaves_joined NoPartition IfAlone IfAlone IfAlone m n p q r a b c from mib members one still.held two (λ run first held only span.
+  leaves_then m n p q r a b c from mib members one still two = leaves_joined NoPartition NoVolume IfAlone IfAlone IfAlone m n p q r a b c from mib members one still.held two (λ run first held only span.
       let before = one.history.volumes in
       let after = two.history.volumes in
       two.spans run first (λ past begins. still.held (held past begins)) (λ enters past begins. still.only (held past begins) (only (omega (arith, before, enters)) past begins))

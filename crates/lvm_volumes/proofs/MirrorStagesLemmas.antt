@@ -1,5 +1,5 @@
 -- Copies are added: the further ones become stale, and the descriptor with them is committed.
-use Rattle.std.proofs.Common.{◌≡◌, ◌≢◌, ◌⊎◌, inl, inr, ⊎_elim, ℕ, ◌≤◌, Bool, true, false, ◌&&◌, ◌||◌, List, [], ◌++◌, Some, Result, Ok, Err, get_or, refl, sym, ap, subst, ◌∙◌, arith}
+use Rattle.std.proofs.Common.{◌==◌, ◌≡◌, ◌≢◌, ◌⊎◌, inl, inr, ⊎_elim, ℕ, ◌≤◌, Bool, true, false, ◌&&◌, ◌||◌, List, [], ◌++◌, Some, Result, Ok, Err, get_or, refl, sym, ap, subst, ◌∙◌, arith}
 use Rattle.std.specs.Prelude.{not, IsTrue, All, Contains}
 use Rattle.std.proofs.lemmas.Bool.{false≢true}
 use Rattle.std.proofs.lemmas.List.{append-nil}
@@ -28,7 +28,7 @@ use Rattle.lvm_commit.specs.Settling.{NoneIsLeft, MarksLeft, many_there}
 use Rattle.lvm_commit.proofs.AmongLemmas.{contains, one_place}
 use Rattle.lvm_session.specs.Judging.{copies_in, is_wanted_stale}
 use Rattle.lvm_session.specs.State.{Core, State, is_there}
-use Rattle.lvm_volume_plan.specs.passed.Names.{CommitFault, IsSettled, HasSpareNumbers, is_among, AreUnused, Restates, LetsCommit, HasStated, HasCommitted, CommitEnds, MarkEnds, NoPartition, Always, IsHeldSince, Leaves, committing, marking}
+use Rattle.lvm_volume_plan.specs.passed.Names.{CommitFault, IsSettled, HasSpareNumbers, is_among, AreUnused, Restates, LetsCommit, HasStated, HasCommitted, CommitEnds, MarkEnds, NoPartition, NoVolume, Always, IsHeldSince, Leaves, committing, marking}
 use Rattle.lvm_volume_plan.specs.Faults.{IfOn, command_answer}
 use Rattle.lvm_volume_plan.proofs.passed.Names.{pp_is}
 use Rattle.lvm_volumes.specs.Endings.{StillHeld, KeepsFresh}
@@ -46,6 +46,7 @@ use Rattle.lvm_volumes.specs.MirrorStages.{adding, AddEnds}
 use Rattle.lvm_volumes.proofs.JudgingLemmas.{copies_by, keeps_with}
 use Rattle.lvm_volumes.proofs.MirrorSettlingLemmas.{none_left}
 use Rattle.lvm_volumes.proofs.LawsOfVolumesLemmas.{more_serve, lets}
+use Rattle.lvm_core.proofs.CommittingLemmas.Committing.{lets_one}
 
 -- what is to be stale is marked
 is_marked : (a b : Bool) → b ≡ true → IsTrue ((a || b) && true)
@@ -91,7 +92,7 @@ module _ (lv copies : ℕ) (added : List Pp) (next : Descriptor) (a : State) (se
 
   module _ (p q : ℕ) (b : State) (leaves : Leaves (marking added []) p q a b) where
     among : (n : ℕ) → 1 ≤ n → Leaves (adding added next n) p q a b
-    among n le = leaves_wider (marking added []) (adding added next n) (λ x none. absurd none) (λ pp none. none) (λ pp is. is) (λ pp is. absurd (let lt = is.1 in omega (arith, lt))) le p q a b (λ run first held only. tt) leaves
+    among n le = leaves_wider (marking added []) (adding added next n) (λ x none. absurd none) (λ pp none. none) (λ pp is. is) (λ pp is. absurd (let lt = is.1 in omega (arith, lt))) (λ lv none. none) le p q a b (λ run first held only. tt) leaves
 
     pub mark_break_leaves : Leaves (adding added next 2) p q a b
     mark_break_leaves = among 2 (omega arith)
@@ -164,12 +165,12 @@ module _ (lv copies : ℕ) (added : List Pp) (next : Descriptor) (a : State) (se
 
       module _ (r : ℕ) (c : State) (commits : Leaves (committing next) q r b c) (left : MarksLeft next b.core.status c.core.status) where
         pub all_leaves : Leaves (adding added next 2) p r a c
-        all_leaves = leaves_joined (λ x. x ≡ next) NoPartition (Contains added) Always Always Always 1 1 p q r a b c (inl same) (ap (λ (x : Descriptor). x.mib) same) (λ n. ap (λ (x : Descriptor). is_member x n) same)
+        all_leaves = leaves_joined (λ x. x ≡ next) NoPartition (Contains added) NoVolume Always Always Always 1 1 p q r a b c (inl same) (ap (λ (x : Descriptor). x.mib) same) (λ n. ap (λ (x : Descriptor). is_member x n) same)
             (among 1 (omega arith)) mark_still.held
-            (leaves_wider (committing next) (adding added next 1) (λ x is. is) (λ pp none. none) (λ pp none. absurd none) (λ pp none. none) (omega arith) q r b c (λ run first held only. (lv, lets_add run first held)) commits)
+            (leaves_wider (committing next) (adding added next 1) (λ x is. is) (λ pp none. none) (λ pp none. absurd none) (λ pp none. none) (λ lv none. none) (omega arith) q r b c (λ run first held only. ((λ n. n == lv), lets_one lv next run first b (lets_add run first held))) commits)
             (λ run first held only span.
             let after : IsHeldSince run first b = λ past begins. mark_still.held (held past begins) in
-            commits.spans run first after (lv, lets_add run first after) (leaves.spans run first held tt span))
+            commits.spans run first after ((λ n. n == lv), lets_one lv next run first b (lets_add run first after)) (leaves.spans run first held tt span))
 
         pub all_still : (x : Result (Unit {0}) CommitFault) → CommitEnds next q b c x → IfOn (command_answer x) (StillHeld a c)
         all_still (Ok _) ends = still_then a b c mark_still (commit_still next q r b c commits left ends.stated (ap (λ (x : Descriptor). x.id) planned.is ∙ sym (ap (λ (x : Descriptor). x.id) same))

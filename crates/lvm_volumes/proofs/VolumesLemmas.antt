@@ -60,7 +60,7 @@ module _ (v : NewVolume) (plan : VolumePlan) (a : State) (planned : IsPlannedVol
   its_places pp inside = (plan.map, planned.may.places, inside)
 
   pub made_leaves : (p q : ℕ) (b : State) → Leaves (commanding (λ d. d ≡ plan.next) (Contains plan.map) 2) p q a b → Leaves (to_make v a.core) p q a b
-  made_leaves p q b = leaves_wider (commanding (λ d. d ≡ plan.next) (Contains plan.map) 2) (to_make v a.core) its_next its_places (λ pp none. none) its_places (omega arith) p q a b (λ run first held only. only)
+  made_leaves p q b = leaves_wider (commanding (λ d. d ≡ plan.next) (Contains plan.map) 2) (to_make v a.core) its_next its_places (λ pp none. none) its_places (λ lv none. none) (omega arith) p q a b (λ run first held only. only)
 
   same_making : making_of plan a ≡ making v plan.number a
   same_making = λ t. with_fact a.core.history (Making plan.number (planned.blocks t) (planned.mode t))
@@ -105,7 +105,7 @@ module _ (lv : ℕ) (next : Descriptor) (a : State) (without : IsWithout lv a.co
   its_rest d is = is ∙ without.is
 
   pub removed_leaves : (p q : ℕ) (b : State) → Leaves (commanding (λ d. d ≡ next) NoPartition 1) p q a b → Leaves (to_remove lv a.core) p q a b
-  removed_leaves p q b = leaves_wider (commanding (λ d. d ≡ next) NoPartition 1) (to_remove lv a.core) its_rest (λ pp none. none) (λ pp none. none) (λ pp none. none) (omega arith) p q a b (λ run first held only. only)
+  removed_leaves p q b = leaves_wider (commanding (λ d. d ≡ next) NoPartition 1) (to_remove lv a.core) its_rest (λ pp none. none) (λ pp none. none) (λ pp none. none) (λ lv none. none) (omega arith) p q a b (λ run first held only. only)
 
   pub remove_fails : (p : ℕ) (b : State) (why : CommitFault) → RemoveEnds lv next p a b (Err why) → RmlvGives lv p a b (Err (fault_of why))
   remove_fails p b commit.Dark ends = inr (record { may = without.may; ends = ends })

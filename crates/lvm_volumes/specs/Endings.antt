@@ -9,7 +9,7 @@ use Rattle.lvm_disk.specs.Device.{IsReady}
 use Rattle.lvm_vol.specs.Log.{Log, cut_log}
 use Rattle.lvm_kept.specs.Group.{IsOneOf}
 use Rattle.lvm_kept.specs.Moments.{Moment}
-use Rattle.lvm_volume_plan.specs.passed.Names.{IsDarkened, IsGivenUp, IsOnlyGroupOn, IsOnlyGroupSince, NoneIsLeft, HasLostQuorum, with_one_out, IsHeld, AreNotesHome, Scope, NoPartition, EntersVolumes}
+use Rattle.lvm_volume_plan.specs.passed.Names.{IsDarkened, IsGivenUp, IsOnlyGroupOn, IsOnlyGroupSince, NoneIsLeft, HasLostQuorum, with_one_out, IsHeld, AreNotesHome, Scope, NoPartition, NoVolume, EntersVolumes}
 use Rattle.lvm_session.specs.declared.open.Power.TheVariants as power
 use Rattle.lvm_session.specs.Dark.{all_dark}
 use Rattle.lvm_session.specs.State.{Core, State}
@@ -78,4 +78,4 @@ IfAlone old new run first = EntersVolumes old.core.history.facts new.core.histor
 
 -- a command on volumes that may commit such descriptors, write zeros to such partitions and make them fresh, and spend so many numbers
 abbrev pub commanding : (Descriptor → Type 0) → (Pp → Type 0) → ℕ → Scope
-commanding N Z numbers = record { next = N; zeros = Z; stale = NoPartition; fresh = Z; numbers = numbers; lets = IfAlone }
+commanding N Z numbers = record { next = N; zeros = Z; stale = NoPartition; fresh = Z; marks = NoVolume; numbers = numbers; lets = IfAlone }

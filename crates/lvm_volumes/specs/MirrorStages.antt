@@ -5,7 +5,7 @@ use Rattle.lvm_num.specs.declared.descriptor.Descriptor.{Descriptor}
 use Rattle.lvm_num.specs.Status.{calls_stale}
 use Rattle.lvm_disk.specs.Device.{IsReady}
 use Rattle.lvm_session.specs.State.{Core, State}
-use Rattle.lvm_volume_plan.specs.passed.Names.{CommitFault, IsSettled, Scope, NoPartition, Always}
+use Rattle.lvm_volume_plan.specs.passed.Names.{CommitFault, IsSettled, Scope, NoPartition, NoVolume, Always}
 use Rattle.lvm_volumes.specs.Stages.{CommandBroke}
 use Rattle.lvm_volume_plan.specs.PlannedCopies.{ArePlanned}
 
@@ -15,7 +15,7 @@ MayAdd core added next = (lv : ℕ) × ((copies : ℕ) × ArePlanned lv copies c
 
 -- these become stale, and the descriptor is committed
 abbrev pub adding : List Pp → Descriptor → ℕ → Scope
-adding added next numbers = record { next = λ d. d ≡ next; zeros = NoPartition; stale = Contains added; fresh = NoPartition; numbers = numbers; lets = Always }
+adding added next numbers = record { next = λ d. d ≡ next; zeros = NoPartition; stale = Contains added; fresh = NoPartition; marks = NoVolume; numbers = numbers; lets = Always }
 
 -- The descriptor is committed, and the copies are stale.
 pub record AreNamed (added : List Pp) (next : Descriptor) (old new : State) : Type 0 where

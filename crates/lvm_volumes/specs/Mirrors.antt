@@ -13,7 +13,7 @@ use Rattle.lvm_kept.specs.Group.{members_in, IsOneOf}
 use Rattle.lvm_kept.specs.Moments.{Moment}
 use Rattle.lvm_steps.specs.Moments.{Begins}
 use Rattle.lvm_session.specs.State.{Core, State}
-use Rattle.lvm_volume_plan.specs.passed.Names.{Scope, NoPartition, Always}
+use Rattle.lvm_volume_plan.specs.passed.Names.{Scope, NoPartition, NoVolume, Always}
 use Rattle.lvm_volume_plan.specs.declared.fault.GroupFault.{GroupFault}
 use Rattle.lvm_volume_plan.specs.Faults.{IsRefused}
 use Rattle.lvm_volume_plan.specs.declared.fault.GroupFault.TheVariants as fault
@@ -33,7 +33,7 @@ IsWithMore lv copies core next = (row : LvRow) × ((pps : List Pp) × HasFurther
 
 -- what it may do: make the further copies stale, and commit the descriptor with them
 abbrev pub to_add : ℕ → ℕ → Core → Scope
-to_add lv copies core = record { next = IsWithMore lv copies core; zeros = NoPartition; stale = IsFurther lv copies core; fresh = NoPartition; numbers = 2; lets = Always }
+to_add lv copies core = record { next = IsWithMore lv copies core; zeros = NoPartition; stale = IsFurther lv copies core; fresh = NoPartition; marks = NoVolume; numbers = 2; lets = Always }
 
 -- The volume has its old copies and behind them these, which first fit gave it and which are stale; members that became missing aside, and the copies that
 -- they left behind, nothing else of the session has changed.
@@ -90,7 +90,7 @@ IsWithFirst lv copies core next = (row : LvRow) × (volume_of core.descriptor lv
 
 -- what it may do: commit that
 abbrev pub to_take : ℕ → ℕ → Core → Scope
-to_take lv copies core = record { next = IsWithFirst lv copies core; zeros = NoPartition; stale = NoPartition; fresh = NoPartition; numbers = 1; lets = IfShown lv copies }
+to_take lv copies core = record { next = IsWithFirst lv copies core; zeros = NoPartition; stale = NoPartition; fresh = NoPartition; marks = NoVolume; numbers = 1; lets = IfShown lv copies }
 
 -- The volume keeps its first copies; members that became missing aside, and the copies that they left behind, nothing else of the session has changed.
 pub record AreTaken (lv copies : ℕ) (old new : State) : Type 0 where

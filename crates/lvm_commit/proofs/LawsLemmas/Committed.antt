@@ -6,43 +6,18 @@ use Rattle.std.proofs.lemmas.Bool.{eqb-true}
 use Rattle.lvm_num.specs.declared.descriptor.Descriptor.{Descriptor}
 use Rattle.lvm_num.specs.declared.status.Status.{Status}
 use Rattle.lvm_num.specs.Disks.{Disks}
-use Rattle.lvm_num.specs.Note.{Noted}
-use Rattle.lvm_num.specs.Buffer.{Sector}
 use Rattle.lvm_num.specs.Votes.{all_disks, votes_in, CanRead, CanWrite}
 use Rattle.lvm_num.specs.Record.{Stamped, stamp_lt}
 use Rattle.lvm_num.proofs.VotesLemmas.{read_meets_write, more_have_more, more_is_enough}
 use Rattle.lvm_kept.specs.Contents.{Contents}
-use Rattle.lvm_kept.specs.Group.{passes, is_of, descriptor_among, members_in}
-use Rattle.lvm_kept.specs.Committed.{DescriptorStands, IsWithinDisks}
-use Rattle.lvm_kept.proofs.CommittedLemmas.Finding.{enough-too, finds_from, newest_among}
-use Rattle.lvm_commit.specs.Committed.{IsAlike, Began, ShowsCommitted}
+use Rattle.lvm_kept.specs.Group.{passes, is_of, descriptor_among, Finds, IsFound, members_in}
+use Rattle.lvm_kept.specs.Committed.{SameVotes, DescriptorStands, IsWithinDisks}
+use Rattle.lvm_kept.proofs.CommittedLemmas.Finding.{enough-too, finding_reads, finds_descriptor, finds_from, meets_writers, newest_among}
+use Rattle.lvm_commit.specs.Committed.{IsAlike, ShowsCommitted}
+use Rattle.lvm_commit.proofs.LawsOfFindingLemmas.NoMore.{descriptor_finds_no_more}
 use Rattle.lvm_commit.specs.Laws.{IsLaterDescriptor, StatusIsCommitted, DescriptorIsCommitted}
-use Rattle.lvm_kept.proofs.GroupLemmas.{with_others, still_finds}
+use Rattle.lvm_kept.proofs.GroupLemmas.{still_finds, finds_before}
 use Rattle.lvm_steps.proofs.GroupLemmas.Members.{among_all, same_id, same_votes, same_room}
-
--- ---- other statuses, other notes, other data
-
-module _ (c : Contents) (status : ℕ → Option (Stamped Status)) (note : ℕ → Option Noted) (block : ℕ → ℕ → Sector) where
-  pub still_began : (group : Descriptor) (disks : Disks) → Began c group disks → Began (with_others c status note block) group disks
-  still_began group disks began = record { enough = began.enough; alike = began.alike; since = began.since }
-
--- under other notes and other data
-unfoldable pub still_shows : (c : Contents) (note : ℕ → Option Noted) (block : ℕ → ℕ → Sector) (group : Descriptor) (status : Status) (there : Disks) → ShowsCommitted c group status there → ShowsCommitted (record c { note = note; block = block }) group status there
-still_shows c note block group status there shows = record {
-  found = still_finds c c.status note block all_disks group.id group shows.found;
-  disks = shows.disks;
-  began = still_began c c.status note block group shows.disks shows.began;
-  descriptor = shows.descriptor;
-  value = shows.value;
-  latest = shows.latest;
-  described = shows.described;
-  room = shows.room;
-  own = shows.own;
-  stands = shows.stands;
-  committed = shows.committed;
-  stated = shows.stated;
-  last = shows.last;
-}
 
 -- ---- the next status
 
@@ -50,8 +25,7 @@ pub status_is_committed : StatusIsCommitted
 status_is_committed group status there targets written next old new shows its later change within on =
     subst (λ (c : Contents). ShowsCommitted c group next.value written) (sym change.rest) (record {
       found = still_finds old new.status old.note old.block all_disks group.id group shows.found;
-      disks = shows.disks;
-      began = still_began old new.status old.note old.block group shows.disks shows.began;
+      only = λ disks k f. shows.only disks k (finds_before old new.status old.note old.block disks group.id k f);
       descriptor = shows.descriptor;
       value = shows.value;
       latest = shows.latest;
@@ -103,9 +77,7 @@ module _ (old : Contents) (shown : ℕ → Option (Stamped Descriptor)) (group :
   reads_too set can = subst (λ (v : Disks). CanRead next.value v) (sym (members_are set)) (enough-too next.value group (members_in old set group.id group) (same_votes next.value group alike) ∙ can)
 
   all_read : CanRead next.value (members_in new all_disks id next.value)
-  all_read = reads_too all_disks (more_is_enough.read group (votes_in group (members_in old shows.disks group.id group)) (votes_in group (members_in old all_disks group.id group))
-      (more_have_more group (members_in old shows.disks group.id group) (members_in old all_disks group.id group) (λ d member is. among_all old shows.disks group.id group d is))
-      shows.began.enough)
+  all_read = reads_too all_disks (finding_reads old all_disks group.id group shows.found).reads.enough
 
   latest : (d : ℕ) (r : Stamped Descriptor) → shown d ≡ Some r → r.value.id ≡ id → (stamp_lt r.stamp next.stamp ≡ true) ⊎ (r ≡ next)
   latest d r e its = ⊎_elim
@@ -134,33 +106,20 @@ module _ (old : Contents) (shown : ℕ → Option (Stamped Descriptor)) (group :
       let both = read_meets_write next.value (members_in new all_disks id next.value) written all_read enough in
       ⊎_elim (λ is. is) (λ is. is) (newest_among Descriptor (is_of id) shown all_disks written old.disks next next stands both.0 refl both.3 within_new)
 
-  began : Began new next.value shows.disks
-  began = record {
-    enough = reads_too shows.disks shows.began.enough;
-    alike = λ d r member e. ⊎_elim
-        (λ (same : shown d ≡ old.descriptor d). shows.began.alike d r (sym (members_same shows.disks d) ∙ member) (sym same ∙ e) ∙ sym alike)
-        (λ (put : IsTrue (targets d) × (shown d ≡ Some next)). is_next r (same_Some r next (sym e ∙ put.1)))
-        (own d);
-    since = λ d m r q e its member f. ⊎_elim
-        (λ (same : shown d ≡ old.descriptor d). ⊎_elim
-        (λ (was : shown m ≡ old.descriptor m). ⊎_elim
-        (λ (is : IsAlike r.value group). inl (is ∙ sym alike))
-        (λ (low : stamp_lt r.stamp q.stamp ≡ true). inr low)
-        (shows.began.since d m r q (sym same ∙ e) (its ∙ id_is) (sym (members_same shows.disks m) ∙ member) (sym was ∙ f)))
-        (λ (put : IsTrue (targets m) × (shown m ≡ Some next)). inr (subst (λ (x : Stamped Descriptor). stamp_lt r.stamp x.stamp ≡ true) (sym (same_Some q next (sym f ∙ put.1))) (later d r (sym same ∙ e) (its ∙ id_is))))
-        (own m))
-        (λ (put : IsTrue (targets d) × (shown d ≡ Some next)). inl (is_next r (same_Some r next (sym e ∙ put.1))))
-        (own d);
-  }
-    where
-      is_next : (r : Stamped Descriptor) → r ≡ next → IsAlike r.value next.value
-      is_next r same = ap (λ (x : Stamped Descriptor). record x.value { lvs = [] }) same
+  -- what is found was found before, and then its quorum has one of these disks; or it is the next one
+  only : (disks : Disks) (k : Descriptor) → Finds new disks id k → k ≡ next.value
+  only disks k f = ⊎_elim
+      (λ (was : IsFound old id k).
+      let same : k ≡ group = shows.only was.0 k (subst (λ (n : ℕ). Finds old was.0 n k) id_is was.1) in
+      let votes : SameVotes k next.value = subst (λ (g : Descriptor). SameVotes g next.value) (sym same) (same_votes group next.value (sym alike)) in
+      ⊎_elim (λ e. e) (λ e. e) (finds_descriptor new id written next next (record { descriptors = within_new; statuses = within.statuses }) stands disks k f (meets_writers new disks id k next.value written f votes enough)))
+      (λ (is : (id ≡ next.value.id) × (k ≡ next.value)). is.1)
+      (descriptor_finds_no_more targets next old new (record { descriptors = within_new; statuses = within.statuses }) (λ d r e its. later d r e (its ∙ id_is)) (record { own = own; rest = refl }) id k (disks, f))
 
   pub now_committed : ShowsCommitted new next.value status written
   now_committed = record {
     found = finds_from new all_disks id next newest_is all_read;
-    disks = shows.disks;
-    began = began;
+    only = only;
     descriptor = next;
     value = refl;
     latest = latest;

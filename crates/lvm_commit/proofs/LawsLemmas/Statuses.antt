@@ -1,5 +1,5 @@
 -- The next status of a session keeps the history.
-use Rattle.std.proofs.Common.{◌≡◌, inl, inr, ⊎_elim, ℕ, ◌<◌, Bool, true, ◌&&◌, List, [], ◌∷◌, ◌++◌, Option, Some, refl, sym, subst, ◌∙◌}
+use Rattle.std.proofs.Common.{◌≡◌, ◌⊎◌, inl, inr, ⊎_elim, ℕ, ◌<◌, Bool, true, ◌&&◌, List, [], ◌∷◌, ◌++◌, Option, Some, refl, sym, subst, ◌∙◌}
 use Rattle.std.specs.Prelude.{IsTrue, not}
 use Rattle.std.proofs.lemmas.Bool.{and_from, not-true, not_from_false}
 use Rattle.lvm_num.specs.Geometry.{track_group_of}
@@ -31,7 +31,7 @@ use Rattle.lvm_kept.proofs.TornLemmas.Records.{status_shows}
 use Rattle.lvm_steps.proofs.RecordLemmas.{either, split}
 use Rattle.lvm_steps.proofs.MakingLemmas.Making.{stays_by}
 use Rattle.lvm_steps.proofs.ChangesLemmas.{serving, put_keeps}
-use Rattle.lvm_commit.specs.Committed.{MayMark}
+use Rattle.lvm_commit.specs.Committed.{AreOne, MayMark}
 use Rattle.lvm_commit.specs.Laws.{MayFollow, StatusFollows, StatusGoesOn}
 use Rattle.lvm_commit.proofs.LawsLemmas.Found.{shows_group, only_found, status_read}
 use Rattle.lvm_steps.proofs.GroupLemmas.Passing.{at_passing, some_passing, one_passes}
@@ -41,7 +41,7 @@ pub same_marks : (c : Contents) (group : Descriptor) (was next : Status) → ((p
 same_marks c group was next stale dirty = record {
   stale = λ row lp p one copy is. stale p ∙ is;
   added = λ row lp p one low copy is. inl (sym (stale p) ∙ is);
-  dirty = λ row one soft is. dirty row.number ∙ is;
+  dirty = λ row one soft is. inl (dirty row.number ∙ is);
 }
 
 -- ---- lists
@@ -49,54 +49,64 @@ same_marks c group was next stale dirty = record {
 -- ---- a status with the marks of another, and further ones
 
 module _ (c : Contents) (group : Descriptor) (was next : Stamped Status) (marks : MayMark c group was.value next.value) where
-  abbrev passing : Stamped Status → Disks → Pp → Bool
-  passing status set p = set p.disk && not (is_stale_by (Some status) p)
+  abbrev set : Disks
+  set = members_in c all_disks group.id group
+
+  abbrev passing : Stamped Status → Pp → Bool
+  passing status p = set p.disk && not (is_stale_by (Some status) p)
 
   -- fresh by the next one: fresh by the one before
-  still_fresh : (set : Disks) (row : LvRow) (lp : ℕ) (p : Pp) → IsOneOf group.lvs row → IsOneOf (copies_of row lp) p → passing next set p ≡ true → passing was set p ≡ true
-  still_fresh set row lp p one copy is =
+  still_fresh : (row : LvRow) (lp : ℕ) (p : Pp) → IsOneOf group.lvs row → IsOneOf (copies_of row lp) p → passing next p ≡ true → passing was p ≡ true
+  still_fresh row lp p one copy is =
       let parts = split (set p.disk) (not (is_stale_by (Some next) p)) is in
       and_from (set p.disk) (not (is_stale_by (Some was) p)) parts.0 (not_from_false (is_stale_by (Some was) p) (⊎_elim
       (λ (stale : is_stale_by (Some was) p ≡ true). clash_gives (is_stale_by (Some next) p) (marks.stale row lp p one copy stale) (not-true (is_stale_by (Some next) p) parts.1))
       (λ fresh. fresh)
       (either (is_stale_by (Some was) p))))
 
-  marked_blocks : (facts : List Fact) (set : Disks) → BlocksKept c facts group set (Some was) → BlocksKept c facts group set (Some next)
-  marked_blocks facts set blocks row lp b one inside =
+  marked_blocks : (facts : List Fact) → BlocksKept c facts group set (Some was) → BlocksKept c facts group set (Some next)
+  marked_blocks facts blocks row lp b one inside =
       let kept = blocks row lp b one inside in
       record {
-        allowed = of_passing (λ p. IsValue k (block_at c group.mib p b)) (passing next set) (copies_of row lp) (λ p copy is.
-            at_passing (λ p. IsValue k (block_at c group.mib p b)) (passing was set) (copies_of row lp) kept.allowed p copy (still_fresh set row lp p one copy is));
+        allowed = of_passing (λ p. IsValue k (block_at c group.mib p b)) (passing next) (copies_of row lp) (λ p copy is.
+            at_passing (λ p. IsValue k (block_at c group.mib p b)) (passing was) (copies_of row lp) kept.allowed p copy (still_fresh row lp p one copy is));
         equal = ⊎_elim
-            (λ (hold : HoldOne c group.mib (fresh_on set (Some was) row lp) b). inl (
-              hold.0,
-              of_passing (λ p. block_at c group.mib p b ≡ hold.0) (passing next set) (copies_of row lp) (λ p copy is.
-                  at_passing (λ p. block_at c group.mib p b ≡ hold.0) (passing was set) (copies_of row lp) hold.1 p copy (still_fresh set row lp p one copy is)),
-            ))
-            (λ differ. inr (by row.mode refl differ))
+            (λ (hold : HoldOne c group.mib (fresh_on set (Some was) row lp) b). inl (held hold))
+            (λ differ. by row.mode refl differ)
             kept.equal;
       }
     where
       k : Known
       k = known (facts ++ Cut ∷ []) (Lv row.number) b
 
-      by : (m : Mode) → row.mode ≡ m → MayDiffer c (Some was) row.number m (fresh_on set (Some was) row lp) k b → MayDiffer c (Some next) row.number m (fresh_on set (Some next) row lp) k b
-      by Active is named = of_passing (λ p. IsTrue (is_named c p.disk row.number (track_group_of b))) (passing next set) (copies_of row lp) (λ p copy passed.
-          at_passing (λ p. IsTrue (is_named c p.disk row.number (track_group_of b))) (passing was set) (copies_of row lp) named p copy (still_fresh set row lp p one copy passed))
-      by Passive is dirty = marks.dirty row one is dirty
-      by Off is loose = loose
+      held : HoldOne c group.mib (fresh_on set (Some was) row lp) b → HoldOne c group.mib (fresh_on set (Some next) row lp) b
+      held hold = (
+        hold.0,
+        of_passing (λ p. block_at c group.mib p b ≡ hold.0) (passing next) (copies_of row lp) (λ p copy is.
+            at_passing (λ p. block_at c group.mib p b ≡ hold.0) (passing was) (copies_of row lp) hold.1 p copy (still_fresh row lp p one copy is)),
+      )
 
-  marked_some : (row : LvRow) (lp : ℕ) → IsOneOf group.lvs row → lp < row.lps → IsSome (fresh_on (members_in c all_disks group.id group) (Some was) row lp) → IsSome (fresh_on (members_in c all_disks group.id group) (Some next) row lp)
+      by : (m : Mode) → row.mode ≡ m → MayDiffer c (Some was) row.number m (fresh_on set (Some was) row lp) k b
+          → HoldOne c group.mib (fresh_on set (Some next) row lp) b ⊎ MayDiffer c (Some next) row.number row.mode (fresh_on set (Some next) row lp) k b
+      by Active is named = inr (subst (λ (m : Mode). MayDiffer c (Some next) row.number m (fresh_on set (Some next) row lp) k b) (sym is)
+          (of_passing (λ p. IsTrue (is_named c p.disk row.number (track_group_of b))) (passing next) (copies_of row lp) (λ p copy passed.
+          at_passing (λ p. IsTrue (is_named c p.disk row.number (track_group_of b))) (passing was) (copies_of row lp) named p copy (still_fresh row lp p one copy passed))))
+      by Passive is dirty = ⊎_elim
+          (λ stays. inr (subst (λ (m : Mode). MayDiffer c (Some next) row.number m (fresh_on set (Some next) row lp) k b) (sym is) stays))
+          (λ (are : AreOne c group was.value row). inl (held (are lp b inside)))
+          (marks.dirty row one is dirty)
+      by Off is loose = inr (subst (λ (m : Mode). MayDiffer c (Some next) row.number m (fresh_on set (Some next) row lp) k b) (sym is) loose)
+
+  marked_some : (row : LvRow) (lp : ℕ) → IsOneOf group.lvs row → lp < row.lps → IsSome (fresh_on set (Some was) row lp) → IsSome (fresh_on set (Some next) row lp)
   marked_some row lp one low some =
-      let members : Disks = members_in c all_disks group.id group in
-      let p = some_passing (passing was members) (copies_of row lp) some in
-      let parts = split (members p.0.disk) (not (is_stale_by (Some was) p.0)) p.2 in
+      let p = some_passing (passing was) (copies_of row lp) some in
+      let parts = split (set p.0.disk) (not (is_stale_by (Some was) p.0)) p.2 in
       ⊎_elim
       (λ (stale : is_stale_by (Some next) p.0 ≡ true). ⊎_elim
       (λ (was_so : IsTrue (calls_stale was.value p.0)). clash_gives (calls_stale was.value p.0) was_so (not-true (is_stale_by (Some was) p.0) parts.1))
-      (λ other. one_passes (passing next members) (copies_of row lp) other.0 other.1 (and_from (members other.0.disk) (not (is_stale_by (Some next) other.0)) other.3 (not_from_false (is_stale_by (Some next) other.0) other.2)))
+      (λ other. one_passes (passing next) (copies_of row lp) other.0 other.1 (and_from (set other.0.disk) (not (is_stale_by (Some next) other.0)) other.3 (not_from_false (is_stale_by (Some next) other.0) other.2)))
       (marks.added row lp p.0 one low p.1 stale))
-      (λ fresh. one_passes (passing next members) (copies_of row lp) p.0 p.1 (and_from (members p.0.disk) (not (is_stale_by (Some next) p.0)) parts.0 (not_from_false (is_stale_by (Some next) p.0) fresh)))
+      (λ fresh. one_passes (passing next) (copies_of row lp) p.0 p.1 (and_from (set p.0.disk) (not (is_stale_by (Some next) p.0)) parts.0 (not_from_false (is_stale_by (Some next) p.0) fresh)))
       (either (is_stale_by (Some next) p.0))
 
 -- ---- the next one
@@ -125,7 +135,7 @@ module _ (c : Contents) (group : Descriptor) (status : Status) (there targets : 
 
   across : (k : Descriptor) → IsFound c id k → BlocksKept c facts k (members_in c all_disks id k) (Some next)
   across k is = subst (λ (g : Descriptor). BlocksKept c facts g (members_in c all_disks id g) (Some next)) (sym (same_group k is))
-      (marked_blocks c group was next marks facts (members_in c all_disks id group)
+      (marked_blocks c group was next marks facts
       (subst (λ (s : Option (Stamped Status)). BlocksKept c facts group (members_in c all_disks id group) s) was_read (kept.lasting.across all_disks id group group reads_group found_group)))
 
   some_of_group : (row : LvRow) (lp : ℕ) → IsOneOf group.lvs row → lp < row.lps → IsSome (fresh_on (members_in c all_disks id group) (Some next) row lp)

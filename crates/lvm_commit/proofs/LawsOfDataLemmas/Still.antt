@@ -24,7 +24,7 @@ use Rattle.lvm_steps.specs.Requests.{IsOfData}
 use Rattle.lvm_steps.proofs.LawsLemmas.Writes.{data_keeps_before}
 use Rattle.lvm_commit.specs.Committed.{next_stamp, ShowsCommitted}
 use Rattle.lvm_commit.specs.LawsOfData.{IsSectorOf, PartitionChange, IsFlightOf, FreeDataGoesOn, DataKeepsCommitted, StillHoldsCommitted, TransferHoldsCommitted}
-use Rattle.lvm_commit.proofs.LawsLemmas.Committed.{still_shows}
+use Rattle.lvm_commit.proofs.LawsLemmas.Shown.{still_shows}
 use Rattle.lvm_commit.proofs.LawsOfDataLemmas.Data.{free_data_keeps}
 use Rattle.lvm_rec.proofs.SlotsLemmas.Next.{slot_for_same}
 

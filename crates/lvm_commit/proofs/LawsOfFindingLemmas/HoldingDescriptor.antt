@@ -1,5 +1,5 @@
 -- What the disks hold and what is found of them, while the next descriptor is written and once it stands.
-use Rattle.std.proofs.Common.{◌≡◌, ℕ, List, Ok, IfSome, sym, ◌∙◌, subst}
+use Rattle.std.proofs.Common.{◌≡◌, Bool, ℕ, List, Ok, IfSome, sym, ◌∙◌, subst}
 use Rattle.std.specs.Prelude.{is_some}
 use Rattle.lvm_num.specs.declared.record.Kind.TheVariants as kind
 use Rattle.lvm_num.specs.declared.record.Stamp.{Stamp}
@@ -22,7 +22,7 @@ use Rattle.lvm_rec.specs.declared.homes.Homes.{Homes}
 use Rattle.lvm_write.specs.Written.{KeepsShelf, IsWriting}
 use Rattle.lvm_write.proofs.WrittenLemmas.Writing.{if_told, told_at, both_from}
 use Rattle.lvm_commit.specs.Committed.{next_stamp, IsAlike, HoldsCommitted}
-use Rattle.lvm_commit.specs.LawsOfVolumes.{VolumeServes}
+use Rattle.lvm_commit.specs.LawsOfVolumes.{VolumesServe}
 use Rattle.lvm_commit.specs.LawsOfFinding.{FindsNoMore, FindsNoMoreOn}
 use Rattle.lvm_commit.specs.Settling.{there, IsOf, SessionIsHeld}
 use Rattle.lvm_commit.specs.Rounds.{WasTried}
@@ -36,12 +36,12 @@ module _ (first : Stored) (homes : Homes) (old : Device) (sectors : HasSectors o
   w = one_write first homes old sectors kind.Descriptor content
 
   pub descriptor_moment_kept :
-      (d : Device) → IsWriting (IsOfRecord w) old d → is_some d.media ≡ is_some old.media → (group : Descriptor) (lv : ℕ) (facts : List Fact) → SessionIsHeld old group first homes
-      → IfSome old.media (λ media. VolumeServes (contents_of (image_of old.sizes media)) facts group lv next) → ImagesKept old facts → ImagesKept d facts
-  descriptor_moment_kept d writing same group lv facts held serves kept image may =
+      (d : Device) → IsWriting (IsOfRecord w) old d → is_some d.media ≡ is_some old.media → (group : Descriptor) (among : ℕ → Bool) (facts : List Fact) → SessionIsHeld old group first homes
+      → IfSome old.media (λ media. VolumesServe (contents_of (image_of old.sizes media)) facts group among next) → ImagesKept old facts → ImagesKept d facts
+  descriptor_moment_kept d writing same group among facts held serves kept image may =
       let m = told_before old d image same may in
-      descriptor_write_keeps group next lv first.committed (there first) first.stamp homes w.framed (image_of old.sizes m.0) image facts (whole first homes old sectors kind.Descriptor content m.0 m.1)
-      (held_at first homes old sectors kind.Descriptor content group m.0 m.1 held) frames reads (told_at old.media (λ media. VolumeServes (contents_of (image_of old.sizes media)) facts group lv next) m.0 m.1 serves)
+      descriptor_write_keeps group next among first.committed (there first) first.stamp homes w.framed (image_of old.sizes m.0) image facts (whole first homes old sectors kind.Descriptor content m.0 m.1)
+      (held_at first homes old sectors kind.Descriptor content group m.0 m.1 held) frames reads (told_at old.media (λ media. VolumesServe (contents_of (image_of old.sizes media)) facts group among next) m.0 m.1 serves)
       (later first homes old sectors kind.Descriptor content) (by_at first homes old sectors kind.Descriptor content d m.0 m.1 writing image may) (kept (image_of old.sizes m.0) (media_may old m.0 m.1))
 
   pub descriptor_moment_finds : (d : Device) → IsWriting (IsOfRecord w) old d → (group : Descriptor) → SessionIsHeld old group first homes → FindsNoMoreOn next old d

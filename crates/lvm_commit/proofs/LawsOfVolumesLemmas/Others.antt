@@ -13,7 +13,7 @@ use Rattle.lvm_kept.proofs.CommittedLemmas.Finding.{images_within}
 use Rattle.lvm_steps.proofs.RecordLemmas.{either, clash}
 use Rattle.lvm_steps.proofs.MakingLemmas.Making.{media_may}
 use Rattle.lvm_write.proofs.WrittenLemmas.Writing.{both_from}
-use Rattle.lvm_commit.specs.LawsOfVolumes.{LeavesOthers, DescriptorLeavesOthers, RestLeavesOthers, OnlyGroupStays, OnlyGroupStaysByData, OnlyGroupStaysOn, OneByAllIsOnlySince}
+use Rattle.lvm_commit.specs.LawsOfVolumes.{LeavesOthers, DescriptorLeavesOthers, RestLeavesOthers, OnlyGroupStays, OnlyGroupStaysByData, OnlyGroupStaysOn, OneFoundIsOnlySince}
 use Rattle.lvm_commit.proofs.LawsOfFindingLemmas.NoMore.{was_found, rest_finds_nothing_new, data_finds_nothing_new}
 use Rattle.lvm_commit.proofs.LawsOfDataLemmas.Still.{still_image, data_differs}
 
@@ -45,10 +45,10 @@ only_group_stays_by_data id f old new its adds only image may =
     let from = adds image may in
     only_group_stays id (contents_of from.0) (contents_of image) (data_leaves id from.0 image (data_differs f its from.0 image from.2)) (only from.0 from.1)
 
--- what is kept on each crash image has descriptors of one group that are alike
-pub one_by_all_is_only_since : OneByAllIsOnlySince
-one_by_all_is_only_since run first device facts group span finds one past begins image may =
-    one_is_only (contents_of image) all_disks group (images_within image) ((last-path span past begins).kept image may).lasting.alike (one image may) (finds image may)
+-- what is found is of one group on each crash image
+pub one_found_is_only_since : OneFoundIsOnlySince
+one_found_is_only_since run first device facts group span finds one past begins image may =
+    one_is_only (contents_of image) group (one image may) (all_disks, finds image may)
 
 -- where something may be left, the media is told
 told_of : (device : Device) (image : Image) → MayLeave device image → (media : Media) × (device.media ≡ Some media)

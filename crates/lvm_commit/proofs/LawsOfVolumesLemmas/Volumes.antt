@@ -1,5 +1,5 @@
 -- What lets a volume be committed, and its entries.
-use Rattle.std.proofs.Common.{◌≡◌, ℕ, List, ◌++◌, refl, sym, ap, subst, ◌∙◌}
+use Rattle.std.proofs.Common.{◌≡◌, ℕ, ◌==◌, Bool, true, true≢false, List, [], ◌∷◌, ◌++◌, eq-eqb, refl, sym, ap, subst, ◌∙◌}
 use Rattle.std.specs.Prelude.{IsTrue, IsFalse, is_some}
 use Rattle.lvm_num.specs.declared.descriptor.Descriptor.{Descriptor}
 use Rattle.lvm_num.specs.declared.status.Status.{Status}
@@ -8,7 +8,7 @@ use Rattle.lvm_num.specs.Descriptor.{volume_of}
 use Rattle.lvm_num.specs.Status.{calls_stale}
 use Rattle.lvm_num.specs.Votes.{all_disks, CanWrite}
 use Rattle.lvm_vol.specs.declared.entry.Vol.TheVariants.{Lv}
-use Rattle.lvm_vol.specs.Facts.{Fact, Making, Made, Removed}
+use Rattle.lvm_vol.specs.Facts.{Fact, Making, Made, Split, Removed}
 use Rattle.lvm_kept.specs.Contents.{Contents, contents_of}
 use Rattle.lvm_kept.specs.Group.{IsFound, members_in}
 use Rattle.lvm_kept.specs.Committed.{IsWithinDisks}
@@ -19,9 +19,13 @@ use Rattle.lvm_steps.proofs.VolumeEntriesLemmas.{volume_begins, volume_is_made, 
 use Rattle.lvm_steps.proofs.LawsLemmas.Records.{shown_is_before}
 use Rattle.lvm_steps.proofs.LawsLemmas.Stamps.{later_is_after_too}
 use Rattle.lvm_commit.specs.Committed.{next_stamp, ShowsCommitted}
-use Rattle.lvm_commit.specs.LawsOfVolumes.{NextIsLater, CommittedMayCommit, ZerosAreFound, IsOnlyGroup, NamedIsFound, UnnamedIsNotFound, VolumeBeginsInSession, VolumeIsMadeInSession, VolumeIsGoneInSession}
+use Rattle.lvm_commit.specs.LawsOfVolumes.{NextIsLater, OneServes, CommittedMayCommit, VolumeSplitsInSession, ZerosAreFound, IsOnlyGroup, NamedIsFound, UnnamedIsNotFound, VolumeBeginsInSession, VolumeIsMadeInSession, VolumeIsGoneInSession}
 use Rattle.lvm_commit.proofs.LawsLemmas.Found.{shows_group, only_found, status_read}
 use Rattle.lvm_steps.proofs.GroupLemmas.Members.{member_of_parts}
+use Rattle.lvm_kept.specs.Kept.{StandsAs}
+use Rattle.lvm_vol.specs.Standing.{volumes_in}
+use Rattle.lvm_parting.proofs.EntryLemmas.{volume_splits}
+use Rattle.std.proofs.lemmas.Bool.{eqb-true}
 
 -- ---- the descriptor
 
@@ -35,13 +39,24 @@ module _ (c : Contents) (group : Descriptor) (status : Status) (there : Disks) (
   is_member d is = member_of_parts c all_disks group.id group d refl (shows_group c group status there shows d is) (shows.room d is)
 
 pub committed_may_commit : CommittedMayCommit
-committed_may_commit c group status there targets facts lv next shows within later serves = record {
+committed_may_commit c group status there targets facts among next shows within later serves = record {
   found = (all_disks, shows.found);
   differs = serves.differs;
   stands = serves.stands;
   served = serves.served;
   showing = λ d target. shows_group c group status there shows d (within d target);
   later = later;
+}
+
+pub one_serves : OneServes
+one_serves c facts group lv next serves = record {
+  differs = record {
+    alone = serves.differs.alone;
+    rows = λ row one out. serves.differs.rows row one (λ same. true≢false (sym (eq-eqb row.number lv same) ∙ out));
+    volumes = λ n out. serves.differs.volumes n (λ same. true≢false (sym (eq-eqb n lv same) ∙ out));
+  };
+  stands = λ n is. subst (λ (m : ℕ). StandsAs group.mib (volumes_in facts m).standing (volumes_in facts m).shape (volume_of next m)) (sym (eqb-true n lv is)) serves.stands;
+  served = λ row one is. serves.served row one (eqb-true row.number lv is);
 }
 
 pub zeros_are_found : ZerosAreFound
@@ -79,6 +94,11 @@ unnamed_is_not_found c group status there facts lv within enough shows kept only
 pub volume_begins_in_session : VolumeBeginsInSession
 volume_begins_in_session run first device facts group status there lv blocks mode span enough leaves unnamed =
     entry_goes_on run first device facts (Making lv blocks mode) span (λ past begins holds. tt) (λ past begins holds image may. volume_begins (contents_of image) (past ++ facts) lv blocks mode
+    (unnamed_is_not_found (contents_of image) group status there (past ++ facts) lv (images_within image) enough (leaves.shows past begins image may) (holds.kept image may) (leaves.only past begins image may) unnamed) (holds.kept image may))
+
+pub volume_splits_in_session : VolumeSplitsInSession
+volume_splits_in_session run first device facts group status there from lv span enough leaves unnamed =
+    entry_goes_on run first device facts (Split from lv) span (λ past begins holds. tt) (λ past begins holds image may. volume_splits (contents_of image) (past ++ facts) from lv
     (unnamed_is_not_found (contents_of image) group status there (past ++ facts) lv (images_within image) enough (leaves.shows past begins image may) (holds.kept image may) (leaves.only past begins image may) unnamed) (holds.kept image may))
 
 pub volume_is_made_in_session : VolumeIsMadeInSession

@@ -21,7 +21,7 @@ use Rattle.lvm_kept.specs.Torn.{RecordWrite, on_disk, IsOfRecord, StandsOn, MayW
 use Rattle.lvm_kept.proofs.PlacesLemmas.{room-same}
 use Rattle.lvm_kept.proofs.CommittedLemmas.Finding.{images_within}
 use Rattle.lvm_kept.proofs.TornLemmas.Records.{descriptor_shows, status_shows, wider, whole_is_new}
-use Rattle.lvm_steps.proofs.CommittingLemmas.{commit_keeps}
+use Rattle.lvm_parting.proofs.AmongLemmas.{commit_among_keeps}
 use Rattle.lvm_rec.specs.declared.homes.Homes.{Homes}
 use Rattle.lvm_rec.specs.Homes.{second_slots, next_slot}
 use Rattle.lvm_write.specs.Written.{write_of}
@@ -165,9 +165,9 @@ module _ (group next : Descriptor) (status : Status) (there : Disks) (stamp : St
   descriptor_stands d is stands = whole_is_new Descriptor descriptor_of descriptor_write next old new d may_describe (wider descriptor_write old new frames may_describe.slots by) is stands
 
 pub descriptor_write_keeps : DescriptorWriteKeeps
-descriptor_write_keeps group next lv status there stamp homes framed old new facts whole holds frames reads serves later by kept =
-    commit_keeps group lv there (as_read (write_of kind.Descriptor framed there homes) next) (contents_of old) (contents_of new) facts (images_within old)
-    (committed_may_commit (contents_of old) group status there there facts lv (as_read (write_of kind.Descriptor framed there homes) next) holds.shows (λ d is. is)
+descriptor_write_keeps group next among status there stamp homes framed old new facts whole holds frames reads serves later by kept =
+    commit_among_keeps group among there (as_read (write_of kind.Descriptor framed there homes) next) (contents_of old) (contents_of new) facts (images_within old)
+    (committed_may_commit (contents_of old) group status there there facts among (as_read (write_of kind.Descriptor framed there homes) next) holds.shows (λ d is. is)
     (λ d r shows its. (next_is_later old group status there stamp framed.stamp homes whole holds later).descriptors d r shows) serves)
     (descriptors_change group next status there stamp homes framed old whole holds frames reads later new by) kept
 

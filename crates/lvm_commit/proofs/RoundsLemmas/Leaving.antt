@@ -215,7 +215,7 @@ module _ (d : Descriptor) (first last : Stored) (valid : IsValid d) (round : Mar
           (λ before. inl (ap (λ (s : Status). calls_stale s p) committed ∙ before))
           (λ left. let q = other_of p left row lp volume copy in inr (q.0, q.1, q.2, shows q.0.disk q.3))
           (round.only p is);
-      dirty = λ row volume soft is. ap (λ (numbers : List ℕ). list_any (λ n. n == row.number) numbers) dirty ∙ sym (ap (λ (s : Status). calls_dirty s row.number) committed) ∙ is;
+      dirty = λ row volume soft is. inl (ap (λ (numbers : List ℕ). list_any (λ n. n == row.number) numbers) dirty ∙ sym (ap (λ (s : Status). calls_dirty s row.number) committed) ∙ is);
     }
 
     pub wants_marks : last.committed ≡ was → (e : Device) (homes : Homes) → SessionIsHeld e d last homes → WantsMarks e d last

@@ -40,7 +40,7 @@ module _ (d : Descriptor) (number before left : ℕ) (first now : Stored) (slots
     ends = record {
       back = rounds.returns;
       committed = record { idle = rounds.may.idle; same = same; votes = rounds.may.votes };
-      held = λ group own marks held. (
+      held = λ group own held. (
         rounds.held group own held,
         nothing_new_leaves group.id old mid (λ was is. ChangesBy (IsOfStatus first now) (image_of old.sizes was) (image_of mid.sizes is)) rounds.goes.keeps.media (rounds.finds group own held),
       );

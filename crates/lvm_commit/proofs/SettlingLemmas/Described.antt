@@ -29,7 +29,7 @@ use Rattle.lvm_write.proofs.WrittenLemmas.Writing.{told_at, both_map, both_then}
 use Rattle.lvm_commit.specs.declared.commit.CommitEnd.{CommitEnd}
 use Rattle.lvm_commit.specs.declared.commit.CommitEnd.TheVariants as commit_end
 use Rattle.lvm_commit.specs.Committed.{next_stamp, IsAlike}
-use Rattle.lvm_commit.specs.LawsOfVolumes.{VolumeServes, LeavesOthers}
+use Rattle.lvm_commit.specs.LawsOfVolumes.{VolumesServe, LeavesOthers}
 use Rattle.lvm_commit.specs.LawsOfFinding.{FindsNoMore, FindsNoMoreOn}
 use Rattle.lvm_commit.proofs.RoundsLemmas.Leaving.{wants_marks, round_left, left_then}
 use Rattle.lvm_commit.specs.Settling.{EndsAtOnce, IsForgotten, StaysCommitted, MarksLeft, there, IsOf, SessionIsHeld, WantsMarks, OthersAreLeft, OnlyLoses, HasLostQuorum, SpendsNumbers, IsOfStatus, IsOfCommit, IsOneRecord, StatusStaysKept, DescriptorStaysKept, StatusFindsNothingNew, StaysHeld, CommitLeaves, ComesBack, StatusEnds, DescriptorEnds}
@@ -204,7 +204,7 @@ module _ (d : Descriptor) (first mid last : Stored) (homes after final : Homes) 
 
     commit_held : StatusFindsNothingNew mid after m new → StaysHeld mid last after final m new → SessionIsHeld new next last final × OthersAreLeft group.id old new
     commit_held finds stays = (
-      (stays next next_is_of next_marks next_held).0,
+      (stays next next_is_of next_held).0,
       leaves_others_on group.id next old new (λ was is. Unit {0}) (ap (λ (g : Descriptor). g.id) alike) both (commit_finds finds),
     )
 
@@ -244,20 +244,20 @@ module _ (d : Descriptor) (first mid last : Stored) (homes after final : Homes) 
   -- ---- each moment
 
   abbrev CommitStays : Device → Type 0
-  CommitStays d = (group next : Descriptor) (lv : ℕ) (facts : List Fact) → descriptor_of content ≡ Ok next → IsOf group first → SessionIsHeld old group first homes
-      → IfSome old.media (λ media. VolumeServes (contents_of (image_of old.sizes media)) facts group lv next) → ImagesKept old facts → ImagesKept d facts
+  CommitStays d = (group next : Descriptor) (among : ℕ → Bool) (facts : List Fact) → descriptor_of content ≡ Ok next → IsOf group first → SessionIsHeld old group first homes
+      → IfSome old.media (λ media. VolumesServe (contents_of (image_of old.sizes media)) facts group among next) → ImagesKept old facts → ImagesKept d facts
 
   described_kept : DescriptorStaysKept content first homes old m
   described_kept = descriptor_kept first mid homes after old m content number p q (commit_end.Done buf) k.gives k.sectors k.frames
 
   then_kept : (e : Device) → (WantsMarks m d mid → SessionIsHeld m d mid after → StaysKept m e) × (is_some e.media ≡ is_some m.media) → CommitStays e
-  then_kept e is group next lv facts reads own held serves was image may =
+  then_kept e is group next among facts reads own held serves was image may =
       let media = told_before old e image (is.1 ∙ told_with k.gives.leaves.moments) may in
-      let served = told_at old.media (λ x. VolumeServes (contents_of (image_of old.sizes x)) facts group lv next) media.0 media.1 serves in
+      let served = told_at old.media (λ x. VolumesServe (contents_of (image_of old.sizes x)) facts group among next) media.0 media.1 serves in
       let alike : IsAlike next group = ap (λ (g : Descriptor). record g { lvs = [] }) served.differs.alone in
       is.0 (subst (λ (g : Descriptor). WantsMarks m g mid) (is_next group next reads own alike held) (next_marks group next reads own alike held))
       (subst (λ (g : Descriptor). SessionIsHeld m g mid after) (is_next group next reads own alike held) (next_held group next reads own alike held)) facts
-      (last-path described_kept group next lv facts reads own held serves was) image may
+      (last-path described_kept group next among facts reads own held serves was) image may
 
   pub commit_kept : DescriptorStaysKept content first homes old new
   commit_kept = append-path described_kept (map-path CommitStays then_kept (with_told k.kept))

@@ -1,5 +1,5 @@
 -- What the write of a session's next descriptor does, however it ended.
-use Rattle.std.proofs.Common.{◌≡◌, inl, ℕ, ◌+◌, ◌≤◌, List, IfSome, Ok, refl, ap, arith}
+use Rattle.std.proofs.Common.{◌≡◌, Bool, inl, ℕ, ◌+◌, ◌≤◌, List, IfSome, Ok, refl, ap, arith}
 use Rattle.lvm_num.specs.declared.record.Kind.TheVariants as kind
 use Rattle.lvm_num.specs.declared.record.Stamp.{Stamp}
 use Rattle.lvm_num.specs.declared.descriptor.Descriptor.{Descriptor}
@@ -20,7 +20,7 @@ use Rattle.lvm_rec.specs.Homes.{second_slots}
 use Rattle.lvm_commit.specs.declared.commit.CommitEnd.{CommitEnd}
 use Rattle.lvm_commit.specs.declared.commit.CommitEnd.TheVariants as commit_end
 use Rattle.lvm_commit.specs.Committed.{next_stamp}
-use Rattle.lvm_commit.specs.LawsOfVolumes.{VolumeServes}
+use Rattle.lvm_commit.specs.LawsOfVolumes.{VolumesServe}
 use Rattle.lvm_commit.specs.LawsOfFinding.{FindsNoMoreOn}
 use Rattle.lvm_commit.specs.Settling.{there, IsOf, SessionIsHeld, IsOfCommit, DescriptorStaysKept, DescriptorEnds}
 use Rattle.lvm_commit.specs.Rounds.{CommitsRound, stamped, session_write, HowRecord, RecordGives}
@@ -88,7 +88,7 @@ module _ (first mid : Stored) (homes after : Homes) (old m : Device) (content : 
 
     pub descriptor_kept : DescriptorStaysKept content first homes old m
     descriptor_kept = map-path
-        (λ d. (group next : Descriptor) (lv : ℕ) (facts : List Fact) → descriptor_of content ≡ Ok next → IsOf group first → SessionIsHeld old group first homes
-        → IfSome old.media (λ media. VolumeServes (contents_of (image_of old.sizes media)) facts group lv next) → ImagesKept old facts → ImagesKept d facts)
-        (λ d is group next lv facts reads own held serves kept. descriptor_moment_kept first homes old sectors content next frames reads d is.0 is.1 group lv facts held serves kept)
+        (λ d. (group next : Descriptor) (among : ℕ → Bool) (facts : List Fact) → descriptor_of content ≡ Ok next → IsOf group first → SessionIsHeld old group first homes
+        → IfSome old.media (λ media. VolumesServe (contents_of (image_of old.sizes media)) facts group among next) → ImagesKept old facts → ImagesKept d facts)
+        (λ d is group next among facts reads own held serves kept. descriptor_moment_kept first homes old sectors content next frames reads d is.0 is.1 group among facts held serves kept)
         (with_told gives.leaves.moments)

@@ -1,5 +1,6 @@
 -- What a session and its shelf are after a descriptor was committed.
-use Rattle.std.proofs.Common.{◌≡◌, inl, inr, ⊎_elim, ℕ, ◌++◌, List, [], refl, sym, ◌∙◌, subst}
+use Rattle.std.proofs.Common.{◌≡◌, Bool, inl, inr, ⊎_elim, ℕ, ◌==◌, ◌++◌, List, [], refl, sym, ◌∙◌, ap, subst}
+use Rattle.std.specs.List.{list_any}
 use Rattle.std.specs.Prelude.{Result, Ok, IfSome, IsTrue}
 use Rattle.lvm_num.specs.declared.record.Kind.TheVariants as kind
 use Rattle.lvm_num.specs.declared.descriptor.Descriptor.{Descriptor}
@@ -18,7 +19,9 @@ use Rattle.lvm_write.specs.Written.{KeepsShelf}
 use Rattle.lvm_commit.proofs.passed.Names.{spelled_is_read}
 use Rattle.lvm_commit.specs.Committed.{IsAlike}
 use Rattle.lvm_commit.specs.LawsOfFinding.{FindsNoMoreOn}
-use Rattle.lvm_commit.specs.LawsOfVolumes.{VolumeServes}
+use Rattle.lvm_commit.specs.LawsOfVolumes.{VolumeServes, VolumesServe}
+use Rattle.lvm_commit.proofs.LawsOfVolumesLemmas.Volumes.{one_serves}
+use Rattle.lvm_write.proofs.WrittenLemmas.Writing.{if_told, told_at}
 use Rattle.lvm_commit.specs.Settling.{MayCommit, IsOf, IsOfCommit, IsPlain, SessionIsHeld, ComesHeld}
 use Rattle.lvm_commit.proofs.SettlingLemmas.Chaining.{keeps_wider}
 use Rattle.lvm_core.specs.declared.fault.CommitFault.{CommitFault}
@@ -26,7 +29,7 @@ use Rattle.lvm_session.specs.State.{Core, State, is_there}
 use Rattle.lvm_core.specs.Sound.{IsSoundBetween}
 use Rattle.lvm_core.specs.Held.{IsHeld}
 use Rattle.lvm_core.specs.Settled.{IsSettled}
-use Rattle.lvm_core.specs.Committing.{CommitEnds, HasCommitted, FailsCommitted, moment_of, LetsCommit, StaysBehind}
+use Rattle.lvm_core.specs.Committing.{CommitEnds, HasCommitted, FailsCommitted, moment_of, LetsCommit, LetsCommitAmong, StaysBehind}
 use Rattle.lvm_core.specs.Leaves.{IsOfCommand, NoPartition, IsHeldSince, Leaves, committing}
 use Rattle.lvm_core.specs.Steps.{CommitsDescriptor}
 use Rattle.lvm_core.proofs.SoundLemmas.Own.{SameSizes}
@@ -48,6 +51,13 @@ may_next records d next u device may valid alike =
       settle = record { valid = valid; own = alike ∙ was.own; idle = was.idle; id = was.id; rows = was.rows; epoch = was.epoch; room = was.room; votes = was.votes };
       numbers = may.numbers;
     }
+
+-- what lets a descriptor be committed in which one volume differs
+pub lets_one : (lv : ℕ) (next : Descriptor) (run : ℕ) (first : Moment) (s : State) → LetsCommit lv next run first s → LetsCommitAmong (λ n. n == lv) next run first s
+lets_one lv next run first s lets past begins holds =
+    if_told s.device.media (λ media. VolumesServe (contents_of (image_of s.device.sizes media)) (past ++ s.core.history.facts) s.core.descriptor (λ n. n == lv) next) (λ m told.
+    one_serves (contents_of (image_of s.device.sizes m)) (past ++ s.core.history.facts) s.core.descriptor lv next
+    (told_at s.device.media (λ media. VolumeServes (contents_of (image_of s.device.sizes media)) (past ++ s.core.history.facts) s.core.descriptor lv next) m told (lets past begins holds)))
 
 module _ (next : Descriptor) (before after : ℕ) (old new : State) (answer : Result (Unit {0}) CommitFault) (w : CommitsDescriptor next before after old new answer) (settled_is : IsSettled old.core) (sound : IsSoundBetween old) (alike : IsAlike next old.core.descriptor) where
   abbrev plan : Plan
@@ -91,13 +101,13 @@ module _ (next : Descriptor) (before after : ℕ) (old new : State) (answer : Re
   descriptor_writes : KeepsShelf (is_there old.core) plan old.device new.device
   descriptor_writes = subst (λ (set : Disks). KeepsShelf set plan old.device new.device) (there_is old.core.descriptor old.core.status sound.fitting.group) w.settles.leaves.keeps
 
-  descriptor_keeps : (lv run : ℕ) (first : Moment) → IsHeldSince run first old → LetsCommit lv next run first old → SpanGoesOn run first (moment_of old) (moment_of new)
-  descriptor_keeps lv run first held lets span =
+  descriptor_keeps : (among : ℕ → Bool) (run : ℕ) (first : Moment) → IsHeldSince run first old → LetsCommitAmong among next run first old → SpanGoesOn run first (moment_of old) (moment_of new)
+  descriptor_keeps among run first held lets span =
       settles_keep Held Plain next plan old.core.status before after old new w.how answer w.settles (still_begun old.core) settled_is sound w.valid alike
-      (λ d. (group k : Descriptor) (v : ℕ) (facts : List Fact) → descriptor_of (descriptor_bytes next) ≡ Ok k → IsOf group old.core.status → SessionIsHeld old.device group old.core.status old.core.homes
-      → IfSome old.device.media (λ media. VolumeServes (contents_of (image_of old.device.sizes media)) facts group v k) → ImagesKept old.device facts → ImagesKept d facts)
+      (λ d. (group k : Descriptor) (v : ℕ → Bool) (facts : List Fact) → descriptor_of (descriptor_bytes next) ≡ Ok k → IsOf group old.core.status → SessionIsHeld old.device group old.core.status old.core.homes
+      → IfSome old.device.media (λ media. VolumesServe (contents_of (image_of old.device.sizes media)) facts group v k) → ImagesKept old.device facts → ImagesKept d facts)
       w.kept run first span
-      (λ past begins holds d its. its old.core.descriptor next lv (past ++ old.core.history.facts) read own (held_first (held past begins)) (lets past begins holds) holds.kept)
+      (λ past begins holds d its. its old.core.descriptor next among (past ++ old.core.history.facts) read own (held_first (held past begins)) (lets past begins holds) holds.kept)
 
   descriptor_calm : StaysCalm (moment_of old) (moment_of new)
   descriptor_calm = settles_calm Held Plain next plan old.core.status before after old new w.how answer w.settles (still_begun old.core) settled_is sound w.valid alike
@@ -124,7 +134,7 @@ module _ (next : Descriptor) (before after : ℕ) (old new : State) (answer : Re
           rows = loses.rows;
           stale = λ p out. loses.stale p;
           further = λ p is. ⊎_elim (λ before. inl before) (λ passed. inr (inr (passed_behind (λ d. d ≡ next) NoPartition old new next (inr refl) (λ q out. loses.stale q) p is passed))) (w.settles.leaves.left.only p is);
-          dirty = loses.dirty;
+          dirty = λ lv out. ap (λ (numbers : List ℕ). list_any (λ n. n == lv) numbers) loses.dirty;
           stays = loses.stays;
           lost = λ d is isnt. let two = loses.lost d is isnt in (subst (λ (set : Disks). IsTrue (set d)) (there_is old.core.descriptor old.core.status sound.fitting.group) two.0, two.1);
         };

@@ -3,7 +3,7 @@ use Rattle.std.proofs.Common.{◌≡◌, ℕ, List, [], ◌∷◌, ◌++◌, ref
 use Rattle.lvm_disk.specs.Device.{Device}
 use Rattle.lvm_vol.specs.declared.entry.Entry.{Entry}
 use Rattle.lvm_vol.specs.declared.entry.Entry.TheVariants as entry
-use Rattle.lvm_vol.specs.Facts.{Fact, Making, Made, Removing, Removed}
+use Rattle.lvm_vol.specs.Facts.{Fact, Making, Made, Split, Removing, Removed}
 use Rattle.lvm_vol.specs.Log.{is_open, with_fact, plain_fact}
 use Rattle.lvm_session_start.proofs.passed.Names.{open_still}
 use Rattle.lvm_session.specs.State.{Core, state}
@@ -15,6 +15,7 @@ use Rattle.lvm_core.proofs.SoundLemmas.Own.{fits_with}
 open_entered : (facts : List Fact) (e : Entry) → IsOfVolume e → (id : ℕ) → is_open (facts ++ plain_fact e ∷ []) id ≡ is_open facts id
 open_entered facts (entry.Making lv blocks mode) is id = open_still facts (Making lv blocks mode) refl id refl
 open_entered facts (entry.Made lv) is id = open_still facts (Made lv) refl id refl
+open_entered facts (entry.Split from lv) is id = open_still facts (Split from lv) refl id refl
 open_entered facts (entry.Removing vol) is id = open_still facts (Removing vol) refl id refl
 open_entered facts (entry.Removed vol) is id = open_still facts (Removed vol) refl id refl
 open_entered facts _ is id = absurd is

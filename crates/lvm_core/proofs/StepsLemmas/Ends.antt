@@ -1,7 +1,6 @@
 -- What a session is after records were written, by how that ended.
 use Rattle.std.proofs.Common.{◌≡◌, ℕ, ◌≤◌, Bool, false, List, length, replicate, refl, sym, ◌∙◌, ap, subst}
 use Rattle.std.specs.Prelude.{Result, Ok, Err, slice_set}
-use Rattle.lvm_num.specs.declared.place.Pp.{Pp}
 use Rattle.lvm_num.specs.declared.descriptor.Descriptor.{Descriptor}
 use Rattle.lvm_num.specs.Descriptor.{IsValid}
 use Rattle.lvm_num.specs.DescriptorBytes.{descriptor_bytes}
@@ -17,7 +16,7 @@ use Rattle.lvm_commit.specs.Settling.{IfBack, EndsAtOnce, IsOfStatus, IsOfCommit
 use Rattle.lvm_core.specs.declared.fault.CommitFault.{CommitFault}
 use Rattle.lvm_session.specs.declared.open.Power.TheVariants as power
 use Rattle.lvm_core.specs.Committing.{with_one_out}
-use Rattle.lvm_core.specs.Steps.{IsMarked, EndsAs, CoreEnds, CommitsDescriptor, CommitsMarks, EndsWith}
+use Rattle.lvm_core.specs.Steps.{WantsMarksAtMost, EndsAs, CoreEnds, CommitsDescriptor, CommitsStatus, EndsWith}
 use Rattle.lvm_core.proofs.CommittingLemmas.Buffers.{one_is_out, back_again}
 
 -- ---- the buffer
@@ -120,17 +119,17 @@ pub record StatusPromises (group : Descriptor) (first last : Stored) (homes next
   pub finds : StatusFindsNothingNew first homes old new
   pub kept : StatusStaysKept group first homes old new
 
-pub commits_marks :
-    (to_stale to_fresh : List Pp) (first last : Stored) (homes next_homes : Homes) (number before after : ℕ) (old new : State) (how : CommitEnd) (answer : Result (Unit {0}) CommitFault)
-    → IsMarked to_stale to_fresh old.core.status first → homes ≡ old.core.homes → number ≡ 0 → new.core.status ≡ last → new.core.homes ≡ next_homes
+pub commits_status :
+    (Wants : Stored → Stored → Type 0) (first last : Stored) (homes next_homes : Homes) (number before after : ℕ) (old new : State) (how : CommitEnd) (answer : Result (Unit {0}) CommitFault)
+    → Wants old.core.status first → WantsMarksAtMost old.core.status first → homes ≡ old.core.homes → number ≡ 0 → new.core.status ≡ last → new.core.homes ≡ next_homes
     → StatusPromises old.core.descriptor first last homes next_homes number before after old.device new.device how → CoreEnds old.core.descriptor old.core new.core how answer
-    → (first.wanted ≡ first.committed → (answer ≡ Ok tt) × (new.device ≡ old.device) × (new.core ≡ record old.core { status = first })) → CommitsMarks to_stale to_fresh before after old new answer
-commits_marks to_stale to_fresh first last homes next_homes number before after old new how answer marked at none then at_then promises goes same =
+    → (first.wanted ≡ first.committed → (answer ≡ Ok tt) × (new.device ≡ old.device) × (new.core ≡ record old.core { status = first })) → CommitsStatus Wants before after old new answer
+commits_status Wants first last homes next_homes number before after old new how answer wants rest at none then at_then promises goes same =
     let a = subst (λ (h : Homes). StatusPromises old.core.descriptor first last h next_homes number before after old.device new.device how) at promises in
     let b = subst (λ (n : ℕ). StatusPromises old.core.descriptor first last old.core.homes next_homes n before after old.device new.device how) none a in
     let d = subst (λ (h : Homes). StatusPromises old.core.descriptor first last old.core.homes h 0 before after old.device new.device how) (sym at_then) b in
     let p = subst (λ (u : Stored). StatusPromises old.core.descriptor first u old.core.homes new.core.homes 0 before after old.device new.device how) (sym then) d in
-    record { first = first; marked = marked; how = how; settles = record { ends = p.ends; leaves = p.leaves; goes = goes }; finds = p.finds; kept = p.kept; same = same }
+    record { first = first; wants = wants; rest = rest; how = how; settles = record { ends = p.ends; leaves = p.leaves; goes = goes }; finds = p.finds; kept = p.kept; same = same }
 
 -- where it ended at once
 pub at_once : (Same : Type 0) (old mid new : Core) (mid_is : mid ≡ record old { pool = with_one_out old.pool; status = mid.status; homes = mid.homes }) (all : old.pool ≡ replicate (length old.pool) false) (how : CommitEnd) (answer : Result (Unit {0}) CommitFault)

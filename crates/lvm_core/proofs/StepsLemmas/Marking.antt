@@ -30,12 +30,18 @@ pub use Rattle.lvm_num.proofs.DescriptorLemmas.Partitions.{one_partition as pp_i
 -- These marks were made, and nothing where none was to be.
 pub record SoFar (to_stale to_fresh : List Pp) (none : Type 0) (old now : Stored) : Type 0 where
   pub rest : WantsMarksAtMost old now
+  pub dirty : now.wanted.dirty ≡ old.wanted.dirty
   pub marks : Marks to_stale to_fresh old.wanted now.wanted
   pub same : none → now ≡ old
 
+-- nothing has changed
+pub at_most_none : (old : Stored) → old.in_flight ≡ None → WantsMarksAtMost old old
+at_most_none old idle = record { group = refl; committed = refl; idle = idle; stamp = refl; rows = record { id = refl; big = refl; disks = refl }; missing = λ d. refl; forgotten = λ was. was }
+
 pub none_marked : (none : Type 0) (old : Stored) → old.in_flight ≡ None → SoFar [] [] none old old
 none_marked none old idle = record {
-  rest = record { group = refl; committed = refl; idle = idle; stamp = refl; rows = record { id = refl; big = refl; disks = refl }; missing = λ d. refl; dirty = refl; forgotten = λ was. was };
+  rest = at_most_none old idle;
+  dirty = refl;
   marks = λ p. all_as_before (calls_stale old.wanted p);
   same = λ none. refl;
 }
@@ -85,17 +91,17 @@ wanted_keeps old new u is idle rest = by_test (is_held u && not (is_owed u)) res
     }
 
 -- a change that wants a mark changes marks at most
-wants_mark : (old new : Stored) → Wanted old new → SameMembers old.wanted new.wanted → SameMissing old.wanted new.wanted → new.wanted.dirty ≡ old.wanted.dirty → WantsMarksAtMost old new
-wants_mark old new kept members missing dirty =
+wants_mark : (old new : Stored) → Wanted old new → SameMembers old.wanted new.wanted → SameMissing old.wanted new.wanted → WantsMarksAtMost old new
+wants_mark old new kept members missing =
     let rows : HasSameRows old.wanted new.wanted = record { id = members.id; big = members.big; disks = members.disks } in
-    record { group = kept.group; committed = kept.committed; idle = kept.idle; stamp = kept.stamp; rows = rows; missing = missing; dirty = dirty; forgotten = kept.forgotten }
+    record { group = kept.group; committed = kept.committed; idle = kept.idle; stamp = kept.stamp; rows = rows; missing = missing; forgotten = kept.forgotten }
 
 -- the same marks, said of other lists
 remarked : (stale fresh more fresher : List Pp) (none : Type 0) (old now : Stored) → SoFar stale fresh none old now → Marks more fresher old.wanted now.wanted → SoFar more fresher none old now
-remarked stale fresh more fresher none old now so_far marks = record { rest = so_far.rest; marks = marks; same = so_far.same }
+remarked stale fresh more fresher none old now so_far marks = record { rest = so_far.rest; dirty = so_far.dirty; marks = marks; same = so_far.same }
 
 -- first marks, and then more
-rest_then : (old mid new : Stored) → WantsMarksAtMost old mid → WantsMarksAtMost mid new → WantsMarksAtMost old new
+pub rest_then : (old mid new : Stored) → WantsMarksAtMost old mid → WantsMarksAtMost mid new → WantsMarksAtMost old new
 rest_then old mid new one two = record {
   group = two.group ∙ one.group;
   committed = two.committed ∙ one.committed;
@@ -103,9 +109,16 @@ rest_then old mid new one two = record {
   stamp = two.stamp ∙ one.stamp;
   rows = record { id = two.rows.id ∙ one.rows.id; big = two.rows.big ∙ one.rows.big; disks = two.rows.disks ∙ one.rows.disks };
   missing = λ d. two.missing d ∙ one.missing d;
-  dirty = two.dirty ∙ one.dirty;
   forgotten = λ was. two.forgotten (one.forgotten was);
 }
+
+-- what one that is marked leaves as it was
+pub rest_marked : (old now new : Stored) (mark : Change) → given_up mark (seen now).unstarted ≡ (seen now).unstarted → WantsMarksAtMost old now → SameMembers now.wanted new.wanted → SameMissing now.wanted new.wanted
+    → seen new ≡ with_wanted (seen now) mark new.wanted → WantsMarksAtMost old new
+rest_marked old now new mark none so_far members missing rest =
+    let as_wanted = ap (λ (unstarted : Disks). record (seen now) { wanted = new.wanted; unstarted = unstarted }) none in
+    let kept = wanted_keeps now new (record (seen now) { wanted = new.wanted; unstarted = given_up mark (seen now).unstarted }) as_wanted so_far.idle rest in
+    rest_then old now new so_far (wants_mark now new kept members missing)
 
 module _ (pps : List Pp) (none : Type 0) (i : ℕ) (p : Pp) (within : i < length pps) (its : p ≡ get_or pps i p) (old now : Stored) where
   -- a partition that is stale already
@@ -156,20 +169,13 @@ module _ (pps : List Pp) (none : Type 0) (i : ℕ) (p : Pp) (within : i < length
           ∙ ap (λ (b : Bool). (calls_stale old.wanted q || false) && not b) (sym (more_among pps i p q within its))
 
   module _ (new : Stored) where
-    -- what one that is marked leaves as it was
-    rest_marked : (mark : Change) → given_up mark (seen now).unstarted ≡ (seen now).unstarted → WantsMarksAtMost old now → SameMembers now.wanted new.wanted → SameMissing now.wanted new.wanted → new.wanted.dirty ≡ now.wanted.dirty
-        → seen new ≡ with_wanted (seen now) mark new.wanted → WantsMarksAtMost old new
-    rest_marked mark none so_far members missing dirty rest =
-        let as_wanted = ap (λ (unstarted : Disks). record (seen now) { wanted = new.wanted; unstarted = unstarted }) none in
-        let kept = wanted_keeps now new (record (seen now) { wanted = new.wanted; unstarted = given_up mark (seen now).unstarted }) as_wanted so_far.idle rest in
-        rest_then old now new so_far (wants_mark now new kept members missing dirty)
-
     -- one that becomes stale
     pub stale_wanted : SoFar (take i pps) [] none old now → calls_stale now.wanted p ≡ false → (none → calls_stale old.wanted p ≡ true) → BecomesStale p now.wanted new.wanted → seen new ≡ with_wanted (seen now) (change.Stale p) new.wanted
         → SoFar (take (i + 1) pps) [] none old new
     stale_wanted so_far isnt clash becomes rest =
         record {
-          rest = rest_marked (change.Stale p) refl so_far.rest becomes.members becomes.missing becomes.dirty rest;
+          rest = rest_marked old now new (change.Stale p) refl so_far.rest becomes.members becomes.missing rest;
+          dirty = becomes.dirty ∙ so_far.dirty;
           marks = λ q.
               becomes.stale q
               ∙ ap (λ (b : Bool). b || is_pp q p) (so_far.marks q)
@@ -189,7 +195,8 @@ module _ (pps : List Pp) (none : Type 0) (i : ℕ) (p : Pp) (within : i < length
         → SoFar [] (take (i + 1) pps) none old new
     fresh_wanted so_far is clash becomes rest =
         record {
-          rest = rest_marked (change.Fresh p) refl so_far.rest becomes.members becomes.missing becomes.dirty rest;
+          rest = rest_marked old now new (change.Fresh p) refl so_far.rest becomes.members becomes.missing rest;
+          dirty = becomes.dirty ∙ so_far.dirty;
           marks = λ q.
               becomes.stale q
               ∙ ap (λ (b : Bool). b && not (is_pp q p)) (so_far.marks q)
@@ -208,6 +215,7 @@ module _ (pps : List Pp) (none : Type 0) (i : ℕ) (p : Pp) (within : i < length
 pub marked_both : (to_stale to_fresh : List Pp) (old mid new : Stored) → IsMarked to_stale [] old mid → IsMarked [] to_fresh mid new → IsMarked to_stale to_fresh old new
 marked_both to_stale to_fresh old mid new one two = record {
   rest = rest_then old mid new one.rest two.rest;
+  dirty = two.dirty ∙ one.dirty;
   marks = λ p.
       two.marks p
       ∙ ap (λ (b : Bool). (b || false) && not (is_among to_fresh p)) (one.marks p)
@@ -224,27 +232,27 @@ marked_both to_stale to_fresh old mid new one two = record {
 
 -- ---- then it may be written
 
-pub there_same : (to_stale to_fresh : List Pp) (old new : Stored) → IsMarked to_stale to_fresh old new → there new ≡ there old
-there_same to_stale to_fresh old new marked = λ t d. is_member (marked.rest.group t) d && not (marked.rest.missing d t)
+pub there_same : (old new : Stored) → WantsMarksAtMost old new → there new ≡ there old
+there_same old new rest = λ t d. is_member (rest.group t) d && not (rest.missing d t)
 
-may_settle : (d : Descriptor) (device : Device) (to_stale to_fresh : List Pp) (old new : Stored) → IsMarked to_stale to_fresh old new → MaySettle d old device → MaySettle d new device
-may_settle d device to_stale to_fresh old new marked may = record {
+may_settle : (d : Descriptor) (device : Device) (old new : Stored) → WantsMarksAtMost old new → MaySettle d old device → MaySettle d new device
+may_settle d device old new rest may = record {
   valid = may.valid;
-  own = may.own ∙ sym marked.rest.group;
-  idle = marked.rest.idle;
-  id = marked.rest.rows.id ∙ may.id ∙ ap (λ (g : Descriptor). g.id) (sym marked.rest.group);
-  rows = λ disk. row_stays old.wanted new.wanted marked.rest.rows disk ∙ may.rows disk ∙ ap (λ (g : Descriptor). is_member g disk) (sym marked.rest.group);
-  epoch = λ none. may.epoch (ap (λ (s : Stamp). s.epoch) (sym marked.rest.stamp) ∙ none);
-  room = subst (λ (set : Disks). HaveRoom device set) (sym (there_same to_stale to_fresh old new marked)) may.room;
-  votes = subst (λ (g : Descriptor). CanWrite g (there new)) (sym marked.rest.group) (subst (λ (set : Disks). CanWrite old.group set) (sym (there_same to_stale to_fresh old new marked)) may.votes);
+  own = may.own ∙ sym rest.group;
+  idle = rest.idle;
+  id = rest.rows.id ∙ may.id ∙ ap (λ (g : Descriptor). g.id) (sym rest.group);
+  rows = λ disk. row_stays old.wanted new.wanted rest.rows disk ∙ may.rows disk ∙ ap (λ (g : Descriptor). is_member g disk) (sym rest.group);
+  epoch = λ none. may.epoch (ap (λ (s : Stamp). s.epoch) (sym rest.stamp) ∙ none);
+  room = subst (λ (set : Disks). HaveRoom device set) (sym (there_same old new rest)) may.room;
+  votes = subst (λ (g : Descriptor). CanWrite g (there new)) (sym rest.group) (subst (λ (set : Disks). CanWrite old.group set) (sym (there_same old new rest)) may.votes);
 }
 
-pub may_commit : (records : ℕ) (d : Descriptor) (device : Device) (to_stale to_fresh : List Pp) (old new : Stored) → IsMarked to_stale to_fresh old new → MayCommit records d old device → MayCommit records d new device
-may_commit records d device to_stale to_fresh old new marked may = record {
+pub may_commit : (records : ℕ) (d : Descriptor) (device : Device) (old new : Stored) → WantsMarksAtMost old new → MayCommit records d old device → MayCommit records d new device
+may_commit records d device old new rest may = record {
   ready = may.ready;
-  settle = may_settle d device to_stale to_fresh old new marked may.settle;
-  numbers = subst (λ (n : ℕ). new.stamp.seq + records + n < 2 ^ 32) (sym many) (subst (λ (t : Stamp). t.seq + records + many_there old < 2 ^ 32) (sym marked.rest.stamp) may.numbers);
+  settle = may_settle d device old new rest may.settle;
+  numbers = subst (λ (n : ℕ). new.stamp.seq + records + n < 2 ^ 32) (sym many) (subst (λ (t : Stamp). t.seq + records + many_there old < 2 ^ 32) (sym rest.stamp) may.numbers);
 }
   where
     many : many_there new ≡ many_there old
-    many = λ t. count_by (λ (row : PvRow). not (marked.rest.missing row.disk t)) (marked.rest.group t).pvs
+    many = λ t. count_by (λ (row : PvRow). not (rest.missing row.disk t)) (rest.group t).pvs

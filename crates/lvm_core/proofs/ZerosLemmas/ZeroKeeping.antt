@@ -44,7 +44,7 @@ use Rattle.lvm_core.specs.Zeros.{IsZeroOf, HasSectorsOf, GoesOnAfter, WritesZero
 use Rattle.lvm_core.proofs.SoundLemmas.Dark.{cut_core, dark_is}
 use Rattle.lvm_core.proofs.SoundLemmas.Own.{SameSizes, same_sizes, fits_pool, one_out_long, sound_ready, sound_dark, sound_stuck}
 use Rattle.lvm_core.proofs.CommittingLemmas.Spanning.{path_falls, told_media, keeps_cut, calm_cut}
-use Rattle.lvm_core.specs.Leaves.{IsOfCommand, NoDescriptor, NoPartition, KeepsHistory, IsHeldSince, Leaves, zeroing}
+use Rattle.lvm_core.specs.Leaves.{IsOfCommand, NoDescriptor, NoPartition, NoVolume, KeepsHistory, IsHeldSince, Leaves, zeroing}
 use Rattle.lvm_core.proofs.LeavesLemmas.{keeps_same, keeps_cut as history_keeps_cut, finds_nothing, same_status}
 use Rattle.lvm_core.proofs.ZerosLemmas.ZeroEnding.{zeros_below, zero_core, zero_keeps_records, zero_behind}
 
@@ -138,7 +138,7 @@ module _ (pp : Pp) (before after : ℕ) (old new : State) (answer : Result (Unit
       let same = (zero_keeps_records pp before after old new answer w).status in
       record {
         writes = keeps_wider (λ d. d == pp.disk) (is_there old.core) (IsZeroOf old.core.descriptor.mib pp) (IsOfCommand NoDescriptor (λ p. p ≡ pp) old new) old.device new.device (on_its_disk there) (λ d s value is. inr (inr (pp, refl, is))) w.part.keeps;
-        status = same_status NoDescriptor NoPartition NoPartition old new same;
+        status = same_status NoDescriptor NoPartition NoPartition NoVolume old new same;
         numbers = subst (λ (u : Stored). SpendsNumbers 0 old.core.status u) (sym same) (record { epoch = refl; rises = omega arith; most = omega arith });
         history = by_core (λ (c : Core). KeepsHistory old.core.history c.history) (λ is. is) (λ is. history_keeps_cut old.core.history) (keeps_same old.core.history old.core.history refl);
         spans = λ run first held always. zero_keeps there free run first held;

@@ -23,11 +23,11 @@ use Rattle.lvm_vol.specs.Standing.{Standing, Absent, Open, Settled, Shape, Volum
 use Rattle.lvm_vol.proofs.LawsLemmas.Knowing.{known-push, others_stay}
 use Rattle.lvm_kept.specs.Contents.{Contents}
 use Rattle.lvm_kept.specs.Kept.{StandsAs, RawAgrees}
-use Rattle.lvm_invariant.specs.State.{ModelState, Queued}
+use Rattle.lvm_invariant.specs.State.{Beside, ModelState, Queued}
 use Rattle.lvm_invariant.specs.Found.{Votes}
 use Rattle.lvm_invariant.specs.Good.{Good}
 use Rattle.lvm_invariant.specs.Events.{Event, Submit, LandDone, LandLost, LandGot, LandReadFailed, LandNoFresh, Take, TakeEarlier, ModelStep}
-use Rattle.lvm_crash.specs.Session.{members_showing, GroupStands, HasVolumes, Shows, Describes}
+use Rattle.lvm_crash.specs.Session.{members_showing, IsPlaceOf, GroupStands, HasVolumes, Shows, Describes}
 use Rattle.lvm_crash.specs.Left.{KeepsGroup}
 use Rattle.lvm_crash.specs.Lasting.{AsksOf, DescriptionLasts}
 use Rattle.lvm_invariant.proofs.MayLemmas.{landed_mode}
@@ -110,6 +110,7 @@ record Goes (group : Descriptor) (s new : ModelState) : Type 0 where
   copies : new.is_copy ≡ s.is_copy
   active : new.is_active ≡ s.is_active
   passive : new.is_passive ≡ s.is_passive
+  beside : new.beside ≡ s.beside
   facts : (new.facts ≡ s.facts) ⊎ ((f : Fact) × (new.facts ≡ s.facts ++ f ∷ []) × IsOfSession group f)
 
 module _ (votes : Votes) (group : Descriptor) (s : ModelState) (good : Good votes s) where
@@ -133,8 +134,8 @@ module _ (votes : Votes) (group : Descriptor) (s : ModelState) (good : Good vote
   Went new = Goes group s new
 
   -- the volumes stay
-  went : (new : ModelState) → record new { is_copy = s.is_copy; is_active = s.is_active; is_passive = s.is_passive } ≡ new → (new.facts ≡ s.facts) ⊎ ((f : Fact) × (new.facts ≡ s.facts ++ f ∷ []) × IsOfSession group f) → Went new
-  went new same facts = record { copies = ap (λ (x : ModelState). x.is_copy) (sym same); active = ap (λ (x : ModelState). x.is_active) (sym same); passive = ap (λ (x : ModelState). x.is_passive) (sym same); facts = facts }
+  went : (new : ModelState) → record new { is_copy = s.is_copy; is_active = s.is_active; is_passive = s.is_passive; beside = s.beside } ≡ new → (new.facts ≡ s.facts) ⊎ ((f : Fact) × (new.facts ≡ s.facts ++ f ∷ []) × IsOfSession group f) → Went new
+  went new same facts = record { copies = ap (λ (x : ModelState). x.is_copy) (sym same); active = ap (λ (x : ModelState). x.is_active) (sym same); passive = ap (λ (x : ModelState). x.is_passive) (sym same); beside = ap (λ (x : ModelState). x.beside) (sym same); facts = facts }
 
   goes : (event : Event) (new : ModelState) → ModelStep votes event s new → AsksOf group event → Went new
   goes (Submit i q r) new step asks = subst Went (sym step.1) (went _ refl (inr (Begun q, refl, (r.lv, step.0.same.vol, asks))))
@@ -154,6 +155,10 @@ module _ (votes : Votes) (group : Descriptor) (s : ModelState) (good : Good vote
   goes (TakeEarlier q) new step asks = subst Went (sym step.1) (went _ refl (inr (Taken q, refl, tt)))
   goes _ new step asks = subst Went (sym step.1) (went _ refl (inl refl))
 
+-- no event changes which partition stands beside
+pub beside_stays : (votes : Votes) (event : Event) (s new : ModelState) (group : Descriptor) → ModelStep votes event s new → Good votes s → AsksOf group event → new.beside ≡ s.beside
+beside_stays votes event s new group step good asks = (goes votes group s good event new step asks).beside
+
 -- ---- all of it
 
 -- what holds with the history, and with each entry of a session more, holds with the new one
@@ -162,7 +167,9 @@ with_facts group s new P goes same more = ⊎_elim (λ is. subst P (sym is) same
 
 volumes_last : (group : Descriptor) (members : Disks) (s new : ModelState) → Goes group s new → HasVolumes s s.facts group members → HasVolumes new new.facts group members
 volumes_last group members s new goes volumes = record {
-  copies = λ row lp b p one inside. subst (λ (is : ℕ → ℕ → Pp → Bool). IsTrue (is row.number b p) ↔ (IsOneOf (copies_of row lp) p × IsTrue (members p.disk))) (sym goes.copies) (volumes.copies row lp b p one inside);
+  copies = λ row lp b p one inside. subst (λ (o : Option Beside). IsTrue (new.is_copy row.number b p) ↔ (IsPlaceOf o row lp b p × IsTrue (members p.disk))) (sym goes.beside)
+      (subst (λ (is : ℕ → ℕ → Pp → Bool). IsTrue (is row.number b p) ↔ (IsPlaceOf s.beside row lp b p × IsTrue (members p.disk))) (sym goes.copies) (volumes.copies row lp b p one inside));
+  free = λ o is. volumes.free o (sym goes.beside ∙ is);
   inside = λ lv b p copy. volumes.inside lv b p (sym (ap (λ (is : ℕ → ℕ → Pp → Bool). is lv b p) goes.copies) ∙ copy);
   some = volumes.some;
   notes = λ row one. ap (λ (is : ℕ → Bool). is row.number) goes.active ∙ volumes.notes row one;
@@ -186,7 +193,6 @@ module _ (old : Contents) (status : ℕ → Option (Stamped Status)) (note : ℕ
     only = λ disks g f. stands.only disks g (before old status note block disks group.id g f);
     others = others_last old status note block group.id stands.others;
     once = stands.once;
-    alike = stands.alike;
   }
 
   description_lasts_here : (votes : Votes) (event : Event) (s new : ModelState) (group : Descriptor) (in_flight next : Option (Stamped Status))

@@ -1,10 +1,13 @@
 -- What is asked of statuses is kept.
-use Rattle.std.proofs.Common.{◌≡◌, ⊎_elim, true, Some, None, refl, sym, ap, ◌∙◌, arith}
+use Rattle.std.proofs.Common.{◌≡◌, ⊎_elim, true, Option, Some, None, refl, sym, ap, ◌∙◌, arith}
+use Rattle.std.specs.Prelude.{option_map}
 use Rattle.std.proofs.lemmas.Option.{same_Some}
 use Rattle.std.proofs.lemmas.Bool.Decides.{nat_tests}
 use Rattle.lvm_num.specs.declared.record.Stamp.{Stamp}
 use Rattle.lvm_num.specs.declared.status.Status.{Status}
 use Rattle.lvm_num.specs.Record.{Stamped, stamp_lt}
+use Rattle.lvm_invariant.specs.State.{Beside}
+use Rattle.lvm_crash.specs.Session.{as_marks}
 use Rattle.lvm_crash.specs.Lasting.{StatusesLast}
 
 not_before : (a : Stamp) → stamp_lt a a ≡ true → ⊥
@@ -20,8 +23,8 @@ statuses_last = record {
         let one : u ≡ v = same_Some u v is in
         absurd (not_before u.stamp (ap (λ (x : Stamp). stamp_lt x u.stamp) (sym (stamps ∙ ap (λ (x : Stamped Status). x.stamp) (sym one))) ∙ later d r there (ids ∙ ap (λ (x : Stamped Status). x.value.id) (sym one))));
   };
-  moves = λ s new group in_flight old now has same each. record {
-    same = same ∙ has.same;
+  moves = λ s new group in_flight old now has same beside each. record {
+    same = same ∙ has.same ∙ ap (λ (o : Option Beside). option_map (as_marks o) in_flight) (sym beside);
     own = has.own;
     once = λ d e r t is also ids stamps. ⊎_elim
         (λ old_r. ⊎_elim

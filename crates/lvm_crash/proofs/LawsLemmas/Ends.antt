@@ -41,6 +41,7 @@ module _ (s : ModelState) (group : Descriptor) (in_flight : Option (Stamped Stat
     stands = old.stands;
     volumes = let v = old.volumes in record {
       copies = v.copies;
+      free = v.free;
       inside = v.inside;
       some = v.some;
       notes = v.notes;

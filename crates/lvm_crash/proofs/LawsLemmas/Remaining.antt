@@ -27,7 +27,7 @@ use Rattle.lvm_kept.specs.Committed.{IsWithinDisks}
 use Rattle.lvm_kept.proofs.CommittedLemmas.Finding.{finding_reads}
 use Rattle.lvm_kept.proofs.ChangesLemmas.Entries.{volume_is_row}
 use Rattle.lvm_kept.proofs.GroupLemmas.{still_finds, finds_before}
-use Rattle.lvm_invariant.specs.State.{ModelState}
+use Rattle.lvm_invariant.specs.State.{Beside, ModelState}
 use Rattle.lvm_invariant.specs.Found.{Votes, Found}
 use Rattle.lvm_invariant.specs.Crash.{IsCrash, BlockKept}
 use Rattle.lvm_crash.specs.Session.{marks_of, as_marks, marks_shown, view_of, AreVotesOf, members_showing, OthersStand, HasStatuses, Describes}
@@ -41,8 +41,8 @@ has_status : (rows : List LvRow) (r : Stamped Status) → HasStatus rows (Some r
 has_status [] r = tt
 has_status (row ∷ rows) r = refl
 
-its_own : (id : ℕ) (u : Stamped Status) → u.value.id ≡ id → marks_shown id (Some u) ≡ Some (as_marks u)
-its_own id u own = ap (λ (t : Bool). option_map as_marks (if t then Some u else None)) (eq-eqb u.value.id id own)
+its_own : (beside : Option Beside) (id : ℕ) (u : Stamped Status) → u.value.id ≡ id → marks_shown beside id (Some u) ≡ Some (as_marks beside u)
+its_own beside id u own = ap (λ (t : Bool). option_map (as_marks beside) (if t then Some u else None)) (eq-eqb u.value.id id own)
 
 -- what stands without a volume in the one group does in the other
 stands_without : (a b : Descriptor) → a.lvs ≡ [] → b.lvs ≡ [] → (standing : Standing) (shape : Option Shape) (lv : ℕ) → StandsAs a.mib standing shape (volume_of a lv) → StandsAs b.mib standing shape (volume_of b lv)
@@ -92,7 +92,7 @@ module _ (old : Contents) (status : ℕ → Option (Stamped Status)) (note : ℕ
       (agrees : EachViewAgrees s facts) (describes : Describes s facts group in_flight old)
       (remain : MayRemain s group in_flight old new) (within : IsWithinDisks new) where
     -- the session's view of what remains is one that it may leave
-    crash : IsCrash s (view_of group new)
+    crash : IsCrash s (view_of s.beside group new)
     crash = record {
       block = λ lv b p copy. ⊎_elim (λ same. inl (same ∙ sym (describes.shown.blocks lv b p copy))) (λ brought. inr brought) (remain.blocks lv b p copy);
       names = λ d. ⊎_elim
@@ -100,8 +100,8 @@ module _ (old : Contents) (status : ℕ → Option (Stamped Status)) (note : ℕ
           (λ is. inr (is.0, is.1, λ t lv g. is.2 lv g t))
           (remain.notes d);
       status = λ d. ⊎_elim
-          (λ same. inl (ap (marks_shown group.id) same ∙ sym (describes.shown.status d)))
-          (λ is. inr (as_marks is.0, describes.shown.statuses.same ∙ ap (option_map as_marks) is.1, is.2, ap (marks_shown group.id) is.3 ∙ its_own group.id is.0 (describes.shown.statuses.own is.0 is.1)))
+          (λ same. inl (ap (marks_shown s.beside group.id) same ∙ sym (describes.shown.status d)))
+          (λ is. inr (as_marks s.beside is.0, describes.shown.statuses.same ∙ ap (option_map (as_marks s.beside)) is.1, is.2, ap (marks_shown s.beside group.id) is.3 ∙ its_own s.beside group.id is.0 (describes.shown.statuses.own is.0 is.1)))
           (remain.statuses d);
     }
 
@@ -137,8 +137,8 @@ module _ (old : Contents) (status : ℕ → Option (Stamped Status)) (note : ℕ
     after_cut lv b = known-push facts Cut (Lv lv) b
 
     -- what a status that may be found says of the blocks
-    kept_by : (disks : Disks) (finds : FindsStatus s group new disks) (row : LvRow) (b : ℕ) → BlockKept s (view_of group new) (marks_of finds.status.value) (cut b (known facts (Lv row.number) b)) row.number b
-    kept_by disks finds row b = agrees (view_of group new) (marks_of finds.status.value) row.number b crash finds.possible
+    kept_by : (disks : Disks) (finds : FindsStatus s group new disks) (row : LvRow) (b : ℕ) → BlockKept s (view_of s.beside group new) (marks_of s.beside finds.status.value) (cut b (known facts (Lv row.number) b)) row.number b
+    kept_by disks finds row b = agrees (view_of s.beside group new) (marks_of s.beside finds.status.value) row.number b crash finds.possible
 
     blocks_by : (disks members : Disks) (finds : FindsStatus s group new disks) → BlocksKept new facts group (members_in new members group.id group) (Some finds.status)
     blocks_by disks members finds row lp b one inside =
@@ -233,7 +233,7 @@ module _ (old : Contents) (status : ℕ → Option (Stamped Status)) (note : ℕ
     raw d b low none from to = subst (May (known (facts ++ Cut ∷ []) (Disk d) b)) (sym (remain.kept.raw d b none from)) (describes.raw d b low none from to)
 
     statuses : HasStatuses s group in_flight new
-    statuses = statuses_last.moves s s group in_flight old new describes.shown.statuses refl (λ d. ⊎_elim (λ same. inl same) (λ is. inr (is.0, is.1, is.3)) (remain.statuses d))
+    statuses = statuses_last.moves s s group in_flight old new describes.shown.statuses refl refl (λ d. ⊎_elim (λ same. inl same) (λ is. inr (is.0, is.1, is.3)) (remain.statuses d))
 
     pub kept : Kept new facts
     kept = record {
@@ -247,7 +247,6 @@ module _ (old : Contents) (status : ℕ → Option (Stamped Status)) (note : ℕ
         partitions = partitions;
         descriptors = describes.stands.once;
         statuses = statuses.once;
-        alike = describes.stands.alike;
       };
     }
 

@@ -170,8 +170,8 @@ module _ (votes : Votes) (s : ModelState) (group : Descriptor) (in_flight : Opti
         describes = description_lasts votes (EndNote f.disk (names_by new) home flying) s (after_note s (names_by new) home flying) group in_flight in_flight before now (its, refl) good tt matches.describes remain.kept (record {
           blocks = λ lv b p copy. matches.describes.shown.blocks lv b p copy ∙ blocks_are_sectors was group.mib b p ∙ sym (same_at p.disk (sector_of group.mib p.pp b) (λ e. let place : sector_of group.mib p.pp b ≡ 8 = e in omega arith)) ∙ sym (blocks_are_sectors is group.mib b p);
           names = named;
-          status = λ d. matches.describes.shown.status d ∙ ap (marks_shown group.id) (sym (status_stays d));
-          statuses = statuses_last.moves s (after_note s (names_by new) home flying) group in_flight before now matches.describes.shown.statuses refl (λ d. inl (status_stays d));
+          status = λ d. matches.describes.shown.status d ∙ ap (marks_shown s.beside group.id) (sym (status_stays d));
+          statuses = statuses_last.moves s (after_note s (names_by new) home flying) group in_flight before now matches.describes.shown.statuses refl refl (λ d. inl (status_stays d));
         });
       }
 

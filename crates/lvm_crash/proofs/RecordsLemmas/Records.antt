@@ -15,7 +15,7 @@ use Rattle.lvm_kept.specs.Group.{names_if}
 use Rattle.lvm_kept.specs.Torn.{RecordWrite, StandsOn, written as as_written}
 use Rattle.lvm_kept.proofs.PlacesLemmas.{note-same, blocks_are_sectors}
 use Rattle.lvm_kept.proofs.TornLemmas.Records.{whole_is_new}
-use Rattle.lvm_invariant.specs.State.{ModelState}
+use Rattle.lvm_invariant.specs.State.{Beside, ModelState}
 use Rattle.lvm_invariant.specs.Found.{Votes}
 use Rattle.lvm_invariant.specs.Good.{Good}
 use Rattle.lvm_invariant.specs.Events.{MoveStatus}
@@ -48,8 +48,8 @@ may_leave device rest m n f told removes some =
 
 -- ---- statuses
 
-status_is : (id : ℕ) (u : Stamped Status) → u.value.id ≡ id → marks_shown id (Some u) ≡ Some (as_marks u)
-status_is id u own = let test : (u.value.id == id) ≡ true = grind (arith, nat_tests) in ap (λ t. option_map as_marks (if t then Some u else None)) test
+status_is : (beside : Option Beside) (id : ℕ) (u : Stamped Status) → u.value.id ≡ id → marks_shown beside id (Some u) ≡ Some (as_marks beside u)
+status_is beside id u own = let test : (u.value.id == id) ≡ true = grind (arith, nat_tests) in ap (λ t. option_map (as_marks beside) (if t then Some u else None)) test
 
 module _ (votes : Votes) (s : ModelState) (group : Descriptor) (w : RecordWrite) (u : Stamped Status) (device : Device) (rest : List Flight) (m n : Media) (f : Flight) (well : Bool) (flying : ℕ → Bool)
     (good : Good votes s) (matches : Matches s s.facts group (Some u) device m) (removes : Removes f device.flights rest) (own : IsStatusFlight s w f) (since : UpdateSince device w u) (lands : Lands f well m n) where
@@ -86,12 +86,12 @@ module _ (votes : Votes) (s : ModelState) (group : Descriptor) (w : RecordWrite)
   either : (d : ℕ) → (now.status d ≡ before.status d) ⊎ (now.status d ≡ Some u)
   either d = ⊎_elim (λ same. inl same) (λ up. inr (up.3 ∙ sym up.1)) (remain.statuses d)
 
-  moves : Moves s (as_marks u) (statuses_of group.id now)
+  moves : Moves s (as_marks s.beside u) (statuses_of s.beside group.id now)
   moves = record {
     flies = matches.describes.shown.statuses.same;
     each = λ d. ⊎_elim
-        (λ same. inl (ap (marks_shown group.id) same ∙ sym (matches.describes.shown.status d)))
-        (λ new. inr (ap (marks_shown group.id) new ∙ status_is group.id u the_value))
+        (λ same. inl (ap (marks_shown s.beside group.id) same ∙ sym (matches.describes.shown.status d)))
+        (λ new. inr (ap (marks_shown s.beside group.id) new ∙ status_is s.beside group.id u the_value))
         (either d);
   }
 
@@ -113,18 +113,18 @@ module _ (votes : Votes) (s : ModelState) (group : Descriptor) (w : RecordWrite)
       subst (λ k. newest_at status_of k is f.disk ≡ Some (as_written w u.value)) since.is_status (whole_is_new Status status_of w u.value since.began is f.disk since.may (since.way.images is may) own.target (all_stands ends))
       ∙ ap (λ (x : Stamped Status). Some x) the_one
 
-  shows : Shows (moved s (statuses_of group.id now) flying) group (Some u) now
+  shows : Shows (moved s (statuses_of s.beside group.id now) flying) group (Some u) now
   shows = record {
     blocks = λ lv b p copy. matches.describes.shown.blocks lv b p copy ∙ blocks_are_sectors was group.mib b p ∙ sym (same_at p.disk (sector_of group.mib p.pp b) (inr (omega arith))) ∙ sym (blocks_are_sectors is group.mib b p);
     names = λ d lv g. matches.describes.shown.names d lv g ∙ ap (λ note. names_if note lv g) (sym (note-same was is d (record { disks = refl; size = λ e. refl }) (same_at d note_sector (inl (omega arith)))));
     status = λ d. refl;
-    statuses = statuses_last.moves s (moved s (statuses_of group.id now) flying) group (Some u) before now matches.describes.shown.statuses refl (λ d. ⊎_elim (λ same. inl same) (λ new. inr (u, refl, new)) (either d));
+    statuses = statuses_last.moves s (moved s (statuses_of s.beside group.id now) flying) group (Some u) before now matches.describes.shown.statuses refl refl (λ d. ⊎_elim (λ same. inl same) (λ new. inr (u, refl, new)) (either d));
   }
 
   pub status_ended : StatusEnded s group u f.disk well flying now
   status_ended = record {
     may = moves;
-    describes = description_lasts votes (MoveStatus (as_marks u) (statuses_of group.id now) flying) s (moved s (statuses_of group.id now) flying) group (Some u) (Some u) before now (moves, refl) good tt matches.describes remain.kept shows;
+    describes = description_lasts votes (MoveStatus (as_marks s.beside u) (statuses_of s.beside group.id now) flying) s (moved s (statuses_of s.beside group.id now) flying) group (Some u) (Some u) before now (moves, refl) good tt matches.describes remain.kept shows;
     stands = stands;
   }
 

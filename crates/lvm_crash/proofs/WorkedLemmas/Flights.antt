@@ -83,7 +83,7 @@ out_of s w flights are blocks = record {
 -- ---- at rest
 
 fits_rest : (mode : Mode) (stale : Bool) → Fits (record { mode = mode; stale = stale; dirty = false; named = false }) (at_rest mode stale) None
-fits_rest mode stale = record { block = λ lv b p. refl; names = λ d lv g. refl; status = λ d. refl; statuses = no_update (record { mode = mode; stale = stale; dirty = false; named = false }) (at_rest mode stale) refl; volumes = λ facts v. v }
+fits_rest mode stale = record { block = λ lv b p. refl; names = λ d lv g. refl; status = λ d. refl; statuses = no_update (record { mode = mode; stale = stale; dirty = false; named = false }) (at_rest mode stale) refl; beside = refl; volumes = λ facts v. v }
 
 pub rest_matches : RestMatches
 rest_matches mode stale = record {

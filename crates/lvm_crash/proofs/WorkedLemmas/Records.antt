@@ -154,6 +154,7 @@ updating_matches mode = record {
     told = refl;
     describes = describes w (updating mode) (Some next_status) (record {
       block = λ lv b p. refl;
+      beside = refl;
       names = λ d lv g. refl;
       status = λ d. refl;
       statuses = its_statuses mode;

@@ -29,7 +29,7 @@ use Rattle.lvm_kept.specs.Examples.{stamped, either_of, two}
 use Rattle.lvm_kept.specs.Group.{names_if, is_named, block_at}
 use Rattle.lvm_kept.proofs.PlacesLemmas.{blocks_are_sectors}
 use Rattle.lvm_kept.proofs.TornLemmas.Standing.{zeros-sector}
-use Rattle.lvm_invariant.specs.State.{Marks, ModelState}
+use Rattle.lvm_invariant.specs.State.{Marks, Beside, ModelState}
 use Rattle.lvm_invariant.specs.First.{two_disks, marks_with, on_both, at_rest}
 use Rattle.lvm_invariant.specs.Worked.{first_group}
 use Rattle.lvm_crash.specs.Session.{marks_shown, members_showing, HasVolumes, HasStatuses, Shows, Describes}
@@ -90,11 +90,11 @@ room w d = by_first (d == 0) refl
 
 -- with what the group's volumes are told by as it was
 abbrev pub keeping_volumes : ModelState → ModelState → ModelState
-keeping_volumes old new = record new { is_copy = old.is_copy; is_active = old.is_active; is_passive = old.is_passive }
+keeping_volumes old new = record new { is_copy = old.is_copy; is_active = old.is_active; is_passive = old.is_passive; beside = old.beside }
 
 pub same_volumes : (old new : ModelState) → keeping_volumes old new ≡ new → (facts : List Fact) (group : Descriptor) (members : Disks) → HasVolumes old facts group members → HasVolumes new facts group members
 same_volumes old new same facts group members v = subst (λ (s : ModelState). HasVolumes s facts group members) same
-    (record { copies = v.copies; inside = v.inside; some = v.some; notes = v.notes; mark = v.mark; modes = v.modes; history = v.history })
+    (record { copies = v.copies; free = v.free; inside = v.inside; some = v.some; notes = v.notes; mark = v.mark; modes = v.modes; history = v.history })
 
 module _ (w : Shown) where
   abbrev pub image : Image
@@ -233,10 +233,10 @@ module _ (w : Shown) where
   zeros lv b p = sym (blocks_are_sectors image (two w.mode).mib b p ∙ zero_else p.disk (sector_of (two w.mode).mib p.pp b) (λ e. omega (arith, e)) (λ e. omega (arith, e)) (λ e. omega (arith, e)))
 
   -- statuses as a session sees them
-  shown_status : (d : ℕ) → on_both (record { stamp = (status_shown w).stamp; value = marks_with w.stale w.dirty }) d ≡ marks_shown 50 (status_on image d)
-  shown_status d = by (d == 0) (d == 1) ∙ ap (marks_shown 50) (sym (statuses_on d))
+  shown_status : (d : ℕ) → on_both (record { stamp = (status_shown w).stamp; value = marks_with w.stale w.dirty }) d ≡ marks_shown None 50 (status_on image d)
+  shown_status d = by (d == 0) (d == 1) ∙ ap (marks_shown None 50) (sym (statuses_on d))
     where
-      by : (a b : Bool) → (if a || b then Some (record { stamp = (status_shown w).stamp; value = marks_with w.stale w.dirty }) else None) ≡ marks_shown 50 (if (if a then true else b) then Some (status_shown w) else None)
+      by : (a b : Bool) → (if a || b then Some (record { stamp = (status_shown w).stamp; value = marks_with w.stale w.dirty }) else None) ≡ marks_shown None 50 (if (if a then true else b) then Some (status_shown w) else None)
       by true b = sym (ap (λ (m : Stamped Marks). Some m) (its_marks w))
       by false true = sym (ap (λ (m : Stamped Marks). Some m) (its_marks w))
       by false false = refl
@@ -258,18 +258,19 @@ module _ (w : Shown) where
     pub names : (d lv g : ℕ) → s.media.names d lv g ≡ (w.named && (two_disks d && first_group lv g))
     pub status : (d : ℕ) → s.media.status d ≡ on_both (record { stamp = (status_shown w).stamp; value = marks_with w.stale w.dirty }) d
     pub statuses : HasStatuses s (two w.mode) in_flight (contents_of image)
+    pub beside : s.beside ≡ None
     pub volumes : (facts : List Fact) → HasVolumes (at_rest w.mode w.stale) facts (two w.mode) (members_showing (base w.mode) (two w.mode)) → HasVolumes s facts (two w.mode) (members_showing (base w.mode) (two w.mode))
 
   -- one that shows no written block, with no status out and the volumes at rest
   pub fits_still : (s : ModelState) → ((lv b : ℕ) (p : Pp) → s.media.block lv b p ≡ zero_sector) → ((d lv g : ℕ) → s.media.names d lv g ≡ (w.named && (two_disks d && first_group lv g)))
       → ((d : ℕ) → s.media.status d ≡ on_both (record { stamp = (status_shown w).stamp; value = marks_with w.stale w.dirty }) d) → s.in_flight ≡ None → keeping_volumes (at_rest w.mode w.stale) s ≡ s → Fits s None
-  fits_still s block names status none same = record { block = block; names = names; status = status; statuses = no_update s none; volumes = λ facts v. same_volumes (at_rest w.mode w.stale) s same facts (two w.mode) _ v }
+  fits_still s block names status none same = record { block = block; names = names; status = status; statuses = no_update s none; beside = ap (λ (x : ModelState). x.beside) (sym same); volumes = λ facts v. same_volumes (at_rest w.mode w.stale) s same facts (two w.mode) _ v }
 
   shows : (s : ModelState) (in_flight : Option (Stamped Status)) → Fits s in_flight → Shows s (two w.mode) in_flight (contents_of image)
   shows s in_flight fits = record {
     blocks = λ lv b p copy. fits.block lv b p ∙ zeros lv b p;
     names = λ d lv g. fits.names d lv g ∙ sym (names d lv g);
-    status = λ d. fits.status d ∙ shown_status d;
+    status = λ d. fits.status d ∙ shown_status d ∙ ap (λ (o : Option Beside). marks_shown o (two w.mode).id ((contents_of image).status d)) (sym fits.beside);
     statuses = fits.statuses;
   }
 

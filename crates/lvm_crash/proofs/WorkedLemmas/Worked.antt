@@ -96,7 +96,6 @@ module _ (mode : Mode) where
       partitions = λ other g h apart is also. absurd (apart (one_id other g is));
     };
     once = λ d e r t is also ids stamps. the_descriptor d r is ∙ sym (the_descriptor e t also);
-    alike = λ d e r t is also ids. ap (λ (x : Stamped Descriptor). record x.value { lvs = [] }) (the_descriptor d r is ∙ sym (the_descriptor e t also));
   }
 
   -- ---- its volume
@@ -138,6 +137,7 @@ module _ (mode : Mode) where
 
     pub volumes : HasVolumes (at_rest mode stale) (at_rest mode stale).facts (two mode) (members_showing base (two mode))
     volumes = record {
+      free = λ o is. absurd (cc is);
       copies = λ row lp b p one inside. copies_at row (the_row row one) lp b p (first_partition lp (subst (λ (r : LvRow). lp < r.lps) (the_row row one) inside.inside)) inside.partition;
       inside = λ lv b p copy.
           let low = left_of (1 == lv && nat_lt b 2048) (is_either p) copy in
@@ -190,5 +190,5 @@ which_dirty w lv = by w.dirty
     by true = or_false (1 == lv) ∙ same_turned 1 lv
     by false = refl
 
-pub its_marks : (w : Shown) → as_marks (status_shown w) ≡ record { stamp = (status_shown w).stamp; value = marks_with w.stale w.dirty }
+pub its_marks : (w : Shown) → as_marks None (status_shown w) ≡ record { stamp = (status_shown w).stamp; value = marks_with w.stale w.dirty }
 its_marks w = λ t. record { stamp = (status_shown w).stamp; value = record { stale = λ p. which_stale w p t; dirty = λ lv. which_dirty w lv t } }

@@ -90,6 +90,5 @@ blank_is_kept image blank = record {
     partitions = λ id g h is. absurd (finds_nothing image blank is.0 id g is.1);
     descriptors = λ d e r s is. absurd (not_some (descriptor_on image d) r (no_descriptor image blank d) is);
     statuses = λ d e r s is. absurd (not_some (status_on image d) r (no_status image blank d) is);
-    alike = λ d e r s is. absurd (not_some (descriptor_on image d) r (no_descriptor image blank d) is);
   };
 }

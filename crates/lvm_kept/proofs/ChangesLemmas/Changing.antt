@@ -88,7 +88,6 @@ module _ (old : Contents) (note : ℕ → Option Noted) (block : ℕ → ℕ →
         partitions = λ id g h is also. kept.lasting.partitions id g h (is_found_before id g is) (is_found_before id h also);
         descriptors = kept.lasting.descriptors;
         statuses = kept.lasting.statuses;
-        alike = kept.lasting.alike;
       };
     }
 

@@ -145,7 +145,6 @@ module _ (c : Contents) (facts : List Fact) (f : Fact) (stays : BlocksStayKept c
       partitions = kept.lasting.partitions;
       descriptors = kept.lasting.descriptors;
       statuses = kept.lasting.statuses;
-      alike = kept.lasting.alike;
     };
   }
 

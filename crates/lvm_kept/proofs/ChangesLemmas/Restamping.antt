@@ -18,7 +18,6 @@ use Rattle.lvm_kept.specs.Committed.{IsWithinDisks}
 use Rattle.lvm_kept.specs.Changes.{RestampingKeeps}
 use Rattle.lvm_kept.proofs.CommittedLemmas.Finding.{offered, is_offered, offers, finding_reads, finds_from}
 use Rattle.lvm_kept.proofs.ChangesLemmas.Entries.{volume_is_row}
-use Rattle.lvm_kept.proofs.CommittedLemmas.Alike.{like_found, alike_stays}
 use Rattle.lvm_kept.proofs.KeptLemmas.{same_blocks}
 
 -- ---- fewer disks
@@ -272,8 +271,6 @@ module _ (old : Contents) (descriptor : ℕ → Option (Stamped Descriptor)) (ne
         partitions = λ id g h is also. kept.lasting.partitions id g h (is_found_before id g is) (is_found_before id h also);
         descriptors = one_of;
         statuses = kept.lasting.statuses;
-        alike = alike_stays old new next (λ d. ⊎_elim (λ same. inl same) (λ is. inr is.0) (own d))
-            (like_found old kept.lasting.alike next.value.id next.value found) kept.lasting.alike;
       };
     }
 

@@ -146,7 +146,6 @@ module _ (old : Contents) (status : ℕ → Option (Stamped Status)) where
         partitions = λ id g h is also. kept.lasting.partitions id g h (is_found_before id g is) (is_found_before id h also);
         descriptors = kept.lasting.descriptors;
         statuses = one_of;
-        alike = kept.lasting.alike;
       };
     }
 

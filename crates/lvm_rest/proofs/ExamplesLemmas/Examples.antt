@@ -31,7 +31,8 @@ use Rattle.lvm_kept.specs.Examples.{stamped, member, mirror, two, either_of, onl
 use Rattle.lvm_kept.specs.Group.{is_stale_by, block_at, names_if, IsOneOf, has_room}
 use Rattle.lvm_kept.specs.Kept.{StandsAs, IsBlockKept, Kept}
 use Rattle.lvm_kept.specs.Committed.{IsWithinDisks}
-use Rattle.lvm_commit.specs.Committed.{IsAlike, Began, ShowsCommitted}
+use Rattle.lvm_commit.specs.Committed.{ShowsCommitted}
+use Rattle.lvm_commit.proofs.LawsLemmas.Found.{shown_is_only}
 use Rattle.lvm_invariant.specs.State.{ModelState}
 use Rattle.lvm_invariant.specs.Found.{Votes}
 use Rattle.lvm_invariant.specs.Good.{Good}
@@ -156,18 +157,10 @@ second_copy x true away clear = absurd cc
 second_copy x false away clear = absurd cc
 
 module _ (x : Pair) where
-  alike : (d : ℕ) (r : Stamped Descriptor) → (shown_by x).descriptor d ≡ Some r → IsAlike r.value (two x.mode)
-  alike d r is = subst (λ (s : Stamped Descriptor). IsAlike s.value (two x.mode)) (sym (the_descriptor x d r is)) refl
-
-  pub began : Began (shown_by x) (two x.mode) all_disks
-  unfolding votes_by
-  began = record { enough = refl; alike = λ d r member is. alike d r is; since = λ d m r q is ids member also. inl (alike d r is) }
-
   abbrev pub shows : ShowsCommitted (shown_by x) (two x.mode) (status_of x).value (there_by x)
   shows = record {
     found = found_by_all x;
-    disks = all_disks;
-    began = began;
+    only = shown_is_only (shown_by x) (two x.mode) (λ d r is ids. ap (λ (s : Stamped Descriptor). s.value) (the_descriptor x d r is));
     descriptor = stamped 2 (two x.mode);
     value = refl;
     latest = λ d r is ids. inr (the_descriptor x d r is);

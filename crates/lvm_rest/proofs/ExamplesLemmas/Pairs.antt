@@ -233,6 +233,5 @@ module _ (x : Pair) where
               (same_Some p q (sym one ∙ ap (λ (k : Descriptor). member_of k d) (group_is id g is ∙ sym (group_is id h also)) ∙ other));
           descriptors = λ d e r s is also ids stamps. the_descriptor d r is ∙ sym (the_descriptor e s also);
           statuses = λ d e r s is also ids stamps. the_status d r is ∙ sym (the_status e s also);
-          alike = λ d e r s is also ids. ap (λ (x : Stamped Descriptor). record x.value { lvs = [] }) (the_descriptor d r is ∙ sym (the_descriptor e s also));
         };
       }

@@ -1,5 +1,5 @@
 -- A session at rest is in a good state, and describes its disks.
-use Rattle.std.proofs.Common.{◌≡◌, ◌⊎◌, inl, inr, ⊎_elim, ℕ, zero, suc, ◌<◌, ◌≤◌, Bool, true, false, ◌&&◌, not, List, [], Option, Some, None, refl, sym, ap, subst, ◌∙◌, arith, rules}
+use Rattle.std.proofs.Common.{◌≡◌, ◌⊎◌, ◌↔◌, inl, inr, ⊎_elim, ℕ, zero, suc, ◌<◌, ◌≤◌, Bool, true, false, ◌&&◌, not, List, [], Option, Some, None, refl, sym, ap, subst, ◌∙◌, arith, rules}
 use Rattle.std.specs.Prelude.{IsTrue, IsFalse, ◌==◌, if◌then◌else◌, option_map}
 use Rattle.std.proofs.lemmas.Option.{same_Some}
 use Rattle.std.proofs.lemmas.Bool.{eq-eqb, eqb-true, cases_Bool, not_from_false}
@@ -26,14 +26,14 @@ use Rattle.lvm_kept.specs.Committed.{IsWithinDisks}
 use Rattle.lvm_kept.proofs.CommittedLemmas.Finding.{finding_reads, images_within}
 use Rattle.lvm_commit.specs.Committed.{ShowsCommitted}
 use Rattle.lvm_commit.proofs.LawsLemmas.Found.{only_found, status_read}
-use Rattle.lvm_invariant.specs.State.{Marks, Queued, ModelCopy, ModelState, Live, stale_in, told}
+use Rattle.lvm_invariant.specs.State.{Marks, Queued, ModelCopy, Beside, ModelState, Live, stale_in, told}
 use Rattle.lvm_invariant.specs.Sound.{MayDiffer, Agree, Quiescent, Sound}
 use Rattle.lvm_num.specs.Modes.{is_active, is_passive}
 use Rattle.lvm_num.proofs.Booleans.{clash_gives}
 use Rattle.lvm_invariant.specs.Found.{Votes, Found}
 use Rattle.lvm_invariant.specs.Good.{Good}
 use Rattle.lvm_invariant.proofs.FirstLemmas.{nothing}
-use Rattle.lvm_crash.specs.Session.{as_marks, marks_shown, AreVotesOf, members_showing, GroupStands, HasVolumes, Describes}
+use Rattle.lvm_crash.specs.Session.{as_marks, marks_shown, AreVotesOf, members_showing, IsPlaceOf, GroupStands, HasVolumes, Describes}
 use Rattle.lvm_crash.proofs.MayLemmas.{loose_is_off}
 use Rattle.lvm_crash.proofs.GroupLemmas.Lists.{left_of, right_of, both_of, not_so}
 use Rattle.lvm_rest.specs.Rest.{IsIdle, SeesThat, AreClosed, IsAtRest}
@@ -73,22 +73,22 @@ mib_positive d valid = size_positive d.mib (search (rules, valid.head.size))
 block_below : (mib lps block : ℕ) → 1 ≤ mib → partition_of mib block < lps → block < volume_blocks mib lps
 block_below mib lps block some lt = grind (arith)
 
-pub its_own : (id : ℕ) (u : Stamped Status) → u.value.id ≡ id → marks_shown id (Some u) ≡ Some (as_marks u)
-its_own id u own = ap (λ (t : Bool). option_map as_marks (if t then Some u else None)) (eq-eqb u.value.id id own)
+pub its_own : (id : ℕ) (u : Stamped Status) → u.value.id ≡ id → marks_shown None id (Some u) ≡ Some (as_marks None u)
+its_own id u own = ap (λ (t : Bool). option_map (as_marks None) (if t then Some u else None)) (eq-eqb u.value.id id own)
 
 -- marks that are shown are those of a status of the group
 pub record IsShown (id : ℕ) (o : Option (Stamped Status)) (r : Stamped Marks) : Type 0 where
   pub status : Stamped Status
   pub is : o ≡ Some status
   pub own : status.value.id ≡ id
-  pub marks : as_marks status ≡ r
+  pub marks : as_marks None status ≡ r
 
-pub shown_parts : (id : ℕ) (o : Option (Stamped Status)) (r : Stamped Marks) → marks_shown id o ≡ Some r → IsShown id o r
+pub shown_parts : (id : ℕ) (o : Option (Stamped Status)) (r : Stamped Marks) → marks_shown None id o ≡ Some r → IsShown id o r
 shown_parts id None r is = nothing r is
 shown_parts id (Some t) r is = by (t.value.id == id) refl is
   where
-    by : (b : Bool) → (t.value.id == id) ≡ b → option_map as_marks (if b then Some t else None) ≡ Some r → IsShown id (Some t) r
-    by true own is = record { status = t; is = refl; own = eqb-true t.value.id id own; marks = same_Some (as_marks t) r is }
+    by : (b : Bool) → (t.value.id == id) ≡ b → option_map (as_marks None) (if b then Some t else None) ≡ Some r → IsShown id (Some t) r
+    by true own is = record { status = t; is = refl; own = eqb-true t.value.id id own; marks = same_Some (as_marks None t) r is }
     by false own is = nothing r is
 
 -- a volume that is found has its shape
@@ -373,13 +373,13 @@ module _ (votes : Votes) (s : ModelState) (group : Descriptor) (status : Status)
   found = record {
     set = there;
     enough = are.writes there ∙ enough;
-    have = λ d is. inl (sees.status d ∙ ap (marks_shown group.id) (shows.stated d is) ∙ its_own group.id stands own ∙ ap (λ (m : Stamped Marks). Some m) (sym sees.committed));
+    have = λ d is. inl (sees.status d ∙ ap (marks_shown None group.id) (shows.stated d is) ∙ its_own group.id stands own ∙ ap (λ (m : Stamped Marks). Some m) (sym sees.committed));
     only = λ d r is.
         let at = shown_parts group.id (c.status d) r (sym (sees.status d) ∙ is) in
         ⊎_elim
         (λ (low : stamp_lt at.status.stamp stands.stamp ≡ true). inl (subst (λ (m : Stamped Marks). stamp_lt m.stamp s.committed.stamp ≡ true) at.marks
         (subst (λ (m : Stamped Marks). stamp_lt at.status.stamp m.stamp ≡ true) (sym sees.committed) low)))
-        (λ (same : at.status ≡ stands). inr (inl (sym at.marks ∙ ap as_marks same ∙ sym sees.committed)))
+        (λ (same : at.status ≡ stands). inr (inl (sym at.marks ∙ ap (as_marks None) same ∙ sym sees.committed)))
         (shows.last d at.status at.is at.own);
     newer = λ u flies. no_flight u flies;
   }
@@ -414,12 +414,12 @@ module _ (votes : Votes) (s : ModelState) (group : Descriptor) (status : Status)
       partitions = λ other g h apart is also. rest.kept.lasting.partitions other g h is also;
     };
     once = rest.kept.lasting.descriptors;
-    alike = rest.kept.lasting.alike;
   }
 
   volumes : HasVolumes s s.facts group members
   volumes = record {
-    copies = sees.copies.copies;
+    copies = λ row lp b p one inside. subst (λ (o : Option Beside). IsTrue (s.is_copy row.number b p) ↔ (IsPlaceOf o row lp b p × IsTrue (members p.disk))) (sym sees.beside) (sees.copies.copies row lp b p one inside);
+    free = λ o is. absurd (let e : None ≡ Some o = sym sees.beside ∙ is in cc);
     inside = sees.copies.inside;
     some = λ row lp one low. let p = fresh_one row lp one low in (p.0, p.1, left_of (members p.0.disk) (not (is_stale_by (Some stands) p.0)) p.2);
     notes = sees.copies.notes;
@@ -435,7 +435,7 @@ module _ (votes : Votes) (s : ModelState) (group : Descriptor) (status : Status)
     shown = record {
       blocks = sees.blocks;
       names = sees.names;
-      status = sees.status;
+      status = λ d. sees.status d ∙ ap (λ (o : Option Beside). marks_shown o group.id (c.status d)) (sym sees.beside);
       statuses = record {
         same = idle.in_flight;
         own = λ u is. nothing u is;

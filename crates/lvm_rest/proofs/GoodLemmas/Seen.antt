@@ -88,16 +88,16 @@ module _ (facts : List Fact) (group : Descriptor) (stands : Stamped Status) (the
   -- the state, of which nothing is under way
   abbrev seen : ModelState
   seen = record {
-    media = view_of group c;
+    media = view_of None group c;
     queue = λ i. None;
     facts = facts;
     name = λ i. record { run = 0; id = i; client = 0; vol = Lv 0; at = 0; count = 0; write = false; blocks = [] };
     is_copy = λ lv b p. is_copy_by (volume_of group lv) group.mib (members_showing c group) b p;
     is_active = λ lv. notes_by (volume_of group lv);
     is_passive = λ lv. mark_by (volume_of group lv);
-    committed = as_marks stands;
+    committed = as_marks None stands;
     in_flight = None;
-    wanted = marks_of stands.value;
+    wanted = marks_of None stands.value;
     status_flying = λ d. false;
     missing = λ d. not (there d);
     cache = λ lv g. false;
@@ -105,6 +105,7 @@ module _ (facts : List Fact) (group : Descriptor) (stands : Stamped Status) (the
     flying_note = λ d. None;
     open_copy = None;
     step_write = None;
+    beside = None;
   }
 
   copies : (row : LvRow) (lp b : ℕ) (p : Pp) → IsOneOf group.lvs row → IsBlockOf group.mib row lp b → IsTrue (seen.is_copy row.number b p) ↔ (IsOneOf (copies_of row lp) p × IsTrue (members_showing c group p.disk))
@@ -150,6 +151,7 @@ rest_is_seen facts group stands there c valid = (
       notes = λ row one. ap notes_by (row_is_volume group row valid one);
       mark = λ row one. ap mark_by (row_is_volume group row valid one);
     };
+    beside = refl;
     blocks = λ lv b p copy. refl;
     names = λ d lv g. refl;
     status = λ d. refl;

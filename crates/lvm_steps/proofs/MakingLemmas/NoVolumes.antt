@@ -19,11 +19,10 @@ use Rattle.lvm_vol.specs.Facts.{Fact, Cut}
 use Rattle.lvm_vol.specs.May.{known, May}
 use Rattle.lvm_vol.specs.Standing.{Standing, Settled, Shape, volumes_in}
 use Rattle.lvm_kept.specs.Contents.{Contents}
-use Rattle.lvm_kept.specs.Group.{if_passes, passes, is_of, has_room, descriptor_among, is_voter, has_quorum, Finds, IsFound, members_in, Reads, AreAlike, IsOneOf}
+use Rattle.lvm_kept.specs.Group.{if_passes, passes, is_of, has_room, descriptor_among, is_voter, has_quorum, Finds, IsFound, members_in, Reads, IsOneOf}
 use Rattle.lvm_kept.specs.Kept.{StandsAs, HasStatus, RawAgrees, IsSettledIn, IsAvailable, Kept}
 use Rattle.lvm_kept.specs.Torn.{DescriptorsChange}
 use Rattle.lvm_kept.proofs.CommittedLemmas.Finding.{offered, is_offered}
-use Rattle.lvm_kept.proofs.CommittedLemmas.Alike.{alike_stays}
 use Rattle.lvm_kept.proofs.ChangesLemmas.Changing.{notes_keep}
 use Rattle.lvm_kept.proofs.ChangesLemmas.Restating.{statuses_keep}
 use Rattle.lvm_kept.proofs.ChangesLemmas.Entries.{stands_unfound}
@@ -76,7 +75,6 @@ pub record Remains (c : Contents) (facts : List Fact) : Type 0 where
   pub partitions : (id : ℕ) (g h : Descriptor) → IsFound c id g → IsFound c id h → (d : ℕ) (p q : PvRow) → member_of g d ≡ Some p → member_of h d ≡ Some q → p.pps ≡ q.pps
   pub descriptors : (d e : ℕ) (r s : Stamped Descriptor) → c.descriptor d ≡ Some r → c.descriptor e ≡ Some s → r.value.id ≡ s.value.id → r.stamp ≡ s.stamp → r ≡ s
   pub statuses : (d e : ℕ) (r s : Stamped Status) → c.status d ≡ Some r → c.status e ≡ Some s → r.value.id ≡ s.value.id → r.stamp ≡ s.stamp → r ≡ s
-  pub alike : AreAlike c
 
 pub empty_kept : (c : Contents) (facts : List Fact) → NamesNoVolume c → Remains c facts → Kept c facts
 empty_kept c facts empty rest = record {
@@ -96,7 +94,6 @@ empty_kept c facts empty rest = record {
     partitions = rest.partitions;
     descriptors = rest.descriptors;
     statuses = rest.statuses;
-    alike = rest.alike;
   };
 }
 
@@ -280,7 +277,6 @@ module _ (old new : Contents) (group : Descriptor) (targets : Disks) (next : Sta
           ap (λ (x : PvRow). x.pps) (same_Some p q (sym is_p ∙ ap (λ (x : Descriptor). member_of x d) same ∙ is_q)));
       descriptors = one_of;
       statuses = λ d e r s shows also. kept.lasting.statuses d e r s (subst (λ (c : Contents). c.status d ≡ Some r) change.rest shows) (subst (λ (c : Contents). c.status e ≡ Some s) change.rest also);
-      alike = alike_stays old new next (λ d. ⊎_elim (λ same. inl same) (λ put. inr put.1) (change.own d)) (λ d r shows same. absurd (fresh d r shows same)) kept.lasting.alike;
     })
 
 pub descriptors_may_change : DescriptorsMayChange

@@ -11,7 +11,7 @@ use Rattle.lvm_volumes.proofs.Leaving.{leaves_wider}
 
 module _ (map : List Pp) (pp : Pp) (inside : Contains map pp) (p q : ℕ) (a b : State) (leaves : Leaves (zeroing pp) p q a b) where
   pub zero_among : Leaves (commanding NoDescriptor (Contains map) 0) p q a b
-  zero_among = leaves_wider (zeroing pp) (commanding NoDescriptor (Contains map) 0) (λ d none. none) (λ x is. subst (Contains map) (sym is) inside) (λ x none. none) (λ x none. absurd none) (omega arith) p q a b
+  zero_among = leaves_wider (zeroing pp) (commanding NoDescriptor (Contains map) 0) (λ d none. none) (λ x is. subst (Contains map) (sym is) inside) (λ x none. none) (λ x none. absurd none) (λ lv none. none) (omega arith) p q a b
       (λ run first held only. tt) leaves
 
   pub zero_still : KeepsRecords a b → b.core ≡ a.core → StillHeld a b

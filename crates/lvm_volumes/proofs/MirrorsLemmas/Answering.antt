@@ -68,7 +68,7 @@ module _ (lv copies : ℕ) (added : List Pp) (next : Descriptor) (a : State) (pl
   its_places pp inside = (planned.row, (planned.pps, planned.may.places, subst (λ (xs : List Pp). Contains xs pp) planned.added_is inside))
 
   pub added_leaves : (p q : ℕ) (b : State) → Leaves (adding added next 2) p q a b → Leaves (to_add lv copies a.core) p q a b
-  added_leaves p q b = leaves_wider (adding added next 2) (to_add lv copies a.core) its_next (λ pp none. none) its_places (λ pp none. none) (omega arith) p q a b (λ run first held only. tt)
+  added_leaves p q b = leaves_wider (adding added next 2) (to_add lv copies a.core) its_next (λ pp none. none) its_places (λ pp none. none) (λ lv none. none) (omega arith) p q a b (λ run first held only. tt)
 
   pub adding_fails : (p : ℕ) (b : State) (why : CommitFault) → CommandBroke a.core.history p a b why → MklvcopyGives lv copies p a b (Err (fault_of why))
   adding_fails p b commit.Dark ends = inr (record { row = planned.row; pps = planned.pps; may = planned.may; ends = ends })

@@ -1,5 +1,5 @@
 -- Copies are removed: the descriptor in which the volume keeps its first ones is committed.
-use Rattle.std.proofs.Common.{◌≡◌, inl, ℕ, ◌<◌, [], ◌++◌, Option, Some, None, refl, sym, ap, subst, ◌∙◌, arith}
+use Rattle.std.proofs.Common.{◌==◌, ◌≡◌, inl, ℕ, ◌<◌, [], ◌++◌, Option, Some, None, refl, sym, ap, subst, ◌∙◌, arith}
 use Rattle.std.specs.Prelude.{IfSome, List, not, take, IsTrue, IsFalse}
 use Rattle.lvm_num.specs.declared.place.Pp.{Pp}
 use Rattle.lvm_num.specs.declared.descriptor.LvRow.{LvRow}
@@ -31,6 +31,7 @@ use Rattle.lvm_volumes.specs.Mirrors.{IfShown, to_take, AreTaken}
 use Rattle.lvm_volumes.proofs.JudgingLemmas.{keeps_with}
 use Rattle.lvm_volumes.proofs.MirrorSettlingLemmas.{none_left}
 use Rattle.lvm_volumes.proofs.LawsOfVolumesLemmas.{first_serve}
+use Rattle.lvm_core.proofs.CommittingLemmas.Committing.{lets_one}
 
 pub take_alike : (lv copies : ℕ) (next : Descriptor) (core : Core) → IsWithFewer lv copies core next → IsAlike next core.descriptor
 take_alike lv copies next core plan = ap (λ (x : Descriptor). record x { lvs = [] }) plan.is
@@ -87,5 +88,5 @@ module _ (lv copies : ℕ) (next : Descriptor) (a : State) (plan : IsWithFewer l
           settled.votes shows.shows (holds.kept (image_of a.device.sizes m) (media_may a.device m told)) plan.may.keeps.shrinks.are.fewer (keeps row volume))
 
   pub take_leaves : IsSettled a.core → (p q : ℕ) (b : State) → Leaves (committing next) p q a b → Leaves (to_take lv copies a.core) p q a b
-  take_leaves settled p q b leaves = leaves_wider (committing next) (to_take lv copies a.core) (λ x is. (row, volume, is ∙ plan.is)) (λ pp none. none) (λ pp none. none) (λ pp none. none) (omega arith) p q a b
-      (λ run first held only. (lv, lets_take settled run first held only)) leaves
+  take_leaves settled p q b leaves = leaves_wider (committing next) (to_take lv copies a.core) (λ x is. (row, volume, is ∙ plan.is)) (λ pp none. none) (λ pp none. none) (λ pp none. none) (λ lv none. none) (omega arith) p q a b
+      (λ run first held only. ((λ n. n == lv), lets_one lv next run first a (lets_take settled run first held only))) leaves

@@ -55,7 +55,7 @@ fresh_of map a b free marks k e lt = ⊎_elim
 
 module _ (map : List Pp) (p q : ℕ) (a b : State) (settled : IsSettled a.core) (leaves : Leaves (marking [] map) p q a b) where
   pub fresh_among : Leaves (commanding NoDescriptor (Contains map) 1) p q a b
-  fresh_among = leaves_wider (marking [] map) (commanding NoDescriptor (Contains map) 1) (λ d none. none) (λ pp none. absurd none) (λ pp none. absurd (omega (arith, none.1))) (λ pp its. its) (omega arith) p q a b
+  fresh_among = leaves_wider (marking [] map) (commanding NoDescriptor (Contains map) 1) (λ d none. none) (λ pp none. absurd none) (λ pp none. absurd (omega (arith, none.1))) (λ pp its. its) (λ lv none. none) (omega arith) p q a b
       (λ run first held only. tt) leaves
 
   pub fresh_still : HasStated a.core.descriptor a b → Restates [] map a b → StillHeld a b

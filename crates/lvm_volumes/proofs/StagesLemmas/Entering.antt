@@ -1,5 +1,5 @@
 -- The entries of a volume in a session, and the commit between them.
-use Rattle.std.proofs.Common.{◌≡◌, inl, ℕ, ◌≤◌, [], ◌∷◌, Option, Some, None, Result, refl, sym, ap, subst, ◌∙◌, arith}
+use Rattle.std.proofs.Common.{◌==◌, ◌≡◌, inl, ℕ, ◌≤◌, [], ◌∷◌, Option, Some, None, Result, refl, sym, ap, subst, ◌∙◌, arith}
 use Rattle.std.specs.Prelude.{IfSome, not, length}
 use Rattle.std.proofs.lemmas.List.Sums.{sum_by-append, count_by-le-length}
 use Rattle.lvm_num.specs.declared.place.Pp.{Pp}
@@ -19,7 +19,7 @@ use Rattle.lvm_kept.specs.Moments.{Moment}
 use Rattle.lvm_steps.specs.Entering.{OpensNone}
 use Rattle.lvm_steps.proofs.EnteringLemmas.{calm_goes_on}
 use Rattle.lvm_volume_plan.proofs.passed.Names.{keeps_here, spends_none, still_holds_committed, keeps_fact, same_status}
-use Rattle.lvm_volume_plan.specs.passed.Names.{HoldsCommitted, ShowsCommitted, IsOnlyGroupSince, LeavesCommitted, many_there, NoneIsLeft, MarksLeft, IsHeld, IsSettled, HasSpareNumbers, moment_of, LetsCommit, HasStated, CommitEnds, CommitFault, NoPartition, IsHeldSince, IsOfCommand, Leaves, committing, IsOfVolume}
+use Rattle.lvm_volume_plan.specs.passed.Names.{HoldsCommitted, ShowsCommitted, IsOnlyGroupSince, LeavesCommitted, many_there, NoneIsLeft, MarksLeft, IsHeld, IsSettled, HasSpareNumbers, moment_of, LetsCommit, HasStated, CommitEnds, CommitFault, NoPartition, NoVolume, IsHeldSince, IsOfCommand, Leaves, committing, IsOfVolume}
 use Rattle.lvm_session.specs.State.{Core, State, is_there}
 use Rattle.lvm_steps.specs.Moments.{SpanGoesOn}
 use Rattle.lvm_volumes.specs.Endings.{StillHeld, IfAlone, commanding}
@@ -28,6 +28,7 @@ use Rattle.lvm_volumes.proofs.EndingsLemmas.Holding.{still_by}
 use Rattle.lvm_volumes.proofs.Leaving.{falls_none, leaves_wider}
 use Rattle.lvm_volume_plan.specs.PlannedVolume.{AreOfOneGroup}
 use Rattle.lvm_volume_plan.specs.Faults.{HasSpareRoom}
+use Rattle.lvm_core.proofs.CommittingLemmas.Committing.{lets_one}
 
 pub spare_more : (log : Log) (f : Fact) → need f ≡ 1 → 2 ≤ spare_entries log → 1 ≤ spare_entries (with_fact log f)
 spare_more log f one two = let sum = sum_by-append need log.facts (f ∷ []) in omega (arith, sum, one, two)
@@ -36,6 +37,7 @@ spare_more log f one two = let sum = sum_by-append need log.facts (f ∷ []) in 
 pub needs_one : (e : Entry) → IsOfVolume e → need (plain_fact e) ≡ 1
 needs_one (entry.Making lv blocks mode) is = refl
 needs_one (entry.Made lv) is = refl
+needs_one (entry.Split from lv) is = refl
 needs_one (entry.Removing vol) is = refl
 needs_one (entry.Removed vol) is = refl
 needs_one _ is = absurd is
@@ -55,7 +57,7 @@ module _ (N : Descriptor → Type 0) (Z : Pp → Type 0) where
       → ((run : ℕ) (first : Moment) → IsHeldSince run first s → IfAlone s (with_entry s f) run first → SpanGoesOn run first (moment_of s) (moment_of (with_entry s f))) → Leaves (commanding N Z 0) p p s (with_entry s f)
   entry_leaves p s f later opens spans = record {
     writes = keeps_here (is_there s.core) (IsOfCommand N Z s (with_entry s f)) s.device;
-    status = same_status N NoPartition Z s (with_entry s f) refl;
+    status = same_status N NoPartition Z NoVolume s (with_entry s f) refl;
     numbers = record { epoch = refl; rises = omega arith; most = omega arith };
     history = keeps_fact s.core.history f later;
     spans = spans;
@@ -88,8 +90,8 @@ leaves_committed s ready run first held only = record { shows = λ past begins. 
 module _ (N : Descriptor → Type 0) (Z : Pp → Type 0) (next : Descriptor) (its : N next) (p q : ℕ) (a b : State) (leaves : Leaves (committing next) p q a b) where
   -- it is one of the command, where the history lets it be
   pub commit_among : (lv : ℕ) → ((run : ℕ) (first : Moment) → IsHeldSince run first a → LetsCommit lv next run first a) → Leaves (commanding N Z 1) p q a b
-  commit_among lv lets = leaves_wider (committing next) (commanding N Z 1) (λ d is. subst N (sym is) its) (λ pp none. absurd none) (λ pp none. none) (λ pp none. absurd none) (omega arith) p q a b
-      (λ run first held only. (lv, lets run first held)) leaves
+  commit_among lv lets = leaves_wider (committing next) (commanding N Z 1) (λ d is. subst N (sym is) its) (λ pp none. absurd none) (λ pp none. none) (λ pp none. absurd none) (λ lv none. none) (omega arith) p q a b
+      (λ run first held only. ((λ n. n == lv), lets_one lv next run first a (lets run first held))) leaves
 
 pub commit_still : (next : Descriptor) (p q : ℕ) (a b : State) → Leaves (committing next) p q a b → MarksLeft next a.core.status b.core.status → HasStated next a b → next.id ≡ a.core.descriptor.id
     → ((d : ℕ) → is_member next d ≡ is_member a.core.descriptor d) → (NoneIsLeft a.core.descriptor a.core.status → NoneIsLeft next a.core.status) → StillHeld a b

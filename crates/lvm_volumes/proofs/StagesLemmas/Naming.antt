@@ -103,7 +103,7 @@ module _ (v : NewVolume) (plan : VolumePlan) (a : State) (settled : IsSettled a.
   module _ (p q : ℕ) (b : State) (clear_leaves : Leaves (commanding NoDescriptor Z 1) p q a b) where
     -- a stage that commits no descriptor
     as_named : (n : ℕ) → 1 ≤ n → Leaves (commanding N Z n) p q a b
-    as_named n le = leaves_wider (commanding NoDescriptor Z 1) (commanding N Z n) (λ d none. absurd none) (λ pp its. its) (λ pp none. none) (λ pp its. its) le p q a b (λ run first held only. only) clear_leaves
+    as_named n le = leaves_wider (commanding NoDescriptor Z 1) (commanding N Z n) (λ d none. absurd none) (λ pp its. its) (λ pp none. none) (λ pp its. its) (λ lv none. none) le p q a b (λ run first held only. only) clear_leaves
 
     pub clear_break_leaves : Leaves (commanding N Z 2) p q a b
     clear_break_leaves = as_named 2 (omega arith)

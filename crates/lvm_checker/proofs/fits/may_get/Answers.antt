@@ -4,19 +4,19 @@ use Rattle.lvm_checker.specs.Rows.{facts_of}
 use Rattle.lvm_checker.proofs.RowsLemmas.{gets_from, gets_at}
 use Rattle.lvm_checker.proofs.fits.may_get.Goals as goal
 
-pub returns-then-not-is_allowed : goal.returns-then-not-is_allowed
-returns-then-not-is_allowed c = λ run. (
+pub returns-then-not-may_have : goal.returns-then-not-may_have
+returns-then-not-may_have c = λ run. (
   λ none. absurd (let e : ◌≡◌ {A = Bool} false true = none in cc),
   λ gets.
       let here = gets_at run c.args.asks.now c.args.blocks.now c.args.before.now c.args.id c.ask_or_none-ask.result c.loop-k.k c.ask_or_none-ask.ensures c.loop-k-test.true gets in
       let at = subst (λ (n : ℕ). May (known (facts_of run c.args.asks.now c.args.blocks.now c.args.before.now) c.ask_or_none-ask.result.vol (c.ask_or_none-ask.result.at + n)) (get_or c.args.blocks.now (c.ask_or_none-ask.result.place + c.loop-k.k) [])) (sym c.from-in-loop-k-2.ensures) here in
       let there = subst (λ (n : ℕ). May (known (facts_of run c.args.asks.now c.args.blocks.now c.args.before.now) c.ask_or_none-ask.result.vol (c.ask_or_none-ask.result.at + c.from-in-loop-k-2.result)) (get_or c.args.blocks.now (c.ask_or_none-ask.result.place + n) [])) (sym c.from-in-loop-k.ensures) at in
-      sym c.if-not-is_allowed.true ∙ (c.is_allowed.ensures run).1 there,
+      sym c.if-not-may_have.true ∙ (c.may_have.ensures run).1 there,
 )
 
 pub loop-k-preserved : goal.loop-k-preserved
 loop-k-preserved c = λ run.
-    let there = (c.is_allowed.ensures run).0 c.if-not-is_allowed.false in
+    let there = (c.may_have.ensures run).0 c.if-not-may_have.false in
     let at = subst (λ (n : ℕ). May (known (facts_of run c.args.asks.now c.args.blocks.now c.args.before.now) c.ask_or_none-ask.result.vol (c.ask_or_none-ask.result.at + n)) (get_or c.args.blocks.now (c.ask_or_none-ask.result.place + c.from-in-loop-k.result) [])) c.from-in-loop-k-2.ensures there in
     let here = subst (λ (n : ℕ). May (known (facts_of run c.args.asks.now c.args.blocks.now c.args.before.now) c.ask_or_none-ask.result.vol (c.ask_or_none-ask.result.at + c.loop-k.k)) (get_or c.args.blocks.now (c.ask_or_none-ask.result.place + n) [])) c.from-in-loop-k.ensures at in
     below_more (λ (j : ℕ). May (known (facts_of run c.args.asks.now c.args.blocks.now c.args.before.now) c.ask_or_none-ask.result.vol (c.ask_or_none-ask.result.at + j)) (get_or c.args.blocks.now (c.ask_or_none-ask.result.place + j) [])) c.loop-k.k (c.loop-k.invariant run) here

@@ -1,27 +1,7 @@
-use Rattle.std.proofs.Common.{◌≡◌, ◌+◌, List, drop, ap, ◌∙◌}
-use Rattle.std.proofs.lemmas.List.{take_rest}
-use Rattle.lvm_vol.specs.passed.NumDescriptorMode.{Active}
-use Rattle.lvm_checker.specs.declared.row.Row.{Row}
-use Rattle.lvm_checker.specs.declared.row.Row.TheVariants.{Making}
 use Rattle.lvm_vol.specs.May.{known}
 use Rattle.lvm_checker.specs.Rows.{facts_of}
-use Rattle.lvm_checker.specs.Seen.{origin_of}
-use Rattle.lvm_checker.proofs.SeenLemmas.{seen_more, followed_from, looked_through, tells}
+use Rattle.lvm_checker.proofs.SeenLemmas.{tells}
 use Rattle.lvm_checker.proofs.values.is_allowed.Goals as goal
 
-pub loop-k-preserved : goal.loop-k-preserved
-loop-k-preserved c =
-    let there : c.followed-here.result ≡ origin_of (drop (c.loop-k.k + 1) c.args.rows.now) c.args.block.vol =
-    c.followed-here.ensures ∙ ap (λ (l : List Row). origin_of l c.args.block.vol) (take_rest c.args.rows.now (c.loop-k.k + 1)) in
-    record {
-      followed = there;
-      seen = λ run. c.after_row-seen.ensures
-          ∙ seen_more run c.args.asks.now c.args.blocks.now c.args.rows.now c.loop-k.k (Making 0 0 Active) c.loop-k.here c.followed-here.result c.args.block.number c.args.value.now c.loop-k.seen c.loop-k-test.true
-          (followed_from c.args.rows.now c.loop-k.k (Making 0 0 Active) c.loop-k.here c.followed-here.result c.args.block.vol c.loop-k-test.true c.loop-k.invariant.followed there)
-          (c.loop-k.invariant.seen run);
-    }
-
 pub returns : goal.returns
-returns c = λ run. tells (known (facts_of run c.args.asks.now c.args.blocks.now c.args.rows.now) c.args.block.vol c.args.block.number) c.args.value.now c.loop-k.seen c.allows.result
-    (looked_through run c.args.asks.now c.args.blocks.now c.args.rows.now c.loop-k.k c.loop-k.here c.args.block.vol c.args.block.number c.args.value.now c.loop-k.seen c.loop-k-test.false c.loop-k.invariant.followed (c.loop-k.invariant.seen run))
-    c.allows.ensures
+returns c = λ run. tells (known (facts_of run c.args.asks.now c.args.blocks.now c.args.rows.now) c.args.block.vol c.args.block.number) c.args.value.now c.seen_after.result c.allows.result (c.seen_after.ensures run) c.allows.ensures

@@ -11,6 +11,7 @@ use Rattle.lvm_commit.specs.declared.commit.CommitEnd.TheVariants as commit_end
 use Rattle.lvm_commit.specs.Settling.{IsOfCommit, there}
 use Rattle.lvm_commit.specs.Rounds.{stamped, session_write, RecordGives}
 use Rattle.lvm_commit.proofs.SettlingLemmas.Chaining.{keeps_wider, loses_less}
+use Rattle.lvm_commit.proofs.HoldingRoundsLemmas.{round_within, within_both, within_same}
 use Rattle.lvm_commit.proofs.RoundsLemmas.Leaving.{round_left}
 use Rattle.lvm_commit.proofs.SettlingLemmas.Ready.{may_settle_on, numbers_left, spends_one}
 use Rattle.lvm_commit.proofs.SettlingLemmas.Describing.{describes, stamp_is, is_of_commit, descriptor_ends, descriptor_finds, descriptor_kept}
@@ -71,6 +72,7 @@ returns-in_default g c =
       };
       finds = λ group next reads own alike held. descriptor_finds first mid homes after old m content number p q r gives sectors frames group next reads held;
       kept = descriptor_kept first mid homes after old m content number p q r gives sectors frames;
+      held = round_within first first mid (within_same first) c.write_descriptor.ensures.held;
     }
 
 -- ---- where the status was committed then
@@ -116,4 +118,5 @@ returns-in-Done g c =
       leaves = commit_leaves c.args.d.now first mid last homes after final old m new content number p q buf r k c.commit_status.new.patience.left e.leaves.spends e.leaves.numbers;
       finds = λ group next reads own alike held. commit_finds c.args.d.now first mid last homes after final old m new content number p q buf r k group next reads own alike held e.finds;
       kept = commit_kept c.args.d.now first mid last homes after final old m new content number p q buf r k;
+      held = within_both first mid last (round_within first first mid (within_same first) c.write_descriptor.ensures.held) e.held e.leaves.loses.stale;
     }

@@ -2,6 +2,7 @@ use Rattle.std.proofs.Common.{◌≡◌, refl, sym, ◌∙◌, ap}
 use Rattle.std.proofs.lemmas.Bool.{false≢true}
 use Rattle.lvm_disk.specs.Device.{Device, HasSectors}
 use Rattle.lvm_status.specs.Update.{Stored}
+use Rattle.lvm_commit.proofs.HoldingRoundsLemmas.{round_within, within_same}
 use Rattle.lvm_commit.proofs.SettlingLemmas.StatusRounds.{no_rounds, more_rounds}
 use Rattle.lvm_commit.proofs.RoundsLemmas.StatusEnding.{rounds_end, rounds_stop}
 use Rattle.lvm_commit.proofs.commit.commit_status.Goals as goal
@@ -9,6 +10,7 @@ use Rattle.lvm_commit.proofs.commit.commit_status.Goals as goal
 pub loop-shelf-init : goal.loop-shelf-init
 loop-shelf-init g c = record {
   rounds = no_rounds c.args.d.now c.args.patience.now.left c.args.updater.now c.args.homes.now (g.S.Shelf.device c.args.shelf.now) c.args.buf c.requires.may.settle c.requires.may.ready;
+  held = within_same c.args.updater.now;
   unwritten = λ same. (refl, refl, refl, refl);
 }
 
@@ -28,6 +30,7 @@ loop-shelf-preserved g c =
       rounds = more_rounds c.args.d.now c.args.buf.number c.args.patience.now.left c.loop-shelf.patience.left c.args.updater.now now c.args.homes.now c.loop-shelf.homes (g.S.Shelf.device c.args.shelf.now) mid c.loop-shelf.buf
           inv.rounds differs sectors c.write_wanted.new.updater c.write_wanted.new.homes (g.S.Shelf.device c.write_wanted.new.shelf) c.write_wanted.new.patience.left _ call.gives call.frames call.valid call.marks
           c.in-Done.back call.gives.how.0 call.committed.0 call.committed.1 call.gives.how.1;
+      held = round_within c.args.updater.now now c.write_wanted.new.updater inv.held call.held;
       unwritten = λ same. absurd (still_differs c.args.updater.now now (inv.unwritten same).1 differs same);
     }
 
@@ -41,11 +44,11 @@ returns-in_default g c =
     let call = c.write_wanted.ensures in
     let gives = rounds_stop c.args.d.now c.args.buf.number c.args.patience.now.left c.loop-shelf.patience.left c.args.updater.now now c.args.homes.now c.loop-shelf.homes (g.S.Shelf.device c.args.shelf.now) mid c.loop-shelf.buf
     inv.rounds differs sectors c.write_wanted.new.updater c.write_wanted.new.homes (g.S.Shelf.device c.write_wanted.new.shelf) c.write_wanted.new.patience.left c.write_wanted.result call.gives call.frames call.valid call.marks call.committed c.in_default.not-Done in
-    record { ends = gives.ends; unwritten = λ same. absurd (still_differs c.args.updater.now now (inv.unwritten same).1 differs same); leaves = gives.leaves; finds = gives.finds; kept = gives.kept }
+    record { ends = gives.ends; unwritten = λ same. absurd (still_differs c.args.updater.now now (inv.unwritten same).1 differs same); leaves = gives.leaves; finds = gives.finds; kept = gives.kept; held = round_within c.args.updater.now now c.write_wanted.new.updater inv.held call.held }
 
 pub returns : goal.returns
 returns g c =
     let inv = c.loop-shelf.invariant in
     let gives = rounds_end c.args.d.now c.args.buf.number c.args.patience.now.left c.loop-shelf.patience.left c.args.updater.now c.loop-shelf.updater c.args.homes.now c.loop-shelf.homes (g.S.Shelf.device c.args.shelf.now)
     (g.S.Shelf.device c.loop-shelf.shelf) c.loop-shelf.buf inv.rounds (c.is_committed.ensures.0 c.loop-shelf-test.false) in
-    record { ends = gives.ends; unwritten = inv.unwritten; leaves = gives.leaves; finds = gives.finds; kept = gives.kept }
+    record { ends = gives.ends; unwritten = inv.unwritten; leaves = gives.leaves; finds = gives.finds; kept = gives.kept; held = inv.held }

@@ -1,5 +1,5 @@
-use Rattle.lvm_commit.proofs.LawsOfVolumesLemmas.Volumes.{committed_may_commit, zeros_are_found}
+use Rattle.lvm_commit.proofs.LawsOfVolumesLemmas.Volumes.{one_serves, committed_may_commit, zeros_are_found}
 use Rattle.lvm_commit.proofs.laws.volume_may_be_committed.Goals as goal
 
 pub returns : goal.returns
-returns c = record { descriptor = committed_may_commit; zeros = zeros_are_found }
+returns c = record { one = one_serves; descriptor = committed_may_commit; zeros = zeros_are_found }

@@ -1,4 +1,4 @@
-use Rattle.std.proofs.Common.{◌≡◌, ℕ, Bool, true, false, ◌&&◌, not, Some, refl, sym, ◌∙◌, ap, subst, arith}
+use Rattle.std.proofs.Common.{◌≡◌, inl, inr, ⊎_elim, ℕ, Bool, true, false, ◌&&◌, not, Some, refl, sym, ◌∙◌, ap, subst, arith}
 use Rattle.std.specs.Prelude.{◌==◌, count_by}
 use Rattle.std.proofs.lemmas.Bool.{eqb-true}
 use Rattle.lvm_num.specs.declared.descriptor.PvRow.{PvRow}
@@ -76,5 +76,6 @@ returns c =
       wanted = ending_wanted first (has c.args.failed) last ending none;
       committed = ending_committed first (has c.args.failed) last ending none;
       short = ending_short first (has c.args.failed) last ending none;
+      flown = ⊎_elim (λ flies. inl flies) (λ closed. inr closed.0) ending.flown;
       forgotten = ending.sound.idle;
     }

@@ -1,3 +1,8 @@
+use Rattle.std.proofs.Common.{inl, inr, None}
+use Rattle.lvm_num.specs.declared.place.Pp.{Pp}
+use Rattle.lvm_num.specs.declared.status.Status.{Status}
+use Rattle.lvm_num.specs.Status.{calls_stale}
+use Rattle.lvm_commit.specs.Rounds.{HoldsRound}
 use Rattle.std.proofs.Common.{◌≡◌, not, sym, ◌∙◌, ap, subst}
 use Rattle.lvm_num.specs.declared.record.Kind.TheVariants as kind
 use Rattle.lvm_num.specs.declared.descriptor.Descriptor.{Descriptor}
@@ -83,3 +88,30 @@ returns-in-Stuck-clause-marks g c =
 
 pub returns-in-Stuck-clause-committed : goal.returns-in-Stuck-clause-committed
 returns-in-Stuck-clause-committed g c = ap (λ (s : Stored). s.committed) c.send_descriptor.ensures.stamps
+
+-- nothing is in flight, and what was committed is
+stamps_hold : (u x : Stored) → x ≡ stamped u → u.in_flight ≡ None → HoldsRound u x
+stamps_hold u x is idle = record {
+  in_flight = inr (ap (λ (s : Stored). s.in_flight) is ∙ idle);
+  committed = inl (ap (λ (s : Stored). s.committed) is);
+  stale = λ p was. ap (λ (s : Stored). calls_stale s.wanted p) is ∙ was;
+}
+
+pub returns-in-Ended-clause-held : goal.returns-in-Ended-clause-held
+returns-in-Ended-clause-held g c =
+    let u : Stored = c.args.updater.now in
+    let mid : Stored = c.lose.new.updater in
+    let last : Stored = c.mark_left.new.updater in
+    let rest = c.mark_left.ensures.rest in
+    let lost : HasLost (has c.in-Ended.failed) (stamped u) mid = subst (λ (s : Stored). HasLost (has c.in-Ended.failed) s mid) c.send_descriptor.ensures.stamps c.lose.ensures in
+    record {
+      in_flight = inr (ap (λ (s : Stored). s.in_flight) rest ∙ lost.idle);
+      committed = inl (ap (λ (s : Stored). s.committed) rest ∙ lost.committed);
+      stale = (leaves c.args.d.now u mid last (has c.in-Ended.failed) lost.wanted c.mark_left.ensures).stale;
+    }
+
+pub returns-in-Dark-clause-held : goal.returns-in-Dark-clause-held
+returns-in-Dark-clause-held g c = stamps_hold c.args.updater.now c.send_descriptor.new.updater c.send_descriptor.ensures.stamps c.requires.may.idle
+
+pub returns-in-Stuck-clause-held : goal.returns-in-Stuck-clause-held
+returns-in-Stuck-clause-held g c = stamps_hold c.args.updater.now c.send_descriptor.new.updater c.send_descriptor.ensures.stamps c.requires.may.idle

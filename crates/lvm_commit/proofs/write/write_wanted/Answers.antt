@@ -1,3 +1,8 @@
+use Rattle.std.proofs.Common.{inl, inr, ⊎_elim, Some}
+use Rattle.lvm_num.specs.declared.place.Pp.{Pp}
+use Rattle.lvm_num.specs.Status.{calls_stale}
+use Rattle.lvm_commit.specs.Rounds.{HoldsRound}
+use Rattle.lvm_commit.proofs.HoldingRoundsLemmas.{by_round}
 use Rattle.std.proofs.Common.{◌≡◌, ℕ, true, not, Some, None, sym, ◌∙◌, ap}
 use Rattle.lvm_num.specs.declared.record.Kind.TheVariants as kind
 use Rattle.lvm_num.specs.declared.descriptor.Descriptor.{Descriptor}
@@ -101,3 +106,33 @@ returns-in-Stuck-clause-marks g c = round_same c.args.d.now c.args.updater.now c
 
 pub returns-in-Stuck-clause-committed : goal.returns-in-Stuck-clause-committed
 returns-in-Stuck-clause-committed g c = c.send_wanted.ensures.starts.committed
+
+-- what was wanted is in flight still
+starts_holds : (u x : Stored) → Starts u x → HoldsRound u x
+starts_holds u x starts = record {
+  in_flight = inl (starts.started.flies ∙ ap (λ (s : Status). Some s) starts.wanted);
+  committed = inl starts.committed;
+  stale = λ p was. ap (λ (s : Status). calls_stale s p) starts.wanted ∙ was;
+}
+
+pub returns-in-Ended-clause-held : goal.returns-in-Ended-clause-held
+returns-in-Ended-clause-held g c =
+    let u : Stored = c.args.updater.now in
+    let x : Stored = c.send_wanted.new.updater in
+    let mid : Stored = c.end_writes.new.updater in
+    let last : Stored = c.mark_left.new.updater in
+    let failed : Disks = has c.in-Ended.failed in
+    let starts : Starts u x = c.send_wanted.ensures.starts in
+    let ends = c.end_writes.ensures in
+    let rest = c.mark_left.ensures.rest in
+    record {
+      in_flight = ⊎_elim (λ flies. inl (ap (λ (s : Stored). s.in_flight) rest ∙ flies ∙ ap (λ (s : Status). Some s) starts.wanted)) (λ none. inr (ap (λ (s : Stored). s.in_flight) rest ∙ none)) ends.flown;
+      committed = by_round u.wanted u last c.by_votes.result (returns-in-Ended-clause-committed g c);
+      stale = (leaves c.args.d.now u mid last failed (misses u x mid failed starts ends (λ d is. (c.in-Ended.ensures.sent.ends.each d).target is)) c.mark_left.ensures).stale;
+    }
+
+pub returns-in-Dark-clause-held : goal.returns-in-Dark-clause-held
+returns-in-Dark-clause-held g c = starts_holds c.args.updater.now c.send_wanted.new.updater c.send_wanted.ensures.starts
+
+pub returns-in-Stuck-clause-held : goal.returns-in-Stuck-clause-held
+returns-in-Stuck-clause-held g c = starts_holds c.args.updater.now c.send_wanted.new.updater c.send_wanted.ensures.starts

@@ -2,9 +2,10 @@ use Rattle.std.proofs.Common.{sym, ◌∙◌, ap, subst}
 use Rattle.lvm_num.specs.declared.descriptor.Descriptor.{Descriptor}
 use Rattle.lvm_disk.specs.Device.{Device}
 use Rattle.lvm_commit.proofs.passed.Names.{spelled_is_read}
-use Rattle.lvm_commit.specs.Settling.{IsContentOf, IsOfCommit, CommitLeaves, MayCommit}
+use Rattle.lvm_commit.specs.Settling.{HoldsWithin, IsContentOf, IsOfCommit, CommitLeaves, MayCommit}
 use Rattle.lvm_core.proofs.CommittingLemmas.Committing.{may_next}
 use Rattle.lvm_session.specs.declared.session.Session.{Session}
+use Rattle.lvm_status.specs.Update.{Stored}
 use Rattle.lvm_session.specs.State.{state}
 use Rattle.lvm_session.specs.Fields.{core_of}
 use Rattle.lvm_core.specs.Steps.{CoreEnds}
@@ -58,3 +59,12 @@ returns-clause-does g c =
     })
     (subst (λ (d : Descriptor). CoreEnds d (core_of self) left how c.go_on_with.result) c.into_parts-descriptor.ensures.descriptor
     (core_ends_with (core_of self) mid left mid_is c.requires.buffers c.into_parts-descriptor.result.0 how c.go_on_with.result number ends))
+
+pub returns-clause-held : goal.returns-clause-held
+returns-clause-held g c =
+    let self = c.args.session.now in
+    let taken = c.take_buffer-buf.new.session in
+    let wrote = c.commit_descriptor-settled in
+    let mid = core_of (record taken { updater = wrote.new.updater; homes = wrote.new.homes }) in
+    let same = status_ends c.into_parts-descriptor.result.0 mid (core_of c.go_on_with.new.session) wrote.result c.go_on_with.result c.go_on_with.ensures.ends in
+    subst (HoldsWithin self.updater) (sym same.0) (subst (λ (u : Stored). HoldsWithin u wrote.new.updater) (ap (λ (s : Session). s.updater) c.take_buffer-buf.ensures.taken) wrote.ensures.held)

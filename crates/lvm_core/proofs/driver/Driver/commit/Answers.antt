@@ -38,5 +38,6 @@ returns g c =
       ends = descriptor_ends c.args.next c.args.patience.now.left c.commit.new.patience.left old new c.commit.result does settled c.self.invariant.1 alike;
       fails = descriptor_fails c.args.next c.args.patience.now.left c.commit.new.patience.left old new c.commit.result does settled c.self.invariant.1 alike;
       left = does.settles.leaves.left;
+      held = c.commit.ensures.held;
       leaves = descriptor_leaves c.args.next c.args.patience.now.left c.commit.new.patience.left old new c.commit.result does settled c.self.invariant.1 alike;
     })

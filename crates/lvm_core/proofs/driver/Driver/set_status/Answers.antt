@@ -3,8 +3,9 @@ use Rattle.lvm_session.specs.State.{Core, state}
 use Rattle.lvm_session.specs.Fields.{core_of}
 use Rattle.lvm_core.specs.Settled.{IsSettled, HasSpareNumbers}
 use Rattle.lvm_core.specs.Committing.{AreUnused}
+use Rattle.lvm_core.specs.Steps.{IsMarked}
 use Rattle.lvm_core.proofs.SettlingLemmas.{may_commit_now, unused_markable}
-use Rattle.lvm_core.proofs.CommittingLemmas.Stating.{status_sound, status_sizes, status_ends_so, status_fails, nothing_done, restates, status_leaves}
+use Rattle.lvm_core.proofs.CommittingLemmas.Stating.{status_sound, status_sizes, status_ends_so, status_fails, none_marked, restates, marks_leave}
 use Rattle.lvm_core.proofs.SoundLemmas.Own.{rooms_stay}
 use Rattle.lvm_core.proofs.driver.Driver.set_status.Goals as goal
 
@@ -23,8 +24,8 @@ invariant_of-self g c =
     let does = c.set_status.ensures.does in
     let settled = subst (λ (v : g.row.S.Denot × Core). IsSettled v.1) (sym c.self.view_is) c.requires.settled in (
       rooms_stay c.self.inside.session c.set_status.new.session c.self.invariant.0 c.set_status.ensures.rooms
-          (status_sizes c.args.stale.now c.args.fresh.now c.args.patience.now.left c.set_status.new.patience.left old new c.set_status.result does settled c.self.invariant.1),
-      status_sound c.args.stale.now c.args.fresh.now c.args.patience.now.left c.set_status.new.patience.left old new c.set_status.result does settled c.self.invariant.1,
+          (status_sizes (IsMarked c.args.stale.now c.args.fresh.now) c.args.patience.now.left c.set_status.new.patience.left old new c.set_status.result does settled c.self.invariant.1),
+      status_sound (IsMarked c.args.stale.now c.args.fresh.now) c.args.patience.now.left c.set_status.new.patience.left old new c.set_status.result does settled c.self.invariant.1,
     )
 
 pub returns : goal.returns
@@ -39,9 +40,10 @@ returns g c =
     let settled = subst (λ (v : g.row.S.Denot × Core). IsSettled v.1) (sym c.self.view_is) c.requires.settled in
     let unused = subst (λ (v : g.row.S.Denot × Core). AreUnused v.1.descriptor (stale ++ fresh)) (sym c.self.view_is) c.requires.unused in
     rw (← c.self.view_is) (record {
-      ends = status_ends_so stale fresh p q old new c.set_status.result does settled c.self.invariant.1 unused;
-      fails = status_fails stale fresh p q old new c.set_status.result does settled c.self.invariant.1;
-      nothing = nothing_done stale fresh p q old new c.set_status.result does settled c.self.invariant.1;
+      ends = status_ends_so (IsMarked stale fresh) p q old new c.set_status.result does settled c.self.invariant.1;
+      fails = status_fails (IsMarked stale fresh) p q old new c.set_status.result does settled c.self.invariant.1;
+      nothing = none_marked stale fresh p q old new c.set_status.result does settled c.self.invariant.1;
       marks = restates stale fresh p q old new c.set_status.result does settled c.self.invariant.1 unused;
-      leaves = status_leaves stale fresh p q old new c.set_status.result does settled c.self.invariant.1 unused;
+      held = c.set_status.ensures.held;
+      leaves = marks_leave stale fresh p q old new c.set_status.result does settled c.self.invariant.1 unused;
     })

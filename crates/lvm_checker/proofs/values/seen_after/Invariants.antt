@@ -2,7 +2,7 @@ use Rattle.std.proofs.Common.{◌≡◌, ℕ, take, drop}
 use Rattle.lvm_vol.specs.May.{known}
 use Rattle.lvm_checker.specs.Rows.{facts_of}
 use Rattle.lvm_checker.specs.Seen.{origin_of, seen_of}
-use Rattle.lvm_checker.proofs.values.is_allowed.Given as goal
+use Rattle.lvm_checker.proofs.values.seen_after.Given as goal
 
 abbrev pub invariant-loop-k : goal.invariant-loop-k
 invariant-loop-k l = record {
