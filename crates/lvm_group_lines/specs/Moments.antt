@@ -4,7 +4,7 @@ use Rattle.lvm_disk.specs.Device.{Device, IsReady}
 use Rattle.lvm_kept.specs.Moments.{Moment}
 use Rattle.lvm_steps.specs.Moments.{Keeps}
 use Rattle.lvm_steps.specs.Behind.{IsAhead}
-use Rattle.lvm_tie_commands.specs.passed.Names.{IsOneByAllOn}
+use Rattle.lvm_tie_commands.specs.passed.Names.{IsOneFoundOn}
 use Rattle.lvm_quiesce.specs.passed.Names.{IsHeld, EntersVolumes, IsSettled as IsSettledCore}
 use Rattle.lvm_session.specs.State.{Core, State, state}
 use Rattle.lvm_disk.specs.Paths.{Path}
@@ -59,7 +59,7 @@ IsAllowed OfRequests old = Unit {0}
 -- At most one group has a quorum among all disks where a volume's making or removal is entered meanwhile; so too where a session is acted on whose group has
 -- volumes and which has no open request, and none of these is in mode passive then. What a command asks for besides holds of its session.
 pub record IsAlone (role : Role) (old new : ScriptState) : Type 0 where
-  pub enters : EntersVolumes old.moment.facts new.moment.facts → IsOneByAllOn old.moment.device
+  pub enters : EntersVolumes old.moment.facts new.moment.facts → IsOneFoundOn old.moment.device
   pub acts : IsActing role → IfSome old.session (StandsAlone old.moment.device)
   pub allowed : IsAllowed role old
 

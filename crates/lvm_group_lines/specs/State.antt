@@ -5,7 +5,7 @@ use Rattle.lvm_vol.specs.Facts.{Fact}
 pub use Rattle.lvm_vol.specs.Log.{log_with, without_facts}
 use Rattle.lvm_kept.specs.Moments.{Moment}
 use Rattle.lvm_steps.specs.Moments.{Begins}
-use Rattle.lvm_tie_commands.specs.passed.Names.{IsOneByAllOn, Post, IsLaidOut, AreAnswered, AreHeld}
+use Rattle.lvm_tie_commands.specs.passed.Names.{IsOneFoundOn, Post, IsLaidOut, AreAnswered, AreHeld}
 use Rattle.lvm_status.specs.Members.{HasItsRows}
 use Rattle.lvm_session.specs.declared.open.Power.TheVariants as power
 use Rattle.lvm_session.specs.State.{Core, state}
@@ -80,7 +80,7 @@ pub record IsTimely (run : ℕ) (s : ScriptState) : Type 0 where
 
 -- Where its group has a volume and no request is open, at most one group has a quorum among all disks, and none of its volumes is in mode passive.
 abbrev pub StandsAlone : Device → Core → Type 0
-StandsAlone device core = core.requests ≡ [] → core.descriptor.lvs ≢ [] → IsOneByAllOn device × HasNoPassive core.descriptor
+StandsAlone device core = core.requests ≡ [] → core.descriptor.lvs ≢ [] → IsOneFoundOn device × HasNoPassive core.descriptor
 
 -- After each earlier history with which the run may have begun, the disks stand by the session, where its group stands alone.
 abbrev pub StandsBy : ℕ → Moment → ScriptState → Type 0

@@ -7,7 +7,7 @@ use Rattle.lvm_kept.specs.Moments.{Moment}
 use Rattle.lvm_steps.specs.Moments.{StaysKept, Keeps}
 use Rattle.lvm_steps.specs.Requests.{at}
 use Rattle.lvm_steps.specs.Behind.{IsBehind, ClockIsAhead}
-use Rattle.lvm_core.specs.passed.Names.{IsOneByAllOn}
+use Rattle.lvm_core.specs.passed.Names.{IsOneFoundOn}
 use Rattle.lvm_quiesce.specs.Behind.{IsBehindEach, ClockIsAheadEach}
 use Rattle.lvm_quiesce.specs.Ends.{Quiesces, QuiesceGives, StartsNothing}
 use Rattle.lvm_quiesce.specs.declared.ends.Quiesced.{Quiesced}
@@ -35,7 +35,7 @@ EndsStayBehind = OverEnds (λ old new. (moment : ℕ) → IsBehindEach moment ol
 
 -- and on none two groups come to have a quorum among all disks.
 abbrev pub EndsStayOne : Type 0
-EndsStayOne = OverEnds (λ old new. IsOneByAllOn old → IsOneByAllOn new)
+EndsStayOne = OverEnds (λ old new. IsOneFoundOn old → IsOneFoundOn new)
 
 -- Nothing is started,
 abbrev pub EndsStartNothing : Type 0

@@ -12,7 +12,7 @@ use Rattle.lvm_kept.specs.Contents.{Contents, contents_of}
 use Rattle.lvm_kept.specs.Group.{is_named}
 use Rattle.lvm_kept.specs.Moments.{Calm, Moment, StaysCalm}
 use Rattle.lvm_steps.specs.Moments.{Holds, Keeps}
-use Rattle.lvm_tie.specs.passed.Names.{HoldsCommitted, ShowsCommitted, IsOneByAllOn}
+use Rattle.lvm_tie.specs.passed.Names.{HoldsCommitted, ShowsCommitted, IsOneFoundOn}
 use Rattle.lvm_mwc.specs.Cache.{flight_on, is_named as is_named_by}
 use Rattle.lvm_rec.specs.declared.homes.Homes.{Homes}
 use Rattle.lvm_session.specs.declared.open.Power.TheVariants as power
@@ -53,7 +53,7 @@ pub record StandsAtRest (s : State) (media : Media) : Type 0 where
   pub epoch : s.core.status.stamp.epoch < 2 ^ 64
   pub votes : CanWrite s.core.descriptor (is_there s.core)
   pub held : HoldsCommitted (image_of s.device.sizes media) s.core.descriptor s.core.status.committed (is_there s.core) s.core.status.stamp s.core.homes
-  pub only : IsOneByAllOn s.device
+  pub only : IsOneFoundOn s.device
   pub notes : NotesAreHomeIn s.core (shown_to s media)
   pub even : IsEven (shown_to s media) s.core.descriptor (Some held.shows.stands) (is_there s.core)
   pub behind : NoneIsBehind (shown_to s media) s.core.descriptor (Some held.shows.stands) (is_there s.core)

@@ -14,7 +14,7 @@ use Rattle.lvm_kept.specs.Moments.{Moment}
 use Rattle.lvm_kept.proofs.MomentsLemmas.Chaining.{span_told}
 use Rattle.lvm_steps.specs.Moments.{Begins, Holds, Upholds}
 use Rattle.lvm_status.specs.Update.{Updates}
-use Rattle.lvm_commit.specs.LawsOfVolumes.{IsOneByAllOn}
+use Rattle.lvm_commit.specs.LawsOfVolumes.{IsOneFoundOn}
 use Rattle.lvm_session.specs.State.{Core, State, is_there}
 use Rattle.lvm_handover.specs.passed.Names.{moment_of, NotesAreHome, HasNoPassive}
 use Rattle.lvm_handover.proofs.passed.Names.{empty_names_none, quiet_is_even}
@@ -28,7 +28,7 @@ use Rattle.lvm_tie_commands.proofs.Resting.{landed}
 use Rattle.lvm_tie_commands.proofs.BeginsLemmas.{Held, members_show, ties}
 
 module _ (run : ℕ) (first : Moment) (s : State) (begun : HasBegun run first s) (table : s.core.status.wanted ≡ s.core.origin.table) (whole : HasSectors s.device)
-    (one : IsOneByAllOn s.device) (none : HasNoPassive s.core.descriptor) (quiet : (d lv track_group : ℕ) → is_named_by s.core.cache d lv track_group ≡ false) (past : List Fact) (begins : Begins run past first) where
+    (one : IsOneFoundOn s.device) (none : HasNoPassive s.core.descriptor) (quiet : (d lv track_group : ℕ) → is_named_by s.core.cache d lv track_group ≡ false) (past : List Fact) (begins : Begins run past first) where
   told : (media : Media) × (s.device.media ≡ Some media)
   told = some_told s.device.media (span_told begun.keeps begins.told)
 

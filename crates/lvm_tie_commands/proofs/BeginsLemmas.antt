@@ -16,7 +16,7 @@ use Rattle.lvm_steps.proofs.RecordLemmas.{join}
 use Rattle.lvm_steps.proofs.GroupLemmas.Members.{member_of_parts}
 use Rattle.lvm_status.specs.Update.{members_there}
 use Rattle.lvm_commit.specs.Committed.{HoldsCommitted}
-use Rattle.lvm_commit.specs.LawsOfVolumes.{IsOneByAllOn}
+use Rattle.lvm_commit.specs.LawsOfVolumes.{IsOneFoundOn}
 use Rattle.lvm_commit.proofs.LawsLemmas.Found.{shows_group}
 use Rattle.lvm_session.specs.State.{Core, State, is_there}
 use Rattle.lvm_session.specs.Sound.{IsSound}
@@ -40,7 +40,7 @@ members_show s media held stays d member present =
     member_of_parts (shown_to s media) all_disks core.descriptor.id core.descriptor d refl (shows_group (shown_to s media) core.descriptor core.status.committed (is_there core) held.shows d there) (held.shows.room d there)
 
 module _ (s : State) (media : Media) (sound : IsSound s) (settled : IsSettled s.core) (epoch : s.core.status.stamp.epoch < 2 ^ 64) (whole : HasSectors s.device)
-    (told : s.device.media ≡ Some media) (held : Held s media) (notes : NotesAreHomeIn s.core (shown_to s media)) (one : IsOneByAllOn s.device)
+    (told : s.device.media ≡ Some media) (held : Held s media) (notes : NotesAreHomeIn s.core (shown_to s media)) (one : IsOneFoundOn s.device)
     (even : IsEven (shown_to s media) s.core.descriptor (Some held.shows.stands) (is_there s.core)) where
   behind : NoneIsBehind (shown_to s media) s.core.descriptor (Some held.shows.stands) (is_there s.core)
   behind = subst (λ (set : Disks). NoneIsBehind (shown_to s media) s.core.descriptor (Some held.shows.stands) set) (ap (λ (g : Descriptor). members_there g s.core.status.wanted) sound.fitting.group)

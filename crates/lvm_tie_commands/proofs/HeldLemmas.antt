@@ -9,8 +9,8 @@ use Rattle.lvm_kept.specs.Group.{IsOneOf}
 use Rattle.lvm_kept.specs.Moments.{Moment}
 use Rattle.lvm_kept.proofs.MomentsLemmas.Chaining.{span_told}
 use Rattle.lvm_steps.specs.Moments.{Begins}
-use Rattle.lvm_commit.specs.LawsOfVolumes.{IsOneByAllOn, IsOnlyGroupOn}
-use Rattle.lvm_commit.proofs.LawsOfVolumesLemmas.Others.{one_by_all_is_only_since}
+use Rattle.lvm_commit.specs.LawsOfVolumes.{IsOneFoundOn, IsOnlyGroupOn}
+use Rattle.lvm_commit.proofs.LawsOfVolumesLemmas.Others.{one_found_is_only_since}
 use Rattle.lvm_commit.proofs.LawsOfDataLemmas.Still.{still_holds_committed}
 use Rattle.lvm_session.specs.State.{State, is_there}
 use Rattle.lvm_handover.specs.passed.Names.{AreNotesHome, IsHeld, NotesAreHome, StartsHeld, IsSettled}
@@ -71,7 +71,7 @@ module _ (run : ℕ) (first : Moment) (s : State) (may : MayBeCommanded run firs
   told : (media : Media) × (s.device.media ≡ Some media)
   told = some_told s.device.media (span_told may.keeps begins.told)
 
-  empty_carries : s.core.descriptor.lvs ≡ [] → IsOneByAllOn s.device → Carries s told.0
+  empty_carries : s.core.descriptor.lvs ≡ [] → IsOneFoundOn s.device → Carries s told.0
   empty_carries none one =
       let empty : StartsHeld s.device s.core = standing.empty none in
       let held : Held s told.0 = of_told (λ (m : Media). Held s m) s.device.media told.0 told.1 empty.held in
@@ -79,14 +79,14 @@ module _ (run : ℕ) (first : Moment) (s : State) (may : MayBeCommanded run firs
         told = told.1;
         held = held;
         notes = of_told (λ (m : Media). NotesAreHome s.core (image_of s.device.sizes m)) s.device.media told.0 told.1 empty.notes;
-        only = one_by_all_is_only_since run first s.device s.core.history.facts s.core.descriptor may.keeps
+        only = one_found_is_only_since run first s.device s.core.history.facts s.core.descriptor may.keeps
             (λ image left. (still_holds_committed s.core.descriptor s.core.status.committed (is_there s.core) s.core.status.stamp s.core.homes s.device told.0 told.1 (still s may.sound settled) held image left).shows.found)
             one past begins;
         even = off_is_even (shown_to s told.0) s.core.descriptor (Some held.shows.stands) (is_there s.core) (λ row volume. absurd (subst (λ (rows : List LvRow). IsOneOf rows row) none volume));
       }
 
   -- where it has a volume, or at most one group has a quorum among all disks
-  pub carries : (s.core.descriptor.lvs ≡ [] → IsOneByAllOn s.device) → (media : Media) × Carries s media
+  pub carries : (s.core.descriptor.lvs ≡ [] → IsOneFoundOn s.device) → (media : Media) × Carries s media
   carries one = ⊎_elim
       (λ (none : s.core.descriptor.lvs ≡ []). (told.0, empty_carries none (one none)))
       (λ (some : s.core.descriptor.lvs ≢ []). let tied : IsTied past s = standing.tied some in (tied.media, tied_carries past s tied settled (standing.spares some) some))

@@ -6,8 +6,8 @@ use Rattle.lvm_num.specs.Record.{Stamped}
 use Rattle.lvm_num.specs.Votes.{all_disks, is_enough_to_read, votes_in}
 use Rattle.lvm_disk.specs.Device.{Device, Media, image_of}
 use Rattle.lvm_kept.specs.Contents.{Contents, contents_of}
-use Rattle.lvm_kept.specs.Group.{IsFound, IsOneByAll, IsOnlyGroup, descriptor_among, has_quorum, is_voter, passes}
-use Rattle.lvm_commit.specs.LawsOfVolumes.{IsOneByAllOn, IsOnlyGroupOn}
+use Rattle.lvm_kept.specs.Group.{IsFound, IsOneFound, IsOnlyGroup, descriptor_among, has_quorum, is_voter, passes}
+use Rattle.lvm_commit.specs.LawsOfVolumes.{IsOneFoundOn, IsOnlyGroupOn}
 use Rattle.lvm_commit.proofs.LawsOfFindingLemmas.NoMore.{data_finds_nothing_new}
 use Rattle.lvm_commit.proofs.LawsOfDataLemmas.Still.{still_image}
 use Rattle.lvm_settled.specs.passed.Names.{IsAlone}
@@ -21,13 +21,13 @@ quorum_finds c id quorum = by (descriptor_among c all_disks id) refl quorum
     by None at enough = absurd cc
     by (Some m) at enough = (m.value, (all_disks, record { quorum = quorum; newest = m; found = at; is = refl }))
 
-only_is_one : (c : Contents) (id : ℕ) → IsOnlyGroup c id → IsOneByAll c
+only_is_one : (c : Contents) (id : ℕ) → IsOnlyGroup c id → IsOneFound c
 only_is_one c id only v w of_v of_w =
     let one = quorum_finds c v of_v in
     let other = quorum_finds c w of_w in
     only v one.0 one.1 ∙ sym (only w other.0 other.1)
 
-pub only_is_one_on : (device : Device) (id : ℕ) → IsOnlyGroupOn device id → IsOneByAllOn device
+pub only_is_one_on : (device : Device) (id : ℕ) → IsOnlyGroupOn device id → IsOneFoundOn device
 only_is_one_on device id only image may = only_is_one (contents_of image) id (only image may)
 
 -- beside a group with volumes that is alone no other is found

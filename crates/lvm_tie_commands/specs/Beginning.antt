@@ -5,7 +5,7 @@ use Rattle.lvm_vol.specs.Facts.{Fact}
 use Rattle.lvm_vol.specs.Log.{Log}
 use Rattle.lvm_kept.specs.Moments.{Moment}
 use Rattle.lvm_steps.specs.Moments.{Keeps}
-use Rattle.lvm_commit.specs.LawsOfVolumes.{IsOneByAllOn}
+use Rattle.lvm_commit.specs.LawsOfVolumes.{IsOneFoundOn}
 use Rattle.lvm_session.specs.State.{State}
 use Rattle.lvm_session.specs.Sound.{IsSound}
 use Rattle.lvm_handover.specs.passed.Names.{Room, moment_of, StartsHeld, IsSettled, HasNoPassive}
@@ -27,7 +27,7 @@ pub record HasBegun (run : ℕ) (first : Moment) (s : State) : Type 0 where
 abbrev pub VariedOnStands : Type 0
 VariedOnStands = (run : ℕ) (first : Moment) (was : Log) (name : List ℕ) (moment : ℕ) (room : Room) (old : Device) (s : State)
     → ComesOn old s.device was name moment room s.core → HasBegun run first s → HasSectors s.device
-    → (s.core.descriptor.lvs ≢ [] → IsOneByAllOn s.device × HasNoPassive s.core.descriptor) → StandsSince run first s
+    → (s.core.descriptor.lvs ≢ [] → IsOneFoundOn s.device × HasNoPassive s.core.descriptor) → StandsSince run first s
 
 -- Where a mkvg has: the group has no volume.
 abbrev pub MadeStands : Type 0

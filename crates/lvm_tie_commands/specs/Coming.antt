@@ -9,7 +9,7 @@ use Rattle.lvm_kept.specs.Moments.{Moment, StaysCalm}
 use Rattle.lvm_steps.specs.Moments.{Keeps}
 use Rattle.lvm_steps.specs.Requests.{at}
 use Rattle.lvm_steps.specs.Behind.{ClockIsAhead}
-use Rattle.lvm_commit.specs.LawsOfVolumes.{IsOneByAllOn}
+use Rattle.lvm_commit.specs.LawsOfVolumes.{IsOneFoundOn}
 use Rattle.lvm_session.specs.State.{State, is_there}
 use Rattle.lvm_session_start.specs.Beginning.{AreFaults}
 use Rattle.lvm_settled.specs.passed.Names.{Room, BringsOn, IsStarted, NotesAreHome, IsSoundBetween, IsRoom}
@@ -65,16 +65,16 @@ VariedIsMadeEven = (past : List Fact) (was : Log) (name : List ℕ) (moment : �
 abbrev pub VariedOnServes : Type 0
 VariedOnServes = (first : Moment) (was : Log) (name : List ℕ) (moment : ℕ) (room : Room) (old : Device) (s : State) (media : Media)
     → ComesOn old s.device was name moment room s.core → IsBegun was moment room old s → LeadsTo first was moment old
-    → IsDriven s media → IsOneByAllOn s.device → IsMadeEven s media → IsGood was.run first s
+    → IsDriven s media → IsOneFoundOn s.device → IsMadeEven s media → IsGood was.run first s
 
 -- Where a mkvg has: the group has no volume.
 abbrev pub MadeServes : Type 0
 MadeServes = (first : Moment) (was : Log) (w : NewGroup) (room : Room) (old : Device) (s : State) (media : Media)
     → IsMade w room was old s.device s.core → IsBegun was w.moment room old s → LeadsTo first was w.moment old
-    → IsDriven s media → IsOneByAllOn s.device → IsGood was.run first s
+    → IsDriven s media → IsOneFoundOn s.device → IsGood was.run first s
 
 -- Without force at most one group has a quorum among all disks on each crash image, since no disk showed one before.
 abbrev pub MadeAlone : Type 0
 MadeAlone = (was : Log) (w : NewGroup) (room : Room) (old : Device) (s : State) (media : Media)
     → IsMade w room was old s.device s.core → IsBegun was w.moment room old s → ClockIsAhead was.run w.moment old was.facts
-    → s.device.media ≡ Some media → w.force ≡ false → IsOneByAllOn s.device
+    → s.device.media ≡ Some media → w.force ≡ false → IsOneFoundOn s.device

@@ -5,7 +5,7 @@ use Rattle.lvm_disk.specs.Device.{HasSectors}
 use Rattle.lvm_vol.specs.Facts.{Fact}
 use Rattle.lvm_kept.specs.Moments.{Moment}
 use Rattle.lvm_steps.specs.Moments.{Begins, Keeps}
-use Rattle.lvm_commit.specs.LawsOfVolumes.{IsOneByAllOn}
+use Rattle.lvm_commit.specs.LawsOfVolumes.{IsOneFoundOn}
 use Rattle.lvm_session.specs.State.{Core, State, state}
 use Rattle.lvm_session.specs.Sound.{IsSound}
 use Rattle.lvm_handover.specs.passed.Names.{moment_of, StartsHeld, EntersVolumes, GroupFault, NewVolume, IfOn}
@@ -24,7 +24,7 @@ pub record MayBeCommanded (run : ℕ) (first : Moment) (s : State) : Type 0 wher
 
 -- where the making of a group's first volume is entered, at most one group has a quorum among all disks on each crash image
 abbrev pub IsAloneAtFirst : State → State → Type 0
-IsAloneAtFirst old new = old.core.descriptor.lvs ≡ [] → EntersVolumes old.core.history.facts new.core.history.facts → IsOneByAllOn old.device
+IsAloneAtFirst old new = old.core.descriptor.lvs ≡ [] → EntersVolumes old.core.history.facts new.core.history.facts → IsOneFoundOn old.device
 
 -- After it that stands as it is where the group has no volume, and in any case once the session takes requests again, whatever copies were added.
 pub record IsLeftStanding (past : List Fact) (new : State) : Type 0 where

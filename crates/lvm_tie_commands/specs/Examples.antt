@@ -3,7 +3,7 @@ use Rattle.std.specs.Prelude.{◌≡◌, Bool, count_by}
 use Rattle.lvm_num.specs.declared.descriptor.Mode.{Mode}
 use Rattle.lvm_num.specs.Buffer.{zero_sector}
 use Rattle.lvm_vol.specs.Legal.{begins_in}
-use Rattle.lvm_commit.specs.LawsOfVolumes.{IsOneByAllOn}
+use Rattle.lvm_commit.specs.LawsOfVolumes.{IsOneFoundOn}
 use Rattle.lvm_session.specs.State.{State, state}
 use Rattle.lvm_session_start.specs.Beginning.{AreFaults}
 use Rattle.lvm_tie.specs.passed.Names.{Pair, device_of, even_pair, media_of, past_of}
@@ -25,7 +25,7 @@ pub record IsServingPair (pair : Pair) (mode : Mode) (cut : Bool) : Type 0 where
   pub left : MayBeLeft (past_of mode cut) (session_of pair) (media_of pair)
   pub driven : IsDriven (session_of pair) (media_of pair)
   pub faults : AreFaults (device_of pair) (core_of pair).origin.faults
-  pub only : IsOneByAllOn (device_of pair)
+  pub only : IsOneFoundOn (device_of pair)
   pub even : IsMadeEven (session_of pair) (media_of pair)
 
 -- So it is in each mode, dirty or not, with both members or one that is lost, after a cut while the first block was written or not.

@@ -6,7 +6,7 @@ use Rattle.lvm_vol.specs.Legal.{begins_in}
 use Rattle.lvm_disk.specs.Device.{Media, AreSectors, image_of}
 use Rattle.lvm_kept.specs.Moments.{Calm, Moment}
 use Rattle.lvm_steps.specs.Moments.{Begins}
-use Rattle.lvm_commit.specs.LawsOfVolumes.{IsOneByAllOn}
+use Rattle.lvm_commit.specs.LawsOfVolumes.{IsOneFoundOn}
 use Rattle.lvm_session.specs.State.{State, is_there}
 use Rattle.lvm_session.specs.Sound.{IsSound}
 use Rattle.lvm_settled.specs.Settled.{IsKnown, IsCarried}
@@ -49,7 +49,7 @@ pub record MayBeLeft (past : List Fact) (s : State) (media : Media) : Type 0 whe
   pub resting : IsResting s.core
   pub votes : CanWrite s.core.descriptor (is_there s.core)
   pub spare : SparesOn s.core media
-  pub only : IsOneByAllOn s.device
+  pub only : IsOneFoundOn s.device
   pub calm : Calm past
 
 -- It is settled again, and requests may follow.

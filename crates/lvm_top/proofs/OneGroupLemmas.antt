@@ -19,7 +19,7 @@ use Rattle.lvm_kept.proofs.ChangesLemmas.Blank.{no_descriptor}
 use Rattle.lvm_kept.proofs.MomentsLemmas.Chaining.{span_sizes}
 use Rattle.lvm_kept.proofs.CommittedLemmas.Finding.{offered, is_offered}
 use Rattle.lvm_write.specs.Beginning.{new_order}
-use Rattle.lvm_commit.specs.LawsOfVolumes.{IsOneByAllOn}
+use Rattle.lvm_commit.specs.LawsOfVolumes.{IsOneFoundOn}
 use Rattle.lvm_commit.proofs.LawsOfFindingLemmas.NoMore.{data_finds_nothing_new}
 use Rattle.lvm_commit.proofs.LawsOfDataLemmas.Still.{still_image}
 use Rattle.lvm_core.specs.declared.parts.Room.{Room}
@@ -72,7 +72,7 @@ finds_of c id quorum = by_newest (descriptor_among c all_disks id) refl quorum
     by_newest (Some m) found enough = (m.value, record { quorum = quorum; newest = m; found = found; is = refl })
 
 -- at most one group has a quorum among all disks
-one_by_all : (device : Device) → FindsOneGroup device → IsOneByAllOn device
+one_by_all : (device : Device) → FindsOneGroup device → IsOneFoundOn device
 one_by_all device one image may v w of_v of_w =
     let a = finds_of (contents_of image) v of_v in
     let b = finds_of (contents_of image) w of_w in

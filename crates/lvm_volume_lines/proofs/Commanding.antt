@@ -30,7 +30,7 @@ use Rattle.lvm_core.specs.Committing.{moment_of, StaysBehind}
 use Rattle.lvm_core.specs.Leaves.{EntersVolumes, KeepsHistory, Leaves, Scope}
 use Rattle.lvm_core.specs.Settled.{IsSettled as IsSettledCore}
 use Rattle.lvm_core.specs.Sound.{HaveAllLanded, IsSoundBetween}
-use Rattle.lvm_commit.specs.LawsOfVolumes.{IsOneByAllOn}
+use Rattle.lvm_commit.specs.LawsOfVolumes.{IsOneFoundOn}
 use Rattle.lvm_range_lines.proofs.passed.Quiesce.{each_is_behind, still_is_behind_each}
 use Rattle.lvm_range_lines.specs.passed.Names.{Post, AreAnswered, AreHeld, ended_with}
 use Rattle.lvm_range_lines.specs.passed.Tie.{IsBefore, LeavesSession, IsStamped, IsGood}
@@ -150,7 +150,7 @@ module _ (old : ScriptState) (core : Core) (mid : State) (its : AtMid old core m
     pub alone_mid : (left : State) → new.moment.facts ≡ left.core.history.facts → IsAloneAtFirst mid left
     alone_mid left facts none enters =
         let same = its.empty (sym (ap (λ (d : Descriptor). d.lvs) its.leaves.keeps.descriptor) ∙ none) in
-        subst (λ (s : State). IsOneByAllOn s.device) (sym same)
+        subst (λ (s : State). IsOneFoundOn s.device) (sym same)
         (alone.enters (subst (λ (fs : List Fact). EntersVolumes old.moment.facts fs) (sym facts)
         (subst (λ (fs : List Fact). EntersVolumes fs left.core.history.facts) (ap (λ (s : State). s.core.history.facts) same ∙ sym its.facts) enters)))
 

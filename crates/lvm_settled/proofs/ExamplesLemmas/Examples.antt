@@ -24,7 +24,7 @@ use Rattle.lvm_disk.specs.Device.{Image, image_of, MayLeave}
 use Rattle.lvm_vol.specs.declared.entry.Vol.TheVariants.{Lv}
 use Rattle.lvm_kept.specs.Contents.{Contents, contents_of}
 use Rattle.lvm_kept.specs.Examples.{stamped, member, two, either_of}
-use Rattle.lvm_kept.specs.Group.{IsOneByAll}
+use Rattle.lvm_kept.specs.Group.{IsOneFound}
 use Rattle.lvm_kept.proofs.CommittedLemmas.Alike.{one_shown_is_one}
 use Rattle.lvm_kept.specs.Kept.{Kept}
 use Rattle.lvm_kept.specs.Moments.{Calm}
@@ -267,7 +267,7 @@ module _ (mode : Mode) (dirty lost cut : Bool) (note : Sector) (cache : Cached) 
             legal = rests.at_rest.legal;
             kept = λ i crash. subst (λ (j : Image). Kept (contents_of j) (history_of mode cut)) (sym (left_is x below i crash)) (subst (λ (c : Contents). Kept c (history_of mode cut)) (sym (told x below)) rests.at_rest.kept);
           };
-          only = λ i crash. subst (λ (j : Image). IsOneByAll (contents_of j)) (sym (left_is x below i crash)) (subst (λ (c : Contents). IsOneByAll c) (sym (told x below))
+          only = λ i crash. subst (λ (j : Image). IsOneFound (contents_of j)) (sym (left_is x below i crash)) (subst (λ (c : Contents). IsOneFound c) (sym (told x below))
               (one_shown_is_one (shown_by x) (λ d e r s is also. ap (λ (t : Stamped Descriptor). t.value.id) (the_descriptor x d r is ∙ sym (the_descriptor x e s also)))));
         };
         carried = record {

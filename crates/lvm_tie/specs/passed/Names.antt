@@ -1,7 +1,7 @@
 -- Passed on from the crates below.
 pub use Rattle.lvm_commit.specs.Committed.{Began, HoldsCommitted, ShowsCommitted}
 pub use Rattle.lvm_commit.specs.LawsOfFinding.{FindsNothingNew}
-pub use Rattle.lvm_commit.specs.LawsOfVolumes.{IsOneByAllOn}
+pub use Rattle.lvm_commit.specs.LawsOfVolumes.{IsOneFoundOn}
 pub use Rattle.lvm_commit.specs.Settling.{NoneIsLeft, there}
 pub use Rattle.lvm_crash.specs.Owned.{OnlyUpdateSince}
 pub use Rattle.lvm_keeps_events.specs.Reading.{GetsItsBlocks}

@@ -17,7 +17,7 @@ use Rattle.lvm_kept.proofs.CommittedLemmas.Alike.{one_shown_is_one}
 use Rattle.lvm_kept.proofs.PlacesLemmas.{data_writes, room-same}
 use Rattle.lvm_status.specs.Update.{Updates, members_there}
 use Rattle.lvm_commit.specs.Committed.{HoldsCommitted}
-use Rattle.lvm_commit.specs.LawsOfVolumes.{IsOneByAllOn}
+use Rattle.lvm_commit.specs.LawsOfVolumes.{IsOneFoundOn}
 use Rattle.lvm_commit.proofs.LawsOfDataLemmas.Still.{still_image}
 use Rattle.lvm_session.specs.State.{Core, State, is_there}
 use Rattle.lvm_varyon.specs.passed.Names.{Beginning, IsOfParts, Part, TheDescriptor, TheNotes, TheStatus, new_order}
@@ -90,7 +90,7 @@ module _ (w : NewGroup) (room : Room) (was : Log) (old : Device) (s : State) (me
           let free = subst (λ (o : Option Media). IfSome o (λ (m : Media). HasGroup (contents_of (image_of old.sizes m)) w.force → ⊥)) first.1 made.clear.free.free in
           absurd (free (record { disk = d; newest = r; on = before; with_force = λ forced. absurd (let no : true ≡ false = sym forced ∙ unforced in cc no) }))
 
-  pub alone : IsOneByAllOn s.device
+  pub alone : IsOneFoundOn s.device
   alone image may =
       let same = still_image s.device media told made.rested.ready.flights image may in
       let shows : (d : ℕ) → (contents_of image).descriptor d ≡ c.descriptor d = λ d. ap (λ (x : Contents). x.descriptor d) (data_writes (image_of s.device.sizes media) image same) in

@@ -27,7 +27,7 @@ use Rattle.lvm_hold.specs.Waiting.{Waiting}
 use Rattle.lvm_session.specs.declared.open.Open.{Open}
 use Rattle.lvm_rec.specs.declared.homes.Homes.{Homes}
 use Rattle.lvm_commit.specs.Committed.{HoldsCommitted}
-use Rattle.lvm_commit.specs.LawsOfVolumes.{IsOneByAllOn}
+use Rattle.lvm_commit.specs.LawsOfVolumes.{IsOneFoundOn}
 use Rattle.lvm_commit.specs.Settling.{NoneIsLeft}
 use Rattle.lvm_session.specs.State.{Core, State, state, is_there}
 use Rattle.lvm_session_start.specs.declared.parts.Parts.{Parts}
@@ -199,7 +199,7 @@ module _ (was log : Log) (moment : ℕ) (room : Room) (old : Device) (s : State)
 
   -- ---- what stands on the disks
 
-  module _ (clock : ClockIsAhead was.run moment old was.facts) (only : IsOneByAllOn s.device) (even : IsMadeEven s media) where
+  module _ (clock : ClockIsAhead was.run moment old was.facts) (only : IsOneFoundOn s.device) (even : IsMadeEven s media) where
     abbrev Held : Media → Type 0
     Held m = HoldsCommitted (image_of s.device.sizes m) s.core.descriptor s.core.status.committed (is_there s.core) s.core.status.stamp s.core.homes
 

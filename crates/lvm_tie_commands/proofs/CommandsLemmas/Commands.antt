@@ -17,7 +17,7 @@ use Rattle.lvm_kept.specs.Moments.{Calm, Moment}
 use Rattle.lvm_kept.specs.Plans.{ChangesBy}
 use Rattle.lvm_steps.specs.Moments.{Begins, Holds, Keeps, Upholds}
 use Rattle.lvm_steps.proofs.RecordLemmas.{join, split}
-use Rattle.lvm_commit.specs.LawsOfVolumes.{IsOneByAllOn}
+use Rattle.lvm_commit.specs.LawsOfVolumes.{IsOneFoundOn}
 use Rattle.lvm_session.specs.State.{Core, State, is_there, state}
 use Rattle.lvm_session.specs.Judging.{is_missing}
 use Rattle.lvm_session.specs.Sound.{IsSound}
@@ -54,7 +54,7 @@ KeepsEven old new = (was is : Media) (stood stands : Stamped Status) → old.dev
 
 module _ (run : ℕ) (first : Moment) (old new : State) (may : MayBeCommanded run first old) (began : IsSettled old.core) where
   -- where a volume's making or removal is entered, no other group is found, if at most one has a quorum where it is the group's first
-  pub is_alone : (old.core.descriptor.lvs ≡ [] → EntersVolumes old.core.history.facts new.core.history.facts → IsOneByAllOn old.device) → IfAlone old new run first
+  pub is_alone : (old.core.descriptor.lvs ≡ [] → EntersVolumes old.core.history.facts new.core.history.facts → IsOneFoundOn old.device) → IfAlone old new run first
   is_alone one enters past begins = (carries run first old may began past begins (λ none. one none enters)).1.only
 
 module _ (run : ℕ) (first : Moment) (old new : State) (may : MayBeCommanded run first old) (began : IsSettled old.core)
@@ -67,7 +67,7 @@ module _ (run : ℕ) (first : Moment) (old new : State) (may : MayBeCommanded ru
   -- ---- where the session goes on
 
   module _ (on : IsSettled new.core) (still : StillHeld old new) (members : (d : ℕ) → is_member new.core.descriptor d ≡ is_member old.core.descriptor d) (even : KeepsEven old new)
-      (enters : new.core.descriptor.lvs ≢ [] → old.core.descriptor.lvs ≡ [] → IsOneByAllOn old.device) (keeps : Keeps run first (moment_of new)) (whole : HasSectors new.device)
+      (enters : new.core.descriptor.lvs ≢ [] → old.core.descriptor.lvs ≡ [] → IsOneFoundOn old.device) (keeps : Keeps run first (moment_of new)) (whole : HasSectors new.device)
       (past : List Fact) (begins : Begins run past first) where
     holds : Holds past (moment_of new)
     holds = let upholds : Upholds run first (moment_of new) = last-path keeps in upholds past begins

@@ -10,7 +10,7 @@ use Rattle.lvm_vol.specs.Facts.{Fact, Made, Making as Making_}
 use Rattle.lvm_kept.specs.Moments.{Moment}
 use Rattle.lvm_steps.specs.Moments.{Keeps}
 use Rattle.lvm_commit.specs.LawsOfData.{IsFree}
-use Rattle.lvm_commit.specs.LawsOfVolumes.{IsOneByAllOn}
+use Rattle.lvm_commit.specs.LawsOfVolumes.{IsOneFoundOn}
 use Rattle.lvm_session.specs.State.{Core, State, is_there}
 use Rattle.lvm_handover.specs.passed.Names.{moment_of, EntersVolumes, IsSettled, GroupFault, NewVolume, row_for, with_volume, IfOn}
 use Rattle.lvm_handover.proofs.passed.Names.{enters_one}
@@ -89,7 +89,7 @@ module _ (run : ℕ) (first : Moment) (v : NewVolume) (before after : ℕ) (old 
         (zeroed_volume_is_even new.device is old.core.descriptor (Some stands) (is_there new.core) v it.lv it.map (mib_positive old.core.descriptor may.sound.fitting.valid) told_new it.zeros kept))
         made
 
-    enters : new.core.descriptor.lvs ≢ [] → old.core.descriptor.lvs ≡ [] → IsOneByAllOn old.device
+    enters : new.core.descriptor.lvs ≢ [] → old.core.descriptor.lvs ≡ [] → IsOneFoundOn old.device
     enters some none = ⊎_elim (λ (same : new.core.descriptor ≡ old.core.descriptor). absurd (some (ap (λ (g : Descriptor). g.lvs) same ∙ none))) (λ (it : IsMade v old new). one none it.enters) made
 
     left_so : IsSettled new.core → StillHeld old new → IsLeftStandingSince run first new

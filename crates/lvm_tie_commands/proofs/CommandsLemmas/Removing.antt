@@ -6,7 +6,7 @@ use Rattle.lvm_num.specs.declared.descriptor.LvRow.{LvRow}
 use Rattle.lvm_num.specs.Descriptor.{is_member, volume_of}
 use Rattle.lvm_kept.specs.Moments.{Moment}
 use Rattle.lvm_steps.specs.Moments.{Keeps}
-use Rattle.lvm_commit.specs.LawsOfVolumes.{IsOneByAllOn}
+use Rattle.lvm_commit.specs.LawsOfVolumes.{IsOneFoundOn}
 use Rattle.lvm_session.specs.State.{Core, State, is_there}
 use Rattle.lvm_handover.specs.passed.Names.{moment_of, EntersVolumes, IsSettled, GroupFault, without_volume, IfOn}
 use Rattle.lvm_handover.specs.passed.VolumePlanFaultGroupFault as fault
@@ -87,7 +87,7 @@ module _ (run : ℕ) (first : Moment) (lv before after : ℕ) (old new : State) 
         removed
 
     -- a group has no volume more
-    had_some : new.core.descriptor.lvs ≢ [] → old.core.descriptor.lvs ≡ [] → IsOneByAllOn old.device
+    had_some : new.core.descriptor.lvs ≢ [] → old.core.descriptor.lvs ≡ [] → IsOneFoundOn old.device
     had_some some none = absurd (some (⊎_elim
         (λ (same : new.core.descriptor ≡ old.core.descriptor). ap (λ (g : Descriptor). g.lvs) same ∙ none)
         (λ (next : new.core.descriptor ≡ without_volume old.core.descriptor lv). ap (λ (g : Descriptor). g.lvs) next ∙ ap (λ (rows : List LvRow). filter (λ (r : LvRow). not (r.number == lv)) rows) none)

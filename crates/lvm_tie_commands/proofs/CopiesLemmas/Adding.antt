@@ -13,7 +13,7 @@ use Rattle.lvm_disk.specs.Device.{image_of}
 use Rattle.lvm_kept.specs.Contents.{contents_of}
 use Rattle.lvm_kept.specs.Moments.{Moment}
 use Rattle.lvm_steps.specs.Moments.{Keeps}
-use Rattle.lvm_tie_commands.specs.passed.Names.{IsOneByAllOn, moment_of, NoPartition, IsSettled, GroupFault, IfOn}
+use Rattle.lvm_tie_commands.specs.passed.Names.{IsOneFoundOn, moment_of, NoPartition, IsSettled, GroupFault, IfOn}
 use Rattle.lvm_map.specs.FirstFit.{IsAllocated, more_copies}
 use Rattle.lvm_map.proofs.FirstFitLemmas.OneAnswer.{map_is_one}
 use Rattle.lvm_session.specs.State.{Core, State, is_there}
@@ -94,7 +94,7 @@ module _ (run : ℕ) (first : Moment) (lv copies before after : ℕ) (old new : 
         (more_are_even (contents_of (image_of new.device.sizes is)) old lv copies it.1.row it.1.pps stands (is_there new.core) may.sound.fitting.valid it.1.may (further_stale it stands wanted.after) kept))
         added
 
-    had_some : new.core.descriptor.lvs ≢ [] → old.core.descriptor.lvs ≡ [] → IsOneByAllOn old.device
+    had_some : new.core.descriptor.lvs ≢ [] → old.core.descriptor.lvs ≡ [] → IsOneFoundOn old.device
     had_some some none = absurd (⊎_elim
         (λ (same : new.core.descriptor ≡ old.core.descriptor). some (ap (λ (g : Descriptor). g.lvs) same ∙ none))
         (λ (it : (added : List Pp) × AreAdded lv copies old new added). no_volume old.core.descriptor lv it.1.row none it.1.may.places.grows.found.volume)

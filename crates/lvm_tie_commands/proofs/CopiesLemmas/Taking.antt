@@ -8,7 +8,7 @@ use Rattle.lvm_disk.specs.Device.{image_of}
 use Rattle.lvm_kept.specs.Contents.{contents_of}
 use Rattle.lvm_kept.specs.Moments.{Moment}
 use Rattle.lvm_steps.specs.Moments.{Keeps}
-use Rattle.lvm_tie_commands.specs.passed.Names.{IsOneByAllOn, moment_of, NoPartition, IsSettled, GroupFault, IfOn}
+use Rattle.lvm_tie_commands.specs.passed.Names.{IsOneFoundOn, moment_of, NoPartition, IsSettled, GroupFault, IfOn}
 use Rattle.lvm_session.specs.State.{Core, State, is_there}
 use Rattle.lvm_tie_commands.specs.passed.VolumePlanFaultGroupFault as fault
 use Rattle.lvm_volumes.specs.Endings.{StillHeld}
@@ -89,7 +89,7 @@ module _ (run : ℕ) (first : Moment) (lv copies before after : ℕ) (old new : 
         (first_are_even (contents_of (image_of new.device.sizes is)) old lv copies it.row stands (is_there new.core) may.sound.fitting.valid it.may kept))
         taken
 
-    had_some : new.core.descriptor.lvs ≢ [] → old.core.descriptor.lvs ≡ [] → IsOneByAllOn old.device
+    had_some : new.core.descriptor.lvs ≢ [] → old.core.descriptor.lvs ≡ [] → IsOneFoundOn old.device
     had_some some none = absurd (⊎_elim
         (λ (same : new.core.descriptor ≡ old.core.descriptor). some (ap (λ (g : Descriptor). g.lvs) same ∙ none))
         (λ (it : AreTaken lv copies old new). no_volume old.core.descriptor lv it.row none it.may.keeps.shrinks.found.volume)
