@@ -219,6 +219,7 @@ impl<S: Shelf> Driver<S> {
         ensures nothing { AreDirtied dirty.now clean.now self.old.1.status.committed → IsOk result × (S.device self.new.0 ≡ S.device self.old.0) × (self.new.1 ≡ self.old.1) }
         // whatever the answer
         ensures marks { Redirties dirty.now clean.now (state_of S.device self.old) (state_of S.device self.new) }
+        ensures held { HoldsWithin self.old.1.status self.new.1.status }
         ensures leaves { Leaves (dirtying dirty.now clean.now) patience.old.left patience.new.left (state_of S.device self.old) (state_of S.device self.new) }
     {
         mark_dirty(&mut self.session, &mut self.shelf, dirty, clean, patience)

@@ -31,6 +31,5 @@ entered_sound device core e is sound = record {
   quiet = λ quiet. sound.quiet (record { requests = quiet.requests; copy = quiet.copy; status = quiet.status; notes = quiet.notes; buffers = quiet.buffers });
   lit = sound.lit;
   dark = sound.dark;
-  off = sound.off;
   heard = sound.heard;
 }
