@@ -26,7 +26,7 @@ pub fn tied_holds()
 {}
 
 /// A session that a varyon has begun is good, by the contract of that call, where its notes are home, its usable copies
-/// are even, and on each crash image at most one group has a quorum among all disks.
+/// are even, and on each crash image whatever any disks find is of one group.
 pub fn varied_on_serves()
     ensures { VariedOnServes }
 {}
@@ -36,8 +36,8 @@ pub fn varied_is_made_even()
     ensures { VariedIsMadeEven }
 {}
 
-/// A session that a mkvg has begun is good, by the contract of that call, where on each crash image at most one group
-/// has a quorum among all disks.
+/// A session that a mkvg has begun is good, by the contract of that call, where on each crash image whatever any disks
+/// find is of one group.
 pub fn made_serves()
     ensures { MadeServes }
 {}
