@@ -53,7 +53,7 @@ pub record IsMadeEven (s : State) (media : Media) : Type 0 where
   pub notes : NotesAreHome s.core (image_of s.device.sizes media)
   pub even : (shows : ShowsIts s media) → IsEven (shown_to s media) s.core.descriptor (Some shows.stands) (is_there s.core)
 
--- So it is where no volume is in mode passive: once the notes name nothing, what the disks keep makes the usable copies even.
+-- So it is where no volume is in mode passive and the disks kept some history before: once the notes name nothing, what they keep makes the usable copies even.
 abbrev pub VariedIsMadeEven : Type 0
 VariedIsMadeEven = (past : List Fact) (was : Log) (name : List ℕ) (moment : ℕ) (room : Room) (old : Device) (s : State) (media : Media)
     → ComesOn old s.device was name moment room s.core → IsBegun was moment room old s → ClockIsAhead was.run moment old was.facts → (facts : List Fact) → ImagesKept old facts → s.device.media ≡ Some media

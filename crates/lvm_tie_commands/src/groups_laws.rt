@@ -31,7 +31,8 @@ pub fn varied_on_serves()
     ensures { VariedOnServes }
 {}
 
-/// Its notes are home and its copies even where no volume of the group is in mode passive and its disks keep a history.
+/// Its notes are home and its copies even where no volume of the group is in mode passive and its disks keep a history, as
+/// they kept one before.
 pub fn varied_is_made_even()
     ensures { VariedIsMadeEven }
 {}
@@ -42,7 +43,7 @@ pub fn made_serves()
     ensures { MadeServes }
 {}
 
-/// Where that mkvg was without force, at most one has.
+/// Where that mkvg was without force, and the disks kept some history before, it is.
 pub fn made_alone()
     ensures { MadeAlone }
 {}
