@@ -1,6 +1,6 @@
 -- Lines without a `mkvg -f` leave one group, where there was one.
 use Rattle.std.proofs.Common.{◌≡◌, ◌⊎◌, inl, inr, ⊎_elim, ℕ, ◌∷◌, ◌++◌, [], List, Bool, true, false, Option, Some, None, Result, Ok, Err, count_by, refl, sym, ap, subst, ◌∙◌, ◌≤◌, length, arith}
-use Rattle.std.specs.Prelude.{IsSome, IsTrue, IfSome}
+use Rattle.std.specs.Prelude.{IsSome, IfSome}
 use Rattle.lvm_num.specs.declared.descriptor.Descriptor.{Descriptor}
 use Rattle.lvm_num.specs.Disks.{Disks}
 use Rattle.lvm_num.specs.Record.{Stamped}
