@@ -56,7 +56,7 @@ module _ (lv copies before after : ℕ) (old new : State) (sound : IsSound old) 
         keeps n lp p here (inr (had_fresh old sound began n lp p before was))
 
     serves : MayServeWith [] new
-    serves = may_serve old sound began new on still [] next old.core.history (IsWithFirst lv copies old.core) NoPartition NoPartition NoVolume 1 it.is refl sound.told.ordered refl leaves.status (λ p none. absurd none)
+    serves = may_serve old sound began new on still [] next old.core.history (IsWithFirst lv copies old.core) NoPartition NoPartition NoVolume 1 old.core.last it.is refl sound.told.ordered refl leaves.status (λ p none. absurd none)
         leaves.falls leaves.writes.sizes leaves.numbers (omega arith) it.may.room members (λ n lp p one was apart. fresh n lp p one was)
 
 pub rmlvcopy_serves : RmlvcopyServes
