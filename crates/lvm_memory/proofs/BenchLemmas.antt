@@ -104,7 +104,7 @@ is_first n = grind (arith, nat_tests)
 some_is_none : (n : ℕ) → Some n ≡ None → ⊥
 some_is_none n e = absurd (cc)
 
-pub due_first : (delays : List ℕ) → NoDelays delays → 0 < length delays → position (λ n. n == 0) delays ≡ None → ⊥
+due_first : (delays : List ℕ) → NoDelays delays → 0 < length delays → position (λ n. n == 0) delays ≡ None → ⊥
 due_first [] none some is = absurd (omega arith)
 due_first (zero ∷ delays) none some is = some_is_none 0 (sym (ap (λ (b : Bool). cond b (Some 0) None) (is_first (length delays))) ∙ is)
 due_first (suc n ∷ delays) none some is = let e = none.0 in absurd (omega arith)

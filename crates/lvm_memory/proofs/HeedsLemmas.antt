@@ -1,13 +1,13 @@
 -- Shelves in memory that do nothing but what they are ordered.
-use Rattle.std.proofs.Common.{◌≡◌, ◌++◌, [], ◌∷◌, ℕ, List, Bool, true, false, cond, length, Option, Some, None, slice_index_or, IfSome, refl, sym, ◌∙◌, ap, subst, arith}
+use Rattle.std.proofs.Common.{◌≡◌, ◌++◌, [], ◌∷◌, ℕ, List, Bool, true, false, cond, length, slice_index_or, IfSome, refl, sym, ◌∙◌, ap, subst, arith}
 use Rattle.lvm_disk.specs.Counts.{next_count}
-use Rattle.lvm_disk.specs.Device.{Ordered, Device}
+use Rattle.lvm_disk.specs.Device.{Ordered}
 use Rattle.lvm_disk.specs.Steps.{ordered_by}
 use Rattle.lvm_disk.specs.declared.shelf.Arrange.TheVariants as arrange
-use Rattle.lvm_memory.specs.Injection.{Injection, due, after_acts, next_call, begun, first_cut, cut_planned}
+use Rattle.lvm_memory.specs.Injection.{Injection, due, after_acts, next_call, begun}
 use Rattle.lvm_memory.specs.Flights.{NoDelays}
 use Rattle.lvm_memory.specs.Sound.{IsUnplanned}
-use Rattle.lvm_memory.specs.Bench.{ordered_of, let_cut}
+use Rattle.lvm_memory.specs.Bench.{ordered_of}
 use Rattle.lvm_memory.specs.declared.injector.Planned.{Planned}
 use Rattle.lvm_memory.proofs.TicketsLemmas.{none_more}
 
@@ -25,12 +25,6 @@ pub cut_ordered :
 cut_ordered true cuts cuts1 failing power word on once = ap (λ (n : ℕ). ordered_of true n failing) (once ∙ ap (λ (b : Bool). cond b (next_count cuts) cuts) (sym on))
 cut_ordered false cuts cuts1 failing power word on once = refl
 
--- one that finds the power off
-pub off_ordered :
-    (heeds : Bool) (cuts : ℕ) (failing : List Bool) (power : Bool) (word : ℕ) → power ≡ false → ordered_of heeds cuts failing ≡ ordered_by power (arrange.Cut word) (ordered_of heeds cuts failing)
-off_ordered true cuts failing power word off = ap (λ (n : ℕ). ordered_of true n failing) (ap (λ (b : Bool). cond b (next_count cuts) cuts) (sym off))
-off_ordered false cuts failing power word off = refl
-
 pub cuts_as_ordered :
     (heeds : Bool) (cuts cuts1 : ℕ) (failing : List Bool) (power : Bool) (word : ℕ) → power ≡ true → cuts1 ≡ next_count cuts
     → IfSome (ordered_by power (arrange.Cut word) (ordered_of heeds cuts failing)) (λ (ordered : Ordered). cuts1 ≡ ordered.cuts)
@@ -42,28 +36,11 @@ pub fails_as_ordered :
 fails_as_ordered true cuts failing disk fails = fails
 fails_as_ordered false cuts failing disk fails = tt
 
-pub none_ordered : (heeds : Bool) (cuts : ℕ) (failing : List Bool) → (heeds ≡ true → ⊥) → ordered_of heeds cuts failing ≡ None
-none_ordered true cuts failing not = absurd (not refl)
-none_ordered false cuts failing not = refl
-
--- a device that doesn't tell it is let be
-pub let_be : (word : ℕ) (d : Device) → d.orders.alone ≡ None → let_cut word d ≡ d
-let_be word d none =
-    let same : ordered_by d.power (arrange.Cut word) d.orders.alone ≡ d.orders.alone = ap (λ (o : Option Ordered). ordered_by d.power (arrange.Cut word) o) none ∙ sym none in
-    λ i. record d { orders = record d.orders { alone = same i } }
-
 -- ---- no plan
 
 none_planned : (plan : List Planned) → length plan ≡ 0 → plan ≡ []
 none_planned [] none = refl
 none_planned (p ∷ plan) none = absurd (omega (arith, none))
-
-pub uncut : (i : Injection) → length i.plan ≡ 0 → cut_planned i ≡ None
-uncut i none = ap (λ (plan : List Planned). first_cut (due (next_call i) plan)) (none_planned i.plan none)
-
-pub begun_failing : (old new : Injection) → length old.plan ≡ 0 → new ≡ begun old → new.failing ≡ old.failing
-begun_failing old new none is =
-    ap (λ (i : Injection). i.failing) is ∙ ap (λ (plan : List Planned). (after_acts (due (next_call old) plan) (record old { calls = next_call old })).failing) (none_planned old.plan none)
 
 pub begun_unplanned : (old new : Injection) (delays : List ℕ) → new ≡ begun old → IsUnplanned old delays → IsUnplanned new delays
 begun_unplanned old new delays is unplanned = record {
