@@ -180,7 +180,6 @@ module _ (core : Core) (first : Stored) (rest : WantsMarksAtMost core.status fir
 -- ---- marks of partitions
 
 module _ (core : Core) (stale fresh : List Pp) (first : Stored) (marked : IsMarked stale fresh core.status first) (settled : IsSettled core) (group : core.status.group ≡ record core.descriptor { lvs = [] }) where
-
   -- what is wanted says the same of the volumes
   module _ (valid : IsValid core.descriptor) (unused : AreUnused core.descriptor (stale ++ fresh)) where
     not_stale : (row : LvRow) (lp : ℕ) (p : Pp) → IsOneOf core.descriptor.lvs row → IsOneOf (copies_of row lp) p → is_among stale p ≡ false

@@ -1,9 +1,10 @@
 -- What is left where a group was to come on.
-use Rattle.std.specs.Prelude.{ℕ, ◌+◌, Result, Ok, Err}
+use Rattle.std.specs.Prelude.{ℕ, ◌+◌, List, Result, Ok, Err}
 use Rattle.lvm_disk.specs.Device.{Device}
+use Rattle.lvm_vol.specs.Facts.{Fact}
 use Rattle.lvm_vol.specs.Log.{Log}
 use Rattle.lvm_kept.specs.Moments.{StaysCalm}
-use Rattle.lvm_commit.specs.passed.Names.{Keeps, at, ClockIsAhead, IsBehind}
+use Rattle.lvm_commit.specs.passed.Names.{ImagesKept, Keeps, at, ClockIsAhead, IsBehind}
 use Rattle.lvm_write.specs.Parts.{Spends}
 use Rattle.lvm_commit.specs.Settling.{NoneIsLeft}
 use Rattle.lvm_core.specs.declared.refused.Refused.{Refused}
@@ -33,9 +34,10 @@ pub record BringsOn (run moment before after : ℕ) (old new : Device) (was is :
 
 -- ---- where it is on
 
--- The session that begins is settled, with numbers enough for its records, and leaves no copy behind; where the clock is ahead its disks hold what it says.
+-- The session that begins is settled, with numbers enough for its records, and leaves no copy behind; where the clock is ahead and the disks kept some history
+-- before, they hold what it says.
 pub record IsStarted (run moment : ℕ) (old : Device) (was : Log) (new : State) : Type 0 where
   pub settled : IsSettled new.core
   pub numbers : HasSpareNumbers new.core
   pub left : NoneIsLeft new.core.descriptor new.core.status
-  pub held : ClockIsAhead run moment old was.facts → StartsHeld new.device new.core
+  pub held : (facts : List Fact) → ClockIsAhead run moment old was.facts → ImagesKept old facts → StartsHeld new.device new.core

@@ -9,7 +9,6 @@ use Rattle.lvm_status.specs.Members.{HasItsRows}
 use Rattle.lvm_commit.specs.Settling.{IsForgotten}
 use Rattle.lvm_session.specs.declared.open.Power.TheVariants as power
 use Rattle.lvm_session.specs.State.{Core, State}
-use Rattle.lvm_session.specs.Enabled.{is_lost}
 use Rattle.lvm_session.specs.Placed.{ArePlaced}
 use Rattle.lvm_session.specs.Sound.{IsLit, IsDark, count_if, is_dark, out_with}
 
@@ -50,7 +49,5 @@ pub record IsSoundBetween (s : State) : Type 0 where
   pub quiet : IsQuiet s.core → s.device.flights ≡ []
   pub lit : is_dark s.core.power ≡ false → IsLit s.device
   pub dark : is_dark s.core.power ≡ true → IsDark s.device
-  -- it is off where the members that aren't missing have too few votes to write
-  pub off : s.core.power ≡ power.Off → is_lost s.core ≡ true
   -- a session whose transfer wasn't heard of is told by its buffer that is out
   pub heard : s.core.power ≡ power.Stuck → ⊥

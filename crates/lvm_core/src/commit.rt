@@ -196,6 +196,7 @@ pub fn mark_dirty<S: Shelf>(
     requires may { MayCommit 1 session.old.descriptor session.old.updater (S.device shelf.old) }
     requires numbers { All IsVolumeNumber (dirty.now ++ clean.now) }
     ensures does { CommitsDirt dirty.now clean.now patience.old.left patience.new.left (state (S.device shelf.old) (core_of session.old)) (state (S.device shelf.new) (core_of session.new)) result }
+    ensures held { HoldsWithin session.old.updater session.new.updater }
     ensures rooms { SameRooms session.old session.new }
 {
     mark_volumes(&mut session.updater, dirty, clean);

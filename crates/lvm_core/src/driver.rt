@@ -26,7 +26,7 @@ ghost use Rattle.lvm_core.specs.Settled.{IsSettled, HasSpareNumbers};
 ghost use Rattle.lvm_core.specs.Committing.{CommitEnds, MarkEnds, FailsCommitted, AreUnused, AreMarked, Restates, AreDirtied, Redirties};
 ghost use Rattle.lvm_core.specs.Zeros.{ZeroEnds, KeepsRecords, IsZeroOf};
 ghost use Rattle.lvm_core.specs.Leaves.{Leaves, committing, marking, dirtying, zeroing};
-ghost use Rattle.lvm_core.specs.Entering.{IsOfVolume};
+ghost use Rattle.lvm_core.specs.Entering.{IsOfVolume, last_reads};
 
 use crate::commit::{commit, mark_dirty, set_status, zero};
 use crate::fault::CommitFault;
@@ -219,6 +219,7 @@ impl<S: Shelf> Driver<S> {
         ensures nothing { AreDirtied dirty.now clean.now self.old.1.status.committed → IsOk result × (S.device self.new.0 ≡ S.device self.old.0) × (self.new.1 ≡ self.old.1) }
         // whatever the answer
         ensures marks { Redirties dirty.now clean.now (state_of S.device self.old) (state_of S.device self.new) }
+        ensures held { HoldsWithin self.old.1.status self.new.1.status }
         ensures leaves { Leaves (dirtying dirty.now clean.now) patience.old.left patience.new.left (state_of S.device self.old) (state_of S.device self.new) }
     {
         mark_dirty(&mut self.session, &mut self.shelf, dirty, clean, patience)
@@ -244,13 +245,15 @@ impl<S: Shelf> Driver<S> {
         zero(&mut self.session, &mut self.shelf, pp, patience)
     }
 
-    /// Enters that a volume is being made or removed, or that it is.
+    /// Enters that a volume is being made or removed, or that it is. The first read of one that is made
+    /// begins as if its number were new.
     pub fn enter(&mut self, entry: Entry)
         requires spare { 1 ≤ spare_entries self.old.1.history }
         requires volume { IsOfVolume entry }
         ensures shelf { self.new.0 ≡ self.old.0 }
-        ensures core { self.new.1 ≡ record self.old.1 { history = with_fact self.old.1.history (plain_fact entry) } }
+        ensures core { self.new.1 ≡ record self.old.1 { history = with_fact self.old.1.history (plain_fact entry); last = last_reads (plain_fact entry) self.old.1.last } }
     {
+        forget_reads(&mut self.session.last, &entry);
         self.session.history.push(entry);
     }
 
@@ -322,6 +325,17 @@ impl<S: Shelf> Driver<S> {
         Closed {
             shelf: without_freed(shelf),
             history: session.history,
+        }
+    }
+}
+
+// A volume that is made hasn't been read.
+fn forget_reads(last: &mut [u8; 512], entry: &Entry)
+    ensures { last.new ≡ last_reads (plain_fact entry.now) last.old }
+{
+    if let Entry::Made { lv } = entry {
+        if *lv < 512 {
+            last[usize::from(*lv)] = 0;
         }
     }
 }

@@ -29,10 +29,16 @@ pub record Range : Type 0 where
   pub first : ℕ
   pub count : ℕ
 
--- how many arrangements were made, and the last of them
+-- of a shelf that does nothing but what it is ordered: how often its power was cut, and for each disk whether an arrangement lets it fail now
+pub record Ordered : Type 0 where
+  pub cuts : ℕ
+  pub failing : List Bool
+
+-- How many arrangements were made, the last of them, and what they made of a shelf that heeds them alone. Of any other nothing is told: its disks may fail, its power may go and its reaps may end nothing, by themselves.
 pub record Orders : Type 0 where
   pub made : ℕ
   pub last : Option Arrange
+  pub alone : Option Ordered
 
 -- A shelf at one moment. The content of the media is told or not; the list of the write ranges that were started may stop being told.
 pub record Device : Type 0 where

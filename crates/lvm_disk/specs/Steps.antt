@@ -1,9 +1,9 @@
 -- What each call of a shelf does to it.
-use Rattle.std.specs.Prelude.{◌≡◌, ◌⊎◌, ℕ, ◌+◌, ◌-◌, ◌^◌, ◌<◌, ◌≤◌, ◌++◌, Bool, true, false, List, [], ◌∷◌, length, map, drop, Option, Some, None, min, slice_get, unwrap_or, IfSome}
+use Rattle.std.specs.Prelude.{◌≡◌, ◌⊎◌, ℕ, ◌+◌, ◌-◌, ◌^◌, ◌<◌, ◌≤◌, ◌++◌, Bool, true, false, List, [], ◌∷◌, length, map, drop, Option, Some, None, if◌then◌else◌, min, slice_get, slice_set, slice_index_or, unwrap_or, IfSome}
 use Rattle.std.specs.Bool.{MatchBool}
 use Rattle.lvm_num.specs.Buffer.{Buffer}
 use Rattle.lvm_disk.specs.Counts.{Rose, RoseAt, Counts, next_count}
-use Rattle.lvm_disk.specs.Device.{Media, Flight, Range, Device, written, IsTorn}
+use Rattle.lvm_disk.specs.Device.{Media, Flight, Range, Ordered, Device, written, IsTorn}
 use Rattle.lvm_disk.specs.declared.shelf.Started.{Started}
 use Rattle.lvm_disk.specs.declared.shelf.Started.TheVariants as started
 use Rattle.lvm_disk.specs.declared.shelf.Reaped.{Reaped}
@@ -49,11 +49,13 @@ pub record Starts (old new : Device) (f : Flight) : Type 0 where
 
 -- ---- power cuts
 
--- All flights are given up, some crash image is left, and the power is off.
+-- All flights are given up, some crash image is left, and the power is off. A shelf that heeds orders alone was ordered to.
 pub record Cuts (old new : Device) : Type 0 where
   pub power : old.power ≡ true
   pub media : BothTold old.media new.media (λ m n. IsTorn m old.flights n)
   pub cuts : Rose old.counts.cuts new.counts.cuts
+  pub once : new.counts.cuts ≡ next_count old.counts.cuts
+  pub ordered : IfSome old.orders.alone (λ ordered. new.counts.cuts ≡ ordered.cuts)
   pub new_is : new ≡ record old { media = new.media; flights = []; freed = old.freed ++ map (λ f. f.buf) old.flights; power = false; counts = record old.counts { cuts = new.counts.cuts } }
 
 -- the power was off already and nothing happens, or it is cut
@@ -122,7 +124,7 @@ pub record IsFault (disk : ℕ) (old new : Counts) : Type 0 where
 abbrev pub CountsFailure : Flight → Counts → Counts → Type 0
 CountsFailure f old new = (IsRecordRead f × IsMiss f.disk old new) ⊎ ((IsRecordRead f → ⊥) × IsFault f.disk old new)
 
--- A flight failed: any of a write's sectors stand on the media, and a read's buffer may have anything.
+-- A flight failed: any of a write's sectors stand on the media, and a read's buffer may have anything. On a shelf that heeds orders alone its disk was ordered to fail.
 pub record EndsFailed (old new : Device) (ticket : ℕ) (buf : Buffer) : Type 0 where
   pub flight : Flight
   pub power : old.power ≡ true
@@ -132,11 +134,13 @@ pub record EndsFailed (old new : Device) (ticket : ℕ) (buf : Buffer) : Type 0 
   pub kept : flight.write ≡ true → buf ≡ flight.buf
   pub number : buf.number ≡ flight.buf.number
   pub counts : CountsFailure flight old.counts new.counts
+  pub ordered : IfSome old.orders.alone (λ ordered. slice_index_or ordered.failing flight.disk false ≡ true)
   pub new_is : new ≡ record old { media = new.media; flights = new.flights; counts = new.counts }
 
--- a flight is out, none ended, and the waits rose by one
+-- A flight is out, none ended, and the waits rose by one. A shelf that heeds orders alone never waits.
 pub record Waits (old new : Device) : Type 0 where
   pub power : old.power ≡ true
+  pub unordered : old.orders.alone ≡ None
   pub out : 0 < length old.flights
   pub waits : Rose old.counts.waits new.counts.waits
   pub once : new.counts.waits ≡ next_count old.counts.waits
@@ -168,9 +172,20 @@ MayArrange device (arrange.Fail disk) = disk < length device.sizes
 MayArrange device (arrange.Heal disk) = disk < length device.sizes
 MayArrange device (arrange.Cut word) = Unit {0}
 
+-- what it makes of a shelf that heeds orders alone, with its power on or off; one that is off is cut no more
+abbrev pub after_order : Bool → Arrange → Ordered → Ordered
+after_order power (arrange.Fail disk) ordered = record ordered { failing = slice_set ordered.failing disk true }
+after_order power (arrange.Heal disk) ordered = record ordered { failing = slice_set ordered.failing disk false }
+after_order power (arrange.Cut word) ordered = record ordered { cuts = if power then next_count ordered.cuts else ordered.cuts }
+
+-- the same, where the shelf tells it
+abbrev pub ordered_by : Bool → Arrange → Option Ordered → Option Ordered
+ordered_by power what None = None
+ordered_by power what (Some ordered) = Some (after_order power what ordered)
+
 -- one arrangement more, and it is the last
 abbrev pub with_order : Device → Arrange → Device
-with_order device what = record device { orders = record { made = min (device.orders.made + 1) (2 ^ 64 - 1); last = Some what } }
+with_order device what = record device { orders = record { made = min (device.orders.made + 1) (2 ^ 64 - 1); last = Some what; alone = ordered_by device.power what device.orders.alone } }
 
 -- An arrangement is made. A cut happens at once.
 abbrev pub Arranges : Device → Device → Arrange → Type 0

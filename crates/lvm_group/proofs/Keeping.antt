@@ -52,8 +52,8 @@ use Rattle.lvm_kept.proofs.CommittedLemmas.Finding.{finding_reads, finds_from}
 use Rattle.lvm_num.specs.Votes.{all_disks, votes_in}
 use Rattle.lvm_num.proofs.VotesLemmas.{more_have_more, more_is_enough}
 use Rattle.lvm_status.specs.Update.{Updates}
-use Rattle.lvm_group.specs.passed.Names.{Room, Began, ShowsCommitted, HoldsCommitted, NotesAreHome, StartsHeld, Parts, IsReservedFor, first_core, Core, is_there}
-use Rattle.lvm_group.proofs.passed.Names.{newest_is_beginning, empty_names_none}
+use Rattle.lvm_group.specs.passed.Names.{Room, ShowsCommitted, HoldsCommitted, NotesAreHome, StartsHeld, Parts, IsReservedFor, first_core, Core, is_there}
+use Rattle.lvm_group.proofs.passed.Names.{shown_is_only, empty_names_none}
 use Rattle.lvm_group.specs.NewGroup.{NewGroup, among, sectors_on, size_for, member_for, new_group, new_status, first_absent, first_too_small}
 use Rattle.lvm_group.specs.Shown.{IfShown, HasGroup, ShowsEarlier, SparesTold}
 use Rattle.lvm_group.specs.Made.{beginning_for}
@@ -290,8 +290,7 @@ module _ (w : NewGroup) (device : Device) (homes : Homes) (its : IsBeginning w d
     shows : ShowsCommitted shown core.descriptor core.status.committed (is_there core)
     shows = record {
       found = subst (λ (g : Descriptor). Finds shown all_disks g.id g) (sym parts.descriptor) found_by_all;
-      disks = among w.disks;
-      began = subst (λ (g : Descriptor). Began shown g (among w.disks)) (sym parts.descriptor) (newest_is_beginning shown (new_group device.sizes w) (among w.disks) newest finds.newest);
+      only = shown_is_only shown core.descriptor (λ d found on own. ap (λ (r : Stamped Descriptor). r.value) (only_new d found on (own ∙ ap (λ (g : Descriptor). g.id) parts.descriptor)) ∙ sym parts.descriptor);
       descriptor = newest;
       value = sym parts.descriptor;
       latest = λ d found on own. inr (only_new d found on (own ∙ ap (λ (g : Descriptor). g.id) parts.descriptor));

@@ -3,13 +3,14 @@ use Rattle.std.proofs.Common.{◌≡◌, ◌+◌, ◌<◌, ◌≤◌, [], ◌∷
 use Rattle.std.specs.Prelude.{◌^◌, IfNone}
 use Rattle.std.specs.Global.{Vec}
 use Rattle.lvm_disk.specs.Device.{Device, IsReady}
+use Rattle.lvm_disk.proofs.PathsLemmas.{last-path}
 use Rattle.lvm_io.specs.Count.{Rose}
 use Rattle.lvm_vol.specs.Facts.{Fact, On}
 use Rattle.lvm_vol.specs.Legal.{IsLater}
 use Rattle.lvm_vol.specs.Log.{Log, is_open}
 use Rattle.lvm_vol.specs.Order.{Ordered}
 use Rattle.lvm_kept.specs.Moments.{Moment}
-use Rattle.lvm_steps.specs.Moments.{Begins, Keeps}
+use Rattle.lvm_steps.specs.Moments.{Begins, ImagesKept, Keeps, Upholds}
 use Rattle.lvm_steps.specs.Requests.{at}
 use Rattle.lvm_steps.specs.Behind.{IsBehind}
 use Rattle.lvm_steps.proofs.LawsLemmas.Clock.{later_joins}
@@ -140,7 +141,7 @@ module _ (run : ℕ) (old : ScriptState) (off : old.session ≡ None) (between :
           posted = off_posts old.moment.facts left.facts more.answers old.posts posted;
         };
         rests = λ others goes rests. record { ready = up.ready goes rests.ready; landed = more.landed landed; session = tt; posts = rests.posts };
-        begins = λ timely. subst (λ (s : Option Core). IfNone s (Unit {0})) (sym off) tt;
+        begins = λ timely facts kept. subst (λ (s : Option Core). IfNone s (Unit {0})) (sym off) tt;
         power = up.power;
         waits = let e = up.waits in let w = promises.waits in omega (arith, e, w);
         clock = rose.later;
@@ -150,8 +151,8 @@ module _ (run : ℕ) (old : ScriptState) (off : old.session ≡ None) (between :
   -- the group is on
   module _ (core : Core) (new : Device) (promises : Promises run moment old.moment (at new core.history.facts)) (serves : Serves (state new core))
       (entered : List Fact) (facts : core.history.facts ≡ entered ++ On moment ∷ []) (more : Stays old.moment.facts entered)
-      (ready : IsReady new) (epoch : core.status.stamp.epoch ≡ moment) (settled : IsSettledCore core) (starts : ClockIsAheadEach run moment old.moment.device old.moment.facts → StartsHeld new core)
-      (stands : (first : Moment) → Keeps run first (at new core.history.facts) → StartsHeld new core → (past : List Fact) → Begins run past first → StandsAlone new core → StandsAfter past new core) where
+      (ready : IsReady new) (epoch : core.status.stamp.epoch ≡ moment) (settled : IsSettledCore core) (starts : (kept : List Fact) → ClockIsAheadEach run moment old.moment.device old.moment.facts → ImagesKept old.moment.device kept → StartsHeld new core)
+      (stands : (first : Moment) → Keeps run first (at new core.history.facts) → (past : List Fact) → Begins run past first → StartsHeld new core → StandsAlone new core → StandsAfter past new core) where
     later_then : IsAheadEach run (old.last + 1) old.moment.device old.moment.facts → IsLater core.history.facts (moment + 1)
     later_then ahead = subst (λ (l : List Fact). IsLater l (moment + 1)) (sym facts)
         (later_joins (moment + 1) entered (On moment ∷ []) (more.later (moment + 1) (next ahead).later) (omega arith, tt))
@@ -166,7 +167,7 @@ module _ (run : ℕ) (old : ScriptState) (off : old.session ≡ None) (between :
     pub left_on : GoesOn run Aside reply.Ok old (record { moment = at new core.history.facts; session = Some core; posts = old.posts; last = moment })
     left_on = record {
       keeps = λ timely alone first span before. let keeps = spans_follow run first old.moment (at new core.history.facts) span ordered landed (promises.keeps (clock timely.ahead)) in
-          (keeps, λ goes. stands first keeps (starts (clock timely.ahead)));
+          (keeps, λ goes past begins. stands first keeps past begins (starts (past ++ old.moment.facts) (clock timely.ahead) (let upholds : Upholds run first old.moment = last-path span in (upholds past begins).kept)));
       timely = λ goes timely. record {
         ahead = record { run_is = (next timely.ahead).run_is; later = later_then timely.ahead; behind = still_is_behind_each (moment + 1) new ready.flights (promises.behind (clock timely.ahead)) };
         session = omega (arith, epoch);
@@ -180,7 +181,7 @@ module _ (run : ℕ) (old : ScriptState) (off : old.session ≡ None) (between :
         posted = on_posts old.moment.facts core.history.facts leaves_answers core settled.quiet.requests old.posts posted;
       };
       rests = λ others goes rests. record { ready = ready; landed = landed_then; session = settled; posts = rests.posts };
-      begins = λ timely. subst (λ (s : Option Core). IfNone s (HasBegunHeld new core)) (sym off) (record { ready = ready; settled = settled; held = (starts (clock timely.ahead)).held });
+      begins = λ timely facts_kept kept. subst (λ (s : Option Core). IfNone s (HasBegunHeld new core)) (sym off) (record { ready = ready; settled = settled; held = (starts facts_kept (clock timely.ahead) kept).held });
       power = ready.power;
       waits = promises.waits;
       clock = rose.later;
@@ -204,8 +205,8 @@ pub record Outcome {S : Type 0} (device : S → Device) (shelf : S) (log : Log) 
   pub brings : BringsOnEach log.run moment before after (device shelf) (device (shelf_left outcome)) log (history_left outcome)
   pub came : IfOk outcome (λ driver. CameOn moment (device shelf) (device driver.0) log driver.1)
   pub serves : IfOk outcome (λ driver. Serves (state_of device driver))
-  pub stands : IfOk outcome (λ driver. (first : Moment) → Keeps log.run first (at (device driver.0) driver.1.history.facts) → StartsHeld (device driver.0) driver.1 → (past : List Fact) → Begins log.run past first
-      → StandsAlone (device driver.0) driver.1 → StandsAfter past (device driver.0) driver.1)
+  pub stands : IfOk outcome (λ driver. (first : Moment) → Keeps log.run first (at (device driver.0) driver.1.history.facts) → (past : List Fact) → Begins log.run past first
+      → StartsHeld (device driver.0) driver.1 → StandsAlone (device driver.0) driver.1 → StandsAfter past (device driver.0) driver.1)
   pub stayed : IfErr outcome (λ refused. StayedOff refused.cause (device shelf) (device refused.shelf) log refused.history)
   pub left : Left device outcome by answer
 

@@ -100,7 +100,7 @@ module _ {S X : Type 0} (device : S → Device) (old new : S) (log is : Log) (po
       session = tt;
       posts = rests.posts;
     };
-    begins = λ timely. tt;
+    begins = λ timely facts kept. tt;
     power = keeps.power;
     waits = keeps.shelf.waited.later;
     clock = omega arith;

@@ -1,8 +1,9 @@
 -- What holds of the moments of each line.
-use Rattle.std.specs.Prelude.{◌≡◌, ◌≤◌, ◌+◌, ℕ, true, IfSome, IfNone, length}
+use Rattle.std.specs.Prelude.{◌≡◌, ◌≤◌, ◌+◌, ℕ, List, true, IfSome, IfNone, length}
 use Rattle.lvm_disk.specs.Device.{Device, IsReady}
 use Rattle.lvm_kept.specs.Moments.{Moment}
-use Rattle.lvm_steps.specs.Moments.{Keeps}
+use Rattle.lvm_vol.specs.Facts.{Fact}
+use Rattle.lvm_steps.specs.Moments.{ImagesKept, Keeps}
 use Rattle.lvm_steps.specs.Behind.{IsAhead}
 use Rattle.lvm_tie_commands.specs.passed.Names.{IsOneFoundOn}
 use Rattle.lvm_quiesce.specs.passed.Names.{IsHeld, EntersVolumes, IsSettled as IsSettledCore}
@@ -56,7 +57,7 @@ IsAllowed OfGroup old = Unit {0}
 IsAllowed (OfGroupWhere Holds) old = AtRestEach Holds old
 IsAllowed OfRequests old = Unit {0}
 
--- At most one group has a quorum among all disks where a volume's making or removal is entered meanwhile; so too where a session is acted on whose group has
+-- Whatever any disks find is of one group where a volume's making or removal is entered meanwhile; so too where a session is acted on whose group has
 -- volumes and which has no open request, and none of these is in mode passive then. What a command asks for besides holds of its session.
 pub record IsAlone (role : Role) (old new : ScriptState) : Type 0 where
   pub enters : EntersVolumes old.moment.facts new.moment.facts → IsOneFoundOn old.moment.device
@@ -73,16 +74,16 @@ pub record HasBegunHeld (device : Device) (core : Core) : Type 0 where
   pub settled : IsSettledCore core
   pub held : IsHeld device core
 
--- From one state to the next, where this is answered. While the clock is ahead of each crash image, and no other group has a quorum where that is asked, what
+-- From one state to the next, where this is answered. While the clock is ahead of each crash image, and no other group is found where that is asked, what
 -- stood goes on to stand. The clock stays ahead of the disks, and of each crash image unless nothing was heard of a transfer: else the next line may begin, and
--- at rest too, if none of requests was between.
+-- at rest too, if none of requests was between. A session that begins over disks which kept some history finds on them what it says.
 pub record GoesOn (run : ℕ) (role : Role) (answer : Reply) (old new : ScriptState) : Type 0 where
   pub keeps : IsTimely run old → IsAlone role old new → KeepsStanding run answer old new
   pub timely : (IsStuck answer → ⊥) → IsTimely run old → IsTimely run new
   pub left : IsTimely run old → IsAhead run (new.last + 1) new.moment.device new.moment.facts
   pub between : (IsStuck answer → ⊥) → IsBetween new.moment new.session new.posts
   pub rests : (IsRequesting role → ⊥) → (IsStuck answer → ⊥) → IsAtRest old → IsAtRest new
-  pub begins : IsTimely run old → IfNone old.session (IfSome new.session (HasBegunHeld new.moment.device))
+  pub begins : IsTimely run old → (kept : List Fact) → ImagesKept old.moment.device kept → IfNone old.session (IfSome new.session (HasBegunHeld new.moment.device))
   pub power : new.moment.device.power ≡ true
   pub waits : old.moment.device.counts.waits ≤ new.moment.device.counts.waits
   pub clock : old.last ≤ new.last

@@ -78,7 +78,7 @@ pub record IsTimely (run : ℕ) (s : ScriptState) : Type 0 where
 
 -- ---- what stands on the disks
 
--- Where its group has a volume and no request is open, at most one group has a quorum among all disks, and none of its volumes is in mode passive.
+-- Where its group has a volume and no request is open, whatever any disks find is of one group, and none of its volumes is in mode passive.
 abbrev pub StandsAlone : Device → Core → Type 0
 StandsAlone device core = core.requests ≡ [] → core.descriptor.lvs ≢ [] → IsOneFoundOn device × HasNoPassive core.descriptor
 

@@ -95,7 +95,6 @@ module _ (s : State) (sound : IsSound s) (on : s.core.power ≡ power.On) (close
     quiet = λ none. idle;
     lit = sound.lit;
     dark = sound.dark;
-    off = sound.off;
     heard = λ stuck. let e : power.On ≡ power.Stuck = sym on ∙ stuck in cc;
   }
 

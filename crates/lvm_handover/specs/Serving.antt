@@ -67,7 +67,7 @@ StaysSound s = IsSoundBetween s → IsSound s
 -- The session goes on with its members. Further ones are missing, each after a transfer to it has failed, and copies are stale which were added or stand on a
 -- missing disk; none is left behind, and each logical partition has a fresh copy that had one among those it had.
 pub record GoesOnWith (added : List Pp) (old new : State) : Type 0 where
-  pub is : new.core ≡ record old.core { descriptor = new.core.descriptor; history = new.core.history; status = new.core.status; homes = new.core.homes }
+  pub is : new.core ≡ record old.core { descriptor = new.core.descriptor; history = new.core.history; last = new.core.last; status = new.core.status; homes = new.core.homes }
   pub alike : IsAlike new.core.descriptor old.core.descriptor
   pub sizes : new.device.sizes ≡ old.device.sizes
   pub falls : NoneFalls old.device.counts new.device.counts

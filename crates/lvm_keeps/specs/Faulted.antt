@@ -81,7 +81,7 @@ outcomes core = map (λ (o : Open). o.landed) core.requests
 abbrev pub cut_shelf : Device
 cut_shelf =
     let shelf = faulted true in
-    record shelf { power = false; orders = record { made = 1; last = Some (arrange.Cut 0) }; counts = record shelf.counts { cuts = 1 } }
+    record shelf { power = false; orders = record { made = 1; last = Some (arrange.Cut 0); alone = None }; counts = record shelf.counts { cuts = 1 } }
 
 abbrev pub dark : Mode → State
 dark m = state cut_shelf (all_dark (off m).core)

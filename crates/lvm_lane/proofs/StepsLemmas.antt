@@ -38,6 +38,7 @@ ends_failed sizes sizes1 flights flights1 counts counts1 f ticket buf there less
   kept = kept;
   number = rest.number;
   counts = counted;
+  ordered = tt;
   new_is = λ i. working_device (same i) flights1 counts1;
 }
 

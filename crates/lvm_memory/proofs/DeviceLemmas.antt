@@ -1,7 +1,7 @@
 -- What a cut by a word leaves is some crash image.
 use Rattle.std.proofs.Common.{◌≡◌, ◌⊎◌, inl, inr, ⊎_elim, ◌+◌, ◌-◌, [], ◌∷◌, ℕ, List, Bool, true, false, cond, Option, Some, None, unwrap_or, refl, sym, ◌∙◌, ap, subst}
 use Rattle.lvm_num.specs.Buffer.{Buffer, Sector}
-use Rattle.lvm_disk.specs.Device.{Media, Flight, Device, written, IsInFlight, IsTorn}
+use Rattle.lvm_disk.specs.Device.{Media, Flight, Device, Orders, written, IsInFlight, IsTorn}
 use Rattle.lvm_disk.specs.Counts.{Counts}
 use Rattle.lvm_disk.specs.Steps.{PutsSome}
 use Rattle.lvm_memory.specs.Media.{picks, written_by, cut_by}
@@ -32,8 +32,8 @@ torn_like word flights m n is d s = subst (λ (x : Sector). (x ≡ m d s) ⊎ Is
 
 -- a device that was cut, part by part
 pub darkened :
-    (d : Device) (sizes : List ℕ) (media : Media) (flights : List Flight) (freed gave : List Buffer) (counts : Counts) → sizes ≡ d.sizes → flights ≡ [] → freed ≡ gave
-    → counts ≡ record d.counts { cuts = counts.cuts }
-    → record d { sizes = sizes; media = Some media; flights = flights; freed = freed; power = false; counts = counts }
+    (d : Device) (sizes : List ℕ) (media : Media) (flights : List Flight) (freed gave : List Buffer) (counts : Counts) (orders : Orders) → sizes ≡ d.sizes → flights ≡ [] → freed ≡ gave
+    → counts ≡ record d.counts { cuts = counts.cuts } → orders ≡ d.orders
+    → record d { sizes = sizes; media = Some media; flights = flights; freed = freed; power = false; counts = counts; orders = orders }
     ≡ record d { media = Some media; flights = []; freed = gave; power = false; counts = record d.counts { cuts = counts.cuts } }
-darkened d sizes media flights freed gave counts same none frees counted = λ i. record d { sizes = same i; media = Some media; flights = none i; freed = frees i; power = false; counts = counted i }
+darkened d sizes media flights freed gave counts orders same none frees counted ordered = λ i. record d { sizes = same i; media = Some media; flights = none i; freed = frees i; power = false; counts = counted i; orders = ordered i }

@@ -1,5 +1,5 @@
 -- A flight ends in memory.
-use Rattle.std.proofs.Common.{◌≡◌, ◌⊎◌, ℕ, List, Bool, true, false, Option, Some, slice_get, IfSome, length, refl, sym, ◌∙◌, ap, subst, arith}
+use Rattle.std.proofs.Common.{◌≡◌, ◌⊎◌, ℕ, List, Bool, true, false, Option, Some, slice_get, slice_index_or, IfSome, length, refl, sym, ◌∙◌, ap, subst, arith}
 use Rattle.std.specs.List.{remove}
 use Rattle.lvm_num.specs.Buffer.{Buffer, Sector}
 use Rattle.lvm_disk.specs.Device.{Media, Flight, Device, AreSectors, written}
@@ -46,8 +46,9 @@ put_like word f m n is d s = subst (λ (x : Sector). (x ≡ m d s) ⊎ (written 
 pub failed :
     (old : Device) (f : Flight) (place word : ℕ) (buf : Buffer) (m n : Media) (sizes : List ℕ) (flights : List Flight) (counts : Counts) → old.power ≡ true → old.media ≡ Some m
     → slice_get old.flights place ≡ Some f → sizes ≡ old.sizes → flights ≡ remove old.flights place → ((d s : ℕ) → n d s ≡ written_by word 0 f m d s) → buf ≡ f.buf → CountsFailure f old.counts counts
+    → IfSome old.orders.alone (λ ordered. slice_index_or ordered.failing f.disk false ≡ true)
     → EndsFailed old (record old { sizes = sizes; media = Some n; flights = flights; counts = counts }) f.ticket buf
-failed old f place word buf m n sizes flights counts on told there same less torn kept counted = record {
+failed old f place word buf m n sizes flights counts on told there same less torn kept counted ordered = record {
   flight = f;
   power = on;
   its = refl;
@@ -56,6 +57,7 @@ failed old f place word buf m n sizes flights counts on told there same less tor
   kept = λ writes. kept;
   number = ap (λ (b : Buffer). b.number) kept;
   counts = counted;
+  ordered = ordered;
   new_is = λ i. record old { sizes = same i; media = Some n; flights = flights; counts = counts };
 }
 

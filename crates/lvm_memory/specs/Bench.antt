@@ -1,9 +1,9 @@
 -- What a shelf in memory does beyond what every shelf does.
-use Rattle.std.specs.Prelude.{◌≡◌, ◌⊎◌, ℕ, ◌==◌, ◌++◌, Bool, true, false, List, [], ◌∷◌, length, replicate, Some, None, MatchOption, if◌then◌else◌, slice_get, slice_set}
+use Rattle.std.specs.Prelude.{◌≡◌, ◌⊎◌, ℕ, ◌==◌, ◌++◌, Bool, true, false, List, [], ◌∷◌, length, replicate, Option, Some, None, MatchOption, if◌then◌else◌, slice_get, slice_set}
 use Rattle.std.specs.List.{position, remove, AllByRecursion}
 use Rattle.lvm_num.specs.Buffer.{Sector}
-use Rattle.lvm_disk.specs.Device.{Flight, Range, Device}
-use Rattle.lvm_disk.specs.Steps.{BothTold, Cuts}
+use Rattle.lvm_disk.specs.Device.{Flight, Range, Ordered, Device}
+use Rattle.lvm_disk.specs.Steps.{BothTold, Cuts, ordered_by}
 use Rattle.lvm_memory.specs.Media.{media_of, sizes_of, cut_by, written_by}
 use Rattle.lvm_memory.specs.Flights.{passed}
 use Rattle.lvm_memory.specs.Tally.{counts_of}
@@ -27,7 +27,11 @@ pub record Bench : Type 0 where
   pub delays : List ℕ
   pub room : ℕ
 
--- a shelf that was just made
+-- what orders made of it, where it heeds them alone
+abbrev pub ordered_of : Bool → ℕ → List Bool → Option Ordered
+ordered_of heeds cuts failing = if heeds then Some (record { cuts = cuts; failing = failing }) else None
+
+-- a shelf that was just made; without a plan it heeds orders alone
 abbrev pub fresh_bench : List (List Sector) → List Planned → ℕ → Bench
 fresh_bench disks plan room = record {
   device = record {
@@ -38,7 +42,7 @@ fresh_bench disks plan room = record {
     power = true;
     counts = counts_of (record { starts = replicate (length disks) 0; misses = replicate (length disks) 0; faults = replicate (length disks) 0; cuts = 0; waits = 0 });
     arranges = true;
-    orders = record { made = 0; last = None };
+    orders = record { made = 0; last = None; alone = ordered_of (length plan == 0) 0 (replicate (length disks) false) };
     wrote = Some [];
   };
   injection = record { plan = plan; calls = 0; failing = replicate (length disks) false; pick = 0; delay = 0 };
@@ -46,9 +50,9 @@ fresh_bench disks plan room = record {
   room = room;
 }
 
--- another plan for the calls to come
+-- another plan for the calls to come; from now on the shelf doesn't heed orders alone
 abbrev pub with_plan : Bench → List Planned → Bench
-with_plan bench plan = record bench { injection = record bench.injection { plan = plan } }
+with_plan bench plan = record bench { device = record bench.device { orders = record bench.device.orders { alone = None } }; injection = record bench.injection { plan = plan } }
 
 -- ---- power cuts
 
@@ -56,6 +60,10 @@ with_plan bench plan = record bench { injection = record bench.injection { plan 
 pub record CutBy (word : ℕ) (old new : Device) : Type 0 where
   pub cuts : Cuts old new
   pub picked : BothTold old.media new.media (λ m n. (d s : ℕ) → n d s ≡ cut_by word 0 old.flights m d s)
+
+-- a device that is about to be cut; where it heeds orders alone, it was ordered
+abbrev pub let_cut : ℕ → Device → Device
+let_cut word device = record device { orders = record device.orders { alone = ordered_by device.power (arrange.Cut word) device.orders.alone } }
 
 -- the power was off already and nothing happens, or it is cut by the word
 abbrev pub DarkensBy : ℕ → Device → Device → Type 0

@@ -5,7 +5,7 @@ use Rattle.lvm_disk.specs.Device.{Device}
 use Rattle.lvm_memory.specs.Media.{media_of, sizes_of}
 use Rattle.lvm_memory.specs.Tally.{counts_of}
 use Rattle.lvm_memory.specs.Flights.{flights_of, delays_of}
-use Rattle.lvm_memory.specs.Bench.{Bench}
+use Rattle.lvm_memory.specs.Bench.{Bench, ordered_of}
 use Rattle.lvm_memory.specs.declared.memory.MemShelf.{MemShelf}
 
 -- the sectors of its disks
@@ -22,7 +22,7 @@ device_of s = record {
   power = s.power;
   counts = counts_of s.tally;
   arranges = true;
-  orders = record { made = s.orders; last = s.last };
+  orders = record { made = s.orders; last = s.last; alone = ordered_of s.heeds s.tally.cuts s.injector.failing };
   wrote = s.log.wrote;
 }
 

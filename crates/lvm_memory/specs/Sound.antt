@@ -3,7 +3,7 @@ use Rattle.std.specs.Prelude.{◌≡◌, ◌≤◌, ℕ, List, Bool, true, false
 use Rattle.lvm_num.specs.Buffer.{Sector}
 use Rattle.lvm_disk.specs.Device.{Flight, AreSectors}
 use Rattle.lvm_memory.specs.Media.{media_of, sizes_of}
-use Rattle.lvm_memory.specs.Flights.{AllLie}
+use Rattle.lvm_memory.specs.Flights.{AllLie, NoDelays}
 use Rattle.lvm_memory.specs.Tally.{Tallied}
 use Rattle.lvm_memory.specs.Injection.{Injection}
 
@@ -23,3 +23,9 @@ pub record IsSound (disks : List (List Sector)) (flights : List Flight) (freed f
   pub misses : length tally.misses ≡ length disks
   pub faults : length tally.faults ≡ length disks
   pub failing : length injection.failing ≡ length disks
+
+-- nothing is planned, and no flight is passed over
+pub record IsUnplanned (injection : Injection) (delays : List ℕ) : Type 0 where
+  pub plan : length injection.plan ≡ 0
+  pub next : injection.delay ≡ 0
+  pub out : NoDelays delays

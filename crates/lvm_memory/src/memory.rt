@@ -1,8 +1,8 @@
 //! A shelf of disks in memory, with faults by plan.
-ghost use Rattle.std.specs.Prelude.{◌≡◌, false, length, replicate, vec_capacity, IfOk};
+ghost use Rattle.std.specs.Prelude.{◌≡◌, true, false, length, replicate, vec_capacity, IfOk};
 ghost use Rattle.lvm_memory.specs.Flights.{flights_of, delays_of, NoDelays};
 ghost use Rattle.lvm_memory.specs.Injection.{NamesDisks};
-ghost use Rattle.lvm_memory.specs.Sound.{IsSound};
+ghost use Rattle.lvm_memory.specs.Sound.{IsSound, IsUnplanned};
 ghost use Rattle.std.proofs.Props.{props};
 
 use crate::cutting::cut_flights;
@@ -37,8 +37,11 @@ pub struct MemShelf {
     log: WriteLog,
     orders: u64,
     last: Option<Arrange>,
+    // Whether it does nothing but what it is ordered.
+    heeds: bool,
     ghost sound: { IsSound disks.items (flights_of flights.items) (length freed.items) (vec_capacity flights) (vec_capacity freed) power tally injector },
     ghost delays: { delayed ≡ false → NoDelays (delays_of flights.items) } by { Prim.hlevel props },
+    ghost heeding: { heeds ≡ true → IsUnplanned injector (delays_of flights.items) } by { Prim.hlevel props },
 }
 
 impl MemShelf {
@@ -49,7 +52,7 @@ impl MemShelf {
     ghost use Rattle.lvm_memory.specs.Injection.{NamesDisks};
     ghost use Rattle.lvm_memory.specs.Memory.{disks_of, device_of, bench_of};
     ghost use Rattle.lvm_disk.specs.Steps.{IsRange, Starts, StartGives, Waits, ReapGives};
-    ghost use Rattle.lvm_memory.specs.Bench.{fresh_bench, with_plan, DarkensBy, Begins, Departs, StartsAsPlanned, Passes, ReapsThen, ReapsAsPlanned};
+    ghost use Rattle.lvm_memory.specs.Bench.{fresh_bench, with_plan, let_cut, DarkensBy, Begins, Departs, StartsAsPlanned, Passes, ReapsThen, ReapsAsPlanned};
 
     /// Disks of zeros, of these numbers of sectors. `log` is the number of writes that are told by their
     /// ranges; once one more was started, none is told.
@@ -96,6 +99,7 @@ impl MemShelf {
         ensures disks { IfOk result (λ shelf. disks_of shelf ≡ disks.items) }
     {
         let count = disks.len();
+        let heeds = plan.len() == 0;
         let (flights, freed, log) = rooms(alloc, log)?;
         let (tally, injector) = counters(alloc, count, plan)?;
         Ok(MemShelf {
@@ -109,6 +113,7 @@ impl MemShelf {
             log,
             orders: 0,
             last: None,
+            heeds,
         })
     }
 
@@ -136,17 +141,19 @@ impl MemShelf {
         self.injector.calls()
     }
 
-    /// Replaces the plan. Calls are counted on, and what was done stays done.
+    /// Replaces the plan. Calls are counted on, and what was done stays done. From now on the device tells
+    /// no more that it heeds orders alone.
     pub fn set_plan(&mut self, plan: Rows<Planned>)
         requires { NamesDisks (length (disks_of self.old)) plan }
         ensures { bench_of self.new ≡ with_plan (bench_of self.old) plan }
     {
         self.injector.set_plan(plan);
+        self.heeds = false;
     }
 
     // Cuts the power, where it is on.
     fn cut(&mut self, word: u64)
-        ensures dark { DarkensBy word (device_of self.old) (device_of self.new) }
+        ensures dark { DarkensBy word (let_cut word (device_of self.old)) (device_of self.new) }
         ensures off { (device_of self.new).power ≡ false }
         ensures rest { bench_of self.new ≡ record (bench_of self.old) { device = device_of self.new; delays = [] } }
     {

@@ -86,6 +86,7 @@ impl Tally {
         requires faults { flying.now.disk < length self.old.faults }
         ensures counted { CountsFailure (flight_of flying.now) (counts_of self.old) (counts_of self.new) }
         ensures starts { self.new.starts ≡ self.old.starts }
+        ensures cuts { self.new.cuts ≡ self.old.cuts }
         ensures misses { length self.new.misses ≡ length self.old.misses }
         ensures faults { length self.new.faults ≡ length self.old.faults }
     {
@@ -99,6 +100,7 @@ impl Tally {
     /// The power was cut.
     pub fn count_cut(&mut self)
         ensures rose { Rose self.old.cuts self.new.cuts }
+        ensures once { self.new.cuts ≡ next_count self.old.cuts }
         ensures same { self.new ≡ record self.old { cuts = self.new.cuts } }
     {
         self.cuts = self.cuts.saturating_add(1);

@@ -61,7 +61,7 @@ pub data IsMade (log : Log) (room : Room) (group volume : List ℕ) (first : Scr
 abbrev pub HasAsked : (group volume : List ℕ) (asked now : ℕ) → Type 0
 HasAsked group volume asked now = (now ≡ asked_after (line_of group) asked) ⊎ (now ≡ asked_after (line_of volume) (asked_after (line_of group) asked))
 
--- at most one group has a quorum among all disks where the lines enter a volume's making
+-- whatever any disks find is of one group where the lines enter a volume's making
 abbrev pub AreMadeAlone : {log : Log} {room : Room} {group volume : List ℕ} {first : ScriptState} {answer : Reply} {last : ScriptState}
     → IsMade log room group volume first answer last → Type 0
 AreMadeAlone {group = group} {first = first} {last = last} (NoGroup not does) = IsAlone (role_of (line_of group)) first last
@@ -222,7 +222,7 @@ pub record IsWoven (disks mib : ℕ) (load : Workload) (r : Run) : Type 0 where
   pub goes : IfSome r.history (λ log. GoesWoven disks mib load r)
   pub power : r.exit.power ≡ true
 
--- At most one group has a quorum among all disks where a volume is made, and where requests are, and none of its volumes is in mode passive.
+-- Whatever any disks find is of one group where a volume is made, and where requests are, and none of its volumes is in mode passive.
 abbrev pub IsWovenAlone : {disks mib : ℕ} {load : Workload} {r : Run} → GoesWoven disks mib load r → Type 0
 IsWovenAlone {r = r} goes = AreMadeAlone goes.made × IsAlone OfRequests goes.end (exit_state r.exit r.history goes.end)
 

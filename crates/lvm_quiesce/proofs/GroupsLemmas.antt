@@ -7,7 +7,7 @@ use Rattle.lvm_vol.specs.Log.{Log, spare_entries}
 use Rattle.lvm_kept.specs.Moments.{StaysCalm}
 use Rattle.lvm_steps.specs.Moments.{Keeps}
 use Rattle.lvm_steps.specs.Requests.{at}
-use Rattle.lvm_steps.proofs.MomentsLemmas.Spans.{keeps_still, keeps_steps, spans_join}
+use Rattle.lvm_steps.proofs.MomentsLemmas.Spans.{fewer_stay_kept, keeps_still, keeps_steps, spans_join}
 use Rattle.lvm_steps.proofs.LawsLemmas.Clock.{all_is_behind_next}
 use Rattle.lvm_write.specs.Parts.{Spends}
 use Rattle.lvm_write.proofs.PartsLemmas.Transfers.{rose_then, spends_none, spends_then}
@@ -28,7 +28,7 @@ use Rattle.lvm_quiesce.specs.Ends.{Quiesces}
 use Rattle.lvm_quiesce.specs.Groups.{StaysOut, GivesOnceQuiet, StayedOut, WentQuiet, MkvgOnceQuiet, VaryonOnceQuiet, BringsOnEach, IsStartedEach, CauseRose}
 use Rattle.lvm_quiesce.specs.declared.ends.Quiesced.TheVariants as quiesced
 use Rattle.lvm_quiesce.proofs.LawsLemmas.Behind.{fewer_is_ahead, quiet_is_ahead}
-use Rattle.lvm_quiesce.proofs.LawsLemmas.Ending.{ends_leave_no_more, ends_path, ends_only, gives_path}
+use Rattle.lvm_quiesce.proofs.LawsLemmas.Ending.{ends_leave, ends_leave_no_more, ends_path, ends_only, gives_path}
 
 -- ---- whatever the answer
 
@@ -78,7 +78,7 @@ module _ (old mid : Device) (quiet : Quiesces old mid) (run moment before left :
     numbers = starts.numbers;
     left = starts.left;
     faults = faults;
-    held = λ clock. starts.held (quiet_is_ahead run moment old mid was.facts quiet clock);
+    held = λ facts clock kept. starts.held facts (quiet_is_ahead run moment old mid was.facts quiet clock) (fewer_stay_kept old mid (ends_leave quiet.ends) facts kept);
   }
 
   -- what has risen since then has risen since before

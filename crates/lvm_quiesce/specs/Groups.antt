@@ -2,9 +2,10 @@
 use Rattle.std.specs.Prelude.{◌≡◌, ◌⊎◌, ◌+◌, ◌≤◌, ℕ, List, Result, Ok, Err}
 use Rattle.lvm_disk.specs.Counts.{Rose, RoseBy, Counts}
 use Rattle.lvm_disk.specs.Device.{Device}
+use Rattle.lvm_vol.specs.Facts.{Fact}
 use Rattle.lvm_vol.specs.Log.{Log, spare_entries, cut_log}
 use Rattle.lvm_kept.specs.Moments.{StaysCalm}
-use Rattle.lvm_steps.specs.Moments.{Keeps}
+use Rattle.lvm_steps.specs.Moments.{ImagesKept, Keeps}
 use Rattle.lvm_steps.specs.Requests.{at}
 use Rattle.lvm_steps.specs.Behind.{IsBehind}
 use Rattle.lvm_write.specs.Parts.{Spends}
@@ -71,13 +72,13 @@ pub record BringsOnEach (run moment before after : ℕ) (old new : Device) (was 
   pub spends : Spends before after old new
 
 -- The session that begins is settled, with numbers enough for its records, leaves no copy behind and counts faults from those that there are; where the clock
--- is ahead of each crash image its disks hold what it says.
+-- is ahead of each crash image and these kept some history before, its disks hold what it says.
 pub record IsStartedEach (run moment : ℕ) (old : Device) (was : Log) (new : State) : Type 0 where
   pub settled : IsSettled new.core
   pub numbers : HasSpareNumbers new.core
   pub left : NoneIsLeft new.core.descriptor new.core.status
   pub faults : AreFaults new.device new.core.origin.faults
-  pub held : ClockIsAheadEach run moment old was.facts → StartsHeld new.device new.core
+  pub held : (facts : List Fact) → ClockIsAheadEach run moment old was.facts → ImagesKept old facts → StartsHeld new.device new.core
 
 -- what has risen where no group comes on for this
 abbrev pub CauseRose : ℕ → Counts → Counts → Cause → Type 0

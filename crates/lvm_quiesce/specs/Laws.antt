@@ -33,7 +33,7 @@ EndsGoOn = OverEnds (λ old new. (run : ℕ) (first : Moment) (facts : List Fact
 abbrev pub EndsStayBehind : Type 0
 EndsStayBehind = OverEnds (λ old new. (moment : ℕ) → IsBehindEach moment old → IsBehindEach moment new)
 
--- and on none two groups come to have a quorum among all disks.
+-- and what any disks find stays of one group.
 abbrev pub EndsStayOne : Type 0
 EndsStayOne = OverEnds (λ old new. IsOneFoundOn old → IsOneFoundOn new)
 

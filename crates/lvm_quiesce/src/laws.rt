@@ -3,7 +3,7 @@
 ghost use Rattle.lvm_quiesce.specs.Laws.{EndsLeaveNoMore, EndsStayKept, EndsGoOn, EndsStayBehind, EndsStayOne, EndsStartNothing, StillIsAtRest, StillIsBehindEach, EachIsBehind, LaterIsBehindEach, StillIsAheadEach, QuietIsAhead};
 
 /// Transfers that end, and a power cut meanwhile, only make fewer crash images. So what these are kept with they stay
-/// kept with, spans go on, stamps stay before a moment, and two groups don't come to have a quorum among all disks.
+/// kept with, spans go on, stamps stay before a moment, and what any disks find stays of one group.
 pub fn ends_leave_no_more()
     ensures fewer { EndsLeaveNoMore }
     ensures kept { EndsStayKept }

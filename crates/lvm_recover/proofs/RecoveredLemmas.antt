@@ -150,10 +150,12 @@ module _ (old begun copied new : Contents) (ranges : List Range) (disks : Disks)
 
   consistent : (facts : List Fact) → Kept old facts → (row : LvRow) (lp b : ℕ) → IsOneOf group.lvs row → IsBlockOf group.mib row lp b → (row.mode ≡ Off → ⊥) → HoldOne new group.mib (fresh new disks id row lp) b
   consistent facts kept row lp b one inside on =
-      let stands_is = is.stands in
-      let shows = is.shows in
+      let begun_kept = is.keeps facts kept in
+      let shown = is.shows facts begun_kept in
+      let stands_is = shown.1 in
+      let shows = shown.0 in
       let hold : HoldOne copied group.mib (fresh_on there (Some shows.stands) row lp) b =
-      even_there group next.value there begun facts is.within is.enough shows (is.keeps facts kept) copied is.valid
+      even_there group next.value there begun facts is.within is.enough shows begun_kept copied is.valid
       (subst (λ (s : Stamped Status). IsRecopied begun group (Some s) there copied) (sym stands_is) is.copied_so)
       row lp b one (subst (λ (s : Stamped Status). AreEqualled begun group (Some s) there copied) (sym stands_is) is.equalled row lp b one inside) on inside in
       let by_next : HoldOne copied group.mib (fresh_on there (Some next) row lp) b = subst (λ (s : Stamped Status). HoldOne copied group.mib (fresh_on there (Some s) row lp) b) stands_is hold in

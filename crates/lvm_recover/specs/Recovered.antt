@@ -31,8 +31,8 @@ pub record Recovers (old begun copied new : Contents) (ranges : List Range) (dis
   pub same_voters : (d : ℕ) → is_voter begun disks group.id d ≡ is_voter old disks group.id d
   pub same_notes : (d lv track_group : ℕ) → IsTrue (is_voter old disks group.id d) → is_named begun d lv track_group ≡ is_named old d lv track_group
   pub enough : CanWrite group (is_voter old disks group.id)
-  pub shows : ShowsCommitted begun group restated.status.value (is_voter old disks group.id)
-  pub stands : shows.stands ≡ restated.status
+  -- where they kept a history, they show this status as the committed one
+  pub shows : (facts : List Fact) → Kept begun facts → (is : ShowsCommitted begun group restated.status.value (is_voter old disks group.id)) × (is.stands ≡ restated.status)
   pub copied_so : IsRecopied begun group (Some restated.status) (is_voter old disks group.id) copied
   pub equalled : AreEqualled begun group (Some restated.status) (is_voter old disks group.id) copied
   pub emptied : OnlyNotesOf (is_voter old disks group.id) copied new

@@ -6,9 +6,10 @@ use Rattle.lvm_num.specs.Buffer.{Buffer}
 use Rattle.lvm_num.specs.Disks.{Disks}
 use Rattle.lvm_disk.specs.Device.{Device, image_of}
 use Rattle.lvm_disk.specs.Paths.{DeviceStep, Path}
+use Rattle.lvm_kept.specs.passed.Names.{Fact}
 use Rattle.lvm_kept.specs.Contents.{contents_of}
 use Rattle.lvm_kept.specs.Torn.{IsOfNote}
-use Rattle.lvm_recover.specs.passed.Names.{StaysKept}
+use Rattle.lvm_recover.specs.passed.Names.{ImagesKept, StaysKept}
 use Rattle.lvm_write.specs.Notes.{empty_note_sector, NoteTold}
 use Rattle.lvm_write.specs.declared.begin.Begun.{Begun}
 use Rattle.lvm_write.specs.declared.begin.Begun.TheVariants as begun
@@ -40,7 +41,7 @@ pub record MayEqualise (copies : List Recopy) (targets : Disks) (group : Descrip
   pub planned : ArePlanned (contents_of (image_of device.sizes may.media)) group (Some may.shows.stands) there copies
   pub targets_there : (d : ℕ) → IsTrue (targets d) → IsTrue (there d)
 
--- then what was kept is kept at each moment of it, whatever becomes of it
+-- then what was kept is kept at each moment of it, whatever becomes of it; that it may be done may follow from what was kept
 abbrev pub EqualisedStaysKept : List Recopy → Disks → Device → Device → Type 0
 EqualisedStaysKept copies targets old new =
-    (group : Descriptor) (status : Status) (there : Disks) → IfSome old.media (λ media. MayEqualise copies targets group status there old) → Path DeviceStep (StaysKept old) old new
+    (group : Descriptor) (status : Status) (there : Disks) → IfSome old.media (λ media. (facts : List Fact) → ImagesKept old facts → MayEqualise copies targets group status there old) → Path DeviceStep (StaysKept old) old new

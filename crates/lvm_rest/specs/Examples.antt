@@ -71,7 +71,7 @@ device_of pair = record {
   power = true;
   counts = record { starts = λ d. 0; misses = λ d. 0; faults = λ d. 0; cuts = 0; waits = 0 };
   arranges = true;
-  orders = record { made = 0; last = None };
+  orders = record { made = 0; last = None; alone = None };
   wrote = None;
 }
 

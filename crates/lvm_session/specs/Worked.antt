@@ -280,7 +280,7 @@ faultless = record {
   power = true;
   counts = record { starts = λ d. 0; misses = λ d. 0; faults = λ d. 0; cuts = 0; waits = 0 };
   arranges = false;
-  orders = record { made = 0; last = None };
+  orders = record { made = 0; last = None; alone = None };
   wrote = None;
 }
 

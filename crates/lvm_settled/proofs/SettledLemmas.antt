@@ -31,7 +31,7 @@ settled_is_good votes past s media known v are carried view =
     (record {
       legal = subst Legal (sym view.facts) known.holds.legal;
       kept = subst (Kept (contents_of image)) (sym view.facts) (known.holds.kept image may);
-      alone = λ disks id g f. inl (one_is_only (contents_of image) all_disks s.core.descriptor (images_within image) (known.holds.kept image may).lasting.alike (known.only image may) known.held.shows.found id g (disks, f));
+      alone = λ disks id g f. inl (one_is_only (contents_of image) s.core.descriptor (known.only image may) (all_disks, known.held.shows.found) id g (disks, f));
       even = carried.even;
       behind = carried.behind;
     })

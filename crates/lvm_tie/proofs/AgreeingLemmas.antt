@@ -36,6 +36,7 @@ use Rattle.lvm_tie.specs.Tied.{IsTied}
 use Rattle.lvm_tie.proofs.StateLemmas.{stale_seen, there_first}
 use Rattle.lvm_tie.proofs.AmongLemmas.{not_true}
 use Rattle.lvm_tie.specs.Agreeing.{AgreeWith, IsCalm, IsLiveOn, IsSettledAt, IsUsableOf, LiveAgree, goes_over, has_started, stands_at}
+use Rattle.lvm_tie.proofs.SeenLemmas.Beside.{plain_copies}
 
 and_self : (a : Bool) → a && true ≡ a && a
 and_self true = refl
@@ -70,14 +71,14 @@ module _ (past : List Fact) (s : State) (tied : IsTied past s) where
   settled_same : (p : Pp) → is_settled_stale v p ≡ is_settled core p
   settled_same p = (λ t. stale_seen past s tied p t && stale_in (tied.sees.status.in_flight t) p) ∙ by core.status.in_flight
     where
-      by : (u : Option Status) → is_stale core p && stale_in (option_map as_marks (option_map (λ (t : Status). let r : Stamped Status = record { stamp = core.status.stamp; value = t } in r) u)) p
+      by : (u : Option Status) → is_stale core p && stale_in (option_map (as_marks None) (option_map (λ (t : Status). let r : Stamped Status = record { stamp = core.status.stamp; value = t } in r) u)) p
           ≡ is_stale core p && calls_stale (unwrap_or u core.status.committed) p
       by (Some u) = refl
       by None = and_self (is_stale core p)
 
   module _ (row : LvRow) (lp b : ℕ) (at : IsSettledAt past core row lp b) where
     live : (p : Pp) → IsLiveOn shown core row lp p → Live v row.number b p
-    live p it = record { copy = (tied.describes.volumes.copies row lp b p at.volume at.inside).1 (it.copy, it.shows); counts = inl (settled_same p ∙ it.fresh) }
+    live p it = record { copy = (plain_copies tied.sees.beside tied.describes.volumes row lp b p at.volume at.inside).1 (it.copy, it.shows); counts = inl (settled_same p ∙ it.fresh) }
 
     usable_live : (c : Pp) → IsUsableOf core row lp c → IsLiveOn shown core row lp c
     usable_live c it =

@@ -25,6 +25,7 @@ use Rattle.lvm_crash.proofs.OwnedLemmas.{covered}
 use Rattle.lvm_tie.specs.Tied.{IsTied}
 use Rattle.lvm_tie.proofs.StateLemmas.{IsOfItsPartition, found_any}
 use Rattle.lvm_tie.proofs.TiedLemmas.Orderly.{valid_of}
+use Rattle.lvm_tie.proofs.SeenLemmas.Beside.{plain_copies}
 
 module _ (past : List Fact) (s : State) (tied : IsTied past s) (c : OpenCopy) (its : IsOfItsPartition s.core c) (less : c.cursor < groups_of s.core) where
   abbrev core : Core
@@ -67,8 +68,8 @@ module _ (past : List Fact) (s : State) (tied : IsTied past s) (c : OpenCopy) (i
 
   copies : (k : ℕ) → k < 256 → (p : Pp) → v.is_copy c.lv (first + k) p ≡ v.is_copy c.lv first p
   copies k lt p =
-      let here = tied.describes.volumes.copies its.row c.lp (first + k) p row_one (block k lt) in
-      let there = tied.describes.volumes.copies its.row c.lp first p row_one first_block in
+      let here = plain_copies tied.sees.beside tied.describes.volumes its.row c.lp (first + k) p row_one (block k lt) in
+      let there = plain_copies tied.sees.beside tied.describes.volumes its.row c.lp first p row_one first_block in
       subst (λ n. v.is_copy n (first + k) p ≡ v.is_copy n first p) row_number
       (same_meaning (v.is_copy its.row.number (first + k) p) (v.is_copy its.row.number first p) here.0 here.1 there.0 there.1)
 
@@ -82,7 +83,7 @@ module _ (past : List Fact) (s : State) (tied : IsTied past s) (c : OpenCopy) (i
   -- a copy of its logical partition on a member that wasn't missing at first is one of each of the blocks
   pub one_is_copy_of : (p : Pp) → IsOneOf (copies_of its.row c.lp) p → is_member group p.disk ≡ true → calls_missing core.origin.table p.disk ≡ false → IsTrue (v.is_copy c.lv first p)
   one_is_copy_of p one member there =
-      subst (λ n. IsTrue (v.is_copy n first p)) row_number ((tied.describes.volumes.copies its.row c.lp first p row_one first_block).1 (one, tied.recorded.members p.disk member there))
+      subst (λ n. IsTrue (v.is_copy n first p)) row_number ((plain_copies tied.sees.beside tied.describes.volumes its.row c.lp first p row_one first_block).1 (one, tied.recorded.members p.disk member there))
 
   -- a step of them lies where a request may lie
   pub step_placed : (q : Queued) → q.lv ≡ c.lv → q.first ≡ first → q.count ≡ 256 → IsPlaced v q
@@ -97,7 +98,7 @@ module _ (past : List Fact) (s : State) (tied : IsTied past s) (c : OpenCopy) (i
     inside = λ lv b over.
         let at = behind lv b over in
         let there = tied.describes.volumes.some its.row c.lp row_one its.lp in
-        let is = (tied.describes.volumes.copies its.row c.lp (first + at.0) there.0 row_one (block at.0 at.1)).1 (there.1, there.2) in
+        let is = (plain_copies tied.sees.beside tied.describes.volumes its.row c.lp (first + at.0) there.0 row_one (block at.0 at.1)).1 (there.1, there.2) in
         (there.0, subst (λ n. IsTrue (v.is_copy n b there.0)) (row_number ∙ sym lv_is ∙ sym at.3) (subst (λ n. IsTrue (v.is_copy its.row.number n there.0)) (sym at.2) is));
   }
     where

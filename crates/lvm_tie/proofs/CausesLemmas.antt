@@ -48,6 +48,7 @@ use Rattle.lvm_tie.proofs.StateLemmas.{copy_is, missing_seen, stale_seen, wanted
 use Rattle.lvm_tie.proofs.TiedLemmas.Orderly.{valid_of}
 use Rattle.lvm_tie.specs.Causes.{AreFaultsOf, CausesAreSeen, FaultsAreThere}
 use Rattle.lvm_tie.specs.Landings.{FailuresAreCaused, HadNone, HasCausesSince, HasLandedFor, IsEntryCaused}
+use Rattle.lvm_tie.proofs.SeenLemmas.Beside.{plain_copies}
 
 -- ---- small
 
@@ -167,10 +168,10 @@ module _ (past first : List Fact) (s : State) (w : Faults) (tied : IsTied past s
   in_flight_is : (c : Pp) (u : Stamped Marks) → v.in_flight ≡ Some u → IsTrue (u.value.stale c) → HasCause w c
   in_flight_is c u flies is = by core.status.in_flight refl (sym tied.sees.status.in_flight ∙ flies)
     where
-      by : (m : Option Status) → core.status.in_flight ≡ m → option_map as_marks (option_map (λ (t : Status). let r : Stamped Status = record { stamp = core.status.stamp; value = t } in r) m) ≡ Some u → HasCause w c
+      by : (m : Option Status) → core.status.in_flight ≡ m → option_map (as_marks None) (option_map (λ (t : Status). let r : Stamped Status = record { stamp = core.status.stamp; value = t } in r) m) ≡ Some u → HasCause w c
       by None none e = absurd (cc e)
       by (Some t) some e =
-          let same : as_marks (record { stamp = core.status.stamp; value = t }) ≡ u = cc e in
+          let same : as_marks None (record { stamp = core.status.stamp; value = t }) ≡ u = cc e in
           of_flight c (ap (λ (o : Option Status). calls_stale (unwrap_or o core.status.committed) c) some ∙ ap (λ (x : Stamped Marks). x.value.stale c) same ∙ is)
 
   brought_up_is : (o : ModelCopy) → v.open_copy ≡ Some o → HasCause w o.target
@@ -249,7 +250,7 @@ module _ (past first : List Fact) (s : State) (w : Faults) (tied : IsTied past s
   had_none : (r : Asked) → HadNone core r → HadNoCopy w v r
   had_none r had lv b c over copy =
       let block = tied.describes.volumes.inside lv b c copy in
-      let one = ((tied.describes.volumes.copies block.row block.lp b c block.volume block.inside).0 (subst (λ n. IsTrue (v.is_copy n b c)) (sym block.number) copy)).0 in
+      let one = ((plain_copies tied.sees.beside tied.describes.volumes block.row block.lp b c block.volume block.inside).0 (subst (λ n. IsTrue (v.is_copy n b c)) (sym block.number) copy)).0 in
       let found : volume_of core.descriptor lv ≡ Some block.row = subst (λ n. volume_of core.descriptor n ≡ Some block.row) block.number (number_finds core.descriptor block.row (valid_of s tied.write tied.orderly) block.volume) in
       let copies : copies_in core.descriptor lv (partition_of core.descriptor.mib b) ≡ copies_of block.row block.lp
       = ap (λ (m : Option LvRow). option_map_or (λ (row : LvRow). copies_of row (partition_of core.descriptor.mib b)) m []) found ∙ ap (copies_of block.row) block.inside.partition in

@@ -430,7 +430,7 @@ module _ (past : List Fact) (old new : State) (index : ℕ) (ends : Ends old new
           clash_gives (calls_stale old.core.status.committed stays.keeper.pp) (ap (calls_stale old.core.status.committed) m.same ∙ stale) keeper_fresh
 
   module _ (status : Stored) (wants : WantsStale due core2.status status) where
-    from_target : (p : Pp) → IsTargets p → Replaced w (marks_of status.wanted) p
+    from_target : (p : Pp) → IsTargets p → Replaced w (marks_of None status.wanted) p
     from_target p x = record {
       lv = lv_of o.request.ask;
       block = at_of o.request.ask;
@@ -441,10 +441,10 @@ module _ (past : List Fact) (old new : State) (index : ℕ) (ends : Ends old new
       kept = wants.stale stays.keeper.pp ∙ (λ k. keeper_wanted k || (keeper_not_due k || keeper_not_marked k));
     }
 
-    replaced : (p : Pp) → due p ≡ true → IsTrue (w.wanted.stale p) ⊎ Replaced w (marks_of status.wanted) p ⊎ ((lv b : ℕ) → IsTrue (w.is_copy lv b p) → ⊥)
+    replaced : (p : Pp) → due p ≡ true → IsTrue (w.wanted.stale p) ⊎ Replaced w (marks_of None status.wanted) p ⊎ ((lv b : ℕ) → IsTrue (w.is_copy lv b p) → ⊥)
     replaced p is = ⊎_elim
         (λ among. inr (inl (from_target p (due_one p among))))
-        (λ mark. let m = marked p mark in inr (inl (subst (Replaced w (marks_of status.wanted)) (sym m.same) (from_target m.its_hit.copy.pp m.its_hit.target))))
+        (λ mark. let m = marked p mark in inr (inl (subst (Replaced w (marks_of None status.wanted)) (sym m.same) (from_target m.its_hit.copy.pp m.its_hit.target))))
         (or_either (is_among (due_of core2 o2.request) p) (marked_by_end core2 how p) is)
 
     -- one that ends is wanted stale
@@ -476,7 +476,7 @@ module _ (past : List Fact) (old new : State) (index : ℕ) (ends : Ends old new
     open_there None x is = good_w.sound.statuses.open_there x is
     open_there (Some h) x is = absurd (cc is)
 
-    may_want : Wants w (marks_of status.wanted) w.missing (open_after how v.open_copy)
+    may_want : Wants w (marks_of None status.wanted) w.missing (open_after how v.open_copy)
     may_want = record {
       missing_still = λ d is. is;
       still = still;
@@ -488,10 +488,10 @@ module _ (past : List Fact) (old new : State) (index : ℕ) (ends : Ends old new
     }
 
     abbrev event : Event
-    event = Want (marks_of status.wanted) w.missing (open_after how v.open_copy)
+    event = Want (marks_of None status.wanted) w.missing (open_after how v.open_copy)
 
     abbrev w1 : ModelState
-    w1 = after_wants w (marks_of status.wanted) w.missing (open_after how v.open_copy)
+    w1 = after_wants w (marks_of None status.wanted) w.missing (open_after how v.open_copy)
 
     abbrev core3 : Core
     core3 = record core2 { status = status }

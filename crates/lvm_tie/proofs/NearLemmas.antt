@@ -136,6 +136,7 @@ module _ (past : List Fact) (device : Device) (core : Core) (how : CopyEnd) (nea
     notes = near.sees.notes;
     open_copy = none;
     step_write = write_out;
+    beside = near.sees.beside;
   }
 
   carries_out : (g : Flight) (o : Owner) → CarriesStep core v g o → CarriesStep core_out v g o
@@ -226,6 +227,7 @@ module _ (past : List Fact) (device : Device) (core : Core) (how : CopyEnd) (nea
     notes = near.sees.notes;
     open_copy = none;
     step_write = write_in out;
+    beside = near.sees.beside;
   }
 
   -- it leaves
@@ -302,6 +304,7 @@ module _ (past : List Fact) (device : Device) (core : Core) (how : CopyEnd) (nea
       notes = near.sees.notes;
       open_copy = none;
       step_write = write_in out;
+      beside = near.sees.beside;
     }
 
   pub ended_ties : IsOrderly (state device (with_end core (Some how))) near.write → IsTied past (state device (with_end core (Some how)))

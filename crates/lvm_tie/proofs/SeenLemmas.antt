@@ -1,3 +1,4 @@
+pub mod Beside
 pub mod Changing
 pub mod Entered
 pub mod CopySteps

@@ -46,6 +46,7 @@ use Rattle.lvm_tie.specs.Tied.{IsTied}
 use Rattle.lvm_session.specs.Marks.{is_among}
 use Rattle.lvm_session.specs.Requests.{IsTarget}
 use Rattle.lvm_session.specs.Sound.{IsCopy}
+use Rattle.lvm_tie.proofs.SeenLemmas.Beside.{plain_copies}
 
 pub found_any : (rows : List PvRow) (disk : ℕ) (row : PvRow) → find (λ (r : PvRow). r.disk == disk) rows ≡ Some row → list_any (λ (r : PvRow). r.disk == disk) rows ≡ true
 found_any [] disk row is = absurd cc
@@ -111,7 +112,7 @@ module _ (past : List Fact) (s : State) (tied : IsTied past s) where
       (λ t. stale_seen p t && stale_in (tied.sees.status.in_flight t) p) ∙ by core.status.in_flight both
     where
       by : (u : Option Status) → IsTrue (calls_stale core.status.committed p) × IsTrue (calls_stale (unwrap_or u core.status.committed) p)
-          → IsTrue (is_stale core p && stale_in (option_map as_marks (option_map (λ (t : Status). let r : Stamped Status = record { stamp = core.status.stamp; value = t } in r) u)) p)
+          → IsTrue (is_stale core p && stale_in (option_map (as_marks None) (option_map (λ (t : Status). let r : Stamped Status = record { stamp = core.status.stamp; value = t } in r) u)) p)
       by None both = λ t. both.0 t && true
       by (Some u) both = λ t. both.0 t && both.1 t
 
@@ -157,10 +158,10 @@ module _ (past : List Fact) (s : State) (tied : IsTied past s) where
     block = record { inside = lp_inside; partition = refl }
 
     pub copy_is_one : (p : Pp) → IsTrue (v.is_copy (lv_of ask) (at_of ask) p) → IsOneOf (copies_for core ask) p
-    copy_is_one p copy = subst (λ (ps : List Pp). IsOneOf ps p) (sym copies_are) ((tied.describes.volumes.copies inside.row lp (at_of ask) p row_one block).0 (subst (λ n. IsTrue (v.is_copy n (at_of ask) p)) (sym row_number) copy)).0
+    copy_is_one p copy = subst (λ (ps : List Pp). IsOneOf ps p) (sym copies_are) ((plain_copies tied.sees.beside tied.describes.volumes inside.row lp (at_of ask) p row_one block).0 (subst (λ n. IsTrue (v.is_copy n (at_of ask) p)) (sym row_number) copy)).0
 
     pub one_is_copy : (p : Pp) → IsOneOf (copies_for core ask) p → IsTrue (members p.disk) → IsTrue (v.is_copy (lv_of ask) (at_of ask) p)
-    one_is_copy p one member = subst (λ n. IsTrue (v.is_copy n (at_of ask) p)) row_number ((tied.describes.volumes.copies inside.row lp (at_of ask) p row_one block).1 (subst (λ (ps : List Pp). IsOneOf ps p) copies_are one, member))
+    one_is_copy p one member = subst (λ n. IsTrue (v.is_copy n (at_of ask) p)) row_number ((plain_copies tied.sees.beside tied.describes.volumes inside.row lp (at_of ask) p row_one block).1 (subst (λ (ps : List Pp). IsOneOf ps p) copies_are one, member))
 
     of_group : (p : Pp) → IsOneOf (copies_for core ask) p → IsCopyOf group (lv_of ask) (at_of ask) p
     of_group p one = record { row = inside.row; lp = lp; volume = row_one; number = row_number; inside = block; copy = subst (λ (ps : List Pp). IsOneOf ps p) copies_are one }

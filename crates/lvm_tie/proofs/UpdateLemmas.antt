@@ -80,8 +80,8 @@ missing_then disk false old new wants d there = by (d == disk) (sym (wants.missi
     by true h = absurd (cc h)
     by false h = h
 
-pub marks_then : (disk : ℕ) (ok : Bool) (old new : Status) → WantsAtEnd disk ok old new → marks_of new ≡ marks_of old
-marks_then disk true old new wants = ap marks_of wants
+pub marks_then : (disk : ℕ) (ok : Bool) (old new : Status) → WantsAtEnd disk ok old new → marks_of None new ≡ marks_of None old
+marks_then disk true old new wants = ap (marks_of None) wants
 marks_then disk false old new wants = λ t. record { stale = λ p. wants.stale p t; dirty = λ lv. list_any (λ n. n == lv) (wants.dirty t) }
 
 -- ---- all of it

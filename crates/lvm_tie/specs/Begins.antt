@@ -44,7 +44,7 @@ shown_to s media = contents_of (image_of s.device.sizes media)
 abbrev pub NotesAreHomeIn : Core → Contents → Type 0
 NotesAreHomeIn core c = (d lv group : ℕ) → IsTrue (is_there core d) → is_named c d lv group ≡ is_named_by core.cache d lv group
 
--- What stands on the disks of a session at rest: they hold what it says is committed, on each crash image at most one group has a quorum among all disks,
+-- What stands on the disks of a session at rest: they hold what it says is committed, on each crash image whatever any disks find is of one group,
 -- notes are home, the usable copies are even, and none is left behind.
 pub record StandsAtRest (s : State) (media : Media) : Type 0 where
   pub told : s.device.media ≡ Some media

@@ -172,14 +172,14 @@ update_of status = option_map (λ (t : Status). record { stamp = status.stamp; v
 
 -- Its marks are those of the three statuses, its writes of the update those that were started, and each disk that isn't a member which is there is missing.
 pub record SeesStatus (status : Stored) (there : Disks) (last : Stamped Marks) (update : Option (Stamped Marks)) (wants : Marks) (flying : Disks) (shown : ℕ → Option (Stamped Marks)) (gone : Disks) : Type 0 where
-  pub committed : last.value ≡ marks_of status.committed
-  pub in_flight : update ≡ option_map as_marks (update_of status)
-  pub wanted : wants ≡ marks_of status.wanted
+  pub committed : last.value ≡ marks_of None status.committed
+  pub in_flight : update ≡ option_map (as_marks None) (update_of status)
+  pub wanted : wants ≡ marks_of None status.wanted
   pub started : (d : ℕ) → flying d ≡ has status.writes.started d
   -- a disk to which a write of the update has gone well shows it
   pub written : (d : ℕ) → has status.writes.written d ≡ true → shown d ≡ update
   -- an update that is committed and still being written is what is committed, with its stamp
-  pub held : (u : Stamped Status) → update_of status ≡ Some u → is_held (seen status) ≡ true → last ≡ as_marks u
+  pub held : (u : Stamped Status) → update_of status ≡ Some u → is_held (seen status) ≡ true → last ≡ as_marks None u
   pub missing : (d : ℕ) → gone d ≡ not (there d)
 
 -- Its cache and its notes at home, on the disks that are there, and in flight are those of the session's.
@@ -198,3 +198,5 @@ pub record Sees (past : List Fact) (core : Core) (v : ModelState) : Type 0 where
   pub notes : SeesNotes core.cache (is_there core) v.cache v.home_note v.flying_note
   pub open_copy : SeesCopy (groups_of core) core.copy v.open_copy
   pub step_write : v.step_write ≡ step_write_in core.copy
+  -- no partition is brought up beside the group's copies
+  pub beside : v.beside ≡ None

@@ -38,10 +38,11 @@ abbrev pub IsCopyAimed : Core → ModelState → Type 0
 IsCopyAimed core v = (c : OpenCopy) → core.copy ≡ Some c → has_row core c ≡ true
     → IsTrue (v.is_copy c.lv (block_at core c) c.pp) × ((source : Pp) → c.step ≡ step.Reading source → IsTrue (v.is_copy c.lv (block_at core c) source))
 
--- Each member that isn't missing shows this status, which is the committed one, and no disk a later one of the group.
+-- Each member that isn't missing shows this status, which is the committed one and the group's, and no disk a later one of the group.
 pub record ShowsStatus (group : Descriptor) (status : Stored) (c : Contents) : Type 0 where
   pub stands : Stamped Status
   pub committed : stands.value ≡ status.committed
+  pub own : stands.value.id ≡ group.id
   pub stated : (d : ℕ) → IsTrue (members_there group status.wanted d) → c.status d ≡ Some stands
   pub last : (d : ℕ) (r : Stamped Status) → c.status d ≡ Some r → r.value.id ≡ group.id → (stamp_lt r.stamp stands.stamp ≡ true) ⊎ (r ≡ stands)
 

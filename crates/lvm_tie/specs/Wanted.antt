@@ -16,10 +16,11 @@ use Rattle.lvm_tie.specs.Near.{open_after}
 
 -- ---- what is asked of the state
 
--- the state sees these statuses, and these disks are missing now
+-- the state sees these statuses and no partition beside the copies, and these disks are missing now
 pub record SeesMarks (core : Core) (v : ModelState) (missing : ℕ → Bool) : Type 0 where
-  pub committed : v.committed.value ≡ marks_of core.status.committed
-  pub wanted : v.wanted ≡ marks_of core.status.wanted
+  pub committed : v.committed.value ≡ marks_of None core.status.committed
+  pub wanted : v.wanted ≡ marks_of None core.status.wanted
+  pub beside : v.beside ≡ None
   pub missing_is : (d : ℕ) → missing d ≡ not (is_there core d)
   pub still : (d : ℕ) → IsTrue (v.missing d) → IsTrue (missing d)
 
@@ -47,4 +48,4 @@ ReviewIsWanted =
     (core new : Core) (v : ModelState) (missing : ℕ → Bool) (facts : List Fact) (members : Disks) → IsValid core.descriptor → HasVolumes v facts core.descriptor members
     → ((d : ℕ) → IsTrue (is_there core d) → IsTrue (members d)) → SeesMarks core v missing → KeepsFresh v → HasOwners v
     → ((c : OpenCopy) → core.copy ≡ Some c → is_running c ≡ true → IsBrought core v c) → (((c : OpenCopy) → core.copy ≡ Some c → is_running c ≡ true → ⊥) → v.open_copy ≡ None)
-    → Reviews core new → Wants v (marks_of new.status.wanted) missing (open_after (copy_ends core) v.open_copy)
+    → Reviews core new → Wants v (marks_of None new.status.wanted) missing (open_after (copy_ends core) v.open_copy)

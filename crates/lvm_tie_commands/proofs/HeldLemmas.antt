@@ -85,7 +85,7 @@ module _ (run : ℕ) (first : Moment) (s : State) (may : MayBeCommanded run firs
         even = off_is_even (shown_to s told.0) s.core.descriptor (Some held.shows.stands) (is_there s.core) (λ row volume. absurd (subst (λ (rows : List LvRow). IsOneOf rows row) none volume));
       }
 
-  -- where it has a volume, or at most one group has a quorum among all disks
+  -- where it has a volume, or whatever any disks find is of one group
   pub carries : (s.core.descriptor.lvs ≡ [] → IsOneFoundOn s.device) → (media : Media) × Carries s media
   carries one = ⊎_elim
       (λ (none : s.core.descriptor.lvs ≡ []). (told.0, empty_carries none (one none)))

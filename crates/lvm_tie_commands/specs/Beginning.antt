@@ -23,7 +23,7 @@ pub record HasBegun (run : ℕ) (first : Moment) (s : State) : Type 0 where
   pub keeps : Keeps run first (moment_of s)
   pub held : StartsHeld s.device s.core
 
--- Where a varyon has begun it: with a volume, where on each crash image at most one group has a quorum among all disks, and no volume is in mode passive.
+-- Where a varyon has begun it: with a volume, where on each crash image whatever any disks find is of one group, and no volume is in mode passive.
 abbrev pub VariedOnStands : Type 0
 VariedOnStands = (run : ℕ) (first : Moment) (was : Log) (name : List ℕ) (moment : ℕ) (room : Room) (old : Device) (s : State)
     → ComesOn old s.device was name moment room s.core → HasBegun run first s → HasSectors s.device

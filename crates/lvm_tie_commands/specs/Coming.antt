@@ -6,7 +6,7 @@ use Rattle.lvm_vol.specs.Log.{Log}
 use Rattle.lvm_vol.specs.Order.{Ordered}
 use Rattle.lvm_kept.specs.Kept.{Kept}
 use Rattle.lvm_kept.specs.Moments.{Moment, StaysCalm}
-use Rattle.lvm_steps.specs.Moments.{Keeps}
+use Rattle.lvm_steps.specs.Moments.{ImagesKept, Keeps}
 use Rattle.lvm_steps.specs.Requests.{at}
 use Rattle.lvm_steps.specs.Behind.{ClockIsAhead}
 use Rattle.lvm_commit.specs.LawsOfVolumes.{IsOneFoundOn}
@@ -53,15 +53,15 @@ pub record IsMadeEven (s : State) (media : Media) : Type 0 where
   pub notes : NotesAreHome s.core (image_of s.device.sizes media)
   pub even : (shows : ShowsIts s media) → IsEven (shown_to s media) s.core.descriptor (Some shows.stands) (is_there s.core)
 
--- So it is where no volume is in mode passive: once the notes name nothing, what the disks keep makes the usable copies even.
+-- So it is where no volume is in mode passive and the disks kept some history before: once the notes name nothing, what they keep makes the usable copies even.
 abbrev pub VariedIsMadeEven : Type 0
 VariedIsMadeEven = (past : List Fact) (was : Log) (name : List ℕ) (moment : ℕ) (room : Room) (old : Device) (s : State) (media : Media)
-    → ComesOn old s.device was name moment room s.core → IsBegun was moment room old s → ClockIsAhead was.run moment old was.facts → s.device.media ≡ Some media
+    → ComesOn old s.device was name moment room s.core → IsBegun was moment room old s → ClockIsAhead was.run moment old was.facts → (facts : List Fact) → ImagesKept old facts → s.device.media ≡ Some media
     → HasNoPassive s.core.descriptor → Kept (shown_to s media) past → IsMadeEven s media
 
 -- ---- where it is good
 
--- Where a varyon has begun it, on each crash image at most one group has a quorum among all disks, and its copies are made even.
+-- Where a varyon has begun it, on each crash image whatever is found is of one group, and its copies are made even.
 abbrev pub VariedOnServes : Type 0
 VariedOnServes = (first : Moment) (was : Log) (name : List ℕ) (moment : ℕ) (room : Room) (old : Device) (s : State) (media : Media)
     → ComesOn old s.device was name moment room s.core → IsBegun was moment room old s → LeadsTo first was moment old
@@ -73,8 +73,8 @@ MadeServes = (first : Moment) (was : Log) (w : NewGroup) (room : Room) (old : De
     → IsMade w room was old s.device s.core → IsBegun was w.moment room old s → LeadsTo first was w.moment old
     → IsDriven s media → IsOneFoundOn s.device → IsGood was.run first s
 
--- Without force at most one group has a quorum among all disks on each crash image, since no disk showed one before.
+-- Without force whatever is found is of one group on each crash image, since no disk showed one before.
 abbrev pub MadeAlone : Type 0
 MadeAlone = (was : Log) (w : NewGroup) (room : Room) (old : Device) (s : State) (media : Media)
-    → IsMade w room was old s.device s.core → IsBegun was w.moment room old s → ClockIsAhead was.run w.moment old was.facts
+    → IsMade w room was old s.device s.core → IsBegun was w.moment room old s → ClockIsAhead was.run w.moment old was.facts → (facts : List Fact) → ImagesKept old facts
     → s.device.media ≡ Some media → w.force ≡ false → IsOneFoundOn s.device

@@ -22,7 +22,7 @@ pub record MayBeCommanded (run : ℕ) (first : Moment) (s : State) : Type 0 wher
   pub keeps : Keeps run first (moment_of s)
   pub stands : StandsSince run first s
 
--- where the making of a group's first volume is entered, at most one group has a quorum among all disks on each crash image
+-- where the making of a group's first volume is entered, whatever any disks find is of one group on each crash image
 abbrev pub IsAloneAtFirst : State → State → Type 0
 IsAloneAtFirst old new = old.core.descriptor.lvs ≡ [] → EntersVolumes old.core.history.facts new.core.history.facts → IsOneFoundOn old.device
 

@@ -44,7 +44,7 @@ SettledServes = (first : Moment) (s : State) (media : Media)
 -- ---- out
 
 -- What is asked of a tied session at rest, so that commands may follow: its members that aren't missing have votes enough to write, the next descriptor spares
--- the newest one of each, on each crash image at most one group has a quorum among all disks, and no write was open before its run.
+-- the newest one of each, on each crash image whatever any disks find is of one group, and no write was open before its run.
 pub record MayBeLeft (past : List Fact) (s : State) (media : Media) : Type 0 where
   pub resting : IsResting s.core
   pub votes : CanWrite s.core.descriptor (is_there s.core)

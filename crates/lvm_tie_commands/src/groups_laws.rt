@@ -26,23 +26,24 @@ pub fn tied_holds()
 {}
 
 /// A session that a varyon has begun is good, by the contract of that call, where its notes are home, its usable copies
-/// are even, and on each crash image at most one group has a quorum among all disks.
+/// are even, and on each crash image whatever any disks find is of one group.
 pub fn varied_on_serves()
     ensures { VariedOnServes }
 {}
 
-/// Its notes are home and its copies even where no volume of the group is in mode passive and its disks keep a history.
+/// Its notes are home and its copies even where no volume of the group is in mode passive and its disks keep a history, as
+/// they kept one before.
 pub fn varied_is_made_even()
     ensures { VariedIsMadeEven }
 {}
 
-/// A session that a mkvg has begun is good, by the contract of that call, where on each crash image at most one group
-/// has a quorum among all disks.
+/// A session that a mkvg has begun is good, by the contract of that call, where on each crash image whatever any disks
+/// find is of one group.
 pub fn made_serves()
     ensures { MadeServes }
 {}
 
-/// Where that mkvg was without force, at most one has.
+/// Where that mkvg was without force, and the disks kept some history before, it is.
 pub fn made_alone()
     ensures { MadeAlone }
 {}

@@ -3,7 +3,7 @@ ghost use Rattle.lvm_tie_commands.specs.Beginning.{MadeStands, VariedOnStands};
 ghost use Rattle.lvm_tie_commands.specs.Commands.{MklvGoesOn, RmlvGoesOn};
 
 /// What stands on the disks of a session that a varyon has begun, after each earlier history: of a group with volumes,
-/// where none of these is in mode passive and on each crash image at most one group has a quorum among all disks.
+/// where none of these is in mode passive and on each crash image whatever any disks find is of one group.
 pub fn varied_on_stands()
     ensures { VariedOnStands }
 {}

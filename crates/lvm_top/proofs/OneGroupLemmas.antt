@@ -1,10 +1,9 @@
 -- Lines without a `mkvg -f` leave one group, where there was one.
 use Rattle.std.proofs.Common.{◌≡◌, ◌⊎◌, inl, inr, ⊎_elim, ℕ, ◌∷◌, ◌++◌, [], List, Bool, true, false, Option, Some, None, Result, Ok, Err, count_by, refl, sym, ap, subst, ◌∙◌, ◌≤◌, length, arith}
-use Rattle.std.specs.Prelude.{IsSome, IsTrue, IfSome}
+use Rattle.std.specs.Prelude.{IsSome, IfSome}
 use Rattle.lvm_num.specs.declared.descriptor.Descriptor.{Descriptor}
 use Rattle.lvm_num.specs.Disks.{Disks}
 use Rattle.lvm_num.specs.Record.{Stamped}
-use Rattle.lvm_num.specs.Votes.{all_disks, votes_in, is_enough_to_read}
 use Rattle.lvm_num.proofs.RecordLemmas.Newest.{is_one}
 use Rattle.lvm_disk.specs.Device.{Media, Device, image_of, MayLeave}
 use Rattle.lvm_vol.specs.Facts.{Fact, Cut}
@@ -14,7 +13,7 @@ use Rattle.lvm_parse.specs.declared.command.Command.TheVariants as command
 use Rattle.lvm_operands.specs.declared.rest.Misfit.{Misfit}
 use Rattle.lvm_parse.specs.Grammar.{line_of}
 use Rattle.lvm_kept.specs.Contents.{Contents, contents_of}
-use Rattle.lvm_kept.specs.Group.{passes, is_of, descriptor_among, is_voter, has_quorum, Finds}
+use Rattle.lvm_kept.specs.Group.{is_of, descriptor_among, Finds}
 use Rattle.lvm_kept.proofs.ChangesLemmas.Blank.{no_descriptor}
 use Rattle.lvm_kept.proofs.MomentsLemmas.Chaining.{span_sizes}
 use Rattle.lvm_kept.proofs.CommittedLemmas.Finding.{offered, is_offered}
@@ -52,7 +51,7 @@ use Rattle.lvm_top.proofs.Devices.{IsShelf, NothingNew, then_nothing, same_nothi
 use Rattle.lvm_top.proofs.StandingLemmas.Groups.{asked, asked_nothing, not_stuck}
 use Rattle.lvm_top.proofs.LawsLemmas.Lines.{by_reading}
 use Rattle.lvm_top.proofs.NewGroupLemmas.{parts_find, refused_finds}
-use Rattle.lvm_top.proofs.LawsLemmas.Scripts.{last_told, run_may_start, stood, went_so}
+use Rattle.lvm_top.proofs.LawsLemmas.Scripts.{images_kept, last_told, run_may_start, stood, went_so}
 use Rattle.lvm_line.specs.passed.Recover.{HasNoPassive}
 
 -- ---- what is found is shown, and what has a quorum is found
@@ -63,20 +62,9 @@ shows c disks id k f =
     let one = is_one Descriptor (offered (is_of id) c.descriptor disks) c.disks f.newest f.found in
     (one.0, f.newest, (is_offered (is_of id) c.descriptor disks one.0 f.newest one.2).0)
 
-finds_of : (c : Contents) (id : ℕ) → IsTrue (has_quorum c all_disks id) → (g : Descriptor) × Finds c all_disks id g
-unfolding has_quorum
-finds_of c id quorum = by_newest (descriptor_among c all_disks id) refl quorum
-  where
-    by_newest : (o : Option (Stamped Descriptor)) → descriptor_among c all_disks id ≡ o → IsTrue (passes (λ (g : Descriptor). is_enough_to_read g (votes_in g (is_voter c all_disks id))) o) → (g : Descriptor) × Finds c all_disks id g
-    by_newest None none enough = absurd cc
-    by_newest (Some m) found enough = (m.value, record { quorum = quorum; newest = m; found = found; is = refl })
-
--- at most one group has a quorum among all disks
-one_by_all : (device : Device) → FindsOneGroup device → IsOneFoundOn device
-one_by_all device one image may v w of_v of_w =
-    let a = finds_of (contents_of image) v of_v in
-    let b = finds_of (contents_of image) w of_w in
-    one v w a.0 b.0 (image, may, (all_disks, a.1)) (image, may, (all_disks, b.1))
+-- whatever any disks find is of one group
+one_found : (device : Device) → FindsOneGroup device → IsOneFoundOn device
+one_found device one image may v w g h of_v of_w = one v w g h (image, may, of_v) (image, may, of_w)
 
 -- ---- each group that may be found might be found before
 
@@ -255,11 +243,11 @@ module _ (log : Log) (old new : ScriptState) (answer : Reply) (shelf : IsShelf o
 
 -- where one group may be found, with such volumes, and a session has no other
 pub alone_so : (role : Role) (old new : ScriptState) → IsAllowed role old → FindsOneGroup old.moment.device → HasNoPassiveOn old → IsAlone role old new
-alone_so role old new allowed one off = record { enters = λ enters. one_by_all old.moment.device one; acts = λ acting. by_session old.session off; allowed = allowed }
+alone_so role old new allowed one off = record { enters = λ enters. one_found old.moment.device one; acts = λ acting. by_session old.session off; allowed = allowed }
   where
     by_session : (o : Option Core) → IfSome o (λ core. HasNoPassive core.descriptor) → IfSome o (StandsAlone old.moment.device)
     by_session None off = tt
-    by_session (Some core) off = λ none some. (one_by_all old.moment.device one, off)
+    by_session (Some core) off = λ none some. (one_found old.moment.device one, off)
 
 module _ (log : Log) (room : Room) (past : List Fact) (first : ScriptState) (begin : MayStart log.run past first) (one : FindsOneGroup first.moment.device) (off : FindsNoPassive first.moment.device) where
   -- all that is so of the lines
@@ -287,7 +275,7 @@ module _ (log : Log) (room : Room) (past : List Fact) (first : ScriptState) (beg
         alone = (so_far.alone, now);
         finds_one = line_one log mid new answer shelf leaves heard timely it.named (last_told log room past first begin before so_far.alone) so_far.finds_one room line unforced.1 (line_of line) refl stood_so it.does;
         finds_off = off_new;
-        session = session_off log room answer mid new so_far.session (it.goes.begins timely) told_new off_new leaves it.named (line_of line) stood_so it.does;
+        session = session_off log room answer mid new so_far.session (it.goes.begins timely (past ++ mid.moment.facts) (images_kept log room past first begin before so_far.alone)) told_new off_new leaves it.named (line_of line) stood_so it.does;
       }
 
   ends_alone : {mid last : ScriptState} {done : List (List ℕ)} {said : List Reply} {front : List ℕ} (ends : Ends log room mid last done said front) → EndsAllowed ends → FindsOneGroup mid.moment.device → HasNoPassiveOn mid → EndsAlone ends

@@ -51,7 +51,7 @@ abbrev pub AreHeld : ScriptState → Type 0
 AreHeld s = IfSome s.session (λ core. IsHeld s.moment.device core)
 
 -- What stands before a line that acts on the session so: nothing is under way, and the disks hold what the session says; or they stand by it after some earlier
--- history, and no other group has a quorum where that is asked.
+-- history, and no other group is found where that is asked.
 pub data StoodBefore (run : ℕ) (role : Role) (old new : ScriptState) : Type 0 where
   HeldAtRest : IsAtRest old → AreHeld old → StoodBefore run role old new
   StandsSince : (past : List Fact) (first : Moment) → StandsBy run first old → Begins run past first → IsAlone role old new → StoodBefore run role old new

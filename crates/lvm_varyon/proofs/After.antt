@@ -23,10 +23,10 @@ use Rattle.lvm_steps.specs.Behind.{StampsBefore, beginning_at, IsBehind}
 use Rattle.lvm_rec.specs.declared.homes.Homes.{Homes}
 use Rattle.lvm_write.specs.Homes.{SparesNewest}
 use Rattle.lvm_varyon.specs.passed.Names.{ShowsCommitted, LogsOnly}
-use Rattle.lvm_varyon.proofs.passed.Names.{newest_is_beginning, only_planned}
+use Rattle.lvm_varyon.proofs.passed.Names.{only_planned}
 use Rattle.lvm_steps.specs.VaryingOn.{HasNewest}
 use Rattle.lvm_steps.proofs.VaryingOnLemmas.Following.{restamp_is_newest}
-use Rattle.lvm_steps.proofs.VaryingOnLemmas.VaryingOn.{restamp_keeps, restate_keeps}
+use Rattle.lvm_steps.proofs.VaryingOnLemmas.VaryingOn.{only_newest_is_found, restamp_keeps, restate_keeps}
 use Rattle.lvm_write.specs.Beginning.{Beginning, again_order, describes, states, MayBeginAgain, IsOfParts}
 use Rattle.lvm_write.specs.Newest.{FindsBeginning}
 use Rattle.lvm_write.specs.Shown.{HasBegun}
@@ -139,11 +139,11 @@ module _ (old new : Device) (name : List ℕ) (moment : ℕ) (homes : Homes) (w 
   pub records_there : (d : ℕ) → IsTrue (targets d) → has_records (image_of new.sizes now) d ≡ true
   records_there d target = ap (λ (sizes : List ℕ). has_records (image_of sizes now) d) (w.writes.how.keeps.sizes ∙ w.writes.unwritten.sizes) ∙ may.describe.there d target
 
-  abbrev pub shows : ShowsCommitted after w.group w.next targets
-  shows = record {
+  -- where they kept a history
+  abbrev pub shows : (facts : List Fact) → Kept after facts → ShowsCommitted after w.group w.next targets
+  shows facts kept = record {
     found = all_find_newest after w.group w.found.answered newest (images_within (image_of new.sizes now)) may.members found.0.newest;
-    disks = w.found.answered;
-    began = newest_is_beginning after w.group w.found.answered newest found.0.newest;
+    only = λ disks k f. only_newest_is_found after w.group w.found.answered newest facts (images_within (image_of new.sizes now)) found.0.newest kept k (disks, f);
     descriptor = newest;
     value = refl;
     latest = λ d r e its. found.0.newest.last d r e its;

@@ -15,15 +15,20 @@ use Rattle.lvm_num.proofs.NoteLemmas.{written_is_read}
 use Rattle.lvm_num.proofs.VotesLemmas.{read_is_write}
 use Rattle.lvm_disk.specs.Device.{Media, Device, image_of}
 use Rattle.lvm_disk.specs.Steps.{BothTold}
+use Rattle.lvm_vol.specs.Facts.{Fact}
 use Rattle.lvm_kept.specs.Contents.{Contents, contents_of, has_records, note_on, note_sector}
 use Rattle.lvm_kept.specs.Group.{descriptor_among, is_named, names_if, status_among, ReadsBy}
 use Rattle.lvm_kept.specs.Plans.{ChangesBy}
-use Rattle.lvm_kept.specs.Torn.{IsOfNote}
+use Rattle.lvm_kept.specs.Kept.{Kept}
+use Rattle.lvm_kept.specs.Torn.{written as as_read, IsOfNote}
 use Rattle.lvm_kept.proofs.CommittedLemmas.Finding.{finding_reads}
 use Rattle.lvm_steps.specs.Behind.{StampsBefore}
+use Rattle.lvm_steps.specs.Moments.{ImagesKept}
 use Rattle.lvm_steps.proofs.LawsLemmas.Writes.{changes_widen}
+use Rattle.lvm_steps.proofs.MakingLemmas.Making.{media_may}
 use Rattle.lvm_rec.specs.declared.homes.Homes.{Homes}
 use Rattle.lvm_write.specs.Homes.{SparesNewest}
+use Rattle.lvm_write.specs.Beginning.{states}
 use Rattle.lvm_write.specs.Notes.{empty_note_sector}
 use Rattle.lvm_write.proofs.WrittenLemmas.Writing.{changes_then, told_at}
 use Rattle.lvm_varyon.specs.passed.Names.{ShowsCommitted, IsOfCopies, ShowsEqualised, MayEqualise, ArePlanned}
@@ -31,6 +36,7 @@ use Rattle.lvm_write.specs.Restated.{Restated}
 use Rattle.lvm_varyon.proofs.passed.Names.{group_same, status_same, shows_other, equalised_ends, next_same_plan, restated_may_equalise, same_notes_same_plan}
 use Rattle.lvm_varyon.specs.Chosen.{answering}
 use Rattle.lvm_varyon.specs.Equal.{MakesEqual}
+use Rattle.lvm_varyon.specs.Writing.{beginning}
 use Rattle.lvm_varyon.proofs.Beside.{IsBesideSlots, beside_keeps_before, beside_spares, copies_beside, notes_beside}
 use Rattle.lvm_varyon.proofs.After.{HasRecords, MayHaveRecords, restated, same_names, shown_is, shows, spares}
 
@@ -64,7 +70,7 @@ module _ (old new : Device) (name : List ℕ) (moment : ℕ) (homes : Homes) (w 
   after = contents_of (image_of new.sizes now)
 
   abbrev stands : Stamped Status
-  stands = (shows old new name moment homes w was now told told_now may).stands
+  stands = as_read (states (beginning moment w.group w.next targets w.writes.homes)) w.next
 
   pub enough : CanWrite w.group targets
   enough =
@@ -84,8 +90,10 @@ module _ (old new : Device) (name : List ℕ) (moment : ℕ) (homes : Homes) (w 
   planned_now : ArePlanned after w.group (Some stands) targets w.copies
   planned_now = same_notes_same_plan w.found.shown after w.group (Some stands) targets w.copies names_as_found (next_same_plan w.found.shown w.group targets w.was stands w.copies valid w.next_is w.planned)
 
-  pub may_equalise : MayEqualise w.copies targets w.group w.next targets new
-  may_equalise = restated_may_equalise w.found.shown w.group w.next targets targets w.was w.copies new now told_now valid enough (shows old new name moment homes w was now told told_now may) w.next_is w.planned names_as_found (λ d target. target)
+  pub may_equalise : (facts : List Fact) → ImagesKept new facts → MayEqualise w.copies targets w.group w.next targets new
+  may_equalise facts kept =
+      restated_may_equalise w.found.shown w.group w.next targets targets w.was w.copies new now told_now valid enough
+      (shows old new name moment homes w was now told told_now may facts (kept (image_of new.sizes now) (media_may new now told_now))) w.next_is w.planned names_as_found (λ d target. target)
 
   -- ---- and then the copies are made and the notes emptied
 
@@ -111,8 +119,8 @@ module _ (old new : Device) (name : List ℕ) (moment : ℕ) (homes : Homes) (w 
         (changes_widen (IsOfCopies new w.copies) IsBesideSlots (image_of new.sizes now) (image_of equal.copied.sizes between) (copies_beside after w.group (Some stands) targets w.copies planned_now new) copies_by)
         (changes_widen (IsOfNote targets (empty_note_sector moment)) IsBesideSlots (image_of equal.copied.sizes between) (image_of last.sizes is) (notes_beside targets (empty_note_sector moment)) notes_by)
 
-    pub shows_last : (is_shown : ShowsCommitted final w.group w.next targets) × (is_shown.stands ≡ stands)
-    shows_last = shows_other w.group w.next targets after final changed (shows old new name moment homes w was now told told_now may)
+    pub shows_last : (facts : List Fact) → Kept after facts → (is_shown : ShowsCommitted final w.group w.next targets) × (is_shown.stands ≡ stands)
+    shows_last facts kept = shows_other w.group w.next targets after final changed (shows old new name moment homes w was now told told_now may facts kept)
 
     pub stamps_last : (stamp : Stamp) → StampsBefore stamp (image_of new.sizes now) → StampsBefore stamp (image_of last.sizes is)
     stamps_last stamp stood = beside_keeps_before (image_of new.sizes now) (image_of last.sizes is) beside stamp stood

@@ -6,7 +6,8 @@ use Rattle.lvm_disk.specs.Device.{Device, image_of, HasSectors}
 use Rattle.lvm_disk.specs.Images.{LeavesNoMore}
 use Rattle.lvm_disk.specs.Paths.{DeviceStep, Path}
 use Rattle.lvm_disk.proofs.PathsLemmas.{map-path}
-use Rattle.lvm_steps.specs.Moments.{StaysKept}
+use Rattle.lvm_vol.specs.Facts.{Fact}
+use Rattle.lvm_steps.specs.Moments.{ImagesKept, StaysKept}
 use Rattle.lvm_steps.proofs.MomentsLemmas.Spans.{fewer_stay_kept}
 use Rattle.lvm_quorum.specs.declared.row.Survey.{Survey}
 use Rattle.lvm_varyon.specs.passed.Names.{Room, MayEqualise}
@@ -36,13 +37,13 @@ module _ (old read : Device) (survey : Survey) (is : IsSurveyOf old read survey)
   module _ (whole : HasSectors old) (ahead : IsAheadOfDisks moment old) where
     -- once the records stand, the copies may be made
     may_equal : (homes : Homes) (restated : Device) → AllWritten (again_beginning moment plan.descriptor plan.status (has plan.targets) plan.homes) (again_order false) homes read restated
-        → IfSome restated.media (λ media. MayEqualise plan.copies (has plan.targets) by.group by.next (has plan.targets) restated)
-    may_equal homes restated well = if_told restated.media (λ media. MayEqualise plan.copies (has plan.targets) by.group by.next (has plan.targets) restated) (λ now told_now.
+        → IfSome restated.media (λ media. (facts : List Fact) → ImagesKept restated facts → MayEqualise plan.copies (has plan.targets) by.group by.next (has plan.targets) restated)
+    may_equal homes restated well = if_told restated.media (λ media. (facts : List Fact) → ImagesKept restated facts → MayEqualise plan.copies (has plan.targets) by.group by.next (has plan.targets) restated) (λ now told_now facts kept.
         let from = both_from read.media restated.media (λ was is. ChangesBy (IsOfParts (again_beginning moment plan.descriptor plan.status (has plan.targets) plan.homes) (again_order false)) (image_of read.sizes was) (image_of restated.sizes is)) now well.keeps.media told_now in
         let told : old.media ≡ Some from.0 = sym is.unwritten.media ∙ from.1 in
         subst (λ (t : Disks). MayEqualise plan.copies t by.group by.next t restated) (sym (targets_are old read survey is name moment some room plan by))
         (may_equalise old restated name moment homes (has_written old read survey is name moment some room plan by restated well.keeps.misses (λ b copies r. AllWritten b (again_order false) homes r restated) well)
-        from.0 now told told_now (may_have old read survey is name moment some room plan by whole ahead from.0 told) by.valid))
+        from.0 now told told_now (may_have old read survey is name moment some room plan by whole ahead from.0 told) by.valid facts kept))
 
     pub writing_kept : (new : Device) → AllWritesKeep (again_beginning moment plan.descriptor plan.status (has plan.targets) plan.homes) plan.copies read new
         → Path DeviceStep (LeavesNoMore old) old read → Path DeviceStep (StaysKept old) old new

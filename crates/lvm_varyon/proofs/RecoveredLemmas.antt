@@ -9,8 +9,10 @@ use Rattle.lvm_num.specs.Descriptor.{IsValid}
 use Rattle.lvm_num.specs.Record.{Stamped}
 use Rattle.lvm_num.specs.Votes.{CanWrite}
 use Rattle.lvm_disk.specs.Device.{Media, Range, Device, image_of}
+use Rattle.lvm_vol.specs.Facts.{Fact}
 use Rattle.lvm_kept.specs.Contents.{Contents, contents_of}
 use Rattle.lvm_kept.specs.Group.{is_voter}
+use Rattle.lvm_kept.specs.Kept.{Kept}
 use Rattle.lvm_kept.specs.Recovered.{IsRecordRange, IsCopyRange, Recovered}
 use Rattle.lvm_kept.specs.Torn.{IsOfNote}
 use Rattle.lvm_kept.proofs.CommittedLemmas.Finding.{images_within}
@@ -87,13 +89,13 @@ module _ (old new : Device) (name : List ℕ) (moment : ℕ) (homes : Homes) (w 
 
   -- by the targets
   abbrev IsDone : Disks → Contents → Type 0
-  IsDone v copied = ((shown : ShowsCommitted after w.group w.next v) × (shown.stands ≡ next)) × IsRecopied after w.group (Some next) v copied × AreNamedEqualled after w.group (Some next) v copied × OnlyNotesOf v copied final × CanWrite w.group v
+  IsDone v copied = ((facts : List Fact) → Kept after facts → (shown : ShowsCommitted after w.group w.next v) × (shown.stands ≡ next)) × IsRecopied after w.group (Some next) v copied × AreNamedEqualled after w.group (Some next) v copied × OnlyNotesOf v copied final × CanWrite w.group v
 
   -- whatever ranges of this kind are said to be written
   recovered_with : (more : List Range) → AllByRecursion Counts more → HasNoPassive w.group → Recovered before more final w.found.answered w.group.id w.group
   recovered_with more count soft =
       let e = ends old new name moment homes w was now told told_now may valid last equal between is told_between told_last in
-      let done = subst (λ (v : Disks). IsDone v e.copied) voters_are ((shows old new name moment homes w was now told told_now may, refl), e.recopied, e.equalled, e.emptied, enough old new name moment homes w was now told told_now may valid) in
+      let done = subst (λ (v : Disks). IsDone v e.copied) voters_are ((λ facts kept. (shows old new name moment homes w was now told told_now may facts kept, refl)), e.recopied, e.equalled, e.emptied, enough old new name moment homes w was now told told_now may valid) in
       recovered_by_copying before after e.copied final more w.found.answered w.group (record {
         valid = valid;
         within = images_within (image_of new.sizes now);
@@ -102,8 +104,7 @@ module _ (old new : Device) (name : List ℕ) (moment : ℕ) (homes : Homes) (w 
         same_voters = λ d. ap (λ (v : Disks). v d) (found old new name moment homes w was now told told_now may).1;
         same_notes = λ d lv g voter. same_names old new name moment homes w was now told told_now may d lv g;
         enough = done.4;
-        shows = done.0.0;
-        stands = done.0.1;
+        shows = done.0;
         copied_so = done.1;
         equalled = named_are_all w.group (Some next) there after e.copied soft done.2;
         emptied = done.3;

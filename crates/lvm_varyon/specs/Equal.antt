@@ -10,7 +10,8 @@ use Rattle.lvm_disk.specs.Device.{Device, image_of}
 use Rattle.lvm_disk.specs.Paths.{DeviceStep, Path}
 use Rattle.lvm_kept.specs.Group.{IsOneOf}
 use Rattle.lvm_kept.specs.Torn.{IsOfNote}
-use Rattle.lvm_steps.specs.Moments.{StaysKept}
+use Rattle.lvm_vol.specs.Facts.{Fact}
+use Rattle.lvm_steps.specs.Moments.{ImagesKept, StaysKept}
 use Rattle.lvm_transfer.specs.Reading.{IsRested, IsCutOff}
 use Rattle.lvm_write.specs.Notes.{empty_note_sector, NoteTold}
 use Rattle.lvm_write.specs.Written.{HaveRoom, KeepsShelf}
@@ -119,5 +120,5 @@ pub record MayWritePlan (old : Device) (plan : Plan) : Type 0 where
 abbrev pub AllWritesKeep : Beginning → List Recopy → Device → Device → Type 0
 AllWritesKeep b copies old new =
     (group : Descriptor) (status : Status) (disks : Disks) (was : Stamped Status) → IfSome old.media (λ media. MayBeginAgain b false group status disks was (image_of old.sizes media))
-    → ((homes : Homes) (restated : Device) → AllWritten b (again_order false) homes old restated → IfSome restated.media (λ media. MayEqualise copies b.targets group status b.targets restated))
+    → ((homes : Homes) (restated : Device) → AllWritten b (again_order false) homes old restated → IfSome restated.media (λ media. (facts : List Fact) → ImagesKept restated facts → MayEqualise copies b.targets group status b.targets restated))
     → Path DeviceStep (StaysKept old) old new

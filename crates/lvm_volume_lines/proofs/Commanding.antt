@@ -146,7 +146,7 @@ module _ (old : ScriptState) (core : Core) (mid : State) (its : AtMid old core m
     pub may_mid : MayBeCommanded run first mid
     may_mid = record { sound = its.sound; run_is = run_is; stamped = stamped_mid; keeps = keeps_mid; stands = stands_mid }
 
-    -- where the first volume is made, at most one group has a quorum among all disks
+    -- where the first volume is made, whatever any disks find is of one group
     pub alone_mid : (left : State) → new.moment.facts ≡ left.core.history.facts → IsAloneAtFirst mid left
     alone_mid left facts none enters =
         let same = its.empty (sym (ap (λ (d : Descriptor). d.lvs) its.leaves.keeps.descriptor) ∙ none) in
@@ -296,7 +296,7 @@ module _ (role : Role) (acts : Acts role) (old : ScriptState) (core : Core) (mid
         session = subst (λ (o : Option Core). IfSome o IsSettledCore) (sym none) tt;
         posts = posts ∙ ap (posts_ended (Some left.core)) rest.posts;
       };
-      begins = λ timely. was_session old.session core (IfSome new.session (HasBegunHeld new.moment.device)) its.session;
+      begins = λ timely facts kept. was_session old.session core (IfSome new.session (HasBegunHeld new.moment.device)) its.session;
       power = closed.power;
       waits = let a = waits_left in let b = closed.waits in omega (arith, a, b);
       clock = let e = clock in omega (arith, e);
@@ -361,7 +361,7 @@ module _ (role : Role) (acts : Acts role) (old : ScriptState) (core : Core) (mid
         posted = on_posts old.moment.facts left.core.history.facts answers_left now settled_now.quiet.requests old.posts posts_first;
       };
       rests = λ others heard rest. record { ready = ready; landed = landed; session = settled_now; posts = rest.posts };
-      begins = λ timely. was_session old.session core (HasBegunHeld left.device now) its.session;
+      begins = λ timely facts kept. was_session old.session core (HasBegunHeld left.device now) its.session;
       power = ready.power;
       waits = waits_left;
       clock = omega arith;

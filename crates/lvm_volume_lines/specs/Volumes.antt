@@ -119,7 +119,7 @@ pub record IsDone (Gives : State → State → Type 0) (scope : Core → Scope) 
   pub gives : Gives mid left
   pub leaves : IsLeft over left old new
   pub finds : FindsOnly (scope mid.core).next mid (state new.moment.device left.core)
-  pub status : KeepsStatus (scope mid.core).next (scope mid.core).stale (scope mid.core).fresh mid left
+  pub status : KeepsStatus (scope mid.core).next (scope mid.core).stale (scope mid.core).fresh (scope mid.core).marks mid left
   pub writes : KeepsShelf (is_there mid.core) (IsOfCommand (scope mid.core).next (scope mid.core).zeros mid left) mid.device left.device
   pub held : over ≡ false → IsHeld mid.device mid.core → IsHeld left.device left.core
   pub rests : over ≡ false → IsSettled left.core × IsReady left.device

@@ -1,6 +1,6 @@
 -- What the making and the removal of a volume answer.
 use Rattle.std.proofs.Common.{◌≡◌, inl, inr, ⊎_elim, ℕ, Bool, true, false, Result, Err, refl, ◌∙◌, arith}
-use Rattle.std.specs.Prelude.{⊤, MatchBool, Contains}
+use Rattle.std.specs.Prelude.{⊤, MatchBool, Contains, slice_set}
 use Rattle.lvm_num.specs.declared.place.Pp.{Pp}
 use Rattle.lvm_num.specs.declared.descriptor.Descriptor.{Descriptor}
 use Rattle.lvm_vol.specs.declared.entry.Vol.TheVariants.{Lv}
@@ -91,7 +91,7 @@ module _ (v : NewVolume) (plan : VolumePlan) (a : State) (planned : IsPlannedVol
     map = plan.map;
     may = planned.may;
     lowest = planned.lowest;
-    is = named.is ∙ (λ t. record a.core { descriptor = planned.next t; history = with_fact (same_making t) (Made plan.number); status = b.core.status; homes = b.core.homes });
+    is = named.is ∙ (λ t. record a.core { descriptor = planned.next t; history = with_fact (same_making t) (Made plan.number); last = slice_set a.core.last plan.number 0; status = b.core.status; homes = b.core.homes });
     zeros = named.zeros;
     fresh = named.fresh;
     ready = named.ready;

@@ -1,5 +1,5 @@
 -- The stages in which a volume is made or removed on a session.
-use Rattle.std.specs.Prelude.{◌≡◌, ◌≢◌, ◌⊎◌, ℕ, ◌<◌, ◌≤◌, List, Result, Ok, Err, IsTrue, IsFalse, All, AllPairs}
+use Rattle.std.specs.Prelude.{◌≡◌, ◌≢◌, ◌⊎◌, ℕ, ◌<◌, ◌≤◌, List, Result, Ok, Err, IsTrue, IsFalse, All, AllPairs, slice_set}
 use Rattle.lvm_num.specs.declared.place.Pp.{Pp}
 use Rattle.lvm_num.specs.declared.descriptor.Descriptor.{Descriptor}
 use Rattle.lvm_num.specs.declared.status.Status.{Status}
@@ -11,7 +11,7 @@ use Rattle.lvm_vol.specs.declared.entry.Vol.TheVariants.{Lv}
 use Rattle.lvm_vol.specs.Facts.{Fact, Making, Made, Removed}
 use Rattle.lvm_vol.specs.Log.{Log, with_fact}
 use Rattle.lvm_map.specs.FirstFit.{has_partition_on}
-use Rattle.lvm_volume_plan.specs.passed.Names.{IsFree, MarksLeft, CommitFault, IsSettled, HasGoneDark, IsLeftOut, CommitEnds, Leaves, committing, IsAsBefore}
+use Rattle.lvm_volume_plan.specs.passed.Names.{IsFree, MarksLeft, CommitFault, IsSettled, HasGoneDark, IsLeftOut, CommitEnds, Leaves, committing, IsAsBefore, last_reads}
 use Rattle.lvm_volume_plan.specs.passed.CoreFaultCommitFault as commit
 use Rattle.lvm_session.specs.State.{Core, State, is_there}
 use Rattle.lvm_volumes.specs.Endings.{CommandDarkened, CommandWentOff, CommandStuck, CommandFailed}
@@ -33,7 +33,7 @@ CommandBroke entered patience old new (commit.DiskFailed disk) = ⊥
 
 -- the session with one entry more
 abbrev pub with_entry : State → Fact → State
-with_entry s f = record s { core = record s.core { history = with_fact s.core.history f } }
+with_entry s f = record s { core = record s.core { history = with_fact s.core.history f; last = last_reads f s.core.last } }
 
 -- the last entry is made where all went well
 abbrev pub ClosesBy : Fact → State → State → Result (Unit {0}) CommitFault → Type 0
@@ -125,7 +125,7 @@ pub record MakingBroke (plan : VolumePlan) (old new : State) (Ends : Log → Typ
 -- The descriptor with the volume is committed, its partitions are zeros, and fresh on members that aren't missing, and both entries are made.
 pub record IsNamed (plan : VolumePlan) (old new : State) : Type 0 where
   pub settled : IsSettled new.core
-  pub is : new.core ≡ record old.core { descriptor = plan.next; history = with_fact (making_of plan old) (Made plan.number); status = new.core.status; homes = new.core.homes }
+  pub is : new.core ≡ record old.core { descriptor = plan.next; history = with_fact (making_of plan old) (Made plan.number); last = slice_set old.core.last plan.number 0; status = new.core.status; homes = new.core.homes }
   pub fresh : All (λ (pp : Pp). IsTrue (is_there new.core pp.disk) → IsFalse (calls_stale new.core.status.committed pp)) plan.map
   pub zeros : AreZeroed old.core.descriptor.mib plan.map new.device
   pub ready : IsReady new.device

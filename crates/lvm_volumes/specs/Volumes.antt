@@ -1,5 +1,5 @@
 -- What the making and the removal of a volume answer.
-use Rattle.std.specs.Prelude.{◌≡◌, ◌⊎◌, ℕ, ◌<◌, List, Result, Ok, Err, IsTrue, IsFalse, All, Contains}
+use Rattle.std.specs.Prelude.{◌≡◌, ◌⊎◌, ℕ, ◌<◌, List, Result, Ok, Err, IsTrue, IsFalse, All, Contains, slice_set}
 use Rattle.lvm_num.specs.declared.place.Pp.{Pp}
 use Rattle.lvm_num.specs.declared.descriptor.Descriptor.{Descriptor}
 use Rattle.lvm_num.specs.Geometry.{volume_blocks}
@@ -45,6 +45,7 @@ pub record IsVolumeMade (v : NewVolume) (lv : ℕ) (old new : State) : Type 0 wh
   pub is : new.core ≡ record old.core {
     descriptor = with_volume old.core.descriptor (row_for v lv map);
     history = with_fact (making v lv old) (Made lv);
+    last = slice_set old.core.last lv 0;
     status = new.core.status;
     homes = new.core.homes;
   }

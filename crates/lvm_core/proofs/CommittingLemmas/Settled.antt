@@ -108,14 +108,8 @@ module _ (Held Plain : Type 0) (next : Descriptor) (plan : Plan) (first : Stored
   lit : is_dark old.core.power ≡ false
   lit = ap is_dark settled_is.power
 
-  not_off : {X : Type 0} → old.core.power ≡ power.Off → X
-  not_off off = absurd (let e : power.On ≡ power.Off = sym settled_is.power ∙ off in cc)
-
   not_stuck : old.core.power ≡ power.Stuck → ⊥
   not_stuck stuck = absurd (let e : power.On ≡ power.Stuck = sym settled_is.power ∙ stuck in cc)
-
-  few : (have total : ℕ) → HasLostQuorum first new.core.status old.device new.device have total → IsFalse (is_enough_to_write old.core.descriptor (votes_in old.core.descriptor (members_there old.core.descriptor new.core.status.wanted)))
-  few have total lost = subst (λ (g : Descriptor). IsFalse (is_enough_to_write g (votes_in g (members_there g new.core.status.wanted)))) group_is (subst (λ (n : ℕ). IsFalse (is_enough_to_write new.core.status.group n)) lost.have_is lost.few)
 
   as_core : (core : Core) → new.core ≡ core → IsSoundBetween (state new.device core) → IsSoundBetween new
   as_core core is it = subst (λ (c : Core). IsSoundBetween (state new.device c)) (sym is) it
@@ -139,14 +133,14 @@ module _ (Held Plain : Type 0) (next : Descriptor) (plan : Plan) (first : Stored
       fits_out = fits_pool here (with_one_out old.core.pool) (one_out_long old.core.pool) fits_here
 
       by_how : (h : CommitEnd) → SettleEnds Held Plain 0 before first new.core.status old.device new.device h → CoreEnds next old.core new.core h answer → IsSoundBetween new
-      by_how (commit_end.Done back) ends goes = as_core (base next) goes.1 (sound_ready new.device (base next) (fits next valid alike) (none next) sound.landed (placed next alike) settled_is.quiet.buffers lit not_off not_stuck ends.back.ready)
+      by_how (commit_end.Done back) ends goes = as_core (base next) goes.1 (sound_ready new.device (base next) (fits next valid alike) (none next) sound.landed (placed next alike) settled_is.quiet.buffers lit not_stuck ends.back.ready)
       by_how (commit_end.WentOff have total back) ends goes = as_core (record here { power = power.Off }) goes.1
           (sound_ready new.device (record here { power = power.Off }) (fits_with here here.history here.pool power.Off refl fits_here) (record { requests = settled_is.quiet.requests; copy = settled_is.quiet.copy }) sound.landed (placed old.core.descriptor own) settled_is.quiet.buffers refl
-          (λ off. ap not (few have total ends.lost)) (λ stuck. absurd (let e : power.Off ≡ power.Stuck = stuck in cc)) ends.back.ready)
+          (λ stuck. absurd (let e : power.Off ≡ power.Stuck = stuck in cc)) ends.back.ready)
       by_how commit_end.Dark ends goes = as_core (all_dark out) goes.1
           (sound_dark old.device new.device out old.core.pool fits_out (record { requests = settled_is.quiet.requests; copy = settled_is.quiet.copy }) sound.landed (placed old.core.descriptor own) refl settled_is.quiet.buffers sound.fitting.a_buffer ends.0)
       by_how commit_end.Stuck ends goes = as_core out goes.1
-          (sound_stuck before old.device new.device out old.core.pool fits_out (record { requests = settled_is.quiet.requests; copy = settled_is.quiet.copy }) sound.landed (placed old.core.descriptor own) refl settled_is.quiet.buffers sound.fitting.a_buffer lit not_off not_stuck ends.0)
+          (sound_stuck before old.device new.device out old.core.pool fits_out (record { requests = settled_is.quiet.requests; copy = settled_is.quiet.copy }) sound.landed (placed old.core.descriptor own) refl settled_is.quiet.buffers sound.fitting.a_buffer lit not_stuck ends.0)
 
   -- ---- how it ends
 

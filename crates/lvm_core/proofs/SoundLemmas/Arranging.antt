@@ -32,7 +32,6 @@ ordered_sound device core what sound = record {
   quiet = sound.quiet;
   lit = λ is. let lit = sound.lit is in record { power = lit.power; freed = lit.freed };
   dark = λ is. let dark = sound.dark is in record { power = dark.power; flights = dark.flights };
-  off = sound.off;
   heard = sound.heard;
 }
 
@@ -53,7 +52,6 @@ dark_sound old new core sound like dark = subst (λ (c : Core). IsSoundBetween (
   quiet = λ quiet. dark.flights;
   lit = λ is. absurd (let e : ◌≡◌ {A = Bool} true false = is in cc);
   dark = λ is. dark;
-  off = λ is. absurd (let e : power.Dark ≡ power.Off = is in cc);
   heard = λ is. absurd (let e : power.Dark ≡ power.Stuck = is in cc);
 })
 

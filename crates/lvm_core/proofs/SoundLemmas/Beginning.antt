@@ -57,6 +57,5 @@ module _ (device : Device) (p : Parts) (history : Log) (stamp : Stamp) (homes : 
       placed
       (its.pool ∙ ap (λ n. replicate n false) (sym buffers))
       refl
-      (λ off. absurd (let e : power.On ≡ power.Off = off in cc))
       (λ stuck. absurd (let e : power.On ≡ power.Stuck = stuck in cc))
       ready

@@ -1,5 +1,5 @@
 -- A session stays sound when it enters that a volume is being made or removed.
-use Rattle.std.proofs.Common.{◌≡◌, ℕ, List, [], ◌∷◌, ◌++◌, refl, ◌∙◌}
+use Rattle.std.proofs.Common.{◌≡◌, ℕ, List, [], ◌∷◌, ◌++◌, length, length-set, refl, ◌∙◌}
 use Rattle.lvm_disk.specs.Device.{Device}
 use Rattle.lvm_vol.specs.declared.entry.Entry.{Entry}
 use Rattle.lvm_vol.specs.declared.entry.Entry.TheVariants as entry
@@ -8,8 +8,7 @@ use Rattle.lvm_vol.specs.Log.{is_open, with_fact, plain_fact}
 use Rattle.lvm_session_start.proofs.passed.Names.{open_still}
 use Rattle.lvm_session.specs.State.{Core, state}
 use Rattle.lvm_core.specs.Sound.{IsSoundBetween}
-use Rattle.lvm_core.specs.Entering.{IsOfVolume}
-use Rattle.lvm_core.proofs.SoundLemmas.Own.{fits_with}
+use Rattle.lvm_core.specs.Entering.{IsOfVolume, last_reads}
 
 -- it is about no request
 open_entered : (facts : List Fact) (e : Entry) → IsOfVolume e → (id : ℕ) → is_open (facts ++ plain_fact e ∷ []) id ≡ is_open facts id
@@ -20,9 +19,28 @@ open_entered facts (entry.Removing vol) is id = open_still facts (Removing vol) 
 open_entered facts (entry.Removed vol) is id = open_still facts (Removed vol) refl id refl
 open_entered facts _ is id = absurd is
 
-pub entered_sound : (device : Device) (core : Core) (e : Entry) → IsOfVolume e → IsSoundBetween (state device core) → IsSoundBetween (state device (record core { history = with_fact core.history (plain_fact e) }))
+-- and there is room for each number
+length_reads : (f : Fact) (last : List ℕ) → length (last_reads f last) ≡ length last
+length_reads (Made lv) last = length-set last lv 0
+length_reads _ last = refl
+
+pub entered_sound : (device : Device) (core : Core) (e : Entry) → IsOfVolume e → IsSoundBetween (state device core)
+    → IsSoundBetween (state device (record core { history = with_fact core.history (plain_fact e); last = last_reads (plain_fact e) core.last }))
 entered_sound device core e is sound = record {
-  fitting = fits_with core (with_fact core.history (plain_fact e)) core.pool core.power refl sound.fitting;
+  fitting = record {
+    valid = sound.fitting.valid;
+    id = sound.fitting.id;
+    rows = sound.fitting.rows;
+    group = sound.fitting.group;
+    entries = sound.fitting.entries;
+    notes = sound.fitting.notes;
+    most = sound.fitting.most;
+    queue = sound.fitting.queue;
+    a_buffer = sound.fitting.a_buffer;
+    buffers = sound.fitting.buffers;
+    last = length_reads (plain_fact e) core.last ∙ sound.fitting.last;
+    forgotten = sound.fitting.forgotten;
+  };
   none = record { requests = sound.none.requests; copy = sound.none.copy };
   landed = λ id. open_entered core.history.facts e is id ∙ sound.landed id;
   placed = sound.placed;
@@ -31,6 +49,5 @@ entered_sound device core e is sound = record {
   quiet = λ quiet. sound.quiet (record { requests = quiet.requests; copy = quiet.copy; status = quiet.status; notes = quiet.notes; buffers = quiet.buffers });
   lit = sound.lit;
   dark = sound.dark;
-  off = sound.off;
   heard = sound.heard;
 }

@@ -12,7 +12,6 @@ use Rattle.lvm_session.specs.declared.session.Session.{Session}
 use Rattle.lvm_session.specs.Fields.{core_of}
 use Rattle.lvm_session.specs.Rooms.{HasRooms, SameRooms}
 use Rattle.lvm_session.specs.State.{Core, state}
-use Rattle.lvm_session.specs.Enabled.{is_lost}
 use Rattle.lvm_session.specs.Dark.{all_dark}
 use Rattle.lvm_session.specs.Placed.{ArePlaced}
 use Rattle.lvm_session.specs.Sound.{count_if, has_number, is_dark, out_with}
@@ -81,8 +80,8 @@ one_counted buf pool (suc n) is some all =
 
 pub sound_ready :
     (device : Device) (core : Core) → IsFittingBetween core → HasNoneOpen core → HaveAllLanded core.history.facts → ArePlaced device.sizes core.descriptor core.status.wanted → core.pool ≡ replicate (length core.pool) false
-    → is_dark core.power ≡ false → (core.power ≡ power.Off → is_lost core ≡ true) → (core.power ≡ power.Stuck → ⊥) → IsReady device → IsSoundBetween (state device core)
-sound_ready device core fits none landed placed all lit off heard ready = record {
+    → is_dark core.power ≡ false → (core.power ≡ power.Stuck → ⊥) → IsReady device → IsSoundBetween (state device core)
+sound_ready device core fits none landed placed all lit heard ready = record {
   fitting = fits;
   none = none;
   landed = landed;
@@ -92,7 +91,6 @@ sound_ready device core fits none landed placed all lit off heard ready = record
   quiet = λ quiet. ready.flights;
   lit = λ is. record { power = ready.power; freed = ready.freed };
   dark = λ is. absurd (cc (is, lit));
-  off = off;
   heard = heard;
 }
 
@@ -115,7 +113,6 @@ sound_dark old device core pool fits none landed placed is all some cut = subst 
   quiet = λ quiet. cut.flights;
   lit = λ lit. absurd (let e : ◌≡◌ {A = Bool} true false = lit in cc);
   dark = λ lit. record { power = cut.power; flights = cut.flights };
-  off = λ off. absurd (let e : power.Dark ≡ power.Off = off in cc);
   heard = λ stuck. absurd (let e : power.Dark ≡ power.Stuck = stuck in cc);
 })
   where
@@ -135,8 +132,8 @@ sound_dark old device core pool fits none landed placed is all some cut = subst 
 pub sound_stuck :
     (patience : ℕ) (old device : Device) (core : Core) (pool : List Bool) → IsFittingBetween core → HasNoneOpen core → HaveAllLanded core.history.facts → ArePlaced device.sizes core.descriptor core.status.wanted
     → core.pool ≡ with_one_out pool → pool ≡ replicate (length pool) false → 1 ≤ length pool → is_dark core.power ≡ false
-    → (core.power ≡ power.Off → is_lost core ≡ true) → (core.power ≡ power.Stuck → ⊥) → IsGivenUp 0 patience old device → IsSoundBetween (state device core)
-sound_stuck patience old device core pool fits none landed placed is all some lit off heard out = record {
+    → (core.power ≡ power.Stuck → ⊥) → IsGivenUp 0 patience old device → IsSoundBetween (state device core)
+sound_stuck patience old device core pool fits none landed placed is all some lit heard out = record {
   fitting = fits;
   none = none;
   landed = landed;
@@ -146,7 +143,6 @@ sound_stuck patience old device core pool fits none landed placed is all some li
   quiet = λ quiet. absurd (let inside = all_in core.pool 0 quiet.buffers in let gone = ap (λ (p : List Bool). slice_index_or p 0 false) is ∙ first_out pool some in cc (inside, gone));
   lit = λ on. record { power = out.power; freed = out.freed };
   dark = λ dark. absurd (cc (dark, lit));
-  off = off;
   heard = heard;
 }
   where

@@ -1,6 +1,6 @@
 -- Marks that are wanted one after another.
-use Rattle.std.proofs.Common.{◌≡◌, ℕ, ◌+◌, ◌<◌, Bool, true, false, ◌&&◌, ◌||◌, not, List, [], length, take, get_or, None, refl, sym, ◌∙◌, ap, subst, arith}
-use Rattle.std.specs.Prelude.{◌^◌, All, count_by, if◌then◌else◌}
+use Rattle.std.proofs.Common.{◌≡◌, inl, inr, ⊎_elim, ℕ, ◌+◌, ◌<◌, Bool, true, false, ◌&&◌, ◌||◌, not, List, [], length, take, get_or, Option, None, refl, sym, ◌∙◌, ap, subst, arith}
+use Rattle.std.specs.Prelude.{◌^◌, All, count_by, if◌then◌else◌, unwrap_or}
 use Rattle.std.proofs.lemmas.List.Folds.{list_any_more}
 use Rattle.lvm_num.specs.declared.place.Pp.{Pp}
 use Rattle.lvm_num.specs.declared.descriptor.Descriptor.{Descriptor}
@@ -18,7 +18,7 @@ use Rattle.lvm_status.specs.declared.change.Change.TheVariants as change
 use Rattle.lvm_status.specs.Update.{Updates, Stored, seen, is_held, is_owed, no_disks}
 use Rattle.lvm_status.specs.Calls.{BecomesStale, BecomesFresh, IsMarkable, closed, with_wanted, given_up}
 use Rattle.lvm_write.specs.Written.{HaveRoom}
-use Rattle.lvm_commit.specs.Settling.{HasSameRows, IsForgotten, MayCommit, MaySettle, many_there, there}
+use Rattle.lvm_commit.specs.Settling.{HasSameRows, HoldsWithin, IsForgotten, MayCommit, MaySettle, is_held_so, many_there, there}
 use Rattle.lvm_commit.proofs.RoundsLemmas.Wanting.{row_stays}
 use Rattle.lvm_session.specs.Marks.{is_among}
 use Rattle.lvm_core.specs.Committing.{Marks}
@@ -256,3 +256,17 @@ may_commit records d device old new rest may = record {
   where
     many : many_there new ≡ many_there old
     many = λ t. count_by (λ (row : PvRow). not (rest.missing row.disk t)) (rest.group t).pvs
+
+twice : (a b : Bool) → a || a ≡ true → a || b ≡ true
+twice true b is = refl
+twice false b is = absurd (cc is)
+
+-- the marks change neither what is committed nor what is in flight
+pub marks_within : (old marked last : Stored) → WantsMarksAtMost old marked → HoldsWithin marked last → HoldsWithin old last
+marks_within old marked last rest within p is = ⊎_elim
+    (λ held. inl (twice (calls_stale old.committed p) (calls_stale (unwrap_or old.in_flight old.committed) p) (sym (same p) ∙ held)))
+    (λ wanted. inr wanted)
+    (within p is)
+  where
+    same : (p : Pp) → is_held_so marked p ≡ (calls_stale old.committed p || calls_stale old.committed p)
+    same p = ap (λ (o : Option Status). calls_stale marked.committed p || calls_stale (unwrap_or o marked.committed) p) rest.idle ∙ ap (λ (s : Status). calls_stale s p || calls_stale s p) rest.committed

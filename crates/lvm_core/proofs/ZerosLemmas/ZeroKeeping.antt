@@ -167,9 +167,9 @@ module _ (pp : Pp) (before after : ℕ) (old new : State) (answer : Result (Unit
       as_core core is it = subst (λ (c : Core). IsSoundBetween (state new.device c)) (sym is) it
 
       by_how : (how : Moved) → DoesPart (λ d. d == pp.disk) (IsZeroOf old.core.descriptor.mib pp) pp.disk 0 before after old.device new.device how → GoesOnAfter pp.disk old.core new.core how answer → IsSoundBetween new
-      by_how (moved.Done back) part goes = as_core old.core goes.1 (sound_ready new.device old.core sound.fitting none sound.landed placed settled.quiet.buffers (ap is_dark settled.power) sound.off sound.heard part.rests)
-      by_how (moved.Failed back) part goes = as_core old.core goes.1 (sound_ready new.device old.core sound.fitting none sound.landed placed settled.quiet.buffers (ap is_dark settled.power) sound.off sound.heard part.rests)
+      by_how (moved.Done back) part goes = as_core old.core goes.1 (sound_ready new.device old.core sound.fitting none sound.landed placed settled.quiet.buffers (ap is_dark settled.power) sound.heard part.rests)
+      by_how (moved.Failed back) part goes = as_core old.core goes.1 (sound_ready new.device old.core sound.fitting none sound.landed placed settled.quiet.buffers (ap is_dark settled.power) sound.heard part.rests)
       by_how (moved.Dark started) part goes = as_core (all_dark out) goes.1
           (sound_dark old.device new.device out old.core.pool (fits_pool old.core (with_one_out old.core.pool) (one_out_long old.core.pool) sound.fitting) out_none sound.landed placed refl settled.quiet.buffers sound.fitting.a_buffer part.leaves)
       by_how moved.Stuck part goes = as_core out goes.1
-          (sound_stuck before old.device new.device out old.core.pool (fits_pool old.core (with_one_out old.core.pool) (one_out_long old.core.pool) sound.fitting) out_none sound.landed placed refl settled.quiet.buffers sound.fitting.a_buffer (ap is_dark settled.power) sound.off sound.heard part.leaves)
+          (sound_stuck before old.device new.device out old.core.pool (fits_pool old.core (with_one_out old.core.pool) (one_out_long old.core.pool) sound.fitting) out_none sound.landed placed refl settled.quiet.buffers sound.fitting.a_buffer (ap is_dark settled.power) sound.heard part.leaves)

@@ -8,4 +8,4 @@ pub use Rattle.lvm_core.specs.State.{state_of}
 pub use Rattle.lvm_core.specs.declared.parts.Room.{Room}
 pub use Rattle.lvm_core.specs.declared.refused.Cause.{Cause}
 pub use Rattle.lvm_core.specs.declared.refused.Refused.{Refused}
-pub use Rattle.lvm_core.specs.passed.Names.{AreFaults, ArePlaced, Began, Core, HoldsCommitted, NoneIsLeft, Parts, ShowsCommitted, first_core, is_there}
+pub use Rattle.lvm_core.specs.passed.Names.{AreFaults, ArePlaced, Core, HoldsCommitted, NoneIsLeft, Parts, ShowsCommitted, first_core, is_there}

@@ -72,7 +72,7 @@ still_goes run role answer s between one = record {
   left = λ timely. each_is_ahead run (s.last + 1) s.moment.device s.moment.facts timely.ahead;
   between = λ goes. between;
   rests = λ others goes rests. rests;
-  begins = λ timely. same_session s.session (HasBegunHeld s.moment.device);
+  begins = λ timely facts kept. same_session s.session (HasBegunHeld s.moment.device);
   power = between.lit.power;
   waits = omega arith;
   clock = omega arith;
@@ -90,7 +90,7 @@ asked_goes run role answer old new between one asked = subst (λ (s : ScriptStat
   left = λ timely. each_is_ahead run (new.last + 1) old.moment.device old.moment.facts (ahead timely.ahead);
   between = λ goes. between;
   rests = λ others goes rests. record { ready = rests.ready; landed = rests.landed; session = rests.session; posts = rests.posts };
-  begins = λ timely. same_session old.session (HasBegunHeld old.moment.device);
+  begins = λ timely facts kept. same_session old.session (HasBegunHeld old.moment.device);
   power = between.lit.power;
   waits = omega arith;
   clock = later;
@@ -113,7 +113,7 @@ ended_goes run role answer old new core was facts none between one ends = subst 
   left = λ timely. each_is_ahead run (old.last + 1) old.moment.device old.moment.facts timely.ahead;
   between = λ goes. record { lit = between.lit; descriptors = between.descriptors; landed = landed; session = tt; posted = posted };
   rests = λ others goes rests. record { ready = rests.ready; landed = landed; session = tt; posts = ap (map (ended_with have total)) rests.posts };
-  begins = λ timely. none_begins old.session;
+  begins = λ timely facts kept. none_begins old.session;
   power = between.lit.power;
   waits = omega arith;
   clock = omega arith;

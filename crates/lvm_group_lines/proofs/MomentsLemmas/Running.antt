@@ -178,7 +178,7 @@ module _ (role : Role) (old : ScriptState) (core : Core) (end : State) (its : Is
         posted = posted;
       };
       rests = λ not_asking heard rest. subst IsAtRest is (rests not_asking rest);
-      begins = λ timely. was_session old.session core (IfSome (Some end.core) (HasBegunHeld end.device)) its.session;
+      begins = λ timely facts kept. was_session old.session core (IfSome (Some end.core) (HasBegunHeld end.device)) its.session;
       power = lit.power;
       waits = its.leaves.keeps.counts.waits;
       clock = omega arith;
@@ -228,7 +228,7 @@ module _ (role : Role) (old : ScriptState) (core : Core) (end : State) (its : Is
         posted = subst (λ (o : Option Core). ArePosted new.moment.facts o new.posts) (sym none) posted;
       };
       rests = λ not_asking heard rest. rests not_asking rest;
-      begins = λ timely. was_session old.session core (IfSome new.session (HasBegunHeld new.moment.device)) its.session;
+      begins = λ timely facts kept. was_session old.session core (IfSome new.session (HasBegunHeld new.moment.device)) its.session;
       power = it.lit.power;
       waits = let w = its.leaves.keeps.counts.waits in let same = it.waited in omega (arith, w, same);
       clock = let same = clock in omega (arith, same);

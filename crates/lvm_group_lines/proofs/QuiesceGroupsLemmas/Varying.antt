@@ -123,8 +123,8 @@ module _ {S : Type 0} (device : S → Device) (shelf : S) (log : Log) (name : Li
   serves_then driver history just it = varied_on_begins log name moment room it.mid (state_of device driver) history it.on just
 
   stands_then : (driver : S × Core) → HasSectors (device driver.0) → IsSettledCore driver.1 → Serves (state_of device driver) → ComesOnce driver
-      → (first : Moment) → Keeps log.run first (at (device driver.0) driver.1.history.facts) → StartsHeld (device driver.0) driver.1 → (past : List Fact) → Begins log.run past first → StandsAlone (device driver.0) driver.1 → StandsAfter past (device driver.0) driver.1
-  stands_then driver whole settled serves it first keeps held past begins alone =
+      → (first : Moment) → Keeps log.run first (at (device driver.0) driver.1.history.facts) → (past : List Fact) → Begins log.run past first → StartsHeld (device driver.0) driver.1 → StandsAlone (device driver.0) driver.1 → StandsAfter past (device driver.0) driver.1
+  stands_then driver whole settled serves it first keeps past begins held alone =
       varied_on_stands log.run first log name moment room it.mid (state_of device driver) it.on
       (record { sound = serves.sound; settled = settled; stamped = serves.stamped; run_is = ap (λ (c : Core). c.history.run) it.on.first.is; keeps = keeps; held = held }) whole (alone settled.quiet.requests) past begins
 
@@ -145,12 +145,12 @@ module _ {S : Type 0} (device : S → Device) (shelf : S) (log : Log) (name : Li
 
   pub stands : (outcome : Outcomes) → VaryonOnceQuiet device log name moment room patience (device shelf) outcome
       → IfOk outcome (λ driver. HasSectors (device driver.0) → IsSettledCore driver.1 → Serves (state_of device driver)
-      → (first : Moment) → Keeps log.run first (at (device driver.0) driver.1.history.facts) → StartsHeld (device driver.0) driver.1 → (past : List Fact) → Begins log.run past first → StandsAlone (device driver.0) driver.1 → StandsAfter past (device driver.0) driver.1)
+      → (first : Moment) → Keeps log.run first (at (device driver.0) driver.1.history.facts) → (past : List Fact) → Begins log.run past first → StartsHeld (device driver.0) driver.1 → StandsAlone (device driver.0) driver.1 → StandsAfter past (device driver.0) driver.1)
   stands outcome quiet = by outcome (comes outcome quiet)
     where
       by : (o : Outcomes) → IfOk o ComesOnce
           → IfOk o (λ driver. HasSectors (device driver.0) → IsSettledCore driver.1 → Serves (state_of device driver)
-          → (first : Moment) → Keeps log.run first (at (device driver.0) driver.1.history.facts) → StartsHeld (device driver.0) driver.1 → (past : List Fact) → Begins log.run past first → StandsAlone (device driver.0) driver.1 → StandsAfter past (device driver.0) driver.1)
+          → (first : Moment) → Keeps log.run first (at (device driver.0) driver.1.history.facts) → (past : List Fact) → Begins log.run past first → StartsHeld (device driver.0) driver.1 → StandsAlone (device driver.0) driver.1 → StandsAfter past (device driver.0) driver.1)
       by (Ok driver) it = λ whole settled serves. stands_then driver whole settled serves it
       by (Err refused) it = tt
 

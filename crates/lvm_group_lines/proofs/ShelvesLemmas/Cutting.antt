@@ -103,7 +103,7 @@ module _ (log : Log) (word : ℕ) (old new : ScriptState) (between : IsBetween o
         posted = subst (λ (s : Option Core). ArePosted new.moment.facts s new.posts) (sym cut.session) posted;
       };
       rests = λ others goes rests. record { ready = ready; landed = landed_then; session = subst (λ (s : Option Core). IfSome s IsSettledCore) (sym cut.session) tt; posts = none rests.posts };
-      begins = λ timely. subst (λ (s : Option Core). IfNone old.session (IfSome s (HasBegunHeld new.moment.device))) (sym cut.session) (none_begins old.session);
+      begins = λ timely facts kept. subst (λ (s : Option Core). IfNone old.session (IfSome s (HasBegunHeld new.moment.device))) (sym cut.session) (none_begins old.session);
       power = ready.power;
       waits = let same : new.moment.device.counts.waits ≡ old.moment.device.counts.waits = ap (λ (d : Device). d.counts.waits) cut.lit ∙ ap (λ (d : Device). d.counts.waits) cuts.new_is in omega (arith, same);
       clock = let same = cut.clock in omega (arith, same);

@@ -119,7 +119,7 @@ module _ (s : ScriptState) (disk : ℕ) (what : Arrange) (of_disk : IsOfDisk dis
       posted = between.posted;
     };
     rests = λ others goes rests. record { ready = record { flights = rests.ready.flights; freed = rests.ready.freed; power = rests.ready.power }; landed = rests.landed; session = rests.session; posts = rests.posts };
-    begins = λ timely. same_session s.session _;
+    begins = λ timely facts kept. same_session s.session _;
     power = between.lit.power;
     waits = omega arith;
     clock = omega arith;

@@ -28,6 +28,5 @@ resting_with s range sound = record {
   quiet = λ quiet. sound.quiet (record { requests = quiet.requests; copy = quiet.copy; status = quiet.status; notes = quiet.notes; buffers = quiet.buffers });
   lit = sound.lit;
   dark = sound.dark;
-  off = sound.off;
   heard = sound.heard;
 }

@@ -340,7 +340,7 @@ module _ (added : List Pp) (old new : State) (sound : IsSound old) (began : IsSe
       on = λ e. on;
       lit = is.sound.lit;
       dark = is.sound.dark;
-      off = is.sound.off;
+      off = λ e. absurd (let no : power.On ≡ power.Off = sym is.settled.power ∙ e in cc no);
       over = λ e. absurd (let no : false ≡ true = sym (ap is_over is.settled.power) ∙ e in cc no);
       stuck = λ e. absurd (let no : power.On ≡ power.Stuck = sym is.settled.power ∙ e in cc no);
       counted = all_of_none (AreCounted s) core.requests requests;

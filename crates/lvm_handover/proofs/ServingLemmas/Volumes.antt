@@ -1,6 +1,6 @@
 -- A session is sound with requests after a volume was made or removed.
 use Rattle.std.proofs.Common.{◌≡◌, ◌==◌, ◌⊎◌, inl, inr, ⊎_elim, ℕ, ◌-◌, ◌≤◌, ◌^◌, Bool, true, false, ◌&&◌, ◌||◌, not, List, [], ◌∷◌, Option, Some, None, if◌then◌else◌, refl, sym, ◌∙◌, ap, subst, arith}
-use Rattle.std.specs.Prelude.{IsTrue, IsFalse, Ok, Err, find}
+use Rattle.std.specs.Prelude.{IsTrue, IsFalse, Ok, Err, find, slice_set}
 use Rattle.std.specs.List.{list_any}
 use Rattle.std.specs.Option.{option_map_or}
 use Rattle.std.proofs.lemmas.List.Elements.{All-contains}
@@ -32,7 +32,7 @@ use Rattle.lvm_session.specs.Causes.{is_held_stale}
 use Rattle.lvm_session.specs.Left.{updates_left}
 use Rattle.lvm_session.specs.Marks.{is_among}
 use Rattle.lvm_session.specs.Sound.{IsGoing, IsSound, may_be_fresh, stays_fresh}
-use Rattle.lvm_handover.specs.passed.Names.{KeepsStatus, Leaves, NoPartition, WasLeftBehind, IsSettled}
+use Rattle.lvm_handover.specs.passed.Names.{KeepsStatus, Leaves, NoPartition, NoVolume, WasLeftBehind, IsSettled}
 use Rattle.lvm_handover.proofs.passed.Tie.{or_true}
 use Rattle.lvm_volumes.specs.passed.VolumePlanFaultGroupFault as fault
 use Rattle.lvm_volumes.specs.passed.Names.{NewVolume, HasSpareRoom, row_for, with_volume, without_volume}
@@ -101,9 +101,9 @@ module _ (old : State) (sound : IsSound old) (began : IsSettled old.core) where
           by true here is rest = or_true (not (is_wanted_stale old.core q)) (list_any (λ (r : Pp). not (is_wanted_stale old.core r)) ps) (inl (second (is_held_stale old.core q) (is_wanted_stale old.core q) here))
           by false here is rest = or_true (not (is_wanted_stale old.core q)) (list_any (λ (r : Pp). not (is_wanted_stale old.core r)) ps) (inr (rest is))
 
-  module _ (new : State) (after : IsSettled new.core) (still : StillHeld old new) (added : List Pp) (d : Descriptor) (log : Log) (N : Descriptor → Type 0) (S F : Pp → Type 0) (more : ℕ)
-      (is : new.core ≡ record old.core { descriptor = d; history = log; status = new.core.status; homes = new.core.homes }) (alike : IsAlike d old.core.descriptor)
-      (ordered : Ordered log.run [] log.facts) (room : log.room ≡ old.core.history.room) (status : KeepsStatus N S F old new) (are : (p : Pp) → S p → IsTrue (is_among added p)) (falls : NoneFalls old.device.counts new.device.counts)
+  module _ (new : State) (after : IsSettled new.core) (still : StillHeld old new) (added : List Pp) (d : Descriptor) (log : Log) (N : Descriptor → Type 0) (S F : Pp → Type 0) (D : ℕ → Type 0) (more : ℕ)
+      (last : List ℕ) (is : new.core ≡ record old.core { descriptor = d; history = log; last = last; status = new.core.status; homes = new.core.homes }) (alike : IsAlike d old.core.descriptor)
+      (ordered : Ordered log.run [] log.facts) (room : log.room ≡ old.core.history.room) (status : KeepsStatus N S F D old new) (are : (p : Pp) → S p → IsTrue (is_among added p)) (falls : NoneFalls old.device.counts new.device.counts)
       (sizes : new.device.sizes ≡ old.device.sizes) (numbers : SpendsNumbers more old.core.status new.core.status) (few : more ≤ 2) (spare : HasSpareRoom old.core)
       (members : (g : Descriptor) → N g → (row : LvRow) (lp : ℕ) (p : Pp) → IsOneOf g.lvs row → IsOneOf (copies_of row lp) p → IsTrue (is_member old.core.descriptor p.disk))
       (fresh : (lv lp : ℕ) (p : Pp) → IsOneOf (copies_in d lv lp) p → IsFalse (calls_stale old.core.origin.table p) → IsFalse (is_among added p) → HasFresh new.core lv lp) where
@@ -124,7 +124,7 @@ module _ (old : State) (sound : IsSound old) (began : IsSettled old.core) where
 
     pub goes_on : IsValid new.core.descriptor → GoesOnWith added old new
     goes_on valid = record {
-      is = is ∙ ap (λ (c : Core). record old.core { descriptor = c.descriptor; history = c.history; status = new.core.status; homes = new.core.homes }) (sym is);
+      is = is ∙ ap (λ (c : Core). record old.core { descriptor = c.descriptor; history = c.history; last = c.last; status = new.core.status; homes = new.core.homes }) (sym is);
       alike = subst (λ (g : Descriptor). IsAlike g old.core.descriptor) (sym descriptor_is) alike;
       sizes = sizes;
       falls = falls;
@@ -192,7 +192,7 @@ module _ (v : NewVolume) (before after : ℕ) (old new : State) (sound : IsSound
 
   module _ (began : IsSettled old.core) (leaves : Leaves (to_make v old.core) before after old new) (is_after : IsSettled new.core) (still : StillHeld old new) (keeps : KeepsFresh old new) where
     made : (lv : ℕ) → IsVolumeMade v lv old new → MayServe [] new × StaysSound new
-    made lv it = nothing_added new (may_serve old sound began new is_after still [] (with_volume old.core.descriptor (row_for v lv it.map)) (with_fact (making v lv old) (Made lv)) (IsWith v old.core) NoPartition (IsChosen v old.core) 2 it.is refl
+    made lv it = nothing_added new (may_serve old sound began new is_after still [] (with_volume old.core.descriptor (row_for v lv it.map)) (with_fact (making v lv old) (Made lv)) (IsWith v old.core) NoPartition (IsChosen v old.core) NoVolume 2 (slice_set old.core.last lv 0) it.is refl
         (ordered-push old.core.history.run [] (making v lv old).facts (Made lv) (ordered-push old.core.history.run [] old.core.history.facts (Making lv (volume_blocks old.core.descriptor.mib v.lps) v.mode) sound.told.ordered tt) tt)
         refl leaves.status (λ p none. absurd none) leaves.falls leaves.writes.sizes leaves.numbers (omega arith) it.may.room of_members (λ n lp p one was apart. fresh n lp p one was))
       where
@@ -218,7 +218,7 @@ module _ (v : NewVolume) (before after : ℕ) (old new : State) (sound : IsSound
             (one_insert old.core.descriptor.lvs (lv - 1) (row_for v lv it.map) its.row at.0)
 
     failed : (disk : ℕ) → MakingFails v disk old new → MayServe [] new × StaysSound new
-    failed disk it = nothing_added new (may_serve old sound began new is_after still [] old.core.descriptor old.core.history (IsWith v old.core) NoPartition (IsChosen v old.core) 2 it.ends.is refl sound.told.ordered refl leaves.status (λ p none. absurd none) leaves.falls leaves.writes.sizes
+    failed disk it = nothing_added new (may_serve old sound began new is_after still [] old.core.descriptor old.core.history (IsWith v old.core) NoPartition (IsChosen v old.core) NoVolume 2 old.core.last it.ends.is refl sound.told.ordered refl leaves.status (λ p none. absurd none) leaves.falls leaves.writes.sizes
         leaves.numbers (omega arith) it.may.room of_members
         (λ n lp p one was apart. keeps n lp p (subst (λ (g : Descriptor). IsOneOf (copies_in g n lp) p) (sym (ap (λ (c : Core). c.descriptor) it.ends.is)) one) (inr (had_fresh old sound began n lp p one was))))
 
@@ -242,7 +242,7 @@ mklv_serves v before after old new (Err fault.Memory) sound c gives = refused_se
 
 module _ (lv before after : ℕ) (old new : State) (sound : IsSound old) (began : IsSettled old.core) (leaves : Leaves (to_remove lv old.core) before after old new) (is_after : IsSettled new.core) (still : StillHeld old new) (keeps : KeepsFresh old new) where
   removed : IsVolumeRemoved lv old new → MayServe [] new × StaysSound new
-  removed it = nothing_added new (may_serve old sound began new is_after still [] (without_volume old.core.descriptor lv) (with_fact (removing lv old) (Removed (Lv lv))) (λ (next : Descriptor). next ≡ without_volume old.core.descriptor lv) NoPartition NoPartition 1 it.is refl
+  removed it = nothing_added new (may_serve old sound began new is_after still [] (without_volume old.core.descriptor lv) (with_fact (removing lv old) (Removed (Lv lv))) (λ (next : Descriptor). next ≡ without_volume old.core.descriptor lv) NoPartition NoPartition NoVolume 1 old.core.last it.is refl
       (ordered-push old.core.history.run [] (removing lv old).facts (Removed (Lv lv)) (ordered-push old.core.history.run [] old.core.history.facts (Removing (Lv lv)) sound.told.ordered tt) tt)
       refl leaves.status (λ p none. absurd none) leaves.falls leaves.writes.sizes leaves.numbers (omega arith) it.may.room
       (λ g next row lp p volume one. is_member_of old.core.descriptor p (copy_is_placed old.core.descriptor sound.fitting.valid row lp p (was_volume row (subst (λ (x : Descriptor). IsOneOf x.lvs row) next volume)) one)) (λ n lp p one was apart. fresh n lp p one was))

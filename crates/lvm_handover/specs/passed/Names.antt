@@ -1,7 +1,7 @@
 -- Passed on from the crates below.
 pub use Rattle.lvm_core.specs.Committing.{AreUnused, moment_of}
 pub use Rattle.lvm_core.specs.Held.{AreNotesHome, IsHeld, NotesAreHome, StartsHeld}
-pub use Rattle.lvm_core.specs.Leaves.{EntersVolumes, IsOfCommand, KeepsStatus, Leaves, NoPartition, Scope, WasLeftBehind}
+pub use Rattle.lvm_core.specs.Leaves.{EntersVolumes, IsOfCommand, KeepsStatus, Leaves, NoPartition, NoVolume, Scope, WasLeftBehind}
 pub use Rattle.lvm_core.specs.Looking.{IsNumberOf}
 pub use Rattle.lvm_core.specs.Settled.{IsSettled}
 pub use Rattle.lvm_core.specs.Sound.{HasNoneOpen, HaveAllLanded, IsFittingBetween, IsQuiet, IsSoundBetween}

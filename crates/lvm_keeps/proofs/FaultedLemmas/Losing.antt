@@ -148,7 +148,7 @@ module _ (held : HeldWritesAreSound) (m : Mode) where
   off_is_sound = off_keeps (lost m) (off m) sound refl (ends m)
 
 cut : (m : Mode) → ArrangesSession (off m) (dark m) (arrange.Cut 0) true
-cut m = record { device = (refl, (refl, inr (record { power = refl; media = tt; cuts = record { later = omega arith; risen = omega arith }; new_is = refl }))); is = refl }
+cut m = record { device = (refl, (refl, inr (record { power = refl; media = tt; cuts = record { later = omega arith; risen = omega arith }; once = refl; ordered = tt; new_is = refl }))); is = refl }
 
 pub lost_votes_are_sound : HeldWritesAreSound → LostVotesAreSound
 lost_votes_are_sound held = record { sound = sound held; is_lost = is_lost_so; caused = λ m. loss_is_caused (lost m) (sound held m) (is_lost_so m); none = none_made; ends = ends }

@@ -19,7 +19,7 @@ abbrev none : Counts
 none = record { starts = λ disk. 0; misses = λ disk. 0; faults = λ disk. 0; cuts = 0; waits = 0 }
 
 abbrev bare : Device
-bare = record { sizes = 8192 ∷ []; media = None; flights = []; freed = []; power = true; counts = none; arranges = false; orders = record { made = 0; last = None }; wrote = None }
+bare = record { sizes = 8192 ∷ []; media = None; flights = []; freed = []; power = true; counts = none; arranges = false; orders = record { made = 0; last = None; alone = None }; wrote = None }
 
 abbrev off : ScriptState
 off = record { moment = record { device = bare; facts = [] }; session = None; posts = []; last = 0 }

@@ -61,7 +61,7 @@ use Rattle.lvm_top.proofs.StandingLemmas.Volumes.{mklv_serves}
 
 -- ---- the lines that make the volume
 
--- What they leave: while the clock is ahead, and no other group has a quorum, a span goes on; the next line may begin unless nothing was heard of a transfer.
+-- What they leave: while the clock is ahead, and no other group is found, a span goes on; the next line may begin unless nothing was heard of a transfer.
 pub record MakesSo (run : ℕ) (Alone : Type 0) (answer : Reply) (first last : ScriptState) : Type 0 where
   pub keeps : IsTimely run first → Alone → (begun : Moment) → Keeps run begun first.moment → StandsBy run begun first → Keeps run begun last.moment × ((IsStuck answer → ⊥) → StandsBy run begun last)
   pub timely : (IsStuck answer → ⊥) → IsTimely run first → IsTimely run last

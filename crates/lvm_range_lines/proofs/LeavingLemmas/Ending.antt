@@ -190,7 +190,7 @@ module _ {S : Type 0} (device : S → Device) (first : S × Core) (posts : Vec P
             left = left_behind last;
             between = λ heard. absurd (heard stuck);
             rests = λ not_asking. absurd (not_asking tt);
-            begins = λ timely. tt;
+            begins = λ timely facts kept. tt;
             power = ap (λ (d : Device). d.power) same_device ∙ lit.power;
             waits = let w = to.leaves.keeps.counts.waits in let same = ap (λ (d : Device). d.counts.waits) same_device in omega (arith, w, same);
             clock = omega arith;

@@ -103,7 +103,7 @@ module _ {S : Type 0} (device : S → Device) (run : ℕ) (old : ScriptState) (c
       posted = subst (λ (ps : List Post). ArePosted (history_in stage).facts (session_in stage) ps) (sym waits.posts) (record { each = λ k d less. absurd (omega (arith, less)); rise = λ i j d before less. absurd (omega (arith, less)) });
     };
     rests = λ not_asking. absurd (not_asking tt);
-    begins = λ timely. off_begins old.session;
+    begins = λ timely facts kept. off_begins old.session;
     power = ap (λ (d : Device). d.power) waits.shelf ∙ goes.power;
     waits = let w = goes.waits in let same = ap (λ (d : Device). d.counts.waits) waits.shelf in omega (arith, w, same);
     clock = goes.clock;

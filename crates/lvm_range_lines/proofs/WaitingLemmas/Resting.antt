@@ -126,7 +126,7 @@ module _ {S : Type 0} (device : S → Device) (first : S × Core) (posts : Vec P
       posted = none_posted facts (Some core) [] refl;
     };
     rests = λ not_asking. absurd (not_asking tt);
-    begins = λ timely. tt;
+    begins = λ timely facts kept. tt;
     power = between.lit.power;
     waits = omega arith;
     clock = omega arith;

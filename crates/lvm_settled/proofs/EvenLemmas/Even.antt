@@ -24,6 +24,7 @@ use Rattle.lvm_commit.specs.LawsOfData.{IsFree, IsSectorOf}
 use Rattle.lvm_commit.specs.Settling.{IsOfStatus, IsOfCommit}
 use Rattle.lvm_write.specs.Written.{KeepsShelf}
 use Rattle.lvm_session.specs.State.{State, is_there}
+use Rattle.lvm_core.specs.Leaves.{NoVolume}
 use Rattle.lvm_volumes.specs.passed.Names.{NoPartition, IsOfCommand, KeepsStatus, without_volume}
 use Rattle.lvm_volumes.specs.Volumes.{IsWith, IsChosen}
 use Rattle.lvm_rest.specs.Rest.{IsEven}
@@ -42,7 +43,7 @@ record_low kind.Status zero part len s two fits inside place = omega (arith, fit
 record_low kind.Status (suc zero) part len s two fits inside place = omega (arith, fits, inside, place)
 record_low kind.Status (suc (suc slot)) part len s two fits inside place = absurd (omega (arith, two))
 
-module _ (N : Descriptor → Type 0) (S Z : Pp → Type 0) (old new : State) (was is : Media) (stood stands : Stamped Status) (writes : KeepsShelf (is_there old.core) (IsOfCommand N Z old new) old.device new.device) (status : KeepsStatus N S Z old new) (free : (pp : Pp) → Z pp → IsFree old.core.descriptor pp)
+module _ (N : Descriptor → Type 0) (S Z : Pp → Type 0) (D : ℕ → Type 0) (old new : State) (was is : Media) (stood stands : Stamped Status) (writes : KeepsShelf (is_there old.core) (IsOfCommand N Z old new) old.device new.device) (status : KeepsStatus N S Z D old new) (free : (pp : Pp) → Z pp → IsFree old.core.descriptor pp)
     (told : old.device.media ≡ Some was) (told_new : new.device.media ≡ Some is) (wanted : AreWanted old new stood stands) where
   low_status : (d s : ℕ) (value : Sector) → IsOfStatus old.core.status new.core.status d s value → s < data_start
   low_status d s value of = let w = of.0 in record_low w.kind (w.slots d) of.2.its.its.part (length w.framed.content) s (of.2.slots d) of.2.frames.content of.2.its.its.inside of.2.its.its.place
@@ -96,8 +97,8 @@ module _ (N : Descriptor → Type 0) (S Z : Pp → Type 0) (old new : State) (wa
   kept_even even = free_keeps_even (contents_of before) (contents_of after) old.core.descriptor (Some stood) (Some stands) (is_there old.core) (is_there new.core) fewer only_free even
 
 pub mklv_keeps_even : MklvKeepsEven
-mklv_keeps_even v old new was is stood stands writes status free told told_new wanted even = kept_even (IsWith v old.core) NoPartition (IsChosen v old.core) old new was is stood stands writes status free told told_new wanted even
+mklv_keeps_even v old new was is stood stands writes status free told told_new wanted even = kept_even (IsWith v old.core) NoPartition (IsChosen v old.core) NoVolume old new was is stood stands writes status free told told_new wanted even
 
 pub rmlv_keeps_even : RmlvKeepsEven
 rmlv_keeps_even lv old new was is stood stands writes status told told_new wanted even =
-    kept_even (λ next. next ≡ without_volume old.core.descriptor lv) NoPartition NoPartition old new was is stood stands writes status (λ pp none. absurd none) told told_new wanted even
+    kept_even (λ next. next ≡ without_volume old.core.descriptor lv) NoPartition NoPartition NoVolume old new was is stood stands writes status (λ pp none. absurd none) told told_new wanted even

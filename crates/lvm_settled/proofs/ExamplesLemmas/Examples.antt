@@ -221,7 +221,6 @@ noted_sound x =
       quiet = λ none. refl;
       lit = first.lit;
       dark = first.dark;
-      off = first.off;
       heard = first.heard;
     }
 

@@ -1,6 +1,6 @@
 -- A tied session at which nothing is under way is at rest.
-use Rattle.std.proofs.Common.{◌≡◌, ◌⊎◌, inl, ⊎_elim, ℕ, Bool, true, false, ◌&&◌, ◌==◌, not, eqb-true, List, Option, Some, None, refl, sym, ap, subst, ◌∙◌, arith}
-use Rattle.std.specs.Prelude.{IsTrue, IsFalse, if◌then◌else◌, is_some, option_and_then, option_map}
+use Rattle.std.proofs.Common.{◌≡◌, ◌⊎◌, ⊎_elim, ℕ, Bool, true, false, ◌&&◌, not, List, Option, Some, None, refl, sym, ap, subst, ◌∙◌, arith}
+use Rattle.std.specs.Prelude.{IsTrue, IsFalse, is_some, option_and_then, option_map}
 use Rattle.std.specs.Option.{option_map_or}
 use Rattle.std.proofs.lemmas.Bool.{and_parts}
 use Rattle.std.proofs.lemmas.Bool.Decides.{nat_tests}
@@ -15,7 +15,7 @@ use Rattle.lvm_num.proofs.VotesLemmas.{read_meets_write}
 use Rattle.lvm_vol.specs.Facts.{Fact}
 use Rattle.lvm_disk.specs.Device.{Image, image_of}
 use Rattle.lvm_kept.specs.Contents.{Contents, contents_of}
-use Rattle.lvm_kept.specs.Group.{Finds, IsAlike, has_room, is_named, is_of, members_in, passes}
+use Rattle.lvm_kept.specs.Group.{Finds, has_room, is_named, members_in}
 use Rattle.lvm_kept.proofs.CommittedLemmas.Finding.{finding_reads, images_within}
 use Rattle.lvm_mwc.specs.declared.notes.DiskNotes.{DiskNotes}
 use Rattle.lvm_mwc.specs.Cache.{notes_on, is_named as is_named_by}
@@ -30,7 +30,6 @@ use Rattle.lvm_crash.specs.Session.{as_marks, marks_of, marks_shown, Describes}
 use Rattle.lvm_rest.specs.Rest.{IsAtRest, IsIdle, SeesThat}
 use Rattle.lvm_rest.proofs.GoodLemmas.Rest.{good_is_rest}
 use Rattle.lvm_steps.proofs.GroupLemmas.Members.{parts_of}
-use Rattle.lvm_tie.specs.passed.Names.{Began}
 use Rattle.lvm_tie.proofs.StateLemmas.{there_first}
 use Rattle.lvm_tie.proofs.TiedLemmas.Orderly.{valid_of}
 use Rattle.lvm_tie.proofs.TiedLemmas.Recorded.{shown_of, shows_own}
@@ -39,6 +38,7 @@ use Rattle.lvm_tie.specs.Seen.{IsRequestAt, IsStepAt, SeesCopy, SeesNote, step_w
 use Rattle.lvm_tie.specs.Tied.{IsTied, ShowsRecords, ShowsStatus}
 use Rattle.lvm_tie.specs.Begins.{NotesAreHomeIn, IsResting, ShowsIts, TiedRests, shown_to}
 use Rattle.lvm_tie.proofs.BeginsLemmas.Resting.{names_written, none_at, some_is_none}
+use Rattle.lvm_tie.proofs.SeenLemmas.Beside.{plain_copies, plain_status}
 
 note_none : (n : Option Groups) → SeesNote n None → n ≡ None
 note_none None sees = refl
@@ -70,13 +70,13 @@ module _ (past : List Fact) (s : State) (tied : IsTied past s) (rests : IsRestin
   no_update = ap (λ (o : Option Status). option_map (λ (t : Status). let r : Stamped Status = record { stamp = core.status.stamp; value = t } in r) o) rests.in_flight
 
   none_flies : v.in_flight ≡ None
-  none_flies = tied.sees.status.in_flight ∙ ap (option_map as_marks) no_update
+  none_flies = tied.sees.status.in_flight ∙ ap (option_map (as_marks None)) no_update
 
   idle : IsIdle v
   idle = record {
     queue = λ i. empty i (v.queue i) refl;
     in_flight = none_flies;
-    wanted = tied.sees.status.wanted ∙ ap marks_of (sym rests.committed) ∙ sym tied.sees.status.committed;
+    wanted = tied.sees.status.wanted ∙ ap (marks_of None) (sym rests.committed) ∙ sym tied.sees.status.committed;
     no_status = λ d. tied.sees.status.started d ∙ (on.going.status.idle rests.in_flight d).1;
     no_note = λ d. note_none (v.flying_note d) (subst (SeesNote (v.flying_note d)) (rests.notes d) (tied.sees.notes.flying d));
     no_copy = subst (λ (o : Option OpenCopy). SeesCopy (groups_of core) o v.open_copy) rests.copy tied.sees.open_copy;
@@ -123,20 +123,6 @@ module _ (past : List Fact) (s : State) (tied : IsTied past s) (rests : IsRestin
   someone : ShareMember group (members_in c all_disks group.id group) (is_there core)
   someone = read_meets_write group (members_in c all_disks group.id group) (is_there core) (finding_reads c all_disks group.id group found_all).reads.enough enough
 
-  alike : (d : ℕ) (r : Stamped Descriptor) → c.descriptor d ≡ Some r → r.value.id ≡ group.id → IsAlike r.value group
-  alike d r is own = subst (IsAlike r.value) records.value
-      (tied.describes.stands.alike d someone.0 r records.descriptor is (records.described someone.0 someone.3) (own ∙ sym (ap (λ (g : Descriptor). g.id) records.value)))
-
-  began : Began c group all_disks
-  began = record {
-    enough = (finding_reads c all_disks group.id group found_all).reads.enough;
-    alike = λ d r member is. alike d r is (own_of d r is (parts_of c all_disks group.id group d member).1);
-    since = λ d m r q is own member there. inl (alike d r is own);
-  }
-    where
-      own_of : (d : ℕ) (r : Stamped Descriptor) → c.descriptor d ≡ Some r → passes (is_of group.id) (c.descriptor d) ≡ true → r.value.id ≡ group.id
-      own_of d r is passed = let test : (r.value.id == group.id) ≡ true = sym (ap (passes (is_of group.id)) is) ∙ passed in eqb-true r.value.id group.id test
-
   room : (d : ℕ) → IsTrue (is_there core d) → IsTrue (has_room c d group)
   room d there =
       let parts = and_parts (is_member group d) (not (calls_missing core.status.wanted d)) there in
@@ -148,8 +134,7 @@ module _ (past : List Fact) (s : State) (tied : IsTied past s) (rests : IsRestin
   abbrev shows : ShowsIts s tied.media
   shows = record {
     found = found_all;
-    disks = all_disks;
-    began = began;
+    only = tied.describes.stands.only;
     descriptor = records.descriptor;
     value = records.value;
     latest = records.latest;
@@ -163,24 +148,24 @@ module _ (past : List Fact) (s : State) (tied : IsTied past s) (rests : IsRestin
   }
 
   its_own : shows.stands.value.id ≡ group.id
-  its_own = ap (λ (x : Status). x.id) shows.committed ∙ shows.own
+  its_own = its_status.own
 
-  stated : v.media.status someone.0 ≡ Some (as_marks shows.stands)
-  stated = tied.describes.shown.status someone.0 ∙ ap (marks_shown group.id) (shows.stated someone.0 someone.3) ∙ shows_own group.id shows.stands its_own
+  stated : v.media.status someone.0 ≡ Some (as_marks None shows.stands)
+  stated = plain_status tied.sees.beside tied.describes.shown someone.0 ∙ ap (marks_shown None group.id) (shows.stated someone.0 someone.3) ∙ shows_own group.id shows.stands its_own
 
-  same_committed : v.committed ≡ as_marks shows.stands
+  same_committed : v.committed ≡ as_marks None shows.stands
   same_committed =
-      let r = shown_of group.id (c.status has_committed.disk) v.committed (sym (tied.describes.shown.status has_committed.disk) ∙ has_committed.shown) in
+      let r = shown_of group.id (c.status has_committed.disk) v.committed (sym (plain_status tied.sees.beside tied.describes.shown has_committed.disk) ∙ has_committed.shown) in
       ⊎_elim
       (λ (before : stamp_lt r.0.stamp shows.stands.stamp ≡ true). earlier (subst (λ (m : Stamped Marks). stamp_lt m.stamp shows.stands.stamp ≡ true) r.3 before))
-      (λ (same : r.0 ≡ shows.stands). sym r.3 ∙ ap as_marks same)
+      (λ (same : r.0 ≡ shows.stands). sym r.3 ∙ ap (as_marks None) same)
       (shows.last has_committed.disk r.0 r.1 r.2)
     where
-      earlier : stamp_lt v.committed.stamp shows.stands.stamp ≡ true → v.committed ≡ as_marks shows.stands
+      earlier : stamp_lt v.committed.stamp shows.stands.stamp ≡ true → v.committed ≡ as_marks None shows.stands
       earlier before = ⊎_elim
           (λ (after : stamp_lt shows.stands.stamp v.committed.stamp ≡ true). not_both v.committed.stamp shows.stands.stamp before after)
-          (λ (x : (as_marks shows.stands ≡ v.committed) ⊎ (v.in_flight ≡ Some (as_marks shows.stands))). ⊎_elim (λ (e : as_marks shows.stands ≡ v.committed). sym e) (λ (e : v.in_flight ≡ Some (as_marks shows.stands)). some_is_none v.in_flight (as_marks shows.stands) none_flies e) x)
-          (tied.good.found.only someone.0 (as_marks shows.stands) stated)
+          (λ (x : (as_marks None shows.stands ≡ v.committed) ⊎ (v.in_flight ≡ Some (as_marks None shows.stands))). ⊎_elim (λ (e : as_marks None shows.stands ≡ v.committed). sym e) (λ (e : v.in_flight ≡ Some (as_marks None shows.stands)). some_is_none v.in_flight (as_marks None shows.stands) none_flies e) x)
+          (tied.good.found.only someone.0 (as_marks None shows.stands) stated)
 
   -- ---- all that it sees
 
@@ -192,10 +177,11 @@ module _ (past : List Fact) (s : State) (tied : IsTied past s) (rests : IsRestin
 
   sees : SeesThat v group shows.stands (is_there core) c
   sees = record {
-    copies = record { copies = tied.describes.volumes.copies; inside = tied.describes.volumes.inside; notes = tied.describes.volumes.notes; mark = tied.describes.volumes.mark };
+    beside = tied.sees.beside;
+    copies = record { copies = plain_copies tied.sees.beside tied.describes.volumes; inside = tied.describes.volumes.inside; notes = tied.describes.volumes.notes; mark = tied.describes.volumes.mark };
     blocks = tied.describes.shown.blocks;
     names = tied.describes.shown.names;
-    status = tied.describes.shown.status;
+    status = plain_status tied.sees.beside tied.describes.shown;
     committed = same_committed;
     missing = tied.sees.status.missing;
     notes = notes_seen;

@@ -110,6 +110,7 @@ module _ (past : List Fact) (s : State) (media : Media) (sound : IsSound s) (pow
     copies = copies;
     blocks = seen_first.blocks;
     names = seen_first.names;
+    beside = seen_first.beside;
     status = seen_first.status;
     committed = seen_first.committed;
     missing = seen_first.missing;
@@ -128,7 +129,7 @@ module _ (past : List Fact) (s : State) (media : Media) (sound : IsSound s) (pow
   at_rest = record {
     legal = follows.holds.legal;
     kept = kept;
-    alone = λ disks id g f. inl (one_is_only c all_disks core.descriptor (images_within image) kept.lasting.alike (stands.only image (media_may s.device media stands.told)) stands.held.shows.found id g (disks, f));
+    alone = λ disks id g f. inl (one_is_only c core.descriptor (stands.only image (media_may s.device media stands.told)) (all_disks, stands.held.shows.found) id g (disks, f));
     even = stands.even;
     behind = stands.behind;
   }
@@ -169,9 +170,9 @@ module _ (past : List Fact) (s : State) (media : Media) (sound : IsSound s) (pow
     };
     facts = facts_are;
     status = record {
-      committed = ap (λ (m : Stamped Marks). m.value) seen_first.committed ∙ ap marks_of stands.held.shows.committed;
-      in_flight = idle_first.in_flight ∙ sym (ap (option_map as_marks) no_update);
-      wanted = idle_first.wanted ∙ ap (λ (m : Stamped Marks). m.value) seen_first.committed ∙ ap marks_of (stands.held.shows.committed ∙ rests.committed);
+      committed = ap (λ (m : Stamped Marks). m.value) seen_first.committed ∙ ap (marks_of None) stands.held.shows.committed;
+      in_flight = idle_first.in_flight ∙ sym (ap (option_map (as_marks None)) no_update);
+      wanted = idle_first.wanted ∙ ap (λ (m : Stamped Marks). m.value) seen_first.committed ∙ ap (marks_of None) (stands.held.shows.committed ∙ rests.committed);
       started = λ d. idle_first.no_status d ∙ sym (none_written d);
       written = λ d is. marked (has core.status.writes.written d) (on.going.status.idle rests.in_flight d).2 is;
       held = λ u is enough. some_is_none (update_of core.status) u no_update is;
@@ -184,6 +185,7 @@ module _ (past : List Fact) (s : State) (media : Media) (sound : IsSound s) (pow
     };
     open_copy = subst (λ (o : Option OpenCopy). SeesCopy (groups_of core) o v.open_copy) (sym rests.copy) idle_first.no_copy;
     step_write = idle_first.no_step ∙ sym (ap (λ (o : Option OpenCopy). step_write_in o) rests.copy);
+    beside = seen_first.beside;
   }
 
   none_carried : (rows : List Flown) (fs : List Flight) → rows ≡ [] → CarryTheirs core v fs rows
@@ -221,7 +223,7 @@ module _ (past : List Fact) (s : State) (media : Media) (sound : IsSound s) (pow
         value = stands.held.shows.value;
         described = stands.held.shows.described;
         latest = stands.held.shows.latest;
-        settled = λ none. record { stands = stated; committed = stands.held.shows.committed; stated = stands.held.shows.stated; last = stands.held.shows.last };
+        settled = λ none. record { stands = stated; committed = stands.held.shows.committed; own = ap (λ (x : Status). x.id) stands.held.shows.committed ∙ stands.held.shows.own; stated = stands.held.shows.stated; last = stands.held.shows.last };
       };
     };
     notes = λ d items flies. some_is_none (flight_on core.cache d) items (rests.notes d) flies;

@@ -79,6 +79,7 @@ module _ (past : List Fact) (s : State) (tied : IsTied past s) (ended : (cursor 
     notes = tied.sees.notes;
     open_copy = not_open;
     step_write = no_write;
+    beside = tied.sees.beside;
   }
 
   carry_none : (fs : List Flight) (rows : List Flown) → CarryTheirs (closed core) v fs rows

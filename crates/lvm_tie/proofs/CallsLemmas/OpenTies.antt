@@ -245,6 +245,7 @@ module _ (past : List Fact) (s : State) (new : Core) (counts : Counts) (lv lp nu
     notes = tied.sees.notes;
     open_copy = record { copy = o; is_open = refl; target = refl; passed = λ l g. refl };
     step_write = tied.sees.step_write ∙ ap Rattle.lvm_tie.specs.Seen.step_write_in may.none;
+    beside = tied.sees.beside;
   }
 
   carries : (f : Flight) (who : Owner) → CarriesStep core2 w f who

@@ -129,6 +129,7 @@ module _ (past : List Fact) (old : State) (place : ℕ) (o : Open) (tied : IsTie
     notes = tied.sees.notes;
     open_copy = tied.sees.open_copy;
     step_write = tied.sees.step_write;
+    beside = tied.sees.beside;
   }
 
   takes : Takes v i q

@@ -127,8 +127,8 @@ module _ (votes : Votes) (s : ModelState) (group : Descriptor) (in_flight : Opti
       describes = description_lasts votes (EndNote f.disk s.media.names s.home_note (flying_after s f.disk)) s (after_note s s.media.names s.home_note (flying_after s f.disk)) group in_flight in_flight before now (may, refl) good tt matches.describes remain.kept (record {
         blocks = λ lv b p copy. matches.describes.shown.blocks lv b p copy ∙ blocks_are_sectors was group.mib b p ∙ sym (same_at p.disk (sector_of group.mib p.pp b) (λ e. let place : sector_of group.mib p.pp b ≡ 8 = e in omega (arith, place))) ∙ sym (blocks_are_sectors is group.mib b p);
         names = λ d lv g. matches.describes.shown.names d lv g ∙ ap (λ (note : Option Noted). names_if note lv g) (sym (note_stays d));
-        status = λ d. matches.describes.shown.status d ∙ ap (marks_shown group.id) (sym (status_stays d));
-        statuses = statuses_last.moves s (after_note s s.media.names s.home_note (flying_after s f.disk)) group in_flight before now matches.describes.shown.statuses refl (λ d. inl (status_stays d));
+        status = λ d. matches.describes.shown.status d ∙ ap (marks_shown s.beside group.id) (sym (status_stays d));
+        statuses = statuses_last.moves s (after_note s s.media.names s.home_note (flying_after s f.disk)) group in_flight before now matches.describes.shown.statuses refl refl (λ d. inl (status_stays d));
       });
       own = λ ends there. absurd (clash (s.missing f.disk) missing there);
       others = λ d ne. refl;

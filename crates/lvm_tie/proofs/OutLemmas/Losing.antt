@@ -37,7 +37,7 @@ not_owed_by test (r ∷ rows) d member none =
     by false there h own rest = rest h
 
 -- no mark is another one where a disk is missing
-pub same_marks : (disk : ℕ) (old new : Status) → BecomesMissing disk old new → marks_of new ≡ marks_of old
+pub same_marks : (disk : ℕ) (old new : Status) → BecomesMissing disk old new → marks_of None new ≡ marks_of None old
 same_marks disk old new wants = λ t. record { stale = λ p. wants.stale p t; dirty = λ lv. list_any (λ n. n == lv) (wants.dirty t) }
 
 -- ---- the status

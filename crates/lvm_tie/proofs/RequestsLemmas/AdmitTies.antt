@@ -387,7 +387,7 @@ module _ (past : List Fact) (old new : State) (place : ℕ) (admits : Admits old
     stored = new.core.status
 
     abbrev w2 : ModelState
-    w2 = after_wants w (marks_of stored.wanted) w.missing w.open_copy
+    w2 = after_wants w (marks_of None stored.wanted) w.missing w.open_copy
 
     wanted_rest : seen stored ≡ record (seen core.status) { wanted = stored.wanted }
     wanted_rest = dirty_rest (lv_of ask) core.status stored (tied.orderly.sound.on tied.orderly.on).going.status wants
@@ -402,7 +402,7 @@ module _ (past : List Fact) (old new : State) (place : ℕ) (admits : Admits old
         by true = refl
         by false = is
 
-    may_want : Wants w (marks_of stored.wanted) w.missing w.open_copy
+    may_want : Wants w (marks_of None stored.wanted) w.missing w.open_copy
     may_want = record {
       missing_still = λ d is. is;
       still = λ c is. wanted_is c ∙ is;
@@ -413,7 +413,7 @@ module _ (past : List Fact) (old new : State) (place : ℕ) (admits : Admits old
       behind = λ lv b c e copy fresh gone copy2 usable_e unwanted. wanted_is c ∙ tied.good.sound.behind.left_behind lv b c e copy fresh gone copy2 usable_e (sym (wanted_is e) ∙ unwanted);
     }
 
-    want_step : ModelStep tied.votes (Want (marks_of stored.wanted) w.missing w.open_copy) w w2
+    want_step : ModelStep tied.votes (Want (marks_of None stored.wanted) w.missing w.open_copy) w w2
     want_step = (may_want, refl)
 
     core3 : Core
@@ -426,9 +426,9 @@ module _ (past : List Fact) (old new : State) (place : ℕ) (admits : Admits old
       setting = tied.setting;
       view = w2;
       sees = sees_wanted core.status stored wanted_rest wants.wants.missing past core2 w refl sees_w;
-      good = each_keeps tied.votes (Want (marks_of stored.wanted) w.missing w.open_copy) w w2 want_step good_w;
+      good = each_keeps tied.votes (Want (marks_of None stored.wanted) w.missing w.open_copy) w w2 want_step good_w;
       describes = subst (λ (u : Option (Stamped Status)). Describes w2 w2.facts core.descriptor u (contents_of (image_of old.device.sizes tied.media))) (sym (update_same core.status stored wanted_rest wants.wants.missing))
-          (quiet_lasts tied.votes (Want (marks_of stored.wanted) w.missing w.open_copy) w w2 core.descriptor (update_of core.status) (contents_of (image_of old.device.sizes tied.media)) want_step good_w tt describes_w refl refl refl);
+          (quiet_lasts tied.votes (Want (marks_of None stored.wanted) w.missing w.open_copy) w w2 core.descriptor (update_of core.status) (contents_of (image_of old.device.sizes tied.media)) want_step good_w tt describes_w refl refl refl);
       write = tied.write;
       orderly = orderly (write_same core.status stored wanted_rest wants.wants.missing core.homes tied.write tied.orderly.update);
       since = subst (OnlyUpdateSince old.device tied.write) (sym (update_same core.status stored wanted_rest wants.wants.missing)) tied.since;

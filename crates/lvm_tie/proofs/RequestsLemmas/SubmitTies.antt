@@ -54,6 +54,7 @@ use Rattle.lvm_tie.specs.Out.{CarriesStep}
 use Rattle.lvm_tie.specs.Seen.{update_of, SeesRequest, IsRequestAt, IsStepAt, Sees}
 use Rattle.lvm_tie.specs.Tied.{IsOrderly, IsTied}
 use Rattle.lvm_tie.specs.Requests.{SubmitTies}
+use Rattle.lvm_tie.proofs.SeenLemmas.Beside.{plain_copies}
 
 -- what is asked of a request that is submitted
 pub record MaySubmit (past : List Fact) (core : Core) (ask : Ask) (bytes : Option (List ℕ)) : Type 0 where
@@ -158,8 +159,8 @@ module _ (past : List Fact) (old : State) (client : ℕ) (ask : Ask) (bytes : Op
 
   copies : (k : ℕ) → k < count_of ask → (p : Pp) → v.is_copy (lv_of ask) (at_of ask + k) p ≡ v.is_copy (lv_of ask) (at_of ask) p
   copies k lt p =
-      let here = tied.describes.volumes.copies row lp (at_of ask + k) p row_one (block k lt) in
-      let first = tied.describes.volumes.copies row lp (at_of ask) p row_one (record { inside = lp_inside; partition = refl }) in
+      let here = plain_copies tied.sees.beside tied.describes.volumes row lp (at_of ask + k) p row_one (block k lt) in
+      let first = plain_copies tied.sees.beside tied.describes.volumes row lp (at_of ask) p row_one (record { inside = lp_inside; partition = refl }) in
       subst (λ n. v.is_copy n (at_of ask + k) p ≡ v.is_copy n (at_of ask) p) row_number
       (same_meaning (v.is_copy row.number (at_of ask + k) p) (v.is_copy row.number (at_of ask) p) here.0 here.1 first.0 first.1)
 
@@ -183,7 +184,7 @@ module _ (past : List Fact) (old : State) (client : ℕ) (ask : Ask) (bytes : Op
         (sym at.volume, ap track_group_of (sym at.is) ∙ one_group at.way at.less, ap (λ n. v.is_copy (lv_of ask) n) (sym at.is) ∙ (λ t p. copies at.way at.less p t));
     inside = λ lv b over. let at = behind lv b over in
         let there = tied.describes.volumes.some row lp row_one lp_inside in
-        let is = (tied.describes.volumes.copies row lp (at_of ask + at.way) there.0 row_one (block at.way at.less)).1 (there.1, there.2) in
+        let is = (plain_copies tied.sees.beside tied.describes.volumes row lp (at_of ask + at.way) there.0 row_one (block at.way at.less)).1 (there.1, there.2) in
         (there.0, subst (λ n. IsTrue (v.is_copy n b there.0)) (row_number ∙ at.volume) (subst (λ n. IsTrue (v.is_copy row.number n there.0)) at.is is));
   }
 
@@ -264,6 +265,7 @@ module _ (past : List Fact) (old : State) (client : ℕ) (ask : Ask) (bytes : Op
     notes = tied.sees.notes;
     open_copy = tied.sees.open_copy;
     step_write = tied.sees.step_write;
+    beside = tied.sees.beside;
   }
 
   carries : (g : Flight) (who : Owner) → CarriesStep core v g who → CarriesStep new w g who

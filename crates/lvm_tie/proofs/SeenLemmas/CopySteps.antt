@@ -74,6 +74,7 @@ module _ (past : List Fact) (core : Core) (v : ModelState) (c : OpenCopy) (st : 
     notes = sees.notes;
     open_copy = running_on (is_running c) (groups_of core) c st v.open_copy (subst (λ (m : Option OpenCopy). SeesCopy (groups_of core) m v.open_copy) is sees.open_copy);
     step_write = refl;
+    beside = sees.beside;
   }
 
 -- what a start of the copy's changes of the shelf and of what is out

@@ -28,4 +28,5 @@ sees_entered past core v f aside sees = record {
   notes = sees.notes;
   open_copy = sees.open_copy;
   step_write = sees.step_write;
+  beside = sees.beside;
 }

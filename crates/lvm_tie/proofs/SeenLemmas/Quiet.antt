@@ -173,7 +173,7 @@ module _ (past : List Fact) (s : State) (tied : IsTied past s) where
     same_describes : (facts : List Fact) (group : Descriptor) (in_flight : Option (Stamped Status)) (c : Contents) → Describes v facts group in_flight c → Describes w facts group in_flight c
     same_describes facts group in_flight c d = record {
       stands = d.stands;
-      volumes = record { copies = d.volumes.copies; inside = d.volumes.inside; some = d.volumes.some; notes = d.volumes.notes; mark = d.volumes.mark; modes = d.volumes.modes; history = d.volumes.history };
+      volumes = record { copies = d.volumes.copies; free = d.volumes.free; inside = d.volumes.inside; some = d.volumes.some; notes = d.volumes.notes; mark = d.volumes.mark; modes = d.volumes.modes; history = d.volumes.history };
       shown = record {
         blocks = d.shown.blocks;
         names = d.shown.names;

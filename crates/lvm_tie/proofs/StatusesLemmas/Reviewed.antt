@@ -38,7 +38,7 @@ use Rattle.lvm_invariant.specs.Events.{CommitUpdate, Want}
 use Rattle.lvm_invariant.proofs.EventsLemmas.Each.{each_keeps}
 use Rattle.lvm_crash.specs.Session.{Describes, HasVolumes, as_marks, marks_of, members_showing}
 use Rattle.lvm_crash.proofs.RecordsLemmas.Quiet.{quiet_lasts}
-use Rattle.lvm_crash.specs.Records.{StatusEnded, statuses_of}
+use Rattle.lvm_crash.specs.Records.{statuses_of}
 use Rattle.lvm_tie.proofs.StateLemmas.{there_first}
 use Rattle.lvm_tie.proofs.TiedLemmas.Orderly.{valid_of}
 use Rattle.lvm_tie.proofs.AmongLemmas.{or_either, or_true}
@@ -50,6 +50,7 @@ use Rattle.lvm_tie.proofs.NearLemmas.{ends_running}
 use Rattle.lvm_tie.proofs.WantedLemmas.Reviewing.{goes_on, none_opened, opened, part_ends, review_is_wanted, whole_ends}
 use Rattle.lvm_tie.proofs.UpdateLemmas.{commits_well, committed_status, committed_then, committed_value, enough, flies_status, held_mid, learned, marks_then, missing_then}
 use Rattle.lvm_tie.proofs.StatusesLemmas.Update.{IsWritten, ended, good_moved, kept, moves, stands_here, still_stands, was_update, written}
+use Rattle.lvm_tie.proofs.SeenLemmas.Beside.{PlainEnded}
 
 -- the copy that is open once the update is committed: one that it clears is done
 abbrev done_after : Option CopyEnd → Option ModelCopy → Option ModelCopy
@@ -101,12 +102,12 @@ module _ (past : List Fact) (old new : State) (index disk : ℕ) (ok : Bool) (ro
   abbrev flying : ℕ → Bool
   flying d = has status.writes.started d
 
-  left : StatusEnded v group u (ended past old new index disk ok row buf its_owner returns tied).flight.disk ok flying now
+  left : PlainEnded v group u (ended past old new index disk ok row buf its_owner returns tied).flight.disk ok flying now
   left = moves past old new index disk ok row buf its_owner returns tied flying
 
   -- the status of each disk as it stands, and which writes are out
   abbrev pub v1 : ModelState
-  v1 = moved v (statuses_of group.id now) flying
+  v1 = moved v (statuses_of None group.id now) flying
 
   good1 : Good tied.votes v1
   good1 = good_moved past old new index disk ok row buf its_owner returns tied flying
@@ -119,15 +120,15 @@ module _ (past : List Fact) (old new : State) (index disk : ℕ) (ok : Bool) (ro
 
   -- The state after it, with these marks and this copy.
   abbrev pub after : Stamped Marks → (ℕ → Bool) → ModelState
-  after committed missing = record v1 { committed = committed; wanted = marks_of status.wanted; missing = missing; open_copy = open_after how v.open_copy }
+  after committed missing = record v1 { committed = committed; wanted = marks_of None status.wanted; missing = missing; open_copy = open_after how v.open_copy }
 
   pub record IsReviewed : Type 0 where
     pub committed : Stamped Marks
     pub missing : ℕ → Bool
     pub good : Good tied.votes (after committed missing)
     pub describes : Describes (after committed missing) v.facts group (Some u) now
-    pub marks : committed.value ≡ marks_of stored.committed
-    pub held : is_held mid ≡ true → committed ≡ as_marks u
+    pub marks : committed.value ≡ marks_of None stored.committed
+    pub held : is_held mid ≡ true → committed ≡ as_marks None u
     pub missing_is : (d : ℕ) → missing d ≡ not (is_there core1 d)
 
   -- ---- of both
@@ -135,7 +136,7 @@ module _ (past : List Fact) (old new : State) (index disk : ℕ) (ok : Bool) (ro
   stale_same : (p : Pp) → is_wanted_stale core1 p ≡ is_wanted_stale core p
   stale_same p = ap (λ (m : Marks). m.stale p) (marks_then disk ok core.status.wanted stored.wanted learns.wants)
 
-  wanted_seen : v.wanted ≡ marks_of stored.wanted
+  wanted_seen : v.wanted ≡ marks_of None stored.wanted
   wanted_seen = tied.sees.status.wanted ∙ sym (marks_then disk ok core.status.wanted stored.wanted learns.wants)
 
   abbrev members : Disks
@@ -181,7 +182,7 @@ module _ (past : List Fact) (old new : State) (index disk : ℕ) (ok : Bool) (ro
         by true is = clash_gives (is_there core d) (was_there d is) (not_true_is (is_there core d) (sym (tied.sees.status.missing d) ∙ gone))
 
     sees : SeesMarks core1 v1 missing
-    sees = record { committed = tied.sees.status.committed ∙ ap marks_of (sym committed_same); wanted = wanted_seen; missing_is = λ d. refl; still = still }
+    sees = record { committed = tied.sees.status.committed ∙ ap (marks_of None) (sym committed_same); wanted = wanted_seen; beside = tied.sees.beside; missing_is = λ d. refl; still = still }
 
     brought : (c : OpenCopy) → core1.copy ≡ Some c → is_running c ≡ true → IsBrought core1 v1 c
     brought c is runs = let b = (opened past old tied c is runs).0 in record {
@@ -192,16 +193,16 @@ module _ (past : List Fact) (old new : State) (index disk : ℕ) (ok : Bool) (ro
       whole = λ all. ap (λ (s : Status). calls_stale s c.pp) committed_same ∙ b.whole all;
     }
 
-    wants : Wants v1 (marks_of status.wanted) missing (open_after how v.open_copy)
+    wants : Wants v1 (marks_of None status.wanted) missing (open_after how v.open_copy)
     wants = review_is_wanted core1 new.core v1 missing v.facts members (valid_of old tied.write tied.orderly) left.describes.volumes shows sees keeps owners brought (none_opened past old tied) review
 
     pub reviewed_alone : IsReviewed
     reviewed_alone = record {
       committed = v.committed;
       missing = missing;
-      good = each_keeps tied.votes (Want (marks_of status.wanted) missing (open_after how v.open_copy)) v1 (after v.committed missing) (wants, refl) good1;
-      describes = quiet_lasts tied.votes (Want (marks_of status.wanted) missing (open_after how v.open_copy)) v1 (after v.committed missing) group (Some u) now (wants, refl) good1 tt left.describes refl refl refl;
-      marks = tied.sees.status.committed ∙ ap marks_of (sym committed_same);
+      good = each_keeps tied.votes (Want (marks_of None status.wanted) missing (open_after how v.open_copy)) v1 (after v.committed missing) (wants, refl) good1;
+      describes = quiet_lasts tied.votes (Want (marks_of None status.wanted) missing (open_after how v.open_copy)) v1 (after v.committed missing) group (Some u) now (wants, refl) good1 tt left.describes refl refl refl;
+      marks = tied.sees.status.committed ∙ ap (marks_of None) (sym committed_same);
       held = λ enough_now. tied.sees.status.held u (was_update past old new index disk ok row buf its_owner returns tied)
           (held_mid core.status stored status group disk ok t going.fitting.group going.status its.flies its.out.started learns.wants learns.ended review.marks.rest none enough_now);
       missing_is = λ d. refl;
@@ -232,19 +233,19 @@ module _ (past : List Fact) (old new : State) (index disk : ℕ) (ok : Bool) (ro
     done = done_after how v.open_copy
 
     abbrev cleared : ModelState
-    cleared = record v1 { committed = as_marks u; open_copy = done }
+    cleared = record v1 { committed = as_marks None u; open_copy = done }
 
-    flies : v.in_flight ≡ Some (as_marks u)
+    flies : v.in_flight ≡ Some (as_marks None u)
     flies = left.may.flies
 
     keeps_done : KeepsFresh cleared
-    keeps_done lv b c copy = let k = tied.good.sound.statuses.kept lv b c copy in (k.0, k.1, k.2.flying (as_marks u) flies, k.2.wanted)
+    keeps_done lv b c copy = let k = tied.good.sound.statuses.kept lv b c copy in (k.0, k.1, k.2.flying (as_marks None u) flies, k.2.wanted)
 
     sees_done : SeesMarks core1 cleared v.missing
-    sees_done = record { committed = ap marks_of (sym committed_is); wanted = wanted_seen; missing_is = λ d. tied.sees.status.missing d ∙ ap not (sym (there_same d)); still = λ d gone. gone }
+    sees_done = record { committed = ap (marks_of None) (sym committed_is); wanted = wanted_seen; beside = tied.sees.beside; missing_is = λ d. tied.sees.status.missing d ∙ ap not (sym (there_same d)); still = λ d gone. gone }
 
     volumes : HasVolumes cleared v.facts group members
-    volumes = let x = left.describes.volumes in record { copies = x.copies; inside = x.inside; some = x.some; notes = x.notes; mark = x.mark; modes = x.modes; history = x.history }
+    volumes = let x = left.describes.volumes in record { copies = x.copies; free = x.free; inside = x.inside; some = x.some; notes = x.notes; mark = x.mark; modes = x.modes; history = x.history }
 
     -- the copy that runs
     running : (c : OpenCopy) → core.copy ≡ Some c → is_running c ≡ true → IsBrought core v c × (is_missing core1 c.pp.disk ≡ false)
@@ -318,7 +319,7 @@ module _ (past : List Fact) (old new : State) (index disk : ℕ) (ok : Bool) (ro
         by None at = tied.good.sound.statuses.open_there o at
         by (Some e) at = absurd (cc at)
 
-    wants_done : Wants cleared (marks_of status.wanted) v.missing (open_after how v.open_copy)
+    wants_done : Wants cleared (marks_of None status.wanted) v.missing (open_after how v.open_copy)
     wants_done = review_wants core1 cleared v.missing how status v.facts members (valid_of old tied.write tied.orderly) volumes shows sees_done keeps_done owners marked review.marks (open_after how v.open_copy) open_same open_there
 
     -- one that goes on is stale by the update, or wanted so
@@ -355,7 +356,7 @@ module _ (past : List Fact) (old new : State) (index disk : ℕ) (ok : Bool) (ro
             let f = and_parts (not (is_stale core1 c.pp)) (not (calls_stale (unwrap_or stored.in_flight stored.committed) c.pp)) a.0 in
             sym (ap (λ (s : Status). calls_stale s c.pp) committed_is) ∙ not_true_is (is_stale core1 c.pp) f.0
 
-    commits_so : Commits v1 (as_marks u) done
+    commits_so : Commits v1 (as_marks None u) done
     commits_so = record { flies = flies; open_same = by_same how refl; open_done = by_done how refl }
       where
         of_same : (e : CopyEnd) → how ≡ Some e → (b : Bool) → is_done_end e ≡ b → (o : ModelCopy) → (if b then None else v.open_copy) ≡ Some o → (v.open_copy ≡ Some o) × (IsTrue (calls_stale t o.target) ⊎ IsTrue (v.wanted.stale o.target))
@@ -377,13 +378,13 @@ module _ (past : List Fact) (old new : State) (index disk : ℕ) (ok : Bool) (ro
     abbrev has_it : Disks
     has_it = with_disk (has core.status.writes.written) disk
 
-    have : (d : ℕ) → IsTrue (has_it d) → v1.media.status d ≡ Some (as_marks u)
+    have : (d : ℕ) → IsTrue (has_it d) → v1.media.status d ≡ Some (as_marks None u)
     have d is = ⊎_elim
         (λ before. still_stands past old new index disk ok row buf its_owner returns tied d (tied.sees.status.written d before ∙ flies))
-        (λ here. ap (statuses_of group.id now) (eqb-true d disk here) ∙ stands_here past old new index disk ok row buf its_owner returns tied well)
+        (λ here. ap (statuses_of None group.id now) (eqb-true d disk here) ∙ stands_here past old new index disk ok row buf its_owner returns tied well)
         (or_either (has core.status.writes.written d) (d == disk) is)
 
-    may_commit : Commit tied.votes v1 (as_marks u) has_it done (marks_of status.wanted) (open_after how v.open_copy)
+    may_commit : Commit tied.votes v1 (as_marks None u) has_it done (marks_of None status.wanted) (open_after how v.open_copy)
     may_commit = record {
       commits = commits_so;
       enough = tied.setting.are_votes.writes has_it ∙ enough core.status stored status group disk ok t going.fitting.group going.status its.flies its.out.started learns.wants learns.ended review.marks.rest commit;
@@ -393,11 +394,11 @@ module _ (past : List Fact) (old new : State) (index disk : ℕ) (ok : Bool) (ro
 
     pub reviewed_committed : IsReviewed
     reviewed_committed = record {
-      committed = as_marks u;
+      committed = as_marks None u;
       missing = v.missing;
-      good = each_keeps tied.votes (CommitUpdate (as_marks u) has_it done (marks_of status.wanted) (open_after how v.open_copy)) v1 (after (as_marks u) v.missing) (may_commit, refl) good1;
-      describes = quiet_lasts tied.votes (CommitUpdate (as_marks u) has_it done (marks_of status.wanted) (open_after how v.open_copy)) v1 (after (as_marks u) v.missing) group (Some u) now (may_commit, refl) good1 tt left.describes refl refl refl;
-      marks = ap marks_of (sym committed_is);
+      good = each_keeps tied.votes (CommitUpdate (as_marks None u) has_it done (marks_of None status.wanted) (open_after how v.open_copy)) v1 (after (as_marks None u) v.missing) (may_commit, refl) good1;
+      describes = quiet_lasts tied.votes (CommitUpdate (as_marks None u) has_it done (marks_of None status.wanted) (open_after how v.open_copy)) v1 (after (as_marks None u) v.missing) group (Some u) now (may_commit, refl) good1 tt left.describes refl refl refl;
+      marks = ap (marks_of None) (sym committed_is);
       held = λ enough_now. refl;
       missing_is = λ d. tied.sees.status.missing d ∙ ap not (sym (there_same d));
     }

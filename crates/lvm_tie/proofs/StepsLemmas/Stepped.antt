@@ -78,6 +78,7 @@ module _ (past : List Fact) (core : Core) (v : ModelState) (c d : OpenCopy) (poo
     notes = sees_v.notes;
     open_copy = its.open_seen;
     step_write = sym (no_write d d.step its.rests);
+    beside = sees_v.beside;
   }
 
 -- the copy goes on with the same track groups behind it

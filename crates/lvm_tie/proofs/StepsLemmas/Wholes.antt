@@ -201,7 +201,7 @@ module _ (past : List Fact) (old new : State) (at : ℕ) (tied : IsTied past old
   complete = record { copy = o2 past old new at tied sectors event; is_open = refl; target = refl; passed = all_passed }
 
   abbrev marks : Marks
-  marks = marks_of status.wanted
+  marks = marks_of None status.wanted
 
   seen_stale : (p : Pp) → v.wanted.stale p ≡ calls_stale core.status.wanted p
   seen_stale p = wanted_seen past old tied p

@@ -34,6 +34,7 @@ use Rattle.lvm_crash.specs.Copies.{IsCopyOf}
 use Rattle.lvm_tie.proofs.StateLemmas.{among_one, found_any}
 use Rattle.lvm_tie.specs.Wanted.{HasOwners, KeepsFresh, SeesMarks}
 use Rattle.lvm_tie.proofs.AmongLemmas.{or_left, or_either, or_true, any_one, not_true, and_not}
+use Rattle.lvm_tie.proofs.SeenLemmas.Beside.{plain_copies}
 
 -- it is stale, and a copy that the state sees
 abbrev pub IsMarked : Core → ModelState → Pp → Type 0
@@ -65,7 +66,7 @@ module _ (core : Core) (v : ModelState) (missing : ℕ → Bool) (how : Option C
   group = core.descriptor
 
   abbrev marks : Marks
-  marks = marks_of status.wanted
+  marks = marks_of None status.wanted
 
   abbrev due : Pp → Bool
   due p = is_entailed core p || marked_by_end core how p
@@ -149,9 +150,9 @@ module _ (core : Core) (v : ModelState) (missing : ℕ → Bool) (how : Option C
       let at = left p is in
       let l = first_block group valid at.row at.lp at.low in
       let inside = volumes.inside lv b p copy in
-      let shown = ((volumes.copies inside.row inside.lp b p inside.volume inside.inside).0 (subst (λ n. IsTrue (v.is_copy n b p)) (sym inside.number) copy)).1 in
-      let its = volumes.copies at.row at.lp l.0 p at.one l.1 in
-      let others = volumes.copies at.row at.lp l.0 at.other at.one l.1 in
+      let shown = ((plain_copies sees.beside volumes inside.row inside.lp b p inside.volume inside.inside).0 (subst (λ n. IsTrue (v.is_copy n b p)) (sym inside.number) copy)).1 in
+      let its = plain_copies sees.beside volumes at.row at.lp l.0 p at.one l.1 in
+      let others = plain_copies sees.beside volumes at.row at.lp l.0 at.other at.one l.1 in
       let member = on_member at.row at.lp l.0 at.other at.one l.1 at.its in
       let there : IsTrue (is_there core at.other.disk) = λ k. member k && not (at.there k) in
       let other : IsTrue (v.is_copy at.row.number l.0 at.other) = others.1 (at.its, shows at.other.disk there) in
@@ -161,7 +162,7 @@ module _ (core : Core) (v : ModelState) (missing : ℕ → Bool) (how : Option C
   replaced_left p is =
       let at = left p is in
       let l = first_block group valid at.row at.lp at.low in
-      let its = volumes.copies at.row at.lp l.0 p at.one l.1 in
+      let its = plain_copies sees.beside volumes at.row at.lp l.0 p at.one l.1 in
       ⊎_elim
       (λ shown.
       let copy = its.1 (at.copy, shown) in
@@ -169,7 +170,7 @@ module _ (core : Core) (v : ModelState) (missing : ℕ → Bool) (how : Option C
       inl (record { lv = at.row.number; block = l.0; other = r.0; copy = copy; other_copy = r.1; fresh = r.2; kept = r.3 }))
       (λ hidden. inr (λ lv b copy.
       let inside = volumes.inside lv b p copy in
-      let own = (volumes.copies inside.row inside.lp b p inside.volume inside.inside).0 (subst (λ n. IsTrue (v.is_copy n b p)) (sym inside.number) copy) in
+      let own = (plain_copies sees.beside volumes inside.row inside.lp b p inside.volume inside.inside).0 (subst (λ n. IsTrue (v.is_copy n b p)) (sym inside.number) copy) in
       clash_gives (members p.disk) own.1 hidden))
       (cases_Bool (members p.disk))
 
@@ -198,8 +199,8 @@ module _ (core : Core) (v : ModelState) (missing : ℕ → Bool) (how : Option C
       let inside = volumes.inside lv b c copy in
       let row = inside.row in
       let lp = inside.lp in
-      let its = (volumes.copies row lp b c inside.volume inside.inside).0 (subst (λ n. IsTrue (v.is_copy n b c)) (sym inside.number) copy) in
-      let others = (volumes.copies row lp b q inside.volume inside.inside).0 (subst (λ n. IsTrue (v.is_copy n b q)) (sym inside.number) other) in
+      let its = (plain_copies sees.beside volumes row lp b c inside.volume inside.inside).0 (subst (λ n. IsTrue (v.is_copy n b c)) (sym inside.number) copy) in
+      let others = (plain_copies sees.beside volumes row lp b q inside.volume inside.inside).0 (subst (λ n. IsTrue (v.is_copy n b q)) (sym inside.number) other) in
       let member = on_member row lp b c inside.volume inside.inside its.0 in
       let use_ = and_parts (not (v.committed.value.stale q)) (not (missing q.disk)) usable in
       let q_fresh : is_stale core q ≡ false = sym (stale_seen q) ∙ not_true (v.committed.value.stale q) use_.0 in

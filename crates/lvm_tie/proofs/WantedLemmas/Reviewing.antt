@@ -31,6 +31,7 @@ use Rattle.lvm_tie.specs.Near.{open_after}
 use Rattle.lvm_tie.specs.Wanted.{HasOwners, IsBrought, KeepsFresh, ReviewIsWanted, SeesMarks}
 use Rattle.lvm_tie.proofs.WantedLemmas.Behind.{IsMarked, first_block, review_wants}
 use Rattle.lvm_tie.proofs.NearLemmas.{ends_running}
+use Rattle.lvm_tie.proofs.SeenLemmas.Beside.{plain_copies}
 
 -- ---- how the copy ends
 
@@ -95,7 +96,7 @@ opened past s tied c is runs =
       record {
         target = λ o at_o. ap (λ (x : ModelCopy). x.target) (same_Some o sees.copy (sym at_o ∙ sees.is_open)) ∙ sees.target;
         member = both.0;
-        there = (its.row.number, b.0, (tied.describes.volumes.copies its.row c.lp b.0 c.pp (volume_is_row core.descriptor c.lv its.row its.volume) b.1).1 (its.among, shown));
+        there = (its.row.number, b.0, (plain_copies tied.sees.beside tied.describes.volumes its.row c.lp b.0 c.pp (volume_is_row core.descriptor c.lv its.row its.volume) b.1).1 (its.among, shown));
         part = λ less. (own.stale runs less).1;
         whole = λ all. (own.clearing runs all).0;
       },
@@ -190,14 +191,14 @@ module _ (core new : Core) (v : ModelState) (missing : ℕ → Bool) (facts : Li
       by (Some c) is = of c is (is_running c) refl
 
   -- What it entails is wanted, and the copy is open no more where it ends.
-  pub wants_reviewed : Wants v (marks_of new.status.wanted) missing (open_after how v.open_copy)
+  pub wants_reviewed : Wants v (marks_of None new.status.wanted) missing (open_after how v.open_copy)
   wants_reviewed = by how refl
     where
       all : (open_copy : Option ModelCopy) → ((open_copy ≡ v.open_copy) ⊎ ((open_copy ≡ None) × ((o : ModelCopy) → v.open_copy ≡ Some o → IsTrue (calls_stale new.status.wanted o.target))))
-          → ((o : ModelCopy) → open_copy ≡ Some o → IsFalse (missing o.target.disk)) → Wants v (marks_of new.status.wanted) missing open_copy
+          → ((o : ModelCopy) → open_copy ≡ Some o → IsFalse (missing o.target.disk)) → Wants v (marks_of None new.status.wanted) missing open_copy
       all open_copy same there = review_wants core v missing how new.status facts members valid volumes shows sees keeps owners marks_its review.marks open_copy same there
 
-      by : (m : Option CopyEnd) → how ≡ m → Wants v (marks_of new.status.wanted) missing (open_after m v.open_copy)
+      by : (m : Option CopyEnd) → how ≡ m → Wants v (marks_of None new.status.wanted) missing (open_after m v.open_copy)
       by None ends = all v.open_copy (inl refl) (there_then ends)
       by (Some e) ends = all None (inr (refl, stale_then e ends)) (λ o none_now. absurd (cc none_now))
 

@@ -80,7 +80,7 @@ module _ (mode : Mode) (stale : Bool) where
       by false true e = ap (λ (m : DiskNotes). names_group m.written.items lv g) (same_Some (no_notes 1) n e)
       by false false e = absurd cc
 
-  marks : marks_with stale false ≡ marks_of (table mode stale)
+  marks : marks_with stale false ≡ marks_of None (table mode stale)
   marks = sym (ap (λ (r : Stamped Marks). r.value) (its_marks (shown mode stale)))
 
   pub sees : Sees (making mode) (core_of mode stale) (seen_as mode stale)
@@ -108,4 +108,5 @@ module _ (mode : Mode) (stale : Bool) where
     };
     open_copy = refl;
     step_write = refl;
+    beside = refl;
   }

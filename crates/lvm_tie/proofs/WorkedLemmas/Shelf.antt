@@ -128,6 +128,7 @@ module _ (mode : Mode) (stale : Bool) where
     settled = λ none. record {
       stands = status_shown w;
       committed = refl;
+      own = refl;
       stated = λ d there. at_both mode (λ (n : ℕ). status_on (image w) n ≡ Some (status_shown w)) (statuses_on w 0) (statuses_on w 1) d (left_of (is_member (two mode) d) _ there);
       last = λ d r is own. inr (the_status w d r is);
     };

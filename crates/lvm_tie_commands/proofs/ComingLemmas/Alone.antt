@@ -97,5 +97,5 @@ module _ (w : NewGroup) (room : Room) (was : Log) (old : Device) (s : State) (me
       one_shown_is_one (contents_of image) (λ d e r q one other. is_new d r (sym (shows d) ∙ one) ∙ sym (is_new e q (sym (shows e) ∙ other)))
 
 pub made_alone : MadeAlone
-made_alone was w room old s media made it clock told unforced =
-    alone w room was old s media made told (subst (λ (o : Option Media). IfSome o (λ (m : Media). HoldsCommitted (image_of s.device.sizes m) s.core.descriptor s.core.status.committed (is_there s.core) s.core.status.stamp s.core.homes)) told (it.started.held clock).held) unforced
+made_alone was w room old s media made it clock facts kept told unforced =
+    alone w room was old s media made told (subst (λ (o : Option Media). IfSome o (λ (m : Media). HoldsCommitted (image_of s.device.sizes m) s.core.descriptor s.core.status.committed (is_there s.core) s.core.status.stamp s.core.homes)) told (it.started.held facts clock kept).held) unforced

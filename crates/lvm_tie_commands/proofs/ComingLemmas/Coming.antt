@@ -9,12 +9,13 @@ use Rattle.lvm_num.specs.Disks.{Disks, has}
 use Rattle.lvm_num.specs.Votes.{CanWrite}
 use Rattle.lvm_num.proofs.Lists.{of_told}
 use Rattle.lvm_disk.specs.Device.{Device, Media, image_of}
+use Rattle.lvm_disk.proofs.PathsLemmas.{last-path}
 use Rattle.lvm_vol.specs.Facts.{Fact, On}
 use Rattle.lvm_vol.specs.Log.{Log}
 use Rattle.lvm_vol.specs.Order.{Ordered}
 use Rattle.lvm_kept.specs.Group.{IsOneOf}
 use Rattle.lvm_kept.specs.Moments.{Moment, StaysCalm}
-use Rattle.lvm_steps.specs.Moments.{Keeps}
+use Rattle.lvm_steps.specs.Moments.{Begins as Earlier, ImagesKept, Keeps, Upholds}
 use Rattle.lvm_steps.specs.Requests.{at}
 use Rattle.lvm_steps.proofs.MomentsLemmas.Spans.{spans_join}
 use Rattle.lvm_steps.specs.Behind.{ClockIsAhead}
@@ -199,12 +200,12 @@ module _ (was log : Log) (moment : ℕ) (room : Room) (old : Device) (s : State)
 
   -- ---- what stands on the disks
 
-  module _ (clock : ClockIsAhead was.run moment old was.facts) (only : IsOneFoundOn s.device) (even : IsMadeEven s media) where
+  module _ (clock : ClockIsAhead was.run moment old was.facts) (facts : List Fact) (kept : ImagesKept old facts) (only : IsOneFoundOn s.device) (even : IsMadeEven s media) where
     abbrev Held : Media → Type 0
     Held m = HoldsCommitted (image_of s.device.sizes m) s.core.descriptor s.core.status.committed (is_there s.core) s.core.status.stamp s.core.homes
 
     held : Held media
-    held = of_told Held s.device.media media driven.told (it.started.held clock).held
+    held = of_told Held s.device.media media driven.told (it.started.held facts clock kept).held
 
     behind : NoneIsBehind (shown_to s media) s.core.descriptor (Some held.shows.stands) (is_there s.core)
     behind = subst (λ (set : Disks). NoneIsBehind (shown_to s media) s.core.descriptor (Some held.shows.stands) set) (ap (λ (g : Descriptor). members_there g s.core.status.wanted) it.sound.fitting.group)
@@ -243,12 +244,12 @@ module _ (was log : Log) (moment : ℕ) (room : Room) (old : Device) (s : State)
 -- ---- where there is nothing to recover
 
 -- the notes are home, as the session begins
-home : (was : Log) (moment : ℕ) (room : Room) (old : Device) (s : State) (media : Media) → IsBegun was moment room old s → ClockIsAhead was.run moment old was.facts → s.device.media ≡ Some media → NotesAreHome s.core (image_of s.device.sizes media)
-home was moment room old s media it clock told = of_told (λ (m : Media). NotesAreHome s.core (image_of s.device.sizes m)) s.device.media media told (it.started.held clock).notes
+home : (was : Log) (moment : ℕ) (room : Room) (old : Device) (s : State) (media : Media) → IsBegun was moment room old s → ClockIsAhead was.run moment old was.facts → (facts : List Fact) → ImagesKept old facts → s.device.media ≡ Some media → NotesAreHome s.core (image_of s.device.sizes media)
+home was moment room old s media it clock facts kept told = of_told (λ (m : Media). NotesAreHome s.core (image_of s.device.sizes m)) s.device.media media told (it.started.held facts clock kept).notes
 
 pub varied_is_made_even : VariedIsMadeEven
-varied_is_made_even past was name moment room old s media on it clock told none kept =
-    let notes = home was moment room old s media it clock told in
+varied_is_made_even past was name moment room old s media on it clock facts before told none kept =
+    let notes = home was moment room old s media it clock facts before told in
     record {
       notes = notes;
       even = λ shows. quiet_is_even (shown_to s media) s.core.descriptor s.core.status.committed (is_there s.core) past it.sound.fitting.valid (images_within (image_of s.device.sizes media)) it.started.settled.votes shows none
@@ -257,8 +258,12 @@ varied_is_made_even past was name moment room old s media on it clock told none 
 
 -- ---- by varyon
 
+-- what a span leads to keeps the history
+kept_before : (was : Log) (old : Device) (first : Moment) → Keeps was.run first (at old was.facts) → (past : List Fact) → Earlier was.run past first → ImagesKept old (past ++ was.facts)
+kept_before was old first keeps past begins = let upholds : Upholds was.run first (at old was.facts) = last-path keeps in (upholds past begins).kept
+
 pub varied_on_serves : VariedOnServes
-varied_on_serves m was name moment room old s media on it leads driven only even =
+varied_on_serves m was name moment room old s media on it leads driven only even power past begins =
     let fits : IsSessionRoom on.first.parts.room = subst IsSessionRoom (sym on.first.reserved.room_is) (in_room room it.room_is) in
     let b : Begins was moment s = record {
       parts = on.first.parts;
@@ -268,12 +273,12 @@ varied_on_serves m was name moment room old s media on it leads driven only even
       is = on.first.is;
     } in
     let early = on.written.chosen.early in
-    serves was was moment room old s media refl b it (omega (arith, early)) driven leads.clock only even m leads
+    serves was was moment room old s media refl b it (omega (arith, early)) driven leads.clock (past ++ was.facts) (kept_before was old m leads.keeps past begins) only even m leads power past begins
 
 -- ---- by mkvg
 
 pub made_serves : MadeServes
-made_serves m was w room old s media made it leads driven only =
+made_serves m was w room old s media made it leads driven only power past begins =
     let fits : IsSessionRoom made.reserved.room = subst IsSessionRoom (sym made.parts.room_is) (in_room room it.room_is) in
     let b : Begins (given_up was w.disks) w.moment s = record {
       parts = made.reserved;
@@ -284,8 +289,9 @@ made_serves m was w room old s media made it leads driven only =
     } in
     let none : s.core.descriptor.lvs ≡ [] = ap (λ (c : Core). c.descriptor.lvs) made.core_is ∙ ap (λ (d : Descriptor). d.lvs) made.parts.descriptor in
     let early = made.clear.moment in
-    serves was (given_up was w.disks) w.moment room old s media refl b it (omega (arith, early)) driven leads.clock only
+    let kept = kept_before was old m leads.keeps past begins in
+    serves was (given_up was w.disks) w.moment room old s media refl b it (omega (arith, early)) driven leads.clock (past ++ was.facts) kept only
     (record {
-      notes = home was w.moment room old s media it leads.clock driven.told;
+      notes = home was w.moment room old s media it leads.clock (past ++ was.facts) kept driven.told;
       even = λ shows row lp b volume soft inside. absurd (subst (λ (rows : List LvRow). IsOneOf rows row) none volume);
-    }) m leads
+    }) m leads power past begins

@@ -8,7 +8,7 @@ use Rattle.lvm_disk.specs.Device.{image_of}
 use Rattle.lvm_kept.specs.Contents.{contents_of}
 use Rattle.lvm_kept.specs.Moments.{Moment}
 use Rattle.lvm_steps.specs.Moments.{Keeps}
-use Rattle.lvm_tie_commands.specs.passed.Names.{IsOneFoundOn, moment_of, NoPartition, IsSettled, GroupFault, IfOn}
+use Rattle.lvm_tie_commands.specs.passed.Names.{IsOneFoundOn, moment_of, NoPartition, NoVolume, IsSettled, GroupFault, IfOn}
 use Rattle.lvm_session.specs.State.{Core, State, is_there}
 use Rattle.lvm_tie_commands.specs.passed.VolumePlanFaultGroupFault as fault
 use Rattle.lvm_volumes.specs.Endings.{StillHeld}
@@ -82,7 +82,7 @@ module _ (run : ℕ) (first : Moment) (lv copies before after : ℕ) (old new : 
 
     keeps_even : KeepsEven old new
     keeps_even was is stood stands told told_new wanted even =
-        let kept : IsEven (contents_of (image_of new.device.sizes is)) old.core.descriptor (Some stands) (is_there new.core) = kept_even (IsWithFirst lv copies old.core) NoPartition NoPartition old new was is stood stands c.leaves.writes c.leaves.status (λ pp none. absurd none) told told_new wanted even in
+        let kept : IsEven (contents_of (image_of new.device.sizes is)) old.core.descriptor (Some stands) (is_there new.core) = kept_even (IsWithFirst lv copies old.core) NoPartition NoPartition NoVolume old new was is stood stands c.leaves.writes c.leaves.status (λ pp none. absurd none) told told_new wanted even in
         ⊎_elim
         (λ (same : new.core.descriptor ≡ old.core.descriptor). subst (λ (g : Descriptor). IsEven (contents_of (image_of new.device.sizes is)) g (Some stands) (is_there new.core)) (sym same) kept)
         (λ (it : AreTaken lv copies old new). subst (λ (g : Descriptor). IsEven (contents_of (image_of new.device.sizes is)) g (Some stands) (is_there new.core)) (sym (descriptor_is it))

@@ -11,7 +11,7 @@ use Rattle.lvm_kept.specs.Group.{IsOneOf}
 use Rattle.lvm_session.specs.State.{Core, State}
 use Rattle.lvm_session.specs.Judging.{copies_in}
 use Rattle.lvm_session.specs.Sound.{IsSound}
-use Rattle.lvm_tie_commands.specs.passed.Names.{Leaves, NoPartition, IsSettled}
+use Rattle.lvm_tie_commands.specs.passed.Names.{Leaves, NoPartition, NoVolume, IsSettled}
 use Rattle.lvm_tie_commands.specs.passed.VolumePlanFaultGroupFault as fault
 use Rattle.lvm_volumes.specs.Endings.{HasFresh, KeepsFresh, StillHeld}
 use Rattle.lvm_volumes.specs.passed.Names.{first_copies, with_copies}
@@ -56,7 +56,7 @@ module _ (lv copies before after : ℕ) (old new : State) (sound : IsSound old) 
         keeps n lp p here (inr (had_fresh old sound began n lp p before was))
 
     serves : MayServeWith [] new
-    serves = may_serve old sound began new on still [] next old.core.history (IsWithFirst lv copies old.core) NoPartition NoPartition 1 it.is refl sound.told.ordered refl leaves.status (λ p none. absurd none)
+    serves = may_serve old sound began new on still [] next old.core.history (IsWithFirst lv copies old.core) NoPartition NoPartition NoVolume 1 old.core.last it.is refl sound.told.ordered refl leaves.status (λ p none. absurd none)
         leaves.falls leaves.writes.sizes leaves.numbers (omega arith) it.may.room members (λ n lp p one was apart. fresh n lp p one was)
 
 pub rmlvcopy_serves : RmlvcopyServes

@@ -13,7 +13,7 @@ use Rattle.lvm_session.specs.State.{Core, State, is_there}
 use Rattle.lvm_session.specs.Judging.{copies_in}
 use Rattle.lvm_session.specs.Marks.{is_among}
 use Rattle.lvm_session.specs.Sound.{IsSound}
-use Rattle.lvm_tie_commands.specs.passed.Names.{Leaves, NoPartition, IsSettled}
+use Rattle.lvm_tie_commands.specs.passed.Names.{Leaves, NoPartition, NoVolume, IsSettled}
 use Rattle.lvm_write.proofs.NextLemmas.{copy_is_placed, is_member_of}
 use Rattle.lvm_volumes.proofs.passed.Names.{row_is_volume}
 use Rattle.lvm_tie_commands.specs.passed.VolumePlanFaultGroupFault as fault
@@ -81,7 +81,7 @@ module _ (lv copies before after : ℕ) (old new : State) (sound : IsSound old) 
         (old_or_further it.row it.pps it.may.places its.row lp p at.0 its.one)
 
     serves : MayServeWith added new
-    serves = may_serve old sound began new on still added next old.core.history (IsWithMore lv copies old.core) (IsFurther lv copies old.core) NoPartition 2 it.is refl sound.told.ordered refl leaves.status
+    serves = may_serve old sound began new on still added next old.core.history (IsWithMore lv copies old.core) (IsFurther lv copies old.core) NoPartition NoVolume 2 old.core.last it.is refl sound.told.ordered refl leaves.status
         (λ p further. among_is added p (subst (λ (l : List Pp). Contains l p) (sym it.added_is) (same_further lv copies old.core it.row it.pps p it.may.places further)))
         leaves.falls leaves.writes.sizes leaves.numbers (omega arith) it.may.room members fresh
 

@@ -160,7 +160,6 @@ module _ (past : List Fact) (s : State) (tied : IsTied past s) (may : MayBeLeft 
     quiet = λ none. no_flights;
     lit = sound.lit;
     dark = sound.dark;
-    off = sound.off;
     heard = λ stuck. let e : power.On ≡ power.Stuck = sym tied.orderly.on ∙ stuck in cc;
   }
 

@@ -54,7 +54,7 @@ module _ (log : Log) (room : Room) (past : List Fact) (first : ScriptState) (beg
   went_so script alone = (script_went log room first script).keeps begin.timely alone first.moment (keeps_still log.run first.moment) first_stands
 
   -- each crash image is kept with the history
-  images_kept : {lines : List (List ℕ)} {replies : List Reply} {last : ScriptState} (script : Script log room first lines replies last) → StaysAlone script → ImagesKept last.moment.device (past ++ last.moment.facts)
+  pub images_kept : {lines : List (List ℕ)} {replies : List Reply} {last : ScriptState} (script : Script log room first lines replies last) → StaysAlone script → ImagesKept last.moment.device (past ++ last.moment.facts)
   images_kept script alone = (last-path (went_so script alone).0 past begin.begins).kept
 
   -- what stands before the next line
@@ -68,7 +68,7 @@ module _ (log : Log) (room : Room) (past : List Fact) (first : ScriptState) (beg
       → IsSomeAnd new.session (λ core. StandsOf core (MayStand before) id k)
   acknowledged {mid = mid} {new = new} line answer said heard says before it alone acked id k found which =
       let so_far = script_went log room first before in
-      let on = leaves_on log room mid new (so_far.leaves begin.leaves) it.named (it.goes.begins (so_far.timely begin.timely)) (line_of line) answer acked (stood before alone.0 (role_of (line_of line)) new alone.1) it.does in
+      let on = leaves_on log room mid new (so_far.leaves begin.leaves) it.named (it.goes.begins (so_far.timely begin.timely) (past ++ mid.moment.facts) (images_kept before alone.0)) (line_of line) answer acked (stood before alone.0 (role_of (line_of line)) new alone.1) it.does in
       let kept = images_kept (NextLine line answer said heard says before it) alone in
       subst (λ (s : Option Core). IsSomeAnd s (λ core. StandsOf core (MayStand before) id k)) (sym on.on)
       (stands_of on.core (MayStand before) id k

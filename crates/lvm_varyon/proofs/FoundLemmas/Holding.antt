@@ -12,10 +12,13 @@ use Rattle.lvm_num.specs.Status.{calls_missing}
 use Rattle.lvm_disk.specs.Counts.{Rose}
 use Rattle.lvm_disk.specs.Device.{Media, Range, Device, image_of}
 use Rattle.lvm_disk.specs.Steps.{BothTold}
+use Rattle.lvm_vol.specs.Facts.{Fact}
 use Rattle.lvm_vol.specs.Log.{Log}
 use Rattle.lvm_kept.specs.Contents.{Contents, contents_of, has_records}
 use Rattle.lvm_kept.specs.Recovered.{Recovered}
 use Rattle.lvm_steps.specs.Behind.{StampsBefore, IsBehind}
+use Rattle.lvm_steps.specs.Moments.{ImagesKept}
+use Rattle.lvm_steps.proofs.MakingLemmas.Making.{media_may}
 use Rattle.lvm_rec.specs.declared.homes.Homes.{Homes}
 use Rattle.lvm_write.specs.Homes.{SparesNewest}
 use Rattle.lvm_status.specs.Update.{Updates}
@@ -27,7 +30,7 @@ use Rattle.lvm_varyon.specs.Chosen.{answering}
 use Rattle.lvm_varyon.specs.Equal.{MakesEqual}
 use Rattle.lvm_varyon.specs.Found.{HaveAnswered}
 use Rattle.lvm_varyon.specs.Varied.{IsAheadOfDisks, IsBrought, last_stamp}
-use Rattle.lvm_varyon.proofs.After.{HasRecords, MayHaveRecords, records_there, room_member, stamps_before, target_room}
+use Rattle.lvm_varyon.proofs.After.{HasRecords, MayHaveRecords, records_keep, records_there, room_member, stamps_before, target_room}
 use Rattle.lvm_varyon.proofs.Equalled.{none_named, restated_last, shows_last, spares_last, stamps_last}
 use Rattle.lvm_varyon.proofs.RecoveredLemmas.{recovered, shown_recovered}
 
@@ -165,15 +168,17 @@ module _ (old new : Device) (name : List ℕ) (moment : ℕ) (room : Room) (part
           none_named old mid name moment homes records was stood.0 told stood.1 may is.valid new equal between.0 last between.1 told_last d lv track_group (on_target d present)
           ∙ sym (ap (λ (c : Core). is_named_by c.cache d lv track_group) core_is ∙ empty_names_none is.written.group parts.cache is.reserved.cache d lv track_group)
 
-      shows : ShowsCommitted final core.descriptor core.status.committed (is_there core)
-      shows = subst (λ (g : Descriptor). ShowsCommitted final g core.status.committed (is_there core)) (sym group_is)
+      -- where a history was kept
+      shows : (facts : List Fact) → ImagesKept old facts → ShowsCommitted final core.descriptor core.status.committed (is_there core)
+      shows facts kept = subst (λ (g : Descriptor). ShowsCommitted final g core.status.committed (is_there core)) (sym group_is)
           (subst (λ (s : Status). ShowsCommitted final is.written.group s (is_there core)) (sym committed)
           (subst (λ (v : Disks). ShowsCommitted final is.written.group is.written.next v) (sym there_are)
-          (shows_last old mid name moment homes records was stood.0 told stood.1 may is.valid new equal between.0 last between.1 told_last).0))
+          (shows_last old mid name moment homes records was stood.0 told stood.1 may is.valid new equal between.0 last between.1 told_last facts
+          (records_keep old mid name moment homes records was stood.0 told stood.1 may facts (kept (image_of old.sizes was) (media_may old was told)))).0))
 
-      pub holds : IsBehind moment old → HoldsCommitted (image_of new.sizes last) core.descriptor core.status.committed (is_there core) core.status.stamp core.homes
-      holds behind = record {
-        shows = shows;
+      pub holds : (facts : List Fact) → ImagesKept old facts → IsBehind moment old → HoldsCommitted (image_of new.sizes last) core.descriptor core.status.committed (is_there core) core.status.stamp core.homes
+      holds facts kept behind = record {
+        shows = shows facts kept;
         stamps = subst (λ (s : Stamp). StampsBefore (next_stamp s) (image_of new.sizes last)) (sym stamp_is)
             (stamps_last old mid name moment homes records was stood.0 told stood.1 may is.valid new equal between.0 last between.1 told_last (record { epoch = moment; seq = 3 })
             (stamps_before old mid name moment homes records was stood.0 told stood.1 may behind));

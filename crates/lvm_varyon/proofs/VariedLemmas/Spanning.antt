@@ -14,7 +14,7 @@ use Rattle.lvm_vol.specs.Log.{Log, spare_entries, is_uncut, with_fact, cut_log}
 use Rattle.lvm_kept.specs.Moments.{StaysCalm}
 use Rattle.lvm_kept.specs.Group.{ReadsBy}
 use Rattle.lvm_kept.proofs.CommittedLemmas.Finding.{finding_reads}
-use Rattle.lvm_steps.specs.Moments.{Keeps, StaysKept}
+use Rattle.lvm_steps.specs.Moments.{ImagesKept, Keeps, StaysKept}
 use Rattle.lvm_steps.specs.Requests.{at}
 use Rattle.lvm_steps.proofs.EnteringLemmas.{quiet_goes_on, calm_goes_on}
 use Rattle.lvm_steps.proofs.MomentsLemmas.Spans.{keeps_still, steps_go_on, group_goes_on}
@@ -76,11 +76,11 @@ module _ (old new : Device) (log : Log) (name : List ℕ) (moment : ℕ) (room :
     first = record { parts = parts; reserved = is.reserved; is = refl };
   })
 
-  pub starts_held : ClockIsAhead log.run moment old log.facts → StartsHeld new core
-  starts_held clock = record {
+  pub starts_held : (facts : List Fact) → ClockIsAhead log.run moment old log.facts → ImagesKept old facts → StartsHeld new core
+  starts_held facts clock kept = record {
     held = if_told new.media (λ media. HoldsCommitted (image_of new.sizes media) core.descriptor core.status.committed (is_there core) core.status.stamp core.homes) (λ last told_last.
         let first = was_told old new name moment room parts homes is last told_last in
-        holds old new name moment room parts homes is first.0 last first.1 told_last (ahead_of log.run moment old log.facts clock) core log core_is (clock is.written.chosen.early).behind);
+        holds old new name moment room parts homes is first.0 last first.1 told_last (ahead_of log.run moment old log.facts clock) core log core_is facts kept (clock is.written.chosen.early).behind);
     notes = if_told new.media (λ media. NotesAreHome core (image_of new.sizes media)) (λ last told_last.
         let first = was_told old new name moment room parts homes is last told_last in
         notes_home old new name moment room parts homes is first.0 last first.1 told_last (ahead_of log.run moment old log.facts clock) core log core_is);

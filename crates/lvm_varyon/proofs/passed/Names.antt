@@ -2,7 +2,6 @@
 pub use Rattle.lvm_core.proofs.CacheLemmas.{empty_names_none}
 pub use Rattle.lvm_core.proofs.RecordLemmas.{descriptor_fits}
 pub use Rattle.lvm_core.proofs.SoundLemmas.Settling.{starts_numbered, starts_settled}
-pub use Rattle.lvm_core.proofs.passed.Names.{newest_is_beginning}
 pub use Rattle.lvm_recovery.proofs.CopyingLemmas.Logged.{only_planned, only_then, only_told, only_wider}
 pub use Rattle.lvm_recovery.proofs.EndingLemmas.Ending.{equalised_ends, next_same_plan, planned_may_be_made, restated_may_equalise, same_notes_same_plan}
 pub use Rattle.lvm_recovery.proofs.EndingLemmas.Runs.{runs_are_of_copies}

@@ -1,6 +1,6 @@
 -- A volume is made: its entries, and the descriptor with it, once its partitions are fresh zeros.
 use Rattle.std.proofs.Common.{◌≡◌, inl, inr, ℕ, zero, suc, ◌+◌, ◌*◌, ◌<◌, ◌≤◌, Bool, true, false, List, [], ◌∷◌, ◌++◌, append_assoc, Option, Some, None, Result, Ok, Err, length, get_or, refl, sym, ap, subst, ◌∙◌, arith}
-use Rattle.std.specs.Prelude.{IsTrue, IsFalse, IfSome, All, Contains, is_some, find, ◌==◌, if◌then◌else◌}
+use Rattle.std.specs.Prelude.{IsTrue, IsFalse, IfSome, All, Contains, is_some, find, slice_set, ◌==◌, if◌then◌else◌}
 use Rattle.std.specs.Option.{option_map_or}
 use Rattle.std.proofs.lemmas.Bool.{eqb-true}
 use Rattle.std.proofs.lemmas.List.Elements.{All-contains}
@@ -249,8 +249,8 @@ module _ (v : NewVolume) (plan : VolumePlan) (a : State) (settled : IsSettled a.
           made_named : IsNamed plan a made
           made_named = record {
             settled = settled_entered c (Made plan.number) done.settled;
-            is = ap (λ (x : Core). record x { history = with_fact x.history (Made plan.number) }) done.is
-                ∙ ap (λ (x : Core). record x { descriptor = plan.next; history = with_fact (with_fact x.history f) (Made plan.number); status = c.core.status; homes = c.core.homes }) cleared.is;
+            is = ap (λ (x : Core). record x { history = with_fact x.history (Made plan.number); last = slice_set x.last plan.number 0 }) done.is
+                ∙ ap (λ (x : Core). record x { descriptor = plan.next; history = with_fact (with_fact x.history f) (Made plan.number); last = slice_set x.last plan.number 0; status = c.core.status; homes = c.core.homes }) cleared.is;
             fresh = subst (λ (s : Status). All (λ (pp : Pp). IsTrue (is_there c.core pp.disk) → IsFalse (calls_stale s pp)) plan.map) (sym done.settled.committed)
                 (λ k e lt here. fresh_with a.core.descriptor v plan.number plan.map b.core.status c.core.status (subst (λ (s : Status). All (λ (pp : Pp). IsFalse (calls_stale s pp)) plan.map) cleared.settled.committed cleared.fresh)
                 (subst (λ (d : Descriptor). MarksLeft d b.core.status c.core.status) planned.next left) k e lt

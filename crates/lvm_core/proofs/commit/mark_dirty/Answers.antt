@@ -1,12 +1,12 @@
 use Rattle.std.proofs.Common.{sym, ◌∙◌, ap, subst}
 use Rattle.lvm_status.specs.Update.{Stored}
-use Rattle.lvm_commit.specs.Settling.{MayCommit, IsOfStatus, StatusStaysKept, CommitLeaves}
+use Rattle.lvm_commit.specs.Settling.{HoldsWithin, MayCommit, IsOfStatus, StatusStaysKept, CommitLeaves}
 use Rattle.lvm_session.specs.declared.session.Session.{Session}
 use Rattle.lvm_session.specs.State.{state}
 use Rattle.lvm_session.specs.Fields.{core_of}
 use Rattle.lvm_core.specs.Steps.{IsDirtied, WantsMarksAtMost}
 use Rattle.lvm_core.proofs.StepsLemmas.Ends.{status_numbered, is_out, core_ends, status_ends, commits_status, at_once}
-use Rattle.lvm_core.proofs.StepsLemmas.Marking.{may_commit}
+use Rattle.lvm_core.proofs.StepsLemmas.Marking.{marks_within, may_commit}
 use Rattle.lvm_core.proofs.commit.mark_dirty.Goals as goal
 
 pub commit_status-settled-requires-clause-may : goal.commit_status-settled-requires-clause-may
@@ -50,3 +50,14 @@ returns-clause-does g c =
     (λ none.
     let once = at_once _ (core_of self) mid left mid_is c.requires.buffers how c.go_on.result number ends (wrote.ensures.unwritten none) (λ all. all.2 ∙ ap (λ (s : Session). s.homes) c.take_buffer-buf.ensures.taken) in
     (once.1, ap g.S.Shelf.device once.0.0, once.2 ∙ ap (λ (u : Stored). record (core_of self) { status = u }) once.0.1))
+
+pub returns-clause-held : goal.returns-clause-held
+returns-clause-held g c =
+    let self = c.args.session.now in
+    let taken = c.take_buffer-buf.new.session in
+    let wrote = c.commit_status-settled in
+    let mid = core_of (record taken { updater = wrote.new.updater; homes = wrote.new.homes }) in
+    let same = status_ends mid.descriptor mid (core_of c.go_on.new.session) wrote.result c.go_on.result c.go_on.ensures.ends in
+    subst (HoldsWithin self.updater) (sym same.0)
+    (marks_within self.updater c.mark_volumes.new.updater wrote.new.updater c.mark_volumes.ensures.rest
+    (subst (λ (u : Stored). HoldsWithin u wrote.new.updater) (ap (λ (s : Session). s.updater) c.take_buffer-buf.ensures.taken) wrote.ensures.held))

@@ -1,16 +1,12 @@
-use Rattle.std.proofs.Common.{◌≡◌, inl, inr, ⊎_elim, Bool, true, false, ◌||◌, List, Option, refl, sym, ◌∙◌, ap, subst}
-use Rattle.std.specs.Prelude.{unwrap_or}
-use Rattle.lvm_num.specs.declared.place.Pp.{Pp}
-use Rattle.lvm_num.specs.declared.status.Status.{Status}
-use Rattle.lvm_num.specs.Status.{calls_stale}
+use Rattle.std.proofs.Common.{sym, ◌∙◌, ap, subst}
 use Rattle.lvm_status.specs.Update.{Stored}
-use Rattle.lvm_commit.specs.Settling.{HoldsWithin, is_held_so, MayCommit, IsOfStatus, StatusStaysKept, CommitLeaves}
+use Rattle.lvm_commit.specs.Settling.{HoldsWithin, MayCommit, IsOfStatus, StatusStaysKept, CommitLeaves}
 use Rattle.lvm_session.specs.declared.session.Session.{Session}
 use Rattle.lvm_session.specs.State.{state}
 use Rattle.lvm_session.specs.Fields.{core_of}
 use Rattle.lvm_core.specs.Steps.{IsMarked, WantsMarksAtMost}
 use Rattle.lvm_core.proofs.StepsLemmas.Ends.{status_numbered, is_out, core_ends, status_ends, commits_status, at_once}
-use Rattle.lvm_core.proofs.StepsLemmas.Marking.{may_commit}
+use Rattle.lvm_core.proofs.StepsLemmas.Marking.{marks_within, may_commit}
 use Rattle.lvm_core.proofs.commit.set_status.Goals as goal
 
 pub commit_status-settled-requires-clause-may : goal.commit_status-settled-requires-clause-may
@@ -55,20 +51,6 @@ returns-clause-does g c =
     let once = at_once _ (core_of self) mid left mid_is c.requires.buffers how c.go_on.result number ends (wrote.ensures.unwritten none) (λ all. all.2 ∙ ap (λ (s : Session). s.homes) c.take_buffer-buf.ensures.taken) in
     (once.1, ap g.S.Shelf.device once.0.0, once.2 ∙ ap (λ (u : Stored). record (core_of self) { status = u }) once.0.1))
 
-twice : (a b : Bool) → a || a ≡ true → a || b ≡ true
-twice true b is = refl
-twice false b is = absurd (cc is)
-
--- the marks change neither what is committed nor what is in flight
-marked_within : (stale fresh : List Pp) (old marked last : Stored) → IsMarked stale fresh old marked → HoldsWithin marked last → HoldsWithin old last
-marked_within stale fresh old marked last marks within p is = ⊎_elim
-    (λ held. inl (twice (calls_stale old.committed p) (calls_stale (unwrap_or old.in_flight old.committed) p) (sym (same p) ∙ held)))
-    (λ wanted. inr wanted)
-    (within p is)
-  where
-    same : (p : Pp) → is_held_so marked p ≡ (calls_stale old.committed p || calls_stale old.committed p)
-    same p = ap (λ (o : Option Status). calls_stale marked.committed p || calls_stale (unwrap_or o marked.committed) p) marks.rest.idle ∙ ap (λ (s : Status). calls_stale s p || calls_stale s p) marks.rest.committed
-
 pub returns-clause-held : goal.returns-clause-held
 returns-clause-held g c =
     let self = c.args.session.now in
@@ -77,5 +59,5 @@ returns-clause-held g c =
     let mid = core_of (record taken { updater = wrote.new.updater; homes = wrote.new.homes }) in
     let same = status_ends mid.descriptor mid (core_of c.go_on.new.session) wrote.result c.go_on.result c.go_on.ensures.ends in
     subst (HoldsWithin self.updater) (sym same.0)
-    (marked_within c.args.stale.now c.args.fresh.now self.updater c.mark.new.updater wrote.new.updater c.mark.ensures
+    (marks_within self.updater c.mark.new.updater wrote.new.updater c.mark.ensures.rest
     (subst (λ (u : Stored). HoldsWithin u wrote.new.updater) (ap (λ (s : Session). s.updater) c.take_buffer-buf.ensures.taken) wrote.ensures.held))

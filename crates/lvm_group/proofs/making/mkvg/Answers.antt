@@ -32,7 +32,7 @@ returns-in-Ok g c =
         settled = two.0;
         numbers = two.1;
         left = none_left w c.args.room was c.make.new.history old new c.in-Ok.standing stands c.start.result.1 c.start.ensures.core;
-        held = λ clock.
+        held = λ facts clock kept.
             subst (λ (s : g.row.S.Denot). StartsHeld (g.S.Shelf.device s) c.start.result.1) (sym c.start.ensures.shelf)
             (subst (λ (x : Core). StartsHeld new x) (sym c.start.ensures.core) (let held = c.in-Ok.ensures.held clock in record { held = held.held; notes = held.notes }));
       };

@@ -60,7 +60,7 @@ returns-in-Ok-clause-starts g c =
       settled = two.0;
       numbers = two.1;
       left = none_left _ _ c.args.history c.args.name c.args.moment c.args.room c.in-Ok.parts c.in-Ok.homes c.start.result.1 c.in-Ok.ensures.gives c.start.ensures.core;
-      held = λ clock. subst (λ (d : Device). StartsHeld d c.start.result.1) (sym (ap g.S.Shelf.device c.start.ensures.shelf)) (starts_held _ _ c.args.history c.args.name c.args.moment c.args.room c.in-Ok.parts c.in-Ok.homes c.start.result.1 c.in-Ok.ensures.gives c.start.ensures.core clock);
+      held = λ facts clock kept. subst (λ (d : Device). StartsHeld d c.start.result.1) (sym (ap g.S.Shelf.device c.start.ensures.shelf)) (starts_held _ _ c.args.history c.args.name c.args.moment c.args.room c.in-Ok.parts c.in-Ok.homes c.start.result.1 c.in-Ok.ensures.gives c.start.ensures.core facts clock kept);
     }
 
 pub returns-in-Ok-clause-faults : goal.returns-in-Ok-clause-faults

@@ -38,5 +38,6 @@ returns g c =
       fails = status_fails (IsDirtied dirty clean) p q old new c.mark_dirty.result does settled c.self.invariant.1;
       nothing = none_dirtied dirty clean p q old new c.mark_dirty.result does settled c.self.invariant.1;
       marks = redirties dirty clean p q old new c.mark_dirty.result does settled c.self.invariant.1;
+      held = c.mark_dirty.ensures.held;
       leaves = dirt_leaves dirty clean p q old new c.mark_dirty.result does settled c.self.invariant.1;
     })

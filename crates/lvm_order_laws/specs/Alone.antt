@@ -1,0 +1,33 @@
+-- Shelves that do nothing but what they are ordered.
+use Rattle.std.specs.Prelude.{◌≡◌, ◌-◌, ◌^◌, ◌<◌, ℕ, false, Some, slice_index_or}
+use Rattle.lvm_disk.specs.Counts.{Counts}
+use Rattle.lvm_disk.specs.Device.{Ordered, Device}
+use Rattle.lvm_disk.specs.Paths.{DeviceStep, Path}
+
+-- it tells what orders made of it, and its power was cut as often as it was ordered
+pub record HeedsAlone (device : Device) : Type 0 where
+  pub ordered : Ordered
+  pub told : device.orders.alone ≡ Some ordered
+  pub cuts : device.counts.cuts ≡ ordered.cuts
+
+-- that stays so
+abbrev pub AloneLaw : Type 0
+AloneLaw = (old new : Device) → DeviceStep old new → HeedsAlone old → HeedsAlone new
+
+-- nor is any disk ordered to fail; and neither cuts nor orders were counted up to the last value
+pub record IsWell (device : Device) : Type 0 where
+  pub heeds : HeedsAlone device
+  pub well : (disk : ℕ) → slice_index_or heeds.ordered.failing disk false ≡ false
+  pub few_cuts : device.counts.cuts < 2 ^ 64 - 1
+  pub few_orders : device.orders.made < 2 ^ 64 - 1
+
+-- no transfer failed, the power wasn't cut, and no reap ended nothing
+pub record NothingFailed (old new : Counts) : Type 0 where
+  pub misses : (disk : ℕ) → new.misses disk ≡ old.misses disk
+  pub faults : (disk : ℕ) → new.faults disk ≡ old.faults disk
+  pub cuts : new.cuts ≡ old.cuts
+  pub waits : new.waits ≡ old.waits
+
+-- so it is over any steps among which no order is made
+abbrev pub WellLaw : Type 0
+WellLaw = (first last : Device) → Path DeviceStep (λ d. Unit {0}) first last → IsWell first → last.orders.made ≡ first.orders.made → NothingFailed first.counts last.counts

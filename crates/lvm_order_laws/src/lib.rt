@@ -1,0 +1,4 @@
+//! Laws over shelves that do nothing but what they are ordered.
+#![tactic(auto)]
+
+pub mod laws;
