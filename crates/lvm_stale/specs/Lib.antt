@@ -1,4 +1,5 @@
 pub mod passed
 pub mod Rows
 pub mod Table
+pub mod Rerowed
 pub mod Marking

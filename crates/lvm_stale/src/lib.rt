@@ -4,6 +4,7 @@
 
 pub mod below;
 mod mark;
+mod rows;
 mod table;
 
 pub use mark::mark_volumes;

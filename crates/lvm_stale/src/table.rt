@@ -6,9 +6,12 @@ ghost use Rattle.lvm_num.specs.declared.status.StatusRow.{StatusRow};
 ghost use Rattle.lvm_num.specs.Bits.{has_bit};
 ghost use Rattle.lvm_num.specs.Descriptor.{IsValid, is_pp};
 ghost use Rattle.lvm_num.specs.Status.{calls_stale, calls_missing, calls_dirty, IsValidStatus, AreDirty, IsVolumeNumber};
+ghost use Rattle.lvm_num.specs.declared.descriptor.Descriptor.{Descriptor};
+ghost use Rattle.lvm_stale.specs.Rerowed.{HasRowsOf, IsRerowed};
 ghost use Rattle.lvm_stale.specs.Rows.{IsRowAt, SetsAmong, with_row_at};
 ghost use Rattle.lvm_stale.specs.Table.{has_row, SameMembers, SameStale, SameMissing, stale_count};
 
+use crate::rows::{become_rows, rows_for};
 use lvm_num::{
     Descriptor, Memory, Pp, Status, StatusRow, VolumeNumbers, clear_bit, clone_status, has_bit,
     set_bit, volume_among,
@@ -180,6 +183,35 @@ impl StaleTable {
         self.status.big = from.big;
         self.status.dirty.copy_from(from.dirty.as_slice());
         self.status.rows.copy_from(from.rows.as_slice());
+    }
+
+    /// What the table says, over the rows of the members of a group: of a member that has no row nothing is
+    /// missing or stale, and what is said of a disk that is no member isn't taken over.
+    pub fn with_rows(&self, alloc: Global, d: &Descriptor) -> Result<StaleTable, Memory>
+        requires { IsValid d.now }
+        ensures { IfOk result (λ table. IsRerowed d.now self.now table) }
+    {
+        let rows = rows_for(alloc, d, &self.status)?;
+        let dirty = VolumeNumbers::new(alloc, self.status.dirty.as_slice())?;
+        Ok(StaleTable {
+            status: Status {
+                id: self.status.id,
+                big: d.big,
+                dirty,
+                rows,
+            },
+        })
+    }
+
+    /// Says what another table says, over its own rows, without memory.
+    pub fn copy_rows(&mut self, from: &StaleTable)
+        ensures rows { (d : Descriptor) → HasRowsOf d self.old → IsRerowed d from.now self.new }
+        ensures many { length self.new.rows ≡ length self.old.rows }
+    {
+        let from = &from.status;
+        self.status.id = from.id;
+        self.status.dirty.copy_from(from.dirty.as_slice());
+        become_rows(&mut self.status.rows, from);
     }
 
     // The row of a disk, and its place.

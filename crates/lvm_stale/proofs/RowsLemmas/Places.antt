@@ -22,7 +22,7 @@ use Rattle.lvm_num.proofs.DisksLemmas.{or-false, and-true}
 abbrev pub Rise : List StatusRow → Type 0
 Rise rows = AllPairs (λ (a b : StatusRow). a.disk < b.disk) rows
 
-rise-tail : (first : StatusRow) (rows : List StatusRow) → Rise (first ∷ rows) → Rise rows
+pub rise-tail : (first : StatusRow) (rows : List StatusRow) → Rise (first ∷ rows) → Rise rows
 rise-tail first rows rise = AllPairs-right (λ (a b : StatusRow). a.disk < b.disk) (first ∷ []) rows rise
 
 -- a later row is that of a greater disk
@@ -34,7 +34,7 @@ abbrev pub says : (StatusRow → Bool) → ℕ → List StatusRow → Bool
 says f disk rows = list_any (λ (row : StatusRow). row.disk == disk && f row) rows
 
 -- no later row is that of the first one's disk
-silent : (f : StatusRow → Bool) (first : StatusRow) (rows : List StatusRow) → Rise (first ∷ rows) → says f first.disk rows ≡ false
+pub silent : (f : StatusRow → Bool) (first : StatusRow) (rows : List StatusRow) → Rise (first ∷ rows) → says f first.disk rows ≡ false
 silent f first rows rise =
     list_any_none (λ (row : StatusRow). row.disk == first.disk && f row) rows
     (λ k d lt. let less : first.disk < (get_or rows k d).disk = later first rows rise k d lt in
