@@ -95,13 +95,13 @@ module _ (group : Descriptor) (valid : IsValid group) (s : ModelState) (facts : 
           record {
             volume = sym x.number ∙ same.0 ∙ y.number;
             block =
-              let size = partition_blocks group.mib in
-              let some = mib_positive group valid in
-              let first : b / size * size + b % size ≡ b = whole size b (omega arith) in
-              let second : c / size * size + c % size ≡ c = whole size c (omega arith) in
-              let part : b / size ≡ c / size = same.1 in
-              let rest : b % size ≡ c % size = parts_same.1 in
-              sym first ∙ (λ t. part t * size + rest t) ∙ second;
+                let size = partition_blocks group.mib in
+                let some = mib_positive group valid in
+                let first : b / size * size + b % size ≡ b = whole size b (omega arith) in
+                let second : c / size * size + c % size ≡ c = whole size c (omega arith) in
+                let part : b / size ≡ c / size = same.1 in
+                let rest : b % size ≡ c % size = parts_same.1 in
+                sym first ∙ (λ t. part t * size + rest t) ∙ second;
             copy = one_partition_of;
           }
 

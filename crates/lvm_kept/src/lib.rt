@@ -5,6 +5,7 @@ pub mod below;
 mod laws;
 
 pub use laws::{
-    blank_is_kept, changes_keep, entries_keep, one_group_is_only, parts_stand, places, quorums_find,
-    record_writes, records_are_committed, stamps_rise, worked_groups, writes_show, writing,
+    blank_is_kept, changes_keep, entries_keep, one_group_is_only, parts_stand, places,
+    quorums_find, record_writes, records_are_committed, stamps_rise, worked_groups, writes_show,
+    writing,
 };
