@@ -311,9 +311,28 @@ impl<S: Shelf> Driver<S> {
         ensures landed { list_any is_waiting self.1.requests ≡ false → (id : ℕ) → is_open result.history.facts id ≡ false }
     {
         let Driver { shelf, session, .. } = self;
+        let Session {
+            descriptor,
+            history,
+            requests,
+            queue,
+            copy,
+            pool,
+            updater,
+            cache,
+            ..
+        } = session;
+        // What is large goes by a call each: let go at the end of the scope, its parts are proved one by one here.
+        drop(updater);
+        drop(cache);
+        drop(descriptor);
+        drop(requests);
+        drop(queue);
+        drop(copy);
+        drop(pool);
         Closed {
             shelf: without_freed(shelf),
-            history: session.history,
+            history,
         }
     }
 }

@@ -32,7 +32,12 @@ pub fn has_usable(session: &Session, ask: &Ask) -> bool
 fn any_is_usable(session: &Session, pps: &[Pp]) -> bool
     ensures { result ≡ list_any (is_usable (core_of session.now)) pps.now }
 {
-    pps.iter().any(|pp| is_usable(session, *pp))
+    for pp in pps {
+        if is_usable(session, *pp) {
+            return true;
+        }
+    }
+    false
 }
 
 /// Whether the notes of the disks of all its targets name its track group, where its volume keeps notes.
@@ -54,9 +59,12 @@ pub fn has_names(session: &Session, request: &Request) -> bool
 fn are_named(session: &Session, lv: u16, group: u32, targets: &[Target]) -> bool
     ensures { result ≡ list_all (λ (t : Target). is_named session.now.cache t.pp.disk lv group) targets.now }
 {
-    targets
-        .iter()
-        .all(|target| session.cache.is_named(target.pp.disk, lv, group))
+    for target in targets {
+        if !session.cache.is_named(target.pp.disk, lv, group) {
+            return false;
+        }
+    }
+    true
 }
 
 fn has_dirty_mark(session: &Session, request: &Request) -> bool

@@ -40,7 +40,12 @@ pub fn is_marked(session: &Session, request: &Request) -> bool
 fn are_failed_settled(session: &Session, targets: &[Target]) -> bool
     ensures { result ≡ list_all (λ (t : Target). not (counts_failed (core_of session.now) t) || is_settled (core_of session.now) t.pp) targets.now }
 {
-    targets.iter().all(|target| !counts_failed(session, target) || is_settled(session, target.pp))
+    for target in targets {
+        if counts_failed(session, target) && !is_settled(session, target.pp) {
+            return false;
+        }
+    }
+    true
 }
 
 // Whether all but the first that is sure are settled.

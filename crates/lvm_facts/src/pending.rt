@@ -25,7 +25,12 @@ pub fn is_waiting(open: &Open) -> bool
 fn any_counts_failed(session: &Session, targets: &[Target]) -> bool
     ensures { result ≡ list_any (counts_failed (core_of session.now)) targets.now }
 {
-    targets.iter().any(|target| counts_failed(session, target))
+    for target in targets {
+        if counts_failed(session, target) {
+            return true;
+        }
+    }
+    false
 }
 
 /// Whether it is a write that has started its data, has a target that counts as failed, and hasn't landed.
@@ -41,7 +46,12 @@ pub fn is_failing(session: &Session, open: &Open) -> bool
 fn any_is_unsettled(session: &Session, pps: &[Pp]) -> bool
     ensures { result ≡ list_any (λ (p : Pp). is_wanted_stale (core_of session.now) p && not (is_settled (core_of session.now) p)) pps.now }
 {
-    pps.iter().any(|pp| is_wanted_stale(session, *pp) && !is_settled(session, *pp))
+    for pp in pps {
+        if is_wanted_stale(session, *pp) && !is_settled(session, *pp) {
+            return true;
+        }
+    }
+    false
 }
 
 // The first block, in its volume, of the logical partition in which a request lies.
