@@ -12,4 +12,4 @@ pub use laws::{
     next_is_later, nothing_else_is_found, only_group_stays, session_begins, status_follows,
     volume_is_found, volume_may_be_committed, writes_are_held,
 };
-pub use write::{is_committed, write_descriptor};
+pub use write::is_committed;
