@@ -183,7 +183,22 @@ for round in $(seq 1 "$rounds"); do
         *) fail "after a kill: '$found'" ;;
     esac
 done
-rm -f hdisk1.img hdisk2.img
+rm -f hdisk1.img hdisk2.img hdisk0.img
+
+# Of two copies one is on a disk that was replaced between the runs, and one on a disk that is away: neither goes, and
+# what was written is there once that disk is back.
+for disk in 0 1 2 3 4; do
+    run 0 '' '' image $disk 8
+done
+run 0 'ok\nok\nok\n' 'mkvg -y datavg -s 1 hdisk3 hdisk0 hdisk1 hdisk2 hdisk4\nmklv -y lv00 -c 2 -w n datavg 1\nwr lv00 0 1 0000000000000001\n' script
+mv hdisk0.img away
+rm hdisk3.img
+run 0 '' '' image 3 8
+run 1 'ok\nrefused 21 NoFresh 1\nrefused 17 LastFresh 1\n' 'varyonvg datavg\nrd lv00 0 1\nrmlvcopy lv00 1\n' script
+mv away hdisk0.img
+run 0 'ok\n0001 0001 hdisk3 stale 0001 hdisk0\n0 0000000000000001\n' 'varyonvg datavg\nlslv -m lv00\nrd lv00 0 1\n' script
+rm -f hdisk0.img hdisk1.img hdisk2.img hdisk3.img hdisk4.img
+run 0 '' '' image 0 8
 
 # The program is killed between replies. Block 4096 + k gets the word of the round and k; each block whose
 # write was answered has to be there.

@@ -7,9 +7,7 @@ use Rattle.lvm_steps.specs.Moments.{ImagesKept, Keeps}
 use Rattle.lvm_steps.specs.Behind.{IsAhead}
 use Rattle.lvm_tie_commands.specs.passed.Names.{IsOneFoundOn}
 use Rattle.lvm_quiesce.specs.passed.Names.{IsHeld, EntersVolumes, IsSettled as IsSettledCore}
-use Rattle.lvm_session.specs.State.{Core, State, state}
-use Rattle.lvm_disk.specs.Paths.{Path}
-use Rattle.lvm_tie_commands.specs.passed.Driver.{IsAny, IsTurn}
+use Rattle.lvm_session.specs.State.{Core}
 use Rattle.lvm_group_lines.specs.State.{ScriptState, IsAtRest, IsBetween, IsTimely, StandsAlone, StandsBy}
 use Rattle.lvm_group_lines.specs.Replies.{IsStuck, most_refusals}
 use Rattle.lvm_group_lines.specs.declared.reply.Refusal.TheVariants as refusal
@@ -24,45 +22,29 @@ IsBrokenOff (reply.Refused refusal.Stuck) = Unit {0}
 IsBrokenOff (reply.Refused (refusal.DiskFailed disk)) = Unit {0}
 IsBrokenOff other = ⊥
 
--- what a line does with the session that is on: nothing, a command on its group, one over which what stands goes on to stand only where this holds of the
--- session once it has come to rest, or requests
-pub data Role : Type 1 where
+-- what a line does with the session that is on: nothing, a command on its group, or requests
+pub data Role : Type 0 where
   Aside : Role
   OfGroup : Role
-  OfGroupWhere : (State → Type 0) → Role
   OfRequests : Role
 
 -- it acts on the session
 abbrev pub IsActing : Role → Type 0
 IsActing Aside = ⊥
 IsActing OfGroup = Unit {0}
-IsActing (OfGroupWhere Holds) = Unit {0}
 IsActing OfRequests = Unit {0}
 
 -- it makes requests of it, or turns, and leaves them under way
 abbrev pub IsRequesting : Role → Type 0
 IsRequesting Aside = ⊥
 IsRequesting OfGroup = ⊥
-IsRequesting (OfGroupWhere Holds) = ⊥
 IsRequesting OfRequests = Unit {0}
 
--- this holds of each session to which turns may lead from the one that is on, once nothing is under way
-abbrev pub AtRestEach : (State → Type 0) → ScriptState → Type 0
-AtRestEach Holds old = IfSome old.session (λ core. (mid : State) → Path IsTurn IsAny (state old.moment.device core) mid → IsSettledCore mid.core → Holds mid)
-
--- so does what its command asks for
-abbrev pub IsAllowed : Role → ScriptState → Type 0
-IsAllowed Aside old = Unit {0}
-IsAllowed OfGroup old = Unit {0}
-IsAllowed (OfGroupWhere Holds) old = AtRestEach Holds old
-IsAllowed OfRequests old = Unit {0}
-
--- Whatever any disks find is of one group where a volume's making or removal is entered meanwhile; so too where a session is acted on whose group has
--- volumes and which has no open request, and none of these is in mode passive then. What a command asks for besides holds of its session.
+-- Whatever any disks find is of one group where a volume's making or removal is entered meanwhile; so too where a session is acted on whose group has volumes
+-- and which has no open request, and none of these is in mode passive then.
 pub record IsAlone (role : Role) (old new : ScriptState) : Type 0 where
   pub enters : EntersVolumes old.moment.facts new.moment.facts → IsOneFoundOn old.moment.device
   pub acts : IsActing role → IfSome old.session (StandsAlone old.moment.device)
-  pub allowed : IsAllowed role old
 
 -- A span goes on from the one state to the other, and the disks go on standing by the session, unless nothing was heard of a transfer.
 abbrev pub KeepsStanding : ℕ → Reply → ScriptState → ScriptState → Type 0

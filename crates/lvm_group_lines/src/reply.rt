@@ -44,7 +44,7 @@ pub enum Refusal {
     NoRoom { free: u32 },
     /// 16: so many copies can't be had; the volume has so many now.
     CopyLimit { now: u8 },
-    /// 17: all fresh copies of this logical partition would go.
+    /// 17: of this logical partition a fresh copy would go, and none that can be used would stay.
     LastFresh { lp: u32 },
     /// 18: the blocks are not all within the data of the disk, which has so many sectors.
     OutOfRange { blocks: u64 },

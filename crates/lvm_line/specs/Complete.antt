@@ -58,7 +58,12 @@ abbrev pub CompleteLaw : Type 0
 CompleteLaw = (log : Log) (room : Room) (line : List ℕ) (why : Refusal) (old new : ScriptState) → IsLine log room line (reply.Refused why) old new
     → NothingFailed (line_of line) old new → IsOwn old why
 
--- And some line is refused in which nothing failed.
+-- There is a line that is refused in which nothing failed.
 abbrev pub NothingMayFail : Type 0
 NothingMayFail =
     (log : Log) (room : Room) → (line : List ℕ) × (why : Refusal) × (old : ScriptState) × (new : ScriptState) × IsLine log room line (reply.Refused why) old new × NothingFailed (line_of line) old new
+
+-- And some line is answered without a refusal in which nothing failed.
+abbrev pub NothingMayFailAnswered : Type 0
+NothingMayFailAnswered =
+    (log : Log) (room : Room) → (line text : List ℕ) × (old : ScriptState) × (new : ScriptState) × IsLine log room line (reply.Answers text 0) old new × NothingFailed (line_of line) old new

@@ -9,14 +9,13 @@ use Rattle.lvm_parse.specs.declared.command.Command.TheVariants as command
 use Rattle.lvm_operands.specs.declared.rest.Misfit.{Misfit}
 use Rattle.lvm_parse.specs.Grammar.{line_of}
 use Rattle.lvm_core.specs.declared.parts.Room.{Room}
-use Rattle.lvm_volume_lines.specs.passed.GroupLines.{ReadDoes, WriteDoes, ArrangeDoes, CutDoes, Aside, CommandEnds, GoesOn, IsBetween, IsFittingStage, IsLeftBy, IsRefused, IsStuck, OfGroup, OfGroupWhere, OfRequests, Reply, Role, ScriptState, Stage, history_in, state_in, without_facts, MkvgDoes, VaryonDoes, VaryoffDoes, GroupShows, VolumeShows, DiskShows}
+use Rattle.lvm_volume_lines.specs.passed.GroupLines.{ReadDoes, WriteDoes, ArrangeDoes, CutDoes, Aside, CommandEnds, GoesOn, IsBetween, IsFittingStage, IsLeftBy, IsRefused, IsStuck, OfGroup, OfRequests, Reply, Role, ScriptState, Stage, history_in, state_in, without_facts, MkvgDoes, VaryonDoes, VaryoffDoes, GroupShows, VolumeShows, DiskShows}
 use Rattle.lvm_line.specs.declared.line.InPlace.{InPlace}
 use Rattle.lvm_line.specs.declared.line.InPlace.TheVariants as in_place
 use Rattle.lvm_volume_lines.specs.passed.RangeLines.{RdDoes, WrDoes, PostDoes, StepDoes}
 use Rattle.lvm_volume_lines.specs.passed.RangeLinesWaiting.{WaitDoes}
 use Rattle.lvm_volume_lines.specs.Copies.{MklvcopyDoes, RmlvcopyDoes}
 use Rattle.lvm_volume_lines.specs.Resyncing.{SyncGroupDoes, SyncVolumeDoes}
-use Rattle.lvm_volume_lines.specs.passed.TieCommands.{KeepsShownOf}
 use Rattle.lvm_volume_lines.specs.Volumes.{MklvDoes, RmlvDoes, wanted}
 use Rattle.lvm_volume_lines.specs.passed.RefusalVariants as refusal
 use Rattle.lvm_volume_lines.specs.passed.ReplyVariants as reply
@@ -61,7 +60,7 @@ abbrev pub role_of : Result (Option Command) Misfit → Role
 role_of (Ok (Some (command.Mklv name copies mode policy group lps))) = OfGroup
 role_of (Ok (Some (command.Rmlv name))) = OfGroup
 role_of (Ok (Some (command.Mklvcopy name copies))) = OfGroup
-role_of (Ok (Some (command.Rmlvcopy name copies))) = OfGroupWhere (KeepsShownOf name copies)
+role_of (Ok (Some (command.Rmlvcopy name copies))) = OfGroup
 role_of (Ok (Some (command.Rd name at count))) = OfRequests
 role_of (Ok (Some (command.Wr name at count word))) = OfRequests
 role_of (Ok (Some (command.Post name at count word))) = OfRequests

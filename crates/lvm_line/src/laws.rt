@@ -1,6 +1,6 @@
 //! Laws of lines. Each call does nothing: its contract is the law.
 ghost use Rattle.lvm_line.specs.Causes.{CauseLaw, VaryonLaw, NoQuorumLaw};
-ghost use Rattle.lvm_line.specs.Complete.{CompleteLaw, NothingMayFail};
+ghost use Rattle.lvm_line.specs.Complete.{CompleteLaw, NothingMayFail, NothingMayFailAnswered};
 
 /// A line is refused for what its shelf or the clock did only where that has happened.
 pub fn refusals_have_causes()
@@ -11,8 +11,9 @@ pub fn refusals_have_causes()
 /// rule of its own, for want of memory, or since the votes were lost before it.
 pub fn lines_are_complete()
     ensures complete { CompleteLaw }
-    // There is such a line.
+    // There are such lines, refused and answered.
     ensures met { NothingMayFail }
+    ensures answered { NothingMayFailAnswered }
 {}
 
 /// What a `varyonvg` leaves that is answered `ok`, and that one which lacks its quorum has written nothing.

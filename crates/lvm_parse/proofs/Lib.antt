@@ -1,3 +1,4 @@
 pub mod GrammarLemmas
 pub mod WithinLemmas
 pub mod AnsweringLemmas
+pub mod ForcedLemmas

@@ -1,3 +1,4 @@
 pub mod Answering
 pub mod Grammar
 pub mod Within
+pub mod Forced

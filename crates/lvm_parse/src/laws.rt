@@ -1,4 +1,5 @@
 //! What holds of every line.
+ghost use Rattle.lvm_parse.specs.Forced.{SpellsForce};
 ghost use Rattle.lvm_parse.specs.Within.{SpellsWithin, IsRefusedWithin};
 
 /// A line that isn't in the language is refused at a column from 1 to the one behind its last byte.
@@ -11,6 +12,13 @@ pub fn columns_are_within(line: &[u8])
 /// A command that a line spells has its numbers and its disks within the bounds of the language.
 pub fn fields_are_within(line: &[u8])
     ensures { SpellsWithin line.now }
+{
+    let _line = line;
+}
+
+/// A `mkvg -f` has the bytes `-f`.
+pub fn force_is_spelled(line: &[u8])
+    ensures { SpellsForce line.now }
 {
     let _line = line;
 }

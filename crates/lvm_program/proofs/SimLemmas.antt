@@ -13,6 +13,8 @@ use Rattle.lvm_steps.specs.Behind.{IsBehind}
 use Rattle.lvm_steps.proofs.LawsLemmas.Records.{blank_is_behind}
 use Rattle.lvm_top.specs.Blank.{IsToldBlank}
 use Rattle.lvm_top.specs.Standing.{HasFewDisks}
+use Rattle.lvm_top.specs.Plain.{HoldsOneGroup}
+use Rattle.lvm_top.proofs.PlainLemmas.{blank_holds_one_group}
 use Rattle.lvm_top.specs.Run.{Run, Promises, WhereAlone}
 use Rattle.lvm_top.specs.Script.{facts_of}
 use Rattle.lvm_program.specs.Program.{PromisesBlank}
@@ -43,20 +45,23 @@ sizes_of_zeros : (disks count : ℕ) → length (sizes_of (blank_disks_of (repli
 sizes_of_zeros zero count = refl
 sizes_of_zeros (suc disks) count = let rest = sizes_of_zeros disks count in omega (arith, rest)
 
-pub sim_few : (disks mib : ℕ) → disks ≤ 8 → HasFewDisks (sim_device disks mib)
+pub sim_few : (disks mib : ℕ) → disks ≤ 32 → HasFewDisks (sim_device disks mib)
 sim_few disks mib few = let is = sizes_of_zeros disks (2048 * mib) in omega (arith, is, few)
 
 -- ---- a script over them
 
-module _ (asked : ℕ) (r : Run) (disks mib : ℕ) (is : r.entry ≡ sim_device disks mib) (promises : Promises asked r) where
+module _ (asked : ℕ) (r : Run) (disks mib : ℕ) (few : disks ≤ 32) (is : r.entry ≡ sim_device disks mib) (promises : Promises asked r) where
   upheld : WhereAlone r (IsUpheld r.named r.entry r.exit (facts_of r.history))
   upheld = λ ran alone. promises.upheld ran alone (subst (IsBehind r.named) (sym is) (sim_behind r.named disks mib))
 
   earlier : IsEarlier r.named r.entry []
   earlier = subst (λ (d : Device). IsEarlier r.named d []) (sym is) (sim_earlier r.named disks mib)
 
+  holds : HoldsOneGroup r.named r.entry
+  holds = subst (λ (d : Device). HoldsOneGroup r.named d) (sym is) (blank_holds_one_group r.named (sim_device disks mib) (sim_few disks mib few) (sim_told disks mib)).0
+
   blank_promises : PromisesBlank asked r
-  blank_promises = record { promises = promises; upheld = upheld; first = λ ran alone. ((upheld ran alone).legal [] earlier, (upheld ran alone).kept [] earlier) }
+  blank_promises = record { promises = promises; plain = λ bytes told nowhere. promises.plain bytes told nowhere holds [] earlier; upheld = upheld; first = λ ran alone. ((upheld ran alone).legal [] earlier, (upheld ran alone).kept [] earlier) }
 
   pub sim_promises : r.room ≡ full_room → PromisesBlank asked (record r { entry = sim_device disks mib; room = full_room })
   sim_promises room_is =

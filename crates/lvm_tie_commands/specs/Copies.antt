@@ -1,32 +1,22 @@
 -- Over a command on the copies of a volume, by the contract of its call: what stands on the disks goes on to stand.
 use Rattle.std.specs.Prelude.{ℕ, List, Result}
-use Rattle.lvm_num.specs.declared.descriptor.LvRow.{LvRow}
 use Rattle.lvm_num.specs.declared.place.Pp.{Pp}
 use Rattle.lvm_kept.specs.Moments.{Moment}
 use Rattle.lvm_steps.specs.Moments.{Keeps}
 use Rattle.lvm_session.specs.State.{State}
-use Rattle.lvm_tie_commands.specs.passed.Names.{moment_of, GroupFault, IfOn, IsNumberOf}
-use Rattle.lvm_volumes.specs.passed.Names.{MayBeTaken}
-use Rattle.lvm_volumes.specs.Mirrors.{IfShown, KeepsShown, MklvcopyGives, RmlvcopyGives, to_add, to_take}
+use Rattle.lvm_tie_commands.specs.passed.Names.{moment_of, GroupFault, IfOn}
+use Rattle.lvm_volumes.specs.Mirrors.{MklvcopyGives, RmlvcopyGives, to_add, to_take}
 use Rattle.lvm_tie_commands.specs.passed.Handover.{IsCommanded}
 use Rattle.lvm_tie_commands.specs.Commands.{IsLeftStandingSince, MayBeCommanded}
 
--- A span goes on over the addition of copies, whatever its answer, and where the session does, what stood stands again;
+-- A span goes on over the addition of copies, whatever its answer, and where the session does, what stood stands again,
 abbrev pub MklvcopyGoesOn : Type 0
 MklvcopyGoesOn = (run : ℕ) (first : Moment) (lv copies before after : ℕ) (old new : State) (answer : Result (List Pp) GroupFault)
     → MayBeCommanded run first old → IsCommanded (to_add lv copies old.core) before after old new answer → MklvcopyGives lv copies before old new answer
     → Keeps run first (moment_of new) × IfOn answer (IsLeftStandingSince run first new)
 
--- where each logical partition keeps a fresh copy on a member that shows the group, unless the removal is refused
-abbrev pub KeepsShownIfTaken : ℕ → Moment → ℕ → ℕ → State → State → Type 0
-KeepsShownIfTaken run first lv copies old new = (row : LvRow) → MayBeTaken lv copies old.core row → IfShown lv copies old new run first
-
 -- and so it is over the removal of copies.
 abbrev pub RmlvcopyGoesOn : Type 0
 RmlvcopyGoesOn = (run : ℕ) (first : Moment) (lv copies before after : ℕ) (old new : State) (answer : Result (Unit {0}) GroupFault)
-    → MayBeCommanded run first old → KeepsShownIfTaken run first lv copies old new → IsCommanded (to_take lv copies old.core) before after old new answer → RmlvcopyGives lv copies before old new answer
+    → MayBeCommanded run first old → IsCommanded (to_take lv copies old.core) before after old new answer → RmlvcopyGives lv copies before old new answer
     → Keeps run first (moment_of new) × IfOn answer (IsLeftStandingSince run first new)
-
--- where the volume of the name may be left with so many copies, each logical partition keeps a fresh one on a member that shows the group
-abbrev pub KeepsShownOf : List ℕ → ℕ → State → Type 0
-KeepsShownOf name copies s = (lv : ℕ) (row : LvRow) → IsNumberOf s.core.descriptor.lvs name lv → MayBeTaken lv copies s.core row → KeepsShown lv copies s

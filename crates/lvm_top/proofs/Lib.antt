@@ -14,3 +14,5 @@ pub mod RecoveredLemmas
 pub mod RefusedLemmas
 pub mod OneGroupLemmas
 pub mod EndingLemmas
+pub mod PlainLemmas
+pub mod LeftLemmas

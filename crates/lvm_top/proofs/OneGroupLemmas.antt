@@ -32,19 +32,20 @@ use Rattle.lvm_kept.specs.Moments.{Moment}
 use Rattle.lvm_core.specs.Leaves.{EntersVolumes, Scope, is_of_volume, MayBeFound}
 use Rattle.lvm_volume_plan.specs.declared.new_volume.NewVolume.{NewVolume}
 use Rattle.lvm_line.specs.passed.Group.{NewGroup, new_group, MkvgRefuses, IfShown, HasGroup}
-use Rattle.lvm_line.specs.passed.GroupLines.{patience_of_line, Asks, IsAllowed, IsAlone, OfGroup, OfRequests, Role, IsStuck, ScriptState, IsTimely, StandsAlone, log_with, Reply, IsLeft, MkvgDoes, NoMemoryForLine, NoMkvgWhileOn, Makes, asked_for, itself, outcome_of}
+use Rattle.lvm_line.specs.passed.GroupLines.{patience_of_line, Asks, IsAlone, OfGroup, OfRequests, Role, IsStuck, ScriptState, IsTimely, StandsAlone, log_with, Reply, IsLeft, MkvgDoes, NoMemoryForLine, NoMkvgWhileOn, Makes, asked_for, itself, outcome_of}
 use Rattle.lvm_line.specs.Lines.{LineDoes, role_of}
 use Rattle.lvm_line.specs.passed.VolumeLines.{Drains, IsDone, MklvDoes, RmlvDoes, NoGroupForMklv, BusyMklv, UndrainedMklv, MakesVolume, MklvFails, NoGroupForRmlv, BusyRmlv, UndrainedRmlv, NoVolumeForRmlv, RemovesVolume, RmlvFails, wanted, MklvcopyDoes, NoGroupForMklvcopy, BusyMklvcopy, UndrainedMklvcopy, NoVolumeForMklvcopy, AddsCopies, MklvcopyFails, RmlvcopyDoes, NoGroupForRmlvcopy, BusyRmlvcopy, UndrainedRmlvcopy, NoVolumeForRmlvcopy, RemovesCopies, RmlvcopyFails}
-use Rattle.lvm_top.specs.Script.{Script, NoLine, NextLine, AreAllowed, EndsAllowed, StaysAlone, Ends, AtLine, InLine, EndsAlone, EndsHeard, entry_state, empty_log, facts_of}
+use Rattle.lvm_top.specs.Script.{Script, NoLine, NextLine, StaysAlone, Ends, AtLine, InLine, EndsAlone, EndsHeard, entry_state, empty_log, facts_of}
 use Rattle.lvm_top.specs.Run.{exit_state}
 use Rattle.lvm_top.proofs.ScriptLemmas.Concluding.{how_ended, stuck_ends, stuck_still}
 use Rattle.lvm_top.proofs.RecoveredLemmas.{HasNoPassiveOn, committed_off, session_off}
 use Rattle.lvm_top.proofs.LeavesLemmas.Quiet.{lit_nothing, quiet_nothing, stays_nothing}
-use Rattle.lvm_top.proofs.StandingLemmas.Volumes.{as_group, done_finds, found_before, idle_nothing, undrained_nothing}
+use Rattle.lvm_top.proofs.StandingLemmas.Volumes.{done_finds, found_before, idle_nothing, undrained_nothing}
 use Rattle.lvm_top.proofs.StandingLemmas.Copying.{fewer_id, more_id}
 use Rattle.lvm_top.proofs.ScriptLemmas.Scripting.{script_went}
 use Rattle.lvm_top.specs.Laws.{MayStart}
-use Rattle.lvm_top.specs.OneGroup.{FindsNoPassive, FindsOneGroup, IsUnforced, AreUnforced, EndsUnforced, UnforcedStaysAlone, UnforcedRunsAlone, BlankFindsOneGroup}
+use Rattle.lvm_top.specs.Plain.{FindsNoPassive, FindsOneGroup}
+use Rattle.lvm_top.specs.OneGroup.{IsUnforced, AreUnforced, EndsUnforced, UnforcedStaysAlone, UnforcedRunsAlone, BlankFindsOneGroup}
 use Rattle.lvm_top.specs.Standing.{MayHaveCommitted, StoodBefore}
 use Rattle.lvm_top.proofs.Begun.{IsIts}
 use Rattle.lvm_top.proofs.Devices.{IsShelf, NothingNew, then_nothing, same_nothing, unwritten_nothing}
@@ -223,7 +224,7 @@ module _ (log : Log) (old new : ScriptState) (answer : Reply) (shelf : IsShelf o
   line_one room line unforced (Ok (Some (command.Varyoff name))) is stood does = other_one room line _ is stood (λ id k it. it.is) does
   line_one room line unforced (Ok (Some (command.Lsvg volumes name))) is stood does = other_one room line _ is stood (λ id k it. it.is) does
   line_one room line unforced (Ok (Some (command.Mklvcopy name copies))) is stood does = mklvcopy_one stood name copies does
-  line_one room line unforced (Ok (Some (command.Rmlvcopy name copies))) is stood does = rmlvcopy_one (as_group log.run _ old new stood) name copies does
+  line_one room line unforced (Ok (Some (command.Rmlvcopy name copies))) is stood does = rmlvcopy_one stood name copies does
   line_one room line unforced (Ok (Some (command.Lslv name))) is stood does = other_one room line _ is stood (λ id k it. it.is) does
   line_one room line unforced (Ok (Some (command.Lspv disk))) is stood does = other_one room line _ is stood (λ id k it. it.is) does
   line_one room line unforced (Ok (Some (command.Rd name at count))) is stood does = other_one room line _ is stood (λ id k it. it.is) does
@@ -242,8 +243,8 @@ module _ (log : Log) (old new : ScriptState) (answer : Reply) (shelf : IsShelf o
 -- ---- the lines of a script
 
 -- where one group may be found, with such volumes, and a session has no other
-pub alone_so : (role : Role) (old new : ScriptState) → IsAllowed role old → FindsOneGroup old.moment.device → HasNoPassiveOn old → IsAlone role old new
-alone_so role old new allowed one off = record { enters = λ enters. one_found old.moment.device one; acts = λ acting. by_session old.session off; allowed = allowed }
+pub alone_so : (role : Role) (old new : ScriptState) → FindsOneGroup old.moment.device → HasNoPassiveOn old → IsAlone role old new
+alone_so role old new one off = record { enters = λ enters. one_found old.moment.device one; acts = λ acting. by_session old.session off }
   where
     by_session : (o : Option Core) → IfSome o (λ core. HasNoPassive core.descriptor) → IfSome o (StandsAlone old.moment.device)
     by_session None off = tt
@@ -257,12 +258,12 @@ module _ (log : Log) (room : Room) (past : List Fact) (first : ScriptState) (beg
     pub finds_off : FindsNoPassive last.moment.device
     pub session : HasNoPassiveOn last
 
-  pub script_one : {lines : List (List ℕ)} {replies : List Reply} {last : ScriptState} (script : Script log room first lines replies last) → AreUnforced script → AreAllowed script → ScriptOff script
-  script_one NoLine unforced allowed = record { alone = tt; finds_one = one; finds_off = off; session = subst (λ (s : Option Core). IfSome s (λ core. HasNoPassive core.descriptor)) (sym begin.off) tt }
-  script_one (NextLine {mid = mid} {new = new} line answer said heard says before it) unforced allowed =
-      let so_far = script_one before unforced.0 allowed.0 in
+  pub script_one : {lines : List (List ℕ)} {replies : List Reply} {last : ScriptState} (script : Script log room first lines replies last) → AreUnforced script → ScriptOff script
+  script_one NoLine unforced = record { alone = tt; finds_one = one; finds_off = off; session = subst (λ (s : Option Core). IfSome s (λ core. HasNoPassive core.descriptor)) (sym begin.off) tt }
+  script_one (NextLine {mid = mid} {new = new} line answer said heard says before it) unforced =
+      let so_far = script_one before unforced.0 in
       let went = script_went log room first before in
-      let now : IsAlone (role_of (line_of line)) mid new = alone_so (role_of (line_of line)) mid new allowed.1 so_far.finds_one so_far.session in
+      let now : IsAlone (role_of (line_of line)) mid new = alone_so (role_of (line_of line)) mid new so_far.finds_one so_far.session in
       let few : length mid.moment.device.sizes ≤ 128 = subst (λ (sizes : List ℕ). length sizes ≤ 128) (sym (span_sizes (went_so log room past first begin before so_far.alone).0)) begin.few in
       let shelf : IsShelf mid.moment.device = record { few = few; whole = it.whole } in
       let leaves = went.leaves begin.leaves in
@@ -278,21 +279,21 @@ module _ (log : Log) (room : Room) (past : List Fact) (first : ScriptState) (beg
         session = session_off log room answer mid new so_far.session (it.goes.begins timely (past ++ mid.moment.facts) (images_kept log room past first begin before so_far.alone)) told_new off_new leaves it.named (line_of line) stood_so it.does;
       }
 
-  ends_alone : {mid last : ScriptState} {done : List (List ℕ)} {said : List Reply} {front : List ℕ} (ends : Ends log room mid last done said front) → EndsAllowed ends → FindsOneGroup mid.moment.device → HasNoPassiveOn mid → EndsAlone ends
-  ends_alone (AtLine same) allowed found session = tt
-  ends_alone {mid = mid} {last = last} (InLine line answer said front rest says split it) allowed found session = alone_so (role_of (line_of line)) mid last allowed found session
+  ends_alone : {mid last : ScriptState} {done : List (List ℕ)} {said : List Reply} {front : List ℕ} (ends : Ends log room mid last done said front) → FindsOneGroup mid.moment.device → HasNoPassiveOn mid → EndsAlone ends
+  ends_alone (AtLine same) found session = tt
+  ends_alone {mid = mid} {last = last} (InLine line answer said front rest says split it) found session = alone_so (role_of (line_of line)) mid last found session
 
   -- what is so where they end, unless nothing was heard of a transfer
-  ends_one : {lines : List (List ℕ)} {replies : List Reply} {mid last : ScriptState} {done : List (List ℕ)} {said : List Reply} {front : List ℕ} (script : Script log room first lines replies mid) → ScriptOff script → AreUnforced script → AreAllowed script
-      → (ends : Ends log room mid last done said front) → EndsHeard ends → EndsUnforced ends → EndsAllowed ends → FindsOneGroup last.moment.device × HasNoPassiveOn last
-  ends_one script so_far before were (AtLine same) heard unforced allowed = (subst (λ (s : ScriptState). FindsOneGroup s.moment.device) (sym same) so_far.finds_one, subst HasNoPassiveOn (sym same) so_far.session)
-  ends_one script so_far before were (InLine line answer said front rest says split it) heard unforced allowed =
-      let all = script_one (NextLine line answer said heard says script it) (before, unforced) (were, allowed) in
+  ends_one : {lines : List (List ℕ)} {replies : List Reply} {mid last : ScriptState} {done : List (List ℕ)} {said : List Reply} {front : List ℕ} (script : Script log room first lines replies mid) → ScriptOff script → AreUnforced script
+      → (ends : Ends log room mid last done said front) → EndsHeard ends → EndsUnforced ends → FindsOneGroup last.moment.device × HasNoPassiveOn last
+  ends_one script so_far before (AtLine same) heard unforced = (subst (λ (s : ScriptState). FindsOneGroup s.moment.device) (sym same) so_far.finds_one, subst HasNoPassiveOn (sym same) so_far.session)
+  ends_one script so_far before (InLine line answer said front rest says split it) heard unforced =
+      let all = script_one (NextLine line answer said heard says script it) (before, unforced) in
       (all.finds_one, all.session)
 
 pub unforced_stays_alone : UnforcedStaysAlone
-unforced_stays_alone log room past first lines replies last script begin one off unforced allowed =
-    let all = script_one log room past first begin one off script unforced allowed in
+unforced_stays_alone log room past first lines replies last script begin one off unforced =
+    let all = script_one log room past first begin one off script unforced in
     (all.alone, all.finds_one, all.finds_off)
 
 -- a history isn't longer than itself
@@ -300,22 +301,21 @@ pub not_more : (a b : List Fact) → b ≡ a → EntersVolumes a b → ⊥
 not_more a b same more = let e : count_by is_of_volume b ≡ count_by is_of_volume a = ap (λ (l : List Fact). count_by is_of_volume l) same in omega (arith, e, more)
 
 pub unforced_runs_alone : UnforcedRunsAlone
-unforced_runs_alone r ran past few ready behind earlier one off unforced allowed =
+unforced_runs_alone r ran past few ready behind earlier one off unforced =
     let begin = run_may_start r.named r.entry past few ready behind earlier in
-    let all = script_one (empty_log r.named r.room) r.room (past ++ Cut ∷ []) (entry_state r.entry r.named) begin one off ran.lines.script unforced.0 allowed.0 in (
+    let all = script_one (empty_log r.named r.room) r.room (past ++ Cut ∷ []) (entry_state r.entry r.named) begin one off ran.lines.script unforced.0 in (
       all.alone,
-      ends_alone (empty_log r.named r.room) r.room (past ++ Cut ∷ []) (entry_state r.entry r.named) begin one off ran.lines.ends allowed.1 all.finds_one all.session,
+      ends_alone (empty_log r.named r.room) r.room (past ++ Cut ∷ []) (entry_state r.entry r.named) begin one off ran.lines.ends all.finds_one all.session,
       λ requests. ⊎_elim
           (λ stuck.
           let none : ran.end.session ≡ None = stuck_ends ran.lines.ends (ran.stuck stuck) in
           record {
             enters = λ enters. absurd (not_more ran.end.moment.facts (facts_of r.history) (ap (λ (m : Moment). m.facts) (stuck_still r ran stuck)) enters);
             acts = λ acting. subst (λ (o : Option Core). IfSome o (StandsAlone ran.end.moment.device)) (sym none) tt;
-            allowed = tt;
           })
           (λ heard.
-          let last = ends_one (empty_log r.named r.room) r.room (past ++ Cut ∷ []) (entry_state r.entry r.named) begin one off ran.lines.script all unforced.0 allowed.0 ran.lines.ends (ran.heard heard) unforced.1 allowed.1 in
-          alone_so OfRequests ran.end (exit_state r.exit r.history ran.end) tt last.0 last.1)
+          let last = ends_one (empty_log r.named r.room) r.room (past ++ Cut ∷ []) (entry_state r.entry r.named) begin one off ran.lines.script all unforced.0 ran.lines.ends (ran.heard heard) unforced.1 in
+          alone_so OfRequests ran.end (exit_state r.exit r.history ran.end) last.0 last.1)
           (how_ended r.status),
     )
 

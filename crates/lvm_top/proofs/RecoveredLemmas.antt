@@ -45,10 +45,10 @@ use Rattle.lvm_line.specs.passed.RangeLinesWaiting.{WaitDoes, WhileOff as WaitsW
 use Rattle.lvm_line.specs.passed.VolumeLines.{IsSynced, NoGroupForSync, NoVolumeForSync, NothingSyncs, OtherGroupForSync, SyncGroupDoes, SyncVolumeDoes, SyncsGroup, SyncsVolume, MklvcopyDoes, NoGroupForMklvcopy, BusyMklvcopy, UndrainedMklvcopy, NoVolumeForMklvcopy, AddsCopies, MklvcopyFails, RmlvcopyDoes, NoGroupForRmlvcopy, BusyRmlvcopy, UndrainedRmlvcopy, NoVolumeForRmlvcopy, RemovesCopies, RmlvcopyFails, Drains, IsDone, StaysOn, MklvDoes, RmlvDoes, NoGroupForMklv, BusyMklv, UndrainedMklv, MakesVolume, MklvFails, NoGroupForRmlv, BusyRmlv, UndrainedRmlv, NoVolumeForRmlv, RemovesVolume, RmlvFails, wanted}
 use Rattle.lvm_line.specs.passed.Resync.{Copy, SyncFault, group_copies, group_fault, volume_copies, volume_fault}
 use Rattle.lvm_line.specs.Lines.{LineDoes, role_of}
-use Rattle.lvm_top.specs.OneGroup.{FindsNoPassive}
+use Rattle.lvm_top.specs.Plain.{FindsNoPassive}
 use Rattle.lvm_top.specs.Standing.{MayHaveCommitted, StoodBefore, WasDrained}
 use Rattle.lvm_top.proofs.StandingLemmas.Acknowledged.{begun_by}
-use Rattle.lvm_top.proofs.StandingLemmas.Volumes.{as_group, held_mid}
+use Rattle.lvm_top.proofs.StandingLemmas.Volumes.{held_mid}
 
 -- no volume of the group that is on is in mode passive
 abbrev pub HasNoPassiveOn : ScriptState → Type 0
@@ -327,7 +327,7 @@ session_off log room answer old new off begins told finds leaves named (Ok (Some
 session_off log room answer old new off begins told finds leaves named (Ok (Some (command.Mklv name copies mode policy group lps))) stood does = mklv_off old new off begins told finds log.run leaves named stood (wanted name copies mode policy lps) group does
 session_off log room answer old new off begins told finds leaves named (Ok (Some (command.Rmlv name))) stood does = rmlv_off old new off begins told finds log.run leaves named stood name does
 session_off log room answer old new off begins told finds leaves named (Ok (Some (command.Mklvcopy name copies))) stood does = mklvcopy_off old new off begins told finds log.run leaves named stood name copies does
-session_off log room answer old new off begins told finds leaves named (Ok (Some (command.Rmlvcopy name copies))) stood does = rmlvcopy_off old new off begins told finds log.run leaves named (as_group log.run _ old new stood) name copies does
+session_off log room answer old new off begins told finds leaves named (Ok (Some (command.Rmlvcopy name copies))) stood does = rmlvcopy_off old new off begins told finds log.run leaves named stood name copies does
 session_off log room answer old new off begins told finds leaves named (Ok (Some (command.Lslv name))) stood does = same_off old new off does.1
 session_off log room answer old new off begins told finds leaves named (Ok (Some (command.Lspv disk))) stood does = same_off old new off does.1
 session_off log room answer old new off begins told finds leaves named (Ok (Some (command.Rd name at count))) stood does = volume_off old new off name _ (λ core lv. finishes_off old new off None _ at count core lv) does

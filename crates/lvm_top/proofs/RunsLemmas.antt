@@ -1,5 +1,5 @@
 -- One run after another.
-use Rattle.std.proofs.Common.{◌≡◌, ◌+◌, ◌++◌, ◌∷◌, [], ◌<◌, ◌≤◌, ℕ, List, Bool, true, false, Option, Some, None, cond, count_by, refl, sym, ap, subst, ◌∙◌, arith}
+use Rattle.std.proofs.Common.{◌≡◌, ◌+◌, ◌++◌, ◌∷◌, [], ◌<◌, ◌≤◌, ℕ, List, Bool, true, false, Option, Some, None, cond, count_by, refl, sym, ap, ◌∙◌, arith}
 use Rattle.std.specs.Prelude.{◌==◌, IfSome}
 use Rattle.std.proofs.lemmas.Bool.{eqb-true}
 use Rattle.std.proofs.lemmas.List.Sums.{sum_by-append, sum_by-cons}
@@ -10,12 +10,14 @@ use Rattle.lvm_vol.specs.Legal.{begins_in}
 use Rattle.lvm_vol.specs.Log.{Log}
 use Rattle.lvm_vol.specs.Order.{Ordered}
 use Rattle.lvm_steps.specs.Moments.{IsEarlier}
-use Rattle.lvm_steps.proofs.MomentsLemmas.Spans.{runs_follow}
 use Rattle.lvm_steps.specs.Behind.{IsBehind, IsAhead}
 use Rattle.lvm_steps.proofs.LawsLemmas.Clock.{later_is_later_too, joined_is_later}
 use Rattle.lvm_steps.proofs.LawsLemmas.Stamps.{later_is_ahead_too}
 use Rattle.lvm_top.specs.Run.{Run, Promises, RanAlone}
-use Rattle.lvm_top.specs.Runs.{TellsOfItself, NextMayBegin, TwoRunsUphold}
+use Rattle.lvm_top.specs.Left.{IsLeftOf}
+use Rattle.lvm_top.specs.declared.status.ExitStatus.TheVariants as ended
+use Rattle.lvm_top.specs.Runs.{NextMayBegin, TwoRunsUphold}
+use Rattle.lvm_top.proofs.LeftLemmas.{left_is_behind, next_after_cut}
 use Rattle.lvm_top.specs.Script.{empty_log, facts_of}
 use Rattle.lvm_top.proofs.MomentsLemmas.{told_earlier, told_behind}
 
@@ -44,8 +46,8 @@ module _ (run next : ℕ) (other : run ≡ next → ⊥) where
 
 -- ---- what a run leaves
 
-module _ (asked next : ℕ) (r : Run) (past : List Fact) (did : Promises asked r) (earlier : IsEarlier r.named r.entry past) (behind : IsBehind r.named r.entry) (own : count_by (begins_in next) past ≡ 0)
-    (tells : TellsOfItself r) (later : r.last < next) (alone : RanAlone did.does) where
+module _ (asked next : ℕ) (r : Run) (exit : Device) (past : List Fact) (did : Promises asked r) (earlier : IsEarlier r.named r.entry past) (behind : IsBehind r.named r.entry) (heard : r.status ≡ ended.Stuck → ⊥)
+    (own : count_by (begins_in next) past ≡ 0) (later : r.last < next) (alone : RanAlone did.does) (left : IsLeftOf r.exit exit) where
   abbrev facts : List Fact
   facts = facts_of r.history
 
@@ -62,25 +64,24 @@ module _ (asked next : ℕ) (r : Run) (past : List Fact) (did : Promises asked r
   none_joined : count_by (begins_in next) (joined past facts) ≡ 0
   none_joined =
       let sum : count_by (begins_in next) (past ++ Cut ∷ facts) ≡ count_by (begins_in next) past + count_by (begins_in next) (Cut ∷ facts) = sum_by-append (λ g. cond (begins_in next g) 1 0) past (Cut ∷ facts) in
-      let mine : count_by (begins_in next) (Cut ∷ facts) ≡ 0 = none_told r.history did.clock did.does.history_is tells in
+      let mine : count_by (begins_in next) (Cut ∷ facts) ≡ 0 = none_told r.history did.clock did.does.history_is did.tells in
       omega (arith, sum, own, mine)
 
-  pub next_begins : IsEarlier next r.exit (joined past facts) × IsBehind next r.exit
+  pub next_begins : IsEarlier next exit (joined past facts) × IsBehind next exit
   next_begins =
       let le : r.named ≤ next = let a = ahead.run_is in omega (arith, a, later) in
       let end : r.last + 1 ≤ next = omega (arith, later) in (
-        runs_follow r.named next r.entry r.exit past facts earlier (did.upheld did.does alone behind) none_joined
+        next_after_cut r.named next r.entry r.exit exit past facts earlier (did.upheld did.does alone behind) left none_joined
             (joined_is_later r.named next past facts le earlier.moments (later_is_later_too (r.last + 1) next facts end ahead.later)),
-        later_is_ahead_too (r.last + 1) next r.exit end ahead.behind,
+        later_is_ahead_too (r.last + 1) next exit end (left_is_behind (r.last + 1) r.exit exit (did.ahead_each behind heard) left),
       )
 
 pub next_may_begin : NextMayBegin
-next_may_begin asked next r past did earlier behind own tells later alone = next_begins asked next r past did earlier behind own tells later alone
+next_may_begin asked next r exit past did earlier behind heard own later alone left = next_begins asked next r exit past did earlier behind heard own later alone left
 
 pub two_runs_uphold : TwoRunsUphold
-two_runs_uphold asked again first second did does blank tells same later alone alone_too =
+two_runs_uphold asked again first second did does blank heard left later alone alone_too =
     let facts : List Fact = facts_of first.history in
-    let begins = next_may_begin asked second.named first [] did (told_earlier first.named first.entry blank) (told_behind first.named first.entry blank) refl tells later alone in
-    let earlier : IsEarlier second.named second.entry (joined [] facts) = subst (λ (d : Device). IsEarlier second.named d (joined [] facts)) (sym same) begins.0 in
-    let upheld = does.upheld does.does alone_too (subst (λ (d : Device). IsBehind second.named d) (sym same) begins.1) in
-    (upheld.legal (joined [] facts) earlier, upheld.kept (joined [] facts) earlier)
+    let begins = next_may_begin asked second.named first second.entry [] did (told_earlier first.named first.entry blank) (told_behind first.named first.entry blank) heard refl later alone left in
+    let upheld = does.upheld does.does alone_too begins.1 in
+    (upheld.legal (joined [] facts) begins.0, upheld.kept (joined [] facts) begins.0)

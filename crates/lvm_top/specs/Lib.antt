@@ -10,3 +10,5 @@ pub mod Turn
 pub mod Standing
 pub mod Laws
 pub mod OneGroup
+pub mod Plain
+pub mod Left

@@ -1,6 +1,5 @@
 -- Of which scripts it holds by itself that a volume is made or removed of the only group.
 use Rattle.std.specs.Prelude.{◌≡◌, ℕ, true, List, Option, Some, Ok}
-use Rattle.lvm_num.specs.declared.descriptor.Descriptor.{Descriptor}
 use Rattle.lvm_disk.specs.Device.{Device, IsReady}
 use Rattle.lvm_vol.specs.Facts.{Fact}
 use Rattle.lvm_vol.specs.Log.{Log}
@@ -9,22 +8,13 @@ use Rattle.lvm_parse.specs.Grammar.{line_of}
 use Rattle.lvm_steps.specs.Moments.{IsEarlier}
 use Rattle.lvm_steps.specs.Behind.{IsBehind}
 use Rattle.lvm_core.specs.declared.parts.Room.{Room}
-use Rattle.lvm_core.specs.Leaves.{MayBeFound}
-use Rattle.lvm_line.specs.passed.Recover.{HasNoPassive}
 use Rattle.lvm_line.specs.passed.GroupLines.{ScriptState, Reply}
+use Rattle.lvm_top.specs.Plain.{FindsOneGroup, FindsNoPassive}
 use Rattle.lvm_top.specs.Run.{Run, IsRun, RanAlone}
-use Rattle.lvm_top.specs.Script.{Script, NoLine, NextLine, AreAllowed, EndsAllowed, StaysAlone, Ends, AtLine, InLine}
+use Rattle.lvm_top.specs.Script.{Script, NoLine, NextLine, StaysAlone, Ends, AtLine, InLine}
 use Rattle.lvm_top.specs.Blank.{IsToldBlank}
 use Rattle.lvm_top.specs.Laws.{MayStart}
 use Rattle.lvm_top.specs.Standing.{HasFewDisks}
-
--- whatever sets of disks find on the crash images of the shelf is of one group
-abbrev pub FindsOneGroup : Device → Type 0
-FindsOneGroup device = (v w : ℕ) (g h : Descriptor) → MayBeFound device v g → MayBeFound device w h → v ≡ w
-
--- and has no volume in mode passive
-abbrev pub FindsNoPassive : Device → Type 0
-FindsNoPassive device = (id : ℕ) (k : Descriptor) → MayBeFound device id k → HasNoPassive k
 
 -- the line is no `mkvg -f`
 abbrev pub IsUnforced : List ℕ → Type 0
@@ -43,23 +33,19 @@ EndsUnforced (InLine line answer said front rest says split does) = IsUnforced l
 abbrev pub RanUnforced : {r : Run} → IsRun r → Type 0
 RanUnforced ran = AreUnforced ran.lines.script × EndsUnforced ran.lines.ends
 
--- what each line asks for of its session holds
-abbrev pub RanAllowed : {r : Run} → IsRun r → Type 0
-RanAllowed ran = AreAllowed ran.lines.script × EndsAllowed ran.lines.ends
-
 -- Over disks on which one group may be found, without volumes in mode passive, lines without a `mkvg -f` leave it so, and so there is no other one where a volume is
--- made or removed, or acted on, if what the lines ask for besides holds.
+-- made or removed, or acted on.
 abbrev pub UnforcedStaysAlone : Type 0
 UnforcedStaysAlone =
     (log : Log) (room : Room) (past : List Fact) (first : ScriptState) (lines : List (List ℕ)) (replies : List Reply) (last : ScriptState) (script : Script log room first lines replies last)
-    → MayStart log.run past first → FindsOneGroup first.moment.device → FindsNoPassive first.moment.device → AreUnforced script → AreAllowed script
+    → MayStart log.run past first → FindsOneGroup first.moment.device → FindsNoPassive first.moment.device → AreUnforced script
     → StaysAlone script × FindsOneGroup last.moment.device × FindsNoPassive last.moment.device
 
 -- So it is of a run,
 abbrev pub UnforcedRunsAlone : Type 0
 UnforcedRunsAlone =
     (r : Run) (ran : IsRun r) (past : List Fact)
-    → HasFewDisks r.entry → IsReady r.entry → IsBehind r.named r.entry → IsEarlier r.named r.entry past → FindsOneGroup r.entry → FindsNoPassive r.entry → RanUnforced ran → RanAllowed ran → RanAlone ran
+    → HasFewDisks r.entry → IsReady r.entry → IsBehind r.named r.entry → IsEarlier r.named r.entry past → FindsOneGroup r.entry → FindsNoPassive r.entry → RanUnforced ran → RanAlone ran
 
 -- and of each over disks of zeros, on which no group is found.
 abbrev pub BlankFindsOneGroup : Type 0

@@ -7,7 +7,9 @@ use Rattle.lvm_io.specs.Stream.{WhereTold}
 use Rattle.lvm_vol.specs.Facts.{joined}
 use Rattle.lvm_vol.specs.Legal.{Legal}
 use Rattle.lvm_vol.specs.Log.{Log}
-use Rattle.lvm_steps.specs.Behind.{IsBehind, IsAhead}
+use Rattle.lvm_vol.specs.Order.{Ordered}
+use Rattle.lvm_steps.specs.Behind.{IsBehind, IsAhead, beginning_at}
+use Rattle.lvm_steps.specs.Laws.{LeavesBefore}
 use Rattle.lvm_parse.specs.declared.command.Command.TheVariants as command
 use Rattle.lvm_parse.specs.Grammar.{line_of}
 use Rattle.lvm_core.specs.declared.parts.Room.{Room}
@@ -23,6 +25,7 @@ use Rattle.lvm_top.specs.Statuses.{at_end, IsAtEnd}
 use Rattle.lvm_top.specs.declared.status.ExitStatus.{ExitStatus}
 use Rattle.lvm_top.specs.declared.status.ExitStatus.TheVariants as ended
 use Rattle.lvm_top.specs.Blank.{IsToldBlank}
+use Rattle.lvm_top.specs.Plain.{UpholdsPlainly}
 
 -- What a run was given and what came of it: the moment that names it and the clock's last one, its rooms, the shelf before and after, what was read and written, its history, its status, and how many lines were refused.
 pub record Run : Type 0 where
@@ -89,7 +92,7 @@ pub record IsRun (r : Run) : Type 0 where
   pub power : r.exit.power ≡ true
 
 -- In each line of the run that entered a volume's making or removal, or acted on the session of a group with volumes, whatever any disks found was of one
--- group, and no volume of it was in mode passive; so it was behind the last line, where some line made requests. What a line asked for besides held of its session.
+-- group, and no volume of it was in mode passive; so it was behind the last line, where some line made requests.
 abbrev pub RanAlone : {r : Run} → IsRun r → Type 0
 RanAlone {r} ran = StaysAlone ran.lines.script × EndsAlone ran.lines.ends
     × (MakeRequests (ran.lines.lines ++ ran.lines.done) → IsAlone OfRequests ran.end (exit_state r.exit r.history ran.end))
@@ -114,13 +117,17 @@ pub record VaryonRecovers {r : Run} (ran : IsRun r) : Type 0 where
 
 -- What every run promises. Its moment was answered by the clock in this call. Its lines are as they should be, and refused for their causes. Where its moment
 -- is later than what stands on the disks, and no line made, removed or acted on a volume of one group among several with a quorum, the history is legal with what
--- was told before, and each crash image that the disks may leave is kept with it; over disks that hold nothing so it is without anything told before. The clock
--- stays ahead of the disks. A run of a single `varyonvg` recovers its group.
+-- was told before, and each crash image that the disks may leave is kept with it; over disks that hold nothing so it is without anything told before. So it is
+-- of itself where the script has nowhere `-f` and the disks hold one group at most. The clock stays ahead of the disks, and of each crash image unless
+-- nothing was heard of a transfer. The history tells of this run alone. A run of a single `varyonvg` recovers its group.
 pub record Promises (asked : ℕ) (r : Run) : Type 0 where
   pub clock : IfSome r.history (λ log. Rose asked log.run × (log.run ≤ r.last))
   pub does : IsRun r
   pub causes : HaveCauses does
   pub upheld : WhereAlone r (IsBehind r.named r.entry → IsUpheld r.named r.entry r.exit (facts_of r.history))
   pub first : WhereAlone r (IsToldBlank r.entry → Legal (joined [] (facts_of r.history)) × ImagesKept r.exit (joined [] (facts_of r.history)))
+  pub plain : UpholdsPlainly r.input.before.content r.named r.entry r.exit (facts_of r.history)
   pub ahead : IsBehind r.named r.entry → IsAhead r.named (r.last + 1) r.exit (facts_of r.history)
+  pub ahead_each : IsBehind r.named r.entry → (r.status ≡ ended.Stuck → ⊥) → LeavesBefore (beginning_at (r.last + 1)) r.exit
+  pub tells : Ordered r.named [] (facts_of r.history)
   pub recovers : VaryonRecovers does

@@ -10,7 +10,7 @@ use Rattle.lvm_vol.specs.Log.{Log}
 use Rattle.lvm_core.specs.declared.parts.Room.{Room}
 use Rattle.lvm_parse.specs.Grammar.{line_of}
 use Rattle.lvm_line.specs.Lines.{IsLine, role_of}
-use Rattle.lvm_line.specs.passed.GroupLines.{IsAllowed, IsAlone, Role, Aside, OfGroup, OfGroupWhere, OfRequests, reply_text, refusals_of, IsStuck, ScriptState, Reply}
+use Rattle.lvm_line.specs.passed.GroupLines.{IsAlone, Role, Aside, OfGroup, OfRequests, reply_text, refusals_of, IsStuck, ScriptState, Reply}
 use Rattle.lvm_line.specs.passed.RefusalVariants as refusal
 use Rattle.lvm_line.specs.passed.ReplyVariants as reply
 
@@ -32,16 +32,10 @@ pub data Script (log : Log) (room : Room) (first : ScriptState) : List (List ℕ
       → Script log room first lines replies mid → IsLine log room line answer mid new → Script log room first (lines ++ line ∷ []) (replies ++ said ∷ []) new
 
 -- In each of the lines that enters a volume's making or removal, or acts on the session of a group with volumes, whatever any disks find is of one group,
--- and no volume of that group is in mode passive; and what a line asks for besides holds of its session.
+-- and no volume of that group is in mode passive.
 abbrev pub StaysAlone : {log : Log} {room : Room} {first : ScriptState} {lines : List (List ℕ)} {replies : List Reply} {last : ScriptState} → Script log room first lines replies last → Type 0
 StaysAlone NoLine = Unit {0}
 StaysAlone (NextLine {mid = mid} {new = new} line answer said goes says before does) = StaysAlone before × IsAlone (role_of (line_of line)) mid new
-
--- what each of the lines asks for of its session holds: where `rmlvcopy` leaves a volume fewer copies, a fresh one is kept of each logical partition on a member
--- that shows the group; other lines ask for nothing
-abbrev pub AreAllowed : {log : Log} {room : Room} {first : ScriptState} {lines : List (List ℕ)} {replies : List Reply} {last : ScriptState} → Script log room first lines replies last → Type 0
-AreAllowed NoLine = Unit {0}
-AreAllowed (NextLine {mid = mid} line answer said goes says before does) = AreAllowed before × IsAllowed (role_of (line_of line)) mid
 
 -- the texts of the replies
 abbrev pub texts_of : List Reply → List ℕ
@@ -56,7 +50,6 @@ refusals_in replies = sum_by refusals_of replies
 abbrev pub is_requesting : Role → Bool
 is_requesting Aside = false
 is_requesting OfGroup = false
-is_requesting (OfGroupWhere Holds) = false
 is_requesting OfRequests = true
 
 -- one of the lines makes requests of volumes, or turns
@@ -73,10 +66,6 @@ pub data Ends (log : Log) (room : Room) (mid last : ScriptState) : List (List �
 abbrev pub EndsAlone : {log : Log} {room : Room} {mid last : ScriptState} {done : List (List ℕ)} {said : List Reply} {front : List ℕ} → Ends log room mid last done said front → Type 0
 EndsAlone (AtLine same) = Unit {0}
 EndsAlone {mid = mid} {last = last} (InLine line answer said front rest says split does) = IsAlone (role_of (line_of line)) mid last
-
-abbrev pub EndsAllowed : {log : Log} {room : Room} {mid last : ScriptState} {done : List (List ℕ)} {said : List Reply} {front : List ℕ} → Ends log room mid last done said front → Type 0
-EndsAllowed (AtLine same) = Unit {0}
-EndsAllowed {mid = mid} (InLine line answer said front rest says split does) = IsAllowed (role_of (line_of line)) mid
 
 -- nothing was heard of a transfer in the line after which no more were done
 abbrev pub EndsStuck : {log : Log} {room : Room} {mid last : ScriptState} {done : List (List ℕ)} {said : List Reply} {front : List ℕ} → Ends log room mid last done said front → Type 0

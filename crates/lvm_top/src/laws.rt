@@ -1,13 +1,30 @@
 //! Laws of runs. Each call does nothing: its contract is the law.
 ghost use Rattle.lvm_top.specs.Laws.{RunsEndInTime, VaryonsRecover};
 ghost use Rattle.lvm_top.specs.Refused.{ScriptsAreComplete};
-ghost use Rattle.lvm_top.specs.Runs.{NextMayBegin, TwoRunsUphold};
+ghost use Rattle.lvm_top.specs.Left.{LeftIsEarlier, NextAfterCut, LeftIsBehind};
+ghost use Rattle.lvm_top.specs.Plain.{BlankHoldsOneGroup};
+ghost use Rattle.lvm_top.specs.Runs.{NextMayBegin, TwoRunsUphold, LeftFindsNoMore};
 
-/// What a run leaves, another one may begin with at a later moment; so two runs, the first over disks of zeros and the second over what
-/// that has left, uphold their histories together.
+/// With whatever a loss of power leaves of what a run has left another one may begin at a later moment; so two runs, the first over disks
+/// of zeros and the second over such a remainder, uphold their histories together. The remainder holds one group at most where the run
+/// left no more.
 pub fn runs_follow()
     ensures next { NextMayBegin }
     ensures two { TwoRunsUphold }
+    ensures finds { LeftFindsNoMore }
+{}
+
+/// What a loss of power leaves of a shelf may stand before a run where the shelf itself may, so behind a run that was upheld, and has no
+/// later stamps.
+pub fn left_is_earlier()
+    ensures left { LeftIsEarlier }
+    ensures next { NextAfterCut }
+    ensures behind { LeftIsBehind }
+{}
+
+/// Disks of zeros hold one group at most, with nothing told before.
+pub fn blank_holds_one_group()
+    ensures { BlankHoldsOneGroup }
 {}
 
 /// Each `varyonvg` of a script that is answered `ok` leaves the group with its records again, and recovered where no volume of

@@ -10,8 +10,9 @@ ghost use Rattle.lvm_session.specs.State.{state_of};
 ghost use Rattle.lvm_line.specs.passed.Tie.{RunsOn};
 ghost use Rattle.lvm_line.specs.passed.GroupLines.{history_in, moment_in, session_in, IsBetweenStage, IsClosed, IsFittingStage, without_facts};
 ghost use Rattle.lvm_top.specs.Ending.{Concludes, IsQuietNow, MakesTurns, RestsNow, RunsOut};
+ghost use Rattle.lvm_top.specs.Plain.{UpholdsPlainly};
 ghost use Rattle.lvm_top.specs.Run.{Promises, ran};
-ghost use Rattle.lvm_top.specs.Script.{passage};
+ghost use Rattle.lvm_top.specs.Script.{facts_of, passage, run_of};
 ghost use Rattle.lvm_top.specs.Statuses.{status_of};
 
 use crate::script::{Stop, do_lines};
@@ -173,6 +174,8 @@ pub fn run_script<S: Shelf, I: Source, O: Sink, C: Clock>(
     ensures clock { Rose (C.last clock.old) (C.last clock.new) }
     ensures run { let read = passage I.left I.faults input.old input.new in let written = passage O.held O.faults out.old out.new in
         Promises (C.last clock.old) (ran room (S.device shelf) (S.device result.shelf) read written (C.last clock.new) result.history result.status result.refused) }
+    // by what goes in alone: the bytes of the script, and the disks at entry
+    ensures plain { UpholdsPlainly (I.left input.old) (run_of result.history) (S.device shelf) (S.device result.shelf) (facts_of result.history) }
     ensures sim { result.sim ≡ None }
 {
     let run = clock.now();
@@ -192,6 +195,8 @@ pub fn run_script<S: Shelf, I: Source, O: Sink, C: Clock>(
     };
     let done = do_lines(alloc, &mut lines, input, out, stage, clock, room);
     let Closed { shelf, history } = conclude(done.stage);
+    // It says that it tells of this run alone.
+    history.run();
     Ended {
         status: status_of(done.stop, done.refused),
         refused: done.refused,

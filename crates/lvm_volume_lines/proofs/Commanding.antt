@@ -35,7 +35,7 @@ use Rattle.lvm_range_lines.proofs.passed.Quiesce.{each_is_behind, still_is_behin
 use Rattle.lvm_range_lines.specs.passed.Names.{Post, AreAnswered, AreHeld, ended_with}
 use Rattle.lvm_range_lines.specs.passed.Tie.{IsBefore, LeavesSession, IsStamped, IsGood}
 use Rattle.lvm_range_lines.specs.passed.TieCommands.{IsAloneAtFirst, MayBeCommanded, StandsAfter, StandsSince}
-use Rattle.lvm_range_lines.specs.passed.GroupLines.{GoesOn, HasBegunHeld, IsAllowed, IsAlone, Role, IsStuck, most_refusals, posts_ended, ArePosted, IsBetween, IsOnBetween, IsTimely, StandsAlone, StandsBy, ScriptState, Reply}
+use Rattle.lvm_range_lines.specs.passed.GroupLines.{GoesOn, HasBegunHeld, IsAlone, Role, IsStuck, most_refusals, posts_ended, ArePosted, IsBetween, IsOnBetween, IsTimely, StandsAlone, StandsBy, ScriptState, Reply}
 use Rattle.lvm_range_lines.proofs.passed.GroupLines.{relit_path, was_session, ready_is_lit, still_leaves_descriptors, LeavesAnswers, end_posts, none_held, on_posts}
 
 -- ---- what a command promises, whatever its answer
@@ -240,7 +240,7 @@ closes_lit answer left new power freed ready lit = subst (ClosesWell answer left
 
 module _ (role : Role) (acts : Acts role) (old : ScriptState) (core : Core) (mid left : State) (its : AtMid old core mid) (promised : Promised mid left) (answers : LeavesAnswers mid.core.history.facts left.core.history.facts) (answer : Reply) (new : ScriptState)
     (facts : new.moment.facts ≡ left.core.history.facts) (clock : new.last ≡ old.last) (few : most_refusals answer ≤ 1)
-    (spans : IsAllowed role old → (first : Moment) → MayBeCommanded core.history.run first mid → IsAloneAtFirst mid left → Keeps core.history.run first (moment_of left)) where
+    (spans : (first : Moment) → MayBeCommanded core.history.run first mid → IsAloneAtFirst mid left → Keeps core.history.run first (moment_of left)) where
   answers_left : LeavesAnswers old.moment.facts left.core.history.facts
   answers_left range was = answers range (its.answers range (subst (λ (fs : List Fact). AreAnswered fs range) its.facts was))
 
@@ -248,7 +248,7 @@ module _ (role : Role) (acts : Acts role) (old : ScriptState) (core : Core) (mid
   posts_first = none_posted old.moment.facts core old.posts its.none (subst (λ (o : Option Core). ArePosted old.moment.facts o old.posts) its.session its.between.posted)
 
   spanned : IsAlone role old new → (first : Moment) → Keeps core.history.run first old.moment → StandsBy core.history.run first old → Keeps core.history.run first (moment_of left)
-  spanned alone first span stands = spans alone.allowed first (may_mid old core mid its role acts new alone first span stands) (alone_mid old core mid its role acts new alone first span stands left facts)
+  spanned alone first span stands = spans first (may_mid old core mid its role acts new alone first span stands) (alone_mid old core mid its role acts new alone first span stands left facts)
 
   waits_left : old.moment.device.counts.waits ≤ left.device.counts.waits
   waits_left = let a = its.leaves.keeps.counts.waits in let b = promised.waits in omega (arith, a, b)
@@ -306,7 +306,7 @@ module _ (role : Role) (acts : Acts role) (old : ScriptState) (core : Core) (mid
   -- the session goes on
   module _ (now : Core) (is : now ≡ record left.core { origin = now.origin }) (session : new.session ≡ Some now) (device : new.moment.device ≡ left.device) (posts : new.posts ≡ old.posts)
       (ready : IsReady left.device) (settled : IsSettledCore left.core) (landed : HaveAllLanded left.core.history.facts) (sound : IsSound (state left.device now)) (rows : HasItsRows now.descriptor now.origin.table)
-      (standing : IsAllowed role old → (first : Moment) → MayBeCommanded core.history.run first mid → IsAloneAtFirst mid left → (past : List Fact) → Begins core.history.run past first → StandsAfter past left.device now) where
+      (standing : (first : Moment) → MayBeCommanded core.history.run first mid → IsAloneAtFirst mid left → (past : List Fact) → Begins core.history.run past first → StandsAfter past left.device now) where
     abbrev next : ScriptState
     next = record { moment = moment_of left; session = Some now; posts = old.posts; last = old.last }
 
@@ -342,7 +342,7 @@ module _ (role : Role) (acts : Acts role) (old : ScriptState) (core : Core) (mid
       keeps = λ timely alone first span stands.
           let alone_new = subst (IsAlone role old) (sym next_is) alone in (
             spanned alone_new first span stands,
-            λ heard past begins only. standing alone.allowed first (may_mid old core mid its role acts new alone_new first span stands) (alone_mid old core mid its role acts new alone_new first span stands left facts) past begins,
+            λ heard past begins only. standing first (may_mid old core mid its role acts new alone_new first span stands) (alone_mid old core mid its role acts new alone_new first span stands left facts) past begins,
           );
       timely = λ heard timely. record {
         ahead = record {

@@ -23,7 +23,7 @@ use Rattle.lvm_range_lines.specs.passed.Tie.{LeavesSession}
 use Rattle.lvm_range_lines.specs.passed.TieCommands.{IsAloneAtFirst, IsLeftStanding, IsLeftStandingSince, MayBeCommanded, StandsAfter}
 use Rattle.lvm_range_lines.specs.passed.Volumes.{StillHeld}
 use Rattle.lvm_range_lines.specs.passed.Names.{GroupFault, IfOn, is_over}
-use Rattle.lvm_range_lines.specs.passed.GroupLines.{CommandEnds, EndsUnasked, patience_of_line, GoesOn, IsAllowed, Role, HaveRooms, IsBetweenStage, IsFittingStage, IsOfKind, history_of, open_in, session_in, session_of, shelf_in, history_in, state_in, IsAtRest, IsOnBetween, ScriptState, without_facts, Holder, Reply, Stage}
+use Rattle.lvm_range_lines.specs.passed.GroupLines.{CommandEnds, EndsUnasked, patience_of_line, GoesOn, Role, HaveRooms, IsBetweenStage, IsFittingStage, IsOfKind, history_of, open_in, session_in, session_of, shelf_in, history_in, state_in, IsAtRest, IsOnBetween, ScriptState, without_facts, Holder, Reply, Stage}
 use Rattle.lvm_range_lines.specs.passed.HolderVariants as holder
 use Rattle.lvm_range_lines.proofs.passed.GroupLines.{LeavesAnswers}
 use Rattle.lvm_volume_lines.specs.Commands.{HasRested, IsCarriedOut, IsHeldAgain, IsLeftAs, IsLeftOff, IsLeftOn}
@@ -63,13 +63,13 @@ module _ {S : Type 0} (device : S → Device) (added : List Pp) (driver : S × C
         spares = λ more. (stands.served added held.core (held.served (some more)) held.sound).spares more;
       }
 
--- what is known of the command by what it gives, where it is allowed
-pub record IsKnown {X : Type 0} (Allowed : Type 0) (run patience : ℕ) (mid left : State) (given : Result X GroupFault) : Type 0 where
+-- what is known of the command by what it gives
+pub record IsKnown {X : Type 0} (run patience : ℕ) (mid left : State) (given : Result X GroupFault) : Type 0 where
   pub facts : Facts given patience mid left
   pub landed : HaveAllLanded left.core.history.facts
   pub answers : LeavesAnswers mid.core.history.facts left.core.history.facts
   pub shape : is_over given ≡ false → SameShape mid left
-  pub goes : Allowed → (first : Moment) → MayBeCommanded run first mid → IsAloneAtFirst mid left → Keeps run first (moment_of left) × IfOn given (IsLeftStandingSince run first left)
+  pub goes : (first : Moment) → MayBeCommanded run first mid → IsAloneAtFirst mid left → Keeps run first (moment_of left) × IfOn given (IsLeftStandingSince run first left)
 
 -- ---- the session that has come to rest
 
@@ -169,7 +169,7 @@ module _ {S : Type 0} (device : S → Device) (stage : Stage S) (fits : IsFittin
       abbrev given : Result X GroupFault
       given = done.given
 
-      module _ (known : (last : ℕ) → IsKnown (IsAllowed role (state_in device stage last)) run patience mid left given) where
+      module _ (known : (last : ℕ) → IsKnown run patience mid left given) where
         promised : Promised mid left
         promised = promised_by (scope driver.1) patience done.after mid left done.commanded.leaves
 
@@ -267,14 +267,14 @@ module _ {S : Type 0} (device : S → Device) (stage : Stage S) (fits : IsFittin
         goes true over last =
             let off = left_off over in
             goes_off role acts (state_in device stage last) core mid left (at_mid last) promised (known last).answers (volume_reply given) (state_in device it last) (ap (λ (l : Log). l.facts) off.history) refl (one_answer patience mid left given)
-            (λ allowed m may alone. ((known last).goes allowed m may alone).0) (closed over) off.session (known last).landed off.posted
+            (λ m may alone. ((known last).goes m may alone).0) (closed over) off.session (known last).landed off.posted
         goes false lasts last =
             let on = left_on lasts in
             let stays = stays_on lasts last in
             goes_on role acts (state_in device stage last) core mid left (at_mid last) promised (known last).answers (volume_reply given) (state_in device it last) stays.facts refl (one_answer patience mid left given)
-            (λ allowed m may alone. ((known last).goes allowed m may alone).0) on.held.core on.held.is stays.session stays.device stays.posts (ready lasts) (settled lasts) (known last).landed on.held.sound
+            (λ m may alone. ((known last).goes m may alone).0) on.held.core on.held.is stays.session stays.device stays.posts (ready lasts) (settled lasts) (known last).landed on.held.sound
             (rows_again device (added given) done.left on.by on.held (rows_stay mid left ((known last).shape lasts) (rows_mid (state_in device stage last) core mid (at_mid last))))
-            (λ allowed m may alone past begins. stands_again device (added given) done.left on.by on.held past (if_on given (IsLeftStandingSince run m left) ((known last).goes allowed m may alone).1 lasts (sectors done.left.0) past begins))
+            (λ m may alone past begins. stands_again device (added given) done.left on.by on.held past (if_on given (IsLeftStandingSince run m left) ((known last).goes m may alone).1 lasts (sectors done.left.0) past begins))
 
         -- the line ends so, by what it does
         pub ends_so : (Does : Log → ScriptState → ScriptState → Reply → Type 0)

@@ -81,10 +81,10 @@ module _ {S : Type 0} (device : S → Device) (stage : Stage S) (fits : IsFittin
     goes last =
         let old = state_in device stage last in
         let mids = at_mid device stage fits between none patience driver rested last in
-        goes_on role acts old core mid mid mids promised (λ range answered. answered) (reply.Refused refusal.NoVolume) (state_in device it last) (stays last).facts refl (omega arith) (λ allowed m may alone. may.keeps)
+        goes_on role acts old core mid mid mids promised (λ range answered. answered) (reply.Refused refusal.NoVolume) (state_in device it last) (stays last).facts refl (omega arith) (λ m may alone. may.keeps)
         held.core held.is (stays last).session (stays last).device (stays last).posts (ready_mid old core mid mids) rested.settled rested.between.landed held.sound
         (rows_again device [] driver by held (rows_mid old core mid mids))
-        (λ allowed m may alone past begins. stands_again device [] driver by held past ((mklv_goes_on core.history.run m asked patience patience mid mid given may alone commanded gives).1 (sectors driver.0) past begins))
+        (λ m may alone past begins. stands_again device [] driver by held past ((mklv_goes_on core.history.run m asked patience patience mid mid given may alone commanded gives).1 (sectors driver.0) past begins))
 
     pub unnamed_ends : (Does : Log → ScriptState → ScriptState → Reply → Type 0)
         → ((last : ℕ) → Drains core (state_in device stage last) patience mid → StaysOn mid (state_in device stage last) (state_in device it last) → Does (without_facts (history_in stage)) (state_in device stage last) (state_in device it last) answer)

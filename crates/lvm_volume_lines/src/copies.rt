@@ -4,8 +4,8 @@ ghost use Rattle.lvm_session.specs.Sound.{IsSound};
 ghost use Rattle.lvm_core.specs.Settled.{IsSettled};
 ghost use Rattle.lvm_core.specs.State.{state_of};
 ghost use Rattle.lvm_volume_lines.specs.passed.Volumes.{MklvcopyGives, RmlvcopyGives, to_add, to_take};
-ghost use Rattle.lvm_volume_lines.specs.passed.TieCommands.{KeepsShownOf, added_by};
-ghost use Rattle.lvm_volume_lines.specs.passed.GroupLines.{EndsUnasked, OfGroup, OfGroupWhere, IsBetweenStage, IsFittingStage};
+ghost use Rattle.lvm_volume_lines.specs.passed.TieCommands.{added_by};
+ghost use Rattle.lvm_volume_lines.specs.passed.GroupLines.{EndsUnasked, OfGroup, IsBetweenStage, IsFittingStage};
 ghost use Rattle.lvm_volume_lines.specs.Commands.{IsCarriedOut, none_added};
 ghost use Rattle.lvm_volume_lines.specs.Copies.{MklvcopyDoes, RmlvcopyDoes};
 
@@ -93,13 +93,10 @@ pub fn do_mklvcopy<S: Shelf>(alloc: Global, stage: Stage<S>, name: Name, copies:
 
 /// Leaves the volume of the name in the group that is on the first copies of each logical partition, so many, if no
 /// request of the group is open. Turns are made first until nothing is under way, and the name is looked up then.
-///
-/// What stood goes on to stand where each logical partition keeps a fresh copy whose member shows the group. A copy
-/// that can't be reached is fresh too, by the status.
 pub fn do_rmlvcopy<S: Shelf>(alloc: Global, stage: Stage<S>, name: Name, copies: u8) -> Answered<S>
     requires fits { IsFittingStage stage }
     requires between { IsBetweenStage S.device stage }
-    ensures { EndsUnasked S.device (λ _. RmlvcopyDoes name copies) ⊥ (OfGroupWhere (KeepsShownOf name copies)) stage result.stage result.reply }
+    ensures { EndsUnasked S.device (λ _. RmlvcopyDoes name copies) ⊥ OfGroup stage result.stage result.reply }
 {
     if stage.is_off() {
         return stage.refused(Refusal::NoGroup);

@@ -1,11 +1,11 @@
 -- Why a volume gets no more copies, or keeps all that it has.
-use Rattle.std.specs.Prelude.{◌≡◌, ℕ, ◌<◌, ◌≤◌, not, Bool, List, take, None, Some, IsTrue, IsFalse}
+use Rattle.std.specs.Prelude.{◌≡◌, ℕ, ◌<◌, ◌≤◌, ◌&&◌, not, Bool, List, take, drop, None, Some, IsTrue, IsFalse}
 use Rattle.std.specs.List.{list_any}
 use Rattle.lvm_num.specs.declared.place.Pp.{Pp}
 use Rattle.lvm_num.specs.declared.descriptor.LvRow.{LvRow}
 use Rattle.lvm_num.specs.declared.status.Status.{Status}
 use Rattle.lvm_num.specs.Descriptor.{copies_of, volume_of}
-use Rattle.lvm_num.specs.Status.{calls_stale}
+use Rattle.lvm_num.specs.Status.{calls_stale, calls_missing}
 use Rattle.lvm_map.specs.FirstFit.{IsAllocated, HasNoPlace, free_count, more_copies}
 use Rattle.lvm_session.specs.State.{Core, is_there}
 use Rattle.lvm_volume_plan.specs.declared.fault.GroupFault.{GroupFault}
@@ -65,28 +65,31 @@ pub record MayShrink (lv copies : ℕ) (core : Core) (row : LvRow) : Type 0 wher
   pub found : HasVolume lv core row
   pub are : AreFewer row copies
 
--- whether one of these copies is fresh by the status
+-- whether the status calls one of these copies fresh, and whether it calls one fresh whose disk it doesn't call missing, which can be used
 abbrev pub has_fresh : Status → List Pp → Bool
 has_fresh s copies = list_any (λ p. not (calls_stale s p)) copies
 
--- whether one is that a logical partition keeps
-abbrev pub keeps_fresh : Status → LvRow → ℕ → ℕ → Bool
-keeps_fresh s row copies lp = has_fresh s (take copies (copies_of row lp))
+abbrev pub has_usable : Status → List Pp → Bool
+has_usable s copies = list_any (λ p. not (calls_stale s p) && not (calls_missing s p.disk)) copies
 
--- the first logical partition that keeps none
+-- whether with its copies behind the first ones a logical partition loses a fresh one, and keeps none that can be used
+abbrev pub is_loss : Status → LvRow → ℕ → ℕ → Bool
+is_loss s row copies lp = has_fresh s (drop copies (copies_of row lp)) && not (has_usable s (take copies (copies_of row lp)))
+
+-- the first logical partition of which that is so
 pub record IsFirstLoss (s : Status) (row : LvRow) (copies lp : ℕ) : Type 0 where
   pub inside : lp < row.lps
-  pub none : IsFalse (keeps_fresh s row copies lp)
-  pub lower : (n : ℕ) → n < lp → IsTrue (keeps_fresh s row copies n)
+  pub lost : IsTrue (is_loss s row copies lp)
+  pub lower : (n : ℕ) → n < lp → IsFalse (is_loss s row copies n)
 
--- each logical partition keeps a fresh copy;
-pub record KeepsFresh (lv copies : ℕ) (core : Core) (row : LvRow) : Type 0 where
+-- it is so of none;
+pub record LosesNone (lv copies : ℕ) (core : Core) (row : LvRow) : Type 0 where
   pub shrinks : MayShrink lv copies core row
-  pub each : (lp : ℕ) → lp < row.lps → IsTrue (keeps_fresh core.status.committed row copies lp)
+  pub each : (lp : ℕ) → lp < row.lps → IsFalse (is_loss core.status.committed row copies lp)
 
 -- and there is room among the entries and the numbers.
 pub record MayBeTaken (lv copies : ℕ) (core : Core) (row : LvRow) : Type 0 where
-  pub keeps : KeepsFresh lv copies core row
+  pub keeps : LosesNone lv copies core row
   pub room : HasSpareRoom core
 
 -- why none are removed; want of memory, which is free, only where nothing else stands against it
@@ -94,7 +97,7 @@ abbrev pub RefusesRmlvcopy : ℕ → ℕ → Core → GroupFault → Type 0
 RefusesRmlvcopy lv copies core fault.NoVolume = TakesCommands core × (volume_of core.descriptor lv ≡ None)
 RefusesRmlvcopy lv copies core (fault.CopyLimit now) = (row : LvRow) × HasVolume lv core row × (AreFewer row copies → ⊥) × (now ≡ row.copies)
 RefusesRmlvcopy lv copies core (fault.LastFresh lp) = (row : LvRow) × MayShrink lv copies core row × IsFirstLoss core.status.committed row copies lp
-RefusesRmlvcopy lv copies core fault.HistoryFull = ((row : LvRow) × KeepsFresh lv copies core row) × (HasSpareRoom core → ⊥)
+RefusesRmlvcopy lv copies core fault.HistoryFull = ((row : LvRow) × LosesNone lv copies core row) × (HasSpareRoom core → ⊥)
 RefusesRmlvcopy lv copies core fault.Memory = (row : LvRow) × MayBeTaken lv copies core row
 RefusesRmlvcopy lv copies core fault.Dark = RefusesAll core fault.Dark
 RefusesRmlvcopy lv copies core (fault.WentOff have total) = RefusesAll core (fault.WentOff have total)

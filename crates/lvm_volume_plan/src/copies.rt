@@ -1,10 +1,10 @@
 //! What stands against copies that are to be added or removed, and the descriptor with them.
-ghost use Rattle.std.specs.Prelude.{◌≡◌, ◌≤◌, ◌<◌, ◌*◌, ℕ, length, IsTrue, IfOk, IfErr, IfSome, IfNone};
+ghost use Rattle.std.specs.Prelude.{◌≡◌, ◌≤◌, ◌<◌, ◌*◌, ◌&&◌, not, ℕ, length, take, drop, IsFalse, IfOk, IfErr, IfSome, IfNone};
 ghost use Rattle.lvm_num.specs.declared.descriptor.LvRow.{LvRow};
 ghost use Rattle.lvm_volume_plan.specs.passed.Names.{IsSettled};
 ghost use Rattle.lvm_volume_plan.specs.Faults.{TakesCommands};
 ghost use Rattle.lvm_volume_plan.specs.PlannedVolume.{AreOfOneGroup};
-ghost use Rattle.lvm_volume_plan.specs.CopiesFaults.{MayGrow, HasFurtherPlaces, MayBeAdded, RefusesMklvcopy, MayShrink, has_fresh, keeps_fresh, IsFirstLoss, KeepsFresh, MayBeTaken, RefusesRmlvcopy};
+ghost use Rattle.lvm_volume_plan.specs.CopiesFaults.{MayGrow, HasFurtherPlaces, MayBeAdded, RefusesMklvcopy, MayShrink, has_fresh, has_usable, is_loss, IsFirstLoss, LosesNone, MayBeTaken, RefusesRmlvcopy};
 ghost use Rattle.lvm_volume_plan.specs.PlannedCopies.{ArePlanned, IsWithFewer};
 
 use crate::below::{Driver, Prepared};
@@ -151,10 +151,10 @@ fn check_fewer<S: Shelf>(driver: &Driver<S>, lv: u16, copies: u8) -> Result<(), 
     Ok(())
 }
 
-// Whether each logical partition keeps a fresh copy.
+// What stands against it by the marks of the copies.
 fn check_fresh<S: Shelf>(driver: &Driver<S>, lv: u16, copies: u8) -> Result<(), GroupFault>
     requires may { (row : LvRow) × MayShrink lv copies driver.now.1 row }
-    ensures keeps { IfOk result (λ done. (row : LvRow) × KeepsFresh lv copies driver.now.1 row) }
+    ensures none { IfOk result (λ done. (row : LvRow) × LosesNone lv copies driver.now.1 row) }
     ensures refused { IfErr result (RefusesRmlvcopy lv copies driver.now.1) }
 {
     let Some(row) = volume_among(driver.descriptor().lvs.as_slice(), lv) else {
@@ -166,20 +166,28 @@ fn check_fresh<S: Shelf>(driver: &Driver<S>, lv: u16, copies: u8) -> Result<(), 
     }
 }
 
-// The first logical partition of which no copy is fresh among the first ones, up to so many.
+// The first logical partition that loses a fresh copy with those behind the first ones, and keeps none to use.
 fn first_loss(table: &StaleTable, row: &LvRow, copies: u8) -> Option<u32>
     requires whole { length row.now.map ≡ row.now.lps * row.now.copies }
     requires fewer { copies ≤ row.now.copies }
     ensures some { IfSome result (IsFirstLoss table.now row.now copies) }
-    ensures none { IfNone result ((lp : ℕ) → lp < row.now.lps → IsTrue (keeps_fresh table.now row.now copies lp)) }
+    ensures none { IfNone result ((lp : ℕ) → lp < row.now.lps → IsFalse (is_loss table.now row.now copies lp)) }
 {
     for lp in 0..row.lps {
         let all = copies_at(row.map.as_slice(), row.copies, lp);
-        if !has_fresh(table, &all[..usize::from(copies)]) {
+        let kept = usize::from(copies);
+        if is_loss(table, &all[..kept], &all[kept..]) {
             return Some(lp);
         }
     }
     None
+}
+
+// Whether one of the copies that go is fresh, and none of those that stay can be used.
+fn is_loss(table: &StaleTable, stay: &[Pp], go: &[Pp]) -> bool
+    ensures { result ≡ has_fresh table.now go.now && not (has_usable table.now stay.now) }
+{
+    has_fresh(table, go) && !has_usable(table, stay)
 }
 
 // Whether one of the copies is fresh.
@@ -188,6 +196,18 @@ fn has_fresh(table: &StaleTable, copies: &[Pp]) -> bool
 {
     for pp in copies {
         if !table.is_stale(*pp) {
+            return true;
+        }
+    }
+    false
+}
+
+// Whether one of the copies is fresh, on a disk that isn't missing.
+fn has_usable(table: &StaleTable, copies: &[Pp]) -> bool
+    ensures { result ≡ has_usable table.now copies.now }
+{
+    for pp in copies {
+        if !table.is_stale(*pp) && !table.is_missing(pp.disk) {
             return true;
         }
     }

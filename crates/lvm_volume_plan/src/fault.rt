@@ -17,7 +17,7 @@ pub enum GroupFault {
     VolumeExists,
     /// A volume can't have so many copies; it has so many now.
     CopyLimit { now: u8 },
-    /// The copies that would go are all the fresh ones of this logical partition, from 0.
+    /// A copy that would go is fresh, and none that would stay can be used: of this logical partition, from 0, first.
     LastFresh { lp: u32 },
     /// The group has as many volumes as it may have.
     TooMany { limit: u32 },

@@ -1,6 +1,6 @@
 -- A group stays even where a volume has other copies.
-use Rattle.std.proofs.Common.{◌≡◌, inl, ⊎_elim, ℕ, true, false, List, Option, Some, None, refl, sym, subst, ◌∙◌}
-use Rattle.std.specs.Prelude.{◌==◌, IfSome, Contains}
+use Rattle.std.proofs.Common.{◌≡◌, inl, ⊎_elim, ℕ, true, false, List, Option, Some, refl, sym, subst, ◌∙◌}
+use Rattle.std.specs.Prelude.{◌==◌, Contains}
 use Rattle.std.proofs.lemmas.Bool.{eqb-true, false≢true, eq-eqb}
 use Rattle.lvm_num.specs.declared.place.Pp.{Pp}
 use Rattle.lvm_num.specs.declared.descriptor.LvRow.{LvRow}
@@ -10,14 +10,9 @@ use Rattle.lvm_num.specs.Disks.{Disks}
 use Rattle.lvm_num.specs.Record.{Stamped}
 use Rattle.lvm_num.specs.declared.status.Status.{Status}
 use Rattle.lvm_num.specs.Status.{calls_stale}
-use Rattle.lvm_num.specs.Votes.{all_disks}
-use Rattle.lvm_disk.specs.Device.{Media, image_of}
-use Rattle.lvm_kept.specs.Contents.{Contents, contents_of}
+use Rattle.lvm_kept.specs.Contents.{Contents}
 use Rattle.lvm_kept.specs.Group.{IsOneOf}
 use Rattle.lvm_steps.proofs.RecordLemmas.{either, clash}
-use Rattle.lvm_steps.proofs.GroupLemmas.Members.{member_of_parts}
-use Rattle.lvm_commit.proofs.LawsLemmas.Found.{shows_group}
-use Rattle.lvm_commit.specs.Committed.{HoldsCommitted}
 use Rattle.lvm_session.specs.State.{is_there}
 use Rattle.lvm_rest.specs.Rest.{IsEven}
 use Rattle.lvm_rest.specs.Commands.{IsUsable, KeepsCopies}
@@ -26,8 +21,7 @@ use Rattle.lvm_volume_plan.specs.Copies.{with_map, with_copies, first_copies, fu
 use Rattle.lvm_volume_plan.proofs.CopiesLemmas.Rows.{one_found, one_other, own_row}
 use Rattle.lvm_volume_plan.proofs.CopiesLemmas.More as more
 use Rattle.lvm_volume_plan.proofs.CopiesLemmas.Fewer as fewer
-use Rattle.lvm_volumes.specs.Mirrors.{KeepsShown}
-use Rattle.lvm_volumes.specs.Laws.{UsableIsShown, MoreAreEven, FirstAreEven}
+use Rattle.lvm_volumes.specs.Laws.{MoreAreEven, FirstAreEven}
 
 -- where each usable copy is an old one
 stays : (c : Contents) (d : Descriptor) (lv copies : ℕ) (row : LvRow) (pps : List Pp) (status : Option (Stamped Status)) (there : Disks) → IsValid d → volume_of d lv ≡ Some row
@@ -62,19 +56,3 @@ more_are_even c s lv copies row pps status there valid may stale even = stays c 
 pub first_are_even : FirstAreEven
 first_are_even c s lv copies row status there valid may even = stays c s.core.descriptor lv copies row (first_copies row copies) (Some status) there valid may.keeps.shrinks.found.volume
     (λ lp p one usable. fewer.old_copies s.core.descriptor lv copies row valid may.keeps.shrinks.found.volume may.keeps.shrinks.are.fewer lp p one) even
-
-pub usable_is_shown : UsableIsShown
-usable_is_shown lv copies s held usable = by_media s.device.media held
-  where
-    by_media : (o : Option Media) → IfSome o (λ media. HoldsCommitted (image_of s.device.sizes media) s.core.descriptor s.core.status.committed (is_there s.core) s.core.status.stamp s.core.homes)
-        → KeepsShown lv copies (record s { device = record s.device { media = o } })
-    by_media None held = tt
-    by_media (Some m) held = λ row volume lp lt.
-        let p = usable row volume lp lt in
-        let c : Contents = contents_of (image_of s.device.sizes m) in (
-          p.0,
-          p.1,
-          p.2,
-          member_of_parts c all_disks s.core.descriptor.id s.core.descriptor p.0.disk refl
-              (shows_group c s.core.descriptor s.core.status.committed (is_there s.core) held.shows p.0.disk p.3) (held.shows.room p.0.disk p.3),
-        )

@@ -23,11 +23,13 @@ use Rattle.lvm_kept.specs.Moments.{Moment}
 use Rattle.lvm_kept.proofs.CommittedLemmas.Finding.{finding_reads}
 use Rattle.lvm_map.specs.FirstFit.{IsAllocated, more_copies}
 use Rattle.lvm_steps.specs.Committing.{IsServed}
+use Rattle.lvm_status.specs.Update.{members_there}
+use Rattle.lvm_steps.proofs.GroupLemmas.Members.{member_of_parts}
 use Rattle.lvm_steps.proofs.RecordLemmas.{clash, split}
 use Rattle.lvm_steps.proofs.MakingLemmas.Making.{media_may}
 use Rattle.lvm_commit.specs.Committed.{ShowsCommitted, HoldsCommitted}
 use Rattle.lvm_commit.specs.LawsOfVolumes.{VolumeServes}
-use Rattle.lvm_commit.proofs.LawsLemmas.Found.{status_read}
+use Rattle.lvm_commit.proofs.LawsLemmas.Found.{shows_group, status_read}
 use Rattle.lvm_session.specs.State.{State, is_there}
 use Rattle.lvm_volume_plan.specs.passed.Names.{LetsCommit, IsHeldSince}
 use Rattle.lvm_rest.specs.Commands.{HasCopiesOf}
@@ -37,6 +39,9 @@ use Rattle.lvm_volume_plan.specs.Copies.{with_map, with_copies, first_copies, fu
 use Rattle.lvm_volume_plan.proofs.CopiesLemmas.Rows.{one_found, named, own_row, differs}
 use Rattle.lvm_volume_plan.proofs.CopiesLemmas.More as more
 use Rattle.lvm_volume_plan.proofs.CopiesLemmas.Fewer as fewer
+use Rattle.lvm_volume_plan.proofs.CopiesLemmas.Losing.{fresh_stays, stays_there}
+use Rattle.lvm_volume_plan.specs.CopiesFaults.{is_loss}
+use Rattle.lvm_volumes.specs.Laws.{RemovalIsShown}
 
 module _ (d : Descriptor) (lv copies : ℕ) (row : LvRow) (valid : IsValid d) (volume : volume_of d lv ≡ Some row)
     (c : Contents) (status : Status) (there : Disks) (facts : List Fact) (within : IsWithinDisks c) (enough : CanWrite d there) (shows : ShowsCommitted c d status there) (kept : Kept c facts) where
@@ -86,6 +91,17 @@ module _ (d : Descriptor) (lv copies : ℕ) (row : LvRow) (valid : IsValid d) (v
       some = λ lp lt. let p = some_fresh lp lt in (p.0, more.old_copies d usable lv copies row pps valid volume grows all lp p.0 lt p.1, p.2, p.3);
     })
 
+  -- where none is lost, a fresh copy of each stays on a member that shows the group
+  shown_stays : ((p : Pp) → IsTrue (members_there d status p.disk) → IsTrue (there p.disk)) → (lp : ℕ) → lp < row.lps → IsFalse (is_loss status row copies lp)
+      → (p : Pp) × IsOneOf (take copies (copies_of row lp)) p × IsFalse (calls_stale status p) × IsTrue (members_in c all_disks d.id d p.disk)
+  shown_stays found lp lt none =
+      let p = some_fresh lp lt in
+      fresh_stays status row copies lp none (λ (q : Pp). IsTrue (members_in c all_disks d.id d q.disk))
+      (λ q one fresh there_is.
+      let is = found q (stays_there d status row copies lp q valid its_row one there_is) in
+      member_of_parts c all_disks d.id d q.disk refl (shows_group c d status there shows q.disk is) (shows.room q.disk is))
+      p.0 p.1 p.2 p.3
+
   -- with the first ones, where they have a fresh one that is shown
   pub first_serve : copies < row.copies
       → ((lp : ℕ) → lp < row.lps → (p : Pp) × IsOneOf (take copies (copies_of row lp)) p × IsFalse (calls_stale status p) × IsTrue (members_in c all_disks d.id d p.disk))
@@ -101,6 +117,11 @@ module _ (d : Descriptor) (lv copies : ℕ) (row : LvRow) (valid : IsValid d) (v
   })
 
 -- ---- in a session
+
+pub removal_is_shown : RemovalIsShown
+removal_is_shown c facts lv copies core row settled valid within shows kept loses lp lt =
+    shown_stays core.descriptor lv copies row valid loses.shrinks.found.volume c core.status.committed (is_there core) facts within settled.votes shows kept
+    (λ p is. subst (λ (s : Status). IsTrue (members_there core.descriptor s p.disk)) settled.committed is) lp lt (loses.each lp lt)
 
 -- The descriptor may be committed, where it serves by what the disks show.
 pub lets : (s : State) (lv : ℕ) (next : Descriptor) → CanWrite s.core.descriptor (is_there s.core)

@@ -1,27 +1,31 @@
 -- Laws of copies that are added and removed.
-use Rattle.std.specs.Prelude.{◌≡◌, ℕ, ◌<◌, List, take, Some, IsTrue, IsFalse}
+use Rattle.std.specs.Prelude.{ℕ, ◌<◌, List, take, Some, IsTrue, IsFalse}
 use Rattle.lvm_num.specs.declared.place.Pp.{Pp}
 use Rattle.lvm_num.specs.declared.descriptor.LvRow.{LvRow}
 use Rattle.lvm_num.specs.declared.status.Status.{Status}
 use Rattle.lvm_num.specs.Disks.{Disks}
 use Rattle.lvm_num.specs.Record.{Stamped}
-use Rattle.lvm_num.specs.Descriptor.{IsValid, copies_of, volume_of}
+use Rattle.lvm_num.specs.Descriptor.{IsValid, copies_of}
 use Rattle.lvm_num.specs.Status.{calls_stale}
+use Rattle.lvm_num.specs.Votes.{all_disks}
+use Rattle.lvm_vol.specs.Facts.{Fact}
 use Rattle.lvm_kept.specs.Contents.{Contents}
-use Rattle.lvm_kept.specs.Group.{IsOneOf}
-use Rattle.lvm_session.specs.State.{State, is_there}
-use Rattle.lvm_volume_plan.specs.passed.Names.{IsHeld}
+use Rattle.lvm_kept.specs.Committed.{IsWithinDisks}
+use Rattle.lvm_kept.specs.Group.{members_in, IsOneOf}
+use Rattle.lvm_kept.specs.Kept.{Kept}
+use Rattle.lvm_session.specs.State.{Core, State, is_there}
+use Rattle.lvm_volume_plan.specs.passed.Names.{IsSettled, ShowsCommitted}
 use Rattle.lvm_rest.specs.Rest.{IsEven}
 use Rattle.lvm_volume_plan.specs.Copies.{with_copies, first_copies}
-use Rattle.lvm_volume_plan.specs.CopiesFaults.{MayBeAdded, MayBeTaken}
-use Rattle.lvm_volumes.specs.Mirrors.{KeepsShown, IsFurther}
+use Rattle.lvm_volume_plan.specs.CopiesFaults.{MayBeAdded, LosesNone, MayBeTaken}
+use Rattle.lvm_volumes.specs.Mirrors.{IsFurther}
 
--- Where each logical partition keeps a fresh copy on a member that isn't missing, the disks of a held session show it.
-abbrev pub UsableIsShown : Type 0
-UsableIsShown = (lv copies : ℕ) (s : State) → IsHeld s.device s.core
-    → ((row : LvRow) → volume_of s.core.descriptor lv ≡ Some row → (lp : ℕ) → lp < row.lps
-    → (p : Pp) × IsOneOf (take copies (copies_of row lp)) p × IsFalse (calls_stale s.core.status.committed p) × IsTrue (is_there s.core p.disk))
-    → KeepsShown lv copies s
+-- Where nothing is under way in a session, and its disks keep a history, each logical partition of a volume that loses none with its copies behind the first
+-- ones keeps a fresh one on a member that shows the group.
+abbrev pub RemovalIsShown : Type 0
+RemovalIsShown = (c : Contents) (facts : List Fact) (lv copies : ℕ) (core : Core) (row : LvRow) → IsSettled core → IsValid core.descriptor → IsWithinDisks c
+    → ShowsCommitted c core.descriptor core.status.committed (is_there core) → Kept c facts → LosesNone lv copies core row → (lp : ℕ) → lp < row.lps
+    → (p : Pp) × IsOneOf (take copies (copies_of row lp)) p × IsFalse (calls_stale core.status.committed p) × IsTrue (members_in c all_disks core.descriptor.id core.descriptor p.disk)
 
 -- A group stays even with more copies of a volume where the further ones are stale,
 abbrev pub MoreAreEven : Type 0

@@ -1,17 +1,11 @@
 -- What the addition and the removal of copies answer.
-use Rattle.std.specs.Prelude.{◌≡◌, ◌⊎◌, ℕ, ◌<◌, List, take, Some, Result, Ok, Err, IsTrue, IsFalse, IfSome, All, Contains}
+use Rattle.std.specs.Prelude.{◌≡◌, ◌⊎◌, ℕ, List, Some, Result, Ok, Err, IsTrue, All, Contains}
 use Rattle.lvm_num.specs.declared.place.Pp.{Pp}
 use Rattle.lvm_num.specs.declared.descriptor.LvRow.{LvRow}
 use Rattle.lvm_num.specs.declared.descriptor.Descriptor.{Descriptor}
-use Rattle.lvm_num.specs.Descriptor.{copies_of, volume_of}
+use Rattle.lvm_num.specs.Descriptor.{volume_of}
 use Rattle.lvm_num.specs.Status.{calls_stale}
-use Rattle.lvm_num.specs.Votes.{all_disks}
-use Rattle.lvm_disk.specs.Device.{IsReady, image_of}
-use Rattle.lvm_vol.specs.Facts.{Fact}
-use Rattle.lvm_kept.specs.Contents.{contents_of}
-use Rattle.lvm_kept.specs.Group.{members_in, IsOneOf}
-use Rattle.lvm_kept.specs.Moments.{Moment}
-use Rattle.lvm_steps.specs.Moments.{Begins}
+use Rattle.lvm_disk.specs.Device.{IsReady}
 use Rattle.lvm_session.specs.State.{Core, State}
 use Rattle.lvm_volume_plan.specs.passed.Names.{Scope, NoPartition, NoVolume, Always}
 use Rattle.lvm_volume_plan.specs.declared.fault.GroupFault.{GroupFault}
@@ -73,24 +67,13 @@ MklvcopyGives lv copies patience old new (Err fault.Memory) = IsRefused (Refuses
 
 -- ---- fewer copies
 
--- Each logical partition keeps a fresh copy among the first ones on a member that shows the group, where the media is told. One on a member that isn't missing
--- is such a copy; one that can't be reached need not be, if the member's records are gone.
-abbrev pub KeepsShown : ℕ → ℕ → State → Type 0
-KeepsShown lv copies s = IfSome s.device.media (λ media. (row : LvRow) → volume_of s.core.descriptor lv ≡ Some row → (lp : ℕ) → lp < row.lps
-    → (p : Pp) × IsOneOf (take copies (copies_of row lp)) p × IsFalse (calls_stale s.core.status.committed p)
-    × IsTrue (members_in (contents_of (image_of s.device.sizes media)) all_disks s.core.descriptor.id s.core.descriptor p.disk))
-
--- a span goes on where that is so by whatever was told before it
-abbrev pub IfShown : ℕ → ℕ → State → State → ℕ → Moment → Type 0
-IfShown lv copies old new run first = (past : List Fact) → Begins run past first → KeepsShown lv copies old
-
 -- the descriptor in which the volume keeps its first copies
 abbrev pub IsWithFirst : ℕ → ℕ → Core → Descriptor → Type 0
 IsWithFirst lv copies core next = (row : LvRow) × (volume_of core.descriptor lv ≡ Some row) × (next ≡ with_copies core.descriptor lv copies (first_copies row copies))
 
 -- what it may do: commit that
 abbrev pub to_take : ℕ → ℕ → Core → Scope
-to_take lv copies core = record { next = IsWithFirst lv copies core; zeros = NoPartition; stale = NoPartition; fresh = NoPartition; marks = NoVolume; numbers = 1; lets = IfShown lv copies }
+to_take lv copies core = record { next = IsWithFirst lv copies core; zeros = NoPartition; stale = NoPartition; fresh = NoPartition; marks = NoVolume; numbers = 1; lets = Always }
 
 -- The volume keeps its first copies; members that became missing aside, and the copies that they left behind, nothing else of the session has changed.
 pub record AreTaken (lv copies : ℕ) (old new : State) : Type 0 where

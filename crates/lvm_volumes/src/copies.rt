@@ -52,13 +52,12 @@ pub fn mklvcopy<S: Shelf>(
 ///
 /// The causes, in their order: `Dark` and `WentOff`, where the session is over; `Busy`, where a request is open;
 /// `NoVolume`, where the group has none of the number; `CopyLimit`, where so many aren't fewer than it has, or are
-/// none; `LastFresh`, where all fresh copies of a logical partition would go, with the first such; `HistoryFull`, as
-/// of `mklvcopy`; and from the first write on `Dark`, `WentOff` and `Stuck`. `Memory` may come before the first
-/// write, where none of the causes before it holds.
+/// none; `LastFresh`, where of a logical partition a copy that goes is fresh and none that stays can be used, with the
+/// first such; `HistoryFull`, as of `mklvcopy`; and from the first write on `Dark`, `WentOff` and `Stuck`. `Memory` may
+/// come before the first write, where none of the causes before it holds.
 ///
-/// Which copies are fresh is judged by the committed status alone, so the only one that is kept may be one that can't
-/// be reached. A span goes on with the removal where each logical partition keeps a fresh copy whose member shows
-/// the group.
+/// A copy can be used that the committed status calls fresh, on a member that isn't missing. A fresh copy on a missing
+/// member may be gone with the member's records, so it counts as lost here: this project's own rule.
 pub fn rmlvcopy<S: Shelf>(
     alloc: Global,
     driver: &mut Driver<S>,

@@ -190,6 +190,18 @@ module _ (role : Role) (old : ScriptState) (core : Core) (end : State) (its : Is
 
   -- ---- it is closed
 
+  -- the clock stays ahead of each crash image
+  module _ (new : ScriptState) (closed : IsClosed end.core.power end.device new.moment.device) (facts : new.moment.facts ≡ end.core.history.facts) (clock : new.last ≡ old.last) (heard_of : end.core.power ≡ power.Stuck → ⊥) where
+    behind_closed : (moment : ℕ) → LeavesBefore (beginning_at moment) end.device → LeavesBefore (beginning_at moment) new.moment.device
+    behind_closed moment before image may = before image (last-path (closes end new.moment.device its.sound closed heard_of).path image may)
+
+    pub closed_ahead : IsTimely core.history.run old → IsAheadEach core.history.run (new.last + 1) new.moment.device new.moment.facts
+    closed_ahead timely = subst (λ (n : ℕ). IsAheadEach core.history.run (n + 1) new.moment.device new.moment.facts) (sym clock) (record {
+      run_is = timely.ahead.run_is;
+      later = subst (λ (fs : List Fact). IsLater fs (old.last + 1)) (sym facts) (later_end timely);
+      behind = behind_closed (old.last + 1) (before_end timely).leaves;
+    })
+
   module _ (answer : Reply) (new : ScriptState) (closed : IsClosed end.core.power end.device new.moment.device) (facts : new.moment.facts ≡ end.core.history.facts) (none : new.session ≡ None)
       (clock : new.last ≡ old.last) (heard_of : end.core.power ≡ power.Stuck → ⊥) (over : (IsStuck answer → ⊥) → is_over end.core.power ≡ true) (posted : ArePosted new.moment.facts None new.posts)
       (rests : (IsRequesting role → ⊥) → IsAtRest old → IsAtRest new) (few : most_refusals answer + length new.posts ≤ length old.posts + 1) where
@@ -199,16 +211,6 @@ module _ (role : Role) (old : ScriptState) (core : Core) (end : State) (its : Is
     new_moment : at new.moment.device end.core.history.facts ≡ new.moment
     new_moment = sym (ap (λ (fs : List Fact). at new.moment.device fs) facts)
 
-    behind_then : (moment : ℕ) → LeavesBefore (beginning_at moment) end.device → LeavesBefore (beginning_at moment) new.moment.device
-    behind_then moment before image may = before image (last-path it.path image may)
-
-    ahead_then : (timely : IsTimely core.history.run old) → IsAheadEach core.history.run (new.last + 1) new.moment.device new.moment.facts
-    ahead_then timely = subst (λ (n : ℕ). IsAheadEach core.history.run (n + 1) new.moment.device new.moment.facts) (sym clock) (record {
-      run_is = timely.ahead.run_is;
-      later = subst (λ (fs : List Fact). IsLater fs (old.last + 1)) (sym facts) (later_end timely);
-      behind = behind_then (old.last + 1) (before_end timely).leaves;
-    })
-
     pub over_goes : GoesOn core.history.run role answer old new
     over_goes = record {
       keeps = λ timely alone first span stands. (
@@ -216,10 +218,10 @@ module _ (role : Role) (old : ScriptState) (core : Core) (end : State) (its : Is
         λ heard past begins. subst (λ (o : Option Core). IfSome o (λ (c : Core). StandsAlone new.moment.device c → StandsAfter past new.moment.device c)) (sym none) tt,
       );
       timely = λ heard timely. record {
-        ahead = ahead_then timely;
+        ahead = closed_ahead new closed facts clock heard_of timely;
         session = subst (λ (o : Option Core). IfSome o (λ (c : Core). c.status.stamp.epoch ≤ new.last)) (sym none) tt;
       };
-      left = λ timely. let ahead = ahead_then timely in record { run_is = ahead.run_is; later = ahead.later; behind = left_is_before (beginning_at (new.last + 1)) new.moment.device ahead.behind };
+      left = λ timely. let ahead = closed_ahead new closed facts clock heard_of timely in record { run_is = ahead.run_is; later = ahead.later; behind = left_is_before (beginning_at (new.last + 1)) new.moment.device ahead.behind };
       between = λ heard. record {
         lit = it.lit;
         descriptors = λ d at value flies. (its.leaves.descriptors its.between.descriptors).leaves d at value (subst (λ (fs : List Flight). IsInFlight fs d at value) it.flights flies);

@@ -1,4 +1,4 @@
--- A line in which nothing failed: `step 1` while no group is on, over one blank disk.
+-- Lines in which nothing failed, while no group is on, over one blank disk: `step 1`, which is refused, and `wait`, which is answered.
 use Rattle.std.proofs.Common.{◌≤◌, ℕ, true, false, [], ◌∷◌, None, refl, arith}
 use Rattle.std.specs.Prelude.{codes}
 use Rattle.lvm_disk.specs.Counts.{Counts, RoseBy}
@@ -8,11 +8,12 @@ use Rattle.lvm_vol.specs.Log.{Log}
 use Rattle.lvm_operands.specs.Reading.{ends, operand}
 use Rattle.lvm_parse.specs.Grammar.{line_of}
 use Rattle.lvm_volume_lines.specs.passed.RangeLines.{NoStepWhileOff}
+use Rattle.lvm_volume_lines.specs.passed.RangeLinesWaiting.{NoGone, TellsAll, WhileOff}
 use Rattle.lvm_volume_lines.specs.passed.GroupLines.{IsBetween, Reply, ScriptState}
 use Rattle.lvm_volume_lines.specs.passed.RefusalVariants as refusal
 use Rattle.lvm_volume_lines.specs.passed.ReplyVariants as reply
 use Rattle.lvm_volume_lines.proofs.passed.GroupLines.{same_goes}
-use Rattle.lvm_line.specs.Complete.{NothingMayFail, NoneRose, NothingFailed}
+use Rattle.lvm_line.specs.Complete.{NothingMayFail, NothingMayFailAnswered, NoneRose, NothingFailed}
 use Rattle.lvm_line.specs.Lines.{IsLine, role_of}
 
 abbrev none : Counts
@@ -60,3 +61,26 @@ is_line log room = record {
 
 pub nothing_may_fail : NothingMayFail
 nothing_may_fail log room = (codes "step 1", refusal.NoGroup, off, off, is_line log room, nothing_failed)
+
+-- ---- and one that is answered
+
+abbrev said : Reply
+said = reply.Answers (codes "ok\n") 0
+
+nothing_failed_too : NothingFailed (line_of (codes "wait")) off off
+unfolding ends
+nothing_failed_too = record { none = rose_none; misses = λ tells disk rose. absurd tells; seen = tt }
+
+is_line_too : (log : Log) (room : Room) → IsLine log room (codes "wait") said off off
+unfolding ends
+is_line_too log room = record {
+  does = WhileOff (record { off = refl; answers = []; takes = NoGone; new_is = refl; tells = TellsAll refl });
+  goes = same_goes log.run (role_of (line_of (codes "wait"))) said off off between (omega arith) refl;
+  orders = λ others. refl;
+  whole = tt;
+  between = between;
+  named = tt;
+}
+
+pub nothing_may_fail_answered : NothingMayFailAnswered
+nothing_may_fail_answered log room = (codes "wait", codes "ok\n", off, off, is_line_too log room, nothing_failed_too)

@@ -11,8 +11,6 @@ use Rattle.lvm_parse.specs.declared.command.Command.TheVariants as command
 use Rattle.lvm_operands.specs.declared.rest.Misfit.{Misfit}
 use Rattle.lvm_operands.specs.Reading.{operand, ends, options, is_new, disks}
 use Rattle.lvm_parse.specs.Grammar.{line_of}
-use Rattle.lvm_top.specs.passed.Lines.{role_of}
-use Rattle.lvm_top.specs.passed.GroupLines.{IsAllowed, ScriptState}
 use Rattle.lvm_top.specs.OneGroup.{IsUnforced}
 use Rattle.lvm_program.specs.Woven.{IsSized, copy_count, mklv_line, mkvg_line}
 
@@ -77,7 +75,7 @@ volume_reads disks mib sized = by (disks == 1)
     by true = lps_read 1 mib single_read sized.2 sized.3
     by false = lps_read 2 mib mirrors_read sized.2 sized.3
 
--- ---- neither is a `mkvg -f`, and they ask for nothing of the session
+-- ---- neither is a `mkvg -f`
 
 module _ (disks mib : ℕ) (sized : IsSized disks mib) where
   pub group_unforced : IsUnforced (mkvg_line disks)
@@ -85,9 +83,3 @@ module _ (disks mib : ℕ) (sized : IsSized disks mib) where
 
   pub volume_unforced : IsUnforced (mklv_line disks mib)
   volume_unforced name size members is = let e = sym (volume_reads disks mib sized) ∙ is in cc e
-
-  pub group_allowed : (old : ScriptState) → IsAllowed (role_of (line_of (mkvg_line disks))) old
-  group_allowed old = subst (λ (read : Read). IsAllowed (role_of read) old) (sym (group_reads disks sized.0 sized.1)) tt
-
-  pub volume_allowed : (old : ScriptState) → IsAllowed (role_of (line_of (mklv_line disks mib))) old
-  volume_allowed old = subst (λ (read : Read). IsAllowed (role_of read) old) (sym (volume_reads disks mib sized)) tt

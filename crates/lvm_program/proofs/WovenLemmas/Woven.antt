@@ -32,13 +32,14 @@ use Rattle.lvm_top.specs.passed.Tie.{RunsOn}
 use Rattle.lvm_top.specs.passed.ReplyVariants as reply
 use Rattle.lvm_top.specs.passed.Lines.{IsLine, asked_after, role_of}
 use Rattle.lvm_top.specs.passed.Recover.{HasNoPassive}
-use Rattle.lvm_top.specs.passed.GroupLines.{Holder, IsBetween, IsBetweenStage, IsOfKind, IsAllowed, IsAlone, IsStuck, IsTimely, OfRequests, Reply, Stage, StandsAlone, StandsBy, ScriptState, history_in, history_of, moment_in, most_refusals, session_in, session_of, shelf_of, state_in, without_facts}
+use Rattle.lvm_top.specs.passed.GroupLines.{Holder, IsBetween, IsBetweenStage, IsOfKind, IsAlone, IsStuck, IsTimely, OfRequests, Reply, Stage, StandsAlone, StandsBy, ScriptState, history_in, history_of, moment_in, most_refusals, session_in, session_of, shelf_of, state_in, without_facts}
 use Rattle.lvm_top.specs.declared.run.Ended.{Ended}
 use Rattle.lvm_top.specs.declared.status.ExitStatus.{ExitStatus}
 use Rattle.lvm_top.specs.declared.status.ExitStatus.TheVariants as ended
 use Rattle.lvm_program.specs.Program.{PromisesWovenBlank}
 use Rattle.lvm_top.specs.Laws.{MayStart}
-use Rattle.lvm_top.specs.OneGroup.{FindsNoPassive, FindsOneGroup, IsUnforced}
+use Rattle.lvm_top.specs.Plain.{FindsNoPassive, FindsOneGroup}
+use Rattle.lvm_top.specs.OneGroup.{IsUnforced}
 use Rattle.lvm_top.specs.Run.{Run, exit_state, ran}
 use Rattle.lvm_top.specs.Standing.{HasFewDisks}
 use Rattle.lvm_top.specs.Script.{NextLine, NoLine, Passage, Stream, empty_log, entry_state, facts_of}
@@ -46,7 +47,7 @@ use Rattle.lvm_top.specs.Blank.{IsToldBlank}
 use Rattle.lvm_program.specs.Sim.{full_room, sim_device}
 use Rattle.lvm_program.specs.Woven.{AreMadeAlone, Drawn, EndsWoven, Exit, GoesWoven, HasAsked, HasGroup, IsDrawn, IsMade, IsMadeForCause, HasServed, IsServed, IsSized, IsWoven, IsWovenAlone, NoGroup, NotMade, PromisesWoven, TellsWoven, TurnsBehind, asked_woven, exit_from, exit_of, mklv_line, mkvg_line, refusal_text, status_woven, totals_text, untold, woven_text}
 use Rattle.lvm_top.proofs.MomentsLemmas.{told_behind, told_earlier}
-use Rattle.lvm_program.proofs.WovenLemmas.Making.{group_allowed, group_reads, group_unforced, volume_allowed, volume_reads, volume_unforced}
+use Rattle.lvm_program.proofs.WovenLemmas.Making.{group_reads, group_unforced, volume_reads, volume_unforced}
 use Rattle.lvm_program.proofs.SimLemmas.{sim_few, sim_told}
 use Rattle.lvm_top.proofs.ScriptLemmas.Concluding.{Concluded, closed_concluded, concluded, off_still}
 use Rattle.lvm_top.proofs.TurnLemmas.{stuck_is_off}
@@ -102,21 +103,21 @@ pub record LinesAlone {log : Log} {room : Room} {group volume : List ℕ} {first
   pub finds : (IsStuck answer → ⊥) → FindsOneGroup last.moment.device × HasNoPassiveOn last
 
 module _ (log : Log) (room : Room) (past : List Fact) (group volume : List ℕ) (first : ScriptState) (begin : MayStart log.run past first) (one : FindsOneGroup first.moment.device) (off : FindsNoPassive first.moment.device)
-    (no_force : IsUnforced group) (nor_force : IsUnforced volume) (allowed : (old : ScriptState) → IsAllowed (role_of (line_of group)) old) (allowed_too : (old : ScriptState) → IsAllowed (role_of (line_of volume)) old) where
+    (no_force : IsUnforced group) (nor_force : IsUnforced volume) where
   first_off : HasNoPassiveOn first
   first_off = subst (λ (o : Option Core). IfSome o (λ core. HasNoPassive core.descriptor)) (sym begin.off) tt
 
   pub lines_alone : (answer : Reply) (last : ScriptState) (made : IsMade log room group volume first answer last) → LinesAlone made
   lines_alone answer last (NoGroup not it) = record {
-    alone = alone_so (role_of (line_of group)) first last (allowed first) one first_off;
-    finds = λ heard. let all = script_one log room past first begin one off (NextLine group answer answer heard (inl refl) NoLine it) (tt, no_force) (tt, allowed first) in (all.finds_one, all.session);
+    alone = alone_so (role_of (line_of group)) first last one first_off;
+    finds = λ heard. let all = script_one log room past first begin one off (NextLine group answer answer heard (inl refl) NoLine it) (tt, no_force) in (all.finds_one, all.session);
   }
   lines_alone answer last (HasGroup mid makes it) =
-      let so_far = script_one log room past first begin one off (NextLine group reply.Ok reply.Ok ok_heard (inl refl) NoLine makes) (tt, no_force) (tt, allowed first) in
+      let so_far = script_one log room past first begin one off (NextLine group reply.Ok reply.Ok ok_heard (inl refl) NoLine makes) (tt, no_force) in
       record {
-        alone = (so_far.alone.1, alone_so (role_of (line_of volume)) mid last (allowed_too mid) so_far.finds_one so_far.session);
+        alone = (so_far.alone.1, alone_so (role_of (line_of volume)) mid last so_far.finds_one so_far.session);
         finds = λ heard.
-            let all = script_one log room past first begin one off (NextLine volume answer answer heard (inl refl) (NextLine group reply.Ok reply.Ok ok_heard (inl refl) NoLine makes) it) ((tt, no_force), nor_force) ((tt, allowed first), allowed_too mid) in
+            let all = script_one log room past first begin one off (NextLine volume answer answer heard (inl refl) (NextLine group reply.Ok reply.Ok ok_heard (inl refl) NoLine makes) it) ((tt, no_force), nor_force) in
             (all.finds_one, all.session);
       }
 
@@ -387,7 +388,7 @@ module _ (disks mib : ℕ) (load : Workload) (r : Run) (ready : IsReady r.entry)
         let begin = run_may_start r.named r.entry [] few ready (told_behind r.named r.entry blank) (told_earlier r.named r.entry blank) in
         let none = blank_finds_one r.entry blank in
         let own = lines_alone (empty_log r.named r.room) r.room ([] ++ Cut ∷ []) (mkvg_line disks) (mklv_line disks mib) (entry_state r.entry r.named) begin none.0 none.1
-        (group_unforced disks mib sized) (volume_unforced disks mib sized) (group_allowed disks mib sized) (volume_allowed disks mib sized) goes.answer goes.end goes.made
+        (group_unforced disks mib sized) (volume_unforced disks mib sized) goes.answer goes.end goes.made
         in
         (own.alone, by its_end own.finds)
       where
@@ -395,9 +396,8 @@ module _ (disks mib : ℕ) (load : Workload) (r : Run) (ready : IsReady r.entry)
         by (Unheard stuck same) finds = record {
           enters = λ enters. absurd (not_more goes.end.moment.facts (facts_of r.history) (ap (λ (m : Moment). m.facts) same) enters);
           acts = λ acting. subst (λ (o : Option Core). IfSome o (StandsAlone goes.end.moment.device)) (sym (made.stuck stuck)) tt;
-          allowed = tt;
         }
-        by (Heard heard its) finds = alone_so OfRequests goes.end (exit_state r.exit r.history goes.end) tt (finds heard).0 (finds heard).1
+        by (Heard heard its) finds = alone_so OfRequests goes.end (exit_state r.exit r.history goes.end) (finds heard).0 (finds heard).1
 
     pub woven_first : Legal (joined [] (facts_of r.history)) × ImagesKept r.exit (joined [] (facts_of r.history))
     woven_first =
@@ -483,7 +483,7 @@ module _ {S : Type 0} (device : S → Device) (disks mib : ℕ) (sized : IsSized
 -- over disks in memory
 module _ (disks mib : ℕ) (sized : IsSized disks mib) (load : Workload) (asked : ℕ) (r : Run) (is : r.entry ≡ sim_device disks mib) (promises : PromisesWoven disks mib load asked r) where
   its_few : HasFewDisks r.entry
-  its_few = subst HasFewDisks (sym is) (sim_few disks mib sized.1)
+  its_few = subst HasFewDisks (sym is) (sim_few disks mib (let few = sized.1 in omega (arith, few)))
 
   its_blank : IsToldBlank r.entry
   its_blank = subst IsToldBlank (sym is) (sim_told disks mib)

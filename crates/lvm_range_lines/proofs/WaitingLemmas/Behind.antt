@@ -78,7 +78,7 @@ module _ {S : Type 0} (device : S → Device) (run : ℕ) (old : ScriptState) (c
   new = state_in device stage last
 
   alone_mid : IsAlone OfRequests old new → IsAlone OfRequests old (state_in device closed last)
-  alone_mid alone = record { enters = λ more. alone.enters (let grown : count_by is_of_volume (state_in device closed last).moment.facts ≤ count_by is_of_volume new.moment.facts = gone_volumes waits.takes in omega (arith, more, grown)); acts = alone.acts; allowed = alone.allowed }
+  alone_mid alone = record { enters = λ more. alone.enters (let grown : count_by is_of_volume (state_in device closed last).moment.facts ≤ count_by is_of_volume new.moment.facts = gone_volumes waits.takes in omega (arith, more, grown)); acts = alone.acts }
 
   moment_is : (facts : List Fact) → at (device (shelf_in closed)) facts ≡ at (device (shelf_in stage)) facts
   moment_is facts = ap (λ (d : Device). at d facts) (sym waits.shelf)

@@ -5,7 +5,7 @@ pub use Rattle.lvm_group_lines.specs.Ends.{CommandEnds, EndsUnasked, patience_of
 pub use Rattle.lvm_group_lines.specs.Groups.{Brings, BusyVaryoff, IsLeft, Makes, MkvgDoes, NoMemoryForLine, NoMkvgWhileOn, NoVaryoff, NoVaryonWhileOn, Varies, VariesOff, VaryoffDoes, VaryonDoes, asked_for, itself, outcome_of}
 pub use Rattle.lvm_group_lines.specs.Lighting.{IsRelit, refusal_of}
 pub use Rattle.lvm_group_lines.specs.Listings.{DiskOfGroup, DiskShows, GroupShows, GroupThatIsOn, ListsGroup, ListsMember, ListsVolume, NoGroupForDisk, NoGroupForVolume, NoGroupToList, NoSuchMember, NoSuchVolume, OtherGroup, VolumeOfGroup, VolumeShows}
-pub use Rattle.lvm_group_lines.specs.Moments.{Aside, GoesOn, HasBegunHeld, IsAllowed, IsAlone, IsBrokenOff, IsRequesting, OfGroup, OfGroupWhere, OfRequests, Role}
+pub use Rattle.lvm_group_lines.specs.Moments.{Aside, GoesOn, HasBegunHeld, IsAlone, IsBrokenOff, IsRequesting, OfGroup, OfRequests, Role}
 pub use Rattle.lvm_group_lines.specs.Replies.{InFull, IsRefused, IsStuck, Shows, WithoutMemory, is_unheard, most_refusals, refusals_of, reply_text}
 pub use Rattle.lvm_group_lines.specs.Shelves.{ArrangeDoes, CutDoes, CutNotPlanned, IsArranged, NotPlanned, NotThere, PowerIsCut}
 pub use Rattle.lvm_group_lines.specs.Stages.{ComesTo, HaveRooms, IsBetweenStage, IsCarried, IsClosed, IsEnded, IsFittingStage, IsLeftBy, IsNotOn, IsOfKind, IsOn, history_in, history_of, moment_in, open_in, posts_ended, session_in, session_of, shelf_in, shelf_of, state_in}

@@ -2,7 +2,6 @@
 use Rattle.std.proofs.Common.{◌≡◌, ◌⊎◌, inl, inr, ⊎_elim, ℕ, [], Some, Result, Ok, Err, sym, ap, subst, ◌∙◌}
 use Rattle.std.specs.Prelude.{◌≢◌}
 use Rattle.lvm_num.specs.declared.descriptor.Descriptor.{Descriptor}
-use Rattle.lvm_num.specs.declared.descriptor.LvRow.{LvRow}
 use Rattle.lvm_num.specs.Descriptor.{is_member}
 use Rattle.lvm_disk.specs.Device.{image_of}
 use Rattle.lvm_kept.specs.Contents.{contents_of}
@@ -12,35 +11,15 @@ use Rattle.lvm_tie_commands.specs.passed.Names.{IsOneFoundOn, moment_of, NoParti
 use Rattle.lvm_session.specs.State.{Core, State, is_there}
 use Rattle.lvm_tie_commands.specs.passed.VolumePlanFaultGroupFault as fault
 use Rattle.lvm_volumes.specs.Endings.{StillHeld}
-use Rattle.lvm_volumes.specs.passed.Names.{first_copies, with_copies, MayBeTaken, IsEven}
+use Rattle.lvm_volumes.specs.passed.Names.{first_copies, with_copies, IsEven}
 use Rattle.lvm_volumes.specs.Mirrors.{AreTaken, IsWithFirst, RmlvcopyGives, to_take}
 use Rattle.lvm_volumes.proofs.LawsLemmas.{first_are_even}
 use Rattle.lvm_tie_commands.specs.passed.Handover.{IsCommanded}
 use Rattle.lvm_tie_commands.proofs.passed.Settled.{kept_even}
 use Rattle.lvm_tie_commands.specs.Commands.{IsLeftStandingSince, MayBeCommanded}
 use Rattle.lvm_tie_commands.proofs.CommandsLemmas.Commands.{KeepsEven, keeps_on, left_standing, on_all}
-use Rattle.lvm_tie_commands.specs.Copies.{KeepsShownIfTaken, RmlvcopyGoesOn}
+use Rattle.lvm_tie_commands.specs.Copies.{RmlvcopyGoesOn}
 use Rattle.lvm_tie_commands.proofs.CopiesLemmas.Adding.{no_volume}
-
--- nothing has happened, or nothing stood against it
-abbrev MightOrNot : ℕ → ℕ → State → State → Type 0
-MightOrNot lv copies old new = (new ≡ old) ⊎ ((row : LvRow) × MayBeTaken lv copies old.core row)
-
-might_or_not : (lv copies before : ℕ) (old new : State) (answer : Result (Unit {0}) GroupFault) → RmlvcopyGives lv copies before old new answer → MightOrNot lv copies old new
-might_or_not lv copies before old new (Ok done) gives = inr (gives.row, gives.may)
-might_or_not lv copies before old new (Err fault.Dark) gives = ⊎_elim (λ refused. inl refused.0) (λ ended. inr (ended.row, ended.may)) gives
-might_or_not lv copies before old new (Err (fault.WentOff have total)) gives = ⊎_elim (λ refused. inl refused.0) (λ ended. inr (ended.row, ended.may)) gives
-might_or_not lv copies before old new (Err fault.Stuck) gives = inr (gives.row, gives.may)
-might_or_not lv copies before old new (Err (fault.DiskFailed disk)) gives = absurd gives
-might_or_not lv copies before old new (Err fault.Busy) gives = inl gives.0
-might_or_not lv copies before old new (Err fault.NoVolume) gives = inl gives.0
-might_or_not lv copies before old new (Err fault.VolumeExists) gives = absurd gives
-might_or_not lv copies before old new (Err (fault.CopyLimit now)) gives = inl gives.0
-might_or_not lv copies before old new (Err (fault.LastFresh lp)) gives = inl gives.0
-might_or_not lv copies before old new (Err (fault.TooMany limit)) gives = absurd gives
-might_or_not lv copies before old new (Err (fault.NoRoom free)) gives = absurd gives
-might_or_not lv copies before old new (Err fault.HistoryFull) gives = inl gives.0
-might_or_not lv copies before old new (Err fault.Memory) gives = inl gives.0
 
 -- the descriptor is as it was, or the volume has fewer copies
 abbrev AreTakenOrNot : ℕ → ℕ → State → State → Type 0
@@ -66,12 +45,9 @@ taken_or_not lv copies before old new (Err fault.HistoryFull) gives = refused lv
 taken_or_not lv copies before old new (Err fault.Memory) gives = refused lv copies old new gives.0
 
 module _ (run : ℕ) (first : Moment) (lv copies before after : ℕ) (old new : State) (answer : Result (Unit {0}) GroupFault)
-    (may : MayBeCommanded run first old) (shown : KeepsShownIfTaken run first lv copies old new) (c : IsCommanded (to_take lv copies old.core) before after old new answer) where
-  keeps : MightOrNot lv copies old new → Keeps run first (moment_of new)
-  keeps might = ⊎_elim
-      (λ (same : new ≡ old). subst (λ (s : State). Keeps run first (moment_of s)) (sym same) may.keeps)
-      (λ (it : (row : LvRow) × MayBeTaken lv copies old.core row). keeps_on run first old new may c.began (to_take lv copies old.core) before after c.leaves (shown it.0 it.1))
-      might
+    (may : MayBeCommanded run first old) (c : IsCommanded (to_take lv copies old.core) before after old new answer) where
+  keeps : Keeps run first (moment_of new)
+  keeps = keeps_on run first old new may c.began (to_take lv copies old.core) before after c.leaves tt
 
   module _ (taken : AreTakenOrNot lv copies old new) where
     descriptor_is : (it : AreTaken lv copies old new) → new.core.descriptor ≡ with_copies old.core.descriptor lv copies (first_copies it.row copies)
@@ -99,9 +75,9 @@ module _ (run : ℕ) (first : Moment) (lv copies before after : ℕ) (old new : 
     left_so span on still whole past begins = left_standing run first old new may c.began (to_take lv copies old.core) before after c.leaves on still members keeps_even had_some span whole past begins
 
 pub rmlvcopy_goes_on : RmlvcopyGoesOn
-rmlvcopy_goes_on run first lv copies before after old new answer may shown c gives =
-    let span : Keeps run first (moment_of new) = keeps run first lv copies before after old new answer may shown c (might_or_not lv copies before old new answer gives) in (
+rmlvcopy_goes_on run first lv copies before after old new answer may c gives =
+    let span : Keeps run first (moment_of new) = keeps run first lv copies before after old new answer may c in (
       span,
       on_all answer (IsSettled new.core) (StillHeld old new) (AreTakenOrNot lv copies old new) (IsLeftStandingSince run first new) c.on c.still (taken_or_not lv copies before old new answer gives)
-          (λ on still taken. left_so run first lv copies before after old new answer may shown c taken span on still),
+          (λ on still taken. left_so run first lv copies before after old new answer may c taken span on still),
     )

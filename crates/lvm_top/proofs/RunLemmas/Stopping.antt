@@ -5,7 +5,9 @@ use Rattle.lvm_io.specs.Count.{Rose}
 use Rattle.lvm_io.proofs.StreamLemmas.Told.{told_same}
 use Rattle.lvm_vol.specs.Facts.{Fact}
 use Rattle.lvm_vol.specs.Log.{Log}
-use Rattle.lvm_steps.specs.Behind.{IsBehind, IsAhead}
+use Rattle.lvm_vol.specs.Order.{Ordered}
+use Rattle.lvm_steps.specs.Behind.{IsBehind, IsAhead, beginning_at}
+use Rattle.lvm_steps.specs.Laws.{LeavesBefore}
 use Rattle.lvm_steps.proofs.LawsLemmas.Stamps.{later_is_ahead_too}
 use Rattle.lvm_core.specs.declared.parts.Room.{Room}
 use Rattle.lvm_line.specs.passed.GroupLines.{shelf_in, history_in, moment_in, session_in, state_in, IsBetweenStage, Stage, IsAtRest, IsBetween, ScriptState, without_facts}
@@ -13,11 +15,13 @@ use Rattle.std.specs.Global.{Vec}
 use Rattle.lvm_posts.specs.declared.posts.Post.{Post}
 use Rattle.lvm_line.specs.passed.HolderVariants as holder
 use Rattle.lvm_kept.specs.Moments.{Moment}
+use Rattle.lvm_line.proofs.passed.Quiesce.{still_is_behind_each}
 use Rattle.lvm_top.specs.Ending.{Concludes, NoneIsOn}
 use Rattle.lvm_top.specs.Run.{Run, IsConcluded, IsRun, Promises, ran}
 use Rattle.lvm_top.specs.Script.{Stream, Passage, StaysAlone, EndsAlone, EndsHeard, MakeRequests, empty_log, entry_state}
 use Rattle.lvm_top.proofs.RunLemmas.Firsts.{first_upheld}
-use Rattle.lvm_top.proofs.ScriptLemmas.Concluding.{at_rest_still, concluded, entry_between, off_still, ran_ahead, run_upheld}
+use Rattle.lvm_top.proofs.PlainLemmas.{plainly}
+use Rattle.lvm_top.proofs.ScriptLemmas.Concluding.{at_rest_still, concluded, entry_between, off_still, ran_ahead, ran_ahead_each, run_upheld}
 use Rattle.lvm_top.proofs.LawsLemmas.Recovering.{varyon_recovers}
 use Rattle.lvm_top.proofs.RefusedLemmas.{run_causes}
 use Rattle.lvm_top.proofs.ScriptLemmas.Scripting.{Ended, nothing_done, nothing_broken, nothing_heard, nothing_left, lines_ended}
@@ -137,6 +141,9 @@ module _ (run last : ℕ) (room : Room) (entry exit : Device) (input output : Pa
 pub nothing_ahead : (run last : ℕ) (device : Device) (facts : List Fact) → facts ≡ [] → run ≤ last → IsBehind run device → IsAhead run (last + 1) device facts
 nothing_ahead run last device facts none le behind = subst (λ (l : List Fact). IsAhead run (last + 1) device l) (sym none) (record { run_is = omega (arith, le); later = tt; behind = later_is_ahead_too run (last + 1) device (omega (arith, le)) behind })
 
+nothing_ahead_each : (last : ℕ) (device : Device) → IsReady device → IsBehind 0 device → LeavesBefore (beginning_at (last + 1)) device
+nothing_ahead_each last device ready behind = still_is_behind_each (last + 1) device ready.flights (later_is_ahead_too 0 (last + 1) device (omega arith) behind)
+
 -- the history of a run at its beginning
 pub first_is : (log : Log) (run : ℕ) (room : Room) → log ≡ empty_log run room → log ≡ record (empty_log log.run room) { facts = log.facts }
 first_is log run room is = subst (λ (l : Log). l ≡ record (empty_log l.run room) { facts = l.facts }) (sym is) refl
@@ -229,16 +236,19 @@ module _ {S : Type 0} (device : S → Device) (entry : Device) (run begun last :
 
     -- all that is promised of it
     pub the_promises :
-        (clock : ℕ) (status : ExitStatus) → status ≡ status_of why refused → Rose clock run
+        (clock : ℕ) (status : ExitStatus) → status ≡ status_of why refused → Rose clock run → Ordered kept.run [] kept.facts
         → Promises clock (ran room entry (device closed) input output last (Some kept) status refused)
     unfolding the_run lines_ran
-    the_promises clock status says rose = subst (λ (n : ℕ). Promises clock (record (ran room entry (device closed) input output last (Some kept) status refused) { named = n })) (sym named) (record {
+    the_promises clock status says rose ordered = subst (λ (n : ℕ). Promises clock (record (ran room entry (device closed) input output last (Some kept) status refused) { named = n })) (sym named) (record {
       clock = (subst (λ (n : ℕ). Rose clock n) (sym named) rose, (let is = named in let le = later in omega (arith, is, le)));
       does = the_run status says;
       causes = run_causes _ (the_run status says);
       upheld = run_upheld _;
       first = first_upheld _;
+      plain = plainly _ (the_run status says);
       ahead = ran_ahead _ (the_run status says) refl;
+      ahead_each = λ clock heard. (ran_ahead_each _ (the_run status says) refl clock heard).behind;
+      tells = subst (λ (n : ℕ). Ordered n [] kept.facts) named ordered;
       recovers = varyon_recovers _ (the_run status says);
     })
 
@@ -251,6 +261,9 @@ nothing_promised asked last room device input output ready = record {
   causes = run_causes _ (nothing_ran last room device input output ready);
   upheld = run_upheld _;
   first = first_upheld _;
+  plain = plainly _ (nothing_ran last room device input output ready);
   ahead = nothing_ahead 0 last device [] refl (omega arith);
+  ahead_each = λ behind heard. nothing_ahead_each last device ready behind;
+  tells = tt;
   recovers = varyon_recovers _ (nothing_ran last room device input output ready);
 }

@@ -19,19 +19,21 @@ use Rattle.lvm_session.specs.Sound.{IsSound}
 use Rattle.lvm_line.specs.passed.Names.{power_by}
 use Rattle.lvm_session.specs.declared.answers.Turned.TheVariants as turned
 use Rattle.lvm_session.specs.declared.open.Power.{Power}
+use Rattle.lvm_line.specs.passed.Quiesce.{IsAheadEach}
 use Rattle.lvm_line.specs.passed.Tie.{LeavesDescriptors, RunsOn}
 use Rattle.lvm_line.specs.Lines.{role_of}
 use Rattle.lvm_line.specs.passed.GroupLines.{GoesOn, IsAlone, OfRequests, IsClosed, ArePosted, ScriptState, IsAtRest, IsBetween, IsTimely, StandsBy, Reply}
 use Rattle.lvm_line.specs.passed.RefusalVariants as refusal
 use Rattle.lvm_line.specs.passed.ReplyVariants as reply
-use Rattle.lvm_line.proofs.passed.GroupLines.{over_goes}
+use Rattle.lvm_line.proofs.passed.GroupLines.{closed_ahead, over_goes}
+use Rattle.lvm_line.proofs.passed.Quiesce.{each_is_behind}
 use Rattle.lvm_top.specs.declared.status.ExitStatus.{ExitStatus}
 use Rattle.lvm_top.specs.declared.status.ExitStatus.TheVariants as ended
 use Rattle.lvm_top.specs.Ending.{Concludes, NoneIsOn, NoneIsServed, IsServed, NothingIsLeft, TurnsAreMade, RestsNow}
 use Rattle.lvm_top.specs.Run.{Run, IsRun, RanAlone, WhereAlone}
 use Rattle.lvm_top.specs.Script.{Script, NoLine, NextLine, Ends, AtLine, InLine, StaysAlone, EndsAlone, EndsHeard, EndsStuck, MakeRequests, is_requesting, empty_log, entry_state, facts_of}
 use Rattle.lvm_top.proofs.TurnLemmas.{stuck_is_off}
-use Rattle.lvm_top.proofs.ScriptLemmas.Scripting.{Ended, begins_timely, lines_ended, timely_ahead}
+use Rattle.lvm_top.proofs.ScriptLemmas.Scripting.{Ended, begins_timely, lines_ended}
 
 -- no post is left
 none_posted : (facts : List Fact) (on : Option Core) → ArePosted facts on []
@@ -79,18 +81,23 @@ module _ (end : ScriptState) (exit : Moment) (between : IsBetween end.moment end
   behind = record { moment = exit; session = None; posts = []; last = end.last }
 
   -- it has run on, and is closed
-  closed_goes : (last : State) → (last.core.power ≡ power.Stuck → ⊥) → RunsOn (state end.moment.device core) last → IsSound last → IsClosed last.core.power last.device exit.device → exit.facts ≡ last.core.history.facts
-      → GoesOn core.history.run OfRequests (reply.Refused refusal.Stuck) end behind
-  closed_goes last heard runs sound closed entries =
-      over_goes OfRequests end core last
-      (record { alone = λ new alone. alone.acts tt; session = some; facts = facts; volumes = vols; between = between; leaves = runs.leaves; sound = sound })
-      (reply.Refused refusal.Stuck) behind closed entries refl refl heard (λ heard. absurd (heard refl)) (none_posted _ _)
-      (λ not_asking. absurd (not_asking tt)) (omega arith)
+  module _ (last : State) (heard : last.core.power ≡ power.Stuck → ⊥) (runs : RunsOn (state end.moment.device core) last) (sound : IsSound last) (closed : IsClosed last.core.power last.device exit.device) (entries : exit.facts ≡ last.core.history.facts) where
+    closed_goes : GoesOn core.history.run OfRequests (reply.Refused refusal.Stuck) end behind
+    closed_goes =
+        over_goes OfRequests end core last (record { alone = λ new alone. alone.acts tt; session = some; facts = facts; volumes = vols; between = between; leaves = runs.leaves; sound = sound }) (reply.Refused refusal.Stuck) behind closed entries refl refl heard (λ heard. absurd (heard refl)) (none_posted _ _)
+        (λ not_asking. absurd (not_asking tt)) (omega arith)
+
+    closed_each : IsTimely core.history.run end → IsAheadEach core.history.run (end.last + 1) exit.device exit.facts
+    closed_each = closed_ahead OfRequests end core last (record { alone = λ new alone. alone.acts tt; session = some; facts = facts; volumes = vols; between = between; leaves = runs.leaves; sound = sound }) behind closed entries refl heard
+
+-- what is ahead of each crash image is ahead of the disks
+each_is_ahead : (run moment : ℕ) (device : Device) (facts : List Fact) → IsAheadEach run moment device facts → IsAhead run moment device facts
+each_is_ahead run moment device facts ahead = record { run_is = ahead.run_is; later = ahead.later; behind = each_is_behind moment device ahead.behind }
 
 -- the span, and the clock
 pub record Concluded (run : ℕ) (end : ScriptState) (exit : Moment) : Type 0 where
   pub keeps : IsTimely run end → IsAlone OfRequests end (record { moment = exit; session = None; posts = []; last = end.last }) → (first : Moment) → Keeps run first end.moment → StandsBy run first end → Keeps run first exit
-  pub left : IsTimely run end → IsAhead run (end.last + 1) exit.device exit.facts
+  pub left : IsTimely run end → IsAheadEach run (end.last + 1) exit.device exit.facts
   pub power : exit.device.power ≡ true
 
 -- so where a session with volumes has run on, and is closed
@@ -99,12 +106,16 @@ pub closed_concluded : (run : ℕ) (end : ScriptState) (exit : Moment) → IsBet
 closed_concluded run end exit between core some vols facts named last heard runs sound closed entries =
     let goes : GoesOn run OfRequests (reply.Refused refusal.Stuck) end (behind end exit between core some vols facts) =
     subst (λ (n : ℕ). GoesOn n OfRequests (reply.Refused refusal.Stuck) end (behind end exit between core some vols facts)) named (closed_goes end exit between core some vols facts last heard runs sound closed entries) in
-    record { keeps = λ timely alone first span stands. (goes.keeps timely alone first span stands).0; left = λ timely. goes.left timely; power = goes.power }
+    record {
+      keeps = λ timely alone first span stands. (goes.keeps timely alone first span stands).0;
+      left = subst (λ (n : ℕ). IsTimely n end → IsAheadEach n (end.last + 1) exit.device exit.facts) named (closed_each end exit between core some vols facts last heard runs sound closed entries);
+      power = goes.power;
+    }
 
 same_concluded : (run : ℕ) (end : ScriptState) (exit : Moment) → end.moment.device.power ≡ true → exit ≡ end.moment → Concluded run end exit
 same_concluded run end exit power same = record {
   keeps = λ timely alone first span stands. subst (Keeps run first) (sym same) span;
-  left = λ timely. subst (λ (m : Moment). IsAhead run (end.last + 1) m.device m.facts) (sym same) (timely_ahead run end timely);
+  left = λ timely. subst (λ (m : Moment). IsAheadEach run (end.last + 1) m.device m.facts) (sym same) timely.ahead;
   power = subst (λ (m : Moment). m.device.power ≡ true) (sym same) power;
 }
 
@@ -190,8 +201,12 @@ module _ (r : Run) (ran : IsRun r) where
   pub ran_ahead : ran.end.last ≡ r.last → IsBehind r.named r.entry → IsAhead r.named (r.last + 1) r.exit (facts_of r.history)
   ran_ahead last clock = subst (λ (n : ℕ). IsAhead r.named (n + 1) r.exit (facts_of r.history)) last (⊎_elim
       (λ stuck. subst (λ (m : Moment). IsAhead r.named (ran.end.last + 1) m.device m.facts) (sym (stuck_still stuck)) (went.left (timely clock)))
-      (λ heard. (its heard).left (went.timely (ran.heard heard) (timely clock)))
+      (λ heard. each_is_ahead r.named (ran.end.last + 1) r.exit (facts_of r.history) ((its heard).left (went.timely (ran.heard heard) (timely clock))))
       (how_ended r.status))
+
+  -- and unless nothing was heard of a transfer, of each crash image
+  pub ran_ahead_each : ran.end.last ≡ r.last → IsBehind r.named r.entry → (r.status ≡ ended.Stuck → ⊥) → IsAheadEach r.named (r.last + 1) r.exit (facts_of r.history)
+  ran_ahead_each last clock heard = subst (λ (n : ℕ). IsAheadEach r.named (n + 1) r.exit (facts_of r.history)) last ((its heard).left (went.timely (ran.heard heard) (timely clock)))
 
 -- A run whose lines find no other group where they ask for that upholds what was told before it.
 pub run_upheld : (r : Run) → WhereAlone r (IsBehind r.named r.entry → IsUpheld r.named r.entry r.exit (facts_of r.history))

@@ -23,7 +23,7 @@ use Rattle.lvm_line.proofs.passed.Quiesce.{still_is_behind_each, each_is_behind}
 use Rattle.lvm_line.specs.passed.Tie.{LeavesDescriptors}
 use Rattle.lvm_posts.specs.declared.posts.Post.{Post}
 use Rattle.lvm_line.specs.Lines.{IsLine, role_of}
-use Rattle.lvm_line.specs.passed.GroupLines.{IsRequesting, Role, Aside, OfGroup, OfGroupWhere, OfRequests, reply_text, refusals_of, most_refusals, IsStuck, ScriptState, IsAtRest, IsTimely, StandsBy, Reply}
+use Rattle.lvm_line.specs.passed.GroupLines.{IsRequesting, Role, Aside, OfGroup, OfRequests, reply_text, refusals_of, most_refusals, IsStuck, ScriptState, IsAtRest, IsTimely, StandsBy, Reply}
 use Rattle.lvm_top.specs.Script.{Stream, Passage, Says, Script, NoLine, NextLine, StaysAlone, Ends, AtLine, InLine, EndsAlone, EndsHeard, AreBefore, AreDone, AreAllRead, AreDoneBut, ComesBehind, IsLineLeft, MakeRequests, is_made_late, is_requesting, texts_of, refusals_in, entry_state}
 use Rattle.lvm_top.specs.Statuses.{GoesUntil}
 use Rattle.lvm_top.specs.declared.script.Stop.{Stop}
@@ -349,7 +349,6 @@ last_requests (other ∷ lines) line its = by (is_requesting (role_of (line_of o
 asks : (role : Role) → IsRequesting role → IsTrue (is_requesting role)
 asks Aside asking = absurd asking
 asks OfGroup asking = absurd asking
-asks (OfGroupWhere Holds) asking = absurd asking
 asks OfRequests asking = refl
 
 no_requests : (lines : List (List ℕ)) (line : List ℕ) → (MakeRequests (lines ++ line ∷ []) → ⊥) → IsRequesting (role_of (line_of line)) → ⊥

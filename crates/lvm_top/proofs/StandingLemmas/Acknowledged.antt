@@ -34,7 +34,7 @@ use Rattle.lvm_line.specs.Lines.{CommandDoes, LineDoes, role_of}
 use Rattle.lvm_line.specs.passed.ReplyVariants as reply
 use Rattle.lvm_volume_plan.specs.declared.new_volume.NewVolume.{NewVolume}
 use Rattle.lvm_top.specs.Standing.{IsToCommit, StoodBefore, is_group_command, is_acknowledged, StandsOf, IsCommitted, OfAnother, WasDrained}
-use Rattle.lvm_top.proofs.StandingLemmas.Volumes.{as_group, held_mid}
+use Rattle.lvm_top.proofs.StandingLemmas.Volumes.{held_mid}
 use Rattle.lvm_top.proofs.StandingLemmas.Copying.{fewer_id, more_id}
 use Rattle.lvm_volume_plan.specs.NewVolume.{without_volume}
 
@@ -163,7 +163,7 @@ module _ (log : Log) (room : Room) (old new : ScriptState) (leaves : LeavesDescr
   by_command (command.Rmlvcopy name copies) acked stood (RemovesCopies core left mid lv some drains its done says) = record {
     core = done.leaves.core;
     on = done.leaves.session;
-    begun = handed_on done.left old new done.leaves (done.rests refl).0 (done.rests refl).1 (done.held refl (held_mid log.run old new leaves named (as_group log.run _ old new stood) core left mid some drains));
+    begun = handed_on done.left old new done.leaves (done.rests refl).0 (done.rests refl).1 (done.held refl (held_mid log.run old new leaves named stood core left mid some drains));
     own = λ k is.
         let fewer = told_and old.session (λ c. (n : ℕ) × IsNumberOf c.descriptor.lvs name n × IsWithFirst n copies c k) core some is in
         fewer_id fewer.0 copies core k fewer.2 ∙ sym (ap (λ (d : Descriptor). d.id) drains.runs.leaves.keeps.descriptor) ∙ sym (ap (λ (c : Core). c.descriptor.id) (done.leaves.is) ∙ ap (λ (c : Core). c.descriptor.id) done.gives.is);

@@ -27,7 +27,7 @@ use Rattle.lvm_session.specs.State.{Core, State, is_there, state}
 use Rattle.lvm_line.specs.passed.Tie.{LeavesDescriptors, IsGood, IsTied}
 use Rattle.lvm_line.proofs.passed.TieCommands.{tied_holds, rests}
 use Rattle.lvm_line.specs.passed.TieCommands.{StandsAfter}
-use Rattle.lvm_line.specs.passed.GroupLines.{IsBrokenOff, OfGroup, OfGroupWhere, ScriptState, StandsAlone, Reply}
+use Rattle.lvm_line.specs.passed.GroupLines.{IsBrokenOff, OfGroup, ScriptState, StandsAlone, Reply}
 use Rattle.lvm_line.specs.passed.VolumeLines.{Drains, IsDone, IsUndrained, StaysOn, MklvDoes, RmlvDoes, NoGroupForMklv, BusyMklv, UndrainedMklv, MakesVolume, MklvFails, NoGroupForRmlv, BusyRmlv, UndrainedRmlv, NoVolumeForRmlv, RemovesVolume, RmlvFails, MklvEnds, RmlvEnds, refusal_for, wanted}
 use Rattle.lvm_line.specs.passed.ReplyVariants as reply
 use Rattle.lvm_line.specs.Lines.{IsLine, LineDoes}
@@ -39,11 +39,6 @@ use Rattle.lvm_volume_plan.specs.declared.fault.GroupFault.{GroupFault}
 use Rattle.lvm_volume_plan.specs.declared.fault.GroupFault.TheVariants as fault
 use Rattle.lvm_volume_plan.specs.NewVolume.{without_volume}
 use Rattle.lvm_volume_plan.specs.Faults.{ends_session}
-
--- what stands before a line that asks for more stands before a command on the group
-pub as_group : (run : ℕ) (Holds : State → Type 0) (old new : ScriptState) → StoodBefore run (OfGroupWhere Holds) old new → StoodBefore run OfGroup old new
-as_group run Holds old new (HeldAtRest rest held) = HeldAtRest rest held
-as_group run Holds old new (StandsSince past first stands begins alone) = StandsSince past first stands begins (record { enters = alone.enters; acts = alone.acts; allowed = tt })
 
 module _ (run : ℕ) (old new : ScriptState) (leaves : LeavesDescriptors old.moment.device) (named : IfSome old.session (λ core. core.history.run ≡ run)) (stood : StoodBefore run OfGroup old new) where
   -- ---- before the command

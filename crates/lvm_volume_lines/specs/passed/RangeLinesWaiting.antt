@@ -1,2 +1,3 @@
 -- Passed on from `lvm_range_lines`.
-pub use Rattle.lvm_range_lines.specs.Waiting.{AtRest, Awaits, Goes, InVain, Over, WaitDoes, WaitEnds, WaitsOff, WaitsOn, WhileOff}
+pub use Rattle.lvm_range_lines.specs.Answers.{TellsAll}
+pub use Rattle.lvm_range_lines.specs.Waiting.{AtRest, Awaits, Goes, InVain, NoGone, Over, WaitDoes, WaitEnds, WaitsOff, WaitsOn, WhileOff}

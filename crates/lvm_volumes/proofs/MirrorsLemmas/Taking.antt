@@ -1,21 +1,19 @@
 -- Copies are removed: the descriptor in which the volume keeps its first ones is committed.
-use Rattle.std.proofs.Common.{◌==◌, ◌≡◌, inl, ℕ, ◌<◌, [], ◌++◌, Option, Some, None, refl, sym, ap, subst, ◌∙◌, arith}
-use Rattle.std.specs.Prelude.{IfSome, List, not, take, IsTrue, IsFalse}
+use Rattle.std.proofs.Common.{◌==◌, ◌≡◌, inl, ℕ, [], Some, sym, ap, subst, ◌∙◌, arith}
+use Rattle.std.specs.Prelude.{List, not, IsFalse}
 use Rattle.lvm_num.specs.declared.place.Pp.{Pp}
 use Rattle.lvm_num.specs.declared.descriptor.LvRow.{LvRow}
 use Rattle.lvm_num.specs.declared.descriptor.Descriptor.{Descriptor}
 use Rattle.lvm_num.specs.declared.status.Status.{Status}
-use Rattle.lvm_num.specs.Descriptor.{copies_of, is_member, volume_of}
+use Rattle.lvm_num.specs.Descriptor.{is_member, volume_of}
 use Rattle.lvm_num.specs.Status.{calls_stale}
-use Rattle.lvm_num.specs.Votes.{all_disks}
 use Rattle.lvm_num.proofs.AmongLemmas.{any_one}
-use Rattle.lvm_disk.specs.Device.{Media, image_of}
-use Rattle.lvm_kept.specs.Contents.{contents_of}
-use Rattle.lvm_kept.specs.Group.{members_in, IsOneOf}
+use Rattle.lvm_disk.specs.Device.{image_of}
+use Rattle.lvm_kept.specs.Contents.{Contents, contents_of}
+use Rattle.lvm_kept.specs.Group.{IsOneOf}
 use Rattle.lvm_kept.specs.Moments.{Moment}
 use Rattle.lvm_kept.proofs.CommittedLemmas.Finding.{images_within}
-use Rattle.lvm_steps.proofs.MakingLemmas.Making.{media_may}
-use Rattle.lvm_commit.specs.Committed.{IsAlike, HoldsCommitted}
+use Rattle.lvm_commit.specs.Committed.{IsAlike}
 use Rattle.lvm_commit.specs.LawsOfVolumes.{VolumeServes}
 use Rattle.lvm_commit.specs.Settling.{NoneIsLeft, MarksLeft}
 use Rattle.lvm_session.specs.State.{Core, State, is_there}
@@ -27,10 +25,12 @@ use Rattle.lvm_volumes.proofs.Leaving.{leaves_wider}
 use Rattle.lvm_volume_plan.specs.Copies.{first_copies}
 use Rattle.lvm_volume_plan.specs.PlannedCopies.{IsWithFewer}
 use Rattle.lvm_volume_plan.proofs.CopiesLemmas.Fewer as fewer
-use Rattle.lvm_volumes.specs.Mirrors.{IfShown, to_take, AreTaken}
-use Rattle.lvm_volumes.proofs.JudgingLemmas.{keeps_with}
+use Rattle.lvm_volume_plan.proofs.CopiesLemmas.Losing.{fresh_stays}
+use Rattle.lvm_session.specs.Judging.{copies_in}
+use Rattle.lvm_volumes.specs.Mirrors.{to_take, AreTaken}
+use Rattle.lvm_volumes.proofs.JudgingLemmas.{copies_by, keeps_with}
 use Rattle.lvm_volumes.proofs.MirrorSettlingLemmas.{none_left}
-use Rattle.lvm_volumes.proofs.LawsOfVolumesLemmas.{first_serve}
+use Rattle.lvm_volumes.proofs.LawsOfVolumesLemmas.{first_serve, lets, removal_is_shown}
 use Rattle.lvm_core.proofs.CommittingLemmas.Committing.{lets_one}
 
 pub take_alike : (lv copies : ℕ) (next : Descriptor) (core : Core) → IsWithFewer lv copies core next → IsAlike next core.descriptor
@@ -67,26 +67,23 @@ module _ (lv copies : ℕ) (next : Descriptor) (a : State) (plan : IsWithFewer l
   pub take_keeps : IsSettled a.core → (b : State) → MarksLeft next a.core.status b.core.status → HasCommitted next a b → KeepsFresh a b
   take_keeps settled b left done = keeps_with lv copies row (first_copies row copies) a b volume next plan.is (ap (λ (x : Core). x.descriptor) done.stated.is) plan.valid left
       (λ lp lt has.
-      let q = any_one (λ (p : Pp). not (calls_stale a.core.status.committed p)) (take copies (copies_of row lp)) (plan.may.keeps.each lp lt) in (
+      let committed : Status = a.core.status.committed in
+      let p = any_one (λ (p : Pp). not (calls_stale a.core.status.wanted p)) (copies_in d lv lp) has in
+      let was : IsFalse (calls_stale committed p.0) = subst (λ (s : Status). IsFalse (calls_stale s p.0)) (sym settled.committed) (not_stale (calls_stale a.core.status.wanted p.0) p.2) in
+      let q = fresh_stays committed row copies lp (plan.may.keeps.each lp lt) (λ (q : Pp). Unit {0}) (λ q one fresh found. tt) p.0 (subst (λ (ps : List Pp). IsOneOf ps p.0) (copies_by d lv lp row volume) p.1) was tt in (
         q.0,
         subst (λ (ps : List Pp). IsOneOf ps q.0) (sym (fewer.first_are d lv copies row plan.group.valid volume plan.may.keeps.shrinks.are.fewer lp lt)) q.1,
-        subst (λ (s : Status). IsFalse (calls_stale s q.0)) settled.committed (not_stale (calls_stale a.core.status.committed q.0) q.2),
+        subst (λ (s : Status). IsFalse (calls_stale s q.0)) settled.committed q.2,
       ))
 
-  -- the descriptor may be committed, where what is kept is shown
-  lets_take : IsSettled a.core → (run : ℕ) (first : Moment) → IsHeldSince run first a → IfShown lv copies a a run first → LetsCommit lv next run first a
-  lets_take settled run first held shown past begins holds = by_media a.device.media refl (held past begins) (shown past begins)
-    where
-      by_media : (o : Option Media) → a.device.media ≡ o
-          → IfSome o (λ media. HoldsCommitted (image_of a.device.sizes media) a.core.descriptor a.core.status.committed (is_there a.core) a.core.status.stamp a.core.homes)
-          → IfSome o (λ media. (r : LvRow) → volume_of d lv ≡ Some r → (lp : ℕ) → lp < r.lps
-          → (p : Pp) × IsOneOf (take copies (copies_of r lp)) p × IsFalse (calls_stale a.core.status.committed p) × IsTrue (members_in (contents_of (image_of a.device.sizes media)) all_disks d.id d p.disk))
-          → IfSome o (λ media. VolumeServes (contents_of (image_of a.device.sizes media)) (past ++ a.core.history.facts) a.core.descriptor lv next)
-      by_media None told shows keeps = tt
-      by_media (Some m) told shows keeps = subst (λ (x : Descriptor). VolumeServes (contents_of (image_of a.device.sizes m)) (past ++ a.core.history.facts) d lv x) (sym plan.is)
-          (first_serve d lv copies row plan.group.valid volume (contents_of (image_of a.device.sizes m)) a.core.status.committed (is_there a.core) (past ++ a.core.history.facts) (images_within (image_of a.device.sizes m))
-          settled.votes shows.shows (holds.kept (image_of a.device.sizes m) (media_may a.device m told)) plan.may.keeps.shrinks.are.fewer (keeps row volume))
+  -- the descriptor may be committed
+  lets_take : IsSettled a.core → (run : ℕ) (first : Moment) → IsHeldSince run first a → LetsCommit lv next run first a
+  lets_take settled = lets a lv next settled.votes (λ m facts told shows kept.
+      let c : Contents = contents_of (image_of a.device.sizes m) in
+      let within = images_within (image_of a.device.sizes m) in
+      subst (λ (x : Descriptor). VolumeServes c facts d lv x) (sym plan.is) (first_serve d lv copies row plan.group.valid volume c a.core.status.committed (is_there a.core) facts within settled.votes shows kept plan.may.keeps.shrinks.are.fewer
+      (removal_is_shown c facts lv copies a.core row settled plan.group.valid within shows kept plan.may.keeps)))
 
   pub take_leaves : IsSettled a.core → (p q : ℕ) (b : State) → Leaves (committing next) p q a b → Leaves (to_take lv copies a.core) p q a b
   take_leaves settled p q b leaves = leaves_wider (committing next) (to_take lv copies a.core) (λ x is. (row, volume, is ∙ plan.is)) (λ pp none. none) (λ pp none. none) (λ pp none. none) (λ lv none. none) (omega arith) p q a b
-      (λ run first held only. ((λ n. n == lv), lets_one lv next run first a (lets_take settled run first held only))) leaves
+      (λ run first held only. ((λ n. n == lv), lets_one lv next run first a (lets_take settled run first held))) leaves

@@ -26,7 +26,8 @@ returns-in-Err-Memory-clause-text g c = unread_tells c.args.words.now _ c.in-Err
 pub returns-in-Ok-clause-sim : goal.returns-in-Ok-clause-sim
 returns-in-Ok-clause-sim g c =
     let is : job_of c.args.words.now ≡ Ok (Sim c.in-Ok-Sim.disks c.in-Ok-Sim.mib) = c.in-Ok-Sim.ensures.job ∙ ap (λ (j : Job). Ok j) c.in-Ok-Sim.field-0-is in
-    on_sim_at _ c.in-Ok-Sim.disks c.in-Ok-Sim.mib is _ (sim_promises _ _ c.in-Ok-Sim.disks c.in-Ok-Sim.mib c.in-Ok.ensures c.run_script-ended.ensures.run c.full_room-in-Ok.ensures, tt)
+    let within = subst IsWithin c.in-Ok-Sim.field-0-is c.in-Ok-Sim.ensures.within in
+    on_sim_at _ c.in-Ok-Sim.disks c.in-Ok-Sim.mib is _ (sim_promises _ _ c.in-Ok-Sim.disks c.in-Ok-Sim.mib within.1 c.in-Ok.ensures c.run_script-ended.ensures.run c.full_room-in-Ok.ensures, tt)
 
 pub returns-in-Ok-blank_shelf-clause-drawn : goal.returns-in-Ok-blank_shelf-clause-drawn
 returns-in-Ok-blank_shelf-clause-drawn g c =

@@ -22,7 +22,7 @@ returns-clause-run g c =
     (first_state g.S.Shelf.device c.args.shelf c.in-Ok-new.history c.in-Ok-take_rooms.posts c.in-Ok-take_rooms.bytes (g.C.Clock.last c.now-run.new.self) c.now-run.result c.args.room c.in-Ok-new.ensures c.in-Ok-take_rooms.ensures.0 c.now-run.ensures.last)
     (ap without_facts c.in-Ok-new.ensures) c.do_lines-done.result.stage c.conclude-shelf.result.shelf c.conclude-shelf.result.history c.conclude-shelf.ensures.concludes c.conclude-shelf.ensures.rooms c.do_lines-done.ensures.rooms c.do_lines-done.result.stop c.do_lines-done.ensures.between c.do_lines-done.ensures.off
     (record { before = record { content = g.I.Source.left c.args.input.now; faults = g.I.Source.faults c.args.input.now }; after = record { content = g.I.Source.left c.do_lines-done.new.input; faults = g.I.Source.faults c.do_lines-done.new.input } }) (record { before = record { content = g.O.Sink.held c.args.out.now; faults = g.O.Sink.faults c.args.out.now }; after = record { content = g.O.Sink.held c.do_lines-done.new.out; faults = g.O.Sink.faults c.do_lines-done.new.out } }) c.do_lines-done.result.refused c.do_lines-done.ensures.goes c.requires.ready
-    (g.C.Clock.last c.args.clock.now) c.status_of.result c.status_of.ensures c.now-run.ensures.later
+    (g.C.Clock.last c.args.clock.now) c.status_of.result c.status_of.ensures c.now-run.ensures.later c.run.ensures.ordered
 
 pub returns-clause-clock : goal.returns-clause-clock
 returns-clause-clock g c =
@@ -38,3 +38,15 @@ do_lines-done-requires-clause-between g c = first_between g.S.Shelf.device c.arg
 
 pub conclude-shelf-requires-clause-between : goal.conclude-shelf-requires-clause-between
 conclude-shelf-requires-clause-between g c = ⊎_elim (λ stuck. inl (c.do_lines-done.ensures.off stuck)) (λ heard. inr (c.do_lines-done.ensures.between heard)) (how_stopped c.do_lines-done.result.stop)
+
+pub returns-in_default-clause-plain : goal.returns-in_default-clause-plain
+returns-in_default-clause-plain g c = (returns-in_default-clause-run g c).plain
+
+pub returns-in_default-new-clause-plain : goal.returns-in_default-new-clause-plain
+returns-in_default-new-clause-plain g c = (returns-in_default-new-clause-run g c).plain
+
+pub returns-in_default-take_rooms-clause-plain : goal.returns-in_default-take_rooms-clause-plain
+returns-in_default-take_rooms-clause-plain g c = (returns-in_default-take_rooms-clause-run g c).plain
+
+pub returns-clause-plain : goal.returns-clause-plain
+returns-clause-plain g c = (returns-clause-run g c).plain

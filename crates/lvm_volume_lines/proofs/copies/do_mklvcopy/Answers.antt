@@ -78,7 +78,7 @@ returns-in-Some g c =
       landed = mklvcopy_bears lv copies left mid new HaveAllLanded landed_bears rested.between.landed done.given done.gives;
       answers = λ range was. mklvcopy_bears lv copies left mid new (λ facts. AreAnswered facts range) (answered_bears range) was done.given done.gives;
       shape = mklvcopy_shape lv copies left mid new done.given done.gives;
-      goes = λ allowed m may alone. mklvcopy_goes_on rested.turned.core.history.run m lv copies left done.after mid new done.given may done.commanded done.gives;
+      goes = λ m may alone. mklvcopy_goes_on rested.turned.core.history.run m lv copies left done.after mid new done.given may done.commanded done.gives;
     })
     (λ log. MklvcopyDoes c.args.name copies)
     (λ last is. mklvcopy_does c.args.name copies lv rested.turned.core left mid done.given _ _ rested.turned.its (drains g.S.Shelf.device c.args.stage c.requires.fits c.requires.between none left driver rested last) c.in-Some.ensures.some is)

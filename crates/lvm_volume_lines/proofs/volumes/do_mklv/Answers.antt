@@ -52,7 +52,7 @@ returns-in-Ok g c =
       landed = mklv_bears HaveAllLanded landed_stays w left mid new rested.between.landed done.given done.gives;
       answers = λ range was. mklv_bears (λ facts. AreAnswered facts range) (answers_stay range) w left mid new was done.given done.gives;
       shape = mklv_shape w left mid new done.given done.gives;
-      goes = λ allowed m may alone. mklv_goes_on rested.turned.core.history.run m w left done.after mid new done.given may alone done.commanded done.gives;
+      goes = λ m may alone. mklv_goes_on rested.turned.core.history.run m w left done.after mid new done.given may alone done.commanded done.gives;
     })
     (λ log. MklvDoes w c.args.group)
     (λ last is. mklv_does w c.args.group rested.turned.core left mid done.given _ _ rested.turned.its (on_some (IsOn c.args.group) (session_in c.args.stage) rested.turned.core (c.if-not-is_on.ensures.on refl) rested.turned.its) (drains g.S.Shelf.device c.args.stage c.requires.fits c.requires.between none left driver rested last) is)

@@ -74,7 +74,7 @@ returns-in-Some g c =
       landed = rmlv_bears HaveAllLanded landed_stays lv left mid new rested.between.landed done.given done.gives;
       answers = λ range was. rmlv_bears (λ facts. AreAnswered facts range) (answers_stay range) lv left mid new was done.given done.gives;
       shape = rmlv_shape lv left mid new done.given done.gives;
-      goes = λ allowed m may alone. rmlv_goes_on rested.turned.core.history.run m lv left done.after mid new done.given may done.commanded done.gives;
+      goes = λ m may alone. rmlv_goes_on rested.turned.core.history.run m lv left done.after mid new done.given may done.commanded done.gives;
     })
     (λ log. RmlvDoes c.args.name)
     (λ last is. rmlv_does c.args.name lv rested.turned.core left mid done.given _ _ rested.turned.its (drains g.S.Shelf.device c.args.stage c.requires.fits c.requires.between none left driver rested last) c.in-Some.ensures.some is)
