@@ -1,5 +1,5 @@
 -- Rows that say what a status says of some disks.
-use Rattle.std.proofs.Common.{◌≡◌, ℕ, zero, suc, ◌+◌, ◌<◌, ◌≤◌, Bool, true, false, cond, ◌&&◌, ◌||◌, List, [], ◌∷◌, ◌++◌, length, get_or, Some, None, refl, sym, ap, subst, ◌∙◌, arith}
+use Rattle.std.proofs.Common.{◌≡◌, ℕ, zero, suc, ◌+◌, ◌<◌, ◌≤◌, Bool, true, false, cond, ◌&&◌, ◌||◌, List, [], ◌∷◌, ◌++◌, length, get_or, Some, refl, sym, ap, subst, ◌∙◌, arith}
 use Rattle.std.specs.Prelude.{◌==◌, map, filter, find, unwrap_or, All, AllPairs}
 use Rattle.std.specs.List.{list_any, range_with_len}
 use Rattle.std.proofs.lemmas.Bool.{eqb-true, eq-eqb}
@@ -9,7 +9,6 @@ use Rattle.std.proofs.lemmas.List.FromFn.{get_or-range_with_len, length-range_wi
 use Rattle.std.proofs.lemmas.List.Folds.{list_any_at, Any-from_list_any}
 use Rattle.std.proofs.lemmas.List.Kept.{AllPairs-filter}
 use Rattle.std.proofs.lemmas.Map.Views.{any-filter_same}
-use Rattle.lvm_num.specs.declared.place.Pp.{Pp}
 use Rattle.lvm_num.specs.declared.descriptor.PvRow.{PvRow}
 use Rattle.lvm_num.specs.declared.descriptor.Descriptor.{Descriptor}
 use Rattle.lvm_num.specs.declared.status.StatusRow.{StatusRow}
@@ -19,8 +18,7 @@ use Rattle.lvm_num.specs.Descriptor.{IsValid, is_member, most_members}
 use Rattle.lvm_num.specs.Status.{IsStatusRow, AreStatusRows, AreDirty, IsValidStatus}
 use Rattle.lvm_num.proofs.BitsLemmas.{has-none}
 use Rattle.lvm_num.proofs.Booleans.{or_when_false}
-use Rattle.lvm_num.proofs.Lists.{range_next, any_map}
-use Rattle.lvm_stale.specs.Table.{has_row}
+use Rattle.lvm_num.proofs.Lists.{range_next}
 use Rattle.lvm_stale.specs.Rerowed.{IsRerowed, HasRowsOf, clear_row, row_for, row_from, disks_in_order}
 use Rattle.lvm_stale.proofs.MarkingLemmas.{any_disk}
 use Rattle.lvm_stale.proofs.RowsLemmas.Places.{Rise, rise-tail, says, silent}

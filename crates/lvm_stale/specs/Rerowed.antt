@@ -1,5 +1,5 @@
 -- What a table says, over the rows of other members.
-use Rattle.std.specs.Prelude.{◌≡◌, ℕ, Bool, false, ◌&&◌, List, replicate, unwrap_or}
+use Rattle.std.specs.Prelude.{◌≡◌, ℕ, false, ◌&&◌, List, replicate, unwrap_or}
 use Rattle.std.specs.List.{range_with_len}
 use Rattle.lvm_num.specs.declared.place.Pp.{Pp}
 use Rattle.lvm_num.specs.declared.descriptor.Descriptor.{Descriptor}

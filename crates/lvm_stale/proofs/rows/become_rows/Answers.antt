@@ -1,4 +1,4 @@
-use Rattle.std.proofs.Common.{◌≡◌, ◌<◌, ◌≤◌, ◌++◌, [], List, length, get_or, set, take, drop, ap, sym, refl, ◌∙◌, arith}
+use Rattle.std.proofs.Common.{◌≡◌, ◌<◌, ◌≤◌, ◌++◌, List, length, get_or, set, drop, ap, ◌∙◌, arith}
 use Rattle.std.specs.Prelude.{map}
 use Rattle.std.proofs.lemmas.List.{take_all, drop_all, append-nil, length-set, get_or_default}
 use Rattle.std.proofs.lemmas.List.Edits.{map_over_more}

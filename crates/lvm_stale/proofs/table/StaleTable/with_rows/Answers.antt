@@ -1,6 +1,4 @@
-use Rattle.std.proofs.Common.{◌≡◌, refl, sym, ap, subst, ◌∙◌}
-use Rattle.lvm_num.specs.declared.status.Status.{Status}
-use Rattle.lvm_stale.specs.Rerowed.{IsRerowed}
+use Rattle.std.proofs.Common.{refl, ◌∙◌}
 use Rattle.lvm_stale.proofs.RerowedLemmas.{made, made_valid}
 use Rattle.lvm_stale.proofs.table.StaleTable.with_rows.Goals as goal
 
