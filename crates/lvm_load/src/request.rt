@@ -6,7 +6,7 @@ ghost use Rattle.lvm_driver.specs.passed.Names.{RunsOn};
 ghost use Rattle.lvm_session.specs.State.{state_of};
 ghost use Rattle.lvm_load.specs.Requests.{ask_of, block_count, bytes_of, first_block};
 
-use crate::words::Draw;
+use lvm_workers::Draw;
 use lvm_disk::Shelf;
 use lvm_driver::Driver;
 use lvm_path::Ask;

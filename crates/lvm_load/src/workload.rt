@@ -11,7 +11,7 @@ ghost use Rattle.lvm_load.specs.Weaving.{FinishesAll, NamesNext, DrawsAll, Weave
 
 use crate::client::{Client, ask, turn};
 use crate::totals::{Totals, totals_since};
-use crate::words::{generator, next_word};
+use lvm_workers::{generator, next_word};
 use lvm_disk::Shelf;
 use lvm_driver::Driver;
 use rand_pcg::Lcg64Xsh32;
