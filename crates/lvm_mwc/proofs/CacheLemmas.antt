@@ -1,22 +1,26 @@
 -- The notes of a disk among those of all.
-use Rattle.std.proofs.Common.{◌≡◌, ◌<◌, ◌≤◌, ◌+◌, ◌++◌, ◌&&◌, ◌||◌, ◌==◌, ℕ, suc, List, [], ◌∷◌, Some, None, Option, Bool, true, false, cond, not, nat_lt, length, reverse, get_or, set, take, refl, sym, ◌∙◌, ap, arith, inl, inr, IsTrue}
-use Rattle.std.specs.Prelude.{is_some, option_and_then}
-use Rattle.std.specs.List.{find, list_any, position, position_or_len}
+use Rattle.std.proofs.Common.{◌≡◌, ◌≢◌, ◌<◌, ◌≤◌, ◌+◌, eqb, drop, subst, ◌++◌, ◌&&◌, ◌||◌, ◌==◌, ℕ, zero, suc, List, [], ◌∷◌, Some, None, Option, Bool, true, false, cond, not, nat_lt, length, reverse, get_or, set, take, refl, sym, ◌∙◌, ap, arith, inl, inr, IsTrue}
+use Rattle.std.specs.Prelude.{is_some, option_and_then, filter, All, AllPairs}
+use Rattle.std.specs.List.{find, list_any, position, position_or_len, remove, IsDistinct}
 use Rattle.std.specs.Option.{option_map_or, option_or}
-use Rattle.std.proofs.lemmas.Bool.{cases_order, lt-ltb, le-ltb, eq-eqb, ne_eqb, and_right}
-use Rattle.std.proofs.lemmas.List.Folds.{find-append, list_any-append}
+use Rattle.std.proofs.lemmas.Bool.{cases_order, lt-ltb, le-ltb, eq-eqb, ne_eqb, eqb-true, eqb-false, and_right}
+use Rattle.std.proofs.lemmas.List.Elements.{All-append, All-cons, All-drop, All-push, All-tail, All-take, recursion_from_All}
+use Rattle.std.proofs.lemmas.List.Folds.{Any-from_list_any, find-append, list_any-append}
+use Rattle.std.proofs.lemmas.List.Quantifiers.{all_pairs_push, all_pairs_remove}
+use Rattle.std.proofs.lemmas.Map.Steps.{length-le_from_distinct_below}
 use Rattle.std.proofs.Math.Seq.{map-set_same}
 use Rattle.lvm_num.specs.declared.record.NoteEntry.{NoteEntry}
 use Rattle.lvm_num.specs.Disks.{has}
 use Rattle.arrayvec.specs.ArrayVec.{ArrayVec}
 use Rattle.lvm_mwc.specs.declared.entries.CacheEntry.{CacheEntry}
 use Rattle.lvm_mwc.specs.declared.notes.DiskNotes.{DiskNotes}
-use Rattle.lvm_mwc.specs.Firsts.{with_first}
+use Rattle.lvm_mwc.specs.Firsts.{with_first, without_first}
 use Rattle.lvm_mwc.specs.Entries.{note_of}
-use Rattle.std.proofs.lemmas.List.{length-take, reverse-append}
+use Rattle.std.proofs.lemmas.List.{length-append, length-take, map-append, reverse-append}
 use Rattle.std.proofs.lemmas.List.Sums.{length-filter, count_by-le-length}
-use Rattle.lvm_mwc.specs.Notes.{is_of_disk, is_in_flight, both_name, names_group, common, disks_of}
+use Rattle.lvm_mwc.specs.Notes.{is_of_disk, is_in_flight, both_name, names_group, common, disks_of, AreDisks}
 use Rattle.lvm_mwc.specs.Cache.{Cached, has_disk, flight_on, flight_names, is_named, after_start, after_end, started, ended, ended_as, no_notes, IsNew}
+use Rattle.lvm_num.proofs.Lists.{pairs_head, pairs_tail}
 use Rattle.lvm_mwc.proofs.FirstsLemmas.{first_at, none_at}
 
 abbrev pub cached : List CacheEntry → List DiskNotes → Cached
@@ -31,7 +35,7 @@ first_on : (disk : ℕ) (notes : List DiskNotes) → position_or_len (λ (d : �
 first_on disk [] = refl
 first_on disk (n ∷ notes) = ap (λ (k : ℕ). cond (not (n.disk == disk)) (1 + k) 0) (first_on disk notes)
 
-as_many : (notes : List DiskNotes) → length (disks_of notes) ≡ length notes
+pub as_many : (notes : List DiskNotes) → length (disks_of notes) ≡ length notes
 as_many [] = refl
 as_many (n ∷ notes) = ap suc (as_many notes)
 
@@ -189,4 +193,109 @@ pub new_disks : (disks n : ℕ) (es : List CacheEntry) (notes : List DiskNotes) 
 new_disks disks n es notes all few none first = record {
   entries = none;
   notes = λ d. first d ∙ ap (λ (b : Bool). cond b (Some (no_notes d)) None) (in_set (has disks d) d n (λ there. omega (arith, few d there, all)));
+}
+
+pub none_first : (disks : ℕ) → AreFirst disks 0 []
+none_first disks d = rw (le-ltb d 0 (omega arith)) refl
+
+pub no_disks : AreDisks 0 []
+no_disks = record { low = λ k d lt. absurd (omega (arith, lt)); differ = λ i j d less lt. absurd (omega (arith, lt)) }
+
+pub next_disk : (n : ℕ) (notes : List DiskNotes) → AreDisks n (disks_of notes) → AreDisks (n + 1) (disks_of (notes ++ no_notes n ∷ []))
+next_disk n notes are = subst (AreDisks (n + 1)) (sym (map-append (λ (m : DiskNotes). m.disk) notes (no_notes n ∷ []))) (record {
+  low = All-push (λ (d : ℕ). d < n + 1) (disks_of notes) n (λ k d lt. (let low = are.low k d lt in omega (arith, low))) (omega arith);
+  differ = all_pairs_push (λ (a b : ℕ). a ≢ b) (disks_of notes) n are.differ (λ k d lt same. (let low = are.low k d lt in omega (arith, low, same)));
+})
+
+pub no_next_disk : (n : ℕ) (disks : List ℕ) → AreDisks n disks → AreDisks (n + 1) disks
+no_next_disk n disks are = record { low = λ k d lt. (let low = are.low k d lt in omega (arith, low)); differ = are.differ }
+
+pub all_disks : (n : ℕ) (disks : List ℕ) → n ≤ 128 → AreDisks n disks → AreDisks 128 disks
+all_disks n disks most are = record { low = λ k d lt. (let low = are.low k d lt in omega (arith, low, most)); differ = are.differ }
+
+-- ---- a disk comes
+
+-- none of the notes is that of a disk that isn't there
+pub absent : (disk : ℕ) (notes : List DiskNotes) → is_some (find (is_of_disk disk) notes) ≡ false → All (λ (d : ℕ). d ≢ disk) (disks_of notes)
+absent disk [] none = λ k d lt. absurd (omega (arith, lt))
+absent disk (n ∷ notes) none = by_test (n.disk == disk) refl none (absent disk notes)
+  where
+    by_test : (t : Bool) → (n.disk == disk) ≡ t → is_some (cond t (Some n) (find (is_of_disk disk) notes)) ≡ false
+        → (is_some (find (is_of_disk disk) notes) ≡ false → All (λ (d : ℕ). d ≢ disk) (disks_of notes)) → All (λ (d : ℕ). d ≢ disk) (disks_of (n ∷ notes))
+    by_test true is none rest = absurd cc
+    by_test false is none rest = All-cons (λ (d : ℕ). d ≢ disk) n.disk (disks_of notes) (eqb-false n.disk disk is) (rest none)
+
+-- none of the disks is it
+pub strange : (s : Cached) (es : List CacheEntry) (notes : List DiskNotes) (disks : List ℕ) (disk : ℕ) → cached es notes ≡ s → disks ≡ disks_of notes → has_disk s disk ≡ false → All (λ (d : ℕ). d ≢ disk) disks
+strange s es notes disks disk seen are apart = subst (All (λ (d : ℕ). d ≢ disk)) (sym are) (absent disk notes (ap (λ (c : Cached). has_disk c disk) seen ∙ apart))
+
+pub one_comes : (disks : List ℕ) (disk : ℕ) → AreDisks 128 disks → disk < 128 → All (λ (d : ℕ). d ≢ disk) disks → AreDisks 128 (disks ++ disk ∷ [])
+one_comes disks disk are low apart = record {
+  low = All-push (λ (d : ℕ). d < 128) disks disk are.low low;
+  differ = all_pairs_push (λ (a b : ℕ). a ≢ b) disks disk are.differ apart;
+}
+
+distinct : (xs : List ℕ) → AllPairs (λ (a b : ℕ). a ≢ b) xs → IsDistinct eqb xs
+unfolding IsDistinct
+distinct [] apart = tt
+distinct (x ∷ xs) apart = (
+  recursion_from_All (λ y. eqb x y ≡ false) xs (λ k d lt. ne_eqb x (get_or xs k d) (apart 0 (suc k) d (omega arith) (omega (arith, lt)))),
+  distinct xs (pairs_tail (λ (a b : ℕ). a ≢ b) x xs apart),
+)
+
+few_disks : (xs : List ℕ) → AreDisks 128 xs → length xs ≤ 128
+few_disks xs are =
+    length-le_from_distinct_below xs 128 (distinct xs are.differ)
+    (λ q some.
+    let found = Any-from_list_any (eqb q) xs some in
+    let low = are.low found.0 found.1 found.2 in
+    omega (arith, low, found.3, eqb-true q found.1 found.4))
+
+-- there is room for it
+pub room_for_one : (disks : List ℕ) (disk : ℕ) → AreDisks 128 disks → disk < 128 → All (λ (d : ℕ). d ≢ disk) disks → length disks < 128
+room_for_one disks disk are low apart = omega (arith, few_disks (disks ++ disk ∷ []) (one_comes disks disk are low apart), length-append disks (disk ∷ []))
+
+pub room_there : (s : Cached) (es : List CacheEntry) (notes : List DiskNotes) (disks : List ℕ) (disk : ℕ) → cached es notes ≡ s → disks ≡ disks_of notes → AreDisks 128 disks → disk < 128 → has_disk s disk ≡ false
+    → length disks < 128
+room_there s es notes disks disk seen are all low apart = room_for_one disks disk all low (strange s es notes disks disk seen are apart)
+
+pub come_in_notes : (notes : List DiskNotes) (row : DiskNotes) → disks_of notes ++ row.disk ∷ [] ≡ disks_of (notes ++ row ∷ [])
+come_in_notes notes row = sym (map-append (λ (n : DiskNotes). n.disk) notes (row ∷ []))
+
+-- ---- a disk goes
+
+others : (disk : ℕ) (notes : List DiskNotes) → All (λ (d : ℕ). d ≢ disk) (disks_of notes) → filter (λ (n : DiskNotes). not (is_of_disk disk n)) notes ≡ notes
+others disk [] none = refl
+others disk (n ∷ notes) none =
+    let is : (n.disk == disk) ≡ false = ne_eqb n.disk disk (none 0 n.disk (omega arith)) in
+    let rest = filter (λ (m : DiskNotes). not (is_of_disk disk m)) notes in
+    ap (λ (b : Bool). cond (not b) (n ∷ rest) rest) is ∙ ap (λ (l : List DiskNotes). n ∷ l) (others disk notes (All-tail (λ (d : ℕ). d ≢ disk) n.disk (disks_of notes) none))
+
+-- where disks differ the first notes of one are all of it
+pub all_but : (disk : ℕ) (notes : List DiskNotes) → AllPairs (λ (a b : ℕ). a ≢ b) (disks_of notes) → without_first (is_of_disk disk) notes ≡ filter (λ (n : DiskNotes). not (is_of_disk disk n)) notes
+all_but disk [] differ = refl
+all_but disk (n ∷ notes) differ = by_test (n.disk == disk) refl (all_but disk notes (pairs_tail (λ (a b : ℕ). a ≢ b) n.disk (disks_of notes) differ))
+  where
+    by_test : (t : Bool) → (n.disk == disk) ≡ t → without_first (is_of_disk disk) notes ≡ filter (λ (m : DiskNotes). not (is_of_disk disk m)) notes
+        → cond t notes (n ∷ without_first (is_of_disk disk) notes) ≡ cond (not t) (n ∷ filter (λ (m : DiskNotes). not (is_of_disk disk m)) notes) (filter (λ (m : DiskNotes). not (is_of_disk disk m)) notes)
+    by_test true is rest = sym (others disk notes (λ k d lt same. pairs_head (λ (a b : ℕ). a ≢ b) n.disk (disks_of notes) differ k d lt (eqb-true n.disk disk is ∙ sym same)))
+    by_test false is rest = ap (λ (l : List DiskNotes). n ∷ l) rest
+
+pub dismissed : (s : Cached) (es : List CacheEntry) (ns : List DiskNotes) (disk k : ℕ) (now : List DiskNotes) → cached es ns ≡ s → position (is_of_disk disk) ns ≡ Some k → AllPairs (λ (a b : ℕ). a ≢ b) (disks_of ns) → now ≡ remove ns k
+    → cached es now ≡ record s { notes = filter (λ (n : DiskNotes). not (is_of_disk disk n)) s.notes }
+dismissed s es ns disk k now seen at differ is = rw (← seen) (ap (cached es) (is ∙ (first_at (is_of_disk disk) ns (no_notes 0) k at).removed ∙ all_but disk ns differ))
+
+pub not_dismissed : (s : Cached) (disk : ℕ) → position (is_of_disk disk) s.notes ≡ None → s ≡ record s { notes = filter (λ (n : DiskNotes). not (is_of_disk disk n)) s.notes }
+not_dismissed s disk at = ap (cached s.entries) (sym (others disk s.notes (absent disk s.notes (ap (λ (o : Option DiskNotes). is_some o) (none_at (is_of_disk disk) s.notes at).found))))
+
+pub go_in_notes : (notes : List DiskNotes) (k : ℕ) → remove (disks_of notes) k ≡ disks_of (remove notes k)
+go_in_notes [] zero = refl
+go_in_notes [] (suc k) = refl
+go_in_notes (n ∷ notes) zero = refl
+go_in_notes (n ∷ notes) (suc k) = ap (λ (l : List ℕ). n.disk ∷ l) (go_in_notes notes k)
+
+pub one_goes : (disks : List ℕ) (k : ℕ) → k < length disks → AreDisks 128 disks → AreDisks 128 (remove disks k)
+one_goes disks k within are = record {
+  low = All-append (λ (d : ℕ). d < 128) (take k disks) (drop (suc k) disks) (All-take (λ (d : ℕ). d < 128) k disks are.low) (All-drop (λ (d : ℕ). d < 128) (suc k) disks are.low);
+  differ = all_pairs_remove (λ (a b : ℕ). a ≢ b) disks k within are.differ;
 }

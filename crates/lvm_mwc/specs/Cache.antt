@@ -1,5 +1,5 @@
 -- What a cache has, and what each call makes of it.
-use Rattle.std.specs.Prelude.{◌≡◌, ℕ, Bool, true, false, List, [], find, Option, Some, None, option_and_then, is_some, if◌then◌else◌}
+use Rattle.std.specs.Prelude.{◌≡◌, ◌≤◌, ℕ, Bool, true, false, List, [], find, Option, Some, None, option_and_then, is_some, if◌then◌else◌}
 use Rattle.std.specs.Option.{option_map_or}
 use Rattle.lvm_num.specs.declared.record.NoteEntry.{NoteEntry}
 use Rattle.lvm_num.specs.Disks.{has}
@@ -79,3 +79,9 @@ ended ok n = option_map_or (λ (flight : ArrayVec NoteEntry). record n { written
 -- after the end of one there
 abbrev pub after_end : Cached → ℕ → Bool → Cached
 after_end c disk ok = record c { notes = with_first (is_of_disk disk) (ended ok) c.notes }
+
+-- lists of these capacities have room for all disks that a shelf may have
+pub record HasRoom (of_disks of_notes of_filters : ℕ) : Type 0 where
+  pub disks : 128 ≤ of_disks
+  pub notes : 128 ≤ of_notes
+  pub filters : 128 ≤ of_filters

@@ -1,5 +1,5 @@
 -- The consistency records of the disks.
-use Rattle.std.specs.Prelude.{◌≡◌, ◌==◌, ◌&&◌, ℕ, Bool, true, false, List, filter, map}
+use Rattle.std.specs.Prelude.{◌≡◌, ◌≢◌, ◌<◌, ◌==◌, ◌&&◌, ℕ, Bool, true, false, List, filter, map, All, AllPairs}
 use Rattle.std.specs.List.{list_any}
 use Rattle.std.specs.Option.{option_map_or}
 use Rattle.lvm_num.specs.declared.record.NoteEntry.{NoteEntry}
@@ -13,6 +13,11 @@ is_of_disk disk n = n.disk == disk
 -- the disks, in the order of their notes
 abbrev pub disks_of : List DiskNotes → List ℕ
 disks_of notes = map (λ (n : DiskNotes). n.disk) notes
+
+-- disks below a number, each at most once
+pub record AreDisks (below : ℕ) (disks : List ℕ) : Type 0 where
+  pub low : All (λ disk. disk < below) disks
+  pub differ : AllPairs (λ a b. a ≢ b) disks
 
 -- whether a note names a track group
 abbrev pub names_group : List NoteEntry → ℕ → ℕ → Bool

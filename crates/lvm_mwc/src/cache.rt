@@ -1,11 +1,12 @@
 //! The cache of track groups.
-ghost use Rattle.std.specs.Prelude.{◌≡◌, ◌≢◌, ◌+◌, ◌<◌, ◌^◌, [], false, position, IsTrue, IfOk, IsSome, IsNone, is_some, All, replicate};
+ghost use Rattle.std.specs.Prelude.{◌≡◌, ◌≢◌, ◌+◌, ◌<◌, ◌≤◌, ◌^◌, [], ◌∷◌, ◌++◌, None, false, not, filter, position, IsTrue, IfOk, IsSome, IsNone, is_some, All, replicate, vec_capacity};
 ghost use Rattle.lvm_num.specs.Note.{IsEntry};
 ghost use Rattle.lvm_mwc.specs.Cache.{IsNew};
+ghost use Rattle.lvm_mwc.specs.Notes.{AreDisks, disks_of, is_of_disk};
 
 use crate::entries::{CacheEntry, make_room, note_of, place_of};
 use crate::notes::{
-    DiskNotes, FILTER, both_name, disks_of, end_flight, filter_of, is_in_flight, passes,
+    DiskNotes, FILTER, ROOM, both_name, disks_of, end_flight, filter_of, is_in_flight, passes,
     place_of_disk,
 };
 use arrayvec::ArrayVec;
@@ -23,7 +24,8 @@ pub enum Pin {
 }
 
 /// At most 62 track groups in the order of their last pin, oldest first, each with its pins; and for
-/// each disk of a set its consistency record, as it was written last and as it is being written.
+/// each disk of a set its consistency record, as it was written last and as it is being written. It has
+/// room for all 128 disks that a shelf may have.
 #[derive(Drop)]
 pub struct Cache {
     entries: ArrayVec<CacheEntry, 62>,
@@ -37,24 +39,27 @@ pub struct Cache {
 
 impl Model for Cache {
     ghost use Rattle.std.specs.Prelude.{◌≡◌};
-    ghost use Rattle.lvm_mwc.specs.Cache.{Cached};
+    ghost use Rattle.std.specs.Prelude.{vec_capacity};
+    ghost use Rattle.lvm_mwc.specs.Cache.{Cached, HasRoom};
     ghost use Rattle.lvm_mwc.specs.Entries.{AreEntries};
     ghost use Rattle.lvm_mwc.specs.Filters.{AreFilters};
-    ghost use Rattle.lvm_mwc.specs.Notes.{disks_of};
+    ghost use Rattle.lvm_mwc.specs.Notes.{AreDisks, disks_of};
 
     ghost Value = { Cached };
 
     ghost view = { λ c. record { entries = c.entries.items; notes = c.notes.items } };
 
-    ghost invariant = { λ c. AreEntries c.entries.items × AreFilters c.notes.items c.filters.items × (c.disks.items ≡ disks_of c.notes.items) };
+    ghost invariant = { λ c. AreEntries c.entries.items × AreFilters c.notes.items c.filters.items × (c.disks.items ≡ disks_of c.notes.items) × AreDisks 128 c.disks.items × HasRoom (vec_capacity c.disks) (vec_capacity c.notes) (vec_capacity c.filters) };
 }
 
 // The notes of the disks of a set, which name nothing.
 fn blank_notes(alloc: Global, disks: DiskSet) -> Result<Vec<DiskNotes>, Memory>
     ensures new { IfOk result (λ notes. IsNew disks (record { entries = []; notes = notes.items })) }
     ensures blank { IfOk result (λ notes. All (λ n. n.written.items ≡ []) notes.items) }
+    ensures disks { IfOk result (λ notes. AreDisks 128 (disks_of notes.items)) }
+    ensures room { IfOk result (λ notes. 128 ≤ vec_capacity notes) }
 {
-    let mut notes = Vec::new(alloc);
+    let mut notes = Vec::with_capacity(alloc, ROOM)?;
     for disk in 0..128 {
         if disks.has(disk) {
             notes.push(DiskNotes {
@@ -69,16 +74,17 @@ fn blank_notes(alloc: Global, disks: DiskSet) -> Result<Vec<DiskNotes>, Memory>
 
 // So many filters that pass nothing.
 fn closed_filters(alloc: Global, count: usize) -> Result<Vec<[bool; FILTER]>, Memory>
-    ensures { IfOk result (λ filters. filters.items ≡ replicate count (replicate 512 false)) }
+    ensures closed { IfOk result (λ filters. filters.items ≡ replicate count (replicate 512 false)) }
+    ensures room { IfOk result (λ filters. 128 ≤ vec_capacity filters) }
 {
-    let mut filters = Vec::new(alloc);
+    let mut filters = Vec::with_capacity(alloc, ROOM)?;
     filters.resize(count, [false; FILTER])?;
     Ok(filters)
 }
 
 impl Cache {
     ghost use Rattle.lvm_mwc.specs.Entries.{is_entry, pins_of, note_of, AreEntries};
-    ghost use Rattle.lvm_mwc.specs.Cache.{Cached, IsNew, has_disk, flight_on, flight_names, is_named, pin_answer, after_pin, after_unpin, after_start, after_end};
+    ghost use Rattle.lvm_mwc.specs.Cache.{Cached, IsNew, has_disk, no_notes, flight_on, flight_names, is_named, pin_answer, after_pin, after_unpin, after_start, after_end};
 
     /// An empty cache for a set of disks, whose notes name nothing. It takes all the memory that it
     /// ever needs.
@@ -94,6 +100,33 @@ impl Cache {
             notes,
             filters,
         })
+    }
+
+    /// A disk that isn't in the set comes into it, with a note that names nothing. It takes no memory.
+    pub fn admit(&mut self, disk: u16)
+        requires apart { has_disk self.old disk ≡ false }
+        requires disk { disk < 128 }
+        ensures { self.new ≡ record self.old { notes = self.old.notes ++ no_notes disk ∷ [] } }
+    {
+        self.disks.push_reserved(disk);
+        self.notes.push_reserved(DiskNotes {
+            disk,
+            written: ArrayVec::new(),
+            flight: None,
+        });
+        self.filters.push_reserved([false; FILTER]);
+    }
+
+    /// A disk on which no note is in flight leaves the set; one that isn't in it changes nothing.
+    pub fn dismiss(&mut self, disk: u16)
+        requires still { flight_on self.old disk ≡ None }
+        ensures { self.new ≡ record self.old { notes = filter (λ n. not (is_of_disk disk n)) self.old.notes } }
+    {
+        if let Some(place) = place_of_disk(&self.disks, disk) {
+            self.disks.remove(place);
+            self.notes.remove(place);
+            self.filters.remove(place);
+        }
     }
 
     /// The place of a track group, from 0 for the one whose last pin is the oldest.

@@ -1,5 +1,5 @@
 //! The consistency records of the disks, as they are written.
-ghost use Rattle.std.specs.Prelude.{◌≡◌, ◌==◌, position, IfOk};
+ghost use Rattle.std.specs.Prelude.{◌≡◌, ◌≤◌, ◌==◌, position, IfOk, vec_capacity};
 ghost use Rattle.lvm_mwc.specs.Cache.{ended};
 ghost use Rattle.lvm_mwc.specs.Filters.{PassesAll, passes};
 ghost use Rattle.lvm_mwc.specs.Notes.{names_group, both_name, is_in_flight, common, disks_of};
@@ -21,9 +21,10 @@ pub struct DiskNotes {
 
 // The disks, in the order of their notes.
 pub fn disks_of(alloc: Global, notes: &[DiskNotes]) -> Result<Vec<u16>, Memory>
-    ensures { IfOk result (λ disks. disks.items ≡ disks_of notes.now) }
+    ensures disks { IfOk result (λ disks. disks.items ≡ disks_of notes.now) }
+    ensures room { IfOk result (λ disks. 128 ≤ vec_capacity disks) }
 {
-    let mut disks = Vec::new(alloc);
+    let mut disks = Vec::with_capacity(alloc, ROOM)?;
     for row in notes {
         disks.push(row.disk)?;
     }
@@ -91,6 +92,9 @@ pub fn end_flight(notes: &mut DiskNotes, ok: bool)
         };
     }
 }
+
+/// How many disks a cache has room for: all that a shelf may have.
+pub(crate) const ROOM: usize = 128;
 
 /// How many numbers of track groups a filter tells apart.
 pub(crate) const FILTER: usize = 512;

@@ -31,4 +31,6 @@ invariant_of-self c =
       c.self.invariant.0,
       filters_set notes c.self.inside.filters.items at row c.self.invariant.1 within c.filter_of.result pass,
       disks_ended c.args.ok notes c.self.inside.disks.items at row c.index_mut.result.now c.self.invariant.2 (c.end_flight.ensures ∙ ap (ended c.args.ok) c.index_mut.ensures.value),
+      c.self.invariant.3,
+      c.self.invariant.4,
     )

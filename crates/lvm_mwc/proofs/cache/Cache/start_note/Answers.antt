@@ -32,6 +32,8 @@ invariant_of-self c =
             c.self.invariant.0,
             filters_kept notes c.self.inside.filters.items w.in-Some.place _ c.self.invariant.1 first.within row (ap (λ (n : DiskNotes). n.written) w.index_mut.ensures.value),
             disks_same notes c.self.inside.disks.items w.in-Some.place _ row c.self.invariant.2 (ap (λ (n : DiskNotes). n.disk) w.index_mut.ensures.value),
+            c.self.invariant.3,
+            c.self.invariant.4,
           )
       | in_default w ↦ rw w.self-inside-is c.self.invariant
     ]

@@ -24,7 +24,7 @@ after : (c : goal.After-self-1) → refill (length c.self.inside.entries.items) 
 after c = unpinned c.self.inside.entries.items c.deref_mut.result.now c.args.lv c.args.group c.in-Some.place blank c.deref_mut.ensures.value (looked_for (is_entry c.args.lv c.args.group) c.self.inside.entries.items c.deref.result.now (Some c.in-Some.place) c.deref.ensures.0 c.in-Some.ensures)
 
 pub invariant_of-self : goal.invariant_of-self
-invariant_of-self c = (rw (after c) (unpinned_entries c.self.inside.entries.items c.args.lv c.args.group c.self.invariant.0), c.self.invariant.1, c.self.invariant.2)
+invariant_of-self c = (rw (after c) (unpinned_entries c.self.inside.entries.items c.args.lv c.args.group c.self.invariant.0), c.self.invariant.1, c.self.invariant.2, c.self.invariant.3, c.self.invariant.4)
 
 pub returns-in-Some-clause-cache : goal.returns-in-Some-clause-cache
 returns-in-Some-clause-cache c = ap (λ (es : List CacheEntry). cached es c.self.inside.notes.items) (after c) ∙ ap (λ (s : Cached). after_unpin s c.args.lv c.args.group) c.self.view_is
