@@ -52,19 +52,17 @@ ends_unforced : {log : Log} {room : Room} {mid last : ScriptState} {done : List 
 ends_unforced (AtLine same) each = tt
 ends_unforced (InLine line answer said front rest says split it) each = each line (inl refl)
 
+-- each is one of the script's
+line_of_run : (r : Run) (ran : IsRun r) (bytes : List ℕ) → r.input.before.content ≡ Some bytes → HasNowhere (codes "-f") bytes → (line : List ℕ) → IsOneOf (ran.lines.lines ++ ran.lines.done) line → IsUnforced line
+line_of_run r ran bytes told nowhere line one =
+    let read = ran.lines.read bytes told in
+    line_unforced bytes line nowhere (subst (λ (ls : List (List ℕ)). IsOneOf ls line) (sym read.1) (one_of_left (ran.lines.lines ++ ran.lines.done) read.0 line one))
+
 ran_unforced : (r : Run) (ran : IsRun r) (bytes : List ℕ) → r.input.before.content ≡ Some bytes → HasNowhere (codes "-f") bytes → RanUnforced ran
-ran_unforced r ran bytes told nowhere = (script_unforced ran.lines.script (λ line one. each line (one_of_left lines done line one)), ends_unforced ran.lines.ends (λ line one. each line (one_of_right lines done line one)))
-  where
-    lines : List (List ℕ)
-    lines = ran.lines.lines
-
-    done : List (List ℕ)
-    done = ran.lines.done
-
-    each : (line : List ℕ) → IsOneOf (lines ++ done) line → IsUnforced line
-    each line one =
-        let read = ran.lines.read bytes told in
-        line_unforced bytes line nowhere (subst (λ (ls : List (List ℕ)). IsOneOf ls line) (sym read.1) (one_of_left (lines ++ done) read.0 line one))
+ran_unforced r ran bytes told nowhere = (
+  script_unforced ran.lines.script (λ line one. line_of_run r ran bytes told nowhere line (one_of_left ran.lines.lines ran.lines.done line one)),
+  ends_unforced ran.lines.ends (λ line one. line_of_run r ran bytes told nowhere line (one_of_right ran.lines.lines ran.lines.done line one)),
+)
 
 -- what it upholds
 pub plainly : (r : Run) → IsRun r → UpholdsPlainly r.input.before.content r.named r.entry r.exit (facts_of r.history)

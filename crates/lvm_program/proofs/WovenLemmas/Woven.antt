@@ -49,7 +49,7 @@ use Rattle.lvm_program.specs.Woven.{AreMadeAlone, Drawn, EndsWoven, Exit, GoesWo
 use Rattle.lvm_top.proofs.MomentsLemmas.{told_behind, told_earlier}
 use Rattle.lvm_program.proofs.WovenLemmas.Making.{group_reads, group_unforced, volume_reads, volume_unforced}
 use Rattle.lvm_program.proofs.SimLemmas.{sim_few, sim_told}
-use Rattle.lvm_top.proofs.ScriptLemmas.Concluding.{Concluded, closed_concluded, concluded, off_still}
+use Rattle.lvm_top.proofs.ScriptLemmas.Concluding.{Concluded, closed_concluded, concluded, each_is_ahead, off_still}
 use Rattle.lvm_top.proofs.TurnLemmas.{stuck_is_off}
 use Rattle.lvm_top.proofs.RecoveredLemmas.{HasNoPassiveOn}
 use Rattle.lvm_top.proofs.OneGroupLemmas.{alone_so, blank_finds_one, not_more, script_one}
@@ -376,7 +376,7 @@ module _ (disks mib : ℕ) (load : Workload) (r : Run) (ready : IsReady r.entry)
     where
       by : ConcludesSo r.named goes.answer goes.end (exit_from r).moment → IsAhead r.named (goes.end.last + 1) r.exit (facts_of r.history)
       by (Unheard stuck same) = subst (λ (m : Moment). IsAhead r.named (goes.end.last + 1) m.device m.facts) (sym same) (made.left (timely clock))
-      by (Heard heard its) = its.left (made.timely heard (timely clock))
+      by (Heard heard its) = each_is_ahead r.named (goes.end.last + 1) r.exit (facts_of r.history) (its.left (made.timely heard (timely clock)))
 
   pub woven_upheld : IsWovenAlone goes → IsBehind r.named r.entry → IsUpheld r.named r.entry r.exit (facts_of r.history)
   woven_upheld alone clock = span_upholds r.named r.entry r.exit (facts_of r.history) (spanned clock alone)

@@ -91,7 +91,7 @@ module _ (end : ScriptState) (exit : Moment) (between : IsBetween end.moment end
     closed_each = closed_ahead OfRequests end core last (record { alone = λ new alone. alone.acts tt; session = some; facts = facts; volumes = vols; between = between; leaves = runs.leaves; sound = sound }) behind closed entries refl heard
 
 -- what is ahead of each crash image is ahead of the disks
-each_is_ahead : (run moment : ℕ) (device : Device) (facts : List Fact) → IsAheadEach run moment device facts → IsAhead run moment device facts
+pub each_is_ahead : (run moment : ℕ) (device : Device) (facts : List Fact) → IsAheadEach run moment device facts → IsAhead run moment device facts
 each_is_ahead run moment device facts ahead = record { run_is = ahead.run_is; later = ahead.later; behind = each_is_behind moment device ahead.behind }
 
 -- the span, and the clock
