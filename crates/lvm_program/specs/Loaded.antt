@@ -22,10 +22,11 @@ use Rattle.lvm_top.specs.passed.Tie.{RunsOn}
 use Rattle.lvm_line.specs.passed.ReplyVariants as reply
 use Rattle.lvm_top.specs.passed.HolderVariants as holder
 use Rattle.lvm_top.specs.passed.GroupLines.{Holder, IsAlone, IsClosed, OfRequests, Reply, ScriptState}
+use Rattle.lvm_top.specs.declared.status.ExitStatus.{ExitStatus}
 use Rattle.lvm_top.specs.declared.status.ExitStatus.TheVariants as ended
 use Rattle.lvm_top.specs.Refused.{IsForCause}
 use Rattle.lvm_top.specs.Run.{Run, exit_state}
-use Rattle.lvm_top.specs.Script.{empty_log, entry_state, facts_of}
+use Rattle.lvm_top.specs.Script.{Passage, empty_log, entry_state, facts_of}
 use Rattle.lvm_program.specs.Woven.{EndsRefused, Exit, TellsWoven, exit_from, refusals_told}
 use Rattle.lvm_program.specs.declared.load.LoadWords.{LoadWords}
 
@@ -69,15 +70,15 @@ pub record IsLoadedOver (lv blocks : ℕ) (load : Load) (first : State) (exit : 
   pub facts : exit.facts ≡ end.core.history.facts
 
 -- the totals are told, or nothing where no memory was found for the workers
-abbrev pub TellsLoaded : Option Woven → ℕ → Exit → Type 0
-TellsLoaded None requests exit = (exit.status ≡ ended.Memory) × (exit.refused ≡ 0) × (exit.out.after ≡ exit.out.before)
-TellsLoaded (Some woven) requests exit = TellsWoven woven requests exit.status exit.out × (exit.refused ≡ refusals_told woven)
+abbrev pub TellsLoaded : Option Woven → ℕ → ExitStatus → ℕ → Passage → Type 0
+TellsLoaded None requests status refused out = (status ≡ ended.Memory) × (refused ≡ 0) × (out.after ≡ out.before)
+TellsLoaded (Some woven) requests status refused out = TellsWoven woven requests status out × (refused ≡ refusals_told woven)
 
 -- The run makes its load over this session, and tells its totals.
 pub record HasLoadedOver (lv blocks : ℕ) (load : Load) (first : State) (exit : Exit) : Type 0 where
   pub woven : Option Woven
   pub made : IsLoadedOver lv blocks load first exit.moment woven
-  pub tells : TellsLoaded woven load.requests exit
+  pub tells : TellsLoaded woven load.requests exit.status exit.refused exit.out
 
 -- How a run ends behind its line: its answer is told where it isn't `ok`; or that the group has no such volume; or the load is made, and told.
 pub data EndsLoaded (words : LoadWords) (answer : Reply) (run : ℕ) (end : Moment) (on : Option Core) (exit : Exit) : Type 0 where

@@ -150,6 +150,25 @@ fn serve<S: Shelf + Send, R: Threads + Wait + Sync>(
     }
 }
 
+// Tells the totals of a load, or nothing where no memory was found for its workers. Answers the status, and how many refusals
+// were told.
+fn tell_load<O: Sink>(
+    alloc: Global,
+    out: &mut O,
+    woven: Option<Woven>,
+    requests: u32,
+) -> (ExitStatus, u32)
+    ensures { TellsLoaded woven requests result.0 result.1 (passage O.held O.faults out.old out.new) }
+{
+    match woven {
+        None => (ExitStatus::Memory, 0),
+        Some(woven) => (
+            tell_woven(alloc, out, &woven, requests),
+            refusals_told(&woven),
+        ),
+    }
+}
+
 // Makes a load over a session that serves requests, and tells its totals.
 fn load<S: Shelf + Send, O: Sink, R: Threads + Wait + Sync>(
     rt: &R,
@@ -171,13 +190,7 @@ fn load<S: Shelf + Send, O: Sink, R: Threads + Wait + Sync>(
 {
     let Loaded { closed, woven } = serve(rt, alloc, driver, posts, bytes, volume, load);
     let Closed { shelf, history } = closed;
-    let (status, refused) = match woven {
-        None => (ExitStatus::Memory, 0),
-        Some(woven) => (
-            tell_woven(alloc, out, &woven, load.requests),
-            refusals_told(&woven),
-        ),
-    };
+    let (status, refused) = tell_load(alloc, out, woven, load.requests);
     Ended {
         status,
         refused,

@@ -1,6 +1,6 @@
 -- What the line asks for that varies a group on, and what it leaves.
 use Rattle.std.proofs.Common.{◌≡◌, ◌⊎◌, ◌≤◌, ◌<◌, ◌+◌, ◌-◌, ◌++◌, ◌==◌, ◌&&◌, ◌||◌, not, cond, ℕ, zero, suc, List, [], ◌∷◌, length, take, Bool, true, false, Option, Some, None, IfSome, Result, Ok, Err, refl, sym, ◌∙◌, ap, ap₂, subst, append_assoc, length-append, arith, nat_lt, nat_le}
-use Rattle.std.specs.Prelude.{codes, nat_eq, position}
+use Rattle.std.specs.Prelude.{IsSomeAnd, codes, nat_eq, position}
 use Rattle.std.specs.List.{list_all, starts_with, prefix_len}
 use Rattle.std.proofs.lemmas.Bool.{and_parts}
 use Rattle.std.proofs.lemmas.Bool.Decides.{nat_tests}
@@ -8,6 +8,7 @@ use Rattle.std.proofs.lemmas.List.{append-nil, take_all}
 use Rattle.lvm_num.specs.Name.{is_letter, is_name, is_name_byte}
 use Rattle.lvm_num.proofs.NameLemmas.{length-name, no_name}
 use Rattle.lvm_disk.specs.Device.{Device}
+use Rattle.lvm_io.specs.Count.{next_count}
 use Rattle.lvm_vol.specs.Facts.{Fact, On}
 use Rattle.lvm_vol.specs.Fronts.{own}
 use Rattle.lvm_vol.specs.Log.{Log}
@@ -17,16 +18,17 @@ use Rattle.lvm_parse.specs.Grammar.{line_of, readable, rows, rule}
 use Rattle.lvm_operands.specs.declared.rest.Misfit.{Misfit}
 use Rattle.lvm_operands.specs.Bytes.{is_plain, too_long_or, unreadable_at}
 use Rattle.lvm_operands.specs.Line.{Left, WordAt, finished, left_at, words_from}
-use Rattle.lvm_operands.specs.Reading.{ends, operand, option}
+use Rattle.lvm_operands.specs.Reading.{ends, operand, option, then_}
 use Rattle.lvm_core.specs.declared.parts.Room.{Room}
 use Rattle.lvm_core.specs.declared.refused.Cause.{Cause}
 use Rattle.lvm_session.specs.State.{Core}
-use Rattle.lvm_line.specs.Lines.{IsLine, LineDoes}
+use Rattle.lvm_line.specs.Lines.{IsLine, LineDoes, asked_after}
 use Rattle.lvm_line.specs.passed.GroupLines.{IsLeft, NoVaryonWhileOn, Reply, ScriptState, Varies, VaryonDoes, itself, log_with, outcome_of, patience_of_line}
 use Rattle.lvm_line.specs.passed.Quiesce.{RefusedAtOnce, StayedOut, VaryonOnceQuiet, WentQuiet}
 use Rattle.lvm_line.specs.passed.ReplyVariants as reply
 use Rattle.lvm_load.specs.Loading.{IsFresh}
 use Rattle.lvm_program.specs.Loaded.{varyon_line}
+use Rattle.lvm_program.specs.Woven.{asked_woven}
 
 -- ---- the words of the line
 
@@ -68,7 +70,7 @@ none_bad : (line : List ℕ) → list_all is_plain line ≡ true → prefix_len 
 none_bad [] all = refl
 none_bad (b ∷ line) all =
     let parts = and_parts (is_plain b) (list_all is_plain line) all in
-    ap (λ (t : Bool). cond (not (not t)) (1 + prefix_len (λ b. not (not (is_plain b))) line) 0) parts.0 ∙ ap (λ (n : ℕ). 1 + n) (none_bad line parts.1)
+    ap (λ (t : Bool). cond (not (not t)) (1 + prefix_len (λ b. not (not (is_plain b))) line) 0) parts.0 ∙ (let rest = none_bad line parts.1 in omega (arith, rest))
 
 not_less : (n : ℕ) → nat_lt n n ≡ false
 not_less n = grind (arith, nat_tests)
@@ -102,12 +104,12 @@ varyon_reads [] is = let no = no_name [] refl in absurd (cc (no, is))
 varyon_reads (b ∷ bs) is =
     let parts = name_bytes b bs is in
     let all : list_all is_name_byte (b ∷ bs) ≡ true = rw (letter_of_name b parts.0, parts.1) refl in
-    let few : length (first_part ++ b ∷ bs) ≤ 4096 = let short = length-name (b ∷ bs) is in omega (arith, short) in
+    let few : length (first_part ++ b ∷ bs) ≤ 4096 = let short = length-name (b ∷ bs) is in omega (arith, short, length-append first_part (b ∷ bs)) in
     let plain : list_all is_plain (first_part ++ b ∷ bs) ≡ true = names_print (b ∷ bs) all in
     let its_words : words_from 10 [] (b ∷ bs) ≡ finished (10 + length (b ∷ bs)) (b ∷ bs) [] = one_word 10 [] (b ∷ bs) all in
     ap (λ (o : Option ℕ). readable o (left_at 1 (varyon_line (b ∷ bs)))) (all_readable (varyon_line (b ∷ bs)) plain few)
     ∙ ap (λ (words : List WordAt). readable None (record { words = record { column = 1; bytes = codes "varyonvg" } ∷ words; end = 1 + length (varyon_line (b ∷ bs)) })) its_words
-    ∙ ap (λ (read : Result Command Misfit). Rattle.lvm_operands.specs.Reading.then_ read (λ c. Ok (Some c))) (reads_name b bs (10 + length (b ∷ bs) - length (b ∷ bs)) (1 + length (varyon_line (b ∷ bs))) (no_hyphen b parts.0) is)
+    ∙ ap (λ (read : Result Command Misfit). then_ read (λ c. Ok (Some c))) (reads_name b bs (10 + length (b ∷ bs) - length (b ∷ bs)) (1 + length (varyon_line (b ∷ bs))) (no_hyphen b parts.0) is)
 
 -- ---- what it leaves
 
@@ -144,3 +146,10 @@ varied_fresh log room name old new is none answer ok line = by new.session (vari
     by : (on : Option Core) → IfSome on (λ core. (m : ℕ) × (core.history.facts ≡ old.moment.facts ++ On m ∷ [])) → IfSome on (λ core. IsFresh core.history.facts)
     by None holds = tt
     by (Some core) (m, only) = only_fresh core.history.facts m (only ∙ ap (λ (facts : List Fact). facts ++ On m ∷ []) none)
+
+-- ---- how often the clock is asked
+
+pub varyon_asks : (name : List ℕ) → is_name name ≡ true → (line : List ℕ) → line ≡ varyon_line name → (asked begun now : ℕ) → begun ≡ next_count asked → (P : Log → Type 0) (h : Option Log) → IsSomeAnd h P → now ≡ asked_after (line_of line) begun → now ≡ asked_woven h asked
+varyon_asks name is line same asked begun now once P None some has = absurd some
+varyon_asks name is line same asked begun now once P (Some log) some has =
+    has ∙ ap (λ (l : List ℕ). asked_after (line_of l) begun) same ∙ ap (λ (read : Result (Option Command) Misfit). asked_after read begun) (varyon_reads name is) ∙ ap next_count once
