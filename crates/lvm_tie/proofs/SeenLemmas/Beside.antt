@@ -1,5 +1,5 @@
 -- A session sees no partition beside the group's copies: what is said of one beside them is said of the copies then.
-use Rattle.std.proofs.Common.{◌≡◌, ◌↔◌, ℕ, Bool, true, List, Option, Some, None, ap, subst, ◌∙◌, sym}
+use Rattle.std.proofs.Common.{◌≡◌, ◌↔◌, ℕ, Bool, true, false, List, Option, Some, None, ap, subst, ◌∙◌, sym}
 use Rattle.std.specs.Prelude.{IsTrue}
 use Rattle.lvm_num.specs.declared.place.Pp.{Pp}
 use Rattle.lvm_num.specs.declared.descriptor.LvRow.{LvRow}
@@ -15,6 +15,7 @@ use Rattle.lvm_invariant.specs.State.{Beside, ModelState}
 use Rattle.lvm_invariant.specs.Found.{Votes}
 use Rattle.lvm_invariant.specs.Good.{Good}
 use Rattle.lvm_invariant.specs.MoveStatus.{Moves, moved}
+use Rattle.lvm_crash.specs.Copies.{IsCopyOf}
 use Rattle.lvm_crash.specs.Session.{Describes, HasVolumes, IsPlaceOf, Shows, as_marks, marks_of, marks_shown}
 use Rattle.lvm_crash.specs.Records.{StatusEnded, statuses_of}
 use Rattle.lvm_crash.proofs.RecordsLemmas.Quiet.{updates_last}
@@ -24,6 +25,19 @@ pub plain_copies : {v : ModelState} {facts : List Fact} {group : Descriptor} {me
     → (row : LvRow) (lp b : ℕ) (p : Pp) → IsOneOf group.lvs row → IsBlockOf group.mib row lp b → IsTrue (v.is_copy row.number b p) ↔ (IsOneOf (copies_of row lp) p × IsTrue (members p.disk))
 plain_copies {v} {facts} {group} {members} none volumes row lp b p one inside =
     subst (λ (o : Option Beside). IsTrue (v.is_copy row.number b p) ↔ (IsPlaceOf o row lp b p × IsTrue (members p.disk))) none (volumes.copies row lp b p one inside)
+
+-- so each of them is one
+pub plain_copy : {v : ModelState} {facts : List Fact} {group : Descriptor} {members : Disks} → v.beside ≡ None → HasVolumes v facts group members → (lv b : ℕ) (p : Pp) → IsTrue (v.is_copy lv b p) → IsCopyOf group lv b p
+plain_copy {v} {facts} {group} {members} none volumes lv b p copy =
+    let inside = volumes.inside lv b p copy in
+    record {
+      row = inside.row;
+      lp = inside.lp;
+      volume = inside.volume;
+      number = inside.number;
+      inside = inside.inside;
+      copy = ((plain_copies none volumes inside.row inside.lp b p inside.volume inside.inside).0 (subst (λ (n : ℕ). IsTrue (v.is_copy n b p)) (sym inside.number) copy)).0;
+    }
 
 -- the marks that it sees are those that stand
 pub plain_status : {v : ModelState} {group : Descriptor} {update : Option (Stamped Status)} {c : Contents} → v.beside ≡ None → Shows v group update c → (d : ℕ) → v.media.status d ≡ marks_shown None group.id (c.status d)

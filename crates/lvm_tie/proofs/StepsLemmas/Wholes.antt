@@ -40,7 +40,7 @@ use Rattle.lvm_crash.specs.Session.{Describes, marks_of}
 use Rattle.lvm_crash.specs.Copies.{IsCopyOf}
 use Rattle.lvm_crash.specs.Owned.{OnlyUpdateSince}
 use Rattle.lvm_crash.proofs.CopiesLemmas.{one_block}
-use Rattle.lvm_crash.proofs.OwnedLemmas.{copy_of}
+use Rattle.lvm_tie.proofs.SeenLemmas.Beside.{plain_copy}
 use Rattle.lvm_crash.proofs.WritingLemmas.{pp_same}
 use Rattle.lvm_tie.specs.Seen.{Sees, SeesRunning, passed_by, update_of}
 use Rattle.lvm_tie.specs.Tied.{IsTied}
@@ -184,7 +184,7 @@ module _ (past : List Fact) (old new : State) (at : ℕ) (tied : IsTied past old
         inside = record { inside = its_part.lp; partition = of_b.0 };
         copy = its_part.among;
       } in
-      let mine = (copy_of core.descriptor valid v v.facts _ tied.good.sound.tied tied.describes.volumes lv b c.pp copy).0 in
+      let mine = plain_copy tied.sees.beside tied.describes.volumes lv b c.pp copy in
       let sector : sector_of group_mib c.pp.pp b ≡ sector_of group_mib c.pp.pp b2 = (let r = of_b.1 in omega (arith, r)) in
       let one = one_block core.descriptor lv b c.lv b2 c.pp c.pp valid mine other refl sector in
       let groups : groups_of core ≡ 8 * group_mib = groups_are past old tied c its_part (less past old new at tied sectors event) in
