@@ -66,4 +66,4 @@ NothingMayFail =
 -- And some line is answered without a refusal in which nothing failed.
 abbrev pub NothingMayFailAnswered : Type 0
 NothingMayFailAnswered =
-    (log : Log) (room : Room) → (line text : List ℕ) × (old : ScriptState) × (new : ScriptState) × IsLine log room line (reply.Answers text 0) old new × NothingFailed (line_of line) old new
+    (log : Log) (room : Room) → (line : List ℕ) × (text : List ℕ) × (old : ScriptState) × (new : ScriptState) × IsLine log room line (reply.Answers text 0) old new × NothingFailed (line_of line) old new

@@ -228,18 +228,18 @@ Stands part bytes = (before : List ℕ) × ((after : List ℕ) × (bytes ≡ bef
 
 -- what stands behind a front stands in all
 pub stands_behind : (front part bytes : List ℕ) → Stands part bytes → Stands part (front ++ bytes)
-stands_behind front part bytes it = (front ++ it.0, it.1.0, ap (λ (l : List ℕ). front ++ l) it.1.1 ∙ sym (append_assoc front it.0 (part ++ it.1.0)))
+stands_behind front part bytes it = (front ++ it.0, (it.1.0, ap (λ (l : List ℕ). front ++ l) it.1.1 ∙ sym (append_assoc front it.0 (part ++ it.1.0))))
 
 -- what stands in a part of all does too
 pub stands_within : (part bytes all : List ℕ) → Stands part bytes → Stands bytes all → Stands part all
-stands_within part bytes all one more =
-    let inner = ap (λ (l : List ℕ). l ++ more.1.0) one.1.1 ∙ append_assoc one.0 (part ++ one.1.0) more.1.0 ∙ ap (λ (l : List ℕ). one.0 ++ l) (append_assoc part one.1.0 more.1.0) in
-    (more.0 ++ one.0, one.1.0 ++ more.1.0, more.1.1 ∙ ap (λ (l : List ℕ). more.0 ++ l) inner ∙ sym (append_assoc more.0 one.0 (part ++ (one.1.0 ++ more.1.0))))
+stands_within part bytes all one outer =
+    let inner = ap (λ (l : List ℕ). l ++ outer.1.0) one.1.1 ∙ append_assoc one.0 (part ++ one.1.0) outer.1.0 ∙ ap (λ (l : List ℕ). one.0 ++ l) (append_assoc part one.1.0 outer.1.0) in
+    (outer.0 ++ one.0, (one.1.0 ++ outer.1.0, outer.1.1 ∙ ap (λ (l : List ℕ). outer.0 ++ l) inner ∙ sym (append_assoc outer.0 one.0 (part ++ (one.1.0 ++ outer.1.0)))))
 
 finished_stands : (column : ℕ) (word : List ℕ) (words : List WordAt) (w : WordAt) (line : List ℕ) → IsOneOf (finished column word words) w → (IsOneOf words w → Stands w.bytes (word ++ line)) → Stands w.bytes (word ++ line)
 finished_stands column [] words w line one rest = rest one
 finished_stands column (b ∷ word) words w line one rest = ⊎_elim
-    (λ (here : w ≡ record { column = column - length (b ∷ word); bytes = b ∷ word }). ([], line, ap (λ (x : List ℕ). x ++ line) (sym (ap (λ (x : WordAt). x.bytes) here))))
+    (λ (here : w ≡ record { column = column - length (b ∷ word); bytes = b ∷ word }). ([], (line, ap (λ (x : List ℕ). x ++ line) (sym (ap (λ (x : WordAt). x.bytes) here)))))
     (λ (there : IsOneOf words w). rest there)
     one
 

@@ -23,7 +23,7 @@ use Rattle.lvm_top.proofs.ScriptLemmas.Concluding.{run_upheld}
 
 last_stands : (front line : List ℕ) → IsOneOf (last_line front) line → Stands line (front ++ [])
 last_stands [] line one = absurd one
-last_stands (b ∷ front) line one = ⊎_elim (λ (same : line ≡ b ∷ front). ([], [], ap (λ (l : List ℕ). l ++ []) (sym same))) (λ none. absurd none) one
+last_stands (b ∷ front) line one = ⊎_elim (λ (same : line ≡ b ∷ front). ([], ([], ap (λ (l : List ℕ). l ++ []) (sym same)))) (λ none. absurd none) one
 
 line_stands : (front bytes line : List ℕ) → IsOneOf (lines_from front bytes) line → Stands line (front ++ bytes)
 line_stands front [] line one = last_stands front line one
@@ -32,7 +32,7 @@ line_stands front (byte ∷ bytes) line one = by_feed (is_feed byte) (line_stand
     by_feed : (t : Bool) → (IsOneOf (lines_from [] bytes) line → Stands line bytes) → (IsOneOf (lines_from (front ++ byte ∷ []) bytes) line → Stands line ((front ++ byte ∷ []) ++ bytes))
         → IsOneOf (if t then front ∷ lines_from [] bytes else lines_from (front ++ byte ∷ []) bytes) line → Stands line (front ++ byte ∷ bytes)
     by_feed true next same at = ⊎_elim
-        (λ (here : line ≡ front). ([], byte ∷ bytes, ap (λ (l : List ℕ). l ++ byte ∷ bytes) (sym here)))
+        (λ (here : line ≡ front). ([], (byte ∷ bytes, ap (λ (l : List ℕ). l ++ byte ∷ bytes) (sym here))))
         (λ (there : IsOneOf (lines_from [] bytes) line). stands_behind front line (byte ∷ bytes) (stands_behind (byte ∷ []) line bytes (next there)))
         at
     by_feed false next same at = subst (λ (l : List ℕ). Stands line l) (append_assoc front (byte ∷ []) bytes) (same at)
