@@ -164,7 +164,7 @@ of_two (suc (suc k)) row low is = absurd (omega (arith, low))
 
 sound : (x : Pair) → IsSoundBetween (state (device_of x) (core_of x))
 sound x = sound_ready (device_of x) (core_of x) (fits x) (record { requests = refl; copy = refl }) (λ id. refl) (λ row one there. of_two one.0 row one.1 one.2) refl refl
-    (λ off. absurd (let e : power.On ≡ power.Off = off in cc)) (λ stuck. absurd (let e : power.On ≡ power.Stuck = stuck in cc)) (record { flights = refl; freed = refl; power = refl })
+    (λ stuck. absurd (let e : power.On ≡ power.Stuck = stuck in cc)) (record { flights = refl; freed = refl; power = refl })
 
 quiet : (x : Pair) → IsQuiet (core_of x)
 quiet x = record { requests = refl; copy = refl; status = refl; notes = λ disk. none (0 == disk) (1 == disk); buffers = refl }
