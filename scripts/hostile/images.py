@@ -282,12 +282,12 @@ def flips(folder, bits):
 
 
 def eight(folder):
-    """A group of eight disks, whose status has three sectors, before and after a volume is made, by which its descriptor has four."""
+    """A group of eight disks, whose status and descriptor have three sectors each."""
     blank(folder, 8, DATA + 4 * 2048)
     lines = ["mkvg -y datavg -s 1 " + " ".join(f"hdisk{disk}" for disk in range(8)), "mklv -y lv00 -c 2 datavg 1", "wr lv00 0 1 00000000000000a0"]
     lines += [f"mklv -y lv{k:02} -w n datavg 1" for k in range(1, 27)]
-    before = made(folder, lines + ["varyoffvg datavg"])
-    return before
+    # It comes on once more, so that both slots of a status hold one.
+    return made(folder, lines + ["varyoffvg datavg", "varyonvg datavg", "varyoffvg datavg"])
 
 
 def torn(folder):
@@ -299,9 +299,9 @@ def torn(folder):
         (epoch, sequence), value, _ = content[kind]
         slot = records.newest(before[0], kind)[2]
         held = records.read_slot(before[0], kind, slot)[1]
-        # The later record: a group whose first member is a spare, and a status by which hdisk7 was missing.
+        # The later record: a group whose first member is a spare, and a status by which the second copy of lv00 is stale.
         later = bytearray(held)
-        later[52 if kind == "descriptor" else 16 + 7 * 132 + 2] = 1
+        later[52 if kind == "descriptor" else 16 + 132 + 4] |= 1
         sectors = records.frame(kind, bytes(later), epoch, sequence + 9)
         count = len(sectors) // SECTOR
         at = starts[1 - slot] * SECTOR
