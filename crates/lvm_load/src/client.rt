@@ -10,11 +10,11 @@ ghost use Rattle.lvm_load.specs.Waiting.{AreWaiting, AreWaitingBut, OthersWait, 
 ghost use Rattle.lvm_load.specs.Weaving.{AsksDrawn, TakesFor, TakesEach, Turns, goes_on, idle_after, open_of, turns_left};
 
 use crate::request::submit_drawn;
-use lvm_workers::draw_request;
 use lvm_disk::Shelf;
 use lvm_driver::Driver;
 use lvm_session::{AskFault, Taken, Turned};
 use lvm_vol::Entry;
+use lvm_workers::draw_request;
 use rand_pcg::Lcg64Xsh32;
 
 // Between the words of a client's requests.

@@ -6,8 +6,8 @@ ghost use Rattle.lvm_io.specs.Stream.{WhereTold, WritesFront};
 ghost use Rattle.lvm_workers.specs.Draws.{after_draw, draw_at};
 ghost use Rattle.lvm_load.specs.Script.{IsWrittenUpTo, hex_word, line_text, script_text};
 
-use lvm_workers::{Draw, draw_request, generator};
 use lvm_io::{Sink, SinkFault, write_all};
+use lvm_workers::{Draw, draw_request, generator};
 use rand_pcg::Lcg64Xsh32;
 use std::alloc::{AllocError, Global};
 

@@ -82,6 +82,7 @@ begun_by_client n (f ∷ facts) all =
     none : (g : Fact) → length (begun (g ∷ facts)) ≡ length (begun facts) → ((c : ℕ) → ticks g c ≡ 0) → length (begun facts) ≡ sum_to (begun_of facts) n
         → sum_to (begun_of (g ∷ facts)) n ≡ sum_to (ticks g) n + sum_to (begun_of facts) n → length (begun (g ∷ facts)) ≡ sum_to (begun_of (g ∷ facts)) n
     none g same zeros rest split = let nothing = sum_same (ticks g) (λ c. 0) zeros n ∙ sum_zero n in omega (arith, same, rest, split, nothing)
+
     by : (g : Fact) → IsOfClients n g → length (begun facts) ≡ sum_to (begun_of facts) n → sum_to (begun_of (g ∷ facts)) n ≡ sum_to (ticks g) n + sum_to (begun_of facts) n
         → length (begun (g ∷ facts)) ≡ sum_to (begun_of (g ∷ facts)) n
     by (Begun r) its rest split = let one = sum_one r.client n its.0 its.1 in omega (arith, rest, split, one)

@@ -166,8 +166,7 @@ module _ (asks : ℕ → ℕ → Draw → Request → Type 0) (WasRefused : View
       let r = ready i d within in
       let w = worked i d within in
       let old : Worker = slice_index_or vs i d in
-      let new : Worker = slice_index_or ws i d in
-      (
+      let new : Worker = slice_index_or ws i d in (
         r.0,
         subst (λ (j : Job). IsDone asks WasRefused waits table start j new) r.2 record {
           idle = w.idle;
@@ -213,8 +212,7 @@ pub ready_one : (table : TableId) (clients : ℕ) (first : View) (crew : Crew) (
 ready_one table clients first crew i n p w e low few job at outside held seen is =
     let k = crew.threads - i in
     let fresh = fresh_pass table n k p w.pass e at outside (held ∙ ap up_to e) is in
-    let same : w.job.client ≡ k = ap (λ (j : Job). j.client) job in
-    (
+    let same : w.job.client ≡ k = ap (λ (j : Job). j.client) job in (
       low,
       record {
         idle = subst (λ m. IsIdle table (m ∷ []) w.pass) (sym same) fresh.0;

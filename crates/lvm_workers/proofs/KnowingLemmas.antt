@@ -72,6 +72,7 @@ module _ (WasRefused : View → Type 0) (stays : (v w : View) → Knows v w → 
       by : (n : ℕ) → t.unbegun ≡ n → 0 < n + u.unbegun → WasRefused v ⊎ WasUnheard waits first v
       by zero is some_are = b.unbegun (omega (arith, some_are))
       by (suc n) is some_are = a.unbegun (omega (arith, is))
+
       either : (p : Bool) → t.unheard ≡ p → p || u.unheard ≡ true → WasUnheard waits first v
       either true is some_is = a.unheard is
       either false is some_is = b.unheard some_is

@@ -111,6 +111,7 @@ module _ {V : Type 0} (tells : V → Told) (past : V → Option (List (List Sect
       where
         own_begun : (x : Request) → x.client ≡ client → own client (Begun x ∷ []) ≡ Begun x ∷ []
         own_begun x same = ap (λ b. cond b (Begun x ∷ []) []) (eq-eqb x.client client same)
+
         by : AskEnters Asks (refuses y client number drawn) client answer gave.more → AskTells Asks (Refused tells past always refuses) client p.knows answer r.knows
         by (HasBegun x asks same is entered) = record {
           more = Begun x ∷ [];

@@ -64,12 +64,7 @@ fn bring<E: Brings, R: Wait>(
 
 /// Brings up the copies of one place after the other, until no further one is to be brought up, or nothing was heard a million
 /// times. Answers whether that was so.
-pub fn bring_all<E: Brings, R: Wait>(
-    rt: &R,
-    turn: &Turn<E>,
-    pass: &mut Pass,
-    client: u32,
-) -> bool
+pub fn bring_all<E: Brings, R: Wait>(rt: &R, turn: &Turn<E>, pass: &mut Pass, client: u32) -> bool
     requires idle { IsIdle turn.now.table (client ∷ []) pass.old }
     ensures idle { IsIdle turn.now.table (client ∷ []) pass.new }
     ensures knows { Knows pass.old.knows pass.new.knows }

@@ -5,8 +5,8 @@
 mod bring;
 mod crew;
 mod service;
-mod work;
 mod words;
+mod work;
 
 pub use bring::{Brings, Brought, bring_all, workers_beside};
 pub use crew::{Crew, workers};

@@ -69,13 +69,7 @@ fn ask<E: Service, R: Wait>(
 }
 
 // Looks for the answer of a request, while it has the turn.
-fn look<E: Service, R: Wait>(
-    rt: &R,
-    turn: &Turn<E>,
-    pass: &mut Pass,
-    client: u32,
-    id: u64,
-) -> Seen
+fn look<E: Service, R: Wait>(rt: &R, turn: &Turn<E>, pass: &mut Pass, client: u32, id: u64) -> Seen
     requires idle { IsIdle turn.now.table (client ∷ []) pass.old }
     requires awaits { AwaitsIn id pass.old.knows }
     ensures idle { IsIdle turn.now.table (client ∷ []) pass.new }
@@ -149,12 +143,7 @@ fn serve<E: Service, R: Wait>(
 }
 
 /// Makes the requests of a job, one at a time. It ends early where no further one may begin, and where nothing is heard of one.
-pub(crate) fn work<E: Service, R: Wait>(
-    rt: &R,
-    turn: &Turn<E>,
-    pass: &mut Pass,
-    job: &Job,
-) -> Tally
+pub(crate) fn work<E: Service, R: Wait>(rt: &R, turn: &Turn<E>, pass: &mut Pass, job: &Job) -> Tally
     requires idle { IsIdle turn.now.table (job.now.client ∷ []) pass.old }
     requires client { (1 ≤ job.now.client) × (job.now.client ≤ E.clients) }
     requires fresh { first_own pass.old.knows.clients ≡ [] }

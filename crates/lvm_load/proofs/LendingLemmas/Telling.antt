@@ -44,8 +44,20 @@ module _ (old new : State) (leaves : LeavesSession old new) where
       leaves.keeps.power
 
   pub counts_rise : NoneFell (counts_in old) (counts_in new)
-  counts_rise = (over_stays, (dark_stays, (leaves.keeps.counts.cuts, (leaves.keeps.counts.waits, subst (λ (n : ℕ). NoneFell (counts_of old.device.counts (length old.device.sizes)) (counts_of new.device.counts n)) (sym (ap (λ (l : List ℕ). length l) leaves.keeps.sizes))
-        (shelf_counts old.device.counts new.device.counts leaves.keeps.counts (range_with_len 0 (length old.device.sizes)))))))
+  counts_rise = (
+    over_stays,
+    (
+      dark_stays,
+      (
+        leaves.keeps.counts.cuts,
+        (
+          leaves.keeps.counts.waits,
+          subst (λ (n : ℕ). NoneFell (counts_of old.device.counts (length old.device.sizes)) (counts_of new.device.counts n)) (sym (ap (λ (l : List ℕ). length l) leaves.keeps.sizes))
+              (shelf_counts old.device.counts new.device.counts leaves.keeps.counts (range_with_len 0 (length old.device.sizes))),
+        ),
+      ),
+    ),
+  )
 
   pub fixed_stays : new.device.orders ≡ old.device.orders → fixed_by new ≡ fixed_by old
   fixed_stays orders =

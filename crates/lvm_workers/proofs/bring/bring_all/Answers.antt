@@ -49,7 +49,7 @@ returns-then-idle-eq-PATIENCE-clause-unheard g c = λ yes.
     let waits = g.E.Service.waits in
     let last : c.loop.idle + 1 ≡ 1000000 = c.if-idle-eq-PATIENCE.true in
     subst (λ n. RoseBy n (waits c.args.pass.now.knows.counts) (waits c.bring.new.pass.knows.counts)) last
-        (rose_more c.loop.idle (waits c.args.pass.now.knows.counts) (waits c.loop.pass.knows.counts) (waits c.bring.new.pass.knows.counts) was.6 (now.waited refl))
+    (rose_more c.loop.idle (waits c.args.pass.now.knows.counts) (waits c.loop.pass.knows.counts) (waits c.bring.new.pass.knows.counts) was.6 (now.waited refl))
 
 pub returns-in-Over-clause-knows : goal.returns-in-Over-clause-knows
 returns-in-Over-clause-knows g c = knows_further c.args.pass.now.knows c.loop.pass.knows c.bring.new.pass.knows c.loop.invariant.3 c.in-Over.ensures.knows

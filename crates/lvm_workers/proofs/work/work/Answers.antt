@@ -74,27 +74,27 @@ loop-number-preserved g c =
     let drawn = ap after_draw was.3 ∙ drawn_more n (seeded job.seed) in
     elim c.match-serve.branch [
       | in-Answered w ↦
-      let now = w.in-Answered.ensures in
-      let made : Served asks (seeded job.seed) (n + 1) (b + 1) (own_of new) =
-      one_served asks R waits job.seed job.requests n b old new was.2 (subst (λ (r : Lcg). ServeTells (asks n (draw_at r)) R waits old served.Answered new) was.3 now.tells) in (
-        now.idle,
-        knows_further c.args.pass.now.knows old new was.1 now.knows,
-        subst (λ k. Served asks (seeded job.seed) (n + 1) k (own_of new)) (sym w.begun-is) made,
-        now.rng ∙ drawn,
-        (let is = w.begun-is in omega (arith, is, low)),
-        (λ less. refused_on g.E.Shown.tells g.E.Past.past g.E.Shown.always g.E.Service.refuses old new now.knows (was.5 (let is = w.begun-is in omega (arith, is, less)))),
-      )
+          let now = w.in-Answered.ensures in
+          let made : Served asks (seeded job.seed) (n + 1) (b + 1) (own_of new) =
+          one_served asks R waits job.seed job.requests n b old new was.2 (subst (λ (r : Lcg). ServeTells (asks n (draw_at r)) R waits old served.Answered new) was.3 now.tells) in (
+            now.idle,
+            knows_further c.args.pass.now.knows old new was.1 now.knows,
+            subst (λ k. Served asks (seeded job.seed) (n + 1) k (own_of new)) (sym w.begun-is) made,
+            now.rng ∙ drawn,
+            (let is = w.begun-is in omega (arith, is, low)),
+            (λ less. refused_on g.E.Shown.tells g.E.Past.past g.E.Shown.always g.E.Service.refuses old new now.knows (was.5 (let is = w.begun-is in omega (arith, is, less)))),
+          )
       | in-Passed w ↦
-      let now = w.in-Passed.ensures in
-      let made : Served asks (seeded job.seed) (n + 1) b (own_of new) =
-      one_passed asks R waits job.seed job.requests n b old new was.2 (subst (λ (r : Lcg). ServeTells (asks n (draw_at r)) R waits old served.Passed new) was.3 now.tells) in (
-        now.idle,
-        knows_further c.args.pass.now.knows old new was.1 now.knows,
-        subst (λ k. Served asks (seeded job.seed) (n + 1) k (own_of new)) (sym w.begun-is) made,
-        now.rng ∙ drawn,
-        (let is = w.begun-is in omega (arith, is, low)),
-        (λ less. why_passed _ R waits old new now.tells),
-      )
+          let now = w.in-Passed.ensures in
+          let made : Served asks (seeded job.seed) (n + 1) b (own_of new) =
+          one_passed asks R waits job.seed job.requests n b old new was.2 (subst (λ (r : Lcg). ServeTells (asks n (draw_at r)) R waits old served.Passed new) was.3 now.tells) in (
+            now.idle,
+            knows_further c.args.pass.now.knows old new was.1 now.knows,
+            subst (λ k. Served asks (seeded job.seed) (n + 1) k (own_of new)) (sym w.begun-is) made,
+            now.rng ∙ drawn,
+            (let is = w.begun-is in omega (arith, is, low)),
+            (λ less. why_passed _ R waits old new now.tells),
+          )
     ]
 
 pub returns-clause-made : goal.returns-clause-made
