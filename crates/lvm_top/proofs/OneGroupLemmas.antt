@@ -55,7 +55,7 @@ use Rattle.lvm_top.proofs.NewGroupLemmas.{parts_find, refused_finds}
 use Rattle.lvm_top.proofs.LawsLemmas.Scripts.{images_kept, last_told, run_may_start, stood, went_so}
 use Rattle.lvm_line.specs.passed.Recover.{HasNoPassive}
 
--- ---- what is found is shown, and what has a quorum is found
+-- ---- what is found is shown
 
 shows : (c : Contents) (disks : Disks) (id : ℕ) (k : Descriptor) → Finds c disks id k → (d : ℕ) × (r : Stamped Descriptor) × (c.descriptor d ≡ Some r)
 unfolding descriptor_among

@@ -116,7 +116,7 @@ pub record VaryonRecovers {r : Run} (ran : IsRun r) : Type 0 where
   pub unwritten : (line name : List ℕ) (have total : ℕ) → line_of line ≡ Ok (Some (command.Varyon name)) → DidOnly ran line (reply.Refused (refusal.NoQuorum have total)) → r.exit.wrote ≡ r.entry.wrote
 
 -- What every run promises. Its moment was answered by the clock in this call. Its lines are as they should be, and refused for their causes. Where its moment
--- is later than what stands on the disks, and no line made, removed or acted on a volume of one group among several with a quorum, the history is legal with what
+-- is later than what stands on the disks, and no line made, removed or acted on a volume where another group was found, the history is legal with what
 -- was told before, and each crash image that the disks may leave is kept with it; over disks that hold nothing so it is without anything told before. So it is
 -- of itself where the script has nowhere `-f` and the disks hold one group at most. The clock stays ahead of the disks, and of each crash image unless
 -- nothing was heard of a transfer. The history tells of this run alone. A run of a single `varyonvg` recovers its group.

@@ -9,7 +9,10 @@ mod script;
 mod status;
 
 pub use found_laws::{lines_find_no_more, scripts_find_what_stands, unforced_scripts_stay_alone};
-pub use laws::{runs_end_in_time, runs_follow, scripts_are_complete, varyons_recover};
+pub use laws::{
+    blank_holds_one_group, left_is_earlier, runs_end_in_time, runs_follow, scripts_are_complete,
+    varyons_recover,
+};
 pub use lvm_core::Room;
 pub use run::{Ended, close_ended, conclude, run_on, run_script, status_of, unbegun};
 pub use script::{Stop, write_reply};

@@ -97,7 +97,7 @@ makes_so log room group volume first answer last (HasGroup mid makes it) = recor
   clock = let a = makes.goes.clock in let b = it.goes.clock in omega (arith, a, b);
 }
 
--- What holds of them where one group may be found at first, without volumes in mode passive: no other has a quorum, and none comes.
+-- What holds of them where one group may be found at first, without volumes in mode passive: there is no other, and none comes.
 pub record LinesAlone {log : Log} {room : Room} {group volume : List ℕ} {first : ScriptState} {answer : Reply} {last : ScriptState} (made : IsMade log room group volume first answer last) : Type 0 where
   pub alone : AreMadeAlone made
   pub finds : (IsStuck answer → ⊥) → FindsOneGroup last.moment.device × HasNoPassiveOn last
