@@ -152,7 +152,8 @@ def tree_words():
 
 
 PATH = re.compile(r"^[\w./-]+(?:/[\w.-]+|\.(?:rt|antt|md|sh|py|txt|edit))/?$")
-OF_KIT = {"rt", "rattle"}
+# words of the kit, of the system and of others, which stand in no file of the tree
+OF_KIT = {"rt", "rattle", "flock", "clang", "sqlite", "dac8208d650f15bf", "CRLF"}
 
 
 def find(path, files):
