@@ -163,6 +163,7 @@ def find(path, files):
 
 def names(pages):
     words, files = tree_words()
+    cases = set(read("crates/lvm_rows/stdin").split("\n"))
     bad = []
     for page in pages:
         own = os.path.dirname(page)
@@ -173,6 +174,8 @@ def names(pages):
             for it in said:
                 if it.startswith("/") or "*" in it or "hdisk" in it:
                     continue
+                if it.startswith("case ") and it not in cases:
+                    bad.append(f"{page}:{number}: no {it}")
                 if PATH.match(it) and ("/" in it or "." in it):
                     if not find(it, files) and not find(f"{own}/{it}", files):
                         bad.append(f"{page}:{number}: no file {it}")
