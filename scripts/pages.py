@@ -254,8 +254,11 @@ def what_it_has(name):
                 if not line.startswith("//!"):
                     break
                 said.append(line[3:].strip())
-            text = " ".join(said)
-            return re.split(r"(?<=\.)\s", text)[0].rstrip(".")
+            text = re.split(r"(?<=\.)\s", " ".join(said))[0].rstrip(".")
+            for mark in ("; ", ": ", ", and "):
+                if len(text.split()) > 24:
+                    text = text.split(mark)[0]
+            return text
     return ""
 
 
@@ -303,10 +306,10 @@ def tables(pages, write):
     for page in pages:
         text = read(page)
         for name, make in MADE.items():
-            mark = re.compile(rf"(<!-- {name}, by scripts/pages.py -->\n\n).*?(\n\n<!-- end -->)", re.S)
+            mark = re.compile(rf"(<!-- {name}, by scripts/pages.py -->\n).*?(\n<!-- end -->)", re.S)
             if not mark.search(text):
                 continue
-            wanted = mark.sub(lambda it: it.group(1) + "\n".join(make()) + it.group(2), text)
+            wanted = mark.sub(lambda it: it.group(1) + "\n" + "\n".join(make()) + "\n" + it.group(2), text)
             if wanted != text:
                 if write:
                     with open(f"{ROOT}/{page}", "w", encoding="utf-8") as file:
