@@ -22,6 +22,8 @@ import os, re, statistics, subprocess, sys, tempfile
 ROOT = os.path.dirname(os.path.dirname(os.path.abspath(__file__)))
 LVM = os.path.abspath(os.environ.get("LVM") or f"{ROOT}/crates/lvm/out/lvm")
 MOST = 30
+# a line that is refused by its column, and changes nothing
+MARK = " " * 99 + "?"
 sys.path.insert(0, f"{ROOT}/scripts")
 
 
@@ -85,18 +87,18 @@ def run_block(body):
                 command = of_file[1] if of_file else command
                 lines = open(f"{folder}/{of_file[2]}").read().splitlines() if of_file else [it[2:] for it in script]
                 wide = max(len(it) for it in lines) + 3
-                told, ended = [], 0
-                for k in range(1, len(lines) + 1):
-                    out, ended = in_folder(folder, command, "".join(it + "\n" for it in lines[:k]))
-                    now = out.splitlines()
-                    if now[:len(told)] != told:
-                        wrong.append(f"line {k} changes earlier replies")
-                    more = now[len(told):]
+                out, ended = in_folder(folder, command, "".join(it + "\n" for it in lines))
+                told = out.splitlines()
+                # once more with a line behind each that isn't in the language: where its refusal stands, the next reply begins
+                out, _ = in_folder(folder, command, "".join(f"{it}\n{MARK}\n" for it in lines))
+                parts = [it.splitlines() for it in out.split(f"refused 1 BadLine {len(MARK)}\n")]
+                if sum(parts, []) != told or len(parts) != len(lines) + 1:
+                    wrong.append("replies can't be told apart")
+                for line, more, first in zip(lines, parts, script or lines):
                     if of_file:
-                        made += [f"{lines[k - 1] if not n else '':<{wide}}{it}".rstrip() for n, it in enumerate(more or [""])]
+                        made += [f"{line if not n else '':<{wide}}{it}".rstrip() for n, it in enumerate(more or [""])]
                     else:
-                        made += [script[k - 1], *more]
-                    told = now
+                        made += [first, *more]
                 if ended != (1 if any(it.startswith("refused ") for it in told) else 0):
                     wrong.append(f"status {ended}")
             else:
@@ -144,6 +146,7 @@ def tree_words():
             for name in names:
                 path = os.path.relpath(f"{at}/{name}", ROOT)
                 files.append(path)
+                words.add(name.split(".")[0])
                 if not name.endswith(".md"):
                     words |= set(re.findall(r"[A-Za-z_][A-Za-z0-9_]*", open(f"{ROOT}/{path}", encoding="utf-8", errors="replace").read()))
     files += [it for it in os.listdir(ROOT) if os.path.isfile(f"{ROOT}/{it}")] + [f"docs/{it}" for it in os.listdir(f"{ROOT}/docs")] + [".ci/run"]
