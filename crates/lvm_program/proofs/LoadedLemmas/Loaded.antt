@@ -29,7 +29,7 @@ use Rattle.lvm_top.specs.declared.status.ExitStatus.{ExitStatus}
 use Rattle.lvm_top.specs.declared.status.ExitStatus.TheVariants as ended
 use Rattle.lvm_top.specs.Run.{Run, exit_state, ran}
 use Rattle.lvm_top.specs.Script.{Passage, Stream, empty_log, entry_state, facts_of}
-use Rattle.lvm_top.proofs.ScriptLemmas.Concluding.{Concluded, closed_concluded, concluded, off_still}
+use Rattle.lvm_top.proofs.ScriptLemmas.Concluding.{Concluded, closed_concluded, concluded, each_is_ahead, off_still}
 use Rattle.lvm_top.proofs.ScriptLemmas.Scripting.{begins_timely}
 use Rattle.lvm_top.proofs.RefusedLemmas.{line_caused}
 use Rattle.lvm_top.proofs.RunLemmas.Stopping.{how_stopped}
@@ -117,7 +117,7 @@ module _ (words : LoadWords) (r : Run) (ready : IsReady r.entry) (goes : GoesLoa
     where
       by : ConcludesSo r.named goes.answer goes.end (exit_from r).moment → IsAhead r.named (goes.end.last + 1) r.exit (facts_of r.history)
       by (Unheard stuck same) = subst (λ (m : Moment). IsAhead r.named (goes.end.last + 1) m.device m.facts) (sym same) (so.left (timely clock))
-      by (Heard heard its) = its.left (so.timely heard (timely clock))
+      by (Heard heard its) = each_is_ahead r.named (goes.end.last + 1) r.exit (facts_of r.history) (its.left (so.timely heard (timely clock)))
 
 -- what is promised of a run, by what it does
 pub load_promises : (words : LoadWords) (asked : ℕ) (r : Run) → IfSome r.history (λ log. Rose asked log.run × (log.run ≤ r.last)) → IsLoaded words r → PromisesLoaded words asked r
