@@ -23,22 +23,22 @@ pub do_line-answered-requires-clause-between : goal.do_line-answered-requires-cl
 do_line-answered-requires-clause-between g c = first_between g.S.Shelf.device c.args.shelf c.in-Ok-new.history c.in-Ok-take_rooms.posts c.in-Ok-take_rooms.bytes c.now-run.result c.args.room c.in-Ok-new.ensures c.in-Ok-take_rooms.ensures.0 c.requires.ready
 
 pub end_load-requires-clause-few : goal.end_load-requires-clause-few
-end_load-requires-clause-few g c = λ κs.
+end_load-requires-clause-few g c = λ κs outlives.
     line_few (without_facts c.in-Ok-new.history) c.args.room c.as_slice.result.now (state_in g.S.Shelf.device (record { holder = holder.Off c.args.shelf c.in-Ok-new.history; posts = c.in-Ok-take_rooms.posts; bytes = c.in-Ok-take_rooms.bytes }) (g.C.Clock.last c.now-run.new.self)) c.do_line-answered.result.reply
     (state_in g.S.Shelf.device c.do_line-answered.result.stage (g.C.Clock.last c.do_line-answered.new.clock)) c.do_line-answered.ensures.line c.in-Ok-take_rooms.ensures.0
 
 pub end_load-requires-clause-off : goal.end_load-requires-clause-off
-end_load-requires-clause-off g c = λ κs.
+end_load-requires-clause-off g c = λ κs outlives.
     (line_so (without_facts c.in-Ok-new.history) c.args.room c.as_slice.result.now (state_in g.S.Shelf.device (record { holder = holder.Off c.args.shelf c.in-Ok-new.history; posts = c.in-Ok-take_rooms.posts; bytes = c.in-Ok-take_rooms.bytes }) (g.C.Clock.last c.now-run.new.self)) c.do_line-answered.result.reply
     (state_in g.S.Shelf.device c.do_line-answered.result.stage (g.C.Clock.last c.do_line-answered.new.clock)) c.do_line-answered.ensures.line).stuck
 
 pub end_load-requires-clause-between : goal.end_load-requires-clause-between
-end_load-requires-clause-between g c = λ κs.
+end_load-requires-clause-between g c = λ κs outlives.
     (line_so (without_facts c.in-Ok-new.history) c.args.room c.as_slice.result.now (state_in g.S.Shelf.device (record { holder = holder.Off c.args.shelf c.in-Ok-new.history; posts = c.in-Ok-take_rooms.posts; bytes = c.in-Ok-take_rooms.bytes }) (g.C.Clock.last c.now-run.new.self)) c.do_line-answered.result.reply
     (state_in g.S.Shelf.device c.do_line-answered.result.stage (g.C.Clock.last c.do_line-answered.new.clock)) c.do_line-answered.ensures.line).between
 
 pub end_load-requires-clause-fresh : goal.end_load-requires-clause-fresh
-end_load-requires-clause-fresh g c = λ κs ok.
+end_load-requires-clause-fresh g c = λ κs outlives ok.
     varied_fresh (without_facts c.in-Ok-new.history) c.args.room c.args.words.now.group (state_in g.S.Shelf.device (record { holder = holder.Off c.args.shelf c.in-Ok-new.history; posts = c.in-Ok-take_rooms.posts; bytes = c.in-Ok-take_rooms.bytes }) (g.C.Clock.last c.now-run.new.self))
     (state_in g.S.Shelf.device c.do_line-answered.result.stage (g.C.Clock.last c.do_line-answered.new.clock)) c.varyon_line.ensures.name (ap (λ l. l.facts) c.in-Ok-new.ensures) c.do_line-answered.result.reply ok
     (subst (λ l. IsLine (without_facts c.in-Ok-new.history) c.args.room l c.do_line-answered.result.reply _ _) (c.as_slice.ensures.value ∙ c.in-Ok.ensures.line) c.do_line-answered.ensures.line)
