@@ -10,7 +10,7 @@ use Rattle.lvm_disk.specs.Device.{Device}
 use Rattle.lvm_disk.proofs.CountingLemmas.{rose_by_after, rose_by_more, rose_by_none}
 use Rattle.lvm_vol.specs.Facts.{Fact}
 use Rattle.lvm_vol.specs.Log.{next_id}
-use Rattle.lvm_load.specs.Draws.{draw_at}
+use Rattle.lvm_workers.specs.Draws.{draw_at}
 use Rattle.lvm_path.specs.declared.ask.Ask.{Ask}
 use Rattle.lvm_session.specs.declared.answers.AskFault.{AskFault}
 use Rattle.lvm_session.specs.declared.answers.AskFault.TheVariants as fault

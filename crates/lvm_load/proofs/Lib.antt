@@ -3,6 +3,9 @@ pub mod Counting
 pub mod FactsLemmas
 pub mod WeavingLemmas
 pub mod LeavingLemmas
+pub mod LendingLemmas
+pub mod LoadingLemmas
+pub mod SettlingLemmas
 pub mod WaitingLemmas
 pub mod RequestsLemmas
 pub mod ScriptLemmas

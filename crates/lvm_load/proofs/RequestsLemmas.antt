@@ -3,7 +3,7 @@ use Rattle.std.proofs.Common.{◌≡◌, ◌<◌, ℕ, Bool, true, false, not, L
 use Rattle.std.specs.Prelude.{Result, is_some, slice_get}
 use Rattle.std.specs.Option.{option_map_or}
 use Rattle.std.proofs.lemmas.Option.{slice_get-get_or}
-use Rattle.lvm_load.specs.declared.words.Draw.{Draw}
+use Rattle.lvm_workers.specs.declared.words.Draw.{Draw}
 use Rattle.lvm_session.specs.declared.answers.AskFault.{AskFault}
 use Rattle.lvm_session.specs.Calls.{SubmitGives}
 use Rattle.lvm_session.specs.State.{Core}

@@ -2,7 +2,7 @@
 use Rattle.std.specs.Prelude.{◌≡◌, ◌<◌, ◌+◌, ◌++◌, ℕ, true, List, Some, IsTrue}
 use Rattle.lvm_disk.specs.Counts.{RoseBy}
 use Rattle.lvm_vol.specs.Facts.{Fact}
-use Rattle.lvm_load.specs.Draws.{draw_at}
+use Rattle.lvm_workers.specs.Draws.{draw_at}
 use Rattle.lvm_session.specs.declared.answers.AskFault.{AskFault}
 use Rattle.lvm_session.specs.Calls.{ask_fault}
 use Rattle.lvm_session.specs.Causes.{is_over}

@@ -1,8 +1,11 @@
 pub mod Ends
 pub mod Leaving
+pub mod Lending
+pub mod Loading
 pub mod Requests
+pub mod Serving
 pub mod Totals
 pub mod Waiting
+pub mod Waits
 pub mod Weaving
-pub mod Draws
 pub mod Script

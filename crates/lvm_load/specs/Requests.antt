@@ -1,7 +1,7 @@
 -- A request of a volume that is drawn.
 use Rattle.std.specs.Prelude.{ℕ, ◌+◌, ◌-◌, ◌*◌, ◌%◌, ◌^◌, min, if◌then◌else◌, List, Option, Some, None}
-use Rattle.lvm_load.specs.declared.words.Draw.{Draw}
-use Rattle.lvm_load.specs.Draws.{blocks_of, is_write}
+use Rattle.lvm_workers.specs.declared.words.Draw.{Draw}
+use Rattle.lvm_workers.specs.Draws.{blocks_of, is_write}
 use Rattle.lvm_path.specs.declared.ask.Ask.{Ask}
 use Rattle.lvm_path.specs.declared.ask.Ask.TheVariants.{Read, Write}
 use Rattle.lvm_posts.specs.Pieces.{filled}

@@ -2,8 +2,8 @@
 use Rattle.std.specs.Prelude.{◌≡◌, ℕ, zero, suc, ◌+◌, ◌-◌, ◌%◌, min, false, if◌then◌else◌, List, ◌++◌, Option, length, replicate, codes}
 use Rattle.std.specs.Fmt.{decimal, digits}
 use Rattle.lvm_io.specs.Stream.{WhereTold}
-use Rattle.lvm_load.specs.declared.words.Draw.{Draw}
-use Rattle.lvm_load.specs.Draws.{after_draws, blocks_of, draw_at, is_write, seeded}
+use Rattle.lvm_workers.specs.declared.words.Draw.{Draw}
+use Rattle.lvm_workers.specs.Draws.{after_draws, blocks_of, draw_at, is_write, seeded}
 
 -- a word in 16 lower-case hexadecimal digits
 abbrev pub hex_word : ℕ → List ℕ

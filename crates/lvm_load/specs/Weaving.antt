@@ -3,7 +3,7 @@ use Rattle.std.specs.Prelude.{◌≡◌, ◌⊎◌, ◌≤◌, ℕ, ◌+◌, ◌
 use Rattle.std.specs.List.{list_any}
 use Rattle.std.specs.Option.{option_map_or}
 use Rattle.rand_pcg.specs.Lcg.{Lcg}
-use Rattle.lvm_load.specs.Draws.{after_draw, after_word, draw_at, seeded, word_at}
+use Rattle.lvm_workers.specs.Draws.{after_draw, after_word, draw_at, seeded, word_at}
 use Rattle.lvm_session.specs.declared.answers.AskFault.{AskFault}
 use Rattle.lvm_session.specs.declared.answers.AskFault.TheVariants as fault
 use Rattle.lvm_session.specs.declared.answers.Taken.{Taken}

@@ -5,16 +5,16 @@ ghost use Rattle.lvm_session.specs.declared.open.Power.TheVariants as power;
 ghost use Rattle.lvm_keeps_events.specs.Turning.{is_last};
 ghost use Rattle.lvm_driver.specs.passed.Names.{RunsOn};
 ghost use Rattle.lvm_session.specs.State.{state_of};
-ghost use Rattle.lvm_load.specs.Draws.{after_draw};
+ghost use Rattle.lvm_workers.specs.Draws.{after_draw};
 ghost use Rattle.lvm_load.specs.Waiting.{AreWaiting, AreWaitingBut, OthersWait, landed_by};
 ghost use Rattle.lvm_load.specs.Weaving.{AsksDrawn, TakesFor, TakesEach, Turns, goes_on, idle_after, open_of, turns_left};
 
 use crate::request::submit_drawn;
-use crate::words::draw_request;
 use lvm_disk::Shelf;
 use lvm_driver::Driver;
 use lvm_session::{AskFault, Taken, Turned};
 use lvm_vol::Entry;
+use lvm_workers::draw_request;
 use rand_pcg::Lcg64Xsh32;
 
 // Between the words of a client's requests.
@@ -176,7 +176,7 @@ pub(crate) fn turn<S: Shelf>(driver: &mut Driver<S>, clients: &mut [Client], idl
 }
 
 // Whether further requests may begin where one isn't taken for this.
-fn goes_on(why: AskFault) -> bool
+pub(crate) fn goes_on(why: AskFault) -> bool
     ensures { result ≡ goes_on (Err why) }
 {
     match why {

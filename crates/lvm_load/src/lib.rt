@@ -3,15 +3,19 @@
 
 mod client;
 mod laws;
+mod lent;
+mod load;
 mod request;
 mod script;
+mod serve;
 mod totals;
-mod words;
 mod workload;
 
 pub use client::Client;
 pub use laws::workloads_leave_open;
+pub use load::{Load, Loaded, share_session};
+pub use lvm_workers::{Draw, Tally, draw_request, generator, next_word};
 pub use script::{ScriptFault, write_script};
+pub use serve::{Served, serve_load};
 pub use totals::{Totals, totals_since};
-pub use words::{Draw, draw_request, generator, next_word};
 pub use workload::{Workload, Woven, weave};

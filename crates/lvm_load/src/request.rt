@@ -6,12 +6,12 @@ ghost use Rattle.lvm_driver.specs.passed.Names.{RunsOn};
 ghost use Rattle.lvm_session.specs.State.{state_of};
 ghost use Rattle.lvm_load.specs.Requests.{ask_of, block_count, bytes_of, first_block};
 
-use crate::words::Draw;
 use lvm_disk::Shelf;
 use lvm_driver::Driver;
 use lvm_path::Ask;
 use lvm_posts::fill_bytes;
 use lvm_session::AskFault;
+use lvm_workers::Draw;
 
 // The blocks of a track group, in which a request lies.
 const GROUP: u64 = 256;

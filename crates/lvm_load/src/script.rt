@@ -3,11 +3,11 @@ ghost use Rattle.std.specs.Prelude.{◌≡◌, ◌≤◌, ◌++◌, [], OnOk, On
 ghost use Rattle.std.specs.String.{string_bytes};
 ghost use Rattle.lvm_io.specs.Count.{Rose};
 ghost use Rattle.lvm_io.specs.Stream.{WhereTold, WritesFront};
-ghost use Rattle.lvm_load.specs.Draws.{after_draw, draw_at};
+ghost use Rattle.lvm_workers.specs.Draws.{after_draw, draw_at};
 ghost use Rattle.lvm_load.specs.Script.{IsWrittenUpTo, hex_word, line_text, script_text};
 
-use crate::words::{Draw, draw_request, generator};
 use lvm_io::{Sink, SinkFault, write_all};
+use lvm_workers::{Draw, draw_request, generator};
 use rand_pcg::Lcg64Xsh32;
 use std::alloc::{AllocError, Global};
 

@@ -11,9 +11,9 @@ ghost use Rattle.lvm_load.specs.Weaving.{FinishesAll, NamesNext, DrawsAll, Weave
 
 use crate::client::{Client, ask, turn};
 use crate::totals::{Totals, totals_since};
-use crate::words::{generator, next_word};
 use lvm_disk::Shelf;
 use lvm_driver::Driver;
+use lvm_workers::{generator, next_word};
 use rand_pcg::Lcg64Xsh32;
 
 // As many turns may move nothing, one after the other.

@@ -4,8 +4,8 @@ use Rattle.std.proofs.lemmas.List.{append-nil}
 use Rattle.std.specs.Prelude.{codes, Result, Ok, Err, OnOk, OnErr, is_err}
 use Rattle.rand_pcg.specs.Lcg.{Lcg}
 use Rattle.lvm_io.specs.Stream.{WhereTold, WritesFront}
-use Rattle.lvm_load.specs.declared.words.Draw.{Draw}
-use Rattle.lvm_load.specs.Draws.{after_draw, after_draws, draw_at, is_write, seeded}
+use Rattle.lvm_workers.specs.declared.words.Draw.{Draw}
+use Rattle.lvm_workers.specs.Draws.{after_draw, after_draws, draw_at, is_write, seeded}
 use Rattle.lvm_load.specs.Script.{IsWrittenUpTo, head_text, hex_word, line_text, range_text, script_text}
 use Rattle.lvm_load.proofs.ScriptLemmas.Writing.{added, front_of_longer, front_onward, gathered, none_left, onward, unwritten}
 

@@ -15,7 +15,7 @@ use Rattle.lvm_vol.specs.declared.entry.Outcome.{Outcome}
 use Rattle.lvm_vol.specs.declared.entry.Outcome.TheVariants as outcome
 use Rattle.lvm_vol.specs.Facts.{Fact}
 use Rattle.lvm_vol.specs.Log.{next_id}
-use Rattle.lvm_load.specs.Draws.{draw_at}
+use Rattle.lvm_workers.specs.Draws.{draw_at}
 use Rattle.lvm_path.specs.declared.ask.Ask.{Ask}
 use Rattle.lvm_path.specs.Asks.{count_of}
 use Rattle.lvm_session.specs.declared.answers.AskFault.{AskFault}

@@ -1,6 +1,6 @@
 use Rattle.std.proofs.Common.{◌≡◌, ◌+◌, ◌*◌, ◌%◌, ◌^◌, ℕ, get_or, refl, ap, arith}
 use Rattle.std.specs.Prelude.{Err, Ok}
-use Rattle.lvm_load.specs.Draws.{draw_at}
+use Rattle.lvm_workers.specs.Draws.{draw_at}
 use Rattle.lvm_load.specs.Requests.{word_of}
 use Rattle.lvm_load.specs.Weaving.{fresh_client}
 use Rattle.lvm_load.proofs.RequestsLemmas.{client_there, submits_drawn}

@@ -1,7 +1,7 @@
 use Rattle.std.proofs.Common.{◌∙◌, ℕ, ◌+◌, refl, sym, subst, arith}
 use Rattle.std.specs.String.{string_bytes}
 use Rattle.lvm_io.specs.Count.{Rose}
-use Rattle.lvm_load.specs.Draws.{draw_at}
+use Rattle.lvm_workers.specs.Draws.{draw_at}
 use Rattle.lvm_load.specs.Script.{line_text}
 use Rattle.lvm_load.proofs.ScriptLemmas.Growing.{begins, err_of, front_at_end, front_at_fault, front_at_first, front_at_want, ok_of, one_more}
 use Rattle.lvm_load.proofs.script.write_script.Goals as goal

@@ -3,7 +3,7 @@ use Rattle.std.specs.Prelude.{ℕ, ◌+◌, ◌%◌, ◌==◌, Bool, zero, suc}
 use Rattle.rand_core.specs.Pcg32Seed.{pcg32_seed}
 use Rattle.rand_pcg.specs.Lcg.{Lcg}
 use Rattle.rand_pcg.specs.Pcg.{pcg32, pcg32_of_seed}
-use Rattle.lvm_load.specs.declared.words.Draw.{Draw}
+use Rattle.lvm_workers.specs.declared.words.Draw.{Draw}
 
 -- the generator that a number seeds
 abbrev pub seeded : ℕ → Lcg

@@ -1,6 +1,6 @@
 //! Words are drawn, three for each request.
 ghost use Rattle.std.specs.Prelude.{◌≡◌};
-ghost use Rattle.lvm_load.specs.Draws.{after_draw, after_word, blocks_of, draw_at, is_write, seeded, word_at};
+ghost use Rattle.lvm_workers.specs.Draws.{after_draw, after_word, blocks_of, draw_at, is_write, seeded, word_at};
 
 use rand_core::SeedableRng;
 use rand_core::utils::NextWord;

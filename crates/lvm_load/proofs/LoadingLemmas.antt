@@ -1,0 +1,109 @@
+-- What a load leaves, by what its workers know and the value that the lock gives back.
+use Rattle.std.proofs.Common.{◌≡◌, ◌≤◌, ◌<◌, ◌+◌, ℕ, zero, suc, Option, List, [], ◌∷◌, ◌++◌, length, refl, sym, ap, ◌∙◌, subst, ⊎_elim, inl, inr}
+use Rattle.std.proofs.lemmas.List.{append-nil}
+use Rattle.atomic_table.specs.Seated.{TableId}
+use Rattle.lvm_num.specs.Buffer.{Sector}
+use Rattle.lvm_num.specs.Counting.{RoseBy}
+use Rattle.lvm_vol.specs.Facts.{Fact, Begun, begun}
+use Rattle.lvm_vol.specs.Fronts.{own}
+use Rattle.lvm_vol.proofs.FrontsLemmas.{begins_further, own-append}
+use Rattle.lvm_turn.specs.Calls.{Continues, IsIdle}
+use Rattle.lvm_turn.specs.Views.{Standing, View, counted, renewed, up_to}
+use Rattle.lvm_turn.proofs.CallsLemmas.Idle.{idle_all}
+use Rattle.lvm_session.specs.declared.open.Power.TheVariants as power
+use Rattle.lvm_session.specs.Sound.{IsSound}
+use Rattle.lvm_session.specs.State.{State}
+use Rattle.lvm_driver.proofs.passed.Names.{runs_none}
+use Rattle.lvm_workers.specs.declared.work.Tally.{Tally}
+use Rattle.lvm_workers.specs.Counting.{begun_of, sum_to}
+use Rattle.lvm_workers.specs.Crews.{AllMade, begun_over, job_of, share}
+use Rattle.lvm_workers.specs.Knowing.{HasCause, Refused, WasUnheard}
+use Rattle.lvm_workers.specs.Making.{HasMade}
+use Rattle.lvm_workers.proofs.CountingLemmas.{begun_by_client, begun_over_all, sum_same}
+use Rattle.lvm_workers.proofs.KnowingLemmas.{rose_on}
+use Rattle.lvm_load.specs.declared.load.Load.{Load}
+use Rattle.lvm_load.specs.Lending.{IsDrawnAs, IsNotTaken, IsServing, Plan, counts_in, told_in}
+use Rattle.lvm_load.specs.Waits.{waits_grow, waits_in}
+use Rattle.lvm_load.specs.Loading.{HasLoaded, IsFresh, WasNotTaken, WasUnheardOf, crew_of, plan_of}
+
+-- ---- the beginning
+
+ends_so : (before : List Fact) (f : Fact) → before ++ f ∷ [] ≡ [] → ⊥
+ends_so [] f e = cc e
+ends_so (g ∷ before) f e = cc e
+
+-- a sound session without a request serves, from itself
+pub serves_first : (s : State) (lv blocks : ℕ) (load : Load) → IsSound s → (s.core.power ≡ power.Stuck → ⊥) → IsFresh s.core.history.facts → IsServing (plan_of s lv blocks load) s
+serves_first s lv blocks load sound unstuck fresh = record {
+  sound = sound;
+  runs = runs_none s;
+  unstuck = unstuck;
+  since = [];
+  is = sym (append-nil s.core.history.facts);
+  clients = tt;
+  holds = λ client before r ends. absurd (ends_so before (Begun r) (sym ends ∙ fresh client));
+}
+
+-- clients without entries stay as they are
+pub renewed_fresh : (facts : List Fact) (n : ℕ) → IsFresh facts → renewed facts (up_to n) ≡ up_to n
+renewed_fresh facts zero fresh = refl
+renewed_fresh facts (suc n) fresh = λ i. record { number = suc n; own = fresh (suc n) i } ∷ renewed_fresh facts n fresh i
+
+-- ---- the end
+
+module _ {V : Type 0} (plan : Plan) (load : Load) (s_of : V → State) (past : V → Option (List (List Sector))) (always : V → Type 0) (serves : (y : V) → always y → IsServing plan (s_of y))
+    (table : TableId) (p : Standing) (y : V) (continues : Continues (λ v. told_in (s_of v)) past always p.knows y) where
+  abbrev last : State
+  last = s_of y
+
+  abbrev its : IsServing plan last
+  its = serves y continues.always_holds
+
+  module _ (clients : plan.clients ≡ load.threads) (fresh : IsFresh plan.first.core.history.facts) (idle : IsIdle table (counted load.threads) p) where
+    own_since : (c : ℕ) → own c last.core.history.facts ≡ own c its.since
+    own_since c = ap (own c) its.is ∙ own-append c plan.first.core.history.facts its.since ∙ ap (λ (l : List Fact). l ++ own c its.since) (fresh c)
+
+    pub all_made : AllMade (λ c number d r. IsDrawnAs plan c number d r) (crew_of load) p.knows.clients
+        → (c : ℕ) → 0 < c → c ≤ load.threads → HasMade (λ number d r. IsDrawnAs plan c number d r) (job_of (crew_of load) c).seed (share (crew_of load) c) (begun_of its.since c) (own c its.since)
+    all_made made c low high =
+        let held = idle_all table (counted load.threads) p idle load.threads load.threads refl refl c low high in
+        let same : held.0 ≡ own c its.since = sym (continues.own_entries c held.0 held.1) ∙ own_since c in
+        subst (λ (l : List Fact). HasMade (λ number d r. IsDrawnAs plan c number d r) (job_of (crew_of load) c).seed (share (crew_of load) c) (length (begun l)) l) same (made c held.0 held.1)
+
+    pub all_begun : (t : Tally) → t.begun ≡ begun_over p.knows.clients → t.begun ≡ length (begun its.since)
+    all_begun t is =
+        is ∙ begun_over_all load.threads last.core.history.facts p.knows.clients idle.holds continues.own_entries
+        ∙ sum_same (begun_of last.core.history.facts) (begun_of its.since) (λ c. ap (λ (l : List Fact). length (begun l)) (own_since c)) load.threads
+        ∙ sym (subst (λ n. length (begun its.since) ≡ sum_to (begun_of its.since) n) clients (begun_by_client plan.clients its.since its.clients))
+
+    module _ (first : View) (t : Tally) (begins : first.counts ≡ counts_in plan.first)
+        (cause : HasCause (Refused (λ v. told_in (s_of v)) past always (λ v client number d. IsNotTaken plan (s_of v) client d)) waits_in first p.knows t) where
+      unheard_of : WasUnheard waits_in first p.knows → WasUnheardOf plan.first last
+      unheard_of rose =
+          rose_on 1000000 plan.first.device.counts.waits (waits_in p.knows.counts) last.device.counts.waits
+          (subst (λ (k : List ℕ). RoseBy 1000000 (waits_in k) (waits_in p.knows.counts)) begins rose)
+          (waits_grow p.knows.counts (counts_in last) continues.none_fell)
+
+      not_taken : Refused (λ v. told_in (s_of v)) past always (λ v client number d. IsNotTaken plan (s_of v) client d) p.knows → WasNotTaken plan last
+      not_taken was = record {
+        at = s_of was.value;
+        serves = serves was.value was.holds;
+        client = was.client;
+        drawn = was.drawn;
+        why = was.why;
+        before = begins_further (s_of was.value).core.history.facts p.knows.front last.core.history.facts was.front continues.front;
+      }
+
+      pub has_loaded : AllMade (λ c number d r. IsDrawnAs plan c number d r) (crew_of load) p.knows.clients → t.begun ≡ begun_over p.knows.clients → t.begun + t.unbegun ≡ load.requests → HasLoaded plan load last t
+      has_loaded made begun_is all = record {
+        since = its.since;
+        is = its.is;
+        made = all_made made;
+        begun = all_begun t begun_is;
+        all = all;
+        unbegun = λ some_are. ⊎_elim
+            (λ (r : Refused (λ v. told_in (s_of v)) past always (λ v client number d. IsNotTaken plan (s_of v) client d) p.knows). inl (not_taken r))
+            (λ (u : WasUnheard waits_in first p.knows). inr (unheard_of u))
+            (cause.unbegun some_are);
+        unheard = λ is. unheard_of (cause.unheard is);
+      }

@@ -1,0 +1,161 @@
+//! A session that a lock lends to workers.
+ghost use Rattle.std.specs.Prelude.{◌≡◌, ◌≤◌, ◌*◌, ℕ, false, if◌then◌else◌};
+ghost use Rattle.lvm_keeps.specs.Failing.{unsettled};
+ghost use Rattle.lvm_load.specs.Lending.{Plan, apart_draw};
+ghost use Rattle.lvm_load.specs.Requests.{word_of};
+ghost use Rattle.lvm_workers.specs.declared.service.Asked.TheVariants as asked;
+
+use crate::client::goes_on;
+use crate::request::submit_drawn;
+use lvm_disk::Shelf;
+use lvm_driver::Driver;
+use lvm_session::{AskFault, Taken, Turned};
+use lvm_vol::{Past, Shown};
+use lvm_workers::{Asked, Draw, Seen, Service};
+use std::marker::{Brand, PhantomData};
+
+// Between the words of a client's requests.
+const STRIDE: u64 = 8;
+
+// The blocks of a track group.
+const GROUP: u32 = 256;
+
+/// Names what a load begins with. Each load picks it.
+pub(crate) trait Lending {
+    ghost plan: { Plan };
+}
+
+impl Lending for Brand {
+    ghost plan = { record { first = unsettled; clients = 0; lv = 0; blocks = 0; apart = false } };
+}
+
+/// A session, with room for what its clients write.
+#[derive(Drop)]
+pub(crate) struct Lent<S: Shelf, J: Lending> {
+    pub(crate) driver: Driver<S>,
+    pub(crate) bytes: Vec<u8>,
+    pub(crate) lv: u16,
+    pub(crate) blocks: u64,
+    pub(crate) apart: bool,
+    pub(crate) named: PhantomData<J>,
+}
+
+// The draw of a client that writes to its own track group alone.
+fn apart_draw(blocks: u64, client: u32, drawn: &Draw) -> Draw
+    requires blocks { 256 ≤ blocks }
+    requires client { (1 ≤ client) × (client ≤ 128) }
+    ensures { result ≡ apart_draw blocks client drawn.now }
+{
+    let group = u64::from(client - 1) % (blocks / u64::from(GROUP));
+    Draw {
+        at: drawn.at % GROUP + GROUP * group as u32,
+        count: drawn.count,
+        kind: 1,
+    }
+}
+
+// The draw as it is asked for.
+fn shaped(apart: bool, blocks: u64, client: u32, drawn: &Draw) -> Draw
+    requires blocks { 256 ≤ blocks }
+    requires client { (1 ≤ client) × (client ≤ 128) }
+    ensures { result ≡ (if apart then apart_draw blocks client drawn.now else drawn.now) }
+{
+    if apart {
+        apart_draw(blocks, client, drawn)
+    } else {
+        *drawn
+    }
+}
+
+// The answer to a request that isn't taken for this.
+fn refused(why: AskFault) -> Asked
+    ensures { (id : ℕ) → result ≡ asked.Begun id → ⊥ }
+{
+    if goes_on(why) {
+        Asked::Full
+    } else {
+        Asked::Refused
+    }
+}
+
+// The word of a client's request, with so many drawn before it.
+fn word_of(client: u32, number: u32) -> u64
+    ensures { result ≡ word_of client (8 * number) }
+{
+    let first = 0x1_0000_0000 * u64::from(client);
+    first.wrapping_add(STRIDE * u64::from(number))
+}
+
+impl<S: Shelf, J: Lending> Past for Lent<S, J> {
+    ghost use Rattle.lvm_driver.specs.Showing.{image_of};
+
+    ghost past = { λ d. image_of J.plan.first.device };
+}
+
+impl<S: Shelf, J: Lending> Shown for Lent<S, J> {
+    ghost use Rattle.std.specs.Prelude.{◌≡◌, ◌≤◌, vec_capacity};
+    ghost use Rattle.lvm_session.specs.State.{state_of};
+    ghost use Rattle.lvm_load.specs.Lending.{IsServing, told_in};
+
+    ghost tells = { λ d. told_in (state_of S.device d.driver) };
+
+    ghost always = { λ d. IsServing J.plan (state_of S.device d.driver) × (131072 ≤ vec_capacity d.bytes)
+        × (d.lv ≡ J.plan.lv) × (d.blocks ≡ J.plan.blocks) × (d.apart ≡ J.plan.apart) × (256 ≤ d.blocks) × (J.plan.clients ≤ 128) };
+
+    fn shown(&self) -> u64 {
+        u64::from(self.driver.history().len())
+    }
+}
+
+impl<S: Shelf, J: Lending> Service for Lent<S, J> {
+    ghost use Rattle.lvm_session.specs.State.{state_of};
+    ghost use Rattle.lvm_load.specs.Lending.{IsDrawnAs, IsNotTaken};
+    ghost use Rattle.lvm_load.specs.Waits.{waits_grow, waits_in};
+
+    ghost clients = { J.plan.clients };
+
+    ghost asks = { λ client number d r. IsDrawnAs J.plan client number d r };
+
+    ghost refuses = { λ y client number d. IsNotTaken J.plan (state_of S.device y.driver) client d };
+
+    ghost waits = { waits_in };
+
+    fn ask(&mut self, client: u32, number: u32, drawn: &Draw) -> Asked {
+        let word = word_of(client, number);
+        let shaped = shaped(self.apart, self.blocks, client, drawn);
+        let asked = submit_drawn(
+            &mut self.driver,
+            client,
+            &shaped,
+            self.lv,
+            self.blocks,
+            word,
+            &mut self.bytes,
+        );
+        self.driver.is_sound();
+        match asked {
+            Ok(id) => Asked::Begun(id),
+            Err(why) => refused(why),
+        }
+    }
+
+    fn look(&mut self, client: u32, id: u64) -> Seen {
+        self.driver.is_sound();
+        match self.driver.take(client, id) {
+            Taken::NotYet => {
+                let answer = self.driver.turn();
+                self.driver.is_sound();
+                match answer {
+                    Turned::Idle => Seen::Idle,
+                    _ => Seen::Moved,
+                }
+            }
+            _ => {
+                self.driver.is_sound();
+                Seen::Taken
+            }
+        }
+    }
+
+    ghost waits_stay = { waits_grow };
+}

@@ -1,0 +1,44 @@
+-- What each step of a worker does to its pass.
+use Rattle.std.specs.Prelude.{◌≡◌, ◌⊎◌, ℕ, ◌++◌, Bool, true, false, List, [], ◌∷◌}
+use Rattle.lvm_vol.specs.Facts.{Request, Fact, Begun, Taken}
+use Rattle.lvm_turn.specs.Views.{View}
+use Rattle.lvm_workers.specs.declared.service.Asked.{Asked}
+use Rattle.lvm_workers.specs.declared.service.Seen.{Seen}
+use Rattle.lvm_workers.specs.declared.service.Seen.TheVariants as seen
+use Rattle.lvm_workers.specs.declared.work.Served.{Served}
+use Rattle.lvm_workers.specs.declared.work.Served.TheVariants as served
+use Rattle.lvm_workers.specs.Serving.{AskEnters}
+use Rattle.lvm_workers.specs.Knowing.{WasUnheard, first_own}
+
+-- the entries that are the worker's own
+abbrev pub own_of : View → List Fact
+own_of v = first_own v.clients
+
+-- the last that the worker did is to begin the request of this number
+pub record AwaitsIn (id : ℕ) (v : View) : Type 0 where
+  pub before : List Fact
+  pub request : Request
+  pub number : request.id ≡ id
+  pub last : own_of v ≡ before ++ Begun request ∷ []
+
+-- it has asked for a request
+pub record AskTells (Asks : Request → Type 0) (WasRefused : View → Type 0) (client : ℕ) (old : View) (answer : Asked) (new : View) : Type 0 where
+  pub more : List Fact
+  pub own : own_of new ≡ own_of old ++ more
+  pub enters : AskEnters Asks (WasRefused new) client answer more
+
+-- it has looked for an answer
+pub data LookTells (id : ℕ) (old : View) (answer : Seen) (new : View) : Type 0 where
+  IsTaken : (t : Request) → t.id ≡ id → answer ≡ seen.Taken → own_of new ≡ own_of old ++ Taken t ∷ [] → LookTells id old answer new
+  IsNotYet : (answer ≡ seen.Taken → ⊥) → own_of new ≡ own_of old → LookTells id old answer new
+
+-- it has waited for one, and this says whether it was taken
+abbrev pub WaitTells : (List ℕ → ℕ) → ℕ → View → Bool → View → Type 0
+WaitTells waits id old true new = (t : Request) × (t.id ≡ id) × (own_of new ≡ own_of old ++ Taken t ∷ [])
+WaitTells waits id old false new = (own_of new ≡ own_of old) × WasUnheard waits old new
+
+-- it has asked for a request that is drawn, and waited for its answer
+pub data ServeTells (Asks : Request → Type 0) (WasRefused : View → Type 0) (waits : List ℕ → ℕ) (old : View) (answer : Served) (new : View) : Type 0 where
+  IsAnswered : (r t : Request) → Asks r → t.id ≡ r.id → answer ≡ served.Answered → own_of new ≡ own_of old ++ Begun r ∷ Taken t ∷ [] → ServeTells Asks WasRefused waits old answer new
+  IsUnheard : (r : Request) → Asks r → answer ≡ served.Unheard → own_of new ≡ own_of old ++ Begun r ∷ [] → WasUnheard waits old new → ServeTells Asks WasRefused waits old answer new
+  NotTaken : WasRefused new → (answer ≡ served.Passed) ⊎ (answer ≡ served.Refused) → own_of new ≡ own_of old → ServeTells Asks WasRefused waits old answer new
