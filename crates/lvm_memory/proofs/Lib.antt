@@ -3,6 +3,7 @@ mod DeviceLemmas
 mod DepartureLemmas
 mod StepsLemmas
 mod BenchLemmas
+mod GateLemmas
 mod BufferLemmas
 mod PiecesLemmas
 pub mod MediaLemmas
