@@ -1,8 +1,9 @@
 -- A write that is kept back.
-use Rattle.std.proofs.Common.{◌≡◌, ◌<◌, ◌+◌, ◌==◌, if◌then◌else◌, [], ◌∷◌, ℕ, zero, suc, List, Bool, true, false, cond, map, length, Option, Some, None, MatchOption, slice_set, get_or, refl, sym, ◌∙◌, ap, subst, arith}
+use Rattle.std.proofs.Common.{◌≡◌, ◌<◌, ◌+◌, ◌==◌, if◌then◌else◌, [], ◌∷◌, ◌++◌, ℕ, zero, suc, List, take, drop, Bool, true, false, cond, map, length, Option, Some, None, MatchOption, slice_set, get_or, refl, sym, ◌∙◌, ap, subst, arith}
 use Rattle.std.specs.Prelude.{slice_get}
 use Rattle.std.specs.List.{position}
 use Rattle.std.proofs.lemmas.Bool.{eq-eqb, eqb-true}
+use Rattle.std.proofs.lemmas.List.{append-nil, drop_all, take_all}
 use Rattle.std.proofs.lemmas.List.Quantifiers.{position-Some}
 use Rattle.lvm_disk.specs.Device.{Device, Flight}
 use Rattle.lvm_memory.specs.Bench.{Bench, Begins, DarkensBy, ReapsAsPlanned}
@@ -72,6 +73,11 @@ module _ (ticket delay : ℕ) where
 pub passed_over : (ticket delay : ℕ) (old now : List Flying) → flights_of now ≡ flights_of old → delays_of now ≡ delayed ticket delay old → 0 < delay → IsPassedOver ticket (flights_of now) (delays_of now)
 passed_over ticket delay old now flights delays some =
     subst (λ (fs : List Flight). IsPassedOver ticket fs (delays_of now)) (sym flights) (subst (λ (ns : List ℕ). IsPassedOver ticket (flights_of old) ns) (sym delays) (delayed_over ticket delay old some))
+
+-- the elements of a vector that was written as a slice
+pub written_back : (len : ℕ) (new old : List Flying) → length new ≡ len → length old ≡ len → take len (new ++ drop (length new) old) ≡ new
+written_back len new old is was =
+    ap (λ (l : List Flying). take len (new ++ l)) (drop_all (length new) old (omega (arith, is, was))) ∙ ap (take len) (append-nil new) ∙ take_all len new (omega (arith, is))
 
 -- ---- a reap doesn't end them
 
