@@ -97,7 +97,7 @@ names_print (b ∷ name) all = let parts = and_parts (is_name_byte b) (list_all 
 reads_name : (b : ℕ) (bs : List ℕ) (column end : ℕ) → (b == 45) ≡ false → is_name (b ∷ bs) ≡ true
     → rule rows (codes "varyonvg") 1 (record { words = record { column = column; bytes = b ∷ bs } ∷ []; end = end }) ≡ Ok (command.Varyon (b ∷ bs))
 unfolding option operand ends
-reads_name b bs column end no is = rw (no, is) refl
+reads_name b bs column end unsigned is = rw (unsigned, is) refl
 
 pub varyon_reads : (name : List ℕ) → is_name name ≡ true → line_of (varyon_line name) ≡ Ok (Some (command.Varyon name))
 varyon_reads [] is = let no = no_name [] refl in absurd (cc (no, is))

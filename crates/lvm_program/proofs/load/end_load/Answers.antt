@@ -15,10 +15,10 @@ pub returns-in_default-clause-ends : goal.returns-in_default-clause-ends
 returns-in_default-clause-ends g c = NoSuchVolume (c.is_ok.ensures.0 c.if-not-is_ok.false) c.in_default.ensures.none c.refuse-in_default.ensures.refused
 
 pub load-requires-clause-on : goal.load-requires-clause-on
-load-requires-clause-on g c = serving_on g.S.Shelf.device c.args.stage c.in-Serving.driver c.in-Serving.is (c.requires.between (λ stuck. ok_heard (sym (c.is_ok.ensures.0 c.if-not-is_ok.false) ∙ stuck)))
+load-requires-clause-on g c = λ κs. serving_on g.S.Shelf.device c.args.stage c.in-Serving.driver c.in-Serving.is (c.requires.between (λ stuck. ok_heard (sym (c.is_ok.ensures.0 c.if-not-is_ok.false) ∙ stuck)))
 
 pub load-requires-clause-fresh : goal.load-requires-clause-fresh
-load-requires-clause-fresh g c = subst (λ (h : Holder _). IfSome (session_of h) (λ (core : Core). IsFresh core.history.facts)) c.in-Serving.is (c.requires.fresh (c.is_ok.ensures.0 c.if-not-is_ok.false))
+load-requires-clause-fresh g c = λ κs. subst (λ (h : Holder _). IfSome (session_of h) (λ (core : Core). IsFresh core.history.facts)) c.in-Serving.is (c.requires.fresh (c.is_ok.ensures.0 c.if-not-is_ok.false))
 
 pub returns-clause-ends : goal.returns-clause-ends
 returns-clause-ends g c =

@@ -5,10 +5,10 @@ use Rattle.lvm_top.specs.passed.GroupLines.{without_facts}
 use Rattle.lvm_program.proofs.load.serve.Goals as goal
 
 pub serve_load-driver-requires-clause-unstuck : goal.serve_load-driver-requires-clause-unstuck
-serve_load-driver-requires-clause-unstuck g c = λ stuck. let e = sym c.requires.on ∙ stuck in cc e
+serve_load-driver-requires-clause-unstuck g c = λ κs stuck. let e = sym c.requires.on ∙ stuck in cc e
 
 pub serve_load-driver-requires-clause-some : goal.serve_load-driver-requires-clause-some
-serve_load-driver-requires-clause-some g c = (c.requires.some.0.0, c.requires.some.0.1, c.requires.some.1)
+serve_load-driver-requires-clause-some g c = λ κs. (c.requires.some.0.0, c.requires.some.0.1, c.requires.some.1)
 
 pub returns-clause-made : goal.returns-clause-made
 returns-clause-made g c = record {
