@@ -36,6 +36,10 @@ pub returns : goal.returns
 returns c =
     let s = c.args.self.now in
     let flying = c.take_flight-flying.result in
-    failed (device_of s) (flight_of flying) c.args.place c.pick.result flying.buf (media_of s.disks.items) (media_of c.tear_flight.new.disks.items) (sizes_of c.tear_flight.new.disks.items)
-    (flights_of c.take_flight-flying.new.flights.items) (counts_of c.count_failure.new.self) c.requires.power refl c.take_flight-flying.ensures.there c.tear_flight.ensures.disks.sizes
-    c.take_flight-flying.ensures.flights c.tear_flight.ensures.torn refl c.count_failure.ensures.counted
+    record {
+      gives =
+          failed (device_of s) (flight_of flying) c.args.place c.pick.result flying.buf (media_of s.disks.items) (media_of c.tear_flight.new.disks.items) (sizes_of c.tear_flight.new.disks.items)
+          (flights_of c.take_flight-flying.new.flights.items) (counts_of c.count_failure.new.self) c.requires.power refl c.take_flight-flying.ensures.there c.tear_flight.ensures.disks.sizes
+          c.take_flight-flying.ensures.flights c.tear_flight.ensures.torn refl c.count_failure.ensures.counted;
+      failed = tt;
+    }
