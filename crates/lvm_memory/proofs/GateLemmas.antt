@@ -1,12 +1,12 @@
 -- A write that is kept back.
-use Rattle.std.proofs.Common.{◌≡◌, ◌<◌, ◌+◌, ◌==◌, if◌then◌else◌, [], ◌∷◌, ◌++◌, ℕ, zero, suc, List, take, drop, Bool, true, false, cond, map, length, Option, Some, None, MatchOption, slice_set, get_or, refl, sym, ◌∙◌, ap, subst, arith}
+use Rattle.std.proofs.Common.{◌≡◌, ◌<◌, ◌+◌, ◌==◌, if◌then◌else◌, [], ◌∷◌, ◌++◌, ℕ, zero, suc, List, take, drop, Bool, true, false, length, Option, Some, None, MatchOption, slice_set, get_or, refl, sym, ◌∙◌, ap, subst, arith}
 use Rattle.std.specs.Prelude.{slice_get}
 use Rattle.std.specs.List.{position}
 use Rattle.std.proofs.lemmas.Bool.{eq-eqb, eqb-true}
 use Rattle.std.proofs.lemmas.List.{append-nil, drop_all, take_all}
 use Rattle.std.proofs.lemmas.List.Quantifiers.{position-Some}
 use Rattle.lvm_disk.specs.Device.{Device, Flight}
-use Rattle.lvm_memory.specs.Bench.{Bench, Begins, DarkensBy, ReapsAsPlanned}
+use Rattle.lvm_memory.specs.Bench.{Bench, DarkensBy, ReapsAsPlanned}
 use Rattle.lvm_memory.specs.Flights.{delayed, delays_of, flight_of, flights_of}
 use Rattle.lvm_memory.specs.Gate.{HoldsOn, IsKeptBack, IsFailing, IsPassedOver, KeepsBack}
 use Rattle.lvm_memory.specs.Injection.{cut_planned}
@@ -121,6 +121,13 @@ keeps_back (gate.Held ticket) old new reaped.Empty planned over = tt
 keeps_back (gate.Held ticket) old new (reaped.Dark freed) planned over = tt
 keeps_back gate.Before old new answer planned over = tt
 keeps_back gate.Behind old new answer planned over = tt
+
+-- it is kept back on
+pub holds_still : (g : Gate) (left : ℕ) (answer : Reaped) → HoldsOn g left g answer
+holds_still g left (reaped.Done t buf) = refl
+holds_still g left (reaped.Failed t buf) = λ some. refl
+holds_still g left reaped.Empty = refl
+holds_still g left (reaped.Dark freed) = tt
 
 -- while answers are left, however many
 pub keeps_however : (g : Gate) (left : ℕ) (answer : Reaped) → KeepsBack g 1 answer → KeepsBack g left answer

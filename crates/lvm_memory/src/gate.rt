@@ -1,7 +1,7 @@
 //! A shelf in memory that keeps back a write.
-ghost use Rattle.std.specs.Prelude.{◌≡◌};
-ghost use Rattle.lvm_memory.specs.Gate.{after_data};
+ghost use Rattle.std.specs.Prelude.{◌≡◌, None};
 ghost use Rattle.lvm_memory.specs.Memory.{device_of};
+ghost use Rattle.std.proofs.Props.{props};
 
 use crate::memory::MemShelf;
 use lvm_disk::{Arrange, Reaped, Shelf, Started};
@@ -32,6 +32,7 @@ pub struct GateShelf {
     inner: MemShelf,
     left: u32,
     gate: Gate,
+    ghost unheeding: { (device_of inner).orders.alone ≡ None } by { Prim.hlevel props },
 }
 
 impl GateShelf {
@@ -39,11 +40,15 @@ impl GateShelf {
     ghost use Rattle.lvm_disk.specs.Steps.{ReapGives};
     ghost use Rattle.lvm_memory.specs.Gate.{HoldsOn, IsKeptBack, KeepsBack, after_data};
     ghost use Rattle.lvm_memory.specs.Memory.{bench_of, device_of};
+    ghost use Rattle.lvm_memory.specs.Bench.{heeding_no_more};
 
-    /// Over these disks.
-    pub fn new(inner: MemShelf, limit: u32) -> GateShelf
-        ensures { result ≡ record { inner = inner; left = limit; gate = Gate.Before } }
+    /// Over these disks, which from now on tell no more that they heed orders alone.
+    pub fn new(mut inner: MemShelf, limit: u32) -> GateShelf
+        ensures inner { bench_of result.inner ≡ heeding_no_more (bench_of inner) }
+        ensures left { result.left ≡ limit }
+        ensures gate { result.gate ≡ Gate.Before }
     {
+        inner.heed_no_more();
         GateShelf {
             inner,
             left: limit,

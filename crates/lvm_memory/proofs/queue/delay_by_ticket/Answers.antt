@@ -1,7 +1,7 @@
 use Rattle.std.proofs.Common.{◌≡◌, ◌∙◌, length, ap, arith, ℕ}
 use Rattle.lvm_memory.specs.Flights.{delays_of, flights_of}
 use Rattle.lvm_memory.specs.declared.flying.Flying.{Flying}
-use Rattle.std.proofs.Common.{List, get_or}
+use Rattle.std.proofs.Common.{get_or}
 use Rattle.lvm_memory.proofs.GateLemmas.{all_delayed, next_delayed, same_flights, so_far}
 use Rattle.lvm_memory.proofs.queue.delay_by_ticket.Goals as goal
 
