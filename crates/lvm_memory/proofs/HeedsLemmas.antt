@@ -1,13 +1,19 @@
 -- Shelves in memory that do nothing but what they are ordered.
-use Rattle.std.proofs.Common.{◌≡◌, ◌++◌, [], ◌∷◌, ℕ, List, Bool, true, false, cond, length, slice_index_or, IfSome, refl, sym, ◌∙◌, ap, subst, arith}
+use Rattle.std.proofs.Common.{◌≡◌, ◌++◌, [], ◌∷◌, ℕ, List, Bool, true, false, Option, Some, None, MatchOption, inl, inr, cond, length, slice_index_or, IfSome, refl, sym, ◌∙◌, ap, subst, arith}
+use Rattle.lvm_num.specs.Buffer.{Buffer}
 use Rattle.lvm_disk.specs.Counts.{next_count}
-use Rattle.lvm_disk.specs.Device.{Ordered}
-use Rattle.lvm_disk.specs.Steps.{ordered_by}
+use Rattle.lvm_disk.specs.Device.{Device, Ordered}
+use Rattle.lvm_disk.specs.Steps.{StartGives, GoesDark, ReapGives, FreedGives, ArrangeGives, ordered_by, with_order}
+use Rattle.lvm_disk.specs.declared.shelf.Arrange.{Arrange}
 use Rattle.lvm_disk.specs.declared.shelf.Arrange.TheVariants as arrange
-use Rattle.lvm_memory.specs.Injection.{Injection, due, after_acts, next_call, begun}
+use Rattle.lvm_disk.specs.declared.shelf.Started.{Started}
+use Rattle.lvm_disk.specs.declared.shelf.Started.TheVariants as started
+use Rattle.lvm_disk.specs.declared.shelf.Reaped.{Reaped}
+use Rattle.lvm_disk.specs.declared.shelf.Reaped.TheVariants as reaped
+use Rattle.lvm_memory.specs.Injection.{Injection, due, after_acts, cut_planned, next_call, begun}
 use Rattle.lvm_memory.specs.Flights.{NoDelays}
 use Rattle.lvm_memory.specs.Sound.{IsUnplanned}
-use Rattle.lvm_memory.specs.Bench.{ordered_of}
+use Rattle.lvm_memory.specs.Bench.{Bench, Begins, DarkensBy, ordered_of}
 use Rattle.lvm_memory.specs.declared.injector.Planned.{Planned}
 use Rattle.lvm_memory.proofs.TicketsLemmas.{none_more}
 
@@ -35,6 +41,55 @@ pub fails_as_ordered :
     (heeds : Bool) (cuts : ℕ) (failing : List Bool) (disk : ℕ) → slice_index_or failing disk false ≡ true → IfSome (ordered_of heeds cuts failing) (λ (ordered : Ordered). slice_index_or ordered.failing disk false ≡ true)
 fails_as_ordered true cuts failing disk fails = fails
 fails_as_ordered false cuts failing disk fails = tt
+
+-- ---- of a shelf that doesn't heed orders alone nothing is told
+
+some_none : (o : Ordered) → Some o ≡ None → ⊥
+some_none o e = cc e
+
+pub heeds_not : (heeds : Bool) (cuts : ℕ) (failing : List Bool) → ordered_of heeds cuts failing ≡ None → heeds ≡ true → ⊥
+heeds_not true cuts failing none heeds = some_none _ none
+heeds_not false cuts failing none heeds = cc heeds
+
+-- any disk may fail
+pub fails_unheeding : (alone : Option Ordered) (disk : ℕ) → alone ≡ None → IfSome alone (λ (ordered : Ordered). slice_index_or ordered.failing disk false ≡ true)
+fails_unheeding alone disk none = subst (λ (o : Option Ordered). IfSome o (λ (ordered : Ordered). slice_index_or ordered.failing disk false ≡ true)) (sym none) tt
+
+-- no step of such a shelf makes it one that does
+abbrev Alone : Device → Option Ordered
+Alone device = device.orders.alone
+
+dark_unheeding : (old new : Device) → Alone old ≡ None → GoesDark old new → Alone new ≡ None
+dark_unheeding old new none (inl (off, same)) = ap Alone same ∙ none
+dark_unheeding old new none (inr cuts) = ap Alone cuts.new_is ∙ none
+
+begun_dark : (o : Option ℕ) (old new : Device) → Alone old ≡ None → MatchOption o (new ≡ old) (λ word. (new.power ≡ false) × DarkensBy word old new) → Alone new ≡ None
+begun_dark None old new none same = ap Alone same ∙ none
+begun_dark (Some word) old new none (off, inl (was, same)) = ap Alone same ∙ none
+begun_dark (Some word) old new none (off, inr cut) = ap Alone cut.cuts.new_is ∙ none
+
+pub begun_unheeding : (old new : Bench) → Alone old.device ≡ None → Begins old new → Alone new.device ≡ None
+begun_unheeding old new none begins = begun_dark (cut_planned old.injection) old.device new.device none begins.device
+
+pub started_unheeding : (old new : Device) (disk first count : ℕ) (write : Bool) (buf : Buffer) (answer : Started) → Alone old ≡ None → StartGives old new disk first count write buf answer → Alone new ≡ None
+started_unheeding old new disk first count write buf (started.Ticket ticket) none gives = ap Alone gives.new_is ∙ none
+started_unheeding old new disk first count write buf (started.Dark back) none (same, off, dark) = dark_unheeding old new none dark
+
+pub reaped_unheeding : (old new : Device) (answer : Reaped) → Alone old ≡ None → ReapGives old new answer → Alone new ≡ None
+reaped_unheeding old new reaped.Empty none gives = ap Alone gives.new_is ∙ none
+reaped_unheeding old new (reaped.Done ticket buf) none gives = ap Alone gives.new_is ∙ none
+reaped_unheeding old new (reaped.Failed ticket buf) none gives = ap Alone gives.new_is ∙ none
+reaped_unheeding old new (reaped.Dark freed) none (dark, off, count) = dark_unheeding old new none dark
+
+pub freed_unheeding : (old new : Device) (back : Option Buffer) → Alone old ≡ None → FreedGives old new back → Alone new ≡ None
+freed_unheeding old new None none (empty, same) = ap Alone same ∙ none
+freed_unheeding old new (Some buf) none is = sym (ap Alone is) ∙ none
+
+pub arranged_unheeding : (old new : Device) (what : Arrange) (answer : Bool) → Alone old ≡ None → ArrangeGives old new what answer → Alone new ≡ None
+arranged_unheeding old new what false none (never, same) = ap Alone same ∙ none
+arranged_unheeding old new (arrange.Fail disk) true none (can, is) = ap Alone is ∙ ap (ordered_by old.power (arrange.Fail disk)) none
+arranged_unheeding old new (arrange.Heal disk) true none (can, is) = ap Alone is ∙ ap (ordered_by old.power (arrange.Heal disk)) none
+arranged_unheeding old new (arrange.Cut word) true none (can, gives) = dark_unheeding (with_order old (arrange.Cut word)) new (ap (ordered_by old.power (arrange.Cut word)) none) gives.1
 
 -- ---- no plan
 

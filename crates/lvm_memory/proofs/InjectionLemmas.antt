@@ -1,5 +1,5 @@
 -- Acts that are done one after another.
-use Rattle.std.proofs.Common.{◌≡◌, ℕ, List, [], ◌∷◌, Bool, true, false, length, drop, Option, Some, None, refl, ◌∙◌, ap, length-set}
+use Rattle.std.proofs.Common.{◌≡◌, ℕ, List, [], ◌∷◌, true, false, length, drop, Option, Some, None, refl, ◌∙◌, length-set}
 use Rattle.lvm_memory.specs.Injection.{Injection, due, after_act, after_acts, first_cut}
 use Rattle.lvm_memory.specs.declared.injector.Act.{Act}
 use Rattle.lvm_memory.specs.declared.injector.Act.TheVariants.{Fail, Heal, Cut, Pick, Delay}

@@ -4,6 +4,7 @@ mod DepartureLemmas
 mod StepsLemmas
 mod BenchLemmas
 mod HeedsLemmas
+mod GateLemmas
 mod BufferLemmas
 mod PiecesLemmas
 pub mod MediaLemmas

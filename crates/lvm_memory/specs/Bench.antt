@@ -50,9 +50,13 @@ fresh_bench disks plan room = record {
   room = room;
 }
 
+-- from now on the shelf doesn't heed orders alone
+abbrev pub heeding_no_more : Bench → Bench
+heeding_no_more bench = record bench { device = record bench.device { orders = record bench.device.orders { alone = None } } }
+
 -- another plan for the calls to come; from now on the shelf doesn't heed orders alone
 abbrev pub with_plan : Bench → List Planned → Bench
-with_plan bench plan = record bench { device = record bench.device { orders = record bench.device.orders { alone = None } }; injection = record bench.injection { plan = plan } }
+with_plan bench plan = record (heeding_no_more bench) { injection = record bench.injection { plan = plan } }
 
 -- ---- power cuts
 

@@ -1,5 +1,5 @@
 -- Transfers that are under way, as flights.
-use Rattle.std.specs.Prelude.{◌≡◌, ℕ, ◌+◌, ◌-◌, ◌<◌, ◌≤◌, List, map, length, Some, if◌then◌else◌, slice_get, slice_index_or}
+use Rattle.std.specs.Prelude.{◌≡◌, ℕ, ◌+◌, ◌-◌, ◌==◌, ◌<◌, ◌≤◌, List, map, length, Some, if◌then◌else◌, slice_get, slice_index_or}
 use Rattle.std.specs.List.{AllByRecursion}
 use Rattle.lvm_disk.specs.Device.{Flight}
 use Rattle.lvm_memory.specs.declared.flying.Flying.{Flying}
@@ -19,6 +19,10 @@ delays_of flying = map (λ f. f.delay) flying
 -- each flight that is left was passed over once more
 abbrev pub passed : List ℕ → List ℕ
 passed delays = map (λ n. n - 1) delays
+
+-- those with this ticket are passed over by so many reaps
+abbrev pub delayed : ℕ → ℕ → List Flying → List ℕ
+delayed ticket delay flying = map (λ f. if f.ticket == ticket then delay else f.delay) flying
 
 -- none is passed over
 abbrev pub NoDelays : List ℕ → Type 0

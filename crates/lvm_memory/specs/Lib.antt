@@ -8,3 +8,4 @@ pub mod Tickets
 pub mod Tally
 pub mod Log
 pub mod Injection
+pub mod Gate

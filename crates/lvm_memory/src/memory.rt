@@ -10,7 +10,7 @@ use crate::disk::Disk;
 use crate::flying::Flying;
 use crate::injector::{Injector, Planned};
 use crate::making::{blank_disks, image_disks};
-use crate::queue::{first_due, free_ticket, pass_over, take_flight};
+use crate::queue::{delay_by_ticket, first_due, free_ticket, pass_over, take_flight};
 use crate::room::rooms;
 use crate::row::{finish_flight, tear_flight};
 use crate::tally::Tally;
@@ -52,7 +52,8 @@ impl MemShelf {
     ghost use Rattle.lvm_memory.specs.Injection.{NamesDisks};
     ghost use Rattle.lvm_memory.specs.Memory.{disks_of, device_of, bench_of};
     ghost use Rattle.lvm_disk.specs.Steps.{IsRange, Starts, StartGives, Waits, ReapGives};
-    ghost use Rattle.lvm_memory.specs.Bench.{fresh_bench, with_plan, let_cut, DarkensBy, Begins, Departs, StartsAsPlanned, Passes, ReapsThen, ReapsAsPlanned};
+    ghost use Rattle.lvm_memory.specs.Gate.{IsFailing, IsPassedOver};
+    ghost use Rattle.lvm_memory.specs.Bench.{fresh_bench, with_plan, heeding_no_more, let_cut, DarkensBy, Begins, Departs, StartsAsPlanned, Passes, ReapsThen, ReapsAsPlanned};
 
     /// Disks of zeros, of these numbers of sectors. `log` is the number of writes that are told by their
     /// ranges; once one more was started, none is told.
@@ -151,6 +152,13 @@ impl MemShelf {
         self.heeds = false;
     }
 
+    /// From now on the device tells no more that it heeds orders alone.
+    pub(crate) fn heed_no_more(&mut self)
+        ensures { bench_of self.new ≡ heeding_no_more (bench_of self.old) }
+    {
+        self.heeds = false;
+    }
+
     // Cuts the power, where it is on.
     fn cut(&mut self, word: u64)
         ensures dark { DarkensBy word (let_cut word (device_of self.old)) (device_of self.new) }
@@ -237,6 +245,23 @@ impl MemShelf {
         }
     }
 
+    // Ends the transfer at a place as failed, with the power on.
+    fn fail(&mut self, place: usize) -> Reaped
+        requires unheeding { (device_of self.old).orders.alone ≡ None }
+        requires power { (device_of self.old).power ≡ true }
+        requires there { place < length (device_of self.old).flights }
+        ensures gives { ReapGives (device_of self.old) (device_of self.new) result }
+        ensures failed { IsFailing result }
+    {
+        let flying = take_flight(&mut self.flights, place, self.delayed);
+        tear_flight(&mut self.disks, &flying, self.injector.pick(), 0);
+        self.tally.count_failure(&flying);
+        Reaped::Failed {
+            ticket: flying.ticket,
+            buf: flying.buf,
+        }
+    }
+
     // Passes over all transfers, with the power on.
     fn pass(&mut self)
         requires power { (device_of self.old).power ≡ true }
@@ -248,6 +273,32 @@ impl MemShelf {
         self.delayed = true;
         pass_over(&mut self.flights);
         self.tally.count_wait();
+    }
+
+    /// Has the transfers with this ticket passed over by so many reaps from now on.
+    pub(crate) fn hold(&mut self, ticket: u64, delay: u32)
+        requires unheeding { (device_of self.old).orders.alone ≡ None }
+        ensures device { device_of self.new ≡ device_of self.old }
+        ensures held { 0 < delay → IsPassedOver ticket (device_of self.new).flights (bench_of self.new).delays }
+    {
+        self.delayed = true;
+        delay_by_ticket(&mut self.flights, ticket, delay);
+    }
+
+    /// Ends the oldest transfer as failed, unless the power is off, or is cut by plan.
+    pub(crate) fn reap_failing(&mut self) -> Reaped
+        requires unheeding { (device_of self.old).orders.alone ≡ None }
+        requires out { (0 < length (device_of self.old).flights) ⊎ ((device_of self.old).power ≡ false) }
+        ensures gives { ReapGives (device_of self.old) (device_of self.new) result }
+        ensures failed { IsFailing result }
+    {
+        self.begin_call();
+        if !self.power {
+            return Reaped::Dark {
+                freed: self.freed.len() as u32,
+            };
+        }
+        self.fail(0)
     }
 
     fn reap_now(&mut self) -> Reaped

@@ -1,7 +1,7 @@
 //! Which transfer in memory is next.
-ghost use Rattle.std.specs.Prelude.{◌≡◌, ◌≤◌, ◌<◌, ◌==◌, false, length, Some, slice_get, vec_capacity};
+ghost use Rattle.std.specs.Prelude.{◌≡◌, ◌≤◌, ◌<◌, ◌==◌, false, if◌then◌else◌, length, Some, slice_get, vec_capacity};
 ghost use Rattle.std.specs.List.{position, list_any, remove};
-ghost use Rattle.lvm_memory.specs.Flights.{passed, NoDelays, flight_of, flights_of, delays_of};
+ghost use Rattle.lvm_memory.specs.Flights.{delayed, passed, NoDelays, flight_of, flights_of, delays_of};
 ghost use Rattle.lvm_memory.specs.Tickets.{IsLeastFree, AreBitsOf, AllTaken};
 
 use crate::flying::Flying;
@@ -68,6 +68,27 @@ pub fn pass_over(flights: &mut [Flying])
 {
     for flying in flights.iter_mut() {
         flying.delay = flying.delay.saturating_sub(1);
+    }
+}
+
+// How many reaps pass a transfer over, where those with this ticket are to be passed over by so many.
+fn delay_of(flying: &Flying, ticket: u64, delay: u32) -> u32
+    ensures { result ≡ (if flying.now.ticket == ticket then delay else flying.now.delay) }
+{
+    if flying.ticket == ticket {
+        delay
+    } else {
+        flying.delay
+    }
+}
+
+/// Has the transfers with this ticket passed over by so many reaps.
+pub fn delay_by_ticket(flights: &mut [Flying], ticket: u64, delay: u32)
+    ensures flights { flights_of flights.new ≡ flights_of flights.old }
+    ensures delays { delays_of flights.new ≡ delayed ticket delay flights.old }
+{
+    for flying in flights.iter_mut() {
+        flying.delay = delay_of(flying, ticket, delay);
     }
 }
 

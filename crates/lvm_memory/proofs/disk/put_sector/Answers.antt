@@ -1,8 +1,8 @@
-use Rattle.std.proofs.Common.{◌≡◌, ◌/◌, ◌%◌, ◌<◌, arith, sym, ◌∙◌, ap, subst, refl, length, slice_set, slice_index_or, [], length-set}
+use Rattle.std.proofs.Common.{◌≡◌, ◌/◌, ◌%◌, arith, sym, ◌∙◌, ap, length, slice_set, length-set}
 use Rattle.lvm_memory.specs.Pieces.{joined}
 use Rattle.lvm_memory.proofs.MediaLemmas.Laying.{disk_at, sizes-set}
 use Rattle.lvm_memory.proofs.PiecesLemmas.Putting.{set_cut}
-use Rattle.lvm_memory.proofs.PiecesLemmas.Pieces.{LiesIn, lies_in}
+use Rattle.lvm_memory.proofs.PiecesLemmas.Pieces.{lies_in}
 use Rattle.lvm_memory.proofs.disk.put_sector.Goals as goal
 
 pub index_mut-requires : goal.index_mut-requires

@@ -1,7 +1,6 @@
-use Rattle.std.proofs.Common.{◌/◌, ◌%◌, ◌<◌, arith, sym, ◌∙◌, ap, subst, refl, length, slice_index_or, []}
-use Rattle.lvm_memory.specs.Pieces.{joined}
+use Rattle.std.proofs.Common.{◌/◌, ◌%◌, arith, sym, ◌∙◌, ap, length, slice_index_or, []}
 use Rattle.lvm_memory.proofs.MediaLemmas.Laying.{disk_at}
-use Rattle.lvm_memory.proofs.PiecesLemmas.Pieces.{LiesIn, lies_in}
+use Rattle.lvm_memory.proofs.PiecesLemmas.Pieces.{lies_in}
 use Rattle.lvm_memory.proofs.disk.sector_of.Goals as goal
 
 pub index-requires : goal.index-requires

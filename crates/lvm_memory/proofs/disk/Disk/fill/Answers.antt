@@ -1,4 +1,4 @@
-use Rattle.std.proofs.Common.{◌+◌, length, arith, ap}
+use Rattle.std.proofs.Common.{length, arith, ap}
 use Rattle.lvm_memory.specs.Pieces.{joined}
 use Rattle.lvm_memory.proofs.BufferLemmas.{one_filled}
 use Rattle.lvm_memory.proofs.disk.Disk.fill.Goals as goal

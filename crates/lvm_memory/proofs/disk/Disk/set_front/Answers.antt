@@ -1,4 +1,4 @@
-use Rattle.std.proofs.Common.{arith, ◌∙◌, ap, sym, refl, length, slice_index_or, []}
+use Rattle.std.proofs.Common.{◌∙◌, ap, sym, refl, length, slice_index_or, []}
 use Rattle.lvm_memory.proofs.PiecesLemmas.Putting.{cut_again, one_taken}
 use Rattle.lvm_memory.proofs.disk.Disk.set_front.Goals as goal
 

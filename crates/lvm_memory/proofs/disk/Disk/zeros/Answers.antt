@@ -1,7 +1,6 @@
-use Rattle.std.proofs.Common.{◌≡◌, ◌+◌, ◌*◌, ◌/◌, ◌%◌, ◌++◌, ◌∷◌, [], List, arith, sym, ◌∙◌, ap, subst, replicate}
-use Rattle.lvm_num.specs.Buffer.{Sector, zero_sector}
-use Rattle.lvm_memory.specs.Media.{AllSectors}
-use Rattle.lvm_memory.specs.Pieces.{joined, IsCut}
+use Rattle.std.proofs.Common.{◌≡◌, ◌/◌, ◌%◌, ◌++◌, ◌∷◌, [], arith, ◌∙◌, ap, replicate}
+use Rattle.lvm_num.specs.Buffer.{zero_sector}
+use Rattle.lvm_memory.specs.Pieces.{joined}
 use Rattle.lvm_memory.proofs.PiecesLemmas.Pieces.{joined_zeros, zeros_cut}
 use Rattle.lvm_memory.proofs.disk.Disk.zeros.Goals as goal
 

@@ -1,4 +1,4 @@
-use Rattle.std.proofs.Common.{◌≡◌, ℕ, Option, Some, length, refl, sym, ap, subst, ◌∙◌}
+use Rattle.std.proofs.Common.{ℕ, Option, Some, length, refl, sym, ap, subst, ◌∙◌}
 use Rattle.lvm_memory.specs.Media.{media_of, sizes_of, written_by}
 use Rattle.lvm_memory.specs.Tally.{counts_of}
 use Rattle.lvm_memory.specs.Flights.{flight_of, flights_of, NoDelays}
