@@ -1,4 +1,4 @@
-use Rattle.std.proofs.Common.{◌∙◌, ap, refl, subst}
+use Rattle.std.proofs.Common.{◌∙◌, List, ap, refl, subst, ℕ}
 use Rattle.lvm_top.specs.passed.HolderVariants as holder
 use Rattle.lvm_top.specs.passed.GroupLines.{history_in, state_in, without_facts}
 use Rattle.lvm_top.specs.passed.Lines.{IsLine}
@@ -41,7 +41,9 @@ pub end_load-requires-clause-fresh : goal.end_load-requires-clause-fresh
 end_load-requires-clause-fresh g c = λ κs outlives ok.
     varied_fresh (without_facts c.in-Ok-new.history) c.args.room c.args.words.now.group (state_in g.S.Shelf.device (record { holder = holder.Off c.args.shelf c.in-Ok-new.history; posts = c.in-Ok-take_rooms.posts; bytes = c.in-Ok-take_rooms.bytes }) (g.C.Clock.last c.now-run.new.self))
     (state_in g.S.Shelf.device c.do_line-answered.result.stage (g.C.Clock.last c.do_line-answered.new.clock)) c.varyon_line.ensures.name (ap (λ l. l.facts) c.in-Ok-new.ensures) c.do_line-answered.result.reply ok
-    (subst (λ l. IsLine (without_facts c.in-Ok-new.history) c.args.room l c.do_line-answered.result.reply _ _) (c.as_slice.ensures.value ∙ c.in-Ok.ensures.line) c.do_line-answered.ensures.line)
+    (subst (λ (l : List ℕ). IsLine (without_facts c.in-Ok-new.history) c.args.room l c.do_line-answered.result.reply
+    (state_in g.S.Shelf.device (record { holder = holder.Off c.args.shelf c.in-Ok-new.history; posts = c.in-Ok-take_rooms.posts; bytes = c.in-Ok-take_rooms.bytes }) (g.C.Clock.last c.now-run.new.self))
+    (state_in g.S.Shelf.device c.do_line-answered.result.stage (g.C.Clock.last c.do_line-answered.new.clock))) (c.as_slice.ensures.value ∙ c.in-Ok.ensures.line) c.do_line-answered.ensures.line)
 
 pub returns-clause-run : goal.returns-clause-run
 returns-clause-run g c =
@@ -51,7 +53,9 @@ returns-clause-run g c =
     the_promises_loaded device c.args.words.now (device c.args.shelf) c.now-run.result begun (g.C.Clock.last c.do_line-answered.new.clock) (g.C.Clock.last c.args.clock.now) c.args.room (record { holder = holder.Off c.args.shelf c.in-Ok-new.history; posts = c.in-Ok-take_rooms.posts; bytes = c.in-Ok-take_rooms.bytes })
     (first_state device c.args.shelf c.in-Ok-new.history c.in-Ok-take_rooms.posts c.in-Ok-take_rooms.bytes begun c.now-run.result c.args.room c.in-Ok-new.ensures c.in-Ok-take_rooms.ensures.0 c.now-run.ensures.last)
     (ap without_facts c.in-Ok-new.ensures) it.stage it.reply
-    (subst (λ l. IsLine (without_facts c.in-Ok-new.history) c.args.room l it.reply _ _) (c.as_slice.ensures.value ∙ c.in-Ok.ensures.line) c.do_line-answered.ensures.line)
+    (subst (λ (l : List ℕ). IsLine (without_facts c.in-Ok-new.history) c.args.room l c.do_line-answered.result.reply
+    (state_in g.S.Shelf.device (record { holder = holder.Off c.args.shelf c.in-Ok-new.history; posts = c.in-Ok-take_rooms.posts; bytes = c.in-Ok-take_rooms.bytes }) (g.C.Clock.last c.now-run.new.self))
+    (state_in g.S.Shelf.device c.do_line-answered.result.stage (g.C.Clock.last c.do_line-answered.new.clock))) (c.as_slice.ensures.value ∙ c.in-Ok.ensures.line) c.do_line-answered.ensures.line)
     c.do_line-answered.ensures.rooms c.requires.ready c.now-run.ensures.later c.end_load.result (record { before = record { content = g.O.Sink.held c.args.out.now; faults = g.O.Sink.faults c.args.out.now }; after = record { content = g.O.Sink.held c.end_load.new.out; faults = g.O.Sink.faults c.end_load.new.out } })
     c.end_load.ensures.rooms c.end_load.ensures.ends
 

@@ -34,7 +34,7 @@ pub returns-in-Ok-Load-clause-load : goal.returns-in-Ok-Load-clause-load
 returns-in-Ok-Load-clause-load g c =
     let is : job_of c.args.words.now ≡ Ok (Load c.in-Ok-Load.own c.in-Ok-Load.group c.in-Ok-Load.volume c.in-Ok-Load.threads c.in-Ok-Load.requests c.in-Ok-Load.seed) = c.in-Ok-Load.ensures.job ∙ ap (λ (j : Job). Ok j) c.in-Ok-Load.field-0-is in
     on_load_at _ c.in-Ok-Load.own c.in-Ok-Load.group c.in-Ok-Load.volume c.in-Ok-Load.threads c.in-Ok-Load.requests c.in-Ok-Load.seed is _
-    (c.run_load.ensures.sim, (subst (λ (room : Room). PromisesLoaded _ _ (ran room _ _ untold _ _ _ _ _)) c.full_room-in-Ok-Load.ensures c.run_load.ensures.run, c.run_load.ensures.asked))
+    (c.run_load.ensures.sim, subst (λ (room : Room). PromisesLoaded _ _ (ran room _ _ untold _ _ _ _ _)) c.full_room-in-Ok-Load.ensures c.run_load.ensures.run, c.run_load.ensures.asked)
 
 pub returns-in-Ok-clause-sim : goal.returns-in-Ok-clause-sim
 returns-in-Ok-clause-sim g c =
