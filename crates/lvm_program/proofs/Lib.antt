@@ -1,5 +1,4 @@
 mod StreamLemmas
 mod ProgramLemmas
 mod WovenLemmas
-mod LoadedLemmas
 mod SimLemmas

@@ -221,12 +221,7 @@ fn status_woven(woven: &Woven, requests: u32, failed: Option<ExitStatus>) -> Exi
 }
 
 // Writes the refusal where nothing was heard of a transfer, which wants no memory, and the totals, as far as the sink takes them.
-pub(crate) fn tell_woven<O: Sink>(
-    alloc: Global,
-    out: &mut O,
-    woven: &Woven,
-    requests: u32,
-) -> ExitStatus
+fn tell_woven<O: Sink>(alloc: Global, out: &mut O, woven: &Woven, requests: u32) -> ExitStatus
     ensures { TellsWoven woven.now requests result (passage O.held O.faults out.old out.new) }
 {
     let Ok(()) = write_all(out, refusal_text(woven).as_bytes()) else {
@@ -242,14 +237,14 @@ pub(crate) fn tell_woven<O: Sink>(
 }
 
 // How many refusals were printed.
-pub(crate) fn refusals_told(woven: &Woven) -> u32
+fn refusals_told(woven: &Woven) -> u32
     ensures { result ≡ refusals_told woven.now }
 {
     if woven.waiting { 1 } else { 0 }
 }
 
 // Whether a line was done.
-pub(crate) fn is_ok(reply: &Reply) -> bool
+fn is_ok(reply: &Reply) -> bool
     ensures { IsTrue result ↔ (reply.now ≡ Reply.Ok) }
 {
     match reply {
@@ -259,12 +254,7 @@ pub(crate) fn is_ok(reply: &Reply) -> bool
 }
 
 // Ends a run with a refusal, which is printed.
-pub(crate) fn refuse<S: Shelf, O: Sink>(
-    alloc: Global,
-    out: &mut O,
-    stage: Stage<S>,
-    why: Reply,
-) -> Ended<S>
+fn refuse<S: Shelf, O: Sink>(alloc: Global, out: &mut O, stage: Stage<S>, why: Reply) -> Ended<S>
     requires off { IsStuck why → session_in stage ≡ None }
     requires between { (IsStuck why → ⊥) → IsBetweenStage S.device stage }
     requires fits { IsFittingStage stage }

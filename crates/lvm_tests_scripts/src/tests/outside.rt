@@ -9,8 +9,6 @@ use lvm_memory::MemShelf;
 use lvm_num::{Rows, Text};
 use lvm_program::{Ended, run_words};
 use std::process::Abort;
-use std::sync::Wait;
-use std::thread::Threads;
 
 /// Ends the test where this isn't so, and says of what.
 pub fn check(rt: &impl Abort, is: bool, what: &str)
@@ -88,8 +86,8 @@ fn split<S: Drop>(ended: Ended<S>) -> (S, Told) {
 }
 
 // Does what the words ask for, with a clock that answers this moment first.
-fn run_at<S: Shelf + Send, P: Images>(
-    rt: &(impl AllocGlobal + Threads + Wait + Sync),
+fn run_at<S: Shelf, P: Images>(
+    rt: &impl AllocGlobal,
     texts: &[Text],
     input: &mut MemSource,
     out: &mut MemSink,
@@ -102,7 +100,6 @@ fn run_at<S: Shelf + Send, P: Images>(
 {
     let mut clock = MemClock::new(moment.max(1));
     run_words(
-        rt,
         rt.alloc(),
         texts,
         input,
@@ -116,8 +113,8 @@ fn run_at<S: Shelf + Send, P: Images>(
 
 /// Does what the words ask for, with a script as their input and a clock that answers this moment first: the files, what
 /// the run tells, and what it writes.
-pub fn run<S: Shelf + Send + Drop, P: Images>(
-    rt: &(impl Abort + AllocGlobal + Threads + Wait + Sync),
+pub fn run<S: Shelf + Drop, P: Images>(
+    rt: &(impl Abort + AllocGlobal),
     words: &[&str],
     script: &[u8],
     moment: u64,

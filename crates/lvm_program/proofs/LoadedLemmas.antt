@@ -1,2 +1,0 @@
-pub mod Varying
-pub mod Loaded

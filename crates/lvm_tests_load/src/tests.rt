@@ -1,3 +1,0 @@
-mod disks;
-mod loads;
-mod outside;
