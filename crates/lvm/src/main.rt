@@ -64,7 +64,7 @@ fn words_of(rt: &(impl Env + Alloc<A = Global>), alloc: Global) -> Result<Vec<Te
     Ok(words)
 }
 
-// The files of this folder where the words ask for a script over them. Else none is opened.
+// The files of this folder where the words ask for a script or a load over them. Else none is opened.
 fn files_for<R: Files<File = File>, E: Sink>(
     rt: &R,
     alloc: Global,
@@ -75,7 +75,7 @@ fn files_for<R: Files<File = File>, E: Sink>(
     ensures some { IfOk result (λ shelf. (1 ≤ length (device_of shelf).sizes) × (length (device_of shelf).sizes ≤ 128)) }
 {
     match read_words(alloc, words) {
-        Ok(Job::Script) => FileShelf::open(rt, alloc, err),
+        Ok(Job::Script | Job::Load { .. }) => FileShelf::open(rt, alloc, err),
         Err(WordsFault::Memory) => Err(Memory),
         Ok(_) | Err(WordsFault::Usage) => FileShelf::without_files(alloc),
     }
@@ -129,6 +129,7 @@ fn main(rt: HostRuntime) -> ExitCode {
     let mut out = StdSink::new(io::writer(&rt));
     let mut clock = SystemClock::new(rt);
     let ended = run_words(
+        &rt,
         alloc,
         words.as_slice(),
         &mut input,

@@ -1,4 +1,5 @@
 mod StreamLemmas
 mod ProgramLemmas
 mod WovenLemmas
+mod LoadedLemmas
 mod SimLemmas

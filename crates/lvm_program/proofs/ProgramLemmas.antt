@@ -1,11 +1,12 @@
 -- Runs that the words of the command line ask for.
-use Rattle.std.proofs.Common.{◌≡◌, ℕ, List, [], ◌∷◌, Bool, true, false, if◌then◌else◌, Option, Some, None, Result, Ok, Err, inr, refl, sym, subst}
-use Rattle.std.specs.Prelude.{IfNone, IfSome, bytes_eq, codes}
+use Rattle.std.proofs.Common.{◌≡◌, ℕ, List, [], ◌∷◌, Bool, true, false, if◌then◌else◌, Option, Some, None, Result, Ok, Err, inr, refl, sym, ap, subst}
+use Rattle.std.specs.Prelude.{IfNone, IfSome, bytes_eq, codes, ok_or}
 use Rattle.lvm_disk.specs.Device.{Device, IsReady}
 use Rattle.lvm_core.specs.declared.parts.Room.{Room}
 use Rattle.lvm_load.specs.declared.workload.Workload.{Workload}
 use Rattle.lvm_memory.specs.declared.memory.MemShelf.{MemShelf}
-use Rattle.lvm_program.specs.Program.{OnDrawn, OnScript, OnSim, OnText, IsGenerated, IsUnrun}
+use Rattle.lvm_program.specs.Program.{OnDrawn, OnLoad, OnScript, OnSim, OnText, IsGenerated, IsUnrun, load_words}
+use Rattle.lvm_program.specs.declared.load.LoadWords.{LoadWords}
 use Rattle.lvm_top.specs.Run.{Promises, ran}
 use Rattle.lvm_top.specs.Script.{Stream}
 use Rattle.lvm_load.proofs.ScriptLemmas.Growing.{front_at_first}
@@ -14,8 +15,8 @@ use Rattle.lvm_top.specs.declared.status.ExitStatus.{ExitStatus}
 use Rattle.lvm_top.specs.declared.status.ExitStatus.TheVariants as ended
 use Rattle.lvm_top.proofs.RunLemmas.Stopping.{nothing_promised}
 use Rattle.lvm_words.specs.declared.job.Job.{Job}
-use Rattle.lvm_words.specs.declared.job.Job.TheVariants.{Script, Sim, Gen, Weave, Image, Help, Version}
-use Rattle.lvm_words.specs.Words.{bounded, gen_of, image_of, job_of, sim_of, told_of, told_or, weave_by, weave_of, with_five, with_two, work_of}
+use Rattle.lvm_words.specs.declared.job.Job.TheVariants.{Script, Sim, Gen, Weave, Load, Image, Help, Version}
+use Rattle.lvm_words.specs.Words.{asked_of, bounded, gen_of, image_of, is_load, job_of, load_of, sim_of, told_of, told_or, weave_by, weave_of, with_five, with_two, work_of}
 use Rattle.lvm_operands.specs.Words.{number_in}
 use Rattle.lvm_words.specs.declared.fault.WordsFault.{WordsFault}
 use Rattle.lvm_words.specs.declared.fault.WordsFault.TheVariants.{Usage}
@@ -26,6 +27,7 @@ on_script (Ok Script) P p = p
 on_script (Ok (Sim disks mib)) P p = tt
 on_script (Ok (Gen seed count)) P p = tt
 on_script (Ok (Weave disks mib clients requests seed)) P p = tt
+on_script (Ok (Load own group volume threads requests seed)) P p = tt
 on_script (Ok (Image disk mib)) P p = tt
 on_script (Ok Help) P p = tt
 on_script (Ok Version) P p = tt
@@ -37,6 +39,7 @@ on_sim (Ok Script) P p = tt
 on_sim (Ok (Sim disks mib)) P p = p disks mib
 on_sim (Ok (Gen seed count)) P p = tt
 on_sim (Ok (Weave disks mib clients requests seed)) P p = tt
+on_sim (Ok (Load own group volume threads requests seed)) P p = tt
 on_sim (Ok (Image disk mib)) P p = tt
 on_sim (Ok Help) P p = tt
 on_sim (Ok Version) P p = tt
@@ -48,6 +51,7 @@ on_drawn (Ok Script) P Q p q = tt
 on_drawn (Ok (Sim disks mib)) P Q p q = tt
 on_drawn (Ok (Gen seed count)) P Q p q = p seed count
 on_drawn (Ok (Weave disks mib clients requests seed)) P Q p q = q disks mib (record { clients = clients; requests = requests; seed = seed })
+on_drawn (Ok (Load own group volume threads requests seed)) P Q p q = tt
 on_drawn (Ok (Image disk mib)) P Q p q = tt
 on_drawn (Ok Help) P Q p q = tt
 on_drawn (Ok Version) P Q p q = tt
@@ -81,11 +85,17 @@ unread_generates seed count output end unrun = (
     none : IsGenerated seed count ended.Memory (record { before = output; after = output })
     none = record { status_is = inr (inr refl); whole = λ is. absurd (cc); front = λ _. front_at_first seed count output.content; cause = λ is. absurd (cc); memory = λ is. refl; well = λ is. absurd (cc) }
 
--- ---- words that ask for work are told nothing
+-- where a load is asked for, what holds of it
+pub on_load_at : (asked : Result Job WordsFault) (own : Bool) (group volume : List ℕ) (threads requests seed : ℕ) → asked ≡ Ok (Load own group volume threads requests seed) → (P : LoadWords → Type 0)
+    → P (load_words own group volume threads requests seed) → OnLoad asked P
+on_load_at asked own group volume threads requests seed is P p = subst (λ (a : Result Job WordsFault). OnLoad a P) (sym is) p
+
+-- ---- words that ask for work, but for a load, are told nothing
 
 abbrev IsWork : Result Job WordsFault → Type 0
 IsWork (Ok Help) = ⊥
 IsWork (Ok Version) = ⊥
+IsWork (Ok (Load own group volume threads requests seed)) = ⊥
 IsWork other = Unit {0}
 
 work_if : (b : Bool) (x y : Result Job WordsFault) → IsWork x → IsWork y → IsWork (if b then x else y)
@@ -147,15 +157,45 @@ work_tells (Ok Script) works P = tt
 work_tells (Ok (Sim disks mib)) works P = tt
 work_tells (Ok (Gen seed count)) works P = tt
 work_tells (Ok (Weave disks mib clients requests seed)) works P = tt
+work_tells (Ok (Load own group volume threads requests seed)) works P = absurd works
 work_tells (Ok (Image disk mib)) works P = tt
 work_tells (Ok Help) works P = absurd works
 work_tells (Ok Version) works P = absurd works
 work_tells (Err why) works P = tt
 
--- no memory was found for words, which those that ask to be told something don't need
-pub unread_tells : (words : List (List ℕ)) (why : WordsFault) → IfSome (told_of words) (λ (job : Job). ◌≡◌ {A = Result Job WordsFault} (Err why) (Ok job)) → (P : List ℕ → Type 0) → OnText (job_of words) P
-unread_tells words why told P = by (told_of words) told
-  where
-    by : (o : Option Job) → IfSome o (λ (job : Job). ◌≡◌ {A = Result Job WordsFault} (Err why) (Ok job)) → OnText (told_or o (work_of words)) P
-    by None told = work_tells (work_of words) (words_work words) P
-    by (Some job) told = absurd (cc told)
+work_loads : (asked : Result Job WordsFault) → IsWork asked → (P : LoadWords → Type 0) → OnLoad asked P
+work_loads (Ok Script) works P = tt
+work_loads (Ok (Sim disks mib)) works P = tt
+work_loads (Ok (Gen seed count)) works P = tt
+work_loads (Ok (Weave disks mib clients requests seed)) works P = tt
+work_loads (Ok (Load own group volume threads requests seed)) works P = absurd works
+work_loads (Ok (Image disk mib)) works P = tt
+work_loads (Ok Help) works P = absurd works
+work_loads (Ok Version) works P = absurd works
+work_loads (Err why) works P = tt
+
+-- no memory was found for words, which those that ask to be told something, or for a load, don't need
+module _ (words : List (List ℕ)) (why : WordsFault) (told : IfSome (told_of words) (λ (job : Job). ◌≡◌ {A = Result Job WordsFault} (Err why) (Ok job))) (loads : is_load words ≡ true → Err why ≡ asked_of words) where
+  abbrev Unread : (Result Job WordsFault → Type 0) → Type 0
+  Unread P = ((asked : Result Job WordsFault) → IsWork asked → P asked) → P (Err why) → P (job_of words)
+
+  unread : (P : Result Job WordsFault → Type 0) → Unread P
+  unread P work none = by (told_of words) told
+    where
+      by_name : (ws : List (List ℕ)) → (is_load ws ≡ true → Err why ≡ asked_of ws) → P (asked_of ws)
+      by_name [] loads = work (Err Usage) tt
+      by_name (name ∷ rest) loads = go (bytes_eq name (codes "load")) refl
+        where
+          go : (t : Bool) → bytes_eq name (codes "load") ≡ t → P (asked_of (name ∷ rest))
+          go true is = subst P (loads is) none
+          go false is = subst P (sym (ap (λ (t : Bool). if t then ok_or (load_of rest) Usage else work_of (name ∷ rest)) is)) (work (work_of (name ∷ rest)) (words_work (name ∷ rest)))
+
+      by : (o : Option Job) → IfSome o (λ (job : Job). ◌≡◌ {A = Result Job WordsFault} (Err why) (Ok job)) → P (told_or o (asked_of words))
+      by None told = by_name words loads
+      by (Some job) told = absurd (cc told)
+
+  pub unread_tells : (P : List ℕ → Type 0) → OnText (job_of words) P
+  unread_tells P = unread (λ asked. OnText asked P) (λ asked works. work_tells asked works P) tt
+
+  pub unread_loads : (P : LoadWords → Type 0) → OnLoad (job_of words) P
+  unread_loads P = unread (λ asked. OnLoad asked P) (λ asked works. work_loads asked works P) tt

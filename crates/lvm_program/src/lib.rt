@@ -3,12 +3,14 @@
 
 mod generate;
 mod image;
+mod load;
 mod program;
 mod workload;
 
 pub use generate::run_gen;
 pub use image::run_image;
-pub use lvm_load::Workload;
+pub use load::{LoadWords, run_load};
+pub use lvm_load::{Load, Workload};
 pub use lvm_top::{Ended, ExitStatus, Room, run_script};
 pub use lvm_words::{Job, WordsFault, read_words};
 pub use program::run_words;

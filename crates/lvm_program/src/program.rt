@@ -2,33 +2,37 @@
 ghost use Rattle.std.specs.Prelude.{◌≡◌, ◌≤◌, None, IfOk, IfErr, IfSome, IfNone};
 ghost use Rattle.lvm_disk.specs.Device.{IsReady};
 ghost use Rattle.lvm_memory.specs.Memory.{device_of};
-ghost use Rattle.lvm_program.specs.Program.{OnScript, OnSim, OnDrawn, OnImage, OnText, help_text, version_line, usage_line, IsTold, IsSaid, IsUnrun, IsUsage, IsGenerated, IsImaged, LeavesAlone, PromisesBlank, PromisesWovenBlank};
+ghost use Rattle.lvm_program.specs.Program.{OnScript, OnSim, OnDrawn, OnLoad, OnImage, OnText, help_text, version_line, usage_line, IsTold, IsSaid, IsUnrun, IsUsage, IsGenerated, IsImaged, LeavesAlone, PromisesBlank, PromisesWovenBlank};
 ghost use Rattle.lvm_top.specs.Run.{Promises, ran};
 ghost use Rattle.lvm_top.specs.Script.{passage};
 ghost use Rattle.lvm_program.specs.Sim.{full_room, sim_device};
+ghost use Rattle.lvm_program.specs.Loaded.{PromisesLoaded};
 ghost use Rattle.lvm_program.specs.Woven.{asked_woven, untold};
 ghost use Rattle.lvm_words.specs.Words.{job_of};
 
 use crate::generate::run_gen;
 use crate::image::run_image;
+use crate::load::{LoadWords, run_load};
 use crate::workload::run_weave;
 use lvm_core::Room;
 use lvm_disk::Shelf;
 use lvm_io::{Clock, Images, Sink, SinkFault, Source, write_all};
-use lvm_load::Workload;
+use lvm_load::{Load, Workload};
 use lvm_memory::MemShelf;
 use lvm_num::{Memory, Rows, Text};
 use lvm_top::{Ended, ExitStatus, run_script};
 use lvm_words::{Job, WordsFault, read_words};
 use std::alloc::Global;
+use std::sync::Wait;
+use std::thread::Threads;
 
 // What is written where the words are not in the language.
 const USAGE: &[u8] =
-    b"usage: lvm script | lvm sim DISKS MIB | lvm weave DISKS MIB CLIENTS REQUESTS SEED | lvm gen SEED COUNT | lvm image N MIB\n";
+    b"usage: lvm script | lvm sim DISKS MIB | lvm weave DISKS MIB CLIENTS REQUESTS SEED | lvm load [--own] GROUP VOLUME THREADS REQUESTS SEED | lvm gen SEED COUNT | lvm image N MIB\n";
 
 // What `--help` tells.
 const HELP: &[u8] =
-    b"usage: lvm script | lvm sim DISKS MIB | lvm weave DISKS MIB CLIENTS REQUESTS SEED | lvm gen SEED COUNT | lvm image N MIB\n  script          does the lines of standard input over hdisk0.img to hdisk127.img of this folder\n  sim DISKS MIB   does them over 1 to 32 disks of zeros in memory, each of 1 to 64 MiB\n  weave DISKS MIB CLIENTS REQUESTS SEED\n                  tells how up to 50,000 reads and writes of 1 to 64 clients end, drawn from the seed, over 1 to 8 such disks of 8 to 64 MiB\n  gen SEED COUNT  writes a script of up to 100,000 reads and writes that are drawn from the seed\n  image N MIB     makes hdiskN.img, N from 0 to 127, of 1 to 4,096 MiB of zeros\n";
+    b"usage: lvm script | lvm sim DISKS MIB | lvm weave DISKS MIB CLIENTS REQUESTS SEED | lvm load [--own] GROUP VOLUME THREADS REQUESTS SEED | lvm gen SEED COUNT | lvm image N MIB\n  script          does the lines of standard input over hdisk0.img to hdisk127.img of this folder\n  sim DISKS MIB   does them over 1 to 32 disks of zeros in memory, each of 1 to 64 MiB\n  weave DISKS MIB CLIENTS REQUESTS SEED\n                  tells how up to 50,000 reads and writes of 1 to 64 clients end, drawn from the seed, over 1 to 8 such disks of 8 to 64 MiB\n  load [--own] GROUP VOLUME THREADS REQUESTS SEED\n                  tells how up to 50,000 reads and writes of 1 to 128 threads end, drawn from the seed, over a volume of a group on the images; with --own each only writes, to blocks of its own\n  gen SEED COUNT  writes a script of up to 100,000 reads and writes that are drawn from the seed\n  image N MIB     makes hdiskN.img, N from 0 to 127, of 1 to 4,096 MiB of zeros\n";
 
 // What `--version` tells.
 const VERSION: &[u8] = b"lvm 0.1.0\n";
@@ -111,11 +115,22 @@ fn unrun<S>(status: ExitStatus, files: S) -> Ended<S>
 
 /// Does what the words of the command line, without the program's name, ask for. `script` runs a script
 /// over the files. `sim DISKS MIB` runs one over so many disks of zeros in memory, which are given back
-/// as the run left them. `weave DISKS MIB CLIENTS REQUESTS SEED` runs a workload over such disks. `gen SEED
-/// COUNT` writes a script of so many requests to `out`. `image N MIB` writes so many MiB of zeros to a new
-/// image of disk N. Words that are not in the language are answered by a line of usage to `err`. `--help` and
-/// `--version` write a text to `out`. Where no memory is found for the words nothing is done.
-pub fn run_words<I: Source, O: Sink, E: Sink, C: Clock, S: Shelf, P: Images>(
+/// as the run left them. `weave DISKS MIB CLIENTS REQUESTS SEED` runs a workload over such disks. `load [--own]
+/// GROUP VOLUME THREADS REQUESTS SEED` runs a load over the files, and may wait for its threads: what is promised
+/// of it holds if the call returns. `gen SEED COUNT` writes a script of so many requests to `out`. `image N MIB`
+/// writes so many MiB of zeros to a new image of disk N. Words that are not in the language are answered by a
+/// line of usage to `err`. `--help` and `--version` write a text to `out`. Where no memory is found for the words
+/// nothing is done.
+pub fn run_words<
+    I: Source,
+    O: Sink,
+    E: Sink,
+    C: Clock,
+    S: Shelf + Send,
+    P: Images,
+    R: Threads + Wait + Sync,
+>(
+    rt: &R,
     alloc: Global,
     words: &[Text],
     input: &mut I,
@@ -139,6 +154,9 @@ pub fn run_words<I: Source, O: Sink, E: Sink, C: Clock, S: Shelf, P: Images>(
         (λ disks mib load. IfSome result.sim (λ shelf. PromisesWovenBlank disks mib load (C.last clock.old) (ran full_room (sim_device disks mib) (device_of shelf) untold written (C.last clock.new) result.history result.status result.refused)
         × (C.asked clock.new ≡ asked_woven result.history (C.asked clock.old)))
         × IfNone result.sim (IsUnrun result ExitStatus.Memory × (out.new ≡ out.old) × (clock.new ≡ clock.old))) }
+    ensures load { let written = passage O.held O.faults out.old out.new in
+        OnLoad (job_of words.now) (λ load. (result.sim ≡ None) × PromisesLoaded load (C.last clock.old) (ran full_room (S.device files) (S.device result.shelf) untold written (C.last clock.new) result.history result.status result.refused)
+        × (C.asked clock.new ≡ asked_woven result.history (C.asked clock.old))) }
     ensures text { OnText (job_of words.now) (λ text. IsUnrun result result.status × IsTold text result.status (passage O.held O.faults out.old out.new)) }
     ensures image { let zeros = passage P.held P.faults images.old images.new in
         OnImage (job_of words.now) (λ disk mib. IsUnrun result result.status × (result.status ≡ ExitStatus.Memory → images.new ≡ images.old)
@@ -187,6 +205,29 @@ pub fn run_words<I: Source, O: Sink, E: Sink, C: Clock, S: Shelf, P: Images>(
             }
             Err(Memory) => unrun(ExitStatus::Memory, files),
         },
+        Ok(
+            Job::Load {
+                own,
+                group,
+                volume,
+                threads,
+                requests,
+                seed,
+            },
+        ) => {
+            let load = Load {
+                threads,
+                requests,
+                seed,
+                apart: own,
+            };
+            let words = LoadWords {
+                group,
+                volume,
+                load,
+            };
+            run_load(rt, alloc, &words, out, files, clock, full_room())
+        }
         Ok(Job::Image { disk, mib }) => unrun(make_image(disk, mib, images), files),
         Ok(Job::Help) => unrun(tell_help(out), files),
         Ok(Job::Version) => unrun(tell_version(out), files),

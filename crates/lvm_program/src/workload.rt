@@ -221,7 +221,12 @@ fn status_woven(woven: &Woven, requests: u32, failed: Option<ExitStatus>) -> Exi
 }
 
 // Writes the refusal where nothing was heard of a transfer, which wants no memory, and the totals, as far as the sink takes them.
-fn tell_woven<O: Sink>(alloc: Global, out: &mut O, woven: &Woven, requests: u32) -> ExitStatus
+pub(crate) fn tell_woven<O: Sink>(
+    alloc: Global,
+    out: &mut O,
+    woven: &Woven,
+    requests: u32,
+) -> ExitStatus
     ensures { TellsWoven woven.now requests result (passage O.held O.faults out.old out.new) }
 {
     let Ok(()) = write_all(out, refusal_text(woven).as_bytes()) else {
@@ -237,14 +242,14 @@ fn tell_woven<O: Sink>(alloc: Global, out: &mut O, woven: &Woven, requests: u32)
 }
 
 // How many refusals were printed.
-fn refusals_told(woven: &Woven) -> u32
+pub(crate) fn refusals_told(woven: &Woven) -> u32
     ensures { result ≡ refusals_told woven.now }
 {
     if woven.waiting { 1 } else { 0 }
 }
 
 // Whether a line was done.
-fn is_ok(reply: &Reply) -> bool
+pub(crate) fn is_ok(reply: &Reply) -> bool
     ensures { IsTrue result ↔ (reply.now ≡ Reply.Ok) }
 {
     match reply {
@@ -254,7 +259,12 @@ fn is_ok(reply: &Reply) -> bool
 }
 
 // Ends a run with a refusal, which is printed.
-fn refuse<S: Shelf, O: Sink>(alloc: Global, out: &mut O, stage: Stage<S>, why: Reply) -> Ended<S>
+pub(crate) fn refuse<S: Shelf, O: Sink>(
+    alloc: Global,
+    out: &mut O,
+    stage: Stage<S>,
+    why: Reply,
+) -> Ended<S>
     requires off { IsStuck why → session_in stage ≡ None }
     requires between { (IsStuck why → ⊥) → IsBetweenStage S.device stage }
     requires fits { IsFittingStage stage }

@@ -16,6 +16,8 @@ use lvm_memory::MemShelf;
 use lvm_num::{Rows, Text};
 use lvm_program::Ended;
 use std::alloc::Global;
+use std::sync::Wait;
+use std::thread::Threads;
 
 /// How many entries the history of a run has room for where nothing else is said.
 const ENTRIES: u32 = 1_024;
@@ -51,8 +53,9 @@ impl Bench {
     }
 
     /// Does what a line of the cases says.
-    pub(crate) fn take_line<O: Sink>(
+    pub(crate) fn take_line<O: Sink, R: Threads + Wait + Sync>(
         &mut self,
+        rt: &R,
         alloc: Global,
         line: &str,
         out: &mut O,
@@ -66,7 +69,7 @@ impl Bench {
             "run" => self.run(alloc, out),
             "sweep" => self.sweep(alloc, rest, None, out),
             "twice" => self.twice(alloc, rest, out),
-            "words" => self.words(alloc, rest, out),
+            "words" => self.words(rt, alloc, rest, out),
             _ => self.set(alloc, verb, rest),
         }
     }
@@ -188,15 +191,26 @@ impl Bench {
         self.sweep(alloc, acts, Some(later), out)
     }
 
-    fn words<O: Sink>(&self, alloc: Global, rest: &str, out: &mut O) -> Result<(), Fault> {
+    fn words<O: Sink, R: Threads + Wait + Sync>(
+        &self,
+        rt: &R,
+        alloc: Global,
+        rest: &str,
+        out: &mut O,
+    ) -> Result<(), Fault> {
         let words = parse::bracketed(alloc, rest)?;
-        let answered = self.answer(alloc, &words)?;
+        let answered = self.answer(rt, alloc, &words)?;
         print_words(alloc, &answered, out)
     }
 
     // What the program answers to words.
-    fn answer(&self, alloc: Global, words: &[Text]) -> Result<Answered, Fault> {
+    fn answer<R: Threads + Wait + Sync>(
+        &self,
+        rt: &R,
+        alloc: Global,
+        words: &[Text],
+    ) -> Result<Answered, Fault> {
         let mut input = self.outside.source(alloc, self.script.text())?;
-        answer(alloc, words, &mut input, &self.sizes.sectors)
+        answer(rt, alloc, words, &mut input, &self.sizes.sectors)
     }
 }

@@ -40,6 +40,8 @@ use lvm_io::{Sink, StdSink};
 use std::alloc::Global;
 use std::io;
 use std::process::ExitCode;
+use std::sync::Wait;
+use std::thread::Threads;
 
 fn main(rt: HostRuntime) -> ExitCode {
     let alloc = rt.alloc();
@@ -48,7 +50,7 @@ fn main(rt: HostRuntime) -> ExitCode {
     };
     let mut out = StdSink::new(io::writer(&rt));
     let mut bench = Bench::new(alloc);
-    match take_lines(alloc, &mut bench, &cases, &mut out) {
+    match take_lines(&rt, alloc, &mut bench, &cases, &mut out) {
         None => ExitCode::SUCCESS,
         Some((fault, line)) => {
             let _ = eprintln!(rt; "{fault}: {line}");
@@ -58,14 +60,15 @@ fn main(rt: HostRuntime) -> ExitCode {
 }
 
 // Does what the lines say, up to the first one at which it can't go on: why, and that line.
-fn take_lines<'a, O: Sink>(
+fn take_lines<'a, O: Sink, R: Threads + Wait + Sync>(
+    rt: &R,
     alloc: Global,
     bench: &mut Bench,
     cases: &'a str,
     out: &mut O,
 ) -> Option<(Fault, &'a str)> {
     for line in cases.lines() {
-        if let Err(fault) = bench.take_line(alloc, line, out) {
+        if let Err(fault) = bench.take_line(rt, alloc, line, out) {
             return Some((fault, line));
         }
     }

@@ -11,6 +11,8 @@ use lvm_memory::MemShelf;
 use lvm_num::Text;
 use lvm_program::run_words;
 use std::alloc::Global;
+use std::sync::Wait;
+use std::thread::Threads;
 
 /// How a run by words ended, and what it wrote.
 #[derive(Drop)]
@@ -40,7 +42,8 @@ fn two_sinks(alloc: Global) -> Result<(MemSink, MemSink), Fault> {
 }
 
 // Runs the program, and answers its status.
-fn run(
+fn run<R: Threads + Wait + Sync>(
+    rt: &R,
     alloc: Global,
     words: &[Text],
     input: &mut MemSource,
@@ -51,6 +54,7 @@ fn run(
 {
     let mut clock = MemClock::new(7);
     let ended = run_words(
+        rt,
         alloc,
         words,
         input,
@@ -63,7 +67,8 @@ fn run(
     ended.status.code()
 }
 
-fn answer_into(
+fn answer_into<R: Threads + Wait + Sync>(
+    rt: &R,
     alloc: Global,
     words: &[Text],
     input: &mut MemSource,
@@ -71,17 +76,18 @@ fn answer_into(
     sectors: &[u64],
 ) -> Result<u8, Fault> {
     let files = blank(alloc, sectors, &[])?;
-    Ok(run(alloc, words, input, sinks, files))
+    Ok(run(rt, alloc, words, input, sinks, files))
 }
 
 /// Lets the program answer words, with a script as its input, and over files of zeros of so many sectors each.
-pub(crate) fn answer(
+pub(crate) fn answer<R: Threads + Wait + Sync>(
+    rt: &R,
     alloc: Global,
     words: &[Text],
     input: &mut MemSource,
     sectors: &[u64],
 ) -> Result<Answered, Fault> {
     let mut sinks = ample_sinks(alloc)?;
-    let status = answer_into(alloc, words, input, &mut sinks, sectors)?;
+    let status = answer_into(rt, alloc, words, input, &mut sinks, sectors)?;
     Ok(Answered { status, sinks })
 }

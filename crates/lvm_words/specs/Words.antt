@@ -1,8 +1,8 @@
 -- The language of the command line.
-use Rattle.std.specs.Prelude.{ℕ, ◌≤◌, nat_le, ◌&&◌, if◌then◌else◌, List, [], ◌∷◌, Option, Some, None, Result, Ok, Err, codes, bytes_eq}
-use Rattle.lvm_operands.specs.Words.{number_in}
+use Rattle.std.specs.Prelude.{ℕ, ◌≤◌, nat_le, ◌&&◌, if◌then◌else◌, Bool, true, false, List, [], ◌∷◌, Option, Some, None, Result, Ok, Err, codes, bytes_eq, ok_or}
+use Rattle.lvm_operands.specs.Words.{name_in, number_in}
 use Rattle.lvm_words.specs.declared.job.Job.{Job}
-use Rattle.lvm_words.specs.declared.job.Job.TheVariants.{Script, Sim, Gen, Weave, Image, Help, Version}
+use Rattle.lvm_words.specs.declared.job.Job.TheVariants.{Script, Sim, Gen, Weave, Load, Image, Help, Version}
 use Rattle.lvm_words.specs.declared.fault.WordsFault.{WordsFault}
 use Rattle.lvm_words.specs.declared.fault.WordsFault.TheVariants.{Usage}
 
@@ -48,12 +48,45 @@ with_two name first second = if bytes_eq name (codes "sim") then sim_of (number_
 abbrev pub with_five : List ℕ → List ℕ → List ℕ → List ℕ → List ℕ → List ℕ → Result Job WordsFault
 with_five name disks mib clients requests seed = if bytes_eq name (codes "weave") then weave_of (number_in disks) (number_in mib) (number_in clients) (number_in requests) (number_in seed) else Err Usage
 
--- what the words ask to be done
+-- what the words ask to be done, where that isn't a load
 abbrev pub work_of : List (List ℕ) → Result Job WordsFault
 work_of (name ∷ []) = alone name
 work_of (name ∷ first ∷ second ∷ []) = with_two name first second
 work_of (name ∷ first ∷ second ∷ third ∷ fourth ∷ fifth ∷ []) = with_five name first second third fourth fifth
 work_of words = Err Usage
+
+-- the option by which each thread writes apart
+abbrev pub is_own : List ℕ → Bool
+is_own word = bytes_eq word (codes "--own")
+
+abbrev pub load_with : Bool → (group volume : Option (List ℕ)) → (threads requests seed : Option ℕ) → Option Job
+load_with own (Some group) (Some volume) (Some threads) (Some requests) (Some seed) = Some (Load own group volume threads requests seed)
+load_with own group volume threads requests seed = None
+
+-- two names, 1 to 128 threads, at most 50,000 requests, and a seed
+abbrev pub load_by : Bool → (group volume threads requests seed : List ℕ) → Option Job
+load_by own group volume threads requests seed = load_with own (name_in group) (name_in volume) (bounded 1 128 (number_in threads)) (bounded 0 50000 (number_in requests)) (number_in seed)
+
+-- the option stands once before, among or behind the operands, if it does
+abbrev pub load_of : List (List ℕ) → Option Job
+load_of (a ∷ b ∷ c ∷ d ∷ e ∷ []) = load_by false a b c d e
+load_of (a ∷ b ∷ c ∷ d ∷ e ∷ f ∷ []) = if is_own a then load_by true b c d e f
+    else (if is_own b then load_by true a c d e f
+    else (if is_own c then load_by true a b d e f
+    else (if is_own d then load_by true a b c e f
+    else (if is_own e then load_by true a b c d f
+    else (if is_own f then load_by true a b c d e else None)))))
+load_of words = None
+
+-- the words are those of a load, of the language or not
+abbrev pub is_load : List (List ℕ) → Bool
+is_load [] = false
+is_load (name ∷ words) = bytes_eq name (codes "load")
+
+-- what the words ask to be done
+abbrev pub asked_of : List (List ℕ) → Result Job WordsFault
+asked_of [] = Err Usage
+asked_of (name ∷ words) = if bytes_eq name (codes "load") then ok_or (load_of words) Usage else work_of (name ∷ words)
 
 -- `--help` or `--version`
 abbrev pub told_by : List ℕ → Option Job
@@ -65,12 +98,12 @@ told_of (word ∷ []) = told_by word
 told_of words = None
 
 abbrev pub told_or : Option Job → Result Job WordsFault → Result Job WordsFault
-told_or (Some job) work = Ok job
-told_or None work = work
+told_or (Some job) asked = Ok job
+told_or None asked = asked
 
 -- what the words behind the program's name ask for
 abbrev pub job_of : List (List ℕ) → Result Job WordsFault
-job_of words = told_or (told_of words) (work_of words)
+job_of words = told_or (told_of words) (asked_of words)
 
 -- what is asked for is as large as it may be
 abbrev pub IsWithin : Job → Type 0
@@ -78,6 +111,7 @@ IsWithin Script = Unit {0}
 IsWithin (Sim disks mib) = (1 ≤ disks) × (disks ≤ 32) × (1 ≤ mib) × (mib ≤ 64)
 IsWithin (Gen seed count) = count ≤ 100000
 IsWithin (Weave disks mib clients requests seed) = (1 ≤ disks) × (disks ≤ 8) × (8 ≤ mib) × (mib ≤ 64) × (1 ≤ clients) × (clients ≤ 64) × (requests ≤ 50000)
+IsWithin (Load own group volume threads requests seed) = (1 ≤ threads) × (threads ≤ 128) × (requests ≤ 50000)
 IsWithin (Image disk mib) = (disk ≤ 127) × (1 ≤ mib) × (mib ≤ 4096)
 IsWithin Help = Unit {0}
 IsWithin Version = Unit {0}

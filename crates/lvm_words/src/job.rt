@@ -1,5 +1,7 @@
 //! What the words of the command line may ask for.
 
+use lvm_num::Name;
+
 /// What the words of the command line ask for.
 #[derive(Clone, Copy, PartialEq, Eq)]
 pub enum Job {
@@ -23,6 +25,17 @@ pub enum Job {
         disks: u16,
         mib: u32,
         clients: u32,
+        requests: u32,
+        seed: u64,
+    },
+    /// `load [--own] GROUP VOLUME THREADS REQUESTS SEED`: so many reads and writes, at most 50,000, of a volume of a group on the
+    /// image files of the current folder, by so many threads, 1 to 128, which are drawn from the seed. With `--own`, which stands
+    /// anywhere behind `load`, each thread only writes, and to a track group of its own.
+    Load {
+        own: bool,
+        group: Name,
+        volume: Name,
+        threads: u32,
         requests: u32,
         seed: u64,
     },

@@ -3,9 +3,15 @@
 use crate::tests::outside::{check, files, run, sink};
 use lvm_io::MemSink;
 use std::process::Abort;
+use std::sync::Wait;
+use std::thread::Threads;
 
 // How the words end, with a script as their input, and what they write.
-fn told(rt: &(impl Abort + AllocGlobal), words: &[&str], script: &[u8]) -> (u8, MemSink) {
+fn told(
+    rt: &(impl Abort + AllocGlobal + Threads + Wait + Sync),
+    words: &[&str],
+    script: &[u8],
+) -> (u8, MemSink) {
     let (_, told, out) = run(rt, words, script, 7, files(rt), &mut sink(rt, 0));
     (told.status, out)
 }

@@ -7,6 +7,8 @@ use std::fs;
 use std::fs::File;
 use std::process::Abort;
 use std::rt::Files;
+use std::sync::Wait;
+use std::thread::Threads;
 
 const WRITE_AND_READ: &[u8] = b"wr hdisk0 4096 1 0000000000000001\nrd hdisk0 4096 1\n";
 
@@ -15,7 +17,7 @@ const MAKE: &[u8] = b"mkvg -y datavg -s 1 hdisk0\nfail hdisk0\n";
 const COME_ON: &[u8] = b"varyonvg datavg\nlspv hdisk0\n";
 
 // How the words end, with a script and a first moment, and what they write.
-fn told<R: Files<File = File> + AllocGlobal + Abort>(
+fn told<R: Files<File = File> + AllocGlobal + Abort + Threads + Wait + Sync>(
     rt: &R,
     words: &[&str],
     script: &[u8],
@@ -27,7 +29,7 @@ fn told<R: Files<File = File> + AllocGlobal + Abort>(
 }
 
 // Expects the words to end with this status and to write this.
-fn says<R: Files<File = File> + AllocGlobal + Abort>(
+fn says<R: Files<File = File> + AllocGlobal + Abort + Threads + Wait + Sync>(
     rt: &R,
     words: &[&str],
     script: &[u8],

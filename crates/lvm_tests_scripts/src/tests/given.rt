@@ -3,12 +3,14 @@
 use crate::tests::outside::{Told, check, files, last_byte, run, sink};
 use lvm_io::MemSink;
 use std::process::Abort;
+use std::sync::Wait;
+use std::thread::Threads;
 
 const WRITE: &[u8] = b"wr hdisk0 4096 1 0000000000000001\n";
 
 // What a run by words over files that are one disk tells, and the byte that it leaves on the files.
 fn told(
-    rt: &(impl Abort + AllocGlobal),
+    rt: &(impl Abort + AllocGlobal + Threads + Wait + Sync),
     words: &[&str],
     images: &mut MemSink,
 ) -> (Told, Option<u8>) {
@@ -42,7 +44,7 @@ fn are_zeros(bytes: &[u8], len: usize) -> bool {
 }
 
 // What the making of an image of two MiB tells, and whether the room for it has zeros.
-fn imaged(rt: &(impl Abort + AllocGlobal), room: usize) -> (Told, bool) {
+fn imaged(rt: &(impl Abort + AllocGlobal + Threads + Wait + Sync), room: usize) -> (Told, bool) {
     let mut images = sink(rt, room);
     let (told, _) = told(rt, &["image", "127", "2"], &mut images);
     (told, are_zeros(images.bytes(), room))

@@ -9,6 +9,8 @@ use lvm_memory::MemShelf;
 use lvm_num::{Rows, Text};
 use lvm_program::{Ended, run_words};
 use std::process::Abort;
+use std::sync::Wait;
+use std::thread::Threads;
 
 /// Ends the test where this isn't so, and says of what.
 pub fn check(rt: &impl Abort, is: bool, what: &str)
@@ -86,8 +88,8 @@ fn split<S: Drop>(ended: Ended<S>) -> (S, Told) {
 }
 
 // Does what the words ask for, with a clock that answers this moment first.
-fn run_at<S: Shelf, P: Images>(
-    rt: &impl AllocGlobal,
+fn run_at<S: Shelf + Send, P: Images>(
+    rt: &(impl AllocGlobal + Threads + Wait + Sync),
     texts: &[Text],
     input: &mut MemSource,
     out: &mut MemSink,
@@ -100,6 +102,7 @@ fn run_at<S: Shelf, P: Images>(
 {
     let mut clock = MemClock::new(moment.max(1));
     run_words(
+        rt,
         rt.alloc(),
         texts,
         input,
@@ -113,8 +116,8 @@ fn run_at<S: Shelf, P: Images>(
 
 /// Does what the words ask for, with a script as their input and a clock that answers this moment first: the files, what
 /// the run tells, and what it writes.
-pub fn run<S: Shelf + Drop, P: Images>(
-    rt: &(impl Abort + AllocGlobal),
+pub fn run<S: Shelf + Send + Drop, P: Images>(
+    rt: &(impl Abort + AllocGlobal + Threads + Wait + Sync),
     words: &[&str],
     script: &[u8],
     moment: u64,

@@ -1,9 +1,13 @@
 use Rattle.std.proofs.Common.{◌≡◌, ◌∙◌, ap, refl, subst, Ok}
+use Rattle.lvm_core.specs.declared.parts.Room.{Room}
+use Rattle.lvm_top.specs.Run.{ran}
+use Rattle.lvm_program.specs.Loaded.{PromisesLoaded}
 use Rattle.lvm_program.specs.Sim.{full_room}
+use Rattle.lvm_program.specs.Woven.{untold}
 use Rattle.lvm_words.specs.declared.job.Job.{Job}
-use Rattle.lvm_words.specs.declared.job.Job.TheVariants.{Sim, Weave}
+use Rattle.lvm_words.specs.declared.job.Job.TheVariants.{Load, Sim, Weave}
 use Rattle.lvm_words.specs.Words.{IsWithin, job_of}
-use Rattle.lvm_program.proofs.ProgramLemmas.{no_sim, on_drawn, on_sim_at, on_weave_at, unread_generates, unread_promises, unread_tells}
+use Rattle.lvm_program.proofs.ProgramLemmas.{no_sim, on_drawn, on_load_at, on_sim_at, on_weave_at, unread_generates, unread_loads, unread_promises, unread_tells}
 use Rattle.lvm_program.proofs.SimLemmas.{sim_promises}
 use Rattle.lvm_program.proofs.WovenLemmas.Woven.{sim_weaves}
 use Rattle.lvm_program.proofs.program.run_words.Goals as goal
@@ -21,7 +25,16 @@ returns-in-Err-Memory-clause-drawn g c =
     (λ disks mib load. no_sim c.unrun-in-Err-Memory.result.sim _ _ c.unrun-in-Err-Memory.ensures.unrun.sim_is (c.unrun-in-Err-Memory.ensures.unrun, refl, refl))
 
 pub returns-in-Err-Memory-clause-text : goal.returns-in-Err-Memory-clause-text
-returns-in-Err-Memory-clause-text g c = unread_tells c.args.words.now _ c.in-Err-Memory.ensures.told _
+returns-in-Err-Memory-clause-text g c = unread_tells c.args.words.now _ c.in-Err-Memory.ensures.told c.in-Err-Memory.ensures.loads _
+
+pub returns-in-Err-Memory-clause-load : goal.returns-in-Err-Memory-clause-load
+returns-in-Err-Memory-clause-load g c = unread_loads c.args.words.now _ c.in-Err-Memory.ensures.told c.in-Err-Memory.ensures.loads _
+
+pub returns-in-Ok-Load-clause-load : goal.returns-in-Ok-Load-clause-load
+returns-in-Ok-Load-clause-load g c =
+    let is : job_of c.args.words.now ≡ Ok (Load c.in-Ok-Load.own c.in-Ok-Load.group c.in-Ok-Load.volume c.in-Ok-Load.threads c.in-Ok-Load.requests c.in-Ok-Load.seed) = c.in-Ok-Load.ensures.job ∙ ap (λ (j : Job). Ok j) c.in-Ok-Load.field-0-is in
+    on_load_at _ c.in-Ok-Load.own c.in-Ok-Load.group c.in-Ok-Load.volume c.in-Ok-Load.threads c.in-Ok-Load.requests c.in-Ok-Load.seed is _
+    (c.run_load.ensures.sim, subst (λ (room : Room). PromisesLoaded _ _ (ran room _ _ untold _ _ _ _ _)) c.full_room-in-Ok-Load.ensures c.run_load.ensures.run, c.run_load.ensures.asked)
 
 pub returns-in-Ok-clause-sim : goal.returns-in-Ok-clause-sim
 returns-in-Ok-clause-sim g c =

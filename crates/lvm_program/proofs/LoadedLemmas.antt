@@ -1,0 +1,2 @@
+pub mod Varying
+pub mod Loaded

@@ -1,0 +1,3 @@
+mod disks;
+mod loads;
+mod outside;
