@@ -163,9 +163,17 @@ pub fn run_words<
         × ((result.status ≡ ExitStatus.Memory → ⊥) → IsImaged disk mib result.status (P.chosen images.new) (P.choices images.old) (P.choices images.new) zeros)) }
     ensures alone { LeavesAlone (job_of words.now) (result.shelf ≡ files) (input.new ≡ input.old) (out.new ≡ out.old) (err.new ≡ err.old) (clock.new ≡ clock.old) (images.new ≡ images.old) }
 {
-    match read_words(alloc, words) {
-        Ok(Job::Script) => run_script(alloc, input, out, files, clock, full_room()),
-        Ok(Job::Sim { disks, mib }) => match blank_shelf(alloc, disks, mib) {
+    let job = match read_words(alloc, words) {
+        Ok(job) => job,
+        Err(WordsFault::Usage) => {
+            say_usage(err);
+            return unrun(ExitStatus::Usage, files);
+        }
+        Err(WordsFault::Memory) => return unrun(ExitStatus::Memory, files),
+    };
+    match job {
+        Job::Script => run_script(alloc, input, out, files, clock, full_room()),
+        Job::Sim { disks, mib } => match blank_shelf(alloc, disks, mib) {
             Ok(shelf) => {
                 let ended = run_script(alloc, input, out, shelf, clock, full_room());
                 Ended {
@@ -178,16 +186,14 @@ pub fn run_words<
             }
             Err(Memory) => unrun(ExitStatus::Memory, files),
         },
-        Ok(Job::Gen { seed, count }) => unrun(run_gen(alloc, seed, count, out), files),
-        Ok(
-            Job::Weave {
-                disks,
-                mib,
-                clients,
-                requests,
-                seed,
-            },
-        ) => match blank_shelf(alloc, disks, mib) {
+        Job::Gen { seed, count } => unrun(run_gen(alloc, seed, count, out), files),
+        Job::Weave {
+            disks,
+            mib,
+            clients,
+            requests,
+            seed,
+        } => match blank_shelf(alloc, disks, mib) {
             Ok(shelf) => {
                 let load = Workload {
                     clients,
@@ -205,16 +211,14 @@ pub fn run_words<
             }
             Err(Memory) => unrun(ExitStatus::Memory, files),
         },
-        Ok(
-            Job::Load {
-                own,
-                group,
-                volume,
-                threads,
-                requests,
-                seed,
-            },
-        ) => {
+        Job::Load {
+            own,
+            group,
+            volume,
+            threads,
+            requests,
+            seed,
+        } => {
             let load = Load {
                 threads,
                 requests,
@@ -228,13 +232,8 @@ pub fn run_words<
             };
             run_load(rt, alloc, &words, out, files, clock, full_room())
         }
-        Ok(Job::Image { disk, mib }) => unrun(make_image(disk, mib, images), files),
-        Ok(Job::Help) => unrun(tell_help(out), files),
-        Ok(Job::Version) => unrun(tell_version(out), files),
-        Err(WordsFault::Usage) => {
-            say_usage(err);
-            unrun(ExitStatus::Usage, files)
-        }
-        Err(WordsFault::Memory) => unrun(ExitStatus::Memory, files),
+        Job::Image { disk, mib } => unrun(make_image(disk, mib, images), files),
+        Job::Help => unrun(tell_help(out), files),
+        Job::Version => unrun(tell_version(out), files),
     }
 }

@@ -1,7 +1,9 @@
 use Rattle.std.proofs.Common.{◌≡◌, ◌∙◌, ap, refl, subst, Ok}
 use Rattle.lvm_core.specs.declared.parts.Room.{Room}
 use Rattle.lvm_top.specs.Run.{ran}
+use Rattle.lvm_top.specs.Script.{passage}
 use Rattle.lvm_program.specs.Loaded.{PromisesLoaded}
+use Rattle.lvm_program.specs.Program.{load_words}
 use Rattle.lvm_program.specs.Sim.{full_room}
 use Rattle.lvm_program.specs.Woven.{untold}
 use Rattle.lvm_words.specs.declared.job.Job.{Job}
@@ -30,23 +32,24 @@ returns-in-Err-Memory-clause-text g c = unread_tells c.args.words.now _ c.in-Err
 pub returns-in-Err-Memory-clause-load : goal.returns-in-Err-Memory-clause-load
 returns-in-Err-Memory-clause-load g c = unread_loads c.args.words.now _ c.in-Err-Memory.ensures.told c.in-Err-Memory.ensures.loads _
 
-pub returns-in-Ok-Load-clause-load : goal.returns-in-Ok-Load-clause-load
-returns-in-Ok-Load-clause-load g c =
-    let is : job_of c.args.words.now ≡ Ok (Load c.in-Ok-Load.own c.in-Ok-Load.group c.in-Ok-Load.volume c.in-Ok-Load.threads c.in-Ok-Load.requests c.in-Ok-Load.seed) = c.in-Ok-Load.ensures.job ∙ ap (λ (j : Job). Ok j) c.in-Ok-Load.field-0-is in
-    on_load_at _ c.in-Ok-Load.own c.in-Ok-Load.group c.in-Ok-Load.volume c.in-Ok-Load.threads c.in-Ok-Load.requests c.in-Ok-Load.seed is _
-    (c.run_load.ensures.sim, subst (λ (room : Room). PromisesLoaded _ _ (ran room _ _ untold _ _ _ _ _)) c.full_room-in-Ok-Load.ensures c.run_load.ensures.run, c.run_load.ensures.asked)
+pub returns-in-Load-clause-load : goal.returns-in-Load-clause-load
+returns-in-Load-clause-load g c =
+    let is : job_of c.args.words.now ≡ Ok (Load c.in-Load.own c.in-Load.group c.in-Load.volume c.in-Load.threads c.in-Load.requests c.in-Load.seed) = c.in-Ok.ensures.job ∙ ap (λ (j : Job). Ok j) c.in-Load.is in
+    on_load_at _ c.in-Load.own c.in-Load.group c.in-Load.volume c.in-Load.threads c.in-Load.requests c.in-Load.seed is _
+    (c.run_load.ensures.sim, subst (λ (room : Room). PromisesLoaded (load_words c.in-Load.own c.in-Load.group c.in-Load.volume c.in-Load.threads c.in-Load.requests c.in-Load.seed) (g.C.Clock.last c.args.clock.now)
+    (ran room (g.S.Shelf.device c.args.files) (g.S.Shelf.device c.run_load.result.shelf) untold (passage g.O.Sink.held g.O.Sink.faults c.args.out.now c.run_load.new.out) (g.C.Clock.last c.run_load.new.clock) c.run_load.result.history c.run_load.result.status c.run_load.result.refused)) c.full_room-in-Load.ensures c.run_load.ensures.run, c.run_load.ensures.asked)
 
-pub returns-in-Ok-clause-sim : goal.returns-in-Ok-clause-sim
-returns-in-Ok-clause-sim g c =
-    let is : job_of c.args.words.now ≡ Ok (Sim c.in-Ok-Sim.disks c.in-Ok-Sim.mib) = c.in-Ok-Sim.ensures.job ∙ ap (λ (j : Job). Ok j) c.in-Ok-Sim.field-0-is in
-    let within = subst IsWithin c.in-Ok-Sim.field-0-is c.in-Ok-Sim.ensures.within in
-    on_sim_at _ c.in-Ok-Sim.disks c.in-Ok-Sim.mib is _ (sim_promises _ _ c.in-Ok-Sim.disks c.in-Ok-Sim.mib within.1 c.in-Ok.ensures c.run_script-ended.ensures.run c.full_room-in-Ok.ensures, tt)
+pub returns-in-Ok-blank_shelf-clause-sim : goal.returns-in-Ok-blank_shelf-clause-sim
+returns-in-Ok-blank_shelf-clause-sim g c =
+    let is : job_of c.args.words.now ≡ Ok (Sim c.in-Sim.disks c.in-Sim.mib) = c.in-Ok.ensures.job ∙ ap (λ (j : Job). Ok j) c.in-Sim.is in
+    let within = subst IsWithin c.in-Sim.is c.in-Ok.ensures.within in
+    on_sim_at _ c.in-Sim.disks c.in-Sim.mib is _ (sim_promises _ _ c.in-Sim.disks c.in-Sim.mib within.1 c.in-Ok-blank_shelf.ensures c.run_script-ended.ensures.run c.full_room-in-Ok-blank_shelf.ensures, tt)
 
-pub returns-in-Ok-blank_shelf-clause-drawn : goal.returns-in-Ok-blank_shelf-clause-drawn
-returns-in-Ok-blank_shelf-clause-drawn g c =
-    let disks = c.in-Ok-Weave.disks in
-    let mib = c.in-Ok-Weave.mib in
-    let is : job_of c.args.words.now ≡ Ok (Weave disks mib c.in-Ok-Weave.clients c.in-Ok-Weave.requests c.in-Ok-Weave.seed) = c.in-Ok-Weave.ensures.job ∙ ap (λ (j : Job). Ok j) c.in-Ok-Weave.field-0-is in
-    let within = subst IsWithin c.in-Ok-Weave.field-0-is c.in-Ok-Weave.ensures.within in
-    on_weave_at _ disks mib c.in-Ok-Weave.clients c.in-Ok-Weave.requests c.in-Ok-Weave.seed is _ _
-    ((sim_weaves disks mib (within.0, within.1, within.2, within.3) _ _ _ c.in-Ok-blank_shelf.ensures c.run_weave-ended.ensures.run c.full_room-in-Ok-blank_shelf.ensures, c.run_weave-ended.ensures.asked), tt)
+pub returns-in-Ok-blank_shelf-2-clause-drawn : goal.returns-in-Ok-blank_shelf-2-clause-drawn
+returns-in-Ok-blank_shelf-2-clause-drawn g c =
+    let disks = c.in-Weave.disks in
+    let mib = c.in-Weave.mib in
+    let is : job_of c.args.words.now ≡ Ok (Weave disks mib c.in-Weave.clients c.in-Weave.requests c.in-Weave.seed) = c.in-Ok.ensures.job ∙ ap (λ (j : Job). Ok j) c.in-Weave.is in
+    let within = subst IsWithin c.in-Weave.is c.in-Ok.ensures.within in
+    on_weave_at _ disks mib c.in-Weave.clients c.in-Weave.requests c.in-Weave.seed is _ _
+    ((sim_weaves disks mib (within.0, within.1, within.2, within.3) _ _ _ c.in-Ok-blank_shelf-2.ensures c.run_weave-ended.ensures.run c.full_room-in-Ok-blank_shelf-2.ensures, c.run_weave-ended.ensures.asked), tt)
