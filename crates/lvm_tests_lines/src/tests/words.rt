@@ -1,16 +1,12 @@
 // Words as they come from a shell.
 
 use crate::tests::fixtures::check;
-use lvm_num::{Name, Text};
+use lvm_num::Text;
 use lvm_words::{Job, WordsFault, read_words};
 use std::process::Abort;
 
 fn text(rt: &(impl Abort + AllocGlobal), word: &str) -> Text {
     Text::new(String::from_str(rt.alloc(), word).expect(rt, "memory"))
-}
-
-fn name(rt: &impl Abort, text: &str) -> Name {
-    Name::read(text.as_bytes()).expect(rt, "a name")
 }
 
 fn read(rt: &(impl Abort + AllocGlobal), words: &[&str]) -> Result<Job, WordsFault> {
@@ -58,24 +54,30 @@ fn the_largest_script_is_drawn(rt: HostRuntime) {
     );
 }
 
-#[test]
-fn a_load_has_its_option_anywhere(rt: HostRuntime) {
-    let load = Job::Load {
-        own: true,
-        group: name(&rt, "datavg"),
-        volume: name(&rt, "lv00"),
-        threads: 128,
-        requests: 50_000,
-        seed: 7,
-    };
-    for words in &[
-        ["load", "--own", "datavg", "lv00", "128", "50000", "7"],
-        ["load", "datavg", "lv00", "128", "50000", "7", "--own"],
-    ] {
-        check(&rt, job(&rt, words) == Some(load), "a load");
+// The threads of a load whose requests are all writes.
+fn writers(rt: &(impl Abort + AllocGlobal), words: &[&str]) -> Option<u32> {
+    match read(rt, words) {
+        Ok(
+            Job::Load {
+                own: true,
+                threads,
+                ..
+            },
+        ) => Some(threads),
+        _ => None,
     }
-    let faulty = ["load", "datavg", "lv00", "129", "1", "7"];
-    check(&rt, job(&rt, &faulty).is_none(), "a thread too many");
+}
+
+#[test]
+fn a_load_has_its_option_first(rt: HostRuntime) {
+    let words = ["load", "--own", "datavg", "lv00", "128", "50000", "7"];
+    check(&rt, writers(&rt, &words) == Some(128), "a load");
+}
+
+#[test]
+fn a_load_has_its_option_last(rt: HostRuntime) {
+    let words = ["load", "datavg", "lv00", "128", "50000", "7", "--own"];
+    check(&rt, writers(&rt, &words) == Some(128), "a load");
 }
 
 // What clap takes beyond the language.
