@@ -3,7 +3,7 @@ ghost use Rattle.std.specs.Prelude.{◌≡◌, ◌%◌, length, All, IsTrue};
 ghost use Rattle.lvm_disk.specs.Device.{IsReady};
 ghost use Rattle.lvm_memory.specs.Memory.{device_of};
 
-use crate::tests::outside::{answer, check};
+use crate::tests::outside::{check, run};
 use lvm_disk::Shelf;
 use lvm_memory::{MemShelf, Planned, names_disks};
 use lvm_num::Rows;
@@ -73,7 +73,7 @@ pub fn scripted(
 ) -> MemShelf
     ensures { IsReady (device_of result) }
 {
-    let left = answer(rt, &["script"], script, 1, blank(rt, sectors));
+    let left = run(rt, &["script"], script, 1, blank(rt, sectors));
     check(rt, left.status == 0, "the script");
     restarted(rt, &left.files, plan)
 }

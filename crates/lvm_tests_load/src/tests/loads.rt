@@ -2,7 +2,7 @@
 ghost use Rattle.lvm_disk.specs.Device.{IsReady};
 
 use crate::tests::disks::{restarted, scripted};
-use crate::tests::outside::{Answer, answer, check};
+use crate::tests::outside::{Answer, check, run};
 use lvm_disk::Shelf;
 use lvm_memory::{Act, GateShelf, MemShelf, Planned};
 use std::process::Abort;
@@ -31,7 +31,7 @@ fn says<S: Shelf + Send + Drop>(
 )
     requires { IsReady (S.device files) }
 {
-    let said = answer(rt, words, b"", 1_000, files);
+    let said = run(rt, words, b"", 1_000, files);
     check(rt, said.out.bytes() == wanted, "what is written");
     check(rt, said.status == status, "the status");
 }
@@ -132,7 +132,7 @@ fn a_load_of_nothing_and_ones_that_are_refused(rt: HostRuntime) {
 #[test]
 fn as_many_threads_as_there_may_be(rt: HostRuntime) {
     let files = scripted(&rt, &[SMALL], SINGLE, &[]);
-    let said = answer(
+    let said = run(
         &rt,
         &["load", "datavg", "lv00", "128", "300", "3"],
         b"",
@@ -149,7 +149,7 @@ fn a_day_on_which_a_disk_fails(rt: HostRuntime) {
         act: Act::Fail(1),
     };
     let files = scripted(&rt, &[LARGE, LARGE, LARGE], MIRROR, &[failing]);
-    let said = answer(
+    let said = run(
         &rt,
         &["load", "datavg", "lv00", "8", "4000", "7"],
         b"",
@@ -158,7 +158,7 @@ fn a_day_on_which_a_disk_fails(rt: HostRuntime) {
     );
     ends_well(&rt, &said, 4_000);
     let healed: MemShelf = restarted(&rt, &said.files, &[]);
-    let behind = answer(&rt, &["script"], SYNC, 20_000, healed);
+    let behind = run(&rt, &["script"], SYNC, 20_000, healed);
     let wanted: &[u8] = b"ok\nsynced 32\nlv00 LPs 32 PPs 64 PVs 2 stale 0\nok\n";
     check(&rt, behind.out.bytes() == wanted, "what is written");
     check(&rt, behind.status == 0, "the status");

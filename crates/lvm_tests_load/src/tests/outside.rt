@@ -47,7 +47,7 @@ pub struct Answer<S> {
 }
 
 /// Does what the words ask for over these files, with a script as its input and a clock that answers this moment first.
-pub fn answer<S: Shelf + Send + Drop>(
+pub fn run<S: Shelf + Send + Drop>(
     rt: &(impl Abort + AllocGlobal + Threads + Wait + Sync),
     words: &[&str],
     script: &[u8],
