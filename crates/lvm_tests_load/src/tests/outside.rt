@@ -61,7 +61,7 @@ pub fn run<S: Shelf + Send + Drop>(
     let mut out = sink(rt, 65_536);
     let mut err = sink(rt, 1_024);
     let mut images = sink(rt, 0);
-    let mut clock = MemClock::new(moment);
+    let mut clock = MemClock::new(moment.max(1));
     let ended = run_words(
         rt,
         rt.alloc(),
