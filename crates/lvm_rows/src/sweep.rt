@@ -109,10 +109,11 @@ struct Call {
     starts: bool,
 }
 
-// Whether the act at this call may leave what no other one does: a disk that fails before the end of a transfer fails the
-// same ones as before its start.
+// Whether the act at this call may leave what no other one does: before a start nothing is under way for a cut to leave
+// in part, and a disk that fails before the end of a transfer fails the same ones as before its start.
 fn may_differ(act: Act, call: Call) -> bool {
     match act {
+        Act::Cut(word) => word == 0 || !call.starts,
         Act::Fail(_) => call.starts,
         _ => true,
     }
