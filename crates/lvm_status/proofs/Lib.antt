@@ -4,3 +4,4 @@ pub mod MembersLemmas
 pub mod Same
 pub mod RunsLemmas
 pub mod Differing
+pub mod TablesLemmas

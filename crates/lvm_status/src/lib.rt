@@ -5,9 +5,11 @@
 pub mod below;
 mod change;
 pub mod laws;
+mod tables;
 mod updater;
 mod writes;
 
 pub use change::{Change, Progress};
+pub use tables::Tables;
 pub use updater::{Updater, members_there};
 pub use writes::Writes;

@@ -5,9 +5,11 @@ ghost use Rattle.std.specs.Option.{option_copied};
 ghost use Rattle.lvm_stale.specs.passed.Names.{PvRow, IsValid, IsLaidOut, partitions_in, total_votes, has, IsLowest};
 ghost use Rattle.lvm_stale.specs.Marking.{IsLeftIn, Marks, HasMark};
 ghost use Rattle.lvm_status.specs.Members.{HasItsRows, all_rows, all_members};
+ghost use Rattle.lvm_stale.specs.Rerowed.{IsRerowed};
 ghost use Rattle.lvm_status.specs.Update.{members_there};
+ghost use Rattle.lvm_status.specs.Runs.{IsSoundStatus};
 
-use crate::{Change, Progress, Writes};
+use crate::{Change, Progress, Tables, Writes};
 use lvm_stale::below::{
     Descriptor, DiskSet, LvRow, Memory, Pp, Rows, Stamp, Status, has_member, with_volumes,
 };
@@ -156,6 +158,32 @@ impl Updater {
         }
         self.close();
         self.progress(commits)
+    }
+
+    /// Tables for these members of the group, with all the memory that a change of members takes here.
+    pub fn tables(&self, alloc: Global, d: &Descriptor) -> Result<Tables, Memory>
+        requires valid { IsValid d.now }
+        ensures { IfOk result (λ tables. tables ≡ record d.now { lvs = [] }) }
+    {
+        Tables::new(alloc, d, &self.wanted)
+    }
+
+    /// The members change where no update is in flight: what is committed and what is wanted is from now on
+    /// said over the rows of these tables. It takes no memory.
+    pub fn install(&mut self, tables: Tables)
+        requires idle { self.old.in_flight ≡ None }
+        requires id { tables.id ≡ self.old.group.id }
+        requires sound { IsSoundStatus (seen self.old) }
+        ensures committed { IsRerowed tables self.old.committed self.new.committed }
+        ensures wanted { IsRerowed tables self.old.wanted self.new.wanted }
+        ensures rest { seen self.new ≡ record (seen self.old) { group = tables; committed = self.new.committed; wanted = self.new.wanted } }
+    {
+        let (group, committed, wanted, flying) = tables.into_parts(&self.committed, &self.wanted);
+        self.is_known = says_the_same(&wanted, &committed);
+        self.group = group;
+        self.committed = committed;
+        self.wanted = wanted;
+        self.flying = flying;
     }
 
     /// What is committed: the last status that disks with votes enough to write have.
@@ -362,7 +390,7 @@ fn first_parts(
 }
 
 // Two tables that say what this one does.
-fn two_of(alloc: Global, table: &StaleTable) -> Result<(StaleTable, StaleTable), Memory>
+pub(crate) fn two_of(alloc: Global, table: &StaleTable) -> Result<(StaleTable, StaleTable), Memory>
     ensures first { IfOk result (λ tables. tables.0 ≡ table.now) }
     ensures second { IfOk result (λ tables. tables.1 ≡ table.now) }
 {
@@ -372,7 +400,7 @@ fn two_of(alloc: Global, table: &StaleTable) -> Result<(StaleTable, StaleTable),
 }
 
 // The group with its members alone.
-fn without_volumes(alloc: Global, d: &Descriptor) -> Result<Descriptor, Memory>
+pub(crate) fn without_volumes(alloc: Global, d: &Descriptor) -> Result<Descriptor, Memory>
     ensures { IfOk result (λ group. group ≡ record d.now { lvs = [] }) }
 {
     with_volumes(alloc, d, Rows::empty(alloc))

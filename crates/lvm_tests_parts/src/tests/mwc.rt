@@ -223,3 +223,47 @@ fn track_groups_are_pinned_and_named_as_it_is_said(rt: HostRuntime) {
         run(&rt, name, all);
     }
 }
+
+fn admit(rt: &impl Abort, cache: &mut Cache, disk: u16) {
+    let new = !cache.has_disk(disk) && disk < 128;
+    assert!(rt; new);
+    cache.admit(disk);
+}
+
+fn dismiss(rt: &impl Abort, cache: &mut Cache, disk: u16) {
+    let still = !cache.has_note_in_flight(disk);
+    assert!(rt; still);
+    cache.dismiss(disk);
+}
+
+// Which of four disks are in the set, and which of them name track group 3.
+fn disks_of(cache: &Cache) -> ([bool; 4], [bool; 4]) {
+    (
+        [0, 5, 9, 127].map(|disk| cache.has_disk(disk)),
+        [0, 5, 9, 127].map(|disk| cache.is_named(disk, 1, 3)),
+    )
+}
+
+#[test]
+fn disks_come_and_go(rt: HostRuntime) {
+    let mut cache = full(&rt);
+    admit(&rt, &mut cache, 5);
+    for disk in [0, 127] {
+        check(&rt, starts(&rt, &mut cache, disk, 0, 61), "a note");
+        end(&rt, &mut cache, disk, true);
+    }
+    let there = [true, true, false, true];
+    check(
+        &rt,
+        disks_of(&cache) == (there, [true, false, false, true]),
+        "one came",
+    );
+    dismiss(&rt, &mut cache, 0);
+    dismiss(&rt, &mut cache, 9);
+    let there = [false, true, false, true];
+    check(
+        &rt,
+        disks_of(&cache) == (there, [false, false, false, true]),
+        "one went",
+    );
+}

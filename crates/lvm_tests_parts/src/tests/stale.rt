@@ -1,7 +1,7 @@
 use crate::tests::fixtures::check;
-use lvm_num::Pp;
+use lvm_num::{Descriptor, Pp};
 use lvm_stale::StaleTable;
-use lvm_tests_values::{Volume, group, table};
+use lvm_tests_values::{Member, Volume, group, table};
 use std::process::Abort;
 
 // The table of disks 3 and 7, with volume 5 dirty.
@@ -135,4 +135,43 @@ fn a_table_becomes_another_without_memory(rt: HostRuntime) {
     other.set_dirty(9, true);
     copy(&rt, &mut other, &one);
     check(&rt, *one.as_status() == *other.as_status(), "the same");
+}
+
+// Of each of three disks whether it has a row, is missing, and has its last partition stale.
+fn said(table: &StaleTable) -> [(bool, bool, bool); 3] {
+    [3, 7, 9].map(|disk| {
+        let stale = table.is_stale(Pp { disk, pp: 1015 });
+        (table.has_row(disk), table.is_missing(disk), stale)
+    })
+}
+
+const OTHERS: [Member; 2] = [(9, 1016, false), (7, 1016, false)];
+
+// The table of disks 3 and 7 over the rows of a group of disks 9 and 7.
+fn over_others(rt: &(impl Abort + AllocGlobal), table: &StaleTable) -> StaleTable {
+    let group: Descriptor = group(rt.alloc(), &OTHERS, &[]).expect(rt, "a group");
+    let valid = group.is_valid();
+    assert!(rt; valid);
+    table.with_rows(rt.alloc(), &group).expect(rt, "memory")
+}
+
+#[test]
+fn a_table_is_said_over_the_rows_of_other_members(rt: HostRuntime) {
+    let mut table = table_of(&rt);
+    mark(&rt, &mut table, 3, 1015);
+    mark(&rt, &mut table, 7, 1015);
+    let mut over = over_others(&rt, &table);
+    let none = (false, false, false);
+    let new = (true, false, false);
+    check(&rt, said(&over) == [none, (true, false, true), new], "made");
+    set_missing(&rt, &mut table, 7);
+    clear(&rt, &mut table, 7, 1015);
+    table.set_dirty(9, true);
+    over.copy_rows(&table);
+    check(
+        &rt,
+        said(&over) == [none, (true, true, false), new],
+        "copied",
+    );
+    check(&rt, is_dirty(&over, &[5, 9]), "dirty");
 }

@@ -534,3 +534,26 @@ fn a_table_of_other_members_does_not_fit(rt: HostRuntime) {
         check(&rt, fits(&rt, disks) == *want, "fits");
     }
 }
+
+const NEXT: [Member; 3] = [(9, 6, false), (7, 6, false), (5, 6, false)];
+
+// Of four disks those that have a row, and those that are missing.
+fn rows_of(table: &StaleTable) -> ([bool; 4], [bool; 4]) {
+    (
+        [2, 5, 7, 9].map(|disk| table.has_row(disk)),
+        [2, 5, 7, 9].map(|disk| table.is_missing(disk)),
+    )
+}
+
+// Three members of which one goes and another comes, while disk 5 is missing.
+#[test]
+fn members_change(rt: HostRuntime) {
+    let mut updater = three(&rt, true);
+    let group = group(rt.alloc(), &NEXT, &[]).expect(&rt, "a group");
+    let valid = group.is_valid();
+    assert!(rt; valid);
+    let mut tables = updater.tables(rt.alloc(), &group).expect(&rt, "memory");
+    want(&rt, &mut updater, Change::Missing(5));
+    let filled = ([false, true, true, true], [false, true, false, false]);
+    check(&rt, rows_of(updater.fill(&mut tables)) == filled, "filled");
+}
