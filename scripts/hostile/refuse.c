@@ -19,6 +19,7 @@
 #include <string.h>
 #include <sys/file.h>
 #include <sys/stat.h>
+#include <sys/syscall.h>
 #include <unistd.h>
 
 enum { ALLOC, OPEN, LOCK, STAT, SEEK, READ, WRITE, SYNC, ANY, KINDS };
@@ -69,10 +70,14 @@ static int comes(int which) {
     return kind == ANY && which != ALLOC && counts[ANY] == at;
 }
 
-static void die(void) {
+// A program that rt builds ends by this call, behind which no destructor runs.
+void _exit(int status) {
     tell();
-    _exit(137);
+    syscall(SYS_exit_group, status);
+    __builtin_unreachable();
 }
+
+static void die(void) { _exit(137); }
 
 // Whether a call on an image fails as a whole.
 static int fails(int which, int file) {
