@@ -186,12 +186,16 @@ def see_records(disk, old, new, wanted):
     """That its records are the new ones, each in the slot that didn't hold the newest, and that nothing else was written."""
     may = {NOTE}
     for kind, starts, value in (("descriptor", DESCRIPTOR, wanted.group), ("status", STATUS, wanted.status)):
-        was, found = records.newest(old, kind), records.newest(new, kind)
-        if found is None or found[1] != value:
-            raise Failed(f"the {kind} of hdisk{disk}: {found}, not {value}")
-        if was and (found[0] <= was[0] or found[2] == was[2]):
-            raise Failed(f"the {kind} of hdisk{disk} is over the newest one, or older")
-        may |= set(range(starts[found[2]], starts[found[2]] + (1152 if kind == "descriptor" else 64)))
+        was = records.newest(old, kind)
+        slots = [slot for slot in (0, 1) if not was or slot != was[2]]
+        found = [(slot, it) for slot in slots if (it := records.in_slot(new, kind, slot)) and it[1] == value]
+        if not found:
+            raise Failed(f"the {kind} of hdisk{disk} isn't {value} in a slot of {slots}")
+        slot, (stamp, _) = found[0]
+        # (a record of another group may have any stamp, since bytes of it were turned over)
+        if was and was[1].id == value.id and stamp <= was[0]:
+            raise Failed(f"the {kind} of hdisk{disk} is older than what was there")
+        may |= set(range(starts[slot], starts[slot] + (1152 if kind == "descriptor" else 64)))
     if records.note_of(new):
         raise Failed(f"the note of hdisk{disk} names {records.note_of(new)}")
     others = [sector for sector in changed(old[: DATA * SECTOR], new[: DATA * SECTOR]) if sector not in may]

@@ -259,17 +259,18 @@ def read_status(it):
     return Status(id_, rows, dirty)
 
 
+def in_slot(image, kind, slot):
+    """The stamp and the content of the record in a disk's slot, if there is one."""
+    held = read_slot(image, kind, slot)
+    value = held and (decode_descriptor if kind == "descriptor" else decode_status)(held[1])
+    return (held[0], value) if value else None
+
+
 def newest(image, kind):
     """The stamp, the content and the slot of a disk's newest record, if it has one."""
     if len(image) // SECTOR < DATA:
         return None
-    decode = decode_descriptor if kind == "descriptor" else decode_status
-    found = []
-    for slot in (0, 1):
-        held = read_slot(image, kind, slot)
-        value = held and decode(held[1])
-        if value:
-            found.append((held[0], -slot, value))
+    found = [(it[0], -slot, it[1]) for slot in (0, 1) if (it := in_slot(image, kind, slot))]
     if not found:
         return None
     stamp, slot, value = max(found, key=lambda it: it[:2])
