@@ -4,23 +4,30 @@ ghost use Rattle.lvm_disk.specs.Device.{IsReady};
 ghost use Rattle.lvm_memory.specs.Memory.{device_of};
 
 use crate::fault::Fault;
-use crate::outside::{Outside, Streams};
+use crate::images::{copied, edit, zeros};
+use crate::outside::{Outside, Streams, ample};
 use crate::parse;
-use crate::print::{print_line, print_lines, print_run, print_words};
-use crate::run::{Sizes, blank, images_of, restarted, run};
+use crate::print::{print_line, print_lines, print_probe, print_run, print_words};
+use crate::run::{Judged, Sizes, Watched, blank, images_of, judge, restarted, run, run_load};
 use crate::script::Script;
 use crate::sweep::{Swept, Swing, sweep};
 use crate::words::{Answered, answer};
+use crate::wrote::{Wrote, compared};
 use lvm_io::{MemClock, Sink};
 use lvm_memory::MemShelf;
 use lvm_num::{Rows, Text};
-use lvm_program::Ended;
+use lvm_program::{Ended, Room};
 use std::alloc::Global;
 use std::sync::Wait;
 use std::thread::Threads;
 
-/// How many entries the history of a run has room for where nothing else is said.
-const ENTRIES: u32 = 1_024;
+/// The room of a run where nothing else is said.
+const ROOM: Room = Room {
+    table: 4,
+    pool: 4,
+    entries: 1_024,
+    bytes: 1_048_576,
+};
 
 /// The moment that a clock answers first where nothing else is said.
 const FIRST: u64 = 7;
@@ -33,7 +40,7 @@ pub struct Bench {
     script: Script,
     outside: Outside,
     clock: MemClock,
-    watched: Option<(u16, u64)>,
+    watched: Watched,
 }
 
 impl Bench {
@@ -42,13 +49,16 @@ impl Bench {
         Bench {
             sizes: Sizes {
                 sectors: Vec::new(alloc),
-                entries: ENTRIES,
+                room: ROOM,
             },
             left: None,
             script: Script::new(alloc),
             outside: Outside::new(alloc),
             clock: MemClock::new(FIRST),
-            watched: None,
+            watched: Watched {
+                block: None,
+                mirror: None,
+            },
         }
     }
 
@@ -70,6 +80,9 @@ impl Bench {
             "sweep" => self.sweep(alloc, rest, None, out),
             "twice" => self.twice(alloc, rest, out),
             "words" => self.words(rt, alloc, rest, out),
+            "probe" => self.probe(alloc, rest, out),
+            "weave" => self.weave(alloc, rest, out),
+            "put" | "fill" | "copy" | "resize" => self.edit(alloc, verb, rest),
             _ => self.set(alloc, verb, rest),
         }
     }
@@ -85,8 +98,10 @@ impl Bench {
         match verb {
             "sim" => self.set_sizes(parse::simulated(alloc, rest)),
             "disks" => self.set_sizes(parse::numbers(alloc, rest)),
-            "entries" => self.set_entries(rest),
+            "entries" | "bytes" | "table" | "pool" => self.set_room(verb, rest),
             "block" => self.watch(rest),
+            "alike" => self.watch_mirror(rest),
+            "feeds" => self.script.push_feeds(parse::small(rest)?),
             "clock" => self.set_clock(rest),
             "plan" => self.outside.push_act(rest),
             "source" => self.outside.push_fault(rest),
@@ -104,8 +119,15 @@ impl Bench {
         Ok(())
     }
 
-    fn set_entries(&mut self, rest: &str) -> Result<(), Fault> {
-        self.sizes.entries = parse::small(rest)?;
+    // Says how much of something the next runs have room for.
+    fn set_room(&mut self, verb: &str, rest: &str) -> Result<(), Fault> {
+        let room = &mut self.sizes.room;
+        match verb {
+            "bytes" => room.bytes = parse::number(rest)?,
+            "table" => room.table = parse::small(rest)?,
+            "pool" => room.pool = parse::small(rest)?,
+            _ => room.entries = parse::small(rest)?,
+        }
         Ok(())
     }
 
@@ -116,8 +138,71 @@ impl Bench {
     }
 
     fn watch(&mut self, rest: &str) -> Result<(), Fault> {
-        self.watched = Some(parse::place(rest)?);
+        self.watched.block = Some(parse::place(rest)?);
         Ok(())
+    }
+
+    fn watch_mirror(&mut self, rest: &str) -> Result<(), Fault> {
+        self.watched.mirror = Some(parse::mirror(rest)?);
+        Ok(())
+    }
+
+    // Edits the disks as they stand.
+    fn edit(&mut self, alloc: Global, verb: &str, rest: &str) -> Result<(), Fault> {
+        let mut images = self.standing(alloc)?;
+        edit(alloc, &mut images, verb, rest)?;
+        self.left = Some(images);
+        Ok(())
+    }
+
+    // The disks as they stand.
+    fn standing(&self, alloc: Global) -> Result<Vec<Rows<u8>>, Fault> {
+        match &self.left {
+            Some(images) => copied(alloc, images),
+            None => zeros(alloc, &self.sizes.sectors),
+        }
+    }
+
+    // The disks as they stand, with some edits.
+    fn edited(&self, alloc: Global, edits: &str) -> Result<Vec<Rows<u8>>, Fault> {
+        let mut images = self.standing(alloc)?;
+        for text in edits.split(", ") {
+            let (verb, rest) = parse::split(text);
+            edit(alloc, &mut images, verb, rest)?;
+        }
+        Ok(images)
+    }
+
+    // Runs the script over the disks with some edits, and leaves both as they were.
+    fn probe<O: Sink>(&mut self, alloc: Global, edits: &str, out: &mut O) -> Result<(), Fault> {
+        let images = self.edited(alloc, edits)?;
+        let before = copied(alloc, &images)?;
+        let mut streams = self.outside.streams(alloc, self.script.text())?;
+        let (judged, wrote) = self.probed(alloc, &mut streams, images, &before)?;
+        print_probe(alloc, edits, streams.out.bytes(), judged, wrote, out)
+    }
+
+    // What is judged of a run over images, and what it wrote.
+    fn probed(
+        &mut self,
+        alloc: Global,
+        streams: &mut Streams,
+        images: Vec<Rows<u8>>,
+        before: &[Rows<u8>],
+    ) -> Result<(Judged, Wrote), Fault> {
+        let shelf = restarted(alloc, images, self.outside.plan())?;
+        let ended = run(alloc, streams, shelf, &mut self.clock, self.sizes.room);
+        let after = images_of(alloc, &ended.shelf)?;
+        Ok((judge(&ended, self.watched), compared(before, &after)))
+    }
+
+    // A workload over the disks.
+    fn weave<O: Sink>(&mut self, alloc: Global, rest: &str, out: &mut O) -> Result<(), Fault> {
+        let load = parse::workload(rest)?;
+        let mut sink = ample(alloc)?;
+        let shelf = self.shelf(alloc)?;
+        let ended = run_load(alloc, &load, &mut sink, shelf, &mut self.clock, &self.sizes)?;
+        self.end_run(alloc, sink.bytes(), &ended, out)
     }
 
     // The disks of the next run.
@@ -139,7 +224,7 @@ impl Bench {
 
     fn next_run(&mut self, alloc: Global, streams: &mut Streams) -> Result<Ended<MemShelf>, Fault> {
         let shelf = self.shelf(alloc)?;
-        Ok(run(alloc, streams, shelf, &mut self.clock, self.sizes.entries))
+        Ok(run(alloc, streams, shelf, &mut self.clock, self.sizes.room))
     }
 
     fn end_run<O: Sink>(

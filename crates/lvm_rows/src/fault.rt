@@ -1,10 +1,11 @@
 //! Why the cases end early.
 
+use hex::FromHexError;
 use lvm_io::SinkFault;
 use lvm_num::Memory;
 use std::alloc::{AllocError, AllocFailed};
 use std::fmt;
-use std::num::ParseIntError;
+use std::num::{ParseIntError, TryFromIntError};
 
 #[derive(Clone, Copy)]
 pub enum Fault {
@@ -27,6 +28,21 @@ impl fmt::Display for Fault {
 impl From<ParseIntError> for Fault {
     fn from(_bad: ParseIntError) -> Fault {
         Fault::Line
+    }
+}
+
+impl From<TryFromIntError> for Fault {
+    fn from(_large: TryFromIntError) -> Fault {
+        Fault::Line
+    }
+}
+
+impl From<FromHexError> for Fault {
+    fn from(bad: FromHexError) -> Fault {
+        match bad {
+            FromHexError::OutOfMemory => Fault::Memory,
+            _ => Fault::Line,
+        }
     }
 }
 

@@ -13,9 +13,18 @@
 //! | `plan CALL ACT` | before that call of the next run `cut WORD`, `pick WORD`, `fail DISK`, `heal DISK` or `delay REAPS` is done |
 //! | `source N` | the source of the next run fails at its N-th read |
 //! | `sink BYTES` | the sink of the next run has room for so many bytes |
-//! | `entries N` | the history of a run has room for so many entries |
+//! | `entries N`, `bytes N` | the history of a run has room for so many entries, and so many bytes of blocks |
+//! | `table N`, `pool N` | so many requests may be open, and so many transfers out |
+//! | `feeds N` | so many line feeds stand next in the script |
 //! | `clock N` | the clock answers N next, and then one more each time |
 //! | `block DISK AT` | each run is to leave a block there that its history allows |
+//! | `alike DISK DISK AT COUNT` | it is judged of each run whether it leaves the same on both disks, in so many sectors from there on |
+//! | `put DISK SECTOR BYTE HEX` | bytes are put on a disk, from that byte of the sector on |
+//! | `fill DISK SECTOR COUNT HEX` | so many sectors are filled with a byte |
+//! | `copy DISK SECTOR COUNT DISK SECTOR` | so many sectors are copied there |
+//! | `resize DISK SECTORS` | the disk is cut off, or gets zeros behind |
+//! | `probe EDIT, ..` | the script is run over the disks with these edits, each a line as the four above; its answers are printed, and which areas it wrote. The disks stay as they were, and the script stays for the next one |
+//! | `weave CLIENTS REQUESTS SEED` | a workload is run over the disks |
 //! | `run` | the script is run, and forgotten; the disks stay as it leaves them |
 //! | `words [WORD] ..` | the program runs by these words, the script its input, the disks its files |
 //! | `sweep ACTS` | the script is run over disks of zeros once for each call of the marked lines and each of the acts `cut WORD ..` or `fail DISK ..`, which is done before that call; the answers from these lines on are printed, each once |
@@ -26,6 +35,7 @@
 
 mod bench;
 mod fault;
+mod images;
 mod outside;
 mod parse;
 mod print;
@@ -33,6 +43,7 @@ mod run;
 mod script;
 mod sweep;
 mod words;
+mod wrote;
 
 use bench::Bench;
 use fault::Fault;

@@ -1,8 +1,11 @@
 //! The words of a case.
 
 use crate::fault::Fault;
+use crate::images::{Patch, Span};
+use crate::run::Mirror;
 use lvm_memory::{Act, Planned};
 use lvm_num::Text;
+use lvm_program::Workload;
 use std::alloc::Global;
 
 /// A number in decimal digits.
@@ -85,6 +88,68 @@ pub(crate) fn acts(alloc: Global, text: &str) -> Result<Vec<Act>, Fault> {
 pub(crate) fn place(text: &str) -> Result<(u16, u64), Fault> {
     let (name, at) = split(text);
     Ok((disk(name)?, number(at)?))
+}
+
+// Sectors of a disk by its name, the first one and their number, and what stands behind.
+fn span(text: &str) -> Result<(Span, &str), Fault> {
+    let (name, rest) = split(text);
+    let (first, rest) = split(rest);
+    let (count, rest) = split(rest);
+    let span = Span {
+        disk: disk(name)?,
+        first: number(first)?,
+        count: number(count)?,
+    };
+    Ok((span, rest))
+}
+
+/// Sectors of a disk, and the byte that is to fill them.
+pub(crate) fn filling(text: &str) -> Result<(Span, u8), Fault> {
+    let (span, byte) = span(text)?;
+    Ok((span, u8::from_str_radix(byte, 16)?))
+}
+
+/// Sectors of a disk, and the place of their copies.
+pub(crate) fn copying(text: &str) -> Result<(Span, (u16, u64)), Fault> {
+    let (span, rest) = span(text)?;
+    Ok((span, place(rest)?))
+}
+
+/// Bytes for a disk: its name, a sector, a byte of it, and the digits of the bytes.
+pub(crate) fn patch(alloc: Global, text: &str) -> Result<Patch, Fault> {
+    let (name, rest) = split(text);
+    let (sector, rest) = split(rest);
+    let (byte, digits) = split(rest);
+    let (disk, sector, byte) = (disk(name)?, number(sector)?, number(byte)?);
+    Ok(Patch {
+        disk,
+        at: sector.saturating_mul(512).saturating_add(byte),
+        bytes: hex::decode(alloc, digits)?,
+    })
+}
+
+/// Two disks by their names, and sectors that both have: the first one and their number.
+pub(crate) fn mirror(text: &str) -> Result<Mirror, Fault> {
+    let (one, rest) = split(text);
+    let (other, rest) = split(rest);
+    let (first, count) = split(rest);
+    Ok(Mirror {
+        one: disk(one)?,
+        other: disk(other)?,
+        first: number(first)?,
+        count: number(count)?,
+    })
+}
+
+/// A workload: its clients, its requests and its seed.
+pub(crate) fn workload(text: &str) -> Result<Workload, Fault> {
+    let (clients, rest) = split(text);
+    let (requests, seed) = split(rest);
+    Ok(Workload {
+        clients: small(clients)?,
+        requests: small(requests)?,
+        seed: number(seed)?,
+    })
 }
 
 /// Words of a command line, each between brackets.

@@ -1,8 +1,10 @@
 //! What is printed of a run.
 
 use crate::fault::Fault;
-use crate::run::judged;
+use crate::run::{Judged, Watched, judge};
+use crate::sweep::joined;
 use crate::words::Answered;
+use crate::wrote::Wrote;
 use lvm_io::{Sink, write_all};
 use lvm_memory::MemShelf;
 use lvm_program::Ended;
@@ -19,15 +21,11 @@ fn print_text<O: Sink>(out: &mut O, text: &[u8]) -> Result<(), Fault> {
 }
 
 // How a run ended.
-fn ending_of(
-    alloc: Global,
-    ended: &Ended<MemShelf>,
-    watched: Option<(u16, u64)>,
-) -> Result<String, Fault> {
+fn ending_of(alloc: Global, ended: &Ended<MemShelf>, watched: Watched) -> Result<String, Fault> {
     let status = ended.status.code();
     let refused = ended.refused;
-    let judged = judged(ended, watched);
-    Ok(format!(in alloc; "status {status}, refused {refused}{judged}")?)
+    let Judged { history, mirror } = judge(ended, watched);
+    Ok(format!(in alloc; "status {status}, refused {refused}{history}{mirror}")?)
 }
 
 /// Prints what a run wrote, and how it ended.
@@ -35,11 +33,29 @@ pub(crate) fn print_run<O: Sink>(
     alloc: Global,
     text: &[u8],
     ended: &Ended<MemShelf>,
-    watched: Option<(u16, u64)>,
+    watched: Watched,
     out: &mut O,
 ) -> Result<(), Fault> {
     print_text(out, text)?;
     let ending = ending_of(alloc, ended, watched)?;
+    print_line(out, ending.as_bytes())
+}
+
+/// Prints an edit of the disks, what a run over them wrote, what is judged of it, and which areas it wrote.
+pub(crate) fn print_probe<O: Sink>(
+    alloc: Global,
+    edit: &str,
+    text: &[u8],
+    judged: Judged,
+    wrote: Wrote,
+    out: &mut O,
+) -> Result<(), Fault> {
+    let Judged { history, mirror } = judged;
+    write_all(out, edit.as_bytes())?;
+    write_all(out, b": ")?;
+    let answers = joined(alloc, text.strip_suffix(b"\n").unwrap_or(text))?;
+    write_all(out, answers.as_slice())?;
+    let ending = format!(in alloc; "{history}{mirror}; {wrote}")?;
     print_line(out, ending.as_bytes())
 }
 

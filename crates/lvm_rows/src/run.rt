@@ -1,23 +1,48 @@
 //! Runs over disks in memory.
 ghost use Rattle.std.specs.Prelude.{◌≡◌, ◌%◌, length, All, IfOk, IsTrue};
 ghost use Rattle.lvm_disk.specs.Device.{IsReady};
+ghost use Rattle.lvm_core.specs.Starting.{IsRoom};
 ghost use Rattle.lvm_memory.specs.Memory.{device_of};
 
 use crate::fault::Fault;
 use crate::outside::Streams;
 use lvm_disk::Shelf;
-use lvm_io::MemClock;
+use lvm_io::{MemClock, MemSink};
 use lvm_memory::{MemShelf, Planned, names_disks};
 use lvm_num::Rows;
-use lvm_program::{Ended, Room, run_script};
+use lvm_program::{Ended, Room, Workload, run_script, run_weave};
 use lvm_vol::Vol;
 use std::alloc::Global;
 
-/// The sizes of the disks of a case in sectors, and how many entries the history of a run has room for.
+/// The sizes of the disks of a case in sectors, and the room of its runs.
 #[derive(Drop)]
 pub struct Sizes {
     pub sectors: Vec<u64>,
-    pub entries: u32,
+    pub room: Room,
+}
+
+/// What of the disks is judged once a run has ended: whether its history allows what stands in a sector, and whether two
+/// disks have the same in some sectors.
+#[derive(Clone, Copy, Drop)]
+pub struct Watched {
+    pub block: Option<(u16, u64)>,
+    pub mirror: Option<Mirror>,
+}
+
+/// Sectors that two disks have: the first, and how many.
+#[derive(Clone, Copy, Drop)]
+pub struct Mirror {
+    pub one: u16,
+    pub other: u16,
+    pub first: u64,
+    pub count: u64,
+}
+
+/// What a run's history says that its status doesn't, and whether the two disks have the same.
+#[derive(Clone, Copy, Drop)]
+pub struct Judged {
+    pub history: &'static str,
+    pub mirror: &'static str,
 }
 
 // How many writes a shelf tells by their ranges.
@@ -75,22 +100,49 @@ fn started(alloc: Global, images: Vec<Rows<u8>>, plan: Vec<Planned>) -> Result<M
     Ok(MemShelf::from_images(alloc, Rows::new(images), Rows::new(plan), LOG)?)
 }
 
+// The room, within what a run may have.
+fn bounded(room: Room) -> Room
+    ensures { IsRoom result }
+{
+    Room {
+        table: room.table.max(1).min(1_024),
+        pool: room.pool.max(1).min(1_024),
+        entries: room.entries.max(4),
+        bytes: room.bytes,
+    }
+}
+
+/// Runs a workload over disks of 8 to 64 MiB.
+pub(crate) fn run_load(
+    alloc: Global,
+    load: &Workload,
+    out: &mut MemSink,
+    shelf: MemShelf,
+    clock: &mut MemClock,
+    sizes: &Sizes,
+) -> Result<Ended<MemShelf>, Fault>
+    requires { IsReady (device_of shelf) }
+{
+    let disks = u16::try_from(sizes.sectors.len())?;
+    let mib = u32::try_from(sizes.sectors.first().copied().unwrap_or(0) / 2_048)?;
+    if disks < 1 || disks > 8 || mib < 8 || mib > 64 || load.clients < 1 || load.clients > 64 {
+        return Err(Fault::Line);
+    }
+    let room = bounded(sizes.room);
+    Ok(run_weave(alloc, disks, mib, load, out, shelf, clock, room))
+}
+
 /// Runs a script.
 pub(crate) fn run(
     alloc: Global,
     streams: &mut Streams,
     shelf: MemShelf,
     clock: &mut MemClock,
-    entries: u32,
+    room: Room,
 ) -> Ended<MemShelf>
     requires { IsReady (device_of shelf) }
 {
-    let room = Room {
-        table: 4,
-        pool: 4,
-        entries: entries.max(4),
-        bytes: 1_048_576,
-    };
+    let room = bounded(room);
     run_script(
         alloc,
         &mut streams.input,
@@ -101,9 +153,16 @@ pub(crate) fn run(
     )
 }
 
-/// What a run's history says that its status doesn't: whether it is legal, and whether it allows what stands in a
-/// sector of a disk.
-pub(crate) fn judged(ended: &Ended<MemShelf>, watched: Option<(u16, u64)>) -> &'static str {
+/// What is judged of a run.
+pub(crate) fn judge(ended: &Ended<MemShelf>, watched: Watched) -> Judged {
+    Judged {
+        history: judged_history(ended, watched.block),
+        mirror: judged_mirror(&ended.shelf, watched.mirror),
+    }
+}
+
+// Whether a run's history is legal, and whether it allows what stands in a sector of a disk.
+fn judged_history(ended: &Ended<MemShelf>, watched: Option<(u16, u64)>) -> &'static str {
     let Some(history) = &ended.history else {
         return ", no history";
     };
@@ -117,6 +176,25 @@ pub(crate) fn judged(ended: &Ended<MemShelf>, watched: Option<(u16, u64)>) -> &'
             _ => ", not allowed",
         },
     }
+}
+
+fn judged_mirror(shelf: &MemShelf, mirror: Option<Mirror>) -> &'static str {
+    match mirror {
+        None => "",
+        Some(mirror) if are_alike(shelf, mirror) => ", alike",
+        Some(_) => ", not alike",
+    }
+}
+
+// Whether the two disks have these sectors, and the same in each.
+fn are_alike(shelf: &MemShelf, mirror: Mirror) -> bool {
+    for at in mirror.first..mirror.first.saturating_add(mirror.count) {
+        let one = sector(shelf, mirror.one, at);
+        if one.is_none() || one != sector(shelf, mirror.other, at) {
+            return false;
+        }
+    }
+    true
 }
 
 // What stands in a sector of a disk.

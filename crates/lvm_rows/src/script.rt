@@ -49,6 +49,14 @@ impl Script {
         let _ = self.text.pop();
     }
 
+    /// Adds line feeds.
+    pub(crate) fn push_feeds(&mut self, count: u32) -> Result<(), Fault> {
+        for _ in 0..count {
+            self.text.push(b'\n')?;
+        }
+        Ok(())
+    }
+
     pub(crate) fn text(&self) -> &[u8] {
         &self.text
     }

@@ -5,7 +5,7 @@ ghost use Rattle.lvm_memory.specs.Memory.{device_of};
 
 use crate::fault::Fault;
 use crate::outside::{Outside, Streams};
-use crate::run::{Sizes, blank, judged, run};
+use crate::run::{Judged, Sizes, Watched, blank, judge, run};
 use crate::script::Script;
 use lvm_io::MemClock;
 use lvm_memory::{Act, MemShelf, Planned};
@@ -18,7 +18,7 @@ pub struct Swept<'a> {
     pub sizes: &'a Sizes,
     pub script: &'a Script,
     pub outside: &'a Outside,
-    pub watched: Option<(u16, u64)>,
+    pub watched: Watched,
 }
 
 /// What is done before each call in turn, and whether it is done again so many calls later.
@@ -33,7 +33,7 @@ pub struct Swing<'a> {
 struct Tried {
     streams: Streams,
     calls: u64,
-    judged: &'static str,
+    judged: Judged,
 }
 
 // Runs some of the lines, with a plan.
@@ -48,11 +48,11 @@ fn try_run(alloc: Global, swept: &Swept, streams: Streams, shelf: MemShelf) -> T
 {
     let mut streams = streams;
     let mut clock = MemClock::new(7);
-    let ended = run(alloc, &mut streams, shelf, &mut clock, swept.sizes.entries);
+    let ended = run(alloc, &mut streams, shelf, &mut clock, swept.sizes.room);
     Tried {
         streams,
         calls: ended.shelf.calls(),
-        judged: judged(&ended, swept.watched),
+        judged: judge(&ended, swept.watched),
     }
 }
 
@@ -85,8 +85,8 @@ fn put(line: &mut Vec<u8>, byte: u8) -> Result<(), Fault> {
     }
 }
 
-// The answers in one line.
-fn joined(alloc: Global, answers: &[u8]) -> Result<Vec<u8>, Fault> {
+/// The answers in one line.
+pub(crate) fn joined(alloc: Global, answers: &[u8]) -> Result<Vec<u8>, Fault> {
     let mut line = Vec::new(alloc);
     for byte in answers {
         put(&mut line, *byte)?;
@@ -97,7 +97,8 @@ fn joined(alloc: Global, answers: &[u8]) -> Result<Vec<u8>, Fault> {
 // How a run ended, its answers behind those before.
 fn ending(alloc: Global, before: &[u8], tried: &Tried) -> Result<Vec<u8>, Fault> {
     let mut line = joined(alloc, answers_behind(before, tried.streams.out.bytes()))?;
-    line.extend_from_slice(tried.judged.as_bytes())?;
+    line.extend_from_slice(tried.judged.history.as_bytes())?;
+    line.extend_from_slice(tried.judged.mirror.as_bytes())?;
     Ok(line)
 }
 
