@@ -12,7 +12,7 @@ ghost use Rattle.lvm_core.specs.Starting.{IsRoom, IsReservedFor, AreReserved, ro
 
 use crate::look::are_placed;
 use lvm_disk::Shelf;
-use lvm_num::{Memory, Stamp};
+use lvm_num::{Descriptor, Memory, Stamp};
 use lvm_quorum::Choice;
 use lvm_rec::Homes;
 use lvm_session::Session;
@@ -92,6 +92,14 @@ impl Parts {
             members,
             self.taken.updater.wanted(),
         )
+    }
+
+    /// The group that was chosen.
+    pub fn descriptor(&self) -> &Descriptor
+        ensures same { result.now ≡ self.now.descriptor }
+        ensures valid { IsValid result.now }
+    {
+        &self.taken.descriptor
     }
 
     // The session that begins with them, whose moment of varyon is the epoch of the stamp.

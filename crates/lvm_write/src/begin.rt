@@ -114,7 +114,7 @@ fn write_new<S: Shelf>(
         stopped => return stopped,
     };
     let of_status = Stamp { epoch, seq: 1 };
-    let buf = match record(
+    let buf = match put_record(
         shelf,
         Kind::Status,
         of_status,
@@ -128,7 +128,7 @@ fn write_new<S: Shelf>(
         stopped => return stopped,
     };
     let of_descriptor = Stamp { epoch, seq: 2 };
-    record(
+    put_record(
         shelf,
         Kind::Descriptor,
         of_descriptor,
@@ -161,7 +161,7 @@ fn write_again<S: Shelf>(
     ensures homes { IfBegun result (λ back. BothFlip (has targets) homes.old homes.new) }
 {
     let of_descriptor = Stamp { epoch, seq: 1 };
-    let buf = match record(
+    let buf = match put_record(
         shelf,
         Kind::Descriptor,
         of_descriptor,
@@ -175,7 +175,7 @@ fn write_again<S: Shelf>(
         stopped => return stopped,
     };
     let of_status = Stamp { epoch, seq: 2 };
-    let buf = match record(
+    let buf = match put_record(
         shelf,
         Kind::Status,
         of_status,
@@ -212,8 +212,9 @@ pub fn forget_notes<S: Shelf>(
     all_or_lowest(wrote)
 }
 
-// Writes one record.
-fn record<S: Shelf>(
+/// Writes one record on each target, in the slot that doesn't hold its newest one. What is handed in are the stamp,
+/// of which neither part may be 0, and the bytes of the content. It takes no memory.
+pub fn put_record<S: Shelf>(
     shelf: &mut S,
     kind: Kind,
     stamp: Stamp,

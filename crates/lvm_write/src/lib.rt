@@ -12,7 +12,7 @@ mod next;
 mod notes;
 mod write;
 
-pub use begin::{Begun, begin_again, begin_new, forget_notes};
+pub use begin::{Begun, begin_again, begin_new, forget_notes, put_record};
 pub use begin_laws::{
     beginning_is_found, beginning_is_shown, homes_spare_newest, writes_are_of_records,
 };

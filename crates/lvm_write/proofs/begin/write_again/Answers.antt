@@ -38,36 +38,36 @@ records_give b next number before between after old mid new buf result fits desc
 pub returns-in_default : goal.returns-in_default
 returns-in_default g c =
     let b : Beginning = again_beginning c.args.epoch c.args.descriptor.now c.args.status.now (has c.args.targets) c.args.homes.now in
-    let gives : ManyGives b (again_order c.args.forget) c.args.buf.number c.args.patience.now.left c.record.new.patience.left (g.S.Shelf.device c.args.shelf.now) (g.S.Shelf.device c.record.new.shelf) c.record.result =
-    stopped_gives b (TheDescriptor ∷ []) (TheStatus ∷ last_part c.args.forget) c.args.buf.number c.args.patience.now.left c.record.new.patience.left (g.S.Shelf.device c.args.shelf.now) (g.S.Shelf.device c.record.new.shelf) c.record.result c.in_default.not-Ended
-    (first_gives b TheDescriptor c.args.buf.number c.args.patience.now.left c.record.new.patience.left (g.S.Shelf.device c.args.shelf.now) (g.S.Shelf.device c.record.new.shelf) c.record.result c.record.ensures.gives) in
-    record { gives = gives; homes = not_ended c.record.result (λ (back : Buffer). BothFlip (has c.args.targets) c.args.homes.now c.record.new.homes) c.in_default.not-Ended }
+    let gives : ManyGives b (again_order c.args.forget) c.args.buf.number c.args.patience.now.left c.put_record.new.patience.left (g.S.Shelf.device c.args.shelf.now) (g.S.Shelf.device c.put_record.new.shelf) c.put_record.result =
+    stopped_gives b (TheDescriptor ∷ []) (TheStatus ∷ last_part c.args.forget) c.args.buf.number c.args.patience.now.left c.put_record.new.patience.left (g.S.Shelf.device c.args.shelf.now) (g.S.Shelf.device c.put_record.new.shelf) c.put_record.result c.in_default.not-Ended
+    (first_gives b TheDescriptor c.args.buf.number c.args.patience.now.left c.put_record.new.patience.left (g.S.Shelf.device c.args.shelf.now) (g.S.Shelf.device c.put_record.new.shelf) c.put_record.result c.put_record.ensures.gives) in
+    record { gives = gives; homes = not_ended c.put_record.result (λ (back : Buffer). BothFlip (has c.args.targets) c.args.homes.now c.put_record.new.homes) c.in_default.not-Ended }
 
-pub returns-in_default-record : goal.returns-in_default-record
-returns-in_default-record g c =
+pub returns-in_default-put_record : goal.returns-in_default-put_record
+returns-in_default-put_record g c =
     let b : Beginning = again_beginning c.args.epoch c.args.descriptor.now c.args.status.now (has c.args.targets) c.args.homes.now in
-    let gives : ManyGives b (again_order c.args.forget) c.args.buf.number c.args.patience.now.left c.record-2.new.patience.left (g.S.Shelf.device c.args.shelf.now) (g.S.Shelf.device c.record-2.new.shelf) c.record-2.result =
-    stopped_gives b (TheDescriptor ∷ TheStatus ∷ []) (last_part c.args.forget) c.args.buf.number c.args.patience.now.left c.record-2.new.patience.left (g.S.Shelf.device c.args.shelf.now) (g.S.Shelf.device c.record-2.new.shelf) c.record-2.result c.in_default-record.not-Ended
-    (records_give b c.record.new.homes c.args.buf.number c.args.patience.now.left c.record.new.patience.left c.record-2.new.patience.left (g.S.Shelf.device c.args.shelf.now) (g.S.Shelf.device c.record.new.shelf) (g.S.Shelf.device c.record-2.new.shelf) c.in-Ended.buf c.record-2.result
-    c.requires.status c.in-Ended.ensures.gives c.in-Ended.ensures.homes c.record-2.ensures.gives) in
-    record { gives = gives; homes = not_ended c.record-2.result (λ (back : Buffer). BothFlip (has c.args.targets) c.args.homes.now c.record-2.new.homes) c.in_default-record.not-Ended }
+    let gives : ManyGives b (again_order c.args.forget) c.args.buf.number c.args.patience.now.left c.put_record-2.new.patience.left (g.S.Shelf.device c.args.shelf.now) (g.S.Shelf.device c.put_record-2.new.shelf) c.put_record-2.result =
+    stopped_gives b (TheDescriptor ∷ TheStatus ∷ []) (last_part c.args.forget) c.args.buf.number c.args.patience.now.left c.put_record-2.new.patience.left (g.S.Shelf.device c.args.shelf.now) (g.S.Shelf.device c.put_record-2.new.shelf) c.put_record-2.result c.in_default-put_record.not-Ended
+    (records_give b c.put_record.new.homes c.args.buf.number c.args.patience.now.left c.put_record.new.patience.left c.put_record-2.new.patience.left (g.S.Shelf.device c.args.shelf.now) (g.S.Shelf.device c.put_record.new.shelf) (g.S.Shelf.device c.put_record-2.new.shelf) c.in-Ended.buf c.put_record-2.result
+    c.requires.status c.in-Ended.ensures.gives c.in-Ended.ensures.homes c.put_record-2.ensures.gives) in
+    record { gives = gives; homes = not_ended c.put_record-2.result (λ (back : Buffer). BothFlip (has c.args.targets) c.args.homes.now c.put_record-2.new.homes) c.in_default-put_record.not-Ended }
 
 pub returns-then-forget-clause-gives : goal.returns-then-forget-clause-gives
 returns-then-forget-clause-gives g c =
     let b : Beginning = again_beginning c.args.epoch c.args.descriptor.now c.args.status.now (has c.args.targets) c.args.homes.now in
-    let many : ManyGives b (TheDescriptor ∷ TheStatus ∷ []) c.args.buf.number c.args.patience.now.left c.record-2.new.patience.left (g.S.Shelf.device c.args.shelf.now) (g.S.Shelf.device c.record-2.new.shelf) (begun.Ended c.in-Ended-record.buf) =
-    records_give b c.record.new.homes c.args.buf.number c.args.patience.now.left c.record.new.patience.left c.record-2.new.patience.left (g.S.Shelf.device c.args.shelf.now) (g.S.Shelf.device c.record.new.shelf) (g.S.Shelf.device c.record-2.new.shelf) c.in-Ended.buf (begun.Ended c.in-Ended-record.buf)
-    c.requires.status c.in-Ended.ensures.gives c.in-Ended.ensures.homes c.in-Ended-record.ensures.gives in
-    let one : OneGives b.targets (brought b TheNotes) (Stands b TheNotes) c.in-Ended-record.buf.number c.record-2.new.patience.left c.forget_notes.new.patience.left (g.S.Shelf.device c.record-2.new.shelf) (g.S.Shelf.device c.forget_notes.new.shelf) c.forget_notes.result = c.forget_notes.ensures.gives in
+    let many : ManyGives b (TheDescriptor ∷ TheStatus ∷ []) c.args.buf.number c.args.patience.now.left c.put_record-2.new.patience.left (g.S.Shelf.device c.args.shelf.now) (g.S.Shelf.device c.put_record-2.new.shelf) (begun.Ended c.in-Ended-put_record.buf) =
+    records_give b c.put_record.new.homes c.args.buf.number c.args.patience.now.left c.put_record.new.patience.left c.put_record-2.new.patience.left (g.S.Shelf.device c.args.shelf.now) (g.S.Shelf.device c.put_record.new.shelf) (g.S.Shelf.device c.put_record-2.new.shelf) c.in-Ended.buf (begun.Ended c.in-Ended-put_record.buf)
+    c.requires.status c.in-Ended.ensures.gives c.in-Ended.ensures.homes c.in-Ended-put_record.ensures.gives in
+    let one : OneGives b.targets (brought b TheNotes) (Stands b TheNotes) c.in-Ended-put_record.buf.number c.put_record-2.new.patience.left c.forget_notes.new.patience.left (g.S.Shelf.device c.put_record-2.new.shelf) (g.S.Shelf.device c.forget_notes.new.shelf) c.forget_notes.result = c.forget_notes.ensures.gives in
     let fits : length c.args.status.now ≤ 31740 = c.requires.status in
     let keeps = one.does.keeps in
     subst (λ (forget : Bool). ManyGives b (again_order forget) c.args.buf.number c.args.patience.now.left c.forget_notes.new.patience.left (g.S.Shelf.device c.args.shelf.now) (g.S.Shelf.device c.forget_notes.new.shelf) c.forget_notes.result) (sym c.if-forget.true)
-    (more_gives b (TheDescriptor ∷ TheStatus ∷ []) TheNotes c.args.buf.number c.args.patience.now.left c.record-2.new.patience.left c.forget_notes.new.patience.left (g.S.Shelf.device c.args.shelf.now) (g.S.Shelf.device c.record-2.new.shelf) (g.S.Shelf.device c.forget_notes.new.shelf) c.in-Ended-record.buf c.forget_notes.result many one
-    ((λ d target. still_stands b fits TheDescriptor TheNotes (g.S.Shelf.device c.record-2.new.shelf) (g.S.Shelf.device c.forget_notes.new.shelf) d (λ e. absurd (cc (e))) keeps (many.how.stand.0 d target)), ((λ d target. still_stands b fits TheStatus TheNotes (g.S.Shelf.device c.record-2.new.shelf) (g.S.Shelf.device c.forget_notes.new.shelf) d (λ e. absurd (cc (e))) keeps (many.how.stand.1.0 d target)), tt)))
+    (more_gives b (TheDescriptor ∷ TheStatus ∷ []) TheNotes c.args.buf.number c.args.patience.now.left c.put_record-2.new.patience.left c.forget_notes.new.patience.left (g.S.Shelf.device c.args.shelf.now) (g.S.Shelf.device c.put_record-2.new.shelf) (g.S.Shelf.device c.forget_notes.new.shelf) c.in-Ended-put_record.buf c.forget_notes.result many one
+    ((λ d target. still_stands b fits TheDescriptor TheNotes (g.S.Shelf.device c.put_record-2.new.shelf) (g.S.Shelf.device c.forget_notes.new.shelf) d (λ e. absurd (cc (e))) keeps (many.how.stand.0 d target)), ((λ d target. still_stands b fits TheStatus TheNotes (g.S.Shelf.device c.put_record-2.new.shelf) (g.S.Shelf.device c.forget_notes.new.shelf) d (λ e. absurd (cc (e))) keeps (many.how.stand.1.0 d target)), tt)))
 
 pub returns-else-forget-clause-gives : goal.returns-else-forget-clause-gives
 returns-else-forget-clause-gives g c =
     let b : Beginning = again_beginning c.args.epoch c.args.descriptor.now c.args.status.now (has c.args.targets) c.args.homes.now in
-    subst (λ (forget : Bool). ManyGives b (again_order forget) c.args.buf.number c.args.patience.now.left c.record-2.new.patience.left (g.S.Shelf.device c.args.shelf.now) (g.S.Shelf.device c.record-2.new.shelf) (begun.Ended c.in-Ended-record.buf)) (sym c.if-forget.false)
-    (records_give b c.record.new.homes c.args.buf.number c.args.patience.now.left c.record.new.patience.left c.record-2.new.patience.left (g.S.Shelf.device c.args.shelf.now) (g.S.Shelf.device c.record.new.shelf) (g.S.Shelf.device c.record-2.new.shelf) c.in-Ended.buf (begun.Ended c.in-Ended-record.buf)
-    c.requires.status c.in-Ended.ensures.gives c.in-Ended.ensures.homes c.in-Ended-record.ensures.gives)
+    subst (λ (forget : Bool). ManyGives b (again_order forget) c.args.buf.number c.args.patience.now.left c.put_record-2.new.patience.left (g.S.Shelf.device c.args.shelf.now) (g.S.Shelf.device c.put_record-2.new.shelf) (begun.Ended c.in-Ended-put_record.buf)) (sym c.if-forget.false)
+    (records_give b c.put_record.new.homes c.args.buf.number c.args.patience.now.left c.put_record.new.patience.left c.put_record-2.new.patience.left (g.S.Shelf.device c.args.shelf.now) (g.S.Shelf.device c.put_record.new.shelf) (g.S.Shelf.device c.put_record-2.new.shelf) c.in-Ended.buf (begun.Ended c.in-Ended-put_record.buf)
+    c.requires.status c.in-Ended.ensures.gives c.in-Ended.ensures.homes c.in-Ended-put_record.ensures.gives)

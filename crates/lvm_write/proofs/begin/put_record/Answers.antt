@@ -2,7 +2,7 @@ use Rattle.lvm_num.specs.Disks.{Disks, has}
 use Rattle.lvm_rec.specs.Homes.{Flips}
 use Rattle.lvm_write.specs.Written.{write_of, StandsTold}
 use Rattle.lvm_write.proofs.RunsLemmas.Answering.{how_one, all_flip}
-use Rattle.lvm_write.proofs.begin.record.Goals as goal
+use Rattle.lvm_write.proofs.begin.put_record.Goals as goal
 
 pub returns-clause-gives : goal.returns-clause-gives
 returns-clause-gives g c =
