@@ -11,11 +11,11 @@ use Rattle.lvm_session.specs.declared.answers.Turned.{Turned}
 use Rattle.lvm_session.specs.declared.answers.Turned.TheVariants as turned
 use Rattle.lvm_session.specs.Turns.{Finds, FindsNothing, TurnMakes}
 use Rattle.lvm_session.specs.Left.{left_of}
-use Rattle.lvm_tie.specs.Running.{RunsOn}
-use Rattle.lvm_tie.proofs.LawsLemmas.Running.{runs_both, runs_none}
-use Rattle.lvm_tie.specs.passed.Names.{TurnTells}
+use Rattle.lvm_going.specs.Going.{RunsOn}
+use Rattle.lvm_going.proofs.JoinsLemmas.{runs_both, runs_none}
+use Rattle.lvm_keeps_events.specs.Telling.{TurnTells}
 use Rattle.lvm_driver.specs.Drains.{IsAny, IsDrained, IsTurn, LastTurn, NoTurn, ThenMoves, ThenWaits, TurnsWhile}
-use Rattle.lvm_tie.proofs.passed.Names.{turn_counts}
+use Rattle.lvm_keeps_events.proofs.CountsLemmas.{turn_counts}
 
 -- So far turns have been made, and the patience that is gone went with answers that nothing has ended.
 pub record Goes (first now : State) (patience left : ℕ) : Type 0 where

@@ -1,5 +1,5 @@
 -- What the calls leave of a driver's parts.
-use Rattle.std.proofs.Common.{◌≡◌, ℕ, Bool, List, Option}
+use Rattle.std.proofs.Common.{◌≡◌, ℕ, Bool, List, Option, refl}
 use Rattle.std.specs.Prelude.{Result}
 use Rattle.lvm_disk.specs.declared.shelf.Arrange.{Arrange}
 use Rattle.lvm_disk.specs.Device.{Device, HasSectors}
@@ -21,13 +21,13 @@ use Rattle.lvm_keeps.proofs.KeepsLemmas.Close.{close_keeps}
 use Rattle.lvm_keeps.proofs.KeepsLemmas.Orders.{order_keeps}
 use Rattle.lvm_keeps.proofs.KeepsLemmas.Take.{take_keeps}
 use Rattle.lvm_keeps_events.proofs.SubmitKeepsLemmas.{submit_keeps}
-use Rattle.lvm_tie.proofs.passed.Names.{turn_keeps}
+use Rattle.lvm_keeps_events.proofs.TurningLemmas.{turn_keeps}
 use Rattle.lvm_keeps_events.proofs.OpeningLemmas.Opening.{seen_open_keeps}
 use Rattle.lvm_keeps_events.specs.passed.Names.{counts_seen}
-use Rattle.lvm_tie.specs.Stamps.{AreValid}
-use Rattle.lvm_tie.specs.Running.{LeavesSession, RunsOn}
-use Rattle.lvm_tie.proofs.LawsLemmas.Calls.{calls_run_on}
-use Rattle.lvm_tie.proofs.LawsLemmas.Turning.{turn_runs_on}
+use Rattle.lvm_going.specs.Going.{AnyStep, AreValid, ClosesCopy, RunsOn, LeavesSession, MakesTurn, OpensCopy, Orders, RunStep, Runs, Submits, Takes}
+use Rattle.lvm_going.proofs.FramesLemmas.{order_keeps_shape}
+use Rattle.lvm_going.proofs.GoingLemmas.{run_frame, step_shape}
+use Rattle.lvm_going.proofs.JoinsLemmas.{any_one, goes_one}
 use Rattle.lvm_driver.proofs.RoomsLemmas.{rooms_stay}
 
 -- a session that isn't stuck may be asked
@@ -50,17 +50,17 @@ module _ (device now : Device) (old new : Session) (it : AreSound device old) (s
   abbrev is : State
   is = state now (core_of new)
 
-  run : IsSound is → RunsOn was is → Stay RunsOn device now old new
-  run sound runs = record { sound = (rooms_stay old new runs.leaves.keeps.room same it.0, sound); left = runs }
+  run : IsSound is → RunStep was is → Stay RunsOn device now old new
+  run sound step = record { sound = (rooms_stay old new (run_frame was is step).keeps.room same it.0, sound); left = goes_one step }
 
-  leave : IsSound is → LeavesSession was is → Stay LeavesSession device now old new
-  leave sound leaves = record { sound = (rooms_stay old new leaves.keeps.room same it.0, sound); left = leaves }
+  leave : IsSound is → AnyStep was is → Stay LeavesSession device now old new
+  leave sound step = record { sound = (rooms_stay old new (step_shape was is step).room same it.0, sound); left = any_one step }
 
   pub turn_on : (answer : Turned) → HasSectors now → AreValid old.updater → TurnMakes was is answer → Stay RunsOn device now old new
-  turn_on answer sectors valid made = let sound = turn_keeps was is answer it.1 made in run sound (turn_runs_on was is answer it.1 sound sectors valid made)
+  turn_on answer sectors valid made = let sound = turn_keeps was is answer it.1 made in run sound (MakesTurn answer valid sectors made)
 
   pub order_on : (what : Arrange) (done : Bool) → ArrangesSession was is what done → Stay LeavesSession device now old new
-  order_on what done order = let sound = order_keeps was is what done it.1 order in leave sound (calls_run_on.arrange was is what done it.1 sound order)
+  order_on what done order = let sound = order_keeps was is what done it.1 order in leave sound (Orders what done order)
 
 module _ (device : Device) (old new : Session) (it : AreSound device old) (same : SameRooms old new) where
   pub submit_on : (client : ℕ) (ask : Ask) (bytes : Option (List ℕ)) (answer : Result ℕ AskFault)
@@ -68,23 +68,23 @@ module _ (device : Device) (old new : Session) (it : AreSound device old) (same 
   submit_on client ask bytes answer unstuck asks gives =
       let s = state device (core_of old) in
       let sound = submit_keeps s (core_of new) client ask bytes answer it.1 (is_awake s it.1 unstuck) asks gives in
-      run device device old new it same sound (calls_run_on.submit s (core_of new) client ask bytes answer unstuck sound asks gives)
+      run device device old new it same sound (Submits client ask bytes answer unstuck asks gives refl)
 
   pub take_on : (client id : ℕ) (answer : Taken) → TakeGives (core_of old) (core_of new) client id answer → Stay RunsOn device device old new
   take_on client id answer gives =
       let s = state device (core_of old) in
       let sound = take_keeps s (core_of new) client id answer it.1 gives in
-      run device device old new it same sound (calls_run_on.take s (core_of new) client id answer it.1 sound gives)
+      run device device old new it same sound (Takes client id answer gives refl)
 
   pub open_on : (lv lp number : ℕ) (answer : Result (Unit {0}) CopyFault)
       → (old.power ≡ power.Stuck → ⊥) → OpenGives (counts_seen device (core_of old)) (core_of old) (core_of new) lv lp number answer → Stay LeavesSession device device old new
   open_on lv lp number answer unstuck gives =
       let s = state device (core_of old) in
       let sound = seen_open_keeps s (core_of new) lv lp number answer it.1 (is_awake s it.1 unstuck) gives in
-      leave device device old new it same sound (calls_run_on.open_copy s (core_of new) (counts_seen device (core_of old)) lv lp number answer sound gives)
+      leave device device old new it same sound (OpensCopy lv lp number answer unstuck gives refl)
 
   pub close_on : Closes (core_of old) (core_of new) → Stay RunsOn device device old new
   close_on closes =
       let s = state device (core_of old) in
       let sound = close_keeps s (core_of new) it.1 closes in
-      run device device old new it same sound (calls_run_on.close_copy s (core_of new) sound closes)
+      run device device old new it same sound (ClosesCopy closes refl)

@@ -4,7 +4,7 @@ use Rattle.std.specs.Prelude.{vec_capacity}
 use Rattle.lvm_session.specs.declared.session.Session.{Session}
 use Rattle.lvm_session.specs.Fields.{core_of}
 use Rattle.lvm_session.specs.Rooms.{HasRooms, SameRooms}
-use Rattle.lvm_tie.specs.passed.Names.{SameRoom}
+use Rattle.lvm_keeps_events.specs.Telling.{SameRoom}
 
 pub rooms_stay : (old new : Session) → SameRoom (core_of old) (core_of new) → SameRooms old new → HasRooms old → HasRooms new
 rooms_stay old new it same rooms = record {

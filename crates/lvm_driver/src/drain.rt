@@ -6,7 +6,7 @@ ghost use Rattle.lvm_num.specs.Votes.{total_votes};
 ghost use Rattle.lvm_session.specs.declared.open.Power.TheVariants as power;
 ghost use Rattle.lvm_session.specs.State.{votes_there, state_of};
 ghost use Rattle.lvm_core.specs.declared.fault.CommitFault.TheVariants as fault;
-ghost use Rattle.lvm_tie.specs.Running.{RunsOn};
+ghost use Rattle.lvm_going.specs.Going.{RunsOn};
 ghost use Rattle.lvm_driver.specs.Drains.{DrainCosts, DrainEnds, IsAny, IsTurn};
 
 use crate::driver::Driver;

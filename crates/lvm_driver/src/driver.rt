@@ -18,11 +18,10 @@ ghost use Rattle.lvm_session.specs.Left.{left_of};
 ghost use Rattle.lvm_session.specs.Sound.{IsSound, waits};
 ghost use Rattle.lvm_keeps.specs.Falls.{most_left};
 ghost use Rattle.lvm_keeps_events.specs.passed.Names.{counts_seen};
+ghost use Rattle.lvm_keeps_events.specs.Reading.{GetsItsBlocks};
+ghost use Rattle.lvm_keeps_events.specs.Telling.{TurnTells};
+ghost use Rattle.lvm_going.specs.Going.{AreValid, RunsOn, LeavesSession};
 ghost use Rattle.lvm_session_start.specs.Beginning.{AreFaults, MayBegin, first_core};
-ghost use Rattle.lvm_tie.specs.Landings.{HasCausesSince};
-ghost use Rattle.lvm_tie.specs.Stamps.{AreValid};
-ghost use Rattle.lvm_tie.specs.passed.Names.{GetsItsBlocks, TurnTells};
-ghost use Rattle.lvm_tie.specs.Running.{LeavesSession, RunsOn};
 ghost use Rattle.lvm_driver.specs.Answers.{IsCausedFor, IsCopyCaused, IsOffSince};
 
 use crate::dues::{all_due, submit, take};
@@ -75,7 +74,6 @@ impl<S: Shelf> Driver<S> {
         ensures shelf { result.0 ≡ shelf }
         ensures core { result.1 ≡ first_core parts history stamp homes result.1.origin.faults }
         ensures faults { AreFaults (S.device shelf) result.1.origin.faults }
-        ensures causes { HasCausesSince result.1.history.facts (state_of S.device result) }
     {
         let session = begin_session(parts, &shelf, history, stamp, homes);
         let due = all_due(&session);

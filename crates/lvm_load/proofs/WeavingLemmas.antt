@@ -26,7 +26,7 @@ use Rattle.lvm_session.specs.Left.{begun_left, copy_left, if_so, is_held, lacks_
 use Rattle.lvm_session.specs.State.{Core, State, is_there}
 use Rattle.lvm_session.specs.Turns.{Finds, FindsNothing}
 use Rattle.lvm_driver.specs.passed.Names.{RunsOn}
-use Rattle.lvm_driver.proofs.passed.Names.{runs_both, runs_none, stays_unstuck}
+use Rattle.lvm_driver.proofs.passed.Names.{path_frames, runs_both, runs_none, stays_unstuck}
 use Rattle.lvm_keeps_events.specs.Telling.{TurnTells}
 use Rattle.lvm_load.specs.declared.client.Client.{Client}
 use Rattle.lvm_load.specs.Weaving.{NextClient, NoClient, NoneOpen, Takes, TakesFor, TakesEach, Turns, Waits, idle_after, turns_left}
@@ -41,7 +41,7 @@ at_first first unstuck = record { unstuck = unstuck; runs = runs_none first }
 
 pub and_then : (first old new : State) → Runs first old → RunsOn old new → Runs first new
 and_then first old new so_far runs = record {
-  unstuck = stays_unstuck old.core new.core runs.leaves.keeps.power so_far.unstuck;
+  unstuck = stays_unstuck old.core new.core (path_frames runs).keeps.power so_far.unstuck;
   runs = runs_both first old new so_far.runs runs;
 }
 

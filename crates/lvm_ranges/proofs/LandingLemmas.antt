@@ -17,7 +17,7 @@ use Rattle.lvm_session.specs.Sound.{IsOver, IsSound, waits}
 use Rattle.lvm_session.specs.State.{State}
 use Rattle.lvm_session.specs.Turns.{Finds, FindsNothing, TurnMakes}
 use Rattle.lvm_driver.specs.passed.Names.{is_last, RunsOn, TurnTells, power_by}
-use Rattle.lvm_driver.proofs.passed.Names.{turn_ends, runs_both, runs_none, turn_counts}
+use Rattle.lvm_driver.proofs.passed.Names.{path_frames, turn_ends, runs_both, runs_none, turn_counts}
 use Rattle.lvm_keeps_events.proofs.KeepsFallsLemmas.Standing.{never_stands_still}
 use Rattle.lvm_keeps_events.specs.Losing.{LosesByFaults, LosesVotesByFaults}
 use Rattle.lvm_keeps_events.proofs.LosingLemmas.Losing.{loses_both, loses_none, turn_loses}
@@ -50,12 +50,12 @@ with_turn first old new answer so_far sound made tells runs = record {
   table = table_then first.core old.core new.core so_far.table (turn_table old new answer sound made);
   unstuck = λ stuck. not_stuck answer (sym tells.power_is ∙ stuck);
   runs = runs_both first old new so_far.runs runs;
-  loses = loses_both first old new so_far.runs.leaves.keeps.counts runs.leaves.keeps.counts so_far.loses (turn_loses old new answer sound made);
+  loses = loses_both first old new (path_frames so_far.runs).keeps.counts (path_frames runs).keeps.counts so_far.loses (turn_loses old new answer sound made);
 }
 
 -- so the votes go by faults alone
 pub votes_with : (first now : State) → GoesWith first now → LosesVotesByFaults first now
-votes_with first now on = votes_go first now on.runs.leaves.keeps.descriptor on.loses
+votes_with first now on = votes_go first now (path_frames on.runs).keeps.descriptor on.loses
 
 pub turns_leave : (first now : State) → GoesWith first now → TurnsLeave first now
 turns_leave first now on = record { table = on.table; runs = on.runs; votes = votes_with first now on }

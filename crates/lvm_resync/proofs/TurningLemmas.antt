@@ -1,4 +1,5 @@
 -- What goes on beside copies that are brought up.
+use Rattle.lvm_ranges.proofs.passed.Names.{path_shape, path_frames, goes_any}
 use Rattle.std.proofs.Common.{◌≡◌, ◌≤◌, ◌+◌, ◌-◌, ◌⊎◌, inl, inr, ℕ, refl, sym, ◌∙◌, subst, arith}
 use Rattle.lvm_disk.specs.Counts.{RoseBy}
 use Rattle.lvm_disk.specs.Paths.{Here, Path, Then}
@@ -43,13 +44,13 @@ beside_both old mid new a b c one two =
       leaves = leaves_both old mid new one.leaves two.leaves;
       table = table_then old.core mid.core new.core one.table two.table;
       orders = two.orders ∙ one.orders;
-      loses = loses_both old mid new one.leaves.keeps.counts two.leaves.keeps.counts one.loses two.loses;
+      loses = loses_both old mid new (path_shape one.leaves).counts (path_shape two.leaves).counts one.loses two.loses;
       fewer = omega (arith, high, low);
       waited = subst (λ n. RoseBy n old.device.counts.waits new.device.counts.waits) both (rose_by_both one.waited two.waited);
     }
 
 pub unstuck_beside : (old new : State) (a b : ℕ) → GoesBeside old new a b → (old.core.power ≡ power.Stuck → ⊥) → new.core.power ≡ power.Stuck → ⊥
-unstuck_beside old new a b beside = stays_unstuck old.core new.core beside.leaves.keeps.power
+unstuck_beside old new a b beside = stays_unstuck old.core new.core (path_shape beside.leaves).power
 
 -- ---- turns by the patience
 
@@ -92,9 +93,9 @@ module _ (Is : Core → Type 0) (patience left after : ℕ) (first old new : Sta
 
 pub runs_beside : (old new : State) (left : ℕ) → IsSound old → (answer : Turned) → TurnMakes old new answer → RunsOn old new → GoesBeside old new left left
 runs_beside old new left sound answer made runs = record {
-  leaves = runs.leaves;
+  leaves = goes_any runs;
   table = turn_table old new answer sound made;
-  orders = runs.orders;
+  orders = (path_frames runs).orders;
   loses = turn_loses old new answer sound made;
   fewer = omega arith;
   waited = rose_same left old.device.counts.waits new.device.counts.waits (rose_by_after (rose_by_none old.device.counts.waits) (turn_counts old new answer made).waits);
@@ -112,9 +113,9 @@ finds_of old new under_way tells = by (tells.idle.0 refl).still
 
 pub waits_beside : (old new : State) (left : ℕ) → 1 ≤ left → IsSound old → IsUnderWay old → TurnMakes old new turned.Idle → TurnTells old new turned.Idle → RunsOn old new → GoesBeside old new left (left - 1)
 waits_beside old new left some sound under_way made tells runs = record {
-  leaves = runs.leaves;
+  leaves = goes_any runs;
   table = turn_table old new turned.Idle sound made;
-  orders = runs.orders;
+  orders = (path_frames runs).orders;
   loses = turn_loses old new turned.Idle sound made;
   fewer = omega arith;
   waited =

@@ -2,12 +2,11 @@
 pub use Rattle.lvm_keeps_events.proofs.GeometryLemmas.{blocks_fit}
 pub use Rattle.lvm_keeps_events.proofs.BeginLogLemmas.{next_is}
 pub use Rattle.lvm_keeps_events.proofs.OpeningLemmas.Opening.{at_place, counted_at, seen_open_keeps}
-pub use Rattle.lvm_tie.proofs.passed.Names.{some_position, turn_leaves_table, turn_counts, copy_stays, marked_stays, note_stays, status_stays, turn_ends, turn_keeps, quiet_lasts}
-pub use Rattle.lvm_tie.proofs.AmongLemmas.{any_one, or_true}
-pub use Rattle.lvm_tie.proofs.GoingOnLemmas.Spanning.{goes_entry}
-pub use Rattle.lvm_tie.proofs.LandingsLemmas.Causes.{goes_on}
-pub use Rattle.lvm_tie.proofs.SeenLemmas.Entered.{sees_entered}
-pub use Rattle.lvm_tie.proofs.SessionEndsLemmas.Histories.{ends_history}
-pub use Rattle.lvm_tie.proofs.LawsLemmas.Calls.{calls_run_on}
-pub use Rattle.lvm_tie.proofs.LawsLemmas.Running.{leaves_both, leaves_none, runs_both, runs_none, stays_unstuck}
-pub use Rattle.lvm_tie.proofs.RunningLemmas.Shapes.{Given, given, turn_goes}
+pub use Rattle.lvm_keeps_events.proofs.CountsLemmas.{turn_counts}
+pub use Rattle.lvm_keeps_events.proofs.TurnCallsLemmas.{some_position, turn_leaves_table}
+pub use Rattle.lvm_keeps_events.proofs.TellingLemmas.Frames.{copy_stays, marked_stays, note_stays, status_stays}
+pub use Rattle.lvm_keeps_events.proofs.TurningLemmas.{turn_ends, turn_keeps}
+pub use Rattle.lvm_going.proofs.HistoriesLemmas.{ends_history}
+pub use Rattle.lvm_going.proofs.GoingLemmas.{path_frames, path_shape}
+pub use Rattle.lvm_going.proofs.JoinsLemmas.{leaves_both, leaves_none, goes_any, runs_both, runs_none, stays_unstuck}
+pub use Rattle.lvm_going.proofs.ShapesLemmas.{Given, given, turn_goes}

@@ -1,2 +1,2 @@
 -- Passed on from `lvm_tie`.
-pub use Rattle.lvm_driver.proofs.passed.Names.{calls_run_on, runs_both, runs_none, stays_unstuck}
+pub use Rattle.lvm_driver.proofs.passed.Names.{path_frames, path_shape, runs_both, runs_none, stays_unstuck}

@@ -1,5 +1,5 @@
 -- Passed on from the crates below.
-pub use Rattle.lvm_driver.specs.passed.Names.{counts_seen, faults_seen, TurnTells, power_by, LeavesSession, RunsOn, CarriesStep, CarryTheirs, IsRequestAt, IsStepAt, Sees, update_of, LeavesDescriptors, SparesDescriptors, SparesOn, IsStamped, IsGood, IsTied, moment_of}
+pub use Rattle.lvm_driver.specs.passed.Names.{counts_seen, faults_seen, TurnTells, power_by, LeavesSession, RunsOn, KeepsFrame, KeepsShape}
 pub use Rattle.lvm_driver.specs.Answers.{IsCopyCaused}
 pub use Rattle.lvm_driver.specs.Beginnings.{IsClosedLog, IsShelfOf, IsWholeGroup}
 pub use Rattle.lvm_driver.specs.Drains.{IsAny, IsDrained, IsTurn, LastTurn, NoTurn, ThenMoves, ThenWaits, TurnsWhile}

@@ -1,2 +1,2 @@
 -- Passed on from `lvm_tie`.
-pub use Rattle.lvm_driver.specs.passed.Names.{IsBefore, LeavesSession, RunsOn}
+pub use Rattle.lvm_driver.specs.passed.Names.{LeavesSession, RunsOn}

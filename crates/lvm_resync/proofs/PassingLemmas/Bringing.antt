@@ -1,4 +1,5 @@
 -- The copy that is open is brought up until it doesn't run.
+use Rattle.lvm_ranges.proofs.passed.Names.{path_frames, goes_any}
 use Rattle.std.proofs.Common.{◌≡◌, inl, inr, ◌-◌, ℕ, Bool, true, false, Option, Some, None, if◌then◌else◌, refl, sym, ap, subst, ◌∙◌}
 use Rattle.std.specs.Prelude.{IfSome}
 use Rattle.std.specs.Option.{option_map_or}
@@ -135,9 +136,9 @@ module _ (first old : State) (patience left : ℕ) (so_far : BroughtSoFar first 
 
       here : GoesBeside old new left left
       here = record {
-        leaves = runs.leaves;
+        leaves = goes_any runs;
         table = subst (λ (s : State). KeepsTable old.core s.core) (sym is) (closed_table old.core);
-        orders = runs.orders;
+        orders = (path_frames runs).orders;
         loses = λ disk gone. inl (ap (λ (s : State). is_missing s.core disk) (sym is) ∙ gone);
         fewer = none.fewer;
         waited = subst (λ (s : State). RoseBy (left - left) old.device.counts.waits s.device.counts.waits) (sym is) none.waited;

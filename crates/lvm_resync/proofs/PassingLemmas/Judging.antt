@@ -1,4 +1,5 @@
 -- A copy is judged: turns are made until it is settled, and it is opened where it is stale.
+use Rattle.lvm_ranges.proofs.passed.Names.{path_shape}
 use Rattle.std.proofs.Common.{◌≡◌, inl, inr, ◌<◌, ◌-◌, ◌||◌, ℕ, suc, true, false, List, [], ◌∷◌, None, Some, Result, Ok, map, length, refl, sym, ap, subst, ◌∙◌}
 use Rattle.std.specs.List.{list_any}
 use Rattle.lvm_num.specs.declared.descriptor.Descriptor.{Descriptor}
@@ -120,7 +121,7 @@ module _ (c : Copy) (first old mid new : State) (patience left after : ℕ) (so_
       let on = subst (λ (s : State). GoesBeside s new left after) same beside in
       record {
         settles = one_turn (IsUnsettled c) patience left after first old new so_far.settles unsettled (subst (λ (s : State). MakesTurn s new left after) same made);
-        may = may_still c old.core new.core on.leaves.keeps.descriptor (none (ap (λ (s : State). s.core.copy) same ∙ so_far.may.none)) so_far.may;
+        may = may_still c old.core new.core (path_shape on.leaves).descriptor (none (ap (λ (s : State). s.core.copy) same ∙ so_far.may.none)) so_far.may;
         unstuck = unstuck_beside old new left after on so_far.unstuck;
         beside = beside_then beside;
       }

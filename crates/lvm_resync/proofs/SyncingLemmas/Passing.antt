@@ -1,4 +1,5 @@
 -- Copies that are passed one after the other.
+use Rattle.lvm_ranges.proofs.passed.Names.{path_shape}
 use Rattle.std.proofs.Common.{◌≡◌, ◌⊎◌, inl, inr, ◌+◌, ◌<◌, ◌++◌, ℕ, zero, suc, List, [], ◌∷◌, None, sym, ap, ◌∙◌, subst, append_assoc, append-nil, arith}
 use Rattle.std.proofs.Math.Nat.{eq-or-lt_of_le}
 use Rattle.lvm_num.specs.declared.descriptor.Descriptor.{Descriptor}
@@ -44,7 +45,7 @@ module _ (of : ℕ → List Copy) (first old new : State) (from t to : Tally) (n
 pub more_of : (f : Descriptor → ℕ → List Copy) (first old new : State) (from t to : Tally) (n patience left after : ℕ) → PassedSoFar (f first.core.descriptor) first old from t n patience left
     → ArePassed (f old.core.descriptor n) left after old new t to tt → GoesBeside old new left after → PassedSoFar (f first.core.descriptor) first new from to (n + 1) patience after
 more_of f first old new from t to n patience left after so_far it beside =
-    one_more (f first.core.descriptor) first old new from t to n patience left after so_far (subst (λ (d : Descriptor). ArePassed (f d n) left after old new t to tt) so_far.beside.leaves.keeps.descriptor it) beside
+    one_more (f first.core.descriptor) first old new from t to n patience left after so_far (subst (λ (d : Descriptor). ArePassed (f d n) left after old new t to tt) (path_shape so_far.beside.leaves).descriptor it) beside
 
 -- ---- the resync ends at once
 
@@ -86,7 +87,7 @@ module _ (of : ℕ → List Copy) (first old new : State) (from t : Tally) (n pa
 pub stops_of : (f : Descriptor → ℕ → List Copy) (first old new : State) (from t : Tally) (n patience left after : ℕ) → PassedSoFar (f first.core.descriptor) first old from t n patience left
     → (why : SyncFault) (m : ℕ) → n < m → StopsAmong (f old.core.descriptor n) left after old new t why → StopsAmong (below (f first.core.descriptor) m) patience after first new from why
 stops_of f first old new from t n patience left after so_far why m less it =
-    stops_among (f first.core.descriptor) first old new from t n patience left after so_far why m less (subst (λ (d : Descriptor). StopsAmong (f d n) left after old new t why) so_far.beside.leaves.keeps.descriptor it)
+    stops_among (f first.core.descriptor) first old new from t n patience left after so_far why m less (subst (λ (d : Descriptor). StopsAmong (f d n) left after old new t why) (path_shape so_far.beside.leaves).descriptor it)
 
 -- all of them are passed
 pub all_of : (of : ℕ → List Copy) (first now : State) (from to : Tally) (n m patience left : ℕ) → PassedSoFar of first now from to n patience left → n ≡ m → ArePassed (below of m) patience left first now from to tt

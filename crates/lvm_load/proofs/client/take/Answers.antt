@@ -1,3 +1,5 @@
+use Rattle.lvm_driver.proofs.passed.Names.{runs_none}
+use Rattle.lvm_session.specs.State.{state_of}
 use Rattle.std.proofs.Common.{get_or, refl, ap}
 use Rattle.std.proofs.lemmas.List.{set-get_or}
 use Rattle.lvm_load.specs.Weaving.{NoneOpen, Takes, Waits, fresh_client}
@@ -18,3 +20,6 @@ returns-in_default-take g c = record {
 pub returns-in_default-clause-takes : goal.returns-in_default-clause-takes
 returns-in_default-clause-takes g c =
     NoneOpen (open_there c.args.clients.now c.args.k _ c.requires.within (none_of _ c.in_default.not-Some)) refl (set-get_or c.args.clients.now c.args.k fresh_client)
+
+pub returns-in_default-clause-runs : goal.returns-in_default-clause-runs
+returns-in_default-clause-runs g c = runs_none (state_of g.S.Shelf.device c.args.driver.now)

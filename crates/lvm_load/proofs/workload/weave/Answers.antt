@@ -2,7 +2,7 @@ use Rattle.std.proofs.Common.{ℕ, ◌≤◌, List, length, sym, ◌∙◌, ap, 
 use Rattle.std.proofs.lemmas.List.{length-replicate, take-replicate}
 use Rattle.rand_pcg.specs.Lcg.{Lcg}
 use Rattle.lvm_session.specs.State.{state_of}
-use Rattle.lvm_driver.proofs.passed.Names.{runs_both}
+use Rattle.lvm_driver.proofs.passed.Names.{path_frames, runs_both, stays_unstuck}
 use Rattle.lvm_load.specs.declared.client.Client.{Client}
 use Rattle.lvm_vol.specs.Log.{Log}
 use Rattle.lvm_load.specs.Totals.{entries_since, totals_of}
@@ -48,3 +48,6 @@ pub returns-clause-runs : goal.returns-clause-runs
 returns-clause-runs g c =
     let device = g.S.Shelf.device in
     runs_both (state_of device c.args.driver.now) (state_of device c.draw_all.new.driver) (state_of device c.finish.new.driver) c.draw_all.ensures.runs.0 c.finish.ensures.runs
+
+pub finish-requires-clause-unstuck : goal.finish-requires-clause-unstuck
+finish-requires-clause-unstuck g c = stays_unstuck c.args.driver.now.1 c.draw_all.new.driver.1 (path_frames c.draw_all.ensures.runs.0).keeps.power c.requires.unstuck

@@ -1,3 +1,4 @@
+use Rattle.lvm_ranges.proofs.passed.Names.{path_shape}
 use Rattle.std.proofs.Common.{◌≡◌, ap, sym, ◌∙◌, arith}
 use Rattle.std.proofs.lemmas.Result.{err_from_is_err_and}
 use Rattle.lvm_num.specs.declared.descriptor.Descriptor.{Descriptor}
@@ -11,7 +12,7 @@ pub loop-place-init : goal.loop-place-init
 loop-place-init g c = none_yet (copy_in c.args.driver.now.1.descriptor c.args.lv c.args.lp) (state_of g.S.Shelf.device c.args.driver.now) c.args.tally.now c.args.patience.now.left c.requires.none c.requires.unstuck
 
 pub pass_place-requires-clause-within : goal.pass_place-requires-clause-within
-pass_place-requires-clause-within g c = λ row at. c.requires.within row (sym (ap (λ (d : Descriptor). volume_of d c.args.lv) c.loop-place.invariant.beside.leaves.keeps.descriptor) ∙ at)
+pass_place-requires-clause-within g c = λ row at. c.requires.within row (sym (ap (λ (d : Descriptor). volume_of d c.args.lv) (path_shape c.loop-place.invariant.beside.leaves).descriptor) ∙ at)
 
 pub loop-place-preserved : goal.loop-place-preserved
 loop-place-preserved g c =

@@ -1,3 +1,4 @@
+use Rattle.lvm_ranges.proofs.passed.Names.{path_shape}
 use Rattle.std.proofs.Common.{◌≡◌, Option, ap, sym, ◌∙◌, arith}
 use Rattle.std.specs.Option.{option_map_or}
 use Rattle.std.proofs.lemmas.Result.{err_from_is_err_and}
@@ -16,7 +17,7 @@ loop-lp-init g c = none_yet (partition_copies c.args.driver.now.1.descriptor c.a
 pub pass_partition-requires-clause-within : goal.pass_partition-requires-clause-within
 pass_partition-requires-clause-within g c = λ row at.
     let less = c.loop-lp-test.true in
-    let count = c.partition_count-lp-end.ensures ∙ ap (λ (m : Option LvRow). option_map_or (λ (r : LvRow). r.lps) m 0) (sym (ap (λ (d : Descriptor). volume_of d c.args.lv) c.loop-lp.invariant.beside.leaves.keeps.descriptor) ∙ at) in
+    let count = c.partition_count-lp-end.ensures ∙ ap (λ (m : Option LvRow). option_map_or (λ (r : LvRow). r.lps) m 0) (sym (ap (λ (d : Descriptor). volume_of d c.args.lv) (path_shape c.loop-lp.invariant.beside.leaves).descriptor) ∙ at) in
     omega (arith, less, count)
 
 pub loop-lp-preserved : goal.loop-lp-preserved

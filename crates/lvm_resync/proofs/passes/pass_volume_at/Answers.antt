@@ -1,5 +1,6 @@
 use Rattle.std.proofs.Common.{List, sym, ◌∙◌, subst}
 use Rattle.lvm_session.specs.State.{state_of}
+use Rattle.lvm_resync.proofs.TurningLemmas.{beside_none}
 use Rattle.lvm_resync.specs.Passing.{Copy, EndsOr}
 use Rattle.lvm_resync.specs.Syncing.{ArePassed, NonePassed, StopsAmong}
 use Rattle.lvm_resync.proofs.SyncingLemmas.Passed.{no_volume_there, volume_there}
@@ -17,3 +18,6 @@ returns-in-Some-clause-ends g c =
     let new = state_of device c.pass_volume.new.driver in
     subst (λ (copies : List Copy). EndsOr (ArePassed copies c.args.patience.now.left c.pass_volume.new.patience.left first new c.args.tally.now c.pass_volume.new.tally) (StopsAmong copies c.args.patience.now.left c.pass_volume.new.patience.left first new c.args.tally.now) c.pass_volume.result)
     (sym (volume_there first.core.descriptor c.args.place c.in-Some.lv (sym c.volume_at.ensures ∙ c.in-Some.is))) c.pass_volume.ensures.ends
+
+pub returns-in-None-clause-beside : goal.returns-in-None-clause-beside
+returns-in-None-clause-beside g c = beside_none (state_of g.S.Shelf.device c.args.driver.now) c.args.patience.now.left

@@ -2,7 +2,7 @@ use Rattle.std.proofs.Common.{inl, inr, refl, arith}
 use Rattle.lvm_session.specs.declared.answers.Turned.TheVariants as turned
 use Rattle.lvm_session.specs.State.{state_of}
 use Rattle.lvm_ranges.proofs.LandingLemmas.{less_by_wait}
-use Rattle.lvm_resync.proofs.TurningLemmas.{finds_of, runs_beside, waits_beside}
+use Rattle.lvm_resync.proofs.TurningLemmas.{beside_none, finds_of, runs_beside, waits_beside}
 use Rattle.lvm_resync.proofs.turns.make_turn.Goals as goal
 
 pub returns-in-Moved-clause-beside : goal.returns-in-Moved-clause-beside
@@ -51,3 +51,6 @@ pub returns-in-Off-clause-beside : goal.returns-in-Off-clause-beside
 returns-in-Off-clause-beside g c =
     let device = g.S.Shelf.device in
     runs_beside (state_of device c.args.driver.now) (state_of device c.turn.new.self) c.args.patience.now.left c.is_sound.ensures turned.Off c.in-Off.ensures.makes c.in-Off.ensures.runs
+
+pub returns-then-patience-eq0-clause-beside : goal.returns-then-patience-eq0-clause-beside
+returns-then-patience-eq0-clause-beside g c = beside_none (state_of g.S.Shelf.device c.args.driver.now) c.args.patience.now.left

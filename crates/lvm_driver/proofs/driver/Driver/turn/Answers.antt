@@ -1,6 +1,7 @@
 use Rattle.lvm_session.specs.Fields.{core_of}
 use Rattle.lvm_session.specs.State.{state}
-use Rattle.lvm_tie.proofs.passed.Names.{turn_gets, turn_tells}
+use Rattle.lvm_keeps_events.proofs.ReadingLemmas.{turn_gets}
+use Rattle.lvm_keeps_events.proofs.TellingLemmas.Telling.{turn_tells}
 use Rattle.lvm_driver.proofs.FieldsLemmas.{turn_on}
 use Rattle.lvm_driver.proofs.driver.Driver.turn.Goals as goal
 
