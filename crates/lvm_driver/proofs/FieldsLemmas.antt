@@ -15,7 +15,7 @@ use Rattle.lvm_session.specs.declared.answers.Taken.{Taken}
 use Rattle.lvm_session.specs.declared.answers.Turned.{Turned}
 use Rattle.lvm_session.specs.Calls.{Closes, OpenGives, SubmitGives, TakeGives}
 use Rattle.lvm_session.specs.Turns.{ArrangesSession, TurnMakes}
-use Rattle.lvm_session.specs.Asking.{IsAsking, IsAwake}
+use Rattle.lvm_session.specs.Asking.{IsAsking}
 use Rattle.lvm_session.specs.Sound.{IsSound}
 use Rattle.lvm_keeps.proofs.KeepsLemmas.Close.{close_keeps}
 use Rattle.lvm_keeps.proofs.KeepsLemmas.Orders.{order_keeps}
@@ -24,15 +24,11 @@ use Rattle.lvm_keeps_events.proofs.SubmitKeepsLemmas.{submit_keeps}
 use Rattle.lvm_keeps_events.proofs.TurningLemmas.{turn_keeps}
 use Rattle.lvm_keeps_events.proofs.OpeningLemmas.Opening.{seen_open_keeps}
 use Rattle.lvm_keeps_events.specs.passed.Names.{counts_seen}
-use Rattle.lvm_going.specs.Going.{AnyStep, AreValid, ClosesCopy, RunsOn, LeavesSession, MakesTurn, OpensCopy, Orders, RunStep, Runs, Submits, Takes}
-use Rattle.lvm_going.proofs.FramesLemmas.{order_keeps_shape}
-use Rattle.lvm_going.proofs.GoingLemmas.{run_frame, step_shape}
-use Rattle.lvm_going.proofs.JoinsLemmas.{any_one, goes_one}
+use Rattle.lvm_going.specs.Statuses.{AreValid}
+use Rattle.lvm_going.specs.Going.{AnyStep, ClosesCopy, RunsOn, LeavesSession, MakesTurn, OpensCopy, Orders, RunStep, Submits, Takes}
+use Rattle.lvm_going.proofs.GoingLemmas.{is_awake, run_frame, step_shape}
+use Rattle.lvm_going.proofs.JoinsLemmas.{leaves_one, runs_one}
 use Rattle.lvm_driver.proofs.RoomsLemmas.{rooms_stay}
-
--- a session that isn't stuck may be asked
-is_awake : (s : State) → IsSound s → (s.core.power ≡ power.Stuck → ⊥) → IsAwake s.core
-is_awake s sound unstuck = record { fitting = sound.fitting; going = λ on. (sound.on on).going; unstuck = unstuck }
 
 -- what holds of the parts whenever nobody changes them
 abbrev pub AreSound : Device → Session → Type 0
@@ -51,10 +47,10 @@ module _ (device now : Device) (old new : Session) (it : AreSound device old) (s
   is = state now (core_of new)
 
   run : IsSound is → RunStep was is → Stay RunsOn device now old new
-  run sound step = record { sound = (rooms_stay old new (run_frame was is step).keeps.room same it.0, sound); left = goes_one step }
+  run sound step = record { sound = (rooms_stay old new (run_frame was is step).keeps.room same it.0, sound); left = runs_one step }
 
   leave : IsSound is → AnyStep was is → Stay LeavesSession device now old new
-  leave sound step = record { sound = (rooms_stay old new (step_shape was is step).room same it.0, sound); left = any_one step }
+  leave sound step = record { sound = (rooms_stay old new (step_shape was is step).room same it.0, sound); left = leaves_one step }
 
   pub turn_on : (answer : Turned) → HasSectors now → AreValid old.updater → TurnMakes was is answer → Stay RunsOn device now old new
   turn_on answer sectors valid made = let sound = turn_keeps was is answer it.1 made in run sound (MakesTurn answer valid sectors made)

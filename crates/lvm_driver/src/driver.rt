@@ -20,7 +20,8 @@ ghost use Rattle.lvm_keeps.specs.Falls.{most_left};
 ghost use Rattle.lvm_keeps_events.specs.passed.Names.{counts_seen};
 ghost use Rattle.lvm_keeps_events.specs.Reading.{GetsItsBlocks};
 ghost use Rattle.lvm_keeps_events.specs.Telling.{TurnTells};
-ghost use Rattle.lvm_going.specs.Going.{AreValid, RunsOn, LeavesSession};
+ghost use Rattle.lvm_going.specs.Going.{LeavesSession, RunsOn};
+ghost use Rattle.lvm_going.specs.Statuses.{AreValid};
 ghost use Rattle.lvm_session_start.specs.Beginning.{AreFaults, MayBegin, first_core};
 ghost use Rattle.lvm_driver.specs.Answers.{IsCausedFor, IsCopyCaused, IsOffSince};
 

@@ -5,6 +5,4 @@ pub mod VotesLemmas
 pub mod SoundLemmas
 pub mod NoneLeftLemmas
 pub mod BeginningLemmas
-pub mod EarlierAnswersLemmas
-pub mod LegalLemmas
 pub mod EarlierLemmas

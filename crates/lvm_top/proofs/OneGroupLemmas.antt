@@ -27,14 +27,14 @@ use Rattle.lvm_core.specs.declared.refused.Cause.TheVariants as cause
 use Rattle.lvm_core.specs.declared.refused.Refused.{Refused}
 use Rattle.lvm_session.specs.State.{Core, State}
 use Rattle.lvm_line.specs.passed.Quiesce.{MkvgOnceQuiet, RefusedAtOnce, StayedOut, WentQuiet}
-use Rattle.lvm_line.specs.passed.Tie.{LeavesDescriptors}
 use Rattle.lvm_kept.specs.Moments.{Moment}
 use Rattle.lvm_core.specs.Leaves.{EntersVolumes, Scope, is_of_volume, MayBeFound}
 use Rattle.lvm_volume_plan.specs.declared.new_volume.NewVolume.{NewVolume}
 use Rattle.lvm_line.specs.passed.Group.{NewGroup, new_group, MkvgRefuses, IfShown, HasGroup}
-use Rattle.lvm_line.specs.passed.GroupLines.{patience_of_line, Asks, IsAlone, OfGroup, OfRequests, Role, IsStuck, ScriptState, IsTimely, StandsAlone, log_with, Reply, IsLeft, MkvgDoes, NoMemoryForLine, NoMkvgWhileOn, Makes, asked_for, itself, outcome_of}
+use Rattle.lvm_line.specs.passed.GroupLines.{IsBetween, patience_of_line, Asks, IsAlone, OfGroup, OfRequests, Role, IsStuck, ScriptState, IsTimely, StandsAlone, log_with, Reply, IsLeft, MkvgDoes, NoMemoryForLine, NoMkvgWhileOn, Makes, asked_for, itself, outcome_of}
 use Rattle.lvm_line.specs.Lines.{LineDoes, role_of}
 use Rattle.lvm_line.specs.passed.VolumeLines.{Drains, IsDone, MklvDoes, RmlvDoes, NoGroupForMklv, BusyMklv, UndrainedMklv, MakesVolume, MklvFails, NoGroupForRmlv, BusyRmlv, UndrainedRmlv, NoVolumeForRmlv, RemovesVolume, RmlvFails, wanted, MklvcopyDoes, NoGroupForMklvcopy, BusyMklvcopy, UndrainedMklvcopy, NoVolumeForMklvcopy, AddsCopies, MklvcopyFails, RmlvcopyDoes, NoGroupForRmlvcopy, BusyRmlvcopy, UndrainedRmlvcopy, NoVolumeForRmlvcopy, RemovesCopies, RmlvcopyFails}
+use Rattle.lvm_line.proofs.passed.Tie.{path_frames}
 use Rattle.lvm_top.specs.Script.{Script, NoLine, NextLine, StaysAlone, Ends, AtLine, InLine, EndsAlone, EndsHeard, entry_state, empty_log, facts_of}
 use Rattle.lvm_top.specs.Run.{exit_state}
 use Rattle.lvm_top.proofs.ScriptLemmas.Concluding.{how_ended, stuck_ends, stuck_still}
@@ -117,7 +117,7 @@ its_one group old new none finds v w g h is also = its v g is ∙ sym (its w h a
     its : (id : ℕ) (k : Descriptor) → MayBeFound new id k → id ≡ group.id
     its id k it = ⊎_elim (λ before. absurd (none id k before)) (λ (new : IsIts group id k). new.0) (finds id k it)
 
-module _ (log : Log) (old new : ScriptState) (answer : Reply) (shelf : IsShelf old.moment.device) (leaves : LeavesDescriptors old.moment.device) (heard : IsStuck answer → ⊥) (timely : IsTimely log.run old)
+module _ (log : Log) (old new : ScriptState) (answer : Reply) (shelf : IsShelf old.moment.device) (between : IsBetween old.moment old.session old.posts) (heard : IsStuck answer → ⊥) (timely : IsTimely log.run old)
     (named : IfSome old.session (λ core. core.history.run ≡ log.run)) (told : IsSome old.moment.device.media) (one : FindsOneGroup old.moment.device) where
   abbrev was : Device
   was = old.moment.device
@@ -169,38 +169,38 @@ module _ (log : Log) (old new : ScriptState) (answer : Reply) (shelf : IsShelf o
     commanded_one core left mid some drains own done = no_new_one was now (λ id k it. ⊎_elim
         (λ (before : MayBeFound was id k). (k, before))
         (λ next.
-        let same : id ≡ core.descriptor.id = next.0 ∙ own k next.1 ∙ ap (λ (d : Descriptor). d.id) drains.runs.leaves.keeps.descriptor in
-        (core.descriptor, subst (λ (n : ℕ). MayBeFound was n core.descriptor) (sym same) (found_before log.run old new leaves named stood told core left mid some drains)))
-        (done_finds log.run old new leaves named stood core left mid some drains done id k it)) one
+        let same : id ≡ core.descriptor.id = next.0 ∙ own k next.1 ∙ ap (λ (d : Descriptor). d.id) (path_frames drains.runs).keeps.descriptor in
+        (core.descriptor, subst (λ (n : ℕ). MayBeFound was n core.descriptor) (sym same) (found_before log.run old new between named stood told core left mid some drains)))
+        (done_finds log.run old new between named stood core left mid some drains done id k it)) one
 
     mklv_one : (w : NewVolume) (group : List ℕ) → MklvDoes w group old new answer → FindsOneGroup now
     mklv_one w group (NoGroupForMklv none is) = same_one is.1
     mklv_one w group (BusyMklv on busy is) = same_one is.1
-    mklv_one w group (UndrainedMklv core why some on un) = nothing_one was now (undrained_nothing log.run old new leaves named stood core why answer un) one
+    mklv_one w group (UndrainedMklv core why some on un) = nothing_one was now (undrained_nothing log.run old new between named stood core why answer some un) one
     mklv_one w group (MakesVolume core left mid number some on drains done is) = commanded_one core left mid some drains (λ k its. ap (λ (d : Descriptor). d.id) its.2.2) done
     mklv_one w group (MklvFails core left mid why some on drains done is) = commanded_one core left mid some drains (λ k its. ap (λ (d : Descriptor). d.id) its.2.2) done
 
     rmlv_one : (name : List ℕ) → RmlvDoes name old new answer → FindsOneGroup now
     rmlv_one name (NoGroupForRmlv none is) = same_one is.1
     rmlv_one name (BusyRmlv busy is) = same_one is.1
-    rmlv_one name (UndrainedRmlv core why some un) = nothing_one was now (undrained_nothing log.run old new leaves named stood core why answer un) one
-    rmlv_one name (NoVolumeForRmlv core left mid some drains none stays last says) = nothing_one was now (idle_nothing log.run old new leaves named stood core left mid mid drains refl stays) one
+    rmlv_one name (UndrainedRmlv core why some un) = nothing_one was now (undrained_nothing log.run old new between named stood core why answer some un) one
+    rmlv_one name (NoVolumeForRmlv core left mid some drains none stays last says) = nothing_one was now (idle_nothing log.run old new between named stood core left mid mid some drains refl stays) one
     rmlv_one name (RemovesVolume core left mid lv some drains its done is) = commanded_one core left mid some drains (λ k same. ap (λ (d : Descriptor). d.id) same) done
     rmlv_one name (RmlvFails core left mid lv why some drains its done is) = commanded_one core left mid some drains (λ k same. ap (λ (d : Descriptor). d.id) same) done
 
     mklvcopy_one : (name : List ℕ) (copies : ℕ) → MklvcopyDoes name copies old new answer → FindsOneGroup now
     mklvcopy_one name copies (NoGroupForMklvcopy none is) = same_one is.1
     mklvcopy_one name copies (BusyMklvcopy busy is) = same_one is.1
-    mklvcopy_one name copies (UndrainedMklvcopy core why some un) = nothing_one was now (undrained_nothing log.run old new leaves named stood core why answer un) one
-    mklvcopy_one name copies (NoVolumeForMklvcopy core left mid some drains none stays last says) = nothing_one was now (idle_nothing log.run old new leaves named stood core left mid mid drains refl stays) one
+    mklvcopy_one name copies (UndrainedMklvcopy core why some un) = nothing_one was now (undrained_nothing log.run old new between named stood core why answer some un) one
+    mklvcopy_one name copies (NoVolumeForMklvcopy core left mid some drains none stays last says) = nothing_one was now (idle_nothing log.run old new between named stood core left mid mid some drains refl stays) one
     mklvcopy_one name copies (AddsCopies core left mid lv added some drains its done is) = commanded_one core left mid some drains (λ k its. more_id lv copies mid.core k its) done
     mklvcopy_one name copies (MklvcopyFails core left mid lv why some drains its done is) = commanded_one core left mid some drains (λ k its. more_id lv copies mid.core k its) done
 
     rmlvcopy_one : (name : List ℕ) (copies : ℕ) → RmlvcopyDoes name copies old new answer → FindsOneGroup now
     rmlvcopy_one name copies (NoGroupForRmlvcopy none is) = same_one is.1
     rmlvcopy_one name copies (BusyRmlvcopy busy is) = same_one is.1
-    rmlvcopy_one name copies (UndrainedRmlvcopy core why some un) = nothing_one was now (undrained_nothing log.run old new leaves named stood core why answer un) one
-    rmlvcopy_one name copies (NoVolumeForRmlvcopy core left mid some drains none stays last says) = nothing_one was now (idle_nothing log.run old new leaves named stood core left mid mid drains refl stays) one
+    rmlvcopy_one name copies (UndrainedRmlvcopy core why some un) = nothing_one was now (undrained_nothing log.run old new between named stood core why answer some un) one
+    rmlvcopy_one name copies (NoVolumeForRmlvcopy core left mid some drains none stays last says) = nothing_one was now (idle_nothing log.run old new between named stood core left mid mid some drains refl stays) one
     rmlvcopy_one name copies (RemovesCopies core left mid lv some drains its done is) = commanded_one core left mid some drains (λ k its. fewer_id lv copies mid.core k its) done
     rmlvcopy_one name copies (RmlvcopyFails core left mid lv why some drains its done is) = commanded_one core left mid some drains (λ k its. fewer_id lv copies mid.core k its) done
 
@@ -211,7 +211,7 @@ module _ (log : Log) (old new : ScriptState) (answer : Reply) (shelf : IsShelf o
   other_one room line read is stood none does = nothing_one was now (λ id k it. ⊎_elim
       (λ (before : MayBeFound was id k). before)
       (λ committed. absurd (none id k committed))
-      (by_reading log room line answer old new shelf leaves heard timely named read is stood does id k it)) one
+      (by_reading log room line answer old new shelf between heard timely named read is stood does id k it)) one
 
   line_one : (room : Room) (line : List ℕ) → IsUnforced line → (read : Result (Option Command) Misfit) → line_of line ≡ read → StoodBefore log.run (role_of read) old new → LineDoes log room read old new answer → FindsOneGroup now
   line_one room line unforced (Ok (Some (command.Mkvg true name mib disks))) is stood does = absurd (unforced name mib disks is)
@@ -270,13 +270,13 @@ module _ (log : Log) (room : Room) (past : List Fact) (first : ScriptState) (beg
       let timely = went.timely begin.timely in
       let stood_so = stood log room past first begin before so_far.alone (role_of (line_of line)) new now in
       let told_new : IsSome new.moment.device.media = last_told log room past first begin (NextLine line answer said heard says before it) (so_far.alone, now) in
-      let finds = by_reading log room line answer mid new shelf leaves heard timely it.named (line_of line) refl stood_so it.does in
+      let finds = by_reading log room line answer mid new shelf it.between heard timely it.named (line_of line) refl stood_so it.does in
       let off_new : FindsNoPassive new.moment.device = λ id k found. ⊎_elim (λ was. so_far.finds_off id k was) (λ committed. committed_off line (line_of line) refl answer mid new so_far.session id k committed) (finds id k found) in
       record {
         alone = (so_far.alone, now);
-        finds_one = line_one log mid new answer shelf leaves heard timely it.named (last_told log room past first begin before so_far.alone) so_far.finds_one room line unforced.1 (line_of line) refl stood_so it.does;
+        finds_one = line_one log mid new answer shelf it.between heard timely it.named (last_told log room past first begin before so_far.alone) so_far.finds_one room line unforced.1 (line_of line) refl stood_so it.does;
         finds_off = off_new;
-        session = session_off log room answer mid new so_far.session (it.goes.begins timely (past ++ mid.moment.facts) (images_kept log room past first begin before so_far.alone)) told_new off_new leaves it.named (line_of line) stood_so it.does;
+        session = session_off log room answer mid new so_far.session (it.goes.begins timely (past ++ mid.moment.facts) (images_kept log room past first begin before so_far.alone)) told_new off_new it.between it.named (line_of line) stood_so it.does;
       }
 
   ends_alone : {mid last : ScriptState} {done : List (List ℕ)} {said : List Reply} {front : List ℕ} (ends : Ends log room mid last done said front) → FindsOneGroup mid.moment.device → HasNoPassiveOn mid → EndsAlone ends

@@ -23,7 +23,7 @@ use Rattle.lvm_core.specs.Looking.{IsNumberOf}
 use Rattle.lvm_session.specs.declared.open.Power.{Power}
 use Rattle.lvm_session.specs.declared.open.Power.TheVariants as power
 use Rattle.lvm_session.specs.State.{Core, State, is_there, state}
-use Rattle.lvm_line.specs.passed.Tie.{RunsOn, LeavesDescriptors}
+use Rattle.lvm_line.specs.passed.Tie.{RunsOn}
 use Rattle.lvm_line.specs.passed.Recover.{HasNoPassive}
 use Rattle.lvm_posts.specs.declared.asked.Asked.{Asked}
 use Rattle.lvm_posts.specs.declared.posts.Post.{Post}
@@ -38,13 +38,14 @@ use Rattle.lvm_volume_plan.specs.declared.new_volume.NewVolume.{NewVolume}
 use Rattle.lvm_volume_plan.specs.NewVolume.{row_for, without_volume}
 use Rattle.lvm_volume_plan.specs.Faults.{ends_session}
 use Rattle.lvm_volume_plan.proofs.Sublists.{one_filter, one_insert}
-use Rattle.lvm_line.specs.passed.GroupLines.{IsLeft, MkvgDoes, VaryonDoes, VaryoffDoes, NoMemoryForLine, NoMkvgWhileOn, Makes, NoVaryonWhileOn, Varies, NoVaryoff, BusyVaryoff, VariesOff, ReadDoes, WriteDoes, NoWriteWhileOn, WriteGoes, NoReadWhileOn, ReadGoes, ArrangeDoes, CutDoes, NotThere, NotPlanned, IsArranged, CutNotPlanned, PowerIsCut, HasBegunHeld, OfGroup, ScriptState, Reply, is_unheard}
+use Rattle.lvm_line.specs.passed.GroupLines.{IsBetween, IsLeft, MkvgDoes, VaryonDoes, VaryoffDoes, NoMemoryForLine, NoMkvgWhileOn, Makes, NoVaryonWhileOn, Varies, NoVaryoff, BusyVaryoff, VariesOff, ReadDoes, WriteDoes, NoWriteWhileOn, WriteGoes, NoReadWhileOn, ReadGoes, ArrangeDoes, CutDoes, NotThere, NotPlanned, IsArranged, CutNotPlanned, PowerIsCut, HasBegunHeld, OfGroup, ScriptState, Reply, is_unheard}
 use Rattle.lvm_disk.specs.declared.shelf.Arrange.{Arrange}
 use Rattle.lvm_line.specs.passed.RangeLines.{EndsBy, GoesOnWith, CarriesBy, OnVolume, WhileOff, NotThere as VolumeNotThere, There, Posts, NotPosted, Posted, Finishes, NotBegun, EndsWell, Fails, StepDoes, NoStepWhileOff, NothingMoves, Steps, FailsIf}
 use Rattle.lvm_line.specs.passed.RangeLinesWaiting.{WaitDoes, WhileOff as WaitsWhileOff, AtRest, Awaits, WaitsOff, WaitsOn, WaitEnds, Goes, Over, InVain}
 use Rattle.lvm_line.specs.passed.VolumeLines.{IsSynced, NoGroupForSync, NoVolumeForSync, NothingSyncs, OtherGroupForSync, SyncGroupDoes, SyncVolumeDoes, SyncsGroup, SyncsVolume, MklvcopyDoes, NoGroupForMklvcopy, BusyMklvcopy, UndrainedMklvcopy, NoVolumeForMklvcopy, AddsCopies, MklvcopyFails, RmlvcopyDoes, NoGroupForRmlvcopy, BusyRmlvcopy, UndrainedRmlvcopy, NoVolumeForRmlvcopy, RemovesCopies, RmlvcopyFails, Drains, IsDone, StaysOn, MklvDoes, RmlvDoes, NoGroupForMklv, BusyMklv, UndrainedMklv, MakesVolume, MklvFails, NoGroupForRmlv, BusyRmlv, UndrainedRmlv, NoVolumeForRmlv, RemovesVolume, RmlvFails, wanted}
 use Rattle.lvm_line.specs.passed.Resync.{Copy, SyncFault, group_copies, group_fault, volume_copies, volume_fault}
 use Rattle.lvm_line.specs.Lines.{LineDoes, role_of}
+use Rattle.lvm_line.proofs.passed.Tie.{path_frames, path_shape}
 use Rattle.lvm_top.specs.Plain.{FindsNoPassive}
 use Rattle.lvm_top.specs.Standing.{MayHaveCommitted, StoodBefore, WasDrained}
 use Rattle.lvm_top.proofs.StandingLemmas.Acknowledged.{begun_by}
@@ -61,7 +62,7 @@ with_off : (line : List ℕ) (name : List ℕ) (copies : ℕ) (mode : _) (policy
 with_off line name copies mode policy group lps is old off k (core, mid, drained, with) row volume =
     ⊎_elim
     (λ same passive. (line_is_within line (command.Mklv name copies mode policy group lps) is).1 (sym (ap (λ (r : LvRow). r.mode) same) ∙ passive))
-    (λ before. its row (subst (λ (d : Descriptor). IsOneOf d.lvs row) drained.drains.runs.leaves.keeps.descriptor before))
+    (λ before. its row (subst (λ (d : Descriptor). IsOneOf d.lvs row) (path_frames drained.drains.runs).keeps.descriptor before))
     (one_insert mid.core.descriptor.lvs (with.2.0 - 1) (row_for (wanted name copies mode policy lps) with.2.0 with.0) row (subst (λ (d : Descriptor). IsOneOf d.lvs row) with.2.2 volume))
   where
     its : HasNoPassive core.descriptor
@@ -90,7 +91,7 @@ copies_off d k lv copies pps same off = λ row volume. rows_off lv copies pps d.
 
 with_more_off : (name : List ℕ) (copies : ℕ) (old : ScriptState) → HasNoPassiveOn old → (k : Descriptor) → (core : Core) × (mid : State) × WasDrained old core mid × ((lv : ℕ) × IsNumberOf core.descriptor.lvs name lv × IsWithMore lv copies mid.core k) → HasNoPassive k
 with_more_off name copies old off k (core, mid, drained, (lv, its, (row, (pps, places, same)))) =
-    copies_off mid.core.descriptor k lv copies pps same (subst HasNoPassive (sym drained.drains.runs.leaves.keeps.descriptor) (subst (λ (o : Option Core). IfSome o (λ c. HasNoPassive c.descriptor)) drained.on off))
+    copies_off mid.core.descriptor k lv copies pps same (subst HasNoPassive (sym (path_frames drained.drains.runs).keeps.descriptor) (subst (λ (o : Option Core). IfSome o (λ c. HasNoPassive c.descriptor)) drained.on off))
 
 with_fewer_off : (name : List ℕ) (copies : ℕ) (o : Option Core) (k : Descriptor) → IfSome o (λ c. HasNoPassive c.descriptor) → IsSomeAnd o (λ c. (lv : ℕ) × IsNumberOf c.descriptor.lvs name lv × IsWithFirst lv copies c k) → HasNoPassive k
 with_fewer_off name copies None k off is = absurd is
@@ -166,7 +167,7 @@ module _ (old new : ScriptState) (off : HasNoPassiveOn old) where
 
   -- turns leave the group
   runs_off : (a b : State) → RunsOn a b → HasNoPassive a.core.descriptor → HasNoPassive b.core.descriptor
-  runs_off a b runs its = subst HasNoPassive (sym runs.leaves.keeps.descriptor) its
+  runs_off a b runs its = subst HasNoPassive (sym (path_frames runs).keeps.descriptor) its
 
   of_core : (core : Core) → old.session ≡ Some core → HasNoPassive core.descriptor
   of_core core some = subst (λ (o : Option Core). IfSome o (λ c. HasNoPassive c.descriptor)) some off
@@ -189,7 +190,7 @@ module _ (old new : ScriptState) (off : HasNoPassiveOn old) where
   synced_off {answer} refused copies core its done = by (is_unheard answer) done.leaves
     where
       stays : HasNoPassive done.end.core.descriptor
-      stays = subst HasNoPassive (sym done.beside.leaves.keeps.descriptor) its
+      stays = subst HasNoPassive (sym (path_shape done.beside.leaves).descriptor) its
 
       by : (b : Bool) → FailsIf b done.end old.posts old.last new → HasNoPassiveOn new
       by true ended = none_off ended.session
@@ -279,11 +280,11 @@ module _ (old new : ScriptState) (off : HasNoPassiveOn old) where
         let found : MayBeFound new.moment.device left.core.descriptor.id left.core.descriptor = subst (λ (d : Device). MayBeFound d left.core.descriptor.id left.core.descriptor) (sym stays.device) (held_found left.device left.core held told_left) in
         some_off stays.core stays.session (subst (λ (c : Core). HasNoPassive c.descriptor) (sym stays.is) (finds left.core.descriptor.id left.core.descriptor found))
 
-    module _ (run : ℕ) (leaves : LeavesDescriptors old.moment.device) (named : IfSome old.session (λ core. core.history.run ≡ run)) (stood : StoodBefore run OfGroup old new) where
+    module _ (run : ℕ) (between : IsBetween old.moment old.session old.posts) (named : IfSome old.session (λ core. core.history.run ≡ run)) (stood : StoodBefore run OfGroup old new) where
       done_off : {Gives : State → State → Type 0} {scope : Core → Scope} (over : Bool) (core : Core) (left : ℕ) (mid : State) → old.session ≡ Some core → Drains core old left mid
           → IsDone Gives scope over mid old new → HasNoPassiveOn new
       done_off true core left mid some drains done = none_off done.leaves.session
-      done_off false core left mid some drains done = stays_off done.left done.leaves (done.held refl (held_mid run old new leaves named stood core left mid some drains))
+      done_off false core left mid some drains done = stays_off done.left done.leaves (done.held refl (held_mid run old new between named stood core left mid some drains))
 
       mklv_off : {answer : Reply} (w : NewVolume) (group : List ℕ) → MklvDoes w group old new answer → HasNoPassiveOn new
       mklv_off w group (NoGroupForMklv none is) = same_off is.1
@@ -296,7 +297,7 @@ module _ (old new : ScriptState) (off : HasNoPassiveOn old) where
       rmlv_off name (NoGroupForRmlv none is) = same_off is.1
       rmlv_off name (BusyRmlv busy is) = same_off is.1
       rmlv_off name (UndrainedRmlv core why some un) = none_off un.over.session
-      rmlv_off name (NoVolumeForRmlv core left mid some drains none stays last says) = stays_off mid stays (held_mid run old new leaves named stood core left mid some drains)
+      rmlv_off name (NoVolumeForRmlv core left mid some drains none stays last says) = stays_off mid stays (held_mid run old new between named stood core left mid some drains)
       rmlv_off name (RemovesVolume core left mid lv some drains its done is) = done_off false core left mid some drains done
       rmlv_off name (RmlvFails core left mid lv why some drains its done is) = done_off (ends_session why) core left mid some drains done
 
@@ -304,7 +305,7 @@ module _ (old new : ScriptState) (off : HasNoPassiveOn old) where
       mklvcopy_off name copies (NoGroupForMklvcopy none is) = same_off is.1
       mklvcopy_off name copies (BusyMklvcopy busy is) = same_off is.1
       mklvcopy_off name copies (UndrainedMklvcopy core why some un) = none_off un.over.session
-      mklvcopy_off name copies (NoVolumeForMklvcopy core left mid some drains none stays last says) = stays_off mid stays (held_mid run old new leaves named stood core left mid some drains)
+      mklvcopy_off name copies (NoVolumeForMklvcopy core left mid some drains none stays last says) = stays_off mid stays (held_mid run old new between named stood core left mid some drains)
       mklvcopy_off name copies (AddsCopies core left mid lv added some drains its done is) = done_off false core left mid some drains done
       mklvcopy_off name copies (MklvcopyFails core left mid lv why some drains its done is) = done_off (ends_session why) core left mid some drains done
 
@@ -312,33 +313,33 @@ module _ (old new : ScriptState) (off : HasNoPassiveOn old) where
       rmlvcopy_off name copies (NoGroupForRmlvcopy none is) = same_off is.1
       rmlvcopy_off name copies (BusyRmlvcopy busy is) = same_off is.1
       rmlvcopy_off name copies (UndrainedRmlvcopy core why some un) = none_off un.over.session
-      rmlvcopy_off name copies (NoVolumeForRmlvcopy core left mid some drains none stays last says) = stays_off mid stays (held_mid run old new leaves named stood core left mid some drains)
+      rmlvcopy_off name copies (NoVolumeForRmlvcopy core left mid some drains none stays last says) = stays_off mid stays (held_mid run old new between named stood core left mid some drains)
       rmlvcopy_off name copies (RemovesCopies core left mid lv some drains its done is) = done_off false core left mid some drains done
       rmlvcopy_off name copies (RmlvcopyFails core left mid lv why some drains its done is) = done_off (ends_session why) core left mid some drains done
 
 pub session_off : (log : Log) (room : Room) (answer : Reply) (old new : ScriptState) → HasNoPassiveOn old → IfNone old.session (IfSome new.session (HasBegunHeld new.moment.device)) → IsSome new.moment.device.media → FindsNoPassive new.moment.device
-    → LeavesDescriptors old.moment.device → IfSome old.session (λ core. core.history.run ≡ log.run) → (read : Result (Option Command) Misfit) → StoodBefore log.run (role_of read) old new → LineDoes log room read old new answer → HasNoPassiveOn new
-session_off log room answer old new off begins told finds leaves named (Err misfit) stood does = same_off old new off does.1
-session_off log room answer old new off begins told finds leaves named (Ok None) stood does = same_off old new off does.1
-session_off log room answer old new off begins told finds leaves named (Ok (Some (command.Mkvg force name mib disks))) stood does = mkvg_off old new off begins told finds log room force name mib disks does
-session_off log room answer old new off begins told finds leaves named (Ok (Some (command.Varyon name))) stood does = varyon_off old new off begins told finds log room name does
-session_off log room answer old new off begins told finds leaves named (Ok (Some (command.Varyoff name))) stood does = varyoff_off old new off name does
-session_off log room answer old new off begins told finds leaves named (Ok (Some (command.Lsvg volumes name))) stood does = same_off old new off does.1
-session_off log room answer old new off begins told finds leaves named (Ok (Some (command.Mklv name copies mode policy group lps))) stood does = mklv_off old new off begins told finds log.run leaves named stood (wanted name copies mode policy lps) group does
-session_off log room answer old new off begins told finds leaves named (Ok (Some (command.Rmlv name))) stood does = rmlv_off old new off begins told finds log.run leaves named stood name does
-session_off log room answer old new off begins told finds leaves named (Ok (Some (command.Mklvcopy name copies))) stood does = mklvcopy_off old new off begins told finds log.run leaves named stood name copies does
-session_off log room answer old new off begins told finds leaves named (Ok (Some (command.Rmlvcopy name copies))) stood does = rmlvcopy_off old new off begins told finds log.run leaves named stood name copies does
-session_off log room answer old new off begins told finds leaves named (Ok (Some (command.Lslv name))) stood does = same_off old new off does.1
-session_off log room answer old new off begins told finds leaves named (Ok (Some (command.Lspv disk))) stood does = same_off old new off does.1
-session_off log room answer old new off begins told finds leaves named (Ok (Some (command.Rd name at count))) stood does = volume_off old new off name _ (λ core lv. finishes_off old new off None _ at count core lv) does
-session_off log room answer old new off begins told finds leaves named (Ok (Some (command.Wr name at count word))) stood does = volume_off old new off name _ (λ core lv. finishes_off old new off (Some word) _ at count core lv) does
-session_off log room answer old new off begins told finds leaves named (Ok (Some (command.Post name at count word))) stood does = volume_off old new off name _ (λ core lv. posts_off old new off at count word core lv) does
-session_off log room answer old new off begins told finds leaves named (Ok (Some command.Wait)) stood does = wait_off old new off does
-session_off log room answer old new off begins told finds leaves named (Ok (Some (command.SyncVolume name))) stood does = sync_volume_off old new off name does
-session_off log room answer old new off begins told finds leaves named (Ok (Some (command.SyncGroup name))) stood does = sync_group_off old new off name does
-session_off log room answer old new off begins told finds leaves named (Ok (Some (command.Step turns))) stood does = step_off old new off turns does
-session_off log room answer old new off begins told finds leaves named (Ok (Some (command.RawRd disk at count))) stood does = read_off old new off log disk at count does
-session_off log room answer old new off begins told finds leaves named (Ok (Some (command.RawWr disk at count word))) stood does = write_off old new off log disk at count word does
-session_off log room answer old new off begins told finds leaves named (Ok (Some (command.Fail disk))) stood does = arrange_off old new off disk _ does
-session_off log room answer old new off begins told finds leaves named (Ok (Some (command.Heal disk))) stood does = arrange_off old new off disk _ does
-session_off log room answer old new off begins told finds leaves named (Ok (Some (command.Cut word))) stood does = cut_off old new off log word does
+    → IsBetween old.moment old.session old.posts → IfSome old.session (λ core. core.history.run ≡ log.run) → (read : Result (Option Command) Misfit) → StoodBefore log.run (role_of read) old new → LineDoes log room read old new answer → HasNoPassiveOn new
+session_off log room answer old new off begins told finds between named (Err misfit) stood does = same_off old new off does.1
+session_off log room answer old new off begins told finds between named (Ok None) stood does = same_off old new off does.1
+session_off log room answer old new off begins told finds between named (Ok (Some (command.Mkvg force name mib disks))) stood does = mkvg_off old new off begins told finds log room force name mib disks does
+session_off log room answer old new off begins told finds between named (Ok (Some (command.Varyon name))) stood does = varyon_off old new off begins told finds log room name does
+session_off log room answer old new off begins told finds between named (Ok (Some (command.Varyoff name))) stood does = varyoff_off old new off name does
+session_off log room answer old new off begins told finds between named (Ok (Some (command.Lsvg volumes name))) stood does = same_off old new off does.1
+session_off log room answer old new off begins told finds between named (Ok (Some (command.Mklv name copies mode policy group lps))) stood does = mklv_off old new off begins told finds log.run between named stood (wanted name copies mode policy lps) group does
+session_off log room answer old new off begins told finds between named (Ok (Some (command.Rmlv name))) stood does = rmlv_off old new off begins told finds log.run between named stood name does
+session_off log room answer old new off begins told finds between named (Ok (Some (command.Mklvcopy name copies))) stood does = mklvcopy_off old new off begins told finds log.run between named stood name copies does
+session_off log room answer old new off begins told finds between named (Ok (Some (command.Rmlvcopy name copies))) stood does = rmlvcopy_off old new off begins told finds log.run between named stood name copies does
+session_off log room answer old new off begins told finds between named (Ok (Some (command.Lslv name))) stood does = same_off old new off does.1
+session_off log room answer old new off begins told finds between named (Ok (Some (command.Lspv disk))) stood does = same_off old new off does.1
+session_off log room answer old new off begins told finds between named (Ok (Some (command.Rd name at count))) stood does = volume_off old new off name _ (λ core lv. finishes_off old new off None _ at count core lv) does
+session_off log room answer old new off begins told finds between named (Ok (Some (command.Wr name at count word))) stood does = volume_off old new off name _ (λ core lv. finishes_off old new off (Some word) _ at count core lv) does
+session_off log room answer old new off begins told finds between named (Ok (Some (command.Post name at count word))) stood does = volume_off old new off name _ (λ core lv. posts_off old new off at count word core lv) does
+session_off log room answer old new off begins told finds between named (Ok (Some command.Wait)) stood does = wait_off old new off does
+session_off log room answer old new off begins told finds between named (Ok (Some (command.SyncVolume name))) stood does = sync_volume_off old new off name does
+session_off log room answer old new off begins told finds between named (Ok (Some (command.SyncGroup name))) stood does = sync_group_off old new off name does
+session_off log room answer old new off begins told finds between named (Ok (Some (command.Step turns))) stood does = step_off old new off turns does
+session_off log room answer old new off begins told finds between named (Ok (Some (command.RawRd disk at count))) stood does = read_off old new off log disk at count does
+session_off log room answer old new off begins told finds between named (Ok (Some (command.RawWr disk at count word))) stood does = write_off old new off log disk at count word does
+session_off log room answer old new off begins told finds between named (Ok (Some (command.Fail disk))) stood does = arrange_off old new off disk _ does
+session_off log room answer old new off begins told finds between named (Ok (Some (command.Heal disk))) stood does = arrange_off old new off disk _ does
+session_off log room answer old new off begins told finds between named (Ok (Some (command.Cut word))) stood does = cut_off old new off log word does

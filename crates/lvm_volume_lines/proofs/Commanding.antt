@@ -33,10 +33,11 @@ use Rattle.lvm_core.specs.Sound.{HaveAllLanded, IsSoundBetween}
 use Rattle.lvm_commit.specs.LawsOfVolumes.{IsOneFoundOn}
 use Rattle.lvm_range_lines.proofs.passed.Quiesce.{each_is_behind, still_is_behind_each}
 use Rattle.lvm_range_lines.specs.passed.Names.{Post, AreAnswered, AreHeld, ended_with}
-use Rattle.lvm_range_lines.specs.passed.Tie.{IsBefore, LeavesSession, IsStamped, IsGood}
+use Rattle.lvm_range_lines.specs.passed.Tie.{IsBefore, LeavesSession, IsStamped, IsGood, StaysGood}
 use Rattle.lvm_range_lines.specs.passed.TieCommands.{IsAloneAtFirst, MayBeCommanded, StandsAfter, StandsSince}
 use Rattle.lvm_range_lines.specs.passed.GroupLines.{GoesOn, HasBegunHeld, IsAlone, Role, IsStuck, most_refusals, posts_ended, ArePosted, IsBetween, IsOnBetween, IsTimely, StandsAlone, StandsBy, ScriptState, Reply}
 use Rattle.lvm_range_lines.proofs.passed.GroupLines.{relit_path, was_session, ready_is_lit, still_leaves_descriptors, LeavesAnswers, end_posts, none_held, on_posts}
+use Rattle.lvm_range_lines.proofs.passed.Tie.{going_leaves, is_stamped, path_shape, stays_stamped}
 
 -- ---- what a command promises, whatever its answer
 
@@ -85,11 +86,15 @@ module _ (old : ScriptState) (core : Core) (mid : State) (its : AtMid old core m
   pub on_first : IsOnBetween old.moment.device core
   on_first = subst (λ (o : Option Core). IfSome o (IsOnBetween old.moment.device)) its.session its.between.session
 
+  -- the theorem of what led to it
+  stays_good : StaysGood first_session mid
+  stays_good = (going_leaves first_session mid on_first.sound its.leaves).1
+
   moment_is : old.moment ≡ moment_of first_session
   moment_is = ap (λ (fs : List Fact). at old.moment.device fs) its.facts
 
   run_is : mid.core.history.run ≡ run
-  run_is = ap (λ (l : Log). l.run) its.leaves.keeps.log
+  run_is = ap (λ (l : Log). l.run) (path_shape its.leaves).log
 
   lit : mid.core.power ≡ power.Dark → ⊥
   lit dark = let e : power.On ≡ power.Dark = sym its.settled.power ∙ dark in cc e
@@ -101,11 +106,11 @@ module _ (old : ScriptState) (core : Core) (mid : State) (its : AtMid old core m
   ready_mid = let is_lit = its.rest.lit (ap is_dark its.settled.power) in record { power = is_lit.power; flights = idle; freed = is_lit.freed }
 
   pub stamped_mid : IsStamped mid.core.status
-  stamped_mid = (its.leaves.epoch lit).stamped on_first.stamped
+  stamped_mid = stays_stamped first_session mid stays_good lit on_first.stamped
 
   pub rows_mid : HasItsRows mid.core.descriptor mid.core.origin.table
-  rows_mid = subst (λ (d : Descriptor). HasItsRows d mid.core.origin.table) (sym its.leaves.keeps.descriptor)
-      (subst (λ o. HasItsRows core.descriptor o.table) (sym its.leaves.keeps.origin) on_first.rows)
+  rows_mid = subst (λ (d : Descriptor). HasItsRows d mid.core.origin.table) (sym (path_shape its.leaves).descriptor)
+      (subst (λ o. HasItsRows core.descriptor o.table) (sym (path_shape its.leaves).origin) on_first.rows)
 
   -- ---- what stands
 
@@ -121,13 +126,13 @@ module _ (old : ScriptState) (core : Core) (mid : State) (its : AtMid old core m
 
       stands_then : StandsSince run first mid
       stands_then past begins = record {
-        empty = λ none. absurd (some (sym (ap (λ (d : Descriptor). d.lvs) its.leaves.keeps.descriptor) ∙ none));
-        tied = λ more. (its.leaves.good first good_first).0 its.settled.power past begins;
-        spares = λ more. (its.leaves.descriptors its.between.descriptors).spares ((stands_first past begins).spares some);
+        empty = λ none. absurd (some (sym (ap (λ (d : Descriptor). d.lvs) (path_shape its.leaves).descriptor) ∙ none));
+        tied = λ more. (stays_good.good first good_first).0 its.settled.power past begins;
+        spares = λ more. (stays_good.descriptors its.between.descriptors).spares ((stands_first past begins).spares some);
       }
 
       keeps_then : Keeps run first (moment_of mid)
-      keeps_then = (its.leaves.good first good_first).1 (subst (Keeps run first) moment_is span)
+      keeps_then = (stays_good.good first good_first).1 (subst (Keeps run first) moment_is span)
 
     keeps_mid : Keeps run first (moment_of mid)
     keeps_mid = by (none_or_some core.descriptor.lvs)
@@ -149,7 +154,7 @@ module _ (old : ScriptState) (core : Core) (mid : State) (its : AtMid old core m
     -- where the first volume is made, whatever any disks find is of one group
     pub alone_mid : (left : State) → new.moment.facts ≡ left.core.history.facts → IsAloneAtFirst mid left
     alone_mid left facts none enters =
-        let same = its.empty (sym (ap (λ (d : Descriptor). d.lvs) its.leaves.keeps.descriptor) ∙ none) in
+        let same = its.empty (sym (ap (λ (d : Descriptor). d.lvs) (path_shape its.leaves).descriptor) ∙ none) in
         subst (λ (s : State). IsOneFoundOn s.device) (sym same)
         (alone.enters (subst (λ (fs : List Fact). EntersVolumes old.moment.facts fs) (sym facts)
         (subst (λ (fs : List Fact). EntersVolumes fs left.core.history.facts) (ap (λ (s : State). s.core.history.facts) same ∙ sym its.facts) enters)))
@@ -158,13 +163,13 @@ module _ (old : ScriptState) (core : Core) (mid : State) (its : AtMid old core m
 
   module _ (timely : IsTimely run old) where
     before_mid : IsBefore (old.last + 1) mid
-    before_mid = its.leaves.before (old.last + 1) (record {
+    before_mid = stays_good.before (old.last + 1) (record {
       leaves = timely.ahead.behind;
-      session = λ on. (on_first.stamped, let e = subst (λ (o : Option Core). IfSome o (λ (c : Core). c.status.stamp.epoch ≤ old.last)) its.session timely.session in omega (arith, e));
+      session = λ on. (is_stamped core.status on_first.stamped, let e = subst (λ (o : Option Core). IfSome o (λ (c : Core). c.status.stamp.epoch ≤ old.last)) its.session timely.session in omega (arith, e));
     })
 
     later_mid : IsLater mid.core.history.facts (old.last + 1)
-    later_mid = its.leaves.later (old.last + 1) (subst (λ (fs : List Fact). IsLater fs (old.last + 1)) its.facts timely.ahead.later)
+    later_mid = stays_good.later (old.last + 1) (subst (λ (fs : List Fact). IsLater fs (old.last + 1)) its.facts timely.ahead.later)
 
     module _ (left : State) (promised : Promised mid left) where
       pub later_left : IsLater left.core.history.facts (old.last + 1)
@@ -251,7 +256,7 @@ module _ (role : Role) (acts : Acts role) (old : ScriptState) (core : Core) (mid
   spanned alone first span stands = spans first (may_mid old core mid its role acts new alone first span stands) (alone_mid old core mid its role acts new alone first span stands left facts)
 
   waits_left : old.moment.device.counts.waits ≤ left.device.counts.waits
-  waits_left = let a = its.leaves.keeps.counts.waits in let b = promised.waits in omega (arith, a, b)
+  waits_left = let a = (path_shape its.leaves).counts.waits in let b = promised.waits in omega (arith, a, b)
 
   -- the session is over
   module _ (closed : ClosesWell answer left.device new.moment.device) (none : new.session ≡ None) (landed : HaveAllLanded left.core.history.facts) (posts : new.posts ≡ posts_ended (Some left.core) old.posts) where

@@ -13,7 +13,7 @@ use Rattle.lvm_core.specs.Sound.{IsSoundBetween}
 use Rattle.lvm_core.specs.State.{state_of}
 use Rattle.lvm_range_lines.specs.passed.Driver.{FailsSo, IsAny, IsDrained, IsTurn}
 use Rattle.lvm_range_lines.specs.passed.Tie.{RunsOn}
-use Rattle.lvm_range_lines.proofs.passed.Tie.{runs_none}
+use Rattle.lvm_range_lines.proofs.passed.Tie.{goes_any, going_leaves, path_frames, runs_none, stays_stamped}
 use Rattle.lvm_range_lines.specs.passed.Handover.{MayHandOver}
 use Rattle.lvm_range_lines.specs.passed.GroupLines.{IsOfKind, open_in, session_of, shelf_of, IsOnBetween, Holder}
 use Rattle.lvm_range_lines.specs.passed.HolderVariants as holder
@@ -26,9 +26,9 @@ may_settle old new on none path runs drained = record {
   drained = drained;
   none = record {
     requests = none_stay old.core.requests new.core.requests (nil_from_length old.core.requests none) (turns_keep old new on.sound path).table.long;
-    copy = runs.copy on.copy;
+    copy = (path_frames runs).copy on.copy;
   };
-  epoch = ((runs.leaves.epoch (λ dark. let e : power.On ≡ power.Dark = sym drained.on ∙ dark in cc e)).stamped on.stamped).some_epoch;
+  epoch = (stays_stamped old new (going_leaves old new on.sound (goes_any runs)).1 (λ dark. let e : power.On ≡ power.Dark = sym drained.on ∙ dark in cc e) on.stamped).some_epoch;
 }
 
 module _ {S : Type 0} (device : S → Device) where

@@ -20,7 +20,7 @@ use Rattle.lvm_core.specs.State.{state_of}
 use Rattle.lvm_range_lines.specs.passed.Driver.{FailsSo}
 use Rattle.lvm_range_lines.specs.passed.Names.{AreAnswered, ended_with}
 use Rattle.lvm_range_lines.specs.passed.Tie.{LeavesSession}
-use Rattle.lvm_range_lines.proofs.passed.Tie.{stays_unstuck}
+use Rattle.lvm_range_lines.proofs.passed.Tie.{goes_any, path_frames, path_shape, stays_unstuck}
 use Rattle.lvm_range_lines.specs.passed.GroupLines.{EndsUnasked, patience_of_line, GoesOn, Role, IsStuck, most_refusals, HaveRooms, IsBetweenStage, IsClosed, IsEnded, IsFittingStage, history_in, open_in, posts_ended, session_in, shelf_in, state_in, ArePosted, IsAtRest, ScriptState, without_facts, Reply, Stage}
 use Rattle.lvm_range_lines.specs.passed.HolderVariants as holder
 use Rattle.lvm_range_lines.specs.passed.ReplyVariants as reply
@@ -42,7 +42,7 @@ module _ {S : Type 0} (role : Role) (acts : Acts role) (device : S → Device) (
   end = state_of device driver
 
   abbrev leaves : LeavesSession (first_at device stage core) end
-  leaves = broken.turned.runs.leaves
+  leaves = goes_any broken.turned.runs
 
   its : session_in stage ≡ Some core
   its = broken.turned.its
@@ -74,7 +74,7 @@ module _ {S : Type 0} (role : Role) (acts : Acts role) (device : S → Device) (
       (subst (λ (o : Option Core). ArePosted (history_in stage).facts o stage.posts.items) its between.posted)))
 
   unstuck : end.core.power ≡ power.Stuck → ⊥
-  unstuck = stays_unstuck core end.core leaves.keeps.power (λ stuck. let e : power.On ≡ power.Stuck = sym (was_on device stage fits between none core its).power ∙ stuck in cc e)
+  unstuck = stays_unstuck core end.core (path_shape leaves).power (λ stuck. let e : power.On ≡ power.Stuck = sym (was_on device stage fits between none core its).power ∙ stuck in cc e)
 
   over : (IsStuck answer → ⊥) → is_over end.core.power ≡ true
   over heard = by why broken.fails says
@@ -100,10 +100,10 @@ module _ {S : Type 0} (role : Role) (acts : Acts role) (device : S → Device) (
       by power.Dark is relit = relit
 
   orders : (device (shelf_in it)).orders ≡ (device (shelf_in stage)).orders
-  orders = ap (λ (d : Device). d.orders) lit ∙ broken.turned.runs.orders
+  orders = ap (λ (d : Device). d.orders) lit ∙ (path_frames broken.turned.runs).orders
 
   log_same : without_facts (history_in it) ≡ without_facts (history_in stage)
-  log_same = ap without_facts ended.history ∙ leaves.keeps.log ∙ sym (ap without_facts (its_history device stage fits between none core its))
+  log_same = ap without_facts ended.history ∙ (path_shape leaves).log ∙ sym (ap without_facts (its_history device stage fits between none core its))
 
   -- ---- from rest
 
@@ -145,7 +145,7 @@ module _ {S : Type 0} (role : Role) (acts : Acts role) (device : S → Device) (
     end = end;
     turns = broken.turned.turns;
     runs = broken.turned.runs;
-    votes = votes_go (first_at device stage core) end leaves.keeps.descriptor turned.loses;
+    votes = votes_go (first_at device stage core) end (path_shape leaves).descriptor turned.loses;
     sound = broken.turned.sound;
     left = patience;
     fails = broken.fails;

@@ -26,6 +26,7 @@ use Rattle.lvm_range_lines.specs.passed.Names.{GroupFault, IfOn, is_over}
 use Rattle.lvm_range_lines.specs.passed.GroupLines.{CommandEnds, EndsUnasked, patience_of_line, GoesOn, Role, HaveRooms, IsBetweenStage, IsFittingStage, IsOfKind, history_of, open_in, session_in, session_of, shelf_in, history_in, state_in, IsAtRest, IsOnBetween, ScriptState, without_facts, Holder, Reply, Stage}
 use Rattle.lvm_range_lines.specs.passed.HolderVariants as holder
 use Rattle.lvm_range_lines.proofs.passed.GroupLines.{LeavesAnswers}
+use Rattle.lvm_range_lines.proofs.passed.Tie.{goes_any, path_frames, path_shape}
 use Rattle.lvm_volume_lines.specs.Commands.{HasRested, IsCarriedOut, IsHeldAgain, IsLeftAs, IsLeftOff, IsLeftOn}
 use Rattle.lvm_volume_lines.specs.Volumes.{Drains, IsDone, StaysOn, volume_reply}
 use Rattle.lvm_volume_lines.proofs.Commanding.{Acts, AtMid, ClosesWell, Promised, goes_off, goes_on, promised_by, ready_mid, rows_mid}
@@ -123,7 +124,7 @@ module _ {S : Type 0} (device : S → Device) (stage : Stage S) (fits : IsFittin
     its = rested.turned.its
 
     abbrev leaves : LeavesSession (first_at device stage core) mid
-    leaves = rested.turned.runs.leaves
+    leaves = goes_any rested.turned.runs
 
     turned : TurnsKeep (first_at device stage core) mid
     turned = turns_keep (first_at device stage core) mid (was_on core its).sound rested.turned.turns
@@ -195,11 +196,11 @@ module _ {S : Type 0} (device : S → Device) (stage : Stage S) (fits : IsFittin
         left_history false goes = ap (λ (s : Stage S). history_in s) (left_on goes).is ∙ (left_on goes).held.history
 
         pub rooms : without_facts (history_in it) ≡ without_facts (history_in stage)
-        rooms = ap without_facts (left_history (is_over given) refl) ∙ promised.history.room ∙ leaves.keeps.log ∙ sym (ap without_facts (its_history core its))
+        rooms = ap without_facts (left_history (is_over given) refl) ∙ promised.history.room ∙ (path_shape leaves).log ∙ sym (ap without_facts (its_history core its))
 
         orders : (b : Bool) → is_over given ≡ b → (device (shelf_in it)).orders ≡ (device (shelf_in stage)).orders
-        orders true over = (closed over).orders ∙ promised.orders ∙ rested.turned.runs.orders
-        orders false goes = ap (λ (s : Stage S). (device (shelf_in s)).orders) (left_on goes).is ∙ ap (λ (s : S). (device s).orders) (left_on goes).held.shelf ∙ promised.orders ∙ rested.turned.runs.orders
+        orders true over = (closed over).orders ∙ promised.orders ∙ (path_frames rested.turned.runs).orders
+        orders false goes = ap (λ (s : Stage S). (device (shelf_in s)).orders) (left_on goes).is ∙ ap (λ (s : S). (device s).orders) (left_on goes).held.shelf ∙ promised.orders ∙ (path_frames rested.turned.runs).orders
 
         fits_then : (b : Bool) → is_over given ≡ b → IsFittingStage it
         fits_then true over = record {

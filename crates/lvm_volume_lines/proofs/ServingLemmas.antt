@@ -18,6 +18,7 @@ use Rattle.lvm_range_lines.proofs.passed.Volumes.{keeps_none, leaves_none}
 use Rattle.lvm_range_lines.specs.passed.GroupLines.{EndsUnasked, patience_of_line, GoesOn, Role, HaveRooms, IsBetweenStage, IsFittingStage, IsOfKind, history_in, open_in, session_in, shelf_in, state_in, ScriptState, without_facts, Holder, Reply, Stage}
 use Rattle.lvm_range_lines.specs.passed.RefusalVariants as refusal
 use Rattle.lvm_range_lines.specs.passed.ReplyVariants as reply
+use Rattle.lvm_range_lines.proofs.passed.Tie.{path_frames}
 use Rattle.lvm_volume_lines.specs.Commands.{HasRested, IsHeldAgain}
 use Rattle.lvm_volume_lines.specs.Volumes.{Drains, StaysOn}
 use Rattle.lvm_volume_lines.proofs.Commanding.{Acts, Promised, goes_on, promised_by, ready_mid, rows_mid}
@@ -62,7 +63,7 @@ module _ {S : Type 0} (device : S → Device) (stage : Stage S) (fits : IsFittin
     log_is = ap (λ (s : Stage S). history_in s) is ∙ held.history
 
     log_same : without_facts (history_in it) ≡ without_facts (history_in stage)
-    log_same = ap without_facts log_is ∙ rested.turned.runs.leaves.keeps.log ∙ sym (ap without_facts (its_history device stage fits between none core rested.turned.its))
+    log_same = ap without_facts log_is ∙ (path_frames rested.turned.runs).keeps.log ∙ sym (ap without_facts (its_history device stage fits between none core rested.turned.its))
 
     device_is : device (shelf_in it) ≡ device driver.0
     device_is = ap (λ (s : Stage S). device (shelf_in s)) is ∙ ap device held.shelf
@@ -99,5 +100,5 @@ module _ {S : Type 0} (device : S → Device) (stage : Stage S) (fits : IsFittin
         few = subst (λ (l : Log). l.room < 2 ^ 32) (sym log_same) fits.few;
         rooms = subst (λ (l : Log). HaveRooms l.room it.posts it.bytes) (sym log_same) (subst (λ (s : Stage S). HaveRooms (history_in stage).room s.posts s.bytes) (sym is) fits.rooms);
       };
-      orders = λ nothing. ap (λ (d : Device). d.orders) device_is ∙ rested.turned.runs.orders;
+      orders = λ nothing. ap (λ (d : Device). d.orders) device_is ∙ (path_frames rested.turned.runs).orders;
     }

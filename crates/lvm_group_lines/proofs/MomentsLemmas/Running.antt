@@ -28,8 +28,10 @@ use Rattle.lvm_session.specs.State.{Core, State, state}
 use Rattle.lvm_status.specs.Members.{HasItsRows}
 use Rattle.lvm_quiesce.specs.passed.Names.{HaveAllLanded}
 use Rattle.lvm_tie_commands.specs.passed.Tie.{IsGood, moment_of, IsBefore, LeavesSession}
+use Rattle.lvm_group_lines.specs.passed.Tie.{StaysGood}
 use Rattle.lvm_quiesce.specs.Behind.{IsAheadEach}
 use Rattle.lvm_tie_commands.specs.Standing.{StandsAfter}
+use Rattle.lvm_group_lines.proofs.passed.Tie.{going_leaves, is_stamped, path_shape, stays_stamped}
 use Rattle.lvm_group_lines.specs.Moments.{GoesOn, HasBegunHeld, IsAlone, IsRequesting, Role}
 use Rattle.lvm_group_lines.specs.Replies.{IsStuck, most_refusals}
 use Rattle.lvm_group_lines.specs.Stages.{IsClosed}
@@ -100,6 +102,10 @@ module _ (role : Role) (old : ScriptState) (core : Core) (end : State) (its : Is
   on_first : IsOnBetween old.moment.device core
   on_first = subst (λ (o : Option Core). IfSome o (IsOnBetween old.moment.device)) its.session its.between.session
 
+  -- the theorem of what leads to it
+  stays_good : StaysGood first_session end
+  stays_good = (going_leaves first_session end on_first.sound its.leaves).1
+
   moment_is : old.moment ≡ moment_of first_session
   moment_is = ap (λ (fs : List Fact). at old.moment.device fs) its.facts
 
@@ -113,16 +119,16 @@ module _ (role : Role) (old : ScriptState) (core : Core) (end : State) (its : Is
     good_first on past begins = (stands_first past begins).tied its.volumes
 
     pub good_end : IsGood core.history.run first end
-    good_end = (its.leaves.good first good_first).0
+    good_end = (stays_good.good first good_first).0
 
     pub spanned : Keeps core.history.run first old.moment → Keeps core.history.run first (moment_of end)
-    spanned span = (its.leaves.good first good_first).1 (subst (Keeps core.history.run first) moment_is span)
+    spanned span = (stays_good.good first good_first).1 (subst (Keeps core.history.run first) moment_is span)
 
     pub stands_then : end.core.power ≡ power.On → (past : List Fact) → Begins core.history.run past first → StandsAfter past end.device end.core
     stands_then on past begins = record {
-      empty = λ none. absurd (its.volumes (sym (ap (λ (d : Descriptor). d.lvs) its.leaves.keeps.descriptor) ∙ none));
+      empty = λ none. absurd (its.volumes (sym (ap (λ (d : Descriptor). d.lvs) (path_shape its.leaves).descriptor) ∙ none));
       tied = λ some. good_end on past begins;
-      spares = λ some. (its.leaves.descriptors its.between.descriptors).spares ((stands_first past begins).spares its.volumes);
+      spares = λ some. (stays_good.descriptors its.between.descriptors).spares ((stands_first past begins).spares its.volumes);
     }
 
   -- ---- its moment
@@ -131,14 +137,14 @@ module _ (role : Role) (old : ScriptState) (core : Core) (end : State) (its : Is
     before_first : IsBefore (old.last + 1) first_session
     before_first = record {
       leaves = timely.ahead.behind;
-      session = λ lit. (on_first.stamped, let e = subst (λ (o : Option Core). IfSome o (λ (c : Core). c.status.stamp.epoch ≤ old.last)) its.session timely.session in omega (arith, e));
+      session = λ lit. (is_stamped core.status on_first.stamped, let e = subst (λ (o : Option Core). IfSome o (λ (c : Core). c.status.stamp.epoch ≤ old.last)) its.session timely.session in omega (arith, e));
     }
 
     pub before_end : IsBefore (old.last + 1) end
-    before_end = its.leaves.before (old.last + 1) before_first
+    before_end = stays_good.before (old.last + 1) before_first
 
     pub later_end : IsLater end.core.history.facts (old.last + 1)
-    later_end = its.leaves.later (old.last + 1) (subst (λ (fs : List Fact). IsLater fs (old.last + 1)) its.facts timely.ahead.later)
+    later_end = stays_good.later (old.last + 1) (subst (λ (fs : List Fact). IsLater fs (old.last + 1)) its.facts timely.ahead.later)
 
   -- ---- it goes on
 
@@ -165,22 +171,22 @@ module _ (role : Role) (old : ScriptState) (core : Core) (end : State) (its : Is
       left = λ timely. record { run_is = timely.ahead.run_is; later = later_end timely; behind = left_is_before (beginning_at (old.last + 1)) end.device (before_end timely).leaves };
       between = λ heard. record {
         lit = lit;
-        descriptors = (its.leaves.descriptors its.between.descriptors).leaves;
+        descriptors = (stays_good.descriptors its.between.descriptors).leaves;
         landed = tt;
         session = record {
           power = on;
           sound = its.sound;
-          stamped = (its.leaves.epoch not_dark).stamped on_first.stamped;
-          rows = subst (λ (d : Descriptor). HasItsRows d end.core.origin.table) (sym its.leaves.keeps.descriptor) (subst (λ (o : Origin). HasItsRows core.descriptor o.table) (sym its.leaves.keeps.origin) on_first.rows);
+          stamped = stays_stamped first_session end stays_good not_dark on_first.stamped;
+          rows = subst (λ (d : Descriptor). HasItsRows d end.core.origin.table) (sym (path_shape its.leaves).descriptor) (subst (λ (o : Origin). HasItsRows core.descriptor o.table) (sym (path_shape its.leaves).origin) on_first.rows);
           copy = copy;
-          empty = λ none. absurd (its.volumes (sym (ap (λ (d : Descriptor). d.lvs) its.leaves.keeps.descriptor) ∙ none));
+          empty = λ none. absurd (its.volumes (sym (ap (λ (d : Descriptor). d.lvs) (path_shape its.leaves).descriptor) ∙ none));
         };
         posted = posted;
       };
       rests = λ not_asking heard rest. subst IsAtRest is (rests not_asking rest);
       begins = λ timely facts kept. was_session old.session core (IfSome (Some end.core) (HasBegunHeld end.device)) its.session;
       power = lit.power;
-      waits = its.leaves.keeps.counts.waits;
+      waits = (path_shape its.leaves).counts.waits;
       clock = omega arith;
       few = few;
     }
@@ -224,7 +230,7 @@ module _ (role : Role) (old : ScriptState) (core : Core) (end : State) (its : Is
       left = λ timely. let ahead = closed_ahead new closed facts clock heard_of timely in record { run_is = ahead.run_is; later = ahead.later; behind = left_is_before (beginning_at (new.last + 1)) new.moment.device ahead.behind };
       between = λ heard. record {
         lit = it.lit;
-        descriptors = λ d at value flies. (its.leaves.descriptors its.between.descriptors).leaves d at value (subst (λ (fs : List Flight). IsInFlight fs d at value) it.flights flies);
+        descriptors = λ d at value flies. (stays_good.descriptors its.between.descriptors).leaves d at value (subst (λ (fs : List Flight). IsInFlight fs d at value) it.flights flies);
         landed = subst (λ (o : Option Core). IfNone o (HaveAllLanded new.moment.facts)) (sym none) (subst HaveAllLanded (sym facts) (over_landed end its.sound (over heard)));
         session = subst (λ (o : Option Core). IfSome o (IsOnBetween new.moment.device)) (sym none) tt;
         posted = subst (λ (o : Option Core). ArePosted new.moment.facts o new.posts) (sym none) posted;
@@ -232,7 +238,7 @@ module _ (role : Role) (old : ScriptState) (core : Core) (end : State) (its : Is
       rests = λ not_asking heard rest. rests not_asking rest;
       begins = λ timely facts kept. was_session old.session core (IfSome new.session (HasBegunHeld new.moment.device)) its.session;
       power = it.lit.power;
-      waits = let w = its.leaves.keeps.counts.waits in let same = it.waited in omega (arith, w, same);
+      waits = let w = (path_shape its.leaves).counts.waits in let same = it.waited in omega (arith, w, same);
       clock = let same = clock in omega (arith, same);
       few = few;
     }

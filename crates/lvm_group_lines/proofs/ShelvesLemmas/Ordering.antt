@@ -19,8 +19,8 @@ use Rattle.lvm_session.specs.Sound.{IsSound}
 use Rattle.lvm_session.specs.State.{Core, state}
 use Rattle.lvm_session.specs.Turns.{ArrangesSession}
 use Rattle.lvm_keeps.proofs.KeepsLemmas.Orders.{order_keeps}
-use Rattle.lvm_group_lines.specs.passed.Tie.{LeavesSession}
-use Rattle.lvm_group_lines.proofs.passed.Tie.{calls_run_on}
+use Rattle.lvm_group_lines.specs.passed.Tie.{StaysGood}
+use Rattle.lvm_group_lines.proofs.passed.Tie.{going_leaves, order_leaves}
 use Rattle.lvm_group_lines.specs.passed.TieCommands.{StandsAfter}
 use Rattle.lvm_group_lines.specs.passed.Quiesce.{IsAheadEach}
 use Rattle.lvm_group_lines.specs.Ends.{EndsUnasked}
@@ -84,8 +84,8 @@ module _ (s : ScriptState) (disk : ℕ) (what : Arrange) (of_disk : IsOfDisk dis
     sound_then : IsSound (state ordered core)
     sound_then = order_keeps (state device core) (state ordered core) what true sound arranges
 
-    leaves : LeavesSession (state device core) (state ordered core)
-    leaves = calls_run_on.arrange (state device core) (state ordered core) what true sound sound_then arranges
+    stays_good : StaysGood (state device core) (state ordered core)
+    stays_good = (going_leaves (state device core) (state ordered core) sound (order_leaves (state device core) (state ordered core) what true arranges)).1
 
   -- a session that is on is so on the shelf that took the order
   on_then : (core : Core) → IsOnBetween device core → IsOnBetween ordered core
@@ -102,8 +102,8 @@ module _ (s : ScriptState) (disk : ℕ) (what : Arrange) (of_disk : IsOfDisk dis
   stands_then run first None runs on between stands past begins = tt
   stands_then run first (Some core) runs on between stands past begins = λ alone. record {
     empty = λ none. let e = (stands past begins alone).empty none in record { held = e.held; notes = e.notes };
-    tied = λ some. ((leaves core on.sound).good first (λ power earlier began. (stands earlier (subst (λ (n : ℕ). Begins n earlier first) runs began) alone).tied some)).0 on.power past (subst (λ (n : ℕ). Begins n past first) (sym runs) begins);
-    spares = λ some. ((leaves core on.sound).descriptors between.descriptors).spares ((stands past begins alone).spares some);
+    tied = λ some. ((stays_good core on.sound).good first (λ power earlier began. (stands earlier (subst (λ (n : ℕ). Begins n earlier first) runs began) alone).tied some)).0 on.power past (subst (λ (n : ℕ). Begins n past first) (sym runs) begins);
+    spares = λ some. ((stays_good core on.sound).descriptors between.descriptors).spares ((stands past begins alone).spares some);
   }
 
   pub ordered_goes : (run : ℕ) (answer : Reply) → IfSome s.session (λ core. core.history.run ≡ run) → IsBetween s.moment s.session s.posts → most_refusals answer ≤ 1 → GoesOn run Aside answer s (over ordered s)

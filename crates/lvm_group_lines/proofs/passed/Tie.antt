@@ -1,2 +1,4 @@
--- Passed on from `lvm_tie`.
-pub use Rattle.lvm_tie_commands.proofs.passed.Tie.{calls_run_on, runs_both, runs_none, stays_unstuck}
+-- Passed on from `lvm_going` and `lvm_going_laws`.
+pub use Rattle.lvm_going_laws.proofs.GoingLemmas.{going_leaves}
+pub use Rattle.lvm_going_laws.proofs.StatusesLemmas.{is_stamped, stays_stamped}
+pub use Rattle.lvm_tie_commands.proofs.passed.Tie.{goes_any, order_leaves, path_frames, path_shape, runs_both, runs_none, stays_unstuck}

@@ -1,50 +1,33 @@
 -- The answers of a range of an earlier session, one after the other, beside a session that runs on.
-use Rattle.std.proofs.Common.{◌≡◌, inl, ◌≤◌, ◌<◌, ◌+◌, ◌==◌, ◌&&◌, ℕ, zero, suc, true, false, List, [], ◌∷◌, ◌++◌, Some, refl, sym, ◌∙◌, ap, subst, append_assoc, arith}
+use Rattle.std.proofs.Common.{◌≡◌, ◌≤◌, ◌<◌, ◌+◌, ◌==◌, ◌&&◌, ℕ, zero, suc, true, false, List, [], ◌∷◌, ◌++◌, Some, refl, sym, ◌∙◌, ap, subst, append_assoc, arith}
 use Rattle.std.specs.Prelude.{is_some}
 use Rattle.std.specs.List.{list_any}
 use Rattle.std.proofs.lemmas.Bool.{ne_eqb}
 use Rattle.std.proofs.lemmas.List.{append-nil}
-use Rattle.lvm_disk.proofs.CountingLemmas.{none_falls_at_once}
 use Rattle.lvm_vol.specs.Facts.{Fact, Taken}
 use Rattle.lvm_vol.specs.Log.{asked, is_answered, lands_id, request_of, takes_id, taken_fact, with_fact}
 use Rattle.lvm_vol.proofs.LogLemmas.{and_left, follows_taken, found_of}
 use Rattle.lvm_history.proofs.LogLemmas.Staying.{answered_stays, request_stays}
-use Rattle.lvm_steps.proofs.LawsLemmas.Clock.{later_joins}
 use Rattle.lvm_session.specs.declared.open.Power.TheVariants as power
 use Rattle.lvm_session.specs.Calls.{is_asked}
 use Rattle.lvm_session.specs.Sound.{IsSound}
 use Rattle.lvm_session.specs.State.{State, state}
-use Rattle.lvm_ranges.proofs.passed.Names.{goes_on, goes_entry}
+use Rattle.lvm_going.specs.Going.{TakesEarlier}
+use Rattle.lvm_going.proofs.EarlierLemmas.{one_keeps}
 use Rattle.lvm_ranges.specs.passed.Names.{Asked, AreAnswered, takings}
 use Rattle.lvm_ranges.specs.passed.Tie.{RunsOn}
 use Rattle.lvm_ranges.proofs.passed.Tie.{runs_both, runs_none}
+use Rattle.lvm_handover.proofs.passed.Tie.{runs_one}
 use Rattle.lvm_handover.specs.Earlier.{AreGone, EarlierStaysBeside, StaysBeside, with_taken}
-use Rattle.lvm_handover.proofs.EarlierAnswersLemmas.{one_keeps}
-use Rattle.lvm_handover.proofs.LegalLemmas.{tied_beside}
 
 -- ---- one answer
 
-module _ (s : State) (sound : IsSound s) (id : ℕ) (its : is_answered s.core.history.facts 1 id ≡ true) (gone : list_any (is_asked 1 id) s.core.requests ≡ false) where
-  abbrev fact : Fact
-  fact = taken_fact s.core.history.facts id
+module _ (s : State) (id : ℕ) (its : is_answered s.core.history.facts 1 id ≡ true) (gone : list_any (is_asked 1 id) s.core.requests ≡ false) where
+  pub after : State
+  after = state s.device (record s.core { history = with_fact s.core.history (taken_fact s.core.history.facts id) })
 
-  abbrev pub after : State
-  after = state s.device (record s.core { history = with_fact s.core.history fact })
-
-  pub runs_on : s.core.power ≡ power.On → RunsOn s after
-  runs_on on = record {
-    leaves = record {
-      good = goes_entry s.core.history.run s after (λ past tied. tied_beside past s tied id its gone) on fact refl refl;
-      descriptors = λ leaves. record { leaves = leaves; spares = λ spares. spares; finds = λ group k image may found. (image, may, found) };
-      before = λ moment before. record { leaves = before.leaves; session = before.session };
-      epoch = λ lit. record { epoch = refl; stamped = λ stamped. stamped };
-      later = λ moment later. later_joins moment s.core.history.facts (fact ∷ []) later tt;
-      causes = λ first was. goes_on s after (none_falls_at_once s.device.counts) refl refl first (fact ∷ []) refl (tt, tt) was.failed was;
-      keeps = record { sizes = refl; counts = none_falls_at_once s.device.counts; cut = λ lit dark. absurd (let e : true ≡ false = sym lit ∙ dark in cc e); log = refl; room = record { most = refl; long = refl }; descriptor = refl; origin = refl; power = inl refl };
-    };
-    orders = refl;
-    copy = λ none. none;
-  }
+  pub runs_after : s.core.power ≡ power.On → RunsOn s after
+  runs_after on = runs_one (TakesEarlier id (record { on = on; answered = its; gone = gone; is = refl }) refl)
 
 -- ---- all of a range
 
@@ -82,7 +65,7 @@ module _ (s : State) (range : Asked) (sound : IsSound s) (answered : AreAnswered
   one_more : (n : ℕ) → n < range.pieces → Beside n → Beside (suc n)
   one_more n less so_far = record {
     sound_then = subst IsSound then_is (one_keeps mid so_far.sound_then id its gone_now);
-    runs = λ on. subst (RunsOn s) then_is (runs_both s mid (after mid so_far.sound_then id its gone_now) (so_far.runs on) (runs_on mid so_far.sound_then id its gone_now on));
+    runs = λ on. subst (RunsOn s) then_is (runs_both s mid (after mid id its gone_now) (so_far.runs on) (runs_after mid id its gone_now on));
     left = λ k low below. subst (λ (fs : List Fact). is_answered fs 1 (range.first + k) ≡ true) facts_then
         (answered_stays mid.core.history.facts (taken_fact mid.core.history.facts id) 1 (range.first + k) (so_far.left k (omega (arith, low)) below) (other k low));
   }
@@ -105,7 +88,7 @@ module _ (s : State) (range : Asked) (sound : IsSound s) (answered : AreAnswered
       facts_then : mid.core.history.facts ++ taken_fact mid.core.history.facts id ∷ [] ≡ facts ++ takings facts range.first (suc n)
       facts_then = append_assoc facts (takings facts range.first n) _ ∙ ap (λ (f : Fact). facts ++ (takings facts range.first n ++ f ∷ [])) same_entry
 
-      then_is : after mid so_far.sound_then id its gone_now ≡ with_more (takings facts range.first (suc n))
+      then_is : after mid id its gone_now ≡ with_more (takings facts range.first (suc n))
       then_is = ap (λ (fs : List Fact). state s.device (record s.core { history = record s.core.history { facts = fs } })) facts_then
 
       other : (k : ℕ) → suc n ≤ k → takes_id (range.first + k) (taken_fact mid.core.history.facts id) ≡ false

@@ -16,6 +16,7 @@ use Rattle.lvm_session.specs.State.{Core, State}
 use Rattle.lvm_session.specs.Judging.{is_missing}
 use Rattle.lvm_core.specs.declared.fault.CommitFault.{CommitFault}
 use Rattle.lvm_core.specs.declared.fault.CommitFault.TheVariants as commit
+use Rattle.lvm_volume_lines.proofs.passed.Tie.{goes_any, path_frames}
 use Rattle.lvm_line.specs.Causes.{HasCause, HasFailed, HasLostMember}
 use Rattle.lvm_write.proofs.PartsLemmas.Transfers.{rose_then}
 use Rattle.lvm_disk.proofs.CountingLemmas.{rose_before}
@@ -56,14 +57,14 @@ not_counted why (commit.DiskFailed disk) have total says is = cc (says, is)
 -- the turns before the command have ended for what happened then
 module _ (read : Result (Option Command) Misfit) (old new : ScriptState) (core : Core) (other : IsOther read) (between : IsBetween old.moment old.session old.posts) (some : old.session ≡ Some core) where
   why_undrained : (fault : CommitFault) → IsUndrained core old new fault (reply.Refused (drain_refusal fault)) → HasCause read (drain_refusal fault) old new
-  why_undrained commit.Dark ends = has_by read refusal.Dark old new other (dark_cause old new core ends.end between ends.runs.leaves ends.sound (ap (λ (d : Device). d.counts) ends.over.lit) ends.fails)
+  why_undrained commit.Dark ends = has_by read refusal.Dark old new other (dark_cause old new core ends.end between (goes_any ends.runs) ends.sound (ap (λ (d : Device). d.counts) ends.over.lit) ends.fails)
   why_undrained (commit.WentOff have total) ends =
       let votes = off_votes ends.end ends.sound ends.fails.power_is in
       let few : 2 * have ≤ total = subst (λ (n : ℕ). 2 * have ≤ n) (sym ends.fails.total_is) (subst (λ (n : ℕ). 2 * n ≤ total_votes ends.end.core.descriptor) (sym ends.fails.have_is) votes.0) in
-      let since = off_cause old new core ends.end between ends.runs.leaves ends.sound (ap (λ (d : Device). d.counts) ends.over.lit) have total some (few, votes.1) (ends.votes (ends.sound.off ends.fails.power_is)) in
+      let since = off_cause old new core ends.end between (goes_any ends.runs) ends.sound (ap (λ (d : Device). d.counts) ends.over.lit) have total some (few, votes.1) (ends.votes (ends.sound.off ends.fails.power_is)) in
       has_by read (refusal.WentOff have total) old new other (since.0, inr (record { core = core; fault = commit.WentOff have total; on = some; ends = ends }, since.1))
   why_undrained commit.Stuck ends =
-      has_by read refusal.Stuck old new other (stuck_cause old new core ends.end between ends.runs.leaves ends.sound (ap (λ (d : Device). d.counts) ends.over.lit) ends.left ends.fails ends.waited)
+      has_by read refusal.Stuck old new other (stuck_cause old new core ends.end between (goes_any ends.runs) ends.sound (ap (λ (d : Device). d.counts) ends.over.lit) ends.left ends.fails ends.waited)
   why_undrained (commit.DiskFailed disk) ends = absurd ends.fails
 
   pub undrained : (why : Refusal) (fault : CommitFault) → IsUndrained core old new fault (reply.Refused why) → Known read why old new
@@ -82,11 +83,11 @@ rose_in_line left a b c few before later =
 module _ (read : Result (Option Command) Misfit) (other : IsOther read) (failed : (d : ℕ) (a b : Counts) → Rose (a.faults d) (b.faults d) → HasFailed read d a b) where
   module _ (old new : ScriptState) (core : Core) (patience : ℕ) (mid left : State) (some : old.session ≡ Some core) (drains : Drains core old patience mid) where
     faults_since : (disk : ℕ) (n : Counts) → Rose (mid.device.counts.faults disk) (n.faults disk) → Rose (old.moment.device.counts.faults disk) (n.faults disk)
-    faults_since disk n rose = rose_before (drains.runs.leaves.keeps.counts.faults disk) rose
+    faults_since disk n rose = rose_before ((path_frames drains.runs).keeps.counts.faults disk) rose
 
     -- what is there is a member of the session's group
     member_of : (disk : ℕ) → there mid.core.status disk ≡ true → is_member core.descriptor disk ≡ true
-    member_of disk was = sym (ap (λ (g : Descriptor). is_member g disk) drains.runs.leaves.keeps.descriptor) ∙ sym (ap (λ (g : Descriptor). is_member g disk) drains.sound.fitting.group)
+    member_of disk was = sym (ap (λ (g : Descriptor). is_member g disk) (path_frames drains.runs).keeps.descriptor) ∙ sym (ap (λ (g : Descriptor). is_member g disk) drains.sound.fitting.group)
         ∙ first (is_member mid.core.status.group disk) (calls_missing mid.core.status.wanted disk) was
       where
         first : (a b : Bool) → a && not b ≡ true → a ≡ true
@@ -121,7 +122,7 @@ module _ (read : Result (Option Command) Misfit) (other : IsOther read) (failed 
 
     known_so : (why : GroupFault) → FaultFacts why patience mid left → IsLeft (ends_session why) left old new → Known read (refusal_for why) old new
     known_so fault.Dark facts leaves = record {
-      cause = has_by read refusal.Dark old new other (subst (λ (n : Counts). Rose old.moment.device.counts.cuts n.cuts) (sym (counts_left true left old new leaves)) (rose_before drains.runs.leaves.keeps.counts.cuts facts.1));
+      cause = has_by read refusal.Dark old new other (subst (λ (n : Counts). Rose old.moment.device.counts.cuts n.cuts) (sym (counts_left true left old new leaves)) (rose_before (path_frames drains.runs).keeps.counts.cuts facts.1));
       off = λ is. none_left left old new leaves;
       unwritten = λ have total is. absurd (cc (is));
     }

@@ -23,6 +23,7 @@ use Rattle.lvm_volume_lines.specs.passed.GroupLines.{InFull, IsBetween, Shows, W
 use Rattle.lvm_volume_lines.specs.passed.RefusalVariants as refusal
 use Rattle.lvm_volume_lines.specs.passed.ReplyVariants as reply
 use Rattle.lvm_volume_lines.proofs.passed.Ranges.{off_votes}
+use Rattle.lvm_volume_lines.proofs.passed.Tie.{goes_any, path_shape}
 use Rattle.lvm_line.specs.Causes.{TurnCause}
 use Rattle.lvm_line.proofs.CausesLemmas.Turns.{dark_cause, failed_cause, fails_counts, leaves_counts, off_cause, over_counts, stuck_cause}
 
@@ -64,15 +65,15 @@ module _ (old new : ScriptState) (between : IsBetween old.moment old.session old
         counts left = leaves_counts end old.posts old.last new left
 
         by : (w : RangeFault) → RangeCause lv its.left (session_over old core) end w → FailsBy w end old.posts old.last new → Told (range_refusal w) old new
-        by fault.Dark dark left = told_easy _ old new (dark_cause old new core end between its.runs.leaves its.sound (counts left) dark) (λ e. cc) (λ h t e. cc)
+        by fault.Dark dark left = told_easy _ old new (dark_cause old new core end between (goes_any its.runs) its.sound (counts left) dark) (λ e. cc) (λ h t e. cc)
         by fault.Stuck none over = record {
-          cause = stuck_cause old new core end between its.runs.leaves its.sound (over_counts end old.posts old.last new over) its.left none its.waited;
+          cause = stuck_cause old new core end between (goes_any its.runs) its.sound (over_counts end old.posts old.last new over) its.left none its.waited;
           off = λ is. over.session;
           counted = λ h t e. cc;
         }
-        by (fault.WentOff have total) lost left = told_easy _ old new (off_cause old new core end between its.runs.leaves its.sound (counts left) have total some (lost.0, lost.1) lost.2) (λ e. cc) (λ h t e. cc)
-        by fault.Lost lost left = told_easy _ old new (failed_cause old new core end between its.runs.leaves its.sound (counts left) lost) (λ e. cc) (λ h t e. cc)
-        by fault.ReadFailed lost left = told_easy _ old new (failed_cause old new core end between its.runs.leaves its.sound (counts left) lost) (λ e. cc) (λ h t e. cc)
+        by (fault.WentOff have total) lost left = told_easy _ old new (off_cause old new core end between (goes_any its.runs) its.sound (counts left) have total some (lost.0, lost.1) lost.2) (λ e. cc) (λ h t e. cc)
+        by fault.Lost lost left = told_easy _ old new (failed_cause old new core end between (goes_any its.runs) its.sound (counts left) lost) (λ e. cc) (λ h t e. cc)
+        by fault.ReadFailed lost left = told_easy _ old new (failed_cause old new core end between (goes_any its.runs) its.sound (counts left) lost) (λ e. cc) (λ h t e. cc)
         by (fault.NoFresh lp) none left = told_easy _ old new tt (λ e. cc) (λ h t e. cc)
 
   module _ (write : Option ℕ) (Says : State → Asked → Reply → Type 0) (why : Refusal) (says : (end : State) (asked : Asked) → Says end asked (reply.Refused why) → Told why old new) where
@@ -115,7 +116,7 @@ module _ (old new : ScriptState) (between : IsBetween old.moment old.session old
       by (Goes on landed goes) = told_of goes.answers why old new goes.tells
       by (Over landed over) = told_of over.waits.answers why old new over.waits.tells
       by (InVain vain) = told_by why refusal.Stuck old new vain.says (record {
-        cause = stuck_cause old new core waits.mid between waits.runs.leaves waits.sound (over_counts waits.mid old.posts old.last new vain.ends) waits.left vain.none waits.waited;
+        cause = stuck_cause old new core waits.mid between (goes_any waits.runs) waits.sound (over_counts waits.mid old.posts old.last new vain.ends) waits.left vain.none waits.waited;
         off = λ is. vain.ends.session;
         counted = λ h t e. cc;
       })
@@ -139,7 +140,7 @@ module _ (old new : ScriptState) (between : IsBetween old.moment old.session old
       by (Err sync.Dark) dark is = told_by why refusal.Dark old new is (told_easy refusal.Dark old new (dark_cause old new core end between its.beside.leaves its.sound counts dark) (λ e. cc) (λ h t e. cc))
       by (Err sync.Off) off is = told_by why _ old new is (told_easy (refusal.WentOff (votes_there end.core) (total_votes end.core.descriptor)) old new
           (off_cause old new core end between its.beside.leaves its.sound counts (votes_there end.core) (total_votes end.core.descriptor) some (off_votes end its.sound off)
-          (votes_go (session_over old core) end its.beside.leaves.keeps.descriptor its.beside.loses (its.sound.off off))) (λ e. cc) (λ h t e. cc))
+          (votes_go (session_over old core) end (path_shape its.beside.leaves).descriptor its.beside.loses (its.sound.off off))) (λ e. cc) (λ h t e. cc))
       by (Err sync.Stuck) none is = told_by why refusal.Stuck old new is
           (record { cause = stuck_cause old new core end between its.beside.leaves its.sound counts its.left none its.beside.waited; off = λ stuck. unheard (ap is_unheard is); counted = λ h t e. cc })
       by (Err sync.Busy) caused is = told_by why refusal.Busy old new is (told_easy refusal.Busy old new tt (λ e. cc) (λ h t e. cc))
@@ -184,7 +185,7 @@ module _ (old new : ScriptState) (between : IsBetween old.moment old.session old
       by : (how : Turned) → StopsAs how end.core.power → reply.Refused why ≡ step_reply stepped.moved end how → Told why old new
       by turned.Moved stops is = absurd (cc (is))
       by turned.Idle stops is = absurd (cc (is))
-      by turned.Dark dark is = told_by why refusal.Dark old new is (told_easy refusal.Dark old new (dark_cause old new core end between stepped.runs.leaves stepped.sound counts dark) (λ e. cc) (λ h t e. cc))
+      by turned.Dark dark is = told_by why refusal.Dark old new is (told_easy refusal.Dark old new (dark_cause old new core end between (goes_any stepped.runs) stepped.sound counts dark) (λ e. cc) (λ h t e. cc))
       by turned.Off off is = told_by why _ old new is (told_easy (refusal.WentOff (votes_there end.core) (total_votes end.core.descriptor)) old new
-          (off_cause old new core end between stepped.runs.leaves stepped.sound counts (votes_there end.core) (total_votes end.core.descriptor) some (off_votes end stepped.sound off)
+          (off_cause old new core end between (goes_any stepped.runs) stepped.sound counts (votes_there end.core) (total_votes end.core.descriptor) some (off_votes end stepped.sound off)
           (stepped.votes (stepped.sound.off off))) (λ e. cc) (λ h t e. cc))

@@ -15,6 +15,7 @@ use Rattle.lvm_volume_lines.specs.passed.Ranges.{AnyFailed}
 use Rattle.lvm_volume_lines.specs.passed.RangeLines.{FailsIf, IsOverWith, CarriesBy}
 use Rattle.lvm_volume_lines.specs.passed.Tie.{LeavesSession}
 use Rattle.lvm_volume_lines.specs.passed.GroupLines.{IsBetween, IsClosed, ScriptState, patience_of_line}
+use Rattle.lvm_volume_lines.proofs.passed.Tie.{path_shape}
 use Rattle.lvm_line.specs.Causes.{HasFailedInSession}
 
 -- ---- what is left has the counts of the shelf
@@ -46,7 +47,7 @@ module _ (old new : ScriptState) (core : Core) (end : State) (between : IsBetwee
     (counts : new.moment.device.counts ≡ end.device.counts) where
   -- the power was on
   pub dark_cause : end.core.power ≡ power.Dark → Rose old.moment.device.counts.cuts new.moment.device.counts.cuts
-  dark_cause dark = subst (λ (n : Counts). Rose old.moment.device.counts.cuts n.cuts) (sym counts) (leaves.keeps.cut between.lit.power (sound.dark (ap is_dark dark)).power)
+  dark_cause dark = subst (λ (n : Counts). Rose old.moment.device.counts.cuts n.cuts) (sym counts) ((path_shape leaves).cut between.lit.power (sound.dark (ap is_dark dark)).power)
 
   pub stuck_cause : (left : ℕ) → left ≡ 0 → RoseBy (patience_of_line - left) old.moment.device.counts.waits end.device.counts.waits → RoseBy patience_of_line old.moment.device.counts.waits new.moment.device.counts.waits
   stuck_cause left none waited =
@@ -68,7 +69,7 @@ module _ (old new : ScriptState) (core : Core) (end : State) (between : IsBetwee
       failed = (
         is.1.0,
         subst (λ (n : Counts). Rose (slice_index_or core.origin.faults is.1.0 0) (n.faults is.1.0)) (sym counts)
-            (subst (λ (o : Origin). Rose (slice_index_or o.faults is.1.0 0) (end.device.counts.faults is.1.0)) leaves.keeps.origin is.1.1),
+            (subst (λ (o : Origin). Rose (slice_index_or o.faults is.1.0 0) (end.device.counts.faults is.1.0)) (path_shape leaves).origin is.1.1),
       );
       lost = lost_cause lost;
     },

@@ -36,7 +36,7 @@ use Rattle.lvm_keeps.proofs.Lists.{any_removed}
 use Rattle.lvm_keeps.proofs.Small.{both}
 use Rattle.lvm_keeps_events.proofs.TurnCallsLemmas.{some_position, turn_leaves_table}
 use Rattle.lvm_driver.specs.passed.Names.{RunsOn}
-use Rattle.lvm_driver.proofs.passed.Names.{runs_both, stays_unstuck}
+use Rattle.lvm_driver.proofs.passed.Names.{path_frames, runs_both, stays_unstuck}
 use Rattle.lvm_workers.specs.Counting.{AreOfClients}
 use Rattle.lvm_load.specs.Lending.{HoldsOpen, IsDrawnAs, IsNotTaken, IsServing, Plan, drawn_ask, drawn_bytes, shaped, told_in}
 use Rattle.lvm_load.specs.Requests.{ask_of, bytes_of, word_of}
@@ -97,7 +97,7 @@ module _ (plan : Plan) (client : ℕ) (old new : State) (was : IsServing plan ol
   serves_on sound runs adds holds = record {
     sound = sound;
     runs = runs_both plan.first old new was.runs runs;
-    unstuck = stays_unstuck old.core new.core runs.leaves.keeps.power was.unstuck;
+    unstuck = stays_unstuck old.core new.core (path_frames runs).keeps.power was.unstuck;
     since = was.since ++ adds.more;
     is = adds.is ∙ ap (λ (l : List Fact). l ++ adds.more) was.is ∙ append_assoc plan.first.core.history.facts was.since adds.more;
     clients = of_both plan.clients was.since adds.more was.clients adds.clients;
@@ -111,8 +111,8 @@ module _ {V : Type 0} (plan : Plan) (s_of : V → State) (always : V → Type 0)
   pub grows : (more : List Fact) → (s_of y).core.history.facts ≡ (s_of x).core.history.facts ++ more → RunsOn (s_of x) (s_of y) → always y → Grows (λ v. told_in (s_of v)) past always x more y
   grows more is runs holds = record {
     entries_are = is;
-    fixed_same = λ i. record { numbers = fixed_stays (s_of x) (s_of y) runs.leaves runs.orders i; past = pasts y x i };
-    none_fell = counts_rise (s_of x) (s_of y) runs.leaves;
+    fixed_same = λ i. record { numbers = fixed_stays (s_of x) (s_of y) (path_frames runs).keeps (path_frames runs).orders i; past = pasts y x i };
+    none_fell = counts_rise (s_of x) (s_of y) (path_frames runs).keeps;
     always_holds = holds;
   }
 
@@ -262,7 +262,7 @@ module _ {V : Type 0} (plan : Plan) (s_of : V → State) (always : V → Type 0)
 
     drawn_as : (id : ℕ) → next_id (s_of x).core.history ≡ id → IsDrawnAs plan client number d (its_request (s_of x).core client the_ask the_bytes)
     drawn_as id is =
-        let run : (s_of x).core.history.run ≡ plan.first.core.history.run = ap (λ (l : Log). l.run) was.runs.leaves.keeps.log in
+        let run : (s_of x).core.history.run ≡ plan.first.core.history.run = ap (λ (l : Log). l.run) (path_frames was.runs).keeps.log in
         λ i. record {
           run = run i;
           id = next_id (s_of x).core.history;

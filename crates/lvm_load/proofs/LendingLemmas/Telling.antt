@@ -12,7 +12,7 @@ use Rattle.lvm_session.specs.Causes.{is_over}
 use Rattle.lvm_session.specs.Sound.{count_if, is_dark}
 use Rattle.lvm_session.specs.State.{State}
 use Rattle.lvm_driver.specs.Showing.{counts_of, fixed_by, volumes_of}
-use Rattle.lvm_driver.specs.passed.Names.{LeavesSession}
+use Rattle.lvm_driver.specs.passed.Names.{KeepsShape}
 use Rattle.lvm_load.specs.Lending.{counts_in}
 
 shelf_counts : (old new : Counts) → NoneFalls old new → (disks : List ℕ)
@@ -24,7 +24,7 @@ at_most_one : (b : Bool) → count_if b ≤ 1
 at_most_one true = omega arith
 at_most_one false = omega arith
 
-module _ (old new : State) (leaves : LeavesSession old new) where
+module _ (old new : State) (keeps : KeepsShape old new) where
   over_stays : count_if (is_over old.core.power) ≤ count_if (is_over new.core.power)
   over_stays = ⊎_elim
       (λ (same : new.core.power ≡ old.core.power). subst (λ (p : Power). count_if (is_over old.core.power) ≤ count_if (is_over p)) (sym same) (omega arith))
@@ -32,7 +32,7 @@ module _ (old new : State) (leaves : LeavesSession old new) where
       (λ (dark : new.core.power ≡ power.Dark). subst (λ (p : Power). count_if (is_over old.core.power) ≤ count_if (is_over p)) (sym dark) (at_most_one (is_over old.core.power)))
       (λ (off : (old.core.power ≡ power.On) × (new.core.power ≡ power.Off)). subst (λ (p : Power). count_if (is_over old.core.power) ≤ count_if (is_over p)) (sym off.1) (at_most_one (is_over old.core.power)))
       ends)
-      leaves.keeps.power
+      keeps.power
 
   dark_stays : count_if (is_dark old.core.power) ≤ count_if (is_dark new.core.power)
   dark_stays = ⊎_elim
@@ -41,7 +41,7 @@ module _ (old new : State) (leaves : LeavesSession old new) where
       (λ (dark : new.core.power ≡ power.Dark). subst (λ (p : Power). count_if (is_dark old.core.power) ≤ count_if (is_dark p)) (sym dark) (at_most_one (is_dark old.core.power)))
       (λ (off : (old.core.power ≡ power.On) × (new.core.power ≡ power.Off)). subst (λ (p : Power). count_if (is_dark p) ≤ count_if (is_dark new.core.power)) (sym off.0) (omega arith))
       ends)
-      leaves.keeps.power
+      keeps.power
 
   pub counts_rise : NoneFell (counts_in old) (counts_in new)
   counts_rise = (
@@ -49,11 +49,11 @@ module _ (old new : State) (leaves : LeavesSession old new) where
     (
       dark_stays,
       (
-        leaves.keeps.counts.cuts,
+        keeps.counts.cuts,
         (
-          leaves.keeps.counts.waits,
-          subst (λ (n : ℕ). NoneFell (counts_of old.device.counts (length old.device.sizes)) (counts_of new.device.counts n)) (sym (ap (λ (l : List ℕ). length l) leaves.keeps.sizes))
-              (shelf_counts old.device.counts new.device.counts leaves.keeps.counts (range_with_len 0 (length old.device.sizes))),
+          keeps.counts.waits,
+          subst (λ (n : ℕ). NoneFell (counts_of old.device.counts (length old.device.sizes)) (counts_of new.device.counts n)) (sym (ap (λ (l : List ℕ). length l) keeps.sizes))
+              (shelf_counts old.device.counts new.device.counts keeps.counts (range_with_len 0 (length old.device.sizes))),
         ),
       ),
     ),
@@ -61,12 +61,12 @@ module _ (old new : State) (leaves : LeavesSession old new) where
 
   pub fixed_stays : new.device.orders ≡ old.device.orders → fixed_by new ≡ fixed_by old
   fixed_stays orders =
-      let log = leaves.keeps.log in
+      let log = keeps.log in
       let run : new.core.history.run ≡ old.core.history.run = ap (λ (l : Log). l.run) log in
       let room : new.core.history.room ≡ old.core.history.room = ap (λ (l : Log). l.room) log in
       let bytes : new.core.history.bytes ≡ old.core.history.bytes = ap (λ (l : Log). l.bytes) log in
-      let most : new.core.most ≡ old.core.most = leaves.keeps.room.most in
-      let pool : length new.core.pool ≡ length old.core.pool = leaves.keeps.room.long in
+      let most : new.core.most ≡ old.core.most = keeps.room.most in
+      let pool : length new.core.pool ≡ length old.core.pool = keeps.room.long in
       let made : new.device.orders.made ≡ old.device.orders.made = ap (λ (o : Orders). o.made) orders in
-      let volumes : volumes_of new.core ≡ volumes_of old.core = ap (λ (d : Descriptor). volumes_of (record old.core { descriptor = d })) leaves.keeps.descriptor in
+      let volumes : volumes_of new.core ≡ volumes_of old.core = ap (λ (d : Descriptor). volumes_of (record old.core { descriptor = d })) keeps.descriptor in
       λ i. run i ∷ room i ∷ bytes i ∷ most i ∷ pool i ∷ made i ∷ volumes i

@@ -36,6 +36,7 @@ use Rattle.lvm_top.specs.passed.GroupLines.{Holder, IsBetween, IsBetweenStage, I
 use Rattle.lvm_top.specs.declared.run.Ended.{Ended}
 use Rattle.lvm_top.specs.declared.status.ExitStatus.{ExitStatus}
 use Rattle.lvm_top.specs.declared.status.ExitStatus.TheVariants as ended
+use Rattle.lvm_top.proofs.passed.Tie.{path_frames}
 use Rattle.lvm_program.specs.Program.{PromisesWovenBlank}
 use Rattle.lvm_top.specs.Laws.{MayStart}
 use Rattle.lvm_top.specs.Plain.{FindsNoPassive, FindsOneGroup}
@@ -125,7 +126,7 @@ module _ (log : Log) (room : Room) (past : List Fact) (group volume : List ℕ) 
 
 -- turns and calls don't leave a session stuck that was on
 pub runs_unstuck : (old new : State) → RunsOn old new → old.core.power ≡ power.On → new.core.power ≡ power.Stuck → ⊥
-runs_unstuck old new runs on stuck = by runs.leaves.keeps.power
+runs_unstuck old new runs on stuck = by (path_frames runs).keeps.power
   where
     by : (new.core.power ≡ old.core.power) ⊎ (new.core.power ≡ power.Dark) ⊎ ((old.core.power ≡ power.On) × (new.core.power ≡ power.Off)) → ⊥
     by (inl same) = let e = sym on ∙ sym same ∙ stuck in cc e

@@ -19,7 +19,7 @@ use Rattle.lvm_session.specs.Causes.{is_over}
 use Rattle.lvm_session.specs.Sound.{IsLit, IsSound, is_dark}
 use Rattle.lvm_group_lines.specs.passed.Tie.{moment_of, LeavesSession, RunsOn}
 use Rattle.lvm_session.specs.State.{Core, votes_there, state_of}
-use Rattle.lvm_group_lines.proofs.passed.Tie.{stays_unstuck}
+use Rattle.lvm_group_lines.proofs.passed.Tie.{goes_any, path_frames, path_shape, stays_unstuck}
 use Rattle.lvm_posts.specs.declared.posts.Post.{Post}
 use Rattle.lvm_posts.specs.Posts.{ended_with}
 use Rattle.lvm_posts.proofs.PostsLemmas.{over_answered}
@@ -77,7 +77,7 @@ pub record RunsTo {S : Type 0} (device : S → Device) (first end : S × Core) :
   pub sound : IsSound (state_of device end)
 
 pub runs_to : {S : Type 0} (device : S → Device) (first end : S × Core) → RunsOn (state_of device first) (state_of device end) → IsSound (state_of device end) → RunsTo device first end
-runs_to device first end runs sound = record { leaves = runs.leaves; orders = runs.orders; sound = sound }
+runs_to device first end runs sound = record { leaves = goes_any runs; orders = (path_frames runs).orders; sound = sound }
 
 module _ {S : Type 0} (device : S → Device) (first : S × Core) (posts : Vec Post) (bytes : Vec ℕ) (fits : IsFittingStage (serving first posts bytes)) (between : IsBetweenStage device (serving first posts bytes)) where
   abbrev old : Stage S
@@ -91,16 +91,16 @@ module _ {S : Type 0} (device : S → Device) (first : S × Core) (posts : Vec P
     its last = record { alone = λ new alone. alone.acts tt; session = refl; facts = refl; volumes = fits.kind; between = between; leaves = to.leaves; sound = to.sound }
 
     pub unstuck : end.1.power ≡ power.Stuck → ⊥
-    unstuck = stays_unstuck first.1 end.1 to.leaves.keeps.power (λ stuck. let e : power.On ≡ power.Stuck = sym on_first.power ∙ stuck in cc e)
+    unstuck = stays_unstuck first.1 end.1 (path_shape to.leaves).power (λ stuck. let e : power.On ≡ power.Stuck = sym on_first.power ∙ stuck in cc e)
 
     same_rooms : without_facts end.1.history ≡ without_facts first.1.history
-    same_rooms = to.leaves.keeps.log
+    same_rooms = (path_shape to.leaves).log
 
     room_is : end.1.history.room ≡ first.1.history.room
     room_is = ap (λ (log : Log). log.room) same_rooms
 
     volumes_stay : end.1.descriptor.lvs ≢ []
-    volumes_stay none = fits.kind (sym (ap (λ (d : Descriptor). d.lvs) to.leaves.keeps.descriptor) ∙ none)
+    volumes_stay none = fits.kind (sym (ap (λ (d : Descriptor). d.lvs) (path_shape to.leaves).descriptor) ∙ none)
 
     module _ (Does : Log → ScriptState → ScriptState → Reply → Type 0) (posts1 : Vec Post) (bytes1 : Vec ℕ) (rooms : HaveRooms first.1.history.room posts1 bytes1) (stage : Stage S) (answer : Reply)
         (few : most_refusals answer + length posts1.items ≤ length posts.items + 1)
@@ -192,7 +192,7 @@ module _ {S : Type 0} (device : S → Device) (first : S × Core) (posts : Vec P
             rests = λ not_asking. absurd (not_asking tt);
             begins = λ timely facts kept. tt;
             power = ap (λ (d : Device). d.power) same_device ∙ lit.power;
-            waits = let w = to.leaves.keeps.counts.waits in let same = ap (λ (d : Device). d.counts.waits) same_device in omega (arith, w, same);
+            waits = let w = (path_shape to.leaves).counts.waits in let same = ap (λ (d : Device). d.counts.waits) same_device in omega (arith, w, same);
             clock = omega arith;
             few = few_then;
           })

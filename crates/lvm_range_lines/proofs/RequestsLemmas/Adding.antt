@@ -24,6 +24,7 @@ use Rattle.lvm_group_lines.specs.Stages.{HaveRooms, IsBetweenStage, IsCarried, I
 use Rattle.lvm_group_lines.specs.State.{ArePosted}
 use Rattle.lvm_group_lines.specs.declared.reply.Reply.TheVariants as reply
 use Rattle.lvm_group_lines.proofs.StateLemmas.{posts_need}
+use Rattle.lvm_group_lines.proofs.passed.Tie.{path_frames}
 use Rattle.lvm_range_lines.specs.Leaving.{KeepsPosts, serving}
 use Rattle.lvm_range_lines.specs.Requests.{AsksByName, PostDoes, Posted, There, post_of}
 use Rattle.lvm_range_lines.proofs.LeavingLemmas.Ending.{carried_ends, runs_to}
@@ -94,4 +95,4 @@ module _ {S : Type 0} (device : S → Device) (first : S × Core) (posts : Vec P
           runs = subst (λ (s : S). RunsOn (state_of device first) (state (device s) mid.1)) shelf runs;
           goes = goes last;
           says = is;
-        }))) posted (rooms_then rooms) (λ power_is. runs.copy between.session.copy) carried
+        }))) posted (rooms_then rooms) (λ power_is. (path_frames runs).copy between.session.copy) carried

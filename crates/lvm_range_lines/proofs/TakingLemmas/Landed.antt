@@ -21,6 +21,7 @@ use Rattle.lvm_group_lines.specs.declared.stage.Stage.{Stage}
 use Rattle.lvm_group_lines.specs.Stages.{HaveRooms, IsEnded, IsFittingStage, history_in, posts_ended}
 use Rattle.lvm_group_lines.specs.State.{ArePosted}
 use Rattle.lvm_group_lines.proofs.StateLemmas.{end_posts}
+use Rattle.lvm_group_lines.proofs.passed.Tie.{path_frames}
 use Rattle.lvm_range_lines.specs.Leaving.{serving}
 use Rattle.lvm_range_lines.specs.Taking.{GoesBehind, IsClosedBehind, LandedEnds}
 use Rattle.lvm_range_lines.proofs.LeavingLemmas.Ending.{off_kind}
@@ -55,11 +56,11 @@ module _ {S : Type 0} (device : S → Device) (driver : S × Core) (posts : Vec 
 
   module _ (end : S × Core) (runs : RunsOn (state_of device driver) (state_of device end)) (none : Vec Post) (rooms : HaveRooms driver.1.history.room none bytes) where
     room_on : end.1.history.room ≡ driver.1.history.room
-    room_on = ap (λ (log : Log). log.room) runs.leaves.keeps.log
+    room_on = ap (λ (log : Log). log.room) (path_frames runs).keeps.log
 
     pub fits_on : IsFittingStage (serving end none bytes)
     fits_on = record {
-      kind = λ empty. fits.kind (sym (ap (λ (d : Descriptor). d.lvs) runs.leaves.keeps.descriptor) ∙ empty);
+      kind = λ empty. fits.kind (sym (ap (λ (d : Descriptor). d.lvs) (path_frames runs).keeps.descriptor) ∙ empty);
       few = subst (λ n. n < 2 ^ 32) (sym room_on) fits.few;
       rooms = subst (λ n. HaveRooms n none bytes) (sym room_on) rooms;
     }

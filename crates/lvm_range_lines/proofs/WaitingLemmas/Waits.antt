@@ -14,7 +14,7 @@ use Rattle.lvm_session.specs.State.{Core, state_of}
 use Rattle.lvm_group_lines.specs.passed.Driver.{IsAny}
 use Rattle.lvm_group_lines.proofs.passed.Ranges.{answered_for}
 use Rattle.lvm_group_lines.specs.passed.Tie.{RunsOn}
-use Rattle.lvm_group_lines.proofs.passed.Tie.{runs_both}
+use Rattle.lvm_group_lines.proofs.passed.Tie.{path_frames, path_shape, runs_both}
 use Rattle.lvm_posts.specs.declared.posts.Post.{Post}
 use Rattle.lvm_group_lines.specs.declared.reply.Refusal.TheVariants as refusal
 use Rattle.lvm_group_lines.specs.declared.reply.Reply.{Reply}
@@ -68,7 +68,7 @@ module _ {S : Type 0} (device : S → Device) (first : S × Core) (posts : Vec P
       to_end = runs_to device first goes.end all goes.sound
 
       room_is : goes.end.1.history.room ≡ first.1.history.room
-      room_is = ap (λ (log : Log). log.room) to_end.leaves.keeps.log
+      room_is = ap (λ (log : Log). log.room) (path_shape to_end.leaves).log
 
       rooms1 : HaveRooms first.1.history.room goes.none goes.bytes
       rooms1 = subst (λ n. HaveRooms n goes.none goes.bytes) room_is (subst IsFittingStage goes.is fits_then).rooms
@@ -101,7 +101,7 @@ module _ {S : Type 0} (device : S → Device) (first : S × Core) (posts : Vec P
           behind.ended.session refl (unstuck device first posts bytes fits between mid to_mid) (λ heard. over) (posted_ended device mid posts behind.closed behind.ended sound over posted) (λ not_asking. absurd (not_asking tt)) (omega (arith, long))
 
       run_is : first.1.history.run ≡ (history_in behind.closed).run
-      run_is = sym (ap (λ (log : Log). log.run) log_is ∙ ap (λ (log : Log). log.run) runs.leaves.keeps.log)
+      run_is = sym (ap (λ (log : Log). log.run) log_is ∙ ap (λ (log : Log). log.run) (path_frames runs).keeps.log)
 
       over_ends_so : EndsUnasked device Does ⊥ OfRequests old stage answer
       over_ends_so last = record {
@@ -113,9 +113,9 @@ module _ {S : Type 0} (device : S → Device) (first : S × Core) (posts : Vec P
           waits = waits_off device behind.closed stage answer behind.waits behind.ended.session last;
         }));
         goes = behind_goes device first.1.history.run (state_in device old last) behind.closed stage last answer behind.waits behind.ended.session run_is reply.Ok heard_ok (goes_closed last) (omega (arith, long));
-        rooms = ap without_facts behind.waits.rooms ∙ ap without_facts log_is ∙ runs.leaves.keeps.log;
+        rooms = ap without_facts behind.waits.rooms ∙ ap without_facts log_is ∙ (path_frames runs).keeps.log;
         fits = fits_then;
-        orders = λ none. ap (λ (d : Device). d.orders) behind.waits.shelf ∙ closed_orders mid.1.power (device mid.0) (device (shelf_in behind.closed)) behind.ended.shelf ∙ runs.orders;
+        orders = λ none. ap (λ (d : Device). d.orders) behind.waits.shelf ∙ closed_orders mid.1.power (device mid.0) (device (shelf_in behind.closed)) behind.ended.shelf ∙ (path_frames runs).orders;
       }
 
     -- whichever it is

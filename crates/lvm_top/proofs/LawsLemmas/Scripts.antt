@@ -15,6 +15,7 @@ use Rattle.lvm_kept.specs.Moments.{Moment}
 use Rattle.lvm_kept.proofs.MomentsLemmas.Chaining.{span_told, span_sizes}
 use Rattle.lvm_steps.specs.Moments.{ImagesKept, Keeps}
 use Rattle.lvm_steps.proofs.MomentsLemmas.Spans.{keeps_still, begins_run}
+use Rattle.lvm_posts.specs.declared.posts.Post.{Post}
 use Rattle.lvm_core.specs.declared.parts.Room.{Room}
 use Rattle.lvm_core.specs.declared.refused.Cause.{Cause}
 use Rattle.lvm_session.specs.declared.open.Power.TheVariants as power
@@ -24,15 +25,15 @@ use Rattle.lvm_line.specs.passed.TieCommands.{StandsAfter as StandsAfterPast}
 use Rattle.lvm_line.specs.passed.Quiesce.{RefusedAtOnce, StayedOut, VaryonOnceQuiet, WentQuiet}
 use Rattle.lvm_line.proofs.passed.Quiesce.{ends_only}
 use Rattle.lvm_core.specs.Leaves.{MayBeFound}
-use Rattle.lvm_line.specs.passed.GroupLines.{IsLeft, VaryonDoes, NoVaryonWhileOn, Varies, itself, outcome_of, patience_of_line, IsAlone, Role, IsStuck, StandsAlone, StandsBy, ScriptState, log_with, Reply}
+use Rattle.lvm_line.specs.passed.GroupLines.{IsBetween, IsLeft, IsOnBetween, VaryonDoes, NoVaryonWhileOn, Varies, itself, outcome_of, patience_of_line, IsAlone, Role, IsStuck, StandsAlone, StandsBy, ScriptState, log_with, Reply}
 use Rattle.lvm_line.specs.Lines.{LineDoes, IsLine, role_of}
 use Rattle.lvm_line.specs.passed.ReplyVariants as reply
 use Rattle.lvm_top.specs.Script.{Says, Script, NoLine, NextLine, StaysAlone, Ends, AtLine, InLine, EndsAlone, EndsHeard, entry_state, empty_log, facts_of}
 use Rattle.lvm_top.specs.Ending.{Concludes, NoneIsOn, NoneIsServed, IsServed, NothingIsLeft, TurnsAreMade}
-use Rattle.lvm_top.proofs.ScriptLemmas.Concluding.{none_flies}
+use Rattle.lvm_top.proofs.ScriptLemmas.Concluding.{none_flies, ran_between}
 use Rattle.lvm_top.proofs.Devices.{NothingNew, then_nothing, same_nothing}
 use Rattle.lvm_top.proofs.LeavesLemmas.Quiet.{closed_nothing, quiet_nothing, runs_nothing}
-use Rattle.lvm_top.proofs.ScriptLemmas.Scripting.{script_went, begins_timely, lines_ended}
+use Rattle.lvm_top.proofs.ScriptLemmas.Scripting.{script_went, begins_timely}
 use Rattle.lvm_top.specs.Laws.{MayStart, ScriptFindsWhatStands, VaryonFindsWhatStands, RunMayStart, RunFindsWhatStands}
 use Rattle.lvm_top.specs.Standing.{MayHaveCommitted, StoodBefore, StandsSince, is_acknowledged, StandsOf, StandsAfter, MayStand, MayStandAtEnd}
 use Rattle.lvm_top.proofs.StandingLemmas.Acknowledged.{only_committed, leaves_on, stands_of}
@@ -68,7 +69,7 @@ module _ (log : Log) (room : Room) (past : List Fact) (first : ScriptState) (beg
       → IsSomeAnd new.session (λ core. StandsOf core (MayStand before) id k)
   acknowledged {mid = mid} {new = new} line answer said heard says before it alone acked id k found which =
       let so_far = script_went log room first before in
-      let on = leaves_on log room mid new (so_far.leaves begin.leaves) it.named (it.goes.begins (so_far.timely begin.timely) (past ++ mid.moment.facts) (images_kept before alone.0)) (line_of line) answer acked (stood before alone.0 (role_of (line_of line)) new alone.1) it.does in
+      let on = leaves_on log room mid new it.between it.named (it.goes.begins (so_far.timely begin.timely) (past ++ mid.moment.facts) (images_kept before alone.0)) (line_of line) answer acked (stood before alone.0 (role_of (line_of line)) new alone.1) it.does in
       let kept = images_kept (NextLine line answer said heard says before it) alone in
       subst (λ (s : Option Core). IsSomeAnd s (λ core. StandsOf core (MayStand before) id k)) (sym on.on)
       (stands_of on.core (MayStand before) id k
@@ -155,16 +156,15 @@ module _ (log : Log) (room : Room) (past : List Fact) (first : ScriptState) (beg
       line_stands log room past first begin line answer said says script it heard alone (stands log room past first begin script alone.0) id k found
 
 -- nothing is found by the turns behind the last line
-concluded_nothing : (run : ℕ) (end exit : Moment) (on : Option Core) → LeavesDescriptors end.device → Concludes run end exit on → NothingNew end.device exit.device
-concluded_nothing run end exit on leaves (NoneIsOn none same) = same_nothing end.device exit.device (ap (λ (m : Moment). m.device) same)
-concluded_nothing run end exit on leaves (NoneIsServed core some empty same) = same_nothing end.device exit.device (ap (λ (m : Moment). m.device) same)
-concluded_nothing run end exit on leaves (IsServed core some vols named facts (NothingIsLeft rests device entries)) = closed_nothing power.On end.device exit.device device
-concluded_nothing run end exit on leaves (IsServed core some vols named facts (TurnsAreMade last moving turns runs sound closed entries)) =
-    then_nothing end.device last.device exit.device (runs_nothing (state end.device core) last leaves runs) (closed_nothing last.core.power last.device exit.device closed)
+concluded_nothing : (run : ℕ) (end exit : Moment) (on : Option Core) (posts : List Post) → IsBetween end on posts → Concludes run end exit on → NothingNew end.device exit.device
+concluded_nothing run end exit on posts between (NoneIsOn none same) = same_nothing end.device exit.device (ap (λ (m : Moment). m.device) same)
+concluded_nothing run end exit on posts between (NoneIsServed core some empty same) = same_nothing end.device exit.device (ap (λ (m : Moment). m.device) same)
+concluded_nothing run end exit on posts between (IsServed core some vols named facts (NothingIsLeft rests device entries)) = closed_nothing power.On end.device exit.device device
+concluded_nothing run end exit on posts between (IsServed core some vols named facts (TurnsAreMade last moving turns runs sound closed entries)) =
+    then_nothing end.device last.device exit.device (runs_nothing (state end.device core) last (subst (λ (o : Option Core). IfSome o (IsOnBetween end.device)) some between.session).sound between.descriptors runs) (closed_nothing last.core.power last.device exit.device closed)
 
 pub run_finds : RunFindsWhatStands
 run_finds r ran past few ready behind earlier alone heard id k found =
     let begin = run_may_start r.named r.entry past few ready behind earlier in
-    let ended = lines_ended (empty_log r.named r.room) r.room (entry_state r.entry r.named) ran.end r.input r.output r.refused ran.lines in
     end_stands (empty_log r.named r.room) r.room (past ++ Cut ∷ []) (entry_state r.entry r.named) begin ran.lines.script ran.lines.ends (ran.heard heard) (alone.0, alone.1) id k
-    (concluded_nothing r.named ran.end.moment (record { device = r.exit; facts = facts_of r.history }) ran.end.session (ended.leaves (ran.heard heard) (none_flies r.entry ready.flights)) ran.concluded.concludes id k found)
+    (concluded_nothing r.named ran.end.moment (record { device = r.exit; facts = facts_of r.history }) ran.end.session ran.end.posts (ran_between r ran heard) ran.concluded.concludes id k found)

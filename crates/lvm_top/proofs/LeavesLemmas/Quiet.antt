@@ -8,12 +8,14 @@ use Rattle.lvm_core.specs.declared.refused.Cause.{Cause}
 use Rattle.lvm_core.specs.declared.refused.Cause.TheVariants as cause
 use Rattle.lvm_session.specs.declared.open.Power.{Power}
 use Rattle.lvm_session.specs.declared.open.Power.TheVariants as power
+use Rattle.lvm_session.specs.Sound.{IsSound}
 use Rattle.lvm_session.specs.State.{State}
 use Rattle.lvm_line.specs.passed.QuiescedVariants as quiesced
 use Rattle.lvm_line.specs.passed.Quiesce.{Quiesces, StaysOut, RangeStaysOut}
 use Rattle.lvm_line.proofs.passed.Quiesce.{ends_leave, ends_leave_no_more}
 use Rattle.lvm_line.specs.passed.Tie.{LeavesDescriptors, LeavesSession, RunsOn}
 use Rattle.lvm_line.specs.passed.GroupLines.{IsRelit, IsClosed}
+use Rattle.lvm_line.proofs.passed.Tie.{goes_any, going_leaves}
 use Rattle.lvm_top.proofs.Devices.{NothingNew, then_nothing, same_nothing, fewer_nothing}
 use Rattle.lvm_top.proofs.LeavesLemmas.Transfers.{relit_nothing}
 
@@ -50,8 +52,8 @@ closed_nothing power.Stuck old new is = freed_nothing old new is
 
 -- ---- turns
 
-pub session_nothing : (old new : State) → LeavesDescriptors old.device → LeavesSession old new → NothingNew old.device new.device
-session_nothing old new leaves left id k (image, may, found) = (left.descriptors leaves).finds id k image may found
+pub session_nothing : (old new : State) → IsSound old → LeavesDescriptors old.device → LeavesSession old new → NothingNew old.device new.device
+session_nothing old new sound leaves left id k (image, may, found) = ((going_leaves old new sound left).1.descriptors leaves).finds id k image may found
 
-pub runs_nothing : (old new : State) → LeavesDescriptors old.device → RunsOn old new → NothingNew old.device new.device
-runs_nothing old new leaves runs = session_nothing old new leaves runs.leaves
+pub runs_nothing : (old new : State) → IsSound old → LeavesDescriptors old.device → RunsOn old new → NothingNew old.device new.device
+runs_nothing old new sound leaves runs = session_nothing old new sound leaves (goes_any runs)

@@ -27,6 +27,7 @@ use Rattle.lvm_line.specs.passed.RefusalVariants as refusal
 use Rattle.lvm_line.specs.passed.ReplyVariants as reply
 use Rattle.lvm_line.proofs.passed.GroupLines.{closed_ahead, over_goes}
 use Rattle.lvm_line.proofs.passed.Quiesce.{each_is_behind}
+use Rattle.lvm_line.proofs.passed.Tie.{goes_any}
 use Rattle.lvm_top.specs.declared.status.ExitStatus.{ExitStatus}
 use Rattle.lvm_top.specs.declared.status.ExitStatus.TheVariants as ended
 use Rattle.lvm_top.specs.Ending.{Concludes, NoneIsOn, NoneIsServed, IsServed, NothingIsLeft, TurnsAreMade, RestsNow}
@@ -84,11 +85,11 @@ module _ (end : ScriptState) (exit : Moment) (between : IsBetween end.moment end
   module _ (last : State) (heard : last.core.power ≡ power.Stuck → ⊥) (runs : RunsOn (state end.moment.device core) last) (sound : IsSound last) (closed : IsClosed last.core.power last.device exit.device) (entries : exit.facts ≡ last.core.history.facts) where
     closed_goes : GoesOn core.history.run OfRequests (reply.Refused refusal.Stuck) end behind
     closed_goes =
-        over_goes OfRequests end core last (record { alone = λ new alone. alone.acts tt; session = some; facts = facts; volumes = vols; between = between; leaves = runs.leaves; sound = sound }) (reply.Refused refusal.Stuck) behind closed entries refl refl heard (λ heard. absurd (heard refl)) (none_posted _ _)
+        over_goes OfRequests end core last (record { alone = λ new alone. alone.acts tt; session = some; facts = facts; volumes = vols; between = between; leaves = goes_any runs; sound = sound }) (reply.Refused refusal.Stuck) behind closed entries refl refl heard (λ heard. absurd (heard refl)) (none_posted _ _)
         (λ not_asking. absurd (not_asking tt)) (omega arith)
 
     closed_each : IsTimely core.history.run end → IsAheadEach core.history.run (end.last + 1) exit.device exit.facts
-    closed_each = closed_ahead OfRequests end core last (record { alone = λ new alone. alone.acts tt; session = some; facts = facts; volumes = vols; between = between; leaves = runs.leaves; sound = sound }) behind closed entries refl heard
+    closed_each = closed_ahead OfRequests end core last (record { alone = λ new alone. alone.acts tt; session = some; facts = facts; volumes = vols; between = between; leaves = goes_any runs; sound = sound }) behind closed entries refl heard
 
 -- what is ahead of each crash image is ahead of the disks
 pub each_is_ahead : (run moment : ℕ) (device : Device) (facts : List Fact) → IsAheadEach run moment device facts → IsAhead run moment device facts
@@ -171,11 +172,11 @@ module _ (r : Run) (ran : IsRun r) where
   went : Ended r.named (StaysAlone ran.lines.script × EndsAlone ran.lines.ends) (MakeRequests (ran.lines.lines ++ ran.lines.done)) (EndsHeard ran.lines.ends) (entry_state r.entry r.named) ran.end
   went = lines_ended (empty_log r.named r.room) r.room (entry_state r.entry r.named) ran.end r.input r.output r.refused ran.lines
 
-  between : (r.status ≡ ended.Stuck → ⊥) → IsBetween ran.end.moment ran.end.session ran.end.posts
-  between heard = ends_between ran.lines.ends (ran.heard heard) (script_between (empty_log r.named r.room) r.room (entry_state r.entry r.named) ran.lines.script (entry_between r.entry r.named ran.ready))
+  pub ran_between : (r.status ≡ ended.Stuck → ⊥) → IsBetween ran.end.moment ran.end.session ran.end.posts
+  ran_between heard = ends_between ran.lines.ends (ran.heard heard) (script_between (empty_log r.named r.room) r.room (entry_state r.entry r.named) ran.lines.script (entry_between r.entry r.named ran.ready))
 
   its : (r.status ≡ ended.Stuck → ⊥) → Concluded r.named ran.end (record { device = r.exit; facts = facts_of r.history })
-  its heard = concluded r.named ran.end (record { device = r.exit; facts = facts_of r.history }) ran.concluded.concludes (between heard)
+  its heard = concluded r.named ran.end (record { device = r.exit; facts = facts_of r.history }) ran.concluded.concludes (ran_between heard)
 
   pub stuck_still : r.status ≡ ended.Stuck → record { device = r.exit; facts = facts_of r.history } ≡ ran.end.moment
   stuck_still stuck = off_still r.named ran.end.moment (record { device = r.exit; facts = facts_of r.history }) ran.end.session ran.concluded.concludes (stuck_ends ran.lines.ends (ran.stuck stuck))

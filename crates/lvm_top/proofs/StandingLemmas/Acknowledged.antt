@@ -28,11 +28,11 @@ use Rattle.lvm_line.specs.passed.Group.{NewGroup, new_group}
 use Rattle.lvm_core.specs.declared.refused.Cause.{Cause}
 use Rattle.lvm_line.specs.passed.Quiesce.{MkvgOnceQuiet, RefusedAtOnce, StayedOut, WentQuiet}
 use Rattle.lvm_line.proofs.passed.Quiesce.{ends_only}
-use Rattle.lvm_line.specs.passed.Tie.{LeavesDescriptors}
-use Rattle.lvm_line.specs.passed.GroupLines.{IsLeft, Varies, NoVaryonWhileOn, NoMemoryForLine, NoMkvgWhileOn, Makes, asked_for, itself, outcome_of, patience_of_line, HasBegunHeld, IsStuck, ScriptState, log_with, Reply}
+use Rattle.lvm_line.specs.passed.GroupLines.{IsBetween, IsLeft, Varies, NoVaryonWhileOn, NoMemoryForLine, NoMkvgWhileOn, Makes, asked_for, itself, outcome_of, patience_of_line, HasBegunHeld, IsStuck, ScriptState, log_with, Reply}
 use Rattle.lvm_line.specs.Lines.{CommandDoes, LineDoes, role_of}
 use Rattle.lvm_line.specs.passed.ReplyVariants as reply
 use Rattle.lvm_volume_plan.specs.declared.new_volume.NewVolume.{NewVolume}
+use Rattle.lvm_line.proofs.passed.Tie.{path_frames}
 use Rattle.lvm_top.specs.Standing.{IsToCommit, StoodBefore, is_group_command, is_acknowledged, StandsOf, IsCommitted, OfAnother, WasDrained}
 use Rattle.lvm_top.proofs.StandingLemmas.Volumes.{held_mid}
 use Rattle.lvm_top.proofs.StandingLemmas.Copying.{fewer_id, more_id}
@@ -78,14 +78,14 @@ made_is w room patience was old left core (WentQuiet may once) =
 with_id : (old : ScriptState) (core : Core) → old.session ≡ Some core → (w : NewVolume) (k : Descriptor) → (c : Core) × (mid : State) × WasDrained old c mid × IsWith w mid.core k → k.id ≡ core.descriptor.id
 with_id old core some w k (c, mid, drained, is) =
     let same : c ≡ core = let e = sym drained.on ∙ some in cc e in
-    ap (λ (d : Descriptor). d.id) is.2.2 ∙ ap (λ (d : Descriptor). d.id) drained.drains.runs.leaves.keeps.descriptor ∙ ap (λ (c : Core). c.descriptor.id) same
+    ap (λ (d : Descriptor). d.id) is.2.2 ∙ ap (λ (d : Descriptor). d.id) (path_frames drained.drains.runs).keeps.descriptor ∙ ap (λ (c : Core). c.descriptor.id) same
 
 -- one in which a volume has more copies too
 with_more_id : (old : ScriptState) (core : Core) → old.session ≡ Some core → (name : List ℕ) (copies : ℕ) (k : Descriptor)
     → (c : Core) × (mid : State) × WasDrained old c mid × ((lv : ℕ) × IsNumberOf c.descriptor.lvs name lv × IsWithMore lv copies mid.core k) → k.id ≡ core.descriptor.id
 with_more_id old core some name copies k (c, mid, drained, (lv, its, more)) =
     let same : c ≡ core = let e = sym drained.on ∙ some in cc e in
-    more_id lv copies mid.core k more ∙ ap (λ (d : Descriptor). d.id) drained.drains.runs.leaves.keeps.descriptor ∙ ap (λ (c : Core). c.descriptor.id) same
+    more_id lv copies mid.core k more ∙ ap (λ (d : Descriptor). d.id) (path_frames drained.drains.runs).keeps.descriptor ∙ ap (λ (c : Core). c.descriptor.id) same
 
 -- what holds of the session that is on
 told_and : {X : Type 0} (o : Option X) (P : X → Type 0) (x : X) → o ≡ Some x → IsSomeAnd o P → P x
@@ -99,7 +99,7 @@ handed_on left old new stays settled ready held = record {
   held = subst (λ (d : Device). IsHeld d stays.core) (sym stays.device) (subst (IsHeld left.device) (sym stays.is) held);
 }
 
-module _ (log : Log) (room : Room) (old new : ScriptState) (leaves : LeavesDescriptors old.moment.device) (named : IfSome old.session (λ core. core.history.run ≡ log.run)) (begins : IfNone old.session (IfSome new.session (HasBegunHeld new.moment.device))) where
+module _ (log : Log) (room : Room) (old new : ScriptState) (between : IsBetween old.moment old.session old.posts) (named : IfSome old.session (λ core. core.history.run ≡ log.run)) (begins : IfNone old.session (IfSome new.session (HasBegunHeld new.moment.device))) where
   by_command : (c : Command) → is_group_command c ≡ true → StoodBefore log.run (role_of (Ok (Some c))) old new → CommandDoes log room c old new reply.Ok → LeavesOn (Ok (Some c)) old new
   by_command (command.Mkvg force name mib disks) acked stood (NoMemoryForLine off says asked) = absurd (cc (says))
   by_command (command.Mkvg force name mib disks) acked stood (NoMkvgWhileOn on says asked) = absurd (cc (says))
@@ -126,9 +126,9 @@ module _ (log : Log) (room : Room) (old new : ScriptState) (leaves : LeavesDescr
   by_command (command.Mklv name copies mode policy group lps) acked stood (MakesVolume core left mid number some on drains done says) = record {
     core = done.leaves.core;
     on = done.leaves.session;
-    begun = handed_on done.left old new done.leaves (done.rests refl).0 (done.rests refl).1 (done.held refl (held_mid log.run old new leaves named stood core left mid some drains));
+    begun = handed_on done.left old new done.leaves (done.rests refl).0 (done.rests refl).1 (done.held refl (held_mid log.run old new between named stood core left mid some drains));
     own = λ k is.
-        with_id old core some (wanted name copies mode policy lps) k is ∙ sym (ap (λ (d : Descriptor). d.id) drains.runs.leaves.keeps.descriptor) ∙ sym (ap (λ (c : Core). c.descriptor.id) (done.leaves.is) ∙ ap (λ (c : Core). c.descriptor.id) done.gives.is);
+        with_id old core some (wanted name copies mode policy lps) k is ∙ sym (ap (λ (d : Descriptor). d.id) (path_frames drains.runs).keeps.descriptor) ∙ sym (ap (λ (c : Core). c.descriptor.id) (done.leaves.is) ∙ ap (λ (c : Core). c.descriptor.id) done.gives.is);
   }
   by_command (command.Mklv name copies mode policy group lps) acked stood (MklvFails core left mid why some on drains done says) = absurd (cc (says))
   by_command (command.Rmlv name) acked stood (NoGroupForRmlv none is) = absurd (let e = is.0 in cc (e))
@@ -138,10 +138,10 @@ module _ (log : Log) (room : Room) (old new : ScriptState) (leaves : LeavesDescr
   by_command (command.Rmlv name) acked stood (RemovesVolume core left mid lv some drains its done says) = record {
     core = done.leaves.core;
     on = done.leaves.session;
-    begun = handed_on done.left old new done.leaves (done.rests refl).0 (done.rests refl).1 (done.held refl (held_mid log.run old new leaves named stood core left mid some drains));
+    begun = handed_on done.left old new done.leaves (done.rests refl).0 (done.rests refl).1 (done.held refl (held_mid log.run old new between named stood core left mid some drains));
     own = λ k is.
         let without = told_and old.session (λ c. (n : ℕ) × IsNumberOf c.descriptor.lvs name n × (k ≡ without_volume c.descriptor n)) core some is in
-        ap (λ (d : Descriptor). d.id) without.2 ∙ sym (ap (λ (d : Descriptor). d.id) drains.runs.leaves.keeps.descriptor) ∙ sym (ap (λ (c : Core). c.descriptor.id) (done.leaves.is) ∙ ap (λ (c : Core). c.descriptor.id) done.gives.is);
+        ap (λ (d : Descriptor). d.id) without.2 ∙ sym (ap (λ (d : Descriptor). d.id) (path_frames drains.runs).keeps.descriptor) ∙ sym (ap (λ (c : Core). c.descriptor.id) (done.leaves.is) ∙ ap (λ (c : Core). c.descriptor.id) done.gives.is);
   }
   by_command (command.Rmlv name) acked stood (RmlvFails core left mid lv why some drains its done says) = absurd (cc (says))
   by_command (command.Mklvcopy name copies) acked stood (NoGroupForMklvcopy none is) = absurd (let e = is.0 in cc (e))
@@ -151,9 +151,9 @@ module _ (log : Log) (room : Room) (old new : ScriptState) (leaves : LeavesDescr
   by_command (command.Mklvcopy name copies) acked stood (AddsCopies core left mid lv added some drains its done says) = record {
     core = done.leaves.core;
     on = done.leaves.session;
-    begun = handed_on done.left old new done.leaves (done.rests refl).0 (done.rests refl).1 (done.held refl (held_mid log.run old new leaves named stood core left mid some drains));
+    begun = handed_on done.left old new done.leaves (done.rests refl).0 (done.rests refl).1 (done.held refl (held_mid log.run old new between named stood core left mid some drains));
     own = λ k is.
-        with_more_id old core some name copies k is ∙ sym (ap (λ (d : Descriptor). d.id) drains.runs.leaves.keeps.descriptor) ∙ sym (ap (λ (c : Core). c.descriptor.id) (done.leaves.is) ∙ ap (λ (c : Core). c.descriptor.id) done.gives.is);
+        with_more_id old core some name copies k is ∙ sym (ap (λ (d : Descriptor). d.id) (path_frames drains.runs).keeps.descriptor) ∙ sym (ap (λ (c : Core). c.descriptor.id) (done.leaves.is) ∙ ap (λ (c : Core). c.descriptor.id) done.gives.is);
   }
   by_command (command.Mklvcopy name copies) acked stood (MklvcopyFails core left mid lv why some drains its done says) = absurd (cc (says))
   by_command (command.Rmlvcopy name copies) acked stood (NoGroupForRmlvcopy none is) = absurd (let e = is.0 in cc (e))
@@ -163,10 +163,10 @@ module _ (log : Log) (room : Room) (old new : ScriptState) (leaves : LeavesDescr
   by_command (command.Rmlvcopy name copies) acked stood (RemovesCopies core left mid lv some drains its done says) = record {
     core = done.leaves.core;
     on = done.leaves.session;
-    begun = handed_on done.left old new done.leaves (done.rests refl).0 (done.rests refl).1 (done.held refl (held_mid log.run old new leaves named stood core left mid some drains));
+    begun = handed_on done.left old new done.leaves (done.rests refl).0 (done.rests refl).1 (done.held refl (held_mid log.run old new between named stood core left mid some drains));
     own = λ k is.
         let fewer = told_and old.session (λ c. (n : ℕ) × IsNumberOf c.descriptor.lvs name n × IsWithFirst n copies c k) core some is in
-        fewer_id fewer.0 copies core k fewer.2 ∙ sym (ap (λ (d : Descriptor). d.id) drains.runs.leaves.keeps.descriptor) ∙ sym (ap (λ (c : Core). c.descriptor.id) (done.leaves.is) ∙ ap (λ (c : Core). c.descriptor.id) done.gives.is);
+        fewer_id fewer.0 copies core k fewer.2 ∙ sym (ap (λ (d : Descriptor). d.id) (path_frames drains.runs).keeps.descriptor) ∙ sym (ap (λ (c : Core). c.descriptor.id) (done.leaves.is) ∙ ap (λ (c : Core). c.descriptor.id) done.gives.is);
   }
   by_command (command.Rmlvcopy name copies) acked stood (RmlvcopyFails core left mid lv why some drains its done says) = absurd (cc (says))
   by_command _ acked stood does = absurd (cc (acked))

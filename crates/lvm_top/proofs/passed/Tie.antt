@@ -1,2 +1,2 @@
--- Passed on from `lvm_tie`.
-pub use Rattle.lvm_line.proofs.passed.Tie.{runs_both}
+-- Passed on from `lvm_going`.
+pub use Rattle.lvm_line.proofs.passed.Tie.{path_frames, runs_both}

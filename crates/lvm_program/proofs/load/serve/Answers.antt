@@ -2,6 +2,7 @@ use Rattle.std.proofs.Common.{◌∙◌, ap, sym}
 use Rattle.lvm_vol.specs.Log.{Log}
 use Rattle.lvm_session.specs.State.{state_of}
 use Rattle.lvm_top.specs.passed.GroupLines.{without_facts}
+use Rattle.lvm_top.proofs.passed.Tie.{path_frames}
 use Rattle.lvm_program.proofs.load.serve.Goals as goal
 
 pub serve_load-driver-requires-clause-unstuck : goal.serve_load-driver-requires-clause-unstuck
@@ -21,4 +22,4 @@ returns-clause-made g c = record {
 }
 
 pub returns-clause-rooms : goal.returns-clause-rooms
-returns-clause-rooms g c = ap without_facts c.close_ended.ensures.history ∙ c.serve_load-driver.ensures.runs.leaves.keeps.log
+returns-clause-rooms g c = ap without_facts c.close_ended.ensures.history ∙ (path_frames c.serve_load-driver.ensures.runs).keeps.log

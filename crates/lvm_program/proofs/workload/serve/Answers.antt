@@ -5,7 +5,7 @@ use Rattle.lvm_load.specs.Totals.{entries_since, totals_of}
 use Rattle.lvm_load.specs.Weaving.{first_weaving}
 use Rattle.lvm_session.specs.State.{state_of}
 use Rattle.lvm_top.specs.passed.GroupLines.{without_facts}
-use Rattle.lvm_top.proofs.passed.Tie.{runs_both}
+use Rattle.lvm_top.proofs.passed.Tie.{path_frames, runs_both}
 use Rattle.lvm_program.proofs.WovenLemmas.Woven.{causes_still, runs_unstuck}
 use Rattle.lvm_program.proofs.workload.serve.Goals as goal
 
@@ -47,4 +47,4 @@ returns-clause-rooms g c =
     let first = state_of device c.args.driver in
     let last = state_of device c.weave-woven.new.driver in
     let end = state_of device c.behind.new.driver in
-    ap without_facts c.close_ended.ensures.history ∙ (runs_both first last end c.weave-woven.ensures.runs c.behind.ensures.runs).leaves.keeps.log
+    ap without_facts c.close_ended.ensures.history ∙ (path_frames (runs_both first last end c.weave-woven.ensures.runs c.behind.ensures.runs)).keeps.log

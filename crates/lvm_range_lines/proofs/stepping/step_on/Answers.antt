@@ -4,6 +4,7 @@ use Rattle.lvm_group_lines.specs.declared.reply.Reply.{Reply}
 use Rattle.lvm_group_lines.specs.declared.stage.Stage.{Stage}
 use Rattle.lvm_group_lines.specs.Replies.{most_refusals}
 use Rattle.lvm_group_lines.specs.Stages.{HaveRooms, IsCarried}
+use Rattle.lvm_group_lines.proofs.passed.Tie.{path_frames}
 use Rattle.lvm_range_lines.specs.Stepping.{StepDoes, Steps}
 use Rattle.lvm_range_lines.proofs.LeavingLemmas.Ending.{RunsTo, carried_ends, carried_leaves, runs_to}
 use Rattle.lvm_range_lines.proofs.LeavingLemmas.Posting.{table_posts}
@@ -37,4 +38,4 @@ returns g c =
       leaves = carried_leaves device end c.args.posts c.args.bytes stage last carried;
       says = says;
     }))
-    (table_posts first.1 end.1 made.table c.args.posts.items c.requires.between.posted) rooms_then (λ on. made.runs.copy c.requires.between.session.copy) carried
+    (table_posts first.1 end.1 made.table c.args.posts.items c.requires.between.posted) rooms_then (λ on. (path_frames made.runs).copy c.requires.between.session.copy) carried

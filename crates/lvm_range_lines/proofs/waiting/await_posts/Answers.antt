@@ -1,7 +1,7 @@
 use Rattle.std.proofs.Common.{None, arith}
 use Rattle.lvm_posts.specs.declared.posts.Post.{Post}
 use Rattle.lvm_session.specs.State.{state_of}
-use Rattle.lvm_group_lines.proofs.passed.Tie.{stays_unstuck}
+use Rattle.lvm_group_lines.proofs.passed.Tie.{path_frames, stays_unstuck}
 use Rattle.lvm_range_lines.proofs.TakingLemmas.Awaiting.{all_awaited, none_awaited, one_awaited, one_in_vain, runs_now, table_now, waited_now}
 use Rattle.lvm_range_lines.proofs.waiting.await_posts.Goals as goal
 
@@ -12,7 +12,7 @@ pub loop-post-init : goal.loop-post-init
 loop-post-init g c = none_awaited c.args.posts.now (state_of g.S.Shelf.device c.args.driver.now) c.args.patience.now.left
 
 pub await_post-requires-clause-unstuck : goal.await_post-requires-clause-unstuck
-await_post-requires-clause-unstuck g c = stays_unstuck c.args.driver.now.1 c.loop-post.driver.1 c.loop-post.invariant.runs.leaves.keeps.power c.requires.unstuck
+await_post-requires-clause-unstuck g c = stays_unstuck c.args.driver.now.1 c.loop-post.driver.1 (path_frames c.loop-post.invariant.runs).keeps.power c.requires.unstuck
 
 pub await_post-requires-clause-laid : goal.await_post-requires-clause-laid
 await_post-requires-clause-laid g c = c.requires.laid c.loop-post.post-index first_post c.loop-post-test.true

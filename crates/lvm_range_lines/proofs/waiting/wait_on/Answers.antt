@@ -5,7 +5,7 @@ use Rattle.lvm_disk.specs.Paths.{Path}
 use Rattle.lvm_session.specs.declared.open.Power.TheVariants as power
 use Rattle.lvm_group_lines.specs.passed.Driver.{IsAny}
 use Rattle.lvm_session.specs.State.{state_of}
-use Rattle.lvm_group_lines.proofs.passed.Tie.{stays_unstuck}
+use Rattle.lvm_group_lines.proofs.passed.Tie.{path_frames, stays_unstuck}
 use Rattle.lvm_posts.specs.declared.posts.Post.{Post}
 use Rattle.lvm_posts.specs.Pieces.{IsLaidOut}
 use Rattle.lvm_group_lines.specs.declared.stage.Stage.{Stage}
@@ -24,7 +24,7 @@ await_posts-requires-clause-laid g c = subst (λ (ps : List Post). All (λ (post
 
 pub wait_landed-requires-clause-unstuck : goal.wait_landed-requires-clause-unstuck
 wait_landed-requires-clause-unstuck g c =
-    stays_unstuck c.args.driver.1 c.await_posts.new.driver.1 c.await_posts.ensures.runs.leaves.keeps.power (λ stuck. let e : power.On ≡ power.Stuck = sym c.requires.between.session.power ∙ stuck in cc e)
+    stays_unstuck c.args.driver.1 c.await_posts.new.driver.1 (path_frames c.await_posts.ensures.runs).keeps.power (λ stuck. let e : power.On ≡ power.Stuck = sym c.requires.between.session.power ∙ stuck in cc e)
 
 pub wait_landed-requires-clause-fits : goal.wait_landed-requires-clause-fits
 wait_landed-requires-clause-fits g c = fits_on g.S.Shelf.device c.args.driver c.args.posts c.args.bytes c.requires.fits c.await_posts.new.driver c.await_posts.ensures.runs c.args.posts c.requires.fits.rooms

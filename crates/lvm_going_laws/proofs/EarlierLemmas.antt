@@ -1,10 +1,11 @@
--- The answer of a request of an earlier session leaves a tied session tied.
+-- The answer of a request of an earlier session leaves a tied session tied, and runs it on.
 use Rattle.std.proofs.Common.{◌≡◌, inl, inr, ⊎_elim, ℕ, Bool, true, false, ◌||◌, ◌==◌, List, [], ◌∷◌, ◌++◌, Some, refl, sym, ◌∙◌, ap, subst}
 use Rattle.std.specs.Prelude.{IsFalse, is_some}
 use Rattle.std.specs.List.{list_any}
 use Rattle.std.proofs.lemmas.Bool.{ne_eqb, and_right}
 use Rattle.std.proofs.lemmas.List.Folds.{list_any-append}
 use Rattle.lvm_disk.specs.Device.{Flight, image_of}
+use Rattle.lvm_disk.proofs.CountingLemmas.{none_falls_at_once}
 use Rattle.lvm_disk.proofs.passed.Names.{all_at}
 use Rattle.lvm_kept.specs.Contents.{contents_of}
 use Rattle.lvm_vol.specs.Facts.{Request, Fact, Begun, Taken, Cut, Stands, joined, same_request}
@@ -12,9 +13,11 @@ use Rattle.lvm_vol.specs.Legal.{Fits, Legal, TakenOnce, lands, takes}
 use Rattle.lvm_vol.specs.Log.{asked, is_answered, request_of, taken_fact, with_fact}
 use Rattle.lvm_vol.proofs.LogLemmas.{follows_taken, found_of}
 use Rattle.lvm_vol.proofs.LawsLemmas.Legality.{fits_taken, legal_prefix}
+use Rattle.lvm_steps.proofs.LawsLemmas.Clock.{later_joins}
 use Rattle.lvm_session.specs.declared.flown.Flown.{Flown}
 use Rattle.lvm_session.specs.declared.flown.Owner.{Owner}
 use Rattle.lvm_session.specs.declared.flown.Owner.TheVariants as owner
+use Rattle.lvm_session.specs.declared.open.Power.TheVariants as power
 use Rattle.lvm_session.specs.State.{Core, State, state}
 use Rattle.lvm_session.specs.Calls.{is_asked}
 use Rattle.lvm_session.specs.Sound.{IsAsked, IsSound}
@@ -22,9 +25,16 @@ use Rattle.lvm_invariant.specs.Events.{TakeEarlier}
 use Rattle.lvm_invariant.specs.State.{Queued, ModelState}
 use Rattle.lvm_invariant.specs.TakeEarlier.{TakesEarlier}
 use Rattle.lvm_invariant.proofs.EventsLemmas.Each.{each_keeps}
-use Rattle.lvm_ranges.proofs.passed.Names.{quiet_lasts, sees_entered}
-use Rattle.lvm_ranges.specs.passed.Names.{CarriesStep, CarryTheirs, update_of, IsRequestAt, IsStepAt, Sees, IsTied}
-use Rattle.lvm_handover.proofs.EarlierAnswersLemmas.{apart_at, one_keeps}
+use Rattle.lvm_crash.proofs.RecordsLemmas.Quiet.{quiet_lasts}
+use Rattle.lvm_going.specs.Going.{EntersEarlier}
+use Rattle.lvm_going.proofs.EarlierLemmas.{apart_at, one_keeps}
+use Rattle.lvm_tie.specs.Out.{CarriesStep, CarryTheirs}
+use Rattle.lvm_tie.specs.Seen.{IsRequestAt, IsStepAt, Sees, update_of}
+use Rattle.lvm_tie.specs.Tied.{IsTied}
+use Rattle.lvm_tie.proofs.GoingOnLemmas.Spanning.{goes_entry}
+use Rattle.lvm_tie.proofs.LandingsLemmas.Causes.{goes_on}
+use Rattle.lvm_tie.proofs.SeenLemmas.Entered.{sees_entered}
+use Rattle.lvm_going_laws.specs.Laws.{RunsGood}
 
 -- ---- without the cut between an earlier history and this one
 
@@ -131,3 +141,30 @@ module _ (past : List Fact) (s : State) (tied : IsTied past s) (id : ℕ) (its :
     carry = carry_so s.device.flights core.flying tied.carry;
     notes = tied.notes;
   }
+
+-- ---- what it leaves
+
+module _ (s : State) (id : ℕ) (its : is_answered s.core.history.facts 1 id ≡ true) (gone : list_any (is_asked 1 id) s.core.requests ≡ false) (on : s.core.power ≡ power.On) where
+  abbrev fact : Fact
+  fact = taken_fact s.core.history.facts id
+
+  abbrev after : Core
+  after = record s.core { history = with_fact s.core.history fact }
+
+  runs_after : RunsGood s (state s.device after)
+  runs_after = record {
+    leaves = record {
+      good = goes_entry s.core.history.run s (state s.device after) (λ past tied. tied_beside past s tied id its gone) on fact refl refl;
+      descriptors = λ leaves. record { leaves = leaves; spares = λ spares. spares; finds = λ group k image may found. (image, may, found) };
+      before = λ moment before. record { leaves = before.leaves; session = before.session };
+      epoch = λ lit. record { epoch = refl; stamped = λ stamped. stamped };
+      later = λ moment later. later_joins moment s.core.history.facts (fact ∷ []) later tt;
+      causes = λ first was. goes_on s (state s.device after) (none_falls_at_once s.device.counts) refl refl first (fact ∷ []) refl (tt, tt) was.failed was;
+      keeps = record { sizes = refl; counts = none_falls_at_once s.device.counts; cut = λ lit dark. absurd (let e : true ≡ false = sym lit ∙ dark in cc e); log = refl; room = record { most = refl; long = refl }; descriptor = refl; origin = refl; power = inl refl };
+    };
+    orders = refl;
+    copy = λ none. none;
+  }
+
+pub earlier_runs_on : (s : State) (new : Core) (id : ℕ) → EntersEarlier s.core new id → RunsGood s (state s.device new)
+earlier_runs_on s new id it = subst (λ (core : Core). RunsGood s (state s.device core)) (sym it.is) (runs_after s id it.answered it.gone it.on)
