@@ -7,7 +7,7 @@ use Rattle.lvm_disk.specs.Paths.{DeviceStep, Started, WasCut, Ended, Broke, Wait
 use Rattle.lvm_disk.specs.declared.shelf.Arrange.{Arrange}
 use Rattle.lvm_disk.specs.declared.shelf.Arrange.TheVariants as arrange
 use Rattle.lvm_disk.proofs.StepsLemmas.{step_orders}
-use Rattle.lvm_order_laws.specs.Alone.{HeedsAlone, IsWell, AloneLaw, WellLaw, NothingFailed}
+use Rattle.lvm_order_laws.specs.Alone.{HeedsAlone, IsWell, IsUnharmed, AloneLaw, AlwaysLaw, UnharmedLaw, WellLaw, NothingCounted, NothingFailed}
 use Rattle.lvm_order_laws.specs.Worked.{fresh}
 
 -- ---- what is told is so
@@ -63,6 +63,16 @@ stays_alone old new (Waited waits) heeds = with_both old new heeds (ap (λ (d : 
 stays_alone old new (Freed buf freed) heeds = with_both old new heeds (sym (ap (λ (d : Device). d.orders) freed)) (sym (ap (λ (d : Device). d.counts.cuts) freed))
 stays_alone old new (Lit flights freed lit) heeds = with_both old new heeds (ap (λ (d : Device). d.orders) lit) (ap (λ (d : Device). d.counts.cuts) lit)
 stays_alone old new (Arranged what is) heeds = arranged_heeds old new what heeds is
+
+at_last : (first last : Device) → Path DeviceStep HeedsAlone first last → HeedsAlone last
+at_last first last (Here heeds) = heeds
+at_last first last (Then path step heeds) = heeds
+
+pub heeds_always : AlwaysLaw
+heeds_always first last (Here p) heeds = Here heeds
+heeds_always first last (Then {m} path step p) heeds =
+    let before = heeds_always first m path heeds in
+    Then before step (stays_alone m last step (at_last first m before))
 
 -- ---- no order
 
@@ -142,11 +152,22 @@ all_steps first last (Then {m} path step p) is = one_more first m last is step (
 pub nothing_by_itself : WellLaw
 nothing_by_itself first last path is same = ⊎_elim (λ more. absurd (omega (arith, more, same))) (λ none. none.0) (all_steps first last path is)
 
+still_none : (old new : Counts) → NothingFailed old new → NothingCounted old → NothingCounted new
+still_none old new same none = record { misses = λ d. same.misses d ∙ none.misses d; faults = λ d. same.faults d ∙ none.faults d; cuts = same.cuts ∙ none.cuts; waits = same.waits ∙ none.waits }
+
+pub stays_unharmed : UnharmedLaw
+stays_unharmed first last path is same =
+    let none = nothing_by_itself first last path is.well (ap (λ (o : Orders). o.made) same) in
+    record { well = still_well first last is.well none same; counted = still_none first.counts last.counts none is.counted }
+
 -- ---- worked
 
 none_fails : (disk : ℕ) → slice_index_or (false ∷ []) disk false ≡ false
 none_fails zero = refl
 none_fails (suc disk) = refl
 
-pub fresh_is_well : IsWell fresh
+fresh_is_well : IsWell fresh
 fresh_is_well = record { heeds = record { ordered = record { cuts = 0; failing = false ∷ [] }; told = refl; cuts = refl }; well = none_fails; few_cuts = omega arith; few_orders = omega arith }
+
+pub fresh_is_unharmed : IsUnharmed fresh
+fresh_is_unharmed = record { well = fresh_is_well; counted = record { misses = λ d. refl; faults = λ d. refl; cuts = refl; waits = refl } }

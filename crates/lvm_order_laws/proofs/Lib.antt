@@ -1,1 +1,1 @@
-mod AloneLemmas
+pub mod AloneLemmas

@@ -14,6 +14,10 @@ pub record HeedsAlone (device : Device) : Type 0 where
 abbrev pub AloneLaw : Type 0
 AloneLaw = (old new : Device) → DeviceStep old new → HeedsAlone old → HeedsAlone new
 
+-- so it is at each moment of any steps
+abbrev pub AlwaysLaw : Type 0
+AlwaysLaw = (first last : Device) → Path DeviceStep (λ d. Unit {0}) first last → HeedsAlone first → Path DeviceStep HeedsAlone first last
+
 -- nor is any disk ordered to fail; and neither cuts nor orders were counted up to the last value
 pub record IsWell (device : Device) : Type 0 where
   pub heeds : HeedsAlone device
@@ -31,3 +35,19 @@ pub record NothingFailed (old new : Counts) : Type 0 where
 -- so it is over any steps among which no order is made
 abbrev pub WellLaw : Type 0
 WellLaw = (first last : Device) → Path DeviceStep (λ d. Unit {0}) first last → IsWell first → last.orders.made ≡ first.orders.made → NothingFailed first.counts last.counts
+
+-- no transfer has failed ever, the power was never cut, and no reap has ended nothing
+pub record NothingCounted (counts : Counts) : Type 0 where
+  pub misses : (disk : ℕ) → counts.misses disk ≡ 0
+  pub faults : (disk : ℕ) → counts.faults disk ≡ 0
+  pub cuts : counts.cuts ≡ 0
+  pub waits : counts.waits ≡ 0
+
+-- a shelf that does nothing by itself, and over which nothing has happened yet
+pub record IsUnharmed (device : Device) : Type 0 where
+  pub well : IsWell device
+  pub counted : NothingCounted device.counts
+
+-- it stays so too
+abbrev pub UnharmedLaw : Type 0
+UnharmedLaw = (first last : Device) → Path DeviceStep (λ d. Unit {0}) first last → IsUnharmed first → last.orders ≡ first.orders → IsUnharmed last
