@@ -3,3 +3,4 @@ mod ProgramLemmas
 mod WovenLemmas
 mod LoadedLemmas
 mod SimLemmas
+mod HeedingLemmas

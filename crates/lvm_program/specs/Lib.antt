@@ -1,4 +1,5 @@
 pub mod Blank
+pub mod Heeding
 pub mod Program
 pub mod Sim
 pub mod Woven

@@ -1,5 +1,7 @@
 -- What the program does by the words of its command line.
 use Rattle.std.specs.Prelude.{◌≡◌, ◌⊎◌, ◌++◌, ℕ, Bool, List, [], Option, Some, None, Result, Ok, Err, codes}
+use Rattle.lvm_disk.specs.Paths.{DeviceStep, Path}
+use Rattle.lvm_order_laws.specs.Alone.{HeedsAlone, IsUnharmed}
 use Rattle.lvm_io.specs.Count.{Rose, next_count}
 use Rattle.lvm_io.specs.Stream.{WhereTold, WritesFront}
 use Rattle.lvm_load.specs.Script.{script_text}
@@ -9,7 +11,9 @@ use Rattle.lvm_vol.specs.Facts.{joined}
 use Rattle.lvm_vol.specs.Legal.{Legal}
 use Rattle.lvm_load.specs.declared.workload.Workload.{Workload}
 use Rattle.lvm_parse.specs.Forced.{HasNowhere}
-use Rattle.lvm_top.specs.Run.{Run, Promises, WhereAlone}
+use Rattle.lvm_program.specs.Heeding.{GoesWell, IsTroubled, RanUnordered}
+use Rattle.lvm_top.specs.OneGroup.{RanUnforced}
+use Rattle.lvm_top.specs.Run.{Run, IsRun, Promises, RanAlone, WhereAlone}
 use Rattle.lvm_top.specs.Script.{Passage, facts_of}
 use Rattle.lvm_program.specs.Woven.{GoesWoven, PromisesWoven}
 use Rattle.lvm_program.specs.declared.load.LoadWords.{LoadWords}
@@ -146,18 +150,25 @@ LeavesAlone (Ok Version) files input out err clock images = files × input × er
 LeavesAlone (Err why) files input out err clock images = files × input × out × clock × images
 
 -- What a run over disks that hold nothing promises beside: no moment can be earlier than the run's, and nothing was told before. If its script has nowhere `-f`,
--- then its history is legal, and each crash image that the disks may leave is kept with it.
+-- then its history is legal, and each crash image that the disks may leave is kept with it. Where no line is a `mkvg -f` it finds no other group. At each moment
+-- a transfer fails only on a disk that is ordered to fail, and the power is cut only by order; so a run that orders nothing goes well.
 pub record PromisesBlank (asked : ℕ) (r : Run) : Type 0 where
   pub promises : Promises asked r
   pub plain : (bytes : List ℕ) → r.input.before.content ≡ Some bytes → HasNowhere (codes "-f") bytes → Legal (joined [] (facts_of r.history)) × ImagesKept r.exit (joined [] (facts_of r.history))
   pub upheld : WhereAlone r (IsUpheld r.named r.entry r.exit (facts_of r.history))
   pub first : WhereAlone r (Legal (joined [] (facts_of r.history)) × ImagesKept r.exit (joined [] (facts_of r.history)))
+  pub alone : (ran : IsRun r) → RanUnforced ran → RanAlone ran
+  pub heeds : WhereAlone r (Path DeviceStep HeedsAlone r.entry r.exit)
+  pub well : (ran : IsRun r) → RanAlone ran → RanUnordered ran → GoesWell ran
 
--- and what one of a workload does so
+-- and what one of a workload does so, which orders nothing
 pub record PromisesWovenBlank (disks mib : ℕ) (load : Workload) (asked : ℕ) (r : Run) : Type 0 where
   pub promises : PromisesWoven disks mib load asked r
   pub upheld : GoesWoven disks mib load r → IsUpheld r.named r.entry r.exit (facts_of r.history)
   pub first : GoesWoven disks mib load r → Legal (joined [] (facts_of r.history)) × ImagesKept r.exit (joined [] (facts_of r.history))
+  pub heeds : GoesWoven disks mib load r → Path DeviceStep HeedsAlone r.entry r.exit
+  pub unharmed : GoesWoven disks mib load r → IsUnharmed r.exit
+  pub untroubled : (goes : GoesWoven disks mib load r) → IsTroubled goes.answer → ⊥
 
 -- The script was written whole, or else a front of it was, and the sink failed or memory ran out.
 pub record IsGenerated (seed count : ℕ) (status : ExitStatus) (out : Passage) : Type 0 where

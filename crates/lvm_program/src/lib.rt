@@ -3,12 +3,14 @@
 
 mod generate;
 mod image;
+mod laws;
 mod load;
 mod program;
 mod workload;
 
 pub use generate::run_gen;
 pub use image::run_image;
+pub use laws::{unordered_runs_go_well, worked_run};
 pub use load::{LoadWords, run_load};
 pub use lvm_load::{Load, Workload};
 pub use lvm_top::{Ended, ExitStatus, Room, run_script};

@@ -1,11 +1,11 @@
 //! The program by the words of its command line.
 ghost use Rattle.std.specs.Prelude.{◌≡◌, ◌≤◌, None, IfOk, IfErr, IfSome, IfNone};
 ghost use Rattle.lvm_disk.specs.Device.{IsReady};
-ghost use Rattle.lvm_memory.specs.Memory.{device_of};
+ghost use Rattle.lvm_memory.specs.Memory.{bench_of, device_of};
 ghost use Rattle.lvm_program.specs.Program.{OnScript, OnSim, OnDrawn, OnLoad, OnImage, OnText, help_text, version_line, usage_line, IsTold, IsSaid, IsUnrun, IsUsage, IsGenerated, IsImaged, LeavesAlone, PromisesBlank, PromisesWovenBlank};
 ghost use Rattle.lvm_top.specs.Run.{Promises, ran};
 ghost use Rattle.lvm_top.specs.Script.{passage};
-ghost use Rattle.lvm_program.specs.Sim.{full_room, sim_device};
+ghost use Rattle.lvm_program.specs.Sim.{full_room, sim_bench, sim_device};
 ghost use Rattle.lvm_program.specs.Loaded.{PromisesLoaded};
 ghost use Rattle.lvm_program.specs.Woven.{asked_woven, untold};
 ghost use Rattle.lvm_words.specs.Words.{job_of};
@@ -52,7 +52,8 @@ fn full_room() -> Room
 // Disks of zeros, each of so many MiB.
 fn blank_shelf(alloc: Global, disks: u16, mib: u32) -> Result<MemShelf, Memory>
     requires { (1 ≤ disks) × (disks ≤ 32) × (mib ≤ 64) }
-    ensures { IfOk result (λ shelf. device_of shelf ≡ sim_device disks mib) }
+    ensures device { IfOk result (λ shelf. device_of shelf ≡ sim_device disks mib) }
+    ensures bench { IfOk result (λ shelf. bench_of shelf ≡ sim_bench disks mib) }
 {
     let Ok(sizes) = vec![in alloc; 2_048 * mib as u64; disks as usize] else {
         return Err(Memory);

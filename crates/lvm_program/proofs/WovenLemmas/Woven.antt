@@ -3,6 +3,9 @@ use Rattle.std.proofs.Common.{◌≡◌, ◌≢◌, ◌⊎◌, inl, inr, ⊎_eli
 use Rattle.std.specs.Prelude.{IsSomeAnd}
 use Rattle.std.proofs.lemmas.List.{append-nil}
 use Rattle.lvm_disk.specs.Device.{Device, IsReady}
+use Rattle.lvm_disk.specs.Paths.{DeviceStep, Path}
+use Rattle.lvm_order_laws.specs.Alone.{IsUnharmed, NothingCounted}
+use Rattle.lvm_order_laws.proofs.AloneLemmas.{heeds_always, stays_unharmed}
 use Rattle.lvm_io.specs.Count.{Rose, next_count}
 use Rattle.lvm_io.specs.Stream.{WhereTold, WritesFront}
 use Rattle.lvm_io.proofs.StreamLemmas.Told.{told_on}
@@ -38,6 +41,9 @@ use Rattle.lvm_top.specs.declared.status.ExitStatus.{ExitStatus}
 use Rattle.lvm_top.specs.declared.status.ExitStatus.TheVariants as ended
 use Rattle.lvm_top.proofs.passed.Tie.{path_frames}
 use Rattle.lvm_program.specs.Program.{PromisesWovenBlank}
+use Rattle.lvm_line.specs.Lines.{IsOrder}
+use Rattle.lvm_program.specs.Heeding.{IsNoOrder, IsTroubled}
+use Rattle.lvm_program.proofs.HeedingLemmas.{closed_orders, concludes_orders, device_path, untroubled}
 use Rattle.lvm_top.specs.Laws.{MayStart}
 use Rattle.lvm_top.specs.Plain.{FindsNoPassive, FindsOneGroup}
 use Rattle.lvm_top.specs.OneGroup.{IsUnforced}
@@ -49,7 +55,7 @@ use Rattle.lvm_program.specs.Sim.{full_room, sim_device}
 use Rattle.lvm_program.specs.Woven.{AreMadeAlone, Drawn, EndsWoven, Exit, GoesWoven, HasAsked, HasGroup, IsDrawn, IsMade, IsMadeForCause, HasServed, IsServed, IsSized, IsWoven, IsWovenAlone, NoGroup, NotMade, PromisesWoven, TellsWoven, TurnsBehind, asked_woven, exit_from, exit_of, mklv_line, mkvg_line, refusal_text, status_woven, totals_text, untold, woven_text}
 use Rattle.lvm_top.proofs.MomentsLemmas.{told_behind, told_earlier}
 use Rattle.lvm_program.proofs.WovenLemmas.Making.{group_reads, group_unforced, volume_reads, volume_unforced}
-use Rattle.lvm_program.proofs.SimLemmas.{sim_few, sim_told}
+use Rattle.lvm_program.proofs.SimLemmas.{sim_few, sim_told, sim_unharmed}
 use Rattle.lvm_top.proofs.ScriptLemmas.Concluding.{Concluded, closed_concluded, concluded, each_is_ahead, off_still}
 use Rattle.lvm_top.proofs.TurnLemmas.{stuck_is_off}
 use Rattle.lvm_top.proofs.RecoveredLemmas.{HasNoPassiveOn}
@@ -365,7 +371,7 @@ module _ (disks mib : ℕ) (load : Workload) (r : Run) (ready : IsReady r.entry)
   timely clock = begins_timely r.named r.entry ready.flights clock
 
   -- a span leads from the entry to the exit
-  spanned : IsBehind r.named r.entry → IsWovenAlone goes → Keeps r.named start (exit_from r).moment
+  pub spanned : IsBehind r.named r.entry → IsWovenAlone goes → Keeps r.named start (exit_from r).moment
   spanned clock alone = by its_end (made.keeps (timely clock) alone.0 start (keeps_still r.named start) (λ past begins. tt))
     where
       by : ConcludesSo r.named goes.answer goes.end (exit_from r).moment → Keeps r.named start goes.end.moment × ((IsStuck goes.answer → ⊥) → StandsBy r.named start goes.end) → Keeps r.named start (exit_from r).moment
@@ -405,6 +411,59 @@ module _ (disks mib : ℕ) (load : Workload) (r : Run) (ready : IsReady r.entry)
         let upheld = woven_upheld woven_alone (told_behind r.named r.entry blank) in
         let earlier = told_earlier r.named r.entry blank in
         (upheld.legal [] earlier, upheld.kept [] earlier)
+
+-- ---- a shelf that heeds orders alone
+
+-- the run orders nothing
+module _ (log : Log) (room : Room) (disks mib : ℕ) (sized : IsSized disks mib) where
+  no_group_order : IsNoOrder (mkvg_line disks)
+  no_group_order order = subst IsOrder (group_reads disks sized.0 sized.1) order
+
+  no_volume_order : IsNoOrder (mklv_line disks mib)
+  no_volume_order order = subst IsOrder (volume_reads disks mib sized) order
+
+  made_orders : (first : ScriptState) (answer : Reply) (last : ScriptState) → IsMade log room (mkvg_line disks) (mklv_line disks mib) first answer last → last.moment.device.orders ≡ first.moment.device.orders
+  made_orders first answer last (NoGroup not it) = it.orders no_group_order
+  made_orders first answer last (HasGroup mid makes it) = it.orders no_volume_order ∙ makes.orders no_group_order
+
+  -- its lines aren't refused for what the shelf did
+  made_untroubled : (first : ScriptState) (answer : Reply) (last : ScriptState) → NothingCounted last.moment.device.counts → IsMade log room (mkvg_line disks) (mklv_line disks mib) first answer last → IsTroubled answer → ⊥
+  made_untroubled first answer last none (NoGroup not it) = untroubled log room (mkvg_line disks) first last none answer it
+  made_untroubled first answer last none (HasGroup mid makes it) = untroubled log room (mklv_line disks mib) mid last none answer it
+
+ends_orders : (blocks : ℕ) (load : Workload) (answer : Reply) (run : ℕ) (end : Moment) (on : Option Core) (exit : Exit) → EndsWoven blocks load answer run end on exit → exit.moment.device.orders ≡ end.device.orders
+ends_orders blocks load answer run end on exit (NotMade not it) = concludes_orders run end exit.moment on it.concludes
+ends_orders blocks load answer run end on exit (Drawn ok core some vols named facts served) =
+    closed_orders served.drawn.end.core.power served.drawn.end.device exit.moment.device served.drawn.closed ∙ served.drawn.runs.orders
+
+module _ (disks mib : ℕ) (load : Workload) (r : Run) (ready : IsReady r.entry) (goes : GoesWoven disks mib load r) (sized : IsSized disks mib) (few : HasFewDisks r.entry) (blank : IsToldBlank r.entry) where
+  abbrev its_log : Log
+  its_log = empty_log r.named r.room
+
+  abbrev its_first : ScriptState
+  its_first = entry_state r.entry r.named
+
+  its_clock : IsBehind r.named r.entry
+  its_clock = told_behind r.named r.entry blank
+
+  pub woven_path : Path DeviceStep (λ d. Unit {0}) r.entry r.exit
+  woven_path = device_path _ (record { device = r.entry; facts = [] }) (exit_from r).moment (spanned disks mib load r ready goes its_clock (woven_alone disks mib load r ready goes sized few blank))
+
+  made_path : Path DeviceStep (λ d. Unit {0}) r.entry goes.end.moment.device
+  made_path =
+      let made = makes_so its_log r.room (mkvg_line disks) (mklv_line disks mib) its_first goes.answer goes.end goes.made in
+      let kept = made.keeps (begins_timely r.named r.entry ready.flights its_clock) (woven_alone disks mib load r ready goes sized few blank).0 (record { device = r.entry; facts = [] }) (keeps_still r.named (record { device = r.entry; facts = [] })) (λ past begins. tt) in
+      device_path _ (record { device = r.entry; facts = [] }) goes.end.moment kept.0
+
+  module _ (unharmed : IsUnharmed r.entry) where
+    made_is : goes.end.moment.device.orders ≡ r.entry.orders
+    made_is = made_orders its_log r.room disks mib sized its_first goes.answer goes.end goes.made
+
+    pub woven_unharmed : IsUnharmed r.exit
+    woven_unharmed = stays_unharmed r.entry r.exit woven_path unharmed (ends_orders (2048 * (mib - 2)) load goes.answer r.named goes.end.moment goes.end.session (exit_from r) goes.ends ∙ made_is)
+
+    pub woven_untroubled : IsTroubled goes.answer → ⊥
+    woven_untroubled = made_untroubled its_log r.room disks mib sized its_first goes.answer goes.end (stays_unharmed r.entry goes.end.moment.device made_path unharmed made_is).counted goes.made
 
 -- what is promised of a run, by what it does
 pub woven_promises : (disks mib : ℕ) → IsSized disks mib → (load : Workload) (asked : ℕ) (r : Run) → IfSome r.history (λ log. Rose asked log.run × (log.run ≤ r.last)) → IsWoven disks mib load r → PromisesWoven disks mib load asked r
@@ -489,11 +548,17 @@ module _ (disks mib : ℕ) (sized : IsSized disks mib) (load : Workload) (asked 
   its_blank : IsToldBlank r.entry
   its_blank = subst IsToldBlank (sym is) (sim_told disks mib)
 
+  its_unharmed : IsUnharmed r.entry
+  its_unharmed = subst IsUnharmed (sym is) (sim_unharmed disks mib)
+
   blank_promises : PromisesWovenBlank disks mib load asked r
   blank_promises = record {
     promises = promises;
     upheld = λ goes. promises.upheld goes (woven_alone disks mib load r promises.does.ready goes sized its_few its_blank) (told_behind r.named r.entry its_blank);
     first = λ goes. promises.first goes its_few its_blank;
+    heeds = λ goes. heeds_always r.entry r.exit (woven_path disks mib load r promises.does.ready goes sized its_few its_blank) its_unharmed.well.heeds;
+    unharmed = λ goes. woven_unharmed disks mib load r promises.does.ready goes sized its_few its_blank its_unharmed;
+    untroubled = λ goes. woven_untroubled disks mib load r promises.does.ready goes sized its_few its_blank its_unharmed;
   }
 
   pub sim_weaves : r.room ≡ full_room → PromisesWovenBlank disks mib load asked (record r { entry = sim_device disks mib; room = full_room })

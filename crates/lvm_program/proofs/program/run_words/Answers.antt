@@ -46,7 +46,7 @@ pub returns-in-Ok-blank_shelf-clause-sim : goal.returns-in-Ok-blank_shelf-clause
 returns-in-Ok-blank_shelf-clause-sim g c =
     let is : job_of c.args.words.now ≡ Ok (Sim c.in-Sim.disks c.in-Sim.mib) = c.in-Ok.ensures.job ∙ ap (λ (j : Job). Ok j) c.in-Sim.is in
     let within = subst IsWithin c.in-Sim.is c.in-Ok.ensures.within in
-    on_sim_at _ c.in-Sim.disks c.in-Sim.mib is _ (sim_promises _ _ c.in-Sim.disks c.in-Sim.mib within.1 c.in-Ok-blank_shelf.ensures c.run_script-ended.ensures.run c.full_room-in-Ok-blank_shelf.ensures, tt)
+    on_sim_at _ c.in-Sim.disks c.in-Sim.mib is _ (sim_promises _ _ c.in-Sim.disks c.in-Sim.mib within.1 c.in-Ok-blank_shelf.ensures.device c.run_script-ended.ensures.run c.full_room-in-Ok-blank_shelf.ensures, tt)
 
 pub returns-in-Ok-blank_shelf-2-clause-drawn : goal.returns-in-Ok-blank_shelf-2-clause-drawn
 returns-in-Ok-blank_shelf-2-clause-drawn g c =
@@ -55,4 +55,4 @@ returns-in-Ok-blank_shelf-2-clause-drawn g c =
     let is : job_of c.args.words.now ≡ Ok (Weave disks mib c.in-Weave.clients c.in-Weave.requests c.in-Weave.seed) = c.in-Ok.ensures.job ∙ ap (λ (j : Job). Ok j) c.in-Weave.is in
     let within = subst IsWithin c.in-Weave.is c.in-Ok.ensures.within in
     on_weave_at _ disks mib c.in-Weave.clients c.in-Weave.requests c.in-Weave.seed is _ _
-    ((sim_weaves disks mib (within.0, within.1, within.2, within.3) _ _ _ c.in-Ok-blank_shelf-2.ensures c.run_weave-ended.ensures.run c.full_room-in-Ok-blank_shelf-2.ensures, c.run_weave-ended.ensures.asked), tt)
+    ((sim_weaves disks mib (within.0, within.1, within.2, within.3) _ _ _ c.in-Ok-blank_shelf-2.ensures.device c.run_weave-ended.ensures.run c.full_room-in-Ok-blank_shelf-2.ensures, c.run_weave-ended.ensures.asked), tt)

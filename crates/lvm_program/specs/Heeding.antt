@@ -1,0 +1,117 @@
+-- What a run does over a shelf that heeds orders alone, and where no line orders anything.
+use Rattle.std.specs.Prelude.{◌≡◌, ℕ, true, List, Option, Some, Result, Ok}
+use Rattle.lvm_disk.specs.Device.{Ordered}
+use Rattle.lvm_disk.specs.Paths.{DeviceStep, Path}
+use Rattle.lvm_disk.specs.Steps.{after_order}
+use Rattle.lvm_disk.specs.declared.shelf.Arrange.TheVariants as arrange
+use Rattle.lvm_order_laws.specs.Alone.{HeedsAlone, IsUnharmed}
+use Rattle.lvm_vol.specs.Facts.{Fact}
+use Rattle.lvm_vol.specs.Log.{Log}
+use Rattle.lvm_parse.specs.declared.command.Command.{Command}
+use Rattle.lvm_parse.specs.declared.command.Command.TheVariants as command
+use Rattle.lvm_operands.specs.declared.rest.Misfit.{Misfit}
+use Rattle.lvm_parse.specs.Grammar.{line_of}
+use Rattle.lvm_steps.specs.Behind.{IsBehind}
+use Rattle.lvm_core.specs.declared.parts.Room.{Room}
+use Rattle.lvm_line.specs.Lines.{IsOrder}
+use Rattle.lvm_line.specs.passed.GroupLines.{Reply, ScriptState}
+use Rattle.lvm_group_lines.specs.declared.reply.Refusal.TheVariants as refusal
+use Rattle.lvm_line.specs.passed.ReplyVariants as reply
+use Rattle.lvm_top.specs.declared.status.ExitStatus.TheVariants as ended
+use Rattle.lvm_top.specs.Laws.{MayStart}
+use Rattle.lvm_top.specs.Run.{Run, IsRun, RanAlone, WhereAlone}
+use Rattle.lvm_top.specs.Script.{Script, NoLine, NextLine, StaysAlone, Ends, AtLine, InLine}
+
+-- ---- lines that order nothing
+
+-- the line is no `fail`, `heal` or `cut`
+abbrev pub IsNoOrder : List ℕ → Type 0
+IsNoOrder line = IsOrder (line_of line) → ⊥
+
+-- so is each line of the script,
+abbrev pub AreNoOrders : {log : Log} {room : Room} {first : ScriptState} {lines : List (List ℕ)} {replies : List Reply} {last : ScriptState} → Script log room first lines replies last → Type 0
+AreNoOrders NoLine = Unit {0}
+AreNoOrders (NextLine line answer said heard says before does) = AreNoOrders before × IsNoOrder line
+
+-- and the one in which it ended
+abbrev pub EndsNoOrder : {log : Log} {room : Room} {mid last : ScriptState} {done : List (List ℕ)} {said : List Reply} {front : List ℕ} → Ends log room mid last done said front → Type 0
+EndsNoOrder (AtLine same) = Unit {0}
+EndsNoOrder (InLine line answer said front rest says split does) = IsNoOrder line
+
+abbrev pub RanUnordered : {r : Run} → IsRun r → Type 0
+RanUnordered ran = AreNoOrders ran.lines.script × EndsNoOrder ran.lines.ends
+
+-- ---- refusals for what a shelf did
+
+-- A transfer failed, too few votes were left for that, the power was cut, or nothing was heard of a transfer.
+abbrev pub IsTroubled : Reply → Type 0
+IsTroubled (reply.Refused (refusal.DiskFailed disk)) = Unit {0}
+IsTroubled (reply.Refused refusal.Lost) = Unit {0}
+IsTroubled (reply.Refused refusal.ReadFailed) = Unit {0}
+IsTroubled (reply.Refused (refusal.WentOff have total)) = Unit {0}
+IsTroubled (reply.Refused refusal.Dark) = Unit {0}
+IsTroubled (reply.Refused refusal.Stuck) = Unit {0}
+IsTroubled (reply.Refused (refusal.SyncFailed disk)) = Unit {0}
+IsTroubled other = ⊥
+
+-- no line of the script is answered so,
+abbrev pub AreUntroubled : {log : Log} {room : Room} {first : ScriptState} {lines : List (List ℕ)} {replies : List Reply} {last : ScriptState} → Script log room first lines replies last → Type 0
+AreUntroubled NoLine = Unit {0}
+AreUntroubled (NextLine line answer said heard says before does) = AreUntroubled before × (IsTroubled answer → ⊥)
+
+-- nor the one in which it ended
+abbrev pub EndsUntroubled : {log : Log} {room : Room} {mid last : ScriptState} {done : List (List ℕ)} {said : List Reply} {front : List ℕ} → Ends log room mid last done said front → Type 0
+EndsUntroubled (AtLine same) = Unit {0}
+EndsUntroubled (InLine line answer said front rest says split does) = IsTroubled answer → ⊥
+
+-- No line of the run was answered so, it didn't end with status 6, and nothing has happened to the shelf at exit.
+pub record GoesWell {r : Run} (ran : IsRun r) : Type 0 where
+  pub lines : AreUntroubled ran.lines.script
+  pub ends : EndsUntroubled ran.lines.ends
+  pub heard : r.status ≡ ended.Stuck → ⊥
+  pub exit : IsUnharmed r.exit
+
+-- ---- what is ordered
+
+-- what a line that is answered `ok` makes of what was ordered before, with the power on
+abbrev pub orders_of : Result (Option Command) Misfit → Ordered → Ordered
+orders_of (Ok (Some (command.Fail disk))) ordered = after_order true (arrange.Fail disk) ordered
+orders_of (Ok (Some (command.Heal disk))) ordered = after_order true (arrange.Heal disk) ordered
+orders_of (Ok (Some (command.Cut word))) ordered = after_order true (arrange.Cut word) ordered
+orders_of read ordered = ordered
+
+-- what one makes that is answered so
+abbrev pub ordered_after : Reply → Result (Option Command) Misfit → Ordered → Ordered
+ordered_after reply.Ok read ordered = orders_of read ordered
+ordered_after other read ordered = ordered
+
+-- what the lines of a script make, one after another
+abbrev pub ordered_behind : {log : Log} {room : Room} {first : ScriptState} {lines : List (List ℕ)} {replies : List Reply} {last : ScriptState} → Script log room first lines replies last → Ordered → Ordered
+ordered_behind NoLine ordered = ordered
+ordered_behind (NextLine line answer said heard says before does) ordered = ordered_after answer (line_of line) (ordered_behind before ordered)
+
+-- ---- laws
+
+-- A shelf that heeds orders alone tells behind the lines of a script just what these lines ordered: a disk fails that a `fail` named, and no `heal` since.
+abbrev pub LinesOrderAlone : Type 0
+LinesOrderAlone =
+    (log : Log) (room : Room) (first : ScriptState) (lines : List (List ℕ)) (replies : List Reply) (last : ScriptState) (script : Script log room first lines replies last)
+    → first.moment.device.power ≡ true → (ordered : Ordered) → first.moment.device.orders.alone ≡ Some ordered → last.moment.device.orders.alone ≡ Some (ordered_behind script ordered)
+
+-- Lines that order nothing of such a shelf aren't answered so, and nothing happens to it; where no other group is found at the lines that ask for that.
+abbrev pub UnorderedScriptsGoWell : Type 0
+UnorderedScriptsGoWell =
+    (log : Log) (room : Room) (past : List Fact) (first : ScriptState) (lines : List (List ℕ)) (replies : List Reply) (last : ScriptState) (script : Script log room first lines replies last)
+    → MayStart log.run past first → StaysAlone script → IsUnharmed first.moment.device → AreNoOrders script → AreUntroubled script × IsUnharmed last.moment.device
+
+-- So a run goes well,
+abbrev pub UnorderedRunsGoWell : Type 0
+UnorderedRunsGoWell = (r : Run) (ran : IsRun r) → IsBehind r.named r.entry → RanAlone ran → IsUnharmed r.entry → RanUnordered ran → GoesWell ran
+
+-- and in each run, whatever it orders, the shelf heeds orders alone at each moment from entry to exit.
+abbrev pub RunsHeedAlone : Type 0
+RunsHeedAlone = (r : Run) → WhereAlone r (IsBehind r.named r.entry → HeedsAlone r.entry → Path DeviceStep HeedsAlone r.entry r.exit)
+
+-- Some run is such a one.
+abbrev pub SomeRunGoesWell : Type 0
+SomeRunGoesWell = (r : Run) × ((ran : IsRun r) × IsBehind r.named r.entry × RanAlone ran × IsUnharmed r.entry × RanUnordered ran)

@@ -1,0 +1,16 @@
+//! Laws of runs over shelves that heed orders alone. Each call does nothing: its contract is the law.
+ghost use Rattle.lvm_program.specs.Heeding.{LinesOrderAlone, RunsHeedAlone, SomeRunGoesWell, UnorderedRunsGoWell, UnorderedScriptsGoWell};
+
+/// Lines that don't order a disk to fail or the power to be cut, over a shelf that heeds orders alone, are refused for nothing that a shelf
+/// does, as a failed transfer or a power cut. In each run over such a shelf nothing happens by itself.
+pub fn unordered_runs_go_well()
+    ensures scripts { UnorderedScriptsGoWell }
+    ensures runs { UnorderedRunsGoWell }
+    ensures heed { RunsHeedAlone }
+    ensures ordered { LinesOrderAlone }
+{}
+
+/// A run without lines over a shelf that was just made meets what the law asks.
+pub fn worked_run()
+    ensures { SomeRunGoesWell }
+{}
