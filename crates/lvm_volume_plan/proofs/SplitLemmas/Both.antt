@@ -1,10 +1,10 @@
 -- The descriptor with both volumes of a split.
-use Rattle.std.proofs.Common.{◌≡◌, ◌≢◌, ◌⊎◌, inl, inr, ⊎_elim, ℕ, ◌+◌, ◌-◌, ◌<◌, ◌≤◌, ◌^◌, Bool, true, false, List, [], ◌∷◌, ◌++◌, length, get_or, map, take, drop, Option, Some, None, refl, sym, ap, subst, ◌∙◌, eq-eqb, arith}
-use Rattle.std.specs.Prelude.{◌==◌, find, insert, All, AllPairs, IsTrue, IsSome, if◌then◌else◌}
-use Rattle.std.proofs.lemmas.Bool.{cases_eq, eqb-true}
+use Rattle.std.proofs.Common.{◌≡◌, ◌≢◌, ◌⊎◌, inl, inr, ⊎_elim, ℕ, ◌+◌, ◌-◌, ◌<◌, Bool, true, false, List, [], ◌∷◌, ◌++◌, length, get_or, map, take, drop, Option, Some, None, refl, sym, ap, subst, ◌∙◌, eq-eqb, arith}
+use Rattle.std.specs.Prelude.{◌==◌, find, insert, All, IsTrue, IsSome, if◌then◌else◌}
+use Rattle.std.proofs.lemmas.Bool.{cases_eq}
 use Rattle.std.proofs.lemmas.List.{get_or-map, length-map, length-append, length-drop, length-take-le, take-append-drop}
 use Rattle.std.proofs.lemmas.List.Concat.{flat_map-append}
-use Rattle.std.proofs.lemmas.List.Elements.{All-append, All-cons, All-take, All-drop, All-nil}
+use Rattle.std.proofs.lemmas.List.Elements.{All-append, All-cons, All-take, All-drop}
 use Rattle.lvm_num.specs.declared.place.Pp.{Pp}
 use Rattle.lvm_num.specs.declared.descriptor.LvRow.{LvRow}
 use Rattle.lvm_num.specs.declared.descriptor.Descriptor.{Descriptor}
@@ -17,7 +17,6 @@ use Rattle.lvm_map.proofs.PlacesLemmas.{volume_at}
 use Rattle.lvm_stale.proofs.MarkingLemmas.{one_at}
 use Rattle.lvm_kept.specs.Group.{IsOneOf}
 use Rattle.lvm_core.specs.Looking.{HasNoVolumeNamed}
-use Rattle.lvm_steps.specs.Committing.{DiffersInVolume}
 use Rattle.lvm_volume_plan.specs.declared.new_volume.NewVolume.{NewVolume}
 use Rattle.lvm_volume_plan.specs.NewVolume.{IsLowestFree, IsInOrder}
 use Rattle.lvm_volume_plan.specs.Copies.{with_copies, first_copies, further_copies}
@@ -26,7 +25,7 @@ use Rattle.lvm_volume_plan.specs.Split.{kept_row, split_row, with_split}
 use Rattle.lvm_volume_plan.proofs.Sublists.{one_insert}
 use Rattle.lvm_volume_plan.proofs.passed.Names.{contains}
 use Rattle.lvm_volume_plan.proofs.NewVolumeLemmas.NewDescriptor.{volumes_with, named_with, differs_with}
-use Rattle.lvm_volume_plan.proofs.CopiesLemmas.Rows.{differs, find_others, named, one_found, one_other, other, own_row, same_name, same_number}
+use Rattle.lvm_volume_plan.proofs.CopiesLemmas.Rows.{find_others, named, one_found, one_other, other, own_row, same_name, same_number}
 use Rattle.lvm_volume_plan.proofs.CopiesLemmas.Fewer.{valid_fewer}
 use Rattle.lvm_volume_plan.proofs.SplitLemmas.Behind.{AreApart, not_both, one_volume_has, places, once, not_first, of_row, laid}
 

@@ -1,4 +1,4 @@
-use Rattle.std.proofs.Common.{◌≡◌, ℕ, sym, subst}
+use Rattle.std.proofs.Common.{ℕ, sym, subst}
 use Rattle.std.proofs.lemmas.Result.{err_from_is_err_and}
 use Rattle.lvm_map.proofs.PlacesLemmas.{laid_out}
 use Rattle.lvm_volume_plan.specs.Split.{RefusesSplit}
