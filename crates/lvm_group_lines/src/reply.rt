@@ -77,6 +77,8 @@ pub enum Refusal {
     Missing { disk: u16 },
     /// 32: so many requests are open, and there isn't room for those of the line.
     TableFull { held: u32 },
+    /// 36: of this logical partition, counted from 0, a copy that would become one of another volume can't be used.
+    StaleCopy { lp: u32 },
 }
 
 /// The answer to a line.
@@ -162,6 +164,7 @@ fn shown(refusal: &Refusal) -> lvm_show::Refusal
         Refusal::Busy => (30, Carried::Nothing),
         Refusal::Missing { disk } => (31, Carried::Disk(*disk)),
         Refusal::TableFull { held } => (32, Carried::Number(u64::from(*held))),
+        Refusal::StaleCopy { lp } => (36, Carried::Lp(*lp)),
     };
     lvm_show::Refusal { number, carried }
 }

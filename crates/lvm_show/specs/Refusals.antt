@@ -22,7 +22,7 @@ pub record Row : Type 0 where
 abbrev pub row : List ℕ → Kind → Row
 row name carries = record { name = name; carries = carries }
 
--- the refusals in the order of their numbers, of which the first is 1
+-- the refusals in the order of their numbers, of which the first is 1; no line is answered by 33 to 35 yet
 abbrev pub rows : List Row
 rows =
     row (codes "BadLine") Number ∷ row (codes "NoGroup") Nothing ∷ row (codes "GroupOn") Nothing ∷ row (codes "GroupExists") Nothing
@@ -32,7 +32,8 @@ rows =
     ∷ row (codes "LastFresh") Lp ∷ row (codes "OutOfRange") Number ∷ row (codes "Lost") Nothing ∷ row (codes "ReadFailed") Nothing
     ∷ row (codes "NoFresh") Lp ∷ row (codes "WentOff") Votes ∷ row (codes "Dark") Nothing ∷ row (codes "Stuck") Nothing
     ∷ row (codes "HistoryFull") Nothing ∷ row (codes "InGroup") Disk ∷ row (codes "NoPlan") Nothing ∷ row (codes "SyncFailed") Disk
-    ∷ row (codes "Memory") Nothing ∷ row (codes "Busy") Nothing ∷ row (codes "Missing") Disk ∷ row (codes "TableFull") Number ∷ []
+    ∷ row (codes "Memory") Nothing ∷ row (codes "Busy") Nothing ∷ row (codes "Missing") Disk ∷ row (codes "TableFull") Number
+    ∷ row (codes "DiskInUse") Disk ∷ row (codes "LastDisk") Nothing ∷ row (codes "Strict") Lp ∷ row (codes "StaleCopy") Lp ∷ []
 
 abbrev pub is_of : Carried → Kind → Bool
 is_of carried.Nothing Nothing = true

@@ -91,7 +91,11 @@ fn name_of(number: u8) -> &'static str
         30 => "Busy",
         31 => "Missing",
         32 => "TableFull",
-        33..=u8::MAX => "",
+        33 => "DiskInUse",
+        34 => "LastDisk",
+        35 => "Strict",
+        36 => "StaleCopy",
+        37..=u8::MAX => "",
     }
 }
 

@@ -49,6 +49,7 @@ module _ (v : NewVolume) (patience : ℕ) (old new : State) (on : old.core.power
   mklv_facts (Err fault.Stuck) making = making.ends.out
   mklv_facts (Err (fault.DiskFailed disk)) fails = (fails.ends.fault, fails.ends.ready)
   mklv_facts (Err fault.NoVolume) none = absurd none
+  mklv_facts (Err (fault.StaleCopy lp)) none = absurd none
   mklv_facts (Err (fault.LastFresh lp)) none = absurd none
   mklv_facts (Err _) refused = refused.0
 
@@ -119,6 +120,7 @@ mklv_shape v patience old new (Err (fault.WentOff have total)) gives goes = absu
 mklv_shape v patience old new (Err fault.Stuck) gives goes = absurd (cc (goes))
 mklv_shape v patience old new (Err (fault.DiskFailed disk)) fails goes = record { origin = ap (λ (c : Core). c.origin) fails.ends.is; pvs = ap (λ (c : Core). c.descriptor.pvs) fails.ends.is }
 mklv_shape v patience old new (Err fault.NoVolume) none goes = absurd none
+mklv_shape v patience old new (Err (fault.StaleCopy lp)) none goes = absurd none
 mklv_shape v patience old new (Err (fault.LastFresh lp)) none goes = absurd none
 mklv_shape v patience old new (Err _) refused goes = shape_as old new refused.0
 

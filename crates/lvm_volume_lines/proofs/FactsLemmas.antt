@@ -63,6 +63,7 @@ module _ (P : List Fact → Type 0) (bears : BearsVolumes P) where
     mklv_bears (Err fault.Stuck) ends = as_is ends.entered new.core.history ends.ends.history (entered ends.map ends.entered ends.so_far)
     mklv_bears (Err (fault.DiskFailed disk)) fails = subst (λ (c : Core). P c.history.facts) (sym fails.ends.is) holds
     mklv_bears (Err fault.NoVolume) none = absurd none
+    mklv_bears (Err (fault.StaleCopy lp)) none = absurd none
     mklv_bears (Err (fault.LastFresh lp)) none = absurd none
     mklv_bears (Err _) refused = unchanged refused.0
 

@@ -30,6 +30,7 @@ module _ (lv copies patience : ℕ) (old new : State) where
     mklvcopy_facts (Err fault.NoVolume) refused = refused.0
     mklvcopy_facts (Err fault.VolumeExists) none = absurd none
     mklvcopy_facts (Err (fault.CopyLimit now)) refused = refused.0
+    mklvcopy_facts (Err (fault.StaleCopy lp)) none = absurd none
     mklvcopy_facts (Err (fault.LastFresh lp)) none = absurd none
     mklvcopy_facts (Err (fault.TooMany limit)) none = absurd none
     mklvcopy_facts (Err (fault.NoRoom free)) refused = refused.0
@@ -48,6 +49,7 @@ module _ (lv copies patience : ℕ) (old new : State) where
     rmlvcopy_facts (Err fault.NoVolume) refused = refused.0
     rmlvcopy_facts (Err fault.VolumeExists) none = absurd none
     rmlvcopy_facts (Err (fault.CopyLimit now)) refused = refused.0
+    rmlvcopy_facts (Err (fault.StaleCopy lp)) none = absurd none
     rmlvcopy_facts (Err (fault.LastFresh lp)) refused = refused.0
     rmlvcopy_facts (Err (fault.TooMany limit)) none = absurd none
     rmlvcopy_facts (Err (fault.NoRoom free)) none = absurd none
@@ -75,6 +77,7 @@ module _ (lv copies patience : ℕ) (old new : State) where
     mklvcopy_bears (Err fault.NoVolume) refused = unchanged refused.0
     mklvcopy_bears (Err fault.VolumeExists) none = absurd none
     mklvcopy_bears (Err (fault.CopyLimit now)) refused = unchanged refused.0
+    mklvcopy_bears (Err (fault.StaleCopy lp)) none = absurd none
     mklvcopy_bears (Err (fault.LastFresh lp)) none = absurd none
     mklvcopy_bears (Err (fault.TooMany limit)) none = absurd none
     mklvcopy_bears (Err (fault.NoRoom free)) refused = unchanged refused.0
@@ -93,6 +96,7 @@ module _ (lv copies patience : ℕ) (old new : State) where
     rmlvcopy_bears (Err fault.NoVolume) refused = unchanged refused.0
     rmlvcopy_bears (Err fault.VolumeExists) none = absurd none
     rmlvcopy_bears (Err (fault.CopyLimit now)) refused = unchanged refused.0
+    rmlvcopy_bears (Err (fault.StaleCopy lp)) none = absurd none
     rmlvcopy_bears (Err (fault.LastFresh lp)) refused = unchanged refused.0
     rmlvcopy_bears (Err (fault.TooMany limit)) none = absurd none
     rmlvcopy_bears (Err (fault.NoRoom free)) none = absurd none
@@ -111,6 +115,7 @@ module _ (lv copies patience : ℕ) (old new : State) where
   mklvcopy_shape (Err fault.NoVolume) refused goes = same_shape old new refused.0
   mklvcopy_shape (Err fault.VolumeExists) none goes = absurd none
   mklvcopy_shape (Err (fault.CopyLimit now)) refused goes = same_shape old new refused.0
+  mklvcopy_shape (Err (fault.StaleCopy lp)) none goes = absurd none
   mklvcopy_shape (Err (fault.LastFresh lp)) none goes = absurd none
   mklvcopy_shape (Err (fault.TooMany limit)) none goes = absurd none
   mklvcopy_shape (Err (fault.NoRoom free)) refused goes = same_shape old new refused.0
@@ -127,6 +132,7 @@ module _ (lv copies patience : ℕ) (old new : State) where
   rmlvcopy_shape (Err fault.NoVolume) refused goes = same_shape old new refused.0
   rmlvcopy_shape (Err fault.VolumeExists) none goes = absurd none
   rmlvcopy_shape (Err (fault.CopyLimit now)) refused goes = same_shape old new refused.0
+  rmlvcopy_shape (Err (fault.StaleCopy lp)) none goes = absurd none
   rmlvcopy_shape (Err (fault.LastFresh lp)) refused goes = same_shape old new refused.0
   rmlvcopy_shape (Err (fault.TooMany limit)) none goes = absurd none
   rmlvcopy_shape (Err (fault.NoRoom free)) none goes = absurd none

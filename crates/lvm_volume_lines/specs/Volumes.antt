@@ -32,6 +32,7 @@ refusal_for fault.Busy = refusal.Busy
 refusal_for fault.NoVolume = refusal.NoVolume
 refusal_for fault.VolumeExists = refusal.VolumeExists
 refusal_for (fault.CopyLimit now) = refusal.CopyLimit now
+refusal_for (fault.StaleCopy lp) = refusal.StaleCopy lp
 refusal_for (fault.LastFresh lp) = refusal.LastFresh lp
 refusal_for (fault.TooMany limit) = refusal.TooMany limit
 refusal_for (fault.NoRoom free) = refusal.NoRoom free

@@ -1,6 +1,5 @@
 //! The lines that make or remove a volume.
 ghost use Rattle.std.specs.Prelude.{◌≡◌, ◌≤◌, [], All, IfOk, IfErr, IfSome, IsSome, IsTrue, IsFalse, Err, true};
-ghost use Rattle.lvm_num.specs.declared.descriptor.Mode.TheVariants.{Passive};
 ghost use Rattle.lvm_transfer.specs.Transfer.{Relights};
 ghost use Rattle.lvm_status.specs.Calls.{IsMarkable};
 ghost use Rattle.lvm_status.specs.Members.{HasItsRows};
@@ -36,6 +35,7 @@ fn refusal_for(why: GroupFault) -> Refusal
         GroupFault::NoVolume => Refusal::NoVolume,
         GroupFault::VolumeExists => Refusal::VolumeExists,
         GroupFault::CopyLimit { now } => Refusal::CopyLimit { now },
+        GroupFault::StaleCopy { lp } => Refusal::StaleCopy { lp },
         GroupFault::LastFresh { lp } => Refusal::LastFresh { lp },
         GroupFault::TooMany { limit } => Refusal::TooMany { limit },
         GroupFault::NoRoom { free } => Refusal::NoRoom { free },
@@ -65,6 +65,7 @@ fn ends_session(why: GroupFault) -> bool
         GroupFault::NoVolume => false,
         GroupFault::VolumeExists => false,
         GroupFault::CopyLimit { now: _ } => false,
+        GroupFault::StaleCopy { lp: _ } => false,
         GroupFault::LastFresh { lp: _ } => false,
         GroupFault::TooMany { limit: _ } => false,
         GroupFault::NoRoom { free: _ } => false,
@@ -241,7 +242,6 @@ fn make_volume<S: Shelf>(
     requires sound { IsSound (state_of S.device driver) }
     requires rows { HasItsRows driver.1.descriptor driver.1.origin.table }
     requires some { 1 ≤ lps }
-    requires built { mode ≡ Passive → ⊥ }
     ensures { let w = wanted name copies mode policy lps in
         IsCarriedOut S.device (λ was is given. MklvGives w patience.old.left was is given) none_added (to_make w driver.1) patience.old.left driver posts bytes result.stage result.reply }
 {
@@ -293,7 +293,6 @@ pub fn do_mklv<S: Shelf>(
     requires fits { IsFittingStage stage }
     requires between { IsBetweenStage S.device stage }
     requires some { 1 ≤ lps }
-    requires built { mode ≡ Passive → ⊥ }
     ensures { EndsUnasked S.device (λ _. MklvDoes (wanted name copies mode policy lps) group) ⊥ OfGroup stage result.stage result.reply }
 {
     if !stage.is_on(group) {

@@ -4,3 +4,4 @@ pub mod Sublists
 pub mod Parts
 pub mod CopiesLemmas
 pub mod DescriptorLemmas
+pub mod SplitLemmas

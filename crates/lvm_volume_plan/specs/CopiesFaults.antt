@@ -49,6 +49,7 @@ RefusesMklvcopy lv copies core fault.Dark = RefusesAll core fault.Dark
 RefusesMklvcopy lv copies core (fault.WentOff have total) = RefusesAll core (fault.WentOff have total)
 RefusesMklvcopy lv copies core fault.Busy = RefusesAll core fault.Busy
 RefusesMklvcopy lv copies core fault.VolumeExists = ⊥
+RefusesMklvcopy lv copies core (fault.StaleCopy lp) = ⊥
 RefusesMklvcopy lv copies core (fault.LastFresh lp) = ⊥
 RefusesMklvcopy lv copies core (fault.TooMany limit) = ⊥
 RefusesMklvcopy lv copies core (fault.DiskFailed disk) = ⊥
@@ -96,6 +97,7 @@ pub record MayBeTaken (lv copies : ℕ) (core : Core) (row : LvRow) : Type 0 whe
 abbrev pub RefusesRmlvcopy : ℕ → ℕ → Core → GroupFault → Type 0
 RefusesRmlvcopy lv copies core fault.NoVolume = TakesCommands core × (volume_of core.descriptor lv ≡ None)
 RefusesRmlvcopy lv copies core (fault.CopyLimit now) = (row : LvRow) × HasVolume lv core row × (AreFewer row copies → ⊥) × (now ≡ row.copies)
+RefusesRmlvcopy lv copies core (fault.StaleCopy lp) = ⊥
 RefusesRmlvcopy lv copies core (fault.LastFresh lp) = (row : LvRow) × MayShrink lv copies core row × IsFirstLoss core.status.committed row copies lp
 RefusesRmlvcopy lv copies core fault.HistoryFull = ((row : LvRow) × LosesNone lv copies core row) × (HasSpareRoom core → ⊥)
 RefusesRmlvcopy lv copies core fault.Memory = (row : LvRow) × MayBeTaken lv copies core row

@@ -5,3 +5,5 @@ pub mod PlannedVolume
 pub mod Copies
 pub mod CopiesFaults
 pub mod PlannedCopies
+pub mod Split
+pub mod PlannedSplit

@@ -166,8 +166,8 @@ fn check_fresh<S: Shelf>(driver: &Driver<S>, lv: u16, copies: u8) -> Result<(), 
     }
 }
 
-// The first logical partition that loses a fresh copy with those behind the first ones, and keeps none to use.
-fn first_loss(table: &StaleTable, row: &LvRow, copies: u8) -> Option<u32>
+/// The first logical partition that loses a fresh copy with those behind the first ones, and keeps none to use.
+pub fn first_loss(table: &StaleTable, row: &LvRow, copies: u8) -> Option<u32>
     requires whole { length row.now.map ≡ row.now.lps * row.now.copies }
     requires fewer { copies ≤ row.now.copies }
     ensures some { IfSome result (IsFirstLoss table.now row.now copies) }
@@ -202,8 +202,8 @@ fn has_fresh(table: &StaleTable, copies: &[Pp]) -> bool
     false
 }
 
-// Whether one of the copies is fresh, on a disk that isn't missing.
-fn has_usable(table: &StaleTable, copies: &[Pp]) -> bool
+/// Whether one of the copies is fresh, on a disk that isn't missing.
+pub fn has_usable(table: &StaleTable, copies: &[Pp]) -> bool
     ensures { result ≡ has_usable table.now copies.now }
 {
     for pp in copies {

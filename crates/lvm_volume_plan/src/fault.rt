@@ -17,6 +17,8 @@ pub enum GroupFault {
     VolumeExists,
     /// A volume can't have so many copies; it has so many now.
     CopyLimit { now: u8 },
+    /// A copy that would become one of another volume can't be used: of this logical partition, from 0, first.
+    StaleCopy { lp: u32 },
     /// A copy that would go is fresh, and none that would stay can be used: of this logical partition, from 0, first.
     LastFresh { lp: u32 },
     /// The group has as many volumes as it may have.

@@ -144,8 +144,8 @@ fn may_have(copies: u8) -> bool
     1 <= copies && copies <= 3
 }
 
-// The most volumes that the group may have.
-fn most_volumes(d: &Descriptor) -> u32
+/// The most volumes that the group may have.
+pub fn most_volumes(d: &Descriptor) -> u32
     ensures { result ≡ most_volumes d.now.big }
 {
     if d.big { 511 } else { 255 }

@@ -86,3 +86,17 @@ pub fn further_copies(alloc: Global, row: &LvRow, copies: u8, map: &[Pp]) -> Res
     }
     Ok(further)
 }
+
+/// Of each logical partition the copies behind the first ones.
+pub fn copies_behind(alloc: Global, row: &LvRow, copies: u8) -> Result<Vec<Pp>, Memory>
+    requires whole { length row.now.map ≡ row.now.lps * row.now.copies }
+    requires fewer { copies ≤ row.now.copies }
+    ensures { IfOk result (λ further. further.items ≡ further_copies row.now copies) }
+{
+    let mut further = Vec::new(alloc);
+    for lp in 0..row.lps {
+        let all = copies_at(row.map.as_slice(), row.copies, lp);
+        further.extend_from_slice(&all[usize::from(copies)..])?;
+    }
+    Ok(further)
+}

@@ -27,6 +27,7 @@ pub refused_mklv : (v : NewVolume) (p : ℕ) (s : State) (why : GroupFault) → 
 refused_mklv v p s fault.Dark refuses = inl (refl, refuses)
 refused_mklv v p s (fault.WentOff have total) refuses = inl (refl, refuses)
 refused_mklv v p s fault.NoVolume refuses = refuses
+refused_mklv v p s (fault.StaleCopy lp) refuses = refuses
 refused_mklv v p s (fault.LastFresh lp) refuses = refuses
 refused_mklv v p s (fault.DiskFailed disk) refuses = absurd refuses
 refused_mklv v p s fault.Stuck refuses = absurd refuses

@@ -90,6 +90,7 @@ MklvGives v patience old new (Err fault.Busy) = IsRefused (RefusesMklv v) fault.
 MklvGives v patience old new (Err fault.NoVolume) = ⊥
 MklvGives v patience old new (Err fault.VolumeExists) = IsRefused (RefusesMklv v) fault.VolumeExists old new
 MklvGives v patience old new (Err (fault.CopyLimit now)) = IsRefused (RefusesMklv v) (fault.CopyLimit now) old new
+MklvGives v patience old new (Err (fault.StaleCopy lp)) = ⊥
 MklvGives v patience old new (Err (fault.LastFresh lp)) = ⊥
 MklvGives v patience old new (Err (fault.TooMany limit)) = IsRefused (RefusesMklv v) (fault.TooMany limit) old new
 MklvGives v patience old new (Err (fault.NoRoom free)) = IsRefused (RefusesMklv v) (fault.NoRoom free) old new

@@ -7,4 +7,4 @@ mod volumes;
 
 pub use copies::{mklvcopy, rmlvcopy};
 pub use lvm_volume_plan::GroupFault;
-pub use volumes::{mklv, rmlv};
+pub use volumes::{commit_between, mklv, rmlv};

@@ -23,7 +23,7 @@ use std::alloc::Global;
 /// Makes a volume of the group that is on, and answers its number, the lowest that is free. Its partitions are
 /// those of first fit on the members that aren't missing. They become fresh, and zeros are written to them; then
 /// the descriptor that names the volume is committed, between the two entries of it. All memory is taken before
-/// the first write. Volumes in mode passive aren't made yet.
+/// the first write.
 ///
 /// The causes, in their order: `Dark` and `WentOff`, where the session is over; `Busy`, where a request is open;
 /// `VolumeExists`, where a volume has the name; `CopyLimit`, where not one to three copies are asked for; `TooMany`, where the
@@ -46,7 +46,6 @@ pub fn mklv<S: Shelf>(
 ) -> Result<u16, GroupFault>
     // where nothing is open, nothing is under way
     requires settled { TakesCommands driver.old.1 → IsSettled driver.old.1 }
-    requires built { mode ≡ Mode.Passive → ⊥ }
     requires some { 1 ≤ lps }
     ensures gives { MklvGives (record { name = name; copies = copies; mode = mode; policy = policy; lps = lps }) patience.old.left (state_of S.device driver.old) (state_of S.device driver.new) result }
     ensures settled { TakesCommands driver.old.1 → IfOn result (IsSettled driver.new.1) }
@@ -137,8 +136,8 @@ fn remove<S: Shelf>(
     commit_between(driver, removing, next, Entry::Removed { vol }, patience)
 }
 
-// Commits a descriptor between two entries of a volume.
-fn commit_between<S: Shelf>(
+/// Commits a descriptor between two entries of a volume.
+pub fn commit_between<S: Shelf>(
     driver: &mut Driver<S>,
     first: Entry,
     next: Prepared,

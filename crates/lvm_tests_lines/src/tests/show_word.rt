@@ -87,6 +87,10 @@ fn refusals_of_rooms_and_disks(rt: HostRuntime) {
     says(&rt, 30, Carried::Nothing, b"refused 30 Busy\n");
     says(&rt, 31, Carried::Disk(0), b"refused 31 Missing hdisk0\n");
     says(&rt, 32, Carried::Number(2), b"refused 32 TableFull 2\n");
+    says(&rt, 33, Carried::Disk(1), b"refused 33 DiskInUse hdisk1\n");
+    says(&rt, 34, Carried::Nothing, b"refused 34 LastDisk\n");
+    says(&rt, 35, Carried::Lp(1), b"refused 35 Strict 2\n");
+    says(&rt, 36, Carried::Lp(0), b"refused 36 StaleCopy 1\n");
 }
 
 #[test]

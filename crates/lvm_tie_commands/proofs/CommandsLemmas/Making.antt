@@ -62,6 +62,7 @@ made_or_not v before old new (Err fault.Busy) gives = refused v old new gives.0
 made_or_not v before old new (Err fault.NoVolume) gives = absurd gives
 made_or_not v before old new (Err fault.VolumeExists) gives = refused v old new gives.0
 made_or_not v before old new (Err (fault.CopyLimit now)) gives = refused v old new gives.0
+made_or_not v before old new (Err (fault.StaleCopy lp)) gives = absurd gives
 made_or_not v before old new (Err (fault.LastFresh lp)) gives = absurd gives
 made_or_not v before old new (Err (fault.TooMany limit)) gives = refused v old new gives.0
 made_or_not v before old new (Err (fault.NoRoom free)) gives = refused v old new gives.0

@@ -58,6 +58,7 @@ added_or_not lv copies before old new (Err fault.Busy) gives = refused lv copies
 added_or_not lv copies before old new (Err fault.NoVolume) gives = refused lv copies old new gives.0
 added_or_not lv copies before old new (Err fault.VolumeExists) gives = absurd gives
 added_or_not lv copies before old new (Err (fault.CopyLimit now)) gives = refused lv copies old new gives.0
+added_or_not lv copies before old new (Err (fault.StaleCopy lp)) gives = absurd gives
 added_or_not lv copies before old new (Err (fault.LastFresh lp)) gives = absurd gives
 added_or_not lv copies before old new (Err (fault.TooMany limit)) gives = absurd gives
 added_or_not lv copies before old new (Err (fault.NoRoom free)) gives = refused lv copies old new gives.0

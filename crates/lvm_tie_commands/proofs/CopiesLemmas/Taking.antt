@@ -38,6 +38,7 @@ taken_or_not lv copies before old new (Err fault.Busy) gives = refused lv copies
 taken_or_not lv copies before old new (Err fault.NoVolume) gives = refused lv copies old new gives.0
 taken_or_not lv copies before old new (Err fault.VolumeExists) gives = absurd gives
 taken_or_not lv copies before old new (Err (fault.CopyLimit now)) gives = refused lv copies old new gives.0
+taken_or_not lv copies before old new (Err (fault.StaleCopy lp)) gives = absurd gives
 taken_or_not lv copies before old new (Err (fault.LastFresh lp)) gives = refused lv copies old new gives.0
 taken_or_not lv copies before old new (Err (fault.TooMany limit)) gives = absurd gives
 taken_or_not lv copies before old new (Err (fault.NoRoom free)) gives = absurd gives

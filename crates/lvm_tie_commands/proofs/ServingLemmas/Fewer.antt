@@ -69,6 +69,7 @@ rmlvcopy_serves lv copies before after old new (Err fault.Busy) sound c gives = 
 rmlvcopy_serves lv copies before after old new (Err fault.NoVolume) sound c gives = refused old new sound c.began gives.0
 rmlvcopy_serves lv copies before after old new (Err fault.VolumeExists) sound c gives = absurd gives
 rmlvcopy_serves lv copies before after old new (Err (fault.CopyLimit now)) sound c gives = refused old new sound c.began gives.0
+rmlvcopy_serves lv copies before after old new (Err (fault.StaleCopy lp)) sound c gives = absurd gives
 rmlvcopy_serves lv copies before after old new (Err (fault.LastFresh lp)) sound c gives = refused old new sound c.began gives.0
 rmlvcopy_serves lv copies before after old new (Err (fault.TooMany limit)) sound c gives = absurd gives
 rmlvcopy_serves lv copies before after old new (Err (fault.NoRoom free)) sound c gives = absurd gives

@@ -95,6 +95,7 @@ mklvcopy_serves lv copies before after old new (Err fault.Busy) sound c gives = 
 mklvcopy_serves lv copies before after old new (Err fault.NoVolume) sound c gives = refused old new sound c.began gives.0
 mklvcopy_serves lv copies before after old new (Err fault.VolumeExists) sound c gives = absurd gives
 mklvcopy_serves lv copies before after old new (Err (fault.CopyLimit now)) sound c gives = refused old new sound c.began gives.0
+mklvcopy_serves lv copies before after old new (Err (fault.StaleCopy lp)) sound c gives = absurd gives
 mklvcopy_serves lv copies before after old new (Err (fault.LastFresh lp)) sound c gives = absurd gives
 mklvcopy_serves lv copies before after old new (Err (fault.TooMany limit)) sound c gives = absurd gives
 mklvcopy_serves lv copies before after old new (Err (fault.NoRoom free)) sound c gives = refused old new sound c.began gives.0

@@ -136,6 +136,7 @@ module _ (run : ℕ) (old new : ScriptState) (between : IsBetween old.moment old
         failed_mklv fault.Stuck says done id k it = tried_mklv (Err fault.Stuck) _ (inr (subst IsBrokenOff (sym says) tt)) done id k it
         failed_mklv (fault.DiskFailed disk) says done id k it = tried_mklv (Err (fault.DiskFailed disk)) _ (inr (subst IsBrokenOff (sym says) tt)) done id k it
         failed_mklv fault.NoVolume says done id k it = absurd done.gives
+        failed_mklv (fault.StaleCopy lp) says done id k it = absurd done.gives
         failed_mklv (fault.LastFresh lp) says done id k it = absurd done.gives
         failed_mklv _ says done id k it = inl (idle_nothing core left mid done.left on drains done.gives.0 done.leaves id k it)
 

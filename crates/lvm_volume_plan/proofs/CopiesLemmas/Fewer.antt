@@ -74,10 +74,10 @@ module _ (d : Descriptor) (lv copies : ℕ) (row : LvRow) (valid : IsValid d) (v
   whole : length row.map ≡ row.lps * row.copies
   whole = (laid_out d lv row valid volume).whole
 
-  inside : (lp : ℕ) → lp < row.lps → lp * row.copies + row.copies ≤ length row.map
+  pub inside : (lp : ℕ) → lp < row.lps → lp * row.copies + row.copies ≤ length row.map
   inside lp lt = let step : suc lp * row.copies ≤ row.lps * row.copies = mul-le-mul_right row.copies lt in omega (arith, step, whole)
 
-  all_size : (lp : ℕ) → lp < row.lps → length (copies_of row lp) ≡ row.copies
+  pub all_size : (lp : ℕ) → lp < row.lps → length (copies_of row lp) ≡ row.copies
   all_size lp lt = length-take-le row.copies (drop (lp * row.copies) row.map) (omega (arith, length-drop (lp * row.copies) row.map, inside lp lt))
 
   size : (lp : ℕ) → lp < row.lps → length (front lp) ≡ copies
@@ -117,7 +117,7 @@ module _ (d : Descriptor) (lv copies : ℕ) (row : LvRow) (valid : IsValid d) (v
   pairs_first : (R : Pp → Pp → Type 0) → AllPairs R row.map → AllPairs R pps
   pairs_first R pairs = pairs_of row.map row.copies 0 front R pairs 0 row.lps (λ lp lt. part lp (omega (arith, lt)))
 
-  is_row : (r : LvRow) → IsOneOf d.lvs r → r.number ≡ lv → r ≡ row
+  pub is_row : (r : LvRow) → IsOneOf d.lvs r → r.number ≡ lv → r ≡ row
   is_row r one its = only lv d.lvs row r valid.volumes.numbers_rise volume one its
 
   laid : IsLaidOut new

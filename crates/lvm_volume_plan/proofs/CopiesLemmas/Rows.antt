@@ -71,7 +71,7 @@ module _ (lv copies : ℕ) (pps : List Pp) where
       by_test true test rest is = ap (λ (t : Bool). if t then Some (with_map x copies pps) else find (has_number lv) (map other xs)) test ∙ ap (option_map (λ (r : LvRow). with_map r copies pps)) is
       by_test false test rest is = ap (λ (t : Bool). if t then Some x else find (has_number lv) (map other xs)) test ∙ rest is
 
-  find_others : (rows : List LvRow) (n : ℕ) → (n ≡ lv → ⊥) → find (has_number n) (map other rows) ≡ find (has_number n) rows
+  pub find_others : (rows : List LvRow) (n : ℕ) → (n ≡ lv → ⊥) → find (has_number n) (map other rows) ≡ find (has_number n) rows
   find_others [] n apart = refl
   find_others (x ∷ xs) n apart = by_test (x.number == lv) refl (find_others xs n apart)
     where
