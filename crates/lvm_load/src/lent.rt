@@ -1,8 +1,9 @@
 //! A session that a lock lends to workers.
-ghost use Rattle.std.specs.Prelude.{◌≡◌, ◌≤◌, ◌*◌, ℕ, false, if◌then◌else◌};
+ghost use Rattle.std.specs.Prelude.{◌≡◌, ◌≤◌, ◌*◌, ℕ, false, if◌then◌else◌, Err};
 ghost use Rattle.lvm_keeps.specs.Failing.{unsettled};
 ghost use Rattle.lvm_load.specs.Lending.{Plan, apart_draw};
 ghost use Rattle.lvm_load.specs.Requests.{word_of};
+ghost use Rattle.lvm_load.specs.Weaving.{goes_on};
 ghost use Rattle.lvm_workers.specs.declared.service.Asked.TheVariants as asked;
 
 use crate::client::goes_on;
@@ -69,7 +70,8 @@ fn shaped(apart: bool, blocks: u64, client: u32, drawn: &Draw) -> Draw
 
 // The answer to a request that isn't taken for this.
 fn refused(why: AskFault) -> Asked
-    ensures { (id : ℕ) → result ≡ asked.Begun id → ⊥ }
+    ensures not_begun { (id : ℕ) → result ≡ asked.Begun id → ⊥ }
+    ensures goes_on { result ≡ (if goes_on (Err why) then asked.Full else asked.Refused) }
 {
     if goes_on(why) {
         Asked::Full

@@ -1,5 +1,5 @@
 //! A script of requests that are drawn.
-ghost use Rattle.std.specs.Prelude.{◌≡◌, ◌≤◌, ◌++◌, [], OnOk, OnErr, Err};
+ghost use Rattle.std.specs.Prelude.{◌≡◌, ◌<◌, ◌≤◌, ◌++◌, [], length, OnOk, OnErr, Err};
 ghost use Rattle.std.specs.String.{string_bytes};
 ghost use Rattle.lvm_io.specs.Count.{Rose};
 ghost use Rattle.lvm_io.specs.Stream.{WhereTold, WritesFront};
@@ -74,9 +74,10 @@ fn flush<O: Sink>(text: &mut String, out: &mut O) -> Result<(), SinkFault>
     Ok(())
 }
 
-// Writes what was gathered once that is long.
+// Writes what was gathered once that is long. Less than 64 KiB stay.
 fn flush_long<O: Sink>(text: &mut String, out: &mut O) -> Result<(), SinkFault>
     ensures whole { OnOk result (IsWrittenUpTo (string_bytes text.old) (string_bytes text.new) (O.held out.old) (O.held out.new)) }
+    ensures few { OnOk result (length (string_bytes text.new) < 65536) }
     ensures front { OnErr result (WhereTold (O.held out.old) (O.held out.new) (λ a b. WritesFront (string_bytes text.old) a b)) }
     ensures image { (O.chosen out.new ≡ O.chosen out.old) × (O.choices out.new ≡ O.choices out.old) }
     ensures later { O.faults out.old ≤ O.faults out.new }
