@@ -30,7 +30,7 @@
 //! | `words [WORD] ..` | the program runs by these words, the script its input, the disks its files, which stay as it leaves them; it is printed too how many entries its history has, whether it made disks for itself, and what image it made. The script stays for the next one. A `sink` is that of images |
 //! | `ends [WORD] ..` | the same, of which only the end is printed |
 //! | `draw [WORD] ..` | what the program writes by these words is the script |
-//! | `sweep ACTS` | the script is run over the disks as they stand once for each call of the marked lines and each of the acts `cut WORD ..` or `fail DISK ..`, which is done before that call; the answers from these lines on are printed, each once. The disks stay as they were, and the script stays for the next one |
+//! | `sweep ACTS` | the script is run over the disks as they stand once for each call of the marked lines and each of the acts `cut WORD ..` or `fail DISK ..`, which is done before that call; the answers from these lines on are printed, each once. The clock answers 7 first. The disks stay as they were, and the script stays for the next one |
 //! | `twice N ACTS` | the same, and the act is done again N calls later |
 //!
 //! Empty lines and those that begin with `#` say nothing.

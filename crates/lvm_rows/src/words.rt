@@ -29,7 +29,7 @@ pub struct Sinks {
 }
 
 // The room of the sink for images is said, that of the others is ample.
-fn sinks(alloc: Global, outside: &Outside) -> Result<Sinks, Fault> {
+fn make_sinks(alloc: Global, outside: &Outside) -> Result<Sinks, Fault> {
     let images = outside.sink(alloc)?;
     let (out, err) = two_sinks(alloc)?;
     Ok(Sinks { out, err, images })
@@ -78,7 +78,7 @@ pub(crate) fn answer<R: Threads + Wait + Sync>(
     requires { IsReady (device_of files) }
 {
     let mut input = outside.source(alloc, script)?;
-    let mut sinks = sinks(alloc, outside)?;
+    let mut sinks = make_sinks(alloc, outside)?;
     let ended = run(rt, alloc, words, &mut input, &mut sinks, files);
     Ok(Answered { ended, sinks })
 }
