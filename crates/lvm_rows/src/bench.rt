@@ -7,15 +7,16 @@ use crate::fault::Fault;
 use crate::images::{copied, edit, zeros};
 use crate::outside::{Outside, Streams, ample};
 use crate::parse;
-use crate::print::{print_line, print_lines, print_probe, print_run, print_words};
+use crate::print::{print_given, print_line, print_lines, print_probe, print_run, print_words};
 use crate::run::{Judged, Sizes, Watched, blank, images_of, judge, restarted, run, run_load};
 use crate::script::Script;
+use crate::shown::Window;
 use crate::sweep::{Swept, Swing, sweep};
 use crate::words::{Answered, answer};
 use crate::wrote::{Wrote, compared};
 use lvm_io::{MemClock, Sink};
 use lvm_memory::MemShelf;
-use lvm_num::{Rows, Text};
+use lvm_num::Rows;
 use lvm_program::{Ended, Room};
 use std::alloc::Global;
 use std::sync::Wait;
@@ -41,6 +42,7 @@ pub struct Bench {
     outside: Outside,
     clock: MemClock,
     watched: Watched,
+    windows: Vec<Window>,
 }
 
 impl Bench {
@@ -59,6 +61,7 @@ impl Bench {
                 block: None,
                 mirror: None,
             },
+            windows: Vec::new(alloc),
         }
     }
 
@@ -80,6 +83,8 @@ impl Bench {
             "sweep" => self.sweep(alloc, rest, None, out),
             "twice" => self.twice(alloc, rest, out),
             "words" => self.words(rt, alloc, rest, out),
+            "ends" => self.ends(rt, alloc, rest, out),
+            "draw" => self.draw(rt, alloc, rest),
             "probe" => self.probe(alloc, rest, out),
             "weave" => self.weave(alloc, rest, out),
             "put" | "fill" | "copy" | "resize" => self.edit(alloc, verb, rest),
@@ -101,6 +106,7 @@ impl Bench {
             "entries" | "bytes" | "table" | "pool" => self.set_room(verb, rest),
             "block" => self.watch(rest),
             "alike" => self.watch_mirror(rest),
+            "shows" => self.watch_bytes(rest),
             "feeds" => self.script.push_feeds(parse::small(rest)?),
             "clock" => self.set_clock(rest),
             "plan" => self.outside.push_act(rest),
@@ -145,6 +151,11 @@ impl Bench {
     fn watch_mirror(&mut self, rest: &str) -> Result<(), Fault> {
         self.watched.mirror = Some(parse::mirror(rest)?);
         Ok(())
+    }
+
+    fn watch_bytes(&mut self, rest: &str) -> Result<(), Fault> {
+        let window = parse::window(rest)?;
+        Ok(self.windows.push(window)?)
     }
 
     // Edits the disks as they stand.
@@ -234,7 +245,7 @@ impl Bench {
         ended: &Ended<MemShelf>,
         out: &mut O,
     ) -> Result<(), Fault> {
-        print_run(alloc, text, ended, self.watched, out)?;
+        print_run(alloc, text, ended, self.watched, &self.windows, out)?;
         self.leave(alloc, &ended.shelf)
     }
 
@@ -261,11 +272,17 @@ impl Bench {
 
     // What a sweep runs.
     fn swept(&self) -> Swept<'_> {
+        let left = match &self.left {
+            Some(images) => Some(images.as_slice()),
+            None => None,
+        };
         Swept {
             sizes: &self.sizes,
+            left,
             script: &self.script,
             outside: &self.outside,
             watched: self.watched,
+            windows: &self.windows,
         }
     }
 
@@ -276,26 +293,64 @@ impl Bench {
         self.sweep(alloc, acts, Some(later), out)
     }
 
+    // A run by words.
     fn words<O: Sink, R: Threads + Wait + Sync>(
-        &self,
+        &mut self,
         rt: &R,
         alloc: Global,
         rest: &str,
         out: &mut O,
     ) -> Result<(), Fault> {
-        let words = parse::bracketed(alloc, rest)?;
-        let answered = self.answer(rt, alloc, &words)?;
-        print_words(alloc, &answered, out)
+        let answered = self.answer(rt, alloc, rest)?;
+        print_words(&answered.sinks, out)?;
+        self.end_words(alloc, &answered, out)
+    }
+
+    // The same, of which only the end is printed.
+    fn ends<O: Sink, R: Threads + Wait + Sync>(
+        &mut self,
+        rt: &R,
+        alloc: Global,
+        rest: &str,
+        out: &mut O,
+    ) -> Result<(), Fault> {
+        let answered = self.answer(rt, alloc, rest)?;
+        self.end_words(alloc, &answered, out)
+    }
+
+    // Prints how a run by words ended, and keeps its files as it leaves them.
+    fn end_words<O: Sink>(
+        &mut self,
+        alloc: Global,
+        answered: &Answered,
+        out: &mut O,
+    ) -> Result<(), Fault> {
+        print_given(alloc, answered, self.watched, out)?;
+        self.left = Some(images_of(alloc, &answered.ended.shelf)?);
+        Ok(())
+    }
+
+    // What the program writes by words is the script.
+    fn draw<R: Threads + Wait + Sync>(
+        &mut self,
+        rt: &R,
+        alloc: Global,
+        rest: &str,
+    ) -> Result<(), Fault> {
+        let answered = self.answer(rt, alloc, rest)?;
+        self.left = Some(images_of(alloc, &answered.ended.shelf)?);
+        self.script.replace(answered.sinks.out.bytes())
     }
 
     // What the program answers to words.
     fn answer<R: Threads + Wait + Sync>(
-        &self,
+        &mut self,
         rt: &R,
         alloc: Global,
-        words: &[Text],
+        rest: &str,
     ) -> Result<Answered, Fault> {
-        let mut input = self.outside.source(alloc, self.script.text())?;
-        answer(rt, alloc, words, &mut input, &self.sizes.sectors)
+        let words = parse::bracketed(alloc, rest)?;
+        let files = self.shelf(alloc)?;
+        answer(rt, alloc, &words, self.script.text(), &self.outside, files)
     }
 }

@@ -17,8 +17,9 @@
 //! | `table N`, `pool N` | so many requests may be open, and so many transfers out |
 //! | `feeds N` | so many line feeds stand next in the script |
 //! | `clock N` | the clock answers N next, and then one more each time |
-//! | `block DISK AT` | each run is to leave a block there that its history allows |
+//! | `block DISK AT` | each run is to leave a block there that its history allows, on the disks that it makes for itself where it makes any |
 //! | `alike DISK DISK AT COUNT` | it is judged of each run whether it leaves the same on both disks, in so many sectors from there on |
+//! | `shows DISK SECTOR BYTE COUNT` | so many bytes of a sector of that disk are printed as each run leaves them, from that byte of it on |
 //! | `put DISK SECTOR BYTE HEX` | bytes are put on a disk, from that byte of the sector on |
 //! | `fill DISK SECTOR COUNT HEX` | so many sectors are filled with a byte |
 //! | `copy DISK SECTOR COUNT DISK SECTOR` | so many sectors are copied there |
@@ -26,8 +27,10 @@
 //! | `probe EDIT, ..` | the script is run over the disks with these edits, each a line as the four above; its answers are printed, and which areas it wrote. The disks stay as they were, and the script stays for the next one |
 //! | `weave CLIENTS REQUESTS SEED` | a workload is run over the disks |
 //! | `run` | the script is run, and forgotten; the disks stay as it leaves them |
-//! | `words [WORD] ..` | the program runs by these words, the script its input, the disks its files |
-//! | `sweep ACTS` | the script is run over disks of zeros once for each call of the marked lines and each of the acts `cut WORD ..` or `fail DISK ..`, which is done before that call; the answers from these lines on are printed, each once |
+//! | `words [WORD] ..` | the program runs by these words, the script its input, the disks its files, which stay as it leaves them; it is printed too how many entries its history has, whether it made disks for itself, and what image it made. The script stays for the next one. A `sink` is that of images |
+//! | `ends [WORD] ..` | the same, of which only the end is printed |
+//! | `draw [WORD] ..` | what the program writes by these words is the script |
+//! | `sweep ACTS` | the script is run over the disks as they stand once for each call of the marked lines and each of the acts `cut WORD ..` or `fail DISK ..`, which is done before that call; the answers from these lines on are printed, each once. The clock answers 7 first. The disks stay as they were, and the script stays for the next one |
 //! | `twice N ACTS` | the same, and the act is done again N calls later |
 //!
 //! Empty lines and those that begin with `#` say nothing.
@@ -41,6 +44,7 @@ mod parse;
 mod print;
 mod run;
 mod script;
+mod shown;
 mod sweep;
 mod words;
 mod wrote;

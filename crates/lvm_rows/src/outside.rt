@@ -64,10 +64,15 @@ impl Outside {
         Ok(MemSource::new(Rows::new(bytes), Rows::new(fails)))
     }
 
+    /// A sink.
+    pub(crate) fn sink(&self, alloc: Global) -> Result<MemSink, Fault> {
+        sink(alloc, self.room)
+    }
+
     /// A source of this script, and a sink.
     pub(crate) fn streams(&self, alloc: Global, script: &[u8]) -> Result<Streams, Fault> {
         let input = self.source(alloc, script)?;
-        let out = sink(alloc, self.room)?;
+        let out = self.sink(alloc)?;
         Ok(Streams { input, out })
     }
 }

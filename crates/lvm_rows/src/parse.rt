@@ -3,6 +3,7 @@
 use crate::fault::Fault;
 use crate::images::{Patch, Span};
 use crate::run::Mirror;
+use crate::shown::Window;
 use lvm_memory::{Act, Planned};
 use lvm_num::Text;
 use lvm_program::Workload;
@@ -138,6 +139,19 @@ pub(crate) fn mirror(text: &str) -> Result<Mirror, Fault> {
         other: disk(other)?,
         first: number(first)?,
         count: number(count)?,
+    })
+}
+
+/// Bytes of a disk: its name, a sector, the first byte of it and their number.
+pub(crate) fn window(text: &str) -> Result<Window, Fault> {
+    let (name, rest) = split(text);
+    let (sector, rest) = split(rest);
+    let (first, count) = split(rest);
+    Ok(Window {
+        disk: disk(name)?,
+        sector: number(sector)?,
+        first: small(first)? as usize,
+        count: small(count)? as usize,
     })
 }
 

@@ -161,6 +161,14 @@ pub(crate) fn judge(ended: &Ended<MemShelf>, watched: Watched) -> Judged {
     }
 }
 
+// The disks that a run was over: those that it made for itself, else those that it was given.
+fn disks_of(ended: &Ended<MemShelf>) -> &MemShelf {
+    match &ended.sim {
+        Some(disks) => disks,
+        None => &ended.shelf,
+    }
+}
+
 // Whether a run's history is legal, and whether it allows what stands in a sector of a disk.
 fn judged_history(ended: &Ended<MemShelf>, watched: Option<(u16, u64)>) -> &'static str {
     let Some(history) = &ended.history else {
@@ -171,7 +179,7 @@ fn judged_history(ended: &Ended<MemShelf>, watched: Option<(u16, u64)>) -> &'sta
     }
     match watched {
         None => "",
-        Some((disk, at)) => match sector(&ended.shelf, disk, at) {
+        Some((disk, at)) => match sector(disks_of(ended), disk, at) {
             Some(value) if history.may_of(Vol::Disk(disk), at, value) => ", allowed",
             _ => ", not allowed",
         },
@@ -197,8 +205,8 @@ fn are_alike(shelf: &MemShelf, mirror: Mirror) -> bool {
     true
 }
 
-// What stands in a sector of a disk.
-fn sector(shelf: &MemShelf, disk: u16, at: u64) -> Option<&[u8; 512]> {
+/// What stands in a sector of a disk.
+pub(crate) fn sector(shelf: &MemShelf, disk: u16, at: u64) -> Option<&[u8; 512]> {
     if disk >= shelf.disks() || at >= shelf.sectors(disk) {
         return None;
     }

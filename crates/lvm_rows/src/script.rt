@@ -57,6 +57,13 @@ impl Script {
         Ok(())
     }
 
+    /// Is this text in place of what it was.
+    pub(crate) fn replace(&mut self, text: &[u8]) -> Result<(), Fault> {
+        self.text.clear();
+        self.marked = None;
+        Ok(self.text.extend_from_slice(text)?)
+    }
+
     pub(crate) fn text(&self) -> &[u8] {
         &self.text
     }

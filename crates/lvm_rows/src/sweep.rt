@@ -1,24 +1,30 @@
 //! One script with an act at another call each time.
 
+ghost use Rattle.std.specs.Prelude.{IfOk};
 ghost use Rattle.lvm_disk.specs.Device.{IsReady};
 ghost use Rattle.lvm_memory.specs.Memory.{device_of};
 
 use crate::fault::Fault;
+use crate::images::copied;
 use crate::outside::{Outside, Streams};
-use crate::run::{Judged, Sizes, Watched, blank, judge, run};
+use crate::run::{Judged, Sizes, Watched, blank, judge, restarted, run};
 use crate::script::Script;
+use crate::shown::{Window, shown};
 use lvm_io::MemClock;
 use lvm_memory::{Act, MemShelf, Planned};
+use lvm_num::Rows;
 use std::alloc::Global;
 use std::collections::BTreeSet;
 
-/// A script over disks of zeros, what it meets beside, and a sector whose content is judged.
+/// A script over disks of zeros or such on which this stands, what it meets beside, a sector whose content is judged, and bytes that are shown.
 #[derive(Clone, Copy, Drop)]
 pub struct Swept<'a> {
     pub sizes: &'a Sizes,
+    pub left: Option<&'a [Rows<u8>]>,
     pub script: &'a Script,
     pub outside: &'a Outside,
     pub watched: Watched,
+    pub windows: &'a [Window],
 }
 
 /// What is done before each call in turn, and whether it is done again so many calls later.
@@ -28,32 +34,46 @@ pub struct Swing<'a> {
     pub again: Option<u64>,
 }
 
-// What is kept of a run: where it read and wrote, how many calls of the disks it made, and what its history says.
+// What is kept of a run: where it read and wrote, how many calls of the disks it made, what its history says, and what
+// it shows of the disks.
 #[derive(Drop)]
 struct Tried {
     streams: Streams,
     calls: u64,
     judged: Judged,
+    shown: String,
+}
+
+// The disks of a run.
+fn disks_of(alloc: Global, swept: &Swept, plan: &[Planned]) -> Result<MemShelf, Fault>
+    ensures { IfOk result (λ shelf. IsReady (device_of shelf)) }
+{
+    match swept.left {
+        None => blank(alloc, &swept.sizes.sectors, plan),
+        Some(images) => restarted(alloc, copied(alloc, images)?, plan),
+    }
 }
 
 // Runs some of the lines, with a plan.
 fn try_lines(alloc: Global, swept: &Swept, lines: &[u8], plan: &[Planned]) -> Result<Tried, Fault> {
     let streams = swept.outside.streams(alloc, lines)?;
-    let shelf = blank(alloc, &swept.sizes.sectors, plan)?;
-    Ok(try_run(alloc, swept, streams, shelf))
+    let shelf = disks_of(alloc, swept, plan)?;
+    try_run(alloc, swept, streams, shelf)
 }
 
-fn try_run(alloc: Global, swept: &Swept, streams: Streams, shelf: MemShelf) -> Tried
+fn try_run(alloc: Global, swept: &Swept, streams: Streams, shelf: MemShelf) -> Result<Tried, Fault>
     requires { IsReady (device_of shelf) }
 {
     let mut streams = streams;
     let mut clock = MemClock::new(7);
     let ended = run(alloc, &mut streams, shelf, &mut clock, swept.sizes.room);
-    Tried {
+    let shown = shown(alloc, &ended.shelf, swept.windows)?;
+    Ok(Tried {
         streams,
         calls: ended.shelf.calls(),
         judged: judge(&ended, swept.watched),
-    }
+        shown,
+    })
 }
 
 // The plan of a sweep with an act at a call.
@@ -99,6 +119,7 @@ fn ending(alloc: Global, before: &[u8], tried: &Tried) -> Result<Vec<u8>, Fault>
     let mut line = joined(alloc, answers_behind(before, tried.streams.out.bytes()))?;
     line.extend_from_slice(tried.judged.history.as_bytes())?;
     line.extend_from_slice(tried.judged.mirror.as_bytes())?;
+    line.extend_from_slice(tried.shown.as_bytes())?;
     Ok(line)
 }
 

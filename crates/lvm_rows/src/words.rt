@@ -4,20 +4,19 @@ ghost use Rattle.lvm_disk.specs.Device.{IsReady};
 ghost use Rattle.lvm_memory.specs.Memory.{device_of};
 
 use crate::fault::Fault;
-use crate::outside::ample;
-use crate::run::blank;
+use crate::outside::{Outside, ample};
 use lvm_io::{MemClock, MemSink, MemSource};
 use lvm_memory::MemShelf;
 use lvm_num::Text;
-use lvm_program::run_words;
+use lvm_program::{Ended, run_words};
 use std::alloc::Global;
 use std::sync::Wait;
 use std::thread::Threads;
 
-/// How a run by words ended, and what it wrote.
+/// How a run by words ended, what it gave back, and what it wrote.
 #[derive(Drop)]
 pub struct Answered {
-    pub status: u8,
+    pub ended: Ended<MemShelf>,
     pub sinks: Sinks,
 }
 
@@ -29,8 +28,9 @@ pub struct Sinks {
     pub images: MemSink,
 }
 
-fn ample_sinks(alloc: Global) -> Result<Sinks, Fault> {
-    let images = ample(alloc)?;
+// The room of the sink for images is said, that of the others is ample.
+fn make_sinks(alloc: Global, outside: &Outside) -> Result<Sinks, Fault> {
+    let images = outside.sink(alloc)?;
     let (out, err) = two_sinks(alloc)?;
     Ok(Sinks { out, err, images })
 }
@@ -41,7 +41,7 @@ fn two_sinks(alloc: Global) -> Result<(MemSink, MemSink), Fault> {
     Ok((out, err))
 }
 
-// Runs the program, and answers its status.
+// Runs the program.
 fn run<R: Threads + Wait + Sync>(
     rt: &R,
     alloc: Global,
@@ -49,11 +49,11 @@ fn run<R: Threads + Wait + Sync>(
     input: &mut MemSource,
     sinks: &mut Sinks,
     files: MemShelf,
-) -> u8
+) -> Ended<MemShelf>
     requires { IsReady (device_of files) }
 {
     let mut clock = MemClock::new(7);
-    let ended = run_words(
+    run_words(
         rt,
         alloc,
         words,
@@ -63,31 +63,22 @@ fn run<R: Threads + Wait + Sync>(
         &mut clock,
         files,
         &mut sinks.images,
-    );
-    ended.status.code()
+    )
 }
 
-fn answer_into<R: Threads + Wait + Sync>(
-    rt: &R,
-    alloc: Global,
-    words: &[Text],
-    input: &mut MemSource,
-    sinks: &mut Sinks,
-    sectors: &[u64],
-) -> Result<u8, Fault> {
-    let files = blank(alloc, sectors, &[])?;
-    Ok(run(rt, alloc, words, input, sinks, files))
-}
-
-/// Lets the program answer words, with a script as its input, and over files of zeros of so many sectors each.
+/// Lets the program answer words, with a script as its input, and over these files.
 pub(crate) fn answer<R: Threads + Wait + Sync>(
     rt: &R,
     alloc: Global,
     words: &[Text],
-    input: &mut MemSource,
-    sectors: &[u64],
-) -> Result<Answered, Fault> {
-    let mut sinks = ample_sinks(alloc)?;
-    let status = answer_into(rt, alloc, words, input, &mut sinks, sectors)?;
-    Ok(Answered { status, sinks })
+    script: &[u8],
+    outside: &Outside,
+    files: MemShelf,
+) -> Result<Answered, Fault>
+    requires { IsReady (device_of files) }
+{
+    let mut input = outside.source(alloc, script)?;
+    let mut sinks = make_sinks(alloc, outside)?;
+    let ended = run(rt, alloc, words, &mut input, &mut sinks, files);
+    Ok(Answered { ended, sinks })
 }

@@ -1,4 +1,4 @@
-//! Tests of disks in memory, of image files and of ranges of a disk, by their public calls alone.
+//! Tests of disks in memory and of image files, by their public calls alone.
 #![tactic(auto)]
 
 #[cfg(test)]

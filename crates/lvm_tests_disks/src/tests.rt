@@ -2,5 +2,4 @@ mod disk;
 mod fixtures;
 mod image;
 mod lane;
-mod raw;
 mod trial;

@@ -1,4 +1,4 @@
-//! Tests of the driver of requests, of ranges over it, and of stale copies that are brought up, by public calls.
+//! Tests of the driver of requests, and of stale copies that are brought up, by public calls.
 #![tactic(auto)]
 
 #[cfg(test)]

@@ -1,11 +1,8 @@
-mod begin;
 mod choice;
 mod commit;
 mod disks;
 mod epochs;
 mod fixtures;
 mod members;
-mod recovery;
 mod survey;
-mod varyon;
 mod write;

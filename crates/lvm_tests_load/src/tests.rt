@@ -1,3 +1,4 @@
 mod disks;
+mod files;
 mod loads;
 mod outside;

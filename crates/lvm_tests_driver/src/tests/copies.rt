@@ -1,11 +1,7 @@
 //! A copy that is brought up.
-use crate::tests::fixtures::{
-    MIRROR, MODES, Setup, begin, check, close, close_copy, is_stale, turn,
-};
+use crate::tests::fixtures::{MIRROR, MODES, Setup, begin, turn};
 use crate::tests::steps::{Step, break_off, does, play, play_out};
 use lvm_disk::{Arrange, Shelf};
-use lvm_memory::{Act, Planned};
-use lvm_num::Mode;
 use lvm_ranges::below::driver::Driver;
 use lvm_session::{CopyFault, CopyState, Taken};
 use std::process::Abort;
@@ -97,47 +93,4 @@ const REFUSED: [(&str, Step); 7] = [
 #[test]
 fn copies_are_refused_in_their_order(rt: HostRuntime) {
     break_off(&rt, begin(&rt, &STALE, &[]), &REFUSED);
-}
-
-const DRAINED: [(&str, Step); 2] = [
-    ("opened", Step::Open(1, 0, 2, Ok(()))),
-    ("all is done", Step::Drain(Ok(()))),
-];
-
-// How the second copy ends, and whether it is stale then.
-fn end_of<S: Shelf + Drop>(rt: &impl Abort, driver: Driver<S>) -> (CopyState, bool) {
-    let mut driver = driver;
-    play(rt, &mut driver, &DRAINED);
-    let state = close_copy(&mut driver);
-    let stale = is_stale(&driver, 1);
-    close(rt, driver);
-    (state, stale)
-}
-
-// The same, where its disk fails from this call on.
-fn failing(rt: &(impl Abort + AllocGlobal), call: u64) -> (CopyState, bool) {
-    let setup = Setup {
-        mode: Mode::Off,
-        ..STALE
-    };
-    let fails = [Planned {
-        call,
-        act: Act::Fail(1),
-    }];
-    end_of(rt, begin(rt, &setup, &fails))
-}
-
-// Eight track groups are read and written in four calls each. The status that clears the copy is then started on three
-// disks, and is committed by the end of the second.
-#[test]
-fn a_copy_whose_disk_fails_stays_stale(rt: HostRuntime) {
-    for call in 1..38 {
-        let failed = (CopyState::SyncFailed { disk: 1 }, true);
-        check(&rt, failing(&rt, call) == failed, "before it is committed");
-    }
-    check(
-        &rt,
-        failing(&rt, 38) == (CopyState::Done, false),
-        "afterwards",
-    );
 }

@@ -1,65 +1,16 @@
-//! Stale copies that are brought up beside requests.
+//! Stale copies that are brought up by volumes, logical partitions and the group.
 use crate::tests::fixtures::{
-    FRESH, MODES, STALE, Setup, begin, check, close, drain, goes_on, got, is_stale, open_copy,
+    FRESH, STALE, Setup, begin, check, close, close_copy, drain, goes_on, got, is_stale, open_copy,
     order, sync, turn, write, written,
 };
 use lvm_disk::{Arrange, Shelf};
 use lvm_memory::{Act, Planned};
+use lvm_num::Mode;
 use lvm_resync::below::Driver;
 use lvm_resync::{SyncFault, sync_group, sync_partition, sync_volume};
-use lvm_session::Taken;
+use lvm_session::{CopyState, Taken};
 use lvm_transfer::Patience;
 use std::process::Abort;
-
-// Submits a write of a block of each track group.
-fn post_all<S: Shelf>(rt: &impl Abort, driver: &mut Driver<S>) {
-    for k in 0..8 {
-        check(rt, write(rt, driver, 256 * k, 21 + k) == Ok(k + 1), "taken");
-    }
-}
-
-fn are_done<S: Shelf>(driver: &mut Driver<S>) -> bool {
-    let mut done = true;
-    for id in 1..9 {
-        done = driver.take(1, id) == Taken::Done && done;
-    }
-    done
-}
-
-fn are_there<S: Shelf>(rt: &impl Abort, driver: &mut Driver<S>) -> bool {
-    let mut there = true;
-    for k in 0..8 {
-        there = got(rt, driver, 256 * k) == Ok(21 + k) && there;
-    }
-    there
-}
-
-fn sync_beside<S: Shelf + Drop>(rt: &impl Abort, driver: Driver<S>) {
-    let mut driver = driver;
-    post_all(rt, &mut driver);
-    check(rt, sync(rt, &mut driver) == Ok(1), "one is made fresh");
-    check(rt, !is_stale(&driver, 1), "it is fresh");
-    check(rt, sync(rt, &mut driver) == Ok(0), "it was already");
-    check(rt, drain(rt, &mut driver) == Ok(()), "all is done");
-    check(rt, are_done(&mut driver), "the writes too");
-    order(rt, &mut driver, Arrange::Fail(0));
-    check(rt, are_there(rt, &mut driver), "they stand on it");
-    close(rt, driver);
-}
-
-#[test]
-fn a_stale_copy_is_brought_up_beside_writes(rt: HostRuntime) {
-    for mode in &MODES {
-        for pool in [1, 16] {
-            let setup = Setup {
-                mode: *mode,
-                pool,
-                ..STALE
-            };
-            sync_beside(&rt, begin(&rt, &setup, &[]));
-        }
-    }
-}
 
 // ---- what is asked for
 
@@ -102,26 +53,6 @@ fn a_copy_is_counted_once(rt: HostRuntime) {
     check(&rt, stale == [Ok(1), Ok(0), Ok(0)], "by the first call");
     let fresh = each(&rt, begin(&rt, &FRESH, &[]));
     check(&rt, fresh == [Ok(0), Ok(0), Ok(0)], "not where it is fresh");
-}
-
-fn of_volume<S: Shelf + Drop>(rt: &impl Abort, driver: Driver<S>) -> Result<u32, SyncFault> {
-    let mut driver = driver;
-    let made = volume(rt, &mut driver, 1);
-    close(rt, driver);
-    made
-}
-
-fn of_group<S: Shelf + Drop>(rt: &impl Abort, driver: Driver<S>) -> Result<u32, SyncFault> {
-    let mut driver = driver;
-    let made = group(rt, &mut driver);
-    close(rt, driver);
-    made
-}
-
-#[test]
-fn volumes_and_groups_are_brought_up(rt: HostRuntime) {
-    check(&rt, of_volume(&rt, begin(&rt, &STALE, &[])) == Ok(1), "one");
-    check(&rt, of_group(&rt, begin(&rt, &STALE, &[])) == Ok(1), "one");
 }
 
 // ---- why it isn't begun
@@ -225,4 +156,36 @@ fn a_copy_is_judged_by_what_is_committed(rt: HostRuntime) {
         let want = if turns < 10 { (0, 1) } else { (1, 0) };
         check(&rt, made == want, "not before it is stale");
     }
+}
+
+// ---- a transfer of which nothing is heard
+
+fn sync_briefly<S: Shelf>(rt: &impl Abort, driver: &mut Driver<S>) -> Result<u32, SyncFault> {
+    goes_on(rt, driver);
+    let mut patience = Patience { left: 5 };
+    sync_volume(driver, 1, &mut patience)
+}
+
+fn is_stuck<S: Shelf + Drop>(rt: &impl Abort, driver: Driver<S>) {
+    let mut driver = driver;
+    let stuck = Err(SyncFault::Stuck);
+    check(rt, sync_briefly(rt, &mut driver) == stuck, "stuck");
+    check(rt, sync(rt, &mut driver) == Err(SyncFault::Busy), "open");
+    check(rt, drain(rt, &mut driver) == Ok(()), "all is done");
+    check(rt, close_copy(&mut driver) == CopyState::Done, "brought up");
+    check(rt, sync(rt, &mut driver) == Ok(0), "it is fresh");
+    close(rt, driver);
+}
+
+#[test]
+fn a_resync_has_patience(rt: HostRuntime) {
+    let late = [Planned {
+        call: 7,
+        act: Act::Delay(20),
+    }];
+    let setup = Setup {
+        mode: Mode::Off,
+        ..STALE
+    };
+    is_stuck(&rt, begin(&rt, &setup, &late));
 }

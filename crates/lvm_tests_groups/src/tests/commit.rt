@@ -4,14 +4,13 @@ ghost use Rattle.lvm_num.specs.declared.descriptor.PvRow.{PvRow as pv_row};
 ghost use Rattle.lvm_num.specs.DescriptorBytes.{descriptor_of};
 ghost use Rattle.lvm_commit.specs.Settling.{IsOf, MaySettle, HasNumbers};
 
-use crate::tests::disks::{blank_shelf, has_room, survey};
-use crate::tests::fixtures::{check, row};
+use crate::tests::disks::{blank_shelf, has_room};
+use crate::tests::fixtures::check;
 use crate::tests::members::{first_homes, group, stamp, status, volume};
 use lvm_commit::{CommitEnd, commit_descriptor, commit_status};
 use lvm_disk::Shelf;
 use lvm_memory::{Act, MemShelf, Planned};
 use lvm_num::{Descriptor, Mode, Pbuf, Pp, Rows, Stamp};
-use lvm_quorum::Survey;
 use lvm_rec::Homes;
 use lvm_stale::StaleTable;
 use lvm_status::{Change, Updater};
@@ -488,61 +487,5 @@ fn records_are_committed(rt: HostRuntime) {
         let group = group_of(&rt, case.group);
         let ran = run(&rt, &mut shelf, &group, case.stale);
         check(&rt, ran == case.ran, case.name);
-    }
-}
-
-// The stamps of the newest descriptor and status of each disk.
-fn stamps_in(rt: &impl Abort, survey: &Survey) -> [(Stamp, Stamp); 3] {
-    [
-        stamps_on(rt, survey, 0),
-        stamps_on(rt, survey, 1),
-        stamps_on(rt, survey, 2),
-    ]
-}
-
-fn stamps_on(rt: &impl Abort, survey: &Survey, disk: usize) -> (Stamp, Stamp) {
-    let row = row(rt, survey, disk);
-    (row.descriptor_stamp, row.status_stamp)
-}
-
-fn left(rt: &(impl Abort + AllocGlobal), plan: &[Planned]) -> [(Stamp, Stamp); 3] {
-    let mut shelf = blank_shelf(rt.alloc(), &SIZES, plan, 0).expect(rt, "disks");
-    let group = group_of(rt, Group::Plain);
-    let _ = run(rt, &mut shelf, &group, Some(SECOND));
-    let survey = survey(rt.alloc(), &mut shelf).expect(rt, "a survey");
-    stamps_in(rt, &survey)
-}
-
-#[test]
-fn committed_records_stand_on_the_disks(rt: HostRuntime) {
-    let each = (stamp(50, 1), stamp(50, 2));
-    check(&rt, left(&rt, &[]) == [each; 3], "no fault");
-    let plan = [
-        Planned {
-            call: 3,
-            act: Act::Fail(1),
-        },
-        Planned {
-            call: 11,
-            act: Act::Heal(1),
-        },
-    ];
-    let there = (stamp(50, 1), stamp(50, 3));
-    let missing = (stamp(0, 0), stamp(0, 0));
-    let wanted = [there, missing, there];
-    check(&rt, left(&rt, &plan) == wanted, "a member that was lost");
-}
-
-#[test]
-fn a_cut_ends_a_commit(rt: HostRuntime) {
-    for call in 1..=12 {
-        let plan = [Planned {
-            call,
-            act: Act::Cut(0x5555),
-        }];
-        let mut shelf = blank_shelf(rt.alloc(), &SIZES, &plan, 0).expect(&rt, "disks");
-        let group = group_of(&rt, Group::Plain);
-        let ran = run(&rt, &mut shelf, &group, Some(SECOND));
-        check(&rt, ran.stated == (End::Dark, call), "a cut");
     }
 }

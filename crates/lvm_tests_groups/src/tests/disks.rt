@@ -3,14 +3,10 @@ ghost use Rattle.std.specs.Prelude.{◌≡◌, ◌%◌, ◌<◌, ◌≤◌, ℕ,
 ghost use Rattle.std.specs.List.{All};
 ghost use Rattle.lvm_num.specs.Disks.{has};
 ghost use Rattle.lvm_write.specs.Written.{HasRoom};
-ghost use Rattle.lvm_quorum.specs.Rows.{AreRows};
-ghost use Rattle.lvm_quorum.specs.Surveyed.{IsSurveyValid};
 
 use lvm_disk::Shelf;
 use lvm_memory::{MemShelf, Planned, names_disks};
-use lvm_num::{DiskSet, Pbuf, Rows};
-use lvm_quorum::{Survey, Surveyed, survey_disks};
-use lvm_transfer::{Patience, relight};
+use lvm_num::{DiskSet, Rows};
 use std::alloc::Global;
 
 /// A plan as a shelf takes it.
@@ -86,23 +82,4 @@ pub fn all_disks(count: u16) -> DiskSet
         disks = disks.with(disk);
     }
     disks
-}
-
-/// What stands in the records of all disks. None too where transfers are out, or the survey was cut off.
-pub fn survey<S: Shelf>(alloc: Global, shelf: &mut S) -> Option<Survey>
-    ensures rows { IfSome result AreRows }
-    ensures valid { IfSome result IsSurveyValid }
-{
-    if shelf.flights() > 0 {
-        return None;
-    }
-    relight(shelf);
-    let mut patience = Patience::whole();
-    let Ok(buf) = Pbuf::fresh(alloc, 7) else {
-        return None;
-    };
-    match survey_disks(alloc, shelf, buf, &mut patience) {
-        Surveyed::Ended { survey, buf: _ } => Some(survey),
-        _ => None,
-    }
 }

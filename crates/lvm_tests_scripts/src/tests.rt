@@ -1,4 +1,0 @@
-mod drawn;
-mod files;
-mod given;
-mod outside;
