@@ -12,3 +12,4 @@ pub mod MirrorSettlingLemmas
 pub mod MirrorStagesLemmas
 pub mod MirrorsLemmas
 pub mod LawsLemmas
+pub mod TidyingLemmas

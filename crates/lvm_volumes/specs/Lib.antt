@@ -3,5 +3,6 @@ pub mod Endings
 pub mod Volumes
 pub mod Stages
 pub mod Mirrors
+pub mod Tidying
 pub mod MirrorStages
 pub mod Laws

@@ -3,8 +3,10 @@
 
 mod copies;
 pub mod laws;
+mod tidying;
 mod volumes;
 
 pub use copies::{mklvcopy, rmlvcopy};
 pub use lvm_volume_plan::GroupFault;
+pub use tidying::tidy;
 pub use volumes::{commit_between, mklv, rmlv};
