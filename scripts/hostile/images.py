@@ -2,13 +2,15 @@
 """Bad images: brings a group on over image files of which bytes were changed, and compares what the program answers and
 writes with what records.py says.
 
-usage: images.py [--bits] [rows] [flips] [torn] [notes] [random] [largest]      without a name: all of them
+usage: images.py [--bits] [rows] [flips] [torn] [lengths] [notes] [random] [largest]      without a name: all of them
 LVM names the program; ROWS another folder whose stdin and stdout have the rows.
 
   rows    the cases of the folder rows: a group is made, and brought on over its images with one edit after the other
-  flips   each byte of the records of a group of three disks is turned over, and so is each byte that no rule looks at;
-          with --bits each of the eight bits of a byte too, one after the other
-  torn    each front of a record's write, and each set of its sectors, on each disk of a group of eight
+  flips   each byte of the sectors that hold records of a group of three disks is turned over, one after the other; and so
+          is each other byte below the data, those of one place in each sector at once, and each other sector of the record
+          areas, one after the other; with --bits each of the eight bits of a byte too, one after the other
+  torn    each set of the sectors of a record's write, on each disk of a group of eight
+  lengths each front of the write of a record of each length, and all of it but one sector, on a group of one disk
   notes   notes that name volumes and track groups at the limits of both
   random  bytes that are drawn, over the sectors that hold records
   largest groups of as many members, partitions and volumes as there may be
@@ -29,23 +31,48 @@ HERE = os.path.dirname(os.path.abspath(__file__))
 ROOT = os.path.dirname(os.path.dirname(HERE))
 LVM = os.path.realpath(os.environ.get("LVM", f"{ROOT}/crates/lvm/out/lvm"))
 ROWS = os.environ.get("ROWS", f"{HERE}/rows")
-FLIP = bytes(255 - k for k in range(256))
+# How many images a program is asked about before the next one begins, and how many bytes are compared at once.
+ASKED = 1000
+# The sectors of the record areas.
+AREAS = {NOTE} | set(range(64, 192)) | set(range(512, 2816))
+CHUNK = 128 * SECTOR
 
 
 class Failed(Exception):
     pass
 
 
+class Front:
+    """What stands first in an image, behind which are zeros."""
+
+    def __init__(self, data, behind):
+        self.data, self.behind = data, behind
+
+    def __len__(self):
+        return len(self.data) + self.behind
+
+    def __getitem__(self, part):
+        first, last, _ = part.indices(len(self))
+        found = self.data[first:last]
+        return found + bytes(last - first - len(found))
+
+
 class Folder:
-    """A folder of image files, and what stands in them."""
+    """A folder of image files, what stands in them, and a program that has them open. Behind what is told of each image
+    there may be zeros, which aren't looked at."""
 
     def __init__(self):
         memory = "/dev/shm"
         self.path = tempfile.mkdtemp(dir=memory if os.path.isdir(memory) else None)
         self.images = []
         self.runs = 0
+        self.live = None
+        self.asked = 0
+        self.rooms = {}
+        self.behind = 0
 
     def away(self):
+        self.end()
         shutil.rmtree(self.path)
 
     def file(self, disk):
@@ -53,12 +80,15 @@ class Folder:
 
     def put(self, images):
         """Makes the files these images, by writing the sectors that differ."""
+        if [len(image) for image in images] != [len(image) for image in self.images]:
+            self.end()
         for disk in range(max(len(images), len(self.images))):
             if disk >= len(images):
                 os.remove(self.file(disk))
             elif disk >= len(self.images) or len(images[disk]) != len(self.images[disk]):
                 with open(self.file(disk), "wb") as file:
                     file.write(images[disk])
+                    file.truncate(len(images[disk]) + self.behind)
             elif images[disk] != self.images[disk]:
                 with open(self.file(disk), "r+b") as file:
                     for sector in changed(self.images[disk], images[disk]):
@@ -66,8 +96,22 @@ class Folder:
                         file.write(images[disk][sector * SECTOR : (sector + 1) * SECTOR])
         self.images = list(images)
 
+    def look(self):
+        """Reads what stands in the files."""
+        before, self.images = self.images, []
+        while os.path.exists(self.file(len(self.images))):
+            disk = len(self.images)
+            with open(self.file(disk), "rb") as file:
+                count = os.fstat(file.fileno()).st_size - self.behind
+                room = self.rooms.setdefault((disk, count), bytearray(count))
+                file.readinto(room)
+            # (what is as it was stays one value, so that it is compared at once)
+            old = before[disk] if disk < len(before) else None
+            self.images.append(old if room == old else bytes(room))
+
     def run(self, lines):
-        """The answers to a script, and its status; what it leaves stands in `images`."""
+        """The answers of a run of its own to a script, and its status; what it leaves stands in `images`."""
+        self.end()
         ended = subprocess.run(
             [LVM, "script"],
             cwd=self.path,
@@ -77,27 +121,45 @@ class Folder:
             timeout=60,
         )
         self.runs += 1
-        self.images = []
-        while os.path.exists(self.file(len(self.images))):
-            with open(self.file(len(self.images)), "rb") as file:
-                self.images.append(file.read())
+        self.look()
         return ended.stdout.decode().split("\n")[:-1], ended.returncode
+
+    def ask(self, lines):
+        """The answers to lines of one reply each, by a program that goes on; what they leave stands in `images`."""
+        if self.live and self.asked == ASKED:
+            self.end()
+        if not self.live:
+            self.live = subprocess.Popen([LVM, "script"], cwd=self.path, stdin=subprocess.PIPE, stdout=subprocess.PIPE)
+            self.asked = 0
+        self.asked += 1
+        self.runs += 1
+        self.live.stdin.write("".join(f"{line}\n" for line in lines).encode())
+        self.live.stdin.flush()
+        answers = [self.live.stdout.readline().decode() for _ in lines]
+        if not answers[-1].endswith("\n"):
+            raise Failed(f"the program ended: {answers}, status {self.live.wait()}")
+        self.look()
+        return [answer[:-1] for answer in answers]
+
+    def end(self):
+        """Ends the program that has the files open."""
+        if self.live:
+            self.live.stdin.close()
+            rest, status = self.live.stdout.read(), self.live.wait()
+            self.live = None
+            if rest or status > 1:
+                raise Failed(f"the program ends with status {status}, and says {rest[:100]}")
 
 
 def changed(before, after):
     """The sectors in which two images of one length differ."""
+    if before is after:
+        return []
     found = []
-
-    def look(first, count):
-        at, end = first * SECTOR, (first + count) * SECTOR
-        if before[at:end] != after[at:end]:
-            if count == 1:
-                found.append(first)
-            else:
-                look(first, count // 2)
-                look(first + count // 2, count - count // 2)
-
-    look(0, (len(before) + SECTOR - 1) // SECTOR)
+    for at in range(0, len(before), CHUNK):
+        old, new = before[at : at + CHUNK], after[at : at + CHUNK]
+        if old != new:
+            found += [(at + k) // SECTOR for k in range(0, len(old), SECTOR) if old[k : k + SECTOR] != new[k : k + SECTOR]]
     return found
 
 
@@ -143,27 +205,29 @@ def shown(block, content):
 def judge(folder, images, name="datavg", volume="lv00"):
     """Brings the group on over these images, and compares the answers and what stands afterwards with what is wanted."""
     folder.put(images)
-    wanted = records.varyon(images, name, time.time_ns() // 1000)
+    whole = [Front(image, folder.behind) for image in images]
+    wanted = records.varyon(whole, name, time.time_ns() // 1000)
     disks = range(len(images))
-    answers, status = folder.run([f"varyonvg {name}"] + [f"lspv hdisk{disk}" for disk in disks] + [f"rd {volume} 0 1"])
+    lines = [f"varyonvg {name}"] + [f"lspv hdisk{disk}" for disk in disks] + [f"rd {volume} 0 1", f"varyoffvg {name}"]
+    answers = folder.ask(lines)
     after = folder.images
-    if answers[:1] != [wanted.answer]:
-        raise Failed(f"answered {answers[:1]}, not {wanted.answer}")
+    if answers[0] != wanted.answer:
+        raise Failed(f"answered {answers[0]}, not {wanted.answer}")
     if wanted.answer != "ok":
-        if status != 1 or answers[1:] != ["refused 2 NoGroup"] * (len(images) + 1):
-            raise Failed(f"after a refusal: {answers}, status {status}")
+        if answers[1:] != ["refused 2 NoGroup"] * (len(images) + 2):
+            raise Failed(f"after a refusal: {answers}")
         if after != list(images):
             raise Failed("a refused varyonvg wrote")
         return wanted.answer
     listed = [records.listing(wanted, disk) for disk in disks]
-    if answers[1:-1] != listed:
-        raise Failed(f"listed {answers[1:-1]}, not {listed}")
+    if answers[1:-2] != listed:
+        raise Failed(f"listed {answers[1:-2]}, not {listed}")
     see_images(images, after, wanted)
-    read = blocks_of(after, wanted, volume, 0)
-    if answers[-1] not in read:
-        raise Failed(f"read {answers[-1][:80]}, not one of {read}")
-    if status != int(any(answer.startswith("refused") for answer in answers)):
-        raise Failed(f"status {status}")
+    read = blocks_of([Front(image, folder.behind) for image in after], wanted, volume, 0)
+    if answers[-2] not in read:
+        raise Failed(f"read {answers[-2][:80]}, not one of {read}")
+    if answers[-1] != "ok":
+        raise Failed(f"varied off: {answers[-1]}")
     return "ok"
 
 
@@ -174,15 +238,19 @@ def see_images(before, after, wanted):
             if old != new:
                 raise Failed(f"hdisk{disk} doesn't answer and was written")
             continue
-        data = old
-        for first, copied in wanted.data.get(disk, {}).items():
-            data = edited(data, first * SECTOR, copied)
-        if data[DATA * SECTOR :] != new[DATA * SECTOR :]:
-            raise Failed(f"the data of hdisk{disk}: sectors {changed(data, new)[-3:]}")
-        see_records(disk, old, new, wanted)
+        touched = changed(old, new)
+        copied = set()
+        for first, found in wanted.data.get(disk, {}).items():
+            if new[first * SECTOR : first * SECTOR + len(found)] != found:
+                raise Failed(f"the data of hdisk{disk} from sector {first} on")
+            copied |= set(range(first, first + len(found) // SECTOR))
+        others = [sector for sector in touched if sector >= DATA and sector not in copied]
+        if others:
+            raise Failed(f"the data of hdisk{disk}: sectors {others[-3:]}")
+        see_records(disk, old, new, wanted, [sector for sector in touched if sector < DATA])
 
 
-def see_records(disk, old, new, wanted):
+def see_records(disk, old, new, wanted, touched):
     """That its records are the new ones, each in the slot that didn't hold the newest, and that nothing else was written."""
     may = {NOTE}
     for kind, starts, value in (("descriptor", DESCRIPTOR, wanted.group), ("status", STATUS, wanted.status)):
@@ -198,7 +266,7 @@ def see_records(disk, old, new, wanted):
         may |= set(range(starts[slot], starts[slot] + (1152 if kind == "descriptor" else 64)))
     if records.note_of(new):
         raise Failed(f"the note of hdisk{disk} names {records.note_of(new)}")
-    others = [sector for sector in changed(old[: DATA * SECTOR], new[: DATA * SECTOR]) if sector not in may]
+    others = [sector for sector in touched if sector not in may]
     if others:
         raise Failed(f"hdisk{disk} was written in sectors {others[:3]}")
 
@@ -224,6 +292,7 @@ class Table:
         answer = " ".join(answer.split()[:3])
         self.counts[answer] = self.counts.get(answer, 0) + 1
         self.tried += 1
+        return answer
 
     def told(self, of):
         return f"{self.name}: {self.tried} {of}: {counted(self.counts)}"
@@ -280,9 +349,22 @@ def flips(folder, bits):
             others += len(left)
             bad.append(bytes(front) + image[DATA * SECTOR :])
         beside.judge(f"byte {offset} of each sector that holds nothing", bad)
-    if set(beside.counts) != {"ok"}:
-        raise Failed(f"flips: bytes that no rule looks at: {beside.counts}")
-    return f"{told}\n{beside.told(f'runs, with {others} bytes that no rule looks at turned over')}"
+    whole = Table("flips", folder)
+    for disk, image in enumerate(images):
+        for sector in sorted(AREAS - set(looked_at(image))):
+            at = sector * SECTOR
+            bad = edited(image, at, bytes(255 - byte for byte in image[at : at + SECTOR]))
+            whole.judge(f"hdisk{disk}, sector {sector} that holds nothing", images[:disk] + [bad] + images[disk + 1 :])
+    for told_of in (beside, whole):
+        if set(told_of.counts) != {"ok"}:
+            raise Failed(f"flips: bytes that no rule looks at: {told_of.counts}")
+    return "\n".join(
+        [
+            told,
+            beside.told(f"runs, with {others} bytes that no rule looks at turned over"),
+            whole.told("runs, each with one sector of the record areas that holds nothing turned over"),
+        ]
+    )
 
 
 def eight(folder):
@@ -321,6 +403,63 @@ def torn(folder):
     if set(table.counts) != {"ok"}:
         raise Failed(f"torn: {table.counts}")
     return table.told("writes of a record, of which some sectors have landed")
+
+
+def long_descriptor(count, name):
+    """A group of one disk of 1,016 partitions whose descriptor fills so many sectors, up to 25."""
+    room = 496 * count - 4 - 56
+    volumes = min(255, room // 36)
+    group = records.Descriptor(50, name, 1, True, False, False, [(0, 1016, False)], [])
+    left = list(range(1016))
+    for number in range(1, volumes + 1):
+        lps = 1 if number < volumes else 1 + min(len(left) - 1, (room - 36 * volumes) // 4)
+        group.volumes.append(records.Volume(number, 1, 0, "p", lps, f"lv{number - 1:02}", [[(0, pp)] for pp in left[:lps]]))
+        left = left[lps:]
+    return records.encode_descriptor(group)
+
+
+def long_status(count, stale):
+    """A status of so many sectors, up to 9, by which the first partition of hdisk0 is stale, or isn't."""
+    rows = min(32, (496 * count - 4 - 16) // 132)
+    return records.encode_status(records.Status(50, {disk: (False, {0} if stale and disk == 0 else set()) for disk in range(rows)}, []), False)
+
+
+def lengths(folder):
+    """The write of a later record of each length, which is broken off: each front of it has landed, or all but one sector."""
+    folder.put([])
+    folder.behind = 2048 * 1016 * SECTOR
+    table, told = Table("lengths", folder), []
+    for kind, starts, most in (("descriptor", DESCRIPTOR, 25), ("status", STATUS, 9)):
+        before = table.tried
+        for count in range(1, most + 1):
+            # The later descriptor gives the group another name; the later status calls a partition stale.
+            contents = [long_descriptor(count, name) for name in ("datavg", "other")] if kind == "descriptor" else [long_status(count, it) for it in (False, True)]
+            later = records.frame(kind, contents[1], 50, 9)
+            if len(later) != count * SECTOR:
+                raise Failed(f"lengths: a {kind} of {len(later)} bytes, not of {count} sectors")
+            older = records.frame(kind, (long_descriptor(count + 1, "older") if kind == "descriptor" else long_status(count + 1, False)), 40, 3)
+            for left in (b"", older):
+                image = bytearray(DATA * SECTOR)
+                image[starts[1] * SECTOR : starts[1] * SECTOR + len(left)] = left
+                first = contents[0] if kind == "descriptor" else long_descriptor(2, "datavg")
+                status = contents[0] if kind == "status" else long_status(1, False)
+                for place, content, sequence, of in ((DESCRIPTOR[0], first, 1, "descriptor"), (STATUS[0], status, 2, "status")):
+                    sectors = records.frame(of, content, 50, sequence)
+                    image[place * SECTOR : place * SECTOR + len(sectors)] = sectors
+                fronts = [set(range(k)) for k in range(count + 1)]
+                for landed in fronts + [set(range(count)) - {k} for k in range(count - 1)]:
+                    bad = bytearray(image)
+                    for k in landed:
+                        at = (starts[1] + k) * SECTOR
+                        bad[at : at + SECTOR] = later[k * SECTOR : (k + 1) * SECTOR]
+                    what = f"a {kind} of {count} sectors over {len(left)} bytes, {len(landed)} have landed"
+                    name = "other" if kind == "descriptor" and len(landed) == count else "datavg"
+                    if table.judge(what, [bytes(bad)], name) != "ok":
+                        raise Failed(f"lengths: {what}: the group doesn't come on")
+        told.append(f"{table.tried - before} writes of a {kind} of 1 to {most} sectors")
+    folder.put([])
+    folder.behind = 0
+    return f"lengths: {', '.join(told)}, of which a front or all but one sector has landed: each came on"
 
 
 def note(entries, begin, end):
@@ -513,11 +652,12 @@ def rows(folder):
 
 def main(words):
     bits = "--bits" in words
-    words = [word for word in words if word != "--bits"] or ["rows", "flips", "torn", "notes", "random", "largest"]
+    words = [word for word in words if word != "--bits"] or ["rows", "flips", "torn", "lengths", "notes", "random", "largest"]
     tables = {
         "rows": rows,
         "flips": lambda folder: flips(folder, bits),
         "torn": torn,
+        "lengths": lengths,
         "notes": notes,
         "largest": largest,
         "random": lambda folder: drawn(folder, int(os.environ.get("SEED", "1")), int(os.environ.get("COUNT", "3000"))),

@@ -4,6 +4,7 @@
   allocations  each allocation of a run is refused in turn
   calls        each call on an image file fails in turn: once, from then on for that file, from then on for all, or half way
   deaths       the program ends at each call on an image file, and in the middle of each write
+  loads        the same calls fail, or end the program, while `lvm load` goes on
 
 After each run the images are looked at by runs to which nothing is refused: a group that was made comes on, and each block
 holds its last write that was answered `ok`, or one that was asked for since.
@@ -13,7 +14,10 @@ import os
 import subprocess
 import sys
 
-from images import LVM, Failed, Folder, made
+from images import LVM, ROOT, Failed, Folder, made
+
+sys.path.insert(0, f"{ROOT}/scripts")
+from kill_load import GROUP, Words  # noqa: E402
 
 SO = os.environ.get("REFUSE_SO", "")
 COUNTS = "refuse.counts"
@@ -83,7 +87,7 @@ class Acknowledged:
             self.volumes[words[words.index("-y") + 1]] = well
         elif words[0] == "mklv" and reply.split()[1] in ("9", "22"):
             self.volumes[words[words.index("-y") + 1]] = False
-        elif words[0] == "wr":
+        elif words[0] == "wr" and not (reply or "").startswith(("refused 2 ", "refused 12 ")):
             self.write(words, well)
         elif words[0] == "post":
             if reply == "posted":
@@ -325,8 +329,149 @@ def deaths(folder):
     return f"deaths: the program ended at {numbered(done)}; in the middle of {numbered(torn)}"
 
 
+# ---- loads
+
+SEED = 7
+
+
+class Load:
+    """A load over a volume of one logical partition, its threads' requests drawn from the seed."""
+
+    def __init__(self, name, copies, threads, requests, own):
+        self.name, self.copies, self.threads, self.requests, self.own = name, copies, threads, requests, own
+        self.words = ["load", *["--own"] * own, "datavg", "lv00", str(threads), str(requests), str(SEED)]
+
+    def requests_of(self, client):
+        """The writes of a client, None for a read: the first block, how many, and the first word."""
+        words = Words(SEED + client)
+        mine = self.requests // self.threads + (client <= self.requests % self.threads)
+        for number in range(mine):
+            at, count, kind = words.next(), words.next(), words.next()
+            at = at % GROUP + GROUP * (client - 1) if self.own else at % 2048
+            count = min(1 + count % 8, GROUP - at % GROUP)
+            yield (at, count, (client << 32) + 8 * number) if self.own or kind % 2 else None
+
+    def most_done(self, client, blocks, lost):
+        """How many of a client's first requests may have been done, the blocks being so, but for so many in any place that
+        were lost; None where the blocks show no front of them."""
+        states = {(0, lost): [0] * len(blocks)}
+        requests, best = list(self.requests_of(client)), None
+        mine = range(GROUP * (client - 1), GROUP * client) if self.own else range(len(blocks))
+        for number in range(len(requests) + 1):
+            for left in range(lost + 1):
+                state = states.get((number, left))
+                if state is None:
+                    continue
+                odd = [k for k in mine if blocks[k] != state[k]]
+                request = requests[number] if number < len(requests) else None
+                if all(request and request[0] <= k < request[0] + request[1] and blocks[k] == request[2] + k - request[0] for k in odd):
+                    best = number if best is None else max(best, number)
+                if number < len(requests):
+                    after = list(state)
+                    if request:
+                        at, count, word = request
+                        after[at : at + count] = range(word, word + count)
+                        if left:
+                            # (a write that was lost may have landed on any of its blocks)
+                            states[(number + 1, left - 1)] = [blocks[k] if at <= k < at + count and blocks[k] == word + k - at else old for k, old in enumerate(state)]
+                    states[(number + 1, left)] = after
+        return best
+
+
+LOADS = [
+    Load("one thread that writes two copies", 2, 1, 8, True),
+    Load("one thread that reads and writes two copies", 2, 1, 12, False),
+    Load("four threads that write two copies", 2, 4, 16, True),
+    Load("one thread that writes one copy", 1, 1, 6, True),
+]
+
+
+def counts_of(answers, what):
+    names = ["begun", "done", "got", "lost", "refused", "unbegun"]
+    if [answer.split()[0] for answer in answers] != names:
+        raise Failed(f"{what}: answered {answers}")
+    return {name: int(answer.split()[1]) for name, answer in zip(names, answers)}
+
+
+def see_load(load, answers, status, what, how):
+    """What a load over disks that fail is answered; how many requests were done and how many were lost, if it ran."""
+    if how in ("die", "torn"):
+        if status != 137 or answers:
+            raise Failed(f"{what}: status {status}, {answers}")
+        return None
+    if answers and answers[0].startswith("refused"):
+        if len(answers) != 1 or status != 1 or int(answers[0].split()[1]) not in MAY["varyonvg"]:
+            raise Failed(f"{what}: {answers}, status {status}")
+        return (0, 0)
+    counts = counts_of(answers, what)
+    landed = counts["done"] + counts["got"]
+    if counts["begun"] + counts["unbegun"] != load.requests or landed + counts["lost"] + counts["refused"] != counts["begun"]:
+        raise Failed(f"{what}: {counts}")
+    if status != int(landed < load.requests):
+        raise Failed(f"{what}: {counts}, status {status}")
+    # Of two copies one is left where one disk fails.
+    if landed < load.requests and load.copies > 1 and how != "lost":
+        raise Failed(f"{what}: {counts}")
+    return landed, counts["lost"] + counts["refused"]
+
+
+def see_blocks(folder, load, ended, what):
+    """The blocks show what was done; copies that aren't stale are alike."""
+    lines = ["varyonvg datavg", "lslv -m lv00", "rd lv00 0 2048"]
+    answers, status, _ = run(folder, ["script"], lines)
+    if answers[:1] != ["ok"] or status or len(answers) != 2050:
+        raise Failed(f"{what}: the group is {answers[:3]}")
+    try:
+        blocks = [int(answer.split()[1], 16) for answer in answers[2:]]
+    except ValueError:
+        raise Failed(f"{what}: a block that no write gives") from None
+    landed, lost = ended or (0, 0)
+    shown = [load.most_done(client, blocks, min(lost, 1) if load.threads == 1 else 0) for client in range(1, load.threads + 1)]
+    if None in shown or sum(shown) < landed:
+        raise Failed(f"{what}: {landed} were done, and the blocks show {shown}")
+    places = answers[1].split()[1:]
+    if len(places) == 4:
+        contents = []
+        for pp, disk in (places[:2], places[2:]):
+            with open(f"{folder.path}/{disk}.img", "rb") as file:
+                file.seek(512 * (4096 + 2048 * (int(pp) - 1)))
+                contents.append(file.read(512 * 2048))
+        if contents[0] != contents[1]:
+            raise Failed(f"{what}: the copies differ")
+
+
+def loads(folder):
+    told = []
+    for load in LOADS:
+        fresh(folder, [BLANK] * 3)
+        images = made(folder, ["mkvg -y datavg -s 1 hdisk0 hdisk1 hdisk2", f"mklv -y lv00 -c {load.copies} datavg 1", "varyoffvg datavg"])
+        fresh(folder, images)
+        answers, status, counts = run(folder, load.words, [])
+        if status or see_load(load, answers, status, load.name, "once") != (load.requests, 0):
+            raise Failed(f"{load.name}: {answers}, status {status}")
+        see_blocks(folder, load, (load.requests, 0), load.name)
+        failed, ended = {}, {}
+        kinds = [(kind, how) for kind in ("open", "lock", "stat", "seek", "read", "write", "sync") for how in ("once", "gone", "lost")]
+        kinds += [(kind, "half") for kind in ("read", "write")] + [("any", "die"), ("write", "torn")]
+        for kind, how in kinds:
+            for k in range(1, counts[kind] + 1):
+                what = f"{load.name}, {kind} {k} {how}"
+                fresh(folder, images)
+                answers, status, _ = run(folder, load.words, [], f"{kind} {k} {how}")
+                # (of more than one thread a run may make fewer calls than the one that was counted)
+                if how in ("die", "torn") and status != 137 and load.threads > 1:
+                    continue
+                found = see_load(load, answers, status, what, how)
+                see_blocks(folder, load, found, what)
+                end = "ended" if found is None else "refused" if answers[0].startswith("refused") else "all done" if found[0] == load.requests else "some lost"
+                ended[end] = ended.get(end, 0) + 1
+                failed[kind] = failed.get(kind, 0) + 1
+        told.append(f"loads: {load.name}: {numbered(failed)}: " + ", ".join(f"{count} {end}" for end, count in ended.items()))
+    return "\n".join(told)
+
+
 def main(words):
-    tables = {"allocations": allocations, "calls": calls, "deaths": deaths}
+    tables = {"allocations": allocations, "calls": calls, "deaths": deaths, "loads": loads}
     folder = Folder()
     try:
         for word in words or list(tables):
