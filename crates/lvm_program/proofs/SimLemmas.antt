@@ -15,6 +15,7 @@ use Rattle.lvm_top.specs.Blank.{IsToldBlank}
 use Rattle.lvm_top.specs.Standing.{HasFewDisks}
 use Rattle.lvm_top.specs.Plain.{HoldsOneGroup}
 use Rattle.lvm_top.proofs.PlainLemmas.{blank_holds_one_group}
+use Rattle.lvm_top.specs.Clock.{Clocked}
 use Rattle.lvm_top.specs.Run.{Run, Promises, WhereAlone}
 use Rattle.lvm_top.specs.Script.{facts_of}
 use Rattle.lvm_program.specs.Program.{PromisesBlank}
@@ -50,7 +51,7 @@ sim_few disks mib few = let is = sizes_of_zeros disks (2048 * mib) in omega (ari
 
 -- ---- a script over them
 
-module _ (asked : ℕ) (r : Run) (disks mib : ℕ) (few : disks ≤ 32) (is : r.entry ≡ sim_device disks mib) (promises : Promises asked r) where
+module _ (asked : Clocked) (r : Run) (disks mib : ℕ) (few : disks ≤ 32) (is : r.entry ≡ sim_device disks mib) (promises : Promises asked r) where
   upheld : WhereAlone r (IsUpheld r.named r.entry r.exit (facts_of r.history))
   upheld = λ ran alone. promises.upheld ran alone (subst (IsBehind r.named) (sym is) (sim_behind r.named disks mib))
 

@@ -9,6 +9,7 @@ use Rattle.lvm_vol.specs.Facts.{joined}
 use Rattle.lvm_vol.specs.Legal.{Legal}
 use Rattle.lvm_load.specs.declared.workload.Workload.{Workload}
 use Rattle.lvm_parse.specs.Forced.{HasNowhere}
+use Rattle.lvm_top.specs.Clock.{Clocked}
 use Rattle.lvm_top.specs.Run.{Run, Promises, WhereAlone}
 use Rattle.lvm_top.specs.Script.{Passage, facts_of}
 use Rattle.lvm_program.specs.Woven.{GoesWoven, PromisesWoven}
@@ -147,7 +148,7 @@ LeavesAlone (Err why) files input out err clock images = files × input × out �
 
 -- What a run over disks that hold nothing promises beside: no moment can be earlier than the run's, and nothing was told before. If its script has nowhere `-f`,
 -- then its history is legal, and each crash image that the disks may leave is kept with it.
-pub record PromisesBlank (asked : ℕ) (r : Run) : Type 0 where
+pub record PromisesBlank (asked : Clocked) (r : Run) : Type 0 where
   pub promises : Promises asked r
   pub plain : (bytes : List ℕ) → r.input.before.content ≡ Some bytes → HasNowhere (codes "-f") bytes → Legal (joined [] (facts_of r.history)) × ImagesKept r.exit (joined [] (facts_of r.history))
   pub upheld : WhereAlone r (IsUpheld r.named r.entry r.exit (facts_of r.history))

@@ -155,7 +155,7 @@ module _ (log : Log) (room : Room) (past : List Fact) (first : ScriptState) (beg
       line_stands log room past first begin line answer said says script it heard alone (stands log room past first begin script alone.0) id k found
 
 -- nothing is found by the turns behind the last line
-concluded_nothing : (run : ℕ) (end exit : Moment) (on : Option Core) → LeavesDescriptors end.device → Concludes run end exit on → NothingNew end.device exit.device
+pub concluded_nothing : (run : ℕ) (end exit : Moment) (on : Option Core) → LeavesDescriptors end.device → Concludes run end exit on → NothingNew end.device exit.device
 concluded_nothing run end exit on leaves (NoneIsOn none same) = same_nothing end.device exit.device (ap (λ (m : Moment). m.device) same)
 concluded_nothing run end exit on leaves (NoneIsServed core some empty same) = same_nothing end.device exit.device (ap (λ (m : Moment). m.device) same)
 concluded_nothing run end exit on leaves (IsServed core some vols named facts (NothingIsLeft rests device entries)) = closed_nothing power.On end.device exit.device device
