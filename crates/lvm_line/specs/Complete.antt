@@ -58,6 +58,22 @@ abbrev pub CompleteLaw : Type 0
 CompleteLaw = (log : Log) (room : Room) (line : List ℕ) (why : Refusal) (old new : ScriptState) → IsLine log room line (reply.Refused why) old new
     → NothingFailed (line_of line) old new → IsOwn old why
 
+-- A refusal by what is asked for, by the records and the session that are there, or for want of memory: for nothing that a shelf did.
+abbrev pub IsByRule : Refusal → Type 0
+IsByRule refusal.Dark = ⊥
+IsByRule refusal.Stuck = ⊥
+IsByRule refusal.Lost = ⊥
+IsByRule refusal.ReadFailed = ⊥
+IsByRule (refusal.DiskFailed disk) = ⊥
+IsByRule (refusal.SyncFailed disk) = ⊥
+IsByRule (refusal.WentOff have total) = ⊥
+IsByRule other = Unit {0}
+
+-- Where the votes weren't lost before it either, it is refused so alone; so a `wr` or a `rd` is, whose requests are all done or got if it isn't.
+abbrev pub RuleLaw : Type 0
+RuleLaw = (log : Log) (room : Room) (line : List ℕ) (why : Refusal) (old new : ScriptState) → IsLine log room line (reply.Refused why) old new
+    → NothingFailed (line_of line) old new → (HasLostVotes old → ⊥) → IsByRule why
+
 -- There is a line that is refused in which nothing failed.
 abbrev pub NothingMayFail : Type 0
 NothingMayFail =

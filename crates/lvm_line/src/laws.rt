@@ -1,6 +1,6 @@
 //! Laws of lines. Each call does nothing: its contract is the law.
 ghost use Rattle.lvm_line.specs.Causes.{CauseLaw, VaryonLaw, NoQuorumLaw};
-ghost use Rattle.lvm_line.specs.Complete.{CompleteLaw, NothingMayFail, NothingMayFailAnswered};
+ghost use Rattle.lvm_line.specs.Complete.{CompleteLaw, NothingMayFail, NothingMayFailAnswered, RuleLaw};
 
 /// A line is refused for what its shelf or the clock did only where that has happened.
 pub fn refusals_have_causes()
@@ -11,6 +11,7 @@ pub fn refusals_have_causes()
 /// rule of its own, for want of memory, or since the votes were lost before it.
 pub fn lines_are_complete()
     ensures complete { CompleteLaw }
+    ensures rule { RuleLaw }
     // There are such lines, refused and answered.
     ensures met { NothingMayFail }
     ensures answered { NothingMayFailAnswered }

@@ -242,7 +242,8 @@ pub fn finish_line<S: Shelf, C: Clock>(
     requires between { did ≡ InPlace.Left → IsBetweenStage S.device stage }
     requires fits { did ≡ InPlace.Left → IsFittingStage stage }
     requires room { IsRoom room }
-    ensures { (old : Stage S) → DoesInPlace S.device line.now old stage did → IsFinished S.device room line.now old result.stage result.reply (C.last clock.old) (C.last clock.new) }
+    ensures line { (old : Stage S) → DoesInPlace S.device line.now old stage did → IsFinished S.device room line.now old result.stage result.reply (C.last clock.old) (C.last clock.new) }
+    ensures asked { (old : Stage S) → DoesInPlace S.device line.now old stage did → C.asked clock.new ≡ asked_after (line_of line.now) (C.asked clock.old) }
 {
     match did {
         InPlace::Done(reply) => stage.answered(reply),

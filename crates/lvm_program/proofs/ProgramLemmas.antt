@@ -1,5 +1,5 @@
 -- Runs that the words of the command line ask for.
-use Rattle.std.proofs.Common.{◌≡◌, ℕ, List, [], ◌∷◌, Bool, true, false, if◌then◌else◌, Option, Some, None, Result, Ok, Err, inr, refl, sym, ap, subst}
+use Rattle.std.proofs.Common.{◌≡◌, ℕ, List, [], ◌∷◌, Bool, true, false, if◌then◌else◌, Option, Some, None, Result, Ok, Err, inl, inr, refl, sym, ap, subst}
 use Rattle.std.specs.Prelude.{IfNone, IfSome, bytes_eq, codes, ok_or}
 use Rattle.lvm_disk.specs.Device.{Device, IsReady}
 use Rattle.lvm_core.specs.declared.parts.Room.{Room}
@@ -66,10 +66,10 @@ pub on_weave_at : (asked : Result Job WordsFault) (disks mib clients requests se
 on_weave_at asked disks mib clients requests seed is P Q q = subst (λ (a : Result Job WordsFault). OnDrawn a P Q) (sym is) q
 
 -- no memory was found for the words, so that nothing was run
-pub unread_promises : {S : Type 0} (asked : Result Job WordsFault) (clock : ℕ) (entry exit : Device) (same : exit ≡ entry) (ready : IsReady entry) (room : Room) (input output : Stream) (end : Ended S) → IsUnrun end ended.Memory
-    → OnScript asked ((end.sim ≡ None) × Promises clock (ran room entry exit (record { before = input; after = input }) (record { before = output; after = output }) clock end.history end.status end.refused))
-unread_promises asked clock entry exit same ready room input output end unrun =
-    on_script asked _ (unrun.sim_is, rw (same, unrun.history_is, unrun.status_is, unrun.refused_is) (nothing_promised clock clock room entry input output ready))
+pub unread_promises : {S : Type 0} (asked : Result Job WordsFault) (clock count : ℕ) (entry exit : Device) (same : exit ≡ entry) (ready : IsReady entry) (room : Room) (input output : Stream) (end : Ended S) → IsUnrun end ended.Memory
+    → OnScript asked ((end.sim ≡ None) × Promises (record { last = clock; before = count; behind = count }) (ran room entry exit (record { before = input; after = input }) (record { before = output; after = output }) clock end.history end.status end.refused))
+unread_promises asked clock count entry exit same ready room input output end unrun =
+    on_script asked _ (unrun.sim_is, rw (same, unrun.history_is, unrun.status_is, unrun.refused_is) (nothing_promised (record { last = clock; before = count; behind = count }) clock room entry input output ready (inl refl)))
 
 -- no memory was found for it, so that no disks were made
 pub no_sim : (sim : Option MemShelf) (P : MemShelf → Type 0) (Q : Type 0) → sim ≡ None → Q → IfSome sim P × IfNone sim Q

@@ -18,6 +18,7 @@ use Rattle.lvm_top.specs.Plain.{HoldsOneGroup}
 use Rattle.lvm_program.proofs.HeedingLemmas.{runs_heed_alone, unordered_runs_go_well}
 use Rattle.lvm_top.proofs.OneGroupLemmas.{unforced_runs_alone}
 use Rattle.lvm_top.proofs.PlainLemmas.{blank_holds_one_group}
+use Rattle.lvm_top.specs.Clock.{Clocked}
 use Rattle.lvm_top.specs.Run.{Run, Promises, WhereAlone}
 use Rattle.lvm_top.specs.Script.{facts_of}
 use Rattle.lvm_program.specs.Program.{PromisesBlank}
@@ -66,7 +67,7 @@ sim_unharmed disks mib = record {
 
 -- ---- a script over them
 
-module _ (asked : ℕ) (r : Run) (disks mib : ℕ) (few : disks ≤ 32) (is : r.entry ≡ sim_device disks mib) (promises : Promises asked r) where
+module _ (asked : Clocked) (r : Run) (disks mib : ℕ) (few : disks ≤ 32) (is : r.entry ≡ sim_device disks mib) (promises : Promises asked r) where
   upheld : WhereAlone r (IsUpheld r.named r.entry r.exit (facts_of r.history))
   upheld = λ ran alone. promises.upheld ran alone (subst (IsBehind r.named) (sym is) (sim_behind r.named disks mib))
 

@@ -14,6 +14,7 @@ use Rattle.lvm_parse.specs.Forced.{HasNowhere}
 use Rattle.lvm_program.specs.Heeding.{GoesWell, IsTroubled, RanUnordered}
 use Rattle.lvm_top.specs.OneGroup.{RanUnforced}
 use Rattle.lvm_top.specs.Run.{Run, IsRun, Promises, RanAlone, WhereAlone}
+use Rattle.lvm_top.specs.Clock.{Clocked}
 use Rattle.lvm_top.specs.Script.{Passage, facts_of}
 use Rattle.lvm_program.specs.Woven.{GoesWoven, PromisesWoven}
 use Rattle.lvm_program.specs.declared.load.LoadWords.{LoadWords}
@@ -152,7 +153,7 @@ LeavesAlone (Err why) files input out err clock images = files × input × out �
 -- What a run over disks that hold nothing promises beside: no moment can be earlier than the run's, and nothing was told before. If its script has nowhere `-f`,
 -- then its history is legal, and each crash image that the disks may leave is kept with it. Where no line is a `mkvg -f` it finds no other group. At each moment
 -- a transfer fails only on a disk that is ordered to fail, and the power is cut only by order; so a run that orders nothing goes well.
-pub record PromisesBlank (asked : ℕ) (r : Run) : Type 0 where
+pub record PromisesBlank (asked : Clocked) (r : Run) : Type 0 where
   pub promises : Promises asked r
   pub plain : (bytes : List ℕ) → r.input.before.content ≡ Some bytes → HasNowhere (codes "-f") bytes → Legal (joined [] (facts_of r.history)) × ImagesKept r.exit (joined [] (facts_of r.history))
   pub upheld : WhereAlone r (IsUpheld r.named r.entry r.exit (facts_of r.history))

@@ -3,6 +3,7 @@ ghost use Rattle.std.specs.Prelude.{◌≡◌, ◌≤◌, None, IfOk, IfErr, IfS
 ghost use Rattle.lvm_disk.specs.Device.{IsReady};
 ghost use Rattle.lvm_memory.specs.Memory.{bench_of, device_of};
 ghost use Rattle.lvm_program.specs.Program.{OnScript, OnSim, OnDrawn, OnLoad, OnImage, OnText, help_text, version_line, usage_line, IsTold, IsSaid, IsUnrun, IsUsage, IsGenerated, IsImaged, LeavesAlone, PromisesBlank, PromisesWovenBlank};
+ghost use Rattle.lvm_top.specs.Clock.{clocked};
 ghost use Rattle.lvm_top.specs.Run.{Promises, ran};
 ghost use Rattle.lvm_top.specs.Script.{passage};
 ghost use Rattle.lvm_program.specs.Sim.{full_room, sim_bench, sim_device};
@@ -145,10 +146,10 @@ pub fn run_words<
 
     ensures usage { IfErr (job_of words.now) (λ _. IsUsage result (passage E.held E.faults err.old err.new) × (result.status ≡ ExitStatus.Memory → err.new ≡ err.old)) }
     ensures script { let read = passage I.left I.faults input.old input.new in let written = passage O.held O.faults out.old out.new in
-        OnScript (job_of words.now) ((result.sim ≡ None) × Promises (C.last clock.old) (ran full_room (S.device files) (S.device result.shelf) read written (C.last clock.new) result.history result.status result.refused)) }
+        OnScript (job_of words.now) ((result.sim ≡ None) × Promises (clocked C.last C.asked clock.old clock.new) (ran full_room (S.device files) (S.device result.shelf) read written (C.last clock.new) result.history result.status result.refused)) }
     ensures sim { let read = passage I.left I.faults input.old input.new in let written = passage O.held O.faults out.old out.new in
         OnSim (job_of words.now) (λ disks mib.
-        IfSome result.sim (λ shelf. PromisesBlank (C.last clock.old) (ran full_room (sim_device disks mib) (device_of shelf) read written (C.last clock.new) result.history result.status result.refused))
+        IfSome result.sim (λ shelf. PromisesBlank (clocked C.last C.asked clock.old clock.new) (ran full_room (sim_device disks mib) (device_of shelf) read written (C.last clock.new) result.history result.status result.refused))
         × IfNone result.sim (IsUnrun result ExitStatus.Memory × (input.new ≡ input.old) × (out.new ≡ out.old) × (clock.new ≡ clock.old))) }
     ensures drawn { let written = passage O.held O.faults out.old out.new in
         OnDrawn (job_of words.now) (λ seed count. IsUnrun result result.status × IsGenerated seed count result.status written)

@@ -2,7 +2,7 @@ pub mod passed
 pub mod MomentsLemmas
 pub mod RunLemmas
 pub mod TurnLemmas
-mod RunsLemmas
+pub mod RunsLemmas
 pub mod ScriptLemmas
 pub mod Devices
 pub mod LeavesLemmas
@@ -16,3 +16,4 @@ pub mod OneGroupLemmas
 pub mod EndingLemmas
 pub mod PlainLemmas
 pub mod LeftLemmas
+mod FollowingLemmas

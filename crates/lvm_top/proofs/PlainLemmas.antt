@@ -58,7 +58,7 @@ line_of_run r ran bytes told nowhere line one =
     let read = ran.lines.read bytes told in
     line_unforced bytes line nowhere (subst (λ (ls : List (List ℕ)). IsOneOf ls line) (sym read.1) (one_of_left (ran.lines.lines ++ ran.lines.done) read.0 line one))
 
-ran_unforced : (r : Run) (ran : IsRun r) (bytes : List ℕ) → r.input.before.content ≡ Some bytes → HasNowhere (codes "-f") bytes → RanUnforced ran
+pub ran_unforced : (r : Run) (ran : IsRun r) (bytes : List ℕ) → r.input.before.content ≡ Some bytes → HasNowhere (codes "-f") bytes → RanUnforced ran
 ran_unforced r ran bytes told nowhere = (
   script_unforced ran.lines.script (λ line one. line_of_run r ran bytes told nowhere line (one_of_left ran.lines.lines ran.lines.done line one)),
   ends_unforced ran.lines.ends (λ line one. line_of_run r ran bytes told nowhere line (one_of_right ran.lines.lines ran.lines.done line one)),

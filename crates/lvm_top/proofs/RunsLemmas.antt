@@ -18,6 +18,7 @@ use Rattle.lvm_top.specs.Left.{IsLeftOf}
 use Rattle.lvm_top.specs.declared.status.ExitStatus.TheVariants as ended
 use Rattle.lvm_top.specs.Runs.{NextMayBegin, TwoRunsUphold}
 use Rattle.lvm_top.proofs.LeftLemmas.{left_is_behind, next_after_cut}
+use Rattle.lvm_top.specs.Clock.{Clocked}
 use Rattle.lvm_top.specs.Script.{empty_log, facts_of}
 use Rattle.lvm_top.proofs.MomentsLemmas.{told_earlier, told_behind}
 
@@ -46,7 +47,7 @@ module _ (run next : ℕ) (other : run ≡ next → ⊥) where
 
 -- ---- what a run leaves
 
-module _ (asked next : ℕ) (r : Run) (exit : Device) (past : List Fact) (did : Promises asked r) (earlier : IsEarlier r.named r.entry past) (behind : IsBehind r.named r.entry) (heard : r.status ≡ ended.Stuck → ⊥)
+module _ (asked : Clocked) (next : ℕ) (r : Run) (exit : Device) (past : List Fact) (did : Promises asked r) (earlier : IsEarlier r.named r.entry past) (behind : IsBehind r.named r.entry) (heard : r.status ≡ ended.Stuck → ⊥)
     (own : count_by (begins_in next) past ≡ 0) (later : r.last < next) (alone : RanAlone did.does) (left : IsLeftOf r.exit exit) where
   abbrev facts : List Fact
   facts = facts_of r.history
@@ -54,7 +55,7 @@ module _ (asked next : ℕ) (r : Run) (exit : Device) (past : List Fact) (did : 
   ahead : IsAhead r.named (r.last + 1) r.exit (facts_of r.history)
   ahead = did.ahead behind
 
-  none_told : (o : Option Log) → IfSome o (λ log. Rose asked log.run × (log.run ≤ r.last)) → IfSome o (λ log. log ≡ record (empty_log r.named r.room) { facts = log.facts }) → Ordered r.named [] (facts_of o)
+  none_told : (o : Option Log) → IfSome o (λ log. Rose asked.last log.run × (log.run ≤ r.last)) → IfSome o (λ log. log ≡ record (empty_log r.named r.room) { facts = log.facts }) → Ordered r.named [] (facts_of o)
       → count_by (begins_in next) (facts_of o) ≡ 0
   none_told None clock is ordered = refl
   none_told (Some log) clock is ordered = of_no_other r.named next

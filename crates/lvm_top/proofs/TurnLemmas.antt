@@ -5,7 +5,8 @@ use Rattle.lvm_io.specs.Count.{Rose}
 use Rattle.lvm_io.specs.Stream.{WhereTold, WritesFront}
 use Rattle.lvm_vol.specs.Log.{Log}
 use Rattle.lvm_core.specs.declared.parts.Room.{Room}
-use Rattle.lvm_line.specs.Lines.{IsLine}
+use Rattle.lvm_parse.specs.Grammar.{line_of}
+use Rattle.lvm_line.specs.Lines.{IsLine, asked_after}
 use Rattle.lvm_line.specs.passed.GroupLines.{IsStuck, ScriptState, Reply}
 use Rattle.lvm_line.specs.passed.RefusalVariants as refusal
 use Rattle.lvm_line.specs.passed.ReplyVariants as reply
@@ -23,6 +24,9 @@ stuck_is_off log room line old new answer it stuck = let same : IsLine log room 
 -- a line of one history is one of another with the same rooms
 pub renamed : (h k : Log) (room : Room) (line line' : List ℕ) (answer : Reply) (old new : ScriptState) → h ≡ k → line ≡ line' → IsLine h room line answer old new → IsLine k room line' answer old new
 renamed h k room line line' answer old new same is it = subst (λ (l : List ℕ). IsLine k room l answer old new) is (subst (λ (l : Log). IsLine l room line answer old new) same it)
+
+pub asked_renamed : (line line' : List ℕ) (asked before : ℕ) → line ≡ line' → asked ≡ asked_after (line_of line) before → asked ≡ asked_after (line_of line') before
+asked_renamed line line' asked before is it = subst (λ (l : List ℕ). asked ≡ asked_after (line_of l) before) is it
 
 wrote_part : (text : List ℕ) (before after : Option (List ℕ)) (faults later : ℕ) → WhereTold before after (λ a b. WritesFront text a b) → Rose faults later → Wrote text (record { before = stream before faults; after = stream after later })
 wrote_part text None None faults later told rose = record { front = []; rest = text; split = refl; written = tt; in_full = inr rose }

@@ -11,15 +11,13 @@ use Rattle.lvm_steps.specs.Moments.{Begins, IsEarlier}
 use Rattle.lvm_steps.specs.Behind.{IsBehind}
 use Rattle.lvm_core.specs.declared.parts.Room.{Room}
 use Rattle.lvm_core.specs.Leaves.{MayBeFound}
-use Rattle.lvm_session.specs.State.{Core}
-use Rattle.lvm_line.specs.Causes.{IsBroughtBack}
 use Rattle.lvm_line.specs.Lines.{IsLine, role_of}
-use Rattle.lvm_line.specs.passed.Quiesce.{Quiesces}
 use Rattle.lvm_line.specs.passed.GroupLines.{IsStuck, ScriptState, IsTimely, Reply}
 use Rattle.lvm_line.specs.passed.Tie.{LeavesDescriptors}
 use Rattle.lvm_line.specs.passed.ReplyVariants as reply
 use Rattle.lvm_top.specs.declared.status.ExitStatus.{ExitStatus}
 use Rattle.lvm_top.specs.declared.status.ExitStatus.TheVariants as ended
+use Rattle.lvm_top.specs.Recovery.{AreRecovered}
 use Rattle.lvm_top.specs.Refused.{EndsInTime}
 use Rattle.lvm_top.specs.Run.{Run, IsRun, RanAlone}
 use Rattle.lvm_top.specs.Script.{Script, StaysAlone, entry_state}
@@ -68,12 +66,10 @@ RunFindsWhatStands =
     → HasFewDisks r.entry → IsReady r.entry → IsBehind r.named r.entry → IsEarlier r.named r.entry past → RanAlone ran → (r.status ≡ ended.Stuck → ⊥)
     → (id : ℕ) (k : Descriptor) → MayBeFound r.exit id k → MayStandAtEnd ran.lines.ends (MayStand ran.lines.script) id k
 
--- After any lines of a script a `varyonvg` that is answered `ok` brings its group back, from the shelf on which what was out has ended.
+-- In any script each `varyonvg` that is answered `ok` brings its group back, and one that lacks its quorum writes nothing, where the clock is ahead at first.
 abbrev pub VaryonsRecover : Type 0
 VaryonsRecover =
-    (log : Log) (room : Room) (first : ScriptState) (lines : List (List ℕ)) (replies : List Reply) (last : ScriptState) → Script log room first lines replies last → IsTimely log.run first
-    → (line name : List ℕ) (new : ScriptState) → line_of line ≡ Ok (Some (command.Varyon name)) → IsLine log room line reply.Ok last new
-    → (core : Core) × (new.session ≡ Some core) × ((quiet : Device) × Quiesces last.moment.device quiet × IsBroughtBack quiet new.moment.device core.descriptor)
+    (log : Log) (room : Room) (first : ScriptState) (lines : List (List ℕ)) (replies : List Reply) (last : ScriptState) (script : Script log room first lines replies last) → IsTimely log.run first → AreRecovered script
 
 -- 0, 1, 5 and 7: the script was done, no memory was found, or it was too long
 abbrev pub IsDoneOrShort : ExitStatus → Type 0

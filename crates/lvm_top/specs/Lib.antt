@@ -12,3 +12,5 @@ pub mod Laws
 pub mod OneGroup
 pub mod Plain
 pub mod Left
+pub mod Clock
+pub mod Recovery

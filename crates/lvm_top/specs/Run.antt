@@ -1,5 +1,5 @@
 -- A run of a script: how it ends, and why.
-use Rattle.std.specs.Prelude.{◌≡◌, ◌⊎◌, ◌<◌, ◌≤◌, ◌+◌, ◌++◌, ◌∷◌, ℕ, [], List, length, Option, IfNone, IfSome, IsSomeAnd, None, Some, Ok, true}
+use Rattle.std.specs.Prelude.{◌≡◌, ◌⊎◌, ◌<◌, ◌≤◌, ◌+◌, ◌++◌, ℕ, [], length, Option, IfNone, IfSome, None, true}
 use Rattle.lvm_steps.specs.Moments.{ImagesKept, IsUpheld}
 use Rattle.lvm_disk.specs.Device.{Device, IsReady}
 use Rattle.lvm_io.specs.Count.{Rose}
@@ -10,14 +10,8 @@ use Rattle.lvm_vol.specs.Log.{Log}
 use Rattle.lvm_vol.specs.Order.{Ordered}
 use Rattle.lvm_steps.specs.Behind.{IsBehind, IsAhead, beginning_at}
 use Rattle.lvm_steps.specs.Laws.{LeavesBefore}
-use Rattle.lvm_parse.specs.declared.command.Command.TheVariants as command
-use Rattle.lvm_parse.specs.Grammar.{line_of}
 use Rattle.lvm_core.specs.declared.parts.Room.{Room}
-use Rattle.lvm_line.specs.passed.Recover.{HasNoPassive}
-use Rattle.lvm_line.specs.passed.RefusalVariants as refusal
-use Rattle.lvm_line.specs.passed.ReplyVariants as reply
-use Rattle.lvm_line.specs.passed.GroupLines.{IsAlone, OfRequests, Reply, ScriptState}
-use Rattle.lvm_line.specs.passed.Varyon.{IsRecovered}
+use Rattle.lvm_line.specs.passed.GroupLines.{IsAlone, OfRequests, ScriptState}
 use Rattle.lvm_top.specs.Ending.{Concludes}
 use Rattle.lvm_top.specs.Refused.{AreForCause, EndsForCause}
 use Rattle.lvm_top.specs.Script.{Passage, AreDone, AreAllRead, AreDoneBut, IsLineLeft, EndsHeard, EndsStuck, StaysAlone, EndsAlone, MakeRequests, empty_log, entry_state, facts_of, run_of}
@@ -25,7 +19,9 @@ use Rattle.lvm_top.specs.Statuses.{at_end, IsAtEnd}
 use Rattle.lvm_top.specs.declared.status.ExitStatus.{ExitStatus}
 use Rattle.lvm_top.specs.declared.status.ExitStatus.TheVariants as ended
 use Rattle.lvm_top.specs.Blank.{IsToldBlank}
+use Rattle.lvm_top.specs.Clock.{AsksForLines, Clocked}
 use Rattle.lvm_top.specs.Plain.{UpholdsPlainly}
+use Rattle.lvm_top.specs.Recovery.{AreRecovered, EndsRecovered}
 
 -- What a run was given and what came of it: the moment that names it and the clock's last one, its rooms, the shelf before and after, what was read and written, its history, its status, and how many lines were refused.
 pub record Run : Type 0 where
@@ -105,24 +101,19 @@ WhereAlone r Holds = (ran : IsRun r) → RanAlone ran → Holds
 abbrev pub HaveCauses : {r : Run} → IsRun r → Type 0
 HaveCauses ran = AreForCause ran.lines.script × EndsForCause ran.lines.ends
 
--- the run did this line alone, and it was answered so
-abbrev pub DidOnly : {r : Run} → IsRun r → List ℕ → Reply → Type 0
-DidOnly ran line answer = (ran.lines.lines ++ ran.lines.done ≡ line ∷ []) × (ran.lines.replies ++ ran.lines.said ≡ answer ∷ [])
+-- in each `varyonvg` of the run the group was brought back, or nothing was written where the quorum was lacking
+abbrev pub HaveRecovered : {r : Run} → IsRun r → Type 0
+HaveRecovered ran = AreRecovered ran.lines.script × EndsRecovered ran.lines.ends
 
--- A run of a single `varyonvg` recovers its group, if no volume of that is in mode passive and the clock is ahead; where the quorum is lacking it writes nothing.
-pub record VaryonRecovers {r : Run} (ran : IsRun r) : Type 0 where
-  pub recovered : (line name : List ℕ) → line_of line ≡ Ok (Some (command.Varyon name)) → DidOnly ran line reply.Ok → IsBehind r.named r.entry
-      → IsSomeAnd ran.end.session (λ core. HasNoPassive core.descriptor → IsRecovered r.entry r.exit core.descriptor)
-  pub unwritten : (line name : List ℕ) (have total : ℕ) → line_of line ≡ Ok (Some (command.Varyon name)) → DidOnly ran line (reply.Refused (refusal.NoQuorum have total)) → r.exit.wrote ≡ r.entry.wrote
-
--- What every run promises. Its moment was answered by the clock in this call. Its lines are as they should be, and refused for their causes. Where its moment
--- is later than what stands on the disks, and no line made, removed or acted on a volume where another group was found, the history is legal with what
--- was told before, and each crash image that the disks may leave is kept with it; over disks that hold nothing so it is without anything told before. So it is
--- of itself where the script has nowhere `-f` and the disks hold one group at most. The clock stays ahead of the disks, and of each crash image unless
--- nothing was heard of a transfer. The history tells of this run alone. A run of a single `varyonvg` recovers its group.
-pub record Promises (asked : ℕ) (r : Run) : Type 0 where
-  pub clock : IfSome r.history (λ log. Rose asked log.run × (log.run ≤ r.last))
+-- What every run promises. Its moment was answered by the clock in this call, which was asked no more often than the run and its lines ask. Its lines are as they
+-- should be, and refused for their causes. Where its moment is later than what stands on the disks, and no line made, removed or acted on a volume where another
+-- group was found, the history is legal with what was told before, and each crash image that the disks may leave is kept with it; over disks that hold nothing so
+-- it is without anything told before. So it is of itself where the script has nowhere `-f` and the disks hold one group at most. The clock stays ahead of the
+-- disks, and of each crash image unless nothing was heard of a transfer. The history tells of this run alone. Each `varyonvg` brings its group back.
+pub record Promises (asked : Clocked) (r : Run) : Type 0 where
+  pub clock : IfSome r.history (λ log. Rose asked.last log.run × (log.run ≤ r.last))
   pub does : IsRun r
+  pub asks : AsksForLines asked (does.lines.lines ++ does.lines.done) r.history
   pub causes : HaveCauses does
   pub upheld : WhereAlone r (IsBehind r.named r.entry → IsUpheld r.named r.entry r.exit (facts_of r.history))
   pub first : WhereAlone r (IsToldBlank r.entry → Legal (joined [] (facts_of r.history)) × ImagesKept r.exit (joined [] (facts_of r.history)))
@@ -130,4 +121,4 @@ pub record Promises (asked : ℕ) (r : Run) : Type 0 where
   pub ahead : IsBehind r.named r.entry → IsAhead r.named (r.last + 1) r.exit (facts_of r.history)
   pub ahead_each : IsBehind r.named r.entry → (r.status ≡ ended.Stuck → ⊥) → LeavesBefore (beginning_at (r.last + 1)) r.exit
   pub tells : Ordered r.named [] (facts_of r.history)
-  pub recovers : VaryonRecovers does
+  pub recovers : IsBehind r.named r.entry → HaveRecovered does

@@ -3,15 +3,16 @@ ghost use Rattle.lvm_top.specs.Laws.{RunsEndInTime, VaryonsRecover};
 ghost use Rattle.lvm_top.specs.Refused.{ScriptsAreComplete};
 ghost use Rattle.lvm_top.specs.Left.{LeftIsEarlier, NextAfterCut, LeftIsBehind};
 ghost use Rattle.lvm_top.specs.Plain.{BlankHoldsOneGroup};
-ghost use Rattle.lvm_top.specs.Runs.{NextMayBegin, TwoRunsUphold, LeftFindsNoMore};
+ghost use Rattle.lvm_top.specs.Runs.{NextMayBegin, TwoRunsUphold, LeftFindsNoMore, PlainRunsFollow};
 
 /// With whatever a loss of power leaves of what a run has left another one may begin at a later moment; so two runs, the first over disks
 /// of zeros and the second over such a remainder, uphold their histories together. The remainder holds one group at most where the run
-/// left no more.
+/// left no more. So it does where the script has nowhere `-f` and the disks held one group at most before it.
 pub fn runs_follow()
     ensures next { NextMayBegin }
     ensures two { TwoRunsUphold }
     ensures finds { LeftFindsNoMore }
+    ensures plain { PlainRunsFollow }
 {}
 
 /// What a loss of power leaves of a shelf may stand before a run where the shelf itself may, so behind a run that was upheld, and has no
@@ -28,7 +29,7 @@ pub fn blank_holds_one_group()
 {}
 
 /// Each `varyonvg` of a script that is answered `ok` leaves the group with its records again, and recovered where no volume of
-/// it is in mode passive.
+/// it is in mode passive. One that lacks its quorum has written nothing.
 pub fn varyons_recover()
     ensures { VaryonsRecover }
 {}

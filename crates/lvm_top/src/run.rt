@@ -9,6 +9,7 @@ ghost use Rattle.lvm_session.specs.Sound.{IsSound};
 ghost use Rattle.lvm_session.specs.State.{state_of};
 ghost use Rattle.lvm_line.specs.passed.Tie.{RunsOn};
 ghost use Rattle.lvm_line.specs.passed.GroupLines.{history_in, moment_in, session_in, IsBetweenStage, IsClosed, IsFittingStage, without_facts};
+ghost use Rattle.lvm_top.specs.Clock.{clocked};
 ghost use Rattle.lvm_top.specs.Ending.{Concludes, IsQuietNow, MakesTurns, RestsNow, RunsOut};
 ghost use Rattle.lvm_top.specs.Plain.{UpholdsPlainly};
 ghost use Rattle.lvm_top.specs.Run.{Promises, ran};
@@ -173,7 +174,7 @@ pub fn run_script<S: Shelf, I: Source, O: Sink, C: Clock>(
     requires room { IsRoom room }
     ensures clock { Rose (C.last clock.old) (C.last clock.new) }
     ensures run { let read = passage I.left I.faults input.old input.new in let written = passage O.held O.faults out.old out.new in
-        Promises (C.last clock.old) (ran room (S.device shelf) (S.device result.shelf) read written (C.last clock.new) result.history result.status result.refused) }
+        Promises (clocked C.last C.asked clock.old clock.new) (ran room (S.device shelf) (S.device result.shelf) read written (C.last clock.new) result.history result.status result.refused) }
     // by what goes in alone: the bytes of the script, and the disks at entry
     ensures plain { UpholdsPlainly (I.left input.old) (run_of result.history) (S.device shelf) (S.device result.shelf) (facts_of result.history) }
     ensures sim { result.sim ≡ None }

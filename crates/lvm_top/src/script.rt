@@ -4,8 +4,8 @@ ghost use Rattle.lvm_io.specs.Count.{Rose};
 ghost use Rattle.lvm_io.specs.Stream.{WhereTold, WritesFront};
 ghost use Rattle.lvm_core.specs.Starting.{IsRoom};
 ghost use Rattle.lvm_line.specs.passed.GroupLines.{reply_text, most_refusals, refusals_of, IsStuck, history_in, session_in, state_in, IsBetweenStage, IsFittingStage, without_facts};
+ghost use Rattle.lvm_top.specs.Clock.{GoesAsking};
 ghost use Rattle.lvm_top.specs.Script.{Says, is_made_late, passage};
-ghost use Rattle.lvm_top.specs.Statuses.{GoesUntil};
 ghost use Rattle.lvm_top.specs.Turn.{ReadsLine, ReadsNone, Tells, stop_after};
 
 use lvm_core::Room;
@@ -194,7 +194,7 @@ pub fn do_lines<S: Shelf, I: Source, O: Sink, C: Clock>(
     requires none { stage.posts.items ≡ [] }
     requires room { IsRoom room }
     requires unread { lines.old ≡ record { front = []; block = []; given = 0 } }
-    ensures goes { GoesUntil result.stop (without_facts (history_in stage)) room (state_in S.device stage (C.last clock.old)) (state_in S.device result.stage (C.last clock.new)) (passage I.left I.faults input.old input.new) (passage O.held O.faults out.old out.new) result.refused }
+    ensures goes { GoesAsking result.stop (without_facts (history_in stage)) room (state_in S.device stage (C.last clock.old)) (state_in S.device result.stage (C.last clock.new)) (passage I.left I.faults input.old input.new) (passage O.held O.faults out.old out.new) result.refused (C.asked clock.old) (C.asked clock.new) }
     ensures off { result.stop ≡ Some Stop.Stuck → session_in result.stage ≡ None }
     ensures between { (result.stop ≡ Some Stop.Stuck → ⊥) → IsBetweenStage S.device result.stage }
     ensures fits { IsFittingStage result.stage }

@@ -10,7 +10,7 @@ use Rattle.lvm_volume_lines.specs.passed.GroupLines.{Refusal, ScriptState}
 use Rattle.lvm_volume_lines.specs.passed.RefusalVariants as refusal
 use Rattle.lvm_volume_lines.specs.passed.Names.{LostForFaults}
 use Rattle.lvm_line.specs.Causes.{CauseOf, HasCause, HasFailed, HasFailedInSession, RangeLineCause, RoseOn, TurnCause, WereLost, disk_of}
-use Rattle.lvm_line.specs.Complete.{CompleteLaw, HasLostVotes, IsOwn, NothingFailed}
+use Rattle.lvm_line.specs.Complete.{CompleteLaw, HasLostVotes, IsByRule, IsOwn, NothingFailed, RuleLaw}
 use Rattle.lvm_line.proofs.CausesLemmas.Causing.{has_cause}
 
 module _ (old new : ScriptState) where
@@ -77,3 +77,17 @@ module _ (old new : ScriptState) where
 
 pub lines_complete : CompleteLaw
 lines_complete log room line why old new it nothing = is_own old new _ nothing why (has_cause log room _ why old new it.between it.does)
+
+-- where the votes weren't lost
+by_rule : (old : ScriptState) (why : Refusal) → (HasLostVotes old → ⊥) → IsOwn old why → IsByRule why
+by_rule old refusal.Dark kept own = own
+by_rule old refusal.Stuck kept own = own
+by_rule old refusal.Lost kept own = own
+by_rule old refusal.ReadFailed kept own = own
+by_rule old (refusal.DiskFailed disk) kept own = own
+by_rule old (refusal.SyncFailed disk) kept own = own
+by_rule old (refusal.WentOff have total) kept own = kept own.1
+by_rule old other kept own = tt
+
+pub lines_by_rule : RuleLaw
+lines_by_rule log room line why old new it nothing kept = by_rule old why kept (lines_complete log room line why old new it nothing)

@@ -156,7 +156,7 @@ module _ (log : Log) (room : Room) (past : List Fact) (first : ScriptState) (beg
       line_stands log room past first begin line answer said says script it heard alone (stands log room past first begin script alone.0) id k found
 
 -- nothing is found by the turns behind the last line
-concluded_nothing : (run : ℕ) (end exit : Moment) (on : Option Core) (posts : List Post) → IsBetween end on posts → Concludes run end exit on → NothingNew end.device exit.device
+pub concluded_nothing : (run : ℕ) (end exit : Moment) (on : Option Core) (posts : List Post) → IsBetween end on posts → Concludes run end exit on → NothingNew end.device exit.device
 concluded_nothing run end exit on posts between (NoneIsOn none same) = same_nothing end.device exit.device (ap (λ (m : Moment). m.device) same)
 concluded_nothing run end exit on posts between (NoneIsServed core some empty same) = same_nothing end.device exit.device (ap (λ (m : Moment). m.device) same)
 concluded_nothing run end exit on posts between (IsServed core some vols named facts (NothingIsLeft rests device entries)) = closed_nothing power.On end.device exit.device device

@@ -1,7 +1,7 @@
 -- Why a run ended, by its status.
 use Rattle.std.proofs.Common.{◌≡◌, ◌⊎◌, inl, inr, ⊎_elim, ◌++◌, ◌≤◌, ◌+◌, ◌==◌, if◌then◌else◌, ℕ, List, [], length, Option, Some, None, Bool, true, false, refl, sym, ◌∙◌, ap, subst, arith}
 use Rattle.lvm_disk.specs.Device.{Device, IsReady}
-use Rattle.lvm_io.specs.Count.{Rose}
+use Rattle.lvm_io.specs.Count.{Rose, next_count}
 use Rattle.lvm_io.proofs.StreamLemmas.Told.{told_same}
 use Rattle.lvm_vol.specs.Facts.{Fact}
 use Rattle.lvm_vol.specs.Log.{Log}
@@ -16,13 +16,14 @@ use Rattle.lvm_posts.specs.declared.posts.Post.{Post}
 use Rattle.lvm_line.specs.passed.HolderVariants as holder
 use Rattle.lvm_kept.specs.Moments.{Moment}
 use Rattle.lvm_line.proofs.passed.Quiesce.{still_is_behind_each}
+use Rattle.lvm_top.specs.Clock.{Clocked, GoesAsking, asked_by}
 use Rattle.lvm_top.specs.Ending.{Concludes, NoneIsOn}
 use Rattle.lvm_top.specs.Run.{Run, IsConcluded, IsRun, Promises, ran}
 use Rattle.lvm_top.specs.Script.{Stream, Passage, StaysAlone, EndsAlone, EndsHeard, MakeRequests, empty_log, entry_state}
 use Rattle.lvm_top.proofs.RunLemmas.Firsts.{first_upheld}
 use Rattle.lvm_top.proofs.PlainLemmas.{plainly}
 use Rattle.lvm_top.proofs.ScriptLemmas.Concluding.{at_rest_still, concluded, entry_between, off_still, ran_ahead, ran_ahead_each, run_upheld}
-use Rattle.lvm_top.proofs.LawsLemmas.Recovering.{varyon_recovers}
+use Rattle.lvm_top.proofs.LawsLemmas.Recovering.{run_recovers}
 use Rattle.lvm_top.proofs.RefusedLemmas.{run_causes}
 use Rattle.lvm_top.proofs.ScriptLemmas.Scripting.{Ended, nothing_done, nothing_broken, nothing_heard, nothing_left, lines_ended}
 use Rattle.lvm_top.specs.Statuses.{status_of, at_end, IsAtEnd, GoesUntil}
@@ -103,36 +104,43 @@ module _ (run last : ℕ) (room : Room) (entry exit : Device) (input output : Pa
   abbrev ran_so : ExitStatus → Run
   ran_so status = record { named = run; last = last; room = room; entry = entry; exit = exit; input = input; output = output; history = Some log; status = status; refused = refused }
 
+  -- and the clock was asked for its lines alone
+  abbrev RanAsking : ℕ → ℕ → ExitStatus → Type 0
+  RanAsking asks asked status = (it : IsRun (ran_so status)) × (asked ≡ asked_by (it.lines.lines ++ it.lines.done) asks)
+
   -- lines were done, and the status says why no more were
   pub lines_ran :
-      (status : ExitStatus) → status ≡ status_of why refused → IsReady entry
-      → (goes : GoesUntil why (empty_log run room) room (entry_state entry run) end input output refused)
-      → IsConcluded run exit (Some log) last end (MakeRequests (goes.lines.lines ++ goes.lines.done)) (why ≡ Some stop.Stuck) → exit.power ≡ true
-      → IsRun (ran_so status)
-  lines_ran status says ready goes concluded power = subst (λ (s : ExitStatus). IsRun (ran_so s)) (sym says) (record {
-    ready = ready;
-    history_is = made;
-    none = tt;
-    read_words = words_read why refused;
-    counted = counted_at_end why refused;
-    end = end;
-    lines = goes.lines;
-    concluded = record { concludes = concluded.concludes; still = concluded.still; rests = λ none no. concluded.rests none (λ is. no (says_so is)); clock = concluded.clock };
-    whole = λ end. goes.whole (at_its_end why refused end);
-    between = λ no_sink no_stuck. goes.between (λ is. no_sink (says_so is)) (λ is. no_stuck (says_so is));
-    wanting = λ is. goes.wanting (why_at why refused ended.Memory is);
-    behind = λ is. goes.behind (why_at why refused ended.SourceFault is);
-    beyond = λ cause. goes.beyond (⊎_elim (λ is. inl (why_at why refused ended.TooLong is)) (λ is. inr (why_at why refused ended.Memory is)) cause);
-    source = λ is. goes.source (why_at why refused ended.SourceFault is);
-    sink = λ is. goes.sink (why_at why refused ended.SinkFault is);
-    read_well = λ no. goes.read_well (λ is. no (says_so is));
-    written_well = λ no_sink no_stuck. goes.written_well (λ is. no_sink (says_so is)) (λ is. no_stuck (says_so is));
-    stuck = λ is. goes.stuck (why_at why refused ended.Stuck is);
-    heard = λ no. goes.heard (λ is. no (says_so is));
-    long = λ is. goes.long (why_at why refused ended.TooLong is);
-    short = λ no. goes.short (λ is. no (says_so is));
-    power = power;
-  })
+      (asks asked : ℕ) (status : ExitStatus) → status ≡ status_of why refused → IsReady entry
+      → (its : GoesAsking why (empty_log run room) room (entry_state entry run) end input output refused asks asked)
+      → IsConcluded run exit (Some log) last end (MakeRequests (its.goes.lines.lines ++ its.goes.lines.done)) (why ≡ Some stop.Stuck) → exit.power ≡ true
+      → RanAsking asks asked status
+  lines_ran asks asked status says ready its concluded power = subst (RanAsking asks asked) (sym says) (
+    record {
+      ready = ready;
+      history_is = made;
+      none = tt;
+      read_words = words_read why refused;
+      counted = counted_at_end why refused;
+      end = end;
+      lines = its.goes.lines;
+      concluded = record { concludes = concluded.concludes; still = concluded.still; rests = λ none no. concluded.rests none (λ is. no (says_so is)); clock = concluded.clock };
+      whole = λ end. its.goes.whole (at_its_end why refused end);
+      between = λ no_sink no_stuck. its.goes.between (λ is. no_sink (says_so is)) (λ is. no_stuck (says_so is));
+      wanting = λ is. its.goes.wanting (why_at why refused ended.Memory is);
+      behind = λ is. its.goes.behind (why_at why refused ended.SourceFault is);
+      beyond = λ cause. its.goes.beyond (⊎_elim (λ is. inl (why_at why refused ended.TooLong is)) (λ is. inr (why_at why refused ended.Memory is)) cause);
+      source = λ is. its.goes.source (why_at why refused ended.SourceFault is);
+      sink = λ is. its.goes.sink (why_at why refused ended.SinkFault is);
+      read_well = λ no. its.goes.read_well (λ is. no (says_so is));
+      written_well = λ no_sink no_stuck. its.goes.written_well (λ is. no_sink (says_so is)) (λ is. no_stuck (says_so is));
+      stuck = λ is. its.goes.stuck (why_at why refused ended.Stuck is);
+      heard = λ no. its.goes.heard (λ is. no (says_so is));
+      long = λ is. its.goes.long (why_at why refused ended.TooLong is);
+      short = λ no. its.goes.short (λ is. no (says_so is));
+      power = power;
+    },
+    its.asked,
+  )
     where
       says_so : {w : Option Stop} → why ≡ w → status_of why refused ≡ status_of w refused
       says_so is = ap (λ (w : Option Stop). status_of w refused) is
@@ -202,10 +210,13 @@ module _ {S : Type 0} (device : S → Device) (entry : Device) (run begun last :
       (λ heard. (concluded run (state_in device it last) (record { device = device closed; facts = kept.facts }) concludes_run (between heard)).power)
       (how_stopped why)
 
-  module _ (input output : Passage) (refused : ℕ) (goes : GoesUntil why (without_facts (history_in start)) room (state_in device start begun) (state_in device it last) input output refused) (ready : IsReady entry) where
+  module _ (input output : Passage) (refused asks asked : ℕ) (goes : GoesAsking why (without_facts (history_in start)) room (state_in device start begun) (state_in device it last) input output refused asks asked) (ready : IsReady entry) where
+    the_asking : GoesAsking why (empty_log run room) room (entry_state entry run) (state_in device it last) input output refused asks asked
+    the_asking = subst (λ (s : ScriptState). GoesAsking why (empty_log run room) room s (state_in device it last) input output refused asks asked) first_is
+        (subst (λ (l : Log). GoesAsking why l room (state_in device start begun) (state_in device it last) input output refused asks asked) made goes)
+
     pub the_lines : GoesUntil why (empty_log run room) room (entry_state entry run) (state_in device it last) input output refused
-    the_lines = subst (λ (s : ScriptState). GoesUntil why (empty_log run room) room s (state_in device it last) input output refused) first_is
-        (subst (λ (l : Log). GoesUntil why l room (state_in device start begun) (state_in device it last) input output refused) made goes)
+    the_lines = the_asking.goes
 
     they_went : Ended run (StaysAlone the_lines.lines.script × EndsAlone the_lines.lines.ends) (MakeRequests (the_lines.lines.lines ++ the_lines.lines.done)) (EndsHeard the_lines.lines.ends) (entry_state entry run) (state_in device it last)
     they_went = lines_ended (empty_log run room) room (entry_state entry run) (state_in device it last) input output refused the_lines.lines
@@ -231,33 +242,39 @@ module _ {S : Type 0} (device : S → Device) (entry : Device) (run begun last :
       clock = refl;
     }
 
-    pub the_run : (status : ExitStatus) → status ≡ status_of why refused → IsRun (ran_so run last room entry (device closed) input output kept kept_made (state_in device it last) why refused status)
-    the_run status says = lines_ran run last room entry (device closed) input output kept kept_made (state_in device it last) why refused status says ready the_lines the_end (lit (they_went.power ready.power))
+    the_end_so : IsConcluded run (device closed) (Some kept) last (state_in device it last) (MakeRequests (the_asking.goes.lines.lines ++ the_asking.goes.lines.done)) (why ≡ Some stop.Stuck)
+    unfolding the_lines
+    the_end_so = the_end
+
+    the_run : (status : ExitStatus) → status ≡ status_of why refused → RanAsking run last room entry (device closed) input output kept kept_made (state_in device it last) why refused asks asked status
+    the_run status says = lines_ran run last room entry (device closed) input output kept kept_made (state_in device it last) why refused asks asked status says ready the_asking the_end_so (lit (they_went.power ready.power))
 
     -- all that is promised of it
     pub the_promises :
-        (clock : ℕ) (status : ExitStatus) → status ≡ status_of why refused → Rose clock run → Ordered kept.run [] kept.facts
+        (clock : Clocked) (status : ExitStatus) → status ≡ status_of why refused → Rose clock.last run → Ordered kept.run [] kept.facts → asks ≡ next_count clock.before → asked ≡ clock.behind
         → Promises clock (ran room entry (device closed) input output last (Some kept) status refused)
     unfolding the_run lines_ran
-    the_promises clock status says rose ordered = subst (λ (n : ℕ). Promises clock (record (ran room entry (device closed) input output last (Some kept) status refused) { named = n })) (sym named) (record {
-      clock = (subst (λ (n : ℕ). Rose clock n) (sym named) rose, (let is = named in let le = later in omega (arith, is, le)));
-      does = the_run status says;
-      causes = run_causes _ (the_run status says);
+    the_promises clock status says rose ordered once behind = subst (λ (n : ℕ). Promises clock (record (ran room entry (device closed) input output last (Some kept) status refused) { named = n })) (sym named) (record {
+      clock = (subst (λ (n : ℕ). Rose clock.last n) (sym named) rose, (let is = named in let le = later in omega (arith, is, le)));
+      does = (the_run status says).0;
+      asks = sym behind ∙ subst (λ (n : ℕ). asked ≡ asked_by ((the_run status says).0.lines.lines ++ (the_run status says).0.lines.done) n) once (the_run status says).1;
+      causes = run_causes _ (the_run status says).0;
       upheld = run_upheld _;
       first = first_upheld _;
-      plain = plainly _ (the_run status says);
-      ahead = ran_ahead _ (the_run status says) refl;
-      ahead_each = λ clock heard. (ran_ahead_each _ (the_run status says) refl clock heard).behind;
+      plain = plainly _ (the_run status says).0;
+      ahead = ran_ahead _ (the_run status says).0 refl;
+      ahead_each = λ clock heard. (ran_ahead_each _ (the_run status says).0 refl clock heard).behind;
       tells = subst (λ (n : ℕ). Ordered n [] kept.facts) named ordered;
-      recovers = varyon_recovers _ (the_run status says);
+      recovers = run_recovers _ (the_run status says).0;
     })
 
 -- and of one for which no memory was found
-pub nothing_promised : (asked last : ℕ) (room : Room) (device : Device) (input output : Stream) → IsReady device
+pub nothing_promised : (asked : Clocked) (last : ℕ) (room : Room) (device : Device) (input output : Stream) → IsReady device → (asked.behind ≡ asked.before) ⊎ (asked.behind ≡ next_count asked.before)
     → Promises asked (ran room device device (record { before = input; after = input }) (record { before = output; after = output }) last None ended.Memory 0)
-nothing_promised asked last room device input output ready = record {
+nothing_promised asked last room device input output ready once = record {
   clock = tt;
   does = nothing_ran last room device input output ready;
+  asks = once;
   causes = run_causes _ (nothing_ran last room device input output ready);
   upheld = run_upheld _;
   first = first_upheld _;
@@ -265,5 +282,5 @@ nothing_promised asked last room device input output ready = record {
   ahead = nothing_ahead 0 last device [] refl (omega arith);
   ahead_each = λ behind heard. nothing_ahead_each last device ready behind;
   tells = tt;
-  recovers = varyon_recovers _ (nothing_ran last room device input output ready);
+  recovers = run_recovers _ (nothing_ran last room device input output ready);
 }

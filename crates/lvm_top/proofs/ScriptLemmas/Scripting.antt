@@ -22,9 +22,10 @@ use Rattle.lvm_parse.specs.Grammar.{line_of}
 use Rattle.lvm_line.proofs.passed.Quiesce.{still_is_behind_each, each_is_behind}
 use Rattle.lvm_line.specs.passed.Tie.{LeavesDescriptors}
 use Rattle.lvm_posts.specs.declared.posts.Post.{Post}
-use Rattle.lvm_line.specs.Lines.{IsLine, role_of}
+use Rattle.lvm_line.specs.Lines.{IsLine, asked_after, role_of}
 use Rattle.lvm_line.specs.passed.GroupLines.{IsRequesting, Role, Aside, OfGroup, OfRequests, reply_text, refusals_of, most_refusals, IsStuck, ScriptState, IsAtRest, IsTimely, StandsBy, Reply}
 use Rattle.lvm_top.specs.Script.{Stream, Passage, Says, Script, NoLine, NextLine, StaysAlone, Ends, AtLine, InLine, EndsAlone, EndsHeard, AreBefore, AreDone, AreAllRead, AreDoneBut, ComesBehind, IsLineLeft, MakeRequests, is_made_late, is_requesting, texts_of, refusals_in, entry_state}
+use Rattle.lvm_top.specs.Clock.{GoesAsking, asked_by}
 use Rattle.lvm_top.specs.Statuses.{GoesUntil}
 use Rattle.lvm_top.specs.declared.script.Stop.{Stop}
 use Rattle.lvm_top.specs.declared.script.Stop.TheVariants as stop
@@ -49,6 +50,15 @@ pub record RunSoFar (log : Log) (room : Room) (first now : ScriptState) (reading
   pub bounded : lines_left reading + lines_done ≤ 16842752
   pub within : reading.given ≤ 16777216
 
+-- and for those lines the clock was asked alone
+pub record AskedSoFar (log : Log) (room : Room) (first now : ScriptState) (reading : Reading) (input left before after : Option (List ℕ)) (refused lines_done asks asked : ℕ) : Type 0 where
+  pub far : RunSoFar log room first now reading input left before after refused lines_done
+  pub count : asked ≡ asked_by far.lines asks
+
+asked_more : (lines : List (List ℕ)) (line : List ℕ) (n : ℕ) → asked_by (lines ++ line ∷ []) n ≡ asked_after (line_of line) (asked_by lines n)
+asked_more [] line n = refl
+asked_more (l ∷ lines) line n = asked_more lines line (asked_after (line_of l) n)
+
 -- a stream before and after
 abbrev pub through : Option (List ℕ) → ℕ → Option (List ℕ) → ℕ → Passage
 through a f b g = record { before = record { content = a; faults = f }; after = record { content = b; faults = g } }
@@ -67,6 +77,10 @@ at_start log room first input before none = record {
   bounded = omega arith;
   within = omega arith;
 }
+
+pub asked_at_start : (log : Log) (room : Room) (first : ScriptState) (input before : Option (List ℕ)) (asks : ℕ) → first.posts ≡ [] → AskedSoFar log room first first nothing_read input input before before 0 0 asks asks
+unfolding at_start
+asked_at_start log room first input before asks none = record { far = at_start log room first input before none; count = refl }
 
 texts_more : (replies : List Reply) (said : Reply) → texts_of (replies ++ said ∷ []) ≡ texts_of replies ++ reply_text said
 texts_more [] said = append-nil (reply_text said)
@@ -298,34 +312,50 @@ module _ (log : Log) (room : Room) (first now : ScriptState) (reading : Reading)
 
   -- ---- one line more, as it was read and its reply written
 
-  -- none was read
-  pub none_read : (why : Option Stop) (reading' : Reading) (left' : Option (List ℕ)) (f g h k : ℕ) → k ≡ h → ReadsNone reading reading' (through left f left' g) why → GoesUntil why log room first now (through input f left' g) (through before h after k) refused
-  none_read why reading' left' f g h k same none =
-      stops_between why reading' left' f g h k none.given none.long none.unwritten none.unstuck none.ends none.failed none.well same none.wanting none.behind none.beyond
+  module _ (asks asked : ℕ) (so_asked : asked ≡ asked_by so_far.lines asks) where
+    -- none was read
+    pub none_read : (why : Option Stop) (reading' : Reading) (left' : Option (List ℕ)) (f g h k : ℕ) → k ≡ h → ReadsNone reading reading' (through left f left' g) why → GoesAsking why log room first now (through input f left' g) (through before h after k) refused asks asked
+    unfolding stops_between lines_so_far
+    none_read why reading' left' f g h k same none = record {
+      goes = stops_between why reading' left' f g h k none.given none.long none.unwritten none.unstuck none.ends none.failed none.well same none.wanting none.behind none.beyond;
+      asked = so_asked ∙ ap (λ (ls : List (List ℕ)). asked_by ls asks) (sym (append-nil so_far.lines));
+    }
 
-  -- the run goes on
-  pub line_told :
-      (new : ScriptState) (reading' : Reading) (left' after' : Option (List ℕ)) (f g h k refused' : ℕ) (line : List ℕ) (answer : Reply) (why : Option Stop) → is_some why ≡ false → IsLine log room line answer now new
-      → ReadsLine reading reading' (through left f left' g) line → Tells answer refused refused' (through after h after' k) why → RunSoFar log room first new reading' input left' before after' refused' (lines_done + 1)
-  line_told new reading' left' after' f g h k refused' line answer (Some why) none does read tells = absurd (cc (none))
-  line_told new reading' left' after' f g h k refused' line answer None none does read tells =
-      let on = tells.goes_on refl in
-      line_answered new reading' left' after' refused' line answer tells.said (λ is. (let e = tells.stuck.1 is in cc (e))) tells.says does read.line_is read.given read.fewer read.within on.whole tells.counted (one_more refused refused' lines_done (length now.posts) (length new.posts) answer tells.said tells.says tells.counted does.goes.few so_far.few)
+    one_asked : (line : List ℕ) (asked' : ℕ) → asked' ≡ asked_after (line_of line) asked → asked' ≡ asked_by (so_far.lines ++ line ∷ []) asks
+    one_asked line asked' is = is ∙ ap (asked_after (line_of line)) so_asked ∙ sym (asked_more so_far.lines line asks)
 
-  -- it ends
-  pub line_ends :
-      (last : ScriptState) (reading' : Reading) (left' after' : Option (List ℕ)) (f g h k refused' : ℕ) (line : List ℕ) (answer : Reply) (why : Option Stop) → is_some why ≡ true → IsLine log room line answer now last
-      → ReadsLine reading reading' (through left f left' g) line → Tells answer refused refused' (through after h after' k) why → GoesUntil why log room first last (through input f left' g) (through before h after' k) refused'
-  line_ends last reading' left' after' f g h k refused' line answer None some does read tells = absurd (cc (some))
-  line_ends last reading' left' after' f g h k refused' line answer (Some why) some does read tells = ended tells.ends
-    where
-      ended : EndsFor (through after h after' k) why → GoesUntil (Some why) log room first last (through input f left' g) (through before h after' k) refused'
-      ended (inl is) =
-          stops_in_line (Some why) last reading' left' after' f g h k refused' line answer tells.said tells.text tells.says does read.line_is read.given read.within tells.counted
-          (λ e. cc (e)) (λ e. cc (e, is)) (λ e. cc (e, is)) (λ no. ap Some is) (λ e. absurd (cc (e, is))) tells.stuck.0 tells.stuck.1 read.well
-      ended (inr (is, rose)) =
-          stops_in_line (Some why) last reading' left' after' f g h k refused' line answer tells.said tells.text tells.says does read.line_is read.given read.within tells.counted
-          (λ e. cc (e)) (λ e. cc (e, is)) (λ e. cc (e, is)) (λ no. absurd (no (ap Some is))) (λ e. rose) tells.stuck.0 tells.stuck.1 read.well
+    -- the run goes on
+    pub line_told :
+        (new : ScriptState) (reading' : Reading) (left' after' : Option (List ℕ)) (f g h k refused' asked' : ℕ) (line : List ℕ) (answer : Reply) (why : Option Stop) → is_some why ≡ false → IsLine log room line answer now new → asked' ≡ asked_after (line_of line) asked
+        → ReadsLine reading reading' (through left f left' g) line → Tells answer refused refused' (through after h after' k) why → AskedSoFar log room first new reading' input left' before after' refused' (lines_done + 1) asks asked'
+    unfolding line_answered
+    line_told new reading' left' after' f g h k refused' asked' line answer (Some why) none does is read tells = absurd (cc (none))
+    line_told new reading' left' after' f g h k refused' asked' line answer None none does is read tells =
+        let on = tells.goes_on refl in
+        record {
+          far = line_answered new reading' left' after' refused' line answer tells.said (λ is. (let e = tells.stuck.1 is in cc (e))) tells.says does read.line_is read.given read.fewer read.within on.whole tells.counted (one_more refused refused' lines_done (length now.posts) (length new.posts) answer tells.said tells.says tells.counted does.goes.few so_far.few);
+          count = one_asked line asked' is;
+        }
+
+    -- it ends
+    pub line_ends :
+        (last : ScriptState) (reading' : Reading) (left' after' : Option (List ℕ)) (f g h k refused' asked' : ℕ) (line : List ℕ) (answer : Reply) (why : Option Stop) → is_some why ≡ true → IsLine log room line answer now last → asked' ≡ asked_after (line_of line) asked
+        → ReadsLine reading reading' (through left f left' g) line → Tells answer refused refused' (through after h after' k) why → GoesAsking why log room first last (through input f left' g) (through before h after' k) refused' asks asked'
+    unfolding stops_in_line
+    line_ends last reading' left' after' f g h k refused' asked' line answer None some does is read tells = absurd (cc (some))
+    line_ends last reading' left' after' f g h k refused' asked' line answer (Some why) some does is read tells = ended tells.ends
+      where
+        ended : EndsFor (through after h after' k) why → GoesAsking (Some why) log room first last (through input f left' g) (through before h after' k) refused' asks asked'
+        ended (inl end) = record {
+          goes = stops_in_line (Some why) last reading' left' after' f g h k refused' line answer tells.said tells.text tells.says does read.line_is read.given read.within tells.counted
+              (λ e. cc (e)) (λ e. cc (e, end)) (λ e. cc (e, end)) (λ no. ap Some end) (λ e. absurd (cc (e, end))) tells.stuck.0 tells.stuck.1 read.well;
+          asked = one_asked line asked' is;
+        }
+        ended (inr (end, rose)) = record {
+          goes = stops_in_line (Some why) last reading' left' after' f g h k refused' line answer tells.said tells.text tells.says does read.line_is read.given read.within tells.counted
+              (λ e. cc (e)) (λ e. cc (e, end)) (λ e. cc (e, end)) (λ no. absurd (no (ap Some end))) (λ e. rose) tells.stuck.0 tells.stuck.1 read.well;
+          asked = one_asked line asked' is;
+        }
 
 -- ---- requests among the lines
 

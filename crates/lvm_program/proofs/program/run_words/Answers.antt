@@ -16,7 +16,7 @@ use Rattle.lvm_program.proofs.program.run_words.Goals as goal
 
 pub returns-in-Err-Memory-clause-script : goal.returns-in-Err-Memory-clause-script
 returns-in-Err-Memory-clause-script g c =
-    unread_promises (job_of c.args.words.now) (g.C.Clock.last c.args.clock.now) (g.S.Shelf.device c.args.files) (g.S.Shelf.device c.unrun-in-Err-Memory.result.shelf) (ap g.S.Shelf.device c.unrun-in-Err-Memory.ensures.files) c.requires.ready full_room
+    unread_promises (job_of c.args.words.now) (g.C.Clock.last c.args.clock.now) (g.C.Clock.asked c.args.clock.now) (g.S.Shelf.device c.args.files) (g.S.Shelf.device c.unrun-in-Err-Memory.result.shelf) (ap g.S.Shelf.device c.unrun-in-Err-Memory.ensures.files) c.requires.ready full_room
     (record { content = g.I.Source.left c.args.input.now; faults = g.I.Source.faults c.args.input.now }) (record { content = g.O.Sink.held c.args.out.now; faults = g.O.Sink.faults c.args.out.now })
     c.unrun-in-Err-Memory.result c.unrun-in-Err-Memory.ensures.unrun
 
