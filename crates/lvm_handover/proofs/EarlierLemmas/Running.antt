@@ -23,7 +23,7 @@ use Rattle.lvm_handover.specs.Earlier.{AreGone, EarlierStaysBeside, StaysBeside,
 -- ---- one answer
 
 module _ (s : State) (id : ℕ) (its : is_answered s.core.history.facts 1 id ≡ true) (gone : list_any (is_asked 1 id) s.core.requests ≡ false) where
-  pub after : State
+  abbrev pub after : State
   after = state s.device (record s.core { history = with_fact s.core.history (taken_fact s.core.history.facts id) })
 
   pub runs_after : s.core.power ≡ power.On → RunsOn s after

@@ -14,7 +14,7 @@ use Rattle.lvm_session.specs.Causes.{is_over}
 use Rattle.lvm_session.specs.Sound.{IsSound}
 use Rattle.lvm_session.specs.State.{Core, State, state, votes_there, state_of}
 use Rattle.lvm_group_lines.specs.passed.Tie.{RunsOn}
-use Rattle.lvm_group_lines.proofs.passed.Tie.{runs_both}
+use Rattle.lvm_group_lines.proofs.passed.Tie.{path_frames, runs_both}
 use Rattle.lvm_posts.specs.declared.asked.Asked.{Asked}
 use Rattle.lvm_posts.specs.declared.fault.RangeFault.{RangeFault}
 use Rattle.lvm_posts.specs.declared.fault.RangeFault.TheVariants as fault
@@ -102,7 +102,7 @@ module _ {S : Type 0} (device : S → Device) (first : S × Core) (posts : Vec P
   to = runs_to device first end all sound
 
   shut : end.1.power ≡ power.On → end.1.copy ≡ None
-  shut on = all.copy between.session.copy
+  shut on = (path_frames all).copy between.session.copy
 
   posted : ArePosted end.1.history.facts (Some end.1) posts.items
   posted = others_posted mid.1 posts.items asked (kept posts.items between.posted) (asked_behind first.1 write count mid.1 asked posts.items between.session.sound.told.requests between.posted its) end.1 others

@@ -83,7 +83,7 @@ module _ {S : Type 0} (device : S → Device) (first : S × Core) (posts : Vec P
       on_ends : EndsUnasked device Does ⊥ OfRequests old stage answer
       on_ends = carried_ends device first posts bytes fits between goes.end to_end Does goes.none goes.bytes rooms1 stage answer few_left
           (λ last. does_so stage answer last (Goes on landed (record { answers = goes.endings; end = state_of device goes.end; takes = goes.takes; runs = goes.runs; sound = goes.sound; goes = goes_as last; tells = goes.tells })))
-          (none_posted goes.end.1.history.facts (Some goes.end.1) goes.none.items goes.empty) (subst (λ (s : Stage S). HaveRooms first.1.history.room s.posts s.bytes) (sym goes.is) rooms1) (λ power_is. all.copy between.session.copy)
+          (none_posted goes.end.1.history.facts (Some goes.end.1) goes.none.items goes.empty) (subst (λ (s : Stage S). HaveRooms first.1.history.room s.posts s.bytes) (sym goes.is) rooms1) (λ power_is. (path_frames all).copy between.session.copy)
           (subst (λ (p : Power). IsCarried device goes.end goes.none goes.bytes p stage) (sym goes.on) goes.is)
 
     -- ---- it is over
