@@ -11,14 +11,13 @@ import collections, os, re, sys
 ROOT = os.path.dirname(os.path.dirname(os.path.abspath(__file__)))
 THEOREM = ("lvm_tie", "lvm_crash", "lvm_invariant")
 # crates of laws over the three; the lines, and what stands above them
-LAWS = ("lvm_rest", "lvm_settled", "lvm_tie_commands", "lvm_going_laws")
+LAWS = ("lvm_rest", "lvm_settled", "lvm_tidying", "lvm_tie_commands", "lvm_going_laws")
 LINES = ("lvm_group_lines", "lvm_range_lines", "lvm_volume_lines", "lvm_line", "lvm_top", "lvm_program", "lvm")
 # not met yet: definitions over contents of disks that stand in crates of laws
 WAITING = {
     "lvm_recover": "NoneIsBehind, IsEven, IsUsable, KeepsCopies, HasCopiesOf and members_showing stand in lvm_rest and lvm_crash",
     "lvm_recovery": "by lvm_recover",
     "lvm_varyon": "by lvm_recover",
-    "lvm_volumes": "NoneIsBehind and IsUsable stand in lvm_rest",
     "lvm_handover": "the law drained_rests: IsResting stands in lvm_tie",
 }
 USE = re.compile(r"^(?:ghost )?(pub )?use (Rattle\.[\w.]+)\.\{([^}]*)\};?$")
