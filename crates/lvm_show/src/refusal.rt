@@ -27,7 +27,7 @@ pub enum Carried {
 /// Why a command was not carried out, or how it failed: a number, which has a name, and what it carries.
 #[derive(Clone, Copy, Drop)]
 pub struct Refusal {
-    /// 1 to 32.
+    /// 1 to 36.
     pub number: u8,
     pub carried: Carried,
 }
