@@ -1,0 +1,4 @@
+pub mod CleanedLemmas
+pub mod MomentsLemmas
+pub mod QuietLemmas
+pub mod RecoveredLemmas

@@ -1,0 +1,4 @@
+pub mod Cleaned
+pub mod Moments
+pub mod Quiet
+pub mod Recovered
