@@ -1,6 +1,6 @@
 -- The status with which a group goes on once its dirty volumes are equal.
-use Rattle.std.proofs.Common.{◌≡◌, ◌⊎◌, inl, inr, ⊎_elim, ℕ, ◌<◌, Bool, true, ◌&&◌, not, List, [], ◌∷◌, Option, Some, refl, sym, ap, subst, ◌∙◌}
-use Rattle.std.specs.Prelude.{IsTrue, IsFalse, filter}
+use Rattle.std.proofs.Common.{◌≡◌, ◌⊎◌, inl, inr, ⊎_elim, ℕ, ◌<◌, ◌&&◌, not, List, [], ◌∷◌, Option, Some, refl, sym, ap, subst, ◌∙◌}
+use Rattle.std.specs.Prelude.{IsTrue, IsFalse}
 use Rattle.std.proofs.lemmas.Bool.{cases_Bool, not_from_false}
 use Rattle.std.proofs.lemmas.Option.{same_Some}
 use Rattle.lvm_num.specs.declared.place.Pp.{Pp}
@@ -14,15 +14,14 @@ use Rattle.lvm_num.specs.Record.{Stamped}
 use Rattle.lvm_num.specs.Status.{calls_stale, calls_dirty}
 use Rattle.lvm_num.specs.Votes.{all_disks}
 use Rattle.lvm_kept.specs.Contents.{Contents}
-use Rattle.lvm_kept.specs.Group.{members_in, is_stale_by, fresh_on, block_at, IsBlockOf, IsOneOf, IsSome, HoldOne}
+use Rattle.lvm_kept.specs.Group.{members_in, is_stale_by, fresh_on, block_at, IsOneOf, IsSome}
 use Rattle.lvm_kept.proofs.GroupLemmas.{still_finds, finds_before}
 use Rattle.lvm_commit.specs.Committed.{AreOne, MayMark, ShowsCommitted}
 use Rattle.lvm_crash.proofs.GroupLemmas.Lists.{left_of, right_of, both_of, not_so, of_passing}
 use Rattle.lvm_commit.proofs.passed.Names.{clash}
 use Rattle.lvm_rest.specs.Rest.{IsEven, NoneIsBehind}
-use Rattle.lvm_rest.specs.Commands.{MayClean}
 use Rattle.lvm_rest.proofs.Rows.{at_passing}
-use Rattle.lvm_tidying.specs.Cleaned.{IsStillDirty, IsCleaned, CleaningIsMarking, MarkingStays, CleanedMayClean, CleanedShows}
+use Rattle.lvm_tidying.specs.Cleaned.{CleaningIsMarking, MarkingStays, CleanedMayClean, CleanedShows}
 
 not_passive : Passive ≡ Off → ⊥
 not_passive e = absurd cc
@@ -88,20 +87,23 @@ cleaned_may_clean group there stands clean is = record {
 
 pub cleaned_shows : CleanedShows
 cleaned_shows group status there clean old new shows own later change on =
-    subst (λ (c : Contents). (is : ShowsCommitted c group clean.value there) × (is.stands ≡ clean)) (sym change.rest) (record {
-      found = still_finds old new.status old.note old.block all_disks group.id group shows.found;
-      only = λ disks k f. shows.only disks k (finds_before old new.status old.note old.block disks group.id k f);
-      descriptor = shows.descriptor;
-      value = shows.value;
-      latest = shows.latest;
-      described = shows.described;
-      room = shows.room;
-      own = own;
-      stands = clean;
-      committed = refl;
-      stated = on;
-      last = λ d r e its. ⊎_elim
-          (λ (same : new.status d ≡ old.status d). inl (later d r (sym same ∙ e) its))
-          (λ (put : IsTrue (there d) × (new.status d ≡ Some clean)). inr (same_Some r clean (sym e ∙ put.1)))
-          (change.own d);
-    }, refl)
+    subst (λ (c : Contents). (is : ShowsCommitted c group clean.value there) × (is.stands ≡ clean)) (sym change.rest) (
+      record {
+        found = still_finds old new.status old.note old.block all_disks group.id group shows.found;
+        only = λ disks k f. shows.only disks k (finds_before old new.status old.note old.block disks group.id k f);
+        descriptor = shows.descriptor;
+        value = shows.value;
+        latest = shows.latest;
+        described = shows.described;
+        room = shows.room;
+        own = own;
+        stands = clean;
+        committed = refl;
+        stated = on;
+        last = λ d r e its. ⊎_elim
+            (λ (same : new.status d ≡ old.status d). inl (later d r (sym same ∙ e) its))
+            (λ (put : IsTrue (there d) × (new.status d ≡ Some clean)). inr (same_Some r clean (sym e ∙ put.1)))
+            (change.own d);
+      },
+      refl,
+    )

@@ -1,3 +1,4 @@
+pub mod passed
 pub mod CleanedLemmas
 pub mod MomentsLemmas
 pub mod QuietLemmas

@@ -40,7 +40,7 @@ use Rattle.lvm_crash.proofs.GroupLemmas.Lists.{not_so}
 
 -- ---- members and modes
 
-one_passive : (rows : List LvRow) (row : LvRow) → IsOneOf rows row → row.mode ≡ Passive → list_any (λ (r : LvRow). r.number == row.number && is_passive r.mode) rows ≡ true
+pub one_passive : (rows : List LvRow) (row : LvRow) → IsOneOf rows row → row.mode ≡ Passive → list_any (λ (r : LvRow). r.number == row.number && is_passive r.mode) rows ≡ true
 one_passive [] row one soft = absurd one
 one_passive (r ∷ rs) row (inl here) soft = ap (λ (t : Bool). t || list_any (λ (x : LvRow). x.number == row.number && is_passive x.mode) rs)
     (join (r.number == row.number) (is_passive r.mode) (eq-eqb r.number row.number (sym (ap (λ (x : LvRow). x.number) here))) (sym (ap (λ (x : LvRow). is_passive x.mode) here) ∙ ap is_passive soft))

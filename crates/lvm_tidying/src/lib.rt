@@ -4,6 +4,4 @@
 
 mod laws;
 
-pub use laws::{
-    cleaned_is_marking, cleaning_stays_kept, quiet_is_even, recovered_by_cleaning,
-};
+pub use laws::{cleaned_is_marking, cleaning_stays_kept, quiet_is_even, recovered_by_cleaning};
