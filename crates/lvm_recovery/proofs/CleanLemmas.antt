@@ -1,8 +1,8 @@
 -- Which volumes stay dirty once the usable copies of all are equal.
-use Rattle.std.proofs.Common.{◌≡◌, ◌⊎◌, inl, inr, ⊎_elim, ℕ, zero, suc, ◌+◌, ◌<◌, ◌≤◌, ◌==◌, ◌&&◌, ◌||◌, ◌++◌, Bool, true, false, List, [], ◌∷◌, Option, Some, None, length, filter, take, slice_index_or, refl, sym, ap, subst, ◌∙◌, arith, add-one, eq-eqb}
+use Rattle.std.proofs.Common.{◌≡◌, ◌⊎◌, inl, inr, ⊎_elim, ℕ, zero, suc, ◌+◌, ◌<◌, ◌≤◌, ◌==◌, ◌&&◌, ◌||◌, Bool, true, false, List, [], ◌∷◌, Some, None, length, filter, drop, take, slice_index_or, refl, sym, ap, subst, ◌∙◌, arith, add-one, eq-eqb}
 use Rattle.std.specs.Prelude.{IsTrue, IsFalse, if◌then◌else◌, All}
 use Rattle.std.specs.List.{list_any}
-use Rattle.std.proofs.lemmas.Bool.{cases_lt, cases_Bool, eqb-true, ltb-true}
+use Rattle.std.proofs.lemmas.Bool.{cases_lt, cases_Bool, eqb-true}
 use Rattle.std.proofs.lemmas.List.{take_all, take_more}
 use Rattle.std.proofs.lemmas.List.Folds.{list_any-append, list_any_at}
 use Rattle.std.proofs.lemmas.List.Elements.{All-cons, All-nil}
@@ -14,21 +14,19 @@ use Rattle.lvm_num.specs.declared.descriptor.LvRow.{LvRow}
 use Rattle.lvm_num.specs.declared.descriptor.Descriptor.{Descriptor}
 use Rattle.lvm_num.specs.declared.status.Status.{Status}
 use Rattle.lvm_num.specs.Disks.{Disks}
-use Rattle.lvm_num.specs.Descriptor.{IsVolumeNumber, copies_of}
+use Rattle.lvm_num.specs.Descriptor.{copies_of}
 use Rattle.lvm_num.specs.Modes.{is_passive}
 use Rattle.lvm_num.specs.Record.{Stamped}
-use Rattle.lvm_num.specs.Status.{AreDirty, IsValidStatus, calls_dirty}
+use Rattle.lvm_num.specs.Status.{IsValidStatus, calls_dirty}
+use Rattle.lvm_num.specs.Status.{IsVolumeNumber}
 use Rattle.lvm_num.proofs.Booleans.{clash_gives}
-use Rattle.lvm_num.proofs.AmongLemmas.{one_at}
 use Rattle.lvm_kept.specs.Group.{IsOneOf, fresh_on}
-use Rattle.lvm_write.specs.Next.{IsNextStatus}
 use Rattle.lvm_recover.proofs.BeginningLemmas.{usable_stay}
 use Rattle.lvm_tidying.specs.Cleaned.{IsStillDirty, IsCleaned}
 use Rattle.lvm_tidying.proofs.passed.Names.{split, join}
 use Rattle.lvm_recovery.specs.Plan.{usable_by}
 use Rattle.lvm_recovery.specs.Dirty.{FindsUsable}
-use Rattle.lvm_recovery.specs.Clean.{lacks_usable, is_left, any_still_dirty, is_still_dirty, left_dirty, IsLeftCleaned, LeftDirtyIsCleaned}
-use Rattle.lvm_recovery.proofs.CopyingLemmas.AllCopied.{at_index}
+use Rattle.lvm_recovery.specs.Clean.{lacks_usable, is_left, any_still_dirty, is_still_dirty, left_dirty, LeftDirtyIsCleaned}
 
 or_left : (a b : Bool) → IsTrue a → IsTrue (a || b)
 or_left true b is = refl
@@ -47,11 +45,14 @@ or_none true b one two = absurd cc
 or_none false b one two = two
 
 some_length : {X : Type 0} (x : X) (xs : List X) → (length (x ∷ xs) == 0) ≡ false
-some_length x xs = refl
+some_length x xs = ⊎_elim
+    (λ (is : (length (x ∷ xs) == 0) ≡ true). let e = eqb-true (length (x ∷ xs)) 0 is in absurd (omega (arith, e)))
+    (λ (isnt : (length (x ∷ xs) == 0) ≡ false). isnt)
+    (cases_Bool (length (x ∷ xs) == 0))
 
 none_length : {X : Type 0} (xs : List X) → IsTrue (length xs == 0) → xs ≡ []
 none_length [] is = refl
-none_length (x ∷ xs) is = absurd cc
+none_length (x ∷ xs) is = let e = eqb-true (length (x ∷ xs)) 0 is in absurd (omega (arith, e))
 
 -- ---- the logical partitions of a volume
 
@@ -63,7 +64,7 @@ module _ (status : Status) (disks : Disks) (row : LvRow) where
   one_more lp = ap (lacks_usable status disks row) (add-one lp)
 
   pub still_none : (lp k : ℕ) → lacks_usable status disks row lp ≡ false → FindsUsable (usable_by status disks) (copies_of row lp) (Some k) → lacks_usable status disks row (lp + 1) ≡ false
-  still_none lp k none found = one_more lp ∙ or_none (lacks_usable status disks row lp) (length (usable lp) == 0) none (ap (λ (l : List Pp). length l == 0) found.is)
+  still_none lp k none found = one_more lp ∙ or_none (lacks_usable status disks row lp) (length (usable lp) == 0) none (ap (λ (l : List Pp). length l == 0) found.is ∙ some_length found.first (filter (usable_by status disks) (drop (k + 1) (copies_of row lp))))
 
   lacks_here : (lp : ℕ) → FindsUsable (usable_by status disks) (copies_of row lp) None → IsTrue (lacks_usable status disks row (lp + 1))
   lacks_here lp none = one_more lp ∙ or_right (lacks_usable status disks row lp) (length (usable lp) == 0) (ap (λ (l : List Pp). length l == 0) none)
@@ -161,15 +162,15 @@ module _ (group : Descriptor) (was next : Stamped Status) (there : Disks) (usabl
   row_of [] lv among marked is = absurd cc
   row_of (r ∷ rows) lv among marked is = ⊎_elim
       (λ (here : IsTrue (is_left was.value there lv r)).
-      let one = split (r.number == lv) (is_passive r.mode && lacks_usable was.value there r r.lps) here in
-      let two = split (is_passive r.mode) (lacks_usable was.value there r r.lps) one.1 in
+      let two = split (r.number == lv && is_passive r.mode) (lacks_usable was.value there r r.lps) here in
+      let one = split (r.number == lv) (is_passive r.mode) two.0 in
       let at = which was.value there r r.lps two.1 in
       record {
         row = r;
         lp = at.0;
         volume = among r (inl refl);
         number = eqb-true r.number lv one.0;
-        mode = passive_is r.mode two.0;
+        mode = passive_is r.mode one.1;
         dirty = marked;
         inside = at.1;
         none = usable_same r at.0 (among r (inl refl)) ∙ at.2;
@@ -179,12 +180,13 @@ module _ (group : Descriptor) (was next : Stamped Status) (there : Disks) (usabl
 
   to_row : (rows : List LvRow) (lv : ℕ) (row : LvRow) → IsOneOf rows row → IsTrue (is_left was.value there lv row) → IsTrue (any_still_dirty was.value there lv rows)
   to_row [] lv row among is = absurd among
-  to_row (r ∷ rows) lv row (inl same) is = or_left (is_left was.value there lv r) (any_still_dirty was.value there lv rows) (subst (λ (x : LvRow). IsTrue (is_left was.value there lv x)) (sym same) is)
+  to_row (r ∷ rows) lv row (inl same) is = or_left (is_left was.value there lv r) (any_still_dirty was.value there lv rows) (subst (λ (x : LvRow). IsTrue (is_left was.value there lv x)) same is)
   to_row (r ∷ rows) lv row (inr among) is = or_right (is_left was.value there lv r) (any_still_dirty was.value there lv rows) (to_row rows lv row among is)
 
   is_left_of : (lv : ℕ) (it : IsStillDirty group there next lv) → IsTrue (is_left was.value there lv it.row)
-  is_left_of lv it = join (it.row.number == lv) (is_passive it.row.mode && lacks_usable was.value there it.row it.row.lps) (eq-eqb it.row.number lv it.number)
-      (join (is_passive it.row.mode) (lacks_usable was.value there it.row it.row.lps) (ap is_passive it.mode) (lacks_one was.value there it.row it.row.lps it.lp it.inside (sym (usable_same it.row it.lp it.volume) ∙ it.none)))
+  is_left_of lv it = join (it.row.number == lv && is_passive it.row.mode) (lacks_usable was.value there it.row it.row.lps)
+      (join (it.row.number == lv) (is_passive it.row.mode) (eq-eqb it.row.number lv it.number) (ap is_passive it.mode))
+      (lacks_one was.value there it.row it.row.lps it.lp it.inside (sym (usable_same it.row it.lp it.volume) ∙ it.none))
 
   cleaned : IsCleaned group there next (left_dirty group was.value there next.value)
   cleaned = record {

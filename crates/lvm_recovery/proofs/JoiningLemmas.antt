@@ -1,6 +1,6 @@
 -- Copies that are made in parts.
 use Rattle.std.proofs.Common.{◌≡◌, inl, inr, ⊎_elim, ℕ, ◌+◌, ◌<◌, ◌≤◌, ◌++◌, length, take, drop, flat_map, slice_index_or, All, ◌||◌, Bool, true, false, List, [], ◌∷◌, Some, IsTrue, refl, sym, ◌∙◌, ap, subst, arith, append_assoc}
-use Rattle.std.proofs.lemmas.List.{append-nil, map-append, take_all, take_more, take-append-drop}
+use Rattle.std.proofs.lemmas.List.{map-append, take_all, take_more, take-append-drop}
 use Rattle.std.proofs.lemmas.Grind.{flat_map-append}
 use Rattle.lvm_num.specs.Buffer.{Buffer, Sector}
 use Rattle.lvm_num.proofs.AmongLemmas.{all_one, one_at, one_of_left, one_of_right, one_of_either}
@@ -14,7 +14,7 @@ use Rattle.lvm_write.specs.Writes.{DiskWritesLeave}
 use Rattle.lvm_write.proofs.WritesLemmas.{leaves_then}
 use Rattle.lvm_recovery.specs.declared.copying.Recopy.{Recopy}
 use Rattle.lvm_recovery.proofs.CopyingLemmas.Logged.{just_then, only_then, only_wider}
-use Rattle.lvm_recovery.specs.Copying.{IsInOneRun, LogsJust, LogsOnly, StopsAtOne, StopsInCopy, run_at, runs_into, is_of_copy, IsOfCopy, IsCopied, sources_and_targets, IsFull, IsOfCopies, MayCopy, AreApart, AllGive}
+use Rattle.lvm_recovery.specs.Copying.{IsInOneRun, LogsJust, LogsOnly, StopsAtOne, StopsInCopy, run_at, runs_into, is_of_copy, IsCopied, sources_and_targets, IsFull, IsOfCopies, MayCopy, AreApart, AllGive}
 use Rattle.lvm_recovery.proofs.CopyingLemmas.AllCopied.{at_index, none_so_far, all_so_far}
 use Rattle.lvm_recovery.proofs.PlanLemmas.Planning.{flat_map_one}
 use Rattle.lvm_recovery.proofs.CopyingLemmas.Copied.{does_wider, back_then, well_then, failed_then, cut_then, left_then, or_first, or_second}

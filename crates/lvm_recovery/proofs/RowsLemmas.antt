@@ -1,5 +1,5 @@
 -- The rows of a group, and the track groups of a volume, one by one.
-use Rattle.std.proofs.Common.{◌≡◌, ℕ, zero, suc, ◌+◌, ◌-◌, ◌<◌, ◌≤◌, ◌++◌, Bool, true, false, List, [], ◌∷◌, Some, length, slice_index_or, slice_get, take, drop, filter, flat_map, map, refl, sym, ap, ◌∙◌, subst, arith, add-one, mul-le-mul_right, All}
+use Rattle.std.proofs.Common.{◌≡◌, ℕ, zero, suc, ◌+◌, ◌-◌, ◌<◌, ◌≤◌, ◌++◌, Bool, true, false, List, [], ◌∷◌, Some, length, slice_index_or, slice_get, take, drop, filter, flat_map, map, refl, sym, ap, ◌∙◌, arith, add-one, mul-le-mul_right, All}
 use Rattle.std.specs.Prelude.{if◌then◌else◌, ◌*◌, ◌^◌}
 use Rattle.std.proofs.lemmas.List.{length-drop, take_all}
 use Rattle.std.proofs.lemmas.List.Elements.{filter-append}

@@ -1,5 +1,6 @@
 -- Which copies are planned, by what notes name.
-use Rattle.std.specs.Prelude.{◌≡◌, ◌⊎◌, ◌↔◌, ℕ, ◌*◌, ◌<◌, ◌&&◌, Bool, not, nat_lt, if◌then◌else◌, List, [], ◌∷◌, Option, Some, None, map, filter, flat_map, AllPairs}
+use Rattle.std.specs.Prelude.{◌≡◌, ◌⊎◌, ◌↔◌, ℕ, ◌*◌, ◌<◌, ◌&&◌, ◌++◌, Bool, not, nat_lt, if◌then◌else◌, List, [], ◌∷◌, Option, Some, None, map, filter, flat_map, AllPairs}
+use Rattle.std.specs.List.{range_with_len}
 use Rattle.lvm_num.specs.declared.place.Pp.{Pp}
 use Rattle.lvm_num.specs.declared.record.NoteEntry.{NoteEntry}
 use Rattle.lvm_num.specs.declared.descriptor.LvRow.{LvRow}
@@ -9,10 +10,10 @@ use Rattle.lvm_num.specs.Disks.{Disks}
 use Rattle.lvm_num.specs.Geometry.{partition_of}
 use Rattle.lvm_num.specs.Descriptor.{IsValid, copies_of, volume_of}
 use Rattle.lvm_num.specs.Record.{Stamped}
-use Rattle.lvm_num.specs.Status.{calls_stale}
+use Rattle.lvm_num.specs.Status.{calls_dirty, calls_stale}
 use Rattle.lvm_kept.specs.Contents.{Contents}
 use Rattle.lvm_kept.specs.Group.{IsOneOf}
-use Rattle.lvm_num.specs.Modes.{is_active}
+use Rattle.lvm_num.specs.Modes.{is_active, is_passive}
 use Rattle.lvm_recovery.specs.declared.copying.Recopy.{Recopy}
 use Rattle.lvm_recovery.specs.declared.plan.TrackGroup.{TrackGroup}
 use Rattle.lvm_recovery.specs.Planned.{IsNamedByOne, ArePlanned}

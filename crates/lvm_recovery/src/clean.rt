@@ -1,11 +1,11 @@
 //! Which volumes stay dirty once the usable copies of all are equal.
 ghost use Rattle.std.specs.Prelude.{◌≡◌, ◌<◌, filter, IfOk, All};
-ghost use Rattle.lvm_num.specs.Descriptor.{IsLaidOut, IsValid, copies_of};
+ghost use Rattle.lvm_num.specs.Descriptor.{IsLaidOut, IsValid};
 ghost use Rattle.lvm_num.specs.Disks.{has};
 ghost use Rattle.lvm_recovery.specs.Clean.{lacks_usable, is_left, is_still_dirty, any_still_dirty};
 
-use crate::dirty::first_usable;
-use lvm_num::{Descriptor, DiskSet, LvRow, Memory, Mode, Pp, VolumeNumbers};
+use crate::dirty::{first_usable, pps_at};
+use lvm_num::{Descriptor, DiskSet, LvRow, Memory, Mode, VolumeNumbers};
 use lvm_stale::StaleTable;
 use std::alloc::Global;
 
@@ -65,19 +65,10 @@ fn lacks_usable(row: &LvRow, table: &StaleTable, disks: DiskSet) -> bool
     ensures { result ≡ lacks_usable table.now (has disks) row.now row.now.lps }
 {
     for lp in 0..row.lps {
-        if first_usable(copies_at(row, lp), table, disks).is_none() {
-            return true;
+        match first_usable(pps_at(row, u64::from(lp)), table, disks) {
+            Some(_) => {}
+            None => return true,
         }
     }
     false
-}
-
-// The copies of a logical partition.
-fn copies_at(row: &LvRow, lp: u32) -> &[Pp]
-    requires laid_out { IsLaidOut row.now }
-    requires inside { lp < row.now.lps }
-    ensures { result.now ≡ copies_of row.now lp }
-{
-    let first = lp as usize * usize::from(row.copies);
-    &row.map.as_slice()[first..first + usize::from(row.copies)]
 }

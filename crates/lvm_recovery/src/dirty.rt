@@ -185,7 +185,15 @@ fn pps_of(mib: u16, row: &LvRow, block: u64) -> &[Pp]
     requires inside { partition_of mib block < row.now.lps }
     ensures { result.now ≡ copies_of row.now (partition_of mib block) }
 {
-    let lp = block / (2048 * u64::from(mib));
+    pps_at(row, block / (2048 * u64::from(mib)))
+}
+
+// The copies of a logical partition.
+pub fn pps_at(row: &LvRow, lp: u64) -> &[Pp]
+    requires laid_out { IsLaidOut row.now }
+    requires inside { lp < row.now.lps }
+    ensures { result.now ≡ copies_of row.now lp }
+{
     if lp < u64::from(row.lps) {
         let first = lp as usize * usize::from(row.copies);
         return &row.map.as_slice()[first..first + usize::from(row.copies)];

@@ -12,7 +12,7 @@ use Rattle.lvm_steps.specs.Behind.{IsBehind}
 use Rattle.lvm_core.specs.declared.parts.Room.{Room}
 use Rattle.lvm_core.specs.Leaves.{MayBeFound}
 use Rattle.lvm_session.specs.State.{Core}
-use Rattle.lvm_line.specs.Causes.{IsBroughtBack}
+use Rattle.lvm_line.specs.passed.Varyon.{IsRecovered}
 use Rattle.lvm_line.specs.Lines.{IsLine, role_of}
 use Rattle.lvm_line.specs.passed.Quiesce.{Quiesces}
 use Rattle.lvm_line.specs.passed.GroupLines.{IsStuck, ScriptState, IsTimely, Reply}
@@ -73,7 +73,7 @@ abbrev pub VaryonsRecover : Type 0
 VaryonsRecover =
     (log : Log) (room : Room) (first : ScriptState) (lines : List (List ℕ)) (replies : List Reply) (last : ScriptState) → Script log room first lines replies last → IsTimely log.run first
     → (line name : List ℕ) (new : ScriptState) → line_of line ≡ Ok (Some (command.Varyon name)) → IsLine log room line reply.Ok last new
-    → (core : Core) × (new.session ≡ Some core) × ((quiet : Device) × Quiesces last.moment.device quiet × IsBroughtBack quiet new.moment.device core.descriptor)
+    → (core : Core) × (new.session ≡ Some core) × ((quiet : Device) × Quiesces last.moment.device quiet × IsRecovered quiet new.moment.device core.descriptor)
 
 -- 0, 1, 5 and 7: the script was done, no memory was found, or it was too long
 abbrev pub IsDoneOrShort : ExitStatus → Type 0

@@ -13,7 +13,6 @@ use Rattle.lvm_steps.specs.Laws.{LeavesBefore}
 use Rattle.lvm_parse.specs.declared.command.Command.TheVariants as command
 use Rattle.lvm_parse.specs.Grammar.{line_of}
 use Rattle.lvm_core.specs.declared.parts.Room.{Room}
-use Rattle.lvm_line.specs.passed.Recover.{HasNoPassive}
 use Rattle.lvm_line.specs.passed.RefusalVariants as refusal
 use Rattle.lvm_line.specs.passed.ReplyVariants as reply
 use Rattle.lvm_line.specs.passed.GroupLines.{IsAlone, OfRequests, Reply, ScriptState}
@@ -109,10 +108,10 @@ HaveCauses ran = AreForCause ran.lines.script × EndsForCause ran.lines.ends
 abbrev pub DidOnly : {r : Run} → IsRun r → List ℕ → Reply → Type 0
 DidOnly ran line answer = (ran.lines.lines ++ ran.lines.done ≡ line ∷ []) × (ran.lines.replies ++ ran.lines.said ≡ answer ∷ [])
 
--- A run of a single `varyonvg` recovers its group, if no volume of that is in mode passive and the clock is ahead; where the quorum is lacking it writes nothing.
+-- A run of a single `varyonvg` recovers its group, if the clock is ahead; where the quorum is lacking it writes nothing.
 pub record VaryonRecovers {r : Run} (ran : IsRun r) : Type 0 where
   pub recovered : (line name : List ℕ) → line_of line ≡ Ok (Some (command.Varyon name)) → DidOnly ran line reply.Ok → IsBehind r.named r.entry
-      → IsSomeAnd ran.end.session (λ core. HasNoPassive core.descriptor → IsRecovered r.entry r.exit core.descriptor)
+      → IsSomeAnd ran.end.session (λ core. IsRecovered r.entry r.exit core.descriptor)
   pub unwritten : (line name : List ℕ) (have total : ℕ) → line_of line ≡ Ok (Some (command.Varyon name)) → DidOnly ran line (reply.Refused (refusal.NoQuorum have total)) → r.exit.wrote ≡ r.entry.wrote
 
 -- What every run promises. Its moment was answered by the clock in this call. Its lines are as they should be, and refused for their causes. Where its moment

@@ -1,5 +1,5 @@
 -- The plan of a varyon, and the status with which its group goes on.
-use Rattle.std.proofs.Common.{◌≡◌, ◌⊎◌, ⊎_elim, ℕ, suc, ◌<◌, ◌≤◌, ◌++◌, Bool, true, false, List, [], ◌∷◌, length, filter, Option, Some, None, Result, Ok, Err, refl, sym, ap, subst, ◌∙◌, arith}
+use Rattle.std.proofs.Common.{◌≡◌, ℕ, suc, ◌≤◌, ◌++◌, Bool, true, false, List, [], ◌∷◌, length, filter, Option, Some, None, Result, Ok, Err, refl, sym, ap, subst, ◌∙◌, arith}
 use Rattle.std.specs.Prelude.{IfOk, IfSome, if◌then◌else◌, nat_lt, option_map}
 use Rattle.std.proofs.lemmas.Bool.{ltb-true}
 use Rattle.std.proofs.lemmas.Bool.Decides.{nat_tests}
@@ -9,7 +9,6 @@ use Rattle.lvm_num.specs.declared.descriptor.Descriptor.{Descriptor}
 use Rattle.lvm_num.specs.declared.status.Status.{Status}
 use Rattle.lvm_num.specs.Descriptor.{IsValid}
 use Rattle.lvm_num.specs.Disks.{Disks, has}
-use Rattle.lvm_num.specs.Record.{Stamped}
 use Rattle.lvm_num.specs.Status.{IsValidStatus}
 use Rattle.lvm_num.specs.StatusBytes.{status_bytes}
 use Rattle.lvm_quorum.specs.declared.row.Survey.{Survey}
@@ -20,7 +19,7 @@ use Rattle.lvm_core.specs.Starting.{IsReservedFor}
 use Rattle.lvm_write.specs.Next.{IsNextStatus}
 use Rattle.lvm_recovery.specs.Clean.{is_still_dirty, left_dirty}
 use Rattle.lvm_recovery.specs.Plan.{ArePlannedInOrder, copies_dirty}
-use Rattle.lvm_varyon.specs.passed.Names.{ArePlanned, IsCleaned, Parts, Recopy, Room}
+use Rattle.lvm_varyon.specs.passed.Names.{ArePlanned, IsCleaned, Recopy, Room}
 use Rattle.lvm_varyon.proofs.passed.Names.{left_dirty_is_cleaned, left_dirty_valid}
 use Rattle.lvm_varyon.specs.declared.plan.Copying.{Copying}
 use Rattle.lvm_varyon.specs.declared.plan.Plan.{Plan}

@@ -1,5 +1,5 @@
 -- The second status of a varyon: where it is written, and that it may be.
-use Rattle.std.proofs.Common.{◌≡◌, ◌⊎◌, inl, inr, ⊎_elim, ℕ, ◌+◌, ◌<◌, ◌≤◌, ◌^◌, true, List, [], ◌∷◌, length, Option, Some, None, refl, sym, ap, subst, ◌∙◌, arith}
+use Rattle.std.proofs.Common.{◌≡◌, inl, inr, ℕ, ◌+◌, ◌<◌, ◌≤◌, ◌^◌, true, false, List, [], ◌∷◌, length, Option, Some, None, refl, sym, ap, subst, arith}
 use Rattle.std.specs.Prelude.{◌≢◌, IsTrue, IfSome, option_map}
 use Rattle.std.proofs.lemmas.Bool.Decides.{nat_tests}
 use Rattle.lvm_num.specs.declared.record.Kind.TheVariants as kind
@@ -18,7 +18,7 @@ use Rattle.lvm_disk.specs.Device.{Image, IsWholeImage, Range, Device}
 use Rattle.lvm_kept.specs.Contents.{contents_of, has_records}
 use Rattle.lvm_kept.specs.Plans.{Plan}
 use Rattle.lvm_kept.specs.Recovered.{IsRecordRange}
-use Rattle.lvm_kept.specs.Torn.{IsOfRecord, MayWriteAll, StandsOn, StatusesChange}
+use Rattle.lvm_kept.specs.Torn.{IsOfRecord, MayWriteAll}
 use Rattle.lvm_steps.specs.Behind.{StampsBefore, beginning_at}
 use Rattle.lvm_steps.specs.Laws.{IsOutside, IsOtherOrEarlier}
 use Rattle.lvm_steps.proofs.LawsLemmas.Records.{later_may_go, shown_is_before}

@@ -1,5 +1,5 @@
 -- The copies of what is named, and those of what is dirty, are exactly the planned ones.
-use Rattle.std.proofs.Common.{◌≡◌, ◌⊎◌, inl, inr, ⊎_elim, ℕ, zero, suc, ◌+◌, ◌*◌, ◌/◌, ◌<◌, ◌≤◌, ◌&&◌, ◌++◌, Bool, true, false, List, [], ◌∷◌, Option, Some, None, map, filter, flat_map, refl, sym, ap, subst, ◌∙◌, arith, div-lt_iff_lt-mul}
+use Rattle.std.proofs.Common.{◌≡◌, ◌⊎◌, inl, inr, ⊎_elim, ℕ, zero, suc, ◌+◌, ◌*◌, ◌<◌, ◌≤◌, ◌&&◌, ◌++◌, Bool, true, false, List, [], ◌∷◌, Some, filter, flat_map, refl, sym, ap, subst, ◌∙◌, arith, div-lt_iff_lt-mul}
 use Rattle.std.specs.Prelude.{if◌then◌else◌, IsTrue}
 use Rattle.std.specs.List.{range_with_len}
 use Rattle.std.proofs.lemmas.Bool.{cases_lt}
@@ -10,14 +10,14 @@ use Rattle.lvm_num.specs.declared.descriptor.LvRow.{LvRow}
 use Rattle.lvm_num.specs.declared.descriptor.Descriptor.{Descriptor}
 use Rattle.lvm_num.specs.declared.status.Status.{Status}
 use Rattle.lvm_num.specs.Disks.{Disks}
-use Rattle.lvm_num.specs.Geometry.{partition_blocks, partition_of, track_group_of}
+use Rattle.lvm_num.specs.Geometry.{partition_blocks, partition_of}
 use Rattle.lvm_num.specs.Descriptor.{IsValid, copies_of}
 use Rattle.lvm_num.specs.Modes.{is_passive}
 use Rattle.lvm_num.specs.Record.{Stamped}
 use Rattle.lvm_num.specs.Status.{calls_dirty}
 use Rattle.lvm_num.proofs.AmongLemmas.{one_of_left, one_of_right, one_of_either}
 use Rattle.lvm_kept.specs.Contents.{Contents}
-use Rattle.lvm_kept.specs.Group.{IsOneOf, fresh_on, is_named}
+use Rattle.lvm_kept.specs.Group.{IsOneOf, fresh_on}
 use Rattle.lvm_map.specs.Places.{place_on}
 use Rattle.lvm_recover.proofs.passed.Names.{mib_positive}
 use Rattle.lvm_recover.specs.Recopied.{IsToEqual}

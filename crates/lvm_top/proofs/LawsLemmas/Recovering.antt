@@ -12,10 +12,8 @@ use Rattle.lvm_parse.specs.Grammar.{line_of}
 use Rattle.lvm_kept.specs.Moments.{Moment}
 use Rattle.lvm_core.specs.declared.parts.Room.{Room}
 use Rattle.lvm_session.specs.State.{Core}
-use Rattle.lvm_line.specs.Causes.{IsBroughtBack}
 use Rattle.lvm_line.specs.Lines.{IsLine, role_of}
 use Rattle.lvm_line.specs.passed.Quiesce.{Quiesces}
-use Rattle.lvm_line.specs.passed.Recover.{HasNoPassive}
 use Rattle.lvm_line.specs.passed.RefusalVariants as refusal
 use Rattle.lvm_line.specs.passed.ReplyVariants as reply
 use Rattle.lvm_line.specs.passed.GroupLines.{ScriptState, Reply}
@@ -98,12 +96,12 @@ module _ (r : Run) (ran : IsRun r) (line name : List ℕ) (said : Reply) (is : l
   exit_is : ran.end.moment.device ≡ r.exit
   exit_is = sym (ap (λ (m : Moment). m.device) (ran.concluded.still asks_none))
 
-  brought : (core : Core) × (ran.end.session ≡ Some core) × ((quiet : Device) × Quiesces r.entry quiet × IsBroughtBack quiet ran.end.moment.device core.descriptor)
-      → IsSomeAnd ran.end.session (λ core. HasNoPassive core.descriptor → IsRecovered r.entry r.exit core.descriptor)
+  brought : (core : Core) × (ran.end.session ≡ Some core) × ((quiet : Device) × Quiesces r.entry quiet × IsRecovered quiet ran.end.moment.device core.descriptor)
+      → IsSomeAnd ran.end.session (λ core. IsRecovered r.entry r.exit core.descriptor)
   brought (core, on, (quiet, quiesces, back)) =
-      subst (λ (o : Option Core). IsSomeAnd o (λ core. HasNoPassive core.descriptor → IsRecovered r.entry r.exit core.descriptor)) (sym on)
-      (λ soft. subst (λ (exit : Device). IsRecovered r.entry exit core.descriptor) exit_is
-      (subst (λ (entry : Device). IsRecovered entry ran.end.moment.device core.descriptor) (still_ends ran.ready.flights quiesces.ends) (back.recovered soft)))
+      subst (λ (o : Option Core). IsSomeAnd o (λ core. IsRecovered r.entry r.exit core.descriptor)) (sym on)
+      (subst (λ (exit : Device). IsRecovered r.entry exit core.descriptor) exit_is
+      (subst (λ (entry : Device). IsRecovered entry ran.end.moment.device core.descriptor) (still_ends ran.ready.flights quiesces.ends) back))
 
 pub varyon_recovers : (r : Run) (ran : IsRun r) → VaryonRecovers ran
 varyon_recovers r ran = record {

@@ -1,4 +1,4 @@
-use Rattle.std.proofs.Common.{◌≡◌, false, sym, ap, subst, ◌∙◌, arith, All, ◌<◌}
+use Rattle.std.proofs.Common.{false, sym, ap, subst, ◌∙◌, arith, All, ◌<◌}
 use Rattle.lvm_num.specs.declared.descriptor.LvRow.{LvRow}
 use Rattle.lvm_num.specs.Descriptor.{IsLaidOut}
 use Rattle.lvm_num.specs.Disks.{has}

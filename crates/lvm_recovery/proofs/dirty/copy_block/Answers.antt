@@ -1,6 +1,5 @@
-use Rattle.std.proofs.Common.{◌≡◌, ◌+◌, List, [], refl, sym, ap, ◌∙◌, subst, drop, filter, All}
+use Rattle.std.proofs.Common.{◌≡◌, List, sym, ap, ◌∙◌, subst, All}
 use Rattle.lvm_num.specs.declared.place.Pp.{Pp}
-use Rattle.lvm_num.specs.declared.place.Place.{Place}
 use Rattle.lvm_num.specs.Disks.{has}
 use Rattle.lvm_num.proofs.Lists.{index_is}
 use Rattle.lvm_map.specs.Places.{place_on}

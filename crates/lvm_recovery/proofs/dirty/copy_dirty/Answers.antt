@@ -1,4 +1,4 @@
-use Rattle.std.proofs.Common.{◌≡◌, ◌<◌, List, flat_map, sym, subst, All}
+use Rattle.std.proofs.Common.{◌<◌, List, flat_map, sym, subst, All}
 use Rattle.lvm_num.specs.declared.descriptor.LvRow.{LvRow}
 use Rattle.lvm_num.specs.Disks.{has}
 use Rattle.lvm_num.specs.Descriptor.{IsLaidOut}

@@ -1,4 +1,4 @@
-use Rattle.std.proofs.Common.{◌≡◌, ◌*◌, ◌<◌, List, sym, subst, filter, All}
+use Rattle.std.proofs.Common.{◌*◌, List, sym, subst, filter, All}
 use Rattle.lvm_num.specs.declared.place.Pp.{Pp}
 use Rattle.lvm_num.specs.Disks.{has}
 use Rattle.lvm_recovery.specs.Copying.{MayCopy, AreApart, AllGive}

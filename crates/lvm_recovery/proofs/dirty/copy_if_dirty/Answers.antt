@@ -1,8 +1,7 @@
-use Rattle.std.proofs.Common.{◌≡◌, Bool, true, false, List, [], sym, ap, ◌∙◌, subst, All}
+use Rattle.std.proofs.Common.{Bool, true, false, [], sym, ◌∙◌, subst, All}
 use Rattle.std.specs.Prelude.{if◌then◌else◌}
 use Rattle.lvm_num.specs.Disks.{has}
 use Rattle.lvm_write.specs.declared.begin.Begun.TheVariants as begun
-use Rattle.lvm_recovery.specs.declared.copying.Recopy.{Recopy}
 use Rattle.lvm_recovery.specs.Copying.{MayCopy, AreApart, AllGive}
 use Rattle.lvm_recovery.specs.Plan.{copies_whole}
 use Rattle.lvm_recovery.proofs.JoiningLemmas.{nothing_made}

@@ -1,12 +1,8 @@
-use Rattle.std.proofs.Common.{◌≡◌, Bool, true, false, List, [], ◌∷◌, sym, ap, ◌∙◌, subst, All}
+use Rattle.std.proofs.Common.{Bool, true, [], ◌∷◌, sym, ◌∙◌, subst}
 use Rattle.std.specs.Prelude.{if◌then◌else◌}
-use Rattle.lvm_num.specs.declared.place.Place.{Place}
-use Rattle.lvm_num.specs.Disks.{has}
 use Rattle.lvm_write.specs.declared.begin.Begun.TheVariants as begun
-use Rattle.lvm_recovery.specs.declared.copying.Recopy.{Recopy}
-use Rattle.lvm_recovery.specs.Copying.{MayCopy, AreApart, AllGive}
-use Rattle.lvm_recovery.specs.Plan.{usable_by}
-use Rattle.lvm_recovery.specs.Dirty.{copy_to, one_to}
+use Rattle.lvm_recovery.specs.Copying.{AllGive}
+use Rattle.lvm_recovery.specs.Dirty.{one_to}
 use Rattle.lvm_recovery.proofs.JoiningLemmas.{nothing_made}
 use Rattle.lvm_recovery.proofs.dirty.copy_if_usable.Goals as goal
 

@@ -1,7 +1,7 @@
 use Rattle.std.proofs.Common.{refl, arith}
 use Rattle.lvm_num.specs.Disks.{has}
 use Rattle.lvm_recovery.specs.Dirty.{copy_to}
-use Rattle.lvm_recovery.proofs.JoiningLemmas.{no_part_made, next_part, stopped_part, part_ready, part_full, part_ranges, part_apart, all_parts}
+use Rattle.lvm_recovery.proofs.JoiningLemmas.{no_part_made, next_part, stopped_part, part_ranges, part_apart, all_parts}
 use Rattle.lvm_recovery.proofs.dirty.copy_rest.Goals as goal
 
 pub loop-pp-init : goal.loop-pp-init

@@ -3,7 +3,7 @@ use Rattle.lvm_num.specs.declared.descriptor.LvRow.{LvRow}
 use Rattle.lvm_num.specs.Descriptor.{IsLaidOut}
 use Rattle.lvm_num.specs.Disks.{has}
 use Rattle.lvm_recovery.specs.Plan.{copies_if_dirty}
-use Rattle.lvm_recovery.proofs.JoiningLemmas.{no_part_made, next_part, stopped_part, part_ready, part_full, part_ranges, part_apart, all_parts}
+use Rattle.lvm_recovery.proofs.JoiningLemmas.{no_part_made, next_part, stopped_part, part_ranges, part_apart, all_parts}
 use Rattle.lvm_recovery.proofs.dirty.copy_rows.Goals as goal
 
 pub loop-row-init : goal.loop-row-init

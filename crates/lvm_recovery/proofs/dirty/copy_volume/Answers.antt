@@ -1,8 +1,8 @@
-use Rattle.std.proofs.Common.{◌≡◌, ◌*◌, ℕ, List, sym, subst, arith, All}
+use Rattle.std.proofs.Common.{◌*◌, sym, arith}
 use Rattle.std.specs.List.{range_with_len}
 use Rattle.lvm_num.specs.Disks.{has}
 use Rattle.lvm_recovery.specs.Plan.{copies_at}
-use Rattle.lvm_recovery.proofs.JoiningLemmas.{no_part_made, next_part, stopped_part, part_ready, part_full, part_ranges, part_apart, all_parts}
+use Rattle.lvm_recovery.proofs.JoiningLemmas.{no_part_made, next_part, stopped_part, part_ranges, part_apart, all_parts}
 use Rattle.lvm_recovery.proofs.PlanLemmas.Dirty.{is_within}
 use Rattle.lvm_recovery.proofs.RowsLemmas.{range_low, range_at, range_all}
 use Rattle.lvm_recovery.proofs.dirty.copy_volume.Goals as goal

@@ -1,8 +1,8 @@
 use Rattle.lvm_num.specs.Disks.{has}
 use Rattle.lvm_recovery.specs.Plan.{usable_by}
-use Rattle.std.proofs.Common.{sym, ◌∙◌, slice_index_or}
+use Rattle.std.proofs.Common.{sym, ◌∙◌}
 use Rattle.lvm_recovery.proofs.CopyingLemmas.AllCopied.{at_index}
-use Rattle.lvm_recovery.proofs.RowsLemmas.{first_found, passed_over, none_found}
+use Rattle.lvm_recovery.proofs.RowsLemmas.{first_found}
 use Rattle.lvm_recovery.proofs.dirty.first_usable.Goals as goal
 
 pub returns-then-is_usable : goal.returns-then-is_usable
