@@ -25,7 +25,8 @@ use Rattle.lvm_varyon.proofs.passed.Names.{shows_other}
 use Rattle.lvm_kept.specs.Plans.{Plan, ChangesBy}
 use Rattle.lvm_kept.specs.Torn.{IsOfNote}
 use Rattle.lvm_steps.specs.Behind.{StampsBefore, beginning_at, IsBehind}
-use Rattle.lvm_steps.specs.Laws.{IsOutside, IsOtherOrEarlier}
+use Rattle.lvm_kept.specs.Torn.{IsOutside}
+use Rattle.lvm_steps.specs.Laws.{IsOtherOrEarlier}
 use Rattle.lvm_steps.proofs.LawsLemmas.Writes.{changes_widen, earlier_keep_before, notes_and_data_are_outside}
 use Rattle.lvm_rec.specs.declared.homes.Homes.{Homes}
 use Rattle.lvm_write.specs.Homes.{SparesNewest}

@@ -40,11 +40,11 @@ fewer q (x ∷ xs) = by (q x) (fewer q xs)
 -- where they are as many they are the same
 all_left : (q : ℕ → Bool) (xs : List ℕ) → length xs ≤ length (filter q xs) → filter q xs ≡ xs
 all_left q [] all = refl
-all_left q (x ∷ xs) all = by (q x) all
+all_left q (x ∷ xs) all = by (q x) (all_left q xs) all
   where
-    by : (t : Bool) → suc (length xs) ≤ length (if t then x ∷ filter q xs else filter q xs) → (if t then x ∷ filter q xs else filter q xs) ≡ x ∷ xs
-    by true less = ap (λ (l : List ℕ). x ∷ l) (all_left q xs (omega (arith, less)))
-    by false less = let most = fewer q xs in absurd (omega (arith, less, most))
+    by : (t : Bool) → (length xs ≤ length (filter q xs) → filter q xs ≡ xs) → suc (length xs) ≤ length (if t then x ∷ filter q xs else filter q xs) → (if t then x ∷ filter q xs else filter q xs) ≡ x ∷ xs
+    by true again less = ap (λ (l : List ℕ). x ∷ l) (again (omega (arith, less)))
+    by false again less = let most = fewer q xs in absurd (omega (arith, less, most))
 
 -- ---- the status with which the group goes on
 

@@ -20,7 +20,8 @@ use Rattle.lvm_kept.specs.Plans.{Plan}
 use Rattle.lvm_kept.specs.Recovered.{IsRecordRange}
 use Rattle.lvm_kept.specs.Torn.{IsOfRecord, MayWriteAll}
 use Rattle.lvm_steps.specs.Behind.{StampsBefore, beginning_at}
-use Rattle.lvm_steps.specs.Laws.{IsOutside, IsOtherOrEarlier}
+use Rattle.lvm_kept.specs.Torn.{IsOutside}
+use Rattle.lvm_steps.specs.Laws.{IsOtherOrEarlier}
 use Rattle.lvm_steps.proofs.LawsLemmas.Records.{later_may_go, shown_is_before}
 use Rattle.lvm_rec.specs.declared.homes.Homes.{Homes}
 use Rattle.lvm_write.specs.Homes.{SparesNewest}
@@ -70,7 +71,7 @@ seq_as_bytes (Some clean) = refl
 abbrev beginning_of : ℕ → List ℕ → Disks → Homes → Beginning
 beginning_of epoch bytes targets homes = beginning_by 1 3 epoch [] bytes targets homes
 
-empty_fits : length [] ≤ longest_content kind.Descriptor
+empty_fits : length {A = ℕ} [] ≤ longest_content kind.Descriptor
 empty_fits = omega arith
 
 pub second_outside : (second : Option (List ℕ)) (epoch : ℕ) (targets : Disks) (homes : Homes) → SecondFits second → (d s : ℕ) (value : Sector) → IsOfSecond second epoch targets homes d s value → IsOutside kind.Descriptor d s value

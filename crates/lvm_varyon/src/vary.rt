@@ -64,9 +64,12 @@ pub fn varyon<S: Shelf>(
     }
     let mut shelf = shelf;
     match bring(alloc, &mut shelf, name, moment, room, patience) {
-        Ok(((parts, seq), homes)) => {
-            let stamp = Stamp { epoch: moment, seq };
-            Ok(Driver::start(parts, shelf, history, stamp, homes))
+        Ok((begun, homes)) => {
+            let stamp = Stamp {
+                epoch: moment,
+                seq: begun.1,
+            };
+            Ok(Driver::start(begun.0, shelf, history, stamp, homes))
         }
         Err(cause) => Err(refused(shelf, history, cause)),
     }

@@ -1,5 +1,5 @@
 -- A varyon as a part of a run.
-use Rattle.std.proofs.Common.{◌≡◌, ◌≢◌, ℕ, ◌≤◌, Bool, true, false, ◌&&◌, not, IsTrue, arith, List, refl, sym, ap, subst, ◌∙◌}
+use Rattle.std.proofs.Common.{◌≡◌, ◌≢◌, ℕ, ◌≤◌, ◌<◌, ◌+◌, ◌*◌, ◌^◌, Bool, true, false, ◌&&◌, not, IsTrue, arith, List, refl, sym, ap, subst, ◌∙◌}
 use Rattle.std.specs.Prelude.{if◌then◌else◌}
 use Rattle.lvm_write.proofs.WrittenLemmas.Writing.{if_told}
 use Rattle.lvm_num.specs.declared.descriptor.Descriptor.{Descriptor}
@@ -20,6 +20,7 @@ use Rattle.lvm_steps.proofs.EnteringLemmas.{quiet_goes_on, calm_goes_on}
 use Rattle.lvm_steps.proofs.MomentsLemmas.Spans.{keeps_still, steps_go_on, group_goes_on}
 use Rattle.lvm_steps.specs.Behind.{ClockIsAhead}
 use Rattle.lvm_status.specs.Update.{Updates, members_there}
+use Rattle.lvm_commit.specs.Settling.{many_there}
 use Rattle.lvm_rec.specs.declared.homes.Homes.{Homes}
 use Rattle.lvm_varyon.specs.passed.Names.{Room, Cause, HoldsCommitted, NoneIsLeft, NotesAreHome, StartsHeld, IsSettled, HasSpareNumbers, Parts, first_core, Core, is_there}
 use Rattle.lvm_varyon.specs.passed.CoreRefusedCause as cause
@@ -134,8 +135,8 @@ module _ (old new : Device) (log : Log) (name : List ℕ) (moment : ℕ) (room :
       let holds = is.written.chosen.holds in
       let reads : ReadsBy c all_disks group.id group = finding_reads c all_disks group.id group (record { quorum = holds.quorum; newest = holds.newest; found = holds.only.newest; is = holds.is }) in
       let enough : CanRead group (answering c group) = subst (λ (v : Disks). CanRead group v) (sym reads.voters) reads.reads.enough in
-      more_is_enough.write group (votes_in group (answering c group)) (votes_in group (members_there group is.written.next))
-      (more_have_more group (answering c group) (members_there group is.written.next) present) (read_is_write group (votes_in group (answering c group)) is.valid.head.a_member enough)
+      more_is_enough.write group (votes_in group (answering c group)) (votes_in group (members_there group stands))
+      (more_have_more group (answering c group) (members_there group stands) present) (read_is_write group (votes_in group (answering c group)) is.valid.head.a_member enough)
     where
       present : (d : ℕ) → IsTrue (is_member is.written.group d) → IsTrue (answering is.written.found.shown is.written.group d) → IsTrue (members_there is.written.group stands d)
       present d member target =
@@ -143,8 +144,15 @@ module _ (old new : Device) (log : Log) (name : List ℕ) (moment : ℕ) (room :
           ∙ ap (λ (a : Bool). a && not (a && not (answering is.written.found.shown is.written.group d))) member
           ∙ ap (λ (t : Bool). true && not (true && not t)) target
 
+  -- a stamp more is still spare, since twice a number is even
+  numbered : HasSpareNumbers (first_core parts log (last_stamp moment is.written.clean) homes core.origin.faults)
+  numbered =
+      let two : 10 + 2 * many_there (first_core parts log (last_stamp moment is.written.clean) homes core.origin.faults).status < 2 ^ 32 =
+      starts_numbered is.written.group stands room parts log (record { epoch = moment; seq = 2 }) homes core.origin.faults is.reserved is.valid (omega arith) in
+      let low = last_seq_low is.written.clean in omega (arith, two, low)
+
   pub settles : moment ≢ 0 → IsSettled core × HasSpareNumbers core
   settles some = subst (λ (c : Core). IsSettled c × HasSpareNumbers c) (sym core_at) (
     starts_settled is.written.group stands room parts log (last_stamp moment is.written.clean) homes core.origin.faults is.reserved some votes,
-    starts_numbered is.written.group stands room parts log (last_stamp moment is.written.clean) homes core.origin.faults is.reserved is.valid (let low = last_seq_low is.written.clean in omega (arith, low)),
+    numbered,
   )
