@@ -34,18 +34,22 @@ use Rattle.lvm_group.specs.NewGroup.{given_up, new_group, new_status}
 use Rattle.lvm_handover.specs.passed.Tie.{IsStamped}
 use Rattle.lvm_handover.specs.Beginning.{HasJustBegun, IsHistory, MadeBegins, Serves, VariedOnBegins}
 use Rattle.lvm_keeps.proofs.LeftLemmas.Updates.{few_updates}
+use Rattle.lvm_varyon.specs.Second.{status_after, last_seq}
+use Rattle.lvm_varyon.proofs.SecondLemmas.{last_seq_low}
 use Rattle.lvm_tie.proofs.MarksLemmas.{not_entailed}
 
 -- the stamp of the last record that was written
-abbrev second : ℕ → Stamp
-second moment = record { epoch = moment; seq = 2 }
+abbrev stamp_of : ℕ → ℕ → Stamp
+stamp_of moment seq = record { epoch = moment; seq = seq }
 
 -- What a call has begun with: parts in which nothing is in use.
 pub record BeginsWith (log : Log) (moment : ℕ) (s : State) : Type 0 where
   pub parts : Parts
   pub homes : Homes
   pub reserved : IsReserved parts.descriptor parts.table parts.room parts
-  pub is : s.core ≡ first_core parts log (second moment) homes s.core.origin.faults
+  pub seq : ℕ
+  pub low : seq ≤ 3
+  pub is : s.core ≡ first_core parts log (stamp_of moment seq) homes s.core.origin.faults
 
 -- the parts in their own words
 its_own : (d : Descriptor) (t : Status) (room : SessionRoom) (p : Parts) → IsReserved d t room p → IsReserved p.descriptor p.table p.room p
@@ -94,8 +98,8 @@ module _ (log : Log) (moment : ℕ) (s : State) (its_history : IsHistory log) (b
 
   calm : IsCalm s.core
   calm = record {
-    sound = subst (λ (c : Core). IsSoundStatus (seen c.status)) (sym b.is) (subst (λ (u : Updates). IsSoundStatus (record u { stamp = second moment })) (sym b.reserved.status)
-        (steps_stay_sound (SetStamp (second moment)) (first_updates p.table p.descriptor) (record (first_updates p.table p.descriptor) { stamp = second moment }) (first_is_sound p.table p.descriptor) (refl, refl)));
+    sound = subst (λ (c : Core). IsSoundStatus (seen c.status)) (sym b.is) (subst (λ (u : Updates). IsSoundStatus (record u { stamp = stamp_of moment b.seq })) (sym b.reserved.status)
+        (steps_stay_sound (SetStamp (stamp_of moment b.seq)) (first_updates p.table p.descriptor) (record (first_updates p.table p.descriptor) { stamp = stamp_of moment b.seq }) (first_is_sound p.table p.descriptor) (refl, refl)));
     committed = just.settled.committed ∙ table;
     wanted = table;
     in_flight = just.settled.quiet.status;
@@ -124,8 +128,9 @@ module _ (log : Log) (moment : ℕ) (s : State) (its_history : IsHistory log) (b
     behind = λ pp. not_entailed s.core just.sound.fitting.valid just.sound.fitting.group just.settled.committed just.left pp;
     numbers =
         let few = few_updates s.core just.sound.fitting.valid just.settled.quiet.requests just.settled.quiet.copy in
-        let two : s.core.status.stamp.seq ≡ 2 = ap (λ (c : Core). c.status.stamp.seq) b.is in
-        omega (arith, few, two);
+        let its : s.core.status.stamp.seq ≡ b.seq = ap (λ (c : Core). c.status.stamp.seq) b.is in
+        let most = b.low in
+        omega (arith, few, its, most);
   }
 
   stamped : IsStamped s.core.status
@@ -145,7 +150,9 @@ varied_on_begins was name moment room old s history on just =
     let b : BeginsWith was moment s = record {
       parts = on.first.parts;
       homes = s.core.homes;
-      reserved = its_own on.written.group on.written.next (room_of room) on.first.parts on.first.reserved;
+      reserved = its_own on.written.group (status_after on.written.next on.written.clean) (room_of room) on.first.parts on.first.reserved;
+      seq = last_seq on.written.clean;
+      low = last_seq_low on.written.clean;
       is = on.first.is;
     } in
     let early = on.written.chosen.early in
@@ -165,6 +172,8 @@ made_begins was w room old s history made just =
       parts = made.reserved;
       homes = made.next;
       reserved = its_own (new_group old.sizes w) (new_status w) (room_of room) made.reserved made.parts;
+      seq = 2;
+      low = omega arith;
       is = made.core_is;
     } in
     let early = made.clear.moment in

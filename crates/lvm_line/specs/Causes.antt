@@ -17,8 +17,7 @@ use Rattle.lvm_volume_lines.specs.passed.Names.{LostForFaults}
 use Rattle.lvm_num.specs.declared.descriptor.Descriptor.{Descriptor}
 use Rattle.lvm_num.specs.Descriptor.{is_member}
 use Rattle.lvm_disk.specs.Device.{Device}
-use Rattle.lvm_volume_lines.specs.passed.Recover.{HasNoPassive}
-use Rattle.lvm_volume_lines.specs.passed.Varyon.{IsRestated, IsRecovered}
+use Rattle.lvm_volume_lines.specs.passed.Varyon.{IsRecovered}
 use Rattle.lvm_volume_lines.specs.passed.Quiesce.{Quiesces}
 use Rattle.lvm_volume_lines.specs.passed.Ranges.{AnyFailed}
 use Rattle.lvm_volume_lines.specs.passed.Resync.{AnyFails}
@@ -133,17 +132,11 @@ HasCause read why old new = CauseOf read why old new
 abbrev pub CauseLaw : Type 0
 CauseLaw = (log : Log) (room : Room) (line : List ℕ) (why : Refusal) (old new : ScriptState) → IsLine log room line (reply.Refused why) old new → HasCause (line_of line) why old new
 
--- The records of the group stand again, and where no volume of it is in mode passive it is recovered.
-pub record IsBroughtBack (old new : Device) (group : Descriptor) : Type 0 where
-  pub restated : IsRestated old new group
-  pub recovered : HasNoPassive group → IsRecovered old new group
-
--- A group that a line has varied on is on, with its records and data as they should be, recovered where no volume of it is in mode passive, where the clock's
--- moments rise; from the shelf on which the transfers of before have ended.
+-- A group that a line has varied on is on, and recovered where the clock's moments rise, from the shelf on which the transfers of before have ended.
 abbrev pub VaryonLaw : Type 0
 VaryonLaw =
     (log : Log) (room : Room) (line name : List ℕ) (old new : ScriptState) → line_of line ≡ Ok (Some (command.Varyon name)) → IsLine log room line reply.Ok old new → IsTimely log.run old
-    → (core : Core) × (new.session ≡ Some core) × ((quiet : Device) × Quiesces old.moment.device quiet × IsBroughtBack quiet new.moment.device core.descriptor)
+    → (core : Core) × (new.session ≡ Some core) × ((quiet : Device) × Quiesces old.moment.device quiet × IsRecovered quiet new.moment.device core.descriptor)
 
 -- Where the quorum is lacking nothing was written.
 abbrev pub NoQuorumLaw : Type 0

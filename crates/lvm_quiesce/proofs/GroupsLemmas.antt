@@ -122,7 +122,7 @@ varyon_rose old new name moment patience log cause.Dark refuses = refuses.1.how.
 varyon_rose old new name moment patience log cause.Stuck refuses = refuses.1.how.waited
 varyon_rose old new name moment patience log (cause.DiskFailed disk) refuses =
     inr (subst (λ (f : ℕ → ℕ). Rose (f disk) (new.counts.faults disk)) refuses.1.writes.unwritten.faults
-    (failed_rose _ refuses.1.copies refuses.1.writes.read new disk refuses.1.writes.how))
+    (failed_rose _ _ refuses.1.copies refuses.1.writes.read new disk refuses.1.writes.how))
 varyon_rose old new name moment patience log _ refuses = tt
 
 module _ {S : Type 0} (device : S → Device) (was : Log) (old : Device) (patience : ℕ) where

@@ -4,6 +4,7 @@ use Rattle.std.specs.Prelude.{if◌then◌else◌}
 use Rattle.std.proofs.lemmas.Bool.{eqb-true}
 use Rattle.std.proofs.lemmas.List.Elements.{All-cons, All-nil}
 use Rattle.lvm_num.specs.declared.place.Pp.{Pp}
+use Rattle.lvm_num.specs.declared.descriptor.Mode.{Mode}
 use Rattle.lvm_num.specs.declared.descriptor.Mode.TheVariants.{Active, Off}
 use Rattle.lvm_num.specs.declared.descriptor.LvRow.{LvRow}
 use Rattle.lvm_num.specs.Bits.{has_bit}
@@ -21,7 +22,9 @@ use Rattle.lvm_recovery.specs.Copying.{MayCopy}
 use Rattle.lvm_recovery.specs.Examples.{PairsCopy, first_to_second}
 use Rattle.lvm_recovery.specs.Planned.{IsPlannedCopy, ArePlanned}
 use Rattle.lvm_map.specs.Places.{place_on}
-use Rattle.lvm_recovery.proofs.PlannedLemmas.{planned_are_apart}
+use Rattle.lvm_num.specs.Geometry.{track_group_of}
+use Rattle.lvm_recover.specs.Recopied.{IsToEqual}
+use Rattle.lvm_recovery.proofs.PlannedLemmas.{group_of_start, planned_are_apart}
 
 abbrev torn : Pair
 torn = torn_pair Active false naming
@@ -37,9 +40,8 @@ its_copy = record {
   lp = 0;
   g = 0;
   volume = inl refl;
-  active = refl;
   inside = record { inside = omega arith; partition = refl };
-  named = (0, refl, is_naming);
+  made = (0, refl, is_naming);
   first = record { disk = 0; pp = 0 };
   others = record { disk = 1; pp = 0 } ∷ [];
   usable = usable;
@@ -76,7 +78,10 @@ the_copy : (one : Recopy) → IsPlannedCopy (shown_by torn) (two Active) (Some (
 the_copy one p =
     let row_is : p.row ≡ mirror Active = the_row torn p.row p.volume in
     let lp_is : p.lp ≡ 0 = first_partition p.lp (subst (λ (r : LvRow). p.lp < r.lps) row_is p.inside.inside) in
-    let g_is : p.g ≡ 0 = sym (eqb-true 0 p.g (only_first (1 == p.row.number) (0 == p.g) (sym (named_is p.row.number p.g) ∙ on_one (either_of 0 1 p.named.0) p.row.number p.g p.named.2))) in
+    let made : IsToEqual (shown_by torn) (Some (status_of torn)) (there_by torn) Active p.row.number (p.g * 256) =
+    subst (λ (m : Mode). IsToEqual (shown_by torn) (Some (status_of torn)) (there_by torn) m p.row.number (p.g * 256)) (ap (λ (r : LvRow). r.mode) row_is) p.made in
+    let its : is_named (shown_by torn) made.0 p.row.number p.g ≡ true = ap (λ (t : ℕ). is_named (shown_by torn) made.0 p.row.number t) (sym (group_of_start p.g)) ∙ made.2 in
+    let g_is : p.g ≡ 0 = sym (eqb-true 0 p.g (only_first (1 == p.row.number) (0 == p.g) (sym (named_is p.row.number p.g) ∙ on_one (either_of 0 1 made.0) p.row.number p.g its))) in
     let copies : both_copies ≡ p.first ∷ p.others = sym usable ∙ (λ t. fresh_on (there_by torn) (Some (status_of torn)) (sym row_is t) (sym lp_is t)) ∙ p.usable in
     let two_of = same_first p.first p.copy p.others copies p.further in
     let from : one.from ≡ place_on 1 (record { disk = 0; pp = 0 }) (0 * 256) = p.from ∙ (λ t. place_on 1 (two_of.0 t) (g_is t * 256)) in
@@ -112,8 +117,8 @@ unfolding entries_below
 zeros_name true lv group = refl
 zeros_name false lv group = refl
 
-off_is : Off ≡ Active → ⊥
-off_is e = cc
+abbrev quiet_pair : Pair
+quiet_pair = even_pair Active false false zero_sector
 
 pub pairs_copy : PairsCopy
 pairs_copy = record {
@@ -125,7 +130,11 @@ pairs_copy = record {
     planned = on_disks.2;
     targets_there = λ d target. target;
   };
-  off = no_copies (shown_by (torn_pair Off false naming)) (torn_pair Off false naming) (λ one p. off_is (sym (ap (λ (r : LvRow). r.mode) (the_row (torn_pair Off false naming) p.row p.volume)) ∙ p.active));
-  quiet = no_copies (shown_by (even_pair Active false false zero_sector)) (even_pair Active false false zero_sector)
-      (λ one p. clash (is_named (shown_by (even_pair Active false false zero_sector)) p.named.0 p.row.number p.g) p.named.2 (zeros_name (either_of 0 1 p.named.0) p.row.number p.g));
+  off = no_copies (shown_by (torn_pair Off false naming)) (torn_pair Off false naming)
+      (λ one p. subst (λ (m : Mode). IsToEqual (shown_by (torn_pair Off false naming)) (Some (status_of (torn_pair Off false naming))) (there_by (torn_pair Off false naming)) m p.row.number (p.g * 256))
+      (ap (λ (r : LvRow). r.mode) (the_row (torn_pair Off false naming) p.row p.volume)) p.made);
+  quiet = no_copies (shown_by quiet_pair) quiet_pair (λ one p.
+      let made : IsToEqual (shown_by quiet_pair) (Some (status_of quiet_pair)) (there_by quiet_pair) Active p.row.number (p.g * 256) =
+      subst (λ (m : Mode). IsToEqual (shown_by quiet_pair) (Some (status_of quiet_pair)) (there_by quiet_pair) m p.row.number (p.g * 256)) (ap (λ (r : LvRow). r.mode) (the_row quiet_pair p.row p.volume)) p.made in
+      clash (is_named (shown_by quiet_pair) made.0 p.row.number (track_group_of (p.g * 256))) made.2 (zeros_name (either_of 0 1 made.0) p.row.number (track_group_of (p.g * 256))));
 }

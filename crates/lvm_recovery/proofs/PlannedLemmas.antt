@@ -1,6 +1,5 @@
 -- Copies that are planned.
 use Rattle.std.proofs.Common.{◌≡◌, ◌⊎◌, inl, inr, ⊎_elim, ℕ, suc, ◌+◌, ◌-◌, ◌*◌, ◌/◌, ◌%◌, ◌<◌, ◌&&◌, not, List, [], ◌∷◌, Option, Some, refl, sym, ap, subst, ◌∙◌, arith, AllPairs}
-use Rattle.std.specs.Prelude.{filter}
 use Rattle.std.specs.List.{AllByRecursion}
 use Rattle.std.proofs.lemmas.Nat.{div-mul-add}
 use Rattle.std.proofs.lemmas.List.Kept.{AllPairs-filter}
@@ -8,7 +7,7 @@ use Rattle.std.proofs.Math.Nat.{mod-lt}
 use Rattle.lvm_num.specs.declared.place.Place.{Place}
 use Rattle.lvm_num.specs.declared.place.Pp.{Pp}
 use Rattle.lvm_num.specs.declared.descriptor.Mode.{Mode}
-use Rattle.lvm_num.specs.declared.descriptor.Mode.TheVariants.{Active}
+use Rattle.lvm_num.specs.declared.descriptor.Mode.TheVariants.{Active, Passive, Off}
 use Rattle.lvm_num.specs.declared.descriptor.LvRow.{LvRow}
 use Rattle.lvm_num.specs.declared.descriptor.Descriptor.{Descriptor}
 use Rattle.lvm_num.specs.declared.status.Status.{Status}
@@ -33,7 +32,7 @@ use Rattle.lvm_recover.proofs.KeepingLemmas.Images.{images_are_recopied}
 use Rattle.lvm_recover.proofs.BeginningLemmas.{is_at}
 use Rattle.lvm_recovery.specs.declared.copying.Recopy.{Recopy}
 use Rattle.lvm_recovery.specs.Copying.{IsAt, IsOfCopies, IsCopied}
-use Rattle.lvm_recovery.specs.Planned.{IsNamedByOne, IsPlannedCopy, ArePlanned, PlannedAreApart, PlannedAreFromFirst, PlannedAreEqualled}
+use Rattle.lvm_recovery.specs.Planned.{IsPlannedCopy, ArePlanned, PlannedAreApart, PlannedAreFromFirst, PlannedAreEqualled}
 use Rattle.lvm_map.specs.Places.{place_on}
 use Rattle.lvm_recovery.proofs.CopyingLemmas.AllCopied.{place_of_one}
 
@@ -45,9 +44,6 @@ first_to_other R l first x others pairs is one =
     let low = it.1 in
     let whole : AllPairs R (first ∷ others) = subst (AllPairs R) is pairs in
     subst (R first) (index_is others it.0 x x it.2) (whole 0 (suc it.0) x (omega arith) (omega (arith, low)))
-
-rest_same : {X : Type 0} (x y : X) (xs ys : List X) → x ∷ xs ≡ y ∷ ys → xs ≡ ys
-rest_same x y xs ys e = cc
 
 -- ---- blocks of a track group
 
@@ -112,9 +108,11 @@ planned_are_apart c group status there copies valid each = record {
   one_source = λ a b i j d s one two. into_is_one group valid status there c a b (each a one) (each b two) i j d s;
 }
 
-made_equal : (c : Contents) (there : Disks) (mode : Mode) (status : Option (Stamped Status)) (lv g i : ℕ) → mode ≡ Active → i < 256 → track_group_of (g * 256 + i) ≡ track_group_of (g * 256) → IsNamedByOne c there lv g → IsToEqual c status there mode lv (g * 256 + i)
-made_equal c there mode status lv g i active low same named =
-    subst (λ (m : Mode). IsToEqual c status there m lv (g * 256 + i)) (sym active) (named.0, named.1, ap (λ (t : ℕ). is_named c named.0 lv t) (same ∙ group_of_start g) ∙ named.2)
+-- a block of a track group is to be made equal where its first one is, in each mode
+pub made_equal : (c : Contents) (there : Disks) (mode : Mode) (status : Option (Stamped Status)) (lv a b : ℕ) → track_group_of b ≡ track_group_of a → IsToEqual c status there mode lv a → IsToEqual c status there mode lv b
+made_equal c there Active status lv a b same made = (made.0, made.1, ap (λ (t : ℕ). is_named c made.0 lv t) same ∙ made.2)
+made_equal c there Passive status lv a b same made = made
+made_equal c there Off status lv a b same made = absurd made
 
 pub planned_are_from_first : PlannedAreFromFirst
 planned_are_from_first group status there copies old media valid told each d s value its =
@@ -128,7 +126,7 @@ planned_are_from_first group status there copies old media valid told each d s v
       lp = p.lp;
       block = p.g * 256 + i;
       volume = p.volume;
-      made = made_equal c there p.row.mode status p.row.number p.g i p.active low (is_at group.mib p.g i (mib_positive group valid) low).track_group p.named;
+      made = made_equal c there p.row.mode status p.row.number (p.g * 256) (p.g * 256 + i) (is_at group.mib p.g i (mib_positive group valid) low).track_group p.made;
       inside = block_inside group valid status there c its.one p i low;
       first = p.first;
       others = p.others;
@@ -163,7 +161,7 @@ module _ (group : Descriptor) (status : Option (Stamped Status)) (there : Disks)
   recopied = images_are_recopied group status there (image_of old.sizes was) (image_of new.sizes is)
       (changes_more (IsOfCopies old copies) (IsFromFirst before group status there) (image_of old.sizes was) (image_of new.sizes is) (planned_are_from_first group status there copies old was valid told_old planned.each) by)
 
-  module _ (row : LvRow) (lp b g : ℕ) (volume : IsOneOf group.lvs row) (inside : IsBlockOf group.mib row lp b) (active : row.mode ≡ Active) (same : track_group_of b ≡ g) (named : IsNamedByOne before there row.number g) where
+  module _ (row : LvRow) (lp b g : ℕ) (volume : IsOneOf group.lvs row) (inside : IsBlockOf group.mib row lp b) (same : track_group_of b ≡ g) (made : IsToEqual before status there row.mode row.number b) where
     other_holds : (first p : Pp) (others : List Pp) → fresh_on there status row lp ≡ first ∷ others → IsOneOf others p → block_at after group.mib p b ≡ block_at before group.mib first b
     other_holds first p others usable one =
         let i : ℕ = b % 256 in
@@ -176,9 +174,8 @@ module _ (group : Descriptor) (status : Option (Stamped Status)) (there : Disks)
           lp = lp;
           g = g;
           volume = volume;
-          active = active;
           inside = record { inside = inside.inside; partition = sym place.partition ∙ ap (λ (n : ℕ). partition_of group.mib n) whole ∙ inside.partition };
-          named = named;
+          made = made_equal before there row.mode status row.number b (g * 256) (group_of_start g ∙ sym same) made;
           first = first;
           others = others;
           usable = usable;
@@ -204,5 +201,5 @@ module _ (group : Descriptor) (status : Option (Stamped Status)) (there : Disks)
         one)
 
 pub planned_are_equalled : PlannedAreEqualled
-planned_are_equalled group status there copies old new was is valid told_old told_new planned by copied row lp b volume active inside to =
-    hold group status there copies old new was is valid told_old told_new planned by copied row lp b (track_group_of b) volume inside active refl to (fresh_on there status row lp) refl
+planned_are_equalled group status there copies old new was is valid told_old told_new planned by copied row lp b volume inside made =
+    hold group status there copies old new was is valid told_old told_new planned by copied row lp b (track_group_of b) volume inside refl made (fresh_on there status row lp) refl

@@ -232,3 +232,10 @@ pub record AllGive (copies : List Recopy) (number before after : ℕ) (old new :
   pub writes : AllWrite copies old new result
   pub ranges : LogsOnly (IsInOneRun copies) old.wrote new.wrote
   pub how : HowAll copies number before old new result
+
+-- ---- in parts
+
+-- Copies that were made, all well, and then others that were made up to the first that didn't end well, are all of them, made up to there.
+abbrev pub CopiesGoOn : Type 0
+CopiesGoOn = (xs ys : List Recopy) (number p q r : ℕ) (old mid new : Device) (buf : Buffer) (how : Begun)
+    → AreApart (xs ++ ys) → AllGive xs number p q old mid (begun.Ended buf) → AllGive ys buf.number q r mid new how → AllGive (xs ++ ys) number p r old new how

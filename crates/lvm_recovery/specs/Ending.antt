@@ -8,13 +8,13 @@ use Rattle.lvm_num.specs.Disks.{Disks}
 use Rattle.lvm_num.specs.Geometry.{sectors_needed}
 use Rattle.lvm_num.specs.Descriptor.{IsValid, member_of}
 use Rattle.lvm_num.specs.Record.{Stamped}
-use Rattle.lvm_disk.specs.Device.{Media, Range, Device, image_of}
+use Rattle.lvm_disk.specs.Device.{Media, Image, Range, Device, image_of}
 use Rattle.lvm_kept.specs.Contents.{Contents, contents_of}
 use Rattle.lvm_kept.specs.Group.{is_voter, status_among, is_named, IsOneOf}
 use Rattle.lvm_kept.specs.Recovered.{IsCopyRange}
 use Rattle.lvm_kept.specs.Plans.{ChangesBy}
 use Rattle.lvm_kept.specs.Torn.{IsOfNote}
-use Rattle.lvm_recover.specs.Recopied.{IsRecopied, AreNamedEqualled, OnlyNotesOf}
+use Rattle.lvm_recover.specs.Recopied.{IsRecopied, AreEqualled, OnlyNotesOf}
 use Rattle.lvm_recovery.specs.declared.copying.Recopy.{Recopy}
 use Rattle.lvm_recovery.specs.Copying.{MayCopy, IsCopied, IsInOneRun, IsOfCopies}
 use Rattle.lvm_num.specs.Votes.{CanWrite}
@@ -42,20 +42,20 @@ RunsAreOfCopies = (old : Contents) (disks : Disks) (group : Descriptor) (was : S
     → IsValid group → status_among old disks group.id ≡ Some was → ArePlanned old group (Some was) (is_voter old disks group.id) copies → IsInOneRun copies range
     → IsTrue (is_voter old disks group.id range.disk) × IsCopyRange old disks group.id group range
 
--- What is shown at the end: blocks copied from the first copies, all that notes name in mode active made equal, and then only notes changed.
-pub record ShowsEqualised (group : Descriptor) (status : Option (Stamped Status)) (there : Disks) (old new : Contents) : Type 0 where
-  pub copied : Contents
+-- What is shown once all planned copies are made: blocks copied from the first copies, and all made equal that is to be.
+pub record ShowsCopied (group : Descriptor) (status : Option (Stamped Status)) (there : Disks) (old copied : Contents) : Type 0 where
   pub recopied : IsRecopied old group status there copied
-  pub equalled : AreNamedEqualled old group status there copied
-  pub emptied : OnlyNotesOf there copied new
+  pub equalled : AreEqualled old group status there copied
 
-abbrev pub EqualisedEnds : Type 0
-EqualisedEnds = (copies : List Recopy) (targets : Disks) (sector : Sector) (old mid new : Device) (group : Descriptor) (status : Option (Stamped Status)) (there : Disks) (was between is : Media)
-    → IsValid group → ((d : ℕ) → IsTrue (targets d) → IsTrue (there d)) → old.media ≡ Some was → mid.media ≡ Some between
-    → ArePlanned (contents_of (image_of old.sizes was)) group status there copies
+abbrev pub CopiedEnds : Type 0
+CopiedEnds = (copies : List Recopy) (old mid : Device) (group : Descriptor) (status : Option (Stamped Status)) (there : Disks) (was between : Media)
+    → IsValid group → old.media ≡ Some was → mid.media ≡ Some between → ArePlanned (contents_of (image_of old.sizes was)) group status there copies
     → ChangesBy (IsOfCopies old copies) (image_of old.sizes was) (image_of mid.sizes between) → ((one : Recopy) → IsOneOf copies one → IsCopied old mid one)
-    → ChangesBy (IsOfNote targets sector) (image_of mid.sizes between) (image_of new.sizes is)
-    → ShowsEqualised group status there (contents_of (image_of old.sizes was)) (contents_of (image_of new.sizes is))
+    → ShowsCopied group status there (contents_of (image_of old.sizes was)) (contents_of (image_of mid.sizes between))
+
+-- And once notes of members that are there are written, these alone have changed.
+abbrev pub EmptiedEnds : Type 0
+EmptiedEnds = (targets there : Disks) (sector : Sector) (old new : Image) → ((d : ℕ) → IsTrue (targets d) → IsTrue (there d)) → ChangesBy (IsOfNote targets sector) old new → OnlyNotesOf there (contents_of old) (contents_of new)
 
 -- What is planned by the status that was found is planned by the next one,
 abbrev pub NextSamePlan : Type 0

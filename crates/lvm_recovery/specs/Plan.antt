@@ -1,5 +1,6 @@
 -- Which copies are planned, by what notes name.
-use Rattle.std.specs.Prelude.{◌≡◌, ◌⊎◌, ◌↔◌, ℕ, ◌*◌, ◌<◌, ◌&&◌, Bool, not, nat_lt, if◌then◌else◌, List, [], ◌∷◌, Option, Some, None, map, filter, flat_map, AllPairs}
+use Rattle.std.specs.Prelude.{◌≡◌, ◌⊎◌, ◌↔◌, ℕ, ◌*◌, ◌<◌, ◌&&◌, ◌++◌, Bool, not, nat_lt, if◌then◌else◌, List, [], ◌∷◌, Option, Some, None, map, filter, flat_map, AllPairs}
+use Rattle.std.specs.List.{range_with_len}
 use Rattle.lvm_num.specs.declared.place.Pp.{Pp}
 use Rattle.lvm_num.specs.declared.record.NoteEntry.{NoteEntry}
 use Rattle.lvm_num.specs.declared.descriptor.LvRow.{LvRow}
@@ -9,10 +10,10 @@ use Rattle.lvm_num.specs.Disks.{Disks}
 use Rattle.lvm_num.specs.Geometry.{partition_of}
 use Rattle.lvm_num.specs.Descriptor.{IsValid, copies_of, volume_of}
 use Rattle.lvm_num.specs.Record.{Stamped}
-use Rattle.lvm_num.specs.Status.{calls_stale}
+use Rattle.lvm_num.specs.Status.{calls_dirty, calls_stale}
 use Rattle.lvm_kept.specs.Contents.{Contents}
 use Rattle.lvm_kept.specs.Group.{IsOneOf}
-use Rattle.lvm_num.specs.Modes.{is_active}
+use Rattle.lvm_num.specs.Modes.{is_active, is_passive}
 use Rattle.lvm_recovery.specs.declared.copying.Recopy.{Recopy}
 use Rattle.lvm_recovery.specs.declared.plan.TrackGroup.{TrackGroup}
 use Rattle.lvm_recovery.specs.Planned.{IsNamedByOne, ArePlanned}
@@ -57,16 +58,37 @@ copies_of_found mib status disks g (Some row) = copies_of_group mib status disks
 abbrev pub copies_named : Descriptor → Status → Disks → TrackGroup → List Recopy
 copies_named group status disks one = copies_of_found group.mib status disks one.group (volume_of group one.volume)
 
--- What the notes of these disks name is planned volume by volume, in each by places, each once, and of each from its first usable copy to the further ones in their order.
+-- ---- those of dirty volumes
+
+-- those of a track group of a volume, from the first usable copy to the further ones
+abbrev pub copies_at : ℕ → Status → Disks → LvRow → ℕ → List Recopy
+copies_at mib status disks row g = copies_from mib (g * 256) (filter (usable_by status disks) (copies_of row (partition_of mib (g * 256))))
+
+-- those of all its track groups
+abbrev pub copies_whole : ℕ → Status → Disks → LvRow → List Recopy
+copies_whole mib status disks row = flat_map (copies_at mib status disks row) (range_with_len 0 (8 * mib * row.lps))
+
+-- those of the volume, where it is dirty
+abbrev pub copies_if_dirty : ℕ → Status → Disks → LvRow → List Recopy
+copies_if_dirty mib status disks row = if is_passive row.mode && calls_dirty status row.number then copies_whole mib status disks row else []
+
+-- those of all dirty volumes in mode passive, in the order of their numbers
+abbrev pub copies_dirty : Descriptor → Status → Disks → List Recopy
+copies_dirty group status disks = flat_map (copies_if_dirty group.mib status disks) group.lvs
+
+-- ---- all of them
+
+-- What the notes of these disks name is planned volume by volume, in each by places, each once, and of each from its first usable copy to the further ones in their order;
+-- behind that the dirty volumes are, in the order of their numbers, each whole and by places.
 pub record ArePlannedInOrder (c : Contents) (group : Descriptor) (status : Status) (there : Disks) (copies : List Recopy) : Type 0 where
   pub named : List TrackGroup
   pub exactly : AreNamed c there named
   pub rising : AreRising named
-  pub are : copies ≡ flat_map (copies_named group status there) named
+  pub are : copies ≡ flat_map (copies_named group status there) named ++ copies_dirty group status there
 
 -- ---- law
 
--- Where all that is named is planned so, exactly the planned copies are.
+-- The copies of all that is named, and then those of dirty volumes, are exactly the planned ones.
 abbrev pub NamedArePlanned : Type 0
 NamedArePlanned = (c : Contents) (group : Descriptor) (status : Stamped Status) (there : Disks) (named : List TrackGroup)
-    → IsValid group → AreNamed c there named → ArePlanned c group (Some status) there (flat_map (copies_named group status.value there) named)
+    → IsValid group → AreNamed c there named → ArePlanned c group (Some status) there (flat_map (copies_named group status.value there) named ++ copies_dirty group status.value there)

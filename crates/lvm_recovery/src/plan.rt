@@ -128,7 +128,7 @@ fn push_further(
 {
     let mut first = None;
     for pp in pps {
-        if disks.has(pp.disk) && !table.is_stale(*pp) {
+        if is_usable(*pp, table, disks) {
             match first {
                 None => first = Some(*pp),
                 Some(from) => {
@@ -146,8 +146,16 @@ fn push_further(
     Ok(())
 }
 
+// Whether a copy stands on one of the disks and isn't stale.
+pub fn is_usable(pp: Pp, table: &StaleTable, disks: DiskSet) -> bool
+    requires place { pp.disk < 128 }
+    ensures { result ≡ usable_by table.now (has disks) pp }
+{
+    disks.has(pp.disk) && !table.is_stale(pp)
+}
+
 // Where a block of a volume stands on a copy.
-fn place_on(mib: u16, pp: Pp, block: u64) -> Place
+pub fn place_on(mib: u16, pp: Pp, block: u64) -> Place
     requires size { mib ≤ 1024 }
     requires some_size { 1 ≤ mib }
     ensures { result ≡ place_on mib pp block }

@@ -8,7 +8,7 @@ use Rattle.lvm_operands.specs.declared.rest.Misfit.{Misfit}
 use Rattle.lvm_parse.specs.Grammar.{line_of}
 use Rattle.lvm_core.specs.declared.parts.Room.{Room}
 use Rattle.lvm_session.specs.State.{Core}
-use Rattle.lvm_line.specs.Causes.{IsBroughtBack}
+use Rattle.lvm_line.specs.passed.Varyon.{IsRecovered}
 use Rattle.lvm_line.specs.passed.Quiesce.{Quiesces}
 use Rattle.lvm_line.specs.passed.GroupLines.{Reply, ScriptState}
 use Rattle.lvm_line.specs.passed.RefusalVariants as refusal
@@ -21,7 +21,7 @@ pub record ComesBack (old new : ScriptState) : Type 0 where
   pub on : new.session ≡ Some core
   pub quiet : Device
   pub quiesces : Quiesces old.moment.device quiet
-  pub back : IsBroughtBack quiet new.moment.device core.descriptor
+  pub back : IsRecovered quiet new.moment.device core.descriptor
 
 -- so does a `varyonvg` that is answered `ok`; one that is refused for want of a quorum has written nothing
 abbrev pub RecoversBy : Reply → ScriptState → ScriptState → Type 0

@@ -5,9 +5,10 @@ use Rattle.std.specs.List.{list_any}
 use Rattle.std.proofs.lemmas.Bool.{cases_Bool}
 use Rattle.lvm_num.specs.declared.descriptor.PvRow.{PvRow}
 use Rattle.lvm_num.specs.declared.descriptor.Descriptor.{Descriptor}
+use Rattle.lvm_num.specs.declared.status.Status.{Status}
 use Rattle.lvm_num.specs.Disks.{Disks}
 use Rattle.lvm_num.specs.Note.{Noted}
-use Rattle.lvm_num.specs.Record.{Stamped}
+use Rattle.lvm_num.specs.Record.{Stamped, stamp_lt}
 use Rattle.lvm_num.specs.Votes.{all_disks}
 use Rattle.lvm_disk.specs.Device.{Media, Range, Device, image_of}
 use Rattle.lvm_vol.specs.Facts.{Fact}
@@ -65,7 +66,7 @@ voter_room c disks group f d e =
 
 -- the group that the name chooses has its records, on its members that answer
 abbrev pub HasRecords : Device → Device → List ℕ → ℕ → Homes → Type 0
-HasRecords old new name moment homes = HasWritten old new name moment (λ b copies read. AllWritten b (again_order false) homes read new)
+HasRecords old new name moment homes = HasWritten old new name moment (λ b second copies read. AllWritten b (again_order false) homes read new)
 
 -- they may be written, by what stood on the media
 abbrev pub MayHaveRecords : (old new : Device) (name : List ℕ) (moment : ℕ) (homes : Homes) → HasRecords old new name moment homes → Media → Type 0
@@ -155,6 +156,12 @@ module _ (old new : Device) (name : List ℕ) (moment : ℕ) (homes : Homes) (w 
     stated = λ d present. begun.stated d present;
     last = λ d r e its. status_is_last b false w.group w.next before after begun may.later d r e its;
   }
+
+  pub stated_on : (d : ℕ) → IsTrue (targets d) → after.status d ≡ Some (as_read (states b) w.next)
+  stated_on d target = begun.stated d target
+
+  pub stated_last : (d : ℕ) (r : Stamped Status) → after.status d ≡ Some r → r.value.id ≡ w.group.id → (stamp_lt r.stamp (as_read (states b) w.next).stamp ≡ true) ⊎ (r ≡ as_read (states b) w.next)
+  stated_last d r e its = status_is_last b false w.group w.next before after begun may.later d r e its
 
   -- ---- stamps and slots
 

@@ -18,18 +18,20 @@ use Rattle.lvm_disk.specs.Device.{Media, Image, Flight, Device, IsInFlight, IsCr
 use Rattle.lvm_disk.specs.Steps.{BothTold}
 use Rattle.lvm_kept.specs.Contents.{Contents, contents_of, descriptor_on, status_on, note_sector}
 use Rattle.lvm_kept.specs.Group.{Finds, descriptor_among, has_quorum, is_voter}
-use Rattle.lvm_kept.proofs.PlacesLemmas.{at-same, newest-same}
+use Rattle.lvm_kept.proofs.PlacesLemmas.{at-same, newest-same, room-same}
 use Rattle.lvm_steps.proofs.MakingLemmas.Making.{media_may}
-use Rattle.lvm_varyon.specs.passed.Names.{MayBeFound, Recopy, IsOfCopies, ArePlanned}
+use Rattle.lvm_varyon.specs.passed.Names.{MayBeFound, HoldsCommitted, next_stamp, Recopy, IsOfCopies, ArePlanned}
+use Rattle.lvm_varyon.proofs.passed.Names.{shows_other}
 use Rattle.lvm_kept.specs.Plans.{Plan, ChangesBy}
 use Rattle.lvm_kept.specs.Torn.{IsOfNote}
 use Rattle.lvm_steps.specs.Behind.{StampsBefore, beginning_at, IsBehind}
+use Rattle.lvm_kept.specs.Torn.{IsOutside}
 use Rattle.lvm_steps.specs.Laws.{IsOtherOrEarlier}
 use Rattle.lvm_steps.proofs.LawsLemmas.Writes.{changes_widen, earlier_keep_before, notes_and_data_are_outside}
 use Rattle.lvm_rec.specs.declared.homes.Homes.{Homes}
 use Rattle.lvm_write.specs.Homes.{SparesNewest}
 use Rattle.lvm_write.specs.Written.{KeepsShelf}
-use Rattle.lvm_write.proofs.WrittenLemmas.Writing.{both_from, both_then, changes_then, if_told, told_at}
+use Rattle.lvm_write.proofs.WrittenLemmas.Writing.{both_from, both_map, both_then, changes_then, if_told, told_at}
 use Rattle.lvm_rec.proofs.SlotsLemmas.Next.{slot_for_same}
 
 -- the sector is a note's, or one of data
@@ -68,21 +70,18 @@ pub notes_beside : (targets : Disks) (sector : Sector) (d s : ℕ) (value : Sect
 notes_beside targets sector d s value of = inl of.place
 
 -- what stands on a shelf stays from before a moment
-pub beside_stays_behind : (moment : ℕ) (T : Disks) (P : Plan) (old new : Device) → ((d s : ℕ) (value : Sector) → P d s value → IsBesideSlots d s value) → KeepsShelf T P old new → IsBehind moment old → IsBehind moment new
-beside_stays_behind moment T P old new beside keeps behind = if_told new.media (λ media. StampsBefore (beginning_at moment) (image_of new.sizes media)) (λ is told.
+pub earlier_stays_behind : (moment : ℕ) (T : Disks) (P : Plan) (old new : Device) → ((d s : ℕ) (value : Sector) → P d s value → IsOtherOrEarlier (beginning_at moment) d s value) → KeepsShelf T P old new → IsBehind moment old → IsBehind moment new
+earlier_stays_behind moment T P old new earlier keeps behind = if_told new.media (λ media. StampsBefore (beginning_at moment) (image_of new.sizes media)) (λ is told.
     let from = both_from old.media new.media (λ was now. ChangesBy P (image_of old.sizes was) (image_of new.sizes now)) is keeps.media told in
-    beside_keeps_before (image_of old.sizes from.0) (image_of new.sizes is) (changes_widen P IsBesideSlots (image_of old.sizes from.0) (image_of new.sizes is) beside from.2) (beginning_at moment)
+    earlier_keep_before (beginning_at moment) (image_of old.sizes from.0) (image_of new.sizes is) (changes_widen P (IsOtherOrEarlier (beginning_at moment)) (image_of old.sizes from.0) (image_of new.sizes is) earlier from.2)
     (told_at old.media (λ m. StampsBefore (beginning_at moment) (image_of old.sizes m)) from.0 from.1 behind))
 
--- ---- what is found
+pub beside_stays_behind : (moment : ℕ) (T : Disks) (P : Plan) (old new : Device) → ((d s : ℕ) (value : Sector) → P d s value → IsBesideSlots d s value) → KeepsShelf T P old new → IsBehind moment old → IsBehind moment new
+beside_stays_behind moment T P old new beside keeps behind = earlier_stays_behind moment T P old new (λ d s value its. inl (λ kind. notes_and_data_are_outside kind d s value (beside d s value its))) keeps behind
 
--- of other notes and other data
-finds_other : (c : Contents) (note : ℕ → Option Noted) (block : ℕ → ℕ → Sector) (disks : Disks) (id : ℕ) (k : Descriptor) → Finds (record c { note = note; block = block }) disks id k → Finds c disks id k
-unfolding has_quorum is_voter descriptor_among
-finds_other c note block disks id k f = record { quorum = f.quorum; newest = f.newest; found = f.found; is = f.is }
-
+-- what the disks show is the same but for notes and data
 module _ (old new : Image) (by : ChangesBy IsBesideSlots old new) where
-  same_records : contents_of new ≡ record (contents_of old) { note = (contents_of new).note; block = (contents_of new).block }
+  pub same_records : contents_of new ≡ record (contents_of old) { note = (contents_of new).note; block = (contents_of new).block }
   unfolding descriptor_on status_on
   same_records =
       let disks : new.disks ≡ old.disks = by.same.disks in
@@ -92,33 +91,76 @@ module _ (old new : Image) (by : ChangesBy IsBesideSlots old new) where
       let statuses : (d : ℕ) → status_on new d ≡ status_on old d = λ d. at-same status_of kind.Status old new d by.same (newest-same status_of kind.Status (old.sector d) (new.sector d) (same_slots old new by kind.Status d)) in
       λ t. record { disks = disks t; size = λ d. size d t; descriptor = λ d. descriptors d t; status = λ d. statuses d t; note = (contents_of new).note; block = (contents_of new).block }
 
-  finds_before : (disks : Disks) (id : ℕ) (k : Descriptor) → Finds (contents_of new) disks id k → Finds (contents_of old) disks id k
-  finds_before disks id k f = finds_other (contents_of old) (contents_of new).note (contents_of new).block disks id k (subst (λ (c : Contents). Finds c disks id k) same_records f)
+  -- and they hold what they held
+  pub beside_holds : (group : Descriptor) (status : Status) (there : Disks) (stamp : Stamp) (homes : Homes) → HoldsCommitted old group status there stamp homes → HoldsCommitted new group status there stamp homes
+  beside_holds group status there stamp homes holds = record {
+    shows = (shows_other group status there (contents_of old) (contents_of new) same_records holds.shows).0;
+    stamps = beside_keeps_before old new by (next_stamp stamp) holds.stamps;
+    there = λ d is. room-same old new by.same d ∙ holds.there d is;
+    homes = λ d is. beside_spares old new by homes d (holds.homes d is);
+  }
 
--- So what may be found of a shelf on which nothing is out may be found before changes beside the slots.
-pub beside_found : (old new : Device) → BothTold old.media new.media (λ was is. ChangesBy IsBesideSlots (image_of old.sizes was) (image_of new.sizes is)) → new.flights ≡ [] → (id : ℕ) (k : Descriptor) → MayBeFound new id k → MayBeFound old id k
+-- ---- what is found
+
+-- the sector isn't one of a descriptor's slots
+abbrev pub IsBesideDescriptors : Plan
+IsBesideDescriptors d s value = IsOutside kind.Descriptor d s value
+
+pub beside_both : (d s : ℕ) (value : Sector) → IsBesideSlots d s value → IsBesideDescriptors d s value
+beside_both d s value beside = notes_and_data_are_outside kind.Descriptor d s value beside
+
+in_no_descriptor : (slot s : ℕ) → slot < 2 → slot_start kind.Descriptor slot ≤ s → s < slot_start kind.Descriptor slot + slot_size kind.Descriptor → (d : ℕ) (value : Sector) → IsBesideDescriptors d s value → ⊥
+in_no_descriptor slot s two low high d value (inl below) = omega (arith, two, low, high, below)
+in_no_descriptor slot s two low high d value (inr above) = omega (arith, two, low, high, above)
+
+-- of other statuses, other notes and other data
+finds_other : (c : Contents) (status : ℕ → Option (Stamped Status)) (note : ℕ → Option Noted) (block : ℕ → ℕ → Sector) (disks : Disks) (id : ℕ) (k : Descriptor) → Finds (record c { status = status; note = note; block = block }) disks id k → Finds c disks id k
+unfolding has_quorum is_voter descriptor_among
+finds_other c status note block disks id k f = record { quorum = f.quorum; newest = f.newest; found = f.found; is = f.is }
+
+module _ (old new : Image) (by : ChangesBy IsBesideDescriptors old new) where
+  same_descriptors : contents_of new ≡ record (contents_of old) { status = (contents_of new).status; note = (contents_of new).note; block = (contents_of new).block }
+  unfolding descriptor_on
+  same_descriptors =
+      let disks : new.disks ≡ old.disks = by.same.disks in
+      let size : (d : ℕ) → new.size d ≡ old.size d = by.same.size in
+      let descriptors : (d : ℕ) → descriptor_on new d ≡ descriptor_on old d = λ d. at-same descriptor_of kind.Descriptor old new d by.same
+      (newest-same descriptor_of kind.Descriptor (old.sector d) (new.sector d)
+      (λ slot s two low high. ⊎_elim (λ same. same) (λ (beside : IsBesideDescriptors d s (new.sector d s)). absurd (in_no_descriptor slot s two low high d (new.sector d s) beside)) (by.each d s))) in
+      λ t. record { disks = disks t; size = λ d. size d t; descriptor = λ d. descriptors d t; status = (contents_of new).status; note = (contents_of new).note; block = (contents_of new).block }
+
+  finds_before : (disks : Disks) (id : ℕ) (k : Descriptor) → Finds (contents_of new) disks id k → Finds (contents_of old) disks id k
+  finds_before disks id k f = finds_other (contents_of old) (contents_of new).status (contents_of new).note (contents_of new).block disks id k (subst (λ (c : Contents). Finds c disks id k) same_descriptors f)
+
+-- So what may be found of a shelf on which nothing is out may be found before changes beside the slots of descriptors.
+pub beside_found : (old new : Device) → BothTold old.media new.media (λ was is. ChangesBy IsBesideDescriptors (image_of old.sizes was) (image_of new.sizes is)) → new.flights ≡ [] → (id : ℕ) (k : Descriptor) → MayBeFound new id k → MayBeFound old id k
 beside_found old new both still id k (image, left, found) = go old.media new.media refl both left
   where
-    go : (o n : Option Media) → old.media ≡ o → BothTold o n (λ was is. ChangesBy IsBesideSlots (image_of old.sizes was) (image_of new.sizes is)) → IsSomeAnd n (λ m. IsCrashImage (image_of new.sizes m) new.flights image) → MayBeFound old id k
+    go : (o n : Option Media) → old.media ≡ o → BothTold o n (λ was is. ChangesBy IsBesideDescriptors (image_of old.sizes was) (image_of new.sizes is)) → IsSomeAnd n (λ m. IsCrashImage (image_of new.sizes m) new.flights image) → MayBeFound old id k
     go None None told by may = absurd may
     go None (Some n) told by may = absurd by
     go (Some m) None told by may = absurd may
     go (Some m) (Some n) told by may =
-        let by_image : ChangesBy IsBesideSlots (image_of old.sizes m) image = record {
+        let by_image : ChangesBy IsBesideDescriptors (image_of old.sizes m) image = record {
           same = record { disks = may.same.disks ∙ by.same.disks; size = λ d. may.same.size d ∙ by.same.size d };
           each = λ d s. ⊎_elim
-              (λ (is : image.sector d s ≡ n d s). ⊎_elim (λ same. inl (is ∙ same)) (λ (beside : IsBesideSlots d s (n d s)). inr (subst (IsBesideSlots d s) (sym is) beside)) (by.each d s))
+              (λ (is : image.sector d s ≡ n d s). ⊎_elim (λ same. inl (is ∙ same)) (λ (beside : IsBesideDescriptors d s (n d s)). inr (subst (IsBesideDescriptors d s) (sym is) beside)) (by.each d s))
               (λ flying. absurd (subst (λ (l : List Flight). IsInFlight l d s (image.sector d s)) still flying))
               (may.each d s);
         } in
         (image_of old.sizes m, media_may old m told, (found.0, finds_before (image_of old.sizes m) image by_image found.0 id k found.1))
 
--- the copies and the emptying of notes are such changes
-pub both_beside : (old mid new : Device) (T U : Disks) (P Q : Plan) → ((d s : ℕ) (value : Sector) → P d s value → IsBesideSlots d s value) → ((d s : ℕ) (value : Sector) → Q d s value → IsBesideSlots d s value)
-    → KeepsShelf T P old mid → KeepsShelf U Q mid new → BothTold old.media new.media (λ was is. ChangesBy IsBesideSlots (image_of old.sizes was) (image_of new.sizes is))
-both_beside old mid new T U P Q of_first of_then first then_ = both_then old.media mid.media new.media
-    (λ was is. ChangesBy P (image_of old.sizes was) (image_of mid.sizes is))
-    (λ was is. ChangesBy Q (image_of mid.sizes was) (image_of new.sizes is))
-    (λ was is. ChangesBy IsBesideSlots (image_of old.sizes was) (image_of new.sizes is))
-    (λ a b c one two. changes_then IsBesideSlots (image_of old.sizes a) (image_of mid.sizes b) (image_of new.sizes c) (changes_widen P IsBesideSlots (image_of old.sizes a) (image_of mid.sizes b) of_first one) (changes_widen Q IsBesideSlots (image_of mid.sizes b) (image_of new.sizes c) of_then two))
-    first.media then_.media
+-- two such changes are one
+pub wider_told : (old new : Device) (T : Disks) (P : Plan) → ((d s : ℕ) (value : Sector) → P d s value → IsBesideDescriptors d s value) → KeepsShelf T P old new
+    → BothTold old.media new.media (λ was is. ChangesBy IsBesideDescriptors (image_of old.sizes was) (image_of new.sizes is))
+wider_told old new T P wider keeps = both_map old.media new.media (λ was is. ChangesBy P (image_of old.sizes was) (image_of new.sizes is)) (λ was is. ChangesBy IsBesideDescriptors (image_of old.sizes was) (image_of new.sizes is)) keeps.media
+    (λ a b was is by. changes_widen P IsBesideDescriptors (image_of old.sizes a) (image_of new.sizes b) wider by)
+
+pub beside_then : (old mid new : Device) → BothTold old.media mid.media (λ was is. ChangesBy IsBesideDescriptors (image_of old.sizes was) (image_of mid.sizes is))
+    → BothTold mid.media new.media (λ was is. ChangesBy IsBesideDescriptors (image_of mid.sizes was) (image_of new.sizes is)) → BothTold old.media new.media (λ was is. ChangesBy IsBesideDescriptors (image_of old.sizes was) (image_of new.sizes is))
+beside_then old mid new first last = both_then old.media mid.media new.media
+    (λ was is. ChangesBy IsBesideDescriptors (image_of old.sizes was) (image_of mid.sizes is))
+    (λ was is. ChangesBy IsBesideDescriptors (image_of mid.sizes was) (image_of new.sizes is))
+    (λ was is. ChangesBy IsBesideDescriptors (image_of old.sizes was) (image_of new.sizes is))
+    (λ a b c one two. changes_then IsBesideDescriptors (image_of old.sizes a) (image_of mid.sizes b) (image_of new.sizes c) one two)
+    first last

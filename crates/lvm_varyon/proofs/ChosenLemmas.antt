@@ -25,6 +25,8 @@ use Rattle.lvm_recovery.specs.Plan.{ArePlannedInOrder}
 use Rattle.lvm_recovery.specs.Planned.{ArePlanned}
 use Rattle.lvm_varyon.specs.declared.plan.Plan.{Plan}
 use Rattle.lvm_varyon.specs.Chosen.{Holds, IsClockBehindGroup}
+use Rattle.lvm_varyon.specs.Copied.{all_copies}
+use Rattle.lvm_varyon.specs.Second.{first_stated, IsSecond}
 use Rattle.lvm_varyon.specs.Planned.{IsPlanFor, IsPlan}
 
 -- a status that is found is valid
@@ -72,12 +74,16 @@ module _ (s : Survey) (name : List ℕ) (choice : Choice) (is : IsChosenGroup (s
     chosen = record { holds = holds; seen = choice.seen; greatest = greatest; later = later; early = early };
     targets = λ d. ap (λ (n : ℕ). has n d) by.targets ∙ is.answering d ∙ ap (λ (n : ℕ). is_voter (surveyed s) all_disks n d) own_id;
     next_is = subst (λ (n : ℕ). IsNextStatus choice.descriptor (has n) is.status by.next) (sym by.targets) was_by;
+    clean = by.clean;
+    clean_is = subst (λ (n : ℕ). IsSecond choice.descriptor (has n) (first_stated moment by.next) by.clean) (sym by.targets) (by.clean_is (record { epoch = moment; seq = 2 }));
+    clean_valid = by.clean_valid;
     descriptor = by.descriptor;
     status = by.status;
-    copies = subst (λ (n : ℕ). ArePlanned (surveyed s) choice.descriptor (Some is.status) (has n) plan.copies) (sym by.targets)
-        (subst (λ (w : Stamped Status). ArePlanned (surveyed s) choice.descriptor (Some w) (has choice.answering) plan.copies) was_is (by.copies is.status.stamp));
-    order = subst (λ (n : ℕ). ArePlannedInOrder (surveyed s) choice.descriptor is.status.value (has n) plan.copies) (sym by.targets)
-        (subst (λ (v : Status). ArePlannedInOrder (surveyed s) choice.descriptor v (has choice.answering) plan.copies) is.newest by.order);
+    second = by.second;
+    copies = subst (λ (n : ℕ). ArePlanned (surveyed s) choice.descriptor (Some is.status) (has n) (all_copies plan)) (sym by.targets)
+        (subst (λ (w : Stamped Status). ArePlanned (surveyed s) choice.descriptor (Some w) (has choice.answering) (all_copies plan)) was_is (by.copies is.status.stamp));
+    order = subst (λ (n : ℕ). ArePlannedInOrder (surveyed s) choice.descriptor is.status.value (has n) (all_copies plan)) (sym by.targets)
+        (subst (λ (v : Status). ArePlannedInOrder (surveyed s) choice.descriptor v (has choice.answering) (all_copies plan)) is.newest by.order);
     homes = subst (SpareNewest s) (sym by.same_homes) spare;
     parts = by.parts;
   }

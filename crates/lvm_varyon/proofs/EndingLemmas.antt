@@ -21,6 +21,8 @@ use Rattle.lvm_quorum.specs.declared.row.Survey.{Survey}
 use Rattle.lvm_quorum.specs.Surveyed.{surveyed}
 use Rattle.lvm_status.specs.Update.{Updates}
 use Rattle.lvm_varyon.specs.passed.Names.{Room, IsPlaced, ArePlaced, HaveSectors}
+use Rattle.lvm_varyon.specs.Second.{status_after}
+use Rattle.lvm_varyon.proofs.SecondLemmas.{same_missing}
 use Rattle.lvm_varyon.specs.declared.plan.Plan.{Plan}
 use Rattle.lvm_varyon.specs.Planned.{IsPlan}
 use Rattle.lvm_varyon.specs.Parts.{IsSurveyOf}
@@ -91,7 +93,8 @@ module _ (old read : Device) (survey : Survey) (is : IsSurveyOf old read survey)
 
   pub placed : (new : Device) → new.sizes ≡ old.sizes → ArePlaced new.sizes plan.parts.descriptor plan.parts.updater.wanted
   placed new same =
-      let wanted : plan.parts.updater.wanted ≡ by.next = ap (λ (u : Updates). u.wanted) by.parts.status in
+      let wanted : plan.parts.updater.wanted ≡ status_after by.next by.clean = ap (λ (u : Updates). u.wanted) by.parts.status in
       subst (λ (sizes : List ℕ). ArePlaced sizes plan.parts.descriptor plan.parts.updater.wanted) (sym same)
       (subst (λ (d : Descriptor). ArePlaced old.sizes d plan.parts.updater.wanted) (sym by.parts.descriptor)
-      (subst (λ (s : Status). ArePlaced old.sizes by.group s) (sym wanted) place))
+      (subst (λ (s : Status). ArePlaced old.sizes by.group s) (sym wanted)
+      (λ row there present. place row there (sym (same_missing by.group (has plan.targets) moment by.next by.clean by.clean_is row.disk) ∙ present))))

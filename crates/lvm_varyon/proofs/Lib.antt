@@ -6,6 +6,7 @@ pub mod RecordLemmas
 pub mod Beginning
 pub mod EndingLemmas
 pub mod After
+pub mod SecondLemmas
 pub mod Beside
 pub mod Equalled
 pub mod RecoveredLemmas
@@ -13,4 +14,5 @@ pub mod VariedLemmas
 pub mod EqualLemmas
 pub mod PathsLemmas
 pub mod SettlingLemmas
+pub mod PlannedLemmas
 pub mod ChosenLemmas

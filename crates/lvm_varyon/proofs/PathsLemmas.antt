@@ -1,7 +1,8 @@
 -- The crash images of the reading and of the writes.
-use Rattle.std.proofs.Common.{◌≡◌, ◌≢◌, ℕ, false, List, Some, sym, subst, ◌∙◌}
-use Rattle.std.specs.Prelude.{IfSome}
+use Rattle.std.proofs.Common.{◌≡◌, ◌≢◌, ℕ, false, List, Option, Some, sym, subst, ◌∙◌}
+use Rattle.std.specs.Prelude.{IfSome, option_map}
 use Rattle.lvm_num.specs.Disks.{Disks, has}
+use Rattle.lvm_num.specs.StatusBytes.{status_bytes}
 use Rattle.lvm_disk.specs.Device.{Device, image_of, HasSectors}
 use Rattle.lvm_disk.specs.Images.{LeavesNoMore}
 use Rattle.lvm_disk.specs.Paths.{DeviceStep, Path}
@@ -10,7 +11,7 @@ use Rattle.lvm_vol.specs.Facts.{Fact}
 use Rattle.lvm_steps.specs.Moments.{ImagesKept, StaysKept}
 use Rattle.lvm_steps.proofs.MomentsLemmas.Spans.{fewer_stay_kept}
 use Rattle.lvm_quorum.specs.declared.row.Survey.{Survey}
-use Rattle.lvm_varyon.specs.passed.Names.{Room, MayEqualise}
+use Rattle.lvm_varyon.specs.passed.Names.{Room, MayEqualiseBy}
 use Rattle.lvm_rec.specs.declared.homes.Homes.{Homes}
 use Rattle.lvm_kept.specs.Plans.{ChangesBy}
 use Rattle.lvm_write.proofs.WrittenLemmas.Writing.{both_from, if_told}
@@ -20,12 +21,13 @@ use Rattle.lvm_varyon.specs.declared.plan.Plan.{Plan}
 use Rattle.lvm_varyon.specs.Planned.{IsPlan}
 use Rattle.lvm_varyon.specs.Parts.{IsSurveyOf}
 use Rattle.lvm_varyon.specs.Varied.{IsAheadOfDisks}
+use Rattle.lvm_varyon.specs.Copied.{all_copies}
 use Rattle.lvm_varyon.specs.Equal.{AllWritesKeep}
 use Rattle.lvm_varyon.specs.Writing.{beginning, AllWritten}
 use Rattle.lvm_varyon.proofs.FoundLemmas.Seeing.{answered_by}
 use Rattle.lvm_varyon.proofs.Beginning.{may_begin}
 use Rattle.lvm_varyon.proofs.VariedLemmas.Bringing.{has_written, may_have, targets_are}
-use Rattle.lvm_varyon.proofs.Equalled.{may_equalise}
+use Rattle.lvm_varyon.proofs.Equalled.{may_equalise_by}
 
 pub reading_kept : (old new : Device) → Path DeviceStep (LeavesNoMore old) old new → Path DeviceStep (StaysKept old) old new
 reading_kept old new path = map-path (StaysKept old) (λ d leaves. fewer_stay_kept old d leaves) path
@@ -37,15 +39,16 @@ module _ (old read : Device) (survey : Survey) (is : IsSurveyOf old read survey)
   module _ (whole : HasSectors old) (ahead : IsAheadOfDisks moment old) where
     -- once the records stand, the copies may be made
     may_equal : (homes : Homes) (restated : Device) → AllWritten (again_beginning moment plan.descriptor plan.status (has plan.targets) plan.homes) (again_order false) homes read restated
-        → IfSome restated.media (λ media. (facts : List Fact) → ImagesKept restated facts → MayEqualise plan.copies (has plan.targets) by.group by.next (has plan.targets) restated)
-    may_equal homes restated well = if_told restated.media (λ media. (facts : List Fact) → ImagesKept restated facts → MayEqualise plan.copies (has plan.targets) by.group by.next (has plan.targets) restated) (λ now told_now facts kept.
+        → IfSome restated.media (λ media. (facts : List Fact) → ImagesKept restated facts → MayEqualiseBy (all_copies plan) plan.second moment (has plan.targets) homes by.group by.next (has plan.targets) restated)
+    may_equal homes restated well = if_told restated.media (λ media. (facts : List Fact) → ImagesKept restated facts → MayEqualiseBy (all_copies plan) plan.second moment (has plan.targets) homes by.group by.next (has plan.targets) restated) (λ now told_now facts kept.
         let from = both_from read.media restated.media (λ was is. ChangesBy (IsOfParts (again_beginning moment plan.descriptor plan.status (has plan.targets) plan.homes) (again_order false)) (image_of read.sizes was) (image_of restated.sizes is)) now well.keeps.media told_now in
         let told : old.media ≡ Some from.0 = sym is.unwritten.media ∙ from.1 in
-        subst (λ (t : Disks). MayEqualise plan.copies t by.group by.next t restated) (sym (targets_are old read survey is name moment some room plan by))
-        (may_equalise old restated name moment homes (has_written old read survey is name moment some room plan by restated well.keeps.misses (λ b copies r. AllWritten b (again_order false) homes r restated) well)
-        from.0 now told told_now (may_have old read survey is name moment some room plan by whole ahead from.0 told) by.valid facts kept))
+        subst (λ (o : Option (List ℕ)). MayEqualiseBy (all_copies plan) o moment (has plan.targets) homes by.group by.next (has plan.targets) restated) (sym by.second)
+        (subst (λ (t : Disks). MayEqualiseBy (all_copies plan) (option_map status_bytes by.clean) moment t homes by.group by.next t restated) (sym (targets_are old read survey is name moment some room plan by))
+        (may_equalise_by old restated name moment homes (has_written old read survey is name moment some room plan by restated well.keeps.misses (λ b second copies r. AllWritten b (again_order false) homes r restated) well)
+        from.0 now told told_now (may_have old read survey is name moment some room plan by whole ahead from.0 told) by.valid (ahead by.chosen.early) facts kept)))
 
-    pub writing_kept : (new : Device) → AllWritesKeep (again_beginning moment plan.descriptor plan.status (has plan.targets) plan.homes) plan.copies read new
+    pub writing_kept : (new : Device) → AllWritesKeep (again_beginning moment plan.descriptor plan.status (has plan.targets) plan.homes) (all_copies plan) plan.second read new
         → Path DeviceStep (LeavesNoMore old) old read → Path DeviceStep (StaysKept old) old new
     writing_kept new writes reads = kept_then old read new (reading_kept old read reads) (writes by.group by.next (answered_by survey) by.was
         (if_told read.media (λ media. MayBeginAgain (again_beginning moment plan.descriptor plan.status (has plan.targets) plan.homes) false by.group by.next (answered_by survey) by.was (image_of read.sizes media))

@@ -37,15 +37,15 @@ isnt true a member none = none
 isnt false a member none = absurd cc
 
 module _ (group : Descriptor) (answering : Disks) (was : Stamped Status) (next : Status) (u : Stored) (valid : IsValid group) (is : IsNextStatus group answering was next)
-    (of : u.group ≡ record group { lvs = [] }) (wants : u.wanted ≡ next) where
+    (of : u.group ≡ record group { lvs = [] }) (same_stale : (p : Pp) → calls_stale u.wanted p ≡ calls_stale next p) (same_missing : (d : ℕ) → calls_missing u.wanted d ≡ calls_missing next d) where
   here : (d : ℕ) → there u d ≡ is_member group d && answering d
-  here d = (λ t. is_member (of t) d && not (calls_missing (wants t) d)) ∙ ap (λ (b : Bool). is_member group d && not b) (is.missing d) ∙ answers (is_member group d) (answering d)
+  here d = (λ t. is_member (of t) d && not (same_missing d t)) ∙ ap (λ (b : Bool). is_member group d && not b) (is.missing d) ∙ answers (is_member group d) (answering d)
 
   -- a copy that serves now served by the status that was found
   served_then : (q : Pp) → IsTrue (is_member group q.disk) → IsTrue (there u q.disk && not (calls_stale u.wanted q)) → IsTrue (answering q.disk && not (calls_stale was.value q))
   served_then q member serves =
       let on : IsTrue (is_member group q.disk && answering q.disk) = sym (here q.disk) ∙ first (there u q.disk) (not (calls_stale u.wanted q)) serves in
-      let fresh : IsTrue (not (calls_stale next q)) = ap (λ (s : Status). not (calls_stale s q)) (sym wants) ∙ second (there u q.disk) (not (calls_stale u.wanted q)) serves in
+      let fresh : IsTrue (not (calls_stale next q)) = ap not (sym (same_stale q)) ∙ second (there u q.disk) (not (calls_stale u.wanted q)) serves in
       join (answering q.disk) (not (calls_stale was.value q)) (second (is_member group q.disk) (answering q.disk) on) (⊎_elim
       (λ (stale : IsTrue (calls_stale was.value q)). absurd (clash (not (calls_stale next q)) fresh (ap not ((is.stale q member).1 (inl stale)))))
       (λ (still : IsFalse (calls_stale was.value q)). ap not still)
@@ -64,4 +64,4 @@ module _ (group : Descriptor) (answering : Disks) (was : Stamped Status) (next :
         other = some_passes (λ (q : Pp). there u q.disk && not (calls_stale u.wanted q)) (λ (q : Pp). answering q.disk && not (calls_stale was.value q)) (copies_of left.row left.left.lp)
             (λ q one. served_then q (is_member_of group q (copy_is_placed group valid left.row left.left.lp q left.volume one))) left.left.left.served;
       } in
-      ap (λ (s : Status). calls_stale s p) wants ∙ (is.stale p member).1 (inr behind)
+      same_stale p ∙ (is.stale p member).1 (inr behind)

@@ -1,6 +1,8 @@
 pub mod passed
 pub mod Found
 pub mod Writing
+pub mod Second
+pub mod Copied
 pub mod Restated
 pub mod Varied
 pub mod Parts

@@ -1,31 +1,33 @@
 -- How a varyon ends.
-use Rattle.std.specs.Prelude.{◌≡◌, ◌⊎◌, ◌<◌, ◌≤◌, false, ℕ, List, [], Some, IsTrue, Result, Ok, Err, IfOk}
+use Rattle.std.specs.Prelude.{◌≡◌, ◌⊎◌, ◌<◌, ◌≤◌, false, ℕ, List, [], Option, Some, option_map, IsTrue, Result, Ok, Err, IfOk, IfSome}
 use Rattle.lvm_num.specs.declared.record.Stamp.{Stamp}
 use Rattle.lvm_num.specs.declared.descriptor.Descriptor.{Descriptor}
 use Rattle.lvm_num.specs.declared.status.Status.{Status}
 use Rattle.lvm_num.specs.Disks.{Disks}
 use Rattle.lvm_num.specs.Descriptor.{IsValid}
 use Rattle.lvm_num.specs.Record.{Stamped, last_moment}
+use Rattle.lvm_num.specs.Status.{IsValidStatus}
+use Rattle.lvm_num.specs.StatusBytes.{status_bytes}
 use Rattle.lvm_disk.specs.Device.{Media, Device, image_of}
 use Rattle.lvm_vol.specs.Log.{Log, spare_entries, cut_log}
 use Rattle.lvm_kept.specs.Contents.{Contents, contents_of}
 use Rattle.lvm_kept.specs.Recovered.{Recovered}
 use Rattle.lvm_steps.specs.Behind.{ClockIsAhead, IsBehind}
 use Rattle.lvm_rec.specs.declared.homes.Homes.{Homes}
-use Rattle.lvm_varyon.specs.passed.Names.{HasNoRecord, HasRecord, IsAmbiguous, LacksQuorum, Room, Cause, Refused, Parts, IsReservedFor, ArePlaced, first_core, Core, HasNoPassive, Recopy, ArePlannedInOrder, ArePlanned}
+use Rattle.lvm_varyon.specs.passed.Names.{HasNoRecord, HasRecord, IsAmbiguous, LacksQuorum, Room, Cause, Refused, Parts, IsReservedFor, ArePlaced, first_core, Core, Recopy, ArePlannedInOrder, ArePlanned}
 use Rattle.lvm_transfer.specs.Reading.{IsUnwritten, IsRested, IsCutOff}
 use Rattle.lvm_varyon.specs.passed.CoreRefusedCause as cause
 use Rattle.lvm_write.specs.Beginning.{Beginning, MayBeginAgain}
 use Rattle.lvm_varyon.specs.Found.{Found, HaveAnswered}
 use Rattle.lvm_write.specs.Next.{IsNextStatus}
 use Rattle.lvm_varyon.specs.Chosen.{answering, MayComeOn, IsClockBehindGroup}
-use Rattle.lvm_write.specs.Restated.{Restated}
+use Rattle.lvm_varyon.specs.Second.{first_stated, IsSecond, status_after, last_seq, last_stamp}
 use Rattle.lvm_varyon.specs.Writing.{beginning, Writes, IsStillOut}
 use Rattle.lvm_varyon.specs.Equal.{IsEqualled, OneFailed, BrokeOff}
 use Rattle.lvm_varyon.specs.Restated.{WhereTold}
 
 -- The group that the name chooses may come on, and this was written to its members that answer, with its next status.
-pub record HasWritten (old new : Device) (name : List ℕ) (moment : ℕ) (How : Beginning → List Recopy → Device → Type 0) : Type 0 where
+pub record HasWritten (old new : Device) (name : List ℕ) (moment : ℕ) (How : Beginning → Option (List ℕ) → List Recopy → Device → Type 0) : Type 0 where
   pub found : Found old new
   pub group : Descriptor
   pub was : Stamped Status
@@ -34,35 +36,30 @@ pub record HasWritten (old new : Device) (name : List ℕ) (moment : ℕ) (How :
   -- its members that answer are disks that did
   pub answered : (d : ℕ) → IsTrue (answering found.shown group d) → IsTrue (found.answered d)
   pub next_is : IsNextStatus group (answering found.shown group) was next
-  -- the copies of track groups that their notes name
+  -- the second status, where marks go once the copies are equal
+  pub clean : Option Status
+  pub clean_is : IsSecond group (answering found.shown group) (first_stated moment next) clean
+  pub clean_valid : IfSome clean IsValidStatus
+  -- the copies of track groups that their notes name, and of volumes that are dirty
   pub copies : List Recopy
   pub planned : ArePlanned found.shown group (Some was) (answering found.shown group) copies
   pub order : ArePlannedInOrder found.shown group was.value (answering found.shown group) copies
-  pub writes : Writes old moment group next (answering found.shown group) (λ b read. How b copies read)
-
--- the stamp of the last record that a varyon writes
-abbrev pub last_stamp : ℕ → Stamp
-last_stamp moment = record { epoch = moment; seq = 2 }
+  pub writes : Writes old moment group next (answering found.shown group) (λ b read. How b (option_map status_bytes clean) copies read)
 
 -- it is the session that begins with this group and this status
-pub record IsFirst (group : Descriptor) (next : Status) (log : Log) (moment : ℕ) (room : Room) (core : Core) : Type 0 where
+pub record IsFirst (group : Descriptor) (status : Status) (log : Log) (stamp : Stamp) (room : Room) (core : Core) : Type 0 where
   pub parts : Parts
-  pub reserved : IsReservedFor group next room parts
-  pub is : core ≡ first_core parts log (last_stamp moment) core.homes core.origin.faults
+  pub reserved : IsReservedFor group status room parts
+  pub is : core ≡ first_core parts log stamp core.homes core.origin.faults
 
--- The group that the name chooses is on: its records stand, its named track groups were copied and its notes emptied, and its session begins with them.
+-- The group that the name chooses is on: its records stand, its named track groups and dirty volumes were copied, the marks went that aren't needed and its notes were emptied; and its
+-- session begins with the last status.
 pub record ComesOn (old new : Device) (log : Log) (name : List ℕ) (moment : ℕ) (room : Room) (core : Core) : Type 0 where
   pub spare : 1 ≤ spare_entries log
-  pub written : HasWritten old new name moment (λ b copies read. IsEqualled b core.homes copies read new)
-  pub first : IsFirst written.group written.next log moment room core
+  pub written : HasWritten old new name moment (λ b second copies read. IsEqualled b second core.homes copies read new)
+  pub first : IsFirst written.group (status_after written.next written.clean) log (last_stamp moment written.clean) room core
 
--- What the disks then show, where that is told and the clock's moments rise.
-pub record IsRestated (old new : Device) (group : Descriptor) : Type 0 where
-  pub disks : Disks
-  pub answered : HaveAnswered old new disks
-  pub shows : (was is : Media) → old.media ≡ Some was → new.media ≡ Some is → Restated (contents_of (image_of old.sizes was)) (contents_of (image_of new.sizes is)) disks group
-
--- A group without volumes in mode passive is recovered, by the disks that answered.
+-- The group is recovered, by the disks that answered, where what they show is told and the clock's moments rise.
 pub record IsRecovered (old new : Device) (group : Descriptor) : Type 0 where
   pub disks : Disks
   pub answered : HaveAnswered old new disks
@@ -82,7 +79,7 @@ pub record AtChoice (old new : Device) (Why : Contents → Type 0) : Type 0 wher
 -- it stopped while the shelf was read or behind that, while this was written
 pub record WasStopped (old new : Device) (name : List ℕ) (moment : ℕ) (How : Type 0) : Type 0 where
   pub how : How
-  pub when : IsUnwritten old new ⊎ HasWritten old new name moment (λ b copies read. BrokeOff b copies read new)
+  pub when : IsUnwritten old new ⊎ HasWritten old new name moment (λ b second copies read. BrokeOff b second copies read new)
 
 module _ (old new : Device) (name : List ℕ) (moment patience : ℕ) where
   -- Why no group came on where the history has room: each refusal where it holds and those before it don't; want of memory is free. The others are of other commands.
@@ -91,7 +88,7 @@ module _ (old new : Device) (name : List ℕ) (moment patience : ℕ) where
   VaryonStops cause.Ambiguous = AtChoice old new (λ c. HasRecord c name × IsAmbiguous c name)
   VaryonStops (cause.NoQuorum have total) = AtChoice old new (λ c. LacksQuorum c name have total)
   VaryonStops (cause.ClockBack seen) = AtChoice old new (λ c. IsClockBehindGroup c name moment seen)
-  VaryonStops (cause.DiskFailed disk) = HasWritten old new name moment (λ b copies read. OneFailed b copies disk read new)
+  VaryonStops (cause.DiskFailed disk) = HasWritten old new name moment (λ b second copies read. OneFailed b second copies disk read new)
   VaryonStops cause.Dark = WasStopped old new name moment (IsCutOff old new)
   VaryonStops cause.Stuck = WasStopped old new name moment (IsStillOut patience old new)
   VaryonStops cause.Memory = IsUnwritten old new × IsRested old new
@@ -112,11 +109,10 @@ abbrev pub VaryonGives : {S : Type 0} → (S → Device) → Device → Log → 
 VaryonGives device old log name moment room patience (Ok driver) = ComesOn old (device driver.0) log name moment room driver.1
 VaryonGives device old log name moment room patience (Err refused) = VaryonRefuses old (device refused.shelf) name moment patience log refused.cause × (refused.history ≡ log_after refused.cause log)
 
--- So it is, and where the clock's moments rise the disks show what the session says: the group is restated, and without volumes in mode passive recovered.
+-- So it is, and where the clock's moments rise the group is recovered.
 pub record VariesOnAt {S : Type 0} (device : S → Device) (log : Log) (name : List ℕ) (moment : ℕ) (room : Room) (patience : ℕ) (old : Device) (outcome : Result (S × Core) (Refused S)) : Type 0 where
   pub gives : VaryonGives device old log name moment room patience outcome
-  pub restated : IfOk outcome (λ driver. ClockIsAhead log.run moment old log.facts → IsRestated old (device driver.0) driver.1.descriptor)
-  pub recovered : IfOk outcome (λ driver. ClockIsAhead log.run moment old log.facts → HasNoPassive driver.1.descriptor → IsRecovered old (device driver.0) driver.1.descriptor)
+  pub recovered : IfOk outcome (λ driver. ClockIsAhead log.run moment old log.facts → IsRecovered old (device driver.0) driver.1.descriptor)
 
 -- ---- before the session
 
@@ -124,18 +120,19 @@ pub record VariesOnAt {S : Type 0} (device : S → Device) (log : Log) (name : L
 abbrev pub IsAheadOfDisks : ℕ → Device → Type 0
 IsAheadOfDisks moment device = moment < last_moment → IsBehind moment device
 
--- The group that the name chooses has its records, and these are the parts of its session.
-pub record IsBrought (old new : Device) (name : List ℕ) (moment : ℕ) (room : Room) (parts : Parts) (homes : Homes) : Type 0 where
-  pub written : HasWritten old new name moment (λ b copies read. IsEqualled b homes copies read new)
+-- The group that the name chooses has its records, and these are the parts of its session and the sequence of its last record.
+pub record IsBrought (old new : Device) (name : List ℕ) (moment : ℕ) (room : Room) (parts : Parts) (seq : ℕ) (homes : Homes) : Type 0 where
+  pub written : HasWritten old new name moment (λ b second copies read. IsEqualled b second homes copies read new)
   pub valid : IsValid written.group
-  pub reserved : IsReservedFor written.group written.next room parts
+  pub seq_is : seq ≡ last_seq written.clean
+  pub reserved : IsReservedFor written.group (status_after written.next written.clean) room parts
   pub placed : ArePlaced new.sizes parts.descriptor parts.updater.wanted
   -- by the choice and the clock
   pub may : IsAheadOfDisks moment old → (media : Media) → old.media ≡ Some media
       → MayBeginAgain (beginning moment written.group written.next (answering written.found.shown written.group) written.writes.homes) false written.group written.next written.found.answered written.was (image_of old.sizes media)
 
-abbrev pub BringGives : Device → Device → List ℕ → ℕ → ℕ → Room → Result (Parts × Homes) Cause → Type 0
-BringGives old new name moment patience room (Ok got) = IsBrought old new name moment room got.0 got.1
+abbrev pub BringGives : Device → Device → List ℕ → ℕ → ℕ → Room → Result ((Parts × ℕ) × Homes) Cause → Type 0
+BringGives old new name moment patience room (Ok got) = IsBrought old new name moment room got.0.0 got.0.1 got.1
 BringGives old new name moment patience room (Err why) = VaryonStops old new name moment patience why
 
 -- what the session of these parts begins with, where its records were written

@@ -7,5 +7,5 @@ mod plan;
 mod vary;
 mod writes;
 
-pub use plan::{Plan, plan_of};
+pub use plan::{Copying, Plan, plan_of};
 pub use vary::varyon;

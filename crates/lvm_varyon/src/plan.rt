@@ -1,23 +1,20 @@
 //! What a varyon writes, by what the disks show.
-ghost use Rattle.std.specs.Prelude.{◌≡◌, Some, IfOk};
-ghost use Rattle.lvm_num.specs.declared.record.Stamp.{Stamp};
-ghost use Rattle.lvm_num.specs.Disks.{has};
-ghost use Rattle.lvm_quorum.specs.Surveyed.{surveyed, IsSurveyValid};
-ghost use Rattle.lvm_recovery.specs.Plan.{ArePlannedInOrder};
-ghost use Rattle.lvm_recovery.specs.Planned.{ArePlanned};
+ghost use Rattle.std.specs.Prelude.{◌≡◌, if◌then◌else◌, None, Some, IfOk};
+ghost use Rattle.lvm_num.specs.StatusBytes.{status_bytes};
+ghost use Rattle.lvm_quorum.specs.Surveyed.{IsSurveyValid};
 ghost use Rattle.lvm_num.specs.Descriptor.{IsValid};
 ghost use Rattle.lvm_num.specs.Status.{IsValidStatus};
 ghost use Rattle.lvm_quorum.specs.Rows.{AreRows};
 ghost use Rattle.lvm_core.specs.Starting.{IsRoom};
 ghost use Rattle.lvm_core.specs.passed.Names.{IsOneGroup};
-ghost use Rattle.lvm_varyon.specs.Planned.{PlanGives, IsPlanFor, cause_of, IsPlanOfChoice};
+ghost use Rattle.lvm_varyon.specs.Planned.{PlanGives, IsPlanFor, cause_of, IsCopyingOf, IsCleanedChoice, IsLastOf, IsPlanOfChoice};
 
 use lvm_core::below::homes_of;
 use lvm_core::{Cause, Parts, Room, encode_records};
-use lvm_num::{DiskSet, Memory, Name, Rows, Status};
+use lvm_num::{DiskSet, Memory, Name, Rows, Status, VolumeNumbers};
 use lvm_quorum::{Choice, ChooseFault, Survey, choose};
 use lvm_rec::Homes;
-use lvm_recovery::{Recopy, named_by, plan_copies};
+use lvm_recovery::{Recopy, named_by, plan_copies, still_dirty};
 use lvm_stale::StaleTable;
 use lvm_write::next_status;
 use std::alloc::Global;
@@ -36,8 +33,24 @@ pub struct Plan {
     pub targets: DiskSet,
     /// The slots that come next.
     pub homes: Homes,
-    /// What makes usable copies equal where the targets' notes say that they may differ.
+    /// What makes usable copies equal, beside the volumes that are dirty.
+    pub copying: Copying,
+    /// The bytes of the second status, where marks of volumes go once their copies are equal.
+    pub second: Option<Rows<u8>>,
+}
+
+/// By which status copies are usable and volumes dirty, and the copies of the track groups that notes name.
+#[derive(Drop)]
+pub struct Copying {
+    pub table: StaleTable,
     pub copies: Rows<Recopy>,
+}
+
+/// The parts of a session, and the bytes of the status with which it begins, where it isn't the first one.
+#[derive(Drop)]
+pub struct Last {
+    pub parts: Parts,
+    pub second: Option<Rows<u8>>,
 }
 
 /// The plan by a survey, where the group of the name may come on under this moment.
@@ -95,19 +108,18 @@ fn plan_for(
     requires room { IsRoom room }
     ensures { IfOk result (IsPlanFor survey.now choice homes room) }
 {
-    let copies = copies_for(alloc, survey, &choice)?;
+    let copying = copies_for(alloc, survey, &choice)?;
     let next = next_status(alloc, &choice.descriptor, &choice.status, choice.answering)?;
-    plan_with(alloc, with_status(choice, next), copies, homes, room)
+    plan_with(alloc, with_status(choice, next), copying, homes, room)
 }
 
 // What makes the usable copies of the group equal, by the status that was found and what the notes of the members
 // that answer name.
-fn copies_for(alloc: Global, survey: &Survey, choice: &Choice) -> Result<Rows<Recopy>, Memory>
+fn copies_for(alloc: Global, survey: &Survey, choice: &Choice) -> Result<Copying, Memory>
     requires rows { AreRows survey.now }
     requires descriptor { IsValid choice.now.descriptor }
     requires status { IsValidStatus choice.now.status }
-    ensures planned { (stamp : Stamp) → IfOk result (λ copies. ArePlanned (surveyed survey.now) choice.now.descriptor (Some (record { stamp = stamp; value = choice.now.status })) (has choice.now.answering) copies) }
-    ensures order { IfOk result (λ copies. ArePlannedInOrder (surveyed survey.now) choice.now.descriptor choice.now.status (has choice.now.answering) copies) }
+    ensures { IfOk result (IsCopyingOf survey.now choice.now) }
 {
     let named = named_by(alloc, survey, choice.answering)?;
     let table = StaleTable::from_status(alloc, &choice.status)?;
@@ -118,7 +130,10 @@ fn copies_for(alloc: Global, survey: &Survey, choice: &Choice) -> Result<Rows<Re
         choice.answering,
         named.as_slice(),
     )?;
-    Ok(Rows::new(copies))
+    Ok(Copying {
+        table,
+        copies: Rows::new(copies),
+    })
 }
 
 // The choice with another status.
@@ -139,11 +154,11 @@ fn with_status(choice: Choice, status: Status) -> Choice
     }
 }
 
-// The plan by which a group comes on with the status of the choice.
+// The plan by which a group comes on with the status of the choice, and goes on with the one in which marks are gone.
 fn plan_with(
     alloc: Global,
     choice: Choice,
-    copies: Rows<Recopy>,
+    copying: Copying,
     homes: Homes,
     room: Room,
 ) -> Result<Plan, Memory>
@@ -151,17 +166,83 @@ fn plan_with(
     requires status { IsValidStatus choice.status }
     requires group { IsOneGroup choice.descriptor choice.status }
     requires room { IsRoom room }
-    ensures { IfOk result (IsPlanOfChoice choice copies homes room) }
+    ensures { IfOk result (IsPlanOfChoice choice copying homes room) }
 {
     let bytes = encode_records(alloc, &choice)?;
     let targets = choice.answering;
-    let parts = Parts::new(alloc, choice, room)?;
+    let last = last_for(alloc, choice, &copying.table, room)?;
     Ok(Plan {
-        parts,
+        parts: last.parts,
         descriptor: bytes.descriptor,
         status: bytes.status,
         targets,
         homes,
-        copies,
+        copying,
+        second: last.second,
     })
+}
+
+// The parts of the session that begins once the copies are equal.
+fn last_for(alloc: Global, choice: Choice, table: &StaleTable, room: Room) -> Result<Last, Memory>
+    requires descriptor { IsValid choice.descriptor }
+    requires status { IsValidStatus choice.status }
+    requires group { IsOneGroup choice.descriptor choice.status }
+    requires room { IsRoom room }
+    ensures { IfOk result (IsLastOf choice table.now room) }
+{
+    let (choice, goes) = cleaned(alloc, choice, table)?;
+    let second = second_bytes(alloc, &choice.status, goes)?;
+    let parts = Parts::new(alloc, choice, room)?;
+    Ok(Last { parts, second })
+}
+
+// The choice with the status in which just those volumes are dirty that need it, and whether marks go by that.
+fn cleaned(alloc: Global, choice: Choice, table: &StaleTable) -> Result<(Choice, bool), Memory>
+    requires { IsValid choice.descriptor }
+    ensures { IfOk result (λ got. IsCleanedChoice choice table.now got.0 got.1) }
+{
+    let dirty = still_dirty(
+        alloc,
+        &choice.descriptor,
+        table,
+        choice.answering,
+        choice.status.dirty.as_slice(),
+    )?;
+    let goes = dirty.as_slice().len() < choice.status.dirty.as_slice().len();
+    Ok((with_dirty(choice, dirty), goes))
+}
+
+// The choice with these volumes dirty.
+fn with_dirty(choice: Choice, dirty: VolumeNumbers) -> Choice
+    ensures { result ≡ record choice { status = record choice.status { dirty = dirty } } }
+{
+    let Choice {
+        descriptor,
+        status,
+        answering,
+        seen,
+    } = choice;
+    let Status { id, big, rows, .. } = status;
+    Choice {
+        descriptor,
+        status: Status {
+            id,
+            big,
+            dirty,
+            rows,
+        },
+        answering,
+        seen,
+    }
+}
+
+// The bytes of a status, where it is to be written.
+fn second_bytes(alloc: Global, status: &Status, goes: bool) -> Result<Option<Rows<u8>>, Memory>
+    requires { IsValidStatus status.now }
+    ensures { IfOk result (λ second. second ≡ (if goes then Some (status_bytes status.now) else None)) }
+{
+    if !goes {
+        return Ok(None);
+    }
+    Ok(Some(lvm_vgsa::encode(alloc, status)?))
 }

@@ -8,6 +8,8 @@ ghost use Rattle.lvm_varyon.specs.passed.Names.{AreFaults, HaveAllLanded, IsRoom
 ghost use Rattle.lvm_varyon.specs.Varied.{VariesOnAt, BringGives, IsAheadOfDisks, brought_of, log_after, VaryonStops};
 ghost use Rattle.lvm_transfer.specs.Reading.{OnlyReads};
 ghost use Rattle.lvm_write.specs.Parts.{Spends};
+ghost use Rattle.lvm_varyon.specs.Copied.{all_copies};
+ghost use Rattle.lvm_varyon.specs.Second.{last_seq};
 ghost use Rattle.lvm_varyon.specs.Parts.{IsPlannedBy, plan_beginning};
 ghost use Rattle.lvm_varyon.specs.Equal.{AllWritesGive, AllWritesKeep, MayWritePlan};
 
@@ -16,7 +18,7 @@ use crate::plan::{Plan, plan_of};
 use crate::writes::{make_equal, read_disks, write_plan};
 use lvm_disk::Shelf;
 use lvm_history::History;
-use lvm_num::{Name, Pbuf, Stamp};
+use lvm_num::{Name, Pbuf, Rows, Stamp};
 use lvm_rec::Homes;
 use lvm_transfer::Patience;
 use std::alloc::Global;
@@ -25,8 +27,9 @@ use std::alloc::Global;
 /// descriptor and status by the members that answer, and writes both to these under the moment, the status
 /// with a row for exactly the members. Missing are then those that don't answer, and stale, beside what
 /// was, their copies of which another is fresh. Then each track group of a volume in mode active that the note of one
-/// of these members names is copied from the first of its fresh copies on them to the others, and at last their notes
-/// are emptied.
+/// of these members names is copied from the first of its fresh copies on them to the others, and so is each volume in
+/// mode passive that the status calls dirty, whole. Then a status is written in which just those are dirty that have a
+/// logical partition without a fresh copy on them, where marks go by that; and at last their notes are emptied.
 ///
 /// # Errors
 ///
@@ -61,12 +64,12 @@ pub fn varyon<S: Shelf>(
     }
     let mut shelf = shelf;
     match bring(alloc, &mut shelf, name, moment, room, patience) {
-        Ok((parts, homes)) => {
+        Ok((begun, homes)) => {
             let stamp = Stamp {
                 epoch: moment,
-                seq: 2,
+                seq: begun.1,
             };
-            Ok(Driver::start(parts, shelf, history, stamp, homes))
+            Ok(Driver::start(begun.0, shelf, history, stamp, homes))
         }
         Err(cause) => Err(refused(shelf, history, cause)),
     }
@@ -96,7 +99,7 @@ fn bring<S: Shelf>(
     moment: u64,
     room: Room,
     patience: &mut Patience,
-) -> Result<(Parts, Homes), Cause>
+) -> Result<((Parts, u32), Homes), Cause>
     requires ready { IsReady (S.device shelf.old) }
     requires room { IsRoom room }
     requires moment { moment ≢ 0 }
@@ -110,7 +113,7 @@ fn bring<S: Shelf>(
     begin_with(plan, written)
 }
 
-// Writes the records of a plan, makes its copies and empties the notes.
+// Writes the records of a plan, makes its copies, says which volumes are dirty still, and empties the notes.
 fn write_all<S: Shelf>(
     shelf: &mut S,
     plan: &Plan,
@@ -121,27 +124,37 @@ fn write_all<S: Shelf>(
     requires ready { IsReady (S.device shelf.old) }
     requires moment { moment ≢ 0 }
     requires may { MayWritePlan (S.device shelf.old) plan.now }
-    ensures gives { AllWritesGive patience.old.left (plan_beginning moment plan.now) plan.now.copies (S.device shelf.old) (S.device shelf.new) result }
+    ensures gives { AllWritesGive patience.old.left (plan_beginning moment plan.now) (all_copies plan.now) plan.now.second (S.device shelf.old) (S.device shelf.new) result }
     ensures spends { Spends patience.old.left patience.new.left (S.device shelf.old) (S.device shelf.new) }
-    ensures kept { AllWritesKeep (plan_beginning moment plan.now) plan.now.copies (S.device shelf.old) (S.device shelf.new) }
+    ensures kept { AllWritesKeep (plan_beginning moment plan.now) (all_copies plan.now) plan.now.second (S.device shelf.old) (S.device shelf.new) }
 {
     let (homes, buf) = write_plan(shelf, plan, moment, buf, patience)?;
-    make_equal(shelf, plan, moment, buf, patience)?;
-    Ok(homes)
+    make_equal(shelf, plan, moment, homes, buf, patience)
 }
 
 // What the session of a plan begins with, where its records were written.
-fn begin_with(plan: Plan, written: Result<Homes, Cause>) -> Result<(Parts, Homes), Cause>
-    ensures { result ≡ brought_of plan.parts written }
+fn begin_with(plan: Plan, written: Result<Homes, Cause>) -> Result<((Parts, u32), Homes), Cause>
+    ensures { result ≡ brought_of (plan.parts, last_seq plan.second) written }
 {
     with_homes(parts_of(plan), written)
 }
 
-// The parts of its session alone.
-fn parts_of(plan: Plan) -> Parts
-    ensures { result ≡ plan.parts }
+// The parts of its session, and the sequence of its last record.
+fn parts_of(plan: Plan) -> (Parts, u32)
+    ensures { result ≡ (plan.parts, last_seq plan.second) }
 {
-    plan.parts
+    let seq = last_seq(&plan.second);
+    (plan.parts, seq)
+}
+
+// Under which sequence the last record is written: the second status, where there is one, or the first.
+fn last_seq(second: &Option<Rows<u8>>) -> u32
+    ensures { result ≡ last_seq second.now }
+{
+    match second {
+        None => 2,
+        Some(_) => 3,
+    }
 }
 
 // What begins with these parts and these homes, where there are some.

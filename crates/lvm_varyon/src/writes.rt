@@ -1,5 +1,5 @@
 //! The reading of a shelf, and the writes of a varyon.
-ghost use Rattle.std.specs.Prelude.{false, ◌≢◌, ◌≤◌, length, All};
+ghost use Rattle.std.specs.Prelude.{false, ◌≢◌, ◌≤◌, length};
 ghost use Rattle.lvm_num.specs.declared.record.Kind.TheVariants as kind;
 ghost use Rattle.lvm_num.specs.Disks.{has};
 ghost use Rattle.lvm_num.specs.Record.{longest_content};
@@ -10,8 +10,9 @@ ghost use Rattle.lvm_write.specs.Kept.{AgainStaysKept};
 ghost use Rattle.lvm_write.specs.Writes.{DiskWritesLeave};
 ghost use Rattle.lvm_transfer.specs.Reading.{OnlyReads};
 ghost use Rattle.lvm_write.specs.Parts.{Spends};
-ghost use Rattle.lvm_varyon.specs.passed.Names.{MayCopy, AreApart, EqualisedStaysKept};
-ghost use Rattle.lvm_varyon.specs.Equal.{EqualGives};
+ghost use Rattle.lvm_varyon.specs.passed.Names.{EqualisedStaysKept};
+ghost use Rattle.lvm_varyon.specs.Copied.{all_copies};
+ghost use Rattle.lvm_varyon.specs.Equal.{EqualGives, MayMakeEqual};
 ghost use Rattle.lvm_varyon.specs.Parts.{SurveyGives, plan_beginning, AgainWritesGive};
 
 use crate::below::{Cause, equalise};
@@ -105,31 +106,37 @@ fn write_records<S: Shelf>(
     }
 }
 
-/// Makes the copies of a plan, and then empties the notes of its targets.
+/// Makes the copies of a plan, writes its second status, if it has one, and then empties the notes of its targets. The
+/// slots that come next come back.
 pub fn make_equal<S: Shelf>(
     shelf: &mut S,
     plan: &Plan,
     moment: u64,
+    homes: Homes,
     buf: Pbuf,
     patience: &mut Patience,
-) -> Result<(), Cause>
+) -> Result<Homes, Cause>
     requires ready { IsReady (S.device shelf.old) }
-    requires ranges { All (MayCopy (S.device shelf.old).sizes) plan.now.copies }
-    requires apart { AreApart plan.now.copies }
-    requires targets { HaveRoom (S.device shelf.old) (has plan.now.targets) }
-    ensures gives { EqualGives patience.old.left plan.now.copies moment (has plan.now.targets) (S.device shelf.old) (S.device shelf.new) result }
+    requires moment { moment ≢ 0 }
+    requires may { MayMakeEqual (S.device shelf.old) plan.now }
+    ensures gives { EqualGives patience.old.left (all_copies plan.now) plan.now.second moment (has plan.now.targets) homes (S.device shelf.old) (S.device shelf.new) result }
     ensures spends { Spends patience.old.left patience.new.left (S.device shelf.old) (S.device shelf.new) }
-    ensures kept { EqualisedStaysKept plan.now.copies (has plan.now.targets) (S.device shelf.old) (S.device shelf.new) }
+    ensures kept { EqualisedStaysKept (all_copies plan.now) plan.now.second moment (has plan.now.targets) homes (S.device shelf.old) (S.device shelf.new) }
 {
+    let mut homes = homes;
     match equalise(
         shelf,
-        plan.copies.as_slice(),
+        plan.copying.copies.as_slice(),
+        plan.parts.descriptor(),
+        &plan.copying.table,
+        &plan.second,
         moment,
         plan.targets,
+        &mut homes,
         buf,
         patience,
     ) {
-        Begun::Ended { buf: _ } => Ok(()),
+        Begun::Ended { buf: _ } => Ok(homes),
         Begun::DiskFailed { disk, buf: _ } => Err(Cause::DiskFailed { disk }),
         Begun::Dark => Err(Cause::Dark),
         Begun::Stuck => Err(Cause::Stuck),

@@ -44,15 +44,15 @@ module _ (before old left : Device) (name : List ℕ) (moment patience : ℕ) (l
       let w = refuses.1.writes in
       record {
         rests = inr (⊎_elim (λ failed. failed.rested.ready) (λ s. ⊎_elim (λ at. at.1.rested.ready) (λ at. at.3.rested.ready) s.stops.when) w.how);
-        orders = same_orders _ refuses.1.copies w.read left (wrote_failed _ refuses.1.copies w.read left disk w.how) ∙ w.unwritten.orders ∙ same;
+        orders = same_orders _ _ refuses.1.copies w.read left (wrote_failed _ _ refuses.1.copies w.read left disk w.how) ∙ w.unwritten.orders ∙ same;
       }
   leaves cause.Dark refuses = record {
     rests = refuses.1.how.flights;
-    orders = ⊎_elim (λ u. u.orders) (λ w. same_orders _ w.copies w.writes.read left (wrote_broken _ w.copies w.writes.read left w.writes.how) ∙ w.writes.unwritten.orders) refuses.1.when ∙ same;
+    orders = ⊎_elim (λ u. u.orders) (λ w. same_orders _ _ w.copies w.writes.read left (wrote_broken _ _ w.copies w.writes.read left w.writes.how) ∙ w.writes.unwritten.orders) refuses.1.when ∙ same;
   }
   leaves cause.Stuck refuses = record {
     rests = refuses.1.how.power;
-    orders = ⊎_elim (λ u. u.orders) (λ w. same_orders _ w.copies w.writes.read left (wrote_broken _ w.copies w.writes.read left w.writes.how) ∙ w.writes.unwritten.orders) refuses.1.when ∙ same;
+    orders = ⊎_elim (λ u. u.orders) (λ w. same_orders _ _ w.copies w.writes.read left (wrote_broken _ _ w.copies w.writes.read left w.writes.how) ∙ w.writes.unwritten.orders) refuses.1.when ∙ same;
   }
   leaves cause.Memory refuses = record { rests = inr refuses.1.1.ready; orders = refuses.1.0.orders ∙ same }
   leaves (cause.NoDisk disk) refuses = absurd refuses.1
@@ -114,7 +114,7 @@ module _ {S : Type 0} (device : S → Device) (shelf : S) (log : Log) (name : Li
     stays = stays log.facts log.facts (λ P bears holds. holds);
     ready = it.on.written.writes.how.equal.rested.ready;
     epoch = ap (λ (c : Core). c.status.stamp.epoch) it.on.first.is;
-    orders = same_orders _ it.on.written.copies it.on.written.writes.read (device driver.0) (wrote_equalled _ it.on.written.copies it.on.written.writes.read (device driver.0) driver.1.homes it.on.written.writes.how)
+    orders = same_orders _ _ it.on.written.copies it.on.written.writes.read (device driver.0) (wrote_equalled _ _ it.on.written.copies it.on.written.writes.read (device driver.0) driver.1.homes it.on.written.writes.how)
         ∙ it.on.written.writes.unwritten.orders ∙ quiet_orders (device shelf) it.mid it.quiesces;
     rooms = ap (λ (c : Core). without_facts c.history) it.on.first.is;
   }
@@ -157,8 +157,8 @@ module _ {S : Type 0} (device : S → Device) (shelf : S) (log : Log) (name : Li
   -- ---- the same of the shelf's device alone
 
   at_itself : (left : ℕ) (mid : Device) (outcome : Outcomes) → VariesOnAt device log name moment room left mid outcome → VariesOnAt itself log name moment room left mid (device_outcome device outcome)
-  at_itself left mid (Ok driver) at = record { gives = at.gives; restated = at.restated; recovered = at.recovered }
-  at_itself left mid (Err refused) at = record { gives = at.gives; restated = tt; recovered = tt }
+  at_itself left mid (Ok driver) at = record { gives = at.gives; recovered = at.recovered }
+  at_itself left mid (Err refused) at = record { gives = at.gives; recovered = tt }
 
   pub itself_gives : (outcome : Outcomes) → VaryonOnceQuiet device log name moment room patience (device shelf) outcome → VaryonOnceQuiet itself log name moment room patience (device shelf) (device_outcome device outcome)
   itself_gives = itself_once device (IsFullFor log) (1 ≤ spare_entries log) (λ left mid outcome. VariesOnAt device log name moment room left mid outcome) patience log (device shelf) (λ left mid outcome. VariesOnAt itself log name moment room left mid outcome) at_itself

@@ -26,7 +26,7 @@ use Rattle.lvm_volume_lines.specs.passed.Group.{NewGroup, RefusesFirst, MkvgRefu
 use Rattle.lvm_volume_lines.specs.passed.Varyon.{VaryonRefuses}
 use Rattle.lvm_volume_lines.proofs.passed.Quiesce.{quiet_is_ahead, ends_only}
 use Rattle.lvm_volume_lines.proofs.passed.Varyon.{failed_rose}
-use Rattle.lvm_line.specs.Causes.{HasCause, HasFailed, IsBroughtBack, RoseOn, VaryonLaw, disk_of}
+use Rattle.lvm_line.specs.Causes.{HasCause, HasFailed, RoseOn, VaryonLaw, disk_of}
 use Rattle.lvm_volume_lines.specs.passed.GroupLines.{patience_of_line, IsBetween, IsRelit, refusal_of, Shows, InFull, WithoutMemory, ScriptState, log_with, Refusal, CutNotPlanned, IsArranged, NoReadWhileOn, NoWriteWhileOn, NotPlanned, NotThere, PowerIsCut, ReadGoes, WriteGoes, refusal_by, Brings, BusyVaryoff, DiskOfGroup, GroupThatIsOn, IsLeft, ListsGroup, ListsMember, ListsVolume, Makes, NoGroupForDisk, NoGroupForVolume, NoGroupToList, NoMemoryForLine, NoMkvgWhileOn, NoSuchMember, NoSuchVolume, NoVaryoff, NoVaryonWhileOn, OtherGroup, Varies, VariesOff, VolumeOfGroup, asked_for, itself, outcome_of}
 use Rattle.lvm_line.specs.Lines.{LineDoes}
 use Rattle.lvm_volume_lines.specs.Volumes.{NoGroupForMklv, BusyMklv, UndrainedMklv, MakesVolume, MklvFails, NoGroupForRmlv, BusyRmlv, UndrainedRmlv, NoVolumeForRmlv, RemovesVolume, RmlvFails, refusal_for, wanted}
@@ -114,7 +114,7 @@ module _ (old mid : Device) (quiet : Quiesces old mid) where
   }
   varyon_stopped name moment patience log left (cause.DiskFailed disk) refuses = record {
     failed = λ d is. (let e : disk ≡ d = cc (is) in subst (λ (n : ℕ). Rose (old.counts.faults n) (left.counts.faults n)) e (faults_since disk left.counts (subst (λ (f : ℕ → ℕ). Rose (f disk) (left.counts.faults disk)) refuses.1.writes.unwritten.faults
-        (failed_rose _ refuses.1.copies refuses.1.writes.read left disk refuses.1.writes.how))));
+        (failed_rose _ _ refuses.1.copies refuses.1.writes.read left disk refuses.1.writes.how))));
     back = λ s is. absurd (cc (is));
     unwritten = λ h t is. absurd (cc (is));
   }
@@ -306,7 +306,7 @@ pub varyon_restates : VaryonLaw
 varyon_restates log room line name old new is it timely = of_varyon (subst (λ (r : Result (Option Command) Misfit). LineDoes log room r old new reply.Ok) is it.does)
   where
     Back : Type 0
-    Back = (core : Core) × (new.session ≡ Some core) × ((quiet : Device) × Quiesces old.moment.device quiet × IsBroughtBack quiet new.moment.device core.descriptor)
+    Back = (core : Core) × (new.session ≡ Some core) × ((quiet : Device) × Quiesces old.moment.device quiet × IsRecovered quiet new.moment.device core.descriptor)
 
     brought : (shelf : Device) (history : Log) (given : Result Core Cause) → Later old.last new.last → VaryonOnceQuiet itself (log_with log old.moment.facts) name new.last room patience_of_line old.moment.device (outcome_of shelf history given)
         → IsLeft shelf history old new reply.Ok given → Back
@@ -320,7 +320,7 @@ varyon_restates log room line name old new is it timely = of_varyon (subst (λ (
           (
             once.mid,
             once.quiesces,
-            subst (λ (d : Device). IsBroughtBack once.mid d core.descriptor) left_on.0 (record { restated = once.goes.restated ahead; recovered = once.goes.recovered ahead }),
+            subst (λ (d : Device). IsRecovered once.mid d core.descriptor) left_on.0 (once.goes.recovered ahead),
           ),
         )
 

@@ -1,2 +1,2 @@
 -- Passed on from `lvm_varyon`.
-pub use Rattle.lvm_group_lines.specs.passed.Varyon.{HasWritten, IsRecovered, IsRestated, MayComeOn, Recopy, VaryonRefuses, answering, beginning, records_on}
+pub use Rattle.lvm_group_lines.specs.passed.Varyon.{HasWritten, IsRecovered, MayComeOn, Recopy, VaryonRefuses, answering, beginning, records_on}

@@ -4,11 +4,13 @@ use Rattle.std.specs.Prelude.{IsTrue}
 use Rattle.std.proofs.Math.Nat.{mod-lt}
 use Rattle.lvm_num.specs.declared.place.Place.{Place}
 use Rattle.lvm_num.specs.declared.place.Pp.{Pp}
+use Rattle.lvm_num.specs.declared.descriptor.Mode.{Mode}
+use Rattle.lvm_num.specs.declared.descriptor.Mode.TheVariants.{Active, Passive, Off}
 use Rattle.lvm_num.specs.declared.descriptor.LvRow.{LvRow}
 use Rattle.lvm_num.specs.declared.descriptor.Descriptor.{Descriptor}
 use Rattle.lvm_num.specs.declared.status.Status.{Status}
 use Rattle.lvm_num.specs.Disks.{Disks}
-use Rattle.lvm_num.specs.Geometry.{data_start, partition_blocks, sectors_needed}
+use Rattle.lvm_num.specs.Geometry.{data_start, partition_blocks, sectors_needed, track_group_of}
 use Rattle.lvm_num.specs.Descriptor.{IsValid, IsPartitionOf, copies_of, partitions_used}
 use Rattle.lvm_num.specs.Record.{Stamped}
 use Rattle.lvm_num.proofs.Booleans.{first_holds, clash_gives}
@@ -19,7 +21,11 @@ use Rattle.lvm_kept.specs.Group.{IsOneOf, is_named, is_stale_by, fresh_on}
 use Rattle.lvm_kept.proofs.TornLemmas.Standing.{note_shows}
 use Rattle.lvm_write.proofs.WrittenLemmas.Writing.{changes_more}
 use Rattle.lvm_recover.proofs.passed.Names.{of_map, of_rows, mib_positive}
-use Rattle.lvm_recover.specs.Recopied.{IsFromFirst}
+use Rattle.lvm_num.specs.Status.{calls_dirty}
+use Rattle.lvm_write.specs.Next.{has_passive}
+use Rattle.lvm_recover.specs.Recopied.{IsToEqual, IsFromFirst}
+use Rattle.lvm_tidying.proofs.passed.Names.{split, join}
+use Rattle.lvm_tidying.proofs.RecoveredLemmas.{one_passive}
 use Rattle.lvm_recover.proofs.KeepingLemmas.Copying.{left_passes}
 use Rattle.lvm_recover.proofs.KeepingLemmas.Images.{images_are_recopied}
 use Rattle.lvm_recovery.specs.declared.copying.Recopy.{Recopy}
@@ -27,7 +33,7 @@ use Rattle.lvm_recovery.specs.Copying.{MayTransfer, IsOfCopies}
 use Rattle.lvm_recovery.specs.Planned.{IsPlannedCopy}
 use Rattle.lvm_map.specs.Places.{place_on}
 use Rattle.lvm_recover.proofs.BeginningLemmas.{usable_stay, next_leaves_none, is_at}
-use Rattle.lvm_recovery.specs.Ending.{NextSamePlan, RestatedMayEqualise, SameNotesSamePlan, HaveSectors, PlannedMayBeMade, EqualisedEnds}
+use Rattle.lvm_recovery.specs.Ending.{NextSamePlan, RestatedMayEqualise, SameNotesSamePlan, HaveSectors, PlannedMayBeMade, CopiedEnds, EmptiedEnds}
 use Rattle.lvm_recovery.proofs.CopyingLemmas.AllCopied.{at_index}
 use Rattle.lvm_recovery.proofs.PlannedLemmas.{planned_are_from_first, planned_are_equalled}
 
@@ -38,9 +44,8 @@ other_plan a b group status there one same p = record {
   lp = p.lp;
   g = p.g;
   volume = p.volume;
-  active = p.active;
   inside = p.inside;
-  named = (p.named.0, p.named.1, sym (same p.named.0 p.row.number p.g p.named.1) ∙ p.named.2);
+  made = other_made p.row.mode p.made;
   first = p.first;
   others = p.others;
   usable = p.usable;
@@ -49,6 +54,11 @@ other_plan a b group status there one same p = record {
   from = p.from;
   into = p.into;
 }
+  where
+    other_made : (m : Mode) → IsToEqual a status there m p.row.number (p.g * 256) → IsToEqual b status there m p.row.number (p.g * 256)
+    other_made Active made = (made.0, made.1, sym (same made.0 p.row.number (track_group_of (p.g * 256)) made.1) ∙ made.2)
+    other_made Passive made = made
+    other_made Off made = made
 
 pub same_notes_same_plan : SameNotesSamePlan
 same_notes_same_plan a b group status there copies same are = record {
@@ -93,33 +103,34 @@ planned_may_be_made c group status there sizes copies valid have are k d low =
 
 -- ---- the end
 
-pub equalised_ends : EqualisedEnds
-equalised_ends copies targets sector old mid new group status there was between is valid inside told_old told_mid planned by copied notes_by =
-    let notes = note_shows targets sector (image_of mid.sizes between) (image_of new.sizes is) notes_by in
+pub copied_ends : CopiedEnds
+copied_ends copies old mid group status there was between valid told_old told_mid planned by copied = record {
+  recopied = images_are_recopied group status there (image_of old.sizes was) (image_of mid.sizes between)
+      (changes_more (IsOfCopies old copies) (IsFromFirst (contents_of (image_of old.sizes was)) group status there) (image_of old.sizes was) (image_of mid.sizes between)
+      (planned_are_from_first group status there copies old was valid told_old planned.each) by);
+  equalled = planned_are_equalled group status there copies old mid was between valid told_old told_mid planned by copied;
+}
+
+pub emptied_ends : EmptiedEnds
+emptied_ends targets there sector old new inside by =
+    let notes = note_shows targets sector old new by in
     record {
-      copied = contents_of (image_of mid.sizes between);
-      recopied = images_are_recopied group status there (image_of old.sizes was) (image_of mid.sizes between)
-          (changes_more (IsOfCopies old copies) (IsFromFirst (contents_of (image_of old.sizes was)) group status there) (image_of old.sizes was) (image_of mid.sizes between)
-          (planned_are_from_first group status there copies old was valid told_old planned.each) by);
-      equalled = planned_are_equalled group status there copies old mid was between valid told_old told_mid planned by copied;
-      emptied = record {
-        rest = notes.rest;
-        others = λ d isnt. ⊎_elim (λ same. same) (λ own. clash_gives (there d) (inside d own.0) isnt) (notes.own d);
-      };
+      rest = notes.rest;
+      others = λ d isnt. ⊎_elim (λ same. same) (λ own. clash_gives (there d) (inside d own.0) isnt) (notes.own d);
     }
 
 -- ---- the next status
 
 next_plan : (c : Contents) (group : Descriptor) (there : Disks) (a b : Stamped Status) (one : Recopy) → ((row : LvRow) (lp : ℕ) → IsOneOf group.lvs row → fresh_on there (Some b) row lp ≡ fresh_on there (Some a) row lp)
+    → ((row : LvRow) → IsOneOf group.lvs row → row.mode ≡ Passive → IsTrue (calls_dirty a.value row.number) → IsTrue (calls_dirty b.value row.number))
     → IsPlannedCopy c group (Some a) there one → IsPlannedCopy c group (Some b) there one
-next_plan c group there a b one same p = record {
+next_plan c group there a b one same dirty p = record {
   row = p.row;
   lp = p.lp;
   g = p.g;
   volume = p.volume;
-  active = p.active;
   inside = p.inside;
-  named = p.named;
+  made = next_made p.row.mode refl p.made;
   first = p.first;
   others = p.others;
   usable = same p.row p.lp p.volume ∙ p.usable;
@@ -128,11 +139,18 @@ next_plan c group there a b one same p = record {
   from = p.from;
   into = p.into;
 }
+  where
+    next_made : (m : Mode) → p.row.mode ≡ m → IsToEqual c (Some a) there m p.row.number (p.g * 256) → IsToEqual c (Some b) there m p.row.number (p.g * 256)
+    next_made Active is made = made
+    next_made Passive is made = dirty p.row p.volume is made
+    next_made Off is made = made
 
 pub next_same_plan : NextSamePlan
 next_same_plan c group there was next copies valid is are = record {
-  each = λ one among. next_plan c group there was next one (λ row lp on. usable_stay group there was next row lp valid is on) (are.each one among);
-  all = λ one p. are.all one (next_plan c group there next was one (λ row lp on. sym (usable_stay group there was next row lp valid is on)) p);
+  each = λ one among. next_plan c group there was next one (λ row lp on. usable_stay group there was next row lp valid is on)
+      (λ row volume soft marked. is.dirty row.number ∙ join (calls_dirty was.value row.number) (has_passive group row.number) marked (one_passive group.lvs row volume soft)) (are.each one among);
+  all = λ one p. are.all one (next_plan c group there next was one (λ row lp on. sym (usable_stay group there was next row lp valid is on))
+      (λ row volume soft marked. (split (calls_dirty was.value row.number) (has_passive group row.number) (sym (is.dirty row.number) ∙ marked)).0) p);
 }
 
 pub restated_may_equalise : RestatedMayEqualise

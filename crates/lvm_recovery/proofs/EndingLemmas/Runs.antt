@@ -5,6 +5,7 @@ use Rattle.std.proofs.Math.Nat.{mod-lt}
 use Rattle.lvm_num.specs.declared.place.Place.{Place}
 use Rattle.lvm_num.specs.declared.place.Pp.{Pp}
 use Rattle.lvm_num.specs.declared.descriptor.Mode.{Mode}
+use Rattle.lvm_num.specs.declared.descriptor.Mode.TheVariants.{Active, Passive, Off}
 use Rattle.lvm_num.specs.declared.descriptor.Descriptor.{Descriptor}
 use Rattle.lvm_num.specs.declared.status.Status.{Status}
 use Rattle.lvm_num.specs.Disks.{Disks}
@@ -14,16 +15,17 @@ use Rattle.lvm_num.specs.Record.{Stamped}
 use Rattle.lvm_num.proofs.Booleans.{first_holds}
 use Rattle.lvm_disk.specs.Device.{Range}
 use Rattle.lvm_kept.specs.Contents.{Contents}
-use Rattle.lvm_kept.specs.Group.{is_voter, status_among, is_stale_by, is_named, fresh_on, IsOneOf}
+use Rattle.lvm_kept.specs.Group.{is_voter, status_among, is_stale_by, is_dirty_by, fresh_on, IsOneOf}
 use Rattle.lvm_kept.specs.Recovered.{IsMadeEqual, IsCopyRange}
 use Rattle.lvm_recover.proofs.passed.Names.{mib_positive}
+use Rattle.lvm_recover.specs.Recopied.{IsToEqual}
 use Rattle.lvm_recover.proofs.KeepingLemmas.Copying.{left_passes}
 use Rattle.lvm_recover.proofs.BeginningLemmas.{is_at}
 use Rattle.lvm_recovery.specs.declared.copying.Recopy.{Recopy}
 use Rattle.lvm_recovery.specs.Copying.{IsInRun}
 use Rattle.lvm_recovery.specs.Ending.{RunsAreOfCopies}
 use Rattle.lvm_recovery.specs.Planned.{IsPlannedCopy}
-use Rattle.lvm_recovery.proofs.PlannedLemmas.{group_of_start, block_inside, sector_is}
+use Rattle.lvm_recovery.proofs.PlannedLemmas.{group_of_start, block_inside, made_equal, sector_is}
 
 module _ (old : Contents) (disks : Disks) (group : Descriptor) (was : Stamped Status) (valid : IsValid group) (was_found : status_among old disks group.id ≡ Some was)
     (one : Recopy) (p : IsPlannedCopy old group (Some was) (is_voter old disks group.id) one) (range : Range) (run : IsInRun one.into range) where
@@ -68,8 +70,12 @@ module _ (old : Contents) (disks : Disks) (group : Descriptor) (was : Stamped St
       let inside : k + i < 256 = omega (arith, from, high, low) in
       let its : track_group_of (p.g * 256 + k + i) ≡ p.g =
       ap track_group_of (let e : p.g * 256 + k + i ≡ p.g * 256 + (k + i) = omega arith in e) ∙ (is_at group.mib p.g (k + i) (mib_positive group valid) inside).track_group ∙ group_of_start p.g in
-      subst (λ (m : Mode). IsMadeEqual old disks group.id group m p.row.number (p.g * 256 + k + i)) (sym p.active)
-      (p.named.0, p.named.1, ap (λ (n : ℕ). is_named old p.named.0 p.row.number n) its ∙ p.named.2)
+      by p.row.mode (made_equal old there p.row.mode (Some was) p.row.number (p.g * 256) (p.g * 256 + k + i) (its ∙ sym (group_of_start p.g)) p.made)
+    where
+      by : (m : Mode) → IsToEqual old (Some was) there m p.row.number (p.g * 256 + k + i) → IsMadeEqual old disks group.id group m p.row.number (p.g * 256 + k + i)
+      by Active made = made
+      by Passive made = ap (λ (o : Option (Stamped Status)). is_dirty_by o p.row.number) was_found ∙ made
+      by Off made = made
 
   fresh_copy : IsOneOf (fresh_on there (Some was) p.row p.lp) p.copy
   fresh_copy = subst (λ (ps : List Pp). IsOneOf ps p.copy) (sym p.usable) (inr p.further)

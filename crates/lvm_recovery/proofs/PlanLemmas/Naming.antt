@@ -1,4 +1,4 @@
--- The copies of what is named are exactly the planned ones.
+-- The copies of what is named are exactly the planned ones in mode active.
 use Rattle.std.proofs.Common.{◌≡◌, inl, inr, ⊎_elim, ℕ, ◌*◌, ◌==◌, ◌&&◌, Bool, true, false, List, [], ◌∷◌, Option, Some, None, find, flat_map, map, filter, refl, sym, ap, subst, ◌∙◌, arith}
 use Rattle.std.specs.Prelude.{if◌then◌else◌, nat_lt}
 use Rattle.std.proofs.lemmas.Bool.{eqb-true, ltb-true}
@@ -14,25 +14,27 @@ use Rattle.lvm_num.specs.Geometry.{partition_of}
 use Rattle.lvm_num.specs.Descriptor.{IsValid, copies_of, volume_of}
 use Rattle.lvm_num.specs.Record.{Stamped}
 use Rattle.lvm_kept.specs.Contents.{Contents}
-use Rattle.lvm_kept.specs.Group.{IsOneOf, fresh_on}
+use Rattle.lvm_kept.specs.Group.{IsOneOf, fresh_on, is_named}
 use Rattle.lvm_kept.proofs.ChangesLemmas.Entries.{volume_is_row}
 use Rattle.lvm_num.specs.Modes.{is_active}
 use Rattle.lvm_num.proofs.AmongLemmas.{one_of_left, one_of_right, one_of_either}
 use Rattle.lvm_recover.proofs.passed.Names.{row_is_volume}
+use Rattle.lvm_recover.specs.Recopied.{IsToEqual}
+use Rattle.lvm_recovery.proofs.PlannedLemmas.{group_of_start}
 use Rattle.lvm_recovery.specs.declared.copying.Recopy.{Recopy}
 use Rattle.lvm_recovery.specs.declared.plan.TrackGroup.{TrackGroup}
 use Rattle.lvm_recovery.specs.Planned.{IsNamedByOne, IsPlannedCopy}
 use Rattle.lvm_map.specs.Places.{place_on}
-use Rattle.lvm_recovery.specs.Plan.{usable_by, copies_from, copies_of_group, copies_of_found, copies_named, NamedArePlanned}
+use Rattle.lvm_recovery.specs.Plan.{usable_by, copies_from, copies_of_group, copies_of_found, copies_named, AreNamed}
 pub use Rattle.std.proofs.lemmas.Bool.{and_parts as both}
 
 -- ---- lists
 
-of_flat : {X Y : Type 0} (f : X → List Y) (l : List X) (y : Y) → IsOneOf (flat_map f l) y → (x : X) × IsOneOf l x × IsOneOf (f x) y
+pub of_flat : {X Y : Type 0} (f : X → List Y) (l : List X) (y : Y) → IsOneOf (flat_map f l) y → (x : X) × IsOneOf l x × IsOneOf (f x) y
 of_flat f [] y one = absurd one
 of_flat f (x ∷ l) y one = ⊎_elim (λ here. (x, inl refl, here)) (λ rest. let it = of_flat f l y rest in (it.0, inr it.1, it.2)) (one_of_either (f x) (flat_map f l) y one)
 
-to_flat : {X Y : Type 0} (f : X → List Y) (l : List X) (x : X) (y : Y) → IsOneOf l x → IsOneOf (f x) y → IsOneOf (flat_map f l) y
+pub to_flat : {X Y : Type 0} (f : X → List Y) (l : List X) (x : X) (y : Y) → IsOneOf l x → IsOneOf (f x) y → IsOneOf (flat_map f l) y
 to_flat f [] x y among one = absurd among
 to_flat f (z ∷ l) x y (inl same) one = one_of_left (f z) (flat_map f l) y (subst (λ w. IsOneOf (f w) y) same one)
 to_flat f (z ∷ l) x y (inr among) one = one_of_right (f z) (flat_map f l) y (to_flat f l x y among one)
@@ -75,9 +77,8 @@ module _ (c : Contents) (group : Descriptor) (status : Stamped Status) (there : 
         lp = partition_of group.mib (g * 256);
         g = g;
         volume = volume;
-        active = active_is row.mode active;
         inside = record { inside = ltb-true (partition_of group.mib (g * 256)) row.lps low; partition = refl };
-        named = named;
+        made = subst (λ (m : Mode). IsToEqual c (Some status) there m row.number (g * 256)) (sym (active_is row.mode active)) (named.0, named.1, ap (λ (t : ℕ). is_named c named.0 row.number t) (group_of_start g) ∙ named.2);
         first = first;
         others = others;
         usable = is;
@@ -102,9 +103,9 @@ module _ (c : Contents) (group : Descriptor) (status : Stamped Status) (there : 
 
   -- ---- each planned one is there
 
-  to_group : (one : Recopy) (p : IsPlannedCopy c group (Some status) there one) → IsOneOf (copies_of_group group.mib status.value there p.row p.g) one
-  to_group one p =
-      let active : is_active p.row.mode ≡ true = ap is_active p.active in
+  to_group : (one : Recopy) (p : IsPlannedCopy c group (Some status) there one) → p.row.mode ≡ Active → IsOneOf (copies_of_group group.mib status.value there p.row p.g) one
+  to_group one p is =
+      let active : is_active p.row.mode ≡ true = ap is_active is in
       let partition = p.inside.partition in
       let inside = p.inside.inside in
       let low : nat_lt (partition_of group.mib (p.g * 256)) p.row.lps ≡ true = ap (λ (n : ℕ). nat_lt n p.row.lps) partition ∙ grind (arith, nat_tests, inside) in
@@ -118,15 +119,18 @@ module _ (c : Contents) (group : Descriptor) (status : Stamped Status) (there : 
       (subst (IsOneOf (copies_from group.mib (p.g * 256) (p.first ∷ p.others))) (sym same)
       (to_map (λ (x : Pp). record { from = place_on group.mib p.first (p.g * 256); into = place_on group.mib x (p.g * 256) }) p.others p.copy p.further))
 
-  to_named : (one : Recopy) (p : IsPlannedCopy c group (Some status) there one) → IsOneOf (copies_named group status.value there (record { volume = p.row.number; group = p.g })) one
-  to_named one p = subst (λ (o : Option LvRow). IsOneOf (copies_of_found group.mib status.value there p.g o) one) (sym (row_is_volume group p.row valid p.volume)) (to_group one p)
+  to_named : (one : Recopy) (p : IsPlannedCopy c group (Some status) there one) → p.row.mode ≡ Active → IsOneOf (copies_named group status.value there (record { volume = p.row.number; group = p.g })) one
+  to_named one p is = subst (λ (o : Option LvRow). IsOneOf (copies_of_found group.mib status.value there p.g o) one) (sym (row_is_volume group p.row valid p.volume)) (to_group one p is)
 
-pub named_are_planned : NamedArePlanned
-named_are_planned c group status there named valid are = record {
-  each = λ one among.
-      let it = of_flat (copies_named group status.value there) named one among in
-      of_named c group status there valid it.0 one ((are.exactly it.0).0 it.1) (volume_of group it.0.volume) refl it.2;
-  all = λ one p.
-      let e : TrackGroup = record { volume = p.row.number; group = p.g } in
-      to_flat (copies_named group status.value there) named e one ((are.exactly e).1 p.named) (to_named c group status there valid one p);
-}
+  module _ (named : List TrackGroup) (are : AreNamed c there named) where
+    pub named_each : (one : Recopy) → IsOneOf (flat_map (copies_named group status.value there) named) one → IsPlannedCopy c group (Some status) there one
+    named_each one among =
+        let it = of_flat (copies_named group status.value there) named one among in
+        of_named it.0 one ((are.exactly it.0).0 it.1) (volume_of group it.0.volume) refl it.2
+
+    pub named_all : (one : Recopy) (p : IsPlannedCopy c group (Some status) there one) → p.row.mode ≡ Active → IsOneOf (flat_map (copies_named group status.value there) named) one
+    named_all one p is =
+        let e : TrackGroup = record { volume = p.row.number; group = p.g } in
+        let made : IsToEqual c (Some status) there Active p.row.number (p.g * 256) = subst (λ (m : Mode). IsToEqual c (Some status) there m p.row.number (p.g * 256)) is p.made in
+        to_flat (copies_named group status.value there) named e one
+        ((are.exactly e).1 (made.0, made.1, ap (λ (t : ℕ). is_named c made.0 p.row.number t) (sym (group_of_start p.g)) ∙ made.2)) (to_named one p is)

@@ -46,6 +46,8 @@ use Rattle.lvm_settled.proofs.passed.Names.{empty_names_none}
 use Rattle.lvm_mwc.specs.Cache.{is_named as is_named_by}
 use Rattle.lvm_kept.proofs.CommittedLemmas.Finding.{images_within}
 use Rattle.lvm_varyon.proofs.passed.Names.{quiet_is_even}
+use Rattle.lvm_varyon.specs.Second.{status_after, last_seq}
+use Rattle.lvm_varyon.proofs.SecondLemmas.{last_seq_low}
 use Rattle.lvm_group.specs.NewGroup.{given_up, new_group, new_status}
 use Rattle.lvm_tie.specs.passed.Names.{NoneIsBehind}
 use Rattle.lvm_tie.specs.Tied.{IsGood, moment_of}
@@ -70,8 +72,8 @@ in_room : (room : Room) → IsRoom room → IsSessionRoom (room_of room)
 in_room room is = record { requests = is.requests; a_buffer = is.a_buffer; buffers = is.buffers }
 
 -- the stamp of the last record that was written
-abbrev second : ℕ → Stamp
-second moment = record { epoch = moment; seq = 2 }
+abbrev stamp_of : ℕ → ℕ → Stamp
+stamp_of moment seq = record { epoch = moment; seq = seq }
 
 -- What a call has begun with.
 pub record Begins (log : Log) (moment : ℕ) (s : State) : Type 0 where
@@ -79,7 +81,9 @@ pub record Begins (log : Log) (moment : ℕ) (s : State) : Type 0 where
   pub homes : Homes
   pub reserved : IsReserved parts.descriptor parts.table parts.room parts
   pub fits : IsSessionRoom parts.room
-  pub is : s.core ≡ first_core parts log (second moment) homes s.core.origin.faults
+  pub seq : ℕ
+  pub low : seq ≤ 3
+  pub is : s.core ≡ first_core parts log (stamp_of moment seq) homes s.core.origin.faults
 
 module _ (was log : Log) (moment : ℕ) (room : Room) (old : Device) (s : State) (media : Media) (same_run : log.run ≡ was.run) (b : Begins log moment s)
     (it : IsBegun was moment room old s) (low : moment < 2 ^ 64) (driven : IsDriven s media) where
@@ -87,7 +91,7 @@ module _ (was log : Log) (moment : ℕ) (room : Room) (old : Device) (s : State)
   p = b.parts
 
   abbrev first : Core
-  first = first_core p log (second moment) b.homes s.core.origin.faults
+  first = first_core p log (stamp_of moment b.seq) b.homes s.core.origin.faults
 
   its : IsReserved p.descriptor p.table p.room p
   its = b.reserved
@@ -101,7 +105,7 @@ module _ (was log : Log) (moment : ℕ) (room : Room) (old : Device) (s : State)
   fitting : IsFittingBetween first
   fitting = as_first IsFittingBetween it.sound.fitting
 
-  may : MayBegin s.device log (second moment) b.homes p
+  may : MayBegin s.device log (stamp_of moment b.seq) b.homes p
   may = record {
     reserved = its;
     room = b.fits;
@@ -116,11 +120,11 @@ module _ (was log : Log) (moment : ℕ) (room : Room) (old : Device) (s : State)
     votes = subst (λ (t : Status). CanWrite p.descriptor (members_there p.descriptor t)) wanted (as_first (λ (c : Core). CanWrite c.descriptor (is_there c)) it.started.settled.votes);
     behind = λ pp. not_entailed first fitting.valid fitting.group (as_first (λ (c : Core). c.status.committed ≡ c.status.wanted) it.started.settled.committed)
         (as_first (λ (c : Core). NoneIsLeft c.descriptor c.status) it.started.left) pp;
-    numbers = let few = few_updates first fitting.valid its.requests refl in omega (arith, few);
+    numbers = let few = few_updates first fitting.valid its.requests refl in let most = b.low in omega (arith, few, most);
   }
 
   abbrev start : Start
-  start = record { device = s.device; parts = p; history = log; stamp = second moment; homes = b.homes; faults = s.core.origin.faults }
+  start = record { device = s.device; parts = p; history = log; stamp = stamp_of moment b.seq; homes = b.homes; faults = s.core.origin.faults }
 
   same : s ≡ begun start
   same = ap (λ (c : Core). state s.device c) b.is
@@ -161,8 +165,8 @@ module _ (was log : Log) (moment : ℕ) (room : Room) (old : Device) (s : State)
 
   calm_first : IsCalm s.core
   calm_first = record {
-    sound = subst (λ (c : Core). IsSoundStatus (seen c.status)) (sym b.is) (subst (λ (u : Updates). IsSoundStatus (record u { stamp = second moment })) (sym its.status)
-        (steps_stay_sound (SetStamp (second moment)) (first_updates p.table p.descriptor) (record (first_updates p.table p.descriptor) { stamp = second moment }) (first_is_sound p.table p.descriptor) (refl, refl)));
+    sound = subst (λ (c : Core). IsSoundStatus (seen c.status)) (sym b.is) (subst (λ (u : Updates). IsSoundStatus (record u { stamp = stamp_of moment b.seq })) (sym its.status)
+        (steps_stay_sound (SetStamp (stamp_of moment b.seq)) (first_updates p.table p.descriptor) (record (first_updates p.table p.descriptor) { stamp = stamp_of moment b.seq }) (first_is_sound p.table p.descriptor) (refl, refl)));
     committed = it.started.settled.committed ∙ table;
     wanted = table;
     in_flight = it.started.settled.quiet.status;
@@ -191,8 +195,9 @@ module _ (was log : Log) (moment : ℕ) (room : Room) (old : Device) (s : State)
     behind = λ pp. not_entailed s.core it.sound.fitting.valid it.sound.fitting.group it.started.settled.committed it.started.left pp;
     numbers =
         let few = few_updates s.core it.sound.fitting.valid it.started.settled.quiet.requests it.started.settled.quiet.copy in
-        let two : s.core.status.stamp.seq ≡ 2 = ap (λ (c : Core). c.status.stamp.seq) b.is in
-        omega (arith, few, two);
+        let seq_is : s.core.status.stamp.seq ≡ b.seq = ap (λ (c : Core). c.status.stamp.seq) b.is in
+        let most = b.low in
+        omega (arith, few, seq_is, most);
   }
 
   begins : BeginsSound start
@@ -268,8 +273,10 @@ varied_on_serves m was name moment room old s media on it leads driven only even
     let b : Begins was moment s = record {
       parts = on.first.parts;
       homes = s.core.homes;
-      reserved = its_own on.written.group on.written.next (room_of room) on.first.parts on.first.reserved;
+      reserved = its_own on.written.group (status_after on.written.next on.written.clean) (room_of room) on.first.parts on.first.reserved;
       fits = fits;
+      seq = last_seq on.written.clean;
+      low = last_seq_low on.written.clean;
       is = on.first.is;
     } in
     let early = on.written.chosen.early in
@@ -285,6 +292,8 @@ made_serves m was w room old s media made it leads driven only power past begins
       homes = made.next;
       reserved = its_own (new_group old.sizes w) (new_status w) (room_of room) made.reserved made.parts;
       fits = fits;
+      seq = 2;
+      low = omega arith;
       is = made.core_is;
     } in
     let none : s.core.descriptor.lvs ≡ [] = ap (λ (c : Core). c.descriptor.lvs) made.core_is ∙ ap (λ (d : Descriptor). d.lvs) made.parts.descriptor in

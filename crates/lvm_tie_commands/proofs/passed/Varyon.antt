@@ -1,2 +1,2 @@
 -- Passed on from `lvm_varyon`.
-pub use Rattle.lvm_handover.proofs.passed.Varyon.{HasWrote, failed_rests, failed_rose, found_restated, holds_finds, same_orders, status_fits, wrote_broken, wrote_equalled, wrote_failed}
+pub use Rattle.lvm_handover.proofs.passed.Varyon.{HasWrote, failed_rests, failed_rose, found_restated, holds_finds, same_orders, second_fits, status_fits, wrote_broken, wrote_equalled, wrote_failed}

@@ -9,7 +9,7 @@ use Rattle.lvm_operands.specs.declared.rest.Misfit.{Misfit}
 use Rattle.lvm_parse.specs.Grammar.{line_of}
 use Rattle.lvm_core.specs.declared.parts.Room.{Room}
 use Rattle.lvm_session.specs.State.{Core}
-use Rattle.lvm_line.specs.Causes.{IsBroughtBack}
+use Rattle.lvm_line.specs.passed.Varyon.{IsRecovered}
 use Rattle.lvm_line.specs.Lines.{IsLine}
 use Rattle.lvm_line.specs.passed.Quiesce.{Quiesces}
 use Rattle.lvm_line.specs.passed.RefusalVariants as refusal
@@ -25,7 +25,7 @@ use Rattle.lvm_top.proofs.ScriptLemmas.Scripting.{begins_timely, script_went}
 module _ (log : Log) (room : Room) where
   -- ---- a line
 
-  comes_back : (old new : ScriptState) → (core : Core) × (new.session ≡ Some core) × ((quiet : Device) × Quiesces old.moment.device quiet × IsBroughtBack quiet new.moment.device core.descriptor) → ComesBack old new
+  comes_back : (old new : ScriptState) → (core : Core) × (new.session ≡ Some core) × ((quiet : Device) × Quiesces old.moment.device quiet × IsRecovered quiet new.moment.device core.descriptor) → ComesBack old new
   comes_back old new (core, on, (quiet, quiesces, back)) = record { core = core; on = on; quiet = quiet; quiesces = quiesces; back = back }
 
   varyon_recovers : (line name : List ℕ) (old new : ScriptState) → IsTimely log.run old → line_of line ≡ Ok (Some (command.Varyon name)) → (answer : Reply) → IsLine log room line answer old new → RecoversBy answer old new

@@ -1,6 +1,6 @@
 -- What is found after the varying on of a group, whatever became of it: what was found before.
 use Rattle.std.proofs.Common.{◌≡◌, ◌≢◌, ⊎_elim, ℕ, ◌-◌, ◌^◌, ◌<◌, ◌≤◌, true, List, [], length, Option, Some, None, refl, sym, ap, subst, ◌∙◌, arith}
-use Rattle.std.specs.Prelude.{IsTrue, IsSomeAnd, nat_lt, nat_le, slice_get, slice_index_or}
+use Rattle.std.specs.Prelude.{IsTrue, IsSomeAnd, nat_lt, nat_le, option_map, slice_get, slice_index_or}
 use Rattle.std.proofs.lemmas.Bool.{and_from, lt-ltb, le-leb}
 use Rattle.std.proofs.lemmas.Option.{slice_get_within, get_or_from_slice_get}
 use Rattle.lvm_num.specs.declared.record.Framed.{Framed}
@@ -36,7 +36,7 @@ use Rattle.lvm_write.specs.Beginning.{Beginning, Part, describes, states, IsOfPa
 use Rattle.lvm_core.proofs.RecordLemmas.{descriptor_fits}
 use Rattle.lvm_core.specs.Leaves.{MayBeFound}
 use Rattle.lvm_line.specs.passed.Varyon.{answering, MayComeOn, records_on, HasWritten, Recopy, beginning}
-use Rattle.lvm_line.proofs.passed.Varyon.{HasWrote, found_restated, holds_finds, status_fits}
+use Rattle.lvm_line.proofs.passed.Varyon.{HasWrote, found_restated, holds_finds, second_fits, status_fits}
 use Rattle.lvm_top.proofs.Begun.{MayDescribe, IsIts, begun_finds}
 use Rattle.lvm_top.proofs.Devices.{IsShelf, NothingNew, unwritten_nothing}
 
@@ -55,7 +55,7 @@ told_first old new R both image left = go old.media new.media refl both left
     go None None is told may = absurd may
     go None (Some k) is told may = absurd told
 
-module _ (old new : Device) (name : List ℕ) (moment : ℕ) (How : Beginning → List Recopy → Device → Type 0) (written : HasWritten old new name moment How) where
+module _ (old new : Device) (name : List ℕ) (moment : ℕ) (How : Beginning → Option (List ℕ) → List Recopy → Device → Type 0) (written : HasWritten old new name moment How) where
   abbrev group : Descriptor
   group = written.group
 
@@ -138,6 +138,7 @@ module _ (old new : Device) (name : List ℕ) (moment : ℕ) (How : Beginning �
         (begun_finds b written.group written.next parts read last may keeps.media still id k it)
 
     -- whatever of all that it writes has
-    pub all_nothing : HasWrote (beginning moment written.group written.next targets written.writes.homes) written.copies written.writes.read new → new.flights ≡ [] → NothingNew old new
+    pub all_nothing : HasWrote (beginning moment written.group written.next targets written.writes.homes) (option_map status_bytes written.clean) written.copies written.writes.read new → new.flights ≡ [] → NothingNew old new
     all_nothing it still id k found = written_nothing it.restated it.parts it.records (it.rested still) id k
-        (found_restated (beginning moment written.group written.next targets written.writes.homes) written.copies written.writes.read new written.found.shown written.group (Some written.was) targets written.planned it still id k found)
+        (found_restated (beginning moment written.group written.next targets written.writes.homes) (option_map status_bytes written.clean) written.copies written.writes.read new written.found.shown written.group (Some written.was) targets written.planned
+        (second_fits written.clean written.clean_valid) it still id k found)

@@ -128,10 +128,10 @@ module _ (log : Log) (old new : ScriptState) (answer : Reply) (shelf : IsShelf o
       stops_nothing (cause.ClockBack seen) heard refuses = unwritten_nothing mid left refuses.1.unwritten refuses.1.rested.ready.flights
       stops_nothing (cause.DiskFailed disk) heard refuses =
           let failed = refuses.1.writes.how in
-          all_nothing mid left name new.last _ refuses.1 (mid_shelf mid quiet) some (behind mid quiet asks) (wrote_failed _ refuses.1.copies refuses.1.writes.read left disk failed) (failed_rests _ refuses.1.copies refuses.1.writes.read left disk failed)
+          all_nothing mid left name new.last _ refuses.1 (mid_shelf mid quiet) some (behind mid quiet asks) (wrote_failed _ _ refuses.1.copies refuses.1.writes.read left disk failed) (failed_rests _ _ refuses.1.copies refuses.1.writes.read left disk failed)
       stops_nothing cause.Dark heard refuses = ⊎_elim
           (λ un. unwritten_nothing mid left un refuses.1.how.flights)
-          (λ it. all_nothing mid left name new.last _ it (mid_shelf mid quiet) some (behind mid quiet asks) (wrote_broken _ it.copies it.writes.read left it.writes.how) refuses.1.how.flights)
+          (λ it. all_nothing mid left name new.last _ it (mid_shelf mid quiet) some (behind mid quiet asks) (wrote_broken _ _ it.copies it.writes.read left it.writes.how) refuses.1.how.flights)
           refuses.1.when
       stops_nothing cause.Stuck heard refuses = absurd (heard refl)
       stops_nothing cause.Memory heard refuses = unwritten_nothing mid left refuses.1.0 refuses.1.1.ready.flights
@@ -149,7 +149,7 @@ module _ (log : Log) (old new : ScriptState) (answer : Reply) (shelf : IsShelf o
     outcome_nothing room left is (Ok core) asks (WentQuiet may once) gone id k it =
         let written = once.goes.gives.written in
         quiet_nothing old.moment.device once.mid once.quiesces id k
-        (all_nothing once.mid left name new.last _ written (mid_shelf once.mid once.quiesces) (some_moment old.last new.last asks) (behind once.mid once.quiesces asks) (wrote_equalled _ written.copies written.writes.read left core.homes written.writes.how)
+        (all_nothing once.mid left name new.last _ written (mid_shelf once.mid once.quiesces) (some_moment old.last new.last asks) (behind once.mid once.quiesces asks) (wrote_equalled _ _ written.copies written.writes.read left core.homes written.writes.how)
         written.writes.how.equal.rested.ready.flights id k (subst (λ (d : Device). MayBeFound d id k) (sym gone.0) it))
     outcome_nothing room left is (Err why) asks (WentQuiet may once) gone id k it =
         quiet_nothing old.moment.device once.mid once.quiesces id k

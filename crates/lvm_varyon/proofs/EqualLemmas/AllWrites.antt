@@ -1,5 +1,5 @@
 -- The records, and then the copies and the notes.
-use Rattle.std.proofs.Common.{inl, inr, ℕ, false, List, Err, ◌∙◌, subst}
+use Rattle.std.proofs.Common.{inl, inr, ℕ, false, List, Option, Result, Ok, Err, ◌∙◌, subst}
 use Rattle.lvm_disk.specs.Counts.{Rose}
 use Rattle.lvm_disk.specs.Device.{Device}
 use Rattle.lvm_rec.specs.declared.homes.Homes.{Homes}
@@ -14,24 +14,24 @@ use Rattle.lvm_varyon.specs.Equal.{AllWritesGive, AllWritesKeep, EqualGives}
 use Rattle.lvm_varyon.specs.Parts.{StopsWriting}
 use Rattle.lvm_varyon.specs.Writing.{AllWritten}
 
-module _ (b : Beginning) (copies : List Recopy) (before : ℕ) (read : Device) where
+module _ (b : Beginning) (copies : List Recopy) (second : Option (List ℕ)) (before : ℕ) (read : Device) where
   -- not all records stand
-  pub records_stop : (new : Device) (why : Cause) → StopsWriting before b (again_order false) read new why → AllWritesGive before b copies read new (Err why)
+  pub records_stop : (new : Device) (why : Cause) → StopsWriting before b (again_order false) read new why → AllWritesGive before b copies second read new (Err why)
   records_stop new (cause.DiskFailed disk) bad = inl bad
   records_stop new cause.Dark off = (off.0, inl off.1)
   records_stop new cause.Stuck off = (off.0, inl off.1)
   records_stop new _ off = off
 
-  pub records_kept : (new : Device) → AgainStaysKept b false read new → AllWritesKeep b copies read new
+  pub records_kept : (new : Device) → AgainStaysKept b false read new → AllWritesKeep b copies second read new
   records_kept new kept group status disks was may equal = kept group status disks was may
 
-  module _ (homes : Homes) (restated new : Device) (written : AllWritten b (again_order false) homes read restated) where
-    -- they do, but not all copies were made, or not all notes emptied
-    pub equal_stops : (between : ℕ) → Spends before between read restated → (why : Cause) → EqualGives between copies b.epoch b.targets restated new (Err why) → AllWritesGive before b copies read new (Err why)
-    equal_stops between spends (cause.DiskFailed disk) bad = inr (record { restated = restated; homes = homes; written = written; stops = bad })
+  module _ (first : Homes) (restated new : Device) (written : AllWritten b (again_order false) first read restated) where
+    -- they do, but not all copies were made, not all of the second status stands, or not all notes were emptied
+    equal_stops : (between : ℕ) → Spends before between read restated → (why : Cause) → EqualGives between copies second b.epoch b.targets first restated new (Err why) → AllWritesGive before b copies second read new (Err why)
+    equal_stops between spends (cause.DiskFailed disk) bad = inr (record { restated = restated; homes = first; written = written; stops = bad })
     equal_stops between spends cause.Dark off = (
       record { power = off.0.power; flights = off.0.flights; cuts = subst (λ (n : ℕ). Rose n new.counts.cuts) written.rested.cuts off.0.cuts },
-      inr (record { restated = restated; homes = homes; written = written; stops = off.1 }),
+      inr (record { restated = restated; homes = first; written = written; stops = off.1 }),
     )
     equal_stops between spends cause.Stuck off = (
       record {
@@ -42,9 +42,14 @@ module _ (b : Beginning) (copies : List Recopy) (before : ℕ) (read : Device) w
         cuts = off.0.cuts ∙ written.rested.cuts;
         waited = spent_then before between read restated new spends off.0.waited;
       },
-      inr (record { restated = restated; homes = homes; written = written; stops = off.1 }),
+      inr (record { restated = restated; homes = first; written = written; stops = off.1 }),
     )
     equal_stops between spends _ off = off
 
-    pub all_kept : AgainStaysKept b false read restated → EqualisedStaysKept copies b.targets restated new → AllWritesKeep b copies read new
-    all_kept records equal group status disks was may may_equal = kept_then read restated new (records group status disks was may) (equal group status b.targets (may_equal homes restated written))
+    -- whatever they answer
+    pub all_give : (between : ℕ) → Spends before between read restated → (r : Result Homes Cause) → EqualGives between copies second b.epoch b.targets first restated new r → AllWritesGive before b copies second read new r
+    all_give between spends (Ok homes) equal = record { restated = restated; first = first; written = written; equal = equal }
+    all_give between spends (Err why) off = equal_stops between spends why off
+
+    pub all_kept : AgainStaysKept b false read restated → EqualisedStaysKept copies second b.epoch b.targets first restated new → AllWritesKeep b copies second read new
+    all_kept records equal group status disks was may may_equal = kept_then read restated new (records group status disks was may) (equal group status b.targets (may_equal first restated written))

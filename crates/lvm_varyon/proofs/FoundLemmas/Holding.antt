@@ -1,6 +1,6 @@
 -- What the session that a varyon begins finds on its disks.
 use Rattle.std.proofs.Common.{◌≡◌, ℕ, Bool, true, false, ◌&&◌, ◌++◌, List, [], Option, Some, None, refl, sym, ap, subst, ◌∙◌}
-use Rattle.std.specs.Prelude.{IsTrue, not, nat_le}
+use Rattle.std.specs.Prelude.{IsTrue, not, nat_le, option_map}
 use Rattle.lvm_num.specs.declared.record.Stamp.{Stamp}
 use Rattle.lvm_num.specs.declared.descriptor.PvRow.{PvRow}
 use Rattle.lvm_num.specs.declared.descriptor.Descriptor.{Descriptor}
@@ -9,29 +9,31 @@ use Rattle.lvm_num.specs.Disks.{Disks}
 use Rattle.lvm_num.specs.Descriptor.{is_member}
 use Rattle.lvm_num.specs.Geometry.{sectors_needed}
 use Rattle.lvm_num.specs.Status.{calls_missing}
+use Rattle.lvm_num.specs.StatusBytes.{status_bytes}
 use Rattle.lvm_disk.specs.Counts.{Rose}
 use Rattle.lvm_disk.specs.Device.{Media, Range, Device, image_of}
 use Rattle.lvm_disk.specs.Steps.{BothTold}
 use Rattle.lvm_vol.specs.Facts.{Fact}
 use Rattle.lvm_vol.specs.Log.{Log}
-use Rattle.lvm_kept.specs.Contents.{Contents, contents_of, has_records}
+use Rattle.lvm_kept.specs.Contents.{Contents, contents_of}
 use Rattle.lvm_kept.specs.Recovered.{Recovered}
-use Rattle.lvm_steps.specs.Behind.{StampsBefore, IsBehind}
+use Rattle.lvm_steps.specs.Behind.{IsBehind}
 use Rattle.lvm_steps.specs.Moments.{ImagesKept}
 use Rattle.lvm_steps.proofs.MakingLemmas.Making.{media_may}
 use Rattle.lvm_rec.specs.declared.homes.Homes.{Homes}
-use Rattle.lvm_write.specs.Homes.{SparesNewest}
 use Rattle.lvm_status.specs.Update.{Updates}
 use Rattle.lvm_mwc.specs.Cache.{is_named as is_named_by}
-use Rattle.lvm_varyon.specs.passed.Names.{next_stamp, ShowsCommitted, HoldsCommitted, Core, is_there, Parts, first_core, Room, NotesAreHome, HasNoPassive}
+use Rattle.lvm_varyon.specs.passed.Names.{HoldsCommitted, Core, is_there, Parts, first_core, Room, NotesAreHome}
 use Rattle.lvm_varyon.proofs.passed.Names.{empty_names_none}
-use Rattle.lvm_write.specs.Restated.{Restated}
+use Rattle.lvm_write.specs.Written.{KeepsShelf}
 use Rattle.lvm_varyon.specs.Chosen.{answering}
 use Rattle.lvm_varyon.specs.Equal.{MakesEqual}
 use Rattle.lvm_varyon.specs.Found.{HaveAnswered}
-use Rattle.lvm_varyon.specs.Varied.{IsAheadOfDisks, IsBrought, last_stamp}
-use Rattle.lvm_varyon.proofs.After.{HasRecords, MayHaveRecords, records_keep, records_there, room_member, stamps_before, target_room}
-use Rattle.lvm_varyon.proofs.Equalled.{none_named, restated_last, shows_last, spares_last, stamps_last}
+use Rattle.lvm_varyon.specs.Second.{status_after, last_stamp}
+use Rattle.lvm_varyon.specs.Varied.{IsAheadOfDisks, IsBrought}
+use Rattle.lvm_varyon.proofs.After.{HasRecords, MayHaveRecords, records_keep, room_member, target_room}
+use Rattle.lvm_varyon.proofs.SecondLemmas.{IsOfSecond, same_missing, stated_keeps}
+use Rattle.lvm_varyon.proofs.Equalled.{last_holds, none_named}
 use Rattle.lvm_varyon.proofs.RecoveredLemmas.{recovered, shown_recovered}
 
 told_before : (a b : Option Media) (R : Media → Media → Type 0) (m : Media) → b ≡ Some m → BothTold a b R → (was : Media) × (a ≡ Some was)
@@ -45,16 +47,25 @@ told_after None b R m e both = absurd cc
 told_after (Some w) None R m e both = absurd both
 told_after (Some w) (Some n) R m e both = (n, refl)
 
-module _ (old new : Device) (name : List ℕ) (moment : ℕ) (room : Room) (parts : Parts) (homes : Homes) (is : IsBrought old new name moment room parts homes) where
+module _ (old new : Device) (name : List ℕ) (moment : ℕ) (room : Room) (parts : Parts) (seq : ℕ) (homes : Homes) (is : IsBrought old new name moment room parts seq homes) where
   -- when its records stood
   abbrev mid : Device
   mid = is.written.writes.how.restated
 
-  abbrev equal : MakesEqual is.written.copies moment (answering is.written.found.shown is.written.group) is.written.writes.how.restated new
+  abbrev second : Option (List ℕ)
+  second = option_map status_bytes is.written.clean
+
+  abbrev first : Homes
+  first = is.written.writes.how.first
+
+  abbrev equal : MakesEqual is.written.copies (option_map status_bytes is.written.clean) moment (answering is.written.found.shown is.written.group) is.written.writes.how.first homes is.written.writes.how.restated new
   equal = is.written.writes.how.equal
 
+  states_keep : KeepsShelf (answering is.written.found.shown is.written.group) (IsOfSecond second moment (answering is.written.found.shown is.written.group) first) equal.copied equal.stated
+  states_keep = stated_keeps second moment (answering is.written.found.shown is.written.group) first homes equal.copied equal.stated equal.states
+
   same_misses : new.counts.misses ≡ mid.counts.misses
-  same_misses = equal.only.misses ∙ equal.made.keeps.misses
+  same_misses = equal.only.misses ∙ states_keep.misses ∙ equal.made.keeps.misses
 
   pub have_mid : HaveAnswered old is.written.writes.how.restated is.written.found.answered
   have_mid = record {
@@ -63,7 +74,7 @@ module _ (old new : Device) (name : List ℕ) (moment : ℕ) (room : Room) (part
     badly = λ d has_room off. subst (λ (n : ℕ). Rose (old.counts.misses d) n) (ap (λ (m : ℕ → ℕ). m d) same_misses) (is.written.found.have.badly d has_room off);
   }
 
-  abbrev pub records : HasRecords old is.written.writes.how.restated name moment homes
+  abbrev pub records : HasRecords old is.written.writes.how.restated name moment is.written.writes.how.first
   records = record {
     found = record {
       answered = is.written.found.answered;
@@ -79,6 +90,9 @@ module _ (old new : Device) (name : List ℕ) (moment : ℕ) (room : Room) (part
     chosen = is.written.chosen;
     answered = is.written.answered;
     next_is = is.written.next_is;
+    clean = is.written.clean;
+    clean_is = is.written.clean_is;
+    clean_valid = is.written.clean_valid;
     copies = is.written.copies;
     planned = is.written.planned;
     order = is.written.order;
@@ -96,7 +110,8 @@ module _ (old new : Device) (name : List ℕ) (moment : ℕ) (room : Room) (part
 
   pub was_told : (last : Media) → new.media ≡ Some last → (was : Media) × (old.media ≡ Some was)
   was_told last told_last =
-      let copied = told_before equal.copied.media new.media _ last told_last equal.only.media in
+      let stated = told_before equal.stated.media new.media _ last told_last equal.only.media in
+      let copied = told_before equal.copied.media equal.stated.media _ stated.0 stated.1 states_keep.media in
       let stood = told_before mid.media equal.copied.media _ copied.0 copied.1 equal.made.keeps.media in
       let read = told_before is.written.writes.read.media mid.media _ stood.0 stood.1 is.written.writes.how.written.keeps.media in
       (read.0, sym is.written.writes.unwritten.media ∙ read.1)
@@ -108,46 +123,55 @@ module _ (old new : Device) (name : List ℕ) (moment : ℕ) (room : Room) (part
     between : (m : Media) × (equal.copied.media ≡ Some m)
     between = told_after mid.media equal.copied.media _ stood.0 stood.1 equal.made.keeps.media
 
+    stated : (m : Media) × (equal.stated.media ≡ Some m)
+    stated = told_after equal.copied.media equal.stated.media _ between.0 between.1 states_keep.media
+
     abbrev final : Contents
     final = contents_of (image_of new.sizes last)
 
-    may : MayHaveRecords old mid name moment homes records was
+    may : MayHaveRecords old mid name moment first records was
     may = is.may ahead was told
 
-    pub restated : Restated (contents_of (image_of old.sizes was)) final is.written.found.answered is.written.group
-    restated = restated_last old mid name moment homes records was stood.0 told stood.1 may is.valid new equal between.0 last between.1 told_last
+    behind : IsBehind moment old
+    behind = ahead is.written.chosen.early
 
-    pub recovers : (first more : List Range) → old.wrote ≡ Some first → new.wrote ≡ Some (first ++ more) → HasNoPassive is.written.group
+    pub recovers : (front more : List Range) → old.wrote ≡ Some front → new.wrote ≡ Some (front ++ more)
         → Recovered (contents_of (image_of old.sizes was)) more final is.written.found.answered is.written.group.id is.written.group
-    recovers = recovered old mid name moment homes records was stood.0 told stood.1 may is.valid new equal between.0 last between.1 told_last
+    recovers = recovered old mid name moment first records was stood.0 told stood.1 may is.valid new homes equal behind between.0 stated.0 last between.1 stated.1 told_last
 
-    pub shows_recovered : HasNoPassive is.written.group → Recovered (contents_of (image_of old.sizes was)) [] final is.written.found.answered is.written.group.id is.written.group
-    shows_recovered = shown_recovered old mid name moment homes records was stood.0 told stood.1 may is.valid new equal between.0 last between.1 told_last
+    pub shows_recovered : Recovered (contents_of (image_of old.sizes was)) [] final is.written.found.answered is.written.group.id is.written.group
+    shows_recovered = shown_recovered old mid name moment first records was stood.0 told stood.1 may is.valid new homes equal behind between.0 stated.0 last between.1 stated.1 told_last
 
     -- ---- the session
 
-    module _ (core : Core) (log : Log) (core_is : core ≡ first_core parts log (last_stamp moment) homes core.origin.faults) where
+    module _ (core : Core) (log : Log) (core_is : core ≡ first_core parts log (record { epoch = moment; seq = seq }) homes core.origin.faults) where
       abbrev targets : Disks
       targets = answering is.written.found.shown is.written.group
 
       group_is : core.descriptor ≡ is.written.group
       group_is = ap (λ (c : Core). c.descriptor) core_is ∙ is.reserved.descriptor
 
-      wanted : core.status.wanted ≡ is.written.next
+      abbrev stands : Status
+      stands = status_after is.written.next is.written.clean
+
+      wanted : core.status.wanted ≡ status_after is.written.next is.written.clean
       wanted = ap (λ (c : Core). c.status.wanted) core_is ∙ ap (λ (u : Updates). u.wanted) is.reserved.status
 
-      committed : core.status.committed ≡ is.written.next
+      committed : core.status.committed ≡ status_after is.written.next is.written.clean
       committed = ap (λ (c : Core). c.status.committed) core_is ∙ ap (λ (u : Updates). u.committed) is.reserved.status
 
-      stamp_is : core.status.stamp ≡ last_stamp moment
-      stamp_is = ap (λ (c : Core). c.status.stamp) core_is
+      stamp_is : core.status.stamp ≡ last_stamp moment is.written.clean
+      stamp_is = ap (λ (c : Core). c.status.stamp) core_is ∙ ap (λ (n : ℕ). record { epoch = moment; seq = n }) is.seq_is
+
+      missing_are : (d : ℕ) → calls_missing stands d ≡ calls_missing is.written.next d
+      missing_are d = same_missing is.written.group (answering is.written.found.shown is.written.group) moment is.written.next is.written.clean is.written.clean_is d
 
       homes_are : core.homes ≡ homes
       homes_are = ap (λ (c : Core). c.homes) core_is
 
       -- the members that aren't missing are the targets
       there_are : is_there core ≡ targets
-      there_are = (λ i d. is_member (group_is i) d && not (calls_missing (wanted i) d)) ∙ (λ i d. (ap (λ (m : Bool). is_member is.written.group d && not m) (is.written.next_is.missing d) ∙ by_member (is_member is.written.group d) (targets d) (target_member d)) i)
+      there_are = (λ i d. is_member (group_is i) d && not (calls_missing (wanted i) d)) ∙ (λ i d. (ap (λ (m : Bool). is_member is.written.group d && not m) (missing_are d ∙ is.written.next_is.missing d) ∙ by_member (is_member is.written.group d) (targets d) (target_member d)) i)
         where
           by_member : (m t : Bool) → (t ≡ true → m ≡ true) → m && not (m && not t) ≡ t
           by_member true true e = refl
@@ -157,7 +181,7 @@ module _ (old new : Device) (name : List ℕ) (moment : ℕ) (room : Room) (part
 
           target_member : (d : ℕ) → targets d ≡ true → is_member is.written.group d ≡ true
           target_member d target = room_member is.written.group.pvs d (λ (row : PvRow). nat_le (sectors_needed is.written.group.mib row.pps) ((contents_of (image_of mid.sizes stood.0)).size d))
-              (target_room old mid name moment homes records was stood.0 told stood.1 may d target)
+              (target_room old mid name moment first records was stood.0 told stood.1 may d target)
 
       on_target : (d : ℕ) → IsTrue (is_there core d) → IsTrue (targets d)
       on_target d present = sym (ap (λ (v : Disks). v d) there_are) ∙ present
@@ -165,25 +189,16 @@ module _ (old new : Device) (name : List ℕ) (moment : ℕ) (room : Room) (part
       -- the notes name nothing, and no more does the cache
       pub notes_home : NotesAreHome core (image_of new.sizes last)
       notes_home d lv track_group present =
-          none_named old mid name moment homes records was stood.0 told stood.1 may is.valid new equal between.0 last between.1 told_last d lv track_group (on_target d present)
+          none_named old mid name moment first records was stood.0 told stood.1 may is.valid new homes equal behind between.0 stated.0 last between.1 stated.1 told_last d lv track_group (on_target d present)
           ∙ sym (ap (λ (c : Core). is_named_by c.cache d lv track_group) core_is ∙ empty_names_none is.written.group parts.cache is.reserved.cache d lv track_group)
 
       -- where a history was kept
-      shows : (facts : List Fact) → ImagesKept old facts → ShowsCommitted final core.descriptor core.status.committed (is_there core)
-      shows facts kept = subst (λ (g : Descriptor). ShowsCommitted final g core.status.committed (is_there core)) (sym group_is)
-          (subst (λ (s : Status). ShowsCommitted final is.written.group s (is_there core)) (sym committed)
-          (subst (λ (v : Disks). ShowsCommitted final is.written.group is.written.next v) (sym there_are)
-          (shows_last old mid name moment homes records was stood.0 told stood.1 may is.valid new equal between.0 last between.1 told_last facts
-          (records_keep old mid name moment homes records was stood.0 told stood.1 may facts (kept (image_of old.sizes was) (media_may old was told)))).0))
-
-      pub holds : (facts : List Fact) → ImagesKept old facts → IsBehind moment old → HoldsCommitted (image_of new.sizes last) core.descriptor core.status.committed (is_there core) core.status.stamp core.homes
-      holds facts kept behind = record {
-        shows = shows facts kept;
-        stamps = subst (λ (s : Stamp). StampsBefore (next_stamp s) (image_of new.sizes last)) (sym stamp_is)
-            (stamps_last old mid name moment homes records was stood.0 told stood.1 may is.valid new equal between.0 last between.1 told_last (record { epoch = moment; seq = 3 })
-            (stamps_before old mid name moment homes records was stood.0 told stood.1 may behind));
-        there = λ d present. ap (λ (sizes : List ℕ). has_records (image_of sizes last) d) (equal.only.sizes ∙ equal.made.keeps.sizes)
-            ∙ records_there old mid name moment homes records was stood.0 told stood.1 may d (on_target d present);
-        homes = λ d present. subst (λ (h : Homes). SparesNewest h (image_of new.sizes last) d) (sym homes_are)
-            (spares_last old mid name moment homes records was stood.0 told stood.1 may is.valid new equal between.0 last between.1 told_last d (on_target d present));
-      }
+      pub holds : (facts : List Fact) → ImagesKept old facts → HoldsCommitted (image_of new.sizes last) core.descriptor core.status.committed (is_there core) core.status.stamp core.homes
+      holds facts kept =
+          subst (λ (g : Descriptor). HoldsCommitted (image_of new.sizes last) g core.status.committed (is_there core) core.status.stamp core.homes) (sym group_is)
+          (subst (λ (s : Status). HoldsCommitted (image_of new.sizes last) is.written.group s (is_there core) core.status.stamp core.homes) (sym committed)
+          (subst (λ (v : Disks). HoldsCommitted (image_of new.sizes last) is.written.group stands v core.status.stamp core.homes) (sym there_are)
+          (subst (λ (s : Stamp). HoldsCommitted (image_of new.sizes last) is.written.group stands targets s core.homes) (sym stamp_is)
+          (subst (λ (h : Homes). HoldsCommitted (image_of new.sizes last) is.written.group stands targets (last_stamp moment is.written.clean) h) (sym homes_are)
+          (last_holds old mid name moment first records was stood.0 told stood.1 may is.valid new homes equal behind between.0 stated.0 last between.1 stated.1 told_last facts
+          (records_keep old mid name moment first records was stood.0 told stood.1 may facts (kept (image_of old.sizes was) (media_may old was told))))))))

@@ -1,5 +1,5 @@
 -- The reading, the plan and the writes together.
-use Rattle.std.proofs.Common.{◌≡◌, ◌≢◌, inl, inr, ℕ, ◌+◌, ◌-◌, ◌<◌, ◌≤◌, List, Option, Some, None, Result, Ok, Err, refl, sym, subst, ◌∙◌, arith}
+use Rattle.std.proofs.Common.{◌≡◌, ◌≢◌, inl, inr, ℕ, ◌+◌, ◌-◌, ◌<◌, ◌≤◌, List, Option, Some, None, Result, Ok, Err, refl, sym, ap, subst, ◌∙◌, arith}
 use Rattle.std.proofs.lemmas.Bool.{cases_lt}
 use Rattle.std.specs.Prelude.{IsTrue, false, ◌^◌, IfSome}
 use Rattle.lvm_num.specs.Disks.{Disks, has}
@@ -30,6 +30,8 @@ use Rattle.lvm_write.specs.Beginning.{Beginning, Part, again_beginning, IsOfPart
 use Rattle.lvm_write.proofs.ShownLemmas.Following.{stamps_are_of_beginning}
 use Rattle.lvm_write.specs.Next.{IsNextStatus}
 use Rattle.lvm_varyon.specs.declared.plan.Plan.{Plan}
+use Rattle.lvm_varyon.specs.Copied.{all_copies}
+use Rattle.lvm_varyon.specs.Second.{first_stated, IsSecond, last_seq}
 use Rattle.lvm_varyon.specs.Chosen.{answering}
 use Rattle.lvm_varyon.specs.Equal.{AllWritesGive, BrokeOff, IsEqualled, OneFailed}
 use Rattle.lvm_varyon.specs.Writing.{beginning, IsStillOut}
@@ -38,7 +40,8 @@ use Rattle.lvm_varyon.specs.Planned.{NotChosen, IsPlan}
 use Rattle.lvm_varyon.specs.Parts.{IsSurveyOf, StopsReading}
 use Rattle.lvm_varyon.proofs.FoundLemmas.Seeing.{answered_by, found_at}
 use Rattle.lvm_varyon.proofs.Beginning.{spared, may_begin, target_answers}
-use Rattle.lvm_varyon.proofs.Beside.{beside_stays_behind, copies_beside, notes_beside}
+use Rattle.lvm_varyon.proofs.Beside.{beside_stays_behind, copies_beside, earlier_stays_behind, notes_beside}
+use Rattle.lvm_varyon.proofs.SecondLemmas.{IsOfSecond, SecondFits, second_earlier, second_fits, seq_as_bytes}
 use Rattle.lvm_varyon.proofs.EndingLemmas.{placed}
 use Rattle.lvm_varyon.proofs.EqualLemmas.Wrote.{HasWrote, same_misses, same_sizes, wrote}
 
@@ -86,8 +89,8 @@ module _ (old read : Device) (survey : Survey) (is : IsSurveyOf old read survey)
   beginning_is = λ i. again_beginning moment (by.descriptor i) (by.status i) (targets_are i) plan.homes
 
   -- what was written, of the group that may come on
-  abbrev pub has_written : (new : Device) → new.counts.misses ≡ read.counts.misses → (How : Beginning → List Recopy → Device → Type 0)
-      → How (again_beginning moment plan.descriptor plan.status (has plan.targets) plan.homes) plan.copies read → HasWritten old new name moment How
+  abbrev pub has_written : (new : Device) → new.counts.misses ≡ read.counts.misses → (How : Beginning → Option (List ℕ) → List Recopy → Device → Type 0)
+      → How (again_beginning moment plan.descriptor plan.status (has plan.targets) plan.homes) plan.second (all_copies plan) read → HasWritten old new name moment How
   has_written new same How how = record {
     found = found_at old read survey is new same;
     group = by.group;
@@ -96,9 +99,12 @@ module _ (old read : Device) (survey : Survey) (is : IsSurveyOf old read survey)
     chosen = by.chosen;
     answered = λ d target. target_answers old read survey is name moment some room plan by d (by.targets d ∙ target);
     next_is = subst (λ (t : Disks). IsNextStatus by.group t by.was by.next) targets_are by.next_is;
-    copies = plan.copies;
-    planned = subst (λ (t : Disks). ArePlanned (surveyed survey) by.group (Some by.was) t plan.copies) targets_are by.copies;
-    order = subst (λ (t : Disks). ArePlannedInOrder (surveyed survey) by.group by.was.value t plan.copies) targets_are by.order;
+    clean = by.clean;
+    clean_is = subst (λ (t : Disks). IsSecond by.group t (first_stated moment by.next) by.clean) targets_are by.clean_is;
+    clean_valid = by.clean_valid;
+    copies = all_copies plan;
+    planned = subst (λ (t : Disks). ArePlanned (surveyed survey) by.group (Some by.was) t (all_copies plan)) targets_are by.copies;
+    order = subst (λ (t : Disks). ArePlannedInOrder (surveyed survey) by.group by.was.value t (all_copies plan)) targets_are by.order;
     writes = record {
       read = read;
       unwritten = is.unwritten;
@@ -106,7 +112,8 @@ module _ (old read : Device) (survey : Survey) (is : IsSurveyOf old read survey)
       homes = plan.homes;
       spared = if_told old.media (λ media. (d : ℕ) → IsTrue (answering (surveyed survey) by.group d) → SparesNewest plan.homes (image_of old.sizes media) d)
           (λ media told d target. spared old read survey is name moment some room plan by media told d (by.targets d ∙ target));
-      how = subst (λ (b : Beginning). How b plan.copies read) beginning_is how;
+      how = subst (λ (o : Option (List ℕ)). How (beginning moment by.group by.next (answering (surveyed survey) by.group) plan.homes) o (all_copies plan) read) by.second
+          (subst (λ (b : Beginning). How b plan.second (all_copies plan) read) beginning_is how);
     };
   }
 
@@ -134,11 +141,11 @@ module _ (old read : Device) (survey : Survey) (is : IsSurveyOf old read survey)
     cut_off : IsCutOff read new → IsCutOff old new
     cut_off cut = record { power = cut.power; flights = cut.flights; cuts = subst (λ (n : ℕ). Rose n new.counts.cuts) is.rested.cuts cut.cuts }
 
-    broken : (How : Type 0) → How → HasWrote b plan.copies read new → BrokeOff b plan.copies read new → WasStopped old new name moment How
-    broken How how it off = record { how = how; when = inr (has_written new (same_misses b plan.copies read new it) (λ b copies r. BrokeOff b copies r new) off) }
+    broken : (How : Type 0) → How → HasWrote b plan.second (all_copies plan) read new → BrokeOff b plan.second (all_copies plan) read new → WasStopped old new name moment How
+    broken How how it off = record { how = how; when = inr (has_written new (same_misses b plan.second (all_copies plan) read new it) (λ b second copies r. BrokeOff b second copies r new) off) }
 
-    stops_writing : (why : Cause) → AllWritesGive between b plan.copies read new (Err why) → HasWrote b plan.copies read new → VaryonStops old new name moment before why
-    stops_writing (cause.DiskFailed disk) bad it = has_written new (same_misses b plan.copies read new it) (λ b copies r. OneFailed b copies disk r new) bad
+    stops_writing : (why : Cause) → AllWritesGive between b (all_copies plan) plan.second read new (Err why) → HasWrote b plan.second (all_copies plan) read new → VaryonStops old new name moment before why
+    stops_writing (cause.DiskFailed disk) bad it = has_written new (same_misses b plan.second (all_copies plan) read new it) (λ b second copies r. OneFailed b second copies disk r new) bad
     stops_writing cause.Dark off it = broken (IsCutOff old new) (cut_off off.0) it off.1
     stops_writing cause.Stuck off it = broken (IsStillOut before old new) (left_out off.0) it off.1
     stops_writing cause.HistoryFull off it = off
@@ -148,20 +155,21 @@ module _ (old read : Device) (survey : Survey) (is : IsSurveyOf old read survey)
     stops_writing cause.GroupExists off it = off
     stops_writing _ off it = absurd off
 
-    brought : HasSectors old → (homes : Homes) → IsEqualled b homes plan.copies read new → HasWrote b plan.copies read new → IsBrought old new name moment room plan.parts homes
+    brought : HasSectors old → (homes : Homes) → IsEqualled b plan.second homes (all_copies plan) read new → HasWrote b plan.second (all_copies plan) read new → IsBrought old new name moment room plan.parts (last_seq plan.second) homes
     brought whole homes well it = record {
-      written = has_written new (same_misses b plan.copies read new it) (λ b copies r. IsEqualled b homes copies r new) well;
+      written = has_written new (same_misses b plan.second (all_copies plan) read new it) (λ b second copies r. IsEqualled b second homes copies r new) well;
       valid = by.valid;
+      seq_is = ap last_seq by.second ∙ seq_as_bytes by.clean;
       reserved = by.parts;
-      placed = placed old read survey is name moment some room plan by new (same_sizes b plan.copies read new it ∙ is.unwritten.sizes);
+      placed = placed old read survey is name moment some room plan by new (same_sizes b plan.second (all_copies plan) read new it ∙ is.unwritten.sizes);
       may = λ ahead media told. may_have whole ahead media told;
     }
 
     -- whatever they answer
-    pub brings : HasSectors old → (r : Result Homes Cause) → AllWritesGive between (again_beginning moment plan.descriptor plan.status (has plan.targets) plan.homes) plan.copies read new r
-        → BringGives old new name moment before room (brought_of plan.parts r)
-    brings whole (Ok homes) well = brought whole homes well (wrote b plan.copies read new between (Ok homes) well)
-    brings whole (Err why) off = stops_writing why off (wrote b plan.copies read new between (Err why) off)
+    pub brings : HasSectors old → (r : Result Homes Cause) → AllWritesGive between (again_beginning moment plan.descriptor plan.status (has plan.targets) plan.homes) (all_copies plan) plan.second read new r
+        → BringGives old new name moment before room (brought_of (plan.parts, last_seq plan.second) r)
+    brings whole (Ok homes) well = brought whole homes well (wrote b plan.second (all_copies plan) read new between (Ok homes) well)
+    brings whole (Err why) off = stops_writing why off (wrote b plan.second (all_copies plan) read new between (Err why) off)
 
 -- ---- what stands on the disks
 
@@ -195,9 +203,11 @@ module _ (old read : Device) (survey : Survey) (is : IsSurveyOf old read survey)
       told_before (Some w) (Some n) R m e both = let same : n ≡ m = cc in (w, refl, subst (R w) same both)
 
   -- and of all writes
-  pub all_behind : (new : Device) → HasSectors old → IsAheadOfDisks moment old → HasWrote (again_beginning moment plan.descriptor plan.status (has plan.targets) plan.homes) plan.copies read new → IsBehind (moment + 1) new
+  pub all_behind : (new : Device) → HasSectors old → IsAheadOfDisks moment old → HasWrote (again_beginning moment plan.descriptor plan.status (has plan.targets) plan.homes) plan.second (all_copies plan) read new → IsBehind (moment + 1) new
   all_behind new whole ahead it =
-      beside_stays_behind (moment + 1) (has plan.targets) (IsOfNote (has plan.targets) (empty_note_sector moment)) it.copied new (notes_beside (has plan.targets) (empty_note_sector moment)) it.forgets
-      (beside_stays_behind (moment + 1) (sources_and_targets plan.copies) (IsOfCopies it.restated plan.copies) it.restated it.copied
-      (copies_beside (surveyed survey) by.group (Some by.was) (has plan.targets) plan.copies by.copies it.restated) it.made
-      (written_behind it.restated it.parts whole ahead it.records))
+      beside_stays_behind (moment + 1) (has plan.targets) (IsOfNote (has plan.targets) (empty_note_sector moment)) it.stated new (notes_beside (has plan.targets) (empty_note_sector moment)) it.forgets
+      (earlier_stays_behind (moment + 1) (has plan.targets) (IsOfSecond plan.second moment (has plan.targets) it.homes) it.copied it.stated
+      (second_earlier plan.second moment (has plan.targets) it.homes some (let early = by.chosen.early in omega (arith, early)) (subst SecondFits (sym by.second) (second_fits by.clean by.clean_valid))) it.states
+      (beside_stays_behind (moment + 1) (sources_and_targets (all_copies plan)) (IsOfCopies it.restated (all_copies plan)) it.restated it.copied
+      (copies_beside (surveyed survey) by.group (Some by.was) (has plan.targets) (all_copies plan) by.copies it.restated) it.made
+      (written_behind it.restated it.parts whole ahead it.records)))

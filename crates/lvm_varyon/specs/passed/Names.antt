@@ -13,9 +13,9 @@ pub use Rattle.lvm_core.specs.declared.refused.Refused.{Refused}
 pub use Rattle.lvm_core.specs.passed.Names.{AreFaults, ArePlaced, Core, HoldsCommitted, IsPlaced, NoneIsLeft, Parts, ShowsCommitted, first_core, is_there, next_stamp, there}
 pub use Rattle.lvm_quorum.specs.Choosing.{HasNoRecord, HasRecord, IsAmbiguous, LacksQuorum}
 pub use Rattle.lvm_recovery.specs.Copying.{AllGive, AreApart, IsCopied, IsInOneRun, IsOfCopies, LogsJust, LogsOnly, MayCopy, StopsAtOne, runs_into, sources_and_targets}
-pub use Rattle.lvm_recovery.specs.Ending.{HaveSectors, ShowsEqualised}
-pub use Rattle.lvm_recovery.specs.Equalising.{EqualiseGives, EqualisedStaysKept, MayEqualise}
-pub use Rattle.lvm_recovery.specs.Plan.{ArePlannedInOrder}
+pub use Rattle.lvm_recovery.specs.Ending.{HaveSectors, ShowsCopied}
+pub use Rattle.lvm_recovery.specs.Equalising.{EqualiseGives, EqualisedStaysKept, MayEqualise, MayEqualiseBy, MayState, MayStateSecond, SecondGives, StatesSecond, WentOn, StoppedStating, StoppedCopying, second_write}
+pub use Rattle.lvm_recovery.specs.Plan.{ArePlannedInOrder, copies_dirty}
 pub use Rattle.lvm_recovery.specs.Planned.{ArePlanned}
 pub use Rattle.lvm_recovery.specs.declared.copying.Recopy.{Recopy}
-pub use Rattle.lvm_recovery.specs.passed.Names.{AreNamedEqualled, HasNoPassive, IsRecopied, OnlyNotesOf}
+pub use Rattle.lvm_recovery.specs.passed.Names.{AreEqualled, HasNoPassive, IsCleaned, IsRecopied, IsStillDirty, IsWrittenTo, OnlyNotesOf, RecoversAll, WasCleaned}

@@ -6,7 +6,7 @@ returns c = record {
   descriptor = c.in_ok-bytes.ensures.descriptor;
   status = c.in_ok-bytes.ensures.status;
   targets = refl;
-  same_copies = refl;
+  same_copying = refl;
   same_homes = refl;
-  parts = c.in_ok-parts.ensures;
+  last = c.in_ok-last.ensures;
 }

@@ -1,4 +1,4 @@
-use Rattle.std.proofs.Common.{Result, sym, subst}
+use Rattle.std.proofs.Common.{ℕ, Result, sym, subst}
 use Rattle.std.proofs.lemmas.Result.{err_from_is_err_and}
 use Rattle.lvm_varyon.proofs.VariedLemmas.Bringing.{all_behind, brings, unwritten_behind}
 use Rattle.lvm_varyon.proofs.PathsLemmas.{reading_kept, writing_kept}
@@ -9,6 +9,7 @@ use Rattle.lvm_write.specs.Parts.{Spends}
 use Rattle.lvm_write.proofs.PartsLemmas.Transfers.{spends_then}
 use Rattle.lvm_rec.specs.declared.homes.Homes.{Homes}
 use Rattle.lvm_varyon.specs.passed.Names.{Parts, Cause}
+use Rattle.lvm_varyon.specs.Copied.{all_copies}
 use Rattle.lvm_varyon.specs.Parts.{IsPlannedBy, plan_beginning}
 use Rattle.lvm_varyon.specs.Varied.{BringGives}
 
@@ -52,10 +53,10 @@ returns g c =
     let whole = g.met.S.Shelf.sectors_are_whole c.args.shelf.now in
     let first : Spends before between old read = record { falls = only.falls; waits = only.waited } in
     record {
-      gives = subst (λ (r : Result (Parts × Homes) Cause). BringGives old new c.args.name c.args.moment before c.args.room r) (sym c.begin_with.ensures)
+      gives = subst (λ (r : Result ((Parts × ℕ) × Homes) Cause). BringGives old new c.args.name c.args.moment before c.args.room r) (sym c.begin_with.ensures)
           (brings old read its.0 its.1 c.args.name c.args.moment c.requires.moment c.args.room plan its.2 new before between only.falls only.waited whole c.write_all-written.result says.gives);
       spends = spends_then before between after old read new first says.spends;
       behind = λ ahead. all_behind old read its.0 its.1 c.args.name c.args.moment c.requires.moment c.args.room plan its.2 new whole ahead
-          (wrote (plan_beginning c.args.moment plan) plan.copies read new between c.write_all-written.result says.gives);
+          (wrote (plan_beginning c.args.moment plan) plan.second (all_copies plan) read new between c.write_all-written.result says.gives);
       kept = λ ahead. writing_kept old read its.0 its.1 c.args.name c.args.moment c.requires.moment c.args.room plan its.2 whole ahead new says.kept only.moments;
     }

@@ -6,9 +6,9 @@ use Rattle.lvm_steps.proofs.LawsLemmas.Clock.{all_is_behind_next}
 use Rattle.lvm_write.proofs.PartsLemmas.Transfers.{spends_none}
 use Rattle.lvm_varyon.specs.passed.Names.{AreFaults, BringsOn, StartsHeld}
 use Rattle.lvm_varyon.specs.passed.CoreRefusedCause as cause
-use Rattle.lvm_varyon.specs.Varied.{ComesOn, IsRestated, IsRecovered, VaryonRefuses}
+use Rattle.lvm_varyon.specs.Varied.{ComesOn, IsRecovered, VaryonRefuses}
 use Rattle.lvm_varyon.proofs.VariedLemmas.Refusing.{refused_gives, refuses_so, some_spare}
-use Rattle.lvm_varyon.proofs.VariedLemmas.Spanning.{ahead_of, refused_keeps, refused_calm, comes_on, starts_held, none_left, settles, is_restated, is_recovered, on_keeps, on_calm}
+use Rattle.lvm_varyon.proofs.VariedLemmas.Spanning.{ahead_of, refused_keeps, refused_calm, comes_on, starts_held, none_left, settles, is_recovered, on_keeps, on_calm}
 use Rattle.lvm_varyon.proofs.vary.varyon.Goals as goal
 
 pub start-requires-clause-placed : goal.start-requires-clause-placed
@@ -46,21 +46,19 @@ returns-in-Ok-clause-gives g c =
     let same = sym (ap g.S.Shelf.device c.start.ensures.shelf) in
     record {
       gives = subst (λ (d : Device). ComesOn old d c.args.history c.args.name c.args.moment c.args.room c.start.result.1) same
-          (comes_on _ _ c.args.history c.args.name c.args.moment c.args.room c.in-Ok.parts c.in-Ok.homes c.start.result.1 c.in-Ok.ensures.gives c.start.ensures.core spare);
-      restated = λ clock. subst (λ (d : Device). IsRestated old d c.start.result.1.descriptor) same
-          (is_restated _ _ c.args.history c.args.name c.args.moment c.args.room c.in-Ok.parts c.in-Ok.homes c.start.result.1 c.in-Ok.ensures.gives c.start.ensures.core clock);
-      recovered = λ clock soft. subst (λ (d : Device). IsRecovered old d c.start.result.1.descriptor) same
-          (is_recovered _ _ c.args.history c.args.name c.args.moment c.args.room c.in-Ok.parts c.in-Ok.homes c.start.result.1 c.in-Ok.ensures.gives c.start.ensures.core clock soft);
+          (comes_on _ _ c.args.history c.args.name c.args.moment c.args.room c.in-Ok.begun.0 c.in-Ok.begun.1 c.in-Ok.homes c.start.result.1 c.in-Ok.ensures.gives c.start.ensures.core spare);
+      recovered = λ clock. subst (λ (d : Device). IsRecovered old d c.start.result.1.descriptor) same
+          (is_recovered _ _ c.args.history c.args.name c.args.moment c.args.room c.in-Ok.begun.0 c.in-Ok.begun.1 c.in-Ok.homes c.start.result.1 c.in-Ok.ensures.gives c.start.ensures.core clock);
     }
 
 pub returns-in-Ok-clause-starts : goal.returns-in-Ok-clause-starts
 returns-in-Ok-clause-starts g c =
-    let two = settles _ _ c.args.history c.args.name c.args.moment c.args.room c.in-Ok.parts c.in-Ok.homes c.start.result.1 c.in-Ok.ensures.gives c.start.ensures.core c.requires.moment in
+    let two = settles _ _ c.args.history c.args.name c.args.moment c.args.room c.in-Ok.begun.0 c.in-Ok.begun.1 c.in-Ok.homes c.start.result.1 c.in-Ok.ensures.gives c.start.ensures.core c.requires.moment in
     record {
       settled = two.0;
       numbers = two.1;
-      left = none_left _ _ c.args.history c.args.name c.args.moment c.args.room c.in-Ok.parts c.in-Ok.homes c.start.result.1 c.in-Ok.ensures.gives c.start.ensures.core;
-      held = λ facts clock kept. subst (λ (d : Device). StartsHeld d c.start.result.1) (sym (ap g.S.Shelf.device c.start.ensures.shelf)) (starts_held _ _ c.args.history c.args.name c.args.moment c.args.room c.in-Ok.parts c.in-Ok.homes c.start.result.1 c.in-Ok.ensures.gives c.start.ensures.core facts clock kept);
+      left = none_left _ _ c.args.history c.args.name c.args.moment c.args.room c.in-Ok.begun.0 c.in-Ok.begun.1 c.in-Ok.homes c.start.result.1 c.in-Ok.ensures.gives c.start.ensures.core;
+      held = λ facts clock kept. subst (λ (d : Device). StartsHeld d c.start.result.1) (sym (ap g.S.Shelf.device c.start.ensures.shelf)) (starts_held _ _ c.args.history c.args.name c.args.moment c.args.room c.in-Ok.begun.0 c.in-Ok.begun.1 c.in-Ok.homes c.start.result.1 c.in-Ok.ensures.gives c.start.ensures.core facts clock kept);
     }
 
 pub returns-in-Ok-clause-faults : goal.returns-in-Ok-clause-faults
@@ -72,9 +70,9 @@ returns-in-Ok-clause-leaves g c =
     let new = g.S.Shelf.device c.bring.new.shelf in
     let was : Log = c.args.history in
     subst (λ (d : Device). BringsOn was.run c.args.moment c.args.patience.now.left c.bring.new.patience.left old d was c.start.result.1.history) (sym (ap g.S.Shelf.device c.start.ensures.shelf)) (record {
-      keeps = λ clock. on_keeps _ _ c.args.history c.args.name c.args.moment c.args.room c.in-Ok.parts c.in-Ok.homes c.start.result.1 c.in-Ok.ensures.gives c.start.ensures.core (c.in-Ok.ensures.kept (ahead_of was.run c.args.moment old was.facts clock)) clock;
+      keeps = λ clock. on_keeps _ _ c.args.history c.args.name c.args.moment c.args.room c.in-Ok.begun.0 c.in-Ok.begun.1 c.in-Ok.homes c.start.result.1 c.in-Ok.ensures.gives c.start.ensures.core (c.in-Ok.ensures.kept (ahead_of was.run c.args.moment old was.facts clock)) clock;
       behind = λ clock. c.in-Ok.ensures.behind (ahead_of was.run c.args.moment old was.facts clock);
-      calm = on_calm old new was c.args.name c.args.moment c.args.room c.in-Ok.parts c.in-Ok.homes c.start.result.1 c.in-Ok.ensures.gives c.start.ensures.core;
+      calm = on_calm old new was c.args.name c.args.moment c.args.room c.in-Ok.begun.0 c.in-Ok.begun.1 c.in-Ok.homes c.start.result.1 c.in-Ok.ensures.gives c.start.ensures.core;
       spends = c.in-Ok.ensures.spends;
     })
 
