@@ -1,5 +1,5 @@
 -- The language of the command line.
-use Rattle.std.specs.Prelude.{ℕ, ◌≤◌, nat_le, ◌&&◌, if◌then◌else◌, Bool, true, false, List, [], ◌∷◌, Option, Some, None, Result, Ok, Err, codes, bytes_eq, ok_or}
+use Rattle.std.specs.Prelude.{ℕ, ◌≤◌, nat_le, nat_lt, ◌==◌, ◌&&◌, ◌||◌, not, if◌then◌else◌, Bool, true, false, List, [], ◌∷◌, filter, count_by, Option, Some, None, Result, Ok, Err, codes, bytes_eq, ok_or}
 use Rattle.lvm_operands.specs.Words.{name_in, number_in}
 use Rattle.lvm_words.specs.declared.job.Job.{Job}
 use Rattle.lvm_words.specs.declared.job.Job.TheVariants.{Script, Sim, Gen, Weave, Load, Image, Help, Version}
@@ -55,28 +55,39 @@ work_of (name ∷ first ∷ second ∷ []) = with_two name first second
 work_of (name ∷ first ∷ second ∷ third ∷ fourth ∷ fifth ∷ []) = with_five name first second third fourth fifth
 work_of words = Err Usage
 
--- the option by which each thread writes apart
+-- ---- a load
+
+-- by the one option each thread writes apart, by the other copies are brought up beside them
 abbrev pub is_own : List ℕ → Bool
 is_own word = bytes_eq word (codes "--own")
 
-abbrev pub load_with : Bool → (group volume : Option (List ℕ)) → (threads requests seed : Option ℕ) → Option Job
-load_with own (Some group) (Some volume) (Some threads) (Some requests) (Some seed) = Some (Load own group volume threads requests seed)
-load_with own group volume threads requests seed = None
+abbrev pub is_sync : List ℕ → Bool
+is_sync word = bytes_eq word (codes "--sync")
+
+abbrev pub is_option : List ℕ → Bool
+is_option word = is_own word || is_sync word
+
+-- the words but for the options
+abbrev pub operands : List (List ℕ) → List (List ℕ)
+operands words = filter (λ word. not (is_option word)) words
+
+abbrev pub load_with : (own sync : Bool) (group volume : Option (List ℕ)) → (threads requests seed : Option ℕ) → Option Job
+load_with own sync (Some group) (Some volume) (Some threads) (Some requests) (Some seed) = Some (Load own sync group volume threads requests seed)
+load_with own sync group volume threads requests seed = None
 
 -- two names, 1 to 128 threads, at most 50,000 requests, and a seed
-abbrev pub load_by : Bool → (group volume threads requests seed : List ℕ) → Option Job
-load_by own group volume threads requests seed = load_with own (name_in group) (name_in volume) (bounded 1 128 (number_in threads)) (bounded 0 50000 (number_in requests)) (number_in seed)
+abbrev pub load_by : (own sync : Bool) (group volume threads requests seed : List ℕ) → Option Job
+load_by own sync group volume threads requests seed = load_with own sync (name_in group) (name_in volume) (bounded 1 128 (number_in threads)) (bounded 0 50000 (number_in requests)) (number_in seed)
 
--- the option stands once before, among or behind the operands, if it does
+-- five operands
+abbrev pub load_among : (own sync : Bool) → List (List ℕ) → Option Job
+load_among own sync (a ∷ b ∷ c ∷ d ∷ e ∷ []) = load_by own sync a b c d e
+load_among own sync words = None
+
+-- each option stands at most once, before, among or behind the operands
 abbrev pub load_of : List (List ℕ) → Option Job
-load_of (a ∷ b ∷ c ∷ d ∷ e ∷ []) = load_by false a b c d e
-load_of (a ∷ b ∷ c ∷ d ∷ e ∷ f ∷ []) = if is_own a then load_by true b c d e f
-    else (if is_own b then load_by true a c d e f
-    else (if is_own c then load_by true a b d e f
-    else (if is_own d then load_by true a b c e f
-    else (if is_own e then load_by true a b c d f
-    else (if is_own f then load_by true a b c d e else None)))))
-load_of words = None
+load_of words = let own = count_by is_own words in let sync = count_by is_sync words in
+    if nat_lt 1 own || nat_lt 1 sync then None else load_among (own == 1) (sync == 1) (operands words)
 
 -- the words are those of a load, of the language or not
 abbrev pub is_load : List (List ℕ) → Bool
@@ -111,7 +122,7 @@ IsWithin Script = Unit {0}
 IsWithin (Sim disks mib) = (1 ≤ disks) × (disks ≤ 32) × (1 ≤ mib) × (mib ≤ 64)
 IsWithin (Gen seed count) = count ≤ 100000
 IsWithin (Weave disks mib clients requests seed) = (1 ≤ disks) × (disks ≤ 8) × (8 ≤ mib) × (mib ≤ 64) × (1 ≤ clients) × (clients ≤ 64) × (requests ≤ 50000)
-IsWithin (Load own group volume threads requests seed) = (1 ≤ threads) × (threads ≤ 128) × (requests ≤ 50000)
+IsWithin (Load own sync group volume threads requests seed) = (1 ≤ threads) × (threads ≤ 128) × (requests ≤ 50000)
 IsWithin (Image disk mib) = (disk ≤ 127) × (1 ≤ mib) × (mib ≤ 4096)
 IsWithin Help = Unit {0}
 IsWithin Version = Unit {0}

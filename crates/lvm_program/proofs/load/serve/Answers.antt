@@ -14,11 +14,12 @@ pub returns-clause-made : goal.returns-clause-made
 returns-clause-made g c = record {
   end = state_of g.S.Shelf.device c.serve_load-driver.result.driver;
   made = c.serve_load-driver.ensures.loaded;
-  runs = c.serve_load-driver.ensures.runs;
+  none = c.serve_load-driver.ensures.none;
+  keeps = c.serve_load-driver.ensures.keeps;
   sound = c.is_sound.ensures;
   closed = c.close_ended.ensures.shelf;
   facts = ap (λ (l : Log). l.facts) c.close_ended.ensures.history;
 }
 
 pub returns-clause-rooms : goal.returns-clause-rooms
-returns-clause-rooms g c = ap without_facts c.close_ended.ensures.history ∙ c.serve_load-driver.ensures.runs.leaves.keeps.log
+returns-clause-rooms g c = ap without_facts c.close_ended.ensures.history ∙ c.serve_load-driver.ensures.keeps.leaves.keeps.log
