@@ -1,5 +1,5 @@
 -- The language of the command line.
-use Rattle.std.specs.Prelude.{ℕ, ◌≤◌, nat_le, nat_lt, ◌==◌, ◌&&◌, ◌||◌, not, if◌then◌else◌, Bool, true, false, List, [], ◌∷◌, filter, count_by, Option, Some, None, Result, Ok, Err, codes, bytes_eq, ok_or}
+use Rattle.std.specs.Prelude.{ℕ, ◌≤◌, nat_le, ◌&&◌, if◌then◌else◌, Bool, true, false, List, [], ◌∷◌, Option, Some, None, Result, Ok, Err, codes, bytes_eq, ok_or}
 use Rattle.lvm_operands.specs.Words.{name_in, number_in}
 use Rattle.lvm_words.specs.declared.job.Job.{Job}
 use Rattle.lvm_words.specs.declared.job.Job.TheVariants.{Script, Sim, Gen, Weave, Load, Image, Help, Version}
@@ -58,18 +58,11 @@ work_of words = Err Usage
 -- ---- a load
 
 -- by the one option each thread writes apart, by the other copies are brought up beside them
-abbrev pub is_own : List ℕ → Bool
-is_own word = bytes_eq word (codes "--own")
+abbrev pub own_option : List ℕ
+own_option = codes "--own"
 
-abbrev pub is_sync : List ℕ → Bool
-is_sync word = bytes_eq word (codes "--sync")
-
-abbrev pub is_option : List ℕ → Bool
-is_option word = is_own word || is_sync word
-
--- the words but for the options
-abbrev pub operands : List (List ℕ) → List (List ℕ)
-operands words = filter (λ word. not (is_option word)) words
+abbrev pub sync_option : List ℕ
+sync_option = codes "--sync"
 
 abbrev pub load_with : (own sync : Bool) (group volume : Option (List ℕ)) → (threads requests seed : Option ℕ) → Option Job
 load_with own sync (Some group) (Some volume) (Some threads) (Some requests) (Some seed) = Some (Load own sync group volume threads requests seed)
@@ -79,15 +72,35 @@ load_with own sync group volume threads requests seed = None
 abbrev pub load_by : (own sync : Bool) (group volume threads requests seed : List ℕ) → Option Job
 load_by own sync group volume threads requests seed = load_with own sync (name_in group) (name_in volume) (bounded 1 128 (number_in threads)) (bounded 0 50000 (number_in requests)) (number_in seed)
 
--- five operands
-abbrev pub load_among : (own sync : Bool) → List (List ℕ) → Option Job
-load_among own sync (a ∷ b ∷ c ∷ d ∷ e ∷ []) = load_by own sync a b c d e
-load_among own sync words = None
+-- one of six words is this option, before, among or behind the operands
+abbrev pub load_among : (option : List ℕ) (own sync : Bool) (a b c d e f : List ℕ) → Option Job
+load_among option own sync a b c d e f = if bytes_eq a option then load_by own sync b c d e f
+    else (if bytes_eq b option then load_by own sync a c d e f
+    else (if bytes_eq c option then load_by own sync a b d e f
+    else (if bytes_eq d option then load_by own sync a b c e f
+    else (if bytes_eq e option then load_by own sync a b c d f
+    else (if bytes_eq f option then load_by own sync a b c d e else None)))))
 
--- each option stands at most once, before, among or behind the operands
+-- one of seven is the one option, and one of the six others the other
+abbrev pub load_with_both : (a b c d e f g : List ℕ) → Option Job
+load_with_both a b c d e f g = if bytes_eq a sync_option then load_among own_option true true b c d e f g
+    else (if bytes_eq b sync_option then load_among own_option true true a c d e f g
+    else (if bytes_eq c sync_option then load_among own_option true true a b d e f g
+    else (if bytes_eq d sync_option then load_among own_option true true a b c e f g
+    else (if bytes_eq e sync_option then load_among own_option true true a b c d f g
+    else (if bytes_eq f sync_option then load_among own_option true true a b c d e g
+    else (if bytes_eq g sync_option then load_among own_option true true a b c d e f else None))))))
+
+abbrev pub or_job : Option Job → Option Job → Option Job
+or_job (Some job) other = Some job
+or_job None other = other
+
+-- each option stands once, if it does
 abbrev pub load_of : List (List ℕ) → Option Job
-load_of words = let own = count_by is_own words in let sync = count_by is_sync words in
-    if nat_lt 1 own || nat_lt 1 sync then None else load_among (own == 1) (sync == 1) (operands words)
+load_of (a ∷ b ∷ c ∷ d ∷ e ∷ []) = load_by false false a b c d e
+load_of (a ∷ b ∷ c ∷ d ∷ e ∷ f ∷ []) = or_job (load_among own_option true false a b c d e f) (load_among sync_option false true a b c d e f)
+load_of (a ∷ b ∷ c ∷ d ∷ e ∷ f ∷ g ∷ []) = load_with_both a b c d e f g
+load_of words = None
 
 -- the words are those of a load, of the language or not
 abbrev pub is_load : List (List ℕ) → Bool

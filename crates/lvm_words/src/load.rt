@@ -1,53 +1,22 @@
 //! The words of a load, which may have options.
-ghost use Rattle.std.specs.Prelude.{◌≡◌, ◌≤◌, ◌^◌, ◌<◌, ◌∷◌, [], IfSome, IfNone, count_by};
+ghost use Rattle.std.specs.Prelude.{◌≡◌, ◌≤◌, ◌^◌, ◌<◌, IfSome};
+ghost use Rattle.std.specs.Str.{bytes_eq};
 ghost use Rattle.lvm_operands.specs.Words.{number_in};
-ghost use Rattle.lvm_words.specs.Words.{IsWithin, bounded, is_own, is_sync, load_among, load_by, load_of, operands};
+ghost use Rattle.lvm_words.specs.Words.{IsWithin, bounded, load_among, load_by, load_of, load_with_both};
 
 use crate::job::Job;
 use lvm_num::Text;
 use lvm_operands::{name_of, number_of};
 
-// Whether a word is the option by which each thread writes apart.
-fn is_own(word: &Text) -> bool
-    ensures { result ≡ is_own word.now }
-{
-    word.as_str() == "--own"
-}
+const OWN: &str = "--own";
 
-// Whether a word is the option by which copies are brought up.
-fn is_sync(word: &Text) -> bool
-    ensures { result ≡ is_sync word.now }
-{
-    word.as_str() == "--sync"
-}
+const SYNC: &str = "--sync";
 
-// How often the one option stands among the words.
-fn own_count(words: &[Text]) -> usize
-    ensures { result ≡ count_by is_own words.now }
+// Whether a word is the option.
+fn is_option(word: &Text, option: &str) -> bool
+    ensures { result ≡ bytes_eq word.now option.now }
 {
-    words.iter().filter(|word| is_own(word)).count()
-}
-
-// And the other.
-fn sync_count(words: &[Text]) -> usize
-    ensures { result ≡ count_by is_sync words.now }
-{
-    words.iter().filter(|word| is_sync(word)).count()
-}
-
-// The first operand among the words, and the words behind it.
-fn next_operand(words: &[Text]) -> Option<(&Text, &[Text])>
-    ensures some { IfSome result (λ next. operands words.now ≡ next.0.now ∷ operands next.1.now) }
-    ensures none { IfNone result (operands words.now ≡ []) }
-{
-    let mut rest = words;
-    while let [word, behind @ ..] = rest {
-        if !is_own(word) && !is_sync(word) {
-            return Some((word, behind));
-        }
-        rest = behind;
-    }
-    None
+    word.as_str() == option
 }
 
 // The number of a word, where it lies within these bounds.
@@ -88,19 +57,67 @@ fn load_by(
     })
 }
 
-// A load with these options, by the words among which its five operands stand.
-fn load_among(own: bool, sync: bool, words: &[Text]) -> Option<Job>
-    ensures load { result ≡ load_among own sync (operands words.now) }
+// A load by six words, of which one is this option.
+fn load_among(
+    option: &str,
+    own: bool,
+    sync: bool,
+    a: &Text,
+    b: &Text,
+    c: &Text,
+    d: &Text,
+    e: &Text,
+    f: &Text,
+) -> Option<Job>
+    ensures load { result ≡ load_among option.now own sync a.now b.now c.now d.now e.now f.now }
     ensures within { IfSome result IsWithin }
 {
-    let (group, rest) = next_operand(words)?;
-    let (volume, rest) = next_operand(rest)?;
-    let (threads, rest) = next_operand(rest)?;
-    let (requests, rest) = next_operand(rest)?;
-    let (seed, rest) = next_operand(rest)?;
-    match next_operand(rest) {
-        None => load_by(own, sync, group, volume, threads, requests, seed),
-        Some(_) => None,
+    if is_option(a, option) {
+        load_by(own, sync, b, c, d, e, f)
+    } else if is_option(b, option) {
+        load_by(own, sync, a, c, d, e, f)
+    } else if is_option(c, option) {
+        load_by(own, sync, a, b, d, e, f)
+    } else if is_option(d, option) {
+        load_by(own, sync, a, b, c, e, f)
+    } else if is_option(e, option) {
+        load_by(own, sync, a, b, c, d, f)
+    } else if is_option(f, option) {
+        load_by(own, sync, a, b, c, d, e)
+    } else {
+        None
+    }
+}
+
+// A load by seven words, of which two are the options.
+fn load_with_both(
+    a: &Text,
+    b: &Text,
+    c: &Text,
+    d: &Text,
+    e: &Text,
+    f: &Text,
+    g: &Text,
+) -> Option<Job>
+    ensures load { result ≡ load_with_both a.now b.now c.now d.now e.now f.now g.now }
+    ensures within { IfSome result IsWithin }
+{
+    if is_option(a, SYNC) {
+        load_among(OWN, true, true, b, c, d, e, f, g)
+    } else if is_option(b, SYNC) {
+        load_among(OWN, true, true, a, c, d, e, f, g)
+    } else if is_option(c, SYNC) {
+        load_among(OWN, true, true, a, b, d, e, f, g)
+    } else if is_option(d, SYNC) {
+        load_among(OWN, true, true, a, b, c, e, f, g)
+    } else if is_option(e, SYNC) {
+        load_among(OWN, true, true, a, b, c, d, f, g)
+    } else if is_option(f, SYNC) {
+        load_among(OWN, true, true, a, b, c, d, e, g)
+    } else if is_option(g, SYNC) {
+        load_among(OWN, true, true, a, b, c, d, e, f)
+    } else {
+        None
     }
 }
 
@@ -109,11 +126,13 @@ pub(crate) fn load_of(words: &[Text]) -> Option<Job>
     ensures load { result ≡ load_of words.now }
     ensures within { IfSome result IsWithin }
 {
-    let own = own_count(words);
-    let sync = sync_count(words);
-    if own > 1 || sync > 1 {
-        None
-    } else {
-        load_among(own == 1, sync == 1, words)
+    match words {
+        [a, b, c, d, e] => load_by(false, false, a, b, c, d, e),
+        [a, b, c, d, e, f] => match load_among(OWN, true, false, a, b, c, d, e, f) {
+            Some(job) => Some(job),
+            None => load_among(SYNC, false, true, a, b, c, d, e, f),
+        },
+        [a, b, c, d, e, f, g] => load_with_both(a, b, c, d, e, f, g),
+        _ => None,
     }
 }
