@@ -144,7 +144,7 @@ settles_gain true old new waits it = none_same old new (ap (λ (s : State). s.co
 settles_gain false old new waits it = path_gains old new it.turns
 
 pub behind_gains : (sync : Bool) (lv : ℕ) (old : State) (waiting : Bool) (new : State) (synced : Option Synced) (waits : Bool) → EndsBehind sync lv old waiting new synced waits → GainsNone old new
-behind_gains sync lv old waiting new None waits it = none_same old new (ap (λ (s : State). s.core.history.facts) it.1.0)
+behind_gains sync lv old waiting new None waits it = none_same old new (ap (λ (s : State). s.core.history.facts) it.1)
 behind_gains sync lv old waiting new (Some synced) waits it =
     let syncs = it.1 in
     none_then old syncs.shut new (closes_gain old syncs.shut syncs.closes)

@@ -4,12 +4,12 @@ use Rattle.std.specs.Prelude.{Result, Ok, Err, map}
 use Rattle.std.specs.List.{list_any}
 use Rattle.std.proofs.lemmas.List.{append-nil}
 use Rattle.lvm_num.specs.Buffer.{Sector}
-use Rattle.lvm_disk.specs.Counts.{Rose}
+use Rattle.lvm_disk.specs.Counts.{Counts}
 use Rattle.lvm_disk.specs.Device.{Device}
 use Rattle.lvm_vol.specs.Facts.{Fact}
 use Rattle.lvm_vol.specs.Fronts.{own}
 use Rattle.lvm_vol.specs.Log.{Log}
-use Rattle.lvm_kept.specs.passed.Names.{Counts}
+
 use Rattle.lvm_session.specs.declared.answers.CopyFault.{CopyFault}
 use Rattle.lvm_session.specs.declared.answers.Turned.{Turned}
 use Rattle.lvm_session.specs.declared.answers.Turned.TheVariants as turned
