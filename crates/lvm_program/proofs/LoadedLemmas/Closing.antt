@@ -1,5 +1,5 @@
 -- A load's session is closed, whether a copy is open in it or not.
-use Rattle.std.proofs.Common.{◌≡◌, ◌≢◌, inl, inr, ◌+◌, ℕ, List, [], Option, Some, None, refl, sym, ◌∙◌, ap, subst, arith}
+use Rattle.std.proofs.Common.{◌≡◌, ◌≢◌, ◌⊎◌, inl, inr, ◌+◌, ℕ, List, [], Option, Some, None, refl, sym, ◌∙◌, ap, subst, arith}
 use Rattle.lvm_vol.specs.Facts.{Fact}
 use Rattle.lvm_kept.specs.Moments.{Moment}
 use Rattle.lvm_steps.specs.Moments.{Keeps}
@@ -8,11 +8,15 @@ use Rattle.lvm_session.specs.Sound.{IsSound}
 use Rattle.lvm_session.specs.State.{Core, State, state}
 use Rattle.lvm_line.specs.passed.Quiesce.{IsAheadEach}
 use Rattle.lvm_line.specs.passed.Tie.{LeavesSession}
-use Rattle.lvm_line.specs.passed.GroupLines.{GoesOn, IsBetween, IsClosed, IsTimely, OfRequests, ScriptState}
+use Rattle.lvm_line.specs.passed.GroupLines.{ArePosted, GoesOn, IsBetween, IsClosed, IsTimely, OfRequests, ScriptState}
 use Rattle.lvm_line.specs.passed.RefusalVariants as refusal
 use Rattle.lvm_line.specs.passed.ReplyVariants as reply
 use Rattle.lvm_line.proofs.passed.GroupLines.{closed_ahead, over_goes}
-use Rattle.lvm_top.proofs.ScriptLemmas.Concluding.{Concluded, none_posted}
+use Rattle.lvm_top.proofs.ScriptLemmas.Concluding.{Concluded}
+
+-- no post is left
+none_posted : (facts : List Fact) (on : Option Core) → ArePosted facts on []
+none_posted facts on = record { each = λ k d less. absurd (omega (arith, less)); rise = λ i j d before less. absurd (omega (arith, less)) }
 
 -- what goes on isn't stuck that was on
 pub leaves_unstuck : (old new : State) → LeavesSession old new → old.core.power ≡ power.On → new.core.power ≡ power.Stuck → ⊥

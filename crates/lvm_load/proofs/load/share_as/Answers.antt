@@ -38,7 +38,7 @@ returns-in-Err-clause-serves g c =
     (subst (λ (p : Plan). IsServing p first) (sym plan) (serves_first first c.args.lv c.args.blocks c.args.load.now c.is_sound.ensures c.requires.unstuck c.requires.fresh))
 
 pub new-requires-clause-clients : goal.new-requires-clause-clients
-new-requires-clause-clients g c = λ κs within. subst (λ n. 0 < n) (sym c.seats.ensures) (seats_some c.args.load.now.sync c.args.load.now.threads c.requires.some.0)
+new-requires-clause-clients g c = subst (λ n. 0 < n) (sym c.seats.ensures) (seats_some c.args.load.now.sync c.args.load.now.threads c.requires.some.0)
 
 pub run_crew-requires-clause-holds : goal.run_crew-requires-clause-holds
 run_crew-requires-clause-holds g c κs within =

@@ -2,9 +2,14 @@ use Rattle.std.proofs.Common.{ℕ, length, ◌∙◌, ap, ap₂}
 use Rattle.lvm_vol.specs.Log.{Log}
 use Rattle.lvm_session.specs.State.{state_of}
 use Rattle.lvm_load.specs.Totals.{entries_since, totals_of}
-use Rattle.lvm_load.proofs.LendingLemmas.Keeping.{keeps_both, keeps_runs}
+use Rattle.lvm_load.proofs.LendingLemmas.Keeping.{keeps_both, keeps_runs, unstuck_still}
 use Rattle.lvm_load.proofs.SettlingLemmas.{loaded_some}
 use Rattle.lvm_load.proofs.serve.serve_load.Goals as goal
+
+pub end_behind-synced-requires : goal.end_behind-synced-requires
+end_behind-synced-requires g c =
+    let device = g.S.Shelf.device in
+    record { unstuck = unstuck_still (state_of device c.share_session-driver.result.driver) (state_of device c.settle-waiting.new.driver) c.settle-waiting.ensures.runs.leaves c.share_session-driver.ensures.serves.unstuck }
 
 pub returns-clause-keeps : goal.returns-clause-keeps
 returns-clause-keeps g c =
