@@ -1,5 +1,5 @@
 -- What is done behind the workers of a load for the copies of their volume.
-use Rattle.std.proofs.Common.{◌≡◌, ◌⊎◌, inl, inr, ℕ, Bool, true, false, List, ◌∷◌, Option, Some, None, Result, Ok, Err, refl, sym, ap, subst}
+use Rattle.std.proofs.Common.{◌≡◌, ◌⊎◌, inl, inr, ℕ, Bool, true, false, List, Option, Some, None, Result, Ok, Err, sym, ap, subst}
 use Rattle.lvm_vol.specs.Facts.{Fact}
 use Rattle.lvm_session.specs.declared.answers.CopyFault.{CopyFault}
 use Rattle.lvm_session.specs.declared.answers.CopyState.{CopyState}
@@ -12,10 +12,10 @@ use Rattle.lvm_resync.specs.declared.copies.Passed.TheVariants as passed
 use Rattle.lvm_resync.specs.declared.fault.SyncFault.{SyncFault}
 use Rattle.lvm_resync.specs.declared.fault.SyncFault.TheVariants as fault
 use Rattle.lvm_resync.specs.declared.tally.Tally.{Tally}
-use Rattle.lvm_resync.specs.Passing.{BreaksOff, Copy, EachTurnWhile, EndsAtCopy, EndsTurning, FailedFor, IsBroken, IsBroughtUp, IsEnded, IsOpened, IsRefused, IsUnsettled, PassesCopy, RefusedFor, Runs}
-use Rattle.lvm_resync.specs.Syncing.{NonePassed, OnePassed, Passes, SyncEnds, SyncGives, no_tally}
+use Rattle.lvm_resync.specs.Passing.{BreaksOff, Copy, EachTurnWhile, EndsTurning, FailedFor, IsBroken, IsBroughtUp, IsEnded, IsOpened, IsRefused, IsUnsettled, PassesCopy, RefusedFor, Runs}
+use Rattle.lvm_resync.specs.Syncing.{NonePassed, OnePassed, Passes, SyncGives, no_tally}
 use Rattle.lvm_load.specs.declared.serve.Synced.{Synced}
-use Rattle.lvm_load.specs.Bringing.{ClosesEnded, EndsBehind, IsClosed, SettlesUnless, StillRuns, SyncsBehind, is_unheard}
+use Rattle.lvm_load.specs.Bringing.{ClosesEnded, EndsBehind, IsClosed, SettlesUnless, StillRuns, is_unheard}
 use Rattle.lvm_load.proofs.FactsLemmas.{Gains, gains_none, gains_then, turn_gains}
 use Rattle.lvm_load.proofs.PathsLemmas.{path_gains}
 

@@ -14,7 +14,7 @@ use Rattle.lvm_session.specs.declared.open.Power.TheVariants as power
 use Rattle.lvm_session.specs.Sound.{IsSound}
 use Rattle.lvm_session.specs.State.{State}
 use Rattle.lvm_workers.specs.declared.work.Tally.{Tally}
-use Rattle.lvm_workers.specs.Counting.{AreOfClients, IsOfClients, begun_of, sum_to}
+use Rattle.lvm_workers.specs.Counting.{AreOfClients, IsOfClients, begun_of}
 use Rattle.lvm_workers.specs.Crews.{AllMade, begun_over, job_of, seats, share}
 use Rattle.lvm_workers.specs.Knowing.{HasCause, Refused, WasUnheard}
 use Rattle.lvm_workers.specs.Making.{HasMade}

@@ -1,5 +1,4 @@
 -- Turns, one after the other.
-use Rattle.std.proofs.Common.{◌≡◌}
 use Rattle.lvm_disk.specs.Paths.{Path, Here, Then}
 use Rattle.lvm_session.specs.State.{State}
 use Rattle.lvm_driver.specs.Drains.{IsAny, IsTurn}

@@ -1,5 +1,5 @@
 -- Stale copies of a volume are brought up, beside the workers of a load and behind them.
-use Rattle.std.specs.Prelude.{◌≡◌, ◌&&◌, ℕ, Bool, true, false, not, Option, Some, None, Result, Ok, Err, IfErr}
+use Rattle.std.specs.Prelude.{◌≡◌, ◌&&◌, ℕ, Bool, true, false, not, Option, Some, None, Result, Err, IfErr}
 use Rattle.std.specs.List.{list_any}
 use Rattle.lvm_num.specs.Votes.{total_votes}
 use Rattle.lvm_keeps_events.specs.Telling.{TurnTells}

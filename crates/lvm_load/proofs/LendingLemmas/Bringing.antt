@@ -1,20 +1,18 @@
 -- A session that is lent goes on serving, whatever is done for one of its copies.
-use Rattle.std.proofs.Common.{◌≡◌, ◌||◌, ℕ, Bool, true, List, [], ◌∷◌, ◌++◌, Option, Some, None, refl, sym, ap, ◌∙◌, subst}
+use Rattle.std.proofs.Common.{◌≡◌, ◌||◌, ℕ, true, List, [], ◌∷◌, Option, refl, sym, ap, ◌∙◌, subst}
 use Rattle.std.specs.Prelude.{Result, Ok, Err, map}
 use Rattle.std.specs.List.{list_any}
 use Rattle.std.proofs.lemmas.List.{append-nil}
 use Rattle.lvm_num.specs.Buffer.{Sector}
 use Rattle.lvm_disk.specs.Counts.{Counts}
 use Rattle.lvm_disk.specs.Device.{Device}
-use Rattle.lvm_vol.specs.Facts.{Fact}
 use Rattle.lvm_vol.specs.Fronts.{own}
 use Rattle.lvm_vol.specs.Log.{Log}
-
 use Rattle.lvm_session.specs.declared.answers.CopyFault.{CopyFault}
 use Rattle.lvm_session.specs.declared.answers.Turned.{Turned}
 use Rattle.lvm_session.specs.declared.answers.Turned.TheVariants as turned
 use Rattle.lvm_session.specs.declared.open.Open.{Open}
-use Rattle.lvm_session.specs.Calls.{OpenGives, Opens, aged, closed, is_asked}
+use Rattle.lvm_session.specs.Calls.{OpenGives, aged, closed, is_asked}
 use Rattle.lvm_session.specs.Sound.{IsSound}
 use Rattle.lvm_session.specs.State.{Core, State}
 use Rattle.lvm_session.specs.Turns.{TurnMakes}

@@ -1,6 +1,5 @@
 -- A session that is lent goes on as it was given.
-use Rattle.std.proofs.Common.{◌≡◌, Bool, true, false, Option, None, refl, sym, ap, ◌∙◌}
-use Rattle.lvm_disk.specs.Device.{Orders}
+use Rattle.std.proofs.Common.{◌≡◌, Bool, true, false, refl, sym, ap, ◌∙◌}
 use Rattle.lvm_session.specs.declared.open.Power.TheVariants as power
 use Rattle.lvm_session.specs.State.{State}
 use Rattle.lvm_vol.specs.Log.{Log}

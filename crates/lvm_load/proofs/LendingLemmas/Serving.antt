@@ -15,7 +15,7 @@ use Rattle.lvm_vol.specs.declared.entry.Outcome.{Outcome}
 use Rattle.lvm_vol.specs.declared.entry.Vol.TheVariants.{Lv}
 use Rattle.lvm_vol.specs.Facts.{Request, Fact, Making, Made, Split, Removing, Removed, Begun, Landed, Taken, Cut, On, begun}
 use Rattle.lvm_vol.specs.Fronts.{own}
-use Rattle.lvm_vol.specs.Log.{Log, asked as asked_in, blocks_begun, blocks_given, has_id, next_id, next_request, no_request, request_of}
+use Rattle.lvm_vol.specs.Log.{asked as asked_in, blocks_begun, blocks_given, has_id, next_id, next_request, no_request, request_of}
 use Rattle.lvm_vol.proofs.FrontsLemmas.{own-append}
 use Rattle.lvm_path.specs.declared.ask.Ask.{Ask}
 use Rattle.lvm_path.specs.Asks.{at_of, count_of, lv_of}

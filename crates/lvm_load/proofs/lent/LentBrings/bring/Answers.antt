@@ -1,4 +1,4 @@
-use Rattle.std.proofs.Common.{◌≡◌, false, refl, sym, ◌∙◌}
+use Rattle.std.proofs.Common.{refl, sym, ◌∙◌}
 use Rattle.lvm_session.specs.State.{state_of}
 use Rattle.lvm_driver.specs.Showing.{image_of}
 use Rattle.lvm_workers.specs.declared.bring.Brought.TheVariants as brought
