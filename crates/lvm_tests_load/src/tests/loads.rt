@@ -147,22 +147,24 @@ fn as_many_threads_as_there_may_be(rt: HostRuntime) {
     ends_well(&rt, &said, 300);
 }
 
-// How often transfers failed on the first three disks.
-fn faults(shelf: &impl Shelf) -> [u64; 3] {
+// How often transfers failed on each of three disks.
+fn faults<S: Shelf>(rt: &impl Abort, shelf: &S) -> [u64; 3] {
+    let disks = shelf.disks();
+    check(rt, disks == 3, "three disks");
     [shelf.faults(0), shelf.faults(1), shelf.faults(2)]
 }
 
 #[test]
 fn a_copy_is_brought_up_beside_a_worker(rt: HostRuntime) {
     let files = scripted(&rt, &[SMALL, SMALL, SMALL], STALE, &[]);
-    let before = faults(&files);
+    let before = faults(&rt, &files);
     let gate = GateShelf::new(files, 500_000);
     let words = ["load", "--own", "--sync", "datavg", "lv00", "1", "1", "1"];
     let said = run(&rt, &words, b"", 1_000, gate);
     let wanted: &[u8] = b"begun 1\ndone 1\ngot 0\nlost 0\nrefused 0\nunbegun 0\n";
     check(&rt, said.out.bytes() == wanted, "what is written");
     check(&rt, said.status == 0, "the status");
-    check(&rt, faults(&said.files) == before, "no transfer fails");
+    check(&rt, faults(&rt, &said.files) == before, "no transfer fails");
 }
 
 // Disks of a mirrored volume behind a day of 4,000 requests on which the second disk fails.
