@@ -1,3 +1,5 @@
-pub mod Telling
+pub mod Bringing
+pub mod Keeping
 pub mod Owning
 pub mod Serving
+pub mod Telling

@@ -3,9 +3,11 @@ pub mod Counting
 pub mod FactsLemmas
 pub mod WeavingLemmas
 pub mod LeavingLemmas
+pub mod BringingLemmas
 pub mod LendingLemmas
 pub mod LoadingLemmas
 pub mod SettlingLemmas
 pub mod WaitingLemmas
 pub mod RequestsLemmas
 pub mod ScriptLemmas
+pub mod PathsLemmas

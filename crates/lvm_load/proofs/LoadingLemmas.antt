@@ -1,10 +1,10 @@
 -- What a load leaves, by what its workers know and the value that the lock gives back.
-use Rattle.std.proofs.Common.{◌≡◌, ◌≤◌, ◌<◌, ◌+◌, ℕ, zero, suc, Option, List, [], ◌∷◌, ◌++◌, length, refl, sym, ap, ◌∙◌, subst, ⊎_elim, inl, inr}
+use Rattle.std.proofs.Common.{◌≡◌, ◌≤◌, ◌<◌, ◌+◌, ℕ, zero, suc, Bool, true, false, Option, List, [], ◌∷◌, ◌++◌, length, refl, sym, ap, ◌∙◌, subst, ⊎_elim, inl, inr, arith}
 use Rattle.std.proofs.lemmas.List.{append-nil}
 use Rattle.atomic_table.specs.Seated.{TableId}
 use Rattle.lvm_num.specs.Buffer.{Sector}
 use Rattle.lvm_num.specs.Counting.{RoseBy}
-use Rattle.lvm_vol.specs.Facts.{Fact, Begun, begun}
+use Rattle.lvm_vol.specs.Facts.{Fact, Making, Made, Split, Removing, Removed, Begun, Landed, Taken, Cut, On, begun}
 use Rattle.lvm_vol.specs.Fronts.{own}
 use Rattle.lvm_vol.proofs.FrontsLemmas.{begins_further, own-append}
 use Rattle.lvm_turn.specs.Calls.{Continues, IsIdle}
@@ -13,10 +13,9 @@ use Rattle.lvm_turn.proofs.CallsLemmas.Idle.{idle_all}
 use Rattle.lvm_session.specs.declared.open.Power.TheVariants as power
 use Rattle.lvm_session.specs.Sound.{IsSound}
 use Rattle.lvm_session.specs.State.{State}
-use Rattle.lvm_driver.proofs.passed.Names.{runs_none}
 use Rattle.lvm_workers.specs.declared.work.Tally.{Tally}
-use Rattle.lvm_workers.specs.Counting.{begun_of, sum_to}
-use Rattle.lvm_workers.specs.Crews.{AllMade, begun_over, job_of, share}
+use Rattle.lvm_workers.specs.Counting.{AreOfClients, IsOfClients, begun_of}
+use Rattle.lvm_workers.specs.Crews.{AllMade, begun_over, job_of, seats, share}
 use Rattle.lvm_workers.specs.Knowing.{HasCause, Refused, WasUnheard}
 use Rattle.lvm_workers.specs.Making.{HasMade}
 use Rattle.lvm_workers.proofs.CountingLemmas.{begun_by_client, begun_over_all, sum_same}
@@ -24,6 +23,7 @@ use Rattle.lvm_workers.proofs.KnowingLemmas.{rose_on}
 use Rattle.lvm_load.specs.declared.load.Load.{Load}
 use Rattle.lvm_load.specs.Lending.{IsDrawnAs, IsNotTaken, IsServing, Plan, counts_in, told_in}
 use Rattle.lvm_load.specs.Waits.{waits_grow, waits_in}
+use Rattle.lvm_load.proofs.LendingLemmas.Keeping.{keeps_none}
 use Rattle.lvm_load.specs.Loading.{HasLoaded, IsFresh, WasNotTaken, WasUnheardOf, crew_of, plan_of}
 
 -- ---- the beginning
@@ -36,13 +36,40 @@ ends_so (g ∷ before) f e = cc e
 pub serves_first : (s : State) (lv blocks : ℕ) (load : Load) → IsSound s → (s.core.power ≡ power.Stuck → ⊥) → IsFresh s.core.history.facts → IsServing (plan_of s lv blocks load) s
 serves_first s lv blocks load sound unstuck fresh = record {
   sound = sound;
-  runs = runs_none s;
+  keeps = keeps_none load.sync s;
   unstuck = unstuck;
   since = [];
   is = sym (append-nil s.core.history.facts);
   clients = tt;
   holds = λ client before r ends. absurd (ends_so before (Begun r) (sym ends ∙ fresh client));
 }
+
+-- ---- how many clients there are
+
+pub seats_more : (brings : Bool) (n : ℕ) → n ≤ seats brings n
+seats_more true n = omega arith
+seats_more false n = omega arith
+
+pub seats_some : (brings : Bool) (n : ℕ) → 1 ≤ n → 0 < seats brings n
+seats_some true n some = omega (arith, some)
+seats_some false n some = some
+
+-- what is of the clients 1 to n is of the clients 1 to m
+of_more : (n m : ℕ) → n ≤ m → (facts : List Fact) → AreOfClients n facts → AreOfClients m facts
+of_more n m more [] all = tt
+of_more n m more (f ∷ facts) all = (one f all.0, of_more n m more facts all.1)
+  where
+    one : (g : Fact) → IsOfClients n g → IsOfClients m g
+    one (Begun r) its = (its.0, let high = its.1 in omega (arith, high, more))
+    one (Taken r) its = tt
+    one (Making lv blocks mode) its = tt
+    one (Made lv) its = tt
+    one (Split from lv) its = tt
+    one (Removing vol) its = tt
+    one (Removed vol) its = tt
+    one (Landed r how started got) its = tt
+    one Cut its = tt
+    one (On moment) its = tt
 
 -- clients without entries stay as they are
 pub renewed_fresh : (facts : List Fact) (n : ℕ) → IsFresh facts → renewed facts (up_to n) ≡ up_to n
@@ -59,22 +86,23 @@ module _ {V : Type 0} (plan : Plan) (load : Load) (s_of : V → State) (past : V
   abbrev its : IsServing plan last
   its = serves y continues.always_holds
 
-  module _ (clients : plan.clients ≡ load.threads) (fresh : IsFresh plan.first.core.history.facts) (idle : IsIdle table (counted load.threads) p) where
+  -- the pass holds the clients that ask for requests, and perhaps more
+  module _ (seats : ℕ) (few : load.threads ≤ seats) (clients : plan.clients ≡ load.threads) (fresh : IsFresh plan.first.core.history.facts) (idle : IsIdle table (counted seats) p) where
     own_since : (c : ℕ) → own c last.core.history.facts ≡ own c its.since
     own_since c = ap (own c) its.is ∙ own-append c plan.first.core.history.facts its.since ∙ ap (λ (l : List Fact). l ++ own c its.since) (fresh c)
 
     pub all_made : AllMade (λ c number d r. IsDrawnAs plan c number d r) (crew_of load) p.knows.clients
         → (c : ℕ) → 0 < c → c ≤ load.threads → HasMade (λ number d r. IsDrawnAs plan c number d r) (job_of (crew_of load) c).seed (share (crew_of load) c) (begun_of its.since c) (own c its.since)
     all_made made c low high =
-        let held = idle_all table (counted load.threads) p idle load.threads load.threads refl refl c low high in
+        let held = idle_all table (counted seats) p idle seats seats refl refl c low (omega (arith, high, few)) in
         let same : held.0 ≡ own c its.since = sym (continues.own_entries c held.0 held.1) ∙ own_since c in
         subst (λ (l : List Fact). HasMade (λ number d r. IsDrawnAs plan c number d r) (job_of (crew_of load) c).seed (share (crew_of load) c) (length (begun l)) l) same (made c held.0 held.1)
 
     pub all_begun : (t : Tally) → t.begun ≡ begun_over p.knows.clients → t.begun ≡ length (begun its.since)
     all_begun t is =
-        is ∙ begun_over_all load.threads last.core.history.facts p.knows.clients idle.holds continues.own_entries
-        ∙ sum_same (begun_of last.core.history.facts) (begun_of its.since) (λ c. ap (λ (l : List Fact). length (begun l)) (own_since c)) load.threads
-        ∙ sym (subst (λ n. length (begun its.since) ≡ sum_to (begun_of its.since) n) clients (begun_by_client plan.clients its.since its.clients))
+        is ∙ begun_over_all seats last.core.history.facts p.knows.clients idle.holds continues.own_entries
+        ∙ sum_same (begun_of last.core.history.facts) (begun_of its.since) (λ c. ap (λ (l : List Fact). length (begun l)) (own_since c)) seats
+        ∙ sym (begun_by_client seats its.since (of_more plan.clients seats (subst (λ n. n ≤ seats) (sym clients) few) its.since its.clients))
 
     module _ (first : View) (t : Tally) (begins : first.counts ≡ counts_in plan.first)
         (cause : HasCause (Refused (λ v. told_in (s_of v)) past always (λ v client number d. IsNotTaken plan (s_of v) client d)) waits_in first p.knows t) where

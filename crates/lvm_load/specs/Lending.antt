@@ -1,5 +1,5 @@
 -- A session that a lock lends to workers, one after the other.
-use Rattle.std.specs.Prelude.{◌≡◌, ◌+◌, ◌-◌, ◌*◌, ◌/◌, ◌%◌, ◌++◌, ℕ, Bool, true, if◌then◌else◌, List, [], ◌∷◌, Option, Some, is_some, length}
+use Rattle.std.specs.Prelude.{◌≡◌, ◌+◌, ◌-◌, ◌*◌, ◌/◌, ◌%◌, ◌++◌, ℕ, Bool, true, false, if◌then◌else◌, List, [], ◌∷◌, Option, Some, None, is_some, length}
 use Rattle.std.specs.List.{list_any}
 use Rattle.lvm_vol.specs.declared.entry.Vol.TheVariants.{Lv}
 use Rattle.lvm_vol.specs.Facts.{Request, Fact, Begun}
@@ -14,18 +14,20 @@ use Rattle.lvm_session.specs.Causes.{is_over}
 use Rattle.lvm_session.specs.Sound.{IsSound, count_if, is_dark}
 use Rattle.lvm_session.specs.State.{Core, State}
 use Rattle.lvm_driver.specs.Showing.{counts_of, fixed_by}
-use Rattle.lvm_driver.specs.passed.Names.{RunsOn}
+use Rattle.lvm_driver.specs.passed.Names.{LeavesSession}
 use Rattle.lvm_workers.specs.declared.words.Draw.{Draw}
 use Rattle.lvm_workers.specs.Counting.{AreOfClients}
 use Rattle.lvm_load.specs.Requests.{ask_of, bytes_of, word_of}
 
--- What a load begins with: the session, how many clients it has, which volume they ask for, of so many blocks, and whether each writes to a track group of its own alone.
+-- What a load begins with: the session, how many clients ask for requests, of which volume, of so many blocks; whether each writes to a track group of its own alone; and whether the volume's
+-- copies are brought up beside them.
 pub record Plan : Type 0 where
   pub first : State
   pub clients : ℕ
   pub lv : ℕ
   pub blocks : ℕ
   pub apart : Bool
+  pub sync : Bool
 
 -- ---- requests
 
@@ -72,10 +74,17 @@ told_in s = record { entries = s.core.history.facts; fixed = fixed_by s; counts 
 abbrev pub HoldsOpen : Core → Type 0
 HoldsOpen core = (client : ℕ) (before : List Fact) (r : Request) → own client core.history.facts ≡ before ++ Begun r ∷ [] → list_any (is_asked client r.id) core.requests ≡ true
 
--- The session has come about from the first by turns and by requests of its clients: so it is sound, good for each moment for which that was good, and its span goes on.
+-- The session goes on, and no order is given to its shelf; nor is a copy opened, unless copies are brought up.
+pub record KeepsServing (sync : Bool) (old new : State) : Type 0 where
+  pub leaves : LeavesSession old new
+  pub orders : new.device.orders ≡ old.device.orders
+  pub copy : sync ≡ false → old.core.copy ≡ None → new.core.copy ≡ None
+
+-- The session has come about from the first by turns, by requests of its clients and by copies that are brought up: so it is sound, good for each moment for which that was good, and its span
+-- goes on.
 pub record IsServing (plan : Plan) (s : State) : Type 0 where
   pub sound : IsSound s
-  pub runs : RunsOn plan.first s
+  pub keeps : KeepsServing plan.sync plan.first s
   pub unstuck : s.core.power ≡ power.Stuck → ⊥
   pub since : List Fact
   pub is : s.core.history.facts ≡ plan.first.core.history.facts ++ since

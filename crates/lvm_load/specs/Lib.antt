@@ -1,9 +1,11 @@
+pub mod Bringing
 pub mod Ends
 pub mod Leaving
 pub mod Lending
 pub mod Loading
 pub mod Requests
 pub mod Serving
+pub mod Settling
 pub mod Totals
 pub mod Waiting
 pub mod Waits

@@ -19,7 +19,7 @@ crew_of load = record { threads = load.threads; requests = load.requests; seed =
 
 -- with what it begins
 abbrev pub plan_of : State → ℕ → ℕ → Load → Plan
-plan_of first lv blocks load = record { first = first; clients = load.threads; lv = lv; blocks = blocks; apart = load.apart }
+plan_of first lv blocks load = record { first = first; clients = load.threads; lv = lv; blocks = blocks; apart = load.apart; sync = load.sync }
 
 -- no client has begun a request
 abbrev pub IsFresh : List Fact → Type 0

@@ -1,18 +1,23 @@
 //! A session that a lock lends to workers.
 ghost use Rattle.std.specs.Prelude.{◌≡◌, ◌≤◌, ◌*◌, ℕ, false, if◌then◌else◌, Err};
 ghost use Rattle.lvm_keeps.specs.Failing.{unsettled};
+ghost use Rattle.lvm_session.specs.declared.open.Power.TheVariants as power;
+ghost use Rattle.lvm_session.specs.State.{state_of};
+ghost use Rattle.lvm_resync.specs.Passing.{Runs};
+ghost use Rattle.lvm_load.specs.Bringing.{BringsOn};
 ghost use Rattle.lvm_load.specs.Lending.{Plan, apart_draw};
 ghost use Rattle.lvm_load.specs.Requests.{word_of};
 ghost use Rattle.lvm_load.specs.Weaving.{goes_on};
+ghost use Rattle.lvm_workers.specs.declared.bring.Brought.TheVariants as brought;
 ghost use Rattle.lvm_workers.specs.declared.service.Asked.TheVariants as asked;
 
 use crate::client::goes_on;
 use crate::request::submit_drawn;
 use lvm_disk::Shelf;
 use lvm_driver::Driver;
-use lvm_session::{AskFault, Taken, Turned};
+use lvm_session::{AskFault, CopyFault, CopyState, Taken, Turned};
 use lvm_vol::{Past, Shown};
-use lvm_workers::{Asked, Draw, Seen, Service};
+use lvm_workers::{Asked, Brings, Brought, Draw, Seen, Service};
 use std::marker::{Brand, PhantomData};
 
 // Between the words of a client's requests.
@@ -21,13 +26,16 @@ const STRIDE: u64 = 8;
 // The blocks of a track group.
 const GROUP: u32 = 256;
 
+// The most copies of a logical partition.
+const COPIES: u32 = 3;
+
 /// Names what a load begins with. Each load picks it.
 pub(crate) trait Lending {
     ghost plan: { Plan };
 }
 
 impl Lending for Brand {
-    ghost plan = { record { first = unsettled; clients = 0; lv = 0; blocks = 0; apart = false } };
+    ghost plan = { record { first = unsettled; clients = 0; lv = 0; blocks = 0; apart = false; sync = false } };
 }
 
 /// A session, with room for what its clients write.
@@ -38,6 +46,7 @@ pub(crate) struct Lent<S: Shelf, J: Lending> {
     pub(crate) lv: u16,
     pub(crate) blocks: u64,
     pub(crate) apart: bool,
+    pub(crate) sync: bool,
     pub(crate) named: PhantomData<J>,
 }
 
@@ -88,6 +97,67 @@ fn word_of(client: u32, number: u32) -> u64
     first.wrapping_add(STRIDE * u64::from(number))
 }
 
+// What comes behind a copy, from 1, that isn't opened for this: the next one; or none, where the session takes none, or the
+// volume has no such logical partition.
+fn behind(why: CopyFault, number: u8) -> Brought
+    ensures { result ≡ brought.Idle → ⊥ }
+{
+    match why {
+        CopyFault::OutOfRange if number > 1 => Brought::Next,
+        CopyFault::Busy
+        | CopyFault::AlreadyFresh
+        | CopyFault::Missing { .. }
+        | CopyFault::NoFresh => { Brought::Next }
+        CopyFault::Dark
+        | CopyFault::Off
+        | CopyFault::HistoryFull
+        | CopyFault::NoVolume
+        | CopyFault::OutOfRange => Brought::Over,
+    }
+}
+
+// Opens the copy of a place, where it is stale: the places of a volume go by logical partitions, and then by copies.
+fn open_at<S: Shelf>(driver: &mut Driver<S>, lv: u16, at: u32) -> Brought
+    requires unstuck { driver.old.1.power ≡ power.Stuck → ⊥ }
+    ensures { BringsOn (state_of S.device driver.old) (state_of S.device driver.new) result }
+{
+    let number = (at % COPIES) as u8 + 1;
+    match driver.open_copy(lv, at / COPIES, number) {
+        Ok(()) => Brought::Moved,
+        Err(why) => behind(why, number),
+    }
+}
+
+// Makes a turn while a copy is brought up.
+fn make_turn<S: Shelf>(driver: &mut Driver<S>) -> Brought
+    requires unstuck { driver.old.1.power ≡ power.Stuck → ⊥ }
+    requires runs { Runs driver.old.1 }
+    ensures { BringsOn (state_of S.device driver.old) (state_of S.device driver.new) result }
+{
+    match driver.turn() {
+        Turned::Idle => Brought::Idle,
+        _ => Brought::Moved,
+    }
+}
+
+// Makes one event for the copy of a place: opens it, makes a turn while it is brought up, or closes it.
+fn bring_on<S: Shelf>(driver: &mut Driver<S>, lv: u16, at: u32) -> Brought
+    requires unstuck { driver.old.1.power ≡ power.Stuck → ⊥ }
+    ensures { BringsOn (state_of S.device driver.old) (state_of S.device driver.new) result }
+{
+    match driver.copy_state() {
+        CopyState::Closed => open_at(driver, lv, at),
+        CopyState::Running { cursor: _ } => make_turn(driver),
+        CopyState::Done
+        | CopyState::SyncFailed { disk: _ }
+        | CopyState::NoFresh
+        | CopyState::Ended => {
+            driver.close_copy();
+            Brought::Next
+        }
+    }
+}
+
 impl<S: Shelf, J: Lending> Past for Lent<S, J> {
     ghost use Rattle.lvm_driver.specs.Showing.{image_of};
 
@@ -102,7 +172,7 @@ impl<S: Shelf, J: Lending> Shown for Lent<S, J> {
     ghost tells = { λ d. told_in (state_of S.device d.driver) };
 
     ghost always = { λ d. IsServing J.plan (state_of S.device d.driver) × (131072 ≤ vec_capacity d.bytes)
-        × (d.lv ≡ J.plan.lv) × (d.blocks ≡ J.plan.blocks) × (d.apart ≡ J.plan.apart) × (256 ≤ d.blocks) × (J.plan.clients ≤ 128) };
+        × (d.lv ≡ J.plan.lv) × (d.blocks ≡ J.plan.blocks) × (d.apart ≡ J.plan.apart) × (d.sync ≡ J.plan.sync) × (256 ≤ d.blocks) × (J.plan.clients ≤ 128) };
 
     fn shown(&self) -> u64 {
         u64::from(self.driver.history().len())
@@ -160,4 +230,15 @@ impl<S: Shelf, J: Lending> Service for Lent<S, J> {
     }
 
     ghost waits_stay = { waits_grow };
+}
+
+impl<S: Shelf, J: Lending> Brings for Lent<S, J> {
+    fn bring(&mut self, at: u32) -> Brought {
+        if !self.sync {
+            return Brought::Over;
+        }
+        let brought = bring_on(&mut self.driver, self.lv, at);
+        self.driver.is_sound();
+        brought
+    }
 }

@@ -16,6 +16,6 @@ pub use laws::workloads_leave_open;
 pub use load::{Load, Loaded, share_session};
 pub use lvm_workers::{Draw, Tally, draw_request, generator, next_word};
 pub use script::{ScriptFault, write_script};
-pub use serve::{Served, serve_load};
+pub use serve::{Served, Synced, serve_load};
 pub use totals::{Totals, totals_since};
 pub use workload::{Workload, Woven, weave};

@@ -9,20 +9,22 @@ use crate::lent::{Lending, Lent};
 use lvm_disk::Shelf;
 use lvm_driver::Driver;
 use lvm_turn::Turn;
-use lvm_workers::{Crew, Tally, workers};
+use lvm_workers::{Crew, Tally, run_crew, seats};
 use std::alloc::Global;
 use std::marker::{Brand, PhantomData};
 use std::sync::Wait;
 use std::thread::Threads;
 
 /// So many requests by so many clients, 1 to 128, each in a thread of its own, which are drawn from the seed. Where they keep
-/// apart each writes to a track group of its own alone.
+/// apart each writes to a track group of its own alone. Where it is asked for, one client more brings up the stale copies of
+/// the volume beside them.
 #[derive(Clone, Copy)]
 pub struct Load {
     pub threads: u32,
     pub requests: u32,
     pub seed: u64,
     pub apart: bool,
+    pub sync: bool,
 }
 
 /// A session as the workers of a load leave it, and how many requests have begun; none where no memory was found for them.
@@ -83,13 +85,14 @@ fn share_as<S: Shelf + Send, J: Lending + Send, R: Threads + Wait + Sync>(
         lv,
         blocks,
         apart: load.apart,
+        sync: load.sync,
         named: PhantomData,
     };
-    let (turn, pass) = match Turn::new(alloc, lent, load.threads) {
+    let (turn, pass) = match Turn::new(alloc, lent, seats(load.threads, load.sync)) {
         Ok(made) => made,
         Err(lent) => return given_back(lent, None),
     };
-    match workers(rt, alloc, &turn, pass, &crew_of(load)) {
+    match run_crew(rt, alloc, &turn, pass, &crew_of(load), load.sync) {
         Ok((pass, tally)) => given_back(turn.close(pass), Some(tally)),
         Err(pass) => given_back(turn.close(pass), None),
     }
@@ -97,7 +100,7 @@ fn share_as<S: Shelf + Send, J: Lending + Send, R: Threads + Wait + Sync>(
 
 /// Lends the session to as many workers as the load has clients, each in a thread of its own, which make its requests of a
 /// volume of so many blocks, and takes it back once all have ended. Nothing is promised of when that is, nor that it comes. A
-/// request may be open still, where nothing was heard of it.
+/// request may be open still, where nothing was heard of it, and so may a copy.
 pub fn share_session<S: Shelf + Send, R: Threads + Wait + Sync>(
     rt: &R,
     alloc: Global,

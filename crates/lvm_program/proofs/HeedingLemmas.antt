@@ -29,6 +29,7 @@ use Rattle.lvm_group_lines.specs.declared.reply.Refusal.TheVariants as refusal
 use Rattle.lvm_line.specs.passed.ReplyVariants as reply
 use Rattle.lvm_top.specs.declared.status.ExitStatus.TheVariants as ended
 use Rattle.lvm_top.specs.Ending.{Concludes, NoneIsOn, NoneIsServed, IsServed, NothingIsLeft, TurnsAreMade}
+use Rattle.lvm_top.proofs.passed.Tie.{path_frames}
 use Rattle.lvm_program.specs.Heeding.{AreNoOrders, AreUntroubled, EndsNoOrder, EndsUntroubled, GoesWell, IsNoOrder, IsTroubled, RanUnordered, LinesOrderAlone, RunsHeedAlone, SomeRunGoesWell, UnorderedRunsGoWell, UnorderedScriptsGoWell, ordered_after, ordered_behind, orders_of}
 use Rattle.lvm_top.specs.Run.{Run, IsRun, RanAlone}
 use Rattle.lvm_program.specs.Sim.{full_room}
@@ -107,7 +108,7 @@ pub concludes_orders : (run : ℕ) (end exit : Moment) (on : Option Core) → Co
 concludes_orders run end exit on (NoneIsOn none same) = ap (λ (m : Moment). m.device.orders) same
 concludes_orders run end exit on (NoneIsServed core some empty same) = ap (λ (m : Moment). m.device.orders) same
 concludes_orders run end exit on (IsServed core some vols named facts (NothingIsLeft rests device entries)) = ap (λ (d : Device). d.orders) device
-concludes_orders run end exit on (IsServed core some vols named facts (TurnsAreMade last moving turns runs sound closed entries)) = closed_orders last.core.power last.device exit.device closed ∙ runs.orders
+concludes_orders run end exit on (IsServed core some vols named facts (TurnsAreMade last moving turns runs sound closed entries)) = closed_orders last.core.power last.device exit.device closed ∙ (path_frames runs).orders
 
 module _ (log : Log) (room : Room) (first : ScriptState) where
   script_orders : {lines : List (List ℕ)} {replies : List Reply} {last : ScriptState} (script : Script log room first lines replies last) → AreNoOrders script → last.moment.device.orders ≡ first.moment.device.orders

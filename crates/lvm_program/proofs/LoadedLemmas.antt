@@ -1,2 +1,4 @@
+pub mod Closing
 pub mod Varying
 pub mod Loaded
+pub mod Telling

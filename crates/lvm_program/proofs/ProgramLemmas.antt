@@ -27,7 +27,7 @@ on_script (Ok Script) P p = p
 on_script (Ok (Sim disks mib)) P p = tt
 on_script (Ok (Gen seed count)) P p = tt
 on_script (Ok (Weave disks mib clients requests seed)) P p = tt
-on_script (Ok (Load own group volume threads requests seed)) P p = tt
+on_script (Ok (Load own sync group volume threads requests seed)) P p = tt
 on_script (Ok (Image disk mib)) P p = tt
 on_script (Ok Help) P p = tt
 on_script (Ok Version) P p = tt
@@ -39,7 +39,7 @@ on_sim (Ok Script) P p = tt
 on_sim (Ok (Sim disks mib)) P p = p disks mib
 on_sim (Ok (Gen seed count)) P p = tt
 on_sim (Ok (Weave disks mib clients requests seed)) P p = tt
-on_sim (Ok (Load own group volume threads requests seed)) P p = tt
+on_sim (Ok (Load own sync group volume threads requests seed)) P p = tt
 on_sim (Ok (Image disk mib)) P p = tt
 on_sim (Ok Help) P p = tt
 on_sim (Ok Version) P p = tt
@@ -51,7 +51,7 @@ on_drawn (Ok Script) P Q p q = tt
 on_drawn (Ok (Sim disks mib)) P Q p q = tt
 on_drawn (Ok (Gen seed count)) P Q p q = p seed count
 on_drawn (Ok (Weave disks mib clients requests seed)) P Q p q = q disks mib (record { clients = clients; requests = requests; seed = seed })
-on_drawn (Ok (Load own group volume threads requests seed)) P Q p q = tt
+on_drawn (Ok (Load own sync group volume threads requests seed)) P Q p q = tt
 on_drawn (Ok (Image disk mib)) P Q p q = tt
 on_drawn (Ok Help) P Q p q = tt
 on_drawn (Ok Version) P Q p q = tt
@@ -86,16 +86,16 @@ unread_generates seed count output end unrun = (
     none = record { status_is = inr (inr refl); whole = λ is. absurd (cc); front = λ _. front_at_first seed count output.content; cause = λ is. absurd (cc); memory = λ is. refl; well = λ is. absurd (cc) }
 
 -- where a load is asked for, what holds of it
-pub on_load_at : (asked : Result Job WordsFault) (own : Bool) (group volume : List ℕ) (threads requests seed : ℕ) → asked ≡ Ok (Load own group volume threads requests seed) → (P : LoadWords → Type 0)
-    → P (load_words own group volume threads requests seed) → OnLoad asked P
-on_load_at asked own group volume threads requests seed is P p = subst (λ (a : Result Job WordsFault). OnLoad a P) (sym is) p
+pub on_load_at : (asked : Result Job WordsFault) (own sync : Bool) (group volume : List ℕ) (threads requests seed : ℕ) → asked ≡ Ok (Load own sync group volume threads requests seed) → (P : LoadWords → Type 0)
+    → P (load_words own sync group volume threads requests seed) → OnLoad asked P
+on_load_at asked own sync group volume threads requests seed is P p = subst (λ (a : Result Job WordsFault). OnLoad a P) (sym is) p
 
 -- ---- words that ask for work, but for a load, are told nothing
 
 abbrev IsWork : Result Job WordsFault → Type 0
 IsWork (Ok Help) = ⊥
 IsWork (Ok Version) = ⊥
-IsWork (Ok (Load own group volume threads requests seed)) = ⊥
+IsWork (Ok (Load own sync group volume threads requests seed)) = ⊥
 IsWork other = Unit {0}
 
 work_if : (b : Bool) (x y : Result Job WordsFault) → IsWork x → IsWork y → IsWork (if b then x else y)
@@ -157,7 +157,7 @@ work_tells (Ok Script) works P = tt
 work_tells (Ok (Sim disks mib)) works P = tt
 work_tells (Ok (Gen seed count)) works P = tt
 work_tells (Ok (Weave disks mib clients requests seed)) works P = tt
-work_tells (Ok (Load own group volume threads requests seed)) works P = absurd works
+work_tells (Ok (Load own sync group volume threads requests seed)) works P = absurd works
 work_tells (Ok (Image disk mib)) works P = tt
 work_tells (Ok Help) works P = absurd works
 work_tells (Ok Version) works P = absurd works
@@ -168,7 +168,7 @@ work_loads (Ok Script) works P = tt
 work_loads (Ok (Sim disks mib)) works P = tt
 work_loads (Ok (Gen seed count)) works P = tt
 work_loads (Ok (Weave disks mib clients requests seed)) works P = tt
-work_loads (Ok (Load own group volume threads requests seed)) works P = absurd works
+work_loads (Ok (Load own sync group volume threads requests seed)) works P = absurd works
 work_loads (Ok (Image disk mib)) works P = tt
 work_loads (Ok Help) works P = absurd works
 work_loads (Ok Version) works P = absurd works

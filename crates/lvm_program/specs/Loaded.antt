@@ -1,5 +1,5 @@
 -- A run of a load over a group that stands on the disks.
-use Rattle.std.specs.Prelude.{◌≡◌, ◌⊎◌, ◌≤◌, ◌+◌, ◌++◌, ℕ, List, Contains, Option, Some, None, IfSome, IfNone, codes, true}
+use Rattle.std.specs.Prelude.{◌≡◌, ◌⊎◌, ◌≤◌, ◌+◌, ◌++◌, ℕ, List, Contains, Option, Some, None, IfSome, IfNone, Result, Ok, Err, codes, true}
 use Rattle.lvm_num.specs.Geometry.{volume_blocks}
 use Rattle.lvm_num.specs.declared.descriptor.Descriptor.{Descriptor}
 use Rattle.lvm_num.specs.declared.descriptor.LvRow.{LvRow}
@@ -14,19 +14,26 @@ use Rattle.lvm_core.specs.Looking.{HasNoVolumeNamed}
 use Rattle.lvm_session.specs.State.{Core, State, state}
 use Rattle.lvm_session.specs.Sound.{IsSound}
 use Rattle.lvm_load.specs.declared.load.Load.{Load}
+use Rattle.lvm_load.specs.declared.serve.Synced.{Synced}
 use Rattle.lvm_load.specs.declared.workload.Woven.{Woven}
+use Rattle.lvm_load.specs.Lending.{KeepsServing}
 use Rattle.lvm_load.specs.Serving.{IsLoadedBy}
+use Rattle.lvm_resync.specs.declared.fault.SyncFault.{SyncFault}
+use Rattle.lvm_resync.specs.declared.fault.SyncFault.TheVariants as fault
+use Rattle.lvm_group_lines.specs.declared.reply.Refusal.{Refusal}
 use Rattle.lvm_group_lines.specs.declared.reply.Refusal.TheVariants as refusal
 use Rattle.lvm_top.specs.passed.Lines.{IsLine, role_of}
-use Rattle.lvm_top.specs.passed.Tie.{RunsOn}
 use Rattle.lvm_line.specs.passed.ReplyVariants as reply
 use Rattle.lvm_top.specs.passed.HolderVariants as holder
 use Rattle.lvm_top.specs.passed.GroupLines.{Holder, IsAlone, IsClosed, OfRequests, Reply, ScriptState}
+use Rattle.lvm_top.specs.declared.script.Stop.{Stop}
 use Rattle.lvm_top.specs.declared.status.ExitStatus.{ExitStatus}
 use Rattle.lvm_top.specs.declared.status.ExitStatus.TheVariants as ended
 use Rattle.lvm_top.specs.Refused.{IsForCause}
 use Rattle.lvm_top.specs.Run.{Run, exit_state}
-use Rattle.lvm_top.specs.Script.{Passage, empty_log, entry_state, facts_of}
+use Rattle.lvm_top.specs.Script.{Passage, Stream, empty_log, entry_state, facts_of}
+use Rattle.lvm_top.specs.Statuses.{status_of}
+use Rattle.lvm_top.specs.Turn.{Tells}
 use Rattle.lvm_program.specs.Woven.{EndsRefused, Exit, TellsWoven, exit_from, refusals_told}
 use Rattle.lvm_program.specs.declared.load.LoadWords.{LoadWords}
 
@@ -61,24 +68,68 @@ abbrev pub IsLoadable : Load → Type 0
 IsLoadable load = (1 ≤ load.threads) × (load.threads ≤ 128)
 
 -- The load was made over this session, if memory was found for its workers, and the session is closed. The totals are those of the history that comes back.
-pub record IsLoadedOver (lv blocks : ℕ) (load : Load) (first : State) (exit : Moment) (woven : Option Woven) : Type 0 where
+pub record IsLoadedOver (lv blocks : ℕ) (load : Load) (first : State) (exit : Moment) (woven : Option Woven) (synced : Option Synced) : Type 0 where
   pub end : State
-  pub made : IfSome woven (IsLoadedBy lv blocks load first end)
-  pub runs : RunsOn first end
+  pub made : IfSome woven (λ w. IsLoadedBy lv blocks load first end w synced)
+  pub none : IfNone woven (synced ≡ None)
+  pub keeps : KeepsServing load.sync first end
   pub sound : IsSound end
   pub closed : IsClosed end.core.power end.device exit.device
   pub facts : exit.facts ≡ end.core.history.facts
 
--- the totals are told, or nothing where no memory was found for the workers
-abbrev pub TellsLoaded : Option Woven → ℕ → ExitStatus → ℕ → Passage → Type 0
-TellsLoaded None requests status refused out = (status ≡ ended.Memory) × (refused ≡ 0) × (out.after ≡ out.before)
-TellsLoaded (Some woven) requests status refused out = TellsWoven woven requests status out × (refused ≡ refusals_told woven)
+-- ---- what is told
+
+-- the refusal by which a copy stayed stale, or by which it ended; where nothing was heard of a transfer, that is told of the whole load
+abbrev pub refusal_for : ℕ → ℕ → SyncFault → Option Refusal
+refusal_for have total fault.Dark = Some refusal.Dark
+refusal_for have total fault.Off = Some (refusal.WentOff have total)
+refusal_for have total fault.Stuck = None
+refusal_for have total fault.Busy = Some refusal.Busy
+refusal_for have total fault.NoVolume = Some refusal.NoVolume
+refusal_for have total fault.OutOfRange = Some refusal.NoVolume
+refusal_for have total fault.HistoryFull = Some refusal.HistoryFull
+refusal_for have total (fault.SyncFailed disk) = Some (refusal.SyncFailed disk)
+refusal_for have total (fault.NoFresh lp) = Some (refusal.NoFresh lp)
+refusal_for have total (fault.Missing disk) = Some (refusal.Missing disk)
+
+abbrev pub refusal_in : ℕ → ℕ → Result ℕ SyncFault → Option Refusal
+refusal_in have total (Ok made) = None
+refusal_in have total (Err why) = refusal_for have total why
+
+abbrev pub refusal_by : Synced → Option Refusal
+refusal_by synced = refusal_in synced.have synced.total synced.result
+
+abbrev pub refusal_of : Option Synced → Option Refusal
+refusal_of None = None
+refusal_of (Some synced) = refusal_by synced
+
+-- a run that has told a refusal doesn't end well
+abbrev pub with_refusal : ExitStatus → ExitStatus
+with_refusal ended.Well = ended.Refusals
+with_refusal other = other
+
+-- The refusal is told as in a script, and the totals behind it, unless the sink failed at it.
+pub data TellsBoth (why : Refusal) (woven : Woven) (requests : ℕ) (status : ExitStatus) (refused : ℕ) (out : Passage) : Type 0 where
+  ToldBoth : (mid : Stream) (first : ℕ) (last : ExitStatus) → Tells (reply.Refused why) 0 first (record { before = out.before; after = mid }) None
+      → TellsWoven woven requests last (record { before = mid; after = out.after }) → status ≡ with_refusal last → refused ≡ first + refusals_told woven → TellsBoth why woven requests status refused out
+  FailedFirst : (stop : Stop) → Tells (reply.Refused why) 0 refused out (Some stop) → status ≡ status_of (Some stop) refused → TellsBoth why woven requests status refused out
+
+-- the totals are told, behind the refusal where there is one
+abbrev pub TellsTotals : Woven → Option Refusal → ℕ → ExitStatus → ℕ → Passage → Type 0
+TellsTotals woven None requests status refused out = TellsWoven woven requests status out × (refused ≡ refusals_told woven)
+TellsTotals woven (Some why) requests status refused out = TellsBoth why woven requests status refused out
+
+-- so they are, or nothing is where no memory was found for the workers
+abbrev pub TellsLoaded : Option Woven → Option Refusal → ℕ → ExitStatus → ℕ → Passage → Type 0
+TellsLoaded None why requests status refused out = (status ≡ ended.Memory) × (refused ≡ 0) × (out.after ≡ out.before)
+TellsLoaded (Some woven) why requests status refused out = TellsTotals woven why requests status refused out
 
 -- The run makes its load over this session, and tells its totals.
 pub record HasLoadedOver (lv blocks : ℕ) (load : Load) (first : State) (exit : Exit) : Type 0 where
   pub woven : Option Woven
-  pub made : IsLoadedOver lv blocks load first exit.moment woven
-  pub tells : TellsLoaded woven load.requests exit.status exit.refused exit.out
+  pub synced : Option Synced
+  pub made : IsLoadedOver lv blocks load first exit.moment woven synced
+  pub tells : TellsLoaded woven (refusal_of synced) load.requests exit.status exit.refused exit.out
 
 -- How a run ends behind its line: its answer is told where it isn't `ok`; or that the group has no such volume; or the load is made, and told.
 pub data EndsLoaded (words : LoadWords) (answer : Reply) (run : ℕ) (end : Moment) (on : Option Core) (exit : Exit) : Type 0 where

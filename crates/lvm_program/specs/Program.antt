@@ -31,7 +31,7 @@ OnScript (Ok Script) P = P
 OnScript (Ok (Sim disks mib)) P = Unit {0}
 OnScript (Ok (Gen seed count)) P = Unit {0}
 OnScript (Ok (Weave disks mib clients requests seed)) P = Unit {0}
-OnScript (Ok (Load own group volume threads requests seed)) P = Unit {0}
+OnScript (Ok (Load own sync group volume threads requests seed)) P = Unit {0}
 OnScript (Ok (Image disk mib)) P = Unit {0}
 OnScript (Ok Help) P = Unit {0}
 OnScript (Ok Version) P = Unit {0}
@@ -43,7 +43,7 @@ OnSim (Ok Script) P = Unit {0}
 OnSim (Ok (Sim disks mib)) P = P disks mib
 OnSim (Ok (Gen seed count)) P = Unit {0}
 OnSim (Ok (Weave disks mib clients requests seed)) P = Unit {0}
-OnSim (Ok (Load own group volume threads requests seed)) P = Unit {0}
+OnSim (Ok (Load own sync group volume threads requests seed)) P = Unit {0}
 OnSim (Ok (Image disk mib)) P = Unit {0}
 OnSim (Ok Help) P = Unit {0}
 OnSim (Ok Version) P = Unit {0}
@@ -55,15 +55,15 @@ OnDrawn (Ok Script) P Q = Unit {0}
 OnDrawn (Ok (Sim disks mib)) P Q = Unit {0}
 OnDrawn (Ok (Gen seed count)) P Q = P seed count
 OnDrawn (Ok (Weave disks mib clients requests seed)) P Q = Q disks mib (record { clients = clients; requests = requests; seed = seed })
-OnDrawn (Ok (Load own group volume threads requests seed)) P Q = Unit {0}
+OnDrawn (Ok (Load own sync group volume threads requests seed)) P Q = Unit {0}
 OnDrawn (Ok (Image disk mib)) P Q = Unit {0}
 OnDrawn (Ok Help) P Q = Unit {0}
 OnDrawn (Ok Version) P Q = Unit {0}
 OnDrawn (Err why) P Q = Unit {0}
 
 -- the load that these words ask for
-abbrev pub load_words : Bool → (group volume : List ℕ) → (threads requests seed : ℕ) → LoadWords
-load_words own group volume threads requests seed = record { group = group; volume = volume; load = record { threads = threads; requests = requests; seed = seed; apart = own } }
+abbrev pub load_words : (own sync : Bool) → (group volume : List ℕ) → (threads requests seed : ℕ) → LoadWords
+load_words own sync group volume threads requests seed = record { group = group; volume = volume; load = record { threads = threads; requests = requests; seed = seed; apart = own; sync = sync } }
 
 -- what holds where they ask for a load over the files
 abbrev pub OnLoad : Result Job WordsFault → (LoadWords → Type 0) → Type 0
@@ -71,7 +71,7 @@ OnLoad (Ok Script) P = Unit {0}
 OnLoad (Ok (Sim disks mib)) P = Unit {0}
 OnLoad (Ok (Gen seed count)) P = Unit {0}
 OnLoad (Ok (Weave disks mib clients requests seed)) P = Unit {0}
-OnLoad (Ok (Load own group volume threads requests seed)) P = P (load_words own group volume threads requests seed)
+OnLoad (Ok (Load own sync group volume threads requests seed)) P = P (load_words own sync group volume threads requests seed)
 OnLoad (Ok (Image disk mib)) P = Unit {0}
 OnLoad (Ok Help) P = Unit {0}
 OnLoad (Ok Version) P = Unit {0}
@@ -83,7 +83,7 @@ OnImage (Ok Script) P = Unit {0}
 OnImage (Ok (Sim disks mib)) P = Unit {0}
 OnImage (Ok (Gen seed count)) P = Unit {0}
 OnImage (Ok (Weave disks mib clients requests seed)) P = Unit {0}
-OnImage (Ok (Load own group volume threads requests seed)) P = Unit {0}
+OnImage (Ok (Load own sync group volume threads requests seed)) P = Unit {0}
 OnImage (Ok (Image disk mib)) P = P disk mib
 OnImage (Ok Help) P = Unit {0}
 OnImage (Ok Version) P = Unit {0}
@@ -91,7 +91,7 @@ OnImage (Err why) P = Unit {0}
 
 -- how the words go, and which program this is
 abbrev pub help_text : List ℕ
-help_text = codes "usage: lvm script | lvm sim DISKS MIB | lvm weave DISKS MIB CLIENTS REQUESTS SEED | lvm load [--own] GROUP VOLUME THREADS REQUESTS SEED | lvm gen SEED COUNT | lvm image N MIB\n  script          does the lines of standard input over hdisk0.img to hdisk127.img of this folder\n  sim DISKS MIB   does them over 1 to 32 disks of zeros in memory, each of 1 to 64 MiB\n  weave DISKS MIB CLIENTS REQUESTS SEED\n                  tells how up to 50,000 reads and writes of 1 to 64 clients end, drawn from the seed, over 1 to 8 such disks of 8 to 64 MiB\n  load [--own] GROUP VOLUME THREADS REQUESTS SEED\n                  tells how up to 50,000 reads and writes of 1 to 128 threads end, drawn from the seed, over a volume of a group on the images; with --own each only writes, to blocks of its own\n  gen SEED COUNT  writes a script of up to 100,000 reads and writes that are drawn from the seed\n  image N MIB     makes hdiskN.img, N from 0 to 127, of 1 to 4,096 MiB of zeros\n"
+help_text = codes "usage: lvm script | lvm sim DISKS MIB | lvm weave DISKS MIB CLIENTS REQUESTS SEED | lvm load [--own] [--sync] GROUP VOLUME THREADS REQUESTS SEED | lvm gen SEED COUNT | lvm image N MIB\n  script          does the lines of standard input over hdisk0.img to hdisk127.img of this folder\n  sim DISKS MIB   does them over 1 to 32 disks of zeros in memory, each of 1 to 64 MiB\n  weave DISKS MIB CLIENTS REQUESTS SEED\n                  tells how up to 50,000 reads and writes of 1 to 64 clients end, drawn from the seed, over 1 to 8 such disks of 8 to 64 MiB\n  load [--own] [--sync] GROUP VOLUME THREADS REQUESTS SEED\n                  tells how up to 50,000 reads and writes of 1 to 128 threads end, drawn from the seed, over a volume of a group on the images; with --own each only writes, to blocks of its own; with --sync one thread more brings up the volume's stale copies\n  gen SEED COUNT  writes a script of up to 100,000 reads and writes that are drawn from the seed\n  image N MIB     makes hdiskN.img, N from 0 to 127, of 1 to 4,096 MiB of zeros\n"
 
 abbrev pub version_line : List ℕ
 version_line = codes "lvm 0.1.0\n"
@@ -102,7 +102,7 @@ OnText (Ok Script) P = Unit {0}
 OnText (Ok (Sim disks mib)) P = Unit {0}
 OnText (Ok (Gen seed count)) P = Unit {0}
 OnText (Ok (Weave disks mib clients requests seed)) P = Unit {0}
-OnText (Ok (Load own group volume threads requests seed)) P = Unit {0}
+OnText (Ok (Load own sync group volume threads requests seed)) P = Unit {0}
 OnText (Ok (Image disk mib)) P = Unit {0}
 OnText (Ok Help) P = P help_text
 OnText (Ok Version) P = P version_line
@@ -118,7 +118,7 @@ pub record IsTold (text : List ℕ) (status : ExitStatus) (out : Passage) : Type
 
 -- the line for words that are not in the language
 abbrev pub usage_line : List ℕ
-usage_line = codes "usage: lvm script | lvm sim DISKS MIB | lvm weave DISKS MIB CLIENTS REQUESTS SEED | lvm load [--own] GROUP VOLUME THREADS REQUESTS SEED | lvm gen SEED COUNT | lvm image N MIB\n"
+usage_line = codes "usage: lvm script | lvm sim DISKS MIB | lvm weave DISKS MIB CLIENTS REQUESTS SEED | lvm load [--own] [--sync] GROUP VOLUME THREADS REQUESTS SEED | lvm gen SEED COUNT | lvm image N MIB\n"
 
 -- the text was written whole, or the sink failed and a front of it was
 abbrev pub IsSaid : List ℕ → Passage → Type 0
@@ -144,7 +144,7 @@ LeavesAlone (Ok Script) files input out err clock images = err × images
 LeavesAlone (Ok (Sim disks mib)) files input out err clock images = files × err × images
 LeavesAlone (Ok (Gen seed count)) files input out err clock images = files × input × err × clock × images
 LeavesAlone (Ok (Weave disks mib clients requests seed)) files input out err clock images = files × input × err × images
-LeavesAlone (Ok (Load own group volume threads requests seed)) files input out err clock images = input × err × images
+LeavesAlone (Ok (Load own sync group volume threads requests seed)) files input out err clock images = input × err × images
 LeavesAlone (Ok (Image disk mib)) files input out err clock images = files × input × out × err × clock
 LeavesAlone (Ok Help) files input out err clock images = files × input × err × clock × images
 LeavesAlone (Ok Version) files input out err clock images = files × input × err × clock × images

@@ -12,7 +12,7 @@ ghost use Rattle.lvm_load.specs.Loading.{IsFresh};
 ghost use Rattle.lvm_top.specs.passed.GroupLines.{IsBetweenStage, IsFittingStage, IsOfKind, IsStuck, history_in, moment_in, most_refusals, session_in, without_facts};
 ghost use Rattle.lvm_top.specs.Run.{ran};
 ghost use Rattle.lvm_top.specs.Script.{passage};
-ghost use Rattle.lvm_program.specs.Loaded.{EndsLoaded, HasLoadedOver, HoldsVolume, IsLoadable, IsLoadedOver, IsVolumeNamed, LacksVolume, PromisesLoaded, TellsLoaded, varyon_line};
+ghost use Rattle.lvm_program.specs.Loaded.{EndsLoaded, HasLoadedOver, HoldsVolume, IsLoadable, IsLoadedOver, IsVolumeNamed, LacksVolume, PromisesLoaded, TellsBoth, TellsLoaded, refusal_by, refusal_of, varyon_line, with_refusal};
 ghost use Rattle.lvm_program.specs.Woven.{asked_woven, exit_of, untold};
 
 use crate::workload::{is_ok, refusals_told, refuse, tell_woven};
@@ -21,13 +21,14 @@ use lvm_disk::Shelf;
 use lvm_group_lines::Refusal;
 use lvm_history::History;
 use lvm_io::{Clock, Sink};
-use lvm_load::{Load, Served, Woven, serve_load};
+use lvm_load::{Load, Served, Synced, Woven, serve_load};
 use lvm_num::{Descriptor, Name};
 use lvm_posts::Post;
+use lvm_resync::SyncFault;
 use lvm_top::below::driver::Driver;
 use lvm_top::below::line::do_line;
 use lvm_top::below::stage::{Holder, Reply, Stage, take_rooms};
-use lvm_top::{Ended, ExitStatus, close_ended, unbegun};
+use lvm_top::{Ended, ExitStatus, close_ended, status_of, unbegun, write_reply};
 use std::alloc::{AllocError, Global};
 use std::sync::Wait;
 use std::thread::Threads;
@@ -114,11 +115,13 @@ fn volume_in<S: Shelf>(stage: &Stage<S>, name: Name) -> Option<Volume>
     }
 }
 
-// What a load leaves, and how it ended; none where no memory was found for its workers.
+// What a load leaves, and how it ended; none where no memory was found for its workers. And how copies were brought up behind
+// them, if they were.
 #[derive(Drop)]
 struct Loaded<S: Shelf> {
     closed: Closed<S>,
     woven: Option<Woven>,
+    synced: Option<Synced>,
 }
 
 // Makes a load over a session that serves requests, and closes the session.
@@ -135,37 +138,104 @@ fn serve<S: Shelf + Send, R: Threads + Wait + Sync>(
     requires fresh { IsFresh driver.1.history.facts }
     requires some { IsLoadable load.now × (256 ≤ volume.blocks) }
     requires room { 131072 ≤ vec_capacity bytes }
-    ensures made { IsLoadedOver volume.number volume.blocks load.now (state_of S.device driver) (record { device = S.device result.closed.shelf; facts = result.closed.history.facts }) result.woven }
+    ensures made { IsLoadedOver volume.number volume.blocks load.now (state_of S.device driver) (record { device = S.device result.closed.shelf; facts = result.closed.history.facts }) result.woven result.synced }
     ensures rooms { without_facts result.closed.history ≡ without_facts driver.1.history }
 {
     let Served {
         driver,
         bytes,
         woven,
+        synced,
     } = serve_load(rt, alloc, driver, bytes, volume.number, volume.blocks, load);
     driver.is_sound();
     Loaded {
         closed: close_ended(driver, posts, bytes),
         woven,
+        synced,
     }
 }
 
-// Tells the totals of a load, or nothing where no memory was found for its workers. Answers the status, and how many refusals
-// were told.
+// The refusal by which copies weren't all brought up, if there is one. Where nothing was heard of a transfer, that is told of
+// the whole load.
+fn refusal_by(synced: &Synced) -> Option<Refusal>
+    ensures { result ≡ refusal_by synced.now }
+{
+    let Err(why) = synced.result else {
+        return None;
+    };
+    match why {
+        SyncFault::Dark => Some(Refusal::Dark),
+        SyncFault::Off => Some(Refusal::WentOff {
+            have: synced.have,
+            total: synced.total,
+        }),
+        SyncFault::Stuck => None,
+        SyncFault::Busy => Some(Refusal::Busy),
+        SyncFault::NoVolume | SyncFault::OutOfRange => Some(Refusal::NoVolume),
+        SyncFault::HistoryFull => Some(Refusal::HistoryFull),
+        SyncFault::SyncFailed { disk } => Some(Refusal::SyncFailed { disk }),
+        SyncFault::NoFresh { lp } => Some(Refusal::NoFresh { lp }),
+        SyncFault::Missing { disk } => Some(Refusal::Missing { disk }),
+    }
+}
+
+fn refusal_of(synced: Option<Synced>) -> Option<Refusal>
+    ensures { result ≡ refusal_of synced }
+{
+    match synced {
+        None => None,
+        Some(synced) => refusal_by(&synced),
+    }
+}
+
+// The status of a run that has told a refusal before.
+fn with_refusal(status: ExitStatus) -> ExitStatus
+    ensures { result ≡ with_refusal status }
+{
+    match status {
+        ExitStatus::Well => ExitStatus::Refusals,
+        other => other,
+    }
+}
+
+// Tells a refusal, as a script does, and the totals behind it. Answers the status, and how many refusals were told.
+fn tell_both<O: Sink>(
+    alloc: Global,
+    out: &mut O,
+    why: Refusal,
+    woven: &Woven,
+    requests: u32,
+) -> (ExitStatus, u32)
+    ensures { TellsBoth why woven.now requests result.0 result.1 (passage O.held O.faults out.old out.new) }
+{
+    let (refused, stop) = write_reply(alloc, out, Reply::Refused(why), 0);
+    if stop.is_some() {
+        return (status_of(stop, refused), refused);
+    }
+    let status = tell_woven(alloc, out, woven, requests);
+    (with_refusal(status), refused + refusals_told(woven))
+}
+
+// Tells why copies weren't all brought up, where that is so, and the totals of a load; or nothing where no memory was found for
+// its workers. Answers the status, and how many refusals were told.
 fn tell_load<O: Sink>(
     alloc: Global,
     out: &mut O,
     woven: Option<Woven>,
+    synced: Option<Synced>,
     requests: u32,
 ) -> (ExitStatus, u32)
-    ensures { TellsLoaded woven requests result.0 result.1 (passage O.held O.faults out.old out.new) }
+    ensures { TellsLoaded woven (refusal_of synced) requests result.0 result.1 (passage O.held O.faults out.old out.new) }
 {
-    match woven {
-        None => (ExitStatus::Memory, 0),
-        Some(woven) => (
+    let Some(woven) = woven else {
+        return (ExitStatus::Memory, 0);
+    };
+    match refusal_of(synced) {
+        None => (
             tell_woven(alloc, out, &woven, requests),
             refusals_told(&woven),
         ),
+        Some(why) => tell_both(alloc, out, why, &woven, requests),
     }
 }
 
@@ -188,9 +258,13 @@ fn load<S: Shelf + Send, O: Sink, R: Threads + Wait + Sync>(
     ensures rooms { IsSomeAnd result.history (λ log. without_facts log ≡ without_facts driver.1.history) }
     ensures sim { result.sim ≡ None }
 {
-    let Loaded { closed, woven } = serve(rt, alloc, driver, posts, bytes, volume, load);
+    let Loaded {
+        closed,
+        woven,
+        synced,
+    } = serve(rt, alloc, driver, posts, bytes, volume, load);
     let Closed { shelf, history } = closed;
-    let (status, refused) = tell_load(alloc, out, woven, load.requests);
+    let (status, refused) = tell_load(alloc, out, woven, synced, load.requests);
     Ended {
         status,
         refused,
@@ -250,10 +324,12 @@ fn end_load<S: Shelf + Send, O: Sink, R: Threads + Wait + Sync>(
 }
 
 /// Runs a load: varies the group on, lets each client of the load ask for its requests of the volume in a thread of its own,
-/// makes turns behind them until nothing may be made, and writes the totals. A refusal of the line that varies the group on is
-/// written as in a script, and so is `NoVolume` where the group has no volume of that name. Nothing is written, and the status
-/// is Memory, where no memory is found for the workers. The moment at which the run begins names it in its history; the clock
-/// is asked for it, and once more for the group. The call may wait for its workers: what it promises holds if it returns.
+/// makes turns behind them until nothing may be made, and writes the totals. Where that is asked for, one thread more brings up
+/// the volume's stale copies beside them, and what is stale behind them is brought up once more. A refusal of that, and of the
+/// line that varies the group on, is written as in a script, and so is `NoVolume` where the group has no volume of that name.
+/// Nothing is written, and the status is Memory, where no memory is found for the workers. The moment at which the run begins
+/// names it in its history; the clock is asked for it, and once more for the group. The call may wait for its workers: what it
+/// promises holds if it returns.
 pub fn run_load<S: Shelf + Send, O: Sink, C: Clock, R: Threads + Wait + Sync>(
     rt: &R,
     alloc: Global,

@@ -29,11 +29,11 @@ use std::thread::Threads;
 
 // What is written where the words are not in the language.
 const USAGE: &[u8] =
-    b"usage: lvm script | lvm sim DISKS MIB | lvm weave DISKS MIB CLIENTS REQUESTS SEED | lvm load [--own] GROUP VOLUME THREADS REQUESTS SEED | lvm gen SEED COUNT | lvm image N MIB\n";
+    b"usage: lvm script | lvm sim DISKS MIB | lvm weave DISKS MIB CLIENTS REQUESTS SEED | lvm load [--own] [--sync] GROUP VOLUME THREADS REQUESTS SEED | lvm gen SEED COUNT | lvm image N MIB\n";
 
 // What `--help` tells.
 const HELP: &[u8] =
-    b"usage: lvm script | lvm sim DISKS MIB | lvm weave DISKS MIB CLIENTS REQUESTS SEED | lvm load [--own] GROUP VOLUME THREADS REQUESTS SEED | lvm gen SEED COUNT | lvm image N MIB\n  script          does the lines of standard input over hdisk0.img to hdisk127.img of this folder\n  sim DISKS MIB   does them over 1 to 32 disks of zeros in memory, each of 1 to 64 MiB\n  weave DISKS MIB CLIENTS REQUESTS SEED\n                  tells how up to 50,000 reads and writes of 1 to 64 clients end, drawn from the seed, over 1 to 8 such disks of 8 to 64 MiB\n  load [--own] GROUP VOLUME THREADS REQUESTS SEED\n                  tells how up to 50,000 reads and writes of 1 to 128 threads end, drawn from the seed, over a volume of a group on the images; with --own each only writes, to blocks of its own\n  gen SEED COUNT  writes a script of up to 100,000 reads and writes that are drawn from the seed\n  image N MIB     makes hdiskN.img, N from 0 to 127, of 1 to 4,096 MiB of zeros\n";
+    b"usage: lvm script | lvm sim DISKS MIB | lvm weave DISKS MIB CLIENTS REQUESTS SEED | lvm load [--own] [--sync] GROUP VOLUME THREADS REQUESTS SEED | lvm gen SEED COUNT | lvm image N MIB\n  script          does the lines of standard input over hdisk0.img to hdisk127.img of this folder\n  sim DISKS MIB   does them over 1 to 32 disks of zeros in memory, each of 1 to 64 MiB\n  weave DISKS MIB CLIENTS REQUESTS SEED\n                  tells how up to 50,000 reads and writes of 1 to 64 clients end, drawn from the seed, over 1 to 8 such disks of 8 to 64 MiB\n  load [--own] [--sync] GROUP VOLUME THREADS REQUESTS SEED\n                  tells how up to 50,000 reads and writes of 1 to 128 threads end, drawn from the seed, over a volume of a group on the images; with --own each only writes, to blocks of its own; with --sync one thread more brings up the volume's stale copies\n  gen SEED COUNT  writes a script of up to 100,000 reads and writes that are drawn from the seed\n  image N MIB     makes hdiskN.img, N from 0 to 127, of 1 to 4,096 MiB of zeros\n";
 
 // What `--version` tells.
 const VERSION: &[u8] = b"lvm 0.1.0\n";
@@ -215,6 +215,7 @@ pub fn run_words<
         },
         Job::Load {
             own,
+            sync,
             group,
             volume,
             threads,
@@ -226,6 +227,7 @@ pub fn run_words<
                 requests,
                 seed,
                 apart: own,
+                sync,
             };
             let words = LoadWords {
                 group,

@@ -55,27 +55,51 @@ work_of (name ∷ first ∷ second ∷ []) = with_two name first second
 work_of (name ∷ first ∷ second ∷ third ∷ fourth ∷ fifth ∷ []) = with_five name first second third fourth fifth
 work_of words = Err Usage
 
--- the option by which each thread writes apart
-abbrev pub is_own : List ℕ → Bool
-is_own word = bytes_eq word (codes "--own")
+-- ---- a load
 
-abbrev pub load_with : Bool → (group volume : Option (List ℕ)) → (threads requests seed : Option ℕ) → Option Job
-load_with own (Some group) (Some volume) (Some threads) (Some requests) (Some seed) = Some (Load own group volume threads requests seed)
-load_with own group volume threads requests seed = None
+-- by the one option each thread writes apart, by the other copies are brought up beside them
+abbrev pub own_option : List ℕ
+own_option = codes "--own"
+
+abbrev pub sync_option : List ℕ
+sync_option = codes "--sync"
+
+abbrev pub load_with : (own sync : Bool) (group volume : Option (List ℕ)) → (threads requests seed : Option ℕ) → Option Job
+load_with own sync (Some group) (Some volume) (Some threads) (Some requests) (Some seed) = Some (Load own sync group volume threads requests seed)
+load_with own sync group volume threads requests seed = None
 
 -- two names, 1 to 128 threads, at most 50,000 requests, and a seed
-abbrev pub load_by : Bool → (group volume threads requests seed : List ℕ) → Option Job
-load_by own group volume threads requests seed = load_with own (name_in group) (name_in volume) (bounded 1 128 (number_in threads)) (bounded 0 50000 (number_in requests)) (number_in seed)
+abbrev pub load_by : (own sync : Bool) (group volume threads requests seed : List ℕ) → Option Job
+load_by own sync group volume threads requests seed = load_with own sync (name_in group) (name_in volume) (bounded 1 128 (number_in threads)) (bounded 0 50000 (number_in requests)) (number_in seed)
 
--- the option stands once before, among or behind the operands, if it does
+-- one of six words is this option, before, among or behind the operands
+abbrev pub load_among : (option : List ℕ) (own sync : Bool) (a b c d e f : List ℕ) → Option Job
+load_among option own sync a b c d e f = if bytes_eq a option then load_by own sync b c d e f
+    else (if bytes_eq b option then load_by own sync a c d e f
+    else (if bytes_eq c option then load_by own sync a b d e f
+    else (if bytes_eq d option then load_by own sync a b c e f
+    else (if bytes_eq e option then load_by own sync a b c d f
+    else (if bytes_eq f option then load_by own sync a b c d e else None)))))
+
+-- one of seven is the one option, and one of the six others the other
+abbrev pub load_with_both : (a b c d e f g : List ℕ) → Option Job
+load_with_both a b c d e f g = if bytes_eq a sync_option then load_among own_option true true b c d e f g
+    else (if bytes_eq b sync_option then load_among own_option true true a c d e f g
+    else (if bytes_eq c sync_option then load_among own_option true true a b d e f g
+    else (if bytes_eq d sync_option then load_among own_option true true a b c e f g
+    else (if bytes_eq e sync_option then load_among own_option true true a b c d f g
+    else (if bytes_eq f sync_option then load_among own_option true true a b c d e g
+    else (if bytes_eq g sync_option then load_among own_option true true a b c d e f else None))))))
+
+abbrev pub or_job : Option Job → Option Job → Option Job
+or_job (Some job) other = Some job
+or_job None other = other
+
+-- each option stands once, if it does
 abbrev pub load_of : List (List ℕ) → Option Job
-load_of (a ∷ b ∷ c ∷ d ∷ e ∷ []) = load_by false a b c d e
-load_of (a ∷ b ∷ c ∷ d ∷ e ∷ f ∷ []) = if is_own a then load_by true b c d e f
-    else (if is_own b then load_by true a c d e f
-    else (if is_own c then load_by true a b d e f
-    else (if is_own d then load_by true a b c e f
-    else (if is_own e then load_by true a b c d f
-    else (if is_own f then load_by true a b c d e else None)))))
+load_of (a ∷ b ∷ c ∷ d ∷ e ∷ []) = load_by false false a b c d e
+load_of (a ∷ b ∷ c ∷ d ∷ e ∷ f ∷ []) = or_job (load_among own_option true false a b c d e f) (load_among sync_option false true a b c d e f)
+load_of (a ∷ b ∷ c ∷ d ∷ e ∷ f ∷ g ∷ []) = load_with_both a b c d e f g
 load_of words = None
 
 -- the words are those of a load, of the language or not
@@ -111,7 +135,7 @@ IsWithin Script = Unit {0}
 IsWithin (Sim disks mib) = (1 ≤ disks) × (disks ≤ 32) × (1 ≤ mib) × (mib ≤ 64)
 IsWithin (Gen seed count) = count ≤ 100000
 IsWithin (Weave disks mib clients requests seed) = (1 ≤ disks) × (disks ≤ 8) × (8 ≤ mib) × (mib ≤ 64) × (1 ≤ clients) × (clients ≤ 64) × (requests ≤ 50000)
-IsWithin (Load own group volume threads requests seed) = (1 ≤ threads) × (threads ≤ 128) × (requests ≤ 50000)
+IsWithin (Load own sync group volume threads requests seed) = (1 ≤ threads) × (threads ≤ 128) × (requests ≤ 50000)
 IsWithin (Image disk mib) = (disk ≤ 127) × (1 ≤ mib) × (mib ≤ 4096)
 IsWithin Help = Unit {0}
 IsWithin Version = Unit {0}

@@ -28,11 +28,13 @@ pub enum Job {
         requests: u32,
         seed: u64,
     },
-    /// `load [--own] GROUP VOLUME THREADS REQUESTS SEED`: so many reads and writes, at most 50,000, of a volume of a group on the
-    /// image files of the current folder, by so many threads, 1 to 128, which are drawn from the seed. With `--own`, which stands
-    /// anywhere behind `load`, each thread only writes, and to a track group of its own.
+    /// `load [--own] [--sync] GROUP VOLUME THREADS REQUESTS SEED`: so many reads and writes, at most 50,000, of a volume of a group
+    /// on the image files of the current folder, by so many threads, 1 to 128, which are drawn from the seed. With `--own` each
+    /// thread only writes, and to a track group of its own. With `--sync` one thread more brings up the volume's stale copies.
+    /// Each stands anywhere behind `load`, at most once.
     Load {
         own: bool,
+        sync: bool,
         group: Name,
         volume: Name,
         threads: u32,

@@ -61,7 +61,7 @@ fn read_asked(alloc: Global, words: &[Text]) -> Result<Job, WordsFault>
 }
 
 /// Reads the words behind the program's name. A number is 1 to 20 decimal digits; no word of the language
-/// begins with a sign, but for `--help` and `--version`, which stand alone, and the option of a load. Usage comes exactly where the
+/// begins with a sign, but for `--help` and `--version`, which stand alone, and the options of a load. Usage comes exactly where the
 /// words are not in the language; Memory where none was found to tell, which `--help`, `--version` and a load
 /// need none for.
 pub fn read_words(alloc: Global, words: &[Text]) -> Result<Job, WordsFault>

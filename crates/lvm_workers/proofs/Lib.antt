@@ -4,3 +4,4 @@ pub mod WorkingLemmas
 pub mod ServingLemmas
 pub mod CrewsLemmas
 pub mod CountingLemmas
+pub mod BringingLemmas

@@ -1,10 +1,10 @@
 -- A crew of workers, before and after its work.
-use Rattle.std.specs.Prelude.{◌≡◌, ◌≤◌, ◌<◌, ◌+◌, ◌-◌, ◌/◌, ◌%◌, ◌^◌, ℕ, zero, suc, nat_le, if◌then◌else◌, ◌||◌, false, List, [], ◌∷◌, length, slice_index_or}
+use Rattle.std.specs.Prelude.{◌≡◌, ◌≤◌, ◌<◌, ◌+◌, ◌-◌, ◌/◌, ◌%◌, ◌^◌, ℕ, zero, suc, nat_le, if◌then◌else◌, ◌||◌, Bool, false, List, [], ◌∷◌, length, slice_index_or}
 use Rattle.atomic_table.specs.Seated.{TableId}
 use Rattle.crossbeam_utils.specs.Padded.{padded_value}
 use Rattle.lvm_vol.specs.Facts.{Request, Fact, begun}
 use Rattle.lvm_turn.specs.Calls.{IsIdle}
-use Rattle.lvm_turn.specs.Views.{Client, View, Owns}
+use Rattle.lvm_turn.specs.Views.{Client, HoldsAll, Owns, Standing, View}
 use Rattle.lvm_workers.specs.declared.crew.Crew.{Crew}
 use Rattle.lvm_workers.specs.declared.crew.Worker.{Worker}
 use Rattle.lvm_workers.specs.declared.work.Job.{Job}
@@ -31,6 +31,10 @@ abbrev pub shares : Crew → ℕ → ℕ
 shares crew zero = 0
 shares crew (suc n) = shares crew n + share crew (suc n)
 
+-- how many clients there are: one more where copies are brought up
+abbrev pub seats : Bool → ℕ → ℕ
+seats brings threads = if brings then threads + 1 else threads
+
 -- ---- tallies
 
 abbrev pub no_tally : Tally
@@ -46,6 +50,12 @@ begun_over [] = 0
 begun_over (x ∷ xs) = length (begun x.own) + begun_over xs
 
 -- ---- workers
+
+-- a pass at this turn that is outside and holds each client from 1 to n
+pub record IsWhole (table : TableId) (n : ℕ) (p : Standing) : Type 0 where
+  pub at : p.table ≡ table
+  pub outside : p.knows.inside ≡ false
+  pub all : HoldsAll n p.knows.clients
 
 -- the pass has seen what is fixed, and the counts, as this one did
 abbrev pub SeenAs : View → View → Type 0

@@ -1,10 +1,11 @@
 //! A worker that brings up copies while others make requests.
-ghost use Rattle.std.specs.Prelude.{◌≡◌, ◌≤◌, ◌+◌, ◌∷◌, [], true, false, IfErr, IfOk};
+ghost use Rattle.std.specs.Prelude.{◌≡◌, ◌≤◌, ◌<◌, ◌+◌, ◌^◌, ◌∷◌, [], true, false, IfErr, IfOk};
 ghost use Rattle.lvm_num.specs.Counting.{RoseBy};
+ghost use Rattle.lvm_vol.specs.Fronts.{Begins};
 ghost use Rattle.lvm_turn.specs.Calls.{IsIdle};
-ghost use Rattle.lvm_turn.specs.Views.{counted, up_to};
-ghost use Rattle.lvm_workers.specs.Bringing.{BringGives};
-ghost use Rattle.lvm_workers.specs.Crews.{AllMade, begun_over};
+ghost use Rattle.lvm_turn.specs.Views.{counted, joined, up_to};
+ghost use Rattle.lvm_workers.specs.Bringing.{BringGives, HasBrought};
+ghost use Rattle.lvm_workers.specs.Crews.{AllMade, IsWhole, begun_over, seats};
 ghost use Rattle.lvm_workers.specs.Knowing.{HasCause, Knows, Refused, WasUnheard};
 ghost use Rattle.lvm_workers.specs.Working.{own_of};
 ghost use Rattle.lvm_workers.specs.declared.bring.Brought.TheVariants as brought;
@@ -62,9 +63,9 @@ fn bring<E: Brings, R: Wait>(
     brought
 }
 
-/// Brings up the copies of one place after the other, until no further one is to be brought up, or nothing was heard a million
-/// times. Answers whether that was so.
-pub fn bring_all<E: Brings, R: Wait>(rt: &R, turn: &Turn<E>, pass: &mut Pass, client: u32) -> bool
+// Brings up the copies of one place after the other, until no further one is to be brought up, or nothing was heard a million
+// times. Answers whether that was so.
+fn bring_all<E: Brings, R: Wait>(rt: &R, turn: &Turn<E>, pass: &mut Pass, client: u32) -> bool
     requires idle { IsIdle turn.now.table (client ∷ []) pass.old }
     ensures idle { IsIdle turn.now.table (client ∷ []) pass.new }
     ensures knows { Knows pass.old.knows pass.new.knows }
@@ -93,16 +94,14 @@ pub fn bring_all<E: Brings, R: Wait>(rt: &R, turn: &Turn<E>, pass: &mut Pass, cl
 // The same with a pass that comes back.
 fn bring_with<E: Brings, R: Wait>(rt: &R, turn: &Turn<E>, mut pass: Pass, client: u32) -> Pass
     requires idle { IsIdle turn.now.table (client ∷ []) pass }
-    ensures idle { IsIdle turn.now.table (client ∷ []) result }
-    ensures knows { Knows pass.knows result.knows }
-    ensures own { own_of result.knows ≡ own_of pass.knows }
+    ensures { HasBrought turn.now.table client pass result }
 {
     bring_all(rt, turn, &mut pass, client);
     pass
 }
 
-/// As `workers`, and beside them one more thread brings up copies, with a pass of its own.
-pub fn workers_beside<E: Brings + Send, R: Threads + Wait + Sync>(
+// The workers of a pass, and a thread more that brings up copies with another one.
+fn work_and_bring<E: Brings + Send, R: Threads + Wait + Sync>(
     rt: &R,
     alloc: Global,
     turn: &Turn<E>,
@@ -122,9 +121,7 @@ pub fn workers_beside<E: Brings + Send, R: Threads + Wait + Sync>(
     ensures all { IfOk result.0 (λ r. r.1.begun + r.1.unbegun ≡ crew.now.requests) }
     ensures cause { IfOk result.0 (λ r. HasCause (Refused E.tells E.past E.always E.refuses) E.waits pass.knows r.0.knows r.1) }
     ensures err { IfErr result.0 (λ p. p ≡ pass) }
-    ensures other_idle { IsIdle turn.now.table (client ∷ []) result.1 }
-    ensures other_knows { Knows other.knows result.1.knows }
-    ensures other_own { own_of result.1.knows ≡ own_of other.knows }
+    ensures brought { HasBrought turn.now.table client other result.1 }
 {
     thread::join(
         rt,
@@ -135,4 +132,87 @@ pub fn workers_beside<E: Brings + Send, R: Threads + Wait + Sync>(
         { workers(rt, alloc, turn, pass, crew) },
         || bring_with(rt, turn, other, client),
     )
+}
+
+// Takes in the pass of the client that has brought up copies.
+fn take_in<E: Brings>(turn: &Turn<E>, pass: &mut Pass, other: Pass)
+    requires at { pass.old.table ≡ turn.now.table }
+    requires other { (other.table ≡ turn.now.table) × (other.knows.inside ≡ false) }
+    ensures joined { pass.new ≡ record pass.old { knows = joined pass.old.knows other.knows } }
+    ensures front { Begins pass.old.knows.front pass.new.knows.front }
+    ensures waits { E.waits pass.old.knows.counts ≤ E.waits pass.new.knows.counts }
+{
+    turn.join(pass, other);
+}
+
+// The workers, and beside them one more thread that brings up copies, as the client behind those of the crew. It asks for
+// nothing, and does its work too where there is no memory for the workers.
+fn workers_beside<E: Brings + Send, R: Threads + Wait + Sync>(
+    rt: &R,
+    alloc: Global,
+    turn: &Turn<E>,
+    mut pass: Pass,
+    crew: &Crew,
+) -> Result<(Pass, Tally), Pass>
+    requires at { (pass.table ≡ turn.now.table) × (pass.knows.inside ≡ false) }
+    requires holds { pass.knows.clients ≡ up_to (crew.now.threads + 1) }
+    requires few { (1 ≤ crew.now.threads) × (crew.now.threads ≤ E.clients) × (crew.now.threads + 1 < 2 ^ 32) }
+    ensures idle { IfOk result (λ r. IsIdle turn.now.table (counted (crew.now.threads + 1)) r.0) }
+    ensures knows { IfOk result (λ r. Knows pass.knows r.0.knows) }
+    ensures made { IfOk result (λ r. AllMade E.asks crew.now r.0.knows.clients) }
+    ensures begun { IfOk result (λ r. r.1.begun ≡ begun_over r.0.knows.clients) }
+    ensures all { IfOk result (λ r. r.1.begun + r.1.unbegun ≡ crew.now.requests) }
+    ensures cause { IfOk result (λ r. HasCause (Refused E.tells E.past E.always E.refuses) E.waits pass.knows r.0.knows r.1) }
+    ensures err { IfErr result (IsWhole turn.now.table (crew.now.threads + 1)) }
+{
+    let client = crew.threads + 1;
+    let other = turn.split(&mut pass, client);
+    let (worked, other) = work_and_bring(rt, alloc, turn, pass, other, client, crew);
+    match worked {
+        Ok((mut pass, tally)) => {
+            take_in(turn, &mut pass, other);
+            Ok((pass, tally))
+        }
+        Err(mut pass) => {
+            take_in(turn, &mut pass, other);
+            Err(pass)
+        }
+    }
+}
+
+/// How many clients a crew has of so many threads: one more where copies are brought up.
+pub fn seats(threads: u32, brings: bool) -> u32
+    requires { threads + 1 < 2 ^ 32 }
+    ensures { result ≡ seats brings threads }
+{
+    if brings { threads + 1 } else { threads }
+}
+
+/// Starts a thread for each client of the crew, which makes its share of the requests, one at a time; where it is asked for,
+/// one more brings up copies beside them; and waits for all. Each client's own entries are then what it made, each request
+/// once. Where there is no memory for the workers, the pass comes back with all clients.
+pub fn run_crew<E: Brings + Send, R: Threads + Wait + Sync>(
+    rt: &R,
+    alloc: Global,
+    turn: &Turn<E>,
+    pass: Pass,
+    crew: &Crew,
+    brings: bool,
+) -> Result<(Pass, Tally), Pass>
+    requires at { (pass.table ≡ turn.now.table) × (pass.knows.inside ≡ false) }
+    requires holds { pass.knows.clients ≡ up_to (seats brings crew.now.threads) }
+    requires few { (1 ≤ crew.now.threads) × (crew.now.threads ≤ E.clients) × (crew.now.threads + 1 < 2 ^ 32) }
+    ensures idle { IfOk result (λ r. IsIdle turn.now.table (counted (seats brings crew.now.threads)) r.0) }
+    ensures knows { IfOk result (λ r. Knows pass.knows r.0.knows) }
+    ensures made { IfOk result (λ r. AllMade E.asks crew.now r.0.knows.clients) }
+    ensures begun { IfOk result (λ r. r.1.begun ≡ begun_over r.0.knows.clients) }
+    ensures all { IfOk result (λ r. r.1.begun + r.1.unbegun ≡ crew.now.requests) }
+    ensures cause { IfOk result (λ r. HasCause (Refused E.tells E.past E.always E.refuses) E.waits pass.knows r.0.knows r.1) }
+    ensures err { IfErr result (IsWhole turn.now.table (seats brings crew.now.threads)) }
+{
+    if brings {
+        workers_beside(rt, alloc, turn, pass, crew)
+    } else {
+        workers(rt, alloc, turn, pass, crew)
+    }
 }

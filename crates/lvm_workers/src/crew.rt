@@ -170,7 +170,7 @@ fn gather<E: Service>(
 
 /// Starts a thread for each client of the crew, which makes its share of the requests, one at a time, and waits for all. Each
 /// client's own entries are then what it made, each request once. Where there is no memory, the pass comes back as it was.
-pub fn workers<E: Service + Send, R: Threads + Wait + Sync>(
+pub(crate) fn workers<E: Service + Send, R: Threads + Wait + Sync>(
     rt: &R,
     alloc: Global,
     turn: &Turn<E>,

@@ -1,5 +1,5 @@
 //! Workers that share one value behind a turn. Each asks it for requests that are drawn from a seed, one at a time, in a
-//! thread of its own, and waits for its answers.
+//! thread of its own, and waits for its answers. One more may bring up copies beside them.
 #![tactic(auto)]
 
 mod bring;
@@ -8,8 +8,8 @@ mod service;
 mod words;
 mod work;
 
-pub use bring::{Brings, Brought, bring_all, workers_beside};
-pub use crew::{Crew, workers};
+pub use bring::{Brings, Brought, run_crew, seats};
+pub use crew::Crew;
 pub use service::{Asked, Seen, Service};
 pub use words::{Draw, draw_request, generator, next_word};
 pub use work::{Job, Tally};

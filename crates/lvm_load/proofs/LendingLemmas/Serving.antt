@@ -15,7 +15,7 @@ use Rattle.lvm_vol.specs.declared.entry.Outcome.{Outcome}
 use Rattle.lvm_vol.specs.declared.entry.Vol.TheVariants.{Lv}
 use Rattle.lvm_vol.specs.Facts.{Request, Fact, Making, Made, Split, Removing, Removed, Begun, Landed, Taken, Cut, On, begun}
 use Rattle.lvm_vol.specs.Fronts.{own}
-use Rattle.lvm_vol.specs.Log.{Log, asked as asked_in, blocks_begun, blocks_given, has_id, next_id, next_request, no_request, request_of}
+use Rattle.lvm_vol.specs.Log.{asked as asked_in, blocks_begun, blocks_given, has_id, next_id, next_request, no_request, request_of}
 use Rattle.lvm_vol.proofs.FrontsLemmas.{own-append}
 use Rattle.lvm_path.specs.declared.ask.Ask.{Ask}
 use Rattle.lvm_path.specs.Asks.{at_of, count_of, lv_of}
@@ -36,11 +36,12 @@ use Rattle.lvm_keeps.proofs.Lists.{any_removed}
 use Rattle.lvm_keeps.proofs.Small.{both}
 use Rattle.lvm_keeps_events.proofs.TurnCallsLemmas.{some_position, turn_leaves_table}
 use Rattle.lvm_driver.specs.passed.Names.{RunsOn}
-use Rattle.lvm_driver.proofs.passed.Names.{path_frames, runs_both, stays_unstuck}
+use Rattle.lvm_driver.proofs.passed.Names.{path_shape}
 use Rattle.lvm_workers.specs.Counting.{AreOfClients}
-use Rattle.lvm_load.specs.Lending.{HoldsOpen, IsDrawnAs, IsNotTaken, IsServing, Plan, drawn_ask, drawn_bytes, shaped, told_in}
+use Rattle.lvm_load.specs.Lending.{HoldsOpen, IsDrawnAs, IsNotTaken, IsServing, KeepsServing, Plan, drawn_ask, drawn_bytes, shaped, told_in}
 use Rattle.lvm_load.specs.Requests.{ask_of, bytes_of, word_of}
 use Rattle.lvm_load.specs.Waits.{waits_in}
+use Rattle.lvm_load.proofs.LendingLemmas.Keeping.{keeps_both, keeps_runs, same_run, unstuck_still}
 use Rattle.lvm_load.proofs.LendingLemmas.Telling.{counts_rise, fixed_stays}
 use Rattle.lvm_workers.specs.declared.service.Asked.{Asked}
 use Rattle.lvm_workers.specs.declared.service.Asked.TheVariants as asked
@@ -93,11 +94,11 @@ adds_none n client old new adds = record { more = adds.more; is = adds.is; other
 
 module _ (plan : Plan) (client : ℕ) (old new : State) (was : IsServing plan old) where
   -- the session serves on
-  pub serves_on : IsSound new → RunsOn old new → Adds plan.clients client old.core.history.facts new.core.history.facts → HoldsOpen new.core → IsServing plan new
-  serves_on sound runs adds holds = record {
+  pub serves_on : IsSound new → KeepsServing plan.sync old new → Adds plan.clients client old.core.history.facts new.core.history.facts → HoldsOpen new.core → IsServing plan new
+  serves_on sound keeps adds holds = record {
     sound = sound;
-    runs = runs_both plan.first old new was.runs runs;
-    unstuck = stays_unstuck old.core new.core (path_frames runs).keeps.power was.unstuck;
+    keeps = keeps_both plan.sync plan.first old new was.keeps keeps;
+    unstuck = unstuck_still old new keeps.leaves was.unstuck;
     since = was.since ++ adds.more;
     is = adds.is ∙ ap (λ (l : List Fact). l ++ adds.more) was.is ∙ append_assoc plan.first.core.history.facts was.since adds.more;
     clients = of_both plan.clients was.since adds.more was.clients adds.clients;
@@ -108,11 +109,11 @@ module _ (plan : Plan) (client : ℕ) (old new : State) (was : IsServing plan ol
 
 module _ {V : Type 0} (plan : Plan) (s_of : V → State) (always : V → Type 0) (past : V → Option (List (List Sector))) (pasts : (x y : V) → past x ≡ past y) (x y : V) where
   -- a value whose session has run on, and which always holds
-  pub grows : (more : List Fact) → (s_of y).core.history.facts ≡ (s_of x).core.history.facts ++ more → RunsOn (s_of x) (s_of y) → always y → Grows (λ v. told_in (s_of v)) past always x more y
-  grows more is runs holds = record {
+  pub grows : (more : List Fact) → (s_of y).core.history.facts ≡ (s_of x).core.history.facts ++ more → KeepsServing plan.sync (s_of x) (s_of y) → always y → Grows (λ v. told_in (s_of v)) past always x more y
+  grows more is keeps holds = record {
     entries_are = is;
-    fixed_same = λ i. record { numbers = fixed_stays (s_of x) (s_of y) (path_frames runs).keeps (path_frames runs).orders i; past = pasts y x i };
-    none_fell = counts_rise (s_of x) (s_of y) (path_frames runs).keeps;
+    fixed_same = λ i. record { numbers = fixed_stays (s_of x) (s_of y) (path_shape keeps.leaves) keeps.orders i; past = pasts y x i };
+    none_fell = counts_rise (s_of x) (s_of y) (path_shape keeps.leaves);
     always_holds = holds;
   }
 
@@ -252,17 +253,17 @@ module _ {V : Type 0} (plan : Plan) (s_of : V → State) (always : V → Type 0)
       where
         by : Submits plan.clients client (s_of x).core (s_of y).core the_ask the_bytes said → IsServing plan (s_of y)
         by (Took is grown) =
-            serves_on plan client (s_of x) (s_of y) was sound runs
+            serves_on plan client (s_of x) (s_of y) was sound (keeps_runs plan.sync (s_of x) (s_of y) runs)
             (subst (λ (c : Core). Adds plan.clients client (s_of x).core.history.facts c.history.facts) (sym grown) (submit_adds (s_of x).core client the_ask the_bytes plan.clients some few))
             (subst HoldsOpen (sym grown) (submit_holds (s_of x).core client the_ask the_bytes was.holds))
         by (TookNot why fault is same) =
-            serves_on plan client (s_of x) (s_of y) was sound runs
+            serves_on plan client (s_of x) (s_of y) was sound (keeps_runs plan.sync (s_of x) (s_of y) runs)
             (adds_none plan.clients client (s_of x).core.history.facts (s_of y).core.history.facts (none_same (s_of x).core.history.facts (s_of y).core.history.facts (ap (λ (c : Core). c.history.facts) same)))
             (subst HoldsOpen (sym same) was.holds)
 
     drawn_as : (id : ℕ) → next_id (s_of x).core.history ≡ id → IsDrawnAs plan client number d (its_request (s_of x).core client the_ask the_bytes)
     drawn_as id is =
-        let run : (s_of x).core.history.run ≡ plan.first.core.history.run = ap (λ (l : Log). l.run) (path_frames was.runs).keeps.log in
+        let run : (s_of x).core.history.run ≡ plan.first.core.history.run = same_run plan.first (s_of x) was.keeps.leaves in
         λ i. record {
           run = run i;
           id = next_id (s_of x).core.history;
@@ -283,7 +284,7 @@ module _ {V : Type 0} (plan : Plan) (s_of : V → State) (always : V → Type 0)
             let r = its_request (s_of x).core client the_ask the_bytes in
             record {
               more = Begun r ∷ [];
-              grows = grows plan s_of always past pasts x y (Begun r ∷ []) (ap (λ (c : Core). c.history.facts) grown) runs holds;
+              grows = grows plan s_of always past pasts x y (Begun r ∷ []) (ap (λ (c : Core). c.history.facts) grown) (keeps_runs plan.sync (s_of x) (s_of y) runs) holds;
               others = λ c apart. others_begun c r (λ e. apart (sym e));
               enters = HasBegun r (drawn_as id (sym same)) refl (ap asked.Begun same) refl;
             }
@@ -296,7 +297,7 @@ module _ {V : Type 0} (plan : Plan) (s_of : V → State) (always : V → Type 0)
         by (Took is grown) = absurd (cc is)
         by (TookNot fault is_fault is same) = record {
           more = [];
-          grows = grows plan s_of always past pasts x y [] (ap (λ (c : Core). c.history.facts) same ∙ sym (append-nil (s_of x).core.history.facts)) runs holds;
+          grows = grows plan s_of always past pasts x y [] (ap (λ (c : Core). c.history.facts) same ∙ sym (append-nil (s_of x).core.history.facts)) (keeps_runs plan.sync (s_of x) (s_of y) runs) holds;
           others = λ c apart. refl;
           enters = WasRefused (fault, is_fault) not refl;
         }
@@ -315,12 +316,12 @@ module _ {V : Type 0} (plan : Plan) (s_of : V → State) (always : V → Type 0)
 
     -- it is taken
     pub takes_serves : (said : Answer) → Answers client id (s_of x).core (s_of y).core said → RunsOn (s_of x) (s_of y) → IsSound (s_of y) → IsServing plan (s_of y)
-    takes_serves said it runs sound = serves_on plan client (s_of x) (s_of y) was sound runs (answer_adds said it) (it.holds was.holds)
+    takes_serves said it runs sound = serves_on plan client (s_of x) (s_of y) was sound (keeps_runs plan.sync (s_of x) (s_of y) runs) (answer_adds said it) (it.holds was.holds)
 
     pub takes_looks : (said : Answer) → Answers client id (s_of x).core (s_of y).core said → RunsOn (s_of x) (s_of y) → always y → Looks seen.Taken
     takes_looks said it runs holds = record {
       more = Taken it.request ∷ [];
-      grows = grows plan s_of always past pasts x y (Taken it.request ∷ []) it.facts runs holds;
+      grows = grows plan s_of always past pasts x y (Taken it.request ∷ []) it.facts (keeps_runs plan.sync (s_of x) (s_of y) runs) holds;
       others = λ c apart. others_taken c it.request (λ same. apart (sym same ∙ it.client_is));
       enters = IsTaken it.request it.number refl (own_taken client it.request it.client_is);
       idle = λ e. absurd (cc e);
@@ -329,7 +330,7 @@ module _ {V : Type 0} (plan : Plan) (s_of : V → State) (always : V → Type 0)
     -- it isn't there yet, and a turn is made
     pub turn_serves : (said : Turned) → TurnMakes (s_of x) (s_of y) said → RunsOn (s_of x) (s_of y) → IsSound (s_of y) → IsServing plan (s_of y)
     turn_serves said made runs sound =
-        serves_on plan client (s_of x) (s_of y) was sound runs (adds_none plan.clients client (s_of x).core.history.facts (s_of y).core.history.facts (turn_adds (s_of x) (s_of y) said made))
+        serves_on plan client (s_of x) (s_of y) was sound (keeps_runs plan.sync (s_of x) (s_of y) runs) (adds_none plan.clients client (s_of x).core.history.facts (s_of y).core.history.facts (turn_adds (s_of x) (s_of y) said made))
         (turn_holds (s_of x) (s_of y) said made was.holds)
 
     rose_so : list_any is_waiting (s_of x).core.requests ≡ true → TurnTells (s_of x) (s_of y) turned.Idle → Rose (s_of x).device.counts.waits (s_of y).device.counts.waits
@@ -345,7 +346,7 @@ module _ {V : Type 0} (plan : Plan) (s_of : V → State) (always : V → Type 0)
         let adds = turn_adds (s_of x) (s_of y) said made in
         record {
           more = adds.more;
-          grows = grows plan s_of always past pasts x y adds.more adds.is runs holds;
+          grows = grows plan s_of always past pasts x y adds.more adds.is (keeps_runs plan.sync (s_of x) (s_of y) runs) holds;
           others = λ c apart. adds.nobodys c;
           enters = IsNotYet not (adds.nobodys client);
           idle = λ e. rose_so some (subst (λ (t : Turned). TurnTells (s_of x) (s_of y) t) (idle e) tells);

@@ -15,9 +15,9 @@ use Rattle.lvm_parse.specs.Grammar.{line_of}
 use Rattle.lvm_core.specs.declared.parts.Room.{Room}
 use Rattle.lvm_core.specs.Looking.{HasNoVolumeNamed}
 use Rattle.lvm_posts.specs.declared.posts.Post.{Post}
-use Rattle.lvm_session.specs.declared.open.Power.TheVariants as power
 use Rattle.lvm_session.specs.State.{Core, State, state}
 use Rattle.lvm_load.specs.declared.load.Load.{Load}
+use Rattle.lvm_load.specs.declared.serve.Synced.{Synced}
 use Rattle.lvm_load.specs.declared.workload.Woven.{Woven}
 use Rattle.lvm_group_lines.specs.declared.reply.Refusal.TheVariants as refusal
 use Rattle.lvm_line.specs.passed.ReplyVariants as reply
@@ -29,7 +29,7 @@ use Rattle.lvm_top.specs.declared.status.ExitStatus.{ExitStatus}
 use Rattle.lvm_top.specs.declared.status.ExitStatus.TheVariants as ended
 use Rattle.lvm_top.specs.Run.{Run, exit_state, ran}
 use Rattle.lvm_top.specs.Script.{Passage, Stream, empty_log, entry_state, facts_of}
-use Rattle.lvm_top.proofs.ScriptLemmas.Concluding.{Concluded, closed_concluded, concluded, each_is_ahead, off_still}
+use Rattle.lvm_top.proofs.ScriptLemmas.Concluding.{Concluded, concluded, each_is_ahead, off_still}
 use Rattle.lvm_top.proofs.ScriptLemmas.Scripting.{begins_timely}
 use Rattle.lvm_top.proofs.RefusedLemmas.{line_caused}
 use Rattle.lvm_top.proofs.RunLemmas.Stopping.{how_stopped}
@@ -37,7 +37,8 @@ use Rattle.lvm_top.proofs.TurnLemmas.{stuck_is_off}
 use Rattle.lvm_program.specs.Woven.{EndsRefused, Exit, exit_from, exit_of, untold}
 use Rattle.lvm_program.specs.Loaded.{EndsLoaded, GoesLoaded, HasLoadedOver, IsLoaded, IsLoadedAlone, IsLoadedOver, IsVolumeNamed, LacksVolume, Loads, NoSuchVolume, NotVaried, PromisesLoaded, varyon_line}
 use Rattle.lvm_program.specs.declared.load.LoadWords.{LoadWords}
-use Rattle.lvm_program.proofs.WovenLemmas.Woven.{ConcludesSo, Heard, MakesSo, Unheard, lit, ok_heard, runs_unstuck}
+use Rattle.lvm_program.proofs.WovenLemmas.Woven.{ConcludesSo, Heard, MakesSo, Unheard, lit, ok_heard}
+use Rattle.lvm_program.proofs.LoadedLemmas.Closing.{leaving_concluded}
 
 -- ---- the line that varies the group on
 
@@ -66,12 +67,9 @@ some_volume group name lv blocks named none = let there = named.among.1 in let z
 -- ---- the end
 
 pub loaded_concluded : (end : ScriptState) (exit : Moment) → IsBetween end.moment end.session end.posts → (core : Core) → end.session ≡ Some core → core.descriptor.lvs ≢ [] → end.moment.facts ≡ core.history.facts → (run : ℕ) → core.history.run ≡ run
-    → (lv blocks : ℕ) (load : Load) (woven : Option Woven) → IsLoadedOver lv blocks load (state end.moment.device core) exit woven → Concluded run end exit
-loaded_concluded end exit between core some vols facts run named lv blocks load woven made =
-    closed_concluded run end exit between core some vols facts named made.end (runs_unstuck (state end.moment.device core) made.end made.runs on) made.runs made.sound made.closed made.facts
-  where
-    on : core.power ≡ power.On
-    on = (subst (λ (o : Option Core). IsBetween end.moment o end.posts) some between).session.power
+    → (lv blocks : ℕ) (load : Load) (woven : Option Woven) (synced : Option Synced) → IsLoadedOver lv blocks load (state end.moment.device core) exit woven synced → Concluded run end exit
+loaded_concluded end exit between core some vols facts run named lv blocks load woven synced made =
+    leaving_concluded run end exit between core some vols facts named made.end made.keeps.leaves made.sound made.closed made.facts
 
 pub load_concludes : (words : LoadWords) (answer : Reply) (run : ℕ) (end : ScriptState) (exit : Exit) → EndsLoaded words answer run end.moment end.session exit
     → (IsStuck answer → end.session ≡ None) → ((IsStuck answer → ⊥) → IsBetween end.moment end.session end.posts) → ConcludesSo run answer end exit.moment
@@ -84,7 +82,7 @@ load_concludes words answer run end exit (NoSuchVolume ok lacks it) off between 
     Heard heard (concluded run end exit.moment it.concludes (between heard))
 load_concludes words answer run end exit (Loads ok core some lv blocks volume named facts loaded) off between =
     let heard : IsStuck answer → ⊥ = λ is. ok_heard (sym ok ∙ is) in
-    Heard heard (loaded_concluded end exit.moment (between heard) core some (some_volume core.descriptor words.volume lv blocks volume) facts run named lv blocks words.load loaded.woven loaded.made)
+    Heard heard (loaded_concluded end exit.moment (between heard) core some (some_volume core.descriptor words.volume lv blocks volume) facts run named lv blocks words.load loaded.woven loaded.synced loaded.made)
 
 -- ---- a run
 

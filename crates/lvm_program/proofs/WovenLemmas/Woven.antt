@@ -434,7 +434,7 @@ module _ (log : Log) (room : Room) (disks mib : ℕ) (sized : IsSized disks mib)
 ends_orders : (blocks : ℕ) (load : Workload) (answer : Reply) (run : ℕ) (end : Moment) (on : Option Core) (exit : Exit) → EndsWoven blocks load answer run end on exit → exit.moment.device.orders ≡ end.device.orders
 ends_orders blocks load answer run end on exit (NotMade not it) = concludes_orders run end exit.moment on it.concludes
 ends_orders blocks load answer run end on exit (Drawn ok core some vols named facts served) =
-    closed_orders served.drawn.end.core.power served.drawn.end.device exit.moment.device served.drawn.closed ∙ served.drawn.runs.orders
+    closed_orders served.drawn.end.core.power served.drawn.end.device exit.moment.device served.drawn.closed ∙ (path_frames served.drawn.runs).orders
 
 module _ (disks mib : ℕ) (load : Workload) (r : Run) (ready : IsReady r.entry) (goes : GoesWoven disks mib load r) (sized : IsSized disks mib) (few : HasFewDisks r.entry) (blank : IsToldBlank r.entry) where
   abbrev its_log : Log

@@ -54,16 +54,17 @@ fn the_largest_script_is_drawn(rt: HostRuntime) {
     );
 }
 
-// The threads of a load whose requests are all writes.
-fn writers(rt: &(impl Abort + AllocGlobal), words: &[&str]) -> Option<u32> {
+// The threads of a load whose requests are all writes, and whether copies are brought up beside them.
+fn writers(rt: &(impl Abort + AllocGlobal), words: &[&str]) -> Option<(u32, bool)> {
     match read(rt, words) {
         Ok(
             Job::Load {
                 own: true,
+                sync,
                 threads,
                 ..
             },
-        ) => Some(threads),
+        ) => Some((threads, sync)),
         _ => None,
     }
 }
@@ -71,13 +72,15 @@ fn writers(rt: &(impl Abort + AllocGlobal), words: &[&str]) -> Option<u32> {
 #[test]
 fn a_load_has_its_option_first(rt: HostRuntime) {
     let words = ["load", "--own", "datavg", "lv00", "128", "50000", "7"];
-    check(&rt, writers(&rt, &words) == Some(128), "a load");
+    check(&rt, writers(&rt, &words) == Some((128, false)), "a load");
 }
 
 #[test]
-fn a_load_has_its_option_last(rt: HostRuntime) {
-    let words = ["load", "datavg", "lv00", "128", "50000", "7", "--own"];
-    check(&rt, writers(&rt, &words) == Some(128), "a load");
+fn a_load_has_its_options_apart(rt: HostRuntime) {
+    let words = [
+        "load", "datavg", "--sync", "lv00", "128", "50000", "7", "--own",
+    ];
+    check(&rt, writers(&rt, &words) == Some((128, true)), "a load");
 }
 
 // What clap takes beyond the language.

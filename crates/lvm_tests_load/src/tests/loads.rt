@@ -1,5 +1,6 @@
 // Loads, and how they end.
 ghost use Rattle.lvm_disk.specs.Device.{IsReady};
+ghost use Rattle.lvm_memory.specs.Memory.{device_of};
 
 use crate::tests::disks::{restarted, scripted};
 use crate::tests::outside::{Answer, check, run};
@@ -18,6 +19,10 @@ const SINGLE: &[u8] = b"mkvg -y datavg -s 1 hdisk0\nmklv -y lv00 datavg 1\nvaryo
 
 const MIRROR: &[u8] =
     b"mkvg -y datavg -s 1 hdisk0 hdisk1 hdisk2\nmklv -y lv00 -c 2 -w a datavg 32\nvaryoffvg datavg\n";
+
+// The copy of the second partition is stale on the third disk.
+const STALE: &[u8] =
+    b"mkvg -y datavg -s 1 hdisk0 hdisk1 hdisk2\nmklv -y fill -w n datavg 5\nmklv -y lv00 -c 2 -w n -d s datavg 2\nvaryoffvg datavg\nfail hdisk2\nvaryonvg datavg\nvaryoffvg datavg\nheal hdisk2\n";
 
 const SYNC: &[u8] = b"varyonvg datavg\nsyncvg -v datavg\nlsvg -l datavg\nvaryoffvg datavg\n";
 
@@ -142,24 +147,72 @@ fn as_many_threads_as_there_may_be(rt: HostRuntime) {
     ends_well(&rt, &said, 300);
 }
 
+// How often transfers failed on each of three disks.
+fn faults<S: Shelf>(rt: &impl Abort, shelf: &S) -> [u64; 3] {
+    let disks = shelf.disks();
+    check(rt, disks == 3, "three disks");
+    [shelf.faults(0), shelf.faults(1), shelf.faults(2)]
+}
+
 #[test]
-fn a_day_on_which_a_disk_fails(rt: HostRuntime) {
+fn a_copy_is_brought_up_beside_a_worker(rt: HostRuntime) {
+    let files = scripted(&rt, &[SMALL, SMALL, SMALL], STALE, &[]);
+    let before = faults(&rt, &files);
+    let gate = GateShelf::new(files, 500_000);
+    let words = ["load", "--own", "--sync", "datavg", "lv00", "1", "1", "1"];
+    let said = run(&rt, &words, b"", 1_000, gate);
+    let wanted: &[u8] = b"begun 1\ndone 1\ngot 0\nlost 0\nrefused 0\nunbegun 0\n";
+    check(&rt, said.out.bytes() == wanted, "what is written");
+    check(&rt, said.status == 0, "the status");
+    check(&rt, faults(&rt, &said.files) == before, "no transfer fails");
+}
+
+// Disks of a mirrored volume behind a day of 4,000 requests on which the second disk fails.
+fn behind_a_day(rt: &(impl Abort + AllocGlobal + Threads + Wait + Sync)) -> MemShelf {
     let failing = Planned {
         call: 2_000,
         act: Act::Fail(1),
     };
-    let files = scripted(&rt, &[LARGE, LARGE, LARGE], MIRROR, &[failing]);
-    let said = run(
+    let files = scripted(rt, &[LARGE, LARGE, LARGE], MIRROR, &[failing]);
+    let words = ["load", "datavg", "lv00", "8", "4000", "7"];
+    let said = run(rt, &words, b"", 1_000, files);
+    ends_well(rt, &said, 4_000);
+    said.files
+}
+
+// Expects a script over these disks to end well and to write this.
+fn answers(
+    rt: &(impl Abort + AllocGlobal + Threads + Wait + Sync),
+    script: &[u8],
+    moment: u64,
+    files: MemShelf,
+    wanted: &[u8],
+)
+    requires { IsReady (device_of files) }
+{
+    let said = run(rt, &["script"], script, moment, files);
+    check(rt, said.out.bytes() == wanted, "what is written");
+    check(rt, said.status == 0, "the status");
+}
+
+#[test]
+fn a_day_on_which_a_disk_fails(rt: HostRuntime) {
+    let left = behind_a_day(&rt);
+    answers(
         &rt,
-        &["load", "datavg", "lv00", "8", "4000", "7"],
-        b"",
-        1_000,
-        files,
+        SYNC,
+        20_000,
+        restarted(&rt, &left, &[]),
+        b"ok\nsynced 32\nlv00 LPs 32 PPs 64 PVs 2 stale 0\nok\n",
     );
-    ends_well(&rt, &said, 4_000);
-    let healed: MemShelf = restarted(&rt, &said.files, &[]);
-    let behind = run(&rt, &["script"], SYNC, 20_000, healed);
-    let wanted: &[u8] = b"ok\nsynced 32\nlv00 LPs 32 PPs 64 PVs 2 stale 0\nok\n";
-    check(&rt, behind.out.bytes() == wanted, "what is written");
-    check(&rt, behind.status == 0, "the status");
+    let words = ["load", "--sync", "datavg", "lv00", "8", "100", "9"];
+    let said = run(&rt, &words, b"", 20_000, restarted(&rt, &left, &[]));
+    ends_well(&rt, &said, 100);
+    answers(
+        &rt,
+        b"varyonvg datavg\nlsvg -l datavg\n",
+        40_000,
+        restarted(&rt, &said.files, &[]),
+        b"ok\nlv00 LPs 32 PPs 64 PVs 2 stale 0\n",
+    );
 }

@@ -2,7 +2,7 @@ use Rattle.std.proofs.Common.{◌∙◌, ap, sym}
 use Rattle.lvm_vol.specs.Log.{Log}
 use Rattle.lvm_session.specs.State.{state_of}
 use Rattle.lvm_top.specs.passed.GroupLines.{without_facts}
-use Rattle.lvm_top.proofs.passed.Tie.{path_frames}
+use Rattle.lvm_line.proofs.passed.Tie.{path_shape}
 use Rattle.lvm_program.proofs.load.serve.Goals as goal
 
 pub serve_load-driver-requires-clause-unstuck : goal.serve_load-driver-requires-clause-unstuck
@@ -15,11 +15,12 @@ pub returns-clause-made : goal.returns-clause-made
 returns-clause-made g c = record {
   end = state_of g.S.Shelf.device c.serve_load-driver.result.driver;
   made = c.serve_load-driver.ensures.loaded;
-  runs = c.serve_load-driver.ensures.runs;
+  none = c.serve_load-driver.ensures.none;
+  keeps = c.serve_load-driver.ensures.keeps;
   sound = c.is_sound.ensures;
   closed = c.close_ended.ensures.shelf;
   facts = ap (λ (l : Log). l.facts) c.close_ended.ensures.history;
 }
 
 pub returns-clause-rooms : goal.returns-clause-rooms
-returns-clause-rooms g c = ap without_facts c.close_ended.ensures.history ∙ (path_frames c.serve_load-driver.ensures.runs).keeps.log
+returns-clause-rooms g c = ap without_facts c.close_ended.ensures.history ∙ (path_shape c.serve_load-driver.ensures.keeps.leaves).log

@@ -34,10 +34,10 @@ returns-in-Err-Memory-clause-load g c = unread_loads c.args.words.now _ c.in-Err
 
 pub returns-in-Load-clause-load : goal.returns-in-Load-clause-load
 returns-in-Load-clause-load g c =
-    let is : job_of c.args.words.now ≡ Ok (Load c.in-Load.own c.in-Load.group c.in-Load.volume c.in-Load.threads c.in-Load.requests c.in-Load.seed) = c.in-Ok.ensures.job ∙ ap (λ (j : Job). Ok j) c.in-Load.is in
-    on_load_at _ c.in-Load.own c.in-Load.group c.in-Load.volume c.in-Load.threads c.in-Load.requests c.in-Load.seed is _ (
+    let is : job_of c.args.words.now ≡ Ok (Load c.in-Load.own c.in-Load.sync c.in-Load.group c.in-Load.volume c.in-Load.threads c.in-Load.requests c.in-Load.seed) = c.in-Ok.ensures.job ∙ ap (λ (j : Job). Ok j) c.in-Load.is in
+    on_load_at _ c.in-Load.own c.in-Load.sync c.in-Load.group c.in-Load.volume c.in-Load.threads c.in-Load.requests c.in-Load.seed is _ (
       c.run_load.ensures.sim,
-      subst (λ (room : Room). PromisesLoaded (load_words c.in-Load.own c.in-Load.group c.in-Load.volume c.in-Load.threads c.in-Load.requests c.in-Load.seed) (g.C.Clock.last c.args.clock.now)
+      subst (λ (room : Room). PromisesLoaded (load_words c.in-Load.own c.in-Load.sync c.in-Load.group c.in-Load.volume c.in-Load.threads c.in-Load.requests c.in-Load.seed) (g.C.Clock.last c.args.clock.now)
           (ran room (g.S.Shelf.device c.args.files) (g.S.Shelf.device c.run_load.result.shelf) untold (passage g.O.Sink.held g.O.Sink.faults c.args.out.now c.run_load.new.out) (g.C.Clock.last c.run_load.new.clock) c.run_load.result.history c.run_load.result.status c.run_load.result.refused)) c.full_room-in-Load.ensures c.run_load.ensures.run,
       c.run_load.ensures.asked,
     )

@@ -25,6 +25,7 @@ returns-in-Ok g c =
       was.4,
       was.5,
       was.6,
+      was.7,
     )
 
 pub returns-in-Err : goal.returns-in-Err
@@ -45,4 +46,5 @@ returns-in-Err g c =
       was.4,
       was.5,
       was.6,
+      was.7,
     )

@@ -34,6 +34,7 @@ returns-in-Idle g c =
       was.4,
       was.5,
       was.6,
+      was.7,
     )
 
 pub returns-in_default-answer : goal.returns-in_default-answer
@@ -60,6 +61,7 @@ returns-in_default-answer g c =
       was.4,
       was.5,
       was.6,
+      was.7,
     )
 
 pub returns-in_default : goal.returns-in_default
@@ -80,4 +82,5 @@ returns-in_default g c =
       was.4,
       was.5,
       was.6,
+      was.7,
     )

@@ -1,0 +1,6 @@
+use Rattle.std.proofs.Common.{◌∙◌, sym, refl}
+use Rattle.lvm_load.specs.Bringing.{StillRuns}
+use Rattle.lvm_load.proofs.serve.close_ended.Goals as goal
+
+pub returns-in-Running-clause-closes : goal.returns-in-Running-clause-closes
+returns-in-Running-clause-closes g c = StillRuns c.in-Running.cursor (sym c.copy_state.ensures.is ∙ c.in-Running.is) refl

@@ -1,0 +1,128 @@
+-- A crew beside which copies are brought up, with a pass of its own.
+use Rattle.std.proofs.Common.{◌≡◌, ◌⊎◌, ◌≤◌, ◌<◌, ◌+◌, ℕ, zero, suc, List, [], ◌∷◌, ◌++◌, false, refl, sym, ap, ◌∙◌, subst, ⊎_elim, inl, inr, arith}
+use Rattle.std.specs.Prelude.{IfErr, IfOk, Result, Ok, Err}
+use mathlib.Core.Logic.{dite}
+use native.Mathlib.Decide.{ℕ_discrete}
+use Rattle.atomic_table.specs.Seated.{TableId}
+use Rattle.lvm_vol.specs.Facts.{Request, Fact, Stands}
+use Rattle.lvm_vol.specs.Fronts.{Begins}
+use Rattle.lvm_turn.specs.Calls.{IsIdle}
+use Rattle.lvm_turn.specs.Views.{Client, HoldsAll, Standing, View, counted, joined, numbers, up_to, with_client_alone, without, without_client}
+use Rattle.lvm_turn.proofs.CallsLemmas.Ends.{all_there}
+use Rattle.lvm_turn.proofs.ViewsLemmas.Clients.{holds-numbers, numbers-append, numbers-holds}
+use Rattle.lvm_workers.specs.declared.crew.Crew.{Crew}
+use Rattle.lvm_workers.specs.declared.work.Tally.{Tally}
+use Rattle.lvm_workers.specs.declared.words.Draw.{Draw}
+use Rattle.lvm_workers.specs.Bringing.{HasBrought}
+use Rattle.lvm_workers.specs.Crews.{AllMade, IsWhole, begun_over, job_of}
+use Rattle.lvm_workers.specs.Knowing.{HasCause, Knows, WasUnheard, first_own}
+use Rattle.lvm_workers.specs.Making.{AllAnswered, HasMade, NoneServed}
+use Rattle.lvm_workers.proofs.CrewsLemmas.{begun_both, fresh_pass, made_both, parted, taken_in, without_last}
+use Rattle.lvm_workers.proofs.KnowingLemmas.{cause_since, knows_further, met_knows, rose_on}
+
+stands_left : (c : ℕ) (xs ys : List ℕ) → Stands c xs → Stands c (xs ++ ys)
+stands_left c [] ys there = absurd there
+stands_left c (x ∷ xs) ys there = ⊎_elim (λ (here : x ≡ c). inl here) (λ (rest : Stands c xs). inr (stands_left c xs ys rest)) there
+
+stands_right : (c : ℕ) (xs ys : List ℕ) → Stands c ys → Stands c (xs ++ ys)
+stands_right c [] ys there = there
+stands_right c (x ∷ xs) ys there = inr (stands_right c xs ys there)
+
+-- a client that asks for nothing has made what it is to make
+none_made : (asks : ℕ → Draw → Request → Type 0) (seed requests : ℕ) (own : List Fact) → own ≡ [] → HasMade asks seed requests 0 own
+none_made asks seed requests own none = subst (HasMade asks seed requests 0) (sym none) (record { drawn = 0; most = omega arith; made = AllAnswered NoneServed })
+
+-- a cause stays one, where a pass knows more, and the waits haven't fallen
+cause_later : (WasRefused : View → Type 0) (stays : (v u : View) → Knows v u → WasRefused v → WasRefused u) (waits : List ℕ → ℕ) (first v w : View) (t : Tally) → Knows v w → waits v.counts ≤ waits w.counts
+    → HasCause WasRefused waits first v t → HasCause WasRefused waits first w t
+cause_later WasRefused stays waits first v w t knows later cause = record {
+  unbegun = λ some_are. ⊎_elim (λ (r : WasRefused v). inl (stays v w knows r)) (λ (u : WasUnheard waits first v). inr (on u)) (cause.unbegun some_are);
+  unheard = λ is. on (cause.unheard is);
+}
+  where
+    on : WasUnheard waits first v → WasUnheard waits first w
+    on rose = rose_on 1000000 (waits first.counts) (waits v.counts) (waits w.counts) rose later
+
+-- what holds of a result that is well holds of what it holds
+pub ok_holds : {A B : Type 0} (P : A → Type 0) (r : Result A B) (a : A) → r ≡ Ok a → IfOk r P → P a
+ok_holds {A} {B} P r a is holds = subst (λ (x : Result A B). IfOk x P) is holds
+
+pub err_holds : {A B : Type 0} (P : B → Type 0) (r : Result A B) (b : B) → r ≡ Err b → IfErr r P → P b
+err_holds {A} {B} P r b is holds = subst (λ (x : Result A B). IfErr x P) is holds
+
+-- A pass p of the clients 1 to n + 1 gives the last of them, k, over to o, and is p1 then; and o is o1 once copies are brought up.
+module _ (table : TableId) (n k : ℕ) (e : k ≡ suc n) (p p1 o o1 : Standing) (at : p.table ≡ table) (outside : p.knows.inside ≡ false) (held : p.knows.clients ≡ up_to (suc n))
+    (kept : p1 ≡ record p { knows = without_client k p.knows }) (given : o ≡ record p { knows = with_client_alone k p.knows }) where
+  pub rest_at : p1.table ≡ table
+  rest_at = ap (λ (s : Standing). s.table) kept ∙ at
+
+  pub rest_outside : p1.knows.inside ≡ false
+  rest_outside = ap (λ (s : Standing). s.knows.inside) kept ∙ outside
+
+  pub rest_holds : p1.knows.clients ≡ up_to n
+  rest_holds = ap (λ (s : Standing). s.knows.clients) kept ∙ ap (without k) held ∙ without_last n k e
+
+  pub other_idle : IsIdle table (k ∷ []) o
+  other_idle = (fresh_pass table n k p o e at outside held given).0
+
+  module _ (brought : HasBrought table k o o1) where
+    other_own : first_own o1.knows.clients ≡ []
+    other_own = brought.own ∙ (fresh_pass table n k p o e at outside held given).1
+
+    -- The workers leave w, which takes in o1 and is q then.
+    module _ (w q : Standing) (met : q ≡ record w { knows = joined w.knows o1.knows }) (front : Begins w.knows.front q.knows.front) where
+      abbrev clients_are : q.knows.clients ≡ w.knows.clients ++ o1.knows.clients
+      clients_are = ap (λ (s : Standing). s.knows.clients) met
+
+      pub whole_idle : IsIdle table (counted n) w → IsIdle table (counted k) q
+      whole_idle idle = taken_in table k w o1 q n e idle brought.idle met
+
+      pub whole_knows : Knows p1.knows w.knows → Knows p.knows q.knows
+      whole_knows knows = knows_further p.knows p1.knows q.knows (parted k p p1 kept).0 (knows_further p1.knows w.knows q.knows knows (met_knows w o1 q met front))
+
+      module _ (asks : ℕ → ℕ → Draw → Request → Type 0) (crew : Crew) where
+        pub whole_made : AllMade asks crew w.knows.clients → AllMade asks crew q.knows.clients
+        whole_made made = subst (λ (xs : List Client). AllMade asks crew xs) (sym clients_are)
+            (made_both asks crew k 0 w.knows.clients o1.knows.clients made brought.idle.holds (none_made (asks k) (job_of crew k).seed (job_of crew k).requests (first_own o1.knows.clients) other_own))
+
+        pub whole_begun : (b : ℕ) → b ≡ begun_over w.knows.clients → b ≡ begun_over q.knows.clients
+        whole_begun b is =
+            let sum : b + 0 ≡ begun_over (w.knows.clients ++ o1.knows.clients) =
+            begun_both asks crew k 0 b w.knows.clients o1.knows.clients is brought.idle.holds (none_made (asks k) (job_of crew k).seed (job_of crew k).requests (first_own o1.knows.clients) other_own) in
+            let same : begun_over q.knows.clients ≡ begun_over (w.knows.clients ++ o1.knows.clients) = ap begun_over clients_are in
+            omega (arith, sum, same)
+
+      pub whole_cause : (WasRefused : View → Type 0) (stays : (v u : View) → Knows v u → WasRefused v → WasRefused u) (waits : List ℕ → ℕ) → waits w.knows.counts ≤ waits q.knows.counts → (t : Tally)
+          → HasCause WasRefused waits p1.knows w.knows t → HasCause WasRefused waits p.knows q.knows t
+      whole_cause WasRefused stays waits later t cause =
+          cause_later WasRefused stays waits p.knows w.knows q.knows t (met_knows w o1 q met front) later
+          (cause_since WasRefused waits p.knows p1.knows w.knows t (parted k p p1 kept).1.1 cause)
+
+      -- where the workers' pass came back as it was, all clients are there again
+      pub whole_back : w ≡ p1 → IsWhole table k q
+      whole_back same = record {
+        at = ap (λ (s : Standing). s.table) met ∙ ap (λ (s : Standing). s.table) same ∙ rest_at;
+        outside = ap (λ (s : Standing). s.knows.inside) met ∙ ap (λ (s : Standing). s.knows.inside) same ∙ rest_outside;
+        all = λ c low high. numbers-holds q.knows.clients c (subst (Stands c) (sym numbers_are) (stands c low high));
+      }
+        where
+          numbers_are : numbers q.knows.clients ≡ numbers (up_to n) ++ k ∷ []
+          numbers_are = ap numbers clients_are ∙ numbers-append w.knows.clients o1.knows.clients ∙ (λ i. numbers ((ap (λ (s : Standing). s.knows.clients) same ∙ rest_holds) i) ++ brought.idle.holds i)
+
+          stands : (c : ℕ) → 0 < c → c ≤ k → Stands c (numbers (up_to n) ++ k ∷ [])
+          stands c low high = dite (ℕ_discrete k c)
+              (λ (is : k ≡ c). stands_right c (numbers (up_to n)) (k ∷ []) (inl is))
+              (λ apart. stands_left c (numbers (up_to n)) (k ∷ []) (holds-numbers (up_to n) c (all_there n c low (omega arith))))
+
+-- a pass of the clients 1 to n holds each of them
+pub whole_still : (table : TableId) (n : ℕ) (p q : Standing) → p.table ≡ table → p.knows.inside ≡ false → p.knows.clients ≡ up_to n → q ≡ p → IsWhole table n q
+whole_still table n p q at outside held same = record {
+  at = ap (λ (s : Standing). s.table) same ∙ at;
+  outside = ap (λ (s : Standing). s.knows.inside) same ∙ outside;
+  all = subst (λ (xs : List Client). HoldsAll n xs) (sym (ap (λ (s : Standing). s.knows.clients) same ∙ held)) (all_there n);
+}
+
+-- so does one that came back as it was, for want of memory
+pub back_whole : {A : Type 0} (table : TableId) (n : ℕ) (p : Standing) (r : Result A Standing) → p.table ≡ table → p.knows.inside ≡ false → p.knows.clients ≡ up_to n → IfErr r (λ (q : Standing). q ≡ p) → IfErr r (IsWhole table n)
+back_whole table n p (Ok a) at outside held same = tt
+back_whole table n p (Err q) at outside held same = whole_still table n p q at outside held same
