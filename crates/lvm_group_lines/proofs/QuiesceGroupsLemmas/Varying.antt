@@ -43,7 +43,7 @@ module _ (before old left : Device) (name : List ℕ) (moment patience : ℕ) (l
   leaves (cause.DiskFailed disk) refuses =
       let w = refuses.1.writes in
       record {
-        rests = inr (⊎_elim (λ failed. failed.rested.ready) (λ s. ⊎_elim (λ at. at.1.rested.ready) (λ at. at.3.rested.ready) s.stops.when) w.how);
+        rests = inr (⊎_elim (λ failed. failed.rested.ready) (λ s. ⊎_elim (λ at. at.1.rested.ready) (λ later. ⊎_elim (λ at. at.how.rested.ready) (λ at. at.how.rested.ready) later) s.stops.when) w.how);
         orders = same_orders _ _ refuses.1.copies w.read left (wrote_failed _ _ refuses.1.copies w.read left disk w.how) ∙ w.unwritten.orders ∙ same;
       }
   leaves cause.Dark refuses = record {
