@@ -22,6 +22,8 @@ from refusals import acknowledged, replies_of
 ROWS = os.path.realpath(os.environ.get("ROWS", f"{ROOT}/crates/lvm_rows/out/lvm_rows"))
 WORDS = ["0000000000000000", "5555555555555555"]
 AT_ONCE = 400
+# What a run gives back is kept for the next one, and isn't taken from the system page by page again.
+KEEP = {"MALLOC_MMAP_THRESHOLD_": "1000000000", "MALLOC_TRIM_THRESHOLD_": "1000000000"}
 
 
 class Case:
@@ -46,7 +48,7 @@ class Case:
         """The answers of each run with cuts, and how it ended."""
         for at in range(0, len(trials), AT_ONCE):
             given = "".join(self.text(cuts) for cuts in trials[at : at + AT_ONCE])
-            ended = subprocess.run([ROWS], input=given.encode(), stdout=subprocess.PIPE, check=True)
+            ended = subprocess.run([ROWS], input=given.encode(), stdout=subprocess.PIPE, env={**os.environ, **KEEP}, check=True)
             for printed in ended.stdout.decode().split("case\n")[1:]:
                 lines = printed.split("\n")[:-1]
                 yield lines[:-1], lines[-1]
