@@ -353,35 +353,32 @@ class Load:
     def most_done(self, client, blocks, lost):
         """How many of a client's first requests may have been done, the blocks being so, but for so many in any place that
         were lost; None where the blocks show no front of them."""
-        states = {(0, lost): [0] * len(blocks)}
+        states = [(lost, [0] * len(blocks))]
         requests, best = list(self.requests_of(client)), None
         mine = range(GROUP * (client - 1), GROUP * client) if self.own else range(len(blocks))
         for number in range(len(requests) + 1):
-            for left in range(lost + 1):
-                state = states.get((number, left))
-                if state is None:
-                    continue
+            request, later = requests[number] if number < len(requests) else None, []
+            for left, state in states:
                 odd = [k for k in mine if blocks[k] != state[k]]
-                request = requests[number] if number < len(requests) else None
                 if all(request and request[0] <= k < request[0] + request[1] and blocks[k] == request[2] + k - request[0] for k in odd):
-                    best = number if best is None else max(best, number)
-                if number < len(requests):
-                    after = list(state)
-                    if request:
-                        at, count, word = request
-                        after[at : at + count] = range(word, word + count)
-                        if left:
-                            # (a write that was lost may have landed on any of its blocks)
-                            states[(number + 1, left - 1)] = [blocks[k] if at <= k < at + count and blocks[k] == word + k - at else old for k, old in enumerate(state)]
-                    states[(number + 1, left)] = after
+                    best = number
+                after = list(state)
+                if request:
+                    at, count, word = request
+                    after[at : at + count] = range(word, word + count)
+                    if left:
+                        # (a write that was lost may have landed on any of its blocks)
+                        later.append((left - 1, [blocks[k] if at <= k < at + count and blocks[k] == word + k - at else old for k, old in enumerate(state)]))
+                later.append((left, after))
+            states = later
         return best
 
 
 LOADS = [
     Load("one thread that writes two copies", 2, 1, 8, True),
-    Load("one thread that reads and writes two copies", 2, 1, 12, False),
-    Load("four threads that write two copies", 2, 4, 16, True),
     Load("one thread that writes one copy", 1, 1, 6, True),
+    Load("four threads that write two copies", 2, 4, 16, True),
+    Load("one thread that reads and writes two copies", 2, 1, 12, False),
 ]
 
 
