@@ -1,7 +1,7 @@
 #!/usr/bin/env python3
 """Cuts the power at each call of the marked lines of scripts, and again at each of the next calls. `scripts/cuts.sh` runs it.
 
-usage: cuts.py [FIRST LAST]      how many calls later the second cut comes, 1 to 80 where nothing is said
+usage: cuts.py [FIRST LAST [STEP]]      how many calls later the second cut comes: 1 to 80, each, where nothing is said
 ROWS names the program that runs rows.
 
 Both words are tried at each call: that of which nothing lands of what is under way, and that of which every other sector does.
@@ -22,6 +22,8 @@ from refusals import acknowledged, replies_of
 ROWS = os.path.realpath(os.environ.get("ROWS", f"{ROOT}/crates/lvm_rows/out/lvm_rows"))
 WORDS = ["0000000000000000", "5555555555555555"]
 AT_ONCE = 400
+# What a run gives back is kept for the next one, and isn't taken from the system page by page again.
+KEEP = {"MALLOC_MMAP_THRESHOLD_": "1000000000", "MALLOC_TRIM_THRESHOLD_": "1000000000"}
 
 
 class Case:
@@ -46,7 +48,7 @@ class Case:
         """The answers of each run with cuts, and how it ended."""
         for at in range(0, len(trials), AT_ONCE):
             given = "".join(self.text(cuts) for cuts in trials[at : at + AT_ONCE])
-            ended = subprocess.run([ROWS], input=given.encode(), stdout=subprocess.PIPE, check=True)
+            ended = subprocess.run([ROWS], input=given.encode(), stdout=subprocess.PIPE, env={**os.environ, **KEEP}, check=True)
             for printed in ended.stdout.decode().split("case\n")[1:]:
                 lines = printed.split("\n")[:-1]
                 yield lines[:-1], lines[-1]
@@ -108,12 +110,12 @@ def calls_of(case):
         first += AT_ONCE
 
 
-def cut(name, case, first, last):
+def cut(name, case, first, last, step=1):
     calls = calls_of(case)
     tried, twice = 0, 0
     for call in calls:
         for word in WORDS:
-            trials = [[(call, word), (call + later, word)] for later in range(first, last + 1)]
+            trials = [[(call, word), (call + later, word)] for later in range(first, last + 1, step)]
             for cuts, (answers, ending) in zip(trials, case.run(trials)):
                 try:
                     replies = case.replies(answers)
@@ -122,15 +124,15 @@ def cut(name, case, first, last):
                     raise Failed(f"{name}: cuts {cuts}: {failed}") from None
                 tried += 1
                 twice += sum("refused 23 Dark" in reply for reply in replies) > 1
-    return f"{name}: {len(calls)} calls, two words, a second cut {first} to {last} calls later: {tried} runs, in {twice} of which both cuts met a line"
+    return f"{name}: {len(calls)} calls, two words, a second cut {first} to {last} calls later in steps of {step}: {tried} runs, in {twice} of which both cuts met a line"
 
 
 def main(words):
-    first, last = map(int, words or (1, 80))
+    distances = [int(word) for word in words] or [1, 80]
     folder = f"{HERE}/cuts"
     try:
         for name in sorted(os.listdir(folder)):
-            print(cut(name.removesuffix(".case"), Case(f"{folder}/{name}"), first, last), flush=True)
+            print(cut(name.removesuffix(".case"), Case(f"{folder}/{name}"), *distances), flush=True)
     except Failed as failed:
         print(f"FAILED: {failed}", file=sys.stderr)
         return 1

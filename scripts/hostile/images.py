@@ -7,8 +7,8 @@ LVM names the program; ROWS another folder whose stdin and stdout have the rows.
 
   rows    the cases of the folder rows: a group is made, and brought on over its images with one edit after the other
   flips   each byte of the sectors that hold records of a group of three disks is turned over, one after the other; and so
-          is each other byte below the data, those of one place in each sector at once, and each other sector of the record
-          areas, one after the other; with --bits each of the eight bits of a byte too, one after the other
+          is each other byte below the data, those of one place in each sector at once, and each other sector of the first
+          disk's record areas, one after the other; with --bits each of the eight bits of a byte too
   torn    each set of the sectors of a record's write, on each disk of a group of eight
   lengths each front of the write of a record of each length, and all of it but one sector, on a group of one disk
   notes   notes that name volumes and track groups at the limits of both
@@ -350,11 +350,10 @@ def flips(folder, bits):
             bad.append(bytes(front) + image[DATA * SECTOR :])
         beside.judge(f"byte {offset} of each sector that holds nothing", bad)
     whole = Table("flips", folder)
-    for disk, image in enumerate(images):
-        for sector in sorted(AREAS - set(looked_at(image))):
-            at = sector * SECTOR
-            bad = edited(image, at, bytes(255 - byte for byte in image[at : at + SECTOR]))
-            whole.judge(f"hdisk{disk}, sector {sector} that holds nothing", images[:disk] + [bad] + images[disk + 1 :])
+    for sector in sorted(AREAS - set(looked_at(images[0]))):
+        at = sector * SECTOR
+        bad = edited(images[0], at, bytes(255 - byte for byte in images[0][at : at + SECTOR]))
+        whole.judge(f"hdisk0, sector {sector} that holds nothing", [bad] + images[1:])
     for told_of in (beside, whole):
         if set(told_of.counts) != {"ok"}:
             raise Failed(f"flips: bytes that no rule looks at: {told_of.counts}")
@@ -362,7 +361,7 @@ def flips(folder, bits):
         [
             told,
             beside.told(f"runs, with {others} bytes that no rule looks at turned over"),
-            whole.told("runs, each with one sector of the record areas that holds nothing turned over"),
+            whole.told("runs, each with one sector of the first disk's record areas that holds nothing turned over"),
         ]
     )
 

@@ -179,7 +179,7 @@ def see_refused(answers, status, wanted, what):
 
 
 def allocations(folder):
-    told = []
+    """A line for each run."""
     for name, words, lines, before in (
         ("a mirrored write, over files", ["script"], MIRROR, []),
         ("a resync beside posts, over files", ["script"], RESYNC, []),
@@ -188,8 +188,7 @@ def allocations(folder):
         ("a workload of threads, over files", ["load", "--own", "datavg", "lv00", "2", "2", "1"], [], MIRROR[:2]),
     ):
         if words[0] in words_of_the_program():
-            told.append(refuse_allocations(folder, name, words, lines, before))
-    return "\n".join(told)
+            yield refuse_allocations(folder, name, words, lines, before)
 
 
 def words_of_the_program():
@@ -315,7 +314,7 @@ def calls(folder):
         lambda answers, status, what: see_answers(DURING, answers, status, what),
     )
     halves = each_call(folder, ["half"], ["read", "write"], lambda answers, status, what: see_answers(DURING, answers, status, what))
-    return f"calls: that failed once, from then on for a file, or for all: {numbered(done)}; half way: {numbered(halves)}"
+    yield f"calls: that failed once, from then on for a file, or for all: {numbered(done)}; half way: {numbered(halves)}"
 
 
 def see_death(answers, status, what):
@@ -326,7 +325,7 @@ def see_death(answers, status, what):
 def deaths(folder):
     done = each_call(folder, ["die"], ["any"], see_death)
     torn = each_call(folder, ["torn"], ["write"], see_death)
-    return f"deaths: the program ended at {numbered(done)}; in the middle of {numbered(torn)}"
+    yield f"deaths: the program ended at {numbered(done)}; in the middle of {numbered(torn)}"
 
 
 # ---- loads
@@ -354,35 +353,32 @@ class Load:
     def most_done(self, client, blocks, lost):
         """How many of a client's first requests may have been done, the blocks being so, but for so many in any place that
         were lost; None where the blocks show no front of them."""
-        states = {(0, lost): [0] * len(blocks)}
+        states = [(lost, [0] * len(blocks))]
         requests, best = list(self.requests_of(client)), None
         mine = range(GROUP * (client - 1), GROUP * client) if self.own else range(len(blocks))
         for number in range(len(requests) + 1):
-            for left in range(lost + 1):
-                state = states.get((number, left))
-                if state is None:
-                    continue
+            request, later = requests[number] if number < len(requests) else None, []
+            for left, state in states:
                 odd = [k for k in mine if blocks[k] != state[k]]
-                request = requests[number] if number < len(requests) else None
                 if all(request and request[0] <= k < request[0] + request[1] and blocks[k] == request[2] + k - request[0] for k in odd):
-                    best = number if best is None else max(best, number)
-                if number < len(requests):
-                    after = list(state)
-                    if request:
-                        at, count, word = request
-                        after[at : at + count] = range(word, word + count)
-                        if left:
-                            # (a write that was lost may have landed on any of its blocks)
-                            states[(number + 1, left - 1)] = [blocks[k] if at <= k < at + count and blocks[k] == word + k - at else old for k, old in enumerate(state)]
-                    states[(number + 1, left)] = after
+                    best = number
+                after = list(state)
+                if request:
+                    at, count, word = request
+                    after[at : at + count] = range(word, word + count)
+                    if left:
+                        # (a write that was lost may have landed on any of its blocks)
+                        later.append((left - 1, [blocks[k] if at <= k < at + count and blocks[k] == word + k - at else old for k, old in enumerate(state)]))
+                later.append((left, after))
+            states = later
         return best
 
 
 LOADS = [
     Load("one thread that writes two copies", 2, 1, 8, True),
-    Load("one thread that reads and writes two copies", 2, 1, 12, False),
-    Load("four threads that write two copies", 2, 4, 16, True),
     Load("one thread that writes one copy", 1, 1, 6, True),
+    Load("four threads that write two copies", 2, 4, 16, True),
+    Load("one thread that reads and writes two copies", 2, 1, 12, False),
 ]
 
 
@@ -441,9 +437,9 @@ def see_blocks(folder, load, ended, what):
 
 
 def loads(folder):
-    told = []
+    """A line for each load."""
     for load in LOADS:
-        fresh(folder, [BLANK] * 3)
+        fresh(folder, [bytes(512 * 6144)] * 3)
         images = made(folder, ["mkvg -y datavg -s 1 hdisk0 hdisk1 hdisk2", f"mklv -y lv00 -c {load.copies} datavg 1", "varyoffvg datavg"])
         fresh(folder, images)
         answers, status, counts = run(folder, load.words, [])
@@ -466,8 +462,7 @@ def loads(folder):
                 end = "ended" if found is None else "refused" if answers[0].startswith("refused") else "all done" if found[0] == load.requests else "some lost"
                 ended[end] = ended.get(end, 0) + 1
                 failed[kind] = failed.get(kind, 0) + 1
-        told.append(f"loads: {load.name}: {numbered(failed)}: " + ", ".join(f"{count} {end}" for end, count in ended.items()))
-    return "\n".join(told)
+        yield f"loads: {load.name}: {numbered(failed)}: " + ", ".join(f"{count} {end}" for end, count in ended.items())
 
 
 def main(words):
@@ -475,7 +470,8 @@ def main(words):
     folder = Folder()
     try:
         for word in words or list(tables):
-            print(tables[word](folder), flush=True)
+            for line in tables[word](folder):
+                print(line, flush=True)
     except Failed as failed:
         print(f"FAILED: {failed}", file=sys.stderr)
         return 1
