@@ -2,7 +2,8 @@ use Rattle.std.proofs.Common.{◌≡◌, ◌∙◌, sym, ap, subst, true, false}
 use Rattle.lvm_vol.specs.Log.{Log}
 use Rattle.lvm_session.specs.State.{Core, state_of}
 use Rattle.lvm_line.specs.passed.Tie.{RunsOn}
-use Rattle.lvm_line.specs.passed.GroupLines.{IsClosed}
+use Rattle.lvm_line.specs.passed.GroupLines.{IsClosed, without_facts}
+use Rattle.lvm_line.proofs.passed.Tie.{path_frames}
 use Rattle.lvm_top.specs.Ending.{MakesTurns}
 use Rattle.lvm_top.proofs.EndingLemmas.{out_still, out_turned}
 use Rattle.lvm_top.proofs.run.run_out.Goals as goal
@@ -26,3 +27,7 @@ returns-clause-ends g c =
     (subst (λ (d : g.row.S.Denot × Core). MakesTurns (state_of device d) last) same c.run_on.ensures.turns)
     (subst (λ (d : g.row.S.Denot × Core). RunsOn (state_of device d) last) same c.run_on.ensures.runs)
     c.run_on.ensures.sound c.close_ended-2.ensures.shelf (ap (λ (l : Log). l.facts) c.close_ended-2.ensures.history)
+
+pub returns-clause-rooms : goal.returns-clause-rooms
+returns-clause-rooms g c =
+    ap without_facts c.close_ended-2.ensures.history ∙ (path_frames c.run_on.ensures.runs).keeps.log ∙ ap (λ (d : g.row.S.Denot × Core). without_facts d.1.history) c.at_rest-driver.ensures.driver
