@@ -23,7 +23,7 @@ use Rattle.lvm_core.specs.declared.refused.Cause.TheVariants as cause
 use Rattle.lvm_core.specs.declared.refused.Refused.{Refused}
 use Rattle.lvm_session.specs.State.{Core}
 use Rattle.lvm_volume_lines.specs.passed.Group.{NewGroup, RefusesFirst, MkvgRefuses}
-use Rattle.lvm_volume_lines.specs.passed.Varyon.{VaryonRefuses}
+use Rattle.lvm_volume_lines.specs.passed.Varyon.{IsRecovered, VaryonRefuses}
 use Rattle.lvm_volume_lines.proofs.passed.Quiesce.{quiet_is_ahead, ends_only}
 use Rattle.lvm_volume_lines.proofs.passed.Varyon.{failed_rose}
 use Rattle.lvm_line.specs.Causes.{HasCause, HasFailed, RoseOn, VaryonLaw, disk_of}
