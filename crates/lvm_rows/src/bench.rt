@@ -11,13 +11,15 @@ use crate::print::{print_line, print_lines, print_probe, print_run, print_words}
 use crate::run::{Judged, Sizes, Watched, blank, images_of, judge, restarted, run, run_load};
 use crate::script::Script;
 use crate::sweep::{Swept, Swing, sweep};
-use crate::words::{Answered, answer};
+use crate::words::{Sinks, ample_sinks, answer};
 use crate::wrote::{Wrote, compared};
 use lvm_io::{MemClock, Sink};
+use lvm_lane::FileShelf;
 use lvm_memory::MemShelf;
 use lvm_num::{Rows, Text};
-use lvm_program::{Ended, Room};
+use lvm_program::{Ended, ExitStatus, Room};
 use std::alloc::Global;
+use std::fs::File;
 use std::sync::Wait;
 use std::thread::Threads;
 
@@ -80,6 +82,7 @@ impl Bench {
             "sweep" => self.sweep(alloc, rest, None, out),
             "twice" => self.twice(alloc, rest, out),
             "words" => self.words(rt, alloc, rest, out),
+            "fileless" => self.fileless(rt, alloc, rest, out),
             "probe" => self.probe(alloc, rest, out),
             "weave" => self.weave(alloc, rest, out),
             "put" | "fill" | "copy" | "resize" => self.edit(alloc, verb, rest),
@@ -276,26 +279,61 @@ impl Bench {
         self.sweep(alloc, acts, Some(later), out)
     }
 
+    // Runs the program by words over the disks, keeps what it leaves on them, and forgets what was planned.
     fn words<O: Sink, R: Threads + Wait + Sync>(
-        &self,
+        &mut self,
         rt: &R,
         alloc: Global,
         rest: &str,
         out: &mut O,
     ) -> Result<(), Fault> {
         let words = parse::bracketed(alloc, rest)?;
-        let answered = self.answer(rt, alloc, &words)?;
-        print_words(alloc, &answered, out)
+        let mut sinks = ample_sinks(alloc)?;
+        let ended = self.answer(rt, alloc, &words, &mut sinks)?;
+        print_words(alloc, ended.status, &sinks, out)?;
+        self.left = Some(images_of(alloc, &ended.shelf)?);
+        self.outside = Outside::new(alloc);
+        Ok(())
     }
 
-    // What the program answers to words.
     fn answer<R: Threads + Wait + Sync>(
-        &self,
+        &mut self,
         rt: &R,
         alloc: Global,
         words: &[Text],
-    ) -> Result<Answered, Fault> {
+        sinks: &mut Sinks,
+    ) -> Result<Ended<MemShelf>, Fault> {
         let mut input = self.outside.source(alloc, self.script.text())?;
-        answer(rt, alloc, words, &mut input, &self.sizes.sectors)
+        let files = self.shelf(alloc)?;
+        let clock = &mut self.clock;
+        Ok(answer(rt, alloc, words, &mut input, sinks, clock, files))
+    }
+
+    // Runs the program by words where no disk has a file.
+    fn fileless<O: Sink, R: Threads + Wait + Sync>(
+        &mut self,
+        rt: &R,
+        alloc: Global,
+        rest: &str,
+        out: &mut O,
+    ) -> Result<(), Fault> {
+        let words = parse::bracketed(alloc, rest)?;
+        let mut sinks = ample_sinks(alloc)?;
+        let status = self.answer_fileless(rt, alloc, &words, &mut sinks)?;
+        print_words(alloc, status, &sinks, out)
+    }
+
+    fn answer_fileless<R: Threads + Wait + Sync>(
+        &mut self,
+        rt: &R,
+        alloc: Global,
+        words: &[Text],
+        sinks: &mut Sinks,
+    ) -> Result<ExitStatus, Fault> {
+        let mut input = self.outside.source(alloc, self.script.text())?;
+        let files = FileShelf::<File>::without_files(alloc)?;
+        let clock = &mut self.clock;
+        let ended = answer(rt, alloc, words, &mut input, sinks, clock, files);
+        Ok(ended.status)
     }
 }

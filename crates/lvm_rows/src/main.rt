@@ -26,7 +26,8 @@
 //! | `probe EDIT, ..` | the script is run over the disks with these edits, each a line as the four above; its answers are printed, and which areas it wrote. The disks stay as they were, and the script stays for the next one |
 //! | `weave CLIENTS REQUESTS SEED` | a workload is run over the disks |
 //! | `run` | the script is run, and forgotten; the disks stay as it leaves them |
-//! | `words [WORD] ..` | the program runs by these words, the script its input, the disks its files |
+//! | `words [WORD] ..` | the program runs by these words, the script its input, the disks its files, which stay as it leaves them |
+//! | `fileless [WORD] ..` | the same, over one disk without a file |
 //! | `sweep ACTS` | the script is run over disks of zeros once for each call of the marked lines and each of the acts `cut WORD ..` or `fail DISK ..`, which is done before that call; the answers from these lines on are printed, each once |
 //! | `twice N ACTS` | the same, and the act is done again N calls later |
 //!

@@ -3,11 +3,11 @@
 use crate::fault::Fault;
 use crate::run::{Judged, Watched, judge};
 use crate::sweep::joined;
-use crate::words::Answered;
+use crate::words::Sinks;
 use crate::wrote::Wrote;
 use lvm_io::{Sink, write_all};
 use lvm_memory::MemShelf;
-use lvm_program::Ended;
+use lvm_program::{Ended, ExitStatus};
 use std::alloc::Global;
 use std::collections::BTreeSet;
 
@@ -60,20 +60,21 @@ pub(crate) fn print_probe<O: Sink>(
 }
 
 // How a run by words ended.
-fn status_of(alloc: Global, answered: &Answered) -> Result<String, Fault> {
-    let status = answered.status;
+fn status_of(alloc: Global, status: ExitStatus) -> Result<String, Fault> {
+    let status = status.code();
     Ok(format!(in alloc; "status {status}")?)
 }
 
-/// Prints how a run by words ended, what it wrote, and what it said beside.
+/// Prints what a run by words wrote, what it said beside, and how it ended.
 pub(crate) fn print_words<O: Sink>(
     alloc: Global,
-    answered: &Answered,
+    status: ExitStatus,
+    sinks: &Sinks,
     out: &mut O,
 ) -> Result<(), Fault> {
-    print_text(out, answered.sinks.out.bytes())?;
-    print_text(out, answered.sinks.err.bytes())?;
-    let status = status_of(alloc, answered)?;
+    print_text(out, sinks.out.bytes())?;
+    print_text(out, sinks.err.bytes())?;
+    let status = status_of(alloc, status)?;
     print_line(out, status.as_bytes())
 }
 
