@@ -61,9 +61,9 @@ committing d = record { next = λ next. next ≡ d; zeros = NoPartition; stale =
 abbrev pub marking : List Pp → List Pp → Scope
 marking to_stale to_fresh = record { next = NoDescriptor; zeros = NoPartition; stale = Contains to_stale; fresh = Contains to_fresh; marks = NoVolume; numbers = 1; lets = Always }
 
--- these volumes become dirty and those clean, which their copies have to let be
+-- these volumes become dirty and those clean, which their copies have to let be after an earlier history
 abbrev pub dirtying : List ℕ → List ℕ → Scope
-dirtying to_dirty to_clean = record { next = NoDescriptor; zeros = NoPartition; stale = NoPartition; fresh = NoPartition; marks = Contains (to_dirty ++ to_clean); numbers = 1; lets = λ old new run first. MayGoClean to_clean old }
+dirtying to_dirty to_clean = record { next = NoDescriptor; zeros = NoPartition; stale = NoPartition; fresh = NoPartition; marks = Contains (to_dirty ++ to_clean); numbers = 1; lets = λ old new run first. (past : List Fact) → Begins run past first → MayGoClean to_clean old }
 
 -- zeros are written to a partition
 abbrev pub zeroing : Pp → Scope

@@ -12,10 +12,11 @@ use Rattle.lvm_num.specs.declared.descriptor.Descriptor.{Descriptor}
 use Rattle.lvm_num.specs.Disks.{Disks}
 use Rattle.lvm_num.specs.Status.{calls_stale, calls_dirty}
 use Rattle.lvm_disk.specs.Counts.{NoneFalls}
+use Rattle.lvm_vol.specs.Facts.{Fact}
 use Rattle.lvm_kept.specs.Moments.{Moment, StaysCalm}
 use Rattle.lvm_kept.specs.Plans.{Plan}
 use Rattle.lvm_kept.specs.Group.{IsOneOf}
-use Rattle.lvm_commit.specs.passed.Names.{StaysKept, SpanGoesOn}
+use Rattle.lvm_commit.specs.passed.Names.{Begins, StaysKept, SpanGoesOn}
 use Rattle.lvm_status.specs.Update.{Stored}
 use Rattle.lvm_write.specs.Written.{KeepsShelf}
 use Rattle.lvm_commit.specs.Committed.{IsAlike, AreOne, MayMark}
@@ -139,12 +140,12 @@ module _ (Wants : Stored → Stored → Type 0) (before after : ℕ) (old new : 
       ))
       w.settles.leaves.keeps
 
-  status_keeps : WantsMarks old.device old.core.descriptor w.first → (run : ℕ) (first : Moment) → IsHeldSince run first old → SpanGoesOn run first (moment_of old) (moment_of new)
-  status_keeps wants run first held span =
+  status_keeps : (run : ℕ) (first : Moment) → ((past : List Fact) → Begins run past first → WantsMarks old.device old.core.descriptor w.first) → IsHeldSince run first old → SpanGoesOn run first (moment_of old) (moment_of new)
+  status_keeps run first wants held span =
       settles_keep Held Plain old.core.descriptor plan w.first before after old new w.how answer w.settles begins settled_is sound sound.fitting.valid same
       (λ d. WantsMarks old.device old.core.descriptor w.first → SessionIsHeld old.device old.core.descriptor w.first old.core.homes → StaysKept old.device d)
       w.kept run first span
-      (λ past begins holds d its. its wants (held_first (held past begins)) (past ++ old.core.history.facts) holds.kept)
+      (λ past begins holds d its. its (wants past begins) (held_first (held past begins)) (past ++ old.core.history.facts) holds.kept)
 
   status_calm : StaysCalm (moment_of old) (moment_of new)
   status_calm = settles_calm Held Plain old.core.descriptor plan w.first before after old new w.how answer w.settles begins settled_is sound sound.fitting.valid same
@@ -162,14 +163,14 @@ module _ (Wants : Stored → Stored → Type 0) (before after : ℕ) (old new : 
   status_fails = fails_committed Held Plain old.core.descriptor plan w.first before after old new w.how answer w.settles begins settled_is sound sound.fitting.valid same
 
   pub leaves_by : (S F : Pp → Type 0) (D : ℕ → Type 0) (lets : State → State → ℕ → Moment → Type 0) → KeepsStatus NoDescriptor S F D old new
-      → ((run : ℕ) (first : Moment) → lets old new run first → WantsMarks old.device old.core.descriptor w.first)
+      → ((run : ℕ) (first : Moment) (past : List Fact) → Begins run past first → lets old new run first → WantsMarks old.device old.core.descriptor w.first)
       → Leaves (record { next = NoDescriptor; zeros = NoPartition; stale = S; fresh = F; marks = D; numbers = 1; lets = lets }) before after old new
   leaves_by S F D lets keeps wants = record {
     writes = keeps_wider (is_there old.core) (is_there old.core) (IsOfStatus old.core.status new.core.status) (IsOfCommand NoDescriptor NoPartition old new) old.device new.device (λ d off. off) (λ d s value is. inl is) status_writes;
     status = keeps;
     numbers = status_numbers;
     history = settles_history Held Plain old.core.descriptor plan w.first before after old new w.how answer w.settles begins settled_is sound sound.fitting.valid same;
-    spans = λ run first held let_be. status_keeps (wants run first let_be) run first held;
+    spans = λ run first held let_be. status_keeps run first (λ past begins. wants run first past begins let_be) held;
     finds = λ held id k is. finds_nothing NoDescriptor old new _ status_writes.media (status_finds held) held id k is;
     calm = status_calm;
     behind = status_behind;
@@ -219,7 +220,7 @@ module _ (stale fresh : List Pp) (before after : ℕ) (old new : State) (answer 
       (λ lv out. ap (λ (numbers : List ℕ). list_any (λ n. n == lv) numbers) w.wants.dirty)
 
   pub marks_leave : AreUnused old.core.descriptor (stale ++ fresh) → Leaves (marking stale fresh) before after old new
-  marks_leave unused = leaves_by (IsMarked stale fresh) before after old new answer w settled_is sound (Contains stale) (Contains fresh) NoVolume Always marks_kept (λ run first always. wants unused)
+  marks_leave unused = leaves_by (IsMarked stale fresh) before after old new answer w settled_is sound (Contains stale) (Contains fresh) NoVolume Always marks_kept (λ run first past begins always. wants unused)
 
 -- ---- marks of volumes
 
@@ -259,4 +260,4 @@ module _ (dirty clean : List ℕ) (before after : ℕ) (old new : State) (answer
       ∙ as_before (calls_dirty old.core.status.wanted lv))
 
   pub dirt_leaves : Leaves (dirtying dirty clean) before after old new
-  dirt_leaves = leaves_by (IsDirtied dirty clean) before after old new answer w settled_is sound NoPartition NoPartition (Contains (dirty ++ clean)) (λ old new run first. MayGoClean clean old) dirt_kept (λ run first may. wants_so may)
+  dirt_leaves = leaves_by (IsDirtied dirty clean) before after old new answer w settled_is sound NoPartition NoPartition (Contains (dirty ++ clean)) (λ old new run first. (past : List Fact) → Begins run past first → MayGoClean clean old) dirt_kept (λ run first past begins may. wants_so (may past begins))
