@@ -1,10 +1,10 @@
 -- What the rule of its first word answers is what a line is answered.
 use Rattle.std.proofs.Common.{◌≡◌, Bool, true, false, cond, Some, None, Result, Ok, Err, sym, ap, subst}
-use Rattle.lvm_operands.specs.declared.rest.Misfit.{Misfit}
-use Rattle.lvm_operands.specs.Bytes.{is_remark}
-use Rattle.lvm_operands.specs.Line.{WordAt, Left}
-use Rattle.lvm_operands.specs.Reading.{then_}
-use Rattle.lvm_operands.specs.Rests.{with_word}
+use Rattle.lvm_parse.specs.declared.rest.Misfit.{Misfit}
+use Rattle.lvm_parse.specs.Bytes.{is_remark}
+use Rattle.lvm_parse.specs.Line.{WordAt, Left}
+use Rattle.lvm_parse.specs.Reading.{then_}
+use Rattle.lvm_parse.specs.Rests.{with_word}
 use Rattle.lvm_parse.specs.declared.command.Command.{Command}
 use Rattle.lvm_parse.specs.declared.command.Command.TheVariants as command
 use Rattle.lvm_parse.specs.declared.command.ParseFault.{ParseFault}

@@ -4,14 +4,14 @@ use Rattle.std.specs.Prelude.{◌==◌, ◌+◌, ◌-◌, codes, bytes_eq}
 use Rattle.std.proofs.lemmas.Bool.{and_parts}
 use Rattle.std.proofs.lemmas.List.{append_assoc}
 use Rattle.std.proofs.lemmas.Slice.Eq.{bytes_eq-Decides}
-use Rattle.lvm_operands.specs.Words.{name_in, size_in, disk_in, word_in, partition_count_in, turns_in, copy_count_in}
-use Rattle.lvm_operands.specs.declared.rest.Misfit.{Misfit}
-use Rattle.lvm_operands.specs.Bytes.{is_remark, unreadable_at}
-use Rattle.lvm_operands.specs.Line.{WordAt, Left, finished, words_from, left_at}
-use Rattle.lvm_operands.specs.Reading.{Choice, NoOption, Alone, Valued, then_, or_misfit, misfit, operand, option, ends_of, ends, last, is_next, blocks, last_blocks, is_new, options_of, options, required, disks}
-use Rattle.lvm_operands.specs.declared.chosen.MkvgOptions.{MkvgOptions}
-use Rattle.lvm_operands.specs.Options.{mkvg_choice, no_mkvg_options, mklv_choice, no_mklv_options}
-use Rattle.lvm_operands.proofs.OptionsReadingLemmas.{mapped}
+use Rattle.lvm_parse.specs.Words.{name_in, size_in, disk_in, word_in, partition_count_in, turns_in, copy_count_in}
+use Rattle.lvm_parse.specs.declared.rest.Misfit.{Misfit}
+use Rattle.lvm_parse.specs.Bytes.{is_remark, unreadable_at}
+use Rattle.lvm_parse.specs.Line.{WordAt, Left, finished, words_from, left_at}
+use Rattle.lvm_parse.specs.Reading.{Choice, NoOption, Alone, Valued, then_, or_misfit, misfit, operand, option, ends_of, ends, last, is_next, blocks, last_blocks, is_new, options_of, options, required, disks}
+use Rattle.lvm_parse.specs.declared.chosen.MkvgOptions.{MkvgOptions}
+use Rattle.lvm_parse.specs.Options.{mkvg_choice, no_mkvg_options, mklv_choice, no_mklv_options}
+use Rattle.lvm_parse.proofs.OptionsReadingLemmas.{mapped}
 use Rattle.lvm_num.specs.Among.{IsOneOf}
 use Rattle.lvm_parse.specs.declared.command.Command.{Command}
 use Rattle.lvm_parse.specs.declared.command.Command.TheVariants as command

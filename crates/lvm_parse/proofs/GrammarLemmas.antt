@@ -8,13 +8,13 @@ use Rattle.lvm_num.specs.declared.descriptor.Mode.TheVariants as mode
 use Rattle.lvm_num.specs.declared.descriptor.Policy.TheVariants as policy
 use Rattle.lvm_parse.specs.declared.command.Command.{Command}
 use Rattle.lvm_parse.specs.declared.command.Command.TheVariants as command
-use Rattle.lvm_operands.specs.declared.rest.Misfit.{Misfit}
-use Rattle.lvm_operands.specs.Bytes.{is_plain, is_remark, too_long_or, unreadable_at}
-use Rattle.lvm_operands.specs.Line.{WordAt, Left, finished, words_from, left_at}
-use Rattle.lvm_operands.specs.Words.{number_in, count_in, partition_count_in, turns_in, copy_count_in, word_in, name_in, disk_in}
-use Rattle.lvm_operands.specs.declared.range.BlockRange.{BlockRange}
-use Rattle.lvm_operands.specs.Reading.{misfit, then_, or_misfit, column_of, next_column, operand_of, operand, option_of, option, ends_of, ends, last, is_next, blocks, last_blocks, Choice, NoOption, Alone, Valued, options_of, options, required, further_disk, one_or_more, disks_of, disks}
-use Rattle.lvm_operands.specs.Options.{mkvg_choice, no_mkvg_options, mklv_choice, no_mklv_options}
+use Rattle.lvm_parse.specs.declared.rest.Misfit.{Misfit}
+use Rattle.lvm_parse.specs.Bytes.{is_plain, is_remark, too_long_or, unreadable_at}
+use Rattle.lvm_parse.specs.Line.{WordAt, Left, finished, words_from, left_at}
+use Rattle.lvm_parse.specs.Words.{number_in, count_in, partition_count_in, turns_in, copy_count_in, word_in, name_in, disk_in}
+use Rattle.lvm_parse.specs.declared.range.BlockRange.{BlockRange}
+use Rattle.lvm_parse.specs.Reading.{misfit, then_, or_misfit, column_of, next_column, operand_of, operand, option_of, option, ends_of, ends, last, is_next, blocks, last_blocks, Choice, NoOption, Alone, Valued, options_of, options, required, further_disk, one_or_more, disks_of, disks}
+use Rattle.lvm_parse.specs.Options.{mkvg_choice, no_mkvg_options, mklv_choice, no_mklv_options}
 use Rattle.lvm_parse.specs.Grammar.{rd_disk, rd_volume, rd, wr_disk, wr_volume, wr, post, wait, step, fail, heal, lspv, cut_of, cut, mkvg, varyonvg, varyoffvg, lsvg, mklv, rmlv, mklvcopy, rmlvcopy, sync_group, syncvg, lslv, Row, rows, rule, line_of_words, readable, line_of}
 
 -- a column from 1 to this one

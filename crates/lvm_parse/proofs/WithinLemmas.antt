@@ -9,16 +9,16 @@ use Rattle.lvm_num.specs.Descriptor.{is_size}
 use Rattle.lvm_num.specs.Name.{is_name}
 use Rattle.lvm_num.specs.declared.descriptor.Mode.{Mode}
 use Rattle.lvm_num.specs.declared.descriptor.Mode.TheVariants.{Active, Off, Passive}
-use Rattle.lvm_operands.specs.Words.{only, number_in, number_within, count_in, size_in, name_in, disk_in, word_in, mode_in, partition_count_in, turns_in, copy_count_in, policy_in}
-use Rattle.lvm_operands.specs.declared.range.BlockRange.{BlockRange}
-use Rattle.lvm_operands.specs.declared.rest.Misfit.{Misfit}
-use Rattle.lvm_operands.specs.Bytes.{is_remark, unreadable_at}
-use Rattle.lvm_operands.specs.Line.{WordAt, Left, left_at}
-use Rattle.lvm_operands.specs.Reading.{then_, or_misfit, operand_of, operand, option, ends_of, ends, last, is_next, blocks, last_blocks, is_new, options, required, is_further, further_disk, disks_of, disks, next_column}
-use Rattle.lvm_operands.specs.declared.chosen.MkvgOptions.{MkvgOptions}
-use Rattle.lvm_operands.specs.declared.chosen.MklvOptions.{MklvOptions}
-use Rattle.lvm_operands.specs.Options.{mkvg_choice, no_mkvg_options, mklv_choice, no_mklv_options}
-use Rattle.lvm_operands.proofs.OptionsReadingLemmas.{mapped, Keeping, keeping_if, options_keep}
+use Rattle.lvm_parse.specs.Words.{only, number_in, number_within, count_in, size_in, name_in, disk_in, word_in, mode_in, partition_count_in, turns_in, copy_count_in, policy_in}
+use Rattle.lvm_parse.specs.declared.range.BlockRange.{BlockRange}
+use Rattle.lvm_parse.specs.declared.rest.Misfit.{Misfit}
+use Rattle.lvm_parse.specs.Bytes.{is_remark, unreadable_at}
+use Rattle.lvm_parse.specs.Line.{WordAt, Left, left_at}
+use Rattle.lvm_parse.specs.Reading.{then_, or_misfit, operand_of, operand, option, ends_of, ends, last, is_next, blocks, last_blocks, is_new, options, required, is_further, further_disk, disks_of, disks, next_column}
+use Rattle.lvm_parse.specs.declared.chosen.MkvgOptions.{MkvgOptions}
+use Rattle.lvm_parse.specs.declared.chosen.MklvOptions.{MklvOptions}
+use Rattle.lvm_parse.specs.Options.{mkvg_choice, no_mkvg_options, mklv_choice, no_mklv_options}
+use Rattle.lvm_parse.proofs.OptionsReadingLemmas.{mapped, Keeping, keeping_if, options_keep}
 use Rattle.lvm_parse.specs.declared.command.Command.{Command}
 use Rattle.lvm_parse.specs.declared.command.Command.TheVariants as command
 use Rattle.lvm_parse.specs.Grammar.{Row, rows, rule, rd_disk, rd_volume, rd, wr_disk, wr_volume, wr, post, wait, step, lspv, fail, heal, cut, cut_of, mkvg, varyonvg, varyoffvg, lsvg, mklv, rmlv, mklvcopy, rmlvcopy, sync_group, syncvg, lslv, line_of_words, readable, line_of}

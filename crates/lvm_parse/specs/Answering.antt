@@ -4,7 +4,7 @@ use Rattle.lvm_parse.specs.declared.command.Command.{Command}
 use Rattle.lvm_parse.specs.declared.command.Command.TheVariants as command
 use Rattle.lvm_parse.specs.declared.command.ParseFault.{ParseFault}
 use Rattle.lvm_parse.specs.declared.command.ParseFault.TheVariants as fault
-use Rattle.lvm_operands.specs.declared.rest.Misfit.{Misfit}
+use Rattle.lvm_parse.specs.declared.rest.Misfit.{Misfit}
 
 -- a `mkvg` that is in the language
 abbrev pub IsMkvg : Result Command Misfit → Type 0

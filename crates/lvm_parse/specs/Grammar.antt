@@ -4,14 +4,14 @@ use Rattle.lvm_num.specs.declared.descriptor.Mode.TheVariants as mode
 use Rattle.lvm_num.specs.declared.descriptor.Policy.TheVariants as policy
 use Rattle.lvm_parse.specs.declared.command.Command.{Command}
 use Rattle.lvm_parse.specs.declared.command.Command.TheVariants as command
-use Rattle.lvm_operands.specs.declared.rest.Misfit.{Misfit}
-use Rattle.lvm_operands.specs.declared.chosen.MkvgOptions.{MkvgOptions}
-use Rattle.lvm_operands.specs.declared.chosen.MklvOptions.{MklvOptions}
-use Rattle.lvm_operands.specs.Options.{mkvg_choice, no_mkvg_options, mklv_choice, no_mklv_options}
-use Rattle.lvm_operands.specs.Bytes.{is_remark, unreadable_at}
-use Rattle.lvm_operands.specs.Line.{WordAt, Left, left_at}
-use Rattle.lvm_operands.specs.Words.{partition_count_in, turns_in, copy_count_in, word_in, name_in, disk_in}
-use Rattle.lvm_operands.specs.Reading.{misfit, then_, next_column, operand, option, ends, last, is_next, blocks, last_blocks, options, required, disks}
+use Rattle.lvm_parse.specs.declared.rest.Misfit.{Misfit}
+use Rattle.lvm_parse.specs.declared.chosen.MkvgOptions.{MkvgOptions}
+use Rattle.lvm_parse.specs.declared.chosen.MklvOptions.{MklvOptions}
+use Rattle.lvm_parse.specs.Options.{mkvg_choice, no_mkvg_options, mklv_choice, no_mklv_options}
+use Rattle.lvm_parse.specs.Bytes.{is_remark, unreadable_at}
+use Rattle.lvm_parse.specs.Line.{WordAt, Left, left_at}
+use Rattle.lvm_parse.specs.Words.{partition_count_in, turns_in, copy_count_in, word_in, name_in, disk_in}
+use Rattle.lvm_parse.specs.Reading.{misfit, then_, next_column, operand, option, ends, last, is_next, blocks, last_blocks, options, required, disks}
 
 -- ---- requests
 

@@ -2,3 +2,9 @@ pub mod Answering
 pub mod Grammar
 pub mod Within
 pub mod Forced
+pub mod Line
+pub mod Reading
+pub mod Rests
+pub mod Words
+pub mod Bytes
+pub mod Options

@@ -3,7 +3,7 @@
 ghost use Rattle.std.specs.Prelude.{◌≡◌};
 
 use lvm_num::{Mode, Name, Policy, Rows};
-use lvm_operands::Misfit;
+use crate::rest::Misfit;
 
 /// What a line asks for. Blocks are of 512 bytes and counted from 0; a disk is its number, 0 to 127.
 #[derive(Drop, PartialEq, Eq)]

@@ -1,8 +1,8 @@
 //! A line as a whole.
 ghost use Rattle.std.specs.Prelude.{◌≡◌, ◌↔◌, ℕ, IfOk, Ok, Err};
-ghost use Rattle.lvm_operands.specs.Reading.{misfit};
+ghost use Rattle.lvm_parse.specs.Reading.{misfit};
 ghost use Rattle.lvm_parse.specs.Grammar.{rows_of_disks, rows_of_requests, rows_of_volumes, rows_of_groups, rows, rule, line_of_words, line_of};
-ghost use Rattle.lvm_operands.specs.Rests.{left};
+ghost use Rattle.lvm_parse.specs.Rests.{left};
 ghost use Rattle.lvm_parse.specs.Answering.{Answers, AnswersLine, IsMkvgLine};
 
 use crate::command::{Command, ParseFault};
@@ -10,7 +10,10 @@ use crate::rules::{
     cut, fail, heal, lslv, lspv, lsvg, mklv, mklvcopy, mkvg, post, rd, rmlv, rmlvcopy, step,
     syncvg, varyoffvg, varyonvg, wait, wr,
 };
-use lvm_operands::{Misfit, Rest, Word, is_remark, misfit, next_word, unreadable_at};
+use crate::operands::misfit;
+use crate::operands_line::{is_remark, unreadable_at};
+use crate::rest::{Misfit, Rest, Word};
+use crate::scan::next_word;
 use std::alloc::Global;
 
 // What a line asks for whose first word this is, where it is one of those of disks.

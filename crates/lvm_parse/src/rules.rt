@@ -1,16 +1,18 @@
 //! The lines of the language: each rule reads what follows the line's first word.
 ghost use Rattle.std.specs.Prelude.{◌≡◌};
 ghost use Rattle.lvm_parse.specs.Grammar.{rd_disk, rd_volume, rd, wr_disk, wr_volume, wr, post, wait, step, fail, heal, lspv, cut, new_group, mkvg, varyonvg, varyoffvg, lsvg, new_volume, mklv, rmlv, mklvcopy, rmlvcopy, sync_group, syncvg, lslv};
-ghost use Rattle.lvm_operands.specs.Rests.{left};
+ghost use Rattle.lvm_parse.specs.Rests.{left};
 ghost use Rattle.lvm_parse.specs.Answering.{Answers};
 
 use crate::command::{Command, ParseFault};
 use lvm_num::{Mode, Policy, Rows};
-use lvm_operands::{
-    Misfit, MklvOptions, MkvgOptions, Rest, blocks, disk, disks, ends, is_disk_next, last_blocks,
-    last_copies, last_disk, last_name, last_partitions, last_pattern, last_turns, misfit,
-    mklv_options, mkvg_options, name, next_column, next_word, option,
-};
+use crate::chosen::{MklvOptions, MkvgOptions};
+use crate::disk_list::disks;
+use crate::operands::{disk, ends, is_disk_next, last_copies, last_disk, last_name, last_partitions, last_pattern, last_turns, misfit, name, next_column, option};
+use crate::options::{mklv_options, mkvg_options};
+use crate::range::{blocks, last_blocks};
+use crate::rest::{Misfit, Rest};
+use crate::scan::next_word;
 use std::alloc::Global;
 
 // `rd DISK BLOCK COUNT`

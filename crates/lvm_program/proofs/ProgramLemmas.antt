@@ -17,7 +17,7 @@ use Rattle.lvm_top.proofs.RunLemmas.Stopping.{nothing_promised}
 use Rattle.lvm_words.specs.declared.job.Job.{Job}
 use Rattle.lvm_words.specs.declared.job.Job.TheVariants.{Script, Sim, Gen, Weave, Load, Image, Help, Version}
 use Rattle.lvm_words.specs.Words.{asked_of, bounded, gen_of, image_of, is_load, job_of, load_of, sim_of, told_of, told_or, weave_by, weave_of, with_five, with_two, work_of}
-use Rattle.lvm_operands.specs.Words.{number_in}
+use Rattle.lvm_parse.specs.Words.{number_in}
 use Rattle.lvm_words.specs.declared.fault.WordsFault.{WordsFault}
 use Rattle.lvm_words.specs.declared.fault.WordsFault.TheVariants.{Usage}
 

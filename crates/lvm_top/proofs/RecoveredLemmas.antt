@@ -8,7 +8,7 @@ use Rattle.lvm_disk.specs.Device.{Device, Media, image_of}
 use Rattle.lvm_vol.specs.Log.{Log}
 use Rattle.lvm_parse.specs.declared.command.Command.{Command}
 use Rattle.lvm_parse.specs.declared.command.Command.TheVariants as command
-use Rattle.lvm_operands.specs.declared.rest.Misfit.{Misfit}
+use Rattle.lvm_parse.specs.declared.rest.Misfit.{Misfit}
 use Rattle.lvm_parse.specs.Grammar.{line_of}
 use Rattle.lvm_parse.proofs.WithinLemmas.{line_is_within}
 use Rattle.lvm_kept.specs.Group.{IsOneOf}

@@ -10,7 +10,7 @@ use Rattle.clap.specs.ValueTests.{accepts}
 use Rattle.clap.specs.Words.{Text}
 use Rattle.clap.specs.declared.builder.value_parser.ValueParser.TheVariants as parser
 use Rattle.clap.proofs.ValueTestLemmas.{accepts-Accepts, Accepts-accepts}
-use Rattle.lvm_operands.specs.Words.{number_in, decimal_from, is_digit}
+use Rattle.lvm_parse.specs.Words.{number_in, decimal_from, is_digit}
 use Rattle.lvm_words.specs.CommandLine.{is_plain, is_signed}
 use Rattle.lvm_words.specs.Matched.{unsigned_in}
 pub use Rattle.std.proofs.lemmas.Bool.{and_parts as both_true}

@@ -12,7 +12,7 @@ use Rattle.clap.specs.declared.builder.value_parser.ValueParser.{ValueParser}
 use Rattle.clap.specs.declared.builder.value_parser.ValueParser.TheVariants as parser
 use Rattle.clap.specs.declared.error.kind.ErrorKind.TheVariants as kind
 use Rattle.clap.proofs.OnLiterals.{clap_on_literals}
-use Rattle.lvm_operands.specs.Words.{number_in}
+use Rattle.lvm_parse.specs.Words.{number_in}
 use Rattle.lvm_words.specs.CommandLine.{is_plain, is_signed, lvm_app, script_app, weave_app}
 use Rattle.lvm_words.specs.Matched.{job_matched, unsigned_in, with_all, with_both}
 use Rattle.lvm_words.specs.Words.{IsWithin, bounded, gen_of, image_of, work_of, sim_of, weave_by, weave_of, with_five, with_two}

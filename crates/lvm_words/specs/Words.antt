@@ -1,6 +1,6 @@
 -- The language of the command line.
 use Rattle.std.specs.Prelude.{ℕ, ◌≤◌, nat_le, ◌&&◌, if◌then◌else◌, Bool, true, false, List, [], ◌∷◌, Option, Some, None, Result, Ok, Err, codes, bytes_eq, ok_or}
-use Rattle.lvm_operands.specs.Words.{name_in, number_in}
+use Rattle.lvm_parse.specs.Words.{name_in, number_in}
 use Rattle.lvm_words.specs.declared.job.Job.{Job}
 use Rattle.lvm_words.specs.declared.job.Job.TheVariants.{Script, Sim, Gen, Weave, Load, Image, Help, Version}
 use Rattle.lvm_words.specs.declared.fault.WordsFault.{WordsFault}

@@ -1,12 +1,12 @@
 //! The words of a load, which may have options.
 ghost use Rattle.std.specs.Prelude.{◌≡◌, ◌≤◌, ◌^◌, ◌<◌, IfSome};
 ghost use Rattle.std.specs.Str.{bytes_eq};
-ghost use Rattle.lvm_operands.specs.Words.{number_in};
+ghost use Rattle.lvm_parse.specs.Words.{number_in};
 ghost use Rattle.lvm_words.specs.Words.{IsWithin, bounded, load_among, load_by, load_of, load_with_both};
 
 use crate::job::Job;
 use lvm_num::Text;
-use lvm_operands::{name_of, number_of};
+use lvm_parse::{name_of, number_of};
 
 const OWN: &str = "--own";
 

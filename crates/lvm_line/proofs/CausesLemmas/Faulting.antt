@@ -9,7 +9,7 @@ use Rattle.lvm_num.specs.Votes.{total_votes, is_enough_to_write}
 use Rattle.lvm_disk.specs.Counts.{Rose, RoseBy, Counts}
 use Rattle.lvm_disk.specs.Device.{Device}
 use Rattle.lvm_parse.specs.declared.command.Command.{Command}
-use Rattle.lvm_operands.specs.declared.rest.Misfit.{Misfit}
+use Rattle.lvm_parse.specs.declared.rest.Misfit.{Misfit}
 use Rattle.lvm_status.specs.Update.{Stored}
 use Rattle.lvm_commit.specs.Settling.{HasLostQuorum, there}
 use Rattle.lvm_session.specs.State.{Core, State}

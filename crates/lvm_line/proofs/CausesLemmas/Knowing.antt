@@ -2,7 +2,7 @@
 use Rattle.std.proofs.Common.{◌≡◌, ℕ, Option, Some, None, Result, Ok, subst}
 use Rattle.lvm_parse.specs.declared.command.Command.{Command}
 use Rattle.lvm_parse.specs.declared.command.Command.TheVariants as command
-use Rattle.lvm_operands.specs.declared.rest.Misfit.{Misfit}
+use Rattle.lvm_parse.specs.declared.rest.Misfit.{Misfit}
 use Rattle.lvm_line.specs.Causes.{CauseOf, HasCause}
 use Rattle.lvm_volume_lines.specs.passed.GroupLines.{ScriptState, Refusal}
 use Rattle.lvm_volume_lines.specs.passed.RefusalVariants as refusal

@@ -3,7 +3,7 @@ use Rattle.std.proofs.Common.{ℕ, List, Option, Some, None, Result, Ok, inl, in
 use Rattle.std.specs.Prelude.{IfSome}
 use Rattle.lvm_parse.specs.declared.command.Command.{Command}
 use Rattle.lvm_parse.specs.declared.command.Command.TheVariants as command
-use Rattle.lvm_operands.specs.declared.rest.Misfit.{Misfit}
+use Rattle.lvm_parse.specs.declared.rest.Misfit.{Misfit}
 use Rattle.lvm_session.specs.State.{Core, state}
 use Rattle.lvm_volume_lines.specs.passed.Resync.{AnyFails}
 use Rattle.lvm_volume_lines.specs.passed.GroupLines.{Refusal, ScriptState}

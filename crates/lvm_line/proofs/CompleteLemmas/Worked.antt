@@ -5,7 +5,7 @@ use Rattle.lvm_disk.specs.Counts.{Counts, RoseBy}
 use Rattle.lvm_disk.specs.Device.{Device}
 use Rattle.lvm_core.specs.declared.parts.Room.{Room}
 use Rattle.lvm_vol.specs.Log.{Log}
-use Rattle.lvm_operands.specs.Reading.{ends, operand}
+use Rattle.lvm_parse.specs.Reading.{ends, operand}
 use Rattle.lvm_parse.specs.Grammar.{line_of}
 use Rattle.lvm_volume_lines.specs.passed.RangeLines.{NoStepWhileOff}
 use Rattle.lvm_volume_lines.specs.passed.RangeLinesWaiting.{NoGone, TellsAll, WhileOff}

@@ -2,7 +2,7 @@
 use Rattle.std.proofs.Common.{◌≡◌, ℕ, Bool, List, Option, Some, Result, Ok, refl}
 use Rattle.lvm_parse.specs.declared.command.Command.{Command}
 use Rattle.lvm_parse.specs.declared.command.Command.TheVariants as command
-use Rattle.lvm_operands.specs.declared.rest.Misfit.{Misfit}
+use Rattle.lvm_parse.specs.declared.rest.Misfit.{Misfit}
 use Rattle.lvm_parse.specs.Answering.{IsMkvgLine}
 use Rattle.lvm_line.specs.Lines.{IsLeftToDo}
 

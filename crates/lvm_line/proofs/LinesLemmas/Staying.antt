@@ -4,7 +4,7 @@ use Rattle.lvm_disk.specs.Device.{Device, HasSectors}
 use Rattle.lvm_vol.specs.Log.{Log}
 use Rattle.lvm_core.specs.declared.parts.Room.{Room}
 use Rattle.lvm_parse.specs.declared.command.Command.{Command}
-use Rattle.lvm_operands.specs.declared.rest.Misfit.{Misfit}
+use Rattle.lvm_parse.specs.declared.rest.Misfit.{Misfit}
 use Rattle.lvm_parse.specs.Grammar.{line_of}
 use Rattle.lvm_volume_lines.specs.passed.GroupLines.{CommandEnds, IsBetweenStage, IsFittingStage, IsLeftBy, IsStuck, Reply, Stage, history_in, is_unheard, most_refusals, shelf_in, state_in, without_facts}
 use Rattle.lvm_volume_lines.proofs.passed.GroupLines.{left_still}

@@ -15,10 +15,10 @@ use Rattle.lvm_vol.specs.Log.{Log}
 use Rattle.lvm_parse.specs.declared.command.Command.{Command}
 use Rattle.lvm_parse.specs.declared.command.Command.TheVariants as command
 use Rattle.lvm_parse.specs.Grammar.{line_of, readable, rows, rule}
-use Rattle.lvm_operands.specs.declared.rest.Misfit.{Misfit}
-use Rattle.lvm_operands.specs.Bytes.{is_plain, too_long_or, unreadable_at}
-use Rattle.lvm_operands.specs.Line.{Left, WordAt, finished, left_at, words_from}
-use Rattle.lvm_operands.specs.Reading.{ends, operand, option, then_}
+use Rattle.lvm_parse.specs.declared.rest.Misfit.{Misfit}
+use Rattle.lvm_parse.specs.Bytes.{is_plain, too_long_or, unreadable_at}
+use Rattle.lvm_parse.specs.Line.{Left, WordAt, finished, left_at, words_from}
+use Rattle.lvm_parse.specs.Reading.{ends, operand, option, then_}
 use Rattle.lvm_core.specs.declared.parts.Room.{Room}
 use Rattle.lvm_core.specs.declared.refused.Cause.{Cause}
 use Rattle.lvm_session.specs.State.{Core}

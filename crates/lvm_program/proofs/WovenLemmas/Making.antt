@@ -8,8 +8,8 @@ use Rattle.lvm_num.specs.declared.descriptor.Mode.TheVariants as mode
 use Rattle.lvm_num.specs.declared.descriptor.Policy.TheVariants as policy
 use Rattle.lvm_parse.specs.declared.command.Command.{Command}
 use Rattle.lvm_parse.specs.declared.command.Command.TheVariants as command
-use Rattle.lvm_operands.specs.declared.rest.Misfit.{Misfit}
-use Rattle.lvm_operands.specs.Reading.{operand, ends, options, is_new, disks}
+use Rattle.lvm_parse.specs.declared.rest.Misfit.{Misfit}
+use Rattle.lvm_parse.specs.Reading.{operand, ends, options, is_new, disks}
 use Rattle.lvm_parse.specs.Grammar.{line_of}
 use Rattle.lvm_top.specs.OneGroup.{IsUnforced}
 use Rattle.lvm_program.specs.Woven.{IsSized, copy_count, mklv_line, mkvg_line}

@@ -18,7 +18,7 @@ use Rattle.lvm_steps.proofs.MomentsLemmas.Spans.{keeps_still, span_upholds}
 use Rattle.lvm_steps.specs.Behind.{IsAhead, IsBehind}
 use Rattle.lvm_parse.specs.Grammar.{line_of}
 use Rattle.lvm_parse.specs.declared.command.Command.{Command}
-use Rattle.lvm_operands.specs.declared.rest.Misfit.{Misfit}
+use Rattle.lvm_parse.specs.declared.rest.Misfit.{Misfit}
 use Rattle.lvm_core.specs.declared.parts.Room.{Room}
 use Rattle.lvm_posts.specs.declared.posts.Post.{Post}
 use Rattle.lvm_session.specs.declared.open.Power.TheVariants as power

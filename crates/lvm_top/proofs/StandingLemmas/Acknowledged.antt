@@ -8,7 +8,7 @@ use Rattle.lvm_vol.specs.Facts.{Fact}
 use Rattle.lvm_vol.specs.Log.{Log}
 use Rattle.lvm_parse.specs.declared.command.Command.{Command}
 use Rattle.lvm_parse.specs.declared.command.Command.TheVariants as command
-use Rattle.lvm_operands.specs.declared.rest.Misfit.{Misfit}
+use Rattle.lvm_parse.specs.declared.rest.Misfit.{Misfit}
 use Rattle.lvm_kept.specs.Contents.{contents_of}
 use Rattle.lvm_kept.proofs.CommittedLemmas.Finding.{images_within}
 use Rattle.lvm_steps.specs.Moments.{ImagesKept}

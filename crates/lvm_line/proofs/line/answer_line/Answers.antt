@@ -1,9 +1,9 @@
 use Rattle.std.proofs.Common.{◌∙◌, arith, ap, subst, sym, refl, None, Some, Ok, Option, Result}
 use Rattle.lvm_parse.specs.declared.command.Command.{Command}
-use Rattle.lvm_operands.specs.declared.rest.Misfit.{Misfit}
+use Rattle.lvm_parse.specs.declared.rest.Misfit.{Misfit}
 use Rattle.lvm_parse.specs.Grammar.{line_of}
 use Rattle.lvm_parse.proofs.WithinLemmas.{line_is_within}
-use Rattle.lvm_operands.specs.Reading.{misfit}
+use Rattle.lvm_parse.specs.Reading.{misfit}
 use Rattle.lvm_volume_lines.specs.passed.GroupLines.{Reply, shelf_in}
 use Rattle.lvm_volume_lines.specs.passed.ReplyVariants as reply
 use Rattle.lvm_line.specs.Lines.{CommandInPlace, IsLeftToDo}

@@ -1,6 +1,6 @@
 use Rattle.std.proofs.Common.{◌≡◌, ◌≤◌, ◌∙◌, ap, refl, sym, subst, arith, None, Some, Ok, Option}
 use Rattle.lvm_parse.specs.declared.command.Command.{Command}
-use Rattle.lvm_operands.specs.Reading.{misfit}
+use Rattle.lvm_parse.specs.Reading.{misfit}
 use Rattle.lvm_volume_lines.specs.passed.GroupLines.{most_refusals, shelf_in, history_in, state_in, without_facts, Reply, Stage}
 use Rattle.lvm_volume_lines.specs.passed.RefusalVariants as refusal
 use Rattle.lvm_volume_lines.specs.passed.ReplyVariants as reply

@@ -1,5 +1,5 @@
 use Rattle.std.proofs.Common.{sym}
-use Rattle.lvm_operands.specs.Rests.{left, word_at}
+use Rattle.lvm_parse.specs.Rests.{left, word_at}
 use Rattle.lvm_parse.proofs.AnsweringLemmas.{line_is_refused}
 use Rattle.lvm_parse.proofs.line.words.Goals as goal
 

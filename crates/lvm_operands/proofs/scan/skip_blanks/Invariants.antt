@@ -1,6 +1,0 @@
-use Rattle.std.proofs.Common.{◌≡◌, [], ◌+◌, drop}
-use Rattle.lvm_operands.specs.Line.{words_from}
-use Rattle.lvm_operands.proofs.scan.skip_blanks.Given as goal
-
-abbrev pub invariant-loop-i : goal.invariant-loop-i
-invariant-loop-i l = words_from (l.rest.column + l.i) [] (drop l.i l.rest.bytes.now) ≡ words_from l.rest.column [] l.rest.bytes.now

@@ -1,0 +1,6 @@
+use Rattle.std.proofs.Common.{◌≡◌, [], ◌+◌, drop}
+use Rattle.lvm_parse.specs.Line.{words_from}
+use Rattle.lvm_parse.proofs.scan.skip_blanks.Given as goal
+
+abbrev pub invariant-loop-i : goal.invariant-loop-i
+invariant-loop-i l = words_from (l.rest.column + l.i) [] (drop l.i l.rest.bytes.now) ≡ words_from l.rest.column [] l.rest.bytes.now
