@@ -6,8 +6,8 @@ use Rattle.lvm_num.specs.declared.place.Pp.{Pp}
 use Rattle.lvm_num.specs.declared.status.Status.{Status}
 use Rattle.lvm_num.specs.Descriptor.{is_member, is_pp}
 use Rattle.lvm_num.specs.Status.{calls_stale, calls_missing}
-use Rattle.lvm_stale.specs.Table.{SameMissing}
-use Rattle.lvm_stale.proofs.MarkingLemmas.{any_disk}
+use Rattle.lvm_status.specs.Table.{SameMissing}
+use Rattle.lvm_status.proofs.MarkingLemmas.{any_disk}
 use Rattle.lvm_status.specs.declared.change.Change.TheVariants as change
 use Rattle.lvm_status.specs.Update.{Updates, Stored, seen, is_held, is_owed}
 use Rattle.lvm_status.specs.Calls.{IsMarkable, with_wanted}

@@ -13,7 +13,7 @@ use Rattle.lvm_num.specs.Name.{padded}
 use Rattle.lvm_num.specs.Record.{longest_content}
 use Rattle.lvm_num.proofs.NameLemmas.{length-name, length-padded}
 use Rattle.lvm_num.proofs.DescriptorLemmas.Bounds.{few_members, few_volumes}
-use Rattle.lvm_stale.proofs.DescriptorLemmas.{few_partitions}
+use Rattle.lvm_status.proofs.DescriptorLemmas.{few_partitions}
 
 -- ---- a descriptor
 

@@ -22,14 +22,14 @@ use Rattle.lvm_num.specs.Votes.{CanWrite}
 use Rattle.lvm_num.proofs.MarksLemmas.Maps.{find-Some}
 use Rattle.lvm_disk.specs.Device.{Device, image_of}
 use Rattle.lvm_kept.specs.Group.{IsOneOf}
-use Rattle.lvm_stale.specs.Table.{has_row}
+use Rattle.lvm_status.specs.Table.{has_row}
 use Rattle.lvm_status.specs.Calls.{IsMarkable}
 use Rattle.lvm_status.specs.Update.{Stored, members_there}
 use Rattle.lvm_rec.specs.declared.homes.Homes.{Homes}
 use Rattle.lvm_write.specs.Written.{HasRoom}
 use Rattle.lvm_commit.specs.Committed.{AreOne, MayMark, HoldsCommitted}
 use Rattle.lvm_kept.specs.Contents.{Contents}
-use Rattle.lvm_stale.specs.Marking.{is_served}
+use Rattle.lvm_status.specs.Marking.{is_served}
 use Rattle.lvm_commit.specs.LawsOfData.{IsFree}
 use Rattle.lvm_commit.specs.Settling.{NoneIsLeft, there, IsOf, MayCommit, MaySettle, SessionIsHeld}
 use Rattle.lvm_session.specs.Sound.{is_dark}

@@ -6,7 +6,7 @@ use Rattle.lvm_num.specs.declared.descriptor.Descriptor.{Descriptor}
 use Rattle.lvm_num.specs.Descriptor.{IsValid}
 use Rattle.lvm_num.specs.DescriptorBytes.{descriptor_bytes}
 use Rattle.lvm_kept.specs.Plans.{Plan}
-use Rattle.lvm_stale.specs.Table.{SameMissing, SameStale}
+use Rattle.lvm_status.specs.Table.{SameMissing, SameStale}
 use Rattle.lvm_status.specs.Update.{Stored}
 use Rattle.lvm_commit.specs.declared.commit.CommitEnd.{CommitEnd}
 use Rattle.lvm_commit.specs.declared.commit.CommitEnd.TheVariants as commit_end

@@ -39,7 +39,7 @@ use lvm_num::{Descriptor, Memory, Name, Pp, Stamp};
 use lvm_rec::Homes;
 use lvm_session::{Power, Session, arranged};
 use lvm_session_start::below::History;
-use lvm_stale::StaleTable;
+use lvm_status::StaleTable;
 use lvm_vol::Entry;
 use std::alloc::Global;
 use std::marker::Model;

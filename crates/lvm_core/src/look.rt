@@ -6,7 +6,7 @@ ghost use Rattle.lvm_session.specs.Placed.{IsPlaced, AreAllPlaced};
 use lvm_disk::Shelf;
 use lvm_num::{Descriptor, Name, PvRow};
 use lvm_quorum::sectors_needed;
-use lvm_stale::StaleTable;
+use lvm_status::StaleTable;
 
 /// The number of the volume of a name.
 pub fn number_of(group: &Descriptor, name: Name) -> Option<u16>

@@ -37,7 +37,7 @@ use lvm_session::{AskFault, CopyFault, CopyState, Open, Power, Session, Taken, T
 use lvm_session_start::{Parts, begin_session};
 use lvm_session_turn::below::Due;
 use lvm_session_turn::{arrange, turn};
-use lvm_stale::StaleTable;
+use lvm_status::StaleTable;
 use lvm_work_left::left;
 use std::marker::Model;
 

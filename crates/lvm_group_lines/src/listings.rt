@@ -12,7 +12,7 @@ use lvm_core::number_of;
 use lvm_disk::Shelf;
 use lvm_num::{Descriptor, Memory, Name, Text, has_member};
 use lvm_show::{show_disk, show_group, show_map, show_volumes};
-use lvm_stale::StaleTable;
+use lvm_status::StaleTable;
 use std::alloc::Global;
 
 // The lines of a text, if there was memory for it.

@@ -10,7 +10,7 @@ use Rattle.lvm_num.specs.Status.{calls_stale, calls_missing}
 use Rattle.lvm_disk.specs.Counts.{NoneFalls, Rose}
 use Rattle.lvm_vol.specs.Order.{Ordered}
 use Rattle.lvm_kept.specs.Group.{IsAlike, IsOneOf}
-use Rattle.lvm_stale.specs.Table.{SameMissing, SameStale, has_row}
+use Rattle.lvm_status.specs.Table.{SameMissing, SameStale, has_row}
 use Rattle.lvm_commit.specs.Settling.{NoneIsLeft}
 use Rattle.lvm_session.specs.State.{Core, State, state}
 use Rattle.lvm_session.specs.Judging.{copies_in, is_missing, is_wanted_stale}

@@ -11,7 +11,7 @@ ghost use Rattle.lvm_handover.specs.Serving.{IsServed, MarksAdded, MarksMissing,
 use crate::below::{Driver as CoreDriver, driver};
 use lvm_disk::Shelf;
 use lvm_num::{Descriptor, Pp};
-use lvm_stale::StaleTable;
+use lvm_status::StaleTable;
 
 /// A session whose turns have nothing left to make, and of which neither a request nor a copy is open, takes commands on
 /// its group.

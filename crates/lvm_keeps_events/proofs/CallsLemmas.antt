@@ -12,7 +12,7 @@ use Rattle.lvm_num.specs.Descriptor.{is_member}
 use Rattle.lvm_num.specs.Disks.{has}
 use Rattle.lvm_num.specs.Status.{calls_missing, calls_stale}
 use Rattle.lvm_num.proofs.Booleans.{not_so}
-use Rattle.lvm_stale.specs.Table.{has_row}
+use Rattle.lvm_status.specs.Table.{has_row}
 use Rattle.lvm_status.specs.Calls.{BecomesMissing, closed}
 use Rattle.lvm_status.specs.Runs.{IsSoundStatus}
 use Rattle.lvm_status.specs.Update.{Stored, Updates, is_held, is_owed, no_disks, seen}

@@ -6,7 +6,7 @@ ghost use Rattle.lvm_recovery.specs.Clean.{lacks_usable, is_left, is_still_dirty
 
 use crate::dirty::{first_usable, pps_at};
 use lvm_num::{Descriptor, DiskSet, LvRow, Memory, Mode, VolumeNumbers};
-use lvm_stale::StaleTable;
+use lvm_status::StaleTable;
 use std::alloc::Global;
 
 /// Of these numbers those of volumes in mode passive that have a logical partition without a usable copy.

@@ -15,7 +15,7 @@ use crate::copying::{Recopy, copy_all};
 use crate::plan::{is_usable, place_on};
 use lvm_disk::Shelf;
 use lvm_num::{Descriptor, DiskSet, LvRow, Mode, Pbuf, Place, Pp};
-use lvm_stale::StaleTable;
+use lvm_status::StaleTable;
 use lvm_transfer::Patience;
 use lvm_write::Begun;
 

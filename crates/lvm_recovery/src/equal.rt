@@ -16,7 +16,7 @@ use crate::dirty::copy_dirty;
 use lvm_disk::Shelf;
 use lvm_num::{Descriptor, DiskSet, Kind, Pbuf, Rows, Stamp};
 use lvm_rec::Homes;
-use lvm_stale::StaleTable;
+use lvm_status::StaleTable;
 use lvm_transfer::Patience;
 use lvm_write::{Begun, forget_notes, put_record};
 

@@ -12,7 +12,7 @@ ghost use Rattle.lvm_map.specs.Places.{place_on};
 use crate::copying::Recopy;
 use lvm_num::{Descriptor, DiskSet, LvRow, Memory, Mode, NoteEntry, Place, Pp};
 use lvm_quorum::Survey;
-use lvm_stale::StaleTable;
+use lvm_status::StaleTable;
 use std::alloc::Global;
 
 /// A track group of a volume.

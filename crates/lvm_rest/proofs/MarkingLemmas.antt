@@ -11,7 +11,7 @@ use Rattle.lvm_num.proofs.Booleans.{clash_gives}
 use Rattle.lvm_num.proofs.AmongLemmas.{any_one as some_one, one_any}
 use Rattle.lvm_kept.specs.Group.{IsOneOf}
 use Rattle.lvm_crash.proofs.GroupLemmas.Lists.{left_of, right_of, both_of, not_so}
-use Rattle.lvm_stale.specs.Marking.{IsLeftIn}
+use Rattle.lvm_status.specs.Marking.{IsLeftIn}
 use Rattle.lvm_commit.specs.Settling.{there as not_missing}
 use Rattle.lvm_commit.proofs.AmongLemmas.{one_place}
 use Rattle.lvm_rest.proofs.Rows.{none_passing}

@@ -6,7 +6,7 @@ use Rattle.lvm_num.specs.Disks.{Disks}
 use Rattle.lvm_num.specs.Descriptor.{IsValid}
 use Rattle.lvm_num.specs.Record.{Stamped}
 use Rattle.lvm_kept.specs.Contents.{Contents}
-use Rattle.lvm_stale.specs.Marking.{Marks, IsLeftIn}
+use Rattle.lvm_status.specs.Marking.{Marks, IsLeftIn}
 use Rattle.lvm_status.specs.Update.{Stored}
 use Rattle.lvm_commit.specs.Committed.{MayMark}
 use Rattle.lvm_commit.specs.Settling.{there as not_missing, NoneIsLeft}

@@ -11,8 +11,8 @@ use Rattle.lvm_num.specs.declared.descriptor.Descriptor.{Descriptor}
 use Rattle.lvm_num.specs.declared.place.Pp.{Pp}
 use Rattle.lvm_num.specs.declared.status.Status.{Status}
 use Rattle.lvm_num.specs.Descriptor.{IsPartitionOf, IsValid, is_size, volume_of, is_pp}
-use Rattle.lvm_stale.proofs.MarkingLemmas.{has_row-same}
-use Rattle.lvm_stale.specs.Table.{SameMembers}
+use Rattle.lvm_status.proofs.MarkingLemmas.{has_row-same}
+use Rattle.lvm_status.specs.Table.{SameMembers}
 use Rattle.lvm_status.specs.declared.change.Change.TheVariants as change
 use Rattle.lvm_status.specs.Calls.{IsMarkable}
 use Rattle.lvm_status.specs.Members.{HasItsRows}

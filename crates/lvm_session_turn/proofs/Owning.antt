@@ -6,8 +6,8 @@ use Rattle.lvm_num.specs.declared.descriptor.Descriptor.{Descriptor}
 use Rattle.lvm_num.specs.declared.status.Status.{Status}
 use Rattle.lvm_num.specs.Descriptor.{is_member}
 use Rattle.lvm_num.specs.Disks.{has}
-use Rattle.lvm_stale.proofs.MarkingLemmas.{has_row-same}
-use Rattle.lvm_stale.specs.Table.{SameMembers, has_row}
+use Rattle.lvm_status.proofs.MarkingLemmas.{has_row-same}
+use Rattle.lvm_status.specs.Table.{SameMembers, has_row}
 use Rattle.lvm_mwc.specs.declared.notes.DiskNotes.{DiskNotes}
 use Rattle.lvm_mwc.specs.Cache.{flight_on, notes_on}
 use Rattle.lvm_status.specs.declared.change.Change.TheVariants as change

@@ -9,7 +9,7 @@ use Rattle.lvm_num.specs.declared.place.Pp.{Pp}
 use Rattle.lvm_num.specs.declared.descriptor.LvRow.{LvRow}
 use Rattle.lvm_num.specs.declared.descriptor.Descriptor.{Descriptor}
 use Rattle.lvm_num.specs.Descriptor.{IsValid, partitions_in}
-use Rattle.lvm_stale.proofs.DescriptorLemmas.{few_partitions}
+use Rattle.lvm_status.proofs.DescriptorLemmas.{few_partitions}
 
 -- the partitions of one volume more
 pub partitions-more : (rows : List LvRow) (i : ℕ) (d : LvRow) → i < length rows

@@ -7,7 +7,7 @@ ghost use Rattle.lvm_map.specs.FirstFit.{has_partition_on};
 ghost use Rattle.lvm_show.specs.Counts.{all_partitions, free_on, all_free, all_stale, stale_on, stale_in, missing_members, carriers, quorum_votes};
 
 use lvm_num::{Descriptor, LvRow, Pp, PvRow, has_partition_on};
-use lvm_stale::StaleTable;
+use lvm_status::StaleTable;
 
 /// The partitions of all members.
 pub fn all_partitions(d: &Descriptor) -> u64

@@ -9,7 +9,7 @@ use crate::counts::{
 };
 use crate::words::{push_counted, text_of};
 use lvm_num::{Descriptor, LvRow, Memory, Text};
-use lvm_stale::StaleTable;
+use lvm_status::StaleTable;
 use std::alloc::{AllocError, Global};
 
 /// `lsvg`: the name of the group, the size of a partition in MiB, and how many there are of each: its

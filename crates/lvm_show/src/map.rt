@@ -7,7 +7,7 @@ ghost use Rattle.lvm_show.specs.Listings.{copy_text, partition_line, map_text, v
 
 use crate::words::FourDigits;
 use lvm_num::{Descriptor, LvRow, Memory, Pp, Text, copies_of, volume_among};
-use lvm_stale::StaleTable;
+use lvm_status::StaleTable;
 use std::alloc::{AllocError, Global};
 
 /// `lslv -m`: for each logical partition of a volume its number and, for each of its copies, the

@@ -10,7 +10,7 @@ ghost use Rattle.lvm_show.specs.Listings.{state_text, member_state, member_count
 use crate::counts::{free_on, stale_on};
 use crate::words::text_of;
 use lvm_num::{Descriptor, Memory, PvRow, Text};
-use lvm_stale::StaleTable;
+use lvm_status::StaleTable;
 use std::alloc::{AllocError, Global};
 
 /// `lspv`: a member's disk, the name of the group, whether it is missing, its partitions, those that no

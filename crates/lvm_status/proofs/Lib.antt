@@ -4,3 +4,7 @@ pub mod MembersLemmas
 pub mod Same
 pub mod RunsLemmas
 pub mod Differing
+pub mod RowsLemmas
+pub mod DescriptorLemmas
+pub mod MarkingLemmas
+pub mod RerowedLemmas

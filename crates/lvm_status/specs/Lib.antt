@@ -4,3 +4,7 @@ pub mod Members
 pub mod Progress
 pub mod Runs
 pub mod Update
+pub mod Rows
+pub mod Table
+pub mod Rerowed
+pub mod Marking

@@ -1,3 +1,4 @@
 //! What is passed on from the crates below.
 
-pub use lvm_stale::StaleTable;
+pub use crate::table::StaleTable;
+pub use lvm_num::{Descriptor, DiskSet, LvRow, Memory, Pp, Rows, Stamp, Status, has_member, with_volumes};

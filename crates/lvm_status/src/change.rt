@@ -1,6 +1,6 @@
 //! What may be wanted of a status, and what the end of a write brings.
 
-use lvm_stale::below::Pp;
+use crate::below::Pp;
 
 /// A change of the wanted status.
 #[derive(Clone, Copy)]

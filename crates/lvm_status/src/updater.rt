@@ -2,16 +2,15 @@
 ghost use Rattle.std.specs.Prelude.{All, ◌≡◌, ◌≢◌, ◌↔◌, ◌<◌, ◌+◌, ◌^◌, None, [], ◌||◌, IsTrue, IfOk, if◌then◌else◌};
 ghost use Rattle.std.specs.List.{list_any};
 ghost use Rattle.std.specs.Option.{option_copied};
-ghost use Rattle.lvm_stale.specs.passed.Names.{PvRow, IsValid, IsLaidOut, partitions_in, total_votes, has, IsLowest};
-ghost use Rattle.lvm_stale.specs.Marking.{IsLeftIn, Marks, HasMark};
+ghost use Rattle.lvm_status.specs.passed.StaleNames.{PvRow, IsValid, IsLaidOut, partitions_in, total_votes, has, IsLowest};
+ghost use Rattle.lvm_status.specs.Marking.{IsLeftIn, Marks, HasMark};
 ghost use Rattle.lvm_status.specs.Members.{HasItsRows, all_rows, all_members};
 ghost use Rattle.lvm_status.specs.Update.{members_there};
 
 use crate::{Change, Progress, Writes};
-use lvm_stale::below::{
-    Descriptor, DiskSet, LvRow, Memory, Pp, Rows, Stamp, Status, has_member, with_volumes,
-};
-use lvm_stale::{StaleTable, mark_volumes};
+use crate::below::{Descriptor, DiskSet, LvRow, Memory, Pp, Rows, Stamp, Status, has_member, with_volumes};
+use crate::mark::mark_volumes;
+use crate::table::StaleTable;
 use std::alloc::Global;
 use std::marker::Model;
 

@@ -1,7 +1,7 @@
 //! How far the writes of an update are.
 ghost use Rattle.std.specs.Prelude.{◌≡◌};
 
-use lvm_stale::below::DiskSet;
+use crate::below::DiskSet;
 
 /// For each state that the write of an update to a disk may be in, the disks whose writes are in it.
 #[derive(Clone, Copy)]
@@ -17,7 +17,7 @@ pub struct Writes {
 }
 
 impl Writes {
-    ghost use Rattle.lvm_stale.specs.passed.Names.{has};
+    ghost use Rattle.lvm_status.specs.passed.StaleNames.{has};
     ghost use Rattle.lvm_status.specs.Update.{no_disks};
 
     /// An update whose writes to these disks are still to be started.

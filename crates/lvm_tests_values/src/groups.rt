@@ -2,7 +2,7 @@
 use lvm_num::{
     Descriptor, LvRow, Mode, Name, Policy, Pp, PvRow, Rows, Status, StatusRow, VolumeNumbers,
 };
-use lvm_stale::StaleTable;
+use lvm_status::StaleTable;
 use std::alloc::Global;
 
 /// A member by its disk, its partitions and whether it is a spare.

@@ -14,7 +14,7 @@ use Rattle.lvm_num.proofs.Booleans.{clash_gives}
 use Rattle.lvm_num.proofs.AmongLemmas.{one_any, of_range}
 use Rattle.lvm_status.specs.Update.{members_there}
 use Rattle.lvm_kept.specs.Group.{IsOneOf}
-use Rattle.lvm_stale.specs.Marking.{IsLeftIn, is_served}
+use Rattle.lvm_status.specs.Marking.{IsLeftIn, is_served}
 use Rattle.lvm_write.proofs.NextLemmas.{copy_is_placed, is_member_of}
 use Rattle.lvm_tie.specs.passed.Names.{NoneIsLeft, there}
 use Rattle.lvm_session.specs.State.{Core}

@@ -15,7 +15,7 @@ use lvm_num::{DiskSet, Memory, Name, Rows, Status, VolumeNumbers};
 use lvm_quorum::{Choice, ChooseFault, Survey, choose};
 use lvm_rec::Homes;
 use lvm_recovery::{Recopy, named_by, plan_copies, still_dirty};
-use lvm_stale::StaleTable;
+use lvm_status::StaleTable;
 use lvm_write::next_status;
 use std::alloc::Global;
 

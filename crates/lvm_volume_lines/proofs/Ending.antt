@@ -9,7 +9,7 @@ use Rattle.lvm_write.specs.Written.{IsGivenUp}
 use Rattle.lvm_commit.specs.Settling.{HasLostQuorum}
 use Rattle.lvm_session.specs.declared.open.Power.TheVariants as power
 use Rattle.lvm_session.specs.State.{Core, State}
-use Rattle.lvm_stale.specs.Table.{has_row}
+use Rattle.lvm_status.specs.Table.{has_row}
 use Rattle.lvm_status.specs.Members.{HasItsRows}
 use Rattle.lvm_range_lines.specs.passed.Volumes.{MklvGives, RmlvGives}
 use Rattle.lvm_range_lines.specs.passed.RefusalVariants as refusal

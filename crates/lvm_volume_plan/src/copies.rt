@@ -14,8 +14,7 @@ use crate::with_copies::{copies_at, first_copies, further_copies, with_copies};
 use lvm_disk::Shelf;
 use lvm_map::{MapFault, allocate_more};
 use lvm_num::{LvRow, Memory, Pp, Rows, volume_among};
-use lvm_stale::StaleTable;
-use lvm_status::members_there;
+use lvm_status::{StaleTable, members_there};
 use std::alloc::Global;
 
 // The most copies of a volume.

@@ -15,7 +15,7 @@ use crate::next::{lowest_free, with_volume};
 use crate::with_copies::{copies_at, copies_behind, first_copies, with_copies};
 use lvm_disk::Shelf;
 use lvm_num::{Descriptor, LvRow, Memory, Mode, Name, Pp, Rows, volume_of};
-use lvm_stale::StaleTable;
+use lvm_status::StaleTable;
 use std::alloc::Global;
 
 /// The number of the volume that a split makes of copies of another one, whether it is to be dirty, and the descriptor

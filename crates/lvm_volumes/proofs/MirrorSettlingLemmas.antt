@@ -10,7 +10,7 @@ use Rattle.lvm_num.specs.Descriptor.{IsValid, copies_of, volume_of}
 use Rattle.lvm_num.specs.Status.{calls_stale}
 use Rattle.lvm_num.proofs.AmongLemmas.{any_one}
 use Rattle.lvm_kept.specs.Group.{IsOneOf}
-use Rattle.lvm_stale.specs.Marking.{IsLeftBelow}
+use Rattle.lvm_status.specs.Marking.{IsLeftBelow}
 use Rattle.lvm_status.specs.Update.{Stored}
 use Rattle.lvm_steps.proofs.RecordLemmas.{either, split}
 use Rattle.lvm_commit.specs.Settling.{there, NoneIsLeft}

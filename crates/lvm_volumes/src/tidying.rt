@@ -8,7 +8,7 @@ ghost use Rattle.lvm_volumes.specs.Tidying.{lacks_usable, needs_mark, unneeded, 
 use arrayvec::ArrayVec;
 use lvm_disk::Shelf;
 use lvm_num::{Descriptor, LvRow};
-use lvm_stale::StaleTable;
+use lvm_status::StaleTable;
 use lvm_transfer::Patience;
 use lvm_volume_plan::below::{CommitFault, Driver};
 use lvm_volume_plan::{copies_at, has_usable, is_passive};

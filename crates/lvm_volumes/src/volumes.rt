@@ -14,7 +14,7 @@ ghost use Rattle.lvm_volumes.specs.Volumes.{MklvGives, RmlvGives, to_make, to_re
 
 use lvm_disk::Shelf;
 use lvm_num::{DISKS, Mode, Name, Policy, Pp, has_partition_on};
-use lvm_stale::StaleTable;
+use lvm_status::StaleTable;
 use lvm_vol::{Entry, Vol};
 use lvm_volume_plan::below::{CommitFault, Driver, Patience, Prepared};
 use lvm_volume_plan::{GroupFault, NewVolume, VolumePlan, prepare_without};

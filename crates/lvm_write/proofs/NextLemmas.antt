@@ -20,13 +20,13 @@ use Rattle.lvm_num.specs.Record.{Stamped}
 use Rattle.lvm_num.specs.Status.{IsValidStatus, AreDirty, IsVolumeNumber, calls_stale, calls_dirty}
 use Rattle.lvm_num.proofs.AmongLemmas.{one_of_left, one_of_right, one_of_take, one_of_drop, all_one}
 use Rattle.lvm_kept.specs.Group.{IsOneOf, IsSome}
-use Rattle.lvm_stale.specs.Table.{has_row}
+use Rattle.lvm_status.specs.Table.{has_row}
 use Rattle.lvm_write.specs.Next.{IsNextStatus, IsLeftBehind, has_passive}
 use Rattle.lvm_num.specs.Modes.{is_passive}
 use Rattle.lvm_write.specs.Rows.{AreMemberRows}
-use Rattle.lvm_stale.specs.Marking.{is_served, IsLeftIn, Marks, HasMark}
+use Rattle.lvm_status.specs.Marking.{is_served, IsLeftIn, Marks, HasMark}
 use Rattle.lvm_write.proofs.RowsLemmas.{found_one}
-use Rattle.lvm_stale.proofs.MarkingLemmas.{has_row-same}
+use Rattle.lvm_status.proofs.MarkingLemmas.{has_row-same}
 
 -- ---- elements
 

@@ -11,7 +11,7 @@ pub use Rattle.lvm_num.specs.Modes.{is_passive}
 use Rattle.lvm_num.specs.Record.{Stamped}
 use Rattle.lvm_num.specs.Status.{IsValidStatus, calls_stale, calls_missing, calls_dirty}
 use Rattle.lvm_kept.specs.Group.{fresh_on, IsOneOf, IsSome}
-use Rattle.lvm_stale.specs.Table.{has_row}
+use Rattle.lvm_status.specs.Table.{has_row}
 
 -- the group has a volume of this number in mode passive
 abbrev pub has_passive : Descriptor → ℕ → Bool

@@ -15,7 +15,7 @@ use lvm_num::{
     DISKS, Descriptor, DiskSet, LvRow, Memory, Mode, Rows, Status, StatusRow, VolumeNumbers,
     has_member,
 };
-use lvm_stale::{StaleTable, mark_volumes};
+use lvm_status::{StaleTable, mark_volumes};
 use std::alloc::Global;
 
 /// The status with which a group comes on: a row for each member, missing those that don't answer, stale

@@ -18,7 +18,7 @@ use Rattle.lvm_kept.specs.Plans.{Plan, ChangesBy}
 use Rattle.lvm_kept.specs.Torn.{RecordWrite}
 use Rattle.lvm_commit.specs.passed.Names.{ImagesKept, Begins, Holds, Keeps, at, beginning_at, IsOtherOrEarlier}
 use Rattle.lvm_commit.proofs.passed.Names.{keeps_path, earlier_stays_behind, session_is_before_later}
-use Rattle.lvm_stale.specs.Table.{SameMissing}
+use Rattle.lvm_status.specs.Table.{SameMissing}
 use Rattle.lvm_status.specs.Update.{Stored, members_there}
 use Rattle.lvm_write.proofs.WrittenLemmas.Writing.{both_map, changes_more}
 use Rattle.lvm_commit.specs.declared.commit.CommitEnd.{CommitEnd}

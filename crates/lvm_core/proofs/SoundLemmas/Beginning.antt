@@ -6,7 +6,7 @@ use Rattle.lvm_num.specs.declared.status.Status.{Status}
 use Rattle.lvm_disk.specs.Device.{Device, IsReady}
 use Rattle.lvm_vol.specs.Facts.{On}
 use Rattle.lvm_vol.specs.Log.{Log}
-use Rattle.lvm_stale.specs.Table.{has_row}
+use Rattle.lvm_status.specs.Table.{has_row}
 use Rattle.lvm_session_start.specs.passed.Names.{Waiting}
 use Rattle.lvm_mwc.specs.Entries.{AreEntries}
 use Rattle.lvm_status.specs.Update.{Updates}

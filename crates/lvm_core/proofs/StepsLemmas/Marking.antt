@@ -12,7 +12,7 @@ use Rattle.lvm_num.specs.Descriptor.{is_member, is_pp}
 use Rattle.lvm_num.specs.Votes.{CanWrite}
 use Rattle.lvm_disk.specs.Device.{Device}
 use Rattle.lvm_num.specs.Status.{calls_stale}
-use Rattle.lvm_stale.specs.Table.{SameMembers, SameMissing}
+use Rattle.lvm_status.specs.Table.{SameMembers, SameMissing}
 use Rattle.lvm_status.specs.declared.change.Change.{Change}
 use Rattle.lvm_status.specs.declared.change.Change.TheVariants as change
 use Rattle.lvm_status.specs.Update.{Updates, Stored, seen, is_held, is_owed, no_disks}

@@ -7,7 +7,7 @@ use Rattle.lvm_num.specs.declared.descriptor.PvRow.{PvRow}
 use Rattle.lvm_num.specs.declared.place.Pp.{Pp}
 use Rattle.lvm_num.specs.declared.status.Status.{Status}
 use Rattle.lvm_num.specs.Status.{calls_missing, calls_stale}
-use Rattle.lvm_stale.specs.Table.{SameMembers, SameMissing, SameStale, has_row}
+use Rattle.lvm_status.specs.Table.{SameMembers, SameMissing, SameStale, has_row}
 use Rattle.lvm_num.specs.Descriptor.{is_pp}
 use Rattle.lvm_status.specs.Calls.{IsMarkable}
 use Rattle.lvm_commit.proofs.RoundsLemmas.Wanting.{row_stays}

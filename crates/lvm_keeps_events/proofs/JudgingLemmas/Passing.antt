@@ -22,7 +22,7 @@ use Rattle.lvm_vol.specs.Log.{next_id}
 use Rattle.lvm_hold.specs.Conflicts.{conflicts, have_common_block}
 use Rattle.lvm_hold.specs.Waiting.{is_blocked, Waiting, without}
 use Rattle.lvm_hold.specs.declared.queue.Row.{Row}
-use Rattle.lvm_stale.specs.Table.{has_row as has_disk_row, SameMissing}
+use Rattle.lvm_status.specs.Table.{has_row as has_disk_row, SameMissing}
 use Rattle.lvm_path.specs.Asks.{at_of, count_of, is_write, lv_of}
 use Rattle.lvm_path.specs.Targets.{is_begun, is_done, is_failed}
 use Rattle.lvm_path.specs.declared.ask.Ask.{Ask}

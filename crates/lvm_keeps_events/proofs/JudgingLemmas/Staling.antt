@@ -15,7 +15,7 @@ use Rattle.lvm_num.specs.declared.record.Stamp.{Stamp}
 use Rattle.lvm_num.specs.declared.status.Status.{Status}
 use Rattle.lvm_num.specs.declared.status.StatusRow.{StatusRow}
 use Rattle.lvm_disk.specs.Device.{Flight}
-use Rattle.lvm_stale.specs.Table.{has_row, SameMissing}
+use Rattle.lvm_status.specs.Table.{has_row, SameMissing}
 use Rattle.lvm_path.specs.Asks.{lv_of}
 use Rattle.lvm_path.specs.Targets.{is_done, is_failed}
 use Rattle.lvm_path.specs.declared.ask.Ask.{Ask}

@@ -5,7 +5,7 @@ use Rattle.lvm_num.specs.Buffer.{Buffer}
 use Rattle.lvm_num.specs.Status.{calls_missing}
 use Rattle.lvm_num.specs.declared.status.Status.{Status}
 use Rattle.lvm_disk.proofs.CountingLemmas.{rose_after, rose_before}
-use Rattle.lvm_stale.specs.Table.{SameMissing}
+use Rattle.lvm_status.specs.Table.{SameMissing}
 use Rattle.lvm_status.specs.Calls.{BecomesMissing, WantsAtEnd}
 use Rattle.lvm_status.specs.Update.{Stored, Updates}
 use Rattle.lvm_path.specs.Asks.{lv_of}

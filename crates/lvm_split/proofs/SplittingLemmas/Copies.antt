@@ -11,7 +11,7 @@ use Rattle.lvm_num.specs.Descriptor.{IsValid, copies_of, is_member, volume_of}
 use Rattle.lvm_num.specs.Status.{calls_stale, calls_missing}
 use Rattle.lvm_num.proofs.AmongLemmas.{any_one, one_any}
 use Rattle.lvm_kept.specs.Group.{IsOneOf}
-use Rattle.lvm_stale.specs.Marking.{IsLeftBelow}
+use Rattle.lvm_status.specs.Marking.{IsLeftBelow}
 use Rattle.lvm_status.specs.Update.{Stored}
 use Rattle.lvm_write.proofs.NextLemmas.{copy_is_placed, is_member_of}
 use Rattle.lvm_commit.specs.Settling.{NoneIsLeft, there}

@@ -1,2 +1,2 @@
 -- Passed on from the crates below.
-pub use Rattle.lvm_stale.proofs.MarkingLemmas.{any_disk, left_again, left_same}
+pub use Rattle.lvm_status.proofs.MarkingLemmas.{any_disk, left_again, left_same}

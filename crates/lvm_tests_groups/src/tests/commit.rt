@@ -12,8 +12,7 @@ use lvm_disk::Shelf;
 use lvm_memory::{Act, MemShelf, Planned};
 use lvm_num::{Descriptor, Mode, Pbuf, Pp, Rows, Stamp};
 use lvm_rec::Homes;
-use lvm_stale::StaleTable;
-use lvm_status::{Change, Updater};
+use lvm_status::{Change, StaleTable, Updater};
 use lvm_transfer::{Patience, relight};
 use std::process::Abort;
 

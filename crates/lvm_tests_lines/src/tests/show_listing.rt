@@ -7,7 +7,7 @@ ghost use Rattle.lvm_num.specs.declared.descriptor.PvRow.{PvRow};
 use crate::tests::fixtures::check;
 use lvm_num::{Descriptor, Pp, PvRow, Rows, Text, volume_among};
 use lvm_show::{show_disk, show_group, show_map, show_volumes};
-use lvm_stale::StaleTable;
+use lvm_status::StaleTable;
 use lvm_tests_values::{Member, Volume, group, table, volume};
 use std::process::Abort;
 

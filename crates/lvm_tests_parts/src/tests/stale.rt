@@ -1,6 +1,6 @@
 use crate::tests::fixtures::check;
 use lvm_num::{Descriptor, Pp};
-use lvm_stale::StaleTable;
+use lvm_status::StaleTable;
 use lvm_tests_values::{Member, Volume, group, table};
 use std::process::Abort;
 

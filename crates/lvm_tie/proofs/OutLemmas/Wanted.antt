@@ -12,7 +12,7 @@ use Rattle.lvm_disk.specs.Device.{Image}
 use Rattle.lvm_kept.specs.Contents.{Contents}
 use Rattle.lvm_kept.specs.Torn.{RecordWrite}
 use Rattle.lvm_steps.specs.Behind.{StampsBefore}
-use Rattle.lvm_stale.specs.Table.{SameMissing}
+use Rattle.lvm_status.specs.Table.{SameMissing}
 use Rattle.lvm_status.specs.Runs.{IsSoundStatus}
 use Rattle.lvm_status.specs.Update.{Stored, Updates, is_held, is_owed, no_disks, seen}
 use Rattle.lvm_commit.specs.Committed.{next_stamp}

@@ -18,7 +18,7 @@ use Rattle.lvm_disk.specs.Device.{HasSectors, image_of}
 use Rattle.lvm_kept.proofs.ChangesLemmas.Entries.{volume_is_row}
 use Rattle.lvm_map.proofs.Parts.{parts}
 use Rattle.lvm_map.proofs.PlacesLemmas.{mib_positive, volume_at}
-use Rattle.lvm_stale.specs.Table.{SameMissing}
+use Rattle.lvm_status.specs.Table.{SameMissing}
 use Rattle.lvm_status.specs.Calls.{BecomesFresh}
 use Rattle.lvm_status.specs.Runs.{IsSoundStatus}
 use Rattle.lvm_status.specs.Update.{Stored, Updates, no_disks, seen}

@@ -12,7 +12,7 @@ use Rattle.lvm_num.specs.Descriptor.{IsPartitionOf, IsLaidOut, IsValid, copies_o
 use Rattle.lvm_num.proofs.Pairs.{AllPairs-left, AllPairs-right, AllPairs-across}
 use Rattle.lvm_num.proofs.AmongLemmas.{one_of_drop, one_of_either, one_of_take}
 use Rattle.lvm_map.proofs.PlacesLemmas.{laid_out}
-use Rattle.lvm_stale.proofs.MarkingLemmas.{one_at}
+use Rattle.lvm_status.proofs.MarkingLemmas.{one_at}
 use Rattle.lvm_kept.specs.Group.{IsOneOf}
 use Rattle.lvm_volume_plan.specs.Copies.{first_copies, further_copies}
 use Rattle.lvm_volume_plan.specs.Split.{split_row}

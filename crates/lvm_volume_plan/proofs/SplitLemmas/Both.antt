@@ -14,7 +14,7 @@ use Rattle.lvm_num.proofs.Pairs.{All-left, All-right, AllPairs-left, AllPairs-ri
 use Rattle.lvm_num.proofs.AmongLemmas.{one_of_left, one_of_right, one_of_either}
 use Rattle.lvm_map.proofs.FirstFitLemmas.Validity.{with_volumes}
 use Rattle.lvm_map.proofs.PlacesLemmas.{volume_at}
-use Rattle.lvm_stale.proofs.MarkingLemmas.{one_at}
+use Rattle.lvm_status.proofs.MarkingLemmas.{one_at}
 use Rattle.lvm_kept.specs.Group.{IsOneOf}
 use Rattle.lvm_core.specs.Looking.{HasNoVolumeNamed}
 use Rattle.lvm_volume_plan.specs.declared.new_volume.NewVolume.{NewVolume}

@@ -5,7 +5,7 @@ use Rattle.lvm_num.specs.declared.status.StatusRow.{StatusRow}
 use Rattle.lvm_num.specs.declared.status.Status.{Status}
 use Rattle.lvm_num.specs.Descriptor.{partitions_in}
 use Rattle.lvm_num.specs.Disks.{has}
-use Rattle.lvm_stale.specs.Marking.{IsLeftIn, Marks, HasMark}
+use Rattle.lvm_status.specs.Marking.{IsLeftIn, Marks, HasMark}
 use Rattle.lvm_write.specs.Next.{IsNextStatus}
 use Rattle.lvm_write.specs.Rows.{AreMemberRows}
 use Rattle.lvm_write.proofs.NextLemmas.{first_valid, all_markable, next_is, passive_as, ok_more}

@@ -1,6 +1,6 @@
 use Rattle.std.proofs.Common.{sym, ap, subst, ◌∙◌}
 use Rattle.lvm_status.specs.declared.change.Change.{Change}
-use Rattle.lvm_stale.specs.Table.{has_row}
+use Rattle.lvm_status.specs.Table.{has_row}
 use Rattle.lvm_status.specs.Update.{Stored}
 use Rattle.lvm_status.specs.Calls.{MayChange}
 use Rattle.lvm_status.proofs.Disks.{member-below}

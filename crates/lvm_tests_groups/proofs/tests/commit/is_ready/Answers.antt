@@ -10,7 +10,7 @@ use Rattle.lvm_num.specs.Descriptor.{is_member}
 use Rattle.lvm_num.specs.Status.{calls_missing}
 use Rattle.lvm_num.specs.Votes.{votes_in, is_enough_to_write, CanWrite}
 use Rattle.lvm_disk.specs.Device.{Device}
-use Rattle.lvm_stale.specs.Table.{has_row}
+use Rattle.lvm_status.specs.Table.{has_row}
 use Rattle.lvm_status.specs.Members.{HasItsRows}
 use Rattle.lvm_status.specs.Update.{Stored}
 use Rattle.lvm_status.proofs.RunsLemmas.Sound.{and_left}

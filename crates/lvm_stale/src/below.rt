@@ -1,5 +1,0 @@
-//! What is passed on from the crates below.
-
-pub use lvm_num::{
-    Descriptor, DiskSet, LvRow, Memory, Pp, Rows, Stamp, Status, has_member, with_volumes,
-};
