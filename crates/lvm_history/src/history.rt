@@ -2,12 +2,15 @@
 ghost use Rattle.std.specs.Prelude.{◌≡◌, ◌==◌, ◌↔◌, ◌+◌, ◌-◌, ◌*◌, ◌%◌, ◌^◌, ◌<◌, ◌≤◌, ◌++◌, [], ◌∷◌, length, IfOk, IsTrue, IsSome, Some, option_copied, slice_get, true, false, vec_len, vec_capacity, replicate, take, drop};
 ghost use Rattle.std.specs.List.{list_any};
 ghost use Rattle.std.specs.Option.{ForSome};
-ghost use Rattle.lvm_checker.specs.passed.Names.{zero_sector, Legal, known, May, Ordered, Begun, empty_log, with_fact, next_id, next_request, asked, request_of, is_open, awaited, is_answered, landed_fact, got_fact, taken_fact, is_plain, plain_fact, spare_entries, open_count, landed_count, spare_bytes, cut_log, is_uncut_after, blocks_begun, blocks_of, entries_of};
-ghost use Rattle.lvm_checker.specs.Rows.{is_landing, is_taking};
+ghost use Rattle.lvm_history.specs.passed.CheckerNames.{zero_sector, Legal, known, May, Ordered, Begun, empty_log, with_fact, next_id, next_request, asked, request_of, is_open, awaited, is_answered, landed_fact, got_fact, taken_fact, is_plain, plain_fact, spare_entries, open_count, landed_count, spare_bytes, cut_log, is_uncut_after, blocks_begun, blocks_of, entries_of};
+ghost use Rattle.lvm_history.specs.Rows.{is_landing, is_taking};
 ghost use Rattle.lvm_history.specs.Keeping.{row_of, blocks_first, ask_found, is_open_by, awaited_by, is_answered_by, entry_kept, IsOneOfAsks};
 
-use lvm_checker::below::{Entry, Memory, Outcome, Vol};
-use lvm_checker::{Ask, Block, Row, has_landed, is_legal, is_taken, may_have};
+use crate::below::{Entry, Memory, Outcome, Vol};
+use crate::fits::{has_landed, is_legal, is_taken};
+use crate::recent::may_have;
+use crate::row::{Ask, Row};
+use crate::values::Block;
 use std::alloc::Global;
 use std::marker::Model;
 
@@ -32,7 +35,7 @@ pub struct History {
 }
 
 impl Model for History {
-    ghost use Rattle.lvm_checker.specs.passed.Names.{Log};
+    ghost use Rattle.lvm_history.specs.passed.CheckerNames.{Log};
 
     ghost Value = { Log };
 

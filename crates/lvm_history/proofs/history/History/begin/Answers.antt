@@ -1,8 +1,8 @@
 use Rattle.std.proofs.Common.{◌≡◌, ℕ, ◌+◌, ◌++◌, [], ◌∷◌, List, Bool, Option, Some, None, is_some, refl, sym, ◌∙◌, ap, subst, arith, option_copied, Bor, true}
-use Rattle.lvm_checker.specs.declared.row.Row.TheVariants as row
+use Rattle.lvm_history.specs.declared.row.Row.TheVariants as row
 use Rattle.lvm_history.specs.Opened.{kept_of}
 use Rattle.lvm_history.specs.Keeping.{Holdings, log_of}
-use Rattle.lvm_checker.specs.passed.Names.{Begun, next_id, is_open, asked, next_request}
+use Rattle.lvm_history.specs.passed.CheckerNames.{Begun, next_id, is_open, asked, next_request}
 use Rattle.lvm_history.proofs.KeepingLemmas.{Adds, begun_adds, begun_found, room_to_begin, next_number}
 use Rattle.lvm_history.proofs.history.History.begin.Goals as goal
 

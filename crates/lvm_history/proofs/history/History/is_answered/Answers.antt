@@ -1,9 +1,9 @@
 use Rattle.std.proofs.Common.{List, ap, ◌∙◌}
 use Rattle.std.specs.List.{list_any}
-use Rattle.lvm_checker.specs.declared.row.Ask.{Ask}
-use Rattle.lvm_checker.specs.declared.row.Row.{Row}
+use Rattle.lvm_history.specs.declared.row.Ask.{Ask}
+use Rattle.lvm_history.specs.declared.row.Row.{Row}
 use Rattle.lvm_history.specs.Opened.{kept_of}
-use Rattle.lvm_checker.specs.Rows.{is_landing, is_taking}
+use Rattle.lvm_history.specs.Rows.{is_landing, is_taking}
 use Rattle.lvm_history.specs.Keeping.{is_answered_by, ask_found}
 use Rattle.lvm_history.proofs.KeepingLemmas.{is_answered_kept}
 use Rattle.lvm_history.proofs.history.History.is_answered.Goals as goal

@@ -1,6 +1,6 @@
 use Rattle.std.proofs.Common.{refl, arith}
 use Rattle.lvm_history.specs.Opened.{kept_of}
-use Rattle.lvm_checker.specs.passed.Names.{Landed, request_of, got_without_bytes}
+use Rattle.lvm_history.specs.passed.CheckerNames.{Landed, request_of, got_without_bytes}
 use Rattle.lvm_history.proofs.KeepingLemmas.{Adds, landed_adds, landed_answered, landed_room}
 use Rattle.lvm_history.proofs.history.History.land.Goals as goal
 

@@ -1,12 +1,12 @@
 use Rattle.std.proofs.Common.{◌≡◌, ℕ, ◌-◌, ◌≤◌, ◌+◌, ◌/◌, ◌++◌, List, length, take, drop, true, refl, ◌∙◌, ap, arith}
 use Rattle.std.proofs.lemmas.List.{get_or_default}
 use Rattle.std.specs.Simd.{first_chunks}
-use Rattle.lvm_checker.specs.passed.VolEntryOutcome as outcome
-use Rattle.lvm_checker.specs.declared.row.Ask.{Ask}
+use Rattle.lvm_history.specs.passed.VolEntryOutcome as outcome
+use Rattle.lvm_history.specs.declared.row.Ask.{Ask}
 use Rattle.lvm_history.specs.Opened.{kept_of}
-use Rattle.lvm_checker.specs.Rows.{no_ask, ask_of}
+use Rattle.lvm_history.specs.Rows.{no_ask, ask_of}
 use Rattle.lvm_history.specs.Keeping.{Holdings}
-use Rattle.lvm_checker.specs.passed.Names.{Landed, request_of}
+use Rattle.lvm_history.specs.passed.CheckerNames.{Landed, request_of}
 use Rattle.lvm_history.proofs.KeepingLemmas.{Adds, read_adds, landed_answered, landed_room, awaited_of, chunks_count, length-first_chunks_of, log_ask, open_some}
 use Rattle.lvm_history.proofs.history.History.land_read.Goals as goal
 

@@ -1,6 +1,6 @@
 use Rattle.std.proofs.Common.{◌≡◌, ◌↔◌, IsTrue, List, ap, ◌∙◌, subst}
-use Rattle.lvm_checker.specs.passed.Names.{Fact, Log, known, May}
-use Rattle.lvm_checker.specs.Rows.{facts_of}
+use Rattle.lvm_history.specs.passed.CheckerNames.{Fact, Log, known, May}
+use Rattle.lvm_history.specs.Rows.{facts_of}
 use Rattle.lvm_history.proofs.KeepingLemmas.{facts_alike}
 use Rattle.lvm_history.proofs.history.History.may_of.Goals as goal
 

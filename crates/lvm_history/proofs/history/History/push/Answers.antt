@@ -1,7 +1,7 @@
 use Rattle.std.proofs.Common.{refl, arith, ◌+◌, ◌++◌, [], ◌∷◌, ap, ◌∙◌}
-use Rattle.lvm_checker.specs.declared.row.Row.{Row}
+use Rattle.lvm_history.specs.declared.row.Row.{Row}
 use Rattle.lvm_history.specs.Opened.{kept_of}
-use Rattle.lvm_checker.specs.passed.Names.{plain_fact}
+use Rattle.lvm_history.specs.passed.CheckerNames.{plain_fact}
 use Rattle.lvm_history.proofs.KeepingLemmas.{Adds, pushed_adds, pushed_room}
 use Rattle.lvm_history.proofs.history.History.push.Goals as goal
 

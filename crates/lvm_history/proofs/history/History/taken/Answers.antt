@@ -1,6 +1,6 @@
 use Rattle.std.proofs.Common.{refl, arith}
 use Rattle.lvm_history.specs.Opened.{kept_of}
-use Rattle.lvm_checker.specs.passed.Names.{Taken, request_of}
+use Rattle.lvm_history.specs.passed.CheckerNames.{Taken, request_of}
 use Rattle.lvm_history.proofs.KeepingLemmas.{Adds, taken_adds, taken_room}
 use Rattle.lvm_history.proofs.history.History.taken.Goals as goal
 

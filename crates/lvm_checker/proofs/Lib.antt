@@ -1,4 +1,0 @@
-pub mod passed
-pub mod SeenLemmas
-pub mod RowsLemmas
-pub mod ToldLemmas

@@ -1,4 +1,0 @@
-pub mod Names
-pub mod VolEntryEntry
-pub mod VolEntryOutcome
-pub mod VolEntryVol

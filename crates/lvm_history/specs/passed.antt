@@ -1,0 +1,4 @@
+pub mod CheckerNames
+pub mod VolEntryEntry
+pub mod VolEntryOutcome
+pub mod VolEntryVol
