@@ -5,7 +5,7 @@ ghost use Rattle.lvm_session.specs.Fields.{core_of};
 ghost use Rattle.lvm_session.specs.Calls.{ask_fault, fault_in, fault_on, has_history, has_numbers};
 ghost use Rattle.lvm_session.specs.Sound.{IsFitting};
 
-use lvm_facts::partition_blocks;
+use lvm_due::partition_blocks;
 use lvm_num::volume_of;
 use lvm_path::Ask;
 use lvm_session::{AskFault, Power, Session};

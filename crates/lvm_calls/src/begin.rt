@@ -9,7 +9,7 @@ ghost use Rattle.lvm_session.specs.Calls.{has_history, new_open, submitted};
 ghost use Rattle.lvm_session.specs.Sound.{IsGoing};
 ghost use Rattle.lvm_session.specs.Asking.{IsAsking};
 
-use lvm_facts::held_of;
+use lvm_due::held_of;
 use lvm_path::{Ask, Request};
 use lvm_session::{Open, Session};
 use lvm_vol::Vol;

@@ -11,7 +11,7 @@ ghost use Rattle.lvm_session.specs.declared.answers.CopyState.TheVariants as sta
 ghost use Rattle.lvm_session.specs.Calls.{closed, copy_at, copy_fault, copy_state, refusal_at, refusal_in, refusal_on, state_of_copy};
 
 use crate::ask::has_numbers;
-use lvm_facts::{is_missing, is_pp, is_settled, is_usable};
+use lvm_due::{is_missing, is_pp, is_settled, is_usable};
 use lvm_num::{LvRow, Pp, copies_of, volume_of};
 use lvm_session::{CopyEnd, CopyFault, CopyState, OpenCopy, Power, Session, Step};
 

@@ -12,7 +12,7 @@ ghost use Rattle.lvm_session.specs.Marks.{WantsStale, is_among, due_of};
 ghost use Rattle.lvm_calls.specs.Due.{IsDue, IsFirstSure, IsWithinDue, MayMark, due_among};
 
 use crate::wanted::{mark_others, mark_targets};
-use lvm_facts::{is_kept, is_sure};
+use lvm_due::{is_kept, is_sure};
 use lvm_path::{Target, are_over};
 use lvm_session::Session;
 use lvm_status::Updater;

@@ -9,7 +9,7 @@ ghost use Rattle.lvm_session.specs.Rooms.{SameRooms};
 ghost use Rattle.lvm_session.specs.Ends.{with_step};
 
 use crate::numbers::next_id;
-use lvm_facts::partition_blocks;
+use lvm_due::partition_blocks;
 use lvm_hold::Held;
 use lvm_session::{OpenCopy, Session};
 

@@ -6,7 +6,7 @@ ghost use Rattle.lvm_calls.specs.Opening.{HasCopy, IsOpened};
 use crate::enter::step_place;
 use crate::faults::faults_of;
 use lvm_disk::Shelf;
-use lvm_facts::copies_in;
+use lvm_due::copies_in;
 use lvm_num::DiskSet;
 use lvm_session::{OpenCopy, Session, Step};
 

@@ -1,4 +1,4 @@
 //! What is passed on from the crates below.
 
 pub use lvm_core::Closed;
-pub use lvm_work_left::below::partition_blocks;
+pub use lvm_due::below::partition_blocks;

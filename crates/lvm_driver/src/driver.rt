@@ -38,7 +38,7 @@ use lvm_session_start::{Parts, begin_session};
 use lvm_session_turn::below::Due;
 use lvm_session_turn::{arrange, turn};
 use lvm_status::StaleTable;
-use lvm_work_left::left;
+use lvm_due::left;
 use std::marker::Model;
 
 /// A group that is varied on, over its shelf. Clients submit requests to it and take their answers; what is done

@@ -14,3 +14,8 @@ mod VotesLemmas
 pub mod NotNextLemmas
 pub mod SpansLemmas
 mod UsableLemmas
+mod Parting
+mod NextLemmas
+mod FactsJudgingLemmas
+pub mod DescriptorLemmas
+mod Sums

@@ -4,3 +4,6 @@ pub mod Worked
 pub mod Plain
 pub mod Might
 pub mod Spans
+pub mod passed
+pub mod Queued
+pub mod Reading

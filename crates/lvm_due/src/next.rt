@@ -1,9 +1,10 @@
 //! What the request at a place of the table does next.
 ghost use Rattle.std.specs.Prelude.{◌≡◌, ◌<◌, length, slice_get, Some};
-ghost use Rattle.lvm_facts.specs.passed.Names.{Open, core_of, next_for, IsGoing};
+ghost use Rattle.lvm_due.specs.passed.FactsNames.{Open, core_of, next_for, IsGoing};
 
-use lvm_facts::below::Session;
-use lvm_facts::{is_waiting, next_of};
+use crate::below::Session;
+use crate::facts::next_of;
+use crate::pending::is_waiting;
 use lvm_path::Next;
 
 /// What the request at a place of the table, from 0, does next; one that has landed waits.

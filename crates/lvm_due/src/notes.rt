@@ -1,14 +1,14 @@
 //! The first note that a request lacks.
 ghost use Rattle.std.specs.Prelude.{◌≡◌, ◌&&◌, ◌<◌, ◌^◌, find, is_none, length, not, slice_get, Some};
 ghost use Rattle.std.specs.Option.{option_map};
-ghost use Rattle.lvm_facts.specs.passed.Names.{flight_on, is_named, Open, core_of, is_missing, first_from, note_at, note_due, IsGoing};
+ghost use Rattle.lvm_due.specs.passed.FactsNames.{flight_on, is_named, Open, core_of, is_missing, first_from, note_at, note_due, IsGoing};
 ghost use Rattle.lvm_path.specs.Asks.{at_of};
 ghost use Rattle.lvm_path.specs.declared.target.Target.{Target};
 ghost use Rattle.lvm_due.specs.Spans.{Spans};
 
 use crate::span::Span;
-use lvm_facts::below::{Event, Open, Session};
-use lvm_facts::{group_of, is_missing};
+use crate::below::{Event, Open, Session};
+use crate::standing::{group_of, is_missing};
 use lvm_path::{Phase, Target};
 
 // Whether a note may be started on the disk of a target, and doesn't name this track group of the volume.

@@ -1,11 +1,12 @@
 //! What a request might do next, as far as that shows without its facts.
 ghost use Rattle.std.specs.Prelude.{◌≡◌};
 ghost use Rattle.lvm_num.specs.Descriptor.{IsValid};
-ghost use Rattle.lvm_facts.specs.passed.Names.{core_of, IsWithin};
+ghost use Rattle.lvm_due.specs.passed.FactsNames.{core_of, IsWithin};
 ghost use Rattle.lvm_due.specs.Might.{any_is_usable, any_waits, are_at_rest, might_admit, might_land, might_pin, might_start, might_transfer, none_goes};
 
-use lvm_facts::below::Session;
-use lvm_facts::{has_names, has_usable, is_changed, is_unbegun, is_usable};
+use crate::below::Session;
+use crate::facts::{has_names, has_usable, is_changed, is_unbegun};
+use crate::standing::is_usable;
 use lvm_path::{Phase, Request, Target, any_flies, any_is_done};
 use lvm_sched::TargetState;
 

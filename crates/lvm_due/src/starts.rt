@@ -2,10 +2,10 @@
 ghost use Rattle.std.specs.Prelude.{◌≡◌};
 ghost use Rattle.std.specs.List.{list_any};
 ghost use Rattle.lvm_num.specs.declared.status.StatusRow.{StatusRow};
-ghost use Rattle.lvm_facts.specs.passed.Names.{core_of, votes_there, copy_write, has_buffer, is_lost, IsFitting};
+ghost use Rattle.lvm_due.specs.passed.FactsNames.{core_of, votes_there, copy_write, has_buffer, is_lost, IsFitting};
 
-use lvm_facts::below::{Event, Session, Step};
-use lvm_facts::is_running;
+use crate::below::{Event, Session, Step};
+use crate::standing::is_running;
 
 // Whether some row of the wanted status calls its disk missing.
 fn is_any_missing(session: &Session) -> bool

@@ -12,7 +12,7 @@ use Rattle.lvm_disk.specs.Paths.{Broke, Ended, Here, Started, Then, Waited, WasC
 use Rattle.lvm_disk.specs.Steps.{GoesDark}
 use Rattle.lvm_disk.proofs.CountingLemmas.{rose_after, rose_before}
 use Rattle.lvm_disk.proofs.StepsLemmas.{step_same}
-use Rattle.lvm_facts.proofs.DescriptorLemmas.Members.{few_in}
+use Rattle.lvm_due.proofs.DescriptorLemmas.Members.{few_in}
 use Rattle.lvm_session.specs.declared.answers.CopyState.{CopyState}
 use Rattle.lvm_session.specs.declared.answers.CopyState.TheVariants as copy
 use Rattle.lvm_session.specs.declared.answers.Turned.{Turned}

@@ -13,7 +13,7 @@ use crate::copies::pass_copy;
 use crate::fault::SyncFault;
 use crate::tally::Tally;
 use lvm_disk::Shelf;
-use lvm_facts::copies_in;
+use lvm_due::copies_in;
 use lvm_num::{Pp, volume_of};
 use lvm_ranges::below::Driver;
 use lvm_transfer::Patience;

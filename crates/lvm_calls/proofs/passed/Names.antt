@@ -1,3 +1,3 @@
 -- Passed on from the crates below.
-pub use Rattle.lvm_facts.proofs.DescriptorLemmas.Laid.{laid_out}
-pub use Rattle.lvm_facts.proofs.DescriptorLemmas.Members.{copies_in_are, few_copies, place_of}
+pub use Rattle.lvm_due.proofs.DescriptorLemmas.Laid.{laid_out}
+pub use Rattle.lvm_due.proofs.DescriptorLemmas.Members.{copies_in_are, few_copies, place_of}

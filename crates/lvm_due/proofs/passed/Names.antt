@@ -1,2 +1,2 @@
 -- Passed on from the crates below.
-pub use Rattle.lvm_facts.proofs.DescriptorLemmas.Members.{copies_in_are, few_in, numbered, place_of}
+pub use Rattle.lvm_due.proofs.DescriptorLemmas.Members.{copies_in_are, few_in, numbered, place_of}

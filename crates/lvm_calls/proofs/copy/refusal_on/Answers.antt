@@ -1,5 +1,5 @@
 use Rattle.std.proofs.Common.{sym}
-use Rattle.lvm_facts.proofs.DescriptorLemmas.Laid.{laid_out}
+use Rattle.lvm_due.proofs.DescriptorLemmas.Laid.{laid_out}
 use Rattle.lvm_calls.proofs.copy.refusal_on.Goals as goal
 
 pub refusal_in-requires : goal.refusal_in-requires

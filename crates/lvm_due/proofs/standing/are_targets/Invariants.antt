@@ -1,0 +1,10 @@
+use Rattle.std.proofs.Common.{◌≡◌, ◌||◌, filter, drop}
+use Rattle.lvm_num.specs.declared.place.Pp.{Pp}
+use Rattle.lvm_session.specs.Fields.{core_of}
+use Rattle.lvm_session.specs.Judging.{pps_of, same_pps, is_usable, is_caught}
+use Rattle.lvm_due.proofs.standing.are_targets.Given as goal
+
+abbrev pub invariant-loop-pp : goal.invariant-loop-pp
+invariant-loop-pp l =
+    same_pps (pps_of l.rest) (filter (λ (p : Pp). is_usable (core_of l.session) p || is_caught (core_of l.session) l.group p) (drop l.pp-index l.pps))
+    ≡ same_pps (pps_of l.targets) (filter (λ (p : Pp). is_usable (core_of l.session) p || is_caught (core_of l.session) l.group p) l.pps)

@@ -1,0 +1,4 @@
+pub mod Session
+pub mod FactsNames
+pub mod Others
+pub mod SessionEventEvent

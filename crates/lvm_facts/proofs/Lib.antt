@@ -1,5 +1,0 @@
-pub mod passed
-mod Parting
-mod NextLemmas
-mod JudgingLemmas
-pub mod DescriptorLemmas

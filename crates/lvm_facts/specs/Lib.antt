@@ -1,3 +1,0 @@
-pub mod passed
-pub mod Queued
-pub mod Reading

@@ -1,4 +1,0 @@
-pub mod Session
-pub mod Names
-pub mod Others
-pub mod SessionEventEvent
