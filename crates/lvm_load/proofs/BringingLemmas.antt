@@ -7,13 +7,13 @@ use Rattle.lvm_session.specs.declared.answers.Turned.{Turned}
 use Rattle.lvm_session.specs.declared.answers.Turned.TheVariants as turned
 use Rattle.lvm_session.specs.State.{Core, State}
 use Rattle.lvm_driver.specs.Drains.{LastTurn, NoTurn, ThenMoves, ThenWaits, TurnsWhile}
-use Rattle.lvm_resync.specs.declared.copies.Passed.{Passed}
-use Rattle.lvm_resync.specs.declared.copies.Passed.TheVariants as passed
-use Rattle.lvm_resync.specs.declared.fault.SyncFault.{SyncFault}
-use Rattle.lvm_resync.specs.declared.fault.SyncFault.TheVariants as fault
-use Rattle.lvm_resync.specs.declared.tally.Tally.{Tally}
-use Rattle.lvm_resync.specs.Passing.{BreaksOff, Copy, EachTurnWhile, EndsTurning, FailedFor, IsBroken, IsBroughtUp, IsEnded, IsOpened, IsRefused, IsUnsettled, PassesCopy, RefusedFor, Runs}
-use Rattle.lvm_resync.specs.Syncing.{NonePassed, OnePassed, Passes, SyncGives, no_tally}
+use Rattle.lvm_ranges.specs.declared.copies.Passed.{Passed}
+use Rattle.lvm_ranges.specs.declared.copies.Passed.TheVariants as passed
+use Rattle.lvm_ranges.specs.declared.fault.SyncFault.{SyncFault}
+use Rattle.lvm_ranges.specs.declared.fault.SyncFault.TheVariants as fault
+use Rattle.lvm_ranges.specs.declared.tally.Tally.{Tally}
+use Rattle.lvm_ranges.specs.Passing.{BreaksOff, Copy, EachTurnWhile, EndsTurning, FailedFor, IsBroken, IsBroughtUp, IsEnded, IsOpened, IsRefused, IsUnsettled, PassesCopy, RefusedFor, Runs}
+use Rattle.lvm_ranges.specs.Syncing.{NonePassed, OnePassed, Passes, SyncGives, no_tally}
 use Rattle.lvm_load.specs.declared.serve.Synced.{Synced}
 use Rattle.lvm_load.specs.Bringing.{ClosesEnded, EndsBehind, IsClosed, SettlesUnless, StillRuns, is_unheard}
 use Rattle.lvm_load.proofs.FactsLemmas.{Gains, gains_none, gains_then, turn_gains}

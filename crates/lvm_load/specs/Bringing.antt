@@ -9,17 +9,17 @@ use Rattle.lvm_workers.specs.declared.bring.Brought.TheVariants as brought
 use Rattle.lvm_session.specs.declared.answers.Turned.{Turned}
 use Rattle.lvm_session.specs.declared.answers.Turned.TheVariants as turned
 use Rattle.lvm_session.specs.Turns.{TurnMakes}
-use Rattle.lvm_resync.specs.Passing.{Runs}
+use Rattle.lvm_ranges.specs.Passing.{Runs}
 use Rattle.lvm_session.specs.declared.answers.CopyState.TheVariants as copy
 use Rattle.lvm_session.specs.declared.open.Power.{Power}
 use Rattle.lvm_session.specs.declared.open.Power.TheVariants as power
 use Rattle.lvm_session.specs.Calls.{closed, copy_state, is_asked}
 use Rattle.lvm_session.specs.State.{State, state, votes_there}
-use Rattle.lvm_resync.specs.declared.fault.SyncFault.{SyncFault}
-use Rattle.lvm_resync.specs.declared.fault.SyncFault.TheVariants as fault
-use Rattle.lvm_resync.specs.Causes.{SyncCause}
-use Rattle.lvm_resync.specs.Syncing.{SyncGives, volume_copies, volume_fault}
-use Rattle.lvm_resync.specs.Turning.{GoesBeside}
+use Rattle.lvm_ranges.specs.declared.fault.SyncFault.{SyncFault}
+use Rattle.lvm_ranges.specs.declared.fault.SyncFault.TheVariants as fault
+use Rattle.lvm_ranges.specs.Causes.{SyncCause}
+use Rattle.lvm_ranges.specs.Syncing.{SyncGives, volume_copies, volume_fault}
+use Rattle.lvm_ranges.specs.Turning.{GoesBeside}
 use Rattle.lvm_load.specs.declared.serve.Synced.{Synced}
 use Rattle.lvm_load.specs.Settling.{Settles}
 

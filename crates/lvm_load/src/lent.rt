@@ -3,7 +3,7 @@ ghost use Rattle.std.specs.Prelude.{◌≡◌, ◌≤◌, ◌*◌, ℕ, false, i
 ghost use Rattle.lvm_keeps.specs.Failing.{unsettled};
 ghost use Rattle.lvm_session.specs.declared.open.Power.TheVariants as power;
 ghost use Rattle.lvm_session.specs.State.{state_of};
-ghost use Rattle.lvm_resync.specs.Passing.{Runs};
+ghost use Rattle.lvm_ranges.specs.Passing.{Runs};
 ghost use Rattle.lvm_load.specs.Bringing.{BringsOn};
 ghost use Rattle.lvm_load.specs.Lending.{Plan, apart_draw};
 ghost use Rattle.lvm_load.specs.Requests.{word_of};

@@ -15,7 +15,7 @@ use crate::workload::Woven;
 use lvm_core::CommitFault;
 use lvm_disk::Shelf;
 use lvm_driver::Driver;
-use lvm_resync::{SyncFault, sync_volume};
+use lvm_ranges::{SyncFault, sync_volume};
 use lvm_session::{CopyState, Power};
 use lvm_transfer::Patience;
 use std::alloc::Global;

@@ -18,8 +18,8 @@ use Rattle.lvm_load.specs.declared.serve.Synced.{Synced}
 use Rattle.lvm_load.specs.declared.workload.Woven.{Woven}
 use Rattle.lvm_load.specs.Lending.{KeepsServing}
 use Rattle.lvm_load.specs.Serving.{IsLoadedBy}
-use Rattle.lvm_resync.specs.declared.fault.SyncFault.{SyncFault}
-use Rattle.lvm_resync.specs.declared.fault.SyncFault.TheVariants as fault
+use Rattle.lvm_ranges.specs.declared.fault.SyncFault.{SyncFault}
+use Rattle.lvm_ranges.specs.declared.fault.SyncFault.TheVariants as fault
 use Rattle.lvm_group_lines.specs.declared.reply.Refusal.{Refusal}
 use Rattle.lvm_group_lines.specs.declared.reply.Refusal.TheVariants as refusal
 use Rattle.lvm_top.specs.passed.Lines.{IsLine, role_of}

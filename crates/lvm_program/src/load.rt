@@ -24,7 +24,7 @@ use lvm_io::{Clock, Sink};
 use lvm_load::{Load, Served, Synced, Woven, serve_load};
 use lvm_num::{Descriptor, Name};
 use lvm_posts::Post;
-use lvm_resync::SyncFault;
+use lvm_ranges::SyncFault;
 use lvm_top::below::driver::Driver;
 use lvm_top::below::line::do_line;
 use lvm_top::below::stage::{Holder, Reply, Stage, take_rooms};

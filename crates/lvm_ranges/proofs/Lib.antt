@@ -10,3 +10,8 @@ pub mod SteppingLemmas
 pub mod ChoosingLemmas
 pub mod FinishingLemmas
 pub mod WorkedLemmas
+pub mod TurningLemmas
+pub mod PassingLemmas
+pub mod CallsLemmas
+pub mod SyncingLemmas
+pub mod CausesLemmas

@@ -9,3 +9,7 @@ pub mod Choosing
 pub mod Finishing
 pub mod Stepping
 pub mod Worked
+pub mod Turning
+pub mod Passing
+pub mod Syncing
+pub mod Causes

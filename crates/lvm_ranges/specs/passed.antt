@@ -1,3 +1,4 @@
 pub mod Driver
 pub mod Names
 pub mod Tie
+pub mod ResyncNames

@@ -15,13 +15,13 @@ use Rattle.lvm_session.specs.Causes.{is_over}
 use Rattle.lvm_session.specs.Sound.{IsSound}
 use Rattle.lvm_session.specs.State.{Core, State, state_of}
 use Rattle.lvm_volume_lines.specs.passed.Names.{Post}
-use Rattle.lvm_resync.specs.declared.copies.Passed.TheVariants as passed
-use Rattle.lvm_resync.specs.declared.fault.SyncFault.{SyncFault}
-use Rattle.lvm_resync.specs.declared.fault.SyncFault.TheVariants as fault
-use Rattle.lvm_resync.specs.declared.tally.Tally.{Tally}
-use Rattle.lvm_resync.specs.Passing.{Copy, PassesCopy}
-use Rattle.lvm_resync.specs.Syncing.{NonePassed, OnePassed, Passes, SyncGives, fault_by, fault_on, group_fault, no_tally, numbers_fault, or_first, volume_fault}
-use Rattle.lvm_resync.specs.Turning.{GoesBeside, StopsFor}
+use Rattle.lvm_ranges.specs.declared.copies.Passed.TheVariants as passed
+use Rattle.lvm_ranges.specs.declared.fault.SyncFault.{SyncFault}
+use Rattle.lvm_ranges.specs.declared.fault.SyncFault.TheVariants as fault
+use Rattle.lvm_ranges.specs.declared.tally.Tally.{Tally}
+use Rattle.lvm_ranges.specs.Passing.{Copy, PassesCopy}
+use Rattle.lvm_ranges.specs.Syncing.{NonePassed, OnePassed, Passes, SyncGives, fault_by, fault_on, group_fault, no_tally, numbers_fault, or_first, volume_fault}
+use Rattle.lvm_ranges.specs.Turning.{GoesBeside, StopsFor}
 use Rattle.lvm_volume_lines.specs.passed.RangeLines.{FailsIf, serving}
 use Rattle.lvm_volume_lines.specs.passed.HolderVariants as holder
 use Rattle.lvm_volume_lines.specs.passed.GroupLines.{ArePosted, ComesTo, EndsUnasked, HaveRooms, IsBetweenStage, IsCarried, IsEnded, IsFittingStage, OfRequests, Reply, Stage, ScriptState, is_unheard, most_refusals, patience_of_line, state_in, without_facts}

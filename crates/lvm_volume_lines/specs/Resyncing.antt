@@ -5,12 +5,12 @@ use Rattle.lvm_session.specs.Calls.{has_numbers}
 use Rattle.lvm_session.specs.Sound.{IsSound}
 use Rattle.lvm_session.specs.State.{Core, State, votes_there}
 use Rattle.lvm_core.specs.Looking.{IsNumberOf, HasNoVolumeNamed}
-use Rattle.lvm_resync.specs.declared.fault.SyncFault.{SyncFault}
-use Rattle.lvm_resync.specs.declared.fault.SyncFault.TheVariants as fault
-use Rattle.lvm_resync.specs.Causes.{SyncCause}
-use Rattle.lvm_resync.specs.Passing.{Copy}
-use Rattle.lvm_resync.specs.Syncing.{SyncGives, group_copies, group_fault, volume_copies, volume_fault}
-use Rattle.lvm_resync.specs.Turning.{GoesBeside}
+use Rattle.lvm_ranges.specs.declared.fault.SyncFault.{SyncFault}
+use Rattle.lvm_ranges.specs.declared.fault.SyncFault.TheVariants as fault
+use Rattle.lvm_ranges.specs.Causes.{SyncCause}
+use Rattle.lvm_ranges.specs.Passing.{Copy}
+use Rattle.lvm_ranges.specs.Syncing.{SyncGives, group_copies, group_fault, volume_copies, volume_fault}
+use Rattle.lvm_ranges.specs.Turning.{GoesBeside}
 use Rattle.lvm_volume_lines.specs.passed.RangeLines.{FailsIf, session_over}
 use Rattle.lvm_volume_lines.specs.passed.GroupLines.{IsNotOn, IsRefused, Refusal, Reply, ScriptState, is_unheard, patience_of_line}
 use Rattle.lvm_volume_lines.specs.passed.RefusalVariants as refusal

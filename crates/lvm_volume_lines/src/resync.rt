@@ -13,7 +13,7 @@ use crate::below::stage::{Answered, Holder, Refusal, Reply, Stage};
 use lvm_core::number_of;
 use lvm_disk::Shelf;
 use lvm_num::Name;
-use lvm_resync::{SyncFault, sync_group, sync_volume};
+use lvm_ranges::{SyncFault, sync_group, sync_volume};
 use lvm_transfer::Patience;
 
 // A fault of a resync, as the refusal of its line. No copy is open between lines, and whole volumes are asked for.

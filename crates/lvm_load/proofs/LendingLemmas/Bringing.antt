@@ -19,10 +19,10 @@ use Rattle.lvm_session.specs.Turns.{TurnMakes}
 use Rattle.lvm_keeps_events.specs.Telling.{TurnTells}
 use Rattle.lvm_driver.specs.passed.Names.{LeavesSession, RunsOn}
 use Rattle.lvm_driver.proofs.passed.Names.{goes_any, path_frames}
-use Rattle.lvm_resync.specs.Passing.{Runs}
-use Rattle.lvm_resync.proofs.CallsLemmas.{opened_so, refused_for}
-use Rattle.lvm_resync.proofs.PassingLemmas.Bringing.{runs_under_way}
-use Rattle.lvm_resync.proofs.TurningLemmas.{finds_of}
+use Rattle.lvm_ranges.specs.Passing.{Runs}
+use Rattle.lvm_ranges.proofs.CallsLemmas.{opened_so, refused_for}
+use Rattle.lvm_ranges.proofs.PassingLemmas.Bringing.{runs_under_way}
+use Rattle.lvm_ranges.proofs.TurningLemmas.{finds_of}
 use Rattle.lvm_workers.specs.declared.bring.Brought.{Brought}
 use Rattle.lvm_workers.specs.declared.bring.Brought.TheVariants as brought
 use Rattle.lvm_workers.specs.Bringing.{BringGives}

@@ -7,7 +7,7 @@ use lvm_core::CommitFault;
 use lvm_disk::{Arrange, Shelf};
 use lvm_memory::{Act, Planned};
 use lvm_num::Mode;
-use lvm_resync::below::Driver;
+use lvm_ranges::below::Driver;
 use lvm_session::{CopyState, Taken};
 use std::process::Abort;
 

@@ -6,8 +6,8 @@ use crate::tests::fixtures::{
 use lvm_disk::{Arrange, Shelf};
 use lvm_memory::{Act, Planned};
 use lvm_num::Mode;
-use lvm_resync::below::Driver;
-use lvm_resync::{SyncFault, sync_group, sync_partition, sync_volume};
+use lvm_ranges::below::Driver;
+use lvm_ranges::{SyncFault, sync_group, sync_partition, sync_volume};
 use lvm_session::{CopyState, Taken};
 use lvm_transfer::Patience;
 use std::process::Abort;

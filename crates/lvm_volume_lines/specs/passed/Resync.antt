@@ -1,5 +1,5 @@
--- Passed on from `lvm_resync`.
-pub use Rattle.lvm_resync.specs.Causes.{AnyFails, SyncCause}
-pub use Rattle.lvm_resync.specs.Passing.{Copy}
-pub use Rattle.lvm_resync.specs.Syncing.{group_copies, group_fault, volume_copies, volume_fault}
-pub use Rattle.lvm_resync.specs.declared.fault.SyncFault.{SyncFault}
+-- Passed on from `lvm_ranges`.
+pub use Rattle.lvm_ranges.specs.Causes.{AnyFails, SyncCause}
+pub use Rattle.lvm_ranges.specs.Passing.{Copy}
+pub use Rattle.lvm_ranges.specs.Syncing.{group_copies, group_fault, volume_copies, volume_fault}
+pub use Rattle.lvm_ranges.specs.declared.fault.SyncFault.{SyncFault}

@@ -1,7 +1,7 @@
 use Rattle.std.proofs.Common.{◌≡◌, ◌≤◌, ℕ, refl, sym, ap, subst, ◌∙◌}
 use Rattle.lvm_session.specs.declared.open.Power.TheVariants as power
-use Rattle.lvm_resync.specs.Syncing.{SyncGives, group_copies, group_fault}
-use Rattle.lvm_resync.specs.Turning.{GoesBeside}
+use Rattle.lvm_ranges.specs.Syncing.{SyncGives, group_copies, group_fault}
+use Rattle.lvm_ranges.specs.Turning.{GoesBeside}
 use Rattle.lvm_session.specs.State.{state_of}
 use Rattle.lvm_volume_lines.specs.passed.HolderVariants as holder
 use Rattle.lvm_volume_lines.specs.passed.GroupLines.{ComesTo, HaveRooms, Reply, is_unheard, most_refusals, patience_of_line}

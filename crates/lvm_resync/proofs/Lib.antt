@@ -1,5 +1,0 @@
-pub mod TurningLemmas
-pub mod PassingLemmas
-pub mod CallsLemmas
-pub mod SyncingLemmas
-pub mod CausesLemmas
