@@ -9,6 +9,7 @@ mod laws;
 
 pub use copies_laws::{
     mklvcopy_goes_on, mklvcopy_serves, rmlvcopy_goes_on, rmlvcopy_serves, split_goes_on,
+    split_shares,
 };
 pub use groups_laws::{
     made_alone, made_serves, pairs_serve, settled_serves, settled_ties, tied_holds, tied_settles,
