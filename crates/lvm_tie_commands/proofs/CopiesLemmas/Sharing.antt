@@ -58,7 +58,7 @@ use Rattle.lvm_parted.specs.Parted.{HasPartOf, IsSplitInto}
 use Rattle.lvm_session.specs.State.{Core, State, is_there, moment_of}
 use Rattle.lvm_split.specs.Splitting.{IsSplit, IsVolumeSplit, to_split}
 use Rattle.lvm_split.proofs.SplittingLemmas.Copies as copies_
-use Rattle.lvm_handover.specs.passed.Names.{IsOfCommand, NoPartition}
+use Rattle.lvm_handover.specs.passed.Names.{IsOfCommand, IsSettled, NoPartition}
 use Rattle.lvm_tie_commands.specs.passed.Handover.{IsCommanded}
 use Rattle.lvm_tie_commands.specs.Commands.{MayBeCommanded}
 use Rattle.lvm_tie_commands.specs.Sharing.{HoldTheSame, ShareContent, SplitShares, WritesStayApart}
@@ -105,62 +105,69 @@ module _ (N : Descriptor → Type 0) (old new : State) where
 
 -- ---- one value at each block of the volume
 
-module _ (c : Contents) (group : Descriptor) (status : Status) (there : Disks) (facts : List Fact) (row : LvRow) where
-  abbrev passing : Option (Stamped Status) → Disks → Pp → Bool
-  passing stands set p = set p.disk && not (is_stale_by stands p)
+not_off : Active ≡ Off → ⊥
+not_off e = absurd cc
 
-  -- where no write of it is open, the usable copies hold one value at each block that isn't loose
-  holds_one : (shows : ShowsCommitted c group status there) → IsWithinDisks c → CanWrite group there
-      → IsEven c group (Some shows.stands) there → Kept c facts
-      → IsOneOf group.lvs row → (lp b : ℕ) → IsBlockOf group.mib row lp b → (known facts (Lv row.number) b).open_writes ≡ [] → IsFalse (known facts (Lv row.number) b).loose
-      → HoldOne c group.mib (fresh_on there (Some shows.stands) row lp) b
-  holds_one shows within enough even kept one lp b inside closed firm = by row.mode refl
+nor_off : Passive ≡ Off → ⊥
+nor_off e = absurd cc
+
+no_more : (t : Bool) → t && false ≡ false
+no_more true = refl
+no_more false = refl
+
+abbrev passing : Option (Stamped Status) → Disks → Pp → Bool
+passing stands set p = set p.disk && not (is_stale_by stands p)
+
+module _ (c : Contents) (group : Descriptor) (status : Status) (there : Disks) (facts : List Fact) (shows : ShowsCommitted c group status there) (within : IsWithinDisks c) (enough : CanWrite group there)
+    (even : IsEven c group (Some shows.stands) there) (kept : Kept c facts) (row : LvRow) (one : IsOneOf group.lvs row) (lp b : ℕ) (inside : IsBlockOf group.mib row lp b)
+    (closed : (known facts (Lv row.number) b).open_writes ≡ []) (firm : IsFalse (known facts (Lv row.number) b).loose) where
+  abbrev shown : Option (Stamped Status)
+  shown = Some shows.stands
+
+  abbrev members : Disks
+  members = members_in c all_disks group.id group
+
+  abbrev after_cut : Known
+  after_cut = known (facts ++ Cut ∷ []) (Lv row.number) b
+
+  by_all : ReadsBy c all_disks group.id group
+  by_all = finding_reads c all_disks group.id group shows.found
+
+  blocks_of : BlocksKept c facts group members (Some shows.stands)
+  blocks_of = subst (λ (o : Option (Stamped Status)). BlocksKept c facts group members o) (status_read c group status there shows facts within enough kept all_disks group by_all.reads)
+      (kept.lasting.across all_disks group.id group group by_all.reads (all_disks, shows.found))
+
+  wider : (p : Pp) → IsTrue (passing (Some shows.stands) there p) → IsTrue (passing (Some shows.stands) members p)
+  wider p is =
+      let here = first_holds (there p.disk) (not (is_stale_by shown p)) is in
+      and_from (members p.disk) (not (is_stale_by shown p)) (member_of_parts c all_disks group.id group p.disk refl (shows_group c group status there shows p.disk here) (shows.room p.disk here))
+      (second_holds (there p.disk) (not (is_stale_by shown p)) is)
+
+  fewer : HoldOne c group.mib (fresh_on members (Some shows.stands) row lp) b → HoldOne c group.mib (fresh_on there (Some shows.stands) row lp) b
+  fewer hold = (
+    hold.0,
+    of_passing (λ (p : Pp). block_at c group.mib p b ≡ hold.0) (passing shown there) (copies_of row lp) (λ p copy is.
+        at_passing (λ (p : Pp). block_at c group.mib p b ≡ hold.0) (passing shown members) (copies_of row lp) hold.1 p copy (wider p is)),
+  )
+
+  -- no more is loose after a cut
+  is_firm : IsFalse after_cut.loose
+  is_firm = ap (λ (k : Known). k.loose) (known-push facts Cut (Lv row.number) b)
+      ∙ ap (λ (t : Bool). t || (is_off (known facts (Lv row.number) b).mode && is_some_open (known facts (Lv row.number) b).open_writes)) firm
+      ∙ ap (λ (rs : List Request). is_off (known facts (Lv row.number) b).mode && is_some_open rs) closed
+      ∙ no_more (is_off (known facts (Lv row.number) b).mode)
+
+  -- where no write of it is open, the usable copies hold one value at a block that isn't loose
+  holds_one : HoldOne c group.mib (fresh_on there (Some shows.stands) row lp) b
+  holds_one = by row.mode refl
     where
-      abbrev stands : Option (Stamped Status)
-      stands = Some shows.stands
-
-      abbrev members : Disks
-      members = members_in c all_disks group.id group
-
-      by_all : ReadsBy c all_disks group.id group
-      by_all = finding_reads c all_disks group.id group shows.found
-
-      blocks_of : BlocksKept c facts group members stands
-      blocks_of = subst (λ (o : Option (Stamped Status)). BlocksKept c facts group members o) (status_read c group status there shows facts within enough kept all_disks group by_all.reads)
-          (kept.lasting.across all_disks group.id group group by_all.reads (all_disks, shows.found))
-
-      on_member : (d : ℕ) → IsTrue (there d) → IsTrue (members d)
-      on_member d here = member_of_parts c all_disks group.id group d refl (shows_group c group status there shows d here) (shows.room d here)
-
-      wider : (p : Pp) → IsTrue (passing stands there p) → IsTrue (passing stands members p)
-      wider p is = and_from (members p.disk) (not (is_stale_by stands p)) (on_member p.disk (first_holds (there p.disk) (not (is_stale_by stands p)) is)) (second_holds (there p.disk) (not (is_stale_by stands p)) is)
-
-      fewer : HoldOne c group.mib (fresh_on members stands row lp) b → HoldOne c group.mib (fresh_on there stands row lp) b
-      fewer hold = (
-        hold.0,
-        of_passing (λ (p : Pp). block_at c group.mib p b ≡ hold.0) (passing stands there) (copies_of row lp) (λ p copy is.
-            at_passing (λ (p : Pp). block_at c group.mib p b ≡ hold.0) (passing stands members) (copies_of row lp) hold.1 p copy (wider p is)),
-      )
-
-      -- no more is loose after a cut
-      is_firm : IsFalse (known (facts ++ Cut ∷ []) (Lv row.number) b).loose
-      is_firm = ap (λ (k : Known). k.loose) (known-push facts Cut (Lv row.number) b)
-          ∙ ap (λ (t : Bool). t || (is_off (known facts (Lv row.number) b).mode && is_some_open (known facts (Lv row.number) b).open_writes)) firm
-          ∙ ap (λ (rs : List Request). is_off (known facts (Lv row.number) b).mode && is_some_open rs) closed
-          ∙ none (is_off (known facts (Lv row.number) b).mode)
-        where
-          none : (t : Bool) → t && false ≡ false
-          none true = refl
-          none false = refl
-
-      by : (m : Mode) → row.mode ≡ m → HoldOne c group.mib (fresh_on there stands row lp) b
-      by Active is = even row lp b one (λ off. let no : Active ≡ Off = sym is ∙ off in cc no) inside
-      by Passive is = even row lp b one (λ off. let no : Passive ≡ Off = sym is ∙ off in cc no) inside
+      by : (m : Mode) → row.mode ≡ m → HoldOne c group.mib (fresh_on there (Some shows.stands) row lp) b
+      by Active is = even row lp b one (λ off. not_off (sym is ∙ off)) inside
+      by Passive is = even row lp b one (λ off. nor_off (sym is ∙ off)) inside
       by Off is = ⊎_elim
-          (λ hold. fewer hold)
-          (λ (loose : MayDiffer c stands row.number row.mode (fresh_on members stands row lp) (known (facts ++ Cut ∷ []) (Lv row.number) b) b).
-          absurd (clash (known (facts ++ Cut ∷ []) (Lv row.number) b).loose
-          (subst (λ (m : Mode). MayDiffer c stands row.number m (fresh_on members stands row lp) (known (facts ++ Cut ∷ []) (Lv row.number) b) b) is loose) is_firm))
+          (λ (hold : HoldOne c group.mib (fresh_on members (Some shows.stands) row lp) b). fewer hold)
+          (λ (loose : MayDiffer c shown row.number row.mode (fresh_on members shown row lp) after_cut b).
+          absurd (clash after_cut.loose (subst (λ (m : Mode). MayDiffer c shown row.number m (fresh_on members shown row lp) after_cut b) is loose) is_firm))
           (blocks_of row lp b one inside).equal
 
 -- of two lists
@@ -208,6 +215,9 @@ module _ (run : ℕ) (first : Moment) (lv : ℕ) (name : List ℕ) (copies befor
   differ : it.row.number ≡ number → ⊥
   differ = both_.apart d copies number name it.row may.sound.fitting.valid volume it.may.counted.copies_for.parts.are it.lowest it.order
 
+  on : IsSettled new.core
+  on = c.on
+
   -- no member comes back
   fewer_there : (disk : ℕ) → IsTrue (is_there new.core disk) → IsTrue (is_there old.core disk)
   fewer_there = still_there old new (λ disk. ap (λ (g : Descriptor). is_member g disk) next_is) c.leaves.status.stays
@@ -249,18 +259,15 @@ module _ (run : ℕ) (first : Moment) (lv : ℕ) (name : List ℕ) (copies befor
         and_from (is_there old.core p.disk) (not (calls_stale its.held.shows.stands.value p)) there (not_from_false (calls_stale its.held.shows.stands.value p)
         (ap (λ (s : Status). calls_stale s p) (its.held.shows.committed ∙ c.began.committed) ∙ ⊎_elim
         (λ (stale : IsTrue (calls_stale old.core.status.wanted p)). absurd (clash (calls_stale stands.value p)
-        (ap (λ (s : Status). calls_stale s p) (committed ∙ on_committed) ∙ c.leaves.status.stale p (λ none. absurd none) stale)
+        (ap (λ (s : Status). calls_stale s p) (committed ∙ on.committed) ∙ c.leaves.status.stale p (λ none. absurd none) stale)
         (not_so (calls_stale stands.value p) fresh)))
         (λ isnt. isnt)
         (cases_Bool (calls_stale old.core.status.wanted p))))
-      where
-        on_committed : new.core.status.committed ≡ new.core.status.wanted
-        on_committed = c.on.committed
 
     module _ (lp b : ℕ) (inside : IsBlockOf d.mib it.row lp b) (firm : IsFalse (known facts (Lv it.row.number) b).loose) where
       hold : HoldOne c_old d.mib (fresh_on (is_there old.core) (Some its.held.shows.stands) it.row lp) b
-      hold = holds_one c_old d old.core.status.committed (is_there old.core) facts it.row its.held.shows (images_within (image_of old.device.sizes was)) c.began.votes its.even
-          (holds.kept (image_of old.device.sizes was) (media_may old.device was its.told)) its_row lp b inside
+      hold = holds_one c_old d old.core.status.committed (is_there old.core) facts its.held.shows (images_within (image_of old.device.sizes was)) c.began.votes its.even
+          (holds.kept (image_of old.device.sizes was) (media_may old.device was its.told)) it.row its_row lp b inside
           (calm_at run first (moment_of old) may.keeps (subst (λ (n : ℕ). Ordered n [] old.core.history.facts) may.run_is may.sound.told.ordered) (landed old may.sound c.began) past begins (Lv it.row.number) b) firm
 
       of_part : (part : LvRow) → HasPartOf it.row part → AllByRecursion (λ (p : Pp). block_at c_new d.mib p b ≡ hold.0) (fresh_on (is_there new.core) (Some stands) part lp)
