@@ -1,5 +1,5 @@
 -- A group that is varied off once marks that aren't needed have gone.
-use Rattle.std.proofs.Common.{◌≡◌, inl, inr, ◌≤◌, ◌<◌, ◌^◌, ℕ, List, true, false, Some, Ok, Err, Result, refl, sym, ◌∙◌, ap, subst, arith}
+use Rattle.std.proofs.Common.{◌≡◌, inl, inr, ◌≤◌, ◌<◌, ◌^◌, ℕ, Bool, List, true, false, Some, Ok, Err, Result, refl, sym, ◌∙◌, ap, subst, arith}
 use Rattle.std.specs.Prelude.{IsTrue, IsFalse}
 use Rattle.lvm_disk.specs.Device.{Device, IsReady}
 use Rattle.lvm_disk.proofs.PathsLemmas.{last-path}
@@ -17,7 +17,7 @@ use Rattle.lvm_volumes.specs.Stages.{CommandBroke}
 use Rattle.lvm_volumes.proofs.StagesLemmas.Breaking.{broken}
 use Rattle.lvm_tie_commands.proofs.CommandsLemmas.Tidying.{tidy_goes_on}
 use Rattle.lvm_group_lines.specs.Groups.{VaryoffDoes as ClosesDoes, NoVaryoff as NoneToClose, BusyVaryoff as BusyToClose, VariesOff as Closes}
-use Rattle.lvm_range_lines.specs.passed.Names.{AreAnswered, GroupFault, fault_of, is_over}
+use Rattle.lvm_range_lines.specs.passed.Names.{AreAnswered, GroupFault, ends_session, fault_of, is_over}
 use Rattle.lvm_range_lines.specs.passed.VolumePlanFaultGroupFault as fault
 use Rattle.lvm_range_lines.specs.passed.GroupLines.{Aside, CommandEnds, EndsUnasked, patience_of_line, GoesOn, HaveRooms, IsAlone, IsBetweenStage, IsFittingStage, IsOn, OfGroup, history_in, most_refusals, open_in, session_in, shelf_in, state_in, ScriptState, without_facts, Reply, Stage}
 use Rattle.lvm_range_lines.specs.passed.ReplyVariants as reply
@@ -25,7 +25,7 @@ use Rattle.lvm_range_lines.proofs.passed.GroupLines.{Bears, LeavesAnswers, answe
 use Rattle.lvm_range_lines.proofs.passed.Tie.{goes_any, path_frames, path_shape}
 use Rattle.lvm_volume_lines.specs.Closing.{BusyVaryoff, IsTidiedOff, NoVaryoff, TidiesOff, VariesOff, VaryoffDoes, VaryoffFails, is_dirty_on, tidy_reply}
 use Rattle.lvm_volume_lines.specs.Commands.{HasRested}
-use Rattle.lvm_volume_lines.specs.Volumes.{IsDone}
+use Rattle.lvm_volume_lines.specs.Volumes.{IsDone, IsLeft}
 use Rattle.lvm_volume_lines.proofs.Commanding.{ClosesWell, Promised, closes_lit, goes_off, promised_by, ready_mid}
 use Rattle.lvm_volume_lines.proofs.Ending.{FaultFacts, closes_after}
 use Rattle.lvm_volume_lines.proofs.OfVolumes.{at_mid, drains, its_history}
@@ -88,6 +88,10 @@ module _ (patience : ℕ) (old new : State) where
   over (commit.WentOff have total) ends = refl
   over commit.Stuck ends = refl
   over (commit.DiskFailed disk) ends = absurd ends
+
+  -- so it is known why the session is over
+  pub tidy_failed : (why : CommitFault) → TidyGives patience old new (Err why) → FaultFacts (fault_of why) patience old new × ((was is : ScriptState) → IsLeft true new was is → IsLeft (ends_session (fault_of why)) new was is)
+  tidy_failed why gives = let ends = was_tried why gives in (failed why ends, λ was is left. subst (λ (b : Bool). IsLeft b new was is) (sym (over why ends)) left)
 
   pub closes_dark_still : (why : CommitFault) → IsReady old.device → TidyGives patience old new (Err why) → fault_of why ≡ fault.Dark → new.device.flights ≡ []
   closes_dark_still why ready gives dark = by why (was_tried why gives) dark
