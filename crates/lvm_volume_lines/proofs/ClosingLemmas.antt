@@ -1,5 +1,5 @@
 -- A group that is varied off once marks that aren't needed have gone.
-use Rattle.std.proofs.Common.{◌≡◌, inl, inr, ◌≤◌, ◌<◌, ◌^◌, ℕ, Bool, List, true, false, Some, Ok, Err, Result, refl, sym, ◌∙◌, ap, subst, arith}
+use Rattle.std.proofs.Common.{◌≡◌, inl, inr, ◌≤◌, ◌<◌, ◌^◌, ℕ, Bool, List, true, false, Ok, Err, Result, refl, sym, ◌∙◌, ap, subst, arith}
 use Rattle.std.specs.Prelude.{IsTrue, IsFalse}
 use Rattle.lvm_disk.specs.Device.{Device, IsReady}
 use Rattle.lvm_disk.proofs.PathsLemmas.{last-path}
@@ -17,9 +17,9 @@ use Rattle.lvm_volumes.specs.Stages.{CommandBroke}
 use Rattle.lvm_volumes.proofs.StagesLemmas.Breaking.{broken}
 use Rattle.lvm_tie_commands.proofs.CommandsLemmas.Tidying.{tidy_goes_on}
 use Rattle.lvm_group_lines.specs.Groups.{VaryoffDoes as ClosesDoes, NoVaryoff as NoneToClose, BusyVaryoff as BusyToClose, VariesOff as Closes}
-use Rattle.lvm_range_lines.specs.passed.Names.{AreAnswered, GroupFault, ends_session, fault_of, is_over}
+use Rattle.lvm_range_lines.specs.passed.Names.{AreAnswered, ends_session, fault_of, is_over}
 use Rattle.lvm_range_lines.specs.passed.VolumePlanFaultGroupFault as fault
-use Rattle.lvm_range_lines.specs.passed.GroupLines.{Aside, CommandEnds, EndsUnasked, patience_of_line, GoesOn, HaveRooms, IsAlone, IsBetweenStage, IsFittingStage, IsOn, OfGroup, history_in, most_refusals, open_in, session_in, shelf_in, state_in, ScriptState, without_facts, Reply, Stage}
+use Rattle.lvm_range_lines.specs.passed.GroupLines.{Aside, CommandEnds, EndsUnasked, patience_of_line, GoesOn, HaveRooms, IsBetweenStage, IsFittingStage, IsOn, OfGroup, history_in, most_refusals, open_in, session_in, shelf_in, state_in, ScriptState, without_facts, Reply, Stage}
 use Rattle.lvm_range_lines.specs.passed.ReplyVariants as reply
 use Rattle.lvm_range_lines.proofs.passed.GroupLines.{Bears, LeavesAnswers, answered_bears, bears_cut, landed_bears}
 use Rattle.lvm_range_lines.proofs.passed.Tie.{goes_any, path_frames, path_shape}

@@ -1,6 +1,4 @@
-use Rattle.std.proofs.Common.{◌≡◌, Err}
 use Rattle.lvm_core.specs.State.{state_of}
-use Rattle.lvm_session.specs.State.{State}
 use Rattle.lvm_volume_lines.proofs.ClosingLemmas.{closes_dark_still, closes_lit_still, tidied_ready}
 use Rattle.lvm_volume_lines.proofs.closing.tidy_away.Goals as goal
 
