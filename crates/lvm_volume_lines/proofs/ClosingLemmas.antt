@@ -106,10 +106,10 @@ module _ (patience : ℕ) (old new : State) where
   closes_lit_still why ready gives other = by why (was_tried why gives) other
     where
       by : (w : CommitFault) → MarkEnds patience old new (Err w) → (fault_of w ≡ fault.Dark → ⊥) → (new.device.power ≡ true) × (new.device.freed ≡ [])
-      by commit.Dark ends no = absurd (no refl)
-      by (commit.WentOff have total) ends no = (ends.ready.power, ends.ready.freed)
-      by commit.Stuck ends no = (ends.out.power, ends.out.freed)
-      by (commit.DiskFailed disk) ends no = absurd ends
+      by commit.Dark ends lit = absurd (lit refl)
+      by (commit.WentOff have total) ends lit = (ends.ready.power, ends.ready.freed)
+      by commit.Stuck ends lit = (ends.out.power, ends.out.freed)
+      by (commit.DiskFailed disk) ends lit = absurd ends
 
   -- nothing is entered but a cut
   module _ (P : List Fact → Type 0) (bears : Bears P) (settled : IsSettled old.core) (holds : P old.core.history.facts) where

@@ -6,8 +6,8 @@ use Rattle.lvm_volume_lines.specs.Commands.{IsLeftOff}
 use Rattle.lvm_volume_lines.proofs.ClosingLemmas.{closes_dark_still, closes_lit_still, tidied_ready}
 use Rattle.lvm_volume_lines.proofs.closing.tidy_away.Goals as goal
 
-pub close_lit-requires-clause-ready : goal.close_lit-requires-clause-ready
-close_lit-requires-clause-ready g c = tidied_ready c.args.patience.now.left (state_of g.S.Shelf.device c.args.driver) (state_of g.S.Shelf.device c.tidy.new.driver) c.requires.ready c.in-Ok.ensures.gives
+pub close_lit-requires : goal.close_lit-requires
+close_lit-requires g c = record { ready = tidied_ready c.args.patience.now.left (state_of g.S.Shelf.device c.args.driver) (state_of g.S.Shelf.device c.tidy.new.driver) c.requires.ready c.in-Ok.ensures.gives }
 
 pub returns-in-Ok : goal.returns-in-Ok
 returns-in-Ok g c = record {
@@ -22,11 +22,11 @@ returns-in-Ok g c = record {
 
 pub close_after-requires-clause-dark : goal.close_after-requires-clause-dark
 close_after-requires-clause-dark g c dark =
-    closes_dark_still c.args.patience.now.left (state_of g.S.Shelf.device c.args.driver) (state_of g.S.Shelf.device c.tidy.new.driver) c.in-Err.why c.requires.ready c.in-Err.ensures.gives dark
+    closes_dark_still c.args.patience.now.left (state_of g.S.Shelf.device c.args.driver) (state_of g.S.Shelf.device c.tidy.new.driver) c.in-Err.why c.requires.ready c.in-Err.ensures.gives (sym c.from.ensures ∙ dark)
 
 pub close_after-requires-clause-lit : goal.close_after-requires-clause-lit
 close_after-requires-clause-lit g c other =
-    closes_lit_still c.args.patience.now.left (state_of g.S.Shelf.device c.args.driver) (state_of g.S.Shelf.device c.tidy.new.driver) c.in-Err.why c.requires.ready c.in-Err.ensures.gives other
+    closes_lit_still c.args.patience.now.left (state_of g.S.Shelf.device c.args.driver) (state_of g.S.Shelf.device c.tidy.new.driver) c.in-Err.why c.requires.ready c.in-Err.ensures.gives (λ is. other (c.from.ensures ∙ is))
 
 pub returns-in-Err : goal.returns-in-Err
 returns-in-Err g c = record {
