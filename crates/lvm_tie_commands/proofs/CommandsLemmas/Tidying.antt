@@ -49,7 +49,7 @@ has_each d s row one soft goes lp low = by (has_usable s (copies_of row lp)) ref
 
     needs : lacks_usable s row ≡ true → needs_mark d.lvs s row.number ≡ true
     needs lacks = one_any (λ (r : LvRow). r.number == row.number && is_passive r.mode && lacks_usable s r) d.lvs row one
-        (and_from (row.number == row.number) (is_passive row.mode && lacks_usable s row) (eq-eqb row.number row.number refl) (and_from (is_passive row.mode) (lacks_usable s row) (ap is_passive soft) lacks))
+        (and_from (row.number == row.number && is_passive row.mode) (lacks_usable s row) (and_from (row.number == row.number) (is_passive row.mode) (eq-eqb row.number row.number refl) (ap is_passive soft)) lacks)
 
     by : (t : Bool) → has_usable s (copies_of row lp) ≡ t → t ≡ true
     by true is = refl

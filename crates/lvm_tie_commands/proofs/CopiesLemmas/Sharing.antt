@@ -47,8 +47,8 @@ use Rattle.lvm_commit.specs.Settling.{IsOfCommit, IsOfStatus}
 use Rattle.lvm_commit.proofs.AmongLemmas.{one_place}
 use Rattle.lvm_commit.proofs.LawsLemmas.Found.{shows_group, status_read}
 use Rattle.lvm_commit.proofs.LawsOfDataLemmas.Free.{partition_is}
-use Rattle.lvm_rest.specs.Rest.{IsEven}
-use Rattle.lvm_rest.proofs.Rows.{at_passing}
+use Rattle.lvm_commit.proofs.passed.Names.{at_passing}
+use Rattle.lvm_settled.specs.passed.Names.{IsEven}
 use Rattle.lvm_map.proofs.PlacesLemmas.{volume_at}
 use Rattle.lvm_write.proofs.WrittenLemmas.Writing.{if_told}
 use Rattle.lvm_volume_plan.specs.Split.{kept_row, split_row, with_split}
