@@ -31,7 +31,7 @@ pub enum Command {
         volumes: bool,
         name: Name,
     },
-    /// `mklv -y NAME [-c N] [-w n, y or a] [-d p, s, ps or pr] NAME LPS`: make a logical volume in the group.
+    /// `mklv -y NAME [-c N] [-w n, y, a or p] [-d p, s, ps or pr] NAME LPS`: make a logical volume in the group.
     Mklv {
         name: Name,
         /// 0 to 9; 1 where it isn't given.
