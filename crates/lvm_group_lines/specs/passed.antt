@@ -7,6 +7,7 @@ pub mod Quiesce
 pub mod QuiescedVariants
 pub mod Ranges
 pub mod Recover
+pub mod Splitting
 pub mod Tie
 pub mod TieCommands
 pub mod Varyon

@@ -5,6 +5,7 @@ pub mod Handover
 pub mod Names
 pub mod Ranges
 pub mod Recover
+pub mod Splitting
 pub mod Tie
 pub mod Varyon
 pub mod VolumePlanFaultGroupFault

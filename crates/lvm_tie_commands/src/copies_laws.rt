@@ -1,5 +1,5 @@
 //! Laws of sessions over commands on copies. Each call does nothing: its contract is the law.
-ghost use Rattle.lvm_tie_commands.specs.Copies.{MklvcopyGoesOn, RmlvcopyGoesOn};
+ghost use Rattle.lvm_tie_commands.specs.Copies.{MklvcopyGoesOn, RmlvcopyGoesOn, SplitGoesOn};
 ghost use Rattle.lvm_tie_commands.specs.Serving.{MklvcopyServes, RmlvcopyServes};
 
 /// A sound session that `mklvcopy` leaves on is sound with requests, once the added copies count as stale from its
@@ -22,4 +22,9 @@ pub fn mklvcopy_goes_on()
 /// So they do over `rmlvcopy`, where each logical partition keeps a fresh copy on a member that shows the group.
 pub fn rmlvcopy_goes_on()
     ensures { RmlvcopyGoesOn }
+{}
+
+/// So they do over `split`, whatever the mode of the volume.
+pub fn split_goes_on()
+    ensures { SplitGoesOn }
 {}

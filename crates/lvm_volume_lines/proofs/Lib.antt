@@ -11,4 +11,5 @@ pub mod VolumesLemmas
 pub mod Giving
 pub mod CopiesServingLemmas
 pub mod CopiesLemmas
+pub mod SplittingLemmas
 pub mod ResyncingLemmas

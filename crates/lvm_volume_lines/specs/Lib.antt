@@ -2,4 +2,5 @@ pub mod passed
 pub mod Volumes
 pub mod Commands
 pub mod Copies
+pub mod Splitting
 pub mod Resyncing
