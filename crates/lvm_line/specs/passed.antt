@@ -11,6 +11,7 @@ pub mod Recover
 pub mod RefusalVariants
 pub mod ReplyVariants
 pub mod Resync
+pub mod Splitting
 pub mod Tie
 pub mod TieCommands
 pub mod Varyon

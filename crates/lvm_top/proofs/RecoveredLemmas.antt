@@ -38,11 +38,13 @@ use Rattle.lvm_volume_plan.specs.declared.new_volume.NewVolume.{NewVolume}
 use Rattle.lvm_volume_plan.specs.NewVolume.{row_for, without_volume}
 use Rattle.lvm_volume_plan.specs.Faults.{ends_session}
 use Rattle.lvm_volume_plan.proofs.Sublists.{one_filter, one_insert}
+use Rattle.lvm_volume_plan.proofs.CopiesLemmas.Rows.{one_found}
+use Rattle.lvm_line.specs.passed.Splitting.{IsSplit, split_row}
 use Rattle.lvm_line.specs.passed.GroupLines.{IsBetween, IsLeft, MkvgDoes, VaryonDoes, VaryoffDoes, NoMemoryForLine, NoMkvgWhileOn, Makes, NoVaryonWhileOn, Varies, NoVaryoff, BusyVaryoff, VariesOff, ReadDoes, WriteDoes, NoWriteWhileOn, WriteGoes, NoReadWhileOn, ReadGoes, ArrangeDoes, CutDoes, NotThere, NotPlanned, IsArranged, CutNotPlanned, PowerIsCut, HasBegunHeld, OfGroup, ScriptState, Reply, is_unheard}
 use Rattle.lvm_disk.specs.declared.shelf.Arrange.{Arrange}
 use Rattle.lvm_line.specs.passed.RangeLines.{EndsBy, GoesOnWith, CarriesBy, OnVolume, WhileOff, NotThere as VolumeNotThere, There, Posts, NotPosted, Posted, Finishes, NotBegun, EndsWell, Fails, StepDoes, NoStepWhileOff, NothingMoves, Steps, FailsIf}
 use Rattle.lvm_line.specs.passed.RangeLinesWaiting.{WaitDoes, WhileOff as WaitsWhileOff, AtRest, Awaits, WaitsOff, WaitsOn, WaitEnds, Goes, Over, InVain}
-use Rattle.lvm_line.specs.passed.VolumeLines.{IsSynced, NoGroupForSync, NoVolumeForSync, NothingSyncs, OtherGroupForSync, SyncGroupDoes, SyncVolumeDoes, SyncsGroup, SyncsVolume, MklvcopyDoes, NoGroupForMklvcopy, BusyMklvcopy, UndrainedMklvcopy, NoVolumeForMklvcopy, AddsCopies, MklvcopyFails, RmlvcopyDoes, NoGroupForRmlvcopy, BusyRmlvcopy, UndrainedRmlvcopy, NoVolumeForRmlvcopy, RemovesCopies, RmlvcopyFails, Drains, IsDone, StaysOn, MklvDoes, RmlvDoes, NoGroupForMklv, BusyMklv, UndrainedMklv, MakesVolume, MklvFails, NoGroupForRmlv, BusyRmlv, UndrainedRmlv, NoVolumeForRmlv, RemovesVolume, RmlvFails, wanted}
+use Rattle.lvm_line.specs.passed.VolumeLines.{IsSynced, NoGroupForSync, NoVolumeForSync, NothingSyncs, OtherGroupForSync, SyncGroupDoes, SyncVolumeDoes, SyncsGroup, SyncsVolume, MklvcopyDoes, NoGroupForMklvcopy, BusyMklvcopy, UndrainedMklvcopy, NoVolumeForMklvcopy, AddsCopies, MklvcopyFails, RmlvcopyDoes, NoGroupForRmlvcopy, BusyRmlvcopy, UndrainedRmlvcopy, NoVolumeForRmlvcopy, RemovesCopies, RmlvcopyFails, SplitlvcopyDoes, NoGroupForSplitlvcopy, BusySplitlvcopy, UndrainedSplitlvcopy, NoVolumeForSplitlvcopy, SplitsVolume, SplitlvcopyFails, Drains, IsDone, StaysOn, MklvDoes, RmlvDoes, NoGroupForMklv, BusyMklv, UndrainedMklv, MakesVolume, MklvFails, NoGroupForRmlv, BusyRmlv, UndrainedRmlv, NoVolumeForRmlv, RemovesVolume, RmlvFails, wanted}
 use Rattle.lvm_line.specs.passed.Resync.{Copy, SyncFault, group_copies, group_fault, volume_copies, volume_fault}
 use Rattle.lvm_line.specs.Lines.{LineDoes, role_of}
 use Rattle.lvm_line.proofs.passed.Tie.{path_frames, path_shape}
@@ -97,6 +99,16 @@ with_fewer_off : (name : List ℕ) (copies : ℕ) (o : Option Core) (k : Descrip
 with_fewer_off name copies None k off is = absurd is
 with_fewer_off name copies (Some core) k off (lv, its, (row, found, same)) = copies_off core.descriptor k lv copies (first_copies row copies) same off
 
+-- nor does a volume that is split give its copies another mode
+with_split_off : (made name : List ℕ) (copies : ℕ) (old : ScriptState) → HasNoPassiveOn old → (k : Descriptor) → (core : Core) × (mid : State) × WasDrained old core mid × ((lv : ℕ) × IsNumberOf core.descriptor.lvs name lv × IsSplit lv made copies mid.core k) → HasNoPassive k
+with_split_off made name copies old off k (core, mid, drained, (lv, its, (row, may, (number, lowest, same)))) = λ r volume. ⊎_elim
+    (λ (new : r ≡ split_row row copies number made). λ passive. before row (one_found lv mid.core.descriptor.lvs row may.counted.copies_for.parts.named.found.volume) (sym (ap (λ (x : LvRow). x.mode) new) ∙ passive))
+    (λ (was : IsOneOf (with_copies mid.core.descriptor row.number copies (first_copies row copies)).lvs r). copies_off mid.core.descriptor (with_copies mid.core.descriptor row.number copies (first_copies row copies)) row.number copies (first_copies row copies) refl before r was)
+    (one_insert (with_copies mid.core.descriptor row.number copies (first_copies row copies)).lvs (number - 1) (split_row row copies number made) r (subst (λ (d : Descriptor). IsOneOf d.lvs r) same volume))
+  where
+    before : HasNoPassive mid.core.descriptor
+    before = subst HasNoPassive (sym (path_frames drained.drains.runs).keeps.descriptor) (subst (λ (o : Option Core). IfSome o (λ c. HasNoPassive c.descriptor)) drained.on off)
+
 pub committed_off : (line : List ℕ) (read : Result (Option Command) Misfit) → line_of line ≡ read → (answer : Reply) (old new : ScriptState) → HasNoPassiveOn old → (id : ℕ) (k : Descriptor) → MayHaveCommitted read answer old new id k → HasNoPassive k
 committed_off line (Ok (Some (command.Mkvg force name mib disks))) is answer old new off id k it = subst HasNoPassive (sym it.is) (λ row none. absurd none)
 committed_off line (Ok (Some (command.Mklv name copies mode policy group lps))) is answer old new off id k it = with_off line name copies mode policy group lps is old off k it.is
@@ -108,6 +120,7 @@ committed_off line (Ok (Some (command.Varyoff name))) is answer old new off id k
 committed_off line (Ok (Some (command.Lsvg volumes name))) is answer old new off id k it = absurd it.is
 committed_off line (Ok (Some (command.Mklvcopy name copies))) is answer old new off id k it = with_more_off name copies old off k it.is
 committed_off line (Ok (Some (command.Rmlvcopy name copies))) is answer old new off id k it = with_fewer_off name copies old.session k off it.is
+committed_off line (Ok (Some (command.Splitlvcopy made name copies))) is answer old new off id k it = with_split_off made name copies old off k it.is
 committed_off line (Ok (Some (command.Lslv name))) is answer old new off id k it = absurd it.is
 committed_off line (Ok (Some (command.Lspv disk))) is answer old new off id k it = absurd it.is
 committed_off line (Ok (Some (command.Rd name at count))) is answer old new off id k it = absurd it.is
@@ -317,6 +330,14 @@ module _ (old new : ScriptState) (off : HasNoPassiveOn old) where
       rmlvcopy_off name copies (RemovesCopies core left mid lv some drains its done is) = done_off false core left mid some drains done
       rmlvcopy_off name copies (RmlvcopyFails core left mid lv why some drains its done is) = done_off (ends_session why) core left mid some drains done
 
+      splitlvcopy_off : {answer : Reply} (made name : List ℕ) (copies : ℕ) → SplitlvcopyDoes made name copies old new answer → HasNoPassiveOn new
+      splitlvcopy_off made name copies (NoGroupForSplitlvcopy none is) = same_off is.1
+      splitlvcopy_off made name copies (BusySplitlvcopy busy is) = same_off is.1
+      splitlvcopy_off made name copies (UndrainedSplitlvcopy core why some un) = none_off un.over.session
+      splitlvcopy_off made name copies (NoVolumeForSplitlvcopy core left mid some drains none stays last says) = stays_off mid stays (held_mid run old new between named stood core left mid some drains)
+      splitlvcopy_off made name copies (SplitsVolume core left mid lv number some drains its done is) = done_off false core left mid some drains done
+      splitlvcopy_off made name copies (SplitlvcopyFails core left mid lv why some drains its done is) = done_off (ends_session why) core left mid some drains done
+
 pub session_off : (log : Log) (room : Room) (answer : Reply) (old new : ScriptState) → HasNoPassiveOn old → IfNone old.session (IfSome new.session (HasBegunHeld new.moment.device)) → IsSome new.moment.device.media → FindsNoPassive new.moment.device
     → IsBetween old.moment old.session old.posts → IfSome old.session (λ core. core.history.run ≡ log.run) → (read : Result (Option Command) Misfit) → StoodBefore log.run (role_of read) old new → LineDoes log room read old new answer → HasNoPassiveOn new
 session_off log room answer old new off begins told finds between named (Err misfit) stood does = same_off old new off does.1
@@ -329,6 +350,7 @@ session_off log room answer old new off begins told finds between named (Ok (Som
 session_off log room answer old new off begins told finds between named (Ok (Some (command.Rmlv name))) stood does = rmlv_off old new off begins told finds log.run between named stood name does
 session_off log room answer old new off begins told finds between named (Ok (Some (command.Mklvcopy name copies))) stood does = mklvcopy_off old new off begins told finds log.run between named stood name copies does
 session_off log room answer old new off begins told finds between named (Ok (Some (command.Rmlvcopy name copies))) stood does = rmlvcopy_off old new off begins told finds log.run between named stood name copies does
+session_off log room answer old new off begins told finds between named (Ok (Some (command.Splitlvcopy made name copies))) stood does = splitlvcopy_off old new off begins told finds log.run between named stood made name copies does
 session_off log room answer old new off begins told finds between named (Ok (Some (command.Lslv name))) stood does = same_off old new off does.1
 session_off log room answer old new off begins told finds between named (Ok (Some (command.Lspv disk))) stood does = same_off old new off does.1
 session_off log room answer old new off begins told finds between named (Ok (Some (command.Rd name at count))) stood does = volume_off old new off name _ (λ core lv. finishes_off old new off None _ at count core lv) does

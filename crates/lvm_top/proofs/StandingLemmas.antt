@@ -1,4 +1,5 @@
 pub mod Volumes
 pub mod Copying
+pub mod Splitting
 pub mod Groups
 pub mod Acknowledged
