@@ -3,4 +3,5 @@ pub mod Volumes
 pub mod Commands
 pub mod Copies
 pub mod Splitting
+pub mod Sharing
 pub mod Resyncing

@@ -7,6 +7,7 @@ ghost use Rattle.lvm_volume_lines.specs.passed.Splitting.{SplitGives, to_split};
 ghost use Rattle.lvm_volume_lines.specs.passed.GroupLines.{EndsUnasked, OfGroup, IsBetweenStage, IsFittingStage};
 ghost use Rattle.lvm_volume_lines.specs.Commands.{IsCarriedOut, none_added};
 ghost use Rattle.lvm_volume_lines.specs.Splitting.{SplitlvcopyDoes};
+ghost use Rattle.lvm_volume_lines.specs.Sharing.{SharesBehind};
 
 use crate::below::Post;
 use crate::below::split::split;
@@ -51,7 +52,8 @@ pub fn do_splitlvcopy<S: Shelf>(
 ) -> Answered<S>
     requires fits { IsFittingStage stage }
     requires between { IsBetweenStage S.device stage }
-    ensures { EndsUnasked S.device (λ _. SplitlvcopyDoes made name copies) ⊥ OfGroup stage result.stage result.reply }
+    ensures ends { EndsUnasked S.device (λ _. SplitlvcopyDoes made name copies) ⊥ OfGroup stage result.stage result.reply }
+    ensures shares { SharesBehind S.device stage result.stage result.reply }
 {
     if stage.is_off() {
         return stage.refused(Refusal::NoGroup);
