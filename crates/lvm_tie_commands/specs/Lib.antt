@@ -8,3 +8,4 @@ pub mod SplitServing
 pub mod Settled
 pub mod Coming
 pub mod Examples
+pub mod Sharing

@@ -11,7 +11,8 @@ use Rattle.lvm_vol.specs.Order.{Ordered}
 use Rattle.lvm_kept.specs.Contents.{contents_of}
 use Rattle.lvm_kept.specs.Moments.{Moment}
 use Rattle.lvm_steps.specs.Moments.{Begins, Keeps}
-use Rattle.lvm_tie_commands.specs.passed.Names.{EntersVolumes, IsOneFoundOn, moment_of, NoPartition, IsSettled, GroupFault, IfOn}
+use Rattle.lvm_handover.specs.passed.Names.{EntersVolumes}
+use Rattle.lvm_tie_commands.specs.passed.Names.{IsOneFoundOn, moment_of, NoPartition, IsSettled, GroupFault, IfOn}
 use Rattle.lvm_session.specs.State.{Core, State, is_there}
 use Rattle.lvm_tie_commands.specs.passed.VolumePlanFaultGroupFault as fault
 use Rattle.lvm_volume_plan.specs.NewVolume.{IsLowestFree}
