@@ -114,7 +114,7 @@ pub record SameShape (old new : State) : Type 0 where
   pub origin : new.core.origin ≡ old.core.origin
   pub pvs : new.core.descriptor.pvs ≡ old.core.descriptor.pvs
 
-shape_as : (old new : State) → new ≡ old → SameShape old new
+pub shape_as : (old new : State) → new ≡ old → SameShape old new
 shape_as old new same = record { origin = ap (λ (s : State). s.core.origin) same; pvs = ap (λ (s : State). s.core.descriptor.pvs) same }
 
 pub mklv_shape : (v : NewVolume) (patience : ℕ) (old new : State) (given : Result ℕ GroupFault) → MklvGives v patience old new given → is_over given ≡ false → SameShape old new
