@@ -51,11 +51,14 @@ module _ {S : Type 0} (device : S → Device) (stage : Stage S) (fits : IsFittin
           let shelf : device (shelf_in it) ≡ device done.left.0 = ap (λ (s : Stage S). device (shelf_in s)) is.is ∙ ap device held.shelf in
           let session : session_in it ≡ Some held.core = ap (λ (s : Stage S). session_in s) is.is ∙ held.session in
           let content : ShareContent (past ++ mid.core.history.facts) left lv number = split_shares core.history.run first lv made copies patience done.after mid left number may commanded gives past (subst (λ (n : ℕ). Begins n past first) its_run begins) in
+          -- it says nothing of how the session began
+          let again : ShareContent (past ++ mid.core.history.facts) (state (device done.left.0) (record done.left.1 { origin = held.core.origin })) lv number =
+              record { stays = content.stays; new = content.new; stays_is = content.stays_is; new_is = content.new_is; apart = content.apart; lps = content.lps; same = content.same } in
           subst (λ (o : Option Core). IsSomeAnd o (SharesSession past (device (shelf_in it)))) (sym session) (record {
             lv = lv;
             number = number;
             turned = mid.core.history.facts;
             history = ap (λ (c : Core). c.history.facts) held.is ∙ ap (λ (c : Core). c.history.facts) gives.is;
             shares = subst (λ (d : Device). ShareContent (past ++ mid.core.history.facts) (state d held.core) lv number) (sym shelf)
-                (subst (λ (c : Core). ShareContent (past ++ mid.core.history.facts) (state (device done.left.0) c) lv number) (sym held.is) content);
+                (subst (λ (c : Core). ShareContent (past ++ mid.core.history.facts) (state (device done.left.0) c) lv number) (sym held.is) again);
           })
