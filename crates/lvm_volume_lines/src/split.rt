@@ -70,16 +70,7 @@ pub fn do_splitlvcopy<S: Shelf>(
     match come_to_rest(holder, &mut patience) {
         Ok(driver) => match driver.volume(name) {
             None => go_on(driver, posts, bytes, &[]).refused(Refusal::NoVolume),
-            Some(lv) => split_volume(
-                alloc,
-                driver,
-                posts,
-                bytes,
-                lv,
-                made,
-                copies,
-                &mut patience,
-            ),
+            Some(lv) => split_volume(alloc, driver, posts, bytes, lv, made, copies, &mut patience),
         },
         Err((driver, why)) => Stage::ended(driver, posts, bytes).refused(drain_refusal(why)),
     }

@@ -53,7 +53,7 @@ module _ {S : Type 0} (device : S → Device) (stage : Stage S) (fits : IsFittin
           let content : ShareContent (past ++ mid.core.history.facts) left lv number = split_shares core.history.run first lv made copies patience done.after mid left number may commanded gives past (subst (λ (n : ℕ). Begins n past first) its_run begins) in
           -- it says nothing of how the session began
           let again : ShareContent (past ++ mid.core.history.facts) (state (device done.left.0) (record done.left.1 { origin = held.core.origin })) lv number =
-              record { stays = content.stays; new = content.new; stays_is = content.stays_is; new_is = content.new_is; apart = content.apart; lps = content.lps; same = content.same } in
+          record { stays = content.stays; new = content.new; stays_is = content.stays_is; new_is = content.new_is; apart = content.apart; lps = content.lps; same = content.same } in
           subst (λ (o : Option Core). IsSomeAnd o (SharesSession past (device (shelf_in it)))) (sym session) (record {
             lv = lv;
             number = number;

@@ -24,8 +24,8 @@ pub returns-then-is_off : goal.returns-then-is_off
 returns-then-is_off g c =
     record {
       ends =
-        refused_ends g.S.Shelf.device (λ log. SplitlvcopyDoes c.args.made c.args.name c.args.copies) ⊥ OfGroup c.args.stage c.refused.result.stage c.refused.result.reply
-        c.requires.fits c.requires.between c.refused.ensures.stage refusal.NoGroup c.refused.ensures.reply (λ last is. NoGroupForSplitlvcopy (c.is_off.ensures.0 c.if-is_off.true) is);
+          refused_ends g.S.Shelf.device (λ log. SplitlvcopyDoes c.args.made c.args.name c.args.copies) ⊥ OfGroup c.args.stage c.refused.result.stage c.refused.result.reply
+          c.requires.fits c.requires.between c.refused.ensures.stage refusal.NoGroup c.refused.ensures.reply (λ last is. NoGroupForSplitlvcopy (c.is_off.ensures.0 c.if-is_off.true) is);
       shares = λ last first ok. absurd (let no : reply.Ok ≡ reply.Refused refusal.NoGroup = sym ok ∙ c.refused.ensures.reply in cc no);
     }
 
@@ -34,8 +34,8 @@ returns-then-open-gt0 g c =
     let some : 1 ≤ open_in (session_in c.args.stage) = let many = c.if-open-gt0.true in let same = c.open.ensures in omega (arith, many, same) in
     record {
       ends =
-        refused_ends g.S.Shelf.device (λ log. SplitlvcopyDoes c.args.made c.args.name c.args.copies) ⊥ OfGroup c.args.stage c.refused-then-open-gt0.result.stage c.refused-then-open-gt0.result.reply
-        c.requires.fits c.requires.between c.refused-then-open-gt0.ensures.stage refusal.Busy c.refused-then-open-gt0.ensures.reply (λ last is. BusySplitlvcopy some is);
+          refused_ends g.S.Shelf.device (λ log. SplitlvcopyDoes c.args.made c.args.name c.args.copies) ⊥ OfGroup c.args.stage c.refused-then-open-gt0.result.stage c.refused-then-open-gt0.result.reply
+          c.requires.fits c.requires.between c.refused-then-open-gt0.ensures.stage refusal.Busy c.refused-then-open-gt0.ensures.reply (λ last is. BusySplitlvcopy some is);
       shares = λ last first ok. absurd (let no : reply.Ok ≡ reply.Refused refusal.Busy = sym ok ∙ c.refused-then-open-gt0.ensures.reply in cc no);
     }
 
@@ -65,10 +65,10 @@ returns-in-None g c =
     let rested = subst (λ (n : ℕ). HasRested g.S.Shelf.device c.args.stage.holder n left driver) c.whole-patience.ensures c.in-Ok.ensures.rests in
     record {
       ends =
-        unnamed_ends g.S.Shelf.device c.args.stage c.requires.fits c.requires.between none left driver rested c.args.name c.in-None.ensures.none
-        OfGroup (λ old new alone. alone.acts tt) c.go_on.ensures.by c.go_on.ensures.held c.refused-in-None.result.stage (c.refused-in-None.ensures.stage ∙ c.go_on.ensures.is) c.refused-in-None.result.reply c.refused-in-None.ensures.reply g.met.S.Shelf.sectors_are_whole
-        (λ log. SplitlvcopyDoes c.args.made c.args.name c.args.copies)
-        (λ last drained stays. NoVolumeForSplitlvcopy rested.turned.core left (state_of g.S.Shelf.device driver) rested.turned.its drained c.in-None.ensures.none stays refl c.refused-in-None.ensures.reply);
+          unnamed_ends g.S.Shelf.device c.args.stage c.requires.fits c.requires.between none left driver rested c.args.name c.in-None.ensures.none
+          OfGroup (λ old new alone. alone.acts tt) c.go_on.ensures.by c.go_on.ensures.held c.refused-in-None.result.stage (c.refused-in-None.ensures.stage ∙ c.go_on.ensures.is) c.refused-in-None.result.reply c.refused-in-None.ensures.reply g.met.S.Shelf.sectors_are_whole
+          (λ log. SplitlvcopyDoes c.args.made c.args.name c.args.copies)
+          (λ last drained stays. NoVolumeForSplitlvcopy rested.turned.core left (state_of g.S.Shelf.device driver) rested.turned.its drained c.in-None.ensures.none stays refl c.refused-in-None.ensures.reply);
       shares = λ last first ok. absurd (let no : reply.Ok ≡ reply.Refused refusal.NoVolume = sym ok ∙ c.refused-in-None.ensures.reply in cc no);
     }
 
@@ -86,17 +86,17 @@ returns-in-Some g c =
     let new = state_of g.S.Shelf.device done.left in
     record {
       ends =
-        ends_so g.S.Shelf.device c.args.stage c.requires.fits c.requires.between none left driver rested OfGroup (λ old new alone. alone.acts tt) (λ was is given. SplitGives lv made copies left was is given) none_added (to_split lv made copies)
-        c.split_volume.result.stage c.split_volume.result.reply done g.met.S.Shelf.sectors_are_whole
-        (λ last. record {
-          facts = split_facts lv made copies left mid new rested.settled.power done.given done.gives;
-          landed = split_bears lv made copies left mid new HaveAllLanded landed_over_splits rested.between.landed done.given done.gives;
-          answers = λ range was. split_bears lv made copies left mid new (λ facts. AreAnswered facts range) (answers_over_splits range) was done.given done.gives;
-          shape = split_shape lv made copies left mid new done.given done.gives;
-          goes = λ m may alone. split_goes_on rested.turned.core.history.run m lv made copies left done.after mid new done.given may done.commanded done.gives;
-        })
-        (λ log. SplitlvcopyDoes c.args.made c.args.name copies)
-        (λ last is. splitlvcopy_does c.args.made c.args.name copies lv rested.turned.core left mid done.given _ _ rested.turned.its (drains g.S.Shelf.device c.args.stage c.requires.fits c.requires.between none left driver rested last) c.in-Some.ensures.some is);
+          ends_so g.S.Shelf.device c.args.stage c.requires.fits c.requires.between none left driver rested OfGroup (λ old new alone. alone.acts tt) (λ was is given. SplitGives lv made copies left was is given) none_added (to_split lv made copies)
+          c.split_volume.result.stage c.split_volume.result.reply done g.met.S.Shelf.sectors_are_whole
+          (λ last. record {
+            facts = split_facts lv made copies left mid new rested.settled.power done.given done.gives;
+            landed = split_bears lv made copies left mid new HaveAllLanded landed_over_splits rested.between.landed done.given done.gives;
+            answers = λ range was. split_bears lv made copies left mid new (λ facts. AreAnswered facts range) (answers_over_splits range) was done.given done.gives;
+            shape = split_shape lv made copies left mid new done.given done.gives;
+            goes = λ m may alone. split_goes_on rested.turned.core.history.run m lv made copies left done.after mid new done.given may done.commanded done.gives;
+          })
+          (λ log. SplitlvcopyDoes c.args.made c.args.name copies)
+          (λ last is. splitlvcopy_does c.args.made c.args.name copies lv rested.turned.core left mid done.given _ _ rested.turned.its (drains g.S.Shelf.device c.args.stage c.requires.fits c.requires.between none left driver rested last) c.in-Some.ensures.some is);
       shares = shares_behind g.S.Shelf.device c.args.stage c.requires.fits c.requires.between none left driver rested lv made copies c.split_volume.result.stage c.split_volume.result.reply done;
     }
 
@@ -107,11 +107,11 @@ returns-in-Err g c =
     let broken = subst (λ (n : ℕ). HasBrokenOff g.S.Shelf.device c.args.stage.holder n left c.in-Err.driver c.in-Err.why) c.whole-patience.ensures c.in-Err.ensures.breaks_off in
     record {
       ends =
-        subst (λ (a : Reply). EndsUnasked g.S.Shelf.device (λ log. SplitlvcopyDoes c.args.made c.args.name c.args.copies) ⊥ OfGroup c.args.stage c.refused-in-Err.result.stage a)
-        (sym (c.refused-in-Err.ensures.reply ∙ ap (λ (r : Refusal). reply.Refused r) c.drain_refusal.ensures))
-        (subst (λ (s : Stage g.row.S.Denot). EndsUnasked g.S.Shelf.device (λ log. SplitlvcopyDoes c.args.made c.args.name c.args.copies) ⊥ OfGroup c.args.stage s (reply.Refused (drain_refusal c.in-Err.why))) (sym c.refused-in-Err.ensures.stage)
-        (undrained_ends OfGroup (λ old new alone. alone.acts tt) g.S.Shelf.device c.args.stage c.requires.fits c.requires.between none left c.in-Err.driver c.in-Err.why broken c.ended.result (reply.Refused (drain_refusal c.in-Err.why)) c.ended.ensures.ended c.ended.ensures.rooms refl
-        (λ log. SplitlvcopyDoes c.args.made c.args.name c.args.copies)
-        (λ last is. UndrainedSplitlvcopy broken.turned.core c.in-Err.why broken.turned.its is)));
+          subst (λ (a : Reply). EndsUnasked g.S.Shelf.device (λ log. SplitlvcopyDoes c.args.made c.args.name c.args.copies) ⊥ OfGroup c.args.stage c.refused-in-Err.result.stage a)
+          (sym (c.refused-in-Err.ensures.reply ∙ ap (λ (r : Refusal). reply.Refused r) c.drain_refusal.ensures))
+          (subst (λ (s : Stage g.row.S.Denot). EndsUnasked g.S.Shelf.device (λ log. SplitlvcopyDoes c.args.made c.args.name c.args.copies) ⊥ OfGroup c.args.stage s (reply.Refused (drain_refusal c.in-Err.why))) (sym c.refused-in-Err.ensures.stage)
+          (undrained_ends OfGroup (λ old new alone. alone.acts tt) g.S.Shelf.device c.args.stage c.requires.fits c.requires.between none left c.in-Err.driver c.in-Err.why broken c.ended.result (reply.Refused (drain_refusal c.in-Err.why)) c.ended.ensures.ended c.ended.ensures.rooms refl
+          (λ log. SplitlvcopyDoes c.args.made c.args.name c.args.copies)
+          (λ last is. UndrainedSplitlvcopy broken.turned.core c.in-Err.why broken.turned.its is)));
       shares = λ last first ok. absurd (let no : reply.Ok ≡ reply.Refused c.drain_refusal.result = sym ok ∙ c.refused-in-Err.ensures.reply in cc no);
     }

@@ -24,15 +24,15 @@ after-requires-clause-may g c = λ goes.
     let mid = state_of g.S.Shelf.device c.args.driver in
     let left = state_of g.S.Shelf.device c.split-done.new.driver in
     let may : MayServeWith [] left =
-        if_on c.split-done.result (MayServeWith [] left)
-        (split_leaves_serving c.args.lv c.args.made c.args.copies c.args.patience.now.left c.split-done.new.patience.left mid left c.split-done.result c.requires.sound
-        (record {
-          began = c.requires.settled;
-          on = c.split-done.ensures.settled (record { on = c.requires.settled.power; requests = c.requires.settled.quiet.requests });
-          still = c.split-done.ensures.held;
-          fresh = c.split-done.ensures.fresh;
-          leaves = c.split-done.ensures.leaves;
-        }) c.split-done.ensures.gives) goes in
+    if_on c.split-done.result (MayServeWith [] left)
+    (split_leaves_serving c.args.lv c.args.made c.args.copies c.args.patience.now.left c.split-done.new.patience.left mid left c.split-done.result c.requires.sound
+    (record {
+      began = c.requires.settled;
+      on = c.split-done.ensures.settled (record { on = c.requires.settled.power; requests = c.requires.settled.quiet.requests });
+      still = c.split-done.ensures.held;
+      fresh = c.split-done.ensures.fresh;
+      leaves = c.split-done.ensures.leaves;
+    }) c.split-done.ensures.gives) goes in
     (may.0, may.1 refl)
 
 pub returns : goal.returns
