@@ -45,7 +45,7 @@ module _ {S : Type 0} (device : S → Device) (stage : Stage S) (fits : IsFittin
 
       by : (given : Result ℕ GroupFault) → SplitGives lv made copies patience mid left given → IsCommanded (to_split lv made copies driver.1) patience done.after mid left given
           → IsLeftAs device (is_over given) (none_added given) done.left stage.posts stage.bytes it → answer ≡ volume_reply given → IsSomeAnd (session_in it) (SharesSession past (device (shelf_in it)))
-      by (Err why) gives commanded is says = absurd (let no : reply.Ok ≡ volume_reply (Err why) = sym ok ∙ says in cc no)
+      by (Err why) gives commanded is says = absurd (let no : reply.Ok ≡ volume_reply {X = ℕ} (Err why) = sym ok ∙ says in cc no)
       by (Ok number) gives commanded is says =
           let held = is.held in
           let shelf : device (shelf_in it) ≡ device done.left.0 = ap (λ (s : Stage S). device (shelf_in s)) is.is ∙ ap device held.shelf in
