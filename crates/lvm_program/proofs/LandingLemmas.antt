@@ -1,8 +1,9 @@
 -- What requests land as in lines in which nothing fails.
-use Rattle.std.proofs.Common.{◌≡◌, inl, inr, ◌+◌, ◌++◌, ℕ, zero, suc, Bool, true, false, List, [], ◌∷◌, Option, Some, None, Result, Ok, refl, sym, ◌∙◌, ap, subst, arith}
-use Rattle.std.specs.Prelude.{IfSome, slice_index_or}
+use Rattle.std.proofs.Common.{◌≡◌, inl, inr, ◌≤◌, ◌<◌, ◌+◌, ◌++◌, ℕ, zero, suc, Bool, true, false, List, [], ◌∷◌, Option, Some, None, Result, Ok, refl, sym, ◌∙◌, ap, subst, arith}
+use Rattle.std.specs.Prelude.{IfSome, codes, slice_index_or}
 use Rattle.std.proofs.lemmas.List.{append-nil, append_assoc}
 use Rattle.lvm_disk.specs.Counts.{Counts, Rose}
+use Rattle.lvm_disk.specs.Device.{Device}
 use Rattle.lvm_vol.specs.Facts.{Fact}
 use Rattle.lvm_vol.specs.Log.{Log, taken_fact}
 use Rattle.lvm_parse.specs.declared.command.Command.{Command}
@@ -21,10 +22,11 @@ use Rattle.lvm_posts.specs.declared.posts.Post.{Post}
 use Rattle.lvm_posts.specs.Posts.{takings}
 use Rattle.lvm_load.specs.Landing.{EntersWell}
 use Rattle.lvm_load.proofs.LandingLemmas.{enters_both, enters_none, enters_one, leaves_nothing, leaves_then, requests_land_well, sound_later}
-use Rattle.lvm_line.specs.Lines.{LineDoes, role_of}
+use Rattle.lvm_line.specs.Lines.{IsLine, LineDoes, role_of}
 use Rattle.lvm_line.specs.passed.ReplyVariants as reply
 use Rattle.lvm_line.specs.passed.GroupLines.{IsBetween, IsOnBetween, IsRequesting, Reply, ScriptState, is_unheard}
 use Rattle.lvm_line.specs.passed.RangeLines.{CarriesBy, EndsWell, Fails, FailsIf, Finishes, NoStepWhileOff, NotBegun, NotPosted, NotThere, NothingMoves, OnVolume, Posted, Posts, StepDoes, Steps, There, WhileOff}
+use Rattle.lvm_range_lines.specs.Answers.{TellsAll}
 use Rattle.lvm_range_lines.specs.Refusals.{Ending, is_stuck}
 use Rattle.lvm_line.specs.passed.RangeLinesWaiting.{AtRest, Awaits, Goes, InVain, Over, WaitDoes, WaitEnds, WaitsOn, WhileOff as WaitsWhileOff}
 use Rattle.lvm_range_lines.specs.Waiting.{NoGone, OneGone, TakesGone, WaitsOver}
@@ -32,8 +34,8 @@ use Rattle.lvm_line.specs.passed.Resync.{Copy, SyncFault}
 use Rattle.lvm_line.specs.passed.Tie.{LeavesSession}
 use Rattle.lvm_line.specs.passed.VolumeLines.{IsSynced, NoGroupForSync, NoVolumeForSync, NothingSyncs, OtherGroupForSync, SyncGroupDoes, SyncVolumeDoes, SyncsGroup, SyncsVolume}
 use Rattle.lvm_line.proofs.CausesLemmas.Turns.{fails_counts, leaves_counts, over_counts}
+use Rattle.lvm_group_lines.proofs.MomentsLemmas.Going.{same_goes}
 use Rattle.lvm_line.proofs.passed.Tie.{goes_any, path_shape}
-use Rattle.lvm_line.proofs.CompleteLemmas.Worked.{nothing_may_fail_answered}
 use Rattle.lvm_parse.specs.Reading.{ends}
 use Rattle.lvm_program.specs.Landing.{LandsInLine, LinesLandWell, NothingSince, SomeLineLandsWell}
 
@@ -164,10 +166,37 @@ module _ (old new : ScriptState) (between : IsBetween old.moment old.session old
 pub lines_land_well : LinesLandWell
 lines_land_well log room line answer old new it asks nothing = line_lands old new it.between nothing log room (line_of line) answer it.does asks
 
--- ---- worked: no group is on
+-- ---- worked: no group is on, over one blank disk, and `wait` is answered
+
+abbrev bare : Device
+bare = record { sizes = 8192 ∷ []; media = None; flights = []; freed = []; power = true; counts = record { starts = λ disk. 0; misses = λ disk. 0; faults = λ disk. 0; cuts = 0; waits = 0 }; arranges = false; orders = record { made = 0; last = None; alone = None }; wrote = None }
+
+abbrev off : ScriptState
+off = record { moment = record { device = bare; facts = [] }; session = None; posts = []; last = 0 }
+
+abbrev said : Reply
+said = reply.Answers (codes "ok\n") 0
+
+off_between : IsBetween off.moment off.session off.posts
+off_between = record {
+  lit = record { power = refl; freed = refl };
+  descriptors = λ disk at value flies. absurd flies;
+  landed = λ id. refl;
+  session = tt;
+  posted = record { each = λ k d less. absurd (omega (arith, less)); rise = λ i j d lt less. absurd (omega (arith, less)) };
+}
+
+waits : (log : Log) (room : Room) → IsLine log room (codes "wait") said off off
+unfolding ends
+waits log room = record {
+  does = WaitsWhileOff (record { off = refl; answers = []; takes = NoGone; new_is = refl; tells = TellsAll refl });
+  goes = same_goes log.run (role_of (line_of (codes "wait"))) said off off off_between (omega arith) refl;
+  orders = λ others. refl;
+  whole = tt;
+  between = off_between;
+  named = tt;
+}
 
 pub some_line_lands_well : SomeLineLandsWell
-unfolding nothing_may_fail_answered ends
-some_line_lands_well log room =
-    let it = nothing_may_fail_answered log room in
-    (it.0, reply.Answers it.1.0 0, it.1.1.0, it.1.1.1.0, it.1.1.1.1.0, tt, record { none = tt; lit = λ rose. let risen = rose.risen in omega (arith, risen) })
+unfolding ends
+some_line_lands_well log room = (codes "wait", said, off, off, waits log room, tt, record { none = tt; lit = λ rose. let risen = rose.risen in omega (arith, risen) })
