@@ -18,7 +18,8 @@ use lvm_volume_lines::below::group_lines::{
 use lvm_volume_lines::below::range_lines::{do_post, do_rd, do_step, do_wait, do_wr};
 use lvm_volume_lines::below::stage::{Answered, Refusal, Reply, Stage};
 use lvm_volume_lines::{
-    do_mklv, do_mklvcopy, do_rmlv, do_rmlvcopy, do_splitlvcopy, do_sync_group, do_sync_volume, do_varyoff,
+    do_mklv, do_mklvcopy, do_rmlv, do_rmlvcopy, do_splitlvcopy, do_sync_group, do_sync_volume,
+    do_varyoff,
 };
 use std::alloc::Global;
 

@@ -76,7 +76,7 @@ module _ (old new : ScriptState) (between : IsBetween old.moment old.session old
         none failed = subst (λ (o : Option Core). IfSome o (λ (c : Core). AnyFailedSince (state new.moment.device c) → ⊥)) on nothing.none (
           failed.0,
           subst (λ (n : Counts). Rose (slice_index_or core.origin.faults failed.0 0) (n.faults failed.0)) (sym counts)
-          (subst (λ (o : Origin). Rose (slice_index_or o.faults failed.0 0) (end.device.counts.faults failed.0)) (path_shape leaves).origin failed.1),
+              (subst (λ (o : Origin). Rose (slice_index_or o.faults failed.0 0) (end.device.counts.faults failed.0)) (path_shape leaves).origin failed.1),
         )
 
         lit : end.core.power ≡ power.Dark → ⊥
