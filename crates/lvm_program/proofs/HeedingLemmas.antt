@@ -1,14 +1,13 @@
 -- Runs over a shelf that heeds orders alone.
 use Rattle.std.proofs.Common.{◌≡◌, ◌⊎◌, inl, inr, ⊎_elim, ◌≤◌, ℕ, Bool, true, List, [], Option, Some, None, IfSome, Result, Ok, refl, sym, ◌∙◌, ap, subst, arith}
 use Rattle.lvm_disk.specs.Counts.{Rose, RoseBy}
-use Rattle.lvm_disk.specs.Device.{Device, IsReady, Ordered, Orders}
+use Rattle.lvm_disk.specs.Device.{Device, Ordered, Orders}
 use Rattle.lvm_disk.specs.Paths.{DeviceStep, Path, Here, Then}
 use Rattle.lvm_disk.specs.Steps.{GoesDark, after_order, ordered_by, with_order}
 use Rattle.lvm_disk.specs.declared.shelf.Arrange.{Arrange}
 use Rattle.lvm_disk.specs.declared.shelf.Arrange.TheVariants as arrange
 use Rattle.lvm_order_laws.specs.Alone.{IsUnharmed, NothingCounted}
-use Rattle.lvm_order_laws.specs.Worked.{fresh}
-use Rattle.lvm_order_laws.proofs.AloneLemmas.{fresh_is_unharmed, heeds_always, stays_unharmed}
+use Rattle.lvm_order_laws.proofs.AloneLemmas.{heeds_always, stays_unharmed}
 use Rattle.lvm_vol.specs.Log.{Log}
 use Rattle.lvm_kept.specs.Moments.{Moment, Step, Moves, Enters}
 use Rattle.lvm_parse.specs.declared.command.Command.{Command}
@@ -27,14 +26,11 @@ use Rattle.lvm_line.specs.Lines.{IsLine, IsOrder, LineDoes, role_of}
 use Rattle.lvm_line.specs.passed.GroupLines.{ArrangeDoes, CutDoes, CutNotPlanned, IsArranged, NotPlanned, NotThere, PowerIsCut, IsAlone, IsClosed, IsTimely, Reply, ScriptState, StandsBy, patience_of_line}
 use Rattle.lvm_group_lines.specs.declared.reply.Refusal.TheVariants as refusal
 use Rattle.lvm_line.specs.passed.ReplyVariants as reply
-use Rattle.lvm_top.specs.declared.status.ExitStatus.TheVariants as ended
 use Rattle.lvm_top.specs.Ending.{Concludes, NoneIsOn, NoneIsServed, IsServed, NothingIsLeft, TurnsAreMade}
 use Rattle.lvm_top.proofs.passed.Tie.{path_frames}
-use Rattle.lvm_program.specs.Heeding.{AreNoOrders, AreUntroubled, EndsNoOrder, EndsUntroubled, GoesWell, IsNoOrder, IsTroubled, RanUnordered, LinesOrderAlone, RunsHeedAlone, SomeRunGoesWell, UnorderedRunsGoWell, UnorderedScriptsGoWell, ordered_after, ordered_behind, orders_of}
+use Rattle.lvm_program.specs.Heeding.{AreNoOrders, AreUntroubled, EndsNoOrder, EndsUntroubled, GoesWell, IsNoOrder, IsTroubled, RanUnordered, LinesOrderAlone, RunsHeedAlone, UnorderedRunsGoWell, UnorderedScriptsGoWell, ordered_after, ordered_behind, orders_of}
 use Rattle.lvm_top.specs.Run.{Run, IsRun, RanAlone}
-use Rattle.lvm_program.specs.Sim.{full_room}
-use Rattle.lvm_program.specs.Woven.{untold}
-use Rattle.lvm_top.specs.Script.{AreDone, Script, NoLine, NextLine, StaysAlone, Ends, AtLine, InLine, EndsAlone, EndsStuck, empty_log, entry_state, facts_of}
+use Rattle.lvm_top.specs.Script.{Script, NoLine, NextLine, StaysAlone, Ends, AtLine, InLine, EndsAlone, EndsStuck, empty_log, entry_state, facts_of}
 use Rattle.lvm_top.proofs.LawsLemmas.Scripts.{first_stands}
 use Rattle.lvm_line.proofs.CompleteLemmas.Completing.{lines_complete}
 use Rattle.lvm_top.proofs.RefusedLemmas.{line_caused}
@@ -239,59 +235,3 @@ pub lines_order_alone : LinesOrderAlone
 lines_order_alone log room first lines replies last NoLine on o told = told
 lines_order_alone log room first lines replies last (NextLine {lines = before_lines} {replies = before_replies} {mid = mid} {new = new} line answer said heard says before it) on o told =
     line_orders log room mid new answer (ordered_behind before o) ((script_went log room first before).power on) (lines_order_alone log room first before_lines before_replies mid before on o told) (line_of line) it.does it.orders
-
--- ---- worked
-
--- a run over it that was given no line
-abbrev still_run : Run
-still_run = record { named = 50; last = 50; room = full_room; entry = fresh; exit = fresh; input = untold; output = untold; history = Some (empty_log 50 full_room); status = ended.Well; refused = 0 }
-
-fresh_is_ready : IsReady fresh
-fresh_is_ready = record { flights = refl; freed = refl; power = refl }
-
-no_lines : AreDone (empty_log 50 full_room) full_room (entry_state fresh 50) (entry_state fresh 50) untold untold 0
-no_lines = record {
-  lines = [];
-  replies = [];
-  mid = entry_state fresh 50;
-  script = NoLine;
-  done = [];
-  said = [];
-  front = [];
-  ends = AtLine refl;
-  read = λ bytes told. absurd (cc (told));
-  written = tt;
-  in_full = inl refl;
-  counted = refl;
-}
-
-ran_still : IsRun still_run
-unfolding no_lines
-ran_still = record {
-  ready = fresh_is_ready;
-  history_is = refl;
-  none = tt;
-  read_words = λ is. cc (is);
-  counted = λ end. refl;
-  end = entry_state fresh 50;
-  lines = no_lines;
-  concluded = record { concludes = NoneIsOn refl refl; still = λ none. refl; rests = λ none heard. fresh_is_ready; clock = refl };
-  whole = λ end. (refl, tt);
-  between = λ no_sink no_stuck. refl;
-  wanting = λ is. absurd (cc (is));
-  behind = λ is. absurd (cc (is));
-  beyond = λ cause. ⊎_elim (λ is. absurd (cc (is))) (λ is. absurd (cc (is))) cause;
-  source = λ is. absurd (cc (is));
-  sink = λ is. absurd (cc (is));
-  read_well = λ no. refl;
-  written_well = λ no_sink no_stuck. refl;
-  stuck = λ is. absurd (cc (is));
-  heard = λ no. tt;
-  long = λ is. absurd (cc (is));
-  short = λ no. tt;
-  power = refl;
-}
-
-pub some_run_goes_well : SomeRunGoesWell
-unfolding no_lines ran_still
-some_run_goes_well = (still_run, (ran_still, tt, (tt, tt, λ requests. absurd (cc (requests))), fresh_is_unharmed, (tt, tt)))

@@ -5,3 +5,4 @@ mod LoadedLemmas
 mod SimLemmas
 mod HeedingLemmas
 mod LandingLemmas
+mod WorkedLemmas

@@ -1,5 +1,5 @@
 -- What a run does over a shelf that heeds orders alone, and where no line orders anything.
-use Rattle.std.specs.Prelude.{◌≡◌, ℕ, true, List, Option, Some, Result, Ok}
+use Rattle.std.specs.Prelude.{◌≡◌, ℕ, true, List, length, Option, Some, Result, Ok}
 use Rattle.lvm_disk.specs.Device.{Ordered}
 use Rattle.lvm_disk.specs.Paths.{DeviceStep, Path}
 use Rattle.lvm_disk.specs.Steps.{after_order}
@@ -112,6 +112,6 @@ UnorderedRunsGoWell = (r : Run) (ran : IsRun r) → IsBehind r.named r.entry →
 abbrev pub RunsHeedAlone : Type 0
 RunsHeedAlone = (r : Run) → WhereAlone r (IsBehind r.named r.entry → HeedsAlone r.entry → Path DeviceStep HeedsAlone r.entry r.exit)
 
--- Some run is such a one.
+-- Some run of a line is such a one.
 abbrev pub SomeRunGoesWell : Type 0
-SomeRunGoesWell = (r : Run) × ((ran : IsRun r) × IsBehind r.named r.entry × RanAlone ran × IsUnharmed r.entry × RanUnordered ran)
+SomeRunGoesWell = (r : Run) × ((ran : IsRun r) × IsBehind r.named r.entry × RanAlone ran × IsUnharmed r.entry × RanUnordered ran × (length ran.lines.lines ≡ 1))

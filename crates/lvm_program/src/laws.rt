@@ -11,7 +11,7 @@ pub fn unordered_runs_go_well()
     ensures ordered { LinesOrderAlone }
 {}
 
-/// A run without lines over a shelf that was just made meets what the law asks.
+/// A run of one line, which is refused, over a shelf that was just made meets what the law asks.
 pub fn worked_run()
     ensures { SomeRunGoesWell }
 {}
