@@ -7,3 +7,4 @@ pub mod Serving
 pub mod Settled
 pub mod Coming
 pub mod Examples
+pub mod Sharing
