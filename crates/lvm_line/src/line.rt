@@ -13,11 +13,13 @@ use lvm_io::Clock;
 use lvm_parse::{Command, ParseFault, parse};
 use lvm_volume_lines::below::disk_lines::{do_arrange, do_cut, do_read, do_write};
 use lvm_volume_lines::below::group_lines::{
-    do_mkvg, do_varyoff, do_varyon, list_disk, list_group, list_volume,
+    do_mkvg, do_varyon, list_disk, list_group, list_volume,
 };
 use lvm_volume_lines::below::range_lines::{do_post, do_rd, do_step, do_wait, do_wr};
 use lvm_volume_lines::below::stage::{Answered, Refusal, Reply, Stage};
-use lvm_volume_lines::{do_mklv, do_mklvcopy, do_rmlv, do_rmlvcopy, do_sync_group, do_sync_volume};
+use lvm_volume_lines::{
+    do_mklv, do_mklvcopy, do_rmlv, do_rmlvcopy, do_sync_group, do_sync_volume, do_varyoff,
+};
 use std::alloc::Global;
 
 // Does what a command asks for.

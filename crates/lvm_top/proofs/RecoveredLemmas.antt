@@ -38,11 +38,11 @@ use Rattle.lvm_volume_plan.specs.declared.new_volume.NewVolume.{NewVolume}
 use Rattle.lvm_volume_plan.specs.NewVolume.{row_for, without_volume}
 use Rattle.lvm_volume_plan.specs.Faults.{ends_session}
 use Rattle.lvm_volume_plan.proofs.Sublists.{one_filter, one_insert}
-use Rattle.lvm_line.specs.passed.GroupLines.{IsBetween, IsLeft, MkvgDoes, VaryonDoes, VaryoffDoes, NoMemoryForLine, NoMkvgWhileOn, Makes, NoVaryonWhileOn, Varies, NoVaryoff, BusyVaryoff, VariesOff, ReadDoes, WriteDoes, NoWriteWhileOn, WriteGoes, NoReadWhileOn, ReadGoes, ArrangeDoes, CutDoes, NotThere, NotPlanned, IsArranged, CutNotPlanned, PowerIsCut, HasBegunHeld, OfGroup, ScriptState, Reply, is_unheard}
+use Rattle.lvm_line.specs.passed.GroupLines.{IsBetween, IsLeft, MkvgDoes, VaryonDoes, NoMemoryForLine, NoMkvgWhileOn, Makes, NoVaryonWhileOn, Varies, ReadDoes, WriteDoes, NoWriteWhileOn, WriteGoes, NoReadWhileOn, ReadGoes, ArrangeDoes, CutDoes, NotThere, NotPlanned, IsArranged, CutNotPlanned, PowerIsCut, HasBegunHeld, OfGroup, ScriptState, Reply, is_unheard}
 use Rattle.lvm_disk.specs.declared.shelf.Arrange.{Arrange}
 use Rattle.lvm_line.specs.passed.RangeLines.{EndsBy, GoesOnWith, CarriesBy, OnVolume, WhileOff, NotThere as VolumeNotThere, There, Posts, NotPosted, Posted, Finishes, NotBegun, EndsWell, Fails, StepDoes, NoStepWhileOff, NothingMoves, Steps, FailsIf}
 use Rattle.lvm_line.specs.passed.RangeLinesWaiting.{WaitDoes, WhileOff as WaitsWhileOff, AtRest, Awaits, WaitsOff, WaitsOn, WaitEnds, Goes, Over, InVain}
-use Rattle.lvm_line.specs.passed.VolumeLines.{IsSynced, NoGroupForSync, NoVolumeForSync, NothingSyncs, OtherGroupForSync, SyncGroupDoes, SyncVolumeDoes, SyncsGroup, SyncsVolume, MklvcopyDoes, NoGroupForMklvcopy, BusyMklvcopy, UndrainedMklvcopy, NoVolumeForMklvcopy, AddsCopies, MklvcopyFails, RmlvcopyDoes, NoGroupForRmlvcopy, BusyRmlvcopy, UndrainedRmlvcopy, NoVolumeForRmlvcopy, RemovesCopies, RmlvcopyFails, Drains, IsDone, StaysOn, MklvDoes, RmlvDoes, NoGroupForMklv, BusyMklv, UndrainedMklv, MakesVolume, MklvFails, NoGroupForRmlv, BusyRmlv, UndrainedRmlv, NoVolumeForRmlv, RemovesVolume, RmlvFails, wanted}
+use Rattle.lvm_line.specs.passed.VolumeLines.{BusyVaryoff, NoVaryoff, TidiesOff, UndrainedVaryoff, VariesOff, VaryoffDoes, VaryoffFails, IsSynced, NoGroupForSync, NoVolumeForSync, NothingSyncs, OtherGroupForSync, SyncGroupDoes, SyncVolumeDoes, SyncsGroup, SyncsVolume, MklvcopyDoes, NoGroupForMklvcopy, BusyMklvcopy, UndrainedMklvcopy, NoVolumeForMklvcopy, AddsCopies, MklvcopyFails, RmlvcopyDoes, NoGroupForRmlvcopy, BusyRmlvcopy, UndrainedRmlvcopy, NoVolumeForRmlvcopy, RemovesCopies, RmlvcopyFails, Drains, IsDone, StaysOn, MklvDoes, RmlvDoes, NoGroupForMklv, BusyMklv, UndrainedMklv, MakesVolume, MklvFails, NoGroupForRmlv, BusyRmlv, UndrainedRmlv, NoVolumeForRmlv, RemovesVolume, RmlvFails, wanted}
 use Rattle.lvm_line.specs.passed.Resync.{Copy, SyncFault, group_copies, group_fault, volume_copies, volume_fault}
 use Rattle.lvm_line.specs.Lines.{LineDoes, role_of}
 use Rattle.lvm_line.proofs.passed.Tie.{path_frames, path_shape}
@@ -249,7 +249,10 @@ module _ (old new : ScriptState) (off : HasNoPassiveOn old) where
   varyoff_off : {answer : Reply} (name : List ℕ) → VaryoffDoes name old new answer → HasNoPassiveOn new
   varyoff_off name (NoVaryoff none is) = same_off is.1
   varyoff_off name (BusyVaryoff on busy is) = same_off is.1
-  varyoff_off name (VariesOff core some on none ends is) = none_off ends.after
+  varyoff_off name (VariesOff core some on none clean ends is) = none_off ends.after
+  varyoff_off name (UndrainedVaryoff core why some on dirty un) = none_off un.over.session
+  varyoff_off name (TidiesOff core left mid some on dirty drains done is) = none_off done.leaves.session
+  varyoff_off name (VaryoffFails core left mid why some on dirty drains done is) = none_off done.leaves.session
 
   module _ (begins : IfNone old.session (IfSome new.session (HasBegunHeld new.moment.device))) (told : IsSome new.moment.device.media) (finds : FindsNoPassive new.moment.device) where
     -- a group that comes on is found

@@ -12,3 +12,4 @@ pub mod Giving
 pub mod CopiesServingLemmas
 pub mod CopiesLemmas
 pub mod ResyncingLemmas
+pub mod ClosingLemmas

@@ -3,3 +3,4 @@ pub mod Volumes
 pub mod Commands
 pub mod Copies
 pub mod Resyncing
+pub mod Closing

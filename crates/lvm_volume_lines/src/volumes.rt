@@ -87,8 +87,8 @@ fn relight_after_fault<S: Shelf>(shelf: &mut S, why: GroupFault)
     }
 }
 
-// Closes a session that is over by a fault. Its posts have ended with its votes.
-fn close_after<S: Shelf>(
+/// Closes a session that is over by a fault. Its posts have ended with its votes.
+pub fn close_after<S: Shelf>(
     driver: Driver<S>,
     posts: Vec<Post>,
     bytes: Vec<u8>,

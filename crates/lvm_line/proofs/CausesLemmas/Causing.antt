@@ -27,13 +27,16 @@ use Rattle.lvm_volume_lines.specs.passed.Varyon.{IsRecovered, VaryonRefuses}
 use Rattle.lvm_volume_lines.proofs.passed.Quiesce.{quiet_is_ahead, ends_only}
 use Rattle.lvm_volume_lines.proofs.passed.Varyon.{failed_rose}
 use Rattle.lvm_line.specs.Causes.{HasCause, HasFailed, RoseOn, VaryonLaw, disk_of}
-use Rattle.lvm_volume_lines.specs.passed.GroupLines.{patience_of_line, IsBetween, IsRelit, refusal_of, Shows, InFull, WithoutMemory, ScriptState, log_with, Refusal, CutNotPlanned, IsArranged, NoReadWhileOn, NoWriteWhileOn, NotPlanned, NotThere, PowerIsCut, ReadGoes, WriteGoes, refusal_by, Brings, BusyVaryoff, DiskOfGroup, GroupThatIsOn, IsLeft, ListsGroup, ListsMember, ListsVolume, Makes, NoGroupForDisk, NoGroupForVolume, NoGroupToList, NoMemoryForLine, NoMkvgWhileOn, NoSuchMember, NoSuchVolume, NoVaryoff, NoVaryonWhileOn, OtherGroup, Varies, VariesOff, VolumeOfGroup, asked_for, itself, outcome_of}
+use Rattle.lvm_volume_lines.specs.passed.GroupLines.{patience_of_line, IsBetween, IsRelit, refusal_of, Shows, InFull, WithoutMemory, ScriptState, log_with, Refusal, CutNotPlanned, IsArranged, NoReadWhileOn, NoWriteWhileOn, NotPlanned, NotThere, PowerIsCut, ReadGoes, WriteGoes, refusal_by, Brings, DiskOfGroup, GroupThatIsOn, IsLeft, ListsGroup, ListsMember, ListsVolume, Makes, NoGroupForDisk, NoGroupForVolume, NoGroupToList, NoMemoryForLine, NoMkvgWhileOn, NoSuchMember, NoSuchVolume, NoVaryonWhileOn, OtherGroup, Varies, VolumeOfGroup, asked_for, itself, outcome_of}
 use Rattle.lvm_line.specs.Lines.{LineDoes}
 use Rattle.lvm_volume_lines.specs.Volumes.{NoGroupForMklv, BusyMklv, UndrainedMklv, MakesVolume, MklvFails, NoGroupForRmlv, BusyRmlv, UndrainedRmlv, NoVolumeForRmlv, RemovesVolume, RmlvFails, refusal_for, wanted}
 use Rattle.lvm_volume_lines.specs.passed.RefusalVariants as refusal
 use Rattle.lvm_volume_lines.specs.passed.ReplyVariants as reply
 use Rattle.lvm_volume_lines.proofs.passed.GroupLines.{clock_is_ahead}
 use Rattle.lvm_volume_lines.specs.Copies.{AddsCopies, BusyMklvcopy, BusyRmlvcopy, MklvcopyFails, NoGroupForMklvcopy, NoGroupForRmlvcopy, NoVolumeForMklvcopy, NoVolumeForRmlvcopy, RemovesCopies, RmlvcopyFails, UndrainedMklvcopy, UndrainedRmlvcopy}
+use Rattle.lvm_volume_lines.specs.Closing.{BusyVaryoff, NoVaryoff, TidiesOff, UndrainedVaryoff, VariesOff, VaryoffFails}
+use Rattle.lvm_volume_lines.specs.passed.VolumePlan.{fault_of}
+use Rattle.lvm_volume_lines.proofs.ClosingLemmas.{tidy_failed}
 use Rattle.lvm_volume_lines.proofs.Ending.{mklv_facts, rmlv_facts}
 use Rattle.lvm_volume_lines.proofs.Giving.{mklvcopy_facts, rmlvcopy_facts}
 use Rattle.lvm_line.proofs.CausesLemmas.Faulting.{known_group, undrained}
@@ -228,7 +231,13 @@ known log room (Ok (Some (command.Varyon name))) why old new between (NoVaryonWh
 known log room (Ok (Some (command.Varyon name))) why old new between (Varies brings) = varyon_known log room name why old new brings
 known log room (Ok (Some (command.Varyoff name))) why old new between (NoVaryoff none is) = by_reply _ why refusal.NoGroup old new is.0 (easy _ refusal.NoGroup old new tt (λ e. cc) (λ h t e. cc))
 known log room (Ok (Some (command.Varyoff name))) why old new between (BusyVaryoff on busy is) = by_reply _ why refusal.Busy old new is.0 (easy _ refusal.Busy old new tt (λ e. cc) (λ h t e. cc))
-known log room (Ok (Some (command.Varyoff name))) why old new between (VariesOff core some on none ends is) = absurd (cc (is))
+known log room (Ok (Some (command.Varyoff name))) why old new between (VariesOff core some on none clean ends is) = absurd (cc (is))
+known log room (Ok (Some (command.Varyoff name))) why old new between (UndrainedVaryoff core fault some on dirty ends) = undrained (Ok (Some (command.Varyoff name))) old new core tt between some why fault ends
+known log room (Ok (Some (command.Varyoff name))) why old new between (TidiesOff core left mid some on dirty drains done is) = absurd (cc (is))
+known log room (Ok (Some (command.Varyoff name))) why old new between (VaryoffFails core left mid reason some on dirty drains done is) =
+    let failed = tidy_failed left mid done.left reason done.gives in
+    by_reply _ why (refusal_for (fault_of reason)) old new is
+    (known_group (Ok (Some (command.Varyoff name))) tt (λ d a b rose. rose) (fault_of reason) old new core left mid done.left some drains failed.0 (failed.1 old new done.leaves))
 known log room (Ok (Some (command.Lsvg volumes name))) why old new between (NoGroupToList none is, same) = by_reply _ why refusal.NoGroup old new is (easy _ refusal.NoGroup old new tt (λ e. cc) (λ h t e. cc))
 known log room (Ok (Some (command.Lsvg volumes name))) why old new between (GroupThatIsOn core some (OtherGroup other is), same) = by_reply _ why refusal.NoGroup old new is (easy _ refusal.NoGroup old new tt (λ e. cc) (λ h t e. cc))
 known log room (Ok (Some (command.Lsvg volumes name))) why old new between (GroupThatIsOn core some (ListsGroup its shows), same) = of_shows _ _ why old new tt shows
