@@ -6,7 +6,6 @@ pub mod Names
 pub mod Quiesce
 pub mod QuiescedVariants
 pub mod Ranges
-pub mod Recover
 pub mod Tie
 pub mod TieCommands
 pub mod Varyon

@@ -7,7 +7,6 @@ pub mod QuiescedVariants
 pub mod RangeLines
 pub mod RangeLinesWaiting
 pub mod Ranges
-pub mod Recover
 pub mod RefusalVariants
 pub mod ReplyVariants
 pub mod Resync

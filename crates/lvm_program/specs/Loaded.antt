@@ -156,7 +156,7 @@ pub record IsLoaded (words : LoadWords) (r : Run) : Type 0 where
   pub goes : IfSome r.history (λ log. GoesLoaded words r)
   pub power : r.exit.power ≡ true
 
--- Whatever any disks find is of one group where the group is varied on, and where requests are made, and none of its volumes is in mode passive.
+-- Whatever any disks find is of one group where the group is varied on, and where requests are made.
 abbrev pub IsLoadedAlone : {words : LoadWords} {r : Run} → GoesLoaded words r → Type 0
 IsLoadedAlone {words = words} {r = r} goes =
     IsAlone (role_of (line_of (varyon_line words.group))) (entry_state r.entry r.named) goes.end × IsAlone OfRequests goes.end (exit_state r.exit r.history goes.end)

@@ -8,7 +8,6 @@ pub mod Names
 pub mod Quiesce
 pub mod QuiescedVariants
 pub mod Ranges
-pub mod Recover
 pub mod RefusalVariants
 pub mod ReplyVariants
 pub mod Tie

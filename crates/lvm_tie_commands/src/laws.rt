@@ -3,7 +3,8 @@ ghost use Rattle.lvm_tie_commands.specs.Beginning.{MadeStands, VariedOnStands};
 ghost use Rattle.lvm_tie_commands.specs.Commands.{MklvGoesOn, RmlvGoesOn, TidyGoesOn};
 
 /// What stands on the disks of a session that a varyon has begun, after each earlier history: of a group with volumes,
-/// where none of these is in mode passive and on each crash image whatever any disks find is of one group.
+/// where on each crash image whatever any disks find is of one group. By the contract of that call the copies of those
+/// that are dirty still are equal.
 pub fn varied_on_stands()
     ensures { VariedOnStands }
 {}

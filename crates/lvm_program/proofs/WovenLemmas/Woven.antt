@@ -34,7 +34,6 @@ use Rattle.lvm_top.specs.passed.HolderVariants as holder
 use Rattle.lvm_top.specs.passed.Tie.{RunsOn}
 use Rattle.lvm_top.specs.passed.ReplyVariants as reply
 use Rattle.lvm_top.specs.passed.Lines.{IsLine, asked_after, role_of}
-use Rattle.lvm_top.specs.passed.Recover.{HasNoPassive}
 use Rattle.lvm_top.specs.passed.GroupLines.{Holder, IsBetween, IsBetweenStage, IsOfKind, IsAlone, IsStuck, IsTimely, OfRequests, Reply, Stage, StandsAlone, StandsBy, ScriptState, history_in, history_of, moment_in, most_refusals, session_in, session_of, shelf_of, state_in, without_facts}
 use Rattle.lvm_top.specs.declared.run.Ended.{Ended}
 use Rattle.lvm_top.specs.declared.status.ExitStatus.{ExitStatus}
@@ -45,7 +44,7 @@ use Rattle.lvm_line.specs.Lines.{IsOrder}
 use Rattle.lvm_program.specs.Heeding.{IsNoOrder, IsTroubled}
 use Rattle.lvm_program.proofs.HeedingLemmas.{closed_orders, concludes_orders, device_path, untroubled}
 use Rattle.lvm_top.specs.Laws.{MayStart}
-use Rattle.lvm_top.specs.Plain.{FindsNoPassive, FindsOneGroup}
+use Rattle.lvm_top.specs.Plain.{FindsOneGroup}
 use Rattle.lvm_top.specs.OneGroup.{IsUnforced}
 use Rattle.lvm_top.specs.Run.{Run, exit_state, ran}
 use Rattle.lvm_top.specs.Standing.{HasFewDisks}
@@ -58,7 +57,6 @@ use Rattle.lvm_program.proofs.WovenLemmas.Making.{group_reads, group_unforced, v
 use Rattle.lvm_program.proofs.SimLemmas.{sim_few, sim_told, sim_unharmed}
 use Rattle.lvm_top.proofs.ScriptLemmas.Concluding.{Concluded, closed_concluded, concluded, each_is_ahead, off_still}
 use Rattle.lvm_top.proofs.TurnLemmas.{stuck_is_off}
-use Rattle.lvm_top.proofs.RecoveredLemmas.{HasNoPassiveOn}
 use Rattle.lvm_top.proofs.OneGroupLemmas.{alone_so, blank_finds_one, not_more, script_one}
 use Rattle.lvm_top.proofs.RefusedLemmas.{line_caused}
 use Rattle.lvm_top.proofs.ScriptLemmas.Scripting.{begins_timely, through}
@@ -104,28 +102,24 @@ makes_so log room group volume first answer last (HasGroup mid makes it) = recor
   clock = let a = makes.goes.clock in let b = it.goes.clock in omega (arith, a, b);
 }
 
--- What holds of them where one group may be found at first, without volumes in mode passive: there is no other, and none comes.
+-- What holds of them where one group may be found at first: there is no other, and none comes.
 pub record LinesAlone {log : Log} {room : Room} {group volume : List ℕ} {first : ScriptState} {answer : Reply} {last : ScriptState} (made : IsMade log room group volume first answer last) : Type 0 where
   pub alone : AreMadeAlone made
-  pub finds : (IsStuck answer → ⊥) → FindsOneGroup last.moment.device × HasNoPassiveOn last
+  pub finds : (IsStuck answer → ⊥) → FindsOneGroup last.moment.device
 
-module _ (log : Log) (room : Room) (past : List Fact) (group volume : List ℕ) (first : ScriptState) (begin : MayStart log.run past first) (one : FindsOneGroup first.moment.device) (off : FindsNoPassive first.moment.device)
+module _ (log : Log) (room : Room) (past : List Fact) (group volume : List ℕ) (first : ScriptState) (begin : MayStart log.run past first) (one : FindsOneGroup first.moment.device)
     (no_force : IsUnforced group) (nor_force : IsUnforced volume) where
-  first_off : HasNoPassiveOn first
-  first_off = subst (λ (o : Option Core). IfSome o (λ core. HasNoPassive core.descriptor)) (sym begin.off) tt
-
   pub lines_alone : (answer : Reply) (last : ScriptState) (made : IsMade log room group volume first answer last) → LinesAlone made
   lines_alone answer last (NoGroup not it) = record {
-    alone = alone_so (role_of (line_of group)) first last one first_off;
-    finds = λ heard. let all = script_one log room past first begin one off (NextLine group answer answer heard (inl refl) NoLine it) (tt, no_force) in (all.finds_one, all.session);
+    alone = alone_so (role_of (line_of group)) first last one;
+    finds = λ heard. (script_one log room past first begin one (NextLine group answer answer heard (inl refl) NoLine it) (tt, no_force)).finds_one;
   }
   lines_alone answer last (HasGroup mid makes it) =
-      let so_far = script_one log room past first begin one off (NextLine group reply.Ok reply.Ok ok_heard (inl refl) NoLine makes) (tt, no_force) in
+      let so_far = script_one log room past first begin one (NextLine group reply.Ok reply.Ok ok_heard (inl refl) NoLine makes) (tt, no_force) in
       record {
-        alone = (so_far.alone.1, alone_so (role_of (line_of volume)) mid last so_far.finds_one so_far.session);
+        alone = (so_far.alone.1, alone_so (role_of (line_of volume)) mid last so_far.finds_one);
         finds = λ heard.
-            let all = script_one log room past first begin one off (NextLine volume answer answer heard (inl refl) (NextLine group reply.Ok reply.Ok ok_heard (inl refl) NoLine makes) it) ((tt, no_force), nor_force) in
-            (all.finds_one, all.session);
+            (script_one log room past first begin one (NextLine volume answer answer heard (inl refl) (NextLine group reply.Ok reply.Ok ok_heard (inl refl) NoLine makes) it) ((tt, no_force), nor_force)).finds_one;
       }
 
 -- ---- the workload
@@ -393,18 +387,17 @@ module _ (disks mib : ℕ) (load : Workload) (r : Run) (ready : IsReady r.entry)
     pub woven_alone : IsWovenAlone goes
     woven_alone =
         let begin = run_may_start r.named r.entry [] few ready (told_behind r.named r.entry blank) (told_earlier r.named r.entry blank) in
-        let none = blank_finds_one r.entry blank in
-        let own = lines_alone (empty_log r.named r.room) r.room ([] ++ Cut ∷ []) (mkvg_line disks) (mklv_line disks mib) (entry_state r.entry r.named) begin none.0 none.1
+        let own = lines_alone (empty_log r.named r.room) r.room ([] ++ Cut ∷ []) (mkvg_line disks) (mklv_line disks mib) (entry_state r.entry r.named) begin (blank_finds_one r.entry blank)
         (group_unforced disks mib sized) (volume_unforced disks mib sized) goes.answer goes.end goes.made
         in
         (own.alone, by its_end own.finds)
       where
-        by : ConcludesSo r.named goes.answer goes.end (exit_from r).moment → ((IsStuck goes.answer → ⊥) → FindsOneGroup goes.end.moment.device × HasNoPassiveOn goes.end) → IsAlone OfRequests goes.end (exit_state r.exit r.history goes.end)
+        by : ConcludesSo r.named goes.answer goes.end (exit_from r).moment → ((IsStuck goes.answer → ⊥) → FindsOneGroup goes.end.moment.device) → IsAlone OfRequests goes.end (exit_state r.exit r.history goes.end)
         by (Unheard stuck same) finds = record {
           enters = λ enters. absurd (not_more goes.end.moment.facts (facts_of r.history) (ap (λ (m : Moment). m.facts) same) enters);
           acts = λ acting. subst (λ (o : Option Core). IfSome o (StandsAlone goes.end.moment.device)) (sym (made.stuck stuck)) tt;
         }
-        by (Heard heard its) finds = alone_so OfRequests goes.end (exit_state r.exit r.history goes.end) (finds heard).0 (finds heard).1
+        by (Heard heard its) finds = alone_so OfRequests goes.end (exit_state r.exit r.history goes.end) (finds heard)
 
     pub woven_first : Legal (joined [] (facts_of r.history)) × ImagesKept r.exit (joined [] (facts_of r.history))
     woven_first =
