@@ -16,6 +16,7 @@ use Rattle.lvm_volume_lines.specs.passed.RangeLines.{RdDoes, WrDoes, PostDoes, S
 use Rattle.lvm_volume_lines.specs.passed.RangeLinesWaiting.{WaitDoes}
 use Rattle.lvm_volume_lines.specs.Closing.{VaryoffDoes}
 use Rattle.lvm_volume_lines.specs.Copies.{MklvcopyDoes, RmlvcopyDoes}
+use Rattle.lvm_volume_lines.specs.Splitting.{SplitlvcopyDoes}
 use Rattle.lvm_volume_lines.specs.Resyncing.{SyncGroupDoes, SyncVolumeDoes}
 use Rattle.lvm_volume_lines.specs.Volumes.{MklvDoes, RmlvDoes, wanted}
 use Rattle.lvm_volume_lines.specs.passed.RefusalVariants as refusal
@@ -35,6 +36,7 @@ CommandDoes log room (command.Mklv name copies mode policy group lps) old new an
 CommandDoes log room (command.Rmlv name) old new answer = RmlvDoes name old new answer
 CommandDoes log room (command.Mklvcopy name copies) old new answer = MklvcopyDoes name copies old new answer
 CommandDoes log room (command.Rmlvcopy name copies) old new answer = RmlvcopyDoes name copies old new answer
+CommandDoes log room (command.Splitlvcopy made name copies) old new answer = SplitlvcopyDoes made name copies old new answer
 CommandDoes log room (command.Rd name at count) old new answer = RdDoes name at count old new answer
 CommandDoes log room (command.Wr name at count word) old new answer = WrDoes name at count word old new answer
 CommandDoes log room (command.Post name at count word) old new answer = PostDoes name at count word old new answer
@@ -63,6 +65,7 @@ role_of (Ok (Some (command.Mklv name copies mode policy group lps))) = OfGroup
 role_of (Ok (Some (command.Rmlv name))) = OfGroup
 role_of (Ok (Some (command.Mklvcopy name copies))) = OfGroup
 role_of (Ok (Some (command.Rmlvcopy name copies))) = OfGroup
+role_of (Ok (Some (command.Splitlvcopy made name copies))) = OfGroup
 role_of (Ok (Some (command.Rd name at count))) = OfRequests
 role_of (Ok (Some (command.Wr name at count word))) = OfRequests
 role_of (Ok (Some (command.Post name at count word))) = OfRequests

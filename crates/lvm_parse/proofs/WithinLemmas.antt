@@ -18,7 +18,7 @@ use Rattle.lvm_parse.specs.Options.{mkvg_choice, no_mkvg_options, mklv_choice, n
 use Rattle.lvm_parse.proofs.OptionsReadingLemmas.{mapped, Keeping, keeping_if, options_keep}
 use Rattle.lvm_parse.specs.declared.command.Command.{Command}
 use Rattle.lvm_parse.specs.declared.command.Command.TheVariants as command
-use Rattle.lvm_parse.specs.Grammar.{Row, rows, rule, rd_disk, rd_volume, rd, wr_disk, wr_volume, wr, post, wait, step, lspv, fail, heal, cut, cut_of, mkvg, varyonvg, varyoffvg, lsvg, mklv, rmlv, mklvcopy, rmlvcopy, sync_group, syncvg, lslv, line_of_words, readable, line_of}
+use Rattle.lvm_parse.specs.Grammar.{Row, rows, rule, rd_disk, rd_volume, rd, wr_disk, wr_volume, wr, post, wait, step, lspv, fail, heal, cut, cut_of, mkvg, varyonvg, varyoffvg, lsvg, mklv, rmlv, mklvcopy, rmlvcopy, split_of, splitlvcopy, sync_group, syncvg, lslv, line_of_words, readable, line_of}
 use Rattle.lvm_parse.specs.Within.{IsWithin}
 
 -- ---- what is read
@@ -225,6 +225,14 @@ fits_rmlvcopy : (l : Left) → Fits (rmlvcopy l)
 unfolding Fits
 fits_rmlvcopy l = fits_then (operand name_in l) _ (λ name n. fits_then (last copy_count_in name.1) _ (λ copies c. few_copies name.1 copies c))
 
+fits_split_of : (l : Left) → Fits (split_of l)
+unfolding Fits
+fits_split_of l = fits_then (operand name_in l) _ (λ new n. fits_then (operand name_in new.1) _ (λ name n. fits_then (last copy_count_in name.1) _ (λ copies c. few_copies name.1 copies c)))
+
+fits_splitlvcopy : (l : Left) → Fits (splitlvcopy l)
+unfolding Fits
+fits_splitlvcopy l = fits_if (option (codes "-y") l).0 _ _ (fits_split_of (option (codes "-y") l).1) tt
+
 fits_cut : (l : Left) → Fits (cut l)
 unfolding Fits
 fits_cut l = go l.words
@@ -284,7 +292,7 @@ RowsFit [] = Unit {0}
 RowsFit (r ∷ rs) = ((l : Left) → Fits (r.reads l)) × RowsFit rs
 
 rows_fit : RowsFit rows
-rows_fit = (fits_mkvg, (fits_varyonvg, (fits_varyoffvg, (fits_lsvg, (fits_mklv, (fits_rmlv, (fits_mklvcopy, (fits_rmlvcopy, (fits_syncvg, (fits_lslv, (fits_rd, (fits_wr, (fits_post, (fits_wait, (fits_step, (fits_lspv, (fits_fail, (fits_heal, (fits_cut, tt)))))))))))))))))))
+rows_fit = (fits_mkvg, (fits_varyonvg, (fits_varyoffvg, (fits_lsvg, (fits_mklv, (fits_rmlv, (fits_mklvcopy, (fits_rmlvcopy, (fits_splitlvcopy, (fits_syncvg, (fits_lslv, (fits_rd, (fits_wr, (fits_post, (fits_wait, (fits_step, (fits_lspv, (fits_fail, (fits_heal, (fits_cut, tt))))))))))))))))))))
 
 fits_rule : (rs : List Row) (word : List ℕ) (column : ℕ) (l : Left) → RowsFit rs → Fits (rule rs word column l)
 unfolding Fits

@@ -20,6 +20,7 @@ IsWithin (command.Post name at count word) = (1 ≤ count) × (count ≤ 4096)
 IsWithin (command.Step turns) = (1 ≤ turns) × (turns ≤ 1000000)
 IsWithin (command.Mklvcopy name copies) = copies ≤ 9
 IsWithin (command.Rmlvcopy name copies) = copies ≤ 9
+IsWithin (command.Splitlvcopy new name copies) = copies ≤ 9
 IsWithin other = Unit {0}
 
 -- at one of its columns, counted from 1, or behind its last byte

@@ -59,6 +59,15 @@ pub enum Command {
         /// 0 to 9.
         copies: u8,
     },
+    /// `splitlvcopy -y NEW NAME N`: leave each so many of those it has, and make the others a volume of their own.
+    Splitlvcopy {
+        /// The name of the volume that is made.
+        new: Name,
+        /// The volume that is split.
+        name: Name,
+        /// 0 to 9.
+        copies: u8,
+    },
     /// `syncvg -l NAME`: bring up the stale copies of a volume.
     SyncVolume {
         name: Name,

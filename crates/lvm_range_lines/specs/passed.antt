@@ -10,6 +10,7 @@ pub mod QuiescedVariants
 pub mod Ranges
 pub mod RefusalVariants
 pub mod ReplyVariants
+pub mod Splitting
 pub mod Tie
 pub mod TieCommands
 pub mod Varyon

@@ -6,6 +6,7 @@ pub mod below;
 mod copies_laws;
 mod groups_laws;
 mod laws;
+mod split_laws;
 
 pub use copies_laws::{
     mklvcopy_goes_on, mklvcopy_serves, rmlvcopy_goes_on, rmlvcopy_serves, split_goes_on,
@@ -16,3 +17,4 @@ pub use groups_laws::{
     varied_is_made_even, varied_on_serves,
 };
 pub use laws::{made_stands, mklv_goes_on, rmlv_goes_on, tidy_goes_on, varied_on_stands};
+pub use split_laws::split_leaves_serving;

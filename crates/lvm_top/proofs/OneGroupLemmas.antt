@@ -33,7 +33,7 @@ use Rattle.lvm_volume_plan.specs.declared.new_volume.NewVolume.{NewVolume}
 use Rattle.lvm_line.specs.passed.Group.{NewGroup, new_group, MkvgRefuses, IfShown, HasGroup}
 use Rattle.lvm_line.specs.passed.GroupLines.{IsBetween, patience_of_line, Asks, IsAlone, OfGroup, OfRequests, Role, IsStuck, ScriptState, IsTimely, StandsAlone, log_with, Reply, IsLeft, MkvgDoes, NoMemoryForLine, NoMkvgWhileOn, Makes, asked_for, itself, outcome_of}
 use Rattle.lvm_line.specs.Lines.{LineDoes, role_of}
-use Rattle.lvm_line.specs.passed.VolumeLines.{Drains, IsDone, MklvDoes, RmlvDoes, NoGroupForMklv, BusyMklv, UndrainedMklv, MakesVolume, MklvFails, NoGroupForRmlv, BusyRmlv, UndrainedRmlv, NoVolumeForRmlv, RemovesVolume, RmlvFails, wanted, MklvcopyDoes, NoGroupForMklvcopy, BusyMklvcopy, UndrainedMklvcopy, NoVolumeForMklvcopy, AddsCopies, MklvcopyFails, RmlvcopyDoes, NoGroupForRmlvcopy, BusyRmlvcopy, UndrainedRmlvcopy, NoVolumeForRmlvcopy, RemovesCopies, RmlvcopyFails}
+use Rattle.lvm_line.specs.passed.VolumeLines.{Drains, IsDone, MklvDoes, RmlvDoes, NoGroupForMklv, BusyMklv, UndrainedMklv, MakesVolume, MklvFails, NoGroupForRmlv, BusyRmlv, UndrainedRmlv, NoVolumeForRmlv, RemovesVolume, RmlvFails, wanted, MklvcopyDoes, NoGroupForMklvcopy, BusyMklvcopy, UndrainedMklvcopy, NoVolumeForMklvcopy, AddsCopies, MklvcopyFails, RmlvcopyDoes, NoGroupForRmlvcopy, BusyRmlvcopy, UndrainedRmlvcopy, NoVolumeForRmlvcopy, RemovesCopies, RmlvcopyFails, SplitlvcopyDoes, NoGroupForSplitlvcopy, BusySplitlvcopy, UndrainedSplitlvcopy, NoVolumeForSplitlvcopy, SplitsVolume, SplitlvcopyFails}
 use Rattle.lvm_line.proofs.passed.Tie.{path_frames}
 use Rattle.lvm_top.specs.Script.{Script, NoLine, NextLine, StaysAlone, Ends, AtLine, InLine, EndsAlone, EndsHeard, entry_state, empty_log, facts_of}
 use Rattle.lvm_top.specs.Run.{exit_state}
@@ -41,6 +41,7 @@ use Rattle.lvm_top.proofs.ScriptLemmas.Concluding.{how_ended, stuck_ends, stuck_
 use Rattle.lvm_top.proofs.LeavesLemmas.Quiet.{lit_nothing, quiet_nothing, stays_nothing}
 use Rattle.lvm_top.proofs.StandingLemmas.Volumes.{done_finds, found_before, idle_nothing, undrained_nothing}
 use Rattle.lvm_top.proofs.StandingLemmas.Copying.{fewer_id, more_id}
+use Rattle.lvm_top.proofs.StandingLemmas.Splitting.{split_id}
 use Rattle.lvm_top.proofs.ScriptLemmas.Scripting.{script_went}
 use Rattle.lvm_top.specs.Laws.{MayStart}
 use Rattle.lvm_top.specs.Plain.{FindsOneGroup}
@@ -202,6 +203,14 @@ module _ (log : Log) (old new : ScriptState) (answer : Reply) (shelf : IsShelf o
     rmlvcopy_one name copies (RemovesCopies core left mid lv some drains its done is) = commanded_one core left mid some drains (λ k its. fewer_id lv copies mid.core k its) done
     rmlvcopy_one name copies (RmlvcopyFails core left mid lv why some drains its done is) = commanded_one core left mid some drains (λ k its. fewer_id lv copies mid.core k its) done
 
+    splitlvcopy_one : (made name : List ℕ) (copies : ℕ) → SplitlvcopyDoes made name copies old new answer → FindsOneGroup now
+    splitlvcopy_one made name copies (NoGroupForSplitlvcopy none is) = same_one is.1
+    splitlvcopy_one made name copies (BusySplitlvcopy busy is) = same_one is.1
+    splitlvcopy_one made name copies (UndrainedSplitlvcopy core why some un) = nothing_one was now (undrained_nothing log.run old new between named stood core why answer some un) one
+    splitlvcopy_one made name copies (NoVolumeForSplitlvcopy core left mid some drains none stays last says) = nothing_one was now (idle_nothing log.run old new between named stood core left mid mid some drains refl stays) one
+    splitlvcopy_one made name copies (SplitsVolume core left mid lv number some drains its done is) = commanded_one core left mid some drains (λ k its. split_id lv made copies mid.core k its) done
+    splitlvcopy_one made name copies (SplitlvcopyFails core left mid lv why some drains its done is) = commanded_one core left mid some drains (λ k its. split_id lv made copies mid.core k its) done
+
   -- ---- another line
 
   other_one : (room : Room) (line : List ℕ) (read : Result (Option Command) Misfit) → line_of line ≡ read → StoodBefore log.run (role_of read) old new → ((id : ℕ) (k : Descriptor) → MayHaveCommitted read answer old new id k → ⊥)
@@ -223,6 +232,7 @@ module _ (log : Log) (old new : ScriptState) (answer : Reply) (shelf : IsShelf o
   line_one room line unforced (Ok (Some (command.Lsvg volumes name))) is stood does = other_one room line _ is stood (λ id k it. it.is) does
   line_one room line unforced (Ok (Some (command.Mklvcopy name copies))) is stood does = mklvcopy_one stood name copies does
   line_one room line unforced (Ok (Some (command.Rmlvcopy name copies))) is stood does = rmlvcopy_one stood name copies does
+  line_one room line unforced (Ok (Some (command.Splitlvcopy made name copies))) is stood does = splitlvcopy_one stood made name copies does
   line_one room line unforced (Ok (Some (command.Lslv name))) is stood does = other_one room line _ is stood (λ id k it. it.is) does
   line_one room line unforced (Ok (Some (command.Lspv disk))) is stood does = other_one room line _ is stood (λ id k it. it.is) does
   line_one room line unforced (Ok (Some (command.Rd name at count))) is stood does = other_one room line _ is stood (λ id k it. it.is) does

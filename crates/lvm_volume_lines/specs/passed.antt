@@ -15,6 +15,7 @@ pub mod RefusalVariants
 pub mod ReplyVariants
 pub mod Resync
 pub mod SyncFaultVariants
+pub mod Splitting
 pub mod Tie
 pub mod TieCommands
 pub mod Varyon

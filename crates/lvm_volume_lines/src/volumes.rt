@@ -174,8 +174,8 @@ pub fn after_fault<S: Shelf>(
     }
 }
 
-// What a command that adds no copies leaves of a session that was answered so.
-fn after<S: Shelf, T: Copy>(
+/// What a command that adds no copies leaves of a session that was answered so.
+pub fn after<S: Shelf, T: Copy>(
     driver: Driver<S>,
     posts: Vec<Post>,
     bytes: Vec<u8>,

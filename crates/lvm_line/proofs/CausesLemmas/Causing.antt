@@ -37,8 +37,10 @@ use Rattle.lvm_volume_lines.specs.Copies.{AddsCopies, BusyMklvcopy, BusyRmlvcopy
 use Rattle.lvm_volume_lines.specs.Closing.{BusyVaryoff, NoVaryoff, TidiesOff, UndrainedVaryoff, VariesOff, VaryoffFails}
 use Rattle.lvm_volume_lines.specs.passed.VolumePlan.{fault_of}
 use Rattle.lvm_volume_lines.proofs.ClosingLemmas.{tidy_failed}
+use Rattle.lvm_volume_lines.specs.Splitting.{BusySplitlvcopy, NoGroupForSplitlvcopy, NoVolumeForSplitlvcopy, SplitlvcopyFails, SplitsVolume, UndrainedSplitlvcopy}
 use Rattle.lvm_volume_lines.proofs.Ending.{mklv_facts, rmlv_facts}
 use Rattle.lvm_volume_lines.proofs.Giving.{mklvcopy_facts, rmlvcopy_facts}
+use Rattle.lvm_volume_lines.proofs.SplittingLemmas.Giving.{split_facts}
 use Rattle.lvm_line.proofs.CausesLemmas.Faulting.{known_group, undrained}
 use Rattle.lvm_line.proofs.CausesLemmas.Knowing.{IsOther, Known, by_reply, easy, has_by}
 use Rattle.lvm_line.proofs.CausesLemmas.Requesting.{rd_told, wr_told, post_told, wait_told, step_told, sync_group_told, sync_volume_told}
@@ -272,6 +274,14 @@ known log room (Ok (Some (command.Rmlvcopy name copies))) why old new between (R
 known log room (Ok (Some (command.Rmlvcopy name copies))) why old new between (RmlvcopyFails core left mid lv reason some drains its done is) =
     by_reply _ why (refusal_for reason) old new is
     (known_group (Ok (Some (command.Rmlvcopy name copies))) tt (λ d a b rose. rose) reason old new core left mid done.left some drains (rmlvcopy_facts lv copies left mid done.left drains.settled.power (Err reason) done.gives) done.leaves)
+known log room (Ok (Some (command.Splitlvcopy made name copies))) why old new between (NoGroupForSplitlvcopy none is) = by_reply _ why refusal.NoGroup old new is.0 (easy _ refusal.NoGroup old new tt (λ e. cc) (λ h t e. cc))
+known log room (Ok (Some (command.Splitlvcopy made name copies))) why old new between (BusySplitlvcopy busy is) = by_reply _ why refusal.Busy old new is.0 (easy _ refusal.Busy old new tt (λ e. cc) (λ h t e. cc))
+known log room (Ok (Some (command.Splitlvcopy made name copies))) why old new between (UndrainedSplitlvcopy core fault some ends) = undrained (Ok (Some (command.Splitlvcopy made name copies))) old new core tt between some why fault ends
+known log room (Ok (Some (command.Splitlvcopy made name copies))) why old new between (NoVolumeForSplitlvcopy core left mid some drains none stays clock is) = by_reply _ why refusal.NoVolume old new is (easy _ refusal.NoVolume old new tt (λ e. cc) (λ h t e. cc))
+known log room (Ok (Some (command.Splitlvcopy made name copies))) why old new between (SplitsVolume core left mid lv number some drains its done is) = absurd (cc (is))
+known log room (Ok (Some (command.Splitlvcopy made name copies))) why old new between (SplitlvcopyFails core left mid lv reason some drains its done is) =
+    by_reply _ why (refusal_for reason) old new is
+    (known_group (Ok (Some (command.Splitlvcopy made name copies))) tt (λ d a b rose. rose) reason old new core left mid done.left some drains (split_facts lv made copies left mid done.left drains.settled.power (Err reason) done.gives) done.leaves)
 known log room (Ok (Some (command.Rd name at count))) why old new between does = (let told = rd_told old new between name at count why does in record { cause = range_line_cause name old new why told.cause (λ lp is. rd_lacks old new name lp at count why is does); off = told.off; unwritten = λ h t is. absurd (told.counted h t is) })
 known log room (Ok (Some (command.Wr name at count word))) why old new between does = (let told = wr_told old new between name at count word why does in record { cause = range_line_cause name old new why told.cause (λ lp is. wr_lacks old new name lp at count word why is does); off = told.off; unwritten = λ h t is. absurd (told.counted h t is) })
 known log room (Ok (Some (command.Post name at count word))) why old new between does = (let told = post_told old new between name at count word why does in record { cause = told.cause; off = told.off; unwritten = λ h t is. absurd (told.counted h t is) })

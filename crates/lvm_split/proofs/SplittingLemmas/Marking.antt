@@ -117,6 +117,7 @@ module _ (name : List ℕ) (copies : ℕ) (plan : SplitPlan) (a : State) (settle
       row = it.0;
       volume = ap (λ (x : Descriptor). volume_of x plan.from) (sym same) ∙ it.1.0;
       refuses = it.2;
+      finds = leaves.finds;
       settled = done.settled;
       is = done.is;
       ready = done.ready;

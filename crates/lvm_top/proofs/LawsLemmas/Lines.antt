@@ -40,6 +40,7 @@ use Rattle.lvm_top.proofs.LeavesLemmas.Transfers.{relit_nothing, write_nothing, 
 use Rattle.lvm_top.proofs.StandingLemmas.Volumes.{mklv_finds, rmlv_finds}
 use Rattle.lvm_top.proofs.StandingLemmas.Closing.{varyoff_nothing}
 use Rattle.lvm_top.proofs.StandingLemmas.Copying.{mklvcopy_finds, rmlvcopy_finds}
+use Rattle.lvm_top.proofs.StandingLemmas.Splitting.{splitlvcopy_finds}
 use Rattle.lvm_raw.specs.Raw.{log_with as log_of}
 
 module _ (log : Log) (old new : ScriptState) (answer : Reply) where
@@ -185,6 +186,7 @@ module _ (log : Log) (room : Room) (line : List ℕ) (answer : Reply) (old new :
   by_reading (Ok (Some (command.Rmlv name))) is stood does id k it = rmlv_finds log.run old new between named stood answer name does id k it
   by_reading (Ok (Some (command.Mklvcopy name copies))) is stood does id k it = mklvcopy_finds log.run old new between named stood answer name copies does id k it
   by_reading (Ok (Some (command.Rmlvcopy name copies))) is stood does id k it = rmlvcopy_finds log.run old new between named stood answer name copies does id k it
+  by_reading (Ok (Some (command.Splitlvcopy made name copies))) is stood does id k it = splitlvcopy_finds log.run old new between named stood answer made name copies does id k it
   by_reading (Ok (Some (command.Lslv name))) is stood does id k it = inl (same_state log old new answer does.1 id k it)
   by_reading (Ok (Some (command.Lspv disk))) is stood does id k it = inl (same_state log old new answer does.1 id k it)
   by_reading (Ok (Some (command.Rd name at count))) is stood does id k it = inl (volume_nothing old new answer between name _ (λ core lv. finishes_nothing old new answer between None _ at count core lv) does id k it)
