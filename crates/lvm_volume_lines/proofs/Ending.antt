@@ -58,9 +58,9 @@ module _ (v : NewVolume) (patience : ℕ) (old new : State) (on : old.core.power
 module _ (lv patience : ℕ) (old new : State) (on : old.core.power ≡ power.On) where
   pub rmlv_facts : (given : Result (Unit {0}) GroupFault) → RmlvGives lv patience old new given → Facts given patience old new
   rmlv_facts (Ok done) removed = removed.ready
-  rmlv_facts (Err fault.Dark) gives = ⊎_elim (λ refused. absurd (not_dark old on refused.1)) (λ removing. (removing.ends.cut.flights, removing.ends.cut.cuts)) gives
-  rmlv_facts (Err (fault.WentOff have total)) gives = ⊎_elim (λ refused. absurd (not_off old on refused.1.0)) (λ removing. (removing.ends.lost, removing.ends.ready)) gives
-  rmlv_facts (Err fault.Stuck) removing = removing.ends.out
+  rmlv_facts (Err fault.Dark) gives = ⊎_elim (λ refused. absurd (not_dark old on refused.1)) (λ gone. ⊎_elim (λ before. (before.cut.flights, before.cut.cuts)) (λ behind. (behind.cut.flights, behind.cut.cuts)) gone.ends) gives
+  rmlv_facts (Err (fault.WentOff have total)) gives = ⊎_elim (λ refused. absurd (not_off old on refused.1.0)) (λ gone. ⊎_elim (λ before. (before.lost, before.ready)) (λ behind. (behind.lost, behind.ready)) gone.ends) gives
+  rmlv_facts (Err fault.Stuck) gone = ⊎_elim (λ before. before.out) (λ behind. behind.out) gone.ends
   rmlv_facts (Err fault.Busy) refused = refused.0
   rmlv_facts (Err fault.NoVolume) refused = refused.0
   rmlv_facts (Err fault.HistoryFull) refused = refused.0
