@@ -14,10 +14,10 @@ use crate::volumes::{close_after, come_to_rest, drain_refusal};
 use lvm_core::{Closed, Driver};
 use lvm_disk::Shelf;
 use lvm_num::{Descriptor, LvRow, Mode, Name};
-use lvm_status::StaleTable;
-use lvm_transfer::Patience;
 use lvm_range_lines::below::group_lines;
 use lvm_range_lines::below::volumes::GroupFault;
+use lvm_status::StaleTable;
+use lvm_transfer::Patience;
 use lvm_volumes::tidy;
 
 // Whether a volume is in mode passive and dirty.
