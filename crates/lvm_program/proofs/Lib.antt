@@ -4,3 +4,4 @@ mod WovenLemmas
 mod LoadedLemmas
 mod SimLemmas
 mod HeedingLemmas
+mod LandingLemmas

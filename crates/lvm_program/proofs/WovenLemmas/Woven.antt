@@ -54,6 +54,7 @@ use Rattle.lvm_top.specs.Blank.{IsToldBlank}
 use Rattle.lvm_program.specs.Sim.{full_room, sim_device}
 use Rattle.lvm_program.specs.Woven.{AreMadeAlone, Drawn, EndsWoven, Exit, GoesWoven, HasAsked, HasGroup, IsDrawn, IsMade, IsMadeForCause, HasServed, IsServed, IsSized, IsWoven, IsWovenAlone, NoGroup, NotMade, PromisesWoven, TellsWoven, TurnsBehind, asked_woven, exit_from, exit_of, mklv_line, mkvg_line, refusal_text, status_woven, totals_text, untold, woven_text}
 use Rattle.lvm_top.proofs.MomentsLemmas.{told_behind, told_earlier}
+use Rattle.lvm_program.proofs.WovenLemmas.Landing.{ends_well}
 use Rattle.lvm_program.proofs.WovenLemmas.Making.{group_reads, group_unforced, volume_reads, volume_unforced}
 use Rattle.lvm_program.proofs.SimLemmas.{sim_few, sim_told, sim_unharmed}
 use Rattle.lvm_top.proofs.ScriptLemmas.Concluding.{Concluded, closed_concluded, concluded, each_is_ahead, off_still}
@@ -559,6 +560,7 @@ module _ (disks mib : ℕ) (sized : IsSized disks mib) (load : Workload) (asked 
     heeds = λ goes. heeds_always r.entry r.exit (woven_path disks mib load r promises.does.ready goes sized its_few its_blank) its_unharmed.well.heeds;
     unharmed = λ goes. woven_unharmed disks mib load r promises.does.ready goes sized its_few its_blank its_unharmed;
     untroubled = λ goes. woven_untroubled disks mib load r promises.does.ready goes sized its_few its_blank its_unharmed;
+    lands = λ goes. ends_well disks mib load r sized promises.does.ready (woven_unharmed disks mib load r promises.does.ready goes sized its_few its_blank its_unharmed).counted goes;
   }
 
   pub sim_weaves : r.room ≡ full_room → PromisesWovenBlank disks mib load asked (record r { entry = sim_device disks mib; room = full_room })
