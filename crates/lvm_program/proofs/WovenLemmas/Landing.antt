@@ -23,7 +23,7 @@ use Rattle.lvm_load.proofs.LandingLemmas.{requests_land_well, table_stays, total
 use Rattle.lvm_load.proofs.LeavingLemmas.{workloads_leave_open}
 use Rattle.lvm_line.specs.Lines.{role_of}
 use Rattle.lvm_top.specs.passed.ReplyVariants as reply
-use Rattle.lvm_top.specs.passed.GroupLines.{IsAtRest, IsBetween, IsClosed, IsOnBetween, IsRequesting, IsStuck, Reply, ScriptState}
+use Rattle.lvm_line.specs.passed.GroupLines.{IsAtRest, IsBetween, IsClosed, IsOnBetween, IsRequesting, IsStuck, Reply, ScriptState}
 use Rattle.lvm_top.specs.Run.{Run}
 use Rattle.lvm_top.specs.Script.{empty_log, entry_state}
 use Rattle.lvm_line.proofs.passed.Tie.{goes_any, path_frames}
@@ -75,12 +75,12 @@ module _ (core : Core) (begin exit : Moment) (blocks : ℕ) (load : Workload) (w
           let zero = none.waits in
           let same = ap (λ (n : Counts). n.waits) counts in
           let at = ap (λ (s : State). s.device.counts.waits) turns in
-          omega (arith, risen, zero, same, at)
+          absurd (omega (arith, risen, zero, same, at))
 
   -- the table is empty behind it
   turns_leave : (b : Bool) → b ≡ false → TurnsBehind b drawn.last drawn.end → length drawn.end.core.requests ≡ length drawn.last.core.requests
-  turns_leave true no turns = absurd (cc no)
-  turns_leave false no turns =
+  turns_leave true unlike turns = absurd (cc unlike)
+  turns_leave false same turns =
       each_turn (λ (a c : State). length c.core.requests ≡ length a.core.requests) (λ s. refl) (λ a b c one two. two ∙ one) table_stays drawn.last drawn.end turns
 
   emptied : drawn.end.core.requests ≡ []
