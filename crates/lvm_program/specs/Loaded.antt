@@ -1,11 +1,10 @@
 -- A run of a load over a group that stands on the disks.
-use Rattle.std.specs.Prelude.{◌≡◌, ◌⊎◌, ◌≤◌, ◌+◌, ◌++◌, ℕ, List, Contains, Option, Some, None, IfSome, IfNone, Result, Ok, Err, codes, true}
+use Rattle.std.specs.Prelude.{◌≡◌, ◌≤◌, ◌+◌, ◌++◌, ℕ, List, Contains, Option, Some, None, IfSome, IfNone, Result, Ok, Err, codes, true}
 use Rattle.lvm_num.specs.Geometry.{volume_blocks}
 use Rattle.lvm_num.specs.declared.descriptor.Descriptor.{Descriptor}
 use Rattle.lvm_num.specs.declared.descriptor.LvRow.{LvRow}
 use Rattle.lvm_disk.specs.Device.{IsReady}
 use Rattle.lvm_io.specs.Count.{Rose}
-use Rattle.lvm_vol.specs.Log.{Log}
 use Rattle.lvm_kept.specs.Moments.{Moment}
 use Rattle.lvm_steps.specs.Moments.{IsUpheld}
 use Rattle.lvm_steps.specs.Behind.{IsAhead, IsBehind}

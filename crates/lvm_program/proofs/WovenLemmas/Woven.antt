@@ -39,6 +39,7 @@ use Rattle.lvm_top.specs.declared.run.Ended.{Ended}
 use Rattle.lvm_top.specs.declared.status.ExitStatus.{ExitStatus}
 use Rattle.lvm_top.specs.declared.status.ExitStatus.TheVariants as ended
 use Rattle.lvm_top.proofs.passed.Tie.{path_frames}
+use Rattle.lvm_line.proofs.passed.Tie.{goes_any}
 use Rattle.lvm_program.specs.Program.{PromisesWovenBlank}
 use Rattle.lvm_line.specs.Lines.{IsOrder}
 use Rattle.lvm_program.specs.Heeding.{IsNoOrder, IsTroubled}
@@ -137,7 +138,7 @@ runs_unstuck old new runs on stuck = by (path_frames runs).keeps.power
 pub drawn_concluded : (end : ScriptState) (exit : Moment) → IsBetween end.moment end.session end.posts → (core : Core) → end.session ≡ Some core → core.descriptor.lvs ≢ [] → end.moment.facts ≡ core.history.facts → (run : ℕ) → core.history.run ≡ run
     → (blocks : ℕ) (load : Workload) (woven : Woven) → IsDrawn blocks load (state end.moment.device core) exit woven → Concluded run end exit
 drawn_concluded end exit between core some vols facts run named blocks load woven drawn =
-    closed_concluded run end exit between core some vols facts named drawn.end (runs_unstuck (state end.moment.device core) drawn.end drawn.runs on) drawn.runs drawn.sound drawn.closed drawn.facts
+    closed_concluded run end exit between core some vols facts named drawn.end (runs_unstuck (state end.moment.device core) drawn.end drawn.runs on) (goes_any drawn.runs) drawn.sound drawn.closed drawn.facts
   where
     on : core.power ≡ power.On
     on = (subst (λ (o : Option Core). IsBetween end.moment o end.posts) some between).session.power
