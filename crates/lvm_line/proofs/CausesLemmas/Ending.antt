@@ -40,8 +40,8 @@ module _ (old new : ScriptState) (between : IsBetween old.moment old.session old
     over_ends over none k d less own j how low told =
         let counts = over_counts end old.posts old.last new over in
         landing_cause old new core on end sound (path_shape leaves).origin (λ disk. let same = ap (λ (n : Counts). n.faults disk) counts in omega (arith, same))
-            (dark_cause old new core end between leaves sound counts)
-            _ how ((over.stood.each k d less).held own j low) (sym (ap (λ (fs : List Fact). outcome_in fs _) over.facts) ∙ told)
+        (dark_cause old new core end between leaves sound counts)
+        _ how ((over.stood.each k d less).held own j low) (sym (ap (λ (fs : List Fact). outcome_in fs _) over.facts) ∙ told)
 
     carried_ends : (p : Power) → CarriesBy p end old.posts old.last new → PostsEndForCause old new
     carried_ends power.On is none = absurd (let e = sym (ap (λ (s : ScriptState). s.session) is) ∙ none in cc e)
@@ -111,5 +111,5 @@ module _ (log : Log) (word : ℕ) (old new : ScriptState) (between : IsBetween o
       let went : Cuts (with_order old.moment.device (arrange.Cut word)) cut.dark = ⊎_elim (λ off. absurd (let e = sym between.lit.power ∙ off.0 in cc e)) (λ cuts. cuts) cut.cut.1 in
       let counts = ap (λ (d : Device). d.counts) cut.lit in
       cut_so (subst (λ (n : Counts). Rose old.moment.device.counts.cuts n.cuts) (sym counts) went.cuts)
-          (λ disk. let same = ap (λ (n : Counts). n.faults disk) counts in let stays = ap (λ (d : Device). d.counts.faults disk) went.new_is in omega (arith, same, stays))
-          old.session refl between.session between.posted cut.facts
+      (λ disk. let same = ap (λ (n : Counts). n.faults disk) counts in let stays = ap (λ (d : Device). d.counts.faults disk) went.new_is in omega (arith, same, stays))
+      old.session refl between.session between.posted cut.facts
