@@ -15,5 +15,5 @@ module _ (run : ℕ) (old new : ScriptState) (between : IsBetween old.moment old
   varyoff_nothing (BusyVaryoff on busy is) = same_nothing old.moment.device new.moment.device (ap (λ (s : ScriptState). s.moment.device) is.1)
   varyoff_nothing (VariesOff core some on none clean ends is) = same_nothing old.moment.device new.moment.device (ap (λ (m : Moment). m.device) ends.same)
   varyoff_nothing (UndrainedVaryoff core why some on dirty un) = undrained_nothing run old new between named stood core why answer some un
-  varyoff_nothing (TidiesOff core left mid some on dirty drains done is) id k it = ⊎_elim (λ before. before) (λ next. absurd next.1) (done_finds run old new between named stood core left mid some drains done id k it)
-  varyoff_nothing (VaryoffFails core left mid why some on dirty drains done is) id k it = ⊎_elim (λ before. before) (λ next. absurd next.1) (done_finds run old new between named stood core left mid some drains done id k it)
+  varyoff_nothing (TidiesOff core left mid some on dirty drains done is) = λ id k it. ⊎_elim (λ before. before) (λ next. absurd next.1) (done_finds run old new between named stood core left mid some drains done id k it)
+  varyoff_nothing (VaryoffFails core left mid why some on dirty drains done is) = λ id k it. ⊎_elim (λ before. before) (λ next. absurd next.1) (done_finds run old new between named stood core left mid some drains done id k it)
