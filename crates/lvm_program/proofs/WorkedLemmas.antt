@@ -53,7 +53,7 @@ is_line = record {
 }
 
 a_line : Script (empty_log 50 full_room) full_room off (codes "step 1" ∷ []) (answer ∷ []) off
-a_line = NextLine (codes "step 1") answer answer (λ stuck. stuck) (inl refl) NoLine is_line
+a_line = NextLine (codes "step 1") answer answer (λ stuck. cc stuck) (inl refl) NoLine is_line
 
 its_lines : AreDone (empty_log 50 full_room) full_room off off untold untold 1
 unfolding a_line
