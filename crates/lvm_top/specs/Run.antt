@@ -22,7 +22,7 @@ use Rattle.lvm_top.specs.Blank.{IsToldBlank}
 use Rattle.lvm_top.specs.Clock.{AsksForLines, Clocked}
 use Rattle.lvm_top.specs.Plain.{UpholdsPlainly}
 use Rattle.lvm_top.specs.Recovery.{AreRecovered, EndsRecovered}
-use Rattle.lvm_top.specs.Sharing.{AreShared, EndsShared}
+use Rattle.lvm_top.specs.Sharing.{AreShared, EndsShared, StayApart}
 
 -- What a run was given and what came of it: the moment that names it and the clock's last one, its rooms, the shelf before and after, what was read and written, its history, its status, and how many lines were refused.
 pub record Run : Type 0 where
@@ -115,7 +115,7 @@ HaveShared {r} ran = (past : List Fact) → IsEarlier r.named r.entry past → A
 -- group was found, the history is legal with what was told before, and each crash image that the disks may leave is kept with it; over disks that hold nothing so
 -- it is without anything told before. So it is of itself where the script has nowhere `-f` and the disks hold one group at most. The clock stays ahead of the
 -- disks, and of each crash image unless nothing was heard of a transfer. The history tells of this run alone. Each `varyonvg` brings its group back. Where no
--- line found another group, each `splitlvcopy` leaves two volumes that hold the same.
+-- line found another group, each `splitlvcopy` leaves two volumes that hold the same, of which a write on one leaves the other.
 pub record Promises (asked : Clocked) (r : Run) : Type 0 where
   pub clock : IfSome r.history (λ log. Rose asked.last log.run × (log.run ≤ r.last))
   pub does : IsRun r
@@ -129,3 +129,4 @@ pub record Promises (asked : Clocked) (r : Run) : Type 0 where
   pub tells : Ordered r.named [] (facts_of r.history)
   pub recovers : IsBehind r.named r.entry → HaveRecovered does
   pub shares : RanAlone does → IsBehind r.named r.entry → HaveShared does
+  pub apart : (past : List Fact) → StayApart (joined past (facts_of r.history))

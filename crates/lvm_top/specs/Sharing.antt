@@ -1,7 +1,9 @@
 -- What each `splitlvcopy` of a script leaves of the content of both volumes.
-use Rattle.std.specs.Prelude.{◌≡◌, ℕ, List, Option, Some, Result, Ok, IsSomeAnd}
-use Rattle.lvm_vol.specs.Facts.{Fact}
+use Rattle.std.specs.Prelude.{◌≡◌, ℕ, List, [], ◌∷◌, ◌++◌, Option, Some, Result, Ok, IsSomeAnd}
+use Rattle.lvm_vol.specs.declared.entry.Vol.TheVariants.{Lv}
+use Rattle.lvm_vol.specs.Facts.{Begun, Fact, Landed}
 use Rattle.lvm_vol.specs.Log.{Log}
+use Rattle.lvm_vol.specs.May.{known}
 use Rattle.lvm_parse.specs.declared.command.Command.{Command}
 use Rattle.lvm_parse.specs.declared.command.Command.TheVariants as command
 use Rattle.lvm_parse.specs.declared.rest.Misfit.{Misfit}
@@ -39,3 +41,15 @@ AreShared past (NextLine {new = new} line answer said goes says before does) = A
 abbrev pub EndsShared : {log : Log} {room : Room} {mid last : ScriptState} {done : List (List ℕ)} {said : List Reply} {front : List ℕ} → List Fact → Ends log room mid last done said front → Type 0
 EndsShared past (AtLine same) = Unit {0}
 EndsShared {last = last} past (InLine line answer said front rest says split does) = SharesAs past (line_of line) answer last
+
+-- ---- a write on one volume
+
+-- a request on the volume is asked, or has landed
+abbrev pub IsAskedOf : Fact → ℕ → Type 0
+IsAskedOf (Begun r) lv = r.vol ≡ Lv lv
+IsAskedOf (Landed r how started got) lv = r.vol ≡ Lv lv
+IsAskedOf other lv = ⊥
+
+-- Such an entry leaves what is known of each block of another volume: the values that a read of it may get, and that crash images keep.
+abbrev pub StayApart : List Fact → Type 0
+StayApart history = (before rest : List Fact) (f : Fact) (lv other b : ℕ) → history ≡ before ++ f ∷ rest → IsAskedOf f lv → (lv ≡ other → ⊥) → known (before ++ f ∷ []) (Lv other) b ≡ known before (Lv other) b

@@ -24,6 +24,7 @@ use Rattle.lvm_top.proofs.RunLemmas.Firsts.{first_upheld}
 use Rattle.lvm_top.proofs.PlainLemmas.{plainly}
 use Rattle.lvm_top.proofs.ScriptLemmas.Concluding.{at_rest_still, concluded, entry_between, off_still, ran_ahead, ran_ahead_each, run_upheld}
 use Rattle.lvm_top.proofs.LawsLemmas.Recovering.{run_recovers}
+use Rattle.lvm_top.proofs.SharingLemmas.Apart.{stay_apart}
 use Rattle.lvm_top.proofs.SharingLemmas.Splits.{run_shares}
 use Rattle.lvm_top.proofs.RefusedLemmas.{run_causes}
 use Rattle.lvm_top.proofs.ScriptLemmas.Scripting.{Ended, nothing_done, nothing_broken, nothing_heard, nothing_left, lines_ended}
@@ -268,6 +269,7 @@ module _ {S : Type 0} (device : S → Device) (entry : Device) (run begun last :
       tells = subst (λ (n : ℕ). Ordered n [] kept.facts) named ordered;
       recovers = run_recovers _ (the_run status says).0;
       shares = run_shares _ (the_run status says).0;
+      apart = λ past. stay_apart _;
     })
 
 -- and of one for which no memory was found
@@ -286,4 +288,5 @@ nothing_promised asked last room device input output ready once = record {
   tells = tt;
   recovers = run_recovers _ (nothing_ran last room device input output ready);
   shares = run_shares _ (nothing_ran last room device input output ready);
+  apart = λ past. stay_apart _;
 }
