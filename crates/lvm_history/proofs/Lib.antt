@@ -1,3 +1,6 @@
+pub mod IndexLemmas
+pub mod LinkLemmas
+pub mod NewestLemmas
 pub mod LogLemmas
 pub mod KeepingLemmas
 pub mod passed
