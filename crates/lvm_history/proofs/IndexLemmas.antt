@@ -11,7 +11,8 @@ use Rattle.lvm_vol.specs.declared.entry.Vol.{Vol}
 use Rattle.lvm_vol.specs.declared.entry.Outcome.{Outcome}
 use Rattle.lvm_vol.specs.declared.entry.Outcome.TheVariants as outcome
 use Rattle.lvm_vol.proofs.passed.Names.{or_false}
-use Rattle.lvm_history.specs.passed.CheckerNames.{Log, Entry, plain_fact, is_open, awaited, is_answered, asked}
+use Rattle.lvm_history.specs.passed.CheckerNames.{Log, Fact, Entry, plain_fact, is_open, awaited, is_answered, asked, request_of, lands_id, takes_id}
+use Rattle.lvm_history.proofs.passed.CheckerNames.{and_left}
 use Rattle.lvm_history.specs.passed.VolEntryEntry as entry
 use Rattle.lvm_history.specs.declared.row.Ask.{Ask}
 use Rattle.lvm_history.specs.declared.row.Row.{Row}
@@ -370,3 +371,9 @@ awaited_told index k log id was sound shows = awaited_by_index index k.asks k.ro
 pub answered_told : (index : Indexed) (k : Holdings) (log : Log) (client id : ℕ) → IsIndexOf index k.asks k.rows → IsSound k → log_of k ≡ log
     → is_answered_by (ask_found k.asks id) client (has_landed_in index id) (has_taken_in index id) ≡ is_answered log.facts client id
 answered_told index k log client id was sound shows = answered_by_index index k.asks k.rows was id client ∙ is_answered_kept k log client id sound shows
+
+pub answered_some : (facts : List Fact) (client id : ℕ) → is_answered facts client id ≡ true → is_some (asked facts id) ≡ true
+answered_some facts client id answered =
+    and_left (is_some (asked facts id)) ((request_of facts id).client == client)
+    (and_left (is_some (asked facts id) && (request_of facts id).client == client) (list_any (lands_id id) facts)
+    (and_left (is_some (asked facts id) && (request_of facts id).client == client && list_any (lands_id id) facts) (not (list_any (takes_id id) facts)) answered))

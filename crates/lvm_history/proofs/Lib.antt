@@ -1,3 +1,4 @@
+pub mod AlongLemmas
 pub mod IndexLemmas
 pub mod LinkLemmas
 pub mod NewestLemmas

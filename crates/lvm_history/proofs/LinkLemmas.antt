@@ -14,7 +14,7 @@ is_on chain c = c == chain
 
 pub no_links : (heads : List ℕ) → heads ≡ replicate 4098 0 → AreLinked [] heads
 no_links heads is = record {
-  count = ap length is ∙ length-replicate 4098 0;
+  count = ap length is ∙ length-replicate {A = ℕ} 4098 0;
   links_are = λ k less. absurd (omega arith);
   heads_are = λ chain less. ap (λ (l : List ℕ). get_or l chain 0) is ∙ get_or-replicate 4098 chain 0 0 less;
 }

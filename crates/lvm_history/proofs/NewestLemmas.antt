@@ -53,7 +53,7 @@ module _ {X : Type 0} (p : X → Bool) (d : X) where
   pub newest_append : (xs ys : List X) (k : ℕ) → k ≤ length xs → newest_by p d (xs ++ ys) k ≡ newest_by p d xs k
   newest_append xs ys zero le = refl
   newest_append xs ys (suc k) le =
-      ap (λ (x : X). cond (p x) (suc k) (newest_by p d (xs ++ ys) k)) (get_or_append_left xs ys k d (omega arith))
+      ap (λ (x : X). cond (p x) (suc k) (newest_by p d (xs ++ ys) k)) (get_or_append_left xs ys d k (omega arith))
       ∙ ap (λ (n : ℕ). cond (p (get_or xs k d)) (suc k) n) (newest_append xs ys k (omega arith))
 
   pub newest_push : (xs : List X) (x : X) → newest_by p d (xs ++ x ∷ []) (suc (length xs)) ≡ cond (p x) (suc (length xs)) (newest_by p d xs (length xs))

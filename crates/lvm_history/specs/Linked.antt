@@ -1,5 +1,5 @@
 -- An index's fields as what it tells.
-use Rattle.std.specs.Prelude.{◌≡◌, ℕ, ◌+◌, ◌/◌, ◌<◌, ◌≤◌, List, length, map, slice_index_or, vec_capacity}
+use Rattle.std.specs.Prelude.{◌≡◌, ℕ, ◌+◌, ◌/◌, ◌^◌, ◌<◌, ◌≤◌, List, length, map, slice_index_or, vec_capacity}
 use Rattle.lvm_history.specs.declared.index.Index.TheInside.{Inside}
 use Rattle.lvm_history.specs.declared.index.Link.{Link}
 use Rattle.lvm_history.specs.Places.{Indexed, newest}
@@ -22,5 +22,6 @@ index_shown i = record { room = i.room; chains = chains_of i.links.items; steps 
 pub record IsLinked (i : Inside) : Type 0 where
   pub linked : AreLinked i.links.items i.heads.items
   pub few : length i.links.items ≤ i.room
+  pub small : i.room < 2 ^ 32
   pub links_fit : vec_capacity i.links ≡ i.room
   pub steps_fit : vec_capacity i.steps ≡ i.room / 3

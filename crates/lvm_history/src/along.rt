@@ -93,18 +93,17 @@ pub fn may_have_along(
     let mut places = newest_of(index, vol, group);
     let mut place = newer(places);
     while place > 0 {
-        let k = place - 1;
-        let row = &rows[k as usize];
+        let k = (place - 1) as usize;
         let there = Block {
             vol,
             number: block.number,
         };
-        match told_by(&rows[..k as usize], row, asks, blocks, there, value) {
+        match told_by(&rows[..k], &rows[k], asks, blocks, there, value) {
             Told::Fixed(allowed) => return either(allowed, also),
             Told::Also(allowed) => also = either(allowed, also),
         }
-        let source = source_of(row, vol);
-        places = older(index, row, vol, source, group, k, places);
+        let source = source_of(&rows[k], vol);
+        places = older(index, &rows[k], vol, source, group, place - 1, places);
         vol = source;
         place = newer(places);
     }
