@@ -42,7 +42,7 @@ tight_sound k sound = record {
 -- ---- one row more
 
 -- how far a row brings a request
-step_after : ℕ → Row → ℕ → Step → Step
+abbrev pub step_after : ℕ → Row → ℕ → Step → Step
 step_after id r n s = record { landed = cond (is_landing id r) (suc n) s.landed; taken = s.taken || (is_taking id r || false) }
 
 step_more : (rows : List Row) (r : Row) (id : ℕ) → step_of (rows ++ r ∷ []) id ≡ step_after id r (length rows) (step_of rows id)

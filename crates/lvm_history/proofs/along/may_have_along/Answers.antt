@@ -1,4 +1,4 @@
-use Rattle.std.proofs.Common.{◌≡◌, ◌-◌, ◌+◌, ◌/◌, ◌≤◌, ◌<◌, ◌||◌, ◌∙◌, ℕ, Bool, true, false, length, take, get_or, sym, ap, subst, refl, arith, List, max, ◌×◌}
+use Rattle.std.proofs.Common.{◌≡◌, ◌-◌, ◌+◌, ◌/◌, ◌≤◌, ◌<◌, ◌||◌, ◌∙◌, ℕ, Bool, true, false, length, take, get_or, sym, ap, subst, refl, arith, List, max}
 use Rattle.lvm_vol.proofs.passed.Names.{or_false}
 use Rattle.lvm_vol.specs.declared.entry.Vol.{Vol}
 use Rattle.lvm_vol.specs.May.{known}
@@ -43,11 +43,11 @@ pub loop-place-preserved : goal.loop-place-preserved
 loop-place-preserved c =
     let within = c.loop-place.invariant.within in
     let at = nothing_between 0 c.args.asks.now c.args.blocks.now c.args.rows.now c.source_of-source.result c.args.block.number c.args.value.now c.requires.groups
-    c.args.index.now (c.loop-place.place - 1) c.newer-place-2.result c.older-places.result c.requires (omega (arith, within)) c.older-places.ensures c.newer-place-2.ensures in
+    c.args.index.now (c.loop-place.place - 1) c.newer-place-in-loop-place.result c.older-places.result c.requires (omega (arith, within)) c.older-places.ensures c.newer-place-in-loop-place.ensures in
     record {
       within = let few = at.1.0 in omega (arith, few, within);
       places = at.1.1;
-      newer = c.newer-place-2.ensures;
+      newer = c.newer-place-in-loop-place.ensures;
       told = λ run.
           c.loop-place.invariant.told run
           ∙ ap (λ (t : Bool). t || c.loop-place.also)
@@ -56,8 +56,15 @@ loop-place-preserved c =
           ∙ ap (λ (v : Vol). allows (seen_of (known (facts_of run c.args.asks.now c.args.blocks.now (take (c.loop-place.place - 1) c.args.rows.now)) v c.args.block.number) c.args.value.now) || c.either-also.result) (sym c.source_of-source.ensures)
           ∙ ap (λ (t : Bool). t || c.either-also.result)
           (nothing_between run c.args.asks.now c.args.blocks.now c.args.rows.now c.source_of-source.result c.args.block.number c.args.value.now c.requires.groups
-          c.args.index.now (c.loop-place.place - 1) c.newer-place-2.result c.older-places.result c.requires (omega (arith, within)) c.older-places.ensures c.newer-place-2.ensures).0;
+          c.args.index.now (c.loop-place.place - 1) c.newer-place-in-loop-place.result c.older-places.result c.requires (omega (arith, within)) c.older-places.ensures c.newer-place-in-loop-place.ensures).0;
     }
+
+pub loop-place-smaller : goal.loop-place-smaller
+loop-place-smaller c =
+    let within = c.loop-place.invariant.within in
+    let at = nothing_between 0 c.args.asks.now c.args.blocks.now c.args.rows.now c.source_of-source.result c.args.block.number c.args.value.now c.requires.groups
+    c.args.index.now (c.loop-place.place - 1) c.newer-place-in-loop-place.result c.older-places.result c.requires (omega (arith, within)) c.older-places.ensures c.newer-place-in-loop-place.ensures in
+    let few = at.1.0 in omega (arith, few, c.loop-place-test.true)
 
 pub returns-in-Fixed : goal.returns-in-Fixed
 returns-in-Fixed c = λ run.
