@@ -16,7 +16,7 @@ is_given : (o : Option (Bor (List ℕ))) → is_some o ≡ is_some (option_copie
 is_given None = refl
 is_given (Some bytes) = refl
 
-the_ask : goal.After-self-2-1 → Ask
+abbrev the_ask : goal.After-self-2-1 → Ask
 the_ask c = record { client = c.args.client; vol = c.args.vol; at = c.args.at; count = c.args.count; write = is_some (option_copied c.args.bytes); place = length c.self.inside.blocks.items }
 
 adds_row : (c : goal.After-self-2-1) → BeginsRow (kept_of c.self.inside) (new c) (the_ask c) (blocks_first c.args.count (option_copied c.args.bytes))

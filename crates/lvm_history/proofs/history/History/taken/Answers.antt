@@ -1,7 +1,7 @@
 use Rattle.std.proofs.Common.{refl, arith, ap, ◌∙◌, length}
 use Rattle.lvm_history.specs.Opened.{kept_of}
 use Rattle.lvm_history.specs.passed.CheckerNames.{Taken, request_of}
-use Rattle.lvm_history.proofs.KeepingLemmas.{Adds, IsKeptAsk, log_ask, taken_adds, taken_room}
+use Rattle.lvm_history.proofs.KeepingLemmas.{Adds, log_ask, taken_adds, taken_room}
 use Rattle.lvm_history.specs.Places.{Indexed}
 use Rattle.lvm_history.proofs.IndexLemmas.{tight, tight_sound, taken_indexed, chains_count, answered_some}
 use Rattle.lvm_history.proofs.history.History.taken.Goals as goal
@@ -13,11 +13,8 @@ adds c = taken_adds (kept_of c.self.inside) (kept_of (record c.self.inside { row
 pub append-requires : goal.append-requires
 append-requires c = omega (arith, taken_room (kept_of c.self.inside) c.args.self.now c.args.client c.args.id c.self.invariant.kept c.self.view_is c.requires, c.self.inside.rows.ok.0)
 
-its : (c : goal.After-append) → IsKeptAsk (kept_of c.self.inside) c.args.self.now.facts c.args.id
-its c = log_ask (kept_of c.self.inside) c.args.self.now c.args.id c.self.invariant.kept c.self.view_is (answered_some c.args.self.now.facts c.args.client c.args.id c.requires)
-
 pub take-requires : goal.take-requires
-take-requires c = omega (arith, (its c).high, c.self.invariant.indexed.count)
+take-requires c = omega (arith, (log_ask (kept_of c.self.inside) c.args.self.now c.args.id c.self.invariant.kept c.self.view_is (answered_some c.args.self.now.facts c.args.client c.args.id c.requires)).high, c.self.invariant.indexed.count)
 
 pub add-requires-clause-room : goal.add-requires-clause-room
 add-requires-clause-room c =
@@ -28,7 +25,7 @@ pub invariant_of-self : goal.invariant_of-self
 invariant_of-self c = record {
   kept = (adds c).sound;
   indexed = rw (c.add.ensures, c.take.ensures, c.append.ensures.items)
-      (taken_indexed c.self.inside.index c.self.inside.asks.items c.self.inside.rows.items c.args.client c.args.id (its c).low (its c).high c.self.invariant.indexed);
+      (taken_indexed c.self.inside.index c.self.inside.asks.items c.self.inside.rows.items c.args.client c.args.id (log_ask (kept_of c.self.inside) c.args.self.now c.args.id c.self.invariant.kept c.self.view_is (answered_some c.args.self.now.facts c.args.client c.args.id c.requires)).low (log_ask (kept_of c.self.inside) c.args.self.now c.args.id c.self.invariant.kept c.self.view_is (answered_some c.args.self.now.facts c.args.client c.args.id c.requires)).high c.self.invariant.indexed);
   index_fits = ap (λ (x : Indexed). x.room) c.add.ensures ∙ ap (λ (x : Indexed). x.room) c.take.ensures ∙ c.self.invariant.index_fits;
 }
 
