@@ -28,6 +28,7 @@ ghost use Rattle.lvm_driver.specs.Answers.{IsCausedFor, IsCopyCaused, IsOffSince
 use crate::dues::{all_due, submit, take};
 use lvm_core::{Closed, without_freed};
 use lvm_disk::{Arrange, Shelf};
+use lvm_due::left;
 use lvm_history::History;
 use lvm_keeps_events::below::{close_copy, copy_state, open_copy};
 use lvm_num::{Descriptor, Stamp};
@@ -38,7 +39,6 @@ use lvm_session_start::{Parts, begin_session};
 use lvm_session_turn::below::Due;
 use lvm_session_turn::{arrange, turn};
 use lvm_status::StaleTable;
-use lvm_due::left;
 use std::marker::Model;
 
 /// A group that is varied on, over its shelf. Clients submit requests to it and take their answers; what is done

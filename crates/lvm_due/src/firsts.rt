@@ -3,10 +3,10 @@ ghost use Rattle.std.specs.Prelude.{◌≡◌, ◌<◌, length, slice_get, Some}
 ghost use Rattle.lvm_due.specs.passed.FactsNames.{Open, core_of, admission, admission_at, data_at, first_from, landing, landing_at, IsGoing};
 ghost use Rattle.lvm_due.specs.Spans.{Spans};
 
+use crate::below::{Event, Session};
 use crate::next::next_at;
 use crate::phases::{might_admit, might_land, might_start};
 use crate::span::Span;
-use crate::below::{Event, Session};
 use lvm_path::Next;
 
 fn landing_at(session: &Session, place: usize) -> Option<Event>

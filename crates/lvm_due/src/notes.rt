@@ -6,8 +6,8 @@ ghost use Rattle.lvm_path.specs.Asks.{at_of};
 ghost use Rattle.lvm_path.specs.declared.target.Target.{Target};
 ghost use Rattle.lvm_due.specs.Spans.{Spans};
 
-use crate::span::Span;
 use crate::below::{Event, Open, Session};
+use crate::span::Span;
 use crate::standing::{group_of, is_missing};
 use lvm_path::{Phase, Target};
 

@@ -9,8 +9,8 @@ ghost use Rattle.lvm_path.specs.Asks.{at_of};
 ghost use Rattle.lvm_due.specs.passed.FactsNames.{Open, core_of, IsWithin, counts_failed, is_beside, is_failing, is_pending, is_settled, is_waiting, is_wanted_stale, lp_of};
 
 use crate::below::{Open, Session};
-use crate::judged::counts_failed;
 use crate::facts_places::partition_blocks;
+use crate::judged::counts_failed;
 use crate::standing::{copies_for, is_settled, is_wanted_stale, lp_of};
 use lvm_num::Pp;
 use lvm_path::{Ask, Request, Target};

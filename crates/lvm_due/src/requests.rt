@@ -10,8 +10,8 @@ ghost use Rattle.lvm_session.specs.Left.{read_left, request_left, waiting_target
 ghost use Rattle.lvm_session.specs.Requests.{IsLaid};
 ghost use Rattle.lvm_session.specs.Sound.{IsGoing};
 
-use crate::writes::{waiting_targets, write_left};
 use crate::below::is_waiting;
+use crate::writes::{waiting_targets, write_left};
 use lvm_path::{Phase, Request, any_is_done};
 use lvm_session::{Open, Session};
 

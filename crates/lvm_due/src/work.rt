@@ -6,11 +6,11 @@ ghost use Rattle.lvm_session.specs.Judging.{is_waiting};
 ghost use Rattle.lvm_session.specs.Left.{left_by, left_of, work_left};
 ghost use Rattle.lvm_session.specs.Sound.{IsGoing};
 
+use crate::below::is_waiting;
 use crate::copy::copy_left;
 use crate::requests::requests_left;
-use crate::work_left_status::{members_left, status_left};
-use crate::below::is_waiting;
 use crate::starts::is_lost;
+use crate::work_left_status::{members_left, status_left};
 use lvm_session::{Power, Session};
 
 // While the votes are there.

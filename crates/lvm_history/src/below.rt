@@ -1,4 +1,4 @@
 //! What is passed on from the crates below.
 
-pub use lvm_vol::{Entry, Outcome, Vol};
 pub use lvm_vol::below::Memory;
+pub use lvm_vol::{Entry, Outcome, Vol};

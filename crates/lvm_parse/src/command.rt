@@ -2,8 +2,8 @@
 
 ghost use Rattle.std.specs.Prelude.{◌≡◌};
 
-use lvm_num::{Mode, Name, Policy, Rows};
 use crate::rest::Misfit;
+use lvm_num::{Mode, Name, Policy, Rows};
 
 /// What a line asks for. Blocks are of 512 bytes and counted from 0; a disk is its number, 0 to 127.
 #[derive(Drop, PartialEq, Eq)]

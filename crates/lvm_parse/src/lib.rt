@@ -55,10 +55,17 @@ pub use chosen::{MklvOptions, MkvgOptions};
 pub use command::{Command, ParseFault};
 pub use disk_list::disks;
 pub use line::parse;
-pub use operands::{copies, count, disk, ends, is_disk_next, last_copies, last_disk, last_name, last_partitions, last_pattern, last_turns, misfit, mode, name, next_column, number, option, partitions, pattern, policy, size, turns};
+pub use operands::{
+    copies, count, disk, ends, is_disk_next, last_copies, last_disk, last_name, last_partitions,
+    last_pattern, last_turns, misfit, mode, name, next_column, number, option, partitions, pattern,
+    policy, size, turns,
+};
 pub use operands_line::{is_remark, unreadable_at};
 pub use options::{mklv_options, mkvg_options};
 pub use range::{BlockRange, blocks, last_blocks};
 pub use rest::{Misfit, Rest, Word};
 pub use scan::next_word;
-pub use words::{copy_count_of, count_of, disk_of, hex_word, mode_of, name_of, number_of, partition_count_of, policy_of, size_of, turns_of};
+pub use words::{
+    copy_count_of, count_of, disk_of, hex_word, mode_of, name_of, number_of, partition_count_of,
+    policy_of, size_of, turns_of,
+};

@@ -6,13 +6,13 @@ ghost use Rattle.lvm_parse.specs.Rests.{left};
 ghost use Rattle.lvm_parse.specs.Answering.{Answers, AnswersLine, IsMkvgLine};
 
 use crate::command::{Command, ParseFault};
+use crate::operands::misfit;
+use crate::operands_line::{is_remark, unreadable_at};
+use crate::rest::{Misfit, Rest, Word};
 use crate::rules::{
     cut, fail, heal, lslv, lspv, lsvg, mklv, mklvcopy, mkvg, post, rd, rmlv, rmlvcopy, step,
     syncvg, varyoffvg, varyonvg, wait, wr,
 };
-use crate::operands::misfit;
-use crate::operands_line::{is_remark, unreadable_at};
-use crate::rest::{Misfit, Rest, Word};
 use crate::scan::next_word;
 use std::alloc::Global;
 

@@ -4,15 +4,18 @@ ghost use Rattle.lvm_parse.specs.Grammar.{rd_disk, rd_volume, rd, wr_disk, wr_vo
 ghost use Rattle.lvm_parse.specs.Rests.{left};
 ghost use Rattle.lvm_parse.specs.Answering.{Answers};
 
-use crate::command::{Command, ParseFault};
-use lvm_num::{Mode, Policy, Rows};
 use crate::chosen::{MklvOptions, MkvgOptions};
+use crate::command::{Command, ParseFault};
 use crate::disk_list::disks;
-use crate::operands::{disk, ends, is_disk_next, last_copies, last_disk, last_name, last_partitions, last_pattern, last_turns, misfit, name, next_column, option};
+use crate::operands::{
+    disk, ends, is_disk_next, last_copies, last_disk, last_name, last_partitions, last_pattern,
+    last_turns, misfit, name, next_column, option,
+};
 use crate::options::{mklv_options, mkvg_options};
 use crate::range::{blocks, last_blocks};
 use crate::rest::{Misfit, Rest};
 use crate::scan::next_word;
+use lvm_num::{Mode, Policy, Rows};
 use std::alloc::Global;
 
 // `rd DISK BLOCK COUNT`

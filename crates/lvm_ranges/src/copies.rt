@@ -6,11 +6,11 @@ ghost use Rattle.lvm_session.specs.State.{Core, state_of};
 ghost use Rattle.lvm_ranges.specs.Passing.{BringsUp, HasEnded, IsAnsweredBy, IsJustOpened, IsPassedBy, JudgesCopy, MayPass, MayRefuse, PassesOrEnds, Runs, copy_of};
 ghost use Rattle.lvm_ranges.specs.Turning.{GoesBeside};
 
+use crate::below::Driver;
 use crate::fault::SyncFault;
 use crate::resync_turns::make_turn;
 use lvm_disk::Shelf;
 use lvm_num::Pp;
-use crate::below::Driver;
 use lvm_session::{CopyFault, CopyState};
 use lvm_transfer::Patience;
 

@@ -9,13 +9,13 @@ ghost use Rattle.lvm_session.specs.State.{state_of};
 ghost use Rattle.lvm_ranges.specs.Syncing.{PassesAll, copies_at, copy_in, group_copies, partition_copies, volume_copies};
 ghost use Rattle.lvm_ranges.specs.Turning.{GoesBeside};
 
+use crate::below::Driver;
 use crate::copies::pass_copy;
 use crate::fault::SyncFault;
 use crate::tally::Tally;
 use lvm_disk::Shelf;
 use lvm_due::copies_in;
 use lvm_num::{Pp, volume_of};
-use crate::below::Driver;
 use lvm_transfer::Patience;
 
 // The most copies of a logical partition.

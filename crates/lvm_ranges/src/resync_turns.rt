@@ -4,9 +4,9 @@ ghost use Rattle.lvm_session.specs.declared.open.Power.TheVariants as power;
 ghost use Rattle.lvm_session.specs.State.{state_of};
 ghost use Rattle.lvm_ranges.specs.Turning.{GoesBeside, IsUnderWay, TurnEnds};
 
+use crate::below::Driver;
 use crate::fault::SyncFault;
 use lvm_disk::Shelf;
-use crate::below::Driver;
 use lvm_session::Turned;
 use lvm_transfer::Patience;
 

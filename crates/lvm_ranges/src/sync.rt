@@ -6,12 +6,12 @@ ghost use Rattle.lvm_ranges.specs.Causes.{SyncCause};
 ghost use Rattle.lvm_ranges.specs.Syncing.{IsAnswer, SyncGives, fault_by, fault_on, group_copies, group_fault, no_tally, numbers_fault, partition_copies, partition_fault, volume_copies, volume_fault};
 ghost use Rattle.lvm_ranges.specs.Turning.{GoesBeside};
 
+use crate::below::Driver;
 use crate::fault::SyncFault;
 use crate::passes::{pass_group, pass_partition, pass_volume};
 use crate::tally::Tally;
 use lvm_disk::Shelf;
 use lvm_num::volume_of;
-use crate::below::Driver;
 use lvm_session::{CopyState, Power};
 use lvm_transfer::Patience;
 

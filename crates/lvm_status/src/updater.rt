@@ -7,10 +7,12 @@ ghost use Rattle.lvm_status.specs.Marking.{IsLeftIn, Marks, HasMark};
 ghost use Rattle.lvm_status.specs.Members.{HasItsRows, all_rows, all_members};
 ghost use Rattle.lvm_status.specs.Update.{members_there};
 
-use crate::{Change, Progress, Writes};
-use crate::below::{Descriptor, DiskSet, LvRow, Memory, Pp, Rows, Stamp, Status, has_member, with_volumes};
+use crate::below::{
+    Descriptor, DiskSet, LvRow, Memory, Pp, Rows, Stamp, Status, has_member, with_volumes,
+};
 use crate::mark::mark_volumes;
 use crate::table::StaleTable;
+use crate::{Change, Progress, Writes};
 use std::alloc::Global;
 use std::marker::Model;
 

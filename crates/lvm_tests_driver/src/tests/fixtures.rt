@@ -24,8 +24,8 @@ use lvm_num::{
 use lvm_path::Ask;
 use lvm_ranges::below::driver::{Closed, Driver};
 use lvm_ranges::below::whole_groups_begin;
-use lvm_rec::Homes;
 use lvm_ranges::{SyncFault, sync_volume};
+use lvm_rec::Homes;
 use lvm_session::{AskFault, CopyFault, CopyState, Power, Taken, Turned};
 use lvm_session_start::{Room, take_parts};
 use lvm_transfer::Patience;

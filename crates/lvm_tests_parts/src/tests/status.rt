@@ -4,8 +4,8 @@ use crate::tests::status::Do::{
     Starts, Votes, Writes, WritesNone,
 };
 use lvm_num::{Descriptor, Pp, Stamp};
-use lvm_status::{Change, Progress, StaleTable, Updater};
 use lvm_status::Progress::{Committed, QuorumLost, Waiting};
+use lvm_status::{Change, Progress, StaleTable, Updater};
 use lvm_tests_values::{Member, group, table};
 use std::process::Abort;
 
