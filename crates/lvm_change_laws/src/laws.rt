@@ -1,5 +1,6 @@
 //! Laws of a change of members. Each call does nothing: its contract is the law.
 ghost use Rattle.lvm_change_laws.specs.Turning.{ValidAreTwo, TurnKeeps, StateTurnKeeps, TurnIsDone, ReadsAreTwo};
+ghost use Rattle.lvm_change_laws.specs.Rule.{RuleOpens, StatusesLeaveOpen, RerowedMayFollow, TurnWriteKeeps, TurnIsHeld};
 ghost use Rattle.lvm_change_laws.specs.Committed.{CommittedIsRead, CommittedServes, TurnIsCommitted, ErasingKeeps};
 
 /// While a group turns from one descriptor to its neighbour each history that was kept is kept, and once disks with votes enough by both show the next one
@@ -22,4 +23,13 @@ pub fn turns_are_committed()
 /// A disk that has left may lose its records.
 pub fn erasing_keeps()
     ensures { ErasingKeeps }
+{}
+
+/// A rule of votes may change, or the size of a group: while the next descriptor is written what was kept is kept, and once it stands it is the committed one.
+pub fn rules_may_change()
+    ensures opens { RuleOpens }
+    ensures stays { StatusesLeaveOpen }
+    ensures follows { RerowedMayFollow }
+    ensures keeps { TurnWriteKeeps }
+    ensures held { TurnIsHeld }
 {}

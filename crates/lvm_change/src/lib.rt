@@ -1,0 +1,6 @@
+//! A group whose rule of votes changes, or whose size does: the records by which it turns to its next descriptor.
+#![tactic(auto)]
+
+mod turn;
+
+pub use turn::{Turn, Turned, turn};
