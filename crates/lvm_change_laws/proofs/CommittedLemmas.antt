@@ -1,19 +1,14 @@
 -- What is committed is read, and a turn that is over is committed.
-use Rattle.std.proofs.Common.{◌≡◌, ◌⊎◌, inl, inr, ⊎_elim, ℕ, ◌<◌, Bool, true, false, ◌&&◌, Option, Some, refl, sym, ap, subst, ◌∙◌, eq-eqb, List}
+use Rattle.std.proofs.Common.{◌≡◌, inl, inr, ⊎_elim, ℕ, Option, Some, refl, sym, ap, subst, ◌∙◌, eq-eqb}
 use Rattle.std.specs.Prelude.{IsTrue}
-use Rattle.std.proofs.lemmas.Option.{same_Some}
-use Rattle.std.proofs.lemmas.Bool.{eqb-true, and_parts}
-use Rattle.lvm_disk.specs.passed.Names.{Descriptor, Status, Disks, all_disks, CanRead, CanWrite, Stamped, stamp_lt, newest_below}
+use Rattle.std.proofs.lemmas.Bool.{eqb-true}
+use Rattle.lvm_disk.specs.passed.Names.{Descriptor, Status, Disks, all_disks, CanRead, Stamped}
 use Rattle.lvm_disk.proofs.passed.Names.{read_meets_write}
-use Rattle.lvm_vol.specs.Facts.{Fact}
-use Rattle.lvm_kept.specs.Contents.{Contents}
-use Rattle.lvm_kept.specs.Group.{passes, is_of, is_status_of, has_room, descriptor_among, Finds, members_in, status_by, fresh_on, Reads, ReadsBy, IsSome}
-use Rattle.lvm_kept.specs.Kept.{BlocksKept, Kept}
-use Rattle.lvm_kept.specs.Committed.{IsWithinDisks}
-use Rattle.lvm_commit.specs.Committed.{ShowsCommitted}
-use Rattle.lvm_kept.proofs.CommittedLemmas.Finding.{offered, finding_reads, finds_from}
-use Rattle.lvm_change_laws.specs.Turning.{DoesFor, Served}
-use Rattle.lvm_change_laws.specs.Committed.{CommittedIsRead, CommittedServes, HasTurned, TurnIsCommitted}
+use Rattle.lvm_kept.specs.Group.{is_of, is_status_of, descriptor_among, Finds, members_in, status_by, fresh_on, Reads, IsSome}
+use Rattle.lvm_kept.specs.Kept.{BlocksKept}
+use Rattle.lvm_kept.proofs.CommittedLemmas.Finding.{finding_reads, finds_from}
+use Rattle.lvm_change_laws.specs.Turning.{DoesFor}
+use Rattle.lvm_change_laws.specs.Committed.{CommittedIsRead, CommittedServes, TurnIsCommitted}
 use Rattle.lvm_change_laws.proofs.Words.{newest_looked}
 use Rattle.lvm_change_laws.proofs.TurningLemmas.{turn_is_done}
 

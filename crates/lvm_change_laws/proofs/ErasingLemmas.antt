@@ -1,25 +1,23 @@
 -- A disk that has left loses its descriptor.
-use Rattle.std.proofs.Common.{◌≡◌, ◌⊎◌, inl, inr, ⊎_elim, ℕ, ◌<◌, ◌≤◌, Bool, true, false, ◌&&◌, List, [], ◌∷◌, ◌++◌, Option, Some, None, refl, sym, ap, subst, ◌∙◌, eq-eqb}
+use Rattle.std.proofs.Common.{◌≡◌, inl, inr, ⊎_elim, ℕ, ◌<◌, ◌≤◌, Bool, true, false, ◌&&◌, List, [], ◌∷◌, ◌++◌, Option, Some, None, refl, sym, ap, subst, ◌∙◌, eq-eqb}
 use Rattle.std.specs.Prelude.{IsTrue, ◌==◌, not, if◌then◌else◌}
-use Rattle.std.proofs.lemmas.Option.{same_Some}
-use Rattle.std.proofs.lemmas.Bool.{eqb-true, ne_eqb, cases_eq, and_parts}
-use Rattle.lvm_disk.specs.passed.Names.{Descriptor, Status, LvRow, PvRow, Disks, data_start, member_of, all_disks, CanRead, CanWrite, Stamped, stamp_lt, newest_below}
+use Rattle.std.proofs.lemmas.Bool.{eqb-true, ne_eqb, cases_eq}
+use Rattle.lvm_disk.specs.passed.Names.{Descriptor, Status, LvRow, Disks, data_start, all_disks, CanRead, CanWrite, Stamped, newest_below}
 use Rattle.lvm_disk.proofs.passed.Names.{read_meets_write, without_first}
 use Rattle.lvm_vol.specs.declared.entry.Vol.TheVariants.{Disk}
 use Rattle.lvm_vol.specs.Facts.{Fact, Cut}
 use Rattle.lvm_vol.specs.May.{May, known}
-use Rattle.lvm_vol.specs.Standing.{volumes_in}
 use Rattle.lvm_kept.specs.Contents.{Contents}
 use Rattle.lvm_kept.specs.Group.{if_passes, passes, is_of, is_status_of, has_room, descriptor_among, is_voter, status_among, Finds, IsFound, members_in, status_by, Reads, ReadsBy, fresh_on, IsOneOf, IsSome}
 use Rattle.lvm_kept.specs.Kept.{HasStatus, BlocksKept, IsSettledIn, IsAvailable, Kept}
 use Rattle.lvm_kept.specs.Committed.{IsWithinDisks}
-use Rattle.lvm_kept.proofs.CommittedLemmas.Finding.{offered, offers, is_offered, finding_reads, finds_from}
+use Rattle.lvm_kept.proofs.CommittedLemmas.Finding.{offered, finding_reads, finds_from}
 use Rattle.lvm_kept.proofs.ChangesLemmas.Entries.{volume_is_row}
 use Rattle.lvm_kept.proofs.ChangesLemmas.Restamping.{fewer_blocks}
 use Rattle.lvm_kept.proofs.KeptLemmas.{same_blocks}
 use Rattle.lvm_change_laws.proofs.Words.{newest_looked}
 use Rattle.lvm_commit.specs.Committed.{ShowsCommitted}
-use Rattle.lvm_change_laws.specs.Committed.{MayErase, ErasingKeeps}
+use Rattle.lvm_change_laws.specs.Committed.{ErasingKeeps}
 
 module _ (old : Contents) (shown : ℕ → Option (Stamped Descriptor)) (facts : List Fact) (group : Descriptor) (status : Status) (there : Disks) (x : ℕ)
     (within : IsWithinDisks old) (enough : CanWrite group there) (shows : ShowsCommitted old group status there) (no_member : has_room old x group ≡ false) (its : IsTrue (passes (is_of group.id) (old.descriptor x)))

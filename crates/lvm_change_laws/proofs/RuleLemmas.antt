@@ -1,20 +1,17 @@
 -- What disks hold while a group's rule of votes changes.
-use Rattle.std.proofs.Common.{◌≡◌, ◌⊎◌, inl, inr, ⊎_elim, ℕ, ◌≤◌, Bool, true, false, ◌&&◌, List, [], ◌∷◌, length, Option, Some, None, Result, Ok, refl, sym, ap, subst, ◌∙◌, eq-eqb, arith}
-use Rattle.std.specs.Prelude.{◌==◌, IsTrue, IsFalse, not, if◌then◌else◌, find}
+use Rattle.std.proofs.Common.{◌≡◌, ◌⊎◌, inl, inr, ⊎_elim, ℕ, ◌≤◌, Bool, true, false, ◌&&◌, ◌||◌, List, [], ◌∷◌, length, Option, Some, Ok, refl, sym, ap, subst, ◌∙◌, eq-eqb, arith}
+use Rattle.std.specs.Prelude.{◌==◌, IsTrue, not, if◌then◌else◌, find}
 use Rattle.std.specs.List.{list_any}
-use Rattle.std.proofs.lemmas.Bool.{eqb-true, and_parts}
+use Rattle.std.proofs.lemmas.Bool.{and_parts}
 use Rattle.std.proofs.lemmas.Bool.Decides.{nat_tests}
-use Rattle.lvm_num.specs.declared.record.Kind.{Kind}
 use Rattle.lvm_num.specs.declared.record.Kind.TheVariants as kind
 use Rattle.lvm_num.specs.declared.record.Stamp.{Stamp}
 use Rattle.lvm_num.specs.declared.record.Framed.{Framed}
-use Rattle.lvm_num.specs.declared.place.Pp.{Pp}
 use Rattle.lvm_num.specs.declared.descriptor.PvRow.{PvRow}
-use Rattle.lvm_num.specs.declared.descriptor.LvRow.{LvRow}
 use Rattle.lvm_num.specs.declared.descriptor.Descriptor.{Descriptor}
 use Rattle.lvm_num.specs.declared.status.Status.{Status}
 use Rattle.lvm_num.specs.Disks.{Disks}
-use Rattle.lvm_num.specs.Descriptor.{IsValid, is_member, copies_of, member_of}
+use Rattle.lvm_num.specs.Descriptor.{is_member, member_of}
 use Rattle.lvm_num.specs.DescriptorBytes.{descriptor_of}
 use Rattle.lvm_num.specs.StatusBytes.{status_of}
 use Rattle.lvm_num.specs.Status.{calls_stale, calls_dirty}
@@ -25,36 +22,34 @@ use Rattle.lvm_num.proofs.VotesLemmas.{read_meets_write, more_have_more, more_is
 use Rattle.lvm_rec.specs.Slots.{slot_for, IsTornWrite, BothBefore}
 use Rattle.lvm_vol.specs.Facts.{Fact}
 use Rattle.lvm_disk.specs.Device.{Image, IsWholeImage}
-use Rattle.lvm_kept.specs.Contents.{Contents, contents_of, has_records, descriptor_on}
-use Rattle.lvm_kept.specs.Group.{passes, is_of, has_room, Finds, IsFound, members_in, IsOneOf}
+use Rattle.lvm_kept.specs.Contents.{Contents, contents_of, descriptor_on}
+use Rattle.lvm_kept.specs.Group.{passes, is_of, has_room, Finds, IsFound, members_in}
 use Rattle.lvm_kept.specs.Kept.{Kept}
 use Rattle.lvm_kept.specs.Plans.{ChangesBy}
-use Rattle.lvm_kept.specs.Torn.{RecordWrite, on_disk, IsOfRecord, StandsOn, MayWriteAll, written as as_read, DescriptorsChange}
+use Rattle.lvm_kept.specs.Torn.{RecordWrite, on_disk, IsOfRecord, written as as_read, DescriptorsChange}
 use Rattle.lvm_kept.proofs.PlacesLemmas.{room-same}
 use Rattle.lvm_kept.proofs.CommittedLemmas.Finding.{images_within, finding_reads}
 use Rattle.lvm_kept.proofs.TornLemmas.Records.{wider, whole_is_new}
-use Rattle.lvm_status.specs.Rerowed.{IsRerowed}
 use Rattle.lvm_rec.specs.declared.homes.Homes.{Homes}
 use Rattle.lvm_rec.specs.Homes.{second_slots, next_slot}
 use Rattle.lvm_write.specs.Written.{write_of}
 use Rattle.lvm_steps.specs.Laws.{IsNoLater}
-use Rattle.lvm_steps.specs.Behind.{StampsBefore}
 use Rattle.lvm_steps.proofs.GroupLemmas.Members.{member_of_parts}
 use Rattle.lvm_steps.proofs.LawsLemmas.Records.{later_may_go}
 use Rattle.lvm_steps.proofs.LawsLemmas.Stamps.{later_is_after_too}
 use Rattle.lvm_steps.proofs.LawsLemmas.Writes.{record_is_before_next}
-use Rattle.lvm_commit.specs.Committed.{next_stamp, MayMark, ShowsCommitted, HoldsCommitted}
+use Rattle.lvm_commit.specs.Committed.{next_stamp, ShowsCommitted, HoldsCommitted}
 use Rattle.lvm_commit.specs.LawsOfWrites.{StandsWritten}
 use Rattle.lvm_commit.proofs.LawsLemmas.Found.{shows_group}
 use Rattle.lvm_commit.proofs.SlotsLemmas.{other_kind, turned}
 use Rattle.lvm_commit.proofs.LawsOfFindingLemmas.NoMore.{descriptor_finds_no_more}
 use Rattle.lvm_commit.proofs.LawsOfVolumesLemmas.Volumes.{next_is_later}
 use Rattle.lvm_commit.proofs.LawsOfWritesLemmas.Writes.{descriptors_change, descriptor_may_go}
-use Rattle.lvm_change_votes.specs.Meeting.{disks_of, HasSameMembers, MayReach}
+use Rattle.lvm_change_votes.specs.Meeting.{disks_of}
 use Rattle.lvm_change_votes.proofs.MeetingLemmas.{same_members_meet}
 use Rattle.lvm_change_votes.proofs.ReachingLemmas.{reaches_next, all_read_off}
-use Rattle.lvm_change_laws.specs.Turning.{AreTwo, ReadsTwo, StandTwo}
-use Rattle.lvm_change_laws.specs.Rule.{DiffersInRule, MayChangeRule, IsOpenTo, MayTurnTo, RuleOpens, StatusesLeaveOpen, RerowedMayFollow, TurnWriteKeeps, TurnIsHeld}
+use Rattle.lvm_change_laws.specs.Turning.{AreTwo, ReadsTwo}
+use Rattle.lvm_change_laws.specs.Rule.{MayChangeRule, IsOpenTo, MayTurnTo, RuleOpens, StatusesLeaveOpen, RerowedMayFollow, TurnWriteKeeps, TurnIsHeld}
 use Rattle.lvm_change_laws.proofs.TwoLemmas.{valid_are_two}
 use Rattle.lvm_change_laws.proofs.TurningLemmas.{turn_keeps, reads_are_two}
 use Rattle.lvm_change_laws.proofs.CommittedLemmas.{committed_serves, turn_is_committed}
@@ -134,7 +129,7 @@ a_member [] d row is = absurd cc
 a_member (x ∷ xs) d row is = by (x.disk == d) (a_member xs d row) is
   where
     by : (t : Bool) → (find (λ (r : PvRow). r.disk == d) xs ≡ Some row → list_any (λ (r : PvRow). r.disk == d) xs ≡ true) → (if t then Some x else find (λ (r : PvRow). r.disk == d) xs) ≡ Some row
-        → (if t then true else list_any (λ (r : PvRow). r.disk == d) xs) ≡ true
+        → t || list_any (λ (r : PvRow). r.disk == d) xs ≡ true
     by true rest found = refl
     by false rest found = rest found
 
@@ -212,8 +207,8 @@ module _ (group next : Descriptor) (status : Status) (there : Disks) (stamp : St
   can_read = subst (λ (s : Disks). CanRead next s) (sym members_same) may.opened.reads
 
   module _ (facts : List Fact) (kept : Kept (contents_of old) facts) where
-    turned_all : _
-    turned_all = turn_keeps (contents_of old) (contents_of new) facts group next there after shows.stands shows.stands (images_within old) (images_within new)
+    turned_all : Kept (contents_of new) facts
+    turned_all = (turn_keeps (contents_of old) (contents_of new) facts group next there after shows.stands shows.stands (images_within old) (images_within new)
         (record {
           two = may.opened.two;
           value = refl;
@@ -225,7 +220,7 @@ module _ (group next : Descriptor) (status : Status) (there : Disks) (stamp : St
           served = committed_serves (contents_of old) group status there facts (images_within old) may.enough shows kept;
           reads = λ d is. can_read;
         })
-        kept
+        kept).0
 
   module _ (written : Disks) (slots : Homes) (stands : StandsWritten w written homes slots old new) where
     stand_there : (d : ℕ) → IsTrue (written d) → (contents_of new).descriptor d ≡ Some after
@@ -236,7 +231,7 @@ module _ (group next : Descriptor) (status : Status) (there : Disks) (stamp : St
 
 pub turn_write_keeps : TurnWriteKeeps
 turn_write_keeps group next status there stamp homes framed old new facts whole holds may frames reads later by kept =
-    (turned_all group next status there stamp homes framed old whole holds may frames reads later new by facts kept).0
+    turned_all group next status there stamp homes framed old whole holds may frames reads later new by facts kept
 
 -- ---- once it stands
 

@@ -1,23 +1,23 @@
 -- A status is written while a group turns.
-use Rattle.std.proofs.Common.{◌≡◌, ◌⊎◌, inl, inr, ⊎_elim, ℕ, ◌<◌, ◌≤◌, Bool, true, false, ◌&&◌, List, [], ◌∷◌, ◌++◌, Option, Some, None, refl, sym, ap, subst, ◌∙◌, arith}
+use Rattle.std.proofs.Common.{◌≡◌, ◌⊎◌, inl, inr, ⊎_elim, ℕ, ◌<◌, Bool, true, false, ◌&&◌, List, [], ◌∷◌, ◌++◌, Option, Some, None, refl, sym, ap, subst, ◌∙◌, arith}
 use Rattle.std.specs.Prelude.{IsTrue, ◌==◌, not, if◌then◌else◌}
 use Rattle.std.proofs.lemmas.Option.{same_Some}
 use Rattle.std.proofs.lemmas.Bool.{eqb-true, cases_eq}
 use Rattle.std.proofs.lemmas.Bool.Decides.{nat_tests}
-use Rattle.lvm_disk.specs.passed.Names.{Stamp, Pp, PvRow, LvRow, Descriptor, Status, Disks, copies_of, member_of, volume_of, all_disks, CanRead, Stamped, stamp_lt, newest_below}
+use Rattle.lvm_disk.specs.passed.Names.{Stamp, Pp, LvRow, Descriptor, Status, Disks, copies_of, all_disks, CanRead, Stamped, stamp_lt, newest_below}
 use Rattle.lvm_disk.proofs.passed.Names.{without_first}
 use Rattle.lvm_vol.specs.declared.entry.Vol.TheVariants.{Lv}
 use Rattle.lvm_vol.specs.Facts.{Fact, Cut}
 use Rattle.lvm_vol.specs.May.{Known, known}
 use Rattle.lvm_kept.specs.Contents.{Contents}
-use Rattle.lvm_kept.specs.Group.{IsOneOf, if_passes, passes, is_of, is_status_of, has_room, descriptor_among, is_voter, has_quorum, status_among, Finds, IsFound, members_in, status_by, Reads, ReadsBy, is_stale_by, fresh_on, IsBlockOf, IsSome}
+use Rattle.lvm_kept.specs.Group.{IsOneOf, if_passes, passes, is_of, is_status_of, has_room, is_voter, status_among, Finds, IsFound, members_in, status_by, Reads, ReadsBy, is_stale_by, fresh_on, IsBlockOf, IsSome}
 use Rattle.lvm_kept.specs.Kept.{HasStatus, IsBlockKept, BlocksKept, IsSettledIn, IsAvailable, Kept}
 use Rattle.lvm_kept.proofs.CommittedLemmas.Finding.{finding_reads}
 use Rattle.lvm_kept.proofs.ChangesLemmas.Entries.{volume_is_row}
 use Rattle.lvm_kept.proofs.ChangesLemmas.Restamping.{fewer_blocks}
 use Rattle.lvm_kept.proofs.GroupLemmas.{still_finds, finds_before}
 use Rattle.lvm_kept.proofs.KeptLemmas.{same_block}
-use Rattle.lvm_change_laws.specs.Turning.{AreTwo, FindsTwo, ReadsTwo, DoesFor, Served, MayStateTurn, StateTurnKeeps}
+use Rattle.lvm_change_laws.specs.Turning.{AreTwo, FindsTwo, ReadsTwo, DoesFor, Served, StateTurnKeeps}
 use Rattle.lvm_change_laws.proofs.Words.{filter_same}
 
 not-itself : (a : Stamp) → stamp_lt a a ≡ true → ⊥

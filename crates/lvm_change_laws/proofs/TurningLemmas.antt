@@ -2,9 +2,9 @@
 use Rattle.std.proofs.Common.{◌≡◌, ◌⊎◌, inl, inr, ⊎_elim, ℕ, ◌<◌, Bool, true, false, ◌&&◌, List, [], ◌∷◌, ◌++◌, Option, Some, None, refl, sym, ap, subst, ◌∙◌, arith, eq-eqb}
 use Rattle.std.specs.Prelude.{IsTrue, ◌==◌, not, if◌then◌else◌, filter}
 use Rattle.std.proofs.lemmas.Option.{same_Some}
-use Rattle.std.proofs.lemmas.Bool.{eqb-true, cases_eq, and_parts, and_from}
+use Rattle.std.proofs.lemmas.Bool.{eqb-true, cases_eq, and_parts}
 use Rattle.std.proofs.lemmas.Bool.Decides.{nat_tests}
-use Rattle.lvm_disk.specs.passed.Names.{Stamp, Pp, PvRow, LvRow, Descriptor, Status, Disks, copies_of, member_of, volume_of, all_disks, votes_in, CanRead, Stamped, stamp_lt, newest_below}
+use Rattle.lvm_disk.specs.passed.Names.{Stamp, Pp, PvRow, LvRow, Descriptor, Status, Disks, copies_of, member_of, volume_of, all_disks, CanRead, Stamped, stamp_lt, newest_below}
 use Rattle.lvm_disk.proofs.passed.Names.{is_one, is_last, without_first, read_meets_read}
 use Rattle.lvm_vol.specs.declared.entry.Vol.TheVariants.{Lv}
 use Rattle.lvm_vol.specs.Facts.{Fact, Cut}
@@ -14,14 +14,12 @@ use Rattle.lvm_kept.specs.Contents.{Contents}
 use Rattle.lvm_kept.specs.Group.{IsOneOf, if_passes, passes, is_of, is_status_of, has_room, descriptor_among, is_voter, status_among, Finds, IsFound, members_in, status_by, Reads, ReadsBy, is_stale_by, fresh_on, IsBlockOf, IsSome}
 use Rattle.lvm_kept.specs.Kept.{StandsAs, HasStatus, IsBlockKept, BlocksKept, IsSettledIn, IsAvailable, Kept}
 use Rattle.lvm_kept.specs.Committed.{IsWithinDisks}
-use Rattle.lvm_kept.specs.Torn.{DescriptorsChange}
 use Rattle.lvm_kept.proofs.CommittedLemmas.Finding.{offered, is_offered, offers, finding_reads, finds_from}
 use Rattle.lvm_kept.proofs.ChangesLemmas.Entries.{volume_is_row}
 use Rattle.lvm_kept.proofs.ChangesLemmas.Restamping.{fewer_blocks}
 use Rattle.lvm_kept.proofs.KeptLemmas.{same_block}
-use Rattle.lvm_change_votes.specs.Meeting.{AreNeighbours, ShareMembers}
 use Rattle.lvm_change_votes.proofs.MeetingLemmas.{lasting_meets}
-use Rattle.lvm_change_laws.specs.Turning.{AreTwo, FindsTwo, ReadsTwo, DoesFor, Served, MayTurn, TurnKeeps, TurnIsDone, StandTwo, ReadsAreTwo}
+use Rattle.lvm_change_laws.specs.Turning.{AreTwo, FindsTwo, ReadsTwo, DoesFor, Served, TurnKeeps, TurnIsDone, ReadsAreTwo}
 use Rattle.lvm_change_laws.proofs.Words.{filter_same, newest_looked}
 
 not-itself : (a : Stamp) → stamp_lt a a ≡ true → ⊥

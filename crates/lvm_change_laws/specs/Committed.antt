@@ -1,11 +1,11 @@
 -- What stands on the disks of a session at which nothing is under way, where its members may change.
 use Rattle.std.specs.Prelude.{◌≡◌, ◌⊎◌, ℕ, ◌<◌, ◌≤◌, ◌++◌, ◌∷◌, [], true, false, List, Some, None, IsTrue}
-use Rattle.lvm_disk.specs.passed.Names.{Descriptor, Status, Disks, data_start, is_member, all_disks, CanRead, CanWrite, Stamped, stamp_lt}
+use Rattle.lvm_disk.specs.passed.Names.{Descriptor, Status, Disks, data_start, all_disks, CanRead, CanWrite, Stamped, stamp_lt}
 use Rattle.lvm_vol.specs.declared.entry.Vol.TheVariants.{Disk}
 use Rattle.lvm_vol.specs.Facts.{Fact, Cut}
 use Rattle.lvm_vol.specs.May.{May, known}
 use Rattle.lvm_kept.specs.Contents.{Contents}
-use Rattle.lvm_kept.specs.Group.{passes, is_of, has_room, Finds, members_in, status_by}
+use Rattle.lvm_kept.specs.Group.{passes, is_of, has_room, members_in, status_by}
 use Rattle.lvm_kept.specs.Committed.{IsWithinDisks}
 use Rattle.lvm_kept.specs.Kept.{Kept}
 use Rattle.lvm_commit.specs.Committed.{ShowsCommitted}

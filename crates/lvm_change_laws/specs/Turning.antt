@@ -1,11 +1,11 @@
 -- A group turns from one descriptor to the next, by which it has other members or another rule of votes, and the same volumes.
-use Rattle.std.specs.Prelude.{◌≡◌, ◌⊎◌, ℕ, ◌<◌, ◌≤◌, true, List, Option, Some, None, IsTrue}
+use Rattle.std.specs.Prelude.{◌≡◌, ◌⊎◌, ℕ, ◌<◌, true, List, Some, None, IsTrue}
 use Rattle.lvm_disk.specs.passed.Names.{Pp, PvRow, LvRow, Descriptor, Status, Disks, copies_of, member_of, volume_of, all_disks, CanRead, Stamped, stamp_lt}
 use Rattle.lvm_num.specs.Descriptor.{IsValid}
 use Rattle.lvm_vol.specs.Facts.{Fact}
 use Rattle.lvm_vol.specs.Standing.{volumes_in}
 use Rattle.lvm_kept.specs.Contents.{Contents}
-use Rattle.lvm_kept.specs.Group.{passes, is_of, is_status_of, has_room, Finds, IsFound, members_in, status_by, fresh_on, IsOneOf, IsSome}
+use Rattle.lvm_kept.specs.Group.{passes, is_of, has_room, Finds, members_in, status_by, fresh_on, IsOneOf, IsSome}
 use Rattle.lvm_kept.specs.Kept.{StandsAs, BlocksKept, Kept}
 use Rattle.lvm_kept.specs.Committed.{IsWithinDisks}
 use Rattle.lvm_kept.specs.Torn.{DescriptorsChange}
