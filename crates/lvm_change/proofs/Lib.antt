@@ -1,2 +1,3 @@
+pub mod SievingLemmas
 pub mod TurnLemmas
 pub mod DescribeLemmas

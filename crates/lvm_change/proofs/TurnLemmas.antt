@@ -150,21 +150,21 @@ module _ (group next : Descriptor) (status told : Status) (content : List ℕ) (
 -- ---- a descriptor
 
 module _ (group next : Descriptor) (told : Status) (content : List ℕ) (there : Disks) (stamp : Stamp) (homes : Homes) (old : Device) (sectors : HasSectors old)
-    (frames : Frames kind.Descriptor (framed group told kind.Descriptor content there stamp homes old sectors)) (reads : descriptor_of content ≡ Ok next) (enough : CanWrite group there) (enough_too : CanWrite next there) where
+    (frames : Frames kind.Descriptor (framed group told kind.Descriptor content there stamp homes old sectors)) (reads : descriptor_of content ≡ Ok next) where
   abbrev wd : RecordWrite
   wd = w group told kind.Descriptor content there stamp homes old sectors
 
   abbrev Opened : Type 0
   Opened = IfSome old.media (λ media. IsOpenTo (contents_of (image_of old.sizes media)) group next there)
 
-  may_at : (m : Media) → old.media ≡ Some m → Opened → MayTurnTo (contents_of (image_of old.sizes m)) group next there
-  may_at m is opened = record { opened = told_at old.media (λ media. IsOpenTo (contents_of (image_of old.sizes media)) group next there) m is opened; enough = enough; enough_too = enough_too }
+  may_at : CanWrite group there → CanWrite next there → (m : Media) → old.media ≡ Some m → Opened → MayTurnTo (contents_of (image_of old.sizes m)) group next there
+  may_at enough enough_too m is opened = record { opened = told_at old.media (λ media. IsOpenTo (contents_of (image_of old.sizes media)) group next there) m is opened; enough = enough; enough_too = enough_too }
 
-  pub descriptor_kept : (d : Device) → IsWriting (IsOfRecord wd) old d → is_some d.media ≡ is_some old.media → Opened → HoldsBy old group told there stamp homes → StaysKept old d
-  descriptor_kept d writing same opened held facts kept image left =
+  pub descriptor_kept : CanWrite group there → CanWrite next there → (d : Device) → IsWriting (IsOfRecord wd) old d → is_some d.media ≡ is_some old.media → Opened → HoldsBy old group told there stamp homes → StaysKept old d
+  descriptor_kept enough enough_too d writing same opened held facts kept image left =
       let m = told_before old d image same left in
       turn_write_keeps group next told there stamp homes (framed group told kind.Descriptor content there stamp homes old sectors) (image_of old.sizes m.0) image facts (whole group told kind.Descriptor content there stamp homes old sectors m.0 m.1)
-      (at group told kind.Descriptor content there stamp homes old sectors m.0 m.1 held) (may_at m.0 m.1 opened) frames reads
+      (at group told kind.Descriptor content there stamp homes old sectors m.0 m.1 held) (may_at enough enough_too m.0 m.1 opened) frames reads
       (no_later (next_stamp stamp)) (by_at group told kind.Descriptor content there stamp homes old sectors d m.0 m.1 writing image left) (kept (image_of old.sizes m.0) (media_may old m.0 m.1))
 
   pub descriptor_finds : (d : Device) → IsWriting (IsOfRecord wd) old d → HoldsBy old group told there stamp homes → FindsNoMoreOn next old d
@@ -172,16 +172,16 @@ module _ (group next : Descriptor) (told : Status) (content : List ℕ) (there :
       descriptor_write_finds_no_more group next told there stamp homes (framed group told kind.Descriptor content there stamp homes old sectors) (image_of old.sizes m) image (whole group told kind.Descriptor content there stamp homes old sectors m told_is)
       (at group told kind.Descriptor content there stamp homes old sectors m told_is held) frames reads (no_later (next_stamp stamp)) (by_at group told kind.Descriptor content there stamp homes old sectors d m told_is writing image left))
 
-  module _ (slots : Homes) (new : Device) (failed : Disks) (number : ℕ) (buf : Buffer) (each : EachTried there (StandsTold wd) (λ written. Flips kind.Descriptor written homes slots) number old new failed buf)
+  module _ (enough : CanWrite group there) (enough_too : CanWrite next there) (slots : Homes) (new : Device) (failed : Disks) (number : ℕ) (buf : Buffer) (each : EachTried there (StandsTold wd) (λ written. Flips kind.Descriptor written homes slots) number old new failed buf)
       (keeps : KeepsShelf there (IsOfRecord wd) old new) where
-    abbrev set : Disks
-    set = written_well there failed
+    abbrev had : Disks
+    had = written_well there failed
 
-    pub descriptor_held : CanWrite group set → CanWrite next set → Opened → HoldsBy old group told there stamp homes → HoldsBy new next told set (next_stamp stamp) slots
-    descriptor_held can can_too opened held = if_told new.media (λ media. HoldsCommitted (image_of new.sizes media) next told set (next_stamp stamp) slots) (λ k told_new.
+    pub descriptor_held : CanWrite group had → CanWrite next had → Opened → HoldsBy old group told there stamp homes → HoldsBy new next told had (next_stamp stamp) slots
+    descriptor_held can can_too opened held = if_told new.media (λ media. HoldsCommitted (image_of new.sizes media) next told had (next_stamp stamp) slots) (λ k told_new.
         let back = both_from old.media new.media (λ was is. ChangesBy (IsOfRecord wd) (image_of old.sizes was) (image_of new.sizes is)) k keeps.media told_new in
-        turn_is_held group next told there set stamp homes slots (framed group told kind.Descriptor content there stamp homes old sectors) (image_of old.sizes back.0) (image_of new.sizes k) (whole group told kind.Descriptor content there stamp homes old sectors back.0 back.1)
-        (at group told kind.Descriptor content there stamp homes old sectors back.0 back.1 held) (may_at back.0 back.1 opened) frames reads (no_later (next_stamp stamp))
+        turn_is_held group next told there had stamp homes slots (framed group told kind.Descriptor content there stamp homes old sectors) (image_of old.sizes back.0) (image_of new.sizes k) (whole group told kind.Descriptor content there stamp homes old sectors back.0 back.1)
+        (at group told kind.Descriptor content there stamp homes old sectors back.0 back.1 held) (may_at enough enough_too back.0 back.1 opened) frames reads (no_later (next_stamp stamp))
         (stand group told kind.Descriptor content there stamp homes old sectors slots new failed number buf each back.0 k told_new back.2) can can_too)
 
 -- ---- one behind the other

@@ -37,6 +37,7 @@ pub record AreRecords (turn : Turn) : Type 0 where
   pub told : IsValidStatus turn.told.now
   pub status : turn.status.now ≡ status_bytes turn.told.now
   pub content : turn.content.now ≡ descriptor_bytes turn.next.now
+  pub status_fits : length turn.status.now ≤ longest_content kind.Status
   pub fits : length turn.content.now ≤ longest_content kind.Descriptor
 
 -- What lets a group turn, of which these members aren't missing, behind the record of this stamp.
@@ -46,6 +47,7 @@ pub record MayTurn (turn : Turn) (there : Disks) (stamp : Stamp) (device : Devic
   pub rule : MayChangeRule turn.was.now turn.next.now there
   pub room : HaveRoom device there
   pub epoch : stamp.epoch ≢ 0
+  pub bound : stamp.epoch < 2 ^ 64
   pub numbers : stamp.seq + 2 < 2 ^ 32
 
 -- What lets the descriptor be written behind the status that has this stamp.
@@ -56,6 +58,7 @@ pub record MayDescribe (turn : Turn) (there : Disks) (stamp : Stamp) (device : D
   pub valid_next : IsValid turn.next.now
   pub room : HaveRoom device there
   pub epoch : stamp.epoch ≢ 0
+  pub bound : stamp.epoch < 2 ^ 64
   pub numbers : stamp.seq + 1 < 2 ^ 32
 
 -- ---- what the disks hold

@@ -3,4 +3,4 @@
 
 mod turn;
 
-pub use turn::{Turn, Turned, turn};
+pub use turn::{Turn, Turned, turn_over};

@@ -1,5 +1,5 @@
 //! A group turns to its next descriptor: first a status is written, in the rows of the next descriptor, and then that itself.
-ghost use Rattle.std.specs.Prelude.{◌≡◌, ◌+◌, ◌<◌, ◌^◌, ◌×◌, Option, Some, None, IfSome, IfNone, IsFalse};
+ghost use Rattle.std.specs.Prelude.{◌≡◌, ◌+◌, ◌<◌, ◌^◌, IfSome, IfNone, IsFalse};
 ghost use Rattle.lvm_num.specs.Descriptor.{IsValid};
 ghost use Rattle.lvm_num.specs.Disks.{has};
 ghost use Rattle.lvm_num.specs.Votes.{votes_in, total_votes, is_enough_to_write, CanWrite};
@@ -48,7 +48,7 @@ pub enum Turned {
 
 /// Writes the status to the members that aren't missing, and then the descriptor to those that have it, under the next two
 /// stamps. Each of the two counts by the votes of both descriptors. It takes no memory.
-pub fn turn<S: Shelf>(
+pub fn turn_over<S: Shelf>(
     shelf: &mut S,
     turn: Turn<'_>,
     stamp: Stamp,
@@ -58,7 +58,7 @@ pub fn turn<S: Shelf>(
     patience: &mut Patience,
 ) -> Turned
     requires may { MayTurn turn (has there) stamp (S.device shelf.old) }
-    ensures { TurnGives turn (has there) stamp homes.old homes.new buf.number patience.old.left patience.new.left (S.device shelf.old) (S.device shelf.new) result }
+    ensures { TurnGives turn.entry (has there) stamp homes.old homes.new buf.number patience.old.left patience.new.left (S.device shelf.old) (S.device shelf.new) result }
 {
     let first = next_stamp(stamp);
     match write_record(
@@ -91,7 +91,7 @@ fn describe<S: Shelf>(
     patience: &mut Patience,
 ) -> Turned
     requires may { MayDescribe turn (has there) stamp (S.device shelf.old) }
-    ensures { DescriptionGives turn (has there) stamp homes.old homes.new buf.number patience.old.left patience.new.left (S.device shelf.old) (S.device shelf.new) result }
+    ensures { DescriptionGives turn.entry (has there) stamp homes.old homes.new buf.number patience.old.left patience.new.left (S.device shelf.old) (S.device shelf.new) result }
 {
     match by_votes(turn, there, buf) {
         Turned::Done { written, buf } => {
@@ -114,7 +114,7 @@ fn put_descriptor<S: Shelf>(
     requires may { MayDescribe turn (has there) stamp (S.device shelf.old) }
     requires was { CanWrite turn.was.now (has there) }
     requires next { CanWrite turn.next.now (has there) }
-    ensures { DescriptionGives turn (has there) stamp homes.old homes.new buf.number patience.old.left patience.new.left (S.device shelf.old) (S.device shelf.new) result }
+    ensures { DescriptionGives turn.entry (has there) stamp homes.old homes.new buf.number patience.old.left patience.new.left (S.device shelf.old) (S.device shelf.new) result }
 {
     match write_record(
         shelf,
@@ -136,7 +136,7 @@ fn put_descriptor<S: Shelf>(
 fn by_votes(turn: Turn<'_>, written: DiskSet, buf: Pbuf) -> Turned
     requires was { IsValid turn.was.now }
     requires next { IsValid turn.next.now }
-    ensures { IsByBoth turn.was.now turn.next.now (has written) buf result }
+    ensures { IsByBoth turn.entry.was.now turn.entry.next.now (has written) buf result }
 {
     match few_votes(turn.was, written) {
         Some((have, total)) => Turned::WentOff {
