@@ -1,3 +1,4 @@
+pub mod DescribeLemmas
+pub mod RefusingLemmas
 pub mod SievingLemmas
 pub mod TurnLemmas
-pub mod DescribeLemmas

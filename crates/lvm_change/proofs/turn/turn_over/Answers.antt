@@ -13,8 +13,8 @@ use Rattle.lvm_change.specs.Turn.{MayDescribe, DescriptionGives}
 use Rattle.lvm_change.proofs.DescribeLemmas.{may_describe, turned_on, broken_off}
 use Rattle.lvm_change.proofs.turn.turn_over.Goals as goal
 
-pub describe-requires-clause-may : goal.describe-requires-clause-may
-describe-requires-clause-may g c =
+pub describe-requires : goal.describe-requires
+describe-requires g c =
     let old : Device = g.S.Shelf.device c.args.shelf.now in
     let m : Device = g.S.Shelf.device c.write_record.new.shelf in
     let there : Disks = has c.args.there in
