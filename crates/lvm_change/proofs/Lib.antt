@@ -1,4 +1,3 @@
 pub mod DescribeLemmas
-pub mod RefusingLemmas
 pub mod SievingLemmas
 pub mod TurnLemmas

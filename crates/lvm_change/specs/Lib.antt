@@ -1,3 +1,2 @@
 pub mod Records
-pub mod Rule
 pub mod Turn

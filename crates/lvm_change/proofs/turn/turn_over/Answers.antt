@@ -24,9 +24,9 @@ describe-requires g c =
     let leaves = subst (λ (s : Stamp). DiskWritesLeave there (IsOfRecord (write_of kind.Status (record { stamp = s; content = content }) there homes)) c.args.patience.now.left c.write_record.new.patience.left old m) c.next_stamp-first.ensures c.write_record.ensures.leaves in
     let each = subst (λ (s : Stamp). EachTried there (StandsTold (write_of kind.Status (record { stamp = s; content = content }) there homes)) (λ written. Flips kind.Status written homes slots) c.args.buf.number old m (has c.in-Ended.failed) c.in-Ended.buf)
         c.next_stamp-first.ensures c.in-Ended.ensures.ends in
-    subst (λ (s : Stamp). MayDescribe c.args.turn (has c.without-written.result) s m) (sym c.next_stamp-first.ensures)
+    record { may = subst (λ (s : Stamp). MayDescribe c.args.turn (has c.without-written.result) s m) (sym c.next_stamp-first.ensures)
     (subst (λ (set : Disks). MayDescribe c.args.turn set (next_stamp c.args.stamp) m) (sym c.without-written.ensures)
-    (may_describe c.args.turn there c.args.stamp homes old (g.met.S.Shelf.sectors_are_whole c.args.shelf.now) c.requires.may slots c.args.buf.number c.args.patience.now.left c.write_record.new.patience.left m leaves (has c.in-Ended.failed) c.in-Ended.buf each))
+    (may_describe c.args.turn there c.args.stamp homes old (g.met.S.Shelf.sectors_are_whole c.args.shelf.now) c.requires.may slots c.args.buf.number c.args.patience.now.left c.write_record.new.patience.left m leaves (has c.in-Ended.failed) c.in-Ended.buf each)) }
 
 pub returns-in-Ended : goal.returns-in-Ended
 returns-in-Ended g c =
