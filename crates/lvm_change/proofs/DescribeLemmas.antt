@@ -1,19 +1,16 @@
 -- What a turn does, one record behind the other.
-use Rattle.std.proofs.Common.{◌≡◌, ◌⊎◌, inl, inr, ⊎_elim, ℕ, ◌+◌, ◌<◌, ◌≤◌, Bool, ◌&&◌, not, List, Option, Some, IfSome, IsTrue, IsFalse, Ok, refl, sym, ap, subst, ◌∙◌, arith}
-use Rattle.std.specs.Prelude.{is_some}
+use Rattle.std.proofs.Common.{◌≡◌, inl, inr, ⊎_elim, ℕ, ◌+◌, ◌&&◌, not, List, IsFalse, Ok, refl, sym, ap, subst, ◌∙◌, arith}
 use Rattle.lvm_num.specs.declared.record.Kind.TheVariants as kind
 use Rattle.lvm_num.specs.declared.record.Stamp.{Stamp}
 use Rattle.lvm_num.specs.declared.descriptor.Descriptor.{Descriptor}
-use Rattle.lvm_num.specs.declared.status.Status.{Status}
 use Rattle.lvm_num.specs.Buffer.{Buffer, Sector}
 use Rattle.lvm_num.specs.Disks.{Disks, has}
-use Rattle.lvm_num.specs.Descriptor.{IsValid}
-use Rattle.lvm_num.specs.DescriptorBytes.{descriptor_of, descriptor_bytes}
-use Rattle.lvm_num.specs.StatusBytes.{status_of, status_bytes}
+use Rattle.lvm_num.specs.DescriptorBytes.{descriptor_of}
+use Rattle.lvm_num.specs.StatusBytes.{status_of}
 use Rattle.lvm_num.specs.Record.{Frames}
 use Rattle.lvm_num.specs.Votes.{CanWrite}
 use Rattle.lvm_num.proofs.Booleans.{place_below}
-use Rattle.lvm_disk.specs.Device.{Media, Device, image_of, HasSectors, IsReady}
+use Rattle.lvm_disk.specs.Device.{Media, Device, image_of, HasSectors}
 use Rattle.lvm_disk.specs.Steps.{BothTold}
 use Rattle.lvm_disk.specs.Paths.{DeviceStep, Path, Here}
 use Rattle.lvm_disk.proofs.PathsLemmas.{map-path, append-path, last-path}
@@ -26,7 +23,6 @@ use Rattle.lvm_steps.proofs.MakingLemmas.Making.{media_may}
 use Rattle.lvm_steps.proofs.RecordLemmas.{clash}
 use Rattle.lvm_rec.specs.declared.homes.Homes.{Homes}
 use Rattle.lvm_rec.specs.Homes.{Flips, second_slots}
-use Rattle.lvm_write.specs.Parts.{Spends}
 use Rattle.lvm_write.specs.Writes.{DiskWritesLeave, EachTried}
 use Rattle.lvm_write.specs.Written.{write_of, KeepsShelf, StandsTold, written_well}
 use Rattle.lvm_write.proofs.passed.Names.{spelled_is_read, is_read_again}
@@ -36,11 +32,10 @@ use Rattle.lvm_commit.specs.Committed.{next_stamp}
 use Rattle.lvm_commit.specs.LawsOfFinding.{FindsNothingNew, FindsNoMore, FindsNothingNewOn, FindsNoMoreOn}
 use Rattle.lvm_commit.proofs.SettlingLemmas.Chaining.{path_counts, keeps_wider}
 use Rattle.lvm_commit.proofs.LawsOfWritesLemmas.Holding.{with_told}
-use Rattle.lvm_change_laws.specs.Rule.{MayChangeRule}
 use Rattle.lvm_change.specs.declared.turn.Turn.{Turn}
 use Rattle.lvm_change.specs.declared.turn.Turned.{Turned}
 use Rattle.lvm_change.specs.declared.turn.Turned.TheVariants as turned
-use Rattle.lvm_change.specs.Turn.{AreRecords, MayTurn, MayDescribe, HoldsBy, IsBefore, IsBetween, IsOfTurn, IsByBoth, HasFewVotes, ComesBack, HasTurned, TurnEnds, Turns, TurnGives, DescriptionGives}
+use Rattle.lvm_change.specs.Turn.{MayTurn, MayDescribe, HoldsBy, IsBefore, IsBetween, IsOfTurn, IsByBoth, HasFewVotes, ComesBack, TurnEnds, TurnGives, DescriptionGives}
 use Rattle.lvm_change.proofs.TurnLemmas.{comes_back, status_kept, status_finds, status_held, status_opens, descriptor_kept, descriptor_finds, descriptor_held, back_then}
 
 -- ---- the descriptor

@@ -1,5 +1,5 @@
 -- One record of a turn: what is kept and found while it is written, and what came of it.
-use Rattle.std.proofs.Common.{◌≡◌, ◌≢◌, ◌⊎◌, inl, inr, ⊎_elim, ℕ, ◌+◌, ◌<◌, ◌≤◌, ◌^◌, Bool, true, false, ◌&&◌, not, List, length, Option, Some, None, IfSome, IsTrue, IsFalse, Ok, refl, sym, ap, subst, ◌∙◌, arith}
+use Rattle.std.proofs.Common.{◌≡◌, ⊎_elim, ℕ, Bool, true, false, ◌&&◌, not, List, Some, IfSome, IsTrue, IsFalse, Ok, refl, sym, subst, ◌∙◌, arith}
 use Rattle.std.specs.Prelude.{is_some}
 use Rattle.std.proofs.lemmas.Bool.{false≢true}
 use Rattle.std.proofs.lemmas.Bool.Decides.{nat_tests}
@@ -10,24 +10,22 @@ use Rattle.lvm_num.specs.declared.record.Framed.{Framed}
 use Rattle.lvm_num.specs.declared.descriptor.Descriptor.{Descriptor}
 use Rattle.lvm_num.specs.declared.status.Status.{Status}
 use Rattle.lvm_num.specs.Buffer.{Buffer}
-use Rattle.lvm_num.specs.Disks.{Disks, has}
+use Rattle.lvm_num.specs.Disks.{Disks}
 use Rattle.lvm_num.specs.DescriptorBytes.{descriptor_of}
 use Rattle.lvm_num.specs.StatusBytes.{status_of}
 use Rattle.lvm_num.specs.Record.{Frames}
 use Rattle.lvm_num.specs.Votes.{CanWrite}
 use Rattle.lvm_disk.specs.Counts.{Rose, NoneFalls}
 use Rattle.lvm_disk.specs.Device.{Media, Image, Device, image_of, MayLeave, HasSectors, IsWholeImage}
-use Rattle.lvm_disk.specs.Steps.{BothTold}
-use Rattle.lvm_disk.specs.Paths.{DeviceStep, Path, Here}
-use Rattle.lvm_disk.proofs.CountingLemmas.{rose_before, rose_after}
-use Rattle.lvm_kept.specs.Contents.{Contents, contents_of}
+use Rattle.lvm_disk.proofs.CountingLemmas.{rose_after}
+use Rattle.lvm_kept.specs.Contents.{contents_of}
 use Rattle.lvm_kept.specs.Plans.{ChangesBy}
 use Rattle.lvm_kept.specs.Torn.{RecordWrite, IsOfRecord, StandsOn}
 use Rattle.lvm_status.specs.Rerowed.{IsRerowed}
 use Rattle.lvm_steps.specs.Laws.{IsNoLater}
 use Rattle.lvm_steps.specs.Moments.{StaysKept}
 use Rattle.lvm_steps.proofs.MakingLemmas.Making.{media_may}
-use Rattle.lvm_steps.proofs.RecordLemmas.{either, clash}
+use Rattle.lvm_steps.proofs.RecordLemmas.{either}
 use Rattle.lvm_rec.specs.declared.homes.Homes.{Homes}
 use Rattle.lvm_rec.specs.Homes.{Flips}
 use Rattle.lvm_write.specs.Writes.{EachTried}

@@ -1,4 +1,4 @@
-use Rattle.std.proofs.Common.{◌≡◌, ℕ, refl, sym, ap, subst}
+use Rattle.std.proofs.Common.{refl, sym, subst}
 use Rattle.lvm_num.specs.Buffer.{Buffer}
 use Rattle.lvm_num.specs.Disks.{Disks, has}
 use Rattle.lvm_num.specs.Votes.{CanWrite}

@@ -1,12 +1,12 @@
-use Rattle.std.proofs.Common.{◌≡◌, ℕ, subst}
+use Rattle.std.proofs.Common.{ℕ, subst}
 use Rattle.lvm_num.specs.declared.record.Kind.TheVariants as kind
 use Rattle.lvm_num.specs.declared.record.Stamp.{Stamp}
 use Rattle.lvm_num.specs.Disks.{Disks, has}
 use Rattle.lvm_disk.specs.Device.{Device, HasSectors}
-use Rattle.lvm_kept.specs.Torn.{RecordWrite, IsOfRecord}
+use Rattle.lvm_kept.specs.Torn.{IsOfRecord}
 use Rattle.lvm_rec.specs.Homes.{Flips}
 use Rattle.lvm_write.specs.Writes.{DiskWritesLeave, EachTried}
-use Rattle.lvm_write.specs.Written.{write_of, StandsTold, written_well}
+use Rattle.lvm_write.specs.Written.{write_of, StandsTold}
 use Rattle.lvm_change.specs.declared.turn.Turned.TheVariants as turned
 use Rattle.lvm_change.proofs.DescribeLemmas.{described, tried}
 use Rattle.lvm_change.proofs.turn.put_descriptor.Goals as goal

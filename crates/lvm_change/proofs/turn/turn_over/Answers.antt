@@ -1,8 +1,8 @@
-use Rattle.std.proofs.Common.{◌≡◌, ℕ, sym, ap, subst}
+use Rattle.std.proofs.Common.{ℕ, sym, subst}
 use Rattle.lvm_num.specs.declared.record.Kind.TheVariants as kind
 use Rattle.lvm_num.specs.declared.record.Stamp.{Stamp}
 use Rattle.lvm_num.specs.Disks.{Disks, has}
-use Rattle.lvm_disk.specs.Device.{Device, HasSectors}
+use Rattle.lvm_disk.specs.Device.{Device}
 use Rattle.lvm_kept.specs.Torn.{IsOfRecord}
 use Rattle.lvm_rec.specs.Homes.{Flips}
 use Rattle.lvm_write.specs.Writes.{DiskWritesLeave, EachTried}

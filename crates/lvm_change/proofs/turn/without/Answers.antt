@@ -1,4 +1,4 @@
-use Rattle.std.proofs.Common.{◌≡◌, ◌+◌, ◌<◌, Bool, ◌&&◌, not, refl, sym, ap, ◌∙◌, arith}
+use Rattle.std.proofs.Common.{Bool, ◌&&◌, not, sym, ap, ◌∙◌, arith}
 use Rattle.std.specs.Prelude.{◌==◌, nat_lt}
 use Rattle.std.proofs.lemmas.Bool.{eqb-true}
 use Rattle.lvm_num.specs.Disks.{has}
