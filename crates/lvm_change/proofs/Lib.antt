@@ -1,0 +1,3 @@
+pub mod DescribeLemmas
+pub mod SievingLemmas
+pub mod TurnLemmas
