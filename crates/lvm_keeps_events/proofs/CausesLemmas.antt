@@ -27,7 +27,7 @@ use Rattle.lvm_status.specs.Update.{seen}
 use Rattle.lvm_status.specs.declared.writes.Writes.{Writes}
 use Rattle.lvm_session.specs.Bringing.{copy_ends, end_of, has_row, is_whole, step_row, with_back, with_copy_end}
 use Rattle.lvm_session.specs.Enabled.{same_status}
-use Rattle.lvm_session.specs.Judging.{copies_for, copies_in, group_in, held_of, is_caught, is_kept, is_missing, is_running, is_settled, is_stale, is_sure, is_waiting, is_wanted_stale, lp_of, place_of, pps_of}
+use Rattle.lvm_session.specs.Judging.{copies_for, copies_in, group_in, held_of, is_caught, is_kept, is_missing, is_running, is_settled, is_stale, is_sure, is_sure_at, is_waiting, is_wanted_stale, lp_of, place_of, pps_of}
 use Rattle.lvm_session.specs.State.{Core, state, State}
 use Rattle.lvm_session.specs.declared.bringing.CopyEnd.TheVariants as ending
 use Rattle.lvm_session.specs.declared.bringing.OpenCopy.{OpenCopy}
@@ -40,10 +40,10 @@ use Rattle.lvm_session.specs.Calls.{copy_at}
 use Rattle.lvm_session.specs.Ends.{given_back}
 use Rattle.lvm_session.specs.Events.{IsDataTransfer}
 use Rattle.lvm_session.specs.Marks.{due_of, due_targets, hits_copy, is_among}
-use Rattle.lvm_session.specs.Causes.{AreCaused, AreCounted, FailedSince, FailedSinceOpening, fails_on, faults_at_first, faults_at_opening, HasFailed, HaveSourcesFailed, is_blamed, is_held_stale, IsAnswered, IsCaused, IsChosenSince, IsCausedAmong, IsCounted, IsLandedFor, IsTrueToOrigin}
+use Rattle.lvm_session.specs.Causes.{AreCaused, AreCounted, FailedSince, FailedSinceOpening, fails_on, faults_at_first, faults_at_opening, own_faults, OwnFailedSinceOpening, HasFailed, HaveSourcesFailed, is_blamed, is_held_stale, IsAnswered, IsCaused, IsChosenSince, IsCausedAmong, IsCounted, IsLandedFor, IsTrueToOrigin}
 use Rattle.lvm_session.specs.Left.{copy_updates, if_so, marks_later}
 use Rattle.lvm_session.specs.Owners.{AreOwned, flies, IsDataOf, IsTransferOf, same_owner}
-use Rattle.lvm_session.specs.Requests.{is_left_out, is_wanted_due, IsJudged, IsOpenOne, IsRequest, IsShaped, IsTarget, may_lack, wants_status, will_be_kept}
+use Rattle.lvm_session.specs.Requests.{IsAimed, is_left_out, is_wanted_due, IsJudged, IsOpenOne, IsRequest, IsShaped, IsTarget, may_lack, wants_status, will_be_kept}
 use Rattle.lvm_session.specs.Sound.{count_if, has_number, is_clearing, is_dark, is_hand, IsAsked, IsCopy, IsFitting, IsGoing, IsOn, IsSound, IsTold, may_be_fresh, out_with, pins, stays_fresh, with_row}
 use Rattle.lvm_keeps.proofs.CausesLemmas.{answered_when_on}
 use Rattle.lvm_keeps.proofs.DarkLemmas.Ending.{back, back_long}
@@ -54,6 +54,8 @@ use Rattle.lvm_keeps.proofs.RequestsLemmas.{bring_on, changed, if_on, no_cause, 
 use Rattle.lvm_keeps.proofs.DarkLemmas.Tables.{rows_set}
 use Rattle.lvm_keeps.proofs.SoundLemmas.Whole.{sound_when_on}
 use Rattle.lvm_keeps_events.proofs.TargetsLemmas.{at_state, pps_set}
+use Rattle.lvm_keeps.proofs.CacheLemmas.{no_place}
+use Rattle.lvm_keeps_events.proofs.JudgingLemmas.OpenLp.{numbered, target_lp}
 use Rattle.lvm_keeps_events.proofs.OnePlace.{one_lp, among_at}
 use Rattle.lvm_keeps_events.proofs.EndsLemmas.CopyReadFail.{by_place, of_place}
 use Rattle.lvm_keeps_events.proofs.EndsLemmas.Counts.{counts_keep, rose_since}
@@ -408,20 +410,31 @@ module _ (old : State) (sound : IsSound old) (on : old.core.power ≡ power.On) 
       one : IsDueOne core x.request q
       one = due_one core x.request q its
 
-      other : IsSpared (is_sure_target core) now_targets (due_targets core x.request)
-      other = spared core x.request its_shape.differ q its (stays_sure core q q_stays)
+      its_target : (j : ℕ) (t : Target) → slice_get now_targets j ≡ Some t → IsTarget core ask t
+      its_target j t t_there = all_at (IsTarget core ask) now_targets j t its_shape.targets t_there
 
-      its_copy : (j : ℕ) (t : Target) → slice_get now_targets j ≡ Some t → is_among (copies_for core ask) t.pp ≡ true
-      its_copy j t t_there = (all_at (IsTarget core ask) now_targets j t its_shape.targets t_there).copy
+      among : is_among (copies_in core.descriptor lv lp) q ≡ true
+      among = among_get (copies_in core.descriptor lv lp) k q q_there
+
+      -- it is a copy, and so no place to which one moves
+      stands_so : one.it.target.moves ≡ false
+      stands_so = no_place core going lv lp q among ask one.it.target (its_target one.it.place one.it.target one.it.there) one.it.pp_is
+
+      other : IsSpared (is_sure_target core) now_targets (due_targets core x.request)
+      other = spared core x.request its_shape.differ q its (all_and (not one.it.target.moves) (is_sure core one.it.target.pp) (ap not stands_so) (ap (is_sure core) (sym one.it.pp_is) ∙ stays_sure core q q_stays))
+
+      other_sure : (not other.target.moves ≡ true) × (is_sure core other.target.pp ≡ true)
+      other_sure = both (not other.target.moves) (is_sure core other.target.pp) other.passes
 
       its_lp : (lv ≡ lv_of ask) × (lp ≡ lp_of core ask)
-      its_lp = one_lp core.descriptor sound.fitting.valid lv lp (lv_of ask) (lp_of core ask) q (among_get (copies_in core.descriptor lv lp) k q q_there) (ap (is_among (copies_for core ask)) one.it.pp_is ∙ its_copy one.it.place one.it.target one.it.there)
+      its_lp = one_lp core.descriptor sound.fitting.valid lv lp (lv_of ask) (lp_of core ask) q among
+          (ap (is_among (copies_for core ask)) one.it.pp_is ∙ subst (λ (b : Bool). IsAimed b core ask one.it.target) stands_so (its_target one.it.place one.it.target one.it.there).copy)
 
       other_among : is_among (copies_in core.descriptor lv lp) other.target.pp ≡ true
-      other_among = ap (λ n. is_among (copies_in core.descriptor n lp) other.target.pp) its_lp.0 ∙ ap (λ n. is_among (copies_in core.descriptor (lv_of ask) n) other.target.pp) its_lp.1 ∙ its_copy other.place other.target other.there
+      other_among = ap (λ n. is_among (copies_in core.descriptor n lp) other.target.pp) its_lp.0 ∙ ap (λ n. is_among (copies_in core.descriptor (lv_of ask) n) other.target.pp) its_lp.1 ∙ subst (λ (b : Bool). IsAimed b core ask other.target) (is_false other.target.moves other_sure.0) (its_target other.place other.target other.there).copy
 
       other_held : is_held_stale core other.target.pp ≡ false
-      other_held = sure_not_held core going other.target.pp other.passes
+      other_held = sure_not_held core going other.target.pp other_sure.1
 
       undue : due other.target.pp ≡ false
       undue = of (due other.target.pp) refl
@@ -435,7 +448,7 @@ module _ (old : State) (sound : IsSound old) (on : old.core.power ≡ power.On) 
           of true e = not_so (no (entailed.due_is other.target.pp e))
 
       stays_other : stays_fresh core other.target.pp ≡ true
-      stays_other = ap (λ b. not b && not (is_wanted_stale core other.target.pp)) other_held ∙ (both (not (is_stale core other.target.pp)) (not (is_wanted_stale core other.target.pp)) other.passes).1
+      stays_other = ap (λ b. not b && not (is_wanted_stale core other.target.pp)) other_held ∙ (both (not (is_stale core other.target.pp)) (not (is_wanted_stale core other.target.pp)) other_sure.1).1
 
       some_stays : list_any (stays_fresh after) (copies_in core.descriptor lv lp) ≡ true
       some_stays = any_among (stays_fresh after) (copies_in core.descriptor lv lp) other.target.pp other_among (stays_on mid due wanted writes like other.target.pp stays_other undue)
@@ -618,7 +631,7 @@ module _ (old : State) (sound : IsSound old) (on : old.core.power ≡ power.On) 
             all_and (b && is_sure core p) (not (is_missing core p.disk)) (all_and b (is_sure core p) more_parts.0 (sure_less mid due wanted writes like p more_parts.1)) (ap not (sym (missing_same mid due wanted writes like p.disk)) ∙ parts.1)
 
     pub same_cause : (copies : List Pp) (c : OpenCopy) → IsCausedAmong s copies c → IsCausedAmong now copies c
-    same_cause copies c its = record { began = its.began; since = its.since; tried = its.tried; failed = λ e. sources_on copies c (its.failed e) }
+    same_cause copies c its = record { began = its.began; since = its.since; tried = its.tried; own_began = its.own_began; own_since = its.own_since; failed = λ e. sources_on copies c (its.failed e) }
 
     module _ (c : OpenCopy) (is : core.copy ≡ Some c) (hit : hits_copy core x ok aim.pp c ≡ true) where
       abbrev copies : List Pp
@@ -646,28 +659,45 @@ module _ (old : State) (sound : IsSound old) (on : old.core.power ≡ power.On) 
       -- a target that was chosen since, and whose disk has failed since then
       since_opening : o.older ≡ false → (k : ℕ) (t : Target) → slice_get now_targets k ≡ Some t → HasFailed device t → (n : ℕ) → copy_at copies n ≡ Some t.pp → FailedSinceOpening device failed_copy n t.pp
       since_opening young k t t_there failed n n_at =
-          rose_since (faults_at_opening c n) t.faults (counts.faults t.pp.disk) (all_at (λ (u : Target). u.pp ≡ t.pp → faults_at_opening c n ≤ u.faults) now_targets k t (chosen_since waits_so young n t.pp n_at) t_there refl) failed
+          rose_since (faults_at_opening c n) t.faults (counts.faults t.pp.disk) ((all_at (λ (u : Target). (u.pp ≡ t.pp → faults_at_opening c n ≤ u.faults) × (u.pp ≡ c.pp → own_faults c ≤ u.faults)) now_targets k t (chosen_since waits_so young n t.pp n_at) t_there).0 refl) failed
+
+      -- so is one on its own disk
+      own_since_opening : o.older ≡ false → (k : ℕ) (t : Target) → slice_get now_targets k ≡ Some t → HasFailed device t → t.pp ≡ c.pp → OwnFailedSinceOpening device failed_copy
+      own_since_opening young k t t_there failed same =
+          let it = numbered core c bringing in
+          subst (λ (d : ℕ). Rose (own_faults c) (counts.faults d)) (ap (λ (q : Pp). q.disk) same)
+          (rose_since (own_faults c) t.faults (counts.faults t.pp.disk) ((all_at (λ (u : Target). (u.pp ≡ it.0 → faults_at_opening c c.copy ≤ u.faults) × (u.pp ≡ c.pp → own_faults c ≤ u.faults)) now_targets k t (chosen_since waits_so young c.copy it.0 it.1) t_there).1 same) failed)
 
       module _ (over : are_over now_targets ≡ true) (unkept : is_kept core x.request ≡ false) (young : o.older ≡ false) (among : is_among (due_of core x.request) c.pp ≡ true) where
         lost_one : IsDueOne core x.request c.pp
         lost_one = due_one core x.request c.pp among
 
-        target_copy : (k : ℕ) (t : Target) → slice_get now_targets k ≡ Some t → is_among (copies_for core ask) t.pp ≡ true
-        target_copy k t t_there = (all_at (IsTarget core ask) now_targets k t its_shape.targets t_there).copy
+        -- one that was usable is no place to which a copy moves
+        stands : (k : ℕ) (t : Target) → slice_get now_targets k ≡ Some t → t.usable ≡ true → t.moves ≡ false
+        stands k t t_there usable = by t.moves refl (all_at (IsTarget core ask) now_targets k t its_shape.targets t_there).copy
+          where
+            by : (b : Bool) → t.moves ≡ b → IsAimed b core ask t → t.moves ≡ false
+            by false e copy = e
+            by true e place = not_so (sym place.2 ∙ usable)
+
+        target_copy : (k : ℕ) (t : Target) → slice_get now_targets k ≡ Some t → t.usable ≡ true → is_among (copies_for core ask) t.pp ≡ true
+        target_copy k t t_there usable = subst (λ (b : Bool). IsAimed b core ask t) (stands k t t_there usable) (all_at (IsTarget core ask) now_targets k t its_shape.targets t_there).copy
 
         same_lp : (c.lv ≡ lv_of ask) × (c.lp ≡ lp_of core ask)
-        same_lp = one_lp core.descriptor sound.fitting.valid c.lv c.lp (lv_of ask) (lp_of core ask) c.pp (among_get copies (c.copy - 1) c.pp (by_place copies c.copy c.pp bringing.its)) (ap (is_among (copies_for core ask)) lost_one.it.pp_is ∙ target_copy lost_one.it.place lost_one.it.target lost_one.it.there)
+        same_lp =
+            let it = target_lp core going c is ask lost_one.it.target (all_at (IsTarget core ask) now_targets lost_one.it.place lost_one.it.target its_shape.targets lost_one.it.there) (sym lost_one.it.pp_is) in
+            (sym it.0, sym it.1)
 
         same_copies : copies ≡ copies_for core ask
         same_copies = ap (λ n. copies_in core.descriptor n c.lp) same_lp.0 ∙ ap (λ n. copies_in core.descriptor (lv_of ask) n) same_lp.1
 
         -- one that ended as it doesn't keep the write has failed
-        unkept_fails : (k : ℕ) (t : Target) → slice_get now_targets k ≡ Some t → is_sure core t.pp ≡ true → is_failed t.state ≡ true
+        unkept_fails : (k : ℕ) (t : Target) → slice_get now_targets k ≡ Some t → is_sure_at core t ≡ true → is_failed t.state ≡ true
         unkept_fails k t t_there sure = by (is_done t.state) (is_failed t.state) refl (all_true_at (λ (u : Target). is_ended u.state) now_targets k t over t_there)
           where
             by : (a b : Bool) → is_done t.state ≡ a → a || b ≡ true → b ≡ true
             by false b e some = some
-            by true b e some = not_so (sym unkept ∙ any_passes_from_place (is_sure_done core) now_targets k t t_there (all_and (is_done t.state) (is_sure core t.pp) e sure))
+            by true b e some = not_so (sym unkept ∙ any_passes_from_place (is_sure_done core) now_targets k t t_there (all_and (is_done t.state) (is_sure_at core t) e sure))
 
         has_failed_now : (k : ℕ) (t : Target) → slice_get now_targets k ≡ Some t → is_failed t.state ≡ true → HasFailed device t
         has_failed_now k t t_there failed = all_at (IsCaused device after) now_targets k t its_caused t_there (ap (λ b. b || (t.usable && is_blamed after t.pp)) failed)
@@ -686,7 +716,7 @@ module _ (old : State) (sound : IsSound old) (on : old.core.power ≡ power.On) 
                 (ap (λ b. is_failed usable_one.1.state || b) (all_and usable_one.1.usable (is_blamed core usable_one.1.pp) usable_one.3 blamed) ∙ or_true (is_failed usable_one.1.state))
 
             by : (b : Bool) → is_sure core usable_one.1.pp ≡ b → HasFailed device usable_one.1
-            by true sure = has_failed_now usable_one.0 usable_one.1 usable_one.2 (unkept_fails usable_one.0 usable_one.1 usable_one.2 sure)
+            by true sure = has_failed_now usable_one.0 usable_one.1 usable_one.2 (unkept_fails usable_one.0 usable_one.1 usable_one.2 (all_and (not usable_one.1.moves) (is_sure core usable_one.1.pp) (ap not (stands usable_one.0 usable_one.1 usable_one.2 usable_one.3)) sure))
             by false unsure = by_was (unsure_blamed usable_one.1.pp unsure) (was usable_one.0 usable_one.1 usable_one.2)
 
         -- so has each other copy that is sure
@@ -707,17 +737,18 @@ module _ (old : State) (sound : IsSound old) (on : old.core.power ≡ power.On) 
             by (inl its) =
                 let it = on_one now_targets p (ap (λ ps. is_among ps p) (pps_set targets target aim (end_state ok) aim_is) ∙ its) in
                 subst (FailedSinceOpening device failed_copy n) (sym it.pp_is)
-                (since_opening young it.place it.target it.there (has_failed_now it.place it.target it.there (unkept_fails it.place it.target it.there (sym (ap (is_sure core) it.pp_is) ∙ sure))) n (n_at ∙ ap (λ (q : Pp). Some q) it.pp_is))
+                (since_opening young it.place it.target it.there (has_failed_now it.place it.target it.there (unkept_fails it.place it.target it.there
+                    (all_and (not it.target.moves) (is_sure core it.target.pp) (ap not (no_place core going c.lv c.lp p (among_get copies (n - 1) p (by_place copies n p n_at)) ask it.target (all_at (IsTarget core ask) now_targets it.place it.target its_shape.targets it.there) it.pp_is)) (sym (ap (is_sure core) it.pp_is) ∙ sure)))) n (n_at ∙ ap (λ (q : Pp). Some q) it.pp_is))
 
-        lost : FailedSinceOpening device failed_copy c.copy c.pp ⊎ HaveSourcesFailed now copies failed_copy
+        lost : OwnFailedSinceOpening device failed_copy ⊎ HaveSourcesFailed now copies failed_copy
         lost = by (is_pp usable_one.1.pp c.pp) refl
           where
-            by : (b : Bool) → is_pp usable_one.1.pp c.pp ≡ b → FailedSinceOpening device failed_copy c.copy c.pp ⊎ HaveSourcesFailed now copies failed_copy
+            by : (b : Bool) → is_pp usable_one.1.pp c.pp ≡ b → OwnFailedSinceOpening device failed_copy ⊎ HaveSourcesFailed now copies failed_copy
             by true its =
                 let same_pp = pp_same usable_one.1.pp c.pp its in
-                inl (subst (FailedSinceOpening device failed_copy c.copy) same_pp (since_opening young usable_one.0 usable_one.1 usable_one.2 usable_failed c.copy (bringing.its ∙ ap (λ (q : Pp). Some q) (sym same_pp))))
+                inl (own_since_opening young usable_one.0 usable_one.1 usable_one.2 usable_failed same_pp)
             by false its =
-                let found = among_at copies usable_one.1.pp (ap (λ ps. is_among ps usable_one.1.pp) same_copies ∙ target_copy usable_one.0 usable_one.1 usable_one.2) in
+                let found = among_at copies usable_one.1.pp (ap (λ ps. is_among ps usable_one.1.pp) same_copies ∙ target_copy usable_one.0 usable_one.1 usable_one.2 usable_one.3) in
                 inr (record {
                   each = each_source;
                   number = found.0 + 1;
@@ -727,17 +758,17 @@ module _ (old : State) (sound : IsSound old) (on : old.core.power ≡ power.On) 
                   one = since_opening young usable_one.0 usable_one.1 usable_one.2 usable_failed (found.0 + 1) (of_place copies found.0 usable_one.1.pp found.1);
                 })
 
-      its_own : ok ≡ false → is_pp aim.pp c.pp ≡ true → FailedSinceOpening device failed_copy c.copy c.pp
+      its_own : ok ≡ false → is_pp aim.pp c.pp ≡ true → OwnFailedSinceOpening device failed_copy
       its_own bad same =
           let disk : aim.pp.disk ≡ c.pp.disk = ap (λ (q : Pp). q.disk) (pp_same aim.pp c.pp same) in
-          rose_since (faults_at_opening c c.copy) (old.device.counts.faults c.pp.disk) (counts.faults c.pp.disk) (before.since c.copy c.pp bringing.its) (subst (λ d. Rose (old.device.counts.faults d) (counts.faults d)) disk (rose bad))
+          rose_since (own_faults c) (old.device.counts.faults c.pp.disk) (counts.faults c.pp.disk) before.own_since (subst (λ d. Rose (old.device.counts.faults d) (counts.faults d)) disk (rose bad))
 
-      why_failed : FailedSinceOpening device failed_copy c.copy c.pp ⊎ HaveSourcesFailed now copies failed_copy
+      why_failed : OwnFailedSinceOpening device failed_copy ⊎ HaveSourcesFailed now copies failed_copy
       why_failed = by (either (not ok && is_pp aim.pp c.pp) (are_over now_targets && not (is_kept core x.request) && not o.older && is_among (due_of core x.request) c.pp)
           (both (is_write ask && is_running c) (not ok && is_pp aim.pp c.pp || (are_over now_targets && not (is_kept core x.request) && not o.older && is_among (due_of core x.request) c.pp)) hit).1)
         where
           by : (not ok && is_pp aim.pp c.pp ≡ true) ⊎ (are_over now_targets && not (is_kept core x.request) && not o.older && is_among (due_of core x.request) c.pp ≡ true)
-              → FailedSinceOpening device failed_copy c.copy c.pp ⊎ HaveSourcesFailed now copies failed_copy
+              → OwnFailedSinceOpening device failed_copy ⊎ HaveSourcesFailed now copies failed_copy
           by (inl its) = let parts = both (not ok) (is_pp aim.pp c.pp) its in inl (its_own (is_false ok parts.0) parts.1)
           by (inr its) =
               let a = both (are_over now_targets && not (is_kept core x.request) && not o.older) (is_among (due_of core x.request) c.pp) its in
@@ -746,7 +777,7 @@ module _ (old : State) (sound : IsSound old) (on : old.core.power ≡ power.On) 
               lost d.0 (is_false (is_kept core x.request) d.1) (is_false o.older b.1) a.1
 
       pub cause : IsCausedAmong now copies failed_copy
-      cause = record { began = before_s.began; since = before_s.since; tried = before_s.tried; failed = λ e. why_failed }
+      cause = record { began = before_s.began; since = before_s.since; tried = before_s.tried; own_began = before_s.own_began; own_since = before_s.own_since; failed = λ e. why_failed }
 
     -- ---- all of it, while it is on
 

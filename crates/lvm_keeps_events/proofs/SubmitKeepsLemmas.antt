@@ -282,7 +282,7 @@ module _ (s : State) (sound : IsSound s) (client : ℕ) (ask : Ask) (bytes : Opt
   -- ---- the requests
 
   still : (x : Open) → x.request.id < next → IsOpenOne core x → IsOpenOne now.core x
-  still x low one = open_on core history requests queue core.copy core.pool core.flying core.cache.entries core.last x (free_push core.queue.rows row (place_of x.request.id) (held_of x.request.ask) (omega (arith, low))) (λ p e. e) one
+  still x low one = open_on core history requests queue core.copy core.pool core.flying core.cache.entries core.last x (free_push core.queue.rows row (place_of x.request.id) (held_of x.request.ask) (omega (arith, low))) (λ p e. e) (λ ask. refl) one
 
   few : next < 2 ^ 32
   few =
@@ -327,7 +327,7 @@ module _ (s : State) (sound : IsSound s) (client : ℕ) (ask : Ask) (bytes : Opt
         named = λ has two. not_so has;
         dirty = λ has two. not_so has;
       };
-      judged = λ write. record { uncaught = tt; due = λ status. not_so status; all = λ goes p among. not_so goes };
+      judged = λ write. record { uncaught = tt; due = λ status. not_so status; all = λ goes p among. not_so goes; place = λ goes p among. not_so goes };
     };
     over = λ e. not_so (sym e);
     still = λ e. refl;

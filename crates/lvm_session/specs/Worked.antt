@@ -137,7 +137,7 @@ core_of w = record {
 
 -- a target on this partition
 abbrev pub target_on : Pp → TargetState → Target
-target_on p how = record { pp = p; sector = 4096; usable = true; faults = 0; state = how }
+target_on p how = record { pp = p; sector = 4096; usable = true; moves = false; faults = 0; state = how }
 
 -- a request of the first block
 abbrev pub asking : ℕ → Ask → Phase → List Target → Open
@@ -161,7 +161,7 @@ row_for id ask = record { id = place_of id; ask = held_of ask }
 
 -- the second copy, of which so many track groups are copied
 abbrev pub bringing_up : ℕ → Option CopyEnd → OpenCopy
-bringing_up cursor end = record { lv = 1; lp = 0; copy = 2; pp = second_copy; cursor = cursor; step = step.Idle; tried = 0; place = 1; faults = 0 ∷ 0 ∷ 0 ∷ []; end = end }
+bringing_up cursor end = record { lv = 1; lp = 0; copy = 2; pp = second_copy; moves = false; cursor = cursor; step = step.Idle; tried = 0; place = 1; faults = 0 ∷ 0 ∷ 0 ∷ 0 ∷ []; end = end }
 
 -- ---- a passive volume
 

@@ -244,7 +244,7 @@ copy_read_fail_keeps at old new sound on event = by_end (copy_ends mid) refl new
         (keeps_on between sound_between on c event.is_open event.runs busy (ap hand_of event.reads) tried still tries why at event.row event.returns.there event.own ended.flight out.there event.buf ended.number)
       where
         why : IsCausedAmong between copies resting
-        why = record { began = was.began; since = was.since; tried = each_tried; failed = λ e. not_so (sym (ap is_none e) ∙ event.runs) }
+        why = record { began = was.began; since = was.since; tried = each_tried; own_began = was.own_began; own_since = was.own_since; failed = λ e. not_so (sym (ap is_none e) ∙ event.runs) }
     by_end (Some how) ends core_is =
         subst IsSound (sym (ap (λ (d : Device). state d new.core) ended.is ∙ ap (λ (k : Core). state (record old.device { media = new.device.media; flights = new.device.flights; counts = new.device.counts }) k) core_is
         ∙ ap (λ (fs : List Flight). state (record old.device { media = new.device.media; flights = fs; counts = new.device.counts }) (after_copy_end mid resting how)) out.left_is))
@@ -274,4 +274,4 @@ copy_read_fail_keeps at old new sound on event = by_end (copy_ends mid) refl new
                 to_tried false e = not_so (sym e)
 
         why : IsCausedAmong between copies (record resting { end = Some how })
-        why = record { began = was.began; since = was.since; tried = each_tried; failed = λ e. inr (sources (ends ∙ e)) }
+        why = record { began = was.began; since = was.since; tried = each_tried; own_began = was.own_began; own_since = was.own_since; failed = λ e. inr (sources (ends ∙ e)) }

@@ -748,7 +748,7 @@ module _ (s : State) (sound : IsSound s) (on : s.core.power ≡ power.On) (c : O
 
     copy_caused : IsCausedAmong now (copies_in core.descriptor c.lv c.lp) next
     copy_caused = let was = subst (λ m. IfSome m (λ (k : OpenCopy). IsCausedAmong s (copies_in core.descriptor k.lv k.lp) k)) is sound.copy in
-        record { began = was.began; since = was.since; tried = λ n p n_at e. not_so (sym (nothing p.disk) ∙ e); failed = λ e. not_so (sym (ap is_none e) ∙ runs) }
+        record { began = was.began; since = was.since; tried = λ n p n_at e. not_so (sym (nothing p.disk) ∙ e); own_began = was.own_began; own_since = was.own_since; failed = λ e. not_so (sym (ap is_none e) ∙ runs) }
 
     origin : IsTrueToOrigin now
     origin = let was = sound.origin in record {

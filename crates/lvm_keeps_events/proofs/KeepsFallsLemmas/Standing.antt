@@ -45,6 +45,7 @@ use Rattle.lvm_path.specs.Asks.{is_write, lv_of}
 use Rattle.lvm_path.specs.Targets.{are_over, is_begun, is_done, is_failed, is_over as is_ended, states_of}
 use Rattle.lvm_path.specs.Next.{next_chosen, next_data, next_in, next_read, next_write, start_or_wait}
 use Rattle.lvm_status.specs.Update.{is_held, is_owed, is_there as is_there_so, seen}
+use Rattle.lvm_session.specs.declared.bringing.CopyEnd.{CopyEnd}
 use Rattle.lvm_session.specs.declared.bringing.CopyEnd.TheVariants as ending
 use Rattle.lvm_session.specs.declared.bringing.OpenCopy.{OpenCopy}
 use Rattle.lvm_session.specs.declared.bringing.Step.{Step}
@@ -57,13 +58,13 @@ use Rattle.lvm_session.specs.declared.flown.Owner.TheVariants as owner
 use Rattle.lvm_session.specs.declared.open.Open.{Open}
 use Rattle.lvm_session.specs.declared.open.Power.TheVariants as power
 use Rattle.lvm_session.specs.State.{Core, State, is_there}
-use Rattle.lvm_session.specs.Judging.{aims, all_but_sure, group_in, is_caught, copies_for, counts_failed, facts_of, group_of, has_dirty_mark, has_names, held_of, is_beside, is_failing, is_held_back, is_kept, is_marked, is_missing, is_pending, is_running, is_settled, is_stale, is_sure, is_usable, is_waiting, is_wanted_stale, mode_of, next_for, place_of, pps_of, same_pps}
+use Rattle.lvm_session.specs.Judging.{aims, all_but_sure, copies_for, counts_failed, facts_of, group_in, group_of, has_dirty_mark, has_names, held_of, is_beside, is_beside_copy, is_caught, is_clear, is_failing, is_held_back, is_held_by_move, is_kept, is_marked, is_missing, is_moved, is_past_held, is_pending, is_running, is_settled, is_stale, is_sure, is_under_way, is_usable, is_waiting, is_wanted_stale, mode_of, next_for, place_aims, place_of, places_if, pps_of, same_pps}
 use Rattle.lvm_session.specs.Bringing.{end_of, ends_if, hand_of, has_row, is_cleared, is_idle, is_out, is_whole, next_source, sources_of, step_of, step_row}
 use Rattle.lvm_session.specs.Enabled.{Part, admission_at, can_pin, copy_read, copy_write, data_at, data_start, first_event, first_from, first_of, has_buffer, is_admit, is_free_step, is_lost, is_pin, is_status_due, is_unnamed, landing, landing_at, may_be_admitted, may_pin, may_read, may_write, note_at, note_due, note_start, or_next, outcome_next, parts_to_settle, parts_to_start, pinning_at, same_row, same_rows, same_status, target_due, target_next, wants_record}
 use Rattle.lvm_session.specs.Dark.{hand_of_copy}
 use Rattle.lvm_session.specs.Owners.{AreRows, flies, same_owner, target_flies}
-use Rattle.lvm_session.specs.Requests.{IsOpenOne, IsPhase, IsRecorded, IsRequest, is_failed_and_sure, is_past_held, is_wanted_due, is_wanted_dirty, mode_for, wants_status, will_be_kept}
-use Rattle.lvm_session.specs.Sound.{IsCopy, IsGoing, IsSound, count_if, has_number, is_dark, is_hand, pins, waiting_rows, with_row}
+use Rattle.lvm_session.specs.Requests.{IsOpenOne, IsPhase, IsRecorded, IsRequest, is_failed_and_sure, is_wanted_due, is_wanted_dirty, mode_for, wants_status, will_be_kept}
+use Rattle.lvm_session.specs.Sound.{IsCopy, IsGoing, IsOfKind, IsSound, count_if, has_number, is_dark, is_hand, pins, waiting_rows, with_row}
 use Rattle.std.proofs.lemmas.Slice.Eq.{bytes_eq-Decides}
 use Rattle.lvm_num.proofs.Booleans.{and_false, not_so, none_if, same_by_if}
 use Rattle.lvm_num.proofs.Lists.{none_each, all_false, all_at}
@@ -358,7 +359,7 @@ parts_after_data = copy_read ∷ copy_write ∷ []
 
 -- ---- a session in which nothing is out, and of which no event may be made
 
-module _ (s : State) (sound : IsSound s) (on : s.core.power ≡ power.On) (votes : is_lost s.core ≡ false) (none : first_event s.core ≡ None) (idle : s.device.flights ≡ []) where
+module _ (s : State) (sound : IsSound s) (on : s.core.power ≡ power.On) (votes : is_lost s.core ≡ false) (none : first_event s.core ≡ None) (idle : s.device.flights ≡ []) (undone : option_map_or (is_moved s.core) s.core.copy false ≡ false) where
   abbrev core : Core
   core = s.core
 
@@ -619,10 +620,19 @@ module _ (s : State) (sound : IsSound s) (on : s.core.power ≡ power.On) (votes
       by true false i j = refl
       by true true i j = ap (λ c. c && list_any (counts_failed core) e.request.targets.items) (not_begun place e there i j)
 
+  -- nor is a move done
+  not_by_move : (ask : Ask) → is_held_by_move core ask ≡ false
+  not_by_move ask = by core.copy undone
+    where
+      by : (m : Option OpenCopy) → option_map_or (is_moved core) m false ≡ false → option_map_or (λ (c : OpenCopy). is_moved core c && is_beside_copy core ask c) m false ≡ false
+      by None e = refl
+      by (Some c) e = ap (λ b. b && is_beside_copy core ask c) e
+
   -- so nothing is pending
   not_pending : (r : Request) → is_pending core r ≡ false
   not_pending r =
-      ap (λ b. b || list_any (λ (e : Open). not (e.request.id == r.id) && is_beside core e.request.ask r.ask && is_failing core e) core.requests) (none_each (λ (p : Pp). is_wanted_stale core p && not (is_settled core p)) settled_each (copies_for core r.ask))
+      ap (λ b. b || (list_any (λ (p : Pp). is_wanted_stale core p && not (is_settled core p)) (copies_for core r.ask) || list_any (λ (e : Open). not (e.request.id == r.id) && is_beside core e.request.ask r.ask && is_failing core e) core.requests)) (not_by_move r.ask)
+      ∙ ap (λ b. b || list_any (λ (e : Open). not (e.request.id == r.id) && is_beside core e.request.ask r.ask && is_failing core e) core.requests) (none_each (λ (p : Pp). is_wanted_stale core p && not (is_settled core p)) settled_each (copies_for core r.ask))
       ∙ none_any (λ (e : Open). not (e.request.id == r.id) && is_beside core e.request.ask r.ask && is_failing core e) core.requests
       (by_places (λ (e : Open). not (e.request.id == r.id) && is_beside core e.request.ask r.ask && is_failing core e ≡ false) core.requests (λ j e at. ap (λ b. not (e.request.id == r.id) && is_beside core e.request.ask r.ask && b) (none_failing e j at) ∙ ends (not (e.request.id == r.id)) (is_beside core e.request.ask r.ask)))
     where
@@ -640,16 +650,41 @@ module _ (s : State) (sound : IsSound s) (on : s.core.power ≡ power.On) (votes
 
   -- the targets of a write that are as they should be aren't missing
   targets_there : (place : ℕ) (o : Open) (there : slice_get core.requests place ≡ Some o) → is_waiting o ≡ true → is_write o.request.ask ≡ true → (facts_of core o.request).usable ≡ true → (facts_of core o.request).changed ≡ false → AllByRecursion (λ (t : Target). is_missing core t.pp.disk ≡ false) o.request.targets.items
-  targets_there place o there waiting write usable same = by o.request.targets.items (aims core o.request.ask) aims_there
-      (same_so (same_pps (pps_of o.request.targets.items) (aims core o.request.ask)) (sym (ap (λ b. b && not (same_pps (pps_of o.request.targets.items) (aims core o.request.ask))) write) ∙ same))
+  targets_there place o there waiting write usable same = by o.request.targets.items (aims core o.request.ask ++ place_aims core o.request.ask) aims_there
+      (same_so (same_pps (pps_of o.request.targets.items) (aims core o.request.ask ++ place_aims core o.request.ask)) (sym (ap (λ b. b && not (same_pps (pps_of o.request.targets.items) (aims core o.request.ask ++ place_aims core o.request.ask))) write) ∙ same))
     where
       same_so : (b : Bool) → not b ≡ false → b ≡ true
       same_so true e = refl
       same_so false e = not_so (sym e)
 
-      aims_there : AllByRecursion (λ (p : Pp). is_missing core p.disk ≡ false) (aims core o.request.ask)
-      aims_there = passing (copies_for core o.request.ask)
+      aims_there : AllByRecursion (λ (p : Pp). is_missing core p.disk ≡ false) (aims core o.request.ask ++ place_aims core o.request.ask)
+      aims_there = and_then (aims core o.request.ask) (passing (copies_for core o.request.ask)) (of_place core.copy refl)
         where
+          and_then : (ps : List Pp) {qs : List Pp} → AllByRecursion (λ (p : Pp). is_missing core p.disk ≡ false) ps → AllByRecursion (λ (p : Pp). is_missing core p.disk ≡ false) qs → AllByRecursion (λ (p : Pp). is_missing core p.disk ≡ false) (ps ++ qs)
+          and_then [] all more = more
+          and_then (p ∷ ps) all more = (all.0, and_then ps all.1 more)
+
+          -- a move that runs ends where the disk of its place is missing
+          runs_there : (c : OpenCopy) → core.copy ≡ Some c → is_running c ≡ true → is_missing core c.pp.disk ≡ false
+          runs_there c is runs = stays (is_running c) (is_missing core c.pp.disk) runs (sym (ap (λ m. option_map_or (end_of core) m None) is) ∙ going.reviewed)
+            where
+              stays : (a b : Bool) {rest : Option CopyEnd} → a ≡ true → (if not a then None else if b then Some ending.SyncFailed else rest) ≡ None → b ≡ false
+              stays a false e f = refl
+              stays true true e f = absurd (cc f)
+              stays false true e f = not_so e
+
+          of_place : (m : Option OpenCopy) → core.copy ≡ m → AllByRecursion (λ (p : Pp). is_missing core p.disk ≡ false) (filter (is_caught core (group_in core o.request.ask)) (option_map_or (λ (c : OpenCopy). places_if (c.moves && is_beside_copy core o.request.ask c) c) m []))
+          of_place None is = tt
+          of_place (Some c) is = of (c.moves && is_beside_copy core o.request.ask c)
+            where
+              caught : (b : Bool) → is_caught core (group_in core o.request.ask) c.pp ≡ b → AllByRecursion (λ (p : Pp). is_missing core p.disk ≡ false) (if b then c.pp ∷ [] else [])
+              caught false e = tt
+              caught true e = (runs_there c is (both (is_running c) (is_pp c.pp c.pp && nat_lt (group_in core o.request.ask) c.cursor) (sym (ap (λ m. option_map_or (λ (d : OpenCopy). is_running d && is_pp c.pp d.pp && nat_lt (group_in core o.request.ask) d.cursor) m false) is) ∙ e)).0, tt)
+
+              of : (b : Bool) → AllByRecursion (λ (p : Pp). is_missing core p.disk ≡ false) (filter (is_caught core (group_in core o.request.ask)) (places_if b c))
+              of false = tt
+              of true = caught (is_caught core (group_in core o.request.ask) c.pp) refl
+
           passing : (ps : List Pp) → AllByRecursion (λ (p : Pp). is_missing core p.disk ≡ false) (filter (λ (p : Pp). is_usable core p || is_caught core (group_in core o.request.ask) p) ps)
           passing [] = tt
           passing (p ∷ ps) = of (is_usable core p || is_caught core (group_in core o.request.ask) p) refl (passing ps)
@@ -967,8 +1002,41 @@ module _ (s : State) (sound : IsSound s) (on : s.core.power ≡ power.On) (votes
 
       by : (a b : Bool) → is_running c ≡ a → is_whole core c ≡ b → is_running c ≡ false
       by false b i j = i
-      by true true i j = let clear = its_copy.clearing i j in not_so (sym clear.1 ∙ wanted_is c.pp ∙ clear.0)
+      by true true i j = of_kind c.moves refl its_copy.kind
+        where
+          of_kind : (k : Bool) → c.moves ≡ k → IsOfKind k core c → is_running c ≡ false
+          of_kind false k it = let clear = it.clearing i j in not_so (sym clear.1 ∙ wanted_is c.pp ∙ clear.0)
+          of_kind true k it = not_so (sym (sym done ∙ ap (λ m. option_map_or (is_moved core) m false) (sym is) ∙ undone))
+            where
+              fresh : is_stale core c.pp ≡ false
+              fresh = sym (wanted_is c.pp) ∙ it.clear i j
+
+              seen_fresh : calls_stale (unwrap_or core.status.in_flight core.status.committed) c.pp ≡ false
+              seen_fresh = ap (λ m. calls_stale (unwrap_or m core.status.committed) c.pp) settled_status.0 ∙ fresh
+
+              calm : is_under_way core c ≡ false
+              calm = none_waits core.requests all_landed
+                where
+                  none_waits : (os : List Open) → list_any is_waiting os ≡ false → list_any (λ (x : Open). is_waiting x && is_past_held x.request.phase && is_beside_copy core x.request.ask c) os ≡ false
+                  none_waits [] e = refl
+                  none_waits (x ∷ os) e = let it = or_parts (is_waiting x) (list_any is_waiting os) e in
+                      ap (λ b. (b && is_past_held x.request.phase && is_beside_copy core x.request.ask c) || list_any (λ (y : Open). is_waiting y && is_past_held y.request.phase && is_beside_copy core y.request.ask c) os) it.0 ∙ none_waits os it.1
+
+              done : is_moved core c ≡ true
+              done =
+                  ap (λ b. b && is_running c && is_whole core c && is_clear core c.pp && not (is_under_way core c)) k
+                  ∙ ap (λ b. b && is_whole core c && is_clear core c.pp && not (is_under_way core c)) i
+                  ∙ ap (λ b. b && is_clear core c.pp && not (is_under_way core c)) j
+                  ∙ ap (λ b. (not b && not (calls_stale (unwrap_or core.status.in_flight core.status.committed) c.pp) && not (is_wanted_stale core c.pp)) && not (is_under_way core c)) fresh
+                  ∙ ap (λ b. (not b && not (is_wanted_stale core c.pp)) && not (is_under_way core c)) seen_fresh
+                  ∙ ap (λ b. not b && not (is_under_way core c)) (it.clear i j)
+                  ∙ ap (λ b. not b) calm
       by true false i j = absurd (no_step c is (ap (λ b. is_out c.step || (b && not (is_whole core c))) i ∙ ap (λ b. is_out c.step || not b) j ∙ or_true (is_out c.step)))
 
 pub never_stands_still : NeverStandsStill
-never_stands_still s sound on votes none idle = (all_landed s sound on votes none idle, copy_over s sound on votes none idle s.core.copy refl)
+never_stands_still s sound on votes none idle = by (option_map_or (is_moved s.core) s.core.copy false) refl
+  where
+    by : (b : Bool) → option_map_or (is_moved s.core) s.core.copy false ≡ b
+        → (option_map_or (is_moved s.core) s.core.copy false ≡ true) ⊎ ((list_any is_waiting s.core.requests ≡ false) × IfSome s.core.copy (λ (c : OpenCopy). is_running c ≡ false))
+    by true done = inl done
+    by false undone = inr (all_landed s sound on votes none idle undone, copy_over s sound on votes none idle undone s.core.copy refl)

@@ -47,7 +47,7 @@ use Rattle.lvm_keeps.proofs.CausesLemmas.{answered_still, copies_still, counted_
 use Rattle.lvm_keeps.proofs.Lists.{all_set, any_set, count_cons, count_same, count_set}
 use Rattle.lvm_keeps.proofs.OwnersLemmas.Rows.{all_fly, rows_on}
 use Rattle.lvm_keeps.proofs.Small.{same_blame}
-use Rattle.lvm_keeps.proofs.RequestsLemmas.{bring_on, if_on, moved, no_cause, open_on}
+use Rattle.lvm_keeps.proofs.RequestsLemmas.{bring_on, if_on, moved, no_cause, open_on, target_still}
 use Rattle.lvm_keeps.proofs.DarkLemmas.Tables.{apart, ascending_set, rows_set}
 use Rattle.lvm_keeps.proofs.SoundLemmas.Whole.{sound_when_on}
 use Rattle.lvm_keeps_events.proofs.TargetsLemmas.{only_at}
@@ -209,7 +209,7 @@ module _ (s : State) (sound : IsSound s) (on : s.core.power ≡ power.On) (place
         laid = let l = its.laid in record { within = l.within; blocks = l.blocks; most = omega (arith, few); id = l.id };
         waits = λ e. record {
           shape = record {
-            targets = all_weaker (IsTarget core o.request.ask) (IsTarget now.core o.request.ask) (λ t i. record { copy = i.copy; sector = i.sector; there = i.there }) targets its_choice.aims;
+            targets = all_weaker (IsTarget core o.request.ask) (IsTarget now.core o.request.ask) (target_still core now.core refl (λ ask. refl) o.request.ask) targets its_choice.aims;
             phase_is = phase_by made several some many.0 many.1 fresh still refl m (is_write o.request.ask) refl several refl;
             hand = request.shape.hand ∙ ap (λ b. not (is_write o.request.ask) && b) (unbegun_done o.request.targets.items unbegun ∙ sym none_done);
             room = request.shape.room;
@@ -229,6 +229,7 @@ module _ (s : State) (sound : IsSound s) (on : s.core.power ≡ power.On) (place
                 (λ t e. ap (λ (st : TargetState). (is_failed st || false) && is_caught core (group_in core o.request.ask) t.pp) e) targets its_choice.fresh;
             due = λ status. not_so (sym (no_status m (is_write o.request.ask) several) ∙ status);
             all = λ begun p among. not_so (sym fresh ∙ begun);
+            place = λ begun p among. not_so (sym fresh ∙ begun);
           };
         };
         over = λ e. absurd (not_so (sym e ∙ waits));
@@ -241,7 +242,7 @@ module _ (s : State) (sound : IsSound s) (on : s.core.power ≡ power.On) (place
       wanted_on mode.Off e = refl
 
   still : (x : Open) → IsOpenOne core x → IsOpenOne now.core x
-  still x it = open_on core core.history requests core.queue core.copy core.pool core.flying entries last x (λ e. e) (λ p e. e) it
+  still x it = open_on core core.history requests core.queue core.copy core.pool core.flying entries last x (λ e. e) (λ p e. e) (λ ask. refl) it
 
   fitting : IsFitting now.core
   fitting = let f = sound.fitting in record {
@@ -501,7 +502,7 @@ module _ (s : State) (sound : IsSound s) (on : s.core.power ≡ power.On) (place
 
       choice_between : IsChosen between o targets
       choice_between = let c = choice in record {
-        aims = all_weaker (IsTarget s.core o.request.ask) (IsTarget between.core o.request.ask) (λ t i. record { copy = i.copy; sector = i.sector; there = i.there }) targets c.aims;
+        aims = all_weaker (IsTarget s.core o.request.ask) (IsTarget between.core o.request.ask) (target_still s.core between.core refl (λ ask. refl) o.request.ask) targets c.aims;
         fresh = c.fresh;
         differ = c.differ;
         few = c.few;

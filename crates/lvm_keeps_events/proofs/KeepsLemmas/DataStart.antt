@@ -30,7 +30,7 @@ use Rattle.lvm_session.specs.declared.flown.Owner.TheVariants as owner
 use Rattle.lvm_session.specs.declared.open.Open.{Open}
 use Rattle.lvm_session.specs.declared.open.Power.TheVariants as power
 use Rattle.lvm_session.specs.State.{Core, State, state}
-use Rattle.lvm_session.specs.Judging.{copies_for, facts_of, group_in, group_of, has_dirty_mark, has_names, is_caught, is_missing, is_waiting, is_wanted_stale, mode_of, pps_of}
+use Rattle.lvm_session.specs.Judging.{copies_for, facts_of, group_in, group_of, has_dirty_mark, has_names, is_caught, is_missing, is_waiting, is_wanted_stale, mode_of, pps_of, place_aims}
 use Rattle.lvm_session.specs.Bringing.{has_row, step_row}
 use Rattle.lvm_session.specs.Enabled.{target_due}
 use Rattle.lvm_session.specs.Events.{IsDataTransfer, begun_as, flown}
@@ -45,8 +45,8 @@ use Rattle.lvm_keeps.proofs.CausesLemmas.{answered_still, copies_still, counted_
 use Rattle.lvm_keeps.proofs.OwnersLemmas.Launching.{flights_push, none_more, owners_push, rows_push, taken, tickets_push}
 use Rattle.lvm_keeps.proofs.Lists.{all_set, any_set, count_same, count_set, set_here}
 use Rattle.lvm_keeps.proofs.OwnersLemmas.Rows.{all_fly, rows_on}
-use Rattle.lvm_keeps.proofs.KeepsLemmas.Starting.{first_start_is_whole}
-use Rattle.lvm_keeps.proofs.RequestsLemmas.{bring_on, if_on, no_cause, open_on}
+use Rattle.lvm_keeps.proofs.KeepsLemmas.Starting.{first_start_is_whole, goes_along}
+use Rattle.lvm_keeps.proofs.RequestsLemmas.{bring_on, if_on, no_cause, open_on, target_still}
 use Rattle.lvm_keeps.proofs.DarkLemmas.Tables.{apart, ascending_set, rows_set}
 use Rattle.lvm_keeps.proofs.SoundLemmas.Whole.{sound_when_on}
 use Rattle.lvm_keeps_events.proofs.TargetsLemmas.{all_true_set, any_here, at_state, count_none, neither, not_all_set, only_at, pp_at, pps_set, set_state}
@@ -218,7 +218,7 @@ module _ (s : State) (sound : IsSound s) (on : s.core.power ≡ power.On) (place
   }
     where
       target_on : (t : Target) → IsTarget core o.request.ask t → IsTarget now.core o.request.ask t
-      target_on t i = record { copy = i.copy; sector = i.sector; there = i.there }
+      target_on t i = target_still core now.core refl (λ ask. refl) o.request.ask t i
 
       moved : IsTarget core o.request.ask aim → IsTarget core o.request.ask flying
       moved i = record { copy = i.copy; sector = i.sector; there = i.there }
@@ -233,6 +233,7 @@ module _ (s : State) (sound : IsSound s) (on : s.core.power ≡ power.On) (place
     uncaught = all_set Uncaught Uncaught (λ t is. is) targets target flying (sym (ap (λ st. (is_failed st || o.older) && is_caught core (group_in core o.request.ask) aim.pp) at_rest) ∙ all_at Uncaught targets target aim j.uncaught aim_is) j.uncaught;
     due = λ status. not_so status;
     all = λ goes p among. ap (λ ps. is_among ps p || is_left_out core o.request.ask p) (pps_set targets target aim stage.Flying aim_is) ∙ whole p among (is_begun targets) refl;
+    place = λ goes p among. ap (λ ps. is_among ps p) (pps_set targets target aim stage.Flying aim_is) ∙ along p among (is_begun targets) refl;
   }
     where
       Uncaught : Target → Type 0
@@ -241,6 +242,10 @@ module _ (s : State) (sound : IsSound s) (on : s.core.power ≡ power.On) (place
       whole : (p : Pp) → is_among (copies_for core o.request.ask) p ≡ true → (b : Bool) → is_begun targets ≡ b → is_among (pps_of targets) p || is_left_out core o.request.ask p ≡ true
       whole p among true is = (request.judged write).all is p among
       whole p among false is = first_start_is_whole s place target o sound on there due write is p among
+
+      along : (p : Pp) → is_among (place_aims core o.request.ask) p ≡ true → (b : Bool) → is_begun targets ≡ b → is_among (pps_of targets) p ≡ true
+      along p among true is = (request.judged write).place is p among
+      along p among false is = goes_along s place target o sound on there due write is p among
 
   one : IsOpenOne now.core begun
   one = record {
@@ -251,7 +256,7 @@ module _ (s : State) (sound : IsSound s) (on : s.core.power ≡ power.On) (place
   }
 
   still : (x : Open) → IsOpenOne core x → IsOpenOne now.core x
-  still x it = open_on core core.history requests core.queue core.copy pool (core.flying ++ row ∷ []) core.cache.entries core.last x (λ e. e) (λ p e. e) it
+  still x it = open_on core core.history requests core.queue core.copy pool (core.flying ++ row ∷ []) core.cache.entries core.last x (λ e. e) (λ p e. e) (λ ask. refl) it
 
   -- ---- the table
 

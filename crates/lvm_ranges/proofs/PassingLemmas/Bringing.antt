@@ -10,8 +10,8 @@ use Rattle.lvm_session.specs.declared.bringing.CopyEnd.TheVariants as ending
 use Rattle.lvm_session.specs.declared.bringing.OpenCopy.{OpenCopy}
 use Rattle.lvm_session.specs.declared.open.Power.TheVariants as power
 use Rattle.lvm_session.specs.Bringing.{is_out}
-use Rattle.lvm_session.specs.Calls.{closed, copy_state, state_at_end, state_of_copy}
-use Rattle.lvm_session.specs.Judging.{is_missing}
+use Rattle.lvm_session.specs.Calls.{closed, copy_state, state_at_end, state_of_copy, is_still_aimed}
+use Rattle.lvm_session.specs.Judging.{is_missing, is_moved}
 use Rattle.lvm_disk.specs.Device.{Device}
 use Rattle.lvm_session.specs.State.{Core, State, state}
 use Rattle.lvm_session.specs.Sound.{IsSound}
@@ -48,19 +48,21 @@ pub runs_under_way : (s : State) → IsSound s → Runs s.core → IsUnderWay s
 runs_under_way s sound runs drained = still_ended s sound drained runs
 
 -- one that has ended otherwise than with the session has ended as a caller expects it
-has_ended : (c : OpenCopy) → (c.end ≡ Some ending.Ended → ⊥) → ((cursor : ℕ) → state_of_copy c ≡ copy.Running cursor → ⊥) → HasEnded (state_of_copy c)
-has_ended c goes still = by (is_out c.step) c.end refl refl
+has_ended : (core : Core) (c : OpenCopy) → (c.end ≡ Some ending.Ended → ⊥) → ((cursor : ℕ) → state_of_copy core c ≡ copy.Running cursor → ⊥) → HasEnded (state_of_copy core c)
+has_ended core c goes still = by (is_out c.step || is_still_aimed core c) (is_moved core c) c.end goes still
   where
-    by : (b : Bool) (m : Option CopyEnd) → is_out c.step ≡ b → c.end ≡ m → HasEnded (state_of_copy c)
-    by true m out is = absurd (still c.cursor (ap (λ b. if b then copy.Running c.cursor else option_map_or (state_at_end c) c.end (copy.Running c.cursor)) out))
-    by false None out is = absurd (still c.cursor (ap (λ b. if b then copy.Running c.cursor else option_map_or (state_at_end c) c.end (copy.Running c.cursor)) out ∙ ap (λ m. option_map_or (state_at_end c) m (copy.Running c.cursor)) is))
-    by false (Some how) out is = subst HasEnded (sym (ap (λ b. if b then copy.Running c.cursor else option_map_or (state_at_end c) c.end (copy.Running c.cursor)) out ∙ ap (λ m. option_map_or (state_at_end c) m (copy.Running c.cursor)) is)) (of how is)
-      where
-        of : (how : CopyEnd) → c.end ≡ Some how → HasEnded (state_at_end c how)
-        of ending.Done e = tt
-        of ending.SyncFailed e = tt
-        of ending.NoFresh e = tt
-        of ending.Ended e = absurd (goes e)
+    of : (how : CopyEnd) → (how ≡ ending.Ended → ⊥) → HasEnded (state_at_end c how)
+    of ending.Done ends = tt
+    of ending.SyncFailed ends = tt
+    of ending.NoFresh ends = tt
+    of ending.Ended ends = absurd (ends refl)
+
+    by : (b d : Bool) (m : Option CopyEnd) → (m ≡ Some ending.Ended → ⊥) → ((cursor : ℕ) → (if b then copy.Running c.cursor else if d then copy.Done else option_map_or (state_at_end c) m (copy.Running c.cursor)) ≡ copy.Running cursor → ⊥)
+        → HasEnded (if b then copy.Running c.cursor else if d then copy.Done else option_map_or (state_at_end c) m (copy.Running c.cursor))
+    by true d m ends runs = absurd (runs c.cursor refl)
+    by false true m ends runs = tt
+    by false false None ends runs = absurd (runs c.cursor refl)
+    by false false (Some how) ends runs = of how (λ e. ends (ap (λ (h : CopyEnd). Some h) e))
 
 -- one that is done has ended so
 done_end : (c : OpenCopy) → state_of_copy c ≡ copy.Done → c.end ≡ Some ending.Done
@@ -113,11 +115,11 @@ module _ (first old : State) (patience left : ℕ) (so_far : BroughtSoFar first 
   abbrev it : OpenCopy
   it = so_far.still.copy
 
-  state_is : copy_state old.core ≡ state_of_copy it
-  state_is = ap (λ m. option_map_or state_of_copy m copy.Closed) so_far.still.is_open
+  state_is : copy_state old.core ≡ state_of_copy old.core it
+  state_is = ap (λ m. option_map_or (state_of_copy old.core) m copy.Closed) so_far.still.is_open
 
   pub ends_as : (Runs old.core → ⊥) → HasEnded (copy_state old.core)
-  ends_as over = subst HasEnded (sym state_is) (has_ended it so_far.still.goes (λ cursor e. over (cursor, state_is ∙ e)))
+  ends_as over = subst HasEnded (sym state_is) (has_ended old.core it so_far.still.goes (λ cursor e. over (cursor, state_is ∙ e)))
 
   fresh : (new : State) → new ≡ state old.device (closed old.core) → copy_state old.core ≡ copy.Done → IfSome first.core.copy (λ (c : OpenCopy). is_marked new.core c.pp ≡ false)
   fresh new is done = subst (λ (m : Option OpenCopy). IfSome m (λ (c : OpenCopy). is_marked new.core c.pp ≡ false)) (sym so_far.its) (ap (is_marked new.core) (sym so_far.still.its.0) ∙ here)
