@@ -4,5 +4,6 @@
 # block must hold its last write that was answered `ok`, or one that was asked for since. The scripts stand in
 # scripts/hostile/cuts. Not part of the gate. First build the program that runs rows:
 # (cd crates/lvm_rows && rt run < /dev/null)
-# usage: scripts/cuts.sh [FIRST LAST [STEP]]        how many calls later the second cut comes: 1 to 80, each; ROWS names another program
+# usage: scripts/cuts.sh [--only SCRIPT] [FIRST LAST [STEP]]        how many calls later the second cut comes: 1 to 80, each;
+# ROWS names another program
 exec python3 "$(dirname "$0")/hostile/cuts.py" "$@"

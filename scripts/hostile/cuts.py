@@ -1,7 +1,8 @@
 #!/usr/bin/env python3
 """Cuts the power at each call of the marked lines of scripts, and again at each of the next calls. `scripts/cuts.sh` runs it.
 
-usage: cuts.py [FIRST LAST [STEP]]      how many calls later the second cut comes: 1 to 80, each, where nothing is said
+usage: cuts.py [--only SCRIPT] [FIRST LAST [STEP]]      how many calls later the second cut comes: 1 to 80, each, where nothing is
+said; and of the scripts this one alone, where one is named
 ROWS names the program that runs rows.
 
 Both words are tried at each call: that of which nothing lands of what is under way, and that of which every other sector does.
@@ -128,10 +129,15 @@ def cut(name, case, first, last, step=1):
 
 
 def main(words):
-    distances = [int(word) for word in words] or [1, 80]
+    only = words[1] if words[:1] == ["--only"] else None
+    distances = [int(word) for word in (words[2:] if only else words)] or [1, 80]
     folder = f"{HERE}/cuts"
+    names = [name for name in sorted(os.listdir(folder)) if only in (None, name.removesuffix(".case"))]
+    if not names:
+        print(f"there is no script {only}", file=sys.stderr)
+        return 2
     try:
-        for name in sorted(os.listdir(folder)):
+        for name in names:
             print(cut(name.removesuffix(".case"), Case(f"{folder}/{name}"), *distances), flush=True)
     except Failed as failed:
         print(f"FAILED: {failed}", file=sys.stderr)

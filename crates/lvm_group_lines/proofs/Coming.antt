@@ -152,7 +152,7 @@ module _ (run : ℕ) (old : ScriptState) (off : old.session ≡ None) (between :
   module _ (core : Core) (new : Device) (promises : Promises run moment old.moment (at new core.history.facts)) (serves : Serves (state new core))
       (entered : List Fact) (facts : core.history.facts ≡ entered ++ On moment ∷ []) (more : Stays old.moment.facts entered)
       (ready : IsReady new) (epoch : core.status.stamp.epoch ≡ moment) (settled : IsSettledCore core) (starts : (kept : List Fact) → ClockIsAheadEach run moment old.moment.device old.moment.facts → ImagesKept old.moment.device kept → StartsHeld new core)
-      (stands : (first : Moment) → Keeps run first (at new core.history.facts) → (past : List Fact) → Begins run past first → StartsHeld new core → StandsAlone new core → StandsAfter past new core) where
+      (stands : (first : Moment) → Keeps run first (at new core.history.facts) → (past : List Fact) → Begins run past first → ClockIsAheadEach run moment old.moment.device old.moment.facts → StartsHeld new core → StandsAlone new core → StandsAfter past new core) where
     later_then : IsAheadEach run (old.last + 1) old.moment.device old.moment.facts → IsLater core.history.facts (moment + 1)
     later_then ahead = subst (λ (l : List Fact). IsLater l (moment + 1)) (sym facts)
         (later_joins (moment + 1) entered (On moment ∷ []) (more.later (moment + 1) (next ahead).later) (omega arith, tt))
@@ -167,7 +167,7 @@ module _ (run : ℕ) (old : ScriptState) (off : old.session ≡ None) (between :
     pub left_on : GoesOn run Aside reply.Ok old (record { moment = at new core.history.facts; session = Some core; posts = old.posts; last = moment })
     left_on = record {
       keeps = λ timely alone first span before. let keeps = spans_follow run first old.moment (at new core.history.facts) span ordered landed (promises.keeps (clock timely.ahead)) in
-          (keeps, λ goes past begins. stands first keeps past begins (starts (past ++ old.moment.facts) (clock timely.ahead) (let upholds : Upholds run first old.moment = last-path span in (upholds past begins).kept)));
+          (keeps, λ goes past begins. stands first keeps past begins (clock timely.ahead) (starts (past ++ old.moment.facts) (clock timely.ahead) (let upholds : Upholds run first old.moment = last-path span in (upholds past begins).kept)));
       timely = λ goes timely. record {
         ahead = record { run_is = (next timely.ahead).run_is; later = later_then timely.ahead; behind = still_is_behind_each (moment + 1) new ready.flights (promises.behind (clock timely.ahead)) };
         session = omega (arith, epoch);
@@ -206,7 +206,7 @@ pub record Outcome {S : Type 0} (device : S → Device) (shelf : S) (log : Log) 
   pub came : IfOk outcome (λ driver. CameOn moment (device shelf) (device driver.0) log driver.1)
   pub serves : IfOk outcome (λ driver. Serves (state_of device driver))
   pub stands : IfOk outcome (λ driver. (first : Moment) → Keeps log.run first (at (device driver.0) driver.1.history.facts) → (past : List Fact) → Begins log.run past first
-      → StartsHeld (device driver.0) driver.1 → StandsAlone (device driver.0) driver.1 → StandsAfter past (device driver.0) driver.1)
+      → ClockIsAheadEach log.run moment (device shelf) log.facts → StartsHeld (device driver.0) driver.1 → StandsAlone (device driver.0) driver.1 → StandsAfter past (device driver.0) driver.1)
   pub stayed : IfErr outcome (λ refused. StayedOff refused.cause (device shelf) (device refused.shelf) log refused.history)
   pub left : Left device outcome by answer
 

@@ -41,7 +41,7 @@ IsRequesting OfGroup = ⊥
 IsRequesting OfRequests = Unit {0}
 
 -- Whatever any disks find is of one group where a volume's making or removal is entered meanwhile; so too where a session is acted on whose group has volumes
--- and which has no open request, and none of these is in mode passive then.
+-- and which has no open request.
 pub record IsAlone (role : Role) (old new : ScriptState) : Type 0 where
   pub enters : EntersVolumes old.moment.facts new.moment.facts → IsOneFoundOn old.moment.device
   pub acts : IsActing role → IfSome old.session (StandsAlone old.moment.device)

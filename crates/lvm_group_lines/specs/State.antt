@@ -15,7 +15,6 @@ use Rattle.lvm_quiesce.specs.passed.Names.{HaveAllLanded, IsSettled as IsSettled
 use Rattle.lvm_quiesce.specs.Behind.{IsAheadEach}
 use Rattle.lvm_tie_commands.specs.passed.Handover.{AreGone}
 use Rattle.lvm_tie_commands.specs.Standing.{StandsAfter}
-use Rattle.lvm_tie_commands.specs.passed.Recover.{HasNoPassive}
 
 -- The shelf and what the history has so far, the session of the group that is on, if one is, the posts whose answers aren't taken, and the clock's last moment.
 pub record ScriptState : Type 0 where
@@ -78,9 +77,9 @@ pub record IsTimely (run : ℕ) (s : ScriptState) : Type 0 where
 
 -- ---- what stands on the disks
 
--- Where its group has a volume and no request is open, whatever any disks find is of one group, and none of its volumes is in mode passive.
+-- Where its group has a volume and no request is open, whatever any disks find is of one group.
 abbrev pub StandsAlone : Device → Core → Type 0
-StandsAlone device core = core.requests ≡ [] → core.descriptor.lvs ≢ [] → IsOneFoundOn device × HasNoPassive core.descriptor
+StandsAlone device core = core.requests ≡ [] → core.descriptor.lvs ≢ [] → IsOneFoundOn device
 
 -- After each earlier history with which the run may have begun, the disks stand by the session, where its group stands alone.
 abbrev pub StandsBy : ℕ → Moment → ScriptState → Type 0

@@ -6,7 +6,7 @@ pub mod Names
 pub mod Quiesce
 pub mod QuiescedVariants
 pub mod Ranges
-pub mod Recover
+pub mod Splitting
 pub mod Tie
 pub mod TieCommands
 pub mod Varyon

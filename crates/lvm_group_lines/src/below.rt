@@ -6,6 +6,7 @@ pub mod handover;
 pub mod mirrors;
 pub mod quiesce;
 pub mod ranges;
+pub mod split;
 pub mod volumes;
 
 pub use lvm_core::{Driver, number_of};

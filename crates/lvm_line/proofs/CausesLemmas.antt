@@ -4,3 +4,7 @@ pub mod Faulting
 pub mod Causing
 pub mod Requesting
 pub mod Sources
+pub mod Landing
+pub mod Ending
+pub mod Telling
+pub mod Posting

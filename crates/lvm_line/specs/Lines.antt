@@ -9,12 +9,14 @@ use Rattle.lvm_parse.specs.declared.command.Command.TheVariants as command
 use Rattle.lvm_parse.specs.declared.rest.Misfit.{Misfit}
 use Rattle.lvm_parse.specs.Grammar.{line_of}
 use Rattle.lvm_core.specs.declared.parts.Room.{Room}
-use Rattle.lvm_volume_lines.specs.passed.GroupLines.{ReadDoes, WriteDoes, ArrangeDoes, CutDoes, Aside, CommandEnds, GoesOn, IsBetween, IsFittingStage, IsLeftBy, IsRefused, IsStuck, OfGroup, OfRequests, Reply, Role, ScriptState, Stage, history_in, state_in, without_facts, MkvgDoes, VaryonDoes, VaryoffDoes, GroupShows, VolumeShows, DiskShows}
+use Rattle.lvm_volume_lines.specs.passed.GroupLines.{ReadDoes, WriteDoes, ArrangeDoes, CutDoes, Aside, CommandEnds, GoesOn, IsBetween, IsFittingStage, IsLeftBy, IsRefused, IsStuck, OfGroup, OfRequests, Reply, Role, ScriptState, Stage, history_in, state_in, without_facts, MkvgDoes, VaryonDoes, GroupShows, VolumeShows, DiskShows}
 use Rattle.lvm_line.specs.declared.line.InPlace.{InPlace}
 use Rattle.lvm_line.specs.declared.line.InPlace.TheVariants as in_place
 use Rattle.lvm_volume_lines.specs.passed.RangeLines.{RdDoes, WrDoes, PostDoes, StepDoes}
 use Rattle.lvm_volume_lines.specs.passed.RangeLinesWaiting.{WaitDoes}
+use Rattle.lvm_volume_lines.specs.Closing.{VaryoffDoes}
 use Rattle.lvm_volume_lines.specs.Copies.{MklvcopyDoes, RmlvcopyDoes}
+use Rattle.lvm_volume_lines.specs.Splitting.{SplitlvcopyDoes}
 use Rattle.lvm_volume_lines.specs.Resyncing.{SyncGroupDoes, SyncVolumeDoes}
 use Rattle.lvm_volume_lines.specs.Volumes.{MklvDoes, RmlvDoes, wanted}
 use Rattle.lvm_volume_lines.specs.passed.RefusalVariants as refusal
@@ -34,6 +36,7 @@ CommandDoes log room (command.Mklv name copies mode policy group lps) old new an
 CommandDoes log room (command.Rmlv name) old new answer = RmlvDoes name old new answer
 CommandDoes log room (command.Mklvcopy name copies) old new answer = MklvcopyDoes name copies old new answer
 CommandDoes log room (command.Rmlvcopy name copies) old new answer = RmlvcopyDoes name copies old new answer
+CommandDoes log room (command.Splitlvcopy made name copies) old new answer = SplitlvcopyDoes made name copies old new answer
 CommandDoes log room (command.Rd name at count) old new answer = RdDoes name at count old new answer
 CommandDoes log room (command.Wr name at count word) old new answer = WrDoes name at count word old new answer
 CommandDoes log room (command.Post name at count word) old new answer = PostDoes name at count word old new answer
@@ -57,10 +60,12 @@ LineDoes log room (Err misfit) old new answer = IsRefused (refusal.BadLine misfi
 
 -- how a line acts on the session that is on
 abbrev pub role_of : Result (Option Command) Misfit → Role
+role_of (Ok (Some (command.Varyoff name))) = OfGroup
 role_of (Ok (Some (command.Mklv name copies mode policy group lps))) = OfGroup
 role_of (Ok (Some (command.Rmlv name))) = OfGroup
 role_of (Ok (Some (command.Mklvcopy name copies))) = OfGroup
 role_of (Ok (Some (command.Rmlvcopy name copies))) = OfGroup
+role_of (Ok (Some (command.Splitlvcopy made name copies))) = OfGroup
 role_of (Ok (Some (command.Rd name at count))) = OfRequests
 role_of (Ok (Some (command.Wr name at count word))) = OfRequests
 role_of (Ok (Some (command.Post name at count word))) = OfRequests

@@ -7,10 +7,10 @@ pub mod QuiescedVariants
 pub mod RangeLines
 pub mod RangeLinesWaiting
 pub mod Ranges
-pub mod Recover
 pub mod RefusalVariants
 pub mod ReplyVariants
 pub mod Resync
+pub mod Splitting
 pub mod Tie
 pub mod TieCommands
 pub mod Varyon

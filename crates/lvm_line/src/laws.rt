@@ -1,10 +1,21 @@
 //! Laws of lines. Each call does nothing: its contract is the law.
 ghost use Rattle.lvm_line.specs.Causes.{CauseLaw, VaryonLaw, NoQuorumLaw};
 ghost use Rattle.lvm_line.specs.Complete.{CompleteLaw, NothingMayFail, NothingMayFailAnswered, RuleLaw};
+ghost use Rattle.lvm_line.specs.Told.{NothingMayHappen, ToldLaw, ToldWellLaw};
 
 /// A line is refused for what its shelf or the clock did only where that has happened.
 pub fn refusals_have_causes()
     ensures { CauseLaw }
+{}
+
+/// A post is answered otherwise than well only where a transfer has failed since its session began, where the power was cut, or
+/// for want of a copy; so it ends, where its session is over before its answer is taken.
+pub fn posts_end_for_causes()
+    ensures told { ToldLaw }
+    // Where neither has happened each is done, or had no copy to go to.
+    ensures well { ToldWellLaw }
+    // There is such a line.
+    ensures met { NothingMayHappen }
 {}
 
 /// A line in which no transfer failed, the power wasn't cut and the shelf didn't wait a million times is refused, if it is, by a

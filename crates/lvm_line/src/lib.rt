@@ -5,5 +5,5 @@ pub mod below;
 mod laws;
 mod line;
 
-pub use laws::{lines_are_complete, refusals_have_causes, varyons_restate};
+pub use laws::{lines_are_complete, posts_end_for_causes, refusals_have_causes, varyons_restate};
 pub use line::{InPlace, answer_line, do_line, finish_line};

@@ -13,11 +13,14 @@ use lvm_io::Clock;
 use lvm_parse::{Command, ParseFault, parse};
 use lvm_volume_lines::below::disk_lines::{do_arrange, do_cut, do_read, do_write};
 use lvm_volume_lines::below::group_lines::{
-    do_mkvg, do_varyoff, do_varyon, list_disk, list_group, list_volume,
+    do_mkvg, do_varyon, list_disk, list_group, list_volume,
 };
 use lvm_volume_lines::below::range_lines::{do_post, do_rd, do_step, do_wait, do_wr};
 use lvm_volume_lines::below::stage::{Answered, Refusal, Reply, Stage};
-use lvm_volume_lines::{do_mklv, do_mklvcopy, do_rmlv, do_rmlvcopy, do_sync_group, do_sync_volume};
+use lvm_volume_lines::{
+    do_mklv, do_mklvcopy, do_rmlv, do_rmlvcopy, do_splitlvcopy, do_sync_group, do_sync_volume,
+    do_varyoff,
+};
 use std::alloc::Global;
 
 // Does what a command asks for.
@@ -67,6 +70,9 @@ fn do_command<S: Shelf, C: Clock>(
         Command::Rmlv { name } => do_rmlv(alloc, stage, name),
         Command::Mklvcopy { name, copies } => do_mklvcopy(alloc, stage, name, copies),
         Command::Rmlvcopy { name, copies } => do_rmlvcopy(alloc, stage, name, copies),
+        Command::Splitlvcopy { new, name, copies } => {
+            do_splitlvcopy(alloc, stage, new, name, copies)
+        }
         Command::SyncVolume { name } => do_sync_volume(stage, name),
         Command::SyncGroup { name } => do_sync_group(stage, name),
         Command::Lslv { name } => {

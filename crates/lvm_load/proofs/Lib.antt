@@ -3,6 +3,7 @@ pub mod Counting
 pub mod FactsLemmas
 pub mod WeavingLemmas
 pub mod LeavingLemmas
+pub mod LandingLemmas
 pub mod BringingLemmas
 pub mod LendingLemmas
 pub mod LoadingLemmas

@@ -1,5 +1,6 @@
 pub mod Bringing
 pub mod Ends
+pub mod Landing
 pub mod Leaving
 pub mod Lending
 pub mod Loading

@@ -12,7 +12,7 @@ mod totals;
 mod workload;
 
 pub use client::Client;
-pub use laws::workloads_leave_open;
+pub use laws::{requests_land_well, workloads_leave_open};
 pub use load::{Load, Loaded, share_session};
 pub use lvm_workers::{Draw, Tally, draw_request, generator, next_word};
 pub use script::{ScriptFault, write_script};

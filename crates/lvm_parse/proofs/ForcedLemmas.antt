@@ -15,7 +15,7 @@ use Rattle.lvm_parse.proofs.OptionsReadingLemmas.{mapped}
 use Rattle.lvm_num.specs.Among.{IsOneOf}
 use Rattle.lvm_parse.specs.declared.command.Command.{Command}
 use Rattle.lvm_parse.specs.declared.command.Command.TheVariants as command
-use Rattle.lvm_parse.specs.Grammar.{Row, rows, rule, rd_disk, rd_volume, rd, wr_disk, wr_volume, wr, post, wait, step, lspv, fail, heal, cut, cut_of, mkvg, varyonvg, varyoffvg, lsvg, mklv, rmlv, mklvcopy, rmlvcopy, sync_group, syncvg, lslv, line_of_words, readable, line_of}
+use Rattle.lvm_parse.specs.Grammar.{Row, rows, rule, rd_disk, rd_volume, rd, wr_disk, wr_volume, wr, post, wait, step, lspv, fail, heal, cut, cut_of, mkvg, varyonvg, varyoffvg, lsvg, mklv, rmlv, mklvcopy, rmlvcopy, split_of, splitlvcopy, sync_group, syncvg, lslv, line_of_words, readable, line_of}
 use Rattle.lvm_parse.specs.Forced.{SpellsForce}
 
 -- ---- the words
@@ -155,6 +155,14 @@ rmlvcopy_forces : (l : Left) → Forces l.words (rmlvcopy l)
 unfolding Forces
 rmlvcopy_forces l = then_forces l.words (operand name_in l) _ (λ name n. then_forces l.words (last copy_count_in name.1) _ (λ copies c. tt))
 
+split_of_forces : (words : List WordAt) (l : Left) → Forces words (split_of l)
+unfolding Forces
+split_of_forces words l = then_forces words (operand name_in l) _ (λ new n. then_forces words (operand name_in new.1) _ (λ name n. then_forces words (last copy_count_in name.1) _ (λ copies c. tt)))
+
+splitlvcopy_forces : (l : Left) → Forces l.words (splitlvcopy l)
+unfolding Forces
+splitlvcopy_forces l = if_forces l.words (option (codes "-y") l).0 _ _ (split_of_forces l.words (option (codes "-y") l).1) tt
+
 cut_forces : (l : Left) → Forces l.words (cut l)
 unfolding Forces
 cut_forces l = go l.words
@@ -213,7 +221,7 @@ RowsForce [] = Unit {0}
 RowsForce (r ∷ rs) = ((l : Left) → Forces l.words (r.reads l)) × RowsForce rs
 
 rows_force : RowsForce rows
-rows_force = (mkvg_forces, (varyonvg_forces, (varyoffvg_forces, (lsvg_forces, (mklv_forces, (rmlv_forces, (mklvcopy_forces, (rmlvcopy_forces, (syncvg_forces, (lslv_forces, (rd_forces, (wr_forces, (post_forces, (wait_forces, (step_forces, (lspv_forces, (fail_forces, (heal_forces, (cut_forces, tt)))))))))))))))))))
+rows_force = (mkvg_forces, (varyonvg_forces, (varyoffvg_forces, (lsvg_forces, (mklv_forces, (rmlv_forces, (mklvcopy_forces, (rmlvcopy_forces, (splitlvcopy_forces, (syncvg_forces, (lslv_forces, (rd_forces, (wr_forces, (post_forces, (wait_forces, (step_forces, (lspv_forces, (fail_forces, (heal_forces, (cut_forces, tt))))))))))))))))))))
 
 rule_forces : (rs : List Row) (word : List ℕ) (column : ℕ) (l : Left) → RowsForce rs → Forces l.words (rule rs word column l)
 unfolding Forces

@@ -15,7 +15,7 @@ use Rattle.lvm_parse.specs.Words.{number_in, count_in, partition_count_in, turns
 use Rattle.lvm_parse.specs.declared.range.BlockRange.{BlockRange}
 use Rattle.lvm_parse.specs.Reading.{misfit, then_, or_misfit, column_of, next_column, operand_of, operand, option_of, option, ends_of, ends, last, is_next, blocks, last_blocks, Choice, NoOption, Alone, Valued, options_of, options, required, further_disk, one_or_more, disks_of, disks}
 use Rattle.lvm_parse.specs.Options.{mkvg_choice, no_mkvg_options, mklv_choice, no_mklv_options}
-use Rattle.lvm_parse.specs.Grammar.{rd_disk, rd_volume, rd, wr_disk, wr_volume, wr, post, wait, step, fail, heal, lspv, cut_of, cut, mkvg, varyonvg, varyoffvg, lsvg, mklv, rmlv, mklvcopy, rmlvcopy, sync_group, syncvg, lslv, Row, rows, rule, line_of_words, readable, line_of}
+use Rattle.lvm_parse.specs.Grammar.{rd_disk, rd_volume, rd, wr_disk, wr_volume, wr, post, wait, step, fail, heal, lspv, cut_of, cut, mkvg, varyonvg, varyoffvg, lsvg, mklv, rmlv, mklvcopy, rmlvcopy, split_of, splitlvcopy, sync_group, syncvg, lslv, Row, rows, rule, line_of_words, readable, line_of}
 
 -- a column from 1 to this one
 abbrev pub IsIn : ℕ → ℕ → Type 0
@@ -225,6 +225,16 @@ mklvcopy_in high l b = operand_then high name_in l b _ (λ name b. last_then hig
 rmlvcopy_in : (high : ℕ) (l : Left) → LeftIn high l → In high (rmlvcopy l)
 rmlvcopy_in high l b = operand_then high name_in l b _ (λ name b. last_then high copy_count_in name.1 b (command.Rmlvcopy name.0))
 
+split_of_in : (high : ℕ) (l : Left) → LeftIn high l → In high (split_of l)
+split_of_in high l b = operand_then high name_in l b _ (λ new b. operand_then high name_in new.1 b _ (λ name b. last_then high copy_count_in name.1 b (command.Splitlvcopy new.0 name.0)))
+
+splitlvcopy_in : (high : ℕ) (l : Left) → LeftIn high l → In high (splitlvcopy l)
+splitlvcopy_in high l b = at (option (codes "-y") l) (option_is_in high (codes "-y") l b)
+  where
+    at : (named : Bool × Left) → LeftIn high named.1 → In high (cond named.0 (split_of named.1) (misfit (next_column named.1)))
+    at (true, k) b = split_of_in high k b
+    at (false, k) b = next_is_in high k.words k.end b.0 b.1
+
 lspv_in : (high : ℕ) (l : Left) → LeftIn high l → In high (lspv l)
 lspv_in high l b = last_then high disk_in l b command.Lspv
 
@@ -283,7 +293,7 @@ RowsAreIn [] = ⊤
 RowsAreIn (r ∷ rs) = ((high : ℕ) (l : Left) → LeftIn high l → In high (r.reads l)) × RowsAreIn rs
 
 rows_in : RowsAreIn rows
-rows_in = (mkvg_in, (varyonvg_in, (varyoffvg_in, (lsvg_in, (mklv_in, (rmlv_in, (mklvcopy_in, (rmlvcopy_in, (syncvg_in, (lslv_in, (rd_in, (wr_in, (post_in, (wait_in, (step_in, (lspv_in, (fail_in, (heal_in, (cut_in, tt)))))))))))))))))))
+rows_in = (mkvg_in, (varyonvg_in, (varyoffvg_in, (lsvg_in, (mklv_in, (rmlv_in, (mklvcopy_in, (rmlvcopy_in, (splitlvcopy_in, (syncvg_in, (lslv_in, (rd_in, (wr_in, (post_in, (wait_in, (step_in, (lspv_in, (fail_in, (heal_in, (cut_in, tt))))))))))))))))))))
 
 rule_in : (high : ℕ) (rs : List Row) (word : List ℕ) (column : ℕ) (l : Left) → RowsAreIn rs → IsIn high column → LeftIn high l → In high (rule rs word column l)
 rule_in high [] word column l each own b = own

@@ -1,27 +1,24 @@
 -- What the grammar says of the numbers and the disks of a command.
 use Rattle.std.proofs.Common.{◌≡◌, ◌≢◌, ◌≤◌, ◌<◌, zero, suc, ◌∷◌, ◌++◌, [], ℕ, List, Bool, true, false, not, ◌&&◌, length, Option, Some, None, Result, Ok, Err, is_some, if◌then◌else◌, get_or, refl, sym, ◌∙◌, ap, subst, arith, eq-eqb}
-use Rattle.std.specs.Prelude.{◌==◌, nat_le, nat_lt, AllPairs, IsTrue, codes, bytes_eq, unwrap_or}
+use Rattle.std.specs.Prelude.{◌==◌, nat_le, nat_lt, AllPairs, IsTrue, codes, bytes_eq}
 use Rattle.std.specs.Option.{ForSome, option_map}
 use Rattle.std.specs.List.{list_any}
 use Rattle.std.proofs.lemmas.Bool.{leb-true, and_parts, or_parts, not-true}
 use Rattle.std.proofs.lemmas.List.Quantifiers.{all_pairs_push}
 use Rattle.lvm_num.specs.Descriptor.{is_size}
 use Rattle.lvm_num.specs.Name.{is_name}
-use Rattle.lvm_num.specs.declared.descriptor.Mode.{Mode}
-use Rattle.lvm_num.specs.declared.descriptor.Mode.TheVariants.{Active, Off, Passive}
-use Rattle.lvm_parse.specs.Words.{only, number_in, number_within, count_in, size_in, name_in, disk_in, word_in, mode_in, partition_count_in, turns_in, copy_count_in, policy_in}
+use Rattle.lvm_parse.specs.Words.{only, number_in, number_within, count_in, size_in, name_in, disk_in, word_in, partition_count_in, turns_in, copy_count_in}
 use Rattle.lvm_parse.specs.declared.range.BlockRange.{BlockRange}
 use Rattle.lvm_parse.specs.declared.rest.Misfit.{Misfit}
 use Rattle.lvm_parse.specs.Bytes.{is_remark, unreadable_at}
 use Rattle.lvm_parse.specs.Line.{WordAt, Left, left_at}
 use Rattle.lvm_parse.specs.Reading.{then_, or_misfit, operand_of, operand, option, ends_of, ends, last, is_next, blocks, last_blocks, is_new, options, required, is_further, further_disk, disks_of, disks, next_column}
 use Rattle.lvm_parse.specs.declared.chosen.MkvgOptions.{MkvgOptions}
-use Rattle.lvm_parse.specs.declared.chosen.MklvOptions.{MklvOptions}
 use Rattle.lvm_parse.specs.Options.{mkvg_choice, no_mkvg_options, mklv_choice, no_mklv_options}
 use Rattle.lvm_parse.proofs.OptionsReadingLemmas.{mapped, Keeping, keeping_if, options_keep}
 use Rattle.lvm_parse.specs.declared.command.Command.{Command}
 use Rattle.lvm_parse.specs.declared.command.Command.TheVariants as command
-use Rattle.lvm_parse.specs.Grammar.{Row, rows, rule, rd_disk, rd_volume, rd, wr_disk, wr_volume, wr, post, wait, step, lspv, fail, heal, cut, cut_of, mkvg, varyonvg, varyoffvg, lsvg, mklv, rmlv, mklvcopy, rmlvcopy, sync_group, syncvg, lslv, line_of_words, readable, line_of}
+use Rattle.lvm_parse.specs.Grammar.{Row, rows, rule, rd_disk, rd_volume, rd, wr_disk, wr_volume, wr, post, wait, step, lspv, fail, heal, cut, cut_of, mkvg, varyonvg, varyoffvg, lsvg, mklv, rmlv, mklvcopy, rmlvcopy, split_of, splitlvcopy, sync_group, syncvg, lslv, line_of_words, readable, line_of}
 use Rattle.lvm_parse.specs.Within.{IsWithin}
 
 -- ---- what is read
@@ -155,33 +152,6 @@ choice_is_fit o word fit =
     (keeping_if IsFit (is_new word (codes "-y") (is_some o.name)) _ _ (with_name o fit)
     (keeping_if IsFit (is_new word (codes "-s") (is_some o.mib)) _ _ (with_size o fit) tt))
 
--- ---- the options of `mklv`
-
-IsBuilt : MklvOptions → Type 0
-IsBuilt o = ForSome o.mode (λ given. given ≡ Passive → ⊥)
-
-with_other : {X : Type 0} (f : X → MklvOptions) (meaning : List ℕ → Option X) → ((x : X) → IsBuilt (f x)) → (word : List ℕ) (after : MklvOptions) → option_map f (meaning word) ≡ Some after → IsBuilt after
-with_other f meaning built word after is = mapped IsBuilt f (meaning word) after (λ x found. built x) is
-
-with_mode : (o : MklvOptions) (word : List ℕ) (after : MklvOptions) → option_map (λ mode. record o { mode = Some mode }) (mode_in word) ≡ Some after → IsBuilt after
-unfolding IsBuilt
-with_mode o word after is = mapped IsBuilt (λ mode. record o { mode = Some mode }) (mode_in word) after
-    (λ mode found given its passive. (let h : mode ≡ given = cc (its) in not_passive (bytes_eq word (codes "n")) (bytes_eq word (codes "y")) (bytes_eq word (codes "a")) mode found (h ∙ passive))) is
-  where
-    not_passive : (n y a : Bool) (mode : Mode) → (if n then Some Off else (if y then Some Active else (if a then Some Active else None))) ≡ Some mode → mode ≡ Passive → ⊥
-    not_passive true y a mode same passive = cc (same, passive)
-    not_passive false true a mode same passive = cc (same, passive)
-    not_passive false false true mode same passive = cc (same, passive)
-    not_passive false false false mode same passive = cc (same)
-
-choice_is_built : (o : MklvOptions) (word : List ℕ) → IsBuilt o → Keeping IsBuilt (mklv_choice o word)
-unfolding IsBuilt
-choice_is_built o word built =
-    keeping_if IsBuilt (is_new word (codes "-y") (is_some o.name)) _ _ (with_other (λ name. record o { name = Some name }) name_in (λ name. built))
-    (keeping_if IsBuilt (is_new word (codes "-c") (is_some o.copies)) _ _ (with_other (λ copies. record o { copies = Some copies }) copy_count_in (λ copies. built))
-    (keeping_if IsBuilt (is_new word (codes "-w") (is_some o.mode)) _ _ (with_mode o)
-    (keeping_if IsBuilt (is_new word (codes "-d") (is_some o.policy)) _ _ (with_other (λ policy. record o { policy = Some policy }) policy_in (λ policy. built)) tt)))
-
 -- ---- disks
 
 none_of : (p : ℕ → Bool) (xs : List ℕ) → list_any p xs ≡ false → (k d : ℕ) → k < length xs → p (get_or xs k d) ≡ false
@@ -255,6 +225,14 @@ fits_rmlvcopy : (l : Left) → Fits (rmlvcopy l)
 unfolding Fits
 fits_rmlvcopy l = fits_then (operand name_in l) _ (λ name n. fits_then (last copy_count_in name.1) _ (λ copies c. few_copies name.1 copies c))
 
+fits_split_of : (l : Left) → Fits (split_of l)
+unfolding Fits
+fits_split_of l = fits_then (operand name_in l) _ (λ new n. fits_then (operand name_in new.1) _ (λ name n. fits_then (last copy_count_in name.1) _ (λ copies c. few_copies name.1 copies c)))
+
+fits_splitlvcopy : (l : Left) → Fits (splitlvcopy l)
+unfolding Fits
+fits_splitlvcopy l = fits_if (option (codes "-y") l).0 _ _ (fits_split_of (option (codes "-y") l).1) tt
+
 fits_cut : (l : Left) → Fits (cut l)
 unfolding Fits
 fits_cut l = go l.words
@@ -276,13 +254,9 @@ unfolding Fits
 fits_lslv l = fits_if (option (codes "-m") l).0 _ _ (fits_then (last name_in (option (codes "-m") l).1) (λ name. Ok (command.Lslv name)) (λ name is. tt)) tt
 
 fits_mklv : (l : Left) → Fits (mklv l)
-unfolding Fits IsBuilt options
+unfolding Fits
 fits_mklv l = fits_then (options mklv_choice no_mklv_options l) _ (λ o options_are. fits_then (required o.0.name o.1) _ (λ name named.
-    fits_then (operand name_in o.1) _ (λ group in_group. fits_then (last partition_count_in group.1) _ (λ lps partitions_are. (some_partitions group.1 lps partitions_are, in_mode o options_are o.0.mode refl)))))
-  where
-    in_mode : (o : MklvOptions × Left) → options mklv_choice no_mklv_options l ≡ Ok o → (given : Option Mode) → o.0.mode ≡ given → unwrap_or given Active ≡ Passive → ⊥
-    in_mode o options_are None is passive = cc (passive)
-    in_mode o options_are (Some mode) is passive = options_keep IsBuilt mklv_choice choice_is_built no_mklv_options l.words l.end o (λ given its. absurd (cc (its))) options_are mode is passive
+    fits_then (operand name_in o.1) _ (λ group in_group. fits_then (last partition_count_in group.1) _ (λ lps partitions_are. some_partitions group.1 lps partitions_are))))
 
 fits_varyonvg : (l : Left) → Fits (varyonvg l)
 unfolding Fits
@@ -318,7 +292,7 @@ RowsFit [] = Unit {0}
 RowsFit (r ∷ rs) = ((l : Left) → Fits (r.reads l)) × RowsFit rs
 
 rows_fit : RowsFit rows
-rows_fit = (fits_mkvg, (fits_varyonvg, (fits_varyoffvg, (fits_lsvg, (fits_mklv, (fits_rmlv, (fits_mklvcopy, (fits_rmlvcopy, (fits_syncvg, (fits_lslv, (fits_rd, (fits_wr, (fits_post, (fits_wait, (fits_step, (fits_lspv, (fits_fail, (fits_heal, (fits_cut, tt)))))))))))))))))))
+rows_fit = (fits_mkvg, (fits_varyonvg, (fits_varyoffvg, (fits_lsvg, (fits_mklv, (fits_rmlv, (fits_mklvcopy, (fits_rmlvcopy, (fits_splitlvcopy, (fits_syncvg, (fits_lslv, (fits_rd, (fits_wr, (fits_post, (fits_wait, (fits_step, (fits_lspv, (fits_fail, (fits_heal, (fits_cut, tt))))))))))))))))))))
 
 fits_rule : (rs : List Row) (word : List ℕ) (column : ℕ) (l : Left) → RowsFit rs → Fits (rule rs word column l)
 unfolding Fits

@@ -116,6 +116,14 @@ mklvcopy l = then_ (operand name_in l) (λ name. then_ (last copy_count_in name.
 abbrev pub rmlvcopy : Left → Result Command Misfit
 rmlvcopy l = then_ (operand name_in l) (λ name. then_ (last copy_count_in name.1) (λ copies. Ok (command.Rmlvcopy name.0 copies)))
 
+-- what follows the option of `splitlvcopy`: the name of the volume that is made, the volume that is split, and the copies that it keeps
+abbrev pub split_of : Left → Result Command Misfit
+split_of l = then_ (operand name_in l) (λ new. then_ (operand name_in new.1) (λ name. then_ (last copy_count_in name.1) (λ copies. Ok (command.Splitlvcopy new.0 name.0 copies))))
+
+-- `splitlvcopy -y NEW NAME N`
+abbrev pub splitlvcopy : Left → Result Command Misfit
+splitlvcopy l = let named = option (codes "-y") l in if named.0 then split_of named.1 else misfit (next_column named.1)
+
 -- `syncvg -v NAME`
 abbrev pub sync_group : Left → Result Command Misfit
 sync_group l = let group = option (codes "-v") l in if group.0 then then_ (last name_in group.1) (λ name. Ok (command.SyncGroup name)) else misfit (next_column group.1)
@@ -145,7 +153,7 @@ abbrev pub rows_of_requests : List Row
 rows_of_requests = row (codes "rd") rd ∷ row (codes "wr") wr ∷ row (codes "post") post ∷ row (codes "wait") wait ∷ row (codes "step") step ∷ rows_of_disks
 
 abbrev pub rows_of_volumes : List Row
-rows_of_volumes = row (codes "mklv") mklv ∷ row (codes "rmlv") rmlv ∷ row (codes "mklvcopy") mklvcopy ∷ row (codes "rmlvcopy") rmlvcopy ∷ row (codes "syncvg") syncvg ∷ row (codes "lslv") lslv ∷ rows_of_requests
+rows_of_volumes = row (codes "mklv") mklv ∷ row (codes "rmlv") rmlv ∷ row (codes "mklvcopy") mklvcopy ∷ row (codes "rmlvcopy") rmlvcopy ∷ row (codes "splitlvcopy") splitlvcopy ∷ row (codes "syncvg") syncvg ∷ row (codes "lslv") lslv ∷ rows_of_requests
 
 abbrev pub rows_of_groups : List Row
 rows_of_groups = row (codes "varyonvg") varyonvg ∷ row (codes "varyoffvg") varyoffvg ∷ row (codes "lsvg") lsvg ∷ rows_of_volumes

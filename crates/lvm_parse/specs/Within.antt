@@ -3,7 +3,6 @@ use Rattle.std.specs.Prelude.{◌≡◌, ◌≢◌, ℕ, ◌+◌, ◌≤◌, Lis
 use Rattle.std.specs.Option.{ForSome}
 use Rattle.lvm_num.specs.Descriptor.{is_size}
 use Rattle.lvm_num.specs.Name.{is_name}
-use Rattle.lvm_num.specs.declared.descriptor.Mode.TheVariants.{Passive}
 use Rattle.lvm_parse.specs.Reading.{misfit}
 use Rattle.lvm_parse.specs.declared.command.Command.{Command}
 use Rattle.lvm_parse.specs.declared.command.Command.TheVariants as command
@@ -12,7 +11,7 @@ use Rattle.lvm_parse.specs.Grammar.{line_of}
 -- the numbers and the disks of a command
 abbrev pub IsWithin : Command → Type 0
 IsWithin (command.Mkvg force name mib disks) = (1 ≤ length disks) × AllPairs (λ a b. a ≢ b) disks × ForSome mib (λ given. IsTrue (is_size given)) × IsTrue (is_name name)
-IsWithin (command.Mklv name copies mode policy group lps) = (1 ≤ lps) × (mode ≡ Passive → ⊥)
+IsWithin (command.Mklv name copies mode policy group lps) = 1 ≤ lps
 IsWithin (command.RawRd disk at count) = (1 ≤ count) × (count ≤ 4096)
 IsWithin (command.RawWr disk at count word) = (1 ≤ count) × (count ≤ 4096)
 IsWithin (command.Rd name at count) = (1 ≤ count) × (count ≤ 4096)
@@ -21,6 +20,7 @@ IsWithin (command.Post name at count word) = (1 ≤ count) × (count ≤ 4096)
 IsWithin (command.Step turns) = (1 ≤ turns) × (turns ≤ 1000000)
 IsWithin (command.Mklvcopy name copies) = copies ≤ 9
 IsWithin (command.Rmlvcopy name copies) = copies ≤ 9
+IsWithin (command.Splitlvcopy new name copies) = copies ≤ 9
 IsWithin other = Unit {0}
 
 -- at one of its columns, counted from 1, or behind its last byte

@@ -31,7 +31,7 @@ pub enum Command {
         volumes: bool,
         name: Name,
     },
-    /// `mklv -y NAME [-c N] [-w n, y or a] [-d p, s, ps or pr] NAME LPS`: make a logical volume in the group.
+    /// `mklv -y NAME [-c N] [-w n, y, a or p] [-d p, s, ps or pr] NAME LPS`: make a logical volume in the group.
     Mklv {
         name: Name,
         /// 0 to 9; 1 where it isn't given.
@@ -55,6 +55,15 @@ pub enum Command {
     },
     /// `rmlvcopy NAME N`: leave each so many of those it has.
     Rmlvcopy {
+        name: Name,
+        /// 0 to 9.
+        copies: u8,
+    },
+    /// `splitlvcopy -y NEW NAME N`: leave each so many of those it has, and make the others a volume of their own.
+    Splitlvcopy {
+        /// The name of the volume that is made.
+        new: Name,
+        /// The volume that is split.
         name: Name,
         /// 0 to 9.
         copies: u8,

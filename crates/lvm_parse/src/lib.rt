@@ -17,9 +17,10 @@
 //! | `lsvg [-l] NAME` | list the group, or with `-l` its volumes | | `mklv -y NAME [-c N] [-w MODE] [-d
 //! POLICY] NAME LPS` | make a volume, the first name, in the group, the second, of so many logical
 //! partitions; `-c` is the number of copies, 1 where it isn't given; `-w` is `y` or `a` (active, where it
-//! isn't given) or `n` (off); `-d` is `p` (parallel, where it isn't given), `s` (sequential), `ps` or `pr` |
+//! isn't given), `p` (passive) or `n` (off); `-d` is `p` (parallel, where it isn't given), `s` (sequential), `ps` or `pr` |
 //! | `rmlv [-f] NAME` | remove a volume; `-f` changes nothing | | `mklvcopy NAME N` | give each logical
-//! partition of a volume so many copies | | `rmlvcopy NAME N` | leave each so many | | `syncvg -l NAME`,
+//! partition of a volume so many copies | | `rmlvcopy NAME N` | leave each so many | | `splitlvcopy -y
+//! NEW NAME N` | leave each so many, and make the others a volume of their own | | `syncvg -l NAME`,
 //! `syncvg -v NAME` | bring up the stale copies of a volume, or of the group | | `lslv -m NAME` | list where
 //! a volume's copies lie | | `lspv DISK` | list a member of the group | | `rd NAME BLOCK COUNT`, `rd DISK
 //! BLOCK COUNT` | read blocks of a volume, or of a disk | | `wr NAME BLOCK COUNT WORD`, `wr DISK BLOCK COUNT

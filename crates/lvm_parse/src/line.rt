@@ -10,8 +10,8 @@ use crate::operands::misfit;
 use crate::operands_line::{is_remark, unreadable_at};
 use crate::rest::{Misfit, Rest, Word};
 use crate::rules::{
-    cut, fail, heal, lslv, lspv, lsvg, mklv, mklvcopy, mkvg, post, rd, rmlv, rmlvcopy, step,
-    syncvg, varyoffvg, varyonvg, wait, wr,
+    cut, fail, heal, lslv, lspv, lsvg, mklv, mklvcopy, mkvg, post, rd, rmlv, rmlvcopy, splitlvcopy,
+    step, syncvg, varyoffvg, varyonvg, wait, wr,
 };
 use crate::scan::next_word;
 use std::alloc::Global;
@@ -67,6 +67,8 @@ fn volume_command(word: Word<'_>, rest: Rest<'_>) -> Result<Command, Misfit>
         mklvcopy(rest)
     } else if name == b"rmlvcopy".as_slice() {
         rmlvcopy(rest)
+    } else if name == b"splitlvcopy".as_slice() {
+        splitlvcopy(rest)
     } else if name == b"syncvg".as_slice() {
         syncvg(rest)
     } else if name == b"lslv".as_slice() {

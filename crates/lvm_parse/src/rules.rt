@@ -1,6 +1,6 @@
 //! The lines of the language: each rule reads what follows the line's first word.
 ghost use Rattle.std.specs.Prelude.{◌≡◌};
-ghost use Rattle.lvm_parse.specs.Grammar.{rd_disk, rd_volume, rd, wr_disk, wr_volume, wr, post, wait, step, fail, heal, lspv, cut, new_group, mkvg, varyonvg, varyoffvg, lsvg, new_volume, mklv, rmlv, mklvcopy, rmlvcopy, sync_group, syncvg, lslv};
+ghost use Rattle.lvm_parse.specs.Grammar.{rd_disk, rd_volume, rd, wr_disk, wr_volume, wr, post, wait, step, fail, heal, lspv, cut, new_group, mkvg, varyonvg, varyoffvg, lsvg, new_volume, mklv, rmlv, mklvcopy, rmlvcopy, split_of, splitlvcopy, sync_group, syncvg, lslv};
 ghost use Rattle.lvm_parse.specs.Rests.{left};
 ghost use Rattle.lvm_parse.specs.Answering.{Answers};
 
@@ -232,6 +232,33 @@ pub fn rmlvcopy(rest: Rest<'_>) -> Result<Command, Misfit>
         }
         Err(misfit) => Err(misfit),
     }
+}
+
+// What follows the option of a `splitlvcopy`, and its value.
+fn split_of(rest: Rest<'_>) -> Result<Command, Misfit>
+    ensures { result ≡ split_of (left rest.entry) }
+{
+    match name(rest) {
+        Ok((new, rest)) => match name(rest) {
+            Ok((name, rest)) => {
+                let copies = last_copies(rest)?;
+                Ok(Command::Splitlvcopy { new, name, copies })
+            }
+            Err(misfit) => Err(misfit),
+        },
+        Err(misfit) => Err(misfit),
+    }
+}
+
+/// `splitlvcopy -y NEW NAME N`
+pub fn splitlvcopy(rest: Rest<'_>) -> Result<Command, Misfit>
+    ensures { result ≡ splitlvcopy (left rest.entry) }
+{
+    let (named, rest) = option(rest, b"-y");
+    if !named {
+        return Err(misfit(next_column(rest)));
+    }
+    split_of(rest)
 }
 
 // `syncvg -v NAME`

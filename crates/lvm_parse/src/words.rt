@@ -159,6 +159,8 @@ pub fn mode_of(word: &[u8]) -> Option<Mode>
         Some(Mode::Active)
     } else if word == b"a".as_slice() {
         Some(Mode::Active)
+    } else if word == b"p".as_slice() {
+        Some(Mode::Passive)
     } else {
         None
     }

@@ -1,14 +1,13 @@
 -- Runs over a shelf that heeds orders alone.
 use Rattle.std.proofs.Common.{◌≡◌, ◌⊎◌, inl, inr, ⊎_elim, ◌≤◌, ℕ, Bool, true, List, [], Option, Some, None, IfSome, Result, Ok, refl, sym, ◌∙◌, ap, subst, arith}
 use Rattle.lvm_disk.specs.Counts.{Rose, RoseBy}
-use Rattle.lvm_disk.specs.Device.{Device, IsReady, Ordered, Orders}
+use Rattle.lvm_disk.specs.Device.{Device, Ordered, Orders}
 use Rattle.lvm_disk.specs.Paths.{DeviceStep, Path, Here, Then}
 use Rattle.lvm_disk.specs.Steps.{GoesDark, after_order, ordered_by, with_order}
 use Rattle.lvm_disk.specs.declared.shelf.Arrange.{Arrange}
 use Rattle.lvm_disk.specs.declared.shelf.Arrange.TheVariants as arrange
 use Rattle.lvm_order_laws.specs.Alone.{IsUnharmed, NothingCounted}
-use Rattle.lvm_order_laws.specs.Worked.{fresh}
-use Rattle.lvm_order_laws.proofs.AloneLemmas.{fresh_is_unharmed, heeds_always, stays_unharmed}
+use Rattle.lvm_order_laws.proofs.AloneLemmas.{heeds_always, stays_unharmed}
 use Rattle.lvm_vol.specs.Log.{Log}
 use Rattle.lvm_kept.specs.Moments.{Moment, Step, Moves, Enters}
 use Rattle.lvm_parse.specs.declared.command.Command.{Command}
@@ -24,18 +23,17 @@ use Rattle.lvm_session.specs.State.{Core}
 use Rattle.lvm_line.specs.Causes.{HasCause, HasFailedInSession, WereLost}
 use Rattle.lvm_line.specs.Complete.{NothingFailed}
 use Rattle.lvm_line.specs.Lines.{IsLine, IsOrder, LineDoes, role_of}
+use Rattle.lvm_line.specs.Told.{NothingSince}
 use Rattle.lvm_line.specs.passed.GroupLines.{ArrangeDoes, CutDoes, CutNotPlanned, IsArranged, NotPlanned, NotThere, PowerIsCut, IsAlone, IsClosed, IsTimely, Reply, ScriptState, StandsBy, patience_of_line}
 use Rattle.lvm_group_lines.specs.declared.reply.Refusal.TheVariants as refusal
 use Rattle.lvm_line.specs.passed.ReplyVariants as reply
-use Rattle.lvm_top.specs.declared.status.ExitStatus.TheVariants as ended
 use Rattle.lvm_top.specs.Ending.{Concludes, NoneIsOn, NoneIsServed, IsServed, NothingIsLeft, TurnsAreMade}
 use Rattle.lvm_top.proofs.passed.Tie.{path_frames}
-use Rattle.lvm_program.specs.Heeding.{AreNoOrders, AreUntroubled, EndsNoOrder, EndsUntroubled, GoesWell, IsNoOrder, IsTroubled, RanUnordered, LinesOrderAlone, RunsHeedAlone, SomeRunGoesWell, UnorderedRunsGoWell, UnorderedScriptsGoWell, ordered_after, ordered_behind, orders_of}
+use Rattle.lvm_program.specs.Heeding.{AreNoOrders, AreUntroubled, EndsNoOrder, EndsUntroubled, GoesWell, IsNoOrder, IsTroubled, IsUntroubled, RanUnordered, LinesOrderAlone, RunsHeedAlone, UnorderedRunsGoWell, UnorderedScriptsGoWell, ordered_after, ordered_behind, orders_of}
 use Rattle.lvm_top.specs.Run.{Run, IsRun, RanAlone}
-use Rattle.lvm_program.specs.Sim.{full_room}
-use Rattle.lvm_program.specs.Woven.{untold}
-use Rattle.lvm_top.specs.Script.{AreDone, Script, NoLine, NextLine, StaysAlone, Ends, AtLine, InLine, EndsAlone, EndsStuck, empty_log, entry_state, facts_of}
+use Rattle.lvm_top.specs.Script.{Script, NoLine, NextLine, StaysAlone, Ends, AtLine, InLine, EndsAlone, EndsStuck, empty_log, entry_state, facts_of}
 use Rattle.lvm_top.proofs.LawsLemmas.Scripts.{first_stands}
+use Rattle.lvm_line.proofs.CausesLemmas.Posting.{told_is_well}
 use Rattle.lvm_line.proofs.CompleteLemmas.Completing.{lines_complete}
 use Rattle.lvm_top.proofs.RefusedLemmas.{line_caused}
 use Rattle.lvm_top.proofs.ScriptLemmas.Concluding.{spanned}
@@ -83,11 +81,17 @@ module _ (log : Log) (room : Room) (line : List ℕ) (old new : ScriptState) (no
   untroubled (reply.Refused (refusal.DiskFailed disk)) it troubled = lines_complete log room line (refusal.DiskFailed disk) old new it (nothing_failed (line_of line) old new none)
   untroubled (reply.Refused refusal.Lost) it troubled = lines_complete log room line refusal.Lost old new it (nothing_failed (line_of line) old new none)
   untroubled (reply.Refused refusal.ReadFailed) it troubled = lines_complete log room line refusal.ReadFailed old new it (nothing_failed (line_of line) old new none)
-  untroubled (reply.Refused (refusal.WentOff have total)) it troubled = went_off (line_of line) have total old new (line_caused log room line (reply.Refused (refusal.WentOff have total)) old new it) none
+  untroubled (reply.Refused (refusal.WentOff have total)) it troubled = went_off (line_of line) have total old new (line_caused log room line (reply.Refused (refusal.WentOff have total)) old new it).0 none
   untroubled (reply.Refused refusal.Dark) it troubled = lines_complete log room line refusal.Dark old new it (nothing_failed (line_of line) old new none)
   untroubled (reply.Refused refusal.Stuck) it troubled = lines_complete log room line refusal.Stuck old new it (nothing_failed (line_of line) old new none)
   untroubled (reply.Refused (refusal.SyncFailed disk)) it troubled = lines_complete log room line (refusal.SyncFailed disk) old new it (nothing_failed (line_of line) old new none)
   untroubled other it troubled = troubled
+
+  nothing_since : NothingSince old new
+  nothing_since = record { none = λ it. once _ _ (none.faults it.failed.0) it.failed.1; lit = λ rose. once _ _ none.cuts rose }
+
+  is_untroubled : (answer : Reply) → IsLine log room line answer old new → IsUntroubled line answer old new
+  is_untroubled answer it = (untroubled answer it, told_is_well log room line answer old new it nothing_since)
 
 -- ---- the steps of the shelf
 
@@ -139,14 +143,14 @@ module _ (log : Log) (room : Room) (first : ScriptState) (timely : IsTimely log.
   script_untroubled NoLine alone none = tt
   script_untroubled (NextLine {mid = mid} {new = new} line answer said heard says before it) alone none = (
     script_untroubled before alone.0 none.0,
-    untroubled log room line mid new (line_unharmed before line answer it alone.0 alone.1 none.0 none.1).counted answer it,
+    is_untroubled log room line mid new (line_unharmed before line answer it alone.0 alone.1 none.0 none.1).counted answer it,
   )
 
   ends_untroubled : {lines : List (List ℕ)} {replies : List Reply} {mid last : ScriptState} {done : List (List ℕ)} {said : List Reply} {front : List ℕ} (script : Script log room first lines replies mid) (ends : Ends log room mid last done said front)
       → StaysAlone script → EndsAlone ends → AreNoOrders script → EndsNoOrder ends → EndsUntroubled ends
   ends_untroubled script (AtLine same) alone now none ends_none = tt
   ends_untroubled {mid = mid} {last = last} script (InLine line answer said front rest says split it) alone now none ends_none =
-      untroubled log room line mid last (line_unharmed script line answer it alone now none ends_none).counted answer it
+      is_untroubled log room line mid last (line_unharmed script line answer it alone now none ends_none).counted answer it
 
 pub unordered_scripts_go_well : UnorderedScriptsGoWell
 unordered_scripts_go_well log room past first lines replies last script begin alone unharmed none =
@@ -158,7 +162,7 @@ unordered_scripts_go_well log room past first lines replies last script begin al
 -- nothing was heard of a transfer only where that is answered
 never_stuck : {log : Log} {room : Room} {mid last : ScriptState} {done : List (List ℕ)} {said : List Reply} {front : List ℕ} (ends : Ends log room mid last done said front) → EndsStuck ends → EndsUntroubled ends → ⊥
 never_stuck (AtLine same) stuck well = stuck
-never_stuck (InLine line answer said front rest says split it) stuck well = well (subst IsTroubled (sym stuck) tt)
+never_stuck (InLine line answer said front rest says split it) stuck well = well.0 (subst IsTroubled (sym stuck) tt)
 
 module _ (r : Run) (ran : IsRun r) (clock : IsBehind r.named r.entry) (alone : RanAlone ran) where
   its_path : Path DeviceStep (λ d. Unit {0}) r.entry r.exit
@@ -239,59 +243,3 @@ pub lines_order_alone : LinesOrderAlone
 lines_order_alone log room first lines replies last NoLine on o told = told
 lines_order_alone log room first lines replies last (NextLine {lines = before_lines} {replies = before_replies} {mid = mid} {new = new} line answer said heard says before it) on o told =
     line_orders log room mid new answer (ordered_behind before o) ((script_went log room first before).power on) (lines_order_alone log room first before_lines before_replies mid before on o told) (line_of line) it.does it.orders
-
--- ---- worked
-
--- a run over it that was given no line
-abbrev still_run : Run
-still_run = record { named = 50; last = 50; room = full_room; entry = fresh; exit = fresh; input = untold; output = untold; history = Some (empty_log 50 full_room); status = ended.Well; refused = 0 }
-
-fresh_is_ready : IsReady fresh
-fresh_is_ready = record { flights = refl; freed = refl; power = refl }
-
-no_lines : AreDone (empty_log 50 full_room) full_room (entry_state fresh 50) (entry_state fresh 50) untold untold 0
-no_lines = record {
-  lines = [];
-  replies = [];
-  mid = entry_state fresh 50;
-  script = NoLine;
-  done = [];
-  said = [];
-  front = [];
-  ends = AtLine refl;
-  read = λ bytes told. absurd (cc (told));
-  written = tt;
-  in_full = inl refl;
-  counted = refl;
-}
-
-ran_still : IsRun still_run
-unfolding no_lines
-ran_still = record {
-  ready = fresh_is_ready;
-  history_is = refl;
-  none = tt;
-  read_words = λ is. cc (is);
-  counted = λ end. refl;
-  end = entry_state fresh 50;
-  lines = no_lines;
-  concluded = record { concludes = NoneIsOn refl refl; still = λ none. refl; rests = λ none heard. fresh_is_ready; clock = refl };
-  whole = λ end. (refl, tt);
-  between = λ no_sink no_stuck. refl;
-  wanting = λ is. absurd (cc (is));
-  behind = λ is. absurd (cc (is));
-  beyond = λ cause. ⊎_elim (λ is. absurd (cc (is))) (λ is. absurd (cc (is))) cause;
-  source = λ is. absurd (cc (is));
-  sink = λ is. absurd (cc (is));
-  read_well = λ no. refl;
-  written_well = λ no_sink no_stuck. refl;
-  stuck = λ is. absurd (cc (is));
-  heard = λ no. tt;
-  long = λ is. absurd (cc (is));
-  short = λ no. tt;
-  power = refl;
-}
-
-pub some_run_goes_well : SomeRunGoesWell
-unfolding no_lines ran_still
-some_run_goes_well = (still_run, (ran_still, tt, (tt, tt, λ requests. absurd (cc (requests))), fresh_is_unharmed, (tt, tt)))

@@ -4,3 +4,5 @@ mod WovenLemmas
 mod LoadedLemmas
 mod SimLemmas
 mod HeedingLemmas
+mod LandingLemmas
+mod WorkedLemmas

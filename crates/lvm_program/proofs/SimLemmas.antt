@@ -89,7 +89,7 @@ module _ (asked : Clocked) (r : Run) (disks mib : ℕ) (few : disks ≤ 32) (is 
     plain = λ bytes told nowhere. promises.plain bytes told nowhere holds [] earlier;
     upheld = upheld;
     first = λ ran alone. ((upheld ran alone).legal [] earlier, (upheld ran alone).kept [] earlier);
-    alone = λ ran unforced. unforced_runs_alone r ran [] holds.few ran.ready behind earlier holds.one holds.none_passive unforced;
+    alone = λ ran unforced. unforced_runs_alone r ran [] holds.few ran.ready behind earlier holds.one unforced;
     heeds = λ ran alone. runs_heed_alone r ran alone behind unharmed.well.heeds;
     well = λ ran alone unordered. unordered_runs_go_well r ran behind alone unharmed unordered;
   }

@@ -1,5 +1,5 @@
 -- What a run does over a shelf that heeds orders alone, and where no line orders anything.
-use Rattle.std.specs.Prelude.{◌≡◌, ℕ, true, List, Option, Some, Result, Ok}
+use Rattle.std.specs.Prelude.{◌≡◌, ℕ, true, List, length, Option, Some, Result, Ok}
 use Rattle.lvm_disk.specs.Device.{Ordered}
 use Rattle.lvm_disk.specs.Paths.{DeviceStep, Path}
 use Rattle.lvm_disk.specs.Steps.{after_order}
@@ -14,6 +14,7 @@ use Rattle.lvm_parse.specs.Grammar.{line_of}
 use Rattle.lvm_steps.specs.Behind.{IsBehind}
 use Rattle.lvm_core.specs.declared.parts.Room.{Room}
 use Rattle.lvm_line.specs.Lines.{IsOrder}
+use Rattle.lvm_line.specs.Told.{IsWellTold}
 use Rattle.lvm_line.specs.passed.GroupLines.{Reply, ScriptState}
 use Rattle.lvm_group_lines.specs.declared.reply.Refusal.TheVariants as refusal
 use Rattle.lvm_line.specs.passed.ReplyVariants as reply
@@ -54,17 +55,21 @@ IsTroubled (reply.Refused refusal.Stuck) = Unit {0}
 IsTroubled (reply.Refused (refusal.SyncFailed disk)) = Unit {0}
 IsTroubled other = ⊥
 
--- no line of the script is answered so,
+-- a line isn't answered so, and if it is a `wait`, it tells of each post of its session that it is done, or had no copy
+abbrev pub IsUntroubled : List ℕ → Reply → ScriptState → ScriptState → Type 0
+IsUntroubled line answer old new = (IsTroubled answer → ⊥) × IsWellTold (line_of line) answer old new
+
+-- so is each line of the script,
 abbrev pub AreUntroubled : {log : Log} {room : Room} {first : ScriptState} {lines : List (List ℕ)} {replies : List Reply} {last : ScriptState} → Script log room first lines replies last → Type 0
 AreUntroubled NoLine = Unit {0}
-AreUntroubled (NextLine line answer said heard says before does) = AreUntroubled before × (IsTroubled answer → ⊥)
+AreUntroubled (NextLine {mid = mid} {new = new} line answer said heard says before does) = AreUntroubled before × IsUntroubled line answer mid new
 
--- nor the one in which it ended
+-- and the one in which it ended
 abbrev pub EndsUntroubled : {log : Log} {room : Room} {mid last : ScriptState} {done : List (List ℕ)} {said : List Reply} {front : List ℕ} → Ends log room mid last done said front → Type 0
 EndsUntroubled (AtLine same) = Unit {0}
-EndsUntroubled (InLine line answer said front rest says split does) = IsTroubled answer → ⊥
+EndsUntroubled {mid = mid} {last = last} (InLine line answer said front rest says split does) = IsUntroubled line answer mid last
 
--- No line of the run was answered so, it didn't end with status 6, and nothing has happened to the shelf at exit.
+-- Each line of the run was answered so, it didn't end with status 6, and nothing has happened to the shelf at exit.
 pub record GoesWell {r : Run} (ran : IsRun r) : Type 0 where
   pub lines : AreUntroubled ran.lines.script
   pub ends : EndsUntroubled ran.lines.ends
@@ -98,7 +103,7 @@ LinesOrderAlone =
     (log : Log) (room : Room) (first : ScriptState) (lines : List (List ℕ)) (replies : List Reply) (last : ScriptState) (script : Script log room first lines replies last)
     → first.moment.device.power ≡ true → (ordered : Ordered) → first.moment.device.orders.alone ≡ Some ordered → last.moment.device.orders.alone ≡ Some (ordered_behind script ordered)
 
--- Lines that order nothing of such a shelf aren't answered so, and nothing happens to it; where no other group is found at the lines that ask for that.
+-- Lines that order nothing of such a shelf are answered so, and nothing happens to it; where no other group is found at the lines that ask for that.
 abbrev pub UnorderedScriptsGoWell : Type 0
 UnorderedScriptsGoWell =
     (log : Log) (room : Room) (past : List Fact) (first : ScriptState) (lines : List (List ℕ)) (replies : List Reply) (last : ScriptState) (script : Script log room first lines replies last)
@@ -112,6 +117,6 @@ UnorderedRunsGoWell = (r : Run) (ran : IsRun r) → IsBehind r.named r.entry →
 abbrev pub RunsHeedAlone : Type 0
 RunsHeedAlone = (r : Run) → WhereAlone r (IsBehind r.named r.entry → HeedsAlone r.entry → Path DeviceStep HeedsAlone r.entry r.exit)
 
--- Some run is such a one.
+-- Some run of a line is such a one.
 abbrev pub SomeRunGoesWell : Type 0
-SomeRunGoesWell = (r : Run) × ((ran : IsRun r) × IsBehind r.named r.entry × RanAlone ran × IsUnharmed r.entry × RanUnordered ran)
+SomeRunGoesWell = (r : Run) × ((ran : IsRun r) × IsBehind r.named r.entry × RanAlone ran × IsUnharmed r.entry × RanUnordered ran × (length ran.lines.lines ≡ 1))

@@ -3,4 +3,5 @@ pub mod Heeding
 pub mod Program
 pub mod Sim
 pub mod Woven
+pub mod Landing
 pub mod Loaded

@@ -1,11 +1,10 @@
 -- A run of a load over a group that stands on the disks.
-use Rattle.std.specs.Prelude.{◌≡◌, ◌⊎◌, ◌≤◌, ◌+◌, ◌++◌, ℕ, List, Contains, Option, Some, None, IfSome, IfNone, Result, Ok, Err, codes, true}
+use Rattle.std.specs.Prelude.{◌≡◌, ◌≤◌, ◌+◌, ◌++◌, ℕ, List, Contains, Option, Some, None, IfSome, IfNone, Result, Ok, Err, codes, true}
 use Rattle.lvm_num.specs.Geometry.{volume_blocks}
 use Rattle.lvm_num.specs.declared.descriptor.Descriptor.{Descriptor}
 use Rattle.lvm_num.specs.declared.descriptor.LvRow.{LvRow}
 use Rattle.lvm_disk.specs.Device.{IsReady}
 use Rattle.lvm_io.specs.Count.{Rose}
-use Rattle.lvm_vol.specs.Log.{Log}
 use Rattle.lvm_kept.specs.Moments.{Moment}
 use Rattle.lvm_steps.specs.Moments.{IsUpheld}
 use Rattle.lvm_steps.specs.Behind.{IsAhead, IsBehind}
@@ -156,7 +155,7 @@ pub record IsLoaded (words : LoadWords) (r : Run) : Type 0 where
   pub goes : IfSome r.history (λ log. GoesLoaded words r)
   pub power : r.exit.power ≡ true
 
--- Whatever any disks find is of one group where the group is varied on, and where requests are made, and none of its volumes is in mode passive.
+-- Whatever any disks find is of one group where the group is varied on, and where requests are made.
 abbrev pub IsLoadedAlone : {words : LoadWords} {r : Run} → GoesLoaded words r → Type 0
 IsLoadedAlone {words = words} {r = r} goes =
     IsAlone (role_of (line_of (varyon_line words.group))) (entry_state r.entry r.named) goes.end × IsAlone OfRequests goes.end (exit_state r.exit r.history goes.end)

@@ -12,6 +12,7 @@ use Rattle.lvm_vol.specs.Legal.{Legal}
 use Rattle.lvm_load.specs.declared.workload.Workload.{Workload}
 use Rattle.lvm_parse.specs.Forced.{HasNowhere}
 use Rattle.lvm_program.specs.Heeding.{GoesWell, IsTroubled, RanUnordered}
+use Rattle.lvm_program.specs.Landing.{EndsLandedWell}
 use Rattle.lvm_top.specs.OneGroup.{RanUnforced}
 use Rattle.lvm_top.specs.Run.{Run, IsRun, Promises, RanAlone, WhereAlone}
 use Rattle.lvm_top.specs.Clock.{Clocked}
@@ -162,7 +163,7 @@ pub record PromisesBlank (asked : Clocked) (r : Run) : Type 0 where
   pub heeds : WhereAlone r (Path DeviceStep HeedsAlone r.entry r.exit)
   pub well : (ran : IsRun r) → RanAlone ran → RanUnordered ran → GoesWell ran
 
--- and what one of a workload does so, which orders nothing
+-- and what one of a workload does so, which orders nothing: its requests land well
 pub record PromisesWovenBlank (disks mib : ℕ) (load : Workload) (asked : ℕ) (r : Run) : Type 0 where
   pub promises : PromisesWoven disks mib load asked r
   pub upheld : GoesWoven disks mib load r → IsUpheld r.named r.entry r.exit (facts_of r.history)
@@ -170,6 +171,7 @@ pub record PromisesWovenBlank (disks mib : ℕ) (load : Workload) (asked : ℕ) 
   pub heeds : GoesWoven disks mib load r → Path DeviceStep HeedsAlone r.entry r.exit
   pub unharmed : GoesWoven disks mib load r → IsUnharmed r.exit
   pub untroubled : (goes : GoesWoven disks mib load r) → IsTroubled goes.answer → ⊥
+  pub lands : (goes : GoesWoven disks mib load r) → EndsLandedWell goes.ends
 
 -- The script was written whole, or else a front of it was, and the sink failed or memory ran out.
 pub record IsGenerated (seed count : ℕ) (status : ExitStatus) (out : Passage) : Type 0 where

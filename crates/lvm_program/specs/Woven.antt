@@ -222,7 +222,7 @@ pub record IsWoven (disks mib : ℕ) (load : Workload) (r : Run) : Type 0 where
   pub goes : IfSome r.history (λ log. GoesWoven disks mib load r)
   pub power : r.exit.power ≡ true
 
--- Whatever any disks find is of one group where a volume is made, and where requests are, and none of its volumes is in mode passive.
+-- Whatever any disks find is of one group where a volume is made, and where requests are.
 abbrev pub IsWovenAlone : {disks mib : ℕ} {load : Workload} {r : Run} → GoesWoven disks mib load r → Type 0
 IsWovenAlone {r = r} goes = AreMadeAlone goes.made × IsAlone OfRequests goes.end (exit_state r.exit r.history goes.end)
 

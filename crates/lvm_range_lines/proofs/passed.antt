@@ -4,6 +4,7 @@ pub mod Handover
 pub mod Names
 pub mod Quiesce
 pub mod Ranges
+pub mod Splitting
 pub mod TieCommands
 pub mod Varyon
 pub mod Volumes

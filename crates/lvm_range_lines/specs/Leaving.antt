@@ -27,12 +27,13 @@ session_over s core = state s.moment.device core
 abbrev pub GoesOnWith : State → List Post → ℕ → ScriptState → Type 0
 GoesOnWith end posts last new = new ≡ record { moment = record { device = end.device; facts = end.core.history.facts }; session = Some end.core; posts = posts; last = last }
 
--- it is closed, and its posts have ended; after a power cut the power is on again
+-- it is closed, and its posts have ended, which stood in it; after a power cut the power is on again
 pub record IsOverWith (end : State) (posts : List Post) (last : ℕ) (new : ScriptState) : Type 0 where
   pub shelf : IsClosed end.core.power end.device new.moment.device
   pub facts : new.moment.facts ≡ end.core.history.facts
   pub session : new.session ≡ None
   pub posted : new.posts ≡ posts_ended (Some end.core) posts
+  pub stood : ArePosted end.core.history.facts (Some end.core) posts
   pub clock : new.last ≡ last
 
 -- It goes on where it is on, and is closed where it is over.

@@ -8,9 +8,9 @@ pub mod Names
 pub mod Quiesce
 pub mod QuiescedVariants
 pub mod Ranges
-pub mod Recover
 pub mod RefusalVariants
 pub mod ReplyVariants
+pub mod Splitting
 pub mod Tie
 pub mod TieCommands
 pub mod Varyon

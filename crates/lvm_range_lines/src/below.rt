@@ -5,6 +5,7 @@ pub mod driver;
 pub mod group_lines;
 pub mod handover;
 pub mod mirrors;
+pub mod split;
 pub mod stage;
 pub mod volumes;
 

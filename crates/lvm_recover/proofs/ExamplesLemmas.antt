@@ -1,6 +1,6 @@
 -- The two disks that are worked by hand are recovered.
 use Rattle.std.proofs.Common.{◌≡◌, ◌⊎◌, inl, inr, ℕ, ◌<◌, Bool, true, false, List, [], ◌∷◌, Some, None, refl, sym, ap, subst, ◌∙◌, arith}
-use Rattle.std.specs.Prelude.{IsTrue, IsFalse, ◌==◌, nat_lt, get_or, if◌then◌else◌}
+use Rattle.std.specs.Prelude.{IsFalse, ◌==◌, nat_lt, get_or, if◌then◌else◌}
 use Rattle.std.proofs.lemmas.Bool.{eqb-true}
 use Rattle.lvm_num.specs.declared.place.Pp.{Pp}
 use Rattle.lvm_num.specs.declared.descriptor.Mode.{Mode}
@@ -9,22 +9,20 @@ use Rattle.lvm_num.specs.declared.descriptor.LvRow.{LvRow}
 use Rattle.lvm_num.specs.Bits.{has_bit}
 use Rattle.lvm_num.specs.Buffer.{Sector, zero_sector}
 use Rattle.lvm_num.specs.Geometry.{data_start}
-use Rattle.lvm_num.specs.Note.{entries_below, note_in}
+use Rattle.lvm_num.specs.Note.{note_in}
 use Rattle.lvm_kept.specs.Contents.{Contents}
 use Rattle.lvm_kept.specs.Examples.{mirror, two, either_of, ones, torn_mirror}
-use Rattle.lvm_kept.specs.Group.{fresh_on, is_named, names_if, IsBlockOf, IsOneOf, HoldOne}
+use Rattle.lvm_kept.specs.Group.{fresh_on, IsBlockOf, IsOneOf, HoldOne}
 use Rattle.lvm_kept.specs.Kept.{Kept}
 use Rattle.lvm_rest.specs.passed.Names.{ShowsCommitted}
 use Rattle.lvm_rest.specs.Rest.{IsEven, NoneIsBehind}
 use Rattle.lvm_rest.specs.Examples.{Pair, status_of, shown_by, there_by, media_of, device_of, even_pair, torn_pair, history_of, naming}
 use Rattle.lvm_rest.proofs.ExamplesLemmas.Pairs.{both_copies, the_row, first_partition}
 use Rattle.lvm_rest.proofs.ExamplesLemmas.Sectors.{told}
-use Rattle.lvm_rest.proofs.ExamplesLemmas.Examples.{valid, within, enough, shows, behind, zeros_even, torn_below, is_naming, active_torn, passive_torn, pairs_rest}
-use Rattle.lvm_recover.specs.Recopied.{IsToEqual, IsFromFirst, IsRecopied, HoldFirst, AreEqualled, AreNamedEqualled, OnlyNotesOf}
-use Rattle.lvm_recover.specs.Recovered.{HasNoPassive}
-use Rattle.lvm_recover.proofs.KeepingLemmas.Equalling.{quiet_is_even}
+use Rattle.lvm_rest.proofs.ExamplesLemmas.Examples.{valid, within, enough, shows, behind, zeros_even, torn_below, is_naming, active_torn, passive_torn}
+use Rattle.lvm_recover.specs.Recopied.{IsToEqual, IsFromFirst, IsRecopied, HoldFirst, AreEqualled, OnlyNotesOf}
 use Rattle.lvm_recover.specs.Keeping.{MayRecover}
-use Rattle.lvm_recover.specs.Examples.{IsQuietPair, IsRecoveredPair, PairsRecover}
+use Rattle.lvm_recover.specs.Examples.{IsRecoveredPair, PairsRecover}
 
 differ : ones ≡ zero_sector → ⊥
 differ e = absurd (omega (arith, ap (λ (s : Sector). get_or s 0 0) e))
@@ -91,9 +89,6 @@ module _ (mode : Mode) (dirty : Bool) (note : Sector) (on : mode ≡ Off → ⊥
     equalled : AreEqualled (shown_by old) (two mode) (Some (status_of old)) (there_by old) (shown_by copied)
     equalled row lp b one inside made = holds_first row lp b one inside
 
-    named : AreNamedEqualled (shown_by old) (two mode) (Some (status_of old)) (there_by old) (shown_by copied)
-    named row lp b one active inside made = holds_first row lp b one inside
-
 -- on a still shelf
 may : (x : Pair) → ((d s : ℕ) → s < 4096 → x.stands d s ≡ zero_sector) → MayRecover (two x.mode) (status_of x).value (there_by x) (device_of x)
 may x below =
@@ -124,42 +119,12 @@ module _ (mode : Mode) (dirty : Bool) (note : Sector) (on : mode ≡ Off → ⊥
     recopied = recopied mode dirty note on to_equal;
     moved = λ e. differ (sym e);
     equalled = equalled mode dirty note on to_equal;
-    named = named mode dirty note on to_equal;
     emptied = emptied mode dirty note;
     even = zeros_even mode dirty false zero_sector (either_of 0 1);
-  }
-
--- ---- where nothing is named
-
-zeros_name : (t : Bool) (lv group : ℕ) → names_if (if t then note_in zero_sector else None) lv group ≡ false
-unfolding entries_below
-zeros_name true lv group = refl
-zeros_name false lv group = refl
-
-module _ (mode : Mode) (not_passive : mode ≡ Passive → ⊥) where
-  abbrev still : Pair
-  still = even_pair mode false false zero_sector
-
-  no_passive : HasNoPassive (two mode)
-  no_passive row one passive = not_passive (sym (ap (λ (r : LvRow). r.mode) (the_row still row one)) ∙ passive)
-
-  none_named : (d lv track_group : ℕ) → IsTrue (there_by still d) → IsFalse (is_named (shown_by still) d lv track_group)
-  none_named d lv track_group present = zeros_name (either_of 0 1 d) lv track_group
-
-  still_kept : Kept (shown_by still) (history_of mode true)
-  still_kept = (pairs_rest.even mode false false true zero_sector).at_rest.kept
-
-  quiet : IsQuietPair (even_pair mode false false zero_sector) (history_of mode true)
-  quiet = record {
-    soft = no_passive;
-    none = none_named;
-    kept = still_kept;
-    even = λ shown. quiet_is_even (shown_by still) (two mode) (status_of still).value (there_by still) (history_of mode true) (valid mode) (within still) (enough still) shown no_passive none_named still_kept;
   }
 
 pub pairs_recover : PairsRecover
 pairs_recover = record {
   active = recovered Active false naming (λ e. absurd cc) (0, refl, is_naming) active_torn;
   passive = recovered Passive true zero_sector (λ e. absurd cc) refl passive_torn;
-  quiet = quiet;
 }

@@ -1,6 +1,5 @@
 -- Recovery, worked by hand: two disks that mirror a volume and differ in its first block.
-use Rattle.std.specs.Prelude.{◌≡◌, ℕ, false, true, List, Some, IsTrue, IsFalse}
-use Rattle.lvm_num.specs.declared.descriptor.Mode.{Mode}
+use Rattle.std.specs.Prelude.{◌≡◌, false, true, List, Some}
 use Rattle.lvm_num.specs.declared.descriptor.Mode.TheVariants.{Active, Passive}
 use Rattle.lvm_num.specs.Buffer.{zero_sector}
 use Rattle.lvm_num.specs.Descriptor.{IsValid}
@@ -8,13 +7,12 @@ use Rattle.lvm_num.specs.Votes.{CanWrite}
 use Rattle.lvm_vol.specs.Facts.{Fact}
 use Rattle.lvm_kept.specs.Committed.{IsWithinDisks}
 use Rattle.lvm_kept.specs.Examples.{two}
-use Rattle.lvm_kept.specs.Group.{block_at, is_named}
+use Rattle.lvm_kept.specs.Group.{block_at}
 use Rattle.lvm_kept.specs.Kept.{Kept}
 use Rattle.lvm_rest.specs.passed.Names.{ShowsCommitted}
 use Rattle.lvm_rest.specs.Rest.{IsEven, NoneIsBehind}
 use Rattle.lvm_rest.specs.Examples.{Pair, shown_by, status_of, there_by, device_of, history_of, even_pair, torn_pair, naming}
-use Rattle.lvm_recover.specs.Recopied.{IsToEqual, IsRecopied, AreEqualled, AreNamedEqualled, OnlyNotesOf}
-use Rattle.lvm_recover.specs.Recovered.{HasNoPassive}
+use Rattle.lvm_recover.specs.Recopied.{IsToEqual, IsRecopied, AreEqualled, OnlyNotesOf}
 use Rattle.lvm_recover.specs.Keeping.{MayRecover}
 
 -- All that is asked for a recovery holds of the disks before it, sector by sector: they keep the history and show what is committed, with no fresh copy
@@ -32,19 +30,10 @@ pub record IsRecoveredPair (old copied new : Pair) (facts : List Fact) : Type 0 
   pub recopied : IsRecopied (shown_by old) (two old.mode) (Some shows.stands) (there_by old) (shown_by copied)
   pub moved : block_at (shown_by copied) 1 (record { disk = 1; pp = 0 }) 0 ≡ block_at (shown_by old) 1 (record { disk = 1; pp = 0 }) 0 → ⊥
   pub equalled : AreEqualled (shown_by old) (two old.mode) (Some shows.stands) (there_by old) (shown_by copied)
-  pub named : AreNamedEqualled (shown_by old) (two old.mode) (Some shows.stands) (there_by old) (shown_by copied)
   pub emptied : OnlyNotesOf (there_by old) (shown_by copied) (shown_by new)
   pub even : IsEven (shown_by new) (two old.mode) (Some shows.stands) (there_by old)
 
--- No note of a pair names anything and its volume isn't in mode passive: then what the disks keep makes it even.
-pub record IsQuietPair (pair : Pair) (facts : List Fact) : Type 0 where
-  pub soft : HasNoPassive (two pair.mode)
-  pub none : (d lv track_group : ℕ) → IsTrue (there_by pair d) → IsFalse (is_named (shown_by pair) d lv track_group)
-  pub kept : Kept (shown_by pair) facts
-  pub even : (shows : ShowsCommitted (shown_by pair) (two pair.mode) (status_of pair).value (there_by pair)) → IsEven (shown_by pair) (two pair.mode) (Some shows.stands) (there_by pair)
-
--- In mode active the notes name the track group, in mode passive the volume is dirty. Where neither is so, in mode active or off, the pair is quiet.
+-- In mode active the notes name the track group, in mode passive the volume is dirty.
 pub record PairsRecover : Type 0 where
   pub active : IsRecoveredPair (torn_pair Active false naming) (even_pair Active false false naming) (even_pair Active false false zero_sector) (history_of Active true)
   pub passive : IsRecoveredPair (torn_pair Passive true zero_sector) (even_pair Passive true false zero_sector) (even_pair Passive true false zero_sector) (history_of Passive true)
-  pub quiet : (mode : Mode) → (mode ≡ Passive → ⊥) → IsQuietPair (even_pair mode false false zero_sector) (history_of mode true)

@@ -1,7 +1,6 @@
 -- What is kept while copies are made, a second status is written and notes are emptied.
 use Rattle.std.proofs.Common.{◌≡◌, ℕ, List, Option, None, Some, IfSome, refl, sym, ap, subst}
 use Rattle.std.specs.Prelude.{IsTrue}
-use Rattle.lvm_num.specs.declared.descriptor.Mode.{Mode}
 use Rattle.lvm_num.specs.declared.record.Kind.{Kind}
 use Rattle.lvm_num.specs.declared.record.Kind.TheVariants as kind
 use Rattle.lvm_num.specs.declared.descriptor.Descriptor.{Descriptor}
@@ -26,7 +25,7 @@ use Rattle.lvm_write.proofs.WrittenLemmas.Writing.{told_at, both_at, changes_mor
 use Rattle.lvm_write.proofs.PathsLemmas.Untold.{untold_kept}
 use Rattle.lvm_write.specs.declared.begin.Begun.{Begun}
 use Rattle.lvm_write.specs.declared.begin.Begun.TheVariants as begun
-use Rattle.lvm_recover.specs.Recopied.{IsToEqual, IsFromFirst, AreEqualled}
+use Rattle.lvm_recover.specs.Recopied.{IsFromFirst, AreEqualled}
 use Rattle.lvm_recover.proofs.KeepingLemmas.Moments.{copying_stays_kept, emptying_stays_kept}
 use Rattle.lvm_tidying.specs.Moments.{HasCopied, MayCleanBy, HasCleaned}
 use Rattle.lvm_tidying.proofs.MomentsLemmas.{cleaning_stays_kept, emptying_once_clean}
@@ -74,7 +73,7 @@ module _ (copies : List Recopy) (targets : Disks) (group : Descriptor) (status :
     -- no second status is written
     while_emptying : (epoch : ℕ) (now : Device) → IsWriting (IsOfNote targets (empty_note_sector epoch)) mid now → StaysKept old now
     while_emptying epoch now writing = emptying_stays_kept group status there targets (empty_note_sector epoch) old now now_copied it.may (from_first now_copied between.2)
-        (λ row lp b one active inside to. equalled row lp b one inside (subst (λ (m : Mode). IsToEqual (contents_of first) (Some it.may.shows.stands) there m row.number b) (sym active) to)) it.targets_there
+        equalled it.targets_there
         (λ image left. told_at mid.media (λ media. (image : Image) → MayLeave now image → ChangesBy (IsOfNote targets (empty_note_sector epoch)) (image_of mid.sizes media) image) between.0 between.1 writing image left)
 
     -- one is

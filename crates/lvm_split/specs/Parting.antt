@@ -7,7 +7,7 @@ use Rattle.lvm_disk.specs.Device.{IsReady}
 use Rattle.lvm_vol.specs.Facts.{Made, Split}
 use Rattle.lvm_vol.specs.Log.{Log, with_fact}
 use Rattle.lvm_session.specs.State.{Core, State}
-use Rattle.lvm_volume_plan.specs.passed.Names.{IsSettled, NoPartition, Scope}
+use Rattle.lvm_volume_plan.specs.passed.Names.{FindsOnly, IsSettled, NoDescriptor, NoPartition, Scope}
 use Rattle.lvm_volume_plan.specs.declared.fault.GroupFault.{GroupFault}
 use Rattle.lvm_volume_plan.specs.declared.fault.GroupFault.TheVariants as fault
 use Rattle.lvm_volume_plan.specs.declared.split.SplitPlan.{SplitPlan}
@@ -53,13 +53,14 @@ pub record PartBroke (plan : SplitPlan) (old : State) (Ends : Log → Type 0) : 
   pub so_far : (entered ≡ old.core.history) ⊎ (entered ≡ splitting plan.from plan.number old)
   pub ends : Ends entered
 
--- A status was committed, and what is left of the copies by it stands against the split: the session goes on as it was.
+-- A status was committed, and what is left of the copies by it stands against the split: the session goes on as it was, and no descriptor is found that wasn't.
 pub record IsHeldBack (lv copies : ℕ) (why : GroupFault) (old new : State) : Type 0 where
   pub row : LvRow
   pub volume : volume_of old.core.descriptor lv ≡ Some row
   pub refuses : RefusesCopies new.core.status.committed row copies why
   pub settled : IsSettled new.core
   pub is : new.core ≡ record old.core { status = new.core.status; homes = new.core.homes }
+  pub finds : FindsOnly NoDescriptor old new
   pub ready : IsReady new.device
   pub cuts : new.device.counts.cuts ≡ old.device.counts.cuts
 

@@ -34,7 +34,7 @@ module _ (c : Contents) (group : Descriptor) (status : Status) (there : Disks) (
   members = members_in c all_disks group.id group
 
   -- where each logical partition has a usable copy, all fresh ones on members are usable
-  are_one : (row : LvRow) → IsOneOf group.lvs row → row.mode ≡ Passive → ((lp : ℕ) → lp < row.lps → IsSome (fresh_on there stands row lp)) → AreOne c group status row
+  pub are_one : (row : LvRow) → IsOneOf group.lvs row → row.mode ≡ Passive → ((lp : ℕ) → lp < row.lps → IsSome (fresh_on there stands row lp)) → AreOne c group status row
   are_one row one soft some lp b inside =
       let hold = even row lp b one (λ off. not_passive (sym soft ∙ off)) inside in (
         hold.0,

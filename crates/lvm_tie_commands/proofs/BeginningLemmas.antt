@@ -3,6 +3,7 @@ use Rattle.std.proofs.Common.{◌≡◌, ℕ, List, [], ◌++◌, false, Some, c
 use Rattle.std.specs.Prelude.{◌≢◌}
 use Rattle.lvm_num.specs.declared.descriptor.Descriptor.{Descriptor}
 use Rattle.lvm_num.specs.declared.status.Status.{Status}
+use Rattle.lvm_num.specs.Record.{Stamped}
 use Rattle.lvm_num.specs.Status.{calls_missing}
 use Rattle.lvm_num.proofs.Lists.{some_told, of_told}
 use Rattle.lvm_disk.specs.Device.{HasSectors, Media, image_of}
@@ -16,19 +17,21 @@ use Rattle.lvm_steps.specs.Moments.{Begins, Holds, Upholds}
 use Rattle.lvm_status.specs.Update.{Updates}
 use Rattle.lvm_commit.specs.LawsOfVolumes.{IsOneFoundOn}
 use Rattle.lvm_session.specs.State.{Core, State, is_there}
-use Rattle.lvm_handover.specs.passed.Names.{moment_of, NotesAreHome, HasNoPassive}
-use Rattle.lvm_handover.proofs.passed.Names.{empty_names_none, quiet_is_even}
+use Rattle.lvm_handover.specs.passed.Names.{moment_of, NotesAreHome}
+use Rattle.lvm_handover.proofs.passed.Names.{empty_names_none, quiet_dirty_is_even}
 use Rattle.lvm_mwc.specs.Cache.{is_named as is_named_by}
 use Rattle.lvm_kept.proofs.CommittedLemmas.Finding.{images_within}
 use Rattle.lvm_steps.proofs.MakingLemmas.Making.{media_may}
 use Rattle.lvm_handover.specs.passed.Tie.{SparesDescriptors, IsTied, shown_to}
+use Rattle.lvm_handover.specs.passed.Varyon.{DirtyAreEqual}
+use Rattle.lvm_varyon.specs.passed.Names.{DirtyAreOne}
 use Rattle.lvm_tie_commands.specs.Beginning.{HasBegun, MadeStands, VariedOnStands}
 use Rattle.lvm_tie_commands.proofs.MomentsLemmas.{calm_at}
 use Rattle.lvm_tie_commands.proofs.Resting.{landed}
 use Rattle.lvm_tie_commands.proofs.BeginsLemmas.{Held, members_show, ties}
 
 module _ (run : ℕ) (first : Moment) (s : State) (begun : HasBegun run first s) (table : s.core.status.wanted ≡ s.core.origin.table) (whole : HasSectors s.device)
-    (one : IsOneFoundOn s.device) (none : HasNoPassive s.core.descriptor) (quiet : (d lv track_group : ℕ) → is_named_by s.core.cache d lv track_group ≡ false) (past : List Fact) (begins : Begins run past first) where
+    (one : IsOneFoundOn s.device) (equal : DirtyAreEqual s.device s.core) (quiet : (d lv track_group : ℕ) → is_named_by s.core.cache d lv track_group ≡ false) (past : List Fact) (begins : Begins run past first) where
   told : (media : Media) × (s.device.media ≡ Some media)
   told = some_told s.device.media (span_told begun.keeps begins.told)
 
@@ -38,12 +41,15 @@ module _ (run : ℕ) (first : Moment) (s : State) (begun : HasBegun run first s)
   home : NotesAreHome s.core (image_of s.device.sizes told.0)
   home = of_told (λ (m : Media). NotesAreHome s.core (image_of s.device.sizes m)) s.device.media told.0 told.1 begun.held.notes
 
+  dirty_are_one : (stands : Stamped Status) → stands.value ≡ s.core.status.committed → DirtyAreOne (shown_to s told.0) s.core.descriptor (Some stands) (is_there s.core)
+  dirty_are_one = of_told (λ (m : Media). (stands : Stamped Status) → stands.value ≡ s.core.status.committed → DirtyAreOne (shown_to s m) s.core.descriptor (Some stands) (is_there s.core)) s.device.media told.0 told.1 equal
+
   holds : Holds past (moment_of s)
   holds = let upholds : Upholds run first (moment_of s) = last-path begun.keeps in upholds past begins
 
   tied_first : IsTied past s × SparesDescriptors s
   tied_first = ties s told.0 begun.sound begun.settled begun.stamped.epoch whole told.1 held home one
-      (quiet_is_even (shown_to s told.0) s.core.descriptor s.core.status.committed (is_there s.core) (past ++ s.core.history.facts) begun.sound.fitting.valid (images_within (image_of s.device.sizes told.0)) begun.settled.votes held.shows none
+      (quiet_dirty_is_even (shown_to s told.0) s.core.descriptor s.core.status.committed (is_there s.core) (past ++ s.core.history.facts) begun.sound.fitting.valid (images_within (image_of s.device.sizes told.0)) begun.settled.votes held.shows (dirty_are_one held.shows.stands held.shows.committed)
       (λ d lv track_group present. home d lv track_group present ∙ quiet d lv track_group) (holds.kept (image_of s.device.sizes told.0) (media_may s.device told.0 told.1)))
       (members_show s told.0 held (λ d member present. ap (λ (t : Status). calls_missing t d) table ∙ present))
       past holds
@@ -51,7 +57,7 @@ module _ (run : ℕ) (first : Moment) (s : State) (begun : HasBegun run first s)
       (subst (λ (n : ℕ). count_by (begins_in n) past ≡ 0) (sym begun.run_is) begins.own)
 
 pub varied_on_stands : VariedOnStands
-varied_on_stands run first was name moment room old s on begun whole alone past begins = record {
+varied_on_stands run first was name moment room old s on equal begun whole alone past begins = record {
   empty = λ none. begun.held;
   tied = λ some. (tied some).0;
   spares = λ some. (tied some).1;
@@ -64,7 +70,7 @@ varied_on_stands run first was name moment room old s on begun whole alone past 
     quiet d lv track_group = ap (λ (c : Core). is_named_by c.cache d lv track_group) on.first.is ∙ empty_names_none on.written.group on.first.parts.cache on.first.reserved.cache d lv track_group
 
     tied : s.core.descriptor.lvs ≢ [] → IsTied past s × SparesDescriptors s
-    tied some = tied_first run first s begun table whole (alone some).0 (alone some).1 quiet past begins
+    tied some = tied_first run first s begun table whole (alone some) equal quiet past begins
 
 pub made_stands : MadeStands
 made_stands past was w room old s made held =

@@ -1,3 +1,4 @@
 pub mod Commands
 pub mod Making
 pub mod Removing
+pub mod Tidying

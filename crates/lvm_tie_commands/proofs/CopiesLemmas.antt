@@ -1,2 +1,4 @@
 pub mod Adding
 pub mod Taking
+pub mod Splitting
+pub mod Sharing

@@ -1,3 +1,4 @@
 pub mod Rows
 pub mod More
 pub mod Fewer
+pub mod Splitting

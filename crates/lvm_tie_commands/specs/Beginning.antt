@@ -8,8 +8,8 @@ use Rattle.lvm_steps.specs.Moments.{Keeps}
 use Rattle.lvm_commit.specs.LawsOfVolumes.{IsOneFoundOn}
 use Rattle.lvm_session.specs.State.{State}
 use Rattle.lvm_session.specs.Sound.{IsSound}
-use Rattle.lvm_handover.specs.passed.Names.{Room, moment_of, StartsHeld, IsSettled, HasNoPassive}
-use Rattle.lvm_handover.specs.passed.Varyon.{ComesOn}
+use Rattle.lvm_handover.specs.passed.Names.{Room, moment_of, StartsHeld, IsSettled}
+use Rattle.lvm_handover.specs.passed.Varyon.{ComesOn, DirtyAreEqual}
 use Rattle.lvm_handover.specs.passed.Group.{IsMade, NewGroup}
 use Rattle.lvm_handover.specs.passed.Tie.{IsStamped}
 use Rattle.lvm_tie_commands.specs.Standing.{StandsAfter, StandsSince}
@@ -23,11 +23,11 @@ pub record HasBegun (run : ℕ) (first : Moment) (s : State) : Type 0 where
   pub keeps : Keeps run first (moment_of s)
   pub held : StartsHeld s.device s.core
 
--- Where a varyon has begun it: with a volume, where on each crash image whatever any disks find is of one group, and no volume is in mode passive.
+-- Where a varyon has begun it: with a volume, where on each crash image whatever any disks find is of one group, and the copies of volumes that are dirty still are equal.
 abbrev pub VariedOnStands : Type 0
 VariedOnStands = (run : ℕ) (first : Moment) (was : Log) (name : List ℕ) (moment : ℕ) (room : Room) (old : Device) (s : State)
-    → ComesOn old s.device was name moment room s.core → HasBegun run first s → HasSectors s.device
-    → (s.core.descriptor.lvs ≢ [] → IsOneFoundOn s.device × HasNoPassive s.core.descriptor) → StandsSince run first s
+    → ComesOn old s.device was name moment room s.core → DirtyAreEqual s.device s.core → HasBegun run first s → HasSectors s.device
+    → (s.core.descriptor.lvs ≢ [] → IsOneFoundOn s.device) → StandsSince run first s
 
 -- Where a mkvg has: the group has no volume.
 abbrev pub MadeStands : Type 0

@@ -13,12 +13,11 @@ use Rattle.lvm_commit.specs.LawsOfVolumes.{IsOneFoundOn}
 use Rattle.lvm_session.specs.State.{State, is_there}
 use Rattle.lvm_session_start.specs.Beginning.{AreFaults}
 use Rattle.lvm_settled.specs.passed.Names.{Room, BringsOn, IsStarted, NotesAreHome, IsSoundBetween, IsRoom}
-use Rattle.lvm_varyon.specs.Varied.{ComesOn}
+use Rattle.lvm_varyon.specs.Varied.{ComesOn, DirtyAreEqual}
 use Rattle.lvm_group.specs.Made.{IsMade}
 use Rattle.lvm_group.specs.NewGroup.{NewGroup}
 use Rattle.lvm_tie.specs.passed.Names.{IsEven}
 use Rattle.lvm_tie.specs.Tied.{IsGood}
-use Rattle.lvm_varyon.specs.passed.Names.{HasNoPassive}
 use Rattle.lvm_tie.specs.Begins.{ShowsIts, shown_to}
 
 -- ---- what their contracts say
@@ -53,11 +52,11 @@ pub record IsMadeEven (s : State) (media : Media) : Type 0 where
   pub notes : NotesAreHome s.core (image_of s.device.sizes media)
   pub even : (shows : ShowsIts s media) → IsEven (shown_to s media) s.core.descriptor (Some shows.stands) (is_there s.core)
 
--- So it is where no volume is in mode passive and the disks kept some history before: once the notes name nothing, what they keep makes the usable copies even.
+-- So it is where the copies of volumes that are dirty still are equal and the disks kept some history before: once the notes name nothing, what they keep makes the usable copies even.
 abbrev pub VariedIsMadeEven : Type 0
 VariedIsMadeEven = (past : List Fact) (was : Log) (name : List ℕ) (moment : ℕ) (room : Room) (old : Device) (s : State) (media : Media)
     → ComesOn old s.device was name moment room s.core → IsBegun was moment room old s → ClockIsAhead was.run moment old was.facts → (facts : List Fact) → ImagesKept old facts → s.device.media ≡ Some media
-    → HasNoPassive s.core.descriptor → Kept (shown_to s media) past → IsMadeEven s media
+    → DirtyAreEqual s.device s.core → Kept (shown_to s media) past → IsMadeEven s media
 
 -- ---- where it is good
 

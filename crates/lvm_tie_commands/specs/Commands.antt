@@ -8,8 +8,9 @@ use Rattle.lvm_steps.specs.Moments.{Begins, Keeps}
 use Rattle.lvm_commit.specs.LawsOfVolumes.{IsOneFoundOn}
 use Rattle.lvm_session.specs.State.{Core, State, state}
 use Rattle.lvm_session.specs.Sound.{IsSound}
-use Rattle.lvm_handover.specs.passed.Names.{moment_of, StartsHeld, EntersVolumes, GroupFault, NewVolume, IfOn}
+use Rattle.lvm_handover.specs.passed.Names.{moment_of, StartsHeld, EntersVolumes, IsSettled, Leaves, GroupFault, NewVolume, IfOn}
 use Rattle.lvm_handover.specs.passed.Volumes.{MklvGives, RmlvGives, to_make, to_remove}
+use Rattle.lvm_volumes.specs.Tidying.{to_tidy}
 use Rattle.lvm_handover.specs.Serving.{IsCommanded, IsServed}
 use Rattle.lvm_handover.specs.passed.Tie.{IsStamped}
 use Rattle.lvm_tie_commands.specs.Standing.{StandsAfter, StandsSince}
@@ -46,3 +47,7 @@ abbrev pub RmlvGoesOn : Type 0
 RmlvGoesOn = (run : ℕ) (first : Moment) (lv before after : ℕ) (old new : State) (answer : Result (Unit {0}) GroupFault)
     → MayBeCommanded run first old → IsCommanded (to_remove lv old.core) before after old new answer → RmlvGives lv before old new answer
     → Keeps run first (moment_of new) × IfOn answer (IsLeftStandingSince run first new)
+
+-- A span goes on over the dropping of dirty marks that aren't needed, whatever its answer.
+abbrev pub TidyGoesOn : Type 0
+TidyGoesOn = (run : ℕ) (first : Moment) (before after : ℕ) (old new : State) → MayBeCommanded run first old → IsSettled old.core → Leaves (to_tidy old.core) before after old new → Keeps run first (moment_of new)

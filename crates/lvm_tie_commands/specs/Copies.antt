@@ -6,6 +6,7 @@ use Rattle.lvm_steps.specs.Moments.{Keeps}
 use Rattle.lvm_session.specs.State.{State}
 use Rattle.lvm_tie_commands.specs.passed.Names.{moment_of, GroupFault, IfOn}
 use Rattle.lvm_volumes.specs.Mirrors.{MklvcopyGives, RmlvcopyGives, to_add, to_take}
+use Rattle.lvm_split.specs.Splitting.{SplitGives, to_split}
 use Rattle.lvm_tie_commands.specs.passed.Handover.{IsCommanded}
 use Rattle.lvm_tie_commands.specs.Commands.{IsLeftStandingSince, MayBeCommanded}
 
@@ -19,4 +20,10 @@ MklvcopyGoesOn = (run : ℕ) (first : Moment) (lv copies before after : ℕ) (ol
 abbrev pub RmlvcopyGoesOn : Type 0
 RmlvcopyGoesOn = (run : ℕ) (first : Moment) (lv copies before after : ℕ) (old new : State) (answer : Result (Unit {0}) GroupFault)
     → MayBeCommanded run first old → IsCommanded (to_take lv copies old.core) before after old new answer → RmlvcopyGives lv copies before old new answer
+    → Keeps run first (moment_of new) × IfOn answer (IsLeftStandingSince run first new)
+
+-- So it is over the split of a volume, of which some copies become another one.
+abbrev pub SplitGoesOn : Type 0
+SplitGoesOn = (run : ℕ) (first : Moment) (lv : ℕ) (name : List ℕ) (copies before after : ℕ) (old new : State) (answer : Result ℕ GroupFault)
+    → MayBeCommanded run first old → IsCommanded (to_split lv name copies old.core) before after old new answer → SplitGives lv name copies before old new answer
     → Keeps run first (moment_of new) × IfOn answer (IsLeftStandingSince run first new)

@@ -4,6 +4,8 @@ pub mod Commands
 pub mod Beginning
 pub mod Copies
 pub mod Serving
+pub mod SplitServing
 pub mod Settled
 pub mod Coming
 pub mod Examples
+pub mod Sharing

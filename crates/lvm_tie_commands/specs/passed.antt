@@ -4,7 +4,7 @@ pub mod Group
 pub mod Handover
 pub mod Names
 pub mod Ranges
-pub mod Recover
+pub mod Splitting
 pub mod Tie
 pub mod Varyon
 pub mod VolumePlanFaultGroupFault

@@ -5,6 +5,7 @@ pub mod earlier;
 pub mod handover;
 pub mod mirrors;
 pub mod ranges;
+pub mod split;
 pub mod volumes;
 
 pub use lvm_handover::below::{Post, end_posts};

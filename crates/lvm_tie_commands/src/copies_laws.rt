@@ -1,6 +1,7 @@
 //! Laws of sessions over commands on copies. Each call does nothing: its contract is the law.
-ghost use Rattle.lvm_tie_commands.specs.Copies.{MklvcopyGoesOn, RmlvcopyGoesOn};
+ghost use Rattle.lvm_tie_commands.specs.Copies.{MklvcopyGoesOn, RmlvcopyGoesOn, SplitGoesOn};
 ghost use Rattle.lvm_tie_commands.specs.Serving.{MklvcopyServes, RmlvcopyServes};
+ghost use Rattle.lvm_tie_commands.specs.Sharing.{SplitShares, WritesStayApart};
 
 /// A sound session that `mklvcopy` leaves on is sound with requests, once the added copies count as stale from its
 /// beginning.
@@ -22,4 +23,16 @@ pub fn mklvcopy_goes_on()
 /// So they do over `rmlvcopy`, where each logical partition keeps a fresh copy on a member that shows the group.
 pub fn rmlvcopy_goes_on()
     ensures { RmlvcopyGoesOn }
+{}
+
+/// So they do over `split`, whatever the mode of the volume.
+pub fn split_goes_on()
+    ensures { SplitGoesOn }
+{}
+
+/// Behind a split that is answered with a number both volumes are there, and each block that wasn't loose has one value on
+/// all usable copies of both. A later write on one of them changes no block of the other.
+pub fn split_shares()
+    ensures same { SplitShares }
+    ensures apart { WritesStayApart }
 {}

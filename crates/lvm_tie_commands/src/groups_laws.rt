@@ -31,8 +31,8 @@ pub fn varied_on_serves()
     ensures { VariedOnServes }
 {}
 
-/// Its notes are home and its copies even where no volume of the group is in mode passive and its disks keep a history, as
-/// they kept one before.
+/// Its notes are home and its copies even where those of volumes that are dirty still are equal, by the contract of that
+/// call, and its disks keep a history, as they kept one before.
 pub fn varied_is_made_even()
     ensures { VariedIsMadeEven }
 {}

@@ -54,7 +54,4 @@ found_back : (old new : Device) → IsLeftOf old new → (id : ℕ) (k : Descrip
 found_back old new left id k it = (it.0, back old new left it.0 it.1, it.2)
 
 pub left_finds_no_more : LeftFindsNoMore
-left_finds_no_more old new left = (
-  λ one v w g h found also. one v w g h (found_back old new left v g found) (found_back old new left w h also),
-  λ none id k found. none id k (found_back old new left id k found),
-)
+left_finds_no_more old new left one v w g h found also = one v w g h (found_back old new left v g found) (found_back old new left w h also)

@@ -10,7 +10,6 @@ pub mod Begun
 pub mod NewGroupLemmas
 pub mod StandingLemmas
 pub mod LawsLemmas
-pub mod RecoveredLemmas
 pub mod RefusedLemmas
 pub mod OneGroupLemmas
 pub mod EndingLemmas

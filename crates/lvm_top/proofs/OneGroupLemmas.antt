@@ -33,18 +33,18 @@ use Rattle.lvm_volume_plan.specs.declared.new_volume.NewVolume.{NewVolume}
 use Rattle.lvm_line.specs.passed.Group.{NewGroup, new_group, MkvgRefuses, IfShown, HasGroup}
 use Rattle.lvm_line.specs.passed.GroupLines.{IsBetween, patience_of_line, Asks, IsAlone, OfGroup, OfRequests, Role, IsStuck, ScriptState, IsTimely, StandsAlone, log_with, Reply, IsLeft, MkvgDoes, NoMemoryForLine, NoMkvgWhileOn, Makes, asked_for, itself, outcome_of}
 use Rattle.lvm_line.specs.Lines.{LineDoes, role_of}
-use Rattle.lvm_line.specs.passed.VolumeLines.{Drains, IsDone, MklvDoes, RmlvDoes, NoGroupForMklv, BusyMklv, UndrainedMklv, MakesVolume, MklvFails, NoGroupForRmlv, BusyRmlv, UndrainedRmlv, NoVolumeForRmlv, RemovesVolume, RmlvFails, wanted, MklvcopyDoes, NoGroupForMklvcopy, BusyMklvcopy, UndrainedMklvcopy, NoVolumeForMklvcopy, AddsCopies, MklvcopyFails, RmlvcopyDoes, NoGroupForRmlvcopy, BusyRmlvcopy, UndrainedRmlvcopy, NoVolumeForRmlvcopy, RemovesCopies, RmlvcopyFails}
+use Rattle.lvm_line.specs.passed.VolumeLines.{Drains, IsDone, MklvDoes, RmlvDoes, NoGroupForMklv, BusyMklv, UndrainedMklv, MakesVolume, MklvFails, NoGroupForRmlv, BusyRmlv, UndrainedRmlv, NoVolumeForRmlv, RemovesVolume, RmlvFails, wanted, MklvcopyDoes, NoGroupForMklvcopy, BusyMklvcopy, UndrainedMklvcopy, NoVolumeForMklvcopy, AddsCopies, MklvcopyFails, RmlvcopyDoes, NoGroupForRmlvcopy, BusyRmlvcopy, UndrainedRmlvcopy, NoVolumeForRmlvcopy, RemovesCopies, RmlvcopyFails, SplitlvcopyDoes, NoGroupForSplitlvcopy, BusySplitlvcopy, UndrainedSplitlvcopy, NoVolumeForSplitlvcopy, SplitsVolume, SplitlvcopyFails}
 use Rattle.lvm_line.proofs.passed.Tie.{path_frames}
 use Rattle.lvm_top.specs.Script.{Script, NoLine, NextLine, StaysAlone, Ends, AtLine, InLine, EndsAlone, EndsHeard, entry_state, empty_log, facts_of}
 use Rattle.lvm_top.specs.Run.{exit_state}
 use Rattle.lvm_top.proofs.ScriptLemmas.Concluding.{how_ended, stuck_ends, stuck_still}
-use Rattle.lvm_top.proofs.RecoveredLemmas.{HasNoPassiveOn, committed_off, session_off}
 use Rattle.lvm_top.proofs.LeavesLemmas.Quiet.{lit_nothing, quiet_nothing, stays_nothing}
 use Rattle.lvm_top.proofs.StandingLemmas.Volumes.{done_finds, found_before, idle_nothing, undrained_nothing}
 use Rattle.lvm_top.proofs.StandingLemmas.Copying.{fewer_id, more_id}
+use Rattle.lvm_top.proofs.StandingLemmas.Splitting.{split_id}
 use Rattle.lvm_top.proofs.ScriptLemmas.Scripting.{script_went}
 use Rattle.lvm_top.specs.Laws.{MayStart}
-use Rattle.lvm_top.specs.Plain.{FindsNoPassive, FindsOneGroup}
+use Rattle.lvm_top.specs.Plain.{FindsOneGroup}
 use Rattle.lvm_top.specs.OneGroup.{IsUnforced, AreUnforced, EndsUnforced, UnforcedStaysAlone, UnforcedRunsAlone, BlankFindsOneGroup}
 use Rattle.lvm_top.specs.Standing.{MayHaveCommitted, StoodBefore}
 use Rattle.lvm_top.proofs.Begun.{IsIts}
@@ -52,8 +52,7 @@ use Rattle.lvm_top.proofs.Devices.{IsShelf, NothingNew, then_nothing, same_nothi
 use Rattle.lvm_top.proofs.StandingLemmas.Groups.{asked, asked_nothing, not_stuck}
 use Rattle.lvm_top.proofs.LawsLemmas.Lines.{by_reading}
 use Rattle.lvm_top.proofs.NewGroupLemmas.{parts_find, refused_finds}
-use Rattle.lvm_top.proofs.LawsLemmas.Scripts.{images_kept, last_told, run_may_start, stood, went_so}
-use Rattle.lvm_line.specs.passed.Recover.{HasNoPassive}
+use Rattle.lvm_top.proofs.LawsLemmas.Scripts.{last_told, run_may_start, stood, went_so}
 
 -- ---- what is found is shown
 
@@ -204,6 +203,14 @@ module _ (log : Log) (old new : ScriptState) (answer : Reply) (shelf : IsShelf o
     rmlvcopy_one name copies (RemovesCopies core left mid lv some drains its done is) = commanded_one core left mid some drains (λ k its. fewer_id lv copies mid.core k its) done
     rmlvcopy_one name copies (RmlvcopyFails core left mid lv why some drains its done is) = commanded_one core left mid some drains (λ k its. fewer_id lv copies mid.core k its) done
 
+    splitlvcopy_one : (made name : List ℕ) (copies : ℕ) → SplitlvcopyDoes made name copies old new answer → FindsOneGroup now
+    splitlvcopy_one made name copies (NoGroupForSplitlvcopy none is) = same_one is.1
+    splitlvcopy_one made name copies (BusySplitlvcopy busy is) = same_one is.1
+    splitlvcopy_one made name copies (UndrainedSplitlvcopy core why some un) = nothing_one was now (undrained_nothing log.run old new between named stood core why answer some un) one
+    splitlvcopy_one made name copies (NoVolumeForSplitlvcopy core left mid some drains none stays last says) = nothing_one was now (idle_nothing log.run old new between named stood core left mid mid some drains refl stays) one
+    splitlvcopy_one made name copies (SplitsVolume core left mid lv number some drains its done is) = commanded_one core left mid some drains (λ k its. split_id lv made copies mid.core k its) done
+    splitlvcopy_one made name copies (SplitlvcopyFails core left mid lv why some drains its done is) = commanded_one core left mid some drains (λ k its. split_id lv made copies mid.core k its) done
+
   -- ---- another line
 
   other_one : (room : Room) (line : List ℕ) (read : Result (Option Command) Misfit) → line_of line ≡ read → StoodBefore log.run (role_of read) old new → ((id : ℕ) (k : Descriptor) → MayHaveCommitted read answer old new id k → ⊥)
@@ -225,6 +232,7 @@ module _ (log : Log) (old new : ScriptState) (answer : Reply) (shelf : IsShelf o
   line_one room line unforced (Ok (Some (command.Lsvg volumes name))) is stood does = other_one room line _ is stood (λ id k it. it.is) does
   line_one room line unforced (Ok (Some (command.Mklvcopy name copies))) is stood does = mklvcopy_one stood name copies does
   line_one room line unforced (Ok (Some (command.Rmlvcopy name copies))) is stood does = rmlvcopy_one stood name copies does
+  line_one room line unforced (Ok (Some (command.Splitlvcopy made name copies))) is stood does = splitlvcopy_one stood made name copies does
   line_one room line unforced (Ok (Some (command.Lslv name))) is stood does = other_one room line _ is stood (λ id k it. it.is) does
   line_one room line unforced (Ok (Some (command.Lspv disk))) is stood does = other_one room line _ is stood (λ id k it. it.is) does
   line_one room line unforced (Ok (Some (command.Rd name at count))) is stood does = other_one room line _ is stood (λ id k it. it.is) does
@@ -242,70 +250,62 @@ module _ (log : Log) (old new : ScriptState) (answer : Reply) (shelf : IsShelf o
 
 -- ---- the lines of a script
 
--- where one group may be found, with such volumes, and a session has no other
-pub alone_so : (role : Role) (old new : ScriptState) → FindsOneGroup old.moment.device → HasNoPassiveOn old → IsAlone role old new
-alone_so role old new one off = record { enters = λ enters. one_found old.moment.device one; acts = λ acting. by_session old.session off }
+-- where one group may be found
+pub alone_so : (role : Role) (old new : ScriptState) → FindsOneGroup old.moment.device → IsAlone role old new
+alone_so role old new one = record { enters = λ enters. one_found old.moment.device one; acts = λ acting. by_session old.session }
   where
-    by_session : (o : Option Core) → IfSome o (λ core. HasNoPassive core.descriptor) → IfSome o (StandsAlone old.moment.device)
-    by_session None off = tt
-    by_session (Some core) off = λ none some. (one_found old.moment.device one, off)
+    by_session : (o : Option Core) → IfSome o (StandsAlone old.moment.device)
+    by_session None = tt
+    by_session (Some core) = λ none some. one_found old.moment.device one
 
-module _ (log : Log) (room : Room) (past : List Fact) (first : ScriptState) (begin : MayStart log.run past first) (one : FindsOneGroup first.moment.device) (off : FindsNoPassive first.moment.device) where
+module _ (log : Log) (room : Room) (past : List Fact) (first : ScriptState) (begin : MayStart log.run past first) (one : FindsOneGroup first.moment.device) where
   -- all that is so of the lines
-  pub record ScriptOff {lines : List (List ℕ)} {replies : List Reply} {last : ScriptState} (script : Script log room first lines replies last) : Type 0 where
+  pub record ScriptAlone {lines : List (List ℕ)} {replies : List Reply} {last : ScriptState} (script : Script log room first lines replies last) : Type 0 where
     pub alone : StaysAlone script
     pub finds_one : FindsOneGroup last.moment.device
-    pub finds_off : FindsNoPassive last.moment.device
-    pub session : HasNoPassiveOn last
 
-  pub script_one : {lines : List (List ℕ)} {replies : List Reply} {last : ScriptState} (script : Script log room first lines replies last) → AreUnforced script → ScriptOff script
-  script_one NoLine unforced = record { alone = tt; finds_one = one; finds_off = off; session = subst (λ (s : Option Core). IfSome s (λ core. HasNoPassive core.descriptor)) (sym begin.off) tt }
+  pub script_one : {lines : List (List ℕ)} {replies : List Reply} {last : ScriptState} (script : Script log room first lines replies last) → AreUnforced script → ScriptAlone script
+  script_one NoLine unforced = record { alone = tt; finds_one = one }
   script_one (NextLine {mid = mid} {new = new} line answer said heard says before it) unforced =
       let so_far = script_one before unforced.0 in
       let went = script_went log room first before in
-      let now : IsAlone (role_of (line_of line)) mid new = alone_so (role_of (line_of line)) mid new so_far.finds_one so_far.session in
+      let now : IsAlone (role_of (line_of line)) mid new = alone_so (role_of (line_of line)) mid new so_far.finds_one in
       let few : length mid.moment.device.sizes ≤ 128 = subst (λ (sizes : List ℕ). length sizes ≤ 128) (sym (span_sizes (went_so log room past first begin before so_far.alone).0)) begin.few in
       let shelf : IsShelf mid.moment.device = record { few = few; whole = it.whole } in
       let leaves = went.leaves begin.leaves in
       let timely = went.timely begin.timely in
       let stood_so = stood log room past first begin before so_far.alone (role_of (line_of line)) new now in
-      let told_new : IsSome new.moment.device.media = last_told log room past first begin (NextLine line answer said heard says before it) (so_far.alone, now) in
-      let finds = by_reading log room line answer mid new shelf it.between heard timely it.named (line_of line) refl stood_so it.does in
-      let off_new : FindsNoPassive new.moment.device = λ id k found. ⊎_elim (λ was. so_far.finds_off id k was) (λ committed. committed_off line (line_of line) refl answer mid new so_far.session id k committed) (finds id k found) in
       record {
         alone = (so_far.alone, now);
         finds_one = line_one log mid new answer shelf it.between heard timely it.named (last_told log room past first begin before so_far.alone) so_far.finds_one room line unforced.1 (line_of line) refl stood_so it.does;
-        finds_off = off_new;
-        session = session_off log room answer mid new so_far.session (it.goes.begins timely (past ++ mid.moment.facts) (images_kept log room past first begin before so_far.alone)) told_new off_new it.between it.named (line_of line) stood_so it.does;
       }
 
-  ends_alone : {mid last : ScriptState} {done : List (List ℕ)} {said : List Reply} {front : List ℕ} (ends : Ends log room mid last done said front) → FindsOneGroup mid.moment.device → HasNoPassiveOn mid → EndsAlone ends
-  ends_alone (AtLine same) found session = tt
-  ends_alone {mid = mid} {last = last} (InLine line answer said front rest says split it) found session = alone_so (role_of (line_of line)) mid last found session
+  ends_alone : {mid last : ScriptState} {done : List (List ℕ)} {said : List Reply} {front : List ℕ} (ends : Ends log room mid last done said front) → FindsOneGroup mid.moment.device → EndsAlone ends
+  ends_alone (AtLine same) found = tt
+  ends_alone {mid = mid} {last = last} (InLine line answer said front rest says split it) found = alone_so (role_of (line_of line)) mid last found
 
   -- what is so where they end, unless nothing was heard of a transfer
-  ends_one : {lines : List (List ℕ)} {replies : List Reply} {mid last : ScriptState} {done : List (List ℕ)} {said : List Reply} {front : List ℕ} (script : Script log room first lines replies mid) → ScriptOff script → AreUnforced script
-      → (ends : Ends log room mid last done said front) → EndsHeard ends → EndsUnforced ends → FindsOneGroup last.moment.device × HasNoPassiveOn last
-  ends_one script so_far before (AtLine same) heard unforced = (subst (λ (s : ScriptState). FindsOneGroup s.moment.device) (sym same) so_far.finds_one, subst HasNoPassiveOn (sym same) so_far.session)
+  ends_one : {lines : List (List ℕ)} {replies : List Reply} {mid last : ScriptState} {done : List (List ℕ)} {said : List Reply} {front : List ℕ} (script : Script log room first lines replies mid) → ScriptAlone script → AreUnforced script
+      → (ends : Ends log room mid last done said front) → EndsHeard ends → EndsUnforced ends → FindsOneGroup last.moment.device
+  ends_one script so_far before (AtLine same) heard unforced = subst (λ (s : ScriptState). FindsOneGroup s.moment.device) (sym same) so_far.finds_one
   ends_one script so_far before (InLine line answer said front rest says split it) heard unforced =
-      let all = script_one (NextLine line answer said heard says script it) (before, unforced) in
-      (all.finds_one, all.session)
+      (script_one (NextLine line answer said heard says script it) (before, unforced)).finds_one
 
 pub unforced_stays_alone : UnforcedStaysAlone
-unforced_stays_alone log room past first lines replies last script begin one off unforced =
-    let all = script_one log room past first begin one off script unforced in
-    (all.alone, all.finds_one, all.finds_off)
+unforced_stays_alone log room past first lines replies last script begin one unforced =
+    let all = script_one log room past first begin one script unforced in
+    (all.alone, all.finds_one)
 
 -- a history isn't longer than itself
 pub not_more : (a b : List Fact) → b ≡ a → EntersVolumes a b → ⊥
 not_more a b same more = let e : count_by is_of_volume b ≡ count_by is_of_volume a = ap (λ (l : List Fact). count_by is_of_volume l) same in omega (arith, e, more)
 
 pub unforced_runs_alone : UnforcedRunsAlone
-unforced_runs_alone r ran past few ready behind earlier one off unforced =
+unforced_runs_alone r ran past few ready behind earlier one unforced =
     let begin = run_may_start r.named r.entry past few ready behind earlier in
-    let all = script_one (empty_log r.named r.room) r.room (past ++ Cut ∷ []) (entry_state r.entry r.named) begin one off ran.lines.script unforced.0 in (
+    let all = script_one (empty_log r.named r.room) r.room (past ++ Cut ∷ []) (entry_state r.entry r.named) begin one ran.lines.script unforced.0 in (
       all.alone,
-      ends_alone (empty_log r.named r.room) r.room (past ++ Cut ∷ []) (entry_state r.entry r.named) begin one off ran.lines.ends all.finds_one all.session,
+      ends_alone (empty_log r.named r.room) r.room (past ++ Cut ∷ []) (entry_state r.entry r.named) begin one ran.lines.ends all.finds_one,
       λ requests. ⊎_elim
           (λ stuck.
           let none : ran.end.session ≡ None = stuck_ends ran.lines.ends (ran.stuck stuck) in
@@ -314,15 +314,15 @@ unforced_runs_alone r ran past few ready behind earlier one off unforced =
             acts = λ acting. subst (λ (o : Option Core). IfSome o (StandsAlone ran.end.moment.device)) (sym none) tt;
           })
           (λ heard.
-          let last = ends_one (empty_log r.named r.room) r.room (past ++ Cut ∷ []) (entry_state r.entry r.named) begin one off ran.lines.script all unforced.0 ran.lines.ends (ran.heard heard) unforced.1 in
-          alone_so OfRequests ran.end (exit_state r.exit r.history ran.end) last.0 last.1)
+          let last = ends_one (empty_log r.named r.room) r.room (past ++ Cut ∷ []) (entry_state r.entry r.named) begin one ran.lines.script all unforced.0 ran.lines.ends (ran.heard heard) unforced.1 in
+          alone_so OfRequests ran.end (exit_state r.exit r.history ran.end) last)
           (how_ended r.status),
     )
 
 -- ---- disks of zeros
 
 pub blank_finds_one : BlankFindsOneGroup
-blank_finds_one device blank = (λ v w g h is also. absurd (none_found device blank.still free v g is), λ id k is. absurd (none_found device blank.still free id k is))
+blank_finds_one device blank v w g h is also = absurd (none_found device blank.still free v g is)
   where
     shows_none : HasGroup (contents_of (image_of device.sizes blank.media)) false → ⊥
     shows_none has = no_some has.newest (sym (no_descriptor (image_of device.sizes blank.media) blank.blank has.disk) ∙ has.on)

@@ -67,11 +67,10 @@ ran_unforced r ran bytes told nowhere = (
 -- what it upholds
 pub plainly : (r : Run) → IsRun r → UpholdsPlainly r.input.before.content r.named r.entry r.exit (facts_of r.history)
 plainly r ran bytes told nowhere holds past earlier =
-    let alone = unforced_runs_alone r ran past holds.few ran.ready holds.before earlier holds.one holds.none_passive (ran_unforced r ran bytes told nowhere) in
+    let alone = unforced_runs_alone r ran past holds.few ran.ready holds.before earlier holds.one (ran_unforced r ran bytes told nowhere) in
     let upheld : IsUpheld r.named r.entry r.exit (facts_of r.history) = run_upheld r ran alone holds.before in
     (upheld.legal past earlier, upheld.kept past earlier)
 
 pub blank_holds_one_group : BlankHoldsOneGroup
 blank_holds_one_group run entry few blank =
-    let finds = blank_finds_one entry blank in
-    (record { few = few; one = finds.0; none_passive = finds.1; before = told_behind run entry blank }, told_earlier run entry blank)
+    (record { few = few; one = blank_finds_one entry blank; before = told_behind run entry blank }, told_earlier run entry blank)

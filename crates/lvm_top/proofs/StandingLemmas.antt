@@ -1,4 +1,6 @@
 pub mod Volumes
 pub mod Copying
+pub mod Splitting
 pub mod Groups
 pub mod Acknowledged
+pub mod Closing

@@ -9,7 +9,7 @@ use Rattle.lvm_steps.specs.Moments.{IsEarlier}
 use Rattle.lvm_steps.specs.Behind.{IsBehind}
 use Rattle.lvm_core.specs.declared.parts.Room.{Room}
 use Rattle.lvm_line.specs.passed.GroupLines.{ScriptState, Reply}
-use Rattle.lvm_top.specs.Plain.{FindsOneGroup, FindsNoPassive}
+use Rattle.lvm_top.specs.Plain.{FindsOneGroup}
 use Rattle.lvm_top.specs.Run.{Run, IsRun, RanAlone}
 use Rattle.lvm_top.specs.Script.{Script, NoLine, NextLine, StaysAlone, Ends, AtLine, InLine}
 use Rattle.lvm_top.specs.Blank.{IsToldBlank}
@@ -33,20 +33,20 @@ EndsUnforced (InLine line answer said front rest says split does) = IsUnforced l
 abbrev pub RanUnforced : {r : Run} → IsRun r → Type 0
 RanUnforced ran = AreUnforced ran.lines.script × EndsUnforced ran.lines.ends
 
--- Over disks on which one group may be found, without volumes in mode passive, lines without a `mkvg -f` leave it so, and so there is no other one where a volume is
+-- Over disks on which one group may be found lines without a `mkvg -f` leave it so, and so there is no other one where a volume is
 -- made or removed, or acted on.
 abbrev pub UnforcedStaysAlone : Type 0
 UnforcedStaysAlone =
     (log : Log) (room : Room) (past : List Fact) (first : ScriptState) (lines : List (List ℕ)) (replies : List Reply) (last : ScriptState) (script : Script log room first lines replies last)
-    → MayStart log.run past first → FindsOneGroup first.moment.device → FindsNoPassive first.moment.device → AreUnforced script
-    → StaysAlone script × FindsOneGroup last.moment.device × FindsNoPassive last.moment.device
+    → MayStart log.run past first → FindsOneGroup first.moment.device → AreUnforced script
+    → StaysAlone script × FindsOneGroup last.moment.device
 
 -- So it is of a run,
 abbrev pub UnforcedRunsAlone : Type 0
 UnforcedRunsAlone =
     (r : Run) (ran : IsRun r) (past : List Fact)
-    → HasFewDisks r.entry → IsReady r.entry → IsBehind r.named r.entry → IsEarlier r.named r.entry past → FindsOneGroup r.entry → FindsNoPassive r.entry → RanUnforced ran → RanAlone ran
+    → HasFewDisks r.entry → IsReady r.entry → IsBehind r.named r.entry → IsEarlier r.named r.entry past → FindsOneGroup r.entry → RanUnforced ran → RanAlone ran
 
 -- and of each over disks of zeros, on which no group is found.
 abbrev pub BlankFindsOneGroup : Type 0
-BlankFindsOneGroup = (device : Device) → IsToldBlank device → FindsOneGroup device × FindsNoPassive device
+BlankFindsOneGroup = (device : Device) → IsToldBlank device → FindsOneGroup device

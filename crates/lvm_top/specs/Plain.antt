@@ -8,7 +8,6 @@ use Rattle.lvm_steps.specs.Behind.{IsBehind}
 use Rattle.lvm_steps.specs.Moments.{ImagesKept, IsEarlier}
 use Rattle.lvm_core.specs.Leaves.{MayBeFound}
 use Rattle.lvm_parse.specs.Forced.{HasNowhere}
-use Rattle.lvm_line.specs.passed.Recover.{HasNoPassive}
 use Rattle.lvm_top.specs.Blank.{IsToldBlank}
 use Rattle.lvm_top.specs.Standing.{HasFewDisks}
 
@@ -16,15 +15,10 @@ use Rattle.lvm_top.specs.Standing.{HasFewDisks}
 abbrev pub FindsOneGroup : Device → Type 0
 FindsOneGroup device = (v w : ℕ) (g h : Descriptor) → MayBeFound device v g → MayBeFound device w h → v ≡ w
 
--- and has no volume in mode passive
-abbrev pub FindsNoPassive : Device → Type 0
-FindsNoPassive device = (id : ℕ) (k : Descriptor) → MayBeFound device id k → HasNoPassive k
-
--- There are at most 128 disks, at most one group is found on them, none of its volumes is in mode passive, and what stands on them is from before this moment.
+-- There are at most 128 disks, at most one group is found on them, and what stands on them is from before this moment.
 pub record HoldsOneGroup (run : ℕ) (entry : Device) : Type 0 where
   pub few : HasFewDisks entry
   pub one : FindsOneGroup entry
-  pub none_passive : FindsNoPassive entry
   pub before : IsBehind run entry
 
 -- Where the script's bytes are told and have nowhere `-f`, and the disks hold one group at most: behind each history with which the disks may have come, that of

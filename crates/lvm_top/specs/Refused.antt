@@ -1,4 +1,4 @@
--- Why the lines of a script are refused.
+-- Why the lines of a script are refused, and the posts that they tell of ended.
 use Rattle.std.specs.Prelude.{ℕ, List}
 use Rattle.lvm_disk.specs.Counts.{RoseBy}
 use Rattle.lvm_vol.specs.Log.{Log}
@@ -6,14 +6,19 @@ use Rattle.lvm_core.specs.declared.parts.Room.{Room}
 use Rattle.lvm_parse.specs.Grammar.{line_of}
 use Rattle.lvm_line.specs.Causes.{HasCause}
 use Rattle.lvm_line.specs.Complete.{IsOwn, NothingFailed}
+use Rattle.lvm_line.specs.Told.{IsWellTold, NothingSince, ToldCause}
 use Rattle.lvm_line.specs.passed.GroupLines.{Reply, ScriptState, patience_of_line}
 use Rattle.lvm_line.specs.passed.ReplyVariants as reply
 use Rattle.lvm_top.specs.Script.{AtLine, Ends, InLine, NextLine, NoLine, Script}
 
--- a line that is refused has its cause
+-- a line that is refused has its cause,
+abbrev pub IsRefusedFor : List ℕ → Reply → ScriptState → ScriptState → Type 0
+IsRefusedFor line (reply.Refused why) old new = HasCause (line_of line) why old new
+IsRefusedFor line other old new = Unit {0}
+
+-- and so has each post that it tells of, or whose session it ends
 abbrev pub IsForCause : List ℕ → Reply → ScriptState → ScriptState → Type 0
-IsForCause line (reply.Refused why) old new = HasCause (line_of line) why old new
-IsForCause line other old new = Unit {0}
+IsForCause line answer old new = IsRefusedFor line answer old new × ToldCause (line_of line) answer old new
 
 -- so has each of the lines of a script
 abbrev pub AreForCause : {log : Log} {room : Room} {first : ScriptState} {lines : List (List ℕ)} {replies : List Reply} {last : ScriptState}
@@ -33,16 +38,16 @@ abbrev pub EndsInTime : {log : Log} {room : Room} {mid last : ScriptState} {done
 EndsInTime (AtLine same) = Unit {0}
 EndsInTime {mid = mid} {last = last} (InLine line answer said front rest says split does) = RoseBy patience_of_line mid.moment.device.counts.waits last.moment.device.counts.waits → ⊥
 
--- a line is refused for nothing that the shelf did in it, if it is; how each post was answered is no refusal of the `wait` that tells it
+-- a line is refused for nothing that the shelf did in it, if it is
 abbrev pub IsWell : ScriptState → Reply → Type 0
 IsWell old (reply.Refused why) = IsOwn old why
 IsWell old other = Unit {0}
 
--- so is each of the lines of a script in which nothing failed
+-- So is each of the lines of a script in which nothing failed; and each post that a `wait` tells of a session on which nothing failed is done, or had no copy.
 abbrev pub AreComplete : {log : Log} {room : Room} {first : ScriptState} {lines : List (List ℕ)} {replies : List Reply} {last : ScriptState}
     → Script log room first lines replies last → Type 0
 AreComplete NoLine = Unit {0}
-AreComplete (NextLine {mid = mid} {new = new} line answer said goes says before does) = AreComplete before × (NothingFailed (line_of line) mid new → IsWell mid answer)
+AreComplete (NextLine {mid = mid} {new = new} line answer said goes says before does) = AreComplete before × (NothingFailed (line_of line) mid new → IsWell mid answer) × (NothingSince mid new → IsWellTold (line_of line) answer mid new)
 
 -- In whatever script that is so.
 abbrev pub ScriptsAreComplete : Type 0

@@ -88,7 +88,7 @@ pub record IsRun (r : Run) : Type 0 where
   pub power : r.exit.power ≡ true
 
 -- In each line of the run that entered a volume's making or removal, or acted on the session of a group with volumes, whatever any disks found was of one
--- group, and no volume of it was in mode passive; so it was behind the last line, where some line made requests.
+-- group; so it was behind the last line, where some line made requests.
 abbrev pub RanAlone : {r : Run} → IsRun r → Type 0
 RanAlone {r} ran = StaysAlone ran.lines.script × EndsAlone ran.lines.ends
     × (MakeRequests (ran.lines.lines ++ ran.lines.done) → IsAlone OfRequests ran.end (exit_state r.exit r.history ran.end))

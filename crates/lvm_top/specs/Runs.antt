@@ -12,7 +12,7 @@ use Rattle.lvm_top.specs.Script.{facts_of}
 use Rattle.lvm_top.specs.Blank.{IsToldBlank}
 use Rattle.lvm_top.specs.Left.{IsLeftOf}
 use Rattle.lvm_parse.specs.Forced.{HasNowhere}
-use Rattle.lvm_top.specs.Plain.{FindsOneGroup, FindsNoPassive, HoldsOneGroup}
+use Rattle.lvm_top.specs.Plain.{FindsOneGroup, HoldsOneGroup}
 
 -- With whatever a loss of power leaves of what a run has left, the next one may begin at a moment that is later than the first one's last, unless nothing was heard
 -- of a transfer, where what was told before the first names no request of the next.
@@ -31,7 +31,7 @@ TwoRunsUphold = (asked again : Clocked) (first second : Run) (did : Promises ask
 
 -- What a loss of power leaves has no group more than might be found before it.
 abbrev pub LeftFindsNoMore : Type 0
-LeftFindsNoMore = (old new : Device) → IsLeftOf old new → (FindsOneGroup old → FindsOneGroup new) × (FindsNoPassive old → FindsNoPassive new)
+LeftFindsNoMore = (old new : Device) → IsLeftOf old new → FindsOneGroup old → FindsOneGroup new
 
 -- So the premise of the plain promise comes back: what a run leaves whose script has nowhere `-f`, over disks that hold one group at most, holds one group at most
 -- for the next one, unless nothing was heard of a transfer.

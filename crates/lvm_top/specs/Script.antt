@@ -31,8 +31,7 @@ pub data Script (log : Log) (room : Room) (first : ScriptState) : List (List ℕ
   NextLine : {lines : List (List ℕ)} {replies : List Reply} {mid new : ScriptState} (line : List ℕ) (answer said : Reply) → (IsStuck answer → ⊥) → Says answer said
       → Script log room first lines replies mid → IsLine log room line answer mid new → Script log room first (lines ++ line ∷ []) (replies ++ said ∷ []) new
 
--- In each of the lines that enters a volume's making or removal, or acts on the session of a group with volumes, whatever any disks find is of one group,
--- and no volume of that group is in mode passive.
+-- In each of the lines that enters a volume's making or removal, or acts on the session of a group with volumes, whatever any disks find is of one group.
 abbrev pub StaysAlone : {log : Log} {room : Room} {first : ScriptState} {lines : List (List ℕ)} {replies : List Reply} {last : ScriptState} → Script log room first lines replies last → Type 0
 StaysAlone NoLine = Unit {0}
 StaysAlone (NextLine {mid = mid} {new = new} line answer said goes says before does) = StaysAlone before × IsAlone (role_of (line_of line)) mid new

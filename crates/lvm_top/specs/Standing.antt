@@ -16,6 +16,7 @@ use Rattle.lvm_core.specs.Looking.{IsNumberOf}
 use Rattle.lvm_session.specs.State.{Core, State}
 use Rattle.lvm_line.specs.passed.Group.{new_group}
 use Rattle.lvm_line.specs.passed.Volumes.{IsWith, IsWithFirst, IsWithMore}
+use Rattle.lvm_line.specs.passed.Splitting.{IsSplit}
 use Rattle.lvm_core.specs.Leaves.{MayBeFound}
 use Rattle.lvm_line.specs.passed.GroupLines.{asked_for, IsAlone, IsBrokenOff, Role, IsAtRest, StandsBy, ScriptState, Reply}
 use Rattle.lvm_line.specs.passed.VolumeLines.{Drains, wanted}
@@ -31,13 +32,15 @@ pub record WasDrained (old : ScriptState) (core : Core) (mid : State) : Type 0 w
   pub left : ℕ
   pub drains : Drains core old left mid
 
--- the descriptor that a line was to commit: of the group that is made, or of that which is on with a volume more or without one, or with more or fewer copies
+-- the descriptor that a line was to commit: of the group that is made, or of that which is on with a volume more or without one, with more or fewer copies, or with a
+-- volume split
 abbrev pub IsToCommit : Result (Option Command) Misfit → ScriptState → ScriptState → Descriptor → Type 0
 IsToCommit (Ok (Some (command.Mkvg force name mib disks))) old new k = k ≡ new_group old.moment.device.sizes (asked_for name mib disks force new.last)
 IsToCommit (Ok (Some (command.Mklv name copies mode policy group lps))) old new k = (core : Core) × (mid : State) × WasDrained old core mid × IsWith (wanted name copies mode policy lps) mid.core k
 IsToCommit (Ok (Some (command.Rmlv name))) old new k = IsSomeAnd old.session (λ core. (lv : ℕ) × IsNumberOf core.descriptor.lvs name lv × (k ≡ without_volume core.descriptor lv))
 IsToCommit (Ok (Some (command.Mklvcopy name copies))) old new k = (core : Core) × (mid : State) × WasDrained old core mid × ((lv : ℕ) × IsNumberOf core.descriptor.lvs name lv × IsWithMore lv copies mid.core k)
 IsToCommit (Ok (Some (command.Rmlvcopy name copies))) old new k = IsSomeAnd old.session (λ core. (lv : ℕ) × IsNumberOf core.descriptor.lvs name lv × IsWithFirst lv copies core k)
+IsToCommit (Ok (Some (command.Splitlvcopy made name copies))) old new k = (core : Core) × (mid : State) × WasDrained old core mid × ((lv : ℕ) × IsNumberOf core.descriptor.lvs name lv × IsSplit lv made copies mid.core k)
 IsToCommit other old new k = ⊥
 
 -- The line was answered as done or as broken off, and was to commit this descriptor of the group.
@@ -56,7 +59,7 @@ pub data StoodBefore (run : ℕ) (role : Role) (old new : ScriptState) : Type 0 
   HeldAtRest : IsAtRest old → AreHeld old → StoodBefore run role old new
   StandsSince : (past : List Fact) (first : Moment) → StandsBy run first old → Begins run past first → IsAlone role old new → StoodBefore run role old new
 
--- the commands after which a group is on: it was made, varied on, or given a volume or copies more or less
+-- the commands after which a group is on: it was made, varied on, given a volume or copies more or less, or had a volume split
 abbrev pub is_group_command : Command → Bool
 is_group_command (command.Mkvg force name mib disks) = true
 is_group_command (command.Varyon name) = true
@@ -64,6 +67,7 @@ is_group_command (command.Mklv name copies mode policy group lps) = true
 is_group_command (command.Rmlv name) = true
 is_group_command (command.Mklvcopy name copies) = true
 is_group_command (command.Rmlvcopy name copies) = true
+is_group_command (command.Splitlvcopy made name copies) = true
 is_group_command _ = false
 
 -- such a command was answered as done

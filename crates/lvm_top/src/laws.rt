@@ -28,8 +28,8 @@ pub fn blank_holds_one_group()
     ensures { BlankHoldsOneGroup }
 {}
 
-/// Each `varyonvg` of a script that is answered `ok` leaves the group with its records again, and recovered where no volume of
-/// it is in mode passive. One that lacks its quorum has written nothing.
+/// Each `varyonvg` of a script that is answered `ok` leaves the group recovered, whatever the modes of its volumes. One that
+/// lacks its quorum has written nothing.
 pub fn varyons_recover()
     ensures { VaryonsRecover }
 {}

@@ -14,7 +14,7 @@ use Rattle.lvm_kept.specs.Contents.{Contents, contents_of}
 use Rattle.lvm_kept.specs.Recovered.{Recovered}
 use Rattle.lvm_steps.specs.Behind.{ClockIsAhead, IsBehind}
 use Rattle.lvm_rec.specs.declared.homes.Homes.{Homes}
-use Rattle.lvm_varyon.specs.passed.Names.{HasNoRecord, HasRecord, IsAmbiguous, LacksQuorum, Room, Cause, Refused, Parts, IsReservedFor, ArePlaced, first_core, Core, Recopy, ArePlannedInOrder, ArePlanned}
+use Rattle.lvm_varyon.specs.passed.Names.{HasNoRecord, HasRecord, IsAmbiguous, LacksQuorum, Room, Cause, Refused, Parts, IsReservedFor, ArePlaced, first_core, Core, is_there, Recopy, ArePlannedInOrder, ArePlanned, DirtyAreOne}
 use Rattle.lvm_transfer.specs.Reading.{IsUnwritten, IsRested, IsCutOff}
 use Rattle.lvm_varyon.specs.passed.CoreRefusedCause as cause
 use Rattle.lvm_write.specs.Beginning.{Beginning, MayBeginAgain}
@@ -109,10 +109,16 @@ abbrev pub VaryonGives : {S : Type 0} → (S → Device) → Device → Log → 
 VaryonGives device old log name moment room patience (Ok driver) = ComesOn old (device driver.0) log name moment room driver.1
 VaryonGives device old log name moment room patience (Err refused) = VaryonRefuses old (device refused.shelf) name moment patience log refused.cause × (refused.history ≡ log_after refused.cause log)
 
--- So it is, and where the clock's moments rise the group is recovered.
+-- Where the media is told, the usable copies of each logical partition of a volume that is dirty hold one value at each block, by what the session says.
+abbrev pub DirtyAreEqual : Device → Core → Type 0
+DirtyAreEqual device core =
+    IfSome device.media (λ media. (stands : Stamped Status) → stands.value ≡ core.status.committed → DirtyAreOne (contents_of (image_of device.sizes media)) core.descriptor (Some stands) (is_there core))
+
+-- So it is, and where the clock's moments rise the group is recovered, and the copies of volumes that are dirty still are equal.
 pub record VariesOnAt {S : Type 0} (device : S → Device) (log : Log) (name : List ℕ) (moment : ℕ) (room : Room) (patience : ℕ) (old : Device) (outcome : Result (S × Core) (Refused S)) : Type 0 where
   pub gives : VaryonGives device old log name moment room patience outcome
   pub recovered : IfOk outcome (λ driver. ClockIsAhead log.run moment old log.facts → IsRecovered old (device driver.0) driver.1.descriptor)
+  pub equal : IfOk outcome (λ driver. ClockIsAhead log.run moment old log.facts → DirtyAreEqual (device driver.0) driver.1)
 
 -- ---- before the session
 

@@ -1,5 +1,5 @@
 -- How `mklv` and `rmlv` end.
-use Rattle.std.proofs.Common.{◌≡◌, ◌==◌, ◌≤◌, ⊎_elim, [], ℕ, List, true, false, Err, refl, sym, ◌∙◌, ap, subst, Result, Ok, arith}
+use Rattle.std.proofs.Common.{◌≡◌, ◌==◌, ◌≤◌, ◌⊎◌, ⊎_elim, [], ℕ, List, true, false, Err, refl, sym, ◌∙◌, ap, subst, Result, Ok, arith}
 use Rattle.std.specs.List.{list_any}
 use Rattle.lvm_num.specs.declared.descriptor.PvRow.{PvRow}
 use Rattle.lvm_disk.specs.Counts.{Rose}
@@ -22,12 +22,14 @@ use Rattle.lvm_range_lines.specs.passed.VolumePlanFaultGroupFault as fault
 
 -- ---- what is known by the answer
 
--- what has happened to the shelf where a fault comes from it; else nothing has
+-- what has happened to the shelf where a fault comes from it; else nothing has, but where a command may have halted behind a status that it committed
 abbrev pub FaultFacts : GroupFault → ℕ → State → State → Type 0
 FaultFacts fault.Dark patience old new = (new.device.flights ≡ []) × Rose old.device.counts.cuts new.device.counts.cuts
 FaultFacts (fault.WentOff have total) patience old new = HasLostQuorum old.core.status new.core.status old.device new.device have total × IsReady new.device
 FaultFacts fault.Stuck patience old new = IsGivenUp 0 patience old.device new.device
 FaultFacts (fault.DiskFailed disk) patience old new = Rose (old.device.counts.faults disk) (new.device.counts.faults disk) × IsReady new.device
+FaultFacts (fault.StaleCopy lp) patience old new = (new ≡ old) ⊎ IsReady new.device
+FaultFacts (fault.LastFresh lp) patience old new = (new ≡ old) ⊎ IsReady new.device
 FaultFacts _ patience old new = new ≡ old
 
 abbrev pub Facts : {X : Type 0} → Result X GroupFault → ℕ → State → State → Type 0
@@ -56,9 +58,9 @@ module _ (v : NewVolume) (patience : ℕ) (old new : State) (on : old.core.power
 module _ (lv patience : ℕ) (old new : State) (on : old.core.power ≡ power.On) where
   pub rmlv_facts : (given : Result (Unit {0}) GroupFault) → RmlvGives lv patience old new given → Facts given patience old new
   rmlv_facts (Ok done) removed = removed.ready
-  rmlv_facts (Err fault.Dark) gives = ⊎_elim (λ refused. absurd (not_dark old on refused.1)) (λ removing. (removing.ends.cut.flights, removing.ends.cut.cuts)) gives
-  rmlv_facts (Err (fault.WentOff have total)) gives = ⊎_elim (λ refused. absurd (not_off old on refused.1.0)) (λ removing. (removing.ends.lost, removing.ends.ready)) gives
-  rmlv_facts (Err fault.Stuck) removing = removing.ends.out
+  rmlv_facts (Err fault.Dark) gives = ⊎_elim (λ refused. absurd (not_dark old on refused.1)) (λ gone. ⊎_elim (λ before. (before.cut.flights, before.cut.cuts)) (λ behind. (behind.cut.flights, behind.cut.cuts)) gone.ends) gives
+  rmlv_facts (Err (fault.WentOff have total)) gives = ⊎_elim (λ refused. absurd (not_off old on refused.1.0)) (λ gone. ⊎_elim (λ before. (before.lost, before.ready)) (λ behind. (behind.lost, behind.ready)) gone.ends) gives
+  rmlv_facts (Err fault.Stuck) gone = ⊎_elim (λ before. before.out) (λ behind. behind.out) gone.ends
   rmlv_facts (Err fault.Busy) refused = refused.0
   rmlv_facts (Err fault.NoVolume) refused = refused.0
   rmlv_facts (Err fault.HistoryFull) refused = refused.0
@@ -89,6 +91,8 @@ module _ {X : Type 0} (patience : ℕ) (old new : State) where
   ready_still (Err (fault.WentOff have total)) ready facts ends = absurd (cc (ends))
   ready_still (Err fault.Stuck) ready facts ends = absurd (cc (ends))
   ready_still (Err (fault.DiskFailed disk)) ready facts ends = facts.1
+  ready_still (Err (fault.StaleCopy lp)) ready facts ends = ⊎_elim (as_is old new ready) (λ now. now) facts
+  ready_still (Err (fault.LastFresh lp)) ready facts ends = ⊎_elim (as_is old new ready) (λ now. now) facts
   ready_still (Err _) ready facts ends = as_is old new ready facts
 
   -- and once it was closed and lit again.
@@ -110,7 +114,7 @@ pub record SameShape (old new : State) : Type 0 where
   pub origin : new.core.origin ≡ old.core.origin
   pub pvs : new.core.descriptor.pvs ≡ old.core.descriptor.pvs
 
-shape_as : (old new : State) → new ≡ old → SameShape old new
+pub shape_as : (old new : State) → new ≡ old → SameShape old new
 shape_as old new same = record { origin = ap (λ (s : State). s.core.origin) same; pvs = ap (λ (s : State). s.core.descriptor.pvs) same }
 
 pub mklv_shape : (v : NewVolume) (patience : ℕ) (old new : State) (given : Result ℕ GroupFault) → MklvGives v patience old new given → is_over given ≡ false → SameShape old new

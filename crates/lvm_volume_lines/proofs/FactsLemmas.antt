@@ -1,15 +1,15 @@
 -- What the entries of a command leave true of the history: each request has landed, and answers that aren't taken stay.
-use Rattle.std.proofs.Common.{◌≡◌, inl, inr, ◌++◌, ◌∷◌, [], ℕ, List, Result, Ok, Err, refl, sym, ◌∙◌, subst}
+use Rattle.std.proofs.Common.{◌≡◌, inl, inr, ⊎_elim, ◌++◌, ◌∷◌, [], ℕ, List, Result, Ok, Err, refl, sym, ◌∙◌, subst}
 use Rattle.lvm_num.specs.declared.descriptor.Mode.{Mode}
 use Rattle.lvm_num.specs.declared.place.Pp.{Pp}
 use Rattle.lvm_num.specs.Geometry.{volume_blocks}
 use Rattle.lvm_vol.specs.declared.entry.Vol.TheVariants.{Lv}
 use Rattle.lvm_vol.specs.Facts.{Fact, Making, Made, Removing, Removed}
-use Rattle.lvm_vol.specs.Log.{Log}
+use Rattle.lvm_vol.specs.Log.{Log, cut_log}
 use Rattle.lvm_core.specs.Sound.{HaveAllLanded}
 use Rattle.lvm_session.specs.State.{Core, State}
 use Rattle.lvm_range_lines.specs.passed.Names.{Asked, AreAnswered, GroupFault, NewVolume}
-use Rattle.lvm_range_lines.specs.passed.Volumes.{MklvGives, RmlvGives, HasEntered, making, removing}
+use Rattle.lvm_range_lines.specs.passed.Volumes.{MklvGives, RmlvGives, HasEntered, making, removed, removing}
 use Rattle.lvm_range_lines.proofs.passed.GroupLines.{Bears, open_more, bears_cut, landed_bears, answered_bears, answered_on}
 use Rattle.lvm_range_lines.specs.passed.VolumePlanFaultGroupFault as fault
 
@@ -71,16 +71,23 @@ module _ (P : List Fact → Type 0) (bears : BearsVolumes P) where
     with_removing : P (removing lv old).facts
     with_removing = bears.removing old.core.history.facts lv holds
 
+    with_removed : P (removed lv old).facts
+    with_removed = bears.removed (removing lv old).facts lv with_removing
+
     kept : new ≡ old → P new.core.history.facts
     kept same = subst (λ (s : State). P s.core.history.facts) (sym same) holds
 
+    -- as far as it was entered, and then a cut
+    cut : (log : Log) → new.core.history ≡ cut_log log → P log.facts → P new.core.history.facts
+    cut log is so_far = subst (λ (l : Log). P l.facts) (sym is) (bears_cut P bears.cut log so_far)
+
     pub rmlv_bears : (given : Result (Unit {0}) GroupFault) → RmlvGives lv patience old new given → P new.core.history.facts
-    rmlv_bears (Ok done) made = subst (λ (c : Core). P c.history.facts) (sym made.is) (bears.removed (removing lv old).facts lv with_removing)
+    rmlv_bears (Ok done) made = subst (λ (c : Core). P c.history.facts) (sym made.is) with_removed
     rmlv_bears (Err fault.Dark) (inl refused) = kept refused.0
-    rmlv_bears (Err fault.Dark) (inr ends) = subst (λ (l : Log). P l.facts) (sym ends.ends.history) (bears_cut P bears.cut (removing lv old) with_removing)
+    rmlv_bears (Err fault.Dark) (inr gone) = ⊎_elim (λ before. cut (removing lv old) before.history with_removing) (λ behind. cut (removed lv old) behind.history with_removed) gone.ends
     rmlv_bears (Err (fault.WentOff have total)) (inl refused) = kept refused.0
-    rmlv_bears (Err (fault.WentOff have total)) (inr ends) = as_is (removing lv old) new.core.history ends.ends.history with_removing
-    rmlv_bears (Err fault.Stuck) ends = as_is (removing lv old) new.core.history ends.ends.history with_removing
+    rmlv_bears (Err (fault.WentOff have total)) (inr gone) = ⊎_elim (λ before. as_is (removing lv old) new.core.history before.history with_removing) (λ behind. as_is (removed lv old) new.core.history behind.history with_removed) gone.ends
+    rmlv_bears (Err fault.Stuck) gone = ⊎_elim (λ before. as_is (removing lv old) new.core.history before.history with_removing) (λ behind. as_is (removed lv old) new.core.history behind.history with_removed) gone.ends
     rmlv_bears (Err fault.Busy) refused = kept refused.0
     rmlv_bears (Err fault.NoVolume) refused = kept refused.0
     rmlv_bears (Err fault.HistoryFull) refused = kept refused.0

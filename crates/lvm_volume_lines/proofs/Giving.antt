@@ -50,7 +50,7 @@ module _ (lv copies patience : ℕ) (old new : State) where
     rmlvcopy_facts (Err fault.VolumeExists) none = absurd none
     rmlvcopy_facts (Err (fault.CopyLimit now)) refused = refused.0
     rmlvcopy_facts (Err (fault.StaleCopy lp)) none = absurd none
-    rmlvcopy_facts (Err (fault.LastFresh lp)) refused = refused.0
+    rmlvcopy_facts (Err (fault.LastFresh lp)) refused = inl refused.0
     rmlvcopy_facts (Err (fault.TooMany limit)) none = absurd none
     rmlvcopy_facts (Err (fault.NoRoom free)) none = absurd none
     rmlvcopy_facts (Err fault.HistoryFull) refused = refused.0

@@ -11,4 +11,6 @@ pub mod VolumesLemmas
 pub mod Giving
 pub mod CopiesServingLemmas
 pub mod CopiesLemmas
+pub mod SplittingLemmas
 pub mod ResyncingLemmas
+pub mod ClosingLemmas

@@ -161,10 +161,10 @@ stuck_says core (Err (fault.Missing disk)) e = absurd (cc e)
 
 -- ---- the states
 
-pub fails_if : {S : Type 0} (device : S → Device) (end : S × Core) (posts : Vec Post) (bytes : Vec ℕ) (stage : Stage S) (last : ℕ) (b : Bool) → ComesTo device b (holder.Serving end) posts bytes stage
+pub fails_if : {S : Type 0} (device : S → Device) (end : S × Core) (posts : Vec Post) (bytes : Vec ℕ) (stage : Stage S) (last : ℕ) (b : Bool) → ArePosted end.1.history.facts (Some end.1) posts.items → ComesTo device b (holder.Serving end) posts bytes stage
     → FailsIf b (state_of device end) posts.items last (state_in device stage last)
-fails_if device end posts bytes stage last false carried = carried_leaves device end posts bytes stage last carried
-fails_if device end posts bytes stage last true ended = ended_is_over device end posts.items stage last ended
+fails_if device end posts bytes stage last false stood carried = carried_leaves device end posts bytes stage last stood carried
+fails_if device end posts bytes stage last true stood ended = ended_is_over device end posts.items stage last stood ended
 
 -- ---- the line
 

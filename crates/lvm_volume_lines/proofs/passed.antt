@@ -4,6 +4,7 @@ pub mod Names
 pub mod Quiesce
 pub mod RangeLines
 pub mod Ranges
+pub mod Splitting
 pub mod TieCommands
 pub mod Varyon
 pub mod Tie

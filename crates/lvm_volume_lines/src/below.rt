@@ -5,6 +5,7 @@ pub mod driver;
 pub mod group_lines;
 pub mod mirrors;
 pub mod range_lines;
+pub mod split;
 pub mod stage;
 
 pub use lvm_range_lines::below::Post;

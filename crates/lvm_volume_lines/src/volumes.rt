@@ -87,8 +87,8 @@ fn relight_after_fault<S: Shelf>(shelf: &mut S, why: GroupFault)
     }
 }
 
-// Closes a session that is over by a fault. Its posts have ended with its votes.
-fn close_after<S: Shelf>(
+/// Closes a session that is over by a fault. Its posts have ended with its votes.
+pub fn close_after<S: Shelf>(
     driver: Driver<S>,
     posts: Vec<Post>,
     bytes: Vec<u8>,
@@ -174,8 +174,8 @@ pub fn after_fault<S: Shelf>(
     }
 }
 
-// What a command that adds no copies leaves of a session that was answered so.
-fn after<S: Shelf, T: Copy>(
+/// What a command that adds no copies leaves of a session that was answered so.
+pub fn after<S: Shelf, T: Copy>(
     driver: Driver<S>,
     posts: Vec<Post>,
     bytes: Vec<u8>,

@@ -4,3 +4,4 @@ pub mod Clearing
 pub mod Entering
 pub mod Removing
 pub mod Naming
+pub mod Unmarking

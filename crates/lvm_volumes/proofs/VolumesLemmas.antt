@@ -1,17 +1,16 @@
 -- What the making and the removal of a volume answer.
-use Rattle.std.proofs.Common.{◌≡◌, inl, inr, ⊎_elim, ℕ, Bool, true, false, Result, Err, refl, ◌∙◌, arith}
+use Rattle.std.proofs.Common.{◌≡◌, ◌⊎◌, inl, inr, ⊎_elim, ℕ, Bool, true, false, Result, Err, refl, subst, ◌∙◌, arith}
 use Rattle.std.specs.Prelude.{⊤, MatchBool, Contains, slice_set}
 use Rattle.lvm_num.specs.declared.place.Pp.{Pp}
 use Rattle.lvm_num.specs.declared.descriptor.Descriptor.{Descriptor}
-use Rattle.lvm_vol.specs.declared.entry.Vol.TheVariants.{Lv}
-use Rattle.lvm_vol.specs.Facts.{Making, Made, Removed}
+use Rattle.lvm_vol.specs.Facts.{Making, Made}
 use Rattle.lvm_vol.specs.Log.{Log, with_fact}
-use Rattle.lvm_volume_plan.specs.passed.Names.{CommitFault, IsSettled, NoPartition, Leaves}
+use Rattle.lvm_volume_plan.specs.passed.Names.{CommitFault, IsSettled, Leaves}
 use Rattle.lvm_volume_plan.specs.passed.CoreFaultCommitFault as commit
 use Rattle.lvm_session.specs.State.{State}
-use Rattle.lvm_volumes.specs.Endings.{commanding}
-use Rattle.lvm_volumes.specs.Stages.{making_of, MakingBroke, MakeEnds, IsNamed, RemoveEnds, IsUnnamed}
-use Rattle.lvm_volumes.specs.Volumes.{IsWith, IsChosen, making, HasEntered, MakingEnds, IsVolumeMade, MklvGives, to_make, IsVolumeRemoved, RmlvGives, to_remove}
+use Rattle.lvm_volumes.specs.Endings.{commanding, removing_by, with_descriptor}
+use Rattle.lvm_volumes.specs.Stages.{CommandBroke, making_of, MakingBroke, MakeEnds, IsNamed, RemoveEnds, IsGone}
+use Rattle.lvm_volumes.specs.Volumes.{IsWith, IsChosen, making, HasEntered, MakingEnds, IsVolumeMade, MklvGives, to_make, IsVolumeRemoved, RmlvGives, removed, removing, to_remove, unnamed}
 use Rattle.lvm_volumes.proofs.Leaving.{leaves_wider}
 use Rattle.lvm_volume_plan.specs.declared.fault.GroupFault.{GroupFault}
 use Rattle.lvm_volume_plan.specs.declared.fault.GroupFault.TheVariants as fault
@@ -105,25 +104,30 @@ module _ (lv : ℕ) (next : Descriptor) (a : State) (without : IsWithout lv a.co
   its_rest : (d : Descriptor) → d ≡ next → d ≡ without_volume a.core.descriptor lv
   its_rest d is = is ∙ without.is
 
-  pub removed_leaves : (p q : ℕ) (b : State) → Leaves (commanding (λ d. d ≡ next) NoPartition 1) p q a b → Leaves (to_remove lv a.core) p q a b
-  removed_leaves p q b = leaves_wider (commanding (λ d. d ≡ next) NoPartition 1) (to_remove lv a.core) its_rest (λ pp none. none) (λ pp none. none) (λ pp none. none) (λ lv none. none) (omega arith) p q a b (λ run first held only. only)
+  pub removed_leaves : (p q : ℕ) (b : State) → Leaves (removing_by (λ d. d ≡ next) lv) p q a b → Leaves (to_remove lv a.core) p q a b
+  removed_leaves p q b = leaves_wider (removing_by (λ d. d ≡ next) lv) (to_remove lv a.core) its_rest (λ pp none. none) (λ pp none. none) (λ pp none. none) (λ n is. is) (omega arith) p q a b (λ run first held only. only)
+
+  -- it broke off before it was done, or behind that
+  broke_off : (p : ℕ) (b : State) (why : CommitFault) → RemoveEnds lv next p a b (Err why) → CommandBroke (removing lv a) p a b why ⊎ CommandBroke (removed lv a) p (unnamed lv a) b why
+  broke_off p b why ends = subst (λ (d : Descriptor). CommandBroke (removing lv a) p a b why ⊎ CommandBroke (removed lv a) p (with_descriptor d a) b why) without.is ends
 
   pub remove_fails : (p : ℕ) (b : State) (why : CommitFault) → RemoveEnds lv next p a b (Err why) → RmlvGives lv p a b (Err (fault_of why))
-  remove_fails p b commit.Dark ends = inr (record { may = without.may; ends = ends })
-  remove_fails p b (commit.WentOff have total) ends = inr (record { may = without.may; ends = ends })
-  remove_fails p b (commit.DiskFailed disk) ends = ends
-  remove_fails p b commit.Stuck ends = record { may = without.may; ends = ends }
+  remove_fails p b commit.Dark ends = inr (record { may = without.may; ends = broke_off p b commit.Dark ends })
+  remove_fails p b (commit.WentOff have total) ends = inr (record { may = without.may; ends = broke_off p b (commit.WentOff have total) ends })
+  remove_fails p b (commit.DiskFailed disk) ends = ⊎_elim (λ none. none) (λ none. none) ends
+  remove_fails p b commit.Stuck ends = record { may = without.may; ends = broke_off p b commit.Stuck ends }
 
   pub remove_settled : (p : ℕ) (b : State) (why : CommitFault) → RemoveEnds lv next p a b (Err why) → IfOn {A = Unit {0}} (Err (fault_of why)) (IsSettled b.core)
   remove_settled p b commit.Dark ends = tt
   remove_settled p b (commit.WentOff have total) ends = tt
-  remove_settled p b (commit.DiskFailed disk) ends = absurd ends
+  remove_settled p b (commit.DiskFailed disk) ends = ⊎_elim (λ none. absurd none) (λ none. absurd none) ends
   remove_settled p b commit.Stuck ends = tt
 
-  pub remove_given : (b : State) → IsUnnamed lv next a b → IsVolumeRemoved lv a b
-  remove_given b unnamed = record {
+  pub remove_given : (b : State) → IsGone lv next a b → IsVolumeRemoved lv a b
+  remove_given b gone = record {
     may = without.may;
-    is = unnamed.is ∙ (λ t. record a.core { descriptor = without.is t; history = with_fact (Rattle.lvm_volumes.specs.Volumes.removing lv a) (Removed (Lv lv)); status = b.core.status; homes = b.core.homes });
-    ready = unnamed.ready;
-    cuts = unnamed.cuts;
+    is = gone.unnamed.is ∙ (λ t. record a.core { descriptor = without.is t; history = removed lv a; status = b.core.status; homes = b.core.homes });
+    clean = gone.clean;
+    ready = gone.unnamed.ready;
+    cuts = gone.unnamed.cuts;
   }

@@ -79,3 +79,11 @@ IfAlone old new run first = EntersVolumes old.core.history.facts new.core.histor
 -- a command on volumes that may commit such descriptors, write zeros to such partitions and make them fresh, and spend so many numbers
 abbrev pub commanding : (Descriptor → Type 0) → (Pp → Type 0) → ℕ → Scope
 commanding N Z numbers = record { next = N; zeros = Z; stale = NoPartition; fresh = Z; marks = NoVolume; numbers = numbers; lets = IfAlone }
+
+-- a removal of the volume of this number, which may commit such descriptors and drop its mark
+abbrev pub removing_by : (Descriptor → Type 0) → ℕ → Scope
+removing_by N lv = record { next = N; zeros = NoPartition; stale = NoPartition; fresh = NoPartition; marks = λ n. n ≡ lv; numbers = 2; lets = IfAlone }
+
+-- a session with another descriptor
+abbrev pub with_descriptor : Descriptor → State → State
+with_descriptor d s = record s { core = record s.core { descriptor = d } }

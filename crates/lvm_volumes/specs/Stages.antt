@@ -1,21 +1,20 @@
 -- The stages in which a volume is made or removed on a session.
-use Rattle.std.specs.Prelude.{◌≡◌, ◌≢◌, ◌⊎◌, ℕ, ◌<◌, ◌≤◌, List, Result, Ok, Err, IsTrue, IsFalse, All, AllPairs, slice_set}
+use Rattle.std.specs.Prelude.{◌≡◌, ◌≢◌, ◌⊎◌, ℕ, ◌<◌, ◌≤◌, List, None, Result, Ok, Err, IsTrue, IsFalse, All, AllPairs, slice_set}
 use Rattle.lvm_num.specs.declared.place.Pp.{Pp}
 use Rattle.lvm_num.specs.declared.descriptor.Descriptor.{Descriptor}
 use Rattle.lvm_num.specs.declared.status.Status.{Status}
-use Rattle.lvm_num.specs.Descriptor.{IsPartitionOf}
-use Rattle.lvm_num.specs.Status.{calls_stale, calls_missing}
+use Rattle.lvm_num.specs.Descriptor.{IsPartitionOf, IsValid, volume_of}
+use Rattle.lvm_num.specs.Status.{IsVolumeNumber, calls_stale, calls_missing, calls_dirty}
 use Rattle.lvm_disk.specs.Counts.{Rose}
 use Rattle.lvm_disk.specs.Device.{IsReady}
-use Rattle.lvm_vol.specs.declared.entry.Vol.TheVariants.{Lv}
-use Rattle.lvm_vol.specs.Facts.{Fact, Making, Made, Removed}
+use Rattle.lvm_vol.specs.Facts.{Fact, Making, Made}
 use Rattle.lvm_vol.specs.Log.{Log, with_fact}
 use Rattle.lvm_map.specs.FirstFit.{has_partition_on}
-use Rattle.lvm_volume_plan.specs.passed.Names.{IsFree, MarksLeft, CommitFault, IsSettled, HasGoneDark, IsLeftOut, CommitEnds, Leaves, committing, IsAsBefore, last_reads}
+use Rattle.lvm_volume_plan.specs.passed.Names.{Always, NoDescriptor, NoPartition, Scope, IsFree, MarksLeft, CommitFault, IsSettled, HasGoneDark, IsLeftOut, CommitEnds, Leaves, committing, IsAsBefore, last_reads}
 use Rattle.lvm_volume_plan.specs.passed.CoreFaultCommitFault as commit
 use Rattle.lvm_session.specs.State.{Core, State, is_there}
-use Rattle.lvm_volumes.specs.Endings.{CommandDarkened, CommandWentOff, CommandStuck, CommandFailed}
-use Rattle.lvm_volumes.specs.Volumes.{AreZeroed, removing}
+use Rattle.lvm_volumes.specs.Endings.{CommandDarkened, CommandWentOff, CommandStuck, CommandFailed, with_descriptor}
+use Rattle.lvm_volumes.specs.Volumes.{AreZeroed, removed, removing}
 use Rattle.lvm_volume_plan.specs.declared.new_volume.NewVolume.{NewVolume}
 use Rattle.lvm_volume_plan.specs.declared.new_volume.VolumePlan.{VolumePlan}
 use Rattle.lvm_volume_plan.specs.PlannedVolume.{IsPlannedVolume}
@@ -147,13 +146,31 @@ MayMake core plan = (v : NewVolume) × IsPlannedVolume v core plan × (1 ≤ v.l
 -- The descriptor without the volume is committed, and both entries are made.
 pub record IsUnnamed (lv : ℕ) (next : Descriptor) (old new : State) : Type 0 where
   pub settled : IsSettled new.core
-  pub is : new.core ≡ record old.core { descriptor = next; history = with_fact (removing lv old) (Removed (Lv lv)); status = new.core.status; homes = new.core.homes }
+  pub is : new.core ≡ record old.core { descriptor = next; history = removed lv old; status = new.core.status; homes = new.core.homes }
   pub ready : IsReady new.device
   pub cuts : new.device.counts.cuts ≡ old.device.counts.cuts
 
+-- how they came to be so, or didn't
+abbrev pub UnnameEnds : ℕ → Descriptor → ℕ → State → State → Result (Unit {0}) CommitFault → Type 0
+UnnameEnds lv next patience old new (Ok done) = IsUnnamed lv next old new
+UnnameEnds lv next patience old new (Err why) = CommandBroke (removing lv old) patience old new why
+
+-- the group hasn't a volume of the number, which one may have
+pub record IsGoneFrom (lv : ℕ) (d : Descriptor) : Type 0 where
+  pub number : IsVolumeNumber lv
+  pub valid : IsValid d
+  pub none : volume_of d lv ≡ None
+
+-- what may be done then: a status is committed in which it isn't dirty
+abbrev pub unmarking : ℕ → Scope
+unmarking lv = record { next = NoDescriptor; zeros = NoPartition; stale = NoPartition; fresh = NoPartition; marks = λ n. n ≡ lv; numbers = 1; lets = Always }
+
+-- so its number isn't dirty
+pub record IsGone (lv : ℕ) (next : Descriptor) (old new : State) : Type 0 where
+  pub unnamed : IsUnnamed lv next old new
+  pub clean : IsFalse (calls_dirty new.core.status.committed lv)
+
+-- a removal broke off before the descriptor was committed, or behind both entries
 abbrev pub RemoveEnds : ℕ → Descriptor → ℕ → State → State → Result (Unit {0}) CommitFault → Type 0
-RemoveEnds lv next patience old new (Ok done) = IsUnnamed lv next old new
-RemoveEnds lv next patience old new (Err commit.Dark) = CommandDarkened (removing lv old) old new
-RemoveEnds lv next patience old new (Err (commit.WentOff have total)) = CommandWentOff (removing lv old) have total old new
-RemoveEnds lv next patience old new (Err commit.Stuck) = CommandStuck (removing lv old) patience old new
-RemoveEnds lv next patience old new (Err (commit.DiskFailed disk)) = ⊥
+RemoveEnds lv next patience old new (Ok done) = IsGone lv next old new
+RemoveEnds lv next patience old new (Err why) = CommandBroke (removing lv old) patience old new why ⊎ CommandBroke (removed lv old) patience (with_descriptor next old) new why

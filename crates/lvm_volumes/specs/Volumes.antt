@@ -3,15 +3,15 @@ use Rattle.std.specs.Prelude.{◌≡◌, ◌⊎◌, ℕ, ◌<◌, List, Result, 
 use Rattle.lvm_num.specs.declared.place.Pp.{Pp}
 use Rattle.lvm_num.specs.declared.descriptor.Descriptor.{Descriptor}
 use Rattle.lvm_num.specs.Geometry.{volume_blocks}
-use Rattle.lvm_num.specs.Status.{calls_stale}
+use Rattle.lvm_num.specs.Status.{calls_stale, calls_dirty}
 use Rattle.lvm_disk.specs.Device.{Device, IsReady}
 use Rattle.lvm_vol.specs.declared.entry.Vol.TheVariants.{Lv}
 use Rattle.lvm_vol.specs.Facts.{Making, Made, Removing, Removed}
 use Rattle.lvm_vol.specs.Log.{Log, with_fact}
 use Rattle.lvm_map.specs.FirstFit.{has_partition_on}
 use Rattle.lvm_session.specs.State.{Core, State, is_there}
-use Rattle.lvm_volume_plan.specs.passed.Names.{IsZeroed, Scope, NoPartition}
-use Rattle.lvm_volumes.specs.Endings.{CommandDarkened, CommandWentOff, CommandStuck, CommandFailed, commanding}
+use Rattle.lvm_volume_plan.specs.passed.Names.{IsZeroed, Scope}
+use Rattle.lvm_volumes.specs.Endings.{CommandDarkened, CommandWentOff, CommandStuck, CommandFailed, commanding, removing_by, with_descriptor}
 use Rattle.lvm_volume_plan.specs.declared.fault.GroupFault.{GroupFault}
 use Rattle.lvm_volume_plan.specs.declared.fault.GroupFault.TheVariants as fault
 use Rattle.lvm_volume_plan.specs.declared.new_volume.NewVolume.{NewVolume}
@@ -103,34 +103,43 @@ MklvGives v patience old new (Err fault.Memory) = IsRefused (RefusesMklv v) faul
 abbrev pub removing : ℕ → State → Log
 removing lv s = with_fact s.core.history (Removing (Lv lv))
 
--- The volume is removed: the descriptor names it no more, and the history says so; members that became missing aside, and the copies that they left behind,
--- nothing else of the session has changed.
+-- the history with both entries of its removal
+abbrev pub removed : ℕ → State → Log
+removed lv s = with_fact (removing lv s) (Removed (Lv lv))
+
+-- the session with the descriptor without it
+abbrev pub unnamed : ℕ → State → State
+unnamed lv s = with_descriptor (without_volume s.core.descriptor lv) s
+
+-- The volume is removed: the descriptor names it no more, the history says so, and its number isn't dirty; members that became missing aside, and the copies
+-- that they left behind, nothing else of the session has changed.
 pub record IsVolumeRemoved (lv : ℕ) (old new : State) : Type 0 where
   pub may : MayBeRemoved lv old.core
   pub is : new.core ≡ record old.core {
     descriptor = without_volume old.core.descriptor lv;
-    history = with_fact (removing lv old) (Removed (Lv lv));
+    history = removed lv old;
     status = new.core.status;
     homes = new.core.homes;
   }
+  pub clean : IsFalse (calls_dirty new.core.status.committed lv)
   pub ready : IsReady new.device
   pub cuts : new.device.counts.cuts ≡ old.device.counts.cuts
 
--- its removal was entered, and broke off so
-pub record RemovalEnds (lv : ℕ) (old : State) (Ends : Log → Type 0) : Type 0 where
+-- Its removal was entered, and broke off so: before it was done, or behind both entries, at the status without its mark.
+pub record RemovalEnds (lv : ℕ) (old : State) (Ends : Log → State → Type 0) : Type 0 where
   pub may : MayBeRemoved lv old.core
-  pub ends : Ends (removing lv old)
+  pub ends : Ends (removing lv old) old ⊎ Ends (removed lv old) (unnamed lv old)
 
--- what it may do: commit the descriptor without the volume
+-- what it may do: commit the descriptor without the volume, and drop its mark
 abbrev pub to_remove : ℕ → Core → Scope
-to_remove lv core = commanding (λ next. next ≡ without_volume core.descriptor lv) NoPartition 1
+to_remove lv core = removing_by (λ next. next ≡ without_volume core.descriptor lv) lv
 
 -- that it is removed, or why it isn't
 abbrev pub RmlvGives : ℕ → ℕ → State → State → Result (Unit {0}) GroupFault → Type 0
 RmlvGives lv patience old new (Ok done) = IsVolumeRemoved lv old new
-RmlvGives lv patience old new (Err fault.Dark) = IsRefused (RefusesRmlv lv) fault.Dark old new ⊎ RemovalEnds lv old (λ entered. CommandDarkened entered old new)
-RmlvGives lv patience old new (Err (fault.WentOff have total)) = IsRefused (RefusesRmlv lv) (fault.WentOff have total) old new ⊎ RemovalEnds lv old (λ entered. CommandWentOff entered have total old new)
-RmlvGives lv patience old new (Err fault.Stuck) = RemovalEnds lv old (λ entered. CommandStuck entered patience old new)
+RmlvGives lv patience old new (Err fault.Dark) = IsRefused (RefusesRmlv lv) fault.Dark old new ⊎ RemovalEnds lv old (λ entered from. CommandDarkened entered from new)
+RmlvGives lv patience old new (Err (fault.WentOff have total)) = IsRefused (RefusesRmlv lv) (fault.WentOff have total) old new ⊎ RemovalEnds lv old (λ entered from. CommandWentOff entered have total from new)
+RmlvGives lv patience old new (Err fault.Stuck) = RemovalEnds lv old (λ entered from. CommandStuck entered patience from new)
 RmlvGives lv patience old new (Err fault.Busy) = IsRefused (RefusesRmlv lv) fault.Busy old new
 RmlvGives lv patience old new (Err fault.NoVolume) = IsRefused (RefusesRmlv lv) fault.NoVolume old new
 RmlvGives lv patience old new (Err fault.HistoryFull) = IsRefused (RefusesRmlv lv) fault.HistoryFull old new

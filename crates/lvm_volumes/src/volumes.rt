@@ -1,15 +1,15 @@
 //! The making and the removal of volumes.
-ghost use Rattle.std.specs.Prelude.{◌≡◌, ◌<◌, ◌-◌, ◌≤◌, false, IfSome, IfNone, All, Contains};
+ghost use Rattle.std.specs.Prelude.{◌≡◌, ◌<◌, ◌-◌, ◌≤◌, false, IsFalse, IfSome, IfNone, All, Contains};
 ghost use Rattle.lvm_num.specs.declared.place.Pp.{Pp};
-ghost use Rattle.lvm_num.specs.Status.{calls_missing};
+ghost use Rattle.lvm_num.specs.Status.{calls_missing, calls_dirty};
 ghost use Rattle.lvm_disk.specs.Device.{IsReady};
 ghost use Rattle.lvm_vol.specs.Log.{spare_entries, plain_fact};
 ghost use Rattle.lvm_map.specs.FirstFit.{has_partition_on};
-ghost use Rattle.lvm_volume_plan.specs.passed.Names.{IsAlike, state_of, Leaves, NoDescriptor, NoPartition, IsSettled, HasSpareNumbers, IsOfVolume};
+ghost use Rattle.lvm_volume_plan.specs.passed.Names.{IsAlike, state_of, Leaves, MarkEnds, NoDescriptor, NoPartition, IsSettled, HasSpareNumbers, IsOfVolume};
 ghost use Rattle.lvm_volume_plan.specs.Faults.{TakesCommands, IfOn, command_answer};
 ghost use Rattle.lvm_volume_plan.specs.PlannedVolume.{AreOfOneGroup, IsWithout};
-ghost use Rattle.lvm_volumes.specs.Endings.{StillHeld, KeepsFresh, commanding};
-ghost use Rattle.lvm_volumes.specs.Stages.{AreUnusedOn, IsLowestMissing, ZerosEnd, ClearEnds, MakeEnds, MayMake, RemoveEnds, CommitsBetween};
+ghost use Rattle.lvm_volumes.specs.Endings.{StillHeld, KeepsFresh, commanding, removing_by};
+ghost use Rattle.lvm_volumes.specs.Stages.{AreUnusedOn, IsLowestMissing, ZerosEnd, ClearEnds, MakeEnds, MayMake, RemoveEnds, UnnameEnds, CommitsBetween, IsGoneFrom, unmarking};
 ghost use Rattle.lvm_volumes.specs.Volumes.{MklvGives, RmlvGives, to_make, to_remove};
 
 use lvm_disk::Shelf;
@@ -68,12 +68,13 @@ pub fn mklv<S: Shelf>(
 }
 
 /// Removes a volume of the group that is on: the descriptor without it is committed, between the two entries of its
-/// removal. All memory is taken before the first write.
+/// removal, and where it was dirty a status without its mark. All memory is taken before the first write.
 ///
 /// The causes, in their order: `Dark` and `WentOff`, where the session is over; `Busy`, where a request is open;
 /// `NoVolume`, where the group has none of the number; `HistoryFull`, with fewer than two entries to spare or than
 /// 65,536 sequence numbers; and from the first write on `Dark`, `WentOff` and `Stuck`. `Memory` may come before the
 /// first write, where none of the causes before it holds. Members become missing, and copies stale, as by `mklv`.
+/// The three that come with a write may come at that status, behind both entries: the volume is removed all the same.
 pub fn rmlv<S: Shelf>(
     alloc: Global,
     driver: &mut Driver<S>,
@@ -117,7 +118,7 @@ fn make<S: Shelf>(
     commit_between(driver, making, plan.next, Entry::Made { lv }, patience)
 }
 
-// Removes a volume, by the descriptor without it.
+// Removes a volume, by the descriptor without it, and then a status in which its number isn't dirty.
 fn remove<S: Shelf>(
     driver: &mut Driver<S>,
     lv: u16,
@@ -127,6 +128,42 @@ fn remove<S: Shelf>(
     requires settled { IsSettled driver.old.1 }
     requires without { IsWithout lv driver.old.1 next }
     ensures ends { RemoveEnds lv next patience.old.left (state_of S.device driver.old) (state_of S.device driver.new) result }
+    ensures held { IfOn (command_answer result) (StillHeld (state_of S.device driver.old) (state_of S.device driver.new)) }
+    ensures fresh { IfOn (command_answer result) (KeepsFresh (state_of S.device driver.old) (state_of S.device driver.new)) }
+    ensures leaves { Leaves (removing_by (λ d. d ≡ next) lv) patience.old.left patience.new.left (state_of S.device driver.old) (state_of S.device driver.new) }
+{
+    unname(driver, lv, next, patience)?;
+    drop_mark(driver, lv, patience)
+}
+
+// Commits a status in which the number of a volume that is gone isn't dirty. Where it isn't, nothing is written.
+fn drop_mark<S: Shelf>(
+    driver: &mut Driver<S>,
+    lv: u16,
+    patience: &mut Patience,
+) -> Result<(), CommitFault>
+    requires settled { IsSettled driver.old.1 }
+    requires numbers { HasSpareNumbers driver.old.1 }
+    requires gone { IsGoneFrom lv driver.old.1.descriptor }
+    ensures ends { MarkEnds patience.old.left (state_of S.device driver.old) (state_of S.device driver.new) result }
+    ensures clean { IsFalse (calls_dirty driver.new.1.status.wanted lv) }
+    ensures held { IfOn (command_answer result) (StillHeld (state_of S.device driver.old) (state_of S.device driver.new)) }
+    ensures fresh { IfOn (command_answer result) (KeepsFresh (state_of S.device driver.old) (state_of S.device driver.new)) }
+    ensures leaves { Leaves (unmarking lv) patience.old.left patience.new.left (state_of S.device driver.old) (state_of S.device driver.new) }
+{
+    driver.mark_dirty(&[], &[lv], patience)
+}
+
+// Commits the descriptor without a volume, between the two entries of its removal.
+fn unname<S: Shelf>(
+    driver: &mut Driver<S>,
+    lv: u16,
+    next: Prepared,
+    patience: &mut Patience,
+) -> Result<(), CommitFault>
+    requires settled { IsSettled driver.old.1 }
+    requires without { IsWithout lv driver.old.1 next }
+    ensures ends { UnnameEnds lv next patience.old.left (state_of S.device driver.old) (state_of S.device driver.new) result }
     ensures held { IfOn (command_answer result) (StillHeld (state_of S.device driver.old) (state_of S.device driver.new)) }
     ensures fresh { IfOn (command_answer result) (KeepsFresh (state_of S.device driver.old) (state_of S.device driver.new)) }
     ensures leaves { Leaves (commanding (λ d. d ≡ next) NoPartition 1) patience.old.left patience.new.left (state_of S.device driver.old) (state_of S.device driver.new) }

@@ -18,7 +18,7 @@ use Rattle.lvm_group_lines.proofs.passed.Handover.{made_begins}
 use Rattle.lvm_group_lines.specs.passed.TieCommands.{StandsAfter}
 use Rattle.lvm_group_lines.proofs.passed.TieCommands.{made_stands}
 use Rattle.lvm_group_lines.specs.passed.Group.{IsMade, MkvgRefuses, MkvgGives, MayBegin, NewGroup, RefusesFirst, given_up}
-use Rattle.lvm_group_lines.specs.passed.Quiesce.{Quiesces, MkvgOnceQuiet}
+use Rattle.lvm_group_lines.specs.passed.Quiesce.{ClockIsAheadEach, Quiesces, MkvgOnceQuiet}
 use Rattle.lvm_group_lines.specs.Groups.{itself}
 use Rattle.lvm_group_lines.specs.State.{StandsAlone, without_facts}
 use Rattle.lvm_group_lines.proofs.LogLemmas.{cut_rooms}
@@ -158,12 +158,12 @@ module _ {S : Type 0} (device : S → Device) (shelf : S) (log : Log) (w : NewGr
       by (Err refused) it = tt
 
   pub stands : (outcome : Outcomes) → MkvgOnceQuiet device w room patience log (device shelf) outcome
-      → IfOk outcome (λ driver. (first : Moment) → Keeps log.run first (at (device driver.0) driver.1.history.facts) → (past : List Fact) → Begins log.run past first → StartsHeld (device driver.0) driver.1 → StandsAlone (device driver.0) driver.1 → StandsAfter past (device driver.0) driver.1)
+      → IfOk outcome (λ driver. (first : Moment) → Keeps log.run first (at (device driver.0) driver.1.history.facts) → (past : List Fact) → Begins log.run past first → ClockIsAheadEach log.run w.moment (device shelf) log.facts → StartsHeld (device driver.0) driver.1 → StandsAlone (device driver.0) driver.1 → StandsAfter past (device driver.0) driver.1)
   stands outcome quiet = by outcome (made outcome quiet)
     where
       by : (o : Outcomes) → IfOk o MadeOnce
-          → IfOk o (λ driver. (first : Moment) → Keeps log.run first (at (device driver.0) driver.1.history.facts) → (past : List Fact) → Begins log.run past first → StartsHeld (device driver.0) driver.1 → StandsAlone (device driver.0) driver.1 → StandsAfter past (device driver.0) driver.1)
-      by (Ok driver) it = λ first keeps past begins held alone. made_stands past log w room it.mid (state_of device driver) it.made held
+          → IfOk o (λ driver. (first : Moment) → Keeps log.run first (at (device driver.0) driver.1.history.facts) → (past : List Fact) → Begins log.run past first → ClockIsAheadEach log.run w.moment (device shelf) log.facts → StartsHeld (device driver.0) driver.1 → StandsAlone (device driver.0) driver.1 → StandsAfter past (device driver.0) driver.1)
+      by (Ok driver) it = λ first keeps past begins clock held alone. made_stands past log w room it.mid (state_of device driver) it.made held
       by (Err refused) it = tt
 
   -- ---- the same of the shelf's device alone

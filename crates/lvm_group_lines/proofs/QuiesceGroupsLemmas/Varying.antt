@@ -7,6 +7,7 @@ use Rattle.lvm_vol.specs.Log.{Log, spare_entries}
 use Rattle.lvm_kept.specs.Moments.{Moment}
 use Rattle.lvm_steps.specs.Moments.{Begins, Keeps}
 use Rattle.lvm_steps.specs.Requests.{at}
+use Rattle.lvm_steps.specs.Behind.{ClockIsAhead}
 use Rattle.lvm_core.specs.declared.parts.Room.{Room}
 use Rattle.lvm_core.specs.declared.refused.Cause.{Cause}
 use Rattle.lvm_core.specs.declared.refused.Cause.TheVariants as cause
@@ -19,9 +20,10 @@ use Rattle.lvm_group_lines.specs.passed.Handover.{HasJustBegun, IsHistory, Serve
 use Rattle.lvm_group_lines.proofs.passed.Handover.{varied_on_begins}
 use Rattle.lvm_group_lines.specs.passed.TieCommands.{StandsAfter}
 use Rattle.lvm_group_lines.proofs.passed.TieCommands.{varied_on_stands}
-use Rattle.lvm_group_lines.specs.passed.Varyon.{ComesOn, VaryonRefuses, VaryonGives, log_after}
+use Rattle.lvm_group_lines.specs.passed.Varyon.{ComesOn, DirtyAreEqual, VaryonRefuses, VaryonGives, log_after}
 use Rattle.lvm_group_lines.proofs.passed.Varyon.{same_orders, wrote_broken, wrote_equalled, wrote_failed}
-use Rattle.lvm_group_lines.specs.passed.Quiesce.{Quiesces, IsFullFor, VariesOnAt, VaryonOnceQuiet}
+use Rattle.lvm_group_lines.specs.passed.Quiesce.{ClockIsAheadEach, Quiesces, IsFullFor, VariesOnAt, VaryonOnceQuiet}
+use Rattle.lvm_group_lines.proofs.passed.Quiesce.{quiet_is_ahead}
 use Rattle.lvm_group_lines.specs.Groups.{itself}
 use Rattle.lvm_group_lines.specs.State.{StandsAlone, without_facts}
 use Rattle.lvm_group_lines.proofs.LogLemmas.{cut_rooms}
@@ -84,10 +86,11 @@ module _ {S : Type 0} (device : S → Device) (shelf : S) (log : Log) (name : Li
     mid : Device
     quiesces : Quiesces (device shelf) mid
     on : ComesOn mid (device driver.0) log name moment room driver.1
+    equal : ClockIsAhead log.run moment mid log.facts → DirtyAreEqual (device driver.0) driver.1
 
-  comes_at : (mid : Device) (left : ℕ) → Quiesces (device shelf) mid → (outcome : Outcomes) → VaryonGives device mid log name moment room left outcome → IfOk outcome ComesOnce
-  comes_at mid left quiet (Ok driver) on = record { mid = mid; quiesces = quiet; on = on }
-  comes_at mid left quiet (Err refused) gives = tt
+  comes_at : (mid : Device) (left : ℕ) → Quiesces (device shelf) mid → (outcome : Outcomes) → VariesOnAt device log name moment room left mid outcome → IfOk outcome ComesOnce
+  comes_at mid left quiet (Ok driver) at = record { mid = mid; quiesces = quiet; on = at.gives; equal = at.equal }
+  comes_at mid left quiet (Err refused) at = tt
 
   stays_at : (mid : Device) (left : ℕ) (outcome : Outcomes) → IsReady mid → VaryonGives device mid log name moment room left outcome
       → IfErr outcome (λ refused. (before : Device) → mid.orders ≡ before.orders → StayedOff refused.cause before (device refused.shelf) log refused.history)
@@ -101,7 +104,7 @@ module _ {S : Type 0} (device : S → Device) (shelf : S) (log : Log) (name : Li
   module _ (outcome : Outcomes) (quiet : VaryonOnceQuiet device log name moment room patience (device shelf) outcome) where
     comes : IfOk outcome ComesOnce
     comes = on_once device (IsFullFor log) (1 ≤ spare_entries log) (λ left mid outcome. VariesOnAt device log name moment room left mid outcome) patience log (device shelf) ComesOnce
-        (λ left mid o quiesces at. comes_at mid left quiesces o at.gives) outcome quiet
+        (λ left mid o quiesces at. comes_at mid left quiesces o at) outcome quiet
 
     pub stayed : IfErr outcome (λ refused. StayedOff refused.cause (device shelf) (device refused.shelf) log refused.history)
     stayed = stayed_once device (IsFullFor log) (1 ≤ spare_entries log) (λ left mid outcome. VariesOnAt device log name moment room left mid outcome) patience log (device shelf)
@@ -123,9 +126,9 @@ module _ {S : Type 0} (device : S → Device) (shelf : S) (log : Log) (name : Li
   serves_then driver history just it = varied_on_begins log name moment room it.mid (state_of device driver) history it.on just
 
   stands_then : (driver : S × Core) → HasSectors (device driver.0) → IsSettledCore driver.1 → Serves (state_of device driver) → ComesOnce driver
-      → (first : Moment) → Keeps log.run first (at (device driver.0) driver.1.history.facts) → (past : List Fact) → Begins log.run past first → StartsHeld (device driver.0) driver.1 → StandsAlone (device driver.0) driver.1 → StandsAfter past (device driver.0) driver.1
-  stands_then driver whole settled serves it first keeps past begins held alone =
-      varied_on_stands log.run first log name moment room it.mid (state_of device driver) it.on
+      → (first : Moment) → Keeps log.run first (at (device driver.0) driver.1.history.facts) → (past : List Fact) → Begins log.run past first → ClockIsAheadEach log.run moment (device shelf) log.facts → StartsHeld (device driver.0) driver.1 → StandsAlone (device driver.0) driver.1 → StandsAfter past (device driver.0) driver.1
+  stands_then driver whole settled serves it first keeps past begins clock held alone =
+      varied_on_stands log.run first log name moment room it.mid (state_of device driver) it.on (it.equal (quiet_is_ahead log.run moment (device shelf) it.mid log.facts it.quiesces clock))
       (record { sound = serves.sound; settled = settled; stamped = serves.stamped; run_is = ap (λ (c : Core). c.history.run) it.on.first.is; keeps = keeps; held = held }) whole (alone settled.quiet.requests) past begins
 
   -- what the line needs of it
@@ -145,20 +148,20 @@ module _ {S : Type 0} (device : S → Device) (shelf : S) (log : Log) (name : Li
 
   pub stands : (outcome : Outcomes) → VaryonOnceQuiet device log name moment room patience (device shelf) outcome
       → IfOk outcome (λ driver. HasSectors (device driver.0) → IsSettledCore driver.1 → Serves (state_of device driver)
-      → (first : Moment) → Keeps log.run first (at (device driver.0) driver.1.history.facts) → (past : List Fact) → Begins log.run past first → StartsHeld (device driver.0) driver.1 → StandsAlone (device driver.0) driver.1 → StandsAfter past (device driver.0) driver.1)
+      → (first : Moment) → Keeps log.run first (at (device driver.0) driver.1.history.facts) → (past : List Fact) → Begins log.run past first → ClockIsAheadEach log.run moment (device shelf) log.facts → StartsHeld (device driver.0) driver.1 → StandsAlone (device driver.0) driver.1 → StandsAfter past (device driver.0) driver.1)
   stands outcome quiet = by outcome (comes outcome quiet)
     where
       by : (o : Outcomes) → IfOk o ComesOnce
           → IfOk o (λ driver. HasSectors (device driver.0) → IsSettledCore driver.1 → Serves (state_of device driver)
-          → (first : Moment) → Keeps log.run first (at (device driver.0) driver.1.history.facts) → (past : List Fact) → Begins log.run past first → StartsHeld (device driver.0) driver.1 → StandsAlone (device driver.0) driver.1 → StandsAfter past (device driver.0) driver.1)
+          → (first : Moment) → Keeps log.run first (at (device driver.0) driver.1.history.facts) → (past : List Fact) → Begins log.run past first → ClockIsAheadEach log.run moment (device shelf) log.facts → StartsHeld (device driver.0) driver.1 → StandsAlone (device driver.0) driver.1 → StandsAfter past (device driver.0) driver.1)
       by (Ok driver) it = λ whole settled serves. stands_then driver whole settled serves it
       by (Err refused) it = tt
 
   -- ---- the same of the shelf's device alone
 
   at_itself : (left : ℕ) (mid : Device) (outcome : Outcomes) → VariesOnAt device log name moment room left mid outcome → VariesOnAt itself log name moment room left mid (device_outcome device outcome)
-  at_itself left mid (Ok driver) at = record { gives = at.gives; recovered = at.recovered }
-  at_itself left mid (Err refused) at = record { gives = at.gives; recovered = tt }
+  at_itself left mid (Ok driver) at = record { gives = at.gives; recovered = at.recovered; equal = at.equal }
+  at_itself left mid (Err refused) at = record { gives = at.gives; recovered = tt; equal = tt }
 
   pub itself_gives : (outcome : Outcomes) → VaryonOnceQuiet device log name moment room patience (device shelf) outcome → VaryonOnceQuiet itself log name moment room patience (device shelf) (device_outcome device outcome)
   itself_gives = itself_once device (IsFullFor log) (1 ≤ spare_entries log) (λ left mid outcome. VariesOnAt device log name moment room left mid outcome) patience log (device shelf) (λ left mid outcome. VariesOnAt itself log name moment room left mid outcome) at_itself

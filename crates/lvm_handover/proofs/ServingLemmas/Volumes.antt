@@ -243,7 +243,7 @@ mklv_serves v before after old new (Err fault.Memory) sound c gives = refused_se
 
 module _ (lv before after : ℕ) (old new : State) (sound : IsSound old) (began : IsSettled old.core) (leaves : Leaves (to_remove lv old.core) before after old new) (is_after : IsSettled new.core) (still : StillHeld old new) (keeps : KeepsFresh old new) where
   removed : IsVolumeRemoved lv old new → MayServe [] new × StaysSound new
-  removed it = nothing_added new (may_serve old sound began new is_after still [] (without_volume old.core.descriptor lv) (with_fact (removing lv old) (Removed (Lv lv))) (λ (next : Descriptor). next ≡ without_volume old.core.descriptor lv) NoPartition NoPartition NoVolume 1 old.core.last it.is refl
+  removed it = nothing_added new (may_serve old sound began new is_after still [] (without_volume old.core.descriptor lv) (with_fact (removing lv old) (Removed (Lv lv))) (λ (next : Descriptor). next ≡ without_volume old.core.descriptor lv) NoPartition NoPartition (λ n. n ≡ lv) 2 old.core.last it.is refl
       (ordered-push old.core.history.run [] (removing lv old).facts (Removed (Lv lv)) (ordered-push old.core.history.run [] old.core.history.facts (Removing (Lv lv)) sound.told.ordered tt) tt)
       refl leaves.status (λ p none. absurd none) leaves.falls leaves.writes.sizes leaves.numbers (omega arith) it.may.room
       (λ g next row lp p volume one. is_member_of old.core.descriptor p (copy_is_placed old.core.descriptor sound.fitting.valid row lp p (was_volume row (subst (λ (x : Descriptor). IsOneOf x.lvs row) next volume)) one)) (λ n lp p one was apart. fresh n lp p one was))

@@ -27,15 +27,20 @@ use Rattle.lvm_volume_lines.specs.passed.Varyon.{IsRecovered, VaryonRefuses}
 use Rattle.lvm_volume_lines.proofs.passed.Quiesce.{quiet_is_ahead, ends_only}
 use Rattle.lvm_volume_lines.proofs.passed.Varyon.{failed_rose}
 use Rattle.lvm_line.specs.Causes.{HasCause, HasFailed, RoseOn, VaryonLaw, disk_of}
-use Rattle.lvm_volume_lines.specs.passed.GroupLines.{patience_of_line, IsBetween, IsRelit, refusal_of, Shows, InFull, WithoutMemory, ScriptState, log_with, Refusal, CutNotPlanned, IsArranged, NoReadWhileOn, NoWriteWhileOn, NotPlanned, NotThere, PowerIsCut, ReadGoes, WriteGoes, refusal_by, Brings, BusyVaryoff, DiskOfGroup, GroupThatIsOn, IsLeft, ListsGroup, ListsMember, ListsVolume, Makes, NoGroupForDisk, NoGroupForVolume, NoGroupToList, NoMemoryForLine, NoMkvgWhileOn, NoSuchMember, NoSuchVolume, NoVaryoff, NoVaryonWhileOn, OtherGroup, Varies, VariesOff, VolumeOfGroup, asked_for, itself, outcome_of}
+use Rattle.lvm_volume_lines.specs.passed.GroupLines.{patience_of_line, IsBetween, IsRelit, refusal_of, Shows, InFull, WithoutMemory, ScriptState, log_with, Refusal, CutNotPlanned, IsArranged, NoReadWhileOn, NoWriteWhileOn, NotPlanned, NotThere, PowerIsCut, ReadGoes, WriteGoes, refusal_by, Brings, DiskOfGroup, GroupThatIsOn, IsLeft, ListsGroup, ListsMember, ListsVolume, Makes, NoGroupForDisk, NoGroupForVolume, NoGroupToList, NoMemoryForLine, NoMkvgWhileOn, NoSuchMember, NoSuchVolume, NoVaryonWhileOn, OtherGroup, Varies, VolumeOfGroup, asked_for, itself, outcome_of}
 use Rattle.lvm_line.specs.Lines.{LineDoes}
 use Rattle.lvm_volume_lines.specs.Volumes.{NoGroupForMklv, BusyMklv, UndrainedMklv, MakesVolume, MklvFails, NoGroupForRmlv, BusyRmlv, UndrainedRmlv, NoVolumeForRmlv, RemovesVolume, RmlvFails, refusal_for, wanted}
 use Rattle.lvm_volume_lines.specs.passed.RefusalVariants as refusal
 use Rattle.lvm_volume_lines.specs.passed.ReplyVariants as reply
 use Rattle.lvm_volume_lines.proofs.passed.GroupLines.{clock_is_ahead}
 use Rattle.lvm_volume_lines.specs.Copies.{AddsCopies, BusyMklvcopy, BusyRmlvcopy, MklvcopyFails, NoGroupForMklvcopy, NoGroupForRmlvcopy, NoVolumeForMklvcopy, NoVolumeForRmlvcopy, RemovesCopies, RmlvcopyFails, UndrainedMklvcopy, UndrainedRmlvcopy}
+use Rattle.lvm_volume_lines.specs.Closing.{BusyVaryoff, NoVaryoff, TidiesOff, UndrainedVaryoff, VariesOff, VaryoffFails}
+use Rattle.lvm_volume_lines.specs.passed.VolumePlan.{fault_of}
+use Rattle.lvm_volume_lines.proofs.ClosingLemmas.{tidy_failed}
+use Rattle.lvm_volume_lines.specs.Splitting.{BusySplitlvcopy, NoGroupForSplitlvcopy, NoVolumeForSplitlvcopy, SplitlvcopyFails, SplitsVolume, UndrainedSplitlvcopy}
 use Rattle.lvm_volume_lines.proofs.Ending.{mklv_facts, rmlv_facts}
 use Rattle.lvm_volume_lines.proofs.Giving.{mklvcopy_facts, rmlvcopy_facts}
+use Rattle.lvm_volume_lines.proofs.SplittingLemmas.Giving.{split_facts}
 use Rattle.lvm_line.proofs.CausesLemmas.Faulting.{known_group, undrained}
 use Rattle.lvm_line.proofs.CausesLemmas.Knowing.{IsOther, Known, by_reply, easy, has_by}
 use Rattle.lvm_line.proofs.CausesLemmas.Requesting.{rd_told, wr_told, post_told, wait_told, step_told, sync_group_told, sync_volume_told}
@@ -228,7 +233,13 @@ known log room (Ok (Some (command.Varyon name))) why old new between (NoVaryonWh
 known log room (Ok (Some (command.Varyon name))) why old new between (Varies brings) = varyon_known log room name why old new brings
 known log room (Ok (Some (command.Varyoff name))) why old new between (NoVaryoff none is) = by_reply _ why refusal.NoGroup old new is.0 (easy _ refusal.NoGroup old new tt (λ e. cc) (λ h t e. cc))
 known log room (Ok (Some (command.Varyoff name))) why old new between (BusyVaryoff on busy is) = by_reply _ why refusal.Busy old new is.0 (easy _ refusal.Busy old new tt (λ e. cc) (λ h t e. cc))
-known log room (Ok (Some (command.Varyoff name))) why old new between (VariesOff core some on none ends is) = absurd (cc (is))
+known log room (Ok (Some (command.Varyoff name))) why old new between (VariesOff core some on none clean ends is) = absurd (cc (is))
+known log room (Ok (Some (command.Varyoff name))) why old new between (UndrainedVaryoff core fault some on dirty ends) = undrained (Ok (Some (command.Varyoff name))) old new core tt between some why fault ends
+known log room (Ok (Some (command.Varyoff name))) why old new between (TidiesOff core left mid some on dirty drains done is) = absurd (cc (is))
+known log room (Ok (Some (command.Varyoff name))) why old new between (VaryoffFails core left mid reason some on dirty drains done is) =
+    let failed = tidy_failed left mid done.left reason done.gives in
+    by_reply _ why (refusal_for (fault_of reason)) old new is
+    (known_group (Ok (Some (command.Varyoff name))) tt (λ d a b rose. rose) (fault_of reason) old new core left mid done.left some drains failed.0 (failed.1 old new done.leaves))
 known log room (Ok (Some (command.Lsvg volumes name))) why old new between (NoGroupToList none is, same) = by_reply _ why refusal.NoGroup old new is (easy _ refusal.NoGroup old new tt (λ e. cc) (λ h t e. cc))
 known log room (Ok (Some (command.Lsvg volumes name))) why old new between (GroupThatIsOn core some (OtherGroup other is), same) = by_reply _ why refusal.NoGroup old new is (easy _ refusal.NoGroup old new tt (λ e. cc) (λ h t e. cc))
 known log room (Ok (Some (command.Lsvg volumes name))) why old new between (GroupThatIsOn core some (ListsGroup its shows), same) = of_shows _ _ why old new tt shows
@@ -263,6 +274,14 @@ known log room (Ok (Some (command.Rmlvcopy name copies))) why old new between (R
 known log room (Ok (Some (command.Rmlvcopy name copies))) why old new between (RmlvcopyFails core left mid lv reason some drains its done is) =
     by_reply _ why (refusal_for reason) old new is
     (known_group (Ok (Some (command.Rmlvcopy name copies))) tt (λ d a b rose. rose) reason old new core left mid done.left some drains (rmlvcopy_facts lv copies left mid done.left drains.settled.power (Err reason) done.gives) done.leaves)
+known log room (Ok (Some (command.Splitlvcopy made name copies))) why old new between (NoGroupForSplitlvcopy none is) = by_reply _ why refusal.NoGroup old new is.0 (easy _ refusal.NoGroup old new tt (λ e. cc) (λ h t e. cc))
+known log room (Ok (Some (command.Splitlvcopy made name copies))) why old new between (BusySplitlvcopy busy is) = by_reply _ why refusal.Busy old new is.0 (easy _ refusal.Busy old new tt (λ e. cc) (λ h t e. cc))
+known log room (Ok (Some (command.Splitlvcopy made name copies))) why old new between (UndrainedSplitlvcopy core fault some ends) = undrained (Ok (Some (command.Splitlvcopy made name copies))) old new core tt between some why fault ends
+known log room (Ok (Some (command.Splitlvcopy made name copies))) why old new between (NoVolumeForSplitlvcopy core left mid some drains none stays clock is) = by_reply _ why refusal.NoVolume old new is (easy _ refusal.NoVolume old new tt (λ e. cc) (λ h t e. cc))
+known log room (Ok (Some (command.Splitlvcopy made name copies))) why old new between (SplitsVolume core left mid lv number some drains its done is) = absurd (cc (is))
+known log room (Ok (Some (command.Splitlvcopy made name copies))) why old new between (SplitlvcopyFails core left mid lv reason some drains its done is) =
+    by_reply _ why (refusal_for reason) old new is
+    (known_group (Ok (Some (command.Splitlvcopy made name copies))) tt (λ d a b rose. rose) reason old new core left mid done.left some drains (split_facts lv made copies left mid done.left drains.settled.power (Err reason) done.gives) done.leaves)
 known log room (Ok (Some (command.Rd name at count))) why old new between does = (let told = rd_told old new between name at count why does in record { cause = range_line_cause name old new why told.cause (λ lp is. rd_lacks old new name lp at count why is does); off = told.off; unwritten = λ h t is. absurd (told.counted h t is) })
 known log room (Ok (Some (command.Wr name at count word))) why old new between does = (let told = wr_told old new between name at count word why does in record { cause = range_line_cause name old new why told.cause (λ lp is. wr_lacks old new name lp at count word why is does); off = told.off; unwritten = λ h t is. absurd (told.counted h t is) })
 known log room (Ok (Some (command.Post name at count word))) why old new between does = (let told = post_told old new between name at count word why does in record { cause = told.cause; off = told.off; unwritten = λ h t is. absurd (told.counted h t is) })

@@ -15,6 +15,7 @@ use Rattle.lvm_volume_lines.specs.passed.ReplyVariants as reply
 use Rattle.lvm_volume_lines.proofs.passed.GroupLines.{same_goes}
 use Rattle.lvm_line.specs.Complete.{NothingMayFail, NothingMayFailAnswered, NoneRose, NothingFailed}
 use Rattle.lvm_line.specs.Lines.{IsLine, role_of}
+use Rattle.lvm_line.specs.Told.{NothingMayHappen}
 
 abbrev none : Counts
 none = record { starts = λ disk. 0; misses = λ disk. 0; faults = λ disk. 0; cuts = 0; waits = 0 }
@@ -84,3 +85,9 @@ is_line_too log room = record {
 
 pub nothing_may_fail_answered : NothingMayFailAnswered
 nothing_may_fail_answered log room = (codes "wait", codes "ok\n", off, off, is_line_too log room, nothing_failed_too)
+
+-- ---- and on no session
+
+pub nothing_may_happen : NothingMayHappen
+unfolding ends
+nothing_may_happen log room = (codes "wait", said, off, off, is_line_too log room, tt, record { none = λ failed. absurd (let e = failed.on in cc e); lit = stands 1 (omega arith) })

@@ -1,11 +1,10 @@
 -- Runs of a load.
-use Rattle.std.proofs.Common.{◌≡◌, ◌≢◌, ◌⊎◌, inl, inr, ⊎_elim, ◌≤◌, ◌<◌, ◌+◌, ℕ, List, [], ◌∷◌, Option, Some, None, IfSome, length, true, refl, sym, ◌∙◌, ap, subst, arith}
-use Rattle.std.specs.Prelude.{Contains, IsSomeAnd}
-use Rattle.lvm_num.specs.Descriptor.{IsValid}
+use Rattle.std.proofs.Common.{◌≡◌, ◌≢◌, ◌⊎◌, ⊎_elim, ◌≤◌, ◌+◌, ℕ, List, [], Option, Some, None, IfSome, length, refl, sym, ◌∙◌, ap, subst, arith}
+use Rattle.std.specs.Prelude.{IsSomeAnd}
 use Rattle.lvm_num.specs.declared.descriptor.Descriptor.{Descriptor}
 use Rattle.lvm_num.specs.declared.descriptor.LvRow.{LvRow}
 use Rattle.lvm_disk.specs.Device.{Device, IsReady}
-use Rattle.lvm_io.specs.Count.{Rose, next_count}
+use Rattle.lvm_io.specs.Count.{Rose}
 use Rattle.lvm_vol.specs.Log.{Log}
 use Rattle.lvm_kept.specs.Moments.{Moment}
 use Rattle.lvm_steps.specs.Moments.{IsUpheld, Keeps}
@@ -13,29 +12,27 @@ use Rattle.lvm_steps.proofs.MomentsLemmas.Spans.{keeps_still, span_upholds}
 use Rattle.lvm_steps.specs.Behind.{IsAhead, IsBehind}
 use Rattle.lvm_parse.specs.Grammar.{line_of}
 use Rattle.lvm_core.specs.declared.parts.Room.{Room}
-use Rattle.lvm_core.specs.Looking.{HasNoVolumeNamed}
 use Rattle.lvm_posts.specs.declared.posts.Post.{Post}
-use Rattle.lvm_session.specs.State.{Core, State, state}
+use Rattle.lvm_session.specs.State.{Core, state}
 use Rattle.lvm_load.specs.declared.load.Load.{Load}
 use Rattle.lvm_load.specs.declared.serve.Synced.{Synced}
 use Rattle.lvm_load.specs.declared.workload.Woven.{Woven}
-use Rattle.lvm_group_lines.specs.declared.reply.Refusal.TheVariants as refusal
 use Rattle.lvm_line.specs.passed.ReplyVariants as reply
 use Rattle.lvm_top.specs.passed.HolderVariants as holder
 use Rattle.lvm_top.specs.passed.Lines.{IsLine, role_of}
-use Rattle.lvm_top.specs.passed.GroupLines.{Holder, IsAlone, IsBetween, IsOfKind, IsStuck, IsTimely, OfRequests, Reply, ScriptState, Stage, StandsBy, history_in, history_of, moment_in, most_refusals, session_in, session_of, shelf_of, state_in, without_facts}
+use Rattle.lvm_top.specs.passed.GroupLines.{Holder, IsAlone, IsBetween, IsStuck, IsTimely, Reply, ScriptState, Stage, StandsBy, history_in, history_of, moment_in, most_refusals, session_in, session_of, shelf_of, state_in, without_facts}
 use Rattle.lvm_top.specs.declared.run.Ended.{Ended}
 use Rattle.lvm_top.specs.declared.status.ExitStatus.{ExitStatus}
 use Rattle.lvm_top.specs.declared.status.ExitStatus.TheVariants as ended
-use Rattle.lvm_top.specs.Run.{Run, exit_state, ran}
+use Rattle.lvm_top.specs.Run.{Run, ran}
 use Rattle.lvm_top.specs.Script.{Passage, Stream, empty_log, entry_state, facts_of}
 use Rattle.lvm_top.proofs.ScriptLemmas.Concluding.{Concluded, concluded, each_is_ahead, off_still}
 use Rattle.lvm_top.proofs.ScriptLemmas.Scripting.{begins_timely}
 use Rattle.lvm_top.proofs.RefusedLemmas.{line_caused}
 use Rattle.lvm_top.proofs.RunLemmas.Stopping.{how_stopped}
 use Rattle.lvm_top.proofs.TurnLemmas.{stuck_is_off}
-use Rattle.lvm_program.specs.Woven.{EndsRefused, Exit, exit_from, exit_of, untold}
-use Rattle.lvm_program.specs.Loaded.{EndsLoaded, GoesLoaded, HasLoadedOver, IsLoaded, IsLoadedAlone, IsLoadedOver, IsVolumeNamed, LacksVolume, Loads, NoSuchVolume, NotVaried, PromisesLoaded, varyon_line}
+use Rattle.lvm_program.specs.Woven.{Exit, exit_from, exit_of, untold}
+use Rattle.lvm_program.specs.Loaded.{EndsLoaded, GoesLoaded, HasLoadedOver, IsLoaded, IsLoadedAlone, IsLoadedOver, IsVolumeNamed, Loads, NoSuchVolume, NotVaried, PromisesLoaded, varyon_line}
 use Rattle.lvm_program.specs.declared.load.LoadWords.{LoadWords}
 use Rattle.lvm_program.proofs.WovenLemmas.Woven.{ConcludesSo, Heard, MakesSo, Unheard, lit, ok_heard}
 use Rattle.lvm_program.proofs.LoadedLemmas.Closing.{leaving_concluded}

@@ -1,5 +1,5 @@
 -- What the line asks for that varies a group on, and what it leaves.
-use Rattle.std.proofs.Common.{◌≡◌, ◌⊎◌, ◌≤◌, ◌<◌, ◌+◌, ◌-◌, ◌++◌, ◌==◌, ◌&&◌, ◌||◌, not, cond, ℕ, zero, suc, List, [], ◌∷◌, length, take, Bool, true, false, Option, Some, None, IfSome, Result, Ok, Err, refl, sym, ◌∙◌, ap, ap₂, subst, append_assoc, length-append, arith, nat_lt, nat_le}
+use Rattle.std.proofs.Common.{◌≡◌, ◌≤◌, ◌+◌, ◌-◌, ◌++◌, ◌==◌, ◌&&◌, not, cond, ℕ, List, [], ◌∷◌, length, Bool, true, false, Option, Some, None, IfSome, Result, Ok, Err, refl, sym, ◌∙◌, ap, ap₂, subst, append_assoc, length-append, arith, nat_lt, nat_le}
 use Rattle.std.specs.Prelude.{IsSomeAnd, codes, nat_eq, position}
 use Rattle.std.specs.List.{list_all, starts_with, prefix_len}
 use Rattle.std.proofs.lemmas.Bool.{and_parts}
@@ -17,7 +17,7 @@ use Rattle.lvm_parse.specs.declared.command.Command.TheVariants as command
 use Rattle.lvm_parse.specs.Grammar.{line_of, readable, rows, rule}
 use Rattle.lvm_parse.specs.declared.rest.Misfit.{Misfit}
 use Rattle.lvm_parse.specs.Bytes.{is_plain, too_long_or, unreadable_at}
-use Rattle.lvm_parse.specs.Line.{Left, WordAt, finished, left_at, words_from}
+use Rattle.lvm_parse.specs.Line.{WordAt, finished, left_at, words_from}
 use Rattle.lvm_parse.specs.Reading.{ends, operand, option, then_}
 use Rattle.lvm_core.specs.declared.parts.Room.{Room}
 use Rattle.lvm_core.specs.declared.refused.Cause.{Cause}

@@ -34,18 +34,18 @@ use Rattle.lvm_top.specs.passed.HolderVariants as holder
 use Rattle.lvm_top.specs.passed.Tie.{RunsOn}
 use Rattle.lvm_top.specs.passed.ReplyVariants as reply
 use Rattle.lvm_top.specs.passed.Lines.{IsLine, asked_after, role_of}
-use Rattle.lvm_top.specs.passed.Recover.{HasNoPassive}
 use Rattle.lvm_top.specs.passed.GroupLines.{Holder, IsBetween, IsBetweenStage, IsOfKind, IsAlone, IsStuck, IsTimely, OfRequests, Reply, Stage, StandsAlone, StandsBy, ScriptState, history_in, history_of, moment_in, most_refusals, session_in, session_of, shelf_of, state_in, without_facts}
 use Rattle.lvm_top.specs.declared.run.Ended.{Ended}
 use Rattle.lvm_top.specs.declared.status.ExitStatus.{ExitStatus}
 use Rattle.lvm_top.specs.declared.status.ExitStatus.TheVariants as ended
 use Rattle.lvm_top.proofs.passed.Tie.{path_frames}
+use Rattle.lvm_line.proofs.passed.Tie.{goes_any}
 use Rattle.lvm_program.specs.Program.{PromisesWovenBlank}
 use Rattle.lvm_line.specs.Lines.{IsOrder}
 use Rattle.lvm_program.specs.Heeding.{IsNoOrder, IsTroubled}
 use Rattle.lvm_program.proofs.HeedingLemmas.{closed_orders, concludes_orders, device_path, untroubled}
 use Rattle.lvm_top.specs.Laws.{MayStart}
-use Rattle.lvm_top.specs.Plain.{FindsNoPassive, FindsOneGroup}
+use Rattle.lvm_top.specs.Plain.{FindsOneGroup}
 use Rattle.lvm_top.specs.OneGroup.{IsUnforced}
 use Rattle.lvm_top.specs.Run.{Run, exit_state, ran}
 use Rattle.lvm_top.specs.Standing.{HasFewDisks}
@@ -54,11 +54,11 @@ use Rattle.lvm_top.specs.Blank.{IsToldBlank}
 use Rattle.lvm_program.specs.Sim.{full_room, sim_device}
 use Rattle.lvm_program.specs.Woven.{AreMadeAlone, Drawn, EndsWoven, Exit, GoesWoven, HasAsked, HasGroup, IsDrawn, IsMade, IsMadeForCause, HasServed, IsServed, IsSized, IsWoven, IsWovenAlone, NoGroup, NotMade, PromisesWoven, TellsWoven, TurnsBehind, asked_woven, exit_from, exit_of, mklv_line, mkvg_line, refusal_text, status_woven, totals_text, untold, woven_text}
 use Rattle.lvm_top.proofs.MomentsLemmas.{told_behind, told_earlier}
+use Rattle.lvm_program.proofs.WovenLemmas.Landing.{ends_well}
 use Rattle.lvm_program.proofs.WovenLemmas.Making.{group_reads, group_unforced, volume_reads, volume_unforced}
 use Rattle.lvm_program.proofs.SimLemmas.{sim_few, sim_told, sim_unharmed}
 use Rattle.lvm_top.proofs.ScriptLemmas.Concluding.{Concluded, closed_concluded, concluded, each_is_ahead, off_still}
 use Rattle.lvm_top.proofs.TurnLemmas.{stuck_is_off}
-use Rattle.lvm_top.proofs.RecoveredLemmas.{HasNoPassiveOn}
 use Rattle.lvm_top.proofs.OneGroupLemmas.{alone_so, blank_finds_one, not_more, script_one}
 use Rattle.lvm_top.proofs.RefusedLemmas.{line_caused}
 use Rattle.lvm_top.proofs.ScriptLemmas.Scripting.{begins_timely, through}
@@ -104,28 +104,24 @@ makes_so log room group volume first answer last (HasGroup mid makes it) = recor
   clock = let a = makes.goes.clock in let b = it.goes.clock in omega (arith, a, b);
 }
 
--- What holds of them where one group may be found at first, without volumes in mode passive: there is no other, and none comes.
+-- What holds of them where one group may be found at first: there is no other, and none comes.
 pub record LinesAlone {log : Log} {room : Room} {group volume : List ℕ} {first : ScriptState} {answer : Reply} {last : ScriptState} (made : IsMade log room group volume first answer last) : Type 0 where
   pub alone : AreMadeAlone made
-  pub finds : (IsStuck answer → ⊥) → FindsOneGroup last.moment.device × HasNoPassiveOn last
+  pub finds : (IsStuck answer → ⊥) → FindsOneGroup last.moment.device
 
-module _ (log : Log) (room : Room) (past : List Fact) (group volume : List ℕ) (first : ScriptState) (begin : MayStart log.run past first) (one : FindsOneGroup first.moment.device) (off : FindsNoPassive first.moment.device)
+module _ (log : Log) (room : Room) (past : List Fact) (group volume : List ℕ) (first : ScriptState) (begin : MayStart log.run past first) (one : FindsOneGroup first.moment.device)
     (no_force : IsUnforced group) (nor_force : IsUnforced volume) where
-  first_off : HasNoPassiveOn first
-  first_off = subst (λ (o : Option Core). IfSome o (λ core. HasNoPassive core.descriptor)) (sym begin.off) tt
-
   pub lines_alone : (answer : Reply) (last : ScriptState) (made : IsMade log room group volume first answer last) → LinesAlone made
   lines_alone answer last (NoGroup not it) = record {
-    alone = alone_so (role_of (line_of group)) first last one first_off;
-    finds = λ heard. let all = script_one log room past first begin one off (NextLine group answer answer heard (inl refl) NoLine it) (tt, no_force) in (all.finds_one, all.session);
+    alone = alone_so (role_of (line_of group)) first last one;
+    finds = λ heard. (script_one log room past first begin one (NextLine group answer answer heard (inl refl) NoLine it) (tt, no_force)).finds_one;
   }
   lines_alone answer last (HasGroup mid makes it) =
-      let so_far = script_one log room past first begin one off (NextLine group reply.Ok reply.Ok ok_heard (inl refl) NoLine makes) (tt, no_force) in
+      let so_far = script_one log room past first begin one (NextLine group reply.Ok reply.Ok ok_heard (inl refl) NoLine makes) (tt, no_force) in
       record {
-        alone = (so_far.alone.1, alone_so (role_of (line_of volume)) mid last so_far.finds_one so_far.session);
+        alone = (so_far.alone.1, alone_so (role_of (line_of volume)) mid last so_far.finds_one);
         finds = λ heard.
-            let all = script_one log room past first begin one off (NextLine volume answer answer heard (inl refl) (NextLine group reply.Ok reply.Ok ok_heard (inl refl) NoLine makes) it) ((tt, no_force), nor_force) in
-            (all.finds_one, all.session);
+            (script_one log room past first begin one (NextLine volume answer answer heard (inl refl) (NextLine group reply.Ok reply.Ok ok_heard (inl refl) NoLine makes) it) ((tt, no_force), nor_force)).finds_one;
       }
 
 -- ---- the workload
@@ -142,7 +138,7 @@ runs_unstuck old new runs on stuck = by (path_frames runs).keeps.power
 pub drawn_concluded : (end : ScriptState) (exit : Moment) → IsBetween end.moment end.session end.posts → (core : Core) → end.session ≡ Some core → core.descriptor.lvs ≢ [] → end.moment.facts ≡ core.history.facts → (run : ℕ) → core.history.run ≡ run
     → (blocks : ℕ) (load : Workload) (woven : Woven) → IsDrawn blocks load (state end.moment.device core) exit woven → Concluded run end exit
 drawn_concluded end exit between core some vols facts run named blocks load woven drawn =
-    closed_concluded run end exit between core some vols facts named drawn.end (runs_unstuck (state end.moment.device core) drawn.end drawn.runs on) drawn.runs drawn.sound drawn.closed drawn.facts
+    closed_concluded run end exit between core some vols facts named drawn.end (runs_unstuck (state end.moment.device core) drawn.end drawn.runs on) (goes_any drawn.runs) drawn.sound drawn.closed drawn.facts
   where
     on : core.power ≡ power.On
     on = (subst (λ (o : Option Core). IsBetween end.moment o end.posts) some between).session.power
@@ -393,18 +389,17 @@ module _ (disks mib : ℕ) (load : Workload) (r : Run) (ready : IsReady r.entry)
     pub woven_alone : IsWovenAlone goes
     woven_alone =
         let begin = run_may_start r.named r.entry [] few ready (told_behind r.named r.entry blank) (told_earlier r.named r.entry blank) in
-        let none = blank_finds_one r.entry blank in
-        let own = lines_alone (empty_log r.named r.room) r.room ([] ++ Cut ∷ []) (mkvg_line disks) (mklv_line disks mib) (entry_state r.entry r.named) begin none.0 none.1
+        let own = lines_alone (empty_log r.named r.room) r.room ([] ++ Cut ∷ []) (mkvg_line disks) (mklv_line disks mib) (entry_state r.entry r.named) begin (blank_finds_one r.entry blank)
         (group_unforced disks mib sized) (volume_unforced disks mib sized) goes.answer goes.end goes.made
         in
         (own.alone, by its_end own.finds)
       where
-        by : ConcludesSo r.named goes.answer goes.end (exit_from r).moment → ((IsStuck goes.answer → ⊥) → FindsOneGroup goes.end.moment.device × HasNoPassiveOn goes.end) → IsAlone OfRequests goes.end (exit_state r.exit r.history goes.end)
+        by : ConcludesSo r.named goes.answer goes.end (exit_from r).moment → ((IsStuck goes.answer → ⊥) → FindsOneGroup goes.end.moment.device) → IsAlone OfRequests goes.end (exit_state r.exit r.history goes.end)
         by (Unheard stuck same) finds = record {
           enters = λ enters. absurd (not_more goes.end.moment.facts (facts_of r.history) (ap (λ (m : Moment). m.facts) same) enters);
           acts = λ acting. subst (λ (o : Option Core). IfSome o (StandsAlone goes.end.moment.device)) (sym (made.stuck stuck)) tt;
         }
-        by (Heard heard its) finds = alone_so OfRequests goes.end (exit_state r.exit r.history goes.end) (finds heard).0 (finds heard).1
+        by (Heard heard its) finds = alone_so OfRequests goes.end (exit_state r.exit r.history goes.end) (finds heard)
 
     pub woven_first : Legal (joined [] (facts_of r.history)) × ImagesKept r.exit (joined [] (facts_of r.history))
     woven_first =
@@ -559,6 +554,7 @@ module _ (disks mib : ℕ) (sized : IsSized disks mib) (load : Workload) (asked 
     heeds = λ goes. heeds_always r.entry r.exit (woven_path disks mib load r promises.does.ready goes sized its_few its_blank) its_unharmed.well.heeds;
     unharmed = λ goes. woven_unharmed disks mib load r promises.does.ready goes sized its_few its_blank its_unharmed;
     untroubled = λ goes. woven_untroubled disks mib load r promises.does.ready goes sized its_few its_blank its_unharmed;
+    lands = λ goes. ends_well disks mib load r sized promises.does.ready (woven_unharmed disks mib load r promises.does.ready goes sized its_few its_blank its_unharmed).counted goes;
   }
 
   pub sim_weaves : r.room ≡ full_room → PromisesWovenBlank disks mib load asked (record r { entry = sim_device disks mib; room = full_room })

@@ -40,19 +40,19 @@ use Rattle.lvm_range_lines.specs.Leaving.{IsOverWith, CarriesTo, CarriesBy, serv
 
 -- ---- as states
 
-pub ended_is_over : {S : Type 0} (device : S → Device) (end : S × Core) (posts : List Post) (stage : Stage S) (last : ℕ) → IsEnded device end posts stage → IsOverWith (state_of device end) posts last (state_in device stage last)
-ended_is_over device end posts stage last ended = record { shelf = ended.shelf; facts = ap (λ (log : Log). log.facts) ended.history; session = ended.session; posted = ended.posted; clock = refl }
+pub ended_is_over : {S : Type 0} (device : S → Device) (end : S × Core) (posts : List Post) (stage : Stage S) (last : ℕ) → ArePosted end.1.history.facts (Some end.1) posts → IsEnded device end posts stage → IsOverWith (state_of device end) posts last (state_in device stage last)
+ended_is_over device end posts stage last stood ended = record { shelf = ended.shelf; facts = ap (λ (log : Log). log.facts) ended.history; session = ended.session; posted = ended.posted; stood = stood; clock = refl }
 
-carried_leaves_by : {S : Type 0} (device : S → Device) (end : S × Core) (posts : Vec Post) (bytes : Vec ℕ) (p : Power) (stage : Stage S) (last : ℕ) → end.1.power ≡ p → IsCarried device end posts bytes p stage
+carried_leaves_by : {S : Type 0} (device : S → Device) (end : S × Core) (posts : Vec Post) (bytes : Vec ℕ) (p : Power) (stage : Stage S) (last : ℕ) → ArePosted end.1.history.facts (Some end.1) posts.items → end.1.power ≡ p → IsCarried device end posts bytes p stage
     → CarriesBy p (state_of device end) posts.items last (state_in device stage last)
-carried_leaves_by device end posts bytes power.On stage last is carried = ap (λ (s : Stage _). state_in device s last) carried
-carried_leaves_by device end posts bytes power.Off stage last is carried = ended_is_over device end posts.items stage last carried
-carried_leaves_by device end posts bytes power.Dark stage last is carried = ended_is_over device end posts.items stage last carried
-carried_leaves_by device end posts bytes power.Stuck stage last is carried = ended_is_over device end posts.items stage last carried
+carried_leaves_by device end posts bytes power.On stage last stood is carried = ap (λ (s : Stage _). state_in device s last) carried
+carried_leaves_by device end posts bytes power.Off stage last stood is carried = ended_is_over device end posts.items stage last stood carried
+carried_leaves_by device end posts bytes power.Dark stage last stood is carried = ended_is_over device end posts.items stage last stood carried
+carried_leaves_by device end posts bytes power.Stuck stage last stood is carried = ended_is_over device end posts.items stage last stood carried
 
-pub carried_leaves : {S : Type 0} (device : S → Device) (end : S × Core) (posts : Vec Post) (bytes : Vec ℕ) (stage : Stage S) (last : ℕ) → IsCarried device end posts bytes end.1.power stage
+pub carried_leaves : {S : Type 0} (device : S → Device) (end : S × Core) (posts : Vec Post) (bytes : Vec ℕ) (stage : Stage S) (last : ℕ) → ArePosted end.1.history.facts (Some end.1) posts.items → IsCarried device end posts bytes end.1.power stage
     → CarriesTo (state_of device end) posts.items last (state_in device stage last)
-carried_leaves device end posts bytes stage last carried = carried_leaves_by device end posts bytes end.1.power stage last refl carried
+carried_leaves device end posts bytes stage last stood carried = carried_leaves_by device end posts bytes end.1.power stage last stood refl carried
 
 -- ---- what fits
 

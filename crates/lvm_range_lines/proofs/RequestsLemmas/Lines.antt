@@ -140,7 +140,7 @@ module _ {S : Type 0} (device : S → Device) (first : S × Core) (posts : Vec P
           → IsCarried device end posts bytes1 end.1.power stage → Says (state_of device end) asked answer → most_refusals answer ≤ 1 → EndsUnasked device Does ⊥ OfRequests (serving first posts bytes) stage answer
       well finishes waited carried says one =
           carried_ends device first posts bytes fits between end to Does posts bytes1 rooms stage answer (few one)
-          (λ last. There first.1 taken.lv refl taken.named (EndsWell (state_of device end) asked (finished left (Ok tt) finishes waited stage last (carried_leaves device end posts bytes1 stage last carried) taken.lv taken.gives) says))
+          (λ last. There first.1 taken.lv refl taken.named (EndsWell (state_of device end) asked (finished left (Ok tt) finishes waited stage last (carried_leaves device end posts bytes1 stage last posted carried) taken.lv taken.gives) says))
           posted rooms_then shut carried
 
       fails : (why : RangeFault) → FinishGives asked left (state_of device mid) (state_of device end) (Err why) → Waited left (state_of device mid) (state_of device end)
@@ -150,12 +150,12 @@ module _ {S : Type 0} (device : S → Device) (first : S × Core) (posts : Vec P
           let on = unfinished_on asked (state_of device end) sound (unstuck device first posts bytes fits between end to) (stuck_unfinished asked left (state_of device mid) (state_of device end) (subst (λ (w : RangeFault). FinishGives asked left (state_of device mid) (state_of device end) (Err w)) same finishes)) in
           stuck_ends device first posts bytes fits between end to Does posts bytes1 rooms stage answer (few (subst (λ (a : Reply). most_refusals a ≤ 1) (sym is) (omega arith)))
           (λ last. There first.1 taken.lv refl taken.named (Fails (state_of device end) asked why (finished left (Err why) finishes waited stage last
-          (subst (λ (b : Bool). FailsIf b (state_of device end) posts.items last (state_in device stage last)) (sym stuck) (ended_is_over device end posts.items stage last ended)) taken.lv taken.gives) is))
+          (subst (λ (b : Bool). FailsIf b (state_of device end) posts.items last (state_in device stage last)) (sym stuck) (ended_is_over device end posts.items stage last posted ended)) taken.lv taken.gives) is))
           ended rooms_then on (is ∙ ap (λ (w : RangeFault). reply.Refused (range_refusal w)) same)
       fails why finishes waited false heard carried is =
           carried_ends device first posts bytes fits between end to Does posts bytes1 rooms stage answer (few (subst (λ (a : Reply). most_refusals a ≤ 1) (sym is) (omega arith)))
           (λ last. There first.1 taken.lv refl taken.named (Fails (state_of device end) asked why (finished left (Err why) finishes waited stage last
-          (subst (λ (b : Bool). FailsIf b (state_of device end) posts.items last (state_in device stage last)) (sym heard) (carried_leaves device end posts bytes1 stage last carried)) taken.lv taken.gives) is))
+          (subst (λ (b : Bool). FailsIf b (state_of device end) posts.items last (state_in device stage last)) (sym heard) (carried_leaves device end posts bytes1 stage last posted carried)) taken.lv taken.gives) is))
           posted rooms_then shut carried
 
     -- whatever it answered

@@ -109,7 +109,7 @@ module _ {S : Type 0} (device : S → Device) (first : S × Core) (posts : Vec P
           over = over;
           caused = λ id. answered_for (state_of device mid) 1 id sound;
           closed = state_in device behind.closed last;
-          ends = ended_is_over device mid posts.items behind.closed last behind.ended;
+          ends = ended_is_over device mid posts.items behind.closed last posted behind.ended;
           waits = waits_off device behind.closed stage answer behind.waits behind.ended.session last;
         }));
         goes = behind_goes device first.1.history.run (state_in device old last) behind.closed stage last answer behind.waits behind.ended.session run_is reply.Ok heard_ok (goes_closed last) (omega (arith, long));
@@ -136,5 +136,5 @@ module _ {S : Type 0} (device : S → Device) (first : S × Core) (posts : Vec P
     vain_ends =
         let one : most_refusals answer ≤ 1 = subst (λ (a : Reply). most_refusals a ≤ 1) (sym says) (omega arith) in
         stuck_ends device first posts bytes fits between mid to_mid Does posts bytes fits.rooms stage answer (omega (arith, one))
-        (λ last. does_so stage answer last (InVain (record { awaited = awaited; none = none; ends = ended_is_over device mid posts.items stage last ended; says = says })))
+        (λ last. does_so stage answer last (InVain (record { awaited = awaited; none = none; ends = ended_is_over device mid posts.items stage last posted ended; says = says })))
         ended rooms_then (unfinished_on awaited.post.asked (state_of device mid) sound (unstuck device first posts bytes fits between mid to_mid) awaited.unfinished) says

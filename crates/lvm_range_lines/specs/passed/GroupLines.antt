@@ -8,7 +8,7 @@ pub use Rattle.lvm_group_lines.specs.Listings.{DiskOfGroup, DiskShows, GroupShow
 pub use Rattle.lvm_group_lines.specs.Moments.{Aside, GoesOn, HasBegunHeld, IsAlone, IsBrokenOff, IsRequesting, OfGroup, OfRequests, Role}
 pub use Rattle.lvm_group_lines.specs.Replies.{InFull, IsRefused, IsStuck, Shows, WithoutMemory, is_unheard, most_refusals, refusals_of, reply_text}
 pub use Rattle.lvm_group_lines.specs.Shelves.{ArrangeDoes, CutDoes, CutNotPlanned, IsArranged, NotPlanned, NotThere, PowerIsCut}
-pub use Rattle.lvm_group_lines.specs.Stages.{ComesTo, HaveRooms, IsBetweenStage, IsCarried, IsClosed, IsEnded, IsFittingStage, IsLeftBy, IsNotOn, IsOfKind, IsOn, history_in, history_of, moment_in, open_in, posts_ended, session_in, session_of, shelf_in, shelf_of, state_in}
+pub use Rattle.lvm_group_lines.specs.Stages.{ComesTo, HaveRooms, IsBetweenStage, IsCarried, IsClosed, IsEnded, IsFittingStage, IsLeftBy, IsNotOn, IsOfKind, IsOn, history_after, history_in, history_of, moment_in, open_in, posts_ended, session_in, session_of, shelf_in, shelf_of, state_in}
 pub use Rattle.lvm_group_lines.specs.State.{ArePosted, IsAtRest, IsBetween, IsOnBetween, IsTimely, ScriptState, StandsAlone, StandsBy, log_with, without_facts}
 pub use Rattle.lvm_group_lines.specs.declared.holder.Holder.{Holder}
 pub use Rattle.lvm_group_lines.specs.declared.reply.Refusal.{Refusal}

@@ -1,2 +1,2 @@
 -- Passed on from `lvm_volumes`.
-pub use Rattle.lvm_group_lines.specs.passed.Volumes.{AreAdded, AreTaken, HasEntered, IsWith, IsWithFirst, IsWithMore, MklvGives, MklvcopyGives, RmlvGives, RmlvcopyGives, StillHeld, making, removing, to_add, to_make, to_remove, to_take}
+pub use Rattle.lvm_group_lines.specs.passed.Volumes.{AreAdded, AreTaken, HasEntered, IsWith, IsWithFirst, IsWithMore, MklvGives, MklvcopyGives, RmlvGives, RmlvcopyGives, StillHeld, making, removed, removing, to_add, to_make, to_remove, to_take}

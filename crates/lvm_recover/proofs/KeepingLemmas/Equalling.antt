@@ -15,7 +15,6 @@ use Rattle.lvm_num.specs.Geometry.{track_group_of, sector_of}
 use Rattle.lvm_num.specs.Note.{Noted}
 use Rattle.lvm_num.specs.Record.{Stamped}
 use Rattle.lvm_num.specs.Votes.{all_disks, CanWrite}
-use Rattle.lvm_num.proofs.Booleans.{clash_gives}
 use Rattle.lvm_vol.specs.declared.entry.Vol.TheVariants.{Lv}
 use Rattle.lvm_vol.specs.Facts.{Fact, Cut}
 use Rattle.lvm_vol.specs.May.{Known, known}
@@ -35,7 +34,7 @@ use Rattle.lvm_crash.proofs.GroupLemmas.Lists.{left_of, right_of, both_of, not_s
 use Rattle.lvm_rest.specs.Rest.{NoneIsBehind}
 use Rattle.lvm_rest.proofs.Rows.{at_passing, none_passing, passes_none}
 use Rattle.lvm_recover.specs.Recopied.{IsRecopied, HoldFirst, IsToEqual, AreActiveEven, OnlyNotesOf}
-use Rattle.lvm_recover.specs.Keeping.{NamedAreAll, QuietIsEven, EqualledIsEven, NotesMayGo}
+use Rattle.lvm_recover.specs.Keeping.{EqualledIsEven, NotesMayGo}
 use Rattle.lvm_recover.proofs.KeepingLemmas.Copying.{left_passes, from_own}
 
 module _ (group : Descriptor) (status : Status) (there : Disks) (old : Contents) (facts : List Fact) (within : IsWithinDisks old) (enough : CanWrite group there)
@@ -192,20 +191,3 @@ equalled_is_even group status there old new facts valid within enough shows chan
 
 pub notes_may_go : NotesMayGo
 notes_may_go group status there old new facts within enough shows none_behind even change kept = notes_gone group status there old facts within enough shows kept new none_behind even change
-
-pub named_are_all : NamedAreAll
-named_are_all group status there old new none named row lp b one inside made = by row.mode refl
-  where
-    by : (mode : Mode) → row.mode ≡ mode → HoldFirst old new group.mib (fresh_on there status row lp) b
-    by Active is = named row lp b one is inside (subst (λ (m : Mode). IsToEqual old status there m row.number b) is made)
-    by Passive is = absurd (none row one is)
-    by Off is = absurd (subst (λ (m : Mode). IsToEqual old status there m row.number b) is made)
-
-pub quiet_is_even : QuietIsEven
-quiet_is_even c group status there facts valid within enough shows none quiet kept =
-    equalled_is_even group status there c c facts valid within enough shows (record { rest = refl; each = λ d s. inl refl }) (λ row lp b one inside made. absurd (by row one b row.mode refl made)) kept
-  where
-    by : (row : LvRow) → IsOneOf group.lvs row → (b : ℕ) (mode : Mode) → row.mode ≡ mode → IsToEqual c (Some shows.stands) there mode row.number b → ⊥
-    by row one b Active is named = absurd (clash_gives (is_named c named.0 row.number (track_group_of b)) named.2 (quiet named.0 row.number (track_group_of b) named.1))
-    by row one b Passive is dirty = none row one is
-    by row one b Off is never = never

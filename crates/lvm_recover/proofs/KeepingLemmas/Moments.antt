@@ -15,10 +15,9 @@ use Rattle.lvm_recover.proofs.KeepingLemmas.Copying.{recopied}
 use Rattle.lvm_recover.proofs.KeepingLemmas.Equalling.{even_there, notes_gone}
 use Rattle.lvm_recover.proofs.KeepingLemmas.Images.{images_are_recopied}
 use Rattle.lvm_recover.proofs.Showing.{shows_other_data, behind_other_data}
-use Rattle.lvm_num.specs.declared.descriptor.Mode.{Mode}
 use Rattle.lvm_num.specs.declared.descriptor.Mode.TheVariants.{Active, Off}
 use Rattle.lvm_num.proofs.Booleans.{clash_gives}
-use Rattle.lvm_recover.specs.Recopied.{IsToEqual, AreActiveEven}
+use Rattle.lvm_recover.specs.Recopied.{AreActiveEven}
 
 not_off : Active ≡ Off → ⊥
 not_off e = absurd cc
@@ -41,7 +40,7 @@ emptying_stays_kept group status there targets sector old now copied may change 
     (subst (λ (s : Stamped Status). NoneIsBehind (contents_of copied) group (Some s) there) (sym shows.1) (behind_other_data group (Some may.shows.stands) there c (contents_of copied) is.rest may.none_behind))
     (subst (λ (s : Stamped Status). AreActiveEven (contents_of copied) group (Some s) there) (sym shows.1)
     (λ row lp b one active inside. even_there group status there c facts (images_within (image_of old.sizes may.media)) may.enough may.shows was (contents_of copied) may.valid is row lp b one
-    (λ made. equalled row lp b one active inside (subst (λ (m : Mode). IsToEqual c (Some may.shows.stands) there m row.number b) active made)) (λ off. not_off (sym active ∙ off)) inside))
+    (equalled row lp b one inside) (λ off. not_off (sym active ∙ off)) inside))
     (record {
       rest = notes.rest;
       others = λ d isnt. ⊎_elim (λ same. same) (λ own. clash_gives (there d) (in_there d own.0) isnt) (notes.own d);

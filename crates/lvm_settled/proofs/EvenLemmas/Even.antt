@@ -101,4 +101,4 @@ mklv_keeps_even v old new was is stood stands writes status free told told_new w
 
 pub rmlv_keeps_even : RmlvKeepsEven
 rmlv_keeps_even lv old new was is stood stands writes status told told_new wanted even =
-    kept_even (λ next. next ≡ without_volume old.core.descriptor lv) NoPartition NoPartition NoVolume old new was is stood stands writes status (λ pp none. absurd none) told told_new wanted even
+    kept_even (λ next. next ≡ without_volume old.core.descriptor lv) NoPartition NoPartition (λ n. n ≡ lv) old new was is stood stands writes status (λ pp none. absurd none) told told_new wanted even

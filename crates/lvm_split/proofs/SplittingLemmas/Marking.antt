@@ -57,7 +57,7 @@ module _ (name : List ℕ) (copies : ℕ) (plan : SplitPlan) (a : State) (settle
   -- it is one of the split's
   pub mark_among : Leaves (scoped N NoPartition NoPartition D Always 1) p q a b
   mark_among = leaves_wider (dirtying marked []) (scoped N NoPartition NoPartition D Always 1) (λ d none. absurd none) (λ pp none. none) (λ pp none. none) (λ pp none. none)
-      (λ n has. one n (subst (λ (ns : List ℕ). Contains ns n) (append-nil marked) has)) (omega arith) p q a b (λ run first held only. none_clean) leaves
+      (λ n has. one n (subst (λ (ns : List ℕ). Contains ns n) (append-nil marked) has)) (omega arith) p q a b (λ run first held only past begins. none_clean) leaves
 
   pub mark_leaves : Leaves (parting plan) p q a b
   mark_leaves = leaves_wider (scoped N NoPartition NoPartition D Always 1) (parting plan) (λ d is. is) (λ pp none. none) (λ pp none. none) (λ pp none. none) (λ n is. is) (omega arith) p q a b (λ run first held may. tt) mark_among
@@ -117,6 +117,7 @@ module _ (name : List ℕ) (copies : ℕ) (plan : SplitPlan) (a : State) (settle
       row = it.0;
       volume = ap (λ (x : Descriptor). volume_of x plan.from) (sym same) ∙ it.1.0;
       refuses = it.2;
+      finds = leaves.finds;
       settled = done.settled;
       is = done.is;
       ready = done.ready;

@@ -6,6 +6,7 @@ use Rattle.lvm_num.specs.declared.descriptor.LvRow.{LvRow}
 use Rattle.lvm_num.specs.declared.record.Stamp.{Stamp}
 use Rattle.lvm_num.specs.declared.status.Status.{Status}
 use Rattle.lvm_num.specs.Disks.{Disks, has}
+use Rattle.lvm_num.specs.Record.{Stamped}
 use Rattle.lvm_num.specs.Votes.{CanWrite}
 use Rattle.lvm_num.proofs.Lists.{of_told}
 use Rattle.lvm_disk.specs.Device.{Device, Media, image_of}
@@ -45,7 +46,8 @@ use Rattle.lvm_settled.specs.passed.Names.{Room, NotesAreHome, HaveAllLanded, Is
 use Rattle.lvm_settled.proofs.passed.Names.{empty_names_none}
 use Rattle.lvm_mwc.specs.Cache.{is_named as is_named_by}
 use Rattle.lvm_kept.proofs.CommittedLemmas.Finding.{images_within}
-use Rattle.lvm_varyon.proofs.passed.Names.{quiet_is_even}
+use Rattle.lvm_varyon.specs.passed.Names.{DirtyAreOne}
+use Rattle.lvm_varyon.proofs.passed.Names.{quiet_dirty_is_even}
 use Rattle.lvm_varyon.specs.Second.{status_after, last_seq}
 use Rattle.lvm_varyon.proofs.SecondLemmas.{last_seq_low}
 use Rattle.lvm_group.specs.NewGroup.{given_up, new_group, new_status}
@@ -253,11 +255,12 @@ home : (was : Log) (moment : ℕ) (room : Room) (old : Device) (s : State) (medi
 home was moment room old s media it clock facts kept told = of_told (λ (m : Media). NotesAreHome s.core (image_of s.device.sizes m)) s.device.media media told (it.started.held facts clock kept).notes
 
 pub varied_is_made_even : VariedIsMadeEven
-varied_is_made_even past was name moment room old s media on it clock facts before told none kept =
+varied_is_made_even past was name moment room old s media on it clock facts before told equal kept =
     let notes = home was moment room old s media it clock facts before told in
     record {
       notes = notes;
-      even = λ shows. quiet_is_even (shown_to s media) s.core.descriptor s.core.status.committed (is_there s.core) past it.sound.fitting.valid (images_within (image_of s.device.sizes media)) it.started.settled.votes shows none
+      even = λ shows. quiet_dirty_is_even (shown_to s media) s.core.descriptor s.core.status.committed (is_there s.core) past it.sound.fitting.valid (images_within (image_of s.device.sizes media)) it.started.settled.votes shows
+          (of_told (λ (m : Media). (stands : Stamped Status) → stands.value ≡ s.core.status.committed → DirtyAreOne (shown_to s m) s.core.descriptor (Some stands) (is_there s.core)) s.device.media media told equal shows.stands shows.committed)
           (λ d lv group present. notes d lv group present ∙ ap (λ (c : Core). is_named_by c.cache d lv group) on.first.is ∙ empty_names_none on.written.group on.first.parts.cache on.first.reserved.cache d lv group) kept;
     }
 

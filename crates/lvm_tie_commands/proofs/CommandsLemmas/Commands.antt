@@ -52,6 +52,17 @@ abbrev pub KeepsEven : State → State → Type 0
 KeepsEven old new = (was is : Media) (stood stands : Stamped Status) → old.device.media ≡ Some was → new.device.media ≡ Some is → AreWanted old new stood stands
     → IsEven (shown_to old was) old.core.descriptor (Some stood) (is_there old.core) → IsEven (shown_to new is) new.core.descriptor (Some stands) (is_there new.core)
 
+-- no member comes back
+pub still_there : (old new : State) → ((d : ℕ) → is_member new.core.descriptor d ≡ is_member old.core.descriptor d) → ((d : ℕ) → IsTrue (calls_missing old.core.status.wanted d) → IsTrue (calls_missing new.core.status.wanted d))
+    → (d : ℕ) → IsTrue (is_there new.core d) → IsTrue (is_there old.core d)
+still_there old new members stays d there =
+    let both = split (is_member new.core.descriptor d) (not (calls_missing new.core.status.wanted d)) there in
+    join (is_member old.core.descriptor d) (not (calls_missing old.core.status.wanted d)) (sym (members d) ∙ both.0) (by (calls_missing old.core.status.wanted d) refl both.1)
+  where
+    by : (b : Bool) → calls_missing old.core.status.wanted d ≡ b → not (calls_missing new.core.status.wanted d) ≡ true → not b ≡ true
+    by false present there = refl
+    by true missing there = absurd (let no : false ≡ true = sym (ap not (stays d missing)) ∙ there in cc no)
+
 module _ (run : ℕ) (first : Moment) (old new : State) (may : MayBeCommanded run first old) (began : IsSettled old.core) where
   -- where a volume's making or removal is entered, no other group is found, if at most one has a quorum where it is the group's first
   pub is_alone : (old.core.descriptor.lvs ≡ [] → EntersVolumes old.core.history.facts new.core.history.facts → IsOneFoundOn old.device) → IfAlone old new run first
@@ -81,16 +92,6 @@ module _ (run : ℕ) (first : Moment) (old new : State) (may : MayBeCommanded ru
     epoch : new.core.status.stamp.epoch < 2 ^ 64
     epoch = subst (λ (n : ℕ). n < 2 ^ 64) (sym leaves.numbers.epoch) may.stamped.epoch
 
-    -- no member comes back
-    fewer : (d : ℕ) → IsTrue (is_there new.core d) → IsTrue (is_there old.core d)
-    fewer d there =
-        let both = split (is_member new.core.descriptor d) (not (calls_missing new.core.status.wanted d)) there in
-        join (is_member old.core.descriptor d) (not (calls_missing old.core.status.wanted d)) (sym (members d) ∙ both.0) (by (calls_missing old.core.status.wanted d) refl both.1)
-      where
-        by : (b : Bool) → calls_missing old.core.status.wanted d ≡ b → not (calls_missing new.core.status.wanted d) ≡ true → not b ≡ true
-        by false present there = refl
-        by true missing there = absurd (let no : false ≡ true = sym (ap not (leaves.status.stays d missing)) ∙ there in cc no)
-
     module _ (was : Media) (it : Carries old was) where
       told : (is : Media) × (new.device.media ≡ Some is)
       told = told_next old.device.media new.device.media (λ (w i : Media). ChangesBy (IsOfCommand scope.next scope.zeros old new) (image_of old.device.sizes w) (image_of new.device.sizes i)) was it.told leaves.writes.media
@@ -102,7 +103,7 @@ module _ (run : ℕ) (first : Moment) (old new : State) (may : MayBeCommanded ru
       held = of_told (λ (m : Media). Held new m) new.device.media told.0 told.1 (still.held held_before)
 
       wanted : AreWanted old new it.held.shows.stands held.shows.stands
-      wanted = record { before = it.held.shows.committed ∙ began.committed; after = held.shows.committed ∙ on.committed; fewer = fewer }
+      wanted = record { before = it.held.shows.committed ∙ began.committed; after = held.shows.committed ∙ on.committed; fewer = still_there old new members leaves.status.stays }
 
       carried : Carries new told.0
       carried = record {

@@ -13,7 +13,7 @@ use Rattle.lvm_parse.specs.declared.rest.Misfit.{Misfit}
 use Rattle.lvm_parse.specs.Grammar.{line_of}
 use Rattle.lvm_core.specs.declared.parts.Room.{Room}
 use Rattle.lvm_core.specs.Leaves.{MayBeFound}
-use Rattle.lvm_line.specs.passed.GroupLines.{IsBetween, IsOnBetween, patience_of_line, IsStuck, ScriptState, IsTimely, Reply, is_unheard, WriteDoes, ReadDoes, NoWriteWhileOn, WriteGoes, NoReadWhileOn, ReadGoes, ArrangeDoes, NotThere, NotPlanned, IsArranged, CutDoes, CutNotPlanned, PowerIsCut, VaryoffDoes, NoVaryoff, BusyVaryoff, VariesOff}
+use Rattle.lvm_line.specs.passed.GroupLines.{IsBetween, IsOnBetween, patience_of_line, IsStuck, ScriptState, IsTimely, Reply, is_unheard, WriteDoes, ReadDoes, NoWriteWhileOn, WriteGoes, NoReadWhileOn, ReadGoes, ArrangeDoes, NotThere, NotPlanned, IsArranged, CutDoes, CutNotPlanned, PowerIsCut}
 use Rattle.lvm_line.specs.passed.Quiesce.{RejectedAtOnce, KeptFrom, AskedAtRest}
 use Rattle.lvm_line.specs.Lines.{LineDoes, role_of}
 use Rattle.lvm_posts.specs.declared.asked.Asked.{Asked}
@@ -38,7 +38,9 @@ use Rattle.lvm_top.proofs.StandingLemmas.Groups.{mkvg_finds, varyon_nothing}
 use Rattle.lvm_top.proofs.LeavesLemmas.Quiet.{closed_nothing, quiet_nothing, range_stays_nothing, runs_nothing, session_nothing}
 use Rattle.lvm_top.proofs.LeavesLemmas.Transfers.{relit_nothing, write_nothing, read_nothing}
 use Rattle.lvm_top.proofs.StandingLemmas.Volumes.{mklv_finds, rmlv_finds}
+use Rattle.lvm_top.proofs.StandingLemmas.Closing.{varyoff_nothing}
 use Rattle.lvm_top.proofs.StandingLemmas.Copying.{mklvcopy_finds, rmlvcopy_finds}
+use Rattle.lvm_top.proofs.StandingLemmas.Splitting.{splitlvcopy_finds}
 use Rattle.lvm_raw.specs.Raw.{log_with as log_of}
 
 module _ (log : Log) (old new : ScriptState) (answer : Reply) where
@@ -48,11 +50,6 @@ module _ (log : Log) (old new : ScriptState) (answer : Reply) where
 
   same_state : new ≡ old → FindsNothing
   same_state same = same_nothing old.moment.device new.moment.device (ap (λ (s : ScriptState). s.moment.device) same)
-
-  varyoff_nothing : (name : List ℕ) → VaryoffDoes name old new answer → FindsNothing
-  varyoff_nothing name (NoVaryoff none is) = same_state is.1
-  varyoff_nothing name (BusyVaryoff on busy is) = same_state is.1
-  varyoff_nothing name (VariesOff core some on none ends is) = same_nothing old.moment.device new.moment.device (ap (λ (m : Moment). m.device) ends.same)
 
   rd_nothing : (disk at count : ℕ) → ReadDoes log disk at count old new answer → FindsNothing
   rd_nothing disk at count (NoReadWhileOn on is) = same_state is.1
@@ -183,12 +180,13 @@ module _ (log : Log) (room : Room) (line : List ℕ) (answer : Reply) (old new :
   by_reading (Ok None) is stood does id k it = inl (same_state log old new answer does.1 id k it)
   by_reading (Ok (Some (command.Mkvg force name mib disks))) is stood does id k it = mkvg_finds log old new answer shelf heard timely line force name mib disks is room does id k it
   by_reading (Ok (Some (command.Varyon name))) is stood does id k it = inl (varyon_nothing log old new answer shelf heard timely name room does id k it)
-  by_reading (Ok (Some (command.Varyoff name))) is stood does id k it = inl (varyoff_nothing log old new answer name does id k it)
+  by_reading (Ok (Some (command.Varyoff name))) is stood does id k it = inl (varyoff_nothing log.run old new between named stood answer name does id k it)
   by_reading (Ok (Some (command.Lsvg volumes name))) is stood does id k it = inl (same_state log old new answer does.1 id k it)
   by_reading (Ok (Some (command.Mklv name copies mode policy group lps))) is stood does id k it = mklv_finds log.run old new between named stood answer name copies mode policy group lps does id k it
   by_reading (Ok (Some (command.Rmlv name))) is stood does id k it = rmlv_finds log.run old new between named stood answer name does id k it
   by_reading (Ok (Some (command.Mklvcopy name copies))) is stood does id k it = mklvcopy_finds log.run old new between named stood answer name copies does id k it
   by_reading (Ok (Some (command.Rmlvcopy name copies))) is stood does id k it = rmlvcopy_finds log.run old new between named stood answer name copies does id k it
+  by_reading (Ok (Some (command.Splitlvcopy made name copies))) is stood does id k it = splitlvcopy_finds log.run old new between named stood answer made name copies does id k it
   by_reading (Ok (Some (command.Lslv name))) is stood does id k it = inl (same_state log old new answer does.1 id k it)
   by_reading (Ok (Some (command.Lspv disk))) is stood does id k it = inl (same_state log old new answer does.1 id k it)
   by_reading (Ok (Some (command.Rd name at count))) is stood does id k it = inl (volume_nothing old new answer between name _ (λ core lv. finishes_nothing old new answer between None _ at count core lv) does id k it)

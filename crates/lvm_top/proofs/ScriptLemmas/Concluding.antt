@@ -20,7 +20,7 @@ use Rattle.lvm_line.specs.passed.Names.{power_by}
 use Rattle.lvm_session.specs.declared.answers.Turned.TheVariants as turned
 use Rattle.lvm_session.specs.declared.open.Power.{Power}
 use Rattle.lvm_line.specs.passed.Quiesce.{IsAheadEach}
-use Rattle.lvm_line.specs.passed.Tie.{LeavesDescriptors, RunsOn}
+use Rattle.lvm_line.specs.passed.Tie.{LeavesDescriptors, LeavesSession}
 use Rattle.lvm_line.specs.Lines.{role_of}
 use Rattle.lvm_line.specs.passed.GroupLines.{GoesOn, IsAlone, OfRequests, IsClosed, ArePosted, ScriptState, IsAtRest, IsBetween, IsTimely, StandsBy, Reply}
 use Rattle.lvm_line.specs.passed.RefusalVariants as refusal
@@ -81,15 +81,15 @@ module _ (end : ScriptState) (exit : Moment) (between : IsBetween end.moment end
   abbrev behind : ScriptState
   behind = record { moment = exit; session = None; posts = []; last = end.last }
 
-  -- it has run on, and is closed
-  module _ (last : State) (heard : last.core.power ≡ power.Stuck → ⊥) (runs : RunsOn (state end.moment.device core) last) (sound : IsSound last) (closed : IsClosed last.core.power last.device exit.device) (entries : exit.facts ≡ last.core.history.facts) where
+  -- it has gone on, and is closed
+  module _ (last : State) (heard : last.core.power ≡ power.Stuck → ⊥) (leaves : LeavesSession (state end.moment.device core) last) (sound : IsSound last) (closed : IsClosed last.core.power last.device exit.device) (entries : exit.facts ≡ last.core.history.facts) where
     closed_goes : GoesOn core.history.run OfRequests (reply.Refused refusal.Stuck) end behind
     closed_goes =
-        over_goes OfRequests end core last (record { alone = λ new alone. alone.acts tt; session = some; facts = facts; volumes = vols; between = between; leaves = goes_any runs; sound = sound }) (reply.Refused refusal.Stuck) behind closed entries refl refl heard (λ heard. absurd (heard refl)) (none_posted _ _)
+        over_goes OfRequests end core last (record { alone = λ new alone. alone.acts tt; session = some; facts = facts; volumes = vols; between = between; leaves = leaves; sound = sound }) (reply.Refused refusal.Stuck) behind closed entries refl refl heard (λ heard. absurd (heard refl)) (none_posted _ _)
         (λ not_asking. absurd (not_asking tt)) (omega arith)
 
     closed_each : IsTimely core.history.run end → IsAheadEach core.history.run (end.last + 1) exit.device exit.facts
-    closed_each = closed_ahead OfRequests end core last (record { alone = λ new alone. alone.acts tt; session = some; facts = facts; volumes = vols; between = between; leaves = goes_any runs; sound = sound }) behind closed entries refl heard
+    closed_each = closed_ahead OfRequests end core last (record { alone = λ new alone. alone.acts tt; session = some; facts = facts; volumes = vols; between = between; leaves = leaves; sound = sound }) behind closed entries refl heard
 
 -- what is ahead of each crash image is ahead of the disks
 pub each_is_ahead : (run moment : ℕ) (device : Device) (facts : List Fact) → IsAheadEach run moment device facts → IsAhead run moment device facts
@@ -101,15 +101,15 @@ pub record Concluded (run : ℕ) (end : ScriptState) (exit : Moment) : Type 0 wh
   pub left : IsTimely run end → IsAheadEach run (end.last + 1) exit.device exit.facts
   pub power : exit.device.power ≡ true
 
--- so where a session with volumes has run on, and is closed
+-- so where a session with volumes has gone on, and is closed
 pub closed_concluded : (run : ℕ) (end : ScriptState) (exit : Moment) → IsBetween end.moment end.session end.posts → (core : Core) → end.session ≡ Some core → core.descriptor.lvs ≢ [] → end.moment.facts ≡ core.history.facts → core.history.run ≡ run
-    → (last : State) → (last.core.power ≡ power.Stuck → ⊥) → RunsOn (state end.moment.device core) last → IsSound last → IsClosed last.core.power last.device exit.device → exit.facts ≡ last.core.history.facts → Concluded run end exit
-closed_concluded run end exit between core some vols facts named last heard runs sound closed entries =
+    → (last : State) → (last.core.power ≡ power.Stuck → ⊥) → LeavesSession (state end.moment.device core) last → IsSound last → IsClosed last.core.power last.device exit.device → exit.facts ≡ last.core.history.facts → Concluded run end exit
+closed_concluded run end exit between core some vols facts named last heard leaves sound closed entries =
     let goes : GoesOn run OfRequests (reply.Refused refusal.Stuck) end (behind end exit between core some vols facts) =
-    subst (λ (n : ℕ). GoesOn n OfRequests (reply.Refused refusal.Stuck) end (behind end exit between core some vols facts)) named (closed_goes end exit between core some vols facts last heard runs sound closed entries) in
+    subst (λ (n : ℕ). GoesOn n OfRequests (reply.Refused refusal.Stuck) end (behind end exit between core some vols facts)) named (closed_goes end exit between core some vols facts last heard leaves sound closed entries) in
     record {
       keeps = λ timely alone first span stands. (goes.keeps timely alone first span stands).0;
-      left = subst (λ (n : ℕ). IsTimely n end → IsAheadEach n (end.last + 1) exit.device exit.facts) named (closed_each end exit between core some vols facts last heard runs sound closed entries);
+      left = subst (λ (n : ℕ). IsTimely n end → IsAheadEach n (end.last + 1) exit.device exit.facts) named (closed_each end exit between core some vols facts last heard leaves sound closed entries);
       power = goes.power;
     }
 
@@ -131,7 +131,7 @@ concluded run end exit (IsServed core some vols named facts (NothingIsLeft rests
     same_concluded run end exit between.lit.power
     (ap (λ (d : Device). record { device = d; facts = exit.facts }) (device ∙ freed_none end.moment.device between.lit.freed) ∙ ap (λ (fs : List Fact). record { device = end.moment.device; facts = fs }) (entries ∙ sym facts))
 concluded run end exit (IsServed core some vols named facts (TurnsAreMade last moving turns runs sound closed entries)) between =
-    closed_concluded run end exit between core some vols facts named last (unstuck turns.answer last.core.power turns.tells.power_is) runs sound closed entries
+    closed_concluded run end exit between core some vols facts named last (unstuck turns.answer last.core.power turns.tells.power_is) (goes_any runs) sound closed entries
 
 -- ---- a run
 

@@ -22,7 +22,8 @@ use Rattle.lvm_core.specs.Settled.{IsSettled}
 use Rattle.lvm_session.specs.State.{Core, State, is_there}
 use Rattle.lvm_core.specs.Leaves.{MayBeFound}
 use Rattle.lvm_line.specs.passed.Volumes.{IsWith, IsWithFirst, IsWithMore}
-use Rattle.lvm_line.specs.passed.VolumeLines.{NoGroupForMklvcopy, BusyMklvcopy, UndrainedMklvcopy, NoVolumeForMklvcopy, AddsCopies, MklvcopyFails, NoGroupForRmlvcopy, BusyRmlvcopy, UndrainedRmlvcopy, NoVolumeForRmlvcopy, RemovesCopies, RmlvcopyFails, StaysOn, NoGroupForMklv, BusyMklv, UndrainedMklv, MakesVolume, MklvFails, NoGroupForRmlv, BusyRmlv, UndrainedRmlv, NoVolumeForRmlv, RemovesVolume, RmlvFails, wanted}
+use Rattle.lvm_line.specs.passed.Splitting.{IsSplit}
+use Rattle.lvm_line.specs.passed.VolumeLines.{NoGroupForMklvcopy, BusyMklvcopy, UndrainedMklvcopy, NoVolumeForMklvcopy, AddsCopies, MklvcopyFails, NoGroupForRmlvcopy, BusyRmlvcopy, UndrainedRmlvcopy, NoVolumeForRmlvcopy, RemovesCopies, RmlvcopyFails, NoGroupForSplitlvcopy, BusySplitlvcopy, UndrainedSplitlvcopy, NoVolumeForSplitlvcopy, SplitsVolume, SplitlvcopyFails, StaysOn, NoGroupForMklv, BusyMklv, UndrainedMklv, MakesVolume, MklvFails, NoGroupForRmlv, BusyRmlv, UndrainedRmlv, NoVolumeForRmlv, RemovesVolume, RmlvFails, wanted}
 use Rattle.lvm_core.specs.Looking.{IsNumberOf}
 use Rattle.lvm_line.specs.passed.Group.{NewGroup, new_group}
 use Rattle.lvm_core.specs.declared.refused.Cause.{Cause}
@@ -36,6 +37,7 @@ use Rattle.lvm_line.proofs.passed.Tie.{path_frames}
 use Rattle.lvm_top.specs.Standing.{IsToCommit, StoodBefore, is_group_command, is_acknowledged, StandsOf, IsCommitted, OfAnother, WasDrained}
 use Rattle.lvm_top.proofs.StandingLemmas.Volumes.{held_mid}
 use Rattle.lvm_top.proofs.StandingLemmas.Copying.{fewer_id, more_id}
+use Rattle.lvm_top.proofs.StandingLemmas.Splitting.{split_id}
 use Rattle.lvm_volume_plan.specs.NewVolume.{without_volume}
 
 -- ---- a session at which nothing is under way
@@ -86,6 +88,13 @@ with_more_id : (old : ScriptState) (core : Core) → old.session ≡ Some core �
 with_more_id old core some name copies k (c, mid, drained, (lv, its, more)) =
     let same : c ≡ core = let e = sym drained.on ∙ some in cc e in
     more_id lv copies mid.core k more ∙ ap (λ (d : Descriptor). d.id) (path_frames drained.drains.runs).keeps.descriptor ∙ ap (λ (c : Core). c.descriptor.id) same
+
+-- one in which a volume is split too
+with_split_id : (old : ScriptState) (core : Core) → old.session ≡ Some core → (made name : List ℕ) (copies : ℕ) (k : Descriptor)
+    → (c : Core) × (mid : State) × WasDrained old c mid × ((lv : ℕ) × IsNumberOf c.descriptor.lvs name lv × IsSplit lv made copies mid.core k) → k.id ≡ core.descriptor.id
+with_split_id old core some made name copies k (c, mid, drained, (lv, its, split)) =
+    let same : c ≡ core = let e = sym drained.on ∙ some in cc e in
+    split_id lv made copies mid.core k split ∙ ap (λ (d : Descriptor). d.id) (path_frames drained.drains.runs).keeps.descriptor ∙ ap (λ (c : Core). c.descriptor.id) same
 
 -- what holds of the session that is on
 told_and : {X : Type 0} (o : Option X) (P : X → Type 0) (x : X) → o ≡ Some x → IsSomeAnd o P → P x
@@ -169,6 +178,18 @@ module _ (log : Log) (room : Room) (old new : ScriptState) (between : IsBetween 
         fewer_id fewer.0 copies core k fewer.2 ∙ sym (ap (λ (d : Descriptor). d.id) (path_frames drains.runs).keeps.descriptor) ∙ sym (ap (λ (c : Core). c.descriptor.id) (done.leaves.is) ∙ ap (λ (c : Core). c.descriptor.id) done.gives.is);
   }
   by_command (command.Rmlvcopy name copies) acked stood (RmlvcopyFails core left mid lv why some drains its done says) = absurd (cc (says))
+  by_command (command.Splitlvcopy made name copies) acked stood (NoGroupForSplitlvcopy none is) = absurd (let e = is.0 in cc (e))
+  by_command (command.Splitlvcopy made name copies) acked stood (BusySplitlvcopy busy is) = absurd (let e = is.0 in cc (e))
+  by_command (command.Splitlvcopy made name copies) acked stood (UndrainedSplitlvcopy core why some un) = absurd (let e = un.says in cc (e))
+  by_command (command.Splitlvcopy made name copies) acked stood (NoVolumeForSplitlvcopy core left mid some drains none stays last says) = absurd (cc (says))
+  by_command (command.Splitlvcopy made name copies) acked stood (SplitsVolume core left mid lv number some drains its done says) = record {
+    core = done.leaves.core;
+    on = done.leaves.session;
+    begun = handed_on done.left old new done.leaves (done.rests refl).0 (done.rests refl).1 (done.held refl (held_mid log.run old new between named stood core left mid some drains));
+    own = λ k is.
+        with_split_id old core some made name copies k is ∙ sym (ap (λ (d : Descriptor). d.id) (path_frames drains.runs).keeps.descriptor) ∙ sym (ap (λ (c : Core). c.descriptor.id) (done.leaves.is) ∙ ap (λ (c : Core). c.descriptor.id) done.gives.is);
+  }
+  by_command (command.Splitlvcopy made name copies) acked stood (SplitlvcopyFails core left mid lv why some drains its done says) = absurd (cc (says))
   by_command _ acked stood does = absurd (cc (acked))
 
   pub leaves_on : (read : Result (Option Command) Misfit) (answer : Reply) → is_acknowledged read answer ≡ true → StoodBefore log.run (role_of read) old new → LineDoes log room read old new answer → LeavesOn read old new

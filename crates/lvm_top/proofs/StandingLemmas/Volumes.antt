@@ -52,7 +52,7 @@ module _ (run : ℕ) (old new : ScriptState) (between : IsBetween old.moment old
   -- ---- before the command
 
   -- turns make nothing found
-  drained_nothing : (core : Core) (left : ℕ) (mid : State) → old.session ≡ Some core → Drains core old left mid → NothingNew old.moment.device mid.device
+  pub drained_nothing : (core : Core) (left : ℕ) (mid : State) → old.session ≡ Some core → Drains core old left mid → NothingNew old.moment.device mid.device
   drained_nothing core left mid some drains = runs_nothing (state old.moment.device core) mid (was_sound core some) between.descriptors drains.runs
 
   -- after them the disks hold what the session says, and are told where they were

@@ -1,14 +1,18 @@
 -- What the session that a varyon begins finds on its disks.
-use Rattle.std.proofs.Common.{◌≡◌, ℕ, Bool, true, false, ◌&&◌, ◌++◌, List, [], Option, Some, None, refl, sym, ap, subst, ◌∙◌}
+use Rattle.std.proofs.Common.{◌≡◌, ⊎_elim, ℕ, Bool, true, false, ◌&&◌, ◌++◌, List, [], Option, Some, None, filter, refl, sym, ap, subst, ◌∙◌}
 use Rattle.std.specs.Prelude.{IsTrue, not, nat_le, option_map}
+use Rattle.lvm_num.specs.declared.place.Pp.{Pp}
 use Rattle.lvm_num.specs.declared.record.Stamp.{Stamp}
+use Rattle.lvm_num.specs.declared.descriptor.LvRow.{LvRow}
 use Rattle.lvm_num.specs.declared.descriptor.PvRow.{PvRow}
 use Rattle.lvm_num.specs.declared.descriptor.Descriptor.{Descriptor}
 use Rattle.lvm_num.specs.declared.status.Status.{Status}
 use Rattle.lvm_num.specs.Disks.{Disks}
-use Rattle.lvm_num.specs.Descriptor.{is_member}
+use Rattle.lvm_num.specs.Buffer.{Sector}
+use Rattle.lvm_num.specs.Descriptor.{copies_of, is_member}
 use Rattle.lvm_num.specs.Geometry.{sectors_needed}
-use Rattle.lvm_num.specs.Status.{calls_missing}
+use Rattle.lvm_num.specs.Record.{Stamped}
+use Rattle.lvm_num.specs.Status.{calls_dirty, calls_missing, calls_stale}
 use Rattle.lvm_num.specs.StatusBytes.{status_bytes}
 use Rattle.lvm_disk.specs.Counts.{Rose}
 use Rattle.lvm_disk.specs.Device.{Media, Range, Device, image_of}
@@ -16,6 +20,7 @@ use Rattle.lvm_disk.specs.Steps.{BothTold}
 use Rattle.lvm_vol.specs.Facts.{Fact}
 use Rattle.lvm_vol.specs.Log.{Log}
 use Rattle.lvm_kept.specs.Contents.{Contents, contents_of}
+use Rattle.lvm_kept.specs.Group.{IsOneOf, fresh_on}
 use Rattle.lvm_kept.specs.Recovered.{Recovered}
 use Rattle.lvm_steps.specs.Behind.{IsBehind}
 use Rattle.lvm_steps.specs.Moments.{ImagesKept}
@@ -23,17 +28,17 @@ use Rattle.lvm_steps.proofs.MakingLemmas.Making.{media_may}
 use Rattle.lvm_rec.specs.declared.homes.Homes.{Homes}
 use Rattle.lvm_status.specs.Update.{Updates}
 use Rattle.lvm_mwc.specs.Cache.{is_named as is_named_by}
-use Rattle.lvm_varyon.specs.passed.Names.{HoldsCommitted, Core, is_there, Parts, first_core, Room, NotesAreHome}
-use Rattle.lvm_varyon.proofs.passed.Names.{empty_names_none}
+use Rattle.lvm_varyon.specs.passed.Names.{DirtyAreOne, HoldsCommitted, Core, is_there, Parts, first_core, Room, NotesAreHome}
+use Rattle.lvm_varyon.proofs.passed.Names.{copied_are_one, empty_names_none}
 use Rattle.lvm_write.specs.Written.{KeepsShelf}
 use Rattle.lvm_varyon.specs.Chosen.{answering}
 use Rattle.lvm_varyon.specs.Equal.{MakesEqual}
 use Rattle.lvm_varyon.specs.Found.{HaveAnswered}
-use Rattle.lvm_varyon.specs.Second.{status_after, last_stamp}
+use Rattle.lvm_varyon.specs.Second.{first_stated, status_after, last_stamp}
 use Rattle.lvm_varyon.specs.Varied.{IsAheadOfDisks, IsBrought}
 use Rattle.lvm_varyon.proofs.After.{HasRecords, MayHaveRecords, records_keep, room_member, target_room}
-use Rattle.lvm_varyon.proofs.SecondLemmas.{IsOfSecond, same_missing, stated_keeps}
-use Rattle.lvm_varyon.proofs.Equalled.{last_holds, none_named}
+use Rattle.lvm_varyon.proofs.SecondLemmas.{IsOfSecond, same_missing, same_stale, stated_keeps}
+use Rattle.lvm_varyon.proofs.Equalled.{copied_image, emptied, is_cleaned, last_holds, none_named, shows_copied}
 use Rattle.lvm_varyon.proofs.RecoveredLemmas.{recovered, shown_recovered}
 
 told_before : (a b : Option Media) (R : Media → Media → Type 0) (m : Media) → b ≡ Some m → BothTold a b R → (was : Media) × (a ≡ Some was)
@@ -129,6 +134,10 @@ module _ (old new : Device) (name : List ℕ) (moment : ℕ) (room : Room) (part
     abbrev final : Contents
     final = contents_of (image_of new.sizes last)
 
+    -- once its records stood
+    abbrev after : Contents
+    after = contents_of (image_of mid.sizes stood.0)
+
     may : MayHaveRecords old mid name moment first records was
     may = is.may ahead was told
 
@@ -202,3 +211,37 @@ module _ (old new : Device) (name : List ℕ) (moment : ℕ) (room : Room) (part
           (subst (λ (h : Homes). HoldsCommitted (image_of new.sizes last) is.written.group stands targets (last_stamp moment is.written.clean) h) (sym homes_are)
           (last_holds old mid name moment first records was stood.0 told stood.1 may is.valid new homes equal behind between.0 stated.0 last between.1 stated.1 told_last facts
           (records_keep old mid name moment first records was stood.0 told stood.1 may facts (kept (image_of old.sizes was) (media_may old was told))))))))
+
+      -- ---- volumes that are dirty still
+
+      abbrev copied : Contents
+      copied = contents_of (copied_image old mid name moment first records was stood.0 told stood.1 may is.valid new homes equal behind between.0 stated.0 last between.1 stated.1 told_last)
+
+      -- what stands was copied
+      same_data : final.block ≡ copied.block
+      same_data =
+          ap (λ (c : Contents). c.block) (emptied old mid name moment first records was stood.0 told stood.1 may is.valid new homes equal behind between.0 stated.0 last between.1 stated.1 told_last).rest
+          ∙ ⊎_elim (λ same. ap (λ (c : Contents). c.block) same.1) (λ written. ap (λ (c : Contents). c.block) written.changes.rest)
+          (is_cleaned old mid name moment first records was stood.0 told stood.1 may is.valid new homes equal behind between.0 stated.0 last between.1 stated.1 told_last).1
+
+      module _ (by : Stamped Status) (same : by.value ≡ status_after is.written.next is.written.clean) where
+        usable : (row : LvRow) (lp : ℕ) → IsOneOf is.written.group.lvs row → fresh_on targets (Some by) row lp ≡ fresh_on targets (Some (first_stated moment is.written.next)) row lp
+        usable row lp one = λ i. filter (λ (p : Pp). targets p.disk && not (stale p i)) (copies_of row lp)
+          where
+            stale : (p : Pp) → calls_stale by.value p ≡ calls_stale is.written.next p
+            stale p = ap (λ (s : Status). calls_stale s p) same ∙ same_stale is.written.group targets moment is.written.next is.written.clean is.written.clean_is p
+
+        fewer : (lv : ℕ) → IsTrue (calls_dirty by.value lv) → IsTrue (calls_dirty is.written.next lv)
+        fewer lv dirty =
+            let cleaned = (is_cleaned old mid name moment first records was stood.0 told stood.1 may is.valid new homes equal behind between.0 stated.0 last between.1 stated.1 told_last).0 in
+            ((cleaned.dirty lv).0 (subst (λ (s : Status). IsTrue (calls_dirty s lv)) same dirty)).dirty
+
+        on_targets : DirtyAreOne final is.written.group (Some by) targets
+        on_targets = subst (λ (block : ℕ → ℕ → Sector). DirtyAreOne (record copied { block = block }) is.written.group (Some by) targets) (sym same_data)
+            (copied_are_one after copied is.written.group (Some (first_stated moment is.written.next)) (Some by) targets
+            (shows_copied old mid name moment first records was stood.0 told stood.1 may is.valid new homes equal behind between.0 stated.0 last between.1 stated.1 told_last).equalled
+            usable fewer)
+
+      pub dirty_are_one : (by : Stamped Status) → by.value ≡ core.status.committed → DirtyAreOne final core.descriptor (Some by) (is_there core)
+      dirty_are_one by same = subst (λ (g : Descriptor). DirtyAreOne final g (Some by) (is_there core)) (sym group_is)
+          (subst (λ (v : Disks). DirtyAreOne final is.written.group (Some by) v) (sym there_are) (on_targets by (same ∙ committed)))

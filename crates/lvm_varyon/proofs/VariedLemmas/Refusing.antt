@@ -21,4 +21,5 @@ pub refused_gives : {S : Type 0} (device : S → Device) (old : Device) (log : L
 refused_gives device old log name moment room patience why refused is history refuses = record {
   gives = subst (λ (c : Cause). VaryonRefuses old (device refused.shelf) name moment patience log c × (refused.history ≡ log_after c log)) (sym is) (refuses, history);
   recovered = tt;
+  equal = tt;
 }

@@ -29,10 +29,10 @@ use Rattle.lvm_num.specs.declared.status.Status.{Status}
 use Rattle.lvm_num.specs.Status.{calls_missing, calls_stale}
 use Rattle.lvm_varyon.specs.Second.{status_after, last_stamp}
 use Rattle.lvm_varyon.proofs.SecondLemmas.{last_seq_low, same_missing, same_stale}
-use Rattle.lvm_varyon.specs.Varied.{IsRecovered, ComesOn, IsAheadOfDisks, IsBrought, log_after}
+use Rattle.lvm_varyon.specs.Varied.{IsRecovered, DirtyAreEqual, ComesOn, IsAheadOfDisks, IsBrought, log_after}
 use Rattle.lvm_varyon.specs.Chosen.{answering}
 use Rattle.lvm_varyon.proofs.SettlingLemmas.{next_leaves_none}
-use Rattle.lvm_varyon.proofs.FoundLemmas.Holding.{holds, notes_home, recovers, shows_recovered, was_told}
+use Rattle.lvm_varyon.proofs.FoundLemmas.Holding.{dirty_are_one, holds, notes_home, recovers, shows_recovered, was_told}
 
 -- ---- the span
 
@@ -119,6 +119,11 @@ module _ (old new : Device) (log : Log) (name : List ℕ) (moment : ℕ) (room :
     recovered = λ was last first more told told_last wrote wrote_last. recovers old new name moment room parts seq homes is was last told told_last (ahead_of log.run moment old log.facts clock) first more wrote wrote_last;
     shown = λ was last told told_last. shows_recovered old new name moment room parts seq homes is was last told told_last (ahead_of log.run moment old log.facts clock);
   })
+
+  pub dirty_are_equal : ClockIsAhead log.run moment old log.facts → DirtyAreEqual new core
+  dirty_are_equal clock = if_told new.media _ (λ last told_last stands same.
+      let first = was_told old new name moment room parts seq homes is last told_last in
+      dirty_are_one old new name moment room parts seq homes is first.0 last first.1 told_last (ahead_of log.run moment old log.facts clock) core log core_is stands same)
 
   pub on_keeps : Path DeviceStep (StaysKept old) old new → ClockIsAhead log.run moment old log.facts → Keeps log.run (at old log.facts) (at new core.history.facts)
   on_keeps path clock = subst (λ (c : Core). Keeps log.run (at old log.facts) (at new c.history.facts)) (sym core_is)

@@ -8,4 +8,4 @@ pub use Rattle.lvm_recovery.proofs.EqualisingLemmas.{status_stands}
 pub use Rattle.lvm_recovery.proofs.EndingLemmas.Runs.{runs_are_of_copies}
 pub use Rattle.lvm_recovery.proofs.PlannedLemmas.{planned_are_apart}
 pub use Rattle.lvm_recovery.proofs.CleanLemmas.{left_dirty_is_cleaned, left_dirty_valid}
-pub use Rattle.lvm_recovery.proofs.passed.Names.{next_leaves_none, quiet_is_even, recovered_by_cleaning, shows_other}
+pub use Rattle.lvm_recovery.proofs.passed.Names.{copied_are_one, next_leaves_none, quiet_dirty_is_even, recovered_by_cleaning, shows_other}

@@ -18,4 +18,4 @@ pub use Rattle.lvm_recovery.specs.Equalising.{EqualiseGives, EqualisedStaysKept,
 pub use Rattle.lvm_recovery.specs.Plan.{ArePlannedInOrder, copies_dirty}
 pub use Rattle.lvm_recovery.specs.Planned.{ArePlanned}
 pub use Rattle.lvm_recovery.specs.declared.copying.Recopy.{Recopy}
-pub use Rattle.lvm_recovery.specs.passed.Names.{AreEqualled, HasNoPassive, IsCleaned, IsRecopied, IsStillDirty, IsWrittenTo, OnlyNotesOf, RecoversAll, WasCleaned}
+pub use Rattle.lvm_recovery.specs.passed.Names.{AreEqualled, DirtyAreOne, IsCleaned, IsRecopied, IsStillDirty, IsWrittenTo, OnlyNotesOf, RecoversAll, WasCleaned}

@@ -162,3 +162,9 @@ keeps_then a b c same one two lv lp p inside how = two lv lp p inside (⊎_elim
     let q = any_one (λ (q : Pp). not (is_wanted_stale a.core q)) (copies_in a.core.descriptor lv lp) fresh in
     inr (one lv lp q.0 (subst (λ (x : Descriptor). IsOneOf (copies_in x lv lp) q.0) (sym same) q.1) (inr fresh)))
     how)
+
+-- or then with the descriptor that it was by then
+pub keeps_behind : (a b c : State) → c.core.descriptor ≡ b.core.descriptor → KeepsFresh a b → KeepsFresh b c → KeepsFresh a c
+keeps_behind a b c same one two lv lp p inside how =
+    let here : IsOneOf (copies_in b.core.descriptor lv lp) p = subst (λ (d : Descriptor). IsOneOf (copies_in d lv lp) p) same inside in
+    two lv lp p inside (inr (one lv lp p here how))

@@ -11,6 +11,7 @@ use Rattle.lvm_session.specs.declared.open.Power.TheVariants as power
 use Rattle.lvm_session.specs.Dark.{all_dark}
 use Rattle.lvm_session.specs.State.{Core, State}
 use Rattle.lvm_volume_plan.specs.Faults.{IfOn, fault_of}
+use Rattle.lvm_volumes.specs.Endings.{with_descriptor}
 use Rattle.lvm_volumes.specs.Stages.{CommandBroke}
 use Rattle.lvm_volumes.proofs.Leaving.{rose_from, there_before}
 
@@ -50,10 +51,10 @@ broken Done patience a b settled commit.Stuck ends = record {
 }
 broken Done patience a b settled (commit.DiskFailed disk) ends = ends
 
--- and a command whose later stage did
-pub broken_since : (W : Scope) (p q : ℕ) (log was : Log) (a b c : State) → Leaves W p q a b → b.core ≡ record a.core { history = was; status = b.core.status; homes = b.core.homes }
-    → b.device.counts.cuts ≡ a.device.counts.cuts → (why : CommitFault) → CommandBroke log q b c why → CommandBroke log p a c why
-broken_since W p q log was a b c leaves same cuts (commit.WentOff have total) ends = record {
+-- and a command whose later stage did, with the descriptor that it had then,
+pub broken_behind : (W : Scope) (p q : ℕ) (log was : Log) (d : Descriptor) (a b c : State) → Leaves W p q a b → b.core ≡ record a.core { descriptor = d; history = was; status = b.core.status; homes = b.core.homes }
+    → b.device.counts.cuts ≡ a.device.counts.cuts → (why : CommitFault) → CommandBroke log q b c why → CommandBroke log p (with_descriptor d a) c why
+broken_behind W p q log was d a b c leaves same cuts (commit.WentOff have total) ends = record {
   lost = record {
     have_is = ends.lost.have_is;
     total_is = ends.lost.total_is;
@@ -71,7 +72,7 @@ broken_since W p q log was a b c leaves same cuts (commit.WentOff have total) en
   ready = ends.ready;
   cuts = ends.cuts ∙ cuts;
 }
-broken_since W p q log was a b c leaves same cuts commit.Dark ends = record {
+broken_behind W p q log was d a b c leaves same cuts commit.Dark ends = record {
   cut = darkened_then 0 0 a.device b.device c.device refl cuts ends.cut;
   power = ends.power;
   history = ends.history;
@@ -79,14 +80,19 @@ broken_since W p q log was a b c leaves same cuts commit.Dark ends = record {
   requests = ends.requests;
   is = ends.is ∙ ap (λ (x : Core). all_dark (record x { history = log; pool = with_one_out x.pool; status = c.core.status; homes = c.core.homes })) same;
 }
-broken_since W p q log was a b c leaves same cuts commit.Stuck ends = record {
+broken_behind W p q log was d a b c leaves same cuts commit.Stuck ends = record {
   out = given_up_then 0 0 p q a.device b.device c.device refl cuts leaves.spends ends.out;
   history = ends.history;
   descriptor = ends.descriptor ∙ ap (λ (x : Core). x.descriptor) same;
   requests = ends.requests;
   is = ends.is ∙ ap (λ (x : Core). record x { history = log; pool = with_one_out x.pool; status = c.core.status; homes = c.core.homes }) same;
 }
-broken_since W p q log was a b c leaves same cuts (commit.DiskFailed disk) ends = ends
+broken_behind W p q log was d a b c leaves same cuts (commit.DiskFailed disk) ends = ends
+
+-- or with that of its beginning
+pub broken_since : (W : Scope) (p q : ℕ) (log was : Log) (a b c : State) → Leaves W p q a b → b.core ≡ record a.core { history = was; status = b.core.status; homes = b.core.homes }
+    → b.device.counts.cuts ≡ a.device.counts.cuts → (why : CommitFault) → CommandBroke log q b c why → CommandBroke log p a c why
+broken_since W p q log was a b c leaves same cuts why ends = broken_behind W p q log was a.core.descriptor a b c leaves same cuts why ends
 
 -- nothing is said of a session at which a commit broke off
 pub stopped : (Done P : Type 0) (patience : ℕ) (a b : State) (why : CommitFault) → RecordsEnd Done patience a b (Err why) → IfOn {A = Unit {0}} (Err (fault_of why)) P

@@ -1,4 +1,4 @@
--- A volume is removed: its entries, and the descriptor without it.
+-- A volume loses its name: the entries of its removal, and the descriptor without it.
 use Rattle.std.proofs.Common.{◌≡◌, inl, inr, ℕ, List, [], ◌∷◌, ◌++◌, append_assoc, Option, Some, None, Result, Ok, Err, refl, sym, ap, subst, ◌∙◌}
 use Rattle.std.specs.Prelude.{IfSome}
 use Rattle.lvm_num.specs.declared.descriptor.Descriptor.{Descriptor}
@@ -12,11 +12,10 @@ use Rattle.lvm_steps.specs.Committing.{DiffersInVolume}
 use Rattle.lvm_steps.proofs.EnteringLemmas.{goes_in_span}
 use Rattle.lvm_volume_plan.specs.passed.Names.{VolumeServes, NoneIsLeft, MarksLeft, CommitFault, IsSettled, LetsCommit, HasStated, HasCommitted, CommitEnds, NoPartition, Leaves, committing}
 use Rattle.lvm_volume_plan.proofs.passed.Names.{one_place, volume_is_gone_in_session, enters_one}
-use Rattle.lvm_volume_plan.specs.passed.CoreFaultCommitFault as commit
 use Rattle.lvm_session.specs.State.{Core, State, is_there}
 use Rattle.lvm_num.specs.Descriptor.{IsValid, is_member, volume_of}
 use Rattle.lvm_volumes.specs.Endings.{StillHeld, KeepsFresh, commanding}
-use Rattle.lvm_volumes.specs.Stages.{CommandBroke, with_entry, ClosesBy, CommitsBetween, IsUnnamed, RemoveEnds}
+use Rattle.lvm_volumes.specs.Stages.{CommandBroke, with_entry, ClosesBy, CommitsBetween, IsUnnamed, UnnameEnds}
 use Rattle.lvm_volumes.specs.Volumes.{removing}
 use Rattle.lvm_volumes.proofs.StagesLemmas.Breaking.{broken, broken_since, stopped}
 use Rattle.lvm_volumes.proofs.EndingsLemmas.Fresh.{HasOnePlaceEach, no_copy, keeps_others}
@@ -42,8 +41,8 @@ module _ (lv : ℕ) (next : Descriptor) (a : State) (settled : IsSettled a.core)
   begins_leaves p = entry_leaves N NoPartition p a (Removing (Lv lv)) (λ moment. tt) tt (λ run first held only span. goes_in_span run first a.device a.core.history.facts lv span)
 
   -- the descriptor may be committed
-  lets_remove : (run : ℕ) (first : Moment) → LetsCommit lv next run first begun
-  lets_remove run first past begins holds = by_media a.device.media
+  lets_unname : (run : ℕ) (first : Moment) → LetsCommit lv next run first begun
+  lets_unname run first past begins holds = by_media a.device.media
     where
       serves : (m : Media) → VolumeServes (contents_of (image_of a.device.sizes m)) (past ++ (a.core.history.facts ++ Removing (Lv lv) ∷ [])) a.core.descriptor lv next
       serves m = subst (λ (d : Descriptor). VolumeServes (contents_of (image_of a.device.sizes m)) (past ++ (a.core.history.facts ++ Removing (Lv lv) ∷ [])) a.core.descriptor lv d) (sym without.is)
@@ -61,17 +60,11 @@ module _ (lv : ℕ) (next : Descriptor) (a : State) (settled : IsSettled a.core)
   module _ (p q : ℕ) (b : State) (leaves : Leaves (committing next) p q begun b) (left : MarksLeft next begun.core.status b.core.status) where
     break_leaves : Leaves (commanding N NoPartition 1) p q a b
     break_leaves = leaves_then N NoPartition 0 1 p p q a begun b (inl refl) refl (λ d. refl) (begins_leaves p) (entry_still a (Removing (Lv lv)))
-        (commit_among N NoPartition next refl p q begun b leaves lv (λ run first held. lets_remove run first))
+        (commit_among N NoPartition next refl p q begun b leaves lv (λ run first held. lets_unname run first))
 
     -- where it wasn't committed
     since : (why : CommitFault) → CommitEnds next p begun b (Err why) → CommandBroke (removing lv a) p a b why
     since why ends = broken_since (commanding N NoPartition 0) p p (removing lv a) (removing lv a) a begun b (begins_leaves p) refl refl why (broken (HasCommitted next begun b) p begun b (settled_entered a (Removing (Lv lv)) settled) why ends)
-
-    commit_break : (why : CommitFault) → CommitEnds next p begun b (Err why) → RemoveEnds lv next p a b (Err why)
-    commit_break (commit.WentOff have total) ends = since (commit.WentOff have total) ends
-    commit_break commit.Dark ends = since commit.Dark ends
-    commit_break commit.Stuck ends = since commit.Stuck ends
-    commit_break (commit.DiskFailed disk) ends = ends
 
     -- where it was
     module _ (committed : HasCommitted next begun b) where
@@ -122,9 +115,9 @@ module _ (lv : ℕ) (next : Descriptor) (a : State) (settled : IsSettled a.core)
 
     -- both
     module _ (e : State) where
-      ends_so : (x : Result (Unit {0}) CommitFault) → CommitEnds next p begun b x → ClosesBy (Removed (Lv lv)) b e x → RemoveEnds lv next p a e x
+      ends_so : (x : Result (Unit {0}) CommitFault) → CommitEnds next p begun b x → ClosesBy (Removed (Lv lv)) b e x → UnnameEnds lv next p a e x
       ends_so (Ok _) ends closes = subst (λ (y : State). IsUnnamed lv next a y) (sym closes) (gone_unnamed ends)
-      ends_so (Err why) ends closes = subst (λ (y : State). RemoveEnds lv next p a y (Err why)) (sym closes) (commit_break why ends)
+      ends_so (Err why) ends closes = subst (λ (y : State). UnnameEnds lv next p a y (Err why)) (sym closes) (since why ends)
 
       leaves_so : (x : Result (Unit {0}) CommitFault) → CommitEnds next p begun b x → ClosesBy (Removed (Lv lv)) b e x → Leaves (commanding N NoPartition 1) p q a e
       leaves_so (Ok _) ends closes = subst (λ (y : State). Leaves (commanding N NoPartition 1) p q a y) (sym closes) (gone_leaves ends)
@@ -139,14 +132,14 @@ module _ (lv : ℕ) (next : Descriptor) (a : State) (settled : IsSettled a.core)
       still_so (Err why) ends closes = stopped (HasCommitted next begun b) (StillHeld a e) p begun b why ends
 
   module _ (p q : ℕ) (e : State) (x : Result (Unit {0}) CommitFault) (between : CommitsBetween (Removing (Lv lv)) (Removed (Lv lv)) next p q a e x) where
-    pub remove_ends : RemoveEnds lv next p a e x
-    remove_ends = ends_so p q between.mid between.leaves between.left e x between.ends between.closes
+    pub unname_ends : UnnameEnds lv next p a e x
+    unname_ends = ends_so p q between.mid between.leaves between.left e x between.ends between.closes
 
-    pub remove_leaves : Leaves (commanding N NoPartition 1) p q a e
-    remove_leaves = leaves_so p q between.mid between.leaves between.left e x between.ends between.closes
+    pub unname_leaves : Leaves (commanding N NoPartition 1) p q a e
+    unname_leaves = leaves_so p q between.mid between.leaves between.left e x between.ends between.closes
 
-    pub remove_still : IfOn (command_answer x) (StillHeld a e)
-    remove_still = still_so p q between.mid between.leaves between.left e x between.ends between.closes
+    pub unname_still : IfOn (command_answer x) (StillHeld a e)
+    unname_still = still_so p q between.mid between.leaves between.left e x between.ends between.closes
 
-    pub remove_keeps : IfOn (command_answer x) (KeepsFresh a e)
-    remove_keeps = keeps_so p q between.mid between.leaves between.left e x between.ends between.closes
+    pub unname_keeps : IfOn (command_answer x) (KeepsFresh a e)
+    unname_keeps = keeps_so p q between.mid between.leaves between.left e x between.ends between.closes

@@ -27,6 +27,9 @@ returns-in-Mklvcopy g c = done_by g.S.Shelf.device c.args.room c.args.command _ 
 pub returns-in-Rmlvcopy : goal.returns-in-Rmlvcopy
 returns-in-Rmlvcopy g c = done_by g.S.Shelf.device c.args.room c.args.command _ _ _ c.do_rmlvcopy.result.reply _ _ _ _ c.in-Rmlvcopy.is (c.do_rmlvcopy.ensures (g.C.Clock.last c.args.clock.now)) refl
 
+pub returns-in-Splitlvcopy : goal.returns-in-Splitlvcopy
+returns-in-Splitlvcopy g c = done_by g.S.Shelf.device c.args.room c.args.command _ _ _ c.do_splitlvcopy.result.reply _ _ _ _ c.in-Splitlvcopy.is (c.do_splitlvcopy.ensures.ends (g.C.Clock.last c.args.clock.now)) refl
+
 pub returns-in-RawRd : goal.returns-in-RawRd
 returns-in-RawRd g c = done_by g.S.Shelf.device c.args.room c.args.command _ _ _ c.do_read.result.reply _ _ _ _ c.in-RawRd.is (c.do_read.ensures (g.C.Clock.last c.args.clock.now)) refl
 

@@ -24,6 +24,7 @@ returns g c =
     let carried : IsCarried device end c.args.posts c.args.bytes end.1.power stage = subst (IsCarried device end c.args.posts c.args.bytes end.1.power) (sym c.answered.ensures.stage) c.carried.ensures.carried in
     let one : most_refusals answer ≤ 1 = subst (λ (a : Reply). most_refusals a ≤ 1) (sym says) (step_few c.step-moved.result.0 (state_of device end) c.step-moved.result.1) in
     let rooms_then = subst (λ (s : Stage g.row.S.Denot). HaveRooms first.1.history.room s.posts s.bytes) (sym c.answered.ensures.stage) (c.carried.ensures.rooms first.1.history.room c.requires.fits.rooms) in
+    let stood = table_posts first.1 end.1 made.table c.args.posts.items c.requires.between.posted in
     carried_ends device first c.args.posts c.args.bytes c.requires.fits c.requires.between end to (λ log. StepDoes c.args.turns) c.args.posts c.args.bytes c.requires.fits.rooms stage answer
     (omega (arith, one))
     (λ last. Steps first.1 refl c.requires.fits.kind (record {
@@ -35,7 +36,7 @@ returns g c =
       votes = made.votes;
       runs = made.runs;
       sound = c.step_reply-reply.ensures.sound;
-      leaves = carried_leaves device end c.args.posts c.args.bytes stage last carried;
+      leaves = carried_leaves device end c.args.posts c.args.bytes stage last stood carried;
       says = says;
     }))
-    (table_posts first.1 end.1 made.table c.args.posts.items c.requires.between.posted) rooms_then (λ on. (path_frames made.runs).copy c.requires.between.session.copy) carried
+    stood rooms_then (λ on. (path_frames made.runs).copy c.requires.between.session.copy) carried

@@ -6,9 +6,9 @@ use Rattle.lvm_steps.proofs.LawsLemmas.Clock.{all_is_behind_next}
 use Rattle.lvm_write.proofs.PartsLemmas.Transfers.{spends_none}
 use Rattle.lvm_varyon.specs.passed.Names.{AreFaults, BringsOn, StartsHeld}
 use Rattle.lvm_varyon.specs.passed.CoreRefusedCause as cause
-use Rattle.lvm_varyon.specs.Varied.{ComesOn, IsRecovered, VaryonRefuses}
+use Rattle.lvm_varyon.specs.Varied.{ComesOn, DirtyAreEqual, IsRecovered, VaryonRefuses}
 use Rattle.lvm_varyon.proofs.VariedLemmas.Refusing.{refused_gives, refuses_so, some_spare}
-use Rattle.lvm_varyon.proofs.VariedLemmas.Spanning.{ahead_of, refused_keeps, refused_calm, comes_on, starts_held, none_left, settles, is_recovered, on_keeps, on_calm}
+use Rattle.lvm_varyon.proofs.VariedLemmas.Spanning.{ahead_of, refused_keeps, refused_calm, comes_on, starts_held, none_left, settles, is_recovered, dirty_are_equal, on_keeps, on_calm}
 use Rattle.lvm_varyon.proofs.vary.varyon.Goals as goal
 
 pub start-requires-clause-placed : goal.start-requires-clause-placed
@@ -49,6 +49,8 @@ returns-in-Ok-clause-gives g c =
           (comes_on _ _ c.args.history c.args.name c.args.moment c.args.room c.in-Ok.begun.0 c.in-Ok.begun.1 c.in-Ok.homes c.start.result.1 c.in-Ok.ensures.gives c.start.ensures.core spare);
       recovered = λ clock. subst (λ (d : Device). IsRecovered old d c.start.result.1.descriptor) same
           (is_recovered _ _ c.args.history c.args.name c.args.moment c.args.room c.in-Ok.begun.0 c.in-Ok.begun.1 c.in-Ok.homes c.start.result.1 c.in-Ok.ensures.gives c.start.ensures.core clock);
+      equal = λ clock. subst (λ (d : Device). DirtyAreEqual d c.start.result.1) same
+          (dirty_are_equal _ _ c.args.history c.args.name c.args.moment c.args.room c.in-Ok.begun.0 c.in-Ok.begun.1 c.in-Ok.homes c.start.result.1 c.in-Ok.ensures.gives c.start.ensures.core clock);
     }
 
 pub returns-in-Ok-clause-starts : goal.returns-in-Ok-clause-starts

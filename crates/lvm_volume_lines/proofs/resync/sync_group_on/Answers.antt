@@ -6,6 +6,7 @@ use Rattle.lvm_session.specs.State.{state_of}
 use Rattle.lvm_volume_lines.specs.passed.HolderVariants as holder
 use Rattle.lvm_volume_lines.specs.passed.GroupLines.{ComesTo, HaveRooms, Reply, is_unheard, most_refusals, patience_of_line}
 use Rattle.lvm_volume_lines.specs.Resyncing.{SyncsGroup, SyncGroupDoes}
+use Rattle.lvm_volume_lines.proofs.passed.RangeLines.{table_posts}
 use Rattle.lvm_volume_lines.proofs.ResyncingLemmas.{fails_if, may_come, sync_few, synced_ends, synced_shut, group_may}
 use Rattle.lvm_volume_lines.proofs.resync.sync_group_on.Goals as goal
 
@@ -43,7 +44,7 @@ returns g c =
       gives = gives;
       beside = beside;
       sound = c.sync_reply-reply.ensures.sound;
-      leaves = fails_if device end c.args.posts c.args.bytes stage last (is_unheard answer) left_by;
+      leaves = fails_if device end c.args.posts c.args.bytes stage last (is_unheard answer) (table_posts first.1 end.1 beside.table c.args.posts.items c.requires.between.posted) left_by;
       says = says;
       caused = c.sync_group-synced.ensures.caused;
     }))

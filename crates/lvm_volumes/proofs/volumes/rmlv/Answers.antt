@@ -50,7 +50,7 @@ returns g c =
     let without : IsWithout c.args.lv a.core c.in_ok-next.next = c.in_ok-next.ensures.without in
     record {
       gives = remove_given c.args.lv c.in_ok-next.next a without b c.in_ok-remove.ensures.ends;
-      settled = λ takes. c.in_ok-remove.ensures.ends.settled;
+      settled = λ takes. c.in_ok-remove.ensures.ends.unnamed.settled;
       held = c.in_ok-remove.ensures.held;
       fresh = c.in_ok-remove.ensures.fresh;
       leaves = removed_leaves c.args.lv c.in_ok-next.next a without c.args.patience.now.left c.remove.new.patience.left b c.remove.ensures.leaves;

@@ -1,0 +1,3 @@
+//! Passed on from `lvm_split`.
+
+pub use lvm_tie_commands::below::split::split;

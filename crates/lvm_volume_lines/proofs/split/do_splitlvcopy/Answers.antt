@@ -1,0 +1,117 @@
+use Rattle.std.proofs.Common.{◌≡◌, ◌≤◌, ◌∙◌, ℕ, List, refl, sym, ap, subst, arith}
+use Rattle.lvm_core.specs.State.{state_of}
+use Rattle.lvm_core.specs.Sound.{HaveAllLanded}
+use Rattle.lvm_volume_lines.specs.passed.Names.{AreAnswered}
+use Rattle.lvm_volume_lines.specs.passed.Splitting.{SplitGives, to_split}
+use Rattle.lvm_volume_lines.proofs.passed.Splitting.{split_goes_on}
+use Rattle.lvm_volume_lines.specs.passed.GroupLines.{EndsUnasked, OfGroup, open_in, session_in, Refusal, Reply, Stage}
+use Rattle.lvm_volume_lines.specs.passed.RefusalVariants as refusal
+use Rattle.lvm_volume_lines.specs.passed.ReplyVariants as reply
+use Rattle.lvm_volume_lines.proofs.passed.GroupLines.{refused_ends}
+use Rattle.lvm_volume_lines.specs.Commands.{HasBrokenOff, HasRested, none_added}
+use Rattle.lvm_volume_lines.specs.Volumes.{drain_refusal}
+use Rattle.lvm_volume_lines.proofs.Commanding.{rows_mid}
+use Rattle.lvm_volume_lines.proofs.OfVolumes.{at_mid, drains, ends_so}
+use Rattle.lvm_volume_lines.proofs.EndsLemmas.{undrained_ends}
+use Rattle.lvm_volume_lines.proofs.ServingLemmas.{may_again, unnamed_ends}
+use Rattle.lvm_volume_lines.specs.Splitting.{BusySplitlvcopy, NoGroupForSplitlvcopy, NoVolumeForSplitlvcopy, SplitlvcopyDoes, UndrainedSplitlvcopy}
+use Rattle.lvm_volume_lines.proofs.SplittingLemmas.Giving.{answers_over_splits, landed_over_splits, split_bears, split_facts, split_shape}
+use Rattle.lvm_volume_lines.proofs.SplittingLemmas.Doing.{splitlvcopy_does}
+use Rattle.lvm_volume_lines.proofs.SplittingLemmas.Sharing.{shares_behind}
+use Rattle.lvm_volume_lines.proofs.split.do_splitlvcopy.Goals as goal
+
+pub returns-then-is_off : goal.returns-then-is_off
+returns-then-is_off g c =
+    record {
+      ends =
+          refused_ends g.S.Shelf.device (λ log. SplitlvcopyDoes c.args.made c.args.name c.args.copies) ⊥ OfGroup c.args.stage c.refused.result.stage c.refused.result.reply
+          c.requires.fits c.requires.between c.refused.ensures.stage refusal.NoGroup c.refused.ensures.reply (λ last is. NoGroupForSplitlvcopy (c.is_off.ensures.0 c.if-is_off.true) is);
+      shares = λ last first ok. absurd (let no : reply.Ok ≡ reply.Refused refusal.NoGroup = sym ok ∙ c.refused.ensures.reply in cc no);
+    }
+
+pub returns-then-open-gt0 : goal.returns-then-open-gt0
+returns-then-open-gt0 g c =
+    let some : 1 ≤ open_in (session_in c.args.stage) = let many = c.if-open-gt0.true in let same = c.open.ensures in omega (arith, many, same) in
+    record {
+      ends =
+          refused_ends g.S.Shelf.device (λ log. SplitlvcopyDoes c.args.made c.args.name c.args.copies) ⊥ OfGroup c.args.stage c.refused-then-open-gt0.result.stage c.refused-then-open-gt0.result.reply
+          c.requires.fits c.requires.between c.refused-then-open-gt0.ensures.stage refusal.Busy c.refused-then-open-gt0.ensures.reply (λ last is. BusySplitlvcopy some is);
+      shares = λ last first ok. absurd (let no : reply.Ok ≡ reply.Refused refusal.Busy = sym ok ∙ c.refused-then-open-gt0.ensures.reply in cc no);
+    }
+
+pub go_on-requires-clause-rows : goal.go_on-requires-clause-rows
+go_on-requires-clause-rows g c =
+    let none : open_in (session_in c.args.stage) ≡ 0 = let few = c.if-open-gt0.false in let same = c.open.ensures in omega (arith, few, same) in
+    let rested = subst (λ (n : ℕ). HasRested g.S.Shelf.device c.args.stage.holder n c.come_to_rest.new.patience.left c.in-Ok.driver) c.whole-patience.ensures c.in-Ok.ensures.rests in
+    rows_mid _ _ _ (at_mid g.S.Shelf.device c.args.stage c.requires.fits c.requires.between none c.come_to_rest.new.patience.left c.in-Ok.driver rested 0)
+
+pub go_on-requires-clause-may : goal.go_on-requires-clause-may
+go_on-requires-clause-may g c =
+    let none : open_in (session_in c.args.stage) ≡ 0 = let few = c.if-open-gt0.false in let same = c.open.ensures in omega (arith, few, same) in
+    let rested = subst (λ (n : ℕ). HasRested g.S.Shelf.device c.args.stage.holder n c.come_to_rest.new.patience.left c.in-Ok.driver) c.whole-patience.ensures c.in-Ok.ensures.rests in
+    may_again g.S.Shelf.device c.args.stage c.requires.fits c.requires.between none c.come_to_rest.new.patience.left c.in-Ok.driver rested c.args.name c.in-None.ensures.none
+
+pub split_volume-requires-clause-rows : goal.split_volume-requires-clause-rows
+split_volume-requires-clause-rows g c =
+    let none : open_in (session_in c.args.stage) ≡ 0 = let few = c.if-open-gt0.false in let same = c.open.ensures in omega (arith, few, same) in
+    let rested = subst (λ (n : ℕ). HasRested g.S.Shelf.device c.args.stage.holder n c.come_to_rest.new.patience.left c.in-Ok.driver) c.whole-patience.ensures c.in-Ok.ensures.rests in
+    rows_mid _ _ _ (at_mid g.S.Shelf.device c.args.stage c.requires.fits c.requires.between none c.come_to_rest.new.patience.left c.in-Ok.driver rested 0)
+
+pub returns-in-None : goal.returns-in-None
+returns-in-None g c =
+    let none : open_in (session_in c.args.stage) ≡ 0 = let few = c.if-open-gt0.false in let same = c.open.ensures in omega (arith, few, same) in
+    let left = c.come_to_rest.new.patience.left in
+    let driver = c.in-Ok.driver in
+    let rested = subst (λ (n : ℕ). HasRested g.S.Shelf.device c.args.stage.holder n left driver) c.whole-patience.ensures c.in-Ok.ensures.rests in
+    record {
+      ends =
+          unnamed_ends g.S.Shelf.device c.args.stage c.requires.fits c.requires.between none left driver rested c.args.name c.in-None.ensures.none
+          OfGroup (λ old new alone. alone.acts tt) c.go_on.ensures.by c.go_on.ensures.held c.refused-in-None.result.stage (c.refused-in-None.ensures.stage ∙ c.go_on.ensures.is) c.refused-in-None.result.reply c.refused-in-None.ensures.reply g.met.S.Shelf.sectors_are_whole
+          (λ log. SplitlvcopyDoes c.args.made c.args.name c.args.copies)
+          (λ last drained stays. NoVolumeForSplitlvcopy rested.turned.core left (state_of g.S.Shelf.device driver) rested.turned.its drained c.in-None.ensures.none stays refl c.refused-in-None.ensures.reply);
+      shares = λ last first ok. absurd (let no : reply.Ok ≡ reply.Refused refusal.NoVolume = sym ok ∙ c.refused-in-None.ensures.reply in cc no);
+    }
+
+pub returns-in-Some : goal.returns-in-Some
+returns-in-Some g c =
+    let none : open_in (session_in c.args.stage) ≡ 0 = let few = c.if-open-gt0.false in let same = c.open.ensures in omega (arith, few, same) in
+    let left = c.come_to_rest.new.patience.left in
+    let driver = c.in-Ok.driver in
+    let rested = subst (λ (n : ℕ). HasRested g.S.Shelf.device c.args.stage.holder n left driver) c.whole-patience.ensures c.in-Ok.ensures.rests in
+    let lv : ℕ = c.in-Some.lv in
+    let made : List ℕ = c.args.made in
+    let copies : ℕ = c.args.copies in
+    let done = c.split_volume.ensures in
+    let mid = state_of g.S.Shelf.device driver in
+    let new = state_of g.S.Shelf.device done.left in
+    record {
+      ends =
+          ends_so g.S.Shelf.device c.args.stage c.requires.fits c.requires.between none left driver rested OfGroup (λ old new alone. alone.acts tt) (λ was is given. SplitGives lv made copies left was is given) none_added (to_split lv made copies)
+          c.split_volume.result.stage c.split_volume.result.reply done g.met.S.Shelf.sectors_are_whole
+          (λ last. record {
+            facts = split_facts lv made copies left mid new rested.settled.power done.given done.gives;
+            landed = split_bears lv made copies left mid new HaveAllLanded landed_over_splits rested.between.landed done.given done.gives;
+            answers = λ range was. split_bears lv made copies left mid new (λ facts. AreAnswered facts range) (answers_over_splits range) was done.given done.gives;
+            shape = split_shape lv made copies left mid new done.given done.gives;
+            goes = λ m may alone. split_goes_on rested.turned.core.history.run m lv made copies left done.after mid new done.given may done.commanded done.gives;
+          })
+          (λ log. SplitlvcopyDoes c.args.made c.args.name copies)
+          (λ last is. splitlvcopy_does c.args.made c.args.name copies lv rested.turned.core left mid done.given _ _ rested.turned.its (drains g.S.Shelf.device c.args.stage c.requires.fits c.requires.between none left driver rested last) c.in-Some.ensures.some is);
+      shares = shares_behind g.S.Shelf.device c.args.stage c.requires.fits c.requires.between none left driver rested lv made copies c.split_volume.result.stage c.split_volume.result.reply done;
+    }
+
+pub returns-in-Err : goal.returns-in-Err
+returns-in-Err g c =
+    let none : open_in (session_in c.args.stage) ≡ 0 = let few = c.if-open-gt0.false in let same = c.open.ensures in omega (arith, few, same) in
+    let left = c.come_to_rest.new.patience.left in
+    let broken = subst (λ (n : ℕ). HasBrokenOff g.S.Shelf.device c.args.stage.holder n left c.in-Err.driver c.in-Err.why) c.whole-patience.ensures c.in-Err.ensures.breaks_off in
+    record {
+      ends =
+          subst (λ (a : Reply). EndsUnasked g.S.Shelf.device (λ log. SplitlvcopyDoes c.args.made c.args.name c.args.copies) ⊥ OfGroup c.args.stage c.refused-in-Err.result.stage a)
+          (sym (c.refused-in-Err.ensures.reply ∙ ap (λ (r : Refusal). reply.Refused r) c.drain_refusal.ensures))
+          (subst (λ (s : Stage g.row.S.Denot). EndsUnasked g.S.Shelf.device (λ log. SplitlvcopyDoes c.args.made c.args.name c.args.copies) ⊥ OfGroup c.args.stage s (reply.Refused (drain_refusal c.in-Err.why))) (sym c.refused-in-Err.ensures.stage)
+          (undrained_ends OfGroup (λ old new alone. alone.acts tt) g.S.Shelf.device c.args.stage c.requires.fits c.requires.between none left c.in-Err.driver c.in-Err.why broken c.ended.result (reply.Refused (drain_refusal c.in-Err.why)) c.ended.ensures.ended c.ended.ensures.rooms refl
+          (λ log. SplitlvcopyDoes c.args.made c.args.name c.args.copies)
+          (λ last is. UndrainedSplitlvcopy broken.turned.core c.in-Err.why broken.turned.its is)));
+      shares = λ last first ok. absurd (let no : reply.Ok ≡ reply.Refused c.drain_refusal.result = sym ok ∙ c.refused-in-Err.ensures.reply in cc no);
+    }
