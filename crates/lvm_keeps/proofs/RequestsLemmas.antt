@@ -7,7 +7,7 @@ use Rattle.lvm_num.specs.declared.place.Pp.{Pp}
 use Rattle.lvm_num.specs.declared.status.Status.{Status}
 use Rattle.lvm_num.specs.Buffer.{Buffer}
 use Rattle.lvm_num.specs.Descriptor.{is_pp, member_of, partitions_used, volume_of}
-use Rattle.lvm_num.specs.Status.{calls_missing}
+use Rattle.lvm_num.specs.Status.{calls_missing, calls_stale}
 use Rattle.lvm_session.specs.Calls.{copy_at}
 use Rattle.lvm_num.specs.Disks.{has}
 use Rattle.lvm_num.proofs.Lists.{all_weaker}
@@ -115,6 +115,7 @@ module _ (core now : Core) (c : OpenCopy) (st : Step) (tried : ℕ) (end : Optio
     inside = k.inside;
     apart = ap (λ (d : Descriptor). list_any (λ (p : Pp). not (is_pp p k.from) && p.disk == c.pp.disk) (copies_in d c.lv c.lp)) same ∙ k.apart;
     there = ap (λ (s : Status). calls_missing s c.pp.disk) origin ∙ k.there;
+    called = ap (λ (s : Status). calls_stale s c.pp) origin ∙ k.called;
     clear = (clear k).0;
     fresh = (clear k).1;
   }
@@ -144,6 +145,7 @@ module _ (core now : Core) (c : OpenCopy) (st : Step) (tried : ℕ) (end : Optio
         inside = k.inside;
         apart = k.apart;
         there = k.there;
+        called = k.called;
         clear = λ goes all. k.clear (runs goes) all;
         fresh = λ goes. k.fresh (runs goes);
       }

@@ -9,6 +9,8 @@ use Rattle.lvm_num.specs.Disks.{has}
 use Rattle.lvm_num.specs.declared.descriptor.PvRow.{PvRow}
 use Rattle.lvm_num.specs.Descriptor.{copies_of, member_of, partitions_used, volume_of, is_pp}
 use Rattle.lvm_num.specs.Geometry.{volume_blocks}
+use Rattle.lvm_status.specs.Calls.{BecomesStale}
+use Rattle.lvm_session.specs.declared.origin.Origin.{Origin}
 use Rattle.lvm_kept.specs.passed.Names.{Counts, Outcome, Begun, with_fact, next_id, next_request, taken_fact, spare_entries, spare_bytes, blocks_begun}
 use Rattle.lvm_kept.specs.passed.VolEntryVol.{Lv}
 use Rattle.lvm_kept.specs.passed.VolEntryOutcome as outcome
@@ -227,13 +229,19 @@ move_refusal_when power.On on = on
 abbrev pub move_fault : Core → ℕ → ℕ → ℕ → Pp → Option MoveRefusal
 move_fault core lv lp number to = move_refusal_when core.power (move_refusal_on core lv lp number to)
 
--- A copy begins to move; its first step enters the queue.
+-- the partition counts as stale since the session began, and nothing else changes
+pub record CallsStale (p : Pp) (old new : Origin) : Type 0 where
+  pub table : BecomesStale p old.table new.table
+  pub faults : new.faults ≡ old.faults
+
+-- A copy begins to move; its first step enters the queue, and its place counts as stale since the session began.
 pub record OpensMove (counts : Counts) (old new : Core) (lv lp number : ℕ) (to : Pp) : Type 0 where
   pub row : LvRow
   pub volume : volume_of old.descriptor lv ≡ Some row
   pub tried : ℕ
   pub nothing : (d : ℕ) → has tried d ≡ false
-  pub is : new ≡ with_step (record old { requests = map aged old.requests }) (opened true to lv lp number tried (faults_of counts (copies_of row lp) to) (step_place old))
+  pub called : CallsStale to old.origin new.origin
+  pub is : new ≡ with_step (record old { requests = map aged old.requests; origin = new.origin }) (opened true to lv lp number tried (faults_of counts (copies_of row lp) to) (step_place old))
 
 -- A move is opened, or isn't, and then nothing changes.
 abbrev pub OpenMoveGives : Counts → Core → Core → ℕ → ℕ → ℕ → Pp → Result (Unit {0}) MoveRefusal → Type 0

@@ -6,7 +6,7 @@ use Rattle.lvm_num.specs.Buffer.{Buffer}
 use Rattle.lvm_num.specs.declared.place.Pp.{Pp}
 use Rattle.lvm_num.specs.declared.descriptor.LvRow.{LvRow}
 use Rattle.lvm_num.specs.declared.descriptor.PvRow.{PvRow}
-use Rattle.lvm_num.specs.Status.{calls_missing}
+use Rattle.lvm_num.specs.Status.{calls_missing, calls_stale}
 use Rattle.lvm_num.specs.Descriptor.{IsValid, is_member, member_of, partitions_used, volume_of, is_pp}
 use Rattle.lvm_num.specs.Disks.{has}
 use Rattle.lvm_kept.specs.passed.Names.{Device, Flight, Request as Asked, Fact, Making, Made, Split, Removing, Removed, Begun, Landed, Taken, Cut, On, begun, Outcome, asked, next_id, is_open, lands_id, is_answered, Ordered}
@@ -181,6 +181,8 @@ pub record IsMove (core : Core) (c : OpenCopy) : Type 0 where
   pub inside : c.pp.pp < member.pps
   pub apart : list_any (λ (p : Pp). not (is_pp p from) && p.disk == c.pp.disk) (copies_in core.descriptor c.lv c.lp) ≡ false
   pub there : calls_missing core.origin.table c.pp.disk ≡ false
+  -- it counts as stale since the session began, so that staleness that is wanted of it needs no fault
+  pub called : calls_stale core.origin.table c.pp ≡ true
   pub clear : is_running c ≡ true → is_whole core c ≡ true → is_wanted_stale core c.pp ≡ false
   pub fresh : is_running c ≡ true → list_any (stays_fresh core) (copies_in core.descriptor c.lv c.lp) ≡ true
 

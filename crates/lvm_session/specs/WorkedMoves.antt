@@ -11,7 +11,7 @@ use Rattle.lvm_session.specs.State.{state}
 use Rattle.lvm_session.specs.Judging.{is_held_by_move}
 use Rattle.lvm_session.specs.Calls.{copy_state}
 use Rattle.lvm_session.specs.Sound.{IsSound}
-use Rattle.lvm_session.specs.Worked.{Moment, a_write, bringing_up, calm, core_of, faultless}
+use Rattle.lvm_session.specs.Worked.{Moment, Says, a_write, bringing_up, calm, core_of, faultless, fresh}
 
 -- a partition of the third disk, which no volume has
 abbrev pub free_place : Pp
@@ -21,19 +21,23 @@ free_place = record { disk = 2; pp = 0 }
 abbrev pub moving_to : ℕ → Option CopyEnd → OpenCopy
 moving_to cursor end = record (bringing_up cursor end) { pp = free_place; moves = true }
 
+-- since the opening the place counts as stale from the beginning on
+abbrev pub place_stale : Says
+place_stale = record fresh { place = true }
+
 -- three are copied
 abbrev pub open_move : Mode → Moment
 open_move m =
     let c = moving_to 3 None in
-    record (calm m) { rows = record { id = c.place; ask = record { lv = 1; at = 768; count = 256; write = false; copy = true } } ∷ []; copy = Some c }
+    record (calm m) { rows = record { id = c.place; ask = record { lv = 1; at = 768; count = 256; write = false; copy = true } } ∷ []; copy = Some c; origin = place_stale }
 
 -- all are, so that it is only to be committed
 abbrev pub whole_move : Mode → Moment
-whole_move m = record (calm m) { copy = Some (moving_to 8 None) }
+whole_move m = record (calm m) { copy = Some (moving_to 8 None); origin = place_stale }
 
 -- a transfer to the third disk has failed, by which it has ended
 abbrev pub ended_move : Mode → Moment
-ended_move m = record (calm m) { copy = Some (moving_to 3 (Some ending.SyncFailed)) }
+ended_move m = record (calm m) { copy = Some (moving_to 3 (Some ending.SyncFailed)); origin = place_stale }
 
 abbrev pub third_fails : Device
 third_fails = record faultless { counts = record faultless.counts { faults = λ d. if d == 2 then 1 else 0 } }

@@ -136,6 +136,7 @@ module _ (e : WriteEnd) (status : Stored) (marks : WantsStale (due e) e.next sta
         inside = it.inside;
         apart = it.apart;
         there = it.there;
+        called = it.called;
         clear = λ runs whole. still_clear e going_on c.pp (it.clear runs whole) (place_stays e c it) (ap (λ m. marked_by_end (mid e) m c.pp) still);
         fresh = λ runs. fresh_from e going_on c.lv c.lp (it.fresh runs);
       }

@@ -1,7 +1,9 @@
 -- A copy that moves.
-use Rattle.std.proofs.Common.{◌≡◌, inl, ℕ, ◌<◌, ◌+◌, ◌-◌, ◌^◌, ◌==◌, true, false, Option, Some, None, refl, arith}
-use Rattle.std.specs.Prelude.{if◌then◌else◌, slice_index_or}
+use Rattle.std.proofs.Common.{◌≡◌, inl, ℕ, ◌<◌, ◌+◌, ◌-◌, ◌^◌, ◌==◌, ◌&&◌, ◌||◌, ◌∙◌, Bool, true, false, Option, Some, None, refl, sym, ap, arith}
+use Rattle.std.specs.Prelude.{slice_index_or}
 use Rattle.lvm_num.specs.Bits.{has_bit}
+use Rattle.lvm_num.specs.declared.place.Pp.{Pp}
+use Rattle.lvm_num.proofs.BitsLemmas.{has-none}
 use Rattle.lvm_num.specs.Disks.{has}
 use Rattle.lvm_num.specs.declared.descriptor.Mode.{Mode}
 use Rattle.lvm_num.specs.declared.descriptor.Mode.TheVariants as mode
@@ -9,7 +11,7 @@ use Rattle.lvm_num.specs.Descriptor.{copies_of}
 use Rattle.lvm_num.specs.Status.{calls_stale}
 use Rattle.lvm_num.proofs.Booleans.{not_so, not_either, twice_fails, thrice_holds}
 use Rattle.lvm_kept.specs.Examples.{member, mirror}
-use Rattle.lvm_session.specs.State.{State, state}
+use Rattle.lvm_session.specs.State.{state}
 use Rattle.lvm_session.specs.declared.bringing.CopyEnd.{CopyEnd}
 use Rattle.lvm_session.specs.declared.bringing.CopyEnd.TheVariants as ending
 use Rattle.lvm_session.specs.declared.answers.CopyState.TheVariants as copy
@@ -19,14 +21,31 @@ use Rattle.lvm_session.specs.Bringing.{copy_ends}
 use Rattle.lvm_session.specs.Calls.{copy_state}
 use Rattle.lvm_session.specs.Owners.{AreOwned}
 use Rattle.lvm_session.specs.Left.{updates_left}
-use Rattle.lvm_session.specs.Causes.{IsCausedAmong, IsTrueToOrigin}
+use Rattle.lvm_session.specs.Causes.{IsCausedAmong}
 use Rattle.lvm_session.specs.Sound.{stays_fresh, IsCopy, IsFitting, IsTold, IsGoing, IsSound}
-use Rattle.lvm_session.specs.Worked.{Moment, a_write, calm, core_of, faultless, first_copy, fresh, second_copy, status_of}
-use Rattle.lvm_session.specs.WorkedMoves.{AreSoundMoves, MovesAreSound, ended_move, moving_to, open_move, third_fails, whole_move}
+use Rattle.lvm_session.specs.Worked.{a_write, core_of, faultless, first_copy, fresh, second_copy, status_of}
+use Rattle.lvm_session.specs.WorkedMoves.{MovesAreSound, ended_move, moving_to, open_move, place_stale, third_fails, whole_move}
 use Rattle.lvm_session.proofs.Small.{not_none}
 use Rattle.lvm_session.proofs.SoundLemmas.{sound_while_on}
 use Rattle.lvm_session.proofs.WorkedLemmas.Parts.{has_fresh, none_behind, none_out, not_marked, notes_fit, placed, status_is_sound, zeros_at}
 use Rattle.lvm_session.proofs.WorkedLemmas.Whole.{fitting, no_entries, owned, true_to_origin}
+
+none_stale : (p : Pp) → calls_stale (status_of fresh) p ≡ false
+none_stale p = ap (λ (z : Bool). (0 == p.disk && z) || ((1 == p.disk && z) || ((2 == p.disk && z) || false))) (has-none 127 p.pp) ∙ by (0 == p.disk) (1 == p.disk) (2 == p.disk)
+  where
+    by : (a b c : Bool) → (a && false) || ((b && false) || ((c && false) || false)) ≡ false
+    by true true true = refl
+    by true true false = refl
+    by true false true = refl
+    by true false false = refl
+    by false true true = refl
+    by false true false = refl
+    by false false true = refl
+    by false false false = refl
+
+-- nothing is stale, or wanted so
+none_wanted : {X : Type 0} (p : Pp) → (calls_stale (status_of fresh) p || calls_stale (status_of fresh) p) || calls_stale (status_of fresh) p ≡ true → X
+none_wanted p is = not_so (sym (none_stale p) ∙ thrice_holds (calls_stale (status_of fresh) p) is)
 
 -- the counts of faults as it was opened
 none_at_opening : (cursor number : ℕ) (end : Option CopyEnd) → slice_index_or (moving_to cursor end).faults (number - 1) 0 ≡ 0
@@ -62,6 +81,7 @@ module _ (m : Mode) where
       inside = omega arith;
       apart = refl;
       there = refl;
+      called = refl;
       clear = λ runs whole. not_so whole;
       fresh = λ runs. refl;
     };
@@ -121,8 +141,8 @@ open_goes m = record {
 
 open_is_sound : (m : Mode) → IsSound (state faultless (core_of (open_move m)))
 open_is_sound m = let origin = true_to_origin m in
-    sound_while_on _ refl (record { power = refl; freed = refl }) (open_fits m) (open_told m) (placed m (status_of fresh)) none_out (record { going = open_goes m; rows = tt; caused = tt; chosen = tt })
-    (record { counted = tt; answered = tt; copy = open_caused m; origin = record { since = origin.since; votes = origin.votes; still_missing = origin.still_missing; missing = origin.missing; stale = origin.stale } })
+    sound_while_on _ refl (record { power = refl; freed = refl }) (open_fits m) (open_told m) (placed m (status_of place_stale)) none_out (record { going = open_goes m; rows = tt; caused = tt; chosen = tt })
+    (record { counted = tt; answered = tt; copy = open_caused m; origin = record { since = origin.since; votes = origin.votes; still_missing = origin.still_missing; missing = origin.missing; stale = λ p is. none_wanted p is } })
 
 -- ---- all is copied
 
@@ -154,6 +174,7 @@ module _ (m : Mode) where
       inside = omega arith;
       apart = refl;
       there = refl;
+      called = refl;
       clear = λ runs whole. refl;
       fresh = λ runs. refl;
     };
@@ -222,8 +243,8 @@ whole_goes m = record {
 
 whole_is_sound : (m : Mode) → IsSound (state faultless (core_of (whole_move m)))
 whole_is_sound m = let origin = true_to_origin m in
-    sound_while_on _ refl (record { power = refl; freed = refl }) (whole_fits m) (whole_told m) (placed m (status_of fresh)) none_out (record { going = whole_goes m; rows = tt; caused = tt; chosen = tt })
-    (record { counted = tt; answered = tt; copy = whole_caused m; origin = record { since = origin.since; votes = origin.votes; still_missing = origin.still_missing; missing = origin.missing; stale = origin.stale } })
+    sound_while_on _ refl (record { power = refl; freed = refl }) (whole_fits m) (whole_told m) (placed m (status_of place_stale)) none_out (record { going = whole_goes m; rows = tt; caused = tt; chosen = tt })
+    (record { counted = tt; answered = tt; copy = whole_caused m; origin = record { since = origin.since; votes = origin.votes; still_missing = origin.still_missing; missing = origin.missing; stale = λ p is. none_wanted p is } })
 
 -- ---- it has ended
 
@@ -255,6 +276,7 @@ module _ (m : Mode) where
       inside = omega arith;
       apart = refl;
       there = refl;
+      called = refl;
       clear = λ runs whole. not_so whole;
       fresh = λ runs. refl;
     };
@@ -310,8 +332,8 @@ ended_goes m = record {
 
 ended_is_sound : (m : Mode) → IsSound (state third_fails (core_of (ended_move m)))
 ended_is_sound m = let origin = true_to_origin m in
-    sound_while_on _ refl (record { power = refl; freed = refl }) (ended_fits m) (ended_told m) (placed m (status_of fresh)) none_out (record { going = ended_goes m; rows = tt; caused = tt; chosen = tt })
-    (record { counted = tt; answered = tt; copy = ended_caused m; origin = record { since = λ disk. let none = zeros_at 128 disk in omega (arith, none); votes = origin.votes; still_missing = origin.still_missing; missing = λ disk is. inl is; stale = λ p is. inl (thrice_holds (calls_stale (status_of fresh) p) is) } })
+    sound_while_on _ refl (record { power = refl; freed = refl }) (ended_fits m) (ended_told m) (placed m (status_of place_stale)) none_out (record { going = ended_goes m; rows = tt; caused = tt; chosen = tt })
+    (record { counted = tt; answered = tt; copy = ended_caused m; origin = record { since = λ disk. let none = zeros_at 128 disk in omega (arith, none); votes = origin.votes; still_missing = origin.still_missing; missing = λ disk is. inl is; stale = λ p is. none_wanted p is } })
 
 pub moves_are_sound : MovesAreSound
 moves_are_sound m = record { open_is = open_is_sound m; whole_is = whole_is_sound m; ended_is = ended_is_sound m; done = whole_done m; waits = whole_waits m }
