@@ -40,7 +40,7 @@ use Rattle.lvm_session.specs.Marks.{WantsDirty, WantsDirtyIf}
 use Rattle.lvm_session.specs.Left.{marks_later}
 use Rattle.lvm_session.specs.Owners.{AreOwned, IsDataOf, flies, target_flies}
 use Rattle.lvm_session.specs.Requests.{IsOpenOne, IsPhase, IsRecorded, IsRequest, IsTarget, has_record, is_past_held, is_wanted_dirty, may_lack, mode_for, wants_status}
-use Rattle.lvm_session.specs.Causes.{AreCaused, AreCounted, IsAnswered, IsCaused, IsChosenSince, IsCausedAmong, IsCounted, IsLandedFor, fails_on, faults_at_opening, is_held_stale}
+use Rattle.lvm_session.specs.Causes.{AreCaused, AreCounted, IsAnswered, IsCaused, IsChosenSince, IsCausedAmong, IsCounted, IsLandedFor, fails_on, faults_at_opening, is_held_stale, own_faults}
 use Rattle.lvm_session.specs.Sound.{IsAsked, IsCopy, IsFitting, IsGoing, IsOn, IsSound, IsTold, count_if, is_dark, is_hand, out_with, pins, with_row}
 use Rattle.lvm_keeps.specs.Keeps.{AdmissionKeeps}
 use Rattle.lvm_keeps.proofs.CausesLemmas.{answered_still, copies_still, counted_still, origin_still}
@@ -360,8 +360,11 @@ module _ (s : State) (sound : IsSound s) (on : s.core.power ≡ power.On) (place
 
   -- its targets are new, and count the faults of now
   its_chosen : (c : OpenCopy) → IsCausedAmong s (copies_in core.descriptor c.lv c.lp) c → IsChosenSince now.core c made
-  its_chosen c why waiting older number p at = all_weaker (λ (t : Target). t.faults ≡ s.device.counts.faults t.pp.disk) (λ (t : Target). t.pp ≡ p → faults_at_opening c number ≤ t.faults)
-      (λ t now_is same. let low = why.since number p at in let here : s.device.counts.faults t.pp.disk ≡ s.device.counts.faults p.disk = ap (λ (q : Pp). s.device.counts.faults q.disk) same in omega (arith, now_is, low, here)) targets its_choice.faults
+  its_chosen c why waiting older number p at = all_weaker (λ (t : Target). t.faults ≡ s.device.counts.faults t.pp.disk) (λ (t : Target). (t.pp ≡ p → faults_at_opening c number ≤ t.faults) × (t.pp ≡ c.pp → own_faults c ≤ t.faults))
+      (λ t now_is. (
+        λ same. let low = why.since number p at in let here : s.device.counts.faults t.pp.disk ≡ s.device.counts.faults p.disk = ap (λ (q : Pp). s.device.counts.faults q.disk) same in omega (arith, now_is, low, here),
+        λ same. let low = why.own_since in let here : s.device.counts.faults t.pp.disk ≡ s.device.counts.faults c.pp.disk = ap (λ (q : Pp). s.device.counts.faults q.disk) same in omega (arith, now_is, low, here),
+      )) targets its_choice.faults
 
   chosen_on : (m : Option OpenCopy) → IfSome m (λ (c : OpenCopy). IsCausedAmong s (copies_in core.descriptor c.lv c.lp) c) → IfSome m (λ (c : OpenCopy). AllByRecursion (IsChosenSince core c) core.requests) → IfSome m (λ (c : OpenCopy). AllByRecursion (IsChosenSince now.core c) requests)
   chosen_on None why all = tt
@@ -506,6 +509,7 @@ module _ (s : State) (sound : IsSound s) (on : s.core.power ≡ power.On) (place
         fresh = c.fresh;
         differ = c.differ;
         few = c.few;
+        few_to_read = c.few_to_read;
         usable = c.usable;
         faults = c.faults;
         caused = all_weaker (IsCaused s.device s.core) (IsCaused s.device between.core) (marked_caused s sound on (lv_of o.request.ask) status.wanted status.writes mark.like mark.started status_sound row one_of.laid.within.volume passive clean) targets c.caused;
