@@ -27,7 +27,7 @@ use Rattle.lvm_status.specs.Update.{seen}
 use Rattle.lvm_status.specs.declared.writes.Writes.{Writes}
 use Rattle.lvm_session.specs.Bringing.{copy_ends, end_of, has_row, is_whole, step_row, with_back, with_copy_end}
 use Rattle.lvm_session.specs.Enabled.{same_status}
-use Rattle.lvm_session.specs.Judging.{copies_for, copies_in, group_in, held_of, is_caught, is_kept, is_missing, is_running, is_settled, is_stale, is_sure, is_sure_at, is_waiting, is_wanted_stale, lp_of, place_of, pps_of}
+use Rattle.lvm_session.specs.Judging.{copies_for, copies_in, group_in, held_of, is_caught, is_kept, is_missing, is_running, is_settled, is_stale, is_sure, is_sure_at, is_waiting, is_wanted_stale, lp_of, place_aims, place_of, places_for, pps_of}
 use Rattle.lvm_session.specs.State.{Core, state, State}
 use Rattle.lvm_session.specs.declared.bringing.CopyEnd.TheVariants as ending
 use Rattle.lvm_session.specs.declared.bringing.OpenCopy.{OpenCopy}
@@ -54,7 +54,8 @@ use Rattle.lvm_keeps.proofs.RequestsLemmas.{bring_on, changed, if_on, no_cause, 
 use Rattle.lvm_keeps.proofs.DarkLemmas.Tables.{rows_set}
 use Rattle.lvm_keeps.proofs.SoundLemmas.Whole.{sound_when_on}
 use Rattle.lvm_keeps_events.proofs.TargetsLemmas.{at_state, pps_set}
-use Rattle.lvm_keeps.proofs.CacheLemmas.{no_place}
+use Rattle.lvm_session.proofs.MovesLemmas.{among_filter, among_filtered, move_of, open_one, place_open, stale_of}
+use Rattle.lvm_keeps.proofs.CacheLemmas.{no_copy, no_place}
 use Rattle.lvm_keeps_events.proofs.JudgingLemmas.OpenLp.{numbered, target_lp}
 use Rattle.lvm_keeps_events.proofs.OnePlace.{one_lp, among_at}
 use Rattle.lvm_keeps_events.proofs.EndsLemmas.CopyReadFail.{by_place, of_place}
@@ -73,9 +74,9 @@ use Rattle.lvm_keeps_events.proofs.JudgingLemmas.Staling.{blamed_by, bring_on as
 unsure_by : (core : Core) (p : Pp) → is_wanted_stale core p ≡ true → is_sure core p ≡ false
 unsure_by core p e = ap (λ b. not (is_stale core p) && not b) e ∙ and_false (not (is_stale core p))
 
--- what is sure isn't stale by the status in flight either
-pub sure_not_held : (core : Core) → IsGoing core → (p : Pp) → is_sure core p ≡ true → is_held_stale core p ≡ false
-sure_not_held core going p sure = by (is_held_stale core p) refl
+-- a copy that is sure isn't stale by the status in flight either
+pub sure_not_held : (core : Core) → IsGoing core → (lv lp : ℕ) (p : Pp) → is_among (copies_in core.descriptor lv lp) p ≡ true → is_sure core p ≡ true → is_held_stale core p ≡ false
+sure_not_held core going lv lp p among sure = by (is_held_stale core p) refl
   where
     parts : (not (is_stale core p) ≡ true) × (not (is_wanted_stale core p) ≡ true)
     parts = both (not (is_stale core p)) (not (is_wanted_stale core p)) sure
@@ -88,7 +89,11 @@ sure_not_held core going p sure = by (is_held_stale core p) refl
         of (Some c) its e =
             let same = both (is_running c && is_whole core c) (is_pp p c.pp) e in
             let goes = both (is_running c) (is_whole core c) same.0 in
-            ap (is_stale core) (pp_same p c.pp same.1) ∙ (its.clearing goes.0 goes.1).0
+            of_kind c its goes.0 goes.1 (pp_same p c.pp same.1) c.moves refl
+          where
+            of_kind : (c : OpenCopy) → IsCopy core c → is_running c ≡ true → is_whole core c ≡ true → p ≡ c.pp → (b : Bool) → c.moves ≡ b → is_stale core p ≡ true
+            of_kind c its runs whole same false stays = ap (is_stale core) same ∙ ((stale_of core c its stays).clearing runs whole).0
+            of_kind c its runs whole same true moves = not_so (sym (no_copy core.descriptor lv lp c.pp (move_of core c its moves).free) ∙ ap (is_among (copies_in core.descriptor lv lp)) (sym same) ∙ among)
 
     by : (b : Bool) → is_held_stale core p ≡ b → b ≡ false
     by false is = refl
@@ -214,7 +219,7 @@ module _ (old : State) (sound : IsSound old) (on : old.core.power ≡ power.On) 
     -- ---- requests
 
     still : (y : Open) → IsOpenOne core y → IsOpenOne after y
-    still y it = open_on marked core.history requests queue copy pool_now (remove core.flying at) core.cache.entries core.last y (λ e. e) (λ p e. e) (one_staler mid due wanted writes like y (one_beside core queue copy pool left y it))
+    still y it = open_on marked core.history requests queue copy pool_now (remove core.flying at) core.cache.entries core.last y (λ e. e) (λ p e. e) (λ q. refl) (one_staler mid due wanted writes like y (one_beside core queue copy pool left y it))
 
     uncaught_aim : is_write ask ≡ true → may_lack x ended && is_caught mid (group_in core ask) aim.pp ≡ false
     uncaught_aim write = by ok refl
@@ -235,8 +240,19 @@ module _ (old : State) (sound : IsSound old) (on : old.core.power ≡ power.On) 
       all = λ begun p among. left_staler mid due wanted writes like x p
           (left_on (is_among (pps_of now_targets) p) (is_settled core p) (is_wanted_stale core p) (is_caught core (group_in core ask) p) (is_caught mid (group_in core ask) p) (left.caught (group_in core ask) p)
           (ap (λ ps. is_among ps p || is_left_out core ask p) (pps_set targets target aim (end_state ok) aim_is) ∙ j.all (begun_so core going place target o there aim aim_is at row row_there own ok buf long) p among));
+      place = λ begun p among.
+          let its = among_filtered (is_caught mid (group_in core ask)) (places_for mid ask) p among in
+          ap (λ ps. is_among ps p) (pps_set targets target aim (end_state ok) aim_is)
+          ∙ j.place (begun_so core going place target o there aim aim_is at row row_there own ok buf long) p (among_filter (is_caught core (group_in core ask)) (places_for core ask) p (caught_before p its.1) (ap (λ (ps : List Pp). is_among ps p) (left.places ask) ∙ its.0));
     }
       where
+        caught_before : (p : Pp) → is_caught mid (group_in core ask) p ≡ true → is_caught core (group_in core ask) p ≡ true
+        caught_before p caught = by (is_caught core (group_in core ask) p) refl
+          where
+            by : (b : Bool) → is_caught core (group_in core ask) p ≡ b → is_caught core (group_in core ask) p ≡ true
+            by true is = is
+            by false is = not_so (sym (left.caught (group_in core ask) p is) ∙ caught)
+
         none_kept : is_write ask && are_over now_targets ≡ true → is_kept core x.request ≡ false → is_kept marked x.request || will_be_kept mid x.request ≡ false
         none_kept over none = by (is_kept marked x.request) refl
           where
@@ -252,7 +268,7 @@ module _ (old : State) (sound : IsSound old) (on : old.core.power ≡ power.On) 
     its_one = record {
       laid = let l = laid core going place target o there aim aim_is at row row_there own ok buf long in record { within = l.within; blocks = l.blocks; most = l.most; id = l.id };
       waits = λ e. record {
-        shape = shape_still core after refl x its_shape;
+        shape = shape_still core after refl left.places x its_shape;
         ready = ready_on marked core.history requests queue copy pool_now (remove core.flying at) core.cache.entries core.last x (λ free. free) (λ p free. free)
             (ready_staler mid due wanted writes like x.request
             (ready_on core core.history core.requests queue copy pool core.flying core.cache.entries core.last x (left.free (place_of o.request.id) (held_of ask)) (left.caught (group_in core ask)) (ready core going place target o there aim aim_is at row row_there own ok buf long)));
@@ -434,7 +450,7 @@ module _ (old : State) (sound : IsSound old) (on : old.core.power ≡ power.On) 
       other_among = ap (λ n. is_among (copies_in core.descriptor n lp) other.target.pp) its_lp.0 ∙ ap (λ n. is_among (copies_in core.descriptor (lv_of ask) n) other.target.pp) its_lp.1 ∙ subst (λ (b : Bool). IsAimed b core ask other.target) (is_false other.target.moves other_sure.0) (its_target other.place other.target other.there).copy
 
       other_held : is_held_stale core other.target.pp ≡ false
-      other_held = sure_not_held core going other.target.pp other_sure.1
+      other_held = sure_not_held core going lv lp other.target.pp other_among other_sure.1
 
       undue : due other.target.pp ≡ false
       undue = of (due other.target.pp) refl
@@ -463,7 +479,7 @@ module _ (old : State) (sound : IsSound old) (on : old.core.power ≡ power.On) 
         found = found_at (stays_fresh core) copies (going.fresh lv lp (any_on (may_be_fresh after) (may_be_fresh core) (λ p e. may_less mid due wanted writes like p e) copies may))
 
         held_not : is_held_stale core found.1 ≡ true → false ≡ true
-        held_not held = sym (sure_not_held core going found.1 (stays_sure core found.1 found.3)) ∙ held
+        held_not held = sym (sure_not_held core going lv lp found.1 (among_get copies found.0 found.1 found.2) (stays_sure core found.1 found.3)) ∙ held
 
         of : (is_among (due_of core x.request) found.1 ≡ true) ⊎ (is_held_stale core found.1 ≡ true) → list_any (stays_fresh after) copies ≡ true
         of (inl its) = some_stays lv lp found.0 found.1 found.2 found.3 its
@@ -516,8 +532,16 @@ module _ (old : State) (sound : IsSound old) (on : old.core.power ≡ power.On) 
     its_fails : (p : Pp) → fails_on p o ≡ true → is_blamed core p ≡ true
     its_fails p e = fails_blamed p (any_passes_from_place (fails_on p) core.requests place o there e)
 
-    due_blamed : (p : Pp) → due p ≡ true → Blame p
-    due_blamed p is = of (entailed.due_is p is)
+    -- a target that was usable is a copy
+    usable_copy : (q : Ask) (t : Target) → IsTarget core q t → t.usable ≡ true → is_among (copies_for core q) t.pp ≡ true
+    usable_copy q t aimed usable = by t.moves aimed.copy
+      where
+        by : (b : Bool) → IsAimed b core q t → is_among (copies_for core q) t.pp ≡ true
+        by false copy = copy
+        by true at = not_so (sym at.2 ∙ usable)
+
+    due_blamed : (lv lp : ℕ) (p : Pp) → is_among (copies_in core.descriptor lv lp) p ≡ true → due p ≡ true → Blame p
+    due_blamed lv lp p copy is = of (entailed.due_is p is)
       where
         of : (is_among (due_of core x.request) p ≡ true) ⊎ (is_held_stale core p ≡ true) → Blame p
         of (inr held) = inl (held_blamed p held)
@@ -526,8 +550,11 @@ module _ (old : State) (sound : IsSound old) (on : old.core.power ≡ power.On) 
             one : IsDueOne core x.request p
             one = due_one core x.request p its
 
-            of_one : (is_failed one.it.target.state ≡ true) ⊎ (is_sure core one.it.target.pp ≡ false) → Blame p
-            of_one (inr unsure) = inl (unsure_blamed p (ap (is_sure core) one.it.pp_is ∙ unsure))
+            stays : one.it.target.moves ≡ false
+            stays = no_place core going lv lp p copy ask one.it.target (all_at (IsTarget core ask) now_targets one.it.place one.it.target its_shape.targets one.it.there) one.it.pp_is
+
+            of_one : (is_failed one.it.target.state ≡ true) ⊎ (is_sure_at core one.it.target ≡ false) → Blame p
+            of_one (inr unsure) = inl (unsure_blamed p (ap (is_sure core) one.it.pp_is ∙ sym (ap (λ b. not b && is_sure core one.it.target.pp) stays) ∙ unsure))
             of_one (inl failed) = of_failed (failed_was one.it.target one.it.place one.it.there failed)
               where
                 of_failed : (fails_on one.it.target.pp o ≡ true) ⊎ (is_write ask ≡ false) ⊎ ((ok ≡ false) × (one.it.target.pp ≡ aim.pp)) → Blame p
@@ -535,8 +562,8 @@ module _ (old : State) (sound : IsSound old) (on : old.core.power ≡ power.On) 
                 of_failed (inr (inl read)) = not_so (sym read ∙ (both (is_write ask) (are_over now_targets) one.over).0)
                 of_failed (inr (inr now_failed)) = inr (now_failed.0, one.it.pp_is ∙ now_failed.1)
 
-    blame_back : (p : Pp) → is_blamed after p ≡ true → Blame p
-    blame_back p e = of (either (is_missing marked p.disk || is_wanted_stale marked p || is_held_stale core p) (list_any (fails_on p) requests) e)
+    blame_back : (lv lp : ℕ) (p : Pp) → is_among (copies_in core.descriptor lv lp) p ≡ true → is_blamed after p ≡ true → Blame p
+    blame_back lv lp p copy e = of (either (is_missing marked p.disk || is_wanted_stale marked p || is_held_stale core p) (list_any (fails_on p) requests) e)
       where
         of_fails : (list_any (fails_on p) core.requests ≡ true) ⊎ (fails_on p x ≡ true) → Blame p
         of_fails (inl before) = inl (fails_blamed p before)
@@ -553,34 +580,43 @@ module _ (old : State) (sound : IsSound old) (on : old.core.power ≡ power.On) 
 
         of_mark : (is_blamed mid p ≡ true) ⊎ (due p ≡ true) → Blame p
         of_mark (inl before) = inl before
-        of_mark (inr is) = due_blamed p is
+        of_mark (inr is) = due_blamed lv lp p copy is
 
         of : (is_missing marked p.disk || is_wanted_stale marked p || is_held_stale core p ≡ true) ⊎ (list_any (fails_on p) requests ≡ true) → Blame p
         of (inl first) = of_mark (blamed_by mid due wanted writes like p (ap (λ b. b || list_any (fails_on p) core.requests) first))
         of (inr fails) = of_fails (set_either (fails_on p) core.requests place x fails)
 
-    target_caused : (t : Target) → IsCaused s.device core t × IsCounted old t → IsCaused device after t
-    target_caused t its e = of (either (is_failed t.state) (t.usable && is_blamed after t.pp) e)
+    target_caused : (q : Ask) (t : Target) → IsTarget core q t × (IsCaused s.device core t × IsCounted old t) → IsCaused device after t
+    target_caused q t its e = of (either (is_failed t.state) (t.usable && is_blamed after t.pp) e)
       where
         blamed_of : t.usable ≡ true → Blame t.pp → HasFailed device t
-        blamed_of can (inl before) = its.0 (ap (λ b. is_failed t.state || b) (all_and t.usable (is_blamed core t.pp) can before) ∙ or_true (is_failed t.state))
-        blamed_of can (inr now_failed) = fault_of t its.1 now_failed.0 (ap (λ (q : Pp). q.disk) now_failed.1)
+        blamed_of can (inl before) = its.1.0 (ap (λ b. is_failed t.state || b) (all_and t.usable (is_blamed core t.pp) can before) ∙ or_true (is_failed t.state))
+        blamed_of can (inr now_failed) = fault_of t its.1.1 now_failed.0 (ap (λ (p : Pp). p.disk) now_failed.1)
 
         of : (is_failed t.state ≡ true) ⊎ (t.usable && is_blamed after t.pp ≡ true) → HasFailed device t
-        of (inl failed) = its.0 (ap (λ b. b || (t.usable && is_blamed core t.pp)) failed)
-        of (inr blame) = let parts = both t.usable (is_blamed after t.pp) blame in blamed_of parts.0 (blame_back t.pp parts.1)
+        of (inl failed) = its.1.0 (ap (λ b. b || (t.usable && is_blamed core t.pp)) failed)
+        of (inr blame) = let parts = both t.usable (is_blamed after t.pp) blame in blamed_of parts.0 (blame_back (lv_of q) (lp_of core q) t.pp (usable_copy q t its.0 parts.0) parts.1)
 
-    caused_on : (y : Open) → AreCaused s.device core y × AreCounted old y → AreCaused device after y
-    caused_on y its waiting = all_weaker (λ (t : Target). IsCaused s.device core t × IsCounted old t) (IsCaused device after) target_caused y.request.targets.items (all_both (IsCaused s.device core) (IsCounted old) y.request.targets.items (its.0 waiting) its.1)
+    -- what is so of a target of a request, and of a request
+    abbrev IsKnown : Ask → Target → Type 0
+    IsKnown q t = IsTarget core q t × (IsCaused s.device core t × IsCounted old t)
 
-    pairs : AllByRecursion (λ (y : Open). AreCaused s.device core y × AreCounted old y) core.requests
-    pairs = all_both (AreCaused s.device core) (AreCounted old) core.requests (sound_so.on on).caused sound.counted
+    abbrev AreKnown : Open → Type 0
+    AreKnown y = IsOpenOne core y × (AreCaused s.device core y × AreCounted old y)
+
+    caused_on : (y : Open) → AreKnown y → AreCaused device after y
+    caused_on y its waiting = all_weaker (IsKnown y.request.ask) (IsCaused device after) (target_caused y.request.ask) y.request.targets.items
+        (all_both (IsTarget core y.request.ask) (λ (t : Target). IsCaused s.device core t × IsCounted old t) y.request.targets.items (its.0.waits waiting).shape.targets
+        (all_both (IsCaused s.device core) (IsCounted old) y.request.targets.items (its.1.0 waiting) its.1.1))
+
+    pairs : AllByRecursion AreKnown core.requests
+    pairs = all_both (IsOpenOne core) (λ (y : Open). AreCaused s.device core y × AreCounted old y) core.requests going.requests (all_both (AreCaused s.device core) (AreCounted old) core.requests (sound_so.on on).caused sound.counted)
 
     its_pairs : AllByRecursion (λ (t : Target). IsCaused s.device core t × IsCounted old t) targets
-    its_pairs = let both_so = all_at (λ (y : Open). AreCaused s.device core y × AreCounted old y) core.requests place o pairs there in all_both (IsCaused s.device core) (IsCounted old) targets (both_so.0 waits_so) both_so.1
+    its_pairs = let both_so = all_at AreKnown core.requests place o pairs there in all_both (IsCaused s.device core) (IsCounted old) targets (both_so.1.0 waits_so) both_so.1.1
 
     its_caused : AllByRecursion (IsCaused device after) now_targets
-    its_caused = all_set (λ (t : Target). IsCaused s.device core t × IsCounted old t) (IsCaused device after) target_caused targets target ended ended_caused its_pairs
+    its_caused = all_set (IsKnown ask) (IsCaused device after) (target_caused ask) targets target ended ended_caused (all_both (IsTarget core ask) (λ (t : Target). IsCaused s.device core t × IsCounted old t) targets its_request.shape.targets its_pairs)
       where
         aim_pair : IsCaused s.device core aim × IsCounted old aim
         aim_pair = all_at (λ (t : Target). IsCaused s.device core t × IsCounted old t) targets target aim its_pairs aim_is
@@ -591,7 +627,9 @@ module _ (old : State) (sound : IsSound old) (on : old.core.power ≡ power.On) 
 
         of : (is_failed (end_state ok) ≡ true) ⊎ (aim.usable && is_blamed after aim.pp ≡ true) → HasFailed device ended
         of (inl failed) = fault_of aim aim_pair.1 (failed_badly ok failed) refl
-        of (inr blame) = let parts = both aim.usable (is_blamed after aim.pp) blame in blamed_of parts.0 (blame_back aim.pp parts.1)
+        of (inr blame) =
+            let parts = both aim.usable (is_blamed after aim.pp) blame in
+            blamed_of parts.0 (blame_back (lv_of ask) (lp_of core ask) aim.pp (usable_copy ask aim (all_at (IsTarget core ask) targets target aim its_request.shape.targets aim_is) parts.0) parts.1)
 
         ended_caused : IsCaused device after ended
         ended_caused e = of (either (is_failed (end_state ok)) (aim.usable && is_blamed after aim.pp) e)
@@ -609,7 +647,7 @@ module _ (old : State) (sound : IsSound old) (on : old.core.power ≡ power.On) 
         all_set Since Since (λ t is. is) targets target ended (all_at Since targets target aim each aim_is) each
       where
         Since : Target → Type 0
-        Since t = t.pp ≡ p → faults_at_opening c n ≤ t.faults
+        Since t = (t.pp ≡ p → faults_at_opening c n ≤ t.faults) × (t.pp ≡ c.pp → own_faults c ≤ t.faults)
 
     -- ---- why the copy failed
 
@@ -816,7 +854,7 @@ module _ (old : State) (sound : IsSound old) (on : old.core.power ≡ power.On) 
         going = keeps_going;
         rows = rows_by marked after (λ who. same_owner row.owner who ≡ false) (λ who g other of. transfer_on who g (sym (ap (λ x. same_owner x who) own) ∙ other) of) (remove core.flying at) (remove old.device.flights at) (others core going.owned at row row_there)
             (rows_left marked core.flying old.device.flights at (rows_staler mid due wanted writes like core.flying old.device.flights (rows_beside core queue copy pool left core.flying old.device.flights old_on.rows)));
-        caused = all_set (λ (y : Open). AreCaused s.device core y × AreCounted old y) (AreCaused device after) caused_on core.requests place x (λ waiting. its_caused) pairs;
+        caused = all_set AreKnown (AreCaused device after) caused_on core.requests place x (λ waiting. its_caused) pairs;
         chosen = if_on (λ (c : OpenCopy). AllByRecursion (IsChosenSince core c) core.requests) (λ (c : OpenCopy). AllByRecursion (IsChosenSince after c) requests)
             (λ c all. all_set (IsChosenSince core c) (IsChosenSince after c) (λ y is. is) core.requests place x (its_chosen c (all_at (IsChosenSince core c) core.requests place o all there)) all) copy entailed.chosen;
       }
@@ -866,9 +904,16 @@ module _ (old : State) (sound : IsSound old) (on : old.core.power ≡ power.On) 
                   one : IsDueOne core x.request p
                   one = due_one core x.request p its
 
-                  of_one : (is_failed one.it.target.state ≡ true) ⊎ (is_sure core one.it.target.pp ≡ false) → Reason p
+                  -- the place to which a copy moves counts as stale since the session began
+                  of_kind : (b : Bool) → one.it.target.moves ≡ b → IsAimed b core ask one.it.target → is_sure_at core one.it.target ≡ false → Reason p
+                  of_kind false stays copy unsure = as_before p (unsure_before p (ap (is_sure core) one.it.pp_is ∙ sym (ap (λ b. not b && is_sure core one.it.target.pp) stays) ∙ unsure))
+                  of_kind true moves goes unsure =
+                      let at_place = place_open core ask one.it.target.pp goes.0 in
+                      inl (ap (calls_stale core.origin.table) (one.it.pp_is ∙ at_place.is) ∙ (move_of core at_place.copy (open_one core at_place.copy at_place.is_open going.copy) at_place.moves).called)
+
+                  of_one : (is_failed one.it.target.state ≡ true) ⊎ (is_sure_at core one.it.target ≡ false) → Reason p
                   of_one (inl failed) = inr (inr (subst (λ (q : Pp). FailedSince now q.disk) (sym one.it.pp_is) (since_chosen one.it.place one.it.target one.it.there failed)))
-                  of_one (inr unsure) = as_before p (unsure_before p (ap (is_sure core) one.it.pp_is ∙ unsure))
+                  of_one (inr unsure) = of_kind one.it.target.moves refl (all_at (IsTarget core ask) now_targets one.it.place one.it.target its_shape.targets one.it.there).copy unsure
 
       pub keeps : IsSound now
       keeps = sound_when_on s now refl refl sound_so on fitting told_so keeps_on out (all_set (AreCounted s) (AreCounted now) counted_on core.requests place x its_counted sound_so.counted)
