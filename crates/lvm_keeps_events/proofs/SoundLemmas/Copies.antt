@@ -31,7 +31,7 @@ use Rattle.lvm_session.specs.Bringing.{after_copy_end, copy_ends, end_by_sources
 use Rattle.lvm_session.specs.Dark.{hand_of_copy}
 use Rattle.lvm_session.specs.Marks.{Reviews, WantsStale, is_entailed}
 use Rattle.lvm_session.specs.Causes.{IsChosenSince, is_held_stale}
-use Rattle.lvm_session.specs.Left.{copy_left, copy_updates, is_brought_up, step_left, tried_of, update_work}
+use Rattle.lvm_session.specs.Left.{copy_left, copy_updates, if_so, is_brought_up, step_left, tried_of, update_work}
 use Rattle.lvm_session.specs.Owners.{IsCopyStepOf, IsStepOf, flies}
 use Rattle.lvm_session.specs.Sound.{IsCopy, IsReadFrom, count_if, is_clearing, is_hand, rows_of, waiting_rows, with_row, IsOfKind}
 use Rattle.lvm_session.proofs.MovesLemmas.{places_by}
@@ -379,15 +379,15 @@ module _ (e : WriteEnd) (status : Stored) (marks : WantsStale (due e) e.next sta
 
   fewer_over : Fewer e at_end
   fewer_over = inr (
-    let same : option_map_or (copy_updates before) before.copy 0 ≡ copy_updates before c = ap (λ m. option_map_or (copy_updates before) m 0) is in let low = updates (is_running c) (is_whole before c) runs in omega (arith, same, low),
+    let same : option_map_or (copy_updates before) before.copy 0 ≡ copy_updates before c = ap (λ m. option_map_or (copy_updates before) m 0) is in let low = updates (is_running c) (is_whole before c) c.moves runs in omega (arith, same, low),
     let same : option_map_or (copy_left before) before.copy 0 ≡ copy_left before c = ap (λ m. option_map_or (copy_left before) m 0) is in
         let low = work (is_running c) (is_whole before c) runs (16 * (groups_of before - c.cursor - 1)) (step_left c.step (tried_of before c)) in omega (arith, same, low),
   )
     where
-      updates : (a w : Bool) → a ≡ true → 1 ≤ (if not a then 0 else if w then 1 else 2)
-      updates true true i = omega arith
-      updates true false i = omega arith
-      updates false w i = not_so i
+      updates : (a w m : Bool) → a ≡ true → 1 ≤ (if not a then 0 else (if w then 1 else 2) + if_so m 1)
+      updates true true m i = omega arith
+      updates true false m i = omega arith
+      updates false w m i = not_so i
 
       work : (a w : Bool) → a ≡ true → (x y : ℕ) → 256 ≤ (if not a then 0 else if w then 2 * update_work else 3 * update_work + x + 8 + y)
       work true true i x y = omega arith

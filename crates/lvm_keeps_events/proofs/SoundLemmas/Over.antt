@@ -144,5 +144,5 @@ module _ (s : State) (sound : IsSound s) (on : s.core.power ≡ power.On) (c : O
   pub keeps : IsSound now
   keeps = session_still s sound on c is at row there own step.Idle tried end queue.rows pool s.device.media refl (length_set core.pool buf.number false) one bring queue_is reviewed
       (λ p held fresh_wanted. not_so (sym (clear p) ∙ going.clearings p held fresh_wanted))
-      (let was = going.numbers in let same = of_copy (copy_updates core) 0 in let none : copy_updates now.core resting ≡ if_so c.moves 1 = ap (λ (b : Bool). (if not b then 0 else if is_whole core c then 1 else 2) + if_so c.moves 1) over in omega (arith, was, same, none))
+      (let was = going.numbers in let same = of_copy (copy_updates core) 0 in let none : copy_updates now.core resting ≡ 0 = ap (λ (b : Bool). if not b then 0 else (if is_whole core c then 1 else 2) + if_so c.moves 1) over in omega (arith, was, same, none))
       (given_back s sound on at f f_there buf number s.device.media now.core (λ n. let none = was_hand n in omega (arith, none))) why
