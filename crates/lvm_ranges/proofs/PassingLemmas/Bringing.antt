@@ -21,7 +21,7 @@ use Rattle.lvm_ranges.specs.declared.fault.SyncFault.{SyncFault}
 use Rattle.lvm_ranges.specs.Keeping.{KeepsTable}
 use Rattle.lvm_ranges.specs.Passing.{HasEnded, IsEnded, IsJustOpened, IsSameCopy, Runs, EndsTurning, EachTurnWhile}
 use Rattle.lvm_ranges.specs.Turning.{GoesBeside, IsUnderWay, MakesLast, MakesTurn}
-use Rattle.lvm_ranges.proofs.PassingLemmas.Open.{IsOpenStill, just_opened, turn_open}
+use Rattle.lvm_ranges.proofs.PassingLemmas.Open.{IsOpenStill, just_opened, state_brought, turn_open}
 use Rattle.lvm_ranges.proofs.PassingLemmas.Standing.{still_ended}
 use Rattle.lvm_ranges.proofs.TurningLemmas.{beside_both, beside_none, last_turn, one_turn, unstuck_beside}
 
@@ -39,7 +39,7 @@ begins first left unstuck just = record {
   turns = NoTurn;
   begun = just.0;
   its = just.1;
-  still = just_opened first.core just.0 just.1 just.2;
+  still = just_opened first.core just.0 just.1 just.2 just.3;
   unstuck = unstuck;
   beside = beside_none first left;
 }
@@ -65,8 +65,8 @@ has_ended core c goes still = by (is_out c.step || is_still_aimed core c) (is_mo
     by false false (Some how) ends runs = of how (λ e. ends (ap (λ (h : CopyEnd). Some h) e))
 
 -- one that is done has ended so
-done_end : (c : OpenCopy) → state_of_copy c ≡ copy.Done → c.end ≡ Some ending.Done
-done_end c e = by (is_out c.step) c.end refl e
+done_end : (core : Core) (c : OpenCopy) → c.moves ≡ false → state_of_copy core c ≡ copy.Done → c.end ≡ Some ending.Done
+done_end core c stays e = by (is_out c.step) c.end refl (sym (state_brought core c stays) ∙ e)
   where
     by : (b : Bool) (m : Option CopyEnd) → c.end ≡ m → (if b then copy.Running c.cursor else option_map_or (state_at_end c) m (copy.Running c.cursor)) ≡ copy.Done → c.end ≡ Some ending.Done
     by true m is f = absurd (cc f)
@@ -125,7 +125,7 @@ module _ (first old : State) (patience left : ℕ) (so_far : BroughtSoFar first 
   fresh new is done = subst (λ (m : Option OpenCopy). IfSome m (λ (c : OpenCopy). is_marked new.core c.pp ≡ false)) (sym so_far.its) (ap (is_marked new.core) (sym so_far.still.its.0) ∙ here)
     where
       here : is_marked new.core it.pp ≡ false
-      here = ap (λ (s : State). is_marked s.core it.pp) is ∙ (so_far.still.cleared (done_end it (sym state_is ∙ done))).1
+      here = ap (λ (s : State). is_marked s.core it.pp) is ∙ (so_far.still.cleared (done_end old.core it (so_far.still.its.5 ∙ so_far.still.brings) (sym state_is ∙ done))).1
 
   same : IfSome first.core.copy (λ (c : OpenCopy). IfSome old.core.copy (IsSameCopy c))
   same = subst (λ (m : Option OpenCopy). IfSome m (λ (c : OpenCopy). IfSome old.core.copy (IsSameCopy c))) (sym so_far.its) (subst (λ (m : Option OpenCopy). IfSome m (IsSameCopy so_far.begun)) (sym so_far.still.is_open) so_far.still.its)

@@ -1,6 +1,7 @@
 -- A copy that is open stays open while turns go on, doesn't end with the session, and ends as done only where it is cleared.
-use Rattle.std.proofs.Common.{◌≡◌, ◌⊎◌, inl, inr, ℕ, Bool, true, false, ◌&&◌, ◌||◌, ◌==◌, ◌+◌, not, Option, Some, None, length, if◌then◌else◌, refl, sym, ap, subst, ◌∙◌}
-use Rattle.std.specs.Prelude.{IfSome, is_none, unwrap_or}
+use Rattle.std.proofs.Common.{◌≡◌, ◌⊎◌, inl, inr, ℕ, Bool, true, false, ◌&&◌, ◌||◌, ◌==◌, ◌+◌, not, List, [], ◌∷◌, Option, Some, None, length, if◌then◌else◌, refl, sym, ap, subst, ◌∙◌}
+use Rattle.std.specs.Prelude.{IfSome, is_none, is_some, unwrap_or}
+use Rattle.std.specs.List.{list_any}
 use Rattle.std.specs.Option.{option_map_or}
 use Rattle.lvm_num.specs.declared.place.Pp.{Pp}
 use Rattle.lvm_num.specs.Buffer.{Buffer}
@@ -15,14 +16,15 @@ use Rattle.lvm_session.specs.declared.bringing.Step.{Step}
 use Rattle.lvm_session.specs.declared.bringing.Step.TheVariants as step
 use Rattle.lvm_session.specs.declared.event.Event.{Event}
 use Rattle.lvm_session.specs.declared.event.Event.TheVariants as event
+use Rattle.lvm_session.specs.declared.open.Open.{Open}
 use Rattle.lvm_session.specs.declared.flown.Owner.{Owner}
 use Rattle.lvm_session.specs.declared.flown.Owner.TheVariants as owner
 use Rattle.lvm_session.specs.declared.open.Power.TheVariants as power
 use Rattle.lvm_session.specs.Bringing.{after_copy_end, copy_ends, end_of, ends_if, is_cleared, is_idle, is_out, is_whole, next_source, sources_of, step_place, with_copy_end, with_end}
-use Rattle.lvm_session.specs.Calls.{copy_state, state_at_end, state_of_copy}
+use Rattle.lvm_session.specs.Calls.{copy_state, is_aimed_at, is_still_aimed, state_at_end, state_of_copy}
 use Rattle.lvm_session.specs.Ends.{CopyLearns, GoesOn, Learns, NoteLearns, StepLearns, StepLeaves, after_data, learned, with_copy, with_return, without_step}
-use Rattle.lvm_session.specs.Judging.{is_missing, is_running, is_stale, is_wanted_stale}
-use Rattle.lvm_session.specs.Marks.{Reviews, end_by_write, hits_copy}
+use Rattle.lvm_session.specs.Judging.{is_clear, is_missing, is_moved, is_running, is_stale, is_under_way, is_waiting, is_wanted_stale, pps_of}
+use Rattle.lvm_session.specs.Marks.{Reviews, end_by_write, hits_copy, is_among}
 use Rattle.lvm_session.specs.Sound.{IsCopy, IsSound}
 use Rattle.lvm_session.specs.State.{Core, State}
 use Rattle.lvm_session.specs.Turns.{FinishMakes, Finishes, Makes, Moves, NoStart, OnMakes, TurnMakes, WasDark, WasOff, WasOn}
@@ -39,6 +41,7 @@ pub record IsOpenStill (begun : OpenCopy) (core : Core) : Type 0 where
   pub copy : OpenCopy
   pub is_open : core.copy ≡ Some copy
   pub its : IsSameCopy begun copy
+  pub brings : begun.moves ≡ false
   pub goes : copy.end ≡ Some ending.Ended → ⊥
   pub cleared : copy.end ≡ Some ending.Done → IsCleared core copy
 
@@ -47,25 +50,61 @@ pub record IsUndone (begun : OpenCopy) (core : Core) : Type 0 where
   pub copy : OpenCopy
   pub is_open : core.copy ≡ Some copy
   pub its : IsSameCopy begun copy
+  pub brings : begun.moves ≡ false
   pub goes : copy.end ≡ Some ending.Ended → ⊥
   pub undone : copy.end ≡ Some ending.Done → ⊥
 
 still : (begun : OpenCopy) (core : Core) → IsUndone begun core → IsOpenStill begun core
-still begun core it = record { copy = it.copy; is_open = it.is_open; its = it.its; goes = it.goes; cleared = λ e. absurd (it.undone e) }
+still begun core it = record { copy = it.copy; is_open = it.is_open; its = it.its; brings = it.brings; goes = it.goes; cleared = λ e. absurd (it.undone e) }
 
-pub just_opened : (core : Core) (c : OpenCopy) → core.copy ≡ Some c → c.end ≡ None → IsOpenStill c core
-just_opened core c is runs = record { copy = c; is_open = is; its = (refl, refl, refl, refl, refl); goes = λ e. (let f : None ≡ Some ending.Ended = sym runs ∙ e in cc f); cleared = λ e. absurd (let f : None ≡ Some ending.Done = sym runs ∙ e in cc f) }
+pub just_opened : (core : Core) (c : OpenCopy) → core.copy ≡ Some c → c.end ≡ None → c.moves ≡ false → IsOpenStill c core
+just_opened core c is runs stays = record { copy = c; is_open = is; its = (refl, refl, refl, refl, refl, refl); brings = stays; goes = λ e. (let f : None ≡ Some ending.Ended = sym runs ∙ e in cc f); cleared = λ e. absurd (let f : None ≡ Some ending.Done = sym runs ∙ e in cc f) }
+
+-- ---- how it is told
+
+or_false : (a : Bool) → a || false ≡ a
+or_false true = refl
+or_false false = refl
+
+-- a copy that doesn't move is as its step and its end say
+pub state_brought : (core : Core) (c : OpenCopy) → c.moves ≡ false → state_of_copy core c ≡ (if is_out c.step then copy.Running c.cursor else option_map_or (state_at_end c) c.end (copy.Running c.cursor))
+state_brought core c stays =
+    ap (λ b. if is_out c.step || (b && is_some c.end && is_aimed_at core c.pp) then copy.Running c.cursor else if is_moved core c then copy.Done else option_map_or (state_at_end c) c.end (copy.Running c.cursor)) stays
+    ∙ ap (λ b. if b then copy.Running c.cursor else if is_moved core c then copy.Done else option_map_or (state_at_end c) c.end (copy.Running c.cursor)) (or_false (is_out c.step))
+    ∙ ap (λ b. if is_out c.step then copy.Running c.cursor else if b && is_running c && is_whole core c && is_clear core c.pp && not (is_under_way core c) then copy.Done else option_map_or (state_at_end c) c.end (copy.Running c.cursor)) stays
+
+-- so is each that has ended and rests, where no request waits
+pub state_ended : (core : Core) (c : OpenCopy) → is_running c ≡ false → is_out c.step ≡ false → list_any is_waiting core.requests ≡ false → state_of_copy core c ≡ option_map_or (state_at_end c) c.end (copy.Running c.cursor)
+state_ended core c over rests landed =
+    ap (λ b. if b || is_still_aimed core c then copy.Running c.cursor else if is_moved core c then copy.Done else option_map_or (state_at_end c) c.end (copy.Running c.cursor)) rests
+    ∙ ap (λ b. if (c.moves && is_some c.end && b) then copy.Running c.cursor else if is_moved core c then copy.Done else option_map_or (state_at_end c) c.end (copy.Running c.cursor)) (unaimed core.requests landed)
+    ∙ ap (λ b. if b then copy.Running c.cursor else if is_moved core c then copy.Done else option_map_or (state_at_end c) c.end (copy.Running c.cursor)) (and_false (c.moves && is_some c.end))
+    ∙ ap (λ b. if c.moves && b && is_whole core c && is_clear core c.pp && not (is_under_way core c) then copy.Done else option_map_or (state_at_end c) c.end (copy.Running c.cursor)) over
+    ∙ ap (λ b. if b && is_whole core c && is_clear core c.pp && not (is_under_way core c) then copy.Done else option_map_or (state_at_end c) c.end (copy.Running c.cursor)) (and_false c.moves)
+  where
+    and_false : (a : Bool) → a && false ≡ false
+    and_false true = refl
+    and_false false = refl
+
+    unaimed : (os : List Open) → list_any is_waiting os ≡ false → list_any (λ (o : Open). is_none o.landed && is_among (pps_of o.request.targets.items) c.pp) os ≡ false
+    unaimed [] e = refl
+    unaimed (o ∷ os) e = by (is_waiting o) (λ f. unaimed os f) e
+      where
+        by : (b : Bool) → (list_any is_waiting os ≡ false → list_any (λ (x : Open). is_none x.landed && is_among (pps_of x.request.targets.items) c.pp) os ≡ false) → b || list_any is_waiting os ≡ false
+            → (b && is_among (pps_of o.request.targets.items) c.pp) || list_any (λ (x : Open). is_none x.landed && is_among (pps_of x.request.targets.items) c.pp) os ≡ false
+        by true rest f = absurd (cc f)
+        by false rest f = rest f
 
 -- while it runs it isn't done
 undone_of : (begun : OpenCopy) (core : Core) → IsOpenStill begun core → Runs core → IsUndone begun core
-undone_of begun core it runs = record { copy = it.copy; is_open = it.is_open; its = it.its; goes = it.goes; undone = λ e. not_done e (it.cleared e).0 }
+undone_of begun core it runs = record { copy = it.copy; is_open = it.is_open; its = it.its; brings = it.brings; goes = it.goes; undone = λ e. not_done e (it.cleared e).0 }
   where
-    state : copy_state core ≡ state_of_copy it.copy
-    state = ap (λ m. option_map_or state_of_copy m copy.Closed) it.is_open
+    state : copy_state core ≡ state_of_copy core it.copy
+    state = ap (λ m. option_map_or (state_of_copy core) m copy.Closed) it.is_open
 
     not_done : it.copy.end ≡ Some ending.Done → is_out it.copy.step ≡ false → ⊥
     not_done e rests =
-        let done : state_of_copy it.copy ≡ copy.Done = ap (λ b. if b then copy.Running it.copy.cursor else option_map_or (state_at_end it.copy) it.copy.end (copy.Running it.copy.cursor)) rests
+        let done : state_of_copy core it.copy ≡ copy.Done = state_brought core it.copy (it.its.5 ∙ it.brings) ∙ ap (λ b. if b then copy.Running it.copy.cursor else option_map_or (state_at_end it.copy) it.copy.end (copy.Running it.copy.cursor)) rests
         ∙ ap (λ m. option_map_or (state_at_end it.copy) m (copy.Running it.copy.cursor)) e in
         let f : copy.Done ≡ copy.Running runs.0 = sym done ∙ sym state ∙ runs.1 in cc f
 
@@ -73,16 +112,16 @@ undone_of begun core it runs = record { copy = it.copy; is_open = it.is_open; it
 
 module _ (begun : OpenCopy) where
   same_copy : (old new : Core) → new.copy ≡ old.copy → IsUndone begun old → IsUndone begun new
-  same_copy old new same it = record { copy = it.copy; is_open = same ∙ it.is_open; its = it.its; goes = it.goes; undone = it.undone }
+  same_copy old new same it = record { copy = it.copy; is_open = same ∙ it.is_open; its = it.its; brings = it.brings; goes = it.goes; undone = it.undone }
 
   -- it is now this one
-  abbrev put : (core : Core) (c : OpenCopy) → core.copy ≡ Some c → IsSameCopy begun c → (c.end ≡ Some ending.Ended → ⊥) → (c.end ≡ Some ending.Done → ⊥) → IsUndone begun core
-  put core c is its goes undone = record { copy = c; is_open = is; its = its; goes = goes; undone = undone }
+  abbrev put : begun.moves ≡ false → (core : Core) (c : OpenCopy) → core.copy ≡ Some c → IsSameCopy begun c → (c.end ≡ Some ending.Ended → ⊥) → (c.end ≡ Some ending.Done → ⊥) → IsUndone begun core
+  put brings core c is its goes undone = record { copy = c; is_open = is; its = its; brings = brings; goes = goes; undone = undone }
 
   -- it fails, where this is so
   fail_open : (core : Core) (b : Bool) → IsUndone begun core → IsUndone begun (with_end core (ends_if b ending.SyncFailed))
   fail_open core false it = it
-  fail_open core true it = put _ (with_copy_end it.copy ending.SyncFailed) (ap (λ m. (option_map_or (λ (c : OpenCopy). after_copy_end core c ending.SyncFailed) m core).copy) it.is_open) it.its (λ e. cc e) (λ e. cc e)
+  fail_open core true it = put it.brings _ (with_copy_end it.copy ending.SyncFailed) (ap (λ m. (option_map_or (λ (c : OpenCopy). after_copy_end core c ending.SyncFailed) m core).copy) it.is_open) it.its (λ e. cc e) (λ e. cc e)
 
 -- the state as a whole never ends it with the session
 end_of_not : (core : Core) (c : OpenCopy) → end_of core c ≡ Some ending.Ended → ⊥
@@ -135,6 +174,10 @@ module _ (begun : OpenCopy) (old new : Core) (it : Reviews old new) (was : IsUnd
       q : Pp
       q = was.copy.pp
 
+      second : (a b : Bool) → a && b ≡ true → b ≡ true
+      second true b e = e
+      second false b e = absurd (cc e)
+
       clear : (a f w : Bool) → not a && not f && not w ≡ true → (a || f) || w ≡ false
       clear true f w e = cc e
       clear false true w e = cc e
@@ -142,7 +185,7 @@ module _ (begun : OpenCopy) (old new : Core) (it : Reviews old new) (was : IsUnd
       clear false false false e = refl
 
       before : is_marked old q ≡ false
-      before = clear (is_stale old q) (calls_stale (unwrap_or old.status.in_flight old.status.committed) q) (is_wanted_stale old q) done.fresh
+      before = clear (is_stale old q) (calls_stale (unwrap_or old.status.in_flight old.status.committed) q) (is_wanted_stale old q) (second (not was.copy.moves) (is_clear old q) done.fresh)
 
       of : (is_marked old q ≡ true) ⊎ (is_missing new q.disk ≡ true) → true ≡ false
       of (inl e) = sym e ∙ before
@@ -161,6 +204,7 @@ module _ (begun : OpenCopy) (old new : Core) (it : Reviews old new) (was : IsUnd
         copy = with_copy_end was.copy how;
         is_open = copy_is (Some how) is ∙ ap (λ m. (option_map_or (λ (c : OpenCopy). after_copy_end old c how) m old).copy) was.is_open;
         its = was.its;
+        brings = was.brings;
         goes = λ e. end_of_not old was.copy (is ∙ e);
         cleared = λ e. let done = done_by old was.copy (is ∙ e) in (ap (λ b. is_out (if b then was.copy.step else step.Idle)) (rests done.runs done.whole), unmarked done);
       }
@@ -186,7 +230,7 @@ module _ (begun : OpenCopy) (old : State) (sound : IsSound old) (on : old.core.p
 
   note_open : (new : Core) (at disk : ℕ) (ok : Bool) (buf : Buffer) → NoteLearns old.core at disk ok buf new → IsOpenStill begun new
   note_open new at disk true buf it = still begun new (same_copy begun old.core new (ap (λ (c : Core). c.copy) it) was)
-  note_open new at disk false buf it = review_open begun _ new it.2 (put begun _ was.copy was.is_open was.its was.goes was.undone) rests
+  note_open new at disk false buf it = review_open begun _ new it.2 (put begun was.brings _ was.copy was.is_open was.its was.goes was.undone) rests
 
   goes_on : (b : Bool) (core : Core) (c : OpenCopy) (next : Core) → GoesOn b core c next → next.copy ≡ Some c
   goes_on false core c next it = ap (λ (x : Core). x.copy) it
@@ -205,11 +249,11 @@ module _ (begun : OpenCopy) (old : State) (sound : IsSound old) (on : old.core.p
     step_open : (at_step : Step) (ok : Bool) (new : Core) (at : ℕ) (buf : Buffer) → StepLeaves at_step ok old.core at c buf new → IsOpenStill begun new
     step_open step.Idle ok new at buf it = absurd it
     step_open (step.Read hand) ok new at buf it = absurd it
-    step_open (step.Reading source) true new at buf it = still begun new (put begun new _ (ap (λ (x : Core). x.copy) it) its goes undone)
-    step_open (step.Reading source) false new at buf it = review_open begun _ new it.reviews (put begun _ (record c { step = step.Idle; tried = it.tried }) refl its goes undone) (λ runs whole. refl)
-    step_open step.Writing true new at buf it = review_open begun it.on new it.reviews (put begun it.on (record c { cursor = c.cursor + 1; step = step.Idle; tried = it.next.tried; place = step_place (without_step (with_return old.core at buf) c) }) (goes_on (is_whole (without_step (with_return old.core at buf) c) it.next) (without_step (with_return old.core at buf) c) it.next it.on it.goes ∙ ap (λ (k : OpenCopy). Some k) it.moves.is) its goes undone) (λ runs whole. refl)
+    step_open (step.Reading source) true new at buf it = still begun new (put begun was.brings new _ (ap (λ (x : Core). x.copy) it) its goes undone)
+    step_open (step.Reading source) false new at buf it = review_open begun _ new it.reviews (put begun was.brings _ (record c { step = step.Idle; tried = it.tried }) refl its goes undone) (λ runs whole. refl)
+    step_open step.Writing true new at buf it = review_open begun it.on new it.reviews (put begun was.brings it.on (record c { cursor = c.cursor + 1; step = step.Idle; tried = it.next.tried; place = step_place (without_step (with_return old.core at buf) c) }) (goes_on (is_whole (without_step (with_return old.core at buf) c) it.next) (without_step (with_return old.core at buf) c) it.next it.on it.goes ∙ ap (λ (k : OpenCopy). Some k) it.moves.is) its goes undone) (λ runs whole. refl)
     step_open step.Writing false new at buf it = still begun new (same_copy begun (with_end (with_copy (with_return old.core at buf) (record c { step = step.Idle })) (ends_if true ending.SyncFailed)) new (ap (λ (x : Core). x.copy) it.is)
-        (fail_open begun (with_copy (with_return old.core at buf) (record c { step = step.Idle })) true (put begun (with_copy (with_return old.core at buf) (record c { step = step.Idle })) (record c { step = step.Idle }) refl its goes undone)))
+        (fail_open begun (with_copy (with_return old.core at buf) (record c { step = step.Idle })) true (put begun was.brings (with_copy (with_return old.core at buf) (record c { step = step.Idle })) (record c { step = step.Idle }) refl its goes undone)))
 
   copy_open : (new : Core) (at : ℕ) (ok : Bool) (buf : Buffer) → CopyLearns old.core at ok buf new → IsOpenStill begun new
   copy_open new at ok buf it = by (is_running it.copy) it.learns
@@ -219,16 +263,16 @@ module _ (begun : OpenCopy) (old : State) (sound : IsSound old) (on : old.core.p
 
       by : (b : Bool) → StepLearns b old.core at it.copy ok buf new → IsOpenStill begun new
       by true leaves = step_open it.copy same it.copy.step ok new at buf leaves
-      by false quits = still begun new (put begun new _ (ap (λ (x : Core). x.copy) quits) (its it.copy same) (goes it.copy same) (undone it.copy same))
+      by false quits = still begun new (put begun was.brings new _ (ap (λ (x : Core). x.copy) quits) (its it.copy same) (goes it.copy same) (undone it.copy same))
 
   learned_open : (whose : Owner) (ok : Bool) (new : Core) (at : ℕ) (buf : Buffer) → Learns whose old.core at ok buf new → IsOpenStill begun new
   learned_open (owner.Data id target) ok new at buf it =
       still begun new (same_copy begun (with_end after (end_by_write after (learned it.its.request target ok buf) ok it.its.aim.pp)) new (ap (λ (c : Core). c.copy) it.entails.is)
-      (fail_open begun after (option_map_or (hits_copy after (learned it.its.request target ok buf) ok it.its.aim.pp) after.copy false) (put begun after was.copy was.is_open was.its was.goes was.undone)))
+      (fail_open begun after (option_map_or (hits_copy after (learned it.its.request target ok buf) ok it.its.aim.pp) after.copy false) (put begun was.brings after was.copy was.is_open was.its was.goes was.undone)))
     where
       after : Core
       after = after_data old.core at it.place it.its.request target ok buf
-  learned_open (owner.Status disk) ok new at buf it = review_open begun _ new it.reviews (put begun _ was.copy was.is_open was.its was.goes was.undone) rests
+  learned_open (owner.Status disk) ok new at buf it = review_open begun _ new it.reviews (put begun was.brings _ was.copy was.is_open was.its was.goes was.undone) rests
   learned_open (owner.Note disk) ok new at buf it = note_open new at disk ok buf it
   learned_open owner.Copy ok new at buf it = copy_open new at ok buf it
 
@@ -243,10 +287,10 @@ module _ (begun : OpenCopy) (old : State) (sound : IsSound old) (on : old.core.p
   event_open (event.StartData place target) new made = same_copy begun old.core new.core (ap (λ (s : State). s.core.copy) made.is) was
   event_open event.ReadCopy new made =
       let same : was.copy ≡ made.copy = (let e : Some was.copy ≡ Some made.copy = sym was.is_open ∙ made.is_open in cc e) in
-      put begun new.core _ (ap (λ (s : State). s.core.copy) made.is) (its made.copy same) (goes made.copy same) (undone made.copy same)
+      put begun was.brings new.core _ (ap (λ (s : State). s.core.copy) made.is) (its made.copy same) (goes made.copy same) (undone made.copy same)
   event_open event.WriteCopy new made =
       let same : was.copy ≡ made.copy = (let e : Some was.copy ≡ Some made.copy = sym was.is_open ∙ made.is_open in cc e) in
-      put begun new.core _ (ap (λ (s : State). s.core.copy) made.is) (its made.copy same) (goes made.copy same) (undone made.copy same)
+      put begun was.brings new.core _ (ap (λ (s : State). s.core.copy) made.is) (its made.copy same) (goes made.copy same) (undone made.copy same)
 
   -- ---- a turn
 
