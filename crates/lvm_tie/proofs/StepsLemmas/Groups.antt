@@ -134,6 +134,7 @@ module _ (past : List Fact) (old new : State) (at : ℕ) (tied : IsTied past old
   stepped : IsStepped core v c e (put (gone v.queue c.place step_q) i next) (with_name v.name i no_request) (Some (o2 past old new at tied sectors event))
   stepped = record {
     rests = refl;
+    moves_same = refl;
     queue_still = λ k p at_k. put_there (gone v.queue c.place step_q) i next (place_of p.request.id) (apart_next k p at_k)
         ∙ gone_there v.queue c.place step_q (place_of p.request.id) (apart past old new at event.row true event.buf tied event.returns event.own c event.is_open k p at_k);
     name_still = λ k p at_k. let test : (place_of p.request.id == i) ≡ false = (let ne = apart_next k p at_k in grind (arith, nat_tests)) in ap (λ b. if b then no_request else v.name (place_of p.request.id)) test;

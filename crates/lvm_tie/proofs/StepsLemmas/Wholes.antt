@@ -253,6 +253,7 @@ module _ (past : List Fact) (old new : State) (at : ℕ) (tied : IsTied past old
   stepped : IsStepped core v c e (gone v.queue c.place step_q) v.name (Some (o2 past old new at tied sectors event))
   stepped = record {
     rests = refl;
+    moves_same = refl;
     queue_still = λ k p at_k. gone_there v.queue c.place step_q (place_of p.request.id) (apart past old new at event.row true event.buf tied event.returns event.own c event.is_open k p at_k);
     name_still = λ k p at_k. refl;
     a_step = λ r. absurd (let k : true ≡ false = sym r ∙ no_row in cc);

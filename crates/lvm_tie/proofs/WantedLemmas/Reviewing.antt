@@ -22,7 +22,7 @@ use Rattle.lvm_invariant.specs.State.{ModelCopy, ModelState}
 use Rattle.lvm_invariant.specs.Want.{Wants}
 use Rattle.lvm_crash.specs.Session.{HasVolumes, marks_of}
 use Rattle.lvm_crash.proofs.WritingLemmas.{pp_same, same_pp}
-use Rattle.lvm_tie.proofs.StateLemmas.{copy_is, of_its, there_first}
+use Rattle.lvm_tie.proofs.StateLemmas.{of_its, stale_is, there_first}
 use Rattle.lvm_tie.proofs.TiedLemmas.Orderly.{valid_of}
 use Rattle.lvm_tie.proofs.AmongLemmas.{not_true, or_true}
 use Rattle.lvm_tie.specs.Seen.{SeesCopy, SeesRunning}
@@ -85,7 +85,7 @@ opened past s tied c is runs =
     let v : ModelState = tied.view in
     let sees = subst (λ (b : Bool). SeesRunning b (groups_of core) c v.open_copy) runs (subst (λ (x : Option OpenCopy). SeesCopy (groups_of core) x v.open_copy) is tied.sees.open_copy) in
     let its = of_its past s tied c is in
-    let own = copy_is past s tied c is in
+    let own = stale_is past s tied c is in
     let open_there : IsFalse (v.missing sees.copy.target.disk) = tied.good.sound.statuses.open_there sees.copy sees.is_open in
     let at : IsFalse (v.missing c.pp.disk) = ap (λ (p : Pp). v.missing p.disk) (sym sees.target) ∙ open_there in
     let there : is_there core c.pp.disk ≡ true = not-false (is_there core c.pp.disk) (sym (tied.sees.status.missing c.pp.disk) ∙ at) in
