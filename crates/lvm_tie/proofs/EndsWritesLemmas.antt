@@ -464,13 +464,13 @@ module _ (past : List Fact) (old new : State) (index : ℕ) (ends : Ends old new
         let c : OpenCopy = its_hit.copy in
         let brought = (opened past old tied c its_hit.is_open its_hit.running).0 in
         ap (calls_stale status.wanted) (brought.target x open_is) ∙ wants.stale c.pp
-        ∙ or_true (calls_stale old.core.status.wanted c.pp) (due c.pp) (by c its_hit.is_open brought.part (ap (λ (e : Option CopyEnd). marked_by_end core2 e c.pp) (is ∙ ap (λ (e : CopyEnd). Some e) its_hit.fails)) (is_whole old.core c) refl)
+        ∙ or_true (calls_stale old.core.status.wanted c.pp) (due c.pp) (by c its_hit.is_open brought.stays brought.part (ap (λ (e : Option CopyEnd). marked_by_end core2 e c.pp) (is ∙ ap (λ (e : CopyEnd). Some e) its_hit.fails)) (is_whole old.core c) refl)
       where
-        by : (c : OpenCopy) → old.core.copy ≡ Some c → (is_whole old.core c ≡ false → calls_stale old.core.status.wanted c.pp ≡ true) → marked_by_end core2 how c.pp ≡ option_map_or (λ (y : OpenCopy). is_whole old.core y && is_pp c.pp y.pp) old.core.copy false
+        by : (c : OpenCopy) → old.core.copy ≡ Some c → c.moves ≡ false → (is_whole old.core c ≡ false → calls_stale old.core.status.wanted c.pp ≡ true) → marked_by_end core2 how c.pp ≡ option_map_or (λ (y : OpenCopy). is_whole old.core y && is_pp c.pp y.pp && (not y.moves || is_called_stale old.core y.pp)) old.core.copy false
             → (b : Bool) → is_whole old.core c ≡ b → (calls_stale old.core.status.wanted c.pp ≡ true) ⊎ (due c.pp ≡ true)
-        by c here stale mark false part = inl (stale part)
-        by c here stale mark true all = inr (or_true (is_among (due_of core2 o2.request) c.pp) (marked_by_end core2 how c.pp)
-            (inr (mark ∙ ap (λ (m : Option OpenCopy). option_map_or (λ (y : OpenCopy). is_whole old.core y && is_pp c.pp y.pp) m false) here ∙ (λ k. all k && same_pp c.pp c.pp refl k))))
+        by c here stays stale mark false part = inl (stale part)
+        by c here stays stale mark true all = inr (or_true (is_among (due_of core2 o2.request) c.pp) (marked_by_end core2 how c.pp)
+            (inr (mark ∙ ap (λ (m : Option OpenCopy). option_map_or (λ (y : OpenCopy). is_whole old.core y && is_pp c.pp y.pp && (not y.moves || is_called_stale old.core y.pp)) m false) here ∙ (λ k. all k && same_pp c.pp c.pp refl k && (not (stays k) || is_called_stale old.core c.pp)))))
 
     -- ---- what the state wants
 
