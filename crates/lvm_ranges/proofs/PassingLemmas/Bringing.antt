@@ -21,7 +21,8 @@ use Rattle.lvm_ranges.specs.declared.fault.SyncFault.{SyncFault}
 use Rattle.lvm_ranges.specs.Keeping.{KeepsTable}
 use Rattle.lvm_ranges.specs.Passing.{HasEnded, IsEnded, IsJustOpened, IsSameCopy, Runs, EndsTurning, EachTurnWhile}
 use Rattle.lvm_ranges.specs.Turning.{GoesBeside, IsUnderWay, MakesLast, MakesTurn}
-use Rattle.lvm_ranges.proofs.PassingLemmas.Open.{IsOpenStill, just_opened, state_brought, turn_open}
+use Rattle.lvm_keeps.proofs.StateLemmas.{state_brought}
+use Rattle.lvm_ranges.proofs.PassingLemmas.Open.{IsOpenStill, just_opened, turn_open}
 use Rattle.lvm_ranges.proofs.PassingLemmas.Standing.{still_ended}
 use Rattle.lvm_ranges.proofs.TurningLemmas.{beside_both, beside_none, last_turn, one_turn, unstuck_beside}
 

@@ -1,7 +1,6 @@
 -- A copy that is open stays open while turns go on, doesn't end with the session, and ends as done only where it is cleared.
-use Rattle.std.proofs.Common.{◌≡◌, ◌⊎◌, inl, inr, ℕ, Bool, true, false, ◌&&◌, ◌||◌, ◌==◌, ◌+◌, not, List, [], ◌∷◌, Option, Some, None, length, if◌then◌else◌, refl, sym, ap, subst, ◌∙◌}
-use Rattle.std.specs.Prelude.{IfSome, is_none, is_some, unwrap_or}
-use Rattle.std.specs.List.{list_any}
+use Rattle.std.proofs.Common.{◌≡◌, ◌⊎◌, inl, inr, ℕ, Bool, true, false, ◌&&◌, ◌||◌, ◌==◌, ◌+◌, not, Option, Some, None, length, if◌then◌else◌, refl, sym, ap, subst, ◌∙◌}
+use Rattle.std.specs.Prelude.{IfSome, is_none, unwrap_or}
 use Rattle.std.specs.Option.{option_map_or}
 use Rattle.lvm_num.specs.declared.place.Pp.{Pp}
 use Rattle.lvm_num.specs.Buffer.{Buffer}
@@ -16,18 +15,18 @@ use Rattle.lvm_session.specs.declared.bringing.Step.{Step}
 use Rattle.lvm_session.specs.declared.bringing.Step.TheVariants as step
 use Rattle.lvm_session.specs.declared.event.Event.{Event}
 use Rattle.lvm_session.specs.declared.event.Event.TheVariants as event
-use Rattle.lvm_session.specs.declared.open.Open.{Open}
 use Rattle.lvm_session.specs.declared.flown.Owner.{Owner}
 use Rattle.lvm_session.specs.declared.flown.Owner.TheVariants as owner
 use Rattle.lvm_session.specs.declared.open.Power.TheVariants as power
 use Rattle.lvm_session.specs.Bringing.{after_copy_end, copy_ends, end_of, ends_if, is_cleared, is_idle, is_out, is_whole, next_source, sources_of, step_place, with_copy_end, with_end}
-use Rattle.lvm_session.specs.Calls.{copy_state, is_aimed_at, is_still_aimed, state_at_end, state_of_copy}
+use Rattle.lvm_session.specs.Calls.{copy_state, state_at_end, state_of_copy}
 use Rattle.lvm_session.specs.Ends.{CopyLearns, GoesOn, Learns, NoteLearns, StepLearns, StepLeaves, after_data, learned, with_copy, with_return, without_step}
-use Rattle.lvm_session.specs.Judging.{is_clear, is_missing, is_moved, is_running, is_stale, is_under_way, is_waiting, is_wanted_stale, pps_of}
-use Rattle.lvm_session.specs.Marks.{Reviews, end_by_write, hits_copy, is_among}
+use Rattle.lvm_session.specs.Judging.{is_clear, is_missing, is_running, is_stale, is_wanted_stale}
+use Rattle.lvm_session.specs.Marks.{Reviews, end_by_write, hits_copy}
 use Rattle.lvm_session.specs.Sound.{IsCopy, IsSound}
 use Rattle.lvm_session.specs.State.{Core, State}
 use Rattle.lvm_session.specs.Turns.{FinishMakes, Finishes, Makes, Moves, NoStart, OnMakes, TurnMakes, WasDark, WasOff, WasOn}
+use Rattle.lvm_keeps.proofs.StateLemmas.{state_brought}
 use Rattle.lvm_ranges.specs.passed.Names.{is_marked}
 use Rattle.lvm_ranges.proofs.passed.Names.{reviewed}
 use Rattle.lvm_ranges.specs.Passing.{IsSameCopy, Runs}
@@ -59,41 +58,6 @@ still begun core it = record { copy = it.copy; is_open = it.is_open; its = it.it
 
 pub just_opened : (core : Core) (c : OpenCopy) → core.copy ≡ Some c → c.end ≡ None → c.moves ≡ false → IsOpenStill c core
 just_opened core c is runs stays = record { copy = c; is_open = is; its = (refl, refl, refl, refl, refl, refl); brings = stays; goes = λ e. (let f : None ≡ Some ending.Ended = sym runs ∙ e in cc f); cleared = λ e. absurd (let f : None ≡ Some ending.Done = sym runs ∙ e in cc f) }
-
--- ---- how it is told
-
-or_false : (a : Bool) → a || false ≡ a
-or_false true = refl
-or_false false = refl
-
--- a copy that doesn't move is as its step and its end say
-pub state_brought : (core : Core) (c : OpenCopy) → c.moves ≡ false → state_of_copy core c ≡ (if is_out c.step then copy.Running c.cursor else option_map_or (state_at_end c) c.end (copy.Running c.cursor))
-state_brought core c stays =
-    ap (λ b. if is_out c.step || (b && is_some c.end && is_aimed_at core c.pp) then copy.Running c.cursor else if is_moved core c then copy.Done else option_map_or (state_at_end c) c.end (copy.Running c.cursor)) stays
-    ∙ ap (λ b. if b then copy.Running c.cursor else if is_moved core c then copy.Done else option_map_or (state_at_end c) c.end (copy.Running c.cursor)) (or_false (is_out c.step))
-    ∙ ap (λ b. if is_out c.step then copy.Running c.cursor else if b && is_running c && is_whole core c && is_clear core c.pp && not (is_under_way core c) then copy.Done else option_map_or (state_at_end c) c.end (copy.Running c.cursor)) stays
-
--- so is each that has ended and rests, where no request waits
-pub state_ended : (core : Core) (c : OpenCopy) → is_running c ≡ false → is_out c.step ≡ false → list_any is_waiting core.requests ≡ false → state_of_copy core c ≡ option_map_or (state_at_end c) c.end (copy.Running c.cursor)
-state_ended core c over rests landed =
-    ap (λ b. if b || is_still_aimed core c then copy.Running c.cursor else if is_moved core c then copy.Done else option_map_or (state_at_end c) c.end (copy.Running c.cursor)) rests
-    ∙ ap (λ b. if (c.moves && is_some c.end && b) then copy.Running c.cursor else if is_moved core c then copy.Done else option_map_or (state_at_end c) c.end (copy.Running c.cursor)) (unaimed core.requests landed)
-    ∙ ap (λ b. if b then copy.Running c.cursor else if is_moved core c then copy.Done else option_map_or (state_at_end c) c.end (copy.Running c.cursor)) (and_false (c.moves && is_some c.end))
-    ∙ ap (λ b. if c.moves && b && is_whole core c && is_clear core c.pp && not (is_under_way core c) then copy.Done else option_map_or (state_at_end c) c.end (copy.Running c.cursor)) over
-    ∙ ap (λ b. if b && is_whole core c && is_clear core c.pp && not (is_under_way core c) then copy.Done else option_map_or (state_at_end c) c.end (copy.Running c.cursor)) (and_false c.moves)
-  where
-    and_false : (a : Bool) → a && false ≡ false
-    and_false true = refl
-    and_false false = refl
-
-    unaimed : (os : List Open) → list_any is_waiting os ≡ false → list_any (λ (o : Open). is_none o.landed && is_among (pps_of o.request.targets.items) c.pp) os ≡ false
-    unaimed [] e = refl
-    unaimed (o ∷ os) e = by (is_waiting o) (λ f. unaimed os f) e
-      where
-        by : (b : Bool) → (list_any is_waiting os ≡ false → list_any (λ (x : Open). is_none x.landed && is_among (pps_of x.request.targets.items) c.pp) os ≡ false) → b || list_any is_waiting os ≡ false
-            → (b && is_among (pps_of o.request.targets.items) c.pp) || list_any (λ (x : Open). is_none x.landed && is_among (pps_of x.request.targets.items) c.pp) os ≡ false
-        by true rest f = absurd (cc f)
-        by false rest f = rest f
 
 -- while it runs it isn't done
 undone_of : (begun : OpenCopy) (core : Core) → IsOpenStill begun core → Runs core → IsUndone begun core

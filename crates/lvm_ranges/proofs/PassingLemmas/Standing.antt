@@ -38,7 +38,7 @@ use Rattle.lvm_session.specs.Sound.{IsGoing, IsOn, IsSound, count_if, has_number
 use Rattle.lvm_keeps.proofs.Lists.{count_cons}
 use Rattle.lvm_keeps.proofs.VotesLemmas.{enough_more, more_votes}
 use Rattle.lvm_ranges.proofs.passed.Names.{never_stands_still}
-use Rattle.lvm_ranges.proofs.PassingLemmas.Open.{state_ended}
+use Rattle.lvm_keeps.proofs.StateLemmas.{state_ended}
 use Rattle.lvm_ranges.specs.passed.Names.{IsDrained}
 use Rattle.lvm_ranges.specs.Passing.{Runs}
 

@@ -36,7 +36,8 @@ use Rattle.lvm_ranges.specs.declared.tally.Tally.{Tally}
 use Rattle.lvm_ranges.specs.Passing.{Copy, IsEnded, IsFresh, IsMadeFresh, IsOpened, IsUnsettled, Runs}
 use Rattle.lvm_ranges.specs.Syncing.{IsStaleFor, LeavesFresh, NonePassed, OnePassed, Passes, is_made_among, no_tally, or_first}
 use Rattle.lvm_ranges.proofs.PassingLemmas.Making.{as_opened, its_pp}
-use Rattle.lvm_ranges.proofs.PassingLemmas.Open.{IsOpenStill, just_opened, state_ended, turn_open}
+use Rattle.lvm_keeps.proofs.StateLemmas.{state_ended}
+use Rattle.lvm_ranges.proofs.PassingLemmas.Open.{IsOpenStill, just_opened, turn_open}
 use Rattle.lvm_ranges.proofs.TurningLemmas.{TurnsIn, turns_in}
 
 -- ---- why something is stale

@@ -111,7 +111,7 @@ module _ (past : List Fact) (s : State) (new : Core) (counts : Counts) (lv lp nu
   i = step_place core
 
   abbrev c : OpenCopy
-  c = opened opens.pp lv lp number opens.tried (faults_of counts (copies_of opens.row lp)) i
+  c = opened false opens.pp lv lp number opens.tried (faults_of counts (copies_of opens.row lp) opens.pp) i
 
   abbrev core1 : Core
   core1 = record core { requests = map aged core.requests }
