@@ -34,10 +34,7 @@ fn aims_at(targets: &[Target], pp: Pp) -> bool
 fn is_aimed_at(session: &Session, pp: Pp) -> bool
     ensures { result ≡ list_any (λ (o : Open). is_none o.landed && list_any (λ (t : Target). is_pp pp t.pp) o.request.targets.items) session.now.requests.items }
 {
-    session
-        .requests
-        .iter()
-        .any(|open| open.landed.is_none() && aims_at(&open.request.targets, pp))
+    session.requests.iter().any(|open| open.landed.is_none() && aims_at(&open.request.targets, pp))
 }
 
 // Whether it is a move that has ended, to whose place a request still goes.

@@ -9,7 +9,9 @@ ghost use Rattle.lvm_session.specs.Fields.{core_of};
 ghost use Rattle.lvm_session.specs.Judging.{copies_in};
 ghost use Rattle.lvm_calls.specs.Reviewing.{IsLocated, is_other, is_untried};
 
-use crate::below::{is_clear, is_missing, is_pp, is_running, is_stale, is_usable, is_wanted_stale, is_whole};
+use crate::below::{
+    is_clear, is_missing, is_pp, is_running, is_stale, is_usable, is_wanted_stale, is_whole,
+};
 use lvm_num::{Pp, copies_of, volume_of};
 use lvm_session::{CopyEnd, OpenCopy, Session, Step};
 

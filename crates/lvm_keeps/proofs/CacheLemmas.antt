@@ -141,7 +141,7 @@ target_on_member core ask t going its = by t.moves its.copy
 pub no_copy : (d : Descriptor) (lv lp : ℕ) (p : Pp) → is_among (partitions_used d) p ≡ false → is_among (copies_in d lv lp) p ≡ false
 no_copy d lv lp p free = by (volume_of d lv) refl
   where
-    abbrev Apart : Pp → Type 0
+    Apart : Pp → Type 0
     Apart q = is_pp p q ≡ false
 
     none : (ps : List Pp) → AllByRecursion Apart ps → is_among ps p ≡ false

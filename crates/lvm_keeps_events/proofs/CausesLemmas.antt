@@ -776,7 +776,7 @@ module _ (old : State) (sound : IsSound old) (on : old.core.power ≡ power.On) 
                 let it = on_one now_targets p (ap (λ ps. is_among ps p) (pps_set targets target aim (end_state ok) aim_is) ∙ its) in
                 subst (FailedSinceOpening device failed_copy n) (sym it.pp_is)
                 (since_opening young it.place it.target it.there (has_failed_now it.place it.target it.there (unkept_fails it.place it.target it.there
-                    (all_and (not it.target.moves) (is_sure core it.target.pp) (ap not (no_place core going c.lv c.lp p (among_get copies (n - 1) p (by_place copies n p n_at)) ask it.target (all_at (IsTarget core ask) now_targets it.place it.target its_shape.targets it.there) it.pp_is)) (sym (ap (is_sure core) it.pp_is) ∙ sure)))) n (n_at ∙ ap (λ (q : Pp). Some q) it.pp_is))
+                (all_and (not it.target.moves) (is_sure core it.target.pp) (ap not (no_place core going c.lv c.lp p (among_get copies (n - 1) p (by_place copies n p n_at)) ask it.target (all_at (IsTarget core ask) now_targets it.place it.target its_shape.targets it.there) it.pp_is)) (sym (ap (is_sure core) it.pp_is) ∙ sure)))) n (n_at ∙ ap (λ (q : Pp). Some q) it.pp_is))
 
         lost : OwnFailedSinceOpening device failed_copy ⊎ HaveSourcesFailed now copies failed_copy
         lost = by (is_pp usable_one.1.pp c.pp) refl

@@ -95,12 +95,7 @@ fn copy_aims<S: Shelf>(session: &Session, shelf: &S, ask: &Ask) -> ArrayVec<Targ
 }
 
 // The place to which a copy of its logical partition moves becomes a target, where that has passed the track group.
-fn aim_place<S: Shelf>(
-    session: &Session,
-    shelf: &S,
-    ask: &Ask,
-    targets: &mut ArrayVec<Target, 4>,
-)
+fn aim_place<S: Shelf>(session: &Session, shelf: &S, ask: &Ask, targets: &mut ArrayVec<Target, 4>)
     requires may { MayChoose (S.device shelf.now) (core_of session.now) }
     requires room { length targets.old.items ≤ 3 }
     ensures targets { targets.new.items ≡ targets.old.items ++ map (place_target (state (S.device shelf.now) (core_of session.now)) ask.now) (place_aims (core_of session.now) ask.now) }

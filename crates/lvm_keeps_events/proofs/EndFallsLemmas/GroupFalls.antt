@@ -144,9 +144,10 @@ module _ (at : ℕ) (old new : State) (sound : IsSound old) (on : old.core.power
       where
         by_each : (ps : List Pp) → ((p : Pp) → is_among ps p ≡ true → is_among (places_for core o.request.ask) p ≡ true) → AllByRecursion (λ (p : Pp). is_caught after (group_in core o.request.ask) p ≡ is_caught core (group_in core o.request.ask) p) ps
         by_each [] inside = tt
-        by_each (p ∷ ps) inside =
-            (caught_place old sound on its_copy event.is_open event.runs event.writes at event.row event.returns.there event.own (ended at old new sound on event).flight (out at old new sound on event).there event.buf (ended at old new sound on event).rest.number new.device.media (tried at old new sound on event) event.passes.moves.tried k o o_there it waits write past p (inside p (ap (λ b. b || is_among ps p) (own_pp p))),
-            by_each ps (λ q e. inside q (ap (λ b. is_pp q p || b) e ∙ or_true (is_pp q p))))
+        by_each (p ∷ ps) inside = (
+          caught_place old sound on its_copy event.is_open event.runs event.writes at event.row event.returns.there event.own (ended at old new sound on event).flight (out at old new sound on event).there event.buf (ended at old new sound on event).rest.number new.device.media (tried at old new sound on event) event.passes.moves.tried k o o_there it waits write past p (inside p (ap (λ b. b || is_among ps p) (own_pp p))),
+          by_each ps (λ q e. inside q (ap (λ b. is_pp q p || b) e ∙ or_true (is_pp q p))),
+        )
 
     goes_so : is_past_held o.request.phase ≡ true → aims after o.request.ask ++ place_aims after o.request.ask ≡ aims core o.request.ask ++ place_aims core o.request.ask
     goes_so past = ap (λ (ps : List Pp). ps ++ place_aims after o.request.ask) (aims_so past) ∙ ap (λ (ps : List Pp). aims core o.request.ask ++ ps) (place_aims_so past)

@@ -166,7 +166,7 @@ entailed_on one two p valid same fresh gone replaces is = subst (λ d. list_any 
     in_row : (r : LvRow) × (k : ℕ) × (slice_get one.descriptor.lvs k ≡ Some r) × (is_entailed_in one r p ≡ true)
     in_row = found (λ (r : LvRow). is_entailed_in one r p) one.descriptor.lvs is
 
-    abbrev row : LvRow
+    row : LvRow
     row = in_row.0
 
     its : (lp : ℕ) → copies_in one.descriptor row.number lp ≡ copies_of row lp
@@ -308,7 +308,7 @@ module _ (e : WriteEnd) where
       by true is =
           let left = left_behind (mid e) c.pp is in
           let its : copies_in core.descriptor left.row.number left.lp ≡ copies_of left.row left.lp =
-              ap (λ m. option_map_or (λ (row : LvRow). copies_of row left.lp) m []) (row_found core.descriptor.lvs left.place left.row e.going.fitting.valid.volumes.numbers_rise left.there) in
+          ap (λ m. option_map_or (λ (row : LvRow). copies_of row left.lp) m []) (row_found core.descriptor.lvs left.place left.row e.going.fitting.valid.volumes.numbers_rise left.there) in
           not_so (sym (no_copy core.descriptor left.row.number left.lp c.pp move.free) ∙ ap (λ ps. is_among ps c.pp) its ∙ left.among)
 
   -- where the copy doesn't end, and no disk is missing that wasn't, what is left behind was wanted stale before

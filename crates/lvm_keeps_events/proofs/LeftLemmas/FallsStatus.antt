@@ -342,16 +342,16 @@ module _ (e : WriteEnd) (r : Reviewed e) (brings : Brings e r) (noted : (d : ℕ
       most true = omega arith
       most false = omega arith
 
-      abbrev copies_were : ℕ
+      copies_were : ℕ
       copies_were = sum_by (turns_of core) (copies_for core x.ask)
 
-      abbrev copies_are : ℕ
+      copies_are : ℕ
       copies_are = sum_by (turns_of after) (copies_for core x.ask)
 
-      abbrev places_were : ℕ
+      places_were : ℕ
       places_were = sum_by (place_turns core) (places_for core x.ask)
 
-      abbrev places_are : ℕ
+      places_are : ℕ
       places_are = sum_by (place_turns after) (places_for after x.ask)
 
       add : (s t y z d f c g p q : ℕ) → t ≤ s → z ≤ y → f ≡ d → g ≡ c → q ≤ p → 256 + t + z + f + g + q ≤ 256 + s + y + d + c + p
