@@ -106,7 +106,7 @@ module _ (core : Core) (c : OpenCopy) (is : core.copy ≡ Some c) where
     none_moves (t ∷ ts) aims = (by t.moves refl aims.0.copy, none_moves ts aims.1)
       where
         by : (b : Bool) → t.moves ≡ b → IsAimed b core ask t → t.moves ≡ false
-        by false no aimed = no
+        by false stays aimed = stays
         by true yes_so place = absurd (none t.pp place.0)
 
   -- where none has its partition among its targets
@@ -115,7 +115,7 @@ module _ (core : Core) (c : OpenCopy) (is : core.copy ≡ Some c) where
   unaimed_targets ask (t ∷ ts) none aims = let parts = or_parts (is_pp c.pp t.pp) (is_among (pps_of ts) c.pp) none in (by t.moves refl aims.0.copy parts.0, unaimed_targets ask ts parts.1 aims.1)
     where
       by : (b : Bool) → t.moves ≡ b → IsAimed b core ask t → is_pp c.pp t.pp ≡ false → t.moves ≡ false
-      by false no aimed other = no
+      by false stays aimed other = stays
       by true yes_so place other = absurd (not_so (sym other ∙ same_partition c.pp t.pp (sym (its_place ask t.pp place.0).2)))
 
   free_unaimed : (xs : List Open) → list_any (λ (o : Open). is_none o.landed && is_among (pps_of o.request.targets.items) c.pp) xs ≡ false → AllByRecursion (IsOpenOne core) xs → AllByRecursion IsFree xs
@@ -183,8 +183,8 @@ module _ (s : State) (sound : IsSound s) (c : OpenCopy) (is : s.core.copy ≡ So
   targets_on ask (t ∷ ts) free aims = (record { copy = aimed t.moves free.0 aims.0.copy; sector = aims.0.sector; there = aims.0.there }, targets_on ask ts free.1 aims.1)
     where
       aimed : (b : Bool) → b ≡ false → IsAimed b core ask t → IsAimed b now.core ask t
-      aimed false no among = among
-      aimed true no place = absurd (not_so (sym no))
+      aimed false stays among = among
+      aimed true stays place = absurd (not_so (sym stays))
 
   one : (o : Open) → IsFree core c is o → IsOpenOne core o → IsOpenOne now.core o
   one o free it = record {

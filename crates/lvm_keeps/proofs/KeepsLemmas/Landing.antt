@@ -154,7 +154,7 @@ module _ (s : State) (sound : IsSound s) (on : s.core.power ≡ power.On) (place
     no_place t aims is = by t.moves refl aims.copy
       where
         by : (b : Bool) → t.moves ≡ b → IsAimed b core o.request.ask t → t.moves ≡ false
-        by false no aimed = no
+        by false stays aimed = stays
         by true yes_so place = absurd (not_so (sym place.2 ∙ is))
 
     each_lost : (ts : List Target) → are_over ts ≡ true → list_any (λ (t : Target). is_done t.state && is_sure_at core t) ts ≡ false → AllByRecursion (IsTarget core o.request.ask) ts

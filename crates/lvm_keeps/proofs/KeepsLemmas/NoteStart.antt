@@ -24,7 +24,7 @@ use Rattle.lvm_session.specs.declared.flown.Owner.TheVariants as owner
 use Rattle.lvm_session.specs.declared.open.Open.{Open}
 use Rattle.lvm_session.specs.declared.open.Power.TheVariants as power
 use Rattle.lvm_session.specs.State.{Core, State, state}
-use Rattle.lvm_session.specs.Judging.{group_of, has_names, is_missing, is_waiting, lp_of}
+use Rattle.lvm_session.specs.Judging.{group_of, has_names, is_missing, is_waiting}
 use Rattle.lvm_session.specs.Enabled.{is_unnamed, note_due, wants_record}
 use Rattle.lvm_session.specs.Events.{IsNoteWrite, flown}
 use Rattle.lvm_session.specs.Owners.{AreOwned, IsTransferOf, flies, same_owner}
