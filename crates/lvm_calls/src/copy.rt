@@ -10,7 +10,7 @@ ghost use Rattle.lvm_session.specs.Rooms.{SameRooms};
 ghost use Rattle.lvm_session.specs.Bringing.{is_out};
 ghost use Rattle.lvm_session.specs.Judging.{is_usable};
 ghost use Rattle.lvm_session.specs.declared.answers.CopyState.TheVariants as state;
-ghost use Rattle.lvm_session.specs.Calls.{closed, copy_at, copy_fault, copy_state, is_still_aimed, refusal_at, refusal_in, refusal_on, state_of_copy};
+ghost use Rattle.lvm_session.specs.Calls.{closed, copy_at, copy_fault, copy_state, is_aimed_at, is_still_aimed, refusal_at, refusal_in, refusal_on, state_of_copy};
 
 use crate::ask::has_numbers;
 use lvm_due::{is_missing, is_moved, is_pp, is_settled, is_usable};
@@ -30,11 +30,18 @@ fn aims_at(targets: &[Target], pp: Pp) -> bool
     targets.iter().any(|target| is_pp(pp, target.pp))
 }
 
-// Whether a request that hasn't landed has the partition among its targets.
-fn is_aimed_at(session: &Session, pp: Pp) -> bool
+// Whether a request that hasn't landed has a target on the partition.
+fn any_aims_at(session: &Session, pp: Pp) -> bool
     ensures { result ≡ list_any (λ (o : Open). is_none o.landed && list_any (λ (t : Target). is_pp pp t.pp) o.request.targets.items) session.now.requests.items }
 {
     session.requests.iter().any(|open| open.landed.is_none() && aims_at(&open.request.targets, pp))
+}
+
+// Whether the partition is among the targets of such a one.
+fn is_aimed_at(session: &Session, pp: Pp) -> bool
+    ensures { result ≡ is_aimed_at (core_of session.now) pp }
+{
+    any_aims_at(session, pp)
 }
 
 // Whether it is a move that has ended, to whose place a request still goes.
