@@ -304,8 +304,20 @@ def event_table():
 MADE = {"rooms": room_table, "crates": crate_table, "events": event_table}
 
 
-def tables(pages, write):
+def edges_up():
+    """The crates of crates.txt that name one which stands behind them there."""
+    lines = [line for line in read("crates.txt").split("\n") if ":" in line and not line.startswith("#")]
+    places = {line.split(":")[0].split()[0]: place for place, line in enumerate(lines)}
     bad = []
+    for name, place in places.items():
+        for dep in lines[place].split(":", 1)[1].split():
+            if places.get(dep, -1) > place:
+                bad.append(f"crates.txt: {name} stands before {dep}, which it builds on")
+    return bad
+
+
+def tables(pages, write):
+    bad = edges_up()
     for page in pages:
         text = read(page)
         for name, make in MADE.items():

@@ -16,8 +16,9 @@ SWEEPS = ("sweep", "twice")
 
 
 def read(path):
-    with open(path, encoding="utf-8") as file:
-        return file.read().splitlines()
+    # A carriage return is part of its line.
+    with open(path, encoding="utf-8", newline="\n") as file:
+        return file.read().removesuffix("\n").split("\n")
 
 
 def is_case(line):
@@ -77,9 +78,9 @@ def show(words):
 
 def write(path):
     lines = read(path)
-    with open(f"{ROWS}/stdin", "w", encoding="utf-8") as file:
+    with open(f"{ROWS}/stdin", "w", encoding="utf-8", newline="\n") as file:
         file.writelines(f"{line}\n" for line in lines if not line.startswith("= "))
-    with open(f"{ROWS}/stdout", "w", encoding="utf-8") as file:
+    with open(f"{ROWS}/stdout", "w", encoding="utf-8", newline="\n") as file:
         file.writelines(f"{line.removeprefix('= ')}\n" for line in lines if is_case(line) or line.startswith("= "))
 
 

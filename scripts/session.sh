@@ -38,7 +38,7 @@ run_and_kill() {
     wait $program 2> /dev/null
 }
 
-usage='usage: lvm script | lvm sim DISKS MIB | lvm weave DISKS MIB CLIENTS REQUESTS SEED | lvm load [--own] GROUP VOLUME THREADS REQUESTS SEED | lvm gen SEED COUNT | lvm image N MIB'
+usage='usage: lvm script | lvm sim DISKS MIB | lvm weave DISKS MIB CLIENTS REQUESTS SEED | lvm load [--own] [--sync] GROUP VOLUME THREADS REQUESTS SEED | lvm gen SEED COUNT | lvm image N MIB'
 write='wr hdisk0 4096 1 0000000000000001\n'
 read='rd hdisk0 4096 1\n'
 

@@ -208,7 +208,9 @@ def judge(folder, images, name="datavg", volume="lv00"):
     whole = [Front(image, folder.behind) for image in images]
     wanted = records.varyon(whole, name, time.time_ns() // 1000)
     disks = range(len(images))
-    lines = [f"varyonvg {name}"] + [f"lspv hdisk{disk}" for disk in disks] + [f"rd {volume} 0 1", f"varyoffvg {name}"]
+    # An edit may have renamed the group in its newest descriptor, by which it is on then.
+    called = wanted.group.name if wanted.answer == "ok" else name
+    lines = [f"varyonvg {name}"] + [f"lspv hdisk{disk}" for disk in disks] + [f"rd {volume} 0 1", f"varyoffvg {called}"]
     answers = folder.ask(lines)
     after = folder.images
     if answers[0] != wanted.answer:

@@ -1,6 +1,6 @@
 -- A run that meets what the law of runs that order nothing asks: one disk, and the line `step 1`, which is refused since no group is on.
 use Rattle.std.specs.Prelude.{codes}
-use Rattle.std.proofs.Common.{◌≤◌, ℕ, List, [], ◌∷◌, Some, inl, ⊎_elim, refl, arith}
+use Rattle.std.proofs.Common.{[], ◌∷◌, Some, inl, ⊎_elim, refl, arith}
 use Rattle.lvm_disk.specs.Device.{IsReady}
 use Rattle.lvm_order_laws.specs.Worked.{fresh}
 use Rattle.lvm_order_laws.proofs.AloneLemmas.{fresh_is_unharmed}
@@ -9,7 +9,7 @@ use Rattle.lvm_parse.specs.Grammar.{line_of}
 use Rattle.lvm_group_lines.specs.declared.reply.Refusal.TheVariants as refusal
 use Rattle.lvm_group_lines.proofs.MomentsLemmas.Going.{same_goes}
 use Rattle.lvm_line.specs.Lines.{IsLine, role_of}
-use Rattle.lvm_line.specs.passed.GroupLines.{IsBetween, Reply, ScriptState}
+use Rattle.lvm_line.specs.passed.GroupLines.{IsAlone, Role, IsBetween, Reply, ScriptState}
 use Rattle.lvm_line.specs.passed.RangeLines.{NoStepWhileOff}
 use Rattle.lvm_line.specs.passed.ReplyVariants as reply
 use Rattle.lvm_top.specs.declared.status.ExitStatus.TheVariants as ended
@@ -53,7 +53,7 @@ is_line = record {
 }
 
 a_line : Script (empty_log 50 full_room) full_room off (codes "step 1" ∷ []) (answer ∷ []) off
-a_line = NextLine (codes "step 1") answer answer (λ stuck. stuck) (inl refl) NoLine is_line
+a_line = NextLine (codes "step 1") answer answer (λ stuck. cc stuck) (inl refl) NoLine is_line
 
 its_lines : AreDone (empty_log 50 full_room) full_room off off untold untold 1
 unfolding a_line
@@ -99,6 +99,10 @@ it_ran = record {
   power = refl;
 }
 
+-- nothing is entered, and no session is on
+alone : (role : Role) → IsAlone role off off
+alone role = record { enters = λ more. absurd (omega (arith, more)); acts = λ acts. tt }
+
 pub some_run_goes_well : SomeRunGoesWell
 unfolding a_line its_lines it_ran operand ends
-some_run_goes_well = (its_run, (it_ran, tt, ((tt, tt), tt, λ requests. tt), fresh_is_unharmed, ((tt, λ order. order), tt), refl))
+some_run_goes_well = (its_run, (it_ran, tt, ((tt, alone _), tt, λ requests. alone _), fresh_is_unharmed, ((tt, λ order. order), tt), refl))

@@ -12,13 +12,15 @@ use crate::run::{Judged, Sizes, Watched, blank, images_of, judge, restarted, run
 use crate::script::Script;
 use crate::shown::Window;
 use crate::sweep::{Swept, Swing, sweep};
-use crate::words::{Answered, answer};
+use crate::words::{Answered, Sinks, answer, make_sinks};
 use crate::wrote::{Wrote, compared};
-use lvm_io::{MemClock, Sink};
+use lvm_io::{MemClock, MemSink, MemSource};
 use lvm_memory::MemShelf;
-use lvm_num::Rows;
-use lvm_program::{Ended, Room};
+use lvm_num::{Rows, Text};
+use lvm_program::{Ended, Room, Workload};
 use std::alloc::Global;
+use std::collections::BTreeSet;
+use std::mem;
 use std::sync::Wait;
 use std::thread::Threads;
 
@@ -65,13 +67,12 @@ impl Bench {
         }
     }
 
-    /// Does what a line of the cases says.
-    pub(crate) fn take_line<O: Sink, R: Threads + Wait + Sync>(
+    /// Does what a line of the cases says that asks for no run by words.
+    pub(crate) fn take_line(
         &mut self,
-        rt: &R,
         alloc: Global,
         line: &str,
-        out: &mut O,
+        out: &mut Vec<u8>,
     ) -> Result<(), Fault> {
         let (verb, rest) = parse::split(line);
         match verb {
@@ -82,9 +83,6 @@ impl Bench {
             "run" => self.run(alloc, out),
             "sweep" => self.sweep(alloc, rest, None, out),
             "twice" => self.twice(alloc, rest, out),
-            "words" => self.words(rt, alloc, rest, out),
-            "ends" => self.ends(rt, alloc, rest, out),
-            "draw" => self.draw(rt, alloc, rest),
             "probe" => self.probe(alloc, rest, out),
             "weave" => self.weave(alloc, rest, out),
             "put" | "fill" | "copy" | "resize" => self.edit(alloc, verb, rest),
@@ -93,8 +91,8 @@ impl Bench {
     }
 
     // Begins another case.
-    fn begin<O: Sink>(&mut self, alloc: Global, line: &str, out: &mut O) -> Result<(), Fault> {
-        *self = Bench::new(alloc);
+    fn begin(&mut self, alloc: Global, line: &str, out: &mut Vec<u8>) -> Result<(), Fault> {
+        drop(mem::replace(self, Bench::new(alloc)));
         print_line(out, line.as_bytes())
     }
 
@@ -185,35 +183,62 @@ impl Bench {
     }
 
     // Runs the script over the disks with some edits, and leaves both as they were.
-    fn probe<O: Sink>(&mut self, alloc: Global, edits: &str, out: &mut O) -> Result<(), Fault> {
-        let images = self.edited(alloc, edits)?;
-        let before = copied(alloc, &images)?;
+    fn probe(&mut self, alloc: Global, edits: &str, out: &mut Vec<u8>) -> Result<(), Fault> {
         let mut streams = self.outside.streams(alloc, self.script.text())?;
-        let (judged, wrote) = self.probed(alloc, &mut streams, images, &before)?;
-        print_probe(alloc, edits, streams.out.bytes(), judged, wrote, out)
+        let done = self.probe_over(alloc, &mut streams, edits, out);
+        drop(streams);
+        done
     }
 
-    // What is judged of a run over images, and what it wrote.
+    fn probe_over(
+        &mut self,
+        alloc: Global,
+        streams: &mut Streams,
+        edits: &str,
+        out: &mut Vec<u8>,
+    ) -> Result<(), Fault> {
+        let (judged, wrote) = self.probed(alloc, streams, edits)?;
+        print_probe(edits, streams.out.bytes(), judged, wrote, out)
+    }
+
+    // What is judged of a run over the disks with some edits, and what it wrote.
     fn probed(
         &mut self,
         alloc: Global,
         streams: &mut Streams,
-        images: Vec<Rows<u8>>,
-        before: &[Rows<u8>],
+        edits: &str,
     ) -> Result<(Judged, Wrote), Fault> {
+        let images = self.edited(alloc, edits)?;
+        let before = copied(alloc, &images);
         let shelf = restarted(alloc, images, self.outside.plan())?;
         let ended = run(alloc, streams, shelf, &mut self.clock, self.sizes.room);
-        let after = images_of(alloc, &ended.shelf)?;
-        Ok((judge(&ended, self.watched), compared(before, &after)))
+        let after = images_of(alloc, &ended.shelf);
+        let judged = judge(&ended, self.watched);
+        drop(ended);
+        Ok((judged, compared(&before?, &after?)))
     }
 
     // A workload over the disks.
-    fn weave<O: Sink>(&mut self, alloc: Global, rest: &str, out: &mut O) -> Result<(), Fault> {
+    fn weave(&mut self, alloc: Global, rest: &str, out: &mut Vec<u8>) -> Result<(), Fault> {
         let load = parse::workload(rest)?;
         let mut sink = ample(alloc)?;
+        let done = self.weave_over(alloc, &load, &mut sink, out);
+        drop(sink);
+        done
+    }
+
+    fn weave_over(
+        &mut self,
+        alloc: Global,
+        load: &Workload,
+        sink: &mut MemSink,
+        out: &mut Vec<u8>,
+    ) -> Result<(), Fault> {
         let shelf = self.shelf(alloc)?;
-        let ended = run_load(alloc, &load, &mut sink, shelf, &mut self.clock, &self.sizes)?;
-        self.end_run(alloc, sink.bytes(), &ended, out)
+        let ended = run_load(alloc, load, sink, shelf, &mut self.clock, &self.sizes)?;
+        let done = self.end_run(alloc, sink.bytes(), &ended, out);
+        drop(ended);
+        done
     }
 
     // The disks of the next run.
@@ -227,23 +252,32 @@ impl Bench {
     }
 
     // The next run.
-    fn run<O: Sink>(&mut self, alloc: Global, out: &mut O) -> Result<(), Fault> {
+    fn run(&mut self, alloc: Global, out: &mut Vec<u8>) -> Result<(), Fault> {
         let mut streams = self.outside.streams(alloc, self.script.text())?;
-        let ended = self.next_run(alloc, &mut streams)?;
-        self.end_run(alloc, streams.out.bytes(), &ended, out)
+        let done = self.run_over(alloc, &mut streams, out);
+        drop(streams);
+        done
     }
 
-    fn next_run(&mut self, alloc: Global, streams: &mut Streams) -> Result<Ended<MemShelf>, Fault> {
+    fn run_over(
+        &mut self,
+        alloc: Global,
+        streams: &mut Streams,
+        out: &mut Vec<u8>,
+    ) -> Result<(), Fault> {
         let shelf = self.shelf(alloc)?;
-        Ok(run(alloc, streams, shelf, &mut self.clock, self.sizes.room))
+        let ended = run(alloc, streams, shelf, &mut self.clock, self.sizes.room);
+        let done = self.end_run(alloc, streams.out.bytes(), &ended, out);
+        drop(ended);
+        done
     }
 
-    fn end_run<O: Sink>(
+    fn end_run(
         &mut self,
         alloc: Global,
         text: &[u8],
         ended: &Ended<MemShelf>,
-        out: &mut O,
+        out: &mut Vec<u8>,
     ) -> Result<(), Fault> {
         print_run(alloc, text, ended, self.watched, &self.windows, out)?;
         self.leave(alloc, &ended.shelf)
@@ -257,17 +291,22 @@ impl Bench {
         Ok(())
     }
 
-    fn sweep<O: Sink>(
+    fn sweep(
         &self,
         alloc: Global,
         rest: &str,
         again: Option<u64>,
-        out: &mut O,
+        out: &mut Vec<u8>,
     ) -> Result<(), Fault> {
         let acts = parse::acts(alloc, rest)?;
         let swing = Swing { acts: &acts, again };
-        let endings = sweep(alloc, &self.swept(), &swing)?;
-        print_lines(out, &endings)
+        let mut endings = BTreeSet::new(alloc);
+        let done = match sweep(alloc, &self.swept(), &swing, &mut endings) {
+            Ok(()) => print_lines(out, &endings),
+            Err(fault) => Err(fault),
+        };
+        drop(endings);
+        done
     }
 
     // What a sweep runs.
@@ -287,59 +326,26 @@ impl Bench {
     }
 
     // A sweep in which the act is done again so many calls later.
-    fn twice<O: Sink>(&self, alloc: Global, rest: &str, out: &mut O) -> Result<(), Fault> {
+    fn twice(&self, alloc: Global, rest: &str, out: &mut Vec<u8>) -> Result<(), Fault> {
         let (later, acts) = parse::split(rest);
         let later = parse::number(later)?;
         self.sweep(alloc, acts, Some(later), out)
     }
 
-    // A run by words.
-    fn words<O: Sink, R: Threads + Wait + Sync>(
+    /// A run by words: `draw` makes what it writes the script, `ends` prints its end, and any other verb all of it.
+    pub(crate) fn by_words<R: Threads + Wait + Sync>(
         &mut self,
         rt: &R,
         alloc: Global,
+        verb: &str,
         rest: &str,
-        out: &mut O,
+        out: &mut Vec<u8>,
     ) -> Result<(), Fault> {
-        let answered = self.answer(rt, alloc, rest)?;
-        print_words(&answered.sinks, out)?;
-        self.end_words(alloc, &answered, out)
-    }
-
-    // The same, of which only the end is printed.
-    fn ends<O: Sink, R: Threads + Wait + Sync>(
-        &mut self,
-        rt: &R,
-        alloc: Global,
-        rest: &str,
-        out: &mut O,
-    ) -> Result<(), Fault> {
-        let answered = self.answer(rt, alloc, rest)?;
-        self.end_words(alloc, &answered, out)
-    }
-
-    // Prints how a run by words ended, and keeps its files as it leaves them.
-    fn end_words<O: Sink>(
-        &mut self,
-        alloc: Global,
-        answered: &Answered,
-        out: &mut O,
-    ) -> Result<(), Fault> {
-        print_given(alloc, answered, self.watched, out)?;
-        self.left = Some(images_of(alloc, &answered.ended.shelf)?);
-        Ok(())
-    }
-
-    // What the program writes by words is the script.
-    fn draw<R: Threads + Wait + Sync>(
-        &mut self,
-        rt: &R,
-        alloc: Global,
-        rest: &str,
-    ) -> Result<(), Fault> {
-        let answered = self.answer(rt, alloc, rest)?;
-        self.left = Some(images_of(alloc, &answered.ended.shelf)?);
-        self.script.replace(answered.sinks.out.bytes())
+        let words = parse::bracketed(alloc, rest)?;
+        let answered = self.answer(rt, alloc, &words)?;
+        let done = self.end_words(alloc, verb, &answered, out);
+        drop(answered);
+        done
     }
 
     // What the program answers to words.
@@ -347,10 +353,43 @@ impl Bench {
         &mut self,
         rt: &R,
         alloc: Global,
-        rest: &str,
+        words: &[Text],
     ) -> Result<Answered, Fault> {
-        let words = parse::bracketed(alloc, rest)?;
+        let mut input = self.outside.source(alloc, self.script.text())?;
+        let mut sinks = make_sinks(alloc, &self.outside)?;
+        let ended = self.answer_over(rt, alloc, words, &mut input, &mut sinks)?;
+        Ok(Answered { ended, sinks })
+    }
+
+    fn answer_over<R: Threads + Wait + Sync>(
+        &mut self,
+        rt: &R,
+        alloc: Global,
+        words: &[Text],
+        input: &mut MemSource,
+        sinks: &mut Sinks,
+    ) -> Result<Ended<MemShelf>, Fault> {
         let files = self.shelf(alloc)?;
-        answer(rt, alloc, &words, self.script.text(), &self.outside, files)
+        Ok(answer(rt, alloc, words, input, sinks, files))
+    }
+
+    // Keeps the files of a run by words as it leaves them.
+    fn end_words(
+        &mut self,
+        alloc: Global,
+        verb: &str,
+        answered: &Answered,
+        out: &mut Vec<u8>,
+    ) -> Result<(), Fault> {
+        match verb {
+            "draw" => self.script.replace(answered.sinks.out.bytes())?,
+            "ends" => print_given(alloc, answered, self.watched, out)?,
+            _ => {
+                print_words(&answered.sinks, out)?;
+                print_given(alloc, answered, self.watched, out)?;
+            }
+        }
+        self.left = Some(images_of(alloc, &answered.ended.shelf)?);
+        Ok(())
     }
 }

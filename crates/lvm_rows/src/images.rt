@@ -26,10 +26,11 @@ pub struct Patch {
 
 /// Zeros, for disks of so many sectors.
 pub(crate) fn zeros(alloc: Global, sectors: &[u64]) -> Result<Vec<Rows<u8>>, Fault> {
-    sectors
-        .iter()
-        .map(|count| zero_image(alloc, *count))
-        .try_collect(alloc)
+    let mut images = Vec::new(alloc);
+    for count in sectors {
+        images.push(zero_image(alloc, *count)?)?;
+    }
+    Ok(images)
 }
 
 fn zero_image(alloc: Global, sectors: u64) -> Result<Rows<u8>, Fault> {
@@ -39,10 +40,11 @@ fn zero_image(alloc: Global, sectors: u64) -> Result<Rows<u8>, Fault> {
 
 /// The same images again.
 pub(crate) fn copied(alloc: Global, images: &[Rows<u8>]) -> Result<Vec<Rows<u8>>, Fault> {
-    images
-        .iter()
-        .map(|image| copied_image(alloc, image))
-        .try_collect(alloc)
+    let mut copies = Vec::new(alloc);
+    for image in images {
+        copies.push(copied_image(alloc, image)?)?;
+    }
+    Ok(copies)
 }
 
 fn copied_image(alloc: Global, image: &Rows<u8>) -> Result<Rows<u8>, Fault> {

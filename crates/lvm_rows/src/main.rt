@@ -51,7 +51,7 @@ mod wrote;
 
 use bench::Bench;
 use fault::Fault;
-use lvm_io::{Sink, StdSink};
+use lvm_io::{Sink, StdSink, write_all};
 use std::alloc::Global;
 use std::io;
 use std::process::ExitCode;
@@ -65,7 +65,9 @@ fn main(rt: HostRuntime) -> ExitCode {
     };
     let mut out = StdSink::new(io::writer(&rt));
     let mut bench = Bench::new(alloc);
-    match take_lines(&rt, alloc, &mut bench, &cases, &mut out) {
+    let stop = take_lines(&rt, alloc, &mut bench, &cases, &mut out);
+    drop(bench);
+    match stop {
         None => ExitCode::SUCCESS,
         Some((fault, line)) => {
             let _ = eprintln!(rt; "{fault}: {line}");
@@ -82,10 +84,40 @@ fn take_lines<'a, O: Sink, R: Threads + Wait + Sync>(
     cases: &'a str,
     out: &mut O,
 ) -> Option<(Fault, &'a str)> {
+    let mut said = Vec::new(alloc);
     for line in cases.lines() {
-        if let Err(fault) = bench.take_line(rt, alloc, line, out) {
+        if let Err(fault) = take_line(rt, alloc, bench, line, &mut said, out) {
             return Some((fault, line));
         }
     }
     None
+}
+
+// Does what a line says, and prints what is said of it.
+fn take_line<O: Sink, R: Threads + Wait + Sync>(
+    rt: &R,
+    alloc: Global,
+    bench: &mut Bench,
+    line: &str,
+    said: &mut Vec<u8>,
+    out: &mut O,
+) -> Result<(), Fault> {
+    said.clear();
+    let done = do_line(rt, alloc, bench, line, said);
+    write_all(out, said)?;
+    done
+}
+
+fn do_line<R: Threads + Wait + Sync>(
+    rt: &R,
+    alloc: Global,
+    bench: &mut Bench,
+    line: &str,
+    said: &mut Vec<u8>,
+) -> Result<(), Fault> {
+    let (verb, rest) = parse::split(line);
+    match verb {
+        "words" | "ends" | "draw" => bench.by_words(rt, alloc, verb, rest, said),
+        _ => bench.take_line(alloc, line, said),
+    }
 }

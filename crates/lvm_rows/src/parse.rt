@@ -41,7 +41,11 @@ pub(crate) fn split(text: &str) -> (&str, &str) {
 
 /// Numbers between blanks.
 pub(crate) fn numbers(alloc: Global, text: &str) -> Result<Vec<u64>, Fault> {
-    text.split_whitespace().map(number).try_collect(alloc)
+    let mut numbers = Vec::new(alloc);
+    for word in text.split_whitespace() {
+        numbers.push(number(word)?)?;
+    }
+    Ok(numbers)
 }
 
 /// The sizes in sectors of disks, of which so many have so many MiB.
@@ -57,11 +61,11 @@ pub(crate) fn simulated(alloc: Global, text: &str) -> Result<Vec<u64>, Fault> {
 // An act by its name and the one word behind it.
 fn act(name: &str, word: &str) -> Result<Act, Fault> {
     match name {
-        "cut" => hexadecimal(word).map(Act::Cut),
-        "pick" => hexadecimal(word).map(Act::Pick),
-        "fail" => disk(word).map(Act::Fail),
-        "heal" => disk(word).map(Act::Heal),
-        "delay" => small(word).map(Act::Delay),
+        "cut" => Ok(Act::Cut(hexadecimal(word)?)),
+        "pick" => Ok(Act::Pick(hexadecimal(word)?)),
+        "fail" => Ok(Act::Fail(disk(word)?)),
+        "heal" => Ok(Act::Heal(disk(word)?)),
+        "delay" => Ok(Act::Delay(small(word)?)),
         _ => Err(Fault::Line),
     }
 }
@@ -79,10 +83,11 @@ pub(crate) fn planned(text: &str) -> Result<Planned, Fault> {
 /// Acts of one name, one for each word behind it.
 pub(crate) fn acts(alloc: Global, text: &str) -> Result<Vec<Act>, Fault> {
     let (name, words) = split(text);
-    words
-        .split_whitespace()
-        .map(|word| act(name, word))
-        .try_collect(alloc)
+    let mut acts = Vec::new(alloc);
+    for word in words.split_whitespace() {
+        acts.push(act(name, word)?)?;
+    }
+    Ok(acts)
 }
 
 /// A disk, and the number of one of its sectors.
@@ -176,10 +181,11 @@ pub(crate) fn bracketed(alloc: Global, text: &str) -> Result<Vec<Text>, Fault> {
 }
 
 fn texts(alloc: Global, inner: &str) -> Result<Vec<Text>, Fault> {
-    inner
-        .split("] [")
-        .map(|word| text_of(alloc, word))
-        .try_collect(alloc)
+    let mut words = Vec::new(alloc);
+    for word in inner.split("] [") {
+        words.push(text_of(alloc, word)?)?;
+    }
+    Ok(words)
 }
 
 fn text_of(alloc: Global, word: &str) -> Result<Text, Fault> {

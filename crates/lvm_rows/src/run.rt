@@ -69,9 +69,11 @@ fn image_of(alloc: Global, shelf: &MemShelf, disk: u16) -> Result<Rows<u8>, Faul
 
 /// What stands on the disks.
 pub(crate) fn images_of(alloc: Global, shelf: &MemShelf) -> Result<Vec<Rows<u8>>, Fault> {
-    (0..shelf.disks())
-        .map(|disk| image_of(alloc, shelf, disk))
-        .try_collect(alloc)
+    let mut images = Vec::new(alloc);
+    for disk in 0..shelf.disks() {
+        images.push(image_of(alloc, shelf, disk)?)?;
+    }
+    Ok(images)
 }
 
 fn are_whole(images: &[Rows<u8>]) -> bool
@@ -84,17 +86,25 @@ fn are_whole(images: &[Rows<u8>]) -> bool
 pub fn restarted(alloc: Global, images: Vec<Rows<u8>>, plan: &[Planned]) -> Result<MemShelf, Fault>
     ensures { IfOk result (λ shelf. IsReady (device_of shelf)) }
 {
-    let plan = Vec::from_slice(alloc, plan)?;
-    started(alloc, images, plan)
+    match Vec::from_slice(alloc, plan) {
+        Ok(plan) => started(alloc, images, plan),
+        Err(_) => {
+            drop(images);
+            Err(Fault::Memory)
+        }
+    }
 }
 
 fn started(alloc: Global, images: Vec<Rows<u8>>, plan: Vec<Planned>) -> Result<MemShelf, Fault>
     ensures { IfOk result (λ shelf. IsReady (device_of shelf)) }
 {
-    if images.is_empty() || images.len() > 128 || !are_whole(&images) {
-        return Err(Fault::Line);
-    }
-    if !names_disks(&plan, images.len() as u16) {
+    if images.is_empty()
+        || images.len() > 128
+        || !are_whole(&images)
+        || !names_disks(&plan, images.len() as u16)
+    {
+        drop(images);
+        drop(plan);
         return Err(Fault::Line);
     }
     Ok(MemShelf::from_images(alloc, Rows::new(images), Rows::new(plan), LOG)?)
@@ -112,6 +122,16 @@ fn bounded(room: Room) -> Room
     }
 }
 
+// How many disks there are, and how many MiB the first one has; 0 where these are more than any run takes.
+fn measures(sizes: &Sizes) -> (u16, u32) {
+    let disks = u16::try_from(sizes.sectors.len()).unwrap_or(0);
+    let mib = match sizes.sectors.first() {
+        Some(sectors) => u32::try_from(*sectors / 2_048).unwrap_or(0),
+        None => 0,
+    };
+    (disks, mib)
+}
+
 /// Runs a workload over disks of 8 to 64 MiB.
 pub(crate) fn run_load(
     alloc: Global,
@@ -123,9 +143,9 @@ pub(crate) fn run_load(
 ) -> Result<Ended<MemShelf>, Fault>
     requires { IsReady (device_of shelf) }
 {
-    let disks = u16::try_from(sizes.sectors.len())?;
-    let mib = u32::try_from(sizes.sectors.first().copied().unwrap_or(0) / 2_048)?;
+    let (disks, mib) = measures(sizes);
     if disks < 1 || disks > 8 || mib < 8 || mib > 64 || load.clients < 1 || load.clients > 64 {
+        drop(shelf);
         return Err(Fault::Line);
     }
     let room = bounded(sizes.room);

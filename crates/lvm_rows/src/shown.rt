@@ -14,21 +14,32 @@ pub struct Window {
     pub count: usize,
 }
 
-// The digits of the bytes in a window.
-fn digits(alloc: Global, shelf: &MemShelf, window: Window) -> Result<String, Fault> {
+// Prints the digits of the bytes in a window.
+fn print_digits(
+    alloc: Global,
+    shelf: &MemShelf,
+    window: Window,
+    out: &mut Vec<u8>,
+) -> Result<(), Fault> {
     let bytes = sector(shelf, window.disk, window.sector).ok_or(Fault::Line)?;
     let end = window.first.saturating_add(window.count);
     let part = bytes.get(window.first..end).ok_or(Fault::Line)?;
-    Ok(hex::encode(alloc, part)?)
+    let digits = hex::encode(alloc, part)?;
+    Ok(out.extend_from_slice(digits.as_bytes())?)
 }
 
-/// The digits of the bytes in each window; nothing where there is none.
-pub(crate) fn shown(alloc: Global, shelf: &MemShelf, windows: &[Window]) -> Result<String, Fault> {
-    let mut text = String::new(alloc);
+/// Prints the digits of the bytes in each window; nothing where there is none.
+pub(crate) fn print_shown(
+    alloc: Global,
+    shelf: &MemShelf,
+    windows: &[Window],
+    out: &mut Vec<u8>,
+) -> Result<(), Fault> {
+    let mut lead = "; shows ";
     for window in windows {
-        let lead = if text.is_empty() { "; shows " } else { " " };
-        text.push_str(lead)?;
-        text.push_str(digits(alloc, shelf, *window)?.as_str())?;
+        out.extend_from_slice(lead.as_bytes())?;
+        print_digits(alloc, shelf, *window, out)?;
+        lead = " ";
     }
-    Ok(text)
+    Ok(())
 }

@@ -7,12 +7,14 @@ ghost use Rattle.lvm_memory.specs.Memory.{device_of};
 use crate::fault::Fault;
 use crate::images::copied;
 use crate::outside::{Outside, Streams};
-use crate::run::{Judged, Sizes, Watched, blank, judge, restarted, run};
+use crate::print::{print_joined, print_judged};
+use crate::run::{Sizes, Watched, blank, judge, restarted, run};
 use crate::script::Script;
-use crate::shown::{Window, shown};
+use crate::shown::{Window, print_shown};
 use lvm_io::MemClock;
 use lvm_memory::{Act, MemShelf, Planned};
 use lvm_num::Rows;
+use lvm_program::Ended;
 use std::alloc::Global;
 use std::collections::BTreeSet;
 
@@ -34,14 +36,13 @@ pub struct Swing<'a> {
     pub again: Option<u64>,
 }
 
-// What is kept of a run: where it read and wrote, how many calls of the disks it made, what its history says, and what
-// it shows of the disks.
+// What is kept of a run: where it read and wrote, how many calls of the disks it made, and what is told of its history
+// and of the disks.
 #[derive(Drop)]
 struct Tried {
     streams: Streams,
     calls: u64,
-    judged: Judged,
-    shown: String,
+    told: Vec<u8>,
 }
 
 // The disks of a run.
@@ -56,24 +57,42 @@ fn disks_of(alloc: Global, swept: &Swept, plan: &[Planned]) -> Result<MemShelf, 
 
 // Runs some of the lines, with a plan.
 fn try_lines(alloc: Global, swept: &Swept, lines: &[u8], plan: &[Planned]) -> Result<Tried, Fault> {
-    let streams = swept.outside.streams(alloc, lines)?;
-    let shelf = disks_of(alloc, swept, plan)?;
-    try_run(alloc, swept, streams, shelf)
+    let mut streams = swept.outside.streams(alloc, lines)?;
+    match try_run(alloc, swept, &mut streams, plan) {
+        Ok((calls, told)) => Ok(Tried {
+            streams,
+            calls,
+            told,
+        }),
+        Err(fault) => {
+            drop(streams);
+            Err(fault)
+        }
+    }
 }
 
-fn try_run(alloc: Global, swept: &Swept, streams: Streams, shelf: MemShelf) -> Result<Tried, Fault>
-    requires { IsReady (device_of shelf) }
-{
-    let mut streams = streams;
+// Runs what the source gives: how many calls it made, and what is told of it.
+fn try_run(
+    alloc: Global,
+    swept: &Swept,
+    streams: &mut Streams,
+    plan: &[Planned],
+) -> Result<(u64, Vec<u8>), Fault> {
+    let shelf = disks_of(alloc, swept, plan)?;
     let mut clock = MemClock::new(7);
-    let ended = run(alloc, &mut streams, shelf, &mut clock, swept.sizes.room);
-    let shown = shown(alloc, &ended.shelf, swept.windows)?;
-    Ok(Tried {
-        streams,
-        calls: ended.shelf.calls(),
-        judged: judge(&ended, swept.watched),
-        shown,
-    })
+    let ended = run(alloc, streams, shelf, &mut clock, swept.sizes.room);
+    let calls = ended.shelf.calls();
+    let told = told_of(alloc, swept, &ended);
+    drop(ended);
+    Ok((calls, told?))
+}
+
+// What is judged of a run, and what it shows of the disks.
+fn told_of(alloc: Global, swept: &Swept, ended: &Ended<MemShelf>) -> Result<Vec<u8>, Fault> {
+    let mut told = Vec::new(alloc);
+    print_judged(judge(ended, swept.watched), &mut told)?;
+    print_shown(alloc, &ended.shelf, swept.windows, &mut told)?;
+    Ok(told)
 }
 
 // The plan of a sweep with an act at a call.
@@ -84,11 +103,12 @@ fn plan_at(
     act: Act,
     again: Option<u64>,
 ) -> Result<Vec<Planned>, Fault> {
-    let later = call.saturating_add(again.unwrap_or(0));
-    let acts = [Planned { call, act }, Planned { call: later, act }];
-    let count = if again.is_some() { 2 } else { 1 };
     let mut plan = Vec::from_slice(alloc, swept.outside.plan())?;
-    plan.extend_from_slice(&acts[..count])?;
+    plan.push(Planned { call, act })?;
+    if let Some(later) = again {
+        let call = call.saturating_add(later);
+        plan.push(Planned { call, act })?;
+    }
     Ok(plan)
 }
 
@@ -98,28 +118,11 @@ fn answers_behind<'a>(before: &[u8], text: &'a [u8]) -> &'a [u8] {
     answers.strip_suffix(b"\n").unwrap_or(answers)
 }
 
-fn put(line: &mut Vec<u8>, byte: u8) -> Result<(), Fault> {
-    match byte {
-        b'\n' => Ok(line.extend_from_slice(b", ")?),
-        _ => Ok(line.push(byte)?),
-    }
-}
-
-/// The answers in one line.
-pub(crate) fn joined(alloc: Global, answers: &[u8]) -> Result<Vec<u8>, Fault> {
-    let mut line = Vec::new(alloc);
-    for byte in answers {
-        put(&mut line, *byte)?;
-    }
-    Ok(line)
-}
-
 // How a run ended, its answers behind those before.
 fn ending(alloc: Global, before: &[u8], tried: &Tried) -> Result<Vec<u8>, Fault> {
-    let mut line = joined(alloc, answers_behind(before, tried.streams.out.bytes()))?;
-    line.extend_from_slice(tried.judged.history.as_bytes())?;
-    line.extend_from_slice(tried.judged.mirror.as_bytes())?;
-    line.extend_from_slice(tried.shown.as_bytes())?;
+    let mut line = Vec::new(alloc);
+    print_joined(answers_behind(before, tried.streams.out.bytes()), &mut line)?;
+    line.extend_from_slice(&tried.told)?;
     Ok(line)
 }
 
@@ -151,7 +154,9 @@ fn try_act(
 ) -> Result<Vec<u8>, Fault> {
     let plan = plan_at(alloc, swept, call, act, again)?;
     let tried = try_lines(alloc, swept, swept.script.text(), &plan)?;
-    ending(alloc, before, &tried)
+    let ending = ending(alloc, before, &tried);
+    drop(tried);
+    ending
 }
 
 // The endings with each act at a call.
@@ -175,7 +180,9 @@ fn sweep_call(
 // How many calls of the disks the lines up to the last marked one make.
 fn calls_through(alloc: Global, swept: &Swept) -> Result<u64, Fault> {
     let tried = try_lines(alloc, swept, swept.script.through(), swept.outside.plan())?;
-    Ok(tried.calls)
+    let calls = tried.calls;
+    drop(tried);
+    Ok(calls)
 }
 
 // The endings with each act at each call from the first to the last one.
@@ -185,32 +192,36 @@ fn sweep_calls(
     swing: &Swing,
     (first, last): (u64, u64),
     before: &[u8],
-) -> Result<BTreeSet<Vec<u8>>, Fault> {
-    let mut endings = BTreeSet::new(alloc);
+    endings: &mut BTreeSet<Vec<u8>>,
+) -> Result<(), Fault> {
     for number in first..=last {
         let call = Call {
             number,
             starts: number.abs_diff(first) % 2 == 0,
         };
-        sweep_call(alloc, swept, swing, call, before, &mut endings)?;
+        sweep_call(alloc, swept, swing, call, before, endings)?;
     }
-    Ok(endings)
+    Ok(())
 }
 
-/// The different answers from the marked lines on, where an act is done before one of their calls.
+/// Adds the different answers from the marked lines on, where an act is done before one of their calls.
 pub(crate) fn sweep(
     alloc: Global,
     swept: &Swept,
     swing: &Swing,
-) -> Result<BTreeSet<Vec<u8>>, Fault> {
+    endings: &mut BTreeSet<Vec<u8>>,
+) -> Result<(), Fault> {
     let last = calls_through(alloc, swept)?;
     let before = try_lines(alloc, swept, swept.script.before(), swept.outside.plan())?;
     let first = before.calls.saturating_add(1);
-    sweep_calls(
+    let done = sweep_calls(
         alloc,
         swept,
         swing,
         (first, last),
         before.streams.out.bytes(),
-    )
+        endings,
+    );
+    drop(before);
+    done
 }

@@ -28,8 +28,8 @@ pub struct Sinks {
     pub images: MemSink,
 }
 
-// The room of the sink for images is said, that of the others is ample.
-fn make_sinks(alloc: Global, outside: &Outside) -> Result<Sinks, Fault> {
+/// The sinks: the room of the one for images is said, that of the others is ample.
+pub(crate) fn make_sinks(alloc: Global, outside: &Outside) -> Result<Sinks, Fault> {
     let images = outside.sink(alloc)?;
     let (out, err) = two_sinks(alloc)?;
     Ok(Sinks { out, err, images })
@@ -41,8 +41,8 @@ fn two_sinks(alloc: Global) -> Result<(MemSink, MemSink), Fault> {
     Ok((out, err))
 }
 
-// Runs the program.
-fn run<R: Threads + Wait + Sync>(
+/// Lets the program answer words over these files.
+pub(crate) fn answer<R: Threads + Wait + Sync>(
     rt: &R,
     alloc: Global,
     words: &[Text],
@@ -64,21 +64,4 @@ fn run<R: Threads + Wait + Sync>(
         files,
         &mut sinks.images,
     )
-}
-
-/// Lets the program answer words, with a script as its input, and over these files.
-pub(crate) fn answer<R: Threads + Wait + Sync>(
-    rt: &R,
-    alloc: Global,
-    words: &[Text],
-    script: &[u8],
-    outside: &Outside,
-    files: MemShelf,
-) -> Result<Answered, Fault>
-    requires { IsReady (device_of files) }
-{
-    let mut input = outside.source(alloc, script)?;
-    let mut sinks = make_sinks(alloc, outside)?;
-    let ended = run(rt, alloc, words, &mut input, &mut sinks, files);
-    Ok(Answered { ended, sinks })
 }

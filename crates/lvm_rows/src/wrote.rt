@@ -1,7 +1,7 @@
 //! Which areas of the disks a run wrote.
 
+use crate::fault::Fault;
 use lvm_num::Rows;
-use std::fmt;
 
 /// The areas in which the disks differ from what they were.
 #[derive(Clone, Copy)]
@@ -22,6 +22,17 @@ impl Wrote {
             data: false,
             elsewhere: false,
         }
+    }
+
+    // Each area, and whether something in it differs.
+    fn areas(self) -> [(bool, &'static str); 5] {
+        [
+            (self.note, " note"),
+            (self.status, " status"),
+            (self.descriptor, " descriptor"),
+            (self.data, " data"),
+            (self.elsewhere, " elsewhere"),
+        ]
     }
 
     // Counts a sector.
@@ -45,6 +56,21 @@ impl Wrote {
     }
 }
 
+/// Says which areas differ.
+pub(crate) fn print_wrote(wrote: Wrote, out: &mut Vec<u8>) -> Result<(), Fault> {
+    out.extend_from_slice(b"wrote")?;
+    let bare = out.len();
+    for (is, name) in wrote.areas() {
+        if is {
+            out.extend_from_slice(name.as_bytes())?;
+        }
+    }
+    if out.len() == bare {
+        out.extend_from_slice(b" nothing")?;
+    }
+    Ok(())
+}
+
 /// The areas in which these disks differ.
 pub(crate) fn compared(before: &[Rows<u8>], after: &[Rows<u8>]) -> Wrote {
     let mut wrote = Wrote::nothing();
@@ -52,26 +78,4 @@ pub(crate) fn compared(before: &[Rows<u8>], after: &[Rows<u8>]) -> Wrote {
         wrote.compare(old.as_slice(), new.as_slice());
     }
     wrote
-}
-
-impl fmt::Display for Wrote {
-    fn fmt<W: fmt::Write>(&self, f: &mut fmt::Formatter<W>) -> fmt::Result {
-        let areas = [
-            (self.note, " note"),
-            (self.status, " status"),
-            (self.descriptor, " descriptor"),
-            (self.data, " data"),
-            (self.elsewhere, " elsewhere"),
-        ];
-        f.write_str("wrote")?;
-        if !areas.iter().any(|(is, _)| *is) {
-            return f.write_str(" nothing");
-        }
-        for (is, name) in areas {
-            if is {
-                f.write_str(name)?;
-            }
-        }
-        Ok(())
-    }
 }

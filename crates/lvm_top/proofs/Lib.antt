@@ -10,6 +10,7 @@ pub mod Begun
 pub mod NewGroupLemmas
 pub mod StandingLemmas
 pub mod LawsLemmas
+pub mod SharingLemmas
 pub mod RefusedLemmas
 pub mod OneGroupLemmas
 pub mod EndingLemmas

@@ -14,3 +14,4 @@ pub mod Plain
 pub mod Left
 pub mod Clock
 pub mod Recovery
+pub mod Sharing

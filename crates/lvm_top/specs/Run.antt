@@ -1,10 +1,10 @@
 -- A run of a script: how it ends, and why.
-use Rattle.std.specs.Prelude.{◌≡◌, ◌⊎◌, ◌<◌, ◌≤◌, ◌+◌, ◌++◌, ℕ, [], length, Option, IfNone, IfSome, None, true}
-use Rattle.lvm_steps.specs.Moments.{ImagesKept, IsUpheld}
+use Rattle.std.specs.Prelude.{◌≡◌, ◌⊎◌, ◌<◌, ◌≤◌, ◌+◌, ◌++◌, ◌∷◌, ℕ, List, [], length, Option, IfNone, IfSome, None, true}
+use Rattle.lvm_steps.specs.Moments.{ImagesKept, IsEarlier, IsUpheld}
 use Rattle.lvm_disk.specs.Device.{Device, IsReady}
 use Rattle.lvm_io.specs.Count.{Rose}
 use Rattle.lvm_io.specs.Stream.{WhereTold}
-use Rattle.lvm_vol.specs.Facts.{joined}
+use Rattle.lvm_vol.specs.Facts.{Cut, Fact, joined}
 use Rattle.lvm_vol.specs.Legal.{Legal}
 use Rattle.lvm_vol.specs.Log.{Log}
 use Rattle.lvm_vol.specs.Order.{Ordered}
@@ -22,6 +22,7 @@ use Rattle.lvm_top.specs.Blank.{IsToldBlank}
 use Rattle.lvm_top.specs.Clock.{AsksForLines, Clocked}
 use Rattle.lvm_top.specs.Plain.{UpholdsPlainly}
 use Rattle.lvm_top.specs.Recovery.{AreRecovered, EndsRecovered}
+use Rattle.lvm_top.specs.Sharing.{AreShared, EndsShared, StayApart}
 
 -- What a run was given and what came of it: the moment that names it and the clock's last one, its rooms, the shelf before and after, what was read and written, its history, its status, and how many lines were refused.
 pub record Run : Type 0 where
@@ -105,11 +106,16 @@ HaveCauses ran = AreForCause ran.lines.script × EndsForCause ran.lines.ends
 abbrev pub HaveRecovered : {r : Run} → IsRun r → Type 0
 HaveRecovered ran = AreRecovered ran.lines.script × EndsRecovered ran.lines.ends
 
+-- in each `splitlvcopy` of the run that was answered `ok` both volumes share their content, after whatever history the entry allows
+abbrev pub HaveShared : {r : Run} → IsRun r → Type 0
+HaveShared {r} ran = (past : List Fact) → IsEarlier r.named r.entry past → AreShared (past ++ Cut ∷ []) ran.lines.script × EndsShared (past ++ Cut ∷ []) ran.lines.ends
+
 -- What every run promises. Its moment was answered by the clock in this call, which was asked no more often than the run and its lines ask. Its lines are as they
 -- should be, and refused for their causes. Where its moment is later than what stands on the disks, and no line made, removed or acted on a volume where another
 -- group was found, the history is legal with what was told before, and each crash image that the disks may leave is kept with it; over disks that hold nothing so
 -- it is without anything told before. So it is of itself where the script has nowhere `-f` and the disks hold one group at most. The clock stays ahead of the
--- disks, and of each crash image unless nothing was heard of a transfer. The history tells of this run alone. Each `varyonvg` brings its group back.
+-- disks, and of each crash image unless nothing was heard of a transfer. The history tells of this run alone. Each `varyonvg` brings its group back. Where no
+-- line found another group, each `splitlvcopy` leaves two volumes that hold the same, of which a write on one leaves the other.
 pub record Promises (asked : Clocked) (r : Run) : Type 0 where
   pub clock : IfSome r.history (λ log. Rose asked.last log.run × (log.run ≤ r.last))
   pub does : IsRun r
@@ -122,3 +128,5 @@ pub record Promises (asked : Clocked) (r : Run) : Type 0 where
   pub ahead_each : IsBehind r.named r.entry → (r.status ≡ ended.Stuck → ⊥) → LeavesBefore (beginning_at (r.last + 1)) r.exit
   pub tells : Ordered r.named [] (facts_of r.history)
   pub recovers : IsBehind r.named r.entry → HaveRecovered does
+  pub shares : RanAlone does → IsBehind r.named r.entry → HaveShared does
+  pub apart : (past : List Fact) → StayApart (joined past (facts_of r.history))

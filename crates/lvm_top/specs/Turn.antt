@@ -1,5 +1,5 @@
 -- How a line of a run is read, and how its reply is written.
-use Rattle.std.specs.Prelude.{◌≡◌, ◌↔◌, ◌⊎◌, ◌≤◌, ◌<◌, ◌+◌, ◌++◌, ℕ, [], ◌∷◌, Bool, List, Option, Some, None, IfSome, false, if◌then◌else◌, length}
+use Rattle.std.specs.Prelude.{◌≡◌, ◌↔◌, ◌⊎◌, ◌≤◌, ◌<◌, ◌+◌, ◌++◌, ℕ, [], Bool, List, Option, Some, None, IfSome, false, if◌then◌else◌, length}
 use Rattle.lvm_io.specs.Count.{Rose}
 use Rattle.lvm_io.specs.Lines.{TakesFirst, has_feed}
 use Rattle.lvm_io.specs.Reading.{Reading, to_come, lines_left, CountsGiven}

@@ -1,5 +1,5 @@
 -- How the posts of a session ended that is over behind a line.
-use Rattle.std.proofs.Common.{◌≡◌, ◌⊎◌, inl, inr, ⊎_elim, ◌≤◌, ◌+◌, ◌++◌, ◌==◌, ℕ, Bool, true, false, if◌then◌else◌, List, [], ◌∷◌, Option, Some, None, refl, sym, ◌∙◌, ap, subst, arith}
+use Rattle.std.proofs.Common.{◌≡◌, ◌⊎◌, inl, inr, ⊎_elim, ◌≤◌, ◌++◌, ◌==◌, ℕ, Bool, true, false, if◌then◌else◌, List, [], ◌∷◌, Option, Some, None, refl, sym, ◌∙◌, ap, subst, arith}
 use Rattle.std.specs.Prelude.{IfSome, IsSomeAnd}
 use Rattle.lvm_disk.specs.Counts.{Counts, Rose}
 use Rattle.lvm_disk.specs.Device.{Device}
@@ -16,7 +16,6 @@ use Rattle.lvm_session.specs.Dark.{all_dark, landings}
 use Rattle.lvm_session.specs.Judging.{is_waiting}
 use Rattle.lvm_session.specs.Sound.{IsSound, outcome_by, outcome_in}
 use Rattle.lvm_session.specs.State.{Core, State, state}
-use Rattle.lvm_posts.specs.Posts.{AreHeld}
 use Rattle.lvm_volume_lines.specs.passed.Tie.{LeavesSession}
 use Rattle.lvm_volume_lines.proofs.passed.Tie.{path_shape}
 use Rattle.lvm_volume_lines.specs.passed.GroupLines.{ArePosted, CutDoes, CutNotPlanned, IsBetween, IsOnBetween, PowerIsCut, Reply, ScriptState, history_after, log_with}
@@ -25,10 +24,17 @@ use Rattle.lvm_line.specs.Told.{OutcomeCause, PostsEndForCause}
 use Rattle.lvm_line.proofs.CausesLemmas.Landing.{landing_cause}
 use Rattle.lvm_line.proofs.CausesLemmas.Turns.{dark_cause, over_counts}
 
+same_outcome : {F G : List Fact} → F ≡ G → (id : ℕ) {how : Outcome} → outcome_in F id ≡ Some how → outcome_in G id ≡ Some how
+same_outcome same id {how} told = subst (λ (fs : List Fact). outcome_in fs id ≡ Some how) same told
+
+none_held : (o : Option Core) → o ≡ None → (P : Core → Type 0) → IsSomeAnd o P → ⊥
+none_held None off P it = it
+none_held (Some core) off P it = cc off
+
 module _ (old new : ScriptState) (between : IsBetween old.moment old.session old.posts) where
   -- without a session none of its posts is there
   off_ends : old.session ≡ None → PostsEndForCause old new
-  off_ends off none k d less own = absurd (subst (λ (on : Option Core). IsSomeAnd on (λ core. AreHeld core _)) off ((between.posted.each k d less).held own))
+  off_ends off none k d less own = absurd (none_held old.session off _ ((between.posted.each k d less).held own))
 
   -- nothing changes
   pub same_ends : new ≡ old → PostsEndForCause old new
@@ -41,10 +47,10 @@ module _ (old new : ScriptState) (between : IsBetween old.moment old.session old
         let counts = over_counts end old.posts old.last new over in
         landing_cause old new core on end sound (path_shape leaves).origin (λ disk. let same = ap (λ (n : Counts). n.faults disk) counts in omega (arith, same))
         (dark_cause old new core end between leaves sound counts)
-        _ how ((over.stood.each k d less).held own j low) (sym (ap (λ (fs : List Fact). outcome_in fs _) over.facts) ∙ told)
+        _ how ((over.stood.each k d less).held own j low) (same_outcome over.facts _ told)
 
     carried_ends : (p : Power) → CarriesBy p end old.posts old.last new → PostsEndForCause old new
-    carried_ends power.On is none = absurd (let e = sym (ap (λ (s : ScriptState). s.session) is) ∙ none in cc e)
+    carried_ends power.On is = λ none. absurd (let e = sym (ap (λ (s : ScriptState). s.session) is) ∙ none in cc e)
     carried_ends power.Off over = over_ends over
     carried_ends power.Dark over = over_ends over
     carried_ends power.Stuck over = over_ends over
@@ -61,23 +67,23 @@ module _ (old new : ScriptState) (between : IsBetween old.moment old.session old
 -- what it enters lands as Dark
 dark_lands : (F : List Fact) (os : List Open) (id : ℕ) (how : Outcome) → outcome_in (landings outcome.Dark F os) id ≡ Some how → how ≡ outcome.Dark
 dark_lands F [] id how e = absurd (cc e)
-dark_lands F (o ∷ os) id how e = by (is_waiting o) _ e
+dark_lands F (o ∷ os) id how e = by (is_waiting o) _ (dark_lands F os id how) e
   where
-    rest : (b : Bool) → (if b then Some outcome.Dark else outcome_in (landings outcome.Dark F os) id) ≡ Some how → how ≡ outcome.Dark
-    rest true is = sym (cc is)
-    rest false is = dark_lands F os id how is
+    rest : (b : Bool) → (outcome_in (landings outcome.Dark F os) id ≡ Some how → how ≡ outcome.Dark) → (if b then Some outcome.Dark else outcome_in (landings outcome.Dark F os) id) ≡ Some how → how ≡ outcome.Dark
+    rest true more is = sym (cc is)
+    rest false more is = more is
 
-    by : (b started : Bool) → outcome_in (if b then landed_fact F o.request.id outcome.Dark started ∷ landings outcome.Dark F os else landings outcome.Dark F os) id ≡ Some how → how ≡ outcome.Dark
-    by true started is = rest ((request_of F o.request.id).id == id) is
-    by false started is = dark_lands F os id how is
+    by : (b started : Bool) → (outcome_in (landings outcome.Dark F os) id ≡ Some how → how ≡ outcome.Dark) → outcome_in (if b then landed_fact F o.request.id outcome.Dark started ∷ landings outcome.Dark F os else landings outcome.Dark F os) id ≡ Some how → how ≡ outcome.Dark
+    by true started more is = rest ((request_of F o.request.id).id == id) more is
+    by false started more is = more is
 
 dark_behind : (facts F : List Fact) (os : List Open) (id : ℕ) (how : Outcome) → outcome_in (facts ++ landings outcome.Dark F os) id ≡ Some how → (outcome_in facts id ≡ Some how) ⊎ (how ≡ outcome.Dark)
 dark_behind [] F os id how e = inr (dark_lands F os id how e)
-dark_behind (f ∷ facts) F os id how e = by (lands_id id f) e
+dark_behind (f ∷ facts) F os id how e = by (lands_id id f) (dark_behind facts F os id how) e
   where
-    by : (b : Bool) → (if b then outcome_by f else outcome_in (facts ++ landings outcome.Dark F os) id) ≡ Some how → ((if b then outcome_by f else outcome_in facts id) ≡ Some how) ⊎ (how ≡ outcome.Dark)
-    by true is = inl is
-    by false is = dark_behind facts F os id how is
+    by : (b : Bool) → (outcome_in (facts ++ landings outcome.Dark F os) id ≡ Some how → (outcome_in facts id ≡ Some how) ⊎ (how ≡ outcome.Dark)) → (if b then outcome_by f else outcome_in (facts ++ landings outcome.Dark F os) id) ≡ Some how → ((if b then outcome_by f else outcome_in facts id) ≡ Some how) ⊎ (how ≡ outcome.Dark)
+    by true more is = inl is
+    by false more is = more is
 
 cut_behind : (facts : List Fact) (id : ℕ) → outcome_in (facts ++ Cut ∷ []) id ≡ outcome_in facts id
 cut_behind [] id = refl
@@ -99,11 +105,11 @@ module _ (log : Log) (word : ℕ) (old new : ScriptState) (between : IsBetween o
     cut_so : (on : Option Core) → old.session ≡ on → IfSome on (IsOnBetween old.moment.device) → ArePosted old.moment.facts on old.posts
         → new.moment.facts ≡ (history_after (arrange.Cut word) true (cut_log (log_with log old.moment.facts)) on).facts → PostsEndForCause old new
     cut_so None off session posted facts = off_ends old new between off
-    cut_so (Some core) on session posted facts none k d less own j how low told =
+    cut_so (Some core) on session posted facts = λ none k d less own j how low told.
         ⊎_elim
         (λ was. landing_cause old new core on (state old.moment.device core) session.sound refl later (λ dark. absurd (let e : power.On ≡ power.Dark = sym session.power ∙ dark in cc e)) _ how ((posted.each k d less).held own j low) was)
         (λ dark. subst (OutcomeCause old new) (sym dark) cuts)
-        (all_dark_lands core _ how (sym (ap (λ (fs : List Fact). outcome_in fs _) facts) ∙ told))
+        (all_dark_lands core _ how (same_outcome facts _ told))
 
   pub cut_ends : (answer : Reply) → CutDoes log word old new answer → PostsEndForCause old new
   cut_ends answer (CutNotPlanned unplanned is) = same_ends old new between is.1

@@ -49,9 +49,9 @@ some_of {X} (x ∷ xs) test P Q some all counted = by (test x) refl (λ rest. so
     by false is rest e = rest e
 
 -- what holds of each beside another thing
-all_second : {X : Type 0} {A : X → Type 0} (P : X → Type 0) (test : X → Bool) (xs : List X) → AllByRecursion (λ (x : X). A x × P x) xs → AllByRecursion (λ (x : X). test x ≡ true → P x) xs
-all_second P test [] all = tt
-all_second P test (x ∷ xs) all = (λ passes. all.0.1, all_second P test xs all.1)
+all_second : {X : Type 0} (A P : X → Type 0) (test : X → Bool) (xs : List X) → AllByRecursion (λ (x : X). A x × P x) xs → AllByRecursion (λ (x : X). test x ≡ true → P x) xs
+all_second A P test [] all = tt
+all_second A P test (x ∷ xs) all = (λ passes. all.0.1, all_second A P test xs all.1)
 
 -- ---- what has happened
 
@@ -68,10 +68,10 @@ module _ (old new : ScriptState) (core : Core) (on : old.session ≡ Some core) 
   landed_for : (o : Open) → AreCounted s o → (how : Outcome) → IsLandedFor s o how → OutcomeCause old new how
   landed_for o counted outcome.Lost cause =
       let one = some_of o.request.targets.items (λ t. t.usable) (λ t. HasFailed s.device t) (IsCounted s) cause.0 cause.1 counted in
-      since (one.0.pp.disk, rose_before one.1.1.began one.1.0)
+      since (one.0.pp.disk, rose_before one.2.began one.1)
   landed_for o counted outcome.ReadFailed cause =
-      let one = some_of o.request.targets.items (λ t. t.usable) (λ t. HasFailed s.device t) (IsCounted s) cause.0 (all_second (λ t. HasFailed s.device t) (λ t. t.usable) o.request.targets.items cause.1) counted in
-      since (one.0.pp.disk, rose_before one.1.1.began one.1.0)
+      let one = some_of o.request.targets.items (λ t. t.usable) (λ t. HasFailed s.device t) (IsCounted s) cause.0 (all_second _ (λ t. HasFailed s.device t) (λ t. t.usable) o.request.targets.items cause.1) counted in
+      since (one.0.pp.disk, rose_before one.2.began one.1)
   landed_for o counted outcome.Off cause = since (loss_is_caused s sound cause.1)
   landed_for o counted outcome.Dark cause = dark cause
   landed_for o counted outcome.Done cause = tt

@@ -82,11 +82,11 @@ module _ (old new : ScriptState) where
   fault_for : (lp have total : ℕ) (how : Outcome) (why : RangeFault) → fault_by lp have total how ≡ Some why → OutcomeCause old new how → PostCause old new why
   fault_for lp have total outcome.Done why is cause = absurd (cc is)
   fault_for lp have total outcome.Got why is cause = absurd (cc is)
-  fault_for lp have total outcome.Lost why is cause = subst (PostCause old new) (cc is) cause
-  fault_for lp have total outcome.ReadFailed why is cause = subst (PostCause old new) (cc is) cause
-  fault_for lp have total outcome.NoFresh why is cause = subst (PostCause old new) (cc is) tt
-  fault_for lp have total outcome.Off why is cause = subst (PostCause old new) (cc is) cause
-  fault_for lp have total outcome.Dark why is cause = subst (PostCause old new) (cc is) cause
+  fault_for lp have total outcome.Lost why is cause = subst (PostCause old new) {x = fault.Lost} (cc is) cause
+  fault_for lp have total outcome.ReadFailed why is cause = subst (PostCause old new) {x = fault.ReadFailed} (cc is) cause
+  fault_for lp have total outcome.NoFresh why is cause = subst (PostCause old new) {x = fault.NoFresh lp} (cc is) tt
+  fault_for lp have total outcome.Off why is cause = subst (PostCause old new) {x = fault.WentOff have total} (cc is) cause
+  fault_for lp have total outcome.Dark why is cause = subst (PostCause old new) {x = fault.Dark} (cc is) cause
 
   module _ (between : IsBetween old.moment old.session old.posts) (core : Core) (on : old.session ≡ Some core) where
     on_first : IsOnBetween old.moment.device core

@@ -24,6 +24,8 @@ use Rattle.lvm_top.proofs.RunLemmas.Firsts.{first_upheld}
 use Rattle.lvm_top.proofs.PlainLemmas.{plainly}
 use Rattle.lvm_top.proofs.ScriptLemmas.Concluding.{at_rest_still, concluded, entry_between, off_still, ran_ahead, ran_ahead_each, run_upheld}
 use Rattle.lvm_top.proofs.LawsLemmas.Recovering.{run_recovers}
+use Rattle.lvm_top.proofs.SharingLemmas.Apart.{stay_apart}
+use Rattle.lvm_top.proofs.SharingLemmas.Splits.{run_shares}
 use Rattle.lvm_top.proofs.RefusedLemmas.{run_causes}
 use Rattle.lvm_top.proofs.ScriptLemmas.Scripting.{Ended, nothing_done, nothing_broken, nothing_heard, nothing_left, lines_ended}
 use Rattle.lvm_top.specs.Statuses.{status_of, at_end, IsAtEnd, GoesUntil}
@@ -266,6 +268,8 @@ module _ {S : Type 0} (device : S → Device) (entry : Device) (run begun last :
       ahead_each = λ clock heard. (ran_ahead_each _ (the_run status says).0 refl clock heard).behind;
       tells = subst (λ (n : ℕ). Ordered n [] kept.facts) named ordered;
       recovers = run_recovers _ (the_run status says).0;
+      shares = run_shares _ (the_run status says).0;
+      apart = λ past. stay_apart _;
     })
 
 -- and of one for which no memory was found
@@ -283,4 +287,6 @@ nothing_promised asked last room device input output ready once = record {
   ahead_each = λ behind heard. nothing_ahead_each last device ready behind;
   tells = tt;
   recovers = run_recovers _ (nothing_ran last room device input output ready);
+  shares = run_shares _ (nothing_ran last room device input output ready);
+  apart = λ past. stay_apart _;
 }

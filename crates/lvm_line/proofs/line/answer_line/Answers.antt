@@ -1,6 +1,5 @@
-use Rattle.std.proofs.Common.{◌∙◌, arith, ap, subst, sym, refl, None, Some, Ok, Option, Result}
+use Rattle.std.proofs.Common.{◌∙◌, arith, ap, subst, sym, refl, None, Ok, Option}
 use Rattle.lvm_parse.specs.declared.command.Command.{Command}
-use Rattle.lvm_parse.specs.declared.rest.Misfit.{Misfit}
 use Rattle.lvm_parse.specs.Grammar.{line_of}
 use Rattle.lvm_parse.proofs.WithinLemmas.{line_is_within}
 use Rattle.lvm_parse.specs.Reading.{misfit}
