@@ -307,13 +307,6 @@ module _ (old : State) (sound : IsSound old) (on : old.core.power ≡ power.On) 
 
     -- ---- the copy
 
-    bring : IfSome copy (IsCopy after)
-    bring = by copy refl left.bring
-      where
-        by : (m : Option OpenCopy) → copy ≡ m → IfSome m (IsCopy mid) → IfSome m (IsCopy after)
-        by None is it = tt
-        by (Some c) is it = bring_on marked core.history requests queue copy pool_now (remove core.flying at) core.cache.entries core.last c (omega arith) (λ e. e) (bring_staler mid due wanted writes like c (entailed.apart c is) it)
-
     reviewed : copy_ends after ≡ None
     reviewed = by copy refl
       where
@@ -423,7 +416,7 @@ module _ (old : State) (sound : IsSound old) (on : old.core.power ≡ power.On) 
 
     -- a copy that is sure and due is a target beside another one, which is sure and isn't
     module _ (lv lp k : ℕ) (q : Pp) (q_there : slice_get (copies_in core.descriptor lv lp) k ≡ Some q) (q_stays : stays_fresh core q ≡ true) (its : is_among (due_of core x.request) q ≡ true) where
-      one : IsDueOne core x.request q
+      abbrev one : IsDueOne core x.request q
       one = due_one core x.request q its
 
       its_target : (j : ℕ) (t : Target) → slice_get now_targets j ≡ Some t → IsTarget core ask t
@@ -488,6 +481,13 @@ module _ (old : State) (sound : IsSound old) (on : old.core.power ≡ power.On) 
         by : (b : Bool) → due found.1 ≡ b → list_any (stays_fresh after) copies ≡ true
         by false none = any_passes_from_place (stays_fresh after) copies found.0 found.1 found.2 (stays_on mid due wanted writes like found.1 found.3 none)
         by true is = of (entailed.due_is found.1 is)
+
+    bring : IfSome copy (IsCopy after)
+    bring = by copy refl left.bring
+      where
+        by : (m : Option OpenCopy) → copy ≡ m → IfSome m (IsCopy mid) → IfSome m (IsCopy after)
+        by None is it = tt
+        by (Some c) is it = bring_on marked core.history requests queue copy pool_now (remove core.flying at) core.cache.entries core.last c (omega arith) (λ e. e) (bring_staler mid due wanted writes like fresh c (entailed.apart c is) it)
 
     -- ---- causes
 

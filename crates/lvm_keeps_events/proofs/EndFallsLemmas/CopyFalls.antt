@@ -232,7 +232,7 @@ copy_read_fail_falls at old new sound on event = by_end (copy_ends mid) refl new
     -- nothing comes to be wanted stale, since it isn't whole
     not_marked : (m : Option CopyEnd) (p : Pp) → marked_by_end mid m p ≡ false
     not_marked None p = refl
-    not_marked (Some how) p = ap (λ (b : Bool). not (is_done_end how) && (b && is_pp p c.pp)) short ∙ and_false (not (is_done_end how))
+    not_marked (Some how) p = ap (λ (b : Bool). not (is_done_end how) && (b && is_pp p c.pp && (not c.moves || is_called_stale mid c.pp))) short ∙ and_false (not (is_done_end how))
 
     status_is : new.core.status ≡ old.core.status
     status_is = event.misses.reviews.marks.same (λ p due. going.behind p (by (is_entailed old.core p) (marked_by_end mid (copy_ends mid) p) (not_marked (copy_ends mid) p) due))

@@ -29,7 +29,7 @@ use Rattle.lvm_session.specs.Judging.{copies_in, group_in, held_of, is_missing, 
 use Rattle.lvm_session.specs.declared.bringing.CopyEnd.TheVariants as ending
 use Rattle.lvm_status.specs.Update.{Stored}
 use Rattle.lvm_session.specs.Events.{IsCopyTransfer}
-use Rattle.lvm_session.specs.Bringing.{copy_ends, hand_of, is_done_end, marked_by_end, end_by_sources, end_of, ends_if, is_cleared, has_row, is_idle, is_out, is_whole, step_row, after_copy_end, next_source, sources_of, with_end}
+use Rattle.lvm_session.specs.Bringing.{copy_ends, hand_of, is_called_stale, is_done_end, marked_by_end, end_by_sources, end_of, ends_if, is_cleared, has_row, is_idle, is_out, is_whole, step_row, after_copy_end, next_source, sources_of, with_end}
 use Rattle.lvm_session.specs.Dark.{hand_of_copy}
 use Rattle.lvm_session.specs.Ends.{EndsAs, after_quit, MissesSource}
 use Rattle.lvm_session.specs.Left.{copy_updates}
@@ -186,7 +186,7 @@ copy_read_fail_keeps at old new sound on event = by_end (copy_ends mid) refl new
     -- nothing comes to be wanted stale, since it isn't whole
     not_marked : (m : Option CopyEnd) (p : Pp) → marked_by_end mid m p ≡ false
     not_marked None p = refl
-    not_marked (Some how) p = ap (λ (b : Bool). not (is_done_end how) && (b && is_pp p c.pp)) short ∙ and_false (not (is_done_end how))
+    not_marked (Some how) p = ap (λ (b : Bool). not (is_done_end how) && (b && is_pp p c.pp && (not c.moves || is_called_stale mid c.pp))) short ∙ and_false (not (is_done_end how))
 
     status_is : new.core.status ≡ old.core.status
     status_is = event.misses.reviews.marks.same (λ p due. going.behind p (by (is_entailed old.core p) (marked_by_end mid (copy_ends mid) p) (not_marked (copy_ends mid) p) due))

@@ -20,7 +20,7 @@ use Rattle.lvm_path.specs.declared.request.Request.{Request}
 use Rattle.lvm_path.specs.declared.target.Target.{Target}
 use Rattle.lvm_session.proofs.MovesLemmas.{stale_of}
 use Rattle.lvm_session.specs.Bringing.{is_called_stale, end_by_sources, end_of, ends_if, groups_of, is_cleared, is_whole, with_copy_end}
-use Rattle.lvm_session.specs.Judging.{all_but_sure, group_in, is_caught, is_kept, is_missing, is_running, is_sure, is_wanted_stale, pps_of}
+use Rattle.lvm_session.specs.Judging.{is_sure_at, all_but_sure, group_in, is_caught, is_kept, is_missing, is_running, is_sure, is_wanted_stale, pps_of}
 use Rattle.lvm_session.specs.State.{Core}
 use Rattle.lvm_session.specs.declared.bringing.CopyEnd.TheVariants as ending
 use Rattle.lvm_session.specs.declared.bringing.OpenCopy.{OpenCopy}
@@ -185,12 +185,12 @@ module _ (core : Core) (going : IsGoing core) (place target : ℕ) (o : Open) (t
         due_is : due_of core x.request ≡ pps_of (all_but_sure core x.request.targets.items)
         due_is = ap (λ (b : Bool). if b then pps_of (due_targets core x.request) else []) over ∙ ap (λ (b : Bool). pps_of (if b then filter has_failed x.request.targets.items else all_but_sure core x.request.targets.items)) unkept
 
-        unsure : (k : ℕ) (t : Target) → slice_get x.request.targets.items k ≡ Some t → is_done t.state ≡ true → is_sure core t.pp ≡ false
-        unsure k t t_there did = of (is_sure core t.pp) refl
+        unsure : (k : ℕ) (t : Target) → slice_get x.request.targets.items k ≡ Some t → is_done t.state ≡ true → is_sure_at core t ≡ false
+        unsure k t t_there did = of (is_sure_at core t) refl
           where
-            of : (b : Bool) → is_sure core t.pp ≡ b → b ≡ false
+            of : (b : Bool) → is_sure_at core t ≡ b → b ≡ false
             of false s = refl
-            of true s = not_so (sym unkept ∙ any_passes_from_place (is_sure_done core) x.request.targets.items k t t_there (all_and (is_done t.state) (is_sure core t.pp) did s))
+            of true s = not_so (sym unkept ∙ any_passes_from_place (is_sure_done core) x.request.targets.items k t t_there (all_and (is_done t.state) (is_sure_at core t) did s))
 
         by : (k : ℕ) (t : Target) → slice_get x.request.targets.items k ≡ Some t → (a b : Bool) → is_done t.state ≡ a → is_caught core group t.pp ≡ b → a && b ≡ false
         by k t t_there false b i j = refl

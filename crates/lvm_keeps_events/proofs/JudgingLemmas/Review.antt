@@ -178,7 +178,7 @@ entailed_on one two p valid same fresh gone replaces is = subst (λ d. list_any 
         let b = both (is_among (copies_of row lp) p && not (is_stale one p)) (is_missing one p.disk) a.0 in
         let c = both (is_among (copies_of row lp) p) (not (is_stale one p)) b.0 in
         let other = found (can_replace one) (copies_of row lp) a.1 in
-        let copy = record { lv = row.number; lp = lp; among = ap (λ ps. is_among ps other.0) (its lp) ∙ any_passes_from_place (is_pp other.0) (copies_of row lp) other.1 other.0 other.2 (own_pp other.0) } in
+        let copy : IsCopyIn one other.0 = record { lv = row.number; lp = lp; among = ap (λ ps. is_among ps other.0) (its lp) ∙ any_passes_from_place (is_pp other.0) (copies_of row lp) other.1 other.0 other.2 (own_pp other.0) } in
         and_of (is_among (copies_of row lp) p && not (is_stale two p) && is_missing two p.disk) (list_any (can_replace two) (copies_of row lp))
         (and_of (is_among (copies_of row lp) p && not (is_stale two p)) (is_missing two p.disk) (and_of (is_among (copies_of row lp) p) (not (is_stale two p)) c.0 (ap not (fresh (is_false (is_stale one p) c.1)))) (gone b.1))
         (any_passes_from_place (can_replace two) (copies_of row lp) other.1 other.0 other.2 (replaces other.0 copy other.3))

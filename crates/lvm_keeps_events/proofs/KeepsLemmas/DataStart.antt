@@ -37,8 +37,8 @@ use Rattle.lvm_session.specs.Events.{IsDataTransfer, begun_as, flown}
 use Rattle.lvm_session.specs.Marks.{is_among}
 use Rattle.lvm_session.specs.Left.{marks_later}
 use Rattle.lvm_session.specs.Owners.{AreOwned, IsDataOf, flies, same_owner, target_flies}
-use Rattle.lvm_session.specs.Requests.{IsJudged, IsOpenOne, IsPhase, IsPinned, IsReady, IsRecorded, IsRequest, IsShaped, IsTarget, has_record, is_left_out, is_past_held, may_lack, mode_for}
-use Rattle.lvm_session.specs.Causes.{AreCaused, AreCounted, IsAnswered, IsCaused, IsChosenSince, IsCounted, IsLandedFor, fails_on, faults_at_opening, is_held_stale}
+use Rattle.lvm_session.specs.Requests.{IsAimed, IsJudged, IsOpenOne, IsPhase, IsPinned, IsReady, IsRecorded, IsRequest, IsShaped, IsTarget, has_record, is_left_out, is_past_held, may_lack, mode_for}
+use Rattle.lvm_session.specs.Causes.{own_faults, AreCaused, AreCounted, IsAnswered, IsCaused, IsChosenSince, IsCounted, IsLandedFor, fails_on, faults_at_opening, is_held_stale}
 use Rattle.lvm_session.specs.Sound.{IsAsked, IsCopy, IsGoing, IsOn, IsSound, IsTold, count_if, has_number, is_dark, is_hand, out_with, pins, with_row}
 use Rattle.lvm_keeps.specs.Keeps.{DataStartKeeps}
 use Rattle.lvm_keeps.proofs.CausesLemmas.{answered_still, copies_still, counted_still, origin_still}
@@ -221,7 +221,11 @@ module _ (s : State) (sound : IsSound s) (on : s.core.power ≡ power.On) (place
       target_on t i = target_still core now.core refl (λ ask. refl) o.request.ask t i
 
       moved : IsTarget core o.request.ask aim → IsTarget core o.request.ask flying
-      moved i = record { copy = i.copy; sector = i.sector; there = i.there }
+      moved i = record { copy = aimed aim.moves i.copy; sector = i.sector; there = i.there }
+        where
+          aimed : (b : Bool) → IsAimed b core o.request.ask aim → IsAimed b core o.request.ask flying
+          aimed false a = a
+          aimed true a = a
 
       a_differ : AllPairs (λ (a b : Target). a.pp ≡ b.pp → ⊥) (slice_set targets target flying)
       a_differ i j d less high e = request.shape.differ i j d less (subst (λ n. j < n) same_long high) (sym (pp_at targets target aim stage.Flying aim_is i d) ∙ e ∙ pp_at targets target aim stage.Flying aim_is j d)
@@ -409,7 +413,7 @@ module _ (s : State) (sound : IsSound s) (on : s.core.power ≡ power.On) (place
       all_set Since Since (λ t is. is) targets target flying (all_at Since targets target aim each aim_is) each
     where
       Since : Target → Type 0
-      Since t = t.pp ≡ p → faults_at_opening c number ≤ t.faults
+      Since t = (t.pp ≡ p → faults_at_opening c number ≤ t.faults) × (t.pp ≡ c.pp → own_faults c ≤ t.faults)
 
   chosen : (c : OpenCopy) → AllByRecursion (IsChosenSince core c) core.requests → AllByRecursion (IsChosenSince now.core c) requests
   chosen c all = all_set (IsChosenSince core c) (IsChosenSince now.core c) (λ x is. is) core.requests place begun (its_chosen c (all_at (IsChosenSince core c) core.requests place o all there)) all

@@ -228,6 +228,17 @@ module _ (s : State) (sound : IsSound s) (on : s.core.power ≡ power.On) (disk 
   told : IsTold now.core
   told = told_still core now.core refl sound.told
 
+  stays : (p : Pp) → stays_fresh core p ≡ stays_fresh now.core p
+  stays p = by (is_held_stale core p) (is_held_stale now.core p) (is_wanted_stale core p) (held_on p)
+    where
+      by : (a b w : Bool) → a || w ≡ b || w → not a && not w ≡ not b && not w
+      by true true w e = refl
+      by false false w e = refl
+      by true false true e = refl
+      by true false false e = absurd cc
+      by false true true e = refl
+      by false true false e = absurd cc
+
   bring : (c : OpenCopy) → IsCopy core c → IsCopy now.core c
   bring c k = copy_marked core now.core c refl (same_next core) k (λ free. free) (kind_by core now.core c c.step c.tried c.end refl refl
       (λ is. (
@@ -304,17 +315,6 @@ module _ (s : State) (sound : IsSound s) (on : s.core.power ≡ power.On) (disk 
       by : (m : Option OpenCopy) → option_map_or (end_of core) m None ≡ None → option_map_or (end_of now.core) m None ≡ None
       by None e = refl
       by (Some c) e = sym (ap (λ b. if not (is_running c) then None else if is_missing core c.pp.disk then Some ending.SyncFailed else if is_whole core c then ends_if (not c.moves && b) ending.Done else end_by_sources core c) (cleared_on c.pp)) ∙ e
-
-  stays : (p : Pp) → stays_fresh core p ≡ stays_fresh now.core p
-  stays p = by (is_held_stale core p) (is_held_stale now.core p) (is_wanted_stale core p) (held_on p)
-    where
-      by : (a b w : Bool) → a || w ≡ b || w → not a && not w ≡ not b && not w
-      by true true w e = refl
-      by false false w e = refl
-      by true false true e = refl
-      by true false false e = absurd cc
-      by false true true e = refl
-      by false true false e = absurd cc
 
   numbers : stamp.seq + updates_left now.core < 2 ^ 32
   numbers = by was

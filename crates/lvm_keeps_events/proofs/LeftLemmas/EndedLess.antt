@@ -92,7 +92,7 @@ module _ (core : Core) (c : OpenCopy) (is : core.copy ≡ Some c) (runs : is_run
   gone_place : (p : Pp) → place_turns now p ≡ 0
   gone_place p = by (not (is_missing core p.disk))
     where
-      by : (b : Bool) → (if b && false then 46 else 0) ≡ 0
+      by : (b : Bool) → ◌≡◌ {A = ℕ} (if b && false then 46 else 0) 0
       by true = refl
       by false = refl
 
