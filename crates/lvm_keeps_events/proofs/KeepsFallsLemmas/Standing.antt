@@ -684,12 +684,12 @@ module _ (s : State) (sound : IsSound s) (on : s.core.power ≡ power.On) (votes
 
           -- a move that runs ends where the disk of its place is missing
           runs_there : (c : OpenCopy) → core.copy ≡ Some c → is_running c ≡ true → is_missing core c.pp.disk ≡ false
-          runs_there c is runs = stays (is_running c) (is_missing core c.pp.disk) runs (sym (ap (λ m. option_map_or (end_of core) m None) is) ∙ going.reviewed)
+          runs_there c is runs = stays (is_running c) (is_missing core c.pp.disk) _ runs (sym (ap (λ m. option_map_or (end_of core) m None) is) ∙ going.reviewed)
             where
-              stays : (a b : Bool) {rest : Option CopyEnd} → a ≡ true → (if not a then None else if b then Some ending.SyncFailed else rest) ≡ None → b ≡ false
-              stays a false e f = refl
-              stays true true e f = absurd (cc f)
-              stays false true e f = not_so e
+              stays : (a b : Bool) (rest : Option CopyEnd) → a ≡ true → (if not a then None else if b then Some ending.SyncFailed else rest) ≡ None → b ≡ false
+              stays a false rest e f = refl
+              stays true true rest e f = absurd (cc f)
+              stays false true rest e f = not_so e
 
           of_place : (m : Option OpenCopy) → core.copy ≡ m → AllByRecursion (λ (p : Pp). is_missing core p.disk ≡ false) (filter (is_caught core (group_in core o.request.ask)) (option_map_or (λ (c : OpenCopy). places_if (c.moves && is_beside_copy core o.request.ask c) c) m []))
           of_place None is = tt
