@@ -697,7 +697,7 @@ module _ (s : State) (sound : IsSound s) (on : s.core.power ≡ power.On) (votes
             where
               caught : (b : Bool) → is_caught core (group_in core o.request.ask) c.pp ≡ b → AllByRecursion (λ (p : Pp). is_missing core p.disk ≡ false) (if b then c.pp ∷ [] else [])
               caught false e = tt
-              caught true e = (runs_there c is (both (is_running c) (is_pp c.pp c.pp && nat_lt (group_in core o.request.ask) c.cursor) (sym (ap (λ m. option_map_or (λ (d : OpenCopy). is_running d && is_pp c.pp d.pp && nat_lt (group_in core o.request.ask) d.cursor) m false) is) ∙ e)).0, tt)
+              caught true e = (runs_there c is (both (is_running c) (is_pp c.pp c.pp) (both (is_running c && is_pp c.pp c.pp) (nat_lt (group_in core o.request.ask) c.cursor) (sym (ap (λ m. option_map_or (λ (d : OpenCopy). is_running d && is_pp c.pp d.pp && nat_lt (group_in core o.request.ask) d.cursor) m false) is) ∙ e)).0).0, tt)
 
               of : (b : Bool) → AllByRecursion (λ (p : Pp). is_missing core p.disk ≡ false) (filter (is_caught core (group_in core o.request.ask)) (places_if b c))
               of false = tt
