@@ -1,3 +1,7 @@
+pub mod AlongLemmas
+pub mod IndexLemmas
+pub mod LinkLemmas
+pub mod NewestLemmas
 pub mod LogLemmas
 pub mod KeepingLemmas
 pub mod passed

@@ -1,3 +1,6 @@
+pub mod Along
+pub mod Linked
+pub mod Places
 pub mod Keeping
 pub mod Opened
 pub mod passed

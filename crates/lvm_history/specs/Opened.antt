@@ -1,8 +1,9 @@
 -- A history's fields as what it keeps.
-use Rattle.std.specs.Prelude.{vec_capacity}
+use Rattle.std.specs.Prelude.{◌≡◌, vec_capacity}
 use Rattle.lvm_history.specs.declared.history.History.TheInside.{Inside}
 use Rattle.lvm_history.specs.passed.CheckerNames.{Log}
 use Rattle.lvm_history.specs.Keeping.{Holdings, log_of, IsSound}
+use Rattle.lvm_history.specs.Places.{IsIndexOf}
 
 abbrev pub kept_of : Inside → Holdings
 kept_of h = record {
@@ -22,5 +23,7 @@ kept_of h = record {
 abbrev pub log_shown : Inside → Log
 log_shown h = log_of (kept_of h)
 
-abbrev pub IsInOrder : Inside → Type 0
-IsInOrder h = IsSound (kept_of h)
+pub record IsInOrder (h : Inside) : Type 0 where
+  pub kept : IsSound (kept_of h)
+  pub indexed : IsIndexOf h.index h.asks.items h.rows.items
+  pub index_fits : h.index.room ≡ h.room

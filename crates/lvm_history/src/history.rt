@@ -1,14 +1,14 @@
 //! The list of what was asked and answered, in room that is made with it.
 ghost use Rattle.std.specs.Prelude.{◌≡◌, ◌==◌, ◌↔◌, ◌+◌, ◌-◌, ◌*◌, ◌%◌, ◌^◌, ◌<◌, ◌≤◌, ◌++◌, [], ◌∷◌, length, IfOk, IsTrue, IsSome, Some, option_copied, slice_get, true, false, vec_len, vec_capacity, replicate, take, drop};
-ghost use Rattle.std.specs.List.{list_any};
 ghost use Rattle.std.specs.Option.{ForSome};
 ghost use Rattle.lvm_history.specs.passed.CheckerNames.{zero_sector, Legal, known, May, Ordered, Begun, empty_log, with_fact, next_id, next_request, asked, request_of, is_open, awaited, is_answered, landed_fact, got_fact, taken_fact, is_plain, plain_fact, spare_entries, open_count, landed_count, spare_bytes, cut_log, is_uncut_after, blocks_begun, blocks_of, entries_of};
-ghost use Rattle.lvm_history.specs.Rows.{is_landing, is_taking};
+ghost use Rattle.lvm_history.specs.Places.{has_landed_in, has_taken_in, landed_index};
 ghost use Rattle.lvm_history.specs.Keeping.{row_of, blocks_first, ask_found, is_open_by, awaited_by, is_answered_by, entry_kept, IsOneOfAsks};
 
 use crate::below::{Entry, Memory, Outcome, Vol};
-use crate::fits::{has_landed, is_legal, is_taken};
-use crate::recent::may_have;
+use crate::along::may_have_along;
+use crate::fits::is_legal;
+use crate::index::{Index, REST, SHAPING, chain_of, plain_chain};
 use crate::row::{Ask, Row};
 use crate::values::Block;
 use std::alloc::Global;
@@ -28,6 +28,8 @@ pub struct History {
     rows: Vec<Row>,
     asks: Vec<Ask>,
     blocks: Vec<[u8; 512]>,
+    // Where the rows stand, by their chains and by the requests' numbers.
+    index: Index,
     // The entries that stand or are kept for the requests that began.
     needed: u32,
     // Whether something was entered since the last cut that a cut would end.
@@ -53,10 +55,11 @@ impl History {
         requires { 4 ≤ entries }
         ensures { IfOk result (λ history. history ≡ empty_log run entries bytes) }
     {
-        let (Ok(rows), Ok(asks), Ok(blocks)) = (
+        let (Ok(rows), Ok(asks), Ok(blocks), Ok(index)) = (
             Vec::with_capacity(alloc, entries as usize),
             Vec::with_capacity(alloc, entries as usize / 3),
             Vec::with_capacity(alloc, (bytes / 512) as usize),
+            Index::new(alloc, entries),
         ) else {
             return Err(Memory);
         };
@@ -67,6 +70,7 @@ impl History {
             rows,
             asks,
             blocks,
+            index,
             needed: 0,
             uncut: false,
         })
@@ -117,21 +121,21 @@ impl History {
     pub fn is_open(&self, id: u64) -> bool
         ensures { result ≡ is_open self.now.facts id }
     {
-        is_open_in(&self.asks, &self.rows, id)
+        is_open_in(&self.asks, &self.index, id)
     }
 
     /// How many blocks the read of this number waits for, if it has begun and not landed.
     pub fn awaited(&self, id: u64) -> Option<u32>
         ensures { result ≡ awaited self.now.facts id }
     {
-        awaited_in(&self.asks, &self.rows, id)
+        awaited_in(&self.asks, &self.index, id)
     }
 
     /// Whether the request of this number is this client's, has landed, and its answer isn't taken.
     pub fn is_answered(&self, client: u32, id: u64) -> bool
         ensures { result ≡ is_answered self.now.facts client id }
     {
-        is_answered_in(&self.asks, &self.rows, client, id)
+        is_answered_in(&self.asks, &self.index, client, id)
     }
 
     /// Enters that a request of `count` blocks from `at` on has begun, a write where bytes are given,
@@ -167,6 +171,8 @@ impl History {
         );
         let id = self.asks.len() as u64;
         append(&mut self.rows, Row::Begun { id });
+        self.index.begin();
+        self.index.add(chain_of(vol, at / 256));
         self.needed += 3;
         self.uncut = true;
         id
@@ -187,6 +193,7 @@ impl History {
                 started,
             },
         );
+        index_landing(&mut self.index, &self.asks, id);
     }
 
     /// Enters that a read has landed with these bytes.
@@ -206,6 +213,7 @@ impl History {
                 started: true,
             },
         );
+        index_landing(&mut self.index, &self.asks, id);
     }
 
     /// Enters that a client has taken the answer of its request.
@@ -214,6 +222,8 @@ impl History {
         ensures { self.new ≡ with_fact self.old (taken_fact self.old.facts id) }
     {
         append(&mut self.rows, Row::Taken { client, id });
+        self.index.take(id);
+        self.index.add(REST);
     }
 
     /// Enters an entry that isn't about a request and isn't a cut.
@@ -222,7 +232,9 @@ impl History {
         requires plain { is_plain entry ≡ true }
         ensures { self.new ≡ with_fact self.old (plain_fact entry) }
     {
-        append(&mut self.rows, plain_row(entry));
+        let row = plain_row(entry);
+        self.index.add(plain_chain(&row));
+        append(&mut self.rows, row);
         self.needed += 1;
         self.uncut = is_uncut_after(self.uncut, entry);
     }
@@ -234,18 +246,27 @@ impl History {
     {
         if self.uncut {
             append(&mut self.rows, Row::Cut);
+            self.index.add(SHAPING);
             self.needed += 1;
             self.uncut = false;
         }
     }
 
     /// Whether the block of the volume may have this value now: its values are unknown, or this is one
-    /// of them. Looks from the newest entry back, up to the first that fixes the block's values.
+    /// of them. Goes along the chains of the block's track group and of what shapes volumes, from the newest entry
+    /// back, up to the first that fixes the block's values.
     pub fn may_of(&self, vol: Vol, block: u64, value: &[u8; 512]) -> bool
         ensures { IsTrue result ↔ May (known self.now.facts vol block) value.now }
     {
         let block = Block { vol, number: block };
-        may_have(&self.rows, &self.asks, &self.blocks, block, value)
+        may_have_along(
+            &self.rows,
+            &self.asks,
+            &self.blocks,
+            &self.index,
+            block,
+            value,
+        )
     }
 
     /// Whether the history is legal: requests are numbered, landed and taken in their order, each lands
@@ -352,26 +373,33 @@ fn ask_of(asks: &[Ask], id: u64) -> Option<Ask>
     }
 }
 
+// Whether the request of this number has landed.
+fn has_landed(index: &Index, id: u64) -> bool
+    ensures { result ≡ has_landed_in index.now id }
+{
+    index.step(id).landed > 0
+}
+
 // Whether the request of this number has begun and not landed.
-fn is_open_in(asks: &[Ask], rows: &[Row], id: u64) -> bool
-    ensures { result ≡ is_open_by (ask_found asks.now id) (list_any (is_landing id) rows.now) }
+fn is_open_in(asks: &[Ask], index: &Index, id: u64) -> bool
+    ensures { result ≡ is_open_by (ask_found asks.now id) (has_landed_in index.now id) }
 {
     match ask_of(asks, id) {
-        Some(_) => !has_landed(rows, id),
+        Some(_) => !has_landed(index, id),
         None => false,
     }
 }
 
 // How many blocks the read of this number waits for.
-fn awaited_in(asks: &[Ask], rows: &[Row], id: u64) -> Option<u32>
-    ensures { result ≡ awaited_by (ask_found asks.now id) (list_any (is_landing id) rows.now) }
+fn awaited_in(asks: &[Ask], index: &Index, id: u64) -> Option<u32>
+    ensures { result ≡ awaited_by (ask_found asks.now id) (has_landed_in index.now id) }
 {
     match ask_of(asks, id) {
         Some(ask) => {
-            if has_landed(rows, id) || ask.write {
-                None
-            } else {
+            if !has_landed(index, id) && !ask.write {
                 Some(ask.count)
+            } else {
+                None
             }
         }
         None => None,
@@ -379,14 +407,26 @@ fn awaited_in(asks: &[Ask], rows: &[Row], id: u64) -> Option<u32>
 }
 
 // Whether the request of this number is this client's, has landed and isn't taken.
-fn is_answered_in(asks: &[Ask], rows: &[Row], client: u32, id: u64) -> bool
-    ensures { let landed = list_any (is_landing id) rows.now in
-        result ≡ is_answered_by (ask_found asks.now id) client landed (list_any (is_taking id) rows.now) }
+fn is_answered_in(asks: &[Ask], index: &Index, client: u32, id: u64) -> bool
+    ensures { let landed = has_landed_in index.now id in
+        result ≡ is_answered_by (ask_found asks.now id) client landed (has_taken_in index.now id) }
 {
     match ask_of(asks, id) {
-        Some(ask) => ask.client == client && has_landed(rows, id) && !is_taken(rows, id),
+        Some(ask) => ask.client == client && has_landed(index, id) && !index.step(id).taken,
         None => false,
     }
+}
+
+// Enters in the index that a request landed by the newest row.
+fn index_landing(index: &mut Index, asks: &[Ask], id: u64)
+    requires id { id - 1 < length asks.now }
+    requires steps { length index.old.steps ≡ length asks.now }
+    requires room { length index.old.chains < index.old.room }
+    ensures { index.new ≡ landed_index index.old asks.now id }
+{
+    let ask = asks[id.saturating_sub(1) as usize];
+    index.add(chain_of(ask.vol, ask.at / 256));
+    index.land(id);
 }
 
 // The row of an entry that is pushed.

@@ -3,9 +3,11 @@
 //! is made with it.
 #![tactic(auto)]
 
+mod along;
 pub mod below;
 mod fits;
 mod history;
+mod index;
 mod recent;
 mod row;
 mod values;

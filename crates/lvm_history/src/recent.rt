@@ -36,7 +36,7 @@ fn told_by_end(outcome: Outcome, started: bool, same: bool) -> Told
 }
 
 /// What a row tells, before which these rows stand.
-fn told_by(
+pub(crate) fn told_by(
     before: &[Row],
     row: &Row,
     asks: &[Ask],
@@ -177,7 +177,7 @@ pub fn may_have(
     true
 }
 
-fn either(a: bool, b: bool) -> bool
+pub(crate) fn either(a: bool, b: bool) -> bool
     ensures { result ≡ (a || b) }
 {
     a || b

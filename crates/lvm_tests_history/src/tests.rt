@@ -1,4 +1,6 @@
+mod draws;
 mod fixtures;
+mod may;
 mod posts;
 mod turn;
 mod vol;

@@ -9,7 +9,7 @@ use Rattle.lvm_history.proofs.KeepingLemmas.{all_bounded, facts_alike}
 use Rattle.lvm_history.proofs.history.History.is_legal.Goals as goal
 
 pub is_legal-requires : goal.is_legal-requires
-is_legal-requires c = ap (λ (l : List Ask). list_all is_bounded l) c.deref-2.ensures.value ∙ all_bounded (kept_of c.self.inside) c.self.invariant
+is_legal-requires c = ap (λ (l : List Ask). list_all is_bounded l) c.deref-2.ensures.value ∙ all_bounded (kept_of c.self.inside) c.self.invariant.kept
 
 pub returns : goal.returns
 returns c =

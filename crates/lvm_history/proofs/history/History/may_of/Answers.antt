@@ -4,8 +4,11 @@ use Rattle.lvm_history.specs.Rows.{facts_of}
 use Rattle.lvm_history.proofs.KeepingLemmas.{facts_alike}
 use Rattle.lvm_history.proofs.history.History.may_of.Goals as goal
 
+pub may_have_along-requires : goal.may_have_along-requires
+may_have_along-requires c = rw (c.deref.ensures.value, c.deref-2.ensures.value) c.self.invariant.indexed
+
 pub returns : goal.returns
 returns c =
     let are : facts_of c.self.inside.run c.deref-2.result.now c.deref-3.result.now c.deref.result.now ≡ c.args.self.now.facts =
     facts_alike c.self.inside.run c.deref-2.ensures.value c.deref-3.ensures.value c.deref.ensures.value ∙ ap (λ (x : Log). x.facts) c.self.view_is in
-    subst (λ (l : List Fact). IsTrue c.may_have.result ↔ May (known l c.args.vol c.args.block) c.args.value.now) are (c.may_have.ensures c.self.inside.run)
+    subst (λ (l : List Fact). IsTrue c.may_have_along.result ↔ May (known l c.args.vol c.args.block) c.args.value.now) are (c.may_have_along.ensures c.self.inside.run)

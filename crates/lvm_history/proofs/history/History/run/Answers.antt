@@ -3,4 +3,4 @@ use Rattle.lvm_history.specs.passed.CheckerNames.{Log, Ordered}
 use Rattle.lvm_history.proofs.history.History.run.Goals as goal
 
 pub returns-clause-ordered : goal.returns-clause-ordered
-returns-clause-ordered c = subst (λ (x : Log). Ordered x.run [] x.facts) c.self.view_is c.self.invariant.its_own.ordered
+returns-clause-ordered c = subst (λ (x : Log). Ordered x.run [] x.facts) c.self.view_is c.self.invariant.kept.its_own.ordered

@@ -7,4 +7,4 @@ use Rattle.lvm_history.proofs.history.History.spare_bytes.Goals as goal
 pub returns : goal.returns
 returns c =
     let bytes = ap (λ (x : Log). x.bytes) c.self.view_is in
-    omega (arith, bytes, blocks_count (kept_of c.self.inside) c.args.self.now c.self.invariant c.self.view_is, c.self.inside.blocks.ok.0, c.len.ensures)
+    omega (arith, bytes, blocks_count (kept_of c.self.inside) c.args.self.now c.self.invariant.kept c.self.view_is, c.self.inside.blocks.ok.0, c.len.ensures)
