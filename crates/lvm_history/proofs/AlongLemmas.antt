@@ -101,12 +101,16 @@ module _ (run : ℕ) (asks : List Ask) (blocks : List (List ℕ)) (rows : List R
       let own = are.its_own in let shaping = are.its_shaping in
       let le_own = newest_le (λ c. c == chain_of vol (b / 256)) 0 index.chains k in
       let le_shaping = newest_le (λ c. c == 4096) 0 index.chains k in
-      let few : place ≤ k = omega (arith, is, own, shaping, le_own, le_shaping) in
-      (still k place few within quiet,
-       (few, record {
-         its_own = own ∙ sym (newest_fewer (λ c. c == chain_of vol (b / 256)) 0 index.chains place k few (omega (arith, is, own)));
-         its_shaping = shaping ∙ sym (newest_fewer (λ c. c == 4096) 0 index.chains place k few (omega (arith, is, shaping)));
-       }))
+      let few : place ≤ k = omega (arith, is, own, shaping, le_own, le_shaping) in (
+        still k place few within quiet,
+        (
+          few,
+          record {
+            its_own = own ∙ sym (newest_fewer (λ c. c == chain_of vol (b / 256)) 0 index.chains place k few (omega (arith, is, own)));
+            its_shaping = shaping ∙ sym (newest_fewer (λ c. c == 4096) 0 index.chains place k few (omega (arith, is, shaping)));
+          },
+        ),
+      )
     where
       its_chain : (i : ℕ) → i < k → get_or index.chains i 0 ≡ chain_in asks (get_or rows i row.Cut)
       its_chain i less = ap (λ (l : List ℕ). get_or l i 0) indexed.its_chains ∙ get_or-map (chain_in asks) rows i row.Cut 0 (omega (arith, less, within))

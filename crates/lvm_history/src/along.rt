@@ -61,7 +61,15 @@ fn older_own(
 }
 
 /// The newest before a row, which tells of the block of one volume what those before it tell of another.
-fn older(index: &Index, row: &Row, vol: Vol, source: Vol, group: u64, among: u32, places: Places) -> Places
+fn older(
+    index: &Index,
+    row: &Row,
+    vol: Vol,
+    source: Vol,
+    group: u64,
+    among: u32,
+    places: Places,
+) -> Places
     requires group { group < 2 ^ 56 }
     requires among { among < length index.now.chains }
     requires places { ArePlaces index.now vol group (among + 1) places }

@@ -5,8 +5,8 @@ ghost use Rattle.lvm_history.specs.passed.CheckerNames.{zero_sector, Legal, know
 ghost use Rattle.lvm_history.specs.Places.{has_landed_in, has_taken_in, landed_index};
 ghost use Rattle.lvm_history.specs.Keeping.{row_of, blocks_first, ask_found, is_open_by, awaited_by, is_answered_by, entry_kept, IsOneOfAsks};
 
-use crate::below::{Entry, Memory, Outcome, Vol};
 use crate::along::may_have_along;
+use crate::below::{Entry, Memory, Outcome, Vol};
 use crate::fits::is_legal;
 use crate::index::{Index, REST, SHAPING, chain_of, plain_chain};
 use crate::row::{Ask, Row};

@@ -17,7 +17,7 @@ add-requires-clause-room c =
 pub invariant_of-self : goal.invariant_of-self
 invariant_of-self c = record {
   kept = (cut_adds (kept_of c.self.inside) (kept_of (record c.self.inside { rows = c.append.new.items; needed = c.self.inside.needed + 1; uncut = false })) c.args.self.now c.self.invariant.kept c.self.view_is c.if-self.true
-    (record { its_rows = c.append.ensures.items; rest = refl; more = c.append.ensures.capacity }) refl).0;
+      (record { its_rows = c.append.ensures.items; rest = refl; more = c.append.ensures.capacity }) refl).0;
   indexed = rw (c.add.ensures, c.append.ensures.items)
       (aside_indexed c.self.inside.index c.self.inside.asks.items c.self.inside.rows.items row.Cut (cut_aside c.self.inside.asks.items) c.self.invariant.indexed);
   index_fits = ap (λ (x : Indexed). x.room) c.add.ensures ∙ c.self.invariant.index_fits;

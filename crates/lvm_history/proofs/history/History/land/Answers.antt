@@ -24,8 +24,12 @@ index_landing-requires-clause-steps c = c.self.invariant.indexed.count ∙ sym (
 
 pub index_landing-requires-clause-room : goal.index_landing-requires-clause-room
 index_landing-requires-clause-room c =
-    omega (arith, chains_count c.self.inside.index c.self.inside.asks.items c.self.inside.rows.items c.self.invariant.indexed, c.self.invariant.index_fits,
-    landed_room (tight (kept_of c.self.inside)) c.args.self.now c.args.id c.args.outcome c.args.started (tight_sound (kept_of c.self.inside) c.self.invariant.kept) c.self.view_is c.requires)
+    omega (
+      arith,
+      chains_count c.self.inside.index c.self.inside.asks.items c.self.inside.rows.items c.self.invariant.indexed,
+      c.self.invariant.index_fits,
+      landed_room (tight (kept_of c.self.inside)) c.args.self.now c.args.id c.args.outcome c.args.started (tight_sound (kept_of c.self.inside) c.self.invariant.kept) c.self.view_is c.requires,
+    )
 
 pub invariant_of-self : goal.invariant_of-self
 invariant_of-self c =

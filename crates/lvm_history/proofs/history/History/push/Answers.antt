@@ -18,8 +18,12 @@ append-requires c = omega (arith, pushed_room (kept_of c.self.inside) c.args.sel
 
 pub add-requires-clause-room : goal.add-requires-clause-room
 add-requires-clause-room c =
-    omega (arith, chains_count c.self.inside.index c.self.inside.asks.items c.self.inside.rows.items c.self.invariant.indexed, c.self.invariant.index_fits,
-    pushed_room (tight (kept_of c.self.inside)) c.args.self.now c.args.entry (tight_sound (kept_of c.self.inside) c.self.invariant.kept) c.self.view_is c.requires.spare)
+    omega (
+      arith,
+      chains_count c.self.inside.index c.self.inside.asks.items c.self.inside.rows.items c.self.invariant.indexed,
+      c.self.invariant.index_fits,
+      pushed_room (tight (kept_of c.self.inside)) c.args.self.now c.args.entry (tight_sound (kept_of c.self.inside) c.self.invariant.kept) c.self.view_is c.requires.spare,
+    )
 
 pub invariant_of-self : goal.invariant_of-self
 invariant_of-self c = record {

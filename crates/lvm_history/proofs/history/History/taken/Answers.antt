@@ -18,8 +18,14 @@ take-requires c = omega (arith, (log_ask (kept_of c.self.inside) c.args.self.now
 
 pub add-requires-clause-room : goal.add-requires-clause-room
 add-requires-clause-room c =
-    omega (arith, chains_count c.self.inside.index c.self.inside.asks.items c.self.inside.rows.items c.self.invariant.indexed, c.self.invariant.index_fits, ap (λ (x : Indexed). length x.chains) c.take.ensures, ap (λ (x : Indexed). x.room) c.take.ensures,
-    taken_room (tight (kept_of c.self.inside)) c.args.self.now c.args.client c.args.id (tight_sound (kept_of c.self.inside) c.self.invariant.kept) c.self.view_is c.requires)
+    omega (
+      arith,
+      chains_count c.self.inside.index c.self.inside.asks.items c.self.inside.rows.items c.self.invariant.indexed,
+      c.self.invariant.index_fits,
+      ap (λ (x : Indexed). length x.chains) c.take.ensures,
+      ap (λ (x : Indexed). x.room) c.take.ensures,
+      taken_room (tight (kept_of c.self.inside)) c.args.self.now c.args.client c.args.id (tight_sound (kept_of c.self.inside) c.self.invariant.kept) c.self.view_is c.requires,
+    )
 
 pub invariant_of-self : goal.invariant_of-self
 invariant_of-self c = record {
