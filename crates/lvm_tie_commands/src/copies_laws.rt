@@ -31,7 +31,7 @@ pub fn split_goes_on()
 {}
 
 /// Behind a split that is answered with a number both volumes are there, and each block that wasn't loose has one value on
-/// all usable copies of both. A later write on one of them changes no block of the other.
+/// all usable copies of both. Where data changes at most in partitions of one volume of a group, no block of another does.
 pub fn split_shares()
     ensures same { SplitShares }
     ensures apart { WritesStayApart }

@@ -92,6 +92,10 @@ fn tidy_away<S: Shelf>(
 /// Varies the group of the name off, if it is on and none of its requests is open. Where no volume of it is dirty nothing
 /// is written, and transfers that are out stay so. Else turns are made first until nothing is under way, and the marks
 /// go that aren't needed.
+///
+/// Refused by `NoGroup` where this group isn't on, and by `Busy` while a request of it isn't answered. With a dirty volume
+/// also by what the turns and the status come to: `Dark` (the power was cut), `Stuck` (nothing was heard a million times) or
+/// `WentOff` (too few votes are left).
 pub fn do_varyoff<S: Shelf>(stage: Stage<S>, name: Name) -> Answered<S>
     requires fits { IsFittingStage stage }
     requires between { IsBetweenStage S.device stage }

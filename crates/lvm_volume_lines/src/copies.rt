@@ -65,6 +65,12 @@ fn remove_copies<S: Shelf>(
 
 /// Gives the volume of the name in the group that is on further copies, until it has so many, if no request of the group
 /// is open. Turns are made first until nothing is under way, and the name is looked up then.
+///
+/// Refused by `NoGroup` where no group is on, `Busy` while a request of it isn't answered, `NoVolume` for the name, `CopyLimit`
+/// for no more copies than it has or more than three, `NoRoom` where first fit finds no place, `HistoryFull` where the history
+/// or the numbers have no room, and `Memory` where memory runs out.
+/// The turns and the writes of records may end it by `Dark` (the power was cut), `Stuck` (nothing was heard a million times)
+/// or `WentOff` (too few votes are left).
 pub fn do_mklvcopy<S: Shelf>(alloc: Global, stage: Stage<S>, name: Name, copies: u8) -> Answered<S>
     requires fits { IsFittingStage stage }
     requires between { IsBetweenStage S.device stage }
@@ -93,6 +99,12 @@ pub fn do_mklvcopy<S: Shelf>(alloc: Global, stage: Stage<S>, name: Name, copies:
 
 /// Leaves the volume of the name in the group that is on the first copies of each logical partition, so many, if no
 /// request of the group is open. Turns are made first until nothing is under way, and the name is looked up then.
+///
+/// Refused by `NoGroup` where no group is on, `Busy` while a request of it isn't answered, `NoVolume` for the name, `CopyLimit`
+/// for no copy or no fewer than it has, `LastFresh` where no copy that would stay can be used beside a fresh one that would go,
+/// `HistoryFull` where the history or the numbers have no room, and `Memory` where memory runs out.
+/// The turns and the writes of records may end it by `Dark` (the power was cut), `Stuck` (nothing was heard a million times)
+/// or `WentOff` (too few votes are left).
 pub fn do_rmlvcopy<S: Shelf>(alloc: Global, stage: Stage<S>, name: Name, copies: u8) -> Answered<S>
     requires fits { IsFittingStage stage }
     requires between { IsBetweenStage S.device stage }

@@ -97,6 +97,11 @@ fn sync_volume_on<S: Shelf>(
 }
 
 /// Brings up the stale copies of a volume of the group that is on, beside its requests.
+///
+/// Refused by `NoGroup` where no group is on, `NoVolume` for the name, `HistoryFull` where the history has no room, and
+/// by what the turns come to: `Dark` (the power was cut), `Stuck` (nothing was heard a million times), `WentOff` (too few votes
+/// are left) or `HistoryFull`. Where all copies have been passed and one stayed stale it is refused by the first cause of
+/// `SyncFailed`, `NoFresh` and `Missing`.
 pub fn do_sync_volume<S: Shelf>(stage: Stage<S>, name: Name) -> Answered<S>
     requires fits { IsFittingStage stage }
     requires between { IsBetweenStage S.device stage }
@@ -156,6 +161,11 @@ fn sync_group_on<S: Shelf>(
 }
 
 /// Brings up the stale copies of the group of the name, if it is on, beside its requests.
+///
+/// Refused by `NoGroup` where this group isn't on, `HistoryFull` where the history has no room, and
+/// by what the turns come to: `Dark` (the power was cut), `Stuck` (nothing was heard a million times), `WentOff` (too few votes
+/// are left) or `HistoryFull`. Where all copies have been passed and one stayed stale it is refused by the first cause of
+/// `SyncFailed`, `NoFresh` and `Missing`.
 pub fn do_sync_group<S: Shelf>(stage: Stage<S>, name: Name) -> Answered<S>
     requires fits { IsFittingStage stage }
     requires between { IsBetweenStage S.device stage }

@@ -43,6 +43,13 @@ fn split_volume<S: Shelf>(
 /// Leaves the volume of the name in the group that is on the first copies of each logical partition, so many, and makes a
 /// volume of the others under the name that is made, if no request of the group is open. Turns are made first until nothing
 /// is under way, and both names are looked up then.
+///
+/// Refused by `NoGroup` where no group is on, `Busy` while a request of it isn't answered, `NoVolume` and `VolumeExists` for
+/// the two names, `CopyLimit` for no copy or no fewer than it has, `StaleCopy` where a copy that would leave can't be used,
+/// `LastFresh` where none that would stay can be, `TooMany` where the group has as many volumes as it may, `HistoryFull`
+/// where the history or the numbers have no room, and `Memory` where memory runs out.
+/// The turns and the writes of records may end it by `Dark` (the power was cut), `Stuck` (nothing was heard a million times)
+/// or `WentOff` (too few votes are left).
 pub fn do_splitlvcopy<S: Shelf>(
     alloc: Global,
     stage: Stage<S>,

@@ -280,6 +280,13 @@ fn remove_volume<S: Shelf>(
 
 /// Makes a volume in a group, if that is on and none of its requests is open. Turns are made first until nothing is
 /// under way.
+///
+/// Refused by `NoGroup` where no group is on, `Busy` while a request of it isn't answered, `VolumeExists` for the name,
+/// `CopyLimit` for no copy or more than three, `TooMany` where the group has as many volumes as it may, `NoRoom` where first
+/// fit finds no place, `HistoryFull` where the history or the numbers have no room, `DiskFailed` where zeros can't be written,
+/// and `Memory` where memory runs out.
+/// The turns and the writes of records may end it by `Dark` (the power was cut), `Stuck` (nothing was heard a million times)
+/// or `WentOff` (too few votes are left).
 pub fn do_mklv<S: Shelf>(
     alloc: Global,
     stage: Stage<S>,
@@ -326,6 +333,11 @@ pub fn do_mklv<S: Shelf>(
 
 /// Removes the volume of the name from the group that is on, if none of its requests is open. Turns are made first until
 /// nothing is under way, and the name is looked up then.
+///
+/// Refused by `NoGroup` where no group is on, `Busy` while a request of it isn't answered, `NoVolume` for the name, `HistoryFull`
+/// where the history or the numbers have no room, and `Memory` where memory runs out.
+/// The turns and the writes of records may end it by `Dark` (the power was cut), `Stuck` (nothing was heard a million times)
+/// or `WentOff` (too few votes are left).
 pub fn do_rmlv<S: Shelf>(alloc: Global, stage: Stage<S>, name: Name) -> Answered<S>
     requires fits { IsFittingStage stage }
     requires between { IsBetweenStage S.device stage }

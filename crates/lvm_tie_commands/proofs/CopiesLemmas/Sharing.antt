@@ -92,7 +92,7 @@ module _ (N : Descriptor → Type 0) (old new : State) where
   low_commit content d s value of = let w = of.0 in let fits = of.2.frames.content in record_low w.kind (w.slots d) of.2.its.its.part (length w.framed.content) s (of.2.slots d) fits of.2.its.its.inside of.2.its.its.place
 
   -- so a command that writes records alone leaves data as it was
-  data_stays : (was is : Image) → ChangesBy (IsOfCommand N NoPartition old new) was is → (d s : ℕ) → (contents_of is).block d s ≡ (contents_of was).block d s
+  pub data_stays : (was is : Image) → ChangesBy (IsOfCommand N NoPartition old new) was is → (d s : ℕ) → (contents_of is).block d s ≡ (contents_of was).block d s
   data_stays was is change = data-same was is (λ d s high. ⊎_elim
       (λ same. same)
       (λ (brought : IsOfCommand N NoPartition old new d s (is.sector d s)). absurd (below d s (is.sector d s) high brought))
@@ -158,7 +158,7 @@ module _ (c : Contents) (group : Descriptor) (status : Status) (there : Disks) (
       ∙ no_more (is_off (known facts (Lv row.number) b).mode)
 
   -- where no write of it is open, the usable copies hold one value at a block that isn't loose
-  holds_one : HoldOne c group.mib (fresh_on there (Some shows.stands) row lp) b
+  pub holds_one : HoldOne c group.mib (fresh_on there (Some shows.stands) row lp) b
   holds_one = by row.mode refl
     where
       by : (m : Mode) → row.mode ≡ m → HoldOne c group.mib (fresh_on there (Some shows.stands) row lp) b
@@ -171,7 +171,7 @@ module _ (c : Contents) (group : Descriptor) (status : Status) (there : Disks) (
           (blocks_of row lp b one inside).equal
 
 -- of two lists
-both_lists : (P : Pp → Type 0) (xs ys : List Pp) → AllByRecursion P xs → AllByRecursion P ys → AllByRecursion P (xs ++ ys)
+pub both_lists : (P : Pp → Type 0) (xs ys : List Pp) → AllByRecursion P xs → AllByRecursion P ys → AllByRecursion P (xs ++ ys)
 both_lists P [] ys one two = two
 both_lists P (x ∷ xs) ys one two = (one.0, both_lists P xs ys one.1 two)
 

@@ -1,50 +1,32 @@
 -- Behind a split both volumes hold the same, by what its line says of the writes and the status.
-use Rattle.std.proofs.Common.{◌≡◌, inl, inr, ⊎_elim, ℕ, ◌+◌, ◌<◌, ◌≤◌, Bool, true, false, ◌&&◌, ◌||◌, not, List, [], ◌∷◌, ◌++◌, length, Option, Some, refl, sym, ap, subst, ◌∙◌, arith}
+use Rattle.std.proofs.Common.{◌≡◌, ⊎_elim, ℕ, ◌+◌, true, ◌&&◌, not, List, ◌++◌, Option, Some, refl, sym, ap, subst, ◌∙◌}
 use Rattle.std.specs.Prelude.{IsTrue, IsFalse}
 use Rattle.std.specs.List.{AllByRecursion}
 use Rattle.std.proofs.lemmas.Bool.{and_from, cases_Bool, not-true as not_so, not_from_false}
 use Rattle.lvm_num.specs.declared.descriptor.Descriptor.{Descriptor}
 use Rattle.lvm_num.specs.declared.descriptor.LvRow.{LvRow}
-use Rattle.lvm_num.specs.declared.descriptor.Mode.{Mode}
-use Rattle.lvm_num.specs.declared.descriptor.Mode.TheVariants.{Active, Passive, Off}
 use Rattle.lvm_num.specs.declared.place.Pp.{Pp}
-use Rattle.lvm_num.specs.declared.record.Kind.{Kind}
-use Rattle.lvm_num.specs.declared.record.Kind.TheVariants as kind
 use Rattle.lvm_num.specs.declared.status.Status.{Status}
-use Rattle.lvm_num.specs.Buffer.{Sector}
 use Rattle.lvm_num.specs.Descriptor.{copies_of, is_member, volume_of}
-use Rattle.lvm_num.specs.DescriptorBytes.{descriptor_bytes}
-use Rattle.lvm_num.specs.Disks.{Disks}
-use Rattle.lvm_num.specs.Geometry.{data_start, sector_of}
-use Rattle.lvm_num.specs.Record.{Stamped, longest_content, record_sectors, slot_start}
+use Rattle.lvm_num.specs.Geometry.{sector_of}
+use Rattle.lvm_num.specs.Record.{Stamped}
 use Rattle.lvm_num.specs.Status.{calls_stale}
-use Rattle.lvm_num.specs.Votes.{CanWrite, all_disks}
 use Rattle.lvm_num.proofs.AmongLemmas.{of_passing}
 use Rattle.lvm_num.proofs.Booleans.{clash, first_holds, second_holds}
 use Rattle.lvm_num.proofs.Lists.{of_told}
-use Rattle.lvm_disk.specs.Device.{Image, Media, image_of}
+use Rattle.lvm_disk.specs.Device.{Media, image_of}
 use Rattle.lvm_disk.specs.Steps.{BothTold}
 use Rattle.lvm_vol.specs.declared.entry.Vol.TheVariants.{Lv}
-use Rattle.lvm_vol.specs.Facts.{Cut, Fact, Request}
-use Rattle.lvm_vol.specs.May.{Known, is_off, is_some_open, known}
-use Rattle.lvm_vol.proofs.LawsLemmas.Knowing.{known-push}
-use Rattle.lvm_kept.specs.Committed.{IsWithinDisks}
+use Rattle.lvm_vol.specs.Facts.{Fact}
+use Rattle.lvm_vol.specs.May.{known}
 use Rattle.lvm_kept.specs.Contents.{Contents, contents_of}
-use Rattle.lvm_kept.specs.Group.{HoldOne, IsBlockOf, IsOneOf, ReadsBy, block_at, fresh_on, is_stale_by, members_in}
-use Rattle.lvm_kept.specs.Kept.{BlocksKept, Kept, MayDiffer}
+use Rattle.lvm_kept.specs.Group.{HoldOne, IsBlockOf, IsOneOf, block_at, fresh_on, is_stale_by}
 use Rattle.lvm_kept.specs.Moments.{Calm}
 use Rattle.lvm_kept.specs.Plans.{ChangesBy}
-use Rattle.lvm_kept.proofs.CommittedLemmas.Finding.{finding_reads, images_within}
-use Rattle.lvm_kept.proofs.PlacesLemmas.{data-same}
+use Rattle.lvm_kept.proofs.CommittedLemmas.Finding.{images_within}
 use Rattle.lvm_steps.specs.Moments.{Holds}
-use Rattle.lvm_steps.proofs.GroupLemmas.Members.{member_of_parts}
-use Rattle.lvm_steps.proofs.LawsLemmas.Writes.{slot_below}
 use Rattle.lvm_steps.proofs.MakingLemmas.Making.{media_may}
-use Rattle.lvm_commit.specs.Committed.{ShowsCommitted}
-use Rattle.lvm_commit.specs.Settling.{IsOfCommit, IsOfStatus}
-use Rattle.lvm_commit.proofs.LawsLemmas.Found.{shows_group, status_read}
 use Rattle.lvm_commit.proofs.passed.Names.{at_passing}
-use Rattle.lvm_settled.specs.passed.Names.{IsEven}
 use Rattle.lvm_map.proofs.PlacesLemmas.{volume_at}
 use Rattle.lvm_write.specs.Written.{KeepsShelf}
 use Rattle.lvm_write.proofs.WrittenLemmas.Writing.{if_told}
@@ -64,105 +46,9 @@ use Rattle.lvm_tie_commands.specs.Sharing.{HoldTheSame, ShareContent}
 use Rattle.lvm_tie_commands.proofs.CommandsLemmas.Commands.{still_there}
 use Rattle.lvm_tie_commands.proofs.BeginsLemmas.{Held}
 use Rattle.lvm_tie_commands.proofs.CalmLemmas.{calm_since}
+use Rattle.lvm_tie_commands.proofs.CopiesLemmas.Sharing.{both_lists, data_stays, holds_one}
 use Rattle.lvm_tie_commands.proofs.SettledLemmas.Leaving.{its_disks_hold, its_rest}
 use Rattle.lvm_tie_commands.proofs.Resting.{landed, rests}
-
--- ---- records stand below the data
-
-record_low : (kind : Kind) (slot part len s : ℕ) → slot < 2 → len ≤ longest_content kind → part < record_sectors len → s ≡ slot_start kind slot + part → s < data_start
-record_low kind.Descriptor slot part len s two fits inside place = subst (λ (n : ℕ). n < data_start) (sym place) (slot_below kind.Descriptor slot part two (omega (arith, fits, inside)))
-record_low kind.Status slot part len s two fits inside place = subst (λ (n : ℕ). n < data_start) (sym place) (slot_below kind.Status slot part two (omega (arith, fits, inside)))
-
-module _ (N : Descriptor → Type 0) (old new : State) where
-  low_status : (d s : ℕ) (value : Sector) → IsOfStatus old.core.status new.core.status d s value → s < data_start
-  low_status d s value of = let w = of.0 in let fits = of.2.frames.content in record_low w.kind (w.slots d) of.2.its.its.part (length w.framed.content) s (of.2.slots d) fits of.2.its.its.inside of.2.its.its.place
-
-  low_commit : (content : List ℕ) (d s : ℕ) (value : Sector) → IsOfCommit content old.core.status new.core.status d s value → s < data_start
-  low_commit content d s value of = let w = of.0 in let fits = of.2.frames.content in record_low w.kind (w.slots d) of.2.its.its.part (length w.framed.content) s (of.2.slots d) fits of.2.its.its.inside of.2.its.its.place
-
-  -- so a command that writes records alone leaves data as it was
-  data_stays : (was is : Image) → ChangesBy (IsOfCommand N NoPartition old new) was is → (d s : ℕ) → (contents_of is).block d s ≡ (contents_of was).block d s
-  data_stays was is change = data-same was is (λ d s high. ⊎_elim
-      (λ same. same)
-      (λ (brought : IsOfCommand N NoPartition old new d s (is.sector d s)). absurd (below d s (is.sector d s) high brought))
-      (change.each d s))
-    where
-      below : (d s : ℕ) (value : Sector) → data_start ≤ s → IsOfCommand N NoPartition old new d s value → ⊥
-      below d s value high (inl of) = let low = low_status d s value of in omega (arith, high, low)
-      below d s value high (inr (inl of)) = let low = low_commit (descriptor_bytes of.0) d s value of.2 in omega (arith, high, low)
-      below d s value high (inr (inr of)) = absurd of.1
-
--- ---- one value at each block of the volume
-
-not_off : Active ≡ Off → ⊥
-not_off e = absurd cc
-
-nor_off : Passive ≡ Off → ⊥
-nor_off e = absurd cc
-
-no_more : (t : Bool) → t && false ≡ false
-no_more true = refl
-no_more false = refl
-
-abbrev passing : Option (Stamped Status) → Disks → Pp → Bool
-passing stands set p = set p.disk && not (is_stale_by stands p)
-
-module _ (c : Contents) (group : Descriptor) (status : Status) (there : Disks) (facts : List Fact) (shows : ShowsCommitted c group status there) (within : IsWithinDisks c) (enough : CanWrite group there)
-    (even : IsEven c group (Some shows.stands) there) (kept : Kept c facts) (row : LvRow) (one : IsOneOf group.lvs row) (lp b : ℕ) (inside : IsBlockOf group.mib row lp b)
-    (closed : (known facts (Lv row.number) b).open_writes ≡ []) (firm : IsFalse (known facts (Lv row.number) b).loose) where
-  abbrev shown : Option (Stamped Status)
-  shown = Some shows.stands
-
-  abbrev members : Disks
-  members = members_in c all_disks group.id group
-
-  abbrev after_cut : Known
-  after_cut = known (facts ++ Cut ∷ []) (Lv row.number) b
-
-  by_all : ReadsBy c all_disks group.id group
-  by_all = finding_reads c all_disks group.id group shows.found
-
-  blocks_of : BlocksKept c facts group members (Some shows.stands)
-  blocks_of = subst (λ (o : Option (Stamped Status)). BlocksKept c facts group members o) (status_read c group status there shows facts within enough kept all_disks group by_all.reads)
-      (kept.lasting.across all_disks group.id group group by_all.reads (all_disks, shows.found))
-
-  wider : (p : Pp) → IsTrue (passing (Some shows.stands) there p) → IsTrue (passing (Some shows.stands) members p)
-  wider p is =
-      let here = first_holds (there p.disk) (not (is_stale_by shown p)) is in
-      and_from (members p.disk) (not (is_stale_by shown p)) (member_of_parts c all_disks group.id group p.disk refl (shows_group c group status there shows p.disk here) (shows.room p.disk here))
-      (second_holds (there p.disk) (not (is_stale_by shown p)) is)
-
-  fewer : HoldOne c group.mib (fresh_on members (Some shows.stands) row lp) b → HoldOne c group.mib (fresh_on there (Some shows.stands) row lp) b
-  fewer hold = (
-    hold.0,
-    of_passing (λ (p : Pp). block_at c group.mib p b ≡ hold.0) (passing shown there) (copies_of row lp) (λ p copy is.
-        at_passing (λ (p : Pp). block_at c group.mib p b ≡ hold.0) (passing shown members) (copies_of row lp) hold.1 p copy (wider p is)),
-  )
-
-  -- no more is loose after a cut
-  is_firm : IsFalse after_cut.loose
-  is_firm = ap (λ (k : Known). k.loose) (known-push facts Cut (Lv row.number) b)
-      ∙ ap (λ (t : Bool). t || (is_off (known facts (Lv row.number) b).mode && is_some_open (known facts (Lv row.number) b).open_writes)) firm
-      ∙ ap (λ (rs : List Request). is_off (known facts (Lv row.number) b).mode && is_some_open rs) closed
-      ∙ no_more (is_off (known facts (Lv row.number) b).mode)
-
-  -- where no write of it is open, the usable copies hold one value at a block that isn't loose
-  holds_one : HoldOne c group.mib (fresh_on there (Some shows.stands) row lp) b
-  holds_one = by row.mode refl
-    where
-      by : (m : Mode) → row.mode ≡ m → HoldOne c group.mib (fresh_on there (Some shows.stands) row lp) b
-      by Active is = even row lp b one (λ off. not_off (sym is ∙ off)) inside
-      by Passive is = even row lp b one (λ off. nor_off (sym is ∙ off)) inside
-      by Off is = ⊎_elim
-          (λ (hold : HoldOne c group.mib (fresh_on members (Some shows.stands) row lp) b). fewer hold)
-          (λ (loose : MayDiffer c shown row.number row.mode (fresh_on members shown row lp) after_cut b).
-          absurd (clash after_cut.loose (subst (λ (m : Mode). MayDiffer c shown row.number m (fresh_on members shown row lp) after_cut b) is loose) is_firm))
-          (blocks_of row lp b one inside).equal
-
--- of two lists
-both_lists : (P : Pp → Type 0) (xs ys : List Pp) → AllByRecursion P xs → AllByRecursion P ys → AllByRecursion P (xs ++ ys)
-both_lists P [] ys one two = two
-both_lists P (x ∷ xs) ys one two = (one.0, both_lists P xs ys one.1 two)
 
 -- ---- behind the split
 
