@@ -29,9 +29,11 @@ pub record Range : Type 0 where
   pub first : ℕ
   pub count : ℕ
 
--- of a shelf that does nothing but what it is ordered: how often its power was cut, and for each disk whether an arrangement lets it fail now
+-- Of a shelf that does nothing but what it is ordered: how often its power was cut, how often a disk was ordered to fail, and for each disk whether an
+-- arrangement lets it fail now.
 pub record Ordered : Type 0 where
   pub cuts : ℕ
+  pub fails : ℕ
   pub failing : List Bool
 
 -- How many arrangements were made, the last of them, and what they made of a shelf that heeds them alone. Of any other nothing is told: its disks may fail, its power may go and its reaps may end nothing, by themselves.

@@ -174,7 +174,7 @@ MayArrange device (arrange.Cut word) = Unit {0}
 
 -- what it makes of a shelf that heeds orders alone, with its power on or off; one that is off is cut no more
 abbrev pub after_order : Bool → Arrange → Ordered → Ordered
-after_order power (arrange.Fail disk) ordered = record ordered { failing = slice_set ordered.failing disk true }
+after_order power (arrange.Fail disk) ordered = record ordered { fails = next_count ordered.fails; failing = slice_set ordered.failing disk true }
 after_order power (arrange.Heal disk) ordered = record ordered { failing = slice_set ordered.failing disk false }
 after_order power (arrange.Cut word) ordered = record ordered { cuts = if power then next_count ordered.cuts else ordered.cuts }
 

@@ -20,36 +20,36 @@ use Rattle.lvm_memory.proofs.TicketsLemmas.{none_more}
 -- ---- what is told
 
 pub same_ordered :
-    (heeds : Bool) (cuts cuts1 : ℕ) (failing failing1 : List Bool) → cuts1 ≡ cuts → (heeds ≡ true → failing1 ≡ failing) → ordered_of heeds cuts1 failing1 ≡ ordered_of heeds cuts failing
-same_ordered true cuts cuts1 failing failing1 same fails = let still = fails refl in λ i. ordered_of true (same i) (still i)
-same_ordered false cuts cuts1 failing failing1 same fails = refl
+    (heeds : Bool) (cuts cuts1 count : ℕ) (failing failing1 : List Bool) → cuts1 ≡ cuts → (heeds ≡ true → failing1 ≡ failing) → ordered_of heeds cuts1 count failing1 ≡ ordered_of heeds cuts count failing
+same_ordered true cuts cuts1 count failing failing1 same fails = let still = fails refl in λ i. ordered_of true (same i) count (still i)
+same_ordered false cuts cuts1 count failing failing1 same fails = refl
 
 -- a cut that was ordered
 pub cut_ordered :
-    (heeds : Bool) (cuts cuts1 : ℕ) (failing : List Bool) (power : Bool) (word : ℕ) → power ≡ true → cuts1 ≡ next_count cuts
-    → ordered_of heeds cuts1 failing ≡ ordered_by power (arrange.Cut word) (ordered_of heeds cuts failing)
-cut_ordered true cuts cuts1 failing power word on once = ap (λ (n : ℕ). ordered_of true n failing) (once ∙ ap (λ (b : Bool). cond b (next_count cuts) cuts) (sym on))
-cut_ordered false cuts cuts1 failing power word on once = refl
+    (heeds : Bool) (cuts cuts1 count : ℕ) (failing : List Bool) (power : Bool) (word : ℕ) → power ≡ true → cuts1 ≡ next_count cuts
+    → ordered_of heeds cuts1 count failing ≡ ordered_by power (arrange.Cut word) (ordered_of heeds cuts count failing)
+cut_ordered true cuts cuts1 count failing power word on once = ap (λ (n : ℕ). ordered_of true n count failing) (once ∙ ap (λ (b : Bool). cond b (next_count cuts) cuts) (sym on))
+cut_ordered false cuts cuts1 count failing power word on once = refl
 
 pub cuts_as_ordered :
-    (heeds : Bool) (cuts cuts1 : ℕ) (failing : List Bool) (power : Bool) (word : ℕ) → power ≡ true → cuts1 ≡ next_count cuts
-    → IfSome (ordered_by power (arrange.Cut word) (ordered_of heeds cuts failing)) (λ (ordered : Ordered). cuts1 ≡ ordered.cuts)
-cuts_as_ordered true cuts cuts1 failing power word on once = once ∙ ap (λ (b : Bool). cond b (next_count cuts) cuts) (sym on)
-cuts_as_ordered false cuts cuts1 failing power word on once = tt
+    (heeds : Bool) (cuts cuts1 count : ℕ) (failing : List Bool) (power : Bool) (word : ℕ) → power ≡ true → cuts1 ≡ next_count cuts
+    → IfSome (ordered_by power (arrange.Cut word) (ordered_of heeds cuts count failing)) (λ (ordered : Ordered). cuts1 ≡ ordered.cuts)
+cuts_as_ordered true cuts cuts1 count failing power word on once = once ∙ ap (λ (b : Bool). cond b (next_count cuts) cuts) (sym on)
+cuts_as_ordered false cuts cuts1 count failing power word on once = tt
 
 pub fails_as_ordered :
-    (heeds : Bool) (cuts : ℕ) (failing : List Bool) (disk : ℕ) → slice_index_or failing disk false ≡ true → IfSome (ordered_of heeds cuts failing) (λ (ordered : Ordered). slice_index_or ordered.failing disk false ≡ true)
-fails_as_ordered true cuts failing disk fails = fails
-fails_as_ordered false cuts failing disk fails = tt
+    (heeds : Bool) (cuts count : ℕ) (failing : List Bool) (disk : ℕ) → slice_index_or failing disk false ≡ true → IfSome (ordered_of heeds cuts count failing) (λ (ordered : Ordered). slice_index_or ordered.failing disk false ≡ true)
+fails_as_ordered true cuts count failing disk fails = fails
+fails_as_ordered false cuts count failing disk fails = tt
 
 -- ---- of a shelf that doesn't heed orders alone nothing is told
 
 some_none : (o : Ordered) → Some o ≡ None → ⊥
 some_none o e = cc e
 
-pub heeds_not : (heeds : Bool) (cuts : ℕ) (failing : List Bool) → ordered_of heeds cuts failing ≡ None → heeds ≡ true → ⊥
-heeds_not true cuts failing none heeds = some_none _ none
-heeds_not false cuts failing none heeds = cc heeds
+pub heeds_not : (heeds : Bool) (cuts count : ℕ) (failing : List Bool) → ordered_of heeds cuts count failing ≡ None → heeds ≡ true → ⊥
+heeds_not true cuts count failing none heeds = some_none _ none
+heeds_not false cuts count failing none heeds = cc heeds
 
 -- any disk may fail
 pub fails_unheeding : (alone : Option Ordered) (disk : ℕ) → alone ≡ None → IfSome alone (λ (ordered : Ordered). slice_index_or ordered.failing disk false ≡ true)

@@ -28,8 +28,8 @@ pub record Bench : Type 0 where
   pub room : ℕ
 
 -- what orders made of it, where it heeds them alone
-abbrev pub ordered_of : Bool → ℕ → List Bool → Option Ordered
-ordered_of heeds cuts failing = if heeds then Some (record { cuts = cuts; failing = failing }) else None
+abbrev pub ordered_of : Bool → ℕ → ℕ → List Bool → Option Ordered
+ordered_of heeds cuts fails failing = if heeds then Some (record { cuts = cuts; fails = fails; failing = failing }) else None
 
 -- a shelf that was just made; without a plan it heeds orders alone
 abbrev pub fresh_bench : List (List Sector) → List Planned → ℕ → Bench
@@ -42,7 +42,7 @@ fresh_bench disks plan room = record {
     power = true;
     counts = counts_of (record { starts = replicate (length disks) 0; misses = replicate (length disks) 0; faults = replicate (length disks) 0; cuts = 0; waits = 0 });
     arranges = true;
-    orders = record { made = 0; last = None; alone = ordered_of (length plan == 0) 0 (replicate (length disks) false) };
+    orders = record { made = 0; last = None; alone = ordered_of (length plan == 0) 0 0 (replicate (length disks) false) };
     wrote = Some [];
   };
   injection = record { plan = plan; calls = 0; failing = replicate (length disks) false; pick = 0; delay = 0 };

@@ -22,7 +22,7 @@ device_of s = record {
   power = s.power;
   counts = counts_of s.tally;
   arranges = true;
-  orders = record { made = s.orders; last = s.last; alone = ordered_of s.heeds s.tally.cuts s.injector.failing };
+  orders = record { made = s.orders; last = s.last; alone = ordered_of s.heeds s.tally.cuts s.fails s.injector.failing };
   wrote = s.log.wrote;
 }
 

@@ -36,6 +36,8 @@ pub struct MemShelf {
     injector: Injector,
     log: WriteLog,
     orders: u64,
+    // How often a disk was ordered to fail.
+    fails: u64,
     last: Option<Arrange>,
     // Whether it does nothing but what it is ordered.
     heeds: bool,
@@ -113,6 +115,7 @@ impl MemShelf {
             injector,
             log,
             orders: 0,
+            fails: 0,
             last: None,
             heeds,
         })
@@ -410,7 +413,10 @@ impl Shelf for MemShelf {
         self.orders = self.orders.saturating_add(1);
         self.last = Some(what);
         match what {
-            Arrange::Fail(disk) => self.injector.set_failing(disk, true),
+            Arrange::Fail(disk) => {
+                self.fails = self.fails.saturating_add(1);
+                self.injector.set_failing(disk, true)
+            }
             Arrange::Heal(disk) => self.injector.set_failing(disk, false),
             Arrange::Cut(word) => self.cut(word),
         }

@@ -1,5 +1,5 @@
 -- Shelves that do nothing but what they are ordered.
-use Rattle.std.specs.Prelude.{◌≡◌, ◌-◌, ◌^◌, ◌<◌, ℕ, false, Some, slice_index_or}
+use Rattle.std.specs.Prelude.{◌≡◌, ◌-◌, ◌^◌, ◌<◌, ℕ, false, Some, option_map, slice_index_or}
 use Rattle.lvm_disk.specs.Counts.{Counts}
 use Rattle.lvm_disk.specs.Device.{Ordered, Device}
 use Rattle.lvm_disk.specs.Paths.{DeviceStep, Path}
@@ -18,12 +18,17 @@ AloneLaw = (old new : Device) → DeviceStep old new → HeedsAlone old → Heed
 abbrev pub AlwaysLaw : Type 0
 AlwaysLaw = (first last : Device) → Path DeviceStep (λ d. Unit {0}) first last → HeedsAlone first → Path DeviceStep HeedsAlone first last
 
--- nor is any disk ordered to fail; and neither cuts nor orders were counted up to the last value
+-- nor is any disk ordered to fail; and neither cuts nor orders to fail were counted up to the last value
 pub record IsWell (device : Device) : Type 0 where
   pub heeds : HeedsAlone device
   pub well : (disk : ℕ) → slice_index_or heeds.ordered.failing disk false ≡ false
   pub few_cuts : device.counts.cuts < 2 ^ 64 - 1
-  pub few_orders : device.orders.made < 2 ^ 64 - 1
+  pub few_fails : heeds.ordered.fails < 2 ^ 64 - 1
+
+-- no disk was ordered to fail between, nor the power to be cut; a disk may have been healed
+pub record OrdersNoHarm (old new : Device) : Type 0 where
+  pub cuts : option_map (λ (o : Ordered). o.cuts) new.orders.alone ≡ option_map (λ (o : Ordered). o.cuts) old.orders.alone
+  pub fails : option_map (λ (o : Ordered). o.fails) new.orders.alone ≡ option_map (λ (o : Ordered). o.fails) old.orders.alone
 
 -- no transfer failed, the power wasn't cut, and no reap ended nothing
 pub record NothingFailed (old new : Counts) : Type 0 where
@@ -32,9 +37,9 @@ pub record NothingFailed (old new : Counts) : Type 0 where
   pub cuts : new.cuts ≡ old.cuts
   pub waits : new.waits ≡ old.waits
 
--- so it is over any steps among which no order is made
+-- so it is over any steps among which no such order is made
 abbrev pub WellLaw : Type 0
-WellLaw = (first last : Device) → Path DeviceStep (λ d. Unit {0}) first last → IsWell first → last.orders.made ≡ first.orders.made → NothingFailed first.counts last.counts
+WellLaw = (first last : Device) → Path DeviceStep (λ d. Unit {0}) first last → IsWell first → OrdersNoHarm first last → NothingFailed first.counts last.counts
 
 -- no transfer has failed ever, the power was never cut, and no reap has ended nothing
 pub record NothingCounted (counts : Counts) : Type 0 where
@@ -50,4 +55,4 @@ pub record IsUnharmed (device : Device) : Type 0 where
 
 -- it stays so too
 abbrev pub UnharmedLaw : Type 0
-UnharmedLaw = (first last : Device) → Path DeviceStep (λ d. Unit {0}) first last → IsUnharmed first → last.orders ≡ first.orders → IsUnharmed last
+UnharmedLaw = (first last : Device) → Path DeviceStep (λ d. Unit {0}) first last → IsUnharmed first → OrdersNoHarm first last → IsUnharmed last

@@ -12,6 +12,6 @@ fresh = record {
   power = true;
   counts = record { starts = λ d. 0; misses = λ d. 0; faults = λ d. 0; cuts = 0; waits = 0 };
   arranges = true;
-  orders = record { made = 0; last = None; alone = Some (record { cuts = 0; failing = false ∷ [] }) };
+  orders = record { made = 0; last = None; alone = Some (record { cuts = 0; fails = 0; failing = false ∷ [] }) };
   wrote = None;
 }

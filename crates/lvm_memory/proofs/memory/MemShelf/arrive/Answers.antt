@@ -27,10 +27,10 @@ returns-then-fails-clause-gives c =
     let s = c.args.self.now in
     let flying = c.take_flight-flying.result in
     subst (λ (o : Option Ordered). EndsFailed (device_of s) (record (device_of s) { sizes = sizes_of c.tear_flight.new.disks.items; media = Some (media_of c.tear_flight.new.disks.items); flights = flights_of c.take_flight-flying.new.flights.items; counts = counts_of c.count_failure.new.self; orders = record (device_of s).orders { alone = o } }) flying.ticket flying.buf)
-    (sym (same_ordered s.heeds s.tally.cuts c.count_failure.new.self.cuts s.injector.failing s.injector.failing c.count_failure.ensures.cuts (λ heeds. refl)))
+    (sym (same_ordered s.heeds s.tally.cuts c.count_failure.new.self.cuts s.fails s.injector.failing s.injector.failing c.count_failure.ensures.cuts (λ heeds. refl)))
     (failed (device_of s) (flight_of flying) c.args.place c.pick.result flying.buf (media_of s.disks.items) (media_of c.tear_flight.new.disks.items) (sizes_of c.tear_flight.new.disks.items)
     (flights_of c.take_flight-flying.new.flights.items) (counts_of c.count_failure.new.self) c.requires.power refl c.take_flight-flying.ensures.there c.tear_flight.ensures.disks.sizes
-    c.take_flight-flying.ensures.flights c.tear_flight.ensures.torn refl c.count_failure.ensures.counted (fails_as_ordered s.heeds s.tally.cuts s.injector.failing flying.disk (sym c.if-fails.ensures)))
+    c.take_flight-flying.ensures.flights c.tear_flight.ensures.torn refl c.count_failure.ensures.counted (fails_as_ordered s.heeds s.tally.cuts s.fails s.injector.failing flying.disk (sym c.if-fails.ensures)))
 
 pub returns-then-fails-clause-planned : goal.returns-then-fails-clause-planned
 returns-then-fails-clause-planned c =

@@ -15,9 +15,9 @@ returns-then-self-clause-dark c = inr (record {
     media = torn_like c.args.word (flights_of c.args.self.now.flights.items) (media_of c.args.self.now.disks.items) (media_of c.cut_flights.new.disks.items) c.cut_flights.ensures.cut;
     cuts = c.count_cut.ensures.rose;
     once = c.count_cut.ensures.once;
-    ordered = cuts_as_ordered c.args.self.now.heeds c.args.self.now.tally.cuts c.count_cut.new.self.cuts c.args.self.now.injector.failing c.args.self.now.power c.args.word c.if-self.true c.count_cut.ensures.once;
+    ordered = cuts_as_ordered c.args.self.now.heeds c.args.self.now.tally.cuts c.count_cut.new.self.cuts c.args.self.now.fails c.args.self.now.injector.failing c.args.self.now.power c.args.word c.if-self.true c.count_cut.ensures.once;
     new_is = darkened (let_cut c.args.word (device_of c.args.self.now)) _ (media_of c.cut_flights.new.disks.items) _ _ _ _ _ c.cut_flights.ensures.disks.sizes (ap flights_of c.cut_flights.ensures.buffers.none) c.cut_flights.ensures.buffers.buffers
-        (ap counts_of c.count_cut.ensures.same) (λ i. record (device_of c.args.self.now).orders { alone = cut_ordered c.args.self.now.heeds c.args.self.now.tally.cuts c.count_cut.new.self.cuts c.args.self.now.injector.failing c.args.self.now.power c.args.word c.if-self.true c.count_cut.ensures.once i });
+        (ap counts_of c.count_cut.ensures.same) (λ i. record (device_of c.args.self.now).orders { alone = cut_ordered c.args.self.now.heeds c.args.self.now.tally.cuts c.count_cut.new.self.cuts c.args.self.now.fails c.args.self.now.injector.failing c.args.self.now.power c.args.word c.if-self.true c.count_cut.ensures.once i });
   };
   picked = c.cut_flights.ensures.cut;
 })

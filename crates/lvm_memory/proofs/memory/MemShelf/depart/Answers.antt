@@ -33,5 +33,5 @@ returns-clause-starts c =
     let free : has_ticket flying.ticket (flights_of s.flights.items) ≡ false =
     subst (λ (l : List Flying). has_ticket flying.ticket (flights_of l) ≡ false) c.deref.ensures.value c.free_ticket-ticket.ensures.least.free in
     subst (λ (o : Option Ordered). Starts (device_of s) (record (device_of s) { flights = flights_of c.push.new.self.items; counts = counts_of c.count_start.new.self; orders = record (device_of s).orders { alone = o }; wrote = c.note.new.self.wrote }) (flight_of flying))
-    (sym (same_ordered s.heeds s.tally.cuts c.count_start.new.self.cuts s.injector.failing c.take_delay-delay.new.self.failing (ap (λ (t : Tallied). t.cuts) c.count_start.ensures.same) (λ heeds. ap (λ (i : Injection). i.failing) c.take_delay-delay.ensures.none)))
+    (sym (same_ordered s.heeds s.tally.cuts c.count_start.new.self.cuts s.fails s.injector.failing c.take_delay-delay.new.self.failing (ap (λ (t : Tallied). t.cuts) c.count_start.ensures.same) (λ heeds. ap (λ (i : Injection). i.failing) c.take_delay-delay.ensures.none)))
     (started (device_of s) (flight_of flying) s.log.room (flights_of c.push.new.self.items) (counts_of c.count_start.new.self) c.note.new.self.wrote c.requires.power free is c.count_start.ensures.rose (ap counts_of c.count_start.ensures.same) c.note.ensures.wrote)
