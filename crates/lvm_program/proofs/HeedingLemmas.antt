@@ -6,8 +6,8 @@ use Rattle.lvm_disk.specs.Paths.{DeviceStep, Path, Here, Then}
 use Rattle.lvm_disk.specs.Steps.{GoesDark, after_order, ordered_by, with_order}
 use Rattle.lvm_disk.specs.declared.shelf.Arrange.{Arrange}
 use Rattle.lvm_disk.specs.declared.shelf.Arrange.TheVariants as arrange
-use Rattle.lvm_order_laws.specs.Alone.{IsUnharmed, NothingCounted}
-use Rattle.lvm_order_laws.proofs.AloneLemmas.{heeds_always, stays_unharmed}
+use Rattle.lvm_order_laws.specs.Alone.{IsUnharmed, NothingCounted, OrdersNoHarm}
+use Rattle.lvm_order_laws.proofs.AloneLemmas.{both_harmless, heal_harmless, heeds_always, same_harmless, stays_unharmed}
 use Rattle.lvm_vol.specs.Log.{Log}
 use Rattle.lvm_kept.specs.Moments.{Moment, Step, Moves, Enters}
 use Rattle.lvm_parse.specs.declared.command.Command.{Command}
@@ -29,7 +29,7 @@ use Rattle.lvm_group_lines.specs.declared.reply.Refusal.TheVariants as refusal
 use Rattle.lvm_line.specs.passed.ReplyVariants as reply
 use Rattle.lvm_top.specs.Ending.{Concludes, NoneIsOn, NoneIsServed, IsServed, NothingIsLeft, TurnsAreMade}
 use Rattle.lvm_top.proofs.passed.Tie.{path_frames}
-use Rattle.lvm_program.specs.Heeding.{AreNoOrders, AreUntroubled, EndsNoOrder, EndsUntroubled, GoesWell, IsNoOrder, IsTroubled, IsUntroubled, RanUnordered, LinesOrderAlone, RunsHeedAlone, UnorderedRunsGoWell, UnorderedScriptsGoWell, ordered_after, ordered_behind, orders_of}
+use Rattle.lvm_program.specs.Heeding.{AreHarmless, AreUntroubled, EndsHarmless, EndsUntroubled, GoesWell, IsHarm, IsHarmless, IsTroubled, IsUntroubled, RanHarmless, LinesOrderAlone, RunsHeedAlone, HarmlessRunsGoWell, HarmlessScriptsGoWell, ordered_after, ordered_behind, orders_of}
 use Rattle.lvm_top.specs.Run.{Run, IsRun, RanAlone}
 use Rattle.lvm_top.specs.Script.{Script, NoLine, NextLine, StaysAlone, Ends, AtLine, InLine, EndsAlone, EndsStuck, empty_log, entry_state, facts_of}
 use Rattle.lvm_top.proofs.LawsLemmas.Scripts.{first_stands}
@@ -114,32 +114,52 @@ concludes_orders run end exit on (NoneIsServed core some empty same) = ap (λ (m
 concludes_orders run end exit on (IsServed core some vols named facts (NothingIsLeft rests device entries)) = ap (λ (d : Device). d.orders) device
 concludes_orders run end exit on (IsServed core some vols named facts (TurnsAreMade last moving turns runs sound closed entries)) = closed_orders last.core.power last.device exit.device closed ∙ (path_frames runs).orders
 
-module _ (log : Log) (room : Room) (first : ScriptState) where
-  script_orders : {lines : List (List ℕ)} {replies : List Reply} {last : ScriptState} (script : Script log room first lines replies last) → AreNoOrders script → last.moment.device.orders ≡ first.moment.device.orders
-  script_orders NoLine none = refl
-  script_orders (NextLine line answer said heard says before it) none = it.orders none.1 ∙ script_orders before none.0
+-- a line that orders neither a failing disk nor a cut leaves both counts
+arranged_harmless : (disk : ℕ) (old new : ScriptState) (answer : Reply) → ArrangeDoes disk (arrange.Heal disk) old new answer → OrdersNoHarm old.moment.device new.moment.device
+arranged_harmless disk old new answer (NotThere few is) = same_harmless old.moment.device new.moment.device (ap (λ (s : ScriptState). s.moment.device.orders) is.1)
+arranged_harmless disk old new answer (NotPlanned there unplanned is) = same_harmless old.moment.device new.moment.device (ap (λ (s : ScriptState). s.moment.device.orders) is.1)
+arranged_harmless disk old new answer (IsArranged there planned is same) = heal_harmless old.moment.device new.moment.device disk (ap (λ (s : ScriptState). s.moment.device.orders) same)
 
-  ends_orders : {lines : List (List ℕ)} {replies : List Reply} {mid last : ScriptState} {done : List (List ℕ)} {said : List Reply} {front : List ℕ} (script : Script log room first lines replies mid) (ends : Ends log room mid last done said front)
-      → AreNoOrders script → EndsNoOrder ends → last.moment.device.orders ≡ first.moment.device.orders
-  ends_orders script (AtLine same) none ends_none = ap (λ (s : ScriptState). s.moment.device.orders) same ∙ script_orders script none
-  ends_orders script (InLine line answer said front rest says split it) none ends_none = it.orders ends_none ∙ script_orders script none
+does_harmless : (log : Log) (room : Room) (old new : ScriptState) (answer : Reply) (read : Result (Option Command) Misfit) → LineDoes log room read old new answer → ((IsOrder read → ⊥) → new.moment.device.orders ≡ old.moment.device.orders) → (IsHarm read → ⊥)
+    → OrdersNoHarm old.moment.device new.moment.device
+does_harmless log room old new answer (Ok (Some (command.Fail disk))) does orders none = absurd (none tt)
+does_harmless log room old new answer (Ok (Some (command.Cut word))) does orders none = absurd (none tt)
+does_harmless log room old new answer (Ok (Some (command.Heal disk))) does orders none = arranged_harmless disk old new answer does
+does_harmless log room old new answer read does orders none = same_harmless old.moment.device new.moment.device (orders (λ order. order))
+
+module _ (log : Log) (room : Room) (first : ScriptState) where
+  line_harmless : (line : List ℕ) (answer : Reply) (old new : ScriptState) → IsLine log room line answer old new → IsHarmless line → OrdersNoHarm old.moment.device new.moment.device
+  line_harmless line answer old new it none = does_harmless log room old new answer (line_of line) it.does it.orders none
+
+  script_harmless : {lines : List (List ℕ)} {replies : List Reply} {last : ScriptState} (script : Script log room first lines replies last) → AreHarmless script → OrdersNoHarm first.moment.device last.moment.device
+  script_harmless NoLine none = same_harmless first.moment.device first.moment.device refl
+  script_harmless (NextLine {mid = mid} {new = new} line answer said heard says before it) none =
+      both_harmless first.moment.device mid.moment.device new.moment.device (script_harmless before none.0) (line_harmless line answer mid new it none.1)
+
+  ends_harmless : {lines : List (List ℕ)} {replies : List Reply} {mid last : ScriptState} {done : List (List ℕ)} {said : List Reply} {front : List ℕ} (script : Script log room first lines replies mid) (ends : Ends log room mid last done said front)
+      → AreHarmless script → EndsHarmless ends → OrdersNoHarm first.moment.device last.moment.device
+  ends_harmless {mid = mid} {last = last} script (AtLine same) none ends_none =
+      both_harmless first.moment.device mid.moment.device last.moment.device (script_harmless script none) (same_harmless mid.moment.device last.moment.device (ap (λ (s : ScriptState). s.moment.device.orders) same))
+  ends_harmless {mid = mid} {last = last} script (InLine line answer said front rest says split it) none ends_none =
+      both_harmless first.moment.device mid.moment.device last.moment.device (script_harmless script none) (line_harmless line answer mid last it ends_none)
 
 -- ---- the lines
 
 module _ (log : Log) (room : Room) (first : ScriptState) (timely : IsTimely log.run first) (stands : StandsBy log.run first.moment first) (unharmed : IsUnharmed first.moment.device) where
   line_unharmed : {lines : List (List ℕ)} {replies : List Reply} {mid new : ScriptState} (script : Script log room first lines replies mid) (line : List ℕ) (answer : Reply) → IsLine log room line answer mid new
-      → StaysAlone script → IsAlone (role_of (line_of line)) mid new → AreNoOrders script → IsNoOrder line → IsUnharmed new.moment.device
+      → StaysAlone script → IsAlone (role_of (line_of line)) mid new → AreHarmless script → IsHarmless line → IsUnharmed new.moment.device
   line_unharmed {mid = mid} {new = new} script line answer it alone now none line_none =
       let went = script_went log room first script in
       let so_far = went.keeps timely alone first.moment (keeps_still log.run first.moment) stands in
       let next = it.goes.keeps (went.timely timely) now first.moment so_far.0 so_far.1 in
-      stays_unharmed first.moment.device new.moment.device (device_path _ first.moment new.moment next.0) unharmed (it.orders line_none ∙ script_orders log room first script none)
+      stays_unharmed first.moment.device new.moment.device (device_path _ first.moment new.moment next.0) unharmed
+      (both_harmless first.moment.device mid.moment.device new.moment.device (script_harmless log room first script none) (line_harmless log room first line answer mid new it line_none))
 
-  script_unharmed : {lines : List (List ℕ)} {replies : List Reply} {last : ScriptState} (script : Script log room first lines replies last) → StaysAlone script → AreNoOrders script → IsUnharmed last.moment.device
+  script_unharmed : {lines : List (List ℕ)} {replies : List Reply} {last : ScriptState} (script : Script log room first lines replies last) → StaysAlone script → AreHarmless script → IsUnharmed last.moment.device
   script_unharmed NoLine alone none = unharmed
   script_unharmed (NextLine line answer said heard says before it) alone none = line_unharmed before line answer it alone.0 alone.1 none.0 none.1
 
-  script_untroubled : {lines : List (List ℕ)} {replies : List Reply} {last : ScriptState} (script : Script log room first lines replies last) → StaysAlone script → AreNoOrders script → AreUntroubled script
+  script_untroubled : {lines : List (List ℕ)} {replies : List Reply} {last : ScriptState} (script : Script log room first lines replies last) → StaysAlone script → AreHarmless script → AreUntroubled script
   script_untroubled NoLine alone none = tt
   script_untroubled (NextLine {mid = mid} {new = new} line answer said heard says before it) alone none = (
     script_untroubled before alone.0 none.0,
@@ -147,13 +167,13 @@ module _ (log : Log) (room : Room) (first : ScriptState) (timely : IsTimely log.
   )
 
   ends_untroubled : {lines : List (List ℕ)} {replies : List Reply} {mid last : ScriptState} {done : List (List ℕ)} {said : List Reply} {front : List ℕ} (script : Script log room first lines replies mid) (ends : Ends log room mid last done said front)
-      → StaysAlone script → EndsAlone ends → AreNoOrders script → EndsNoOrder ends → EndsUntroubled ends
+      → StaysAlone script → EndsAlone ends → AreHarmless script → EndsHarmless ends → EndsUntroubled ends
   ends_untroubled script (AtLine same) alone now none ends_none = tt
   ends_untroubled {mid = mid} {last = last} script (InLine line answer said front rest says split it) alone now none ends_none =
       is_untroubled log room line mid last (line_unharmed script line answer it alone now none ends_none).counted answer it
 
-pub unordered_scripts_go_well : UnorderedScriptsGoWell
-unordered_scripts_go_well log room past first lines replies last script begin alone unharmed none =
+pub harmless_scripts_go_well : HarmlessScriptsGoWell
+harmless_scripts_go_well log room past first lines replies last script begin alone unharmed none =
     let stands = first_stands log room past first begin in
     (script_untroubled log room first begin.timely stands unharmed script alone none, script_unharmed log room first begin.timely stands unharmed script alone none)
 
@@ -168,7 +188,7 @@ module _ (r : Run) (ran : IsRun r) (clock : IsBehind r.named r.entry) (alone : R
   its_path : Path DeviceStep (λ d. Unit {0}) r.entry r.exit
   its_path = device_path _ (record { device = r.entry; facts = [] }) (record { device = r.exit; facts = facts_of r.history }) (spanned r ran clock alone)
 
-  module _ (unharmed : IsUnharmed r.entry) (none : RanUnordered ran) where
+  module _ (unharmed : IsUnharmed r.entry) (none : RanHarmless ran) where
     ends_well : EndsUntroubled ran.lines.ends
     ends_well = ends_untroubled (empty_log r.named r.room) r.room (entry_state r.entry r.named) (begins_timely r.named r.entry ran.ready.flights clock) (λ past begins. tt) unharmed ran.lines.script ran.lines.ends alone.0 alone.1 none.0 none.1
 
@@ -178,12 +198,13 @@ module _ (r : Run) (ran : IsRun r) (clock : IsBehind r.named r.entry) (alone : R
       ends = ends_well;
       heard = λ stuck. never_stuck ran.lines.ends (ran.stuck stuck) ends_well;
       exit = stays_unharmed r.entry r.exit its_path unharmed
-          (concludes_orders r.named ran.end.moment (record { device = r.exit; facts = facts_of r.history }) ran.end.session ran.concluded.concludes
-          ∙ ends_orders (empty_log r.named r.room) r.room (entry_state r.entry r.named) ran.lines.script ran.lines.ends none.0 none.1);
+          (both_harmless r.entry ran.end.moment.device r.exit
+          (ends_harmless (empty_log r.named r.room) r.room (entry_state r.entry r.named) ran.lines.script ran.lines.ends none.0 none.1)
+          (same_harmless ran.end.moment.device r.exit (concludes_orders r.named ran.end.moment (record { device = r.exit; facts = facts_of r.history }) ran.end.session ran.concluded.concludes)));
     }
 
-pub unordered_runs_go_well : UnorderedRunsGoWell
-unordered_runs_go_well r ran clock alone unharmed none = goes_well r ran clock alone unharmed none
+pub harmless_runs_go_well : HarmlessRunsGoWell
+harmless_runs_go_well r ran clock alone unharmed none = goes_well r ran clock alone unharmed none
 
 pub runs_heed_alone : RunsHeedAlone
 runs_heed_alone r = λ ran alone clock heeds. heeds_always r.entry r.exit (its_path r ran clock alone) heeds

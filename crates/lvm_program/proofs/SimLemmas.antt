@@ -15,7 +15,7 @@ use Rattle.lvm_steps.proofs.LawsLemmas.Records.{blank_is_behind}
 use Rattle.lvm_top.specs.Blank.{IsToldBlank}
 use Rattle.lvm_top.specs.Standing.{HasFewDisks}
 use Rattle.lvm_top.specs.Plain.{HoldsOneGroup}
-use Rattle.lvm_program.proofs.HeedingLemmas.{runs_heed_alone, unordered_runs_go_well}
+use Rattle.lvm_program.proofs.HeedingLemmas.{runs_heed_alone, harmless_runs_go_well}
 use Rattle.lvm_top.proofs.OneGroupLemmas.{unforced_runs_alone}
 use Rattle.lvm_top.proofs.PlainLemmas.{blank_holds_one_group}
 use Rattle.lvm_top.specs.Clock.{Clocked}
@@ -61,7 +61,7 @@ all_at (suc count) a (suc k) = all_at count a k
 -- they do nothing by themselves, and nothing has happened to them
 pub sim_unharmed : (disks mib : ℕ) → IsUnharmed (sim_device disks mib)
 sim_unharmed disks mib = record {
-  well = record { heeds = record { ordered = record { cuts = 0; failing = replicate (length (blank_disks_of (replicate disks (2048 * mib)))) false }; told = refl; cuts = refl }; well = all_at _ false; few_cuts = omega arith; few_orders = omega arith };
+  well = record { heeds = record { ordered = record { cuts = 0; fails = 0; failing = replicate (length (blank_disks_of (replicate disks (2048 * mib)))) false }; told = refl; cuts = refl }; well = all_at _ false; few_cuts = omega arith; few_fails = omega arith };
   counted = record { misses = all_at _ 0; faults = all_at _ 0; cuts = refl; waits = refl };
 }
 
@@ -91,7 +91,7 @@ module _ (asked : Clocked) (r : Run) (disks mib : ℕ) (few : disks ≤ 32) (is 
     first = λ ran alone. ((upheld ran alone).legal [] earlier, (upheld ran alone).kept [] earlier);
     alone = λ ran unforced. unforced_runs_alone r ran [] holds.few ran.ready behind earlier holds.one unforced;
     heeds = λ ran alone. runs_heed_alone r ran alone behind unharmed.well.heeds;
-    well = λ ran alone unordered. unordered_runs_go_well r ran behind alone unharmed unordered;
+    well = λ ran alone harmless. harmless_runs_go_well r ran behind alone unharmed harmless;
   }
 
   pub sim_promises : r.room ≡ full_room → PromisesBlank asked (record r { entry = sim_device disks mib; room = full_room })

@@ -1,4 +1,4 @@
--- What a run does over a shelf that heeds orders alone, and where no line orders anything.
+-- What a run does over a shelf that heeds orders alone, and where no line orders a disk to fail or the power to be cut.
 use Rattle.std.specs.Prelude.{◌≡◌, ℕ, true, List, length, Option, Some, Result, Ok}
 use Rattle.lvm_disk.specs.Device.{Ordered}
 use Rattle.lvm_disk.specs.Paths.{DeviceStep, Path}
@@ -29,18 +29,30 @@ use Rattle.lvm_top.specs.Script.{Script, NoLine, NextLine, StaysAlone, Ends, AtL
 abbrev pub IsNoOrder : List ℕ → Type 0
 IsNoOrder line = IsOrder (line_of line) → ⊥
 
+-- ---- lines that do no harm
+
+-- a disk is ordered to fail, or the power to be cut
+abbrev pub IsHarm : Result (Option Command) Misfit → Type 0
+IsHarm (Ok (Some (command.Fail disk))) = Unit {0}
+IsHarm (Ok (Some (command.Cut word))) = Unit {0}
+IsHarm other = ⊥
+
+-- the line is no `fail` or `cut`
+abbrev pub IsHarmless : List ℕ → Type 0
+IsHarmless line = IsHarm (line_of line) → ⊥
+
 -- so is each line of the script,
-abbrev pub AreNoOrders : {log : Log} {room : Room} {first : ScriptState} {lines : List (List ℕ)} {replies : List Reply} {last : ScriptState} → Script log room first lines replies last → Type 0
-AreNoOrders NoLine = Unit {0}
-AreNoOrders (NextLine line answer said heard says before does) = AreNoOrders before × IsNoOrder line
+abbrev pub AreHarmless : {log : Log} {room : Room} {first : ScriptState} {lines : List (List ℕ)} {replies : List Reply} {last : ScriptState} → Script log room first lines replies last → Type 0
+AreHarmless NoLine = Unit {0}
+AreHarmless (NextLine line answer said heard says before does) = AreHarmless before × IsHarmless line
 
 -- and the one in which it ended
-abbrev pub EndsNoOrder : {log : Log} {room : Room} {mid last : ScriptState} {done : List (List ℕ)} {said : List Reply} {front : List ℕ} → Ends log room mid last done said front → Type 0
-EndsNoOrder (AtLine same) = Unit {0}
-EndsNoOrder (InLine line answer said front rest says split does) = IsNoOrder line
+abbrev pub EndsHarmless : {log : Log} {room : Room} {mid last : ScriptState} {done : List (List ℕ)} {said : List Reply} {front : List ℕ} → Ends log room mid last done said front → Type 0
+EndsHarmless (AtLine same) = Unit {0}
+EndsHarmless (InLine line answer said front rest says split does) = IsHarmless line
 
-abbrev pub RanUnordered : {r : Run} → IsRun r → Type 0
-RanUnordered ran = AreNoOrders ran.lines.script × EndsNoOrder ran.lines.ends
+abbrev pub RanHarmless : {r : Run} → IsRun r → Type 0
+RanHarmless ran = AreHarmless ran.lines.script × EndsHarmless ran.lines.ends
 
 -- ---- refusals for what a shelf did
 
@@ -103,15 +115,15 @@ LinesOrderAlone =
     (log : Log) (room : Room) (first : ScriptState) (lines : List (List ℕ)) (replies : List Reply) (last : ScriptState) (script : Script log room first lines replies last)
     → first.moment.device.power ≡ true → (ordered : Ordered) → first.moment.device.orders.alone ≡ Some ordered → last.moment.device.orders.alone ≡ Some (ordered_behind script ordered)
 
--- Lines that order nothing of such a shelf are answered so, and nothing happens to it; where no other group is found at the lines that ask for that.
-abbrev pub UnorderedScriptsGoWell : Type 0
-UnorderedScriptsGoWell =
+-- Lines that order no harm of such a shelf are answered so, and nothing happens to it; where no other group is found at the lines that ask for that.
+abbrev pub HarmlessScriptsGoWell : Type 0
+HarmlessScriptsGoWell =
     (log : Log) (room : Room) (past : List Fact) (first : ScriptState) (lines : List (List ℕ)) (replies : List Reply) (last : ScriptState) (script : Script log room first lines replies last)
-    → MayStart log.run past first → StaysAlone script → IsUnharmed first.moment.device → AreNoOrders script → AreUntroubled script × IsUnharmed last.moment.device
+    → MayStart log.run past first → StaysAlone script → IsUnharmed first.moment.device → AreHarmless script → AreUntroubled script × IsUnharmed last.moment.device
 
 -- So a run goes well,
-abbrev pub UnorderedRunsGoWell : Type 0
-UnorderedRunsGoWell = (r : Run) (ran : IsRun r) → IsBehind r.named r.entry → RanAlone ran → IsUnharmed r.entry → RanUnordered ran → GoesWell ran
+abbrev pub HarmlessRunsGoWell : Type 0
+HarmlessRunsGoWell = (r : Run) (ran : IsRun r) → IsBehind r.named r.entry → RanAlone ran → IsUnharmed r.entry → RanHarmless ran → GoesWell ran
 
 -- and in each run, whatever it orders, the shelf heeds orders alone at each moment from entry to exit.
 abbrev pub RunsHeedAlone : Type 0
@@ -119,4 +131,4 @@ RunsHeedAlone = (r : Run) → WhereAlone r (IsBehind r.named r.entry → HeedsAl
 
 -- Some run of a line is such a one.
 abbrev pub SomeRunGoesWell : Type 0
-SomeRunGoesWell = (r : Run) × ((ran : IsRun r) × IsBehind r.named r.entry × RanAlone ran × IsUnharmed r.entry × RanUnordered ran × (length ran.lines.lines ≡ 1))
+SomeRunGoesWell = (r : Run) × ((ran : IsRun r) × IsBehind r.named r.entry × RanAlone ran × IsUnharmed r.entry × RanHarmless ran × (length ran.lines.lines ≡ 1))

@@ -11,7 +11,7 @@ use Rattle.lvm_vol.specs.Facts.{joined}
 use Rattle.lvm_vol.specs.Legal.{Legal}
 use Rattle.lvm_load.specs.declared.workload.Workload.{Workload}
 use Rattle.lvm_parse.specs.Forced.{HasNowhere}
-use Rattle.lvm_program.specs.Heeding.{GoesWell, IsTroubled, RanUnordered}
+use Rattle.lvm_program.specs.Heeding.{GoesWell, IsTroubled, RanHarmless}
 use Rattle.lvm_program.specs.Landing.{EndsLandedWell}
 use Rattle.lvm_top.specs.OneGroup.{RanUnforced}
 use Rattle.lvm_top.specs.Run.{Run, IsRun, Promises, RanAlone, WhereAlone}
@@ -153,7 +153,7 @@ LeavesAlone (Err why) files input out err clock images = files × input × out �
 
 -- What a run over disks that hold nothing promises beside: no moment can be earlier than the run's, and nothing was told before. If its script has nowhere `-f`,
 -- then its history is legal, and each crash image that the disks may leave is kept with it. Where no line is a `mkvg -f` it finds no other group. At each moment
--- a transfer fails only on a disk that is ordered to fail, and the power is cut only by order; so a run that orders nothing goes well.
+-- a transfer fails only on a disk that is ordered to fail, and the power is cut only by order; so a run that orders neither goes well.
 pub record PromisesBlank (asked : Clocked) (r : Run) : Type 0 where
   pub promises : Promises asked r
   pub plain : (bytes : List ℕ) → r.input.before.content ≡ Some bytes → HasNowhere (codes "-f") bytes → Legal (joined [] (facts_of r.history)) × ImagesKept r.exit (joined [] (facts_of r.history))
@@ -161,7 +161,7 @@ pub record PromisesBlank (asked : Clocked) (r : Run) : Type 0 where
   pub first : WhereAlone r (Legal (joined [] (facts_of r.history)) × ImagesKept r.exit (joined [] (facts_of r.history)))
   pub alone : (ran : IsRun r) → RanUnforced ran → RanAlone ran
   pub heeds : WhereAlone r (Path DeviceStep HeedsAlone r.entry r.exit)
-  pub well : (ran : IsRun r) → RanAlone ran → RanUnordered ran → GoesWell ran
+  pub well : (ran : IsRun r) → RanAlone ran → RanHarmless ran → GoesWell ran
 
 -- and what one of a workload does so, which orders nothing: its requests land well
 pub record PromisesWovenBlank (disks mib : ℕ) (load : Workload) (asked : ℕ) (r : Run) : Type 0 where

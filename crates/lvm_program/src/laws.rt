@@ -1,12 +1,12 @@
 //! Laws of runs over shelves that heed orders alone, and of lines in which nothing fails. Each call does nothing: its contract is the law.
-ghost use Rattle.lvm_program.specs.Heeding.{LinesOrderAlone, RunsHeedAlone, SomeRunGoesWell, UnorderedRunsGoWell, UnorderedScriptsGoWell};
+ghost use Rattle.lvm_program.specs.Heeding.{HarmlessRunsGoWell, HarmlessScriptsGoWell, LinesOrderAlone, RunsHeedAlone, SomeRunGoesWell};
 ghost use Rattle.lvm_program.specs.Landing.{LinesLandWell, SomeLineLandsWell};
 
-/// Lines that don't order a disk to fail or the power to be cut, over a shelf that heeds orders alone, are refused for nothing that a shelf
+/// Lines that don't order a disk to fail or the power to be cut, though they may heal one, over a shelf that heeds orders alone, are refused for nothing that a shelf
 /// does, as a failed transfer or a power cut. In each run over such a shelf nothing happens by itself.
-pub fn unordered_runs_go_well()
-    ensures scripts { UnorderedScriptsGoWell }
-    ensures runs { UnorderedRunsGoWell }
+pub fn harmless_runs_go_well()
+    ensures scripts { HarmlessScriptsGoWell }
+    ensures runs { HarmlessRunsGoWell }
     ensures heed { RunsHeedAlone }
     ensures ordered { LinesOrderAlone }
 {}

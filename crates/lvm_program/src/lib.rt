@@ -10,7 +10,7 @@ mod workload;
 
 pub use generate::run_gen;
 pub use image::run_image;
-pub use laws::{request_lines_land_well, unordered_runs_go_well, worked_run};
+pub use laws::{harmless_runs_go_well, request_lines_land_well, worked_run};
 pub use load::{LoadWords, run_load};
 pub use lvm_load::{Load, Workload};
 pub use lvm_top::{Ended, ExitStatus, Room, run_script};

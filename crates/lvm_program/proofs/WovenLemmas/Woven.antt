@@ -5,7 +5,7 @@ use Rattle.std.proofs.lemmas.List.{append-nil}
 use Rattle.lvm_disk.specs.Device.{Device, IsReady}
 use Rattle.lvm_disk.specs.Paths.{DeviceStep, Path}
 use Rattle.lvm_order_laws.specs.Alone.{IsUnharmed, NothingCounted}
-use Rattle.lvm_order_laws.proofs.AloneLemmas.{heeds_always, stays_unharmed}
+use Rattle.lvm_order_laws.proofs.AloneLemmas.{heeds_always, same_harmless, stays_unharmed}
 use Rattle.lvm_io.specs.Count.{Rose, next_count}
 use Rattle.lvm_io.specs.Stream.{WhereTold, WritesFront}
 use Rattle.lvm_io.proofs.StreamLemmas.Told.{told_on}
@@ -455,10 +455,10 @@ module _ (disks mib : ℕ) (load : Workload) (r : Run) (ready : IsReady r.entry)
     made_is = made_orders its_log r.room disks mib sized its_first goes.answer goes.end goes.made
 
     pub woven_unharmed : IsUnharmed r.exit
-    woven_unharmed = stays_unharmed r.entry r.exit woven_path unharmed (ends_orders (2048 * (mib - 2)) load goes.answer r.named goes.end.moment goes.end.session (exit_from r) goes.ends ∙ made_is)
+    woven_unharmed = stays_unharmed r.entry r.exit woven_path unharmed (same_harmless r.entry r.exit (ends_orders (2048 * (mib - 2)) load goes.answer r.named goes.end.moment goes.end.session (exit_from r) goes.ends ∙ made_is))
 
     pub woven_untroubled : IsTroubled goes.answer → ⊥
-    woven_untroubled = made_untroubled its_log r.room disks mib sized its_first goes.answer goes.end (stays_unharmed r.entry goes.end.moment.device made_path unharmed made_is).counted goes.made
+    woven_untroubled = made_untroubled its_log r.room disks mib sized its_first goes.answer goes.end (stays_unharmed r.entry goes.end.moment.device made_path unharmed (same_harmless r.entry goes.end.moment.device made_is)).counted goes.made
 
 -- what is promised of a run, by what it does
 pub woven_promises : (disks mib : ℕ) → IsSized disks mib → (load : Workload) (asked : ℕ) (r : Run) → IfSome r.history (λ log. Rose asked log.run × (log.run ≤ r.last)) → IsWoven disks mib load r → PromisesWoven disks mib load asked r
