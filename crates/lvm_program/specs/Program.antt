@@ -163,7 +163,7 @@ pub record PromisesBlank (asked : Clocked) (r : Run) : Type 0 where
   pub heeds : WhereAlone r (Path DeviceStep HeedsAlone r.entry r.exit)
   pub well : (ran : IsRun r) → RanAlone ran → RanHarmless ran → GoesWell ran
 
--- and what one of a workload does so, which orders nothing: its requests land well
+-- and what one of a workload does so, which orders nothing at all: its requests land well
 pub record PromisesWovenBlank (disks mib : ℕ) (load : Workload) (asked : ℕ) (r : Run) : Type 0 where
   pub promises : PromisesWoven disks mib load asked r
   pub upheld : GoesWoven disks mib load r → IsUpheld r.named r.entry r.exit (facts_of r.history)

@@ -2,8 +2,9 @@
 ghost use Rattle.lvm_program.specs.Heeding.{HarmlessRunsGoWell, HarmlessScriptsGoWell, LinesOrderAlone, RunsHeedAlone, SomeRunGoesWell};
 ghost use Rattle.lvm_program.specs.Landing.{LinesLandWell, SomeLineLandsWell};
 
-/// Lines that don't order a disk to fail or the power to be cut, though they may heal one, over a shelf that heeds orders alone, are refused for nothing that a shelf
-/// does, as a failed transfer or a power cut. In each run over such a shelf nothing happens by itself.
+/// Lines that order neither a disk to fail nor the power to be cut, over a shelf that heeds orders alone, are refused for
+/// nothing that a shelf does, as a failed transfer or a power cut; they may heal disks. In each run over such a shelf
+/// nothing happens by itself.
 pub fn harmless_runs_go_well()
     ensures scripts { HarmlessScriptsGoWell }
     ensures runs { HarmlessRunsGoWell }
