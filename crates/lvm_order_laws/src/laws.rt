@@ -9,7 +9,7 @@ pub fn cuts_are_ordered()
     ensures always { AlwaysLaw }
 {}
 
-/// Where no disk is ordered to fail and no order is made, no transfer fails, the power isn't cut, and each
+/// Where no disk fails by order, none is ordered to fail and no cut is ordered, no transfer fails, the power isn't cut, and each
 /// reap ends a transfer; so a shelf over which nothing has happened stays unharmed.
 pub fn nothing_happens_by_itself()
     ensures well { WellLaw }
