@@ -64,7 +64,7 @@ module _ (s now : State) (same : grounds s ≡ grounds now) where
 
   -- a step of the copy changes nothing of it
   pub copy_still : (copies : List Pp) (c : OpenCopy) (at : Step) → IsCausedAmong s copies c → IsCausedAmong now copies (record c { step = at })
-  copy_still copies c at its = subst (λ (g : Grounds). IsCausedAmong (on now g) copies (record c { step = at })) same (record { began = its.began; since = its.since; tried = its.tried; failed = λ e. sources_on (its.failed e) })
+  copy_still copies c at its = subst (λ (g : Grounds). IsCausedAmong (on now g) copies (record c { step = at })) same (record { began = its.began; since = its.since; tried = its.tried; own_began = its.own_began; own_since = its.own_since; failed = λ e. sources_on (its.failed e) })
     where
       sources_on : {own : Type 0} → own ⊎ HaveSourcesFailed s copies c → own ⊎ HaveSourcesFailed (on now (grounds s)) copies (record c { step = at })
       sources_on (inl own) = inl own

@@ -118,7 +118,7 @@ module _ (held : HeldWritesAreSound) (committed : Says) (flies : Option Says) (w
       (record {
         shape = shaped (record { copy = refl; sector = refl; there = refl }, (record { copy = refl; sector = refl; there = refl }, tt)) (refl, ap (λ t. t && true) over) refl tt (differ first) (λ past. refl) (λ read. not_either read);
         ready = record { free = λ past. refl; recorded = (refl, refl, refl); wanted = λ past two. refl; named = λ has two. refl; dirty = λ has two. refl };
-        judged = λ write. record { uncaught = (none_caught _, (refl, tt)); due = λ waits. due; all = λ begun p among. or_left _ among };
+        judged = λ write. record { uncaught = (none_caught _, (refl, tt)); due = λ waits. due; all = λ begun p among. or_left _ among; place = λ begun p among. not_so among };
       })
     where
       none_caught : (a : Bool) → a && false ≡ false

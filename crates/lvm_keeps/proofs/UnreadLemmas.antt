@@ -116,7 +116,7 @@ module _ (writes : HeldWritesAreSound) (m : Mode) where
     waits = λ e. let w = r.waits e in record {
       shape = record { targets = tt; phase_is = w.shape.phase_is; hand = w.shape.hand; room = tt; differ = w.shape.differ; usable = w.shape.usable; one = w.shape.one };
       ready = record { free = w.ready.free; recorded = w.ready.recorded; wanted = λ past two. not_so past; named = λ has two. not_so has; dirty = λ has two. not_so has };
-      judged = λ write. record { uncaught = tt; due = λ waits. not_so waits; all = λ begun. not_so begun };
+      judged = λ write. record { uncaught = tt; due = λ waits. not_so waits; all = λ begun. not_so begun; place = λ begun. not_so begun };
     };
     over = λ e. not_either e;
     still = λ e. not_either e;

@@ -22,14 +22,16 @@ use Rattle.lvm_session.specs.declared.bringing.CopyEnd.TheVariants as ending
 use Rattle.lvm_session.specs.declared.bringing.OpenCopy.{OpenCopy}
 use Rattle.lvm_session.specs.declared.open.Open.{Open}
 use Rattle.lvm_session.specs.Bringing.{end_by_sources, end_of, ends_if, is_idle, is_whole, next_source, sources_of}
-use Rattle.lvm_session.specs.Judging.{copies_for, copies_in, group_in, is_caught, is_kept, is_running, is_settled, is_stale, is_sure, is_usable, is_waiting, is_wanted_stale, lp_of, pps_of}
+use Rattle.lvm_session.specs.Judging.{copies_for, copies_in, group_in, is_caught, is_kept, is_running, is_settled, is_stale, is_sure, is_usable, is_waiting, is_wanted_stale, lp_of, pps_of, is_sure_at}
 use Rattle.lvm_session.specs.State.{Core}
 use Rattle.lvm_session.specs.Marks.{is_among}
 use Rattle.lvm_session.specs.Causes.{was_fresh}
 use Rattle.lvm_session.specs.Requests.{is_failed_and_sure, is_left_out, IsJudged, IsOpenOne, IsPhase, IsRequest, IsTarget, may_lack, wants_status, will_be_kept}
-use Rattle.lvm_session.specs.Sound.{IsCopy, IsGoing, may_be_fresh, stays_fresh}
+use Rattle.lvm_session.specs.Sound.{IsCopy, IsGoing, IsStaleCopy, may_be_fresh, stays_fresh}
+use Rattle.lvm_session.proofs.MovesLemmas.{move_of, stale_of}
+use Rattle.lvm_keeps.proofs.CacheLemmas.{no_place}
 use Rattle.lvm_keeps.proofs.Small.{both}
-use Rattle.lvm_keeps_events.proofs.OnePlace.{one_lp}
+use Rattle.lvm_keeps_events.proofs.JudgingLemmas.OpenLp.{target_lp}
 use Rattle.lvm_keeps_events.proofs.EndsLemmas.CopyReadFail.{by_place, by_sources, is_here}
 use Rattle.lvm_keeps_events.proofs.JudgingLemmas.DuesMarks.{among_get, IsOn, on_one, pp_same}
 use Rattle.lvm_keeps_events.proofs.Lists.{all_and, all_true_at, and_false, any_on, found_at, none_of_zero, or_false, or_true}
@@ -158,7 +160,7 @@ module _ (core : Core) (going : IsGoing core) (o : Open) (one : IsOpenOne core o
 
   -- a sure copy is a target that succeeded
   kept_by : (p : Pp) → is_among (copies_for core o.request.ask) p ≡ true → is_stale core p ≡ false → is_wanted_stale core p ≡ false → is_kept core o.request ≡ true
-  kept_by p copy fresh unwanted = any_passes_from_place (λ (x : Target). is_done x.state && is_sure core x.pp) targets on.place on.target on.there (all_and (is_done on.target.state) (is_sure core on.target.pp) well sure)
+  kept_by p copy fresh unwanted = any_passes_from_place (λ (x : Target). is_done x.state && is_sure_at core x) targets on.place on.target on.there (all_and (is_done on.target.state) (is_sure_at core on.target) well sure)
     where
       left_out : is_left_out core o.request.ask p ≡ false
       left_out = ap (λ b. b && is_wanted_stale core p && not (is_caught core group p)) (unsettled core p fresh)
@@ -169,15 +171,16 @@ module _ (core : Core) (going : IsGoing core) (o : Open) (one : IsOpenOne core o
       on : IsOn targets p
       on = on_one targets p (sym (ap (λ b. is_among (pps_of targets) p || b) left_out ∙ or_false (is_among (pps_of targets) p)) ∙ judged.all begun p copy)
 
-      sure : is_sure core on.target.pp ≡ true
-      sure = ap (is_sure core) (sym on.pp_is) ∙ (λ i. not (fresh i) && not (unwanted i))
+      -- a copy is no place to which one moves
+      sure : is_sure_at core on.target ≡ true
+      sure = all_and (not on.target.moves) (is_sure core on.target.pp) (ap not (no_place core going (lv_of o.request.ask) (lp_of core o.request.ask) p copy o.request.ask on.target (all_at (IsTarget core o.request.ask) targets on.place on.target its.shape.targets on.there) on.pp_is)) (ap (is_sure core) (sym on.pp_is) ∙ (λ i. not (fresh i) && not (unwanted i)))
 
       well : is_done on.target.state ≡ true
       well = by (is_failed on.target.state) refl
         where
           by : (b : Bool) → is_failed on.target.state ≡ b → is_done on.target.state ≡ true
           by false fine = first_of (is_done on.target.state) (is_failed on.target.state) (over on.place on.target on.there) fine
-          by true failed = not_so (sym none_failed ∙ any_passes_from_place (is_failed_and_sure core) targets on.place on.target on.there (all_and (is_failed on.target.state) (is_sure core on.target.pp) failed sure))
+          by true failed = not_so (sym none_failed ∙ any_passes_from_place (is_failed_and_sure core) targets on.place on.target on.there (all_and (is_failed on.target.state) (is_sure_at core on.target) failed sure))
 
   -- the copy that has passed it has a copy beside it that stays fresh
   kept_beside : (c : OpenCopy) → core.copy ≡ Some c → is_running c ≡ true → is_pp t.pp c.pp ≡ true → is_kept core o.request ≡ true
@@ -189,25 +192,25 @@ module _ (core : Core) (going : IsGoing core) (o : Open) (one : IsOpenOne core o
       goes_on : end_of core c ≡ None
       goes_on = sym (ap (λ (m : Option OpenCopy). option_map_or (end_of core) m None) is_open) ∙ going.reviewed
 
-      its_place : slice_get (copies_beside core c) (c.copy - 1) ≡ Some c.pp
-      its_place = by_place (copies_beside core c) c.copy c.pp bring.its
-
-      some_may : list_any (may_be_fresh core) (copies_beside core c) ≡ true
-      some_may = by (is_whole core c) refl
+      -- a copy that is brought up is beside a source, or is to be cleared; a move has its own word for it
+      some_stays : (b : Bool) → c.moves ≡ b → list_any (stays_fresh core) (copies_beside core c) ≡ true
+      some_stays true moves = (move_of core c bring moves).fresh runs
+      some_stays false brings = going.fresh c.lv c.lp (some_may (is_whole core c) refl)
         where
-          by : (b : Bool) → is_whole core c ≡ b → list_any (may_be_fresh core) (copies_beside core c) ≡ true
-          by true whole = any_passes_from_place (may_be_fresh core) (copies_beside core c) (c.copy - 1) c.pp its_place (clearing_may core c.pp (bring.clearing runs whole).1)
-          by false short =
+          kind : IsStaleCopy core c
+          kind = stale_of core c bring brings
+
+          some_may : (w : Bool) → is_whole core c ≡ w → list_any (may_be_fresh core) (copies_beside core c) ≡ true
+          some_may true whole = any_passes_from_place (may_be_fresh core) (copies_beside core c) (c.copy - 1) c.pp (by_place (copies_beside core c) c.copy c.pp kind.its) (clearing_may core c.pp (kind.clearing runs whole).1)
+          some_may false short =
               any_on (λ (q : Pp). not (is_pp q c.pp) && is_usable core q) (may_be_fresh core) (usable_may core c.pp) (copies_beside core c)
               (some_kept (λ (q : Pp). not (is_pp q c.pp) && is_usable core q) (copies_beside core c) (has_source core c (by_sources core c None runs (is_here core c runs goes_on) short goes_on)))
 
       found : (k : ℕ) × (p : Pp) × (slice_get (copies_beside core c) k ≡ Some p) × (stays_fresh core p ≡ true)
-      found = found_at (stays_fresh core) (copies_beside core c) (going.fresh c.lv c.lp some_may)
+      found = found_at (stays_fresh core) (copies_beside core c) (some_stays c.moves refl)
 
       its_lp : (lv_of o.request.ask ≡ c.lv) × (lp_of core o.request.ask ≡ c.lp)
-      its_lp =
-          one_lp core.descriptor going.fitting.valid (lv_of o.request.ask) (lp_of core o.request.ask) c.lv c.lp t.pp (all_at (IsTarget core o.request.ask) targets number t its.shape.targets there).copy
-          (ap (is_among (copies_beside core c)) (pp_same t.pp c.pp same) ∙ among_get (copies_beside core c) (c.copy - 1) c.pp its_place)
+      its_lp = target_lp core going c is_open o.request.ask t (all_at (IsTarget core o.request.ask) targets number t its.shape.targets there) (pp_same t.pp c.pp same)
 
       copy : is_among (copies_for core o.request.ask) found.1 ≡ true
       copy = (λ i. is_among (copies_in core.descriptor (its_lp.0 i) (its_lp.1 i)) found.1) ∙ among_get (copies_beside core c) found.0 found.1 found.2

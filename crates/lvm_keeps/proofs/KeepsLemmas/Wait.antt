@@ -29,7 +29,7 @@ module _ (s : State) (waits : ℕ) (orders : Orders) where
   landed_on o outcome.Dark its = its
 
   copy_on : (copies : List Pp) (c : OpenCopy) → IsCausedAmong s copies c → IsCausedAmong waited copies c
-  copy_on copies c its = record { began = its.began; since = its.since; tried = its.tried; failed = λ e. sources_on (its.failed e) }
+  copy_on copies c its = record { began = its.began; since = its.since; tried = its.tried; own_began = its.own_began; own_since = its.own_since; failed = λ e. sources_on (its.failed e) }
     where
       sources_on : {own : Type 0} → own ⊎ HaveSourcesFailed s copies c → own ⊎ HaveSourcesFailed waited copies c
       sources_on (inl own) = inl own

@@ -97,7 +97,7 @@ copy_quit_keeps at ok old new sound on event =
 
     why : IsCausedAmong between (copies_in old.core.descriptor c.lv c.lp) (record c { step = step.Idle })
     why = let was = subst (λ m. IfSome m (λ (k : OpenCopy). IsCausedAmong between (copies_in old.core.descriptor k.lv k.lp) k)) event.is_open sound_between.copy in
-        record { began = was.began; since = was.since; tried = was.tried; failed = λ e. sources_on (was.failed e) }
+        record { began = was.began; since = was.since; tried = was.tried; own_began = was.own_began; own_since = was.own_since; failed = λ e. sources_on (was.failed e) }
       where
         sources_on : {x : Type 0} → x ⊎ HaveSourcesFailed between (copies_in old.core.descriptor c.lv c.lp) c → x ⊎ HaveSourcesFailed between (copies_in old.core.descriptor c.lv c.lp) (record c { step = step.Idle })
         sources_on (inl x) = inl x

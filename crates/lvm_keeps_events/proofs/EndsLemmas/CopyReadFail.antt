@@ -29,7 +29,7 @@ use Rattle.lvm_session.specs.Judging.{copies_in, group_in, held_of, is_missing, 
 use Rattle.lvm_session.specs.declared.bringing.CopyEnd.TheVariants as ending
 use Rattle.lvm_status.specs.Update.{Stored}
 use Rattle.lvm_session.specs.Events.{IsCopyTransfer}
-use Rattle.lvm_session.specs.Bringing.{copy_ends, hand_of, is_done_end, marked_by_end, end_by_sources, end_of, ends_if, is_cleared, has_row, is_idle, is_out, is_whole, step_row, after_copy_end, next_source, sources_of, with_end}
+use Rattle.lvm_session.specs.Bringing.{copy_ends, hand_of, is_called_stale, is_done_end, marked_by_end, end_by_sources, end_of, ends_if, is_cleared, has_row, is_idle, is_out, is_whole, step_row, after_copy_end, next_source, sources_of, with_end}
 use Rattle.lvm_session.specs.Dark.{hand_of_copy}
 use Rattle.lvm_session.specs.Ends.{EndsAs, after_quit, MissesSource}
 use Rattle.lvm_session.specs.Left.{copy_updates}
@@ -186,7 +186,7 @@ copy_read_fail_keeps at old new sound on event = by_end (copy_ends mid) refl new
     -- nothing comes to be wanted stale, since it isn't whole
     not_marked : (m : Option CopyEnd) (p : Pp) → marked_by_end mid m p ≡ false
     not_marked None p = refl
-    not_marked (Some how) p = ap (λ (b : Bool). not (is_done_end how) && (b && is_pp p c.pp)) short ∙ and_false (not (is_done_end how))
+    not_marked (Some how) p = ap (λ (b : Bool). not (is_done_end how) && (b && is_pp p c.pp && (not c.moves || is_called_stale mid c.pp))) short ∙ and_false (not (is_done_end how))
 
     status_is : new.core.status ≡ old.core.status
     status_is = event.misses.reviews.marks.same (λ p due. going.behind p (by (is_entailed old.core p) (marked_by_end mid (copy_ends mid) p) (not_marked (copy_ends mid) p) due))
@@ -244,7 +244,7 @@ copy_read_fail_keeps at old new sound on event = by_end (copy_ends mid) refl new
         (keeps_on between sound_between on c event.is_open event.runs busy (ap hand_of event.reads) tried still tries why at event.row event.returns.there event.own ended.flight out.there event.buf ended.number)
       where
         why : IsCausedAmong between copies resting
-        why = record { began = was.began; since = was.since; tried = each_tried; failed = λ e. not_so (sym (ap is_none e) ∙ event.runs) }
+        why = record { began = was.began; since = was.since; tried = each_tried; own_began = was.own_began; own_since = was.own_since; failed = λ e. not_so (sym (ap is_none e) ∙ event.runs) }
     by_end (Some how) ends core_is =
         subst IsSound (sym (ap (λ (d : Device). state d new.core) ended.is ∙ ap (λ (k : Core). state (record old.device { media = new.device.media; flights = new.device.flights; counts = new.device.counts }) k) core_is
         ∙ ap (λ (fs : List Flight). state (record old.device { media = new.device.media; flights = fs; counts = new.device.counts }) (after_copy_end mid resting how)) out.left_is))
@@ -274,4 +274,4 @@ copy_read_fail_keeps at old new sound on event = by_end (copy_ends mid) refl new
                 to_tried false e = not_so (sym e)
 
         why : IsCausedAmong between copies (record resting { end = Some how })
-        why = record { began = was.began; since = was.since; tried = each_tried; failed = λ e. inr (sources (ends ∙ e)) }
+        why = record { began = was.began; since = was.since; tried = each_tried; own_began = was.own_began; own_since = was.own_since; failed = λ e. inr (sources (ends ∙ e)) }

@@ -30,13 +30,13 @@ use Rattle.lvm_session.specs.Judging.{copies_in, group_in, held_of, is_missing, 
 use Rattle.lvm_session.specs.declared.bringing.CopyEnd.TheVariants as ending
 use Rattle.lvm_status.specs.Update.{Stored}
 use Rattle.lvm_session.specs.Events.{IsCopyTransfer}
-use Rattle.lvm_session.specs.Bringing.{copy_ends, marked_by_end, end_by_sources, end_of, ends_if, is_cleared, has_row, is_idle, is_out, is_whole, step_row}
+use Rattle.lvm_session.specs.Bringing.{copy_ends, marked_by_end, end_by_sources, end_of, ends_if, is_cleared, has_row, is_idle, is_out, is_whole, step_row, is_called_stale}
 use Rattle.lvm_session.specs.Dark.{hand_of_copy}
 use Rattle.lvm_session.specs.Ends.{EndsAs, after_quit}
 use Rattle.lvm_session.specs.Left.{copy_updates}
 use Rattle.lvm_session.specs.Owners.{AreOwned, AreRows, IsCopyStepOf, IsRowOf, IsStepOf, IsTransferOf, flies, same_owner}
 use Rattle.lvm_session.specs.Requests.{IsOpenOne}
-use Rattle.lvm_session.specs.Causes.{AreCaused, AreCounted, HaveSourcesFailed, IsAnswered, IsCaused, IsChosenSince, IsCausedAmong, IsCounted, IsLandedFor, IsTrueToOrigin, faults_at_opening, is_over}
+use Rattle.lvm_session.specs.Causes.{AreCaused, AreCounted, HaveSourcesFailed, IsAnswered, IsCaused, IsChosenSince, IsCausedAmong, IsCounted, IsLandedFor, IsTrueToOrigin, faults_at_opening, is_over, own_faults}
 use Rattle.lvm_session.specs.Sound.{IsCopy, IsFitting, IsGoing, IsOn, IsSound, IsTold, count_if, has_number, is_clearing, is_dark, is_hand, out_with, waiting_rows, with_row}
 use Rattle.lvm_keeps.proofs.DarkLemmas.Ending.{back}
 use Rattle.lvm_keeps.proofs.RequestsLemmas.{changed, if_on, open_on}
@@ -97,7 +97,7 @@ copy_write_fail_keeps at old new sound on event =
     status_is = event.fails.marks.same (λ p due. not_so (sym (not_marked p) ∙ due))
       where
         not_marked : (p : Pp) → marked_by_end old.core (Some ending.SyncFailed) p ≡ false
-        not_marked p = ap (λ m. option_map_or (λ (k : OpenCopy). is_whole old.core k && is_pp p k.pp) m false) event.is_open ∙ ap (λ b. b && is_pp p c.pp) short
+        not_marked p = ap (λ m. option_map_or (λ (k : OpenCopy). is_whole old.core k && is_pp p k.pp && (not k.moves || is_called_stale old.core k.pp)) m false) event.is_open ∙ ap (λ b. b && is_pp p c.pp && (not c.moves || is_called_stale old.core c.pp)) short
 
     out : IsOut old.core old.device.flights new.device.flights at event.row ended.flight
     out = taken_out old.core old.core.flying old.device.flights new.device.flights at event.row ended.flight (sound.on on).rows (sound.on on).going.tickets event.returns.there ended.flights ended.its
@@ -112,7 +112,7 @@ copy_write_fail_keeps at old new sound on event =
     why =
         let was = subst (λ m. IfSome m (λ (k : OpenCopy). IsCausedAmong between (copies_in old.core.descriptor k.lv k.lp) k)) event.is_open sound_between.copy in
         let before = subst (λ m. IfSome m (λ (k : OpenCopy). IsCausedAmong old (copies_in old.core.descriptor k.lv k.lp) k)) event.is_open sound.copy in
-        record { began = was.began; since = was.since; tried = was.tried; failed = λ e. inl (rose_since (faults_at_opening c c.copy) (old.device.counts.faults c.pp.disk) (new.device.counts.faults c.pp.disk) (before.since c.copy c.pp its.its) rose) }
+        record { began = was.began; since = was.since; tried = was.tried; own_began = was.own_began; own_since = was.own_since; failed = λ e. inl (rose_since (own_faults c) (old.device.counts.faults c.pp.disk) (new.device.counts.faults c.pp.disk) before.own_since rose) }
 
     made : Core
     made = record old.core { flying = remove old.core.flying at; pool = slice_set old.core.pool event.buf.number false; copy = Some (record c { step = step.Idle; end = Some ending.SyncFailed }); queue = record old.core.queue { rows = without c.place old.core.queue.rows } }

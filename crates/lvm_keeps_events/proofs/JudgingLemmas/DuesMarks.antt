@@ -1,5 +1,5 @@
 -- Which targets of a write are due to be stale once its transfers have all ended.
-use Rattle.std.proofs.Common.{◌&&◌, ◌<◌, ◌==◌, [], ap, arith, Bool, false, filter, if◌then◌else◌, inl, inr, length, List, nat_le, refl, slice_get, Some, suc, sym, true, zero, ◌||◌, ℕ, ◌∙◌, ◌∷◌, ◌≡◌, ◌≢◌, ◌≤◌, ◌⊎◌}
+use Rattle.std.proofs.Common.{◌&&◌, ◌<◌, ◌==◌, [], ap, arith, Bool, false, filter, if◌then◌else◌, inl, inr, length, List, nat_le, not, refl, slice_get, Some, suc, sym, true, zero, ◌||◌, ℕ, ◌∙◌, ◌∷◌, ◌≡◌, ◌≢◌, ◌≤◌, ◌⊎◌}
 use Rattle.std.proofs.lemmas.Bool.{eq-eqb, le-leb}
 use Rattle.std.specs.List.{list_any}
 use Rattle.std.specs.Prelude.{AllPairs, count_by, slice_index_or}
@@ -12,7 +12,7 @@ use Rattle.lvm_path.specs.Asks.{is_write}
 use Rattle.lvm_path.specs.Targets.{are_over, is_done, is_failed, is_over as is_ended}
 use Rattle.lvm_path.specs.declared.request.Request.{Request}
 use Rattle.lvm_path.specs.declared.target.Target.{Target}
-use Rattle.lvm_session.specs.Judging.{all_but_sure, is_kept, is_sure, pps_of}
+use Rattle.lvm_session.specs.Judging.{all_but_sure, is_kept, is_sure, pps_of, is_sure_at}
 use Rattle.lvm_session.specs.State.{Core}
 use Rattle.lvm_session.specs.Marks.{due_of, due_targets, is_among}
 use Rattle.lvm_session.specs.Requests.{is_failed_and_sure, is_wanted_due, will_be_kept}
@@ -112,14 +112,14 @@ done_not_failed stage.Failed e = not_so e
 
 module _ (core : Core) where
   abbrev pub is_sure_done : Target → Bool
-  is_sure_done t = is_done t.state && is_sure core t.pp
+  is_sure_done t = is_done t.state && is_sure_at core t
 
   pub kept_spared : (ts : List Target) → AllPairs (λ (a b : Target). a.pp ≢ b.pp) ts → list_any is_sure_done ts ≡ true → IsSpared is_sure_done ts (filter has_failed ts)
   kept_spared [] differ e = not_so e
   kept_spared (t ∷ ts) differ e = by (is_sure_done t) refl (λ f. kept_spared ts (behind_head t ts differ) f) e
     where
       here : is_sure_done t ≡ true → (b : Bool) → is_failed t.state ≡ b → IsSpared is_sure_done (t ∷ ts) (if b then t ∷ filter has_failed ts else filter has_failed ts)
-      here is true failed = not_so (sym (done_not_failed t.state (both (is_done t.state) (is_sure core t.pp) is).0) ∙ failed)
+      here is true failed = not_so (sym (done_not_failed t.state (both (is_done t.state) (is_sure_at core t) is).0) ∙ failed)
       here is false failed = record { place = 0; target = t; there = refl; passes = is; apart = none_filtered has_failed ts t.pp (apart_head t ts differ) }
 
       beside : IsSpared is_sure_done ts (filter has_failed ts) → (b : Bool) → IsSpared is_sure_done (t ∷ ts) (if b then t ∷ filter has_failed ts else filter has_failed ts)
@@ -164,13 +164,13 @@ module _ (core : Core) where
   -- ---- all but the first sure one
 
   abbrev pub is_sure_target : Target → Bool
-  is_sure_target t = is_sure core t.pp
+  is_sure_target t = is_sure_at core t
 
   pub sure_spared : (ts : List Target) → AllPairs (λ (a b : Target). a.pp ≢ b.pp) ts → list_any is_sure_target ts ≡ true → IsSpared is_sure_target ts (all_but_sure core ts)
   sure_spared [] differ e = not_so e
-  sure_spared (t ∷ ts) differ e = by (is_sure core t.pp) refl (λ f. sure_spared ts (behind_head t ts differ) f) e
+  sure_spared (t ∷ ts) differ e = by (is_sure_at core t) refl (λ f. sure_spared ts (behind_head t ts differ) f) e
     where
-      by : (b : Bool) → is_sure core t.pp ≡ b → (list_any is_sure_target ts ≡ true → IsSpared is_sure_target ts (all_but_sure core ts)) → b || list_any is_sure_target ts ≡ true
+      by : (b : Bool) → is_sure_at core t ≡ b → (list_any is_sure_target ts ≡ true → IsSpared is_sure_target ts (all_but_sure core ts)) → b || list_any is_sure_target ts ≡ true
           → IsSpared is_sure_target (t ∷ ts) (if b then ts else t ∷ all_but_sure core ts)
       by true is rest f = record { place = 0; target = t; there = refl; passes = is; apart = apart_head t ts differ }
       by false is rest f = let it = rest f in record {
@@ -183,7 +183,7 @@ module _ (core : Core) where
 
   pub left_one : (ts : List Target) (p : Pp) → is_among (pps_of (all_but_sure core ts)) p ≡ true → IsOn ts p
   left_one [] p e = not_so e
-  left_one (t ∷ ts) p e = by (is_sure core t.pp) (λ f. left_one ts p f) e
+  left_one (t ∷ ts) p e = by (is_sure_at core t) (λ f. left_one ts p f) e
     where
       here : (b : Bool) → is_pp p t.pp ≡ b → (is_among (pps_of (all_but_sure core ts)) p ≡ true → IsOn ts p) → b || is_among (pps_of (all_but_sure core ts)) p ≡ true → IsOn (t ∷ ts) p
       here true is rest f = record { place = 0; target = t; there = refl; pp_is = pp_same p t.pp is }
@@ -194,12 +194,12 @@ module _ (core : Core) where
       by false rest f = here (is_pp p t.pp) refl rest f
 
   -- one that isn't sure is among them
-  pub unsure_among : (ts : List Target) (k : ℕ) (t : Target) → slice_get ts k ≡ Some t → is_sure core t.pp ≡ false → is_among (pps_of (all_but_sure core ts)) t.pp ≡ true
+  pub unsure_among : (ts : List Target) (k : ℕ) (t : Target) → slice_get ts k ≡ Some t → is_sure_at core t ≡ false → is_among (pps_of (all_but_sure core ts)) t.pp ≡ true
   unsure_among [] k t there e = absurd (cc there)
   unsure_among (x ∷ ts) zero t there e =
       let same : x ≡ t = cc there in
       ap (λ (b : Bool). is_among (pps_of (if b then ts else x ∷ all_but_sure core ts)) t.pp) (ap is_sure_target same ∙ e) ∙ ap (λ (y : Target). is_pp t.pp y.pp || is_among (pps_of (all_but_sure core ts)) t.pp) same ∙ ap (λ b. b || is_among (pps_of (all_but_sure core ts)) t.pp) (own_pp t.pp)
-  unsure_among (x ∷ ts) (suc k) t there e = by (is_sure core x.pp) (unsure_among ts k t there e)
+  unsure_among (x ∷ ts) (suc k) t there e = by (is_sure_at core x) (unsure_among ts k t there e)
     where
       by : (b : Bool) → is_among (pps_of (all_but_sure core ts)) t.pp ≡ true → is_among (pps_of (if b then ts else x ∷ all_but_sure core ts)) t.pp ≡ true
       by true rest = among_at ts k t there
@@ -208,11 +208,16 @@ module _ (core : Core) where
   -- ---- what is left where they aren't sure any more
 
   module _ (after : Core) where
+    never_both : (a b : Bool) → count_if (a && (b && false)) ≡ 0
+    never_both true true = refl
+    never_both true false = refl
+    never_both false b = refl
+
     none_left : (ts : List Target) → ((p : Pp) → is_among (pps_of ts) p ≡ true → is_sure after p ≡ false) → count_by (is_failed_and_sure after) ts ≡ 0
     none_left [] all = refl
     none_left (t ∷ ts) all =
         let more = count_cons (is_failed_and_sure after) t ts in
-        let one : count_if (is_failed_and_sure after t) ≡ 0 = ap (λ b. count_if (is_failed t.state && b)) (all t.pp (ap (λ b. b || is_among (pps_of ts) t.pp) (own_pp t.pp))) ∙ ap count_if (and_false (is_failed t.state)) in
+        let one : count_if (is_failed_and_sure after t) ≡ 0 = ap (λ b. count_if (is_failed t.state && (not t.moves && b))) (all t.pp (ap (λ b. b || is_among (pps_of ts) t.pp) (own_pp t.pp))) ∙ never_both (is_failed t.state) (not t.moves) in
         let rest = none_left ts (λ p e. all p (ap (λ b. is_pp p t.pp || b) e ∙ or_true (is_pp p t.pp))) in
         omega (arith, more, one, rest)
 
@@ -222,14 +227,14 @@ module _ (core : Core) where
 
     pub one_left : (ts : List Target) → ((p : Pp) → is_among (pps_of (all_but_sure core ts)) p ≡ true → is_sure after p ≡ false) → count_by (is_failed_and_sure after) ts ≤ 1
     one_left [] all = omega arith
-    one_left (t ∷ ts) all = by (is_sure core t.pp) all (λ more. one_left ts more)
+    one_left (t ∷ ts) all = by (is_sure_at core t) all (λ more. one_left ts more)
       where
         by : (b : Bool) → ((p : Pp) → is_among (pps_of (if b then ts else t ∷ all_but_sure core ts)) p ≡ true → is_sure after p ≡ false)
             → (((p : Pp) → is_among (pps_of (all_but_sure core ts)) p ≡ true → is_sure after p ≡ false) → count_by (is_failed_and_sure after) ts ≤ 1) → count_by (is_failed_and_sure after) (t ∷ ts) ≤ 1
         by true none rest = let more = count_cons (is_failed_and_sure after) t ts in let one = at_most_one (is_failed_and_sure after t) in let others = none_left ts none in omega (arith, more, one, others)
         by false none rest =
             let more = count_cons (is_failed_and_sure after) t ts in
-            let one : count_if (is_failed_and_sure after t) ≡ 0 = ap (λ b. count_if (is_failed t.state && b)) (none t.pp (ap (λ b. b || is_among (pps_of (all_but_sure core ts)) t.pp) (own_pp t.pp))) ∙ ap count_if (and_false (is_failed t.state)) in
+            let one : count_if (is_failed_and_sure after t) ≡ 0 = ap (λ b. count_if (is_failed t.state && (not t.moves && b))) (none t.pp (ap (λ b. b || is_among (pps_of (all_but_sure core ts)) t.pp) (own_pp t.pp))) ∙ never_both (is_failed t.state) (not t.moves) in
             let others = rest (λ p e. none p (ap (λ b. is_pp p t.pp || b) e ∙ or_true (is_pp p t.pp))) in
             omega (arith, more, one, others)
 
@@ -241,12 +246,12 @@ module _ (core : Core) where
             → (((p : Pp) → is_among (pps_of (filter has_failed ts)) p ≡ true → is_sure after p ≡ false) → count_by (is_failed_and_sure after) ts ≡ 0) → count_by (is_failed_and_sure after) (t ∷ ts) ≡ 0
         by true is none rest =
             let more = count_cons (is_failed_and_sure after) t ts in
-            let one : count_if (is_failed_and_sure after t) ≡ 0 = ap (λ b. count_if (is_failed t.state && b)) (none t.pp (ap (λ b. b || is_among (pps_of (filter has_failed ts)) t.pp) (own_pp t.pp))) ∙ ap count_if (and_false (is_failed t.state)) in
+            let one : count_if (is_failed_and_sure after t) ≡ 0 = ap (λ b. count_if (is_failed t.state && (not t.moves && b))) (none t.pp (ap (λ b. b || is_among (pps_of (filter has_failed ts)) t.pp) (own_pp t.pp))) ∙ never_both (is_failed t.state) (not t.moves) in
             let others = rest (λ p e. none p (ap (λ b. is_pp p t.pp || b) e ∙ or_true (is_pp p t.pp))) in
             omega (arith, more, one, others)
         by false is none rest =
             let more = count_cons (is_failed_and_sure after) t ts in
-            let one : count_if (is_failed_and_sure after t) ≡ 0 = ap (λ b. count_if (b && is_sure after t.pp)) is in
+            let one : count_if (is_failed_and_sure after t) ≡ 0 = ap (λ b. count_if (b && is_sure_at after t)) is in
             let others = rest none in
             omega (arith, more, one, others)
 
@@ -258,7 +263,7 @@ module _ (core : Core) where
       pub over : is_write r.ask && are_over r.targets.items ≡ true
       pub it : IsOn r.targets.items p
       pub kept : is_kept core r ≡ true → is_failed it.target.state ≡ true
-      pub blame : (is_failed it.target.state ≡ true) ⊎ (is_sure core it.target.pp ≡ false)
+      pub blame : (is_failed it.target.state ≡ true) ⊎ (is_sure_at core it.target ≡ false)
 
     pub due_one : (p : Pp) → is_among (due_of core r) p ≡ true → IsDueOne p
     due_one p e = by (is_write r.ask && are_over r.targets.items) refl e
@@ -273,14 +278,14 @@ module _ (core : Core) where
             ended : is_done one.target.state || is_failed one.target.state ≡ true
             ended = all_true_at (λ (t : Target). is_ended t.state) r.targets.items one.place one.target (both (is_write r.ask) (are_over r.targets.items) over).1 one.there
 
-            unsure : is_done one.target.state ≡ true → is_sure core one.target.pp ≡ false
-            unsure did = of (is_sure core one.target.pp) refl
+            unsure : is_done one.target.state ≡ true → is_sure_at core one.target ≡ false
+            unsure did = of (is_sure_at core one.target) refl
               where
-                of : (b : Bool) → is_sure core one.target.pp ≡ b → b ≡ false
+                of : (b : Bool) → is_sure_at core one.target ≡ b → b ≡ false
                 of false s = refl
-                of true s = not_so (sym is ∙ any_passes_from_place is_sure_done r.targets.items one.place one.target one.there (all_and (is_done one.target.state) (is_sure core one.target.pp) did s))
+                of true s = not_so (sym is ∙ any_passes_from_place is_sure_done r.targets.items one.place one.target one.there (all_and (is_done one.target.state) (is_sure_at core one.target) did s))
 
-            blame : (a b : Bool) → is_failed one.target.state ≡ a → is_done one.target.state ≡ b → b || a ≡ true → (is_failed one.target.state ≡ true) ⊎ (is_sure core one.target.pp ≡ false)
+            blame : (a b : Bool) → is_failed one.target.state ≡ a → is_done one.target.state ≡ b → b || a ≡ true → (is_failed one.target.state ≡ true) ⊎ (is_sure_at core one.target ≡ false)
             blame true b i j k = inl i
             blame false true i j k = inr (unsure j)
             blame false false i j k = not_so k
@@ -289,16 +294,16 @@ module _ (core : Core) where
         by true over f = by_kept over (is_kept core r) refl f
         by false over f = not_so f
 
-    -- of two copies one of which is sure and due another is sure, and isn't
-    pub spared : AllPairs (λ (a b : Target). a.pp ≢ b.pp) r.targets.items → (p : Pp) → is_among (due_of core r) p ≡ true → is_sure core p ≡ true → IsSpared is_sure_target r.targets.items (due_targets core r)
+    -- of two copies one of which is sure and due another is sure, and isn't; one that is due is no place to which a copy moves
+    pub spared : AllPairs (λ (a b : Target). a.pp ≢ b.pp) r.targets.items → (p : Pp) → (e : is_among (due_of core r) p ≡ true) → is_sure_at core (due_one p e).it.target ≡ true → IsSpared is_sure_target r.targets.items (due_targets core r)
     spared differ p e sure = by (is_kept core r) refl
       where
         one : IsDueOne p
         one = due_one p e
 
         by : (b : Bool) → is_kept core r ≡ b → IsSpared is_sure_target r.targets.items (if b then filter has_failed r.targets.items else all_but_sure core r.targets.items)
-        by true is = let it = kept_spared r.targets.items differ is in record { place = it.place; target = it.target; there = it.there; passes = (both (is_done it.target.state) (is_sure core it.target.pp) it.passes).1; apart = it.apart }
-        by false is = sure_spared r.targets.items differ (any_passes_from_place is_sure_target r.targets.items one.it.place one.it.target one.it.there (sym (ap (is_sure core) one.it.pp_is) ∙ sure))
+        by true is = let it = kept_spared r.targets.items differ is in record { place = it.place; target = it.target; there = it.there; passes = (both (is_done it.target.state) (is_sure_at core it.target) it.passes).1; apart = it.apart }
+        by false is = sure_spared r.targets.items differ (any_passes_from_place is_sure_target r.targets.items one.it.place one.it.target one.it.there sure)
 
     -- where the staleness that is due is wanted nothing is left
     pub left_due : (after : Core) → is_write r.ask && are_over r.targets.items ≡ true → ((p : Pp) → is_among (due_of core r) p ≡ true → is_sure after p ≡ false)

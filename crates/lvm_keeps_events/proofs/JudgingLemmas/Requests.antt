@@ -28,20 +28,21 @@ use Rattle.lvm_path.specs.Targets.{is_done, is_failed}
 use Rattle.lvm_session.specs.declared.bringing.OpenCopy.{OpenCopy}
 use Rattle.lvm_session.specs.declared.open.Open.{Open}
 use Rattle.lvm_session.specs.State.{Core}
-use Rattle.lvm_session.specs.Judging.{group_in, group_of, has_dirty_mark, has_names, held_of, is_caught, is_kept, is_running, is_settled, is_sure, is_wanted_stale, place_of, pps_of}
+use Rattle.lvm_session.specs.Judging.{group_in, group_of, has_dirty_mark, has_names, held_of, is_caught, is_kept, is_running, is_settled, is_sure, is_wanted_stale, place_of, pps_of, is_sure_at, places_for}
 use Rattle.lvm_session.specs.Bringing.{groups_of}
 use Rattle.lvm_session.specs.Marks.{is_among}
 use Rattle.lvm_session.specs.Requests.{IsJudged, IsLaid, IsOpenOne, IsReady, IsRecorded, IsShaped, has_record, is_failed_and_sure, is_wanted_dirty, may_lack, mode_for, will_be_kept}
 use Rattle.lvm_session.specs.Sound.{pins}
 use Rattle.lvm_keeps.proofs.KeepsLemmas.NoteStart.{each_counted}
 use Rattle.lvm_keeps.proofs.Small.{and_on, both, is_false}
-use Rattle.lvm_keeps.proofs.RequestsLemmas.{shape_still}
+use Rattle.lvm_keeps.proofs.RequestsLemmas.{shape_still, SamePlaces}
 use Rattle.lvm_keeps_events.proofs.EndsLemmas.NoteEnd.{all_true, pinned_by}
 use Rattle.lvm_keeps_events.proofs.Finding.{any_on, count_with, found}
 use Rattle.lvm_keeps_events.proofs.CallsLemmas.{in_flight_of}
 use Rattle.lvm_keeps_events.proofs.JudgingLemmas.Review.{Clears, WriteEnd, Reviewed, and_of, flies_is, mid, now, of_now, or_right, settled_on, sure_by, wanted_on}
 use Rattle.lvm_keeps_events.proofs.Groups.{some_blocks, groups_below}
 use Rattle.lvm_keeps_events.proofs.JudgingLemmas.DuesMarks.{own_pp}
+use Rattle.lvm_session.proofs.MovesLemmas.{among_filter, among_filtered}
 
 -- ---- tests
 
@@ -96,7 +97,7 @@ abbrev pub NamesStay : WriteEnd → Type 0
 NamesStay e = (disk lv group : ℕ) → 1 ≤ pins_of e.core.cache.entries lv group → is_named e.core.cache disk lv group ≡ true → is_named (mid e).cache disk lv group ≡ true
 
 module _ (e : WriteEnd) (r : Reviewed e) (names : NamesStay e) (caught : (group : ℕ) (p : Pp) → is_caught e.core group p ≡ false → is_caught (now e r) group p ≡ false)
-    (blocked : (place : ℕ) (ask : Held) → is_blocked e.core.queue.rows place ask ≡ false → is_blocked r.queue.rows place ask ≡ false) where
+    (blocked : (place : ℕ) (ask : Held) → is_blocked e.core.queue.rows place ask ≡ false → is_blocked r.queue.rows place ask ≡ false) (places : SamePlaces e.core (now e r)) where
   abbrev core : Core
   core = e.core
 
@@ -144,13 +145,16 @@ module _ (e : WriteEnd) (r : Reviewed e) (names : NamesStay e) (caught : (group 
     Uncaught t = may_lack x t && is_caught core group t.pp ≡ false
 
     failed_by : (t : Target) → Uncaught t → is_failed_and_sure after t ≡ true → is_failed_and_sure core t ≡ true
-    failed_by t uncaught is = by (sure_by e r t.pp parts.1)
+    failed_by t uncaught is = by (sure_by e r t.pp more.1)
       where
-        parts : (is_failed t.state ≡ true) × (is_sure after t.pp ≡ true)
-        parts = both (is_failed t.state) (is_sure after t.pp) is
+        parts : (is_failed t.state ≡ true) × (is_sure_at after t ≡ true)
+        parts = both (is_failed t.state) (is_sure_at after t) is
+
+        more : (not t.moves ≡ true) × (is_sure after t.pp ≡ true)
+        more = both (not t.moves) (is_sure after t.pp) parts.1
 
         by : (is_sure core t.pp ≡ true) ⊎ Clears core t.pp → is_failed_and_sure core t ≡ true
-        by (inl sure) = and_of (is_failed t.state) (is_sure core t.pp) parts.0 sure
+        by (inl sure) = and_of (is_failed t.state) (is_sure_at core t) parts.0 (and_of (not t.moves) (is_sure core t.pp) more.0 sure)
         by (inr c) = not_so (sym uncaught ∙ ap (λ b. (b || x.older) && is_caught core group t.pp) parts.0 ∙ whole_caught core x.request laid t.pp c)
 
     kept_by : is_kept after x.request || will_be_kept after x.request ≡ true → is_kept core x.request || will_be_kept core x.request ≡ true
@@ -159,16 +163,18 @@ module _ (e : WriteEnd) (r : Reviewed e) (names : NamesStay e) (caught : (group 
         carried : (t : Target) → is_done t.state && is_caught after group t.pp ≡ true → is_done t.state && is_caught core group t.pp ≡ true
         carried t e2 = let parts = both (is_done t.state) (is_caught after group t.pp) e2 in and_of (is_done t.state) (is_caught core group t.pp) parts.0 (turned (is_caught core group t.pp) (is_caught after group t.pp) (caught group t.pp) parts.1)
 
-        by_sure : (t : Target) (i : ℕ) → slice_get x.request.targets.items i ≡ Some t → is_done t.state ≡ true → (is_sure core t.pp ≡ true) ⊎ Clears core t.pp → is_kept core x.request || will_be_kept core x.request ≡ true
-        by_sure t i at done (inl sure) = ap (λ b. b || will_be_kept core x.request) (any_passes_from_place (λ (u : Target). is_done u.state && is_sure core u.pp) x.request.targets.items i t at (and_of (is_done t.state) (is_sure core t.pp) done sure))
-        by_sure t i at done (inr c) = or_right (is_kept core x.request) (will_be_kept core x.request) (any_passes_from_place (λ (u : Target). is_done u.state && is_caught core group u.pp) x.request.targets.items i t at
+        by_sure : (t : Target) (i : ℕ) → slice_get x.request.targets.items i ≡ Some t → is_done t.state ≡ true → not t.moves ≡ true → (is_sure core t.pp ≡ true) ⊎ Clears core t.pp → is_kept core x.request || will_be_kept core x.request ≡ true
+        by_sure t i at done stays (inl sure) =
+            ap (λ b. b || will_be_kept core x.request) (any_passes_from_place (λ (u : Target). is_done u.state && is_sure_at core u) x.request.targets.items i t at (and_of (is_done t.state) (is_sure_at core t) done (and_of (not t.moves) (is_sure core t.pp) stays sure)))
+        by_sure t i at done stays (inr c) = or_right (is_kept core x.request) (will_be_kept core x.request) (any_passes_from_place (λ (u : Target). is_done u.state && is_caught core group u.pp) x.request.targets.items i t at
             (and_of (is_done t.state) (is_caught core group t.pp) done (whole_caught core x.request laid t.pp c)))
 
         by : (b : Bool) → is_kept after x.request ≡ b → b || will_be_kept after x.request ≡ true → is_kept core x.request || will_be_kept core x.request ≡ true
         by true kept_so e2 =
-            let one = found (λ (t : Target). is_done t.state && is_sure after t.pp) x.request.targets.items kept_so in
-            let parts = both (is_done one.0.state) (is_sure after one.0.pp) one.3 in
-            by_sure one.0 one.1 one.2 parts.0 (sure_by e r one.0.pp parts.1)
+            let one = found (λ (t : Target). is_done t.state && is_sure_at after t) x.request.targets.items kept_so in
+            let parts = both (is_done one.0.state) (is_sure_at after one.0) one.3 in
+            let more = both (not one.0.moves) (is_sure after one.0.pp) parts.1 in
+            by_sure one.0 one.1 one.2 parts.0 more.0 (sure_by e r one.0.pp more.1)
         by false none e2 = or_right (is_kept core x.request) (will_be_kept core x.request) (any_on (λ (t : Target). is_done t.state && is_caught after group t.pp) (λ (t : Target). is_done t.state && is_caught core group t.pp) carried x.request.targets.items e2)
 
     judged_on : IsJudged core x → IsJudged after x
@@ -178,12 +184,15 @@ module _ (e : WriteEnd) (r : Reviewed e) (names : NamesStay e) (caught : (group 
           (count_with Uncaught (is_failed_and_sure core) (is_failed_and_sure after) failed_by x.request.targets.items j.uncaught) kept_by (j.due status);
       all = λ begun p among. out_still (is_among (pps_of x.request.targets.items) p) (is_settled core p) (is_wanted_stale core p) (is_caught core group p) (is_settled after p) (is_wanted_stale after p) (is_caught after group p)
           (settled_on e r p) (wanted_on e r p) (caught group p) (j.all begun p among);
+      place = λ begun p among.
+          let its = among_filtered (is_caught after group) (places_for after x.request.ask) p among in
+          j.place begun p (among_filter (is_caught core group) (places_for core x.request.ask) p (turned (is_caught core group p) (is_caught after group p) (caught group p) its.1) (ap (λ (ps : List Pp). is_among ps p) (places x.request.ask) ∙ its.0));
     }
 
   -- ---- all of it
 
   shape_on : (x : Open) → IsShaped core x → IsShaped after x
-  shape_on x a = shape_still core after refl x a
+  shape_on x a = shape_still core after refl places x a
 
   ready_on : (x : Open) → IsKept x → IsReady core x.request → IsReady after x.request
   ready_on x keep b = record {

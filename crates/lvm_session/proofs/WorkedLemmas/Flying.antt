@@ -120,7 +120,7 @@ request =
     (record {
       shape = shaped (record { copy = refl; sector = refl; there = refl }, (record { copy = refl; sector = refl; there = refl }, tt)) (omega arith, λ write. refl) refl tt differ (λ past. refl) (λ read. not_either read);
       ready = record { free = λ past. refl; recorded = inl refl; wanted = λ past two. refl; named = λ has two. refl; dirty = λ has two. refl };
-      judged = λ write. record { uncaught = (refl, (refl, tt)); due = λ waits. not_so waits; all = λ begun p among. or_left _ among };
+      judged = λ write. record { uncaught = (refl, (refl, tt)); due = λ waits. not_so waits; all = λ begun p among. or_left _ among; place = λ begun p among. not_so among };
     })
 
 first_caused : IsCaused faultless (core_of flying) (target_on first_copy stage.Flying)

@@ -70,7 +70,7 @@ request =
     (record {
       shape = shaped (record { copy = refl; sector = refl; there = refl }, (record { copy = refl; sector = refl; there = refl }, tt)) (refl, refl, refl, omega arith) refl tt differ (λ past. refl) (λ read. not_either read);
       ready = record { free = λ past. refl; recorded = tt; wanted = λ past two. refl; named = λ has two. not_so has; dirty = λ has two. not_so has };
-      judged = λ write. record { uncaught = (refl, (refl, tt)); due = λ waits. not_so waits; all = λ begun. not_so begun };
+      judged = λ write. record { uncaught = (refl, (refl, tt)); due = λ waits. not_so waits; all = λ begun. not_so begun; place = λ begun. not_so begun };
     })
 
 first_caused : IsCaused faultless (core_of waiting) (target_on first_copy stage.Waiting)

@@ -166,7 +166,7 @@ module _ (m : Mode) where
       (record {
         shape = shaped tt (refl, refl) refl tt (λ i j d below within. absurd (omega (arith, below, within))) (λ past. not_so past) (λ read. not_either read);
         ready = record { free = λ past. not_so past; recorded = unrecorded m; wanted = λ past two. not_so past; named = λ has two. not_so has; dirty = λ has two. not_so has };
-        judged = λ write. record { uncaught = tt; due = λ waits. not_so waits; all = λ begun. not_so begun };
+        judged = λ write. record { uncaught = tt; due = λ waits. not_so waits; all = λ begun. not_so begun; place = λ begun. not_so begun };
       })
 
 held_numbers : (m : Mode) → 3 + updates_left (core_of (held_write m)) < 2 ^ 32
