@@ -9,10 +9,10 @@ use Rattle.lvm_calls.specs.declared.due.Due.{Due}
 use Rattle.lvm_calls.specs.declared.due.Due.TheVariants as due
 use Rattle.lvm_calls.specs.Due.{IsDue, IsFirstSure, IsWithinDue, due_among, sure_at, without_place}
 use Rattle.lvm_session.specs.State.{Core}
-use Rattle.lvm_session.specs.Judging.{is_sure, all_but_sure, pps_of}
+use Rattle.lvm_session.specs.Judging.{is_sure_at, all_but_sure, pps_of}
 use Rattle.lvm_session.specs.Marks.{due_of, due_targets}
 
-front : (core : Core) (t : Target) (ts : List Target) (b : Bool) → is_sure core t.pp ≡ b → all_but_sure core (t ∷ ts) ≡ (if b then ts else t ∷ all_but_sure core ts)
+front : (core : Core) (t : Target) (ts : List Target) (b : Bool) → is_sure_at core t ≡ b → all_but_sure core (t ∷ ts) ≡ (if b then ts else t ∷ all_but_sure core ts)
 front core t ts b is = ap (λ x. if x then ts else t ∷ all_but_sure core ts) is
 
 none_sure : (core : Core) (ts : List Target) → IsFirstSure core ts None → all_but_sure core ts ≡ ts

@@ -1,20 +1,31 @@
 -- Staleness becomes wanted, and then the copy that is open ends.
-use Rattle.std.proofs.Common.{◌≡◌, Bool, Option, Some, None, refl, ◌∙◌, ap, subst}
-use Rattle.std.specs.Prelude.{◌||◌, IfSome}
+use Rattle.std.proofs.Common.{◌≡◌, Bool, Option, Some, None, refl, ◌∙◌, ap}
+use Rattle.std.specs.Prelude.{◌&&◌, ◌||◌, not, false, unwrap_or, IfSome}
 use Rattle.std.specs.Option.{option_map_or}
 use Rattle.lvm_num.specs.declared.place.Pp.{Pp}
-use Rattle.lvm_status.specs.Update.{Stored}
+use Rattle.lvm_num.specs.Descriptor.{is_pp}
+use Rattle.lvm_num.specs.Status.{calls_stale}
+use Rattle.lvm_status.specs.Update.{Stored, Updates}
 use Rattle.lvm_session.specs.declared.bringing.OpenCopy.{OpenCopy}
 use Rattle.lvm_session.specs.declared.bringing.CopyEnd.{CopyEnd}
 use Rattle.lvm_session.specs.State.{Core}
-use Rattle.lvm_session.specs.Bringing.{after_copy_end, marked_by_end, with_end}
+use Rattle.lvm_session.specs.Bringing.{after_copy_end, is_called_stale, is_done_end, is_whole, marked_by_end, with_end}
 use Rattle.lvm_session.specs.Marks.{WantsStale}
 use Rattle.lvm_calls.proofs.MarksLemmas.{markable_on, same_due, sound_after, then_marked}
 use Rattle.lvm_calls.specs.Ending.{CanEnd, MayEndCopy}
 
-marks_same : (core : Core) (status : Stored) (end : Option CopyEnd) (q : Pp) → marked_by_end (record core { status = status }) end q ≡ marked_by_end core end q
-marks_same core status None q = refl
-marks_same core status (Some how) q = refl
+-- what is called stale is what it was
+called_same : (core : Core) (due : Pp → Bool) (status : Stored) → WantsStale due core.status status → (p : Pp) → is_called_stale (record core { status = status }) p ≡ is_called_stale core p
+called_same core due status marks p = ap (λ (u : Updates). calls_stale u.committed p || calls_stale (unwrap_or u.in_flight u.committed) p) marks.rest
+
+marks_same : (core : Core) (due : Pp → Bool) (status : Stored) → WantsStale due core.status status → (end : Option CopyEnd) (q : Pp) → marked_by_end (record core { status = status }) end q ≡ marked_by_end core end q
+marks_same core due status marks None q = refl
+marks_same core due status marks (Some how) q = by core.copy
+  where
+    by : (copy : Option OpenCopy) → not (is_done_end how) && option_map_or (λ (c : OpenCopy). is_whole core c && is_pp q c.pp && (not c.moves || is_called_stale (record core { status = status }) c.pp)) copy false
+        ≡ not (is_done_end how) && option_map_or (λ (c : OpenCopy). is_whole core c && is_pp q c.pp && (not c.moves || is_called_stale core c.pp)) copy false
+    by None = refl
+    by (Some c) = ap (λ b. not (is_done_end how) && (is_whole core c && is_pp q c.pp && (not c.moves || b))) (called_same core due status marks c.pp)
 
 end_same : (core : Core) (first last : Stored) (end : Option CopyEnd) → ◌≡◌ {A = Core} (record (with_end (record core { status = first }) end) { status = last }) (record (with_end core end) { status = last })
 end_same core first last None = refl
@@ -34,7 +45,7 @@ pub marks_and_ends : (old mid new : Core) (due : Pp → Bool) (end : Option Copy
     → new ≡ record (with_end mid end) { status = new.status } → WantsStale (marked_by_end mid end) mid.status new.status → MarksAndEnds old due end new
 marks_and_ends old mid new due end mids first is marks = record {
   marks = then_marked due (marked_by_end old end) old.status mid.status new.status first
-      (same_due (marked_by_end mid end) (marked_by_end old end) mid.status new.status (λ q. ap (λ (c : Core). marked_by_end c end q) mids ∙ marks_same old mid.status end q) marks);
+      (same_due (marked_by_end mid end) (marked_by_end old end) mid.status new.status (λ q. ap (λ (c : Core). marked_by_end c end q) mids ∙ marks_same old due mid.status first end q) marks);
   is = is ∙ ap (λ (c : Core). record (with_end c end) { status = new.status }) mids ∙ end_same old mid.status new.status end;
 }
 

@@ -15,3 +15,4 @@ pub mod BringingLemmas
 pub mod MarksLemmas
 mod StillPlaces
 mod DueLemmas
+mod AimedLemmas

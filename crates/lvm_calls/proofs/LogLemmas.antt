@@ -1,6 +1,6 @@
 -- The requests of a table are numbered below the next one.
 use Rattle.std.proofs.Common.{◌<◌, ◌≤◌, ◌^◌, List, [], ◌∷◌, length, arith}
-use Rattle.std.specs.List.{AllByRecursion, insert}
+use Rattle.std.specs.List.{AllByRecursion}
 use Rattle.std.proofs.lemmas.List.Sums.{count_by-le-length}
 use Rattle.lvm_vol.specs.Facts.{begun}
 use Rattle.lvm_vol.specs.Legal.{begins_in}

@@ -69,10 +69,10 @@ copies_are d lv lp row volume = ap (λ (o : Option LvRow). option_map_or (λ (r 
 
 -- ---- the counts of its disks
 
-pub faults_are : (counts : Counts) (copies : List Pp) (a b c : ℕ)
+pub faults_are : (counts : Counts) (copies : List Pp) (own : Pp) (a b c e : ℕ)
     → a ≡ option_map_or (λ (p : Pp). counts.faults p.disk) (slice_get copies 0) 0 → b ≡ option_map_or (λ (p : Pp). counts.faults p.disk) (slice_get copies 1) 0
-    → c ≡ option_map_or (λ (p : Pp). counts.faults p.disk) (slice_get copies 2) 0 → a ∷ b ∷ c ∷ [] ≡ faults_of counts copies
-faults_are counts [] a b c one two three = rw (one, two, three) refl
-faults_are counts (p ∷ []) a b c one two three = rw (one, two, three) refl
-faults_are counts (p ∷ q ∷ []) a b c one two three = rw (one, two, three) refl
-faults_are counts (p ∷ q ∷ r ∷ more) a b c one two three = rw (one, two, three) refl
+    → c ≡ option_map_or (λ (p : Pp). counts.faults p.disk) (slice_get copies 2) 0 → e ≡ counts.faults own.disk → a ∷ b ∷ c ∷ e ∷ [] ≡ faults_of counts copies own
+faults_are counts [] own a b c e one two three four = rw (one, two, three, four) refl
+faults_are counts (p ∷ []) own a b c e one two three four = rw (one, two, three, four) refl
+faults_are counts (p ∷ q ∷ []) own a b c e one two three four = rw (one, two, three, four) refl
+faults_are counts (p ∷ q ∷ r ∷ more) own a b c e one two three four = rw (one, two, three, four) refl

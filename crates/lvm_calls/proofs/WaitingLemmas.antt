@@ -12,7 +12,7 @@ use Rattle.lvm_session.specs.declared.open.Open.{Open}
 use Rattle.lvm_session.specs.State.{Core}
 use Rattle.lvm_session.specs.Judging.{held_of, is_waiting, place_of}
 use Rattle.lvm_session.specs.Bringing.{has_row, step_row}
-use Rattle.lvm_session.specs.Sound.{IsCopy, IsGoing, rows_of, waiting_rows, with_row}
+use Rattle.lvm_session.specs.Sound.{IsCopy, IsGoing, waiting_rows, with_row}
 
 abbrev pub row_of : Open → Row
 row_of o = record { id = place_of o.request.id; ask = held_of o.request.ask }

@@ -11,7 +11,7 @@ use Rattle.lvm_path.specs.Asks.{is_write}
 use Rattle.lvm_path.specs.Targets.{are_over, is_failed}
 use Rattle.lvm_session.specs.declared.open.Open.{Open}
 use Rattle.lvm_session.specs.State.{Core}
-use Rattle.lvm_session.specs.Judging.{is_kept, is_sure}
+use Rattle.lvm_session.specs.Judging.{is_kept, is_sure_at}
 use Rattle.lvm_calls.specs.declared.due.Due.{Due}
 use Rattle.lvm_calls.specs.declared.due.Due.TheVariants as due
 
@@ -38,7 +38,7 @@ IsWithinDue (due.Others sure) ts = IfSome sure (λ k. k < length ts)
 
 -- the target at a place is sure
 abbrev pub sure_at : Core → List Target → ℕ → Bool
-sure_at core ts k = is_sure core (slice_index_or ts k (record { pp = record { disk = 0; pp = 0 }; sector = 0; usable = false; faults = 0; state = stage.Waiting })).pp
+sure_at core ts k = is_sure_at core (slice_index_or ts k (record { pp = record { disk = 0; pp = 0 }; sector = 0; usable = false; moves = false; faults = 0; state = stage.Waiting }))
 
 -- the first target that is sure, where one is
 abbrev pub IsFirstSure : Core → List Target → Option ℕ → Type 0

@@ -36,4 +36,4 @@ pub record IsOpened (device : Device) (core : Core) (lv lp number : ℕ) (c : Op
   pub pp : Pp
   pub copy_is : copy_at (copies_of row lp) number ≡ Some pp
   pub nothing : (d : ℕ) → has c.tried d ≡ false
-  pub is : c ≡ opened pp lv lp number c.tried (faults_of (counts_seen device core) (copies_of row lp)) (step_place core)
+  pub is : c ≡ opened false pp lv lp number c.tried (faults_of (counts_seen device core) (copies_of row lp) pp) (step_place core)

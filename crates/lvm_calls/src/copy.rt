@@ -1,18 +1,21 @@
 //! The copy that is open, to a client.
-ghost use Rattle.std.specs.Prelude.{◌≡◌, ◌&&◌, ℕ, not};
+ghost use Rattle.std.specs.Prelude.{◌≡◌, ◌&&◌, ℕ, is_none, not};
 ghost use Rattle.std.specs.List.{list_any};
 ghost use Rattle.lvm_num.specs.declared.place.Pp.{Pp};
 ghost use Rattle.lvm_num.specs.Descriptor.{IsLaidOut, IsValid, is_pp};
+ghost use Rattle.lvm_path.specs.declared.target.Target.{Target};
+ghost use Rattle.lvm_session.specs.declared.open.Open.{Open};
 ghost use Rattle.lvm_session.specs.Fields.{core_of};
 ghost use Rattle.lvm_session.specs.Rooms.{SameRooms};
 ghost use Rattle.lvm_session.specs.Bringing.{is_out};
 ghost use Rattle.lvm_session.specs.Judging.{is_usable};
 ghost use Rattle.lvm_session.specs.declared.answers.CopyState.TheVariants as state;
-ghost use Rattle.lvm_session.specs.Calls.{closed, copy_at, copy_fault, copy_state, refusal_at, refusal_in, refusal_on, state_of_copy};
+ghost use Rattle.lvm_session.specs.Calls.{closed, copy_at, copy_fault, copy_state, is_aimed_at, is_still_aimed, refusal_at, refusal_in, refusal_on, state_of_copy};
 
 use crate::ask::has_numbers;
-use lvm_due::{is_missing, is_pp, is_settled, is_usable};
+use lvm_due::{is_missing, is_moved, is_pp, is_settled, is_usable};
 use lvm_num::{LvRow, Pp, copies_of, volume_of};
+use lvm_path::Target;
 use lvm_session::{CopyEnd, CopyFault, CopyState, OpenCopy, Power, Session, Step};
 
 fn is_out(step: &Step) -> bool
@@ -21,13 +24,43 @@ fn is_out(step: &Step) -> bool
     matches!(step, Step::Reading { .. } | Step::Writing)
 }
 
-fn state_of_copy(copy: &OpenCopy) -> CopyState
-    ensures { result ≡ state_of_copy copy.now }
+fn aims_at(targets: &[Target], pp: Pp) -> bool
+    ensures { result ≡ list_any (λ (t : Target). is_pp pp t.pp) targets.now }
 {
-    if is_out(&copy.step) {
+    targets.iter().any(|target| is_pp(pp, target.pp))
+}
+
+// Whether a request that hasn't landed has a target on the partition.
+fn any_aims_at(session: &Session, pp: Pp) -> bool
+    ensures { result ≡ list_any (λ (o : Open). is_none o.landed && list_any (λ (t : Target). is_pp pp t.pp) o.request.targets.items) session.now.requests.items }
+{
+    session.requests.iter().any(|open| open.landed.is_none() && aims_at(&open.request.targets, pp))
+}
+
+// Whether the partition is among the targets of such a one.
+fn is_aimed_at(session: &Session, pp: Pp) -> bool
+    ensures { result ≡ is_aimed_at (core_of session.now) pp }
+{
+    any_aims_at(session, pp)
+}
+
+// Whether it is a move that has ended, to whose place a request still goes.
+fn is_still_aimed(session: &Session, copy: &OpenCopy) -> bool
+    ensures { result ≡ is_still_aimed (core_of session.now) copy.now }
+{
+    copy.moves && copy.end.is_some() && is_aimed_at(session, copy.pp)
+}
+
+fn state_of_copy(session: &Session, copy: &OpenCopy) -> CopyState
+    ensures { result ≡ state_of_copy (core_of session.now) copy.now }
+{
+    if is_out(&copy.step) || is_still_aimed(session, copy) {
         return CopyState::Running {
             cursor: copy.cursor,
         };
+    }
+    if is_moved(session, copy) {
+        return CopyState::Done;
     }
     match copy.end {
         None => CopyState::Running {
@@ -46,7 +79,7 @@ pub fn copy_state(session: &Session) -> CopyState
 {
     match &session.copy {
         None => CopyState::Closed,
-        Some(copy) => state_of_copy(copy),
+        Some(copy) => state_of_copy(session, copy),
     }
 }
 

@@ -12,7 +12,7 @@ ghost use Rattle.lvm_session.specs.Marks.{WantsStale, is_among, due_of};
 ghost use Rattle.lvm_calls.specs.Due.{IsDue, IsFirstSure, IsWithinDue, MayMark, due_among};
 
 use crate::wanted::{mark_others, mark_targets};
-use lvm_due::{is_kept, is_sure};
+use lvm_due::{is_kept, is_sure_at};
 use lvm_path::{Target, are_over};
 use lvm_session::Session;
 use lvm_status::Updater;
@@ -47,7 +47,7 @@ fn first_sure(session: &Session, targets: &[Target]) -> Option<usize>
     ensures { IsFirstSure (core_of session.now) targets.now result }
 {
     for k in 0..targets.len() {
-        if is_sure(session, targets[k].pp) {
+        if is_sure_at(session, &targets[k]) {
             return Some(k);
         }
     }

@@ -40,13 +40,14 @@ fn faults_at<S: Shelf>(session: &Session, shelf: &S, copies: &[Pp], k: usize) ->
     }
 }
 
-/// On the disks of three copies, 0 where there are fewer.
-pub fn faults_of<S: Shelf>(session: &Session, shelf: &S, copies: &[Pp]) -> [u64; 3]
-    ensures { result ≡ faults_of (counts_seen (S.device shelf.now) (core_of session.now)) copies.now }
+/// On the disks of three copies, 0 where there are fewer, and on that of the copy itself.
+pub fn faults_of<S: Shelf>(session: &Session, shelf: &S, copies: &[Pp], own: Pp) -> [u64; 4]
+    ensures { result ≡ faults_of (counts_seen (S.device shelf.now) (core_of session.now)) copies.now own }
 {
     [
         faults_at(session, shelf, copies, 0),
         faults_at(session, shelf, copies, 1),
         faults_at(session, shelf, copies, 2),
+        faults_seen(session, shelf, own.disk),
     ]
 }

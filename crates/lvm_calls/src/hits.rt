@@ -11,7 +11,7 @@ ghost use Rattle.lvm_session.specs.Fields.{core_of};
 ghost use Rattle.lvm_session.specs.Marks.{end_by_write};
 ghost use Rattle.lvm_calls.specs.Losing.{fails_with, loses};
 
-use crate::below::{is_kept, is_pp, is_running, is_sure};
+use crate::below::{is_kept, is_pp, is_running, is_sure_at};
 use lvm_num::Pp;
 use lvm_path::{Target, are_over};
 use lvm_session::{CopyEnd, Open, OpenCopy, Session};
@@ -22,7 +22,7 @@ fn is_one_of(session: &Session, targets: &[Target], pp: Pp) -> bool
 {
     let mut sure = false;
     for target in targets {
-        if !sure && is_sure(session, target.pp) {
+        if !sure && is_sure_at(session, target) {
             sure = true;
         } else if is_pp(pp, target.pp) {
             return true;

@@ -17,16 +17,18 @@ pub fn opened<S: Shelf>(session: &Session, shelf: &S, lv: u16, lp: u32, number: 
     ensures { IsOpened (S.device shelf.now) (core_of session.now) lv lp number result }
 {
     let copies = copies_in(&session.descriptor, lv, lp);
+    let pp = copies[usize::from(number) - 1];
     OpenCopy {
         lv,
         lp,
         copy: number,
-        pp: copies[usize::from(number) - 1],
+        pp,
+        moves: false,
         cursor: 0,
         step: Step::Idle,
         tried: DiskSet::empty(),
         place: step_place(session),
-        faults: faults_of(session, shelf, copies),
+        faults: faults_of(session, shelf, copies, pp),
         end: None,
     }
 }

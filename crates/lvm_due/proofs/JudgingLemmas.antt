@@ -1,8 +1,8 @@
 -- What a request is told where the group, the status and the copy are as they were.
-use Rattle.std.proofs.Common.{◌≡◌, ◌==◌, ◌&&◌, ◌||◌, not, cond, Bool, List, [], ◌∷◌, Option, Some, None, refl, ◌∙◌, ap}
+use Rattle.std.proofs.Common.{◌≡◌, ◌==◌, ◌&&◌, ◌||◌, not, cond, Bool, false, List, [], ◌∷◌, Option, Some, None, refl, sym, ◌∙◌, ap}
 use Rattle.std.specs.Prelude.{find, if◌then◌else◌}
 use Rattle.std.specs.List.{list_all, list_any}
-use Rattle.std.specs.Option.{option_map}
+use Rattle.std.specs.Option.{option_map, option_map_or}
 use Rattle.lvm_num.specs.declared.place.Pp.{Pp}
 use Rattle.lvm_num.specs.declared.descriptor.Mode.{Mode}
 use Rattle.lvm_num.specs.declared.descriptor.Mode.TheVariants as mode
@@ -13,10 +13,11 @@ use Rattle.lvm_path.specs.declared.request.Request.{Request}
 use Rattle.lvm_path.specs.declared.target.Target.{Target}
 use Rattle.lvm_path.specs.Asks.{is_write}
 use Rattle.lvm_path.specs.Targets.{is_begun}
+use Rattle.lvm_session.specs.declared.bringing.OpenCopy.{OpenCopy}
 use Rattle.lvm_session.specs.declared.open.Open.{Open}
 use Rattle.lvm_session.specs.State.{Core}
 use Rattle.lvm_session.specs.Enabled.{is_unnamed, note_due, wants_record}
-use Rattle.lvm_session.specs.Judging.{all_but_sure, copies_for, counts_failed, facts_of, has_dirty_mark, has_names, is_beside, is_failing, is_held_back, is_kept, is_marked, is_pending, is_settled, is_sure, is_usable, is_waiting, is_wanted_stale, mode_of}
+use Rattle.lvm_session.specs.Judging.{all_but_sure, copies_for, counts_failed, facts_of, has_dirty_mark, has_names, is_beside, is_beside_copy, is_clear, is_failing, is_held_back, is_held_by_move, is_kept, is_marked, is_moved, is_past_held, is_pending, is_running, is_settled, is_sure_at, is_under_way, is_usable, is_waiting, is_wanted_stale, is_whole, mode_of}
 use Rattle.lvm_due.specs.Due.{any_fails, ReadsSame}
 
 -- another request fails in the logical partition of this one
@@ -26,6 +27,10 @@ fails_beside core r = λ (e : Open). not (e.request.id == r.id) && is_beside cor
 -- staleness is wanted there and not settled
 abbrev pub is_unsettled : Core → Request → Bool
 is_unsettled core r = list_any (λ (p : Pp). is_wanted_stale core p && not (is_settled core p)) (copies_for core r.ask)
+
+-- it is admitted and hasn't landed, in the logical partition of the copy
+abbrev pub goes_beside : Core → OpenCopy → Open → Bool
+goes_beside core c = λ (o : Open). is_waiting o && is_past_held o.request.phase && is_beside_copy core o.request.ask c
 
 module _ (old new : Core) (same : ReadsSame old new) where
   -- the old one, with what is read of the new one
@@ -50,7 +55,7 @@ module _ (old new : Core) (same : ReadsSame old new) where
 
   sure_read : (ts : List Target) → all_but_sure new ts ≡ all_but_sure mid ts
   sure_read [] = refl
-  sure_read (t ∷ ts) = ap (λ (rest : List Target). if is_sure new t.pp then ts else t ∷ rest) (sure_read ts)
+  sure_read (t ∷ ts) = ap (λ (rest : List Target). if is_sure_at new t then ts else t ∷ rest) (sure_read ts)
 
   marked_read : (r : Request) → is_marked new r ≡ is_marked mid r
   marked_read r =
@@ -96,11 +101,31 @@ module _ (old new : Core) (same : ReadsSame old new) where
       ap (λ (b : Bool). (not (e.request.id == r.id) && is_beside new e.request.ask r.ask && b) || list_any (fails_beside new r) os) (failing_mid e)
       ∙ ap (λ (b : Bool). fails_beside mid r e || b) (beside_read r os)
 
+  -- ---- and whether a move is done
+
+  under_mid : (c : OpenCopy) (os : List Open) → list_any (goes_beside new c) os ≡ list_any (goes_beside mid c) os
+  under_mid c [] = refl
+  under_mid c (o ∷ os) = ap (λ (b : Bool). goes_beside new c o || b) (under_mid c os)
+
+  -- so it is where the same of the requests go beside the copy
+  pub moved_read : (ask : Ask) → ((c : OpenCopy) → old.copy ≡ Some c → list_any (goes_beside old c) new.requests ≡ list_any (goes_beside old c) old.requests) → is_held_by_move new ask ≡ is_held_by_move old ask
+  moved_read ask going = by new.copy refl ∙ ap (λ (core : Core). is_held_by_move core ask) mid_is
+    where
+      under : (c : OpenCopy) → new.copy ≡ Some c → is_under_way new c ≡ is_under_way mid c
+      under c is =
+          under_mid c new.requests ∙ ap (λ (core : Core). list_any (goes_beside core c) new.requests) mid_is ∙ going c (sym same.copy ∙ is)
+          ∙ sym (ap (λ (core : Core). list_any (goes_beside core c) old.requests) mid_is)
+
+      by : (m : Option OpenCopy) → new.copy ≡ m → option_map_or (λ (c : OpenCopy). is_moved new c && is_beside_copy new ask c) m false ≡ option_map_or (λ (c : OpenCopy). is_moved mid c && is_beside_copy mid ask c) m false
+      by None is = refl
+      by (Some c) is = ap (λ (b : Bool). c.moves && is_running c && is_whole new c && is_clear new c.pp && not b && is_beside_copy new ask c) (under c is)
+
   -- what is pending is told by the same test of the requests that there are
-  pub pending_read : (r : Request) → is_pending new r ≡ (is_unsettled old r || list_any (fails_beside old r) new.requests)
-  pending_read r =
-      ap (λ (b : Bool). is_unsettled new r || b) (beside_read r new.requests)
-      ∙ ap (λ (core : Core). is_unsettled core r || list_any (fails_beside core r) new.requests) mid_is
+  pub pending_read : (r : Request) → is_held_by_move new r.ask ≡ is_held_by_move old r.ask → is_pending new r ≡ (is_held_by_move old r.ask || (is_unsettled old r || list_any (fails_beside old r) new.requests))
+  pending_read r moved =
+      ap (λ (b : Bool). is_held_by_move new r.ask || (is_unsettled new r || b)) (beside_read r new.requests)
+      ∙ ap (λ (b : Bool). b || (is_unsettled new r || list_any (fails_beside mid r) new.requests)) moved
+      ∙ ap (λ (core : Core). is_held_by_move old r.ask || (is_unsettled core r || list_any (fails_beside core r) new.requests)) mid_is
 
   -- ---- where the notes are as they were too
 

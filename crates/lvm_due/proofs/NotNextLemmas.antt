@@ -18,7 +18,7 @@ use Rattle.lvm_path.specs.declared.target.Target.{Target}
 use Rattle.lvm_path.specs.Asks.{is_write}
 use Rattle.lvm_path.specs.Next.{next_chosen, next_in, next_read, next_write, start_or_wait}
 use Rattle.lvm_path.specs.Targets.{is_begun, is_done, states_of}
-use Rattle.lvm_due.specs.passed.FactsNames.{is_admit, is_pin, outcome_next, target_next, wants_entry}
+use Rattle.lvm_due.specs.passed.FactsNames.{is_admit, is_past_held, is_pin, outcome_next, target_next, wants_entry}
 use Rattle.lvm_due.specs.Might.{any_waits, are_at_rest, might_admit_in, might_land_in, might_start_in, none_goes}
 
 -- ---- what something is of each thing that it may do next is so of what it does
@@ -218,3 +218,21 @@ module _ (k : Facts) (r : Request) where
           ap (λ (o : Option ℕ). target_next (option_map_or next.Start o (next.Land outcome.ReadFailed))) (none_found (λ (t : Target). is_waiting t.state) r.targets.items (none_left (any_waits r.targets.items) is))
   starts_not phase.WantStatus is = by_either target_next None k.marked (next.Land (if k.kept then outcome.Done else outcome.Lost)) next.Wait refl refl
   starts_not phase.Landed is = refl
+
+-- ---- what pins, or starts a transfer, is admitted and hasn't landed
+
+pub pins_past : (k : Facts) (r : Request) (p : Phase) → is_pin (next_in p k r) ≡ true → is_past_held p ≡ true
+pins_past k r phase.Held is = off (pins_not k r phase.Held refl) is
+pins_past k r phase.WantEntry is = refl
+pins_past k r phase.WantRecord is = refl
+pins_past k r phase.Data is = refl
+pins_past k r phase.WantStatus is = refl
+pins_past k r phase.Landed is = off (pins_not k r phase.Landed refl) is
+
+pub starts_past : (k : Facts) (r : Request) (p : Phase) (target : ℕ) → target_next (next_in p k r) ≡ Some target → is_past_held p ≡ true
+starts_past k r phase.Held target is = absurd (let e : None ≡ Some target = sym (starts_not k r phase.Held refl) ∙ is in cc e)
+starts_past k r phase.WantEntry target is = refl
+starts_past k r phase.WantRecord target is = refl
+starts_past k r phase.Data target is = refl
+starts_past k r phase.WantStatus target is = refl
+starts_past k r phase.Landed target is = absurd (let e : None ≡ Some target = sym (starts_not k r phase.Landed refl) ∙ is in cc e)

@@ -1,5 +1,5 @@
 -- A target that is usable is a usable copy of the logical partition.
-use Rattle.std.proofs.Common.{◌≡◌, ◌==◌, ◌&&◌, ◌||◌, Bool, true, false, List, [], ◌∷◌, refl, sym, ◌∙◌, ap}
+use Rattle.std.proofs.Common.{◌≡◌, ◌==◌, ◌&&◌, ◌||◌, not, Bool, true, false, List, [], ◌∷◌, refl, sym, ◌∙◌, ap, subst}
 use Rattle.std.specs.List.{list_any, AllByRecursion}
 use Rattle.std.proofs.lemmas.Bool.{eqb-true, or_right}
 use Rattle.lvm_num.specs.declared.place.Pp.{Pp}
@@ -10,6 +10,7 @@ use Rattle.lvm_path.specs.declared.request.Phase.TheVariants as phase
 use Rattle.lvm_path.specs.declared.request.Request.{Request}
 use Rattle.lvm_path.specs.declared.target.Target.{Target}
 use Rattle.lvm_due.specs.passed.FactsNames.{Core, copies_for, is_usable, is_among, IsTarget}
+use Rattle.lvm_session.specs.Requests.{IsAimed}
 use Rattle.lvm_due.specs.Might.{any_is_usable, shows_usable}
 
 -- a test that a partition passes is passed by one of those that it is among
@@ -30,11 +31,12 @@ among_any test (q ∷ ps) p is passes = by (λ later. among_any test ps p later 
 module _ (core : Core) (ask : Ask) where
   target_usable : (ts : List Target) → AllByRecursion (IsTarget core ask) ts → any_is_usable core ts ≡ true → list_any (is_usable core) (copies_for core ask) ≡ true
   target_usable [] all is = absurd (cc is)
-  target_usable (t ∷ ts) all is = by (target_usable ts all.1) (is_usable core t.pp) refl is
+  target_usable (t ∷ ts) all is = by (target_usable ts all.1) t.moves (is_usable core t.pp) refl refl is
     where
-      by : (any_is_usable core ts ≡ true → list_any (is_usable core) (copies_for core ask) ≡ true) → (b : Bool) → is_usable core t.pp ≡ b → (b || any_is_usable core ts) ≡ true → list_any (is_usable core) (copies_for core ask) ≡ true
-      by rest true its is = among_any (is_usable core) (copies_for core ask) t.pp all.0.copy its
-      by rest false its is = rest is
+      by : (any_is_usable core ts ≡ true → list_any (is_usable core) (copies_for core ask) ≡ true) → (m b : Bool) → t.moves ≡ m → is_usable core t.pp ≡ b → ((not m && b) || any_is_usable core ts) ≡ true → list_any (is_usable core) (copies_for core ask) ≡ true
+      by rest false true stays its is = among_any (is_usable core) (copies_for core ask) t.pp (subst (λ (m : Bool). IsAimed m core ask t) stays all.0.copy) its
+      by rest false false stays its is = rest is
+      by rest true b moves its is = rest is
 
 pub shown_usable : (core : Core) (r : Request) → AllByRecursion (IsTarget core r.ask) r.targets.items → (p : Phase) → shows_usable core p r ≡ true → list_any (is_usable core) (copies_for core r.ask) ≡ true
 shown_usable core r all phase.Held is = is

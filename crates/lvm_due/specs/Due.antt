@@ -4,11 +4,12 @@ use Rattle.std.specs.List.{list_any}
 use Rattle.lvm_hold.specs.Conflicts.{have_common_block}
 use Rattle.lvm_path.specs.declared.ask.Ask.{Ask}
 use Rattle.lvm_path.specs.declared.request.Request.{Request}
+use Rattle.lvm_session.specs.declared.bringing.OpenCopy.{OpenCopy}
 use Rattle.lvm_session.specs.declared.open.Open.{Open}
 use Rattle.lvm_session.specs.declared.flown.Owner.{Owner}
 use Rattle.lvm_session.specs.declared.flown.Owner.TheVariants as owner
 use Rattle.lvm_session.specs.State.{Core}
-use Rattle.lvm_session.specs.Judging.{counts_failed, held_of, is_failing, is_held_back}
+use Rattle.lvm_session.specs.Judging.{counts_failed, held_of, is_failing, is_held_back, is_past_held, is_waiting}
 use Rattle.lvm_session.specs.Left.{is_held}
 use Rattle.lvm_session.specs.Requests.{wants_entry}
 use Rattle.lvm_session.specs.Enabled.{admission_at, can_pin, data_at, landing_at, note_at, pinning_at}
@@ -110,8 +111,8 @@ pub record ReadsSame (old new : Core) : Type 0 where
   pub in_flight : new.status.in_flight ≡ old.status.in_flight
   pub copy : new.copy ≡ old.copy
 
--- Of what requests read only the one at a place has changed, which has its number and its blocks and fails as it did; who waits of those that are freed; and
--- what can be pinned of those that may pin.
+-- Of what requests read only the one at a place has changed, which has its number and its blocks, fails as it did, and goes on as it did while a copy is open; who
+-- waits of those that are freed; and what can be pinned of those that may pin.
 pub record Moves (freed pinning : Open → Bool) (old new : Core) (place : ℕ) : Type 0 where
   pub reads : ReadsSame old new
   pub notes : new.cache.notes ≡ old.cache.notes
@@ -122,5 +123,6 @@ pub record Moves (freed pinning : Open → Bool) (old new : Core) (place : ℕ) 
   pub id : is.request.id ≡ was.request.id
   pub ask : is.request.ask ≡ was.request.ask
   pub fails : is_failing new is ≡ is_failing old was
+  pub goes : (c : OpenCopy) → old.copy ≡ Some c → is_waiting is && is_past_held is.request.phase ≡ is_waiting was && is_past_held was.request.phase
   pub waits : (k : ℕ) (o : Open) → slice_get old.requests k ≡ Some o → is_held o.request.phase ≡ true → freed o ≡ false → is_held_back new o.request ≡ is_held_back old o.request
   pub pins : (o : Open) → waits_entry o ≡ true → pinning o ≡ false → can_pin new.cache o.request.ask ≡ can_pin old.cache o.request.ask

@@ -27,9 +27,9 @@ might_land_in phase.Data r usable = if is_write r.ask then is_unbegun r && not u
 might_land_in phase.WantStatus r usable = true
 might_land_in phase.Landed r usable = false
 
--- one of the copies to which it goes is usable
+-- one of the copies to which it goes is usable (the place to which a copy moves is none)
 abbrev pub any_is_usable : Core → List Target → Bool
-any_is_usable core targets = list_any (λ (t : Target). is_usable core t.pp) targets
+any_is_usable core targets = list_any (λ (t : Target). not t.moves && is_usable core t.pp) targets
 
 -- A copy of its logical partition is usable, as far as that shows: once it has its targets they are looked at alone, which are copies of it.
 abbrev pub shows_usable : Core → Phase → Request → Bool

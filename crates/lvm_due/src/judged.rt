@@ -2,7 +2,7 @@
 ghost use Rattle.std.specs.Prelude.{◌≡◌, ◌||◌, not};
 ghost use Rattle.std.specs.List.{list_all};
 ghost use Rattle.lvm_path.specs.declared.target.Target.{Target};
-ghost use Rattle.lvm_due.specs.passed.FactsNames.{core_of, all_but_sure, counts_failed, is_kept, is_marked, is_settled};
+ghost use Rattle.lvm_due.specs.passed.FactsNames.{core_of, all_but_sure, counts_failed, is_kept, is_marked, is_settled, is_sure_at};
 
 use crate::below::Session;
 use crate::standing::{is_settled, is_sure, is_wanted_stale};
@@ -18,12 +18,19 @@ pub fn counts_failed(session: &Session, target: &Target) -> bool
         || target.usable && is_wanted_stale(session, target.pp)
 }
 
+/// Whether a target is sure, and no place to which a copy moves.
+pub fn is_sure_at(session: &Session, target: &Target) -> bool
+    ensures { result ≡ is_sure_at (core_of session.now) target.now }
+{
+    !target.moves && is_sure(session, target.pp)
+}
+
 /// Whether a target that is sure has succeeded.
 pub fn is_kept(session: &Session, request: &Request) -> bool
     ensures { result ≡ is_kept (core_of session.now) request.now }
 {
     request.targets.iter().any(|target| matches!(target.state, TargetState::Done)
-        && is_sure(session, target.pp))
+        && is_sure_at(session, target))
 }
 
 /// Whether the staleness that is due of a write is settled.
@@ -54,7 +61,7 @@ fn are_settled_but_one(session: &Session, targets: &[Target]) -> bool
 {
     let mut sure = false;
     for target in targets {
-        if !sure && is_sure(session, target.pp) {
+        if !sure && is_sure_at(session, target) {
             sure = true;
         } else if !is_settled(session, target.pp) {
             return false;

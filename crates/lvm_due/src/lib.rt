@@ -15,6 +15,7 @@ mod held;
 mod judged;
 mod laws;
 mod making;
+mod moved;
 mod next;
 mod notes;
 mod pending;
@@ -38,8 +39,9 @@ pub use facts_places::{copies_beside, copies_in, is_pp, partition_blocks};
 pub use first_transfer::first_start;
 pub use firsts::{first_admission, first_data, first_landing};
 pub use held::{held_of, is_held_back};
-pub use judged::{counts_failed, is_kept, is_marked};
+pub use judged::{counts_failed, is_kept, is_marked, is_sure_at};
 pub use laws::dues_are_narrow;
+pub use moved::{is_clear, is_held_by_move, is_moved};
 pub use next::next_at;
 pub use notes::{first_note, note_due};
 pub use pending::{is_failing, is_pending, is_waiting};
@@ -50,8 +52,9 @@ pub use quiet::{is_quiet, is_quiet_for};
 pub use source::{copy_read, next_source};
 pub use span::Span;
 pub use standing::{
-    are_targets, copies_for, group_in, group_of, is_aim, is_caught, is_missing, is_running,
-    is_settled, is_stale, is_sure, is_usable, is_wanted_stale, is_whole, lp_of, mode_of, policy_of,
+    are_targets, copies_for, group_in, group_of, is_aim, is_beside_copy, is_caught, is_missing,
+    is_running, is_settled, is_stale, is_sure, is_usable, is_wanted_stale, is_whole, lp_of,
+    mode_of, place_aim, place_for, policy_of,
 };
 pub use starts::{copy_write, has_buffer, is_lost};
 pub use status::status_start;

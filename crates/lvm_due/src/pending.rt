@@ -11,6 +11,7 @@ ghost use Rattle.lvm_due.specs.passed.FactsNames.{Open, core_of, IsWithin, count
 use crate::below::{Open, Session};
 use crate::facts_places::partition_blocks;
 use crate::judged::counts_failed;
+use crate::moved::is_held_by_move;
 use crate::standing::{copies_for, is_settled, is_wanted_stale, lp_of};
 use lvm_num::Pp;
 use lvm_path::{Ask, Request, Target};
@@ -93,13 +94,14 @@ fn any_fails_beside(session: &Session, request: &Request) -> bool
     false
 }
 
-/// Whether staleness of a copy of its logical partition is wanted and not settled, or another write there is
-/// failing.
+/// Whether staleness of a copy of its logical partition is wanted and not settled, another write there is failing,
+/// or a move of a copy of it is done.
 pub fn is_pending(session: &Session, request: &Request) -> bool
     requires valid { IsValid session.now.descriptor }
     requires within { IsWithin session.now.descriptor request.now.ask }
     ensures { result ≡ is_pending (core_of session.now) request.now }
 {
-    any_is_unsettled(session, copies_for(session, &request.ask))
+    is_held_by_move(session, &request.ask)
+        || any_is_unsettled(session, copies_for(session, &request.ask))
         || any_fails_beside(session, request)
 }

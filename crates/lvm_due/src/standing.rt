@@ -1,11 +1,12 @@
 //! How a copy stands, and to which copies a request goes.
-ghost use Rattle.std.specs.Prelude.{◌≡◌, ◌||◌, ◌<◌, ◌^◌, IsTrue, filter};
+ghost use Rattle.std.specs.Prelude.{◌≡◌, ◌||◌, ◌<◌, ◌^◌, ◌++◌, [], ◌∷◌, IsTrue, filter};
+ghost use Rattle.std.specs.Option.{option_map_or};
 ghost use Rattle.lvm_num.specs.declared.place.Pp.{Pp};
 ghost use Rattle.lvm_num.specs.Descriptor.{IsValid, is_size};
 ghost use Rattle.lvm_session.specs.passed.Names.{at_of};
 ghost use Rattle.lvm_session.specs.Bringing.{is_whole};
 ghost use Rattle.lvm_session.specs.Fields.{core_of};
-ghost use Rattle.lvm_session.specs.Judging.{IsWithin, copies_for, group_in, group_of, is_caught, is_missing, is_running, is_settled, is_stale, is_sure, is_usable, is_wanted_stale, lp_of, mode_of, policy_of, pps_of, same_pps};
+ghost use Rattle.lvm_session.specs.Judging.{IsWithin, copies_for, group_in, group_of, is_beside_copy, is_caught, is_missing, is_running, is_settled, is_stale, is_sure, is_usable, is_wanted_stale, lp_of, mode_of, place_aims, places_for, policy_of, pps_of, same_pps};
 
 use crate::facts_places::{is_pp, partition_blocks};
 use lvm_num::{Mode, Policy, Pp, copies_of, volume_of};
@@ -80,10 +81,10 @@ pub fn is_caught(session: &Session, group: u64, pp: Pp) -> bool
 
 /// The logical partition, from 0, in which a request lies.
 pub fn lp_of(session: &Session, ask: &Ask) -> u64
-    requires { IsTrue (is_size session.now.descriptor.mib) }
     ensures { result ≡ lp_of (core_of session.now) ask.now }
 {
-    ask.at() / partition_blocks(session.descriptor.mib)
+    let blocks = partition_blocks(session.descriptor.mib);
+    if blocks == 0 { 0 } else { ask.at() / blocks }
 }
 
 /// Its track group, from 0, in its logical partition.
@@ -141,9 +142,73 @@ pub fn is_aim(session: &Session, group: u64, pp: Pp) -> bool
     is_usable(session, pp) || is_caught(session, group, pp)
 }
 
-/// Whether the targets are, one by one, those of these copies to which a write in this track group goes.
-pub fn are_targets(session: &Session, group: u64, pps: &[Pp], targets: &[Target]) -> bool
-    ensures { result ≡ same_pps (pps_of targets.now) (filter (λ (p : Pp). is_usable (core_of session.now) p || is_caught (core_of session.now) group p) pps.now) }
+/// Whether a request goes over the logical partition of a copy that is open.
+pub fn is_beside_copy(session: &Session, ask: &Ask, copy: &OpenCopy) -> bool
+    ensures { result ≡ is_beside_copy (core_of session.now) ask.now copy.now }
+{
+    ask.lv() == copy.lv && lp_of(session, ask) == u64::from(copy.lp)
+}
+
+/// The place to which a copy of its logical partition moves, also once the move has ended.
+pub fn place_for(session: &Session, ask: &Ask) -> Option<Pp>
+    ensures { places_for (core_of session.now) ask.now ≡ option_map_or (λ (p : Pp). p ∷ []) result [] }
+{
+    match &session.copy {
+        None => None,
+        Some(copy) => {
+            if copy.moves && is_beside_copy(session, ask, copy) {
+                Some(copy.pp)
+            } else {
+                None
+            }
+        }
+    }
+}
+
+/// That place, where the move runs and has passed its track group: a write goes there too.
+pub fn place_aim(session: &Session, ask: &Ask) -> Option<Pp>
+    requires { IsTrue (is_size session.now.descriptor.mib) }
+    ensures { place_aims (core_of session.now) ask.now ≡ option_map_or (λ (p : Pp). p ∷ []) result [] }
+{
+    match &session.copy {
+        None => None,
+        Some(copy) => {
+            if copy.moves
+                && is_beside_copy(session, ask, copy)
+                && is_caught(session, group_in(session, ask), copy.pp)
+            {
+                Some(copy.pp)
+            } else {
+                None
+            }
+        }
+    }
+}
+
+// Whether these targets are the place alone, or none where there is none.
+#[tactic(auto, using(crate::proofs::FactsJudgingLemmas::same_as_none))]
+fn are_last(targets: &[Target], place: Option<Pp>) -> bool
+    ensures { result ≡ same_pps (pps_of targets.now) (option_map_or (λ (p : Pp). p ∷ []) place []) }
+{
+    match targets.split_first() {
+        None => place.is_none(),
+        Some((target, others)) => match place {
+            None => false,
+            Some(pp) => is_pp(target.pp, pp) && others.is_empty(),
+        },
+    }
+}
+
+/// Whether the targets are, one by one, those of these copies to which a write in this track group goes, and then
+/// the place.
+pub fn are_targets(
+    session: &Session,
+    group: u64,
+    pps: &[Pp],
+    place: Option<Pp>,
+    targets: &[Target],
+) -> bool
+    ensures { result ≡ same_pps (pps_of targets.now) (filter (λ (p : Pp). is_usable (core_of session.now) p || is_caught (core_of session.now) group p) pps.now ++ option_map_or (λ (p : Pp). p ∷ []) place []) }
 {
     let mut rest = targets;
     for pp in pps {
@@ -154,5 +219,5 @@ pub fn are_targets(session: &Session, group: u64, pps: &[Pp], targets: &[Target]
             }
         }
     }
-    rest.is_empty()
+    are_last(rest, place)
 }

@@ -3,14 +3,14 @@ ghost use Rattle.std.specs.Prelude.{◌≡◌, ◌≤◌, ◌<◌, ◌^◌, ◌&
 ghost use Rattle.lvm_num.specs.Descriptor.{IsValid};
 ghost use Rattle.lvm_path.specs.Asks.{at_of};
 ghost use Rattle.lvm_session.specs.Fields.{core_of};
-ghost use Rattle.lvm_session.specs.Judging.{IsWithin, copies_for, is_changed};
-ghost use Rattle.lvm_session.specs.Left.{begun_left, if_so, is_brought_up, is_held, lacks_dirty, lacks_note, phase_left, turns_of, unbegun_left, waiting_targets, write_left};
+ghost use Rattle.lvm_session.specs.Judging.{IsWithin, copies_for, is_changed, places_for};
+ghost use Rattle.lvm_session.specs.Left.{begun_left, if_so, is_brought_up, is_held, lacks_dirty, lacks_note, phase_left, place_turns, turns_of, unbegun_left, waiting_targets, write_left};
 ghost use Rattle.lvm_session.specs.Requests.{IsLaid};
 
 use crate::below::is_changed;
 use crate::facts_places::is_pp;
 use crate::standing::{
-    copies_for, group_of, is_missing, is_running, is_settled, is_usable, mode_of,
+    copies_for, group_of, is_missing, is_running, is_settled, is_usable, mode_of, place_for,
 };
 use lvm_num::{Mode, Pp};
 use lvm_path::{Phase, Request, Target, are_over};
@@ -121,6 +121,23 @@ fn all_turns(session: &Session, pps: &[Pp]) -> u64
     turns
 }
 
+// So may the place to which a copy of its logical partition moves.
+fn place_turns(session: &Session, request: &Request) -> u64
+    ensures is { result ≡ sum_by (place_turns (core_of session.now)) (places_for (core_of session.now) request.now.ask) }
+    ensures few { result ≤ 46 }
+{
+    match place_for(session, &request.ask) {
+        None => 0,
+        Some(pp) => {
+            if !is_missing(session, pp.disk) && is_brought_up(session, pp) {
+                46
+            } else {
+                0
+            }
+        }
+    }
+}
+
 // Whether its volume is passive, and a mark of it is still to be wanted.
 fn lacks_dirty(session: &Session, request: &Request) -> bool
     ensures { result ≡ lacks_dirty (core_of session.now) request.now.ask }
@@ -148,6 +165,7 @@ fn unbegun_left(session: &Session, request: &Request) -> u64
     ensures few { result ≤ 1024 }
 {
     256 + all_turns(session, copies_for(session, &request.ask))
+        + place_turns(session, request)
         + if_so(lacks_dirty(session, request), 256)
         + if_so(is_stray(session, request), 12)
         + phase_left(session, request)

@@ -107,7 +107,7 @@ module _ (s : State) (sound : IsSound s) (id : ℕ) (its : is_answered s.core.hi
     owned owner.Copy = going.owned owner.Copy
 
     one : (x : Open) → IsOpenOne core x → IsOpenOne now.core x
-    one x it = open_on core (with_fact core.history fact) core.requests core.queue core.copy core.pool core.flying core.cache.entries core.last x (λ e. e) (λ p e. e) it
+    one x it = open_on core (with_fact core.history fact) core.requests core.queue core.copy core.pool core.flying core.cache.entries core.last x (λ e. e) (λ p e. e) (λ ask. refl) it
 
     next_still : count_by (begins_in core.history.run) now.core.history.facts ≡ count_by (begins_in core.history.run) core.history.facts
     next_still = count_still core.history.run core.history.facts fact refl

@@ -8,9 +8,9 @@ use Rattle.lvm_num.specs.declared.place.Pp.{Pp}
 use Rattle.lvm_num.specs.declared.descriptor.Descriptor.{Descriptor}
 use Rattle.lvm_num.specs.declared.descriptor.LvRow.{LvRow}
 use Rattle.lvm_num.specs.declared.descriptor.PvRow.{PvRow}
-use Rattle.lvm_num.specs.Descriptor.{IsPartitionOf, IsValid, copies_of, is_member, partitions_in, volume_of}
+use Rattle.lvm_num.specs.Descriptor.{IsPartitionOf, IsValid, copies_of, is_member, is_pp, partitions_in, partitions_used, volume_of}
 use Rattle.lvm_num.proofs.Booleans.{not_so}
-use Rattle.lvm_num.proofs.Lists.{all_weaker, by_place, found_any}
+use Rattle.lvm_num.proofs.Lists.{all_false, all_weaker, by_place, found_any}
 use Rattle.lvm_mwc.specs.declared.notes.DiskNotes.{DiskNotes}
 use Rattle.lvm_mwc.specs.Cache.{Cached, after_start, flight_on, has_disk, is_named, notes_on, started}
 use Rattle.lvm_mwc.specs.Entries.{note_of, pins_of}
@@ -18,8 +18,15 @@ use Rattle.lvm_mwc.specs.Notes.{is_of_disk}
 use Rattle.lvm_mwc.specs.Runs.{StartsNote as Starting}
 use Rattle.lvm_mwc.proofs.FirstsLemmas.{find-with, find-with_other}
 use Rattle.lvm_mwc.proofs.NotesLemmas.{named_after_all}
-use Rattle.lvm_session.specs.Judging.{copies_in}
+use Rattle.lvm_path.specs.declared.ask.Ask.{Ask}
+use Rattle.lvm_path.specs.declared.target.Target.{Target}
+use Rattle.lvm_path.specs.Asks.{lv_of}
+use Rattle.lvm_session.specs.State.{Core}
+use Rattle.lvm_session.specs.Judging.{copies_in, lp_of}
 use Rattle.lvm_session.specs.Marks.{is_among}
+use Rattle.lvm_session.specs.Requests.{IsAimed, IsTarget}
+use Rattle.lvm_session.specs.Sound.{IsGoing}
+use Rattle.lvm_session.proofs.MovesLemmas.{move_of, move_partition, open_one, place_open}
 
 -- ---- its disk, and the others
 
@@ -90,12 +97,13 @@ module _ {A : Type 0} (P : A → Type 0) where
 abbrev IsOnMember : Descriptor → Pp → Type 0
 IsOnMember d p = is_member d p.disk ≡ true
 
-on_member : (d : Descriptor) (rows : List LvRow) (row : LvRow) (lv : ℕ) → find (λ (r : LvRow). r.number == lv) rows ≡ Some row → AllByRecursion (IsOnMember d) (partitions_in rows) → AllByRecursion (IsOnMember d) row.map
-on_member d [] row lv is all = absurd (cc is)
-on_member d (r ∷ rows) row lv is all = by (λ e. on_member d rows row lv e (all_right (IsOnMember d) r.map (partitions_in rows) all)) (r.number == lv) is
+-- what holds of all partitions that volumes have holds of those of one
+of_volume : (P : Pp → Type 0) (rows : List LvRow) (row : LvRow) (lv : ℕ) → find (λ (r : LvRow). r.number == lv) rows ≡ Some row → AllByRecursion P (partitions_in rows) → AllByRecursion P row.map
+of_volume P [] row lv is all = absurd (cc is)
+of_volume P (r ∷ rows) row lv is all = by (λ e. of_volume P rows row lv e (all_right P r.map (partitions_in rows) all)) (r.number == lv) is
   where
-    by : (find (λ (x : LvRow). x.number == lv) rows ≡ Some row → AllByRecursion (IsOnMember d) row.map) → (b : Bool) → (if b then Some r else find (λ (x : LvRow). x.number == lv) rows) ≡ Some row → AllByRecursion (IsOnMember d) row.map
-    by rest true e = let same : r ≡ row = cc e in subst (λ (x : LvRow). AllByRecursion (IsOnMember d) x.map) same (all_left (IsOnMember d) r.map (partitions_in rows) all)
+    by : (find (λ (x : LvRow). x.number == lv) rows ≡ Some row → AllByRecursion P row.map) → (b : Bool) → (if b then Some r else find (λ (x : LvRow). x.number == lv) rows) ≡ Some row → AllByRecursion P row.map
+    by rest true e = let same : r ≡ row = cc e in subst (λ (x : LvRow). AllByRecursion P x.map) same (all_left P r.map (partitions_in rows) all)
     by rest false e = rest e
 
 member_found : (d : Descriptor) (p : Pp) → IsPartitionOf d p → IsOnMember d p
@@ -117,4 +125,40 @@ copies_on_members d lv lp p valid among = by (volume_of d lv) refl among
 
     by : (m : Option LvRow) → volume_of d lv ≡ m → is_among (option_map_or (λ (row : LvRow). copies_of row lp) m []) p ≡ true → is_member d p.disk ≡ true
     by None none e = not_so e
-    by (Some row) is e = among_all d (copies_of row lp) p e (all_taken (IsOnMember d) row.copies (drop (lp * row.copies) row.map) (all_dropped (IsOnMember d) (lp * row.copies) row.map (on_member d d.lvs row lv is all_places)))
+    by (Some row) is e = among_all d (copies_of row lp) p e (all_taken (IsOnMember d) row.copies (drop (lp * row.copies) row.map) (all_dropped (IsOnMember d) (lp * row.copies) row.map (of_volume (IsOnMember d) d.lvs row lv is all_places)))
+
+-- so do the targets of a request, also the place to which a copy moves
+pub target_on_member : (core : Core) (ask : Ask) (t : Target) → IsGoing core → IsTarget core ask t → is_member core.descriptor t.pp.disk ≡ true
+target_on_member core ask t going its = by t.moves its.copy
+  where
+    by : (b : Bool) → IsAimed b core ask t → is_member core.descriptor t.pp.disk ≡ true
+    by false among = copies_on_members core.descriptor (lv_of ask) (lp_of core ask) t.pp going.fitting.valid among
+    by true place =
+        let at = place_open core ask t.pp place.0 in
+        ap (λ (p : Pp). is_member core.descriptor p.disk) at.is ∙ member_found core.descriptor at.copy.pp (move_partition core at.copy (move_of core at.copy (open_one core at.copy at.is_open going.copy) at.moves))
+
+-- a partition that no volume has is none of its copies
+pub no_copy : (d : Descriptor) (lv lp : ℕ) (p : Pp) → is_among (partitions_used d) p ≡ false → is_among (copies_in d lv lp) p ≡ false
+no_copy d lv lp p free = by (volume_of d lv) refl
+  where
+    Apart : Pp → Type 0
+    Apart q = is_pp p q ≡ false
+
+    none : (ps : List Pp) → AllByRecursion Apart ps → is_among ps p ≡ false
+    none [] all = refl
+    none (q ∷ ps) all = ap (λ b. b || is_among ps p) all.0 ∙ none ps all.1
+
+    by : (m : Option LvRow) → volume_of d lv ≡ m → is_among (option_map_or (λ (row : LvRow). copies_of row lp) m []) p ≡ false
+    by None e = refl
+    by (Some row) e = none (copies_of row lp) (all_taken Apart row.copies (drop (lp * row.copies) row.map) (all_dropped Apart (lp * row.copies) row.map (of_volume Apart d.lvs row lv e (all_false (is_pp p) (partitions_used d) free))))
+
+-- so a target on a copy is no place to which one moves
+pub no_place : (core : Core) → IsGoing core → (lv lp : ℕ) (p : Pp) → is_among (copies_in core.descriptor lv lp) p ≡ true → (ask : Ask) (t : Target) → IsTarget core ask t → p ≡ t.pp → t.moves ≡ false
+no_place core going lv lp p copy ask t its is = by t.moves refl its.copy
+  where
+    by : (b : Bool) → t.moves ≡ b → IsAimed b core ask t → t.moves ≡ false
+    by false e aimed = e
+    by true e aimed =
+        let at = place_open core ask t.pp aimed.0 in
+        let move = move_of core at.copy (open_one core at.copy at.is_open going.copy) at.moves in
+        not_so (sym (no_copy core.descriptor lv lp at.copy.pp move.free) ∙ ap (is_among (copies_in core.descriptor lv lp)) (sym (is ∙ at.is)) ∙ copy)

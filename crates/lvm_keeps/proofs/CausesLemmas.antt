@@ -64,7 +64,7 @@ module _ (s now : State) (same : grounds s ≡ grounds now) where
 
   -- a step of the copy changes nothing of it
   pub copy_still : (copies : List Pp) (c : OpenCopy) (at : Step) → IsCausedAmong s copies c → IsCausedAmong now copies (record c { step = at })
-  copy_still copies c at its = subst (λ (g : Grounds). IsCausedAmong (on now g) copies (record c { step = at })) same (record { began = its.began; since = its.since; tried = its.tried; failed = λ e. sources_on (its.failed e) })
+  copy_still copies c at its = subst (λ (g : Grounds). IsCausedAmong (on now g) copies (record c { step = at })) same (record { began = its.began; since = its.since; tried = its.tried; own_began = its.own_began; own_since = its.own_since; failed = λ e. sources_on (its.failed e) })
     where
       sources_on : {own : Type 0} → own ⊎ HaveSourcesFailed s copies c → own ⊎ HaveSourcesFailed (on now (grounds s)) copies (record c { step = at })
       sources_on (inl own) = inl own
@@ -77,7 +77,7 @@ module _ (s now : State) (same : grounds s ≡ grounds now) where
   -- where the update in flight stays as well
   pub origin_still : s.core.status.in_flight ≡ now.core.status.in_flight → IsTrueToOrigin s → IsTrueToOrigin now
   origin_still flies its = subst (λ (g : Grounds). IsTrueToOrigin (on now g)) same
-      (subst (λ (m : Option Status). IsTrueToOrigin (with_flight m)) flies (record { since = its.since; votes = its.votes; still_missing = its.still_missing; missing = its.missing; stale = its.stale }))
+      (subst (λ (m : Option Status). IsTrueToOrigin (with_flight m)) flies (record { since = its.since; votes = its.votes; rows = its.rows; still_missing = its.still_missing; missing = its.missing; stale = its.stale }))
     where
       with_flight : Option Status → State
       with_flight m = state (on now (grounds s)).device (record (on now (grounds s)).core { status = record (on now (grounds s)).core.status { in_flight = m } })

@@ -116,7 +116,7 @@ whole_copy m = record {
   row = mirror m;
   volume = refl;
   lp = omega arith;
-  its = refl;
+  kind = record { its = refl; stale = λ runs part. not_either part; clearing = λ runs all. (refl, refl) };
   cursor = omega arith;
   faults = refl;
   place = (0, omega arith, refl);
@@ -126,15 +126,15 @@ whole_copy m = record {
   hand = λ ended. not_either ended;
   tried = λ disk is. not_marked disk is;
   source = tt;
-  stale = λ runs part. not_either part;
-  clearing = λ runs all. (refl, refl);
 }
 
 whole_caused : (m : Mode) → IsCausedAmong (whole m) (copies_of (mirror m) 0) (bringing_up 8 None)
 whole_caused m = record {
   began = λ number p is. let first = zeros_at 128 p.disk in omega (arith, first);
-  since = λ number p is. let none = zeros_at 3 (number - 1) in omega (arith, none);
+  since = λ number p is. let none = zeros_at 4 (number - 1) in omega (arith, none);
   tried = λ number p is tried. not_marked p.disk tried;
+  own_began = omega arith;
+  own_since = omega arith;
   failed = λ e. not_none e;
 }
 
@@ -180,6 +180,7 @@ module _ (copies : CopiesAreSound) (m : Mode) where
         origin = record {
           since = o.since;
           votes = o.votes;
+          rows = o.rows;
           still_missing = λ disk is. none_missing_behind disk is;
           missing = λ disk is. none_missing disk is;
           stale = λ p is. inl (from_any (calls_stale (status_of behind) p) (calls_stale (status_of fresh) p) (none_stale p) is);
@@ -260,7 +261,7 @@ failed_copy m = record {
   row = mirror m;
   volume = refl;
   lp = omega arith;
-  its = refl;
+  kind = record { its = refl; stale = λ runs part. not_so runs; clearing = λ runs all. not_so runs };
   cursor = omega arith;
   faults = refl;
   place = (0, omega arith, refl);
@@ -270,15 +271,15 @@ failed_copy m = record {
   hand = λ ended. refl;
   tried = λ disk is. not_marked disk is;
   source = tt;
-  stale = λ runs part. not_so runs;
-  clearing = λ runs all. not_so runs;
 }
 
 failed_caused : (m : Mode) → IsCausedAmong (failed m) (copies_of (mirror m) 0) (bringing_up 8 (Some ending.SyncFailed))
 failed_caused m = record {
   began = λ number p is. let first = zeros_at 128 p.disk in omega (arith, first);
-  since = λ number p is. let none = zeros_at 3 (number - 1) in omega (arith, none);
+  since = λ number p is. let none = zeros_at 4 (number - 1) in omega (arith, none);
   tried = λ number p is tried. not_marked p.disk tried;
+  own_began = omega arith;
+  own_since = omega arith;
   failed = λ e. inl rose_once;
 }
 
@@ -339,6 +340,7 @@ module _ (copies : CopiesAreSound) (m : Mode) where
         origin = record {
           since = λ disk. let none = zeros_at 128 disk in omega (arith, none);
           votes = o.votes;
+          rows = o.rows;
           still_missing = λ disk is. none_missing_behind disk is;
           missing = λ disk is. inr (second_since m disk (only_second disk (which_missing false disk is)));
           stale = λ p is. inl (from_both (calls_stale (status_of behind) p) (calls_stale (status_of fresh) p) (none_stale p) is);

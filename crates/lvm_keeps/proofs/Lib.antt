@@ -10,6 +10,7 @@ pub mod KeepsLemmas
 pub mod DarkLemmas
 pub mod OwnersLemmas
 pub mod CacheLemmas
+pub mod StateLemmas
 pub mod FallsLemmas
 pub mod BeginsLemmas
 mod FaultedLemmas

@@ -6,7 +6,8 @@ use Rattle.lvm_num.specs.declared.descriptor.Descriptor.{Descriptor}
 use Rattle.lvm_num.specs.declared.place.Pp.{Pp}
 use Rattle.lvm_num.specs.declared.status.Status.{Status}
 use Rattle.lvm_num.specs.Buffer.{Buffer}
-use Rattle.lvm_num.specs.Descriptor.{volume_of, is_pp}
+use Rattle.lvm_num.specs.Descriptor.{is_pp, member_of, partitions_used, volume_of}
+use Rattle.lvm_num.specs.Status.{calls_missing, calls_stale}
 use Rattle.lvm_session.specs.Calls.{copy_at}
 use Rattle.lvm_num.specs.Disks.{has}
 use Rattle.lvm_num.proofs.Lists.{all_weaker}
@@ -15,6 +16,8 @@ use Rattle.lvm_vol.specs.declared.entry.Outcome.TheVariants as outcome
 use Rattle.lvm_vol.specs.Log.{Log, next_id}
 use Rattle.lvm_session.specs.passed.Names.{Waiting}
 use Rattle.lvm_mwc.specs.declared.entries.CacheEntry.{CacheEntry}
+use Rattle.lvm_status.specs.Update.{Stored}
+use Rattle.lvm_path.specs.declared.ask.Ask.{Ask}
 use Rattle.lvm_path.specs.declared.request.Request.{Request}
 use Rattle.lvm_path.specs.declared.target.Target.{Target}
 use Rattle.lvm_path.specs.Targets.{is_done}
@@ -24,16 +27,21 @@ use Rattle.lvm_session.specs.declared.bringing.Step.{Step}
 use Rattle.lvm_session.specs.declared.flown.Flown.{Flown}
 use Rattle.lvm_session.specs.declared.open.Open.{Open}
 use Rattle.lvm_session.specs.State.{Core, State, state}
-use Rattle.lvm_session.specs.Judging.{copies_in, is_caught, is_held_back, is_kept, is_running, is_stale, group_in, is_settled, is_wanted_stale, pps_of}
+use Rattle.lvm_session.specs.Judging.{copies_in, is_caught, is_held_back, is_kept, is_running, is_stale, group_in, is_settled, is_wanted_stale, places_for, pps_of}
 use Rattle.lvm_session.specs.Bringing.{groups_of, hand_of, is_idle, is_whole}
 use Rattle.lvm_session.specs.Enabled.{is_free_step}
 use Rattle.lvm_session.specs.Marks.{is_among}
-use Rattle.lvm_session.specs.Requests.{IsTarget, IsShaped, IsReady, IsJudged, IsLaid, IsOpenOne, is_failed_and_sure, may_lack, will_be_kept}
+use Rattle.lvm_session.specs.Requests.{IsAimed, IsTarget, IsShaped, IsReady, IsJudged, IsLaid, IsOpenOne, is_failed_and_sure, may_lack, will_be_kept}
 use Rattle.lvm_session.specs.Causes.{IsCounted, IsLandedFor, IsCausedAmong, IsTrueToOrigin, HaveSourcesFailed}
-use Rattle.lvm_session.specs.Sound.{IsCopy, IsReadFrom}
+use Rattle.lvm_session.specs.Sound.{IsCopy, IsMove, IsOfKind, IsReadFrom, IsStaleCopy, stays_fresh}
+use Rattle.lvm_session.proofs.MovesLemmas.{among_filter, among_filtered}
 use Rattle.lvm_keeps.proofs.Small.{and_on, left_on, most_on, none_on}
 
--- what the targets of a request are read off
+-- the places to which a copy moves are the same, for each request
+abbrev pub SamePlaces : Core → Core → Type 0
+SamePlaces core now = (ask : Ask) → places_for core ask ≡ places_for now ask
+
+-- what else the targets of a request are read off
 abbrev pub Placing : Type 0
 Placing = Descriptor × Status
 
@@ -41,9 +49,19 @@ abbrev pub placing : Core → Placing
 placing core = (core.descriptor, core.origin.table)
 
 -- where that stays, so does the shape of each request
-pub shape_still : (core now : Core) → placing core ≡ placing now → (o : Open) → IsShaped core o → IsShaped now o
-shape_still core now same o s = record {
-  targets = all_weaker (IsTarget core o.request.ask) (IsTarget now o.request.ask) on o.request.targets.items s.targets;
+pub target_still : (core now : Core) → placing core ≡ placing now → SamePlaces core now → (ask : Ask) (t : Target) → IsTarget core ask t → IsTarget now ask t
+target_still core now same places ask t its = subst (λ (p : Placing). IsTarget (with_placing p) ask t) same (record { copy = aimed t.moves its.copy; sector = its.sector; there = its.there })
+  where
+    with_placing : Placing → Core
+    with_placing p = record now { descriptor = p.0; origin = record now.origin { table = p.1 } }
+
+    aimed : (b : Bool) → IsAimed b core ask t → IsAimed b (with_placing (placing core)) ask t
+    aimed false among = among
+    aimed true place = (ap (λ (ps : List Pp). is_among ps t.pp) (sym (places ask ∙ sym (ap (λ (p : Placing). places_for (with_placing p) ask) same))) ∙ place.0, place.1, place.2)
+
+pub shape_still : (core now : Core) → placing core ≡ placing now → SamePlaces core now → (o : Open) → IsShaped core o → IsShaped now o
+shape_still core now same places o s = record {
+  targets = all_weaker (IsTarget core o.request.ask) (IsTarget now o.request.ask) (target_still core now same places o.request.ask) o.request.targets.items s.targets;
   phase_is = s.phase_is;
   hand = s.hand;
   room = s.room;
@@ -51,9 +69,6 @@ shape_still core now same o s = record {
   usable = s.usable;
   one = s.one;
 }
-  where
-    on : (t : Target) → IsTarget core o.request.ask t → IsTarget now o.request.ask t
-    on t its = subst (λ (p : Placing). IsTarget (record now { descriptor = p.0; origin = record now.origin { table = p.1 } }) o.request.ask t) same (record { copy = its.copy; sector = its.sector; there = its.there })
 
 -- ---- the copy that is open
 
@@ -68,14 +83,12 @@ module _ (core now : Core) (c : OpenCopy) (st : Step) (tried : ℕ) (end : Optio
   pub copy_stepped : now.descriptor ≡ core.descriptor → next_id core.history ≤ next_id now.history → IsCopy core c → IfSome (hand_of st) (λ (buf : Buffer). length buf.sectors ≡ 256)
       → (is_idle st ≡ false → is_free_step now stepped ≡ true) → (is_running stepped ≡ false → hand_of st ≡ None)
       → ((disk : ℕ) → has tried disk ≡ true → list_any (λ (p : Pp). not (is_pp p c.pp) && p.disk == disk) (copies_in now.descriptor c.lv c.lp) ≡ true) → IsReadFrom st (copies_in now.descriptor c.lv c.lp) stepped
-      → (is_running stepped ≡ true → is_idle st ≡ false → is_whole now stepped ≡ false)
-      → (is_running stepped ≡ true → is_whole now stepped ≡ false → (is_settled now c.pp ≡ true) × (is_wanted_stale now c.pp ≡ true))
-      → (is_running stepped ≡ true → is_whole now stepped ≡ true → (is_stale now c.pp ≡ true) × (is_wanted_stale now c.pp ≡ false)) → IsCopy now stepped
-  copy_stepped same later its room free hand tries source under_way stale clearing = let low = its.place.1 in record {
+      → (is_running stepped ≡ true → is_idle st ≡ false → is_whole now stepped ≡ false) → IsOfKind c.moves now stepped → IsCopy now stepped
+  copy_stepped same later its room free hand tries source under_way kind = let low = its.place.1 in record {
     row = its.row;
     volume = ap (λ (d : Descriptor). volume_of d c.lv) same ∙ its.volume;
     lp = its.lp;
-    its = ap (λ (d : Descriptor). copy_at (copies_in d c.lv c.lp) c.copy) same ∙ its.its;
+    kind = kind;
     cursor = subst (λ (d : Descriptor). c.cursor ≤ groups_of (record core { descriptor = d })) (sym same) its.cursor;
     faults = its.faults;
     place = (its.place.0, omega (arith, low, later), its.place.2);
@@ -85,27 +98,75 @@ module _ (core now : Core) (c : OpenCopy) (st : Step) (tried : ℕ) (end : Optio
     tried = tries;
     source = source;
     under_way = under_way;
-    stale = stale;
-    clearing = clearing;
   }
+
+  -- What it is stays, where its marks are such, and some copy beside a move stays fresh.
+  pub kind_by : now.descriptor ≡ core.descriptor → now.origin.table ≡ core.origin.table
+      → (IsStaleCopy core c → (is_running stepped ≡ true → is_whole now stepped ≡ false → (is_settled now c.pp ≡ true) × (is_wanted_stale now c.pp ≡ true)) × (is_running stepped ≡ true → is_whole now stepped ≡ true → (is_stale now c.pp ≡ true) × (is_wanted_stale now c.pp ≡ false)))
+      → (IsMove core c → (is_running stepped ≡ true → is_whole now stepped ≡ true → is_wanted_stale now c.pp ≡ false) × (list_any (stays_fresh now) (copies_in now.descriptor c.lv c.lp) ≡ true))
+      → (b : Bool) → IsOfKind b core c → IsOfKind b now stepped
+  kind_by same origin stale clear false k = record { its = ap (λ (d : Descriptor). copy_at (copies_in d c.lv c.lp) c.copy) same ∙ k.its; stale = (stale k).0; clearing = (stale k).1 }
+  kind_by same origin stale clear true k = record {
+    from = k.from;
+    its = ap (λ (d : Descriptor). copy_at (copies_in d c.lv c.lp) c.copy) same ∙ k.its;
+    free = ap (λ (d : Descriptor). is_among (partitions_used d) c.pp) same ∙ k.free;
+    member = k.member;
+    member_is = ap (λ (d : Descriptor). member_of d c.pp.disk) same ∙ k.member_is;
+    inside = k.inside;
+    apart = ap (λ (d : Descriptor). list_any (λ (p : Pp). not (is_pp p k.from) && p.disk == c.pp.disk) (copies_in d c.lv c.lp)) same ∙ k.apart;
+    there = ap (λ (s : Status). calls_missing s c.pp.disk) origin ∙ k.there;
+    called = ap (λ (s : Status). calls_stale s c.pp) origin ∙ k.called;
+    clear = (clear k).0;
+    fresh = (clear k).1;
+  }
+
+  -- what has ended claims no more of a status than that some copy beside a move stays fresh
+  pub kind_over : now.descriptor ≡ core.descriptor → now.origin.table ≡ core.origin.table → is_running stepped ≡ false
+      → (list_any (stays_fresh core) (copies_in core.descriptor c.lv c.lp) ≡ true → list_any (stays_fresh now) (copies_in now.descriptor c.lv c.lp) ≡ true) → (b : Bool) → IsOfKind b core c → IsOfKind b now stepped
+  kind_over same origin over fresh = kind_by same origin (λ k. (λ goes e. no goes, λ goes e. no goes)) (λ k. (λ goes e. no goes, fresh k.fresh))
+    where
+      no : {X : Type 0} → is_running stepped ≡ true → X
+      no goes = absurd (let e : true ≡ false = sym goes ∙ over in cc e)
+
+  -- So it is where the statuses stay, and it runs only where it did.
+  pub kind_still : now.descriptor ≡ core.descriptor → now.origin.table ≡ core.origin.table → now.status ≡ core.status → (is_running stepped ≡ true → is_running c ≡ true) → (b : Bool) → IsOfKind b core c → IsOfKind b now stepped
+  kind_still same origin status runs b k = subst (λ (g : Descriptor × Stored × Status). IsOfKind b (of g) stepped) (λ i. (sym same i, sym status i, sym origin i)) (by b k)
+    where
+      of : Descriptor × Stored × Status → Core
+      of g = record now { descriptor = g.0; status = g.1; origin = record now.origin { table = g.2 } }
+
+      by : (b : Bool) → IsOfKind b core c → IsOfKind b (of (core.descriptor, core.status, core.origin.table)) stepped
+      by false k = record { its = k.its; stale = λ goes part. k.stale (runs goes) part; clearing = λ goes all. k.clearing (runs goes) all }
+      by true k = record {
+        from = k.from;
+        its = k.its;
+        free = k.free;
+        member = k.member;
+        member_is = k.member_is;
+        inside = k.inside;
+        apart = k.apart;
+        there = k.there;
+        called = k.called;
+        clear = λ goes all. k.clear (runs goes) all;
+        fresh = k.fresh;
+      }
 
 -- it goes on by the same step, where nothing is in its way and its marks hold
 pub copy_marked : (core now : Core) (c : OpenCopy) → now.descriptor ≡ core.descriptor → next_id core.history ≤ next_id now.history → IsCopy core c → (is_free_step core c ≡ true → is_free_step now c ≡ true)
-    → (is_running c ≡ true → is_whole now c ≡ false → (is_settled now c.pp ≡ true) × (is_wanted_stale now c.pp ≡ true))
-    → (is_running c ≡ true → is_whole now c ≡ true → (is_stale now c.pp ≡ true) × (is_wanted_stale now c.pp ≡ false)) → IsCopy now c
-copy_marked core now c same later its free stale clearing = copy_stepped core now c c.step c.tried c.end same later its its.room (λ idle. free (its.free idle)) its.hand
+    → IsOfKind c.moves now c → IsCopy now c
+copy_marked core now c same later its free kind = copy_stepped core now c c.step c.tried c.end same later its its.room (λ idle. free (its.free idle)) its.hand
     (subst (λ (d : Descriptor). (disk : ℕ) → has c.tried disk ≡ true → list_any (λ (p : Pp). not (is_pp p c.pp) && p.disk == disk) (copies_in d c.lv c.lp) ≡ true) (sym same) its.tried)
     (subst (λ (d : Descriptor). IsReadFrom c.step (copies_in d c.lv c.lp) c) (sym same) its.source)
     (subst (λ (d : Descriptor). is_running c ≡ true → is_idle c.step ≡ false → is_whole (record core { descriptor = d }) c ≡ false) (sym same) its.under_way)
-    stale clearing
+    kind
 
 -- A core in which these parts have changed: the statuses, the notes, the descriptor and the origin stay.
 module _ (core : Core) (history : Log) (requests : List Open) (queue : Waiting) (copy : Option OpenCopy) (pool : List Bool) (flying : List Flown) (entries : List CacheEntry) (last : List ℕ) where
   abbrev pub changed : Core
   changed = record core { history = history; requests = requests; queue = queue; copy = copy; pool = pool; flying = flying; cache = record core.cache { entries = entries }; last = last }
 
-  pub shape_on : (o : Open) → IsShaped core o → IsShaped changed o
-  shape_on o s = shape_still core changed refl o s
+  pub shape_on : SamePlaces core changed → (o : Open) → IsShaped core o → IsShaped changed o
+  shape_on places o s = shape_still core changed refl places o s
 
   pub laid_on : (r : Request) → IsLaid core r → IsLaid changed r
   laid_on r l = record { within = l.within; blocks = l.blocks; most = l.most; id = l.id }
@@ -114,27 +175,38 @@ module _ (core : Core) (history : Log) (requests : List Open) (queue : Waiting) 
     pub ready_on : IsReady core o.request → IsReady changed o.request
     ready_on r = record { free = λ past. free (r.free past); recorded = r.recorded; wanted = r.wanted; named = r.named; dirty = r.dirty }
 
-    pub judged_on : IsJudged core o → IsJudged changed o
-    judged_on j = record {
+    caught_before : (p : Pp) → is_caught changed (group_in core o.request.ask) p ≡ true → is_caught core (group_in core o.request.ask) p ≡ true
+    caught_before p is = by (is_caught core (group_in core o.request.ask) p) refl
+      where
+        by : (b : Bool) → is_caught core (group_in core o.request.ask) p ≡ b → is_caught core (group_in core o.request.ask) p ≡ true
+        by true before = before
+        by false none = absurd (let e : true ≡ false = sym is ∙ caught p none in cc e)
+
+    pub judged_on : ((p : Pp) → is_among (places_for changed o.request.ask) p ≡ true → is_among (places_for core o.request.ask) p ≡ true) → IsJudged core o → IsJudged changed o
+    judged_on before j = record {
       uncaught = all_weaker (λ (t : Target). may_lack o t && is_caught core (group_in core o.request.ask) t.pp ≡ false) (λ (t : Target). may_lack o t && is_caught changed (group_in core o.request.ask) t.pp ≡ false)
           (λ t is. and_on (may_lack o t) (is_caught core (group_in core o.request.ask) t.pp) (is_caught changed (group_in core o.request.ask) t.pp) (caught t.pp) is) o.request.targets.items j.uncaught;
       due = λ status. most_on (count_by (is_failed_and_sure core) o.request.targets.items) (is_kept core o.request) (will_be_kept core o.request) (will_be_kept changed o.request)
           (none_on (λ (t : Target). is_done t.state && is_caught core (group_in core o.request.ask) t.pp) (λ (t : Target). is_done t.state && is_caught changed (group_in core o.request.ask) t.pp)
           (λ t. and_on (is_done t.state) (is_caught core (group_in core o.request.ask) t.pp) (is_caught changed (group_in core o.request.ask) t.pp) (caught t.pp)) o.request.targets.items) (j.due status);
+      missed = j.missed;
       all = λ begun p among. left_on (is_among (pps_of o.request.targets.items) p) (is_settled core p) (is_wanted_stale core p) (is_caught core (group_in core o.request.ask) p) (is_caught changed (group_in core o.request.ask) p) (caught p) (j.all begun p among);
+      place = λ begun p among.
+          let its = among_filtered (is_caught changed (group_in core o.request.ask)) (places_for changed o.request.ask) p among in
+          j.place begun p (among_filter (is_caught core (group_in core o.request.ask)) (places_for core o.request.ask) p (caught_before p its.1) (before p its.0));
     }
 
-    pub open_on : IsOpenOne core o → IsOpenOne changed o
-    open_on it = record {
+    pub open_on : SamePlaces core changed → IsOpenOne core o → IsOpenOne changed o
+    open_on places it = record {
       laid = laid_on o.request it.laid;
-      waits = λ waits. let r = it.waits waits in record { shape = shape_on o r.shape; ready = ready_on r.ready; judged = λ write. judged_on (r.judged write) };
+      waits = λ waits. let r = it.waits waits in record { shape = shape_on places o r.shape; ready = ready_on r.ready; judged = λ write. judged_on (λ p among. ap (λ (ps : List Pp). is_among ps p) (places o.request.ask) ∙ among) (r.judged write) };
       over = it.over;
       still = it.still;
     }
 
   -- the copy that is open
   pub bring_on : (c : OpenCopy) → next_id core.history ≤ next_id history → (is_free_step core c ≡ true → is_free_step changed c ≡ true) → IsCopy core c → IsCopy changed c
-  bring_on c later free its = copy_marked core changed c refl later its free its.stale its.clearing
+  bring_on c later free its = copy_marked core changed c refl later its free (kind_still core changed c c.step c.tried c.end refl refl refl (λ goes. goes) c.moves its.kind)
 
 -- ---- causes
 
@@ -155,10 +227,10 @@ module _ (s : State) (history : Log) (requests : List Open) (queue : Waiting) (c
   counted_on t its = record { began = its.began; since = its.since }
 
   pub origin_on : IsTrueToOrigin s → IsTrueToOrigin moved
-  origin_on its = record { since = its.since; votes = its.votes; still_missing = its.still_missing; missing = its.missing; stale = its.stale }
+  origin_on its = record { since = its.since; votes = its.votes; rows = its.rows; still_missing = its.still_missing; missing = its.missing; stale = its.stale }
 
   pub copy_on : (copies : List Pp) (c : OpenCopy) → IsCausedAmong s copies c → IsCausedAmong moved copies c
-  copy_on copies c its = record { began = its.began; since = its.since; tried = its.tried; failed = λ e. sources_on (its.failed e) }
+  copy_on copies c its = record { began = its.began; since = its.since; tried = its.tried; own_began = its.own_began; own_since = its.own_since; failed = λ e. sources_on (its.failed e) }
     where
       sources_on : {own : Type 0} → own ⊎ HaveSourcesFailed s copies c → own ⊎ HaveSourcesFailed moved copies c
       sources_on (inl own) = inl own

@@ -27,7 +27,7 @@ use Rattle.lvm_status.specs.Update.{seen}
 use Rattle.lvm_status.specs.declared.writes.Writes.{Writes}
 use Rattle.lvm_session.specs.Bringing.{copy_ends, end_of, has_row, is_whole, step_row, with_back, with_copy_end}
 use Rattle.lvm_session.specs.Enabled.{same_status}
-use Rattle.lvm_session.specs.Judging.{copies_for, copies_in, group_in, held_of, is_caught, is_kept, is_missing, is_running, is_settled, is_stale, is_sure, is_waiting, is_wanted_stale, lp_of, place_of, pps_of}
+use Rattle.lvm_session.specs.Judging.{copies_for, copies_in, group_in, held_of, is_caught, is_kept, is_missing, is_running, is_settled, is_stale, is_sure, is_sure_at, is_waiting, is_wanted_stale, lp_of, place_of, places_for, pps_of}
 use Rattle.lvm_session.specs.State.{Core, state, State}
 use Rattle.lvm_session.specs.declared.bringing.CopyEnd.TheVariants as ending
 use Rattle.lvm_session.specs.declared.bringing.OpenCopy.{OpenCopy}
@@ -40,10 +40,10 @@ use Rattle.lvm_session.specs.Calls.{copy_at}
 use Rattle.lvm_session.specs.Ends.{given_back}
 use Rattle.lvm_session.specs.Events.{IsDataTransfer}
 use Rattle.lvm_session.specs.Marks.{due_of, due_targets, hits_copy, is_among}
-use Rattle.lvm_session.specs.Causes.{AreCaused, AreCounted, FailedSince, FailedSinceOpening, fails_on, faults_at_first, faults_at_opening, HasFailed, HaveSourcesFailed, is_blamed, is_held_stale, IsAnswered, IsCaused, IsChosenSince, IsCausedAmong, IsCounted, IsLandedFor, IsTrueToOrigin}
+use Rattle.lvm_session.specs.Causes.{AreCaused, AreCounted, FailedSince, FailedSinceOpening, fails_on, faults_at_first, faults_at_opening, own_faults, OwnFailedSinceOpening, HasFailed, HaveSourcesFailed, is_blamed, is_held_stale, IsAnswered, IsCaused, IsChosenSince, IsCausedAmong, IsCounted, IsLandedFor, IsTrueToOrigin}
 use Rattle.lvm_session.specs.Left.{copy_updates, if_so, marks_later}
 use Rattle.lvm_session.specs.Owners.{AreOwned, flies, IsDataOf, IsTransferOf, same_owner}
-use Rattle.lvm_session.specs.Requests.{is_left_out, is_wanted_due, IsJudged, IsOpenOne, IsRequest, IsShaped, IsTarget, may_lack, wants_status, will_be_kept}
+use Rattle.lvm_session.specs.Requests.{IsAimed, is_left_out, is_wanted_due, IsJudged, IsMarkedPlace, IsOpenOne, IsRequest, IsShaped, IsTarget, may_lack, wants_status, will_be_kept}
 use Rattle.lvm_session.specs.Sound.{count_if, has_number, is_clearing, is_dark, is_hand, IsAsked, IsCopy, IsFitting, IsGoing, IsOn, IsSound, IsTold, may_be_fresh, out_with, pins, stays_fresh, with_row}
 use Rattle.lvm_keeps.proofs.CausesLemmas.{answered_when_on}
 use Rattle.lvm_keeps.proofs.DarkLemmas.Ending.{back, back_long}
@@ -54,11 +54,14 @@ use Rattle.lvm_keeps.proofs.RequestsLemmas.{bring_on, changed, if_on, no_cause, 
 use Rattle.lvm_keeps.proofs.DarkLemmas.Tables.{rows_set}
 use Rattle.lvm_keeps.proofs.SoundLemmas.Whole.{sound_when_on}
 use Rattle.lvm_keeps_events.proofs.TargetsLemmas.{at_state, pps_set}
+use Rattle.lvm_session.proofs.MovesLemmas.{among_filter, among_filtered, move_of, open_one, place_open, stale_of}
+use Rattle.lvm_keeps.proofs.CacheLemmas.{no_copy, no_place}
+use Rattle.lvm_keeps_events.proofs.JudgingLemmas.OpenLp.{numbered, target_lp}
 use Rattle.lvm_keeps_events.proofs.OnePlace.{one_lp, among_at}
 use Rattle.lvm_keeps_events.proofs.EndsLemmas.CopyReadFail.{by_place, of_place}
 use Rattle.lvm_keeps_events.proofs.EndsLemmas.Counts.{counts_keep, rose_since}
 use Rattle.lvm_keeps_events.proofs.OwnersLemmas.Removal.{as_many, count_taken, none_left, others, rows_left, tickets_left}
-use Rattle.lvm_keeps_events.proofs.JudgingLemmas.DuesMarks.{among_get, due_one, is_sure_done, is_sure_target, IsDueOne, IsSpared, left_due, on_one, own_pp, pp_same, spared}
+use Rattle.lvm_keeps_events.proofs.JudgingLemmas.DuesMarks.{among_get, due_one, is_sure_done, is_sure_target, IsDueOne, IsSpared, left_due, left_missed, on_one, own_pp, pp_same, spared}
 use Rattle.lvm_keeps_events.proofs.JudgingLemmas.Entailing.{IsEntailed}
 use Rattle.lvm_keeps_events.proofs.SoundLemmas.Failing.{LeavesParts, one_on as one_beside, parted, rows_on as rows_beside}
 use Rattle.lvm_keeps_events.proofs.RequestsLemmas.{asked_now, begun_so, failed_badly, in_data, laid, learnt, none_done, none_flies, others_fly, past, ready, request, shape, told, waits, was_flying}
@@ -71,9 +74,9 @@ use Rattle.lvm_keeps_events.proofs.JudgingLemmas.Staling.{blamed_by, bring_on as
 unsure_by : (core : Core) (p : Pp) → is_wanted_stale core p ≡ true → is_sure core p ≡ false
 unsure_by core p e = ap (λ b. not (is_stale core p) && not b) e ∙ and_false (not (is_stale core p))
 
--- what is sure isn't stale by the status in flight either
-pub sure_not_held : (core : Core) → IsGoing core → (p : Pp) → is_sure core p ≡ true → is_held_stale core p ≡ false
-sure_not_held core going p sure = by (is_held_stale core p) refl
+-- a copy that is sure isn't stale by the status in flight either
+pub sure_not_held : (core : Core) → IsGoing core → (lv lp : ℕ) (p : Pp) → is_among (copies_in core.descriptor lv lp) p ≡ true → is_sure core p ≡ true → is_held_stale core p ≡ false
+sure_not_held core going lv lp p among sure = by (is_held_stale core p) refl
   where
     parts : (not (is_stale core p) ≡ true) × (not (is_wanted_stale core p) ≡ true)
     parts = both (not (is_stale core p)) (not (is_wanted_stale core p)) sure
@@ -86,7 +89,11 @@ sure_not_held core going p sure = by (is_held_stale core p) refl
         of (Some c) its e =
             let same = both (is_running c && is_whole core c) (is_pp p c.pp) e in
             let goes = both (is_running c) (is_whole core c) same.0 in
-            ap (is_stale core) (pp_same p c.pp same.1) ∙ (its.clearing goes.0 goes.1).0
+            of_kind c its goes.0 goes.1 (pp_same p c.pp same.1) c.moves refl
+          where
+            of_kind : (c : OpenCopy) → IsCopy core c → is_running c ≡ true → is_whole core c ≡ true → p ≡ c.pp → (b : Bool) → c.moves ≡ b → is_stale core p ≡ true
+            of_kind c its runs whole same false stays = ap (is_stale core) same ∙ ((stale_of core c its stays).clearing runs whole).0
+            of_kind c its runs whole same true moves = not_so (sym (no_copy core.descriptor lv lp c.pp (move_of core c its moves).free) ∙ ap (is_among (copies_in core.descriptor lv lp)) (sym same) ∙ among)
 
     by : (b : Bool) → is_held_stale core p ≡ b → b ≡ false
     by false is = refl
@@ -212,7 +219,7 @@ module _ (old : State) (sound : IsSound old) (on : old.core.power ≡ power.On) 
     -- ---- requests
 
     still : (y : Open) → IsOpenOne core y → IsOpenOne after y
-    still y it = open_on marked core.history requests queue copy pool_now (remove core.flying at) core.cache.entries core.last y (λ e. e) (λ p e. e) (one_staler mid due wanted writes like y (one_beside core queue copy pool left y it))
+    still y it = open_on marked core.history requests queue copy pool_now (remove core.flying at) core.cache.entries core.last y (λ e. e) (λ p e. e) (λ q. refl) (one_staler mid due wanted writes like y (one_beside core queue copy pool left y it))
 
     uncaught_aim : is_write ask ≡ true → may_lack x ended && is_caught mid (group_in core ask) aim.pp ≡ false
     uncaught_aim write = by ok refl
@@ -230,11 +237,23 @@ module _ (old : State) (sound : IsSound old) (on : old.core.power ≡ power.On) 
       uncaught = all_set (λ (t : Target). may_lack o t && is_caught core (group_in core ask) t.pp ≡ false) (λ (t : Target). may_lack x t && is_caught mid (group_in core ask) t.pp ≡ false)
           (λ t is. and_on (may_lack o t) (is_caught core (group_in core ask) t.pp) (is_caught mid (group_in core ask) t.pp) (left.caught (group_in core ask) t.pp) is) targets target ended (uncaught_aim write) j.uncaught;
       due = λ status. due_so (is_write ask && are_over now_targets) refl status;
+      missed = λ status. missed_so (is_write ask && are_over now_targets) refl status;
       all = λ begun p among. left_staler mid due wanted writes like x p
           (left_on (is_among (pps_of now_targets) p) (is_settled core p) (is_wanted_stale core p) (is_caught core (group_in core ask) p) (is_caught mid (group_in core ask) p) (left.caught (group_in core ask) p)
           (ap (λ ps. is_among ps p || is_left_out core ask p) (pps_set targets target aim (end_state ok) aim_is) ∙ j.all (begun_so core going place target o there aim aim_is at row row_there own ok buf long) p among));
+      place = λ begun p among.
+          let its = among_filtered (is_caught mid (group_in core ask)) (places_for mid ask) p among in
+          ap (λ ps. is_among ps p) (pps_set targets target aim (end_state ok) aim_is)
+          ∙ j.place (begun_so core going place target o there aim aim_is at row row_there own ok buf long) p (among_filter (is_caught core (group_in core ask)) (places_for core ask) p (caught_before p its.1) (ap (λ (ps : List Pp). is_among ps p) (left.places ask) ∙ its.0));
     }
       where
+        caught_before : (p : Pp) → is_caught mid (group_in core ask) p ≡ true → is_caught core (group_in core ask) p ≡ true
+        caught_before p caught = by (is_caught core (group_in core ask) p) refl
+          where
+            by : (b : Bool) → is_caught core (group_in core ask) p ≡ b → is_caught core (group_in core ask) p ≡ true
+            by true is = is
+            by false is = not_so (sym (left.caught (group_in core ask) p is) ∙ caught)
+
         none_kept : is_write ask && are_over now_targets ≡ true → is_kept core x.request ≡ false → is_kept marked x.request || will_be_kept mid x.request ≡ false
         none_kept over none = by (is_kept marked x.request) refl
           where
@@ -242,15 +261,23 @@ module _ (old : State) (sound : IsSound old) (on : old.core.power ≡ power.On) 
             by false is = entailed.uncarried over none
             by true is = not_so (sym none ∙ kept_less mid due wanted writes like x.request is)
 
+        -- a write that goes on waits for no status
+        ended_not : {X : Type 0} → (is_write ask && are_over now_targets) ≡ false → wants_status o.request.phase ≡ true → X
+        ended_not over status = not_so (sym (ap wants_status (in_data core going place target o there aim aim_is at row row_there own ok buf long)) ∙ status)
+
         due_so : (b : Bool) → (is_write ask && are_over now_targets) ≡ b → wants_status (if b then phase.WantStatus else o.request.phase) ≡ true → is_wanted_due marked x.request ≡ true
         due_so true over status = left_due core x.request marked over (λ p among. unsure_by marked p (due_wanted mid due wanted writes like p (entailed.wants p among))) (none_kept over)
-        due_so false over status = not_so (sym (ap wants_status (in_data core going place target o there aim aim_is at row row_there own ok buf long)) ∙ status)
+        due_so false over status = ended_not over status
+
+        missed_so : (b : Bool) → (is_write ask && are_over now_targets) ≡ b → wants_status (if b then phase.WantStatus else o.request.phase) ≡ true → AllByRecursion (IsMarkedPlace marked x.request) now_targets
+        missed_so true over status = left_missed core x.request marked over (λ p among. unsure_by marked p (due_wanted mid due wanted writes like p (entailed.wants p among)))
+        missed_so false over status = ended_not over status
 
     its_one : IsOpenOne after x
     its_one = record {
       laid = let l = laid core going place target o there aim aim_is at row row_there own ok buf long in record { within = l.within; blocks = l.blocks; most = l.most; id = l.id };
       waits = λ e. record {
-        shape = shape_still core after refl x its_shape;
+        shape = shape_still core after refl left.places x its_shape;
         ready = ready_on marked core.history requests queue copy pool_now (remove core.flying at) core.cache.entries core.last x (λ free. free) (λ p free. free)
             (ready_staler mid due wanted writes like x.request
             (ready_on core core.history core.requests queue copy pool core.flying core.cache.entries core.last x (left.free (place_of o.request.id) (held_of ask)) (left.caught (group_in core ask)) (ready core going place target o there aim aim_is at row row_there own ok buf long)));
@@ -288,13 +315,6 @@ module _ (old : State) (sound : IsSound old) (on : old.core.power ≡ power.On) 
     }
 
     -- ---- the copy
-
-    bring : IfSome copy (IsCopy after)
-    bring = by copy refl left.bring
-      where
-        by : (m : Option OpenCopy) → copy ≡ m → IfSome m (IsCopy mid) → IfSome m (IsCopy after)
-        by None is it = tt
-        by (Some c) is it = bring_on marked core.history requests queue copy pool_now (remove core.flying at) core.cache.entries core.last c (omega arith) (λ e. e) (bring_staler mid due wanted writes like c (entailed.apart c is) it)
 
     reviewed : copy_ends after ≡ None
     reviewed = by copy refl
@@ -405,23 +425,34 @@ module _ (old : State) (sound : IsSound old) (on : old.core.power ≡ power.On) 
 
     -- a copy that is sure and due is a target beside another one, which is sure and isn't
     module _ (lv lp k : ℕ) (q : Pp) (q_there : slice_get (copies_in core.descriptor lv lp) k ≡ Some q) (q_stays : stays_fresh core q ≡ true) (its : is_among (due_of core x.request) q ≡ true) where
-      one : IsDueOne core x.request q
+      abbrev one : IsDueOne core x.request q
       one = due_one core x.request q its
 
-      other : IsSpared (is_sure_target core) now_targets (due_targets core x.request)
-      other = spared core x.request its_shape.differ q its (stays_sure core q q_stays)
+      its_target : (j : ℕ) (t : Target) → slice_get now_targets j ≡ Some t → IsTarget core ask t
+      its_target j t t_there = all_at (IsTarget core ask) now_targets j t its_shape.targets t_there
 
-      its_copy : (j : ℕ) (t : Target) → slice_get now_targets j ≡ Some t → is_among (copies_for core ask) t.pp ≡ true
-      its_copy j t t_there = (all_at (IsTarget core ask) now_targets j t its_shape.targets t_there).copy
+      among : is_among (copies_in core.descriptor lv lp) q ≡ true
+      among = among_get (copies_in core.descriptor lv lp) k q q_there
+
+      -- it is a copy, and so no place to which one moves
+      stands_so : one.it.target.moves ≡ false
+      stands_so = no_place core going lv lp q among ask one.it.target (its_target one.it.place one.it.target one.it.there) one.it.pp_is
+
+      other : IsSpared (is_sure_target core) now_targets (due_targets core x.request)
+      other = spared core x.request its_shape.differ q its (all_and (not one.it.target.moves) (is_sure core one.it.target.pp) (ap not stands_so) (ap (is_sure core) (sym one.it.pp_is) ∙ stays_sure core q q_stays))
+
+      other_sure : (not other.target.moves ≡ true) × (is_sure core other.target.pp ≡ true)
+      other_sure = both (not other.target.moves) (is_sure core other.target.pp) other.passes
 
       its_lp : (lv ≡ lv_of ask) × (lp ≡ lp_of core ask)
-      its_lp = one_lp core.descriptor sound.fitting.valid lv lp (lv_of ask) (lp_of core ask) q (among_get (copies_in core.descriptor lv lp) k q q_there) (ap (is_among (copies_for core ask)) one.it.pp_is ∙ its_copy one.it.place one.it.target one.it.there)
+      its_lp = one_lp core.descriptor sound.fitting.valid lv lp (lv_of ask) (lp_of core ask) q among
+          (ap (is_among (copies_for core ask)) one.it.pp_is ∙ subst (λ (b : Bool). IsAimed b core ask one.it.target) stands_so (its_target one.it.place one.it.target one.it.there).copy)
 
       other_among : is_among (copies_in core.descriptor lv lp) other.target.pp ≡ true
-      other_among = ap (λ n. is_among (copies_in core.descriptor n lp) other.target.pp) its_lp.0 ∙ ap (λ n. is_among (copies_in core.descriptor (lv_of ask) n) other.target.pp) its_lp.1 ∙ its_copy other.place other.target other.there
+      other_among = ap (λ n. is_among (copies_in core.descriptor n lp) other.target.pp) its_lp.0 ∙ ap (λ n. is_among (copies_in core.descriptor (lv_of ask) n) other.target.pp) its_lp.1 ∙ subst (λ (b : Bool). IsAimed b core ask other.target) (is_false other.target.moves other_sure.0) (its_target other.place other.target other.there).copy
 
       other_held : is_held_stale core other.target.pp ≡ false
-      other_held = sure_not_held core going other.target.pp other.passes
+      other_held = sure_not_held core going lv lp other.target.pp other_among other_sure.1
 
       undue : due other.target.pp ≡ false
       undue = of (due other.target.pp) refl
@@ -435,7 +466,7 @@ module _ (old : State) (sound : IsSound old) (on : old.core.power ≡ power.On) 
           of true e = not_so (no (entailed.due_is other.target.pp e))
 
       stays_other : stays_fresh core other.target.pp ≡ true
-      stays_other = ap (λ b. not b && not (is_wanted_stale core other.target.pp)) other_held ∙ (both (not (is_stale core other.target.pp)) (not (is_wanted_stale core other.target.pp)) other.passes).1
+      stays_other = ap (λ b. not b && not (is_wanted_stale core other.target.pp)) other_held ∙ (both (not (is_stale core other.target.pp)) (not (is_wanted_stale core other.target.pp)) other_sure.1).1
 
       some_stays : list_any (stays_fresh after) (copies_in core.descriptor lv lp) ≡ true
       some_stays = any_among (stays_fresh after) (copies_in core.descriptor lv lp) other.target.pp other_among (stays_on mid due wanted writes like other.target.pp stays_other undue)
@@ -450,7 +481,7 @@ module _ (old : State) (sound : IsSound old) (on : old.core.power ≡ power.On) 
         found = found_at (stays_fresh core) copies (going.fresh lv lp (any_on (may_be_fresh after) (may_be_fresh core) (λ p e. may_less mid due wanted writes like p e) copies may))
 
         held_not : is_held_stale core found.1 ≡ true → false ≡ true
-        held_not held = sym (sure_not_held core going found.1 (stays_sure core found.1 found.3)) ∙ held
+        held_not held = sym (sure_not_held core going lv lp found.1 (among_get copies found.0 found.1 found.2) (stays_sure core found.1 found.3)) ∙ held
 
         of : (is_among (due_of core x.request) found.1 ≡ true) ⊎ (is_held_stale core found.1 ≡ true) → list_any (stays_fresh after) copies ≡ true
         of (inl its) = some_stays lv lp found.0 found.1 found.2 found.3 its
@@ -459,6 +490,13 @@ module _ (old : State) (sound : IsSound old) (on : old.core.power ≡ power.On) 
         by : (b : Bool) → due found.1 ≡ b → list_any (stays_fresh after) copies ≡ true
         by false none = any_passes_from_place (stays_fresh after) copies found.0 found.1 found.2 (stays_on mid due wanted writes like found.1 found.3 none)
         by true is = of (entailed.due_is found.1 is)
+
+    bring : IfSome copy (IsCopy after)
+    bring = by copy refl left.bring
+      where
+        by : (m : Option OpenCopy) → copy ≡ m → IfSome m (IsCopy mid) → IfSome m (IsCopy after)
+        by None is it = tt
+        by (Some c) is it = bring_on marked core.history requests queue copy pool_now (remove core.flying at) core.cache.entries core.last c (omega arith) (λ e. e) (bring_staler mid due wanted writes like fresh c (entailed.apart c is) it)
 
     -- ---- causes
 
@@ -503,8 +541,16 @@ module _ (old : State) (sound : IsSound old) (on : old.core.power ≡ power.On) 
     its_fails : (p : Pp) → fails_on p o ≡ true → is_blamed core p ≡ true
     its_fails p e = fails_blamed p (any_passes_from_place (fails_on p) core.requests place o there e)
 
-    due_blamed : (p : Pp) → due p ≡ true → Blame p
-    due_blamed p is = of (entailed.due_is p is)
+    -- a target that was usable is a copy
+    usable_copy : (q : Ask) (t : Target) → IsTarget core q t → t.usable ≡ true → is_among (copies_for core q) t.pp ≡ true
+    usable_copy q t aimed usable = by t.moves aimed.copy
+      where
+        by : (b : Bool) → IsAimed b core q t → is_among (copies_for core q) t.pp ≡ true
+        by false copy = copy
+        by true at = not_so (sym at.2 ∙ usable)
+
+    due_blamed : (lv lp : ℕ) (p : Pp) → is_among (copies_in core.descriptor lv lp) p ≡ true → due p ≡ true → Blame p
+    due_blamed lv lp p copy is = of (entailed.due_is p is)
       where
         of : (is_among (due_of core x.request) p ≡ true) ⊎ (is_held_stale core p ≡ true) → Blame p
         of (inr held) = inl (held_blamed p held)
@@ -513,8 +559,11 @@ module _ (old : State) (sound : IsSound old) (on : old.core.power ≡ power.On) 
             one : IsDueOne core x.request p
             one = due_one core x.request p its
 
-            of_one : (is_failed one.it.target.state ≡ true) ⊎ (is_sure core one.it.target.pp ≡ false) → Blame p
-            of_one (inr unsure) = inl (unsure_blamed p (ap (is_sure core) one.it.pp_is ∙ unsure))
+            stays : one.it.target.moves ≡ false
+            stays = no_place core going lv lp p copy ask one.it.target (all_at (IsTarget core ask) now_targets one.it.place one.it.target its_shape.targets one.it.there) one.it.pp_is
+
+            of_one : (is_failed one.it.target.state ≡ true) ⊎ (is_sure_at core one.it.target ≡ false) → Blame p
+            of_one (inr unsure) = inl (unsure_blamed p (ap (is_sure core) one.it.pp_is ∙ sym (ap (λ b. not b && is_sure core one.it.target.pp) stays) ∙ unsure))
             of_one (inl failed) = of_failed (failed_was one.it.target one.it.place one.it.there failed)
               where
                 of_failed : (fails_on one.it.target.pp o ≡ true) ⊎ (is_write ask ≡ false) ⊎ ((ok ≡ false) × (one.it.target.pp ≡ aim.pp)) → Blame p
@@ -522,8 +571,8 @@ module _ (old : State) (sound : IsSound old) (on : old.core.power ≡ power.On) 
                 of_failed (inr (inl read)) = not_so (sym read ∙ (both (is_write ask) (are_over now_targets) one.over).0)
                 of_failed (inr (inr now_failed)) = inr (now_failed.0, one.it.pp_is ∙ now_failed.1)
 
-    blame_back : (p : Pp) → is_blamed after p ≡ true → Blame p
-    blame_back p e = of (either (is_missing marked p.disk || is_wanted_stale marked p || is_held_stale core p) (list_any (fails_on p) requests) e)
+    blame_back : (lv lp : ℕ) (p : Pp) → is_among (copies_in core.descriptor lv lp) p ≡ true → is_blamed after p ≡ true → Blame p
+    blame_back lv lp p copy e = of (either (is_missing marked p.disk || is_wanted_stale marked p || is_held_stale core p) (list_any (fails_on p) requests) e)
       where
         of_fails : (list_any (fails_on p) core.requests ≡ true) ⊎ (fails_on p x ≡ true) → Blame p
         of_fails (inl before) = inl (fails_blamed p before)
@@ -540,34 +589,43 @@ module _ (old : State) (sound : IsSound old) (on : old.core.power ≡ power.On) 
 
         of_mark : (is_blamed mid p ≡ true) ⊎ (due p ≡ true) → Blame p
         of_mark (inl before) = inl before
-        of_mark (inr is) = due_blamed p is
+        of_mark (inr is) = due_blamed lv lp p copy is
 
         of : (is_missing marked p.disk || is_wanted_stale marked p || is_held_stale core p ≡ true) ⊎ (list_any (fails_on p) requests ≡ true) → Blame p
         of (inl first) = of_mark (blamed_by mid due wanted writes like p (ap (λ b. b || list_any (fails_on p) core.requests) first))
         of (inr fails) = of_fails (set_either (fails_on p) core.requests place x fails)
 
-    target_caused : (t : Target) → IsCaused s.device core t × IsCounted old t → IsCaused device after t
-    target_caused t its e = of (either (is_failed t.state) (t.usable && is_blamed after t.pp) e)
+    target_caused : (q : Ask) (t : Target) → IsTarget core q t × (IsCaused s.device core t × IsCounted old t) → IsCaused device after t
+    target_caused q t its e = of (either (is_failed t.state) (t.usable && is_blamed after t.pp) e)
       where
         blamed_of : t.usable ≡ true → Blame t.pp → HasFailed device t
-        blamed_of can (inl before) = its.0 (ap (λ b. is_failed t.state || b) (all_and t.usable (is_blamed core t.pp) can before) ∙ or_true (is_failed t.state))
-        blamed_of can (inr now_failed) = fault_of t its.1 now_failed.0 (ap (λ (q : Pp). q.disk) now_failed.1)
+        blamed_of can (inl before) = its.1.0 (ap (λ b. is_failed t.state || b) (all_and t.usable (is_blamed core t.pp) can before) ∙ or_true (is_failed t.state))
+        blamed_of can (inr now_failed) = fault_of t its.1.1 now_failed.0 (ap (λ (p : Pp). p.disk) now_failed.1)
 
         of : (is_failed t.state ≡ true) ⊎ (t.usable && is_blamed after t.pp ≡ true) → HasFailed device t
-        of (inl failed) = its.0 (ap (λ b. b || (t.usable && is_blamed core t.pp)) failed)
-        of (inr blame) = let parts = both t.usable (is_blamed after t.pp) blame in blamed_of parts.0 (blame_back t.pp parts.1)
+        of (inl failed) = its.1.0 (ap (λ b. b || (t.usable && is_blamed core t.pp)) failed)
+        of (inr blame) = let parts = both t.usable (is_blamed after t.pp) blame in blamed_of parts.0 (blame_back (lv_of q) (lp_of core q) t.pp (usable_copy q t its.0 parts.0) parts.1)
 
-    caused_on : (y : Open) → AreCaused s.device core y × AreCounted old y → AreCaused device after y
-    caused_on y its waiting = all_weaker (λ (t : Target). IsCaused s.device core t × IsCounted old t) (IsCaused device after) target_caused y.request.targets.items (all_both (IsCaused s.device core) (IsCounted old) y.request.targets.items (its.0 waiting) its.1)
+    -- what is so of a target of a request, and of a request
+    abbrev IsKnown : Ask → Target → Type 0
+    IsKnown q t = IsTarget core q t × (IsCaused s.device core t × IsCounted old t)
 
-    pairs : AllByRecursion (λ (y : Open). AreCaused s.device core y × AreCounted old y) core.requests
-    pairs = all_both (AreCaused s.device core) (AreCounted old) core.requests (sound_so.on on).caused sound.counted
+    abbrev AreKnown : Open → Type 0
+    AreKnown y = IsOpenOne core y × (AreCaused s.device core y × AreCounted old y)
+
+    caused_on : (y : Open) → AreKnown y → AreCaused device after y
+    caused_on y its waiting = all_weaker (IsKnown y.request.ask) (IsCaused device after) (target_caused y.request.ask) y.request.targets.items
+        (all_both (IsTarget core y.request.ask) (λ (t : Target). IsCaused s.device core t × IsCounted old t) y.request.targets.items (its.0.waits waiting).shape.targets
+        (all_both (IsCaused s.device core) (IsCounted old) y.request.targets.items (its.1.0 waiting) its.1.1))
+
+    pairs : AllByRecursion AreKnown core.requests
+    pairs = all_both (IsOpenOne core) (λ (y : Open). AreCaused s.device core y × AreCounted old y) core.requests going.requests (all_both (AreCaused s.device core) (AreCounted old) core.requests (sound_so.on on).caused sound.counted)
 
     its_pairs : AllByRecursion (λ (t : Target). IsCaused s.device core t × IsCounted old t) targets
-    its_pairs = let both_so = all_at (λ (y : Open). AreCaused s.device core y × AreCounted old y) core.requests place o pairs there in all_both (IsCaused s.device core) (IsCounted old) targets (both_so.0 waits_so) both_so.1
+    its_pairs = let both_so = all_at AreKnown core.requests place o pairs there in all_both (IsCaused s.device core) (IsCounted old) targets (both_so.1.0 waits_so) both_so.1.1
 
     its_caused : AllByRecursion (IsCaused device after) now_targets
-    its_caused = all_set (λ (t : Target). IsCaused s.device core t × IsCounted old t) (IsCaused device after) target_caused targets target ended ended_caused its_pairs
+    its_caused = all_set (IsKnown ask) (IsCaused device after) (target_caused ask) targets target ended ended_caused (all_both (IsTarget core ask) (λ (t : Target). IsCaused s.device core t × IsCounted old t) targets its_request.shape.targets its_pairs)
       where
         aim_pair : IsCaused s.device core aim × IsCounted old aim
         aim_pair = all_at (λ (t : Target). IsCaused s.device core t × IsCounted old t) targets target aim its_pairs aim_is
@@ -578,7 +636,9 @@ module _ (old : State) (sound : IsSound old) (on : old.core.power ≡ power.On) 
 
         of : (is_failed (end_state ok) ≡ true) ⊎ (aim.usable && is_blamed after aim.pp ≡ true) → HasFailed device ended
         of (inl failed) = fault_of aim aim_pair.1 (failed_badly ok failed) refl
-        of (inr blame) = let parts = both aim.usable (is_blamed after aim.pp) blame in blamed_of parts.0 (blame_back aim.pp parts.1)
+        of (inr blame) =
+            let parts = both aim.usable (is_blamed after aim.pp) blame in
+            blamed_of parts.0 (blame_back (lv_of ask) (lp_of core ask) aim.pp (usable_copy ask aim (all_at (IsTarget core ask) targets target aim its_request.shape.targets aim_is) parts.0) parts.1)
 
         ended_caused : IsCaused device after ended
         ended_caused e = of (either (is_failed (end_state ok)) (aim.usable && is_blamed after aim.pp) e)
@@ -596,7 +656,7 @@ module _ (old : State) (sound : IsSound old) (on : old.core.power ≡ power.On) 
         all_set Since Since (λ t is. is) targets target ended (all_at Since targets target aim each aim_is) each
       where
         Since : Target → Type 0
-        Since t = t.pp ≡ p → faults_at_opening c n ≤ t.faults
+        Since t = (t.pp ≡ p → faults_at_opening c n ≤ t.faults) × (t.pp ≡ c.pp → own_faults c ≤ t.faults)
 
     -- ---- why the copy failed
 
@@ -618,7 +678,7 @@ module _ (old : State) (sound : IsSound old) (on : old.core.power ≡ power.On) 
             all_and (b && is_sure core p) (not (is_missing core p.disk)) (all_and b (is_sure core p) more_parts.0 (sure_less mid due wanted writes like p more_parts.1)) (ap not (sym (missing_same mid due wanted writes like p.disk)) ∙ parts.1)
 
     pub same_cause : (copies : List Pp) (c : OpenCopy) → IsCausedAmong s copies c → IsCausedAmong now copies c
-    same_cause copies c its = record { began = its.began; since = its.since; tried = its.tried; failed = λ e. sources_on copies c (its.failed e) }
+    same_cause copies c its = record { began = its.began; since = its.since; tried = its.tried; own_began = its.own_began; own_since = its.own_since; failed = λ e. sources_on copies c (its.failed e) }
 
     module _ (c : OpenCopy) (is : core.copy ≡ Some c) (hit : hits_copy core x ok aim.pp c ≡ true) where
       abbrev copies : List Pp
@@ -646,28 +706,45 @@ module _ (old : State) (sound : IsSound old) (on : old.core.power ≡ power.On) 
       -- a target that was chosen since, and whose disk has failed since then
       since_opening : o.older ≡ false → (k : ℕ) (t : Target) → slice_get now_targets k ≡ Some t → HasFailed device t → (n : ℕ) → copy_at copies n ≡ Some t.pp → FailedSinceOpening device failed_copy n t.pp
       since_opening young k t t_there failed n n_at =
-          rose_since (faults_at_opening c n) t.faults (counts.faults t.pp.disk) (all_at (λ (u : Target). u.pp ≡ t.pp → faults_at_opening c n ≤ u.faults) now_targets k t (chosen_since waits_so young n t.pp n_at) t_there refl) failed
+          rose_since (faults_at_opening c n) t.faults (counts.faults t.pp.disk) ((all_at (λ (u : Target). (u.pp ≡ t.pp → faults_at_opening c n ≤ u.faults) × (u.pp ≡ c.pp → own_faults c ≤ u.faults)) now_targets k t (chosen_since waits_so young n t.pp n_at) t_there).0 refl) failed
+
+      -- so is one on its own disk
+      own_since_opening : o.older ≡ false → (k : ℕ) (t : Target) → slice_get now_targets k ≡ Some t → HasFailed device t → t.pp ≡ c.pp → OwnFailedSinceOpening device failed_copy
+      own_since_opening young k t t_there failed same =
+          let it = numbered core c bringing in
+          subst (λ (d : ℕ). Rose (own_faults c) (counts.faults d)) (ap (λ (q : Pp). q.disk) same)
+          (rose_since (own_faults c) t.faults (counts.faults t.pp.disk) ((all_at (λ (u : Target). (u.pp ≡ it.0 → faults_at_opening c c.copy ≤ u.faults) × (u.pp ≡ c.pp → own_faults c ≤ u.faults)) now_targets k t (chosen_since waits_so young c.copy it.0 it.1) t_there).1 same) failed)
 
       module _ (over : are_over now_targets ≡ true) (unkept : is_kept core x.request ≡ false) (young : o.older ≡ false) (among : is_among (due_of core x.request) c.pp ≡ true) where
         lost_one : IsDueOne core x.request c.pp
         lost_one = due_one core x.request c.pp among
 
-        target_copy : (k : ℕ) (t : Target) → slice_get now_targets k ≡ Some t → is_among (copies_for core ask) t.pp ≡ true
-        target_copy k t t_there = (all_at (IsTarget core ask) now_targets k t its_shape.targets t_there).copy
+        -- one that was usable is no place to which a copy moves
+        stands : (k : ℕ) (t : Target) → slice_get now_targets k ≡ Some t → t.usable ≡ true → t.moves ≡ false
+        stands k t t_there usable = by t.moves refl (all_at (IsTarget core ask) now_targets k t its_shape.targets t_there).copy
+          where
+            by : (b : Bool) → t.moves ≡ b → IsAimed b core ask t → t.moves ≡ false
+            by false e copy = e
+            by true e place = not_so (sym place.2 ∙ usable)
+
+        target_copy : (k : ℕ) (t : Target) → slice_get now_targets k ≡ Some t → t.usable ≡ true → is_among (copies_for core ask) t.pp ≡ true
+        target_copy k t t_there usable = subst (λ (b : Bool). IsAimed b core ask t) (stands k t t_there usable) (all_at (IsTarget core ask) now_targets k t its_shape.targets t_there).copy
 
         same_lp : (c.lv ≡ lv_of ask) × (c.lp ≡ lp_of core ask)
-        same_lp = one_lp core.descriptor sound.fitting.valid c.lv c.lp (lv_of ask) (lp_of core ask) c.pp (among_get copies (c.copy - 1) c.pp (by_place copies c.copy c.pp bringing.its)) (ap (is_among (copies_for core ask)) lost_one.it.pp_is ∙ target_copy lost_one.it.place lost_one.it.target lost_one.it.there)
+        same_lp =
+            let it = target_lp core going c is ask lost_one.it.target (all_at (IsTarget core ask) now_targets lost_one.it.place lost_one.it.target its_shape.targets lost_one.it.there) (sym lost_one.it.pp_is) in
+            (sym it.0, sym it.1)
 
         same_copies : copies ≡ copies_for core ask
         same_copies = ap (λ n. copies_in core.descriptor n c.lp) same_lp.0 ∙ ap (λ n. copies_in core.descriptor (lv_of ask) n) same_lp.1
 
         -- one that ended as it doesn't keep the write has failed
-        unkept_fails : (k : ℕ) (t : Target) → slice_get now_targets k ≡ Some t → is_sure core t.pp ≡ true → is_failed t.state ≡ true
+        unkept_fails : (k : ℕ) (t : Target) → slice_get now_targets k ≡ Some t → is_sure_at core t ≡ true → is_failed t.state ≡ true
         unkept_fails k t t_there sure = by (is_done t.state) (is_failed t.state) refl (all_true_at (λ (u : Target). is_ended u.state) now_targets k t over t_there)
           where
             by : (a b : Bool) → is_done t.state ≡ a → a || b ≡ true → b ≡ true
             by false b e some = some
-            by true b e some = not_so (sym unkept ∙ any_passes_from_place (is_sure_done core) now_targets k t t_there (all_and (is_done t.state) (is_sure core t.pp) e sure))
+            by true b e some = not_so (sym unkept ∙ any_passes_from_place (is_sure_done core) now_targets k t t_there (all_and (is_done t.state) (is_sure_at core t) e sure))
 
         has_failed_now : (k : ℕ) (t : Target) → slice_get now_targets k ≡ Some t → is_failed t.state ≡ true → HasFailed device t
         has_failed_now k t t_there failed = all_at (IsCaused device after) now_targets k t its_caused t_there (ap (λ b. b || (t.usable && is_blamed after t.pp)) failed)
@@ -686,7 +763,7 @@ module _ (old : State) (sound : IsSound old) (on : old.core.power ≡ power.On) 
                 (ap (λ b. is_failed usable_one.1.state || b) (all_and usable_one.1.usable (is_blamed core usable_one.1.pp) usable_one.3 blamed) ∙ or_true (is_failed usable_one.1.state))
 
             by : (b : Bool) → is_sure core usable_one.1.pp ≡ b → HasFailed device usable_one.1
-            by true sure = has_failed_now usable_one.0 usable_one.1 usable_one.2 (unkept_fails usable_one.0 usable_one.1 usable_one.2 sure)
+            by true sure = has_failed_now usable_one.0 usable_one.1 usable_one.2 (unkept_fails usable_one.0 usable_one.1 usable_one.2 (all_and (not usable_one.1.moves) (is_sure core usable_one.1.pp) (ap not (stands usable_one.0 usable_one.1 usable_one.2 usable_one.3)) sure))
             by false unsure = by_was (unsure_blamed usable_one.1.pp unsure) (was usable_one.0 usable_one.1 usable_one.2)
 
         -- so has each other copy that is sure
@@ -707,17 +784,18 @@ module _ (old : State) (sound : IsSound old) (on : old.core.power ≡ power.On) 
             by (inl its) =
                 let it = on_one now_targets p (ap (λ ps. is_among ps p) (pps_set targets target aim (end_state ok) aim_is) ∙ its) in
                 subst (FailedSinceOpening device failed_copy n) (sym it.pp_is)
-                (since_opening young it.place it.target it.there (has_failed_now it.place it.target it.there (unkept_fails it.place it.target it.there (sym (ap (is_sure core) it.pp_is) ∙ sure))) n (n_at ∙ ap (λ (q : Pp). Some q) it.pp_is))
+                (since_opening young it.place it.target it.there (has_failed_now it.place it.target it.there (unkept_fails it.place it.target it.there
+                (all_and (not it.target.moves) (is_sure core it.target.pp) (ap not (no_place core going c.lv c.lp p (among_get copies (n - 1) p (by_place copies n p n_at)) ask it.target (all_at (IsTarget core ask) now_targets it.place it.target its_shape.targets it.there) it.pp_is)) (sym (ap (is_sure core) it.pp_is) ∙ sure)))) n (n_at ∙ ap (λ (q : Pp). Some q) it.pp_is))
 
-        lost : FailedSinceOpening device failed_copy c.copy c.pp ⊎ HaveSourcesFailed now copies failed_copy
+        lost : OwnFailedSinceOpening device failed_copy ⊎ HaveSourcesFailed now copies failed_copy
         lost = by (is_pp usable_one.1.pp c.pp) refl
           where
-            by : (b : Bool) → is_pp usable_one.1.pp c.pp ≡ b → FailedSinceOpening device failed_copy c.copy c.pp ⊎ HaveSourcesFailed now copies failed_copy
+            by : (b : Bool) → is_pp usable_one.1.pp c.pp ≡ b → OwnFailedSinceOpening device failed_copy ⊎ HaveSourcesFailed now copies failed_copy
             by true its =
                 let same_pp = pp_same usable_one.1.pp c.pp its in
-                inl (subst (FailedSinceOpening device failed_copy c.copy) same_pp (since_opening young usable_one.0 usable_one.1 usable_one.2 usable_failed c.copy (bringing.its ∙ ap (λ (q : Pp). Some q) (sym same_pp))))
+                inl (own_since_opening young usable_one.0 usable_one.1 usable_one.2 usable_failed same_pp)
             by false its =
-                let found = among_at copies usable_one.1.pp (ap (λ ps. is_among ps usable_one.1.pp) same_copies ∙ target_copy usable_one.0 usable_one.1 usable_one.2) in
+                let found = among_at copies usable_one.1.pp (ap (λ ps. is_among ps usable_one.1.pp) same_copies ∙ target_copy usable_one.0 usable_one.1 usable_one.2 usable_one.3) in
                 inr (record {
                   each = each_source;
                   number = found.0 + 1;
@@ -727,17 +805,17 @@ module _ (old : State) (sound : IsSound old) (on : old.core.power ≡ power.On) 
                   one = since_opening young usable_one.0 usable_one.1 usable_one.2 usable_failed (found.0 + 1) (of_place copies found.0 usable_one.1.pp found.1);
                 })
 
-      its_own : ok ≡ false → is_pp aim.pp c.pp ≡ true → FailedSinceOpening device failed_copy c.copy c.pp
+      its_own : ok ≡ false → is_pp aim.pp c.pp ≡ true → OwnFailedSinceOpening device failed_copy
       its_own bad same =
           let disk : aim.pp.disk ≡ c.pp.disk = ap (λ (q : Pp). q.disk) (pp_same aim.pp c.pp same) in
-          rose_since (faults_at_opening c c.copy) (old.device.counts.faults c.pp.disk) (counts.faults c.pp.disk) (before.since c.copy c.pp bringing.its) (subst (λ d. Rose (old.device.counts.faults d) (counts.faults d)) disk (rose bad))
+          rose_since (own_faults c) (old.device.counts.faults c.pp.disk) (counts.faults c.pp.disk) before.own_since (subst (λ d. Rose (old.device.counts.faults d) (counts.faults d)) disk (rose bad))
 
-      why_failed : FailedSinceOpening device failed_copy c.copy c.pp ⊎ HaveSourcesFailed now copies failed_copy
+      why_failed : OwnFailedSinceOpening device failed_copy ⊎ HaveSourcesFailed now copies failed_copy
       why_failed = by (either (not ok && is_pp aim.pp c.pp) (are_over now_targets && not (is_kept core x.request) && not o.older && is_among (due_of core x.request) c.pp)
           (both (is_write ask && is_running c) (not ok && is_pp aim.pp c.pp || (are_over now_targets && not (is_kept core x.request) && not o.older && is_among (due_of core x.request) c.pp)) hit).1)
         where
           by : (not ok && is_pp aim.pp c.pp ≡ true) ⊎ (are_over now_targets && not (is_kept core x.request) && not o.older && is_among (due_of core x.request) c.pp ≡ true)
-              → FailedSinceOpening device failed_copy c.copy c.pp ⊎ HaveSourcesFailed now copies failed_copy
+              → OwnFailedSinceOpening device failed_copy ⊎ HaveSourcesFailed now copies failed_copy
           by (inl its) = let parts = both (not ok) (is_pp aim.pp c.pp) its in inl (its_own (is_false ok parts.0) parts.1)
           by (inr its) =
               let a = both (are_over now_targets && not (is_kept core x.request) && not o.older) (is_among (due_of core x.request) c.pp) its in
@@ -746,7 +824,7 @@ module _ (old : State) (sound : IsSound old) (on : old.core.power ≡ power.On) 
               lost d.0 (is_false (is_kept core x.request) d.1) (is_false o.older b.1) a.1
 
       pub cause : IsCausedAmong now copies failed_copy
-      cause = record { began = before_s.began; since = before_s.since; tried = before_s.tried; failed = λ e. why_failed }
+      cause = record { began = before_s.began; since = before_s.since; tried = before_s.tried; own_began = before_s.own_began; own_since = before_s.own_since; failed = λ e. why_failed }
 
     -- ---- all of it, while it is on
 
@@ -785,7 +863,7 @@ module _ (old : State) (sound : IsSound old) (on : old.core.power ≡ power.On) 
         going = keeps_going;
         rows = rows_by marked after (λ who. same_owner row.owner who ≡ false) (λ who g other of. transfer_on who g (sym (ap (λ x. same_owner x who) own) ∙ other) of) (remove core.flying at) (remove old.device.flights at) (others core going.owned at row row_there)
             (rows_left marked core.flying old.device.flights at (rows_staler mid due wanted writes like core.flying old.device.flights (rows_beside core queue copy pool left core.flying old.device.flights old_on.rows)));
-        caused = all_set (λ (y : Open). AreCaused s.device core y × AreCounted old y) (AreCaused device after) caused_on core.requests place x (λ waiting. its_caused) pairs;
+        caused = all_set AreKnown (AreCaused device after) caused_on core.requests place x (λ waiting. its_caused) pairs;
         chosen = if_on (λ (c : OpenCopy). AllByRecursion (IsChosenSince core c) core.requests) (λ (c : OpenCopy). AllByRecursion (IsChosenSince after c) requests)
             (λ c all. all_set (IsChosenSince core c) (IsChosenSince after c) (λ y is. is) core.requests place x (its_chosen c (all_at (IsChosenSince core c) core.requests place o all there)) all) copy entailed.chosen;
       }
@@ -794,6 +872,7 @@ module _ (old : State) (sound : IsSound old) (on : old.core.power ≡ power.On) 
       origin = let before = sound_so.origin in record {
         since = before.since;
         votes = before.votes;
+        rows = before.rows;
         still_missing = λ d e. missing_same mid due wanted writes like d ∙ before.still_missing d e;
         missing = λ d e. before.missing d (sym (missing_same mid due wanted writes like d) ∙ e);
         stale = λ p e. of p (held_by mid due wanted writes like p e);
@@ -835,9 +914,16 @@ module _ (old : State) (sound : IsSound old) (on : old.core.power ≡ power.On) 
                   one : IsDueOne core x.request p
                   one = due_one core x.request p its
 
-                  of_one : (is_failed one.it.target.state ≡ true) ⊎ (is_sure core one.it.target.pp ≡ false) → Reason p
+                  -- the place to which a copy moves counts as stale since the session began
+                  of_kind : (b : Bool) → one.it.target.moves ≡ b → IsAimed b core ask one.it.target → is_sure_at core one.it.target ≡ false → Reason p
+                  of_kind false stays copy unsure = as_before p (unsure_before p (ap (is_sure core) one.it.pp_is ∙ sym (ap (λ b. not b && is_sure core one.it.target.pp) stays) ∙ unsure))
+                  of_kind true moves goes unsure =
+                      let at_place = place_open core ask one.it.target.pp goes.0 in
+                      inl (ap (calls_stale core.origin.table) (one.it.pp_is ∙ at_place.is) ∙ (move_of core at_place.copy (open_one core at_place.copy at_place.is_open going.copy) at_place.moves).called)
+
+                  of_one : (is_failed one.it.target.state ≡ true) ⊎ (is_sure_at core one.it.target ≡ false) → Reason p
                   of_one (inl failed) = inr (inr (subst (λ (q : Pp). FailedSince now q.disk) (sym one.it.pp_is) (since_chosen one.it.place one.it.target one.it.there failed)))
-                  of_one (inr unsure) = as_before p (unsure_before p (ap (is_sure core) one.it.pp_is ∙ unsure))
+                  of_one (inr unsure) = of_kind one.it.target.moves refl (all_at (IsTarget core ask) now_targets one.it.place one.it.target its_shape.targets one.it.there).copy unsure
 
       pub keeps : IsSound now
       keeps = sound_when_on s now refl refl sound_so on fitting told_so keeps_on out (all_set (AreCounted s) (AreCounted now) counted_on core.requests place x its_counted sound_so.counted)

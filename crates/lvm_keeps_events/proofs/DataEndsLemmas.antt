@@ -19,7 +19,7 @@ use Rattle.lvm_path.specs.declared.request.Request.{Request}
 use Rattle.lvm_path.specs.declared.target.Target.{Target}
 use Rattle.lvm_status.specs.Runs.{IsSoundStatus}
 use Rattle.lvm_status.specs.Update.{seen, Stored}
-use Rattle.lvm_session.specs.Bringing.{after_copy_end, ends_if, hand_of, is_out, is_whole, marked_by_end, with_back, with_copy_end, with_end}
+use Rattle.lvm_session.specs.Bringing.{after_copy_end, ends_if, is_called_stale, hand_of, is_out, is_whole, marked_by_end, with_back, with_copy_end, with_end}
 use Rattle.lvm_session.specs.Enabled.{same_status}
 use Rattle.lvm_session.specs.Judging.{copies_in, is_running, is_waiting}
 use Rattle.lvm_session.specs.State.{Core, state, State}
@@ -221,7 +221,7 @@ module _ (at id target : ℕ) (ok : Bool) (old new : State) (sound : IsSound old
           omega (arith, wants, less)
 
   fails_so : (c : OpenCopy) → old.core.copy ≡ Some c → hits_copy old.core x ok aim.pp c ≡ true
-      → WantsStale (λ q. is_among (due_of old.core x.request) q || option_map_or (λ (k : OpenCopy). is_whole old.core k && is_pp q k.pp) old.core.copy false) old.core.status new.core.status
+      → WantsStale (λ q. is_among (due_of old.core x.request) q || option_map_or (λ (k : OpenCopy). is_whole old.core k && is_pp q k.pp && (not k.moves || is_called_stale old.core k.pp)) old.core.copy false) old.core.status new.core.status
       → new.core ≡ record (after_copy_end (mid x) c ending.SyncFailed) { status = new.core.status } → IsSound new
   fails_so c is hit marks core_is =
       subst IsSound (sym (flights_are made (core_is ∙ ap (λ (u : Stored). record (after_copy_end (mid x) c ending.SyncFailed) { status = u }) stale.is ∙ ap (λ (p : List Bool). record made { pool = p }) (back_twice old.core.pool (given_back o ok event.buf) (hand_of c.step)))))
@@ -231,7 +231,7 @@ module _ (at id target : ℕ) (ok : Bool) (old new : State) (sound : IsSound old
       queue_so (Some (with_copy_end c ending.SyncFailed)) (with_back old.core.pool (hand_of c.step)) due_so new.core.status.wanted new.core.status.writes stale.like stale.started (subst (λ (u : Stored). IsSoundStatus (seen u)) stale.is stale.sound) entailed c is hit))
     where
       due_so : Pp → Bool
-      due_so q = is_among (due_of old.core x.request) q || option_map_or (λ (k : OpenCopy). is_whole old.core k && is_pp q k.pp) old.core.copy false
+      due_so q = is_among (due_of old.core x.request) q || option_map_or (λ (k : OpenCopy). is_whole old.core k && is_pp q k.pp && (not k.moves || is_called_stale old.core k.pp)) old.core.copy false
 
       stale : IsStaled due_so old.core.status new.core.status
       stale = staled due_so old.core.status new.core.status going.status marks
@@ -255,17 +255,17 @@ module _ (at id target : ℕ) (ok : Bool) (old new : State) (sound : IsSound old
       entailed : IsEntailed old.core x ok aim.pp queue_so (Some (with_copy_end c ending.SyncFailed)) (with_back old.core.pool (hand_of c.step)) due_so
       entailed = fails old.core going place target o there aim aim_is at event.row event.returns.there own ok event.buf long c is hit (subst (λ m. IfSome m (λ (k : OpenCopy). AllByRecursion (IsChosenSince old.core k) old.core.requests)) is (sound.on on).chosen)
 
-      some_update : (w : Bool) → 1 ≤ (if w then 1 else 2)
-      some_update true = omega arith
-      some_update false = omega arith
+      some_update : (w m : Bool) → 1 ≤ (if w then 1 else 2) + if_so m 1
+      some_update true m = omega arith
+      some_update false m = omega arith
 
       paid : if_so (not (same_status new.core.status.wanted (unwrap_or old.core.status.in_flight old.core.status.committed))) 1 + count_if (marks_later x) + 0
           ≤ if_so (not (same_status old.core.status.wanted (unwrap_or old.core.status.in_flight old.core.status.committed))) 1 + count_if (marks_later o) + option_map_or (copy_updates old.core) old.core.copy 0
       paid =
           let less = no_more in
           let most = one_if (not (same_status new.core.status.wanted (unwrap_or old.core.status.in_flight old.core.status.committed))) in
-          let was : option_map_or (copy_updates old.core) old.core.copy 0 ≡ (if is_whole old.core c then 1 else 2) = ap (λ m. option_map_or (copy_updates old.core) m 0) is ∙ ap (λ b. if not b then 0 else if is_whole old.core c then 1 else 2) runs in
-          let some = some_update (is_whole old.core c) in
+          let was : option_map_or (copy_updates old.core) old.core.copy 0 ≡ (if is_whole old.core c then 1 else 2) + if_so c.moves 1 = ap (λ m. option_map_or (copy_updates old.core) m 0) is ∙ ap (λ b. if not b then 0 else (if is_whole old.core c then 1 else 2) + if_so c.moves 1) runs in
+          let some = some_update (is_whole old.core c) c.moves in
           omega (arith, less, most, was, some)
 
   by : (b : Bool) → option_map_or (hits_copy old.core x ok aim.pp) old.core.copy false ≡ b

@@ -1,5 +1,6 @@
 pub mod Staling
 pub mod DuesMarks
+pub mod OpenLp
 pub mod Entailing
 pub mod Passing
 pub mod Chosen

@@ -37,7 +37,7 @@ use Rattle.lvm_num.specs.Modes.{is_passive}
 use Rattle.lvm_num.proofs.Booleans.{not_so}
 use Rattle.lvm_num.proofs.Lists.{all_weaker, all_two}
 use Rattle.lvm_session.specs.Marks.{is_entailed}
-use Rattle.lvm_session.specs.Causes.{AreCaused, AreCounted, FailedSince, FailedSinceOpening, HasFailed, HaveSourcesFailed, IsAnswered, IsCaused, IsCausedAmong, IsCounted, IsTrueToOrigin, fails_on, faults_at_first, faults_at_opening, is_blamed, is_held_stale}
+use Rattle.lvm_session.specs.Causes.{AreCaused, AreCounted, FailedSince, FailedSinceOpening, HasFailed, HaveSourcesFailed, IsAnswered, IsCaused, IsCausedAmong, IsCounted, IsTrueToOrigin, fails_on, faults_at_first, is_blamed, is_held_stale, OwnFailedSinceOpening, own_faults}
 use Rattle.lvm_session.specs.Left.{clean_volumes, if_so, updates_left}
 use Rattle.lvm_session.specs.Owners.{AreOwned, AreRows, HaveTickets}
 use Rattle.lvm_session.specs.Sound.{IsCopy, IsFitting, IsGoing, IsOn, IsSound, IsTold, count_if, has_number, is_dark, out_with}
@@ -218,6 +218,7 @@ module _ (old : State) (sound : IsSound old) (on : old.core.power ≡ power.On) 
     origin = let was = sound_between.origin in record {
       since = was.since;
       votes = was.votes;
+      rows = was.rows;
       still_missing = λ d gone. missing_is e r d ∙ missing_on e d (was.still_missing d gone);
       missing = λ d gone. of_missing d (rise d (sym (missing_is e r d) ∙ gone));
       stale = λ p is. of_stale p (split (is_held_stale last p) (is_wanted_stale last p) is);
@@ -265,9 +266,9 @@ module _ (old : State) (sound : IsSound old) (on : old.core.power ≡ power.On) 
       before = subst (λ m. IfSome m (λ (k : OpenCopy). IsCausedAmong old (copies_in first.descriptor k.lv k.lp) k)) is sound.copy
 
       one_still : IsCausedAmong done copies c
-      one_still = record { began = was.began; since = was.since; tried = was.tried; failed = λ i. of (was.failed i) (ap is_none i) }
+      one_still = record { began = was.began; since = was.since; tried = was.tried; own_began = was.own_began; own_since = was.own_since; failed = λ i. of (was.failed i) (ap is_none i) }
         where
-          of : FailedSinceOpening between.device c c.copy c.pp ⊎ HaveSourcesFailed between copies c → is_running c ≡ false → FailedSinceOpening device c c.copy c.pp ⊎ HaveSourcesFailed done copies c
+          of : OwnFailedSinceOpening between.device c ⊎ HaveSourcesFailed between copies c → is_running c ≡ false → OwnFailedSinceOpening device c ⊎ HaveSourcesFailed done copies c
           of (inl own) over = inl own
           of (inr all) over = inr (record { each = each; number = all.number; source = all.source; source_is = all.source_is; other = all.other; one = all.one })
             where
@@ -286,7 +287,7 @@ module _ (old : State) (sound : IsSound old) (on : old.core.power ≡ power.On) 
                   by (inr x) = let same : x.copy ≡ c = (let both_open : Some x.copy ≡ Some c = sym x.is_open ∙ is in cc both_open) in not_so (sym over ∙ sym (ap is_running same) ∙ x.runs)
 
       pub one_over : (how : CopyEnd) (at : Step) → end_of (mid e) c ≡ Some how → IsCausedAmong done copies (record c { step = at; end = Some how })
-      one_over how at ends = record { began = was.began; since = was.since; tried = was.tried; failed = λ i. by_missing (is_missing (mid e) c.pp.disk) (is_whole first c) refl refl (ends ∙ i) }
+      one_over how at ends = record { began = was.began; since = was.since; tried = was.tried; own_began = was.own_began; own_since = was.own_since; failed = λ i. by_missing (is_missing (mid e) c.pp.disk) (is_whole first c) refl refl (ends ∙ i) }
         where
           runs : is_running c ≡ true
           runs = runs_of (mid e) c how ends
@@ -295,12 +296,12 @@ module _ (old : State) (sound : IsSound old) (on : old.core.power ≡ power.On) 
           its = its_copy e c is
 
           by_missing : (a w : Bool) → is_missing (mid e) c.pp.disk ≡ a → is_whole first c ≡ w → end_of (mid e) c ≡ Some ending.SyncFailed
-              → FailedSinceOpening device c c.copy c.pp ⊎ HaveSourcesFailed done copies (record c { step = at; end = Some how })
+              → OwnFailedSinceOpening device c ⊎ HaveSourcesFailed done copies (record c { step = at; end = Some how })
           by_missing true w gone whole ends_so = inl (of (rise c.pp.disk gone))
             where
-              of : (is_missing first c.pp.disk ≡ true) ⊎ Rose (old.device.counts.faults c.pp.disk) (counts.faults c.pp.disk) → FailedSinceOpening device c c.copy c.pp
+              of : (is_missing first c.pp.disk ≡ true) ⊎ Rose (old.device.counts.faults c.pp.disk) (counts.faults c.pp.disk) → OwnFailedSinceOpening device c
               of (inl was_gone) = not_so (sym (here e c is runs) ∙ was_gone)
-              of (inr rose) = rose_since (faults_at_opening c c.copy) (old.device.counts.faults c.pp.disk) (counts.faults c.pp.disk) (before.since c.copy c.pp its.its) rose
+              of (inr rose) = rose_since (own_faults c) (old.device.counts.faults c.pp.disk) (counts.faults c.pp.disk) before.own_since rose
           by_missing false true there whole ends_so = not_so (sym (undone_short (is_running c) (is_missing (mid e) c.pp.disk) (is_whole first c) (is_cleared (mid e) c) runs there whole ends_so))
             where
               undone_short : (a b w d : Bool) → a ≡ true → b ≡ false → w ≡ true → (if not a then None else if b then Some ending.SyncFailed else if w then ends_if d ending.Done else end_by_sources (mid e) c) ≡ Some ending.SyncFailed → true ≡ false
@@ -409,7 +410,7 @@ module _ (old : State) (sound : IsSound old) (on : old.core.power ≡ power.On) 
         tickets = tickets;
         queue = brings.queue;
         pinned = going.pinned;
-        requests = requests_on e r names brings.caught brings.blocked;
+        requests = requests_on e r names brings.caught brings.blocked brings.places;
         copy = brings.copy;
         hands = λ n. let all = out n in omega (arith, all);
         behind = behind_now e r;

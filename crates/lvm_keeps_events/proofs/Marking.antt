@@ -34,7 +34,7 @@ use Rattle.lvm_session.specs.declared.flown.Owner.TheVariants as owner
 use Rattle.lvm_session.specs.declared.open.Open.{Open}
 use Rattle.lvm_session.specs.declared.open.Power.TheVariants as power
 use Rattle.lvm_session.specs.State.{Core, State, is_there, state}
-use Rattle.lvm_session.specs.Judging.{copies_in, group_in, has_dirty_mark, has_names, is_caught, is_kept, is_missing, is_running, is_settled, is_stale, is_sure, is_usable, is_wanted_stale, pps_of}
+use Rattle.lvm_session.specs.Judging.{copies_in, group_in, has_dirty_mark, has_names, is_caught, is_kept, is_missing, is_running, is_settled, is_stale, is_sure, is_usable, is_wanted_stale, pps_of, is_sure_at}
 use Rattle.lvm_session.specs.Bringing.{copy_ends, end_by_sources, end_of, ends_if, is_cleared, is_idle, is_whole, sources_of}
 use Rattle.lvm_session.specs.Enabled.{same_status}
 use Rattle.lvm_num.specs.Modes.{is_passive}
@@ -49,8 +49,9 @@ use Rattle.lvm_session.specs.Sound.{IsCopy, IsFitting, IsGoing, IsOn, IsSound, I
 use Rattle.lvm_keeps.proofs.CausesLemmas.{answered_when_on, counted_when_on}
 use Rattle.lvm_keeps.proofs.Lists.{count_cons}
 use Rattle.lvm_keeps.proofs.OwnersLemmas.Rows.{rows_still}
-use Rattle.lvm_keeps.proofs.RequestsLemmas.{if_on, shape_still, copy_marked, same_next}
+use Rattle.lvm_keeps.proofs.RequestsLemmas.{if_on, shape_still, copy_marked, same_next, kind_by}
 use Rattle.lvm_keeps.proofs.SoundLemmas.Whole.{sound_when_on}
+use Rattle.lvm_keeps_events.proofs.MissedLemmas.{missed_less}
 
 -- ---- tests that say the same of each
 
@@ -106,11 +107,11 @@ module _ (s : State) (sound : IsSound s) (on : s.core.power ≡ power.On) (lv : 
   replace_same p = ap (λ b. b && not (is_wanted_stale now.core p)) (usable_same p) ∙ ap (λ b. is_usable core p && not b) (wanted_same p)
 
   kept_same : (r : Request) → is_kept now.core r ≡ is_kept core r
-  kept_same r = any_alike (λ (t : Target). is_done t.state && is_sure now.core t.pp) (λ (t : Target). is_done t.state && is_sure core t.pp) (λ t. ap (λ b. is_done t.state && b) (sure_same t.pp)) r.targets.items
+  kept_same r = any_alike (λ (t : Target). is_done t.state && is_sure_at now.core t) (λ (t : Target). is_done t.state && is_sure_at core t) (λ t. ap (λ b. is_done t.state && (not t.moves && b)) (sure_same t.pp)) r.targets.items
 
   due_same : (r : Request) → is_wanted_due now.core r ≡ is_wanted_due core r
   due_same r =
-      ap (λ n. nat_le n (if is_kept now.core r || will_be_kept core r then 0 else 1)) (count_alike (is_failed_and_sure now.core) (is_failed_and_sure core) (λ t. ap (λ b. is_failed t.state && b) (sure_same t.pp)) r.targets.items)
+      ap (λ n. nat_le n (if is_kept now.core r || will_be_kept core r then 0 else 1)) (count_alike (is_failed_and_sure now.core) (is_failed_and_sure core) (λ t. ap (λ b. is_failed t.state && (not t.moves && b)) (sure_same t.pp)) r.targets.items)
       ∙ ap (λ (b : Bool). nat_le (count_by (is_failed_and_sure core) r.targets.items) (if b || will_be_kept core r then 0 else 1)) (kept_same r)
 
   out_same : (ask : Ask) (p : Pp) → is_left_out now.core ask p ≡ is_left_out core ask p
@@ -144,7 +145,7 @@ module _ (s : State) (sound : IsSound s) (on : s.core.power ≡ power.On) (lv : 
   one x it = record {
     laid = let l = it.laid in record { within = l.within; blocks = l.blocks; most = l.most; id = l.id };
     waits = λ w. let r = it.waits w in let b = r.ready in record {
-      shape = shape_still core now.core refl x r.shape;
+      shape = shape_still core now.core refl (λ ask. refl) x r.shape;
       ready = record {
         free = b.free;
         recorded = b.recorded;
@@ -155,7 +156,9 @@ module _ (s : State) (sound : IsSound s) (on : s.core.power ≡ power.On) (lv : 
       judged = λ write. let j = r.judged write in record {
         uncaught = j.uncaught;
         due = λ status. due_same x.request ∙ j.due status;
+        missed = λ status. missed_less core now.core x.request (λ p sure. sym (sure_same p) ∙ sure) (j.missed status);
         all = λ begun p among. ap (λ b. is_among (pps_of x.request.targets.items) p || b) (out_same x.request.ask p) ∙ j.all begun p among;
+        place = j.place;
       };
     };
     over = it.over;
@@ -165,9 +168,12 @@ module _ (s : State) (sound : IsSound s) (on : s.core.power ≡ power.On) (lv : 
   -- ---- the copy that is open
 
   bring : (c : OpenCopy) → IsCopy core c → IsCopy now.core c
-  bring c k = copy_marked core now.core c refl (same_next core) k (λ free. free)
-      (λ runs short. let was = k.stale runs short in (was.0, wanted_same c.pp ∙ was.1))
-      (λ runs whole. let was = k.clearing runs whole in (was.0, wanted_same c.pp ∙ was.1))
+  bring c k = copy_marked core now.core c refl (same_next core) k (λ free. free) (kind_by core now.core c c.step c.tried c.end refl refl
+      (λ is. (λ runs short. let was = is.stale runs short in (was.0, wanted_same c.pp ∙ was.1), λ runs whole. let was = is.clearing runs whole in (was.0, wanted_same c.pp ∙ was.1)))
+      (λ is. (
+        λ runs whole. wanted_same c.pp ∙ is.clear runs whole,
+        any_alike (stays_fresh now.core) (stays_fresh core) (λ p. ap (λ b. not (is_held_stale core p) && not b) (wanted_same p)) (copies_in core.descriptor c.lv c.lp) ∙ is.fresh,
+      )) c.moves k.kind)
 
   sources_same : (c : OpenCopy) → sources_of now.core c ≡ sources_of core c
   sources_same c = filter_alike (λ (p : Pp). not (is_pp p c.pp) && is_usable now.core p) (λ (p : Pp). not (is_pp p c.pp) && is_usable core p) (λ p. ap (λ b. not (is_pp p c.pp) && b) (usable_same p)) (copies_in core.descriptor c.lv c.lp)
@@ -175,7 +181,7 @@ module _ (s : State) (sound : IsSound s) (on : s.core.power ≡ power.On) (lv : 
   end_same : (c : OpenCopy) → end_of now.core c ≡ end_of core c
   end_same c =
       ap (λ b. if not (is_running c) then None else if b then Some ending.SyncFailed else if is_whole core c then ends_if (is_cleared now.core c) ending.Done else end_by_sources now.core c) (missing_same c.pp.disk)
-      ∙ ap (λ b. if not (is_running c) then None else if is_missing core c.pp.disk then Some ending.SyncFailed else if is_whole core c then ends_if (not (is_stale core c.pp) && not (calls_stale (unwrap_or core.status.in_flight core.status.committed) c.pp) && not b) ending.Done else end_by_sources now.core c) (wanted_same c.pp)
+      ∙ ap (λ b. if not (is_running c) then None else if is_missing core c.pp.disk then Some ending.SyncFailed else if is_whole core c then ends_if (not c.moves && (not (is_stale core c.pp) && not (calls_stale (unwrap_or core.status.in_flight core.status.committed) c.pp) && not b)) ending.Done else end_by_sources now.core c) (wanted_same c.pp)
       ∙ ap (λ (ps : List Pp). if not (is_running c) then None else if is_missing core c.pp.disk then Some ending.SyncFailed else if is_whole core c then ends_if (is_cleared core c) ending.Done
       else if length ps == 0 then Some ending.NoFresh else ends_if (is_idle c.step && is_none (find (λ (p : Pp). not (has c.tried p.disk)) ps)) ending.SyncFailed) (sources_same c)
 
@@ -328,7 +334,7 @@ module _ (s : State) (sound : IsSound s) (on : s.core.power ≡ power.On) (lv : 
   }
 
   copy_caused : (c : OpenCopy) → IsCausedAmong s (copies_in core.descriptor c.lv c.lp) c → IsCausedAmong now (copies_in core.descriptor c.lv c.lp) c
-  copy_caused c its = record { began = its.began; since = its.since; tried = its.tried; failed = λ e. sources_on (its.failed e) }
+  copy_caused c its = record { began = its.began; since = its.since; tried = its.tried; own_began = its.own_began; own_since = its.own_since; failed = λ e. sources_on (its.failed e) }
     where
       sources_on : {own : Type 0} → own ⊎ HaveSourcesFailed s (copies_in core.descriptor c.lv c.lp) c → own ⊎ HaveSourcesFailed now (copies_in core.descriptor c.lv c.lp) c
       sources_on (inl own) = inl own
@@ -345,6 +351,7 @@ module _ (s : State) (sound : IsSound s) (on : s.core.power ≡ power.On) (lv : 
   origin = let old = sound.origin in record {
     since = old.since;
     votes = old.votes;
+    rows = old.rows;
     still_missing = λ d e. missing_same d ∙ old.still_missing d e;
     missing = λ d e. old.missing d (sym (missing_same d) ∙ e);
     stale = λ p e. at_missing p (old.stale p (sym (held_or_wanted p) ∙ e));

@@ -1,5 +1,5 @@
 -- An admission leaves less work.
-use Rattle.std.proofs.Common.{◌≡◌, ◌⊎◌, inl, inr, ◌==◌, ◌≤◌, ◌<◌, ◌+◌, ◌*◌, ◌&&◌, ◌||◌, ℕ, zero, suc, Bool, true, false, not, nat_le, List, [], ◌∷◌, Option, Some, None, length, map, slice_get, slice_set, if◌then◌else◌, refl, sym, ◌∙◌, ap, subst, arith}
+use Rattle.std.proofs.Common.{◌≡◌, ◌++◌, ◌⊎◌, inl, inr, ◌==◌, ◌≤◌, ◌<◌, ◌+◌, ◌*◌, ◌&&◌, ◌||◌, ℕ, zero, suc, Bool, true, false, not, nat_le, List, [], ◌∷◌, Option, Some, None, length, map, slice_get, slice_set, if◌then◌else◌, refl, sym, ◌∙◌, ap, subst, arith}
 use Rattle.std.specs.Prelude.{count_by}
 use Rattle.std.specs.List.{sum_by, AllByRecursion}
 use Rattle.std.specs.Option.{option_map_or}
@@ -31,13 +31,13 @@ use Rattle.lvm_status.specs.Update.{Stored}
 use Rattle.lvm_session.specs.declared.open.Open.{Open}
 use Rattle.lvm_session.specs.declared.open.Power.TheVariants as power
 use Rattle.lvm_session.specs.State.{Core, State, is_there}
-use Rattle.lvm_session.specs.Judging.{aims, copies_for, group_in, group_of, is_caught, is_changed, is_missing, is_settled, is_stale, is_usable, is_waiting, mode_of, next_for, policy_of, pps_of, same_pps}
+use Rattle.lvm_session.specs.Judging.{aims, copies_for, group_in, group_of, is_caught, is_changed, is_missing, is_settled, is_stale, is_usable, is_waiting, mode_of, next_for, policy_of, pps_of, same_pps, place_aims, places_for}
 use Rattle.lvm_session.specs.Enabled.{is_lost, same_status}
-use Rattle.lvm_session.specs.Events.{Chooses, ChoosesBy, admitted_as, after_admission, last_after, makes_dirty, target_at, without_pin}
+use Rattle.lvm_session.specs.Events.{Chooses, ChoosesBy, admitted_as, after_admission, last_after, makes_dirty, place_target, target_at, without_pin}
 use Rattle.lvm_num.specs.Modes.{is_passive}
 use Rattle.lvm_num.proofs.Booleans.{not_so}
 use Rattle.lvm_session.specs.Marks.{WantsDirty, WantsDirtyIf}
-use Rattle.lvm_session.specs.Left.{begun_left, copy_left, if_so, is_brought_up, is_held, lacks_dirty, lacks_note, left_of, phase_left, read_left, request_left, status_left, turns_of, unbegun_left, update_work, waiting_targets, work_left, write_left}
+use Rattle.lvm_session.specs.Left.{begun_left, copy_left, if_so, is_brought_up, is_held, lacks_dirty, lacks_note, left_of, phase_left, read_left, request_left, status_left, place_turns, turns_of, unbegun_left, update_work, waiting_targets, work_left, write_left}
 use Rattle.lvm_session.specs.Requests.{IsPhase}
 use Rattle.lvm_session.specs.Sound.{IsSound}
 use Rattle.lvm_keeps.proofs.LeftLemmas.Leaving.{left_same, lit}
@@ -67,12 +67,18 @@ module _ {A : Type 0} (f g : A → ℕ) (less : (z : A) → g z ≤ f z) where
 
 -- ---- the admission itself
 
-same_self : (ps : List Pp) (s : State) (ask : Ask) → same_pps (pps_of (map (target_at s ask) ps)) ps ≡ true
+-- the partitions of places, as targets, are those
+same_self : (ps : List Pp) (s : State) (ask : Ask) → same_pps (pps_of (map (place_target s ask) ps)) ps ≡ true
 same_self [] s ask = refl
-same_self (p ∷ ps) s ask = ap (λ b. b && same_pps (pps_of (map (target_at s ask) ps)) ps) (ap (λ b. b && p.pp == p.pp) (eq-eqb p.disk p.disk refl) ∙ eq-eqb p.pp p.pp refl) ∙ same_self ps s ask
+same_self (p ∷ ps) s ask = ap (λ b. b && same_pps (pps_of (map (place_target s ask) ps)) ps) (ap (λ b. b && p.pp == p.pp) (eq-eqb p.disk p.disk refl) ∙ eq-eqb p.pp p.pp refl) ∙ same_self ps s ask
+
+-- so they are with those of the copies before them
+same_both : (ps qs : List Pp) (s : State) (ask : Ask) → same_pps (pps_of (map (target_at s ask) ps ++ map (place_target s ask) qs)) (ps ++ qs) ≡ true
+same_both [] qs s ask = same_self qs s ask
+same_both (p ∷ ps) qs s ask = ap (λ b. b && same_pps (pps_of (map (target_at s ask) ps ++ map (place_target s ask) qs)) (ps ++ qs)) (ap (λ b. b && p.pp == p.pp) (eq-eqb p.disk p.disk refl) ∙ eq-eqb p.pp p.pp refl) ∙ same_both ps qs s ask
 
 module _ (core : Core) (place : ℕ) (o : Open) (there : slice_get core.requests place ≡ Some o) (waits : is_waiting o ≡ true) (unbegun : is_begun o.request.targets.items ≡ false)
-    (targets : List Target) (fresh : AllByRecursion (λ (t : Target). t.state ≡ stage.Waiting) targets) (few : length targets ≤ 3) (aimed : is_write o.request.ask ≡ true → same_pps (pps_of targets) (aims core o.request.ask) ≡ true)
+    (targets : List Target) (fresh : AllByRecursion (λ (t : Target). t.state ≡ stage.Waiting) targets) (few : is_write o.request.ask ≡ false → length targets ≤ 3) (aimed : is_write o.request.ask ≡ true → same_pps (pps_of targets) (aims core o.request.ask ++ place_aims core o.request.ask) ≡ true)
     (again : (o.request.phase ≡ phase.Held) ⊎ ((is_write o.request.ask ≡ true) × (is_held o.request.phase ≡ false) × (is_changed core o.request ≡ true))) (entries : List CacheEntry) (last : List ℕ) where
   abbrev made : Open
   made = admitted_as (policy_of core o.request.ask) (mode_of core o.request.ask) targets o
@@ -85,7 +91,7 @@ module _ (core : Core) (place : ℕ) (o : Open) (there : slice_get core.requests
 
   -- what is left of it beside its phase
   abbrev beside : ℕ
-  beside = update_work + sum_by (turns_of core) (copies_for core o.request.ask) + if_so (lacks_dirty core o.request.ask) update_work
+  beside = update_work + sum_by (turns_of core) (copies_for core o.request.ask) + sum_by (place_turns core) (places_for core o.request.ask) + if_so (lacks_dirty core o.request.ask) update_work
 
   no_note : (ts : List Target) → count_by (lacks_note after made.request) ts ≡ 0
   no_note [] = refl
@@ -157,7 +163,8 @@ module _ (core : Core) (place : ℕ) (o : Open) (there : slice_get core.requests
           ∙ ap (λ b. if b then write_left after made.request else read_left (first_phase (mode_of core o.request.ask) b (nat_le 2 (length targets))) made.request) read
           ∙ ap (λ b. if b then 1 else 1 + 2 * waiting_targets made.request) (any_fresh (λ (t : Target). is_done t.state) (λ x e. ap is_done e) targets fresh) in
           let low = count_by-le-length (λ (t : Target). is_unstarted t.state) targets in
-          omega (arith, old, new, low, few)
+          let short = few read in
+          omega (arith, old, new, low, short)
 
   falls_itself : request_left after made < request_left core o
   falls_itself = by (is_write o.request.ask) refl
@@ -204,11 +211,14 @@ module _ (s : State) (sound : IsSound s) (on : s.core.power ≡ power.On) (place
       ap (λ (b : Bool). if b then 0 else if is_usable between p then (if is_brought_up core p then 34 else 22) else if is_brought_up core p then 46 else if is_settled core p then 0 else 34) (missing_so p.disk)
       ∙ ap (λ (b : Bool). if is_missing core p.disk then 0 else if b then (if is_brought_up core p then 34 else 22) else if is_brought_up core p then 46 else if is_settled core p then 0 else 34) (usable_so p)
 
+  place_turns_so : (p : Pp) → place_turns between p ≡ place_turns core p
+  place_turns_so p = ap (λ (b : Bool). if not b && is_brought_up core p then 46 else 0) (missing_so p.disk)
+
   pub aims_so : (ask : Ask) → aims between ask ≡ aims core ask
   aims_so ask = filter_alike (λ (p : Pp). is_usable between p || is_caught core (group_in core ask) p) (λ (p : Pp). is_usable core p || is_caught core (group_in core ask) p) (λ p. ap (λ b. b || is_caught core (group_in core ask) p) (usable_so p)) (copies_for core ask)
 
   pub changed_so : (r : Request) → is_changed between r ≡ is_changed core r
-  changed_so r = ap (λ (ps : List Pp). is_write r.ask && not (same_pps (pps_of r.targets.items) ps)) (aims_so r.ask)
+  changed_so r = ap (λ (ps : List Pp). is_write r.ask && not (same_pps (pps_of r.targets.items) (ps ++ place_aims core r.ask))) (aims_so r.ask)
 
   phase_so : (p : Phase) (r : Request) → phase_left p between r ≡ phase_left p core r
   phase_so phase.Held r = refl
@@ -235,10 +245,11 @@ module _ (s : State) (sound : IsSound s) (on : s.core.power ≡ power.On) (place
   unbegun_less : (r : Request) → unbegun_left between r ≤ unbegun_left core r
   unbegun_less r =
       let turns = sum_same (turns_of core) (turns_of between) turns_so (copies_for core r.ask) in
+      let place = sum_same (place_turns core) (place_turns between) place_turns_so (places_for core r.ask) in
       let dirty = dirty_less r.ask in
       let changed_now : if_so (not (is_held r.phase) && is_changed between r) 12 ≡ if_so (not (is_held r.phase) && is_changed core r) 12 = ap (λ b. if_so (not (is_held r.phase) && b) 12) (changed_so r) in
       let phases = phase_so r.phase r in
-      omega (arith, turns, dirty, changed_now, phases)
+      omega (arith, turns, place, dirty, changed_now, phases)
 
   of_unbegun : (a b c : Bool) (n m p q : ℕ) → m ≤ n → if_so a (if b then (if c then p else m) else q) ≤ if_so a (if b then (if c then p else n) else q)
   of_unbegun false b c n m p q less = omega arith
@@ -255,11 +266,12 @@ module _ (s : State) (sound : IsSound s) (on : s.core.power ≡ power.On) (place
       let new = is_left between in
       let old = is_left core in
       let turns = sum_same (turns_of core) (turns_of between) turns_so (copies_for core o.request.ask) in
+      let place_so = sum_same (place_turns core) (place_turns between) place_turns_so (places_for core o.request.ask) in
       let changed_now : if_so (not (is_held o.request.phase) && is_changed between o.request) 12 ≡ if_so (not (is_held o.request.phase) && is_changed core o.request) 12 = ap (λ b. if_so (not (is_held o.request.phase) && b) 12) (changed_so o.request) in
       let phases = phase_so o.request.phase o.request in
       let was : if_so (lacks_dirty core o.request.ask) update_work ≡ 256 = ap (λ b. if_so (b && not (calls_dirty core.status.wanted (lv_of o.request.ask))) update_work) (passive_so s sound on place o there admits targets order chooses status makes wants) ∙ ap (λ b. if_so (not b) update_work) (clean s sound on place o there admits targets order chooses status makes wants) in
       let is_now : if_so (lacks_dirty between o.request.ask) update_work ≡ 0 = ap (λ b. if_so (is_passive (mode_of core o.request.ask) && not b) update_work) marked_so ∙ none (is_passive (mode_of core o.request.ask)) in
-      omega (arith, new, old, turns, changed_now, phases, was, is_now)
+      omega (arith, new, old, turns, place_so, changed_now, phases, was, is_now)
     where
       none : (a : Bool) → if_so (a && false) update_work ≡ 0
       none true = refl
@@ -306,11 +318,11 @@ module _ (s : State) (sound : IsSound s) (on : s.core.power ≡ power.On) (votes
   its : IsChosen s o targets
   its = choice s sound on place o there admits targets order chooses
 
-  aimed_so : is_write o.request.ask ≡ true → same_pps (pps_of targets) (aims s.core o.request.ask) ≡ true
+  aimed_so : is_write o.request.ask ≡ true → same_pps (pps_of targets) (aims s.core o.request.ask ++ place_aims s.core o.request.ask) ≡ true
   aimed_so write = by (subst (λ b. ChoosesBy b s o.request.ask targets order) write chooses)
     where
-      by : ChoosesBy true s o.request.ask targets order → same_pps (pps_of targets) (aims s.core o.request.ask) ≡ true
-      by it = ap (λ (ts : List Target). same_pps (pps_of ts) (aims s.core o.request.ask)) it.0 ∙ same_self (aims s.core o.request.ask) s o.request.ask
+      by : ChoosesBy true s o.request.ask targets order → same_pps (pps_of targets) (aims s.core o.request.ask ++ place_aims s.core o.request.ask) ≡ true
+      by it = ap (λ (ts : List Target). same_pps (pps_of ts) (aims s.core o.request.ask ++ place_aims s.core o.request.ask)) it.0 ∙ same_both (aims s.core o.request.ask) (place_aims s.core o.request.ask) s o.request.ask
 
   again_so : (o.request.phase ≡ phase.Held) ⊎ ((is_write o.request.ask ≡ true) × (is_held o.request.phase ≡ false) × (is_changed s.core o.request ≡ true))
   again_so = by (may s sound on place o there admits).waits
@@ -329,7 +341,7 @@ module _ (s : State) (sound : IsSound s) (on : s.core.power ≡ power.On) (votes
   unmarked_falls =
       subst (λ (c : Cached). left_of (record (after_admission s.core place o targets order) { cache = c }) < left_of s.core) (sym (only_entries s.core.cache o.request))
       (subst (λ n. left_of after_so < n) (sym (lit s.core on votes)) (subst (λ n. n < work_left s.core) (sym (lit after_so on votes))
-      (falls s.core place o there (waits_so s sound on place o there admits) (unbegun_so s sound on place o there admits) targets its.fresh its.few aimed_so again_so (without_pin s.core.cache o.request).entries (last_after s.core.last (lv_of o.request.ask) order))))
+      (falls s.core place o there (waits_so s sound on place o there admits) (unbegun_so s sound on place o there admits) targets its.fresh its.few_to_read aimed_so again_so (without_pin s.core.cache o.request).entries (last_after s.core.last (lv_of o.request.ask) order))))
     where
       after_so : Core
       after_so = changed s.core s.core.history (slice_set s.core.requests place (admitted_as (policy_of s.core o.request.ask) (mode_of s.core o.request.ask) targets o)) s.core.queue s.core.copy s.core.pool s.core.flying (without_pin s.core.cache o.request).entries (last_after s.core.last (lv_of o.request.ask) order)
@@ -349,8 +361,8 @@ module _ (s : State) (sound : IsSound s) (on : s.core.power ≡ power.On) (votes
       lost : is_lost after_so ≡ false
       lost = votes_so s sound on place o there admits targets order chooses status makes wants ∙ votes
 
-      aimed_between : is_write o.request.ask ≡ true → same_pps (pps_of targets) (aims between o.request.ask) ≡ true
-      aimed_between write = ap (λ (ps : List Pp). same_pps (pps_of targets) ps) (aims_so s sound on place o there admits targets order chooses status makes wants o.request.ask) ∙ aimed_so write
+      aimed_between : is_write o.request.ask ≡ true → same_pps (pps_of targets) (aims between o.request.ask ++ place_aims between o.request.ask) ≡ true
+      aimed_between write = ap (λ (ps : List Pp). same_pps (pps_of targets) (ps ++ place_aims s.core o.request.ask)) (aims_so s sound on place o there admits targets order chooses status makes wants o.request.ask) ∙ aimed_so write
 
       again_between : (o.request.phase ≡ phase.Held) ⊎ ((is_write o.request.ask ≡ true) × (is_held o.request.phase ≡ false) × (is_changed between o.request ≡ true))
       again_between = by again_so
@@ -361,7 +373,7 @@ module _ (s : State) (sound : IsSound s) (on : s.core.power ≡ power.On) (votes
 
       all : work_left after_so < work_left s.core
       all =
-          let less = falls between place o there (waits_so s sound on place o there admits) (unbegun_so s sound on place o there admits) targets its.fresh its.few aimed_between again_between (without_pin s.core.cache o.request).entries (last_after s.core.last (lv_of o.request.ask) order) in
+          let less = falls between place o there (waits_so s sound on place o there admits) (unbegun_so s sound on place o there admits) targets its.fresh its.few_to_read aimed_between again_between (without_pin s.core.cache o.request).entries (last_after s.core.last (lv_of o.request.ask) order) in
           let most = no_more s sound on place o there admits targets order chooses status makes wants in
           both (work_left after_so) (work_left between) (work_left s.core) less most
         where

@@ -30,7 +30,7 @@ use Rattle.lvm_session.specs.declared.open.Open.{Open}
 use Rattle.lvm_session.specs.Dark.{AreTold}
 use Rattle.lvm_session.specs.Ends.{keeps_buffer, learned}
 use Rattle.lvm_session.specs.Owners.{flies, target_flies}
-use Rattle.lvm_session.specs.Requests.{has_record, is_past_held, IsLaid, IsOpenOne, IsPhase, IsReady, IsRecorded, IsRequest, IsShaped, IsTarget, mode_for}
+use Rattle.lvm_session.specs.Requests.{IsAimed, has_record, is_past_held, IsLaid, IsOpenOne, IsPhase, IsReady, IsRecorded, IsRequest, IsShaped, IsTarget, mode_for}
 use Rattle.lvm_session.specs.Sound.{count_if, IsAsked, IsGoing}
 use Rattle.lvm_keeps.proofs.KeepsLemmas.Landing.{or_parts}
 use Rattle.lvm_keeps.proofs.Lists.{all_set, any_set, count_set, set_here}
@@ -189,7 +189,11 @@ module _ (core : Core) (going : IsGoing core) (place target : ℕ) (o : Open) (t
   }
     where
       moved : IsTarget core o.request.ask aim → IsTarget core o.request.ask done
-      moved i = record { copy = i.copy; sector = i.sector; there = i.there }
+      moved i = record { copy = aimed aim.moves i.copy; sector = i.sector; there = i.there }
+        where
+          aimed : (b : Bool) → IsAimed b core o.request.ask aim → IsAimed b core o.request.ask done
+          aimed false a = a
+          aimed true a = a
 
       a_differ : AllPairs (λ (a b : Target). a.pp ≡ b.pp → ⊥) now_targets
       a_differ i j d less high e = request.shape.differ i j d less (subst (λ n. j < n) same_long high) (sym (pp_at targets target aim (end_state ok) aim_is i d) ∙ e ∙ pp_at targets target aim (end_state ok) aim_is j d)

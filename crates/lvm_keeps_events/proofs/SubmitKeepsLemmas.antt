@@ -46,7 +46,7 @@ use Rattle.lvm_session.specs.Dark.{IsAscending}
 use Rattle.lvm_num.specs.Modes.{is_passive}
 use Rattle.lvm_num.proofs.Lists.{all_weaker, all_push, all_at}
 use Rattle.lvm_session.specs.Asking.{IsAsking}
-use Rattle.lvm_session.specs.Left.{copy_updates, marks_later, updates_left}
+use Rattle.lvm_session.specs.Left.{copy_updates, if_so, marks_later, updates_left}
 use Rattle.lvm_session.specs.Owners.{AreOwned, IsDataOf, flies, target_flies}
 use Rattle.lvm_session.specs.Requests.{IsOpenOne, IsRecorded, mode_for}
 use Rattle.lvm_session.specs.Causes.{AreCaused, AreCounted, IsAnswered, IsCaused, IsChosenSince, fails_on, is_held_stale}
@@ -142,22 +142,24 @@ numbers_left core ask is = ltb-true (core.status.stamp.seq + 65536) (2 ^ 32) (th
 
 -- ---- all that may come to be wanted is little
 
-two_if : (core : Core) (m : Option OpenCopy) → option_map_or (copy_updates core) m 0 ≤ 2
-two_if core None = omega arith
-two_if core (Some c) = by (is_running c) (is_whole core c)
+three_if : (core : Core) (m : Option OpenCopy) → option_map_or (copy_updates core) m 0 ≤ 3
+three_if core None = omega arith
+three_if core (Some c) = by (is_running c) (is_whole core c) c.moves
   where
-    by : (a b : Bool) → (if not a then 0 else if b then 1 else 2) ≤ 2
-    by false b = omega arith
-    by true true = omega arith
-    by true false = omega arith
+    by : (a b m : Bool) → (if not a then 0 else (if b then 1 else 2) + if_so m 1) ≤ 3
+    by false b m = omega arith
+    by true true true = omega arith
+    by true true false = omega arith
+    by true false true = omega arith
+    by true false false = omega arith
 
-pub few_updates : (core : Core) → IsValid core.descriptor → length core.requests ≤ 1025 → updates_left core ≤ 1667
+pub few_updates : (core : Core) → IsValid core.descriptor → length core.requests ≤ 1025 → updates_left core ≤ 1668
 few_updates core valid few =
     let a = one_if (not (same_status core.status.wanted (unwrap_or core.status.in_flight core.status.committed))) in
     let b = count_by-le-length marks_later core.requests in
     let c = count_by-le-length (λ (row : LvRow). is_passive row.mode && not (calls_dirty core.status.wanted row.number)) core.descriptor.lvs in
     let d = count_by-le-length (λ (row : PvRow). is_there core row.disk) core.descriptor.pvs in
-    let e = two_if core core.copy in
+    let e = three_if core core.copy in
     let members : length core.descriptor.pvs ≤ most_members core.descriptor.big = valid.head.members in
     let volumes : length core.descriptor.lvs ≤ most_volumes core.descriptor.big = valid.head.volumes in
     let m = few_members core.descriptor.big in
@@ -282,7 +284,7 @@ module _ (s : State) (sound : IsSound s) (client : ℕ) (ask : Ask) (bytes : Opt
   -- ---- the requests
 
   still : (x : Open) → x.request.id < next → IsOpenOne core x → IsOpenOne now.core x
-  still x low one = open_on core history requests queue core.copy core.pool core.flying core.cache.entries core.last x (free_push core.queue.rows row (place_of x.request.id) (held_of x.request.ask) (omega (arith, low))) (λ p e. e) one
+  still x low one = open_on core history requests queue core.copy core.pool core.flying core.cache.entries core.last x (free_push core.queue.rows row (place_of x.request.id) (held_of x.request.ask) (omega (arith, low))) (λ p e. e) (λ ask. refl) one
 
   few : next < 2 ^ 32
   few =
@@ -327,7 +329,7 @@ module _ (s : State) (sound : IsSound s) (client : ℕ) (ask : Ask) (bytes : Opt
         named = λ has two. not_so has;
         dirty = λ has two. not_so has;
       };
-      judged = λ write. record { uncaught = tt; due = λ status. not_so status; all = λ goes p among. not_so goes };
+      judged = λ write. record { uncaught = tt; due = λ status. not_so status; missed = λ status. not_so status; all = λ goes p among. not_so goes; place = λ goes p among. not_so goes };
     };
     over = λ e. not_so (sym e);
     still = λ e. refl;

@@ -1,14 +1,13 @@
 -- What a landing needs of a session, and what it leaves.
-use Rattle.std.proofs.Common.{◌≡◌, ◌<◌, ◌≤◌, ◌+◌, ◌*◌, ◌==◌, cond, length, ℕ, zero, suc, Bool, true, false, not, List, [], ◌∷◌, Option, Some, None, count_by, slice_get, slice_set, slice_index_or, if◌then◌else◌, refl, sym, ◌∙◌, ap, subst, arith}
-use Rattle.std.specs.Prelude.{◌&&◌, is_some, is_none, unwrap_or, IfSome}
-use Rattle.std.specs.List.{list_any}
+use Rattle.std.proofs.Common.{◌≡◌, ◌≤◌, ◌*◌, ◌==◌, cond, length, ℕ, zero, suc, Bool, true, false, not, List, [], ◌∷◌, Option, Some, None, count_by, slice_get, slice_set, slice_index_or, if◌then◌else◌, refl, sym, ◌∙◌, ap, subst, arith}
+use Rattle.std.specs.Prelude.{◌&&◌, is_some, unwrap_or, IfSome}
 use Rattle.std.proofs.lemmas.List.Sums.{sum_by-cons}
 use Rattle.lvm_num.specs.Buffer.{Buffer}
 use Rattle.lvm_num.proofs.Booleans.{same_itself, three_hold}
 use Rattle.lvm_disk.specs.Device.{Device}
 use Rattle.lvm_vol.specs.declared.entry.Outcome.{Outcome}
 use Rattle.lvm_vol.specs.Facts.{Landed, Request as Asked}
-use Rattle.lvm_vol.specs.Log.{Log, awaited, asked, is_got, is_open, no_request, request_of, with_fact}
+use Rattle.lvm_vol.specs.Log.{Log, is_got, is_open, no_request, request_of, with_fact}
 use Rattle.lvm_pbuf.specs.Out.{IsOut}
 use Rattle.lvm_hold.specs.Waiting.{Waiting, IsInside, without}
 use Rattle.lvm_mwc.specs.Cache.{Cached, after_unpin}
@@ -17,7 +16,7 @@ use Rattle.lvm_path.specs.declared.facts.Next.TheVariants as next
 use Rattle.lvm_path.specs.Asks.{count_of, is_write, lv_of}
 use Rattle.lvm_path.specs.Targets.{is_begun}
 use Rattle.lvm_session.specs.declared.open.Open.{Open}
-use Rattle.lvm_session.specs.State.{Core, State, state}
+use Rattle.lvm_session.specs.State.{Core, state}
 use Rattle.lvm_session.specs.Judging.{facts_of, group_of, is_waiting, next_for, place_of}
 use Rattle.lvm_session.specs.Bringing.{with_back}
 use Rattle.lvm_session.specs.Events.{after_landing, got_blocks, landed_as}

@@ -45,7 +45,7 @@ fn choose<S: Shelf>(session: &Session, shelf: &S, ask: &Ask) -> Chosen
     requires may { MayChoose (S.device shelf.now) (core_of session.now) }
     requires within { IsWithin session.now.descriptor ask.now }
     ensures chosen { Chooses (state (S.device shelf.now) (core_of session.now)) ask.now result.targets.items result.order.items }
-    ensures few { length result.targets.items ≤ 3 }
+    ensures few { length result.targets.items ≤ 4 }
 {
     if ask.is_write() {
         Chosen {

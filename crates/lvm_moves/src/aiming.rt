@@ -4,14 +4,15 @@ ghost use Rattle.lvm_num.specs.declared.place.Pp.{Pp};
 ghost use Rattle.lvm_num.specs.Descriptor.{is_size};
 ghost use Rattle.lvm_num.specs.Geometry.{sector_of};
 ghost use Rattle.lvm_session.specs.Fields.{core_of};
-ghost use Rattle.lvm_session.specs.Judging.{IsWithin, aims, is_caught, is_usable};
+ghost use Rattle.lvm_session.specs.Judging.{IsWithin, aims, is_caught, is_usable, place_aims};
 ghost use Rattle.lvm_session.specs.State.{state};
-ghost use Rattle.lvm_session.specs.Events.{target_at};
+ghost use Rattle.lvm_session.specs.Events.{place_target, target_at};
 ghost use Rattle.lvm_moves.specs.Choosing.{IsThere, MayChoose};
 
 use arrayvec::ArrayVec;
 use lvm_disk::Shelf;
 use lvm_due::below::{copies_for, group_in, is_aim, is_usable, partition_blocks};
+use lvm_due::place_aim;
 use lvm_num::Pp;
 use lvm_path::{Ask, Target};
 use lvm_sched::TargetState;
@@ -36,6 +37,23 @@ pub fn target_at<S: Shelf>(session: &Session, shelf: &S, ask: &Ask, pp: Pp) -> T
         pp,
         sector: sector_of(session.descriptor.mib, pp.pp, ask.at()),
         usable: is_usable(session, pp),
+        moves: false,
+        faults: shelf.faults(pp.disk),
+        state: TargetState::Waiting,
+    }
+}
+
+// The place to which a copy moves as a target of a request.
+fn place_target<S: Shelf>(session: &Session, shelf: &S, ask: &Ask, pp: Pp) -> Target
+    requires size { IsTrue (is_size session.now.descriptor.mib) }
+    requires there { IsThere (S.device shelf.now) pp }
+    ensures { result ≡ place_target (state (S.device shelf.now) (core_of session.now)) ask.now pp }
+{
+    Target {
+        pp,
+        sector: sector_of(session.descriptor.mib, pp.pp, ask.at()),
+        usable: false,
+        moves: true,
         faults: shelf.faults(pp.disk),
         state: TargetState::Waiting,
     }
@@ -60,8 +78,8 @@ fn aim_if<S: Shelf>(
     }
 }
 
-/// The copies to which a write goes, as its targets.
-pub fn aims<S: Shelf>(session: &Session, shelf: &S, ask: &Ask) -> ArrayVec<Target, 4>
+// The copies to which a write goes, as its targets.
+fn copy_aims<S: Shelf>(session: &Session, shelf: &S, ask: &Ask) -> ArrayVec<Target, 4>
     requires may { MayChoose (S.device shelf.now) (core_of session.now) }
     requires within { IsWithin session.now.descriptor ask.now }
     ensures targets { result.items ≡ map (target_at (state (S.device shelf.now) (core_of session.now)) ask.now) (aims (core_of session.now) ask.now) }
@@ -73,5 +91,30 @@ pub fn aims<S: Shelf>(session: &Session, shelf: &S, ask: &Ask) -> ArrayVec<Targe
     for pp in copies {
         aim_if(session, shelf, ask, group, *pp, &mut targets);
     }
+    targets
+}
+
+// The place to which a copy of its logical partition moves becomes a target, where that has passed the track group.
+fn aim_place<S: Shelf>(session: &Session, shelf: &S, ask: &Ask, targets: &mut ArrayVec<Target, 4>)
+    requires may { MayChoose (S.device shelf.now) (core_of session.now) }
+    requires room { length targets.old.items ≤ 3 }
+    ensures targets { targets.new.items ≡ targets.old.items ++ map (place_target (state (S.device shelf.now) (core_of session.now)) ask.now) (place_aims (core_of session.now) ask.now) }
+    ensures few { length targets.new.items ≤ 4 }
+{
+    if let Some(pp) = place_aim(session, ask) {
+        targets.push(place_target(session, shelf, ask, pp));
+    }
+}
+
+/// The copies to which a write goes, as its targets, and then the place to which a copy of its logical partition
+/// moves, where that has passed the track group.
+pub fn aims<S: Shelf>(session: &Session, shelf: &S, ask: &Ask) -> ArrayVec<Target, 4>
+    requires may { MayChoose (S.device shelf.now) (core_of session.now) }
+    requires within { IsWithin session.now.descriptor ask.now }
+    ensures targets { result.items ≡ map (target_at (state (S.device shelf.now) (core_of session.now)) ask.now) (aims (core_of session.now) ask.now) ++ map (place_target (state (S.device shelf.now) (core_of session.now)) ask.now) (place_aims (core_of session.now) ask.now) }
+    ensures few { length result.items ≤ 4 }
+{
+    let mut targets = copy_aims(session, shelf, ask);
+    aim_place(session, shelf, ask, &mut targets);
     targets
 }

@@ -9,7 +9,8 @@ pub struct Facts {
     /// conflicts with it.
     pub blocked: bool,
     /// Some copy of its logical partition is wanted stale and not settled as stale, or another write there
-    /// has started its data, has a target that counts as failed, and hasn't landed.
+    /// has started its data, has a target that counts as failed, and hasn't landed; or a move of a copy of it is
+    /// done and only to be committed.
     pub pending: bool,
     /// It has its track group pinned in the cache.
     pub pinned: bool,

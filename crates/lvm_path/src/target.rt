@@ -20,6 +20,8 @@ pub struct Target {
     pub pp: Pp,
     /// Whether the copy was usable when it was chosen, and not only being brought up.
     pub usable: bool,
+    /// Whether it is the place to which a copy moves, which is no copy yet.
+    pub moves: bool,
     /// How far the transfer to it, or from it, is.
     pub state: TargetState,
 }
@@ -31,6 +33,7 @@ impl Default for Target {
             faults: 0,
             pp: Pp { disk: 0, pp: 0 },
             usable: false,
+            moves: false,
             state: TargetState::Waiting,
         }
     }

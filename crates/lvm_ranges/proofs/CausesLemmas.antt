@@ -26,14 +26,14 @@ use Rattle.lvm_session.specs.declared.open.Power.{Power}
 use Rattle.lvm_session.specs.declared.open.Power.TheVariants as power
 use Rattle.lvm_session.specs.declared.origin.Origin.{Origin}
 use Rattle.lvm_session.specs.Bringing.{is_out}
-use Rattle.lvm_session.specs.Calls.{copy_at, has_numbers, state_at_end, state_of_copy}
-use Rattle.lvm_session.specs.Causes.{FailedSinceOpening, HaveSourcesFailed, IsCausedAmong, faults_at_first, faults_at_opening}
+use Rattle.lvm_session.specs.Calls.{copy_at, has_numbers, state_at_end, state_of_copy, is_still_aimed}
+use Rattle.lvm_session.specs.Causes.{FailedSinceOpening, HaveSourcesFailed, IsCausedAmong, faults_at_first, faults_at_opening, OwnFailedSinceOpening, own_faults}
 use Rattle.lvm_session.specs.Ends.{Ends, EndsAs}
-use Rattle.lvm_session.specs.Judging.{copies_in}
+use Rattle.lvm_session.specs.Judging.{copies_in, is_moved}
 use Rattle.lvm_session.specs.State.{Core, State}
 use Rattle.lvm_session.specs.Turns.{FinishMakes, Finishes, Makes, Moves, NoStart, OnMakes, TurnMakes, WasDark, WasOff, WasOn}
 use Rattle.lvm_ranges.specs.passed.Names.{counts_seen, faults_seen}
-use Rattle.lvm_ranges.proofs.passed.Names.{turn_counts, Given, given, turn_goes, at_place, counted_at}
+use Rattle.lvm_ranges.proofs.passed.Names.{turn_counts, Given, given, turn_goes, at_place, counted_at, last_count}
 use Rattle.lvm_ranges.specs.declared.copies.Passed.{Passed}
 use Rattle.lvm_ranges.specs.declared.copies.Passed.TheVariants as passed
 use Rattle.lvm_ranges.specs.declared.fault.SyncFault.{SyncFault}
@@ -178,16 +178,17 @@ fails_still : (old mid new : State) → AnyFails old mid → Since mid new → A
 fails_still old mid new fails since = (fails.0, rose_after fails.1 (since.faults fails.0))
 
 -- one that has ended as failed, and rests
-failed_end : (c : OpenCopy) (disk : ℕ) → state_of_copy c ≡ copy.SyncFailed disk → c.end ≡ Some ending.SyncFailed
-failed_end c disk e = by (is_out c.step) c.end refl e
+failed_end : (core : Core) (c : OpenCopy) (disk : ℕ) → state_of_copy core c ≡ copy.SyncFailed disk → c.end ≡ Some ending.SyncFailed
+failed_end core c disk e = by (is_out c.step || is_still_aimed core c) (is_moved core c) c.end refl e
   where
-    by : (b : Bool) (m : Option CopyEnd) → c.end ≡ m → (if b then copy.Running c.cursor else option_map_or (state_at_end c) m (copy.Running c.cursor)) ≡ copy.SyncFailed disk → c.end ≡ Some ending.SyncFailed
-    by true m is f = absurd (cc f)
-    by false None is f = absurd (cc f)
-    by false (Some ending.Done) is f = absurd (cc f)
-    by false (Some ending.SyncFailed) is f = is
-    by false (Some ending.NoFresh) is f = absurd (cc f)
-    by false (Some ending.Ended) is f = absurd (cc f)
+    by : (b d : Bool) (m : Option CopyEnd) → c.end ≡ m → (if b then copy.Running c.cursor else if d then copy.Done else option_map_or (state_at_end c) m (copy.Running c.cursor)) ≡ copy.SyncFailed disk → c.end ≡ Some ending.SyncFailed
+    by true d m is f = absurd (cc f)
+    by false true m is f = absurd (cc f)
+    by false false None is f = absurd (cc f)
+    by false false (Some ending.Done) is f = absurd (cc f)
+    by false false (Some ending.SyncFailed) is f = is
+    by false false (Some ending.NoFresh) is f = absurd (cc f)
+    by false false (Some ending.Ended) is f = absurd (cc f)
 
 module _ (c : Copy) (old new : State) (disk : ℕ) (valid : IsValid old.core.descriptor) {patience left : ℕ} (it : IsBroughtUp c patience left old new (copy.SyncFailed disk)) where
   abbrev pps : List Pp
@@ -214,7 +215,7 @@ module _ (c : Copy) (old new : State) (disk : ℕ) (valid : IsValid old.core.des
   its_copies_then : copies_in it.ends.ended.core.descriptor c.lv c.lp ≡ pps
   its_copies_then = ap (λ (g : Given). let d : Descriptor = g.0 in copies_in d c.lv c.lp) brought.given_is ∙ its_copies
 
-  module _ (k : OpenCopy) (is : it.ends.ended.core.copy ≡ Some k) (how : state_of_copy k ≡ copy.SyncFailed disk) where
+  module _ (k : OpenCopy) (is : it.ends.ended.core.copy ≡ Some k) (how : state_of_copy it.ends.ended.core k ≡ copy.SyncFailed disk) where
     same : IsSameCopy begun k
     same = subst (λ (m : Option OpenCopy). IfSome m (IsSameCopy begun)) is its
 
@@ -225,16 +226,23 @@ module _ (c : Copy) (old new : State) (disk : ℕ) (valid : IsValid old.core.des
     rose n p at since = (p.disk, subst (λ (x : ℕ). Rose x (it.ends.ended.device.counts.faults p.disk)) seen since)
       where
         seen : faults_at_opening k n ≡ faults_seen it.opens.judged.device it.opens.judged.core p.disk
-        seen = ap (λ (fs : List ℕ). slice_index_or fs (n - 1) 0) same.4 ∙ counted_at (counts_seen it.opens.judged.device it.opens.judged.core) pps (n - 1) p few (at_place pps n p at)
+        seen = ap (λ (fs : List ℕ). slice_index_or fs (n - 1) 0) same.4 ∙ counted_at (counts_seen it.opens.judged.device it.opens.judged.core) pps it.opens.opens.pp (n - 1) p few (at_place pps n p at)
+
+    own_rose : OwnFailedSinceOpening it.ends.ended.device k → AnyFails it.opens.judged it.ends.ended
+    own_rose since = (k.pp.disk, subst (λ (x : ℕ). Rose x (it.ends.ended.device.counts.faults k.pp.disk)) seen since)
+      where
+        seen : own_faults k ≡ faults_seen it.opens.judged.device it.opens.judged.core k.pp.disk
+        seen = ap (λ (fs : List ℕ). slice_index_or fs 3 0) same.4 ∙ last_count (counts_seen it.opens.judged.device it.opens.judged.core) pps it.opens.opens.pp
+            ∙ ap (λ (p : Pp). faults_seen it.opens.judged.device it.opens.judged.core p.disk) (sym same.0)
 
     caused : IsCausedAmong it.ends.ended (copies_in it.ends.ended.core.descriptor k.lv k.lp) k
     caused = subst (λ (m : Option OpenCopy). IfSome m (λ (x : OpenCopy). IsCausedAmong it.ends.ended (copies_in it.ends.ended.core.descriptor x.lv x.lp) x)) is it.ends.caused
 
     failed : AnyFails it.opens.judged it.ends.ended
-    failed = by (caused.failed (failed_end k disk how))
+    failed = by (caused.failed (failed_end it.ends.ended.core k disk how))
       where
-        by : FailedSinceOpening it.ends.ended.device k k.copy k.pp ⊎ HaveSourcesFailed it.ends.ended (copies_in it.ends.ended.core.descriptor k.lv k.lp) k → AnyFails it.opens.judged it.ends.ended
-        by (inl own) = rose k.copy k.pp (ap (copy_at pps) same.3 ∙ it.opens.opens.copy_is ∙ ap (λ (p : Pp). Some p) (sym same.0)) own
+        by : OwnFailedSinceOpening it.ends.ended.device k ⊎ HaveSourcesFailed it.ends.ended (copies_in it.ends.ended.core.descriptor k.lv k.lp) k → AnyFails it.opens.judged it.ends.ended
+        by (inl own) = own_rose own
         by (inr sources) = rose sources.number sources.source (ap (λ (ps : List Pp). copy_at ps sources.number) (sym its_own) ∙ sources.source_is) sources.one
 
   brought_fails : AnyFails old new
@@ -244,8 +252,8 @@ module _ (c : Copy) (old new : State) (disk : ℕ) (valid : IsValid old.core.des
       closes = since_call it.ends.ended new (ap (λ (s : State). s.device) it.ends.is) (ap (λ (s : State). given s.core) it.ends.is)
 
       by : (m : Option OpenCopy) → it.ends.ended.core.copy ≡ m → AnyFails it.opens.judged it.ends.ended
-      by None is = absurd (let e : copy.Closed ≡ copy.SyncFailed disk = sym (ap (λ (m : Option OpenCopy). option_map_or state_of_copy m copy.Closed) is) ∙ it.ends.how_is in cc e)
-      by (Some k) is = failed k is (sym (ap (λ (m : Option OpenCopy). option_map_or state_of_copy m copy.Closed) is) ∙ it.ends.how_is)
+      by None is = absurd (let e : copy.Closed ≡ copy.SyncFailed disk = sym (ap (λ (m : Option OpenCopy). option_map_or (state_of_copy it.ends.ended.core) m copy.Closed) is) ∙ it.ends.how_is in cc e)
+      by (Some k) is = failed k is (sym (ap (λ (m : Option OpenCopy). option_map_or (state_of_copy it.ends.ended.core) m copy.Closed) is) ∙ it.ends.how_is)
 
 -- ---- why copies stay stale
 

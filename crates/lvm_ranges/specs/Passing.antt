@@ -94,13 +94,13 @@ IsJudged c patience left old new (opening.Refused why) = RefusedFor c patience l
 abbrev pub Runs : Core → Type 0
 Runs core = (cursor : ℕ) × (copy_state core ≡ copy.Running cursor)
 
--- one is open that hasn't ended
+-- one is open that hasn't ended, and doesn't move
 abbrev pub IsJustOpened : Core → Type 0
-IsJustOpened core = (c : OpenCopy) × (core.copy ≡ Some c) × (c.end ≡ None)
+IsJustOpened core = (c : OpenCopy) × (core.copy ≡ Some c) × (c.end ≡ None) × (c.moves ≡ false)
 
 -- it is the same one, opened when the disks had failed as often
 abbrev pub IsSameCopy : OpenCopy → OpenCopy → Type 0
-IsSameCopy old new = (new.pp ≡ old.pp) × (new.lv ≡ old.lv) × (new.lp ≡ old.lp) × (new.copy ≡ old.copy) × (new.faults ≡ old.faults)
+IsSameCopy old new = (new.pp ≡ old.pp) × (new.lv ≡ old.lv) × (new.lp ≡ old.lp) × (new.copy ≡ old.copy) × (new.faults ≡ old.faults) × (new.moves ≡ old.moves)
 
 -- It is brought up until it has ended so, for its cause, and closed; where it is done nothing calls it stale any more.
 pub record IsEnded (patience left : ℕ) (old new : State) (how : CopyState) : Type 0 where

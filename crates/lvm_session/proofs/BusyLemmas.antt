@@ -15,7 +15,6 @@ use Rattle.lvm_num.specs.Votes.{votes_by, votes_in, is_enough_to_write}
 use Rattle.lvm_num.specs.declared.place.Pp.{Pp}
 use Rattle.lvm_num.specs.declared.descriptor.LvRow.{LvRow}
 use Rattle.lvm_num.specs.declared.descriptor.Mode.TheVariants as mode
-use Rattle.lvm_num.specs.declared.status.Status.{Status}
 use Rattle.lvm_num.specs.Descriptor.{IsVolume, IsPartitionOf, IsLaidOut, IsValid, copies_of}
 use Rattle.lvm_num.specs.Status.{calls_stale, calls_missing}
 use Rattle.lvm_num.proofs.DisksLemmas.{has-zero, has-with}
@@ -299,7 +298,7 @@ write_request =
     (record {
       shape = shaped (record { copy = refl; sector = refl; there = refl }, (record { copy = refl; sector = refl; there = refl }, tt)) (omega arith, λ write. refl) refl tt (differ _ _ refl refl) (λ past. refl) (λ read. not_either read);
       ready = record { free = λ past. refl; recorded = inl refl; wanted = λ past two. refl; named = λ has two. refl; dirty = λ has two. refl };
-      judged = λ write. record { uncaught = (refl, (refl, tt)); due = λ waits. not_so waits; all = λ begun p among. or_left _ among };
+      judged = λ write. record { uncaught = (refl, (refl, tt)); due = λ waits. not_so waits; missed = λ waits. not_so waits; all = λ begun p among. or_left _ among; place = λ begun p among. not_so among };
     })
 
 read_request : IsOpenOne busy_core got_read
@@ -327,7 +326,7 @@ copy = record {
   row = wide;
   volume = refl;
   lp = omega arith;
-  its = refl;
+  kind = record { its = refl; stale = λ runs part. (refl, refl); clearing = λ runs whole. not_so whole };
   cursor = omega arith;
   faults = refl;
   place = (0, omega arith, refl);
@@ -337,23 +336,23 @@ copy = record {
   tried = λ disk is. not_marked disk is;
   source = tt;
   under_way = λ runs busy. refl;
-  stale = λ runs part. (refl, refl);
-  clearing = λ runs whole. not_so whole;
 }
 
 copy_caused : IsCausedAmong (state busy_device busy_core) (first_pp ∷ second_copy ∷ []) writing
 copy_caused = record {
   began = λ number p is. let none = zeros_at 128 p.disk in omega (arith, none);
-  since = λ number p is. let none = zeros_at 3 (number - 1) in omega (arith, none);
+  since = λ number p is. let none = zeros_at 4 (number - 1) in omega (arith, none);
   tried = λ number p is tried. not_marked p.disk tried;
+  own_began = omega arith;
+  own_since = omega arith;
   failed = λ e. not_none e;
 }
 
 chosen : IsChosenSince busy_core writing half_written × IsChosenSince busy_core writing got_read
-chosen = (λ waits young number p is. (λ e. low number, (λ e. low number, tt)), λ waits young number p is. (λ e. low number, (λ e. low number, tt)))
+chosen = (λ waits young number p is. ((λ e. low number, λ e. omega arith), ((λ e. low number, λ e. omega arith), tt)), λ waits young number p is. ((λ e. low number, λ e. omega arith), ((λ e. low number, λ e. omega arith), tt)))
   where
     low : (number : ℕ) → faults_at_opening writing number ≤ 0
-    low number = let none = zeros_at 3 (number - 1) in omega (arith, none)
+    low number = let none = zeros_at 4 (number - 1) in omega (arith, none)
 
 runs_on : copy_ends busy_core ≡ None
 unfolding has_bit has
@@ -409,6 +408,7 @@ is_sound =
       origin = record {
         since = λ disk. let none = zeros_at 128 disk in omega (arith, none);
         votes = votes;
+        rows = λ disk. refl;
         still_missing = λ disk is. not_so (sym (none_missing true disk) ∙ is);
         missing = λ disk is. inl is;
         stale = λ p is. inl (thrice_holds (calls_stale (status_of behind) p) is);

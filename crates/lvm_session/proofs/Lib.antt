@@ -5,6 +5,7 @@ pub mod EnabledLemmas
 pub mod WorkedLemmas
 pub mod RequestsLemmas
 pub mod SoundLemmas
+pub mod MovesLemmas
 mod BusyLemmas
 pub mod EventsLemmas
 mod HandsLemmas

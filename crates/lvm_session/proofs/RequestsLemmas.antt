@@ -1,5 +1,5 @@
 -- A request that waits is one of the table by what holds of its blocks, its targets and its records.
-use Rattle.std.proofs.Common.{◌≡◌, ◌≢◌, ℕ, ◌+◌, ◌%◌, ◌<◌, ◌≤◌, ◌^◌, ◌&&◌, ◌||◌, true, false, not, Some, length, sym, ◌∙◌, arith}
+use Rattle.std.proofs.Common.{◌≡◌, ◌≢◌, ◌+◌, ◌%◌, ◌<◌, ◌≤◌, ◌^◌, ◌&&◌, ◌||◌, true, false, not, Some, length, sym, ◌∙◌, arith}
 use Rattle.std.specs.Prelude.{AllPairs, IfSome, count_by, is_some}
 use Rattle.std.specs.List.{list_any, AllByRecursion}
 use Rattle.lvm_num.specs.Buffer.{Buffer}

@@ -1,10 +1,9 @@
 -- A session that is on is sound by what holds of it while it is on.
-use Rattle.std.proofs.Common.{◌≡◌, ℕ, ◌≤◌, true, false, sym, ap, ◌∙◌, arith}
+use Rattle.std.proofs.Common.{◌≡◌, ℕ, false, sym, ap, ◌∙◌, arith}
 use Rattle.std.specs.Prelude.{IfSome, slice_index_or}
 use Rattle.std.specs.List.{AllByRecursion}
 use Rattle.lvm_num.proofs.Booleans.{not_so}
 use Rattle.lvm_session.specs.declared.bringing.OpenCopy.{OpenCopy}
-use Rattle.lvm_session.specs.declared.open.Power.{Power}
 use Rattle.lvm_session.specs.declared.open.Power.TheVariants as power
 use Rattle.lvm_session.specs.State.{State}
 use Rattle.lvm_session.specs.Judging.{copies_in}

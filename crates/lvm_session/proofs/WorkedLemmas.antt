@@ -4,3 +4,4 @@ pub mod Flying
 pub mod BroughtUp
 pub mod Worked
 pub mod Waiting
+pub mod Moved

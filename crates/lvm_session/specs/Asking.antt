@@ -1,5 +1,5 @@
 -- What a client may ask of a session.
-use Rattle.std.specs.Prelude.{◌≡◌, ◌≤◌, ◌*◌, ℕ, List, Option, Some, length, is_some}
+use Rattle.std.specs.Prelude.{◌≡◌, ◌*◌, ℕ, List, Option, length, is_some}
 use Rattle.std.specs.Option.{ForSome}
 use Rattle.lvm_hold.specs.Conflicts.{IsInGroup}
 use Rattle.lvm_path.specs.declared.ask.Ask.{Ask}

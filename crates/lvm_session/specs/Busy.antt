@@ -44,7 +44,7 @@ group_of_three = group_of (member 0 ∷ member 1 ∷ member 2 ∷ []) (wide ∷ 
 
 -- a target in the first logical partition
 abbrev pub target_at : Pp → ℕ → TargetState → Target
-target_at p sector how = record { pp = p; sector = sector; usable = true; faults = 0; state = how }
+target_at p sector how = record { pp = p; sector = sector; usable = true; moves = false; faults = 0; state = how }
 
 -- A write of both copies of its first block: it is out to the first, and done on the second.
 abbrev pub half_written : Open
@@ -70,7 +70,7 @@ got_read = record (asking 2 another_read phase.Data (target_at part 6152 stage.D
 
 -- The second copy of the second logical partition: three of its track groups are copied, and the fourth is being written.
 abbrev pub writing : OpenCopy
-writing = record { lv = 1; lp = 1; copy = 2; pp = second_copy; cursor = 3; step = step.Writing; tried = 0; place = 1; faults = 0 ∷ 0 ∷ 0 ∷ []; end = None }
+writing = record { lv = 1; lp = 1; copy = 2; pp = second_copy; moves = false; cursor = 3; step = step.Writing; tried = 0; place = 1; faults = 0 ∷ 0 ∷ 0 ∷ 0 ∷ []; end = None }
 
 -- ---- all of it
 

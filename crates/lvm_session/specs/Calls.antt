@@ -1,13 +1,16 @@
 -- The calls of a client: a request is submitted, its answer is taken, a copy is opened and closed.
-use Rattle.std.specs.Prelude.{◌≡◌, ℕ, ◌+◌, ◌*◌, ◌-◌, ◌^◌, ◌++◌, take, Bool, true, false, ◌&&◌, ◌==◌, not, nat_lt, nat_le, if◌then◌else◌, List, [], ◌∷◌, length, map, position, Option, Some, None, MatchOption, is_some, Result, Ok, Err, slice_get}
+use Rattle.std.specs.Prelude.{◌≡◌, ◌⊎◌, ◌||◌, is_none, ℕ, ◌+◌, ◌*◌, ◌-◌, ◌^◌, ◌++◌, take, Bool, true, false, ◌&&◌, ◌==◌, not, nat_lt, nat_le, if◌then◌else◌, List, [], ◌∷◌, length, map, position, Option, Some, None, MatchOption, is_some, Result, Ok, Err, slice_get}
 use Rattle.std.specs.List.{remove, list_any}
 use Rattle.std.specs.Option.{option_map_or}
 use Rattle.lvm_num.specs.declared.place.Pp.{Pp}
 use Rattle.lvm_num.specs.declared.descriptor.LvRow.{LvRow}
 use Rattle.lvm_num.specs.declared.descriptor.Policy.TheVariants as policy
 use Rattle.lvm_num.specs.Disks.{has}
-use Rattle.lvm_num.specs.Descriptor.{copies_of, volume_of, is_pp}
+use Rattle.lvm_num.specs.declared.descriptor.PvRow.{PvRow}
+use Rattle.lvm_num.specs.Descriptor.{copies_of, member_of, partitions_used, volume_of, is_pp}
 use Rattle.lvm_num.specs.Geometry.{volume_blocks}
+use Rattle.lvm_status.specs.Calls.{BecomesStale}
+use Rattle.lvm_session.specs.declared.origin.Origin.{Origin}
 use Rattle.lvm_kept.specs.passed.Names.{Counts, Outcome, Begun, with_fact, next_id, next_request, taken_fact, spare_entries, spare_bytes, blocks_begun}
 use Rattle.lvm_kept.specs.passed.VolEntryVol.{Lv}
 use Rattle.lvm_kept.specs.passed.VolEntryOutcome as outcome
@@ -30,7 +33,10 @@ use Rattle.lvm_session.specs.declared.answers.CopyState.{CopyState}
 use Rattle.lvm_session.specs.declared.answers.CopyState.TheVariants as copy
 use Rattle.lvm_session.specs.declared.bringing.Step.TheVariants as step
 use Rattle.lvm_session.specs.State.{Core}
-use Rattle.lvm_session.specs.Judging.{place_of, held_of, is_usable, is_settled, is_missing}
+use Rattle.lvm_session.specs.Judging.{place_of, held_of, pps_of, is_moved, is_usable, is_settled, is_missing}
+use Rattle.lvm_session.specs.Marks.{is_among}
+use Rattle.lvm_session.specs.declared.answers.MoveRefusal.{MoveRefusal}
+use Rattle.lvm_session.specs.declared.answers.MoveRefusal.TheVariants as denial
 use Rattle.lvm_session.specs.Bringing.{step_place, is_out}
 use Rattle.lvm_session.specs.Ends.{with_step}
 
@@ -163,14 +169,14 @@ copy_fault core lv lp number = refusal_when core.power (refusal_on core lv lp nu
 abbrev pub aged : Open → Open
 aged o = record o { older = true }
 
--- how many transfers have failed on the disks of three copies
-abbrev pub faults_of : Counts → List Pp → List ℕ
-faults_of counts copies = take 3 (map (λ (p : Pp). counts.faults p.disk) copies ++ 0 ∷ 0 ∷ 0 ∷ [])
+-- how many transfers have failed on the disks of three copies, and on the disk of this one
+abbrev pub faults_of : Counts → List Pp → Pp → List ℕ
+faults_of counts copies own = take 3 (map (λ (p : Pp). counts.faults p.disk) copies ++ 0 ∷ 0 ∷ 0 ∷ []) ++ counts.faults own.disk ∷ []
 
--- the copy on this partition as it is opened, at this place of the queue
-abbrev pub opened : Pp → ℕ → ℕ → ℕ → ℕ → List ℕ → ℕ → OpenCopy
-opened p lv lp number tried faults place =
-    record { lv = lv; lp = lp; copy = number; pp = p; cursor = 0; step = step.Idle; tried = tried; place = place; faults = faults; end = None }
+-- the copy on this partition, or that moves there, as it is opened, at this place of the queue
+abbrev pub opened : Bool → Pp → ℕ → ℕ → ℕ → ℕ → List ℕ → ℕ → OpenCopy
+opened moves p lv lp number tried faults place =
+    record { lv = lv; lp = lp; copy = number; pp = p; moves = moves; cursor = 0; step = step.Idle; tried = tried; place = place; faults = faults; end = None }
 
 -- A stale copy begins to be brought up; its first step enters the queue.
 pub record Opens (counts : Counts) (old new : Core) (lv lp number : ℕ) : Type 0 where
@@ -180,14 +186,73 @@ pub record Opens (counts : Counts) (old new : Core) (lv lp number : ℕ) : Type 
   pub copy_is : copy_at (copies_of row lp) number ≡ Some pp
   pub tried : ℕ
   pub nothing : (d : ℕ) → has tried d ≡ false
-  pub is : new ≡ with_step (record old { requests = map aged old.requests }) (opened pp lv lp number tried (faults_of counts (copies_of row lp)) (step_place old))
+  pub is : new ≡ with_step (record old { requests = map aged old.requests }) (opened false pp lv lp number tried (faults_of counts (copies_of row lp) pp) (step_place old))
 
 -- A copy is opened, or isn't, and then nothing changes.
 abbrev pub OpenGives : Counts → Core → Core → ℕ → ℕ → ℕ → Result (Unit {0}) CopyFault → Type 0
 OpenGives counts old new lv lp number answer =
     MatchOption (copy_fault old lv lp number) ((answer ≡ Ok tt) × Opens counts old new lv lp number) (λ (why : CopyFault). (answer ≡ Err why) × (new ≡ old))
 
+-- ---- a move is opened
+
+-- a volume has the partition, or its member hasn't
+abbrev pub is_in_use : Core → Pp → Bool
+is_in_use core p = is_among (partitions_used core.descriptor) p || not (option_map_or (λ (row : PvRow). nat_lt p.pp row.pps) (member_of core.descriptor p.disk) false)
+
+-- why a copy of these doesn't move to this partition
+abbrev pub move_refusal_at : Core → Pp → List Pp → Option MoveRefusal
+move_refusal_at core to copies =
+    if is_in_use core to then Some denial.InUse
+    else if is_missing core to.disk then Some (denial.Missing to.disk)
+    else if not (list_any (is_usable core) copies) then Some denial.NoFresh
+    else if has_numbers core then None else Some denial.HistoryFull
+
+-- why this copy of a logical partition of the volume doesn't
+abbrev pub move_refusal_in : Core → LvRow → ℕ → ℕ → Pp → Option MoveRefusal
+move_refusal_in core row lp number to =
+    if nat_lt lp row.lps && is_some (copy_at (copies_of row lp) number) then move_refusal_at core to (copies_of row lp) else Some denial.OutOfRange
+
+-- why it doesn't while the session goes on
+abbrev pub move_refusal_on : Core → ℕ → ℕ → ℕ → Pp → Option MoveRefusal
+move_refusal_on core lv lp number to =
+    if is_some core.copy then Some denial.Busy
+    else option_map_or (λ (row : LvRow). move_refusal_in core row lp number to) (volume_of core.descriptor lv) (Some denial.NoVolume)
+
+-- and where the session is over
+abbrev pub move_refusal_when : Power → Option MoveRefusal → Option MoveRefusal
+move_refusal_when power.Dark on = Some denial.Dark
+move_refusal_when power.Off on = Some denial.Off
+move_refusal_when power.Stuck on = on
+move_refusal_when power.On on = on
+
+-- why a copy isn't moved, if it isn't (but for want of memory)
+abbrev pub move_fault : Core → ℕ → ℕ → ℕ → Pp → Option MoveRefusal
+move_fault core lv lp number to = move_refusal_when core.power (move_refusal_on core lv lp number to)
+
+-- the partition counts as stale since the session began, and nothing else changes
+pub record CallsStale (p : Pp) (old new : Origin) : Type 0 where
+  pub table : BecomesStale p old.table new.table
+  pub faults : new.faults ≡ old.faults
+
+-- A copy begins to move; its first step enters the queue, and its place counts as stale since the session began.
+pub record OpensMove (counts : Counts) (old new : Core) (lv lp number : ℕ) (to : Pp) : Type 0 where
+  pub row : LvRow
+  pub volume : volume_of old.descriptor lv ≡ Some row
+  pub tried : ℕ
+  pub nothing : (d : ℕ) → has tried d ≡ false
+  pub called : CallsStale to old.origin new.origin
+  pub is : new ≡ with_step (record old { requests = map aged old.requests; origin = new.origin }) (opened true to lv lp number tried (faults_of counts (copies_of row lp) to) (step_place old))
+
+-- A move is opened, or isn't, and then nothing changes.
+abbrev pub OpenMoveGives : Counts → Core → Core → ℕ → ℕ → ℕ → Pp → Result (Unit {0}) MoveRefusal → Type 0
+OpenMoveGives counts old new lv lp number to answer =
+    MatchOption (move_fault old lv lp number to) (((answer ≡ Ok tt) × OpensMove counts old new lv lp number to) ⊎ ((answer ≡ Err denial.Memory) × (new ≡ old))) (λ (why : MoveRefusal). (answer ≡ Err why) × (new ≡ old))
+
 -- ---- what a caller sees of it
+
+-- a request that hasn't landed has the partition among its targets
+abbrev pub is_aimed_at : Core → Pp → Bool
+is_aimed_at core p = list_any (λ (o : Open). is_none o.landed && is_among (pps_of o.request.targets.items) p) core.requests
 
 -- how one stands that has ended so
 abbrev pub state_at_end : OpenCopy → CopyEnd → CopyState
@@ -196,13 +261,21 @@ state_at_end c ending.SyncFailed = copy.SyncFailed c.pp.disk
 state_at_end c ending.NoFresh = copy.NoFresh
 state_at_end c ending.Ended = copy.Ended
 
--- It is running until its own transfer has ended too.
-abbrev pub state_of_copy : OpenCopy → CopyState
-state_of_copy c = if is_out c.step then copy.Running c.cursor else option_map_or (state_at_end c) c.end (copy.Running c.cursor)
+-- a move that has ended, to whose place a request still goes
+abbrev pub is_still_aimed : Core → OpenCopy → Bool
+is_still_aimed core c = c.moves && is_some c.end && is_aimed_at core c.pp
+
+-- It is running until its own transfer has ended too, and until no request goes to the place to which it was to move. A move is done while it is whole, its place
+-- is fresh and nothing is under way on its logical partition.
+abbrev pub state_of_copy : Core → OpenCopy → CopyState
+state_of_copy core c =
+    if is_out c.step || is_still_aimed core c then copy.Running c.cursor
+    else if is_moved core c then copy.Done
+    else option_map_or (state_at_end c) c.end (copy.Running c.cursor)
 
 -- how far the copy is that is open
 abbrev pub copy_state : Core → CopyState
-copy_state core = option_map_or state_of_copy core.copy copy.Closed
+copy_state core = option_map_or (state_of_copy core) core.copy copy.Closed
 
 -- no copy is open
 abbrev pub closed : Core → Core

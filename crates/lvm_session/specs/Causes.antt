@@ -7,6 +7,7 @@ use Rattle.lvm_num.specs.Status.{calls_stale, calls_missing}
 use Rattle.lvm_num.specs.Votes.{votes_in, is_enough_to_write}
 use Rattle.lvm_num.specs.Descriptor.{is_pp}
 use Rattle.lvm_status.specs.Update.{members_there}
+use Rattle.lvm_status.specs.Members.{HasItsRows}
 use Rattle.lvm_kept.specs.passed.Names.{Rose, Device, Outcome}
 use Rattle.lvm_kept.specs.passed.VolEntryOutcome as outcome
 use Rattle.lvm_path.specs.declared.target.Target.{Target}
@@ -52,6 +53,8 @@ is_held_stale core p = is_stale core p || calls_stale (unwrap_or core.status.in_
 pub record IsTrueToOrigin (s : State) : Type 0 where
   pub since : (disk : ℕ) → faults_at_first s.core disk ≤ s.device.counts.faults disk
   pub votes : is_enough_to_write s.core.descriptor (votes_in s.core.descriptor (members_there s.core.descriptor s.core.origin.table)) ≡ true
+  -- its table has a row for exactly the members (else the place to which a copy moves, on a disk without one, couldn't count as stale there from the opening on)
+  pub rows : HasItsRows s.core.descriptor s.core.origin.table
   pub still_missing : (disk : ℕ) → calls_missing s.core.origin.table disk ≡ true → is_missing s.core disk ≡ true
   pub missing : (disk : ℕ) → is_missing s.core disk ≡ true → (calls_missing s.core.origin.table disk ≡ true) ⊎ FailedSince s disk
   pub stale : (p : Pp) → is_held_stale s.core p || is_wanted_stale s.core p ≡ true
@@ -94,6 +97,14 @@ AreCaused device core o = is_waiting o ≡ true → AllByRecursion (IsCaused dev
 abbrev pub faults_at_opening : OpenCopy → ℕ → ℕ
 faults_at_opening c number = slice_index_or c.faults (number - 1) 0
 
+-- and on its own disk
+abbrev pub own_faults : OpenCopy → ℕ
+own_faults c = slice_index_or c.faults 3 0
+
+-- that one has failed since
+abbrev pub OwnFailedSinceOpening : Device → OpenCopy → Type 0
+OwnFailedSinceOpening device c = Rose (own_faults c) (device.counts.faults c.pp.disk)
+
 -- the disk of this copy of the logical partition has failed since
 abbrev pub FailedSinceOpening : Device → OpenCopy → ℕ → Pp → Type 0
 FailedSinceOpening device c number p = Rose (faults_at_opening c number) (device.counts.faults p.disk)
@@ -101,7 +112,7 @@ FailedSinceOpening device c number p = Rose (faults_at_opening c number) (device
 -- A target that was chosen after the opening has at least the faults that its disk had then.
 abbrev pub IsChosenSince : Core → OpenCopy → Open → Type 0
 IsChosenSince core c o = is_waiting o ≡ true → o.older ≡ false → (number : ℕ) (p : Pp) → copy_at (copies_in core.descriptor c.lv c.lp) number ≡ Some p
-    → AllByRecursion (λ (t : Target). t.pp ≡ p → faults_at_opening c number ≤ t.faults) o.request.targets.items
+    → AllByRecursion (λ (t : Target). (t.pp ≡ p → faults_at_opening c number ≤ t.faults) × (t.pp ≡ c.pp → own_faults c ≤ t.faults)) o.request.targets.items
 
 -- the disk of each other copy that is sure, and isn't missing, has failed since the opening; and some other copy's has
 pub record HaveSourcesFailed (s : State) (copies : List Pp) (c : OpenCopy) : Type 0 where
@@ -117,7 +128,9 @@ pub record IsCausedAmong (s : State) (copies : List Pp) (c : OpenCopy) : Type 0 
   pub began : (number : ℕ) (p : Pp) → copy_at copies number ≡ Some p → faults_at_first s.core p.disk ≤ faults_at_opening c number
   pub since : (number : ℕ) (p : Pp) → copy_at copies number ≡ Some p → faults_at_opening c number ≤ s.device.counts.faults p.disk
   pub tried : (number : ℕ) (p : Pp) → copy_at copies number ≡ Some p → has c.tried p.disk ≡ true → FailedSinceOpening s.device c number p
-  pub failed : c.end ≡ Some ending.SyncFailed → FailedSinceOpening s.device c c.copy c.pp ⊎ HaveSourcesFailed s copies c
+  pub own_began : faults_at_first s.core c.pp.disk ≤ own_faults c
+  pub own_since : own_faults c ≤ s.device.counts.faults c.pp.disk
+  pub failed : c.end ≡ Some ending.SyncFailed → OwnFailedSinceOpening s.device c ⊎ HaveSourcesFailed s copies c
 
 -- ---- why requests landed
 

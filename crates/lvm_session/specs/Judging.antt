@@ -1,5 +1,5 @@
 -- How the copies stand to which a request goes, and what a request is told of it.
-use Rattle.std.specs.Prelude.{◌≡◌, ◌≤◌, ℕ, ◌+◌, ◌*◌, ◌%◌, ◌-◌, ◌<◌, ◌^◌, Bool, true, false, ◌&&◌, ◌||◌, ◌==◌, not, nat_lt, if◌then◌else◌, List, [], ◌∷◌, map, filter, Some, is_none, unwrap_or}
+use Rattle.std.specs.Prelude.{◌≡◌, ◌≤◌, ℕ, ◌++◌, ◌+◌, ◌*◌, ◌%◌, ◌<◌, ◌^◌, Bool, true, false, ◌&&◌, ◌||◌, ◌==◌, not, nat_lt, if◌then◌else◌, List, [], ◌∷◌, map, filter, Some, is_none, unwrap_or}
 use Rattle.std.specs.List.{list_any, list_all}
 use Rattle.std.specs.Option.{option_map_or}
 use Rattle.lvm_num.specs.declared.place.Pp.{Pp}
@@ -20,6 +20,8 @@ use Rattle.lvm_path.specs.declared.facts.Facts.{Facts}
 use Rattle.lvm_path.specs.declared.facts.Next.{Next}
 use Rattle.lvm_path.specs.declared.ask.Ask.{Ask}
 use Rattle.lvm_path.specs.declared.request.Request.{Request}
+use Rattle.lvm_path.specs.declared.request.Phase.{Phase}
+use Rattle.lvm_path.specs.declared.request.Phase.TheVariants as phase
 use Rattle.lvm_path.specs.declared.target.Target.{Target}
 use Rattle.lvm_path.specs.Asks.{lv_of, at_of, count_of, is_write}
 use Rattle.lvm_path.specs.Targets.{is_done, is_failed, is_begun}
@@ -100,9 +102,39 @@ is_sure core p = not (is_stale core p) && not (is_wanted_stale core p)
 abbrev pub is_running : OpenCopy → Bool
 is_running c = is_none c.end
 
+-- how many track groups a logical partition has
+abbrev pub groups_of : Core → ℕ
+groups_of core = track_group_of (partition_blocks core.descriptor.mib)
+
+-- all of them are copied
+abbrev pub is_whole : Core → OpenCopy → Bool
+is_whole core c = not (nat_lt c.cursor (groups_of core))
+
 -- the copy that is being brought up has passed this track group of its logical partition
 abbrev pub is_caught : Core → ℕ → Pp → Bool
 is_caught core group p = option_map_or (λ (c : OpenCopy). is_running c && is_pp p c.pp && nat_lt group c.cursor) core.copy false
+
+-- ---- the place to which a copy moves
+
+-- the partition is one to which a copy moves, or was to move (until the move is closed)
+abbrev pub is_place : Core → Pp → Bool
+is_place core p = option_map_or (λ (c : OpenCopy). c.moves && is_pp p c.pp) core.copy false
+
+-- the request goes over the logical partition of a copy that is open
+abbrev pub is_beside_copy : Core → Ask → OpenCopy → Bool
+is_beside_copy core ask c = lv_of ask == c.lv && lp_of core ask == c.lp
+
+-- that place, where the move is one of the request's logical partition, if this is so of it
+abbrev pub places_if : Bool → OpenCopy → List Pp
+places_if is c = if is then c.pp ∷ [] else []
+
+-- of the move that is open, also once it has ended
+abbrev pub places_for : Core → Ask → List Pp
+places_for core ask = option_map_or (λ (c : OpenCopy). places_if (c.moves && is_beside_copy core ask c) c) core.copy []
+
+-- where it runs and has passed the track group
+abbrev pub place_aims : Core → Ask → List Pp
+place_aims core ask = filter (is_caught core (group_in core ask)) (places_for core ask)
 
 -- ---- targets
 
@@ -123,20 +155,24 @@ pps_of targets = map (λ (t : Target). t.pp) targets
 
 -- It is a write, and its targets are no longer the copies to which it goes.
 abbrev pub is_changed : Core → Request → Bool
-is_changed core r = is_write r.ask && not (same_pps (pps_of r.targets.items) (aims core r.ask))
+is_changed core r = is_write r.ask && not (same_pps (pps_of r.targets.items) (aims core r.ask ++ place_aims core r.ask))
 
 -- A target counts as failed where its transfer failed, or where it was usable at the admission and is wanted stale.
 abbrev pub counts_failed : Core → Target → Bool
 counts_failed core t = is_failed t.state || (t.usable && is_wanted_stale core t.pp)
 
+-- a target that is sure, and no place to which a copy moves
+abbrev pub is_sure_at : Core → Target → Bool
+is_sure_at core t = not t.moves && is_sure core t.pp
+
 -- a target that is sure has succeeded
 abbrev pub is_kept : Core → Request → Bool
-is_kept core r = list_any (λ (t : Target). is_done t.state && is_sure core t.pp) r.targets.items
+is_kept core r = list_any (λ (t : Target). is_done t.state && is_sure_at core t) r.targets.items
 
 -- all but the first target that is sure
 abbrev pub all_but_sure : Core → List Target → List Target
 all_but_sure core [] = []
-all_but_sure core (t ∷ ts) = if is_sure core t.pp then ts else t ∷ all_but_sure core ts
+all_but_sure core (t ∷ ts) = if is_sure_at core t then ts else t ∷ all_but_sure core ts
 
 -- The staleness that is due is settled: that of each target that counts as failed where a sure one has succeeded, else that of all but the first sure one.
 abbrev pub is_marked : Core → Request → Bool
@@ -154,11 +190,39 @@ is_failing core o = is_waiting o && is_write o.request.ask && is_begun o.request
 abbrev pub is_beside : Core → Ask → Ask → Bool
 is_beside core a b = lv_of a == lv_of b && lp_of core a == lp_of core b
 
--- Staleness of a copy of its logical partition is wanted and not settled, or another write there is failing.
+-- ---- a move that is done
+
+-- it is admitted and hasn't landed
+abbrev pub is_past_held : Phase → Bool
+is_past_held phase.Held = false
+is_past_held phase.WantEntry = true
+is_past_held phase.WantRecord = true
+is_past_held phase.Data = true
+is_past_held phase.WantStatus = true
+is_past_held phase.Landed = false
+
+-- neither the committed status calls it stale nor the one in flight, and nothing wants it so
+abbrev pub is_clear : Core → Pp → Bool
+is_clear core p = not (is_stale core p) && not (calls_stale (unwrap_or core.status.in_flight core.status.committed) p) && not (is_wanted_stale core p)
+
+-- some request that goes over the logical partition of the copy is admitted and hasn't landed
+abbrev pub is_under_way : Core → OpenCopy → Bool
+is_under_way core c = list_any (λ (o : Open). is_waiting o && is_past_held o.request.phase && is_beside_copy core o.request.ask c) core.requests
+
+-- All of it is copied, its place is fresh by each status, and nothing is under way on its logical partition; so it stays, since nothing is admitted there then.
+abbrev pub is_moved : Core → OpenCopy → Bool
+is_moved core c = c.moves && is_running c && is_whole core c && is_clear core c.pp && not (is_under_way core c)
+
+-- so it is of the move of a copy of the request's logical partition
+abbrev pub is_held_by_move : Core → Ask → Bool
+is_held_by_move core ask = option_map_or (λ (c : OpenCopy). is_moved core c && is_beside_copy core ask c) core.copy false
+
+-- Staleness of a copy of its logical partition is wanted and not settled, or another write there is failing, or a move of one is done.
 abbrev pub is_pending : Core → Request → Bool
 is_pending core r =
-    list_any (λ (p : Pp). is_wanted_stale core p && not (is_settled core p)) (copies_for core r.ask)
-    || list_any (λ (e : Open). not (e.request.id == r.id) && is_beside core e.request.ask r.ask && is_failing core e) core.requests
+    is_held_by_move core r.ask ||
+    (list_any (λ (p : Pp). is_wanted_stale core p && not (is_settled core p)) (copies_for core r.ask)
+    || list_any (λ (e : Open). not (e.request.id == r.id) && is_beside core e.request.ask r.ask && is_failing core e) core.requests)
 
 -- ---- records
 

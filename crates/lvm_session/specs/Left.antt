@@ -25,7 +25,7 @@ use Rattle.lvm_session.specs.declared.bringing.OpenCopy.{OpenCopy}
 use Rattle.lvm_session.specs.declared.bringing.Step.{Step}
 use Rattle.lvm_session.specs.declared.bringing.Step.TheVariants as step
 use Rattle.lvm_session.specs.State.{Core, is_there}
-use Rattle.lvm_session.specs.Judging.{is_waiting, copies_in, copies_for, group_of, mode_of, is_usable, is_settled, is_missing, is_changed, is_running}
+use Rattle.lvm_session.specs.Judging.{is_waiting, copies_in, copies_for, group_of, mode_of, is_usable, is_settled, is_missing, is_changed, is_running, places_for}
 use Rattle.lvm_session.specs.Bringing.{groups_of, is_whole}
 use Rattle.lvm_session.specs.Enabled.{is_lost, same_status}
 use Rattle.lvm_num.specs.Modes.{is_passive}
@@ -95,6 +95,10 @@ turns_of core p =
     else if is_brought_up core p then 46
     else if is_settled core p then 0 else 34
 
+-- so may the place to which one moves
+abbrev pub place_turns : Core → Pp → ℕ
+place_turns core p = if not (is_missing core p.disk) && is_brought_up core p then 46 else 0
+
 -- its volume is passive, and a mark of it is still to be wanted
 abbrev pub lacks_dirty : Core → Ask → Bool
 lacks_dirty core ask = is_passive (mode_of core ask) && not (calls_dirty core.status.wanted (lv_of ask))
@@ -102,7 +106,7 @@ lacks_dirty core ask = is_passive (mode_of core ask) && not (calls_dirty core.st
 -- a write that hasn't started its data
 abbrev pub unbegun_left : Core → Request → ℕ
 unbegun_left core r =
-    update_work + sum_by (turns_of core) (copies_for core r.ask) + if_so (lacks_dirty core r.ask) update_work
+    update_work + sum_by (turns_of core) (copies_for core r.ask) + sum_by (place_turns core) (places_for core r.ask) + if_so (lacks_dirty core r.ask) update_work
     + if_so (not (is_held r.phase) && is_changed core r) 12 + phase_left r.phase core r
 
 -- one that has
@@ -162,9 +166,9 @@ left_of core = left_by core.power core
 abbrev pub marks_later : Open → Bool
 marks_later o = is_waiting o && is_write o.request.ask && not (is_begun o.request.targets.items && are_over o.request.targets.items)
 
--- the copy's clearing, and its end
+-- the copy's clearing, and its end; and the descriptor that a move commits
 abbrev pub copy_updates : Core → OpenCopy → ℕ
-copy_updates core c = if not (is_running c) then 0 else if is_whole core c then 1 else 2
+copy_updates core c = if not (is_running c) then 0 else (if is_whole core c then 1 else 2) + if_so c.moves 1
 
 -- the passive volumes that aren't wanted dirty yet
 abbrev pub clean_volumes : Core → ℕ

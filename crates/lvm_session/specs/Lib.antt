@@ -19,5 +19,6 @@ pub mod Causes
 pub mod Sound
 pub mod Asking
 pub mod Worked
+pub mod WorkedMoves
 pub mod Busy
 pub mod Hands

@@ -6,7 +6,6 @@ use Rattle.lvm_num.specs.declared.place.Pp.{Pp}
 use Rattle.lvm_num.specs.declared.descriptor.LvRow.{LvRow}
 use Rattle.lvm_num.specs.Descriptor.{copies_of, is_pp}
 use Rattle.lvm_num.specs.Status.{calls_stale}
-use Rattle.lvm_num.specs.declared.status.Status.{Status}
 use Rattle.lvm_status.specs.passed.Names.{SameMissing}
 use Rattle.lvm_status.specs.declared.change.Change.TheVariants as change
 pub use Rattle.lvm_status.specs.Members.{HasSameRows}

@@ -5,7 +5,9 @@ use Rattle.std.specs.Option.{option_map_or}
 use Rattle.lvm_num.specs.Buffer.{Buffer}
 use Rattle.lvm_num.specs.declared.place.Pp.{Pp}
 use Rattle.lvm_num.specs.declared.descriptor.LvRow.{LvRow}
-use Rattle.lvm_num.specs.Descriptor.{IsValid, is_member, volume_of, is_pp}
+use Rattle.lvm_num.specs.declared.descriptor.PvRow.{PvRow}
+use Rattle.lvm_num.specs.Status.{calls_missing, calls_stale}
+use Rattle.lvm_num.specs.Descriptor.{IsValid, is_member, member_of, partitions_used, volume_of, is_pp}
 use Rattle.lvm_num.specs.Disks.{has}
 use Rattle.lvm_kept.specs.passed.Names.{Device, Flight, Request as Asked, Fact, Making, Made, Split, Removing, Removed, Begun, Landed, Taken, Cut, On, begun, Outcome, asked, next_id, is_open, lands_id, is_answered, Ordered}
 use Rattle.lvm_kept.specs.passed.VolEntryVol.{Lv}
@@ -156,14 +158,48 @@ IsReadFrom (step.Reading source) copies c = (is_among copies source ≡ true) ×
 IsReadFrom (step.Read buf) copies c = Unit {0}
 IsReadFrom step.Writing copies c = Unit {0}
 
+-- It is a stale copy of its logical partition.
+pub record IsStaleCopy (core : Core) (c : OpenCopy) : Type 0 where
+  pub its : copy_at (copies_in core.descriptor c.lv c.lp) c.copy ≡ Some c.pp
+  -- until it is whole it is stale by the committed status and by the one in flight, and wanted so
+  pub stale : is_running c ≡ true → is_whole core c ≡ false → (is_settled core c.pp ≡ true) × (is_wanted_stale core c.pp ≡ true)
+  -- then its clearing is wanted, and not committed yet
+  pub clearing : is_running c ≡ true → is_whole core c ≡ true → (is_stale core c.pp ≡ true) × (is_wanted_stale core c.pp ≡ false)
+
+-- a partition is fresh by what is committed, what is in flight and what is wanted
+abbrev pub stays_fresh : Core → Pp → Bool
+stays_fresh core p = not (is_held_stale core p) && not (is_wanted_stale core p)
+
+-- It is a copy of its logical partition that moves to a partition which no volume has, of a member on which no other copy of it stands; of that partition no
+-- staleness is wanted once the move is whole. Some copy of the logical partition stays fresh, also once it has ended (without one a write that is done on the place
+-- alone would wait for the staleness of the place, which nothing wants).
+pub record IsMove (core : Core) (c : OpenCopy) : Type 0 where
+  pub from : Pp
+  pub its : copy_at (copies_in core.descriptor c.lv c.lp) c.copy ≡ Some from
+  pub free : is_among (partitions_used core.descriptor) c.pp ≡ false
+  pub member : PvRow
+  pub member_is : member_of core.descriptor c.pp.disk ≡ Some member
+  pub inside : c.pp.pp < member.pps
+  pub apart : list_any (λ (p : Pp). not (is_pp p from) && p.disk == c.pp.disk) (copies_in core.descriptor c.lv c.lp) ≡ false
+  pub there : calls_missing core.origin.table c.pp.disk ≡ false
+  -- it counts as stale since the session began, so that staleness that is wanted of it needs no fault
+  pub called : calls_stale core.origin.table c.pp ≡ true
+  pub clear : is_running c ≡ true → is_whole core c ≡ true → is_wanted_stale core c.pp ≡ false
+  pub fresh : list_any (stays_fresh core) (copies_in core.descriptor c.lv c.lp) ≡ true
+
+-- what holds of it by what it is
+abbrev pub IsOfKind : Bool → Core → OpenCopy → Type 0
+IsOfKind false core c = IsStaleCopy core c
+IsOfKind true core c = IsMove core c
+
 -- The copy that is open is a copy of its logical partition, and no earlier request is in its way once it is under way.
 pub record IsCopy (core : Core) (c : OpenCopy) : Type 0 where
   pub row : LvRow
   pub volume : volume_of core.descriptor c.lv ≡ Some row
   pub lp : c.lp < row.lps
-  pub its : copy_at (copies_in core.descriptor c.lv c.lp) c.copy ≡ Some c.pp
+  pub kind : IsOfKind c.moves core c
   pub cursor : c.cursor ≤ groups_of core
-  pub faults : length c.faults ≡ 3
+  pub faults : length c.faults ≡ 4
   -- its step stands behind a request that began, and before the next one
   pub place : (id : ℕ) × (id < next_id core.history) × (c.place ≡ place_of id + 1)
   pub room : IfSome (hand_of c.step) (λ (buf : Buffer). length buf.sectors ≡ 256)
@@ -175,20 +211,12 @@ pub record IsCopy (core : Core) (c : OpenCopy) : Type 0 where
   pub source : IsReadFrom c.step (copies_in core.descriptor c.lv c.lp) c
   -- a step that is under way copies a track group, so it isn't whole yet
   pub under_way : is_running c ≡ true → is_idle c.step ≡ false → is_whole core c ≡ false
-  -- until it is whole it is stale by the committed status and by the one in flight, and wanted so
-  pub stale : is_running c ≡ true → is_whole core c ≡ false → (is_settled core c.pp ≡ true) × (is_wanted_stale core c.pp ≡ true)
-  -- then its clearing is wanted, and not committed yet
-  pub clearing : is_running c ≡ true → is_whole core c ≡ true → (is_stale core c.pp ≡ true) × (is_wanted_stale core c.pp ≡ false)
 
 -- the open copy is whole, and its clearing is wanted
 abbrev pub is_clearing : Core → Pp → Bool
 is_clearing core p = option_map_or (λ (c : OpenCopy). is_running c && is_whole core c && is_pp p c.pp) core.copy false
 
 -- ---- while it is on
-
--- it is fresh by what is committed, what is in flight and what is wanted
-abbrev pub stays_fresh : Core → Pp → Bool
-stays_fresh core p = not (is_held_stale core p) && not (is_wanted_stale core p)
 
 -- it was fresh when the session began, or isn't stale by all three
 abbrev pub may_be_fresh : Core → Pp → Bool

@@ -56,18 +56,19 @@ first_copy = record { disk = 0; pp = 0 }
 abbrev pub second_copy : Pp
 second_copy = record { disk = 1; pp = 0 }
 
--- what a status says: the second copy is stale, the first disk is missing, the volume is dirty
+-- what a status says: the second copy is stale, the first disk is missing, the volume is dirty, the partition of the third disk that no volume has is stale
 pub record Says : Type 0 where
   pub stale : Bool
   pub missing : Bool
   pub dirty : Bool
+  pub place : Bool
 
 abbrev pub status_of : Says → Status
-status_of s = record (status_of_rows (record (row_of 0 false) { missing = s.missing } ∷ row_of 1 s.stale ∷ row_of 2 false ∷ [])) { dirty = if s.dirty then 1 ∷ [] else [] }
+status_of s = record (status_of_rows (record (row_of 0 false) { missing = s.missing } ∷ row_of 1 s.stale ∷ row_of 2 s.place ∷ [])) { dirty = if s.dirty then 1 ∷ [] else [] }
 
 -- both copies are fresh
 abbrev pub fresh : Says
-fresh = record { stale = false; missing = false; dirty = false }
+fresh = record { stale = false; missing = false; dirty = false; place = false }
 
 -- the second copy is stale
 abbrev pub behind : Says
@@ -137,7 +138,7 @@ core_of w = record {
 
 -- a target on this partition
 abbrev pub target_on : Pp → TargetState → Target
-target_on p how = record { pp = p; sector = 4096; usable = true; faults = 0; state = how }
+target_on p how = record { pp = p; sector = 4096; usable = true; moves = false; faults = 0; state = how }
 
 -- a request of the first block
 abbrev pub asking : ℕ → Ask → Phase → List Target → Open
@@ -161,7 +162,7 @@ row_for id ask = record { id = place_of id; ask = held_of ask }
 
 -- the second copy, of which so many track groups are copied
 abbrev pub bringing_up : ℕ → Option CopyEnd → OpenCopy
-bringing_up cursor end = record { lv = 1; lp = 0; copy = 2; pp = second_copy; cursor = cursor; step = step.Idle; tried = 0; place = 1; faults = 0 ∷ 0 ∷ 0 ∷ []; end = end }
+bringing_up cursor end = record { lv = 1; lp = 0; copy = 2; pp = second_copy; moves = false; cursor = cursor; step = step.Idle; tried = 0; place = 1; faults = 0 ∷ 0 ∷ 0 ∷ 0 ∷ []; end = end }
 
 -- ---- a passive volume
 

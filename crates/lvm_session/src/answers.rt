@@ -77,6 +77,31 @@ pub enum CopyFault {
     HistoryFull,
 }
 
+/// Why a copy doesn't move, in this order.
+#[derive(Clone, Copy, PartialEq, Eq)]
+pub enum MoveRefusal {
+    /// The power was cut.
+    Dark,
+    /// The members that aren't missing had too few votes to write.
+    Off,
+    /// Another copy is open.
+    Busy,
+    /// The group has no volume of this number.
+    NoVolume,
+    /// The volume has no such logical partition or no such copy.
+    OutOfRange,
+    /// A volume has the partition, or its member hasn't.
+    InUse,
+    /// Its disk is missing.
+    Missing { disk: u16 },
+    /// No copy of the logical partition is usable.
+    NoFresh,
+    /// Fewer than 65,536 numbers are left for the stamps of records.
+    HistoryFull,
+    /// Memory was wanting for the next descriptor.
+    Memory,
+}
+
 /// How far the copy is that is open.
 #[derive(Clone, Copy, PartialEq, Eq)]
 pub enum CopyState {

@@ -38,8 +38,10 @@ pub struct OpenCopy {
     pub lp: u32,
     /// The copy, from 1.
     pub copy: u8,
-    /// The physical partition that it is.
+    /// The physical partition that it is, or to which it moves.
     pub pp: Pp,
+    /// Whether it moves there: no volume has the partition yet.
+    pub moves: bool,
     /// The track groups of the logical partition below this one, from 0, are copied.
     pub cursor: u32,
     pub step: Step,
@@ -48,8 +50,8 @@ pub struct OpenCopy {
     /// Its place in the hold queue, while it has one.
     pub place: u64,
     /// How many transfers had failed when it was opened, on the disk of each copy of the logical partition, from
-    /// the first copy on; 0 where there is none.
-    pub faults: [u64; 3],
+    /// the first copy on, 0 where there is none; and on its own disk.
+    pub faults: [u64; 4],
     /// None while it is being brought up.
     pub end: Option<CopyEnd>,
 }

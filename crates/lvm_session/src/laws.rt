@@ -1,6 +1,7 @@
 //! Laws: what the definitions say of sessions that are written out.
 ghost use Rattle.lvm_session.specs.Busy.{BusyIsSound};
 ghost use Rattle.lvm_session.specs.Worked.{AdmissionMarks, CommitLowersWork, UnsettledIsFresh, ReadsMayLag, StandingStillIsUnsound, BlameNeedsFaults, AnswersAreTold, DarknessKeepsNotes, BeginningsAreSound, HeldWritesAreSound, FlyingWritesAreSound, CopiesAreSound, WaitingWritesPin, UnpinnedWritesMove};
+ghost use Rattle.lvm_session.specs.WorkedMoves.{MovesAreSound};
 
 /// A write to several copies of a passive volume wants the volume dirty when it is admitted.
 pub fn admission_marks()
@@ -61,6 +62,12 @@ pub fn flying_writes_are_sound()
 /// A session whose copy is being brought up is sound, in whatever mode its volume is.
 pub fn copies_are_sound()
     ensures { CopiesAreSound }
+{}
+
+/// A session in which a copy moves is sound, in whatever mode its volume is: while the move is open, once all is
+/// copied, and once it has ended.
+pub fn moves_are_sound()
+    ensures { MovesAreSound }
 {}
 
 /// A session with a write that waits for its entry in the cache is sound, and its track group is pinned next.

@@ -27,6 +27,7 @@ use Rattle.lvm_session.specs.Marks.{is_among}
 use Rattle.lvm_moves.specs.passed.Names.{IsOutIf}
 use Rattle.lvm_session.specs.Owners.{flies, same_owner}
 use Rattle.lvm_session.specs.Sound.{IsCopy, count_if, is_hand}
+use Rattle.lvm_session.proofs.MovesLemmas.{move_of, move_partition, stale_of}
 use Rattle.lvm_moves.proofs.passed.Names.{copies_in_are}
 use Rattle.lvm_moves.proofs.OutLemmas.{at_most_one, get_other, is_out as out_of}
 use Rattle.lvm_session_turn.specs.Learning.{MayReturn}
@@ -122,10 +123,12 @@ module _ (core : Core) (at : ℕ) (who : Owner) (number : ℕ) (ended : HasEnded
   its_copy c is = subst (λ (m : Option OpenCopy). IfSome m (IsCopy core)) is ended.going.copy
 
   pub its_place : (c : OpenCopy) → core.copy ≡ Some c → IsPartitionOf core.descriptor c.pp
-  its_place c is =
-      let copy = its_copy c is in
-      by_number c.copy copy.its
+  its_place c is = by_kind c.moves refl
     where
+      by_kind : (b : Bool) → c.moves ≡ b → IsPartitionOf core.descriptor c.pp
+      by_kind false stays = by_number c.copy (stale_of core c (its_copy c is) stays).its
+      by_kind true moves = move_partition core c (move_of core c (its_copy c is) moves)
+
       copies : List Pp
       copies = copies_in core.descriptor c.lv c.lp
 

@@ -14,6 +14,7 @@ use Rattle.lvm_num.proofs.Lists.{any_within}
 use Rattle.lvm_sched.specs.declared.writes.TargetState.{TargetState}
 use Rattle.lvm_sched.specs.Writes.{is_flying}
 use Rattle.lvm_status.specs.Calls.{IsMarkable}
+use Rattle.lvm_path.specs.declared.ask.Ask.{Ask}
 use Rattle.lvm_path.specs.declared.target.Target.{Target}
 use Rattle.lvm_path.specs.Asks.{lv_of}
 use Rattle.lvm_path.specs.Targets.{end_state, with_state}
@@ -30,7 +31,8 @@ use Rattle.lvm_calls.specs.Due.{MayMark}
 use Rattle.lvm_moves.proofs.passed.Names.{copies_in_are, at_place}
 use Rattle.lvm_calls.specs.Ending.{CanEnd, MayEndCopy}
 use Rattle.lvm_session.specs.Owners.{target_flies}
-use Rattle.lvm_session.specs.Requests.{IsOpenOne, IsTarget}
+use Rattle.lvm_session.specs.Requests.{IsAimed, IsOpenOne, IsTarget}
+use Rattle.lvm_session.proofs.MovesLemmas.{move_of, move_partition, open_one, place_open}
 use Rattle.lvm_session_turn.proofs.Listing.{finds, some_there}
 use Rattle.lvm_calls.proofs.BringingLemmas.{markable}
 use Rattle.lvm_session_turn.specs.Ended.{HasEnded, HasId}
@@ -143,8 +145,13 @@ module _ (core : Core) (at id target : ℕ) (number : ℕ) (ended : HasEnded cor
     markable_of : (t : Target) → IsTarget core has.request.request.ask t → IsMarkable core.status.wanted t.pp
     markable_of t its =
         let ask = has.request.request.ask in
-        markable core.descriptor core.status.wanted t.pp ended.going.fitting.valid ended.going.fitting.rows
-        (among_all (IsPartitionOf core.descriptor) (copies_for core ask) t.pp (copies_in_are core.descriptor (lv_of ask) (lp_of core ask) ended.going.fitting.valid) its.copy)
+        markable core.descriptor core.status.wanted t.pp ended.going.fitting.valid ended.going.fitting.rows (by ask t.moves its.copy)
+      where
+        by : (ask : Ask) (b : Bool) → IsAimed b core ask t → IsPartitionOf core.descriptor t.pp
+        by ask false among = among_all (IsPartitionOf core.descriptor) (copies_for core ask) t.pp (copies_in_are core.descriptor (lv_of ask) (lp_of core ask) ended.going.fitting.valid) among
+        by ask true place =
+            let it = place_open core ask t.pp place.0 in
+            subst (IsPartitionOf core.descriptor) (sym it.is) (move_partition core it.copy (move_of core it.copy (open_one core it.copy it.is_open ended.going.copy) it.moves))
 
     all_markable : (ts : List Target) (k : ℕ) (state : TargetState) → AllByRecursion (IsTarget core has.request.request.ask) ts → All (λ (t : Target). IsMarkable core.status.wanted t.pp) (with_state ts k state)
     all_markable [] k state all = All-nil (λ (t : Target). IsMarkable core.status.wanted t.pp)

@@ -44,7 +44,7 @@ use Rattle.lvm_crash.proofs.CopiesLemmas.{number_finds}
 use Rattle.lvm_crash.proofs.WritingLemmas.{pp_same, same_pp}
 use Rattle.lvm_tie.specs.Seen.{IsRequestAt, IsStepAt, SeesCopy, SeesRunning, stage_at, stage_seen}
 use Rattle.lvm_tie.specs.Tied.{IsTied}
-use Rattle.lvm_tie.proofs.StateLemmas.{copy_is, missing_seen, stale_seen, wanted_seen}
+use Rattle.lvm_tie.proofs.StateLemmas.{copy_is, missing_seen, stale_is, stale_seen, wanted_seen}
 use Rattle.lvm_tie.proofs.TiedLemmas.Orderly.{valid_of}
 use Rattle.lvm_tie.specs.Causes.{AreFaultsOf, CausesAreSeen, FaultsAreThere}
 use Rattle.lvm_tie.specs.Landings.{FailuresAreCaused, HadNone, HasCausesSince, HasLandedFor, IsEntryCaused}
@@ -181,8 +181,8 @@ module _ (past first : List Fact) (s : State) (w : Faults) (tied : IsTied past s
       stale_so c is runs = whole (is_whole core c) refl
         where
           whole : (b : Bool) → is_whole core c ≡ b → is_stale core c.pp ≡ true
-          whole true all = ((copy_is past s tied c is).clearing runs all).0
-          whole false short = (and_parts (is_stale core c.pp) (calls_stale (unwrap_or core.status.in_flight core.status.committed) c.pp) ((copy_is past s tied c is).stale runs short).0).0
+          whole true all = ((stale_is past s tied c is).clearing runs all).0
+          whole false short = (and_parts (is_stale core c.pp) (calls_stale (unwrap_or core.status.in_flight core.status.committed) c.pp) ((stale_is past s tied c is).stale runs short).0).0
 
       running : (c : OpenCopy) → core.copy ≡ Some c → (b : Bool) → is_running c ≡ b → SeesRunning b (groups_of core) c v.open_copy → HasCause w o.target
       running c is true runs sees =

@@ -39,8 +39,8 @@ use Rattle.lvm_session.specs.declared.flown.Owner.TheVariants as owner
 use Rattle.lvm_session.specs.declared.open.Open.{Open}
 use Rattle.lvm_session.specs.declared.open.Power.TheVariants as power
 use Rattle.lvm_session.specs.State.{Core, State, state}
-use Rattle.lvm_session.specs.Bringing.{after_copy_end, ends_if, is_done_end, is_out, is_whole, marked_by_end, with_back, with_end as with_copy_end}
-use Rattle.lvm_session.specs.Judging.{all_but_sure, is_kept, is_running, is_sure, is_waiting, place_of, pps_of}
+use Rattle.lvm_session.specs.Bringing.{after_copy_end, ends_if, is_called_stale, is_done_end, is_out, is_whole, marked_by_end, with_back, with_end as with_copy_end}
+use Rattle.lvm_session.specs.Judging.{all_but_sure, is_kept, is_running, is_sure, is_sure_at, is_waiting, place_of, pps_of}
 use Rattle.lvm_session.specs.Ends.{DataLearns, Ends, Learns, after_data, keeps_buffer, learned}
 use Rattle.lvm_session.specs.Events.{IsDataTransfer}
 use Rattle.lvm_session.specs.Marks.{Entails, WantsStale, due_of, due_targets, end_by_write, hits_copy, is_among}
@@ -61,9 +61,9 @@ use Rattle.lvm_crash.proofs.RecordsLemmas.Quiet.{quiet_lasts, update_goes_on}
 use Rattle.lvm_crash.proofs.WritingLemmas.{group_kept, pp_same, records_same, same_pp, write_ends}
 use Rattle.lvm_crash.specs.Owned.{OnlyUpdateSince}
 use Rattle.lvm_crash.specs.Writing.{WriteEnded, after_write, stage_of}
-use Rattle.lvm_tie.proofs.SeenLemmas.Changing.{same_long, sees_changed, stage_after, step_apart, target_was}
-use Rattle.lvm_tie.proofs.StateLemmas.{among_one, aimed_of, copy_is}
-use Rattle.lvm_tie.proofs.TiedLemmas.Orderly.{AreOut, Differ, HasTargets, HaveNumbers, HaveTickets, IsDataOut, IsOut, begun_by, numbers_of, open_one, out_of, targets_of, tickets_of, valid_of}
+use Rattle.lvm_tie.proofs.SeenLemmas.Changing.{same_long, sees_changed, stage_after, step_apart, target_moves, target_was}
+use Rattle.lvm_tie.proofs.StateLemmas.{among_one, aimed_of, stale_is, target_stays}
+use Rattle.lvm_tie.proofs.TiedLemmas.Orderly.{AreOut, Differ, HasTargets, HaveNumbers, HaveTickets, IsDataOut, IsOut, begun_by, numbers_of, open_one, out_of, targets_of, tickets_of, valid_of, waiting_one}
 use Rattle.lvm_tie.proofs.TiedLemmas.Tied.{DataParts, data_parts}
 use Rattle.lvm_tie.proofs.AmongLemmas.{any_one, its_pp, not_true, one_there, or_either, or_true, target_of}
 use Rattle.lvm_tie.proofs.OutLemmas.Wanted.{next_same, records_wanted, sees_wanted, stamp_same, update_same, write_same}
@@ -94,9 +94,9 @@ not_if : (b : Bool) (ps : List Pp) (p : Pp) → is_among ps p ≡ false → is_a
 not_if true ps p h = h
 not_if false ps p h = refl
 
--- a target at a sure partition is sure
-sure_at : (core : Core) (x : Target) (p : Pp) → x.pp ≡ p → is_sure core p ≡ true → is_sure core x.pp ≡ true
-sure_at core x p same sure = ap (is_sure core) same ∙ sure
+-- a target at a sure partition is sure, where it is a copy
+sure_at : (core : Core) (x : Target) (p : Pp) → x.moves ≡ false → x.pp ≡ p → is_sure core p ≡ true → is_sure_at core x ≡ true
+sure_at core x p stays same sure = ap (λ b. not b && is_sure core x.pp) stays ∙ ap (is_sure core) same ∙ sure
 
 -- what is put in the queue is there
 put_there : (v : ModelState) (i : ℕ) (q : Queued) → put v.queue i q i ≡ Some q
@@ -320,19 +320,26 @@ module _ (past : List Fact) (old new : State) (index : ℕ) (ends : Ends old new
       let here : q2.first + 0 ≡ q2.first = omega arith in
       subst (λ n. IsTrue (covers q2 q2.lv n)) here (covers_its q2 0 (omega arith))
 
+  -- each is a copy
+  stays_copy : (x : Target) → IsOneOf ts2 x → x.moves ≡ false
+  stays_copy x one =
+      let there = one_there ts2 x one in
+      let was = target_moves ts number (end_state ends.ok) there.0 x there.1 in
+      sym was.2 ∙ target_stays past old tied o.request.ask was.0 (all_at (IsTarget old.core o.request.ask) ts there.0 was.0 (waiting_one old tied.write tied.orderly learns.place o learns.its.there out.waiting).shape.targets was.1)
+
   -- one of its targets is sure, and stays so
   stays : Stays core2 ts2 (due_targets core2 o2.request)
   stays = by (is_kept core2 o2.request) refl
     where
       by : (b : Bool) → is_kept core2 o2.request ≡ b → Stays core2 ts2 (if b then filter (λ (x : Target). is_failed x.state) ts2 else all_but_sure core2 ts2)
       by true is =
-          let u = any_one (λ (x : Target). is_done x.state && is_sure core2 x.pp) ts2 is in
-          let both = and_parts (is_done u.0.state) (is_sure core2 u.0.pp) u.2 in
+          let u = any_one (λ (x : Target). is_done x.state && is_sure_at core2 x) ts2 is in
+          let both = and_parts (is_done u.0.state) (is_sure_at core2 u.0) u.2 in
           done_stays core2 ts2 u.0 (are_apart ts2 differ2) u.1 both.0 both.1
       by false is =
           let kept = each_has w i q2 good_w.sound (record { there = (put_there v i q2); write = parts.started.write; going = parts.started.going }) covers_first in
           let u = stage_one ts2 kept.copy kept.stage (sym (sees2.targets kept.copy) ∙ kept.target) in
-          sure_stays core2 ts2 u.0 (are_apart ts2 differ2) u.1 (sure_at core2 u.0 kept.copy u.2 (sure_of kept.copy kept.kept))
+          sure_stays core2 ts2 u.0 (are_apart ts2 differ2) u.1 (sure_at core2 u.0 kept.copy (stays_copy u.0 u.1) u.2 (sure_of kept.copy kept.kept))
 
   its_copy : (x : Target) → IsOneOf ts2 x → IsTrue (v.is_copy (lv_of o.request.ask) (at_of o.request.ask) x.pp)
   its_copy x one =
@@ -340,11 +347,14 @@ module _ (past : List Fact) (old new : State) (index : ℕ) (ends : Ends old new
       let was = target_was ts number (end_state ends.ok) there.0 x there.1 in
       subst (λ (c : Pp). IsTrue (v.is_copy (lv_of o.request.ask) (at_of o.request.ask) c)) was.2 (aimed_of past old tied learns.place there.0 o was.0 learns.its.there out.waiting was.1)
 
+  keeper_sure : is_sure core2 stays.keeper.pp ≡ true
+  keeper_sure = (and_parts (not stays.keeper.moves) (is_sure core2 stays.keeper.pp) stays.sure).1
+
   keeper_fresh : calls_stale old.core.status.committed stays.keeper.pp ≡ false
-  keeper_fresh = not_true (calls_stale old.core.status.committed stays.keeper.pp) (and_parts (not (calls_stale old.core.status.committed stays.keeper.pp)) (not (calls_stale old.core.status.wanted stays.keeper.pp)) stays.sure).0
+  keeper_fresh = not_true (calls_stale old.core.status.committed stays.keeper.pp) (and_parts (not (calls_stale old.core.status.committed stays.keeper.pp)) (not (calls_stale old.core.status.wanted stays.keeper.pp)) keeper_sure).0
 
   keeper_wanted : calls_stale old.core.status.wanted stays.keeper.pp ≡ false
-  keeper_wanted = not_true (calls_stale old.core.status.wanted stays.keeper.pp) (and_parts (not (calls_stale old.core.status.committed stays.keeper.pp)) (not (calls_stale old.core.status.wanted stays.keeper.pp)) stays.sure).1
+  keeper_wanted = not_true (calls_stale old.core.status.wanted stays.keeper.pp) (and_parts (not (calls_stale old.core.status.committed stays.keeper.pp)) (not (calls_stale old.core.status.wanted stays.keeper.pp)) keeper_sure).1
 
   -- what is due is one of its targets
   record IsTargets (p : Pp) : Type 0 where
@@ -414,9 +424,9 @@ module _ (past : List Fact) (old new : State) (index : ℕ) (ends : Ends old new
       by None none test = absurd (cc test)
       by (Some h) some test =
           let x : IsHit h = hit h some in
-          let both = and_parts (not (is_done_end h)) (option_map_or (λ (c : OpenCopy). is_whole core2 c && is_pp p c.pp) old.core.copy false) test in
-          let here : (is_whole old.core x.copy && is_pp p x.copy.pp) ≡ true = sym (ap (λ (m : Option OpenCopy). option_map_or (λ (c : OpenCopy). is_whole old.core c && is_pp p c.pp) m false) x.is_open) ∙ both.1 in
-          let parts_of = and_parts (is_whole old.core x.copy) (is_pp p x.copy.pp) here in
+          let both = and_parts (not (is_done_end h)) (option_map_or (λ (c : OpenCopy). is_whole core2 c && is_pp p c.pp && (not c.moves || is_called_stale core2 c.pp)) old.core.copy false) test in
+          let here : (is_whole old.core x.copy && is_pp p x.copy.pp && (not x.copy.moves || is_called_stale old.core x.copy.pp)) ≡ true = sym (ap (λ (m : Option OpenCopy). option_map_or (λ (c : OpenCopy). is_whole old.core c && is_pp p c.pp && (not c.moves || is_called_stale old.core c.pp)) m false) x.is_open) ∙ both.1 in
+          let parts_of = and_parts (is_whole old.core x.copy) (is_pp p x.copy.pp) (and_parts (is_whole old.core x.copy && is_pp p x.copy.pp) (not x.copy.moves || is_called_stale old.core x.copy.pp) here).0 in
           record { kind = h; its_hit = x; all = parts_of.0; same = pp_same p x.copy.pp parts_of.1 }
 
   keeper_not_marked : marked_by_end core2 how stays.keeper.pp ≡ false
@@ -426,7 +436,7 @@ module _ (past : List Fact) (old new : State) (index : ℕ) (ends : Ends old new
       by false is = refl
       by true is =
           let m = marked stays.keeper.pp is in
-          let stale = ((copy_is past old tied m.its_hit.copy m.its_hit.is_open).clearing m.its_hit.running m.all).0 in
+          let stale = ((stale_is past old tied m.its_hit.copy m.its_hit.is_open).clearing m.its_hit.running m.all).0 in
           clash_gives (calls_stale old.core.status.committed stays.keeper.pp) (ap (calls_stale old.core.status.committed) m.same ∙ stale) keeper_fresh
 
   module _ (status : Stored) (wants : WantsStale due core2.status status) where
@@ -454,13 +464,13 @@ module _ (past : List Fact) (old new : State) (index : ℕ) (ends : Ends old new
         let c : OpenCopy = its_hit.copy in
         let brought = (opened past old tied c its_hit.is_open its_hit.running).0 in
         ap (calls_stale status.wanted) (brought.target x open_is) ∙ wants.stale c.pp
-        ∙ or_true (calls_stale old.core.status.wanted c.pp) (due c.pp) (by c its_hit.is_open brought.part (ap (λ (e : Option CopyEnd). marked_by_end core2 e c.pp) (is ∙ ap (λ (e : CopyEnd). Some e) its_hit.fails)) (is_whole old.core c) refl)
+        ∙ or_true (calls_stale old.core.status.wanted c.pp) (due c.pp) (by c its_hit.is_open brought.stays brought.part (ap (λ (e : Option CopyEnd). marked_by_end core2 e c.pp) (is ∙ ap (λ (e : CopyEnd). Some e) its_hit.fails)) (is_whole old.core c) refl)
       where
-        by : (c : OpenCopy) → old.core.copy ≡ Some c → (is_whole old.core c ≡ false → calls_stale old.core.status.wanted c.pp ≡ true) → marked_by_end core2 how c.pp ≡ option_map_or (λ (y : OpenCopy). is_whole old.core y && is_pp c.pp y.pp) old.core.copy false
+        by : (c : OpenCopy) → old.core.copy ≡ Some c → c.moves ≡ false → (is_whole old.core c ≡ false → calls_stale old.core.status.wanted c.pp ≡ true) → marked_by_end core2 how c.pp ≡ option_map_or (λ (y : OpenCopy). is_whole old.core y && is_pp c.pp y.pp && (not y.moves || is_called_stale old.core y.pp)) old.core.copy false
             → (b : Bool) → is_whole old.core c ≡ b → (calls_stale old.core.status.wanted c.pp ≡ true) ⊎ (due c.pp ≡ true)
-        by c here stale mark false part = inl (stale part)
-        by c here stale mark true all = inr (or_true (is_among (due_of core2 o2.request) c.pp) (marked_by_end core2 how c.pp)
-            (inr (mark ∙ ap (λ (m : Option OpenCopy). option_map_or (λ (y : OpenCopy). is_whole old.core y && is_pp c.pp y.pp) m false) here ∙ (λ k. all k && same_pp c.pp c.pp refl k))))
+        by c here stays stale mark false part = inl (stale part)
+        by c here stays stale mark true all = inr (or_true (is_among (due_of core2 o2.request) c.pp) (marked_by_end core2 how c.pp)
+            (inr (mark ∙ ap (λ (m : Option OpenCopy). option_map_or (λ (y : OpenCopy). is_whole old.core y && is_pp c.pp y.pp && (not y.moves || is_called_stale old.core y.pp)) m false) here ∙ (λ k. all k && same_pp c.pp c.pp refl k && (not (stays k) || is_called_stale old.core c.pp)))))
 
     -- ---- what the state wants
 

@@ -35,7 +35,7 @@ use Rattle.lvm_crash.proofs.RecordsLemmas.Quiet.{quiet_lasts}
 use Rattle.lvm_tie.proofs.OutLemmas.Ties.{carry_on}
 use Rattle.lvm_tie.proofs.AmongLemmas.{or_true}
 use Rattle.lvm_tie.specs.Out.{CarriesStep}
-use Rattle.lvm_tie.specs.Seen.{IsRequestAt, IsStepAt, Sees, SeesHand, SeesStep, step_write_in, step_write_of, update_of}
+use Rattle.lvm_tie.specs.Seen.{Brings, IsRequestAt, IsStepAt, Sees, SeesHand, SeesStep, step_write_in, step_write_of, update_of}
 use Rattle.lvm_tie.specs.Tied.{IsOrderly, IsTied}
 use Rattle.lvm_tie.specs.Near.{IsNear, IsRunning, NearTies}
 
@@ -137,6 +137,7 @@ module _ (past : List Fact) (device : Device) (core : Core) (how : CopyEnd) (nea
     open_copy = none;
     step_write = write_out;
     beside = near.sees.beside;
+    brings = subst Brings its.is_open near.sees.brings;
   }
 
   carries_out : (g : Flight) (o : Owner) → CarriesStep core v g o → CarriesStep core_out v g o
@@ -228,6 +229,7 @@ module _ (past : List Fact) (device : Device) (core : Core) (how : CopyEnd) (nea
     open_copy = none;
     step_write = write_in out;
     beside = near.sees.beside;
+    brings = subst Brings its.is_open near.sees.brings;
   }
 
   -- it leaves
@@ -305,6 +307,7 @@ module _ (past : List Fact) (device : Device) (core : Core) (how : CopyEnd) (nea
       open_copy = none;
       step_write = write_in out;
       beside = near.sees.beside;
+      brings = subst Brings its.is_open near.sees.brings;
     }
 
   pub ended_ties : IsOrderly (state device (with_end core (Some how))) near.write → IsTied past (state device (with_end core (Some how)))

@@ -1,5 +1,5 @@
 -- Where the code would start the first transfer of a write, the write may start.
-use Rattle.std.proofs.Common.{◌≡◌, ◌⊎◌, inl, inr, ⊎_elim, ℕ, Bool, true, false, ◌&&◌, ◌||◌, not, List, length, Option, Some, None, refl, sym, ap, subst, ◌∙◌, arith}
+use Rattle.std.proofs.Common.{◌≡◌, ◌⊎◌, inl, inr, ⊎_elim, ℕ, Bool, true, false, ◌&&◌, ◌||◌, not, List, filter, length, append-nil, ◌++◌, Option, Some, None, refl, sym, ap, subst, ◌∙◌, arith}
 use Rattle.std.specs.Prelude.{IsTrue, IsFalse, if◌then◌else◌, nat_le, slice_get, option_and_then}
 use Rattle.std.specs.List.{list_any, list_all}
 use Rattle.std.specs.Option.{option_map_or}
@@ -32,12 +32,12 @@ use Rattle.lvm_path.specs.Targets.{is_begun}
 use Rattle.lvm_path.specs.Next.{next_write, next_chosen, next_data, next_read, next_in, next_of}
 use Rattle.lvm_session.specs.declared.open.Open.{Open}
 use Rattle.lvm_session.specs.State.{Core, State, is_there}
-use Rattle.lvm_session.specs.Judging.{copies_for, group_in, group_of, mode_of, is_usable, is_caught, is_missing, is_wanted_stale, is_settled, aims, pps_of, same_pps, has_names, has_dirty_mark, place_of, facts_of, IsWithin}
+use Rattle.lvm_session.specs.Judging.{copies_for, group_in, group_of, mode_of, is_usable, is_caught, is_missing, is_wanted_stale, is_settled, is_held_by_move, aims, place_aims, pps_of, same_pps, has_names, has_dirty_mark, place_of, facts_of, IsWithin}
 use Rattle.lvm_session.specs.Enabled.{target_due, target_next}
 use Rattle.lvm_invariant.specs.State.{Stage, Todo, Ready, Groups, Marks, Queued, ModelState, is_usable as sees_usable, is_settled_stale, HasPassed}
 use Rattle.lvm_invariant.specs.StartWrite.{MayStart}
 use Rattle.lvm_keeps_events.proofs.passed.Names.{first_start_is_noted}
-use Rattle.lvm_tie.proofs.StateLemmas.{wanted_seen, usable_seen, settled_seen, copy_is_one, on_member, there_is_copy, caught_passed, passed_caught}
+use Rattle.lvm_tie.proofs.StateLemmas.{no_places, wanted_seen, usable_seen, settled_seen, copy_is_one, on_member, there_is_copy, caught_passed, passed_caught}
 use Rattle.lvm_tie.proofs.ModesLemmas.{active_is, active_mode, passive_is, passive_mode}
 use Rattle.lvm_tie.proofs.TiedLemmas.Orderly.{open_one}
 use Rattle.lvm_tie.proofs.AmongLemmas.{or_left, or_either, or_true, not_true, and_not, any_one, any_none, all_one, one_filter, same_lists, stage_of_one, one_todo, its_pp, target_of, few_same}
@@ -147,7 +147,8 @@ module _ (past : List Fact) (s : State) (tied : IsTied past s) (o : Open) (numbe
 
   -- its targets are the copies to which it must go
   aims_are : pps_of ts ≡ aims core ask
-  aims_are = same_lists (pps_of ts) (aims core ask) (and_not (is_write ask) (same_pps (pps_of ts) (aims core ask)) tells.changed writes)
+  aims_are = same_lists (pps_of ts) (aims core ask ++ place_aims core ask) (and_not (is_write ask) (same_pps (pps_of ts) (aims core ask ++ place_aims core ask)) tells.changed writes)
+      ∙ ap (λ (ps : List Pp). aims core ask ++ filter (is_caught core (group_in core ask)) ps) (no_places past s tied ask) ∙ append-nil (aims core ask)
 
   -- a target is a copy that is usable, or being brought up and has passed the track group
   pub record IsAim (e : Pp) : Type 0 where
@@ -199,10 +200,14 @@ module _ (past : List Fact) (s : State) (tied : IsTied past s) (o : Open) (numbe
       counts) in
       to_do e (subst (λ (ps : List Pp). IsOneOf ps e) (sym aims_are) (one_filter (λ (p : Pp). is_usable core p || is_caught core (group_in core ask) p) (copies_for core ask) e one passes))
 
+  rest_false : (a b : Bool) → a || b ≡ false → b ≡ false
+  rest_false true b e = absurd (cc e)
+  rest_false false b e = e
+
   quiet : (e : Pp) → IsTrue (v.is_copy q.lv q.first e) → IsTrue (v.wanted.stale e) → IsTrue (is_settled_stale v e)
   quiet e copy wanted =
       let one = copy_is_one past s tied ask inside e (copy_at_first e copy) in
-      let none = or_left (list_any (λ (p : Pp). is_wanted_stale core p && not (is_settled core p)) (copies_for core ask)) _ tells.pending in
+      let none = or_left (list_any (λ (p : Pp). is_wanted_stale core p && not (is_settled core p)) (copies_for core ask)) _ (rest_false (is_held_by_move core ask) _ tells.pending) in
       settled_seen past s tied e (and_not (is_wanted_stale core e) (is_settled core e) (any_none (λ (p : Pp). is_wanted_stale core p && not (is_settled core p)) (copies_for core ask) e none.0 one) (sym (wanted_seen past s tied e) ∙ wanted))
 
   source : (p : Pp) × IsTrue (v.is_copy q.lv q.first p) × IsTrue (sees_usable v p)

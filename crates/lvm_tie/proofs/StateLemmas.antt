@@ -33,7 +33,7 @@ use Rattle.lvm_path.specs.Asks.{lv_of, at_of, count_of}
 use Rattle.lvm_session.specs.declared.open.Open.{Open}
 use Rattle.lvm_session.specs.declared.bringing.OpenCopy.{OpenCopy}
 use Rattle.lvm_session.specs.State.{Core, State, is_there}
-use Rattle.lvm_session.specs.Judging.{copies_in, copies_for, group_in, is_usable, is_stale, is_missing, is_wanted_stale, is_settled, is_running, is_caught, is_waiting, IsWithin}
+use Rattle.lvm_session.specs.Judging.{copies_in, copies_for, group_in, is_usable, is_stale, is_missing, is_wanted_stale, is_settled, is_running, is_caught, is_waiting, is_beside_copy, places_for, places_if, IsWithin}
 use Rattle.lvm_session.specs.Bringing.{groups_of}
 use Rattle.lvm_invariant.specs.State.{Marks, ModelCopy, ModelState, is_usable as sees_usable, is_settled_stale, stale_in, HasPassed}
 use Rattle.lvm_crash.specs.Session.{as_marks, members_showing}
@@ -41,11 +41,12 @@ use Rattle.lvm_crash.proofs.CopiesLemmas.{copy_placed, one_block}
 use Rattle.lvm_crash.proofs.WritingLemmas.{pp_same, same_pp}
 use Rattle.lvm_crash.specs.Copies.{IsCopyOf}
 use Rattle.lvm_tie.proofs.TiedLemmas.Orderly.{open_one, valid_of, waiting_one}
-use Rattle.lvm_tie.specs.Seen.{passed_by, SeesOpen, SeesRunning, SeesCopy}
+use Rattle.lvm_tie.specs.Seen.{Brings, passed_by, SeesOpen, SeesRunning, SeesCopy}
 use Rattle.lvm_tie.specs.Tied.{IsTied}
 use Rattle.lvm_session.specs.Marks.{is_among}
-use Rattle.lvm_session.specs.Requests.{IsTarget}
-use Rattle.lvm_session.specs.Sound.{IsCopy}
+use Rattle.lvm_session.specs.Requests.{IsAimed, IsTarget}
+use Rattle.lvm_session.specs.Sound.{IsCopy, IsStaleCopy}
+use Rattle.lvm_session.proofs.MovesLemmas.{place_open, places_by, stale_of}
 use Rattle.lvm_tie.proofs.SeenLemmas.Beside.{plain_copies}
 
 pub found_any : (rows : List PvRow) (disk : ℕ) (row : PvRow) → find (λ (r : PvRow). r.disk == disk) rows ≡ Some row → list_any (λ (r : PvRow). r.disk == disk) rows ≡ true
@@ -73,8 +74,8 @@ pub record IsOfItsPartition (core : Core) (c : OpenCopy) : Type 0 where
   pub among : IsOneOf (copies_of row c.lp) c.pp
   pub cursor : c.cursor ≤ groups_of core
 
-pub its_partition : (core : Core) (c : OpenCopy) → IsCopy core c → IsOfItsPartition core c
-its_partition core c its = record { row = its.row; volume = its.volume; lp = its.lp; among = by (c.copy == 0) its.its; cursor = its.cursor }
+pub its_partition : (core : Core) (c : OpenCopy) → IsCopy core c → c.moves ≡ false → IsOfItsPartition core c
+its_partition core c its stays = record { row = its.row; volume = its.volume; lp = its.lp; among = by (c.copy == 0) (stale_of core c its stays).its; cursor = its.cursor }
   where
     by : (b : Bool) → (if b then None else slice_get (copies_in core.descriptor c.lv c.lp) (c.copy - 1)) ≡ Some c.pp → IsOneOf (copies_of its.row c.lp) c.pp
     by true there = absurd (cc there)
@@ -120,8 +121,36 @@ module _ (past : List Fact) (s : State) (tied : IsTied past s) where
   pub copy_is : (c : OpenCopy) → core.copy ≡ Some c → IsCopy core c
   copy_is c is = subst (λ (m : Option OpenCopy). IfSome m (IsCopy core)) is (tied.orderly.sound.on tied.orderly.on).going.copy
 
+  -- it doesn't move
+  pub brings : (c : OpenCopy) → core.copy ≡ Some c → c.moves ≡ false
+  brings c is = subst Brings is tied.sees.brings
+
+  pub stale_is : (c : OpenCopy) → core.copy ≡ Some c → IsStaleCopy core c
+  stale_is c is = stale_of core c (copy_is c is) (brings c is)
+
   pub of_its : (c : OpenCopy) → core.copy ≡ Some c → IsOfItsPartition core c
-  of_its c is = its_partition core c (copy_is c is)
+  of_its c is = its_partition core c (copy_is c is) (brings c is)
+
+  -- so a target is a copy
+  pub target_stays : (q : Ask) (t : Target) → IsTarget core q t → t.moves ≡ false
+  target_stays q t its = by t.moves refl its.copy
+    where
+      by : (b : Bool) → t.moves ≡ b → IsAimed b core q t → t.moves ≡ false
+      by false is aimed = is
+      by true is aimed =
+          let at = place_open core q t.pp aimed.0 in
+          absurd (let e : true ≡ false = sym at.moves ∙ brings at.copy at.is_open in cc)
+
+  pub target_copy : (q : Ask) (t : Target) → IsTarget core q t → is_among (copies_for core q) t.pp ≡ true
+  target_copy q t its = subst (λ (b : Bool). IsAimed b core q t) (target_stays q t its) its.copy
+
+  -- and no place is aimed at
+  pub no_places : (q : Ask) → places_for core q ≡ []
+  no_places q = by core.copy refl
+    where
+      by : (m : Option OpenCopy) → core.copy ≡ m → places_by core q m ≡ []
+      by None is = refl
+      by (Some c) is = ap (λ b. places_if (b && is_beside_copy core q c) c) (brings c is)
 
   -- a disk that isn't missing wasn't when the session began
   pub there_first : (disk : ℕ) → is_missing core disk ≡ false → calls_missing core.origin.table disk ≡ false
@@ -178,7 +207,7 @@ module _ (past : List Fact) (s : State) (tied : IsTied past s) where
 
     -- so is a target of the request
     pub target_is_copy : (t : Target) → IsTarget core ask t → IsTrue (v.is_copy (lv_of ask) (at_of ask) t.pp)
-    target_is_copy t its = let one = among_one (copies_for core ask) t.pp its.copy in one_is_copy t.pp one (tied.recorded.members t.pp.disk (on_member t.pp one) its.there)
+    target_is_copy t its = let one = among_one (copies_for core ask) t.pp (target_copy ask t its) in one_is_copy t.pp one (tied.recorded.members t.pp.disk (on_member t.pp one) its.there)
 
     -- its track group, counted in its volume
     groups : groups_of core ≡ 8 * group.mib

@@ -32,13 +32,14 @@ KeepsFresh v = (lv b : ℕ) (c : Pp) → IsTrue (v.is_copy lv b c) → (e : Pp) 
 abbrev pub HasOwners : ModelState → Type 0
 HasOwners v = (lv b l d : ℕ) (c e : Pp) → IsTrue (v.is_copy lv b c) → IsTrue (v.is_copy l d c) → IsTrue (v.is_copy l d e) → IsTrue (v.is_copy lv b e)
 
--- The copy that runs is the one that the state sees open, on a member; it is wanted stale until it is whole, and then stale by what is committed.
+-- The copy that runs doesn't move; it is the one that the state sees open, on a member; it is wanted stale until it is whole, and then stale by what is committed.
 pub record IsBrought (core : Core) (v : ModelState) (c : OpenCopy) : Type 0 where
   pub target : (o : ModelCopy) → v.open_copy ≡ Some o → o.target ≡ c.pp
   pub member : is_member core.descriptor c.pp.disk ≡ true
   pub there : (lv : ℕ) × (b : ℕ) × IsTrue (v.is_copy lv b c.pp)
   pub part : is_whole core c ≡ false → is_wanted_stale core c.pp ≡ true
   pub whole : is_whole core c ≡ true → is_stale core c.pp ≡ true
+  pub stays : c.moves ≡ false
 
 -- ---- what is wanted
 

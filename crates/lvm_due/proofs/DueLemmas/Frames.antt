@@ -14,9 +14,10 @@ use Rattle.lvm_path.specs.declared.request.Request.{Request}
 use Rattle.lvm_path.specs.Next.{next_in}
 use Rattle.lvm_session.specs.declared.event.Event.{Event}
 use Rattle.lvm_session.specs.declared.event.Event.TheVariants as event
+use Rattle.lvm_session.specs.declared.bringing.OpenCopy.{OpenCopy}
 use Rattle.lvm_session.specs.declared.open.Open.{Open}
 use Rattle.lvm_session.specs.State.{Core}
-use Rattle.lvm_session.specs.Judging.{facts_of, is_beside, is_failing, is_held_back, is_pending, next_for}
+use Rattle.lvm_session.specs.Judging.{facts_of, is_beside, is_beside_copy, is_failing, is_held_back, is_held_by_move, is_past_held, is_pending, is_waiting, next_for}
 use Rattle.lvm_session.specs.Enabled.{admission_at, can_pin, data_at, is_admit, is_pin, landing_at, note_at, outcome_next, pinning_at, target_next}
 use Rattle.lvm_session.specs.Left.{is_held}
 use Rattle.lvm_session.specs.Requests.{wants_entry}
@@ -28,7 +29,7 @@ use Rattle.lvm_due.specs.declared.due.Due.{Due}
 use Rattle.lvm_due.specs.Due.{AddsMaking, Covers, IsDue, Joins, Moves}
 use Rattle.lvm_due.specs.Making.{might_make_admission, might_make_data, might_make_landing, might_make_note}
 use Rattle.lvm_due.proofs.EnabledLemmas.Unmade.{admit_none, land_none, note_none, pin_none, start_none}
-use Rattle.lvm_due.proofs.JudgingLemmas.{facts_but, failing_read, fails_beside, is_unsettled, note_same, pending_read}
+use Rattle.lvm_due.proofs.JudgingLemmas.{facts_but, failing_read, fails_beside, goes_beside, is_unsettled, moved_read, note_same, pending_read}
 use Rattle.lvm_due.proofs.DueLemmas.Spanning.{KeepsSpan, adds_keep, joins_keep, not_both, out_of}
 use Rattle.lvm_due.proofs.EnabledLemmas.Unread.{blocked_unread, starts_unread}
 
@@ -71,10 +72,18 @@ module _ (frees pins : Open → Bool) (old new : Core) (place : ℕ) (moves : Mo
   -- what is pending for the others is what was
   pending_same : (r : Request) → is_pending new r ≡ is_pending old r
   pending_same r =
-      pending_read old new moves.reads r
-      ∙ ap (λ (os : List Open). is_unsettled old r || list_any (fails_beside old r) os) moves.requests
-      ∙ ap (λ (b : Bool). is_unsettled old r || b) (any_set (fails_beside old r) old.requests place moves.was moves.is moves.there same)
+      pending_read old new moves.reads r (moved_read old new moves.reads r.ask goes)
+      ∙ ap (λ (os : List Open). is_held_by_move old r.ask || (is_unsettled old r || list_any (fails_beside old r) os)) moves.requests
+      ∙ ap (λ (b : Bool). is_held_by_move old r.ask || (is_unsettled old r || b)) (any_set (fails_beside old r) old.requests place moves.was moves.is moves.there same)
     where
+      beside : (c : OpenCopy) → old.copy ≡ Some c → goes_beside old c moves.is ≡ goes_beside old c moves.was
+      beside c is =
+          ap (λ (ask : Ask). is_waiting moves.is && is_past_held moves.is.request.phase && is_beside_copy old ask c) moves.ask
+          ∙ ap (λ (b : Bool). b && is_beside_copy old moves.was.request.ask c) (moves.goes c is)
+
+      goes : (c : OpenCopy) → old.copy ≡ Some c → list_any (goes_beside old c) new.requests ≡ list_any (goes_beside old c) old.requests
+      goes c is = ap (list_any (goes_beside old c)) moves.requests ∙ any_set (goes_beside old c) old.requests place moves.was moves.is moves.there (beside c is)
+
       fails : is_failing old moves.is ≡ is_failing old moves.was
       fails = sym (failing_read old new moves.reads moves.is) ∙ moves.fails
 

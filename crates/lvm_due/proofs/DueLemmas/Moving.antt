@@ -3,7 +3,7 @@ use Rattle.std.proofs.Common.{◌≡◌, ◌&&◌, ◌||◌, not, ℕ, Bool, tru
 use Rattle.std.specs.Prelude.{if◌then◌else◌, position}
 use Rattle.std.specs.List.{list_any}
 use Rattle.std.specs.Option.{option_map_or}
-use Rattle.std.proofs.lemmas.Bool.{and_left, and_right}
+use Rattle.std.proofs.lemmas.Bool.{and_left, and_parts, and_right}
 use Rattle.lvm_num.specs.Buffer.{Buffer}
 use Rattle.lvm_vol.specs.declared.entry.Outcome.{Outcome}
 use Rattle.lvm_hold.specs.declared.queue.Row.{Row}
@@ -24,16 +24,17 @@ use Rattle.lvm_session.specs.declared.flown.Owner.TheVariants as owner
 use Rattle.lvm_session.specs.declared.open.Open.{Open}
 use Rattle.lvm_session.specs.State.{Core, State, state}
 use Rattle.lvm_session.specs.Bringing.{ends_if, with_end}
-use Rattle.lvm_session.specs.Enabled.{can_pin}
+use Rattle.lvm_session.specs.Enabled.{can_pin, is_pin}
 use Rattle.lvm_session.specs.Ends.{DataLearns, after_data, learned}
 use Rattle.lvm_session.specs.Events.{Admits, Lands, Pins, StartsData, admitted_as, after_admission, after_landing, begun_as, landed_as, makes_dirty, with_flight, with_open, without_pin}
-use Rattle.lvm_session.specs.Judging.{facts_of, group_of, held_of, is_failing, is_held_back, is_waiting, mode_of, place_of, policy_of}
+use Rattle.lvm_session.specs.Judging.{facts_of, group_of, held_of, is_failing, is_held_back, is_waiting, mode_of, next_for, place_of, policy_of}
 use Rattle.lvm_session.specs.Marks.{WantsDirtyIf, hits_copy}
 use Rattle.lvm_session.specs.Sound.{IsGoing, rows_of, waiting_rows}
 use Rattle.lvm_due.specs.Due.{any_fails, is_freed, none, overlap, waits_entry, waits_entry_if, HoldsPin, IsCalm, IsQuiet, IsQuietFor, Moves, ReadsSame}
 use Rattle.lvm_due.specs.Making.{might_make_landing}
 use Rattle.lvm_due.proofs.DueLemmas.Frames.{get_set}
 use Rattle.lvm_due.proofs.JudgingLemmas.{fails_read, failing_read}
+use Rattle.lvm_due.proofs.NotNextLemmas.{pins_past, starts_past}
 use Rattle.lvm_due.proofs.WritesLemmas.{start_fails, start_waits}
 use Rattle.lvm_due.proofs.Queues.{has_number, one_numbered, position_is, position_set, row_of, unqueued}
 
@@ -133,6 +134,7 @@ module _ (old : State) (new : Core) (place : ℕ) (how : Outcome) (going : IsGoi
     requests = landed_requests;
     id = refl;
     ask = refl;
+    goes = λ c is. absurd (let e : None ≡ Some c = sym (sym landed_reads.copy ∙ quiet.calm.copy) ∙ is in cc e);
     fails = sym (calm_one old.core lands.request (sym (fails_read old.core new landed_reads lands.request) ∙ quiet.kept (landed_as how lands.request) landed_there));
     waits = λ k o there held kept. landed_queue o.request (and_left (overlap lands.request.request.ask o.request.ask) (is_write_of (held_of lands.request.request.ask) || is_write_of (held_of o.request.ask))
         (sym (ap (λ (b : Bool). b && overlap lands.request.request.ask o.request.ask) held) ∙ kept));
@@ -165,6 +167,7 @@ admission_moves old new place admits was is pinned holds = record {
   requests = requests;
   id = refl;
   ask = refl;
+  goes = λ c its. absurd (let e : None ≡ Some c = sym was.calm.copy ∙ its in cc e);
   fails = calm_one new one (is.kept one (ap (λ (os : List Open). slice_get os place) requests ∙ get_set old.core.requests place admits.request one admits.there)) ∙ sym (calm_one old.core admits.request (was.kept admits.request admits.there));
   waits = λ k o there held kept. ap (λ (c : Core). is_held_back c o.request) core_is;
   pins = λ o waits kept. ap (λ (c : Core). can_pin c.cache o.request.ask) core_is ∙ unheld_pins old.core.cache admits.request.request o pinned (holds admits.request admits.there) waits kept;
@@ -194,6 +197,7 @@ pin_moves old new place pins = record {
   requests = ap (λ (c : Core). c.requests) core_is;
   id = refl;
   ask = refl;
+  goes = λ c is. ap (λ (b : Bool). is_waiting pins.request && b) (sym (pins_past (facts_of old.core r) r r.phase (and_parts (is_pin (next_for old.core pins.request)) (can_pin old.core.cache r.ask) pins.pins).0));
   fails = failing_read old.core new reads pins.request;
   waits = λ k o there held kept. ap (λ (c : Core). is_held_back c o.request) core_is;
   pins = λ o waits kept. not_both waits kept;
@@ -229,6 +233,7 @@ start_moves old new place target starts fine = record {
   requests = requests;
   id = refl;
   ask = refl;
+  goes = λ c is. ap (λ (b : Bool). is_waiting was && b) (sym (starts_past (facts_of old.core was.request) was.request was.request.phase target starts.its.due));
   fails = calm_one new.core one fine_now ∙ sym (by (is_write was.request.ask) refl);
   waits = λ k o there held kept. ap (λ (c : Core). is_held_back c o.request) core_is;
   pins = λ o waits kept. ap (λ (c : Core). can_pin c.cache o.request.ask) core_is;
@@ -304,6 +309,7 @@ module _ (old new : Core) (at id target : ℕ) (buf : Buffer) (going : IsGoing o
     requests = ended_requests was.calm.copy;
     id = refl;
     ask = refl;
+    goes = λ c its. absurd (let e : None ≡ Some c = sym was.calm.copy ∙ its in cc e);
     fails = calm_one new ended_now (is.kept ended_now (ap (λ (os : List Open). slice_get os learns.place) (ended_requests was.calm.copy) ∙ get_set old.requests learns.place ended_was ended_now learns.its.there))
         ∙ sym (calm_one old ended_was (was.kept ended_was learns.its.there));
     waits = λ k o there held kept. ap (λ (c : Core). is_held_back c o.request) (ended_is was.calm.copy);

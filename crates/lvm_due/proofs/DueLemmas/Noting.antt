@@ -32,13 +32,13 @@ use Rattle.lvm_session.specs.State.{Core, State}
 use Rattle.lvm_session.specs.Ends.{NoteLearns}
 use Rattle.lvm_session.specs.Events.{StartsNote, with_flight}
 use Rattle.lvm_session.specs.Enabled.{admission_at, can_pin, data_at, is_admit, is_pin, is_unnamed, landing_at, note_at, note_due, outcome_next, pinning_at, target_next, wants_record}
-use Rattle.lvm_session.specs.Judging.{facts_of, group_of, has_names, held_of, is_held_back, is_missing, is_pending, mode_of, next_for, place_of}
+use Rattle.lvm_session.specs.Judging.{facts_of, group_of, has_names, held_of, is_held_back, is_held_by_move, is_missing, is_pending, mode_of, next_for, place_of}
 use Rattle.lvm_due.specs.declared.span.Span.{Span}
 use Rattle.lvm_due.specs.Spans.{Spans}
 use Rattle.lvm_due.specs.declared.due.Due.{Due}
 use Rattle.lvm_due.specs.Due.{IsDue, ReadsSame}
 use Rattle.lvm_due.proofs.EnabledLemmas.Alike.{none_chosen, none_mapped}
-use Rattle.lvm_due.proofs.JudgingLemmas.{facts_read, fails_beside, is_unsettled, pending_read}
+use Rattle.lvm_due.proofs.JudgingLemmas.{facts_read, fails_beside, goes_beside, is_unsettled, moved_read, pending_read}
 use Rattle.lvm_due.proofs.DueLemmas.Spanning.{keep, spans_all}
 use Rattle.lvm_due.proofs.EnabledLemmas.Unread.{named_falls, named_unread, named_unread_admit, named_unread_pin}
 
@@ -75,7 +75,7 @@ module _ (old new : Core) (reads : ReadsSame old new) (requests : new.requests �
       blocked = ap (λ (rows : List Row). is_blocked rows (place_of r.id) (held_of r.ask)) queue
 
       pending : is_pending new r ≡ is_pending old r
-      pending = pending_read old new reads r ∙ ap (λ (os : List Open). is_unsettled old r || list_any (fails_beside old r) os) requests
+      pending = pending_read old new reads r (moved_read old new reads r.ask (λ c is. ap (list_any (goes_beside old c)) requests)) ∙ ap (λ (os : List Open). is_held_by_move old r.ask || (is_unsettled old r || list_any (fails_beside old r) os)) requests
 
   next_named : (o : Open) → next_for new o ≡ next_in o.request.phase (record (facts_of old o.request) { named = has_names new (mode_of new o.request.ask) o.request }) o.request
   next_named o = ap (λ (l : Facts). next_in o.request.phase l o.request) (facts_named o.request)

@@ -22,7 +22,8 @@ use Rattle.lvm_session.specs.declared.open.Open.{Open}
 use Rattle.lvm_session.specs.State.{Core}
 use Rattle.lvm_session.specs.Calls.{after_take, new_open, submitted}
 use Rattle.lvm_session.specs.Enabled.{admission_at, can_pin, data_at, landing_at, note_at, pinning_at}
-use Rattle.lvm_session.specs.Judging.{counts_failed, facts_of, held_of, is_beside, is_failing, is_held_back, is_pending, is_waiting, place_of}
+use Rattle.lvm_session.specs.declared.bringing.OpenCopy.{OpenCopy}
+use Rattle.lvm_session.specs.Judging.{counts_failed, facts_of, held_of, is_beside, is_beside_copy, is_failing, is_held_back, is_held_by_move, is_past_held, is_pending, is_waiting, place_of}
 use Rattle.lvm_session.specs.Sound.{IsAsked, IsTold}
 use Rattle.lvm_mwc.specs.Cache.{Cached}
 use Rattle.lvm_due.proofs.AtPlaces.{at_place}
@@ -33,7 +34,7 @@ use Rattle.lvm_due.specs.declared.due.Due.{Due}
 use Rattle.lvm_due.specs.Due.{AddsMaking, IsDue, ReadsSame}
 use Rattle.lvm_due.specs.Making.{might_make_admission, might_make_data, might_make_landing, might_make_note}
 use Rattle.lvm_due.proofs.EnabledLemmas.Alike.{admission_alike, data_alike, landing_alike, note_alike, pinning_alike}
-use Rattle.lvm_due.proofs.JudgingLemmas.{facts_but, fails_beside, is_unsettled, note_same, pending_read}
+use Rattle.lvm_due.proofs.JudgingLemmas.{facts_but, fails_beside, goes_beside, is_unsettled, moved_read, note_same, pending_read}
 use Rattle.lvm_due.proofs.EnabledLemmas.Unmade.{admit_none, land_none, note_none, pin_none, start_none}
 use Rattle.lvm_due.proofs.DueLemmas.Spanning.{KeepsSpan, adds_keep, not_both, out_of}
 
@@ -92,11 +93,15 @@ module _ (old new : Core) (client : ℕ) (ask : Ask) (bytes : Option (List ℕ))
   -- it fails not yet
   begun_pending : (r : Request) → is_pending new r ≡ is_pending old r
   begun_pending r =
-      pending_read old new begun_reads r
-      ∙ ap (λ (os : List Open). is_unsettled old r || list_any (fails_beside old r) os) begun_requests
-      ∙ ap (λ (b : Bool). is_unsettled old r || b)
+      pending_read old new begun_reads r (moved_read old new begun_reads r.ask goes)
+      ∙ ap (λ (os : List Open). is_held_by_move old r.ask || (is_unsettled old r || list_any (fails_beside old r) os)) begun_requests
+      ∙ ap (λ (b : Bool). is_held_by_move old r.ask || (is_unsettled old r || b))
       (list_any-append (fails_beside old r) old.requests (fresh ∷ []) ∙ ap (λ (b : Bool). list_any (fails_beside old r) old.requests || (b || false)) fails ∙ no_more (list_any (fails_beside old r) old.requests))
     where
+      -- it isn't admitted yet
+      goes : (c : OpenCopy) → old.copy ≡ Some c → list_any (goes_beside old c) new.requests ≡ list_any (goes_beside old c) old.requests
+      goes c is = ap (list_any (goes_beside old c)) begun_requests ∙ list_any-append (goes_beside old c) old.requests (fresh ∷ []) ∙ no_more (list_any (goes_beside old c) old.requests)
+
       fails : fails_beside old r fresh ≡ false
       fails = and_right (not (fresh.request.id == r.id) && is_beside old ask r.ask) (is_failing old fresh) (and_left (is_waiting fresh && is_write ask && false) (list_any (counts_failed old) []) (and_right (is_waiting fresh && is_write ask) false refl))
 
@@ -204,10 +209,15 @@ module _ (old new : Core) (place id : ℕ) (o : Open) (there : slice_get old.req
 
   left_pending : (r : Request) → is_pending new r ≡ is_pending old r
   left_pending r =
-      pending_read old new left_reads r
-      ∙ ap (λ (os : List Open). is_unsettled old r || list_any (fails_beside old r) os) left_requests
-      ∙ ap (λ (b : Bool). is_unsettled old r || b) (any_removed (fails_beside old r) old.requests place o there fails)
+      pending_read old new left_reads r (moved_read old new left_reads r.ask goes)
+      ∙ ap (λ (os : List Open). is_held_by_move old r.ask || (is_unsettled old r || list_any (fails_beside old r) os)) left_requests
+      ∙ ap (λ (b : Bool). is_held_by_move old r.ask || (is_unsettled old r || b)) (any_removed (fails_beside old r) old.requests place o there fails)
     where
+      -- it has landed
+      goes : (c : OpenCopy) → old.copy ≡ Some c → list_any (goes_beside old c) new.requests ≡ list_any (goes_beside old c) old.requests
+      goes c is = ap (list_any (goes_beside old c)) left_requests
+          ∙ any_removed (goes_beside old c) old.requests place o there (and_left (is_waiting o && is_past_held o.request.phase) (is_beside_copy old o.request.ask c) (and_left (is_waiting o) (is_past_held o.request.phase) landed))
+
       fails : fails_beside old r o ≡ false
       fails = and_right (not (o.request.id == r.id) && is_beside old o.request.ask r.ask) (is_failing old o)
           (and_left (is_waiting o && is_write o.request.ask && is_begun o.request.targets.items) (list_any (counts_failed old) o.request.targets.items)

@@ -37,7 +37,8 @@ use Rattle.lvm_keeps.proofs.SoundLemmas.Fitting.{still_fits}
 use Rattle.lvm_keeps.proofs.OwnersLemmas.Launching.{flights_push, none_more, owners_push, rows_push, taken, tickets_push}
 use Rattle.lvm_keeps.proofs.OwnersLemmas.Rows.{all_fly, rows_but_copy}
 use Rattle.lvm_keeps.proofs.Small.{both, is_false}
-use Rattle.lvm_keeps.proofs.RequestsLemmas.{changed, open_on, copy_stepped, same_next}
+use Rattle.lvm_keeps.proofs.RequestsLemmas.{changed, copy_stepped, kind_still, open_on, same_next}
+use Rattle.lvm_session.proofs.MovesLemmas.{places_by}
 use Rattle.lvm_keeps.proofs.SoundLemmas.Whole.{sound_still, told_still}
 
 -- ---- its source
@@ -140,13 +141,13 @@ module _ (s : State) (sound : IsSound s) (on : s.core.power ≡ power.On) (c : O
 
   one : (o : Open) → IsOpenOne core o → IsOpenOne now.core o
   one o it = open_on core core.history core.requests core.queue (Some reading) pool (core.flying ++ row ∷ []) core.cache.entries core.last o (λ e. e)
-      (λ p e. sym (of_copy (λ (k : OpenCopy). is_running k && is_pp p k.pp && nat_lt (group_in core o.request.ask) k.cursor) false) ∙ e) it
+      (λ p e. sym (of_copy (λ (k : OpenCopy). is_running k && is_pp p k.pp && nat_lt (group_in core o.request.ask) k.cursor) false) ∙ e) (λ ask. ap (places_by core ask) is) it
 
   bring : IsCopy now.core reading
   bring = copy_stepped core now.core c (step.Reading source) c.tried c.end refl (same_next core) its tt (λ e. (parts core c may).1) (λ e. refl)
       its.tried
       (found.2, is_false (is_pp source c.pp) (both (not (is_pp source c.pp)) (is_usable core source) found.1).0, is_false (has c.tried source.disk) found.0)
-      (λ runs busy. short core c may) its.stale its.clearing
+      (λ runs busy. short core c may) (kind_still core now.core c (step.Reading source) c.tried c.end refl refl refl (λ goes. goes) c.moves its.kind)
 
   -- ---- whose it is
 

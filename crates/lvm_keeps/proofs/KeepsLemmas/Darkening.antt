@@ -163,7 +163,7 @@ module _ (s : State) (sound : IsSound s) where
 
     copy_caused : (m : Option OpenCopy) → IfSome m (λ (c : OpenCopy). IsCausedAmong s (copies_in core.descriptor c.lv c.lp) c) → IfSome (option_map ended_copy m) (λ (c : OpenCopy). IsCausedAmong now (copies_in core.descriptor c.lv c.lp) c)
     copy_caused None its = tt
-    copy_caused (Some c) its = record { began = its.began; since = its.since; tried = its.tried; failed = λ e. sources_on (its.failed (failed_before c.end e)) }
+    copy_caused (Some c) its = record { began = its.began; since = its.since; tried = its.tried; own_began = its.own_began; own_since = its.own_since; failed = λ e. sources_on (its.failed (failed_before c.end e)) }
       where
         sources_on : {own : Type 0} → own ⊎ HaveSourcesFailed s (copies_in core.descriptor c.lv c.lp) c → own ⊎ HaveSourcesFailed now (copies_in core.descriptor c.lv c.lp) (ended_copy c)
         sources_on (inl own) = inl own
@@ -186,7 +186,7 @@ module _ (s : State) (sound : IsSound s) where
             (sym (ap (λ (m : Option Status). (a || calls_stale (unwrap_or m core.status.committed) p) || is_wanted_stale core p) new.1) ∙ is_so)
 
     origin : IsTrueToOrigin now
-    origin = let was = sound.origin in record { since = was.since; votes = was.votes; still_missing = was.still_missing; missing = was.missing; stale = λ p is. was.stale p (stale_before p is) }
+    origin = let was = sound.origin in record { since = was.since; votes = was.votes; rows = was.rows; still_missing = was.still_missing; missing = was.missing; stale = λ p is. was.stale p (stale_before p is) }
 
     keeps : IsSound now
     keeps = record {

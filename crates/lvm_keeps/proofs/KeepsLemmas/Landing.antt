@@ -24,8 +24,8 @@ use Rattle.lvm_path.specs.Next.{next_chosen, next_data, next_in, next_read, next
 use Rattle.lvm_session.specs.declared.open.Open.{Open}
 use Rattle.lvm_session.specs.declared.open.Power.TheVariants as power
 use Rattle.lvm_session.specs.State.{Core, State}
-use Rattle.lvm_session.specs.Judging.{copies_for, facts_of, is_kept, is_missing, is_stale, is_sure, is_usable, is_waiting, is_wanted_stale, next_for}
-use Rattle.lvm_session.specs.Requests.{IsOpenOne, IsPhase, is_past_held}
+use Rattle.lvm_session.specs.Judging.{copies_for, facts_of, is_kept, is_missing, is_stale, is_sure, is_sure_at, is_usable, is_waiting, is_wanted_stale, next_for}
+use Rattle.lvm_session.specs.Requests.{IsAimed, IsOpenOne, IsPhase, IsTarget, is_past_held}
 use Rattle.lvm_session.specs.Causes.{AnyFailedSince, AreCaused, FailedSince, HasFailed, IsCaused, IsLandedFor, fails_on, is_blamed, was_fresh, was_usable}
 use Rattle.lvm_session.specs.Sound.{IsSound}
 use Rattle.lvm_keeps.specs.Keeps.{LandingIsCaused}
@@ -149,13 +149,21 @@ module _ (s : State) (sound : IsSound s) (on : s.core.power ≡ power.On) (place
     held_against true false false st w m fl x over kept is = absurd (not_so is)
     held_against false false u st w m fl x over kept is = absurd (not_so over)
 
-    each_lost : (ts : List Target) → are_over ts ≡ true → list_any (λ (t : Target). is_done t.state && is_sure core t.pp) ts ≡ false
+    -- a place to which a copy moves isn't usable
+    no_place : (t : Target) → IsTarget core o.request.ask t → t.usable ≡ true → t.moves ≡ false
+    no_place t aims is = by t.moves refl aims.copy
+      where
+        by : (b : Bool) → t.moves ≡ b → IsAimed b core o.request.ask t → t.moves ≡ false
+        by false stays aimed = stays
+        by true yes_so place = absurd (not_so (sym place.2 ∙ is))
+
+    each_lost : (ts : List Target) → are_over ts ≡ true → list_any (λ (t : Target). is_done t.state && is_sure_at core t) ts ≡ false → AllByRecursion (IsTarget core o.request.ask) ts
         → AllByRecursion (IsCaused s.device core) ts → AllByRecursion (λ (t : Target). t.usable ≡ true → HasFailed s.device t) ts
-    each_lost [] over kept all = tt
-    each_lost (t ∷ ts) over kept all =
+    each_lost [] over kept aims all = tt
+    each_lost (t ∷ ts) over kept aims all =
         let a = both (is_ended t.state) (are_over ts) over in
-        let b = or_parts (is_done t.state && is_sure core t.pp) (list_any (λ (u : Target). is_done u.state && is_sure core u.pp) ts) kept in
-        (λ is. all.0 (held_against (is_done t.state) (is_failed t.state) t.usable (is_stale core t.pp) (is_wanted_stale core t.pp) (is_missing core t.pp.disk) (calls_stale (unwrap_or core.status.in_flight core.status.committed) t.pp) (list_any (fails_on t.pp) core.requests) a.0 b.0 is), each_lost ts a.1 b.1 all.1)
+        let b = or_parts (is_done t.state && is_sure_at core t) (list_any (λ (u : Target). is_done u.state && is_sure_at core u) ts) kept in
+        (λ is. all.0 (held_against (is_done t.state) (is_failed t.state) t.usable (is_stale core t.pp) (is_wanted_stale core t.pp) (is_missing core t.pp.disk) (calls_stale (unwrap_or core.status.in_flight core.status.committed) t.pp) (list_any (fails_on t.pp) core.requests) a.0 (sym (ap (λ (m : Bool). is_done t.state && (not m && is_sure core t.pp)) (no_place t aims.0 is)) ∙ b.0) is), each_lost ts a.1 b.1 aims.1 all.1)
 
     -- ---- by its phase
 
@@ -190,7 +198,7 @@ module _ (s : State) (sound : IsSound s) (on : s.core.power ≡ power.On) (place
 
         landed : (b : Bool) → is_kept core o.request ≡ b → Gives For (next.Land (if b then outcome.Done else outcome.Lost))
         landed true e = by_landing For outcome.Done tt
-        landed false e = by_landing For outcome.Lost (usable (ap is_past_held is), each_lost targets over e caused)
+        landed false e = by_landing For outcome.Lost (usable (ap is_past_held is), each_lost targets over e (its.waits waits).shape.targets caused)
     gives phase.Landed is = by_wait For
 
   -- one that has landed does nothing

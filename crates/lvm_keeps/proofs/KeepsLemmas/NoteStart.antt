@@ -24,7 +24,7 @@ use Rattle.lvm_session.specs.declared.flown.Owner.TheVariants as owner
 use Rattle.lvm_session.specs.declared.open.Open.{Open}
 use Rattle.lvm_session.specs.declared.open.Power.TheVariants as power
 use Rattle.lvm_session.specs.State.{Core, State, state}
-use Rattle.lvm_session.specs.Judging.{group_of, has_names, is_missing, is_waiting, lp_of}
+use Rattle.lvm_session.specs.Judging.{group_of, has_names, is_missing, is_waiting}
 use Rattle.lvm_session.specs.Enabled.{is_unnamed, note_due, wants_record}
 use Rattle.lvm_session.specs.Events.{IsNoteWrite, flown}
 use Rattle.lvm_session.specs.Owners.{AreOwned, IsTransferOf, flies, same_owner}
@@ -35,10 +35,10 @@ use Rattle.lvm_keeps.proofs.CausesLemmas.{copies_still, origin_still}
 use Rattle.lvm_keeps.proofs.SoundLemmas.Fitting.{still_fits}
 use Rattle.lvm_keeps.proofs.OwnersLemmas.Launching.{flights_push, none_more, owners_push, rows_push, taken, tickets_push}
 use Rattle.lvm_keeps.proofs.Lists.{count_cons}
-use Rattle.lvm_keeps.proofs.CacheLemmas.{copies_on_members, flight_beside, flight_here, found_all, named_still, same_disks}
+use Rattle.lvm_keeps.proofs.CacheLemmas.{flight_beside, flight_here, found_all, named_still, same_disks, target_on_member}
 use Rattle.lvm_keeps.proofs.OwnersLemmas.Rows.{all_fly, data_still, rows_by, status_still, step_still}
 use Rattle.lvm_keeps.proofs.Small.{both}
-use Rattle.lvm_keeps.proofs.RequestsLemmas.{if_on, shape_still}
+use Rattle.lvm_keeps.proofs.RequestsLemmas.{if_on, kind_still, shape_still}
 use Rattle.lvm_keeps.proofs.SoundLemmas.Whole.{sound_still, told_still}
 
 -- ---- what is pinned has a pin
@@ -140,7 +140,7 @@ module _ (s : State) (sound : IsSound s) (on : s.core.power ≡ power.On) (place
       none (Some x) e = absurd (cc e)
 
   has_it : has_disk core.cache disk ≡ true
-  has_it = going.fitting.notes disk ∙ ap (is_member core.descriptor) (sym aim.2) ∙ copies_on_members core.descriptor (lv_of o.request.ask) (lp_of core o.request.ask) aim.0.pp going.fitting.valid found.1.copy
+  has_it = going.fitting.notes disk ∙ ap (is_member core.descriptor) (sym aim.2) ∙ target_on_member core o.request.ask aim.0 going found.1
 
   pub noted : flight_on now.core.cache disk ≡ Some (record { items = note_of core.cache.entries })
   noted = flight_here core.cache disk has_it
@@ -163,9 +163,9 @@ module _ (s : State) (sound : IsSound s) (on : s.core.power ≡ power.On) (place
   one x keep it = record {
     laid = let l = it.laid in record { within = l.within; blocks = l.blocks; most = l.most; id = l.id };
     waits = λ w. let r = it.waits w in let b = r.ready in record {
-      shape = shape_still core now.core refl x r.shape;
+      shape = shape_still core now.core refl (λ ask. refl) x r.shape;
       ready = record { free = b.free; recorded = b.recorded; wanted = b.wanted; named = λ has two. named_on x keep (mode_for core x.request.ask) b.recorded has two (b.named has two); dirty = b.dirty };
-      judged = λ write. let j = r.judged write in record { uncaught = j.uncaught; due = j.due; all = j.all };
+      judged = λ write. let j = r.judged write in record { uncaught = j.uncaught; due = j.due; missed = j.missed; all = j.all; place = j.place };
     };
     over = it.over;
     still = it.still;
@@ -184,7 +184,7 @@ module _ (s : State) (sound : IsSound s) (on : s.core.power ≡ power.On) (place
   told = told_still core now.core refl sound.told
 
   bring : (c : OpenCopy) → IsCopy core c → IsCopy now.core c
-  bring c k = record { row = k.row; volume = k.volume; lp = k.lp; its = k.its; cursor = k.cursor; faults = k.faults; place = k.place; room = k.room; free = k.free; hand = k.hand; tried = k.tried; source = k.source; under_way = k.under_way; stale = k.stale; clearing = k.clearing }
+  bring c k = record { row = k.row; volume = k.volume; lp = k.lp; kind = kind_still core now.core c c.step c.tried c.end refl refl refl (λ goes. goes) c.moves k.kind; cursor = k.cursor; faults = k.faults; place = k.place; room = k.room; free = k.free; hand = k.hand; tried = k.tried; source = k.source; under_way = k.under_way }
 
   -- ---- whose it is
 

@@ -110,7 +110,7 @@ module _ (s : State) (sound : IsSound s) (on : s.core.power ≡ power.On) (lost 
 
   copy_caused : (m : Option OpenCopy) → IfSome m (λ (c : OpenCopy). IsCausedAmong s (copies_in core.descriptor c.lv c.lp) c) → IfSome (option_map ended_copy m) (λ (c : OpenCopy). IsCausedAmong now (copies_in core.descriptor c.lv c.lp) c)
   copy_caused None its = tt
-  copy_caused (Some c) its = record { began = its.began; since = its.since; tried = its.tried; failed = λ e. sources_on (its.failed (failed_before c.end e)) }
+  copy_caused (Some c) its = record { began = its.began; since = its.since; tried = its.tried; own_began = its.own_began; own_since = its.own_since; failed = λ e. sources_on (its.failed (failed_before c.end e)) }
     where
       copies : List Pp
       copies = copies_in core.descriptor c.lv c.lp
@@ -120,7 +120,7 @@ module _ (s : State) (sound : IsSound s) (on : s.core.power ≡ power.On) (lost 
       sources_on (inr all) = inr (record { each = all.each; number = all.number; source = all.source; source_is = all.source_is; other = all.other; one = all.one })
 
   origin : IsTrueToOrigin now
-  origin = let was = sound.origin in record { since = was.since; votes = was.votes; still_missing = was.still_missing; missing = was.missing; stale = was.stale }
+  origin = let was = sound.origin in record { since = was.since; votes = was.votes; rows = was.rows; still_missing = was.still_missing; missing = was.missing; stale = was.stale }
 
   pub keeps : IsSound now
   keeps = record {

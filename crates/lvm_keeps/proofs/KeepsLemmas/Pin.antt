@@ -140,7 +140,7 @@ module _ (s : State) (sound : IsSound s) (on : s.core.power ≡ power.On) (place
 
   one : IsOpenOne now.core pinned
   one =
-      let same = open_on core core.history (slice_set core.requests place pinned) core.queue core.copy core.pool core.flying (with_entry core.cache.entries lv group) core.last o (λ e. e) (λ p e. e) its in
+      let same = open_on core core.history (slice_set core.requests place pinned) core.queue core.copy core.pool core.flying (with_entry core.cache.entries lv group) core.last o (λ e. e) (λ p e. e) (λ ask. refl) its in
       let r = same.waits waits in
       let a = r.shape in
       let b = r.ready in
@@ -155,7 +155,7 @@ module _ (s : State) (sound : IsSound s) (on : s.core.power ≡ power.On) (place
             named = λ has two. not_so has;
             dirty = λ has two. not_so has;
           };
-          judged = λ write. let j = r.judged write in record { uncaught = j.uncaught; due = λ status. not_so status; all = j.all };
+          judged = λ write. let j = r.judged write in record { uncaught = j.uncaught; due = λ status. not_so status; missed = λ status. not_so status; all = j.all; place = j.place };
         };
         over = λ e. absurd (not_so (sym e ∙ waits));
         still = λ e. absurd (not_so (sym e ∙ waits));
@@ -167,7 +167,7 @@ module _ (s : State) (sound : IsSound s) (on : s.core.power ≡ power.On) (place
   -- ---- the table
 
   still : (x : Open) → IsOpenOne core x → IsOpenOne now.core x
-  still x it = open_on core core.history (slice_set core.requests place pinned) core.queue core.copy core.pool core.flying (with_entry core.cache.entries lv group) core.last x (λ e. e) (λ p e. e) it
+  still x it = open_on core core.history (slice_set core.requests place pinned) core.queue core.copy core.pool core.flying (with_entry core.cache.entries lv group) core.last x (λ e. e) (λ p e. e) (λ ask. refl) it
 
   fitting : IsFitting now.core
   fitting = let f = sound.fitting in still_fits core now.core f refl entries (λ disk. refl) (subst (λ n. n ≤ core.most) (sym (length_set core.requests place pinned)) f.table) refl f.room

@@ -1,11 +1,11 @@
 -- To which copies a write goes that starts its data.
-use Rattle.std.proofs.Common.{◌≡◌, ◌==◌, ◌≤◌, ◌<◌, ◌+◌, ◌*◌, ◌%◌, ◌/◌, ℕ, zero, suc, Bool, true, false, ◌&&◌, ◌||◌, not, nat_lt, List, [], ◌∷◌, filter, Option, Some, None, length, slice_get, refl, sym, ◌∙◌, ap, arith, zero-add, if◌then◌else◌}
+use Rattle.std.proofs.Common.{◌≡◌, ◌==◌, ◌≤◌, ◌<◌, ◌+◌, ◌*◌, ◌%◌, ◌/◌, ℕ, zero, suc, Bool, true, false, ◌&&◌, ◌||◌, not, nat_lt, List, [], ◌∷◌, ◌++◌, Option, Some, None, length, slice_get, refl, sym, ◌∙◌, ap, arith, zero-add, if◌then◌else◌}
 use Rattle.std.specs.Prelude.{slice_index_or, unwrap_or}
 use Rattle.std.specs.List.{list_any, range_with_len}
 use Rattle.std.specs.Option.{option_map_or}
 use Rattle.std.proofs.lemmas.Bool.{lt-ltb, ltb-false}
 use Rattle.std.proofs.lemmas.Nat.{div_below, mod_below}
-use Rattle.std.proofs.lemmas.List.Folds.{list_any_at}
+use Rattle.std.proofs.lemmas.List.Folds.{list_any-append, list_any_at}
 use Rattle.lvm_num.specs.declared.place.Pp.{Pp}
 use Rattle.lvm_num.specs.declared.descriptor.LvRow.{LvRow}
 use Rattle.lvm_num.specs.Descriptor.{copies_of, is_pp}
@@ -29,13 +29,14 @@ use Rattle.lvm_session.specs.declared.bringing.OpenCopy.{OpenCopy}
 use Rattle.lvm_session.specs.declared.open.Open.{Open}
 use Rattle.lvm_session.specs.declared.open.Power.TheVariants as power
 use Rattle.lvm_session.specs.State.{Core, State}
-use Rattle.lvm_session.specs.Judging.{aims, copies_for, facts_of, group_in, is_caught, is_missing, is_running, is_settled, is_stale, is_usable, is_wanted_stale, lp_of, pps_of, same_pps}
+use Rattle.lvm_session.specs.Judging.{aims, copies_for, facts_of, group_in, is_caught, is_held_by_move, is_missing, is_running, is_settled, is_stale, is_usable, is_wanted_stale, lp_of, place_aims, pps_of, same_pps}
 use Rattle.lvm_session.specs.Bringing.{groups_of, is_whole}
 use Rattle.lvm_session.specs.Enabled.{target_due, target_next}
 use Rattle.lvm_session.specs.Marks.{can_replace, is_among, is_entailed_in, is_left_behind}
 use Rattle.lvm_session.specs.Requests.{IsLaid, IsOpenOne, is_left_out}
 use Rattle.lvm_session.specs.Causes.{is_held_stale}
 use Rattle.lvm_session.specs.Sound.{IsGoing, IsSound, is_clearing}
+use Rattle.lvm_session.proofs.MovesLemmas.{among_filter}
 use Rattle.lvm_keeps.specs.Keeps.{FirstStartIsWhole}
 use Rattle.lvm_keeps.proofs.KeepsLemmas.Landing.{or_parts, witness}
 use Rattle.lvm_keeps.proofs.Small.{both, is_false}
@@ -94,17 +95,6 @@ among_same [] (y ∷ ys) p same = not_so same
 among_same (x ∷ xs) [] p same = not_so same
 among_same (x ∷ xs) (y ∷ ys) p same = let parts = both (is_pp x y) (same_pps xs ys) same in ap (λ z. is_pp p z || is_among xs p) (one_partition x y parts.0) ∙ ap (λ b. is_pp p y || b) (among_same xs ys p parts.1)
 
--- one of a list that passes is one of those that do
-among_filter : (t : Pp → Bool) (xs : List Pp) (p : Pp) → t p ≡ true → is_among xs p ≡ true → is_among (filter t xs) p ≡ true
-among_filter t [] p passes among = among
-among_filter t (x ∷ xs) p passes among = by (is_pp p x) (t x) refl refl (λ e. among_filter t xs p passes e)
-  where
-    by : (a b : Bool) → is_pp p x ≡ a → t x ≡ b → (is_among xs p ≡ true → is_among (filter t xs) p ≡ true) → is_among (if b then x ∷ filter t xs else filter t xs) p ≡ true
-    by true true is tx rest = ap (λ b. b || is_among (filter t xs) p) is
-    by true false is tx rest = not_so (sym tx ∙ ap t (sym (one_partition p x is)) ∙ passes)
-    by false true is tx rest = ap (λ b. b || is_among (filter t xs) p) is ∙ rest (sym (ap (λ b. b || is_among xs p) is) ∙ among)
-    by false false is tx rest = rest (sym (ap (λ b. b || is_among xs p) is) ∙ among)
-
 -- what fails for each fails for one of them
 none_at : (t : Pp → Bool) (xs : List Pp) (p : Pp) → list_any t xs ≡ false → is_among xs p ≡ true → t p ≡ false
 none_at t xs p none among = let one = witness (is_pp p) t xs among none in ap t (one_partition p one.0 one.1) ∙ one.2
@@ -158,16 +148,33 @@ module _ (s : State) (place target : ℕ) (o : Open) (sound : IsSound s) (on : s
   clear = starts_clear o.request.phase (facts_of core o.request) o.request target write begun due
 
   -- its targets are those that it should have
-  aimed : (p : Pp) → is_among (pps_of o.request.targets.items) p ≡ is_among (aims core o.request.ask) p
-  aimed p = among_same (pps_of o.request.targets.items) (aims core o.request.ask) p (same (same_pps (pps_of o.request.targets.items) (aims core o.request.ask)) (sym (ap (λ b. b && not (same_pps (pps_of o.request.targets.items) (aims core o.request.ask))) write) ∙ clear.changed))
+  aimed : (p : Pp) → is_among (pps_of o.request.targets.items) p ≡ is_among (aims core o.request.ask) p || is_among (place_aims core o.request.ask) p
+  aimed p =
+      among_same (pps_of o.request.targets.items) all p (same (same_pps (pps_of o.request.targets.items) all) (sym (ap (λ b. b && not (same_pps (pps_of o.request.targets.items) all)) write) ∙ clear.changed))
+      ∙ list_any-append (is_pp p) (aims core o.request.ask) (place_aims core o.request.ask)
     where
+      all : List Pp
+      all = aims core o.request.ask ++ place_aims core o.request.ask
+
       same : (b : Bool) → not b ≡ false → b ≡ true
       same true e = refl
       same false e = not_so (sym e)
 
+  -- also the place to which a copy moves, where that has passed its track group
+  pub goes_along : (p : Pp) → is_among (place_aims core o.request.ask) p ≡ true → is_among (pps_of o.request.targets.items) p ≡ true
+  goes_along p along = aimed p ∙ ap (λ b. is_among (aims core o.request.ask) p || b) along ∙ or_true (is_among (aims core o.request.ask) p)
+    where
+      or_true : (a : Bool) → a || true ≡ true
+      or_true true = refl
+      or_true false = refl
+
+  -- nothing is pending
+  unsettled_none : list_any (λ (q : Pp). is_wanted_stale core q && not (is_settled core q)) copies ≡ false
+  unsettled_none = (or_parts (list_any (λ (q : Pp). is_wanted_stale core q && not (is_settled core q)) copies) _ (or_parts (is_held_by_move core o.request.ask) _ clear.pending).1).0
+
   -- no staleness is wanted that isn't settled
   settled : (p : Pp) → is_among copies p ≡ true → is_wanted_stale core p && not (is_settled core p) ≡ false
-  settled p among = none_at (λ (q : Pp). is_wanted_stale core q && not (is_settled core q)) copies p (or_parts (list_any (λ (q : Pp). is_wanted_stale core q && not (is_settled core q)) copies) _ clear.pending).0 among
+  settled p among = none_at (λ (q : Pp). is_wanted_stale core q && not (is_settled core q)) copies p unsettled_none among
 
   -- a track group of a logical partition is below their number
   group_low : group_in core o.request.ask < groups_of core
@@ -223,8 +230,7 @@ module _ (s : State) (place target : ℕ) (o : Open) (sound : IsSound s) (on : s
             by : (b : Bool) → list_any (can_replace core) copies ≡ b → b ≡ true
             by true is = refl
             by false is =
-                let pending = or_parts (list_any (λ (q : Pp). is_wanted_stale core q && not (is_settled core q)) copies) _ clear.pending in
-                let one = witness (is_usable core) (λ (q : Pp). can_replace core q || (is_wanted_stale core q && not (is_settled core q))) copies clear.usable (neither (can_replace core) (λ (q : Pp). is_wanted_stale core q && not (is_settled core q)) copies is pending.0) in
+                let one = witness (is_usable core) (λ (q : Pp). can_replace core q || (is_wanted_stale core q && not (is_settled core q))) copies clear.usable (neither (can_replace core) (λ (q : Pp). is_wanted_stale core q && not (is_settled core q)) copies is unsettled_none) in
                 let none = or_parts (can_replace core one.0) (is_wanted_stale core one.0 && not (is_settled core one.0)) one.2 in
                 not_so (sym none.0 ∙ wanted_so one.0 one.1 none.1)
 
@@ -273,7 +279,7 @@ module _ (s : State) (place target : ℕ) (o : Open) (sound : IsSound s) (on : s
         or_right false b e = e
 
         by : (b : Bool) → is_usable core p || is_caught core (group_in core o.request.ask) p ≡ b → is_among (pps_of o.request.targets.items) p || is_left_out core o.request.ask p ≡ true
-        by true is = ap (λ b. b || is_left_out core o.request.ask p) (aimed p ∙ among_filter (λ (q : Pp). is_usable core q || is_caught core (group_in core o.request.ask) q) copies p is among)
+        by true is = ap (λ b. b || is_left_out core o.request.ask p) (aimed p ∙ ap (λ b. b || is_among (place_aims core o.request.ask) p) (among_filter (λ (q : Pp). is_usable core q || is_caught core (group_in core o.request.ask) q) copies p is among))
         by false is =
             let parts = or_parts (is_usable core p) (is_caught core (group_in core o.request.ask) p) is in
             let stale = wanted parts.0 parts.1 in

@@ -148,7 +148,7 @@ module _ (s : State) (sound : IsSound s) (place : ℕ) (o : Open) (there : slice
     next_still = count_still core.history.run core.history.facts fact refl
 
     one : (x : Open) → IsOpenOne core x → IsOpenOne now.core x
-    one x it = open_on core (with_fact core.history fact) left core.queue core.copy core.pool core.flying core.cache.entries core.last x (λ e. e) (λ p e. e) it
+    one x it = open_on core (with_fact core.history fact) left core.queue core.copy core.pool core.flying core.cache.entries core.last x (λ e. e) (λ p e. e) (λ ask. refl) it
 
     bring : (c : OpenCopy) → IsCopy core c → IsCopy now.core c
     bring c it = bring_on core (with_fact core.history fact) left core.queue core.copy core.pool core.flying core.cache.entries core.last c (let same = next_still in omega (arith, same)) (λ e. e) it

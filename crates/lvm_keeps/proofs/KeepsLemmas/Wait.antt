@@ -29,7 +29,7 @@ module _ (s : State) (waits : ℕ) (orders : Orders) where
   landed_on o outcome.Dark its = its
 
   copy_on : (copies : List Pp) (c : OpenCopy) → IsCausedAmong s copies c → IsCausedAmong waited copies c
-  copy_on copies c its = record { began = its.began; since = its.since; tried = its.tried; failed = λ e. sources_on (its.failed e) }
+  copy_on copies c its = record { began = its.began; since = its.since; tried = its.tried; own_began = its.own_began; own_since = its.own_since; failed = λ e. sources_on (its.failed e) }
     where
       sources_on : {own : Type 0} → own ⊎ HaveSourcesFailed s copies c → own ⊎ HaveSourcesFailed waited copies c
       sources_on (inl own) = inl own
@@ -51,7 +51,7 @@ module _ (s : State) (waits : ℕ) (orders : Orders) where
     counted = all_weaker (AreCounted s) (AreCounted waited) (λ o all. all_weaker (IsCounted s) (IsCounted waited) (λ t its. record { began = its.began; since = its.since }) o.request.targets.items all) s.core.requests sound.counted;
     answered = all_weaker (IsAnswered s) (IsAnswered waited) (λ o why. if_on (IsLandedFor s o) (IsLandedFor waited o) (landed_on o) o.landed why) s.core.requests sound.answered;
     copy = if_on (λ (c : OpenCopy). IsCausedAmong s (copies_in s.core.descriptor c.lv c.lp) c) (λ (c : OpenCopy). IsCausedAmong waited (copies_in s.core.descriptor c.lv c.lp) c) (λ c. copy_on (copies_in s.core.descriptor c.lv c.lp) c) s.core.copy sound.copy;
-    origin = let was = sound.origin in record { since = was.since; votes = was.votes; still_missing = was.still_missing; missing = was.missing; stale = was.stale };
+    origin = let was = sound.origin in record { since = was.since; votes = was.votes; rows = was.rows; still_missing = was.still_missing; missing = was.missing; stale = was.stale };
   }
 
 pub wait_keeps : WaitKeeps

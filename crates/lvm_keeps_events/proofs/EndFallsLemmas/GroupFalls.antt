@@ -1,9 +1,9 @@
 -- The write of the copy that is brought up has ended well, and less work is left.
-use Rattle.std.proofs.Common.{◌&&◌, ◌*◌, ◌+◌, ◌-◌, ◌<◌, ◌==◌, [], ap, arith, Bool, false, if◌then◌else◌, List, nat_lt, not, refl, slice_get, Some, subst, sym, true, ◌||◌, ℕ, ◌∙◌, ◌∷◌, ◌≡◌, ◌≤◌}
+use Rattle.std.proofs.Common.{◌&&◌, ◌*◌, ◌+◌, ◌++◌, ◌-◌, ◌<◌, ◌==◌, [], ap, arith, Bool, false, filter, if◌then◌else◌, List, nat_lt, not, refl, slice_get, Some, subst, sym, true, ◌||◌, ℕ, ◌∙◌, ◌∷◌, ◌≡◌, ◌≤◌}
 use Rattle.std.proofs.lemmas.Bool.{ltb-true}
 use Rattle.std.specs.List.{AllByRecursion, list_any}
 use Rattle.std.specs.Option.{option_map_or}
-use Rattle.std.specs.Prelude.{IfSome}
+use Rattle.std.specs.Prelude.{IfSome, sum_by}
 use Rattle.lvm_num.specs.Descriptor.{is_member, is_pp}
 use Rattle.lvm_num.specs.Status.{calls_dirty}
 use Rattle.lvm_num.specs.declared.descriptor.PvRow.{PvRow}
@@ -12,12 +12,13 @@ use Rattle.lvm_num.specs.declared.status.Status.{Status}
 use Rattle.lvm_mwc.specs.Cache.{flight_names, is_named}
 use Rattle.lvm_path.specs.Asks.{is_write, lv_of}
 use Rattle.lvm_path.specs.Targets.{is_begun}
+use Rattle.lvm_path.specs.declared.ask.Ask.{Ask}
 use Rattle.lvm_path.specs.declared.request.Phase.{Phase}
 use Rattle.lvm_path.specs.declared.request.Phase.TheVariants as phase
 use Rattle.lvm_path.specs.declared.request.Request.{Request}
 use Rattle.lvm_status.specs.declared.writes.Writes.{Writes}
 use Rattle.lvm_session.specs.Bringing.{groups_of, is_idle, is_whole}
-use Rattle.lvm_session.specs.Judging.{aims, copies_for, group_in, group_of, is_caught, is_changed, is_missing, is_running, is_settled, is_stale, is_usable, is_waiting, mode_of, pps_of, same_pps}
+use Rattle.lvm_session.specs.Judging.{aims, copies_for, group_in, group_of, is_beside_copy, is_caught, is_changed, is_missing, is_running, is_settled, is_stale, is_usable, is_waiting, mode_of, place_aims, places_for, places_if, pps_of, same_pps}
 use Rattle.lvm_session.specs.State.{Core, is_there, State}
 use Rattle.lvm_session.specs.declared.bringing.OpenCopy.{OpenCopy}
 use Rattle.lvm_session.specs.declared.bringing.Step.{Step}
@@ -26,7 +27,7 @@ use Rattle.lvm_session.specs.declared.open.Power.TheVariants as power
 use Rattle.lvm_num.specs.Modes.{is_passive}
 use Rattle.lvm_num.proofs.Booleans.{not_so}
 use Rattle.lvm_session.specs.Marks.{is_among}
-use Rattle.lvm_session.specs.Left.{begun_left, copy_left, if_so, is_brought_up, is_held, lacks_dirty, lacks_note, left_of, phase_left, read_left, request_left, status_left, step_left, tried_of, turns_of, unbegun_left, update_work, write_left}
+use Rattle.lvm_session.specs.Left.{begun_left, copy_left, if_so, is_brought_up, is_held, lacks_dirty, lacks_note, left_of, phase_left, place_turns, read_left, request_left, status_left, step_left, tried_of, turns_of, unbegun_left, update_work, write_left}
 use Rattle.lvm_session.specs.Requests.{is_past_held, IsOpenOne, IsPhase}
 use Rattle.lvm_session.specs.Sound.{IsCopy, IsGoing, IsSound}
 use Rattle.lvm_keeps.proofs.FallsLemmas.Pin.{sum_same}
@@ -34,7 +35,7 @@ use Rattle.lvm_keeps_events.proofs.Marking.{count_alike}
 use Rattle.lvm_keeps_events.proofs.GroupEndsLemmas.{c, core_is, ended, gone, IsGone, its, next_so, out, tried, whole_so}
 use Rattle.lvm_keeps_events.proofs.JudgingLemmas.DuesMarks.{own_pp}
 use Rattle.lvm_keeps_events.proofs.Lists.{all_there, or_true}
-use Rattle.lvm_keeps_events.proofs.JudgingLemmas.Passing.{caught_same}
+use Rattle.lvm_keeps_events.proofs.JudgingLemmas.Passing.{caught_place, caught_same}
 use Rattle.lvm_keeps_events.specs.GroupEnds.{EndsGroup}
 use Rattle.lvm_keeps_events.proofs.LeftLemmas.EndedLess.{filter_same}
 use Rattle.lvm_keeps_events.proofs.EndFallsLemmas.Falling.{falls, sum_most, votes_same}
@@ -102,6 +103,16 @@ module _ (at : ℕ) (old new : State) (sound : IsSound old) (on : old.core.power
       ∙ ap (λ (b : Bool). if is_missing core p.disk then 0 else if b then (if is_brought_up after p then 34 else 22) else if is_brought_up after p then 46 else if is_settled core p then 0 else 34) (usable_so p)
       ∙ ap (λ (b : Bool). if is_missing core p.disk then 0 else if is_usable core p then (if b then 34 else 22) else if b then 46 else if is_settled core p then 0 else 34) (brought_so p)
 
+  -- the place to which a copy moves is the same
+  places_so : (ask : Ask) → places_for after ask ≡ places_for core ask
+  places_so ask = sym (of_copy (λ (k : OpenCopy). places_if (k.moves && is_beside_copy core ask k) k) [])
+
+  place_turns_so : (p : Pp) → place_turns after p ≡ place_turns core p
+  place_turns_so p = ap (λ b. if not b && is_brought_up after p then 46 else 0) (missing_so p.disk) ∙ ap (λ b. if not (is_missing core p.disk) && b then 46 else 0) (brought_so p)
+
+  places_turns_so : (ask : Ask) → sum_by (place_turns after) (places_for after ask) ≡ sum_by (place_turns core) (places_for core ask)
+  places_turns_so ask = ap (sum_by (place_turns after)) (places_so ask) ∙ sum_same (place_turns core) (place_turns after) place_turns_so (places_for core ask)
+
   phase_so : (p : Phase) (r : Request) → phase_left p after r ≡ phase_left p core r
   phase_so phase.Held r = refl
   phase_so phase.WantEntry r = refl
@@ -126,21 +137,37 @@ module _ (at : ℕ) (old new : State) (sound : IsSound old) (on : old.core.power
         by_each [] inside = tt
         by_each (p ∷ ps) inside = (one p (inside p (ap (λ b. b || is_among ps p) (own_pp p))), by_each ps (λ q e. inside q (ap (λ b. is_pp q p || b) e ∙ or_true (is_pp q p))))
 
+    -- and to the same place, if a copy moves
+    place_aims_so : is_past_held o.request.phase ≡ true → place_aims after o.request.ask ≡ place_aims core o.request.ask
+    place_aims_so past = ap (filter (is_caught after (group_in core o.request.ask))) (places_so o.request.ask)
+        ∙ filter_same (is_caught after (group_in core o.request.ask)) (is_caught core (group_in core o.request.ask)) (places_for core o.request.ask) (by_each (places_for core o.request.ask) (λ p among. among))
+      where
+        by_each : (ps : List Pp) → ((p : Pp) → is_among ps p ≡ true → is_among (places_for core o.request.ask) p ≡ true) → AllByRecursion (λ (p : Pp). is_caught after (group_in core o.request.ask) p ≡ is_caught core (group_in core o.request.ask) p) ps
+        by_each [] inside = tt
+        by_each (p ∷ ps) inside = (
+          caught_place old sound on its_copy event.is_open event.runs event.writes at event.row event.returns.there event.own (ended at old new sound on event).flight (out at old new sound on event).there event.buf (ended at old new sound on event).rest.number new.device.media (tried at old new sound on event) event.passes.moves.tried k o o_there it waits write past p (inside p (ap (λ b. b || is_among ps p) (own_pp p))),
+          by_each ps (λ q e. inside q (ap (λ b. is_pp q p || b) e ∙ or_true (is_pp q p))),
+        )
+
+    goes_so : is_past_held o.request.phase ≡ true → aims after o.request.ask ++ place_aims after o.request.ask ≡ aims core o.request.ask ++ place_aims core o.request.ask
+    goes_so past = ap (λ (ps : List Pp). ps ++ place_aims after o.request.ask) (aims_so past) ∙ ap (λ (ps : List Pp). aims core o.request.ask ++ ps) (place_aims_so past)
+
     changed_so : (p : Phase) → o.request.phase ≡ p → if_so (not (is_held p) && is_changed after o.request) 12 ≡ if_so (not (is_held p) && is_changed core o.request) 12
     changed_so phase.Held e = refl
-    changed_so phase.WantEntry e = ap (λ ps. if_so (is_write o.request.ask && not (same_pps (pps_of o.request.targets.items) ps)) 12) (aims_so (ap is_past_held e))
-    changed_so phase.WantRecord e = ap (λ ps. if_so (is_write o.request.ask && not (same_pps (pps_of o.request.targets.items) ps)) 12) (aims_so (ap is_past_held e))
-    changed_so phase.Data e = ap (λ ps. if_so (is_write o.request.ask && not (same_pps (pps_of o.request.targets.items) ps)) 12) (aims_so (ap is_past_held e))
-    changed_so phase.WantStatus e = ap (λ ps. if_so (is_write o.request.ask && not (same_pps (pps_of o.request.targets.items) ps)) 12) (aims_so (ap is_past_held e))
+    changed_so phase.WantEntry e = ap (λ ps. if_so (is_write o.request.ask && not (same_pps (pps_of o.request.targets.items) ps)) 12) (goes_so (ap is_past_held e))
+    changed_so phase.WantRecord e = ap (λ ps. if_so (is_write o.request.ask && not (same_pps (pps_of o.request.targets.items) ps)) 12) (goes_so (ap is_past_held e))
+    changed_so phase.Data e = ap (λ ps. if_so (is_write o.request.ask && not (same_pps (pps_of o.request.targets.items) ps)) 12) (goes_so (ap is_past_held e))
+    changed_so phase.WantStatus e = ap (λ ps. if_so (is_write o.request.ask && not (same_pps (pps_of o.request.targets.items) ps)) 12) (goes_so (ap is_past_held e))
     changed_so phase.Landed e = absurd (subst (λ p. IsPhase p o) e (it.waits waits).shape.phase_is)
 
     unbegun_so : unbegun_left after o.request ≡ unbegun_left core o.request
     unbegun_so =
         let turns = sum_same (turns_of core) (turns_of after) turns_so (copies_for core o.request.ask) in
+        let place = places_turns_so o.request.ask in
         let dirty : if_so (lacks_dirty after o.request.ask) update_work ≡ if_so (lacks_dirty core o.request.ask) update_work = ap (λ b. if_so (is_passive (mode_of core o.request.ask) && not b) update_work) (dirty_so (lv_of o.request.ask)) in
         let changes = changed_so o.request.phase refl in
         let phases = phase_so o.request.phase o.request in
-        omega (arith, turns, dirty, changes, phases)
+        omega (arith, turns, place, dirty, changes, phases)
 
   request_so : (k : ℕ) (o : Open) → slice_get core.requests k ≡ Some o → IsOpenOne core o → request_left after o ≤ request_left core o
   request_so k o o_there it = by (is_waiting o) (is_write o.request.ask) refl refl

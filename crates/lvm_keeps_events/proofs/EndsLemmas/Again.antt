@@ -24,9 +24,10 @@ use Rattle.lvm_session.specs.Left.{copy_updates}
 use Rattle.lvm_session.specs.Requests.{IsOpenOne}
 use Rattle.lvm_session.specs.Causes.{IsCausedAmong}
 use Rattle.lvm_session.specs.Sound.{IsCopy, IsGoing, IsSound, count_if, is_hand, waiting_rows, with_row}
-use Rattle.lvm_keeps.proofs.RequestsLemmas.{changed, open_on, copy_stepped, same_next}
+use Rattle.lvm_keeps.proofs.RequestsLemmas.{changed, open_on, copy_stepped, same_next, kind_still}
 use Rattle.lvm_keeps_events.proofs.SoundLemmas.CopyEnded.{session_still}
 use Rattle.lvm_keeps_events.proofs.OwnersLemmas.Removal.{given_back}
+use Rattle.lvm_session.proofs.MovesLemmas.{places_by}
 
 -- These are tried for its track group now, which doesn't end it.
 module _ (s : State) (sound : IsSound s) (on : s.core.power ≡ power.On) (c : OpenCopy) (is : s.core.copy ≡ Some c) (runs : is_running c ≡ true) (busy : is_idle c.step ≡ false) (none_in_hand : hand_of c.step ≡ None) (tried : ℕ)
@@ -63,11 +64,11 @@ module _ (s : State) (sound : IsSound s) (on : s.core.power ≡ power.On) (c : O
 
   one : (o : Open) → IsOpenOne core o → IsOpenOne now.core o
   one o it = open_on core core.history core.requests core.queue (Some resting) pool (remove core.flying at) core.cache.entries core.last o (λ e. e)
-      (λ p e. sym (of_copy (λ (k : OpenCopy). is_running k && is_pp p k.pp && nat_lt (group_in core o.request.ask) k.cursor) false) ∙ e) it
+      (λ p e. sym (of_copy (λ (k : OpenCopy). is_running k && is_pp p k.pp && nat_lt (group_in core o.request.ask) k.cursor) false) ∙ e) (λ ask. ap (places_by core ask) is) it
 
   bring : IsCopy now.core resting
   bring = copy_stepped core now.core c step.Idle tried c.end refl (same_next core) its tt (λ e. absurd (let no : true ≡ false = e in cc)) (λ e. refl)
-      tries tt (λ goes still. absurd (let no : true ≡ false = still in cc)) its.stale its.clearing
+      tries tt (λ goes still. absurd (let no : true ≡ false = still in cc)) (kind_still core now.core c step.Idle tried c.end refl refl refl (λ goes. goes) c.moves its.kind)
 
   -- ---- its place and its end
 

@@ -25,10 +25,11 @@ use Rattle.lvm_session.specs.Requests.{IsOpenOne}
 use Rattle.lvm_session.specs.Causes.{IsCausedAmong}
 use Rattle.lvm_session.specs.Sound.{IsCopy, IsGoing, IsSound, count_if, has_number, is_dark, is_hand, out_with, waiting_rows, with_row}
 use Rattle.lvm_keeps.proofs.CausesLemmas.{copy_still}
-use Rattle.lvm_keeps.proofs.RequestsLemmas.{changed, open_on, copy_stepped, same_next}
+use Rattle.lvm_keeps.proofs.RequestsLemmas.{changed, open_on, copy_stepped, same_next, kind_still}
 use Rattle.lvm_keeps_events.specs.Ends.{CopyReadEndKeeps}
 use Rattle.lvm_keeps_events.proofs.SoundLemmas.CopyEnded.{session_still}
 use Rattle.lvm_keeps_events.proofs.OwnersLemmas.Removal.{IsOut, count_taken, taken_out}
+use Rattle.lvm_session.proofs.MovesLemmas.{places_by}
 
 module _ (s : State) (sound : IsSound s) (on : s.core.power ≡ power.On) (c : OpenCopy) (is : s.core.copy ≡ Some c) (runs : is_running c ≡ true) (source : Pp) (reads : c.step ≡ step.Reading source)
     (at : ℕ) (row : Flown) (there : slice_get s.core.flying at ≡ Some row) (own : row.owner ≡ owner.Copy) (f : Flight) (f_there : slice_get s.device.flights at ≡ Some f) (buf : Buffer) (number : buf.number ≡ f.buf.number) (long : length buf.sectors ≡ 256) (media : Option Media) where
@@ -58,11 +59,11 @@ module _ (s : State) (sound : IsSound s) (on : s.core.power ≡ power.On) (c : O
 
   one : (o : Open) → IsOpenOne core o → IsOpenOne now.core o
   one o it = open_on core core.history core.requests core.queue (Some holding) core.pool (remove core.flying at) core.cache.entries core.last o (λ e. e)
-      (λ p e. sym (of_copy (λ (k : OpenCopy). is_running k && is_pp p k.pp && nat_lt (group_in core o.request.ask) k.cursor) false) ∙ e) it
+      (λ p e. sym (of_copy (λ (k : OpenCopy). is_running k && is_pp p k.pp && nat_lt (group_in core o.request.ask) k.cursor) false) ∙ e) (λ ask. ap (places_by core ask) is) it
 
   bring : IsCopy now.core holding
   bring = copy_stepped core now.core c (step.Read buf) c.tried c.end refl (same_next core) its long (λ e. its.free (ap is_idle reads))
-      (λ e. not_so (sym e ∙ runs)) its.tried tt (λ goes busy. short) its.stale its.clearing
+      (λ e. not_so (sym e ∙ runs)) its.tried tt (λ goes busy. short) (kind_still core now.core c (step.Read buf) c.tried c.end refl refl refl (λ goes. goes) c.moves its.kind)
 
   -- ---- its place and its end
 

@@ -1,7 +1,5 @@
 -- Counts of faults rise.
-use Rattle.std.proofs.Common.{◌≡◌, ◌⊎◌, inl, inr, ◌≤◌, ◌+◌, ◌-◌, ◌^◌, ℕ, true, List, Option, refl, sym, arith}
-use Rattle.std.specs.Prelude.{IfSome}
-use Rattle.std.specs.List.{AllByRecursion}
+use Rattle.std.proofs.Common.{◌≡◌, ◌⊎◌, inl, inr, ◌≤◌, ℕ, true, List, Option, arith}
 use Rattle.lvm_num.specs.declared.place.Pp.{Pp}
 use Rattle.lvm_num.proofs.Lists.{all_weaker}
 use Rattle.lvm_disk.specs.Counts.{Counts, Rose}
@@ -14,8 +12,8 @@ use Rattle.lvm_session.specs.declared.bringing.OpenCopy.{OpenCopy}
 use Rattle.lvm_session.specs.declared.open.Open.{Open}
 use Rattle.lvm_session.specs.State.{Core, State, state}
 use Rattle.lvm_session.specs.Judging.{copies_in}
-use Rattle.lvm_session.specs.Causes.{AreCaused, AreCounted, FailedSince, FailedSinceOpening, HasFailed, HaveSourcesFailed, IsAnswered, IsCaused, IsCausedAmong, IsCounted, IsLandedFor, IsTrueToOrigin, faults_at_first, faults_at_opening}
-use Rattle.lvm_session.specs.Sound.{IsOn, IsSound}
+use Rattle.lvm_session.specs.Causes.{AreCaused, AreCounted, FailedSince, HasFailed, HaveSourcesFailed, IsAnswered, IsCaused, IsCausedAmong, IsCounted, IsLandedFor, IsTrueToOrigin, faults_at_first, faults_at_opening, OwnFailedSinceOpening, own_faults}
+use Rattle.lvm_session.specs.Sound.{IsSound}
 use Rattle.lvm_keeps.proofs.RequestsLemmas.{if_on}
 use Rattle.lvm_keeps_events.specs.Ends.{CountsKeep}
 
@@ -58,6 +56,8 @@ module _ (s : State) (media : Option Media) (counts : Counts) (sound : IsSound s
     began = its.began;
     since = λ number p at. let since = its.since number p at in let rest = more p.disk in omega (arith, since, rest);
     tried = λ number p at tried. rose_on (faults_at_opening c number) (s.device.counts.faults p.disk) (counts.faults p.disk) (more p.disk) (its.tried number p at tried);
+    own_began = its.own_began;
+    own_since = let since = its.own_since in let rest = more c.pp.disk in omega (arith, since, rest);
     failed = λ e. of (its.failed e);
   }
     where
@@ -71,14 +71,15 @@ module _ (s : State) (media : Option Media) (counts : Counts) (sound : IsSound s
         one = rose_on (faults_at_opening c all.number) (s.device.counts.faults all.source.disk) (counts.faults all.source.disk) (more all.source.disk) all.one;
       }
 
-      of : FailedSinceOpening s.device c c.copy c.pp ⊎ HaveSourcesFailed s copies c → FailedSinceOpening now.device c c.copy c.pp ⊎ HaveSourcesFailed now copies c
-      of (inl own) = inl (rose_on (faults_at_opening c c.copy) (s.device.counts.faults c.pp.disk) (counts.faults c.pp.disk) (more c.pp.disk) own)
+      of : OwnFailedSinceOpening s.device c ⊎ HaveSourcesFailed s copies c → OwnFailedSinceOpening now.device c ⊎ HaveSourcesFailed now copies c
+      of (inl own) = inl (rose_on (own_faults c) (s.device.counts.faults c.pp.disk) (counts.faults c.pp.disk) (more c.pp.disk) own)
       of (inr all) = inr (sources all)
 
   origin : IsTrueToOrigin now
   origin = let was = sound.origin in record {
     since = λ disk. let low = was.since disk in let rest = more disk in omega (arith, low, rest);
     votes = was.votes;
+    rows = was.rows;
     still_missing = was.still_missing;
     missing = λ disk gone. of_missing disk (was.missing disk gone);
     stale = λ p is. of_stale p (was.stale p is);

@@ -33,7 +33,7 @@ use Rattle.lvm_session.specs.declared.open.Open.{Open}
 use Rattle.lvm_session.specs.declared.open.Power.TheVariants as power
 use Rattle.lvm_session.specs.State.{Core, State, state}
 use Rattle.lvm_session.specs.Judging.{group_of, has_names}
-use Rattle.lvm_session.specs.Owners.{AreOwned, IsTransferOf, flies, same_owner}
+use Rattle.lvm_session.specs.Owners.{AreOwned, IsTransferOf, same_owner}
 use Rattle.lvm_session.specs.Requests.{IsOpenOne, IsPinned, IsRecorded, has_record, mode_for}
 use Rattle.lvm_session.specs.Sound.{IsCopy, IsFitting, IsGoing, IsOn, IsSound, IsTold, count_if, out_with, pins}
 use Rattle.lvm_keeps.proofs.CausesLemmas.{copies_still, origin_still}
@@ -41,7 +41,7 @@ use Rattle.lvm_keeps.proofs.SoundLemmas.Fitting.{still_fits}
 use Rattle.lvm_keeps.proofs.KeepsLemmas.NoteStart.{each_counted}
 use Rattle.lvm_keeps.proofs.OwnersLemmas.Rows.{data_still, rows_by, status_still, step_still}
 use Rattle.lvm_keeps.proofs.Small.{both}
-use Rattle.lvm_keeps.proofs.RequestsLemmas.{if_on, shape_still}
+use Rattle.lvm_keeps.proofs.RequestsLemmas.{if_on, shape_still, kind_still}
 use Rattle.lvm_keeps.proofs.SoundLemmas.Whole.{sound_still, told_still}
 use Rattle.lvm_keeps_events.specs.Ends.{NoteEndKeeps}
 use Rattle.lvm_keeps_events.proofs.OwnersLemmas.Removal.{IsOut, as_many, given_back, none_left, others, rows_left, taken_out, tickets_left}
@@ -150,9 +150,9 @@ module _ (s : State) (sound : IsSound s) (on : s.core.power ≡ power.On) (disk 
   one x keep it = record {
     laid = let l = it.laid in record { within = l.within; blocks = l.blocks; most = l.most; id = l.id };
     waits = λ w. let r = it.waits w in let b = r.ready in record {
-      shape = shape_still core now.core refl x r.shape;
+      shape = shape_still core now.core refl (λ ask. refl) x r.shape;
       ready = record { free = b.free; recorded = b.recorded; wanted = b.wanted; named = λ has two. named_on x keep (mode_for core x.request.ask) b.recorded has two (b.named has two); dirty = b.dirty };
-      judged = λ write. let j = r.judged write in record { uncaught = j.uncaught; due = j.due; all = j.all };
+      judged = λ write. let j = r.judged write in record { uncaught = j.uncaught; due = j.due; missed = j.missed; all = j.all; place = j.place };
     };
     over = it.over;
     still = it.still;
@@ -171,7 +171,7 @@ module _ (s : State) (sound : IsSound s) (on : s.core.power ≡ power.On) (disk 
   told = told_still core now.core refl sound.told
 
   bring : (c : OpenCopy) → IsCopy core c → IsCopy now.core c
-  bring c k = record { row = k.row; volume = k.volume; lp = k.lp; its = k.its; cursor = k.cursor; faults = k.faults; place = k.place; room = k.room; free = k.free; hand = k.hand; tried = k.tried; source = k.source; under_way = k.under_way; stale = k.stale; clearing = k.clearing }
+  bring c k = record { row = k.row; volume = k.volume; lp = k.lp; kind = kind_still core now.core c c.step c.tried c.end refl refl refl (λ goes. goes) c.moves k.kind; cursor = k.cursor; faults = k.faults; place = k.place; room = k.room; free = k.free; hand = k.hand; tried = k.tried; source = k.source; under_way = k.under_way }
 
   -- ---- whose the others are
 

@@ -1,10 +1,10 @@
 -- What a request that is admitted goes to.
-use Rattle.std.proofs.Common.{◌≡◌, ◌≢◌, ◌⊎◌, inl, inr, ◌==◌, ◌≤◌, ◌<◌, ◌+◌, ◌-◌, ◌*◌, ◌&&◌, ◌||◌, ℕ, zero, suc, Bool, true, false, not, nat_lt, filter, if◌then◌else◌, List, [], ◌∷◌, Option, Some, None, length, map, drop, slice_get, refl, sym, ◌∙◌, ap, subst, arith}
+use Rattle.std.proofs.Common.{◌≡◌, ◌≢◌, ◌⊎◌, inl, inr, ◌==◌, ◌≤◌, ◌<◌, ◌+◌, ◌++◌, ◌-◌, ◌*◌, ◌&&◌, ◌||◌, ℕ, zero, suc, Bool, true, false, not, nat_lt, filter, if◌then◌else◌, List, [], ◌∷◌, Option, Some, None, length, map, drop, slice_get, get_or, append-nil, refl, sym, ◌∙◌, ap, subst, arith}
 use Rattle.std.specs.Prelude.{All, AllPairs, IfSome, position, slice_index_or, unwrap_or}
 use Rattle.std.specs.List.{list_any, remove, AllByRecursion}
 use Rattle.std.specs.Option.{option_map_or}
 use Rattle.std.proofs.lemmas.Bool.{cases_lt, eq-eqb, eqb-true, ne_eqb}
-use Rattle.std.proofs.lemmas.List.{length-map}
+use Rattle.std.proofs.lemmas.List.{length-append, length-map}
 use Rattle.std.proofs.lemmas.List.Elements.{All-nil, All-cons}
 use Rattle.std.proofs.lemmas.List.Kept.{AllPairs-cons, AllPairs-filter}
 use Rattle.lvm_num.specs.declared.place.Pp.{Pp}
@@ -38,19 +38,22 @@ use Rattle.lvm_session.specs.declared.bringing.OpenCopy.{OpenCopy}
 use Rattle.lvm_session.specs.declared.open.Open.{Open}
 use Rattle.lvm_session.specs.declared.open.Power.TheVariants as power
 use Rattle.lvm_session.specs.State.{Core, State}
-use Rattle.lvm_session.specs.Judging.{aims, counts_failed, copies_for, group_in, is_beside, is_caught, is_failing, is_missing, is_pending, is_running, is_settled, is_stale, is_usable, is_waiting, is_wanted_stale, lp_of, policy_of}
+use Rattle.lvm_session.specs.Judging.{aims, counts_failed, copies_for, group_in, is_beside, is_beside_copy, is_caught, is_failing, is_held_by_move, is_missing, is_pending, is_running, is_settled, is_stale, is_usable, is_waiting, is_wanted_stale, lp_of, place_aims, places_for, places_if, policy_of}
 use Rattle.lvm_session.specs.Bringing.{end_by_sources, end_of, ends_if, is_cleared, is_whole}
-use Rattle.lvm_session.specs.Events.{Chooses, ChoosesBy, copy_of, loads_of, target_at, usable_from}
+use Rattle.lvm_session.specs.Events.{Chooses, ChoosesBy, copy_of, loads_of, place_target, target_at, usable_from}
 use Rattle.lvm_session.specs.Marks.{is_among}
-use Rattle.lvm_session.specs.Requests.{IsLaid, IsOpenOne, IsTarget}
+use Rattle.lvm_session.specs.Requests.{IsAimed, IsLaid, IsOpenOne, IsTarget}
 use Rattle.lvm_session.specs.Causes.{HasFailed, IsCaused, fails_on, is_blamed, is_held_stale}
 use Rattle.lvm_session.specs.Sound.{IsCopy, IsGoing, IsSound, is_clearing}
 use Rattle.lvm_session.proofs.EventsLemmas.{copies_are, order_holds, usable_holds}
+use Rattle.lvm_session.proofs.MovesLemmas.{IsOpenPlace, move_of, open_one, place_open, places_by, stale_of}
+use Rattle.lvm_num.proofs.Pairs.{AllPairs-append}
+use Rattle.lvm_keeps.proofs.CacheLemmas.{no_copy, no_place}
 use Rattle.lvm_keeps.proofs.FallsLemmas.Bounding.{take_few}
 use Rattle.lvm_keeps.proofs.Small.{both, is_false}
 use Rattle.lvm_keeps.proofs.DarkLemmas.Tables.{apart as apart_ids}
 use Rattle.lvm_keeps_events.proofs.OnePlace.{one_lp}
-use Rattle.lvm_keeps_events.proofs.JudgingLemmas.DuesMarks.{among_get}
+use Rattle.lvm_keeps_events.proofs.JudgingLemmas.DuesMarks.{among_get, own_pp, pp_same}
 
 -- ---- one that is admitted next
 
@@ -185,12 +188,13 @@ few_distinct (a ∷ b ∷ c ∷ d ∷ more) differ low =
 
 -- ---- what it goes to
 
--- copies of its blocks, each once and new, of which one was usable; and nothing is held against one that is
+-- copies of its blocks, and for a write the place to which one moves, each once and new, of which one was usable; and nothing is held against one that is
 pub record IsChosen (s : State) (o : Open) (targets : List Target) : Type 0 where
   pub aims : AllByRecursion (IsTarget s.core o.request.ask) targets
   pub fresh : AllByRecursion (λ (t : Target). t.state ≡ stage.Waiting) targets
   pub differ : AllPairs (λ (a b : Target). a.pp ≢ b.pp) targets
-  pub few : length targets ≤ 3
+  pub few : length targets ≤ 4
+  pub few_to_read : is_write o.request.ask ≡ false → length targets ≤ 3
   pub usable : list_any (λ (t : Target). t.usable) targets ≡ true
   pub faults : AllByRecursion (λ (t : Target). t.faults ≡ s.device.counts.faults t.pp.disk) targets
   pub caused : AllByRecursion (IsCaused s.device s.core) targets
@@ -286,7 +290,7 @@ module _ (s : State) (sound : IsSound s) (on : s.core.power ≡ power.On) (place
 
   pending_parts : (list_any (λ (p : Pp). is_wanted_stale core p && not (is_settled core p)) copies ≡ false)
       × (list_any (λ (e : Open). not (e.request.id == o.request.id) && is_beside core e.request.ask ask && is_failing core e) core.requests ≡ false)
-  pending_parts = or_parts (list_any (λ (p : Pp). is_wanted_stale core p && not (is_settled core p)) copies) _ pending
+  pending_parts = or_parts (list_any (λ (p : Pp). is_wanted_stale core p && not (is_settled core p)) copies) _ (or_parts (is_held_by_move core ask) _ pending).1
     where
       or_parts : (a b : Bool) → a || b ≡ false → (a ≡ false) × (b ≡ false)
       or_parts true b e = not_so (sym e)
@@ -321,11 +325,20 @@ module _ (s : State) (sound : IsSound s) (on : s.core.power ≡ power.On) (place
         cleared is = of core.copy going.copy is
           where
             of_copy : (c : OpenCopy) → IsCopy core c → is_running c && is_whole core c && is_pp p c.pp ≡ true → is_stale core p ≡ true
-            of_copy c its e =
-                let parts = both (is_running c && is_whole core c) (is_pp p c.pp) e in
-                let more = both (is_running c) (is_whole core c) parts.0 in
-                let same = both (p.disk == c.pp.disk) (p.pp == c.pp.pp) parts.1 in
-                ap (λ d. is_stale core (record { disk = d; pp = p.pp })) (eqb-true p.disk c.pp.disk same.0) ∙ ap (λ n. is_stale core (record { disk = c.pp.disk; pp = n })) (eqb-true p.pp c.pp.pp same.1) ∙ (its.clearing more.0 more.1).0
+            of_copy c its e = of_kind c.moves refl
+              where
+                parts : (is_running c && is_whole core c ≡ true) × (is_pp p c.pp ≡ true)
+                parts = both (is_running c && is_whole core c) (is_pp p c.pp) e
+
+                more : (is_running c ≡ true) × (is_whole core c ≡ true)
+                more = both (is_running c) (is_whole core c) parts.0
+
+                same : p ≡ c.pp
+                same = pp_same p c.pp parts.1
+
+                of_kind : (b : Bool) → c.moves ≡ b → is_stale core p ≡ true
+                of_kind false stays = ap (is_stale core) same ∙ ((stale_of core c its stays).clearing more.0 more.1).0
+                of_kind true moves = not_so (sym (no_copy core.descriptor (lv_of ask) (lp_of core ask) c.pp (move_of core c its moves).free) ∙ ap (is_among copies) (sym same) ∙ among)
 
             of : (m : Option OpenCopy) → IfSome m (IsCopy core) → option_map_or (λ (c : OpenCopy). is_running c && is_whole core c && is_pp p c.pp) m false ≡ true → is_stale core p ≡ true
             of None its e = not_so e
@@ -359,16 +372,18 @@ module _ (s : State) (sound : IsSound s) (on : s.core.power ≡ power.On) (place
             of true b rest f = refl
             of false b rest f = ap (λ c. (t.usable && is_wanted_stale core t.pp) || c) (rest f) ∙ or_true (t.usable && is_wanted_stale core t.pp)
 
+        -- (a target here is no place to which a copy moves)
         its_copy : (q : Ask) (ts : List Target) → AllByRecursion (IsTarget core q) ts → list_any (λ (t : Target). is_failed t.state && is_pp p t.pp) ts ≡ true → is_among (copies_for core q) p ≡ true
         its_copy q [] all e = not_so e
-        its_copy q (t ∷ ts) all e = of (is_failed t.state) (p.disk == t.pp.disk) (p.pp == t.pp.pp) refl refl (λ f. its_copy q ts all.1 f) e
+        its_copy q (t ∷ ts) all e = of (is_failed t.state) (is_pp p t.pp) refl (λ f. its_copy q ts all.1 f) e
           where
-            of : (a b c : Bool) → (p.disk == t.pp.disk) ≡ b → (p.pp == t.pp.pp) ≡ c → (list_any (λ (u : Target). is_failed u.state && is_pp p u.pp) ts ≡ true → is_among (copies_for core q) p ≡ true)
-                → (a && (b && c)) || list_any (λ (u : Target). is_failed u.state && is_pp p u.pp) ts ≡ true → is_among (copies_for core q) p ≡ true
-            of true true true i j rest f = ap (λ d. is_among (copies_for core q) (record { disk = d; pp = p.pp })) (eqb-true p.disk t.pp.disk i) ∙ ap (λ n. is_among (copies_for core q) (record { disk = t.pp.disk; pp = n })) (eqb-true p.pp t.pp.pp j) ∙ all.0.copy
-            of true true false i j rest f = rest f
-            of true false c i j rest f = rest f
-            of false b c i j rest f = rest f
+            of : (a b : Bool) → is_pp p t.pp ≡ b → (list_any (λ (u : Target). is_failed u.state && is_pp p u.pp) ts ≡ true → is_among (copies_for core q) p ≡ true)
+                → (a && b) || list_any (λ (u : Target). is_failed u.state && is_pp p u.pp) ts ≡ true → is_among (copies_for core q) p ≡ true
+            of true true i rest f =
+                let same = pp_same p t.pp i in
+                ap (is_among (copies_for core q)) same ∙ subst (λ (b : Bool). IsAimed b core q t) (no_place core going (lv_of ask) (lp_of core ask) p among q t all.0 same) all.0.copy
+            of true false i rest f = rest f
+            of false b i rest f = rest f
 
         one : (e : Open) → IsOpenOne core e → (e.request.id ≡ o.request.id → is_begun e.request.targets.items ≡ false) → not (e.request.id == o.request.id) && is_beside core e.request.ask ask && is_failing core e ≡ false → fails_on p e ≡ false
         one e it own none = of (is_waiting e) (is_write e.request.ask) (list_any (λ (t : Target). is_failed t.state && is_pp p t.pp) e.request.targets.items) refl refl refl
@@ -433,17 +448,99 @@ module _ (s : State) (sound : IsSound s) (on : s.core.power ≡ power.On) (place
     aims = all_into IsGood (IsTarget core ask) (target_at s ask) good_target ps good;
     fresh = all_into IsGood (λ (t : Target). t.state ≡ stage.Waiting) (target_at s ask) (λ p g. refl) ps good;
     differ = λ i j d less high e. differ i j d.pp less (subst (λ n. j < n) (length-map ps (target_at s ask)) high) (sym (pps_at ps i d) ∙ e ∙ pps_at ps j d);
-    few = subst (λ n. n ≤ 3) (sym (length-map ps (target_at s ask))) short;
+    few = let same = length-map ps (target_at s ask) in omega (arith, same, short);
+    few_to_read = λ read. subst (λ n. n ≤ 3) (sym (length-map ps (target_at s ask))) short;
     usable = any_map (λ (t : Target). t.usable) (target_at s ask) ps ∙ can;
     faults = all_into IsGood (λ (t : Target). t.faults ≡ s.device.counts.faults t.pp.disk) (target_at s ask) (λ p g. refl) ps good;
     caused = all_into IsGood (IsCaused s.device core) (target_at s ask) good_caused ps good;
   }
 
-  write_chosen : IsChosen s o (map (target_at s ask) (aims core ask))
-  write_chosen = chosen_of (aims core ask) (all_filter (λ (p : Pp). is_among copies p ≡ true) (λ (p : Pp). is_usable core p || is_caught core (group_in core ask) p) copies (all_among copies))
+  copies_chosen : IsChosen s o (map (target_at s ask) (aims core ask))
+  copies_chosen = chosen_of (aims core ask) (all_filter (λ (p : Pp). is_among copies p ≡ true) (λ (p : Pp). is_usable core p || is_caught core (group_in core ask) p) copies (all_among copies))
       (AllPairs-filter (λ (a b : Pp). a ≢ b) (λ (p : Pp). is_usable core p || is_caught core (group_in core ask) p) copies apart)
       (let less = few_filter (λ (p : Pp). is_usable core p || is_caught core (group_in core ask) p) copies in let low = few in omega (arith, less, low))
       (any_filter (λ (p : Pp). is_usable core p || is_caught core (group_in core ask) p) (is_usable core) (λ p can. ap (λ b. b || is_caught core (group_in core ask) p) can) copies usable)
+
+  -- ---- the place to which a copy moves
+
+  -- there is none that has passed the track group, or one
+  abbrev IsOnePlace : List Pp → List Pp → Type 0
+  IsOnePlace places goes = (goes ≡ []) ⊎ ((p : Pp) × (goes ≡ p ∷ []) × (is_among places p ≡ true) × (is_caught core (group_in core ask) p ≡ true))
+
+  one_place : IsOnePlace (places_for core ask) (place_aims core ask)
+  one_place = by core.copy
+    where
+      of : (c : OpenCopy) (b k : Bool) → is_caught core (group_in core ask) c.pp ≡ k → IsOnePlace (places_if b c) (filter (is_caught core (group_in core ask)) (places_if b c))
+      of c false k e = inl refl
+      of c true false e = inl (ap (λ (x : Bool). if x then c.pp ∷ [] else []) e)
+      of c true true e = inr (c.pp, ap (λ (x : Bool). if x then c.pp ∷ [] else []) e, ap (λ b. b || false) (own_pp c.pp), e)
+
+      by : (m : Option OpenCopy) → IsOnePlace (places_by core ask m) (filter (is_caught core (group_in core ask)) (places_by core ask m))
+      by None = inl refl
+      by (Some c) = of c (c.moves && is_beside_copy core ask c) (is_caught core (group_in core ask) c.pp) refl
+
+  module _ (write : is_write ask ≡ true) (p : Pp) (its_place : is_among (places_for core ask) p ≡ true) (caught : is_caught core (group_in core ask) p ≡ true) where
+    abbrev front : List Target
+    front = map (target_at s ask) (aims core ask)
+
+    abbrev last : Target
+    last = place_target s ask p
+
+    all_push : (P : Target → Type 0) → P last → (ts : List Target) → AllByRecursion P ts → AllByRecursion P (ts ++ last ∷ [])
+    all_push P here [] all = (here, tt)
+    all_push P here (t ∷ ts) all = (all.0, all_push P here ts all.1)
+
+    any_push : (t : Target → Bool) (ts : List Target) → list_any t ts ≡ true → list_any t (ts ++ last ∷ []) ≡ true
+    any_push t [] some = not_so some
+    any_push t (x ∷ ts) some = by (t x) (λ e. any_push t ts e) some
+      where
+        by : (b : Bool) → (list_any t ts ≡ true → list_any t (ts ++ last ∷ []) ≡ true) → b || list_any t ts ≡ true → b || list_any t (ts ++ last ∷ []) ≡ true
+        by true rest e = refl
+        by false rest e = rest e
+
+    -- it is no copy
+    other_than : (q : Pp) → is_among copies q ≡ true → q ≢ p
+    other_than q among same = by (place_open core ask p its_place)
+      where
+        by : IsOpenPlace core ask p → ⊥
+        by at = not_so (sym (no_copy core.descriptor (lv_of ask) (lp_of core ask) at.copy.pp (move_of core at.copy (open_one core at.copy at.is_open going.copy) at.moves).free) ∙ ap (is_among copies) (sym (same ∙ at.is)) ∙ among)
+
+    its_target : IsTarget core ask last
+    its_target = record { copy = (its_place, write, refl); sector = refl; there = by (calls_missing core.origin.table p.disk) refl }
+      where
+        by : (b : Bool) → calls_missing core.origin.table p.disk ≡ b → b ≡ false
+        by false is = refl
+        by true is = not_so (sym (caught_there p caught) ∙ sound.origin.still_missing p.disk is)
+
+    across : (ts : List Target) → AllByRecursion (λ (t : Target). t.pp ≢ p) ts → (i j : ℕ) (d : Target) → i < length ts → j < 1 → (get_or ts i d).pp ≢ (get_or (last ∷ []) j d).pp
+    across [] all i j d low one = absurd (omega (arith, low))
+    across (t ∷ ts) all zero zero d low one = all.0
+    across (t ∷ ts) all (suc i) zero d low one = across ts all.1 i zero d (omega (arith, low)) one
+    across (t ∷ ts) all i (suc j) d low one = absurd (omega (arith, one))
+
+    all_other : (ps : List Pp) → AllByRecursion (λ (q : Pp). (is_among copies q ≡ true) × (is_usable core q || is_caught core (group_in core ask) q ≡ true)) ps → AllByRecursion (λ (t : Target). t.pp ≢ p) (map (target_at s ask) ps)
+    all_other [] all = tt
+    all_other (q ∷ ps) all = (other_than q all.0.0, all_other ps all.1)
+
+    with_place : IsChosen s o (front ++ last ∷ [])
+    with_place = let c = copies_chosen in record {
+      aims = all_push (IsTarget core ask) its_target front c.aims;
+      fresh = all_push (λ (t : Target). t.state ≡ stage.Waiting) refl front c.fresh;
+      differ = AllPairs-append (λ (a b : Target). a.pp ≢ b.pp) front (last ∷ []) c.differ (λ i j d less high. absurd (omega (arith, less, high)))
+          (across front (all_other (aims core ask) (all_filter (λ (q : Pp). is_among copies q ≡ true) (λ (q : Pp). is_usable core q || is_caught core (group_in core ask) q) copies (all_among copies))));
+      few = let short = c.few in let less = few_filter (λ (q : Pp). is_usable core q || is_caught core (group_in core ask) q) copies in let low = few in let same = length-map (aims core ask) (target_at s ask) in let long = length-append front (last ∷ []) in omega (arith, less, low, same, long);
+      few_to_read = λ read. not_so (sym read ∙ write);
+      usable = any_push (λ (t : Target). t.usable) front c.usable;
+      faults = all_push (λ (t : Target). t.faults ≡ s.device.counts.faults t.pp.disk) refl front c.faults;
+      caused = all_push (IsCaused s.device core) (λ why. not_so why) front c.caused;
+    }
+
+  write_chosen : is_write ask ≡ true → IsChosen s o (map (target_at s ask) (aims core ask) ++ map (place_target s ask) (place_aims core ask))
+  write_chosen write = by one_place
+    where
+      by : IsOnePlace (places_for core ask) (place_aims core ask) → IsChosen s o (map (target_at s ask) (aims core ask) ++ map (place_target s ask) (place_aims core ask))
+      by (inl none) = subst (λ (ps : List Pp). IsChosen s o (map (target_at s ask) (aims core ask) ++ map (place_target s ask) ps)) (sym none) (subst (IsChosen s o) (sym (append-nil (map (target_at s ask) (aims core ask)))) copies_chosen)
+      by (inr it) = subst (λ (ps : List Pp). IsChosen s o (map (target_at s ask) (aims core ask) ++ map (place_target s ask) ps)) (sym it.1) (with_place write it.0 it.2 it.3)
 
   -- ---- a read, by the copies' numbers
 
@@ -537,8 +634,8 @@ module _ (s : State) (sound : IsSound s) (on : s.core.power ≡ power.On) (place
           by (first ∷ rest) it = ap (λ b. b || list_any (is_usable core) (map (copy_of copies) rest)) (order_holds IsNumber how (usable_from core 1 copies) last loads (first ∷ rest) numbered it 0 0 (omega arith)).3
 
   pub chosen : (targets : List Target) (order : List ℕ) → Chooses s ask targets order → IsChosen s o targets
-  chosen targets order = by (is_write ask)
+  chosen targets order = by (is_write ask) refl
     where
-      by : (b : Bool) → ChoosesBy b s ask targets order → IsChosen s o targets
-      by true it = subst (IsChosen s o) (sym it.0) write_chosen
-      by false it = subst (IsChosen s o) (sym it.targets_are) (read_chosen (policy_of core ask) (slice_index_or core.last (lv_of ask) 0) (loads_of core copies) order it.order_is)
+      by : (b : Bool) → is_write ask ≡ b → ChoosesBy b s ask targets order → IsChosen s o targets
+      by true write it = subst (IsChosen s o) (sym it.0) (write_chosen write)
+      by false read it = subst (IsChosen s o) (sym it.targets_are) (read_chosen (policy_of core ask) (slice_index_or core.last (lv_of ask) 0) (loads_of core copies) order it.order_is)

@@ -1,25 +1,23 @@
 -- What the end of a transfer of a write entails: staleness of targets, and the end of the copy that is open.
-use Rattle.std.proofs.Common.{◌%◌, ◌&&◌, ◌*◌, ◌+◌, ◌/◌, ◌<◌, ◌==◌, [], ap, arith, Bool, false, filter, if◌then◌else◌, inl, inr, length, List, nat_lt, None, not, Option, refl, slice_get, Some, subst, suc, sym, true, zero, ◌||◌, ℕ, ◌∙◌, ◌≡◌, ◌≤◌, ◌⊎◌}
-use Rattle.std.proofs.lemmas.Bool.{eqb-false, eqb-true, lt-ltb, ltb-false}
-use Rattle.std.proofs.lemmas.Nat.{mod_below}
+use Rattle.std.proofs.Common.{◌&&◌, ◌==◌, [], ap, Bool, false, filter, if◌then◌else◌, inl, inr, length, List, nat_lt, None, not, Option, refl, slice_get, Some, subst, sym, true, ◌||◌, ℕ, ◌∙◌, ◌≡◌, ◌⊎◌}
+use Rattle.std.proofs.lemmas.Bool.{eqb-false, eqb-true}
 use Rattle.std.specs.List.{AllByRecursion}
 use Rattle.std.specs.Option.{option_map_or}
 use Rattle.std.specs.Prelude.{IfSome, unwrap_or}
 use Rattle.std.proofs.lemmas.Map.Keys.{any_passes_from_place}
 use Rattle.lvm_num.specs.Buffer.{Buffer}
-use Rattle.lvm_num.specs.Geometry.{partition_blocks}
 use Rattle.lvm_num.specs.Status.{calls_stale}
 use Rattle.lvm_num.specs.declared.place.Pp.{Pp}
 use Rattle.lvm_hold.specs.Waiting.{Waiting}
 use Rattle.lvm_num.specs.Descriptor.{is_pp}
 use Rattle.lvm_num.proofs.Booleans.{not_so}
 use Rattle.lvm_num.proofs.Lists.{all_weaker, all_at, set_beside}
-use Rattle.lvm_path.specs.Asks.{at_of, is_write}
+use Rattle.lvm_path.specs.Asks.{is_write}
 use Rattle.lvm_path.specs.Targets.{are_over, end_state, is_done, is_failed}
-use Rattle.lvm_path.specs.declared.request.Request.{Request}
 use Rattle.lvm_path.specs.declared.target.Target.{Target}
-use Rattle.lvm_session.specs.Bringing.{end_by_sources, end_of, ends_if, groups_of, is_cleared, is_whole, with_copy_end}
-use Rattle.lvm_session.specs.Judging.{all_but_sure, group_in, is_caught, is_kept, is_missing, is_running, is_sure, is_wanted_stale, pps_of}
+use Rattle.lvm_session.proofs.MovesLemmas.{stale_of}
+use Rattle.lvm_session.specs.Bringing.{is_called_stale, end_by_sources, end_of, ends_if, groups_of, is_cleared, is_whole, with_copy_end}
+use Rattle.lvm_session.specs.Judging.{is_sure_at, all_but_sure, group_in, is_caught, is_kept, is_missing, is_running, is_wanted_stale, pps_of}
 use Rattle.lvm_session.specs.State.{Core}
 use Rattle.lvm_session.specs.declared.bringing.CopyEnd.TheVariants as ending
 use Rattle.lvm_session.specs.declared.bringing.OpenCopy.{OpenCopy}
@@ -31,7 +29,7 @@ use Rattle.lvm_session.specs.Causes.{is_held_stale, IsChosenSince}
 use Rattle.lvm_session.specs.Requests.{IsJudged, IsLaid, may_lack, will_be_kept}
 use Rattle.lvm_session.specs.Sound.{is_clearing, IsCopy, IsGoing}
 use Rattle.lvm_keeps.proofs.Lists.{set_here}
-use Rattle.lvm_keeps.proofs.Small.{both, is_false}
+use Rattle.lvm_keeps.proofs.Small.{both}
 use Rattle.lvm_keeps_events.proofs.TargetsLemmas.{at_state}
 use Rattle.lvm_keeps_events.proofs.JudgingLemmas.DuesMarks.{due_one, has_failed, is_sure_done, IsDueOne, own_pp, pp_same, unsure_among}
 use Rattle.lvm_keeps_events.proofs.SoundLemmas.Failing.{kept, LeavesParts, leaves, parted, pool, queue}
@@ -184,12 +182,12 @@ module _ (core : Core) (going : IsGoing core) (place target : ℕ) (o : Open) (t
         due_is : due_of core x.request ≡ pps_of (all_but_sure core x.request.targets.items)
         due_is = ap (λ (b : Bool). if b then pps_of (due_targets core x.request) else []) over ∙ ap (λ (b : Bool). pps_of (if b then filter has_failed x.request.targets.items else all_but_sure core x.request.targets.items)) unkept
 
-        unsure : (k : ℕ) (t : Target) → slice_get x.request.targets.items k ≡ Some t → is_done t.state ≡ true → is_sure core t.pp ≡ false
-        unsure k t t_there did = of (is_sure core t.pp) refl
+        unsure : (k : ℕ) (t : Target) → slice_get x.request.targets.items k ≡ Some t → is_done t.state ≡ true → is_sure_at core t ≡ false
+        unsure k t t_there did = of (is_sure_at core t) refl
           where
-            of : (b : Bool) → is_sure core t.pp ≡ b → b ≡ false
+            of : (b : Bool) → is_sure_at core t ≡ b → b ≡ false
             of false s = refl
-            of true s = not_so (sym unkept ∙ any_passes_from_place (is_sure_done core) x.request.targets.items k t t_there (all_and (is_done t.state) (is_sure core t.pp) did s))
+            of true s = not_so (sym unkept ∙ any_passes_from_place (is_sure_done core) x.request.targets.items k t t_there (all_and (is_done t.state) (is_sure_at core t) did s))
 
         by : (k : ℕ) (t : Target) → slice_get x.request.targets.items k ≡ Some t → (a b : Bool) → is_done t.state ≡ a → is_caught core group t.pp ≡ b → a && b ≡ false
         by k t t_there false b i j = refl
@@ -223,10 +221,10 @@ module _ (core : Core) (going : IsGoing core) (place target : ℕ) (o : Open) (t
     running = (both (is_write o.request.ask) (is_running c) (both (is_write o.request.ask && is_running c) (not ok && is_pp aim.pp c.pp || (are_over x.request.targets.items && not (is_kept core x.request) && not o.older && is_among (due_of core x.request) c.pp)) hit).0).1
 
     abbrev pub marked : Pp → Bool
-    marked q = option_map_or (λ (k : OpenCopy). is_whole core k && is_pp q k.pp) core.copy false
+    marked q = option_map_or (λ (k : OpenCopy). is_whole core k && is_pp q k.pp && (not k.moves || is_called_stale core k.pp)) core.copy false
 
-    of_mark : (q : Pp) → marked q ≡ (is_whole core c && is_pp q c.pp)
-    of_mark q = ap (λ m. option_map_or (λ (k : OpenCopy). is_whole core k && is_pp q k.pp) m false) is
+    of_mark : (q : Pp) → marked q ≡ (is_whole core c && is_pp q c.pp && (not c.moves || is_called_stale core c.pp))
+    of_mark q = ap (λ m. option_map_or (λ (k : OpenCopy). is_whole core k && is_pp q k.pp && (not k.moves || is_called_stale core k.pp)) m false) is
 
     bringing : IsCopy core c
     bringing = subst (λ m. IfSome m (IsCopy core)) is going.copy
@@ -234,8 +232,13 @@ module _ (core : Core) (going : IsGoing core) (place target : ℕ) (o : Open) (t
     -- what it had cleared is stale
     held_so : (q : Pp) → marked q ≡ true → is_held_stale core q ≡ true
     held_so q e =
-        let parts = both (is_whole core c) (is_pp q c.pp) (sym (of_mark q) ∙ e) in
-        ap (is_held_stale core) (pp_same q c.pp parts.1) ∙ ap (λ b. b || calls_stale (unwrap_or core.status.in_flight core.status.committed) c.pp) (bringing.clearing running parts.0).0
+        let all = both (is_whole core c && is_pp q c.pp) (not c.moves || is_called_stale core c.pp) (sym (of_mark q) ∙ e) in
+        let parts = both (is_whole core c) (is_pp q c.pp) all.0 in
+        ap (is_held_stale core) (pp_same q c.pp parts.1) ∙ of_kind parts.0 c.moves refl all.1
+      where
+        of_kind : is_whole core c ≡ true → (b : Bool) → c.moves ≡ b → not b || is_called_stale core c.pp ≡ true → is_held_stale core c.pp ≡ true
+        of_kind whole false stays e = ap (λ b. b || calls_stale (unwrap_or core.status.in_flight core.status.committed) c.pp) ((stale_of core c bringing stays).clearing running whole).0
+        of_kind whole true moves e = e
 
     gone : (k : OpenCopy) → Some (with_copy_end c ending.SyncFailed) ≡ Some k → is_running k ≡ false
     gone k same = let e : with_copy_end c ending.SyncFailed ≡ k = cc same in sym (ap is_running e)
@@ -247,7 +250,7 @@ module _ (core : Core) (going : IsGoing core) (place target : ℕ) (o : Open) (t
       wants = λ q e. ap (λ b. b || marked q) e;
       due_is = λ q e. by q (either (is_among (due_of core x.request) q) (marked q) e);
       apart = λ k same runs whole. not_so (sym (gone k same) ∙ runs);
-      clear = λ q held wanted none. not_so (sym none ∙ clears q (going.clearings q held wanted));
+      clear = λ q held wanted none. not_so (sym none ∙ clears q held (going.clearings q held wanted));
       ends = λ k same. ap (λ b. if not b then None else if is_missing core k.pp.disk then Some ending.SyncFailed else if is_whole core k then ends_if (is_cleared core k) ending.Done else end_by_sources core k) (gone k same);
       uncaught = λ write bad. refl;
       uncarried = λ over unkept. none_by (λ (t : Target). is_done t.state && false) x.request.targets.items (λ k t t_there. and_false (is_done t.state));
@@ -258,7 +261,9 @@ module _ (core : Core) (going : IsGoing core) (place target : ℕ) (o : Open) (t
         by q (inl among) = inl among
         by q (inr mark) = inr (held_so q mark)
 
-        clears : (q : Pp) → is_clearing core q ≡ true → is_among (due_of core x.request) q || marked q ≡ true
-        clears q clearing =
+        -- what is to be cleared is held stale, and so called stale
+        clears : (q : Pp) → is_held_stale core q ≡ true → is_clearing core q ≡ true → is_among (due_of core x.request) q || marked q ≡ true
+        clears q held clearing =
             let parts = both (is_running c && is_whole core c) (is_pp q c.pp) (sym (ap (λ m. option_map_or (λ (k : OpenCopy). is_running k && is_whole core k && is_pp q k.pp) m false) is) ∙ clearing) in
-            ap (λ b. is_among (due_of core x.request) q || b) (of_mark q ∙ all_and (is_whole core c) (is_pp q c.pp) (both (is_running c) (is_whole core c) parts.0).1 parts.1) ∙ or_true (is_among (due_of core x.request) q)
+            ap (λ b. is_among (due_of core x.request) q || b) (of_mark q ∙ all_and (is_whole core c && is_pp q c.pp) (not c.moves || is_called_stale core c.pp) (all_and (is_whole core c) (is_pp q c.pp) (both (is_running c) (is_whole core c) parts.0).1 parts.1)
+            (ap (λ b. not c.moves || b) (sym (ap (is_held_stale core) (pp_same q c.pp parts.1)) ∙ held) ∙ or_true (not c.moves))) ∙ or_true (is_among (due_of core x.request) q)

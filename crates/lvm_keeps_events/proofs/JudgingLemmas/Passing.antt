@@ -1,8 +1,8 @@
 -- The copy that is being brought up has passed a track group, and goes on with the next one, or is to be cleared.
 use Rattle.std.proofs.Common.{◌%◌, ◌&&◌, ◌*◌, ◌++◌, ◌+◌, ◌-◌, ◌/◌, ◌<◌, ◌==◌, [], ◌^◌, ap, arith, Bool, false, filter, find, if◌then◌else◌, inl, inr, length, List, mul_comm, nat_le, nat_lt, None, not, Option, refl, slice_get, slice_set, Some, subst, suc, sym, true, zero, ◌||◌, ℕ, ◌∙◌, ◌∷◌, ◌≡◌, ◌≤◌, ◌⊎◌}
-use Rattle.std.proofs.lemmas.Bool.{eq-eqb, le-ltb, lt-ltb, ltb-false, ltb-true}
+use Rattle.std.proofs.lemmas.Bool.{eq-eqb, eqb-true, le-ltb, lt-ltb, ltb-false, ltb-true}
 use Rattle.std.proofs.lemmas.List.Folds.{list_any-append}
-use Rattle.std.specs.List.{AllByRecursion, list_any, range_with_len, remove}
+use Rattle.std.specs.List.{AllByRecursion, list_any, remove}
 use Rattle.std.specs.Option.{option_map_or}
 use Rattle.std.specs.Prelude.{count_by, IfSome, is_none, slice_index_or, unwrap_or}
 use Rattle.std.proofs.lemmas.Map.Keys.{any_passes_from_place}
@@ -24,7 +24,7 @@ use Rattle.lvm_hold.specs.Waiting.{is_blocked, Waiting, without}
 use Rattle.lvm_hold.specs.declared.queue.Row.{Row}
 use Rattle.lvm_status.specs.Table.{has_row as has_disk_row, SameMissing}
 use Rattle.lvm_path.specs.Asks.{at_of, count_of, is_write, lv_of}
-use Rattle.lvm_path.specs.Targets.{is_begun, is_done, is_failed}
+use Rattle.lvm_path.specs.Targets.{are_over, is_begun, is_done, is_failed}
 use Rattle.lvm_path.specs.declared.ask.Ask.{Ask}
 use Rattle.lvm_path.specs.declared.request.Phase.{Phase}
 use Rattle.lvm_path.specs.declared.request.Phase.TheVariants as phase
@@ -35,7 +35,7 @@ use Rattle.lvm_status.specs.Update.{seen}
 use Rattle.lvm_status.specs.declared.writes.Writes.{Writes}
 use Rattle.lvm_session.specs.Bringing.{block_at, copy_ends, end_of, ends_if, groups_of, hand_of, has_row, is_cleared, is_idle, is_out, is_whole, next_source, sources_of, step_of, step_place, step_row}
 use Rattle.lvm_session.specs.Enabled.{same_status}
-use Rattle.lvm_session.specs.Judging.{copies_for, copies_in, group_in, has_dirty_mark, has_names, held_of, is_caught, is_held_back, is_kept, is_missing, is_running, is_settled, is_stale, is_sure, is_usable, is_waiting, is_wanted_stale, lp_of, place_of, pps_of}
+use Rattle.lvm_session.specs.Judging.{copies_for, copies_in, group_in, has_dirty_mark, has_names, held_of, is_caught, is_held_back, is_kept, is_missing, is_beside_copy, is_clear, is_running, is_settled, is_stale, is_sure, is_sure_at, is_usable, is_waiting, is_wanted_stale, lp_of, place_aims, place_of, places_for, places_if, pps_of}
 use Rattle.lvm_session.specs.State.{Core, is_there, State, state}
 use Rattle.lvm_session.specs.declared.bringing.CopyEnd.TheVariants as ending
 use Rattle.lvm_session.specs.declared.bringing.OpenCopy.{OpenCopy}
@@ -49,20 +49,26 @@ use Rattle.lvm_session.specs.declared.open.Power.TheVariants as power
 use Rattle.lvm_session.specs.Dark.{hand_of_copy}
 use Rattle.lvm_num.specs.Modes.{is_passive}
 use Rattle.lvm_num.proofs.Booleans.{not_so}
-use Rattle.lvm_num.proofs.Lists.{all_weaker, length_set, all_both}
-use Rattle.lvm_session.specs.Marks.{can_replace, is_among, is_entailed, is_entailed_in, is_left_behind}
+use Rattle.lvm_num.proofs.Lists.{all_at, all_weaker, length_set, all_both}
+use Rattle.lvm_session.specs.Marks.{can_replace, is_among, is_entailed}
 use Rattle.lvm_session.specs.Causes.{AreCaused, AreCounted, fails_on, is_blamed, is_held_stale, IsAnswered, IsCaused, IsChosenSince, IsCausedAmong, IsTrueToOrigin, was_fresh}
 use Rattle.lvm_session.specs.Left.{copy_updates, if_so, updates_left}
 use Rattle.lvm_session.specs.Owners.{AreOwned, same_owner}
-use Rattle.lvm_session.specs.Requests.{is_failed_and_sure, is_left_out, is_past_held, is_wanted_dirty, is_wanted_due, IsJudged, IsOpenOne, IsPhase, IsRequest, IsTarget, may_lack, mode_for, wants_status, will_be_kept}
-use Rattle.lvm_session.specs.Sound.{count_if, is_clearing, is_hand, IsCopy, IsFitting, IsGoing, IsOn, IsSound, IsTold, may_be_fresh, out_with, stays_fresh, waiting_rows, with_row}
+use Rattle.lvm_session.specs.Requests.{is_failed_and_sure, is_left_out, is_past_held, is_wanted_dirty, is_wanted_due, IsAimed, IsJudged, IsMarkedPlace, IsOpenOne, IsPhase, IsRequest, IsTarget, may_lack, mode_for, wants_status, will_be_kept}
+use Rattle.lvm_session.specs.Sound.{count_if, is_clearing, is_hand, IsCopy, IsFitting, IsGoing, IsOfKind, IsOn, IsSound, IsTold, may_be_fresh, out_with, stays_fresh, waiting_rows, with_row}
+use Rattle.lvm_session.proofs.MovesLemmas.{IsOpenPlace, among_filter, among_filtered, move_of, place_open, stale_of}
 use Rattle.lvm_calls.proofs.LogLemmas.{below_next}
+use Rattle.lvm_keeps.proofs.CacheLemmas.{no_copy}
+use Rattle.lvm_keeps.proofs.Lists.{count_cons}
 use Rattle.lvm_keeps.proofs.CausesLemmas.{answered_when_on, counted_when_on}
 use Rattle.lvm_keeps.proofs.OwnersLemmas.Rows.{rows_but_copy}
 use Rattle.lvm_keeps.proofs.Small.{both, is_false}
 use Rattle.lvm_keeps.proofs.RequestsLemmas.{changed, shape_still}
 use Rattle.lvm_keeps.proofs.SoundLemmas.Whole.{sound_when_on}
-use Rattle.lvm_keeps_events.proofs.Marking.{any_alike, count_alike, filter_alike}
+use Rattle.lvm_keeps_events.proofs.Finding.{row_found}
+use Rattle.lvm_keeps_events.proofs.JudgingLemmas.OpenLp.{target_lp}
+use Rattle.lvm_keeps_events.proofs.JudgingLemmas.Review.{IsLeft, entailed_on, left_behind}
+use Rattle.lvm_keeps_events.proofs.Marking.{count_alike, filter_alike}
 use Rattle.lvm_keeps_events.proofs.OnePlace.{one_lp}
 use Rattle.lvm_keeps_events.proofs.EndsLemmas.CopyReadFail.{by_place, by_sources, is_here}
 use Rattle.lvm_keeps_events.proofs.SoundLemmas.Over.{even_rows, without_step, none_filter}
@@ -70,6 +76,7 @@ use Rattle.lvm_keeps_events.proofs.OwnersLemmas.Removal.{as_many, given_back, no
 use Rattle.lvm_keeps_events.proofs.JudgingLemmas.DuesMarks.{among_get, own_pp, pp_same}
 use Rattle.lvm_keeps_events.proofs.Groups.{group_low, some_size, whole_passes}
 use Rattle.lvm_keeps_events.proofs.Lists.{all_and, all_there, any_on, found_at, or_true}
+use Rattle.lvm_keeps_events.proofs.MissedLemmas.{ends_phase, missed_on, none_failed, not_failed}
 use Rattle.lvm_keeps_events.proofs.UncaughtLemmas.{some_kept}
 use Rattle.lvm_map.proofs.Parts.{whole}
 
@@ -131,6 +138,27 @@ one_found t u (p ∷ ps) free e = by (u p) (λ f. one_found t u ps free f) e
     by : (b : Bool) → ((length (filter u ps) == 0) ≡ false → is_none (find t (filter u ps)) ≡ false) → (length (if b then p ∷ filter u ps else filter u ps) == 0) ≡ false → is_none (find t (if b then p ∷ filter u ps else filter u ps)) ≡ false
     by true rest f = ap (λ b. is_none (if b then Some p else find t (filter u ps))) (free p)
     by false rest f = rest f
+
+-- what two tests say of each that is among them, one of them is said alike
+any_among : (t u : Pp → Bool) (ps : List Pp) → ((p : Pp) → is_among ps p ≡ true → t p ≡ u p) → list_any t ps ≡ list_any u ps
+any_among t u [] same = refl
+any_among t u (p ∷ ps) same =
+    ap (λ b. b || list_any t ps) (same p (ap (λ b. b || is_among ps p) (own_pp p)))
+    ∙ ap (λ b. u p || b) (any_among t u ps (λ q e. same q (ap (λ b. is_pp q p || b) e ∙ or_true (is_pp q p))))
+
+-- so it is of targets
+any_of_targets : (P : Target → Type 0) (t u : Target → Bool) → ((x : Target) → P x → t x ≡ u x) → (xs : List Target) → AllByRecursion P xs → list_any t xs ≡ list_any u xs
+any_of_targets P t u same [] all = refl
+any_of_targets P t u same (x ∷ xs) all = ap (λ b. b || list_any t xs) (same x all.0) ∙ ap (λ b. u x || b) (any_of_targets P t u same xs all.1)
+
+count_of_targets : (P : Target → Type 0) (t u : Target → Bool) → ((x : Target) → P x → t x ≡ u x) → (xs : List Target) → AllByRecursion P xs → count_by t xs ≡ count_by u xs
+count_of_targets P t u same [] all = refl
+count_of_targets P t u same (x ∷ xs) all =
+    let a = count_cons t x xs in
+    let b = count_cons u x xs in
+    let one : count_if (t x) ≡ count_if (u x) = ap count_if (same x all.0) in
+    let rest = count_of_targets P t u same xs all.1 in
+    omega (arith, a, b, one, rest)
 
 -- ---- blocks
 
@@ -201,15 +229,24 @@ module _ (s : State) (sound : IsSound s) (on : s.core.power ≡ power.On) (c : O
       by true e passed = ltb-true c.cursor (groups_of core) e
       by false e passed = not_so (sym passed)
 
-  -- it is stale, by the committed status too
-  pub settled : is_settled core c.pp ≡ true
-  settled = (its.stale runs short).0
+  -- one that is brought up is stale, by the committed status too
+  settled : c.moves ≡ false → is_settled core c.pp ≡ true
+  settled stays = ((stale_of core c its stays).stale runs short).0
 
-  pub stale_so : is_stale core c.pp ≡ true
-  stale_so = (both (is_stale core c.pp) (calls_stale (unwrap_or core.status.in_flight core.status.committed) c.pp) settled).0
+  stale_so : c.moves ≡ false → is_stale core c.pp ≡ true
+  stale_so stays = (both (is_stale core c.pp) (calls_stale (unwrap_or core.status.in_flight core.status.committed) c.pp) (settled stays)).0
 
-  held_so : is_held_stale core c.pp ≡ true
-  held_so = ap (λ b. b || calls_stale (unwrap_or core.status.in_flight core.status.committed) c.pp) stale_so
+  -- it is one of its logical partition
+  its_among : c.moves ≡ false → is_among (copies_in core.descriptor c.lv c.lp) c.pp ≡ true
+  its_among stays = among_get (copies_in core.descriptor c.lv c.lp) (c.copy - 1) c.pp (by_place (copies_in core.descriptor c.lv c.lp) c.copy c.pp (stale_of core c its stays).its)
+
+  -- the place to which one moves is none
+  apart : c.moves ≡ true → (lv lp : ℕ) (p : Pp) → is_among (copies_in core.descriptor lv lp) p ≡ true → is_pp p c.pp ≡ false
+  apart moves lv lp p among = by (is_pp p c.pp) refl
+    where
+      by : (b : Bool) → is_pp p c.pp ≡ b → is_pp p c.pp ≡ false
+      by false e = e
+      by true e = not_so (sym (no_copy core.descriptor lv lp c.pp (move_of core c its moves).free) ∙ ap (is_among (copies_in core.descriptor lv lp)) (sym (pp_same p c.pp e)) ∙ among)
 
   below : AllByRecursion (λ (o : Open). o.request.id < next_id core.history) core.requests
   below = below_next core.history core.requests sound.told.ordered sound.told.requests
@@ -297,29 +334,52 @@ module _ (s : State) (sound : IsSound s) (on : s.core.power ≡ power.On) (c : O
             let odd = its.place.2 in
             absurd (omega (arith, low, high, odd))
 
-    -- so the copy has caught up with none more of its copies
-    pub caught_same : (p : Pp) → is_among (copies_for core o.request.ask) p ≡ true → (is_running c && is_pp p c.pp && nat_lt (group_in core o.request.ask) (c.cursor + 1)) ≡ is_caught core (group_in core o.request.ask) p
-    caught_same p among = by (is_pp p c.pp) refl ∙ sym (of_copy (λ (m : OpenCopy). is_running m && is_pp p m.pp && nat_lt (group_in core o.request.ask) m.cursor) false)
-      where
-        same_lt : (n m : ℕ) → (n ≡ m → ⊥) → nat_lt n (m + 1) ≡ nat_lt n m
-        same_lt n m apart = of (nat_lt n m) refl
-          where
-            of : (b : Bool) → nat_lt n m ≡ b → nat_lt n (m + 1) ≡ b
-            of true e = lt-ltb n (m + 1) (let low = ltb-true n m e in omega (arith, low))
-            of false e = le-ltb n (m + 1) (let high = ltb-false n m e in grind (arith, high, apart))
+    -- so the copy has caught up with none more of what it goes to
+    module _ (p : Pp) (at_its : p ≡ c.pp → (lv_of o.request.ask ≡ c.lv) × (lp_of core o.request.ask ≡ c.lp)) where
+      caught_by : (is_running c && is_pp p c.pp && nat_lt (group_in core o.request.ask) (c.cursor + 1)) ≡ is_caught core (group_in core o.request.ask) p
+      caught_by = by (is_pp p c.pp) refl ∙ sym (of_copy (λ (m : OpenCopy). is_running m && is_pp p m.pp && nat_lt (group_in core o.request.ask) m.cursor) false)
+        where
+          same_lt : (n m : ℕ) → (n ≡ m → ⊥) → nat_lt n (m + 1) ≡ nat_lt n m
+          same_lt n m other = of (nat_lt n m) refl
+            where
+              of : (b : Bool) → nat_lt n m ≡ b → nat_lt n (m + 1) ≡ b
+              of true e = lt-ltb n (m + 1) (let low = ltb-true n m e in omega (arith, low))
+              of false e = le-ltb n (m + 1) (let high = ltb-false n m e in grind (arith, high, other))
 
-        by : (b : Bool) → is_pp p c.pp ≡ b → (is_running c && is_pp p c.pp && nat_lt (group_in core o.request.ask) (c.cursor + 1)) ≡ (is_running c && is_pp p c.pp && nat_lt (group_in core o.request.ask) c.cursor)
-        by false other = ap (λ b. is_running c && b && nat_lt (group_in core o.request.ask) (c.cursor + 1)) other ∙ none (is_running c) (nat_lt (group_in core o.request.ask) (c.cursor + 1)) (nat_lt (group_in core o.request.ask) c.cursor)
-            ∙ sym (ap (λ b. is_running c && b && nat_lt (group_in core o.request.ask) c.cursor) other)
-          where
-            none : (a x y : Bool) → (a && false && x) ≡ (a && false && y)
-            none true x y = refl
-            none false x y = refl
-        by true same =
-            let at_pp = pp_same p c.pp same in
-            let one = one_lp core.descriptor sound.fitting.valid (lv_of o.request.ask) (lp_of core o.request.ask) c.lv c.lp c.pp (ap (is_among (copies_for core o.request.ask)) (sym at_pp) ∙ among)
-            (among_get (copies_in core.descriptor c.lv c.lp) (c.copy - 1) c.pp (by_place (copies_in core.descriptor c.lv c.lp) c.copy c.pp its.its)) in
-            ap (λ b. is_running c && is_pp p c.pp && b) (same_lt (group_in core o.request.ask) c.cursor (λ e. not_here one.0 one.1 e))
+          by : (b : Bool) → is_pp p c.pp ≡ b → (is_running c && is_pp p c.pp && nat_lt (group_in core o.request.ask) (c.cursor + 1)) ≡ (is_running c && is_pp p c.pp && nat_lt (group_in core o.request.ask) c.cursor)
+          by false other = ap (λ b. is_running c && b && nat_lt (group_in core o.request.ask) (c.cursor + 1)) other ∙ none (is_running c) (nat_lt (group_in core o.request.ask) (c.cursor + 1)) (nat_lt (group_in core o.request.ask) c.cursor)
+              ∙ sym (ap (λ b. is_running c && b && nat_lt (group_in core o.request.ask) c.cursor) other)
+            where
+              none : (a x y : Bool) → (a && false && x) ≡ (a && false && y)
+              none true x y = refl
+              none false x y = refl
+          by true same =
+              let one = at_its (pp_same p c.pp same) in
+              ap (λ b. is_running c && is_pp p c.pp && b) (same_lt (group_in core o.request.ask) c.cursor (λ e. not_here one.0 one.1 e))
+
+    -- its copies
+    pub caught_same : (p : Pp) → is_among (copies_for core o.request.ask) p ≡ true → (is_running c && is_pp p c.pp && nat_lt (group_in core o.request.ask) (c.cursor + 1)) ≡ is_caught core (group_in core o.request.ask) p
+    caught_same p among = caught_by p (λ at_pp. by c.moves refl at_pp)
+      where
+        by : (b : Bool) → c.moves ≡ b → p ≡ c.pp → (lv_of o.request.ask ≡ c.lv) × (lp_of core o.request.ask ≡ c.lp)
+        by false stays at_pp = one_lp core.descriptor sound.fitting.valid (lv_of o.request.ask) (lp_of core o.request.ask) c.lv c.lp c.pp (ap (is_among (copies_for core o.request.ask)) (sym at_pp) ∙ among) (its_among stays)
+        by true moves at_pp = not_so (sym (apart moves (lv_of o.request.ask) (lp_of core o.request.ask) p among) ∙ ap (is_pp p) (sym at_pp) ∙ own_pp p)
+
+    -- its targets, and the place to which one of them moves
+    caught_target : (t : Target) → IsTarget core o.request.ask t → (is_running c && is_pp t.pp c.pp && nat_lt (group_in core o.request.ask) (c.cursor + 1)) ≡ is_caught core (group_in core o.request.ask) t.pp
+    caught_target t aimed = caught_by t.pp (λ same. target_lp core going c is o.request.ask t aimed same)
+
+    pub caught_place : (p : Pp) → is_among (places_for core o.request.ask) p ≡ true → (is_running c && is_pp p c.pp && nat_lt (group_in core o.request.ask) (c.cursor + 1)) ≡ is_caught core (group_in core o.request.ask) p
+    caught_place p among = caught_by p (λ same. (eqb-true (lv_of o.request.ask) c.lv beside_it.0, eqb-true (lp_of core o.request.ask) c.lp beside_it.1))
+      where
+        open_place : IsOpenPlace core o.request.ask p
+        open_place = place_open core o.request.ask p among
+
+        one_of : (x y : OpenCopy) → Some x ≡ Some y → x ≡ y
+        one_of x y e = cc e
+
+        beside_it : ((lv_of o.request.ask == c.lv) ≡ true) × ((lp_of core o.request.ask == c.lp) ≡ true)
+        beside_it = both (lv_of o.request.ask == c.lv) (lp_of core o.request.ask == c.lp) (subst (λ (d : OpenCopy). is_beside_copy core o.request.ask d ≡ true) (one_of open_place.copy c (sym open_place.is_open ∙ is)) open_place.beside)
 
   module _ (wanted : Status) (status_writes : Writes) (like : IsFresher w c.pp core.status.wanted wanted) (started : (d : ℕ) → has status_writes.started d ≡ has core.status.writes.started d)
       (status_sound : IsSoundStatus (seen (record core.status { wanted = wanted; writes = status_writes }))) (still : w ≡ false → wanted ≡ core.status.wanted) where
@@ -331,22 +391,26 @@ module _ (s : State) (sound : IsSound s) (on : s.core.power ≡ power.On) (c : O
 
     -- ---- what is judged stays
 
-    -- the partition that is to be cleared is stale
-    at_its : (p : Pp) (b : Bool) → (w && is_pp p c.pp) ≡ b → (b ≡ false) ⊎ ((is_stale core p ≡ true) × (p ≡ c.pp))
-    at_its p false e = inl refl
-    at_its p true e = let parts = both w (is_pp p c.pp) e in let same = pp_same p c.pp parts.1 in inr (ap (is_stale core) same ∙ stale_so, same)
+    and_true : (a : Bool) → a && true ≡ a
+    and_true true = refl
+    and_true false = refl
 
-    -- of one that isn't stale, or that isn't its, the same is wanted
-    same_where : (p : Pp) (Same : Bool → Bool → Type 0) → ((b : Bool) → Same b b) → (is_stale core p ≡ true → (a b : Bool) → Same a b) → Same (is_wanted_stale core p) (calls_stale wanted p)
-    same_where p Same own_same stale_same = by (w && is_pp p c.pp) refl
+    -- of a copy that isn't stale, or that isn't its, the same is wanted
+    same_where : (lv lp : ℕ) (p : Pp) → is_among (copies_in core.descriptor lv lp) p ≡ true
+        → (Same : Bool → Bool → Type 0) → ((b : Bool) → Same b b) → (is_stale core p ≡ true → (a b : Bool) → Same a b) → Same (is_wanted_stale core p) (calls_stale wanted p)
+    same_where lv lp p among Same own_same stale_same = by (w && is_pp p c.pp) refl
       where
-        and_true : (a : Bool) → a && true ≡ a
-        and_true true = refl
-        and_true false = refl
+        of_kind : (b : Bool) → c.moves ≡ b → is_pp p c.pp ≡ true → Same (is_wanted_stale core p) (calls_stale wanted p)
+        of_kind false stays same = stale_same (ap (is_stale core) (pp_same p c.pp same) ∙ stale_so stays) (is_wanted_stale core p) (calls_stale wanted p)
+        of_kind true moves same = not_so (sym (apart moves lv lp p among) ∙ same)
 
         by : (b : Bool) → (w && is_pp p c.pp) ≡ b → Same (is_wanted_stale core p) (calls_stale wanted p)
         by false e = subst (Same (is_wanted_stale core p)) (sym (like.stale p ∙ ap (λ b. is_wanted_stale core p && not b) e ∙ and_true (is_wanted_stale core p))) (own_same (is_wanted_stale core p))
-        by true e = stale_same (ap (is_stale core) (pp_same p c.pp (both w (is_pp p c.pp) e).1) ∙ stale_so) (is_wanted_stale core p) (calls_stale wanted p)
+        by true e = of_kind c.moves refl (both w (is_pp p c.pp) e).1
+
+    -- nothing more is wanted stale
+    wanted_before : (p : Pp) → is_wanted_stale after p ≡ true → is_wanted_stale core p ≡ true
+    wanted_before p e = (both (is_wanted_stale core p) (not (w && is_pp p c.pp)) (sym (like.stale p) ∙ e)).0
 
     pub missing_same : (d : ℕ) → is_missing after d ≡ is_missing core d
     missing_same d = like.missing d
@@ -357,28 +421,39 @@ module _ (s : State) (sound : IsSound s) (on : s.core.power ≡ power.On) (c : O
     pub usable_same : (p : Pp) → is_usable after p ≡ is_usable core p
     usable_same p = ap (λ b. not (is_stale core p) && not b) (missing_same p.disk)
 
-    sure_same : (p : Pp) → is_sure after p ≡ is_sure core p
-    sure_same p = same_where p (λ a b. (not (is_stale core p) && not b) ≡ (not (is_stale core p) && not a)) (λ b. refl) (λ stale a b. ap (λ x. not x && not b) stale ∙ sym (ap (λ x. not x && not a) stale))
+    sure_same : (ask : Ask) (t : Target) → IsTarget core ask t → is_sure_at after t ≡ is_sure_at core t
+    sure_same ask t aimed = by t.moves aimed.copy
+      where
+        by : (b : Bool) → IsAimed b core ask t → (not b && is_sure after t.pp) ≡ (not b && is_sure core t.pp)
+        by true place = refl
+        by false among = same_where (lv_of ask) (lp_of core ask) t.pp among (λ a b. (not (is_stale core t.pp) && not b) ≡ (not (is_stale core t.pp) && not a)) (λ b. refl)
+            (λ stale a b. ap (λ x. not x && not b) stale ∙ sym (ap (λ x. not x && not a) stale))
 
-    held_or_wanted : (p : Pp) → is_held_stale after p || is_wanted_stale after p ≡ is_held_stale core p || is_wanted_stale core p
-    held_or_wanted p = same_where p (λ a b. is_held_stale core p || b ≡ is_held_stale core p || a) (λ b. refl)
-        (λ stale a b. ap (λ x. (x || calls_stale (unwrap_or core.status.in_flight core.status.committed) p) || b) stale ∙ sym (ap (λ x. (x || calls_stale (unwrap_or core.status.in_flight core.status.committed) p) || a) stale))
+    held_or_wanted : (p : Pp) → is_held_stale after p || is_wanted_stale after p ≡ true → is_held_stale core p || is_wanted_stale core p ≡ true
+    held_or_wanted p e = by (is_held_stale core p) (is_wanted_stale after p) (is_wanted_stale core p) (wanted_before p) e
+      where
+        by : (h b a : Bool) → (b ≡ true → a ≡ true) → h || b ≡ true → h || a ≡ true
+        by true b a on_so e = refl
+        by false b a on_so e = on_so e
 
-    stays_same : (p : Pp) → stays_fresh after p ≡ stays_fresh core p
-    stays_same p = same_where p (λ a b. (not (is_held_stale core p) && not b) ≡ (not (is_held_stale core p) && not a)) (λ b. refl)
+    stays_same : (lv lp : ℕ) (p : Pp) → is_among (copies_in core.descriptor lv lp) p ≡ true → stays_fresh after p ≡ stays_fresh core p
+    stays_same lv lp p among = same_where lv lp p among (λ a b. (not (is_held_stale core p) && not b) ≡ (not (is_held_stale core p) && not a)) (λ b. refl)
         (λ stale a b. ap (λ x. not (x || calls_stale (unwrap_or core.status.in_flight core.status.committed) p) && not b) stale ∙ sym (ap (λ x. not (x || calls_stale (unwrap_or core.status.in_flight core.status.committed) p) && not a) stale))
 
-    replace_same : (p : Pp) → can_replace after p ≡ can_replace core p
-    replace_same p = ap (λ b. b && not (is_wanted_stale after p)) (usable_same p)
-        ∙ same_where p (λ a b. (is_usable core p && not b) ≡ (is_usable core p && not a)) (λ b. refl) (λ stale a b. ap (λ x. not x && not (is_missing core p.disk) && not b) stale ∙ sym (ap (λ x. not x && not (is_missing core p.disk) && not a) stale))
+    replace_same : (lv lp : ℕ) (p : Pp) → is_among (copies_in core.descriptor lv lp) p ≡ true → can_replace after p ≡ can_replace core p
+    replace_same lv lp p among = ap (λ b. b && not (is_wanted_stale after p)) (usable_same p)
+        ∙ same_where lv lp p among (λ a b. (is_usable core p && not b) ≡ (is_usable core p && not a)) (λ b. refl) (λ stale a b. ap (λ x. not x && not (is_missing core p.disk) && not b) stale ∙ sym (ap (λ x. not x && not (is_missing core p.disk) && not a) stale))
 
-    kept_same : (r : Request) → is_kept after r ≡ is_kept core r
-    kept_same r = any_alike (λ (t : Target). is_done t.state && is_sure after t.pp) (λ (t : Target). is_done t.state && is_sure core t.pp) (λ t. ap (λ b. is_done t.state && b) (sure_same t.pp)) r.targets.items
+    kept_same : (r : Request) → AllByRecursion (IsTarget core r.ask) r.targets.items → is_kept after r ≡ is_kept core r
+    kept_same r all = any_of_targets (IsTarget core r.ask) (λ (t : Target). is_done t.state && is_sure_at after t) (λ (t : Target). is_done t.state && is_sure_at core t) (λ t aimed. ap (λ b. is_done t.state && b) (sure_same r.ask t aimed)) r.targets.items all
 
-    left_same : (r : Request) → count_by (is_failed_and_sure after) r.targets.items ≡ count_by (is_failed_and_sure core) r.targets.items
-    left_same r = count_alike (is_failed_and_sure after) (is_failed_and_sure core) (λ t. ap (λ b. is_failed t.state && b) (sure_same t.pp)) r.targets.items
+    left_same : (r : Request) → AllByRecursion (IsTarget core r.ask) r.targets.items → count_by (is_failed_and_sure after) r.targets.items ≡ count_by (is_failed_and_sure core) r.targets.items
+    left_same r all = count_of_targets (IsTarget core r.ask) (is_failed_and_sure after) (is_failed_and_sure core) (λ t aimed. ap (λ b. is_failed t.state && b) (sure_same r.ask t aimed)) r.targets.items all
 
     -- ---- requests
+
+    places_same : (ask : Ask) → places_for core ask ≡ places_for after ask
+    places_same ask = of_copy (λ (k : OpenCopy). places_if (k.moves && is_beside_copy core ask k) k) []
 
     pub dirty_same : (lv : ℕ) → calls_dirty wanted lv ≡ calls_dirty core.status.wanted lv
     dirty_same lv = ap (λ (ns : List ℕ). list_any (λ n. n == lv) ns) like.dirty
@@ -397,6 +472,14 @@ module _ (s : State) (sound : IsSound s) (on : s.core.power ≡ power.On) (c : O
     settled_on mode.Active r e = refl
     settled_on mode.Passive r e = e
     settled_on mode.Off r e = refl
+
+    past_status : (p : Phase) → wants_status p ≡ true → is_past_held p ≡ true
+    past_status phase.Held e = not_so e
+    past_status phase.WantEntry e = refl
+    past_status phase.WantRecord e = refl
+    past_status phase.Data e = refl
+    past_status phase.WantStatus e = refl
+    past_status phase.Landed e = not_so e
 
     module _ (k : ℕ) (o : Open) (o_there : slice_get core.requests k ≡ Some o) (it : IsOpenOne core o) (waits : is_waiting o ≡ true) (write : is_write o.request.ask ≡ true) where
       its_request : IsRequest core o
@@ -420,7 +503,7 @@ module _ (s : State) (sound : IsSound s) (on : s.core.power ≡ power.On) (c : O
       uncaught_so : (is_past_held o.request.phase ≡ true) ⊎ (o.request.targets.items ≡ []) → AllByRecursion (λ (t : Target). may_lack o t && is_caught after (group_in core o.request.ask) t.pp ≡ false) o.request.targets.items
       uncaught_so (inr none) = subst (AllByRecursion (λ (t : Target). may_lack o t && is_caught after (group_in core o.request.ask) t.pp ≡ false)) (sym none) tt
       uncaught_so (inl past) = all_weaker (λ (t : Target). IsTarget core o.request.ask t × (may_lack o t && is_caught core (group_in core o.request.ask) t.pp ≡ false)) (λ (t : Target). may_lack o t && is_caught after (group_in core o.request.ask) t.pp ≡ false)
-          (λ t e. ap (λ b. may_lack o t && b) (caught_so past t.pp e.0.copy) ∙ e.1) o.request.targets.items
+          (λ t e. ap (λ b. may_lack o t && b) (caught_target k o o_there it waits write past t e.0) ∙ e.1) o.request.targets.items
           (all_both (IsTarget core o.request.ask) (λ (t : Target). may_lack o t && is_caught core (group_in core o.request.ask) t.pp ≡ false) o.request.targets.items its_request.shape.targets (its_request.judged write).uncaught)
 
       carried_same : is_past_held o.request.phase ≡ true → will_be_kept after o.request ≡ will_be_kept core o.request
@@ -428,22 +511,42 @@ module _ (s : State) (sound : IsSound s) (on : s.core.power ≡ power.On) (c : O
         where
           by : (ts : List Target) → AllByRecursion (IsTarget core o.request.ask) ts → list_any (λ (t : Target). is_done t.state && is_caught after (group_in core o.request.ask) t.pp) ts ≡ list_any (λ (t : Target). is_done t.state && is_caught core (group_in core o.request.ask) t.pp) ts
           by [] all = refl
-          by (t ∷ ts) all = ap (λ b. (is_done t.state && b) || list_any (λ (u : Target). is_done u.state && is_caught after (group_in core o.request.ask) u.pp) ts) (caught_so past t.pp all.0.copy)
+          by (t ∷ ts) all = ap (λ b. (is_done t.state && b) || list_any (λ (u : Target). is_done u.state && is_caught after (group_in core o.request.ask) u.pp) ts) (caught_target k o o_there it waits write past t all.0)
               ∙ ap (λ b. (is_done t.state && is_caught core (group_in core o.request.ask) t.pp) || b) (by ts all.1)
 
       due_so : wants_status o.request.phase ≡ true → is_wanted_due after o.request ≡ true
       due_so status =
-          ap (λ n. nat_le n (if is_kept after o.request || will_be_kept after o.request then 0 else 1)) (left_same o.request)
-          ∙ ap (λ (b : Bool). nat_le (count_by (is_failed_and_sure core) o.request.targets.items) (if b || will_be_kept after o.request then 0 else 1)) (kept_same o.request)
+          ap (λ n. nat_le n (if is_kept after o.request || will_be_kept after o.request then 0 else 1)) (left_same o.request its_request.shape.targets)
+          ∙ ap (λ (b : Bool). nat_le (count_by (is_failed_and_sure core) o.request.targets.items) (if b || will_be_kept after o.request then 0 else 1)) (kept_same o.request its_request.shape.targets)
           ∙ ap (λ (b : Bool). nat_le (count_by (is_failed_and_sure core) o.request.targets.items) (if is_kept core o.request || b then 0 else 1)) (carried_same (past_status o.request.phase status)) ∙ (its_request.judged write).due status
+
+      -- what is cleared has been passed
+      caught_now : (p : Pp) → (w && is_pp p c.pp) ≡ true → is_caught after (group_in core o.request.ask) p ≡ true
+      caught_now p e = let its_parts = both w (is_pp p c.pp) e in
+          all_and (is_running c && is_pp p c.pp) (nat_lt (group_in core o.request.ask) (c.cursor + 1)) (all_and (is_running c) (is_pp p c.pp) runs its_parts.1) (whole_passes (group_in core o.request.ask) (groups_of core) (c.cursor + 1) (group_low core o.request it.laid) its_parts.0)
+
+      -- so nothing was missed of it
+      missed_so : wants_status o.request.phase ≡ true → AllByRecursion (IsMarkedPlace after o.request) o.request.targets.items
+      missed_so status = missed_on core after o.request fewer why (judged.missed status)
         where
-          past_status : (p : Phase) → wants_status p ≡ true → is_past_held p ≡ true
-          past_status phase.Held e = not_so e
-          past_status phase.WantEntry e = refl
-          past_status phase.WantRecord e = refl
-          past_status phase.Data e = refl
-          past_status phase.WantStatus e = refl
-          past_status phase.Landed e = not_so e
+          judged : IsJudged core o
+          judged = its_request.judged write
+
+          over : are_over o.request.targets.items ≡ true
+          over = (subst (λ (p : Phase). IsPhase p o) (ends_phase o.request.phase status) its_request.shape.phase_is).1
+
+          fewer : list_any (is_failed_and_sure after) o.request.targets.items ≡ true → list_any (is_failed_and_sure core) o.request.targets.items ≡ true
+          fewer some = sym (any_of_targets (IsTarget core o.request.ask) (is_failed_and_sure after) (is_failed_and_sure core) (λ t aimed. ap (λ b. is_failed t.state && b) (sure_same o.request.ask t aimed)) o.request.targets.items its_request.shape.targets) ∙ some
+
+          why : (n : ℕ) (t : Target) → slice_get o.request.targets.items n ≡ Some t → is_sure after t.pp ≡ true → (is_sure core t.pp ≡ true) ⊎ ((is_failed t.state ≡ false) × (list_any (is_failed_and_sure core) o.request.targets.items ≡ false))
+          why n t there sure = by (w && is_pp t.pp c.pp) refl
+            where
+              by : (b : Bool) → (w && is_pp t.pp c.pp) ≡ b → (is_sure core t.pp ≡ true) ⊎ ((is_failed t.state ≡ false) × (list_any (is_failed_and_sure core) o.request.targets.items ≡ false))
+              by false e = inl (sym (ap (λ b. not (is_stale core t.pp) && not b) (like.stale t.pp ∙ ap (λ b. is_wanted_stale core t.pp && not b) e ∙ and_true (is_wanted_stale core t.pp))) ∙ sure)
+              by true e =
+                  let aimed = all_at (IsTarget core o.request.ask) o.request.targets.items n t its_request.shape.targets there in
+                  let caught_it = sym (caught_target k o o_there it waits write (past_status o.request.phase status) t aimed) ∙ caught_now t.pp e in
+                  inr (not_failed core o judged status over n t there caught_it, none_failed core o judged status over n t there caught_it)
 
       -- a copy that is left out still is: one that is to be cleared wasn't
       left_so : is_past_held o.request.phase ≡ true → (p : Pp) → is_among (copies_for core o.request.ask) p ≡ true → is_left_out core o.request.ask p ≡ true → is_left_out after o.request.ask p ≡ true
@@ -452,24 +555,18 @@ module _ (s : State) (sound : IsSound s) (on : s.core.power ≡ power.On) (c : O
           parts : (is_settled core p && is_wanted_stale core p ≡ true) × (not (is_caught core (group_in core o.request.ask) p) ≡ true)
           parts = both (is_settled core p && is_wanted_stale core p) (not (is_caught core (group_in core o.request.ask) p)) left_out
 
-          and_true : (a : Bool) → a && true ≡ a
-          and_true true = refl
-          and_true false = refl
-
-          caught_now : (w && is_pp p c.pp) ≡ true → is_caught after (group_in core o.request.ask) p ≡ true
-          caught_now e = let its_parts = both w (is_pp p c.pp) e in
-              all_and (is_running c && is_pp p c.pp) (nat_lt (group_in core o.request.ask) (c.cursor + 1)) (all_and (is_running c) (is_pp p c.pp) runs its_parts.1) (whole_passes (group_in core o.request.ask) (groups_of core) (c.cursor + 1) (group_low core o.request it.laid) its_parts.0)
-
           by : (b : Bool) → (w && is_pp p c.pp) ≡ b → is_left_out after o.request.ask p ≡ true
           by false e = ap (λ b. is_settled core p && b && not (is_caught after (group_in core o.request.ask) p)) (like.stale p ∙ ap (λ b. is_wanted_stale core p && not b) e ∙ and_true (is_wanted_stale core p))
               ∙ ap (λ b. is_settled core p && is_wanted_stale core p && not b) (caught_so past p among) ∙ left_out
-          by true e = not_so (sym (ap not (sym (caught_so past p among) ∙ caught_now e)) ∙ parts.1)
+          by true e = not_so (sym (ap not (sym (caught_so past p among) ∙ caught_now p e)) ∙ parts.1)
 
       judged_so : IsJudged after o
       judged_so = let j = its_request.judged write in record {
         uncaught = uncaught_so past_or_none;
         due = due_so;
+        missed = missed_so;
         all = λ begun p among. all_by past_or_none begun p among (j.all begun p among);
+        place = λ begun p among. place_by past_or_none begun p among;
       }
         where
           all_by : (is_past_held o.request.phase ≡ true) ⊎ (o.request.targets.items ≡ []) → is_begun o.request.targets.items ≡ true → (p : Pp) → is_among (copies_for core o.request.ask) p ≡ true
@@ -481,11 +578,18 @@ module _ (s : State) (sound : IsSound s) (on : s.core.power ≡ power.On) (c : O
               by true b d on_so g = refl
               by false b d on_so g = on_so g
 
+          place_by : (is_past_held o.request.phase ≡ true) ⊎ (o.request.targets.items ≡ []) → is_begun o.request.targets.items ≡ true → (p : Pp) → is_among (place_aims after o.request.ask) p ≡ true → is_among (pps_of o.request.targets.items) p ≡ true
+          place_by (inr none) begun p among = not_so (sym (ap is_begun none) ∙ begun)
+          place_by (inl past) begun p among =
+              let both_so = among_filtered (is_caught after (group_in core o.request.ask)) (places_for after o.request.ask) p among in
+              let there_so = ap (λ (ps : List Pp). is_among ps p) (places_same o.request.ask) ∙ both_so.0 in
+              (its_request.judged write).place begun p (among_filter (is_caught core (group_in core o.request.ask)) (places_for core o.request.ask) p (sym (caught_place k o o_there it waits write past p there_so) ∙ both_so.1) there_so)
+
     one : (k : ℕ) (o : Open) → slice_get core.requests k ≡ Some o → IsOpenOne core o → o.request.id < next_id core.history → IsOpenOne after o
     one k o o_there it low = record {
       laid = let l = it.laid in record { within = l.within; blocks = l.blocks; most = l.most; id = l.id };
       waits = λ waits. let r = it.waits waits in let b = r.ready in record {
-        shape = shape_still core after refl o r.shape;
+        shape = shape_still core after refl places_same o r.shape;
         ready = record {
           free = λ past. free_on o low (b.free past);
           recorded = b.recorded;
@@ -524,19 +628,44 @@ module _ (s : State) (sound : IsSound s) (on : s.core.power ≡ power.On) (c : O
     told : IsTold after
     told = let t = sound.told in record { ordered = t.ordered; table = t.table; each = t.each; requests = t.requests }
 
-    wanted_at : calls_stale wanted c.pp ≡ not w
-    wanted_at = like.stale c.pp ∙ ap (λ b. b && not (w && is_pp c.pp c.pp)) (its.stale runs short).1 ∙ ap (λ b. not (w && b)) (own_pp c.pp) ∙ by w
+    wanted_at : c.moves ≡ false → calls_stale wanted c.pp ≡ not w
+    wanted_at stays = like.stale c.pp ∙ ap (λ b. b && not (w && is_pp c.pp c.pp)) ((stale_of core c its stays).stale runs short).1 ∙ ap (λ b. not (w && b)) (own_pp c.pp) ∙ by w
       where
         by : (b : Bool) → not (b && true) ≡ not b
         by true = refl
         by false = refl
+
+    -- once all is copied its staleness isn't wanted
+    clear_at : w ≡ true → calls_stale wanted c.pp ≡ false
+    clear_at whole = like.stale c.pp ∙ ap (λ b. is_wanted_stale core c.pp && not (b && is_pp c.pp c.pp)) whole ∙ ap (λ b. is_wanted_stale core c.pp && not b) (own_pp c.pp) ∙ by (is_wanted_stale core c.pp)
+      where
+        by : (b : Bool) → b && false ≡ false
+        by true = refl
+        by false = refl
+
+    -- what it is stays
+    kind_next : (b : Bool) → c.moves ≡ b → IsOfKind b core c → IsOfKind b after next
+    kind_next false stays k = record { its = k.its; stale = λ goes part. (settled stays, wanted_at stays ∙ ap not part); clearing = λ goes whole. (stale_so stays, wanted_at stays ∙ ap not whole) }
+    kind_next true moves k = record {
+      from = k.from;
+      its = k.its;
+      free = k.free;
+      member = k.member;
+      member_is = k.member_is;
+      inside = k.inside;
+      apart = k.apart;
+      there = k.there;
+      called = k.called;
+      clear = λ goes whole. clear_at whole;
+      fresh = any_among (stays_fresh after) (stays_fresh core) (copies_in core.descriptor c.lv c.lp) (stays_same c.lv c.lp) ∙ k.fresh;
+    }
 
     bring : IsCopy after next
     bring = record {
       row = its.row;
       volume = its.volume;
       lp = its.lp;
-      its = its.its;
+      kind = kind_next c.moves refl its.kind;
       cursor = let low = low_cursor in omega (arith, low);
       faults = its.faults;
       place = before (next_id core.history) (omega arith);
@@ -546,8 +675,6 @@ module _ (s : State) (sound : IsSound s) (on : s.core.power ≡ power.On) (c : O
       tried = λ disk e. not_so (sym (nothing disk) ∙ e);
       source = tt;
       under_way = λ goes e. not_so (sym e);
-      stale = λ goes part. (settled, wanted_at ∙ ap not part);
-      clearing = λ goes whole. (stale_so, wanted_at ∙ ap not whole);
     }
       where
         before : (n : ℕ) → 1 ≤ n → (id : ℕ) × (id < n) × (2 * n - 1 ≡ place_of id + 1)
@@ -571,9 +698,14 @@ module _ (s : State) (sound : IsSound s) (on : s.core.power ≡ power.On) (c : O
     sources_same : sources_of after next ≡ sources_of core c
     sources_same = filter_alike (λ (p : Pp). not (is_pp p c.pp) && is_usable after p) (λ (p : Pp). not (is_pp p c.pp) && is_usable core p) (λ p. ap (λ b. not (is_pp p c.pp) && b) (usable_same p)) (copies_in core.descriptor c.lv c.lp)
 
+    -- one that is brought up is stale still
+    uncleared : (b : Bool) → c.moves ≡ b → not b && is_clear after c.pp ≡ false
+    uncleared true moves = refl
+    uncleared false stays = ap (λ b. not b && not (calls_stale (unwrap_or core.status.in_flight core.status.committed) c.pp) && not (calls_stale wanted c.pp)) (stale_so stays)
+
     reviewed : copy_ends after ≡ None
     reviewed = goes_on (is_running c) (is_missing after c.pp.disk) w (is_cleared after next) (length (sources_of after next) == 0) (is_none (next_source after next))
-        (missing_same c.pp.disk ∙ here) (ap (λ b. not b && not (calls_stale (unwrap_or core.status.in_flight core.status.committed) c.pp) && not (calls_stale wanted c.pp)) stale_so)
+        (missing_same c.pp.disk ∙ here) (uncleared c.moves refl)
         (ap (λ (ps : List Pp). length ps == 0) sources_same ∙ some_source)
         (ap (λ (ps : List Pp). is_none (find (λ (p : Pp). not (has tried p.disk)) ps)) sources_same ∙ one_found (λ (p : Pp). not (has tried p.disk)) (λ (p : Pp). not (is_pp p c.pp) && is_usable core p) (copies_in core.descriptor c.lv c.lp) (λ p. ap not (nothing p.disk)) some_source)
       where
@@ -589,29 +721,20 @@ module _ (s : State) (sound : IsSound s) (on : s.core.power ≡ power.On) (c : O
 
     -- ---- what missing disks entail, and what is fresh
 
-    behind_same : (copies : List Pp) (p : Pp) → is_left_behind after copies p ≡ is_left_behind core copies p
-    behind_same copies p =
-        ap (λ b. is_among copies p && not (is_stale core p) && b && list_any (can_replace after) copies) (missing_same p.disk)
-        ∙ ap (λ b. is_among copies p && not (is_stale core p) && is_missing core p.disk && b) (any_alike (can_replace after) (can_replace core) replace_same copies)
-
-    entailed_same : (p : Pp) → is_entailed after p ≡ is_entailed core p
-    entailed_same p = any_alike (λ (r : LvRow). is_entailed_in after r p) (λ (r : LvRow). is_entailed_in core r p)
-        (λ r. any_alike (λ (lp : ℕ). is_left_behind after (copies_of r lp) p) (λ (lp : ℕ). is_left_behind core (copies_of r lp) p) (λ lp. behind_same (copies_of r lp) p) (range_with_len 0 r.lps)) core.descriptor.lvs
-
-    entailed_fresh : (p : Pp) → is_entailed core p ≡ true → is_stale core p ≡ false
-    entailed_fresh p e =
-        let volume = found_at (λ (r : LvRow). is_entailed_in core r p) core.descriptor.lvs e in
-        let part = found_at (λ (lp : ℕ). is_left_behind core (copies_of volume.1 lp) p) (range_with_len 0 volume.1.lps) volume.3 in
-        let one_so = both (is_among (copies_of volume.1 part.1) p && not (is_stale core p) && is_missing core p.disk) (list_any (can_replace core) (copies_of volume.1 part.1)) part.3 in
-        let two_so = both (is_among (copies_of volume.1 part.1) p && not (is_stale core p)) (is_missing core p.disk) one_so.0 in
-        is_false (is_stale core p) (both (is_among (copies_of volume.1 part.1) p) (not (is_stale core p)) two_so.0).1
+    entailed_before : (p : Pp) → is_entailed after p ≡ true → is_entailed core p ≡ true
+    entailed_before p e = entailed_on after core p sound.fitting.valid refl (λ i. i) (λ gone. sym (missing_same p.disk) ∙ gone) (λ q copy can. sym (replace_same copy.lv copy.lp q copy.among) ∙ can) e
 
     behind : (p : Pp) → is_entailed after p ≡ true → is_wanted_stale after p ≡ true
-    behind p e = let was = sym (entailed_same p) ∙ e in
-        same_where p (λ a b. a ≡ true → b ≡ true) (λ b g. g) (λ stale a b g. not_so (sym (entailed_fresh p was) ∙ stale)) (going.behind p was)
+    behind p e = same_where left.row.number left.lp p (ap (λ (ps : List Pp). is_among ps p) of_row ∙ left.among) (λ a b. a ≡ true → b ≡ true) (λ b g. g) (λ stale a b g. not_so (sym left.fresh ∙ stale)) (going.behind p (entailed_before p e))
+      where
+        left : IsLeft core p
+        left = left_behind core p (entailed_before p e)
+
+        of_row : copies_in core.descriptor left.row.number left.lp ≡ copies_of left.row left.lp
+        of_row = ap (λ (m : Option LvRow). option_map_or (λ (row : LvRow). copies_of row left.lp) m []) (row_found core.descriptor.lvs left.place left.row sound.fitting.valid.volumes.numbers_rise left.there)
 
     fresh : (lv lp : ℕ) → list_any (may_be_fresh after) (copies_in core.descriptor lv lp) ≡ true → list_any (stays_fresh after) (copies_in core.descriptor lv lp) ≡ true
-    fresh lv lp may = any_alike (stays_fresh after) (stays_fresh core) stays_same (copies_in core.descriptor lv lp) ∙ going.fresh lv lp (by (found_at (may_be_fresh after) (copies_in core.descriptor lv lp) may))
+    fresh lv lp may = any_among (stays_fresh after) (stays_fresh core) (copies_in core.descriptor lv lp) (stays_same lv lp) ∙ going.fresh lv lp (by (found_at (may_be_fresh after) (copies_in core.descriptor lv lp) may))
       where
         may_source : (p : Pp) → not (is_pp p c.pp) && is_usable core p ≡ true → may_be_fresh core p ≡ true
         may_source p e =
@@ -619,9 +742,9 @@ module _ (s : State) (sound : IsSound s) (on : s.core.power ≡ power.On) (c : O
             let fresh_so = is_false (is_stale core p) (both (not (is_stale core p)) (not (is_missing core p.disk)) usable).0 in
             ap (λ b. was_fresh core p || not ((b && calls_stale (unwrap_or core.status.in_flight core.status.committed) p) && is_wanted_stale core p)) fresh_so ∙ or_true (was_fresh core p)
 
-        by_source : is_among (copies_in core.descriptor lv lp) c.pp ≡ true → list_any (may_be_fresh core) (copies_in core.descriptor lv lp) ≡ true
-        by_source among =
-            let same = one_lp core.descriptor sound.fitting.valid lv lp c.lv c.lp c.pp among (among_get (copies_in core.descriptor c.lv c.lp) (c.copy - 1) c.pp (by_place (copies_in core.descriptor c.lv c.lp) c.copy c.pp its.its)) in
+        by_source : c.moves ≡ false → is_among (copies_in core.descriptor lv lp) c.pp ≡ true → list_any (may_be_fresh core) (copies_in core.descriptor lv lp) ≡ true
+        by_source stays among =
+            let same = one_lp core.descriptor sound.fitting.valid lv lp c.lv c.lp c.pp among (its_among stays) in
             ap (λ n. list_any (may_be_fresh core) (copies_in core.descriptor n lp)) same.0 ∙ ap (λ n. list_any (may_be_fresh core) (copies_in core.descriptor c.lv n)) same.1
             ∙ any_on (λ (p : Pp). not (is_pp p c.pp) && is_usable core p) (may_be_fresh core) may_source (copies_in core.descriptor c.lv c.lp) (some_kept (λ (p : Pp). not (is_pp p c.pp) && is_usable core p) (copies_in core.descriptor c.lv c.lp) some_source)
 
@@ -629,13 +752,13 @@ module _ (s : State) (sound : IsSound s) (on : s.core.power ≡ power.On) (c : O
         by found = of (w && is_pp found.1 c.pp) refl
           where
             of : (b : Bool) → (w && is_pp found.1 c.pp) ≡ b → list_any (may_be_fresh core) (copies_in core.descriptor lv lp) ≡ true
-            of true e = by_source (ap (is_among (copies_in core.descriptor lv lp)) (sym (pp_same found.1 c.pp (both w (is_pp found.1 c.pp) e).1)) ∙ among_get (copies_in core.descriptor lv lp) found.0 found.1 found.2)
+            of true e = of_kind c.moves refl (both w (is_pp found.1 c.pp) e).1
+              where
+                of_kind : (b : Bool) → c.moves ≡ b → is_pp found.1 c.pp ≡ true → list_any (may_be_fresh core) (copies_in core.descriptor lv lp) ≡ true
+                of_kind false stays same = by_source stays (ap (is_among (copies_in core.descriptor lv lp)) (sym (pp_same found.1 c.pp same)) ∙ among_get (copies_in core.descriptor lv lp) found.0 found.1 found.2)
+                of_kind true moves same = not_so (sym (apart moves lv lp found.1 (among_get (copies_in core.descriptor lv lp) found.0 found.1 found.2)) ∙ same)
             of false e = any_passes_from_place (may_be_fresh core) (copies_in core.descriptor lv lp) found.0 found.1 found.2
                 (sym (ap (λ b. was_fresh core found.1 || not (is_settled core found.1 && b)) (like.stale found.1 ∙ ap (λ b. is_wanted_stale core found.1 && not b) e ∙ and_true (is_wanted_stale core found.1))) ∙ found.3)
-              where
-                and_true : (a : Bool) → a && true ≡ a
-                and_true true = refl
-                and_true false = refl
 
     clearings : (p : Pp) → is_held_stale core p ≡ true → calls_stale wanted p ≡ false → is_clearing after p ≡ true
     clearings p held clear = by (is_wanted_stale core p) refl
@@ -667,11 +790,11 @@ module _ (s : State) (sound : IsSound s) (on : s.core.power ≡ power.On) (c : O
         at_most true = omega arith
         at_most false = omega arith
 
-        before : option_map_or (copy_updates core) core.copy 0 ≡ 2
-        before = of_copy (copy_updates core) 0 ∙ ap (λ b. if not b then 0 else if is_whole core c then 1 else 2) runs ∙ ap (λ b. if b then 1 else 2) short
+        before : option_map_or (copy_updates core) core.copy 0 ≡ 2 + if_so c.moves 1
+        before = of_copy (copy_updates core) 0 ∙ ap (λ b. if not b then 0 else (if is_whole core c then 1 else 2) + if_so c.moves 1) runs ∙ ap (λ b. (if b then 1 else 2) + if_so c.moves 1) short
 
-        updates_now : (b : Bool) → w ≡ b → copy_updates after next ≡ (if b then 1 else 2)
-        updates_now b e = ap (λ x. if not x then 0 else if w then 1 else 2) runs ∙ ap (λ x. if x then 1 else 2) e
+        updates_now : (b : Bool) → w ≡ b → copy_updates after next ≡ (if b then 1 else 2) + if_so c.moves 1
+        updates_now b e = ap (λ x. if not x then 0 else (if w then 1 else 2) + if_so c.moves 1) runs ∙ ap (λ x. (if x then 1 else 2) + if_so c.moves 1) e
 
         paid : (b : Bool) → w ≡ b → if_so (not (same_status wanted (unwrap_or core.status.in_flight core.status.committed))) 1 + copy_updates after next
             ≤ if_so (not (same_status core.status.wanted (unwrap_or core.status.in_flight core.status.committed))) 1 + option_map_or (copy_updates core) core.copy 0
@@ -723,40 +846,45 @@ module _ (s : State) (sound : IsSound s) (on : s.core.power ≡ power.On) (c : O
       numbers = numbers;
     }
 
-    blamed_same : (p : Pp) → is_blamed after p ≡ is_blamed core p
-    blamed_same p = ap (λ b. b || is_wanted_stale after p || is_held_stale core p || list_any (fails_on p) core.requests) (missing_same p.disk)
-        ∙ same_where p (λ a b. (is_missing core p.disk || b || is_held_stale core p || list_any (fails_on p) core.requests) ≡ (is_missing core p.disk || a || is_held_stale core p || list_any (fails_on p) core.requests)) (λ b. refl)
-        (λ stale a b. of (is_missing core p.disk) a b (is_held_stale core p) (list_any (fails_on p) core.requests) (ap (λ x. x || calls_stale (unwrap_or core.status.in_flight core.status.committed) p) stale))
+    blamed_before : (p : Pp) → is_blamed after p ≡ true → is_blamed core p ≡ true
+    blamed_before p e = of (is_missing core p.disk) (is_wanted_stale after p) (is_wanted_stale core p) (is_held_stale core p) (list_any (fails_on p) core.requests) (wanted_before p)
+        (sym (ap (λ b. b || is_wanted_stale after p || is_held_stale core p || list_any (fails_on p) core.requests) (missing_same p.disk)) ∙ e)
       where
-        of : (m a b h x : Bool) → h ≡ true → (m || b || h || x) ≡ (m || a || h || x)
-        of true a b h x e = refl
-        of false true true h x e = refl
-        of false false false h x e = refl
-        of false true false true x e = refl
-        of false false true true x e = refl
-        of false true false false x e = not_so e
-        of false false true false x e = not_so e
+        of : (m b a h x : Bool) → (b ≡ true → a ≡ true) → m || b || h || x ≡ true → m || a || h || x ≡ true
+        of true b a h x on_so e = refl
+        of false true a h x on_so e = ap (λ y. y || h || x) (on_so refl)
+        of false false true h x on_so e = refl
+        of false false false h x on_so e = e
+
+    caused_before : (t : Target) → is_failed t.state || (t.usable && is_blamed after t.pp) ≡ true → is_failed t.state || (t.usable && is_blamed core t.pp) ≡ true
+    caused_before t e = of (is_failed t.state) t.usable (is_blamed after t.pp) (is_blamed core t.pp) (blamed_before t.pp) e
+      where
+        of : (f u x y : Bool) → (x ≡ true → y ≡ true) → f || (u && x) ≡ true → f || (u && y) ≡ true
+        of true u x y on_so e = refl
+        of false true x y on_so e = on_so e
+        of false false x y on_so e = e
 
     keeps_on : IsOn now
     keeps_on = let was = sound.on on in record {
       going = keeps_going;
       rows = rows_but_copy core after refl (λ who. same_owner row.owner who ≡ false) (λ other. not_so (sym other ∙ ap (λ who. same_owner who owner.Copy) own)) (remove core.flying at) (remove s.device.flights at) (others_of core going.owned at row there)
           (rows_left core core.flying s.device.flights at was.rows);
-      caused = all_weaker (AreCaused s.device core) (AreCaused device after) (λ x all waiting. all_weaker (IsCaused s.device core) (IsCaused device after) (λ t why e. why (sym (ap (λ b. is_failed t.state || (t.usable && b)) (blamed_same t.pp)) ∙ e)) x.request.targets.items (all waiting)) core.requests was.caused;
+      caused = all_weaker (AreCaused s.device core) (AreCaused device after) (λ x all waiting. all_weaker (IsCaused s.device core) (IsCaused device after) (λ t why e. why (caused_before t e)) x.request.targets.items (all waiting)) core.requests was.caused;
       chosen = all_weaker (IsChosenSince core c) (IsChosenSince after next) (λ x all. all) core.requests (subst (λ m. IfSome m (λ (k : OpenCopy). AllByRecursion (IsChosenSince core k) core.requests)) is was.chosen);
     }
 
     copy_caused : IsCausedAmong now (copies_in core.descriptor c.lv c.lp) next
     copy_caused = let was = subst (λ m. IfSome m (λ (k : OpenCopy). IsCausedAmong s (copies_in core.descriptor k.lv k.lp) k)) is sound.copy in
-        record { began = was.began; since = was.since; tried = λ n p n_at e. not_so (sym (nothing p.disk) ∙ e); failed = λ e. not_so (sym (ap is_none e) ∙ runs) }
+        record { began = was.began; since = was.since; tried = λ n p n_at e. not_so (sym (nothing p.disk) ∙ e); own_began = was.own_began; own_since = was.own_since; failed = λ e. not_so (sym (ap is_none e) ∙ runs) }
 
     origin : IsTrueToOrigin now
     origin = let was = sound.origin in record {
       since = was.since;
       votes = was.votes;
+      rows = was.rows;
       still_missing = λ d e. missing_same d ∙ was.still_missing d e;
       missing = λ d e. was.missing d (sym (missing_same d) ∙ e);
-      stale = λ p e. at_missing p (was.stale p (sym (held_or_wanted p) ∙ e));
+      stale = λ p e. at_missing p (was.stale p (held_or_wanted p e));
     }
       where
         at_missing : (p : Pp) {a b : Type 0} → a ⊎ (is_missing core p.disk ≡ true) ⊎ b → a ⊎ (is_missing after p.disk ≡ true) ⊎ b

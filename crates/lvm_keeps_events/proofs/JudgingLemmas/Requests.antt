@@ -1,5 +1,5 @@
 -- What the requests of a session are judged by after the end of a write and its review.
-use Rattle.std.proofs.Common.{◌≡◌, ◌⊎◌, inl, inr, ◌==◌, ◌≤◌, ◌<◌, ◌%◌, ℕ, Bool, true, false, ◌&&◌, ◌||◌, not, nat_lt, nat_le, if◌then◌else◌, List, [], ◌∷◌, Some, length, slice_get, refl, sym, ◌∙◌, ap, arith}
+use Rattle.std.proofs.Common.{◌≡◌, ◌⊎◌, inl, inr, ◌==◌, ◌≤◌, ◌<◌, ◌%◌, ℕ, Bool, true, false, ◌&&◌, ◌||◌, not, nat_lt, nat_le, if◌then◌else◌, List, [], ◌∷◌, Some, length, slice_get, refl, sym, ◌∙◌, ap, subst, arith}
 use Rattle.std.specs.Prelude.{count_by}
 use Rattle.std.specs.List.{list_any, AllByRecursion}
 use Rattle.std.specs.Option.{option_map_or}
@@ -15,33 +15,36 @@ use Rattle.lvm_num.specs.Geometry.{partition_blocks}
 use Rattle.lvm_num.specs.Status.{calls_dirty}
 use Rattle.lvm_num.specs.Descriptor.{is_pp}
 use Rattle.lvm_num.proofs.Booleans.{not_so}
-use Rattle.lvm_num.proofs.Lists.{all_weaker}
+use Rattle.lvm_num.proofs.Lists.{all_at, all_weaker}
 use Rattle.lvm_hold.specs.declared.queue.Held.{Held}
 use Rattle.lvm_hold.specs.Waiting.{is_blocked}
 use Rattle.lvm_mwc.specs.Cache.{is_named}
 use Rattle.lvm_mwc.specs.Entries.{pins_of}
 use Rattle.lvm_path.specs.declared.ask.Ask.{Ask}
+use Rattle.lvm_path.specs.declared.request.Phase.{Phase}
 use Rattle.lvm_path.specs.declared.request.Request.{Request}
 use Rattle.lvm_path.specs.declared.target.Target.{Target}
 use Rattle.lvm_path.specs.Asks.{at_of, lv_of}
-use Rattle.lvm_path.specs.Targets.{is_done, is_failed}
+use Rattle.lvm_path.specs.Targets.{are_over, is_done, is_failed}
 use Rattle.lvm_session.specs.declared.bringing.OpenCopy.{OpenCopy}
 use Rattle.lvm_session.specs.declared.open.Open.{Open}
 use Rattle.lvm_session.specs.State.{Core}
-use Rattle.lvm_session.specs.Judging.{group_in, group_of, has_dirty_mark, has_names, held_of, is_caught, is_kept, is_running, is_settled, is_sure, is_wanted_stale, place_of, pps_of}
+use Rattle.lvm_session.specs.Judging.{group_in, group_of, has_dirty_mark, has_names, held_of, is_caught, is_kept, is_running, is_settled, is_sure, is_wanted_stale, place_of, pps_of, is_sure_at, places_for}
 use Rattle.lvm_session.specs.Bringing.{groups_of}
 use Rattle.lvm_session.specs.Marks.{is_among}
-use Rattle.lvm_session.specs.Requests.{IsJudged, IsLaid, IsOpenOne, IsReady, IsRecorded, IsShaped, has_record, is_failed_and_sure, is_wanted_dirty, may_lack, mode_for, will_be_kept}
+use Rattle.lvm_session.specs.Requests.{IsJudged, IsLaid, IsMarkedPlace, IsOpenOne, IsPhase, IsReady, IsRecorded, IsShaped, has_record, is_failed_and_sure, is_wanted_dirty, may_lack, mode_for, wants_status, will_be_kept}
 use Rattle.lvm_session.specs.Sound.{pins}
 use Rattle.lvm_keeps.proofs.KeepsLemmas.NoteStart.{each_counted}
 use Rattle.lvm_keeps.proofs.Small.{and_on, both, is_false}
-use Rattle.lvm_keeps.proofs.RequestsLemmas.{shape_still}
+use Rattle.lvm_keeps.proofs.RequestsLemmas.{shape_still, SamePlaces}
 use Rattle.lvm_keeps_events.proofs.EndsLemmas.NoteEnd.{all_true, pinned_by}
 use Rattle.lvm_keeps_events.proofs.Finding.{any_on, count_with, found}
 use Rattle.lvm_keeps_events.proofs.CallsLemmas.{in_flight_of}
 use Rattle.lvm_keeps_events.proofs.JudgingLemmas.Review.{Clears, WriteEnd, Reviewed, and_of, flies_is, mid, now, of_now, or_right, settled_on, sure_by, wanted_on}
 use Rattle.lvm_keeps_events.proofs.Groups.{some_blocks, groups_below}
 use Rattle.lvm_keeps_events.proofs.JudgingLemmas.DuesMarks.{own_pp}
+use Rattle.lvm_keeps_events.proofs.MissedLemmas.{ends_phase, missed_on, none_failed, not_failed}
+use Rattle.lvm_session.proofs.MovesLemmas.{among_filter, among_filtered}
 
 -- ---- tests
 
@@ -96,7 +99,7 @@ abbrev pub NamesStay : WriteEnd → Type 0
 NamesStay e = (disk lv group : ℕ) → 1 ≤ pins_of e.core.cache.entries lv group → is_named e.core.cache disk lv group ≡ true → is_named (mid e).cache disk lv group ≡ true
 
 module _ (e : WriteEnd) (r : Reviewed e) (names : NamesStay e) (caught : (group : ℕ) (p : Pp) → is_caught e.core group p ≡ false → is_caught (now e r) group p ≡ false)
-    (blocked : (place : ℕ) (ask : Held) → is_blocked e.core.queue.rows place ask ≡ false → is_blocked r.queue.rows place ask ≡ false) where
+    (blocked : (place : ℕ) (ask : Held) → is_blocked e.core.queue.rows place ask ≡ false → is_blocked r.queue.rows place ask ≡ false) (places : SamePlaces e.core (now e r)) where
   abbrev core : Core
   core = e.core
 
@@ -144,13 +147,16 @@ module _ (e : WriteEnd) (r : Reviewed e) (names : NamesStay e) (caught : (group 
     Uncaught t = may_lack x t && is_caught core group t.pp ≡ false
 
     failed_by : (t : Target) → Uncaught t → is_failed_and_sure after t ≡ true → is_failed_and_sure core t ≡ true
-    failed_by t uncaught is = by (sure_by e r t.pp parts.1)
+    failed_by t uncaught is = by (sure_by e r t.pp more.1)
       where
-        parts : (is_failed t.state ≡ true) × (is_sure after t.pp ≡ true)
-        parts = both (is_failed t.state) (is_sure after t.pp) is
+        parts : (is_failed t.state ≡ true) × (is_sure_at after t ≡ true)
+        parts = both (is_failed t.state) (is_sure_at after t) is
+
+        more : (not t.moves ≡ true) × (is_sure after t.pp ≡ true)
+        more = both (not t.moves) (is_sure after t.pp) parts.1
 
         by : (is_sure core t.pp ≡ true) ⊎ Clears core t.pp → is_failed_and_sure core t ≡ true
-        by (inl sure) = and_of (is_failed t.state) (is_sure core t.pp) parts.0 sure
+        by (inl sure) = and_of (is_failed t.state) (is_sure_at core t) parts.0 (and_of (not t.moves) (is_sure core t.pp) more.0 sure)
         by (inr c) = not_so (sym uncaught ∙ ap (λ b. (b || x.older) && is_caught core group t.pp) parts.0 ∙ whole_caught core x.request laid t.pp c)
 
     kept_by : is_kept after x.request || will_be_kept after x.request ≡ true → is_kept core x.request || will_be_kept core x.request ≡ true
@@ -159,31 +165,54 @@ module _ (e : WriteEnd) (r : Reviewed e) (names : NamesStay e) (caught : (group 
         carried : (t : Target) → is_done t.state && is_caught after group t.pp ≡ true → is_done t.state && is_caught core group t.pp ≡ true
         carried t e2 = let parts = both (is_done t.state) (is_caught after group t.pp) e2 in and_of (is_done t.state) (is_caught core group t.pp) parts.0 (turned (is_caught core group t.pp) (is_caught after group t.pp) (caught group t.pp) parts.1)
 
-        by_sure : (t : Target) (i : ℕ) → slice_get x.request.targets.items i ≡ Some t → is_done t.state ≡ true → (is_sure core t.pp ≡ true) ⊎ Clears core t.pp → is_kept core x.request || will_be_kept core x.request ≡ true
-        by_sure t i at done (inl sure) = ap (λ b. b || will_be_kept core x.request) (any_passes_from_place (λ (u : Target). is_done u.state && is_sure core u.pp) x.request.targets.items i t at (and_of (is_done t.state) (is_sure core t.pp) done sure))
-        by_sure t i at done (inr c) = or_right (is_kept core x.request) (will_be_kept core x.request) (any_passes_from_place (λ (u : Target). is_done u.state && is_caught core group u.pp) x.request.targets.items i t at
+        by_sure : (t : Target) (i : ℕ) → slice_get x.request.targets.items i ≡ Some t → is_done t.state ≡ true → not t.moves ≡ true → (is_sure core t.pp ≡ true) ⊎ Clears core t.pp → is_kept core x.request || will_be_kept core x.request ≡ true
+        by_sure t i at done stays (inl sure) =
+            ap (λ b. b || will_be_kept core x.request) (any_passes_from_place (λ (u : Target). is_done u.state && is_sure_at core u) x.request.targets.items i t at (and_of (is_done t.state) (is_sure_at core t) done (and_of (not t.moves) (is_sure core t.pp) stays sure)))
+        by_sure t i at done stays (inr c) = or_right (is_kept core x.request) (will_be_kept core x.request) (any_passes_from_place (λ (u : Target). is_done u.state && is_caught core group u.pp) x.request.targets.items i t at
             (and_of (is_done t.state) (is_caught core group t.pp) done (whole_caught core x.request laid t.pp c)))
 
         by : (b : Bool) → is_kept after x.request ≡ b → b || will_be_kept after x.request ≡ true → is_kept core x.request || will_be_kept core x.request ≡ true
         by true kept_so e2 =
-            let one = found (λ (t : Target). is_done t.state && is_sure after t.pp) x.request.targets.items kept_so in
-            let parts = both (is_done one.0.state) (is_sure after one.0.pp) one.3 in
-            by_sure one.0 one.1 one.2 parts.0 (sure_by e r one.0.pp parts.1)
+            let one = found (λ (t : Target). is_done t.state && is_sure_at after t) x.request.targets.items kept_so in
+            let parts = both (is_done one.0.state) (is_sure_at after one.0) one.3 in
+            let more = both (not one.0.moves) (is_sure after one.0.pp) parts.1 in
+            by_sure one.0 one.1 one.2 parts.0 more.0 (sure_by e r one.0.pp more.1)
         by false none e2 = or_right (is_kept core x.request) (will_be_kept core x.request) (any_on (λ (t : Target). is_done t.state && is_caught after group t.pp) (λ (t : Target). is_done t.state && is_caught core group t.pp) carried x.request.targets.items e2)
 
-    judged_on : IsJudged core x → IsJudged after x
-    judged_on j = record {
+    -- nothing more is missed, and of a copy that is to be cleared nothing is
+    missed_so : IsShaped core x → IsJudged core x → wants_status x.request.phase ≡ true → AllByRecursion (IsMarkedPlace after x.request) x.request.targets.items
+    missed_so shape j status = missed_on core after x.request fewer (λ k t there sure. why k t there (sure_by e r t.pp sure)) (j.missed status)
+      where
+        over : are_over x.request.targets.items ≡ true
+        over = (subst (λ (p : Phase). IsPhase p x) (ends_phase x.request.phase status) shape.phase_is).1
+
+        fewer : list_any (is_failed_and_sure after) x.request.targets.items ≡ true → list_any (is_failed_and_sure core) x.request.targets.items ≡ true
+        fewer some =
+            let one = found (is_failed_and_sure after) x.request.targets.items some in
+            any_passes_from_place (is_failed_and_sure core) x.request.targets.items one.1 one.0 one.2 (failed_by one.0 (all_at Uncaught x.request.targets.items one.1 one.0 j.uncaught one.2) one.3)
+
+        why : (k : ℕ) (t : Target) → slice_get x.request.targets.items k ≡ Some t → (is_sure core t.pp ≡ true) ⊎ Clears core t.pp
+            → (is_sure core t.pp ≡ true) ⊎ ((is_failed t.state ≡ false) × (list_any (is_failed_and_sure core) x.request.targets.items ≡ false))
+        why k t there (inl sure) = inl sure
+        why k t there (inr c) = let caught_it = whole_caught core x.request laid t.pp c in inr (not_failed core x j status over k t there caught_it, none_failed core x j status over k t there caught_it)
+
+    judged_on : IsShaped core x → IsJudged core x → IsJudged after x
+    judged_on shape j = record {
       uncaught = all_weaker Uncaught (λ (t : Target). may_lack x t && is_caught after group t.pp ≡ false) (λ t is. and_on (may_lack x t) (is_caught core group t.pp) (is_caught after group t.pp) (caught group t.pp) is) x.request.targets.items j.uncaught;
       due = λ status. fewer_due (count_by (is_failed_and_sure core) x.request.targets.items) (count_by (is_failed_and_sure after) x.request.targets.items) (is_kept core x.request || will_be_kept core x.request) (is_kept after x.request || will_be_kept after x.request)
           (count_with Uncaught (is_failed_and_sure core) (is_failed_and_sure after) failed_by x.request.targets.items j.uncaught) kept_by (j.due status);
+      missed = missed_so shape j;
       all = λ begun p among. out_still (is_among (pps_of x.request.targets.items) p) (is_settled core p) (is_wanted_stale core p) (is_caught core group p) (is_settled after p) (is_wanted_stale after p) (is_caught after group p)
           (settled_on e r p) (wanted_on e r p) (caught group p) (j.all begun p among);
+      place = λ begun p among.
+          let its = among_filtered (is_caught after group) (places_for after x.request.ask) p among in
+          j.place begun p (among_filter (is_caught core group) (places_for core x.request.ask) p (turned (is_caught core group p) (is_caught after group p) (caught group p) its.1) (ap (λ (ps : List Pp). is_among ps p) (places x.request.ask) ∙ its.0));
     }
 
   -- ---- all of it
 
   shape_on : (x : Open) → IsShaped core x → IsShaped after x
-  shape_on x a = shape_still core after refl x a
+  shape_on x a = shape_still core after refl places x a
 
   ready_on : (x : Open) → IsKept x → IsReady core x.request → IsReady after x.request
   ready_on x keep b = record {
@@ -197,7 +226,7 @@ module _ (e : WriteEnd) (r : Reviewed e) (names : NamesStay e) (caught : (group 
   one_on : (x : Open) → IsKept x → IsOpenOne core x → IsOpenOne after x
   one_on x keep it = record {
     laid = let l = it.laid in record { within = l.within; blocks = l.blocks; most = l.most; id = l.id };
-    waits = λ w. let a = it.waits w in record { shape = shape_on x a.shape; ready = ready_on x keep a.ready; judged = λ write. judged_on x it.laid (a.judged write) };
+    waits = λ w. let a = it.waits w in record { shape = shape_on x a.shape; ready = ready_on x keep a.ready; judged = λ write. judged_on x it.laid a.shape (a.judged write) };
     over = it.over;
     still = it.still;
   }

@@ -8,7 +8,7 @@ use Rattle.std.proofs.lemmas.Bool.{or_left}
 use Rattle.lvm_num.specs.declared.descriptor.LvRow.{LvRow}
 use Rattle.lvm_num.specs.declared.place.Pp.{Pp}
 use Rattle.lvm_num.specs.declared.status.Status.{Status}
-use Rattle.lvm_num.specs.Descriptor.{copies_of, is_pp}
+use Rattle.lvm_num.specs.Descriptor.{copies_of, is_pp, IsValid}
 use Rattle.lvm_num.specs.Status.{calls_missing, calls_stale}
 use Rattle.lvm_num.proofs.Booleans.{not_so}
 use Rattle.lvm_hold.specs.Waiting.{Waiting}
@@ -20,11 +20,13 @@ use Rattle.lvm_session.specs.declared.bringing.CopyEnd.TheVariants as ending
 use Rattle.lvm_session.specs.declared.bringing.OpenCopy.{OpenCopy}
 use Rattle.lvm_session.specs.declared.flown.Flown.{Flown}
 use Rattle.lvm_session.specs.State.{Core}
-use Rattle.lvm_session.specs.Judging.{copies_in, is_missing, is_running, is_settled, is_stale, is_sure, is_usable, is_wanted_stale}
-use Rattle.lvm_session.specs.Bringing.{copy_ends, end_by_sources, end_of, ends_if, is_cleared, is_done_end, is_whole, marked_by_end}
+use Rattle.lvm_session.specs.Judging.{copies_in, is_missing, is_running, is_settled, is_stale, is_sure, is_usable, is_wanted_stale, is_clear}
+use Rattle.lvm_session.specs.Bringing.{copy_ends, end_by_sources, end_of, ends_if, is_cleared, is_done_end, is_whole, marked_by_end, is_called_stale}
 use Rattle.lvm_session.specs.Marks.{WantsStale, can_replace, is_among, is_entailed, is_entailed_in, is_left_behind}
 use Rattle.lvm_session.specs.Causes.{is_held_stale, was_fresh}
-use Rattle.lvm_session.specs.Sound.{IsCopy, IsGoing, is_clearing, may_be_fresh, stays_fresh}
+use Rattle.lvm_session.specs.Sound.{IsCopy, IsGoing, IsMove, is_clearing, may_be_fresh, stays_fresh}
+use Rattle.lvm_session.proofs.MovesLemmas.{move_of, stale_of}
+use Rattle.lvm_keeps.proofs.CacheLemmas.{no_copy}
 use Rattle.lvm_keeps.proofs.KeepsLemmas.Landing.{or_parts}
 use Rattle.lvm_keeps.proofs.Small.{both, is_false}
 use Rattle.lvm_keeps_events.proofs.EndsLemmas.CopyReadFail.{is_here, pp_is}
@@ -148,21 +150,38 @@ left_behind core p is =
     let c = both (is_among (copies_of row.0 lp.0) p) (not (is_stale core p)) b.0 in
     record { row = row.0; place = row.1; there = row.2; lp = lp.0; among = c.0; fresh = is_false (is_stale core p) c.1; gone = b.1; other = a.1 }
 
+-- it is a copy of some logical partition
+pub record IsCopyIn (core : Core) (p : Pp) : Type 0 where
+  pub lv : ℕ
+  pub lp : ℕ
+  pub among : is_among (copies_in core.descriptor lv lp) p ≡ true
+
 -- so it is in another session of the same volumes
-pub entailed_on : (one two : Core) (p : Pp) → one.descriptor ≡ two.descriptor → (is_stale one p ≡ false → is_stale two p ≡ false) → (is_missing one p.disk ≡ true → is_missing two p.disk ≡ true)
-    → ((q : Pp) → can_replace one q ≡ true → can_replace two q ≡ true) → is_entailed one p ≡ true → is_entailed two p ≡ true
-entailed_on one two p same fresh gone replaces is = subst (λ d. list_any (λ (row : LvRow). is_entailed_in two row p) d.lvs ≡ true) same
-    (any_on (λ (row : LvRow). is_entailed_in one row p) (λ (row : LvRow). is_entailed_in two row p)
-    (λ row. any_on (λ (lp : ℕ). is_left_behind one (copies_of row lp) p) (λ (lp : ℕ). is_left_behind two (copies_of row lp) p) (λ lp. on (copies_of row lp)) (range_with_len 0 row.lps)) one.descriptor.lvs is)
+pub entailed_on : (one two : Core) (p : Pp) → IsValid one.descriptor → one.descriptor ≡ two.descriptor → (is_stale one p ≡ false → is_stale two p ≡ false) → (is_missing one p.disk ≡ true → is_missing two p.disk ≡ true)
+    → ((q : Pp) → IsCopyIn one q → can_replace one q ≡ true → can_replace two q ≡ true) → is_entailed one p ≡ true → is_entailed two p ≡ true
+entailed_on one two p valid same fresh gone replaces is = subst (λ d. list_any (λ (r : LvRow). is_entailed_in two r p) d.lvs ≡ true) same
+    (any_passes_from_place (λ (r : LvRow). is_entailed_in two r p) one.descriptor.lvs in_row.1 in_row.0 in_row.2
+    (any_on (λ (lp : ℕ). is_left_behind one (copies_of row lp) p) (λ (lp : ℕ). is_left_behind two (copies_of row lp) p) on (range_with_len 0 row.lps) in_row.3))
   where
-    on : (copies : List Pp) → is_left_behind one copies p ≡ true → is_left_behind two copies p ≡ true
-    on copies e =
-        let a = both (is_among copies p && not (is_stale one p) && is_missing one p.disk) (list_any (can_replace one) copies) e in
-        let b = both (is_among copies p && not (is_stale one p)) (is_missing one p.disk) a.0 in
-        let c = both (is_among copies p) (not (is_stale one p)) b.0 in
-        and_of (is_among copies p && not (is_stale two p) && is_missing two p.disk) (list_any (can_replace two) copies)
-        (and_of (is_among copies p && not (is_stale two p)) (is_missing two p.disk) (and_of (is_among copies p) (not (is_stale two p)) c.0 (ap not (fresh (is_false (is_stale one p) c.1)))) (gone b.1))
-        (any_on (can_replace one) (can_replace two) replaces copies a.1)
+    in_row : (r : LvRow) × (k : ℕ) × (slice_get one.descriptor.lvs k ≡ Some r) × (is_entailed_in one r p ≡ true)
+    in_row = found (λ (r : LvRow). is_entailed_in one r p) one.descriptor.lvs is
+
+    row : LvRow
+    row = in_row.0
+
+    its : (lp : ℕ) → copies_in one.descriptor row.number lp ≡ copies_of row lp
+    its lp = ap (λ m. option_map_or (λ (r : LvRow). copies_of r lp) m []) (row_found one.descriptor.lvs in_row.1 row valid.volumes.numbers_rise in_row.2)
+
+    on : (lp : ℕ) → is_left_behind one (copies_of row lp) p ≡ true → is_left_behind two (copies_of row lp) p ≡ true
+    on lp e =
+        let a = both (is_among (copies_of row lp) p && not (is_stale one p) && is_missing one p.disk) (list_any (can_replace one) (copies_of row lp)) e in
+        let b = both (is_among (copies_of row lp) p && not (is_stale one p)) (is_missing one p.disk) a.0 in
+        let c = both (is_among (copies_of row lp) p) (not (is_stale one p)) b.0 in
+        let other = found (can_replace one) (copies_of row lp) a.1 in
+        let copy : IsCopyIn one other.0 = record { lv = row.number; lp = lp; among = ap (λ ps. is_among ps other.0) (its lp) ∙ any_passes_from_place (is_pp other.0) (copies_of row lp) other.1 other.0 other.2 (own_pp other.0) } in
+        and_of (is_among (copies_of row lp) p && not (is_stale two p) && is_missing two p.disk) (list_any (can_replace two) (copies_of row lp))
+        (and_of (is_among (copies_of row lp) p && not (is_stale two p)) (is_missing two p.disk) (and_of (is_among (copies_of row lp) p) (not (is_stale two p)) c.0 (ap not (fresh (is_false (is_stale one p) c.1)))) (gone b.1))
+        (any_passes_from_place (can_replace two) (copies_of row lp) other.1 other.0 other.2 (replaces other.0 copy other.3))
 
 -- ---- before the review
 
@@ -177,12 +196,23 @@ module _ (e : WriteEnd) where
   pub here : (c : OpenCopy) → core.copy ≡ Some c → is_running c ≡ true → is_missing core c.pp.disk ≡ false
   here c is runs = is_here core c runs (sym (ap (λ m. option_map_or (end_of core) m None) is) ∙ e.going.reviewed)
 
-  pub behind : (c : OpenCopy) → core.copy ≡ Some c → is_running c ≡ true → is_stale core c.pp ≡ true
-  behind c is runs = by (is_whole core c) refl
+  -- what is open on a copy of a logical partition brings it up, and doesn't move
+  pub brings : (c : OpenCopy) → core.copy ≡ Some c → IsCopyIn core c.pp → c.moves ≡ false
+  brings c is copy = by c.moves refl
+    where
+      by : (b : Bool) → c.moves ≡ b → c.moves ≡ false
+      by false e = e
+      by true e = not_so (sym (no_copy core.descriptor copy.lv copy.lp c.pp (move_of core c (its_copy c is) e).free) ∙ copy.among)
+
+  pub brings_it : (p : Pp) → IsCopyIn core p → (c : Clears core p) → c.copy.moves ≡ false
+  brings_it p copy c = brings c.copy c.is_open (record { lv = copy.lv; lp = copy.lp; among = ap (is_among (copies_in core.descriptor copy.lv copy.lp)) c.its ∙ copy.among })
+
+  pub behind : (c : OpenCopy) → core.copy ≡ Some c → c.moves ≡ false → is_running c ≡ true → is_stale core c.pp ≡ true
+  behind c is still runs = by (is_whole core c) refl
     where
       by : (b : Bool) → is_whole core c ≡ b → is_stale core c.pp ≡ true
-      by true whole = ((its_copy c is).clearing runs whole).0
-      by false short = (both (is_stale core c.pp) (calls_stale (in_flight_of core) c.pp) ((its_copy c is).stale runs short).0).0
+      by true whole = ((stale_of core c (its_copy c is) still).clearing runs whole).0
+      by false short = (both (is_stale core c.pp) (calls_stale (in_flight_of core) c.pp) ((stale_of core c (its_copy c is) still).stale runs short).0).0
 
   pub to_be_cleared : (p : Pp) → is_held_stale core p ≡ true → is_wanted_stale core p ≡ false → Clears core p
   to_be_cleared p held clear = clears core p (e.going.clearings p held clear)
@@ -221,11 +251,11 @@ module _ (e : WriteEnd) where
   pub undone : (p : Pp) → marked_by_end (mid e) (copy_ends (mid e)) p ≡ true → Clears core p × (is_missing (mid e) p.disk ≡ true)
   undone p marked = by (copy_ends (mid e)) refl marked
     where
-      of_copy : (how : CopyEnd) (m : Option OpenCopy) → core.copy ≡ m → copy_ends (mid e) ≡ Some how → not (is_done_end how) ≡ true → option_map_or (λ (c : OpenCopy). is_whole core c && is_pp p c.pp) m false ≡ true
+      of_copy : (how : CopyEnd) (m : Option OpenCopy) → core.copy ≡ m → copy_ends (mid e) ≡ Some how → not (is_done_end how) ≡ true → option_map_or (λ (c : OpenCopy). is_whole core c && is_pp p c.pp && (not c.moves || is_called_stale (mid e) c.pp)) m false ≡ true
           → Clears core p × (is_missing (mid e) p.disk ≡ true)
       of_copy how None is ends undone its = not_so its
       of_copy how (Some c) is ends undone its =
-          let parts = both (is_whole core c) (is_pp p c.pp) its in
+          let parts = both (is_whole core c) (is_pp p c.pp) (both (is_whole core c && is_pp p c.pp) (not c.moves || is_called_stale (mid e) c.pp) its).0 in
           let its_end : end_of (mid e) c ≡ Some how = sym (ap (λ m. option_map_or (end_of (mid e)) m None) is) ∙ ends in
           let more = is_undone (mid e) c how parts.0 its_end undone in
           let same = pp_is p c.pp parts.1 in
@@ -233,17 +263,17 @@ module _ (e : WriteEnd) where
 
       by : (m : Option CopyEnd) → copy_ends (mid e) ≡ m → marked_by_end (mid e) m p ≡ true → Clears core p × (is_missing (mid e) p.disk ≡ true)
       by None ends is = not_so is
-      by (Some how) ends is = let parts = both (not (is_done_end how)) (option_map_or (λ (c : OpenCopy). is_whole core c && is_pp p c.pp) core.copy false) is in of_copy how core.copy refl ends parts.0 parts.1
+      by (Some how) ends is = let parts = both (not (is_done_end how)) (option_map_or (λ (c : OpenCopy). is_whole core c && is_pp p c.pp && (not c.moves || is_called_stale (mid e) c.pp)) core.copy false) is in of_copy how core.copy refl ends parts.0 parts.1
 
   -- a copy that is fresh by what is committed isn't marked
-  pub unmarked : (p : Pp) → is_stale (mid e) p ≡ false → marked_by_end (mid e) (copy_ends (mid e)) p ≡ false
-  unmarked p fresh = by (marked_by_end (mid e) (copy_ends (mid e)) p) refl
+  pub unmarked : (p : Pp) → IsCopyIn core p → is_stale (mid e) p ≡ false → marked_by_end (mid e) (copy_ends (mid e)) p ≡ false
+  unmarked p copy fresh = by (marked_by_end (mid e) (copy_ends (mid e)) p) refl
     where
       no : Clears core p → is_missing (mid e) p.disk ≡ true → ⊥
       no c gone = of_committed (λ s. calls_stale s p ≡ false → ⊥) (λ is. not_so (sym is ∙ stale)) (λ same is. not_so (sym there ∙ sym (ap (λ (w : Status). calls_missing w p.disk) same) ∙ gone)) fresh
         where
           stale : is_stale core p ≡ true
-          stale = ap (is_stale core) (sym c.its) ∙ behind c.copy c.is_open c.runs
+          stale = ap (is_stale core) (sym c.its) ∙ behind c.copy c.is_open (brings_it p copy c) c.runs
 
           there : is_missing core p.disk ≡ false
           there = sym (ap (λ (q : Pp). is_missing core q.disk) c.its) ∙ here c.copy c.is_open c.runs
@@ -253,21 +283,33 @@ module _ (e : WriteEnd) where
       by false is = is
 
   -- a copy that is to be cleared, and doesn't end, is stale still
-  pub uncleared : copy_ends (mid e) ≡ None → (c : OpenCopy) → core.copy ≡ Some c → is_running c ≡ true → is_whole core c ≡ true → is_stale (mid e) c.pp ≡ true
-  uncleared still c is runs whole = by (is_stale (mid e) c.pp) refl
+  pub uncleared : copy_ends (mid e) ≡ None → (c : OpenCopy) → core.copy ≡ Some c → c.moves ≡ false → is_running c ≡ true → is_whole core c ≡ true → is_stale (mid e) c.pp ≡ true
+  uncleared still c is brought runs whole = by (is_stale (mid e) c.pp) refl
     where
       was : (is_stale core c.pp ≡ true) × (is_wanted_stale core c.pp ≡ false)
-      was = (its_copy c is).clearing runs whole
+      was = (stale_of core c (its_copy c is) brought).clearing runs whole
 
       cleared : is_stale (mid e) c.pp ≡ false → is_cleared (mid e) c ≡ true
-      cleared fresh = and_of (not (is_stale (mid e) c.pp) && not (calls_stale (unwrap_or e.next.in_flight e.next.committed) c.pp)) (not (is_wanted_stale (mid e) c.pp))
+      cleared fresh = and_of (not c.moves) (is_clear (mid e) c.pp) (ap not brought) (and_of (not (is_stale (mid e) c.pp) && not (calls_stale (unwrap_or e.next.in_flight e.next.committed) c.pp)) (not (is_wanted_stale (mid e) c.pp))
           (and_of (not (is_stale (mid e) c.pp)) (not (calls_stale (unwrap_or e.next.in_flight e.next.committed) c.pp)) (ap not fresh)
           (ap not (ap (λ (s : Status). calls_stale s c.pp) e.follows.flies ∙ of_committed (λ s. calls_stale s c.pp ≡ false → calls_stale (in_flight_of core) c.pp ≡ false) (λ i. not_so (sym i ∙ was.0)) (λ same i. i) fresh)))
-          (ap not (e.follows.stale c.pp ∙ was.1))
+          (ap not (e.follows.stale c.pp ∙ was.1)))
 
       by : (b : Bool) → is_stale (mid e) c.pp ≡ b → is_stale (mid e) c.pp ≡ true
       by true i = i
       by false i = not_so (sym (not_cleared (mid e) c runs whole (sym (ap (λ m. option_map_or (end_of (mid e)) m None) is) ∙ still)) ∙ cleared i)
+
+  -- the place to which one moves is no copy, and so isn't left behind
+  pub place_stays : (c : OpenCopy) → IsMove core c → is_entailed (mid e) c.pp ≡ false
+  place_stays c move = by (is_entailed (mid e) c.pp) refl
+    where
+      by : (b : Bool) → is_entailed (mid e) c.pp ≡ b → is_entailed (mid e) c.pp ≡ false
+      by false is = is
+      by true is =
+          let left = left_behind (mid e) c.pp is in
+          let its : copies_in core.descriptor left.row.number left.lp ≡ copies_of left.row left.lp =
+          ap (λ m. option_map_or (λ (row : LvRow). copies_of row left.lp) m []) (row_found core.descriptor.lvs left.place left.row e.going.fitting.valid.volumes.numbers_rise left.there) in
+          not_so (sym (no_copy core.descriptor left.row.number left.lp c.pp move.free) ∙ ap (λ ps. is_among ps c.pp) its ∙ left.among)
 
   -- where the copy doesn't end, and no disk is missing that wasn't, what is left behind was wanted stale before
   pub known : copy_ends (mid e) ≡ None → e.next.wanted ≡ core.status.wanted → (p : Pp) → is_entailed (mid e) p ≡ true → is_wanted_stale core p ≡ true
@@ -276,8 +318,8 @@ module _ (e : WriteEnd) where
       missing_same : (d : ℕ) → is_missing core d ≡ is_missing (mid e) d
       missing_same d = sym (ap (λ (w : Status). calls_missing w d) same)
 
-      replaces : (q : Pp) → can_replace (mid e) q ≡ true → can_replace core q ≡ true
-      replaces q can = of_stale (is_stale core q) refl
+      replaces : (q : Pp) → IsCopyIn (mid e) q → can_replace (mid e) q ≡ true → can_replace core q ≡ true
+      replaces q copy can = of_stale (is_stale core q) refl
         where
           a : (is_usable (mid e) q ≡ true) × (not (is_wanted_stale (mid e) q) ≡ true)
           a = both (is_usable (mid e) q) (not (is_wanted_stale (mid e) q)) can
@@ -289,12 +331,12 @@ module _ (e : WriteEnd) where
           clear = sym (e.follows.stale q) ∙ is_false (is_wanted_stale (mid e) q) a.1
 
           of_stale : (s : Bool) → is_stale core q ≡ s → can_replace core q ≡ true
-          of_stale true stale = let c = newly q stale clear in not_so (sym (is_false (is_stale (mid e) q) b.0) ∙ sym (ap (is_stale (mid e)) c.its) ∙ uncleared still c.copy c.is_open c.runs c.whole)
+          of_stale true stale = let c = newly q stale clear in not_so (sym (is_false (is_stale (mid e) q) b.0) ∙ sym (ap (is_stale (mid e)) c.its) ∙ uncleared still c.copy c.is_open (brings_it q (record { lv = copy.lv; lp = copy.lp; among = copy.among }) c) c.runs c.whole)
           of_stale false fresh = and_of (is_usable core q) (not (is_wanted_stale core q)) (and_of (not (is_stale core q)) (not (is_missing core q.disk)) (ap not fresh) (ap not (missing_same q.disk) ∙ b.1)) (ap not clear)
 
       by : (b : Bool) → is_wanted_stale core p ≡ b → is_wanted_stale core p ≡ true
       by true wanted = wanted
-      by false clear = e.going.behind p (entailed_on (mid e) core p refl fresh (λ gone. missing_same p.disk ∙ gone) replaces is)
+      by false clear = e.going.behind p (entailed_on (mid e) core p e.going.fitting.valid refl fresh (λ gone. missing_same p.disk ∙ gone) replaces is)
         where
           fresh : is_stale (mid e) p ≡ false → is_stale core p ≡ false
           fresh i = of_stale (is_stale core p) refl
@@ -372,10 +414,10 @@ module _ (e : WriteEnd) (r : Reviewed e) where
   -- what missing disks leave behind is wanted stale
   pub behind_now : (p : Pp) → is_entailed after p ≡ true → is_wanted_stale after p ≡ true
   behind_now p is = wanted_is p ∙ or_right (is_wanted_stale old p) (due e p) (or_left (is_entailed (mid e) p) (marked_by_end (mid e) (copy_ends (mid e)) p)
-      (entailed_on after (mid e) p refl (λ fresh. sym (stale_is p) ∙ fresh) (λ gone. sym (missing_is p.disk) ∙ gone) replaces is))
+      (entailed_on after (mid e) p e.going.fitting.valid refl (λ fresh. sym (stale_is p) ∙ fresh) (λ gone. sym (missing_is p.disk) ∙ gone) replaces is))
     where
-      replaces : (q : Pp) → can_replace after q ≡ true → can_replace (mid e) q ≡ true
-      replaces q can =
+      replaces : (q : Pp) → IsCopyIn after q → can_replace after q ≡ true → can_replace (mid e) q ≡ true
+      replaces q copy can =
           let a = both (is_usable after q) (not (is_wanted_stale after q)) can in
           and_of (is_usable (mid e) q) (not (is_wanted_stale (mid e) q)) (sym (usable_is q) ∙ a.0) (ap not (e.follows.stale q ∙ (not_wanted q (is_false (is_wanted_stale after q) a.1)).0))
 
@@ -393,8 +435,8 @@ module _ (e : WriteEnd) (r : Reviewed e) where
   -- ---- fresh copies
 
   -- one that can stand in for another stays fresh
-  fresh_other : (q : Pp) → can_replace (mid e) q ≡ true → stays_fresh after q ≡ true
-  fresh_other q can = and_of (not (is_held_stale after q)) (not (is_wanted_stale after q)) (ap not held) (ap not (still_clear q clear not_left (unmarked e q fresh)))
+  fresh_other : (q : Pp) → IsCopyIn old q → can_replace (mid e) q ≡ true → stays_fresh after q ≡ true
+  fresh_other q copy can = and_of (not (is_held_stale after q)) (not (is_wanted_stale after q)) (ap not held) (ap not (still_clear q clear not_left (unmarked e q copy fresh)))
     where
       a : (is_usable (mid e) q ≡ true) × (not (is_wanted_stale (mid e) q) ≡ true)
       a = both (is_usable (mid e) q) (not (is_wanted_stale (mid e) q)) can
@@ -422,21 +464,20 @@ module _ (e : WriteEnd) (r : Reviewed e) where
           by false is = is
           by true is =
               let c = to_be_cleared e q (or_right (is_stale old q) (calls_stale (in_flight_of old) q) is) clear in
-              let stale : is_stale old q ≡ true = ap (is_stale old) (sym c.its) ∙ behind e c.copy c.is_open c.runs in
+              let stale : is_stale old q ≡ true = ap (is_stale old) (sym c.its) ∙ behind e c.copy c.is_open (brings_it e q copy c) c.runs in
               not_so (sym fresh ∙ of_committed e (λ s. calls_stale s q ≡ true) stale (λ same. is))
 
       held : is_held_stale after q ≡ false
       held = ap (λ (s : Status). is_stale after q || calls_stale s q) flies_is ∙ ap (λ s. s || calls_stale (in_flight_of old) q) (stale_is q ∙ fresh) ∙ not_flying
 
-  pub fresh_now : (lv lp : ℕ) → list_any (may_be_fresh after) (copies_in old.descriptor lv lp) ≡ true → list_any (stays_fresh after) (copies_in old.descriptor lv lp) ≡ true
-  fresh_now lv lp may = by (is_entailed (mid e) one.0) refl
+  pub fresh_from : (lv lp : ℕ) → list_any (stays_fresh old) (copies_in old.descriptor lv lp) ≡ true → list_any (stays_fresh after) (copies_in old.descriptor lv lp) ≡ true
+  fresh_from lv lp was = by (is_entailed (mid e) one.0) refl
     where
       copies : List Pp
       copies = copies_in old.descriptor lv lp
 
       one : (q : Pp) × (i : ℕ) × (slice_get copies i ≡ Some q) × (stays_fresh old q ≡ true)
-      one = found (stays_fresh old) copies (e.going.fresh lv lp (any_on (may_be_fresh after) (may_be_fresh old)
-          (λ p. may_by (was_fresh old p) (is_settled old p) (is_wanted_stale old p) (is_settled after p) (is_wanted_stale after p) (settled_on p) (wanted_on p)) copies may))
+      one = found (stays_fresh old) copies was
 
       parts : (not (is_held_stale old one.0) ≡ true) × (not (is_wanted_stale old one.0) ≡ true)
       parts = both (not (is_held_stale old one.0)) (not (is_wanted_stale old one.0)) one.3
@@ -452,8 +493,8 @@ module _ (e : WriteEnd) (r : Reviewed e) where
 
       by : (b : Bool) → is_entailed (mid e) one.0 ≡ b → list_any (stays_fresh after) copies ≡ true
       by false is = any_passes_from_place (stays_fresh after) copies one.1 one.0 one.2 (and_of (not (is_held_stale after one.0)) (not (is_wanted_stale after one.0)) (ap not held)
-          (ap not (still_clear one.0 (is_false (is_wanted_stale old one.0) parts.1) is (unmarked e one.0 still_fresh))))
-      by true is = subst (λ ps. list_any (stays_fresh after) ps ≡ true) (sym same) (any_passes_from_place (stays_fresh after) (copies_of left.row left.lp) other.1 other.0 other.2 (fresh_other other.0 other.3))
+          (ap not (still_clear one.0 (is_false (is_wanted_stale old one.0) parts.1) is (unmarked e one.0 (record { lv = lv; lp = lp; among = any_passes_from_place (is_pp one.0) copies one.1 one.0 one.2 (own_pp one.0) }) still_fresh))))
+      by true is = subst (λ ps. list_any (stays_fresh after) ps ≡ true) (sym same) (any_passes_from_place (stays_fresh after) (copies_of left.row left.lp) other.1 other.0 other.2 (fresh_other other.0 (record { lv = left.row.number; lp = left.lp; among = ap (λ ps. is_among ps other.0) its ∙ any_passes_from_place (is_pp other.0) (copies_of left.row left.lp) other.1 other.0 other.2 (own_pp other.0) }) other.3))
         where
           left : IsLeft (mid e) one.0
           left = left_behind (mid e) one.0 is
@@ -468,3 +509,7 @@ module _ (e : WriteEnd) (r : Reviewed e) where
           same =
               let at = one_lp old.descriptor e.going.fitting.valid lv lp left.row.number left.lp one.0 (any_passes_from_place (is_pp one.0) copies one.1 one.0 one.2 (own_pp one.0)) (ap (λ ps. is_among ps one.0) its ∙ left.among) in
               ap (λ n. copies_in old.descriptor n lp) at.0 ∙ ap (λ n. copies_in old.descriptor left.row.number n) at.1 ∙ its
+
+  pub fresh_now : (lv lp : ℕ) → list_any (may_be_fresh after) (copies_in old.descriptor lv lp) ≡ true → list_any (stays_fresh after) (copies_in old.descriptor lv lp) ≡ true
+  fresh_now lv lp may = fresh_from lv lp (e.going.fresh lv lp (any_on (may_be_fresh after) (may_be_fresh old)
+      (λ p. may_by (was_fresh old p) (is_settled old p) (is_wanted_stale old p) (is_settled after p) (is_wanted_stale after p) (settled_on p) (wanted_on p)) (copies_in old.descriptor lv lp) may))

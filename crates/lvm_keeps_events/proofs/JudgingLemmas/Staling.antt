@@ -25,7 +25,7 @@ use Rattle.lvm_status.specs.Runs.{IsSoundStatus}
 use Rattle.lvm_status.specs.Update.{members_there, seen, Stored, Updates}
 use Rattle.lvm_status.specs.declared.writes.Writes.{Writes}
 use Rattle.lvm_session.specs.Bringing.{end_by_sources, end_of, ends_if, is_cleared, is_idle, is_whole, sources_of}
-use Rattle.lvm_session.specs.Judging.{copies_in, group_in, has_dirty_mark, has_names, is_caught, is_kept, is_missing, is_running, is_settled, is_stale, is_sure, is_usable, is_wanted_stale, pps_of}
+use Rattle.lvm_session.specs.Judging.{copies_in, group_in, has_dirty_mark, has_names, is_caught, is_kept, is_missing, is_running, is_settled, is_stale, is_sure, is_usable, is_wanted_stale, pps_of, is_sure_at}
 use Rattle.lvm_session.specs.State.{Core, is_there}
 use Rattle.lvm_session.specs.declared.bringing.CopyEnd.TheVariants as ending
 use Rattle.lvm_session.specs.declared.bringing.OpenCopy.{OpenCopy}
@@ -44,11 +44,12 @@ use Rattle.lvm_session.specs.Sound.{IsCopy, may_be_fresh, stays_fresh}
 use Rattle.lvm_keeps.proofs.KeepsLemmas.Landing.{or_parts}
 use Rattle.lvm_keeps.proofs.OwnersLemmas.Rows.{data_still, status_still, step_still}
 use Rattle.lvm_keeps.proofs.Small.{both, is_false}
-use Rattle.lvm_keeps.proofs.RequestsLemmas.{shape_still, copy_marked, same_next}
+use Rattle.lvm_keeps.proofs.RequestsLemmas.{shape_still, copy_marked, same_next, kind_by}
 use Rattle.lvm_keeps.proofs.DarkLemmas.Tables.{apart}
 use Rattle.lvm_keeps_events.proofs.Marking.{count_alike, filter_alike}
 use Rattle.lvm_keeps_events.proofs.Lists.{all_and, any_on, count_on, or_false, or_true}
 use Rattle.lvm_keeps_events.proofs.OwnersLemmas.Rows.{rows_each}
+use Rattle.lvm_keeps_events.proofs.MissedLemmas.{missed_less}
 use Rattle.lvm_keeps_events.proofs.JudgingLemmas.Requests.{fewer_due}
 
 -- ---- the status
@@ -138,17 +139,20 @@ module _ (core : Core) (due : Pp → Bool) (wanted : Status) (writes : Writes) (
       by false true d f = not_so f
       by true w d f = not_so f
 
+  sure_at_less : (t : Target) → is_sure_at staler t ≡ true → is_sure_at core t ≡ true
+  sure_at_less t e = let parts = both (not t.moves) (is_sure staler t.pp) e in all_and (not t.moves) (is_sure core t.pp) parts.0 (sure_less t.pp parts.1)
+
   -- a sure one stays so that isn't due
   pub sure_on : (p : Pp) → is_sure core p ≡ true → due p ≡ false → is_sure staler p ≡ true
   sure_on p e none = ap (λ b. not (is_stale core p) && not b) (like.stale p ∙ ap (λ d. is_wanted_stale core p || d) none ∙ or_false (is_wanted_stale core p)) ∙ e
 
   pub kept_less : (r : Request) → is_kept staler r ≡ true → is_kept core r ≡ true
-  kept_less r e = any_on (λ (t : Target). is_done t.state && is_sure staler t.pp) (λ (t : Target). is_done t.state && is_sure core t.pp)
-      (λ t f. let parts = both (is_done t.state) (is_sure staler t.pp) f in all_and (is_done t.state) (is_sure core t.pp) parts.0 (sure_less t.pp parts.1)) r.targets.items e
+  kept_less r e = any_on (λ (t : Target). is_done t.state && is_sure_at staler t) (λ (t : Target). is_done t.state && is_sure_at core t)
+      (λ t f. let parts = both (is_done t.state) (is_sure_at staler t) f in all_and (is_done t.state) (is_sure_at core t) parts.0 (sure_at_less t parts.1)) r.targets.items e
 
   pub fewer_left : (ts : List Target) → count_by (is_failed_and_sure staler) ts ≤ count_by (is_failed_and_sure core) ts
   fewer_left ts = count_on (is_failed_and_sure staler) (is_failed_and_sure core)
-      (λ t f. let parts = both (is_failed t.state) (is_sure staler t.pp) f in all_and (is_failed t.state) (is_sure core t.pp) parts.0 (sure_less t.pp parts.1)) ts
+      (λ t f. let parts = both (is_failed t.state) (is_sure_at staler t) f in all_and (is_failed t.state) (is_sure_at core t) parts.0 (sure_at_less t parts.1)) ts
 
   due_on : (r : Request) → is_wanted_due core r ≡ true → is_wanted_due staler r ≡ true
   due_on r e = fewer_due (count_by (is_failed_and_sure core) r.targets.items) (count_by (is_failed_and_sure staler) r.targets.items) (is_kept core r || will_be_kept core r) (is_kept staler r || will_be_kept core r) (fewer_left r.targets.items)
@@ -197,7 +201,7 @@ module _ (core : Core) (due : Pp → Bool) (wanted : Status) (writes : Writes) (
   }
 
   pub shape_on : (x : Open) → IsShaped core x → IsShaped staler x
-  shape_on x a = shape_still core staler refl x a
+  shape_on x a = shape_still core staler refl (λ ask. refl) x a
 
   pub left_on : (x : Open) (p : Pp) → is_among (pps_of x.request.targets.items) p || is_left_out core x.request.ask p ≡ true → is_among (pps_of x.request.targets.items) p || is_left_out staler x.request.ask p ≡ true
   left_on x p e = by (is_among (pps_of x.request.targets.items) p) (is_left_out core x.request.ask p) (is_left_out staler x.request.ask p) (λ f. out_on x.request.ask p f) e
@@ -212,7 +216,7 @@ module _ (core : Core) (due : Pp → Bool) (wanted : Status) (writes : Writes) (
     waits = λ w. let r = it.waits w in record {
       shape = shape_on x r.shape;
       ready = ready_on x.request r.ready;
-      judged = λ write. let j = r.judged write in record { uncaught = j.uncaught; due = λ status. due_on x.request (j.due status); all = λ begun p among. left_on x p (j.all begun p among) };
+      judged = λ write. let j = r.judged write in record { uncaught = j.uncaught; due = λ status. due_on x.request (j.due status); missed = λ status. missed_less core staler x.request sure_less (j.missed status); all = λ begun p among. left_on x p (j.all begun p among); place = j.place };
     };
     over = it.over;
     still = it.still;
@@ -220,23 +224,41 @@ module _ (core : Core) (due : Pp → Bool) (wanted : Status) (writes : Writes) (
 
   -- ---- the copy that is open
 
-  pub bring_on : (c : OpenCopy) → (is_running c ≡ true → is_whole core c ≡ true → due c.pp ≡ false) → IsCopy core c → IsCopy staler c
-  bring_on c apart k = copy_marked core staler c refl (same_next core) k (λ free. free)
-      (λ runs short. let was = k.stale runs short in (was.0, wanted_more c.pp was.1))
-      (λ runs whole. let was = k.clearing runs whole in (was.0, like.stale c.pp ∙ ap (λ b. b || due c.pp) was.1 ∙ apart runs whole))
+  -- what stays fresh may be fresh still
+  may_still : (p : Pp) → stays_fresh core p ≡ true → may_be_fresh staler p ≡ true
+  may_still p e = by (was_fresh core p) (is_stale core p) (calls_stale (unwrap_or core.status.in_flight core.status.committed) p) (is_wanted_stale core p) (is_wanted_stale staler p) e
+    where
+      by : (f a b w v : Bool) → not (a || b) && not w ≡ true → f || not (a && b && v) ≡ true
+      by true a b w v g = refl
+      by false true b w v g = not_so g
+      by false false b w v g = refl
+
+  -- so a logical partition keeps a fresh copy where one that may be fresh is enough
+  pub keeps_fresh : (copies : List Pp) → (list_any (may_be_fresh staler) copies ≡ true → list_any (stays_fresh staler) copies ≡ true) → list_any (stays_fresh core) copies ≡ true → list_any (stays_fresh staler) copies ≡ true
+  keeps_fresh copies on some = on (any_on (stays_fresh core) (may_be_fresh staler) may_still copies some)
+
+  pub bring_on : ((lv lp : ℕ) → list_any (may_be_fresh staler) (copies_in core.descriptor lv lp) ≡ true → list_any (stays_fresh staler) (copies_in core.descriptor lv lp) ≡ true) → (c : OpenCopy)
+      → (is_running c ≡ true → is_whole core c ≡ true → due c.pp ≡ false) → IsCopy core c → IsCopy staler c
+  bring_on fresh c apart k = copy_marked core staler c refl (same_next core) k (λ free. free) (kind_by core staler c c.step c.tried c.end refl refl
+      (λ is. (
+        λ runs short. let was = is.stale runs short in (was.0, wanted_more c.pp was.1),
+        λ runs whole. let was = is.clearing runs whole in (was.0, like.stale c.pp ∙ ap (λ b. b || due c.pp) was.1 ∙ apart runs whole),
+      ))
+      (λ is. (λ runs whole. like.stale c.pp ∙ ap (λ b. b || due c.pp) (is.clear runs whole) ∙ apart runs whole, keeps_fresh (copies_in core.descriptor c.lv c.lp) (fresh c.lv c.lp) is.fresh)) c.moves k.kind)
 
   sources_same : (c : OpenCopy) → sources_of staler c ≡ sources_of core c
   sources_same c = filter_alike (λ (p : Pp). not (is_pp p c.pp) && is_usable staler p) (λ (p : Pp). not (is_pp p c.pp) && is_usable core p) (λ p. ap (λ b. not (is_pp p c.pp) && b) (usable_same p)) (copies_in core.descriptor c.lv c.lp)
 
   cleared_less : (c : OpenCopy) → is_cleared core c ≡ false → is_cleared staler c ≡ false
-  cleared_less c e = ap (λ b. not (is_stale core c.pp) && not (calls_stale (unwrap_or core.status.in_flight core.status.committed) c.pp) && not b) (like.stale c.pp)
-      ∙ by (is_stale core c.pp) (calls_stale (unwrap_or core.status.in_flight core.status.committed) c.pp) (is_wanted_stale core c.pp) (due c.pp) e
+  cleared_less c e = ap (λ b. not c.moves && (not (is_stale core c.pp) && not (calls_stale (unwrap_or core.status.in_flight core.status.committed) c.pp) && not b)) (like.stale c.pp)
+      ∙ by c.moves (is_stale core c.pp) (calls_stale (unwrap_or core.status.in_flight core.status.committed) c.pp) (is_wanted_stale core c.pp) (due c.pp) e
     where
-      by : (a f w d : Bool) → not a && not f && not w ≡ false → not a && not f && not (w || d) ≡ false
-      by true f w d g = refl
-      by false true w d g = refl
-      by false false true d g = refl
-      by false false false d g = not_so (sym g)
+      by : (m a f w d : Bool) → not m && (not a && not f && not w) ≡ false → not m && (not a && not f && not (w || d)) ≡ false
+      by true a f w d g = refl
+      by false true f w d g = refl
+      by false false true w d g = refl
+      by false false false true d g = refl
+      by false false false false d g = not_so (sym g)
 
   pub end_on : (c : OpenCopy) → end_of core c ≡ None → end_of staler c ≡ None
   end_on c e =

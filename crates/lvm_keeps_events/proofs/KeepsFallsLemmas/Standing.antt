@@ -1,5 +1,5 @@
 -- A session in which nothing is out doesn't stand still.
-use Rattle.std.proofs.Common.{◌≡◌, ◌⊎◌, inl, inr, ◌==◌, ◌≤◌, ◌<◌, ◌+◌, ◌-◌, ◌&&◌, ◌||◌, ℕ, zero, suc, Bool, true, false, not, nat_le, nat_lt, filter, find, List, [], ◌∷◌, Option, Some, None, length, slice_get, if◌then◌else◌, refl, sym, ◌∙◌, ap, subst, arith}
+use Rattle.std.proofs.Common.{◌≡◌, ◌++◌, ◌⊎◌, inl, inr, ◌==◌, ◌≤◌, ◌<◌, ◌+◌, ◌&&◌, ◌||◌, ℕ, zero, suc, Bool, true, false, not, nat_le, nat_lt, filter, find, List, [], ◌∷◌, Option, Some, None, length, slice_get, if◌then◌else◌, refl, sym, ◌∙◌, ap, subst, arith}
 use Rattle.std.specs.Prelude.{IfSome, bytes_eq, count_by, is_none, is_some, position, slice_index_or, unwrap_or}
 use Rattle.std.specs.List.{list_all, list_any, AllByRecursion}
 use Rattle.std.specs.Option.{option_map, option_map_or}
@@ -23,7 +23,6 @@ use Rattle.lvm_disk.specs.Device.{Flight}
 use Rattle.lvm_vol.specs.declared.entry.Outcome.{Outcome}
 use Rattle.lvm_vol.specs.declared.entry.Outcome.TheVariants as outcome
 use Rattle.lvm_hold.specs.Conflicts.{conflicts}
-use Rattle.lvm_hold.specs.declared.queue.Held.{Held}
 use Rattle.lvm_hold.specs.declared.queue.Row.{Row}
 use Rattle.lvm_hold.specs.Waiting.{is_blocked}
 use Rattle.lvm_mwc.specs.declared.entries.CacheEntry.{CacheEntry}
@@ -45,6 +44,7 @@ use Rattle.lvm_path.specs.Asks.{is_write, lv_of}
 use Rattle.lvm_path.specs.Targets.{are_over, is_begun, is_done, is_failed, is_over as is_ended, states_of}
 use Rattle.lvm_path.specs.Next.{next_chosen, next_data, next_in, next_read, next_write, start_or_wait}
 use Rattle.lvm_status.specs.Update.{is_held, is_owed, is_there as is_there_so, seen}
+use Rattle.lvm_session.specs.declared.bringing.CopyEnd.{CopyEnd}
 use Rattle.lvm_session.specs.declared.bringing.CopyEnd.TheVariants as ending
 use Rattle.lvm_session.specs.declared.bringing.OpenCopy.{OpenCopy}
 use Rattle.lvm_session.specs.declared.bringing.Step.{Step}
@@ -57,13 +57,14 @@ use Rattle.lvm_session.specs.declared.flown.Owner.TheVariants as owner
 use Rattle.lvm_session.specs.declared.open.Open.{Open}
 use Rattle.lvm_session.specs.declared.open.Power.TheVariants as power
 use Rattle.lvm_session.specs.State.{Core, State, is_there}
-use Rattle.lvm_session.specs.Judging.{aims, all_but_sure, group_in, is_caught, copies_for, counts_failed, facts_of, group_of, has_dirty_mark, has_names, held_of, is_beside, is_failing, is_held_back, is_kept, is_marked, is_missing, is_pending, is_running, is_settled, is_stale, is_sure, is_usable, is_waiting, is_wanted_stale, mode_of, next_for, place_of, pps_of, same_pps}
+use Rattle.lvm_session.specs.Judging.{is_sure_at, aims, all_but_sure, copies_for, copies_in, counts_failed, facts_of, group_in, group_of, has_dirty_mark, has_names, held_of, is_beside, is_beside_copy, is_caught, is_clear, is_failing, is_held_back, is_held_by_move, is_kept, is_marked, is_missing, is_moved, is_past_held, is_pending, is_running, is_settled, is_stale, is_sure, is_under_way, is_usable, is_waiting, is_wanted_stale, lp_of, mode_of, next_for, place_aims, place_of, places_if, pps_of, same_pps}
 use Rattle.lvm_session.specs.Bringing.{end_of, ends_if, hand_of, has_row, is_cleared, is_idle, is_out, is_whole, next_source, sources_of, step_of, step_row}
 use Rattle.lvm_session.specs.Enabled.{Part, admission_at, can_pin, copy_read, copy_write, data_at, data_start, first_event, first_from, first_of, has_buffer, is_admit, is_free_step, is_lost, is_pin, is_status_due, is_unnamed, landing, landing_at, may_be_admitted, may_pin, may_read, may_write, note_at, note_due, note_start, or_next, outcome_next, parts_to_settle, parts_to_start, pinning_at, same_row, same_rows, same_status, target_due, target_next, wants_record}
 use Rattle.lvm_session.specs.Dark.{hand_of_copy}
 use Rattle.lvm_session.specs.Owners.{AreRows, flies, same_owner, target_flies}
-use Rattle.lvm_session.specs.Requests.{IsOpenOne, IsPhase, IsRecorded, IsRequest, is_failed_and_sure, is_past_held, is_wanted_due, is_wanted_dirty, mode_for, wants_status, will_be_kept}
-use Rattle.lvm_session.specs.Sound.{IsCopy, IsGoing, IsSound, count_if, has_number, is_dark, is_hand, pins, waiting_rows, with_row}
+use Rattle.lvm_session.specs.Requests.{IsAimed, IsMarkedPlace, IsOpenOne, IsPhase, IsRecorded, IsRequest, IsTarget, is_failed_and_sure, is_wanted_due, is_wanted_dirty, mode_for, wants_status, will_be_kept}
+use Rattle.lvm_session.specs.Sound.{IsCopy, IsGoing, IsOfKind, IsSound, count_if, has_number, is_dark, is_hand, pins, stays_fresh, waiting_rows, with_row}
+use Rattle.lvm_session.proofs.MovesLemmas.{IsOpenPlace, move_of, place_open}
 use Rattle.std.proofs.lemmas.Slice.Eq.{bytes_eq-Decides}
 use Rattle.lvm_num.proofs.Booleans.{and_false, not_so, none_if, same_by_if}
 use Rattle.lvm_num.proofs.Lists.{none_each, all_false, all_at}
@@ -71,9 +72,12 @@ use Rattle.lvm_keeps.specs.Falls.{NeverStandsStill}
 use Rattle.lvm_keeps.proofs.Lists.{count_cons}
 use Rattle.lvm_keeps.proofs.Small.{both, is_false}
 use Rattle.lvm_keeps.proofs.VotesLemmas.{enough_more, more_votes}
+use Rattle.lvm_keeps_events.proofs.JudgingLemmas.DuesMarks.{is_sure_done}
 use Rattle.lvm_keeps_events.proofs.TargetsLemmas.{count_none}
 use Rattle.lvm_keeps_events.proofs.JudgingLemmas.Chosen.{there_now}
 use Rattle.lvm_keeps_events.proofs.KeepsLemmas.Admission.{some_long}
+use Rattle.lvm_keeps_events.proofs.Lists.{by_places, or_true}
+use Rattle.lvm_keeps_events.proofs.UncaughtLemmas.{kept_of}
 
 -- ---- tests and lists
 
@@ -85,11 +89,6 @@ module _ {A : Type 0} where
   none_any : (t : A → Bool) (xs : List A) → AllByRecursion (λ (x : A). t x ≡ false) xs → list_any t xs ≡ false
   none_any t [] all = refl
   none_any t (x ∷ xs) all = ap (λ b. b || list_any t xs) all.0 ∙ none_any t xs all.1
-
-  -- what holds at each place holds of each
-  by_places : (P : A → Type 0) (xs : List A) → ((k : ℕ) (x : A) → slice_get xs k ≡ Some x → P x) → AllByRecursion P xs
-  by_places P [] each = tt
-  by_places P (x ∷ xs) each = (each zero x refl, by_places P xs (λ k y at. each (suc k) y at))
 
 -- of none an event is made
 none_made : (make : ℕ → Open → Option Event) (k : ℕ) (os : List Open) → first_from make k os ≡ None → (place : ℕ) (o : Open) → slice_get os place ≡ Some o → make (k + place) o ≡ None
@@ -149,6 +148,10 @@ over_begun (t ∷ ts) some over = by t.state over
     by stage.Done e = refl
     by stage.Failed e = refl
 
+some_there : (ts : List Target) (n : ℕ) (t : Target) → slice_get ts n ≡ Some t → 1 ≤ length ts
+some_there [] n t there = absurd (cc there)
+some_there (x ∷ ts) n t there = omega arith
+
 some_waits : (ts : List Target) → 1 ≤ length ts → is_begun ts ≡ false → list_any (λ (t : Target). is_unstarted t.state) ts ≡ true
 some_waits [] some e = absurd (omega (arith, some))
 some_waits (t ∷ ts) some e = by t.state e
@@ -161,6 +164,10 @@ some_waits (t ∷ ts) some e = by t.state e
 
 -- ---- a write whose staleness is settled, where what is wanted is committed
 
+-- a place to which a move copies isn't sure where the write that is kept or lost is due there
+abbrev pub IsPlaceMarked : Core → Bool → Target → Type 0
+IsPlaceMarked core kept t = t.moves && (if kept then is_failed t.state && is_sure core t.pp else is_sure core t.pp) ≡ false
+
 module _ (core : Core) (wanted : (p : Pp) → is_wanted_stale core p ≡ is_stale core p) (settled : (p : Pp) → is_settled core p ≡ is_stale core p) where
   sure_is : (p : Pp) → is_sure core p ≡ not (is_stale core p)
   sure_is p = ap (λ b. not (is_stale core p) && not b) (wanted p) ∙ by (is_stale core p)
@@ -169,13 +176,22 @@ module _ (core : Core) (wanted : (p : Pp) → is_wanted_stale core p ≡ is_stal
       by true = refl
       by false = refl
 
-  kept_marked : (ts : List Target) → count_by (is_failed_and_sure core) ts ≤ 0 → list_all (λ (t : Target). not (counts_failed core t) || is_settled core t.pp) ts ≡ true
-  kept_marked [] few = refl
-  kept_marked (t ∷ ts) few =
-      ap (λ b. b && list_all (λ (u : Target). not (counts_failed core u) || is_settled core u.pp) ts) one ∙ kept_marked ts (let more = count_cons (is_failed_and_sure core) t ts in omega (arith, more, few))
+  failed_at : (m f u : Bool) → m && (f && u) ≡ false → f && (not m && u) ≡ (f && u)
+  failed_at false f u e = refl
+  failed_at true true u e = sym e
+  failed_at true false u e = refl
+
+  sure_at : (m u : Bool) → m && u ≡ false → (not m && u) ≡ u
+  sure_at false u e = refl
+  sure_at true u e = sym e
+
+  kept_marked : (ts : List Target) → AllByRecursion (IsPlaceMarked core true) ts → count_by (is_failed_and_sure core) ts ≤ 0 → list_all (λ (t : Target). not (counts_failed core t) || is_settled core t.pp) ts ≡ true
+  kept_marked [] places few = refl
+  kept_marked (t ∷ ts) places few =
+      ap (λ b. b && list_all (λ (u : Target). not (counts_failed core u) || is_settled core u.pp) ts) one ∙ kept_marked ts places.1 (let more = count_cons (is_failed_and_sure core) t ts in omega (arith, more, few))
     where
       not_sure : is_failed t.state && not (is_stale core t.pp) ≡ false
-      not_sure = by (is_failed t.state && is_sure core t.pp) (ap (λ b. is_failed t.state && b) (sure_is t.pp)) (let more = count_cons (is_failed_and_sure core) t ts in omega (arith, more, few))
+      not_sure = by (is_failed t.state && is_sure_at core t) (failed_at t.moves (is_failed t.state) (is_sure core t.pp) places.0 ∙ ap (λ b. is_failed t.state && b) (sure_is t.pp)) (let more = count_cons (is_failed_and_sure core) t ts in omega (arith, more, few))
         where
           by : (b : Bool) → b ≡ (is_failed t.state && not (is_stale core t.pp)) → count_if b ≤ 0 → is_failed t.state && not (is_stale core t.pp) ≡ false
           by false e low = sym e
@@ -186,22 +202,18 @@ module _ (core : Core) (wanted : (p : Pp) → is_wanted_stale core p ≡ is_stal
         where
           by : (f u st : Bool) → f && not st ≡ false → not (f || (u && st)) || st ≡ true
           by true u true e = or_true (not true)
-            where
-              or_true : (a : Bool) → a || true ≡ true
-              or_true true = refl
-              or_true false = refl
           by true u false e = not_so (sym e)
           by false true true e = refl
           by false true false e = refl
           by false false st e = refl
 
-  none_sure : (ts : List Target) → are_over ts ≡ true → list_any (λ (t : Target). is_done t.state && is_sure core t.pp) ts ≡ false → count_by (is_failed_and_sure core) ts ≤ 0 → list_all (λ (t : Target). is_settled core t.pp) ts ≡ true
-  none_sure [] over kept few = refl
-  none_sure (t ∷ ts) over kept few =
+  none_sure : (ts : List Target) → AllByRecursion (IsPlaceMarked core false) ts → are_over ts ≡ true → list_any (is_sure_done core) ts ≡ false → count_by (is_failed_and_sure core) ts ≤ 0 → list_all (λ (t : Target). is_settled core t.pp) ts ≡ true
+  none_sure [] places over kept few = refl
+  none_sure (t ∷ ts) places over kept few =
       let a = both (is_ended t.state) (are_over ts) over in
-      let b = or_parts (is_done t.state && is_sure core t.pp) (list_any (λ (u : Target). is_done u.state && is_sure core u.pp) ts) kept in
+      let b = or_parts (is_sure_done core t) (list_any (is_sure_done core) ts) kept in
       let more = count_cons (is_failed_and_sure core) t ts in
-      ap (λ c. c && list_all (λ (u : Target). is_settled core u.pp) ts) (settled t.pp ∙ by (is_done t.state) (is_failed t.state) (is_sure core t.pp) (is_stale core t.pp) (sure_is t.pp) a.0 b.0 (omega (arith, more, few))) ∙ none_sure ts a.1 b.1 (omega (arith, more, few))
+      ap (λ c. c && list_all (λ (u : Target). is_settled core u.pp) ts) (settled t.pp ∙ by (is_done t.state) (is_failed t.state) (is_sure_at core t) (is_stale core t.pp) (sure_at t.moves (is_sure core t.pp) places.0 ∙ sure_is t.pp) a.0 b.0 (omega (arith, more, few))) ∙ none_sure ts places.1 a.1 b.1 (omega (arith, more, few))
     where
       by : (d f u st : Bool) → u ≡ not st → d || f ≡ true → d && u ≡ false → count_if (f && u) ≤ 0 → st ≡ true
       by d f u true e over_so not_kept low = refl
@@ -210,15 +222,15 @@ module _ (core : Core) (wanted : (p : Pp) → is_wanted_stale core p ≡ is_stal
       by false false true false e over_so not_kept low = not_so over_so
       by d f false false e over_so not_kept low = not_so e
 
-  lost_marked : (ts : List Target) → are_over ts ≡ true → list_any (λ (t : Target). is_done t.state && is_sure core t.pp) ts ≡ false → count_by (is_failed_and_sure core) ts ≤ 1 → list_all (λ (t : Target). is_settled core t.pp) (all_but_sure core ts) ≡ true
-  lost_marked [] over kept few = refl
-  lost_marked (t ∷ ts) over kept few = by (is_sure core t.pp) refl (λ low. lost_marked ts a.1 b.1 low)
+  lost_marked : (ts : List Target) → AllByRecursion (IsPlaceMarked core false) ts → are_over ts ≡ true → list_any (is_sure_done core) ts ≡ false → count_by (is_failed_and_sure core) ts ≤ 1 → list_all (λ (t : Target). is_settled core t.pp) (all_but_sure core ts) ≡ true
+  lost_marked [] places over kept few = refl
+  lost_marked (t ∷ ts) places over kept few = by (is_sure_at core t) refl (λ low. lost_marked ts places.1 a.1 b.1 low)
     where
       a : (is_ended t.state ≡ true) × (are_over ts ≡ true)
       a = both (is_ended t.state) (are_over ts) over
 
-      b : (is_done t.state && is_sure core t.pp ≡ false) × (list_any (λ (u : Target). is_done u.state && is_sure core u.pp) ts ≡ false)
-      b = or_parts (is_done t.state && is_sure core t.pp) (list_any (λ (u : Target). is_done u.state && is_sure core u.pp) ts) kept
+      b : (is_sure_done core t ≡ false) × (list_any (is_sure_done core) ts ≡ false)
+      b = or_parts (is_sure_done core t) (list_any (is_sure_done core) ts) kept
 
       failed : (d f u : Bool) → u ≡ true → d || f ≡ true → d && u ≡ false → count_if (f && u) ≡ 1
       failed true f true e over_so not_kept = not_so (sym not_kept)
@@ -226,17 +238,17 @@ module _ (core : Core) (wanted : (p : Pp) → is_wanted_stale core p ≡ is_stal
       failed false false true e over_so not_kept = not_so over_so
       failed d f false e over_so not_kept = not_so e
 
-      by : (c : Bool) → is_sure core t.pp ≡ c → (count_by (is_failed_and_sure core) ts ≤ 1 → list_all (λ (u : Target). is_settled core u.pp) (all_but_sure core ts) ≡ true)
+      by : (c : Bool) → is_sure_at core t ≡ c → (count_by (is_failed_and_sure core) ts ≤ 1 → list_all (λ (u : Target). is_settled core u.pp) (all_but_sure core ts) ≡ true)
           → list_all (λ (u : Target). is_settled core u.pp) (if c then ts else t ∷ all_but_sure core ts) ≡ true
-      by true is rest = none_sure ts a.1 b.1 (let more = count_cons (is_failed_and_sure core) t ts in let one = failed (is_done t.state) (is_failed t.state) (is_sure core t.pp) is a.0 b.0 in omega (arith, more, one, few))
-      by false is rest = ap (λ c. c && list_all (λ (u : Target). is_settled core u.pp) (all_but_sure core ts)) (settled t.pp ∙ stale_so (is_stale core t.pp) (sym (sure_is t.pp) ∙ is)) ∙ rest (let more = count_cons (is_failed_and_sure core) t ts in omega (arith, more, few))
+      by true is rest = none_sure ts places.1 a.1 b.1 (let more = count_cons (is_failed_and_sure core) t ts in let one = failed (is_done t.state) (is_failed t.state) (is_sure_at core t) is a.0 b.0 in omega (arith, more, one, few))
+      by false is rest = ap (λ c. c && list_all (λ (u : Target). is_settled core u.pp) (all_but_sure core ts)) (settled t.pp ∙ stale_so (is_stale core t.pp) (sym (sure_at t.moves (is_sure core t.pp) places.0 ∙ sure_is t.pp) ∙ is)) ∙ rest (let more = count_cons (is_failed_and_sure core) t ts in omega (arith, more, few))
         where
           stale_so : (st : Bool) → not st ≡ false → st ≡ true
           stale_so true e = refl
           stale_so false e = not_so (sym e)
 
-  all_marked : (r : Request) → are_over r.targets.items ≡ true → is_wanted_due core r ≡ true → is_marked core r ≡ true
-  all_marked r over due = by (is_kept core r) refl due
+  all_marked : (r : Request) → AllByRecursion (IsPlaceMarked core (is_kept core r)) r.targets.items → are_over r.targets.items ≡ true → is_wanted_due core r ≡ true → is_marked core r ≡ true
+  all_marked r places over due = by (is_kept core r) refl places due
     where
       at_most : (n m : ℕ) → nat_le n m ≡ true → n ≤ m
       at_most n m e = grind (arith, nat_tests, e)
@@ -245,10 +257,10 @@ module _ (core : Core) (wanted : (p : Pp) → is_wanted_stale core p ≡ is_stal
       at_most_one n true e = let none = at_most n 0 e in omega (arith, none)
       at_most_one n false e = at_most n 1 e
 
-      by : (b : Bool) → is_kept core r ≡ b → nat_le (count_by (is_failed_and_sure core) r.targets.items) (if b || will_be_kept core r then 0 else 1) ≡ true
+      by : (b : Bool) → is_kept core r ≡ b → AllByRecursion (IsPlaceMarked core b) r.targets.items → nat_le (count_by (is_failed_and_sure core) r.targets.items) (if b || will_be_kept core r then 0 else 1) ≡ true
           → (if b then list_all (λ (t : Target). not (counts_failed core t) || is_settled core t.pp) r.targets.items else list_all (λ (t : Target). is_settled core t.pp) (all_but_sure core r.targets.items)) ≡ true
-      by true is e = kept_marked r.targets.items (at_most (count_by (is_failed_and_sure core) r.targets.items) 0 e)
-      by false is e = lost_marked r.targets.items over is (at_most_one (count_by (is_failed_and_sure core) r.targets.items) (will_be_kept core r) e)
+      by true is all e = kept_marked r.targets.items all (at_most (count_by (is_failed_and_sure core) r.targets.items) 0 e)
+      by false is all e = lost_marked r.targets.items all over is (at_most_one (count_by (is_failed_and_sure core) r.targets.items) (will_be_kept core r) e)
 
 -- ---- a cache of which nothing is pinned
 
@@ -358,7 +370,7 @@ parts_after_data = copy_read ∷ copy_write ∷ []
 
 -- ---- a session in which nothing is out, and of which no event may be made
 
-module _ (s : State) (sound : IsSound s) (on : s.core.power ≡ power.On) (votes : is_lost s.core ≡ false) (none : first_event s.core ≡ None) (idle : s.device.flights ≡ []) where
+module _ (s : State) (sound : IsSound s) (on : s.core.power ≡ power.On) (votes : is_lost s.core ≡ false) (none : first_event s.core ≡ None) (idle : s.device.flights ≡ []) (undone : option_map_or (is_moved s.core) s.core.copy false ≡ false) where
   abbrev core : Core
   core = s.core
 
@@ -603,8 +615,44 @@ module _ (s : State) (sound : IsSound s) (on : s.core.power ≡ power.On) (votes
             sym (all_ended targets (none_fly place o there) (write_starts (next_is phase.Data is ∙ ap (λ (b : Bool). if b then next_data k o.request else next_read targets) write ∙ ap (λ (b : Bool). if b then next_write o.request.policy targets else next_chosen k (if k.pending then next.Wait else next_write o.request.policy targets)) begun))) ∙ its_phase.1 write
         in_phase phase.WantStatus is its_phase begun = absurd (let no : Some (if k.kept then outcome.Done else outcome.Lost) ≡ None = sym (ap outcome_next (next_is phase.WantStatus is) ∙ ap (λ (b : Bool). outcome_next (if b then next.Land (if k.kept then outcome.Done else outcome.Lost) else next.Wait)) marked_so) ∙ no_landing place o there in cc no)
           where
+            -- where no failed target is sure a copy that stays fresh is one that succeeded
+            kept_there : (t : Target) (n : ℕ) → slice_get targets n ≡ Some t → t.moves ≡ true → list_any (is_failed_and_sure core) targets ≡ false → is_kept core o.request ≡ true
+            kept_there t n t_there moves none = kept_of core going o (one place o there) (ap wants_status is) none (over_begun targets (some_there targets n t t_there) its_phase.1) (of_aim t.moves moves (all_at (IsTarget core o.request.ask) targets n t its.shape.targets t_there).copy)
+              where
+                of_aim : (b : Bool) → b ≡ true → IsAimed b core o.request.ask t → list_any (stays_fresh core) (copies_for core o.request.ask) ≡ true
+                of_aim false never aimed = not_so never
+                of_aim true is_place aimed = (λ i. list_any (stays_fresh core) (copies_in core.descriptor (eqb-true (lv_of o.request.ask) at.copy.lv beside_it.0 i) (eqb-true (lp_of core o.request.ask) at.copy.lp beside_it.1 i))) ∙ (move_of core at.copy bring at.moves).fresh
+                  where
+                    at : IsOpenPlace core o.request.ask t.pp
+                    at = place_open core o.request.ask t.pp aimed.0
+
+                    bring : IsCopy core at.copy
+                    bring = subst (λ (m : Option OpenCopy). IfSome m (IsCopy core)) at.is_open going.copy
+
+                    beside_it : ((lv_of o.request.ask == at.copy.lv) ≡ true) × ((lp_of core o.request.ask == at.copy.lp) ≡ true)
+                    beside_it = both (lv_of o.request.ask == at.copy.lv) (lp_of core o.request.ask == at.copy.lp) at.beside
+
+            -- a place that the write has missed isn't sure, and none that it hasn't is where it is lost
+            place_marked : (n : ℕ) (t : Target) → slice_get targets n ≡ Some t → (b : Bool) → is_kept core o.request ≡ b → IsPlaceMarked core b t
+            place_marked n t t_there true kept = of t.moves (is_failed t.state) (list_any (is_failed_and_sure core) targets) (is_sure core t.pp) (all_at (IsMarkedPlace core o.request) targets n t ((its.judged write).missed (ap wants_status is)) t_there)
+              where
+                of : (a f l s : Bool) → (a && (f || l)) && s ≡ false → a && (f && s) ≡ false
+                of false f l s e = refl
+                of true true l s e = e
+                of true false l s e = refl
+            place_marked n t t_there false lost = of t.moves (is_failed t.state) (list_any (is_failed_and_sure core) targets) (is_sure core t.pp) refl refl (all_at (IsMarkedPlace core o.request) targets n t ((its.judged write).missed (ap wants_status is)) t_there)
+              where
+                of : (a f l s : Bool) → t.moves ≡ a → list_any (is_failed_and_sure core) targets ≡ l → (a && (f || l)) && s ≡ false → a && s ≡ false
+                of false f l s i j e = refl
+                of true f true s i j e = sym (ap (λ b. b && s) (or_true f)) ∙ e
+                of true true false s i j e = e
+                of true false false s i j e = not_so (sym lost ∙ kept_there t n t_there i j)
+
+            places_marked : AllByRecursion (IsPlaceMarked core (is_kept core o.request)) targets
+            places_marked = by_places (IsPlaceMarked core (is_kept core o.request)) targets (λ n t t_there. place_marked n t t_there (is_kept core o.request) refl)
+
             marked_so : is_marked core o.request ≡ true
-            marked_so = all_marked core wanted_is settled_is o.request its_phase.1 ((its.judged write).due (ap wants_status is))
+            marked_so = all_marked core wanted_is settled_is o.request places_marked its_phase.1 ((its.judged write).due (ap wants_status is))
         in_phase phase.Landed is its_phase begun = absurd its_phase
 
         by : (b : Bool) → is_begun targets ≡ b → b ≡ false
@@ -619,10 +667,19 @@ module _ (s : State) (sound : IsSound s) (on : s.core.power ≡ power.On) (votes
       by true false i j = refl
       by true true i j = ap (λ c. c && list_any (counts_failed core) e.request.targets.items) (not_begun place e there i j)
 
+  -- nor is a move done
+  not_by_move : (ask : Ask) → is_held_by_move core ask ≡ false
+  not_by_move ask = by core.copy undone
+    where
+      by : (m : Option OpenCopy) → option_map_or (is_moved core) m false ≡ false → option_map_or (λ (c : OpenCopy). is_moved core c && is_beside_copy core ask c) m false ≡ false
+      by None e = refl
+      by (Some c) e = ap (λ b. b && is_beside_copy core ask c) e
+
   -- so nothing is pending
   not_pending : (r : Request) → is_pending core r ≡ false
   not_pending r =
-      ap (λ b. b || list_any (λ (e : Open). not (e.request.id == r.id) && is_beside core e.request.ask r.ask && is_failing core e) core.requests) (none_each (λ (p : Pp). is_wanted_stale core p && not (is_settled core p)) settled_each (copies_for core r.ask))
+      ap (λ b. b || (list_any (λ (p : Pp). is_wanted_stale core p && not (is_settled core p)) (copies_for core r.ask) || list_any (λ (e : Open). not (e.request.id == r.id) && is_beside core e.request.ask r.ask && is_failing core e) core.requests)) (not_by_move r.ask)
+      ∙ ap (λ b. b || list_any (λ (e : Open). not (e.request.id == r.id) && is_beside core e.request.ask r.ask && is_failing core e) core.requests) (none_each (λ (p : Pp). is_wanted_stale core p && not (is_settled core p)) settled_each (copies_for core r.ask))
       ∙ none_any (λ (e : Open). not (e.request.id == r.id) && is_beside core e.request.ask r.ask && is_failing core e) core.requests
       (by_places (λ (e : Open). not (e.request.id == r.id) && is_beside core e.request.ask r.ask && is_failing core e ≡ false) core.requests (λ j e at. ap (λ b. not (e.request.id == r.id) && is_beside core e.request.ask r.ask && b) (none_failing e j at) ∙ ends (not (e.request.id == r.id)) (is_beside core e.request.ask r.ask)))
     where
@@ -640,16 +697,41 @@ module _ (s : State) (sound : IsSound s) (on : s.core.power ≡ power.On) (votes
 
   -- the targets of a write that are as they should be aren't missing
   targets_there : (place : ℕ) (o : Open) (there : slice_get core.requests place ≡ Some o) → is_waiting o ≡ true → is_write o.request.ask ≡ true → (facts_of core o.request).usable ≡ true → (facts_of core o.request).changed ≡ false → AllByRecursion (λ (t : Target). is_missing core t.pp.disk ≡ false) o.request.targets.items
-  targets_there place o there waiting write usable same = by o.request.targets.items (aims core o.request.ask) aims_there
-      (same_so (same_pps (pps_of o.request.targets.items) (aims core o.request.ask)) (sym (ap (λ b. b && not (same_pps (pps_of o.request.targets.items) (aims core o.request.ask))) write) ∙ same))
+  targets_there place o there waiting write usable same = by o.request.targets.items (aims core o.request.ask ++ place_aims core o.request.ask) aims_there
+      (same_so (same_pps (pps_of o.request.targets.items) (aims core o.request.ask ++ place_aims core o.request.ask)) (sym (ap (λ b. b && not (same_pps (pps_of o.request.targets.items) (aims core o.request.ask ++ place_aims core o.request.ask))) write) ∙ same))
     where
       same_so : (b : Bool) → not b ≡ false → b ≡ true
       same_so true e = refl
       same_so false e = not_so (sym e)
 
-      aims_there : AllByRecursion (λ (p : Pp). is_missing core p.disk ≡ false) (aims core o.request.ask)
-      aims_there = passing (copies_for core o.request.ask)
+      aims_there : AllByRecursion (λ (p : Pp). is_missing core p.disk ≡ false) (aims core o.request.ask ++ place_aims core o.request.ask)
+      aims_there = and_then (aims core o.request.ask) (place_aims core o.request.ask) (passing (copies_for core o.request.ask)) (of_place core.copy refl)
         where
+          and_then : (ps qs : List Pp) → AllByRecursion (λ (p : Pp). is_missing core p.disk ≡ false) ps → AllByRecursion (λ (p : Pp). is_missing core p.disk ≡ false) qs → AllByRecursion (λ (p : Pp). is_missing core p.disk ≡ false) (ps ++ qs)
+          and_then [] qs all more = more
+          and_then (p ∷ ps) qs all more = (all.0, and_then ps qs all.1 more)
+
+          -- a move that runs ends where the disk of its place is missing
+          runs_there : (c : OpenCopy) → core.copy ≡ Some c → is_running c ≡ true → is_missing core c.pp.disk ≡ false
+          runs_there c is runs = stays (is_running c) (is_missing core c.pp.disk) _ runs (sym (ap (λ m. option_map_or (end_of core) m None) is) ∙ going.reviewed)
+            where
+              stays : (a b : Bool) (rest : Option CopyEnd) → a ≡ true → (if not a then None else if b then Some ending.SyncFailed else rest) ≡ None → b ≡ false
+              stays a false rest e f = refl
+              stays true true rest e f = absurd (cc f)
+              stays false true rest e f = not_so e
+
+          of_place : (m : Option OpenCopy) → core.copy ≡ m → AllByRecursion (λ (p : Pp). is_missing core p.disk ≡ false) (filter (is_caught core (group_in core o.request.ask)) (option_map_or (λ (c : OpenCopy). places_if (c.moves && is_beside_copy core o.request.ask c) c) m []))
+          of_place None is = tt
+          of_place (Some c) is = of (c.moves && is_beside_copy core o.request.ask c)
+            where
+              caught : (b : Bool) → is_caught core (group_in core o.request.ask) c.pp ≡ b → AllByRecursion (λ (p : Pp). is_missing core p.disk ≡ false) (if b then c.pp ∷ [] else [])
+              caught false e = tt
+              caught true e = (runs_there c is (both (is_running c) (is_pp c.pp c.pp) (both (is_running c && is_pp c.pp c.pp) (nat_lt (group_in core o.request.ask) c.cursor) (sym (ap (λ m. option_map_or (λ (d : OpenCopy). is_running d && is_pp c.pp d.pp && nat_lt (group_in core o.request.ask) d.cursor) m false) is) ∙ e)).0).0, tt)
+
+              of : (b : Bool) → AllByRecursion (λ (p : Pp). is_missing core p.disk ≡ false) (filter (is_caught core (group_in core o.request.ask)) (places_if b c))
+              of false = tt
+              of true = caught (is_caught core (group_in core o.request.ask) c.pp) refl
+
           passing : (ps : List Pp) → AllByRecursion (λ (p : Pp). is_missing core p.disk ≡ false) (filter (λ (p : Pp). is_usable core p || is_caught core (group_in core o.request.ask) p) ps)
           passing [] = tt
           passing (p ∷ ps) = of (is_usable core p || is_caught core (group_in core o.request.ask) p) refl (passing ps)
@@ -961,14 +1043,43 @@ module _ (s : State) (sound : IsSound s) (on : s.core.power ≡ power.On) (votes
       its_copy : IsCopy core c
       its_copy = subst (λ m. IfSome m (IsCopy core)) is going.copy
 
-      or_true : (a : Bool) → a || true ≡ true
-      or_true true = refl
-      or_true false = refl
-
       by : (a b : Bool) → is_running c ≡ a → is_whole core c ≡ b → is_running c ≡ false
       by false b i j = i
-      by true true i j = let clear = its_copy.clearing i j in not_so (sym clear.1 ∙ wanted_is c.pp ∙ clear.0)
+      by true true i j = of_kind c.moves refl its_copy.kind
+        where
+          of_kind : (k : Bool) → c.moves ≡ k → IsOfKind k core c → is_running c ≡ false
+          of_kind false k it = let clear = it.clearing i j in not_so (sym clear.1 ∙ wanted_is c.pp ∙ clear.0)
+          of_kind true k it = not_so (sym (sym done ∙ ap (λ m. option_map_or (is_moved core) m false) (sym is) ∙ undone))
+            where
+              fresh : is_stale core c.pp ≡ false
+              fresh = sym (wanted_is c.pp) ∙ it.clear i j
+
+              seen_fresh : calls_stale (unwrap_or core.status.in_flight core.status.committed) c.pp ≡ false
+              seen_fresh = ap (λ m. calls_stale (unwrap_or m core.status.committed) c.pp) settled_status.0 ∙ fresh
+
+              calm : is_under_way core c ≡ false
+              calm = none_waits core.requests all_landed
+                where
+                  none_waits : (os : List Open) → list_any is_waiting os ≡ false → list_any (λ (x : Open). is_waiting x && is_past_held x.request.phase && is_beside_copy core x.request.ask c) os ≡ false
+                  none_waits [] e = refl
+                  none_waits (x ∷ os) e = let it = or_parts (is_waiting x) (list_any is_waiting os) e in
+                      ap (λ b. (b && is_past_held x.request.phase && is_beside_copy core x.request.ask c) || list_any (λ (y : Open). is_waiting y && is_past_held y.request.phase && is_beside_copy core y.request.ask c) os) it.0 ∙ none_waits os it.1
+
+              done : is_moved core c ≡ true
+              done =
+                  ap (λ b. b && is_running c && is_whole core c && is_clear core c.pp && not (is_under_way core c)) k
+                  ∙ ap (λ b. b && is_whole core c && is_clear core c.pp && not (is_under_way core c)) i
+                  ∙ ap (λ b. b && is_clear core c.pp && not (is_under_way core c)) j
+                  ∙ ap (λ b. (not b && not (calls_stale (unwrap_or core.status.in_flight core.status.committed) c.pp) && not (is_wanted_stale core c.pp)) && not (is_under_way core c)) fresh
+                  ∙ ap (λ b. (not b && not (is_wanted_stale core c.pp)) && not (is_under_way core c)) seen_fresh
+                  ∙ ap (λ b. not b && not (is_under_way core c)) (it.clear i j)
+                  ∙ ap (λ b. not b) calm
       by true false i j = absurd (no_step c is (ap (λ b. is_out c.step || (b && not (is_whole core c))) i ∙ ap (λ b. is_out c.step || not b) j ∙ or_true (is_out c.step)))
 
 pub never_stands_still : NeverStandsStill
-never_stands_still s sound on votes none idle = (all_landed s sound on votes none idle, copy_over s sound on votes none idle s.core.copy refl)
+never_stands_still s sound on votes none idle = by (option_map_or (is_moved s.core) s.core.copy false) refl
+  where
+    by : (b : Bool) → option_map_or (is_moved s.core) s.core.copy false ≡ b
+        → (option_map_or (is_moved s.core) s.core.copy false ≡ true) ⊎ ((list_any is_waiting s.core.requests ≡ false) × IfSome s.core.copy (λ (c : OpenCopy). is_running c ≡ false))
+    by true done = inl done
+    by false undone = inr (all_landed s sound on votes none idle undone, copy_over s sound on votes none idle undone s.core.copy refl)

@@ -40,14 +40,14 @@ use Rattle.lvm_session.specs.Marks.{WantsDirty, WantsDirtyIf}
 use Rattle.lvm_session.specs.Left.{marks_later}
 use Rattle.lvm_session.specs.Owners.{AreOwned, IsDataOf, flies, target_flies}
 use Rattle.lvm_session.specs.Requests.{IsOpenOne, IsPhase, IsRecorded, IsRequest, IsTarget, has_record, is_past_held, is_wanted_dirty, may_lack, mode_for, wants_status}
-use Rattle.lvm_session.specs.Causes.{AreCaused, AreCounted, IsAnswered, IsCaused, IsChosenSince, IsCausedAmong, IsCounted, IsLandedFor, fails_on, faults_at_opening, is_held_stale}
+use Rattle.lvm_session.specs.Causes.{AreCaused, AreCounted, IsAnswered, IsCaused, IsChosenSince, IsCausedAmong, IsCounted, IsLandedFor, fails_on, faults_at_opening, is_held_stale, own_faults}
 use Rattle.lvm_session.specs.Sound.{IsAsked, IsCopy, IsFitting, IsGoing, IsOn, IsSound, IsTold, count_if, is_dark, is_hand, out_with, pins, with_row}
 use Rattle.lvm_keeps.specs.Keeps.{AdmissionKeeps}
 use Rattle.lvm_keeps.proofs.CausesLemmas.{answered_still, copies_still, counted_still, origin_still}
 use Rattle.lvm_keeps.proofs.Lists.{all_set, any_set, count_cons, count_same, count_set}
 use Rattle.lvm_keeps.proofs.OwnersLemmas.Rows.{all_fly, rows_on}
 use Rattle.lvm_keeps.proofs.Small.{same_blame}
-use Rattle.lvm_keeps.proofs.RequestsLemmas.{bring_on, if_on, moved, no_cause, open_on}
+use Rattle.lvm_keeps.proofs.RequestsLemmas.{bring_on, if_on, moved, no_cause, open_on, target_still}
 use Rattle.lvm_keeps.proofs.DarkLemmas.Tables.{apart, ascending_set, rows_set}
 use Rattle.lvm_keeps.proofs.SoundLemmas.Whole.{sound_when_on}
 use Rattle.lvm_keeps_events.proofs.TargetsLemmas.{only_at}
@@ -209,7 +209,7 @@ module _ (s : State) (sound : IsSound s) (on : s.core.power ≡ power.On) (place
         laid = let l = its.laid in record { within = l.within; blocks = l.blocks; most = omega (arith, few); id = l.id };
         waits = λ e. record {
           shape = record {
-            targets = all_weaker (IsTarget core o.request.ask) (IsTarget now.core o.request.ask) (λ t i. record { copy = i.copy; sector = i.sector; there = i.there }) targets its_choice.aims;
+            targets = all_weaker (IsTarget core o.request.ask) (IsTarget now.core o.request.ask) (target_still core now.core refl (λ ask. refl) o.request.ask) targets its_choice.aims;
             phase_is = phase_by made several some many.0 many.1 fresh still refl m (is_write o.request.ask) refl several refl;
             hand = request.shape.hand ∙ ap (λ b. not (is_write o.request.ask) && b) (unbegun_done o.request.targets.items unbegun ∙ sym none_done);
             room = request.shape.room;
@@ -228,7 +228,9 @@ module _ (s : State) (sound : IsSound s) (on : s.core.power ≡ power.On) (place
             uncaught = all_weaker (λ (t : Target). t.state ≡ stage.Waiting) (λ (t : Target). may_lack made t && is_caught core (group_in core o.request.ask) t.pp ≡ false)
                 (λ t e. ap (λ (st : TargetState). (is_failed st || false) && is_caught core (group_in core o.request.ask) t.pp) e) targets its_choice.fresh;
             due = λ status. not_so (sym (no_status m (is_write o.request.ask) several) ∙ status);
+            missed = λ status. not_so (sym (no_status m (is_write o.request.ask) several) ∙ status);
             all = λ begun p among. not_so (sym fresh ∙ begun);
+            place = λ begun p among. not_so (sym fresh ∙ begun);
           };
         };
         over = λ e. absurd (not_so (sym e ∙ waits));
@@ -241,7 +243,7 @@ module _ (s : State) (sound : IsSound s) (on : s.core.power ≡ power.On) (place
       wanted_on mode.Off e = refl
 
   still : (x : Open) → IsOpenOne core x → IsOpenOne now.core x
-  still x it = open_on core core.history requests core.queue core.copy core.pool core.flying entries last x (λ e. e) (λ p e. e) it
+  still x it = open_on core core.history requests core.queue core.copy core.pool core.flying entries last x (λ e. e) (λ p e. e) (λ ask. refl) it
 
   fitting : IsFitting now.core
   fitting = let f = sound.fitting in record {
@@ -359,8 +361,11 @@ module _ (s : State) (sound : IsSound s) (on : s.core.power ≡ power.On) (place
 
   -- its targets are new, and count the faults of now
   its_chosen : (c : OpenCopy) → IsCausedAmong s (copies_in core.descriptor c.lv c.lp) c → IsChosenSince now.core c made
-  its_chosen c why waiting older number p at = all_weaker (λ (t : Target). t.faults ≡ s.device.counts.faults t.pp.disk) (λ (t : Target). t.pp ≡ p → faults_at_opening c number ≤ t.faults)
-      (λ t now_is same. let low = why.since number p at in let here : s.device.counts.faults t.pp.disk ≡ s.device.counts.faults p.disk = ap (λ (q : Pp). s.device.counts.faults q.disk) same in omega (arith, now_is, low, here)) targets its_choice.faults
+  its_chosen c why waiting older number p at = all_weaker (λ (t : Target). t.faults ≡ s.device.counts.faults t.pp.disk) (λ (t : Target). (t.pp ≡ p → faults_at_opening c number ≤ t.faults) × (t.pp ≡ c.pp → own_faults c ≤ t.faults))
+      (λ t now_is. (
+        λ same. let low = why.since number p at in let here : s.device.counts.faults t.pp.disk ≡ s.device.counts.faults p.disk = ap (λ (q : Pp). s.device.counts.faults q.disk) same in omega (arith, now_is, low, here),
+        λ same. let low = why.own_since in let here : s.device.counts.faults t.pp.disk ≡ s.device.counts.faults c.pp.disk = ap (λ (q : Pp). s.device.counts.faults q.disk) same in omega (arith, now_is, low, here),
+      )) targets its_choice.faults
 
   chosen_on : (m : Option OpenCopy) → IfSome m (λ (c : OpenCopy). IsCausedAmong s (copies_in core.descriptor c.lv c.lp) c) → IfSome m (λ (c : OpenCopy). AllByRecursion (IsChosenSince core c) core.requests) → IfSome m (λ (c : OpenCopy). AllByRecursion (IsChosenSince now.core c) requests)
   chosen_on None why all = tt
@@ -501,10 +506,11 @@ module _ (s : State) (sound : IsSound s) (on : s.core.power ≡ power.On) (place
 
       choice_between : IsChosen between o targets
       choice_between = let c = choice in record {
-        aims = all_weaker (IsTarget s.core o.request.ask) (IsTarget between.core o.request.ask) (λ t i. record { copy = i.copy; sector = i.sector; there = i.there }) targets c.aims;
+        aims = all_weaker (IsTarget s.core o.request.ask) (IsTarget between.core o.request.ask) (target_still s.core between.core refl (λ ask. refl) o.request.ask) targets c.aims;
         fresh = c.fresh;
         differ = c.differ;
         few = c.few;
+        few_to_read = c.few_to_read;
         usable = c.usable;
         faults = c.faults;
         caused = all_weaker (IsCaused s.device s.core) (IsCaused s.device between.core) (marked_caused s sound on (lv_of o.request.ask) status.wanted status.writes mark.like mark.started status_sound row one_of.laid.within.volume passive clean) targets c.caused;

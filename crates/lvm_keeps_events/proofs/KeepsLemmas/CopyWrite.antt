@@ -32,9 +32,10 @@ use Rattle.lvm_keeps.proofs.CausesLemmas.{copy_still, origin_still}
 use Rattle.lvm_keeps.proofs.OwnersLemmas.Launching.{flights_push, none_more, owners_push, rows_push, tickets_push}
 use Rattle.lvm_keeps.proofs.OwnersLemmas.Rows.{all_fly, rows_but_copy}
 use Rattle.lvm_keeps.proofs.Small.{both}
-use Rattle.lvm_keeps.proofs.RequestsLemmas.{open_on, copy_stepped, same_next}
+use Rattle.lvm_keeps.proofs.RequestsLemmas.{open_on, copy_stepped, same_next, kind_still}
 use Rattle.lvm_keeps.proofs.SoundLemmas.Whole.{sound_still, told_still}
 use Rattle.lvm_keeps_events.proofs.SoundLemmas.Frame.{after, fitting_on, launched}
+use Rattle.lvm_session.proofs.MovesLemmas.{places_by}
 
 module _ (s : State) (sound : IsSound s) (on : s.core.power ≡ power.On) (c : OpenCopy) (is : s.core.copy ≡ Some c) (may : may_write c ≡ true) (buf : Buffer) (in_hand : c.step ≡ step.Read buf)
     (f : Flight) (writes : IsCopyTransfer s.core c c.pp true f) (carries : f.buf ≡ buf) (fresh : IsFresh f.ticket s.device.flights) (starts : ℕ → ℕ) (wrote : Option (List Range)) where
@@ -77,11 +78,11 @@ module _ (s : State) (sound : IsSound s) (on : s.core.power ≡ power.On) (c : O
 
   one : (o : Open) → IsOpenOne core o → IsOpenOne now.core o
   one o it = open_on core core.history core.requests core.queue (Some writing) core.pool (core.flying ++ row ∷ []) core.cache.entries core.last o (λ e. e)
-      (λ p e. sym (of_copy (λ (k : OpenCopy). is_running k && is_pp p k.pp && nat_lt (group_in core o.request.ask) k.cursor) false) ∙ e) it
+      (λ p e. sym (of_copy (λ (k : OpenCopy). is_running k && is_pp p k.pp && nat_lt (group_in core o.request.ask) k.cursor) false) ∙ e) (λ ask. ap (places_by core ask) is) it
 
   bring : IsCopy now.core writing
   bring = copy_stepped core now.core c step.Writing c.tried c.end refl (same_next core) its tt (λ e. its.free (ap is_idle in_hand)) (λ e. refl)
-      its.tried tt (λ goes busy. short) its.stale its.clearing
+      its.tried tt (λ goes busy. short) (kind_still core now.core c step.Writing c.tried c.end refl refl refl (λ goes. goes) c.moves its.kind)
 
   -- ---- whose it is
 

@@ -1,5 +1,5 @@
 -- The transfer of a target is started.
-use Rattle.std.proofs.Common.{◌≡◌, ◌⊎◌, inl, inr, ◌==◌, ◌≤◌, ◌<◌, ◌+◌, ℕ, Bool, true, false, ◌&&◌, ◌||◌, not, if◌then◌else◌, List, [], ◌∷◌, ◌++◌, Option, Some, length, slice_get, slice_set, refl, sym, ◌∙◌, ap, subst, arith}
+use Rattle.std.proofs.Common.{◌≡◌, ◌⊎◌, inl, inr, ◌==◌, ◌≤◌, ◌<◌, ℕ, Bool, true, false, ◌&&◌, ◌||◌, not, if◌then◌else◌, List, [], ◌∷◌, ◌++◌, Option, Some, length, slice_get, slice_set, refl, sym, ◌∙◌, ap, subst, arith}
 use Rattle.std.specs.Prelude.{AllPairs, count_by, slice_index_or}
 use Rattle.std.specs.List.{list_any, AllByRecursion}
 use Rattle.std.specs.Option.{option_map_or}
@@ -30,23 +30,23 @@ use Rattle.lvm_session.specs.declared.flown.Owner.TheVariants as owner
 use Rattle.lvm_session.specs.declared.open.Open.{Open}
 use Rattle.lvm_session.specs.declared.open.Power.TheVariants as power
 use Rattle.lvm_session.specs.State.{Core, State, state}
-use Rattle.lvm_session.specs.Judging.{copies_for, facts_of, group_in, group_of, has_dirty_mark, has_names, is_caught, is_missing, is_waiting, is_wanted_stale, mode_of, pps_of}
+use Rattle.lvm_session.specs.Judging.{copies_for, facts_of, group_in, group_of, has_dirty_mark, has_names, is_caught, is_missing, is_waiting, is_wanted_stale, mode_of, pps_of, place_aims}
 use Rattle.lvm_session.specs.Bringing.{has_row, step_row}
 use Rattle.lvm_session.specs.Enabled.{target_due}
 use Rattle.lvm_session.specs.Events.{IsDataTransfer, begun_as, flown}
 use Rattle.lvm_session.specs.Marks.{is_among}
 use Rattle.lvm_session.specs.Left.{marks_later}
 use Rattle.lvm_session.specs.Owners.{AreOwned, IsDataOf, flies, same_owner, target_flies}
-use Rattle.lvm_session.specs.Requests.{IsJudged, IsOpenOne, IsPhase, IsPinned, IsReady, IsRecorded, IsRequest, IsShaped, IsTarget, has_record, is_left_out, is_past_held, may_lack, mode_for}
-use Rattle.lvm_session.specs.Causes.{AreCaused, AreCounted, IsAnswered, IsCaused, IsChosenSince, IsCounted, IsLandedFor, fails_on, faults_at_opening, is_held_stale}
+use Rattle.lvm_session.specs.Requests.{IsAimed, IsJudged, IsOpenOne, IsPhase, IsPinned, IsReady, IsRecorded, IsRequest, IsShaped, IsTarget, has_record, is_left_out, is_past_held, may_lack, mode_for}
+use Rattle.lvm_session.specs.Causes.{own_faults, AreCaused, AreCounted, IsAnswered, IsCaused, IsChosenSince, IsCounted, IsLandedFor, fails_on, faults_at_opening, is_held_stale}
 use Rattle.lvm_session.specs.Sound.{IsAsked, IsCopy, IsGoing, IsOn, IsSound, IsTold, count_if, has_number, is_dark, is_hand, out_with, pins, with_row}
 use Rattle.lvm_keeps.specs.Keeps.{DataStartKeeps}
 use Rattle.lvm_keeps.proofs.CausesLemmas.{answered_still, copies_still, counted_still, origin_still}
 use Rattle.lvm_keeps.proofs.OwnersLemmas.Launching.{flights_push, none_more, owners_push, rows_push, taken, tickets_push}
 use Rattle.lvm_keeps.proofs.Lists.{all_set, any_set, count_same, count_set, set_here}
 use Rattle.lvm_keeps.proofs.OwnersLemmas.Rows.{all_fly, rows_on}
-use Rattle.lvm_keeps.proofs.KeepsLemmas.Starting.{first_start_is_whole}
-use Rattle.lvm_keeps.proofs.RequestsLemmas.{bring_on, if_on, no_cause, open_on}
+use Rattle.lvm_keeps.proofs.KeepsLemmas.Starting.{first_start_is_whole, goes_along}
+use Rattle.lvm_keeps.proofs.RequestsLemmas.{bring_on, if_on, no_cause, open_on, target_still}
 use Rattle.lvm_keeps.proofs.DarkLemmas.Tables.{apart, ascending_set, rows_set}
 use Rattle.lvm_keeps.proofs.SoundLemmas.Whole.{sound_when_on}
 use Rattle.lvm_keeps_events.proofs.TargetsLemmas.{all_true_set, any_here, at_state, count_none, neither, not_all_set, only_at, pp_at, pps_set, set_state}
@@ -218,10 +218,14 @@ module _ (s : State) (sound : IsSound s) (on : s.core.power ≡ power.On) (place
   }
     where
       target_on : (t : Target) → IsTarget core o.request.ask t → IsTarget now.core o.request.ask t
-      target_on t i = record { copy = i.copy; sector = i.sector; there = i.there }
+      target_on t i = target_still core now.core refl (λ ask. refl) o.request.ask t i
 
       moved : IsTarget core o.request.ask aim → IsTarget core o.request.ask flying
-      moved i = record { copy = i.copy; sector = i.sector; there = i.there }
+      moved i = record { copy = aimed aim.moves i.copy; sector = i.sector; there = i.there }
+        where
+          aimed : (b : Bool) → IsAimed b core o.request.ask aim → IsAimed b core o.request.ask flying
+          aimed false a = a
+          aimed true a = a
 
       a_differ : AllPairs (λ (a b : Target). a.pp ≡ b.pp → ⊥) (slice_set targets target flying)
       a_differ i j d less high e = request.shape.differ i j d less (subst (λ n. j < n) same_long high) (sym (pp_at targets target aim stage.Flying aim_is i d) ∙ e ∙ pp_at targets target aim stage.Flying aim_is j d)
@@ -232,7 +236,9 @@ module _ (s : State) (sound : IsSound s) (on : s.core.power ≡ power.On) (place
   judged write = let j = request.judged write in record {
     uncaught = all_set Uncaught Uncaught (λ t is. is) targets target flying (sym (ap (λ st. (is_failed st || o.older) && is_caught core (group_in core o.request.ask) aim.pp) at_rest) ∙ all_at Uncaught targets target aim j.uncaught aim_is) j.uncaught;
     due = λ status. not_so status;
+    missed = λ status. not_so status;
     all = λ goes p among. ap (λ ps. is_among ps p || is_left_out core o.request.ask p) (pps_set targets target aim stage.Flying aim_is) ∙ whole p among (is_begun targets) refl;
+    place = λ goes p among. ap (λ ps. is_among ps p) (pps_set targets target aim stage.Flying aim_is) ∙ along p among (is_begun targets) refl;
   }
     where
       Uncaught : Target → Type 0
@@ -241,6 +247,10 @@ module _ (s : State) (sound : IsSound s) (on : s.core.power ≡ power.On) (place
       whole : (p : Pp) → is_among (copies_for core o.request.ask) p ≡ true → (b : Bool) → is_begun targets ≡ b → is_among (pps_of targets) p || is_left_out core o.request.ask p ≡ true
       whole p among true is = (request.judged write).all is p among
       whole p among false is = first_start_is_whole s place target o sound on there due write is p among
+
+      along : (p : Pp) → is_among (place_aims core o.request.ask) p ≡ true → (b : Bool) → is_begun targets ≡ b → is_among (pps_of targets) p ≡ true
+      along p among true is = (request.judged write).place is p among
+      along p among false is = goes_along s place target o sound on there due write is p among
 
   one : IsOpenOne now.core begun
   one = record {
@@ -251,7 +261,7 @@ module _ (s : State) (sound : IsSound s) (on : s.core.power ≡ power.On) (place
   }
 
   still : (x : Open) → IsOpenOne core x → IsOpenOne now.core x
-  still x it = open_on core core.history requests core.queue core.copy pool (core.flying ++ row ∷ []) core.cache.entries core.last x (λ e. e) (λ p e. e) it
+  still x it = open_on core core.history requests core.queue core.copy pool (core.flying ++ row ∷ []) core.cache.entries core.last x (λ e. e) (λ p e. e) (λ ask. refl) it
 
   -- ---- the table
 
@@ -404,7 +414,7 @@ module _ (s : State) (sound : IsSound s) (on : s.core.power ≡ power.On) (place
       all_set Since Since (λ t is. is) targets target flying (all_at Since targets target aim each aim_is) each
     where
       Since : Target → Type 0
-      Since t = t.pp ≡ p → faults_at_opening c number ≤ t.faults
+      Since t = (t.pp ≡ p → faults_at_opening c number ≤ t.faults) × (t.pp ≡ c.pp → own_faults c ≤ t.faults)
 
   chosen : (c : OpenCopy) → AllByRecursion (IsChosenSince core c) core.requests → AllByRecursion (IsChosenSince now.core c) requests
   chosen c all = all_set (IsChosenSince core c) (IsChosenSince now.core c) (λ x is. is) core.requests place begun (its_chosen c (all_at (IsChosenSince core c) core.requests place o all there)) all

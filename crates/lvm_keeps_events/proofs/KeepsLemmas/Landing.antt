@@ -176,7 +176,7 @@ module _ (s : State) (sound : IsSound s) (on : s.core.power ≡ power.On) (place
   free_on at ask free = none_filter (λ (row : Row). nat_lt row.id at && conflicts row.ask ask) (λ (row : Row). not (row.id == place_of o.request.id)) core.queue.rows free
 
   still : (x : Open) → IsOpenOne core x → IsOpenOne now.core x
-  still x it = open_on core history requests queue core.copy pool core.flying entries core.last x (free_on (place_of x.request.id) (held_of x.request.ask)) (λ p e. e) it
+  still x it = open_on core history requests queue core.copy pool core.flying entries core.last x (free_on (place_of x.request.id) (held_of x.request.ask)) (λ p e. e) (λ ask. refl) it
 
   one : IsOpenOne now.core landed
   one = record {

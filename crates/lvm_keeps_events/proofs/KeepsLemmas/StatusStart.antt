@@ -60,9 +60,10 @@ use Rattle.lvm_keeps.proofs.SoundLemmas.Fitting.{still_fits}
 use Rattle.lvm_keeps.proofs.OwnersLemmas.Launching.{flights_push, none_more, owners_push, rows_push, taken, tickets_push}
 use Rattle.lvm_keeps.proofs.OwnersLemmas.Rows.{all_fly, data_still, rows_by, step_still}
 use Rattle.lvm_keeps.proofs.Small.{both}
-use Rattle.lvm_keeps.proofs.RequestsLemmas.{if_on, shape_still, copy_marked, same_next}
+use Rattle.lvm_keeps.proofs.RequestsLemmas.{if_on, shape_still, copy_marked, same_next, kind_by}
 use Rattle.lvm_keeps.proofs.SoundLemmas.Whole.{sound_still, told_still}
 use Rattle.lvm_keeps_events.proofs.SoundLemmas.Frame.{launched}
+use Rattle.lvm_keeps_events.proofs.Lists.{any_on}
 
 -- ---- a status says the same as itself
 
@@ -201,13 +202,15 @@ module _ (s : State) (sound : IsSound s) (on : s.core.power ≡ power.On) (disk 
   }
 
   shape_on : (x : Open) → IsShaped core x → IsShaped now.core x
-  shape_on x a = shape_still core now.core refl x a
+  shape_on x a = shape_still core now.core refl (λ ask. refl) x a
 
   judged_on : (x : Open) → IsJudged core x → IsJudged now.core x
   judged_on x j = record {
     uncaught = j.uncaught;
     due = j.due;
+    missed = j.missed;
     all = λ begun p among. sym (ap (λ b. is_among (pps_of x.request.targets.items) p || (b && not (is_caught core (group_in core x.request.ask) p))) (settled_on p)) ∙ j.all begun p among;
+    place = j.place;
   }
 
   one : (x : Open) → IsOpenOne core x → IsOpenOne now.core x
@@ -226,12 +229,26 @@ module _ (s : State) (sound : IsSound s) (on : s.core.power ≡ power.On) (disk 
   told : IsTold now.core
   told = told_still core now.core refl sound.told
 
+  stays : (p : Pp) → stays_fresh core p ≡ stays_fresh now.core p
+  stays p = by (is_held_stale core p) (is_held_stale now.core p) (is_wanted_stale core p) (held_on p)
+    where
+      by : (a b w : Bool) → a || w ≡ b || w → not a && not w ≡ not b && not w
+      by true true w e = refl
+      by false false w e = refl
+      by true false true e = refl
+      by true false false e = absurd cc
+      by false true true e = refl
+      by false true false e = absurd cc
+
   bring : (c : OpenCopy) → IsCopy core c → IsCopy now.core c
-  bring c k = copy_marked core now.core c refl (same_next core) k (λ free. free)
-      (λ runs short.
-      let both_stale = k.stale runs short in
-      both (is_settled now.core c.pp) (is_wanted_stale core c.pp) (sym (settled_on c.pp) ∙ ap (λ b. b && is_wanted_stale core c.pp) both_stale.0 ∙ both_stale.1))
-      k.clearing
+  bring c k = copy_marked core now.core c refl (same_next core) k (λ free. free) (kind_by core now.core c c.step c.tried c.end refl refl
+      (λ is. (
+        λ runs short.
+            let both_stale = is.stale runs short in
+            both (is_settled now.core c.pp) (is_wanted_stale core c.pp) (sym (settled_on c.pp) ∙ ap (λ b. b && is_wanted_stale core c.pp) both_stale.0 ∙ both_stale.1),
+        is.clearing,
+      ))
+      (λ is. (is.clear, any_on (stays_fresh core) (stays_fresh now.core) (λ p e. sym (stays p) ∙ e) (copies_in core.descriptor c.lv c.lp) is.fresh)) c.moves k.kind)
 
   -- ---- whose it is
 
@@ -298,18 +315,7 @@ module _ (s : State) (sound : IsSound s) (on : s.core.power ≡ power.On) (disk 
     where
       by : (m : Option OpenCopy) → option_map_or (end_of core) m None ≡ None → option_map_or (end_of now.core) m None ≡ None
       by None e = refl
-      by (Some c) e = sym (ap (λ b. if not (is_running c) then None else if is_missing core c.pp.disk then Some ending.SyncFailed else if is_whole core c then ends_if b ending.Done else end_by_sources core c) (cleared_on c.pp)) ∙ e
-
-  stays : (p : Pp) → stays_fresh core p ≡ stays_fresh now.core p
-  stays p = by (is_held_stale core p) (is_held_stale now.core p) (is_wanted_stale core p) (held_on p)
-    where
-      by : (a b w : Bool) → a || w ≡ b || w → not a && not w ≡ not b && not w
-      by true true w e = refl
-      by false false w e = refl
-      by true false true e = refl
-      by true false false e = absurd cc
-      by false true true e = refl
-      by false true false e = absurd cc
+      by (Some c) e = sym (ap (λ b. if not (is_running c) then None else if is_missing core c.pp.disk then Some ending.SyncFailed else if is_whole core c then ends_if (not c.moves && b) ending.Done else end_by_sources core c) (cleared_on c.pp)) ∙ e
 
   numbers : stamp.seq + updates_left now.core < 2 ^ 32
   numbers = by was
@@ -385,7 +391,7 @@ module _ (s : State) (sound : IsSound s) (on : s.core.power ≡ power.On) (disk 
       omega (arith, all, more, one_more)
 
   origin : IsTrueToOrigin now
-  origin = let old = sound.origin in record { since = old.since; votes = old.votes; still_missing = old.still_missing; missing = old.missing; stale = λ p e. old.stale p (held_on p ∙ e) }
+  origin = let old = sound.origin in record { since = old.since; votes = old.votes; rows = old.rows; still_missing = old.still_missing; missing = old.missing; stale = λ p e. old.stale p (held_on p ∙ e) }
 
   pub keeps : IsStatusOf now.core disk f → IsSound now
   keeps its = sound_still s now refl refl sound on refl fitting told (keeps_on its) out (copies_still s now refl core.copy sound.copy) origin

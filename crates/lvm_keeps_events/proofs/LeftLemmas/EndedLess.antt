@@ -1,7 +1,9 @@
 -- The copy that is open ends: the requests are left with no more.
-use Rattle.std.proofs.Common.{◌&&◌, ◌*◌, ◌+◌, ◌-◌, [], ap, arith, Bool, false, filter, if◌then◌else◌, List, nat_lt, not, refl, Some, sym, true, ◌||◌, ℕ, ◌∙◌, ◌∷◌, ◌≡◌, ◌≤◌}
+use Rattle.std.proofs.Common.{◌&&◌, ◌*◌, ◌+◌, ◌++◌, ◌-◌, ◌⊎◌, inl, inr, [], ap, arith, Bool, false, filter, if◌then◌else◌, List, nat_lt, not, refl, Some, sym, true, ◌||◌, ℕ, ◌∙◌, ◌∷◌, ◌≡◌, ◌≤◌}
 use Rattle.std.specs.List.{AllByRecursion, list_any}
 use Rattle.std.specs.Option.{option_map_or}
+use Rattle.std.specs.Prelude.{sum_by}
+use Rattle.std.proofs.lemmas.List.Sums.{sum_by-cons}
 use Rattle.lvm_num.specs.declared.place.Pp.{Pp}
 use Rattle.lvm_hold.specs.Waiting.{Waiting}
 use Rattle.lvm_num.specs.Descriptor.{is_pp}
@@ -10,20 +12,19 @@ use Rattle.lvm_num.proofs.Lists.{all_weaker}
 use Rattle.lvm_path.specs.Asks.{is_write}
 use Rattle.lvm_path.specs.Targets.{is_begun}
 use Rattle.lvm_path.specs.declared.ask.Ask.{Ask}
-use Rattle.lvm_path.specs.declared.request.Phase.TheVariants as phase
 use Rattle.lvm_path.specs.declared.request.Request.{Request}
 use Rattle.lvm_session.specs.Bringing.{groups_of, is_whole}
-use Rattle.lvm_session.specs.Judging.{aims, copies_for, group_in, is_caught, is_changed, is_missing, is_running, is_settled, is_usable, is_waiting, pps_of, same_pps}
+use Rattle.lvm_session.specs.Judging.{aims, copies_for, group_in, is_beside_copy, is_caught, is_changed, is_missing, is_running, is_settled, is_usable, is_waiting, place_aims, places_for, places_if, pps_of, same_pps}
 use Rattle.lvm_session.specs.State.{Core}
 use Rattle.lvm_session.specs.declared.bringing.CopyEnd.{CopyEnd}
 use Rattle.lvm_session.specs.declared.bringing.OpenCopy.{OpenCopy}
 use Rattle.lvm_session.specs.declared.bringing.Step.{Step}
 use Rattle.lvm_session.specs.declared.flown.Flown.{Flown}
 use Rattle.lvm_session.specs.declared.open.Open.{Open}
-use Rattle.lvm_session.specs.Left.{begun_left, copy_left, if_so, is_brought_up, is_held, read_left, request_left, step_left, tried_of, turns_of, unbegun_left, update_work}
+use Rattle.lvm_session.specs.Left.{begun_left, copy_left, if_so, is_brought_up, is_held, place_turns, read_left, request_left, step_left, tried_of, turns_of, unbegun_left, update_work}
 use Rattle.lvm_keeps.proofs.KeepsLemmas.Landing.{or_parts}
 use Rattle.lvm_keeps.proofs.LeftLemmas.Leaving.{phase_still}
-use Rattle.lvm_keeps_events.proofs.JudgingLemmas.DuesMarks.{pp_same}
+use Rattle.lvm_keeps_events.proofs.JudgingLemmas.DuesMarks.{own_pp, pp_same}
 use Rattle.lvm_keeps_events.proofs.Lists.{found_at}
 use Rattle.lvm_keeps_events.proofs.EndFallsLemmas.Falling.{each_less, sum_drops, sum_most}
 
@@ -86,30 +87,78 @@ module _ (core : Core) (c : OpenCopy) (is : core.copy ≡ Some c) (runs : is_run
       nothing true x = refl
       nothing false x = refl
 
+  -- the place to which it was to move has no turns any more, where there was one
+  gone_place : (p : Pp) → place_turns now p ≡ 0
+  gone_place p = by (not (is_missing core p.disk))
+    where
+      by : (b : Bool) → ◌≡◌ {A = ℕ} (if b && false then 46 else 0) 0
+      by true = refl
+      by false = refl
+
+  was_place : place_turns core c.pp ≡ 46
+  was_place = ap (λ (b : Bool). if not b && is_brought_up core c.pp then 46 else 0) here ∙ ap (λ (b : Bool). if b then 46 else 0) (brought c.pp ∙ own_pp c.pp)
+
+  places_were : (ask : Ask) → places_for core ask ≡ places_if (c.moves && is_beside_copy core ask c) c
+  places_were ask = ap (λ m. option_map_or (λ (k : OpenCopy). places_if (k.moves && is_beside_copy core ask k) k) m []) is
+
+  places_drop : (ask : Ask) (b : Bool) → (c.moves && is_beside_copy core ask c) ≡ b
+      → ((place_aims now ask ≡ place_aims core ask) × (sum_by (place_turns now) (places_for now ask) ≤ sum_by (place_turns core) (places_for core ask))) ⊎ (sum_by (place_turns now) (places_for now ask) + 12 ≤ sum_by (place_turns core) (places_for core ask))
+  places_drop ask false e =
+      let were : places_for core ask ≡ [] = places_were ask ∙ ap (λ b. places_if b c) e in
+      let are : places_for now ask ≡ [] = ap (λ b. places_if b c) e in
+      let none : sum_by (place_turns now) (places_for now ask) ≡ 0 = ap (sum_by (place_turns now)) are in
+      inl (ap (filter (is_caught now (group_in core ask))) are ∙ sym (ap (filter (is_caught core (group_in core ask))) were), omega (arith, none))
+  places_drop ask true e =
+      let were : places_for core ask ≡ c.pp ∷ [] = places_were ask ∙ ap (λ b. places_if b c) e in
+      let are : places_for now ask ≡ c.pp ∷ [] = ap (λ b. places_if b c) e in
+      let old : sum_by (place_turns core) (places_for core ask) ≡ sum_by (place_turns core) (c.pp ∷ []) = ap (sum_by (place_turns core)) were in
+      let new : sum_by (place_turns now) (places_for now ask) ≡ sum_by (place_turns now) (c.pp ∷ []) = ap (sum_by (place_turns now)) are in
+      let old_one = sum_by-cons (place_turns core) c.pp [] in
+      let new_one = sum_by-cons (place_turns now) c.pp [] in
+      let high = was_place in
+      let low = gone_place c.pp in
+      inr (omega (arith, old, new, old_one, new_one, high, low))
+
   at_most : (a b : Bool) → if_so (a && b) 12 ≤ 12
   at_most true true = omega arith
   at_most true false = omega arith
   at_most false b = omega arith
 
   unbegun_less : (r : Request) → unbegun_left now r ≤ unbegun_left core r
-  unbegun_less r = by (list_any (λ (p : Pp). is_pp p c.pp) (copies_for core r.ask)) refl
+  unbegun_less r = by (list_any (λ (p : Pp). is_pp p c.pp) (copies_for core r.ask)) refl (places_drop r.ask (c.moves && is_beside_copy core r.ask c) refl)
     where
       all_less : AllByRecursion (λ (p : Pp). turns_of now p ≤ turns_of core p) (copies_for core r.ask)
       all_less = each_less (turns_of core) (turns_of now) turns_less (copies_for core r.ask)
 
-      by : (b : Bool) → list_any (λ (p : Pp). is_pp p c.pp) (copies_for core r.ask) ≡ b → unbegun_left now r ≤ unbegun_left core r
-      by true some =
+      by : (b : Bool) → list_any (λ (p : Pp). is_pp p c.pp) (copies_for core r.ask) ≡ b
+          → ((place_aims now r.ask ≡ place_aims core r.ask) × (sum_by (place_turns now) (places_for now r.ask) ≤ sum_by (place_turns core) (places_for core r.ask))) ⊎ (sum_by (place_turns now) (places_for now r.ask) + 12 ≤ sum_by (place_turns core) (places_for core r.ask))
+          → unbegun_left now r ≤ unbegun_left core r
+      by true some (inl place) =
+          let one = found_at (λ (p : Pp). is_pp p c.pp) (copies_for core r.ask) some in
+          let drops = sum_drops (turns_of core) (turns_of now) 12 (copies_for core r.ask) one.0 one.1 one.2 (turns_drop one.1 one.3) all_less in
+          let fewer = place.1 in
+          let most = at_most (not (is_held r.phase)) (is_changed now r) in
+          let phases = phase_still core now r refl r.phase in
+          omega (arith, drops, fewer, most, phases)
+      by true some (inr place) =
           let one = found_at (λ (p : Pp). is_pp p c.pp) (copies_for core r.ask) some in
           let drops = sum_drops (turns_of core) (turns_of now) 12 (copies_for core r.ask) one.0 one.1 one.2 (turns_drop one.1 one.3) all_less in
           let most = at_most (not (is_held r.phase)) (is_changed now r) in
           let phases = phase_still core now r refl r.phase in
-          omega (arith, drops, most, phases)
-      by false none =
+          omega (arith, drops, place, most, phases)
+      by false none (inr place) =
+          let less = sum_most (turns_of core) (turns_of now) (copies_for core r.ask) all_less in
+          let most = at_most (not (is_held r.phase)) (is_changed now r) in
+          let phases = phase_still core now r refl r.phase in
+          omega (arith, less, place, most, phases)
+      by false none (inl place) =
           let less = sum_most (turns_of core) (turns_of now) (copies_for core r.ask) all_less in
           let same : if_so (not (is_held r.phase) && is_changed now r) 12 ≡ if_so (not (is_held r.phase) && is_changed core r) 12
-          = ap (λ ps. if_so (not (is_held r.phase) && (is_write r.ask && not (same_pps (pps_of r.targets.items) ps))) 12) (aims_same r.ask none) in
+          = ap (λ (ps : List Pp). if_so (not (is_held r.phase) && (is_write r.ask && not (same_pps (pps_of r.targets.items) (ps ++ place_aims now r.ask)))) 12) (aims_same r.ask none)
+          ∙ ap (λ (ps : List Pp). if_so (not (is_held r.phase) && (is_write r.ask && not (same_pps (pps_of r.targets.items) (aims core r.ask ++ ps)))) 12) place.0 in
+          let fewer = place.1 in
           let phases = phase_still core now r refl r.phase in
-          omega (arith, less, same, phases)
+          omega (arith, less, fewer, same, phases)
 
   of_unbegun : (a b d : Bool) (n m p q : ℕ) → m ≤ n → if_so a (if b then (if d then p else m) else q) ≤ if_so a (if b then (if d then p else n) else q)
   of_unbegun false b d n m p q less = omega arith

@@ -1,5 +1,5 @@
 -- The end of a write and its review leave less work.
-use Rattle.std.proofs.Common.{◌≡◌, ◌⊎◌, inl, inr, ◌≤◌, ◌<◌, ◌+◌, ◌*◌, ℕ, Bool, true, false, ◌&&◌, ◌||◌, not, nat_lt, if◌then◌else◌, List, [], ◌∷◌, Option, Some, None, filter, length, refl, sym, ◌∙◌, ap, subst, arith}
+use Rattle.std.proofs.Common.{◌≡◌, ◌⊎◌, inl, inr, ◌≤◌, ◌<◌, ◌+◌, ◌++◌, ◌*◌, ℕ, Bool, true, false, ◌&&◌, ◌||◌, not, nat_lt, if◌then◌else◌, List, [], ◌∷◌, Option, Some, None, filter, length, refl, sym, ◌∙◌, ap, subst, arith}
 use Rattle.std.specs.Prelude.{IfSome, count_by, option_and_then, sum_by, unwrap_or}
 use Rattle.std.specs.Option.{option_map_or}
 use Rattle.std.proofs.lemmas.List.Sums.{sum_by-cons}
@@ -17,6 +17,7 @@ use Rattle.lvm_num.proofs.VotesLemmas.{more_have_more, more_is_enough}
 use Rattle.lvm_mwc.specs.Cache.{flight_names, is_named, notes_on}
 use Rattle.lvm_mwc.specs.Notes.{both_name, names_group}
 use Rattle.lvm_mwc.specs.declared.notes.DiskNotes.{DiskNotes}
+use Rattle.lvm_path.specs.declared.ask.Ask.{Ask}
 use Rattle.lvm_path.specs.declared.request.Phase.{Phase}
 use Rattle.lvm_path.specs.declared.request.Phase.TheVariants as phase
 use Rattle.lvm_path.specs.declared.request.Request.{Request}
@@ -28,16 +29,21 @@ use Rattle.lvm_session.specs.declared.bringing.OpenCopy.{OpenCopy}
 use Rattle.lvm_session.specs.declared.open.Open.{Open}
 use Rattle.lvm_session.specs.declared.open.Power.TheVariants as power
 use Rattle.lvm_session.specs.State.{Core, is_there, votes_there}
-use Rattle.lvm_session.specs.Judging.{copies_for, group_in, group_of, is_caught, is_changed, is_missing, is_running, is_settled, is_stale, is_usable, is_waiting, mode_of, pps_of, same_pps}
+use Rattle.lvm_session.specs.Judging.{aims, copies_for, copies_in, group_in, group_of, is_caught, is_changed, is_missing, is_running, is_settled, is_stale, is_usable, is_waiting, lp_of, mode_of, place_aims, places_for, pps_of, same_pps}
 use Rattle.lvm_session.specs.Bringing.{copy_ends, end_of, is_whole}
 use Rattle.lvm_session.specs.Enabled.{is_lost, same_status}
 use Rattle.lvm_num.specs.Modes.{is_passive}
 use Rattle.lvm_num.proofs.Booleans.{not_so, not_either}
-use Rattle.lvm_session.specs.Left.{begun_left, copy_left, if_so, is_brought_up, is_held, lacks_dirty, lacks_note, left_by, left_of, phase_left, read_left, request_left, status_left, turns_of, unbegun_left, unstarted_writes, update_work, work_left, write_left}
-use Rattle.lvm_session.specs.Sound.{IsCopy, count_if}
+use Rattle.lvm_session.specs.Left.{begun_left, copy_left, if_so, is_brought_up, is_held, lacks_dirty, lacks_note, left_by, left_of, phase_left, place_turns, read_left, request_left, status_left, turns_of, unbegun_left, unstarted_writes, update_work, work_left, write_left}
+use Rattle.lvm_session.specs.Marks.{is_among}
+use Rattle.lvm_session.specs.Sound.{IsCopy, IsStaleCopy, count_if}
+use Rattle.lvm_session.proofs.MovesLemmas.{move_of, stale_of}
+use Rattle.lvm_keeps.proofs.CacheLemmas.{no_copy}
 use Rattle.lvm_keeps.proofs.Small.{both, is_false}
 use Rattle.lvm_keeps.proofs.FallsLemmas.Landing.{left_some}
 use Rattle.lvm_keeps_events.proofs.EndsLemmas.CopyReadFail.{is_here, pp_is}
+use Rattle.lvm_keeps_events.proofs.JudgingLemmas.DuesMarks.{own_pp}
+use Rattle.lvm_keeps_events.proofs.Lists.{or_true}
 use Rattle.lvm_keeps_events.proofs.SoundLemmas.Copies.{Brings, Fewer}
 use Rattle.lvm_keeps_events.proofs.Finding.{any_known, count_with, sum_on}
 use Rattle.lvm_keeps_events.proofs.CallsLemmas.{in_flight_of}
@@ -46,20 +52,35 @@ use Rattle.lvm_keeps_events.proofs.JudgingLemmas.Review.{WriteEnd, Reviewed, and
 
 -- ---- what a copy may still make of a write
 
--- a copy that is brought up is stale, on a disk that is there
-up_is : (core : Core) → IfSome core.copy (IsCopy core) → copy_ends core ≡ None → (p : Pp) → is_brought_up core p ≡ true → (is_stale core p ≡ true) × (is_missing core p.disk ≡ false)
-up_is core its still p is = by core.copy its still is
+-- what is brought up is on a disk that is there
+up_there : (core : Core) → copy_ends core ≡ None → (p : Pp) → is_brought_up core p ≡ true → is_missing core p.disk ≡ false
+up_there core still p is = by core.copy still is
   where
-    by : (m : Option OpenCopy) → IfSome m (IsCopy core) → option_map_or (end_of core) m None ≡ None → option_map_or (λ (c : OpenCopy). is_running c && is_pp p c.pp) m false ≡ true → (is_stale core p ≡ true) × (is_missing core p.disk ≡ false)
-    by None k i j = not_so j
-    by (Some c) k i j =
-        let parts = both (is_running c) (is_pp p c.pp) j in
-        let same = pp_is p c.pp parts.1 in
-        (ap (is_stale core) (sym same) ∙ stale k parts.0 (is_whole core c) refl, ap (λ (q : Pp). is_missing core q.disk) (sym same) ∙ is_here core c parts.0 i)
+    by : (m : Option OpenCopy) → option_map_or (end_of core) m None ≡ None → option_map_or (λ (c : OpenCopy). is_running c && is_pp p c.pp) m false ≡ true → is_missing core p.disk ≡ false
+    by None i j = not_so j
+    by (Some c) i j = let parts = both (is_running c) (is_pp p c.pp) j in ap (λ (q : Pp). is_missing core q.disk) (sym (pp_is p c.pp parts.1)) ∙ is_here core c parts.0 i
+
+-- where it is a copy it is stale
+up_stale : (core : Core) → IfSome core.copy (IsCopy core) → (lv lp : ℕ) (p : Pp) → is_among (copies_in core.descriptor lv lp) p ≡ true → is_brought_up core p ≡ true → is_stale core p ≡ true
+up_stale core its lv lp p among is = by core.copy its is
+  where
+    by : (m : Option OpenCopy) → IfSome m (IsCopy core) → option_map_or (λ (c : OpenCopy). is_running c && is_pp p c.pp) m false ≡ true → is_stale core p ≡ true
+    by None k j = not_so j
+    by (Some c) k j = ap (is_stale core) (sym same) ∙ of_kind c.moves refl
       where
-        stale : IsCopy core c → is_running c ≡ true → (b : Bool) → is_whole core c ≡ b → is_stale core c.pp ≡ true
-        stale it runs true whole = (it.clearing runs whole).0
-        stale it runs false short = (both (is_stale core c.pp) (calls_stale (in_flight_of core) c.pp) (it.stale runs short).0).0
+        parts : (is_running c ≡ true) × (is_pp p c.pp ≡ true)
+        parts = both (is_running c) (is_pp p c.pp) j
+
+        same : c.pp ≡ p
+        same = pp_is p c.pp parts.1
+
+        stale : IsStaleCopy core c → (b : Bool) → is_whole core c ≡ b → is_stale core c.pp ≡ true
+        stale it true whole = (it.clearing parts.0 whole).0
+        stale it false short = (both (is_stale core c.pp) (calls_stale (in_flight_of core) c.pp) (it.stale parts.0 short).0).0
+
+        of_kind : (b : Bool) → c.moves ≡ b → is_stale core c.pp ≡ true
+        of_kind false stays = stale (stale_of core c k stays) (is_whole core c) refl
+        of_kind true moves = not_so (sym (no_copy core.descriptor lv lp c.pp (move_of core c k moves).free) ∙ ap (is_among (copies_in core.descriptor lv lp)) same ∙ among)
 
 caught_up : (core : Core) (group : ℕ) (p : Pp) → is_caught core group p ≡ true → is_brought_up core p ≡ true
 caught_up core group p is = by core.copy is
@@ -202,15 +223,15 @@ module _ (e : WriteEnd) (r : Reviewed e) (brings : Brings e r) (noted : (d : ℕ
       and_false true = refl
       and_false false = refl
 
-  turns : (group : ℕ) (p : Pp) → AreTurns (is_missing core p.disk) (is_missing after p.disk) (is_usable core p) (is_usable after p) (is_brought_up core p) (is_brought_up after p) (is_settled core p) (is_settled after p) (is_caught core group p) (is_caught after group p)
-  turns group p = record {
+  turns : (ask : Ask) (group : ℕ) (p : Pp) → is_among (copies_for core ask) p ≡ true → AreTurns (is_missing core p.disk) (is_missing after p.disk) (is_usable core p) (is_usable after p) (is_brought_up core p) (is_brought_up after p) (is_settled core p) (is_settled after p) (is_caught core group p) (is_caught after group p)
+  turns ask group p among = record {
     gone = λ is. missing_is e r p.disk ∙ missing_on e p.disk is;
     up = brings.brought p;
     settled = settled_on e r p;
-    unusable = λ is. stale_unusable core p (up_is core e.going.copy e.going.reviewed p is).0;
-    there = λ is. (up_is core e.going.copy e.going.reviewed p is).1;
-    unusable_now = λ is. stale_unusable after p (up_is after brings.copy brings.reviewed p is).0;
-    there_now = λ is. (up_is after brings.copy brings.reviewed p is).1;
+    unusable = λ is. stale_unusable core p (up_stale core e.going.copy (lv_of ask) (lp_of core ask) p among is);
+    there = up_there core e.going.reviewed p;
+    unusable_now = λ is. stale_unusable after p (up_stale after brings.copy (lv_of ask) (lp_of core ask) p among is);
+    there_now = up_there after brings.reviewed p;
     gone_unusable = gone_unusable core p;
     gone_unusable_now = gone_unusable after p;
     caught = caught_up core group p;
@@ -231,13 +252,13 @@ module _ (e : WriteEnd) (r : Reviewed e) (brings : Brings e r) (noted : (d : ℕ
           stale_so false true i j = not_so (sym i)
           stale_so false false i j = not_so (sym j)
 
-  one_drop : (group : ℕ) (p : Pp) → ((is_usable after p || is_caught after group p ≡ is_usable core p || is_caught core group p) × (turns_of after p ≤ turns_of core p)) ⊎ (turns_of after p + 12 ≤ turns_of core p)
-  one_drop group p = turns_drop (is_missing core p.disk) (is_missing after p.disk) (is_usable core p) (is_usable after p) (is_brought_up core p) (is_brought_up after p) (is_settled core p) (is_settled after p) (is_caught core group p) (is_caught after group p) (turns group p)
+  one_drop : (ask : Ask) (group : ℕ) (p : Pp) → is_among (copies_for core ask) p ≡ true → ((is_usable after p || is_caught after group p ≡ is_usable core p || is_caught core group p) × (turns_of after p ≤ turns_of core p)) ⊎ (turns_of after p + 12 ≤ turns_of core p)
+  one_drop ask group p among = turns_drop (is_missing core p.disk) (is_missing after p.disk) (is_usable core p) (is_usable after p) (is_brought_up core p) (is_brought_up after p) (is_settled core p) (is_settled after p) (is_caught core group p) (is_caught after group p) (turns ask group p among)
 
-  all_drop : (group : ℕ) (ps : List Pp) → ((filter (λ (p : Pp). is_usable after p || is_caught after group p) ps ≡ filter (λ (p : Pp). is_usable core p || is_caught core group p) ps) × (sum_by (turns_of after) ps ≤ sum_by (turns_of core) ps))
+  all_drop : (ask : Ask) (group : ℕ) (ps : List Pp) → ((p : Pp) → is_among ps p ≡ true → is_among (copies_for core ask) p ≡ true) → ((filter (λ (p : Pp). is_usable after p || is_caught after group p) ps ≡ filter (λ (p : Pp). is_usable core p || is_caught core group p) ps) × (sum_by (turns_of after) ps ≤ sum_by (turns_of core) ps))
       ⊎ (sum_by (turns_of after) ps + 12 ≤ sum_by (turns_of core) ps)
-  all_drop group [] = inl (refl, omega arith)
-  all_drop group (p ∷ ps) = by (one_drop group p) (all_drop group ps)
+  all_drop ask group [] inside = inl (refl, omega arith)
+  all_drop ask group (p ∷ ps) inside = by (one_drop ask group p (inside p (ap (λ b. b || is_among ps p) (own_pp p)))) (all_drop ask group ps (λ q e. inside q (ap (λ b. is_pp q p || b) e ∙ or_true (is_pp q p))))
     where
       by : ((is_usable after p || is_caught after group p ≡ is_usable core p || is_caught core group p) × (turns_of after p ≤ turns_of core p)) ⊎ (turns_of after p + 12 ≤ turns_of core p)
           → ((filter (λ (q : Pp). is_usable after q || is_caught after group q) ps ≡ filter (λ (q : Pp). is_usable core q || is_caught core group q) ps) × (sum_by (turns_of after) ps ≤ sum_by (turns_of core) ps)) ⊎ (sum_by (turns_of after) ps + 12 ≤ sum_by (turns_of core) ps)
@@ -251,6 +272,49 @@ module _ (e : WriteEnd) (r : Reviewed e) (brings : Brings e r) (noted : (d : ℕ
       by (inl one) (inr rest) = let a = sum_by-cons (turns_of after) p ps in let b = sum_by-cons (turns_of core) p ps in let x = one.1 in inr (omega (arith, a, b, x, rest))
       by (inr one) (inl rest) = let a = sum_by-cons (turns_of after) p ps in let b = sum_by-cons (turns_of core) p ps in let y = rest.1 in inr (omega (arith, a, b, one, y))
       by (inr one) (inr rest) = let a = sum_by-cons (turns_of after) p ps in let b = sum_by-cons (turns_of core) p ps in inr (omega (arith, a, b, one, rest))
+
+  -- ---- the place to which a copy moves
+
+  place_one : (group : ℕ) (p : Pp) → ((is_caught after group p ≡ is_caught core group p) × (place_turns after p ≤ place_turns core p)) ⊎ (place_turns after p + 12 ≤ place_turns core p)
+  place_one group p = by (is_brought_up after p) (is_brought_up core p) (is_missing after p.disk) (is_missing core p.disk) (is_caught after group p) (is_caught core group p)
+      (brings.brought p) (up_there core e.going.reviewed p) (up_there after brings.reviewed p) (caught_up core group p) (caught_up after group p) (brings.carried group p)
+    where
+      by : (d b n m k c : Bool) → (d ≡ true → b ≡ true) → (b ≡ true → m ≡ false) → (d ≡ true → n ≡ false) → (c ≡ true → b ≡ true) → (k ≡ true → d ≡ true) → (d ≡ true → k ≡ c)
+          → ((k ≡ c) × ((if not n && d then 46 else 0) ≤ (if not m && b then 46 else 0))) ⊎ ((if not n && d then 46 else 0) + 12 ≤ (if not m && b then 46 else 0))
+      by true false n m k c up there there_now caught caught_now carried = not_so (up refl)
+      by true true true m k c up there there_now caught caught_now carried = not_either (there_now refl)
+      by true true false true k c up there there_now caught caught_now carried = not_either (there refl)
+      by true true false false k c up there there_now caught caught_now carried = inl (carried refl, omega arith)
+      by false b n m true c up there there_now caught caught_now carried = not_so (caught_now refl)
+      by false true n true false c up there there_now caught caught_now carried = not_either (there refl)
+      by false true true false false c up there there_now caught caught_now carried = inr (omega arith)
+      by false true false false false c up there there_now caught caught_now carried = inr (omega arith)
+      by false false n m false true up there there_now caught caught_now carried = not_so (caught refl)
+      by false false true true false false up there there_now caught caught_now carried = inl (refl, omega arith)
+      by false false true false false false up there there_now caught caught_now carried = inl (refl, omega arith)
+      by false false false true false false up there there_now caught caught_now carried = inl (refl, omega arith)
+      by false false false false false false up there there_now caught caught_now carried = inl (refl, omega arith)
+
+  place_drop : (group : ℕ) (ps : List Pp) → ((filter (is_caught after group) ps ≡ filter (is_caught core group) ps) × (sum_by (place_turns after) ps ≤ sum_by (place_turns core) ps)) ⊎ (sum_by (place_turns after) ps + 12 ≤ sum_by (place_turns core) ps)
+  place_drop group [] = inl (refl, omega arith)
+  place_drop group (p ∷ ps) = by (place_one group p) (place_drop group ps)
+    where
+      by : ((is_caught after group p ≡ is_caught core group p) × (place_turns after p ≤ place_turns core p)) ⊎ (place_turns after p + 12 ≤ place_turns core p)
+          → ((filter (is_caught after group) ps ≡ filter (is_caught core group) ps) × (sum_by (place_turns after) ps ≤ sum_by (place_turns core) ps)) ⊎ (sum_by (place_turns after) ps + 12 ≤ sum_by (place_turns core) ps)
+          → ((filter (is_caught after group) (p ∷ ps) ≡ filter (is_caught core group) (p ∷ ps)) × (sum_by (place_turns after) (p ∷ ps) ≤ sum_by (place_turns core) (p ∷ ps))) ⊎ (sum_by (place_turns after) (p ∷ ps) + 12 ≤ sum_by (place_turns core) (p ∷ ps))
+      by (inl one) (inl rest) = inl (
+        ap (λ (b : Bool). if b then p ∷ filter (is_caught after group) ps else filter (is_caught after group) ps) one.0 ∙ ap (λ (qs : List Pp). if is_caught core group p then p ∷ qs else qs) rest.0,
+        let a = sum_by-cons (place_turns after) p ps in let b = sum_by-cons (place_turns core) p ps in let x = one.1 in let y = rest.1 in omega (arith, a, b, x, y),
+      )
+      by (inl one) (inr rest) = let a = sum_by-cons (place_turns after) p ps in let b = sum_by-cons (place_turns core) p ps in let x = one.1 in inr (omega (arith, a, b, x, rest))
+      by (inr one) (inl rest) = let a = sum_by-cons (place_turns after) p ps in let b = sum_by-cons (place_turns core) p ps in let y = rest.1 in inr (omega (arith, a, b, one, y))
+      by (inr one) (inr rest) = let a = sum_by-cons (place_turns after) p ps in let b = sum_by-cons (place_turns core) p ps in inr (omega (arith, a, b, one, rest))
+
+  -- a request has the same
+  places_drop : (ask : Ask) → ((place_aims after ask ≡ place_aims core ask) × (sum_by (place_turns after) (places_for after ask) ≤ sum_by (place_turns core) (places_for core ask)))
+      ⊎ (sum_by (place_turns after) (places_for after ask) + 12 ≤ sum_by (place_turns core) (places_for core ask))
+  places_drop ask = subst (λ (ps : List Pp). ((filter (is_caught after (group_in core ask)) ps ≡ place_aims core ask) × (sum_by (place_turns after) ps ≤ sum_by (place_turns core) (places_for core ask))) ⊎ (sum_by (place_turns after) ps + 12 ≤ sum_by (place_turns core) (places_for core ask)))
+      (brings.places ask) (place_drop (group_in core ask) (places_for core ask))
 
   -- ---- its phase
 
@@ -269,7 +333,7 @@ module _ (e : WriteEnd) (r : Reviewed e) (brings : Brings e r) (noted : (d : ℕ
   -- ---- requests
 
   unbegun_less : (x : Request) → unbegun_left after x ≤ unbegun_left core x
-  unbegun_less x = by (all_drop (group_in core x.ask) (copies_for core x.ask))
+  unbegun_less x = by (all_drop x.ask (group_in core x.ask) (copies_for core x.ask) (λ p among. among)) (places_drop x.ask)
     where
       same_dirty : if_so (lacks_dirty after x.ask) update_work ≡ if_so (lacks_dirty core x.ask) update_work
       same_dirty = ap (λ b. if_so (is_passive (mode_of core x.ask) && not b) update_work) (dirty_same e r brings (lv_of x.ask))
@@ -278,20 +342,38 @@ module _ (e : WriteEnd) (r : Reviewed e) (brings : Brings e r) (noted : (d : ℕ
       most true = omega arith
       most false = omega arith
 
-      add : (s t d f c g p q : ℕ) → t ≤ s → f ≡ d → g ≡ c → q ≤ p → 256 + t + f + g + q ≤ 256 + s + d + c + p
-      add s t d f c g p q i j k l = omega (arith, i, j, k, l)
+      copies_were : ℕ
+      copies_were = sum_by (turns_of core) (copies_for core x.ask)
 
-      pay : (s t d f c g p q : ℕ) → t + 12 ≤ s → f ≡ d → g ≤ 12 → q ≤ p → 256 + t + f + g + q ≤ 256 + s + d + c + p
-      pay s t d f c g p q i j k l = omega (arith, i, j, k, l)
+      copies_are : ℕ
+      copies_are = sum_by (turns_of after) (copies_for core x.ask)
 
-      by : ((filter (λ (p : Pp). is_usable after p || is_caught after (group_in core x.ask) p) (copies_for core x.ask) ≡ filter (λ (p : Pp). is_usable core p || is_caught core (group_in core x.ask) p) (copies_for core x.ask)) × (sum_by (turns_of after) (copies_for core x.ask) ≤ sum_by (turns_of core) (copies_for core x.ask)))
-          ⊎ (sum_by (turns_of after) (copies_for core x.ask) + 12 ≤ sum_by (turns_of core) (copies_for core x.ask)) → unbegun_left after x ≤ unbegun_left core x
-      by (inl same) = add (sum_by (turns_of core) (copies_for core x.ask)) (sum_by (turns_of after) (copies_for core x.ask)) (if_so (lacks_dirty core x.ask) update_work) (if_so (lacks_dirty after x.ask) update_work)
-          (if_so (not (is_held x.phase) && is_changed core x) 12) (if_so (not (is_held x.phase) && is_changed after x) 12) (phase_left x.phase core x) (phase_left x.phase after x) same.1 same_dirty
-          (ap (λ (ps : List Pp). if_so (not (is_held x.phase) && (is_write x.ask && not (same_pps (pps_of x.targets.items) ps))) 12) same.0) (phase_less core after x (lacks_on x) x.phase)
-      by (inr less) = pay (sum_by (turns_of core) (copies_for core x.ask)) (sum_by (turns_of after) (copies_for core x.ask)) (if_so (lacks_dirty core x.ask) update_work) (if_so (lacks_dirty after x.ask) update_work)
+      places_were : ℕ
+      places_were = sum_by (place_turns core) (places_for core x.ask)
+
+      places_are : ℕ
+      places_are = sum_by (place_turns after) (places_for after x.ask)
+
+      add : (s t y z d f c g p q : ℕ) → t ≤ s → z ≤ y → f ≡ d → g ≡ c → q ≤ p → 256 + t + z + f + g + q ≤ 256 + s + y + d + c + p
+      add s t y z d f c g p q h i j k l = omega (arith, h, i, j, k, l)
+
+      pay : (s t y z d f c g p q : ℕ) → t + z + 12 ≤ s + y → f ≡ d → g ≤ 12 → q ≤ p → 256 + t + z + f + g + q ≤ 256 + s + y + d + c + p
+      pay s t y z d f c g p q i j k l = omega (arith, i, j, k, l)
+
+      paid : copies_are + places_are + 12 ≤ copies_were + places_were → unbegun_left after x ≤ unbegun_left core x
+      paid less = pay copies_were copies_are places_were places_are (if_so (lacks_dirty core x.ask) update_work) (if_so (lacks_dirty after x.ask) update_work)
           (if_so (not (is_held x.phase) && is_changed core x) 12) (if_so (not (is_held x.phase) && is_changed after x) 12) (phase_left x.phase core x) (phase_left x.phase after x) less same_dirty
           (most (not (is_held x.phase) && is_changed after x)) (phase_less core after x (lacks_on x) x.phase)
+
+      by : ((aims after x.ask ≡ aims core x.ask) × (copies_are ≤ copies_were)) ⊎ (copies_are + 12 ≤ copies_were) → ((place_aims after x.ask ≡ place_aims core x.ask) × (places_are ≤ places_were)) ⊎ (places_are + 12 ≤ places_were)
+          → unbegun_left after x ≤ unbegun_left core x
+      by (inl same) (inl place) = add copies_were copies_are places_were places_are (if_so (lacks_dirty core x.ask) update_work) (if_so (lacks_dirty after x.ask) update_work)
+          (if_so (not (is_held x.phase) && is_changed core x) 12) (if_so (not (is_held x.phase) && is_changed after x) 12) (phase_left x.phase core x) (phase_left x.phase after x) same.1 place.1 same_dirty
+          (ap (λ (ps : List Pp). if_so (not (is_held x.phase) && (is_write x.ask && not (same_pps (pps_of x.targets.items) (ps ++ place_aims after x.ask)))) 12) same.0
+          ∙ ap (λ (ps : List Pp). if_so (not (is_held x.phase) && (is_write x.ask && not (same_pps (pps_of x.targets.items) (aims core x.ask ++ ps)))) 12) place.0) (phase_less core after x (lacks_on x) x.phase)
+      by (inl same) (inr less) = let a = same.1 in paid (omega (arith, a, less))
+      by (inr less) (inl place) = let b = place.1 in paid (omega (arith, less, b))
+      by (inr less) (inr fewer) = paid (omega (arith, less, fewer))
 
   request_less : (x : Open) → request_left after x ≤ request_left core x
   request_less x = request_by (is_waiting x) (is_write x.request.ask) (is_begun x.request.targets.items) (unbegun_left after x.request) (unbegun_left core x.request) (begun_left x.request) (read_left x.request.phase x.request) (unbegun_less x.request)

@@ -1,5 +1,5 @@
 -- What is left of a session in which more partitions are wanted stale: the same of its requests, and at most one update more.
-use Rattle.std.proofs.Common.{◌&&◌, ◌*◌, ◌+◌, ap, arith, Bool, if◌then◌else◌, List, None, not, Option, refl, Some, ◌||◌, ℕ, ◌∙◌, ◌≡◌, ◌≤◌}
+use Rattle.std.proofs.Common.{◌&&◌, ◌*◌, ◌+◌, ◌++◌, ap, arith, Bool, if◌then◌else◌, List, None, not, Option, refl, Some, ◌||◌, ℕ, ◌∙◌, ◌≡◌, ◌≤◌}
 use Rattle.std.specs.Option.{option_map_or}
 use Rattle.std.specs.Prelude.{count_by}
 use Rattle.lvm_num.specs.Disks.{has}
@@ -14,11 +14,11 @@ use Rattle.lvm_path.specs.declared.request.Phase.TheVariants as phase
 use Rattle.lvm_path.specs.declared.request.Request.{Request}
 use Rattle.lvm_status.specs.declared.writes.Writes.{Writes}
 use Rattle.lvm_session.specs.Enabled.{same_status}
-use Rattle.lvm_session.specs.Judging.{copies_for, group_in, group_of, is_caught, is_changed, is_missing, is_settled, is_usable, is_waiting, mode_of, pps_of, same_pps}
+use Rattle.lvm_session.specs.Judging.{copies_for, group_in, group_of, is_caught, is_changed, is_missing, is_settled, is_usable, is_waiting, mode_of, place_aims, places_for, pps_of, same_pps}
 use Rattle.lvm_session.specs.State.{Core}
 use Rattle.lvm_session.specs.declared.open.Open.{Open}
 use Rattle.lvm_num.specs.Modes.{is_passive}
-use Rattle.lvm_session.specs.Left.{begun_left, if_so, is_brought_up, is_held, lacks_dirty, lacks_note, phase_left, read_left, request_left, status_left, turns_of, unbegun_left, update_work}
+use Rattle.lvm_session.specs.Left.{begun_left, if_so, is_brought_up, is_held, lacks_dirty, lacks_note, phase_left, place_turns, read_left, request_left, status_left, turns_of, unbegun_left, update_work}
 use Rattle.lvm_keeps.proofs.FallsLemmas.Pin.{sum_same}
 use Rattle.lvm_keeps_events.proofs.Marking.{count_alike, filter_alike}
 use Rattle.lvm_keeps_events.proofs.JudgingLemmas.Staling.{dirty_same, IsStaler, missing_same, staler, usable_same}
@@ -33,8 +33,11 @@ module _ (core : Core) (due : Pp → Bool) (wanted : Status) (writes : Writes) (
       ap (λ (b : Bool). if b then 0 else if is_usable now p then (if is_brought_up core p then 34 else 22) else if is_brought_up core p then 46 else if is_settled core p then 0 else 34) (missing_same core due wanted writes like p.disk)
       ∙ ap (λ (b : Bool). if is_missing core p.disk then 0 else if b then (if is_brought_up core p then 34 else 22) else if is_brought_up core p then 46 else if is_settled core p then 0 else 34) (usable_same core due wanted writes like p)
 
+  place_same : (p : Pp) → place_turns now p ≡ place_turns core p
+  place_same p = ap (λ (b : Bool). if not b && is_brought_up core p then 46 else 0) (missing_same core due wanted writes like p.disk)
+
   changed_same : (r : Request) → is_changed now r ≡ is_changed core r
-  changed_same r = ap (λ (ps : List Pp). is_write r.ask && not (same_pps (pps_of r.targets.items) ps))
+  changed_same r = ap (λ (ps : List Pp). is_write r.ask && not (same_pps (pps_of r.targets.items) (ps ++ place_aims core r.ask)))
       (filter_alike (λ (p : Pp). is_usable now p || is_caught core (group_in core r.ask) p) (λ (p : Pp). is_usable core p || is_caught core (group_in core r.ask) p) (λ p. ap (λ b. b || is_caught core (group_in core r.ask) p) (usable_same core due wanted writes like p)) (copies_for core r.ask))
 
   phase_same : (p : Phase) (r : Request) → phase_left p now r ≡ phase_left p core r
@@ -49,10 +52,11 @@ module _ (core : Core) (due : Pp → Bool) (wanted : Status) (writes : Writes) (
   unbegun_same : (r : Request) → unbegun_left now r ≡ unbegun_left core r
   unbegun_same r =
       let turns = sum_same (turns_of core) (turns_of now) turns_same (copies_for core r.ask) in
+      let place = sum_same (place_turns core) (place_turns now) place_same (places_for core r.ask) in
       let dirty : if_so (lacks_dirty now r.ask) update_work ≡ if_so (lacks_dirty core r.ask) update_work = ap (λ b. if_so (is_passive (mode_of core r.ask) && not b) update_work) (dirty_same core due wanted writes like (lv_of r.ask)) in
       let changed_now : if_so (not (is_held r.phase) && is_changed now r) 12 ≡ if_so (not (is_held r.phase) && is_changed core r) 12 = ap (λ b. if_so (not (is_held r.phase) && b) 12) (changed_same r) in
       let phases = phase_same r.phase r in
-      omega (arith, turns, dirty, changed_now, phases)
+      omega (arith, turns, place, dirty, changed_now, phases)
 
   pub staled_same : (x : Open) → request_left now x ≡ request_left core x
   staled_same x = ap (λ n. if_so (is_waiting x) (if is_write x.request.ask then (if is_begun x.request.targets.items then begun_left x.request else n) else read_left x.request.phase x.request)) (unbegun_same x.request)

@@ -1,5 +1,5 @@
 -- On which copies writes of the table have failed.
-use Rattle.std.proofs.Common.{◌≡◌, ◌⊎◌, inl, inr, ℕ, Bool, true, false, ◌&&◌, List, [], ◌∷◌, None, Some, if◌then◌else◌, slice_get, slice_set, map, refl, sym, ap, ◌∙◌}
+use Rattle.std.proofs.Common.{◌≡◌, ◌++◌, ◌⊎◌, inl, inr, ℕ, Bool, true, false, ◌&&◌, List, [], ◌∷◌, None, Some, if◌then◌else◌, slice_get, slice_set, map, refl, sym, ap, ◌∙◌}
 use Rattle.std.specs.List.{list_any}
 use Rattle.std.proofs.lemmas.Map.Keys.{any_passes_from_place}
 use Rattle.lvm_num.specs.declared.place.Pp.{Pp}
@@ -13,10 +13,10 @@ use Rattle.lvm_path.specs.Asks.{is_write}
 use Rattle.lvm_path.specs.Next.{with_landing}
 use Rattle.lvm_path.specs.Targets.{is_failed}
 use Rattle.lvm_session.specs.declared.open.Open.{Open}
-use Rattle.lvm_session.specs.Judging.{aims, is_waiting}
+use Rattle.lvm_session.specs.Judging.{aims, is_waiting, place_aims}
 use Rattle.lvm_session.specs.Causes.{fails_on}
 use Rattle.lvm_session.specs.Dark.{ended_as}
-use Rattle.lvm_session.specs.Events.{Chooses, ChoosesBy, target_at}
+use Rattle.lvm_session.specs.Events.{Chooses, ChoosesBy, place_target, target_at}
 use Rattle.lvm_session.specs.State.{State}
 use Rattle.lvm_keeps_events.proofs.passed.Names.{both}
 use Rattle.lvm_keeps_events.proofs.TargetsLemmas.{at_state}
@@ -64,8 +64,16 @@ chosen_fail_not s ask p (q ∷ ps) = chosen_fail_not s ask p ps
 pub chooses_none : {X : Type 0} (s : State) (ask : Ask) (p : Pp) (targets : List Target) (order : List ℕ) → Chooses s ask targets order → is_write ask ≡ true → list_any (fails_at p) targets ≡ true → X
 chooses_none {X} s ask p targets order chosen write e = by (is_write ask) write chosen
   where
+    none_of : (qs : List Pp) → list_any (fails_at p) (map (place_target s ask) qs) ≡ false
+    none_of [] = refl
+    none_of (q ∷ qs) = none_of qs
+
+    all_fail_not : (ps : List Pp) → list_any (fails_at p) (map (target_at s ask) ps ++ map (place_target s ask) (place_aims s.core ask)) ≡ false
+    all_fail_not [] = none_of (place_aims s.core ask)
+    all_fail_not (q ∷ ps) = all_fail_not ps
+
     by : (b : Bool) → b ≡ true → ChoosesBy b s ask targets order → X
-    by true i its = not_so (sym (chosen_fail_not s ask p (aims s.core ask)) ∙ sym (ap (list_any (fails_at p)) its.0) ∙ e)
+    by true i its = not_so (sym (all_fail_not (aims s.core ask)) ∙ sym (ap (list_any (fails_at p)) its.0) ∙ e)
     by false i its = not_so i
 
 -- a target that comes to be in this state fails where it had, or where it is

@@ -9,6 +9,7 @@ use Rattle.lvm_num.specs.declared.place.Pp.{Pp}
 use Rattle.lvm_num.specs.Status.{calls_stale}
 use Rattle.lvm_num.specs.Descriptor.{is_pp}
 use Rattle.lvm_num.proofs.Booleans.{not_so}
+use Rattle.lvm_num.proofs.Lists.{all_at}
 use Rattle.lvm_disk.specs.Counts.{Rose}
 use Rattle.lvm_path.specs.declared.target.Target.{Target}
 use Rattle.lvm_path.specs.Asks.{is_write, lv_of}
@@ -31,9 +32,11 @@ use Rattle.lvm_session.specs.Bringing.{ends_if, is_whole, marked_by_end}
 use Rattle.lvm_session.specs.Causes.{fails_on}
 use Rattle.lvm_session.specs.Ends.{CopyLearns, Ends, GoesOn, Learns, NoteLearns, StepLearns, StepLeaves, with_copy, with_return, without_step}
 use Rattle.lvm_session.specs.Events.{landed_as}
-use Rattle.lvm_session.specs.Judging.{is_missing, is_running, is_stale, is_sure, is_waiting, is_wanted_stale}
+use Rattle.lvm_session.specs.Judging.{is_missing, is_place, is_running, is_stale, is_sure, is_sure_at, is_waiting, is_wanted_stale}
 use Rattle.lvm_session.specs.Marks.{WantsDirtyIf, due_of, end_by_write, hits_copy, is_among}
+use Rattle.lvm_session.specs.Requests.{IsAimed, IsShaped, IsTarget}
 use Rattle.lvm_session.specs.Sound.{IsCopy, IsSound}
+use Rattle.lvm_session.proofs.MovesLemmas.{place_open, stale_of}
 use Rattle.lvm_session.specs.State.{Core, State}
 use Rattle.lvm_session.specs.Turns.{Darkens, FinishMakes, Finishes, GoesOff, Makes, Moves, NoStart, OnMakes, TurnMakes, WasDark, WasOff, WasOn}
 use Rattle.lvm_keeps_events.proofs.passed.Names.{set_here, both}
@@ -41,7 +44,7 @@ use Rattle.lvm_keeps_events.specs.DataEnds.{EndsData}
 use Rattle.lvm_keeps_events.proofs.TargetsLemmas.{set_state}
 use Rattle.lvm_keeps_events.proofs.DataEndsLemmas.{aim, aim_is, entails, going, long, mid, o, own, place, rose, there, x}
 use Rattle.lvm_keeps_events.proofs.JudgingLemmas.DuesMarks.{IsDueOne, due_one, own_pp, pp_same}
-use Rattle.lvm_keeps_events.proofs.RequestsLemmas.{failed_badly, waits}
+use Rattle.lvm_keeps_events.proofs.RequestsLemmas.{failed_badly, shape, waits}
 use Rattle.lvm_keeps_events.proofs.Lists.{all_and, either, set_either}
 use Rattle.lvm_keeps_events.specs.Losses.{MarksFor, has_failed_on, is_marked, is_open_at}
 use Rattle.lvm_keeps_events.proofs.LossesLemmas.Requests.{chooses_none, ended_fails_not, fails_at, landed_fails_not, none_fails, set_fails}
@@ -52,23 +55,23 @@ use Rattle.lvm_keeps_events.proofs.StatusLemmas.{Passes, begun_passes, dark_pass
 
 -- a status that marks copies for their causes
 pub of_due : (due : Pp → Bool) (old new : State) → Passes due none old.core.status new.core.status
-    → ((p : Pp) → due p ≡ true → (is_marked old.core p ≡ true) ⊎ (is_missing new.core p.disk ≡ true) ⊎ (has_failed_on new.core p ≡ true))
+    → ((p : Pp) → is_place old.core p ≡ false → due p ≡ true → (is_marked old.core p ≡ true) ⊎ (is_missing new.core p.disk ≡ true) ⊎ (has_failed_on new.core p ≡ true))
     → ((p : Pp) → has_failed_on new.core p ≡ true → (has_failed_on old.core p ≡ true) ⊎ Rose (old.device.counts.faults p.disk) (new.device.counts.faults p.disk)) → MarksFor old new
 of_due due old new passes why failed = record {
-  marked = λ p e. by p (marked_by due none old.core.status new.core.status passes p e);
+  marked = λ p copy e. by p copy (marked_by due none old.core.status new.core.status passes p e);
   failed = failed;
   lasting = λ p e shut. lasts_on due none old.core.status new.core.status passes p refl e;
   missing = passes.missing;
 }
   where
-    by : (p : Pp) → (is_marked old.core p ≡ true) ⊎ (due p ≡ true) → (is_marked old.core p ≡ true) ⊎ (is_missing new.core p.disk ≡ true) ⊎ (has_failed_on new.core p ≡ true)
-    by p (inl was) = inl was
-    by p (inr is) = why p is
+    by : (p : Pp) → is_place old.core p ≡ false → (is_marked old.core p ≡ true) ⊎ (due p ≡ true) → (is_marked old.core p ≡ true) ⊎ (is_missing new.core p.disk ≡ true) ⊎ (has_failed_on new.core p ≡ true)
+    by p copy (inl was) = inl was
+    by p copy (inr is) = why p copy is
 
 -- one that marks none
 of_status : (old new : State) → Passes none none old.core.status new.core.status
     → ((p : Pp) → has_failed_on new.core p ≡ true → (has_failed_on old.core p ≡ true) ⊎ Rose (old.device.counts.faults p.disk) (new.device.counts.faults p.disk)) → MarksFor old new
-of_status old new passes failed = of_due none old new passes (λ p e. not_so e) failed
+of_status old new passes failed = of_due none old new passes (λ p copy e. not_so e) failed
 
 failed_same : (old new : State) → new.core.requests ≡ old.core.requests → (p : Pp) → has_failed_on new.core p ≡ true → (has_failed_on old.core p ≡ true) ⊎ Rose (old.device.counts.faults p.disk) (new.device.counts.faults p.disk)
 failed_same old new same p e = inl (sym (ap (λ (os : List Open). list_any (fails_on p) os) same) ∙ e)
@@ -86,7 +89,7 @@ of_one old new passes place o x there is on =
 -- what a review adds to a session as it was but for its status
 of_review : (old new : State) (on : Core) (free : Pp → Bool) → Passes none free old.core.status on.status → ((p : Pp) → is_open_at old.core p ≡ false → free p ≡ false) → on.requests ≡ old.core.requests → IsReviewed on new.core → MarksFor old new
 of_review old new on free passes shut same r = record {
-  marked = λ p e. by p (r.marked p e);
+  marked = λ p copy e. by p (r.marked p e);
   failed = λ p e. inl (sym (r.failed p ∙ ap (λ (os : List Open). list_any (fails_on p) os) same) ∙ e);
   lasting = λ p e closed. r.lasting p (lasts_on none free old.core.status on.status passes p (shut p closed) e);
   missing = λ d e. r.missing d (passes.missing d e);
@@ -106,10 +109,14 @@ module _ (old : State) (sound : IsSound old) (on : old.core.power ≡ power.On) 
   bring : (c : OpenCopy) → old.core.copy ≡ Some c → IsCopy old.core c
   bring c is = subst (λ m. IfSome m (IsCopy old.core)) is ((sound.on on).going).copy
 
-  -- while it is whole its partition is stale
-  whole_marked : (c : OpenCopy) (p : Pp) → old.core.copy ≡ Some c → is_running c ≡ true → is_whole old.core c ≡ true → is_pp p c.pp ≡ true → is_marked old.core p ≡ true
-  whole_marked c p is runs whole same = ap (is_marked old.core) (pp_same p c.pp same)
-      ∙ ap (λ b. (b || calls_stale (unwrap_or old.core.status.in_flight old.core.status.committed) c.pp) || is_wanted_stale old.core c.pp) ((bring c is).clearing runs whole).0
+  -- while it is whole its partition is stale, where it is a copy
+  whole_marked : (c : OpenCopy) (p : Pp) → is_place old.core p ≡ false → old.core.copy ≡ Some c → is_running c ≡ true → is_whole old.core c ≡ true → is_pp p c.pp ≡ true → is_marked old.core p ≡ true
+  whole_marked c p copy is runs whole same = by c.moves refl
+    where
+      by : (b : Bool) → c.moves ≡ b → is_marked old.core p ≡ true
+      by false stays = ap (is_marked old.core) (pp_same p c.pp same)
+          ∙ ap (λ b. (b || calls_stale (unwrap_or old.core.status.in_flight old.core.status.committed) c.pp) || is_wanted_stale old.core c.pp) ((stale_of old.core c (bring c is) stays).clearing runs whole).0
+      by true moves = not_so (sym copy ∙ ap (λ m. option_map_or (λ (k : OpenCopy). k.moves && is_pp p k.pp) m false) is ∙ ap (λ b. b && is_pp p c.pp) moves ∙ same)
 
   -- ---- an event
 
@@ -187,8 +194,8 @@ module _ (old : State) (sound : IsSound old) (on : old.core.power ≡ power.On) 
         by (inr is) = let parts = both (is_waiting was && is_write was.request.ask) (list_any (fails_at p) now.request.targets.items) is in of parts.0 (set_fails p was.request.targets.items target its (end_state ok) parts.1)
 
     -- a target that is due has failed, or wasn't sure
-    due_why : (p : Pp) → is_among (due_of between now.request) p ≡ true → (is_marked old.core p ≡ true) ⊎ (is_missing new.core p.disk ≡ true) ⊎ (has_failed_on new.core p ≡ true)
-    due_why p among = by one.blame
+    due_why : (p : Pp) → is_place old.core p ≡ false → is_among (due_of between now.request) p ≡ true → (is_marked old.core p ≡ true) ⊎ (is_missing new.core p.disk ≡ true) ⊎ (has_failed_on new.core p ≡ true)
+    due_why p copy among = by one.blame
       where
         one : IsDueOne between now.request p
         one = due_one between now.request p among
@@ -199,16 +206,30 @@ module _ (old : State) (sound : IsSound old) (on : old.core.power ≡ power.On) 
         unsure false false true e = refl
         unsure false false false e = not_so (sym e)
 
-        by : (is_failed one.it.target.state ≡ true) ⊎ (is_sure between one.it.target.pp ≡ false) → (is_marked old.core p ≡ true) ⊎ (is_missing new.core p.disk ≡ true) ⊎ (has_failed_on new.core p ≡ true)
+        its_shape : IsShaped old.core now
+        its_shape = shape old.core (going at id target ok old new sound on ends) (place at id target ok old new sound on ends) target was here its (aim_is at id target ok old new sound on ends)
+            at ends.row ends.returns.there (own at id target ok old new sound on ends) ok ends.buf (long at id target ok old new sound on ends)
+
+        -- it is no place to which a copy moves
+        stays : (b : Bool) → one.it.target.moves ≡ b → IsAimed b old.core now.request.ask one.it.target → one.it.target.moves ≡ false
+        stays false is aimed = is
+        stays true is aimed =
+            let at_place = place_open old.core now.request.ask one.it.target.pp aimed.0 in
+            not_so (sym copy ∙ ap (λ m. option_map_or (λ (k : OpenCopy). k.moves && is_pp p k.pp) m false) at_place.is_open ∙ ap (λ b. b && is_pp p at_place.copy.pp) at_place.moves ∙ ap (is_pp p) (sym (one.it.pp_is ∙ at_place.is)) ∙ own_pp p)
+
+        moves_not : one.it.target.moves ≡ false
+        moves_not = stays one.it.target.moves refl (all_at (IsTarget old.core now.request.ask) now.request.targets.items one.it.place one.it.target its_shape.targets one.it.there).copy
+
+        by : (is_failed one.it.target.state ≡ true) ⊎ (is_sure_at between one.it.target ≡ false) → (is_marked old.core p ≡ true) ⊎ (is_missing new.core p.disk ≡ true) ⊎ (has_failed_on new.core p ≡ true)
         by (inl bad) = inr (inr (ap (λ (os : List Open). list_any (fails_on p) os) requests
             ∙ any_passes_from_place (fails_on p) (slice_set old.core.requests (place at id target ok old new sound on ends) now) (place at id target ok old new sound on ends) now (set_here old.core.requests (place at id target ok old new sound on ends) was now here)
             (all_and (is_waiting was && is_write was.request.ask) (list_any (fails_at p) now.request.targets.items) (all_and (is_waiting was) (is_write was.request.ask) waiting (both (is_write was.request.ask) (are_over now.request.targets.items) one.over).0)
             (any_passes_from_place (fails_at p) now.request.targets.items one.it.place one.it.target one.it.there (all_and (is_failed one.it.target.state) (is_pp p one.it.target.pp) bad (ap (is_pp p) (sym one.it.pp_is) ∙ own_pp p))))))
-        by (inr none_sure) = inl (unsure (is_stale old.core p) (calls_stale (unwrap_or old.core.status.in_flight old.core.status.committed) p) (is_wanted_stale old.core p) (ap (is_sure between) one.it.pp_is ∙ none_sure))
+        by (inr none_sure) = inl (unsure (is_stale old.core p) (calls_stale (unwrap_or old.core.status.in_flight old.core.status.committed) p) (is_wanted_stale old.core p) (ap (is_sure between) one.it.pp_is ∙ sym (ap (λ b. not b && is_sure between one.it.target.pp) moves_not) ∙ none_sure))
 
     -- the copy that fails with it was whole
-    copy_why : (p : Pp) → marked_by_end between (end_by_write between now ok its.pp) p ≡ true → is_marked old.core p ≡ true
-    copy_why p e = whole_marked copy.0 p copy.1 (runs (option_map_or (hits_copy between now ok its.pp) old.core.copy false) refl e) whole.0 whole.1
+    copy_why : (p : Pp) → is_place old.core p ≡ false → marked_by_end between (end_by_write between now ok its.pp) p ≡ true → is_marked old.core p ≡ true
+    copy_why p copied e = whole_marked copy.0 p copied copy.1 (runs (option_map_or (hits_copy between now ok its.pp) old.core.copy false) refl e) whole.0 whole.1
       where
         copy : (c : OpenCopy) × (old.core.copy ≡ Some c)
         copy = marked_open between (end_by_write between now ok its.pp) p e
@@ -226,11 +247,11 @@ module _ (old : State) (sound : IsSound old) (on : old.core.power ≡ power.On) 
         runs true is i = of_hit (is_write was.request.ask) (is_running copy.0) _ (sym (ap (λ m. option_map_or (hits_copy between now ok its.pp) m false) copy.1) ∙ is)
 
     pub data_marks : MarksFor old new
-    data_marks = of_due due old new passes (λ p e. by p (either (is_among (due_of between now.request) p) (marked_by_end between (end_by_write between now ok its.pp) p) e)) failed
+    data_marks = of_due due old new passes (λ p copy e. by p copy (either (is_among (due_of between now.request) p) (marked_by_end between (end_by_write between now ok its.pp) p) e)) failed
       where
-        by : (p : Pp) → (is_among (due_of between now.request) p ≡ true) ⊎ (marked_by_end between (end_by_write between now ok its.pp) p ≡ true) → (is_marked old.core p ≡ true) ⊎ (is_missing new.core p.disk ≡ true) ⊎ (has_failed_on new.core p ≡ true)
-        by p (inl among) = due_why p among
-        by p (inr marked) = inl (copy_why p marked)
+        by : (p : Pp) → is_place old.core p ≡ false → (is_among (due_of between now.request) p ≡ true) ⊎ (marked_by_end between (end_by_write between now ok its.pp) p ≡ true) → (is_marked old.core p ≡ true) ⊎ (is_missing new.core p.disk ≡ true) ⊎ (has_failed_on new.core p ≡ true)
+        by p copy (inl among) = due_why p copy among
+        by p copy (inr marked) = inl (copy_why p copy marked)
 
   -- ---- another one does
 
@@ -256,7 +277,7 @@ module _ (old : State) (sound : IsSound old) (on : old.core.power ≡ power.On) 
         by false goes = of_review old new it.on none (same_passes none none old.core.status it.on.status (ap (λ (k : Core). k.status) goes)) (λ p closed. refl) (ap (λ (k : Core). k.requests) goes) (reviewed it.on new.core it.reviews)
         by true goes = of_review old new it.on (λ p. is_pp p it.next.pp) (fresh_passes none it.next.pp old.core.status it.on.status goes.0) shut (ap (λ (k : Core). k.requests) goes.1) (reviewed it.on new.core it.reviews)
     step_marks step.Writing false at c buf is runs it = of_due (marked_by_end old.core (Some ending.SyncFailed)) old new (stale_passes (marked_by_end old.core (Some ending.SyncFailed)) none old.core.status new.core.status it.marks)
-        (λ p e. let whole = marked_whole old.core (Some ending.SyncFailed) p c is e in inl (whole_marked c p is runs whole.0 whole.1)) (failed_same old new (after_end_requests (with_copy (with_return old.core at buf) (record c { step = step.Idle })) (Some ending.SyncFailed) new.core.status new.core it.is))
+        (λ p copy e. let whole = marked_whole old.core (Some ending.SyncFailed) p c is e in inl (whole_marked c p copy is runs whole.0 whole.1)) (failed_same old new (after_end_requests (with_copy (with_return old.core at buf) (record c { step = step.Idle })) (Some ending.SyncFailed) new.core.status new.core it.is))
 
     copy_marks : (at : ℕ) (ok : Bool) (buf : Buffer) → CopyLearns old.core at ok buf new.core → MarksFor old new
     copy_marks at ok buf it = by (is_running it.copy) refl it.learns

@@ -32,7 +32,7 @@ use Rattle.lvm_session.specs.declared.flown.Owner.TheVariants as owner
 use Rattle.lvm_session.specs.declared.open.Open.{Open}
 use Rattle.lvm_session.specs.declared.open.Power.TheVariants as power
 use Rattle.lvm_session.specs.State.{Core, State, is_there, state}
-use Rattle.lvm_session.specs.Judging.{copies_in, group_in, held_of, is_caught, is_held_back, is_kept, is_missing, is_running, is_settled, is_stale, is_usable, is_waiting, is_wanted_stale, place_of, pps_of}
+use Rattle.lvm_session.specs.Judging.{copies_in, group_in, held_of, is_caught, is_held_back, is_kept, is_missing, is_running, is_settled, is_stale, is_usable, is_waiting, is_wanted_stale, place_of, pps_of, is_beside_copy, places_if}
 use Rattle.lvm_session.specs.Bringing.{copy_ends, ends_if, groups_of, is_cleared, is_out, is_whole, next_source, sources_of, step_place, step_row}
 use Rattle.lvm_session.specs.Enabled.{same_status}
 use Rattle.lvm_session.specs.declared.answers.CopyFault.{CopyFault}
@@ -43,7 +43,7 @@ use Rattle.lvm_num.specs.Modes.{is_passive}
 use Rattle.lvm_num.proofs.Lists.{all_weaker, all_both}
 use Rattle.lvm_session.specs.Marks.{is_among}
 use Rattle.lvm_session.specs.Asking.{IsAwake}
-use Rattle.lvm_session.specs.Causes.{AreCaused, AreCounted, IsAnswered, IsCaused, IsChosenSince, IsCausedAmong, IsLandedFor, fails_on, faults_at_first, faults_at_opening, is_held_stale}
+use Rattle.lvm_session.specs.Causes.{AreCaused, AreCounted, IsAnswered, IsCaused, IsChosenSince, IsCausedAmong, IsLandedFor, fails_on, faults_at_first, faults_at_opening, is_held_stale, own_faults}
 use Rattle.lvm_session.specs.Left.{copy_updates, marks_later, updates_left}
 use Rattle.lvm_session.specs.Owners.{AreOwned, IsTransferOf, flies, target_flies}
 use Rattle.lvm_session.specs.Requests.{IsOpenOne, IsPhase, IsRequest, is_failed_and_sure, is_left_out, may_lack, will_be_kept}
@@ -104,24 +104,30 @@ at_place ps number p is = by (number == 0) is
     by true e = absurd (cc e)
     by false e = e
 
-pub counted_at : (counts : Counts) (ps : List Pp) (k : ℕ) (p : Pp) → length ps ≤ 3 → slice_get ps k ≡ Some p → slice_index_or (faults_of counts ps) k 0 ≡ counts.faults p.disk
-counted_at counts [] k p few is = absurd (cc is)
-counted_at counts (a ∷ []) zero p few is = let same : a ≡ p = cc is in ap (λ (x : Pp). counts.faults x.disk) same
-counted_at counts (a ∷ []) (suc k) p few is = absurd (cc is)
-counted_at counts (a ∷ b ∷ []) zero p few is = let same : a ≡ p = cc is in ap (λ (x : Pp). counts.faults x.disk) same
-counted_at counts (a ∷ b ∷ []) (suc zero) p few is = let same : b ≡ p = cc is in ap (λ (x : Pp). counts.faults x.disk) same
-counted_at counts (a ∷ b ∷ []) (suc (suc k)) p few is = absurd (cc is)
-counted_at counts (a ∷ b ∷ c ∷ []) zero p few is = let same : a ≡ p = cc is in ap (λ (x : Pp). counts.faults x.disk) same
-counted_at counts (a ∷ b ∷ c ∷ []) (suc zero) p few is = let same : b ≡ p = cc is in ap (λ (x : Pp). counts.faults x.disk) same
-counted_at counts (a ∷ b ∷ c ∷ []) (suc (suc zero)) p few is = let same : c ≡ p = cc is in ap (λ (x : Pp). counts.faults x.disk) same
-counted_at counts (a ∷ b ∷ c ∷ []) (suc (suc (suc k))) p few is = absurd (cc is)
-counted_at counts (a ∷ b ∷ c ∷ d ∷ ps) k p few is = absurd (omega (arith, few))
+pub counted_at : (counts : Counts) (ps : List Pp) (own : Pp) (k : ℕ) (p : Pp) → length ps ≤ 3 → slice_get ps k ≡ Some p → slice_index_or (faults_of counts ps own) k 0 ≡ counts.faults p.disk
+counted_at counts [] own k p few is = absurd (cc is)
+counted_at counts (a ∷ []) own zero p few is = let same : a ≡ p = cc is in ap (λ (x : Pp). counts.faults x.disk) same
+counted_at counts (a ∷ []) own (suc k) p few is = absurd (cc is)
+counted_at counts (a ∷ b ∷ []) own zero p few is = let same : a ≡ p = cc is in ap (λ (x : Pp). counts.faults x.disk) same
+counted_at counts (a ∷ b ∷ []) own (suc zero) p few is = let same : b ≡ p = cc is in ap (λ (x : Pp). counts.faults x.disk) same
+counted_at counts (a ∷ b ∷ []) own (suc (suc k)) p few is = absurd (cc is)
+counted_at counts (a ∷ b ∷ c ∷ []) own zero p few is = let same : a ≡ p = cc is in ap (λ (x : Pp). counts.faults x.disk) same
+counted_at counts (a ∷ b ∷ c ∷ []) own (suc zero) p few is = let same : b ≡ p = cc is in ap (λ (x : Pp). counts.faults x.disk) same
+counted_at counts (a ∷ b ∷ c ∷ []) own (suc (suc zero)) p few is = let same : c ≡ p = cc is in ap (λ (x : Pp). counts.faults x.disk) same
+counted_at counts (a ∷ b ∷ c ∷ []) own (suc (suc (suc k))) p few is = absurd (cc is)
+counted_at counts (a ∷ b ∷ c ∷ d ∷ ps) own k p few is = absurd (omega (arith, few))
 
-three : (counts : Counts) (ps : List Pp) → length (faults_of counts ps) ≡ 3
-three counts [] = refl
-three counts (a ∷ []) = refl
-three counts (a ∷ b ∷ []) = refl
-three counts (a ∷ b ∷ c ∷ ps) = refl
+four : (counts : Counts) (ps : List Pp) (own : Pp) → length (faults_of counts ps own) ≡ 4
+four counts [] own = refl
+four counts (a ∷ []) own = refl
+four counts (a ∷ b ∷ []) own = refl
+four counts (a ∷ b ∷ c ∷ ps) own = refl
+
+pub last_count : (counts : Counts) (ps : List Pp) (own : Pp) → slice_index_or (faults_of counts ps own) 3 0 ≡ counts.faults own.disk
+last_count counts [] own = refl
+last_count counts (a ∷ []) own = refl
+last_count counts (a ∷ b ∷ []) own = refl
+last_count counts (a ∷ b ∷ c ∷ ps) own = refl
 
 -- ---- a request that is aged
 
@@ -142,7 +148,7 @@ module _ (s : State) (sound : IsSound s) (on : s.core.power ≡ power.On) (none 
   core = s.core
 
   abbrev c : OpenCopy
-  c = opened pp lv lp number tried (faults_of counts (copies_of row lp)) (step_place core)
+  c = opened false pp lv lp number tried (faults_of counts (copies_of row lp) pp) (step_place core)
 
   abbrev table : List Open
   table = map aged core.requests
@@ -227,7 +233,7 @@ module _ (s : State) (sound : IsSound s) (on : s.core.power ≡ power.On) (none 
       request_on : IsRequest core o → (is_held_back core o.request ≡ false → is_held_back now.core o.request ≡ false)
           → ((p : Pp) → is_caught core (group_in core o.request.ask) p ≡ false → is_caught now.core (group_in core o.request.ask) p ≡ false) → IsRequest now.core (aged o)
       request_on r free caught =
-          let shape = shape_on core core.history table now.core.queue (Some c) core.pool core.flying core.cache.entries core.last o r.shape in
+          let shape = shape_on core core.history table now.core.queue (Some c) core.pool core.flying core.cache.entries core.last (λ ask. of_none (λ (k : OpenCopy). places_if (k.moves && is_beside_copy core ask k) k) []) o r.shape in
           record {
             shape = record { targets = shape.targets; phase_is = phase_aged o.request.phase o shape.phase_is; hand = shape.hand; room = shape.room; differ = shape.differ; usable = shape.usable; one = shape.one };
             ready = ready_on core core.history table now.core.queue (Some c) core.pool core.flying core.cache.entries core.last o free caught r.ready;
@@ -236,7 +242,9 @@ module _ (s : State) (sound : IsSound s) (on : s.core.power ≡ power.On) (none 
               due = λ status. most_on (count_by (is_failed_and_sure core) o.request.targets.items) (is_kept core o.request) (will_be_kept core o.request) (will_be_kept now.core o.request)
                   (none_on (λ (t : Target). is_done t.state && is_caught core (group_in core o.request.ask) t.pp) (λ (t : Target). is_done t.state && is_caught now.core (group_in core o.request.ask) t.pp)
                   (λ t. and_on (is_done t.state) (is_caught core (group_in core o.request.ask) t.pp) (is_caught now.core (group_in core o.request.ask) t.pp) (caught t.pp)) o.request.targets.items) (j.due status);
+              missed = j.missed;
               all = λ begun p among. let was = j.all begun p among in left_same p was;
+              place = λ begun p among. not_so among;
             };
           }
         where
@@ -261,9 +269,9 @@ module _ (s : State) (sound : IsSound s) (on : s.core.power ≡ power.On) (none 
     row = row;
     volume = volume;
     lp = within;
-    its = ap (λ ps. copy_at ps number) copies ∙ copy_is;
+    kind = record { its = ap (λ ps. copy_at ps number) copies ∙ copy_is; stale = λ runs e. (fine.settled, wanted); clearing = λ runs e. not_so (sym short ∙ e) };
     cursor = omega arith;
-    faults = three counts (copies_of row lp);
+    faults = four counts (copies_of row lp) pp;
     place = before (next_id core.history) (omega arith);
     room = tt;
     free = λ e. not_so (sym e);
@@ -271,8 +279,6 @@ module _ (s : State) (sound : IsSound s) (on : s.core.power ≡ power.On) (none 
     tried = λ disk e. not_so (sym (nothing disk) ∙ e);
     source = tt;
     under_way = λ runs e. not_so (sym e);
-    stale = λ runs e. (fine.settled, wanted);
-    clearing = λ runs e. not_so (sym short ∙ e);
   }
     where
       before : (n : ℕ) → 1 ≤ n → (id : ℕ) × (id < n) × (2 * n - 1 ≡ place_of id + 1)
@@ -339,7 +345,7 @@ module _ (s : State) (sound : IsSound s) (on : s.core.power ≡ power.On) (none 
       let disks = sound.fitting.valid.head.members in
       let wide = few_members core.descriptor.big in
       let wants = one_if (not (same_status core.status.wanted (unwrap_or core.status.in_flight core.status.committed))) in
-      let copy : copy_updates now.core c ≡ 2 = ap (λ b. if b then 1 else 2) short in
+      let copy : copy_updates now.core c ≡ 2 = ap (λ b. (if b then 1 else 2) + 0) short in
       let free = ltb-true (core.status.stamp.seq + 65536) (2 ^ 32) fine.numbers in
       omega (arith, later, long, held, limit, clean, volumes, big, members, disks, wide, wants, copy, free)
 
@@ -392,13 +398,19 @@ module _ (s : State) (sound : IsSound s) (on : s.core.power ≡ power.On) (none 
   out n = let before = no_hand n in let same = hands_same n in omega (arith, before, same)
 
   at_opening : (n : ℕ) (p : Pp) → copy_at (copies_in core.descriptor lv lp) n ≡ Some p → faults_at_opening c n ≡ counts.faults p.disk
-  at_opening n p is = counted_at counts (copies_of row lp) (n - 1) p few (at_place (copies_of row lp) n p (ap (λ ps. copy_at ps n) (sym copies) ∙ is))
+  at_opening n p is = counted_at counts (copies_of row lp) pp (n - 1) p few (at_place (copies_of row lp) n p (ap (λ ps. copy_at ps n) (sym copies) ∙ is))
+
+  -- on its own disk
+  own_at_opening : own_faults c ≡ counts.faults pp.disk
+  own_at_opening = last_count counts (copies_of row lp) pp
 
   caused : IsCausedAmong now (copies_in core.descriptor lv lp) c
   caused = record {
     began = λ n p is. let same = at_opening n p is in let least = low p.disk in omega (arith, same, least);
     since = λ n p is. let same = at_opening n p is in let most = high p.disk in omega (arith, same, most);
     tried = λ n p is e. not_so (sym (nothing p.disk) ∙ e);
+    own_began = let same = own_at_opening in let least = low pp.disk in omega (arith, same, least);
+    own_since = let same = own_at_opening in let most = high pp.disk in omega (arith, same, most);
     failed = λ e. absurd (cc e);
   }
 

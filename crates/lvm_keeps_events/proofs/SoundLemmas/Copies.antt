@@ -26,19 +26,21 @@ use Rattle.lvm_session.specs.declared.bringing.Step.{Step}
 use Rattle.lvm_session.specs.declared.bringing.Step.TheVariants as step
 use Rattle.lvm_session.specs.declared.flown.Owner.TheVariants as owner
 use Rattle.lvm_session.specs.State.{Core}
-use Rattle.lvm_session.specs.Judging.{copies_in, is_caught, is_missing, is_running, is_stale, is_usable, is_wanted_stale}
-use Rattle.lvm_session.specs.Bringing.{after_copy_end, copy_ends, end_by_sources, end_of, ends_if, groups_of, hand_of, has_row, is_cleared, is_done_end, is_idle, is_out, is_whole, marked_by_end, sources_of, step_of, step_row, with_back, with_end}
+use Rattle.lvm_session.specs.Judging.{copies_in, is_caught, is_missing, is_running, is_stale, is_usable, is_wanted_stale, is_clear}
+use Rattle.lvm_session.specs.Bringing.{after_copy_end, copy_ends, end_by_sources, end_of, ends_if, groups_of, hand_of, has_row, is_cleared, is_done_end, is_idle, is_out, is_whole, marked_by_end, sources_of, step_of, step_row, with_back, with_end, is_called_stale}
 use Rattle.lvm_session.specs.Dark.{hand_of_copy}
 use Rattle.lvm_session.specs.Marks.{Reviews, WantsStale, is_entailed}
 use Rattle.lvm_session.specs.Causes.{IsChosenSince, is_held_stale}
-use Rattle.lvm_session.specs.Left.{copy_left, copy_updates, is_brought_up, step_left, tried_of, update_work}
+use Rattle.lvm_session.specs.Left.{copy_left, copy_updates, if_so, is_brought_up, step_left, tried_of, update_work}
 use Rattle.lvm_session.specs.Owners.{IsCopyStepOf, IsStepOf, flies}
-use Rattle.lvm_session.specs.Sound.{IsCopy, IsReadFrom, count_if, is_clearing, is_hand, rows_of, waiting_rows, with_row}
+use Rattle.lvm_session.specs.Sound.{IsCopy, IsReadFrom, count_if, is_clearing, is_hand, rows_of, waiting_rows, with_row, IsOfKind}
+use Rattle.lvm_session.proofs.MovesLemmas.{places_by}
+use Rattle.lvm_keeps.proofs.KeepsLemmas.Landing.{or_parts}
 use Rattle.lvm_keeps.proofs.DarkLemmas.Ending.{back, back_long}
 use Rattle.lvm_keeps.proofs.Small.{both, is_false}
-use Rattle.lvm_keeps.proofs.RequestsLemmas.{copy_stepped, same_next}
+use Rattle.lvm_keeps.proofs.RequestsLemmas.{copy_stepped, kind_over, same_next, SamePlaces}
 use Rattle.lvm_keeps_events.proofs.SoundLemmas.Over.{even_rows, none_filter, out_no_hand, without_step}
-use Rattle.lvm_keeps_events.proofs.JudgingLemmas.Review.{Clears, WriteEnd, Reviewed, and_of, due, flies_is, its_copy, left_behind, mid, missing_is, not_wanted, now, held_by, settled_on, stale_is, still_clear, to_be_cleared, uncleared, usable_is, wanted_on}
+use Rattle.lvm_keeps_events.proofs.JudgingLemmas.Review.{Clears, WriteEnd, Reviewed, and_of, due, flies_is, its_copy, left_behind, mid, missing_is, not_wanted, now, held_by, settled_on, stale_is, still_clear, to_be_cleared, uncleared, usable_is, wanted_on, fresh_from, place_stays}
 use Rattle.lvm_keeps_events.proofs.JudgingLemmas.DuesMarks.{own_pp}
 
 -- it goes on as it is, or ends, which is an update less and less work
@@ -50,6 +52,7 @@ Fewer e r =
 -- What is true of it, of its place in the hold queue and of its buffer.
 pub record Brings (e : WriteEnd) (r : Reviewed e) : Type 0 where
   pub caught : (group : ℕ) (p : Pp) → is_caught e.core group p ≡ false → is_caught (now e r) group p ≡ false
+  pub places : SamePlaces e.core (now e r)
   pub blocked : (place : ℕ) (ask : Held) → is_blocked e.core.queue.rows place ask ≡ false → is_blocked r.queue.rows place ask ≡ false
   pub room : r.queue.room ≡ e.core.queue.room
   pub queue : r.queue.rows ≡ rows_of (now e r)
@@ -98,7 +101,7 @@ module _ (e : WriteEnd) (status : Stored) (marks : WantsStale (due e) e.next sta
     row = k.row;
     volume = k.volume;
     lp = k.lp;
-    its = k.its;
+    kind = by_kind c.moves refl k.kind;
     cursor = k.cursor;
     faults = k.faults;
     place = k.place;
@@ -108,9 +111,6 @@ module _ (e : WriteEnd) (status : Stored) (marks : WantsStale (due e) e.next sta
     tried = k.tried;
     source = k.source;
     under_way = k.under_way;
-    stale = λ runs short. let was = k.stale runs short in (settled_on e going_on c.pp was.0, wanted_on e going_on c.pp was.1);
-    clearing = λ runs whole. let stale = uncleared e still c is runs whole in
-        (stale_is e going_on c.pp ∙ stale, still_clear e going_on c.pp (k.clearing runs whole).1 (not_left stale) (ap (λ m. marked_by_end (mid e) m c.pp) still));
   }
     where
       not_left : is_stale (mid e) c.pp ≡ true → is_entailed (mid e) c.pp ≡ false
@@ -119,6 +119,27 @@ module _ (e : WriteEnd) (status : Stored) (marks : WantsStale (due e) e.next sta
           by : (b : Bool) → is_entailed (mid e) c.pp ≡ b → is_entailed (mid e) c.pp ≡ false
           by false i = i
           by true i = not_so (sym (left_behind (mid e) c.pp i).fresh ∙ stale)
+
+      by_kind : (b : Bool) → c.moves ≡ b → IsOfKind b core c → IsOfKind b after c
+      by_kind false stays it = record {
+        its = it.its;
+        stale = λ runs short. let was = it.stale runs short in (settled_on e going_on c.pp was.0, wanted_on e going_on c.pp was.1);
+        clearing = λ runs whole. let stale = uncleared e still c is stays runs whole in
+            (stale_is e going_on c.pp ∙ stale, still_clear e going_on c.pp (it.clearing runs whole).1 (not_left stale) (ap (λ m. marked_by_end (mid e) m c.pp) still));
+      }
+      by_kind true moves it = record {
+        from = it.from;
+        its = it.its;
+        free = it.free;
+        member = it.member;
+        member_is = it.member_is;
+        inside = it.inside;
+        apart = it.apart;
+        there = it.there;
+        called = it.called;
+        clear = λ runs whole. still_clear e going_on c.pp (it.clear runs whole) (place_stays e c it) (ap (λ m. marked_by_end (mid e) m c.pp) still);
+        fresh = fresh_from e going_on c.lv c.lp it.fresh;
+      }
 
   bring_all : IfSome core.copy (IsCopy after)
   bring_all = by core.copy refl e.going.copy
@@ -132,12 +153,13 @@ module _ (e : WriteEnd) (status : Stored) (marks : WantsStale (due e) e.next sta
 
   cleared_by : (c : OpenCopy) → is_cleared after c ≡ true → is_cleared (mid e) c ≡ true
   cleared_by c is =
-      let a = both (not (is_stale after c.pp) && not (calls_stale (unwrap_or status.in_flight status.committed) c.pp)) (not (is_wanted_stale after c.pp)) is in
+      let kind = both (not c.moves) (is_clear after c.pp) is in
+      let a = both (not (is_stale after c.pp) && not (calls_stale (unwrap_or status.in_flight status.committed) c.pp)) (not (is_wanted_stale after c.pp)) kind.1 in
       let b = both (not (is_stale after c.pp)) (not (calls_stale (unwrap_or status.in_flight status.committed) c.pp)) a.0 in
-      and_of (not (is_stale (mid e) c.pp) && not (calls_stale (unwrap_or e.next.in_flight e.next.committed) c.pp)) (not (is_wanted_stale (mid e) c.pp))
+      and_of (not c.moves) (is_clear (mid e) c.pp) kind.0 (and_of (not (is_stale (mid e) c.pp) && not (calls_stale (unwrap_or e.next.in_flight e.next.committed) c.pp)) (not (is_wanted_stale (mid e) c.pp))
       (and_of (not (is_stale (mid e) c.pp)) (not (calls_stale (unwrap_or e.next.in_flight e.next.committed) c.pp)) (ap not (sym (stale_is e going_on c.pp)) ∙ b.0)
       (ap not (ap (λ (s : Status). calls_stale s c.pp) (e.follows.flies ∙ sym (flies_is e going_on))) ∙ b.1))
-      (ap not (e.follows.stale c.pp ∙ (not_wanted e going_on c.pp (is_false (is_wanted_stale after c.pp) a.1)).0))
+      (ap not (e.follows.stale c.pp ∙ (not_wanted e going_on c.pp (is_false (is_wanted_stale after c.pp) a.1)).0)))
 
   still_open : (c : OpenCopy) → end_of (mid e) c ≡ None → end_of after c ≡ None
   still_open c i =
@@ -156,6 +178,7 @@ module _ (e : WriteEnd) (status : Stored) (marks : WantsStale (due e) e.next sta
   pub goes_on : Brings e going_on
   goes_on = record {
     caught = λ group p is. is;
+    places = λ ask. refl;
     blocked = λ place ask free. free;
     room = refl;
     queue = e.going.queue;
@@ -291,7 +314,7 @@ module _ (e : WriteEnd) (status : Stored) (marks : WantsStale (due e) e.next sta
   bring_over : IsCopy then_on ended
   bring_over = copy_stepped before then_on c at c.tried (Some how) refl (same_next before) k
       (subst (λ m. IfSome m (λ (buf : Buffer). length buf.sectors ≡ 256)) (sym its.hand) tt) (λ busy. ap not (its.free busy)) (λ over. its.hand)
-      k.tried (source_on at its.source) (λ goes busy. not_so goes) (λ goes short. not_so goes) (λ goes whole. not_so goes)
+      k.tried (source_on at its.source) (λ goes busy. not_so goes) (kind_over before then_on c at c.tried (Some how) refl refl refl (fresh_from e at_end c.lv c.lp) c.moves k.kind)
 
   -- nothing is left to be cleared
   clear_over : (p : Pp) → is_held_stale then_on p ≡ true → is_wanted_stale then_on p ≡ false → is_clearing then_on p ≡ true
@@ -300,9 +323,12 @@ module _ (e : WriteEnd) (status : Stored) (marks : WantsStale (due e) e.next sta
       none : (is_wanted_stale before p ≡ false) × (is_entailed (mid e) p ≡ false) × (marked_by_end (mid e) (copy_ends (mid e)) p ≡ false)
       none = not_wanted e at_end p clear
 
-      done : (d : Bool) → not d && (true && true) ≡ false → d ≡ true
-      done true i = refl
-      done false i = not_so (sym i)
+      -- it ended as done, or is a move whose place nothing calls stale
+      ended_so : (d m s : Bool) → not d && (true && true && (not m || s)) ≡ false → (d ≡ true) ⊎ (s ≡ false)
+      ended_so true m s i = inl refl
+      ended_so false true false i = inr refl
+      ended_so false true true i = not_so (sym i)
+      ended_so false false s i = not_so (sym i)
 
       by : Clears before p → is_clearing then_on p ≡ true
       by x = not_so (sym fresh_so ∙ held)
@@ -316,21 +342,25 @@ module _ (e : WriteEnd) (status : Stored) (marks : WantsStale (due e) e.next sta
           its_pp : c.pp ≡ p
           its_pp = sym (ap (λ (y : OpenCopy). y.pp) same) ∙ x.its
 
-          is_done : is_done_end how ≡ true
-          is_done = done (is_done_end how)
-              (sym (ap (λ m. marked_by_end (mid e) m p) ends ∙ ap (λ m. not (is_done_end how) && option_map_or (λ (y : OpenCopy). is_whole before y && is_pp p y.pp) m false) is
-              ∙ ap (λ b. not (is_done_end how) && (b && is_pp p c.pp)) whole ∙ ap (λ b. not (is_done_end how) && (true && b)) (ap (is_pp p) its_pp ∙ own_pp p)) ∙ none.2)
+          so : (is_done_end how ≡ true) ⊎ (is_called_stale (mid e) c.pp ≡ false)
+          so = ended_so (is_done_end how) c.moves (is_called_stale (mid e) c.pp)
+              (sym (ap (λ m. marked_by_end (mid e) m p) ends ∙ ap (λ m. not (is_done_end how) && option_map_or (λ (y : OpenCopy). is_whole before y && is_pp p y.pp && (not y.moves || is_called_stale (mid e) y.pp)) m false) is
+              ∙ ap (λ b. not (is_done_end how) && (b && is_pp p c.pp && (not c.moves || is_called_stale (mid e) c.pp))) whole
+              ∙ ap (λ b. not (is_done_end how) && (true && b && (not c.moves || is_called_stale (mid e) c.pp))) (ap (is_pp p) its_pp ∙ own_pp p)) ∙ none.2)
 
-          cleared : is_cleared (mid e) c ≡ true
-          cleared = done_cleared (mid e) c how its_end is_done
-
-          parts : (not (is_stale (mid e) c.pp) ≡ true) × (not (calls_stale (unwrap_or e.next.in_flight e.next.committed) c.pp) ≡ true)
-          parts = both (not (is_stale (mid e) c.pp)) (not (calls_stale (unwrap_or e.next.in_flight e.next.committed) c.pp))
-              (both (not (is_stale (mid e) c.pp) && not (calls_stale (unwrap_or e.next.in_flight e.next.committed) c.pp)) (not (is_wanted_stale (mid e) c.pp)) cleared).0
+          uncalled : (is_done_end how ≡ true) ⊎ (is_called_stale (mid e) c.pp ≡ false) → (is_stale (mid e) c.pp ≡ false) × (calls_stale (unwrap_or e.next.in_flight e.next.committed) c.pp ≡ false)
+          uncalled (inr uncalled_so) = or_parts (is_stale (mid e) c.pp) (calls_stale (unwrap_or e.next.in_flight e.next.committed) c.pp) uncalled_so
+          uncalled (inl is_done) = (is_false (is_stale (mid e) c.pp) parts.0, is_false (calls_stale (unwrap_or e.next.in_flight e.next.committed) c.pp) parts.1)
+            where
+              parts : (not (is_stale (mid e) c.pp) ≡ true) × (not (calls_stale (unwrap_or e.next.in_flight e.next.committed) c.pp) ≡ true)
+              parts = both (not (is_stale (mid e) c.pp)) (not (calls_stale (unwrap_or e.next.in_flight e.next.committed) c.pp))
+                  (both (not (is_stale (mid e) c.pp) && not (calls_stale (unwrap_or e.next.in_flight e.next.committed) c.pp)) (not (is_wanted_stale (mid e) c.pp))
+                  (both (not c.moves) (is_clear (mid e) c.pp) (done_cleared (mid e) c how its_end is_done)).1).0
 
           fresh_so : is_held_stale then_on p ≡ false
-          fresh_so = ap (λ q. is_held_stale then_on q) (sym its_pp) ∙ ap (λ b. b || calls_stale (unwrap_or status.in_flight status.committed) c.pp) (stale_is e at_end c.pp ∙ is_false (is_stale (mid e) c.pp) parts.0)
-              ∙ ap (λ (s : Status). calls_stale s c.pp) (flies_is e at_end ∙ sym e.follows.flies) ∙ is_false (calls_stale (unwrap_or e.next.in_flight e.next.committed) c.pp) parts.1
+          fresh_so = let now_so = uncalled so in
+              ap (λ q. is_held_stale then_on q) (sym its_pp) ∙ ap (λ b. b || calls_stale (unwrap_or status.in_flight status.committed) c.pp) (stale_is e at_end c.pp ∙ now_so.0)
+              ∙ ap (λ (s : Status). calls_stale s c.pp) (flies_is e at_end ∙ sym e.follows.flies) ∙ now_so.1
 
   or_false : (a : Bool) → a || false ≡ a
   or_false true = refl
@@ -349,15 +379,15 @@ module _ (e : WriteEnd) (status : Stored) (marks : WantsStale (due e) e.next sta
 
   fewer_over : Fewer e at_end
   fewer_over = inr (
-    let same : option_map_or (copy_updates before) before.copy 0 ≡ copy_updates before c = ap (λ m. option_map_or (copy_updates before) m 0) is in let low = updates (is_running c) (is_whole before c) runs in omega (arith, same, low),
+    let same : option_map_or (copy_updates before) before.copy 0 ≡ copy_updates before c = ap (λ m. option_map_or (copy_updates before) m 0) is in let low = updates (is_running c) (is_whole before c) c.moves runs in omega (arith, same, low),
     let same : option_map_or (copy_left before) before.copy 0 ≡ copy_left before c = ap (λ m. option_map_or (copy_left before) m 0) is in
         let low = work (is_running c) (is_whole before c) runs (16 * (groups_of before - c.cursor - 1)) (step_left c.step (tried_of before c)) in omega (arith, same, low),
   )
     where
-      updates : (a w : Bool) → a ≡ true → 1 ≤ (if not a then 0 else if w then 1 else 2)
-      updates true true i = omega arith
-      updates true false i = omega arith
-      updates false w i = not_so i
+      updates : (a w m : Bool) → a ≡ true → 1 ≤ (if not a then 0 else (if w then 1 else 2) + if_so m 1)
+      updates true true m i = omega arith
+      updates true false m i = omega arith
+      updates false w m i = not_so i
 
       work : (a w : Bool) → a ≡ true → (x y : ℕ) → 256 ≤ (if not a then 0 else if w then 2 * update_work else 3 * update_work + x + 8 + y)
       work true true i x y = omega arith
@@ -367,6 +397,7 @@ module _ (e : WriteEnd) (status : Stored) (marks : WantsStale (due e) e.next sta
   pub ends_so : Brings e at_end
   ends_so = record {
     caught = λ group p none. refl;
+    places = λ ask. ap (places_by before ask) is;
     blocked = its.blocked;
     room = its.room;
     queue = queue_over;

@@ -30,7 +30,8 @@ use Rattle.lvm_session.specs.Sound.{count_if, is_hand, IsCopy, IsGoing, IsReadFr
 use Rattle.lvm_keeps.proofs.DarkLemmas.Ending.{back, back_long}
 use Rattle.lvm_keeps.proofs.OwnersLemmas.Rows.{data_still, status_still}
 use Rattle.lvm_keeps.proofs.Small.{is_false}
-use Rattle.lvm_keeps.proofs.RequestsLemmas.{changed, open_on, copy_stepped, same_next}
+use Rattle.lvm_session.proofs.MovesLemmas.{places_by}
+use Rattle.lvm_keeps.proofs.RequestsLemmas.{changed, open_on, copy_stepped, kind_over, same_next, SamePlaces}
 use Rattle.lvm_keeps_events.proofs.OwnersLemmas.Rows.{rows_each}
 use Rattle.lvm_keeps_events.proofs.SoundLemmas.Over.{even_rows, without_step, none_filter}
 use Rattle.lvm_keeps_events.proofs.Lists.{or_false}
@@ -46,6 +47,7 @@ pub record LeavesParts (core : Core) (queue : Waiting) (copy : Option OpenCopy) 
   pub long : length pool ≡ length core.pool
   pub free : (place : ℕ) (ask : Held) → is_blocked core.queue.rows place ask ≡ false → is_blocked queue.rows place ask ≡ false
   pub caught : (group : ℕ) (p : Pp) → is_caught core group p ≡ false → is_caught (parted core queue copy pool) group p ≡ false
+  pub places : SamePlaces core (parted core queue copy pool)
   pub bring : IfSome copy (IsCopy (parted core queue copy pool))
   pub rows : queue.rows ≡ rows_of (parted core queue copy pool)
   pub out : option_map_or (λ (k : OpenCopy). is_out k.step) copy false ≡ option_map_or (λ (k : OpenCopy). is_out k.step) core.copy false
@@ -60,6 +62,7 @@ kept core going = record {
   long = refl;
   free = λ place ask e. e;
   caught = λ group p e. e;
+  places = λ ask. refl;
   bring = going.copy;
   rows = going.queue;
   out = refl;
@@ -166,7 +169,7 @@ module _ (core : Core) (going : IsGoing core) (c : OpenCopy) (is : core.copy ≡
       (subst (λ h. IfSome h (λ (buf : Buffer). length buf.sectors ≡ 256)) (sym (no_hand c.step)) tt)
       (λ busy. ap not (free_by c.place (step_of core c) (is_out c.step) (is_false (is_blocked core.queue.rows c.place (step_of core c)) (its.free (idle_back c.step busy)))))
       (λ e. no_hand c.step) its.tried (source_on c.step (copies_in core.descriptor c.lv c.lp) its.source) (λ runs busy. not_so runs)
-      (λ runs short. not_so runs) (λ runs whole. not_so runs)
+      (kind_over core now c ended.step c.tried (Some how) refl refl refl (λ e. e) c.moves its.kind)
 
   pub leaves : LeavesParts core queue (Some ended) pool
   leaves = record {
@@ -174,6 +177,7 @@ module _ (core : Core) (going : IsGoing core) (c : OpenCopy) (is : core.copy ≡
     long = back_long core.pool (hand_of c.step);
     free = λ place ask e. free_by place ask (is_out c.step) e;
     caught = λ group p e. refl;
+    places = λ ask. ap (places_by core ask) is;
     bring = bring_now;
     rows = rows_are;
     out = out_same c.step ∙ sym (of_copy (λ (k : OpenCopy). is_out k.step) false);
@@ -189,7 +193,7 @@ module _ (core : Core) (going : IsGoing core) (c : OpenCopy) (is : core.copy ≡
 -- ---- a request beside it
 
 pub one_on : (core : Core) (queue : Waiting) (copy : Option OpenCopy) (pool : List Bool) → LeavesParts core queue copy pool → (x : Open) → IsOpenOne core x → IsOpenOne (parted core queue copy pool) x
-one_on core queue copy pool left x it = open_on core core.history core.requests queue copy pool core.flying core.cache.entries core.last x (left.free (place_of x.request.id) (held_of x.request.ask)) (left.caught (group_in core x.request.ask)) it
+one_on core queue copy pool left x it = open_on core core.history core.requests queue copy pool core.flying core.cache.entries core.last x (left.free (place_of x.request.id) (held_of x.request.ask)) (left.caught (group_in core x.request.ask)) left.places it
 
 -- the rows of others stay
 module _ (core : Core) (queue : Waiting) (copy : Option OpenCopy) (pool : List Bool) (left : LeavesParts core queue copy pool) where

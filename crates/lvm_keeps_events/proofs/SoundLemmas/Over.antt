@@ -28,12 +28,13 @@ use Rattle.lvm_session.specs.Judging.{copies_in, group_in, held_of, is_missing, 
 use Rattle.lvm_session.specs.declared.bringing.CopyEnd.TheVariants as ending
 use Rattle.lvm_session.specs.declared.bringing.CopyEnd.{CopyEnd}
 use Rattle.lvm_session.specs.Bringing.{copy_ends, hand_of, end_by_sources, ends_if, is_cleared, has_row, is_out, is_whole, step_row}
-use Rattle.lvm_session.specs.Left.{copy_updates}
+use Rattle.lvm_session.specs.Left.{copy_updates, if_so}
 use Rattle.lvm_session.specs.Owners.{flies}
 use Rattle.lvm_session.specs.Requests.{IsOpenOne}
 use Rattle.lvm_session.specs.Causes.{IsCausedAmong}
 use Rattle.lvm_session.specs.Sound.{IsCopy, IsGoing, IsSound, count_if, is_clearing, is_hand, waiting_rows, with_row}
-use Rattle.lvm_keeps.proofs.RequestsLemmas.{changed, open_on, copy_stepped, same_next}
+use Rattle.lvm_session.proofs.MovesLemmas.{places_by}
+use Rattle.lvm_keeps.proofs.RequestsLemmas.{changed, open_on, copy_stepped, kind_over, same_next}
 use Rattle.lvm_keeps_events.proofs.SoundLemmas.CopyEnded.{session_still}
 use Rattle.lvm_keeps_events.proofs.OwnersLemmas.Removal.{given_back, others, was_out}
 
@@ -120,12 +121,11 @@ module _ (s : State) (sound : IsSound s) (on : s.core.power ≡ power.On) (c : O
 
   one : (o : Open) → IsOpenOne core o → IsOpenOne now.core o
   one o it = open_on core core.history core.requests queue (Some resting) pool (remove core.flying at) core.cache.entries core.last o (free_on (place_of o.request.id) (held_of o.request.ask))
-      (λ p e. ap (λ b. b && is_pp p c.pp && nat_lt (group_in core o.request.ask) c.cursor) over) it
+      (λ p e. ap (λ b. b && is_pp p c.pp && nat_lt (group_in core o.request.ask) c.cursor) over) (λ ask. ap (places_by core ask) is) it
 
   bring : IsCopy now.core resting
   bring = copy_stepped core now.core c step.Idle tried end refl (same_next core) its tt (λ e. absurd (let no : true ≡ false = e in cc)) (λ e. refl)
-      tries tt (λ goes busy. absurd (let no : true ≡ false = busy in cc)) (λ goes short. not_so (sym over ∙ goes))
-      (λ goes whole. not_so (sym over ∙ goes))
+      tries tt (λ goes busy. absurd (let no : true ≡ false = busy in cc)) (kind_over core now.core c step.Idle tried end refl refl over (λ e. e) c.moves its.kind)
 
   -- ---- its place and its end
 
@@ -144,5 +144,5 @@ module _ (s : State) (sound : IsSound s) (on : s.core.power ≡ power.On) (c : O
   pub keeps : IsSound now
   keeps = session_still s sound on c is at row there own step.Idle tried end queue.rows pool s.device.media refl (length_set core.pool buf.number false) one bring queue_is reviewed
       (λ p held fresh_wanted. not_so (sym (clear p) ∙ going.clearings p held fresh_wanted))
-      (let was = going.numbers in let none : copy_updates now.core resting ≡ 0 = ap (λ (b : Bool). if not b then 0 else if is_whole core c then 1 else 2) over in omega (arith, was, none))
+      (let was = going.numbers in let same = of_copy (copy_updates core) 0 in let none : copy_updates now.core resting ≡ 0 = ap (λ (b : Bool). if not b then 0 else (if is_whole core c then 1 else 2) + if_so c.moves 1) over in omega (arith, was, same, none))
       (given_back s sound on at f f_there buf number s.device.media now.core (λ n. let none = was_hand n in omega (arith, none))) why

@@ -29,11 +29,11 @@ use Rattle.lvm_session.specs.declared.flown.Owner.TheVariants as owner
 use Rattle.lvm_session.specs.declared.open.Power.TheVariants as power
 use Rattle.lvm_session.specs.declared.open.Open.{Open}
 use Rattle.lvm_session.specs.State.{Core, is_there}
-use Rattle.lvm_session.specs.Judging.{copies_for, group_of, is_changed, is_missing, is_waiting}
+use Rattle.lvm_session.specs.Judging.{copies_for, group_of, is_changed, is_missing, is_waiting, places_for}
 use Rattle.lvm_session.specs.Enabled.{is_lost}
 use Rattle.lvm_session.specs.Ends.{LosesDisk}
 use Rattle.lvm_session.specs.Marks.{Reviews}
-use Rattle.lvm_session.specs.Left.{begun_left, copy_left, if_so, is_held, lacks_dirty, lacks_note, left_of, phase_left, read_left, request_left, status_left, turns_of, unbegun_left, update_work, work_left}
+use Rattle.lvm_session.specs.Left.{begun_left, copy_left, if_so, is_held, lacks_dirty, lacks_note, left_of, phase_left, place_turns, read_left, request_left, status_left, turns_of, unbegun_left, update_work, work_left}
 use Rattle.lvm_session.specs.Owners.{flies}
 use Rattle.lvm_session.specs.Sound.{IsGoing, pins}
 use Rattle.lvm_keeps.proofs.KeepsLemmas.NoteStart.{each_counted}
@@ -140,10 +140,10 @@ module _ (core : Core) (going : IsGoing core) (disk at : ℕ) (row : Flown) (the
           (and_of (r.pinned && not (is_missing core t.pp.disk)) (not (is_named core.cache t.pp.disk (lv_of r.ask) (group_of r.ask))) b.0 (ap not i)) (ap not j)
 
   unbegun_by : (r : Request) (keep : r.pinned ≡ true → 1 ≤ pins_of core.cache.entries (lv_of r.ask) (group_of r.ask)) → unbegun_left after r ≤ unbegun_left core r
-  unbegun_by r keep = add (sum_by (turns_of core) (copies_for core r.ask)) (if_so (lacks_dirty core r.ask) update_work) (if_so (not (is_held r.phase) && is_changed core r) 12) (phase_left r.phase core r) (phase_left r.phase after r) (phase_less core after r (lacks_by r keep) r.phase)
+  unbegun_by r keep = add (sum_by (turns_of core) (copies_for core r.ask)) (sum_by (place_turns core) (places_for core r.ask)) (if_so (lacks_dirty core r.ask) update_work) (if_so (not (is_held r.phase) && is_changed core r) 12) (phase_left r.phase core r) (phase_left r.phase after r) (phase_less core after r (lacks_by r keep) r.phase)
     where
-      add : (s d c p q : ℕ) → q ≤ p → 256 + s + d + c + q ≤ 256 + s + d + c + p
-      add s d c p q l = omega (arith, l)
+      add : (s y d c p q : ℕ) → q ≤ p → 256 + s + y + d + c + q ≤ 256 + s + y + d + c + p
+      add s y d c p q l = omega (arith, l)
 
   abbrev IsKept : Open → Type 0
   IsKept x = x.request.pinned ≡ true → 1 ≤ pins_of core.cache.entries (lv_of x.request.ask) (group_of x.request.ask)

@@ -1,5 +1,5 @@
 -- What a sound session that is on is ready for.
-use Rattle.std.proofs.Common.{◌≡◌, ◌⊎◌, inl, inr, ◌≤◌, ◌<◌, ◌+◌, ℕ, suc, Bool, true, false, ◌&&◌, List, [], ◌∷◌, Option, Some, None, length, map, is_some, if◌then◌else◌, refl, sym, ◌∙◌, ap, subst, arith}
+use Rattle.std.proofs.Common.{◌≡◌, ◌⊎◌, inl, inr, ◌≤◌, ◌<◌, ◌+◌, ℕ, suc, Bool, true, false, ◌&&◌, List, [], ◌∷◌, Option, Some, None, length, map, is_some, if◌then◌else◌, refl, sym, ◌∙◌, ap, arith}
 use Rattle.std.specs.Prelude.{count_by, slice_index_or}
 use Rattle.std.specs.Option.{option_map_or}
 use Rattle.std.proofs.lemmas.List.{length-map}
@@ -11,12 +11,11 @@ use Rattle.lvm_session.specs.declared.bringing.OpenCopy.{OpenCopy}
 use Rattle.lvm_session.specs.declared.event.Event.{Event}
 use Rattle.lvm_session.specs.declared.event.Event.TheVariants as event
 use Rattle.lvm_session.specs.declared.flown.Flown.{Flown}
-use Rattle.lvm_session.specs.declared.open.Open.{Open}
 use Rattle.lvm_session.specs.declared.open.Power.TheVariants as power
 use Rattle.lvm_session.specs.State.{Core, State}
-use Rattle.lvm_session.specs.Judging.{is_missing, is_running}
+use Rattle.lvm_session.specs.Judging.{is_running}
 use Rattle.lvm_session.specs.Bringing.{hand_of}
-use Rattle.lvm_session.specs.Enabled.{copy_write, data_at, first_from, first_of, has_buffer, is_lost, is_status_due, may_read, may_write, note_at, or_next, parts_to_start}
+use Rattle.lvm_session.specs.Enabled.{copy_write, data_at, first_from, first_of, has_buffer, is_status_due, may_read, may_write, note_at, or_next, parts_to_start}
 use Rattle.lvm_session.specs.Dark.{hand_of_copy}
 use Rattle.lvm_session.specs.Owners.{AreRows}
 use Rattle.lvm_session.specs.Placed.{ArePlaced}
@@ -24,7 +23,7 @@ use Rattle.lvm_session.specs.Sound.{IsGoing, IsSound, count_if, has_number, is_d
 use Rattle.lvm_moves.specs.Launching.{HasFlight}
 use Rattle.lvm_moves.proofs.StartsLemmas.Firsts.{first_can}
 use Rattle.lvm_moves.specs.Ready.{FirstStartCan, FirstStartHasFlight, SessionsMayChoose}
-use Rattle.lvm_moves.proofs.ReadyLemmas.Buffers.{fits, is_out, most, some_in}
+use Rattle.lvm_moves.proofs.ReadyLemmas.Buffers.{fits, most, some_in}
 
 -- the list of a session is as long as that of the flights
 rows_long : (core : Core) (rows : List Flown) (flights : List Flight) → AreRows core rows flights → length rows ≡ length flights

@@ -39,8 +39,9 @@ use Rattle.lvm_session.specs.Judging.{copies_in, facts_of, group_of, is_missing,
 use Rattle.lvm_session.specs.Enabled.{copy_read, copy_write, data_at, data_start, first_from, first_of, has_buffer, is_status_due, is_unnamed, may_read, may_write, note_at, note_due, note_start, or_next, parts_to_start, status_start, target_due, target_next, wants_record}
 use Rattle.lvm_session.specs.Calls.{copy_at}
 use Rattle.lvm_moves.proofs.passed.Names.{at_place}
-use Rattle.lvm_session.specs.Requests.{IsOpenOne, IsRequest, IsTarget}
+use Rattle.lvm_session.specs.Requests.{IsAimed, IsOpenOne, IsRequest, IsTarget}
 use Rattle.lvm_session.specs.Sound.{IsCopy}
+use Rattle.lvm_session.proofs.MovesLemmas.{move_of, move_partition, open_one, place_open, stale_of}
 use Rattle.lvm_moves.specs.Launching.{HasNote, MayLaunch, MayNote, MayReadCopy, MayStartData, MayWriteCopy}
 use Rattle.lvm_moves.specs.Starts.{CanStart, MayStart}
 use Rattle.lvm_moves.proofs.StartsLemmas.Within.{all_copies, among_copies, at_number, blocks_within, note_within, was_there}
@@ -266,7 +267,13 @@ module _ (device : Device) (core : Core) (may : MayStart device core) where
   its_one place o there = at_place (IsOpenOne core) core.requests place o may.flight.going.requests there
 
   target_of_member : (o : Open) (t : Target) → IsTarget core o.request.ask t → IsPartitionOf core.descriptor t.pp
-  target_of_member o t its = among_copies core (lv_of o.request.ask) (lp_of core o.request.ask) device t.pp may its.copy
+  target_of_member o t its = aimed t.moves its.copy
+    where
+      aimed : (b : Bool) → IsAimed b core o.request.ask t → IsPartitionOf core.descriptor t.pp
+      aimed false among = among_copies core (lv_of o.request.ask) (lp_of core o.request.ask) device t.pp may among
+      aimed true place =
+          let at = place_open core o.request.ask t.pp place.0 in
+          subst (IsPartitionOf core.descriptor) (sym at.is) (move_partition core at.copy (move_of core at.copy (open_one core at.copy at.is_open may.flight.going.copy) at.moves))
 
   may_note : (place : ℕ) (o : Open) (disk : ℕ) → slice_get core.requests place ≡ Some o → note_due core o ≡ Some disk → MayNote device core place disk
   may_note place o disk there is =
@@ -308,10 +315,15 @@ module _ (device : Device) (core : Core) (may : MayStart device core) where
         blocks_within device core may source (block_at core c) 256 it.1 (was_there device core may source.disk there) (omega arith) (in_group core.descriptor.mib c.lp c.cursor);
   }
 
+  -- a copy that is open stands on a member, or moves there
+  of_kind : (c : OpenCopy) → IsCopy core c → (b : Bool) → c.moves ≡ b → IsPartitionOf core.descriptor c.pp
+  of_kind c its false stays =
+      at_number (IsPartitionOf core.descriptor) (copies_in core.descriptor c.lv c.lp) (c.copy - 1) c.pp (own (copies_in core.descriptor c.lv c.lp) c.copy c.pp (stale_of core c its stays).its) (all_copies core c.lv c.lp device may)
+  of_kind c its true moves = move_partition core c (move_of core c its moves)
+
   may_write_copy : (c : OpenCopy) → core.copy ≡ Some c → may_write c ≡ true → MayWriteCopy device core
   may_write_copy c is_open writes =
-      let its = its_copy (IsCopy core) core.copy c may.flight.going.copy is_open in
-      let of = at_number (IsPartitionOf core.descriptor) (copies_in core.descriptor c.lv c.lp) (c.copy - 1) c.pp (own (copies_in core.descriptor c.lv c.lp) c.copy c.pp its.its) (all_copies core c.lv c.lp device may) in
+      let of = of_kind c (its_copy (IsCopy core) core.copy c may.flight.going.copy is_open) c.moves refl in
       let running = (both (is_running c) (is_some (hand_of c.step)) writes).0 in
       let stays = ap (λ (o : Option OpenCopy). option_map_or (end_of core) o None) (sym is_open) ∙ may.flight.going.reviewed in
       record {

@@ -10,8 +10,8 @@ use Rattle.lvm_session.specs.declared.bringing.CopyEnd.TheVariants as ending
 use Rattle.lvm_session.specs.declared.bringing.OpenCopy.{OpenCopy}
 use Rattle.lvm_session.specs.declared.open.Power.TheVariants as power
 use Rattle.lvm_session.specs.Bringing.{is_out}
-use Rattle.lvm_session.specs.Calls.{closed, copy_state, state_at_end, state_of_copy}
-use Rattle.lvm_session.specs.Judging.{is_missing}
+use Rattle.lvm_session.specs.Calls.{closed, copy_state, state_at_end, state_of_copy, is_still_aimed}
+use Rattle.lvm_session.specs.Judging.{is_missing, is_moved}
 use Rattle.lvm_disk.specs.Device.{Device}
 use Rattle.lvm_session.specs.State.{Core, State, state}
 use Rattle.lvm_session.specs.Sound.{IsSound}
@@ -21,6 +21,7 @@ use Rattle.lvm_ranges.specs.declared.fault.SyncFault.{SyncFault}
 use Rattle.lvm_ranges.specs.Keeping.{KeepsTable}
 use Rattle.lvm_ranges.specs.Passing.{HasEnded, IsEnded, IsJustOpened, IsSameCopy, Runs, EndsTurning, EachTurnWhile}
 use Rattle.lvm_ranges.specs.Turning.{GoesBeside, IsUnderWay, MakesLast, MakesTurn}
+use Rattle.lvm_keeps.proofs.StateLemmas.{state_brought}
 use Rattle.lvm_ranges.proofs.PassingLemmas.Open.{IsOpenStill, just_opened, turn_open}
 use Rattle.lvm_ranges.proofs.PassingLemmas.Standing.{still_ended}
 use Rattle.lvm_ranges.proofs.TurningLemmas.{beside_both, beside_none, last_turn, one_turn, unstuck_beside}
@@ -39,7 +40,7 @@ begins first left unstuck just = record {
   turns = NoTurn;
   begun = just.0;
   its = just.1;
-  still = just_opened first.core just.0 just.1 just.2;
+  still = just_opened first.core just.0 just.1 just.2 just.3;
   unstuck = unstuck;
   beside = beside_none first left;
 }
@@ -48,23 +49,25 @@ pub runs_under_way : (s : State) → IsSound s → Runs s.core → IsUnderWay s
 runs_under_way s sound runs drained = still_ended s sound drained runs
 
 -- one that has ended otherwise than with the session has ended as a caller expects it
-has_ended : (c : OpenCopy) → (c.end ≡ Some ending.Ended → ⊥) → ((cursor : ℕ) → state_of_copy c ≡ copy.Running cursor → ⊥) → HasEnded (state_of_copy c)
-has_ended c goes still = by (is_out c.step) c.end refl refl
+has_ended : (core : Core) (c : OpenCopy) → (c.end ≡ Some ending.Ended → ⊥) → ((cursor : ℕ) → state_of_copy core c ≡ copy.Running cursor → ⊥) → HasEnded (state_of_copy core c)
+has_ended core c goes still = by (is_out c.step || is_still_aimed core c) (is_moved core c) c.end goes still
   where
-    by : (b : Bool) (m : Option CopyEnd) → is_out c.step ≡ b → c.end ≡ m → HasEnded (state_of_copy c)
-    by true m out is = absurd (still c.cursor (ap (λ b. if b then copy.Running c.cursor else option_map_or (state_at_end c) c.end (copy.Running c.cursor)) out))
-    by false None out is = absurd (still c.cursor (ap (λ b. if b then copy.Running c.cursor else option_map_or (state_at_end c) c.end (copy.Running c.cursor)) out ∙ ap (λ m. option_map_or (state_at_end c) m (copy.Running c.cursor)) is))
-    by false (Some how) out is = subst HasEnded (sym (ap (λ b. if b then copy.Running c.cursor else option_map_or (state_at_end c) c.end (copy.Running c.cursor)) out ∙ ap (λ m. option_map_or (state_at_end c) m (copy.Running c.cursor)) is)) (of how is)
-      where
-        of : (how : CopyEnd) → c.end ≡ Some how → HasEnded (state_at_end c how)
-        of ending.Done e = tt
-        of ending.SyncFailed e = tt
-        of ending.NoFresh e = tt
-        of ending.Ended e = absurd (goes e)
+    of : (how : CopyEnd) → (how ≡ ending.Ended → ⊥) → HasEnded (state_at_end c how)
+    of ending.Done ends = tt
+    of ending.SyncFailed ends = tt
+    of ending.NoFresh ends = tt
+    of ending.Ended ends = absurd (ends refl)
+
+    by : (b d : Bool) (m : Option CopyEnd) → (m ≡ Some ending.Ended → ⊥) → ((cursor : ℕ) → (if b then copy.Running c.cursor else if d then copy.Done else option_map_or (state_at_end c) m (copy.Running c.cursor)) ≡ copy.Running cursor → ⊥)
+        → HasEnded (if b then copy.Running c.cursor else if d then copy.Done else option_map_or (state_at_end c) m (copy.Running c.cursor))
+    by true d m ends runs = absurd (runs c.cursor refl)
+    by false true m ends runs = tt
+    by false false None ends runs = absurd (runs c.cursor refl)
+    by false false (Some how) ends runs = of how (λ e. ends (ap (λ (h : CopyEnd). Some h) e))
 
 -- one that is done has ended so
-done_end : (c : OpenCopy) → state_of_copy c ≡ copy.Done → c.end ≡ Some ending.Done
-done_end c e = by (is_out c.step) c.end refl e
+done_end : (core : Core) (c : OpenCopy) → c.moves ≡ false → state_of_copy core c ≡ copy.Done → c.end ≡ Some ending.Done
+done_end core c stays e = by (is_out c.step) c.end refl (sym (state_brought core c stays) ∙ e)
   where
     by : (b : Bool) (m : Option CopyEnd) → c.end ≡ m → (if b then copy.Running c.cursor else option_map_or (state_at_end c) m (copy.Running c.cursor)) ≡ copy.Done → c.end ≡ Some ending.Done
     by true m is f = absurd (cc f)
@@ -113,17 +116,17 @@ module _ (first old : State) (patience left : ℕ) (so_far : BroughtSoFar first 
   abbrev it : OpenCopy
   it = so_far.still.copy
 
-  state_is : copy_state old.core ≡ state_of_copy it
-  state_is = ap (λ m. option_map_or state_of_copy m copy.Closed) so_far.still.is_open
+  state_is : copy_state old.core ≡ state_of_copy old.core it
+  state_is = ap (λ m. option_map_or (state_of_copy old.core) m copy.Closed) so_far.still.is_open
 
   pub ends_as : (Runs old.core → ⊥) → HasEnded (copy_state old.core)
-  ends_as over = subst HasEnded (sym state_is) (has_ended it so_far.still.goes (λ cursor e. over (cursor, state_is ∙ e)))
+  ends_as over = subst HasEnded (sym state_is) (has_ended old.core it so_far.still.goes (λ cursor e. over (cursor, state_is ∙ e)))
 
   fresh : (new : State) → new ≡ state old.device (closed old.core) → copy_state old.core ≡ copy.Done → IfSome first.core.copy (λ (c : OpenCopy). is_marked new.core c.pp ≡ false)
   fresh new is done = subst (λ (m : Option OpenCopy). IfSome m (λ (c : OpenCopy). is_marked new.core c.pp ≡ false)) (sym so_far.its) (ap (is_marked new.core) (sym so_far.still.its.0) ∙ here)
     where
       here : is_marked new.core it.pp ≡ false
-      here = ap (λ (s : State). is_marked s.core it.pp) is ∙ (so_far.still.cleared (done_end it (sym state_is ∙ done))).1
+      here = ap (λ (s : State). is_marked s.core it.pp) is ∙ (so_far.still.cleared (done_end old.core it (so_far.still.its.5 ∙ so_far.still.brings) (sym state_is ∙ done))).1
 
   same : IfSome first.core.copy (λ (c : OpenCopy). IfSome old.core.copy (IsSameCopy c))
   same = subst (λ (m : Option OpenCopy). IfSome m (λ (c : OpenCopy). IfSome old.core.copy (IsSameCopy c))) (sym so_far.its) (subst (λ (m : Option OpenCopy). IfSome m (IsSameCopy so_far.begun)) (sym so_far.still.is_open) so_far.still.its)

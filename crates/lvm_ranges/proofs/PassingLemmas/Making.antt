@@ -15,7 +15,7 @@ use Rattle.lvm_ranges.specs.Passing.{Copy, IsEnded, IsMadeFresh, IsOpened}
 
 -- the copy as it is opened
 abbrev pub as_opened : (counts : Counts) (old new : Core) (lv lp number : ℕ) → Opens counts old new lv lp number → OpenCopy
-as_opened counts old new lv lp number it = opened_copy it.pp lv lp number it.tried (faults_of counts (copies_of it.row lp)) (step_place old)
+as_opened counts old new lv lp number it = opened_copy false it.pp lv lp number it.tried (faults_of counts (copies_of it.row lp) it.pp) (step_place old)
 
 -- it is opened on the partition that was asked for
 pub its_pp : (c : Copy) (patience left : ℕ) (old opened : State) (opens : IsOpened c patience left old opened) → opens.opens.pp ≡ c.pp

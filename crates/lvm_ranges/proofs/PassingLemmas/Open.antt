@@ -21,11 +21,12 @@ use Rattle.lvm_session.specs.declared.open.Power.TheVariants as power
 use Rattle.lvm_session.specs.Bringing.{after_copy_end, copy_ends, end_of, ends_if, is_cleared, is_idle, is_out, is_whole, next_source, sources_of, step_place, with_copy_end, with_end}
 use Rattle.lvm_session.specs.Calls.{copy_state, state_at_end, state_of_copy}
 use Rattle.lvm_session.specs.Ends.{CopyLearns, GoesOn, Learns, NoteLearns, StepLearns, StepLeaves, after_data, learned, with_copy, with_return, without_step}
-use Rattle.lvm_session.specs.Judging.{is_missing, is_running, is_stale, is_wanted_stale}
+use Rattle.lvm_session.specs.Judging.{is_clear, is_missing, is_running, is_stale, is_wanted_stale}
 use Rattle.lvm_session.specs.Marks.{Reviews, end_by_write, hits_copy}
 use Rattle.lvm_session.specs.Sound.{IsCopy, IsSound}
 use Rattle.lvm_session.specs.State.{Core, State}
 use Rattle.lvm_session.specs.Turns.{FinishMakes, Finishes, Makes, Moves, NoStart, OnMakes, TurnMakes, WasDark, WasOff, WasOn}
+use Rattle.lvm_keeps.proofs.StateLemmas.{state_brought}
 use Rattle.lvm_ranges.specs.passed.Names.{is_marked}
 use Rattle.lvm_ranges.proofs.passed.Names.{reviewed}
 use Rattle.lvm_ranges.specs.Passing.{IsSameCopy, Runs}
@@ -39,6 +40,7 @@ pub record IsOpenStill (begun : OpenCopy) (core : Core) : Type 0 where
   pub copy : OpenCopy
   pub is_open : core.copy ≡ Some copy
   pub its : IsSameCopy begun copy
+  pub brings : begun.moves ≡ false
   pub goes : copy.end ≡ Some ending.Ended → ⊥
   pub cleared : copy.end ≡ Some ending.Done → IsCleared core copy
 
@@ -47,25 +49,26 @@ pub record IsUndone (begun : OpenCopy) (core : Core) : Type 0 where
   pub copy : OpenCopy
   pub is_open : core.copy ≡ Some copy
   pub its : IsSameCopy begun copy
+  pub brings : begun.moves ≡ false
   pub goes : copy.end ≡ Some ending.Ended → ⊥
   pub undone : copy.end ≡ Some ending.Done → ⊥
 
 still : (begun : OpenCopy) (core : Core) → IsUndone begun core → IsOpenStill begun core
-still begun core it = record { copy = it.copy; is_open = it.is_open; its = it.its; goes = it.goes; cleared = λ e. absurd (it.undone e) }
+still begun core it = record { copy = it.copy; is_open = it.is_open; its = it.its; brings = it.brings; goes = it.goes; cleared = λ e. absurd (it.undone e) }
 
-pub just_opened : (core : Core) (c : OpenCopy) → core.copy ≡ Some c → c.end ≡ None → IsOpenStill c core
-just_opened core c is runs = record { copy = c; is_open = is; its = (refl, refl, refl, refl, refl); goes = λ e. (let f : None ≡ Some ending.Ended = sym runs ∙ e in cc f); cleared = λ e. absurd (let f : None ≡ Some ending.Done = sym runs ∙ e in cc f) }
+pub just_opened : (core : Core) (c : OpenCopy) → core.copy ≡ Some c → c.end ≡ None → c.moves ≡ false → IsOpenStill c core
+just_opened core c is runs stays = record { copy = c; is_open = is; its = (refl, refl, refl, refl, refl, refl); brings = stays; goes = λ e. (let f : None ≡ Some ending.Ended = sym runs ∙ e in cc f); cleared = λ e. absurd (let f : None ≡ Some ending.Done = sym runs ∙ e in cc f) }
 
 -- while it runs it isn't done
 undone_of : (begun : OpenCopy) (core : Core) → IsOpenStill begun core → Runs core → IsUndone begun core
-undone_of begun core it runs = record { copy = it.copy; is_open = it.is_open; its = it.its; goes = it.goes; undone = λ e. not_done e (it.cleared e).0 }
+undone_of begun core it runs = record { copy = it.copy; is_open = it.is_open; its = it.its; brings = it.brings; goes = it.goes; undone = λ e. not_done e (it.cleared e).0 }
   where
-    state : copy_state core ≡ state_of_copy it.copy
-    state = ap (λ m. option_map_or state_of_copy m copy.Closed) it.is_open
+    state : copy_state core ≡ state_of_copy core it.copy
+    state = ap (λ m. option_map_or (state_of_copy core) m copy.Closed) it.is_open
 
     not_done : it.copy.end ≡ Some ending.Done → is_out it.copy.step ≡ false → ⊥
     not_done e rests =
-        let done : state_of_copy it.copy ≡ copy.Done = ap (λ b. if b then copy.Running it.copy.cursor else option_map_or (state_at_end it.copy) it.copy.end (copy.Running it.copy.cursor)) rests
+        let done : state_of_copy core it.copy ≡ copy.Done = state_brought core it.copy (it.its.5 ∙ it.brings) ∙ ap (λ b. if b then copy.Running it.copy.cursor else option_map_or (state_at_end it.copy) it.copy.end (copy.Running it.copy.cursor)) rests
         ∙ ap (λ m. option_map_or (state_at_end it.copy) m (copy.Running it.copy.cursor)) e in
         let f : copy.Done ≡ copy.Running runs.0 = sym done ∙ sym state ∙ runs.1 in cc f
 
@@ -73,16 +76,16 @@ undone_of begun core it runs = record { copy = it.copy; is_open = it.is_open; it
 
 module _ (begun : OpenCopy) where
   same_copy : (old new : Core) → new.copy ≡ old.copy → IsUndone begun old → IsUndone begun new
-  same_copy old new same it = record { copy = it.copy; is_open = same ∙ it.is_open; its = it.its; goes = it.goes; undone = it.undone }
+  same_copy old new same it = record { copy = it.copy; is_open = same ∙ it.is_open; its = it.its; brings = it.brings; goes = it.goes; undone = it.undone }
 
   -- it is now this one
-  abbrev put : (core : Core) (c : OpenCopy) → core.copy ≡ Some c → IsSameCopy begun c → (c.end ≡ Some ending.Ended → ⊥) → (c.end ≡ Some ending.Done → ⊥) → IsUndone begun core
-  put core c is its goes undone = record { copy = c; is_open = is; its = its; goes = goes; undone = undone }
+  abbrev put : begun.moves ≡ false → (core : Core) (c : OpenCopy) → core.copy ≡ Some c → IsSameCopy begun c → (c.end ≡ Some ending.Ended → ⊥) → (c.end ≡ Some ending.Done → ⊥) → IsUndone begun core
+  put brings core c is its goes undone = record { copy = c; is_open = is; its = its; brings = brings; goes = goes; undone = undone }
 
   -- it fails, where this is so
   fail_open : (core : Core) (b : Bool) → IsUndone begun core → IsUndone begun (with_end core (ends_if b ending.SyncFailed))
   fail_open core false it = it
-  fail_open core true it = put _ (with_copy_end it.copy ending.SyncFailed) (ap (λ m. (option_map_or (λ (c : OpenCopy). after_copy_end core c ending.SyncFailed) m core).copy) it.is_open) it.its (λ e. cc e) (λ e. cc e)
+  fail_open core true it = put it.brings _ (with_copy_end it.copy ending.SyncFailed) (ap (λ m. (option_map_or (λ (c : OpenCopy). after_copy_end core c ending.SyncFailed) m core).copy) it.is_open) it.its (λ e. cc e) (λ e. cc e)
 
 -- the state as a whole never ends it with the session
 end_of_not : (core : Core) (c : OpenCopy) → end_of core c ≡ Some ending.Ended → ⊥
@@ -135,6 +138,10 @@ module _ (begun : OpenCopy) (old new : Core) (it : Reviews old new) (was : IsUnd
       q : Pp
       q = was.copy.pp
 
+      second : (a b : Bool) → a && b ≡ true → b ≡ true
+      second true b e = e
+      second false b e = absurd (cc e)
+
       clear : (a f w : Bool) → not a && not f && not w ≡ true → (a || f) || w ≡ false
       clear true f w e = cc e
       clear false true w e = cc e
@@ -142,7 +149,7 @@ module _ (begun : OpenCopy) (old new : Core) (it : Reviews old new) (was : IsUnd
       clear false false false e = refl
 
       before : is_marked old q ≡ false
-      before = clear (is_stale old q) (calls_stale (unwrap_or old.status.in_flight old.status.committed) q) (is_wanted_stale old q) done.fresh
+      before = clear (is_stale old q) (calls_stale (unwrap_or old.status.in_flight old.status.committed) q) (is_wanted_stale old q) (second (not was.copy.moves) (is_clear old q) done.fresh)
 
       of : (is_marked old q ≡ true) ⊎ (is_missing new q.disk ≡ true) → true ≡ false
       of (inl e) = sym e ∙ before
@@ -161,6 +168,7 @@ module _ (begun : OpenCopy) (old new : Core) (it : Reviews old new) (was : IsUnd
         copy = with_copy_end was.copy how;
         is_open = copy_is (Some how) is ∙ ap (λ m. (option_map_or (λ (c : OpenCopy). after_copy_end old c how) m old).copy) was.is_open;
         its = was.its;
+        brings = was.brings;
         goes = λ e. end_of_not old was.copy (is ∙ e);
         cleared = λ e. let done = done_by old was.copy (is ∙ e) in (ap (λ b. is_out (if b then was.copy.step else step.Idle)) (rests done.runs done.whole), unmarked done);
       }
@@ -186,7 +194,7 @@ module _ (begun : OpenCopy) (old : State) (sound : IsSound old) (on : old.core.p
 
   note_open : (new : Core) (at disk : ℕ) (ok : Bool) (buf : Buffer) → NoteLearns old.core at disk ok buf new → IsOpenStill begun new
   note_open new at disk true buf it = still begun new (same_copy begun old.core new (ap (λ (c : Core). c.copy) it) was)
-  note_open new at disk false buf it = review_open begun _ new it.2 (put begun _ was.copy was.is_open was.its was.goes was.undone) rests
+  note_open new at disk false buf it = review_open begun _ new it.2 (put begun was.brings _ was.copy was.is_open was.its was.goes was.undone) rests
 
   goes_on : (b : Bool) (core : Core) (c : OpenCopy) (next : Core) → GoesOn b core c next → next.copy ≡ Some c
   goes_on false core c next it = ap (λ (x : Core). x.copy) it
@@ -205,11 +213,11 @@ module _ (begun : OpenCopy) (old : State) (sound : IsSound old) (on : old.core.p
     step_open : (at_step : Step) (ok : Bool) (new : Core) (at : ℕ) (buf : Buffer) → StepLeaves at_step ok old.core at c buf new → IsOpenStill begun new
     step_open step.Idle ok new at buf it = absurd it
     step_open (step.Read hand) ok new at buf it = absurd it
-    step_open (step.Reading source) true new at buf it = still begun new (put begun new _ (ap (λ (x : Core). x.copy) it) its goes undone)
-    step_open (step.Reading source) false new at buf it = review_open begun _ new it.reviews (put begun _ (record c { step = step.Idle; tried = it.tried }) refl its goes undone) (λ runs whole. refl)
-    step_open step.Writing true new at buf it = review_open begun it.on new it.reviews (put begun it.on (record c { cursor = c.cursor + 1; step = step.Idle; tried = it.next.tried; place = step_place (without_step (with_return old.core at buf) c) }) (goes_on (is_whole (without_step (with_return old.core at buf) c) it.next) (without_step (with_return old.core at buf) c) it.next it.on it.goes ∙ ap (λ (k : OpenCopy). Some k) it.moves.is) its goes undone) (λ runs whole. refl)
+    step_open (step.Reading source) true new at buf it = still begun new (put begun was.brings new _ (ap (λ (x : Core). x.copy) it) its goes undone)
+    step_open (step.Reading source) false new at buf it = review_open begun _ new it.reviews (put begun was.brings _ (record c { step = step.Idle; tried = it.tried }) refl its goes undone) (λ runs whole. refl)
+    step_open step.Writing true new at buf it = review_open begun it.on new it.reviews (put begun was.brings it.on (record c { cursor = c.cursor + 1; step = step.Idle; tried = it.next.tried; place = step_place (without_step (with_return old.core at buf) c) }) (goes_on (is_whole (without_step (with_return old.core at buf) c) it.next) (without_step (with_return old.core at buf) c) it.next it.on it.goes ∙ ap (λ (k : OpenCopy). Some k) it.moves.is) its goes undone) (λ runs whole. refl)
     step_open step.Writing false new at buf it = still begun new (same_copy begun (with_end (with_copy (with_return old.core at buf) (record c { step = step.Idle })) (ends_if true ending.SyncFailed)) new (ap (λ (x : Core). x.copy) it.is)
-        (fail_open begun (with_copy (with_return old.core at buf) (record c { step = step.Idle })) true (put begun (with_copy (with_return old.core at buf) (record c { step = step.Idle })) (record c { step = step.Idle }) refl its goes undone)))
+        (fail_open begun (with_copy (with_return old.core at buf) (record c { step = step.Idle })) true (put begun was.brings (with_copy (with_return old.core at buf) (record c { step = step.Idle })) (record c { step = step.Idle }) refl its goes undone)))
 
   copy_open : (new : Core) (at : ℕ) (ok : Bool) (buf : Buffer) → CopyLearns old.core at ok buf new → IsOpenStill begun new
   copy_open new at ok buf it = by (is_running it.copy) it.learns
@@ -219,16 +227,16 @@ module _ (begun : OpenCopy) (old : State) (sound : IsSound old) (on : old.core.p
 
       by : (b : Bool) → StepLearns b old.core at it.copy ok buf new → IsOpenStill begun new
       by true leaves = step_open it.copy same it.copy.step ok new at buf leaves
-      by false quits = still begun new (put begun new _ (ap (λ (x : Core). x.copy) quits) (its it.copy same) (goes it.copy same) (undone it.copy same))
+      by false quits = still begun new (put begun was.brings new _ (ap (λ (x : Core). x.copy) quits) (its it.copy same) (goes it.copy same) (undone it.copy same))
 
   learned_open : (whose : Owner) (ok : Bool) (new : Core) (at : ℕ) (buf : Buffer) → Learns whose old.core at ok buf new → IsOpenStill begun new
   learned_open (owner.Data id target) ok new at buf it =
       still begun new (same_copy begun (with_end after (end_by_write after (learned it.its.request target ok buf) ok it.its.aim.pp)) new (ap (λ (c : Core). c.copy) it.entails.is)
-      (fail_open begun after (option_map_or (hits_copy after (learned it.its.request target ok buf) ok it.its.aim.pp) after.copy false) (put begun after was.copy was.is_open was.its was.goes was.undone)))
+      (fail_open begun after (option_map_or (hits_copy after (learned it.its.request target ok buf) ok it.its.aim.pp) after.copy false) (put begun was.brings after was.copy was.is_open was.its was.goes was.undone)))
     where
       after : Core
       after = after_data old.core at it.place it.its.request target ok buf
-  learned_open (owner.Status disk) ok new at buf it = review_open begun _ new it.reviews (put begun _ was.copy was.is_open was.its was.goes was.undone) rests
+  learned_open (owner.Status disk) ok new at buf it = review_open begun _ new it.reviews (put begun was.brings _ was.copy was.is_open was.its was.goes was.undone) rests
   learned_open (owner.Note disk) ok new at buf it = note_open new at disk ok buf it
   learned_open owner.Copy ok new at buf it = copy_open new at ok buf it
 
@@ -243,10 +251,10 @@ module _ (begun : OpenCopy) (old : State) (sound : IsSound old) (on : old.core.p
   event_open (event.StartData place target) new made = same_copy begun old.core new.core (ap (λ (s : State). s.core.copy) made.is) was
   event_open event.ReadCopy new made =
       let same : was.copy ≡ made.copy = (let e : Some was.copy ≡ Some made.copy = sym was.is_open ∙ made.is_open in cc e) in
-      put begun new.core _ (ap (λ (s : State). s.core.copy) made.is) (its made.copy same) (goes made.copy same) (undone made.copy same)
+      put begun was.brings new.core _ (ap (λ (s : State). s.core.copy) made.is) (its made.copy same) (goes made.copy same) (undone made.copy same)
   event_open event.WriteCopy new made =
       let same : was.copy ≡ made.copy = (let e : Some was.copy ≡ Some made.copy = sym was.is_open ∙ made.is_open in cc e) in
-      put begun new.core _ (ap (λ (s : State). s.core.copy) made.is) (its made.copy same) (goes made.copy same) (undone made.copy same)
+      put begun was.brings new.core _ (ap (λ (s : State). s.core.copy) made.is) (its made.copy same) (goes made.copy same) (undone made.copy same)
 
   -- ---- a turn
 

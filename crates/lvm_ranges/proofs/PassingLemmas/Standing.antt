@@ -1,6 +1,6 @@
 -- A session in which something isn't settled doesn't stand still.
 use Rattle.std.proofs.Common.{◌≡◌, ◌⊎◌, inl, inr, ◌≤◌, ℕ, Bool, true, false, ◌&&◌, ◌||◌, not, List, [], ◌∷◌, Option, Some, None, length, if◌then◌else◌, refl, sym, ap, subst, ◌∙◌, arith}
-use Rattle.std.specs.Prelude.{IfSome, count_by, is_none, slice_index_or}
+use Rattle.std.specs.Prelude.{IfSome, count_by, is_none, is_some, slice_index_or}
 use Rattle.std.specs.List.{list_any, AllByRecursion}
 use Rattle.std.specs.Option.{option_map_or}
 use Rattle.std.proofs.lemmas.Bool.{or_parts, not-false}
@@ -28,16 +28,17 @@ use Rattle.lvm_session.specs.declared.flown.Owner.TheVariants as owner
 use Rattle.lvm_session.specs.declared.open.Open.{Open}
 use Rattle.lvm_session.specs.State.{Core, State, is_there, votes_there}
 use Rattle.lvm_session.specs.Bringing.{is_out}
-use Rattle.lvm_session.specs.Calls.{state_at_end, state_of_copy}
+use Rattle.lvm_session.specs.Calls.{is_aimed_at, is_still_aimed, state_at_end, state_of_copy}
 use Rattle.lvm_session.specs.Dark.{hand_of_copy}
 use Rattle.lvm_session.specs.Enabled.{first_of, has_buffer, is_status_due, landing, or_next, parts_to_settle, parts_to_start, same_status}
-use Rattle.lvm_session.specs.Judging.{is_running, is_waiting}
+use Rattle.lvm_session.specs.Judging.{is_clear, is_moved, is_running, is_under_way, is_waiting}
 use Rattle.lvm_session.specs.Owners.{AreRows, flies, same_owner}
 use Rattle.lvm_session.specs.Requests.{IsOpenOne}
 use Rattle.lvm_session.specs.Sound.{IsGoing, IsOn, IsSound, count_if, has_number, is_dark, is_hand}
 use Rattle.lvm_keeps.proofs.Lists.{count_cons}
 use Rattle.lvm_keeps.proofs.VotesLemmas.{enough_more, more_votes}
 use Rattle.lvm_ranges.proofs.passed.Names.{never_stands_still}
+use Rattle.lvm_keeps.proofs.StateLemmas.{state_ended}
 use Rattle.lvm_ranges.specs.passed.Names.{IsDrained}
 use Rattle.lvm_ranges.specs.Passing.{Runs}
 
@@ -78,22 +79,65 @@ module _ (s : State) (sound : IsSound s) (drained : IsDrained s) where
   -- ---- a copy that is open has ended
 
   pub still_ended : Runs core → ⊥
-  still_ended runs = by core.copy refl (never_stands_still s sound drained.on drained.votes drained.none drained.idle).1
+  still_ended runs = by core.copy refl (never_stands_still s sound drained.on drained.votes drained.none drained.idle)
     where
-      ended : (c : OpenCopy) (m : Option CopyEnd) → is_out c.step ≡ false → is_none m ≡ false
-          → (if is_out c.step then copy.Running c.cursor else option_map_or (state_at_end c) m (copy.Running c.cursor)) ≡ copy.Running runs.0 → ⊥
-      ended c None rests over e = cc over
-      ended c (Some ending.Done) rests over e = let is = ap (λ b. if b then copy.Running c.cursor else copy.Done) rests in let f : copy.Done ≡ copy.Running runs.0 = sym is ∙ e in cc f
-      ended c (Some ending.SyncFailed) rests over e = let is = ap (λ b. if b then copy.Running c.cursor else copy.SyncFailed c.pp.disk) rests in let f : copy.SyncFailed c.pp.disk ≡ copy.Running runs.0 = sym is ∙ e in cc f
-      ended c (Some ending.NoFresh) rests over e = let is = ap (λ b. if b then copy.Running c.cursor else copy.NoFresh) rests in let f : copy.NoFresh ≡ copy.Running runs.0 = sym is ∙ e in cc f
-      ended c (Some ending.Ended) rests over e = let is = ap (λ b. if b then copy.Running c.cursor else copy.Ended) rests in let f : copy.Ended ≡ copy.Running runs.0 = sym is ∙ e in cc f
+      ended : (c : OpenCopy) (m : Option CopyEnd) → is_none m ≡ false → option_map_or (state_at_end c) m (copy.Running c.cursor) ≡ copy.Running runs.0 → ⊥
+      ended c None over e = cc over
+      ended c (Some ending.Done) over e = cc e
+      ended c (Some ending.SyncFailed) over e = cc e
+      ended c (Some ending.NoFresh) over e = cc e
+      ended c (Some ending.Ended) over e = cc e
 
-      by : (m : Option OpenCopy) → core.copy ≡ m → IfSome core.copy (λ (c : OpenCopy). is_running c ≡ false) → ⊥
-      by None is over = let e : copy.Closed ≡ copy.Running runs.0 = sym (ap (λ m. option_map_or state_of_copy m copy.Closed) is) ∙ runs.1 in cc e
-      by (Some c) is over =
-          let rests : is_out c.step ≡ false = sym (ap (λ m. option_map_or (λ (d : OpenCopy). is_out d.step) m false) is) ∙ none_out owner.Copy in
-          let stopped : is_running c ≡ false = subst (λ m. IfSome m (λ (d : OpenCopy). is_running d ≡ false)) is over in
-          ended c c.end rests stopped (sym (ap (λ m. option_map_or state_of_copy m copy.Closed) is) ∙ runs.1)
+      -- a move that is done runs, so that it is told as done
+      moved : (c : OpenCopy) → is_out c.step ≡ false → is_moved core c ≡ true → state_of_copy core c ≡ copy.Running runs.0 → ⊥
+      moved c rests done e =
+          let told : copy.Done ≡ copy.Running runs.0 = sym (
+          ap (λ b. if b || is_still_aimed core c then copy.Running c.cursor else if is_moved core c then copy.Done else option_map_or (state_at_end c) c.end (copy.Running c.cursor)) rests
+          ∙ ap (λ b. if b then copy.Running c.cursor else if is_moved core c then copy.Done else option_map_or (state_at_end c) c.end (copy.Running c.cursor)) unaimed
+          ∙ ap (λ b. if b then copy.Done else option_map_or (state_at_end c) c.end (copy.Running c.cursor)) done
+          ) ∙ e in cc told
+        where
+          parts : is_running c ≡ true
+          parts = second c.moves (is_running c) (first (c.moves && is_running c) (is_whole core c) (first (c.moves && is_running c && is_whole core c) (is_clear core c.pp) (first (c.moves && is_running c && is_whole core c && is_clear core c.pp) (not (is_under_way core c)) done)))
+            where
+              first : (a b : Bool) → a && b ≡ true → a ≡ true
+              first true b f = refl
+              first false b f = absurd (cc f)
+
+              second : (a b : Bool) → a && b ≡ true → b ≡ true
+              second true b f = f
+              second false b f = absurd (cc f)
+
+          unended : is_some c.end ≡ false
+          unended = by_end c.end parts
+            where
+              by_end : (m : Option CopyEnd) → is_none m ≡ true → is_some m ≡ false
+              by_end None f = refl
+              by_end (Some how) f = absurd (cc f)
+
+          unaimed : is_still_aimed core c ≡ false
+          unaimed = ap (λ b. c.moves && b && is_aimed_at core c.pp) unended ∙ by_moves c.moves
+            where
+              by_moves : (m : Bool) → m && false && is_aimed_at core c.pp ≡ false
+              by_moves true = refl
+              by_moves false = refl
+
+      by : (m : Option OpenCopy) → core.copy ≡ m
+          → (option_map_or (is_moved core) core.copy false ≡ true) ⊎ ((list_any is_waiting core.requests ≡ false) × IfSome core.copy (λ (c : OpenCopy). is_running c ≡ false)) → ⊥
+      by None is how = let e : copy.Closed ≡ copy.Running runs.0 = sym (ap (λ m. option_map_or (state_of_copy core) m copy.Closed) is) ∙ runs.1 in cc e
+      by (Some c) is how = by_how how
+        where
+          rests : is_out c.step ≡ false
+          rests = sym (ap (λ m. option_map_or (λ (d : OpenCopy). is_out d.step) m false) is) ∙ none_out owner.Copy
+
+          told : state_of_copy core c ≡ copy.Running runs.0
+          told = sym (ap (λ m. option_map_or (state_of_copy core) m copy.Closed) is) ∙ runs.1
+
+          by_how : (option_map_or (is_moved core) core.copy false ≡ true) ⊎ ((list_any is_waiting core.requests ≡ false) × IfSome core.copy (λ (d : OpenCopy). is_running d ≡ false)) → ⊥
+          by_how (inl done) = moved c rests (sym (ap (λ m. option_map_or (is_moved core) m false) is) ∙ done) told
+          by_how (inr over) =
+              let stopped : is_running c ≡ false = subst (λ m. IfSome m (λ (d : OpenCopy). is_running d ≡ false)) is over.1 in
+              ended c c.end stopped (sym (state_ended core c stopped rests over.0) ∙ told)
 
   -- ---- without a copy no update is in flight
 
@@ -107,13 +151,20 @@ module _ (s : State) (sound : IsSound s) (drained : IsDrained s) where
         let rest = hands_none os all.1 it.1 in
         omega (arith, more, here, rest)
 
+    none_wait : list_any is_waiting core.requests ≡ false
+    none_wait = by (never_stands_still s sound drained.on drained.votes drained.none drained.idle)
+      where
+        by : (option_map_or (is_moved core) core.copy false ≡ true) ⊎ ((list_any is_waiting core.requests ≡ false) × IfSome core.copy (λ (c : OpenCopy). is_running c ≡ false)) → list_any is_waiting core.requests ≡ false
+        by (inl done) = absurd (let e : false ≡ true = sym (ap (λ m. option_map_or (is_moved core) m false) closed) ∙ done in cc e)
+        by (inr over) = over.0
+
     first_free : count_if (slice_index_or core.pool 0 false) ≡ 0
     first_free =
         let all = sound.none_lost (ap is_dark drained.on) 0 in
         let a : count_by (λ (f : Flight). has_number 0 f.buf) s.device.flights ≡ 0 = ap (λ (fs : List Flight). count_by (λ (f : Flight). has_number 0 f.buf) fs) drained.idle in
         let b : count_by (has_number 0) s.device.freed ≡ 0 = ap (λ (bs : List Buffer). count_by (has_number 0) bs) (sound.lit (ap is_dark drained.on)).freed in
         let c : count_if (is_hand 0 (hand_of_copy core.copy)) ≡ 0 = ap (λ (m : Option OpenCopy). count_if (is_hand 0 (hand_of_copy m))) closed in
-        let d = hands_none core.requests going.requests (never_stands_still s sound drained.on drained.votes drained.none drained.idle).0 in
+        let d = hands_none core.requests going.requests none_wait in
         omega (arith, all, a, b, c, d)
 
     buffer : has_buffer core ≡ true

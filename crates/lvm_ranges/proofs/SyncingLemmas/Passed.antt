@@ -19,7 +19,7 @@ use Rattle.lvm_ranges.proofs.PassingLemmas.Making.{made_fresh}
 
 -- one that was opened runs
 pub opened_just : (c : Copy) (patience left : ℕ) (old opened : State) → IsOpened c patience left old opened → IsJustOpened opened.core
-opened_just c patience left old opened opens = (_, ap (λ (k : Core). k.copy) opens.opens.is, refl)
+opened_just c patience left old opened opens = (_, ap (λ (k : Core). k.copy) opens.opens.is, refl, refl)
 
 module _ (c : Copy) (patience before left : ℕ) (old opened new : State) (opens : IsOpened c patience before old opened) where
   -- it is passed as it has ended

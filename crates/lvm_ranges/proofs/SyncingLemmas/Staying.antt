@@ -1,7 +1,7 @@
 -- Which copies are stale once those that were asked for are passed.
 use Rattle.std.proofs.Common.{◌≡◌, ◌⊎◌, inl, inr, ◌≤◌, ◌++◌, ℕ, zero, suc, Bool, true, false, ◌&&◌, ◌||◌, not, List, [], ◌∷◌, Option, Some, None, Result, Ok, Err, if◌then◌else◌, slice_get, map, refl, sym, ap, subst, ◌∙◌, arith}
 use Rattle.std.specs.Prelude.{IfSome, MatchOption, is_none, unwrap_or}
-use Rattle.std.specs.List.{list_any}
+use Rattle.std.specs.List.{AllByRecursion, list_any}
 use Rattle.std.specs.Option.{option_map_or}
 use Rattle.std.proofs.lemmas.Bool.{or_right}
 use Rattle.lvm_num.specs.declared.place.Pp.{Pp}
@@ -23,7 +23,8 @@ use Rattle.lvm_session.specs.declared.open.Power.TheVariants as power
 use Rattle.lvm_session.specs.Bringing.{is_out, is_whole}
 use Rattle.lvm_session.specs.Calls.{Opens, aged, closed, copy_fault, state_at_end, state_of_copy}
 use Rattle.lvm_session.specs.Causes.{fails_on, is_held_stale, is_over}
-use Rattle.lvm_session.specs.Judging.{is_missing, is_running, is_settled, is_stale, is_wanted_stale}
+use Rattle.lvm_session.specs.Requests.{IsLanded}
+use Rattle.lvm_session.specs.Judging.{is_missing, is_place, is_running, is_settled, is_stale, is_waiting, is_wanted_stale}
 use Rattle.lvm_session.specs.Sound.{IsSound}
 use Rattle.lvm_session.specs.State.{Core, State, state}
 use Rattle.lvm_ranges.specs.passed.Names.{counts_seen, MarksFor, has_failed_on, is_lasting, is_marked, is_open_at, IsTurn}
@@ -35,6 +36,7 @@ use Rattle.lvm_ranges.specs.declared.tally.Tally.{Tally}
 use Rattle.lvm_ranges.specs.Passing.{Copy, IsEnded, IsFresh, IsMadeFresh, IsOpened, IsUnsettled, Runs}
 use Rattle.lvm_ranges.specs.Syncing.{IsStaleFor, LeavesFresh, NonePassed, OnePassed, Passes, is_made_among, no_tally, or_first}
 use Rattle.lvm_ranges.proofs.PassingLemmas.Making.{as_opened, its_pp}
+use Rattle.lvm_keeps.proofs.StateLemmas.{state_ended}
 use Rattle.lvm_ranges.proofs.PassingLemmas.Open.{IsOpenStill, just_opened, turn_open}
 use Rattle.lvm_ranges.proofs.TurningLemmas.{TurnsIn, turns_in}
 
@@ -60,7 +62,7 @@ nothing p = false
 
 -- ---- a turn
 
-module _ (first old new : State) (made free : Pp → Bool) (so_far : Stays first old made free) (turn : IsTurn old new) (shut : (p : Pp) → free p ≡ false → is_open_at old.core p ≡ false) where
+module _ (first old new : State) (made free : Pp → Bool) (so_far : Stays first old made free) (turn : IsTurn old new) (shut : (p : Pp) → free p ≡ false → is_open_at old.core p ≡ false) (unmoved : (p : Pp) → is_place old.core p ≡ false) where
   marks : MarksFor old new
   marks = turn_marks old new so_far.sound turn.0 turn.1
 
@@ -80,7 +82,7 @@ module _ (first old new : State) (made free : Pp → Bool) (so_far : Stays first
     sound = turn_keeps old new turn.0 so_far.sound turn.1;
     unstuck = stays_unstuck old.core new.core (turn_goes old new turn.0 turn.1).power so_far.unstuck;
     later = λ d. let a = so_far.later d in let b = more d in omega (arith, a, b);
-    marked = λ p e. by p (marks.marked p e);
+    marked = λ p e. by p (marks.marked p (unmoved p) e);
     failed = λ p e. since p (marks.failed p e);
     lasting = λ p settled unmade fixed. marks.lasting p (so_far.lasting p settled unmade fixed) (shut p fixed);
   }
@@ -103,11 +105,14 @@ module _ (first old new : State) (made free : Pp → Bool) (so_far : Stays first
 shut_none : (core : Core) → core.copy ≡ None → (p : Pp) → is_open_at core p ≡ false
 shut_none core none p = ap (λ m. option_map_or (λ (c : OpenCopy). is_pp p c.pp) m false) none
 
+unmoved_none : (core : Core) → core.copy ≡ None → (p : Pp) → is_place core p ≡ false
+unmoved_none core none p = ap (λ m. option_map_or (λ (c : OpenCopy). c.moves && is_pp p c.pp) m false) none
+
 settle_stays : (c : Copy) (first old new : State) (made : Pp → Bool) → Stays first old made nothing → old.core.copy ≡ None → TurnsIn (IsUnsettled c) old new → Stays first new made nothing × (new.core.copy ≡ None)
 settle_stays c first old new made so_far none (Here any) = (so_far, none)
 settle_stays c first old new made so_far none (Then {m} path step any) =
     let before = settle_stays c first old m made so_far none path in
-    (turn_stays first m new made nothing before.0 step.1 (λ p fixed. shut_none m.core before.1 p), (turn_goes m new step.1.0 step.1.1).copy before.1)
+    (turn_stays first m new made nothing before.0 step.1 (λ p fixed. shut_none m.core before.1 p) (unmoved_none m.core before.1), (turn_goes m new step.1.0 step.1.1).copy before.1)
 
 -- ---- a copy is opened
 
@@ -158,7 +163,7 @@ module _ (c : Copy) (first judged new : State) (made : Pp → Bool) (so_far : St
   its_copy = as_opened (counts_seen judged.device judged.core) judged.core new.core c.lv c.lp c.number opens
 
   pub opened_still : IsOpenStill its_copy new.core
-  opened_still = just_opened new.core its_copy (ap (λ (k : Core). k.copy) opens.is) refl
+  opened_still = just_opened new.core its_copy (ap (λ (k : Core). k.copy) opens.is) refl refl
 
 -- ---- it is brought up
 
@@ -168,32 +173,40 @@ end_not_running c ending.SyncFailed n e = cc e
 end_not_running c ending.NoFresh n e = cc e
 end_not_running c ending.Ended n e = cc e
 
+none_wait : (os : List Open) → AllByRecursion IsLanded os → list_any is_waiting os ≡ false
+none_wait [] all = refl
+none_wait (o ∷ os) all = ap (λ b. b || list_any is_waiting os) all.0.landed ∙ none_wait os all.1
+
 -- a session of which a copy runs goes on
 goes_on : (s : State) → IsSound s → Runs s.core → s.core.power ≡ power.On
 goes_on s sound runs = by s.core.power refl
   where
     none_open : s.core.copy ≡ None → ⊥
-    none_open is = let e : copy.Closed ≡ copy.Running runs.0 = sym (ap (λ m. option_map_or state_of_copy m copy.Closed) is) ∙ runs.1 in cc e
+    none_open is = let e : copy.Closed ≡ copy.Running runs.0 = sym (ap (λ m. option_map_or (state_of_copy s.core) m copy.Closed) is) ∙ runs.1 in cc e
 
-    of : (m : Option OpenCopy) → s.core.copy ≡ m → IfSome m (λ (c : OpenCopy). (is_running c ≡ false) × (c.step ≡ step.Idle)) → ⊥
-    of None is ended = none_open is
-    of (Some c) is ended = by_end c.end refl
+    of : (m : Option OpenCopy) → s.core.copy ≡ m → AllByRecursion IsLanded s.core.requests → IfSome m (λ (c : OpenCopy). (is_running c ≡ false) × (c.step ≡ step.Idle)) → ⊥
+    of None is landed ended = none_open is
+    of (Some c) is landed ended = by_end c.end refl
       where
         by_end : (m : Option CopyEnd) → c.end ≡ m → ⊥
         by_end None e = let f : true ≡ false = sym (ap is_none e) ∙ ended.0 in cc f
         by_end (Some how) e = end_not_running c how runs.0
-            (sym (ap (λ b. if b then copy.Running c.cursor else option_map_or (state_at_end c) c.end (copy.Running c.cursor)) (ap is_out ended.1) ∙ ap (λ m. option_map_or (state_at_end c) m (copy.Running c.cursor)) e)
-            ∙ sym (ap (λ m. option_map_or state_of_copy m copy.Closed) is) ∙ runs.1)
+            (sym (state_ended s.core c ended.0 (ap is_out ended.1) (none_wait s.core.requests landed) ∙ ap (λ m. option_map_or (state_at_end c) m (copy.Running c.cursor)) e)
+            ∙ sym (ap (λ m. option_map_or (state_of_copy s.core) m copy.Closed) is) ∙ runs.1)
 
     by : (x : Power) → s.core.power ≡ x → s.core.power ≡ power.On
     by power.On is = is
-    by power.Off is = absurd (of s.core.copy refl (sound.over (ap is_over is)).copy)
-    by power.Dark is = absurd (of s.core.copy refl (sound.over (ap is_over is)).copy)
+    by power.Off is = let over = sound.over (ap is_over is) in absurd (of s.core.copy refl over.landed over.copy)
+    by power.Dark is = let over = sound.over (ap is_over is) in absurd (of s.core.copy refl over.landed over.copy)
     by power.Stuck is = absurd (none_open (sound.stuck is).copy)
 
 -- other partitions than that of the copy aren't open
 shut_beside : (core : Core) (begun : OpenCopy) → IsOpenStill begun core → (q : Pp) → is_pp q begun.pp ≡ false → is_open_at core q ≡ false
 shut_beside core begun it q other = ap (λ m. option_map_or (λ (c : OpenCopy). is_pp q c.pp) m false) it.is_open ∙ ap (is_pp q) it.its.0 ∙ other
+
+-- it doesn't move
+unmoved_beside : (core : Core) (begun : OpenCopy) → IsOpenStill begun core → (p : Pp) → is_place core p ≡ false
+unmoved_beside core begun it p = ap (λ m. option_map_or (λ (c : OpenCopy). c.moves && is_pp p c.pp) m false) it.is_open ∙ ap (λ b. b && is_pp p it.copy.pp) (it.its.5 ∙ it.brings)
 
 bring_stays : (first opened ended : State) (made : Pp → Bool) (begun : OpenCopy) → Stays first opened made (λ q. is_pp q begun.pp) → IsOpenStill begun opened.core → TurnsIn Runs opened ended
     → Stays first ended made (λ q. is_pp q begun.pp) × (Runs ended.core → IsOpenStill begun ended.core)
@@ -201,7 +214,7 @@ bring_stays first opened ended made begun so_far is_open (Here any) = (so_far, �
 bring_stays first opened ended made begun so_far is_open (Then {m} path turn any) =
     let before = bring_stays first opened m made begun so_far is_open path in
     let still = before.1 turn.0 in
-    let after = turn_stays first m ended made (λ q. is_pp q begun.pp) before.0 turn.1 (λ q other. shut_beside m.core begun still q other) in
+    let after = turn_stays first m ended made (λ q. is_pp q begun.pp) before.0 turn.1 (λ q other. shut_beside m.core begun still q other) (unmoved_beside m.core begun still) in
     (after, λ runs. turn_open begun m ended before.0.sound still turn.0 turn.1.0 turn.1.1 (goes_on ended after.sound runs))
 
 -- ---- it is made fresh

@@ -1,5 +1,5 @@
 -- Passed on from the crates below.
-pub use Rattle.lvm_driver.proofs.passed.Names.{at_place, counted_at, seen_open_keeps, turn_counts, turn_keeps, leaves_both, leaves_none, stays_unstuck, Given, given, turn_goes, path_frames, path_shape, goes_any}
+pub use Rattle.lvm_driver.proofs.passed.Names.{at_place, counted_at, last_count, seen_open_keeps, turn_counts, turn_keeps, leaves_both, leaves_none, stays_unstuck, Given, given, turn_goes, path_frames, path_shape, goes_any}
 pub use Rattle.lvm_keeps_events.proofs.EndsLemmas.CopyReadFail.{of_place}
 pub use Rattle.lvm_keeps_events.proofs.JudgingLemmas.DuesMarks.{own_pp, pp_same}
 pub use Rattle.lvm_keeps_events.proofs.KeepsFallsLemmas.Standing.{never_stands_still}

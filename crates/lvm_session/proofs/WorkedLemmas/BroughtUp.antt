@@ -42,7 +42,7 @@ module _ (m : Mode) where
     row = mirror m;
     volume = refl;
     lp = omega arith;
-    its = refl;
+    kind = record { its = refl; stale = λ runs part. (refl, refl); clearing = λ runs whole. not_so whole };
     cursor = omega arith;
     faults = refl;
     place = (0, omega arith, refl);
@@ -52,15 +52,15 @@ module _ (m : Mode) where
     tried = λ disk is. not_marked disk is;
     source = tt;
     under_way = λ runs busy. not_either busy;
-    stale = λ runs part. (refl, refl);
-    clearing = λ runs whole. not_so whole;
   }
 
   caused : IsCausedAmong (state faultless (core_of (bringing m))) (copies_of (mirror m) 0) (bringing_up 3 None)
   caused = record {
     began = λ number p is. let first = zeros_at 128 p.disk in omega (arith, first);
-    since = λ number p is. let none = zeros_at 3 (number - 1) in omega (arith, none);
+    since = λ number p is. let none = zeros_at 4 (number - 1) in omega (arith, none);
     tried = λ number p is tried. not_marked p.disk tried;
+    own_began = omega arith;
+    own_since = omega arith;
     failed = λ e. not_none e;
   }
 
@@ -111,6 +111,7 @@ copies_are_sound m =
       origin = record {
         since = no_fault m;
         votes = votes m;
+        rows = λ disk. refl;
         still_missing = λ disk is. not_so (sym (none_missing true disk) ∙ is);
         missing = λ disk is. inl is;
         stale = λ p is. inl (thrice_holds (calls_stale (status_of behind) p) is);

@@ -39,7 +39,7 @@ unfolding votes_by has_bit has
 standing_still_is_unsound = record {
   no_event = refl;
   no_end = refl;
-  stale = λ c. not_either ((c.clearing refl refl).1);
+  stale = λ c. not_either ((c.kind.clearing refl refl).1);
   waits = refl;
   unmarked = λ r. not_so ((r.judged refl).due refl);
   overtakes = λ r. not_either (r.ready.free refl);
@@ -106,12 +106,12 @@ unpinned_writes_move = record {
   passive = record {
     shape = shaped (record { copy = refl; sector = refl; there = refl }, (record { copy = refl; sector = refl; there = refl }, tt)) (omega arith, λ write. refl) refl tt differ_so (λ past. refl) (λ read. not_either read);
     ready = record { free = λ past. refl; recorded = (refl, refl); wanted = λ past two. refl; named = λ has two. refl; dirty = λ has two. refl };
-    judged = λ write. record { uncaught = (refl, (refl, tt)); due = λ waits. not_so waits; all = λ begun p among. or_left _ among };
+    judged = λ write. record { uncaught = (refl, (refl, tt)); due = λ waits. not_so waits; missed = λ waits. not_so waits; all = λ begun p among. or_left _ among; place = λ begun p among. not_so among };
   };
   off = record {
     shape = shaped (record { copy = refl; sector = refl; there = refl }, (record { copy = refl; sector = refl; there = refl }, tt)) (omega arith, λ write. refl) refl tt differ_so (λ past. refl) (λ read. not_either read);
     ready = record { free = λ past. refl; recorded = (refl, refl, refl); wanted = λ past two. refl; named = λ has two. refl; dirty = λ has two. refl };
-    judged = λ write. record { uncaught = (refl, (refl, tt)); due = λ waits. not_so waits; all = λ begun p among. or_left _ among };
+    judged = λ write. record { uncaught = (refl, (refl, tt)); due = λ waits. not_so waits; missed = λ waits. not_so waits; all = λ begun p among. or_left _ among; place = λ begun p among. not_so among };
   };
 }
   where

@@ -72,6 +72,7 @@ const FIRST: Target = Target {
     pp: Pp { disk: 0, pp: 3 },
     sector: 4096,
     usable: true,
+    moves: false,
     faults: 0,
     state: TargetState::Waiting,
 };

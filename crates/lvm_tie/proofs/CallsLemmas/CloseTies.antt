@@ -13,7 +13,9 @@ use Rattle.lvm_session.specs.declared.answers.CopyState.TheVariants as copy
 use Rattle.lvm_session.specs.State.{Core, State, state}
 use Rattle.lvm_session.specs.Judging.{is_running}
 use Rattle.lvm_session.specs.Bringing.{groups_of, has_row, is_out, is_whole}
-use Rattle.lvm_session.specs.Calls.{Closes, closed, copy_state, state_at_end}
+use Rattle.lvm_session.specs.Calls.{Closes, closed, copy_state, state_at_end, state_of_copy}
+use Rattle.lvm_keeps.proofs.StateLemmas.{state_brought}
+use Rattle.lvm_tie.proofs.StateLemmas.{brings}
 use Rattle.lvm_session.specs.Sound.{IsSound}
 use Rattle.lvm_invariant.specs.State.{ModelState}
 use Rattle.lvm_tie.specs.Out.{CarriesStep, CarryTheirs}
@@ -36,8 +38,8 @@ has_ended c ended = by (is_out c.step) c.end refl refl ended
     by false None out is none = absurd (none c.cursor refl)
     by false (Some how) out is none = record { over = ap (λ (x : Option CopyEnd). Rattle.std.specs.Prelude.is_none x) is; still = out }
 
-ended_of : (core : Core) → ((cursor : ℕ) → copy_state core ≡ copy.Running cursor → ⊥) → (c : OpenCopy) → core.copy ≡ Some c → IsEnded c
-ended_of core ended c is = has_ended c (λ cursor h. ended cursor (ap (λ (m : Option OpenCopy). option_map_or Rattle.lvm_session.specs.Calls.state_of_copy m copy.Closed) is ∙ h))
+ended_of : (core : Core) → ((cursor : ℕ) → copy_state core ≡ copy.Running cursor → ⊥) → (c : OpenCopy) → core.copy ≡ Some c → c.moves ≡ false → IsEnded c
+ended_of core ended c is stays = has_ended c (λ cursor h. ended cursor (ap (λ (m : Option OpenCopy). option_map_or (state_of_copy core) m copy.Closed) is ∙ state_brought core c stays ∙ h))
 
 no_row : (core : Core) (c : OpenCopy) → IsEnded c → has_row core c ≡ false
 no_row core c ended = (λ t. ended.still t || (ended.over t && not (is_whole core c)))
@@ -54,14 +56,14 @@ module _ (past : List Fact) (s : State) (tied : IsTied past s) (ended : (cursor 
     where
       by : (m : Option OpenCopy) → core.copy ≡ m → SeesCopy (groups_of core) m v.open_copy → v.open_copy ≡ None
       by None is sees = sees
-      by (Some c) is sees = subst (λ b. SeesRunning b (groups_of core) c v.open_copy) (ended_of core ended c is).over sees
+      by (Some c) is sees = subst (λ b. SeesRunning b (groups_of core) c v.open_copy) (ended_of core ended c is (brings past s tied c is)).over sees
 
   no_write : v.step_write ≡ None
   no_write = tied.sees.step_write ∙ by core.copy refl
     where
       by : (m : Option OpenCopy) → core.copy ≡ m → step_write_in m ≡ None
       by None is = refl
-      by (Some c) is = step_none c c.step (ended_of core ended c is).still
+      by (Some c) is = step_none c c.step (ended_of core ended c is (brings past s tied c is)).still
 
   sees : Sees past (closed core) v
   sees = record {
@@ -70,7 +72,7 @@ module _ (past : List Fact) (s : State) (tied : IsTied past s) (ended : (cursor 
       a_step = λ c is. absurd (cc is);
       only = λ j q at. ⊎_elim
           (λ (r : IsRequestAt core j). inl r)
-          (λ (r : IsStepAt core j). absurd (let e : true ≡ false = sym r.row ∙ no_row core r.copy (ended_of core ended r.copy r.is_open) in cc))
+          (λ (r : IsStepAt core j). absurd (let e : true ≡ false = sym r.row ∙ no_row core r.copy (ended_of core ended r.copy r.is_open (brings past s tied r.copy r.is_open)) in cc))
           (tied.sees.queue.only j q at);
       names = tied.sees.queue.names;
     };
@@ -80,6 +82,7 @@ module _ (past : List Fact) (s : State) (tied : IsTied past s) (ended : (cursor 
     open_copy = not_open;
     step_write = no_write;
     beside = tied.sees.beside;
+    brings = tt;
   }
 
   carry_none : (fs : List Flight) (rows : List Flown) → CarryTheirs (closed core) v fs rows

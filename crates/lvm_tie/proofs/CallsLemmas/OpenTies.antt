@@ -111,7 +111,7 @@ module _ (past : List Fact) (s : State) (new : Core) (counts : Counts) (lv lp nu
   i = step_place core
 
   abbrev c : OpenCopy
-  c = opened opens.pp lv lp number opens.tried (faults_of counts (copies_of opens.row lp)) i
+  c = opened false opens.pp lv lp number opens.tried (faults_of counts (copies_of opens.row lp) opens.pp) i
 
   abbrev core1 : Core
   core1 = record core { requests = map aged core.requests }
@@ -139,7 +139,7 @@ module _ (past : List Fact) (s : State) (new : Core) (counts : Counts) (lv lp nu
   its = let t = of_its_then in record { row = t.row; volume = t.volume; lp = t.lp; among = t.among; cursor = t.cursor }
     where
       of_its_then : IsOfItsPartition core2 c
-      of_its_then = its_partition core2 c ((sound2.on tied.orderly.on).going.copy)
+      of_its_then = its_partition core2 c ((sound2.on tied.orderly.on).going.copy) refl
 
   some_groups : c.cursor < groups_of core
   some_groups = let e = mib_positive core.descriptor tied.orderly.sound.fitting.valid in omega (arith, e)
@@ -246,6 +246,7 @@ module _ (past : List Fact) (s : State) (new : Core) (counts : Counts) (lv lp nu
     open_copy = record { copy = o; is_open = refl; target = refl; passed = λ l g. refl };
     step_write = tied.sees.step_write ∙ ap Rattle.lvm_tie.specs.Seen.step_write_in may.none;
     beside = tied.sees.beside;
+    brings = refl;
   }
 
   carries : (f : Flight) (who : Owner) → CarriesStep core2 w f who

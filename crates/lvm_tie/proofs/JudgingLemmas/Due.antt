@@ -8,7 +8,7 @@ use Rattle.lvm_sched.specs.declared.writes.TargetState.TheVariants as target
 use Rattle.lvm_path.specs.declared.target.Target.{Target}
 use Rattle.lvm_path.specs.Targets.{is_done, is_failed}
 use Rattle.lvm_session.specs.State.{Core}
-use Rattle.lvm_session.specs.Judging.{all_but_sure, is_sure, pps_of}
+use Rattle.lvm_session.specs.Judging.{all_but_sure, is_sure_at, pps_of}
 use Rattle.lvm_session.specs.Marks.{is_among}
 use Rattle.lvm_invariant.specs.State.{Stage}
 use Rattle.lvm_num.specs.Descriptor.{is_pp}
@@ -56,26 +56,26 @@ stage_one (t ∷ ts) e stage h = by (is_pp e t.pp) refl h (stage_one ts e stage)
 pub record Stays (core : Core) (ts due : List Target) : Type 0 where
   pub keeper : Target
   pub one : IsOneOf ts keeper
-  pub sure : is_sure core keeper.pp ≡ true
+  pub sure : is_sure_at core keeper ≡ true
   pub others : (x : Target) → IsOneOf due x → IsOneOf ts x × (x.pp ≡ keeper.pp → ⊥)
 
 -- all but the first that is sure
-pub sure_stays : (core : Core) (ts : List Target) (u : Target) → AreApart ts → IsOneOf ts u → is_sure core u.pp ≡ true → Stays core ts (all_but_sure core ts)
+pub sure_stays : (core : Core) (ts : List Target) (u : Target) → AreApart ts → IsOneOf ts u → is_sure_at core u ≡ true → Stays core ts (all_but_sure core ts)
 sure_stays core [] u apart one sure = absurd one
-sure_stays core (t ∷ ts) u apart one sure = by (is_sure core t.pp) refl (λ there. sure_stays core ts u apart.1 there sure)
+sure_stays core (t ∷ ts) u apart one sure = by (is_sure_at core t) refl (λ there. sure_stays core ts u apart.1 there sure)
   where
-    by : (b : Bool) → is_sure core t.pp ≡ b → (IsOneOf ts u → Stays core ts (all_but_sure core ts)) → Stays core (t ∷ ts) (if b then ts else t ∷ all_but_sure core ts)
+    by : (b : Bool) → is_sure_at core t ≡ b → (IsOneOf ts u → Stays core ts (all_but_sure core ts)) → Stays core (t ∷ ts) (if b then ts else t ∷ all_but_sure core ts)
     by true is after = record { keeper = t; one = inl refl; sure = is; others = λ x here. (inr here, apart.0 x here) }
     by false is after = later one
       where
         later : IsOneOf (t ∷ ts) u → Stays core (t ∷ ts) (t ∷ all_but_sure core ts)
-        later (inl here) = clash_gives (is_sure core t.pp) (ap (λ (x : Target). is_sure core x.pp) (sym here) ∙ sure) is
+        later (inl here) = clash_gives (is_sure_at core t) (ap (λ (x : Target). is_sure_at core x) (sym here) ∙ sure) is
         later (inr there) = let rest = after there in record {
           keeper = rest.keeper;
           one = inr rest.one;
           sure = rest.sure;
           others = λ x inside. ⊎_elim
-              (λ (here : x ≡ t). (inl here, λ same. clash_gives (is_sure core t.pp) (ap (is_sure core) (ap (λ (y : Target). y.pp) (sym here) ∙ same) ∙ rest.sure) is))
+              (λ (here : x ≡ t). (inl here, λ same. apart.0 rest.keeper rest.one (sym same ∙ ap (λ (y : Target). y.pp) here)))
               (λ there2. let r = rest.others x there2 in (inr r.0, r.1))
               inside;
         }
@@ -87,7 +87,7 @@ done_or_failed target.Done h k = absurd (cc k)
 done_or_failed target.Failed h k = absurd (cc h)
 
 -- all that failed, where one that is sure has succeeded
-pub done_stays : (core : Core) (ts : List Target) (u : Target) → AreApart ts → IsOneOf ts u → is_done u.state ≡ true → is_sure core u.pp ≡ true → Stays core ts (filter (λ (t : Target). is_failed t.state) ts)
+pub done_stays : (core : Core) (ts : List Target) (u : Target) → AreApart ts → IsOneOf ts u → is_done u.state ≡ true → is_sure_at core u ≡ true → Stays core ts (filter (λ (t : Target). is_failed t.state) ts)
 done_stays core ts u apart one succeeded sure = record {
   keeper = u;
   one = one;

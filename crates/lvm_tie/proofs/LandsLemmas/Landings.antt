@@ -33,7 +33,7 @@ use Rattle.lvm_keeps_events.proofs.UncaughtLemmas.{lost_is_uncaught}
 use Rattle.lvm_kept.specs.Group.{IsOneOf}
 use Rattle.lvm_invariant.specs.State.{HasPassed}
 use Rattle.lvm_tie.specs.Tied.{IsOrderly, IsTied}
-use Rattle.lvm_tie.proofs.StateLemmas.{among_one, passed_caught}
+use Rattle.lvm_tie.proofs.StateLemmas.{among_one, passed_caught, target_copy}
 use Rattle.lvm_tie.proofs.TiedLemmas.Orderly.{asked_one, open_one, request_is, waiting_one}
 use Rattle.lvm_tie.proofs.AmongLemmas.{one_there}
 use Rattle.lvm_tie.specs.Lands.{LandTies}
@@ -265,7 +265,7 @@ module _ (past : List Fact) (old new : State) (place : ℕ) (how : Outcome) (lan
           → HasPassed tied.view (lv_of o.request.ask) (track_group_of (at_of o.request.ask)) t.pp → ⊥
       uncaught writes t one why passed =
           let there = one_there ts t one in
-          let copy = among_one (copies_for core o.request.ask) t.pp (all_at (IsTarget core o.request.ask) ts there.0 t its.shape.targets there.1).copy in
+          let copy = among_one (copies_for core o.request.ask) t.pp (target_copy past old tied o.request.ask t (all_at (IsTarget core o.request.ask) ts there.0 t its.shape.targets there.1)) in
           let caught = passed_caught past old tied o.request.ask (open_one old tied.write tied.orderly place o lands.there).laid.within t.pp copy passed in
           let e : true ≡ false = sym caught ∙ not_caught writes t one why in
           cc

@@ -19,7 +19,7 @@ use Rattle.lvm_path.specs.Targets.{is_begun, is_over, is_failed, are_over}
 use Rattle.lvm_path.specs.Next.{next_in}
 use Rattle.lvm_session.specs.declared.open.Open.{Open}
 use Rattle.lvm_session.specs.State.{Core, State}
-use Rattle.lvm_session.specs.Judging.{place_of, is_sure, is_settled, is_kept, is_marked, counts_failed, all_but_sure, facts_of}
+use Rattle.lvm_session.specs.Judging.{place_of, is_sure_at, is_settled, is_kept, is_marked, counts_failed, all_but_sure, facts_of}
 use Rattle.lvm_session.specs.Events.{Lands, got_blocks}
 use Rattle.lvm_invariant.specs.State.{Stage, Well, Badly, Queued, ModelState, HasPassed, Started}
 use Rattle.lvm_invariant.specs.Updates.{landed}
@@ -57,7 +57,7 @@ pub record IsButOne (core : Core) (ts : List Target) : Type 0 where
 
 but_one : (core : Core) (ts : List Target) → IsButOne core ts
 but_one core [] = record { kept = record { disk = 0; pp = 0 }; others = λ t one. absurd one }
-but_one core (t ∷ ts) = let r = by (is_sure core t.pp) (but_one core ts) in record { kept = r.0; others = r.1 }
+but_one core (t ∷ ts) = let r = by (is_sure_at core t) (but_one core ts) in record { kept = r.0; others = r.1 }
   where
     both : (rest : List Target) (kept : Pp) → ((u : Target) → IsOneOf ts u → (u.pp ≡ kept) ⊎ IsOneOf rest u) → (u : Target) → IsOneOf (t ∷ ts) u → (u.pp ≡ kept) ⊎ IsOneOf (t ∷ rest) u
     both rest kept others u (inl here) = inr (inl here)

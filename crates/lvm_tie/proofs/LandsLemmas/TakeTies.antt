@@ -130,6 +130,7 @@ module _ (past : List Fact) (old : State) (place : ℕ) (o : Open) (tied : IsTie
     open_copy = tied.sees.open_copy;
     step_write = tied.sees.step_write;
     beside = tied.sees.beside;
+    brings = tied.sees.brings;
   }
 
   takes : Takes v i q

@@ -195,6 +195,7 @@ module _ (past : List Fact) (old new : State) (at disk : ℕ) (row : Flown) (buf
     there = b.there;
     part = λ less. ap (λ (m : Marks). m.stale c.pp) marks_lost ∙ b.part less;
     whole = λ all. ap (λ (s : Status). calls_stale s c.pp) committed_lost ∙ b.whole all;
+    stays = b.stays;
   }
 
   wants : Wants v (marks_of None status.wanted) missing (open_after how v.open_copy)
@@ -339,6 +340,7 @@ module _ (past : List Fact) (old new : State) (at disk : ℕ) (row : Flown) (buf
     open_copy = tied.sees.open_copy;
     step_write = tied.sees.step_write;
     beside = tied.sees.beside;
+    brings = tied.sees.brings;
   }
 
   -- ---- what is out, and the next update

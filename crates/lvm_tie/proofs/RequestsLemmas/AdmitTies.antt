@@ -1,5 +1,5 @@
 -- A request that is admitted, tied.
-use Rattle.std.proofs.Common.{◌≡◌, ◌⊎◌, inl, inr, ⊎_elim, ℕ, zero, suc, ◌+◌, ◌-◌, ◌<◌, ◌≤◌, Bool, true, false, ◌&&◌, ◌||◌, ◌==◌, not, List, [], ◌∷◌, length, map, Option, Some, None, refl, sym, ap, subst, ◌∙◌, arith}
+use Rattle.std.proofs.Common.{◌≡◌, ◌⊎◌, inl, inr, ⊎_elim, ℕ, zero, suc, ◌+◌, ◌-◌, ◌<◌, ◌≤◌, Bool, true, false, ◌&&◌, ◌||◌, ◌==◌, not, List, [], ◌∷◌, ◌++◌, append-nil, filter, length, map, Option, Some, None, refl, sym, ap, subst, ◌∙◌, arith}
 use Rattle.std.specs.Prelude.{IsTrue, IsFalse, if◌then◌else◌, slice_get, slice_set, nat_le, nat_lt, position, is_some, slice_index_or}
 use Rattle.std.specs.List.{list_any}
 use Rattle.std.specs.Option.{option_map_or}
@@ -46,9 +46,9 @@ use Rattle.lvm_session.specs.declared.bringing.Step.TheVariants as step
 use Rattle.lvm_session.specs.declared.flown.Owner.{Owner}
 use Rattle.lvm_session.specs.declared.flown.Owner.TheVariants as owner
 use Rattle.lvm_session.specs.State.{Core, State, state}
-use Rattle.lvm_session.specs.Judging.{is_waiting, is_running, is_usable, is_missing, is_caught, is_held_back, copies_for, group_in, mode_of, policy_of, place_of, held_of, facts_of, next_for, aims, IsWithin}
+use Rattle.lvm_session.specs.Judging.{is_waiting, is_running, is_usable, is_missing, is_caught, is_held_back, copies_for, group_in, mode_of, policy_of, place_of, held_of, facts_of, next_for, aims, place_aims, places_for, IsWithin}
 use Rattle.lvm_session.specs.Bringing.{is_out, is_whole, step_row, groups_of}
-use Rattle.lvm_session.specs.Events.{Admits, Chooses, ChoosesBy, copy_of, last_after, loads_of, makes_dirty, target_at, usable_from, without_pin}
+use Rattle.lvm_session.specs.Events.{Admits, Chooses, ChoosesBy, copy_of, last_after, loads_of, makes_dirty, place_target, target_at, usable_from, without_pin}
 use Rattle.lvm_session.specs.Marks.{WantsDirty, WantsDirtyIf}
 use Rattle.lvm_session.specs.Requests.{IsPhase, IsRequest}
 use Rattle.lvm_session.specs.Sound.{IsSound}
@@ -71,7 +71,7 @@ use Rattle.lvm_crash.proofs.RecordsLemmas.Quiet.{quiet_lasts}
 use Rattle.lvm_crash.proofs.WritingLemmas.{pp_same}
 use Rattle.lvm_tie.proofs.OutLemmas.Ties.{carry_on}
 use Rattle.lvm_tie.proofs.SeenLemmas.Changing.{step_apart, sees_changed}
-use Rattle.lvm_tie.proofs.StateLemmas.{there_is_copy, on_member, missing_seen, usable_seen, wanted_seen}
+use Rattle.lvm_tie.proofs.StateLemmas.{no_places, there_is_copy, on_member, missing_seen, usable_seen, wanted_seen}
 use Rattle.lvm_tie.proofs.ModesLemmas.{active_is}
 use Rattle.lvm_tie.proofs.JudgingLemmas.Rows.{HaveRows, rows_are}
 use Rattle.lvm_tie.proofs.TiedLemmas.Orderly.{HaveNumbers, numbers_of, open_one, waiting_one}
@@ -490,8 +490,9 @@ index_at [] k p d there = absurd (cc there)
 index_at (x ∷ ps) zero p d there = let e : x ≡ p = cc there in e
 index_at (x ∷ ps) (suc k) p d there = index_at ps k p d there
 
-chosen_by : (s : State) (o : Open) (targets : List Target) (order : List ℕ) → Chooses s o.request.ask targets order → AreChosen s.core o targets
-chosen_by s o targets order chooses = by (is_write ask) refl chooses
+-- (where no copy moves)
+chosen_by : (s : State) (o : Open) (targets : List Target) (order : List ℕ) → places_for s.core o.request.ask ≡ [] → Chooses s o.request.ask targets order → AreChosen s.core o targets
+chosen_by s o targets order none chooses = by (is_write ask) refl chooses
   where
     ask : Ask
     ask = o.request.ask
@@ -499,11 +500,14 @@ chosen_by s o targets order chooses = by (is_write ask) refl chooses
     copies : List Pp
     copies = copies_for s.core ask
 
+    plain : targets ≡ map (target_at s ask) (aims s.core ask) ++ map (place_target s ask) (place_aims s.core ask) → targets ≡ map (target_at s ask) (aims s.core ask)
+    plain are = are ∙ ap (λ (ps : List Pp). map (target_at s ask) (aims s.core ask) ++ map (place_target s ask) (filter (is_caught s.core (group_in s.core ask)) ps)) none ∙ append-nil (map (target_at s ask) (aims s.core ask))
+
     by : (w : Bool) → is_write ask ≡ w → ChoosesBy w s ask targets order → AreChosen s.core o targets
     by true writes its = record {
-      early = ap is_begun its.0 ∙ none_started (target_at s ask) (aims s.core ask) (λ p. refl);
+      early = ap is_begun (plain its.0) ∙ none_started (target_at s ask) (aims s.core ask) (λ p. refl);
       each = λ n t there.
-          let m = map_get (target_at s ask) (aims s.core ask) n t (ap (λ (ts : List Target). slice_get ts n) (sym its.0) ∙ there) in
+          let m = map_get (target_at s ask) (aims s.core ask) n t (ap (λ (ts : List Target). slice_get ts n) (sym (plain its.0)) ∙ there) in
           let passes = filter_one (λ (p : Pp). is_usable s.core p || is_caught s.core (group_in s.core ask) p) copies m.0 m.1 in
           let pp : t.pp ≡ m.0 = ap (λ (x : Target). x.pp) m.2 in (
             subst (IsOneOf copies) (sym pp) passes.0,
@@ -522,7 +526,7 @@ chosen_by s o targets order chooses = by (is_write ask) refl chooses
     }
 
 pub admit_ties : AdmitTies
-admit_ties place past old new tied sound admits = tied_after past old new place admits tied sound (rows_are old tied.write tied.orderly) waits empty (chosen_by old o admits.targets admits.order admits.chosen)
+admit_ties place past old new tied sound admits = tied_after past old new place admits tied sound (rows_are old tied.write tied.orderly) waits empty (chosen_by old o admits.targets admits.order (no_places past old tied o.request.ask) admits.chosen)
   where
     o : Open
     o = admits.request

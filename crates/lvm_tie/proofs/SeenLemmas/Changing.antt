@@ -62,6 +62,14 @@ target_was (u ∷ us) zero state (suc k) t there = (t, there, refl)
 target_was (u ∷ us) (suc number) state zero t there = (u, refl, ap (λ (x : Target). x.pp) (same_Some u t there))
 target_was (u ∷ us) (suc number) state (suc k) t there = target_was us number state k t there
 
+-- so it is no place to which a copy moves where it was none
+pub target_moves : (ts : List Target) (number : ℕ) (state : TargetState) (k : ℕ) (t : Target) → slice_get (with_state ts number state) k ≡ Some t → (u : Target) × (slice_get ts k ≡ Some u) × (u.moves ≡ t.moves)
+target_moves [] number state k t there = absurd cc
+target_moves (u ∷ us) zero state zero t there = (u, refl, ap (λ (x : Target). x.moves) (same_Some (record u { state = state }) t there))
+target_moves (u ∷ us) zero state (suc k) t there = (t, there, refl)
+target_moves (u ∷ us) (suc number) state zero t there = (u, refl, ap (λ (x : Target). x.moves) (same_Some u t there))
+target_moves (u ∷ us) (suc number) state (suc k) t there = target_moves us number state k t there
+
 pub same_long : (ts : List Target) (number : ℕ) (state : TargetState) → length (with_state ts number state) ≡ length ts
 same_long [] number state = refl
 same_long (u ∷ us) zero state = refl
@@ -136,4 +144,5 @@ module _ (past : List Fact) (core : Core) (v : ModelState) (place : ℕ) (o o2 :
     open_copy = sees.open_copy;
     step_write = sees.step_write;
     beside = sees.beside;
+    brings = sees.brings;
   }

@@ -29,4 +29,5 @@ sees_entered past core v f aside sees = record {
   open_copy = sees.open_copy;
   step_write = sees.step_write;
   beside = sees.beside;
+  brings = sees.brings;
 }

@@ -21,7 +21,7 @@ use Rattle.lvm_invariant.specs.CopyWrite.{copied}
 use Rattle.lvm_crash.specs.Bringing.{PassesOver}
 use Rattle.lvm_tie.specs.Seen.{SeesCopy, SeesOpen, SeesRunning, SeesStep, passed_by, update_of}
 use Rattle.lvm_tie.specs.Tied.{IsTied}
-use Rattle.lvm_tie.proofs.StateLemmas.{IsOfItsPartition, copy_is, missing_seen, of_its}
+use Rattle.lvm_tie.proofs.StateLemmas.{IsOfItsPartition, copy_is, missing_seen, of_its, stale_is}
 use Rattle.lvm_tie.proofs.BringingLemmas.{groups_are, step_member}
 use Rattle.lvm_tie.proofs.StepsLemmas.Leaving.{Stands, gone, step_left}
 use Rattle.lvm_tie.proofs.StepsLemmas.Landed.{HasLanded, at_q, landed_write, now, q, sees}
@@ -87,7 +87,7 @@ module _ (past : List Fact) (old new : State) (at : ℕ) (tied : IsTied past old
   there = sym (missing_seen past old tied c.pp.disk member) ∙ subst (λ (p : Pp). v.missing p.disk ≡ false) seen_open.target (tied.good.sound.statuses.open_there seen_open.copy seen_open.is_open)
 
   pub stale : is_stale old.core event.copy.pp ≡ true
-  stale = (and_parts (is_stale core c.pp) _ (its_copy.stale event.runs part).0).0
+  stale = (and_parts (is_stale core c.pp) _ ((stale_is past old tied c event.is_open).stale event.runs part).0).0
 
   -- ---- what it has passed
 

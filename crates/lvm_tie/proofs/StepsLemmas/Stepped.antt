@@ -25,7 +25,7 @@ use Rattle.lvm_invariant.specs.CopyWrite.{copied}
 use Rattle.lvm_invariant.specs.Updates.{put, with_block}
 use Rattle.lvm_invariant.proofs.UpdatesLemmas.Requests.{put_same}
 use Rattle.lvm_tie.specs.Out.{CarriesStep, CarryTheirs}
-use Rattle.lvm_tie.specs.Seen.{IsRequestAt, IsStepAt, Sees, SeesCopy, SeesOpen, SeesRunning, SeesStep, update_of}
+use Rattle.lvm_tie.specs.Seen.{Brings, IsRequestAt, IsStepAt, Sees, SeesCopy, SeesOpen, SeesRunning, SeesStep, update_of}
 use Rattle.lvm_tie.specs.Tied.{IsTied}
 use Rattle.lvm_tie.proofs.StateLemmas.{copy_is, wanted_seen}
 use Rattle.lvm_tie.proofs.TiedLemmas.Orderly.{orderly_same}
@@ -44,6 +44,7 @@ pub record IsStepped (core : Core) (v : ModelState) (c d : OpenCopy) (queue : �
   pub a_step : has_row core d ≡ true → (q : Queued) × (queue d.place ≡ Some q) × SeesStep core d q
   pub only : (j : ℕ) (q : Queued) → queue j ≡ Some q → ((j ≡ c.place → ⊥) × (v.queue j ≡ Some q)) ⊎ ((has_row core d ≡ true) × (d.place ≡ j))
   pub open_seen : SeesRunning (is_running d) (groups_of core) d open_copy
+  pub moves_same : d.moves ≡ c.moves
 
 module _ (past : List Fact) (core : Core) (v : ModelState) (c d : OpenCopy) (pool : List Bool) (flying : List Flown) (waiting : Waiting) (queue : ℕ → Option Queued) (name : ℕ → Asked) (block : ℕ → ℕ → Pp → Sector) (open_copy : Option ModelCopy)
     (sees_v : Sees past core v) (is : core.copy ≡ Some c) (its : IsStepped core v c d queue name open_copy) where
@@ -79,6 +80,7 @@ module _ (past : List Fact) (core : Core) (v : ModelState) (c d : OpenCopy) (poo
     open_copy = its.open_seen;
     step_write = sym (no_write d d.step its.rests);
     beside = sees_v.beside;
+    brings = its.moves_same ∙ subst Brings is sees_v.brings;
   }
 
 -- the copy goes on with the same track groups behind it

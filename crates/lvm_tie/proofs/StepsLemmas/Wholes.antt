@@ -26,7 +26,7 @@ use Rattle.lvm_session.specs.declared.bringing.OpenCopy.{OpenCopy}
 use Rattle.lvm_session.specs.declared.bringing.CopyEnd.{CopyEnd}
 use Rattle.lvm_session.specs.declared.bringing.CopyEnd.TheVariants as ending
 use Rattle.lvm_session.specs.State.{Core, State, state}
-use Rattle.lvm_session.specs.Judging.{is_missing, is_running, is_stale, is_wanted_stale, place_of}
+use Rattle.lvm_session.specs.Judging.{is_clear, is_missing, is_running, is_stale, is_wanted_stale, place_of}
 use Rattle.lvm_session.specs.Bringing.{copy_ends, end_by_sources, ends_if, groups_of, has_row, is_cleared, is_whole, marked_by_end, with_end}
 use Rattle.lvm_session.specs.Ends.{GoesOn, with_copy}
 use Rattle.lvm_session.specs.Marks.{Reviews, WantsFresh, can_replace, is_among, is_entailed, is_entailed_in, is_left_behind}
@@ -44,7 +44,7 @@ use Rattle.lvm_tie.proofs.SeenLemmas.Beside.{plain_copy}
 use Rattle.lvm_crash.proofs.WritingLemmas.{pp_same}
 use Rattle.lvm_tie.specs.Seen.{Sees, SeesRunning, passed_by, update_of}
 use Rattle.lvm_tie.specs.Tied.{IsTied}
-use Rattle.lvm_tie.proofs.StateLemmas.{IsOfItsPartition, stale_seen, wanted_seen}
+use Rattle.lvm_tie.proofs.StateLemmas.{IsOfItsPartition, brings, stale_seen, wanted_seen}
 use Rattle.lvm_tie.proofs.TiedLemmas.Orderly.{valid_of}
 use Rattle.lvm_tie.proofs.BringingLemmas.{groups_are}
 use Rattle.lvm_tie.proofs.OutLemmas.Wanted.{next_same, records_wanted, sees_wanted, stamp_same, stays_open, update_same, write_same}
@@ -151,6 +151,7 @@ module _ (past : List Fact) (old new : State) (at : ℕ) (tied : IsTied past old
       ap (λ b. if not b then None else if is_missing on c.pp.disk then Some ending.SyncFailed else if is_whole on e then ends_if (is_cleared on e) ending.Done else end_by_sources on e) event.runs
       ∙ ap (λ b. if b then Some ending.SyncFailed else if is_whole on e then ends_if (is_cleared on e) ending.Done else end_by_sources on e) (missing_same c.pp.disk ∙ there past old new at tied sectors event)
       ∙ ap (λ b. if b then ends_if (is_cleared on e) ending.Done else end_by_sources on e) full
+      ∙ ap (λ b. ends_if (not b && is_clear on c.pp) ending.Done) (brings past old tied c event.is_open)
       ∙ ap (λ b. ends_if (not b && not (calls_stale (Rattle.std.specs.Prelude.unwrap_or on.status.in_flight on.status.committed) c.pp) && not (is_wanted_stale on c.pp)) ending.Done) (stale_same c.pp ∙ own_stale)
 
   same : new.core.status ≡ status
@@ -253,6 +254,7 @@ module _ (past : List Fact) (old new : State) (at : ℕ) (tied : IsTied past old
   stepped : IsStepped core v c e (gone v.queue c.place step_q) v.name (Some (o2 past old new at tied sectors event))
   stepped = record {
     rests = refl;
+    moves_same = refl;
     queue_still = λ k p at_k. gone_there v.queue c.place step_q (place_of p.request.id) (apart past old new at event.row true event.buf tied event.returns event.own c event.is_open k p at_k);
     name_still = λ k p at_k. refl;
     a_step = λ r. absurd (let k : true ≡ false = sym r ∙ no_row in cc);

@@ -24,7 +24,7 @@ abbrev its : Open
 its = admitted_as Parallel Off (targets Off false) (new_open 1 0 a_write 0)
 
 abbrev first : Target
-first = record { pp = record { disk = 0; pp = 0 }; sector = 4096; usable = true; faults = 0; state = stage.Waiting }
+first = record { pp = record { disk = 0; pp = 0 }; sector = 4096; usable = true; moves = false; faults = 0; state = stage.Waiting }
 
 due : IsDueAt (admitted Off false).core 0 0
 unfolding votes_by has_bit has

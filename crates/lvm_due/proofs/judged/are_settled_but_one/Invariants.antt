@@ -1,4 +1,4 @@
-use Rattle.std.proofs.Common.{◌≡◌, ◌&&◌, not, drop, if◌then◌else◌}
+use Rattle.std.proofs.Common.{◌≡◌, drop, if◌then◌else◌}
 use Rattle.std.specs.List.{list_all}
 use Rattle.lvm_path.specs.declared.target.Target.{Target}
 use Rattle.lvm_due.specs.passed.FactsNames.{core_of, is_settled, all_but_sure}

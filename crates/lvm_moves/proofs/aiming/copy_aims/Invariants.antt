@@ -4,7 +4,7 @@ use Rattle.lvm_session.specs.Fields.{core_of}
 use Rattle.lvm_session.specs.Judging.{is_caught, is_usable}
 use Rattle.lvm_session.specs.State.{state}
 use Rattle.lvm_session.specs.Events.{target_at}
-use Rattle.lvm_moves.proofs.aiming.aims.Given as goal
+use Rattle.lvm_moves.proofs.aiming.copy_aims.Given as goal
 
 abbrev pub invariant-loop-pp : goal.invariant-loop-pp
 invariant-loop-pp g l =

@@ -11,7 +11,7 @@ use Rattle.lvm_session.specs.State.{state}
 use Rattle.lvm_session.specs.Events.{target_at}
 use Rattle.lvm_due.proofs.passed.Names.{copies_in_are, few_in}
 use Rattle.lvm_moves.proofs.ChoosingLemmas.{aim_there, aims_more, few_aims, index_same}
-use Rattle.lvm_moves.proofs.aiming.aims.Goals as goal
+use Rattle.lvm_moves.proofs.aiming.copy_aims.Goals as goal
 
 pub aim_if-requires-clause-there : goal.aim_if-requires-clause-there
 aim_if-requires-clause-there g c aims =
