@@ -1,5 +1,5 @@
 -- The stages of a split: the mark of the new volume, and the descriptor with both between two entries.
-use Rattle.std.specs.Prelude.{◌≡◌, ◌⊎◌, ℕ, List, Some, Result, Ok, Err, IsTrue, slice_set}
+use Rattle.std.specs.Prelude.{◌≡◌, ◌⊎◌, ℕ, List, Some, Result, Ok, Err, IsTrue, IsFalse, slice_set}
 use Rattle.lvm_num.specs.declared.descriptor.LvRow.{LvRow}
 use Rattle.lvm_num.specs.Descriptor.{volume_of}
 use Rattle.lvm_num.specs.Status.{calls_dirty}
@@ -33,7 +33,7 @@ parting plan = record { next = λ d. d ≡ plan.next; zeros = NoPartition; stale
 abbrev pub splitting : ℕ → ℕ → State → Log
 splitting from lv s = with_fact s.core.history (Split from lv)
 
--- The descriptor with both is committed, and both entries are made; the new one is dirty where it is to be.
+-- The descriptor with both is committed, and both entries are made; the new one is dirty where it is to be, and else only where its number was marked before.
 pub record IsParted (plan : SplitPlan) (old new : State) : Type 0 where
   pub settled : IsSettled new.core
   pub is : new.core ≡ record old.core {
@@ -44,6 +44,7 @@ pub record IsParted (plan : SplitPlan) (old new : State) : Type 0 where
     homes = new.core.homes;
   }
   pub dirty : IsTrue plan.dirty → IsTrue (calls_dirty new.core.status.committed plan.number)
+  pub clean : IsFalse plan.dirty → calls_dirty new.core.status.committed plan.number ≡ calls_dirty old.core.status.committed plan.number
   pub ready : IsReady new.device
   pub cuts : new.device.counts.cuts ≡ old.device.counts.cuts
 

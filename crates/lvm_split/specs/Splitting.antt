@@ -1,5 +1,5 @@
 -- What a split answers, and what it may do.
-use Rattle.std.specs.Prelude.{◌≡◌, ◌⊎◌, ℕ, ◌&&◌, List, Result, Ok, Err, IsTrue, slice_set}
+use Rattle.std.specs.Prelude.{◌≡◌, ◌⊎◌, ℕ, ◌&&◌, List, Result, Ok, Err, IsTrue, IsFalse, slice_set}
 use Rattle.lvm_num.specs.declared.descriptor.LvRow.{LvRow}
 use Rattle.lvm_num.specs.declared.descriptor.Descriptor.{Descriptor}
 use Rattle.lvm_num.specs.Modes.{is_passive}
@@ -27,7 +27,7 @@ abbrev pub to_split : ℕ → List ℕ → ℕ → Core → Scope
 to_split lv name copies core = record { next = IsSplit lv name copies core; zeros = NoPartition; stale = NoPartition; fresh = NoPartition; marks = IsLowestFree core.descriptor; numbers = 2; lets = MaySplitSince lv }
 
 -- The volume keeps its first copies, one of the lowest free number has those behind them under the name, and both entries are made; the new one is dirty where
--- the other, in mode passive, was. Members that became missing aside, and the copies that they left behind, nothing else of the session has changed.
+-- the other, in mode passive, was, and else only where its number was marked before. Members that became missing aside, and the copies that they left behind, nothing else of the session has changed.
 pub record IsVolumeSplit (lv : ℕ) (name : List ℕ) (copies number : ℕ) (old new : State) : Type 0 where
   pub row : LvRow
   pub may : MayBeSplit lv name copies old.core row
@@ -41,6 +41,7 @@ pub record IsVolumeSplit (lv : ℕ) (name : List ℕ) (copies number : ℕ) (old
     homes = new.core.homes;
   }
   pub dirty : IsTrue (is_passive row.mode && calls_dirty old.core.status.committed lv) → IsTrue (calls_dirty new.core.status.committed number)
+  pub clean : IsFalse (is_passive row.mode && calls_dirty old.core.status.committed lv) → calls_dirty new.core.status.committed number ≡ calls_dirty old.core.status.committed number
   pub ready : IsReady new.device
   pub cuts : new.device.counts.cuts ≡ old.device.counts.cuts
 

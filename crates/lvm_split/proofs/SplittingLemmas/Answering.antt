@@ -92,6 +92,7 @@ module _ (lv : ℕ) (name : List ℕ) (copies : ℕ) (plan : SplitPlan) (a : Sta
     order = planned.order;
     is = parted.is ∙ (λ t. record a.core { descriptor = planned.is t; history = with_fact (splitting (planned.from t) plan.number a) (Made plan.number); last = slice_set a.core.last plan.number 0; status = b.core.status; homes = b.core.homes });
     dirty = λ is. parted.dirty (planned.dirty ∙ is);
+    clean = λ is. parted.clean (planned.dirty ∙ is);
     ready = parted.ready;
     cuts = parted.cuts;
   }

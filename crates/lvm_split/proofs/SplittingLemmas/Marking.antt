@@ -1,6 +1,6 @@
 -- The status with the mark of the new volume.
 use Rattle.std.proofs.Common.{◌≡◌, inl, ℕ, zero, suc, ◌<◌, ◌≤◌, Bool, true, false, ◌&&◌, ◌||◌, List, [], ◌∷◌, ◌++◌, Some, Err, length, get_or, take, refl, sym, ap, subst, ◌∙◌, eq-eqb, arith}
-use Rattle.std.specs.Prelude.{◌==◌, All, Contains, IsTrue}
+use Rattle.std.specs.Prelude.{◌==◌, All, Contains, IsTrue, IsFalse}
 use Rattle.std.specs.Int.{from_bool}
 use Rattle.std.proofs.lemmas.List.{append-nil}
 use Rattle.std.proofs.lemmas.List.Elements.{All-cons, All-nil, All-take}
@@ -186,5 +186,22 @@ marked_numbers name copies plan a planned k = subst (All IsVolumeNumber) (sym (a
     own : IsVolumeNumber plan.number
     own = record { least = planned.lowest.least; most = let few = few_volumes a.core.descriptor.big in omega (arith, planned.order.within, planned.may.counted.fewer, few) }
 
-pub marked_so : (k : ℕ) (plan : SplitPlan) (a b : State) (dirty : Bool) → k ≡ from_bool dirty → Redirties (take k (plan.number ∷ [])) [] a b → IsTrue dirty → IsTrue (calls_dirty b.core.status.wanted plan.number)
-marked_so k plan a b dirty is marks it = marked_dirty k plan.number a.core.status.wanted b.core.status.wanted (let one : k ≡ 1 = is ∙ ap from_bool it in omega (arith, one)) marks.marks
+-- where none is marked each is as it was
+marked_clean : (k x : ℕ) (s t : Status) → k ≡ 0 → Dirties (take k (x ∷ [])) [] s t → calls_dirty t x ≡ calls_dirty s x
+marked_clean zero x s t none dirties = dirties x ∙ by (calls_dirty s x)
+  where
+    by : (a : Bool) → (a || false) && true ≡ a
+    by true = refl
+    by false = refl
+marked_clean (suc k) x s t none dirties = absurd (omega (arith, none))
+
+-- the mark that is wanted of the new volume: where it is to be dirty, and else as its number was
+pub record IsMarkedBy (plan : SplitPlan) (a b : State) : Type 0 where
+  pub dirty : IsTrue plan.dirty → IsTrue (calls_dirty b.core.status.wanted plan.number)
+  pub clean : IsFalse plan.dirty → calls_dirty b.core.status.wanted plan.number ≡ calls_dirty a.core.status.wanted plan.number
+
+pub marked_so : (k : ℕ) (plan : SplitPlan) (a b : State) → k ≡ from_bool plan.dirty → Redirties (take k (plan.number ∷ [])) [] a b → IsMarkedBy plan a b
+marked_so k plan a b is marks = record {
+  dirty = λ it. marked_dirty k plan.number a.core.status.wanted b.core.status.wanted (let one : k ≡ 1 = is ∙ ap from_bool it in omega (arith, one)) marks.marks;
+  clean = λ it. marked_clean k plan.number a.core.status.wanted b.core.status.wanted (is ∙ ap from_bool it) marks.marks;
+}

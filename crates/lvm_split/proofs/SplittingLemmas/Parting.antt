@@ -49,6 +49,7 @@ use Rattle.lvm_split.specs.Premises.{IsClosedIn, IsEvenOn, MaySplitSince}
 use Rattle.lvm_split.specs.Parting.{IsParted, PartEnds, parting, splitting}
 use Rattle.lvm_split.proofs.SplittingLemmas.Copies as copies_
 use Rattle.lvm_split.proofs.SplittingLemmas.Marking as marking_
+use Rattle.lvm_split.proofs.SplittingLemmas.Marking.{IsMarkedBy}
 use Rattle.lvm_split.proofs.SplittingLemmas.Serving.{are_two, lets_split, new, split_into, stays, volume}
 
 -- the media was told before, as it is
@@ -209,12 +210,17 @@ module _ (name : List ℕ) (copies : ℕ) (plan : SplitPlan) (a : State) (settle
       made_still : StillHeld a made
       made_still = still_then a c made still_all (entry_still c (Made plan.number))
 
-      made_parted : (IsTrue plan.dirty → IsTrue (calls_dirty b.core.status.wanted plan.number)) → IsParted plan a made
-      made_parted dirty = record {
+      -- the commit leaves the mark as it is
+      mark_now : calls_dirty c.core.status.committed plan.number ≡ calls_dirty b.core.status.wanted plan.number
+      mark_now = ap (λ (s : Status). calls_dirty s plan.number) stated.settled.committed ∙ commits.status.dirty plan.number (λ none. none)
+
+      made_parted : IsMarkedBy plan a b → IsParted plan a made
+      made_parted marked_by = record {
         settled = settled_entered c (Made plan.number) stated.settled;
         is = ap (λ (x : Core). record x { history = with_fact x.history (Made plan.number); last = slice_set x.last plan.number 0 }) stated.is
             ∙ ap (λ (x : Core). record x { descriptor = plan.next; history = with_fact (with_fact x.history f) (Made plan.number); last = slice_set x.last plan.number 0; status = c.core.status; homes = c.core.homes }) done.is;
-        dirty = λ is. ap (λ (s : Status). calls_dirty s plan.number) stated.settled.committed ∙ commits.status.dirty plan.number (λ none. none) ∙ dirty is;
+        dirty = λ is. mark_now ∙ marked_by.dirty is;
+        clean = λ is. mark_now ∙ marked_by.clean is ∙ ap (λ (s : Status). calls_dirty s plan.number) (sym settled.committed);
         ready = stated.ready;
         cuts = stated.cuts ∙ done.cuts;
       }
@@ -276,7 +282,7 @@ module _ (name : List ℕ) (copies : ℕ) (plan : SplitPlan) (a : State) (settle
 
     -- ---- both
 
-    module _ (dirty : IsTrue plan.dirty → IsTrue (calls_dirty b.core.status.wanted plan.number)) (e : State) where
+    module _ (marked_by : IsMarkedBy plan a b) (e : State) where
       leaves_so : (x : Result (Unit {0}) CommitFault) → CommitEnds plan.next q begun c x → ClosesBy (Made plan.number) c e x → Leaves (parting plan) p r a e
       leaves_so (Ok _) ends closes = subst (λ (y : State). Leaves (parting plan) p r a y) (sym closes) (made_leaves ends)
       leaves_so (Err why) ends closes = subst (λ (y : State). Leaves (parting plan) p r a y) (sym closes) break_leaves
@@ -290,21 +296,21 @@ module _ (name : List ℕ) (copies : ℕ) (plan : SplitPlan) (a : State) (settle
       keeps_so (Err why) ends closes = stopped (HasCommitted plan.next begun c) (KeepsFresh a e) q begun c why ends
 
       ends_so : (x : Result (Unit {0}) CommitFault) → CommitEnds plan.next q begun c x → ClosesBy (Made plan.number) c e x → PartEnds copies plan p a e (command_answer x)
-      ends_so (Ok _) ends closes = subst (λ (y : State). IsParted plan a y) (sym closes) (made_parted ends dirty)
+      ends_so (Ok _) ends closes = subst (λ (y : State). IsParted plan a y) (sym closes) (made_parted ends marked_by)
       ends_so (Err commit.Dark) ends closes = record { entered = splitting plan.from plan.number a; so_far = inr refl; ends = subst (λ (y : State). CommandBroke (splitting plan.from plan.number a) p a y commit.Dark) (sym closes) (since commit.Dark ends) }
       ends_so (Err (commit.WentOff have total)) ends closes = record { entered = splitting plan.from plan.number a; so_far = inr refl; ends = subst (λ (y : State). CommandBroke (splitting plan.from plan.number a) p a y (commit.WentOff have total)) (sym closes) (since (commit.WentOff have total) ends) }
       ends_so (Err commit.Stuck) ends closes = record { entered = splitting plan.from plan.number a; so_far = inr refl; ends = subst (λ (y : State). CommandBroke (splitting plan.from plan.number a) p a y commit.Stuck) (sym closes) (since commit.Stuck ends) }
       ends_so (Err (commit.DiskFailed disk)) ends closes = absurd ends
 
-  module _ (dirty : IsTrue plan.dirty → IsTrue (calls_dirty b.core.status.wanted plan.number)) (r : ℕ) (e : State) (x : Result (Unit {0}) CommitFault) (between : CommitsBetween f (Made plan.number) plan.next q r b e x) where
+  module _ (marked_by : IsMarkedBy plan a b) (r : ℕ) (e : State) (x : Result (Unit {0}) CommitFault) (between : CommitsBetween f (Made plan.number) plan.next q r b e x) where
     pub part_leaves : Leaves (parting plan) p r a e
-    part_leaves = leaves_so r between.mid between.leaves between.left dirty e x between.ends between.closes
+    part_leaves = leaves_so r between.mid between.leaves between.left marked_by e x between.ends between.closes
 
     pub part_still : IfOn (command_answer x) (StillHeld a e)
-    part_still = still_so r between.mid between.leaves between.left dirty e x between.ends between.closes
+    part_still = still_so r between.mid between.leaves between.left marked_by e x between.ends between.closes
 
     pub part_keeps : IfOn (command_answer x) (KeepsFresh a e)
-    part_keeps = keeps_so r between.mid between.leaves between.left dirty e x between.ends between.closes
+    part_keeps = keeps_so r between.mid between.leaves between.left marked_by e x between.ends between.closes
 
     pub part_ends : PartEnds copies plan p a e (command_answer x)
-    part_ends = ends_so r between.mid between.leaves between.left dirty e x between.ends between.closes
+    part_ends = ends_so r between.mid between.leaves between.left marked_by e x between.ends between.closes

@@ -107,13 +107,13 @@ returns-in_err-commit_between g c =
     let done = c.in_ok-mark_dirty.ensures.ends in
     let marks = c.mark_dirty.ensures.marks in
     let serve = own_serve name copies plan a c.requires.settled planned marked one p q b leaves done marks c.in_ok-judge_again.ensures.serve in
-    let dirty = marked_so c.from.result plan a b plan.dirty c.from.ensures marks in
+    let marked_by = marked_so c.from.result plan a b c.from.ensures marks in
     let e = err_from_is_err_and c.from_residual-in_err-commit_between.result c.from_residual-in_err-commit_between.ensures.1 in
     rw (e.1, e.2) (record {
-      ends = part_ends name copies plan a c.requires.settled planned marked one p q b leaves done marks serve dirty r n (Err c.in_err-commit_between.field-0.0) c.in_err-commit_between.ensures;
-      held = part_still name copies plan a c.requires.settled planned marked one p q b leaves done marks serve dirty r n (Err c.in_err-commit_between.field-0.0) c.in_err-commit_between.ensures;
-      fresh = part_keeps name copies plan a c.requires.settled planned marked one p q b leaves done marks serve dirty r n (Err c.in_err-commit_between.field-0.0) c.in_err-commit_between.ensures;
-      leaves = part_leaves name copies plan a c.requires.settled planned marked one p q b leaves done marks serve dirty r n (Err c.in_err-commit_between.field-0.0) c.in_err-commit_between.ensures;
+      ends = part_ends name copies plan a c.requires.settled planned marked one p q b leaves done marks serve marked_by r n (Err c.in_err-commit_between.field-0.0) c.in_err-commit_between.ensures;
+      held = part_still name copies plan a c.requires.settled planned marked one p q b leaves done marks serve marked_by r n (Err c.in_err-commit_between.field-0.0) c.in_err-commit_between.ensures;
+      fresh = part_keeps name copies plan a c.requires.settled planned marked one p q b leaves done marks serve marked_by r n (Err c.in_err-commit_between.field-0.0) c.in_err-commit_between.ensures;
+      leaves = part_leaves name copies plan a c.requires.settled planned marked one p q b leaves done marks serve marked_by r n (Err c.in_err-commit_between.field-0.0) c.in_err-commit_between.ensures;
     })
 
 pub returns : goal.returns
@@ -134,10 +134,10 @@ returns g c =
     let done = c.in_ok-mark_dirty.ensures.ends in
     let marks = c.mark_dirty.ensures.marks in
     let serve = own_serve name copies plan a c.requires.settled planned marked one p q b leaves done marks c.in_ok-judge_again.ensures.serve in
-    let dirty = marked_so c.from.result plan a b plan.dirty c.from.ensures marks in
+    let marked_by = marked_so c.from.result plan a b c.from.ensures marks in
     record {
-      ends = part_ends name copies plan a c.requires.settled planned marked one p q b leaves done marks serve dirty r n (Ok tt) c.in_ok-commit_between.ensures;
-      held = part_still name copies plan a c.requires.settled planned marked one p q b leaves done marks serve dirty r n (Ok tt) c.in_ok-commit_between.ensures;
-      fresh = part_keeps name copies plan a c.requires.settled planned marked one p q b leaves done marks serve dirty r n (Ok tt) c.in_ok-commit_between.ensures;
-      leaves = part_leaves name copies plan a c.requires.settled planned marked one p q b leaves done marks serve dirty r n (Ok tt) c.in_ok-commit_between.ensures;
+      ends = part_ends name copies plan a c.requires.settled planned marked one p q b leaves done marks serve marked_by r n (Ok tt) c.in_ok-commit_between.ensures;
+      held = part_still name copies plan a c.requires.settled planned marked one p q b leaves done marks serve marked_by r n (Ok tt) c.in_ok-commit_between.ensures;
+      fresh = part_keeps name copies plan a c.requires.settled planned marked one p q b leaves done marks serve marked_by r n (Ok tt) c.in_ok-commit_between.ensures;
+      leaves = part_leaves name copies plan a c.requires.settled planned marked one p q b leaves done marks serve marked_by r n (Ok tt) c.in_ok-commit_between.ensures;
     }
