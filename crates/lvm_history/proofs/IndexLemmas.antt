@@ -1,27 +1,24 @@
 -- The index after one row more.
-use Rattle.std.proofs.Common.{◌≡◌, ◌==◌, ◌≢◌, ◌+◌, ◌-◌, ◌*◌, ◌/◌, ◌%◌, ◌<◌, ◌≤◌, ◌++◌, ◌||◌, ◌&&◌, [], ◌∷◌, ℕ, zero, suc, List, Bool, true, false, cond, not, refl, sym, ◌∙◌, ap, subst, arith, length, map, get_or, inl, inr, length-append, nat_lt, Option, Some, None, is_some, slice_get, IsSome}
-use Rattle.std.specs.Prelude.{slice_set}
+use Rattle.std.proofs.Common.{◌≡◌, ◌==◌, ◌≢◌, ◌+◌, ◌-◌, ◌*◌, ◌/◌, ◌%◌, ◌<◌, ◌≤◌, ◌++◌, ◌||◌, ◌&&◌, [], ◌∷◌, ℕ, zero, suc, List, Bool, true, false, cond, not, refl, sym, ◌∙◌, ap, subst, arith, length, map, get_or, inl, inr, length-append, nat_lt, Option, Some, None, is_some, slice_get}
 use Rattle.std.specs.List.{list_any}
-use Rattle.std.proofs.lemmas.List.{length-map, length-set, map-append, get_or_append_left, get_or-set_same, get_or-set_other}
+use Rattle.std.proofs.lemmas.List.{length-set, map-append, get_or_append_left, get_or-set_same, get_or-set_other}
 use Rattle.std.proofs.Math.Seq.{get_or-append_seam}
-use Rattle.std.proofs.lemmas.Bool.{eqb-true, eq-eqb, ne_eqb, lt-ltb, cases_lt, cases_eq}
+use Rattle.std.proofs.lemmas.Bool.{eq-eqb, ne_eqb, lt-ltb, cases_eq}
 use Rattle.std.proofs.lemmas.Bool.Decides.{nat_tests}
 use Rattle.std.proofs.lemmas.List.Folds.{list_any-append}
-use Rattle.lvm_vol.specs.declared.entry.Vol.{Vol}
 use Rattle.lvm_vol.specs.declared.entry.Outcome.{Outcome}
-use Rattle.lvm_vol.specs.declared.entry.Outcome.TheVariants as outcome
 use Rattle.lvm_vol.proofs.passed.Names.{or_false}
 use Rattle.lvm_history.specs.passed.CheckerNames.{Log, Fact, Entry, plain_fact, is_open, awaited, is_answered, asked, request_of, lands_id, takes_id}
 use Rattle.lvm_history.proofs.passed.CheckerNames.{and_left}
 use Rattle.lvm_history.specs.passed.VolEntryEntry as entry
-use Rattle.lvm_history.specs.declared.row.Ask.{Ask}
-use Rattle.lvm_history.specs.declared.row.Row.{Row}
-use Rattle.lvm_history.specs.declared.row.Row.TheVariants as row
-use Rattle.lvm_history.specs.declared.index.Step.{Step}
-use Rattle.lvm_history.specs.Rows.{ask_of, no_ask, is_landing, is_taking}
+use Rattle.lvm_allowed.specs.declared.row.Ask.{Ask}
+use Rattle.lvm_allowed.specs.declared.row.Row.{Row}
+use Rattle.lvm_allowed.specs.declared.row.Row.TheVariants as row
+use Rattle.lvm_chains.specs.declared.index.Step.{Step}
+use Rattle.lvm_allowed.specs.Rows.{ask_of, no_ask, is_landing, is_taking}
 use Rattle.lvm_history.specs.Keeping.{Holdings, IsSound, row_of, log_of, ask_found, is_open_by, awaited_by, is_answered_by}
-use Rattle.lvm_history.specs.Places.{Indexed, IsIndexOf, IsOneOf, AreOf, AreInGroups, chain_in, chain_of, plain_chain, newest_by, no_step, step_of, with_landing, with_taking, landed_index, has_landed_in, has_taken_in, empty_index}
-use Rattle.lvm_history.proofs.NewestLemmas.{newest_push, newest_append, any_newest}
+use Rattle.lvm_chains.specs.Places.{Indexed, IsIndexOf, IsOneOf, AreOf, AreInGroups, chain_in, chain_of, plain_chain, newest_by, no_step, step_of, with_landing, with_taking, landed_index, has_landed_in, has_taken_in, empty_index}
+use Rattle.lvm_chains.proofs.NewestLemmas.{newest_push, any_newest}
 use Rattle.lvm_history.proofs.KeepingLemmas.{is_open_kept, awaited_kept, is_answered_kept}
 
 -- the holdings as if their room for rows and requests were no more than is asked for
@@ -308,9 +305,6 @@ none_indexed room = record { its_chains = refl; count = refl; its_steps = λ n l
     nothing (suc n) = omega arith
 
 -- ---- what is looked up by a number
-
-pub chains_count : (index : Indexed) (asks : List Ask) (rows : List Row) → IsIndexOf index asks rows → length index.chains ≡ length rows
-chains_count index asks rows was = ap length was.its_chains ∙ length-map rows (chain_in asks)
 
 found_low : (asks : List Ask) (id : ℕ) (a : Ask) → ask_found asks id ≡ Some a → (1 ≤ id) × (id - 1 < length asks)
 found_low asks id a is = by_test (id == 0) refl

@@ -11,11 +11,11 @@ use Rattle.lvm_history.specs.passed.CheckerNames.{zero_sector, Vol, Outcome, Ent
 use Rattle.lvm_history.specs.passed.VolEntryVol.{Disk}
 use Rattle.lvm_history.specs.passed.VolEntryOutcome as outcome
 use Rattle.lvm_history.specs.passed.VolEntryEntry as entry
-use Rattle.lvm_history.specs.declared.row.Ask.{Ask}
-use Rattle.lvm_history.specs.declared.row.Row.{Row}
-use Rattle.lvm_history.specs.declared.row.Row.TheVariants as row
-use Rattle.lvm_history.specs.Fitting.{is_bounded}
-use Rattle.lvm_history.specs.Rows.{facts_of, no_ask, ask_of, is_landing, is_taking}
+use Rattle.lvm_allowed.specs.declared.row.Ask.{Ask}
+use Rattle.lvm_allowed.specs.declared.row.Row.{Row}
+use Rattle.lvm_allowed.specs.declared.row.Row.TheVariants as row
+use Rattle.lvm_allowed.specs.Fitting.{is_bounded}
+use Rattle.lvm_allowed.specs.Rows.{facts_of, no_ask, ask_of, is_landing, is_taking}
 use Rattle.lvm_history.specs.Keeping.{ask_at, ask_found, is_open_by, awaited_by, is_answered_by, entry_kept, IsOneOfAsks, asks_from, row_of, IsKept, IsRoomy, if_uncut, blocks_first, Holdings, log_of, IsSound}
 use Rattle.lvm_history.proofs.passed.CheckerNames.{IdsFrom, stands_last, stands-at, stands_begun, numbered, begun-push, any-push, ordered-push, found_of, and_left, open_of, follows_taken, count_begun, four_hold}
 use Rattle.lvm_history.proofs.LogLemmas.Keeping.{counts, ask-back, length-asks, length-flat, length-held, asks-push, facts-back, blocks_aside, blocks-begun, blocks-landed, blocks-read, held_same, unlanded_id, place_of}

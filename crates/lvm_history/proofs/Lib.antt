@@ -1,10 +1,5 @@
-pub mod AlongLemmas
 pub mod IndexLemmas
-pub mod LinkLemmas
-pub mod NewestLemmas
 pub mod LogLemmas
 pub mod KeepingLemmas
+pub mod TurnLemmas
 pub mod passed
-pub mod SeenLemmas
-pub mod RowsLemmas
-pub mod ToldLemmas

@@ -4,10 +4,10 @@ use Rattle.std.specs.Simd.{first_chunks}
 use Rattle.lvm_history.specs.passed.CheckerNames.{zero_sector, Entry, Request, Fact, Making, Made, Split, Removing, Removed, Begun, Landed, Taken, Cut, On, begun, Ordered, Log, needed, is_uncut, blocks_of}
 use Rattle.lvm_history.specs.passed.VolEntryVol.{Disk}
 use Rattle.lvm_history.specs.passed.VolEntryEntry as entry
-use Rattle.lvm_history.specs.declared.row.Ask.{Ask}
-use Rattle.lvm_history.specs.declared.row.Row.{Row}
-use Rattle.lvm_history.specs.declared.row.Row.TheVariants as row
-use Rattle.lvm_history.specs.Rows.{ask_of, facts_of}
+use Rattle.lvm_allowed.specs.declared.row.Ask.{Ask}
+use Rattle.lvm_allowed.specs.declared.row.Row.{Row}
+use Rattle.lvm_allowed.specs.declared.row.Row.TheVariants as row
+use Rattle.lvm_allowed.specs.Rows.{ask_of, facts_of}
 
 abbrev pub row_of : Fact → Row
 row_of (Making lv size mode) = row.Making lv size mode

@@ -1,10 +1,3 @@
-pub mod Along
-pub mod Linked
-pub mod Places
 pub mod Keeping
 pub mod Opened
 pub mod passed
-pub mod Rows
-pub mod Seen
-pub mod Told
-pub mod Fitting

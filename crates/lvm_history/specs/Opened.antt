@@ -3,7 +3,7 @@ use Rattle.std.specs.Prelude.{◌≡◌, vec_capacity}
 use Rattle.lvm_history.specs.declared.history.History.TheInside.{Inside}
 use Rattle.lvm_history.specs.passed.CheckerNames.{Log}
 use Rattle.lvm_history.specs.Keeping.{Holdings, log_of, IsSound}
-use Rattle.lvm_history.specs.Places.{IsIndexOf}
+use Rattle.lvm_chains.specs.Places.{IsIndexOf}
 
 abbrev pub kept_of : Inside → Holdings
 kept_of h = record {

@@ -1,10 +1,11 @@
 use Rattle.std.proofs.Common.{◌≡◌, ℕ, ◌+◌, ◌++◌, [], ◌∷◌, List, Bool, Option, Some, None, is_some, refl, sym, ◌∙◌, ap, subst, arith, option_copied, Bor, true, length, ◌/◌, ◌<◌}
-use Rattle.lvm_history.specs.declared.row.Row.TheVariants as row
+use Rattle.lvm_allowed.specs.declared.row.Row.TheVariants as row
 use Rattle.lvm_history.specs.Opened.{kept_of}
 use Rattle.lvm_history.specs.Keeping.{Holdings, log_of, blocks_first}
-use Rattle.lvm_history.specs.declared.row.Ask.{Ask}
-use Rattle.lvm_history.specs.Places.{Indexed}
-use Rattle.lvm_history.proofs.IndexLemmas.{tight, tight_sound, begun_indexed, chains_count}
+use Rattle.lvm_allowed.specs.declared.row.Ask.{Ask}
+use Rattle.lvm_chains.specs.Places.{Indexed}
+use Rattle.lvm_chains.proofs.AlongLemmas.{chains_count}
+use Rattle.lvm_history.proofs.IndexLemmas.{tight, tight_sound, begun_indexed}
 use Rattle.lvm_history.specs.passed.CheckerNames.{Begun, next_id, is_open, asked, next_request}
 use Rattle.lvm_history.proofs.KeepingLemmas.{Adds, BeginsRow, begun_adds, begun_found, room_to_begin, next_number}
 use Rattle.lvm_history.proofs.history.History.begin.Goals as goal

@@ -1,9 +1,10 @@
 use Rattle.std.proofs.Common.{refl, arith, ap, ◌∙◌, ◌+◌, false}
 use Rattle.lvm_history.specs.Opened.{kept_of}
 use Rattle.lvm_history.proofs.KeepingLemmas.{cut_adds, cut_room}
-use Rattle.lvm_history.specs.declared.row.Row.TheVariants as row
-use Rattle.lvm_history.specs.Places.{Indexed}
-use Rattle.lvm_history.proofs.IndexLemmas.{tight, tight_sound, aside_indexed, cut_aside, chains_count}
+use Rattle.lvm_allowed.specs.declared.row.Row.TheVariants as row
+use Rattle.lvm_chains.specs.Places.{Indexed}
+use Rattle.lvm_chains.proofs.AlongLemmas.{chains_count}
+use Rattle.lvm_history.proofs.IndexLemmas.{tight, tight_sound, aside_indexed, cut_aside}
 use Rattle.lvm_history.proofs.history.History.cut.Goals as goal
 
 pub append-requires : goal.append-requires

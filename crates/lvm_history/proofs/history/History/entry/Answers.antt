@@ -2,8 +2,8 @@ use Rattle.std.proofs.Common.{◌<◌, List, length, map, Some, sym, ap, ◌∙�
 use Rattle.std.proofs.lemmas.List.{get_or-map, length-map}
 use Rattle.std.proofs.lemmas.Option.{slice_get-get_or}
 use Rattle.lvm_history.specs.passed.CheckerNames.{Entry}
-use Rattle.lvm_history.specs.declared.row.Ask.{Ask}
-use Rattle.lvm_history.specs.declared.row.Row.{Row}
+use Rattle.lvm_allowed.specs.declared.row.Ask.{Ask}
+use Rattle.lvm_allowed.specs.declared.row.Row.{Row}
 use Rattle.lvm_history.specs.Opened.{kept_of}
 use Rattle.lvm_history.specs.Keeping.{entry_kept, IsOneOfAsks}
 use Rattle.lvm_history.proofs.KeepingLemmas.{length_rows, row_names, entries_kept}

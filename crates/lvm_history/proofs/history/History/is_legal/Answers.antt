@@ -1,10 +1,10 @@
 use Rattle.std.proofs.Common.{◌≡◌, ◌↔◌, IsTrue, List, ap, ◌∙◌, subst}
 use Rattle.std.specs.List.{list_all}
-use Rattle.lvm_history.specs.declared.row.Ask.{Ask}
+use Rattle.lvm_allowed.specs.declared.row.Ask.{Ask}
 use Rattle.lvm_history.specs.passed.CheckerNames.{Fact, Legal, Log}
-use Rattle.lvm_history.specs.Fitting.{is_bounded}
+use Rattle.lvm_allowed.specs.Fitting.{is_bounded}
 use Rattle.lvm_history.specs.Opened.{kept_of}
-use Rattle.lvm_history.specs.Rows.{facts_of}
+use Rattle.lvm_allowed.specs.Rows.{facts_of}
 use Rattle.lvm_history.proofs.KeepingLemmas.{all_bounded, facts_alike}
 use Rattle.lvm_history.proofs.history.History.is_legal.Goals as goal
 

@@ -1,8 +1,8 @@
 use Rattle.std.proofs.Common.{◌∙◌, ap, List}
-use Rattle.lvm_history.specs.declared.row.Ask.{Ask}
+use Rattle.lvm_allowed.specs.declared.row.Ask.{Ask}
 use Rattle.lvm_history.specs.Opened.{kept_of}
 use Rattle.lvm_history.specs.Keeping.{ask_found, is_open_by}
-use Rattle.lvm_history.specs.Places.{has_landed_in}
+use Rattle.lvm_chains.specs.Places.{has_landed_in}
 use Rattle.lvm_history.proofs.IndexLemmas.{open_told}
 use Rattle.lvm_history.proofs.history.History.is_open.Goals as goal
 

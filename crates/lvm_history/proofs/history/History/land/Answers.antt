@@ -1,10 +1,11 @@
 use Rattle.std.proofs.Common.{refl, arith, ap, sym, ◌∙◌, length, List, ◌-◌, ◌<◌, ◌≤◌, ◌≡◌}
-use Rattle.lvm_history.specs.declared.row.Ask.{Ask}
+use Rattle.lvm_allowed.specs.declared.row.Ask.{Ask}
 use Rattle.lvm_history.specs.Opened.{kept_of}
-use Rattle.lvm_history.specs.Places.{Indexed}
+use Rattle.lvm_chains.specs.Places.{Indexed}
 use Rattle.lvm_history.specs.passed.CheckerNames.{Landed, request_of, got_without_bytes}
 use Rattle.lvm_history.proofs.KeepingLemmas.{Adds, landed_adds, landed_answered, landed_room, log_ask, open_some}
-use Rattle.lvm_history.proofs.IndexLemmas.{tight, tight_sound, landed_indexed, chains_count}
+use Rattle.lvm_chains.proofs.AlongLemmas.{chains_count}
+use Rattle.lvm_history.proofs.IndexLemmas.{tight, tight_sound, landed_indexed}
 use Rattle.lvm_history.proofs.history.History.land.Goals as goal
 
 adds : (c : goal.After-index_landing) → Adds c.args.self.now (kept_of (record c.self.inside { rows = c.append.new.items })) (Landed (request_of c.args.self.now.facts c.args.id) c.args.outcome c.args.started (got_without_bytes (request_of c.args.self.now.facts c.args.id) c.args.outcome))

@@ -2,14 +2,15 @@ use Rattle.std.proofs.Common.{◌≡◌, ℕ, ◌-◌, ◌≤◌, ◌+◌, ◌/�
 use Rattle.std.proofs.lemmas.List.{get_or_default}
 use Rattle.std.specs.Simd.{first_chunks}
 use Rattle.lvm_history.specs.passed.VolEntryOutcome as outcome
-use Rattle.lvm_history.specs.declared.row.Ask.{Ask}
+use Rattle.lvm_allowed.specs.declared.row.Ask.{Ask}
 use Rattle.lvm_history.specs.Opened.{kept_of}
-use Rattle.lvm_history.specs.Rows.{no_ask, ask_of}
+use Rattle.lvm_allowed.specs.Rows.{no_ask, ask_of}
 use Rattle.lvm_history.specs.Keeping.{Holdings}
 use Rattle.lvm_history.specs.passed.CheckerNames.{Landed, request_of}
 use Rattle.lvm_history.proofs.KeepingLemmas.{Adds, read_adds, landed_answered, landed_room, awaited_of, chunks_count, length-first_chunks_of, log_ask, open_some}
-use Rattle.lvm_history.specs.Places.{Indexed}
-use Rattle.lvm_history.proofs.IndexLemmas.{tight, tight_sound, landed_indexed, chains_count}
+use Rattle.lvm_chains.specs.Places.{Indexed}
+use Rattle.lvm_chains.proofs.AlongLemmas.{chains_count}
+use Rattle.lvm_history.proofs.IndexLemmas.{tight, tight_sound, landed_indexed}
 use Rattle.lvm_history.proofs.history.History.land_read.Goals as goal
 
 pub overflow_sub-id : goal.overflow_sub-id

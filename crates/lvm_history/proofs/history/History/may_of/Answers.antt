@@ -1,11 +1,16 @@
 use Rattle.std.proofs.Common.{◌≡◌, ◌↔◌, IsTrue, List, ap, ◌∙◌, subst}
 use Rattle.lvm_history.specs.passed.CheckerNames.{Fact, Log, known, May}
-use Rattle.lvm_history.specs.Rows.{facts_of}
+use Rattle.lvm_history.specs.Opened.{kept_of}
+use Rattle.lvm_allowed.specs.Rows.{facts_of}
 use Rattle.lvm_history.proofs.KeepingLemmas.{facts_alike}
+use Rattle.lvm_history.proofs.TurnLemmas.{in_turn_of}
 use Rattle.lvm_history.proofs.history.History.may_of.Goals as goal
 
-pub may_have_along-requires : goal.may_have_along-requires
-may_have_along-requires c = rw (c.deref.ensures.value, c.deref-2.ensures.value) c.self.invariant.indexed
+pub may_have_along-requires-clause-indexed : goal.may_have_along-requires-clause-indexed
+may_have_along-requires-clause-indexed c = rw (c.deref.ensures.value, c.deref-2.ensures.value) c.self.invariant.indexed
+
+pub may_have_along-requires-clause-in_turn : goal.may_have_along-requires-clause-in_turn
+may_have_along-requires-clause-in_turn c = rw c.deref.ensures.value (in_turn_of (kept_of c.self.inside) c.self.invariant.kept)
 
 pub returns : goal.returns
 returns c =

@@ -1,11 +1,12 @@
 use Rattle.std.proofs.Common.{refl, arith, ◌+◌, ◌++◌, [], ◌∷◌, ap, ◌∙◌}
-use Rattle.lvm_history.specs.declared.row.Row.{Row}
+use Rattle.lvm_allowed.specs.declared.row.Row.{Row}
 use Rattle.lvm_history.specs.Opened.{kept_of}
 use Rattle.lvm_history.specs.passed.CheckerNames.{plain_fact}
 use Rattle.lvm_history.proofs.KeepingLemmas.{Adds, pushed_adds, pushed_room}
 use Rattle.lvm_history.specs.Keeping.{row_of}
-use Rattle.lvm_history.specs.Places.{Indexed}
-use Rattle.lvm_history.proofs.IndexLemmas.{tight, tight_sound, aside_indexed, plain_aside, chains_count}
+use Rattle.lvm_chains.specs.Places.{Indexed}
+use Rattle.lvm_chains.proofs.AlongLemmas.{chains_count}
+use Rattle.lvm_history.proofs.IndexLemmas.{tight, tight_sound, aside_indexed, plain_aside}
 use Rattle.lvm_history.proofs.history.History.push.Goals as goal
 
 adds : (c : goal.After-self-2-1) → Adds c.args.self.now (kept_of (record c.self.inside { rows = c.append.new.items; needed = c.self.inside.needed + 1; uncut = c.is_uncut_after-self-inside.result })) (plain_fact c.args.entry)

@@ -2,8 +2,9 @@ use Rattle.std.proofs.Common.{refl, arith, ap, ◌∙◌, length}
 use Rattle.lvm_history.specs.Opened.{kept_of}
 use Rattle.lvm_history.specs.passed.CheckerNames.{Taken, request_of}
 use Rattle.lvm_history.proofs.KeepingLemmas.{Adds, log_ask, taken_adds, taken_room}
-use Rattle.lvm_history.specs.Places.{Indexed}
-use Rattle.lvm_history.proofs.IndexLemmas.{tight, tight_sound, taken_indexed, chains_count, answered_some}
+use Rattle.lvm_chains.specs.Places.{Indexed}
+use Rattle.lvm_chains.proofs.AlongLemmas.{chains_count}
+use Rattle.lvm_history.proofs.IndexLemmas.{tight, tight_sound, taken_indexed, answered_some}
 use Rattle.lvm_history.proofs.history.History.taken.Goals as goal
 
 adds : (c : goal.After-add) → Adds c.args.self.now (kept_of (record c.self.inside { rows = c.append.new.items })) (Taken (request_of c.args.self.now.facts c.args.id))

@@ -1,0 +1,4 @@
+pub mod Fitting
+pub mod Rows
+pub mod Seen
+pub mod Told
