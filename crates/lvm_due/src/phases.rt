@@ -37,7 +37,9 @@ pub fn are_at_rest(targets: &[Target]) -> bool
 fn any_is_usable(session: &Session, targets: &[Target]) -> bool
     ensures { result ≡ any_is_usable (core_of session.now) targets.now }
 {
-    targets.iter().any(|target| !target.moves && is_usable(session, target.pp))
+    targets
+        .iter()
+        .any(|target| !target.moves && is_usable(session, target.pp))
 }
 
 // Whether it might land: no copy is usable of one that hasn't started its data, or its transfers may have ended.

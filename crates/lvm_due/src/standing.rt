@@ -201,7 +201,13 @@ fn are_last(targets: &[Target], place: Option<Pp>) -> bool
 
 /// Whether the targets are, one by one, those of these copies to which a write in this track group goes, and then
 /// the place.
-pub fn are_targets(session: &Session, group: u64, pps: &[Pp], place: Option<Pp>, targets: &[Target]) -> bool
+pub fn are_targets(
+    session: &Session,
+    group: u64,
+    pps: &[Pp],
+    place: Option<Pp>,
+    targets: &[Target],
+) -> bool
     ensures { result ≡ same_pps (pps_of targets.now) (filter (λ (p : Pp). is_usable (core_of session.now) p || is_caught (core_of session.now) group p) pps.now ++ option_map_or (λ (p : Pp). p ∷ []) place []) }
 {
     let mut rest = targets;

@@ -298,7 +298,7 @@ write_request =
     (record {
       shape = shaped (record { copy = refl; sector = refl; there = refl }, (record { copy = refl; sector = refl; there = refl }, tt)) (omega arith, λ write. refl) refl tt (differ _ _ refl refl) (λ past. refl) (λ read. not_either read);
       ready = record { free = λ past. refl; recorded = inl refl; wanted = λ past two. refl; named = λ has two. refl; dirty = λ has two. refl };
-      judged = λ write. record { uncaught = (refl, (refl, tt)); due = λ waits. not_so waits; all = λ begun p among. or_left _ among; place = λ begun p among. not_so among };
+      judged = λ write. record { uncaught = (refl, (refl, tt)); due = λ waits. not_so waits; missed = λ waits. not_so waits; all = λ begun p among. or_left _ among; place = λ begun p among. not_so among };
     })
 
 read_request : IsOpenOne busy_core got_read
@@ -408,6 +408,7 @@ is_sound =
       origin = record {
         since = λ disk. let none = zeros_at 128 disk in omega (arith, none);
         votes = votes;
+        rows = λ disk. refl;
         still_missing = λ disk is. not_so (sym (none_missing true disk) ∙ is);
         missing = λ disk is. inl is;
         stale = λ p is. inl (thrice_holds (calls_stale (status_of behind) p) is);

@@ -7,6 +7,7 @@ use Rattle.lvm_num.specs.Status.{calls_stale, calls_missing}
 use Rattle.lvm_num.specs.Votes.{votes_in, is_enough_to_write}
 use Rattle.lvm_num.specs.Descriptor.{is_pp}
 use Rattle.lvm_status.specs.Update.{members_there}
+use Rattle.lvm_status.specs.Members.{HasItsRows}
 use Rattle.lvm_kept.specs.passed.Names.{Rose, Device, Outcome}
 use Rattle.lvm_kept.specs.passed.VolEntryOutcome as outcome
 use Rattle.lvm_path.specs.declared.target.Target.{Target}
@@ -52,6 +53,8 @@ is_held_stale core p = is_stale core p || calls_stale (unwrap_or core.status.in_
 pub record IsTrueToOrigin (s : State) : Type 0 where
   pub since : (disk : ℕ) → faults_at_first s.core disk ≤ s.device.counts.faults disk
   pub votes : is_enough_to_write s.core.descriptor (votes_in s.core.descriptor (members_there s.core.descriptor s.core.origin.table)) ≡ true
+  -- its table has a row for exactly the members (else the place to which a copy moves, on a disk without one, couldn't count as stale there from the opening on)
+  pub rows : HasItsRows s.core.descriptor s.core.origin.table
   pub still_missing : (disk : ℕ) → calls_missing s.core.origin.table disk ≡ true → is_missing s.core disk ≡ true
   pub missing : (disk : ℕ) → is_missing s.core disk ≡ true → (calls_missing s.core.origin.table disk ≡ true) ⊎ FailedSince s disk
   pub stale : (p : Pp) → is_held_stale s.core p || is_wanted_stale s.core p ≡ true

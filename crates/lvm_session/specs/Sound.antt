@@ -171,7 +171,8 @@ abbrev pub stays_fresh : Core → Pp → Bool
 stays_fresh core p = not (is_held_stale core p) && not (is_wanted_stale core p)
 
 -- It is a copy of its logical partition that moves to a partition which no volume has, of a member on which no other copy of it stands; of that partition no
--- staleness is wanted once the move is whole. While it runs some copy of the logical partition stays fresh.
+-- staleness is wanted once the move is whole. Some copy of the logical partition stays fresh, also once it has ended (without one a write that is done on the place
+-- alone would wait for the staleness of the place, which nothing wants).
 pub record IsMove (core : Core) (c : OpenCopy) : Type 0 where
   pub from : Pp
   pub its : copy_at (copies_in core.descriptor c.lv c.lp) c.copy ≡ Some from
@@ -184,7 +185,7 @@ pub record IsMove (core : Core) (c : OpenCopy) : Type 0 where
   -- it counts as stale since the session began, so that staleness that is wanted of it needs no fault
   pub called : calls_stale core.origin.table c.pp ≡ true
   pub clear : is_running c ≡ true → is_whole core c ≡ true → is_wanted_stale core c.pp ≡ false
-  pub fresh : is_running c ≡ true → list_any (stays_fresh core) (copies_in core.descriptor c.lv c.lp) ≡ true
+  pub fresh : list_any (stays_fresh core) (copies_in core.descriptor c.lv c.lp) ≡ true
 
 -- what holds of it by what it is
 abbrev pub IsOfKind : Bool → Core → OpenCopy → Type 0

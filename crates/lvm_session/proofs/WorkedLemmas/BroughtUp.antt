@@ -111,6 +111,7 @@ copies_are_sound m =
       origin = record {
         since = no_fault m;
         votes = votes m;
+        rows = λ disk. refl;
         still_missing = λ disk is. not_so (sym (none_missing true disk) ∙ is);
         missing = λ disk is. inl is;
         stale = λ p is. inl (thrice_holds (calls_stale (status_of behind) p) is);

@@ -120,7 +120,7 @@ request =
     (record {
       shape = shaped (record { copy = refl; sector = refl; there = refl }, (record { copy = refl; sector = refl; there = refl }, tt)) (omega arith, λ write. refl) refl tt differ (λ past. refl) (λ read. not_either read);
       ready = record { free = λ past. refl; recorded = inl refl; wanted = λ past two. refl; named = λ has two. refl; dirty = λ has two. refl };
-      judged = λ write. record { uncaught = (refl, (refl, tt)); due = λ waits. not_so waits; all = λ begun p among. or_left _ among; place = λ begun p among. not_so among };
+      judged = λ write. record { uncaught = (refl, (refl, tt)); due = λ waits. not_so waits; missed = λ waits. not_so waits; all = λ begun p among. or_left _ among; place = λ begun p among. not_so among };
     })
 
 first_caused : IsCaused faultless (core_of flying) (target_on first_copy stage.Flying)
@@ -176,4 +176,4 @@ goes_on = record {
 pub flying_writes_are_sound : FlyingWritesAreSound
 flying_writes_are_sound = let origin = true_to_origin mode.Active in
     sound_while_on _ refl (record { power = refl; freed = refl }) fits told (placed mode.Active (status_of fresh)) out (record { going = goes_on; rows = (record { ticket = refl; long = refl; disk = refl; own = its }, tt); caused = (λ waits. (first_caused, (second_caused, tt)), tt); chosen = tt })
-    (record { counted = ((record { began = first_counted.began; since = first_counted.since }, (record { began = second_counted.began; since = second_counted.since }, tt)), tt); answered = (tt, tt); copy = tt; origin = record { since = origin.since; votes = origin.votes; still_missing = origin.still_missing; missing = origin.missing; stale = origin.stale } })
+    (record { counted = ((record { began = first_counted.began; since = first_counted.since }, (record { began = second_counted.began; since = second_counted.since }, tt)), tt); answered = (tt, tt); copy = tt; origin = record { since = origin.since; votes = origin.votes; rows = origin.rows; still_missing = origin.still_missing; missing = origin.missing; stale = origin.stale } })

@@ -83,7 +83,7 @@ module _ (m : Mode) where
       there = refl;
       called = refl;
       clear = λ runs whole. not_so whole;
-      fresh = λ runs. refl;
+      fresh = refl;
     };
     cursor = omega arith;
     faults = refl;
@@ -142,7 +142,7 @@ open_goes m = record {
 open_is_sound : (m : Mode) → IsSound (state faultless (core_of (open_move m)))
 open_is_sound m = let origin = true_to_origin m in
     sound_while_on _ refl (record { power = refl; freed = refl }) (open_fits m) (open_told m) (placed m (status_of place_stale)) none_out (record { going = open_goes m; rows = tt; caused = tt; chosen = tt })
-    (record { counted = tt; answered = tt; copy = open_caused m; origin = record { since = origin.since; votes = origin.votes; still_missing = origin.still_missing; missing = origin.missing; stale = λ p is. none_wanted p is } })
+    (record { counted = tt; answered = tt; copy = open_caused m; origin = record { since = origin.since; votes = origin.votes; rows = origin.rows; still_missing = origin.still_missing; missing = origin.missing; stale = λ p is. none_wanted p is } })
 
 -- ---- all is copied
 
@@ -176,7 +176,7 @@ module _ (m : Mode) where
       there = refl;
       called = refl;
       clear = λ runs whole. refl;
-      fresh = λ runs. refl;
+      fresh = refl;
     };
     cursor = omega arith;
     faults = refl;
@@ -244,7 +244,7 @@ whole_goes m = record {
 whole_is_sound : (m : Mode) → IsSound (state faultless (core_of (whole_move m)))
 whole_is_sound m = let origin = true_to_origin m in
     sound_while_on _ refl (record { power = refl; freed = refl }) (whole_fits m) (whole_told m) (placed m (status_of place_stale)) none_out (record { going = whole_goes m; rows = tt; caused = tt; chosen = tt })
-    (record { counted = tt; answered = tt; copy = whole_caused m; origin = record { since = origin.since; votes = origin.votes; still_missing = origin.still_missing; missing = origin.missing; stale = λ p is. none_wanted p is } })
+    (record { counted = tt; answered = tt; copy = whole_caused m; origin = record { since = origin.since; votes = origin.votes; rows = origin.rows; still_missing = origin.still_missing; missing = origin.missing; stale = λ p is. none_wanted p is } })
 
 -- ---- it has ended
 
@@ -278,7 +278,7 @@ module _ (m : Mode) where
       there = refl;
       called = refl;
       clear = λ runs whole. not_so whole;
-      fresh = λ runs. refl;
+      fresh = refl;
     };
     cursor = omega arith;
     faults = refl;
@@ -333,7 +333,7 @@ ended_goes m = record {
 ended_is_sound : (m : Mode) → IsSound (state third_fails (core_of (ended_move m)))
 ended_is_sound m = let origin = true_to_origin m in
     sound_while_on _ refl (record { power = refl; freed = refl }) (ended_fits m) (ended_told m) (placed m (status_of place_stale)) none_out (record { going = ended_goes m; rows = tt; caused = tt; chosen = tt })
-    (record { counted = tt; answered = tt; copy = ended_caused m; origin = record { since = λ disk. let none = zeros_at 128 disk in omega (arith, none); votes = origin.votes; still_missing = origin.still_missing; missing = λ disk is. inl is; stale = λ p is. none_wanted p is } })
+    (record { counted = tt; answered = tt; copy = ended_caused m; origin = record { since = λ disk. let none = zeros_at 128 disk in omega (arith, none); votes = origin.votes; rows = origin.rows; still_missing = origin.still_missing; missing = λ disk is. inl is; stale = λ p is. none_wanted p is } })
 
 pub moves_are_sound : MovesAreSound
 moves_are_sound m = record { open_is = open_is_sound m; whole_is = whole_is_sound m; ended_is = ended_is_sound m; done = whole_done m; waits = whole_waits m }

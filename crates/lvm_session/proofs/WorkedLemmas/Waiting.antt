@@ -70,7 +70,7 @@ request =
     (record {
       shape = shaped (record { copy = refl; sector = refl; there = refl }, (record { copy = refl; sector = refl; there = refl }, tt)) (refl, refl, refl, omega arith) refl tt differ (λ past. refl) (λ read. not_either read);
       ready = record { free = λ past. refl; recorded = tt; wanted = λ past two. refl; named = λ has two. not_so has; dirty = λ has two. not_so has };
-      judged = λ write. record { uncaught = (refl, (refl, tt)); due = λ waits. not_so waits; all = λ begun. not_so begun; place = λ begun. not_so begun };
+      judged = λ write. record { uncaught = (refl, (refl, tt)); due = λ waits. not_so waits; missed = λ waits. not_so waits; all = λ begun. not_so begun; place = λ begun. not_so begun };
     })
 
 first_caused : IsCaused faultless (core_of waiting) (target_on first_copy stage.Waiting)
@@ -116,7 +116,7 @@ goes_on = record {
 is_sound : IsSound (state faultless (core_of waiting))
 is_sound = let origin = true_to_origin mode.Active in
     sound_while_on _ refl (record { power = refl; freed = refl }) fits told (placed mode.Active (status_of fresh)) none_out (record { going = goes_on; rows = tt; caused = (λ waits. (first_caused, (second_caused, tt)), tt); chosen = tt })
-    (record { counted = ((record { began = first_counted.began; since = first_counted.since }, (record { began = second_counted.began; since = second_counted.since }, tt)), tt); answered = (tt, tt); copy = tt; origin = record { since = origin.since; votes = origin.votes; still_missing = origin.still_missing; missing = origin.missing; stale = origin.stale } })
+    (record { counted = ((record { began = first_counted.began; since = first_counted.since }, (record { began = second_counted.began; since = second_counted.since }, tt)), tt); answered = (tt, tt); copy = tt; origin = record { since = origin.since; votes = origin.votes; rows = origin.rows; still_missing = origin.still_missing; missing = origin.missing; stale = origin.stale } })
 
 pins_next : pinning (core_of waiting) ≡ Some (event.Pin 0)
 unfolding votes_by has_bit has

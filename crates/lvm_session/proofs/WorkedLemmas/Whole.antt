@@ -98,6 +98,7 @@ unfolding votes_by has_bit has
 true_to_origin m = record {
   since = no_fault m;
   votes = refl;
+  rows = λ disk. refl;
   still_missing = λ disk is. none_missing_at_first disk is;
   missing = λ disk is. inl is;
   stale = λ p is. inl (thrice_holds (calls_stale (status_of fresh) p) is);
@@ -166,7 +167,7 @@ module _ (m : Mode) where
       (record {
         shape = shaped tt (refl, refl) refl tt (λ i j d below within. absurd (omega (arith, below, within))) (λ past. not_so past) (λ read. not_either read);
         ready = record { free = λ past. not_so past; recorded = unrecorded m; wanted = λ past two. not_so past; named = λ has two. not_so has; dirty = λ has two. not_so has };
-        judged = λ write. record { uncaught = tt; due = λ waits. not_so waits; all = λ begun. not_so begun; place = λ begun. not_so begun };
+        judged = λ write. record { uncaught = tt; due = λ waits. not_so waits; missed = λ waits. not_so waits; all = λ begun. not_so begun; place = λ begun. not_so begun };
       })
 
 held_numbers : (m : Mode) → 3 + updates_left (core_of (held_write m)) < 2 ^ 32
@@ -197,4 +198,4 @@ held_goes_on m = record {
 pub held_writes_are_sound : HeldWritesAreSound
 held_writes_are_sound m = let origin = true_to_origin m in
     sound_while_on _ refl (record { power = refl; freed = refl }) (held_fits m) (held_is_told m) (placed m (status_of fresh)) none_out (record { going = held_goes_on m; rows = tt; caused = (λ waits. tt, tt); chosen = tt })
-    (record { counted = (tt, tt); answered = (tt, tt); copy = tt; origin = record { since = origin.since; votes = origin.votes; still_missing = origin.still_missing; missing = origin.missing; stale = origin.stale } })
+    (record { counted = (tt, tt); answered = (tt, tt); copy = tt; origin = record { since = origin.since; votes = origin.votes; rows = origin.rows; still_missing = origin.still_missing; missing = origin.missing; stale = origin.stale } })
