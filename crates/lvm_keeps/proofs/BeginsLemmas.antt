@@ -8,7 +8,7 @@ use Rattle.lvm_num.specs.declared.status.Status.{Status}
 use Rattle.lvm_num.specs.Status.{calls_stale, calls_missing}
 use Rattle.lvm_num.proofs.Booleans.{not_so}
 use Rattle.lvm_num.proofs.Lists.{none_out, all_of_none, if_none, any_as}
-use Rattle.lvm_session.specs.passed.Names.{Flight}
+use Rattle.lvm_session.specs.passed.Names.{Flight, HasItsRows}
 use Rattle.lvm_mwc.specs.Entries.{pins_of}
 use Rattle.lvm_mwc.specs.declared.entries.CacheEntry.{CacheEntry}
 use Rattle.lvm_session.specs.declared.bringing.OpenCopy.{OpenCopy}
@@ -140,6 +140,7 @@ module _ (s : State) (first : Begins s) where
     origin = record {
       since = first.faults;
       votes = first.votes;
+      rows = subst (HasItsRows core.descriptor) first.calm.wanted first.fitting.rows;
       still_missing = λ disk is. ap (λ (t : Status). calls_missing t disk) first.calm.wanted ∙ is;
       missing = λ disk is. inl (sym (ap (λ (t : Status). calls_missing t disk) first.calm.wanted) ∙ is);
       stale = λ p is. inl (by (is_held_stale core p) (is_wanted_stale core p) (calls_stale core.origin.table p) (held_as p) (wanted_as p) is);

@@ -77,7 +77,7 @@ module _ (s now : State) (same : grounds s ≡ grounds now) where
   -- where the update in flight stays as well
   pub origin_still : s.core.status.in_flight ≡ now.core.status.in_flight → IsTrueToOrigin s → IsTrueToOrigin now
   origin_still flies its = subst (λ (g : Grounds). IsTrueToOrigin (on now g)) same
-      (subst (λ (m : Option Status). IsTrueToOrigin (with_flight m)) flies (record { since = its.since; votes = its.votes; still_missing = its.still_missing; missing = its.missing; stale = its.stale }))
+      (subst (λ (m : Option Status). IsTrueToOrigin (with_flight m)) flies (record { since = its.since; votes = its.votes; rows = its.rows; still_missing = its.still_missing; missing = its.missing; stale = its.stale }))
     where
       with_flight : Option Status → State
       with_flight m = state (on now (grounds s)).device (record (on now (grounds s)).core { status = record (on now (grounds s)).core.status { in_flight = m } })

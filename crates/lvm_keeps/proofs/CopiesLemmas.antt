@@ -180,6 +180,7 @@ module _ (copies : CopiesAreSound) (m : Mode) where
         origin = record {
           since = o.since;
           votes = o.votes;
+          rows = o.rows;
           still_missing = λ disk is. none_missing_behind disk is;
           missing = λ disk is. none_missing disk is;
           stale = λ p is. inl (from_any (calls_stale (status_of behind) p) (calls_stale (status_of fresh) p) (none_stale p) is);
@@ -339,6 +340,7 @@ module _ (copies : CopiesAreSound) (m : Mode) where
         origin = record {
           since = λ disk. let none = zeros_at 128 disk in omega (arith, none);
           votes = o.votes;
+          rows = o.rows;
           still_missing = λ disk is. none_missing_behind disk is;
           missing = λ disk is. inr (second_since m disk (only_second disk (which_missing false disk is)));
           stale = λ p is. inl (from_both (calls_stale (status_of behind) p) (calls_stale (status_of fresh) p) (none_stale p) is);

@@ -118,7 +118,7 @@ module _ (held : HeldWritesAreSound) (committed : Says) (flies : Option Says) (w
       (record {
         shape = shaped (record { copy = refl; sector = refl; there = refl }, (record { copy = refl; sector = refl; there = refl }, tt)) (refl, ap (λ t. t && true) over) refl tt (differ first) (λ past. refl) (λ read. not_either read);
         ready = record { free = λ past. refl; recorded = (refl, refl, refl); wanted = λ past two. refl; named = λ has two. refl; dirty = λ has two. refl };
-        judged = λ write. record { uncaught = (none_caught _, (refl, tt)); due = λ waits. due; all = λ begun p among. or_left _ among; place = λ begun p among. not_so among };
+        judged = λ write. record { uncaught = (none_caught _, (refl, tt)); due = λ waits. due; missed = λ waits. (refl, (refl, tt)); all = λ begun p among. or_left _ among; place = λ begun p among. not_so among };
       })
     where
       none_caught : (a : Bool) → a && false ≡ false
@@ -242,6 +242,7 @@ module _ (held : HeldWritesAreSound) where
   unsettled_origin = let o = (held mode.Off).origin in record {
     since = λ disk. let none = zeros_at 128 disk in omega (arith, none);
     votes = o.votes;
+    rows = o.rows;
     still_missing = λ disk is. none_missing disk is;
     missing = λ disk is. none_missing_behind disk is;
     stale = λ p is. inr (inr (second_failed unsettled.device refl fresh (Some behind) unsettled.core.status.writes stage.Done p.disk (stale_there p (second_of_three (calls_stale (status_of fresh) p) (calls_stale (status_of behind) p) (none_stale p) is))));
@@ -277,6 +278,7 @@ module _ (held : HeldWritesAreSound) where
   kept_origin = let o = (held mode.Off).origin in record {
     since = λ disk. let none = zeros_at 128 disk in omega (arith, none);
     votes = o.votes;
+    rows = o.rows;
     still_missing = λ disk is. none_missing disk is;
     missing = λ disk is. none_missing_behind disk is;
     stale = λ p is. inr (inr (second_failed kept.device refl behind None no_writes stage.Done p.disk (stale_there p (thrice_holds (calls_stale (status_of behind) p) is))));
@@ -312,6 +314,7 @@ module _ (held : HeldWritesAreSound) where
   lost_origin = let o = (held mode.Off).origin in record {
     since = λ disk. let none = zeros_at 128 disk in omega (arith, none);
     votes = o.votes;
+    rows = o.rows;
     still_missing = λ disk is. none_missing disk is;
     missing = λ disk is. none_missing_behind disk is;
     stale = λ p is. inr (inr (second_failed lost_on_both.device refl behind None no_writes stage.Failed p.disk (stale_there p (thrice_holds (calls_stale (status_of behind) p) is))));

@@ -103,7 +103,7 @@ module _ (core now : Core) (c : OpenCopy) (st : Step) (tried : ℕ) (end : Optio
   -- What it is stays, where its marks are such, and some copy beside a move stays fresh.
   pub kind_by : now.descriptor ≡ core.descriptor → now.origin.table ≡ core.origin.table
       → (IsStaleCopy core c → (is_running stepped ≡ true → is_whole now stepped ≡ false → (is_settled now c.pp ≡ true) × (is_wanted_stale now c.pp ≡ true)) × (is_running stepped ≡ true → is_whole now stepped ≡ true → (is_stale now c.pp ≡ true) × (is_wanted_stale now c.pp ≡ false)))
-      → (IsMove core c → (is_running stepped ≡ true → is_whole now stepped ≡ true → is_wanted_stale now c.pp ≡ false) × (is_running stepped ≡ true → list_any (stays_fresh now) (copies_in now.descriptor c.lv c.lp) ≡ true))
+      → (IsMove core c → (is_running stepped ≡ true → is_whole now stepped ≡ true → is_wanted_stale now c.pp ≡ false) × (list_any (stays_fresh now) (copies_in now.descriptor c.lv c.lp) ≡ true))
       → (b : Bool) → IsOfKind b core c → IsOfKind b now stepped
   kind_by same origin stale clear false k = record { its = ap (λ (d : Descriptor). copy_at (copies_in d c.lv c.lp) c.copy) same ∙ k.its; stale = (stale k).0; clearing = (stale k).1 }
   kind_by same origin stale clear true k = record {
@@ -120,9 +120,10 @@ module _ (core now : Core) (c : OpenCopy) (st : Step) (tried : ℕ) (end : Optio
     fresh = (clear k).1;
   }
 
-  -- what has ended claims no more of a status
-  pub kind_over : now.descriptor ≡ core.descriptor → now.origin.table ≡ core.origin.table → is_running stepped ≡ false → (b : Bool) → IsOfKind b core c → IsOfKind b now stepped
-  kind_over same origin over = kind_by same origin (λ k. (λ goes e. no goes, λ goes e. no goes)) (λ k. (λ goes e. no goes, λ goes. no goes))
+  -- what has ended claims no more of a status than that some copy beside a move stays fresh
+  pub kind_over : now.descriptor ≡ core.descriptor → now.origin.table ≡ core.origin.table → is_running stepped ≡ false
+      → (list_any (stays_fresh core) (copies_in core.descriptor c.lv c.lp) ≡ true → list_any (stays_fresh now) (copies_in now.descriptor c.lv c.lp) ≡ true) → (b : Bool) → IsOfKind b core c → IsOfKind b now stepped
+  kind_over same origin over fresh = kind_by same origin (λ k. (λ goes e. no goes, λ goes e. no goes)) (λ k. (λ goes e. no goes, fresh k.fresh))
     where
       no : {X : Type 0} → is_running stepped ≡ true → X
       no goes = absurd (let e : true ≡ false = sym goes ∙ over in cc e)
@@ -147,7 +148,7 @@ module _ (core now : Core) (c : OpenCopy) (st : Step) (tried : ℕ) (end : Optio
         there = k.there;
         called = k.called;
         clear = λ goes all. k.clear (runs goes) all;
-        fresh = λ goes. k.fresh (runs goes);
+        fresh = k.fresh;
       }
 
 -- it goes on by the same step, where nothing is in its way and its marks hold
@@ -188,6 +189,7 @@ module _ (core : Core) (history : Log) (requests : List Open) (queue : Waiting) 
       due = λ status. most_on (count_by (is_failed_and_sure core) o.request.targets.items) (is_kept core o.request) (will_be_kept core o.request) (will_be_kept changed o.request)
           (none_on (λ (t : Target). is_done t.state && is_caught core (group_in core o.request.ask) t.pp) (λ (t : Target). is_done t.state && is_caught changed (group_in core o.request.ask) t.pp)
           (λ t. and_on (is_done t.state) (is_caught core (group_in core o.request.ask) t.pp) (is_caught changed (group_in core o.request.ask) t.pp) (caught t.pp)) o.request.targets.items) (j.due status);
+      missed = j.missed;
       all = λ begun p among. left_on (is_among (pps_of o.request.targets.items) p) (is_settled core p) (is_wanted_stale core p) (is_caught core (group_in core o.request.ask) p) (is_caught changed (group_in core o.request.ask) p) (caught p) (j.all begun p among);
       place = λ begun p among.
           let its = among_filtered (is_caught changed (group_in core o.request.ask)) (places_for changed o.request.ask) p among in
@@ -225,7 +227,7 @@ module _ (s : State) (history : Log) (requests : List Open) (queue : Waiting) (c
   counted_on t its = record { began = its.began; since = its.since }
 
   pub origin_on : IsTrueToOrigin s → IsTrueToOrigin moved
-  origin_on its = record { since = its.since; votes = its.votes; still_missing = its.still_missing; missing = its.missing; stale = its.stale }
+  origin_on its = record { since = its.since; votes = its.votes; rows = its.rows; still_missing = its.still_missing; missing = its.missing; stale = its.stale }
 
   pub copy_on : (copies : List Pp) (c : OpenCopy) → IsCausedAmong s copies c → IsCausedAmong moved copies c
   copy_on copies c its = record { began = its.began; since = its.since; tried = its.tried; own_began = its.own_began; own_since = its.own_since; failed = λ e. sources_on (its.failed e) }

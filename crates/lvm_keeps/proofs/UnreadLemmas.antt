@@ -116,7 +116,7 @@ module _ (writes : HeldWritesAreSound) (m : Mode) where
     waits = λ e. let w = r.waits e in record {
       shape = record { targets = tt; phase_is = w.shape.phase_is; hand = w.shape.hand; room = tt; differ = w.shape.differ; usable = w.shape.usable; one = w.shape.one };
       ready = record { free = w.ready.free; recorded = w.ready.recorded; wanted = λ past two. not_so past; named = λ has two. not_so has; dirty = λ has two. not_so has };
-      judged = λ write. record { uncaught = tt; due = λ waits. not_so waits; all = λ begun. not_so begun; place = λ begun. not_so begun };
+      judged = λ write. record { uncaught = tt; due = λ waits. not_so waits; missed = λ waits. not_so waits; all = λ begun. not_so begun; place = λ begun. not_so begun };
     };
     over = λ e. not_either e;
     still = λ e. not_either e;
@@ -151,6 +151,7 @@ module _ (writes : HeldWritesAreSound) (m : Mode) where
         origin = record {
           since = λ disk. let none = zeros_at 128 disk in omega (arith, none);
           votes = votes m;
+          rows = λ disk. refl;
           still_missing = λ disk is. none_missing_behind disk is;
           missing = λ disk is. inr (first_since m disk (only_first disk is));
           stale = λ p is. inl (thrice_holds (calls_stale (status_of behind) p) is);
@@ -266,6 +267,7 @@ module _ (writes : HeldWritesAreSound) (m : Mode) where
         origin = record {
           since = λ disk. let none = zeros_at 128 disk in omega (arith, none);
           votes = o.votes;
+          rows = o.rows;
           still_missing = λ disk is. none_missing disk is;
           missing = λ disk is. none_missing disk is;
           stale = λ p is. not_so (sym (none_stale p) ∙ thrice_holds (calls_stale (status_of fresh) p) is);

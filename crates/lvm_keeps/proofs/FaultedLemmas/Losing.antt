@@ -114,7 +114,7 @@ module _ (held : HeldWritesAreSound) (m : Mode) where
         waits = λ e. let w = r.waits e in record {
           shape = record { targets = tt; phase_is = w.shape.phase_is; hand = w.shape.hand; room = tt; differ = w.shape.differ; usable = w.shape.usable; one = w.shape.one };
           ready = record { free = w.ready.free; recorded = w.ready.recorded; wanted = λ past two. not_so past; named = λ has two. not_so has; dirty = λ has two. not_so has };
-          judged = λ write. record { uncaught = tt; due = λ waits. not_so waits; all = λ begun. not_so begun; place = λ begun. not_so begun };
+          judged = λ write. record { uncaught = tt; due = λ waits. not_so waits; missed = λ waits. not_so waits; all = λ begun. not_so begun; place = λ begun. not_so begun };
         };
         over = λ e. not_either e;
         still = λ e. not_either e;
@@ -134,6 +134,7 @@ module _ (held : HeldWritesAreSound) (m : Mode) where
   is_true = let o = origin held m true in record {
     since = o.since;
     votes = o.votes;
+    rows = o.rows;
     still_missing = o.still_missing;
     missing = o.missing;
     stale = λ p is. inr (inl (is_missing_so true p.disk (inl (stale_there true p (second_of_three (calls_stale (status_of fresh) p) (calls_stale (without_disks true) p) (none_stale p) is)))));

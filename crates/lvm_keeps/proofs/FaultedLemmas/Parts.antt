@@ -145,7 +145,7 @@ module _ (held : HeldWritesAreSound) (m : Mode) (both : Bool) where
     waits = λ e. let w = r.waits e in record {
       shape = record { targets = tt; phase_is = w.shape.phase_is; hand = w.shape.hand; room = tt; differ = w.shape.differ; usable = w.shape.usable; one = w.shape.one };
       ready = record { free = w.ready.free; recorded = w.ready.recorded; wanted = λ past two. not_so past; named = λ has two. not_so has; dirty = λ has two. not_so has };
-      judged = λ write. record { uncaught = tt; due = λ waits. not_so waits; all = λ begun. not_so begun; place = λ begun. not_so begun };
+      judged = λ write. record { uncaught = tt; due = λ waits. not_so waits; missed = λ waits. not_so waits; all = λ begun. not_so begun; place = λ begun. not_so begun };
     };
     over = λ e. not_either e;
     still = λ e. not_either e;
@@ -155,6 +155,7 @@ module _ (held : HeldWritesAreSound) (m : Mode) (both : Bool) where
   origin = let o = before.origin in record {
     since = λ disk. let none = zeros_at 128 disk in omega (arith, none);
     votes = o.votes;
+    rows = o.rows;
     still_missing = λ disk is. none_missing disk is;
     missing = λ disk is. inr (since disk (failed both disk (which_missing both disk is)));
     stale = λ p is. inr (inl (is_missing_so both p.disk (inl (stale_there both p (wanted (calls_stale (status_of fresh) p) _ (none_stale p) is)))));

@@ -186,7 +186,7 @@ module _ (s : State) (sound : IsSound s) where
             (sym (ap (λ (m : Option Status). (a || calls_stale (unwrap_or m core.status.committed) p) || is_wanted_stale core p) new.1) ∙ is_so)
 
     origin : IsTrueToOrigin now
-    origin = let was = sound.origin in record { since = was.since; votes = was.votes; still_missing = was.still_missing; missing = was.missing; stale = λ p is. was.stale p (stale_before p is) }
+    origin = let was = sound.origin in record { since = was.since; votes = was.votes; rows = was.rows; still_missing = was.still_missing; missing = was.missing; stale = λ p is. was.stale p (stale_before p is) }
 
     keeps : IsSound now
     keeps = record {

@@ -165,7 +165,7 @@ module _ (s : State) (sound : IsSound s) (on : s.core.power ≡ power.On) (place
     waits = λ w. let r = it.waits w in let b = r.ready in record {
       shape = shape_still core now.core refl (λ ask. refl) x r.shape;
       ready = record { free = b.free; recorded = b.recorded; wanted = b.wanted; named = λ has two. named_on x keep (mode_for core x.request.ask) b.recorded has two (b.named has two); dirty = b.dirty };
-      judged = λ write. let j = r.judged write in record { uncaught = j.uncaught; due = j.due; all = j.all; place = j.place };
+      judged = λ write. let j = r.judged write in record { uncaught = j.uncaught; due = j.due; missed = j.missed; all = j.all; place = j.place };
     };
     over = it.over;
     still = it.still;

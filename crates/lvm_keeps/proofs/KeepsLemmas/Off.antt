@@ -120,7 +120,7 @@ module _ (s : State) (sound : IsSound s) (on : s.core.power ≡ power.On) (lost 
       sources_on (inr all) = inr (record { each = all.each; number = all.number; source = all.source; source_is = all.source_is; other = all.other; one = all.one })
 
   origin : IsTrueToOrigin now
-  origin = let was = sound.origin in record { since = was.since; votes = was.votes; still_missing = was.still_missing; missing = was.missing; stale = was.stale }
+  origin = let was = sound.origin in record { since = was.since; votes = was.votes; rows = was.rows; still_missing = was.still_missing; missing = was.missing; stale = was.stale }
 
   pub keeps : IsSound now
   keeps = record {

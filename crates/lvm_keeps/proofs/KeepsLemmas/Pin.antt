@@ -155,7 +155,7 @@ module _ (s : State) (sound : IsSound s) (on : s.core.power ≡ power.On) (place
             named = λ has two. not_so has;
             dirty = λ has two. not_so has;
           };
-          judged = λ write. let j = r.judged write in record { uncaught = j.uncaught; due = λ status. not_so status; all = j.all; place = j.place };
+          judged = λ write. let j = r.judged write in record { uncaught = j.uncaught; due = λ status. not_so status; missed = λ status. not_so status; all = j.all; place = j.place };
         };
         over = λ e. absurd (not_so (sym e ∙ waits));
         still = λ e. absurd (not_so (sym e ∙ waits));

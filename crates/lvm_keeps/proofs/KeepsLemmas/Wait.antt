@@ -51,7 +51,7 @@ module _ (s : State) (waits : ℕ) (orders : Orders) where
     counted = all_weaker (AreCounted s) (AreCounted waited) (λ o all. all_weaker (IsCounted s) (IsCounted waited) (λ t its. record { began = its.began; since = its.since }) o.request.targets.items all) s.core.requests sound.counted;
     answered = all_weaker (IsAnswered s) (IsAnswered waited) (λ o why. if_on (IsLandedFor s o) (IsLandedFor waited o) (landed_on o) o.landed why) s.core.requests sound.answered;
     copy = if_on (λ (c : OpenCopy). IsCausedAmong s (copies_in s.core.descriptor c.lv c.lp) c) (λ (c : OpenCopy). IsCausedAmong waited (copies_in s.core.descriptor c.lv c.lp) c) (λ c. copy_on (copies_in s.core.descriptor c.lv c.lp) c) s.core.copy sound.copy;
-    origin = let was = sound.origin in record { since = was.since; votes = was.votes; still_missing = was.still_missing; missing = was.missing; stale = was.stale };
+    origin = let was = sound.origin in record { since = was.since; votes = was.votes; rows = was.rows; still_missing = was.still_missing; missing = was.missing; stale = was.stale };
   }
 
 pub wait_keeps : WaitKeeps
