@@ -27,7 +27,7 @@ use Rattle.lvm_status.specs.Update.{seen}
 use Rattle.lvm_status.specs.declared.writes.Writes.{Writes}
 use Rattle.lvm_session.specs.Bringing.{copy_ends, end_of, has_row, is_whole, step_row, with_back, with_copy_end}
 use Rattle.lvm_session.specs.Enabled.{same_status}
-use Rattle.lvm_session.specs.Judging.{copies_for, copies_in, group_in, held_of, is_caught, is_kept, is_missing, is_running, is_settled, is_stale, is_sure, is_sure_at, is_waiting, is_wanted_stale, lp_of, place_aims, place_of, places_for, pps_of}
+use Rattle.lvm_session.specs.Judging.{copies_for, copies_in, group_in, held_of, is_caught, is_kept, is_missing, is_running, is_settled, is_stale, is_sure, is_sure_at, is_waiting, is_wanted_stale, lp_of, place_of, places_for, pps_of}
 use Rattle.lvm_session.specs.State.{Core, state, State}
 use Rattle.lvm_session.specs.declared.bringing.CopyEnd.TheVariants as ending
 use Rattle.lvm_session.specs.declared.bringing.OpenCopy.{OpenCopy}
@@ -43,7 +43,7 @@ use Rattle.lvm_session.specs.Marks.{due_of, due_targets, hits_copy, is_among}
 use Rattle.lvm_session.specs.Causes.{AreCaused, AreCounted, FailedSince, FailedSinceOpening, fails_on, faults_at_first, faults_at_opening, own_faults, OwnFailedSinceOpening, HasFailed, HaveSourcesFailed, is_blamed, is_held_stale, IsAnswered, IsCaused, IsChosenSince, IsCausedAmong, IsCounted, IsLandedFor, IsTrueToOrigin}
 use Rattle.lvm_session.specs.Left.{copy_updates, if_so, marks_later}
 use Rattle.lvm_session.specs.Owners.{AreOwned, flies, IsDataOf, IsTransferOf, same_owner}
-use Rattle.lvm_session.specs.Requests.{IsAimed, is_left_out, is_wanted_due, IsJudged, IsOpenOne, IsRequest, IsShaped, IsTarget, may_lack, wants_status, will_be_kept}
+use Rattle.lvm_session.specs.Requests.{IsAimed, is_left_out, is_wanted_due, IsJudged, IsMarkedPlace, IsOpenOne, IsRequest, IsShaped, IsTarget, may_lack, wants_status, will_be_kept}
 use Rattle.lvm_session.specs.Sound.{count_if, has_number, is_clearing, is_dark, is_hand, IsAsked, IsCopy, IsFitting, IsGoing, IsOn, IsSound, IsTold, may_be_fresh, out_with, pins, stays_fresh, with_row}
 use Rattle.lvm_keeps.proofs.CausesLemmas.{answered_when_on}
 use Rattle.lvm_keeps.proofs.DarkLemmas.Ending.{back, back_long}
@@ -61,7 +61,7 @@ use Rattle.lvm_keeps_events.proofs.OnePlace.{one_lp, among_at}
 use Rattle.lvm_keeps_events.proofs.EndsLemmas.CopyReadFail.{by_place, of_place}
 use Rattle.lvm_keeps_events.proofs.EndsLemmas.Counts.{counts_keep, rose_since}
 use Rattle.lvm_keeps_events.proofs.OwnersLemmas.Removal.{as_many, count_taken, none_left, others, rows_left, tickets_left}
-use Rattle.lvm_keeps_events.proofs.JudgingLemmas.DuesMarks.{among_get, due_one, is_sure_done, is_sure_target, IsDueOne, IsSpared, left_due, on_one, own_pp, pp_same, spared}
+use Rattle.lvm_keeps_events.proofs.JudgingLemmas.DuesMarks.{among_get, due_one, is_sure_done, is_sure_target, IsDueOne, IsSpared, left_due, left_missed, on_one, own_pp, pp_same, spared}
 use Rattle.lvm_keeps_events.proofs.JudgingLemmas.Entailing.{IsEntailed}
 use Rattle.lvm_keeps_events.proofs.SoundLemmas.Failing.{LeavesParts, one_on as one_beside, parted, rows_on as rows_beside}
 use Rattle.lvm_keeps_events.proofs.RequestsLemmas.{asked_now, begun_so, failed_badly, in_data, laid, learnt, none_done, none_flies, others_fly, past, ready, request, shape, told, waits, was_flying}
@@ -237,6 +237,7 @@ module _ (old : State) (sound : IsSound old) (on : old.core.power ≡ power.On) 
       uncaught = all_set (λ (t : Target). may_lack o t && is_caught core (group_in core ask) t.pp ≡ false) (λ (t : Target). may_lack x t && is_caught mid (group_in core ask) t.pp ≡ false)
           (λ t is. and_on (may_lack o t) (is_caught core (group_in core ask) t.pp) (is_caught mid (group_in core ask) t.pp) (left.caught (group_in core ask) t.pp) is) targets target ended (uncaught_aim write) j.uncaught;
       due = λ status. due_so (is_write ask && are_over now_targets) refl status;
+      missed = λ status. missed_so (is_write ask && are_over now_targets) refl status;
       all = λ begun p among. left_staler mid due wanted writes like x p
           (left_on (is_among (pps_of now_targets) p) (is_settled core p) (is_wanted_stale core p) (is_caught core (group_in core ask) p) (is_caught mid (group_in core ask) p) (left.caught (group_in core ask) p)
           (ap (λ ps. is_among ps p || is_left_out core ask p) (pps_set targets target aim (end_state ok) aim_is) ∙ j.all (begun_so core going place target o there aim aim_is at row row_there own ok buf long) p among));
@@ -260,9 +261,17 @@ module _ (old : State) (sound : IsSound old) (on : old.core.power ≡ power.On) 
             by false is = entailed.uncarried over none
             by true is = not_so (sym none ∙ kept_less mid due wanted writes like x.request is)
 
+        -- a write that goes on waits for no status
+        ended_not : {X : Type 0} → (is_write ask && are_over now_targets) ≡ false → wants_status o.request.phase ≡ true → X
+        ended_not over status = not_so (sym (ap wants_status (in_data core going place target o there aim aim_is at row row_there own ok buf long)) ∙ status)
+
         due_so : (b : Bool) → (is_write ask && are_over now_targets) ≡ b → wants_status (if b then phase.WantStatus else o.request.phase) ≡ true → is_wanted_due marked x.request ≡ true
         due_so true over status = left_due core x.request marked over (λ p among. unsure_by marked p (due_wanted mid due wanted writes like p (entailed.wants p among))) (none_kept over)
-        due_so false over status = not_so (sym (ap wants_status (in_data core going place target o there aim aim_is at row row_there own ok buf long)) ∙ status)
+        due_so false over status = ended_not over status
+
+        missed_so : (b : Bool) → (is_write ask && are_over now_targets) ≡ b → wants_status (if b then phase.WantStatus else o.request.phase) ≡ true → AllByRecursion (IsMarkedPlace marked x.request) now_targets
+        missed_so true over status = left_missed core x.request marked over (λ p among. unsure_by marked p (due_wanted mid due wanted writes like p (entailed.wants p among)))
+        missed_so false over status = ended_not over status
 
     its_one : IsOpenOne after x
     its_one = record {
@@ -863,6 +872,7 @@ module _ (old : State) (sound : IsSound old) (on : old.core.power ≡ power.On) 
       origin = let before = sound_so.origin in record {
         since = before.since;
         votes = before.votes;
+        rows = before.rows;
         still_missing = λ d e. missing_same mid due wanted writes like d ∙ before.still_missing d e;
         missing = λ d e. before.missing d (sym (missing_same mid due wanted writes like d) ∙ e);
         stale = λ p e. of p (held_by mid due wanted writes like p e);

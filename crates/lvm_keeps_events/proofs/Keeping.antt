@@ -37,7 +37,7 @@ use Rattle.lvm_num.specs.Modes.{is_passive}
 use Rattle.lvm_num.proofs.Booleans.{not_so}
 use Rattle.lvm_num.proofs.Lists.{all_weaker, all_two}
 use Rattle.lvm_session.specs.Marks.{is_entailed}
-use Rattle.lvm_session.specs.Causes.{AreCaused, AreCounted, FailedSince, FailedSinceOpening, HasFailed, HaveSourcesFailed, IsAnswered, IsCaused, IsCausedAmong, IsCounted, IsTrueToOrigin, fails_on, faults_at_first, faults_at_opening, is_blamed, is_held_stale, OwnFailedSinceOpening, own_faults}
+use Rattle.lvm_session.specs.Causes.{AreCaused, AreCounted, FailedSince, FailedSinceOpening, HasFailed, HaveSourcesFailed, IsAnswered, IsCaused, IsCausedAmong, IsCounted, IsTrueToOrigin, fails_on, faults_at_first, is_blamed, is_held_stale, OwnFailedSinceOpening, own_faults}
 use Rattle.lvm_session.specs.Left.{clean_volumes, if_so, updates_left}
 use Rattle.lvm_session.specs.Owners.{AreOwned, AreRows, HaveTickets}
 use Rattle.lvm_session.specs.Sound.{IsCopy, IsFitting, IsGoing, IsOn, IsSound, IsTold, count_if, has_number, is_dark, out_with}
@@ -218,6 +218,7 @@ module _ (old : State) (sound : IsSound old) (on : old.core.power ≡ power.On) 
     origin = let was = sound_between.origin in record {
       since = was.since;
       votes = was.votes;
+      rows = was.rows;
       still_missing = λ d gone. missing_is e r d ∙ missing_on e d (was.still_missing d gone);
       missing = λ d gone. of_missing d (rise d (sym (missing_is e r d) ∙ gone));
       stale = λ p is. of_stale p (split (is_held_stale last p) (is_wanted_stale last p) is);

@@ -28,6 +28,8 @@ pub mod CallsLemmas
 pub mod Keeping
 pub mod StatusEndsLemmas
 pub mod UncaughtLemmas
+pub mod MissedLemmas
+pub mod MissingLemmas
 pub mod GeometryLemmas
 pub mod BeginLogLemmas
 pub mod SubmitKeepsLemmas

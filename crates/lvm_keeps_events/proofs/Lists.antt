@@ -33,6 +33,11 @@ module _ {A : Type 0} where
   all_true_at t (y ∷ xs) zero x all there = let same : y ≡ x = cc there in sym (ap t same) ∙ (both (t y) (list_all t xs) all).0
   all_true_at t (y ∷ xs) (suc k) x all there = all_true_at t xs k x (both (t y) (list_all t xs) all).1 there
 
+  -- what holds at each place holds of each
+  pub by_places : (P : A → Type 0) (xs : List A) → ((k : ℕ) (x : A) → slice_get xs k ≡ Some x → P x) → AllByRecursion P xs
+  by_places P [] each = tt
+  by_places P (x ∷ xs) each = (each zero x refl, by_places P xs (λ k y at. each (suc k) y at))
+
   -- none passes where none that is there does
   pub none_by : (t : A → Bool) (xs : List A) → ((k : ℕ) (x : A) → slice_get xs k ≡ Some x → t x ≡ false) → list_any t xs ≡ false
   none_by t [] none = refl

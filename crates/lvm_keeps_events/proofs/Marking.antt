@@ -51,6 +51,7 @@ use Rattle.lvm_keeps.proofs.Lists.{count_cons}
 use Rattle.lvm_keeps.proofs.OwnersLemmas.Rows.{rows_still}
 use Rattle.lvm_keeps.proofs.RequestsLemmas.{if_on, shape_still, copy_marked, same_next, kind_by}
 use Rattle.lvm_keeps.proofs.SoundLemmas.Whole.{sound_when_on}
+use Rattle.lvm_keeps_events.proofs.MissedLemmas.{missed_less}
 
 -- ---- tests that say the same of each
 
@@ -155,6 +156,7 @@ module _ (s : State) (sound : IsSound s) (on : s.core.power ≡ power.On) (lv : 
       judged = λ write. let j = r.judged write in record {
         uncaught = j.uncaught;
         due = λ status. due_same x.request ∙ j.due status;
+        missed = λ status. missed_less core now.core x.request (λ p sure. sym (sure_same p) ∙ sure) (j.missed status);
         all = λ begun p among. ap (λ b. is_among (pps_of x.request.targets.items) p || b) (out_same x.request.ask p) ∙ j.all begun p among;
         place = j.place;
       };
@@ -170,7 +172,7 @@ module _ (s : State) (sound : IsSound s) (on : s.core.power ≡ power.On) (lv : 
       (λ is. (λ runs short. let was = is.stale runs short in (was.0, wanted_same c.pp ∙ was.1), λ runs whole. let was = is.clearing runs whole in (was.0, wanted_same c.pp ∙ was.1)))
       (λ is. (
         λ runs whole. wanted_same c.pp ∙ is.clear runs whole,
-        λ runs. any_alike (stays_fresh now.core) (stays_fresh core) (λ p. ap (λ b. not (is_held_stale core p) && not b) (wanted_same p)) (copies_in core.descriptor c.lv c.lp) ∙ is.fresh runs,
+        any_alike (stays_fresh now.core) (stays_fresh core) (λ p. ap (λ b. not (is_held_stale core p) && not b) (wanted_same p)) (copies_in core.descriptor c.lv c.lp) ∙ is.fresh,
       )) c.moves k.kind)
 
   sources_same : (c : OpenCopy) → sources_of now.core c ≡ sources_of core c
@@ -349,6 +351,7 @@ module _ (s : State) (sound : IsSound s) (on : s.core.power ≡ power.On) (lv : 
   origin = let old = sound.origin in record {
     since = old.since;
     votes = old.votes;
+    rows = old.rows;
     still_missing = λ d e. missing_same d ∙ old.still_missing d e;
     missing = λ d e. old.missing d (sym (missing_same d) ∙ e);
     stale = λ p e. at_missing p (old.stale p (sym (held_or_wanted p) ∙ e));

@@ -329,7 +329,7 @@ module _ (s : State) (sound : IsSound s) (client : ℕ) (ask : Ask) (bytes : Opt
         named = λ has two. not_so has;
         dirty = λ has two. not_so has;
       };
-      judged = λ write. record { uncaught = tt; due = λ status. not_so status; all = λ goes p among. not_so goes; place = λ goes p among. not_so goes };
+      judged = λ write. record { uncaught = tt; due = λ status. not_so status; missed = λ status. not_so status; all = λ goes p among. not_so goes; place = λ goes p among. not_so goes };
     };
     over = λ e. not_so (sym e);
     still = λ e. refl;

@@ -1,20 +1,18 @@
 -- A copy that has passed a target which succeeded has a sure copy beside it, which is a target that succeeded too.
-use Rattle.std.proofs.Common.{◌&&◌, ◌==◌, [], ap, arith, Bool, false, filter, if◌then◌else◌, length, List, nat_le, nat_lt, None, not, Option, refl, slice_get, Some, subst, sym, true, ◌||◌, ℕ, ◌-◌, ◌∙◌, ◌∷◌, ◌≡◌}
+use Rattle.std.proofs.Common.{◌&&◌, ◌==◌, [], ap, Bool, false, filter, if◌then◌else◌, length, List, nat_lt, None, not, Option, refl, slice_get, Some, subst, sym, true, ◌||◌, ℕ, ◌-◌, ◌∙◌, ◌∷◌, ◌≡◌}
 use Rattle.std.specs.List.{list_any}
 use Rattle.std.specs.Option.{option_map_or}
 use Rattle.std.specs.Prelude.{IfSome, count_by, unwrap_or}
 use Rattle.std.proofs.lemmas.Map.Keys.{any_passes_from_place}
-use Rattle.std.proofs.lemmas.Bool.Decides.{nat_tests}
 use Rattle.lvm_num.specs.declared.place.Pp.{Pp}
 use Rattle.lvm_num.specs.Status.{calls_stale}
 use Rattle.lvm_sched.specs.declared.writes.TargetState.{TargetState}
 use Rattle.lvm_sched.specs.declared.writes.TargetState.TheVariants as stage
 use Rattle.lvm_sched.specs.Writes.{is_waiting as target_waits}
 use Rattle.lvm_num.specs.Descriptor.{is_pp}
-use Rattle.lvm_num.proofs.Booleans.{not_so, not_either, first_fails}
+use Rattle.lvm_num.proofs.Booleans.{not_so, not_either}
 use Rattle.lvm_num.proofs.Lists.{all_at}
 use Rattle.lvm_path.specs.declared.request.Phase.{Phase}
-use Rattle.lvm_path.specs.declared.request.Phase.TheVariants as phase
 use Rattle.lvm_path.specs.declared.target.Target.{Target}
 use Rattle.lvm_path.specs.Asks.{is_write, lv_of}
 use Rattle.lvm_path.specs.Targets.{are_over, is_begun, is_done, is_failed, is_over}
@@ -26,7 +24,7 @@ use Rattle.lvm_session.specs.Judging.{copies_for, copies_in, group_in, is_caught
 use Rattle.lvm_session.specs.State.{Core}
 use Rattle.lvm_session.specs.Marks.{is_among}
 use Rattle.lvm_session.specs.Causes.{was_fresh}
-use Rattle.lvm_session.specs.Requests.{is_failed_and_sure, is_left_out, IsJudged, IsOpenOne, IsPhase, IsRequest, IsTarget, may_lack, wants_status, will_be_kept}
+use Rattle.lvm_session.specs.Requests.{is_failed_and_sure, is_left_out, IsJudged, IsOpenOne, IsPhase, IsRequest, IsTarget, wants_status}
 use Rattle.lvm_session.specs.Sound.{IsCopy, IsGoing, IsStaleCopy, may_be_fresh, stays_fresh}
 use Rattle.lvm_session.proofs.MovesLemmas.{move_of, stale_of}
 use Rattle.lvm_keeps.proofs.CacheLemmas.{no_place}
@@ -34,27 +32,11 @@ use Rattle.lvm_keeps.proofs.Small.{both}
 use Rattle.lvm_keeps_events.proofs.JudgingLemmas.OpenLp.{target_lp}
 use Rattle.lvm_keeps_events.proofs.EndsLemmas.CopyReadFail.{by_place, by_sources, is_here}
 use Rattle.lvm_keeps_events.proofs.JudgingLemmas.DuesMarks.{among_get, IsOn, on_one, pp_same}
-use Rattle.lvm_keeps_events.proofs.Lists.{all_and, all_true_at, and_false, any_on, found_at, none_of_zero, or_false, or_true}
+use Rattle.lvm_keeps_events.proofs.Lists.{all_and, all_true_at, and_false, any_on, found_at, or_false, or_true}
+use Rattle.lvm_keeps_events.proofs.MissedLemmas.{ends_phase, first_of, none_failed, well_done}
 use Rattle.lvm_keeps_events.specs.Uncaught.{LostIsUncaught}
 
 -- ---- small
-
-first_of : (a b : Bool) → a || b ≡ true → b ≡ false → a ≡ true
-first_of true b e other = refl
-first_of false b e other = not_so (sym other ∙ e)
-
-none_allowed : (n : ℕ) (a b : Bool) → b ≡ true → nat_le n (if a || b then 0 else 1) ≡ true → n ≡ 0
-none_allowed n true b is few = grind (arith, nat_tests, few)
-none_allowed n false true is few = grind (arith, nat_tests, few)
-none_allowed n false false is few = not_so is
-
-ends_phase : (p : Phase) → wants_status p ≡ true → p ≡ phase.WantStatus
-ends_phase phase.Held e = not_so e
-ends_phase phase.WantEntry e = not_so e
-ends_phase phase.WantRecord e = not_so e
-ends_phase phase.Data e = not_so e
-ends_phase phase.WantStatus e = refl
-ends_phase phase.Landed e = not_so e
 
 done_began : (s : TargetState) → is_done s ≡ true → not (target_waits s) ≡ true
 done_began stage.Waiting e = not_so e
@@ -111,10 +93,9 @@ stays_by core p = by (is_stale core p) (calls_stale (unwrap_or core.status.in_fl
 abbrev copies_beside : Core → OpenCopy → List Pp
 copies_beside core c = copies_in core.descriptor c.lv c.lp
 
--- ---- a write whose transfers have ended, with a target that was passed
+-- ---- a write whose transfers have ended
 
-module _ (core : Core) (going : IsGoing core) (o : Open) (one : IsOpenOne core o) (ended : wants_status o.request.phase ≡ true) (number : ℕ) (t : Target)
-    (there : slice_get o.request.targets.items number ≡ Some t) (caught : is_caught core (group_in core o.request.ask) t.pp ≡ true) where
+module _ (core : Core) (going : IsGoing core) (o : Open) (one : IsOpenOne core o) (ended : wants_status o.request.phase ≡ true) where
   abbrev targets : List Target
   targets = o.request.targets.items
 
@@ -140,90 +121,83 @@ module _ (core : Core) (going : IsGoing core) (o : Open) (one : IsOpenOne core o
   over : (k : ℕ) (u : Target) → slice_get targets k ≡ Some u → is_over u.state ≡ true
   over k u u_there = all_true_at (λ (x : Target). is_over x.state) targets k u said.1 u_there
 
-  -- it can't have failed
-  sound_target : may_lack o t ≡ false
-  sound_target = by (may_lack o t) refl
-    where
-      by : (b : Bool) → may_lack o t ≡ b → b ≡ false
-      by false is = refl
-      by true is = not_so (sym (all_at (λ (u : Target). may_lack o u && is_caught core group u.pp ≡ false) targets number t judged.uncaught there) ∙ all_and (may_lack o t) (is_caught core group t.pp) is caught)
+  -- no target has failed that is sure
+  module _ (none : list_any (is_failed_and_sure core) targets ≡ false) (begun : is_begun targets ≡ true) where
+    -- then a sure copy is a target that succeeded
+    kept_by : (p : Pp) → is_among (copies_for core o.request.ask) p ≡ true → is_stale core p ≡ false → is_wanted_stale core p ≡ false → is_kept core o.request ≡ true
+    kept_by p copy fresh unwanted = any_passes_from_place (λ (x : Target). is_done x.state && is_sure_at core x) targets on.place on.target on.there (all_and (is_done on.target.state) (is_sure_at core on.target) well sure)
+      where
+        left_out : is_left_out core o.request.ask p ≡ false
+        left_out = ap (λ b. b && is_wanted_stale core p && not (is_caught core group p)) (unsettled core p fresh)
 
-  done : is_done t.state ≡ true
-  done = first_of (is_done t.state) (is_failed t.state) (over number t there) (first_fails (is_failed t.state) o.older sound_target)
+        on : IsOn targets p
+        on = on_one targets p (sym (ap (λ b. is_among (pps_of targets) p || b) left_out ∙ or_false (is_among (pps_of targets) p)) ∙ judged.all begun p copy)
 
-  -- so none has that is sure
-  none_failed : list_any (is_failed_and_sure core) targets ≡ false
-  none_failed =
-      none_of_zero (is_failed_and_sure core) targets
-      (none_allowed (count_by (is_failed_and_sure core) targets) (is_kept core o.request) (will_be_kept core o.request)
-      (any_passes_from_place (λ (u : Target). is_done u.state && is_caught core group u.pp) targets number t there (all_and (is_done t.state) (is_caught core group t.pp) done caught)) (judged.due ended))
+        -- a copy is no place to which one moves
+        sure : is_sure_at core on.target ≡ true
+        sure = all_and (not on.target.moves) (is_sure core on.target.pp) (ap not (no_place core going (lv_of o.request.ask) (lp_of core o.request.ask) p copy o.request.ask on.target (all_at (IsTarget core o.request.ask) targets on.place on.target its.shape.targets on.there) on.pp_is)) (ap (is_sure core) (sym on.pp_is) ∙ (λ i. not (fresh i) && not (unwanted i)))
 
-  -- a sure copy is a target that succeeded
-  kept_by : (p : Pp) → is_among (copies_for core o.request.ask) p ≡ true → is_stale core p ≡ false → is_wanted_stale core p ≡ false → is_kept core o.request ≡ true
-  kept_by p copy fresh unwanted = any_passes_from_place (λ (x : Target). is_done x.state && is_sure_at core x) targets on.place on.target on.there (all_and (is_done on.target.state) (is_sure_at core on.target) well sure)
-    where
-      left_out : is_left_out core o.request.ask p ≡ false
-      left_out = ap (λ b. b && is_wanted_stale core p && not (is_caught core group p)) (unsettled core p fresh)
+        well : is_done on.target.state ≡ true
+        well = by (is_failed on.target.state) refl
+          where
+            by : (b : Bool) → is_failed on.target.state ≡ b → is_done on.target.state ≡ true
+            by false fine = first_of (is_done on.target.state) (is_failed on.target.state) (over on.place on.target on.there) fine
+            by true failed = not_so (sym none ∙ any_passes_from_place (is_failed_and_sure core) targets on.place on.target on.there (all_and (is_failed on.target.state) (is_sure_at core on.target) failed sure))
 
-      begun : is_begun targets ≡ true
-      begun = any_passes_from_place (λ (u : Target). not (target_waits u.state)) targets number t there (done_began t.state done)
+    -- so is one that stays fresh
+    pub kept_of : list_any (stays_fresh core) (copies_for core o.request.ask) ≡ true → is_kept core o.request ≡ true
+    kept_of some = kept_by found.1 (among_get (copies_for core o.request.ask) found.0 found.1 found.2) (stays_by core found.1 found.3).0 (stays_by core found.1 found.3).1
+      where
+        found : (k : ℕ) × (p : Pp) × (slice_get (copies_for core o.request.ask) k ≡ Some p) × (stays_fresh core p ≡ true)
+        found = found_at (stays_fresh core) (copies_for core o.request.ask) some
 
-      on : IsOn targets p
-      on = on_one targets p (sym (ap (λ b. is_among (pps_of targets) p || b) left_out ∙ or_false (is_among (pps_of targets) p)) ∙ judged.all begun p copy)
+  -- a target was passed
+  module _ (number : ℕ) (t : Target) (there : slice_get targets number ≡ Some t) (caught : is_caught core group t.pp ≡ true) where
+    done : is_done t.state ≡ true
+    done = well_done core o judged ended said.1 number t there caught
 
-      -- a copy is no place to which one moves
-      sure : is_sure_at core on.target ≡ true
-      sure = all_and (not on.target.moves) (is_sure core on.target.pp) (ap not (no_place core going (lv_of o.request.ask) (lp_of core o.request.ask) p copy o.request.ask on.target (all_at (IsTarget core o.request.ask) targets on.place on.target its.shape.targets on.there) on.pp_is)) (ap (is_sure core) (sym on.pp_is) ∙ (λ i. not (fresh i) && not (unwanted i)))
+    none_so : list_any (is_failed_and_sure core) targets ≡ false
+    none_so = none_failed core o judged ended said.1 number t there caught
 
-      well : is_done on.target.state ≡ true
-      well = by (is_failed on.target.state) refl
-        where
-          by : (b : Bool) → is_failed on.target.state ≡ b → is_done on.target.state ≡ true
-          by false fine = first_of (is_done on.target.state) (is_failed on.target.state) (over on.place on.target on.there) fine
-          by true failed = not_so (sym none_failed ∙ any_passes_from_place (is_failed_and_sure core) targets on.place on.target on.there (all_and (is_failed on.target.state) (is_sure_at core on.target) failed sure))
+    begun : is_begun targets ≡ true
+    begun = any_passes_from_place (λ (u : Target). not (target_waits u.state)) targets number t there (done_began t.state done)
 
-  -- the copy that has passed it has a copy beside it that stays fresh
-  kept_beside : (c : OpenCopy) → core.copy ≡ Some c → is_running c ≡ true → is_pp t.pp c.pp ≡ true → is_kept core o.request ≡ true
-  kept_beside c is_open runs same = kept_by found.1 copy (stays_by core found.1 found.3).0 (stays_by core found.1 found.3).1
-    where
-      bring : IsCopy core c
-      bring = subst (λ (m : Option OpenCopy). IfSome m (IsCopy core)) is_open going.copy
+    -- the copy that has passed it has a copy beside it that stays fresh
+    kept_beside : (c : OpenCopy) → core.copy ≡ Some c → is_running c ≡ true → is_pp t.pp c.pp ≡ true → is_kept core o.request ≡ true
+    kept_beside c is_open runs same = kept_of none_so begun ((λ i. list_any (stays_fresh core) (copies_in core.descriptor (its_lp.0 i) (its_lp.1 i))) ∙ some_stays c.moves refl)
+      where
+        bring : IsCopy core c
+        bring = subst (λ (m : Option OpenCopy). IfSome m (IsCopy core)) is_open going.copy
 
-      goes_on : end_of core c ≡ None
-      goes_on = sym (ap (λ (m : Option OpenCopy). option_map_or (end_of core) m None) is_open) ∙ going.reviewed
+        goes_on : end_of core c ≡ None
+        goes_on = sym (ap (λ (m : Option OpenCopy). option_map_or (end_of core) m None) is_open) ∙ going.reviewed
 
-      -- a copy that is brought up is beside a source, or is to be cleared; a move has its own word for it
-      some_stays : (b : Bool) → c.moves ≡ b → list_any (stays_fresh core) (copies_beside core c) ≡ true
-      some_stays true moves = (move_of core c bring moves).fresh runs
-      some_stays false brings = going.fresh c.lv c.lp (some_may (is_whole core c) refl)
-        where
-          kind : IsStaleCopy core c
-          kind = stale_of core c bring brings
+        -- a copy that is brought up is beside a source, or is to be cleared; a move has its own word for it
+        some_stays : (b : Bool) → c.moves ≡ b → list_any (stays_fresh core) (copies_beside core c) ≡ true
+        some_stays true moves = (move_of core c bring moves).fresh
+        some_stays false brings = going.fresh c.lv c.lp (some_may (is_whole core c) refl)
+          where
+            kind : IsStaleCopy core c
+            kind = stale_of core c bring brings
 
-          some_may : (w : Bool) → is_whole core c ≡ w → list_any (may_be_fresh core) (copies_beside core c) ≡ true
-          some_may true whole = any_passes_from_place (may_be_fresh core) (copies_beside core c) (c.copy - 1) c.pp (by_place (copies_beside core c) c.copy c.pp kind.its) (clearing_may core c.pp (kind.clearing runs whole).1)
-          some_may false short =
-              any_on (λ (q : Pp). not (is_pp q c.pp) && is_usable core q) (may_be_fresh core) (usable_may core c.pp) (copies_beside core c)
-              (some_kept (λ (q : Pp). not (is_pp q c.pp) && is_usable core q) (copies_beside core c) (has_source core c (by_sources core c None runs (is_here core c runs goes_on) short goes_on)))
+            some_may : (w : Bool) → is_whole core c ≡ w → list_any (may_be_fresh core) (copies_beside core c) ≡ true
+            some_may true whole = any_passes_from_place (may_be_fresh core) (copies_beside core c) (c.copy - 1) c.pp (by_place (copies_beside core c) c.copy c.pp kind.its) (clearing_may core c.pp (kind.clearing runs whole).1)
+            some_may false short =
+                any_on (λ (q : Pp). not (is_pp q c.pp) && is_usable core q) (may_be_fresh core) (usable_may core c.pp) (copies_beside core c)
+                (some_kept (λ (q : Pp). not (is_pp q c.pp) && is_usable core q) (copies_beside core c) (has_source core c (by_sources core c None runs (is_here core c runs goes_on) short goes_on)))
 
-      found : (k : ℕ) × (p : Pp) × (slice_get (copies_beside core c) k ≡ Some p) × (stays_fresh core p ≡ true)
-      found = found_at (stays_fresh core) (copies_beside core c) (some_stays c.moves refl)
+        its_lp : (lv_of o.request.ask ≡ c.lv) × (lp_of core o.request.ask ≡ c.lp)
+        its_lp = target_lp core going c is_open o.request.ask t (all_at (IsTarget core o.request.ask) targets number t its.shape.targets there) (pp_same t.pp c.pp same)
 
-      its_lp : (lv_of o.request.ask ≡ c.lv) × (lp_of core o.request.ask ≡ c.lp)
-      its_lp = target_lp core going c is_open o.request.ask t (all_at (IsTarget core o.request.ask) targets number t its.shape.targets there) (pp_same t.pp c.pp same)
-
-      copy : is_among (copies_for core o.request.ask) found.1 ≡ true
-      copy = (λ i. is_among (copies_in core.descriptor (its_lp.0 i) (its_lp.1 i)) found.1) ∙ among_get (copies_beside core c) found.0 found.1 found.2
-
-  pub kept_so : is_kept core o.request ≡ true
-  kept_so = by core.copy refl caught
-    where
-      by : (m : Option OpenCopy) → core.copy ≡ m → option_map_or (λ (c : OpenCopy). is_running c && is_pp t.pp c.pp && nat_lt group c.cursor) m false ≡ true → is_kept core o.request ≡ true
-      by None is_open e = not_so e
-      by (Some c) is_open e =
-          let parts = both (is_running c && is_pp t.pp c.pp) (nat_lt group c.cursor) e in
-          let more = both (is_running c) (is_pp t.pp c.pp) parts.0 in
-          kept_beside c is_open more.0 more.1
+    pub kept_so : is_kept core o.request ≡ true
+    kept_so = by core.copy refl caught
+      where
+        by : (m : Option OpenCopy) → core.copy ≡ m → option_map_or (λ (c : OpenCopy). is_running c && is_pp t.pp c.pp && nat_lt group c.cursor) m false ≡ true → is_kept core o.request ≡ true
+        by None is_open e = not_so e
+        by (Some c) is_open e =
+            let parts = both (is_running c && is_pp t.pp c.pp) (nat_lt group c.cursor) e in
+            let more = both (is_running c) (is_pp t.pp c.pp) parts.0 in
+            kept_beside c is_open more.0 more.1
 
 pub lost_is_uncaught : LostIsUncaught
 lost_is_uncaught s place o sound on at ended lost number t there = by (is_caught s.core (group_in s.core o.request.ask) t.pp) refl

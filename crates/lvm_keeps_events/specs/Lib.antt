@@ -8,6 +8,7 @@ pub mod EndFalls
 pub mod MoveFalls
 pub mod StatusEnds
 pub mod Uncaught
+pub mod Missed
 pub mod passed
 pub mod Opening
 pub mod Turning

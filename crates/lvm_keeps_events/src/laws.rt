@@ -1,6 +1,7 @@
 //! Laws: what the events of a turn leave of a sound session is sound, and less work.
 ghost use Rattle.lvm_keeps.specs.Falls.{EventsFall, NeverStandsStill};
 ghost use Rattle.lvm_keeps_events.specs.Events.{EventsKeep};
+ghost use Rattle.lvm_keeps_events.specs.Missed.{MissedWritesWait};
 
 /// Each event that a turn makes leaves the session sound.
 pub fn events_keep()
@@ -16,4 +17,10 @@ pub fn events_fall()
 /// is being brought up.
 pub fn never_stands_still()
     ensures { NeverStandsStill }
+{}
+
+/// A session with a write that has failed on the place to which a copy moved is sound while staleness of the place is
+/// wanted, and writes the status next. Where none is wanted it would stand still, and isn't sound.
+pub fn missed_writes_wait()
+    ensures { MissedWritesWait }
 {}

@@ -32,7 +32,7 @@ pub use ends_laws::{
     note_end_keeps,
 };
 pub use group_laws::copy_write_end_keeps;
-pub use laws::{events_fall, events_keep, never_stands_still};
+pub use laws::{events_fall, events_keep, missed_writes_wait, never_stands_still};
 pub use losses_laws::{losses_join, turns_lose_by_faults, votes_go_by_faults};
 pub use marks::turns_mark;
 pub use marks_laws::{copy_ends_keep_requests, marks_keep_requests};

@@ -1,42 +1,23 @@
 -- A transfer of a copy ends that had ended before.
-use Rattle.std.proofs.Common.{◌≡◌, ◌≤◌, ◌⊎◌, inl, inr, ◌==◌, ◌+◌, ℕ, Bool, true, false, ◌&&◌, ◌||◌, not, if◌then◌else◌, List, [], ◌∷◌, Option, Some, None, length, slice_get, refl, sym, ◌∙◌, ap, subst, arith}
-use Rattle.std.specs.Prelude.{IfSome, count_by, filter, nat_lt, slice_index_or, slice_set}
-use Rattle.std.specs.List.{list_any, remove, AllByRecursion}
-use Rattle.std.proofs.lemmas.Bool.{eq-eqb, eqb-true, eqb-false, ne_eqb}
-use Rattle.lvm_hold.specs.Conflicts.{conflicts}
-use Rattle.lvm_hold.specs.declared.queue.Held.{Held}
-use Rattle.lvm_hold.specs.declared.queue.Row.{Row}
-use Rattle.lvm_hold.specs.Waiting.{Waiting, is_blocked, without}
+use Rattle.std.proofs.Common.{◌≡◌, ◌≤◌, ◌⊎◌, inl, inr, ◌==◌, ℕ, Bool, true, false, ◌&&◌, List, refl, sym, ◌∙◌, ap, subst, arith}
+use Rattle.std.specs.Prelude.{IfSome}
+use Rattle.std.proofs.lemmas.Bool.{eqb-true, eqb-false}
 use Rattle.std.specs.Option.{option_map_or}
 use Rattle.lvm_num.specs.Buffer.{Buffer}
 use Rattle.lvm_num.specs.declared.place.Pp.{Pp}
 use Rattle.lvm_num.specs.Descriptor.{is_pp}
-use Rattle.lvm_disk.specs.Device.{Device, Flight, Media}
+use Rattle.lvm_disk.specs.Device.{Device, Flight}
 use Rattle.lvm_disk.specs.Counts.{Counts}
-use Rattle.lvm_disk.specs.Steps.{CountsFailure, EndsDone, Removes}
-use Rattle.lvm_vol.specs.declared.entry.Outcome.{Outcome}
-use Rattle.lvm_vol.specs.declared.entry.Outcome.TheVariants as outcome
+use Rattle.lvm_disk.specs.Steps.{CountsFailure, Removes}
 use Rattle.lvm_session.specs.declared.bringing.OpenCopy.{OpenCopy}
-use Rattle.lvm_session.specs.declared.bringing.Step.{Step}
 use Rattle.lvm_session.specs.declared.bringing.Step.TheVariants as step
 use Rattle.lvm_session.specs.declared.flown.Flown.{Flown}
-use Rattle.lvm_session.specs.declared.flown.Owner.{Owner}
-use Rattle.lvm_session.specs.declared.flown.Owner.TheVariants as owner
-use Rattle.lvm_session.specs.declared.open.Open.{Open}
-use Rattle.lvm_session.specs.declared.open.Power.TheVariants as power
 use Rattle.lvm_session.specs.State.{Core, State, state}
-use Rattle.lvm_session.specs.Judging.{copies_in, group_in, held_of, is_missing, is_running, is_waiting, place_of}
-use Rattle.lvm_session.specs.declared.bringing.CopyEnd.TheVariants as ending
-use Rattle.lvm_session.specs.Bringing.{copy_ends, end_by_sources, end_of, ends_if, is_cleared, has_row, is_idle, is_out, is_whole, step_row}
-use Rattle.lvm_session.specs.Dark.{hand_of_copy}
+use Rattle.lvm_session.specs.Judging.{copies_in, is_running}
+use Rattle.lvm_session.specs.Bringing.{is_whole}
 use Rattle.lvm_session.specs.Ends.{EndsAs, after_quit}
-use Rattle.lvm_session.specs.Left.{copy_updates}
-use Rattle.lvm_session.specs.Owners.{AreOwned, AreRows, IsTransferOf, flies, same_owner}
-use Rattle.lvm_session.specs.Requests.{IsOpenOne}
-use Rattle.lvm_session.specs.Causes.{AreCaused, AreCounted, HaveSourcesFailed, IsAnswered, IsCaused, IsChosenSince, IsCausedAmong, IsCounted, IsLandedFor, IsTrueToOrigin, is_over}
-use Rattle.lvm_session.specs.Sound.{IsCopy, IsFitting, IsGoing, IsOn, IsSound, IsTold, count_if, has_number, is_clearing, is_dark, is_hand, out_with, waiting_rows, with_row}
-use Rattle.lvm_keeps.proofs.DarkLemmas.Ending.{back}
-use Rattle.lvm_keeps.proofs.RequestsLemmas.{changed, if_on, open_on}
+use Rattle.lvm_session.specs.Causes.{HaveSourcesFailed, IsCausedAmong}
+use Rattle.lvm_session.specs.Sound.{IsCopy, IsSound, is_clearing}
 use Rattle.lvm_keeps_events.specs.Ends.{CopyQuitKeeps}
 use Rattle.lvm_keeps_events.proofs.EndsLemmas.Counts.{counts_keep}
 use Rattle.lvm_keeps_events.proofs.SoundLemmas.Over.{keeps}

@@ -1,45 +1,29 @@
 -- The write of the copy that is open has failed.
-use Rattle.std.proofs.Common.{◌≡◌, ◌≤◌, ◌⊎◌, inl, inr, ◌==◌, ◌+◌, ℕ, Bool, true, false, ◌&&◌, ◌||◌, not, if◌then◌else◌, List, [], ◌∷◌, Option, Some, None, length, slice_get, refl, sym, ◌∙◌, ap, subst, arith}
-use Rattle.std.specs.Prelude.{IfSome, count_by, filter, nat_lt, slice_index_or, slice_set}
-use Rattle.std.specs.List.{list_any, remove, AllByRecursion}
-use Rattle.std.proofs.lemmas.Bool.{eq-eqb, eqb-true, eqb-false, ne_eqb}
-use Rattle.lvm_hold.specs.Conflicts.{conflicts}
-use Rattle.lvm_hold.specs.declared.queue.Held.{Held}
-use Rattle.lvm_hold.specs.declared.queue.Row.{Row}
-use Rattle.lvm_hold.specs.Waiting.{Waiting, is_blocked, without}
+use Rattle.std.proofs.Common.{◌≡◌, inl, inr, Bool, true, false, ◌&&◌, ◌||◌, not, List, Some, refl, sym, ◌∙◌, ap, subst, arith}
+use Rattle.std.specs.Prelude.{IfSome, slice_set}
+use Rattle.std.specs.List.{remove}
+use Rattle.lvm_hold.specs.Waiting.{without}
 use Rattle.std.specs.Option.{option_map_or}
-use Rattle.lvm_num.specs.Buffer.{Buffer}
 use Rattle.lvm_num.specs.declared.place.Pp.{Pp}
 use Rattle.lvm_num.specs.Descriptor.{is_pp}
 use Rattle.lvm_num.proofs.Booleans.{not_so}
-use Rattle.lvm_disk.specs.Device.{Device, Flight, Media}
+use Rattle.lvm_disk.specs.Device.{Device, Flight}
 use Rattle.lvm_disk.specs.Counts.{Counts, Rose}
-use Rattle.lvm_disk.specs.Steps.{CountsFailure, EndsDone, EndsFailed, Removes}
-use Rattle.lvm_vol.specs.declared.entry.Outcome.{Outcome}
-use Rattle.lvm_vol.specs.declared.entry.Outcome.TheVariants as outcome
+use Rattle.lvm_disk.specs.Steps.{CountsFailure, EndsFailed}
 use Rattle.lvm_session.specs.declared.bringing.OpenCopy.{OpenCopy}
 use Rattle.lvm_session.specs.declared.bringing.Step.{Step}
 use Rattle.lvm_session.specs.declared.bringing.Step.TheVariants as step
 use Rattle.lvm_session.specs.declared.flown.Flown.{Flown}
-use Rattle.lvm_session.specs.declared.flown.Owner.{Owner}
 use Rattle.lvm_session.specs.declared.flown.Owner.TheVariants as owner
-use Rattle.lvm_session.specs.declared.open.Open.{Open}
-use Rattle.lvm_session.specs.declared.open.Power.TheVariants as power
 use Rattle.lvm_session.specs.State.{Core, State, state}
-use Rattle.lvm_session.specs.Judging.{copies_in, group_in, held_of, is_missing, is_running, is_waiting, place_of}
+use Rattle.lvm_session.specs.Judging.{copies_in, is_running}
 use Rattle.lvm_session.specs.declared.bringing.CopyEnd.TheVariants as ending
 use Rattle.lvm_status.specs.Update.{Stored}
 use Rattle.lvm_session.specs.Events.{IsCopyTransfer}
-use Rattle.lvm_session.specs.Bringing.{copy_ends, marked_by_end, end_by_sources, end_of, ends_if, is_cleared, has_row, is_idle, is_out, is_whole, step_row, is_called_stale}
-use Rattle.lvm_session.specs.Dark.{hand_of_copy}
-use Rattle.lvm_session.specs.Ends.{EndsAs, after_quit}
-use Rattle.lvm_session.specs.Left.{copy_updates}
-use Rattle.lvm_session.specs.Owners.{AreOwned, AreRows, IsCopyStepOf, IsRowOf, IsStepOf, IsTransferOf, flies, same_owner}
-use Rattle.lvm_session.specs.Requests.{IsOpenOne}
-use Rattle.lvm_session.specs.Causes.{AreCaused, AreCounted, HaveSourcesFailed, IsAnswered, IsCaused, IsChosenSince, IsCausedAmong, IsCounted, IsLandedFor, IsTrueToOrigin, faults_at_opening, is_over, own_faults}
-use Rattle.lvm_session.specs.Sound.{IsCopy, IsFitting, IsGoing, IsOn, IsSound, IsTold, count_if, has_number, is_clearing, is_dark, is_hand, out_with, waiting_rows, with_row}
-use Rattle.lvm_keeps.proofs.DarkLemmas.Ending.{back}
-use Rattle.lvm_keeps.proofs.RequestsLemmas.{changed, if_on, open_on}
+use Rattle.lvm_session.specs.Bringing.{marked_by_end, is_idle, is_whole, is_called_stale}
+use Rattle.lvm_session.specs.Owners.{IsCopyStepOf, IsRowOf, IsStepOf, IsTransferOf}
+use Rattle.lvm_session.specs.Causes.{IsCausedAmong, own_faults}
+use Rattle.lvm_session.specs.Sound.{IsCopy, IsSound, is_clearing}
 use Rattle.lvm_keeps_events.specs.Ends.{CopyWriteFailKeeps}
 use Rattle.lvm_keeps_events.proofs.EndsLemmas.Counts.{counts_keep, rose_since}
 use Rattle.lvm_keeps_events.proofs.EndsLemmas.CopyQuit.{IsBack, is_back}

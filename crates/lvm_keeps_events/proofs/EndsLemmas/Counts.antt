@@ -1,7 +1,5 @@
 -- Counts of faults rise.
-use Rattle.std.proofs.Common.{◌≡◌, ◌⊎◌, inl, inr, ◌≤◌, ◌+◌, ◌-◌, ◌^◌, ℕ, true, List, Option, refl, sym, arith}
-use Rattle.std.specs.Prelude.{IfSome}
-use Rattle.std.specs.List.{AllByRecursion}
+use Rattle.std.proofs.Common.{◌≡◌, ◌⊎◌, inl, inr, ◌≤◌, ℕ, true, List, Option, arith}
 use Rattle.lvm_num.specs.declared.place.Pp.{Pp}
 use Rattle.lvm_num.proofs.Lists.{all_weaker}
 use Rattle.lvm_disk.specs.Counts.{Counts, Rose}
@@ -14,8 +12,8 @@ use Rattle.lvm_session.specs.declared.bringing.OpenCopy.{OpenCopy}
 use Rattle.lvm_session.specs.declared.open.Open.{Open}
 use Rattle.lvm_session.specs.State.{Core, State, state}
 use Rattle.lvm_session.specs.Judging.{copies_in}
-use Rattle.lvm_session.specs.Causes.{AreCaused, AreCounted, FailedSince, FailedSinceOpening, HasFailed, HaveSourcesFailed, IsAnswered, IsCaused, IsCausedAmong, IsCounted, IsLandedFor, IsTrueToOrigin, faults_at_first, faults_at_opening, OwnFailedSinceOpening, own_faults}
-use Rattle.lvm_session.specs.Sound.{IsOn, IsSound}
+use Rattle.lvm_session.specs.Causes.{AreCaused, AreCounted, FailedSince, HasFailed, HaveSourcesFailed, IsAnswered, IsCaused, IsCausedAmong, IsCounted, IsLandedFor, IsTrueToOrigin, faults_at_first, faults_at_opening, OwnFailedSinceOpening, own_faults}
+use Rattle.lvm_session.specs.Sound.{IsSound}
 use Rattle.lvm_keeps.proofs.RequestsLemmas.{if_on}
 use Rattle.lvm_keeps_events.specs.Ends.{CountsKeep}
 
@@ -81,6 +79,7 @@ module _ (s : State) (media : Option Media) (counts : Counts) (sound : IsSound s
   origin = let was = sound.origin in record {
     since = λ disk. let low = was.since disk in let rest = more disk in omega (arith, low, rest);
     votes = was.votes;
+    rows = was.rows;
     still_missing = was.still_missing;
     missing = λ disk gone. of_missing disk (was.missing disk gone);
     stale = λ p is. of_stale p (was.stale p is);

@@ -33,7 +33,7 @@ use Rattle.lvm_session.specs.declared.open.Open.{Open}
 use Rattle.lvm_session.specs.declared.open.Power.TheVariants as power
 use Rattle.lvm_session.specs.State.{Core, State, state}
 use Rattle.lvm_session.specs.Judging.{group_of, has_names}
-use Rattle.lvm_session.specs.Owners.{AreOwned, IsTransferOf, flies, same_owner}
+use Rattle.lvm_session.specs.Owners.{AreOwned, IsTransferOf, same_owner}
 use Rattle.lvm_session.specs.Requests.{IsOpenOne, IsPinned, IsRecorded, has_record, mode_for}
 use Rattle.lvm_session.specs.Sound.{IsCopy, IsFitting, IsGoing, IsOn, IsSound, IsTold, count_if, out_with, pins}
 use Rattle.lvm_keeps.proofs.CausesLemmas.{copies_still, origin_still}
@@ -152,7 +152,7 @@ module _ (s : State) (sound : IsSound s) (on : s.core.power ≡ power.On) (disk 
     waits = λ w. let r = it.waits w in let b = r.ready in record {
       shape = shape_still core now.core refl (λ ask. refl) x r.shape;
       ready = record { free = b.free; recorded = b.recorded; wanted = b.wanted; named = λ has two. named_on x keep (mode_for core x.request.ask) b.recorded has two (b.named has two); dirty = b.dirty };
-      judged = λ write. let j = r.judged write in record { uncaught = j.uncaught; due = j.due; all = j.all; place = j.place };
+      judged = λ write. let j = r.judged write in record { uncaught = j.uncaught; due = j.due; missed = j.missed; all = j.all; place = j.place };
     };
     over = it.over;
     still = it.still;

@@ -3,38 +3,31 @@ use Rattle.std.proofs.Common.{◌≡◌, ◌⊎◌, inl, inr, ◌==◌, ◌≤�
 use Rattle.std.specs.Prelude.{count_by, unwrap_or}
 use Rattle.std.specs.List.{list_any, sum_by}
 use Rattle.std.specs.Option.{option_map_or}
-use Rattle.std.proofs.lemmas.Bool.{eq-eqb, eqb-true}
+use Rattle.std.proofs.lemmas.Bool.{eqb-true}
 use Rattle.std.proofs.lemmas.List.Sums.{count_by-le-length}
 use Rattle.lvm_num.specs.declared.descriptor.Descriptor.{Descriptor}
 use Rattle.lvm_num.specs.declared.descriptor.PvRow.{PvRow}
 use Rattle.lvm_num.specs.declared.place.Pp.{Pp}
-use Rattle.lvm_num.specs.declared.record.Stamp.{Stamp}
 use Rattle.lvm_num.specs.declared.status.Status.{Status}
-use Rattle.lvm_num.specs.Descriptor.{is_member, most_members, is_pp}
+use Rattle.lvm_num.specs.Descriptor.{most_members, is_pp}
 use Rattle.lvm_num.specs.Disks.{has}
 use Rattle.lvm_num.specs.Status.{calls_stale}
 use Rattle.lvm_num.proofs.DescriptorLemmas.Bounds.{few_members}
 use Rattle.lvm_num.proofs.Booleans.{not_so}
-use Rattle.lvm_path.specs.declared.request.Phase.TheVariants as phase
-use Rattle.lvm_status.specs.declared.writes.Writes.{Writes}
-use Rattle.lvm_status.specs.Update.{Stored, Updates, seen}
-use Rattle.lvm_status.specs.Calls.{with_start as with_write_start, with_update}
+use Rattle.lvm_status.specs.Update.{Stored}
 use Rattle.lvm_session.specs.Bringing.{is_whole}
 use Rattle.lvm_session.specs.declared.bringing.OpenCopy.{OpenCopy}
 use Rattle.lvm_session.specs.declared.flown.Flown.{Flown}
 use Rattle.lvm_session.specs.declared.flown.Owner.TheVariants as owner
 use Rattle.lvm_session.specs.declared.open.Open.{Open}
-use Rattle.lvm_session.specs.declared.open.Power.TheVariants as power
 use Rattle.lvm_session.specs.State.{Core, State, is_there}
 use Rattle.lvm_session.specs.Judging.{copies_for, is_changed, is_missing, is_running, is_settled, is_stale, is_usable, is_wanted_stale, places_for}
 use Rattle.lvm_session.specs.Enabled.{same_status}
 use Rattle.lvm_session.specs.Events.{flown}
-use Rattle.lvm_session.specs.Causes.{is_held_stale}
 use Rattle.lvm_session.specs.Left.{copy_left, if_so, is_brought_up, is_held, lacks_dirty, left_of, place_turns, request_left, status_left, turns_of, update_work, work_left}
 use Rattle.lvm_session.specs.Sound.{IsGoing, count_if, is_clearing}
 use Rattle.lvm_keeps.proofs.Lists.{count_cons}
 use Rattle.lvm_keeps.proofs.FallsLemmas.Pin.{sum_same}
-use Rattle.lvm_keeps.proofs.Small.{both}
 use Rattle.lvm_keeps.proofs.LeftLemmas.Leaving.{request_still, lit}
 use Rattle.lvm_keeps.proofs.FallsLemmas.NoteStart.{count_less, one_less}
 use Rattle.lvm_keeps_events.specs.Falls.{StatusStartFalls}

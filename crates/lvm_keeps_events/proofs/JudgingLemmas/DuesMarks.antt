@@ -1,7 +1,7 @@
 -- Which targets of a write are due to be stale once its transfers have all ended.
 use Rattle.std.proofs.Common.{◌&&◌, ◌<◌, ◌==◌, [], ap, arith, Bool, false, filter, if◌then◌else◌, inl, inr, length, List, nat_le, not, refl, slice_get, Some, suc, sym, true, zero, ◌||◌, ℕ, ◌∙◌, ◌∷◌, ◌≡◌, ◌≢◌, ◌≤◌, ◌⊎◌}
 use Rattle.std.proofs.lemmas.Bool.{eq-eqb, le-leb}
-use Rattle.std.specs.List.{list_any}
+use Rattle.std.specs.List.{list_any, AllByRecursion}
 use Rattle.std.specs.Prelude.{AllPairs, count_by, slice_index_or}
 use Rattle.std.proofs.lemmas.Map.Keys.{any_passes_from_place}
 use Rattle.lvm_num.specs.declared.place.Pp.{Pp}
@@ -15,12 +15,11 @@ use Rattle.lvm_path.specs.declared.target.Target.{Target}
 use Rattle.lvm_session.specs.Judging.{all_but_sure, is_kept, is_sure, pps_of, is_sure_at}
 use Rattle.lvm_session.specs.State.{Core}
 use Rattle.lvm_session.specs.Marks.{due_of, due_targets, is_among}
-use Rattle.lvm_session.specs.Requests.{is_failed_and_sure, is_wanted_due, will_be_kept}
+use Rattle.lvm_session.specs.Requests.{is_failed_and_sure, is_wanted_due, will_be_kept, IsMarkedPlace}
 use Rattle.lvm_session.specs.Sound.{count_if}
 use Rattle.lvm_keeps.proofs.Lists.{count_cons}
 use Rattle.lvm_keeps.proofs.Small.{both}
-use Rattle.lvm_keeps_events.proofs.EndsLemmas.CopyReadFail.{pp_is}
-use Rattle.lvm_keeps_events.proofs.Lists.{all_and, all_true_at, and_false, or_true}
+use Rattle.lvm_keeps_events.proofs.Lists.{all_and, all_true_at, by_places, none_of_zero, or_true}
 pub use Rattle.lvm_num.proofs.DescriptorLemmas.Partitions.{one_partition as pp_same}
 use Rattle.lvm_num.proofs.Booleans.{not_so}
 
@@ -323,3 +322,33 @@ module _ (core : Core) where
         by false is gone =
             let few = one_left after r.targets.items (λ p e. gone p (ap (λ ps. is_among ps p) (is_due ∙ ap (λ (b : Bool). pps_of (if b then filter has_failed r.targets.items else all_but_sure core r.targets.items)) is) ∙ e)) in
             ap (λ (b : Bool). nat_le (count_by (is_failed_and_sure after) r.targets.items) (if b then 0 else 1)) (none is) ∙ le-leb (count_by (is_failed_and_sure after) r.targets.items) 1 few
+
+    -- and what the write has missed of the place to which a copy moves
+    pub left_missed : (after : Core) → is_write r.ask && are_over r.targets.items ≡ true → ((p : Pp) → is_among (due_of core r) p ≡ true → is_sure after p ≡ false) → AllByRecursion (IsMarkedPlace after r) r.targets.items
+    left_missed after over all = by_places (IsMarkedPlace after r) r.targets.items (λ k t there. by k t there (is_kept core r) refl)
+      where
+        is_due : due_of core r ≡ pps_of (due_targets core r)
+        is_due = ap (λ (b : Bool). if b then pps_of (due_targets core r) else []) over
+
+        gone : (b : Bool) → is_kept core r ≡ b → (p : Pp) → is_among (pps_of (if b then filter has_failed r.targets.items else all_but_sure core r.targets.items)) p ≡ true → is_sure after p ≡ false
+        gone b is p e = all p (ap (λ ps. is_among ps p) (is_due ∙ ap (λ (c : Bool). pps_of (if c then filter has_failed r.targets.items else all_but_sure core r.targets.items)) is) ∙ e)
+
+        -- of one that is kept it has missed what failed
+        kept : (a f l s : Bool) → l ≡ false → (f ≡ true → s ≡ false) → (a && (f || l)) && s ≡ false
+        kept a f true s none on = not_so (sym none)
+        kept false f false s none on = refl
+        kept true true false s none on = on refl
+        kept true false false s none on = refl
+
+        -- the place of one that is lost isn't sure
+        lost : (a f l s : Bool) → (a ≡ true → s ≡ false) → (a && (f || l)) && s ≡ false
+        lost false f l s on = refl
+        lost true true l s on = on refl
+        lost true false true s on = on refl
+        lost true false false s on = refl
+
+        by : (k : ℕ) (t : Target) → slice_get r.targets.items k ≡ Some t → (b : Bool) → is_kept core r ≡ b → IsMarkedPlace after r t
+        by k t there true is = kept t.moves (is_failed t.state) (list_any (is_failed_and_sure after) r.targets.items) (is_sure after t.pp)
+            (none_of_zero (is_failed_and_sure after) r.targets.items (none_failed after r.targets.items (gone true is))) (λ failed. gone true is t.pp (failed_among r.targets.items k t there failed))
+        by k t there false is = lost t.moves (is_failed t.state) (list_any (is_failed_and_sure after) r.targets.items) (is_sure after t.pp)
+            (λ moves. gone false is t.pp (unsure_among r.targets.items k t there (ap (λ b. not b && is_sure core t.pp) moves)))

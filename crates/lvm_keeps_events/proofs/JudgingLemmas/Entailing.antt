@@ -1,26 +1,23 @@
 -- What the end of a transfer of a write entails: staleness of targets, and the end of the copy that is open.
-use Rattle.std.proofs.Common.{◌%◌, ◌&&◌, ◌*◌, ◌+◌, ◌/◌, ◌<◌, ◌==◌, [], ap, arith, Bool, false, filter, if◌then◌else◌, inl, inr, length, List, nat_lt, None, not, Option, refl, slice_get, Some, subst, suc, sym, true, zero, ◌||◌, ℕ, ◌∙◌, ◌≡◌, ◌≤◌, ◌⊎◌}
-use Rattle.std.proofs.lemmas.Bool.{eqb-false, eqb-true, lt-ltb, ltb-false}
-use Rattle.std.proofs.lemmas.Nat.{mod_below}
+use Rattle.std.proofs.Common.{◌&&◌, ◌==◌, [], ap, Bool, false, filter, if◌then◌else◌, inl, inr, length, List, nat_lt, None, not, Option, refl, slice_get, Some, subst, sym, true, ◌||◌, ℕ, ◌∙◌, ◌≡◌, ◌⊎◌}
+use Rattle.std.proofs.lemmas.Bool.{eqb-false, eqb-true}
 use Rattle.std.specs.List.{AllByRecursion}
 use Rattle.std.specs.Option.{option_map_or}
 use Rattle.std.specs.Prelude.{IfSome, unwrap_or}
 use Rattle.std.proofs.lemmas.Map.Keys.{any_passes_from_place}
 use Rattle.lvm_num.specs.Buffer.{Buffer}
-use Rattle.lvm_num.specs.Geometry.{partition_blocks}
 use Rattle.lvm_num.specs.Status.{calls_stale}
 use Rattle.lvm_num.specs.declared.place.Pp.{Pp}
 use Rattle.lvm_hold.specs.Waiting.{Waiting}
 use Rattle.lvm_num.specs.Descriptor.{is_pp}
 use Rattle.lvm_num.proofs.Booleans.{not_so}
 use Rattle.lvm_num.proofs.Lists.{all_weaker, all_at, set_beside}
-use Rattle.lvm_path.specs.Asks.{at_of, is_write}
+use Rattle.lvm_path.specs.Asks.{is_write}
 use Rattle.lvm_path.specs.Targets.{are_over, end_state, is_done, is_failed}
-use Rattle.lvm_path.specs.declared.request.Request.{Request}
 use Rattle.lvm_path.specs.declared.target.Target.{Target}
 use Rattle.lvm_session.proofs.MovesLemmas.{stale_of}
 use Rattle.lvm_session.specs.Bringing.{is_called_stale, end_by_sources, end_of, ends_if, groups_of, is_cleared, is_whole, with_copy_end}
-use Rattle.lvm_session.specs.Judging.{is_sure_at, all_but_sure, group_in, is_caught, is_kept, is_missing, is_running, is_sure, is_wanted_stale, pps_of}
+use Rattle.lvm_session.specs.Judging.{is_sure_at, all_but_sure, group_in, is_caught, is_kept, is_missing, is_running, is_wanted_stale, pps_of}
 use Rattle.lvm_session.specs.State.{Core}
 use Rattle.lvm_session.specs.declared.bringing.CopyEnd.TheVariants as ending
 use Rattle.lvm_session.specs.declared.bringing.OpenCopy.{OpenCopy}
@@ -32,7 +29,7 @@ use Rattle.lvm_session.specs.Causes.{is_held_stale, IsChosenSince}
 use Rattle.lvm_session.specs.Requests.{IsJudged, IsLaid, may_lack, will_be_kept}
 use Rattle.lvm_session.specs.Sound.{is_clearing, IsCopy, IsGoing}
 use Rattle.lvm_keeps.proofs.Lists.{set_here}
-use Rattle.lvm_keeps.proofs.Small.{both, is_false}
+use Rattle.lvm_keeps.proofs.Small.{both}
 use Rattle.lvm_keeps_events.proofs.TargetsLemmas.{at_state}
 use Rattle.lvm_keeps_events.proofs.JudgingLemmas.DuesMarks.{due_one, has_failed, is_sure_done, IsDueOne, own_pp, pp_same, unsure_among}
 use Rattle.lvm_keeps_events.proofs.SoundLemmas.Failing.{kept, LeavesParts, leaves, parted, pool, queue}

@@ -2,7 +2,7 @@
 use Rattle.std.proofs.Common.{◌%◌, ◌&&◌, ◌*◌, ◌++◌, ◌+◌, ◌-◌, ◌/◌, ◌<◌, ◌==◌, [], ◌^◌, ap, arith, Bool, false, filter, find, if◌then◌else◌, inl, inr, length, List, mul_comm, nat_le, nat_lt, None, not, Option, refl, slice_get, slice_set, Some, subst, suc, sym, true, zero, ◌||◌, ℕ, ◌∙◌, ◌∷◌, ◌≡◌, ◌≤◌, ◌⊎◌}
 use Rattle.std.proofs.lemmas.Bool.{eq-eqb, eqb-true, le-ltb, lt-ltb, ltb-false, ltb-true}
 use Rattle.std.proofs.lemmas.List.Folds.{list_any-append}
-use Rattle.std.specs.List.{AllByRecursion, list_any, range_with_len, remove}
+use Rattle.std.specs.List.{AllByRecursion, list_any, remove}
 use Rattle.std.specs.Option.{option_map_or}
 use Rattle.std.specs.Prelude.{count_by, IfSome, is_none, slice_index_or, unwrap_or}
 use Rattle.std.proofs.lemmas.Map.Keys.{any_passes_from_place}
@@ -24,7 +24,7 @@ use Rattle.lvm_hold.specs.Waiting.{is_blocked, Waiting, without}
 use Rattle.lvm_hold.specs.declared.queue.Row.{Row}
 use Rattle.lvm_status.specs.Table.{has_row as has_disk_row, SameMissing}
 use Rattle.lvm_path.specs.Asks.{at_of, count_of, is_write, lv_of}
-use Rattle.lvm_path.specs.Targets.{is_begun, is_done, is_failed}
+use Rattle.lvm_path.specs.Targets.{are_over, is_begun, is_done, is_failed}
 use Rattle.lvm_path.specs.declared.ask.Ask.{Ask}
 use Rattle.lvm_path.specs.declared.request.Phase.{Phase}
 use Rattle.lvm_path.specs.declared.request.Phase.TheVariants as phase
@@ -49,12 +49,12 @@ use Rattle.lvm_session.specs.declared.open.Power.TheVariants as power
 use Rattle.lvm_session.specs.Dark.{hand_of_copy}
 use Rattle.lvm_num.specs.Modes.{is_passive}
 use Rattle.lvm_num.proofs.Booleans.{not_so}
-use Rattle.lvm_num.proofs.Lists.{all_weaker, length_set, all_both}
-use Rattle.lvm_session.specs.Marks.{can_replace, is_among, is_entailed, is_entailed_in, is_left_behind}
+use Rattle.lvm_num.proofs.Lists.{all_at, all_weaker, length_set, all_both}
+use Rattle.lvm_session.specs.Marks.{can_replace, is_among, is_entailed}
 use Rattle.lvm_session.specs.Causes.{AreCaused, AreCounted, fails_on, is_blamed, is_held_stale, IsAnswered, IsCaused, IsChosenSince, IsCausedAmong, IsTrueToOrigin, was_fresh}
 use Rattle.lvm_session.specs.Left.{copy_updates, if_so, updates_left}
 use Rattle.lvm_session.specs.Owners.{AreOwned, same_owner}
-use Rattle.lvm_session.specs.Requests.{is_failed_and_sure, is_left_out, is_past_held, is_wanted_dirty, is_wanted_due, IsAimed, IsJudged, IsOpenOne, IsPhase, IsRequest, IsTarget, may_lack, mode_for, wants_status, will_be_kept}
+use Rattle.lvm_session.specs.Requests.{is_failed_and_sure, is_left_out, is_past_held, is_wanted_dirty, is_wanted_due, IsAimed, IsJudged, IsMarkedPlace, IsOpenOne, IsPhase, IsRequest, IsTarget, may_lack, mode_for, wants_status, will_be_kept}
 use Rattle.lvm_session.specs.Sound.{count_if, is_clearing, is_hand, IsCopy, IsFitting, IsGoing, IsOfKind, IsOn, IsSound, IsTold, may_be_fresh, out_with, stays_fresh, waiting_rows, with_row}
 use Rattle.lvm_session.proofs.MovesLemmas.{IsOpenPlace, among_filter, among_filtered, move_of, place_open, stale_of}
 use Rattle.lvm_calls.proofs.LogLemmas.{below_next}
@@ -76,6 +76,7 @@ use Rattle.lvm_keeps_events.proofs.OwnersLemmas.Removal.{as_many, given_back, no
 use Rattle.lvm_keeps_events.proofs.JudgingLemmas.DuesMarks.{among_get, own_pp, pp_same}
 use Rattle.lvm_keeps_events.proofs.Groups.{group_low, some_size, whole_passes}
 use Rattle.lvm_keeps_events.proofs.Lists.{all_and, all_there, any_on, found_at, or_true}
+use Rattle.lvm_keeps_events.proofs.MissedLemmas.{ends_phase, missed_on, none_failed, not_failed}
 use Rattle.lvm_keeps_events.proofs.UncaughtLemmas.{some_kept}
 use Rattle.lvm_map.proofs.Parts.{whole}
 
@@ -472,6 +473,14 @@ module _ (s : State) (sound : IsSound s) (on : s.core.power ≡ power.On) (c : O
     settled_on mode.Passive r e = e
     settled_on mode.Off r e = refl
 
+    past_status : (p : Phase) → wants_status p ≡ true → is_past_held p ≡ true
+    past_status phase.Held e = not_so e
+    past_status phase.WantEntry e = refl
+    past_status phase.WantRecord e = refl
+    past_status phase.Data e = refl
+    past_status phase.WantStatus e = refl
+    past_status phase.Landed e = not_so e
+
     module _ (k : ℕ) (o : Open) (o_there : slice_get core.requests k ≡ Some o) (it : IsOpenOne core o) (waits : is_waiting o ≡ true) (write : is_write o.request.ask ≡ true) where
       its_request : IsRequest core o
       its_request = it.waits waits
@@ -510,14 +519,34 @@ module _ (s : State) (sound : IsSound s) (on : s.core.power ≡ power.On) (c : O
           ap (λ n. nat_le n (if is_kept after o.request || will_be_kept after o.request then 0 else 1)) (left_same o.request its_request.shape.targets)
           ∙ ap (λ (b : Bool). nat_le (count_by (is_failed_and_sure core) o.request.targets.items) (if b || will_be_kept after o.request then 0 else 1)) (kept_same o.request its_request.shape.targets)
           ∙ ap (λ (b : Bool). nat_le (count_by (is_failed_and_sure core) o.request.targets.items) (if is_kept core o.request || b then 0 else 1)) (carried_same (past_status o.request.phase status)) ∙ (its_request.judged write).due status
+
+      -- what is cleared has been passed
+      caught_now : (p : Pp) → (w && is_pp p c.pp) ≡ true → is_caught after (group_in core o.request.ask) p ≡ true
+      caught_now p e = let its_parts = both w (is_pp p c.pp) e in
+          all_and (is_running c && is_pp p c.pp) (nat_lt (group_in core o.request.ask) (c.cursor + 1)) (all_and (is_running c) (is_pp p c.pp) runs its_parts.1) (whole_passes (group_in core o.request.ask) (groups_of core) (c.cursor + 1) (group_low core o.request it.laid) its_parts.0)
+
+      -- so nothing was missed of it
+      missed_so : wants_status o.request.phase ≡ true → AllByRecursion (IsMarkedPlace after o.request) o.request.targets.items
+      missed_so status = missed_on core after o.request fewer why (judged.missed status)
         where
-          past_status : (p : Phase) → wants_status p ≡ true → is_past_held p ≡ true
-          past_status phase.Held e = not_so e
-          past_status phase.WantEntry e = refl
-          past_status phase.WantRecord e = refl
-          past_status phase.Data e = refl
-          past_status phase.WantStatus e = refl
-          past_status phase.Landed e = not_so e
+          judged : IsJudged core o
+          judged = its_request.judged write
+
+          over : are_over o.request.targets.items ≡ true
+          over = (subst (λ (p : Phase). IsPhase p o) (ends_phase o.request.phase status) its_request.shape.phase_is).1
+
+          fewer : list_any (is_failed_and_sure after) o.request.targets.items ≡ true → list_any (is_failed_and_sure core) o.request.targets.items ≡ true
+          fewer some = sym (any_of_targets (IsTarget core o.request.ask) (is_failed_and_sure after) (is_failed_and_sure core) (λ t aimed. ap (λ b. is_failed t.state && b) (sure_same o.request.ask t aimed)) o.request.targets.items its_request.shape.targets) ∙ some
+
+          why : (n : ℕ) (t : Target) → slice_get o.request.targets.items n ≡ Some t → is_sure after t.pp ≡ true → (is_sure core t.pp ≡ true) ⊎ ((is_failed t.state ≡ false) × (list_any (is_failed_and_sure core) o.request.targets.items ≡ false))
+          why n t there sure = by (w && is_pp t.pp c.pp) refl
+            where
+              by : (b : Bool) → (w && is_pp t.pp c.pp) ≡ b → (is_sure core t.pp ≡ true) ⊎ ((is_failed t.state ≡ false) × (list_any (is_failed_and_sure core) o.request.targets.items ≡ false))
+              by false e = inl (sym (ap (λ b. not (is_stale core t.pp) && not b) (like.stale t.pp ∙ ap (λ b. is_wanted_stale core t.pp && not b) e ∙ and_true (is_wanted_stale core t.pp))) ∙ sure)
+              by true e =
+                  let aimed = all_at (IsTarget core o.request.ask) o.request.targets.items n t its_request.shape.targets there in
+                  let caught_it = sym (caught_target k o o_there it waits write (past_status o.request.phase status) t aimed) ∙ caught_now t.pp e in
+                  inr (not_failed core o judged status over n t there caught_it, none_failed core o judged status over n t there caught_it)
 
       -- a copy that is left out still is: one that is to be cleared wasn't
       left_so : is_past_held o.request.phase ≡ true → (p : Pp) → is_among (copies_for core o.request.ask) p ≡ true → is_left_out core o.request.ask p ≡ true → is_left_out after o.request.ask p ≡ true
@@ -526,19 +555,16 @@ module _ (s : State) (sound : IsSound s) (on : s.core.power ≡ power.On) (c : O
           parts : (is_settled core p && is_wanted_stale core p ≡ true) × (not (is_caught core (group_in core o.request.ask) p) ≡ true)
           parts = both (is_settled core p && is_wanted_stale core p) (not (is_caught core (group_in core o.request.ask) p)) left_out
 
-          caught_now : (w && is_pp p c.pp) ≡ true → is_caught after (group_in core o.request.ask) p ≡ true
-          caught_now e = let its_parts = both w (is_pp p c.pp) e in
-              all_and (is_running c && is_pp p c.pp) (nat_lt (group_in core o.request.ask) (c.cursor + 1)) (all_and (is_running c) (is_pp p c.pp) runs its_parts.1) (whole_passes (group_in core o.request.ask) (groups_of core) (c.cursor + 1) (group_low core o.request it.laid) its_parts.0)
-
           by : (b : Bool) → (w && is_pp p c.pp) ≡ b → is_left_out after o.request.ask p ≡ true
           by false e = ap (λ b. is_settled core p && b && not (is_caught after (group_in core o.request.ask) p)) (like.stale p ∙ ap (λ b. is_wanted_stale core p && not b) e ∙ and_true (is_wanted_stale core p))
               ∙ ap (λ b. is_settled core p && is_wanted_stale core p && not b) (caught_so past p among) ∙ left_out
-          by true e = not_so (sym (ap not (sym (caught_so past p among) ∙ caught_now e)) ∙ parts.1)
+          by true e = not_so (sym (ap not (sym (caught_so past p among) ∙ caught_now p e)) ∙ parts.1)
 
       judged_so : IsJudged after o
       judged_so = let j = its_request.judged write in record {
         uncaught = uncaught_so past_or_none;
         due = due_so;
+        missed = missed_so;
         all = λ begun p among. all_by past_or_none begun p among (j.all begun p among);
         place = λ begun p among. place_by past_or_none begun p among;
       }
@@ -631,7 +657,7 @@ module _ (s : State) (sound : IsSound s) (on : s.core.power ≡ power.On) (c : O
       there = k.there;
       called = k.called;
       clear = λ goes whole. clear_at whole;
-      fresh = λ goes. any_among (stays_fresh after) (stays_fresh core) (copies_in core.descriptor c.lv c.lp) (stays_same c.lv c.lp) ∙ k.fresh runs;
+      fresh = any_among (stays_fresh after) (stays_fresh core) (copies_in core.descriptor c.lv c.lp) (stays_same c.lv c.lp) ∙ k.fresh;
     }
 
     bring : IsCopy after next
@@ -855,6 +881,7 @@ module _ (s : State) (sound : IsSound s) (on : s.core.power ≡ power.On) (c : O
     origin = let was = sound.origin in record {
       since = was.since;
       votes = was.votes;
+      rows = was.rows;
       still_missing = λ d e. missing_same d ∙ was.still_missing d e;
       missing = λ d e. was.missing d (sym (missing_same d) ∙ e);
       stale = λ p e. at_missing p (was.stale p (held_or_wanted p e));

@@ -1,5 +1,5 @@
 -- What the requests of a session are judged by after the end of a write and its review.
-use Rattle.std.proofs.Common.{◌≡◌, ◌⊎◌, inl, inr, ◌==◌, ◌≤◌, ◌<◌, ◌%◌, ℕ, Bool, true, false, ◌&&◌, ◌||◌, not, nat_lt, nat_le, if◌then◌else◌, List, [], ◌∷◌, Some, length, slice_get, refl, sym, ◌∙◌, ap, arith}
+use Rattle.std.proofs.Common.{◌≡◌, ◌⊎◌, inl, inr, ◌==◌, ◌≤◌, ◌<◌, ◌%◌, ℕ, Bool, true, false, ◌&&◌, ◌||◌, not, nat_lt, nat_le, if◌then◌else◌, List, [], ◌∷◌, Some, length, slice_get, refl, sym, ◌∙◌, ap, subst, arith}
 use Rattle.std.specs.Prelude.{count_by}
 use Rattle.std.specs.List.{list_any, AllByRecursion}
 use Rattle.std.specs.Option.{option_map_or}
@@ -15,23 +15,24 @@ use Rattle.lvm_num.specs.Geometry.{partition_blocks}
 use Rattle.lvm_num.specs.Status.{calls_dirty}
 use Rattle.lvm_num.specs.Descriptor.{is_pp}
 use Rattle.lvm_num.proofs.Booleans.{not_so}
-use Rattle.lvm_num.proofs.Lists.{all_weaker}
+use Rattle.lvm_num.proofs.Lists.{all_at, all_weaker}
 use Rattle.lvm_hold.specs.declared.queue.Held.{Held}
 use Rattle.lvm_hold.specs.Waiting.{is_blocked}
 use Rattle.lvm_mwc.specs.Cache.{is_named}
 use Rattle.lvm_mwc.specs.Entries.{pins_of}
 use Rattle.lvm_path.specs.declared.ask.Ask.{Ask}
+use Rattle.lvm_path.specs.declared.request.Phase.{Phase}
 use Rattle.lvm_path.specs.declared.request.Request.{Request}
 use Rattle.lvm_path.specs.declared.target.Target.{Target}
 use Rattle.lvm_path.specs.Asks.{at_of, lv_of}
-use Rattle.lvm_path.specs.Targets.{is_done, is_failed}
+use Rattle.lvm_path.specs.Targets.{are_over, is_done, is_failed}
 use Rattle.lvm_session.specs.declared.bringing.OpenCopy.{OpenCopy}
 use Rattle.lvm_session.specs.declared.open.Open.{Open}
 use Rattle.lvm_session.specs.State.{Core}
 use Rattle.lvm_session.specs.Judging.{group_in, group_of, has_dirty_mark, has_names, held_of, is_caught, is_kept, is_running, is_settled, is_sure, is_wanted_stale, place_of, pps_of, is_sure_at, places_for}
 use Rattle.lvm_session.specs.Bringing.{groups_of}
 use Rattle.lvm_session.specs.Marks.{is_among}
-use Rattle.lvm_session.specs.Requests.{IsJudged, IsLaid, IsOpenOne, IsReady, IsRecorded, IsShaped, has_record, is_failed_and_sure, is_wanted_dirty, may_lack, mode_for, will_be_kept}
+use Rattle.lvm_session.specs.Requests.{IsJudged, IsLaid, IsMarkedPlace, IsOpenOne, IsPhase, IsReady, IsRecorded, IsShaped, has_record, is_failed_and_sure, is_wanted_dirty, may_lack, mode_for, wants_status, will_be_kept}
 use Rattle.lvm_session.specs.Sound.{pins}
 use Rattle.lvm_keeps.proofs.KeepsLemmas.NoteStart.{each_counted}
 use Rattle.lvm_keeps.proofs.Small.{and_on, both, is_false}
@@ -42,6 +43,7 @@ use Rattle.lvm_keeps_events.proofs.CallsLemmas.{in_flight_of}
 use Rattle.lvm_keeps_events.proofs.JudgingLemmas.Review.{Clears, WriteEnd, Reviewed, and_of, flies_is, mid, now, of_now, or_right, settled_on, sure_by, wanted_on}
 use Rattle.lvm_keeps_events.proofs.Groups.{some_blocks, groups_below}
 use Rattle.lvm_keeps_events.proofs.JudgingLemmas.DuesMarks.{own_pp}
+use Rattle.lvm_keeps_events.proofs.MissedLemmas.{ends_phase, missed_on, none_failed, not_failed}
 use Rattle.lvm_session.proofs.MovesLemmas.{among_filter, among_filtered}
 
 -- ---- tests
@@ -177,11 +179,29 @@ module _ (e : WriteEnd) (r : Reviewed e) (names : NamesStay e) (caught : (group 
             by_sure one.0 one.1 one.2 parts.0 more.0 (sure_by e r one.0.pp more.1)
         by false none e2 = or_right (is_kept core x.request) (will_be_kept core x.request) (any_on (λ (t : Target). is_done t.state && is_caught after group t.pp) (λ (t : Target). is_done t.state && is_caught core group t.pp) carried x.request.targets.items e2)
 
-    judged_on : IsJudged core x → IsJudged after x
-    judged_on j = record {
+    -- nothing more is missed, and of a copy that is to be cleared nothing is
+    missed_so : IsShaped core x → IsJudged core x → wants_status x.request.phase ≡ true → AllByRecursion (IsMarkedPlace after x.request) x.request.targets.items
+    missed_so shape j status = missed_on core after x.request fewer (λ k t there sure. why k t there (sure_by e r t.pp sure)) (j.missed status)
+      where
+        over : are_over x.request.targets.items ≡ true
+        over = (subst (λ (p : Phase). IsPhase p x) (ends_phase x.request.phase status) shape.phase_is).1
+
+        fewer : list_any (is_failed_and_sure after) x.request.targets.items ≡ true → list_any (is_failed_and_sure core) x.request.targets.items ≡ true
+        fewer some =
+            let one = found (is_failed_and_sure after) x.request.targets.items some in
+            any_passes_from_place (is_failed_and_sure core) x.request.targets.items one.1 one.0 one.2 (failed_by one.0 (all_at Uncaught x.request.targets.items one.1 one.0 j.uncaught one.2) one.3)
+
+        why : (k : ℕ) (t : Target) → slice_get x.request.targets.items k ≡ Some t → (is_sure core t.pp ≡ true) ⊎ Clears core t.pp
+            → (is_sure core t.pp ≡ true) ⊎ ((is_failed t.state ≡ false) × (list_any (is_failed_and_sure core) x.request.targets.items ≡ false))
+        why k t there (inl sure) = inl sure
+        why k t there (inr c) = let caught_it = whole_caught core x.request laid t.pp c in inr (not_failed core x j status over k t there caught_it, none_failed core x j status over k t there caught_it)
+
+    judged_on : IsShaped core x → IsJudged core x → IsJudged after x
+    judged_on shape j = record {
       uncaught = all_weaker Uncaught (λ (t : Target). may_lack x t && is_caught after group t.pp ≡ false) (λ t is. and_on (may_lack x t) (is_caught core group t.pp) (is_caught after group t.pp) (caught group t.pp) is) x.request.targets.items j.uncaught;
       due = λ status. fewer_due (count_by (is_failed_and_sure core) x.request.targets.items) (count_by (is_failed_and_sure after) x.request.targets.items) (is_kept core x.request || will_be_kept core x.request) (is_kept after x.request || will_be_kept after x.request)
           (count_with Uncaught (is_failed_and_sure core) (is_failed_and_sure after) failed_by x.request.targets.items j.uncaught) kept_by (j.due status);
+      missed = missed_so shape j;
       all = λ begun p among. out_still (is_among (pps_of x.request.targets.items) p) (is_settled core p) (is_wanted_stale core p) (is_caught core group p) (is_settled after p) (is_wanted_stale after p) (is_caught after group p)
           (settled_on e r p) (wanted_on e r p) (caught group p) (j.all begun p among);
       place = λ begun p among.
@@ -206,7 +226,7 @@ module _ (e : WriteEnd) (r : Reviewed e) (names : NamesStay e) (caught : (group 
   one_on : (x : Open) → IsKept x → IsOpenOne core x → IsOpenOne after x
   one_on x keep it = record {
     laid = let l = it.laid in record { within = l.within; blocks = l.blocks; most = l.most; id = l.id };
-    waits = λ w. let a = it.waits w in record { shape = shape_on x a.shape; ready = ready_on x keep a.ready; judged = λ write. judged_on x it.laid (a.judged write) };
+    waits = λ w. let a = it.waits w in record { shape = shape_on x a.shape; ready = ready_on x keep a.ready; judged = λ write. judged_on x it.laid a.shape (a.judged write) };
     over = it.over;
     still = it.still;
   }

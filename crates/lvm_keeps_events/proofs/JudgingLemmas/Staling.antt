@@ -49,6 +49,7 @@ use Rattle.lvm_keeps.proofs.DarkLemmas.Tables.{apart}
 use Rattle.lvm_keeps_events.proofs.Marking.{count_alike, filter_alike}
 use Rattle.lvm_keeps_events.proofs.Lists.{all_and, any_on, count_on, or_false, or_true}
 use Rattle.lvm_keeps_events.proofs.OwnersLemmas.Rows.{rows_each}
+use Rattle.lvm_keeps_events.proofs.MissedLemmas.{missed_less}
 use Rattle.lvm_keeps_events.proofs.JudgingLemmas.Requests.{fewer_due}
 
 -- ---- the status
@@ -215,7 +216,7 @@ module _ (core : Core) (due : Pp → Bool) (wanted : Status) (writes : Writes) (
     waits = λ w. let r = it.waits w in record {
       shape = shape_on x r.shape;
       ready = ready_on x.request r.ready;
-      judged = λ write. let j = r.judged write in record { uncaught = j.uncaught; due = λ status. due_on x.request (j.due status); all = λ begun p among. left_on x p (j.all begun p among); place = j.place };
+      judged = λ write. let j = r.judged write in record { uncaught = j.uncaught; due = λ status. due_on x.request (j.due status); missed = λ status. missed_less core staler x.request sure_less (j.missed status); all = λ begun p among. left_on x p (j.all begun p among); place = j.place };
     };
     over = it.over;
     still = it.still;
@@ -243,7 +244,7 @@ module _ (core : Core) (due : Pp → Bool) (wanted : Status) (writes : Writes) (
         λ runs short. let was = is.stale runs short in (was.0, wanted_more c.pp was.1),
         λ runs whole. let was = is.clearing runs whole in (was.0, like.stale c.pp ∙ ap (λ b. b || due c.pp) was.1 ∙ apart runs whole),
       ))
-      (λ is. (λ runs whole. like.stale c.pp ∙ ap (λ b. b || due c.pp) (is.clear runs whole) ∙ apart runs whole, λ runs. keeps_fresh (copies_in core.descriptor c.lv c.lp) (fresh c.lv c.lp) (is.fresh runs))) c.moves k.kind)
+      (λ is. (λ runs whole. like.stale c.pp ∙ ap (λ b. b || due c.pp) (is.clear runs whole) ∙ apart runs whole, keeps_fresh (copies_in core.descriptor c.lv c.lp) (fresh c.lv c.lp) is.fresh)) c.moves k.kind)
 
   sources_same : (c : OpenCopy) → sources_of staler c ≡ sources_of core c
   sources_same c = filter_alike (λ (p : Pp). not (is_pp p c.pp) && is_usable staler p) (λ (p : Pp). not (is_pp p c.pp) && is_usable core p) (λ p. ap (λ b. not (is_pp p c.pp) && b) (usable_same p)) (copies_in core.descriptor c.lv c.lp)

@@ -1,5 +1,5 @@
 -- A session in which nothing is out doesn't stand still.
-use Rattle.std.proofs.Common.{◌≡◌, ◌++◌, ◌⊎◌, inl, inr, ◌==◌, ◌≤◌, ◌<◌, ◌+◌, ◌-◌, ◌&&◌, ◌||◌, ℕ, zero, suc, Bool, true, false, not, nat_le, nat_lt, filter, find, List, [], ◌∷◌, Option, Some, None, length, slice_get, if◌then◌else◌, refl, sym, ◌∙◌, ap, subst, arith}
+use Rattle.std.proofs.Common.{◌≡◌, ◌++◌, ◌⊎◌, inl, inr, ◌==◌, ◌≤◌, ◌<◌, ◌+◌, ◌&&◌, ◌||◌, ℕ, zero, suc, Bool, true, false, not, nat_le, nat_lt, filter, find, List, [], ◌∷◌, Option, Some, None, length, slice_get, if◌then◌else◌, refl, sym, ◌∙◌, ap, subst, arith}
 use Rattle.std.specs.Prelude.{IfSome, bytes_eq, count_by, is_none, is_some, position, slice_index_or, unwrap_or}
 use Rattle.std.specs.List.{list_all, list_any, AllByRecursion}
 use Rattle.std.specs.Option.{option_map, option_map_or}
@@ -23,7 +23,6 @@ use Rattle.lvm_disk.specs.Device.{Flight}
 use Rattle.lvm_vol.specs.declared.entry.Outcome.{Outcome}
 use Rattle.lvm_vol.specs.declared.entry.Outcome.TheVariants as outcome
 use Rattle.lvm_hold.specs.Conflicts.{conflicts}
-use Rattle.lvm_hold.specs.declared.queue.Held.{Held}
 use Rattle.lvm_hold.specs.declared.queue.Row.{Row}
 use Rattle.lvm_hold.specs.Waiting.{is_blocked}
 use Rattle.lvm_mwc.specs.declared.entries.CacheEntry.{CacheEntry}
@@ -58,13 +57,14 @@ use Rattle.lvm_session.specs.declared.flown.Owner.TheVariants as owner
 use Rattle.lvm_session.specs.declared.open.Open.{Open}
 use Rattle.lvm_session.specs.declared.open.Power.TheVariants as power
 use Rattle.lvm_session.specs.State.{Core, State, is_there}
-use Rattle.lvm_session.specs.Judging.{is_sure_at, aims, all_but_sure, copies_for, counts_failed, facts_of, group_in, group_of, has_dirty_mark, has_names, held_of, is_beside, is_beside_copy, is_caught, is_clear, is_failing, is_held_back, is_held_by_move, is_kept, is_marked, is_missing, is_moved, is_past_held, is_pending, is_running, is_settled, is_stale, is_sure, is_under_way, is_usable, is_waiting, is_wanted_stale, mode_of, next_for, place_aims, place_of, places_if, pps_of, same_pps}
+use Rattle.lvm_session.specs.Judging.{is_sure_at, aims, all_but_sure, copies_for, copies_in, counts_failed, facts_of, group_in, group_of, has_dirty_mark, has_names, held_of, is_beside, is_beside_copy, is_caught, is_clear, is_failing, is_held_back, is_held_by_move, is_kept, is_marked, is_missing, is_moved, is_past_held, is_pending, is_running, is_settled, is_stale, is_sure, is_under_way, is_usable, is_waiting, is_wanted_stale, lp_of, mode_of, next_for, place_aims, place_of, places_if, pps_of, same_pps}
 use Rattle.lvm_session.specs.Bringing.{end_of, ends_if, hand_of, has_row, is_cleared, is_idle, is_out, is_whole, next_source, sources_of, step_of, step_row}
 use Rattle.lvm_session.specs.Enabled.{Part, admission_at, can_pin, copy_read, copy_write, data_at, data_start, first_event, first_from, first_of, has_buffer, is_admit, is_free_step, is_lost, is_pin, is_status_due, is_unnamed, landing, landing_at, may_be_admitted, may_pin, may_read, may_write, note_at, note_due, note_start, or_next, outcome_next, parts_to_settle, parts_to_start, pinning_at, same_row, same_rows, same_status, target_due, target_next, wants_record}
 use Rattle.lvm_session.specs.Dark.{hand_of_copy}
 use Rattle.lvm_session.specs.Owners.{AreRows, flies, same_owner, target_flies}
-use Rattle.lvm_session.specs.Requests.{IsOpenOne, IsPhase, IsRecorded, IsRequest, is_failed_and_sure, is_wanted_due, is_wanted_dirty, mode_for, wants_status, will_be_kept}
-use Rattle.lvm_session.specs.Sound.{IsCopy, IsGoing, IsOfKind, IsSound, count_if, has_number, is_dark, is_hand, pins, waiting_rows, with_row}
+use Rattle.lvm_session.specs.Requests.{IsAimed, IsMarkedPlace, IsOpenOne, IsPhase, IsRecorded, IsRequest, IsTarget, is_failed_and_sure, is_wanted_due, is_wanted_dirty, mode_for, wants_status, will_be_kept}
+use Rattle.lvm_session.specs.Sound.{IsCopy, IsGoing, IsOfKind, IsSound, count_if, has_number, is_dark, is_hand, pins, stays_fresh, waiting_rows, with_row}
+use Rattle.lvm_session.proofs.MovesLemmas.{IsOpenPlace, move_of, place_open}
 use Rattle.std.proofs.lemmas.Slice.Eq.{bytes_eq-Decides}
 use Rattle.lvm_num.proofs.Booleans.{and_false, not_so, none_if, same_by_if}
 use Rattle.lvm_num.proofs.Lists.{none_each, all_false, all_at}
@@ -76,6 +76,8 @@ use Rattle.lvm_keeps_events.proofs.JudgingLemmas.DuesMarks.{is_sure_done}
 use Rattle.lvm_keeps_events.proofs.TargetsLemmas.{count_none}
 use Rattle.lvm_keeps_events.proofs.JudgingLemmas.Chosen.{there_now}
 use Rattle.lvm_keeps_events.proofs.KeepsLemmas.Admission.{some_long}
+use Rattle.lvm_keeps_events.proofs.Lists.{by_places, or_true}
+use Rattle.lvm_keeps_events.proofs.UncaughtLemmas.{kept_of}
 
 -- ---- tests and lists
 
@@ -87,11 +89,6 @@ module _ {A : Type 0} where
   none_any : (t : A → Bool) (xs : List A) → AllByRecursion (λ (x : A). t x ≡ false) xs → list_any t xs ≡ false
   none_any t [] all = refl
   none_any t (x ∷ xs) all = ap (λ b. b || list_any t xs) all.0 ∙ none_any t xs all.1
-
-  -- what holds at each place holds of each
-  by_places : (P : A → Type 0) (xs : List A) → ((k : ℕ) (x : A) → slice_get xs k ≡ Some x → P x) → AllByRecursion P xs
-  by_places P [] each = tt
-  by_places P (x ∷ xs) each = (each zero x refl, by_places P xs (λ k y at. each (suc k) y at))
 
 -- of none an event is made
 none_made : (make : ℕ → Open → Option Event) (k : ℕ) (os : List Open) → first_from make k os ≡ None → (place : ℕ) (o : Open) → slice_get os place ≡ Some o → make (k + place) o ≡ None
@@ -151,6 +148,10 @@ over_begun (t ∷ ts) some over = by t.state over
     by stage.Done e = refl
     by stage.Failed e = refl
 
+some_there : (ts : List Target) (n : ℕ) (t : Target) → slice_get ts n ≡ Some t → 1 ≤ length ts
+some_there [] n t there = absurd (cc there)
+some_there (x ∷ ts) n t there = omega arith
+
 some_waits : (ts : List Target) → 1 ≤ length ts → is_begun ts ≡ false → list_any (λ (t : Target). is_unstarted t.state) ts ≡ true
 some_waits [] some e = absurd (omega (arith, some))
 some_waits (t ∷ ts) some e = by t.state e
@@ -201,10 +202,6 @@ module _ (core : Core) (wanted : (p : Pp) → is_wanted_stale core p ≡ is_stal
         where
           by : (f u st : Bool) → f && not st ≡ false → not (f || (u && st)) || st ≡ true
           by true u true e = or_true (not true)
-            where
-              or_true : (a : Bool) → a || true ≡ true
-              or_true true = refl
-              or_true false = refl
           by true u false e = not_so (sym e)
           by false true true e = refl
           by false true false e = refl
@@ -618,9 +615,41 @@ module _ (s : State) (sound : IsSound s) (on : s.core.power ≡ power.On) (votes
             sym (all_ended targets (none_fly place o there) (write_starts (next_is phase.Data is ∙ ap (λ (b : Bool). if b then next_data k o.request else next_read targets) write ∙ ap (λ (b : Bool). if b then next_write o.request.policy targets else next_chosen k (if k.pending then next.Wait else next_write o.request.policy targets)) begun))) ∙ its_phase.1 write
         in_phase phase.WantStatus is its_phase begun = absurd (let no : Some (if k.kept then outcome.Done else outcome.Lost) ≡ None = sym (ap outcome_next (next_is phase.WantStatus is) ∙ ap (λ (b : Bool). outcome_next (if b then next.Land (if k.kept then outcome.Done else outcome.Lost) else next.Wait)) marked_so) ∙ no_landing place o there in cc no)
           where
-            -- OPEN: `IsJudged` must say it (a place that the write has missed is wanted stale here)
+            -- where no failed target is sure a copy that stays fresh is one that succeeded
+            kept_there : (t : Target) (n : ℕ) → slice_get targets n ≡ Some t → t.moves ≡ true → list_any (is_failed_and_sure core) targets ≡ false → is_kept core o.request ≡ true
+            kept_there t n t_there moves none = kept_of core going o (one place o there) (ap wants_status is) none (over_begun targets (some_there targets n t t_there) its_phase.1) (of_aim t.moves moves (all_at (IsTarget core o.request.ask) targets n t its.shape.targets t_there).copy)
+              where
+                of_aim : (b : Bool) → b ≡ true → IsAimed b core o.request.ask t → list_any (stays_fresh core) (copies_for core o.request.ask) ≡ true
+                of_aim false never aimed = not_so never
+                of_aim true is_place aimed = (λ i. list_any (stays_fresh core) (copies_in core.descriptor (eqb-true (lv_of o.request.ask) at.copy.lv beside_it.0 i) (eqb-true (lp_of core o.request.ask) at.copy.lp beside_it.1 i))) ∙ (move_of core at.copy bring at.moves).fresh
+                  where
+                    at : IsOpenPlace core o.request.ask t.pp
+                    at = place_open core o.request.ask t.pp aimed.0
+
+                    bring : IsCopy core at.copy
+                    bring = subst (λ (m : Option OpenCopy). IfSome m (IsCopy core)) at.is_open going.copy
+
+                    beside_it : ((lv_of o.request.ask == at.copy.lv) ≡ true) × ((lp_of core o.request.ask == at.copy.lp) ≡ true)
+                    beside_it = both (lv_of o.request.ask == at.copy.lv) (lp_of core o.request.ask == at.copy.lp) at.beside
+
+            -- a place that the write has missed isn't sure, and none that it hasn't is where it is lost
+            place_marked : (n : ℕ) (t : Target) → slice_get targets n ≡ Some t → (b : Bool) → is_kept core o.request ≡ b → IsPlaceMarked core b t
+            place_marked n t t_there true kept = of t.moves (is_failed t.state) (list_any (is_failed_and_sure core) targets) (is_sure core t.pp) (all_at (IsMarkedPlace core o.request) targets n t ((its.judged write).missed (ap wants_status is)) t_there)
+              where
+                of : (a f l s : Bool) → (a && (f || l)) && s ≡ false → a && (f && s) ≡ false
+                of false f l s e = refl
+                of true true l s e = e
+                of true false l s e = refl
+            place_marked n t t_there false lost = of t.moves (is_failed t.state) (list_any (is_failed_and_sure core) targets) (is_sure core t.pp) refl refl (all_at (IsMarkedPlace core o.request) targets n t ((its.judged write).missed (ap wants_status is)) t_there)
+              where
+                of : (a f l s : Bool) → t.moves ≡ a → list_any (is_failed_and_sure core) targets ≡ l → (a && (f || l)) && s ≡ false → a && s ≡ false
+                of false f l s i j e = refl
+                of true f true s i j e = sym (ap (λ b. b && s) (or_true f)) ∙ e
+                of true true false s i j e = e
+                of true false false s i j e = not_so (sym lost ∙ kept_there t n t_there i j)
+
             places_marked : AllByRecursion (IsPlaceMarked core (is_kept core o.request)) targets
-            places_marked = ?
+            places_marked = by_places (IsPlaceMarked core (is_kept core o.request)) targets (λ n t t_there. place_marked n t t_there (is_kept core o.request) refl)
 
             marked_so : is_marked core o.request ≡ true
             marked_so = all_marked core wanted_is settled_is o.request places_marked its_phase.1 ((its.judged write).due (ap wants_status is))
@@ -1013,10 +1042,6 @@ module _ (s : State) (sound : IsSound s) (on : s.core.power ≡ power.On) (votes
     where
       its_copy : IsCopy core c
       its_copy = subst (λ m. IfSome m (IsCopy core)) is going.copy
-
-      or_true : (a : Bool) → a || true ≡ true
-      or_true true = refl
-      or_true false = refl
 
       by : (a b : Bool) → is_running c ≡ a → is_whole core c ≡ b → is_running c ≡ false
       by false b i j = i

@@ -228,6 +228,7 @@ module _ (s : State) (sound : IsSound s) (on : s.core.power ≡ power.On) (place
             uncaught = all_weaker (λ (t : Target). t.state ≡ stage.Waiting) (λ (t : Target). may_lack made t && is_caught core (group_in core o.request.ask) t.pp ≡ false)
                 (λ t e. ap (λ (st : TargetState). (is_failed st || false) && is_caught core (group_in core o.request.ask) t.pp) e) targets its_choice.fresh;
             due = λ status. not_so (sym (no_status m (is_write o.request.ask) several) ∙ status);
+            missed = λ status. not_so (sym (no_status m (is_write o.request.ask) several) ∙ status);
             all = λ begun p among. not_so (sym fresh ∙ begun);
             place = λ begun p among. not_so (sym fresh ∙ begun);
           };

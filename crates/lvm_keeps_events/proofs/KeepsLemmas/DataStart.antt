@@ -1,5 +1,5 @@
 -- The transfer of a target is started.
-use Rattle.std.proofs.Common.{◌≡◌, ◌⊎◌, inl, inr, ◌==◌, ◌≤◌, ◌<◌, ◌+◌, ℕ, Bool, true, false, ◌&&◌, ◌||◌, not, if◌then◌else◌, List, [], ◌∷◌, ◌++◌, Option, Some, length, slice_get, slice_set, refl, sym, ◌∙◌, ap, subst, arith}
+use Rattle.std.proofs.Common.{◌≡◌, ◌⊎◌, inl, inr, ◌==◌, ◌≤◌, ◌<◌, ℕ, Bool, true, false, ◌&&◌, ◌||◌, not, if◌then◌else◌, List, [], ◌∷◌, ◌++◌, Option, Some, length, slice_get, slice_set, refl, sym, ◌∙◌, ap, subst, arith}
 use Rattle.std.specs.Prelude.{AllPairs, count_by, slice_index_or}
 use Rattle.std.specs.List.{list_any, AllByRecursion}
 use Rattle.std.specs.Option.{option_map_or}
@@ -236,6 +236,7 @@ module _ (s : State) (sound : IsSound s) (on : s.core.power ≡ power.On) (place
   judged write = let j = request.judged write in record {
     uncaught = all_set Uncaught Uncaught (λ t is. is) targets target flying (sym (ap (λ st. (is_failed st || o.older) && is_caught core (group_in core o.request.ask) aim.pp) at_rest) ∙ all_at Uncaught targets target aim j.uncaught aim_is) j.uncaught;
     due = λ status. not_so status;
+    missed = λ status. not_so status;
     all = λ goes p among. ap (λ ps. is_among ps p || is_left_out core o.request.ask p) (pps_set targets target aim stage.Flying aim_is) ∙ whole p among (is_begun targets) refl;
     place = λ goes p among. ap (λ ps. is_among ps p) (pps_set targets target aim stage.Flying aim_is) ∙ along p among (is_begun targets) refl;
   }

@@ -208,6 +208,7 @@ module _ (s : State) (sound : IsSound s) (on : s.core.power ≡ power.On) (disk 
   judged_on x j = record {
     uncaught = j.uncaught;
     due = j.due;
+    missed = j.missed;
     all = λ begun p among. sym (ap (λ b. is_among (pps_of x.request.targets.items) p || (b && not (is_caught core (group_in core x.request.ask) p))) (settled_on p)) ∙ j.all begun p among;
     place = j.place;
   }
@@ -247,7 +248,7 @@ module _ (s : State) (sound : IsSound s) (on : s.core.power ≡ power.On) (disk 
             both (is_settled now.core c.pp) (is_wanted_stale core c.pp) (sym (settled_on c.pp) ∙ ap (λ b. b && is_wanted_stale core c.pp) both_stale.0 ∙ both_stale.1),
         is.clearing,
       ))
-      (λ is. (is.clear, λ runs. any_on (stays_fresh core) (stays_fresh now.core) (λ p e. sym (stays p) ∙ e) (copies_in core.descriptor c.lv c.lp) (is.fresh runs))) c.moves k.kind)
+      (λ is. (is.clear, any_on (stays_fresh core) (stays_fresh now.core) (λ p e. sym (stays p) ∙ e) (copies_in core.descriptor c.lv c.lp) is.fresh)) c.moves k.kind)
 
   -- ---- whose it is
 
@@ -390,7 +391,7 @@ module _ (s : State) (sound : IsSound s) (on : s.core.power ≡ power.On) (disk 
       omega (arith, all, more, one_more)
 
   origin : IsTrueToOrigin now
-  origin = let old = sound.origin in record { since = old.since; votes = old.votes; still_missing = old.still_missing; missing = old.missing; stale = λ p e. old.stale p (held_on p ∙ e) }
+  origin = let old = sound.origin in record { since = old.since; votes = old.votes; rows = old.rows; still_missing = old.still_missing; missing = old.missing; stale = λ p e. old.stale p (held_on p ∙ e) }
 
   pub keeps : IsStatusOf now.core disk f → IsSound now
   keeps its = sound_still s now refl refl sound on refl fitting told (keeps_on its) out (copies_still s now refl core.copy sound.copy) origin

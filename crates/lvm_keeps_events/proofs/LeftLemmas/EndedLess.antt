@@ -12,7 +12,6 @@ use Rattle.lvm_num.proofs.Lists.{all_weaker}
 use Rattle.lvm_path.specs.Asks.{is_write}
 use Rattle.lvm_path.specs.Targets.{is_begun}
 use Rattle.lvm_path.specs.declared.ask.Ask.{Ask}
-use Rattle.lvm_path.specs.declared.request.Phase.TheVariants as phase
 use Rattle.lvm_path.specs.declared.request.Request.{Request}
 use Rattle.lvm_session.specs.Bringing.{groups_of, is_whole}
 use Rattle.lvm_session.specs.Judging.{aims, copies_for, group_in, is_beside_copy, is_caught, is_changed, is_missing, is_running, is_settled, is_usable, is_waiting, place_aims, places_for, places_if, pps_of, same_pps}

@@ -242,6 +242,7 @@ module _ (s : State) (sound : IsSound s) (on : s.core.power ≡ power.On) (none 
               due = λ status. most_on (count_by (is_failed_and_sure core) o.request.targets.items) (is_kept core o.request) (will_be_kept core o.request) (will_be_kept now.core o.request)
                   (none_on (λ (t : Target). is_done t.state && is_caught core (group_in core o.request.ask) t.pp) (λ (t : Target). is_done t.state && is_caught now.core (group_in core o.request.ask) t.pp)
                   (λ t. and_on (is_done t.state) (is_caught core (group_in core o.request.ask) t.pp) (is_caught now.core (group_in core o.request.ask) t.pp) (caught t.pp)) o.request.targets.items) (j.due status);
+              missed = j.missed;
               all = λ begun p among. let was = j.all begun p among in left_same p was;
               place = λ begun p among. not_so among;
             };

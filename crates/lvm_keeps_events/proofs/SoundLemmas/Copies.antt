@@ -138,7 +138,7 @@ module _ (e : WriteEnd) (status : Stored) (marks : WantsStale (due e) e.next sta
         there = it.there;
         called = it.called;
         clear = λ runs whole. still_clear e going_on c.pp (it.clear runs whole) (place_stays e c it) (ap (λ m. marked_by_end (mid e) m c.pp) still);
-        fresh = λ runs. fresh_from e going_on c.lv c.lp (it.fresh runs);
+        fresh = fresh_from e going_on c.lv c.lp it.fresh;
       }
 
   bring_all : IfSome core.copy (IsCopy after)
@@ -314,7 +314,7 @@ module _ (e : WriteEnd) (status : Stored) (marks : WantsStale (due e) e.next sta
   bring_over : IsCopy then_on ended
   bring_over = copy_stepped before then_on c at c.tried (Some how) refl (same_next before) k
       (subst (λ m. IfSome m (λ (buf : Buffer). length buf.sectors ≡ 256)) (sym its.hand) tt) (λ busy. ap not (its.free busy)) (λ over. its.hand)
-      k.tried (source_on at its.source) (λ goes busy. not_so goes) (kind_over before then_on c at c.tried (Some how) refl refl refl c.moves k.kind)
+      k.tried (source_on at its.source) (λ goes busy. not_so goes) (kind_over before then_on c at c.tried (Some how) refl refl refl (fresh_from e at_end c.lv c.lp) c.moves k.kind)
 
   -- nothing is left to be cleared
   clear_over : (p : Pp) → is_held_stale then_on p ≡ true → is_wanted_stale then_on p ≡ false → is_clearing then_on p ≡ true

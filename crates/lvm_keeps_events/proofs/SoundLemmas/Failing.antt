@@ -169,7 +169,7 @@ module _ (core : Core) (going : IsGoing core) (c : OpenCopy) (is : core.copy ≡
       (subst (λ h. IfSome h (λ (buf : Buffer). length buf.sectors ≡ 256)) (sym (no_hand c.step)) tt)
       (λ busy. ap not (free_by c.place (step_of core c) (is_out c.step) (is_false (is_blocked core.queue.rows c.place (step_of core c)) (its.free (idle_back c.step busy)))))
       (λ e. no_hand c.step) its.tried (source_on c.step (copies_in core.descriptor c.lv c.lp) its.source) (λ runs busy. not_so runs)
-      (kind_over core now c ended.step c.tried (Some how) refl refl refl c.moves its.kind)
+      (kind_over core now c ended.step c.tried (Some how) refl refl refl (λ e. e) c.moves its.kind)
 
   pub leaves : LeavesParts core queue (Some ended) pool
   leaves = record {

@@ -125,7 +125,7 @@ module _ (s : State) (sound : IsSound s) (on : s.core.power ≡ power.On) (c : O
 
   bring : IsCopy now.core resting
   bring = copy_stepped core now.core c step.Idle tried end refl (same_next core) its tt (λ e. absurd (let no : true ≡ false = e in cc)) (λ e. refl)
-      tries tt (λ goes busy. absurd (let no : true ≡ false = busy in cc)) (kind_over core now.core c step.Idle tried end refl refl over c.moves its.kind)
+      tries tt (λ goes busy. absurd (let no : true ≡ false = busy in cc)) (kind_over core now.core c step.Idle tried end refl refl over (λ e. e) c.moves its.kind)
 
   -- ---- its place and its end
 
