@@ -45,6 +45,7 @@ use Rattle.lvm_session.specs.Judging.{all_but_sure, is_kept, is_running, is_sure
 use Rattle.lvm_session.specs.Ends.{DataLearns, Ends, Learns, after_data, keeps_buffer, learned}
 use Rattle.lvm_session.specs.Events.{IsDataTransfer}
 use Rattle.lvm_session.specs.Marks.{Entails, WantsStale, due_of, due_targets, end_by_write, hits_copy, is_among}
+use Rattle.lvm_session.specs.Requests.{IsTarget}
 use Rattle.lvm_session.specs.Sound.{IsSound}
 use Rattle.lvm_invariant.specs.State.{Going, Marks, ModelCopy, Queued, Stage, ModelState, covers}
 use Rattle.lvm_invariant.specs.Good.{Good}
