@@ -470,9 +470,9 @@ module _ (past : List Fact) (old new : State) (index : ℕ) (ends : Ends old new
       where
         by : (c : OpenCopy) → old.core.copy ≡ Some c → c.moves ≡ false → (is_whole old.core c ≡ false → calls_stale old.core.status.wanted c.pp ≡ true) → marked_by_end core2 how c.pp ≡ option_map_or (λ (y : OpenCopy). is_whole old.core y && is_pp c.pp y.pp && (not y.moves || is_called_stale old.core y.pp)) old.core.copy false
             → (b : Bool) → is_whole old.core c ≡ b → (calls_stale old.core.status.wanted c.pp ≡ true) ⊎ (due c.pp ≡ true)
-        by c here stays stale mark false part = inl (stale part)
-        by c here stays stale mark true all = inr (or_true (is_among (due_of core2 o2.request) c.pp) (marked_by_end core2 how c.pp)
-            (inr (mark ∙ ap (λ (m : Option OpenCopy). option_map_or (λ (y : OpenCopy). is_whole old.core y && is_pp c.pp y.pp && (not y.moves || is_called_stale old.core y.pp)) m false) here ∙ (λ k. all k && same_pp c.pp c.pp refl k && (not (stays k) || is_called_stale old.core c.pp)))))
+        by c here fixed stale mark false part = inl (stale part)
+        by c here fixed stale mark true all = inr (or_true (is_among (due_of core2 o2.request) c.pp) (marked_by_end core2 how c.pp)
+            (inr (mark ∙ ap (λ (m : Option OpenCopy). option_map_or (λ (y : OpenCopy). is_whole old.core y && is_pp c.pp y.pp && (not y.moves || is_called_stale old.core y.pp)) m false) here ∙ (λ k. all k && same_pp c.pp c.pp refl k && (not (fixed k) || is_called_stale old.core c.pp)))))
 
     -- ---- what the state wants
 
