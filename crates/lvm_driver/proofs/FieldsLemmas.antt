@@ -1,5 +1,5 @@
 -- What the calls leave of a driver's parts.
-use Rattle.std.proofs.Common.{◌≡◌, ℕ, Bool, List, Option, refl}
+use Rattle.std.proofs.Common.{◌≡◌, ℕ, Bool, false, List, Option, refl}
 use Rattle.std.specs.Prelude.{Result}
 use Rattle.lvm_disk.specs.declared.shelf.Arrange.{Arrange}
 use Rattle.lvm_disk.specs.Device.{Device, HasSectors}
@@ -24,6 +24,7 @@ use Rattle.lvm_keeps_events.proofs.SubmitKeepsLemmas.{submit_keeps}
 use Rattle.lvm_keeps_events.proofs.TurningLemmas.{turn_keeps}
 use Rattle.lvm_keeps_events.proofs.OpeningLemmas.Opening.{seen_open_keeps}
 use Rattle.lvm_keeps_events.specs.passed.Names.{counts_seen}
+use Rattle.lvm_going.specs.Frames.{is_moving}
 use Rattle.lvm_going.specs.Statuses.{AreValid}
 use Rattle.lvm_going.specs.Going.{AnyStep, ClosesCopy, RunsOn, LeavesSession, MakesTurn, OpensCopy, Orders, RunStep, Submits, Takes}
 use Rattle.lvm_going.proofs.GoingLemmas.{is_awake, run_frame, step_shape}
@@ -32,7 +33,7 @@ use Rattle.lvm_driver.proofs.RoomsLemmas.{rooms_stay}
 
 -- what holds of the parts whenever nobody changes them
 abbrev pub AreSound : Device → Session → Type 0
-AreSound device session = HasRooms session × IsSound (state device (core_of session))
+AreSound device session = HasRooms session × IsSound (state device (core_of session)) × (is_moving (core_of session) ≡ false)
 
 -- they hold on, and what runs on or is left of them
 pub record Stay (Left : State → State → Type 0) (device now : Device) (old new : Session) : Type 0 where
@@ -47,10 +48,10 @@ module _ (device now : Device) (old new : Session) (it : AreSound device old) (s
   is = state now (core_of new)
 
   run : IsSound is → RunStep was is → Stay RunsOn device now old new
-  run sound step = record { sound = (rooms_stay old new (run_frame was is step).keeps.room same it.0, sound); left = runs_one step }
+  run sound step = record { sound = (rooms_stay old new (run_frame was is step).keeps.room same it.0, sound, (run_frame was is step).keeps.moves it.2); left = runs_one step }
 
   leave : IsSound is → AnyStep was is → Stay LeavesSession device now old new
-  leave sound step = record { sound = (rooms_stay old new (step_shape was is step).room same it.0, sound); left = leaves_one step }
+  leave sound step = record { sound = (rooms_stay old new (step_shape was is step).room same it.0, sound, (step_shape was is step).moves it.2); left = leaves_one step }
 
   pub turn_on : (answer : Turned) → HasSectors now → AreValid old.updater → TurnMakes was is answer → Stay RunsOn device now old new
   turn_on answer sectors valid made = let sound = turn_keeps was is answer it.1 made in run sound (MakesTurn answer valid sectors made)

@@ -6,3 +6,4 @@ mod AnswersLemmas
 pub mod BeginningsLemmas
 mod LogLemmas
 mod CallsLemmas
+pub mod StandingLemmas

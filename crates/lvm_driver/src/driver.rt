@@ -20,6 +20,7 @@ ghost use Rattle.lvm_keeps.specs.Falls.{most_left};
 ghost use Rattle.lvm_keeps_events.specs.passed.Names.{counts_seen};
 ghost use Rattle.lvm_keeps_events.specs.Reading.{GetsItsBlocks};
 ghost use Rattle.lvm_keeps_events.specs.Telling.{TurnTells};
+ghost use Rattle.lvm_going.specs.Frames.{is_moving};
 ghost use Rattle.lvm_going.specs.Going.{LeavesSession, RunsOn};
 ghost use Rattle.lvm_going.specs.Statuses.{AreValid};
 ghost use Rattle.lvm_session_start.specs.Beginning.{AreFaults, MayBegin, first_core};
@@ -44,7 +45,8 @@ use std::marker::Model;
 /// A group that is varied on, over its shelf. Clients submit requests to it and take their answers; what is done
 /// about them is done by turns, one event at a time. No call of it takes memory. Each call leaves a good session good, and
 /// at each moment of it the history is legal and each crash image kept with it; no call makes a descriptor found or
-/// leaves a record of a later moment; and each landing since the session began has its cause.
+/// leaves a record of a later moment; and each landing since the session began has its cause. No call opens a move, so no
+/// copy that is open moves.
 #[derive(Drop)]
 pub struct Driver<S: Shelf> {
     shelf: S,
@@ -53,17 +55,19 @@ pub struct Driver<S: Shelf> {
 }
 
 impl<S: Shelf> Model for Driver<S> {
+    ghost use Rattle.std.specs.Prelude.{◌≡◌, false};
     ghost use Rattle.lvm_session.specs.Fields.{core_of};
     ghost use Rattle.lvm_session.specs.Rooms.{HasRooms};
     ghost use Rattle.lvm_session.specs.State.{Core, state};
     ghost use Rattle.lvm_session.specs.Sound.{IsSound};
     ghost use Rattle.lvm_session_turn.specs.passed.Names.{IsDue};
+    ghost use Rattle.lvm_going.specs.Frames.{is_moving};
 
     ghost Value = { S × Core };
 
     ghost view = { λ d. (d.shelf, core_of d.session) };
 
-    ghost invariant = { λ d. HasRooms d.session × IsSound (state (S.device d.shelf) (core_of d.session)) × IsDue (core_of d.session) d.due };
+    ghost invariant = { λ d. HasRooms d.session × IsSound (state (S.device d.shelf) (core_of d.session)) × IsDue (core_of d.session) d.due × (is_moving (core_of d.session) ≡ false) };
 }
 
 impl<S: Shelf> Driver<S> {
@@ -85,10 +89,11 @@ impl<S: Shelf> Driver<S> {
         }
     }
 
-    /// A session over its shelf, from another driver.
+    /// A session over its shelf, from another driver, of which no copy moves.
     pub fn from_parts(shelf: S, session: Session) -> Driver<S>
         requires rooms { HasRooms session }
         requires sound { IsSound (state (S.device shelf) (core_of session)) }
+        requires unmoved { is_moving (core_of session) ≡ false }
         ensures shelf { result.0 ≡ shelf }
         ensures core { result.1 ≡ core_of session }
     {
@@ -106,6 +111,7 @@ impl<S: Shelf> Driver<S> {
         ensures core { core_of result.1 ≡ self.1 }
         ensures rooms { HasRooms result.1 }
         ensures sound { IsSound (state (S.device self.0) self.1) }
+        ensures unmoved { is_moving self.1 ≡ false }
     {
         (self.shelf, self.session)
     }
@@ -215,6 +221,7 @@ impl<S: Shelf> Driver<S> {
         ensures is { result ≡ self.now.1.power }
         // What holds of the session at every moment.
         ensures sound { IsSound (state_of S.device self.now) }
+        ensures unmoved { is_moving self.now.1 ≡ false }
     {
         self.session.power
     }

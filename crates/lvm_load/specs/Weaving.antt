@@ -16,6 +16,7 @@ use Rattle.lvm_session.specs.Sound.{IsSound}
 use Rattle.lvm_session.specs.State.{Core, State}
 use Rattle.lvm_session.specs.Turns.{TurnMakes}
 use Rattle.lvm_keeps_events.specs.Turning.{is_last}
+use Rattle.lvm_driver.specs.passed.Names.{is_moving}
 use Rattle.lvm_load.specs.declared.client.Client.{Client}
 use Rattle.lvm_load.specs.Requests.{ask_of, bytes_of, word_of}
 
@@ -70,6 +71,7 @@ might_have_landed old new answer = nat_lt (length old.core.history.facts) (lengt
 -- A turn of a sound session is made, and where answers might have landed in it those that have are taken.
 pub record Turns (old new : State) (clients after : List Client) (idle idle1 : ℕ) : Type 0 where
   pub sound : IsSound old
+  pub unmoved : is_moving old.core ≡ false
   pub mid : State
   pub answer : Turned
   pub made : TurnMakes old mid answer

@@ -167,6 +167,7 @@ pub(crate) fn turn<S: Shelf>(driver: &mut Driver<S>, clients: &mut [Client], idl
     ensures runs { RunsOn (state_of S.device driver.old) (state_of S.device driver.new) }
 {
     driver.is_sound();
+    driver.moves_none();
     let before = driver.history().len();
     let answer = driver.turn();
     *idle = idle_after(answer, *idle);

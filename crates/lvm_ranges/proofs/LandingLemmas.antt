@@ -16,12 +16,12 @@ use Rattle.lvm_session.specs.Requests.{IsLanded}
 use Rattle.lvm_session.specs.Sound.{IsOver, IsSound, waits}
 use Rattle.lvm_session.specs.State.{State}
 use Rattle.lvm_session.specs.Turns.{Finds, FindsNothing, TurnMakes}
-use Rattle.lvm_driver.specs.passed.Names.{is_last, RunsOn, TurnTells, power_by}
+use Rattle.lvm_driver.specs.passed.Names.{is_last, is_moving, RunsOn, TurnTells, power_by}
 use Rattle.lvm_driver.proofs.passed.Names.{path_frames, turn_ends, runs_both, runs_none, turn_counts}
-use Rattle.lvm_keeps_events.proofs.KeepsFallsLemmas.Standing.{never_stands_still}
 use Rattle.lvm_keeps_events.specs.Losing.{LosesByFaults, LosesVotesByFaults}
 use Rattle.lvm_keeps_events.proofs.LosingLemmas.Losing.{loses_both, loses_none, turn_loses}
 use Rattle.lvm_keeps_events.proofs.LosingLemmas.Votes.{votes_go}
+use Rattle.lvm_driver.proofs.StandingLemmas.{none_waits_still}
 use Rattle.lvm_driver.specs.Drains.{IsAny, LastTurn, NoTurn, ThenMoves, ThenWaits, TurnsWhile}
 use Rattle.lvm_posts.specs.declared.asked.Asked.{Asked}
 use Rattle.lvm_ranges.specs.Keeping.{KeepsTable}
@@ -117,8 +117,8 @@ module _ (asked : Asked) (first old new : State) (patience left : ℕ) (so_far :
   landed_at_end sound answer made tells ended = let last = ends_so answer ended in over_landed asked new (turn_ends old new answer sound made last).0 (tells.over last)
 
   -- while a piece hasn't landed some transfer is out
-  pub finds : IsSound old → TurnTells old new turned.Idle → Finds old new
-  finds sound tells = by (tells.idle.0 refl).still
+  pub finds : IsSound old → is_moving old.core ≡ false → TurnTells old new turned.Idle → Finds old new
+  finds sound unmoved tells = by (tells.idle.0 refl).still
     where
       waiting : list_any is_waiting old.core.requests ≡ true
       waiting = some_waits old.core.requests (asked.first + unfinished.piece) (sym (sound.told.each (asked.first + unfinished.piece)) ∙ unfinished.waits)
@@ -127,17 +127,17 @@ module _ (asked : Asked) (first old new : State) (patience left : ℕ) (so_far :
       by (inl finds) = finds
       by (inr nothing) =
           let still = tells.idle.0 refl in
-          not_so (sym (never_stands_still old sound still.on nothing.votes still.none nothing.idle).0 ∙ waiting)
+          not_so (sym (none_waits_still old sound unmoved still.on nothing.votes still.none nothing.idle) ∙ waiting)
 
-  pub idles : IsSound old → TurnMakes old new turned.Idle → TurnTells old new turned.Idle → 1 ≤ left → RunsOn old new → Goes asked first new patience (left - 1)
-  idles sound made tells some runs =
+  pub idles : IsSound old → is_moving old.core ≡ false → TurnMakes old new turned.Idle → TurnTells old new turned.Idle → 1 ≤ left → RunsOn old new → Goes asked first new patience (left - 1)
+  idles sound unmoved made tells some runs =
       let few = so_far.fewer in
       let more : patience - left + 1 ≡ patience - (left - 1) = omega (arith, few, some) in
       record {
         turns = path turned.Idle made;
         on = with_turn first old new turned.Idle so_far.on sound made tells runs;
         fewer = omega (arith, few);
-        waited = subst (λ n. RoseBy n first.device.counts.waits new.device.counts.waits) more (rose_by_more so_far.waited (finds sound tells).waits.waits);
+        waited = subst (λ n. RoseBy n first.device.counts.waits new.device.counts.waits) more (rose_by_more so_far.waited (finds sound unmoved tells).waits.waits);
       }
 
 -- ---- what it costs
@@ -154,12 +154,12 @@ module _ (asked : Asked) (first old new : State) (patience left : ℕ) (so_far :
   pub one_move : TurnMakes old new turned.Moved → TurnTells old new turned.Moved → RunsOn old new → Costs asked first new patience left
   one_move made tells runs = record { on = goes asked first old new patience left so_far.on unfinished sound turned.Moved made tells runs; turns = ThenMoves so_far.turns unfinished some made }
 
-  pub one_wait : TurnMakes old new turned.Idle → TurnTells old new turned.Idle → RunsOn old new → Costs asked first new patience (left - 1)
-  one_wait made tells runs =
+  pub one_wait : is_moving old.core ≡ false → TurnMakes old new turned.Idle → TurnTells old new turned.Idle → RunsOn old new → Costs asked first new patience (left - 1)
+  one_wait unmoved made tells runs =
       let one : left ≡ left - 1 + 1 = omega (arith, some) in
       record {
-        on = idles asked first old new patience left so_far.on unfinished sound made tells some runs;
-        turns = ThenWaits so_far.turns unfinished one made (finds asked first old new patience left so_far.on unfinished sound tells);
+        on = idles asked first old new patience left so_far.on unfinished sound unmoved made tells some runs;
+        turns = ThenWaits so_far.turns unfinished one made (finds asked first old new patience left so_far.on unfinished sound unmoved tells);
       }
 
   last_turn : (answer : Turned) → TurnMakes old new answer → LastTurn (IsUnfinished asked) patience left first new answer

@@ -57,6 +57,7 @@ pub fn await_range<S: Shelf>(
             return Err(Stuck);
         }
         driver.is_sound();
+        driver.moves_none();
         match driver.turn() {
             Turned::Moved => {}
             Turned::Idle => patience.left -= 1,

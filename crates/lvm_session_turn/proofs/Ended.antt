@@ -125,10 +125,6 @@ module _ (core : Core) (at : ℕ) (who : Owner) (number : ℕ) (ended : HasEnded
   pub its_place : (c : OpenCopy) → core.copy ≡ Some c → IsPartitionOf core.descriptor c.pp
   its_place c is = by_kind c.moves refl
     where
-      by_kind : (b : Bool) → c.moves ≡ b → IsPartitionOf core.descriptor c.pp
-      by_kind false stays = by_number c.copy (stale_of core c (its_copy c is) stays).its
-      by_kind true moves = move_partition core c (move_of core c (its_copy c is) moves)
-
       copies : List Pp
       copies = copies_in core.descriptor c.lv c.lp
 
@@ -140,6 +136,10 @@ module _ (core : Core) (at : ℕ) (who : Owner) (number : ℕ) (ended : HasEnded
 
       by_number : (n : ℕ) → copy_at copies n ≡ Some c.pp → IsPartitionOf core.descriptor c.pp
       by_number n its = by_test (n - 1) (n == 0) its
+
+      by_kind : (b : Bool) → c.moves ≡ b → IsPartitionOf core.descriptor c.pp
+      by_kind false stays = by_number c.copy (stale_of core c (its_copy c is) stays).its
+      by_kind true moves = move_partition core c (move_of core c (its_copy c is) moves)
 
   -- what the copy has in hand stays out, whether or not the buffer comes back
   pub hand_back : (c : OpenCopy) → core.copy ≡ Some c → IsOutIf (slice_set core.pool number false) (hand_of c.step)

@@ -31,11 +31,11 @@ use Rattle.lvm_session.specs.Sound.{IsAsked, IsSound}
 use Rattle.lvm_session.specs.State.{Core, State}
 use Rattle.lvm_session.specs.Turns.{Finds, FindsNothing, TurnMakes}
 use Rattle.lvm_keeps_events.specs.Telling.{IsStill, TurnTells}
-use Rattle.lvm_keeps_events.proofs.KeepsFallsLemmas.Standing.{never_stands_still}
 use Rattle.lvm_keeps.proofs.Lists.{any_removed}
 use Rattle.lvm_keeps.proofs.Small.{both}
 use Rattle.lvm_keeps_events.proofs.TurnCallsLemmas.{some_position, turn_leaves_table}
-use Rattle.lvm_driver.specs.passed.Names.{RunsOn}
+use Rattle.lvm_driver.specs.passed.Names.{RunsOn, is_moving}
+use Rattle.lvm_driver.proofs.StandingLemmas.{none_waits_still}
 use Rattle.lvm_driver.proofs.passed.Names.{path_shape}
 use Rattle.lvm_workers.specs.Counting.{AreOfClients}
 use Rattle.lvm_load.specs.Lending.{HoldsOpen, IsDrawnAs, IsNotTaken, IsServing, KeepsServing, Plan, drawn_ask, drawn_bytes, shaped, told_in}
@@ -333,23 +333,23 @@ module _ {V : Type 0} (plan : Plan) (s_of : V → State) (always : V → Type 0)
         serves_on plan client (s_of x) (s_of y) was sound (keeps_runs plan.sync (s_of x) (s_of y) runs) (adds_none plan.clients client (s_of x).core.history.facts (s_of y).core.history.facts (turn_adds (s_of x) (s_of y) said made))
         (turn_holds (s_of x) (s_of y) said made was.holds)
 
-    rose_so : list_any is_waiting (s_of x).core.requests ≡ true → TurnTells (s_of x) (s_of y) turned.Idle → Rose (s_of x).device.counts.waits (s_of y).device.counts.waits
-    rose_so some tells = by (tells.idle.0 refl) (tells.idle.0 refl).still
+    rose_so : is_moving (s_of x).core ≡ false → list_any is_waiting (s_of x).core.requests ≡ true → TurnTells (s_of x) (s_of y) turned.Idle → Rose (s_of x).device.counts.waits (s_of y).device.counts.waits
+    rose_so unmoved some tells = by (tells.idle.0 refl) (tells.idle.0 refl).still
       where
         by : IsStill (s_of x) (s_of y) → Finds (s_of x) (s_of y) ⊎ FindsNothing (s_of x) (s_of y) → Rose (s_of x).device.counts.waits (s_of y).device.counts.waits
         by still (inl finds) = finds.waits.waits
-        by still (inr nothing) = not_so (sym (never_stands_still (s_of x) was.sound still.on nothing.votes still.none nothing.idle).0 ∙ some)
+        by still (inr nothing) = not_so (sym (none_waits_still (s_of x) was.sound unmoved still.on nothing.votes still.none nothing.idle) ∙ some)
 
-    pub turn_looks : (said : Turned) (answer : Seen) → (answer ≡ seen.Taken → ⊥) → (answer ≡ seen.Idle → said ≡ turned.Idle) → list_any is_waiting (s_of x).core.requests ≡ true → TurnMakes (s_of x) (s_of y) said → TurnTells (s_of x) (s_of y) said
+    pub turn_looks : (said : Turned) (answer : Seen) → (answer ≡ seen.Taken → ⊥) → (answer ≡ seen.Idle → said ≡ turned.Idle) → is_moving (s_of x).core ≡ false → list_any is_waiting (s_of x).core.requests ≡ true → TurnMakes (s_of x) (s_of y) said → TurnTells (s_of x) (s_of y) said
         → RunsOn (s_of x) (s_of y) → always y → Looks answer
-    turn_looks said answer not idle some made tells runs holds =
+    turn_looks said answer not idle unmoved some made tells runs holds =
         let adds = turn_adds (s_of x) (s_of y) said made in
         record {
           more = adds.more;
           grows = grows plan s_of always past pasts x y adds.more adds.is (keeps_runs plan.sync (s_of x) (s_of y) runs) holds;
           others = λ c apart. adds.nobodys c;
           enters = IsNotYet not (adds.nobodys client);
-          idle = λ e. rose_so some (subst (λ (t : Turned). TurnTells (s_of x) (s_of y) t) (idle e) tells);
+          idle = λ e. rose_so unmoved some (subst (λ (t : Turned). TurnTells (s_of x) (s_of y) t) (idle e) tells);
         }
 
 -- what was submitted is what the plan says

@@ -27,7 +27,7 @@ use Rattle.lvm_session.specs.declared.flown.Owner.{Owner}
 use Rattle.lvm_session.specs.declared.flown.Owner.TheVariants as owner
 use Rattle.lvm_session.specs.declared.open.Open.{Open}
 use Rattle.lvm_session.specs.State.{Core, State, is_there, votes_there}
-use Rattle.lvm_session.specs.Bringing.{is_out}
+use Rattle.lvm_session.specs.Bringing.{is_out, is_whole}
 use Rattle.lvm_session.specs.Calls.{is_aimed_at, is_still_aimed, state_at_end, state_of_copy}
 use Rattle.lvm_session.specs.Dark.{hand_of_copy}
 use Rattle.lvm_session.specs.Enabled.{first_of, has_buffer, is_status_due, landing, or_next, parts_to_settle, parts_to_start, same_status}
