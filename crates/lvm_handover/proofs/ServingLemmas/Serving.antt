@@ -21,6 +21,7 @@ use Rattle.lvm_kept.specs.Group.{IsOneOf}
 use Rattle.lvm_mwc.specs.Cache.{Cached, flight_on}
 use Rattle.lvm_mwc.specs.Entries.{pins_of}
 use Rattle.lvm_status.specs.Runs.{IsSoundStatus}
+use Rattle.lvm_status.specs.Table.{has_row}
 use Rattle.lvm_status.specs.Update.{is_held, members_there, seen}
 use Rattle.lvm_session.specs.declared.bringing.OpenCopy.{OpenCopy}
 use Rattle.lvm_session.specs.declared.flown.Flown.{Flown}
@@ -31,7 +32,7 @@ use Rattle.lvm_session.specs.declared.open.Power.TheVariants as power
 use Rattle.lvm_session.specs.declared.origin.Origin.{Origin}
 use Rattle.lvm_session.specs.State.{Core, State, is_there, state}
 use Rattle.lvm_session.specs.Judging.{copies_in, is_missing, is_settled, is_stale, is_wanted_stale}
-use Rattle.lvm_session.specs.Bringing.{end_of, has_row, is_out, step_row}
+use Rattle.lvm_session.specs.Bringing.{end_of, has_row as has_step_row, is_out, step_row}
 use Rattle.lvm_session.specs.Causes.{AreCaused, AreCounted, FailedSince, IsAnswered, IsChosenSince, IsCausedAmong, IsTrueToOrigin, faults_at_first, is_held_stale, is_over}
 use Rattle.lvm_session.specs.Dark.{AreTold, hand_of_copy}
 use Rattle.lvm_session.specs.Marks.{is_among, is_entailed}
@@ -112,7 +113,7 @@ module _ (added : List Pp) (old new : State) (sound : IsSound old) (began : IsSe
 
   rows : new.core.queue.rows ≡ []
   rows = ap (λ (c : Core). c.queue.rows) goes.is ∙ old_going.queue
-      ∙ ap (λ (m : Option OpenCopy). option_map_or (λ (c : OpenCopy). if has_row old.core c then with_row (step_row old.core c) (waiting_rows old.core.requests) else waiting_rows old.core.requests) m (waiting_rows old.core.requests)) began.quiet.copy
+      ∙ ap (λ (m : Option OpenCopy). option_map_or (λ (c : OpenCopy). if has_step_row old.core c then with_row (step_row old.core c) (waiting_rows old.core.requests) else waiting_rows old.core.requests) m (waiting_rows old.core.requests)) began.quiet.copy
       ∙ ap waiting_rows began.quiet.requests
 
   -- ---- where each mark is committed
@@ -150,7 +151,8 @@ module _ (added : List Pp) (old new : State) (sound : IsSound old) (began : IsSe
 
   module _ (t : Status) (stale : (p : Pp) → calls_stale t p ≡ (calls_stale new.core.origin.table p || is_among added p))
       (was : (disk : ℕ) → calls_missing new.core.origin.table disk ≡ true → calls_missing t disk ≡ true)
-      (so : (disk : ℕ) → calls_missing t disk ≡ true → (calls_missing new.core.origin.table disk ≡ true) ⊎ (is_missing new.core disk ≡ true)) where
+      (so : (disk : ℕ) → calls_missing t disk ≡ true → (calls_missing new.core.origin.table disk ≡ true) ⊎ (is_missing new.core disk ≡ true))
+      (same_rows : (disk : ℕ) → has_row t disk ≡ has_row new.core.origin.table disk) where
     abbrev core : Core
     core = record new.core { origin = record new.core.origin { table = t } }
 
@@ -244,7 +246,7 @@ module _ (added : List Pp) (old new : State) (sound : IsSound old) (began : IsSe
       status = status;
       owned = owned;
       tickets = subst HaveTickets (sym flying) tt;
-      queue = rows ∙ sym (of_copy (λ (c : OpenCopy). if has_row core c then with_row (step_row core c) (waiting_rows core.requests) else waiting_rows core.requests) (waiting_rows core.requests) ∙ ap waiting_rows requests);
+      queue = rows ∙ sym (of_copy (λ (c : OpenCopy). if has_step_row core c then with_row (step_row core c) (waiting_rows core.requests) else waiting_rows core.requests) (waiting_rows core.requests) ∙ ap waiting_rows requests);
       pinned = λ lv group. ap (λ (c : Cached). pins_of c.entries lv group) cache ∙ old_going.pinned lv group ∙ ap (count_by (pins lv group)) began.quiet.requests ∙ sym (ap (count_by (pins lv group)) requests);
       requests = all_of_none (IsOpenOne core) core.requests requests;
       copy = if_none (IsCopy core) core.copy copy;
@@ -321,6 +323,7 @@ module _ (added : List Pp) (old new : State) (sound : IsSound old) (began : IsSe
           let later : old.device.counts.faults disk ≤ new.device.counts.faults disk = goes.falls.faults disk in
           subst (λ (n : ℕ). n ≤ new.device.counts.faults disk) (sym (at_first disk)) (omega (arith, was, later));
       votes = votes;
+      rows = λ disk. same_rows disk ∙ ap (λ (o : Origin). has_row o.table disk) origin ∙ sound.origin.rows disk ∙ sym (ap (λ (d : Descriptor). is_member d disk) goes.alike);
       still_missing = missing_now;
       missing = lost;
       stale = λ p held. why_stale p (by (is_held_stale new.core p) (is_wanted_stale new.core p) (held_as p) held);
@@ -353,7 +356,8 @@ module _ (added : List Pp) (old new : State) (sound : IsSound old) (began : IsSe
   served_is_sound core served = subst (λ (c : Core). IsSound (state new.device c)) (sym served.is)
       (is_sound core.origin.table served.marks.stale
       (λ disk gone. served.marks.missing disk ∙ or_true (calls_missing new.core.origin.table disk) (is_gone new.core disk) (inl gone))
-      (λ disk gone. by (calls_missing new.core.origin.table disk) (is_member new.core.descriptor disk) (is_missing new.core disk) (sym (served.marks.missing disk) ∙ gone)))
+      (λ disk gone. by (calls_missing new.core.origin.table disk) (is_member new.core.descriptor disk) (is_missing new.core disk) (sym (served.marks.missing disk) ∙ gone))
+      served.marks.rows)
     where
       by : (a m n : Bool) → a || (m && n) ≡ true → (a ≡ true) ⊎ (n ≡ true)
       by true m n either = inl refl
@@ -361,7 +365,7 @@ module _ (added : List Pp) (old new : State) (sound : IsSound old) (began : IsSe
       by false false n either = absurd (cc either)
 
   pub stays_sound : added ≡ [] → IsSound new
-  stays_sound nothing = is_sound new.core.origin.table (λ p. or_none (calls_stale new.core.origin.table p) ∙ ap (λ (ps : List Pp). calls_stale new.core.origin.table p || is_among ps p) (sym nothing)) (λ disk gone. gone) (λ disk gone. inl gone)
+  stays_sound nothing = is_sound new.core.origin.table (λ p. or_none (calls_stale new.core.origin.table p) ∙ ap (λ (ps : List Pp). calls_stale new.core.origin.table p || is_among ps p) (sym nothing)) (λ disk gone. gone) (λ disk gone. inl gone) (λ disk. refl)
     where
       or_none : (b : Bool) → b ≡ (b || false)
       or_none true = refl

@@ -1,5 +1,5 @@
 -- The write by which a copy is brought up fails, and the copy with it.
-use Rattle.std.proofs.Common.{◌≡◌, inl, ℕ, false, ◌&&◌, List, Option, Some, refl, sym, ap, subst, ◌∙◌}
+use Rattle.std.proofs.Common.{◌≡◌, inl, ℕ, false, ◌&&◌, ◌||◌, not, List, Option, Some, refl, sym, ap, subst, ◌∙◌}
 use Rattle.std.specs.Prelude.{slice_set}
 use Rattle.lvm_num.specs.Descriptor.{is_pp}
 use Rattle.lvm_num.specs.declared.place.Pp.{Pp}
@@ -53,7 +53,7 @@ module _ (past : List Fact) (old new : State) (at : ℕ) (tied : IsTied past old
       subst (IsTied past) (sym whole)
       (ended_ties past old new at event.row false event.buf tied event.returns event.own c event.is_open (record c { step = step.Idle; end = Some ending.SyncFailed }) (slice_set old.core.pool event.buf.number false) core.queue
       (landed_write past old new at event.row false event.buf tied event.returns event.own c event.is_open event.writes sectors v.open_copy (inl refl))
-      (wanted_stale past old new at event.row false event.buf tied event.returns event.own c event.is_open event.runs part) refl refl (subst IsSound whole sound))
+      (wanted_stale past old new at event.row false event.buf tied event.returns event.own c event.is_open event.runs part) refl refl refl (subst IsSound whole sound))
 
 pub copy_write_fail_ties : CopyWriteFailTies
 copy_write_fail_ties at past old new tied sound event = fail_tied past old new at tied sound event.0 event.1

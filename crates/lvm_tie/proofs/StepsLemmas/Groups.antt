@@ -1,5 +1,5 @@
 -- The write by which a copy is brought up ends well, and more track groups follow: its next step enters the queue.
-use Rattle.std.proofs.Common.{◌≡◌, inl, inr, ⊎_elim, ℕ, ◌<◌, Bool, true, false, ◌&&◌, ◌==◌, not, if◌then◌else◌, List, [], Option, Some, None, refl, sym, ap, subst, ◌∙◌, arith}
+use Rattle.std.proofs.Common.{◌≡◌, inl, inr, ⊎_elim, ℕ, ◌<◌, Bool, true, false, ◌&&◌, ◌||◌, ◌==◌, not, if◌then◌else◌, List, [], Option, Some, None, refl, sym, ap, subst, ◌∙◌, arith}
 use Rattle.std.specs.Prelude.{IsTrue, nat_lt, slice_get, slice_set}
 use Rattle.std.proofs.lemmas.Bool.{cases_eq, not-false}
 use Rattle.std.proofs.lemmas.Bool.Decides.{nat_tests}
@@ -171,7 +171,7 @@ module _ (past : List Fact) (old new : State) (at : ℕ) (tied : IsTied past old
       subst (IsTied past) (sym whole)
       (ended_ties past old new at event.row true event.buf tied event.returns event.own c event.is_open (with_copy_end e how) (slice_set core.pool event.buf.number false) after.queue
       (landed_write past old new at event.row true event.buf tied event.returns event.own c event.is_open event.writes sectors v.open_copy (inl refl))
-      (wanted_stale past old new at event.row true event.buf tied event.returns event.own c event.is_open event.runs (part past old new at tied sectors event)) refl refl (subst IsSound whole sound))
+      (wanted_stale past old new at event.row true event.buf tied event.returns event.own c event.is_open event.runs (part past old new at tied sectors event)) refl refl refl (subst IsSound whole sound))
 
   pub group_tied : IsTied past new
   group_tied = by_end (copy_ends on) refl

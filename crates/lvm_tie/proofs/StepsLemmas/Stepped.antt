@@ -19,7 +19,7 @@ use Rattle.lvm_session.specs.State.{Core, State, state}
 use Rattle.lvm_session.specs.Judging.{is_running, place_of}
 use Rattle.lvm_session.specs.Bringing.{block_at, groups_of, has_row, is_out, is_whole}
 use Rattle.lvm_session.specs.Ends.{Returns}
-use Rattle.lvm_session.specs.Sound.{IsCopy, IsSound}
+use Rattle.lvm_session.specs.Sound.{IsSound, IsStaleCopy}
 use Rattle.lvm_invariant.specs.State.{ModelCopy, Queued, ModelState, has_landed}
 use Rattle.lvm_invariant.specs.CopyWrite.{copied}
 use Rattle.lvm_invariant.specs.Updates.{put, with_block}
@@ -27,7 +27,7 @@ use Rattle.lvm_invariant.proofs.UpdatesLemmas.Requests.{put_same}
 use Rattle.lvm_tie.specs.Out.{CarriesStep, CarryTheirs}
 use Rattle.lvm_tie.specs.Seen.{Brings, IsRequestAt, IsStepAt, Sees, SeesCopy, SeesOpen, SeesRunning, SeesStep, update_of}
 use Rattle.lvm_tie.specs.Tied.{IsTied}
-use Rattle.lvm_tie.proofs.StateLemmas.{copy_is, wanted_seen}
+use Rattle.lvm_tie.proofs.StateLemmas.{stale_is, wanted_seen}
 use Rattle.lvm_tie.proofs.TiedLemmas.Orderly.{orderly_same}
 use Rattle.lvm_tie.proofs.OutLemmas.Ended.{HasEnded}
 use Rattle.lvm_tie.proofs.StepsLemmas.Leaving.{Stands, copy_over, gone, gone_here, gone_there, put_there, step_left}
@@ -143,7 +143,7 @@ module _ (past : List Fact) (old new : State) (at : ℕ) (row : Flown) (ok : Boo
   -- the open copy is stale by what is wanted until it is whole
   pub wanted_stale : is_running c ≡ true → is_whole old.core c ≡ false → (o : ModelCopy) → tied.view.open_copy ≡ Some o → IsTrue (tied.view.wanted.stale o.target)
   wanted_stale runs part o opened =
-      let its : IsCopy core c = copy_is past old tied c is_open in
+      let its : IsStaleCopy core c = stale_is past old tied c is_open in
       let seen : SeesOpen (groups_of core) c v.open_copy = subst (λ (b : Bool). SeesRunning b (groups_of core) c v.open_copy) runs (subst (λ (m : Option OpenCopy). SeesCopy (groups_of core) m v.open_copy) is_open tied.sees.open_copy) in
       let same : seen.copy ≡ o = (let x : Some seen.copy ≡ Some o = sym seen.is_open ∙ opened in cc) in
       subst (λ (p : Pp). IsTrue (v.wanted.stale p)) (sym seen.target ∙ ap (λ (x : ModelCopy). x.target) same) (wanted_seen past old tied c.pp ∙ (its.stale runs part).1)
@@ -187,8 +187,8 @@ module _ (past : List Fact) (old new : State) (at : ℕ) (row : Flown) (ok : Boo
 
     -- It has ended, or ends with this: its step leaves the queue.
     pub ended_ties : HasLanded past old new at row ok buf tied returns own c is_open tied.view.open_copy → ((o : ModelCopy) → tied.view.open_copy ≡ Some o → IsTrue (tied.view.wanted.stale o.target))
-        → is_running d ≡ false → is_out d.step ≡ false → IsSound (state new.device new_core) → IsTied past (state new.device new_core)
-    ended_ties landed stale over rests sound =
+        → is_running d ≡ false → is_out d.step ≡ false → d.moves ≡ c.moves → IsSound (state new.device new_core) → IsTied past (state new.device new_core)
+    ended_ties landed stale over rests same sound =
         stepped_ties v.open_copy landed None (gone v.queue i step_q) v.name
         (record {
           rests = rests;
@@ -200,6 +200,7 @@ module _ (past : List Fact) (old new : State) (at : ℕ) (row : Flown) (ok : Boo
             | inr ne ↦ inl (ne, sym (gone_there v.queue i step_q j ne) ∙ there)
           ];
           open_seen = subst (λ (b : Bool). SeesRunning b (groups_of core) d None) (sym over) refl;
+          moves_same = same;
         })
         (step_left tied.votes core.descriptor (update_of core.status) (now past old new at row ok buf tied returns own c is_open) (copied v landed.block None None) i step_q
         (at_q past old new at row ok buf tied returns own c is_open) sees_q.step going
@@ -232,5 +233,6 @@ module _ (past : List Fact) (old new : State) (at : ℕ) (row : Flown) (ok : Boo
             | inr ne ↦ inl (ne, sym (put_there v.queue i next j ne) ∙ there)
           ];
           open_seen = running_on (is_running c) (groups_of core) c st tried v.open_copy (subst (λ (m : Option OpenCopy). SeesCopy (groups_of core) m v.open_copy) is_open tied.sees.open_copy);
+          moves_same = refl;
         })
         stands (λ r. (tied.copy_aimed c is_open (row_there past old new at row ok buf tied returns own c is_open)).0) sound

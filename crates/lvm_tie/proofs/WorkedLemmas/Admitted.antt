@@ -1,5 +1,5 @@
 -- A session whose write is admitted is tied.
-use Rattle.std.proofs.Common.{◌≡◌, ℕ, ◌<◌, ◌∷◌, Bool, true, false, ◌||◌, ◌==◌, [], refl, arith}
+use Rattle.std.proofs.Common.{◌≡◌, ℕ, ◌<◌, ◌∷◌, Bool, true, false, ◌||◌, ◌==◌, [], append-nil, refl, sym, arith}
 use Rattle.std.proofs.lemmas.Bool.Decides.{nat_tests}
 use Rattle.lvm_num.specs.declared.descriptor.Mode.{Mode}
 use Rattle.lvm_num.specs.declared.descriptor.Mode.TheVariants.{Active, Passive, Off}
@@ -34,7 +34,7 @@ next_is mode false = refl
 
 active : (stale : Bool) → Admits (waiting Active stale) (admitted Active stale) 0
 unfolding votes_by has_bit has
-active stale = record { request = new_open 1 0 a_write 0; there = refl; admits = next_is Active stale; targets = targets Active stale; order = []; chosen = (refl, refl); dirty = refl; is = refl }
+active stale = record { request = new_open 1 0 a_write 0; there = refl; admits = next_is Active stale; targets = targets Active stale; order = []; chosen = (sym (append-nil (targets Active stale)), refl); dirty = refl; is = refl }
 
 passive : Admits (waiting Passive true) (admitted Passive true) 0
 unfolding votes_by has_bit has
@@ -42,7 +42,7 @@ passive = record { request = new_open 1 0 a_write 0; there = refl; admits = next
 
 off : (stale : Bool) → Admits (waiting Off stale) (admitted Off stale) 0
 unfolding votes_by has_bit has
-off stale = record { request = new_open 1 0 a_write 0; there = refl; admits = next_is Off stale; targets = targets Off stale; order = []; chosen = (refl, refl); dirty = refl; is = refl }
+off stale = record { request = new_open 1 0 a_write 0; there = refl; admits = next_is Off stale; targets = targets Off stale; order = []; chosen = (sym (append-nil (targets Off stale)), refl); dirty = refl; is = refl }
 
 -- the status that is wanted is one that a record may state
 abbrev pub dirty_table : Status

@@ -1,6 +1,8 @@
-use Rattle.std.proofs.Common.{Some, ap, sym, ◌∙◌, subst, arith}
+use Rattle.std.proofs.Common.{Option, Some, false, ap, sym, ◌∙◌, subst, arith}
+use Rattle.std.specs.Option.{option_map_or}
 use Rattle.std.proofs.lemmas.Bool.{eqb-true}
 use Rattle.lvm_num.specs.declared.descriptor.Descriptor.{Descriptor}
+use Rattle.lvm_session.specs.declared.bringing.OpenCopy.{OpenCopy}
 use Rattle.lvm_session.specs.Sound.{IsSound}
 use Rattle.lvm_session.specs.State.{Core, state}
 use Rattle.lvm_group_lines.proofs.Listing.{none_few}
@@ -15,6 +17,11 @@ from_parts-driver-requires-clause-sound g c =
     let parts = c.into_parts-shelf.ensures in
     subst (λ (core : Core). IsSound (state (device c.into_parts-shelf.result.0) core)) (sym parts.core)
     (subst (λ (s : g.row.S.Denot). IsSound (state (device s) c.args.driver.1)) (sym parts.shelf) (c.requires.may c.open.ensures.sound))
+
+pub from_parts-driver-requires-clause-unmoved : goal.from_parts-driver-requires-clause-unmoved
+from_parts-driver-requires-clause-unmoved g c =
+    ap (λ (core : Core). option_map_or (λ (m : OpenCopy). m.moves) core.copy false) c.into_parts-shelf.ensures.core
+    ∙ ap (λ (m : Option OpenCopy). option_map_or (λ (m : OpenCopy). m.moves) m false) c.open.ensures.sound.none.copy
 
 pub returns-then-is_empty-clause-kind : goal.returns-then-is_empty-clause-kind
 returns-then-is_empty-clause-kind g c =

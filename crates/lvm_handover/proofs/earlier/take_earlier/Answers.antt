@@ -1,7 +1,8 @@
-use Rattle.std.proofs.Common.{sym, subst}
+use Rattle.std.proofs.Common.{sym, ap, subst, ◌∙◌}
 use Rattle.lvm_session.specs.Fields.{core_of}
 use Rattle.lvm_session.specs.Sound.{IsSound}
 use Rattle.lvm_session.specs.State.{Core, state}
+use Rattle.lvm_going.specs.Frames.{is_moving}
 use Rattle.lvm_ranges.specs.passed.Names.{AreAnswered}
 use Rattle.lvm_handover.specs.Earlier.{AreGone}
 use Rattle.lvm_handover.proofs.EarlierLemmas.Running.{stays}
@@ -22,3 +23,7 @@ from_parts-requires-clause-sound g c =
 
 pub from_parts-requires-clause-rooms : goal.from_parts-requires-clause-rooms
 from_parts-requires-clause-rooms g c = c.take_in-session.ensures.rooms c.into_parts-shelf.ensures.rooms
+
+pub from_parts-requires-clause-unmoved : goal.from_parts-requires-clause-unmoved
+from_parts-requires-clause-unmoved g c =
+    ap is_moving c.take_in-session.ensures.core ∙ ap is_moving c.into_parts-shelf.ensures.core ∙ c.into_parts-shelf.ensures.unmoved

@@ -1,6 +1,8 @@
-use Rattle.std.proofs.Common.{◌≡◌, List, sym, subst, ◌∙◌}
+use Rattle.std.proofs.Common.{◌≡◌, List, Option, false, sym, ap, subst, ◌∙◌}
+use Rattle.std.specs.Option.{option_map_or}
 use Rattle.lvm_num.specs.declared.place.Pp.{Pp}
 use Rattle.lvm_num.specs.declared.status.Status.{Status}
+use Rattle.lvm_session.specs.declared.bringing.OpenCopy.{OpenCopy}
 use Rattle.lvm_session.specs.Fields.{core_of}
 use Rattle.lvm_session.specs.State.{Core, state}
 use Rattle.lvm_session.specs.Sound.{IsSound}
@@ -23,6 +25,11 @@ from_parts-requires-clause-sound g c =
     subst (λ shelf. IsSound (state (g.S.Shelf.device shelf) (with_table core c.mark_missing.new.table))) (sym c.into_parts-shelf.ensures.shelf)
     (c.requires.may c.into_parts-shelf.ensures.sound (with_table core c.mark_missing.new.table)
     (served c.args.added.now c.args.driver.1 core c.wanted.result.now c.mark_added.new.table c.mark_missing.new.table c.into_parts-shelf.ensures.core c.wanted.ensures c.mark_added.ensures c.mark_missing.ensures))
+
+pub from_parts-requires-clause-unmoved : goal.from_parts-requires-clause-unmoved
+from_parts-requires-clause-unmoved g c =
+    ap (λ (core : Core). option_map_or (λ (m : OpenCopy). m.moves) core.copy false) c.into_parts-shelf.ensures.core
+    ∙ ap (λ (m : Option OpenCopy). option_map_or (λ (m : OpenCopy). m.moves) m false) c.into_parts-shelf.ensures.sound.none.copy
 
 pub returns-clause-served : goal.returns-clause-served
 returns-clause-served g c =
