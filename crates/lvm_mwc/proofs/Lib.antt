@@ -1,5 +1,9 @@
 pub mod FirstsLemmas
 pub mod EntriesLemmas
+pub mod FilledLemmas
+pub mod LaidLemmas
+pub mod FormsLemmas
 pub mod CacheLemmas
+pub mod PinLemmas
 pub mod NotesLemmas
 pub mod FiltersLemmas

@@ -1,5 +1,7 @@
 pub mod Firsts
 pub mod Entries
+pub mod Filled
+pub mod Laid
 pub mod Notes
 pub mod Filters
 pub mod Cache

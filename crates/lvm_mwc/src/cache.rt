@@ -4,7 +4,7 @@ ghost use Rattle.lvm_num.specs.Note.{IsEntry};
 ghost use Rattle.lvm_mwc.specs.Cache.{IsNew};
 ghost use Rattle.lvm_mwc.specs.Notes.{AreDisks, disks_of, is_of_disk};
 
-use crate::entries::{CacheEntry, make_room, note_of, place_of};
+use crate::forms::Entries;
 use crate::notes::{
     DiskNotes, FILTER, ROOM, both_name, disks_of, end_flight, filter_of, is_in_flight, passes,
     place_of_disk,
@@ -28,7 +28,7 @@ pub enum Pin {
 /// room for all 128 disks that a shelf may have.
 #[derive(Drop)]
 pub struct Cache {
-    entries: ArrayVec<CacheEntry, 62>,
+    entries: Entries,
     // the disks of the set; one is looked up here, since notes are long
     disks: Vec<u16>,
     // for each of these its notes
@@ -47,9 +47,9 @@ impl Model for Cache {
 
     ghost Value = { Cached };
 
-    ghost view = { λ c. record { entries = c.entries.items; notes = c.notes.items } };
+    ghost view = { λ c. record { entries = c.entries; notes = c.notes.items } };
 
-    ghost invariant = { λ c. AreEntries c.entries.items × AreFilters c.notes.items c.filters.items × (c.disks.items ≡ disks_of c.notes.items) × AreDisks 128 c.disks.items × HasRoom (vec_capacity c.disks) (vec_capacity c.notes) (vec_capacity c.filters) };
+    ghost invariant = { λ c. AreEntries c.entries × AreFilters c.notes.items c.filters.items × (c.disks.items ≡ disks_of c.notes.items) × AreDisks 128 c.disks.items × HasRoom (vec_capacity c.disks) (vec_capacity c.notes) (vec_capacity c.filters) };
 }
 
 // The notes of the disks of a set, which name nothing.
@@ -94,8 +94,9 @@ impl Cache {
         let notes = blank_notes(alloc, disks)?;
         let filters = closed_filters(alloc, notes.len())?;
         let disks = disks_of(alloc, &notes)?;
+        let entries = Entries::new(alloc)?;
         Ok(Cache {
-            entries: ArrayVec::new(),
+            entries,
             disks,
             notes,
             filters,
@@ -133,7 +134,7 @@ impl Cache {
     pub fn find(&self, lv: u16, group: u32) -> Option<u8>
         ensures { result ≡ position (is_entry lv group) self.now.entries }
     {
-        let place = place_of(&self.entries, lv, group)?;
+        let place = self.entries.place_of(lv, group)?;
         Some(place as u8)
     }
 
@@ -141,10 +142,7 @@ impl Cache {
     pub fn pins(&self, lv: u16, group: u32) -> u32
         ensures { result ≡ pins_of self.now.entries lv group }
     {
-        match place_of(&self.entries, lv, group) {
-            None => 0,
-            Some(place) => self.entries[place].pins,
-        }
+        self.entries.pins(lv, group)
     }
 
     /// Gives a track group a pin and the last place. One that isn't there takes a free place, else that
@@ -156,17 +154,7 @@ impl Cache {
         ensures cache { self.new ≡ after_pin self.old lv group }
         ensures entries { AreEntries self.new.entries }
     {
-        match make_room(&mut self.entries, lv, group) {
-            None => Pin::AllPinned,
-            Some(pins) => {
-                self.entries.push(CacheEntry {
-                    lv,
-                    group,
-                    pins: pins + 1,
-                });
-                Pin::Pinned
-            }
-        }
+        self.entries.pin(lv, group)
     }
 
     /// Takes a pin from a track group, which stays where it is.
@@ -175,9 +163,7 @@ impl Cache {
         ensures cache { self.new ≡ after_unpin self.old lv group }
         ensures entries { AreEntries self.new.entries }
     {
-        if let Some(place) = place_of(&self.entries, lv, group) {
-            self.entries[place].pins -= 1;
-        }
+        self.entries.unpin(lv, group);
     }
 
     /// Whether the cache was made for a disk.
@@ -207,9 +193,9 @@ impl Cache {
         ensures cache { self.new ≡ after_start self.old disk }
     {
         if let Some(place) = place_of_disk(&self.disks, disk) {
-            self.notes[place].flight = Some(note_of(&self.entries));
+            self.notes[place].flight = Some(self.entries.note());
         }
-        note_of(&self.entries)
+        self.entries.note()
     }
 
     /// The write of the note in flight on a disk has ended, well or by a fault. After a fault the sector

@@ -3,6 +3,8 @@
 
 mod cache;
 mod entries;
+mod filled;
+mod forms;
 pub mod laws;
 mod notes;
 

@@ -8,25 +8,25 @@ use Rattle.lvm_mwc.proofs.cache.Cache.admit.Goals as goal
 pub push_reserved-requires : goal.push_reserved-requires
 push_reserved-requires c =
     let inside = c.self.inside in
-    let few = room_there c.args.self.now inside.entries.items inside.notes.items inside.disks.items c.args.disk c.self.view_is c.self.invariant.2 c.self.invariant.3 c.requires.disk c.requires.apart in
+    let few = room_there c.args.self.now inside.entries inside.notes.items inside.disks.items c.args.disk c.self.view_is c.self.invariant.2 c.self.invariant.3 c.requires.disk c.requires.apart in
     omega (arith, few, inside.disks.ok.0, c.self.invariant.4.disks)
 
 pub push_reserved-requires-2 : goal.push_reserved-requires-2
 push_reserved-requires-2 c =
     let inside = c.self.inside in
-    let few = room_there c.args.self.now inside.entries.items inside.notes.items inside.disks.items c.args.disk c.self.view_is c.self.invariant.2 c.self.invariant.3 c.requires.disk c.requires.apart in
+    let few = room_there c.args.self.now inside.entries inside.notes.items inside.disks.items c.args.disk c.self.view_is c.self.invariant.2 c.self.invariant.3 c.requires.disk c.requires.apart in
     omega (arith, few, ap (λ (l : List ℕ). length l) c.self.invariant.2, as_many inside.notes.items, inside.notes.ok.0, c.self.invariant.4.notes)
 
 pub push_reserved-requires-3 : goal.push_reserved-requires-3
 push_reserved-requires-3 c =
     let inside = c.self.inside in
-    let few = room_there c.args.self.now inside.entries.items inside.notes.items inside.disks.items c.args.disk c.self.view_is c.self.invariant.2 c.self.invariant.3 c.requires.disk c.requires.apart in
+    let few = room_there c.args.self.now inside.entries inside.notes.items inside.disks.items c.args.disk c.self.view_is c.self.invariant.2 c.self.invariant.3 c.requires.disk c.requires.apart in
     omega (arith, few, ap (λ (l : List ℕ). length l) c.self.invariant.2, as_many inside.notes.items, c.self.invariant.1.as_many, inside.filters.ok.0, c.self.invariant.4.filters)
 
 pub invariant_of-self : goal.invariant_of-self
 invariant_of-self c =
     let inside = c.self.inside in
-    let apart = strange c.args.self.now inside.entries.items inside.notes.items inside.disks.items c.args.disk c.self.view_is c.self.invariant.2 c.requires.apart in
+    let apart = strange c.args.self.now inside.entries inside.notes.items inside.disks.items c.args.disk c.self.view_is c.self.invariant.2 c.requires.apart in
     let row : DiskNotes = record { disk = c.args.disk; written = c.new.result; flight = None } in (
       c.self.invariant.0,
       rw (c.push_reserved-2.ensures.items, c.push_reserved-3.ensures.items) (filters_more inside.notes.items inside.filters.items row _ c.self.invariant.1 c.new.ensures),

@@ -30,7 +30,7 @@ invariant_of-self c =
 pub returns-in-Some : goal.returns-in-Some
 returns-in-Some c =
     let inside = c.self.inside in
-    dismissed c.args.self.now inside.entries.items inside.notes.items c.args.disk c.in-Some.place c.remove-in-Some.new.self.items c.self.view_is
+    dismissed c.args.self.now inside.entries inside.notes.items c.args.disk c.in-Some.place c.remove-in-Some.new.self.items c.self.view_is
     (looked_up c.args.disk inside.notes.items inside.disks.items c.deref.result.now (Some c.in-Some.place) c.self.invariant.2 c.deref.ensures.value c.in-Some.ensures)
     (subst (AllPairs (λ (a b : ℕ). a ≢ b)) c.self.invariant.2 c.self.invariant.3.differ) c.remove-in-Some.ensures.items
 

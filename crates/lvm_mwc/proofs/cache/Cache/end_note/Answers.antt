@@ -17,7 +17,7 @@ returns-in_default c =
 
 pub returns-in-Some : goal.returns-in-Some
 returns-in-Some c =
-    changed_at c.args.self.now c.self.inside.entries.items c.self.inside.notes.items c.args.disk c.in-Some.place (ended c.args.ok) c.end_flight.new.notes c.index_mut.result.now c.self.view_is
+    changed_at c.args.self.now c.self.inside.entries c.self.inside.notes.items c.args.disk c.in-Some.place (ended c.args.ok) c.end_flight.new.notes c.index_mut.result.now c.self.view_is
     (looked_up c.args.disk c.self.inside.notes.items c.self.inside.disks.items c.deref.result.now (Some c.in-Some.place) c.self.invariant.2 c.deref.ensures.value c.in-Some.ensures) (c.end_flight.ensures ∙ ap (ended c.args.ok) c.index_mut.ensures.value)
 
 pub invariant_of-self : goal.invariant_of-self

@@ -15,5 +15,5 @@ returns-in-Some c =
     let notes = c.self.inside.notes.items in
     let n = c.index.result.now in
     let at : position (is_of_disk c.args.disk) notes ≡ Some c.in-Some.place = looked_up c.args.disk notes c.self.inside.disks.items c.deref.result.now (Some c.in-Some.place) c.self.invariant.2 c.deref.ensures.value c.in-Some.ensures in
-    c.is_in_flight.ensures ∙ ap (is_in_flight c.args.lv c.args.group) c.index.ensures ∙ sym (flying_at (cached c.self.inside.entries.items notes) c.args.disk c.args.lv c.args.group c.in-Some.place n at)
+    c.is_in_flight.ensures ∙ ap (is_in_flight c.args.lv c.args.group) c.index.ensures ∙ sym (flying_at (cached c.self.inside.entries notes) c.args.disk c.args.lv c.args.group c.in-Some.place n at)
     ∙ ap (λ (s : Cached). flight_names s c.args.disk c.args.lv c.args.group) c.self.view_is

@@ -17,4 +17,4 @@ returns-in-Some c =
     let notes = c.self.inside.notes.items in
     let n = c.index.result.now in
     let at : position (is_of_disk c.args.disk) notes ≡ Some c.in-Some.place = looked_up c.args.disk notes c.self.inside.disks.items c.deref.result.now (Some c.in-Some.place) c.self.invariant.2 c.deref.ensures.value c.in-Some.ensures in
-    c.is_some.ensures ∙ ap (λ (m : DiskNotes). is_some m.flight) c.index.ensures ∙ sym (flight_at (cached c.self.inside.entries.items notes) c.args.disk c.in-Some.place n at) ∙ ap (λ (s : Cached). is_some (flight_on s c.args.disk)) c.self.view_is
+    c.is_some.ensures ∙ ap (λ (m : DiskNotes). is_some m.flight) c.index.ensures ∙ sym (flight_at (cached c.self.inside.entries notes) c.args.disk c.in-Some.place n at) ∙ ap (λ (s : Cached). is_some (flight_on s c.args.disk)) c.self.view_is

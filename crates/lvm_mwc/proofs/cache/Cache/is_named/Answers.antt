@@ -19,7 +19,7 @@ returns-then-passes c =
     let notes = c.self.inside.notes.items in
     let n = c.index-then-passes.result.now in
     let at : position (is_of_disk c.args.disk) notes ≡ Some c.in-Some.place = looked_up c.args.disk notes c.self.inside.disks.items c.deref.result.now (Some c.in-Some.place) c.self.invariant.2 c.deref.ensures.value c.in-Some.ensures in
-    c.both_name.ensures ∙ ap (both_name c.args.lv c.args.group) c.index-then-passes.ensures ∙ sym (named_at (cached c.self.inside.entries.items notes) c.args.disk c.args.lv c.args.group c.in-Some.place n at)
+    c.both_name.ensures ∙ ap (both_name c.args.lv c.args.group) c.index-then-passes.ensures ∙ sym (named_at (cached c.self.inside.entries notes) c.args.disk c.args.lv c.args.group c.in-Some.place n at)
     ∙ ap (λ (s : Cached). is_named s c.args.disk c.args.lv c.args.group) c.self.view_is
 
 pub returns-else-passes : goal.returns-else-passes
@@ -31,4 +31,4 @@ returns-else-passes c =
     c.if-passes.false
     ∙ sym (not_passed notes c.self.inside.filters.items c.in-Some.place c.args.lv c.args.group (get_or notes c.in-Some.place blank) c.index.result.now c.self.invariant.1 (slice_get-get_or notes c.in-Some.place blank first.within)
     c.index.ensures (sym c.passes.ensures ∙ c.if-passes.false))
-    ∙ sym (named_at (cached c.self.inside.entries.items notes) c.args.disk c.args.lv c.args.group c.in-Some.place blank at) ∙ ap (λ (s : Cached). is_named s c.args.disk c.args.lv c.args.group) c.self.view_is
+    ∙ sym (named_at (cached c.self.inside.entries notes) c.args.disk c.args.lv c.args.group c.in-Some.place blank at) ∙ ap (λ (s : Cached). is_named s c.args.disk c.args.lv c.args.group) c.self.view_is

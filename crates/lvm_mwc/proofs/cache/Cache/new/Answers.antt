@@ -11,7 +11,7 @@ invariant_of-result c =
     let filters = c.in_ok-filters.filters.items in
     let long : length filters ≡ length notes = omega (arith, ap (λ (l : List (List Bool)). length l) c.in_ok-filters.ensures.closed, length-replicate c.len.result (replicate 512 false), c.len.ensures) in
     let disks : c.in_ok-disks.disks.items ≡ disks_of notes = c.in_ok-disks.ensures.disks ∙ ap disks_of c.deref.ensures.value in (
-      no_entries c.new.result.items c.new.ensures,
+      no_entries c.in_ok-entries.entries c.in_ok-entries.ensures,
       filters_blank notes filters long c.in_ok-notes.ensures.blank,
       disks,
       subst (AreDisks 128) (sym disks) c.in_ok-notes.ensures.disks,
@@ -19,4 +19,4 @@ invariant_of-result c =
     )
 
 pub returns : goal.returns
-returns c = record { entries = c.new.ensures; notes = c.in_ok-notes.ensures.new.notes }
+returns c = record { entries = c.in_ok-entries.ensures; notes = c.in_ok-notes.ensures.new.notes }

@@ -13,9 +13,9 @@ pub returns-clause-cache : goal.returns-clause-cache
 returns-clause-cache c =
     elim c.match-place_of_disk.branch [
       | in-Some w ↦ rw w.self-inside-is
-          (started_at c.args.self.now c.self.inside.entries.items c.self.inside.notes.items c.args.disk w.in-Some.place w.index_mut.result.now w.note_of.result c.self.view_is
+          (started_at c.args.self.now c.self.inside.entries c.self.inside.notes.items c.args.disk w.in-Some.place w.index_mut.result.now w.note.result c.self.view_is
           (looked_up c.args.disk c.self.inside.notes.items c.self.inside.disks.items c.deref.result.now (Some w.in-Some.place) c.self.invariant.2 c.deref.ensures.value w.in-Some.ensures)
-          w.index_mut.ensures.value w.note_of.ensures)
+          w.index_mut.ensures.value w.note.ensures)
       | in_default w ↦ rw (w.self-inside-is, c.self.view_is)
           (not_started c.args.self.now c.args.disk
           (ap (λ (s : Cached). position (is_of_disk c.args.disk) s.notes) (sym c.self.view_is) ∙ looked_up c.args.disk c.self.inside.notes.items c.self.inside.disks.items c.deref.result.now None c.self.invariant.2 c.deref.ensures.value w.in_default.ensures))
