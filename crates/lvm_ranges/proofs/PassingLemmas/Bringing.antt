@@ -1,6 +1,6 @@
 -- The copy that is open is brought up until it doesn't run.
 use Rattle.lvm_ranges.proofs.passed.Names.{path_frames, goes_any}
-use Rattle.std.proofs.Common.{◌≡◌, inl, inr, ◌-◌, ℕ, Bool, true, false, Option, Some, None, if◌then◌else◌, refl, sym, ap, subst, ◌∙◌}
+use Rattle.std.proofs.Common.{◌||◌, ◌≡◌, inl, inr, ◌-◌, ℕ, Bool, true, false, Option, Some, None, if◌then◌else◌, refl, sym, ap, subst, ◌∙◌}
 use Rattle.std.specs.Prelude.{IfSome}
 use Rattle.std.specs.Option.{option_map_or}
 use Rattle.lvm_disk.specs.Counts.{RoseBy}
