@@ -183,7 +183,7 @@ fn status_row(disk: u16, is_stale: bool) -> StatusRow
 }
 
 fn status(rt: &(impl Abort + AllocGlobal), stale: bool) -> Status
-    ensures is { result ≡ status_of (record { stale = stale; missing = false; dirty = false }) }
+    ensures is { result ≡ status_of (record { stale = stale; missing = false; dirty = false; place = false }) }
     ensures valid { IsValidStatus result }
 {
     let rows = [
