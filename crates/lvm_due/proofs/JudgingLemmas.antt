@@ -1,8 +1,9 @@
 -- What a request is told where the group, the status and the copy are as they were.
-use Rattle.std.proofs.Common.{◌≡◌, ◌==◌, ◌&&◌, ◌||◌, not, cond, Bool, false, List, [], ◌∷◌, Option, Some, None, refl, sym, ◌∙◌, ap}
+use Rattle.std.proofs.Common.{◌≡◌, ◌==◌, ◌&&◌, ◌||◌, not, cond, Bool, false, List, [], ◌∷◌, Option, Some, None, refl, sym, ◌∙◌, ap, true}
 use Rattle.std.specs.Prelude.{find, if◌then◌else◌}
 use Rattle.std.specs.List.{list_all, list_any}
 use Rattle.std.specs.Option.{option_map, option_map_or}
+use Rattle.std.proofs.lemmas.Bool.{and_right}
 use Rattle.lvm_num.specs.declared.place.Pp.{Pp}
 use Rattle.lvm_num.specs.declared.descriptor.Mode.{Mode}
 use Rattle.lvm_num.specs.declared.descriptor.Mode.TheVariants as mode
@@ -31,6 +32,18 @@ is_unsettled core r = list_any (λ (p : Pp). is_wanted_stale core p && not (is_s
 -- it is admitted and hasn't landed, in the logical partition of the copy
 abbrev pub goes_beside : Core → OpenCopy → Open → Bool
 goes_beside core c = λ (o : Open). is_waiting o && is_past_held o.request.phase && is_beside_copy core o.request.ask c
+
+-- where none is failing none is beside it
+pub none_beside : (core : Core) (r : Request) (os : List Open) → list_any (is_failing core) os ≡ false → list_any (fails_beside core r) os ≡ false
+none_beside core r [] none = refl
+none_beside core r (e ∷ os) none =
+    let parts = none_parts (is_failing core e) (list_any (is_failing core) os) none in
+    ap (λ (b : Bool). b || list_any (fails_beside core r) os) (and_right (not (e.request.id == r.id) && is_beside core e.request.ask r.ask) (is_failing core e) parts.0)
+    ∙ none_beside core r os parts.1
+  where
+    none_parts : (a b : Bool) → (a || b) ≡ false → (a ≡ false) × (b ≡ false)
+    none_parts true b none = absurd (cc none)
+    none_parts false b none = (refl, none)
 
 module _ (old new : Core) (same : ReadsSame old new) where
   -- the old one, with what is read of the new one
@@ -94,6 +107,10 @@ module _ (old new : Core) (same : ReadsSame old new) where
 
   pub failing_read : (e : Open) → is_failing new e ≡ is_failing old e
   failing_read e = failing_mid e ∙ ap (λ (core : Core). is_failing core e) mid_is
+
+  pub none_read : (os : List Open) → list_any (is_failing new) os ≡ list_any (is_failing old) os
+  none_read [] = refl
+  none_read (e ∷ os) = ap (λ (b : Bool). b || list_any (is_failing new) os) (failing_read e) ∙ ap (λ (b : Bool). is_failing old e || b) (none_read os)
 
   beside_read : (r : Request) (os : List Open) → list_any (fails_beside new r) os ≡ list_any (fails_beside mid r) os
   beside_read r [] = refl

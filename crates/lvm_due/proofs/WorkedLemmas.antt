@@ -25,6 +25,7 @@ module _ (make : ℕ → Open → Option Event) (s : Span) (x : Open) where
 busy : IsDue busy_core (record nothing { landing = record { from = 1; to = 2 } })
 unfolding has_bit
 busy = record {
+  unfailing = λ is. refl;
   landing = record { within = omega arith; none = two (landing_at busy_core) (record { from = 1; to = 2 }) half_written got_read (λ out. refl) (λ out. not_either out) };
   admission = record { within = omega arith; none = two (admission_at busy_core) nowhere half_written got_read (λ out. refl) (λ out. refl) };
   pinning = record { within = omega arith; none = two (pinning_at busy_core) nowhere half_written got_read (λ out. refl) (λ out. refl) };
@@ -35,6 +36,7 @@ busy = record {
 writing : IsDue (core_of flying) (record nothing { «data» = record { from = 0; to = 1 } })
 unfolding has_bit
 writing = record {
+  unfailing = λ is. refl;
   landing = record { within = omega arith; none = one (landing_at (core_of flying)) nowhere flying_write (λ out. refl) };
   admission = record { within = omega arith; none = one (admission_at (core_of flying)) nowhere flying_write (λ out. refl) };
   pinning = record { within = omega arith; none = one (pinning_at (core_of flying)) nowhere flying_write (λ out. refl) };

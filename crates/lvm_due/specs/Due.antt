@@ -19,13 +19,18 @@ use Rattle.lvm_due.specs.Might.{might_pin}
 use Rattle.lvm_due.specs.declared.due.Due.{Due}
 use Rattle.lvm_due.specs.Making.{might_make_admission, might_make_data, might_make_landing, might_make_note}
 
--- For each kind of event that a request makes none is due at another place.
+-- no write is failing, where this is so
+abbrev pub NoneFails : Core → Bool → Type 0
+NoneFails core unfailing = unfailing ≡ true → list_any (is_failing core) core.requests ≡ false
+
+-- For each kind of event that a request makes none is due at another place; and no write is failing, where that is known.
 pub record IsDue (core : Core) (due : Due) : Type 0 where
   pub landing : Spans (landing_at core) core.requests due.landing
   pub admission : Spans (admission_at core) core.requests due.admission
   pub pinning : Spans (pinning_at core) core.requests due.pinning
   pub note : Spans (note_at core) core.requests due.note
   pub «data» : Spans (data_at core) core.requests due.data
+  pub unfailing : NoneFails core due.unfailing
 
 -- ---- while nothing but requests is under way
 
@@ -100,6 +105,7 @@ pub record AddsMaking (r : Request) (place : ℕ) (old new : Due) : Type 0 where
   pub pinning : AddsIf (might_pin r) place old.pinning new.pinning
   pub note : AddsIf (might_make_note r) place old.note new.note
   pub «data» : AddsIf (might_make_data r) place old.data new.data
+  pub unfailing : new.unfailing ≡ old.unfailing
 
 -- ---- what has changed
 

@@ -1,4 +1,5 @@
 -- Sessions written out, and where their events are due.
+use Rattle.std.specs.Prelude.{true}
 use Rattle.lvm_session.specs.Busy.{busy_core}
 use Rattle.lvm_session.specs.Worked.{core_of, flying}
 use Rattle.lvm_due.specs.declared.span.Span.{Span}
@@ -10,7 +11,7 @@ abbrev pub nowhere : Span
 nowhere = record { from = 0; to = 0 }
 
 abbrev pub nothing : Due
-nothing = record { landing = nowhere; admission = nowhere; pinning = nowhere; note = nowhere; «data» = nowhere }
+nothing = record { landing = nowhere; admission = nowhere; pinning = nowhere; note = nowhere; «data» = nowhere; unfailing = true }
 
 -- Of a session with each of its parts in use only its second request is due, to land; one with a write under way is quiet there, and only the write's second
 -- transfer is due.

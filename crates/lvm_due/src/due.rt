@@ -16,6 +16,7 @@ ghost use Rattle.lvm_session.specs.Turns.{is_start, Makes};
 ghost use Rattle.lvm_session.specs.Sound.{IsGoing, IsTold};
 ghost use Rattle.lvm_due.specs.Due.{none, AddsMaking, Covers, HoldsPin, IsDue, IsQuiet, IsQuietFor, Moves};
 
+use crate::below::any_is_failing;
 use crate::making::{might_make_admission, might_make_data, might_make_landing, might_make_note};
 use crate::phases::might_pin;
 use crate::places::{add_if, entries, entries_if, freed_by, join};
@@ -23,7 +24,8 @@ use crate::quiet::{any_fails, is_quiet, place_of, stays_quiet};
 use crate::span::Span;
 use lvm_session::{Event, Owner, Session};
 
-/// For each kind of event the places of the table at which it may be due.
+/// For each kind of event the places of the table at which it may be due; and whether some write may be failing, which is
+/// looked for only where one may be.
 #[derive(Clone, Copy)]
 pub struct Due {
     pub landing: Span,
@@ -31,6 +33,8 @@ pub struct Due {
     pub pinning: Span,
     pub note: Span,
     pub data: Span,
+    /// Whether it is known that no write is failing.
+    pub unfailing: bool,
 }
 
 impl Due {
@@ -45,14 +49,16 @@ impl Due {
             pinning: span,
             note: span,
             data: span,
+            unfailing: len == 0,
         }
     }
 
-    // All places are due.
+    // All places are due, and failing writes are looked for.
     fn fill(&mut self, session: &Session)
         ensures { IsDue (core_of session.now) self.new }
     {
         *self = Due::all(session.requests.len());
+        self.unfailing = !any_is_failing(session);
     }
 
     // The request at a place might make the events that it shows by itself.

@@ -9,6 +9,7 @@ ghost use Rattle.lvm_path.specs.declared.request.Phase.TheVariants as phase;
 ghost use Rattle.lvm_path.specs.Asks.{at_of, is_write};
 ghost use Rattle.lvm_path.specs.Next.{next_in, next_of};
 ghost use Rattle.lvm_path.specs.Targets.{is_begun};
+ghost use Rattle.lvm_due.specs.Due.{NoneFails};
 ghost use Rattle.lvm_due.specs.Queued.{IsQueued};
 ghost use Rattle.lvm_due.specs.Reading.{no_facts};
 
@@ -109,41 +110,44 @@ pub fn is_unbegun(request: &Request) -> bool
 }
 
 // Whether another is in its way, or something is pending.
-fn must_wait(session: &Session, request: &Request) -> bool
+fn must_wait(session: &Session, request: &Request, unfailing: bool) -> bool
     requires valid { IsValid session.now.descriptor }
     requires within { IsWithin session.now.descriptor request.now.ask }
+    requires unfailing { NoneFails (core_of session.now) unfailing }
     requires id { request.now.id < 2 ^ 32 }
     requires queued { IsQueued (core_of session.now) request.now }
     ensures { result ≡ (is_held_back (core_of session.now) request.now || is_pending (core_of session.now) request.now) }
 {
-    is_held_back(session, request) || is_pending(session, request)
+    is_held_back(session, request) || is_pending(session, request, unfailing)
 }
 
 // ---- the facts that are read in each phase; the others are told as false
 
 // Of one that isn't admitted; what is pending counts as in its way.
-fn held_facts(session: &Session, request: &Request) -> Facts
+fn held_facts(session: &Session, request: &Request, unfailing: bool) -> Facts
     requires valid { IsValid session.now.descriptor }
     requires within { IsWithin session.now.descriptor request.now.ask }
+    requires unfailing { NoneFails (core_of session.now) unfailing }
     requires id { request.now.id < 2 ^ 32 }
     requires queued { IsQueued (core_of session.now) request.now }
     ensures { result ≡ record no_facts { blocked = is_held_back (core_of session.now) request.now || is_pending (core_of session.now) request.now; usable = list_any (is_usable (core_of session.now)) (copies_for (core_of session.now) request.now.ask) } }
 {
     Facts {
-        blocked: must_wait(session, request),
+        blocked: must_wait(session, request, unfailing),
         usable: has_usable(session, &request.ask),
         ..no_facts()
     }
 }
 
 // Of a write that has its targets and hasn't started its data.
-fn chosen_facts(session: &Session, request: &Request) -> Facts
+fn chosen_facts(session: &Session, request: &Request, unfailing: bool) -> Facts
     requires valid { IsValid session.now.descriptor }
     requires within { IsWithin session.now.descriptor request.now.ask }
+    requires unfailing { NoneFails (core_of session.now) unfailing }
     ensures { result ≡ record (facts_of (core_of session.now) request.now) { blocked = false; marked = false; kept = false } }
 {
     Facts {
-        pending: is_pending(session, request),
+        pending: is_pending(session, request, unfailing),
         pinned: request.pinned,
         named: has_names(session, request),
         dirty: has_dirty_mark(session, request),
@@ -154,9 +158,10 @@ fn chosen_facts(session: &Session, request: &Request) -> Facts
 }
 
 // Of a write that waits for its entry: what is pending is read only where it matters.
-fn entry_facts(session: &Session, request: &Request) -> Facts
+fn entry_facts(session: &Session, request: &Request, unfailing: bool) -> Facts
     requires valid { IsValid session.now.descriptor }
     requires within { IsWithin session.now.descriptor request.now.ask }
+    requires unfailing { NoneFails (core_of session.now) unfailing }
     ensures { next_in phase.WantEntry result request.now ≡ next_in phase.WantEntry (facts_of (core_of session.now) request.now) request.now }
 {
     if has_usable(session, &request.ask) && !is_changed(session, request) {
@@ -166,7 +171,7 @@ fn entry_facts(session: &Session, request: &Request) -> Facts
             ..no_facts()
         }
     } else {
-        chosen_facts(session, request)
+        chosen_facts(session, request, unfailing)
     }
 }
 
@@ -199,44 +204,48 @@ fn no_facts() -> Facts
 }
 
 // Of one that has its targets, and whose data may go to them.
-fn data_facts(session: &Session, request: &Request) -> Facts
+fn data_facts(session: &Session, request: &Request, unfailing: bool) -> Facts
     requires valid { IsValid session.now.descriptor }
     requires within { IsWithin session.now.descriptor request.now.ask }
+    requires unfailing { NoneFails (core_of session.now) unfailing }
     ensures { next_in phase.Data result request.now ≡ next_in phase.Data (facts_of (core_of session.now) request.now) request.now }
 {
     if is_unbegun(request) {
-        chosen_facts(session, request)
+        chosen_facts(session, request, unfailing)
     } else {
         no_facts()
     }
 }
 
 // The facts that a request reads in its phase.
-fn read_facts(session: &Session, request: &Request) -> Facts
+fn read_facts(session: &Session, request: &Request, unfailing: bool) -> Facts
     requires valid { IsValid session.now.descriptor }
     requires within { IsWithin session.now.descriptor request.now.ask }
+    requires unfailing { NoneFails (core_of session.now) unfailing }
     requires id { request.now.id < 2 ^ 32 }
     requires queued { IsQueued (core_of session.now) request.now }
     ensures { next_of request.now result ≡ next_of request.now (facts_of (core_of session.now) request.now) }
 {
     match request.phase {
-        Phase::Held => held_facts(session, request),
-        Phase::WantEntry => entry_facts(session, request),
-        Phase::WantRecord => chosen_facts(session, request),
-        Phase::Data => data_facts(session, request),
+        Phase::Held => held_facts(session, request, unfailing),
+        Phase::WantEntry => entry_facts(session, request, unfailing),
+        Phase::WantRecord => chosen_facts(session, request, unfailing),
+        Phase::Data => data_facts(session, request, unfailing),
         Phase::WantStatus => ended_facts(session, request),
         Phase::Landed => no_facts(),
     }
 }
 
 /// What a request that hasn't landed does next.
-pub fn next_of(session: &Session, open: &Open) -> Next
+pub fn next_of(session: &Session, open: &Open, unfailing: bool) -> Next
     requires valid { IsValid session.now.descriptor }
     requires within { IsWithin session.now.descriptor open.now.request.ask }
+    requires unfailing { NoneFails (core_of session.now) unfailing }
     requires id { open.now.request.id < 2 ^ 32 }
     requires targets { length open.now.request.targets.items ≤ 4 }
     requires queued { IsQueued (core_of session.now) open.now.request }
     ensures { result ≡ next_for (core_of session.now) open.now }
 {
-    open.request.next(read_facts(session, &open.request))
+    open.request
+        .next(read_facts(session, &open.request, unfailing))
 }

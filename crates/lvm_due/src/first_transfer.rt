@@ -39,7 +39,7 @@ fn first_of_data(session: &Session, due: &mut Due) -> Option<Event>
     ensures first { result ≡ data_or_copy (core_of session.now) }
     ensures due { IsDue (core_of session.now) due.new }
 {
-    let data = first_data(session, &mut due.data);
+    let data = first_data(session, due.unfailing, &mut due.data);
     if data.is_some() {
         return data;
     }

@@ -7,6 +7,7 @@ ghost use Rattle.lvm_num.specs.Geometry.{partition_blocks};
 ghost use Rattle.lvm_path.specs.declared.target.Target.{Target};
 ghost use Rattle.lvm_path.specs.Asks.{at_of};
 ghost use Rattle.lvm_due.specs.passed.FactsNames.{Open, core_of, IsWithin, counts_failed, is_beside, is_failing, is_pending, is_settled, is_waiting, is_wanted_stale, lp_of};
+ghost use Rattle.lvm_due.specs.Due.{NoneFails};
 
 use crate::below::{Open, Session};
 use crate::facts_places::partition_blocks;
@@ -44,6 +45,16 @@ pub fn is_failing(session: &Session, open: &Open) -> bool
         && any_counts_failed(session, &open.request.targets)
 }
 
+/// Whether some write is.
+pub fn any_is_failing(session: &Session) -> bool
+    ensures { result ≡ list_any (is_failing (core_of session.now)) session.now.requests.items }
+{
+    session
+        .requests
+        .iter()
+        .any(|open| is_failing(session, open))
+}
+
 fn any_is_unsettled(session: &Session, pps: &[Pp]) -> bool
     ensures { result ≡ list_any (λ (p : Pp). is_wanted_stale (core_of session.now) p && not (is_settled (core_of session.now) p)) pps.now }
 {
@@ -76,12 +87,16 @@ fn is_beside(session: &Session, a: &Ask, b: &Ask, first: u64) -> bool
     a.lv() == b.lv() && first <= a.at() && a.at() < first + partition_blocks(session.descriptor.mib)
 }
 
-// Whether another write in its logical partition is failing.
-fn any_fails_beside(session: &Session, request: &Request) -> bool
+// Whether another write in its logical partition is failing: none is looked for where it is known that none is.
+fn any_fails_beside(session: &Session, request: &Request, unfailing: bool) -> bool
     requires valid { IsValid session.now.descriptor }
+    requires unfailing { NoneFails (core_of session.now) unfailing }
     requires fits { at_of request.now.ask < 2 ^ 40 }
     ensures { result ≡ list_any (λ (e : Open). not (e.request.id == request.now.id) && is_beside (core_of session.now) e.request.ask request.now.ask && is_failing (core_of session.now) e) session.now.requests.items }
 {
+    if unfailing {
+        return false;
+    }
     let first = first_block(session, &request.ask);
     for other in &session.requests {
         if is_beside(session, &other.request.ask, &request.ask, first)
@@ -96,12 +111,13 @@ fn any_fails_beside(session: &Session, request: &Request) -> bool
 
 /// Whether staleness of a copy of its logical partition is wanted and not settled, another write there is failing,
 /// or a move of a copy of it is done.
-pub fn is_pending(session: &Session, request: &Request) -> bool
+pub fn is_pending(session: &Session, request: &Request, unfailing: bool) -> bool
     requires valid { IsValid session.now.descriptor }
     requires within { IsWithin session.now.descriptor request.now.ask }
+    requires unfailing { NoneFails (core_of session.now) unfailing }
     ensures { result ≡ is_pending (core_of session.now) request.now }
 {
     is_held_by_move(session, &request.ask)
         || any_is_unsettled(session, copies_for(session, &request.ask))
-        || any_fails_beside(session, request)
+        || any_fails_beside(session, request, unfailing)
 }

@@ -122,6 +122,7 @@ module _ (first core new : Core) (same : core ≡ first) (due : Due) (are_due : 
         pinning = narrowed (pinning_at core) core.requests due.pinning are_due.pinning test made refl;
         note = are_due.note;
         «data» = are_due.data;
+        unfailing = are_due.unfailing;
       } in
       let P : Core → Type 0 = λ c. IsDue c (record due { pinning = record due.pinning { from = place + 1 } }) in
       (stays.0 ∙ same, subst P (sym stays.0) narrow)

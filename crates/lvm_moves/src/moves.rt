@@ -50,7 +50,7 @@ pub fn land_first(session: &mut Session, due: &mut Due) -> bool
     ensures rooms { SameRooms session.old session.new }
     ensures due { IsDue (core_of session.new) due.new }
 {
-    match landing_of(first_landing(session, &mut due.landing)) {
+    match landing_of(first_landing(session, due.unfailing, &mut due.landing)) {
         None => false,
         Some((place, outcome)) => {
             let pinned = holds_pin(session, place);
@@ -68,7 +68,7 @@ fn admit_first<S: Shelf>(session: &mut Session, shelf: &S, due: &mut Due) -> boo
     ensures rooms { SameRooms session.old session.new }
     ensures due { IsDue (core_of session.new) due.new }
 {
-    match admission_of(first_admission(session, &mut due.admission)) {
+    match admission_of(first_admission(session, due.unfailing, &mut due.admission)) {
         None => false,
         Some(place) => {
             let quiet = is_quiet(session, place);

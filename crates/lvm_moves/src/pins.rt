@@ -7,7 +7,7 @@ ghost use Rattle.lvm_session.specs.Fields.{core_of};
 ghost use Rattle.lvm_session.specs.Judging.{next_for};
 ghost use Rattle.lvm_session.specs.Rooms.{SameRooms};
 ghost use Rattle.lvm_session.specs.Sound.{IsGoing};
-ghost use Rattle.lvm_due.specs.Due.{IsDue};
+ghost use Rattle.lvm_due.specs.Due.{IsDue, NoneFails};
 ghost use Rattle.lvm_moves.specs.Pinning.{PinGives, PinsAt};
 
 use crate::below::group_of;
@@ -42,8 +42,9 @@ fn pin_group(session: &mut Session, place: usize) -> bool
 }
 
 // The request at a place pins its track group, where it may.
-fn pin_at(session: &mut Session, place: usize) -> bool
+fn pin_at(session: &mut Session, place: usize, unfailing: bool) -> bool
     requires going { IsGoing (core_of session.old) }
+    requires unfailing { NoneFails (core_of session.old) unfailing }
     requires there { place < length session.old.requests.items }
     ensures at { PinsAt (core_of session.old) (core_of session.new) place result }
     ensures rooms { SameRooms session.old session.new }
@@ -51,7 +52,7 @@ fn pin_at(session: &mut Session, place: usize) -> bool
     if !might_pin(&session.requests[place].request) {
         return false;
     }
-    match next_at(session, place) {
+    match next_at(session, place, unfailing) {
         Next::Pin => pin_group(session, place),
         Next::Wait | Next::Admit | Next::Start { .. } | Next::Land { .. } => false,
     }
@@ -68,7 +69,7 @@ pub fn pin_first(session: &mut Session, due: &mut Due) -> bool
 {
     while due.pinning.from < due.pinning.to {
         let place = due.pinning.from;
-        if pin_at(session, place) {
+        if pin_at(session, place, due.unfailing) {
             due.pinned(session, place);
             return true;
         }

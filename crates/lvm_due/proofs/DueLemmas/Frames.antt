@@ -29,7 +29,7 @@ use Rattle.lvm_due.specs.declared.due.Due.{Due}
 use Rattle.lvm_due.specs.Due.{AddsMaking, Covers, IsDue, Joins, Moves}
 use Rattle.lvm_due.specs.Making.{might_make_admission, might_make_data, might_make_landing, might_make_note}
 use Rattle.lvm_due.proofs.EnabledLemmas.Unmade.{admit_none, land_none, note_none, pin_none, start_none}
-use Rattle.lvm_due.proofs.JudgingLemmas.{facts_but, failing_read, fails_beside, goes_beside, is_unsettled, moved_read, note_same, pending_read}
+use Rattle.lvm_due.proofs.JudgingLemmas.{facts_but, failing_read, fails_beside, goes_beside, is_unsettled, moved_read, note_same, pending_read, none_read}
 use Rattle.lvm_due.proofs.DueLemmas.Spanning.{KeepsSpan, adds_keep, joins_keep, not_both, out_of}
 use Rattle.lvm_due.proofs.EnabledLemmas.Unread.{blocked_unread, starts_unread}
 
@@ -124,6 +124,14 @@ module _ (frees pins : Open → Bool) (old new : Core) (place : ℕ) (moves : Mo
       ap (λ (b : Bool). if b && can_pin new.cache o.request.ask then Some (event.Pin k) else None)
       (pins_not (facts_of new o.request) o.request o.request.phase (and_left (wants_entry o.request.phase) (not (facts_of new o.request).pinned) not_so))
 
+  -- none fails where none failed
+  none_fails : list_any (is_failing old) old.requests ≡ false → list_any (is_failing new) new.requests ≡ false
+  none_fails none =
+      none_read old new moves.reads new.requests
+      ∙ ap (list_any (is_failing old)) moves.requests
+      ∙ any_set (is_failing old) old.requests place moves.was moves.is moves.there (sym (failing_read old new moves.reads moves.is) ∙ moves.fails)
+      ∙ none
+
   -- ---- a wider span of each kind
 
   module _ (s t : Span) where
@@ -177,8 +185,9 @@ module _ (frees pins : Open → Bool) (old new : Core) (place : ℕ) (moves : Mo
 -- The place is added where the request may make an event, to landing and admission those that are freed, and to pinning those of the entries.
 pub moved_due : (frees pins : Open → Bool) (old new : Core) (place : ℕ) (was each now : Due) (freed entries : Span) → place < length new.requests → Covers frees new.requests (length new.requests) freed
     → Covers pins new.requests (length new.requests) entries → ((o : Open) → slice_get new.requests place ≡ Some o → AddsMaking o.request place was each) → Joins freed each.landing now.landing
-    → Joins freed each.admission now.admission → Joins entries each.pinning now.pinning → now.note ≡ each.note → now.data ≡ each.data → Moves frees pins old new place → IsDue old was → IsDue new now
-moved_due frees pins old new place was each now freed entries low free enter making lands admits pinned notes datas moves due = record {
+    → Joins freed each.admission now.admission → Joins entries each.pinning now.pinning → now.note ≡ each.note → now.data ≡ each.data → now.unfailing ≡ each.unfailing → Moves frees pins old new place → IsDue old was → IsDue new now
+moved_due frees pins old new place was each now freed entries low free enter making lands admits pinned notes datas flag moves due = record {
+  unfailing = λ is. none_fails frees pins old new place moves (due.unfailing (sym (flag ∙ adds.unfailing) ∙ is));
   landing = landing_keeps frees pins old new place moves was.landing now.landing (λ k o there is. lands.has k (free.has k o (slice_get_within new.requests k o there) there is))
       (joins_keep (landing_at new) moves.is place n freed was.landing each.landing now.landing free.within (adds_keep (landing_at new) moves.is place n was.landing each.landing (might_make_landing moves.is.request) low (land_none new place moves.is) adds.landing) lands) due.landing;
   admission = admission_keeps frees pins old new place moves was.admission now.admission (λ k o there is. admits.has k (free.has k o (slice_get_within new.requests k o there) there is))

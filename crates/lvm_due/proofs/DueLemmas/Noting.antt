@@ -32,13 +32,13 @@ use Rattle.lvm_session.specs.State.{Core, State}
 use Rattle.lvm_session.specs.Ends.{NoteLearns}
 use Rattle.lvm_session.specs.Events.{StartsNote, with_flight}
 use Rattle.lvm_session.specs.Enabled.{admission_at, can_pin, data_at, is_admit, is_pin, is_unnamed, landing_at, note_at, note_due, outcome_next, pinning_at, target_next, wants_record}
-use Rattle.lvm_session.specs.Judging.{facts_of, group_of, has_names, held_of, is_held_back, is_held_by_move, is_missing, is_pending, mode_of, next_for, place_of}
+use Rattle.lvm_session.specs.Judging.{facts_of, group_of, has_names, held_of, is_held_back, is_held_by_move, is_missing, is_pending, mode_of, next_for, place_of, is_failing}
 use Rattle.lvm_due.specs.declared.span.Span.{Span}
 use Rattle.lvm_due.specs.Spans.{Spans}
 use Rattle.lvm_due.specs.declared.due.Due.{Due}
 use Rattle.lvm_due.specs.Due.{IsDue, ReadsSame}
 use Rattle.lvm_due.proofs.EnabledLemmas.Alike.{none_chosen, none_mapped}
-use Rattle.lvm_due.proofs.JudgingLemmas.{facts_read, fails_beside, goes_beside, is_unsettled, moved_read, pending_read}
+use Rattle.lvm_due.proofs.JudgingLemmas.{facts_read, fails_beside, goes_beside, is_unsettled, moved_read, pending_read, none_read}
 use Rattle.lvm_due.proofs.DueLemmas.Spanning.{keep, spans_all}
 use Rattle.lvm_due.proofs.EnabledLemmas.Unread.{named_falls, named_unread, named_unread_admit, named_unread_pin}
 
@@ -180,6 +180,7 @@ due_flies_not core o disk due = by (wants_record o.request.phase && o.request.pi
 
 pub note_starts_due : (old new : State) (place disk : ℕ) (due : Due) → StartsNote old new place disk → IsDue old.core due → IsDue new.core due
 note_starts_due old new place disk due starts was = record {
+  unfailing = λ is. none_read old.core new.core reads new.core.requests ∙ ap (list_any (is_failing old.core)) requests ∙ was.unfailing is;
   landing = landing_named old.core new.core reads requests queue due.landing was.landing;
   admission = admission_named old.core new.core reads requests queue due.admission was.admission;
   pinning = pinning_named old.core new.core reads requests queue (ap (λ (c : Core). c.cache.entries) core_is) due.pinning was.pinning;
@@ -230,6 +231,7 @@ note_starts_due old new place disk due starts was = record {
 
 pub note_ends_due : (old new : Core) (at disk : ℕ) (buf : Buffer) (due : Due) (all : Span) → all.from ≡ 0 → all.to ≡ length new.requests → NoteLearns old at disk true buf new → IsDue old due → IsDue new (record due { note = all; «data» = all })
 note_ends_due old new at disk buf due all from to learns was = record {
+  unfailing = λ is. none_read old new reads new.requests ∙ ap (list_any (is_failing old)) requests ∙ was.unfailing is;
   landing = landing_named old new reads requests queue due.landing was.landing;
   admission = admission_named old new reads requests queue due.admission was.admission;
   pinning = pinning_named old new reads requests queue (ap (λ (c : Core). c.cache.entries) learns) due.pinning was.pinning;

@@ -1,10 +1,12 @@
 -- Spans, and what is due outside them.
-use Rattle.std.proofs.Common.{◌≡◌, ◌<◌, ◌≤◌, ◌+◌, ◌==◌, ℕ, Bool, true, false, nat_le, nat_lt, List, Option, Some, None, length, slice_get, refl, sym, ◌∙◌, ap, subst, arith}
+use Rattle.std.proofs.Common.{◌≡◌, ◌<◌, ◌≤◌, ◌+◌, ◌==◌, ℕ, Bool, true, false, nat_le, nat_lt, List, [], ◌∷◌, Option, Some, None, length, slice_get, refl, sym, ◌∙◌, ap, subst, arith}
+use Rattle.std.specs.List.{list_any}
 use Rattle.std.proofs.lemmas.Bool.{and_from, and_parts, eqb-false, eqb-true, le-leb, leb-true, lt-ltb, ltb-true, false_from_ne_true}
 use Rattle.std.proofs.lemmas.Option.{slice_get_within}
 use Rattle.lvm_session.specs.declared.event.Event.{Event}
 use Rattle.lvm_session.specs.declared.open.Open.{Open}
 use Rattle.lvm_session.specs.State.{Core}
+use Rattle.lvm_session.specs.Judging.{is_failing}
 use Rattle.lvm_session.specs.Enabled.{admission_at, data_at, landing_at, note_at, pinning_at}
 use Rattle.lvm_due.specs.declared.span.Span.{Span}
 use Rattle.lvm_due.specs.Spans.{is_in, Skips, Spans}
@@ -34,8 +36,14 @@ module _ (n : ℕ) (make : ℕ → Open → Option Event) (requests : List Open)
     none = λ k o there out. let low = slice_get_within requests k o there in not_both s k (in_from s k (omega (arith, from)) (omega (arith, to, long, low))) out;
   }
 
-pub all_due : (core : Core) (n : ℕ) (s : Span) → s.from ≡ 0 → s.to ≡ n → length core.requests ≡ n → IsDue core (record { landing = s; admission = s; pinning = s; note = s; «data» = s })
+-- and none of no requests fails
+none_fails_yet : (core : Core) (os : List Open) → length os ≡ 0 → list_any (is_failing core) os ≡ false
+none_fails_yet core [] none = refl
+none_fails_yet core (o ∷ os) none = absurd (omega (arith, none))
+
+pub all_due : (core : Core) (n : ℕ) (s : Span) → s.from ≡ 0 → s.to ≡ n → length core.requests ≡ n → IsDue core (record { landing = s; admission = s; pinning = s; note = s; «data» = s; unfailing = n == 0 })
 all_due core n s from to long = record {
+  unfailing = λ is. none_fails_yet core core.requests (long ∙ eqb-true n 0 is);
   landing = spans_all n (landing_at core) core.requests long s from to;
   admission = spans_all n (admission_at core) core.requests long s from to;
   pinning = spans_all n (pinning_at core) core.requests long s from to;
@@ -103,7 +111,7 @@ pub skipped_due : (core : Core) (place : ℕ) (o : Open) (was now : Due) → sli
 skipped_due core place o was now there none skips rest due =
     let landing : Spans (landing_at core) core.requests now.landing =
     record { within = let within = due.landing.within in let to = skips.within in omega (arith, within, to); none = λ k p at out. by k p at out (k == place) refl } in
-    subst (IsDue core) (sym rest) (record { landing = landing; admission = due.admission; pinning = due.pinning; note = due.note; «data» = due.data })
+    subst (IsDue core) (sym rest) (record { landing = landing; admission = due.admission; pinning = due.pinning; note = due.note; «data» = due.data; unfailing = due.unfailing })
   where
     by : (k : ℕ) (p : Open) → slice_get core.requests k ≡ Some p → is_in now.landing k ≡ false → (b : Bool) → (k == place) ≡ b → landing_at core k p ≡ None
     by k p at out true here =

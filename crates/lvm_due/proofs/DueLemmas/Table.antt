@@ -34,7 +34,7 @@ use Rattle.lvm_due.specs.declared.due.Due.{Due}
 use Rattle.lvm_due.specs.Due.{AddsMaking, IsDue, ReadsSame}
 use Rattle.lvm_due.specs.Making.{might_make_admission, might_make_data, might_make_landing, might_make_note}
 use Rattle.lvm_due.proofs.EnabledLemmas.Alike.{admission_alike, data_alike, landing_alike, note_alike, pinning_alike}
-use Rattle.lvm_due.proofs.JudgingLemmas.{facts_but, fails_beside, goes_beside, is_unsettled, moved_read, note_same, pending_read}
+use Rattle.lvm_due.proofs.JudgingLemmas.{facts_but, fails_beside, goes_beside, is_unsettled, moved_read, note_same, pending_read, none_read}
 use Rattle.lvm_due.proofs.EnabledLemmas.Unmade.{admit_none, land_none, note_none, pin_none, start_none}
 use Rattle.lvm_due.proofs.DueLemmas.Spanning.{KeepsSpan, adds_keep, not_both, out_of}
 
@@ -90,6 +90,9 @@ module _ (old new : Core) (client : ℕ) (ask : Ask) (bytes : Option (List ℕ))
   no_more true = refl
   no_more false = refl
 
+  fresh_fails : is_failing old fresh ≡ false
+  fresh_fails = and_left (is_waiting fresh && is_write ask && false) (list_any (counts_failed old) []) (and_right (is_waiting fresh && is_write ask) false refl)
+
   -- it fails not yet
   begun_pending : (r : Request) → is_pending new r ≡ is_pending old r
   begun_pending r =
@@ -103,7 +106,7 @@ module _ (old new : Core) (client : ℕ) (ask : Ask) (bytes : Option (List ℕ))
       goes c is = ap (list_any (goes_beside old c)) begun_requests ∙ list_any-append (goes_beside old c) old.requests (fresh ∷ []) ∙ no_more (list_any (goes_beside old c) old.requests)
 
       fails : fails_beside old r fresh ≡ false
-      fails = and_right (not (fresh.request.id == r.id) && is_beside old ask r.ask) (is_failing old fresh) (and_left (is_waiting fresh && is_write ask && false) (list_any (counts_failed old) []) (and_right (is_waiting fresh && is_write ask) false refl))
+      fails = and_right (not (fresh.request.id == r.id) && is_beside old ask r.ask) (is_failing old fresh) fresh_fails
 
   -- nor is it in the way of one that was there
   begun_behind : (k : ℕ) (o : Open) → slice_get old.requests k ≡ Some o → is_held_back new o.request ≡ is_held_back old o.request
@@ -144,6 +147,8 @@ module _ (old new : Core) (client : ℕ) (ask : Ask) (bytes : Option (List ℕ))
 
   pub begun_due : (place : ℕ) (was now : Due) → place + 1 ≡ length new.requests → ((o : Open) → slice_get new.requests place ≡ Some o → AddsMaking o.request place was now) → IsDue old was → IsDue new now
   begun_due place was now is making due = record {
+    unfailing = λ still. none_read old new begun_reads new.requests ∙ ap (list_any (is_failing old)) begun_requests
+        ∙ list_any-append (is_failing old) old.requests (fresh ∷ []) ∙ ap (λ (b : Bool). b || (is_failing old fresh || false)) (due.unfailing (sym adds.unfailing ∙ still)) ∙ ap (λ (b : Bool). b || false) fresh_fails;
     landing = begun_keeps was.landing now.landing (landing_at old) (landing_at new) (adds_keep (landing_at new) fresh at n was.landing now.landing (might_make_landing fresh.request) low (land_none new at fresh) adds.landing)
         (λ k o there. landing_alike old new o (begun_facts k o there) k k) due.landing;
     admission = begun_keeps was.admission now.admission (admission_at old) (admission_at new) (adds_keep (admission_at new) fresh at n was.admission now.admission (might_make_admission fresh.request) low (admit_none new at fresh) adds.admission)
@@ -207,6 +212,10 @@ module _ (old new : Core) (place id : ℕ) (o : Open) (there : slice_get old.req
   left_cache : new.cache ≡ old.cache
   left_cache = ap (λ (c : Core). c.cache) leaves
 
+  left_fails : is_failing old o ≡ false
+  left_fails = and_left (is_waiting o && is_write o.request.ask && is_begun o.request.targets.items) (list_any (counts_failed old) o.request.targets.items)
+      (and_left (is_waiting o && is_write o.request.ask) (is_begun o.request.targets.items) (and_left (is_waiting o) (is_write o.request.ask) landed))
+
   left_pending : (r : Request) → is_pending new r ≡ is_pending old r
   left_pending r =
       pending_read old new left_reads r (moved_read old new left_reads r.ask goes)
@@ -219,9 +228,7 @@ module _ (old new : Core) (place id : ℕ) (o : Open) (there : slice_get old.req
           ∙ any_removed (goes_beside old c) old.requests place o there (and_left (is_waiting o && is_past_held o.request.phase) (is_beside_copy old o.request.ask c) (and_left (is_waiting o) (is_past_held o.request.phase) landed))
 
       fails : fails_beside old r o ≡ false
-      fails = and_right (not (o.request.id == r.id) && is_beside old o.request.ask r.ask) (is_failing old o)
-          (and_left (is_waiting o && is_write o.request.ask && is_begun o.request.targets.items) (list_any (counts_failed old) o.request.targets.items)
-          (and_left (is_waiting o && is_write o.request.ask) (is_begun o.request.targets.items) (and_left (is_waiting o) (is_write o.request.ask) landed)))
+      fails = and_right (not (o.request.id == r.id) && is_beside old o.request.ask r.ask) (is_failing old o) left_fails
 
   left_facts : (e : Open) → facts_of new e.request ≡ facts_of old e.request
   left_facts e =
@@ -243,8 +250,9 @@ module _ (old new : Core) (place id : ℕ) (o : Open) (there : slice_get old.req
             by (inr next) = same (k + 1) k e (spans.none (k + 1) e next (false_from_ne_true (is_in s (k + 1)) (λ is. not_both t k (gone.before k low is) out)))
 
   pub left_due : (n : ℕ) (was now : Due) → n ≡ length new.requests → Shifts n was.landing now.landing → Shifts n was.admission now.admission → Shifts n was.pinning now.pinning → Shifts n was.note now.note
-      → Shifts n was.data now.data → IsDue old was → IsDue new now
-  left_due n was now few lands admits pins notes datas due = record {
+      → Shifts n was.data now.data → now.unfailing ≡ was.unfailing → IsDue old was → IsDue new now
+  left_due n was now few lands admits pins notes datas flag due = record {
+    unfailing = λ still. none_read old new left_reads new.requests ∙ ap (list_any (is_failing old)) left_requests ∙ any_removed (is_failing old) old.requests place o there left_fails ∙ due.unfailing (sym flag ∙ still);
     landing = left_keeps n was.landing now.landing few lands (landing_at old) (landing_at new) (λ j k e. landing_alike old new e (left_facts e) j k) due.landing;
     admission = left_keeps n was.admission now.admission few admits (admission_at old) (admission_at new) (λ j k e. admission_alike old new e (left_facts e) j k) due.admission;
     pinning = left_keeps n was.pinning now.pinning few pins (pinning_at old) (pinning_at new) (λ j k e. pinning_alike old new e (left_facts e) j k (ap (λ (c : Cached). can_pin c e.request.ask) left_cache)) due.pinning;

@@ -53,9 +53,9 @@ returns-in-Some-clause-due g c =
     let core = core_of c.args.session.now in
     let due = c.requires.due in
     c.admitted.ensures (state (g.S.Shelf.device c.args.shelf.now) core) c.requires.may.going c.is_quiet-quiet.ensures c.holds_pin-pinned.ensures c.admit_at.ensures.admits
-    (record { landing = due.landing; admission = c.first_admission.ensures.span; pinning = due.pinning; note = due.note; «data» = due.data })
+    (record { landing = due.landing; admission = c.first_admission.ensures.span; pinning = due.pinning; note = due.note; «data» = due.data; unfailing = due.unfailing })
 
 pub returns-in-None-clause-due : goal.returns-in-None-clause-due
 returns-in-None-clause-due g c =
     let due = c.requires.due in
-    record { landing = due.landing; admission = c.first_admission.ensures.span; pinning = due.pinning; note = due.note; «data» = due.data }
+    record { landing = due.landing; admission = c.first_admission.ensures.span; pinning = due.pinning; note = due.note; «data» = due.data; unfailing = due.unfailing }

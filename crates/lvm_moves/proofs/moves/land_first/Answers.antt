@@ -45,9 +45,9 @@ pub returns-in-Some-clause-due : goal.returns-in-Some-clause-due
 returns-in-Some-clause-due c =
     let due = c.requires.due in
     c.landed.ensures (state faultless (core_of c.args.session.now)) c.in-Some.outcome c.requires.going c.holds_pin-pinned.ensures (c.land_at.ensures.lands faultless)
-    (record { landing = c.first_landing.ensures.span; admission = due.admission; pinning = due.pinning; note = due.note; «data» = due.data })
+    (record { landing = c.first_landing.ensures.span; admission = due.admission; pinning = due.pinning; note = due.note; «data» = due.data; unfailing = due.unfailing })
 
 pub returns-in-None-clause-due : goal.returns-in-None-clause-due
 returns-in-None-clause-due c =
     let due = c.requires.due in
-    record { landing = c.first_landing.ensures.span; admission = due.admission; pinning = due.pinning; note = due.note; «data» = due.data }
+    record { landing = c.first_landing.ensures.span; admission = due.admission; pinning = due.pinning; note = due.note; «data» = due.data; unfailing = due.unfailing }

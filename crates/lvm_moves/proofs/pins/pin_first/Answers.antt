@@ -12,6 +12,9 @@ pin_at-requires-clause-going c = subst IsGoing (sym c.loop-due.invariant.same) c
 pub pin_at-requires-clause-there : goal.pin_at-requires-clause-there
 pin_at-requires-clause-there c = is_place (core_of c.args.session.now) (core_of c.loop-due.session) (core_of c.loop-due.session) c.loop-due.invariant.same c.loop-due.due c.loop-due.invariant.due c.loop-due-test.true
 
+pub pin_at-requires-clause-unfailing : goal.pin_at-requires-clause-unfailing
+pin_at-requires-clause-unfailing c = c.loop-due.invariant.due.unfailing
+
 pub pinned-requires : goal.pinned-requires
 pinned-requires c =
     let core = core_of c.loop-due.session in
