@@ -1,4 +1,4 @@
-use Rattle.std.proofs.Common.{arith}
+use Rattle.std.proofs.Common.{refl, arith}
 use Rattle.lvm_session.specs.Fields.{core_of}
 use Rattle.lvm_due.proofs.DueLemmas.Table.{left_due}
 use Rattle.lvm_due.proofs.due.Due.taken.Goals as goal
