@@ -1,8 +1,9 @@
 -- Stale copies of a volume are brought up, beside the workers of a load and behind them.
-use Rattle.std.specs.Prelude.{◌≡◌, ◌&&◌, ℕ, Bool, true, false, not, Option, Some, None, Result, Err, IfErr}
+use Rattle.std.specs.Prelude.{◌≡◌, ◌&&◌, ◌+◌, ◌/◌, ◌%◌, ℕ, nat_lt, if◌then◌else◌, Bool, true, false, not, Option, Some, None, Result, Ok, Err, IfErr}
 use Rattle.std.specs.List.{list_any}
 use Rattle.lvm_num.specs.Votes.{total_votes}
 use Rattle.lvm_keeps_events.specs.Telling.{TurnTells}
+use Rattle.lvm_keeps_events.specs.passed.Names.{counts_seen}
 use Rattle.lvm_driver.specs.passed.Names.{LeavesSession, RunsOn}
 use Rattle.lvm_workers.specs.declared.bring.Brought.{Brought}
 use Rattle.lvm_workers.specs.declared.bring.Brought.TheVariants as brought
@@ -10,10 +11,12 @@ use Rattle.lvm_session.specs.declared.answers.Turned.{Turned}
 use Rattle.lvm_session.specs.declared.answers.Turned.TheVariants as turned
 use Rattle.lvm_session.specs.Turns.{TurnMakes}
 use Rattle.lvm_ranges.specs.Passing.{Runs}
+use Rattle.lvm_session.specs.declared.answers.CopyFault.{CopyFault}
+use Rattle.lvm_session.specs.declared.answers.CopyFault.TheVariants as refusal
 use Rattle.lvm_session.specs.declared.answers.CopyState.TheVariants as copy
 use Rattle.lvm_session.specs.declared.open.Power.{Power}
 use Rattle.lvm_session.specs.declared.open.Power.TheVariants as power
-use Rattle.lvm_session.specs.Calls.{closed, copy_state, is_asked}
+use Rattle.lvm_session.specs.Calls.{OpenGives, closed, copy_state, is_asked}
 use Rattle.lvm_session.specs.State.{State, state, votes_there}
 use Rattle.lvm_ranges.specs.declared.fault.SyncFault.{SyncFault}
 use Rattle.lvm_ranges.specs.declared.fault.SyncFault.TheVariants as fault
@@ -32,10 +35,49 @@ pub record EntersNone (old new : State) : Type 0 where
   pub history : new.core.history ≡ old.core.history
   pub asked : (client id : ℕ) → list_any (is_asked client id) new.core.requests ≡ list_any (is_asked client id) old.core.requests
 
--- One event for the copy of a place: it is opened or closed, or neither; or a turn is made while it is brought up.
-pub data BringsOn (old new : State) (answer : Brought) : Type 0 where
-  ByCall : EntersNone old new → (answer ≡ brought.Idle → ⊥) → BringsOn old new answer
-  ByTurn : (said : Turned) → Runs old.core → TurnMakes old new said → TurnTells old new said → RunsOn old new → (answer ≡ brought.Idle → said ≡ turned.Idle) → BringsOn old new answer
+-- the places of a volume go by logical partitions, and then by copies, three for each, which are numbered from 1
+abbrev pub part_of : ℕ → ℕ
+part_of at = at / 3
+
+abbrev pub number_of : ℕ → ℕ
+number_of at = at % 3 + 1
+
+-- what comes behind a copy that isn't opened for this: the next one; or none, where the session takes none, or the volume has no such logical partition
+abbrev pub behind : CopyFault → ℕ → Brought
+behind refusal.OutOfRange number = if nat_lt 1 number then brought.Next else brought.Over
+behind refusal.Busy number = brought.Next
+behind refusal.AlreadyFresh number = brought.Next
+behind (refusal.Missing disk) number = brought.Next
+behind refusal.NoFresh number = brought.Next
+behind refusal.Dark number = brought.Over
+behind refusal.Off number = brought.Over
+behind refusal.NoVolume number = brought.Over
+behind refusal.HistoryFull number = brought.Over
+
+abbrev pub behind_opening : Result (Unit {0}) CopyFault → ℕ → Brought
+behind_opening (Ok done) number = brought.Moved
+behind_opening (Err why) number = behind why number
+
+abbrev pub behind_turn : Turned → Brought
+behind_turn turned.Idle = brought.Idle
+behind_turn _ = brought.Moved
+
+-- a turn is made
+pub data TurnsOn (old new : State) (answer : Brought) : Type 0 where
+  OneTurn : (said : Turned) → Runs old.core → TurnMakes old new said → TurnTells old new said → RunsOn old new → answer ≡ behind_turn said → TurnsOn old new answer
+
+-- One event for the copy of a place: none is open, and the volume's copy of that place is opened, or isn't, for a cause; a turn is made while one is brought up; or
+-- one that has ended is closed.
+pub data BringsOn (lv at : ℕ) (old new : State) (answer : Brought) : Type 0 where
+  ByOpening : copy_state old.core ≡ copy.Closed → EntersNone old new → (given : Result (Unit {0}) CopyFault)
+      → OpenGives (counts_seen old.device old.core) old.core new.core lv (part_of at) (number_of at) given → answer ≡ behind_opening given (number_of at) → BringsOn lv at old new answer
+  ByTurn : (cursor : ℕ) → copy_state old.core ≡ copy.Running cursor → TurnsOn old new answer → BringsOn lv at old new answer
+  ByClosing : (copy_state old.core ≡ copy.Closed → ⊥) → ((cursor : ℕ) → copy_state old.core ≡ copy.Running cursor → ⊥) → EntersNone old new → new.core ≡ closed old.core → answer ≡ brought.Next → BringsOn lv at old new answer
+
+-- so it is where copies are brought up; else none is
+abbrev pub BringsIf : Bool → ℕ → ℕ → State → State → Brought → Type 0
+BringsIf true lv at old new answer = BringsOn lv at old new answer
+BringsIf false lv at old new answer = (new ≡ old) × (answer ≡ brought.Over)
 
 -- ---- behind them
 

@@ -1,5 +1,5 @@
 -- A session that a lock lends to workers, one after the other.
-use Rattle.std.specs.Prelude.{◌≡◌, ◌+◌, ◌-◌, ◌*◌, ◌/◌, ◌%◌, ◌++◌, ℕ, Bool, true, false, if◌then◌else◌, List, [], ◌∷◌, Option, Some, None, is_some, length}
+use Rattle.std.specs.Prelude.{◌≡◌, ◌+◌, ◌-◌, ◌*◌, ◌/◌, ◌%◌, ◌++◌, ℕ, Bool, true, false, if◌then◌else◌, List, [], ◌∷◌, Option, Some, None, is_some, Err, length}
 use Rattle.std.specs.List.{list_any}
 use Rattle.lvm_vol.specs.declared.entry.Vol.TheVariants.{Lv}
 use Rattle.lvm_vol.specs.Facts.{Request, Fact, Begun}
@@ -8,16 +8,26 @@ use Rattle.lvm_vol.specs.Log.{blocks_given}
 use Rattle.lvm_path.specs.declared.ask.Ask.{Ask}
 use Rattle.lvm_path.specs.Asks.{at_of, count_of, lv_of}
 use Rattle.lvm_session.specs.declared.answers.AskFault.{AskFault}
+use Rattle.lvm_session.specs.declared.answers.Taken.{Taken}
+use Rattle.lvm_session.specs.declared.answers.Taken.TheVariants as taken
+use Rattle.lvm_session.specs.declared.answers.Turned.{Turned}
+use Rattle.lvm_session.specs.declared.answers.Turned.TheVariants as turned
 use Rattle.lvm_session.specs.declared.open.Power.TheVariants as power
-use Rattle.lvm_session.specs.Calls.{ask_fault, is_asked}
+use Rattle.lvm_session.specs.Calls.{TakeGives, ask_fault, is_asked}
 use Rattle.lvm_session.specs.Causes.{is_over}
 use Rattle.lvm_session.specs.Sound.{IsSound, count_if, is_dark}
 use Rattle.lvm_session.specs.State.{Core, State}
+use Rattle.lvm_session.specs.Turns.{TurnMakes}
 use Rattle.lvm_driver.specs.Showing.{counts_of, fixed_by}
 use Rattle.lvm_driver.specs.passed.Names.{LeavesSession}
+use Rattle.lvm_workers.specs.declared.service.Asked.{Asked}
+use Rattle.lvm_workers.specs.declared.service.Asked.TheVariants as asked
+use Rattle.lvm_workers.specs.declared.service.Seen.{Seen}
+use Rattle.lvm_workers.specs.declared.service.Seen.TheVariants as seen
 use Rattle.lvm_workers.specs.declared.words.Draw.{Draw}
 use Rattle.lvm_workers.specs.Counting.{AreOfClients}
 use Rattle.lvm_load.specs.Requests.{ask_of, bytes_of, word_of}
+use Rattle.lvm_load.specs.Weaving.{goes_on}
 
 -- What a load begins with: the session, how many clients ask for requests, of which volume, of so many blocks; whether each writes to a track group of its own alone; and whether the volume's
 -- copies are brought up beside them.
@@ -55,9 +65,23 @@ drawn_request plan client number d id = let ask = drawn_ask plan client d in let
 abbrev pub IsDrawnAs : Plan → ℕ → ℕ → Draw → Request → Type 0
 IsDrawnAs plan client number d r = r ≡ drawn_request plan client number d r.id
 
--- as the session is, what the draw asks for isn't taken
-abbrev pub IsNotTaken : Plan → State → ℕ → Draw → Type 0
-IsNotTaken plan s client d = (why : AskFault) × (ask_fault s.core (drawn_ask plan client d) ≡ Some why)
+-- what is answered where a request isn't taken for this: that a later one may be, or none
+abbrev pub refused_as : AskFault → Asked
+refused_as why = if goes_on (Err why) then asked.Full else asked.Refused
+
+-- as the session is, what the draw asks for isn't taken, with this answer
+abbrev pub IsNotTaken : Plan → State → ℕ → Draw → Asked → Type 0
+IsNotTaken plan s client d said = (why : AskFault) × (ask_fault s.core (drawn_ask plan client d) ≡ Some why) × (said ≡ refused_as why)
+
+-- what is seen behind a turn that is made for a request
+abbrev pub seen_behind : Turned → Seen
+seen_behind turned.Idle = seen.Idle
+seen_behind _ = seen.Moved
+
+-- One look for the answer of a client's request: it is taken; or it hasn't landed, and a turn is made.
+pub data LooksOn (client id : ℕ) (old new : State) (answer : Seen) : Type 0 where
+  ByTake : (given : Taken) → (given ≡ taken.NotYet → ⊥) → TakeGives old.core new.core client id given → answer ≡ seen.Taken → LooksOn client id old new answer
+  ByLook : TakeGives old.core old.core client id taken.NotYet → (said : Turned) → TurnMakes old new said → answer ≡ seen_behind said → LooksOn client id old new answer
 
 -- ---- what it tells
 

@@ -1,14 +1,14 @@
 //! A session that a lock lends to workers.
-ghost use Rattle.std.specs.Prelude.{◌≡◌, ◌≤◌, ◌*◌, ℕ, false, if◌then◌else◌, Err};
+ghost use Rattle.std.specs.Prelude.{◌≡◌, ◌≤◌, ◌*◌, ℕ, false, if◌then◌else◌};
 ghost use Rattle.lvm_keeps.specs.Failing.{unsettled};
+ghost use Rattle.lvm_session.specs.declared.answers.CopyState.TheVariants as stage;
 ghost use Rattle.lvm_session.specs.declared.open.Power.TheVariants as power;
+ghost use Rattle.lvm_session.specs.Calls.{copy_state};
 ghost use Rattle.lvm_session.specs.State.{state_of};
 ghost use Rattle.lvm_ranges.specs.Passing.{Runs};
-ghost use Rattle.lvm_load.specs.Bringing.{BringsOn};
-ghost use Rattle.lvm_load.specs.Lending.{Plan, apart_draw};
+ghost use Rattle.lvm_load.specs.Bringing.{BringsOn, TurnsOn, behind};
+ghost use Rattle.lvm_load.specs.Lending.{Plan, apart_draw, refused_as};
 ghost use Rattle.lvm_load.specs.Requests.{word_of};
-ghost use Rattle.lvm_load.specs.Weaving.{goes_on};
-ghost use Rattle.lvm_workers.specs.declared.bring.Brought.TheVariants as brought;
 ghost use Rattle.lvm_workers.specs.declared.service.Asked.TheVariants as asked;
 
 use crate::client::goes_on;
@@ -80,7 +80,7 @@ fn shaped(apart: bool, blocks: u64, client: u32, drawn: &Draw) -> Draw
 // The answer to a request that isn't taken for this.
 fn refused(why: AskFault) -> Asked
     ensures not_begun { (id : ℕ) → result ≡ asked.Begun id → ⊥ }
-    ensures goes_on { result ≡ (if goes_on (Err why) then asked.Full else asked.Refused) }
+    ensures goes_on { result ≡ refused_as why }
 {
     if goes_on(why) {
         Asked::Full
@@ -100,7 +100,7 @@ fn word_of(client: u32, number: u32) -> u64
 // What comes behind a copy, from 1, that isn't opened for this: the next one; or none, where the session takes none, or the
 // volume has no such logical partition.
 fn behind(why: CopyFault, number: u8) -> Brought
-    ensures { result ≡ brought.Idle → ⊥ }
+    ensures { result ≡ behind why number }
 {
     match why {
         CopyFault::OutOfRange if number > 1 => Brought::Next,
@@ -119,7 +119,8 @@ fn behind(why: CopyFault, number: u8) -> Brought
 // Opens the copy of a place, where it is stale: the places of a volume go by logical partitions, and then by copies.
 fn open_at<S: Shelf>(driver: &mut Driver<S>, lv: u16, at: u32) -> Brought
     requires unstuck { driver.old.1.power ≡ power.Stuck → ⊥ }
-    ensures { BringsOn (state_of S.device driver.old) (state_of S.device driver.new) result }
+    requires closed { copy_state driver.old.1 ≡ stage.Closed }
+    ensures { BringsOn lv at (state_of S.device driver.old) (state_of S.device driver.new) result }
 {
     let number = (at % COPIES) as u8 + 1;
     match driver.open_copy(lv, at / COPIES, number) {
@@ -132,7 +133,7 @@ fn open_at<S: Shelf>(driver: &mut Driver<S>, lv: u16, at: u32) -> Brought
 fn make_turn<S: Shelf>(driver: &mut Driver<S>) -> Brought
     requires unstuck { driver.old.1.power ≡ power.Stuck → ⊥ }
     requires runs { Runs driver.old.1 }
-    ensures { BringsOn (state_of S.device driver.old) (state_of S.device driver.new) result }
+    ensures { TurnsOn (state_of S.device driver.old) (state_of S.device driver.new) result }
 {
     match driver.turn() {
         Turned::Idle => Brought::Idle,
@@ -143,15 +144,12 @@ fn make_turn<S: Shelf>(driver: &mut Driver<S>) -> Brought
 // Makes one event for the copy of a place: opens it, makes a turn while it is brought up, or closes it.
 fn bring_on<S: Shelf>(driver: &mut Driver<S>, lv: u16, at: u32) -> Brought
     requires unstuck { driver.old.1.power ≡ power.Stuck → ⊥ }
-    ensures { BringsOn (state_of S.device driver.old) (state_of S.device driver.new) result }
+    ensures { BringsOn lv at (state_of S.device driver.old) (state_of S.device driver.new) result }
 {
     match driver.copy_state() {
         CopyState::Closed => open_at(driver, lv, at),
         CopyState::Running { cursor: _ } => make_turn(driver),
-        CopyState::Done
-        | CopyState::SyncFailed { disk: _ }
-        | CopyState::NoFresh
-        | CopyState::Ended => {
+        _ => {
             driver.close_copy();
             Brought::Next
         }
@@ -181,14 +179,16 @@ impl<S: Shelf, J: Lending> Shown for Lent<S, J> {
 
 impl<S: Shelf, J: Lending> Service for Lent<S, J> {
     ghost use Rattle.lvm_session.specs.State.{state_of};
-    ghost use Rattle.lvm_load.specs.Lending.{IsDrawnAs, IsNotTaken};
+    ghost use Rattle.lvm_load.specs.Lending.{IsDrawnAs, IsNotTaken, LooksOn};
     ghost use Rattle.lvm_load.specs.Waits.{waits_grow, waits_in};
 
     ghost clients = { J.plan.clients };
 
     ghost asks = { λ client number d r. IsDrawnAs J.plan client number d r };
 
-    ghost refuses = { λ y client number d. IsNotTaken J.plan (state_of S.device y.driver) client d };
+    ghost refuses = { λ y client number d said. IsNotTaken J.plan (state_of S.device y.driver) client d said };
+
+    ghost looks = { λ x client id said y. LooksOn client id (state_of S.device x.driver) (state_of S.device y.driver) said };
 
     ghost waits = { waits_in };
 
@@ -234,6 +234,11 @@ impl<S: Shelf, J: Lending> Service for Lent<S, J> {
 }
 
 impl<S: Shelf, J: Lending> Brings for Lent<S, J> {
+    ghost use Rattle.lvm_session.specs.State.{state_of};
+    ghost use Rattle.lvm_load.specs.Bringing.{BringsIf};
+
+    ghost brings = { λ x at said y. BringsIf J.plan.sync J.plan.lv at (state_of S.device x.driver) (state_of S.device y.driver) said };
+
     fn bring(&mut self, at: u32) -> Brought {
         if !self.sync {
             return Brought::Over;

@@ -14,12 +14,13 @@ use Rattle.lvm_turn.specs.Views.{Client, Holds, Owns, Standing, View, counted, j
 use Rattle.lvm_workers.specs.declared.crew.Crew.{Crew}
 use Rattle.lvm_workers.specs.declared.crew.Worker.{Worker}
 use Rattle.lvm_workers.specs.declared.work.Job.{Job}
+use Rattle.lvm_workers.specs.declared.service.Asked.{Asked}
 use Rattle.lvm_workers.specs.declared.words.Draw.{Draw}
 use Rattle.lvm_workers.specs.Crews.{AllDone, AllIdle, AllMade, AllReady, AllWorked, IsDone, IsReady, SeenAs, begun_over, extra, job_of, shares}
-use Rattle.lvm_workers.specs.Knowing.{Knows, first_own}
+use Rattle.lvm_workers.specs.Knowing.{Knows, MayEnd, first_own}
 use Rattle.lvm_workers.specs.Making.{HasMade}
-use Rattle.lvm_workers.proofs.KnowingLemmas.{cause_since}
-use Rattle.lvm_workers.proofs.MakingLemmas.{has_begun}
+use Rattle.lvm_workers.proofs.KnowingLemmas.{cause_since, end_since}
+use Rattle.lvm_workers.proofs.MakingLemmas.{has_begun, made_for}
 
 -- ---- the clients 1 to n
 
@@ -134,30 +135,36 @@ begun_over-append [] ys = omega arith
 begun_over-append (x ∷ xs) ys = let h = begun_over-append xs ys in omega (arith, h)
 
 module _ (asks : ℕ → ℕ → Draw → Request → Type 0) (crew : Crew) where
+  -- whatever lets clients end early that lets these
+  pub all_for : (A B : Type 0) → (A → B) → (xs : List Client) → AllMade asks A crew xs → AllMade asks B crew xs
+  all_for A B to xs all c l owns =
+      made_for (asks c) ((crew.threads < c) ⊎ A) ((crew.threads < c) ⊎ B) (⊎_elim (λ (beyond : crew.threads < c). inl beyond) (λ (a : A). inr (to a))) (job_of crew c).seed (job_of crew c).requests (length (begun l)) l (all c l owns)
+
   -- where a pass has taken in one of a client that has made its share, all of them have
-  pub made_both : (k b : ℕ) (xs ys : List Client) → AllMade asks crew xs → numbers ys ≡ k ∷ [] → HasMade (asks k) (job_of crew k).seed (job_of crew k).requests b (first_own ys) → AllMade asks crew (xs ++ ys)
-  made_both k b xs ys all one made c l owns =
+  pub made_both : (Ended : Type 0) (k b : ℕ) (xs ys : List Client) → AllMade asks Ended crew xs → numbers ys ≡ k ∷ [] → HasMade (asks k) ((crew.threads < k) ⊎ Ended) (job_of crew k).seed (job_of crew k).requests b (first_own ys)
+      → AllMade asks Ended crew (xs ++ ys)
+  made_both Ended k b xs ys all one made c l owns =
       ⊎_elim
       (λ (here : Owns xs c l). all c l here)
       (λ (there : Owns ys c l).
       let which = owned_by_one k c l ys one there in
-      let count : b ≡ length (begun (first_own ys)) = sym (has_begun (asks k) (job_of crew k).seed (job_of crew k).requests b (first_own ys) made) in
-      let its : HasMade (asks k) (job_of crew k).seed (job_of crew k).requests (length (begun (first_own ys))) (first_own ys) =
-      subst (λ n. HasMade (asks k) (job_of crew k).seed (job_of crew k).requests n (first_own ys)) count made in
-      subst (λ n. HasMade (asks n) (job_of crew n).seed (job_of crew n).requests (length (begun l)) l) which.0
-      (subst (λ (m : List Fact). HasMade (asks k) (job_of crew k).seed (job_of crew k).requests (length (begun m)) m) which.1 its))
+      let count : b ≡ length (begun (first_own ys)) = sym (has_begun (asks k) ((crew.threads < k) ⊎ Ended) (job_of crew k).seed (job_of crew k).requests b (first_own ys) made) in
+      let its : HasMade (asks k) ((crew.threads < k) ⊎ Ended) (job_of crew k).seed (job_of crew k).requests (length (begun (first_own ys))) (first_own ys) =
+      subst (λ n. HasMade (asks k) ((crew.threads < k) ⊎ Ended) (job_of crew k).seed (job_of crew k).requests n (first_own ys)) count made in
+      subst (λ n. HasMade (asks n) ((crew.threads < n) ⊎ Ended) (job_of crew n).seed (job_of crew n).requests (length (begun l)) l) which.0
+      (subst (λ (m : List Fact). HasMade (asks k) ((crew.threads < k) ⊎ Ended) (job_of crew k).seed (job_of crew k).requests (length (begun m)) m) which.1 its))
       (owns_either xs ys c l owns)
 
-  pub begun_both : (k b n : ℕ) (xs ys : List Client) → n ≡ begun_over xs → numbers ys ≡ k ∷ [] → HasMade (asks k) (job_of crew k).seed (job_of crew k).requests b (first_own ys) → n + b ≡ begun_over (xs ++ ys)
-  begun_both k b n xs ys so_far one made =
-      let count = has_begun (asks k) (job_of crew k).seed (job_of crew k).requests b (first_own ys) made in
+  pub begun_both : (Ended : Type 0) (k b n : ℕ) (xs ys : List Client) → n ≡ begun_over xs → numbers ys ≡ k ∷ [] → HasMade (asks k) Ended (job_of crew k).seed (job_of crew k).requests b (first_own ys) → n + b ≡ begun_over (xs ++ ys)
+  begun_both Ended k b n xs ys so_far one made =
+      let count = has_begun (asks k) Ended (job_of crew k).seed (job_of crew k).requests b (first_own ys) made in
       let its = begun_one k ys one in
       let sum = begun_over-append xs ys in
       omega (arith, so_far, count, its, sum)
 
 -- ---- workers
 
-module _ (asks : ℕ → ℕ → Draw → Request → Type 0) (WasRefused : View → Type 0) (waits : List ℕ → ℕ) (table : TableId) (crew : Crew) where
+module _ (asks : ℕ → ℕ → Draw → Request → Type 0) (WasRefused : Asked → View → Type 0) (waits : List ℕ → ℕ) (table : TableId) (crew : Crew) where
   -- what ready workers have become
   pub all_done : (clients : ℕ) (first start : View) (vs ws : List Worker) → length ws ≡ length vs → SeenAs first start → AllReady table clients first crew vs → AllWorked asks WasRefused waits table vs ws
       → AllDone asks WasRefused waits table start crew ws
@@ -171,9 +178,10 @@ module _ (asks : ℕ → ℕ → Draw → Request → Type 0) (WasRefused : View
         subst (λ (j : Job). IsDone asks WasRefused waits table start j new) r.2 record {
           idle = w.idle;
           fixed = w.knows.fixed ∙ r.3.0 ∙ sym seen.0;
-          made = w.made;
+          made = made_for (asks old.job.client) (MayEnd WasRefused waits old.pass.knows new.pass.knows) (MayEnd WasRefused waits start new.pass.knows) (end_since WasRefused waits start old.pass.knows new.pass.knows (r.3.1 ∙ sym seen.1))
+              old.job.seed old.job.requests (padded_value new.tally).begun (first_own new.pass.knows.clients) w.made;
           all = w.all;
-          cause = cause_since WasRefused waits start old.pass.knows new.pass.knows (padded_value new.tally) (r.3.1 ∙ sym seen.1) w.cause;
+          cause = cause_since (λ u. (said : Asked) × WasRefused said u) waits start old.pass.knows new.pass.knows (padded_value new.tally) (r.3.1 ∙ sym seen.1) w.cause;
         },
       )
 

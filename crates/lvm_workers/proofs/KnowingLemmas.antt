@@ -5,10 +5,12 @@ use Rattle.lvm_num.specs.Counting.{RoseBy}
 use Rattle.lvm_vol.specs.Fronts.{Told, Begins, NoneFell}
 use Rattle.lvm_vol.proofs.FrontsLemmas.{begins_itself, begins_further, none_fell, none_fell_further}
 use Rattle.lvm_turn.specs.Views.{Standing, View, greater, joined}
+use Rattle.lvm_workers.specs.declared.service.Asked.{Asked}
+use Rattle.lvm_workers.specs.declared.service.Asked.TheVariants as asked
 use Rattle.lvm_workers.specs.declared.words.Draw.{Draw}
 use Rattle.lvm_workers.specs.declared.work.Tally.{Tally}
 use Rattle.lvm_workers.specs.Crews.{added}
-use Rattle.lvm_workers.specs.Knowing.{HasCause, Knows, Refused, WasUnheard}
+use Rattle.lvm_workers.specs.Knowing.{HasCause, Knows, MayEnd, Refused, RefusedAs, WasMade, WasUnheard}
 
 pub knows_itself : (v : View) → Knows v v
 knows_itself v = record { fixed = refl; front = begins_itself v.front; counts = none_fell v.counts }
@@ -33,10 +35,10 @@ rose_more n a b c rose once = record { later = let h = rose.later in let k = onc
 pub rose_none : (a : ℕ) → RoseBy 0 a a
 rose_none a = record { later = omega arith; risen = omega arith }
 
-module _ {V : Type 0} (tells : V → Told) (past : V → Option (List (List Sector))) (always : V → Type 0) (refuses : V → ℕ → ℕ → Draw → Type 0) where
+module _ {V : Type 0} (tells : V → Told) (past : V → Option (List (List Sector))) (always : V → Type 0) (refuses : V → ℕ → ℕ → Draw → Asked → Type 0) where
   -- a refusal stays one
-  pub refused_on : (v w : View) → Knows v w → Refused tells past always refuses v → Refused tells past always refuses w
-  refused_on v w knows was = record {
+  pub refused_as_on : (said : Asked) (v w : View) → Knows v w → RefusedAs tells past always refuses said v → RefusedAs tells past always refuses said w
+  refused_as_on said v w knows was = record {
     value = was.value;
     client = was.client;
     number = was.number;
@@ -46,6 +48,37 @@ module _ {V : Type 0} (tells : V → Told) (past : V → Option (List (List Sect
     fixed = was.fixed ∙ sym knows.fixed;
     front = begins_further (tells was.value).entries v.front w.front was.front knows.front;
     counts = none_fell_further (tells was.value).counts v.counts w.counts was.counts knows.counts;
+  }
+
+  pub refused_on : (v w : View) → Knows v w → Refused tells past always refuses v → Refused tells past always refuses w
+  refused_on v w knows was = (was.0, refused_as_on was.0 v w knows was.1)
+
+module _ {V : Type 0} (tells : V → Told) (past : V → Option (List (List Sector))) (always : V → Type 0) (Makes : V → V → Type 0) where
+  -- what was made once stays so, for what is known later, and since what was known before
+  pub made_on : (first v w : View) → Knows v w → WasMade tells past always Makes first v → WasMade tells past always Makes first w
+  made_on first v w knows was = record {
+    from = was.from;
+    to = was.to;
+    makes = was.makes;
+    holds = was.holds;
+    fixed = was.fixed ∙ sym knows.fixed;
+    since = was.since;
+    risen = was.risen;
+    until = begins_further (tells was.to).entries v.front w.front was.until knows.front;
+    rises = none_fell_further (tells was.to).counts v.counts w.counts was.rises knows.counts;
+  }
+
+  pub made_since : (first start v : View) → Begins first.front start.front → NoneFell first.counts start.counts → WasMade tells past always Makes start v → WasMade tells past always Makes first v
+  made_since first start v front counts was = record {
+    from = was.from;
+    to = was.to;
+    makes = was.makes;
+    holds = was.holds;
+    fixed = was.fixed;
+    since = begins_further first.front start.front (tells was.from).entries front was.since;
+    risen = none_fell_further first.counts start.counts (tells was.from).counts counts was.risen;
+    until = was.until;
+    rises = was.rises;
   }
 
 module _ (WasRefused : View → Type 0) (stays : (v w : View) → Knows v w → WasRefused v → WasRefused w) (waits : List ℕ → ℕ) (grow : (old new : List ℕ) → NoneFell old new → waits old ≤ waits new) where
@@ -87,6 +120,18 @@ module _ (WasRefused : View → Type 0) (waits : List ℕ → ℕ) where
     where
       moved : WasUnheard waits start v → WasUnheard waits first v
       moved rose = subst (λ (k : List ℕ). RoseBy 1000000 (waits k) (waits v.counts)) same rose
+
+-- so it is with a reason to end early
+module _ (WasRefused : Asked → View → Type 0) (stays : (said : Asked) (v w : View) → Knows v w → WasRefused said v → WasRefused said w) (waits : List ℕ → ℕ) where
+  pub end_on : (first v w : View) → Knows v w → waits v.counts ≤ waits w.counts → MayEnd WasRefused waits first v → MayEnd WasRefused waits first w
+  end_on first v w knows later = ⊎_elim
+      (λ (r : WasRefused asked.Refused v). inl (stays asked.Refused v w knows r))
+      (λ (u : WasUnheard waits first v). inr (rose_on 1000000 (waits first.counts) (waits v.counts) (waits w.counts) u later))
+
+pub end_since : (WasRefused : Asked → View → Type 0) (waits : List ℕ → ℕ) (first start v : View) → start.counts ≡ first.counts → MayEnd WasRefused waits start v → MayEnd WasRefused waits first v
+end_since WasRefused waits first start v same = ⊎_elim
+    (λ (r : WasRefused asked.Refused v). inl r)
+    (λ (u : WasUnheard waits start v). inr (subst (λ (k : List ℕ). RoseBy 1000000 (waits k) (waits v.counts)) same u))
 
 none_above : (xs ys : List ℕ) → NoneFell xs (greater xs ys)
 none_above [] ys = tt

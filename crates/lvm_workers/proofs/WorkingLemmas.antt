@@ -6,7 +6,7 @@ use Rattle.lvm_num.specs.Buffer.{Sector}
 use Rattle.lvm_num.specs.Counting.{RoseBy}
 use Rattle.lvm_vol.specs.Facts.{Request, Fact, Begun}
 use Rattle.lvm_vol.specs.Fronts.{Told, own, Begins, NoneFell}
-use Rattle.lvm_vol.proofs.FrontsLemmas.{begins_further, none_fell_further}
+use Rattle.lvm_vol.proofs.FrontsLemmas.{begins_further, begins_itself, none_fell, none_fell_further}
 use Rattle.lvm_turn.specs.Calls.{Continues, HasEntered, IsIdle, MayLeave}
 use Rattle.lvm_turn.specs.Rules.{fixed_of}
 use Rattle.lvm_turn.specs.Views.{Client, Holds, HoldsSome, Owns, Standing, View, leaves, numbers, renewed}
@@ -15,7 +15,7 @@ use Rattle.lvm_turn.proofs.CallsLemmas.Leaving.{may_leave, own_left}
 use Rattle.lvm_workers.specs.declared.service.Asked.{Asked}
 use Rattle.lvm_workers.specs.declared.service.Seen.{Seen}
 use Rattle.lvm_workers.specs.declared.words.Draw.{Draw}
-use Rattle.lvm_workers.specs.Knowing.{Knows, Refused, first_own}
+use Rattle.lvm_workers.specs.Knowing.{Knows, RefusedAs, WasMade, first_own}
 use Rattle.lvm_workers.specs.Serving.{AskEnters, AskGives, Grows, HasBegun, IsNotYet as EntersNotYet, IsTaken as EntersTaken, LookEnters, NoOthers, WasRefused}
 use Rattle.lvm_workers.specs.Working.{AskTells, IsNotYet, IsTaken, LookTells, own_of}
 use Rattle.lvm_workers.proofs.KnowingLemmas.{rose_before}
@@ -90,10 +90,10 @@ module _ {V : Type 0} (tells : V → Told) (past : V → Option (List (List Sect
 
   -- ---- what it has asked for
 
-  module _ (refuses : V → ℕ → ℕ → Draw → Type 0) (Asks : Request → Type 0) (table : TableId) (client number : ℕ) (drawn : Draw) (p r : Standing) (y z : V) (answer : Asked)
-      (gave : AskGives tells past always Asks (λ v. refuses v client number drawn) client y answer z) (holds : always y) (left : HasLeft table client p r z gave.more) where
+  module _ (refuses : V → ℕ → ℕ → Draw → Asked → Type 0) (Asks : Request → Type 0) (table : TableId) (client number : ℕ) (drawn : Draw) (p r : Standing) (y z : V) (answer : Asked)
+      (gave : AskGives tells past always Asks (λ v said. refuses v client number drawn said) client y answer z) (holds : always y) (left : HasLeft table client p r z gave.more) where
     -- what isn't taken of the value y
-    was_refused : refuses y client number drawn → Refused tells past always refuses r.knows
+    was_refused : refuses y client number drawn answer → RefusedAs tells past always refuses answer r.knows
     was_refused why = record {
       value = y;
       client = client;
@@ -106,13 +106,13 @@ module _ {V : Type 0} (tells : V → Told) (past : V → Option (List (List Sect
       counts = subst (λ k. NoneFell (tells y).counts k) (sym left.counts_are) gave.grows.none_fell;
     }
 
-    pub ask_tells : AskTells Asks (Refused tells past always refuses) client p.knows answer r.knows
+    pub ask_tells : AskTells Asks (RefusedAs tells past always refuses) client p.knows answer r.knows
     ask_tells = by gave.enters
       where
         own_begun : (x : Request) → x.client ≡ client → own client (Begun x ∷ []) ≡ Begun x ∷ []
         own_begun x same = ap (λ b. cond b (Begun x ∷ []) []) (eq-eqb x.client client same)
 
-        by : AskEnters Asks (refuses y client number drawn) client answer gave.more → AskTells Asks (Refused tells past always refuses) client p.knows answer r.knows
+        by : AskEnters Asks (refuses y client number drawn) client answer gave.more → AskTells Asks (RefusedAs tells past always refuses) client p.knows answer r.knows
         by (HasBegun x asks same is entered) = record {
           more = Begun x ∷ [];
           own = left.own_more ∙ ap (λ (m : List Fact). own_of p.knows ++ own client m) entered ∙ ap (λ (m : List Fact). own_of p.knows ++ m) (own_begun x same);
@@ -123,6 +123,22 @@ module _ {V : Type 0} (tells : V → Told) (past : V → Option (List (List Sect
           own = left.own_more ∙ ap (λ (m : List Fact). own_of p.knows ++ own client m) entered;
           enters = WasRefused (was_refused why) not refl;
         }
+
+  -- ---- what was made of it
+
+  pub left_made : (Makes : V → V → Type 0) (table : TableId) (client : ℕ) (p r : Standing) (y z : V) (more : List Fact) → Continues tells past always p.knows y → Makes y z → Grows tells past always y more z → HasLeft table client p r z more
+      → WasMade tells past always Makes p.knows r.knows
+  left_made Makes table client p r y z more lent makes grows left = record {
+    from = y;
+    to = z;
+    makes = makes;
+    holds = lent.always_holds;
+    fixed = sym grows.fixed_same ∙ left.fixed_are;
+    since = lent.front;
+    risen = lent.none_fell;
+    until = subst (λ f. Begins (tells z).entries f) (sym left.front_is) (begins_itself (tells z).entries);
+    rises = subst (λ k. NoneFell (tells z).counts k) (sym left.counts_are) (none_fell (tells z).counts);
+  }
 
   -- ---- what it has seen
 

@@ -1,5 +1,5 @@
 -- A crew of workers, before and after its work.
-use Rattle.std.specs.Prelude.{◌≡◌, ◌≤◌, ◌<◌, ◌+◌, ◌-◌, ◌/◌, ◌%◌, ◌^◌, ℕ, zero, suc, nat_le, if◌then◌else◌, ◌||◌, Bool, false, List, [], ◌∷◌, length, slice_index_or}
+use Rattle.std.specs.Prelude.{◌≡◌, ◌⊎◌, ◌≤◌, ◌<◌, ◌+◌, ◌-◌, ◌/◌, ◌%◌, ◌^◌, ℕ, zero, suc, nat_le, if◌then◌else◌, ◌||◌, Bool, false, List, [], ◌∷◌, length, slice_index_or}
 use Rattle.atomic_table.specs.Seated.{TableId}
 use Rattle.crossbeam_utils.specs.Padded.{padded_value}
 use Rattle.lvm_vol.specs.Facts.{Request, Fact, begun}
@@ -9,8 +9,9 @@ use Rattle.lvm_workers.specs.declared.crew.Crew.{Crew}
 use Rattle.lvm_workers.specs.declared.crew.Worker.{Worker}
 use Rattle.lvm_workers.specs.declared.work.Job.{Job}
 use Rattle.lvm_workers.specs.declared.work.Tally.{Tally}
+use Rattle.lvm_workers.specs.declared.service.Asked.{Asked}
 use Rattle.lvm_workers.specs.declared.words.Draw.{Draw}
-use Rattle.lvm_workers.specs.Knowing.{HasCause, Knows, first_own}
+use Rattle.lvm_workers.specs.Knowing.{HasCause, Knows, MayEnd, first_own}
 use Rattle.lvm_workers.specs.Making.{HasMade}
 
 -- ---- jobs
@@ -67,15 +68,15 @@ pub record IsReady (table : TableId) (clients : ℕ) (w : Worker) : Type 0 where
   pub client : (1 ≤ w.job.client) × (w.job.client ≤ clients)
   pub fresh : first_own w.pass.knows.clients ≡ []
 
-module _ (asks : ℕ → ℕ → Draw → Request → Type 0) (WasRefused : View → Type 0) (waits : List ℕ → ℕ) (table : TableId) where
+module _ (asks : ℕ → ℕ → Draw → Request → Type 0) (WasRefused : Asked → View → Type 0) (waits : List ℕ → ℕ) (table : TableId) where
   -- the worker v has become w
   pub record HasWorked (v w : Worker) : Type 0 where
     pub job : w.job ≡ v.job
     pub idle : IsIdle table (v.job.client ∷ []) w.pass
     pub knows : Knows v.pass.knows w.pass.knows
-    pub made : HasMade (asks v.job.client) v.job.seed v.job.requests (padded_value w.tally).begun (first_own w.pass.knows.clients)
+    pub made : HasMade (asks v.job.client) (MayEnd WasRefused waits v.pass.knows w.pass.knows) v.job.seed v.job.requests (padded_value w.tally).begun (first_own w.pass.knows.clients)
     pub all : (padded_value w.tally).begun + (padded_value w.tally).unbegun ≡ v.job.requests
-    pub cause : HasCause WasRefused waits v.pass.knows w.pass.knows (padded_value w.tally)
+    pub cause : HasCause (λ u. (said : Asked) × WasRefused said u) waits v.pass.knows w.pass.knows (padded_value w.tally)
 
   abbrev pub AllWorked : List Worker → List Worker → Type 0
   AllWorked vs ws = (i : ℕ) (d : Worker) → i < length vs → HasWorked (slice_index_or vs i d) (slice_index_or ws i d)
@@ -84,9 +85,9 @@ module _ (asks : ℕ → ℕ → Draw → Request → Type 0) (WasRefused : View
   pub record IsDone (first : View) (job : Job) (w : Worker) : Type 0 where
     pub idle : IsIdle table (job.client ∷ []) w.pass
     pub fixed : w.pass.knows.fixed ≡ first.fixed
-    pub made : HasMade (asks job.client) job.seed job.requests (padded_value w.tally).begun (first_own w.pass.knows.clients)
+    pub made : HasMade (asks job.client) (MayEnd WasRefused waits first w.pass.knows) job.seed job.requests (padded_value w.tally).begun (first_own w.pass.knows.clients)
     pub all : (padded_value w.tally).begun + (padded_value w.tally).unbegun ≡ job.requests
-    pub cause : HasCause WasRefused waits first w.pass.knows (padded_value w.tally)
+    pub cause : HasCause (λ u. (said : Asked) × WasRefused said u) waits first w.pass.knows (padded_value w.tally)
 
   abbrev pub AllDone : View → Crew → List Worker → Type 0
   AllDone first crew ws = (i : ℕ) (d : Worker) → i < length ws → (i < crew.threads) × IsDone first (job_of crew (crew.threads - i)) (slice_index_or ws i d)
@@ -100,6 +101,6 @@ abbrev pub AllReady : TableId → ℕ → View → Crew → List Worker → Type
 AllReady table clients first crew ws = (i : ℕ) (d : Worker) → i < length ws
     → let w = slice_index_or ws i d in (i < crew.threads) × IsReady table clients w × (w.job ≡ job_of crew (crew.threads - i)) × SeenAs first w.pass.knows
 
--- each of these clients has made its requests, at most as many as are its share
-abbrev pub AllMade : (ℕ → ℕ → Draw → Request → Type 0) → Crew → List Client → Type 0
-AllMade asks crew clients = (c : ℕ) (own : List Fact) → Owns clients c own → HasMade (asks c) (job_of crew c).seed (job_of crew c).requests (length (begun own)) own
+-- each of these clients has made its requests, as many as are its share, or fewer where it may end early or isn't one of the crew
+abbrev pub AllMade : (ℕ → ℕ → Draw → Request → Type 0) → Type 0 → Crew → List Client → Type 0
+AllMade asks Ended crew clients = (c : ℕ) (own : List Fact) → Owns clients c own → HasMade (asks c) ((crew.threads < c) ⊎ Ended) (job_of crew c).seed (job_of crew c).requests (length (begun own)) own

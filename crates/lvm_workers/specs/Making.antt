@@ -1,5 +1,5 @@
 -- What a worker makes, by the entries that are its client's own.
-use Rattle.std.specs.Prelude.{◌≡◌, ◌≤◌, ◌+◌, ℕ, ◌++◌, List, [], ◌∷◌}
+use Rattle.std.specs.Prelude.{◌≡◌, ◌⊎◌, ◌≤◌, ◌+◌, ℕ, ◌++◌, List, [], ◌∷◌}
 use Rattle.rand_pcg.specs.Lcg.{Lcg}
 use Rattle.lvm_vol.specs.Facts.{Request, Fact, Begun, Taken}
 use Rattle.lvm_workers.specs.declared.words.Draw.{Draw}
@@ -17,8 +17,9 @@ module _ (asks : ℕ → Draw → Request → Type 0) (g : Lcg) where
     AllAnswered : {n b : ℕ} {own : List Fact} → Served n b own → Made n b own
     OneWaits : {n b : ℕ} {own : List Fact} → Served n b own → (r : Request) → asks n (draw_at (after_draws n g)) r → Made (n + 1) (b + 1) (own ++ Begun r ∷ [])
 
--- These are the client's own entries that makes at most so many requests, drawn from the seed, and of them so many have begun.
-pub record HasMade (asks : ℕ → Draw → Request → Type 0) (seed requests begun : ℕ) (own : List Fact) : Type 0 where
+-- These are the client's own entries that makes so many requests, drawn from the seed, or fewer where it may end early; and of them so many have begun.
+pub record HasMade (asks : ℕ → Draw → Request → Type 0) (MayEnd : Type 0) (seed requests begun : ℕ) (own : List Fact) : Type 0 where
   pub drawn : ℕ
   pub most : drawn ≤ requests
+  pub whole : (drawn ≡ requests) ⊎ MayEnd
   pub made : Made asks (seeded seed) drawn begun own

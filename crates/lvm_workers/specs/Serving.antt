@@ -14,10 +14,10 @@ use Rattle.lvm_workers.specs.declared.service.Seen.TheVariants as seen
 abbrev pub NoOthers : ℕ → List Fact → Type 0
 NoOthers client more = (c : ℕ) → (c ≡ client → ⊥) → own c more ≡ []
 
--- The request that was asked for has begun, and that is all that was entered; or it isn't taken, and nothing was.
-pub data AskEnters (Asks : Request → Type 0) (Refuses : Type 0) (client : ℕ) (answer : Asked) (more : List Fact) : Type 0 where
+-- The request that was asked for has begun, and that is all that was entered; or it isn't taken, for a reason that goes with the answer, and nothing was.
+pub data AskEnters (Asks : Request → Type 0) (Refuses : Asked → Type 0) (client : ℕ) (answer : Asked) (more : List Fact) : Type 0 where
   HasBegun : (r : Request) → Asks r → r.client ≡ client → answer ≡ asked.Begun r.id → more ≡ Begun r ∷ [] → AskEnters Asks Refuses client answer more
-  WasRefused : Refuses → ((id : ℕ) → answer ≡ asked.Begun id → ⊥) → more ≡ [] → AskEnters Asks Refuses client answer more
+  WasRefused : Refuses answer → ((id : ℕ) → answer ≡ asked.Begun id → ⊥) → more ≡ [] → AskEnters Asks Refuses client answer more
 
 -- The answer of the client's request is taken, or nothing of the client's own was entered.
 pub data LookEnters (client id : ℕ) (answer : Seen) (more : List Fact) : Type 0 where
@@ -40,16 +40,17 @@ module _ {V : Type 0} (tells : V → Told) (past : V → Option (List (List Sect
     pub always_holds : always y
 
   -- what is given to a client that asks for a request
-  pub record AskGives (Asks : Request → Type 0) (Refuses : V → Type 0) (client : ℕ) (x : V) (answer : Asked) (y : V) : Type 0 where
+  pub record AskGives (Asks : Request → Type 0) (Refuses : V → Asked → Type 0) (client : ℕ) (x : V) (answer : Asked) (y : V) : Type 0 where
     pub more : List Fact
     pub grows : Grows x more y
     pub others : NoOthers client more
     pub enters : AskEnters Asks (Refuses x) client answer more
 
-  -- what is given to one that looks for its answer
-  pub record LookGives (waits : List ℕ → ℕ) (client id : ℕ) (x : V) (answer : Seen) (y : V) : Type 0 where
+  -- what is given to one that looks for its answer, and what it makes of the value
+  pub record LookGives (waits : List ℕ → ℕ) (Looks : V → Seen → V → Type 0) (client id : ℕ) (x : V) (answer : Seen) (y : V) : Type 0 where
     pub more : List Fact
     pub grows : Grows x more y
     pub others : NoOthers client more
     pub enters : LookEnters client id answer more
+    pub makes : Looks x answer y
     pub idle : answer ≡ seen.Idle → Rose (waits (tells x).counts) (waits (tells y).counts)

@@ -1,13 +1,14 @@
 //! A worker that brings up copies while others make requests.
-ghost use Rattle.std.specs.Prelude.{◌≡◌, ◌≤◌, ◌<◌, ◌+◌, ◌^◌, ◌∷◌, [], true, false, IfErr, IfOk};
+ghost use Rattle.std.specs.Prelude.{◌≡◌, ◌≤◌, ◌<◌, ◌+◌, ◌^◌, ◌∷◌, [], ℕ, true, false, IfErr, IfOk};
 ghost use Rattle.lvm_num.specs.Counting.{RoseBy};
 ghost use Rattle.lvm_vol.specs.Fronts.{Begins};
 ghost use Rattle.lvm_turn.specs.Calls.{IsIdle};
 ghost use Rattle.lvm_turn.specs.Views.{counted, joined, up_to};
-ghost use Rattle.lvm_workers.specs.Bringing.{BringGives, HasBrought};
+ghost use Rattle.lvm_workers.specs.Bringing.{BringGives, HasBrought, HasEnded, HasToured, MadeAt, PlaceTells, WaitsBy};
 ghost use Rattle.lvm_workers.specs.Crews.{AllMade, IsWhole, begun_over, seats};
-ghost use Rattle.lvm_workers.specs.Knowing.{HasCause, Knows, Refused, WasUnheard};
+ghost use Rattle.lvm_workers.specs.Knowing.{HasCause, Knows, MayEnd, Refused, RefusedAs, WasUnheard};
 ghost use Rattle.lvm_workers.specs.Working.{own_of};
+ghost use Rattle.lvm_workers.specs.declared.bring.Brought.{Brought as Said};
 ghost use Rattle.lvm_workers.specs.declared.bring.Brought.TheVariants as brought;
 
 use crate::crew::{Crew, workers};
@@ -37,10 +38,13 @@ pub enum Brought {
 
 /// A value of which copies are brought up, one event in each call.
 pub trait Brings: Service {
+    /// What a call for the copy of a place makes of the value, where this is answered.
+    ghost brings: { Self → ℕ → Said → Self → Type 0 };
+
     /// Makes one event for the copy of a place: opens it, makes a turn while it is brought up, or closes it.
     fn bring(&mut self, at: u32) -> Brought
         requires always { Self.always self.old }
-        ensures { BringGives Self.tells Self.past Self.always Self.waits self.old result self.new };
+        ensures { BringGives Self.tells Self.past Self.always Self.waits (λ x said y. brings x at said y) self.old result self.new };
 }
 
 // Makes one event for the copy of a place, while it has the turn.
@@ -55,12 +59,59 @@ fn bring<E: Brings, R: Wait>(
     ensures idle { IsIdle turn.now.table (client ∷ []) pass.new }
     ensures knows { Knows pass.old.knows pass.new.knows }
     ensures own { own_of pass.new.knows ≡ own_of pass.old.knows }
+    ensures made { MadeAt E.tells E.past E.always E.brings pass.old.knows pass.new.knows at result }
     ensures waited { result ≡ brought.Idle → RoseBy 1 (E.waits pass.old.knows.counts) (E.waits pass.new.knows.counts) }
 {
     let mut value = turn.enter(rt, pass);
     let brought = value.bring(at);
     turn.leave(pass, value);
     brought
+}
+
+// What became of the copy of a place in the end.
+#[derive(Clone, Copy)]
+enum Place {
+    // It needs nothing further.
+    Done,
+    // No further one is to be brought up.
+    Over,
+    // Nothing was heard a million times.
+    Unheard,
+}
+
+// Brings up the copy of a place, until it needs nothing further, no further one is to be brought up, or nothing was heard a
+// million times, with so many before.
+fn bring_place<E: Brings, R: Wait>(
+    rt: &R,
+    turn: &Turn<E>,
+    pass: &mut Pass,
+    client: u32,
+    at: u32,
+    idle: &mut u32,
+) -> Place
+    requires idle { IsIdle turn.now.table (client ∷ []) pass.old }
+    requires patient { idle.old < 1000000 }
+    ensures idle { IsIdle turn.now.table (client ∷ []) pass.new }
+    ensures knows { Knows pass.old.knows pass.new.knows }
+    ensures own { own_of pass.new.knows ≡ own_of pass.old.knows }
+    ensures made { PlaceTells (MadeAt E.tells E.past E.always E.brings pass.old.knows pass.new.knows at) idle.new result }
+    ensures waited { WaitsBy idle.old idle.new (E.waits pass.old.knows.counts) (E.waits pass.new.knows.counts) }
+{
+    for _ in rt.forever() {
+        match bring(rt, turn, pass, client, at) {
+            Brought::Next => return Place::Done,
+            Brought::Moved => {}
+            Brought::Idle => {
+                thread::yield_now();
+                *idle += 1;
+                if *idle == PATIENCE {
+                    return Place::Unheard;
+                }
+            }
+            Brought::Over => return Place::Over,
+        }
+    }
+    unreachable!()
 }
 
 // Brings up the copies of one place after the other, until no further one is to be brought up, or nothing was heard a million
@@ -70,31 +121,24 @@ fn bring_all<E: Brings, R: Wait>(rt: &R, turn: &Turn<E>, pass: &mut Pass, client
     ensures idle { IsIdle turn.now.table (client ∷ []) pass.new }
     ensures knows { Knows pass.old.knows pass.new.knows }
     ensures own { own_of pass.new.knows ≡ own_of pass.old.knows }
+    ensures toured { result ≡ false → HasToured (MadeAt E.tells E.past E.always E.brings pass.old.knows pass.new.knows) }
     ensures unheard { result ≡ true → WasUnheard E.waits pass.old.knows pass.new.knows }
 {
-    let mut at: u32 = 0;
     let mut idle = 0;
-    for _ in rt.forever() {
-        match bring(rt, turn, pass, client, at) {
-            Brought::Next => at = at.saturating_add(1),
-            Brought::Moved => {}
-            Brought::Idle => {
-                thread::yield_now();
-                idle += 1;
-                if idle == PATIENCE {
-                    return true;
-                }
-            }
-            Brought::Over => return false,
+    for at in 0..u32::MAX {
+        match bring_place(rt, turn, pass, client, at, &mut idle) {
+            Place::Done => {}
+            Place::Over => return false,
+            Place::Unheard => return true,
         }
     }
-    unreachable!()
+    false
 }
 
 // The same with a pass that comes back.
 fn bring_with<E: Brings, R: Wait>(rt: &R, turn: &Turn<E>, mut pass: Pass, client: u32) -> Pass
     requires idle { IsIdle turn.now.table (client ∷ []) pass }
-    ensures { HasBrought turn.now.table client pass result }
+    ensures { HasBrought E.tells E.past E.always E.brings E.waits turn.now.table client pass result }
 {
     bring_all(rt, turn, &mut pass, client);
     pass
@@ -116,12 +160,12 @@ fn work_and_bring<E: Brings + Send, R: Threads + Wait + Sync>(
     requires other { IsIdle turn.now.table (client ∷ []) other }
     ensures idle { IfOk result.0 (λ r. IsIdle turn.now.table (counted crew.now.threads) r.0) }
     ensures knows { IfOk result.0 (λ r. Knows pass.knows r.0.knows) }
-    ensures made { IfOk result.0 (λ r. AllMade E.asks crew.now r.0.knows.clients) }
+    ensures made { IfOk result.0 (λ r. AllMade E.asks (MayEnd (RefusedAs E.tells E.past E.always E.refuses) E.waits pass.knows r.0.knows) crew.now r.0.knows.clients) }
     ensures begun { IfOk result.0 (λ r. r.1.begun ≡ begun_over r.0.knows.clients) }
     ensures all { IfOk result.0 (λ r. r.1.begun + r.1.unbegun ≡ crew.now.requests) }
     ensures cause { IfOk result.0 (λ r. HasCause (Refused E.tells E.past E.always E.refuses) E.waits pass.knows r.0.knows r.1) }
     ensures err { IfErr result.0 (λ p. p ≡ pass) }
-    ensures brought { HasBrought turn.now.table client other result.1 }
+    ensures brought { HasBrought E.tells E.past E.always E.brings E.waits turn.now.table client other result.1 }
 {
     thread::join(
         rt,
@@ -140,7 +184,9 @@ fn take_in<E: Brings>(turn: &Turn<E>, pass: &mut Pass, other: Pass)
     requires other { (other.table ≡ turn.now.table) × (other.knows.inside ≡ false) }
     ensures joined { pass.new ≡ record pass.old { knows = joined pass.old.knows other.knows } }
     ensures front { Begins pass.old.knows.front pass.new.knows.front }
+    ensures other_front { Begins other.knows.front pass.new.knows.front }
     ensures waits { E.waits pass.old.knows.counts ≤ E.waits pass.new.knows.counts }
+    ensures other_waits { E.waits other.knows.counts ≤ E.waits pass.new.knows.counts }
 {
     turn.join(pass, other);
 }
@@ -159,11 +205,12 @@ fn workers_beside<E: Brings + Send, R: Threads + Wait + Sync>(
     requires few { (1 ≤ crew.now.threads) × (crew.now.threads ≤ E.clients) × (crew.now.threads + 1 < 2 ^ 32) }
     ensures idle { IfOk result (λ r. IsIdle turn.now.table (counted (crew.now.threads + 1)) r.0) }
     ensures knows { IfOk result (λ r. Knows pass.knows r.0.knows) }
-    ensures made { IfOk result (λ r. AllMade E.asks crew.now r.0.knows.clients) }
+    ensures made { IfOk result (λ r. AllMade E.asks (MayEnd (RefusedAs E.tells E.past E.always E.refuses) E.waits pass.knows r.0.knows) crew.now r.0.knows.clients) }
     ensures begun { IfOk result (λ r. r.1.begun ≡ begun_over r.0.knows.clients) }
     ensures all { IfOk result (λ r. r.1.begun + r.1.unbegun ≡ crew.now.requests) }
     ensures cause { IfOk result (λ r. HasCause (Refused E.tells E.past E.always E.refuses) E.waits pass.knows r.0.knows r.1) }
     ensures err { IfErr result (IsWhole turn.now.table (crew.now.threads + 1)) }
+    ensures brought { IfOk result (λ r. HasEnded E.tells E.past E.always E.brings E.waits pass.knows r.0.knows) }
 {
     let client = crew.threads + 1;
     let other = turn.split(&mut pass, client);
@@ -204,11 +251,12 @@ pub fn run_crew<E: Brings + Send, R: Threads + Wait + Sync>(
     requires few { (1 ≤ crew.now.threads) × (crew.now.threads ≤ E.clients) × (crew.now.threads + 1 < 2 ^ 32) }
     ensures idle { IfOk result (λ r. IsIdle turn.now.table (counted (seats brings crew.now.threads)) r.0) }
     ensures knows { IfOk result (λ r. Knows pass.knows r.0.knows) }
-    ensures made { IfOk result (λ r. AllMade E.asks crew.now r.0.knows.clients) }
+    ensures made { IfOk result (λ r. AllMade E.asks (MayEnd (RefusedAs E.tells E.past E.always E.refuses) E.waits pass.knows r.0.knows) crew.now r.0.knows.clients) }
     ensures begun { IfOk result (λ r. r.1.begun ≡ begun_over r.0.knows.clients) }
     ensures all { IfOk result (λ r. r.1.begun + r.1.unbegun ≡ crew.now.requests) }
     ensures cause { IfOk result (λ r. HasCause (Refused E.tells E.past E.always E.refuses) E.waits pass.knows r.0.knows r.1) }
     ensures err { IfErr result (IsWhole turn.now.table (seats brings crew.now.threads)) }
+    ensures brought { IfOk result (λ r. brings ≡ true → HasEnded E.tells E.past E.always E.brings E.waits pass.knows r.0.knows) }
 {
     if brings {
         workers_beside(rt, alloc, turn, pass, crew)

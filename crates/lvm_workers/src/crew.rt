@@ -3,7 +3,7 @@ ghost use Rattle.std.specs.Prelude.{◌≡◌, ◌≤◌, ◌<◌, ◌+◌, ◌^
 ghost use Rattle.lvm_turn.specs.Calls.{IsIdle};
 ghost use Rattle.lvm_turn.specs.Views.{counted, up_to};
 ghost use Rattle.lvm_workers.specs.Crews.{AllDone, AllIdle, AllMade, AllReady, AllWorked, HasWorked, IsReady, SeenAs, added, begun_over, job_of, no_tally, share};
-ghost use Rattle.lvm_workers.specs.Knowing.{HasCause, Knows, Refused};
+ghost use Rattle.lvm_workers.specs.Knowing.{HasCause, Knows, MayEnd, Refused, RefusedAs};
 
 use crate::service::Service;
 use crate::work::{Job, Tally, work};
@@ -99,7 +99,7 @@ fn hand_out<E: Service>(
 // A worker does its job.
 fn work_one<E: Service, R: Wait>(rt: &R, turn: &Turn<E>, worker: &mut Worker)
     requires { IsReady turn.now.table E.clients worker.old }
-    ensures { HasWorked E.asks (Refused E.tells E.past E.always E.refuses) E.waits turn.now.table worker.old worker.new }
+    ensures { HasWorked E.asks (RefusedAs E.tells E.past E.always E.refuses) E.waits turn.now.table worker.old worker.new }
 {
     let tally = work(rt, turn, &mut worker.pass, &worker.job);
     worker.tally = CachePadded::new(tally);
@@ -115,11 +115,11 @@ fn work_all<E: Service + Send, R: Threads + Wait + Sync>(
     requires some { 1 ≤ threads }
     requires ready { AllIdle turn.now.table E.clients workers.old.items }
     ensures same { vec_len workers.new ≡ vec_len workers.old }
-    ensures worked { AllWorked E.asks (Refused E.tells E.past E.always E.refuses) E.waits turn.now.table workers.old.items workers.new.items }
+    ensures worked { AllWorked E.asks (RefusedAs E.tells E.past E.always E.refuses) E.waits turn.now.table workers.old.items workers.new.items }
 {
     let one = |_: usize, worker: &mut Worker|
         requires { IsReady turn.now.table E.clients worker.old }
-        ensures { HasWorked E.asks (Refused E.tells E.past E.always E.refuses) E.waits turn.entry.now.table worker.old worker.new }
+        ensures { HasWorked E.asks (RefusedAs E.tells E.past E.always E.refuses) E.waits turn.entry.now.table worker.old worker.new }
     { work_one(rt, turn, worker) };
     thread::for_each_mut(rt, workers.as_mut_slice(), threads as usize, &one);
 }
@@ -147,10 +147,10 @@ fn gather<E: Service>(
     requires all { requests ≡ crew.now.requests }
     requires idle { IsIdle turn.now.table [] pass.old }
     requires some { 1 ≤ crew.now.threads }
-    requires done { (vec_len workers ≡ crew.now.threads) × AllDone E.asks (Refused E.tells E.past E.always E.refuses) E.waits turn.now.table pass.old.knows crew.now workers.items }
+    requires done { (vec_len workers ≡ crew.now.threads) × AllDone E.asks (RefusedAs E.tells E.past E.always E.refuses) E.waits turn.now.table pass.old.knows crew.now workers.items }
     ensures idle { IsIdle turn.now.table (counted crew.now.threads) pass.new }
     ensures knows { Knows pass.old.knows pass.new.knows }
-    ensures made { AllMade E.asks crew.now pass.new.knows.clients }
+    ensures made { AllMade E.asks (MayEnd (RefusedAs E.tells E.past E.always E.refuses) E.waits pass.old.knows pass.new.knows) crew.now pass.new.knows.clients }
     ensures begun { result.begun ≡ begun_over pass.new.knows.clients }
     ensures all { result.begun + result.unbegun ≡ crew.now.requests }
     ensures cause { HasCause (Refused E.tells E.past E.always E.refuses) E.waits pass.old.knows pass.new.knows result }
@@ -182,7 +182,7 @@ pub(crate) fn workers<E: Service + Send, R: Threads + Wait + Sync>(
     requires few { (1 ≤ crew.now.threads) × (crew.now.threads ≤ E.clients) }
     ensures idle { IfOk result (λ r. IsIdle turn.now.table (counted crew.now.threads) r.0) }
     ensures knows { IfOk result (λ r. Knows pass.knows r.0.knows) }
-    ensures made { IfOk result (λ r. AllMade E.asks crew.now r.0.knows.clients) }
+    ensures made { IfOk result (λ r. AllMade E.asks (MayEnd (RefusedAs E.tells E.past E.always E.refuses) E.waits pass.knows r.0.knows) crew.now r.0.knows.clients) }
     ensures begun { IfOk result (λ r. r.1.begun ≡ begun_over r.0.knows.clients) }
     ensures all { IfOk result (λ r. r.1.begun + r.1.unbegun ≡ crew.now.requests) }
     ensures cause { IfOk result (λ r. HasCause (Refused E.tells E.past E.always E.refuses) E.waits pass.knows r.0.knows r.1) }

@@ -2,6 +2,7 @@
 //! thread of its own, and waits for its answers. One more may bring up copies beside them.
 #![tactic(auto)]
 
+mod asking;
 mod bring;
 mod crew;
 mod service;

@@ -2,6 +2,8 @@
 ghost use Rattle.std.specs.Prelude.{◌≡◌, ◌≤◌, ℕ, List};
 ghost use Rattle.lvm_vol.specs.Facts.{Request};
 ghost use Rattle.lvm_vol.specs.Fronts.{NoneFell};
+ghost use Rattle.lvm_workers.specs.declared.service.Asked.{Asked as Given};
+ghost use Rattle.lvm_workers.specs.declared.service.Seen.{Seen as Sight};
 ghost use Rattle.lvm_workers.specs.declared.words.Draw.{Draw as Drawn};
 ghost use Rattle.lvm_workers.specs.Serving.{AskGives, LookGives, Awaits};
 
@@ -38,8 +40,11 @@ pub trait Service: Shown {
     /// The request that a client's draw makes, with so many drawn before it.
     ghost asks: { ℕ → ℕ → Drawn → Request → Type 0 };
 
-    /// As the value is, that request isn't taken.
-    ghost refuses: { Self → ℕ → ℕ → Drawn → Type 0 };
+    /// As the value is, that request isn't taken, with this answer.
+    ghost refuses: { Self → ℕ → ℕ → Drawn → Given → Type 0 };
+
+    /// What a look of a client for the answer of this number makes of the value, where this is seen.
+    ghost looks: { Self → ℕ → ℕ → Sight → Self → Type 0 };
 
     /// How often no transfer had ended, among the counts that never fall.
     ghost waits: { List ℕ → ℕ };
@@ -48,13 +53,13 @@ pub trait Service: Shown {
     fn ask(&mut self, client: u32, number: u32, drawn: &Draw) -> Asked
         requires always { Self.always self.old }
         requires client { (1 ≤ client) × (client ≤ clients) }
-        ensures { AskGives Self.tells Self.past Self.always (asks client number drawn.now) (λ y. refuses y client number drawn.now) client self.old result self.new };
+        ensures { AskGives Self.tells Self.past Self.always (asks client number drawn.now) (λ y said. refuses y client number drawn.now said) client self.old result self.new };
 
     /// Takes the answer of a client's request where it has landed, and makes one event where it hasn't.
     fn look(&mut self, client: u32, id: u64) -> Seen
         requires always { Self.always self.old }
         requires awaits { Awaits client id (Self.tells self.old).entries }
-        ensures { LookGives Self.tells Self.past Self.always waits client id self.old result self.new };
+        ensures { LookGives Self.tells Self.past Self.always waits (λ x seen y. looks x client id seen y) client id self.old result self.new };
 
     /// That count is one of those that never fall.
     ghost waits_stay: { (old new : List ℕ) → NoneFell old new → waits old ≤ waits new };

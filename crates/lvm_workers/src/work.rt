@@ -1,22 +1,18 @@
 //! One worker.
 ghost use Rattle.std.specs.Prelude.{◌≡◌, ◌≤◌, ◌+◌, ◌∷◌, []};
-ghost use Rattle.lvm_num.specs.Counting.{RoseBy};
 ghost use Rattle.lvm_turn.specs.Calls.{IsIdle};
 ghost use Rattle.lvm_workers.specs.Draws.{after_draw, draw_at};
-ghost use Rattle.lvm_workers.specs.Knowing.{HasCause, Knows, Refused, first_own};
+ghost use Rattle.lvm_workers.specs.Knowing.{HasCause, Knows, MayEnd, Refused, RefusedAs, first_own};
 ghost use Rattle.lvm_workers.specs.Making.{HasMade};
-ghost use Rattle.lvm_workers.specs.Working.{AskTells, AwaitsIn, LookTells, ServeTells, WaitTells};
-ghost use Rattle.lvm_workers.specs.declared.service.Seen.TheVariants as seen;
+ghost use Rattle.lvm_workers.specs.Working.{AwaitsIn, IsWaited, ServeTells, WaitTells};
 
-use crate::service::{Asked, Seen, Service};
-use crate::words::{Draw, draw_request, generator};
+use crate::asking::{Answer, Awaited, ask, look};
+use crate::service::{Seen, Service};
+use crate::words::{draw_request, generator};
 use lvm_turn::{Pass, Turn};
 use rand_pcg::Lcg64Xsh32;
 use std::sync::Wait;
 use std::thread;
-
-// As often may nothing be heard for one request.
-const PATIENCE: u32 = 1_000_000;
 
 /// What a worker is to make: requests of a client, which are drawn from the seed.
 #[derive(Clone, Copy)]
@@ -47,65 +43,29 @@ pub(crate) enum Served {
     Unheard,
 }
 
-// Asks for a request that is drawn, while it has the turn.
-fn ask<E: Service, R: Wait>(
-    rt: &R,
-    turn: &Turn<E>,
-    pass: &mut Pass,
-    client: u32,
-    number: u32,
-    drawn: &Draw,
-) -> Asked
-    requires idle { IsIdle turn.now.table (client ∷ []) pass.old }
-    requires client { (1 ≤ client) × (client ≤ E.clients) }
-    ensures idle { IsIdle turn.now.table (client ∷ []) pass.new }
-    ensures knows { Knows pass.old.knows pass.new.knows }
-    ensures tells { AskTells (E.asks client number drawn.now) (Refused E.tells E.past E.always E.refuses) client pass.old.knows result pass.new.knows }
-{
-    let mut value = turn.enter(rt, pass);
-    let asked = value.ask(client, number, drawn);
-    turn.leave(pass, value);
-    asked
-}
-
-// Looks for the answer of a request, while it has the turn.
-fn look<E: Service, R: Wait>(rt: &R, turn: &Turn<E>, pass: &mut Pass, client: u32, id: u64) -> Seen
-    requires idle { IsIdle turn.now.table (client ∷ []) pass.old }
-    requires awaits { AwaitsIn id pass.old.knows }
-    ensures idle { IsIdle turn.now.table (client ∷ []) pass.new }
-    ensures knows { Knows pass.old.knows pass.new.knows }
-    ensures tells { LookTells id pass.old.knows result pass.new.knows }
-    ensures waited { result ≡ seen.Idle → RoseBy 1 (E.waits pass.old.knows.counts) (E.waits pass.new.knows.counts) }
-{
-    let mut value = turn.enter(rt, pass);
-    let seen = value.look(client, id);
-    turn.leave(pass, value);
-    seen
-}
-
 // Looks for the answer of a request until it is taken, or nothing was heard a million times. Answers whether it was.
 fn wait_for<E: Service, R: Wait>(
     rt: &R,
     turn: &Turn<E>,
     pass: &mut Pass,
     client: u32,
-    id: u64,
+    awaited: &mut Awaited,
 ) -> bool
     requires idle { IsIdle turn.now.table (client ∷ []) pass.old }
-    requires awaits { AwaitsIn id pass.old.knows }
+    requires awaits { AwaitsIn awaited.old.id pass.old.knows }
+    requires unseen { awaited.old.idle ≡ 0 }
     ensures idle { IsIdle turn.now.table (client ∷ []) pass.new }
     ensures knows { Knows pass.old.knows pass.new.knows }
-    ensures tells { WaitTells E.waits id pass.old.knows result pass.new.knows }
+    ensures tells { WaitTells E.waits awaited.old.id pass.old.knows result pass.new.knows }
+    ensures patience { IsWaited result awaited.new }
 {
-    let mut idle = 0;
     for _ in rt.forever() {
-        match look(rt, turn, pass, client, id) {
+        match look(rt, turn, pass, client, awaited) {
             Seen::Taken => return true,
             Seen::Moved => {}
             Seen::Idle => {
                 thread::yield_now();
-                idle += 1;
-                if idle == PATIENCE {
+                if awaited.is_given_up() {
                     return false;
                 }
             }
@@ -128,17 +88,17 @@ fn serve<E: Service, R: Wait>(
     ensures idle { IsIdle turn.now.table (client ∷ []) pass.new }
     ensures knows { Knows pass.old.knows pass.new.knows }
     ensures rng { rng.new ≡ after_draw rng.old }
-    ensures tells { ServeTells (E.asks client number (draw_at rng.old)) (Refused E.tells E.past E.always E.refuses) E.waits pass.old.knows result pass.new.knows }
+    ensures tells { ServeTells (E.asks client number (draw_at rng.old)) (RefusedAs E.tells E.past E.always E.refuses) E.waits pass.old.knows result pass.new.knows }
 {
     let drawn = draw_request(rng);
     match ask(rt, turn, pass, client, number, &drawn) {
-        Asked::Begun(id) => if wait_for(rt, turn, pass, client, id) {
+        Answer::Begun(mut awaited) => if wait_for(rt, turn, pass, client, &mut awaited) {
             Served::Answered
         } else {
             Served::Unheard
         },
-        Asked::Full => Served::Passed,
-        Asked::Refused => Served::Refused,
+        Answer::Passed => Served::Passed,
+        Answer::Refused => Served::Refused,
     }
 }
 
@@ -149,7 +109,7 @@ pub(crate) fn work<E: Service, R: Wait>(rt: &R, turn: &Turn<E>, pass: &mut Pass,
     requires fresh { first_own pass.old.knows.clients ≡ [] }
     ensures idle { IsIdle turn.now.table (job.now.client ∷ []) pass.new }
     ensures knows { Knows pass.old.knows pass.new.knows }
-    ensures made { HasMade (E.asks job.now.client) job.now.seed job.now.requests result.begun (first_own pass.new.knows.clients) }
+    ensures made { HasMade (E.asks job.now.client) (MayEnd (RefusedAs E.tells E.past E.always E.refuses) E.waits pass.old.knows pass.new.knows) job.now.seed job.now.requests result.begun (first_own pass.new.knows.clients) }
     ensures all { result.begun + result.unbegun ≡ job.now.requests }
     ensures cause { HasCause (Refused E.tells E.past E.always E.refuses) E.waits pass.old.knows pass.new.knows result }
 {

@@ -38,7 +38,7 @@ use Rattle.lvm_driver.specs.passed.Names.{RunsOn, is_moving}
 use Rattle.lvm_driver.proofs.StandingLemmas.{none_waits_still}
 use Rattle.lvm_driver.proofs.passed.Names.{path_shape}
 use Rattle.lvm_workers.specs.Counting.{AreOfClients}
-use Rattle.lvm_load.specs.Lending.{HoldsOpen, IsDrawnAs, IsNotTaken, IsServing, KeepsServing, Plan, drawn_ask, drawn_bytes, shaped, told_in}
+use Rattle.lvm_load.specs.Lending.{ByLook, ByTake, HoldsOpen, IsDrawnAs, IsNotTaken, IsServing, KeepsServing, LooksOn, Plan, drawn_ask, drawn_bytes, refused_as, seen_behind, shaped, told_in}
 use Rattle.lvm_load.specs.Requests.{ask_of, bytes_of, word_of}
 use Rattle.lvm_load.specs.Waits.{waits_in}
 use Rattle.lvm_load.proofs.LendingLemmas.Keeping.{keeps_both, keeps_runs, same_run, unstuck_still}
@@ -246,7 +246,7 @@ module _ {V : Type 0} (plan : Plan) (s_of : V → State) (always : V → Type 0)
     the_bytes = drawn_bytes plan client number d
 
     abbrev Gives : Asked → Type 0
-    Gives answer = AskGives (λ v. told_in (s_of v)) past always (IsDrawnAs plan client number d) (λ v. IsNotTaken plan (s_of v) client d) client x answer y
+    Gives answer = AskGives (λ v. told_in (s_of v)) past always (IsDrawnAs plan client number d) (λ v said. IsNotTaken plan (s_of v) client d said) client x answer y
 
     pub asks_serves : (said : Result ℕ AskFault) → SubmitGives (s_of x).core (s_of y).core client the_ask the_bytes said → RunsOn (s_of x) (s_of y) → IsSound (s_of y) → 1 ≤ client → client ≤ plan.clients → IsServing plan (s_of y)
     asks_serves said gives runs sound some few = by (submits plan.clients client (s_of x).core (s_of y).core the_ask the_bytes said gives)
@@ -290,8 +290,8 @@ module _ {V : Type 0} (plan : Plan) (s_of : V → State) (always : V → Type 0)
             }
         by (TookNot why fault is same) = absurd (cc is)
 
-    pub refused_gives : (why : AskFault) (answer : Asked) → ((id : ℕ) → answer ≡ asked.Begun id → ⊥) → SubmitGives (s_of x).core (s_of y).core client the_ask the_bytes (Err why) → RunsOn (s_of x) (s_of y) → always y → Gives answer
-    refused_gives why answer not gives runs holds = by (submits plan.clients client (s_of x).core (s_of y).core the_ask the_bytes (Err why) gives)
+    pub refused_gives : (why : AskFault) (answer : Asked) → ((id : ℕ) → answer ≡ asked.Begun id → ⊥) → answer ≡ refused_as why → SubmitGives (s_of x).core (s_of y).core client the_ask the_bytes (Err why) → RunsOn (s_of x) (s_of y) → always y → Gives answer
+    refused_gives why answer not says gives runs holds = by (submits plan.clients client (s_of x).core (s_of y).core the_ask the_bytes (Err why) gives)
       where
         by : Submits plan.clients client (s_of x).core (s_of y).core the_ask the_bytes (Err why) → Gives answer
         by (Took is grown) = absurd (cc is)
@@ -299,14 +299,14 @@ module _ {V : Type 0} (plan : Plan) (s_of : V → State) (always : V → Type 0)
           more = [];
           grows = grows plan s_of always past pasts x y [] (ap (λ (c : Core). c.history.facts) same ∙ sym (append-nil (s_of x).core.history.facts)) (keeps_runs plan.sync (s_of x) (s_of y) runs) holds;
           others = λ c apart. refl;
-          enters = WasRefused (fault, is_fault) not refl;
+          enters = WasRefused (fault, is_fault, says ∙ ap refused_as (let same_fault : why ≡ fault = cc is in same_fault)) not refl;
         }
 
   -- ---- an answer that it looks for
 
   module _ (id : ℕ) where
     abbrev Looks : Seen → Type 0
-    Looks answer = LookGives (λ v. told_in (s_of v)) past always waits_in client id x answer y
+    Looks answer = LookGives (λ v. told_in (s_of v)) past always waits_in (λ v said w. LooksOn client id (s_of v) (s_of w) said) client id x answer y
 
     pub its_there : Awaits client id (s_of x).core.history.facts → list_any (is_asked client id) (s_of x).core.requests ≡ true
     its_there awaits = subst (λ n. list_any (is_asked client n) (s_of x).core.requests ≡ true) awaits.number (was.holds client awaits.before awaits.request awaits.last)
@@ -318,13 +318,14 @@ module _ {V : Type 0} (plan : Plan) (s_of : V → State) (always : V → Type 0)
     pub takes_serves : (said : Answer) → Answers client id (s_of x).core (s_of y).core said → RunsOn (s_of x) (s_of y) → IsSound (s_of y) → IsServing plan (s_of y)
     takes_serves said it runs sound = serves_on plan client (s_of x) (s_of y) was sound (keeps_runs plan.sync (s_of x) (s_of y) runs) (answer_adds said it) (it.holds was.holds)
 
-    pub takes_looks : (said : Answer) → Answers client id (s_of x).core (s_of y).core said → RunsOn (s_of x) (s_of y) → always y → Looks seen.Taken
-    takes_looks said it runs holds = record {
+    pub takes_looks : (said : Answer) → (said ≡ answer.NotYet → ⊥) → TakeGives (s_of x).core (s_of y).core client id said → Answers client id (s_of x).core (s_of y).core said → RunsOn (s_of x) (s_of y) → always y → Looks seen.Taken
+    takes_looks said not gives it runs holds = record {
       more = Taken it.request ∷ [];
       grows = grows plan s_of always past pasts x y (Taken it.request ∷ []) it.facts (keeps_runs plan.sync (s_of x) (s_of y) runs) holds;
       others = λ c apart. others_taken c it.request (λ same. apart (sym same ∙ it.client_is));
       enters = IsTaken it.request it.number refl (own_taken client it.request it.client_is);
       idle = λ e. absurd (cc e);
+      makes = ByTake said not gives refl;
     }
 
     -- it isn't there yet, and a turn is made
@@ -340,9 +341,9 @@ module _ {V : Type 0} (plan : Plan) (s_of : V → State) (always : V → Type 0)
         by still (inl finds) = finds.waits.waits
         by still (inr nothing) = not_so (sym (none_waits_still (s_of x) was.sound unmoved still.on nothing.votes still.none nothing.idle) ∙ some)
 
-    pub turn_looks : (said : Turned) (answer : Seen) → (answer ≡ seen.Taken → ⊥) → (answer ≡ seen.Idle → said ≡ turned.Idle) → is_moving (s_of x).core ≡ false → list_any is_waiting (s_of x).core.requests ≡ true → TurnMakes (s_of x) (s_of y) said → TurnTells (s_of x) (s_of y) said
-        → RunsOn (s_of x) (s_of y) → always y → Looks answer
-    turn_looks said answer not idle unmoved some made tells runs holds =
+    pub turn_looks : (said : Turned) (it : Seen) → (it ≡ seen.Taken → ⊥) → (it ≡ seen.Idle → said ≡ turned.Idle) → it ≡ seen_behind said → TakeGives (s_of x).core (s_of x).core client id answer.NotYet → is_moving (s_of x).core ≡ false → list_any is_waiting (s_of x).core.requests ≡ true → TurnMakes (s_of x) (s_of y) said → TurnTells (s_of x) (s_of y) said
+        → RunsOn (s_of x) (s_of y) → always y → Looks it
+    turn_looks said it not idle says gives unmoved some made tells runs holds =
         let adds = turn_adds (s_of x) (s_of y) said made in
         record {
           more = adds.more;
@@ -350,6 +351,7 @@ module _ {V : Type 0} (plan : Plan) (s_of : V → State) (always : V → Type 0)
           others = λ c apart. adds.nobodys c;
           enters = IsNotYet not (adds.nobodys client);
           idle = λ e. rose_so unmoved some (subst (λ (t : Turned). TurnTells (s_of x) (s_of y) t) (idle e) tells);
+          makes = ByLook gives said made says;
         }
 
 -- what was submitted is what the plan says
@@ -360,6 +362,13 @@ asked_as plan client number d d1 lv blocks word old new said lv_is blocks_is dra
     (subst (λ (n : ℕ). SubmitGives old new client (ask_of lv n (shaped plan client d)) (bytes_of (word_of client (8 * number)) n (shaped plan client d)) said) blocks_is
     (subst (λ (e : Draw). SubmitGives old new client (ask_of lv blocks e) (bytes_of (word_of client (8 * number)) blocks e) said) drawn_is
     (subst (λ (w : ℕ). SubmitGives old new client (ask_of lv blocks d1) (bytes_of w blocks d1) said) word_is gives)))
+
+-- behind a turn that found something to do
+pub moved_behind : (said : Turned) → (said ≡ turned.Idle → ⊥) → seen.Moved ≡ seen_behind said
+moved_behind turned.Moved not = refl
+moved_behind turned.Idle not = absurd (not refl)
+moved_behind turned.Dark not = refl
+moved_behind turned.Off not = refl
 
 -- an answer that isn't there yet, and one that is
 pub not_yet : (client id : ℕ) (old new : Core) → Takes client id old new answer.NotYet → (new ≡ old) × (list_any is_waiting old.requests ≡ true)

@@ -6,11 +6,11 @@ use Rattle.lvm_turn.specs.Calls.{IsIdle}
 use Rattle.lvm_turn.specs.Views.{HoldsAll, View, counted, up_to}
 use Rattle.lvm_turn.proofs.CallsLemmas.Idle.{idle_all}
 use Rattle.lvm_workers.specs.declared.crew.Crew.{Crew}
-use Rattle.lvm_workers.specs.Crews.{AllMade, seats}
+use Rattle.lvm_workers.specs.Crews.{seats}
 use Rattle.lvm_load.specs.declared.lent.Lent.{Lent}
-use Rattle.lvm_load.specs.Lending.{IsDrawnAs, IsServing, Plan, counts_in}
+use Rattle.lvm_load.specs.Lending.{IsServing, Plan, counts_in}
 use Rattle.lvm_load.specs.Loading.{HasLoaded, IsFresh, crew_of}
-use Rattle.lvm_load.proofs.LoadingLemmas.{has_loaded, renewed_fresh, seats_more, seats_some, serves_first}
+use Rattle.lvm_load.proofs.LoadingLemmas.{crew_same, has_loaded, renewed_fresh, seats_more, seats_some, serves_first}
 use Rattle.lvm_load.proofs.load.share_as.Goals as goal
 
 pub new-requires-clause-always : goal.new-requires-clause-always
@@ -72,11 +72,12 @@ returns-in-Ok-run_crew-clause-made g c =
     let y : Lent g.row.S.Denot g.row.J.Denot = c.close.result in
     let fresh : IsFresh plan.first.core.history.facts = subst (λ (p : Plan). IsFresh p.first.core.history.facts) (sym is) c.requires.fresh in
     let idle : IsIdle c.in-Ok.made.0.table (counted (seats load.sync load.threads)) c.in-Ok-run_crew.pass = subst (λ (k : Crew). IsIdle c.in-Ok.made.0.table (counted (seats load.sync k.threads)) c.in-Ok-run_crew.pass) crew worked.idle in
-    let made : AllMade (λ k number d r. IsDrawnAs plan k number d r) (crew_of load) c.in-Ok-run_crew.pass.knows.clients = subst (λ (k : Crew). AllMade (λ n number d r. IsDrawnAs plan n number d r) k c.in-Ok-run_crew.pass.knows.clients) crew worked.made in
+    let made = crew_same _ _ _ _ _ crew worked.made in
+    let front : c.in-Ok.made.1.knows.front ≡ plan.first.core.history.facts = ap (λ (v : View). v.front) c.in-Ok.ensures.knows ∙ sym (ap (λ (p : Plan). p.first.core.history.facts) is) in
     let counts : c.in-Ok.made.1.knows.counts ≡ counts_in plan.first = ap (λ (v : View). v.counts) c.in-Ok.ensures.knows ∙ sym (ap (λ (p : Plan). counts_in p.first) is) in
     let all = worked.all ∙ ap (λ (k : Crew). k.requests) crew in
     let loaded : HasLoaded plan load (state_of device y.driver) c.in-Ok-run_crew.tally =
     has_loaded {V = Lent g.row.S.Denot g.row.J.Denot} plan load (λ d. state_of device d.driver) (λ d. image_of plan.first.device) _ (λ v holds. holds.0) c.in-Ok.made.0.table c.in-Ok-run_crew.pass y c.close.ensures
-    (seats load.sync load.threads) (seats_more load.sync load.threads) (ap (λ (p : Plan). p.clients) is) fresh idle c.in-Ok.made.1.knows c.in-Ok-run_crew.tally counts worked.cause made worked.begun all in
+    (seats load.sync load.threads) (seats_more load.sync load.threads) (ap (λ (p : Plan). p.clients) is) fresh idle c.in-Ok.made.1.knows c.in-Ok-run_crew.tally counts front worked.cause made worked.begun all (λ on. worked.brought (sym (ap (λ (p : Plan). p.sync) is) ∙ on)) in
     subst (λ o. IfSome o (HasLoaded plan load (state_of device c.given_back-in-Ok-run_crew.result.driver))) (sym c.given_back-in-Ok-run_crew.ensures.tally)
     (subst (λ d. HasLoaded plan load (state_of device d) c.in-Ok-run_crew.tally) (sym c.given_back-in-Ok-run_crew.ensures.driver) loaded)

@@ -1,12 +1,13 @@
 use Rattle.std.proofs.Common.{◌≡◌, ◌+◌, suc, List, sym, ap, ◌∙◌, subst, arith}
 use Rattle.lvm_turn.specs.Calls.{IsIdle}
-use Rattle.lvm_turn.specs.Views.{Client, Holds, Standing, counted, up_to}
+use Rattle.lvm_turn.specs.Views.{Client, Holds, Standing, View, counted, up_to}
+use Rattle.lvm_workers.specs.declared.service.Asked.{Asked}
 use Rattle.lvm_workers.specs.declared.work.Tally.{Tally}
 use Rattle.lvm_workers.specs.Crews.{AllMade, begun_over}
-use Rattle.lvm_workers.specs.Knowing.{HasCause, Knows, Refused}
-use Rattle.lvm_workers.proofs.BringingLemmas.{err_holds, ok_holds, other_idle, rest_at, rest_holds, rest_outside, whole_back, whole_begun, whole_cause, whole_idle, whole_knows, whole_made}
+use Rattle.lvm_workers.specs.Knowing.{HasCause, Knows, MayEnd, Refused, RefusedAs}
+use Rattle.lvm_workers.proofs.BringingLemmas.{err_holds, ok_holds, other_idle, rest_at, rest_holds, rest_outside, whole_back, whole_begun, whole_cause, whole_end, whole_ended, whole_idle, whole_knows, whole_made}
 use Rattle.lvm_workers.proofs.CrewsLemmas.{holds_last}
-use Rattle.lvm_workers.proofs.KnowingLemmas.{refused_on}
+use Rattle.lvm_workers.proofs.KnowingLemmas.{refused_as_on, refused_on}
 use Rattle.lvm_workers.proofs.bring.workers_beside.Goals as goal
 
 pub split-other-requires-clause-holds : goal.split-other-requires-clause-holds
@@ -79,7 +80,7 @@ returns-in-Ok-clause-idle g c =
     let kept = c.split-other.ensures.kept in
     let given = c.split-other.ensures.given in
     let o1 = c.work_and_bring-worked.result.1 in
-    let brought = c.work_and_bring-worked.ensures.brought in
+    let brought = c.work_and_bring-worked.ensures.brought.keeps in
     let w = c.in-Ok.pass in
     let q = c.take_in.new.pass in
     let met = c.take_in.ensures in
@@ -100,7 +101,7 @@ returns-in-Ok-clause-knows g c =
     let kept = c.split-other.ensures.kept in
     let given = c.split-other.ensures.given in
     let o1 = c.work_and_bring-worked.result.1 in
-    let brought = c.work_and_bring-worked.ensures.brought in
+    let brought = c.work_and_bring-worked.ensures.brought.keeps in
     let w = c.in-Ok.pass in
     let q = c.take_in.new.pass in
     let met = c.take_in.ensures in
@@ -121,11 +122,15 @@ returns-in-Ok-clause-made g c =
     let kept = c.split-other.ensures.kept in
     let given = c.split-other.ensures.given in
     let o1 = c.work_and_bring-worked.result.1 in
-    let brought = c.work_and_bring-worked.ensures.brought in
+    let brought = c.work_and_bring-worked.ensures.brought.keeps in
     let w = c.in-Ok.pass in
     let q = c.take_in.new.pass in
     let met = c.take_in.ensures in
-    whole_made table n k e p p1 o o1 at outside held kept given brought w q met.joined met.front g.E.Service.asks c.args.crew.now (ok_holds (λ (r : Standing × Tally). AllMade g.E.Service.asks c.args.crew.now r.0.knows.clients) c.work_and_bring-worked.result.0 (c.in-Ok.pass, c.in-Ok.tally) c.in-Ok.is c.work_and_bring-worked.ensures.made)
+    let RA : Asked → View → Type 0 = RefusedAs g.E.Shown.tells g.E.Past.past g.E.Shown.always g.E.Service.refuses in
+    let waits = g.E.Service.waits in
+    whole_made table n k e p p1 o o1 at outside held kept given brought w q met.joined met.front g.E.Service.asks c.args.crew.now (omega arith) (MayEnd RA waits p1.knows w.knows) (MayEnd RA waits p.knows q.knows)
+    (whole_end table n k e p p1 o o1 at outside held kept given brought w q met.joined met.front RA (refused_as_on g.E.Shown.tells g.E.Past.past g.E.Shown.always g.E.Service.refuses) waits c.take_in.ensures.waits)
+    (ok_holds (λ (r : Standing × Tally). AllMade g.E.Service.asks (MayEnd RA waits p1.knows r.0.knows) c.args.crew.now r.0.knows.clients) c.work_and_bring-worked.result.0 (c.in-Ok.pass, c.in-Ok.tally) c.in-Ok.is c.work_and_bring-worked.ensures.made)
 
 pub returns-in-Ok-clause-begun : goal.returns-in-Ok-clause-begun
 returns-in-Ok-clause-begun g c =
@@ -142,11 +147,33 @@ returns-in-Ok-clause-begun g c =
     let kept = c.split-other.ensures.kept in
     let given = c.split-other.ensures.given in
     let o1 = c.work_and_bring-worked.result.1 in
-    let brought = c.work_and_bring-worked.ensures.brought in
+    let brought = c.work_and_bring-worked.ensures.brought.keeps in
     let w = c.in-Ok.pass in
     let q = c.take_in.new.pass in
     let met = c.take_in.ensures in
     whole_begun table n k e p p1 o o1 at outside held kept given brought w q met.joined met.front g.E.Service.asks c.args.crew.now c.in-Ok.tally.begun (ok_holds (λ (r : Standing × Tally). r.1.begun ≡ begun_over r.0.knows.clients) c.work_and_bring-worked.result.0 (c.in-Ok.pass, c.in-Ok.tally) c.in-Ok.is c.work_and_bring-worked.ensures.begun)
+
+pub returns-in-Ok-clause-brought : goal.returns-in-Ok-clause-brought
+returns-in-Ok-clause-brought g c =
+    let n = c.args.crew.now.threads in
+    let k = c.args.crew.now.threads + 1 in
+    let e : k ≡ suc n = omega arith in
+    let table = c.args.turn.now.table in
+    let p = c.args.pass in
+    let p1 = c.split-other.new.pass in
+    let o = c.split-other.result in
+    let at = c.requires.at.0 in
+    let outside = c.requires.at.1 in
+    let held = c.requires.holds ∙ ap up_to e in
+    let kept = c.split-other.ensures.kept in
+    let given = c.split-other.ensures.given in
+    let o1 = c.work_and_bring-worked.result.1 in
+    let brought = c.work_and_bring-worked.ensures.brought.keeps in
+    let w = c.in-Ok.pass in
+    let q = c.take_in.new.pass in
+    let met = c.take_in.ensures in
+    whole_ended table n k e p p1 o o1 at outside held kept given brought w q met.joined met.front g.E.Shown.tells g.E.Past.past g.E.Shown.always g.E.Brings.brings g.E.Service.waits met.other_waits
+    (ok_holds (λ (r : Standing × Tally). Knows p1.knows r.0.knows) c.work_and_bring-worked.result.0 (c.in-Ok.pass, c.in-Ok.tally) c.in-Ok.is c.work_and_bring-worked.ensures.knows) met.other_front c.work_and_bring-worked.ensures.brought.ended
 
 pub returns-in-Ok-clause-cause : goal.returns-in-Ok-clause-cause
 returns-in-Ok-clause-cause g c =
@@ -163,7 +190,7 @@ returns-in-Ok-clause-cause g c =
     let kept = c.split-other.ensures.kept in
     let given = c.split-other.ensures.given in
     let o1 = c.work_and_bring-worked.result.1 in
-    let brought = c.work_and_bring-worked.ensures.brought in
+    let brought = c.work_and_bring-worked.ensures.brought.keeps in
     let w = c.in-Ok.pass in
     let q = c.take_in.new.pass in
     let met = c.take_in.ensures in
@@ -185,7 +212,7 @@ returns-in-Err-clause-err g c =
     let kept = c.split-other.ensures.kept in
     let given = c.split-other.ensures.given in
     let o1 = c.work_and_bring-worked.result.1 in
-    let brought = c.work_and_bring-worked.ensures.brought in
+    let brought = c.work_and_bring-worked.ensures.brought.keeps in
     let w = c.in-Err.pass in
     let q = c.take_in-in-Err.new.pass in
     let met = c.take_in-in-Err.ensures in

@@ -1,12 +1,15 @@
-use Rattle.std.proofs.Common.{rules, arith, ◌≡◌, suc, ◌+◌, ◌-◌, ◌<◌, ◌^◌, vec_len, length, List, [], ◌++◌, sym, ap, ◌∙◌, subst}
+use Rattle.std.proofs.Common.{rules, arith, ◌≡◌, ◌⊎◌, inr, suc, ◌+◌, ◌-◌, ◌<◌, ◌^◌, vec_len, length, List, [], ◌++◌, sym, ap, ◌∙◌, subst}
 use Rattle.crossbeam_utils.specs.Padded.{padded_value}
 use Rattle.lvm_turn.specs.Calls.{IsIdle}
 use Rattle.lvm_turn.specs.Views.{Client, Standing, View, counted}
+use Rattle.lvm_workers.specs.declared.service.Asked.{Asked}
 use Rattle.lvm_workers.specs.declared.work.Tally.{Tally}
-use Rattle.lvm_workers.specs.Crews.{AllMade, added, begun_over, share, shares}
-use Rattle.lvm_workers.specs.Knowing.{HasCause, Refused}
-use Rattle.lvm_workers.proofs.KnowingLemmas.{cause_both, cause_on, knows_itself, knows_further, met_knows, met_other, refused_on}
-use Rattle.lvm_workers.proofs.CrewsLemmas.{begun_both, last_done, made_both, none_made, others_done, room_for_both, shares_all, shares_few, taken_in}
+use Rattle.lvm_workers.specs.Making.{HasMade}
+use Rattle.lvm_workers.proofs.MakingLemmas.{made_for}
+use Rattle.lvm_workers.specs.Crews.{AllMade, added, begun_over, job_of, share, shares}
+use Rattle.lvm_workers.specs.Knowing.{HasCause, MayEnd, Refused, RefusedAs, first_own}
+use Rattle.lvm_workers.proofs.KnowingLemmas.{cause_both, cause_on, end_on, knows_itself, knows_further, met_knows, met_other, refused_as_on, refused_on}
+use Rattle.lvm_workers.proofs.CrewsLemmas.{all_for, begun_both, last_done, made_both, none_made, others_done, room_for_both, shares_all, shares_few, taken_in}
 use Rattle.lvm_workers.proofs.crew.gather.Goals as goal
 
 pub loop-worker-init : goal.loop-worker-init
@@ -19,7 +22,7 @@ loop-worker-init g c =
       omega arith,
       subst (λ m. IsIdle c.args.turn.now.table (counted m) c.args.pass.now) (sym rest) idle,
       knows_itself c.args.pass.now.knows,
-      subst (λ (xs : List Client). AllMade g.E.Service.asks c.args.crew.now xs) (sym held) (λ k own owns. absurd owns),
+      subst (λ (xs : List Client). AllMade g.E.Service.asks (MayEnd (RefusedAs g.E.Shown.tells g.E.Past.past g.E.Shown.always g.E.Service.refuses) g.E.Service.waits c.args.pass.now.knows c.args.pass.now.knows) c.args.crew.now xs) (sym held) (λ k own owns. absurd owns),
       ap (λ (t : Tally). t.begun) none ∙ ap begun_over (sym held),
       ap (λ (t : Tally). t.begun + t.unbegun) none ∙ ap (shares c.args.crew.now) (sym rest),
       subst (λ t. HasCause (Refused g.E.Shown.tells g.E.Past.past g.E.Shown.always g.E.Service.refuses) g.E.Service.waits c.args.pass.now.knows c.args.pass.now.knows t) (sym none)
@@ -30,13 +33,13 @@ loop-worker-init g c =
 pub join-requires-clause-other_at : goal.join-requires-clause-other_at
 join-requires-clause-other_at g c =
     let count : length c.pop.new.self.items ≡ vec_len c.pop.new.self = search rules in
-    (last_done g.E.Service.asks (Refused g.E.Shown.tells g.E.Past.past g.E.Shown.always g.E.Service.refuses) g.E.Service.waits c.args.turn.now.table c.args.crew.now c.args.pass.now.knows
+    (last_done g.E.Service.asks (RefusedAs g.E.Shown.tells g.E.Past.past g.E.Shown.always g.E.Service.refuses) g.E.Service.waits c.args.turn.now.table c.args.crew.now c.args.pass.now.knows
     (vec_len c.pop.new.self) c.loop-worker.workers.items c.pop.new.self.items c.in-Some.worker c.loop-worker.invariant.7 c.in-Some.ensures.items count).1.idle.at
 
 pub join-requires-clause-outside : goal.join-requires-clause-outside
 join-requires-clause-outside g c =
     let count : length c.pop.new.self.items ≡ vec_len c.pop.new.self = search rules in
-    (last_done g.E.Service.asks (Refused g.E.Shown.tells g.E.Past.past g.E.Shown.always g.E.Service.refuses) g.E.Service.waits c.args.turn.now.table c.args.crew.now c.args.pass.now.knows
+    (last_done g.E.Service.asks (RefusedAs g.E.Shown.tells g.E.Past.past g.E.Shown.always g.E.Service.refuses) g.E.Service.waits c.args.turn.now.table c.args.crew.now c.args.pass.now.knows
     (vec_len c.pop.new.self) c.loop-worker.workers.items c.pop.new.self.items c.in-Some.worker c.loop-worker.invariant.7 c.in-Some.ensures.items count).1.idle.outside
 
 pub add-requires : goal.add-requires
@@ -49,7 +52,7 @@ add-requires g c =
     let at_most = was.0 in
     let e : crew.threads - i ≡ suc j = omega arith in
     let count : length c.pop.new.self.items ≡ i = search rules in
-    let last = last_done g.E.Service.asks (Refused g.E.Shown.tells g.E.Past.past g.E.Shown.always g.E.Service.refuses) g.E.Service.waits c.args.turn.now.table crew c.args.pass.now.knows
+    let last = last_done g.E.Service.asks (RefusedAs g.E.Shown.tells g.E.Past.past g.E.Shown.always g.E.Service.refuses) g.E.Service.waits c.args.turn.now.table crew c.args.pass.now.knows
     i c.loop-worker.workers.items c.pop.new.self.items c.in-Some.worker was.7 c.in-Some.ensures.items count in
     let few = shares_few crew (suc j) c.requires.some (omega arith) in
     let part = last.1.all ∙ ap (share crew) e in
@@ -63,6 +66,7 @@ loop-worker-preserved g c =
     let table = c.args.turn.now.table in
     let asks = g.E.Service.asks in
     let R : View → Type 0 = Refused g.E.Shown.tells g.E.Past.past g.E.Shown.always g.E.Service.refuses in
+    let RA : Asked → View → Type 0 = RefusedAs g.E.Shown.tells g.E.Past.past g.E.Shown.always g.E.Service.refuses in
     let waits = g.E.Service.waits in
     let worker = c.in-Some.worker in
     let i = vec_len c.pop.new.self in
@@ -73,7 +77,7 @@ loop-worker-preserved g c =
     let e : k ≡ suc j = omega arith in
     let count : length c.pop.new.self.items ≡ i = search rules in
     let first = c.args.pass.now.knows in
-    let last = (last_done asks R waits table crew first i c.loop-worker.workers.items c.pop.new.self.items worker was.7 c.in-Some.ensures.items count).1 in
+    let last = (last_done asks RA waits table crew first i c.loop-worker.workers.items c.pop.new.self.items worker was.7 c.in-Some.ensures.items count).1 in
     let met = c.join.ensures in
     let mine = met_knows c.loop-worker.pass worker.pass c.join.new.pass met.joined met.front in
     let theirs = met_other c.loop-worker.pass worker.pass c.join.new.pass met.joined met.other_front (last.fixed ∙ sym was.2.fixed) in
@@ -81,19 +85,27 @@ loop-worker-preserved g c =
     let sums : c.add.new.self ≡ added c.loop-worker.tally (padded_value worker.tally) = c.add.ensures ∙ ap (added c.loop-worker.tally) c.into_inner.ensures in
     let stays = refused_on g.E.Shown.tells g.E.Past.past g.E.Shown.always g.E.Service.refuses in
     let grow = g.met.E.Service.waits_stay in
+    let still = refused_as_on g.E.Shown.tells g.E.Past.past g.E.Shown.always g.E.Service.refuses in
+    let end : Type 0 = MayEnd RA waits first c.join.new.pass.knows in
+    let mine_made : AllMade asks end crew c.loop-worker.pass.knows.clients =
+    all_for asks crew (MayEnd RA waits first c.loop-worker.pass.knows) end (end_on RA still waits first c.loop-worker.pass.knows c.join.new.pass.knows mine (grow c.loop-worker.pass.knows.counts c.join.new.pass.knows.counts mine.counts)) c.loop-worker.pass.knows.clients was.3 in
+    let its_made : HasMade (asks k) ((crew.threads < k) ⊎ end) (job_of crew k).seed (job_of crew k).requests (padded_value worker.tally).begun (first_own worker.pass.knows.clients) =
+    made_for (asks k) (MayEnd RA waits first worker.pass.knows) ((crew.threads < k) ⊎ end)
+    (λ a. inr (end_on RA still waits first worker.pass.knows c.join.new.pass.knows theirs (grow worker.pass.knows.counts c.join.new.pass.knows.counts theirs.counts) a))
+    (job_of crew k).seed (job_of crew k).requests (padded_value worker.tally).begun (first_own worker.pass.knows.clients) last.made in
     let before = was.5 in
     let part : (padded_value worker.tally).begun + (padded_value worker.tally).unbegun ≡ share crew (suc j) = last.all ∙ ap (share crew) e in (
       omega arith,
       taken_in table k c.loop-worker.pass worker.pass c.join.new.pass j e was.1 last.idle met.joined,
       knows_further first c.loop-worker.pass.knows c.join.new.pass.knows was.2 mine,
-      subst (λ (xs : List Client). AllMade asks crew xs) (sym clients) (made_both asks crew k _ c.loop-worker.pass.knows.clients worker.pass.knows.clients was.3 last.idle.holds last.made),
-      ap (λ (t : Tally). t.begun) sums ∙ begun_both asks crew k _ c.loop-worker.tally.begun c.loop-worker.pass.knows.clients worker.pass.knows.clients was.4 last.idle.holds last.made ∙ ap begun_over (sym clients),
+      subst (λ (xs : List Client). AllMade asks end crew xs) (sym clients) (made_both asks crew end k _ c.loop-worker.pass.knows.clients worker.pass.knows.clients mine_made last.idle.holds its_made),
+      ap (λ (t : Tally). t.begun) sums ∙ begun_both asks crew ((crew.threads < k) ⊎ end) k _ c.loop-worker.tally.begun c.loop-worker.pass.knows.clients worker.pass.knows.clients was.4 last.idle.holds its_made ∙ ap begun_over (sym clients),
       ap (λ (t : Tally). t.begun + t.unbegun) sums ∙ (let sum : (c.loop-worker.tally.begun + (padded_value worker.tally).begun) + (c.loop-worker.tally.unbegun + (padded_value worker.tally).unbegun) ≡ shares crew j + share crew (suc j) = omega (arith, before, part) in sum) ∙ ap (shares crew) (sym e),
       subst (λ t. HasCause R waits first c.join.new.pass.knows t) (sym sums)
           (cause_both R stays waits grow first c.join.new.pass.knows c.loop-worker.tally (padded_value worker.tally)
           (cause_on R stays waits grow first c.loop-worker.pass.knows c.join.new.pass.knows c.loop-worker.tally mine was.6)
           (cause_on R stays waits grow first worker.pass.knows c.join.new.pass.knows (padded_value worker.tally) theirs last.cause)),
-      others_done asks R waits table crew first c.loop-worker.workers.items c.pop.new.self.items worker was.7 c.in-Some.ensures.items,
+      others_done asks RA waits table crew first c.loop-worker.workers.items c.pop.new.self.items worker was.7 c.in-Some.ensures.items,
     )
 
 pub returns-clause-all : goal.returns-clause-all

@@ -9,4 +9,5 @@ abbrev pub invariant-loop : goal.invariant-loop
 invariant-loop g l =
     (goal.iterator-loop g).can_next l.iterator' × (goal.iterator-loop g).is_finite l.iterator'
     × IsIdle l.turn.table (l.client ∷ []) l.pass × Knows l.initial.pass.knows l.pass.knows × (own_of l.pass.knows ≡ own_of l.initial.pass.knows)
-    × (l.idle < 1000000) × RoseBy l.idle (g.E.Service.waits l.initial.pass.knows.counts) (g.E.Service.waits l.pass.knows.counts)
+    × (l.awaited.idle < 1000000) × RoseBy l.awaited.idle (g.E.Service.waits l.initial.pass.knows.counts) (g.E.Service.waits l.pass.knows.counts)
+    × (l.awaited.id ≡ l.initial.awaited.id)

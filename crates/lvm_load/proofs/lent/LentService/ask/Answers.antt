@@ -37,7 +37,7 @@ returns-in-Err g c =
     let y : Lent g.row.S.Denot g.row.J.Denot = record x { driver = c.submit_drawn-asked.new.driver; bytes = c.submit_drawn-asked.new.bytes } in
     let gives = asked_as plan c.args.client c.args.number c.args.drawn.now c.shaped-shaped.result x.lv x.blocks c.word_of-word.result x.driver.1 y.driver.1 (Err c.in-Err.why) was.2 was.3
     (c.shaped-shaped.ensures ∙ ap₂ (λ (b : Bool) (n : ℕ). if b then apart_draw n c.args.client c.args.drawn.now else c.args.drawn.now) was.4 was.3) c.word_of-word.ensures c.in-Err.ensures.gives in
-    refused_gives {V = Lent g.row.S.Denot g.row.J.Denot} plan (λ d. state_of device d.driver) _ (λ d. image_of plan.first.device) (λ v w. refl) x y c.args.client was.0 c.args.number c.args.drawn.now c.in-Err.why c.refused.result c.refused.ensures.not_begun gives c.in-Err.ensures.runs (
+    refused_gives {V = Lent g.row.S.Denot g.row.J.Denot} plan (λ d. state_of device d.driver) _ (λ d. image_of plan.first.device) (λ v w. refl) x y c.args.client was.0 c.args.number c.args.drawn.now c.in-Err.why c.refused.result c.refused.ensures.not_begun c.refused.ensures.goes_on gives c.in-Err.ensures.runs (
       asks_serves {V = Lent g.row.S.Denot g.row.J.Denot} plan (λ d. state_of device d.driver) (λ d. Unit {0}) (λ d. image_of plan.first.device) (λ v w. refl) x y c.args.client was.0 c.args.number c.args.drawn.now (Err c.in-Err.why) gives c.in-Err.ensures.runs
           c.is_sound.ensures c.requires.client.0 c.requires.client.1,
       c.in-Err.ensures.room,
