@@ -1,8 +1,9 @@
 //! The lines that let a disk fail or heal, or cut the power.
-ghost use Rattle.std.specs.Prelude.{◌≡◌, ◌⊎◌};
+ghost use Rattle.std.specs.Prelude.{◌≡◌, ◌⊎◌, IsFalse};
 ghost use Rattle.lvm_disk.specs.declared.shelf.Arrange.TheVariants as arrange;
 ghost use Rattle.lvm_group_lines.specs.Ends.{EndsUnasked};
 ghost use Rattle.lvm_group_lines.specs.Moments.{Aside};
+ghost use Rattle.lvm_group_lines.specs.Replies.{is_unheard};
 ghost use Rattle.lvm_group_lines.specs.Shelves.{ArrangeDoes, CutDoes};
 ghost use Rattle.lvm_group_lines.specs.Stages.{IsBetweenStage, IsFittingStage};
 
@@ -12,21 +13,21 @@ use crate::stage::{Answered, Stage};
 use lvm_disk::{Arrange, Shelf};
 use lvm_transfer::relight;
 
-/// Lets a disk fail, or heal.
-pub fn do_arrange<S: Shelf>(stage: Stage<S>, disk: u16, what: Arrange) -> Answered<S>
-    requires fits { IsFittingStage stage }
-    requires between { IsBetweenStage S.device stage }
+/// Lets a disk fail, or heal. The stage isn't given away for it, and goes on as it is.
+pub fn do_arrange<S: Shelf>(stage: &mut Stage<S>, disk: u16, what: Arrange) -> Reply
+    requires fits { IsFittingStage stage.old }
+    requires between { IsBetweenStage S.device stage.old }
     requires what { (what ≡ arrange.Fail disk) ⊎ (what ≡ arrange.Heal disk) }
-    ensures { EndsUnasked S.device (λ _. ArrangeDoes disk what) (Unit {0}) Aside stage result.stage result.reply }
+    ensures ends { EndsUnasked S.device (λ _. ArrangeDoes disk what) (Unit {0}) Aside stage.old stage.new result }
+    ensures heard { IsFalse (is_unheard result) }
 {
-    let mut stage = stage;
     if disk >= stage.disks() {
-        return stage.refused(Refusal::NoDisk { disk });
+        return Reply::Refused(Refusal::NoDisk { disk });
     }
     if stage.holder.arrange(what) {
-        stage.answered(Reply::Ok)
+        Reply::Ok
     } else {
-        stage.refused(Refusal::NoPlan)
+        Reply::Refused(Refusal::NoPlan)
     }
 }
 

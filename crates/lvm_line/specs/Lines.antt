@@ -92,6 +92,11 @@ IsLeftToDo (Ok (Some (command.Lspv disk))) = ⊥
 IsLeftToDo (Ok (Some (command.Rd name at count))) = ⊥
 IsLeftToDo (Ok (Some (command.Wr name at count word))) = ⊥
 IsLeftToDo (Ok (Some (command.Post name at count word))) = ⊥
+IsLeftToDo (Ok (Some (command.Step turns))) = ⊥
+IsLeftToDo (Ok (Some (command.SyncVolume name))) = ⊥
+IsLeftToDo (Ok (Some (command.SyncGroup name))) = ⊥
+IsLeftToDo (Ok (Some (command.Fail disk))) = ⊥
+IsLeftToDo (Ok (Some (command.Heal disk))) = ⊥
 IsLeftToDo other = Unit {0}
 
 -- how often the clock has been asked after a line: once more by `mkvg` and `varyonvg` alone

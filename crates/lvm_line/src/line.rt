@@ -73,8 +73,6 @@ fn do_command<S: Shelf, C: Clock>(
         Command::Splitlvcopy { new, name, copies } => {
             do_splitlvcopy(alloc, stage, new, name, copies)
         }
-        Command::SyncVolume { name } => do_sync_volume(stage, name),
-        Command::SyncGroup { name } => do_sync_group(stage, name),
         Command::Lslv { name } => {
             let reply = list_volume(alloc, &stage, name);
             stage.answered(reply)
@@ -108,8 +106,22 @@ fn do_command<S: Shelf, C: Clock>(
             let reply = do_post(&mut stage, name, at, count, word);
             stage.left(reply)
         }
+        Command::Step { turns } => {
+            let mut stage = stage;
+            let reply = do_step(&mut stage, turns);
+            stage.left(reply)
+        }
+        Command::SyncVolume { name } => {
+            let mut stage = stage;
+            let reply = do_sync_volume(&mut stage, name);
+            stage.left(reply)
+        }
+        Command::SyncGroup { name } => {
+            let mut stage = stage;
+            let reply = do_sync_group(&mut stage, name);
+            stage.left(reply)
+        }
         Command::Wait => do_wait(alloc, stage),
-        Command::Step { turns } => do_step(stage, turns),
         Command::RawRd { disk, at, count } => do_read(alloc, stage, disk, at, count),
         Command::RawWr {
             disk,
@@ -117,8 +129,16 @@ fn do_command<S: Shelf, C: Clock>(
             count,
             word,
         } => do_write(alloc, stage, disk, at, count, word),
-        Command::Fail { disk } => do_arrange(stage, disk, Arrange::Fail(disk)),
-        Command::Heal { disk } => do_arrange(stage, disk, Arrange::Heal(disk)),
+        Command::Fail { disk } => {
+            let mut stage = stage;
+            let reply = do_arrange(&mut stage, disk, Arrange::Fail(disk));
+            stage.left(reply)
+        }
+        Command::Heal { disk } => {
+            let mut stage = stage;
+            let reply = do_arrange(&mut stage, disk, Arrange::Heal(disk));
+            stage.left(reply)
+        }
         Command::Cut { word } => do_cut(stage, word),
     }
 }
@@ -161,6 +181,11 @@ fn serve<S: Shelf>(alloc: Global, stage: &mut Stage<S>, command: Command) -> Opt
             count,
             word,
         } => Some(do_post(stage, name, at, count, word)),
+        Command::Step { turns } => Some(do_step(stage, turns)),
+        Command::SyncVolume { name } => Some(do_sync_volume(stage, name)),
+        Command::SyncGroup { name } => Some(do_sync_group(stage, name)),
+        Command::Fail { disk } => Some(do_arrange(stage, disk, Arrange::Fail(disk))),
+        Command::Heal { disk } => Some(do_arrange(stage, disk, Arrange::Heal(disk))),
         _ => None,
     }
 }
@@ -188,7 +213,8 @@ fn behind<S: Shelf>(stage: &Stage<S>, reply: Reply) -> InPlace
 }
 
 /// Does a line, without its line feed, where the stage stays: one without a command, one that isn't in the language, a
-/// listing, and a range of a volume that is read, written or posted. Other commands are left to `do_line`.
+/// listing, a range of a volume that is read, written or posted, turns that are made, copies that are brought up, and a
+/// disk that is made to fail or to heal. Other commands are left to `do_line`.
 pub fn answer_line<S: Shelf>(alloc: Global, stage: &mut Stage<S>, line: &[u8]) -> InPlace
     requires between { IsBetweenStage S.device stage.old }
     requires fits { IsFittingStage stage.old }

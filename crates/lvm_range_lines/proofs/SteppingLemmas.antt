@@ -1,10 +1,10 @@
 -- The reply of turns.
-use Rattle.std.proofs.Common.{◌≤◌, ℕ, arith}
+use Rattle.std.proofs.Common.{◌≡◌, ◌≤◌, ℕ, false, refl, arith}
 use Rattle.lvm_session.specs.declared.answers.Turned.{Turned}
 use Rattle.lvm_session.specs.declared.answers.Turned.TheVariants as turned
 use Rattle.lvm_session.specs.State.{State}
 use Rattle.lvm_group_lines.specs.passed.Ranges.{AllMoved, LastEnded, StepEnds}
-use Rattle.lvm_group_lines.specs.Replies.{most_refusals}
+use Rattle.lvm_group_lines.specs.Replies.{is_unheard, most_refusals}
 use Rattle.lvm_range_lines.specs.Stepping.{StopsAs, step_reply}
 
 -- it is one refusal at most
@@ -13,6 +13,13 @@ step_few moved end turned.Moved = omega arith
 step_few moved end turned.Idle = omega arith
 step_few moved end turned.Dark = omega arith
 step_few moved end turned.Off = omega arith
+
+-- something was heard of it
+pub step_heard : (moved : ℕ) (end : State) (how : Turned) → is_unheard (step_reply moved end how) ≡ false
+step_heard moved end turned.Moved = refl
+step_heard moved end turned.Idle = refl
+step_heard moved end turned.Dark = refl
+step_heard moved end turned.Off = refl
 
 -- and the last turn tells of a session that is over
 pub step_stops : (turns moved : ℕ) (old end : State) (how : Turned) → StepEnds turns old end moved how → StopsAs how end.core.power

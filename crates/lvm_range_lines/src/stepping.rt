@@ -1,18 +1,17 @@
 //! The line that makes turns.
-ghost use Rattle.std.specs.Prelude.{◌≡◌};
+ghost use Rattle.std.specs.Prelude.{◌≡◌, ℕ};
+ghost use Rattle.std.specs.Global.{Vec};
+ghost use Rattle.lvm_session.specs.declared.open.Power.TheVariants as power;
 ghost use Rattle.lvm_session.specs.Sound.{IsSound};
 ghost use Rattle.lvm_session.specs.State.{state_of};
-ghost use Rattle.lvm_group_lines.specs.Ends.{EndsUnasked};
-ghost use Rattle.lvm_group_lines.specs.Moments.{OfRequests};
 ghost use Rattle.lvm_group_lines.specs.Stages.{IsBetweenStage, IsFittingStage};
-ghost use Rattle.lvm_range_lines.specs.Leaving.{serving};
+ghost use Rattle.lvm_range_lines.specs.Leaving.{EndsInPlace, EndsInSession};
 ghost use Rattle.lvm_range_lines.specs.Stepping.{StepDoes, step_reply};
 
 use lvm_disk::Shelf;
 use lvm_group_lines::below::driver::Driver;
 use lvm_group_lines::below::ranges::step;
-use lvm_group_lines::{Answered, Holder, Refusal, Reply, Stage};
-use lvm_posts::Post;
+use lvm_group_lines::{Holder, Refusal, Reply, Stage};
 use lvm_session::Turned;
 
 // The reply where so many turns have moved, and the last one answered so.
@@ -32,38 +31,27 @@ fn step_reply<S: Shelf>(driver: &Driver<S>, moved: u32, how: Turned) -> Reply
 }
 
 // Makes turns of a session that is on.
-fn step_on<S: Shelf>(driver: Driver<S>, posts: Vec<Post>, bytes: Vec<u8>, turns: u32) -> Answered<S>
-    requires fits { IsFittingStage (serving driver posts bytes) }
-    requires between { IsBetweenStage S.device (serving driver posts bytes) }
-    ensures { EndsUnasked S.device (λ _. StepDoes turns) ⊥ OfRequests (serving driver posts bytes) result.stage result.reply }
+fn step_on<S: Shelf>(driver: &mut Driver<S>, turns: u32) -> Reply
+    requires on { driver.old.1.power ≡ power.On }
+    ensures { (bytes : Vec ℕ) → EndsInSession S.device (StepDoes turns) driver.old bytes driver.new bytes result }
 {
-    let mut driver = driver;
-    let (moved, how) = step(&mut driver, turns);
-    let reply = step_reply(&driver, moved, how);
-    Stage::carried(driver, posts, bytes).answered(reply)
+    let (moved, how) = step(driver, turns);
+    step_reply(driver, moved, how)
 }
 
-/// Makes so many turns, and fewer where one doesn't move, which is then the last.
-pub fn do_step<S: Shelf>(stage: Stage<S>, turns: u32) -> Answered<S>
-    requires fits { IsFittingStage stage }
-    requires between { IsBetweenStage S.device stage }
-    ensures { EndsUnasked S.device (λ _. StepDoes turns) ⊥ OfRequests stage result.stage result.reply }
+/// Makes so many turns, and fewer where one doesn't move, which is then the last. The stage isn't given away for it:
+/// `Stage::left` makes of it what stands behind the line.
+pub fn do_step<S: Shelf>(stage: &mut Stage<S>, turns: u32) -> Reply
+    requires fits { IsFittingStage stage.old }
+    requires between { IsBetweenStage S.device stage.old }
+    ensures { EndsInPlace S.device (StepDoes turns) stage.old stage.new result }
 {
-    let Stage {
-        holder,
-        posts,
-        bytes,
-    } = stage;
-    match holder {
-        Holder::Off { shelf, history } => {
-            Stage::off(shelf, history, posts, bytes).refused(Refusal::NoGroup)
-        }
-        Holder::Empty { driver } => Stage {
-            holder: Holder::Empty { driver },
-            posts,
-            bytes,
-        }
-        .answered(Reply::Stepped(0)),
-        Holder::Serving { driver } => step_on(driver, posts, bytes, turns),
+    match &mut stage.holder {
+        Holder::Off {
+            shelf: _,
+            history: _,
+        } => Reply::Refused(Refusal::NoGroup),
+        Holder::Empty { driver: _ } => Reply::Stepped(0),
+        Holder::Serving { driver } => step_on(driver, turns),
     }
 }

@@ -146,6 +146,14 @@ numbers_few core = by (has_numbers core)
     by true = omega arith
     by false = omega arith
 
+-- and something was heard of it
+pub numbers_heard : (core : Core) → is_unheard (numbers_reply core) ≡ false
+numbers_heard core = by (has_numbers core)
+  where
+    by : (b : Bool) → is_unheard (if b then reply.Synced 0 else reply.Refused refusal.HistoryFull) ≡ false
+    by true = refl
+    by false = refl
+
 stuck_says : (core : Core) (result : Result ℕ SyncFault) → is_unheard (sync_reply core result) ≡ true → sync_reply core result ≡ reply.Refused refusal.Stuck
 stuck_says core (Ok made) e = absurd (cc e)
 stuck_says core (Err fault.Stuck) e = refl

@@ -1,15 +1,16 @@
 //! The lines that bring up stale copies.
-ghost use Rattle.std.specs.Prelude.{◌≡◌, IfErr};
+ghost use Rattle.std.specs.Prelude.{◌≡◌, ℕ, IfErr, None};
+ghost use Rattle.std.specs.Global.{Vec};
+ghost use Rattle.lvm_session.specs.declared.open.Power.TheVariants as power;
 ghost use Rattle.lvm_session.specs.Sound.{IsSound};
 ghost use Rattle.lvm_core.specs.Looking.{IsNumberOf};
 ghost use Rattle.lvm_session.specs.State.{state_of};
-ghost use Rattle.lvm_volume_lines.specs.passed.RangeLines.{serving};
-ghost use Rattle.lvm_volume_lines.specs.passed.GroupLines.{EndsUnasked, OfRequests, IsBetweenStage, IsFittingStage};
+ghost use Rattle.lvm_volume_lines.specs.passed.RangeLines.{EndsInPlace, EndsInSession};
+ghost use Rattle.lvm_volume_lines.specs.passed.GroupLines.{IsBetweenStage, IsFittingStage};
 ghost use Rattle.lvm_volume_lines.specs.Resyncing.{MayCome, SyncGroupDoes, SyncVolumeDoes, numbers_reply, sync_refusal, sync_reply};
 
-use crate::below::Post;
 use crate::below::driver::Driver;
-use crate::below::stage::{Answered, Holder, Refusal, Reply, Stage};
+use crate::below::stage::{Holder, Refusal, Reply, Stage};
 use lvm_core::number_of;
 use lvm_disk::Shelf;
 use lvm_num::Name;
@@ -51,73 +52,42 @@ fn sync_reply<S: Shelf>(driver: &Driver<S>, synced: Result<u32, SyncFault>) -> R
 }
 
 // Brings up the stale copies of a volume in a session that is on.
-fn sync_numbered<S: Shelf>(
-    driver: Driver<S>,
-    posts: Vec<Post>,
-    bytes: Vec<u8>,
-    name: Name,
-    lv: u16,
-) -> Answered<S>
-    requires fits { IsFittingStage (serving driver posts bytes) }
-    requires between { IsBetweenStage S.device (serving driver posts bytes) }
-    requires number { IsNumberOf driver.1.descriptor.lvs name lv }
-    ensures { EndsUnasked S.device (λ _. SyncVolumeDoes name) ⊥ OfRequests (serving driver posts bytes) result.stage result.reply }
+fn sync_numbered<S: Shelf>(driver: &mut Driver<S>, name: Name, lv: u16) -> Reply
+    requires on { driver.old.1.power ≡ power.On }
+    requires shut { driver.old.1.copy ≡ None }
+    requires number { IsNumberOf driver.old.1.descriptor.lvs name lv }
+    ensures { (bytes : Vec ℕ) → EndsInSession S.device (SyncVolumeDoes name) driver.old bytes driver.new bytes result }
 {
-    let mut driver = driver;
-    let synced = sync_volume(&mut driver, lv, &mut Patience::whole());
-    let reply = sync_reply(&driver, synced);
-    Stage {
-        holder: Holder::Serving { driver },
-        posts,
-        bytes,
-    }
-    .left(reply)
+    let synced = sync_volume(driver, lv, &mut Patience::whole());
+    sync_reply(driver, synced)
 }
 
 // So it does those of the volume of the name.
-fn sync_volume_on<S: Shelf>(
-    driver: Driver<S>,
-    posts: Vec<Post>,
-    bytes: Vec<u8>,
-    name: Name,
-) -> Answered<S>
-    requires fits { IsFittingStage (serving driver posts bytes) }
-    requires between { IsBetweenStage S.device (serving driver posts bytes) }
-    ensures { EndsUnasked S.device (λ _. SyncVolumeDoes name) ⊥ OfRequests (serving driver posts bytes) result.stage result.reply }
+fn sync_volume_on<S: Shelf>(driver: &mut Driver<S>, name: Name) -> Reply
+    requires on { driver.old.1.power ≡ power.On }
+    requires shut { driver.old.1.copy ≡ None }
+    ensures { (bytes : Vec ℕ) → EndsInSession S.device (SyncVolumeDoes name) driver.old bytes driver.new bytes result }
 {
     match number_of(driver.descriptor(), name) {
-        None => Stage {
-            holder: Holder::Serving { driver },
-            posts,
-            bytes,
-        }
-        .refused(Refusal::NoVolume),
-        Some(lv) => sync_numbered(driver, posts, bytes, name, lv),
+        None => Reply::Refused(Refusal::NoVolume),
+        Some(lv) => sync_numbered(driver, name, lv),
     }
 }
 
-/// Brings up the stale copies of a volume of the group that is on, beside its requests.
-pub fn do_sync_volume<S: Shelf>(stage: Stage<S>, name: Name) -> Answered<S>
-    requires fits { IsFittingStage stage }
-    requires between { IsBetweenStage S.device stage }
-    ensures { EndsUnasked S.device (λ _. SyncVolumeDoes name) ⊥ OfRequests stage result.stage result.reply }
+/// Brings up the stale copies of a volume of the group that is on, beside its requests. The stage isn't given away for
+/// it: `Stage::left` makes of it what stands behind the line.
+pub fn do_sync_volume<S: Shelf>(stage: &mut Stage<S>, name: Name) -> Reply
+    requires fits { IsFittingStage stage.old }
+    requires between { IsBetweenStage S.device stage.old }
+    ensures { EndsInPlace S.device (SyncVolumeDoes name) stage.old stage.new result }
 {
-    let Stage {
-        holder,
-        posts,
-        bytes,
-    } = stage;
-    match holder {
-        Holder::Off { shelf, history } => {
-            Stage::off(shelf, history, posts, bytes).refused(Refusal::NoGroup)
-        }
-        Holder::Empty { driver } => Stage {
-            holder: Holder::Empty { driver },
-            posts,
-            bytes,
-        }
-        .refused(Refusal::NoVolume),
-        Holder::Serving { driver } => sync_volume_on(driver, posts, bytes, name),
+    match &mut stage.holder {
+        Holder::Off {
+            shelf: _,
+            history: _,
+        } => Reply::Refused(Refusal::NoGroup),
+        Holder::Empty { driver: _ } => Reply::Refused(Refusal::NoVolume),
+        Holder::Serving { driver } => sync_volume_on(driver, name),
     }
 }
 
@@ -133,56 +103,31 @@ fn numbers_reply<S: Shelf>(driver: &lvm_core::Driver<S>) -> Reply
 }
 
 // Brings up the stale copies of all volumes in a session that is on.
-fn sync_group_on<S: Shelf>(
-    driver: Driver<S>,
-    posts: Vec<Post>,
-    bytes: Vec<u8>,
-    name: Name,
-) -> Answered<S>
-    requires fits { IsFittingStage (serving driver posts bytes) }
-    requires between { IsBetweenStage S.device (serving driver posts bytes) }
-    requires named { driver.1.descriptor.name ≡ name }
-    ensures { EndsUnasked S.device (λ _. SyncGroupDoes name) ⊥ OfRequests (serving driver posts bytes) result.stage result.reply }
+fn sync_group_on<S: Shelf>(driver: &mut Driver<S>, name: Name) -> Reply
+    requires on { driver.old.1.power ≡ power.On }
+    requires shut { driver.old.1.copy ≡ None }
+    requires named { driver.old.1.descriptor.name ≡ name }
+    ensures { (bytes : Vec ℕ) → EndsInSession S.device (SyncGroupDoes name) driver.old bytes driver.new bytes result }
 {
-    let mut driver = driver;
-    let synced = sync_group(&mut driver, &mut Patience::whole());
-    let reply = sync_reply(&driver, synced);
-    Stage {
-        holder: Holder::Serving { driver },
-        posts,
-        bytes,
-    }
-    .left(reply)
+    let synced = sync_group(driver, &mut Patience::whole());
+    sync_reply(driver, synced)
 }
 
-/// Brings up the stale copies of the group of the name, if it is on, beside its requests.
-pub fn do_sync_group<S: Shelf>(stage: Stage<S>, name: Name) -> Answered<S>
-    requires fits { IsFittingStage stage }
-    requires between { IsBetweenStage S.device stage }
-    ensures { EndsUnasked S.device (λ _. SyncGroupDoes name) ⊥ OfRequests stage result.stage result.reply }
+/// So it does those of the group of the name, if it is on.
+pub fn do_sync_group<S: Shelf>(stage: &mut Stage<S>, name: Name) -> Reply
+    requires fits { IsFittingStage stage.old }
+    requires between { IsBetweenStage S.device stage.old }
+    ensures { EndsInPlace S.device (SyncGroupDoes name) stage.old stage.new result }
 {
     if !stage.is_on(name) {
-        return stage.refused(Refusal::NoGroup);
+        return Reply::Refused(Refusal::NoGroup);
     }
-    let Stage {
-        holder,
-        posts,
-        bytes,
-    } = stage;
-    match holder {
+    match &mut stage.holder {
         Holder::Off {
             shelf: _,
             history: _,
         } => unreachable!(),
-        Holder::Empty { driver } => {
-            let reply = numbers_reply(&driver);
-            Stage {
-                holder: Holder::Empty { driver },
-                posts,
-                bytes,
-            }
-            .answered(reply)
-        }
-        Holder::Serving { driver } => sync_group_on(driver, posts, bytes, name),
+        Holder::Empty { driver } => numbers_reply(driver),
+        Holder::Serving { driver } => sync_group_on(driver, name),
     }
 }

@@ -1,5 +1,5 @@
 -- Lines, by how they are read.
-use Rattle.std.proofs.Common.{◌≡◌, ◌≤◌, ℕ, List, Bool, false, Option, Some, None, IfSome, IsSome, Result, Ok, refl, sym, ap, subst, arith}
+use Rattle.std.proofs.Common.{◌≡◌, ◌≤◌, ℕ, List, Bool, true, false, Option, Some, None, IfSome, IsSome, Result, Ok, refl, sym, ◌∙◌, ap, subst, arith}
 use Rattle.lvm_disk.specs.Device.{Device, HasSectors}
 use Rattle.lvm_io.specs.Count.{next_count}
 use Rattle.lvm_vol.specs.Log.{Log}
@@ -10,12 +10,12 @@ use Rattle.lvm_parse.specs.Grammar.{line_of}
 use Rattle.lvm_parse.specs.Answering.{IsMkvgLine}
 use Rattle.lvm_core.specs.declared.parts.Room.{Room}
 use Rattle.lvm_session.specs.State.{Core}
-use Rattle.lvm_volume_lines.specs.passed.GroupLines.{CommandEnds, GoesOn, Holder, InFull, IsAsked, IsBetween, IsBetweenStage, IsFittingStage, IsLeftBy, Reply, ScriptState, Shows, Stage, WithoutMemory, history_in, history_of, is_unheard, most_refusals, session_in, session_of, shelf_in, state_in, without_facts, DiskOfGroup, DiskShows, GroupShows, GroupThatIsOn, ListsGroup, ListsMember, ListsVolume, MkvgDoes, NoGroupForDisk, NoGroupForVolume, NoGroupToList, NoMemoryForLine, NoMkvgWhileOn, NoSuchMember, NoSuchVolume, OtherGroup, VolumeOfGroup, VolumeShows}
+use Rattle.lvm_volume_lines.specs.passed.GroupLines.{Aside, CommandEnds, EndsUnasked, GoesOn, Holder, InFull, IsAsked, IsBetween, IsBetweenStage, IsFittingStage, IsLeftBy, Reply, ScriptState, Shows, Stage, WithoutMemory, history_in, history_of, is_unheard, most_refusals, session_in, session_of, shelf_in, state_in, without_facts, DiskOfGroup, DiskShows, GroupShows, GroupThatIsOn, ListsGroup, ListsMember, ListsVolume, MkvgDoes, NoGroupForDisk, NoGroupForVolume, NoGroupToList, NoMemoryForLine, NoMkvgWhileOn, NoSuchMember, NoSuchVolume, OtherGroup, VolumeOfGroup, VolumeShows}
 use Rattle.lvm_line.specs.Lines.{CommandDoes, CommandIsDone, LineDoes, IsLine, IsOrder, asked_after, role_of}
 use Rattle.lvm_volume_lines.specs.passed.HolderVariants as holder
 use Rattle.lvm_volume_lines.specs.passed.RefusalVariants as refusal
 use Rattle.lvm_volume_lines.specs.passed.ReplyVariants as reply
-use Rattle.lvm_volume_lines.proofs.passed.GroupLines.{one_refused, same_goes, asked_goes}
+use Rattle.lvm_volume_lines.proofs.passed.GroupLines.{left_still, one_refused, same_goes, asked_goes}
 
 -- ---- how many refusals a listing answers
 
@@ -146,6 +146,14 @@ pub served_by : {S : Type 0} (device : S → Device) (room : Room) (it other : C
 served_by device room it other old kept answer new says last asked is left same ends count =
     done_by device room it other old new says last last asked asked is
     (subst (λ (r : Reply). CommandEnds device (λ log. CommandDoes log room other) (IsOrder (Ok (Some other))) (role_of (Ok (Some other))) old new r last last) (sym same) ends) count
+
+-- an order of which something was heard goes on as it is
+pub order_left : {S : Type 0} (device : S → Device) (Does : Log → ScriptState → ScriptState → Reply → Type 0) (old kept : Stage S) (answer : Reply) → EndsUnasked device Does (Unit {0}) Aside old kept answer → is_unheard answer ≡ false
+    → (left : Stage S) → IsLeftBy device kept answer left → EndsUnasked device Does (Unit {0}) Aside old left answer
+order_left device Does old kept answer ends heard left its = subst (λ (s : Stage _). EndsUnasked device Does (Unit {0}) Aside old s answer) (sym (left_still device kept answer heard between left its)) ends
+  where
+    between : IsBetweenStage device kept
+    between = (ends 0).goes.between (λ stuck. let e : true ≡ false = sym (ap is_unheard stuck) ∙ heard in cc e)
 
 -- and one that changes nothing
 pub listed_by : {S : Type 0} (device : S → Device) (room : Room) (it other : Command) (old new : Stage S) (answer : Reply) (last asked : ℕ) → it ≡ other → IsFittingStage old → IsBetweenStage device old → new ≡ old → most_refusals answer ≤ 1

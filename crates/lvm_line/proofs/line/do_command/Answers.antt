@@ -1,6 +1,7 @@
 use Rattle.std.proofs.Common.{◌≤◌, refl, sym, subst, ℕ, List, length}
-use Rattle.lvm_volume_lines.specs.passed.GroupLines.{CommandEnds, Aside, most_refusals, session_in, shelf_in, Reply, MkvgDoes, DiskShows, GroupShows, VolumeShows}
-use Rattle.lvm_line.proofs.LinesLemmas.Lining.{done_by, listed_by, one_disk, one_group, one_volume, served_by}
+use Rattle.lvm_disk.specs.declared.shelf.Arrange.TheVariants as arrange
+use Rattle.lvm_volume_lines.specs.passed.GroupLines.{ArrangeDoes, CommandEnds, Aside, most_refusals, session_in, shelf_in, Reply, MkvgDoes, DiskShows, GroupShows, VolumeShows}
+use Rattle.lvm_line.proofs.LinesLemmas.Lining.{done_by, listed_by, one_disk, one_group, one_volume, order_left, served_by}
 use Rattle.lvm_line.proofs.line.do_command.Goals as goal
 
 pub returns-in-Mkvg : goal.returns-in-Mkvg
@@ -37,10 +38,14 @@ pub returns-in-RawWr : goal.returns-in-RawWr
 returns-in-RawWr g c = done_by g.S.Shelf.device c.args.room c.args.command _ _ _ c.do_write.result.reply _ _ _ _ c.in-RawWr.is (c.do_write.ensures (g.C.Clock.last c.args.clock.now)) refl
 
 pub returns-in-Fail : goal.returns-in-Fail
-returns-in-Fail g c = done_by g.S.Shelf.device c.args.room c.args.command _ _ _ c.do_arrange.result.reply _ _ _ _ c.in-Fail.is (c.do_arrange.ensures (g.C.Clock.last c.args.clock.now)) refl
+returns-in-Fail g c =
+    served_by g.S.Shelf.device c.args.room c.args.command _ c.args.stage c.do_arrange-reply.new.stage c.do_arrange-reply.result c.left-in-Fail.result.stage c.left-in-Fail.result.reply (g.C.Clock.last c.args.clock.now) (g.C.Clock.asked c.args.clock.now) c.in-Fail.is c.left-in-Fail.ensures.left c.left-in-Fail.ensures.reply
+    (order_left g.S.Shelf.device (λ log. ArrangeDoes c.in-Fail.disk (arrange.Fail c.in-Fail.disk)) c.args.stage c.do_arrange-reply.new.stage c.do_arrange-reply.result c.do_arrange-reply.ensures.ends c.do_arrange-reply.ensures.heard c.left-in-Fail.result.stage c.left-in-Fail.ensures.left (g.C.Clock.last c.args.clock.now)) refl
 
 pub returns-in-Heal : goal.returns-in-Heal
-returns-in-Heal g c = done_by g.S.Shelf.device c.args.room c.args.command _ _ _ c.do_arrange-in-Heal.result.reply _ _ _ _ c.in-Heal.is (c.do_arrange-in-Heal.ensures (g.C.Clock.last c.args.clock.now)) refl
+returns-in-Heal g c =
+    served_by g.S.Shelf.device c.args.room c.args.command _ c.args.stage c.do_arrange-reply-in-Heal.new.stage c.do_arrange-reply-in-Heal.result c.left-in-Heal.result.stage c.left-in-Heal.result.reply (g.C.Clock.last c.args.clock.now) (g.C.Clock.asked c.args.clock.now) c.in-Heal.is c.left-in-Heal.ensures.left c.left-in-Heal.ensures.reply
+    (order_left g.S.Shelf.device (λ log. ArrangeDoes c.in-Heal.disk (arrange.Heal c.in-Heal.disk)) c.args.stage c.do_arrange-reply-in-Heal.new.stage c.do_arrange-reply-in-Heal.result c.do_arrange-reply-in-Heal.ensures.ends c.do_arrange-reply-in-Heal.ensures.heard c.left-in-Heal.result.stage c.left-in-Heal.ensures.left (g.C.Clock.last c.args.clock.now)) refl
 
 pub returns-in-Cut : goal.returns-in-Cut
 returns-in-Cut g c = done_by g.S.Shelf.device c.args.room c.args.command _ _ _ c.do_cut.result.reply _ _ _ _ c.in-Cut.is (c.do_cut.ensures (g.C.Clock.last c.args.clock.now)) refl
@@ -64,7 +69,9 @@ pub returns-in-Wait : goal.returns-in-Wait
 returns-in-Wait g c = done_by g.S.Shelf.device c.args.room c.args.command _ _ _ c.do_wait.result.reply _ _ _ _ c.in-Wait.is (c.do_wait.ensures (g.C.Clock.last c.args.clock.now)) refl
 
 pub returns-in-Step : goal.returns-in-Step
-returns-in-Step g c = done_by g.S.Shelf.device c.args.room c.args.command _ _ _ c.do_step.result.reply _ _ _ _ c.in-Step.is (c.do_step.ensures (g.C.Clock.last c.args.clock.now)) refl
+returns-in-Step g c =
+    served_by g.S.Shelf.device c.args.room c.args.command _ c.args.stage c.do_step-reply.new.stage c.do_step-reply.result c.left-in-Step.result.stage c.left-in-Step.result.reply (g.C.Clock.last c.args.clock.now) (g.C.Clock.asked c.args.clock.now) c.in-Step.is c.left-in-Step.ensures.left c.left-in-Step.ensures.reply
+    (c.do_step-reply.ensures c.left-in-Step.result.stage c.left-in-Step.ensures.left (g.C.Clock.last c.args.clock.now)) refl
 
 pub returns-in-Lsvg : goal.returns-in-Lsvg
 returns-in-Lsvg g c =
@@ -74,10 +81,14 @@ returns-in-Lsvg g c =
     (λ log same. (subst (λ (r : Reply). GroupShows c.in-Lsvg.volumes c.in-Lsvg.name (session_in c.args.stage) r) (sym says) c.list_group-reply.ensures, same)) refl
 
 pub returns-in-SyncVolume : goal.returns-in-SyncVolume
-returns-in-SyncVolume g c = done_by g.S.Shelf.device c.args.room c.args.command _ _ _ c.do_sync_volume.result.reply _ _ _ _ c.in-SyncVolume.is (c.do_sync_volume.ensures (g.C.Clock.last c.args.clock.now)) refl
+returns-in-SyncVolume g c =
+    served_by g.S.Shelf.device c.args.room c.args.command _ c.args.stage c.do_sync_volume-reply.new.stage c.do_sync_volume-reply.result c.left-in-SyncVolume.result.stage c.left-in-SyncVolume.result.reply (g.C.Clock.last c.args.clock.now) (g.C.Clock.asked c.args.clock.now) c.in-SyncVolume.is c.left-in-SyncVolume.ensures.left c.left-in-SyncVolume.ensures.reply
+    (c.do_sync_volume-reply.ensures c.left-in-SyncVolume.result.stage c.left-in-SyncVolume.ensures.left (g.C.Clock.last c.args.clock.now)) refl
 
 pub returns-in-SyncGroup : goal.returns-in-SyncGroup
-returns-in-SyncGroup g c = done_by g.S.Shelf.device c.args.room c.args.command _ _ _ c.do_sync_group.result.reply _ _ _ _ c.in-SyncGroup.is (c.do_sync_group.ensures (g.C.Clock.last c.args.clock.now)) refl
+returns-in-SyncGroup g c =
+    served_by g.S.Shelf.device c.args.room c.args.command _ c.args.stage c.do_sync_group-reply.new.stage c.do_sync_group-reply.result c.left-in-SyncGroup.result.stage c.left-in-SyncGroup.result.reply (g.C.Clock.last c.args.clock.now) (g.C.Clock.asked c.args.clock.now) c.in-SyncGroup.is c.left-in-SyncGroup.ensures.left c.left-in-SyncGroup.ensures.reply
+    (c.do_sync_group-reply.ensures c.left-in-SyncGroup.result.stage c.left-in-SyncGroup.ensures.left (g.C.Clock.last c.args.clock.now)) refl
 
 pub returns-in-Lslv : goal.returns-in-Lslv
 returns-in-Lslv g c =
