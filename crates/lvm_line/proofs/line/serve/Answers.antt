@@ -43,9 +43,9 @@ returns g c =
       | in-Fail w ↦ placed_as device it old kept w.do_arrange.new.stage answer (Some w.do_arrange.result) w.stage-is w.result-is
           (λ left its room last. subst (λ (d : Command). CommandEnds device (λ log. CommandDoes log room d) (IsOrder (Ok (Some d))) (role_of (Ok (Some d))) old left w.do_arrange.result last last) (sym w.in-Fail.is)
           (order_left device (λ log. ArrangeDoes w.in-Fail.disk (arrange.Fail w.in-Fail.disk)) old w.do_arrange.new.stage w.do_arrange.result w.do_arrange.ensures.ends w.do_arrange.ensures.heard left its last))
-      | in-Heal w ↦ placed_as device it old kept w.do_arrange.new.stage answer (Some w.do_arrange.result) w.stage-is w.result-is
-          (λ left its room last. subst (λ (d : Command). CommandEnds device (λ log. CommandDoes log room d) (IsOrder (Ok (Some d))) (role_of (Ok (Some d))) old left w.do_arrange.result last last) (sym w.in-Heal.is)
-          (order_left device (λ log. ArrangeDoes w.in-Heal.disk (arrange.Heal w.in-Heal.disk)) old w.do_arrange.new.stage w.do_arrange.result w.do_arrange.ensures.ends w.do_arrange.ensures.heard left its last))
+      | in-Heal w ↦ placed_as device it old kept w.do_arrange-in-Heal.new.stage answer (Some w.do_arrange-in-Heal.result) w.stage-is w.result-is
+          (λ left its room last. subst (λ (d : Command). CommandEnds device (λ log. CommandDoes log room d) (IsOrder (Ok (Some d))) (role_of (Ok (Some d))) old left w.do_arrange-in-Heal.result last last) (sym w.in-Heal.is)
+          (order_left device (λ log. ArrangeDoes w.in-Heal.disk (arrange.Heal w.in-Heal.disk)) old w.do_arrange-in-Heal.new.stage w.do_arrange-in-Heal.result w.do_arrange-in-Heal.ensures.ends w.do_arrange-in-Heal.ensures.heard left its last))
       | in_default w ↦ placed_as device it old kept old answer None w.stage-is w.result-is
           (refl, left_over it w.in_default.not-Lsvg w.in_default.not-Lslv w.in_default.not-Lspv w.in_default.not-Rd w.in_default.not-Wr w.in_default.not-Post w.in_default.not-Step w.in_default.not-SyncVolume w.in_default.not-SyncGroup w.in_default.not-Fail w.in_default.not-Heal)
     ]

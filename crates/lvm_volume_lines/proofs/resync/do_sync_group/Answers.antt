@@ -20,7 +20,8 @@ returns-in-Empty g c = λ stage its.
     let says = c.numbers_reply.ensures in
     let core = c.in-Empty.driver.1 in
     still_as g.S.Shelf.device (λ log. SyncGroupDoes c.args.name) c.args.stage.now c.requires.fits c.requires.between (holder.Empty c.in-Empty.driver) c.in-Empty.is stage c.numbers_reply.result
-    (left_still g.S.Shelf.device c.args.stage.now c.numbers_reply.result (ap is_unheard says ∙ numbers_heard core) c.requires.between stage its ∙ ap (held_by c.args.stage.now) c.in-Empty.is)
+    (left_still g.S.Shelf.device (held_by c.args.stage.now (holder.Empty c.in-Empty.driver)) c.numbers_reply.result (ap is_unheard says ∙ numbers_heard core)
+    (between_now g.S.Shelf.device (λ log. SyncGroupDoes c.args.name) c.args.stage.now c.requires.fits c.requires.between (holder.Empty c.in-Empty.driver) c.in-Empty.is) stage its)
     (subst (λ (a : Reply). most_refusals a ≤ 1) (sym says) (numbers_few core))
     (λ last still. NothingSyncs core (ap session_of c.in-Empty.is) (name_on c.args.name (session_in c.args.stage.now) core (ap session_of c.in-Empty.is) (c.if-not-is_on.ensures.on refl)) (subst IsOfKind c.in-Empty.is c.requires.fits.kind) says still)
 
