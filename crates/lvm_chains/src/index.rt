@@ -9,10 +9,10 @@ use lvm_vol::below::Memory;
 use std::alloc::Global;
 use std::marker::Model;
 
-/// How many chains there are: 4,096 of requests, one of what shapes volumes, and one of the rest.
+/// How many chains there are: 4,096 of requests, one of what shapes volumes and of cuts, and one of the rest.
 const CHAINS: usize = 4098;
 
-/// The chain of the rows that shape volumes.
+/// The chain of the rows that make, remove or split volumes, and of cuts.
 pub const SHAPING: u16 = 4096;
 
 /// The chain of the rows that tell nothing of a block.

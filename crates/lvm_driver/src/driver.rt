@@ -43,7 +43,7 @@ use lvm_status::StaleTable;
 use std::marker::Model;
 
 /// A group that is varied on, over its shelf. Clients submit requests to it and take their answers; what is done
-/// about them is done by turns, one event at a time. No call of it takes memory. Each call leaves a good session good, and
+/// about them is done by turns, one event at a time. No call of it answers for want of memory. Each call leaves a good session good, and
 /// at each moment of it the history is legal and each crash image kept with it; no call makes a descriptor found or
 /// leaves a record of a later moment; and each landing since the session began has its cause. No call opens a move, so no
 /// copy that is open moves.

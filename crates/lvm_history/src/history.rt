@@ -251,7 +251,7 @@ impl History {
 
     /// Whether the block of the volume may have this value now: its values are unknown, or this is one
     /// of them. Goes along the chains of the block's track group and of what shapes volumes, from the newest entry
-    /// back, up to the first that fixes the block's values.
+    /// back, up to the first that fixes its values; for writes that were open at a cut it looks further back.
     pub fn may_of(&self, vol: Vol, block: u64, value: &[u8; 512]) -> bool
         ensures { IsTrue result ↔ May (known self.now.facts vol block) value.now }
     {

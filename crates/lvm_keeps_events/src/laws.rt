@@ -13,8 +13,8 @@ pub fn events_fall()
     ensures { EventsFall }
 {}
 
-/// While the votes are there and no transfer is out, an event may be made unless a move is done, which is to be
-/// committed, or each request has landed and no copy is being brought up.
+/// While the votes are there, no transfer is out and no move is done, an event may be made, unless each request has
+/// landed and no copy is being brought up. Of a session with a move that is done the law says nothing.
 pub fn never_stands_still()
     ensures { NeverStandsStill }
 {}

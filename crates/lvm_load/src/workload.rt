@@ -117,7 +117,7 @@ fn finish<S: Shelf>(driver: &mut Driver<S>, clients: &mut [Client], idle: &mut u
 
 /// Lets clients ask for reads and writes of a volume of so many blocks, each for one at a time, as they are drawn from the
 /// seed, makes turns between, and takes the answers. It ends early where no further request may begin, and where a million
-/// turns have moved nothing. No memory is taken: the bytes have room for a whole request.
+/// turns have moved nothing. It never ends for want of memory: the bytes have room for a whole request.
 pub fn weave<S: Shelf>(
     driver: &mut Driver<S>,
     lv: u16,

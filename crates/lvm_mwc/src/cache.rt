@@ -86,8 +86,8 @@ impl Cache {
     ghost use Rattle.lvm_mwc.specs.Entries.{is_entry, pins_of, note_of, AreEntries};
     ghost use Rattle.lvm_mwc.specs.Cache.{Cached, IsNew, has_disk, no_notes, flight_on, flight_names, is_named, pin_answer, after_pin, after_unpin, after_start, after_end};
 
-    /// An empty cache for a set of disks, whose notes name nothing. It takes all the memory that it
-    /// ever needs.
+    /// An empty cache for a set of disks, whose notes name nothing. It takes the memory of both forms of its
+    /// entries. A pin of a new track group may ask for more, and does without where that is refused.
     pub fn new(alloc: Global, disks: DiskSet) -> Result<Cache, Memory>
         ensures { IfOk result (IsNew disks) }
     {

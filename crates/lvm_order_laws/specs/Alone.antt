@@ -25,7 +25,7 @@ pub record IsWell (device : Device) : Type 0 where
   pub few_cuts : device.counts.cuts < 2 ^ 64 - 1
   pub few_fails : heeds.ordered.fails < 2 ^ 64 - 1
 
--- no disk was ordered to fail between, nor the power to be cut; a disk may have been healed
+-- no disk was ordered to fail between, nor the power to be cut while it was on; a disk may have been healed
 pub record OrdersNoHarm (old new : Device) : Type 0 where
   pub cuts : option_map (λ (o : Ordered). o.cuts) new.orders.alone ≡ option_map (λ (o : Ordered). o.cuts) old.orders.alone
   pub fails : option_map (λ (o : Ordered). o.fails) new.orders.alone ≡ option_map (λ (o : Ordered). o.fails) old.orders.alone

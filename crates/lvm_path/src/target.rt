@@ -9,7 +9,7 @@ use arrayvec::ArrayVec;
 use lvm_sched::TargetState;
 use lvm_sched::below::Pp;
 
-/// A copy to which a write goes, or which a read may try.
+/// A copy to which a write goes, or which a read may try; or the place to which a copy moves, for a write.
 #[derive(Clone, Copy)]
 pub struct Target {
     /// The sector of its disk at which the request's first block stands.

@@ -101,7 +101,7 @@ fn no_tally() -> Tally
 }
 
 /// Brings up each stale copy of a logical partition, from 0, of a volume, in order, beside the requests that are open. Answers how
-/// many it has made fresh. A copy is judged when its turn comes. No memory is taken.
+/// many it has made fresh. A copy is judged when its turn comes. It never ends for want of memory.
 ///
 /// # Errors
 ///

@@ -108,9 +108,9 @@ pub enum CopyState {
     /// No copy is open.
     Closed,
     /// It is being brought up, and the track groups of its logical partition below this one, from 0, are copied; or
-    /// it has ended, and a transfer of it is still out.
+    /// it has ended, and a transfer of it is out, or a request that hasn't landed has the place of a move as a target.
     Running { cursor: u32 },
-    /// It is fresh.
+    /// It is fresh; a move is all copied, and to be committed.
     Done,
     /// Its disk failed, which is carried, or each copy that it might be read from.
     SyncFailed { disk: u16 },
