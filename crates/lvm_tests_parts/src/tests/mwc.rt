@@ -267,3 +267,95 @@ fn disks_come_and_go(rt: HostRuntime) {
         "one went",
     );
 }
+
+// The plain list that the cache is compared with: track groups of volume 1 with their pins, the last pin last.
+fn pin_plain(rt: &impl Abort, plain: &mut Vec<(u32, u32)>, group: u32) -> Pin {
+    let mut pins = 0;
+    if let Some(place) = plain.iter().position(|entry| entry.0 == group) {
+        pins = plain.remove(place).1;
+    } else if plain.len() == 62 {
+        match plain.iter().position(|entry| entry.1 == 0) {
+            None => return Pin::AllPinned,
+            Some(place) => {
+                plain.remove(place);
+            }
+        }
+    }
+    assert!(rt; pins < u32::MAX);
+    plain.push((group, pins + 1)).expect(rt, "places");
+    Pin::Pinned
+}
+
+// Takes a pin, where there is one, in the cache and in the list.
+fn unpin_both(rt: &impl Abort, cache: &mut Cache, plain: &mut Vec<(u32, u32)>, group: u32) {
+    if cache.pins(1, group) > 0 {
+        unpin(rt, cache, group);
+    }
+    for entry in plain.iter_mut() {
+        if entry.0 == group && entry.1 > 0 {
+            entry.1 -= 1;
+        }
+    }
+}
+
+// Whether the cache says of a track group what the list says.
+fn is_as_in(cache: &Cache, plain: &[(u32, u32)], group: u32) -> bool {
+    let found = cache.find(1, group);
+    match plain.iter().position(|entry| entry.0 == group) {
+        None => found.is_none() && cache.pins(1, group) == 0,
+        Some(place) => match found {
+            None => false,
+            Some(found) => found as usize == place && cache.pins(1, group) == plain[place].1,
+        },
+    }
+}
+
+// Whether a note names the track groups of the list, in their order.
+fn notes_all(rt: &impl Abort, cache: &mut Cache, plain: &[(u32, u32)]) -> bool {
+    assert!(rt; cache.has_disk(0));
+    assert!(rt; !cache.has_note_in_flight(0));
+    let note = cache.start_note(0);
+    end(rt, cache, 0, true);
+    let mut same = note.len() == plain.len();
+    for (entry, want) in note.as_slice().iter().zip(plain) {
+        same = same
+            && *entry
+                == NoteEntry {
+                    lv: 1,
+                    group: want.0,
+                };
+    }
+    same
+}
+
+// A number that follows another in a fixed row of numbers that look like chance.
+fn next(number: u64) -> u64 {
+    number
+        .wrapping_mul(6364136223846793005)
+        .wrapping_add(1442695040888963407)
+}
+
+// 600 pins and unpins of track groups that change over time. At step 69, with the 34th new one, the cache asks for memory,
+// four times, behind one allocation for the list and seven for the cache. `rt try --test --fail-alloc N` refuses one of
+// them: the answers stay.
+#[test]
+fn a_weave_of_pins_is_answered_as_a_plain_list_answers(rt: HostRuntime) {
+    let mut plain = Vec::with_capacity(rt.alloc(), 62).expect(&rt, "memory");
+    let disks = DiskSet::empty().with(0);
+    let mut cache = Cache::new(rt.alloc(), disks).expect(&rt, "memory");
+    let mut number = 7;
+    for at in 0..600 {
+        number = next(number);
+        let group = (number >> 40) as u32 % 90 + at as u32 / 20;
+        if number >> 33 & 1 == 0 {
+            let want = pin_plain(&rt, &mut plain, group);
+            check_at(&rt, pin(&rt, &mut cache, group) == want, "a pin", at);
+        } else {
+            unpin_both(&rt, &mut cache, &mut plain, group);
+        }
+        check_at(&rt, is_as_in(&cache, &plain, group), "an entry", at);
+        if at % 50 == 0 {
+            check_at(&rt, notes_all(&rt, &mut cache, &plain), "a note", at);
+        }
+    }
+}
