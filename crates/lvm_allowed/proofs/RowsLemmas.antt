@@ -10,7 +10,7 @@ use Rattle.lvm_vol.specs.declared.entry.Outcome.TheVariants as outcome
 use Rattle.lvm_allowed.specs.declared.row.Ask.{Ask}
 use Rattle.lvm_allowed.specs.declared.row.Row.{Row}
 use Rattle.lvm_allowed.specs.declared.row.Row.TheVariants as row
-use Rattle.lvm_vol.specs.Facts.{Request, Fact, Begun, Stands, block_of}
+use Rattle.lvm_vol.specs.Facts.{Request, Fact, Begun, IsInList, block_of}
 use Rattle.lvm_vol.specs.May.{known, May}
 use Rattle.lvm_vol.specs.Legal.{begins_in, lands, takes, IsOutcomeOf, Gets, GotMay, TakenOnce, IsLater, Fits, LegalFrom}
 use Rattle.lvm_vol.specs.Log.{is_got}
@@ -19,21 +19,21 @@ use Rattle.lvm_allowed.specs.Rows.{no_ask, ask_of, blocks_at, request_in, fact_o
 use Rattle.lvm_allowed.specs.Fitting.{is_begin, is_beginning, is_earlier_on, is_bounded, is_kind}
 
 module _ (run : ℕ) (asks : List Ask) (blocks : List (List ℕ)) where
-  began_of : (id : ℕ) (rows : List Row) → IsTrue (list_any (is_beginning id) rows) → Stands (Begun (request_in run asks blocks id)) (facts_of run asks blocks rows)
+  began_of : (id : ℕ) (rows : List Row) → IsTrue (list_any (is_beginning id) rows) → IsInList (Begun (request_in run asks blocks id)) (facts_of run asks blocks rows)
   began_of id [] none = absurd (let e : ◌≡◌ {A = Bool} false true = none in cc)
   began_of id (r ∷ rows) some = by_row r some (λ later. began_of id rows later)
     where
-      by_row : (g : Row) → IsTrue (is_beginning id g || list_any (is_beginning id) rows) → (IsTrue (list_any (is_beginning id) rows) → Stands (Begun (request_in run asks blocks id)) (facts_of run asks blocks rows))
-          → Stands (Begun (request_in run asks blocks id)) (facts_of run asks blocks (g ∷ rows))
+      by_row : (g : Row) → IsTrue (is_beginning id g || list_any (is_beginning id) rows) → (IsTrue (list_any (is_beginning id) rows) → IsInList (Begun (request_in run asks blocks id)) (facts_of run asks blocks rows))
+          → IsInList (Begun (request_in run asks blocks id)) (facts_of run asks blocks (g ∷ rows))
       by_row (row.Begun begun) some rest = by_test (begun == id) refl some
         where
-          by_test : (t : Bool) → (begun == id) ≡ t → IsTrue (t || list_any (is_beginning id) rows) → Stands (Begun (request_in run asks blocks id)) (facts_of run asks blocks (row.Begun begun ∷ rows))
+          by_test : (t : Bool) → (begun == id) ≡ t → IsTrue (t || list_any (is_beginning id) rows) → IsInList (Begun (request_in run asks blocks id)) (facts_of run asks blocks (row.Begun begun ∷ rows))
           by_test true is some = inl (ap (λ (n : ℕ). Begun (request_in run asks blocks n)) (eqb-true begun id is))
           by_test false is some = inr (rest some)
       by_row _ some rest = inr (rest some)
 
   -- any request that began is one that a row begins
-  row_of_begun : (r : Request) (rows : List Row) → Stands (Begun r) (facts_of run asks blocks rows) → IsTrue (list_any (is_beginning r.id) rows) × (r ≡ request_in run asks blocks r.id)
+  row_of_begun : (r : Request) (rows : List Row) → IsInList (Begun r) (facts_of run asks blocks rows) → IsTrue (list_any (is_beginning r.id) rows) × (r ≡ request_in run asks blocks r.id)
   row_of_begun r [] none = absurd none
   row_of_begun r (g ∷ rows) there = by_row g there (λ later. row_of_begun r rows later)
     where
@@ -41,7 +41,7 @@ module _ (run : ℕ) (asks : List Ask) (blocks : List (List ℕ)) where
       late true its = (refl, its.1)
       late false its = (its.0, its.1)
 
-      by_row : (h : Row) → Stands (Begun r) (facts_of run asks blocks (h ∷ rows)) → (Stands (Begun r) (facts_of run asks blocks rows) → IsTrue (list_any (is_beginning r.id) rows) × (r ≡ request_in run asks blocks r.id))
+      by_row : (h : Row) → IsInList (Begun r) (facts_of run asks blocks (h ∷ rows)) → (IsInList (Begun r) (facts_of run asks blocks rows) → IsTrue (list_any (is_beginning r.id) rows) × (r ≡ request_in run asks blocks r.id))
           → IsTrue (list_any (is_beginning r.id) (h ∷ rows)) × (r ≡ request_in run asks blocks r.id)
       by_row (row.Begun begun) (inl is) rest =
           let same : request_in run asks blocks begun ≡ r = cc is in
@@ -142,7 +142,7 @@ module _ (run : ℕ) (asks : List Ask) (blocks : List (List ℕ)) where
           let one = and_parts (list_any (is_beginning id) rows) ((ask_of asks id).client == client) two.0 in
           let own = eqb-true (ask_of asks id).client client one.1 in
           record {
-            began = subst (λ (n : ℕ). Stands (Begun (record (request_in run asks blocks id) { client = n })) (facts_of run asks blocks rows)) own (began_of id rows one.0);
+            began = subst (λ (n : ℕ). IsInList (Begun (record (request_in run asks blocks id) { client = n })) (facts_of run asks blocks rows)) own (began_of id rows one.0);
             answered = landing_is (record (request_in run asks blocks id) { client = client }) rows refl ∙ two.1;
             first = taking_is (record (request_in run asks blocks id) { client = client }) rows refl ∙ not-true (list_any (is_taking id) rows) three.1;
           }

@@ -19,7 +19,7 @@ use Rattle.lvm_allowed.specs.declared.row.Row.TheVariants as row
 use Rattle.lvm_allowed.specs.declared.values.Seen.{Seen}
 use Rattle.lvm_allowed.specs.declared.values.Sought.{Sought}
 use Rattle.lvm_allowed.specs.declared.values.Sought.TheVariants as sought
-use Rattle.lvm_vol.specs.Facts.{Request, Fact, Making, Split, Removed, Begun, Landed, Cut, Stands, same_vol, same_request, is_over, block_of}
+use Rattle.lvm_vol.specs.Facts.{Request, Fact, Making, Split, Removed, Begun, Landed, Cut, IsInList, same_vol, same_request, is_over, block_of}
 use Rattle.lvm_vol.specs.May.{Known, Knowledge, nothing_known, is_open_in, without, is_off, is_some_open, also, ended, read, landed, cut, source, change, after_fact, after, known, May}
 use Rattle.lvm_vol.specs.Log.{is_got}
 use Rattle.lvm_allowed.specs.Rows.{ask_of, blocks_at, request_in, fact_of, facts_of}
@@ -373,15 +373,15 @@ followed_from rows k d here there vol within was is =
 pub allowed_is : (k : Known) (x : Sector) → IsTrue (not (seen_of k x).known || (seen_of k x).allowed) ↔ May k x
 allowed_is k x = by_values k.values
   where
-    to : (values : List (List ℕ)) → list_any (λ v. bytes_eq v x) values ≡ true → Stands x values
+    to : (values : List (List ℕ)) → list_any (λ v. bytes_eq v x) values ≡ true → IsInList x values
     to [] none = absurd (let e : ◌≡◌ {A = Bool} false true = none in cc)
     to (v ∷ values) some = by_first (bytes_eq v x) refl (to values) some
       where
-        by_first : (t : Bool) → bytes_eq v x ≡ t → (list_any (λ w. bytes_eq w x) values ≡ true → Stands x values) → (bytes_eq v x || list_any (λ w. bytes_eq w x) values) ≡ true → Stands x (v ∷ values)
+        by_first : (t : Bool) → bytes_eq v x ≡ t → (list_any (λ w. bytes_eq w x) values ≡ true → IsInList x values) → (bytes_eq v x || list_any (λ w. bytes_eq w x) values) ≡ true → IsInList x (v ∷ values)
         by_first true is later some = inl ((bytes_eq-Decides v x).0 is)
         by_first false is later some = inr (later (sym (ap (λ (u : Bool). u || list_any (λ w. bytes_eq w x) values) is) ∙ some))
 
-    from : (values : List (List ℕ)) → Stands x values → list_any (λ v. bytes_eq v x) values ≡ true
+    from : (values : List (List ℕ)) → IsInList x values → list_any (λ v. bytes_eq v x) values ≡ true
     from [] none = absurd none
     from (v ∷ values) (inl is) = ap (λ (u : Bool). u || list_any (λ w. bytes_eq w x) values) ((bytes_eq-Decides v x).1 is)
     from (v ∷ values) (inr there) = or_true (bytes_eq v x) (list_any (λ w. bytes_eq w x) values) (from values there)
@@ -390,7 +390,7 @@ allowed_is k x = by_values k.values
         or_true true c is = refl
         or_true false c is = is
 
-    by_values : (o : Option (List (List ℕ))) → IsTrue (not (is_some o) || is_value o x) ↔ IfSome o (λ values. Stands x values)
+    by_values : (o : Option (List (List ℕ))) → IsTrue (not (is_some o) || is_value o x) ↔ IfSome o (λ values. IsInList x values)
     by_values None = (λ is. tt, λ is. refl)
     by_values (Some values) = (λ is. to values is, λ there. from values there)
 

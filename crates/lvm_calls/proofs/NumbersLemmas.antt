@@ -4,7 +4,7 @@ use Rattle.std.proofs.lemmas.Bool.Decides.{nat_tests}
 use Rattle.std.proofs.lemmas.List.{take_all}
 use Rattle.std.proofs.lemmas.List.Sums.{sum_by-cons}
 use Rattle.lvm_vol.specs.declared.entry.Entry.{Entry}
-use Rattle.lvm_vol.specs.Facts.{Request, Fact, Making, Made, Split, Removing, Removed, Begun, Landed, Taken, Cut, On, Stands, begun}
+use Rattle.lvm_vol.specs.Facts.{Request, Fact, Making, Made, Split, Removing, Removed, Begun, Landed, Taken, Cut, On, IsInList, begun}
 use Rattle.lvm_vol.specs.Legal.{begins_in}
 use Rattle.lvm_vol.specs.Log.{Log, entries_from, entries_of, entry_at, next_id}
 use Rattle.lvm_vol.specs.Order.{Ordered}
@@ -21,7 +21,7 @@ module _ (run : ℕ) where
   -- the numbers rise from n on, and the requests are of this run
   record AreFrom (n : ℕ) (facts : List Fact) : Type 0 where
     pub ids : IdsFrom n (begun facts)
-    pub runs : (r : Request) → Stands r (begun facts) → r.run ≡ run
+    pub runs : (r : Request) → IsInList r (begun facts) → r.run ≡ run
 
   -- as `IsNumberAt` says of numbers from 1 on
   abbrev IsAt : ℕ → List Fact → ℕ → Option ℕ → Type 0

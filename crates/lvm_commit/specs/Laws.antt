@@ -11,7 +11,7 @@ use Rattle.lvm_vol.specs.Facts.{Fact}
 use Rattle.lvm_disk.specs.Device.{Device, image_of}
 use Rattle.lvm_disk.specs.Paths.{DeviceStep, Path}
 use Rattle.lvm_kept.specs.Contents.{Contents, contents_of}
-use Rattle.lvm_kept.specs.Group.{Finds, IsFound, status_by, Reads}
+use Rattle.lvm_kept.specs.Group.{Finds, IsFound, status_by, ReadsGroup}
 use Rattle.lvm_kept.specs.Committed.{IsWithinDisks}
 use Rattle.lvm_kept.specs.Kept.{Kept}
 use Rattle.lvm_kept.specs.Torn.{RecordWrite, MayWriteAll, written as as_read, StatusesChange, DescriptorsChange, Alone}
@@ -30,7 +30,7 @@ OnlyCommittedIsFound = (c : Contents) (group : Descriptor) (status : Status) (th
 abbrev pub CommittedStatusIsRead : Type 0
 CommittedStatusIsRead = (c : Contents) (group : Descriptor) (status : Status) (there : Disks) (facts : List Fact)
     → IsWithinDisks c → CanWrite group there → (shows : ShowsCommitted c group status there) → Kept c facts
-    → (b : Disks) (k : Descriptor) → Reads c b group.id k → status_by c b group.id k ≡ Some shows.stands
+    → (b : Disks) (k : Descriptor) → ReadsGroup c b group.id k → status_by c b group.id k ≡ Some shows.stands
 
 -- ---- how a session begins
 

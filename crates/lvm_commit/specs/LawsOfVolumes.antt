@@ -27,9 +27,9 @@ use Rattle.lvm_kept.specs.Changes.{IsFoundByAll, IsFoundByNone}
 use Rattle.lvm_kept.specs.Moments.{Moment}
 use Rattle.lvm_kept.specs.Raw.{OnlyAdds}
 use Rattle.lvm_kept.specs.Torn.{DescriptorsChange}
-use Rattle.lvm_steps.specs.Moments.{Begins, Keeps}
+use Rattle.lvm_steps.specs.Moments.{RunBegins, Keeps}
 use Rattle.lvm_steps.specs.Requests.{IsOfData, at}
-use Rattle.lvm_steps.specs.Committing.{DiffersInVolume, IsServed}
+use Rattle.lvm_steps.specs.Committing.{DiffersInVolume, VolumeIsServed}
 use Rattle.lvm_parting.specs.Among.{DiffersAmong, MayCommitAmong}
 use Rattle.lvm_steps.specs.VolumeEntries.{AreZeros}
 use Rattle.lvm_rec.specs.declared.homes.Homes.{Homes}
@@ -49,13 +49,13 @@ NextIsLater = (image : Image) (group : Descriptor) (status : Status) (there : Di
 pub record VolumeServes (c : Contents) (facts : List Fact) (group : Descriptor) (lv : ℕ) (next : Descriptor) : Type 0 where
   pub differs : DiffersInVolume lv group next
   pub stands : StandsAs group.mib (volumes_in facts lv).standing (volumes_in facts lv).shape (volume_of next lv)
-  pub served : (row : LvRow) → IsOneOf next.lvs row → row.number ≡ lv → IsServed c facts group row
+  pub served : (row : LvRow) → IsOneOf next.lvs row → row.number ≡ lv → VolumeIsServed c facts group row
 
 -- So it is asked where it differs by several, of each of them.
 pub record VolumesServe (c : Contents) (facts : List Fact) (group : Descriptor) (among : ℕ → Bool) (next : Descriptor) : Type 0 where
   pub differs : DiffersAmong among group next
   pub stands : (lv : ℕ) → IsTrue (among lv) → StandsAs group.mib (volumes_in facts lv).standing (volumes_in facts lv).shape (volume_of next lv)
-  pub served : (row : LvRow) → IsOneOf next.lvs row → IsTrue (among row.number) → IsServed c facts group row
+  pub served : (row : LvRow) → IsOneOf next.lvs row → IsTrue (among row.number) → VolumeIsServed c facts group row
 
 -- One is several.
 abbrev pub OneServes : Type 0
@@ -117,7 +117,7 @@ IsOneFoundOn device = (image : Image) → MayLeave device image → IsOneFound (
 
 -- by whatever was told before a span, no crash image finds another group
 abbrev pub IsOnlyGroupSince : ℕ → Moment → Device → ℕ → Type 0
-IsOnlyGroupSince run first device id = (past : List Fact) → Begins run past first → IsOnlyGroupOn device id
+IsOnlyGroupSince run first device id = (past : List Fact) → RunBegins run past first → IsOnlyGroupOn device id
 
 -- The first is enough for the second at the end of a span, where each crash image finds the group.
 abbrev pub OneFoundIsOnlySince : Type 0
@@ -137,7 +137,7 @@ UnnamedIsNotFound = (c : Contents) (group : Descriptor) (status : Status) (there
 
 -- by whatever was told before the span, each crash image shows what is committed, and no other group is found in it
 pub record LeavesCommitted (run : ℕ) (first : Moment) (device : Device) (group : Descriptor) (status : Status) (there : Disks) : Type 0 where
-  pub shows : (past : List Fact) → Begins run past first → (image : Image) → MayLeave device image → ShowsCommitted (contents_of image) group status there
+  pub shows : (past : List Fact) → RunBegins run past first → (image : Image) → MayLeave device image → ShowsCommitted (contents_of image) group status there
   pub only : IsOnlyGroupSince run first device group.id
 
 -- So a volume that isn't named may be in the making,

@@ -12,7 +12,7 @@ use Rattle.lvm_num.specs.Status.{calls_stale, calls_missing}
 use Rattle.lvm_num.specs.Votes.{votes_in, total_votes, is_enough_to_write, CanWrite}
 use Rattle.lvm_disk.specs.Device.{Device, IsReady}
 use Rattle.lvm_kept.specs.Torn.{RecordWrite, IsOfRecord}
-use Rattle.lvm_status.specs.passed.Names.{SameStale, IsLeftIn, Marks}
+use Rattle.lvm_status.specs.passed.Names.{SameStale, IsLeftIn, MarksLost}
 use Rattle.lvm_status.specs.Update.{Stored, no_disks}
 use Rattle.lvm_rec.specs.declared.homes.Homes.{Homes}
 use Rattle.lvm_rec.specs.Homes.{Flips}
@@ -46,7 +46,7 @@ pub record LosesMembers (failed : Disks) (old new : Status) : Type 0 where
 pub record HasMarked (group : Descriptor) (failed : Disks) (first last : Stored) : Type 0 where
   pub rest : last ≡ record first { wanted = last.wanted }
   pub unmarked : list_any (λ (row : PvRow). failed row.disk) group.pvs ≡ false → last.wanted ≡ first.wanted
-  pub marked : list_any (λ (row : PvRow). failed row.disk) group.pvs ≡ true → Marks (there first) (IsLeftIn (there first) first.wanted group.lvs) first.wanted last.wanted
+  pub marked : list_any (λ (row : PvRow). failed row.disk) group.pvs ≡ true → MarksLost (there first) (IsLeftIn (there first) first.wanted group.lvs) first.wanted last.wanted
 
 -- One record leaves none behind where none was, only what is left behind becomes stale, and its writes are forgotten once none is in flight.
 pub record MarksRound (group : Descriptor) (first last : Stored) : Type 0 where
@@ -84,7 +84,7 @@ pub record Starts (first last : Stored) : Type 0 where
   pub started : IsInFlight last
 
 -- The writes of the update in flight have ended, on these disks badly: it is committed exactly where the other members have votes enough to write.
-pub record HasEnded (failed : Disks) (first last : Stored) : Type 0 where
+pub record UpdateHasEnded (failed : Disks) (first last : Stored) : Type 0 where
   pub group : last.group ≡ first.group
   pub stamp : last.stamp ≡ first.stamp
   pub wanted : Misses (λ d. there first d && failed d) first.wanted last.wanted

@@ -13,7 +13,7 @@ ghost use Rattle.lvm_status.specs.Members.{HasItsRows};
 ghost use Rattle.lvm_write.specs.Written.{HaveRoom};
 ghost use Rattle.lvm_commit.specs.Committed.{next_stamp};
 ghost use Rattle.lvm_commit.specs.Settling.{MaySettle, IsOf, there};
-ghost use Rattle.lvm_commit.specs.Rounds.{IsInFlight, Starts, IsSent, HasEnded, HasLost, HasMarked, MarksRound, CommitsRound, HoldsRound, IsByVotes, stamped, session_write, RecordGives};
+ghost use Rattle.lvm_commit.specs.Rounds.{IsInFlight, Starts, IsSent, UpdateHasEnded, HasLost, HasMarked, MarksRound, CommitsRound, HoldsRound, IsByVotes, stamped, session_write, RecordGives};
 
 use crate::commit::CommitEnd;
 use lvm_disk::Shelf;
@@ -193,7 +193,7 @@ fn end_writes(d: &Descriptor, updater: &mut Updater, failed: DiskSet)
     requires valid { IsValid d.now }
     requires own { IsOf d.now updater.old }
     requires started { IsInFlight updater.old }
-    ensures { HasEnded (has failed) updater.old updater.new }
+    ensures { UpdateHasEnded (has failed) updater.old updater.new }
 {
     while let Some(disk) = updater.next_write() {
         updater.ended(disk, !failed.has(disk));

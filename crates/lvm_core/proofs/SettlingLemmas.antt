@@ -35,7 +35,7 @@ use Rattle.lvm_commit.specs.Settling.{NoneIsLeft, there, IsOf, MayCommit, MaySet
 use Rattle.lvm_session.specs.Sound.{is_dark}
 use Rattle.lvm_session.specs.State.{Core, State, is_there}
 use Rattle.lvm_session.specs.Marks.{is_among}
-use Rattle.lvm_core.specs.Sound.{IsSoundBetween}
+use Rattle.lvm_core.specs.Sound.{IsSoundAtRest}
 use Rattle.lvm_core.specs.Held.{IsHeld}
 use Rattle.lvm_core.specs.Settled.{HasSpareNumbers, IsSettled}
 use Rattle.lvm_core.specs.Committing.{AreUnused, AreMarked, AreDirtied, is_in}
@@ -61,7 +61,7 @@ is_its d s disk there = by_test (is_member d disk) refl there
     by_test false is there = absurd (cc there)
 
 -- a member that isn't missing has room for records
-pub member_has_room : (s : State) → IsSoundBetween s → (disk : ℕ) → IsTrue (is_there s.core disk) → HasRoom s.device disk
+pub member_has_room : (s : State) → IsSoundAtRest s → (disk : ℕ) → IsTrue (is_there s.core disk) → HasRoom s.device disk
 member_has_room s sound disk there =
     let row = member_row s.core.descriptor.pvs disk (is_its s.core.descriptor s.core.status.wanted disk there) in
     let its = sound.placed row.0 row.1 (ap (calls_missing s.core.status.wanted) row.2 ∙ is_not_missing s.core disk there) in
@@ -70,7 +70,7 @@ member_has_room s sound disk there =
     let within = its.within (get_or s.device.sizes disk 0) (ap (slice_get s.device.sizes) row.2 ∙ at) in
     (get_or s.device.sizes disk 0, at, omega (arith, within))
 
-may_settle : (s : State) → IsSoundBetween s → IsSettled s.core → MaySettle s.core.descriptor s.core.status s.device
+may_settle : (s : State) → IsSoundAtRest s → IsSettled s.core → MaySettle s.core.descriptor s.core.status s.device
 may_settle s sound settled = record {
   valid = sound.fitting.valid;
   own = sym sound.fitting.group;
@@ -82,7 +82,7 @@ may_settle s sound settled = record {
   votes = subst (λ (g : Descriptor). CanWrite g (members_there g s.core.status.wanted)) (sym sound.fitting.group) settled.votes;
 }
 
-pub may_commit_now : (s : State) → IsSoundBetween s → IsSettled s.core → HasSpareNumbers s.core → (records : ℕ) → records ≤ 8 → MayCommit records s.core.descriptor s.core.status s.device
+pub may_commit_now : (s : State) → IsSoundAtRest s → IsSettled s.core → HasSpareNumbers s.core → (records : ℕ) → records ≤ 8 → MayCommit records s.core.descriptor s.core.status s.device
 may_commit_now s sound settled spare records few = record {
   ready = let lit = sound.lit (ap is_dark settled.power) in record { flights = sound.quiet settled.quiet; freed = lit.freed; power = lit.power };
   settle = may_settle s sound settled;

@@ -4,7 +4,7 @@ use Rattle.lvm_disk.specs.Device.{Device}
 use Rattle.lvm_vol.specs.Facts.{Fact}
 use Rattle.lvm_vol.specs.Log.{Log}
 use Rattle.lvm_kept.specs.Moments.{StaysCalm}
-use Rattle.lvm_commit.specs.passed.Names.{ImagesKept, Keeps, at, ClockIsAhead, IsBehind}
+use Rattle.lvm_commit.specs.passed.Names.{ImagesKept, Keeps, at, ClockIsAhead, StampsAreEarlier}
 use Rattle.lvm_write.specs.Parts.{Spends}
 use Rattle.lvm_commit.specs.Settling.{NoneIsLeft}
 use Rattle.lvm_core.specs.declared.refused.Refused.{Refused}
@@ -28,7 +28,7 @@ history_left (Err refused) = refused.history
 -- the clock. No write is open that wasn't, and the patience falls by what is waited.
 pub record BringsOn (run moment before after : ℕ) (old new : Device) (was is : Log) : Type 0 where
   pub keeps : ClockIsAhead run moment old was.facts → Keeps run (at old was.facts) (at new is.facts)
-  pub behind : ClockIsAhead run moment old was.facts → IsBehind (moment + 1) new
+  pub behind : ClockIsAhead run moment old was.facts → StampsAreEarlier (moment + 1) new
   pub calm : StaysCalm (at old was.facts) (at new is.facts)
   pub spends : Spends before after old new
 

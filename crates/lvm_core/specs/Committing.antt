@@ -15,7 +15,7 @@ use Rattle.lvm_vol.specs.Facts.{Fact}
 use Rattle.lvm_kept.specs.Contents.{contents_of}
 use Rattle.lvm_kept.specs.Group.{IsOneOf}
 use Rattle.lvm_kept.specs.Moments.{Moment}
-use Rattle.lvm_commit.specs.passed.Names.{Begins, Holds, IsBehind}
+use Rattle.lvm_commit.specs.passed.Names.{RunBegins, HistoryHolds, StampsAreEarlier}
 use Rattle.lvm_write.specs.Written.{IsDarkened, IsGivenUp}
 use Rattle.lvm_commit.specs.Committed.{AreOne}
 use Rattle.lvm_commit.specs.LawsOfData.{IsFree}
@@ -104,8 +104,8 @@ abbrev pub marks_of : List Pp → List Pp → Status → Pp → Bool
 marks_of stale fresh old p = (calls_stale old p || is_among stale p) && not (is_among fresh p)
 
 -- these partitions are stale and those fresh, where they weren't, and all other marks are as they were
-abbrev pub Marks : List Pp → List Pp → Status → Status → Type 0
-Marks stale fresh old new = (p : Pp) → calls_stale new p ≡ marks_of stale fresh old p
+abbrev pub MarksCopies : List Pp → List Pp → Status → Status → Type 0
+MarksCopies stale fresh old new = (p : Pp) → calls_stale new p ≡ marks_of stale fresh old p
 
 -- they already are so
 pub record AreMarked (to_stale to_fresh : List Pp) (s : Status) : Type 0 where
@@ -155,15 +155,15 @@ MayGoClean clean s = IfSome s.device.media (λ media. (row : LvRow) → IsOneOf 
 -- copies; these alone differ,
 abbrev pub LetsCommitAmong : (ℕ → Bool) → Descriptor → ℕ → Moment → State → Type 0
 LetsCommitAmong among next run first s =
-    (past : List Fact) → Begins run past first → Holds past (moment_of s)
+    (past : List Fact) → RunBegins run past first → HistoryHolds past (moment_of s)
     → IfSome s.device.media (λ media. VolumesServe (contents_of (image_of s.device.sizes media)) (past ++ s.core.history.facts) s.core.descriptor among next)
 
 -- or one alone.
 abbrev pub LetsCommit : ℕ → Descriptor → ℕ → Moment → State → Type 0
 LetsCommit lv next run first s =
-    (past : List Fact) → Begins run past first → Holds past (moment_of s)
+    (past : List Fact) → RunBegins run past first → HistoryHolds past (moment_of s)
     → IfSome s.device.media (λ media. VolumeServes (contents_of (image_of s.device.sizes media)) (past ++ s.core.history.facts) s.core.descriptor lv next)
 
 -- what stands on the disks is from before each moment after the session's, where it was
 abbrev pub StaysBehind : State → State → Type 0
-StaysBehind old new = (moment : ℕ) → old.core.status.stamp.epoch < moment → IsBehind moment old.device → IsBehind moment new.device
+StaysBehind old new = (moment : ℕ) → old.core.status.stamp.epoch < moment → StampsAreEarlier moment old.device → StampsAreEarlier moment new.device

@@ -14,7 +14,7 @@ use Rattle.lvm_kept.specs.Contents.{contents_of}
 use Rattle.lvm_kept.specs.Group.{IsFound}
 use Rattle.lvm_kept.specs.Moments.{Moment, StaysCalm}
 use Rattle.lvm_kept.specs.Plans.{Plan}
-use Rattle.lvm_commit.specs.passed.Names.{Begins, SpanGoesOn}
+use Rattle.lvm_commit.specs.passed.Names.{RunBegins, SpanGoesOn}
 use Rattle.lvm_write.specs.Parts.{Spends}
 use Rattle.lvm_write.specs.Written.{KeepsShelf}
 use Rattle.lvm_commit.specs.Settling.{there, HasAnother, HasSameRows, SpendsNumbers, IsOfStatus, IsOfCommit}
@@ -47,7 +47,7 @@ NoVolume lv = ⊥
 
 -- by whatever was told before a span, the disks hold what the session says
 abbrev pub IsHeldSince : ℕ → Moment → State → Type 0
-IsHeldSince run first s = (past : List Fact) → Begins run past first → IsHeld s.device s.core
+IsHeldSince run first s = (past : List Fact) → RunBegins run past first → IsHeld s.device s.core
 
 -- a span goes on without a premise
 abbrev pub Always : State → State → ℕ → Moment → Type 0
@@ -63,7 +63,7 @@ marking to_stale to_fresh = record { next = NoDescriptor; zeros = NoPartition; s
 
 -- these volumes become dirty and those clean, which their copies have to let be after an earlier history
 abbrev pub dirtying : List ℕ → List ℕ → Scope
-dirtying to_dirty to_clean = record { next = NoDescriptor; zeros = NoPartition; stale = NoPartition; fresh = NoPartition; marks = Contains (to_dirty ++ to_clean); numbers = 1; lets = λ old new run first. (past : List Fact) → Begins run past first → MayGoClean to_clean old }
+dirtying to_dirty to_clean = record { next = NoDescriptor; zeros = NoPartition; stale = NoPartition; fresh = NoPartition; marks = Contains (to_dirty ++ to_clean); numbers = 1; lets = λ old new run first. (past : List Fact) → RunBegins run past first → MayGoClean to_clean old }
 
 -- zeros are written to a partition
 abbrev pub zeroing : Pp → Scope

@@ -10,10 +10,10 @@ use Rattle.lvm_commit.specs.Settling.{IsForgotten}
 use Rattle.lvm_session.specs.declared.open.Power.TheVariants as power
 use Rattle.lvm_session.specs.State.{Core, State}
 use Rattle.lvm_session.specs.Placed.{ArePlaced}
-use Rattle.lvm_session.specs.Sound.{IsLit, IsDark, count_if, is_dark, out_with}
+use Rattle.lvm_session.specs.Sound.{HasPower, IsDark, count_if, is_dark, out_with}
 
 -- The parts of a session are of one group, and their rooms agree.
-pub record IsFittingBetween (core : Core) : Type 0 where
+pub record IsFittingAtRest (core : Core) : Type 0 where
   pub valid : IsValid core.descriptor
   pub id : core.status.wanted.id ≡ core.descriptor.id
   pub rows : HasItsRows core.descriptor core.status.wanted
@@ -29,15 +29,15 @@ pub record IsFittingBetween (core : Core) : Type 0 where
   pub forgotten : IsForgotten core.status
 
 -- nothing of the session may have a transfer under way
-pub record IsQuiet (core : Core) : Type 0 where
+pub record HasNothingUnderWay (core : Core) : Type 0 where
   pub requests : core.requests ≡ []
   pub copy : core.copy ≡ None
   pub status : core.status.in_flight ≡ None
   pub notes : (disk : ℕ) → flight_on core.cache disk ≡ None
   pub buffers : core.pool ≡ replicate (length core.pool) false
 
-pub record IsSoundBetween (s : State) : Type 0 where
-  pub fitting : IsFittingBetween s.core
+pub record IsSoundAtRest (s : State) : Type 0 where
+  pub fitting : IsFittingAtRest s.core
   pub none : HasNoneOpen s.core
   pub landed : HaveAllLanded s.core.history.facts
   -- the members that aren't missing are on the shelf
@@ -46,8 +46,8 @@ pub record IsSoundBetween (s : State) : Type 0 where
   pub buffers : (n : ℕ) → out_with s.device s.core n ≤ count_if (slice_index_or s.core.pool n false)
   pub none_lost : is_dark s.core.power ≡ false → (n : ℕ) → out_with s.device s.core n ≡ count_if (slice_index_or s.core.pool n false)
   -- each transfer is the session's
-  pub quiet : IsQuiet s.core → s.device.flights ≡ []
-  pub lit : is_dark s.core.power ≡ false → IsLit s.device
+  pub quiet : HasNothingUnderWay s.core → s.device.flights ≡ []
+  pub lit : is_dark s.core.power ≡ false → HasPower s.device
   pub dark : is_dark s.core.power ≡ true → IsDark s.device
   -- a session whose transfer wasn't heard of is told by its buffer that is out
   pub heard : s.core.power ≡ power.Stuck → ⊥

@@ -16,7 +16,7 @@ use Rattle.lvm_core.specs.declared.fault.CommitFault.TheVariants as fault
 use Rattle.lvm_session.specs.declared.open.Power.TheVariants as power
 use Rattle.lvm_session.specs.State.{Core, State}
 use Rattle.lvm_session.specs.Dark.{all_dark}
-use Rattle.lvm_core.specs.Committing.{Marks, AreMarked, Dirties, AreDirtied, with_one_out}
+use Rattle.lvm_core.specs.Committing.{MarksCopies, AreMarked, Dirties, AreDirtied, with_one_out}
 
 -- ---- the marks
 
@@ -34,7 +34,7 @@ pub record WantsMarksAtMost (old new : Stored) : Type 0 where
 pub record IsMarked (to_stale to_fresh : List Pp) (old new : Stored) : Type 0 where
   pub rest : WantsMarksAtMost old new
   pub dirty : new.wanted.dirty ≡ old.wanted.dirty
-  pub marks : Marks to_stale to_fresh old.wanted new.wanted
+  pub marks : MarksCopies to_stale to_fresh old.wanted new.wanted
   pub same : AreMarked to_stale to_fresh old.wanted → new ≡ old
 
 -- These marks of volumes are wanted now, and nothing else is.

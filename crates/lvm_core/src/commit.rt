@@ -8,7 +8,7 @@ ghost use Rattle.lvm_commit.specs.Settling.{HoldsWithin, IfBack, MayCommit};
 ghost use Rattle.lvm_session.specs.Fields.{core_of};
 ghost use Rattle.lvm_session.specs.Rooms.{HasRooms, SameRooms};
 ghost use Rattle.lvm_session.specs.State.{state};
-ghost use Rattle.lvm_core.specs.Sound.{IsFittingBetween, HasNoneOpen};
+ghost use Rattle.lvm_core.specs.Sound.{IsFittingAtRest, HasNoneOpen};
 ghost use Rattle.lvm_core.specs.Committing.{with_one_out};
 ghost use Rattle.lvm_num.specs.Status.{IsVolumeNumber};
 ghost use Rattle.lvm_core.specs.Steps.{EndsAs, EndsWith, CommitsDescriptor, CommitsMarks, CommitsDirt};
@@ -45,7 +45,7 @@ pub fn zero<S: Shelf>(
     patience: &mut Patience,
 ) -> Result<(), CommitFault>
     requires ready { IsReady (S.device shelf.old) }
-    requires fitting { IsFittingBetween (core_of session.old) }
+    requires fitting { IsFittingAtRest (core_of session.old) }
     requires none { HasNoneOpen (core_of session.old) }
     requires buffers { session.old.pool ≡ replicate (length session.old.pool) false }
     requires partition { pp.pp < 1016 }
@@ -123,7 +123,7 @@ pub fn commit<S: Shelf>(
     next: Prepared,
     patience: &mut Patience,
 ) -> Result<(), CommitFault>
-    requires fitting { IsFittingBetween (core_of session.old) }
+    requires fitting { IsFittingAtRest (core_of session.old) }
     requires none { HasNoneOpen (core_of session.old) }
     requires buffers { session.old.pool ≡ replicate (length session.old.pool) false }
     requires rooms { HasRooms session.old }
@@ -157,7 +157,7 @@ pub fn set_status<S: Shelf>(
     fresh: &[Pp],
     patience: &mut Patience,
 ) -> Result<(), CommitFault>
-    requires fitting { IsFittingBetween (core_of session.old) }
+    requires fitting { IsFittingAtRest (core_of session.old) }
     requires none { HasNoneOpen (core_of session.old) }
     requires buffers { session.old.pool ≡ replicate (length session.old.pool) false }
     requires rooms { HasRooms session.old }
@@ -189,7 +189,7 @@ pub fn mark_dirty<S: Shelf>(
     clean: &[u16],
     patience: &mut Patience,
 ) -> Result<(), CommitFault>
-    requires fitting { IsFittingBetween (core_of session.old) }
+    requires fitting { IsFittingAtRest (core_of session.old) }
     requires none { HasNoneOpen (core_of session.old) }
     requires buffers { session.old.pool ≡ replicate (length session.old.pool) false }
     requires rooms { HasRooms session.old }

@@ -20,7 +20,7 @@ ghost use Rattle.lvm_session.specs.Placed.{ArePlaced};
 ghost use Rattle.lvm_session.specs.declared.open.Power.TheVariants as power;
 ghost use Rattle.lvm_core.specs.State.{state_of};
 ghost use Rattle.lvm_core.specs.Looking.{IsNumberOf, HasNoVolumeNamed};
-ghost use Rattle.lvm_core.specs.Sound.{IsSoundBetween, HaveAllLanded};
+ghost use Rattle.lvm_core.specs.Sound.{IsSoundAtRest, HaveAllLanded};
 ghost use Rattle.lvm_session_start.specs.Beginning.{AreFaults, first_core};
 ghost use Rattle.lvm_core.specs.Settled.{IsSettled, HasSpareNumbers};
 ghost use Rattle.lvm_core.specs.Committing.{CommitEnds, MarkEnds, FailsCommitted, AreUnused, AreMarked, Restates, AreDirtied, Redirties};
@@ -56,13 +56,13 @@ impl<S: Shelf> Model for Driver<S> {
     ghost use Rattle.lvm_session.specs.State.{Core, state};
     ghost use Rattle.lvm_session.specs.Fields.{core_of};
     ghost use Rattle.lvm_session.specs.Rooms.{HasRooms};
-    ghost use Rattle.lvm_core.specs.Sound.{IsSoundBetween};
+    ghost use Rattle.lvm_core.specs.Sound.{IsSoundAtRest};
 
     ghost Value = { S × Core };
 
     ghost view = { λ d. (d.shelf, core_of d.session) };
 
-    ghost invariant = { λ d. HasRooms d.session × IsSoundBetween (state (S.device d.shelf) (core_of d.session)) };
+    ghost invariant = { λ d. HasRooms d.session × IsSoundAtRest (state (S.device d.shelf) (core_of d.session)) };
 }
 
 impl<S: Shelf> Driver<S> {
@@ -84,7 +84,7 @@ impl<S: Shelf> Driver<S> {
     /// The session of another driver at which nothing is under way, over its shelf.
     pub fn from_parts(shelf: S, session: Session) -> Driver<S>
         requires rooms { HasRooms session }
-        requires sound { IsSoundBetween (state (S.device shelf) (core_of session)) }
+        requires sound { IsSoundAtRest (state (S.device shelf) (core_of session)) }
         ensures shelf { result.0 ≡ shelf }
         ensures core { result.1 ≡ core_of session }
     {
@@ -96,7 +96,7 @@ impl<S: Shelf> Driver<S> {
         ensures shelf { result.0 ≡ self.0 }
         ensures core { core_of result.1 ≡ self.1 }
         ensures rooms { HasRooms result.1 }
-        ensures sound { IsSoundBetween (state (S.device self.0) self.1) }
+        ensures sound { IsSoundAtRest (state (S.device self.0) self.1) }
     {
         (self.shelf, self.session)
     }
@@ -292,7 +292,7 @@ impl<S: Shelf> Driver<S> {
     pub fn open(&self) -> u32
         ensures number { result ≡ length self.now.1.requests }
         // What holds of the session at every moment.
-        ensures sound { IsSoundBetween (state (S.device self.now.0) self.now.1) }
+        ensures sound { IsSoundAtRest (state (S.device self.now.0) self.now.1) }
     {
         self.session.requests.len() as u32
     }

@@ -11,7 +11,7 @@ use Rattle.lvm_invariant.specs.Events.{CopyWrite}
 use Rattle.lvm_crash.specs.Session.{members_showing}
 use Rattle.lvm_crash.proofs.LastingLemmas.Lasting.{description_lasts}
 use Rattle.lvm_crash.specs.Writing.{after_write}
-use Rattle.lvm_crash.specs.Bringing.{ReadLeaves, ReadGets, StepEnds}
+use Rattle.lvm_crash.specs.Bringing.{ReadLeaves, ReadGets, StepEndsOnDisks}
 use Rattle.lvm_crash.proofs.OwnedLemmas.{covered, copy_too, stands_at, reads_none}
 use Rattle.lvm_crash.proofs.WritingLemmas.{group_kept, records_same, shows_records, seen, seen_whole, shown}
 
@@ -39,7 +39,7 @@ read_gets votes s i r c group in_flight sizes m f buf valid good describes there
     ∙ sym (blocks_are_sectors (image_of sizes m) group.mib b c)
     ∙ sym (describes.shown.blocks lv b c copy)
 
-pub step_ends : StepEnds
+pub step_ends : StepEndsOnDisks
 step_ends votes s i r value target open_copy step_write group in_flight sizes m n f well valid good describes there read past got aimed transfer lands opened =
     let now = contents_of (image_of sizes n) in
     let block = after_write s group.mib r target now in

@@ -18,7 +18,7 @@ use Rattle.lvm_vol.specs.Facts.{Fact}
 use Rattle.lvm_disk.specs.Device.{Flight, Device, image_of, written}
 use Rattle.lvm_kept.specs.Contents.{note_sector, Contents, contents_of}
 use Rattle.lvm_kept.specs.Group.{names_if, is_of, passes, has_room, IsOneOf, IsBlockOf}
-use Rattle.lvm_kept.specs.Torn.{RecordWrite, IsOfRecord, IsOutside}
+use Rattle.lvm_kept.specs.Torn.{RecordWrite, IsOfRecord, IsOutsideSlots}
 use Rattle.lvm_invariant.specs.State.{Groups, Queued, Beside, ModelState, covers}
 use Rattle.lvm_invariant.specs.Crash.{Brings, CopyBrings}
 use Rattle.lvm_invariant.specs.Sound.{Tied}
@@ -279,7 +279,7 @@ owners_have_out s facts group w in_flight device media valid tied volumes all si
     note d x (OfNote its) = (its.note, its.flies, its.names)
     note d x (OfUpdate write is own slots) = let e : 64 ≤ note_sector = slots.low in absurd (omega arith)
 
-    outside : (d at : ℕ) (x : Sector) {f : Flight} → What s group w f d at x → IsOutside kind.Descriptor d at x
+    outside : (d at : ℕ) (x : Sector) {f : Flight} → What s group w f d at x → IsOutsideSlots kind.Descriptor d at x
     outside d at x (Data own high) = inr (omega arith)
     outside d at x (OfStep own high) = inr (omega arith)
     outside d at x (OfNote its) = let e : at ≡ 8 = its.place in inl (omega arith)
@@ -288,7 +288,7 @@ owners_have_out s facts group w in_flight device media valid tied volumes all si
     statuses : (v : Option RecordWrite) (u : Option (Stamped Status)) → OnlyUpdateSince device v u → w ≡ v → OnlyUpdateIsOut s device u
     statuses None None none is = λ d at x out. let f = of_one device.flights d at x all out in no_status d at x (what s group w in_flight device since f.0 d at x f.1 f.2)
       where
-        no_status : (d at : ℕ) (x : Sector) {f : Flight} → What s group w f d at x → IsOutside kind.Status d at x
+        no_status : (d at : ℕ) (x : Sector) {f : Flight} → What s group w f d at x → IsOutsideSlots kind.Status d at x
         no_status d at x (Data own high) = inr (omega arith)
         no_status d at x (OfStep own high) = inr (omega arith)
         no_status d at x (OfNote its) = let e : at ≡ 8 = its.place in inl (omega arith)

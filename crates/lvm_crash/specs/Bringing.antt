@@ -8,7 +8,7 @@ use Rattle.lvm_num.specs.Descriptor.{IsValid}
 use Rattle.lvm_num.specs.Geometry.{sector_of, track_group_of}
 use Rattle.lvm_num.specs.Record.{Stamped}
 use Rattle.lvm_disk.specs.Device.{Media, Flight, image_of}
-use Rattle.lvm_disk.specs.Steps.{Reads}
+use Rattle.lvm_disk.specs.Steps.{ReadsRange}
 use Rattle.lvm_kept.specs.Contents.{contents_of, Contents}
 use Rattle.lvm_invariant.specs.State.{Queued, ModelCopy, StepWrite, ModelState, covers, is_past}
 use Rattle.lvm_invariant.specs.Found.{Votes}
@@ -40,7 +40,7 @@ abbrev pub ReadGets : Type 0
 ReadGets =
     (votes : Votes) (s : ModelState) (i : ℕ) (r : Queued) (c : Pp) (group : Descriptor) (in_flight : Option (Stamped Status)) (sizes : List ℕ) (m : Media) (f : Flight) (buf : Buffer)
     → IsValid group → Good votes s → Describes s s.facts group in_flight (contents_of (image_of sizes m))
-    → s.queue i ≡ Some r → IsTrue (s.is_copy r.lv r.first c) → IsReading group.mib r c f → Reads m f buf
+    → s.queue i ≡ Some r → IsTrue (s.is_copy r.lv r.first c) → IsReading group.mib r c f → ReadsRange m f buf
     → (lv b : ℕ) → IsTrue (covers r lv b) → in_buffer r buf b ≡ s.media.block lv b c
 
 -- ---- writes to the copy that is being brought up
@@ -61,8 +61,8 @@ pub record StepEnded (s : ModelState) (i : ℕ) (r : Queued) (value : ℕ → Se
   pub may : CopyWrites s i r value target open_copy (after_write s group.mib r target now)
   pub describes : Describes (copied s (after_write s group.mib r target now) open_copy step_write) s.facts group in_flight now
 
-abbrev pub StepEnds : Type 0
-StepEnds =
+abbrev pub StepEndsOnDisks : Type 0
+StepEndsOnDisks =
     (votes : Votes) (s : ModelState) (i : ℕ) (r : Queued) (value : ℕ → Sector) (target : Pp) (open_copy : Option ModelCopy) (step_write : Option StepWrite)
     (group : Descriptor) (in_flight : Option (Stamped Status)) (sizes : List ℕ) (m n : Media) (f : Flight) (well : Bool)
     → IsValid group → Good votes s → Describes s s.facts group in_flight (contents_of (image_of sizes m))

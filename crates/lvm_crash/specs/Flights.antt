@@ -14,7 +14,7 @@ use Rattle.lvm_kept.specs.passed.Names.{Media, Image, Device, IsInFlight, image_
 use Rattle.lvm_kept.specs.Contents.{note_sector, contents_of}
 use Rattle.lvm_kept.specs.Group.{names_if}
 use Rattle.lvm_kept.specs.Plans.{IsUnderWay}
-use Rattle.lvm_kept.specs.Torn.{RecordWrite, IsOfRecord, IsOtherOrRecord, IsOutside, MayWriteAll}
+use Rattle.lvm_kept.specs.Torn.{RecordWrite, IsOfRecord, IsOtherOrRecord, IsOutsideSlots, MayWriteAll}
 use Rattle.lvm_invariant.specs.State.{Groups, ModelState}
 use Rattle.lvm_invariant.specs.Crash.{Brings, CopyBrings}
 use Rattle.lvm_crash.specs.Session.{Describes}
@@ -32,7 +32,7 @@ pub record UpdateIsOut (s : ModelState) (device : Device) (u : Stamped Status) :
 
 -- only the update in flight, if any, goes to the slots of statuses
 abbrev pub OnlyUpdateIsOut : ModelState → Device → Option (Stamped Status) → Type 0
-OnlyUpdateIsOut s device None = (d at : ℕ) (value : Sector) → IsInFlight device.flights d at value → IsOutside kind.Status d at value
+OnlyUpdateIsOut s device None = (d at : ℕ) (value : Sector) → IsInFlight device.flights d at value → IsOutsideSlots kind.Status d at value
 OnlyUpdateIsOut s device (Some u) = UpdateIsOut s device u
 
 -- What is out is what the state has out: over a block of a copy, a write or a step of a copy that brings this there; over a note, the note in
@@ -42,7 +42,7 @@ pub record HasOut (s : ModelState) (group : Descriptor) (in_flight : Option (Sta
   pub notes : (d : ℕ) (value : Sector) → IsInFlight device.flights d note_sector value
       → (n : Groups) × (s.flying_note d ≡ Some n) × ((lv track_group : ℕ) → names_if (note_in value) lv track_group ≡ n lv track_group)
   pub statuses : OnlyUpdateIsOut s device in_flight
-  pub descriptors : (d at : ℕ) (value : Sector) → IsInFlight device.flights d at value → IsOutside kind.Descriptor d at value
+  pub descriptors : (d at : ℕ) (value : Sector) → IsInFlight device.flights d at value → IsOutsideSlots kind.Descriptor d at value
   pub raw : (d at : ℕ) (value : Sector) → (contents_of (image_of device.sizes media)).descriptor d ≡ None → data_start ≤ at → IsInFlight device.flights d at value → ⊥
 
 -- The state describes what stands on the media, and has out what is out.

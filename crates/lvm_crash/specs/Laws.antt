@@ -16,7 +16,7 @@ use Rattle.lvm_invariant.specs.Found.{Votes, Found}
 use Rattle.lvm_invariant.specs.Crash.{IsCrash, IsPossible, BlockKept}
 use Rattle.lvm_invariant.specs.Good.{Good}
 use Rattle.lvm_invariant.specs.Off.{GoesOff}
-use Rattle.lvm_invariant.specs.Over.{AreOpen, landings, IsOver}
+use Rattle.lvm_invariant.specs.Over.{AreOpen, landings, IsLegalOver}
 use Rattle.lvm_crash.specs.Session.{AreVotesOf, Describes}
 use Rattle.lvm_crash.specs.Left.{MayRemain}
 use Rattle.lvm_crash.specs.Flights.{Matches}
@@ -47,7 +47,7 @@ CrashImagesAreKept =
 abbrev pub LastImagesAreKept : Type 0
 LastImagesAreKept =
     (votes : Votes) (s : ModelState) (facts : List Fact) (group : Descriptor) (in_flight : Option (Stamped Status)) (device : Device) (media : Media) (image : Image)
-    → AreVotesOf group votes → Good votes s → IsOver s facts → Matches s facts group in_flight device media → MayLeave device image → Kept (contents_of image) facts
+    → AreVotesOf group votes → Good votes s → IsLegalOver s facts → Matches s facts group in_flight device media → MayLeave device image → Kept (contents_of image) facts
 
 -- Where the power is cut, the cut and each landing as Dark is a moment: at each of them, whatever was out, each crash image of the shelf before the cut
 -- keeps the history, the first of the landings being in it and the rest not yet.

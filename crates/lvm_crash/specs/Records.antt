@@ -13,7 +13,7 @@ use Rattle.lvm_invariant.specs.State.{Marks, Groups, Beside, ModelState}
 use Rattle.lvm_invariant.specs.Found.{Votes}
 use Rattle.lvm_invariant.specs.Good.{Good}
 use Rattle.lvm_invariant.specs.Events.{Event, ModelStep}
-use Rattle.lvm_invariant.specs.MoveStatus.{Moves, moved}
+use Rattle.lvm_invariant.specs.MoveStatus.{StatusMoves, moved}
 use Rattle.lvm_invariant.specs.EndNote.{EndsNote, after_note}
 use Rattle.lvm_crash.specs.Session.{as_marks, marks_shown, Describes}
 use Rattle.lvm_crash.specs.Flights.{Matches}
@@ -29,7 +29,7 @@ statuses_of beside id now d = marks_shown beside id (now.status d)
 
 -- A write of the update has ended on a disk.
 pub record StatusEnded (s : ModelState) (group : Descriptor) (u : Stamped Status) (disk : ℕ) (well : Bool) (flying : ℕ → Bool) (now : Contents) : Type 0 where
-  pub may : Moves s (as_marks s.beside u) (statuses_of s.beside group.id now)
+  pub may : StatusMoves s (as_marks s.beside u) (statuses_of s.beside group.id now)
   pub describes : Describes (moved s (statuses_of s.beside group.id now) flying) s.facts group (Some u) now
   pub stands : IsTrue well → now.status disk ≡ Some u
 

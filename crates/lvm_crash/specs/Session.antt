@@ -16,7 +16,7 @@ use Rattle.lvm_vol.specs.Facts.{Fact}
 use Rattle.lvm_vol.specs.May.{known}
 use Rattle.lvm_vol.specs.Standing.{volumes_in}
 use Rattle.lvm_kept.specs.Contents.{Contents}
-use Rattle.lvm_kept.specs.Group.{if_passes, is_status_of, Finds, IsFound, members_in, Reads, block_at, IsBlockOf, is_named, IsOneOf}
+use Rattle.lvm_kept.specs.Group.{if_passes, is_status_of, Finds, IsFound, members_in, ReadsGroup, block_at, IsBlockOf, is_named, IsOneOf}
 use Rattle.lvm_kept.specs.Kept.{StandsAs, RawAgrees}
 use Rattle.lvm_invariant.specs.State.{Marks, View, Beside, ModelState}
 use Rattle.lvm_num.specs.Modes.{is_active, is_passive}
@@ -58,7 +58,7 @@ members_showing c group = members_in c all_disks group.id group
 -- Of the groups beside this one: two sets of disks that can read one have a common member, and by what is found of it the partitions are of one size,
 -- and as many on the members that are shared.
 pub record OthersStand (c : Contents) (id : ℕ) : Type 0 where
-  pub common : (a b : Disks) (other : ℕ) (g h : Descriptor) → (other ≡ id → ⊥) → Reads c a other g → Reads c b other h → (d : ℕ) × IsTrue (members_in c a other g d) × IsTrue (members_in c b other h d)
+  pub common : (a b : Disks) (other : ℕ) (g h : Descriptor) → (other ≡ id → ⊥) → ReadsGroup c a other g → ReadsGroup c b other h → (d : ℕ) × IsTrue (members_in c a other g d) × IsTrue (members_in c b other h d)
   pub size : (other : ℕ) (g h : Descriptor) → (other ≡ id → ⊥) → IsFound c other g → IsFound c other h → g.mib ≡ h.mib
   pub partitions : (other : ℕ) (g h : Descriptor) → (other ≡ id → ⊥) → IsFound c other g → IsFound c other h → (d : ℕ) (p q : PvRow) → member_of g d ≡ Some p → member_of h d ≡ Some q → p.pps ≡ q.pps
 

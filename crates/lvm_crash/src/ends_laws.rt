@@ -2,7 +2,7 @@
 //! its contract is the law.
 ghost use Rattle.lvm_crash.specs.Copies.{OneBlock};
 ghost use Rattle.lvm_crash.specs.Owned.{OwnersHaveOut};
-ghost use Rattle.lvm_crash.specs.Bringing.{ReadLeaves, ReadGets, StepEnds};
+ghost use Rattle.lvm_crash.specs.Bringing.{ReadLeaves, ReadGets, StepEndsOnDisks};
 ghost use Rattle.lvm_crash.specs.Writing.{EndsLand, WriteEnds};
 ghost use Rattle.lvm_crash.specs.Records.{StatusEndMatches, NoteEndMatches, QuietLasts, UpdatesLast, UpdateGoesOn};
 
@@ -38,5 +38,5 @@ pub fn records_end()
 pub fn steps_end()
     ensures leaves { ReadLeaves }
     ensures gets { ReadGets }
-    ensures steps { StepEnds }
+    ensures steps { StepEndsOnDisks }
 {}

@@ -28,9 +28,9 @@ pub record IsRange (device : Device) (disk first count : ℕ) : Type 0 where
   pub within : (size : ℕ) → slice_get device.sizes disk ≡ Some size → first + count ≤ size
 
 -- no flight that is out has this ticket
-abbrev pub IsFresh : ℕ → List Flight → Type 0
-IsFresh ticket [] = Unit {0}
-IsFresh ticket (f ∷ flights) = (f.ticket ≡ ticket → ⊥) × IsFresh ticket flights
+abbrev pub IsNewTicket : ℕ → List Flight → Type 0
+IsNewTicket ticket [] = Unit {0}
+IsNewTicket ticket (f ∷ flights) = (f.ticket ≡ ticket → ⊥) × IsNewTicket ticket flights
 
 -- The list of started write ranges has one more, or is told no more. Once untold it stays so.
 abbrev pub Logs : Option (List Range) → Range → Option (List Range) → Type 0
@@ -42,7 +42,7 @@ Logs (Some old) range (Some new) = new ≡ old ++ range ∷ []
 -- one flight more, with the power on
 pub record Starts (old new : Device) (f : Flight) : Type 0 where
   pub power : old.power ≡ true
-  pub fresh : IsFresh f.ticket old.flights
+  pub fresh : IsNewTicket f.ticket old.flights
   pub starts : RoseAt f.disk old.counts.starts new.counts.starts
   pub wrote : MatchBool f.write (Logs old.wrote (record { disk = f.disk; first = f.first; count = f.count }) new.wrote) (new.wrote ≡ old.wrote)
   pub new_is : new ≡ record old { flights = old.flights ++ f ∷ []; counts = record old.counts { starts = new.counts.starts }; wrote = new.wrote }
@@ -85,8 +85,8 @@ abbrev pub PutsSome : Flight → Media → Media → Type 0
 PutsSome f old new = (d s : ℕ) → (new d s ≡ old d s) ⊎ (written f d s ≡ Some (new d s))
 
 -- the buffer has what stands in the flight's range
-abbrev pub Reads : Media → Flight → Buffer → Type 0
-Reads media f buf = (i : ℕ) → i < f.count → slice_get buf.sectors i ≡ Some (media f.disk (f.first + i))
+abbrev pub ReadsRange : Media → Flight → Buffer → Type 0
+ReadsRange media f buf = (i : ℕ) → i < f.count → slice_get buf.sectors i ≡ Some (media f.disk (f.first + i))
 
 -- the buffer is the one that went out, but for its first sectors
 pub record ChangedAtMost (count : ℕ) (old new : Buffer) : Type 0 where
@@ -102,7 +102,7 @@ pub record EndsDone (old new : Device) (ticket : ℕ) (buf : Buffer) : Type 0 wh
   pub flights : Removes flight old.flights new.flights
   pub media : BothTold old.media new.media (Puts flight)
   pub kept : flight.write ≡ true → buf ≡ flight.buf
-  pub read : flight.write ≡ false → IfSome old.media (λ m. Reads m flight buf)
+  pub read : flight.write ≡ false → IfSome old.media (λ m. ReadsRange m flight buf)
   pub rest : ChangedAtMost flight.count flight.buf buf
   pub new_is : new ≡ record old { media = new.media; flights = new.flights }
 

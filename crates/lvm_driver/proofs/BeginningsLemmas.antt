@@ -28,7 +28,7 @@ use Rattle.lvm_session.proofs.WorkedLemmas.Parts.{none_missing, placed, valid}
 use Rattle.lvm_keeps_events.proofs.SubmitKeepsLemmas.{few_updates}
 use Rattle.lvm_session_start.specs.declared.parts.Parts.{Parts}
 use Rattle.lvm_session_start.specs.declared.parts.Room.{Room}
-use Rattle.lvm_session_start.specs.Beginning.{MayBegin, first_core}
+use Rattle.lvm_session_start.specs.Beginning.{MayBeginSession, first_core}
 use Rattle.lvm_session_start.specs.Parts.{IsReserved, IsSessionRoom}
 use Rattle.lvm_driver.specs.Beginnings.{EachModeBegins, IsClosedLog, IsShelfOf, IsWholeGroup, WholeGroupsBegin, no_log, third_stamp}
 
@@ -88,7 +88,7 @@ module _ (device : Device) (history : Log) (stamp : Stamp) (homes : Homes) (room
       let most = few_updates core group.valid (omega (arith, none)) in
       omega (arith, most, few)
 
-  pub may_begin : MayBegin device history stamp homes p
+  pub may_begin : MayBeginSession device history stamp homes p
   may_begin = record {
     reserved = its_own;
     room = subst IsSessionRoom (sym its.room_is) fits;

@@ -23,7 +23,7 @@ ghost use Rattle.lvm_keeps_events.specs.Telling.{TurnTells};
 ghost use Rattle.lvm_going.specs.Frames.{is_moving};
 ghost use Rattle.lvm_going.specs.Going.{LeavesSession, RunsOn};
 ghost use Rattle.lvm_going.specs.Statuses.{AreValid};
-ghost use Rattle.lvm_session_start.specs.Beginning.{AreFaults, MayBegin, first_core};
+ghost use Rattle.lvm_session_start.specs.Beginning.{AreFaults, MayBeginSession, first_core};
 ghost use Rattle.lvm_driver.specs.Answers.{IsCausedFor, IsCopyCaused, IsOffSince};
 
 use crate::dues::{all_due, submit, take};
@@ -75,7 +75,7 @@ impl<S: Shelf> Driver<S> {
     /// record that was written; `homes` are the slots to which the next ones go.
     pub fn start(parts: Parts, shelf: S, history: History, stamp: Stamp, homes: Homes) -> Driver<S>
         requires spare { 1 ≤ spare_entries history }
-        requires may { MayBegin (S.device shelf) history stamp homes parts }
+        requires may { MayBeginSession (S.device shelf) history stamp homes parts }
         ensures shelf { result.0 ≡ shelf }
         ensures core { result.1 ≡ first_core parts history stamp homes result.1.origin.faults }
         ensures faults { AreFaults (S.device shelf) result.1.origin.faults }

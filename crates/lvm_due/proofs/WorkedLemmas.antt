@@ -9,7 +9,7 @@ use Rattle.lvm_session.specs.Enabled.{admission_at, data_at, landing_at, note_at
 use Rattle.lvm_session.specs.Worked.{core_of, flying, flying_write}
 use Rattle.lvm_due.specs.declared.span.Span.{Span}
 use Rattle.lvm_due.specs.Spans.{is_in}
-use Rattle.lvm_due.specs.Due.{any_fails, IsDue, IsQuiet}
+use Rattle.lvm_due.specs.Due.{any_fails, IsDue, NoneFailsAt}
 use Rattle.lvm_due.specs.Worked.{DuesAreNarrow, nothing, nowhere}
 
 module _ (make : ℕ → Open → Option Event) (s : Span) (x : Open) where
@@ -44,7 +44,7 @@ writing = record {
   «data» = record { within = omega arith; none = one (data_at (core_of flying)) (record { from = 0; to = 1 }) flying_write (λ out. not_either out) };
 }
 
-quiet : IsQuiet (core_of flying) 0
+quiet : NoneFailsAt (core_of flying) 0
 unfolding has_bit
 quiet = record {
   calm = record { copy = refl; flight = refl; same = refl };

@@ -35,7 +35,7 @@ pub record IsDue (core : Core) (due : Due) : Type 0 where
 -- ---- while nothing but requests is under way
 
 -- no copy is open, and nothing is wanted of the status that isn't committed
-pub record IsCalm (core : Core) : Type 0 where
+pub record WantsNothing (core : Core) : Type 0 where
   pub copy : core.copy ≡ None
   pub flight : core.status.in_flight ≡ None
   pub same : core.status.wanted ≡ core.status.committed
@@ -45,16 +45,16 @@ abbrev pub any_fails : Core → Open → Bool
 any_fails core o = list_any (counts_failed core) o.request.targets.items
 
 -- So it is, and no target of the request at a place counts as failed.
-pub record IsQuiet (core : Core) (place : ℕ) : Type 0 where
-  pub calm : IsCalm core
+pub record NoneFailsAt (core : Core) (place : ℕ) : Type 0 where
+  pub calm : WantsNothing core
   pub kept : (o : Open) → slice_get core.requests place ≡ Some o → any_fails core o ≡ false
 
 -- So it is at the place of the request whose transfer this is.
-abbrev pub IsQuietFor : Core → Owner → Type 0
-IsQuietFor core (owner.Data id target) = (place : ℕ) → position (λ (o : Open). o.request.id == id) core.requests ≡ Some place → IsQuiet core place
-IsQuietFor core (owner.Status disk) = Unit {0}
-IsQuietFor core (owner.Note disk) = Unit {0}
-IsQuietFor core owner.Copy = Unit {0}
+abbrev pub NoneFailsFor : Core → Owner → Type 0
+NoneFailsFor core (owner.Data id target) = (place : ℕ) → position (λ (o : Open). o.request.id == id) core.requests ≡ Some place → NoneFailsAt core place
+NoneFailsFor core (owner.Status disk) = Unit {0}
+NoneFailsFor core (owner.Note disk) = Unit {0}
+NoneFailsFor core owner.Copy = Unit {0}
 
 -- the request at a place holds a pin, or holds none
 abbrev pub HoldsPin : Core → ℕ → Bool → Type 0
@@ -119,7 +119,7 @@ pub record ReadsSame (old new : Core) : Type 0 where
 
 -- Of what requests read only the one at a place has changed, which has its number and its blocks, fails as it did, and goes on as it did while a copy is open; who
 -- waits of those that are freed; and what can be pinned of those that may pin.
-pub record Moves (freed pinning : Open → Bool) (old new : Core) (place : ℕ) : Type 0 where
+pub record RequestMoves (freed pinning : Open → Bool) (old new : Core) (place : ℕ) : Type 0 where
   pub reads : ReadsSame old new
   pub notes : new.cache.notes ≡ old.cache.notes
   pub was : Open

@@ -4,7 +4,7 @@ use Rattle.lvm_session.specs.Busy.{busy_core}
 use Rattle.lvm_session.specs.Worked.{core_of, flying}
 use Rattle.lvm_due.specs.declared.span.Span.{Span}
 use Rattle.lvm_due.specs.declared.due.Due.{Due}
-use Rattle.lvm_due.specs.Due.{IsDue, IsQuiet}
+use Rattle.lvm_due.specs.Due.{IsDue, NoneFailsAt}
 
 -- no place
 abbrev pub nowhere : Span
@@ -18,4 +18,4 @@ nothing = record { landing = nowhere; admission = nowhere; pinning = nowhere; no
 pub record DuesAreNarrow : Type 0 where
   pub busy : IsDue busy_core (record nothing { landing = record { from = 1; to = 2 } })
   pub writing : IsDue (core_of flying) (record nothing { «data» = record { from = 0; to = 1 } })
-  pub quiet : IsQuiet (core_of flying) 0
+  pub quiet : NoneFailsAt (core_of flying) 0

@@ -14,7 +14,7 @@ ghost use Rattle.lvm_session.specs.Events.{Admits, Lands, Pins, StartsData};
 ghost use Rattle.lvm_session.specs.Ends.{DataLearns, Learns, NoteLearns};
 ghost use Rattle.lvm_session.specs.Turns.{is_start, Makes};
 ghost use Rattle.lvm_session.specs.Sound.{IsGoing, IsTold};
-ghost use Rattle.lvm_due.specs.Due.{none, AddsMaking, Covers, HoldsPin, IsDue, IsQuiet, IsQuietFor, Moves};
+ghost use Rattle.lvm_due.specs.Due.{none, AddsMaking, Covers, HoldsPin, IsDue, NoneFailsAt, NoneFailsFor, RequestMoves};
 
 use crate::below::any_is_failing;
 use crate::making::{might_make_admission, might_make_data, might_make_landing, might_make_note};
@@ -77,7 +77,7 @@ impl Due {
     // The request at a place has changed: those that are freed may land or be admitted, and those of the entries may pin.
     fn moved(&mut self, session: &Session, place: usize, freed: Span, entries: Span)
         requires { place < length session.now.requests.items }
-        ensures { (frees pins : Open → Bool) (old : Core) → Covers frees session.now.requests.items (length session.now.requests.items) freed → Covers pins session.now.requests.items (length session.now.requests.items) entries → Moves frees pins old (core_of session.now) place → IsDue old self.old → IsDue (core_of session.now) self.new }
+        ensures { (frees pins : Open → Bool) (old : Core) → Covers frees session.now.requests.items (length session.now.requests.items) freed → Covers pins session.now.requests.items (length session.now.requests.items) entries → RequestMoves frees pins old (core_of session.now) place → IsDue old self.old → IsDue (core_of session.now) self.new }
     {
         self.add(session, place);
         join(&mut self.landing, freed);
@@ -88,7 +88,7 @@ impl Due {
     // So it has, where nothing else has; else all places are due.
     fn moved_if(&mut self, session: &Session, place: usize, still: bool, freed: Span, entries: Span)
         requires { place < length session.now.requests.items }
-        ensures { (frees pins : Open → Bool) (old : Core) → Covers frees session.now.requests.items (length session.now.requests.items) freed → Covers pins session.now.requests.items (length session.now.requests.items) entries → (still ≡ true → Moves frees pins old (core_of session.now) place) → IsDue old self.old → IsDue (core_of session.now) self.new }
+        ensures { (frees pins : Open → Bool) (old : Core) → Covers frees session.now.requests.items (length session.now.requests.items) freed → Covers pins session.now.requests.items (length session.now.requests.items) entries → (still ≡ true → RequestMoves frees pins old (core_of session.now) place) → IsDue old self.old → IsDue (core_of session.now) self.new }
     {
         if still {
             self.moved(session, place, freed, entries);
@@ -111,7 +111,7 @@ impl Due {
     /// It has been admitted; the session was quiet there before, and it held a pin, where this is so.
     pub fn admitted(&mut self, session: &Session, place: usize, quiet: bool, pinned: bool)
         requires there { place < length session.now.requests.items }
-        ensures { (old : State) → IsGoing old.core → (quiet ≡ true → IsQuiet old.core place) → HoldsPin old.core place pinned → Admits old (state old.device (core_of session.now)) place → IsDue old.core self.old → IsDue (core_of session.now) self.new }
+        ensures { (old : State) → IsGoing old.core → (quiet ≡ true → NoneFailsAt old.core place) → HoldsPin old.core place pinned → Admits old (state old.device (core_of session.now)) place → IsDue old.core self.old → IsDue (core_of session.now) self.new }
     {
         let still = stays_quiet(session, place, quiet);
         self.moved_if(
@@ -156,7 +156,7 @@ impl Due {
     // The transfer of the request at a place has ended well.
     fn data_ended_at(&mut self, session: &Session, place: usize, quiet: bool)
         requires { place < length session.now.requests.items }
-        ensures { (old : Core) → (quiet ≡ true → IsQuiet (core_of session.now) place → Moves none none old (core_of session.now) place) → IsDue old self.old → IsDue (core_of session.now) self.new }
+        ensures { (old : Core) → (quiet ≡ true → NoneFailsAt (core_of session.now) place → RequestMoves none none old (core_of session.now) place) → IsDue old self.old → IsDue (core_of session.now) self.new }
     {
         let still = stays_quiet(session, place, quiet);
         self.moved_if(session, place, still, Span::all(0), Span::all(0));
@@ -164,7 +164,7 @@ impl Due {
 
     // The transfer of the request of a number has ended well.
     fn data_ended(&mut self, session: &Session, id: u64, quiet: bool)
-        ensures { (old : Core) (at target : ℕ) (buf : Buffer) → IsGoing old → (quiet ≡ true → IsQuietFor old (whose.Data id target)) → DataLearns old at id target true buf (core_of session.now) → IsDue old self.old → IsDue (core_of session.now) self.new }
+        ensures { (old : Core) (at target : ℕ) (buf : Buffer) → IsGoing old → (quiet ≡ true → NoneFailsFor old (whose.Data id target)) → DataLearns old at id target true buf (core_of session.now) → IsDue old self.old → IsDue (core_of session.now) self.new }
     {
         match place_of(session, id) {
             None => self.fill(session),
@@ -183,7 +183,7 @@ impl Due {
 
     // A transfer has ended well.
     fn ended_well(&mut self, session: &Session, owner: Owner, quiet: bool)
-        ensures { (old : Core) (at : ℕ) (buf : Buffer) → IsGoing old → (quiet ≡ true → IsQuietFor old owner) → Learns owner old at true buf (core_of session.now) → IsDue old self.old → IsDue (core_of session.now) self.new }
+        ensures { (old : Core) (at : ℕ) (buf : Buffer) → IsGoing old → (quiet ≡ true → NoneFailsFor old owner) → Learns owner old at true buf (core_of session.now) → IsDue old self.old → IsDue (core_of session.now) self.new }
     {
         match owner {
             Owner::Data { id, .. } => self.data_ended(session, id, quiet),
@@ -195,7 +195,7 @@ impl Due {
     /// A transfer has ended, and its owner has learned how; the session was quiet before at the place of its request, where
     /// this is so.
     pub fn ended(&mut self, session: &Session, owner: Owner, ok: bool, quiet: bool)
-        ensures { (old : Core) (at : ℕ) (buf : Buffer) → IsGoing old → (quiet ≡ true → IsQuietFor old owner) → Learns owner old at ok buf (core_of session.now) → IsDue old self.old → IsDue (core_of session.now) self.new }
+        ensures { (old : Core) (at : ℕ) (buf : Buffer) → IsGoing old → (quiet ≡ true → NoneFailsFor old owner) → Learns owner old at ok buf (core_of session.now) → IsDue old self.old → IsDue (core_of session.now) self.new }
     {
         if ok {
             self.ended_well(session, owner, quiet);

@@ -3,7 +3,7 @@ ghost use Rattle.std.specs.Prelude.{◌≡◌, ◌≤◌, ◌<◌, ◌^◌, ◌&
 ghost use Rattle.std.specs.List.{list_any, list_all};
 ghost use Rattle.lvm_num.specs.Descriptor.{IsValid};
 ghost use Rattle.lvm_num.specs.Status.{calls_dirty};
-ghost use Rattle.lvm_due.specs.passed.FactsNames.{is_named, core_of, IsWithin, copies_for, facts_of, has_dirty_mark, has_names, is_changed, is_held_back, is_kept, is_marked, is_pending, is_usable, mode_of, next_for};
+ghost use Rattle.lvm_due.specs.passed.FactsNames.{is_named, core_of, IsWithinVolume, copies_for, facts_of, has_dirty_mark, has_names, is_changed, is_held_back, is_kept, is_marked, is_pending, is_usable, mode_of, next_for};
 ghost use Rattle.lvm_path.specs.declared.target.Target.{Target};
 ghost use Rattle.lvm_path.specs.declared.request.Phase.TheVariants as phase;
 ghost use Rattle.lvm_path.specs.Asks.{at_of, is_write};
@@ -24,7 +24,7 @@ use lvm_path::{Ask, Facts, Next, Phase, Request, Target};
 /// Whether some copy of its logical partition is usable.
 pub fn has_usable(session: &Session, ask: &Ask) -> bool
     requires valid { IsValid session.now.descriptor }
-    requires within { IsWithin session.now.descriptor ask.now }
+    requires within { IsWithinVolume session.now.descriptor ask.now }
     ensures { result ≡ list_any (is_usable (core_of session.now)) (copies_for (core_of session.now) ask.now) }
 {
     any_is_usable(session, copies_for(session, ask))
@@ -89,7 +89,7 @@ fn is_settled_dirty(session: &Session, lv: u16) -> bool
 /// Whether it is a write whose targets are no longer the copies to which it goes.
 pub fn is_changed(session: &Session, request: &Request) -> bool
     requires valid { IsValid session.now.descriptor }
-    requires within { IsWithin session.now.descriptor request.now.ask }
+    requires within { IsWithinVolume session.now.descriptor request.now.ask }
     ensures { result ≡ is_changed (core_of session.now) request.now }
 {
     request.ask.is_write()
@@ -112,7 +112,7 @@ pub fn is_unbegun(request: &Request) -> bool
 // Whether another is in its way, or something is pending.
 fn must_wait(session: &Session, request: &Request, unfailing: bool) -> bool
     requires valid { IsValid session.now.descriptor }
-    requires within { IsWithin session.now.descriptor request.now.ask }
+    requires within { IsWithinVolume session.now.descriptor request.now.ask }
     requires unfailing { NoneFails (core_of session.now) unfailing }
     requires id { request.now.id < 2 ^ 32 }
     requires queued { IsQueued (core_of session.now) request.now }
@@ -126,7 +126,7 @@ fn must_wait(session: &Session, request: &Request, unfailing: bool) -> bool
 // Of one that isn't admitted; what is pending counts as in its way.
 fn held_facts(session: &Session, request: &Request, unfailing: bool) -> Facts
     requires valid { IsValid session.now.descriptor }
-    requires within { IsWithin session.now.descriptor request.now.ask }
+    requires within { IsWithinVolume session.now.descriptor request.now.ask }
     requires unfailing { NoneFails (core_of session.now) unfailing }
     requires id { request.now.id < 2 ^ 32 }
     requires queued { IsQueued (core_of session.now) request.now }
@@ -142,7 +142,7 @@ fn held_facts(session: &Session, request: &Request, unfailing: bool) -> Facts
 // Of a write that has its targets and hasn't started its data.
 fn chosen_facts(session: &Session, request: &Request, unfailing: bool) -> Facts
     requires valid { IsValid session.now.descriptor }
-    requires within { IsWithin session.now.descriptor request.now.ask }
+    requires within { IsWithinVolume session.now.descriptor request.now.ask }
     requires unfailing { NoneFails (core_of session.now) unfailing }
     ensures { result ≡ record (facts_of (core_of session.now) request.now) { blocked = false; marked = false; kept = false } }
 {
@@ -160,7 +160,7 @@ fn chosen_facts(session: &Session, request: &Request, unfailing: bool) -> Facts
 // Of a write that waits for its entry: what is pending is read only where it matters.
 fn entry_facts(session: &Session, request: &Request, unfailing: bool) -> Facts
     requires valid { IsValid session.now.descriptor }
-    requires within { IsWithin session.now.descriptor request.now.ask }
+    requires within { IsWithinVolume session.now.descriptor request.now.ask }
     requires unfailing { NoneFails (core_of session.now) unfailing }
     ensures { next_in phase.WantEntry result request.now ≡ next_in phase.WantEntry (facts_of (core_of session.now) request.now) request.now }
 {
@@ -206,7 +206,7 @@ fn no_facts() -> Facts
 // Of one that has its targets, and whose data may go to them.
 fn data_facts(session: &Session, request: &Request, unfailing: bool) -> Facts
     requires valid { IsValid session.now.descriptor }
-    requires within { IsWithin session.now.descriptor request.now.ask }
+    requires within { IsWithinVolume session.now.descriptor request.now.ask }
     requires unfailing { NoneFails (core_of session.now) unfailing }
     ensures { next_in phase.Data result request.now ≡ next_in phase.Data (facts_of (core_of session.now) request.now) request.now }
 {
@@ -220,7 +220,7 @@ fn data_facts(session: &Session, request: &Request, unfailing: bool) -> Facts
 // The facts that a request reads in its phase.
 fn read_facts(session: &Session, request: &Request, unfailing: bool) -> Facts
     requires valid { IsValid session.now.descriptor }
-    requires within { IsWithin session.now.descriptor request.now.ask }
+    requires within { IsWithinVolume session.now.descriptor request.now.ask }
     requires unfailing { NoneFails (core_of session.now) unfailing }
     requires id { request.now.id < 2 ^ 32 }
     requires queued { IsQueued (core_of session.now) request.now }
@@ -239,7 +239,7 @@ fn read_facts(session: &Session, request: &Request, unfailing: bool) -> Facts
 /// What a request that hasn't landed does next.
 pub fn next_of(session: &Session, open: &Open, unfailing: bool) -> Next
     requires valid { IsValid session.now.descriptor }
-    requires within { IsWithin session.now.descriptor open.now.request.ask }
+    requires within { IsWithinVolume session.now.descriptor open.now.request.ask }
     requires unfailing { NoneFails (core_of session.now) unfailing }
     requires id { open.now.request.id < 2 ^ 32 }
     requires targets { length open.now.request.targets.items ≤ 4 }

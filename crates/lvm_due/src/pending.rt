@@ -6,7 +6,7 @@ ghost use Rattle.lvm_num.specs.Descriptor.{IsValid};
 ghost use Rattle.lvm_num.specs.Geometry.{partition_blocks};
 ghost use Rattle.lvm_path.specs.declared.target.Target.{Target};
 ghost use Rattle.lvm_path.specs.Asks.{at_of};
-ghost use Rattle.lvm_due.specs.passed.FactsNames.{Open, core_of, IsWithin, counts_failed, is_beside, is_failing, is_pending, is_settled, is_waiting, is_wanted_stale, lp_of};
+ghost use Rattle.lvm_due.specs.passed.FactsNames.{Open, core_of, IsWithinVolume, counts_failed, is_beside, is_failing, is_pending, is_settled, is_waiting, is_wanted_stale, lp_of};
 ghost use Rattle.lvm_due.specs.Due.{NoneFails};
 
 use crate::below::{Open, Session};
@@ -113,7 +113,7 @@ fn any_fails_beside(session: &Session, request: &Request, unfailing: bool) -> bo
 /// or a move of a copy of it is done.
 pub fn is_pending(session: &Session, request: &Request, unfailing: bool) -> bool
     requires valid { IsValid session.now.descriptor }
-    requires within { IsWithin session.now.descriptor request.now.ask }
+    requires within { IsWithinVolume session.now.descriptor request.now.ask }
     requires unfailing { NoneFails (core_of session.now) unfailing }
     ensures { result ≡ is_pending (core_of session.now) request.now }
 {

@@ -1,7 +1,7 @@
 //! What a request might do next, as far as that shows without its facts.
 ghost use Rattle.std.specs.Prelude.{◌≡◌};
 ghost use Rattle.lvm_num.specs.Descriptor.{IsValid};
-ghost use Rattle.lvm_due.specs.passed.FactsNames.{core_of, IsWithin};
+ghost use Rattle.lvm_due.specs.passed.FactsNames.{core_of, IsWithinVolume};
 ghost use Rattle.lvm_due.specs.Might.{any_is_usable, any_waits, are_at_rest, might_admit, might_land, might_pin, might_start, might_transfer, none_goes};
 
 use crate::below::Session;
@@ -45,7 +45,7 @@ fn any_is_usable(session: &Session, targets: &[Target]) -> bool
 // Whether it might land: no copy is usable of one that hasn't started its data, or its transfers may have ended.
 pub fn might_land(session: &Session, request: &Request) -> bool
     requires valid { IsValid session.now.descriptor }
-    requires within { IsWithin session.now.descriptor request.now.ask }
+    requires within { IsWithinVolume session.now.descriptor request.now.ask }
     ensures { result ≡ might_land (core_of session.now) request.now }
 {
     match request.phase {
@@ -66,7 +66,7 @@ pub fn might_land(session: &Session, request: &Request) -> bool
 // Whether it might be admitted, or admitted again: it is held, or hasn't started its data, and its targets are others.
 pub fn might_admit(session: &Session, request: &Request) -> bool
     requires valid { IsValid session.now.descriptor }
-    requires within { IsWithin session.now.descriptor request.now.ask }
+    requires within { IsWithinVolume session.now.descriptor request.now.ask }
     ensures { result ≡ might_admit (core_of session.now) request.now }
 {
     match request.phase {
@@ -95,7 +95,7 @@ pub fn might_transfer(request: &Request) -> bool
 // Whether a transfer of it might be started: it waits for its record, and notes name its track group; or its data may go,
 // and a transfer isn't started.
 pub fn might_start(session: &Session, request: &Request) -> bool
-    requires within { IsWithin session.now.descriptor request.now.ask }
+    requires within { IsWithinVolume session.now.descriptor request.now.ask }
     ensures { result ≡ might_start (core_of session.now) request.now }
 {
     match request.phase {

@@ -4,7 +4,7 @@ ghost use Rattle.std.specs.List.{list_any};
 ghost use Rattle.lvm_session.specs.declared.open.Open.{Open};
 ghost use Rattle.lvm_session.specs.Fields.{core_of};
 ghost use Rattle.lvm_session.specs.Judging.{counts_failed};
-ghost use Rattle.lvm_due.specs.Due.{any_fails, IsCalm, IsQuiet, IsQuietFor};
+ghost use Rattle.lvm_due.specs.Due.{any_fails, WantsNothing, NoneFailsAt, NoneFailsFor};
 
 use crate::below::counts_failed;
 use lvm_path::Target;
@@ -12,7 +12,7 @@ use lvm_session::{Open, Owner, Session};
 
 // Answers yes only where no copy is open, and nothing is wanted of the status that isn't committed.
 fn is_calm(session: &Session) -> bool
-    ensures { result ≡ true → IsCalm (core_of session.now) }
+    ensures { result ≡ true → WantsNothing (core_of session.now) }
 {
     if session.copy.is_some() || session.updater.in_flight().is_some() {
         return false;
@@ -57,7 +57,7 @@ pub fn place_of(session: &Session, id: u64) -> Option<usize>
 /// request at a place counts as failed.
 pub fn is_quiet(session: &Session, place: usize) -> bool
     requires { place < length session.now.requests.items }
-    ensures { result ≡ true → IsQuiet (core_of session.now) place }
+    ensures { result ≡ true → NoneFailsAt (core_of session.now) place }
 {
     if !is_calm(session) {
         return false;
@@ -69,7 +69,7 @@ pub fn is_quiet(session: &Session, place: usize) -> bool
 pub fn stays_quiet(session: &Session, place: usize, quiet: bool) -> bool
     requires { place < length session.now.requests.items }
     ensures was { result ≡ true → quiet ≡ true }
-    ensures is { result ≡ true → IsQuiet (core_of session.now) place }
+    ensures is { result ≡ true → NoneFailsAt (core_of session.now) place }
 {
     if !quiet {
         return false;
@@ -80,7 +80,7 @@ pub fn stays_quiet(session: &Session, place: usize, quiet: bool) -> bool
 // Answers yes only where it is so at this place, where there is one.
 fn is_quiet_at(session: &Session, place: Option<usize>) -> bool
     requires { IfSome place (λ k. k < length session.now.requests.items) }
-    ensures { result ≡ true → (k : ℕ) → place ≡ Some k → IsQuiet (core_of session.now) k }
+    ensures { result ≡ true → (k : ℕ) → place ≡ Some k → NoneFailsAt (core_of session.now) k }
 {
     match place {
         None => false,
@@ -90,7 +90,7 @@ fn is_quiet_at(session: &Session, place: Option<usize>) -> bool
 
 /// Answers yes only where it is so at the place of the request whose transfer this is.
 pub fn is_quiet_for(session: &Session, owner: Owner) -> bool
-    ensures { result ≡ true → IsQuietFor (core_of session.now) owner }
+    ensures { result ≡ true → NoneFailsFor (core_of session.now) owner }
 {
     match owner {
         Owner::Data { id, .. } => is_quiet_at(session, place_of(session, id)),

@@ -6,7 +6,7 @@ ghost use Rattle.lvm_num.specs.Descriptor.{IsValid, is_size};
 ghost use Rattle.lvm_session.specs.passed.Names.{at_of};
 ghost use Rattle.lvm_session.specs.Bringing.{is_whole};
 ghost use Rattle.lvm_session.specs.Fields.{core_of};
-ghost use Rattle.lvm_session.specs.Judging.{IsWithin, copies_for, group_in, group_of, is_beside_copy, is_caught, is_missing, is_running, is_settled, is_stale, is_sure, is_usable, is_wanted_stale, lp_of, mode_of, place_aims, places_for, policy_of, pps_of, same_pps};
+ghost use Rattle.lvm_session.specs.Judging.{IsWithinVolume, copies_for, group_in, group_of, is_beside_copy, is_caught, is_missing, is_running, is_settled, is_stale, is_sure, is_usable, is_wanted_stale, lp_of, mode_of, place_aims, places_for, policy_of, pps_of, same_pps};
 
 use crate::facts_places::{is_pp, partition_blocks};
 use lvm_num::{Mode, Policy, Pp, copies_of, volume_of};
@@ -126,7 +126,7 @@ pub fn policy_of(session: &Session, ask: &Ask) -> Policy
 /// The copies of the logical partition of a request.
 pub fn copies_for<'a>(session: &'a Session, ask: &Ask) -> &'a [Pp]
     requires valid { IsValid session.now.descriptor }
-    requires within { IsWithin session.now.descriptor ask.now }
+    requires within { IsWithinVolume session.now.descriptor ask.now }
     ensures { result.now ≡ copies_for (core_of session.now) ask.now }
 {
     match volume_of(&session.descriptor, ask.lv()) {

@@ -3,7 +3,7 @@ ghost use Rattle.std.specs.Prelude.{◌≡◌, ◌≤◌, ◌<◌, ◌^◌, ◌&
 ghost use Rattle.lvm_num.specs.Descriptor.{IsValid};
 ghost use Rattle.lvm_path.specs.Asks.{at_of};
 ghost use Rattle.lvm_session.specs.Fields.{core_of};
-ghost use Rattle.lvm_session.specs.Judging.{IsWithin, copies_for, is_changed, places_for};
+ghost use Rattle.lvm_session.specs.Judging.{IsWithinVolume, copies_for, is_changed, places_for};
 ghost use Rattle.lvm_session.specs.Left.{begun_left, if_so, is_brought_up, is_held, lacks_dirty, lacks_note, phase_left, place_turns, turns_of, unbegun_left, waiting_targets, write_left};
 ghost use Rattle.lvm_session.specs.Requests.{IsLaid};
 
@@ -151,7 +151,7 @@ fn lacks_dirty(session: &Session, request: &Request) -> bool
 // Whether it is admitted with targets that are no longer those.
 fn is_stray(session: &Session, request: &Request) -> bool
     requires valid { IsValid session.now.descriptor }
-    requires within { IsWithin session.now.descriptor request.now.ask }
+    requires within { IsWithinVolume session.now.descriptor request.now.ask }
     ensures { result ≡ (not (is_held request.now.phase) && is_changed (core_of session.now) request.now) }
 {
     !matches!(request.phase, Phase::Held) && is_changed(session, request)

@@ -8,7 +8,7 @@ use Rattle.lvm_disk.specs.Device.{Flight, image_of}
 use Rattle.lvm_disk.proofs.CountingLemmas.{none_falls_at_once}
 use Rattle.lvm_disk.proofs.passed.Names.{all_at}
 use Rattle.lvm_kept.specs.Contents.{contents_of}
-use Rattle.lvm_vol.specs.Facts.{Request, Fact, Begun, Taken, Cut, Stands, joined, same_request}
+use Rattle.lvm_vol.specs.Facts.{Request, Fact, Begun, Taken, Cut, IsInList, joined, same_request}
 use Rattle.lvm_vol.specs.Legal.{Fits, Legal, TakenOnce, lands, takes}
 use Rattle.lvm_vol.specs.Log.{asked, is_answered, request_of, taken_fact, with_fact}
 use Rattle.lvm_vol.proofs.LogLemmas.{follows_taken, found_of}
@@ -38,7 +38,7 @@ use Rattle.lvm_going_laws.specs.Laws.{RunsGood}
 
 -- ---- without the cut between an earlier history and this one
 
-stands_unjoined : (past facts : List Fact) (r : Request) → Stands (Begun r) (joined past facts) → Stands (Begun r) (past ++ facts)
+stands_unjoined : (past facts : List Fact) (r : Request) → IsInList (Begun r) (joined past facts) → IsInList (Begun r) (past ++ facts)
 stands_unjoined [] facts r (inl here) = absurd (cc here)
 stands_unjoined [] facts r (inr there) = there
 stands_unjoined (f ∷ past) facts r (inl here) = inl here

@@ -13,7 +13,7 @@ use Rattle.lvm_quorum.specs.Surveyed.{surveyed}
 use Rattle.lvm_quorum.specs.passed.Survey.{under}
 use Rattle.lvm_quorum.proofs.SurveyedLemmas.SurveyRows.{descriptor_shown, status_shown}
 use Rattle.lvm_group.specs.Shown.{HasGroup, ShowsEarlier, ShowsMoment}
-use Rattle.lvm_group.specs.Judged.{IsTaken, HasMoment, IsLastOf}
+use Rattle.lvm_group.specs.Judged.{DiskIsTaken, HasMoment, IsLastOf}
 
 -- ---- from what is shown to a row
 
@@ -37,7 +37,7 @@ status_row s d r is = row_shown (λ row. row.status) (λ row. row.status_stamp) 
 
 -- ---- a group
 
-pub taken_shows : (s : Survey) (force : Bool) (d : ℕ) (row : SurveyRow) → slice_get s.rows d ≡ Some row → IsTaken row force → HasGroup (surveyed s) force
+pub taken_shows : (s : Survey) (force : Bool) (d : ℕ) (row : SurveyRow) → slice_get s.rows d ≡ Some row → DiskIsTaken row force → HasGroup (surveyed s) force
 taken_shows s force d row at taken = record {
   disk = d;
   newest = record { stamp = row.descriptor_stamp; value = taken.group };
@@ -47,7 +47,7 @@ taken_shows s force d row at taken = record {
 
 -- none of the rows below one is of a disk in a group
 abbrev pub NoneTaken : Survey → Bool → ℕ → Type 0
-NoneTaken s force n = (d : ℕ) (row : SurveyRow) → d < n → slice_get s.rows d ≡ Some row → IsTaken row force → ⊥
+NoneTaken s force n = (d : ℕ) (row : SurveyRow) → d < n → slice_get s.rows d ≡ Some row → DiskIsTaken row force → ⊥
 
 pub none_shown : (s : Survey) (force : Bool) (n : ℕ) → length s.rows ≤ n → NoneTaken s force n → HasGroup (surveyed s) force → ⊥
 none_shown s force n all none has =

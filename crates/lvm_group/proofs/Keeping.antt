@@ -30,7 +30,7 @@ use Rattle.lvm_disk.specs.Steps.{BothTold}
 use Rattle.lvm_disk.specs.Paths.{DeviceStep, Path}
 use Rattle.lvm_kept.specs.Plans.{ChangesBy}
 use Rattle.lvm_steps.specs.Moments.{StaysKept}
-use Rattle.lvm_steps.specs.Behind.{StampsBefore, beginning_at, IsBehind}
+use Rattle.lvm_steps.specs.Behind.{StampsBefore, beginning_at, StampsAreEarlier}
 use Rattle.lvm_steps.proofs.LawsLemmas.Records.{session_may_go}
 use Rattle.lvm_steps.proofs.LawsLemmas.Stamps.{before_is_behind}
 use Rattle.lvm_rec.specs.declared.homes.Homes.{Homes}
@@ -123,7 +123,7 @@ pub record IsBeginning (w : NewGroup) (device : Device) (homes : Homes) : Type 0
   pub later : IfShown device (λ c. ShowsEarlier c w.moment)
   pub spares : SparesTold homes device
   pub whole : HasSectors device
-  pub behind : IsBehind w.moment device
+  pub behind : StampsAreEarlier w.moment device
 
 module _ (w : NewGroup) (device : Device) (homes : Homes) (its : IsBeginning w device homes) where
   abbrev pub b : Beginning
@@ -196,7 +196,7 @@ module _ (w : NewGroup) (device : Device) (homes : Homes) (its : IsBeginning w d
       (told_by device.media (λ m. StampsBefore (beginning_at w.moment) (image_of device.sizes m)) was.0 was.1 its.behind)
 
   -- whatever became of them, what stands there is of this session or of earlier ones
-  pub then_behind : (new : Device) → KeepsShelf (among w.disks) (IsOfParts b new_order) device new → IsBehind (w.moment + 1) new
+  pub then_behind : (new : Device) → KeepsShelf (among w.disks) (IsOfParts b new_order) device new → StampsAreEarlier (w.moment + 1) new
   then_behind new keeps = before_is_behind (record { epoch = w.moment; seq = 3 }) (w.moment + 1) new (omega arith)
       (if_told new.media (λ is. StampsBefore (record { epoch = w.moment; seq = 3 }) (image_of new.sizes is)) (λ is told_new. stamps_then new keeps is told_new))
 

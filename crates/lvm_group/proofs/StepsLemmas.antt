@@ -16,7 +16,7 @@ use Rattle.lvm_kept.specs.Moments.{Moment, StaysCalm}
 use Rattle.lvm_steps.specs.Moments.{Keeps}
 use Rattle.lvm_steps.specs.Requests.{at}
 use Rattle.lvm_steps.proofs.MomentsLemmas.Spans.{keeps_still, keeps_steps, steps_go_on, disks_go_out}
-use Rattle.lvm_steps.specs.Behind.{IsBehind, IsAhead, ClockIsAhead}
+use Rattle.lvm_steps.specs.Behind.{StampsAreEarlier, IsAhead, ClockIsAhead}
 use Rattle.lvm_steps.proofs.LawsLemmas.Clock.{all_is_behind_next}
 use Rattle.lvm_steps.proofs.LawsLemmas.Shelves.{unwritten_stays_behind}
 use Rattle.lvm_transfer.specs.Reading.{IsUnwritten, OnlyReads}
@@ -29,11 +29,11 @@ use Rattle.lvm_write.specs.Beginning.{Beginning, new_beginning, new_order, IsOfP
 use Rattle.lvm_write.specs.Ends.{BothFlip}
 use Rattle.lvm_write.specs.Kept.{NewStaysKept}
 use Rattle.lvm_group.specs.passed.Names.{Room, Cause, BringsOn, StartsHeld, Parts, IsReservedFor, first_core}
-use Rattle.lvm_group.specs.NewGroup.{NewGroup, among, sectors_on, size_for, new_group, new_status, given_up, first_absent, first_too_small, MayBegin}
+use Rattle.lvm_group.specs.NewGroup.{NewGroup, among, sectors_on, size_for, new_group, new_status, given_up, first_absent, first_too_small, MayMakeGroup}
 use Rattle.lvm_group.specs.Shown.{IfShown, HasGroup, ShowsEarlier, SparesTold}
 use Rattle.lvm_group.specs.Planned.{IsPlanned}
 use Rattle.lvm_group.specs.Made.{beginning_for, MkvgRefuses}
-use Rattle.lvm_group.specs.Steps.{LetsMake, AreWritten, WritingFails, NewWritesGive, Stands, cuts_power, cut_at, standing_of}
+use Rattle.lvm_group.specs.Steps.{LetsMake, AreWritten, WritingFails, NewWritesGive, RecordsStand, cuts_power, cut_at, standing_of}
 use Rattle.lvm_group.specs.declared.look.Free.{Free}
 use Rattle.lvm_group.specs.declared.plan.Plan.{Plan}
 use Rattle.lvm_group.proofs.MadeLemmas.Composing.{cut_where, same_beginning, refuses_writing, stands}
@@ -66,7 +66,7 @@ module _ (run moment : ℕ) (old mid : Device) (was : Log) (un : IsUnwritten old
   pub ahead_still : IsAhead run moment old was.facts → IsAhead run moment mid was.facts
   ahead_still ahead = record { run_is = ahead.run_is; later = ahead.later; behind = unwritten_stays_behind moment old mid un.sizes un.media ahead.behind }
 
-  pub read_behind : HasSectors mid → moment < 2 ^ 64 → ClockIsAhead run moment old was.facts → IsBehind (moment + 1) mid
+  pub read_behind : HasSectors mid → moment < 2 ^ 64 → ClockIsAhead run moment old was.facts → StampsAreEarlier (moment + 1) mid
   read_behind whole small clock = all_is_behind_next run moment mid was.facts whole small (λ first. ahead_still (clock first))
 
 -- nothing else is left where the disks are only read
@@ -92,7 +92,7 @@ still_spares old mid homes sizes media spares =
     (subst (λ (o : Option Media). IfSome o (λ m. (d : ℕ) → has_records (image_of old.sizes m) d ≡ true → SparesNewest homes (image_of old.sizes m) d)) (sym media) spares)
 
 module _ (w : NewGroup) (room : Room) (was : Log) (old mid : Device) (free : Free) (plan : Plan)
-    (may : MayBegin old.sizes (spare_entries was) w.disks w.mib) (found : LetsMake w.force w.moment old mid free)
+    (may : MayMakeGroup old.sizes (spare_entries was) w.disks w.mib) (found : LetsMake w.force w.moment old mid free)
     (planned : IsPlanned old.sizes w.name (size_for old.sizes w.disks w.mib) w.disks w.moment room plan) (size : 1 ≤ size_for old.sizes w.disks w.mib) where
   un : IsUnwritten old mid
   un = found.reads.unwritten
@@ -145,7 +145,7 @@ module _ (w : NewGroup) (room : Room) (was : Log) (old mid : Device) (free : Fre
     refuses_written (Ok next) gives = tt
     refuses_written (Err why) off = refuses_writing w was old mid new free may found keeps_old before left why (record { falls = only.falls; waits = only.waited }) (subst (λ (b : Beginning). WritingFails b left mid new why) as_old off)
 
-    pub stands_written : (r : Result Homes Cause) → NewWritesGive bytes_written left mid new r → IfOk r (λ next. Stands w room was (given_up was w.disks) old new (record { parts = plan.parts; homes = next }))
+    pub stands_written : (r : Result Homes Cause) → NewWritesGive bytes_written left mid new r → IfOk r (λ next. RecordsStand w room was (given_up was w.disks) old new (record { parts = plan.parts; homes = next }))
     stands_written (Ok next) gives =
         stands w was old mid new free may found keeps_old size room plan next planned (subst (λ (b : Beginning). AreWritten b mid new) as_old gives.0)
         (subst (λ (b : Beginning). BothFlip b.targets free.homes next) as_old gives.1) (given_up was w.disks) refl
@@ -175,8 +175,8 @@ module _ (w : NewGroup) (room : Room) (was : Log) (old mid : Device) (free : Fre
 -- ---- and a cut is entered
 
 module _ (w : NewGroup) (room : Room) (before after : ℕ) (was mid is : Log) (old new : Device) (parts : Parts) where
-  pub made_then : (r : Result Homes Cause) → is ≡ cut_at r mid → IfOk r (λ next. Stands w room was mid old new (record { parts = parts; homes = next })) → IfOk (standing_of parts r) (Stands w room was is old new)
-  made_then (Ok next) same stands = subst (λ (l : Log). Stands w room was l old new (record { parts = parts; homes = next })) (sym same) stands
+  pub made_then : (r : Result Homes Cause) → is ≡ cut_at r mid → IfOk r (λ next. RecordsStand w room was mid old new (record { parts = parts; homes = next })) → IfOk (standing_of parts r) (RecordsStand w room was is old new)
+  made_then (Ok next) same stands = subst (λ (l : Log). RecordsStand w room was l old new (record { parts = parts; homes = next })) (sym same) stands
   made_then (Err why) same stands = tt
 
   pub refused_then : (r : Result Homes Cause) → is ≡ cut_at r mid → IfErr r (MkvgRefuses w before was (cut_at r mid) old new) → IfErr (standing_of parts r) (MkvgRefuses w before was is old new)

@@ -13,7 +13,7 @@ use Rattle.lvm_group.specs.Shown.{HasGroup, ShowsEarlier, IsLastShown}
 -- ---- a row
 
 -- the disk is in a group; with force, in one that has a volume
-pub record IsTaken (row : SurveyRow) (force : Bool) : Type 0 where
+pub record DiskIsTaken (row : SurveyRow) (force : Bool) : Type 0 where
   pub group : Descriptor
   pub on : row.descriptor ≡ Some group
   pub with_force : force ≡ true → group.lvs ≡ [] → ⊥

@@ -13,7 +13,7 @@ use Rattle.lvm_write.specs.Beginning.{Beginning, Part, new_beginning, new_order,
 use Rattle.lvm_write.specs.Ends.{BothFlip, HasNoFault, IsLowestFailed, WasTriedOnTargets}
 use Rattle.lvm_group.specs.passed.Names.{Room, Cause, Refused, Parts, IsReservedFor, first_core, Core}
 use Rattle.lvm_group.specs.passed.CoreRefusedCause as cause
-use Rattle.lvm_group.specs.NewGroup.{NewGroup, among, new_group, new_status, given_up, MayBegin, RefusesFirst}
+use Rattle.lvm_group.specs.NewGroup.{NewGroup, among, new_group, new_status, given_up, MayMakeGroup, RefusesFirst}
 use Rattle.lvm_group.specs.Shown.{IfShown, HasGroup, IsClockBehindDisks, IsUnread, AllRead, AreFree, IsClear, SparesTold}
 
 -- ---- what is written
@@ -67,7 +67,7 @@ pub record IsMade (w : NewGroup) (room : Room) (was : Log) (old new : Device) (c
   pub core_is : core ≡ first_core reserved (given_up was w.disks) (record { epoch = w.moment; seq = 2 }) next core.origin.faults
 
 -- nothing has happened
-pub record IsIdle (was is : Log) (old new : Device) : Type 0 where
+pub record NothingHappened (was is : Log) (old new : Device) : Type 0 where
   pub shelf : new ≡ old
   pub history : is ≡ was
 
@@ -79,7 +79,7 @@ pub record HasRead (was is : Log) (old new : Device) : Type 0 where
 
 -- the power was cut while disks were read
 pub record IsCutReading (w : NewGroup) (was is : Log) (old new : Device) : Type 0 where
-  pub may : MayBegin old.sizes (spare_entries was) w.disks w.mib
+  pub may : MayMakeGroup old.sizes (spare_entries was) w.disks w.mib
   pub unwritten : IsUnwritten old new
   pub cut : IsCutOff old new
   pub entered : is ≡ cut_log was
@@ -93,7 +93,7 @@ pub record IsCutWriting (w : NewGroup) (was is : Log) (old new : Device) : Type 
 
 -- nothing was heard of a read
 pub record IsStuckReading (w : NewGroup) (patience : ℕ) (was is : Log) (old new : Device) : Type 0 where
-  pub may : MayBegin old.sizes (spare_entries was) w.disks w.mib
+  pub may : MayMakeGroup old.sizes (spare_entries was) w.disks w.mib
   pub unwritten : IsUnwritten old new
   pub stuck : IsReadStuck 0 patience old new
   pub entered : is ≡ was
@@ -105,13 +105,13 @@ pub record IsStuckWriting (w : NewGroup) (patience : ℕ) (was is : Log) (old ne
 
 -- a disk couldn't be read, and none below it
 pub record HasUnread (w : NewGroup) (was is : Log) (old new : Device) (disk : ℕ) : Type 0 where
-  pub may : MayBegin old.sizes (spare_entries was) w.disks w.mib
+  pub may : MayMakeGroup old.sizes (spare_entries was) w.disks w.mib
   pub read : HasRead was is old new
   pub unread : IsUnread old new disk
 
 -- memory was wanting before the first write, where nothing stood against the group before any disk was read
 pub record LacksMemory (w : NewGroup) (was is : Log) (old new : Device) : Type 0 where
-  pub may : MayBegin old.sizes (spare_entries was) w.disks w.mib
+  pub may : MayMakeGroup old.sizes (spare_entries was) w.disks w.mib
   pub unwritten : IsUnwritten old new
   pub rested : IsRested old new
   pub history : is ≡ was
@@ -124,12 +124,12 @@ pub record HasUnwritten (w : NewGroup) (was is : Log) (old new : Device) (disk :
 
 -- Why no group was made: each cause that a clause of its own gives comes exactly where it holds and those before it don't; want of memory, which is free, only where none holds that is judged before any disk is read.
 abbrev pub MkvgRefuses : NewGroup → ℕ → Log → Log → Device → Device → Cause → Type 0
-MkvgRefuses w patience was is old new (cause.NoDisk disk) = IsIdle was is old new × RefusesFirst old.sizes (spare_entries was) w.disks w.mib (cause.NoDisk disk)
-MkvgRefuses w patience was is old new (cause.TooMany limit) = IsIdle was is old new × RefusesFirst old.sizes (spare_entries was) w.disks w.mib (cause.TooMany limit)
-MkvgRefuses w patience was is old new (cause.TooSmall disk) = IsIdle was is old new × RefusesFirst old.sizes (spare_entries was) w.disks w.mib (cause.TooSmall disk)
-MkvgRefuses w patience was is old new cause.HistoryFull = IsIdle was is old new × RefusesFirst old.sizes (spare_entries was) w.disks w.mib cause.HistoryFull
+MkvgRefuses w patience was is old new (cause.NoDisk disk) = NothingHappened was is old new × RefusesFirst old.sizes (spare_entries was) w.disks w.mib (cause.NoDisk disk)
+MkvgRefuses w patience was is old new (cause.TooMany limit) = NothingHappened was is old new × RefusesFirst old.sizes (spare_entries was) w.disks w.mib (cause.TooMany limit)
+MkvgRefuses w patience was is old new (cause.TooSmall disk) = NothingHappened was is old new × RefusesFirst old.sizes (spare_entries was) w.disks w.mib (cause.TooSmall disk)
+MkvgRefuses w patience was is old new cause.HistoryFull = NothingHappened was is old new × RefusesFirst old.sizes (spare_entries was) w.disks w.mib cause.HistoryFull
 MkvgRefuses w patience was is old new (cause.DiskFailed disk) = HasUnread w was is old new disk ⊎ HasUnwritten w was is old new disk
-MkvgRefuses w patience was is old new cause.GroupExists = HasRead was is old new × MayBegin old.sizes (spare_entries was) w.disks w.mib × AllRead old new × IfShown old (λ c. HasGroup c w.force)
+MkvgRefuses w patience was is old new cause.GroupExists = HasRead was is old new × MayMakeGroup old.sizes (spare_entries was) w.disks w.mib × AllRead old new × IfShown old (λ c. HasGroup c w.force)
 MkvgRefuses w patience was is old new (cause.ClockBack seen) = HasRead was is old new × AreFree w was old new × IsClockBehindDisks old w.moment seen
 MkvgRefuses w patience was is old new cause.Dark = IsCutReading w was is old new ⊎ IsCutWriting w was is old new
 MkvgRefuses w patience was is old new cause.Stuck = IsStuckReading w patience was is old new ⊎ IsStuckWriting w patience was is old new

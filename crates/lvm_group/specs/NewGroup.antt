@@ -114,7 +114,7 @@ pub record AreFit (sizes disks : List ℕ) (given : Option ℕ) : Type 0 where
   pub fit : first_too_small sizes (size_for sizes disks given) disks ≡ None
 
 -- and there are entries for that, and for the group's being on
-pub record MayBegin (sizes : List ℕ) (spare : ℕ) (disks : List ℕ) (given : Option ℕ) : Type 0 where
+pub record MayMakeGroup (sizes : List ℕ) (spare : ℕ) (disks : List ℕ) (given : Option ℕ) : Type 0 where
   pub disks_fit : AreFit sizes disks given
   pub entries : length disks + 1 ≤ spare
 

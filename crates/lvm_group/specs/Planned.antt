@@ -11,7 +11,7 @@ use Rattle.lvm_core.specs.declared.refused.Cause.{Cause}
 use Rattle.lvm_core.specs.declared.refused.Cause.TheVariants as cause
 use Rattle.lvm_core.specs.Starting.{IsReservedFor}
 use Rattle.lvm_group.specs.declared.plan.Plan.{Plan}
-use Rattle.lvm_group.specs.NewGroup.{NewGroup, among, size_for, descriptor_for, status_for, first_absent, first_too_small, MayBegin, RefusesFirst}
+use Rattle.lvm_group.specs.NewGroup.{NewGroup, among, size_for, descriptor_for, status_for, first_absent, first_too_small, MayMakeGroup, RefusesFirst}
 
 -- A group can be made of these disks with partitions of so many MiB: there are some, at most 32 and none twice, each is there, and a partition fits on each.
 pub record CanBeMade (sizes : List ℕ) (mib : ℕ) (disks : List ℕ) (moment : ℕ) : Type 0 where
@@ -50,10 +50,10 @@ pub record IsPlanned (sizes : List ℕ) (name : List ℕ) (mib : ℕ) (disks : L
 
 -- The plan is one of this group, which may begin with so many entries to spare on disks of these sizes.
 pub record IsPlannedFor (w : NewGroup) (room : Room) (spare : ℕ) (sizes : List ℕ) (plan : Plan) : Type 0 where
-  pub may : MayBegin sizes spare w.disks w.mib
+  pub may : MayMakeGroup sizes spare w.disks w.mib
   pub size : 1 ≤ size_for sizes w.disks w.mib
   pub planned : IsPlanned sizes w.name (size_for sizes w.disks w.mib) w.disks w.moment room plan
 
 -- Why there is none: something stands against the group before any disk is read, or nothing does and memory is wanting.
 abbrev pub RefusesPlan : NewGroup → ℕ → List ℕ → Cause → Type 0
-RefusesPlan w spare sizes why = ((why ≡ cause.Memory) × MayBegin sizes spare w.disks w.mib) ⊎ RefusesFirst sizes spare w.disks w.mib why
+RefusesPlan w spare sizes why = ((why ≡ cause.Memory) × MayMakeGroup sizes spare w.disks w.mib) ⊎ RefusesFirst sizes spare w.disks w.mib why

@@ -8,7 +8,7 @@ use Rattle.lvm_disk.specs.Device.{Device, image_of}
 use Rattle.lvm_kept.specs.Contents.{Contents, contents_of, has_records}
 use Rattle.lvm_rec.specs.declared.homes.Homes.{Homes}
 use Rattle.lvm_write.specs.Homes.{SparesNewest}
-use Rattle.lvm_group.specs.NewGroup.{NewGroup, MayBegin}
+use Rattle.lvm_group.specs.NewGroup.{NewGroup, MayMakeGroup}
 use Rattle.lvm_vol.specs.Log.{Log, spare_entries}
 
 -- what the disks show, where that is told
@@ -61,7 +61,7 @@ AllRead old new = (d : ℕ) → new.counts.misses d ≡ old.counts.misses d
 
 -- so it is, and none is in a group that may not give way
 pub record AreFree (w : NewGroup) (log : Log) (old new : Device) : Type 0 where
-  pub may : MayBegin old.sizes (spare_entries log) w.disks w.mib
+  pub may : MayMakeGroup old.sizes (spare_entries log) w.disks w.mib
   pub read : AllRead old new
   pub free : IfShown old (λ c. HasGroup c w.force → ⊥)
 

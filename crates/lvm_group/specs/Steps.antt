@@ -98,7 +98,7 @@ standing_of parts (Ok homes) = Ok (record { parts = parts; homes = homes })
 standing_of parts (Err why) = Err why
 
 -- The records of the new group stand on each disk named, and its session may start, with these parts and slots.
-pub record Stands (w : NewGroup) (room : Room) (was is : Log) (old new : Device) (standing : Standing Parts) : Type 0 where
+pub record RecordsStand (w : NewGroup) (room : Room) (was is : Log) (old new : Device) (standing : Standing Parts) : Type 0 where
   pub clear : IsClear w was old new
   pub homes : Homes
   pub spares : SparesTold homes old

@@ -3,7 +3,7 @@ ghost use Rattle.std.specs.Prelude.{◌≡◌, ◌<◌, ◌-◌, ◌/◌, find, 
 ghost use Rattle.std.specs.Option.{ForSome};
 ghost use Rattle.lvm_num.specs.Descriptor.{is_size};
 ghost use Rattle.lvm_num.specs.Geometry.{data_start, partition_blocks, partition_count};
-ghost use Rattle.lvm_group.specs.NewGroup.{most_sectors, least_size, size_for, first_absent, first_too_small, MayBegin, RefusesFirst};
+ghost use Rattle.lvm_group.specs.NewGroup.{most_sectors, least_size, size_for, first_absent, first_too_small, MayMakeGroup, RefusesFirst};
 
 use lvm_core::Cause;
 use lvm_disk::Shelf;
@@ -37,7 +37,7 @@ pub fn size_to_begin<S: Shelf>(
     requires size { ForSome given (λ mib. IsTrue (is_size mib)) }
     ensures size { IfOk result (λ mib. mib ≡ size_for (S.device shelf.now).sizes disks.now given) }
     ensures is_size { IfOk result (λ mib. IsTrue (is_size mib)) }
-    ensures may { IfOk result (λ mib. MayBegin (S.device shelf.now).sizes spare disks.now given) }
+    ensures may { IfOk result (λ mib. MayMakeGroup (S.device shelf.now).sizes spare disks.now given) }
     ensures refused { IfErr result (λ cause. RefusesFirst (S.device shelf.now).sizes spare disks.now given cause) }
 {
     if let Some(disk) = first_absent(shelf, disks) {

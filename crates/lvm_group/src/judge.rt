@@ -3,7 +3,7 @@ ghost use Rattle.std.specs.Prelude.{◌≡◌, ◌≢◌, ◌↔◌, ◌⊎◌, 
 ghost use Rattle.lvm_quorum.specs.Rows.{AreRows};
 ghost use Rattle.lvm_quorum.specs.Surveyed.{surveyed};
 ghost use Rattle.lvm_group.specs.Shown.{HasGroup, ShowsEarlier, ShowsMoment};
-ghost use Rattle.lvm_group.specs.Judged.{IsTaken, IsLastOf, IsFirstFailed, NoneFailed, LetsBegin, RefusesShown};
+ghost use Rattle.lvm_group.specs.Judged.{DiskIsTaken, IsLastOf, IsFirstFailed, NoneFailed, LetsBegin, RefusesShown};
 
 use crate::below::Cause;
 use lvm_quorum::{Survey, SurveyRow};
@@ -60,7 +60,7 @@ fn has_group(survey: &Survey, force: bool) -> bool
 
 // Whether the disk of the row is so.
 fn is_taken(row: &SurveyRow, force: bool) -> bool
-    ensures { IsTrue result ↔ IsTaken row.now force }
+    ensures { IsTrue result ↔ DiskIsTaken row.now force }
 {
     match &row.descriptor {
         Some(group) => !force || !group.lvs.is_empty(),

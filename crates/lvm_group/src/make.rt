@@ -7,7 +7,7 @@ ghost use Rattle.lvm_group.specs.passed.Names.{BringsOn, StartsHeld, HaveAllLand
 ghost use Rattle.lvm_group.specs.NewGroup.{IsWellFormed, given_up};
 ghost use Rattle.lvm_group.specs.Planned.{IsPlannedFor, RefusesPlan};
 ghost use Rattle.lvm_group.specs.Made.{MkvgRefuses};
-ghost use Rattle.lvm_group.specs.Steps.{asked_group, cut_at, standing_of, Stands};
+ghost use Rattle.lvm_group.specs.Steps.{asked_group, cut_at, standing_of, RecordsStand};
 
 use crate::below::{Cause, Parts, Room};
 use crate::checks::size_to_begin;
@@ -52,7 +52,7 @@ pub fn make<S: Shelf>(
     requires landed { HaveAllLanded history.old.facts }
     requires asked { IsWellFormed (asked_group asked.now disks.now moment) }
     requires room { IsRoom asked.now.room }
-    ensures made { IfOk result (Stands (asked_group asked.now disks.now moment) asked.now.room history.old history.new (S.device shelf.old) (S.device shelf.new)) }
+    ensures made { IfOk result (RecordsStand (asked_group asked.now disks.now moment) asked.now.room history.old history.new (S.device shelf.old) (S.device shelf.new)) }
     ensures refused { IfErr result (MkvgRefuses (asked_group asked.now disks.now moment) patience.old.left history.old history.new (S.device shelf.old) (S.device shelf.new)) }
     ensures held { ClockIsAhead history.old.run moment (S.device shelf.old) history.old.facts → IfOk result (λ standing. StartsHeld (S.device shelf.new) (first_core standing.parts history.new (record { epoch = moment; seq = 2 }) standing.homes [])) }
     // whatever the answer
@@ -123,7 +123,7 @@ fn bring<S: Shelf>(
     requires ready { IsReady (S.device shelf.old) }
     requires moment { moment ≢ 0 }
     requires planned { IsPlannedFor (asked_group asked.now disks.now moment) asked.now.room (spare_entries history.old) (S.device shelf.old).sizes plan.now }
-    ensures made { IfOk result (λ homes. Stands (asked_group asked.now disks.now moment) asked.now.room history.old history.new (S.device shelf.old) (S.device shelf.new) (record { parts = plan.now.parts; homes = homes })) }
+    ensures made { IfOk result (λ homes. RecordsStand (asked_group asked.now disks.now moment) asked.now.room history.old history.new (S.device shelf.old) (S.device shelf.new) (record { parts = plan.now.parts; homes = homes })) }
     ensures refused { IfErr result (MkvgRefuses (asked_group asked.now disks.now moment) patience.old.left history.old (cut_at result history.new) (S.device shelf.old) (S.device shelf.new)) }
     ensures held { ClockIsAhead history.old.run moment (S.device shelf.old) history.old.facts → IfOk result (λ homes. StartsHeld (S.device shelf.new) (first_core plan.now.parts history.new (record { epoch = moment; seq = 2 }) homes [])) }
     // whatever the answer

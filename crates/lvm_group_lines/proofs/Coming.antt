@@ -10,9 +10,9 @@ use Rattle.lvm_vol.specs.Legal.{IsLater}
 use Rattle.lvm_vol.specs.Log.{Log, is_open}
 use Rattle.lvm_vol.specs.Order.{Ordered}
 use Rattle.lvm_kept.specs.Moments.{Moment}
-use Rattle.lvm_steps.specs.Moments.{Begins, ImagesKept, Keeps, Upholds}
+use Rattle.lvm_steps.specs.Moments.{RunBegins, ImagesKept, Keeps, Upholds}
 use Rattle.lvm_steps.specs.Requests.{at}
-use Rattle.lvm_steps.specs.Behind.{IsBehind}
+use Rattle.lvm_steps.specs.Behind.{StampsAreEarlier}
 use Rattle.lvm_steps.proofs.LawsLemmas.Clock.{later_joins}
 use Rattle.lvm_core.specs.declared.refused.Cause.{Cause}
 use Rattle.lvm_core.specs.declared.refused.Cause.TheVariants as cause
@@ -32,7 +32,7 @@ use Rattle.lvm_group_lines.proofs.passed.Quiesce.{still_is_behind_each}
 use Rattle.lvm_group_lines.specs.Groups.{IsHeldBy, IsLeftBy}
 use Rattle.lvm_group_lines.specs.Ends.{CommandEnds}
 use Rattle.lvm_group_lines.specs.Lighting.{IsRelit, refusal_of}
-use Rattle.lvm_group_lines.specs.Moments.{Aside, GoesOn, HasBegunHeld}
+use Rattle.lvm_group_lines.specs.Moments.{Aside, LineGoesOn, HasBegunHeld}
 use Rattle.lvm_group_lines.specs.Stages.{HaveRooms, IsBetweenStage, IsFittingStage, IsOfKind, history_of, session_of, shelf_of, state_in}
 use Rattle.lvm_group_lines.specs.State.{ArePosted, IsBetween, StandsAlone, ScriptState, without_facts}
 use Rattle.lvm_group_lines.specs.declared.holder.Holder.{Holder}
@@ -94,7 +94,7 @@ dark_still device shelf log (Err refused) stayed = λ dark. subst (λ (why : Cau
 -- what the call promises whatever the answer
 pub record Promises (run moment : ℕ) (old left : Moment) : Type 0 where
   pub keeps : ClockIsAheadEach run moment old.device old.facts → Keeps run old left
-  pub behind : ClockIsAheadEach run moment old.device old.facts → IsBehind (moment + 1) left.device
+  pub behind : ClockIsAheadEach run moment old.device old.facts → StampsAreEarlier (moment + 1) left.device
   pub waits : old.device.counts.waits ≤ left.device.counts.waits
 
 module _ (run : ℕ) (old : ScriptState) (off : old.session ≡ None) (between : IsBetween old.moment old.session old.posts) (ordered : Ordered run [] old.moment.facts) (moment : ℕ) (rose : Rose old.last moment) where
@@ -115,7 +115,7 @@ module _ (run : ℕ) (old : ScriptState) (off : old.session ≡ None) (between :
 
   -- it was refused
   pub left_off : (why : Cause) (left : Moment) (new : Device) → Promises run moment old.moment left → RefusalLeaves why old.moment.device left.device → IsRelit why left.device new
-      → Stays old.moment.facts left.facts → GoesOn run Aside (reply.Refused (refusal_of why)) old (record { moment = at new left.facts; session = None; posts = old.posts; last = moment })
+      → Stays old.moment.facts left.facts → LineGoesOn run Aside (reply.Refused (refusal_of why)) old (record { moment = at new left.facts; session = None; posts = old.posts; last = moment })
   left_off why left new promises leaves lit more =
       let up = lit_up why old.moment.device left.device new (record { lit = between.lit; descriptors = between.descriptors }) leaves.rests lit in
       record {
@@ -152,7 +152,7 @@ module _ (run : ℕ) (old : ScriptState) (off : old.session ≡ None) (between :
   module _ (core : Core) (new : Device) (promises : Promises run moment old.moment (at new core.history.facts)) (serves : Serves (state new core))
       (entered : List Fact) (facts : core.history.facts ≡ entered ++ On moment ∷ []) (more : Stays old.moment.facts entered)
       (ready : IsReady new) (epoch : core.status.stamp.epoch ≡ moment) (settled : IsSettledCore core) (starts : (kept : List Fact) → ClockIsAheadEach run moment old.moment.device old.moment.facts → ImagesKept old.moment.device kept → StartsHeld new core)
-      (stands : (first : Moment) → Keeps run first (at new core.history.facts) → (past : List Fact) → Begins run past first → ClockIsAheadEach run moment old.moment.device old.moment.facts → StartsHeld new core → StandsAlone new core → StandsAfter past new core) where
+      (stands : (first : Moment) → Keeps run first (at new core.history.facts) → (past : List Fact) → RunBegins run past first → ClockIsAheadEach run moment old.moment.device old.moment.facts → StartsHeld new core → StandsAlone new core → StandsAfter past new core) where
     later_then : IsAheadEach run (old.last + 1) old.moment.device old.moment.facts → IsLater core.history.facts (moment + 1)
     later_then ahead = subst (λ (l : List Fact). IsLater l (moment + 1)) (sym facts)
         (later_joins (moment + 1) entered (On moment ∷ []) (more.later (moment + 1) (next ahead).later) (omega arith, tt))
@@ -164,7 +164,7 @@ module _ (run : ℕ) (old : ScriptState) (off : old.session ≡ None) (between :
     leaves_answers range answered = subst (λ (l : List Fact). AreAnswered l range) (sym facts)
         (answered_on entered (On moment) range (λ id. refl) (more.answers range answered))
 
-    pub left_on : GoesOn run Aside reply.Ok old (record { moment = at new core.history.facts; session = Some core; posts = old.posts; last = moment })
+    pub left_on : LineGoesOn run Aside reply.Ok old (record { moment = at new core.history.facts; session = Some core; posts = old.posts; last = moment })
     left_on = record {
       keeps = λ timely alone first span before. let keeps = spans_follow run first old.moment (at new core.history.facts) span ordered landed (promises.keeps (clock timely.ahead)) in
           (keeps, λ goes past begins. stands first keeps past begins (clock timely.ahead) (starts (past ++ old.moment.facts) (clock timely.ahead) (let upholds : Upholds run first old.moment = last-path span in (upholds past begins).kept)));
@@ -205,7 +205,7 @@ pub record Outcome {S : Type 0} (device : S → Device) (shelf : S) (log : Log) 
   pub brings : BringsOnEach log.run moment before after (device shelf) (device (shelf_left outcome)) log (history_left outcome)
   pub came : IfOk outcome (λ driver. CameOn moment (device shelf) (device driver.0) log driver.1)
   pub serves : IfOk outcome (λ driver. Serves (state_of device driver))
-  pub stands : IfOk outcome (λ driver. (first : Moment) → Keeps log.run first (at (device driver.0) driver.1.history.facts) → (past : List Fact) → Begins log.run past first
+  pub stands : IfOk outcome (λ driver. (first : Moment) → Keeps log.run first (at (device driver.0) driver.1.history.facts) → (past : List Fact) → RunBegins log.run past first
       → ClockIsAheadEach log.run moment (device shelf) log.facts → StartsHeld (device driver.0) driver.1 → StandsAlone (device driver.0) driver.1 → StandsAfter past (device driver.0) driver.1)
   pub stayed : IfErr outcome (λ refused. StayedOff refused.cause (device shelf) (device refused.shelf) log refused.history)
   pub left : Left device outcome by answer
@@ -235,17 +235,17 @@ module _ {S : Type 0} (device : S → Device) (shelf : S) (log : Log) (posts : V
       ap (λ (l : Log). record { moment = at (device (shelf_of by)) l.facts; session = session_of by; posts = posts.items; last = moment }) history
       ∙ ap (λ (s : Option Core). record { moment = at (device (shelf_of by)) is.facts; session = s; posts = posts.items; last = moment }) session
 
-  goes : (outcome : Result (S × Core) (Refused S)) → Ended outcome → GoesOn log.run Aside answer first_state (state_in device (held by posts bytes) moment)
+  goes : (outcome : Result (S × Core) (Refused S)) → Ended outcome → LineGoesOn log.run Aside answer first_state (state_in device (held by posts bytes) moment)
   goes (Ok driver) ended =
       let on = ended.left.on in
-      subst (λ (s : ScriptState). GoesOn log.run Aside answer first_state s) (sym (on_is driver on.shelf on.history on.session))
-      (subst (λ (a : Reply). GoesOn log.run Aside a first_state (record { moment = at (device driver.0) driver.1.history.facts; session = Some driver.1; posts = posts.items; last = moment })) (sym on.answered)
+      subst (λ (s : ScriptState). LineGoesOn log.run Aside answer first_state s) (sym (on_is driver on.shelf on.history on.session))
+      (subst (λ (a : Reply). LineGoesOn log.run Aside a first_state (record { moment = at (device driver.0) driver.1.history.facts; session = Some driver.1; posts = posts.items; last = moment })) (sym on.answered)
       (left_on log.run first_state refl between ordered moment rose driver.1 (device driver.0) (promises (Ok driver) ended.brings) ended.serves
       ended.came.entered ended.came.facts ended.came.stays ended.came.ready ended.came.epoch ended.starts.settled ended.starts.held ended.stands))
   goes (Err refused) ended =
       let off = ended.left.off in
-      subst (λ (s : ScriptState). GoesOn log.run Aside answer first_state s) (sym (off_is refused.history off.history off.session))
-      (subst (λ (a : Reply). GoesOn log.run Aside a first_state (record { moment = at (device (shelf_of by)) refused.history.facts; session = None; posts = posts.items; last = moment })) (sym off.answered)
+      subst (λ (s : ScriptState). LineGoesOn log.run Aside answer first_state s) (sym (off_is refused.history off.history off.session))
+      (subst (λ (a : Reply). LineGoesOn log.run Aside a first_state (record { moment = at (device (shelf_of by)) refused.history.facts; session = None; posts = posts.items; last = moment })) (sym off.answered)
       (left_off log.run first_state refl between ordered moment rose refused.cause (at (device refused.shelf) refused.history.facts) (device (shelf_of by)) (promises (Err refused) ended.brings) ended.stayed.leaves off.lit ended.stayed.stays))
 
   orders : (outcome : Result (S × Core) (Refused S)) → Ended outcome → (device (shelf_of by)).orders ≡ (device shelf).orders

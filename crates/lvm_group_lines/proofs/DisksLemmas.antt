@@ -17,7 +17,7 @@ use Rattle.lvm_group_lines.proofs.passed.Quiesce.{still_is_behind_each}
 use Rattle.lvm_group_lines.specs.passed.Names.{Post}
 use Rattle.lvm_group_lines.specs.Disks.{ShowsRead, blocks_text, refusal_by, write_reply}
 use Rattle.lvm_group_lines.specs.Ends.{EndsUnasked}
-use Rattle.lvm_group_lines.specs.Moments.{Aside, GoesOn}
+use Rattle.lvm_group_lines.specs.Moments.{Aside, LineGoesOn}
 use Rattle.lvm_group_lines.specs.Replies.{IsStuck, Shows, InFull, WithoutMemory, most_refusals}
 use Rattle.lvm_group_lines.specs.Stages.{Between, HaveRooms, IsBetweenStage, IsFittingStage}
 use Rattle.lvm_group_lines.specs.State.{ScriptState, without_facts}
@@ -75,7 +75,7 @@ module _ {S X : Type 0} (device : S → Device) (old new : S) (log is : Log) (po
   opens goes = moment_is (λ m. IsOpen m.device) (keeps.rests (heard goes)) (record { lit = between.lit; descriptors = between.descriptors })
       (λ ready. record { lit = ready_is_lit (device new) ready; descriptors = still_leaves_descriptors (device new) ready.flights })
 
-  goes_on : Between device (off old log posts bytes) (off new is posts bytes) (GoesOn log.run Aside answer)
+  goes_on : Between device (off old log posts bytes) (off new is posts bytes) (LineGoesOn log.run Aside answer)
   goes_on = λ last. record {
     keeps = λ timely alone first span stands. (spans_follow log.run first (at (device old) log.facts) (at (device new) is.facts) span ordered between.landed keeps.keeps, λ goes past begins. tt);
     timely = λ goes timely. record {

@@ -7,9 +7,9 @@ use Rattle.lvm_kept.specs.Moments.{Moment}
 use Rattle.lvm_steps.specs.Moments.{Keeps}
 use Rattle.lvm_steps.specs.Requests.{at}
 use Rattle.lvm_steps.proofs.MomentsLemmas.Spans.{keeps_steps}
-use Rattle.lvm_steps.specs.Behind.{IsBehind}
+use Rattle.lvm_steps.specs.Behind.{StampsAreEarlier}
 use Rattle.lvm_steps.proofs.LawsLemmas.Shelves.{no_more_stays_behind}
-use Rattle.lvm_session.specs.Sound.{IsLit}
+use Rattle.lvm_session.specs.Sound.{HasPower}
 use Rattle.lvm_tie_commands.specs.passed.Tie.{LeavesDescriptors}
 use Rattle.lvm_quiesce.specs.Behind.{IsBehindEach}
 use Rattle.lvm_quiesce.proofs.LawsLemmas.Behind.{still_is_behind_each}
@@ -28,7 +28,7 @@ use Rattle.lvm_group_lines.proofs.MomentsLemmas.Going.{relit_path}
 pub still_leaves_descriptors : (device : Device) → device.flights ≡ [] → LeavesDescriptors device
 still_leaves_descriptors device none d s value flies = absurd (subst (λ (flights : List Flight). IsInFlight flights d s value) none flies)
 
-pub ready_is_lit : (device : Device) → IsReady device → IsLit device
+pub ready_is_lit : (device : Device) → IsReady device → HasPower device
 ready_is_lit device ready = record { power = ready.power; freed = ready.freed }
 
 -- ---- the shelf after a refusal
@@ -50,19 +50,19 @@ pub record RefusalLeaves (why : Cause) (old left : Device) : Type 0 where
 
 -- a shelf between two lines
 pub record IsOpen (device : Device) : Type 0 where
-  pub lit : IsLit device
+  pub lit : HasPower device
   pub descriptors : LeavesDescriptors device
 
 -- and after it
 pub record LitUp (answer : Reply) (old left new : Device) : Type 0 where
   pub opens : (IsStuck answer → ⊥) → IsOpen new
   pub ready : (IsStuck answer → ⊥) → IsReady old → IsReady new
-  pub each : (IsStuck answer → ⊥) → (m : ℕ) → IsBehindEach m old → IsBehind m left → IsBehindEach m new
+  pub each : (IsStuck answer → ⊥) → (m : ℕ) → IsBehindEach m old → StampsAreEarlier m left → IsBehindEach m new
   pub power : new.power ≡ true
   pub orders : new.orders ≡ left.orders
   pub waits : new.counts.waits ≡ left.counts.waits
   pub keeps : (run : ℕ) (first : Moment) (facts : List Fact) → Keeps run first (at left facts) → Keeps run first (at new facts)
-  pub behind : (m : ℕ) → IsBehind m left → IsBehind m new
+  pub behind : (m : ℕ) → StampsAreEarlier m left → StampsAreEarlier m new
 
 at_rest : (answer : Reply) (old left : Device) → IsOpen old → StaysOrRests old left → LitUp answer old left left
 at_rest answer old left was stays = record {
@@ -84,7 +84,7 @@ at_rest answer old left was stays = record {
     ready_then ready (inl same) = subst IsReady (sym same) ready
     ready_then ready (inr is) = is
 
-    each_then : (m : ℕ) → IsBehindEach m old → IsBehind m left → StaysOrRests old left → IsBehindEach m left
+    each_then : (m : ℕ) → IsBehindEach m old → StampsAreEarlier m left → StaysOrRests old left → IsBehindEach m left
     each_then m each behind (inl same) = subst (IsBehindEach m) (sym same) each
     each_then m each behind (inr ready) = still_is_behind_each m left ready.flights behind
 

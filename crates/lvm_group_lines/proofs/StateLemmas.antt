@@ -5,7 +5,7 @@ use Rattle.std.specs.List.{list_any, AllByRecursion}
 use Rattle.std.proofs.lemmas.Bool.{eq-eqb, eqb-true}
 use Rattle.std.proofs.lemmas.List.{get_or-map, length-map}
 use Rattle.std.proofs.lemmas.List.Sums.{sum_by-cons}
-use Rattle.lvm_vol.specs.Facts.{Fact, Request, Making, Made, Split, Removing, Removed, Begun, Landed, Taken, Cut, On, Stands, begun}
+use Rattle.lvm_vol.specs.Facts.{Fact, Request, Making, Made, Split, Removing, Removed, Begun, Landed, Taken, Cut, On, IsInList, begun}
 use Rattle.lvm_vol.specs.Legal.{begins_in}
 use Rattle.lvm_vol.specs.Log.{asked, is_answered, lands_id, need, needed, request_of, takes_id}
 use Rattle.lvm_vol.specs.Order.{Ordered}
@@ -127,7 +127,7 @@ module _ (run : ℕ) (facts : List Fact) (ordered : Ordered run [] facts) where
       let front2 = and_left (is_some (asked facts id) && (request_of facts id).client == 1) (list_any (lands_id id) facts) front in
       and_left (is_some (asked facts id)) ((request_of facts id).client == 1) front2
 
-  counted : (fs : List Fact) → ((r : Request) → Stands r (begun fs) → r.run ≡ run) → length (begun fs) ≤ count_by (begins_in run) fs
+  counted : (fs : List Fact) → ((r : Request) → IsInList r (begun fs) → r.run ≡ run) → length (begun fs) ≤ count_by (begins_in run) fs
   counted [] runs = omega arith
   counted (f ∷ fs) runs = by (counted fs) f runs
     where
@@ -137,7 +137,7 @@ module _ (run : ℕ) (facts : List Fact) (ordered : Ordered run [] facts) where
       all : (g : Fact) → count_by (begins_in run) (g ∷ fs) ≡ cond (begins_in run g) 1 0 + count_by (begins_in run) fs
       all g = sum_by-cons (λ (x : Fact). cond (begins_in run x) 1 0) g fs
 
-      by : (((r : Request) → Stands r (begun fs) → r.run ≡ run) → length (begun fs) ≤ count_by (begins_in run) fs) → (g : Fact) → ((r : Request) → Stands r (begun (g ∷ fs)) → r.run ≡ run) → length (begun (g ∷ fs)) ≤ count_by (begins_in run) (g ∷ fs)
+      by : (((r : Request) → IsInList r (begun fs) → r.run ≡ run) → length (begun fs) ≤ count_by (begins_in run) fs) → (g : Fact) → ((r : Request) → IsInList r (begun (g ∷ fs)) → r.run ≡ run) → length (begun (g ∷ fs)) ≤ count_by (begins_in run) (g ∷ fs)
       by rest_is (Begun r) runs =
           let one : ◌≡◌ {A = ℕ} (cond (r.run == run) 1 0) 1 = ap (λ (b : Bool). cond b 1 0) (eq-eqb r.run run (runs r (inl refl))) in
           let rest = rest_is (λ s there. runs s (inr there)) in

@@ -5,7 +5,7 @@ use Rattle.lvm_vol.specs.Log.{Log}
 use Rattle.lvm_core.specs.declared.parts.Room.{Room}
 use Rattle.lvm_core.specs.declared.refused.Cause.{Cause}
 use Rattle.lvm_core.specs.declared.refused.Refused.{Refused}
-use Rattle.lvm_core.specs.Sound.{IsSoundBetween}
+use Rattle.lvm_core.specs.Sound.{IsSoundAtRest}
 use Rattle.lvm_core.specs.State.{state_of}
 use Rattle.lvm_session.specs.Sound.{IsSound}
 use Rattle.lvm_session.specs.State.{Core}
@@ -30,7 +30,7 @@ pub record IsHeldBy {S : Type 0} (device : S → Device) (by : Holder S) (answer
   pub history : history_of by ≡ driver.1.history
   pub session : session_of by ≡ Some driver.1
   pub kind : IsOfKind by
-  pub between : IsSoundBetween (state_of device driver)
+  pub between : IsSoundAtRest (state_of device driver)
   pub sound : IsSound (state_of device driver)
   pub answered : answer ≡ reply.Ok
 
@@ -60,9 +60,9 @@ pub record IsLeftOn (core : Core) (old new : ScriptState) (answer : Reply) : Typ
   pub answered : answer ≡ reply.Ok
 
 -- What the line leaves of the call: the group is on, or isn't, and why, with the shelf and the history that the call has left.
-abbrev pub IsLeft : Device → Log → ScriptState → ScriptState → Reply → Result Core Cause → Type 0
-IsLeft left is old new answer (Ok core) = (left ≡ new.moment.device) × (is ≡ core.history) × IsLeftOn core old new answer
-IsLeft left is old new answer (Err why) = IsLeftOff why left is old new answer
+abbrev pub IsLeftByCall : Device → Log → ScriptState → ScriptState → Reply → Result Core Cause → Type 0
+IsLeftByCall left is old new answer (Ok core) = (left ≡ new.moment.device) × (is ≡ core.history) × IsLeftOn core old new answer
+IsLeftByCall left is old new answer (Err why) = IsLeftOff why left is old new answer
 
 -- the outcome of a call, without its shelf
 abbrev pub outcome_of : Device → Log → Result Core Cause → Result (Device × Core) (Refused Device)
@@ -78,7 +78,7 @@ pub record Brings (Gives : ℕ → Result (Device × Core) (Refused Device) → 
   pub given : Result Core Cause
   pub gives : Gives new.last (outcome_of shelf history given)
   pub rose : IfErr given (CauseRose patience_of_line old.moment.device.counts shelf.counts)
-  pub left : IsLeft shelf history old new answer given
+  pub left : IsLeftByCall shelf history old new answer given
 
 -- the shelf itself
 abbrev pub itself : Device → Device

@@ -59,7 +59,7 @@ pub record HasBegunHeld (device : Device) (core : Core) : Type 0 where
 -- From one state to the next, where this is answered. While the clock is ahead of each crash image, and no other group is found where that is asked, what
 -- stood goes on to stand. The clock stays ahead of the disks, and of each crash image unless nothing was heard of a transfer: else the next line may begin, and
 -- at rest too, if none of requests was between. A session that begins over disks which kept some history finds on them what it says.
-pub record GoesOn (run : ℕ) (role : Role) (answer : Reply) (old new : ScriptState) : Type 0 where
+pub record LineGoesOn (run : ℕ) (role : Role) (answer : Reply) (old new : ScriptState) : Type 0 where
   pub keeps : IsTimely run old → IsAlone role old new → KeepsStanding run answer old new
   pub timely : (IsStuck answer → ⊥) → IsTimely run old → IsTimely run new
   pub left : IsTimely run old → IsAhead run (new.last + 1) new.moment.device new.moment.facts

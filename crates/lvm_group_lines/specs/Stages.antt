@@ -113,16 +113,16 @@ IsClosed power.Dark old new = Relights old new
 IsClosed other old new = new ≡ record old { freed = [] }
 
 -- The session is closed, its posts have ended, and after a power cut the power is on again.
-pub record IsEnded {S : Type 0} (device : S → Device) (driver : S × Core) (posts : List Post) (stage : Stage S) : Type 0 where
+pub record SessionIsClosed {S : Type 0} (device : S → Device) (driver : S × Core) (posts : List Post) (stage : Stage S) : Type 0 where
   pub session : session_in stage ≡ None
   pub shelf : IsClosed driver.1.power (device driver.0) (device (shelf_in stage))
   pub history : history_in stage ≡ driver.1.history
   pub posted : stage.posts.items ≡ posts_ended (Some driver.1) posts
 
 -- the stage of a session that goes on, or has ended if it is over
-abbrev pub IsCarried : {S : Type 0} → (S → Device) → S × Core → Vec Post → Vec ℕ → Power → Stage S → Type 0
-IsCarried device driver posts bytes power.On stage = stage ≡ record { holder = holder.Serving driver; posts = posts; bytes = bytes }
-IsCarried device driver posts bytes other stage = IsEnded device driver posts.items stage
+abbrev pub IsCarriedOn : {S : Type 0} → (S → Device) → S × Core → Vec Post → Vec ℕ → Power → Stage S → Type 0
+IsCarriedOn device driver posts bytes power.On stage = stage ≡ record { holder = holder.Serving driver; posts = posts; bytes = bytes }
+IsCarriedOn device driver posts bytes other stage = SessionIsClosed device driver posts.items stage
 
 -- the session of a group with volumes, if it holds one, isn't over
 abbrev pub IsOnIn : {S : Type 0} → Holder S → Type 0
@@ -134,8 +134,8 @@ IsOnIn (holder.Serving driver) = driver.1.power ≡ power.On
 abbrev pub ComesTo : {S : Type 0} → (S → Device) → Bool → Holder S → Vec Post → Vec ℕ → Stage S → Type 0
 ComesTo device unheard (holder.Off shelf history) posts bytes stage = stage ≡ record { holder = holder.Off shelf history; posts = posts; bytes = bytes }
 ComesTo device unheard (holder.Empty driver) posts bytes stage = stage ≡ record { holder = holder.Empty driver; posts = posts; bytes = bytes }
-ComesTo device true (holder.Serving driver) posts bytes stage = IsEnded device driver posts.items stage
-ComesTo device false (holder.Serving driver) posts bytes stage = IsCarried device driver posts bytes driver.1.power stage
+ComesTo device true (holder.Serving driver) posts bytes stage = SessionIsClosed device driver posts.items stage
+ComesTo device false (holder.Serving driver) posts bytes stage = IsCarriedOn device driver posts bytes driver.1.power stage
 
 -- A line that was answered so left its session where it was, and this is the stage behind it.
 pub record IsLeftBy {S : Type 0} (device : S → Device) (kept : Stage S) (answer : Reply) (stage : Stage S) : Type 0 where

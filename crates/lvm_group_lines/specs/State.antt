@@ -4,12 +4,12 @@ use Rattle.lvm_disk.specs.Device.{Device, IsReady}
 use Rattle.lvm_vol.specs.Facts.{Fact}
 pub use Rattle.lvm_vol.specs.Log.{log_with, without_facts}
 use Rattle.lvm_kept.specs.Moments.{Moment}
-use Rattle.lvm_steps.specs.Moments.{Begins}
+use Rattle.lvm_steps.specs.Moments.{RunBegins}
 use Rattle.lvm_tie_commands.specs.passed.Names.{IsOneFoundOn, Post, IsLaidOut, AreAnswered, AreHeld}
 use Rattle.lvm_status.specs.Members.{HasItsRows}
 use Rattle.lvm_session.specs.declared.open.Power.TheVariants as power
 use Rattle.lvm_session.specs.State.{Core, state}
-use Rattle.lvm_session.specs.Sound.{IsLit, IsSound}
+use Rattle.lvm_session.specs.Sound.{HasPower, IsSound}
 use Rattle.lvm_tie_commands.specs.passed.Tie.{LeavesDescriptors, IsStamped}
 use Rattle.lvm_quiesce.specs.passed.Names.{HaveAllLanded, IsSettled as IsSettledCore}
 use Rattle.lvm_quiesce.specs.Behind.{IsAheadEach}
@@ -54,7 +54,7 @@ pub record IsOnBetween (device : Device) (core : Core) : Type 0 where
 -- The power is on, and no buffer was given up; transfers may be out, also of a session that is gone, but to no slot of descriptors. Without a session each
 -- request has landed.
 pub record IsBetween (moment : Moment) (on : Option Core) (posts : List Post) : Type 0 where
-  pub lit : IsLit moment.device
+  pub lit : HasPower moment.device
   pub descriptors : LeavesDescriptors moment.device
   pub landed : IfNone on (HaveAllLanded moment.facts)
   pub session : IfSome on (IsOnBetween moment.device)
@@ -83,4 +83,4 @@ StandsAlone device core = core.requests ≡ [] → core.descriptor.lvs ≢ [] �
 
 -- After each earlier history with which the run may have begun, the disks stand by the session, where its group stands alone.
 abbrev pub StandsBy : ℕ → Moment → ScriptState → Type 0
-StandsBy run first s = (past : List Fact) → Begins run past first → IfSome s.session (λ core. StandsAlone s.moment.device core → StandsAfter past s.moment.device core)
+StandsBy run first s = (past : List Fact) → RunBegins run past first → IfSome s.session (λ core. StandsAlone s.moment.device core → StandsAfter past s.moment.device core)

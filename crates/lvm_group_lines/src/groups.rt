@@ -4,7 +4,7 @@ ghost use Rattle.std.specs.Option.{ForSome};
 ghost use Rattle.lvm_num.specs.Descriptor.{is_size};
 ghost use Rattle.lvm_io.specs.Count.{next_count};
 ghost use Rattle.lvm_session.specs.Sound.{IsSound};
-ghost use Rattle.lvm_core.specs.Sound.{IsSoundBetween};
+ghost use Rattle.lvm_core.specs.Sound.{IsSoundAtRest};
 ghost use Rattle.lvm_core.specs.Starting.{IsRoom};
 ghost use Rattle.lvm_core.specs.State.{state_of};
 ghost use Rattle.lvm_group_lines.specs.Groups.{IsHeldBy, IsLeftBy, MkvgDoes, VaryonDoes, VaryoffDoes};
@@ -59,12 +59,12 @@ fn relight_after_refusal<S: Shelf>(shelf: &mut S, cause: Cause)
 
 // Who holds a group that has come on, which takes requests where it has a volume.
 fn hold<S: Shelf>(driver: Driver<S>) -> Holder<S>
-    requires may { IsSoundBetween (state_of S.device driver) → IsSound (state_of S.device driver) }
+    requires may { IsSoundAtRest (state_of S.device driver) → IsSound (state_of S.device driver) }
     ensures shelf { shelf_of result ≡ driver.0 }
     ensures history { history_of result ≡ driver.1.history }
     ensures session { session_of result ≡ Some driver.1 }
     ensures kind { IsOfKind result }
-    ensures between { IsSoundBetween (state_of S.device driver) }
+    ensures between { IsSoundAtRest (state_of S.device driver) }
     ensures sound { IsSound (state_of S.device driver) }
 {
     let _ = driver.open();
@@ -79,7 +79,7 @@ fn hold<S: Shelf>(driver: Driver<S>) -> Holder<S>
 
 // Who holds the shelf and the history after a command by which a group comes on or doesn't, and what it is answered.
 fn left<S: Shelf>(outcome: Result<Driver<S>, Refused<S>>) -> (Holder<S>, Reply)
-    requires may { IfOk outcome (λ driver. IsSoundBetween (state_of S.device driver) → IsSound (state_of S.device driver)) }
+    requires may { IfOk outcome (λ driver. IsSoundAtRest (state_of S.device driver) → IsSound (state_of S.device driver)) }
     requires still { IfErr outcome (λ refused. refused.cause ≡ Cause.Dark → (S.device refused.shelf).flights ≡ []) }
     ensures on { IfOk outcome (IsHeldBy S.device result.0 result.1) }
     ensures off { IfErr outcome (IsLeftBy S.device result.0 result.1) }

@@ -3,7 +3,7 @@ ghost use Rattle.std.specs.Prelude.{◌≡◌, ◌≤◌, ◌⊎◌, ◌↔◌, 
 ghost use Rattle.lvm_disk.specs.Device.{Device};
 ghost use Rattle.lvm_vol.specs.Order.{Ordered};
 ghost use Rattle.lvm_group_lines.specs.Replies.{IsStuck, is_unheard};
-ghost use Rattle.lvm_group_lines.specs.Stages.{ComesTo, GivesBack, HaveRooms, IsCarried, IsClosed, IsEnded, IsLeftBy, IsNotOn, IsOn, IsOnIn, history_in, posts_ended, session_in, session_of, shelf_in};
+ghost use Rattle.lvm_group_lines.specs.Stages.{ComesTo, GivesBack, HaveRooms, IsCarriedOn, IsClosed, SessionIsClosed, IsLeftBy, IsNotOn, IsOn, IsOnIn, history_in, posts_ended, session_in, session_of, shelf_in};
 
 use crate::holder::Holder;
 use crate::reply::{Refusal, Reply};
@@ -205,7 +205,7 @@ impl<S: Shelf> Stage<S> {
     /// The stage once its session is over, or nothing was heard of it: the session is closed, its posts have ended with
     /// its votes, and after a power cut the power is on again. Transfers that are out stay with the shelf.
     pub fn ended(driver: Driver<S>, posts: Vec<Post>, bytes: Vec<u8>) -> Stage<S>
-        ensures ended { IsEnded S.device driver posts.items result }
+        ensures ended { SessionIsClosed S.device driver posts.items result }
         ensures rooms { (entries : ℕ) → HaveRooms entries posts bytes → HaveRooms entries result.posts result.bytes }
     {
         let power = driver.power();
@@ -216,7 +216,7 @@ impl<S: Shelf> Stage<S> {
 
     /// The stage after turns or calls of its session: one that is over has ended.
     pub fn carried(driver: Driver<S>, posts: Vec<Post>, bytes: Vec<u8>) -> Stage<S>
-        ensures carried { IsCarried S.device driver posts bytes driver.1.power result }
+        ensures carried { IsCarriedOn S.device driver posts bytes driver.1.power result }
         ensures rooms { (entries : ℕ) → HaveRooms entries posts bytes → HaveRooms entries result.posts result.bytes }
     {
         match driver.power() {

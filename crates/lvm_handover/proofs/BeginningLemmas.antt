@@ -27,7 +27,7 @@ use Rattle.lvm_session_start.specs.declared.parts.Parts.{Parts}
 use Rattle.lvm_session_start.specs.declared.parts.Room.{Room as SessionRoom}
 use Rattle.lvm_session_start.specs.Beginning.{first_core}
 use Rattle.lvm_session_start.specs.Parts.{IsReserved}
-use Rattle.lvm_keeps.specs.Begins.{Begins, IsCalm, IsUnused}
+use Rattle.lvm_keeps.specs.Begins.{SessionBegins, HasFirstStatus, IsUnused}
 use Rattle.lvm_keeps.proofs.BeginsLemmas.{beginning_is_sound}
 use Rattle.lvm_handover.specs.passed.Names.{room_of}
 use Rattle.lvm_group.specs.NewGroup.{given_up, new_group, new_status}
@@ -96,7 +96,7 @@ module _ (log : Log) (moment : ℕ) (s : State) (its_history : IsHistory log) (b
     notes = just.settled.quiet.notes;
   }
 
-  calm : IsCalm s.core
+  calm : HasFirstStatus s.core
   calm = record {
     sound = subst (λ (c : Core). IsSoundStatus (seen c.status)) (sym b.is) (subst (λ (u : Updates). IsSoundStatus (record u { stamp = stamp_of moment b.seq })) (sym b.reserved.status)
         (steps_stay_sound (SetStamp (stamp_of moment b.seq)) (first_updates p.table p.descriptor) (record (first_updates p.table p.descriptor) { stamp = stamp_of moment b.seq }) (first_is_sound p.table p.descriptor) (refl, refl)));
@@ -112,7 +112,7 @@ module _ (log : Log) (moment : ℕ) (s : State) (its_history : IsHistory log) (b
       by_test true = omega arith
       by_test false = omega arith
 
-  beginning : Begins s
+  beginning : SessionBegins s
   beginning = record {
     fitting = fitting;
     ordered = ordered;

@@ -15,8 +15,8 @@ use Rattle.lvm_session.specs.Dark.{hand_of_copy}
 use Rattle.lvm_session.specs.Owners.{AreRows}
 use Rattle.lvm_session.specs.Placed.{ArePlaced}
 use Rattle.lvm_session.specs.Sound.{IsSound, count_if, has_number, hands_with, is_dark, is_hand, out_with, waits}
-use Rattle.lvm_handover.specs.passed.Names.{HaveAllLanded, HasNoneOpen, IsFittingBetween, IsQuiet, IsSoundBetween}
-use Rattle.lvm_tie.specs.Begins.{IsResting}
+use Rattle.lvm_handover.specs.passed.Names.{HaveAllLanded, HasNoneOpen, IsFittingAtRest, HasNothingUnderWay, IsSoundAtRest}
+use Rattle.lvm_tie.specs.Begins.{IsCoreAtRest}
 
 -- where no transfer is the session's, none is out
 none_out : (core : Core) (rows : List Flown) (flights : List Flight) → AreRows core rows flights → rows ≡ [] → flights ≡ []
@@ -68,7 +68,7 @@ module _ (s : State) (sound : IsSound s) (on : s.core.power ≡ power.On) (close
           by true missing = absurd (let no : true ≡ false = sym (sound.origin.still_missing disk missing) ∙ present in cc no)
           by false any = refl
 
-  fitting : IsFittingBetween core
+  fitting : IsFittingAtRest core
   fitting = record {
     valid = sound.fitting.valid;
     id = sound.fitting.id;
@@ -84,7 +84,7 @@ module _ (s : State) (sound : IsSound s) (on : s.core.power ≡ power.On) (close
     forgotten = (sound.on on).going.status.idle;
   }
 
-  pub sound_between : IsSoundBetween s
+  pub sound_between : IsSoundAtRest s
   sound_between = record {
     fitting = fitting;
     none = closed;
@@ -99,10 +99,10 @@ module _ (s : State) (sound : IsSound s) (on : s.core.power ≡ power.On) (close
   }
 
 -- At rest no transfer is out.
-pub rest_is_still : (s : State) → IsSound s → s.core.power ≡ power.On → IsResting s.core → s.device.flights ≡ []
+pub rest_is_still : (s : State) → IsSound s → s.core.power ≡ power.On → IsCoreAtRest s.core → s.device.flights ≡ []
 rest_is_still s sound on rests = none_out s.core s.core.flying s.device.flights (sound.on on).rows rests.flying
 
-pub rest_is_quiet : (s : State) → IsSound s → s.core.power ≡ power.On → IsResting s.core → IsQuiet s.core
+pub rest_is_quiet : (s : State) → IsSound s → s.core.power ≡ power.On → IsCoreAtRest s.core → HasNothingUnderWay s.core
 rest_is_quiet s sound on rests = record {
   requests = rests.requests;
   copy = rests.copy;
@@ -111,5 +111,5 @@ rest_is_quiet s sound on rests = record {
   buffers = buffers_back s sound on (record { requests = rests.requests; copy = rests.copy }) (rest_is_still s sound on rests);
 }
 
-pub rest_is_sound : (s : State) → IsSound s → s.core.power ≡ power.On → IsResting s.core → IsSoundBetween s
+pub rest_is_sound : (s : State) → IsSound s → s.core.power ≡ power.On → IsCoreAtRest s.core → IsSoundAtRest s
 rest_is_sound s sound on rests = sound_between s sound on (record { requests = rests.requests; copy = rests.copy }) (rest_is_still s sound on rests)

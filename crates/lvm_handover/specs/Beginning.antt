@@ -8,7 +8,7 @@ use Rattle.lvm_commit.specs.Settling.{NoneIsLeft}
 use Rattle.lvm_session.specs.State.{State}
 use Rattle.lvm_session.specs.Sound.{IsSound}
 use Rattle.lvm_session_start.specs.Beginning.{AreFaults}
-use Rattle.lvm_handover.specs.passed.Names.{Room, IsSettled, IsSoundBetween}
+use Rattle.lvm_handover.specs.passed.Names.{Room, IsSettled, IsSoundAtRest}
 use Rattle.lvm_varyon.specs.Varied.{ComesOn}
 use Rattle.lvm_group.specs.Made.{IsMade}
 use Rattle.lvm_group.specs.NewGroup.{NewGroup}
@@ -21,7 +21,7 @@ pub record IsHistory (log : Log) : Type 0 where
 
 -- What both contracts say of a session that has just begun, and what holds of its driver.
 pub record HasJustBegun (s : State) : Type 0 where
-  pub sound : IsSoundBetween s
+  pub sound : IsSoundAtRest s
   pub settled : IsSettled s.core
   pub left : NoneIsLeft s.core.descriptor s.core.status
   pub faults : AreFaults s.device s.core.origin.faults

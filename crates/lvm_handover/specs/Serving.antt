@@ -17,7 +17,7 @@ use Rattle.lvm_session.specs.Judging.{copies_in, is_missing, is_wanted_stale}
 use Rattle.lvm_session.specs.Left.{updates_left}
 use Rattle.lvm_session.specs.Marks.{is_among}
 use Rattle.lvm_session.specs.Sound.{IsSound}
-use Rattle.lvm_handover.specs.passed.Names.{Leaves, Scope, IsSettled, IsSoundBetween}
+use Rattle.lvm_handover.specs.passed.Names.{Leaves, Scope, IsSettled, IsSoundAtRest}
 use Rattle.lvm_volumes.specs.passed.Names.{GroupFault, NewVolume, IfOn}
 use Rattle.lvm_volumes.specs.Endings.{HasFresh, KeepsFresh, StillHeld}
 use Rattle.lvm_volumes.specs.Volumes.{MklvGives, RmlvGives, to_make, to_remove}
@@ -50,17 +50,17 @@ abbrev pub is_gone : Core → ℕ → Bool
 is_gone core disk = is_member core.descriptor disk && is_missing core disk
 
 -- In the status with which the session began these partitions are stale too, and the members missing that are so by now; nothing else differs.
-pub record IsServed (added : List Pp) (old new : Core) : Type 0 where
+pub record OriginIsMarked (added : List Pp) (old new : Core) : Type 0 where
   pub marks : MarksMore added (is_gone old) old.origin.table new.origin.table
   pub is : new ≡ record old { origin = record old.origin { table = new.origin.table } }
 
 -- then it is sound with requests too, where it is sound between commands
 abbrev pub MayServe : List Pp → State → Type 0
-MayServe added s = IsSoundBetween s → (core : Core) → IsServed added s.core core → IsSound (state s.device core)
+MayServe added s = IsSoundAtRest s → (core : Core) → OriginIsMarked added s.core core → IsSound (state s.device core)
 
 -- so is one that isn't handed over, of which nothing was added
 abbrev pub StaysSound : State → Type 0
-StaysSound s = IsSoundBetween s → IsSound s
+StaysSound s = IsSoundAtRest s → IsSound s
 
 -- ---- what a command leaves
 

@@ -3,7 +3,7 @@ use Rattle.std.specs.Prelude.{◌≢◌}
 use Rattle.lvm_session.specs.State.{State}
 use Rattle.lvm_session.specs.Sound.{IsSound}
 use Rattle.lvm_handover.specs.passed.Names.{HasNoneOpen}
-use Rattle.lvm_tie.specs.Begins.{IsResting}
+use Rattle.lvm_tie.specs.Begins.{IsCoreAtRest}
 use Rattle.lvm_handover.specs.passed.Driver.{IsDrained}
 
 -- Nothing is left to be made of it, neither a request nor a copy is open, and the epoch of its stamps is some moment.
@@ -14,4 +14,4 @@ pub record MayHandOver (s : State) : Type 0 where
 
 -- Then nothing is under way, and what is wanted is committed.
 abbrev pub DrainedRests : Type 0
-DrainedRests = (s : State) → IsSound s → IsDrained s → HasNoneOpen s.core → IsResting s.core
+DrainedRests = (s : State) → IsSound s → IsDrained s → HasNoneOpen s.core → IsCoreAtRest s.core

@@ -4,9 +4,9 @@ ghost use Rattle.lvm_status.specs.Calls.{IsMarkable};
 ghost use Rattle.lvm_status.specs.Members.{HasItsRows};
 ghost use Rattle.lvm_session.specs.State.{state};
 ghost use Rattle.lvm_session.specs.Sound.{IsSound};
-ghost use Rattle.lvm_handover.specs.passed.Names.{IsSettled, IsSoundBetween};
+ghost use Rattle.lvm_handover.specs.passed.Names.{IsSettled, IsSoundAtRest};
 ghost use Rattle.lvm_handover.specs.Settling.{MayHandOver};
-ghost use Rattle.lvm_handover.specs.Serving.{IsServed, MarksAdded, MarksMissing, MayServe};
+ghost use Rattle.lvm_handover.specs.Serving.{OriginIsMarked, MarksAdded, MarksMissing, MayServe};
 
 use crate::below::{Driver as CoreDriver, driver};
 use lvm_disk::Shelf;
@@ -20,7 +20,7 @@ pub fn settle<S: Shelf>(driver: driver::Driver<S>) -> CoreDriver<S>
     ensures shelf { result.0 ≡ driver.0 }
     ensures core { result.1 ≡ driver.1 }
     ensures settled { IsSettled driver.1 }
-    ensures between { IsSoundBetween (state (S.device driver.0) driver.1) }
+    ensures between { IsSoundAtRest (state (S.device driver.0) driver.1) }
     // What held of it all the time.
     ensures sound { IsSound (state (S.device driver.0) driver.1) }
 {
@@ -35,7 +35,7 @@ pub fn serve<S: Shelf>(driver: CoreDriver<S>, added: &[Pp]) -> driver::Driver<S>
     requires markable { All (IsMarkable driver.1.origin.table) added.now }
     requires may { MayServe added.now (state (S.device driver.0) driver.1) }
     ensures shelf { result.0 ≡ driver.0 }
-    ensures served { IsServed added.now driver.1 result.1 }
+    ensures served { OriginIsMarked added.now driver.1 result.1 }
     ensures sound { IsSound (state (S.device result.0) result.1) }
 {
     let (shelf, mut session) = driver.into_parts();

@@ -7,7 +7,7 @@ use Rattle.std.proofs.lemmas.List.{append-nil, length-replicate, map-append, len
 use Rattle.std.proofs.lemmas.List.Sums.{sum_by_more_le, sum_by_push, sum_by-cons}
 use Rattle.std.proofs.lemmas.Bool.Decides.{nat_tests}
 use Rattle.std.proofs.lemmas.Bool.{eqb-true}
-use Rattle.lvm_history.specs.passed.CheckerNames.{zero_sector, Vol, Outcome, Entry, Request, Fact, Making, Made, Split, Removing, Removed, Begun, Landed, Taken, Cut, On, Stands, begun, begun_by, Log, open_count, landed_count, plain_fact, cut_log, spare_entries, spare_bytes, awaited, blocks_begun, entries_of, entries_from, next_id, blocks_given, next_request, has_id, asked, no_request, request_of, lands_id, takes_id, is_open, is_answered, is_got, got_by, held, blocks_of, blocks_begun_with, got_without_bytes, need, is_uncut_after, is_uncut_from, is_uncut, Follows, Ordered, IsWhole, IsGotOf}
+use Rattle.lvm_history.specs.passed.CheckerNames.{zero_sector, Vol, Outcome, Entry, Request, Fact, Making, Made, Split, Removing, Removed, Begun, Landed, Taken, Cut, On, IsInList, begun, begun_by, Log, open_count, landed_count, plain_fact, cut_log, spare_entries, spare_bytes, awaited, blocks_begun, entries_of, entries_from, next_id, blocks_given, next_request, has_id, asked, no_request, request_of, lands_id, takes_id, is_open, is_answered, is_got, got_by, held, blocks_of, blocks_begun_with, got_without_bytes, need, is_uncut_after, is_uncut_from, is_uncut, Follows, Ordered, HasItsData, IsGotOf}
 use Rattle.lvm_history.specs.passed.VolEntryVol.{Disk}
 use Rattle.lvm_history.specs.passed.VolEntryOutcome as outcome
 use Rattle.lvm_history.specs.passed.VolEntryEntry as entry
@@ -90,7 +90,7 @@ pub blocks_same : (k : Holdings) (f : Fact) → IsSound k → IsQuiet f → k.bl
 blocks_same k f sound quiet = sound.its_own.its_blocks ∙ sym (blocks_aside k.run (log_of k).facts f quiet.begins (λ r there. held_same (log_of k).facts f r (quiet.gets r.id)))
 
 -- the data of a landing without bytes is of its kind
-got_without : (r : Request) (how : Outcome) → IsWhole r → IsGotOf r how (got_without_bytes r how)
+got_without : (r : Request) (how : Outcome) → HasItsData r → IsGotOf r how (got_without_bytes r how)
 got_without r how whole = by_how (is_got how) refl
   where
     size : (w : Bool) → r.write ≡ w → length (blocks_begun_with r) ≡ r.count
@@ -744,7 +744,7 @@ row_names k n d sound less =
     let is : get_or k.rows n d ≡ row_of (get_or facts n Cut) = ap (λ (l : List Row). get_or l n d) sound.its_own.its_rows ∙ get_or-map row_of facts n Cut d (omega (arith, rows, less)) in
     subst (λ (r : Row). IsOneOfAsks r (length k.asks)) (sym is) (by_fact (get_or facts n Cut) (stands_get facts n Cut (omega (arith, rows, less))))
   where
-    by_fact : (g : Fact) → Stands g (log_of k).facts → IsOneOfAsks (row_of g) (length k.asks)
+    by_fact : (g : Fact) → IsInList g (log_of k).facts → IsOneOfAsks (row_of g) (length k.asks)
     by_fact (Begun r) there =
         let q = numbered k.run (log_of k).facts sound.its_own.ordered in
         let at = stands-at 1 (begun (log_of k).facts) r q.ids (stands_begun (log_of k).facts r there) in
@@ -775,7 +775,7 @@ needed_counted k log sound shows =
     (ap (λ (x : Log). x.room) shows, sound.roomy.counted ∙ all.total ∙ ap (λ (x : Log). length x.facts + 2 * open_count x.facts + landed_count x.facts) shows)
 
 -- the requests kept have blocks with numbers of 64 bits
-asks_bounded : (p : ℕ) (rs : List Request) → ((r : Request) → Stands r rs → r.at + r.count < 2 ^ 64) → list_all is_bounded (asks_from p rs) ≡ true
+asks_bounded : (p : ℕ) (rs : List Request) → ((r : Request) → IsInList r rs → r.at + r.count < 2 ^ 64) → list_all is_bounded (asks_from p rs) ≡ true
 asks_bounded p [] each = refl
 asks_bounded p (r ∷ rs) each =
     let first = each r (inl refl) in

@@ -10,7 +10,7 @@ use Rattle.lvm_vol.specs.declared.entry.Outcome.{Outcome}
 use Rattle.lvm_vol.specs.declared.entry.Outcome.TheVariants as outcome
 use Rattle.lvm_vol.specs.Facts.{Request, Fact, Landed}
 use Rattle.lvm_invariant.specs.State.{Marks, Badly, Queued, ModelCopy, ModelState}
-use Rattle.lvm_invariant.specs.Faults.{Faults, HasFailed, SomeFailed, NoneFailed, HasCause}
+use Rattle.lvm_invariant.specs.Faults.{Faults, FaultsRose, SomeFailed, NoneFailed, IsStaleForCause}
 use Rattle.lvm_invariant.specs.Caused.{LandingIsCaused, FactIsCaused, Since, Caused}
 use Rattle.lvm_invariant.specs.Why.{asked_at}
 use Rattle.lvm_invariant.proofs.CountingLemmas.{rose_then}
@@ -24,10 +24,10 @@ module _ (w : Faults) (now : ℕ → ℕ) (place : Option ℕ) (rises : (d : ℕ
   abbrev after : Faults
   after = record w { now = now; asked = asked_at place w }
 
-  pub fails_still : (d : ℕ) → HasFailed w d → HasFailed after d
+  pub fails_still : (d : ℕ) → FaultsRose w d → FaultsRose after d
   fails_still d h = rose_then (w.began d) (w.now d) (now d) h (rises d)
 
-  pub cause_stays : (c : Pp) → HasCause w c → HasCause after c
+  pub cause_stays : (c : Pp) → IsStaleForCause w c → IsStaleForCause after c
   cause_stays c h = ⊎_elim (λ a. inl a) (λ rest. ⊎_elim (λ b. inr (inl b)) (λ f. inr (inr (fails_still c.disk f))) rest) h
 
   some_still : SomeFailed w → SomeFailed after
@@ -39,12 +39,12 @@ module _ (w : Faults) (now : ℕ → ℕ) (place : Option ℕ) (rises : (d : ℕ
   -- what an event changes
   pub record Change (s new : ModelState) : Type 0 where
     pub copies : new.is_copy ≡ s.is_copy
-    pub missing : (d : ℕ) → IsTrue (new.missing d) → IsTrue (s.missing d) ⊎ HasFailed after d
+    pub missing : (d : ℕ) → IsTrue (new.missing d) → IsTrue (s.missing d) ⊎ FaultsRose after d
     pub still_missing : (d : ℕ) → IsTrue (s.missing d) → IsTrue (new.missing d)
-    pub committed : (c : Pp) → IsTrue (new.committed.value.stale c) → IsTrue (s.committed.value.stale c) ⊎ HasCause after c
-    pub in_flight : (c : Pp) (u : Stamped Marks) → new.in_flight ≡ Some u → IsTrue (u.value.stale c) → (s.in_flight ≡ Some u) ⊎ HasCause after c
-    pub wanted : (c : Pp) → IsTrue (new.wanted.stale c) → IsTrue (s.wanted.stale c) ⊎ HasCause after c
-    pub brought_up : (o : ModelCopy) → new.open_copy ≡ Some o → ((p : ModelCopy) × (s.open_copy ≡ Some p) × (p.target ≡ o.target)) ⊎ HasCause after o.target
+    pub committed : (c : Pp) → IsTrue (new.committed.value.stale c) → IsTrue (s.committed.value.stale c) ⊎ IsStaleForCause after c
+    pub in_flight : (c : Pp) (u : Stamped Marks) → new.in_flight ≡ Some u → IsTrue (u.value.stale c) → (s.in_flight ≡ Some u) ⊎ IsStaleForCause after c
+    pub wanted : (c : Pp) → IsTrue (new.wanted.stale c) → IsTrue (s.wanted.stale c) ⊎ IsStaleForCause after c
+    pub brought_up : (o : ModelCopy) → new.open_copy ≡ Some o → ((p : ModelCopy) × (s.open_copy ≡ Some p) × (p.target ≡ o.target)) ⊎ IsStaleForCause after o.target
     pub failed : (i : ℕ) (r : Queued) (c : Pp) → new.queue i ≡ Some r → r.targets c ≡ Some Badly
         → ((e : Queued) × (s.queue i ≡ Some e) × (e.targets c ≡ Some Badly) × (asked_at place w i ≡ w.asked i)) ⊎ Rose (asked_at place w i c.disk) (now c.disk)
     pub landed : (new.facts ≡ s.facts) ⊎ ((f : Fact) × (new.facts ≡ s.facts ++ f ∷ []) × FactIsCaused after new f)
@@ -104,7 +104,7 @@ module _ (w : Faults) (now : ℕ → ℕ) (place : Option ℕ) (rises : (d : ℕ
       in_flight = λ c u flies h. ⊎_elim (λ was. cause_stays c (caused.in_flight c u was h)) (λ k. k) (change.in_flight c u flies h);
       wanted = λ c h. ⊎_elim (λ was. cause_stays c (caused.wanted c was)) (λ k. k) (change.wanted c h);
       brought_up = λ o is. ⊎_elim
-          (λ (was : (p : ModelCopy) × (s.open_copy ≡ Some p) × (p.target ≡ o.target)). subst (HasCause after) was.2 (cause_stays was.0.target (caused.brought_up was.0 was.1)))
+          (λ (was : (p : ModelCopy) × (s.open_copy ≡ Some p) × (p.target ≡ o.target)). subst (IsStaleForCause after) was.2 (cause_stays was.0.target (caused.brought_up was.0 was.1)))
           (λ k. k) (change.brought_up o is);
       failed = λ i r c there bad. ⊎_elim
           (λ (was : (e : Queued) × (s.queue i ≡ Some e) × (e.targets c ≡ Some Badly) × (asked_at place w i ≡ w.asked i)).

@@ -8,7 +8,7 @@ use Rattle.lvm_vol.specs.declared.entry.Vol.{Vol}
 use Rattle.lvm_vol.specs.declared.entry.Vol.TheVariants.{Lv}
 use Rattle.lvm_vol.specs.declared.entry.Outcome.{Outcome}
 use Rattle.lvm_vol.specs.declared.entry.Outcome.TheVariants as outcome
-use Rattle.lvm_vol.specs.Facts.{Request, Fact, Making, Split, Removed, Begun, Landed, Cut, Stands, same_vol, same_request, is_over, block_of}
+use Rattle.lvm_vol.specs.Facts.{Request, Fact, Making, Split, Removed, Begun, Landed, Cut, IsInList, same_vol, same_request, is_over, block_of}
 use Rattle.lvm_vol.specs.May.{Known, is_open_in, without, ended, read, landed, change, source, known}
 use Rattle.lvm_vol.specs.Legal.{begins_in, Fits, Legal}
 use Rattle.lvm_vol.proofs.LawsLemmas.Knowing.{known-push, ended_open, read_open}
@@ -201,58 +201,58 @@ module _ (facts : List Fact) (r : Request) (lv b : ℕ) where
 
 -- ---- an open write began
 
-pub filtered : (test : Request → Bool) (ws : List Request) (s : Request) → Stands s (filter test ws) → Stands s ws
+pub filtered : (test : Request → Bool) (ws : List Request) (s : Request) → IsInList s (filter test ws) → IsInList s ws
 filtered test [] s h = h
 filtered test (w ∷ ws) s h = by_test (test w) (filtered test ws s) h
   where
-    by_test : (t : Bool) → (Stands s (filter test ws) → Stands s ws) → Stands s (if t then w ∷ filter test ws else filter test ws) → Stands s (w ∷ ws)
+    by_test : (t : Bool) → (IsInList s (filter test ws) → IsInList s ws) → IsInList s (if t then w ∷ filter test ws else filter test ws) → IsInList s (w ∷ ws)
     by_test true later (inl here) = inl here
     by_test true later (inr there) = inr (later there)
     by_test false later k = inr (later k)
 
-pub changed : (f : Fact) (vol : Vol) (b : ℕ) (k : Known) (s : Request) → Stands s (change f vol b k).open_writes → Stands s k.open_writes ⊎ (Begun s ≡ f)
+pub changed : (f : Fact) (vol : Vol) (b : ℕ) (k : Known) (s : Request) → IsInList s (change f vol b k).open_writes → IsInList s k.open_writes ⊎ (Begun s ≡ f)
 changed (Making lv blocks m) vol b k s h = by_test (same_vol (Lv lv) vol && nat_lt b blocks) h
   where
-    by_test : (t : Bool) → Stands s (if t then record { values = Some (zero_sector ∷ []); open_writes = []; loose = false; mode = m } else k).open_writes → Stands s k.open_writes ⊎ (Begun s ≡ Making lv blocks m)
+    by_test : (t : Bool) → IsInList s (if t then record { values = Some (zero_sector ∷ []); open_writes = []; loose = false; mode = m } else k).open_writes → IsInList s k.open_writes ⊎ (Begun s ≡ Making lv blocks m)
     by_test true h = absurd h
     by_test false h = inl h
 changed (Split from lv) vol b k s h = by_test (same_vol (Lv lv) vol) h
   where
-    by_test : (t : Bool) → Stands s (if t then record k { open_writes = [] } else k).open_writes → Stands s k.open_writes ⊎ (Begun s ≡ Split from lv)
+    by_test : (t : Bool) → IsInList s (if t then record k { open_writes = [] } else k).open_writes → IsInList s k.open_writes ⊎ (Begun s ≡ Split from lv)
     by_test true h = absurd h
     by_test false h = inl h
 changed (Removed gone) vol b k s h = by_test (same_vol gone vol) h
   where
-    by_test : (t : Bool) → Stands s (if t then record k { values = None; open_writes = []; loose = false } else k).open_writes → Stands s k.open_writes ⊎ (Begun s ≡ Removed gone)
+    by_test : (t : Bool) → IsInList s (if t then record k { values = None; open_writes = []; loose = false } else k).open_writes → IsInList s k.open_writes ⊎ (Begun s ≡ Removed gone)
     by_test true h = absurd h
     by_test false h = inl h
 changed (Begun r) vol b k s h = by_test (r.write && is_over r vol b) h
   where
-    by_test : (t : Bool) → Stands s (if t then record k { open_writes = r ∷ k.open_writes } else k).open_writes → Stands s k.open_writes ⊎ (Begun s ≡ Begun r)
+    by_test : (t : Bool) → IsInList s (if t then record k { open_writes = r ∷ k.open_writes } else k).open_writes → IsInList s k.open_writes ⊎ (Begun s ≡ Begun r)
     by_test true (inl here) = inr (ap (λ (x : Request). Begun x) (sym here))
     by_test true (inr there) = inl there
     by_test false h = inl h
-changed (Landed r how started got) vol b k s h = inl (by_landing (λ (new : Known). Stands s new.open_writes → Stands s k.open_writes) r how started (is_over r vol b) r.write (is_open_in r k.open_writes) (block_of r.blocks r.at b) (block_of got r.at b) k
+changed (Landed r how started got) vol b k s h = inl (by_landing (λ (new : Known). IsInList s new.open_writes → IsInList s k.open_writes) r how started (is_over r vol b) r.write (is_open_in r k.open_writes) (block_of r.blocks r.at b) (block_of got r.at b) k
     (λ still. still)
-    (λ over write there still. filtered (λ (x : Request). not (same_request r x)) k.open_writes s (subst (Stands s) (ended_open r how started (block_of r.blocks r.at b) k) still))
-    (λ over is_read still. subst (Stands s) (read_open how (block_of got r.at b) k) still) h)
+    (λ over write there still. filtered (λ (x : Request). not (same_request r x)) k.open_writes s (subst (IsInList s) (ended_open r how started (block_of r.blocks r.at b) k) still))
+    (λ over is_read still. subst (IsInList s) (read_open how (block_of got r.at b) k) still) h)
 changed Cut vol b k s h = absurd h
 changed _ vol b k s h = inl h
 
 abbrev pub OpenBegan : List Fact → Type 0
-OpenBegan facts = (vol : Vol) (b : ℕ) (s : Request) → Stands s (known facts vol b).open_writes → Stands (Begun s) facts
+OpenBegan facts = (vol : Vol) (b : ℕ) (s : Request) → IsInList s (known facts vol b).open_writes → IsInList (Begun s) facts
 
 pub open_began : (facts : List Fact) → Legal facts → OpenBegan facts
 open_began facts legal = grow_legal OpenBegan grow [] facts (λ vol b s none. none) legal
   where
     grow : (past : List Fact) (f : Fact) → OpenBegan past → Fits past f → OpenBegan (past ++ f ∷ [])
     grow past f q fits vol b s h = ⊎_elim
-        (λ (old : Stands s (known past (source f vol) b).open_writes). stands_left past (f ∷ []) (Begun s) (q (source f vol) b s old))
-        (λ (new : Begun s ≡ f). subst (λ (g : Fact). Stands (Begun s) (past ++ g ∷ [])) new (stands_last past (Begun s)))
-        (changed f vol b (known past (source f vol) b) s (subst (λ (k : Known). Stands s k.open_writes) (known-push past f vol b) h))
+        (λ (old : IsInList s (known past (source f vol) b).open_writes). stands_left past (f ∷ []) (Begun s) (q (source f vol) b s old))
+        (λ (new : Begun s ≡ f). subst (λ (g : Fact). IsInList (Begun s) (past ++ g ∷ [])) new (stands_last past (Begun s)))
+        (changed f vol b (known past (source f vol) b) s (subst (λ (k : Known). IsInList s k.open_writes) (known-push past f vol b) h))
 
 -- so one with a further number isn't open
-pub later_apart : (facts : List Fact) (r s : Request) → Legal facts → count_by (begins_in r.run) facts < r.id → Stands (Begun s) facts → IsFalse (same_request r s)
+pub later_apart : (facts : List Fact) (r s : Request) → Legal facts → count_by (begins_in r.run) facts < r.id → IsInList (Begun s) facts → IsFalse (same_request r s)
 later_apart facts r s legal above stands = by_test (same_request r s) refl
   where
     by_test : (t : Bool) → same_request r s ≡ t → IsFalse t
@@ -267,6 +267,6 @@ later_apart facts r s legal above stands = by_test (same_request r s) refl
 pub not_open : (facts : List Fact) (r : Request) (vol : Vol) (b : ℕ) → Legal facts → count_by (begins_in r.run) facts < r.id → is_open_in r (known facts vol b).open_writes ≡ false
 not_open facts r vol b legal above = by_list (known facts vol b).open_writes (λ s h. open_began facts legal vol b s h)
   where
-    by_list : (ws : List Request) → ((s : Request) → Stands s ws → Stands (Begun s) facts) → is_open_in r ws ≡ false
+    by_list : (ws : List Request) → ((s : Request) → IsInList s ws → IsInList (Begun s) facts) → is_open_in r ws ≡ false
     by_list [] all = refl
     by_list (w ∷ ws) all = ap (λ (t : Bool). t || is_open_in r ws) (later_apart facts r w legal above (all w (inl refl))) ∙ by_list ws (λ s h. all s (inr h))

@@ -6,7 +6,7 @@ use Rattle.std.proofs.lemmas.List.{append-nil}
 use Rattle.std.proofs.lemmas.Bool.{or_right as or_second, cases_Bool}
 use Rattle.lvm_vol.specs.declared.entry.Outcome.{Outcome}
 use Rattle.lvm_vol.specs.declared.entry.Outcome.TheVariants as outcome
-use Rattle.lvm_vol.specs.Facts.{Landed as HasLanded, Request, Fact, Begun, Taken, Cut, Stands, same_request, block_of}
+use Rattle.lvm_vol.specs.Facts.{Landed as HasLanded, Request, Fact, Begun, Taken, Cut, IsInList, same_request, block_of}
 use Rattle.lvm_vol.specs.May.{ended, read, Known, is_off, is_some_open, known, cut}
 use Rattle.lvm_vol.proofs.LawsLemmas.Knowing.{known-push}
 use Rattle.lvm_vol.proofs.LawsLemmas.Legality.{legal_push}
@@ -18,7 +18,7 @@ use Rattle.lvm_vol.specs.Legal.{lands, Legal, IsOutcomeOf, GotMay}
 use Rattle.lvm_invariant.specs.Off.{OffKeeps}
 use Rattle.lvm_invariant.specs.Told.{Told}
 use Rattle.lvm_invariant.specs.State.{Queued, ModelState, covers, write_of, told, has_landed, Started}
-use Rattle.lvm_invariant.specs.Over.{IsDistinct, IsUnlanded, is_going, AreOpen, landings, IsOver, OverStays}
+use Rattle.lvm_invariant.specs.Over.{IsDistinct, IsUnlanded, is_going, AreOpen, landings, IsLegalOver, OverStays}
 use Rattle.lvm_invariant.specs.Sound.{Sound}
 use Rattle.lvm_invariant.specs.Cut.{CutKeeps}
 use Rattle.lvm_invariant.specs.Crash.{BlockKept, Widens}
@@ -77,12 +77,12 @@ record Way (s : ModelState) (places : List ℕ) (facts : List Fact) : Type 0 whe
   some : (lv b : ℕ) → HasValues (told s lv b) → HasValues (known facts (Lv lv) b)
   loose : (lv b : ℕ) → IsTrue (told s lv b).loose → IsTrue (known facts (Lv lv) b).loose
   modes : (lv b : ℕ) → (known facts (Lv lv) b).mode ≡ (told s lv b).mode
-  writes : (i lv b : ℕ) (r : Queued) → Started s i r → IsTrue (covers r lv b) → (Stands i places × (write_of b (known facts (Lv lv) b) (s.name i) ≡ Some (r.value b))) ⊎ IsCared s facts lv b r
-  waits : (i : ℕ) → Stands i places → Stands (Begun (s.name i)) facts × (list_any (lands (s.name i)) facts ≡ false)
+  writes : (i lv b : ℕ) (r : Queued) → Started s i r → IsTrue (covers r lv b) → (IsInList i places × (write_of b (known facts (Lv lv) b) (s.name i) ≡ Some (r.value b))) ⊎ IsCared s facts lv b r
+  waits : (i : ℕ) → IsInList i places → IsInList (Begun (s.name i)) facts × (list_any (lands (s.name i)) facts ≡ false)
 
 module _ (s : ModelState) (sound : Sound s) (t : Told s.queue s.name s.facts) (how : Outcome) (over : IsFalse (is_calm how)) where
-  module _ (i : ℕ) (places : List ℕ) (facts : List Fact) (started : Bool) (not_again : Stands i places → ⊥) (mine : IsUnlanded s i)
-      (open_there : (j : ℕ) → Stands j places → IsUnlanded s j) (begun_data : (r : Queued) → s.queue i ≡ Some r → IsTrue r.write → started ≡ is_going r.phase) (way : Way s (i ∷ places) facts) where
+  module _ (i : ℕ) (places : List ℕ) (facts : List Fact) (started : Bool) (not_again : IsInList i places → ⊥) (mine : IsUnlanded s i)
+      (open_there : (j : ℕ) → IsInList j places → IsUnlanded s j) (begun_data : (r : Queued) → s.queue i ≡ Some r → IsTrue r.write → started ≡ is_going r.phase) (way : Way s (i ∷ places) facts) where
     abbrev q : Request
     q = s.name i
 
@@ -100,8 +100,8 @@ module _ (s : ModelState) (sound : Sound s) (t : Told s.queue s.name s.facts) (h
     loose_next : (lv b : ℕ) → IsTrue (known facts (Lv lv) b).loose → IsTrue (known next (Lv lv) b).loose
     loose_next lv b h = same_block lv b (λ (k : Known). IsTrue k.loose) h (λ x. off_loose q started x (known facts (Lv lv) b) h)
 
-    apart_from : (j : ℕ) → Stands j places → IsFalse (j == i)
-    apart_from j there = ⊎_elim (λ (same : IsTrue (j == i)). absurd (not_again (subst (λ (k : ℕ). Stands k places) (eqb-true _ _ same) there))) (λ (f : IsFalse (j == i)). f) (cases_Bool (j == i))
+    apart_from : (j : ℕ) → IsInList j places → IsFalse (j == i)
+    apart_from j there = ⊎_elim (λ (same : IsTrue (j == i)). absurd (not_again (subst (λ (k : ℕ). IsInList k places) (eqb-true _ _ same) there))) (λ (f : IsFalse (j == i)). f) (cases_Bool (j == i))
 
     now_cared : (lv b : ℕ) (r : Queued) → Started s i r → IsTrue (covers r lv b) → write_of b (known facts (Lv lv) b) q ≡ Some (r.value b) → IsCared s next lv b r
     now_cared lv b r start inside is_open =
@@ -130,9 +130,9 @@ module _ (s : ModelState) (sound : Sound s) (t : Told s.queue s.name s.facts) (h
       loose = λ lv b h. loose_next lv b (way.loose lv b h);
       modes = λ lv b. landing_mode facts q how started [] lv b ∙ way.modes lv b;
       writes = λ j lv b r start inside. ⊎_elim
-          (λ (waiting : Stands j (i ∷ places) × (write_of b (known facts (Lv lv) b) (s.name j) ≡ Some (r.value b))). ⊎_elim
+          (λ (waiting : IsInList j (i ∷ places) × (write_of b (known facts (Lv lv) b) (s.name j) ≡ Some (r.value b))). ⊎_elim
           (λ (same : i ≡ j). inr (now_cared lv b r (subst (λ (k : ℕ). Started s k r) (sym same) start) inside (ap (λ (k : ℕ). write_of b (known facts (Lv lv) b) (s.name k)) same ∙ waiting.1)))
-          (λ (there : Stands j places). inl (
+          (λ (there : IsInList j places). inl (
             there,
             landing_others facts q how started [] lv b (s.name j)
                 (t.apart i j mine.req r mine.there start.there mine.request (write_asks s t j r start.there start.write) (apart_from j there)) ∙ waiting.1,
@@ -143,11 +143,11 @@ module _ (s : ModelState) (sound : Sound s) (t : Told s.queue s.name s.facts) (h
       waits = λ j there. let w = way.waits j (inr there) in (stands_left facts (HasLanded q how started [] ∷ []) (Begun (s.name j)) w.0, any-push (lands (s.name j)) facts (HasLanded q how started []) ∙ ap (λ (b : Bool). b || same_request (s.name j) q) w.1 ∙ other_name j there);
     }
       where
-        other_name : (j : ℕ) → Stands j places → same_request (s.name j) q ≡ false
+        other_name : (j : ℕ) → IsInList j places → same_request (s.name j) q ≡ false
         other_name j there = let u = open_there j there in t.apart i j mine.req u.req mine.there u.there mine.request u.request (apart_from j there)
 
   -- some of the open requests land, one after another
-  some_land : (first rest : List ℕ) (facts : List Fact) (started : ℕ → Bool) → IsDistinct (first ++ rest) → ((j : ℕ) → Stands j (first ++ rest) → IsUnlanded s j)
+  some_land : (first rest : List ℕ) (facts : List Fact) (started : ℕ → Bool) → IsDistinct (first ++ rest) → ((j : ℕ) → IsInList j (first ++ rest) → IsUnlanded s j)
       → ((j : ℕ) (r : Queued) → s.queue j ≡ Some r → IsTrue r.write → started j ≡ is_going r.phase) → Way s (first ++ rest) facts → Way s rest (facts ++ landings how s.name started first)
   some_land [] rest facts started distinct each begun_data way = subst (Way s rest) (sym (append-nil facts)) way
   some_land (i ∷ first) rest facts started distinct each begun_data way = subst (Way s rest) (append_assoc facts (HasLanded (s.name i) how (started i) [] ∷ []) (landings how s.name started first))
@@ -159,7 +159,7 @@ module _ (s : ModelState) (sound : Sound s) (t : Told s.queue s.name s.facts) (h
   cut_then {rest = rest} {facts = facts} way = record {
     old = λ lv b value h. in_more (known facts (Lv lv) b).values _ value (way.old lv b value h);
     new = λ i lv b r start inside. ⊎_elim
-        (λ (waiting : Stands i rest × (write_of b (known facts (Lv lv) b) (s.name i) ≡ Some (r.value b))).
+        (λ (waiting : IsInList i rest × (write_of b (known facts (Lv lv) b) (s.name i) ≡ Some (r.value b))).
         let busy = sound.blocks.busy i lv b r start inside in
         let values = way.some lv b busy.known in
         in_added (known facts (Lv lv) b).values _ values.0 (r.value b) values.1 (brought_in b (known facts (Lv lv) b).open_writes (s.name i) (r.value b) waiting.1))
@@ -167,7 +167,7 @@ module _ (s : ModelState) (sound : Sound s) (t : Told s.queue s.name s.facts) (h
         (way.writes i lv b r start inside);
     loose = λ lv b h. or_left (known facts (Lv lv) b).loose _ (way.loose lv b h);
     started = λ i lv b r start inside off soft. ⊎_elim
-        (λ (waiting : Stands i rest × (write_of b (known facts (Lv lv) b) (s.name i) ≡ Some (r.value b))).
+        (λ (waiting : IsInList i rest × (write_of b (known facts (Lv lv) b) (s.name i) ≡ Some (r.value b))).
         let at = sound.tied.inside i r start.there lv b inside in
         or_right (known facts (Lv lv) b).loose (is_off (known facts (Lv lv) b).mode) (is_some_open (known facts (Lv lv) b).open_writes)
         (ap is_off (way.modes lv b) ∙ sound.tied.modes lv b at.0 at.1 off soft) (some_open b (known facts (Lv lv) b).open_writes (s.name i) (r.value b) waiting.1))
@@ -175,7 +175,7 @@ module _ (s : ModelState) (sound : Sound s) (t : Told s.queue s.name s.facts) (h
         (way.writes i lv b r start inside);
   }
 
-  landed_over : (first rest : List ℕ) (facts : List Fact) (started : ℕ → Bool) → AreOpen s (first ++ rest) started → Way s (first ++ rest) facts → IsOver s (facts ++ landings how s.name started first)
+  landed_over : (first rest : List ℕ) (facts : List Fact) (started : ℕ → Bool) → AreOpen s (first ++ rest) started → Way s (first ++ rest) facts → IsLegalOver s (facts ++ landings how s.name started first)
   landed_over first rest facts started open_now way =
       let last = some_land first rest facts started open_now.once open_now.each open_now.begun_data way in
       let all = facts ++ landings how s.name started first in

@@ -5,7 +5,7 @@ use Rattle.std.specs.List.{list_any}
 use Rattle.lvm_num.proofs.Booleans.{or_false, or_true, clash_gives}
 use Rattle.lvm_vol.specs.declared.entry.Vol.TheVariants.{Lv}
 use Rattle.lvm_vol.specs.declared.entry.Outcome.{Outcome}
-use Rattle.lvm_vol.specs.Facts.{Request, Fact, Begun, Landed, Taken, Stands, same_request}
+use Rattle.lvm_vol.specs.Facts.{Request, Fact, Begun, Landed, Taken, IsInList, same_request}
 use Rattle.lvm_vol.specs.Legal.{begins_in, lands, takes, TakenOnce, Legal, IsOutcomeOf, GotMay}
 use Rattle.lvm_vol.proofs.LawsLemmas.Legality.{legal_push, unlanded, untaken, same_self}
 use Rattle.lvm_vol.proofs.FactsLemmas.Order.{any-push, stands_left, stands_last}
@@ -158,7 +158,7 @@ module _ (queue : ℕ → Option Queued) (name : ℕ → Request) (facts : List 
         record {
           legal = (legal_push facts (Begun q)).1 (t.legal, next);
           same = by_place (λ (x : Request) (m : Queued). IsFalse m.step → IsRequestOf x m) (λ a. is) t.same;
-          began = by_place (λ (x : Request) (m : Queued). IsFalse m.step → Stands (Begun x) (facts ++ Begun q ∷ [])) (λ a. stands_last facts (Begun q)) (λ j m h a. stands_left facts (Begun q ∷ []) (Begun (name j)) (t.began j m h a));
+          began = by_place (λ (x : Request) (m : Queued). IsFalse m.step → IsInList (Begun x) (facts ++ Begun q ∷ [])) (λ a. stands_last facts (Begun q)) (λ j m h a. stands_left facts (Begun q ∷ []) (Begun (name j)) (t.began j m h a));
           ended = by_place (λ (x : Request) (m : Queued). IsFalse m.step → list_any (lands x) (facts ++ Begun q ∷ []) ≡ has_landed m.phase)
               (λ a. any-push (lands q) facts (Begun q) ∙ or_false (list_any (lands q) facts) ∙ none ∙ sym unfinished)
               (λ j m h a. any-push (lands (name j)) facts (Begun q) ∙ or_false (list_any (lands (name j)) facts) ∙ t.ended j m h a);
@@ -174,7 +174,7 @@ module _ (queue : ℕ → Option Queued) (name : ℕ → Request) (facts : List 
     told_entered step reads = record {
       legal = t.legal;
       same = by_place (λ (x : Request) (m : Queued). IsFalse m.step → IsRequestOf x m) (λ a. clash_gives r.step step a) t.same;
-      began = by_place (λ (x : Request) (m : Queued). IsFalse m.step → Stands (Begun x) facts) (λ a. clash_gives r.step step a) t.began;
+      began = by_place (λ (x : Request) (m : Queued). IsFalse m.step → IsInList (Begun x) facts) (λ a. clash_gives r.step step a) t.began;
       ended = by_place (λ (x : Request) (m : Queued). IsFalse m.step → list_any (lands x) facts ≡ has_landed m.phase) (λ a. clash_gives r.step step a) t.ended;
       untaken = by_place (λ (x : Request) (m : Queued). IsFalse m.step → list_any (takes x) facts ≡ false) (λ a. clash_gives r.step step a) t.untaken;
       apart = apart_now (λ a. clash_gives r.step step a);

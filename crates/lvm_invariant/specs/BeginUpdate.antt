@@ -6,10 +6,10 @@ use Rattle.lvm_invariant.specs.State.{Marks, ModelState}
 use Rattle.lvm_invariant.specs.Good.{Good}
 
 -- none is in flight; it carries what is wanted, under a later stamp
-pub record Begins (s : ModelState) (u : Stamped Marks) : Type 0 where
+pub record BeginsUpdate (s : ModelState) (u : Stamped Marks) : Type 0 where
   pub none : s.in_flight ≡ None
   pub value : u.value ≡ s.wanted
   pub later : stamp_lt s.committed.stamp u.stamp ≡ true
 
 abbrev pub BeginUpdateKeeps : Type 0
-BeginUpdateKeeps = (votes : Votes) (s : ModelState) (u : Stamped Marks) → Begins s u → Good votes s → Good votes (record s { in_flight = Some u })
+BeginUpdateKeeps = (votes : Votes) (s : ModelState) (u : Stamped Marks) → BeginsUpdate s u → Good votes s → Good votes (record s { in_flight = Some u })

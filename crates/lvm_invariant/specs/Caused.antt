@@ -9,7 +9,7 @@ use Rattle.lvm_vol.specs.declared.entry.Outcome.{Outcome}
 use Rattle.lvm_vol.specs.declared.entry.Outcome.TheVariants as outcome
 use Rattle.lvm_vol.specs.Facts.{Request, Fact, Landed, is_over}
 use Rattle.lvm_invariant.specs.State.{Marks, Badly, Queued, ModelCopy, ModelState}
-use Rattle.lvm_invariant.specs.Faults.{Faults, HasFailed, SomeFailed, NoneFailed, HasCause}
+use Rattle.lvm_invariant.specs.Faults.{Faults, FaultsRose, SomeFailed, NoneFailed, IsStaleForCause}
 
 -- each copy of what the request goes over was stale, or on a missing disk, when the session began
 abbrev pub HadNoCopy : Faults → ModelState → Request → Type 0
@@ -42,13 +42,13 @@ pub record Caused (w : Faults) (s : ModelState) : Type 0 where
   pub asked_since : (i d : ℕ) → w.began d ≤ w.asked i d
   pub asked_before : (i d : ℕ) → w.asked i d ≤ w.now d
   -- a missing disk was missing when the session began, or has failed since
-  pub missing : (d : ℕ) → IsTrue (s.missing d) → IsTrue (w.missing d) ⊎ HasFailed w d
+  pub missing : (d : ℕ) → IsTrue (s.missing d) → IsTrue (w.missing d) ⊎ FaultsRose w d
   pub still_missing : (d : ℕ) → IsTrue (w.missing d) → IsTrue (s.missing d)
   -- a copy that is stale by what is committed, in flight or wanted, or is being brought up, has its cause
-  pub committed : (c : Pp) → IsTrue (s.committed.value.stale c) → HasCause w c
-  pub in_flight : (c : Pp) (u : Stamped Marks) → s.in_flight ≡ Some u → IsTrue (u.value.stale c) → HasCause w c
-  pub wanted : (c : Pp) → IsTrue (s.wanted.stale c) → HasCause w c
-  pub brought_up : (o : ModelCopy) → s.open_copy ≡ Some o → HasCause w o.target
+  pub committed : (c : Pp) → IsTrue (s.committed.value.stale c) → IsStaleForCause w c
+  pub in_flight : (c : Pp) (u : Stamped Marks) → s.in_flight ≡ Some u → IsTrue (u.value.stale c) → IsStaleForCause w c
+  pub wanted : (c : Pp) → IsTrue (s.wanted.stale c) → IsStaleForCause w c
+  pub brought_up : (o : ModelCopy) → s.open_copy ≡ Some o → IsStaleForCause w o.target
   -- a transfer that failed is on a disk that has failed since its request or step entered the queue
   pub failed : (i : ℕ) (r : Queued) (c : Pp) → s.queue i ≡ Some r → r.targets c ≡ Some Badly → Rose (w.asked i c.disk) (w.now c.disk)
   pub landed : Since w s s.facts

@@ -8,7 +8,7 @@ use Rattle.lvm_invariant.specs.State.{Queued, ModelCopy, StepWrite, ModelState, 
 use Rattle.lvm_invariant.specs.Good.{Good}
 
 -- the open copy passes track groups whose blocks have been written to it
-pub record Passes (s : ModelState) (r : Queued) (value : ℕ → List ℕ) (target : Pp) (block : ℕ → ℕ → Pp → List ℕ) (open_copy : Option ModelCopy) : Type 0 where
+pub record PassesGroups (s : ModelState) (r : Queued) (value : ℕ → List ℕ) (target : Pp) (block : ℕ → ℕ → Pp → List ℕ) (open_copy : Option ModelCopy) : Type 0 where
   pub old : ModelCopy
   pub new : ModelCopy
   pub is_open : s.open_copy ≡ Some old
@@ -26,7 +26,7 @@ pub record CopyWrites (s : ModelState) (i : ℕ) (r : Queued) (value : ℕ → L
   pub past : IsTrue (is_past r.phase)
   pub got : r.got ≡ Some value
   pub media : (lv b : ℕ) (e : Pp) → (block lv b e ≡ s.media.block lv b e) ⊎ (IsTrue (covers r lv b) × (e ≡ target) × (block lv b e ≡ value b))
-  pub open_now : (open_copy ≡ s.open_copy) ⊎ Passes s r value target block open_copy
+  pub open_now : (open_copy ≡ s.open_copy) ⊎ PassesGroups s r value target block open_copy
 
 abbrev pub copied : ModelState → (ℕ → ℕ → Pp → List ℕ) → Option ModelCopy → Option StepWrite → ModelState
 copied s block open_copy step_write = record s { media = with_block s.media block; open_copy = open_copy; step_write = step_write }

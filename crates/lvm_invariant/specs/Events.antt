@@ -8,18 +8,18 @@ use Rattle.lvm_invariant.specs.EndNote.{EndsNote, after_note}
 use Rattle.lvm_invariant.specs.CopyWrite.{CopyWrites, copied}
 use Rattle.lvm_invariant.specs.EnterStep.{StepEnters, entered}
 use Rattle.lvm_invariant.specs.LandDone.{LandsDone, done}
-use Rattle.lvm_invariant.specs.StartWrite.{MayStart, started_first}
+use Rattle.lvm_invariant.specs.StartWrite.{MayStartWrite, started_first}
 use Rattle.lvm_invariant.specs.Commit.{Commit, after_commit}
 use Rattle.lvm_invariant.specs.Admit.{admitted, Admits}
 use Rattle.lvm_invariant.specs.Found.{Votes}
-use Rattle.lvm_invariant.specs.EndStep.{StepEnds}
+use Rattle.lvm_invariant.specs.EndStep.{EndsStep}
 use Rattle.lvm_invariant.specs.LandReadFailed.{ReadFails, read_failed}
 use Rattle.lvm_invariant.specs.Transfer.{Restages, restaged}
-use Rattle.lvm_invariant.specs.Take.{Takes, taken}
+use Rattle.lvm_invariant.specs.Take.{TakesAnswerOf, taken}
 use Rattle.lvm_invariant.specs.TakeEarlier.{TakesEarlier, taken_earlier}
 use Rattle.lvm_invariant.specs.Updates.{with_req, land}
 use Rattle.lvm_invariant.specs.EndUpdate.{UpdateEnds}
-use Rattle.lvm_invariant.specs.Read.{Reads, reading}
+use Rattle.lvm_invariant.specs.Read.{ReadsFromCopy, reading}
 use Rattle.lvm_invariant.specs.Open.{Opens}
 use Rattle.lvm_invariant.specs.LandGot.{LandsGot, with_got}
 use Rattle.lvm_invariant.specs.LandLost.{LandsLost, lost}
@@ -27,12 +27,12 @@ use Rattle.lvm_invariant.specs.Submit.{Submits, submitted}
 use Rattle.lvm_invariant.specs.State.{Marks, Groups, Stage, ModelPhase, Queued, ModelCopy, StepWrite, ModelState}
 use Rattle.lvm_invariant.specs.Pin.{Pins, pinned}
 use Rattle.lvm_invariant.specs.Good.{Good}
-use Rattle.lvm_invariant.specs.MoveStatus.{Moves, moved}
+use Rattle.lvm_invariant.specs.MoveStatus.{StatusMoves, moved}
 use Rattle.lvm_invariant.specs.Want.{Wants, after_wants}
 use Rattle.lvm_invariant.specs.LandNoFresh.{FindsNoFresh, no_fresh}
 use Rattle.lvm_invariant.specs.Crash.{EachKept}
 use Rattle.lvm_invariant.specs.StartNote.{StartsNote}
-use Rattle.lvm_invariant.specs.BeginUpdate.{Begins}
+use Rattle.lvm_invariant.specs.BeginUpdate.{BeginsUpdate}
 use Rattle.lvm_invariant.specs.Clear.{Clears}
 
 -- an event, with what it brings along
@@ -69,20 +69,20 @@ Allows votes (Submit i q r) s = Submits s i q r
 Allows votes (EnterStep i q r) s = StepEnters s i r
 Allows votes (Admit i r phase several targets) s = Admits s i r phase several targets
 Allows votes (Pin i r cache) s = Pins s i r cache
-Allows votes (Read i r c stage got) s = Reads s i r c got
-Allows votes (StartWrite i r c) s = MayStart s i r c
+Allows votes (Read i r c stage got) s = ReadsFromCopy s i r c got
+Allows votes (StartWrite i r c) s = MayStartWrite s i r c
 Allows votes (Transfer i r c stage block) s = Restages s i r c stage block
 Allows votes (LandDone i r) s = LandsDone s i r
 Allows votes (LandLost i r) s = LandsLost s i r
 Allows votes (LandGot i r got) s = LandsGot s i r got
 Allows votes (LandReadFailed i r) s = ReadFails s i r
 Allows votes (LandNoFresh i r) s = FindsNoFresh s i r
-Allows votes (EndStep i r) s = StepEnds s i r
-Allows votes (Take i r) s = Takes s i r
+Allows votes (EndStep i r) s = EndsStep s i r
+Allows votes (Take i r) s = TakesAnswerOf s i r
 Allows votes (TakeEarlier q) s = TakesEarlier s q
 Allows votes (Want wanted missing open_copy) s = Wants s wanted missing open_copy
-Allows votes (BeginUpdate u) s = Begins s u
-Allows votes (MoveStatus u status flying) s = Moves s u status
+Allows votes (BeginUpdate u) s = BeginsUpdate s u
+Allows votes (MoveStatus u status flying) s = StatusMoves s u status
 Allows votes (CommitUpdate u has_it done wanted open_copy) s = Commit votes s u has_it done wanted open_copy
 Allows votes EndUpdate s = UpdateEnds s
 Allows votes (StartNote flying) s = StartsNote s flying

@@ -15,16 +15,16 @@ pub record Faults : Type 0 where
   pub past : List Fact
 
 -- the faults of the disk rose since the session began
-abbrev pub HasFailed : Faults → ℕ → Type 0
-HasFailed w d = Rose (w.began d) (w.now d)
+abbrev pub FaultsRose : Faults → ℕ → Type 0
+FaultsRose w d = Rose (w.began d) (w.now d)
 
 -- some disk's did, or none's
 abbrev pub SomeFailed : Faults → Type 0
-SomeFailed w = (d : ℕ) × HasFailed w d
+SomeFailed w = (d : ℕ) × FaultsRose w d
 
 abbrev pub NoneFailed : Faults → Type 0
-NoneFailed w = (d : ℕ) → HasFailed w d → ⊥
+NoneFailed w = (d : ℕ) → FaultsRose w d → ⊥
 
 -- why a copy is stale: it was when the session began, or its disk was missing then, or has failed since
-abbrev pub HasCause : Faults → Pp → Type 0
-HasCause w c = IsTrue (w.stale c) ⊎ IsTrue (w.missing c.disk) ⊎ HasFailed w c.disk
+abbrev pub IsStaleForCause : Faults → Pp → Type 0
+IsStaleForCause w c = IsTrue (w.stale c) ⊎ IsTrue (w.missing c.disk) ⊎ FaultsRose w c.disk

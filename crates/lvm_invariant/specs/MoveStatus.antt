@@ -7,7 +7,7 @@ use Rattle.lvm_invariant.specs.State.{Marks, ModelState}
 use Rattle.lvm_invariant.specs.Good.{Good}
 
 -- disks have the update, or what they had
-pub record Moves (s : ModelState) (u : Stamped Marks) (status : ℕ → Option (Stamped Marks)) : Type 0 where
+pub record StatusMoves (s : ModelState) (u : Stamped Marks) (status : ℕ → Option (Stamped Marks)) : Type 0 where
   pub flies : s.in_flight ≡ Some u
   pub each : (d : ℕ) → (status d ≡ s.media.status d) ⊎ (status d ≡ Some u)
 
@@ -16,4 +16,4 @@ moved s status flying = record s { media = with_status s.media status; status_fl
 
 abbrev pub MoveStatusKeeps : Type 0
 MoveStatusKeeps = (votes : Votes) (s : ModelState) (u : Stamped Marks) (status : ℕ → Option (Stamped Marks)) (flying : ℕ → Bool)
-    → Moves s u status → Good votes s → Good votes (moved s status flying)
+    → StatusMoves s u status → Good votes s → Good votes (moved s status flying)

@@ -4,7 +4,7 @@ use Rattle.lvm_num.specs.declared.place.Pp.{Pp}
 use Rattle.lvm_invariant.specs.Found.{Votes}
 use Rattle.lvm_invariant.specs.State.{Flying, Queued, ModelState}
 use Rattle.lvm_invariant.specs.Good.{Good}
-use Rattle.lvm_invariant.specs.Over.{AreOpen, landings, IsOver}
+use Rattle.lvm_invariant.specs.Over.{AreOpen, landings, IsLegalOver}
 use Rattle.lvm_vol.specs.declared.entry.Outcome.TheVariants as outcome
 
 -- The disks that aren't missing have too few votes, and no flight is out.
@@ -19,4 +19,4 @@ pub record GoesOff (votes : Votes) (s : ModelState) (places : List ℕ) (started
 -- All open requests land as Off. Each landing is a moment: so it is when the first of them have landed, and the rest haven't.
 abbrev pub OffKeeps : Type 0
 OffKeeps = (votes : Votes) (s : ModelState) (first rest : List ℕ) (started : ℕ → Bool)
-    → GoesOff votes s (first ++ rest) started → Good votes s → IsOver s (s.facts ++ landings outcome.Off s.name started first)
+    → GoesOff votes s (first ++ rest) started → Good votes s → IsLegalOver s (s.facts ++ landings outcome.Off s.name started first)

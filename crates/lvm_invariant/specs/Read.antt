@@ -7,7 +7,7 @@ use Rattle.lvm_invariant.specs.State.{Stage, Going, Queued, ModelState, covers, 
 use Rattle.lvm_invariant.specs.Good.{Good}
 
 -- What the read gets is what the copy holds.
-pub record Reads (s : ModelState) (i : ℕ) (r : Queued) (c : Pp) (got : Option (ℕ → List ℕ)) : Type 0 where
+pub record ReadsFromCopy (s : ModelState) (i : ℕ) (r : Queued) (c : Pp) (got : Option (ℕ → List ℕ)) : Type 0 where
   pub there : s.queue i ≡ Some r
   pub read : IsFalse r.write
   pub past : IsTrue (is_past r.phase)
@@ -19,4 +19,4 @@ reading r c stage got = record r { phase = Going; targets = staged r.targets c s
 
 abbrev pub ReadKeeps : Type 0
 ReadKeeps = (votes : Votes) (s : ModelState) (i : ℕ) (r : Queued) (c : Pp) (stage : Stage) (got : Option (ℕ → List ℕ))
-    → Reads s i r c got → Good votes s → Good votes (with_req s i (reading r c stage got))
+    → ReadsFromCopy s i r c got → Good votes s → Good votes (with_req s i (reading r c stage got))

@@ -111,7 +111,7 @@ pub record Conflict (r e : Queued) : Type 0 where
   pub second : IsTrue (covers e lv block)
   pub writes : IsTrue r.write ⊎ IsTrue e.write
 
-pub record Holds (s : ModelState) : Type 0 where
+pub record ModelHolds (s : ModelState) : Type 0 where
   pub order : (i j : ℕ) (r e : Queued) → s.queue i ≡ Some r → s.queue j ≡ Some e → j < i → Conflict e r → IsTrue (is_past r.phase) → IsTrue (has_landed e.phase)
   -- a read that was admitted: the copies of its order hold what the live copies hold
   pub reads : (i lv b : ℕ) (r : Queued) → s.queue i ≡ Some r → IsFalse r.write → IsTrue (is_past r.phase) → IsTrue (covers r lv b) → (c : Pp) (stage : Stage) → r.targets c ≡ Some stage
@@ -126,7 +126,7 @@ pub record Sound (s : ModelState) : Type 0 where
   pub statuses : Statuses s
   pub behind : Behind s
   pub notes : Notes s
-  pub holds : Holds s
+  pub holds : ModelHolds s
 
 -- all of these but what a missing disk entails
 pub record Nearly (s : ModelState) : Type 0 where
@@ -134,4 +134,4 @@ pub record Nearly (s : ModelState) : Type 0 where
   pub tied : Tied s
   pub statuses : Statuses s
   pub notes : Notes s
-  pub holds : Holds s
+  pub holds : ModelHolds s

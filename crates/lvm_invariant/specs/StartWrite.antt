@@ -8,7 +8,7 @@ use Rattle.lvm_invariant.specs.State.{Groups, Stage, Todo, Flying, Ready, Going,
 use Rattle.lvm_invariant.specs.Good.{Good}
 
 -- what a write needs for its first transfer
-pub record MayStart (s : ModelState) (i : ℕ) (r : Queued) (c : Pp) : Type 0 where
+pub record MayStartWrite (s : ModelState) (i : ℕ) (r : Queued) (c : Pp) : Type 0 where
   pub there : s.queue i ≡ Some r
   pub write : IsTrue r.write
   pub ready : r.phase ≡ Ready
@@ -36,4 +36,4 @@ abbrev pub started_first : ModelState → ℕ → Queued → Pp → ModelState
 started_first s i r c = with_req s i (going r c)
 
 abbrev pub StartWriteKeeps : Type 0
-StartWriteKeeps = (votes : Votes) (s : ModelState) (i : ℕ) (r : Queued) (c : Pp) → MayStart s i r c → Good votes s → Good votes (started_first s i r c)
+StartWriteKeeps = (votes : Votes) (s : ModelState) (i : ℕ) (r : Queued) (c : Pp) → MayStartWrite s i r c → Good votes s → Good votes (started_first s i r c)

@@ -2,7 +2,7 @@
 use Rattle.std.specs.Prelude.{◌≡◌, ℕ, false, ◌==◌, List, Option, Some, IsTrue, IsFalse}
 use Rattle.std.specs.List.{list_any}
 use Rattle.lvm_vol.specs.declared.entry.Vol.TheVariants.{Lv}
-use Rattle.lvm_vol.specs.Facts.{Request, Fact, Begun, Stands, same_request, is_over, block_of}
+use Rattle.lvm_vol.specs.Facts.{Request, Fact, Begun, IsInList, same_request, is_over, block_of}
 use Rattle.lvm_vol.specs.Legal.{lands, takes, Legal}
 use Rattle.lvm_invariant.specs.State.{Queued, covers, has_landed}
 
@@ -17,7 +17,7 @@ pub record IsRequestOf (q : Request) (r : Queued) : Type 0 where
 pub record Told (queue : ℕ → Option Queued) (name : ℕ → Request) (facts : List Fact) : Type 0 where
   pub legal : Legal facts
   pub same : (i : ℕ) (r : Queued) → queue i ≡ Some r → IsFalse r.step → IsRequestOf (name i) r
-  pub began : (i : ℕ) (r : Queued) → queue i ≡ Some r → IsFalse r.step → Stands (Begun (name i)) facts
+  pub began : (i : ℕ) (r : Queued) → queue i ≡ Some r → IsFalse r.step → IsInList (Begun (name i)) facts
   pub ended : (i : ℕ) (r : Queued) → queue i ≡ Some r → IsFalse r.step → list_any (lands (name i)) facts ≡ has_landed r.phase
   pub untaken : (i : ℕ) (r : Queued) → queue i ≡ Some r → IsFalse r.step → list_any (takes (name i)) facts ≡ false
   pub apart : (i j : ℕ) (r e : Queued) → queue i ≡ Some r → queue j ≡ Some e → IsFalse r.step → IsFalse e.step → IsFalse (j == i) → IsFalse (same_request (name j) (name i))

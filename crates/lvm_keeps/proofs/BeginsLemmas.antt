@@ -24,11 +24,11 @@ use Rattle.lvm_session.specs.Owners.{AreOwned, AreRows, HaveTickets, same_owner,
 use Rattle.lvm_session.specs.Requests.{IsOpenOne}
 use Rattle.lvm_session.specs.Causes.{AreCaused, AreCounted, IsAnswered, IsChosenSince, IsCausedAmong, is_held_stale, is_over}
 use Rattle.lvm_session.specs.Sound.{IsAsked, IsCopy, IsGoing, IsOn, IsSound, IsTold, count_if, hands_with, is_dark, is_hand, may_be_fresh, out_with, pins, stays_fresh, waiting_rows, waits, with_row, has_number}
-use Rattle.lvm_keeps.specs.Begins.{Begins, BeginningIsSound}
+use Rattle.lvm_keeps.specs.Begins.{SessionBegins, BeginningIsSound}
 
 -- ---- what holds of nothing
 
-module _ (s : State) (first : Begins s) where
+module _ (s : State) (first : SessionBegins s) where
   abbrev core : Core
   core = s.core
 

@@ -31,7 +31,7 @@ use Rattle.lvm_session.specs.Judging.{copies_in, is_caught, is_held_back, is_kep
 use Rattle.lvm_session.specs.Bringing.{groups_of, hand_of, is_idle, is_whole}
 use Rattle.lvm_session.specs.Enabled.{is_free_step}
 use Rattle.lvm_session.specs.Marks.{is_among}
-use Rattle.lvm_session.specs.Requests.{IsAimed, IsTarget, IsShaped, IsReady, IsJudged, IsLaid, IsOpenOne, is_failed_and_sure, may_lack, will_be_kept}
+use Rattle.lvm_session.specs.Requests.{IsAimed, IsTarget, IsShaped, MayBeServed, IsJudged, IsLaid, IsOpenOne, is_failed_and_sure, may_lack, will_be_kept}
 use Rattle.lvm_session.specs.Causes.{IsCounted, IsLandedFor, IsCausedAmong, IsTrueToOrigin, HaveSourcesFailed}
 use Rattle.lvm_session.specs.Sound.{IsCopy, IsMove, IsOfKind, IsReadFrom, IsStaleCopy, stays_fresh}
 use Rattle.lvm_session.proofs.MovesLemmas.{among_filter, among_filtered}
@@ -172,7 +172,7 @@ module _ (core : Core) (history : Log) (requests : List Open) (queue : Waiting) 
   laid_on r l = record { within = l.within; blocks = l.blocks; most = l.most; id = l.id }
 
   module _ (o : Open) (free : is_held_back core o.request ≡ false → is_held_back changed o.request ≡ false) (caught : (p : Pp) → is_caught core (group_in core o.request.ask) p ≡ false → is_caught changed (group_in core o.request.ask) p ≡ false) where
-    pub ready_on : IsReady core o.request → IsReady changed o.request
+    pub ready_on : MayBeServed core o.request → MayBeServed changed o.request
     ready_on r = record { free = λ past. free (r.free past); recorded = r.recorded; wanted = r.wanted; named = r.named; dirty = r.dirty }
 
     caught_before : (p : Pp) → is_caught changed (group_in core o.request.ask) p ≡ true → is_caught core (group_in core o.request.ask) p ≡ true

@@ -13,7 +13,7 @@ use Rattle.lvm_session.specs.Marks.{is_entailed}
 use Rattle.lvm_session.specs.Causes.{faults_at_first}
 use Rattle.lvm_session.specs.Left.{updates_left}
 use Rattle.lvm_session.specs.Placed.{ArePlaced}
-use Rattle.lvm_session.specs.Sound.{IsFitting, IsLit, IsSound}
+use Rattle.lvm_session.specs.Sound.{IsFitting, HasPower, IsSound}
 
 -- nothing is under way in it
 pub record IsUnused (core : Core) : Type 0 where
@@ -27,7 +27,7 @@ pub record IsUnused (core : Core) : Type 0 where
   pub notes : (disk : ℕ) → flight_on core.cache disk ≡ None
 
 -- what is committed and wanted of the status is what it begins with, and nothing is in flight
-pub record IsCalm (core : Core) : Type 0 where
+pub record HasFirstStatus (core : Core) : Type 0 where
   pub sound : IsSoundStatus (seen core.status)
   pub committed : core.status.committed ≡ core.origin.table
   pub wanted : core.status.wanted ≡ core.origin.table
@@ -35,14 +35,14 @@ pub record IsCalm (core : Core) : Type 0 where
 
 -- A session begins over a shelf at rest, with a history all of whose requests have landed, votes enough to write, nothing that missing disks would
 -- entail, and numbers for the updates that may follow.
-pub record Begins (s : State) : Type 0 where
+pub record SessionBegins (s : State) : Type 0 where
   pub fitting : IsFitting s.core
   pub ordered : Ordered s.core.history.run [] s.core.history.facts
   pub landed : (id : ℕ) → is_open s.core.history.facts id ≡ false
   pub unused : IsUnused s.core
-  pub calm : IsCalm s.core
+  pub calm : HasFirstStatus s.core
   pub power : s.core.power ≡ power.On
-  pub lit : IsLit s.device
+  pub lit : HasPower s.device
   pub idle : s.device.flights ≡ []
   pub placed : ArePlaced s.device.sizes s.core.descriptor s.core.origin.table
   pub faults : (disk : ℕ) → faults_at_first s.core disk ≤ s.device.counts.faults disk
@@ -51,4 +51,4 @@ pub record Begins (s : State) : Type 0 where
   pub numbers : s.core.status.stamp.seq + updates_left s.core < 2 ^ 32
 
 abbrev pub BeginningIsSound : Type 0
-BeginningIsSound = (s : State) → Begins s → IsSound s
+BeginningIsSound = (s : State) → SessionBegins s → IsSound s

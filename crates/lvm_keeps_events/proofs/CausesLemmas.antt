@@ -40,7 +40,7 @@ use Rattle.lvm_session.specs.Calls.{copy_at}
 use Rattle.lvm_session.specs.Ends.{given_back}
 use Rattle.lvm_session.specs.Events.{IsDataTransfer}
 use Rattle.lvm_session.specs.Marks.{due_of, due_targets, hits_copy, is_among}
-use Rattle.lvm_session.specs.Causes.{AreCaused, AreCounted, FailedSince, FailedSinceOpening, fails_on, faults_at_first, faults_at_opening, own_faults, OwnFailedSinceOpening, HasFailed, HaveSourcesFailed, is_blamed, is_held_stale, IsAnswered, IsCaused, IsChosenSince, IsCausedAmong, IsCounted, IsLandedFor, IsTrueToOrigin}
+use Rattle.lvm_session.specs.Causes.{AreCaused, AreCounted, FailedSince, FailedSinceOpening, fails_on, faults_at_first, faults_at_opening, own_faults, OwnFailedSinceOpening, TargetHasFailed, HaveSourcesFailed, is_blamed, is_held_stale, IsAnswered, IsCaused, IsChosenSince, IsCausedAmong, IsCounted, IsLandedFor, IsTrueToOrigin}
 use Rattle.lvm_session.specs.Left.{copy_updates, if_so, marks_later}
 use Rattle.lvm_session.specs.Owners.{AreOwned, flies, IsDataOf, IsTransferOf, same_owner}
 use Rattle.lvm_session.specs.Requests.{IsAimed, is_left_out, is_wanted_due, IsJudged, IsMarkedPlace, IsOpenOne, IsRequest, IsShaped, IsTarget, may_lack, wants_status, will_be_kept}
@@ -187,7 +187,7 @@ module _ (old : State) (sound : IsSound old) (on : old.core.power ≡ power.On) 
   counted_before = all_at (AreCounted old) core.requests place o sound.counted there
 
   -- the disk has failed since any target on it was chosen, where this one has failed
-  pub fault_of : (t : Target) → IsCounted old t → ok ≡ false → t.pp.disk ≡ aim.pp.disk → HasFailed s.device t
+  pub fault_of : (t : Target) → IsCounted old t → ok ≡ false → t.pp.disk ≡ aim.pp.disk → TargetHasFailed s.device t
   fault_of t its bad same = rose_since t.faults (old.device.counts.faults t.pp.disk) (counts.faults t.pp.disk) its.since (subst (λ d. Rose (old.device.counts.faults d) (counts.faults d)) (sym same) (rose bad))
 
   module _ (queue : Waiting) (copy : Option OpenCopy) (pool : List Bool) (due : Pp → Bool) (wanted : Status) (writes : Writes) (like : IsStaler due core.status.wanted wanted)
@@ -598,11 +598,11 @@ module _ (old : State) (sound : IsSound old) (on : old.core.power ≡ power.On) 
     target_caused : (q : Ask) (t : Target) → IsTarget core q t × (IsCaused s.device core t × IsCounted old t) → IsCaused device after t
     target_caused q t its e = of (either (is_failed t.state) (t.usable && is_blamed after t.pp) e)
       where
-        blamed_of : t.usable ≡ true → Blame t.pp → HasFailed device t
+        blamed_of : t.usable ≡ true → Blame t.pp → TargetHasFailed device t
         blamed_of can (inl before) = its.1.0 (ap (λ b. is_failed t.state || b) (all_and t.usable (is_blamed core t.pp) can before) ∙ or_true (is_failed t.state))
         blamed_of can (inr now_failed) = fault_of t its.1.1 now_failed.0 (ap (λ (p : Pp). p.disk) now_failed.1)
 
-        of : (is_failed t.state ≡ true) ⊎ (t.usable && is_blamed after t.pp ≡ true) → HasFailed device t
+        of : (is_failed t.state ≡ true) ⊎ (t.usable && is_blamed after t.pp ≡ true) → TargetHasFailed device t
         of (inl failed) = its.1.0 (ap (λ b. b || (t.usable && is_blamed core t.pp)) failed)
         of (inr blame) = let parts = both t.usable (is_blamed after t.pp) blame in blamed_of parts.0 (blame_back (lv_of q) (lp_of core q) t.pp (usable_copy q t its.0 parts.0) parts.1)
 
@@ -630,11 +630,11 @@ module _ (old : State) (sound : IsSound old) (on : old.core.power ≡ power.On) 
         aim_pair : IsCaused s.device core aim × IsCounted old aim
         aim_pair = all_at (λ (t : Target). IsCaused s.device core t × IsCounted old t) targets target aim its_pairs aim_is
 
-        blamed_of : aim.usable ≡ true → Blame aim.pp → HasFailed device ended
+        blamed_of : aim.usable ≡ true → Blame aim.pp → TargetHasFailed device ended
         blamed_of can (inl before) = aim_pair.0 (ap (λ b. is_failed aim.state || b) (all_and aim.usable (is_blamed core aim.pp) can before) ∙ or_true (is_failed aim.state))
         blamed_of can (inr now_failed) = fault_of aim aim_pair.1 now_failed.0 refl
 
-        of : (is_failed (end_state ok) ≡ true) ⊎ (aim.usable && is_blamed after aim.pp ≡ true) → HasFailed device ended
+        of : (is_failed (end_state ok) ≡ true) ⊎ (aim.usable && is_blamed after aim.pp ≡ true) → TargetHasFailed device ended
         of (inl failed) = fault_of aim aim_pair.1 (failed_badly ok failed) refl
         of (inr blame) =
             let parts = both aim.usable (is_blamed after aim.pp) blame in
@@ -704,12 +704,12 @@ module _ (old : State) (sound : IsSound old) (on : old.core.power ≡ power.On) 
       by_write = both (is_write ask) (is_running c) (both (is_write ask && is_running c) (not ok && is_pp aim.pp c.pp || (are_over now_targets && not (is_kept core x.request) && not o.older && is_among (due_of core x.request) c.pp)) hit).0
 
       -- a target that was chosen since, and whose disk has failed since then
-      since_opening : o.older ≡ false → (k : ℕ) (t : Target) → slice_get now_targets k ≡ Some t → HasFailed device t → (n : ℕ) → copy_at copies n ≡ Some t.pp → FailedSinceOpening device failed_copy n t.pp
+      since_opening : o.older ≡ false → (k : ℕ) (t : Target) → slice_get now_targets k ≡ Some t → TargetHasFailed device t → (n : ℕ) → copy_at copies n ≡ Some t.pp → FailedSinceOpening device failed_copy n t.pp
       since_opening young k t t_there failed n n_at =
           rose_since (faults_at_opening c n) t.faults (counts.faults t.pp.disk) ((all_at (λ (u : Target). (u.pp ≡ t.pp → faults_at_opening c n ≤ u.faults) × (u.pp ≡ c.pp → own_faults c ≤ u.faults)) now_targets k t (chosen_since waits_so young n t.pp n_at) t_there).0 refl) failed
 
       -- so is one on its own disk
-      own_since_opening : o.older ≡ false → (k : ℕ) (t : Target) → slice_get now_targets k ≡ Some t → HasFailed device t → t.pp ≡ c.pp → OwnFailedSinceOpening device failed_copy
+      own_since_opening : o.older ≡ false → (k : ℕ) (t : Target) → slice_get now_targets k ≡ Some t → TargetHasFailed device t → t.pp ≡ c.pp → OwnFailedSinceOpening device failed_copy
       own_since_opening young k t t_there failed same =
           let it = numbered core c bringing in
           subst (λ (d : ℕ). Rose (own_faults c) (counts.faults d)) (ap (λ (q : Pp). q.disk) same)
@@ -746,23 +746,23 @@ module _ (old : State) (sound : IsSound old) (on : old.core.power ≡ power.On) 
             by false b e some = some
             by true b e some = not_so (sym unkept ∙ any_passes_from_place (is_sure_done core) now_targets k t t_there (all_and (is_done t.state) (is_sure_at core t) e sure))
 
-        has_failed_now : (k : ℕ) (t : Target) → slice_get now_targets k ≡ Some t → is_failed t.state ≡ true → HasFailed device t
+        has_failed_now : (k : ℕ) (t : Target) → slice_get now_targets k ≡ Some t → is_failed t.state ≡ true → TargetHasFailed device t
         has_failed_now k t t_there failed = all_at (IsCaused device after) now_targets k t its_caused t_there (ap (λ b. b || (t.usable && is_blamed after t.pp)) failed)
 
         -- the one that was usable has failed since
         usable_one : (k : ℕ) × (t : Target) × (slice_get now_targets k ≡ Some t) × (t.usable ≡ true)
         usable_one = found_at (λ (t : Target). t.usable) now_targets (any_set (λ (t : Target). t.usable) targets target aim ended aim_is refl ∙ its_request.shape.usable (past core going place target o there aim aim_is at row row_there own ok buf long))
 
-        usable_failed : HasFailed device usable_one.1
+        usable_failed : TargetHasFailed device usable_one.1
         usable_failed = by (is_sure core usable_one.1.pp) refl
           where
-            by_was : is_blamed core usable_one.1.pp ≡ true → (usable_one.1 ≡ ended) ⊎ (slice_get targets usable_one.0 ≡ Some usable_one.1) → HasFailed device usable_one.1
-            by_was blamed (inl now_ended) = subst (HasFailed device) (sym now_ended) ((all_at (λ (t : Target). IsCaused s.device core t × IsCounted old t) targets target aim its_pairs aim_is).0
+            by_was : is_blamed core usable_one.1.pp ≡ true → (usable_one.1 ≡ ended) ⊎ (slice_get targets usable_one.0 ≡ Some usable_one.1) → TargetHasFailed device usable_one.1
+            by_was blamed (inl now_ended) = subst (TargetHasFailed device) (sym now_ended) ((all_at (λ (t : Target). IsCaused s.device core t × IsCounted old t) targets target aim its_pairs aim_is).0
                 (ap (λ b. is_failed aim.state || b) (all_and aim.usable (is_blamed core aim.pp) (sym (ap (λ (t : Target). t.usable) now_ended) ∙ usable_one.3) (sym (ap (λ (t : Target). is_blamed core t.pp) now_ended) ∙ blamed)) ∙ or_true (is_failed aim.state)))
             by_was blamed (inr before_it) = (all_at (λ (t : Target). IsCaused s.device core t × IsCounted old t) targets usable_one.0 usable_one.1 its_pairs before_it).0
                 (ap (λ b. is_failed usable_one.1.state || b) (all_and usable_one.1.usable (is_blamed core usable_one.1.pp) usable_one.3 blamed) ∙ or_true (is_failed usable_one.1.state))
 
-            by : (b : Bool) → is_sure core usable_one.1.pp ≡ b → HasFailed device usable_one.1
+            by : (b : Bool) → is_sure core usable_one.1.pp ≡ b → TargetHasFailed device usable_one.1
             by true sure = has_failed_now usable_one.0 usable_one.1 usable_one.2 (unkept_fails usable_one.0 usable_one.1 usable_one.2 (all_and (not usable_one.1.moves) (is_sure core usable_one.1.pp) (ap not (stands usable_one.0 usable_one.1 usable_one.2 usable_one.3)) sure))
             by false unsure = by_was (unsure_blamed usable_one.1.pp unsure) (was usable_one.0 usable_one.1 usable_one.2)
 

@@ -21,7 +21,7 @@ use Rattle.lvm_session.specs.Bringing.{copy_ends, is_whole, marked_by_end, step_
 use Rattle.lvm_session.specs.State.{Core, State, state}
 use Rattle.lvm_session.specs.declared.bringing.OpenCopy.{OpenCopy}
 use Rattle.lvm_session.specs.declared.open.Power.TheVariants as power
-use Rattle.lvm_session.specs.Ends.{GoesOn, with_return, without_step}
+use Rattle.lvm_session.specs.Ends.{CopyStepsOn, with_return, without_step}
 use Rattle.lvm_session.specs.Marks.{is_entailed, Reviews, WantsFresh}
 use Rattle.lvm_session.specs.Sound.{IsGoing, IsSound}
 use Rattle.lvm_keeps_events.proofs.Marking.{stays_open}
@@ -102,8 +102,8 @@ module _ (at : ℕ) (old new : State) (sound : IsSound old) (on : old.core.power
   abbrev pub mid : Core
   mid = without_step (with_return old.core at event.buf) c
 
-  goes : GoesOn whole_so mid next_so event.passes.on
-  goes = subst (λ (k : OpenCopy). GoesOn (is_whole old.core k) mid k event.passes.on) event.passes.moves.is event.passes.goes
+  goes : CopyStepsOn whole_so mid next_so event.passes.on
+  goes = subst (λ (k : OpenCopy). CopyStepsOn (is_whole old.core k) mid k event.passes.on) event.passes.moves.is event.passes.goes
 
   abbrev pub device : Device
   device = record old.device { media = new.device.media; flights = remove old.device.flights at }
@@ -130,7 +130,7 @@ module _ (at : ℕ) (old new : State) (sound : IsSound old) (on : old.core.power
     pub still : whole_so ≡ false → (wanted ≡ old.core.status.wanted) × (writes ≡ old.core.status.writes)
     pub is : event.passes.on ≡ gone wanted writes
 
-  goes_by : (b : Bool) → whole_so ≡ b → GoesOn b mid next_so event.passes.on → IsGone event.passes.on.status.wanted event.passes.on.status.writes
+  goes_by : (b : Bool) → whole_so ≡ b → CopyStepsOn b mid next_so event.passes.on → IsGone event.passes.on.status.wanted event.passes.on.status.writes
   goes_by false part is_on = record {
     like = subst (λ b. IsFresher b c.pp old.core.status.wanted event.passes.on.status.wanted) (sym part) (subst (λ (u : Stored). IsFresher false c.pp old.core.status.wanted u.wanted) (sym status_so) (fresher c.pp old.core.status));
     started = λ d. ap (λ (u : Stored). has u.writes.started d) status_so;

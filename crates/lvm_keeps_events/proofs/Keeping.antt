@@ -37,7 +37,7 @@ use Rattle.lvm_num.specs.Modes.{is_passive}
 use Rattle.lvm_num.proofs.Booleans.{not_so}
 use Rattle.lvm_num.proofs.Lists.{all_weaker, all_two}
 use Rattle.lvm_session.specs.Marks.{is_entailed}
-use Rattle.lvm_session.specs.Causes.{AreCaused, AreCounted, FailedSince, FailedSinceOpening, HasFailed, HaveSourcesFailed, IsAnswered, IsCaused, IsCausedAmong, IsCounted, IsTrueToOrigin, fails_on, faults_at_first, is_blamed, is_held_stale, OwnFailedSinceOpening, own_faults}
+use Rattle.lvm_session.specs.Causes.{AreCaused, AreCounted, FailedSince, FailedSinceOpening, TargetHasFailed, HaveSourcesFailed, IsAnswered, IsCaused, IsCausedAmong, IsCounted, IsTrueToOrigin, fails_on, faults_at_first, is_blamed, is_held_stale, OwnFailedSinceOpening, own_faults}
 use Rattle.lvm_session.specs.Left.{clean_volumes, if_so, updates_left}
 use Rattle.lvm_session.specs.Owners.{AreOwned, AreRows, HaveTickets}
 use Rattle.lvm_session.specs.Sound.{IsCopy, IsFitting, IsGoing, IsOn, IsSound, IsTold, count_if, has_number, is_dark, out_with}
@@ -203,11 +203,11 @@ module _ (old : State) (sound : IsSound old) (on : old.core.power ≡ power.On) 
     target_caused : (t : Target) → IsCounted old t → IsCaused between.device first t → IsCaused device last t
     target_caused t count why is = by (is_failed t.state) refl is
       where
-        of : (is_blamed first t.pp ≡ true) ⊎ Rose (old.device.counts.faults t.pp.disk) (counts.faults t.pp.disk) → t.usable ≡ true → HasFailed device t
+        of : (is_blamed first t.pp ≡ true) ⊎ Rose (old.device.counts.faults t.pp.disk) (counts.faults t.pp.disk) → t.usable ≡ true → TargetHasFailed device t
         of (inl blamed) usable = why (or_right (is_failed t.state) (t.usable && is_blamed first t.pp) (and_of t.usable (is_blamed first t.pp) usable blamed))
         of (inr rose) usable = rose_since t.faults (old.device.counts.faults t.pp.disk) (counts.faults t.pp.disk) count.since rose
 
-        by : (b : Bool) → is_failed t.state ≡ b → b || (t.usable && is_blamed last t.pp) ≡ true → HasFailed device t
+        by : (b : Bool) → is_failed t.state ≡ b → b || (t.usable && is_blamed last t.pp) ≡ true → TargetHasFailed device t
         by true failed i = why (ap (λ b. b || (t.usable && is_blamed first t.pp)) failed)
         by false failed i = let parts = both t.usable (is_blamed last t.pp) i in of (blamed_by t.pp parts.1) parts.0
 

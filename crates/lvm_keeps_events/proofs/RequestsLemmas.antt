@@ -30,7 +30,7 @@ use Rattle.lvm_session.specs.declared.open.Open.{Open}
 use Rattle.lvm_session.specs.Dark.{AreTold}
 use Rattle.lvm_session.specs.Ends.{keeps_buffer, learned}
 use Rattle.lvm_session.specs.Owners.{flies, target_flies}
-use Rattle.lvm_session.specs.Requests.{IsAimed, has_record, is_past_held, IsLaid, IsOpenOne, IsPhase, IsReady, IsRecorded, IsRequest, IsShaped, IsTarget, mode_for}
+use Rattle.lvm_session.specs.Requests.{IsAimed, has_record, is_past_held, IsLaid, IsOpenOne, IsPhase, MayBeServed, IsRecorded, IsRequest, IsShaped, IsTarget, mode_for}
 use Rattle.lvm_session.specs.Sound.{count_if, IsAsked, IsGoing}
 use Rattle.lvm_keeps.proofs.KeepsLemmas.Landing.{or_parts}
 use Rattle.lvm_keeps.proofs.Lists.{all_set, any_set, count_set, set_here}
@@ -228,7 +228,7 @@ module _ (core : Core) (going : IsGoing core) (place target : ℕ) (o : Open) (t
   marks_on mode.Passive mark = mark
   marks_on mode.Off mark = refl
 
-  pub ready : IsReady core learnt.request
+  pub ready : MayBeServed core learnt.request
   ready = let b = request.ready in record {
     free = λ e. b.free past;
     recorded = recorded_by (mode_for core o.request.ask) over (data_on (mode_for core o.request.ask) (subst (λ p. IsRecorded (mode_for core o.request.ask) p o.request) in_data b.recorded));

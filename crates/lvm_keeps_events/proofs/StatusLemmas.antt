@@ -10,7 +10,7 @@ use Rattle.lvm_status.specs.declared.change.Change.TheVariants as change
 use Rattle.lvm_status.specs.Update.{Stored, Updates, is_held, is_owed, no_disks, seen}
 use Rattle.lvm_status.specs.Calls.{BecomesMissing, WantsAtEnd, after_end, closed, comes_held, given_up, with_commit, with_end, with_start}
 use Rattle.lvm_session.specs.Ends.{LosesDisk}
-use Rattle.lvm_session.specs.Events.{Begins}
+use Rattle.lvm_session.specs.Events.{PutsInFlight}
 use Rattle.lvm_session.specs.Marks.{WantsDirty, WantsFresh, WantsStale}
 use Rattle.lvm_session.specs.Turns.{SaysTheSame}
 use Rattle.lvm_keeps_events.proofs.passed.Names.{both}
@@ -206,7 +206,7 @@ stale_passes due free old new wants = record {
 
 -- ---- an update begins, and ends
 
-pub begun_passes : (due free : Pp → Bool) (disk : ℕ) (old begun new : Stored) → Begins old begun → seen new ≡ with_start (seen begun) (Some disk) → Passes due free old new
+pub begun_passes : (due free : Pp → Bool) (disk : ℕ) (old begun new : Stored) → PutsInFlight old begun → seen new ≡ with_start (seen begun) (Some disk) → Passes due free old new
 begun_passes due free disk old begun new (inl same) starts = same_started old begun new same.1 starts
   where
     same_started : (old begun new : Stored) → begun ≡ old → seen new ≡ with_start (seen begun) (Some disk) → Passes due free old new

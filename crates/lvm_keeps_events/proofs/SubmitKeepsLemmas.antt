@@ -21,7 +21,7 @@ use Rattle.lvm_vol.specs.declared.entry.Vol.TheVariants.{Lv}
 use Rattle.lvm_vol.specs.Facts.{Request as Asked, Begun}
 use Rattle.lvm_vol.specs.Legal.{begins_in}
 use Rattle.lvm_vol.specs.Log.{Log, blocks_begun, blocks_given, is_open, next_id, next_request, no_request, spare_entries, with_fact}
-use Rattle.lvm_vol.specs.Order.{IsWhole}
+use Rattle.lvm_vol.specs.Order.{HasItsData}
 use Rattle.lvm_vol.proofs.FactsLemmas.Order.{any-push, ordered-push}
 use Rattle.lvm_hold.specs.declared.queue.Held.{Held}
 use Rattle.lvm_hold.specs.declared.queue.Row.{Row}
@@ -205,7 +205,7 @@ module _ (s : State) (sound : IsSound s) (client : ℕ) (ask : Ask) (bytes : Opt
   other : (x : Open) → x.request.id < next → (next == x.request.id) ≡ false
   other x low = ne_eqb next x.request.id (λ e. absurd (omega (arith, e, low)))
 
-  whole : IsWhole request
+  whole : HasItsData request
   whole = (by bytes asking.long, let e = asking.group.end in omega (arith, e))
     where
       by : (m : Option (List ℕ)) → ForSome m (λ given. length given ≡ 512 * count_of ask) → MatchBool (is_some m) (length (blocks_given (count_of ask) m) ≡ count_of ask) (blocks_given (count_of ask) m ≡ [])

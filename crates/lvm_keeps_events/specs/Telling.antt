@@ -20,7 +20,7 @@ power_by turned.Dark = power.Dark
 power_by turned.Off = power.Off
 
 -- no event may be made, and no transfer is out or none has ended
-pub record IsStill (old new : State) : Type 0 where
+pub record CannotGoOn (old new : State) : Type 0 where
   pub on : old.core.power ≡ power.On
   pub none : first_event old.core ≡ None
   pub still : Finds old new ⊎ FindsNothing old new
@@ -29,7 +29,7 @@ pub record IsStill (old new : State) : Type 0 where
 -- work is left. Once it is over each request has landed and nothing is out.
 pub record TurnTells (old new : State) (answer : Turned) : Type 0 where
   pub power_is : new.core.power ≡ power_by answer
-  pub idle : (answer ≡ turned.Idle) ↔ IsStill old new
+  pub idle : (answer ≡ turned.Idle) ↔ CannotGoOn old new
   pub moved : answer ≡ turned.Moved → left_of new.core < left_of old.core
   pub over : is_last answer ≡ true → IsOver new
 

@@ -2,9 +2,9 @@
 use Rattle.std.proofs.Common.{◌≡◌, ◌+◌, ◌-◌, ◌<◌, ◌≤◌, ◌∷◌, [], ℕ, zero, suc, List, Option, Some, None, false, length, take, slice_get, slice_index_or, IfSome, refl, sym, ◌∙◌, ap, arith}
 use Rattle.lvm_disk.specs.passed.Names.{Buffer, Sector}
 use Rattle.lvm_disk.specs.Device.{Media, Image, Flight, Device, MayLeave}
-use Rattle.lvm_disk.specs.Steps.{BothTold, Puts, Reads, IsRange}
+use Rattle.lvm_disk.specs.Steps.{BothTold, Puts, ReadsRange, IsRange}
 use Rattle.lvm_vol.specs.Facts.{block_of}
-use Rattle.lvm_kept.specs.Raw.{IsStill}
+use Rattle.lvm_kept.specs.Raw.{HasNothingOut}
 use Rattle.lvm_kept.proofs.MomentsLemmas.Spans.{from_before}
 
 -- the block that a buffer has at its place
@@ -23,8 +23,8 @@ may_disks device image may = go device.media may
     go (Some m) may = (may.same.disks, may.same.size)
 
 -- a read has ended well: its buffer has what stood on the disk, and the shelf is still
-module _ (disk at count ticket : ℕ) (sent : Buffer) (old new : Device) (still : IsStill old new) (puts : BothTold old.media new.media (Puts (record { ticket = ticket; disk = disk; first = at; count = count; write = false; buf = sent }))) (buf : Buffer)
-    (reads : IfSome old.media (λ m. Reads m (record { ticket = ticket; disk = disk; first = at; count = count; write = false; buf = sent }) buf)) (range : IsRange old disk at count) where
+module _ (disk at count ticket : ℕ) (sent : Buffer) (old new : Device) (still : HasNothingOut old new) (puts : BothTold old.media new.media (Puts (record { ticket = ticket; disk = disk; first = at; count = count; write = false; buf = sent }))) (buf : Buffer)
+    (reads : IfSome old.media (λ m. ReadsRange m (record { ticket = ticket; disk = disk; first = at; count = count; write = false; buf = sent }) buf)) (range : IsRange old disk at count) where
   abbrev f : Flight
   f = record { ticket = ticket; disk = disk; first = at; count = count; write = false; buf = sent }
 
@@ -38,7 +38,7 @@ module _ (disk at count ticket : ℕ) (sent : Buffer) (old new : Device) (still 
   told : BothTold old.media new.media (λ m n. (d s : ℕ) → Same d s (m d s) (n d s))
   told = go old.media new.media puts reads
     where
-      go : (a b : Option Media) → BothTold a b (Puts f) → IfSome a (λ m. Reads m f buf) → BothTold a b (λ m n. (d s : ℕ) → Same d s (m d s) (n d s))
+      go : (a b : Option Media) → BothTold a b (Puts f) → IfSome a (λ m. ReadsRange m f buf) → BothTold a b (λ m n. (d s : ℕ) → Same d s (m d s) (n d s))
       go None None puts reads = tt
       go None (Some n) puts reads = puts
       go (Some m) None puts reads = puts

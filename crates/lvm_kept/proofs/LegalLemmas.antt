@@ -4,7 +4,7 @@ use Rattle.std.specs.List.{list_any}
 use Rattle.std.proofs.lemmas.List.Sums.{sum_by-append}
 use Rattle.std.proofs.lemmas.Bool.Decides.{nat_tests}
 use Rattle.std.proofs.lemmas.Bool.{eqb-true}
-use Rattle.lvm_vol.specs.Facts.{Request, Fact, Begun, Landed, Taken, Stands}
+use Rattle.lvm_vol.specs.Facts.{Request, Fact, Begun, Landed, Taken, IsInList}
 use Rattle.lvm_vol.specs.Legal.{begins_in, lands, takes, Fits, Legal, LegalFrom, IsOutcomeOf, GotMay}
 use Rattle.lvm_vol.specs.declared.entry.Outcome.{Outcome}
 use Rattle.lvm_vol.proofs.LawsLemmas.Legality.{same_self}
@@ -24,9 +24,9 @@ count_more run past f = sum_by-append (λ g. cond (begins_in run g) 1 0) past (f
 
 -- each request that began has a number up to the count of those of its run
 abbrev pub Low : List Fact → Type 0
-Low past = (r : Request) → Stands (Begun r) past → r.id ≤ count_by (begins_in r.run) past
+Low past = (r : Request) → IsInList (Begun r) past → r.id ≤ count_by (begins_in r.run) past
 
-stands_more : (past : List Fact) (f g : Fact) → Stands g (past ++ f ∷ []) → Stands g past ⊎ (f ≡ g)
+stands_more : (past : List Fact) (f g : Fact) → IsInList g (past ++ f ∷ []) → IsInList g past ⊎ (f ≡ g)
 stands_more [] f g (inl is) = inr is
 stands_more [] f g (inr none) = absurd none
 stands_more (h ∷ past) f g (inl is) = inl (inl is)
@@ -113,11 +113,11 @@ untaken r past (f ∷ facts) before legal none above =
     (any_more (takes r) past f none (take_other past f r before legal.0 (fewer r past (f ∷ facts) above)))
     (subst (λ (l : List Fact). count_by (begins_in r.run) l < r.id) (sym (append_assoc past (f ∷ []) facts)) above)
 
-pub stands_last : (past : List Fact) (f : Fact) → Stands f (past ++ f ∷ [])
+pub stands_last : (past : List Fact) (f : Fact) → IsInList f (past ++ f ∷ [])
 stands_last [] f = inl refl
 stands_last (g ∷ past) f = inr (stands_last past f)
 
-pub stands_first : (past : List Fact) (f g : Fact) → Stands g past → Stands g (past ++ f ∷ [])
+pub stands_first : (past : List Fact) (f g : Fact) → IsInList g past → IsInList g (past ++ f ∷ [])
 stands_first [] f g none = absurd none
 stands_first (h ∷ past) f g (inl is) = inl is
 stands_first (h ∷ past) f g (inr there) = inr (stands_first past f g there)

@@ -2,28 +2,28 @@
 use Rattle.std.proofs.Common.{◌≡◌, inl, inr, ◌||◌, ◌∷◌, ◌++◌, [], ℕ, List, Bool, Option, Some, None, true, not, cond, sym, ◌∙◌, ap, map, IfSome}
 use Rattle.lvm_disk.specs.passed.Names.{Sector}
 use Rattle.lvm_vol.specs.declared.entry.Vol.{Vol}
-use Rattle.lvm_vol.specs.Facts.{Request, Fact, Stands, block_of}
+use Rattle.lvm_vol.specs.Facts.{Request, Fact, IsInList, block_of}
 use Rattle.lvm_vol.specs.May.{Knowledge, known, nothing_known, change, source, also, is_open_in, without}
 use Rattle.lvm_vol.proofs.LawsLemmas.Legality.{same_self}
 use Rattle.lvm_vol.proofs.LawsLemmas.Knowing.{after-append}
 
-pub one_left_of : (x : Sector) (ys zs : List Sector) → Stands x ys → Stands x (ys ++ zs)
+pub one_left_of : (x : Sector) (ys zs : List Sector) → IsInList x ys → IsInList x (ys ++ zs)
 one_left_of x [] zs is = absurd is
 one_left_of x (y ∷ ys) zs (inl here) = inl here
 one_left_of x (y ∷ ys) zs (inr there) = inr (one_left_of x ys zs there)
 
-pub one_right_of : (x : Sector) (ys zs : List Sector) → Stands x zs → Stands x (ys ++ zs)
+pub one_right_of : (x : Sector) (ys zs : List Sector) → IsInList x zs → IsInList x (ys ++ zs)
 one_right_of x [] zs is = is
 one_right_of x (y ∷ ys) zs is = inr (one_right_of x ys zs is)
 
-one_of_all : (x : Sector) (ys : List Sector) → Stands x (ys ++ []) → Stands x ys
+one_of_all : (x : Sector) (ys : List Sector) → IsInList x (ys ++ []) → IsInList x ys
 one_of_all x [] is = is
 one_of_all x (y ∷ ys) (inl here) = inl here
 one_of_all x (y ∷ ys) (inr there) = inr (one_of_all x ys there)
 
 -- among values that are known, or anything where none are
 abbrev pub Among : Option (List Sector) → Sector → Type 0
-Among values x = IfSome values (λ vs. Stands x vs)
+Among values x = IfSome values (λ vs. IsInList x vs)
 
 -- the values after a power cut: those of the open writes are added
 abbrev pub after_cut : List Request → ℕ → Option (List Sector) → Option (List Sector)
@@ -41,7 +41,7 @@ pub cut_adds_none : (values : Option (List Sector)) (b : ℕ) (x : Sector) → A
 cut_adds_none None b x may = may
 cut_adds_none (Some vs) b x may = one_of_all x vs may
 
-pub one_more : (x : Sector) (vs ys : List Sector) (y : Sector) → Stands x (vs ++ ys) → Stands x (vs ++ y ∷ ys)
+pub one_more : (x : Sector) (vs ys : List Sector) (y : Sector) → IsInList x (vs ++ ys) → IsInList x (vs ++ y ∷ ys)
 one_more x [] ys y is = inr is
 one_more x (v ∷ vs) ys y (inl here) = inl here
 one_more x (v ∷ vs) ys y (inr there) = inr (one_more x vs ys y there)

@@ -9,7 +9,7 @@ use Rattle.lvm_vol.specs.Standing.{Open, Settled, Volume, volumes_in}
 use Rattle.lvm_vol.specs.May.{Known, known, IsValue, May}
 use Rattle.lvm_disk.specs.Device.{Image}
 use Rattle.lvm_kept.specs.Contents.{Contents, contents_of}
-use Rattle.lvm_kept.specs.Group.{is_voter, status_among, Finds, IsFound, members_in, status_by, Reads, fresh_on, block_at, IsBlockOf, IsOneOf, IsSome, HoldOne}
+use Rattle.lvm_kept.specs.Group.{is_voter, status_among, Finds, IsFound, members_in, status_by, ReadsGroup, fresh_on, block_at, IsBlockOf, IsOneOf, IsSome, HoldOne}
 use Rattle.lvm_kept.specs.Committed.{IsWithinDisks}
 use Rattle.lvm_kept.specs.Kept.{MayDiffer, BlocksKept, CopiesAgree, RawAgrees, Kept}
 
@@ -44,7 +44,7 @@ BlocksChange old new facts group disks status =
 pub record DataChange (old new : Contents) (facts : List Fact) : Type 0 where
   pub rest : new ≡ record old { block = new.block }
   pub copies : (disks : Disks) (id : ℕ) (group : Descriptor) → Finds old disks id group → BlocksChange old new facts group (is_voter old disks id) (status_among old disks id)
-  pub across : (b : Disks) (id : ℕ) (h k : Descriptor) → Reads old b id h → IsFound old id k → BlocksChange old new facts k (members_in old all_disks id k) (status_by old b id h)
+  pub across : (b : Disks) (id : ℕ) (h k : Descriptor) → ReadsGroup old b id h → IsFound old id k → BlocksChange old new facts k (members_in old all_disks id k) (status_by old b id h)
   pub raw : (d b : ℕ) → d < old.disks → old.descriptor d ≡ None → data_start ≤ b → b < old.size d → (new.block d b ≡ old.block d b) ⊎ May (known (facts ++ Cut ∷ []) (Disk d) b) (new.block d b)
 
 -- Such a change of data keeps the history.
@@ -64,7 +64,7 @@ StayExcused old new facts group disks status =
 pub record NoteChange (old new : Contents) (facts : List Fact) : Type 0 where
   pub rest : new ≡ record old { note = new.note }
   pub copies : (disks : Disks) (id : ℕ) (group : Descriptor) → Finds old disks id group → StayExcused old new facts group (is_voter old disks id) (status_among old disks id)
-  pub across : (b : Disks) (id : ℕ) (h k : Descriptor) → Reads old b id h → IsFound old id k → StayExcused old new facts k (members_in old all_disks id k) (status_by old b id h)
+  pub across : (b : Disks) (id : ℕ) (h k : Descriptor) → ReadsGroup old b id h → IsFound old id k → StayExcused old new facts k (members_in old all_disks id k) (status_by old b id h)
 
 -- Such a change of notes keeps the history.
 abbrev pub NoteChangeKeeps : Type 0
@@ -88,7 +88,7 @@ pub record StatusChange (old new : Contents) (facts : List Fact) (next : Stamped
   pub rest : new ≡ record old { status = new.status }
   pub own : (d : ℕ) → (new.status d ≡ old.status d) ⊎ (new.status d ≡ Some next)
   pub stamp : (d : ℕ) (r : Stamped Status) → old.status d ≡ Some r → r.value.id ≡ next.value.id → r.stamp ≡ next.stamp → r ≡ next
-  pub found : (b : Disks) (id : ℕ) (h : Descriptor) → Reads old b id h
+  pub found : (b : Disks) (id : ℕ) (h : Descriptor) → ReadsGroup old b id h
       → (status_by new b id h ≡ status_by old b id h) ⊎ ((status_by new b id h ≡ Some next) × Serves old facts id next) ⊎ HasNoVolume old id
 
 -- Such a change of statuses keeps the history.
@@ -120,7 +120,7 @@ pub record OnlyAllowsMore (facts : List Fact) (f : Fact) : Type 0 where
 -- with the entry too each block that quorums find is kept, and each of a disk in no group
 pub record BlocksStayKept (c : Contents) (facts : List Fact) (f : Fact) : Type 0 where
   pub copies : CopiesAgree c (facts ++ f ∷ [])
-  pub across : (b : Disks) (id : ℕ) (h k : Descriptor) → Reads c b id h → IsFound c id k → BlocksKept c (facts ++ f ∷ []) k (members_in c all_disks id k) (status_by c b id h)
+  pub across : (b : Disks) (id : ℕ) (h k : Descriptor) → ReadsGroup c b id h → IsFound c id k → BlocksKept c (facts ++ f ∷ []) k (members_in c all_disks id k) (status_by c b id h)
   pub raw : RawAgrees c (facts ++ f ∷ [])
 
 -- then what was kept of the blocks still is
@@ -140,8 +140,8 @@ IsFoundByNone c lv = (id : ℕ) (group : Descriptor) → IsFound c id group → 
 
 -- How an entry may change how a volume stands: not at all; from open to settled, where each quorum finds it; to open; or in any way but to settled,
 -- where no quorum finds it.
-abbrev pub MayStand : Contents → ℕ → Volume → Volume → Type 0
-MayStand c lv old new =
+abbrev pub VolumeMayStand : Contents → ℕ → Volume → Volume → Type 0
+VolumeMayStand c lv old new =
     (new ≡ old)
     ⊎ ((old.standing ≡ Open) × (new ≡ record old { standing = Settled }) × IsFoundByAll c lv)
     ⊎ (new ≡ record old { standing = Open })
@@ -149,17 +149,17 @@ MayStand c lv old new =
 
 -- An entry with which the blocks stay kept, and each volume stands as it may, keeps the history.
 abbrev pub EntryKeeps : Type 0
-EntryKeeps = (c : Contents) (facts : List Fact) (f : Fact) → BlocksStayKept c facts f → ((lv : ℕ) → MayStand c lv (volumes_in facts lv) (volumes_in (facts ++ f ∷ []) lv)) → Kept c facts → Kept c (facts ++ f ∷ [])
+EntryKeeps = (c : Contents) (facts : List Fact) (f : Fact) → BlocksStayKept c facts f → ((lv : ℕ) → VolumeMayStand c lv (volumes_in facts lv) (volumes_in (facts ++ f ∷ []) lv)) → Kept c facts → Kept c (facts ++ f ∷ [])
 
 -- The beginning of a request only allows more,
 abbrev pub BeginningAllowsMore : Type 0
 BeginningAllowsMore = (facts : List Fact) (r : Request) → OnlyAllowsMore facts (Begun r)
 
 -- a request on a disk, on a settled volume, or on an open one that each quorum finds
-abbrev pub MayBegin : Contents → List Fact → Vol → Type 0
-MayBegin c facts (Lv lv) = ((volumes_in facts lv).standing ≡ Settled) ⊎ (((volumes_in facts lv).standing ≡ Open) × IsFoundByAll c lv)
-MayBegin c facts (Disk d) = Unit {0}
+abbrev pub MayBeginRequest : Contents → List Fact → Vol → Type 0
+MayBeginRequest c facts (Lv lv) = ((volumes_in facts lv).standing ≡ Settled) ⊎ (((volumes_in facts lv).standing ≡ Open) × IsFoundByAll c lv)
+MayBeginRequest c facts (Disk d) = Unit {0}
 
 -- and such a request leaves each volume as it may stand.
 abbrev pub BeginningStands : Type 0
-BeginningStands = (c : Contents) (facts : List Fact) (r : Request) → MayBegin c facts r.vol → (lv : ℕ) → MayStand c lv (volumes_in facts lv) (volumes_in (facts ++ Begun r ∷ []) lv)
+BeginningStands = (c : Contents) (facts : List Fact) (r : Request) → MayBeginRequest c facts r.vol → (lv : ℕ) → VolumeMayStand c lv (volumes_in facts lv) (volumes_in (facts ++ Begun r ∷ []) lv)

@@ -12,7 +12,7 @@ pub record SameVotes (a b : Descriptor) : Type 0 where
   pub quorum : a.quorum ≡ b.quorum
 
 -- The disks of a set have this record of the group or the next one, and no disk has another one that isn't earlier.
-pub record Stands {X : Type 0} (of : X → Bool) (on : ℕ → Option (Stamped X)) (set : Disks) (now next : Stamped X) : Type 0 where
+pub record StandsOnSet {X : Type 0} (of : X → Bool) (on : ℕ → Option (Stamped X)) (set : Disks) (now next : Stamped X) : Type 0 where
   pub own : IsTrue (of now.value)
   pub next_own : IsTrue (of next.value)
   pub later : (next ≡ now) ⊎ (stamp_lt now.stamp next.stamp ≡ true)
@@ -20,10 +20,10 @@ pub record Stands {X : Type 0} (of : X → Bool) (on : ℕ → Option (Stamped X
   pub newest : (d : ℕ) (r : Stamped X) → on d ≡ Some r → IsTrue (of r.value) → (stamp_lt r.stamp now.stamp ≡ true) ⊎ (r ≡ now) ⊎ (r ≡ next)
 
 abbrev pub StatusStands : Contents → ℕ → Disks → Stamped Status → Stamped Status → Type 0
-StatusStands c id set now next = Stands (is_status_of id) c.status set now next
+StatusStands c id set now next = StandsOnSet (is_status_of id) c.status set now next
 
 abbrev pub DescriptorStands : Contents → ℕ → Disks → Stamped Descriptor → Stamped Descriptor → Type 0
-DescriptorStands c id set now next = Stands (is_of id) c.descriptor set now next
+DescriptorStands c id set now next = StandsOnSet (is_of id) c.descriptor set now next
 
 -- some voter of the quorum is in the set
 abbrev pub Meets : Contents → Disks → ℕ → Disks → Type 0
@@ -62,14 +62,14 @@ QuorumFindsDescriptor =
 abbrev pub NextIsWritten : Type 0 → Type 0
 NextIsWritten X =
     (of : X → Bool) (old new : ℕ → Option (Stamped X)) (set targets : Disks) (now next : Stamped X)
-    → Stands of old set now now → ((d : ℕ) → (new d ≡ old d) ⊎ (IsTrue (targets d) × (new d ≡ Some next))) → IsTrue (of next.value) → stamp_lt now.stamp next.stamp ≡ true
-    → Stands of new set now next
+    → StandsOnSet of old set now now → ((d : ℕ) → (new d ≡ old d) ⊎ (IsTrue (targets d) × (new d ≡ Some next))) → IsTrue (of next.value) → stamp_lt now.stamp next.stamp ≡ true
+    → StandsOnSet of new set now next
 
 -- and it alone stands on the disks that have it.
 abbrev pub NextIsCommitted : Type 0 → Type 0
 NextIsCommitted X =
     (of : X → Bool) (on : ℕ → Option (Stamped X)) (set reached : Disks) (now next : Stamped X)
-    → Stands of on set now next → stamp_lt now.stamp next.stamp ≡ true → ((d : ℕ) → IsTrue (reached d) → on d ≡ Some next) → Stands of on reached next next
+    → StandsOnSet of on set now next → stamp_lt now.stamp next.stamp ≡ true → ((d : ℕ) → IsTrue (reached d) → on d ≡ Some next) → StandsOnSet of on reached next next
 
 -- ---- descriptors of one group
 

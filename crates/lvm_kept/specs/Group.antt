@@ -62,13 +62,13 @@ status_by c disks id g = newest_below (λ d. if members_in c disks id g d then i
 
 -- By a descriptor that is found the members among the disks have votes enough to read. That descriptor need not be the newest among them:
 -- they hold a quorum as soon as it is.
-pub record Reads (c : Contents) (disks : Disks) (id : ℕ) (group : Descriptor) : Type 0 where
+pub record ReadsGroup (c : Contents) (disks : Disks) (id : ℕ) (group : Descriptor) : Type 0 where
   pub found : IsFound c id group
   pub enough : CanRead group (members_in c disks id group)
 
 -- A set of disks that holds a quorum is one, by the descriptor that it finds; its voters are the members, and its status is theirs.
 pub record ReadsBy (c : Contents) (disks : Disks) (id : ℕ) (group : Descriptor) : Type 0 where
-  pub reads : Reads c disks id group
+  pub reads : ReadsGroup c disks id group
   pub voters : is_voter c disks id ≡ members_in c disks id group
   pub status : status_among c disks id ≡ status_by c disks id group
 

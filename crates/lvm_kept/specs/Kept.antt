@@ -8,7 +8,7 @@ use Rattle.lvm_vol.specs.Facts.{Fact, Cut}
 use Rattle.lvm_vol.specs.May.{Known, known, May, IsValue}
 use Rattle.lvm_vol.specs.Standing.{Standing, Absent, Open, Settled, Shape, volumes_in}
 use Rattle.lvm_kept.specs.Contents.{Contents}
-use Rattle.lvm_kept.specs.Group.{is_voter, status_among, Finds, IsFound, members_in, status_by, Reads, is_dirty_by, fresh_on, fresh, block_at, IsBlockOf, is_named, IsOneOf, IsSome, HoldOne}
+use Rattle.lvm_kept.specs.Group.{is_voter, status_among, Finds, IsFound, members_in, status_by, ReadsGroup, is_dirty_by, fresh_on, fresh, block_at, IsBlockOf, is_named, IsOneOf, IsSome, HoldOne}
 
 -- ---- volumes
 
@@ -99,11 +99,11 @@ pub record Agrees (c : Contents) (facts : List Fact) : Type 0 where
 -- What any quorums of a group find agrees, and what they would find after a descriptor that is found has been written again.
 pub record Lasting (c : Contents) (facts : List Fact) : Type 0 where
   -- two of them have a common voter
-  pub common : (a b : Disks) (id : ℕ) (g h : Descriptor) → Reads c a id g → Reads c b id h → (d : ℕ) × IsTrue (members_in c a id g d) × IsTrue (members_in c b id h d)
+  pub common : (a b : Disks) (id : ℕ) (g h : Descriptor) → ReadsGroup c a id g → ReadsGroup c b id h → (d : ℕ) × IsTrue (members_in c a id g d) × IsTrue (members_in c b id h d)
   -- the descriptor of one with the status of another is as good, on the members among all disks
-  pub status : (b : Disks) (id : ℕ) (h k : Descriptor) → Reads c b id h → IsFound c id k → HasStatus k.lvs (status_by c b id h)
-  pub across : (b : Disks) (id : ℕ) (h k : Descriptor) → Reads c b id h → IsFound c id k → BlocksKept c facts k (members_in c all_disks id k) (status_by c b id h)
-  pub some : (b : Disks) (id : ℕ) (h k : Descriptor) → Reads c b id h → IsFound c id k → (row : LvRow) (lp : ℕ) → IsOneOf k.lvs row → lp < row.lps
+  pub status : (b : Disks) (id : ℕ) (h k : Descriptor) → ReadsGroup c b id h → IsFound c id k → HasStatus k.lvs (status_by c b id h)
+  pub across : (b : Disks) (id : ℕ) (h k : Descriptor) → ReadsGroup c b id h → IsFound c id k → BlocksKept c facts k (members_in c all_disks id k) (status_by c b id h)
+  pub some : (b : Disks) (id : ℕ) (h k : Descriptor) → ReadsGroup c b id h → IsFound c id k → (row : LvRow) (lp : ℕ) → IsOneOf k.lvs row → lp < row.lps
       → IsSome (fresh_on (members_in c all_disks id k) (status_by c b id h) row lp)
   -- their partitions are of one size, and the members that they share have as many of them
   pub size : (id : ℕ) (g h : Descriptor) → IsFound c id g → IsFound c id h → g.mib ≡ h.mib

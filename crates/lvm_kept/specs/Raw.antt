@@ -21,7 +21,7 @@ abbrev pub next_write : ℕ → List Fact → ℕ → ℕ → ℕ → List (List
 next_write run facts disk at count blocks = raw_request run (count_by (begins_in run) facts + 1) disk at count true blocks
 
 -- the flight writes the request's blocks at their sectors, and nothing else
-pub record Carries (r : Request) (f : Flight) : Type 0 where
+pub record CarriesRequest (r : Request) (f : Flight) : Type 0 where
   pub write : r.write ≡ true
   pub there : (d s : ℕ) → is_over r (Disk d) s ≡ true → written f d s ≡ Some (block_of r.blocks r.at s)
   pub elsewhere : (d s : ℕ) → is_over r (Disk d) s ≡ false → written f d s ≡ None
@@ -31,6 +31,6 @@ abbrev pub OnlyAdds : Flight → Device → Device → Type 0
 OnlyAdds f first device = (image : Image) → MayLeave device image → (before : Image) × MayLeave first before × DiffersBy f before image
 
 -- nothing is out, and the disks are as large as before
-pub record IsStill (old new : Device) : Type 0 where
+pub record HasNothingOut (old new : Device) : Type 0 where
   pub flights : new.flights ≡ []
   pub sizes : new.sizes ≡ old.sizes

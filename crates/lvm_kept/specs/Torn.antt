@@ -131,12 +131,12 @@ NoteWriteShows = (targets : Disks) (sector : Sector) (old new : Image) → Chang
 -- ---- step by step
 
 -- the sector is outside the slots of the kind
-abbrev pub IsOutside : Kind → Plan
-IsOutside kind d s value = (s < slot_start kind 0) ⊎ (slot_start kind 1 + slot_size kind ≤ s)
+abbrev pub IsOutsideSlots : Kind → Plan
+IsOutsideSlots kind d s value = (s < slot_start kind 0) ⊎ (slot_start kind 1 + slot_size kind ≤ s)
 
 -- Then the newest records of the kind are what they were.
 abbrev pub NewestStays : Type 0 → Type 0
-NewestStays X = (content_of : List ℕ → Result X ℕ) (kind : Kind) (old new : Image) (d : ℕ) → ChangesBy (IsOutside kind) old new → newest_at content_of kind new d ≡ newest_at content_of kind old d
+NewestStays X = (content_of : List ℕ → Result X ℕ) (kind : Kind) (old new : Image) (d : ℕ) → ChangesBy (IsOutsideSlots kind) old new → newest_at content_of kind new d ≡ newest_at content_of kind old d
 
 -- What is being written: one record and nothing else; one record, and anything outside the slots of its kind; anything outside the slots of
 -- a kind; or a note.
@@ -149,7 +149,7 @@ pub data Writing : Type 0 where
 abbrev pub brings : Writing → Plan
 brings (Alone w) = IsOfRecord w
 brings (AmongOthers w) = IsOtherOrRecord w
-brings (Outside kind) = IsOutside kind
+brings (Outside kind) = IsOutsideSlots kind
 brings (Note targets sector) = IsOfNote targets sector
 
 -- It begins from what stands on the media, where what is in flight is of it already, as where nothing is;

@@ -38,11 +38,11 @@ RoseOn (Some disk) old new = Rose (old disk) (new disk)
 RoseOn None old new = ⊥
 
 -- a transfer of the disk has failed: a read of records or a write in `mkvg`, a read of records in `rd` and `wr`, and a write in each other line
-abbrev pub HasFailed : Result (Option Command) Misfit → ℕ → Counts → Counts → Type 0
-HasFailed (Ok (Some (command.Mkvg force name mib disks))) disk old new = Rose (old.misses disk) (new.misses disk) ⊎ Rose (old.faults disk) (new.faults disk)
-HasFailed (Ok (Some (command.RawRd on at count))) disk old new = Rose (old.misses disk) (new.misses disk)
-HasFailed (Ok (Some (command.RawWr on at count word))) disk old new = Rose (old.misses disk) (new.misses disk)
-HasFailed other disk old new = Rose (old.faults disk) (new.faults disk)
+abbrev pub TransferHasFailed : Result (Option Command) Misfit → ℕ → Counts → Counts → Type 0
+TransferHasFailed (Ok (Some (command.Mkvg force name mib disks))) disk old new = Rose (old.misses disk) (new.misses disk) ⊎ Rose (old.faults disk) (new.faults disk)
+TransferHasFailed (Ok (Some (command.RawRd on at count))) disk old new = Rose (old.misses disk) (new.misses disk)
+TransferHasFailed (Ok (Some (command.RawWr on at count word))) disk old new = Rose (old.misses disk) (new.misses disk)
+TransferHasFailed other disk old new = Rose (old.faults disk) (new.faults disk)
 
 -- a transfer has failed since of a member of the group that was on, which wasn't missing then
 pub record HasLostMember (old : ScriptState) (new : Counts) : Type 0 where
@@ -86,7 +86,7 @@ CauseOf read refusal.ReadFailed old new = RoseOn (disk_of read) old.moment.devic
 CauseOf read (refusal.WentOff have total) old new = (2 * have ≤ total) × WereLost (refusal.WentOff have total) old new
 CauseOf read refusal.Dark old new = Rose old.moment.device.counts.cuts new.moment.device.counts.cuts
 CauseOf read refusal.Stuck old new = RoseBy patience_of_line old.moment.device.counts.waits new.moment.device.counts.waits
-CauseOf read (refusal.DiskFailed disk) old new = HasFailed read disk old.moment.device.counts new.moment.device.counts
+CauseOf read (refusal.DiskFailed disk) old new = TransferHasFailed read disk old.moment.device.counts new.moment.device.counts
 CauseOf read (refusal.SyncFailed disk) old new = ⊥
 CauseOf read (refusal.ClockBack seen) old new = new.last ≤ seen
 CauseOf read other old new = Unit {0}

@@ -9,7 +9,7 @@ use Rattle.lvm_parse.specs.declared.command.Command.TheVariants as command
 use Rattle.lvm_parse.specs.declared.rest.Misfit.{Misfit}
 use Rattle.lvm_parse.specs.Grammar.{line_of}
 use Rattle.lvm_core.specs.declared.parts.Room.{Room}
-use Rattle.lvm_volume_lines.specs.passed.GroupLines.{ReadDoes, WriteDoes, ArrangeDoes, CutDoes, Aside, CommandEnds, GoesOn, IsBetween, IsFittingStage, IsLeftBy, IsRefused, IsStuck, OfGroup, OfRequests, Reply, Role, ScriptState, Stage, history_in, state_in, without_facts, MkvgDoes, VaryonDoes, GroupShows, VolumeShows, DiskShows}
+use Rattle.lvm_volume_lines.specs.passed.GroupLines.{ReadDoes, WriteDoes, ArrangeDoes, CutDoes, Aside, CommandEnds, LineGoesOn, IsBetween, IsFittingStage, IsLeftBy, IsRefused, IsStuck, OfGroup, OfRequests, Reply, Role, ScriptState, Stage, history_in, state_in, without_facts, MkvgDoes, VaryonDoes, GroupShows, VolumeShows, DiskShows}
 use Rattle.lvm_line.specs.declared.line.InPlace.{InPlace}
 use Rattle.lvm_line.specs.declared.line.InPlace.TheVariants as in_place
 use Rattle.lvm_volume_lines.specs.passed.RangeLines.{RdDoes, WrDoes, PostDoes, StepDoes}
@@ -113,7 +113,7 @@ pub record CommandIsDone {S : Type 0} (device : S → Device) (room : Room) (c :
 -- A line joins two states, of a session of this run, and of a shelf whose sectors are 512 bytes each. Before it nothing stands against it.
 pub record IsLine (log : Log) (room : Room) (line : List ℕ) (answer : Reply) (old new : ScriptState) : Type 0 where
   pub does : LineDoes log room (line_of line) old new answer
-  pub goes : GoesOn log.run (role_of (line_of line)) answer old new
+  pub goes : LineGoesOn log.run (role_of (line_of line)) answer old new
   pub orders : (IsOrder (line_of line) → ⊥) → new.moment.device.orders ≡ old.moment.device.orders
   pub whole : HasSectors old.moment.device
   pub between : IsBetween old.moment old.session old.posts

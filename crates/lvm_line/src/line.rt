@@ -3,7 +3,7 @@ ghost use Rattle.std.specs.Prelude.{◌≡◌, None, IsSome};
 ghost use Rattle.lvm_core.specs.Starting.{IsRoom};
 ghost use Rattle.lvm_core.specs.declared.parts.Room.{Room};
 ghost use Rattle.lvm_parse.specs.Grammar.{line_of};
-ghost use Rattle.lvm_parse.specs.Within.{IsWithin};
+ghost use Rattle.lvm_parse.specs.Within.{IsWithinLimits};
 ghost use Rattle.lvm_line.specs.Lines.{CommandInPlace, CommandIsDone, DoesInPlace, IsFinished, IsLine, StandsBehind, asked_after};
 ghost use Rattle.lvm_volume_lines.specs.passed.GroupLines.{IsBetweenStage, IsFittingStage, history_in, session_in, state_in, without_facts};
 
@@ -34,7 +34,7 @@ fn do_command<S: Shelf, C: Clock>(
     requires between { IsBetweenStage S.device stage }
     requires fits { IsFittingStage stage }
     requires room { IsRoom room }
-    requires within { IsWithin command }
+    requires within { IsWithinLimits command }
     ensures { CommandIsDone S.device room command stage result.stage result.reply (C.last clock.old) (C.last clock.new) (C.asked clock.old) (C.asked clock.new) }
 {
     match command {
@@ -161,7 +161,7 @@ fn refuse_unread<S: Shelf>(stage: Stage<S>) -> Answered<S>
 fn serve<S: Shelf>(alloc: Global, stage: &mut Stage<S>, command: Command) -> Option<Reply>
     requires between { IsBetweenStage S.device stage.old }
     requires fits { IsFittingStage stage.old }
-    requires within { IsWithin command }
+    requires within { IsWithinLimits command }
     ensures { CommandInPlace S.device command stage.old stage.new result }
 {
     match command {

@@ -12,8 +12,8 @@ use Rattle.lvm_ranges.specs.declared.copies.Passed.TheVariants as passed
 use Rattle.lvm_ranges.specs.declared.fault.SyncFault.{SyncFault}
 use Rattle.lvm_ranges.specs.declared.fault.SyncFault.TheVariants as fault
 use Rattle.lvm_ranges.specs.declared.tally.Tally.{Tally}
-use Rattle.lvm_ranges.specs.Passing.{BreaksOff, Copy, EachTurnWhile, EndsTurning, FailedFor, IsBroken, IsBroughtUp, IsEnded, IsOpened, IsRefused, IsUnsettled, PassesCopy, RefusedFor, Runs}
-use Rattle.lvm_ranges.specs.Syncing.{NonePassed, OnePassed, Passes, SyncGives, no_tally}
+use Rattle.lvm_ranges.specs.Passing.{BreaksOff, Copy, EachTurnWhile, EndsTurning, FailedFor, IsBroken, IsBroughtUp, HasEndedFor, IsOpened, IsNotOpened, IsUnsettled, PassesCopy, RefusedFor, Runs}
+use Rattle.lvm_ranges.specs.Syncing.{NonePassed, OnePassed, PassesCopies, SyncGives, no_tally}
 use Rattle.lvm_load.specs.declared.serve.Synced.{Synced}
 use Rattle.lvm_load.specs.Bringing.{ClosesEnded, EndsBehind, IsClosed, SettlesUnless, StillRuns, is_unheard}
 use Rattle.lvm_load.proofs.FactsLemmas.{Gains, gains_none, gains_then, turn_gains}
@@ -62,7 +62,7 @@ module _ (c : Copy) (patience left : ℕ) (old new : State) where
       none_then old it.judged new (each_gains (IsUnsettled c) patience left old it.judged it.settles)
       (none_same it.judged new (ap (λ (k : Core). k.history.facts) it.opens.is))
 
-  refused_gains : (why : CopyFault) → IsRefused c patience left old new why → GainsNone old new
+  refused_gains : (why : CopyFault) → IsNotOpened c patience left old new why → GainsNone old new
   refused_gains why it = each_gains (IsUnsettled c) patience left old new it.settles
 
   refused_for_gains : (why : SyncFault) → RefusedFor c patience left old new why → GainsNone old new
@@ -77,7 +77,7 @@ module _ (c : Copy) (patience left : ℕ) (old new : State) where
   refused_for_gains fault.HistoryFull it = absurd it
   refused_for_gains (fault.SyncFailed disk) it = absurd it
 
-ended_gains : (patience left : ℕ) (old new : State) (how : CopyState) → IsEnded patience left old new how → GainsNone old new
+ended_gains : (patience left : ℕ) (old new : State) (how : CopyState) → HasEndedFor patience left old new how → GainsNone old new
 ended_gains patience left old new how it = none_then old it.ended new (each_gains Runs patience left old it.ended it.turns) (none_same it.ended new (ap (λ (s : State). s.core.history.facts) it.is))
 
 module _ (c : Copy) (patience left : ℕ) (old new : State) where
@@ -121,7 +121,7 @@ module _ (c : Copy) (patience left : ℕ) (old new : State) where
   breaks_gain (fault.NoFresh lp) it = either_gains _ it
   breaks_gain (fault.Missing disk) it = either_gains _ it
 
-passes_gain : (first : State) (from : Tally) (patience : ℕ) (copies : List Copy) (now : State) (tally : Tally) (left : ℕ) → Passes first from patience copies now tally left → GainsNone first now
+passes_gain : (first : State) (from : Tally) (patience : ℕ) (copies : List Copy) (now : State) (tally : Tally) (left : ℕ) → PassesCopies first from patience copies now tally left → GainsNone first now
 passes_gain first from patience all now total last NonePassed = gains_none first.core.history.facts
 passes_gain first from patience all now total last (OnePassed {copies} {old} {new} {tally} {before} {left} c how rest it) =
     none_then first old new (passes_gain first from patience copies old tally before rest) (passed_gains c before left old new how it)

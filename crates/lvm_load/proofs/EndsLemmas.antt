@@ -28,7 +28,7 @@ use Rattle.lvm_session.specs.State.{Core, State}
 use Rattle.lvm_session.specs.Turns.{Finds, FindsNothing, TurnMakes}
 use Rattle.lvm_keeps_events.specs.Turning.{is_last}
 use Rattle.lvm_driver.proofs.StandingLemmas.{none_waits_still}
-use Rattle.lvm_keeps_events.specs.Telling.{IsStill, TurnTells, power_by}
+use Rattle.lvm_keeps_events.specs.Telling.{CannotGoOn, TurnTells, power_by}
 use Rattle.lvm_keeps_events.proofs.CountsLemmas.{turn_counts}
 use Rattle.lvm_keeps_events.proofs.TellingLemmas.Telling.{turn_tells}
 use Rattle.lvm_load.specs.declared.client.Client.{Client}
@@ -182,7 +182,7 @@ module _ (first old new : State) (clients after : List Client) (idle idle1 : ℕ
   rose turned.Moved is goes = rose_by_after (rose_by_none first.device.counts.waits) counted
   rose turned.Idle is goes = by (tells.idle.0 is) (tells.idle.0 is).still
     where
-      by : IsStill old made.mid → Finds old made.mid ⊎ FindsNothing old made.mid → RoseBy (idle + 1) first.device.counts.waits made.mid.device.counts.waits
+      by : CannotGoOn old made.mid → Finds old made.mid ⊎ FindsNothing old made.mid → RoseBy (idle + 1) first.device.counts.waits made.mid.device.counts.waits
       by still (inl finds) = rose_by_more (so_far.on (ap is_over still.on)) finds.waits.waits
       by still (inr nothing) = not_so (sym (none_waits_still old made.sound made.unmoved still.on nothing.votes still.none nothing.idle) ∙ some)
   rose turned.Dark is goes = not_so (sym goes ∙ still_over turned.Dark is)

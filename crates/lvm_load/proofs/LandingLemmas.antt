@@ -36,9 +36,9 @@ use Rattle.lvm_session.specs.declared.open.Open.{Open}
 use Rattle.lvm_session.specs.declared.open.Power.TheVariants as power
 use Rattle.lvm_session.specs.declared.origin.Origin.{Origin}
 use Rattle.lvm_session.specs.Calls.{SubmitGives, TakeAt, TakeGives, TakesLanded, ask_fault, is_asked, submitted}
-use Rattle.lvm_session.specs.Causes.{AnyFailedSince, AreCounted, HasFailed, IsCounted, IsLandedFor, was_usable}
+use Rattle.lvm_session.specs.Causes.{AnyFailedSince, AreCounted, TargetHasFailed, IsCounted, IsLandedFor, was_usable}
 use Rattle.lvm_session.specs.Dark.{all_dark, is_cut}
-use Rattle.lvm_session.specs.Judging.{IsWithin, copies_for}
+use Rattle.lvm_session.specs.Judging.{IsWithinVolume, copies_for}
 use Rattle.lvm_session.specs.Requests.{IsOpenOne}
 use Rattle.lvm_session.specs.Sound.{IsAsked, IsSound}
 use Rattle.lvm_session.specs.State.{Core, State, state}
@@ -89,7 +89,7 @@ module _ (first mid : Core) (group : mid.descriptor ≡ first.descriptor) (origi
     vol = it.vol;
     at = it.at;
     count = it.count;
-    within = subst (λ (d : Descriptor). IsWithin d it.ask) group it.within;
+    within = subst (λ (d : Descriptor). IsWithinVolume d it.ask) group it.within;
     none =
         any_same (was_usable first) (was_usable mid) (λ p. sym (ap (λ (o : Origin). was_usable (record first { origin = o }) p) origin)) (copies_for first it.ask)
         ∙ sym (ap (λ (d : Descriptor). list_any (was_usable mid) (copies_for (record mid { descriptor = d }) it.ask)) group) ∙ it.none;
@@ -132,7 +132,7 @@ module _ (old : State) (sound : IsSound old) (on : old.core.power ≡ power.On) 
   counted = all_at (AreCounted old) old.core.requests place o sound.counted there
 
   -- some target that was usable has failed
-  failed_among : (ts : List Target) → list_any (λ (t : Target). t.usable) ts ≡ true → AllByRecursion (λ (t : Target). t.usable ≡ true → HasFailed old.device t) ts → AllByRecursion (IsCounted old) ts → AnyFailedSince old
+  failed_among : (ts : List Target) → list_any (λ (t : Target). t.usable) ts ≡ true → AllByRecursion (λ (t : Target). t.usable ≡ true → TargetHasFailed old.device t) ts → AllByRecursion (IsCounted old) ts → AnyFailedSince old
   failed_among [] some failed counts = not_so some
   failed_among (t ∷ ts) some failed counts = by t.usable refl some (λ e. failed_among ts e failed.1 counts.1)
     where
@@ -157,7 +157,7 @@ module _ (old : State) (sound : IsSound old) (on : old.core.power ≡ power.On) 
   }
   lands_well outcome.Lost why = none (failed_among o.request.targets.items why.0 why.1 counted)
   lands_well outcome.ReadFailed why =
-      none (failed_among o.request.targets.items why.0 (all_weaker (λ (t : Target). (is_failed t.state ≡ true) × HasFailed old.device t) (λ (t : Target). t.usable ≡ true → HasFailed old.device t) (λ t is usable. is.1) o.request.targets.items why.1) counted)
+      none (failed_among o.request.targets.items why.0 (all_weaker (λ (t : Target). (is_failed t.state ≡ true) × TargetHasFailed old.device t) (λ (t : Target). t.usable ≡ true → TargetHasFailed old.device t) (λ t is usable. is.1) o.request.targets.items why.1) counted)
   lands_well outcome.Off why = none (loss_is_caused old sound why.1)
   lands_well outcome.Dark why = let e : power.On ≡ power.Dark = sym on ∙ why in cc
 

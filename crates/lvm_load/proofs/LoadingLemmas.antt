@@ -5,9 +5,9 @@ use Rattle.atomic_table.specs.Seated.{TableId}
 use Rattle.lvm_num.specs.Buffer.{Sector}
 use Rattle.lvm_num.specs.Counting.{RoseBy}
 use Rattle.lvm_vol.specs.Facts.{Fact, Request, Making, Made, Split, Removing, Removed, Begun, Landed, Taken, Cut, On, begun}
-use Rattle.lvm_vol.specs.Fronts.{Begins, own}
+use Rattle.lvm_vol.specs.Fronts.{IsPrefixOf, own}
 use Rattle.lvm_vol.proofs.FrontsLemmas.{begins_further, own-append}
-use Rattle.lvm_turn.specs.Calls.{Continues, IsIdle}
+use Rattle.lvm_turn.specs.Calls.{Continues, IsIdlePass}
 use Rattle.lvm_turn.specs.Views.{Client, Standing, View, counted, renewed, up_to}
 use Rattle.lvm_turn.proofs.CallsLemmas.Idle.{idle_all}
 use Rattle.lvm_session.specs.declared.open.Power.TheVariants as power
@@ -23,7 +23,7 @@ use Rattle.lvm_workers.specs.declared.work.Tally.{Tally}
 use Rattle.lvm_workers.specs.Bringing.{HasEnded, HasToured, MadeAt}
 use Rattle.lvm_workers.specs.Counting.{AreOfClients, IsOfClients, begun_of}
 use Rattle.lvm_workers.specs.Crews.{AllMade, begun_over, job_of, seats, share}
-use Rattle.lvm_workers.specs.Knowing.{HasCause, MayEnd, Refused, RefusedAs, WasUnheard}
+use Rattle.lvm_workers.specs.Knowing.{TallyHasCause, MayEnd, Refused, RefusedAs, WasUnheard}
 use Rattle.lvm_workers.specs.Making.{HasMade}
 use Rattle.lvm_workers.proofs.CountingLemmas.{begun_by_client, begun_over_all, sum_same}
 use Rattle.lvm_workers.proofs.KnowingLemmas.{rose_on}
@@ -33,7 +33,7 @@ use Rattle.lvm_load.specs.Bringing.{BringsIf}
 use Rattle.lvm_load.specs.Lending.{IsDrawnAs, IsNotTaken, IsServing, Plan, counts_in, told_in}
 use Rattle.lvm_load.specs.Waits.{waits_grow, waits_in}
 use Rattle.lvm_load.proofs.LendingLemmas.Keeping.{keeps_none}
-use Rattle.lvm_load.specs.Loading.{HasLoaded, IsFresh, MayEndBy, WasBrought, WasNotTakenAs, WasUnheardOf, WereBrought, crew_of, plan_of}
+use Rattle.lvm_load.specs.Loading.{HasLoaded, NoneHasBegun, MayEndBy, WasBrought, WasNotTakenAs, WasUnheardOf, WereBrought, crew_of, plan_of}
 
 -- ---- the beginning
 
@@ -42,7 +42,7 @@ ends_so [] f e = cc e
 ends_so (g ∷ before) f e = cc e
 
 -- a sound session without a request serves, from itself
-pub serves_first : (s : State) (lv blocks : ℕ) (load : Load) → IsSound s → (s.core.power ≡ power.Stuck → ⊥) → IsFresh s.core.history.facts → IsServing (plan_of s lv blocks load) s
+pub serves_first : (s : State) (lv blocks : ℕ) (load : Load) → IsSound s → (s.core.power ≡ power.Stuck → ⊥) → NoneHasBegun s.core.history.facts → IsServing (plan_of s lv blocks load) s
 serves_first s lv blocks load sound unstuck fresh = record {
   sound = sound;
   keeps = keeps_none load.sync s;
@@ -81,7 +81,7 @@ of_more n m more (f ∷ facts) all = (one f all.0, of_more n m more facts all.1)
     one (On moment) its = tt
 
 -- clients without entries stay as they are
-pub renewed_fresh : (facts : List Fact) (n : ℕ) → IsFresh facts → renewed facts (up_to n) ≡ up_to n
+pub renewed_fresh : (facts : List Fact) (n : ℕ) → NoneHasBegun facts → renewed facts (up_to n) ≡ up_to n
 renewed_fresh facts zero fresh = refl
 renewed_fresh facts (suc n) fresh = λ i. record { number = suc n; own = fresh (suc n) i } ∷ renewed_fresh facts n fresh i
 
@@ -100,7 +100,7 @@ module _ {V : Type 0} (plan : Plan) (load : Load) (s_of : V → State) (past : V
   its = serves y continues.always_holds
 
   -- the pass holds the clients that ask for requests, and perhaps more
-  module _ (seats : ℕ) (few : load.threads ≤ seats) (clients : plan.clients ≡ load.threads) (fresh : IsFresh plan.first.core.history.facts) (idle : IsIdle table (counted seats) p) where
+  module _ (seats : ℕ) (few : load.threads ≤ seats) (clients : plan.clients ≡ load.threads) (fresh : NoneHasBegun plan.first.core.history.facts) (idle : IsIdlePass table (counted seats) p) where
     own_since : (c : ℕ) → own c last.core.history.facts ≡ own c its.since
     own_since c = ap (own c) its.is ∙ own-append c plan.first.core.history.facts its.since ∙ ap (λ (l : List Fact). l ++ own c its.since) (fresh c)
 
@@ -124,7 +124,7 @@ module _ {V : Type 0} (plan : Plan) (load : Load) (s_of : V → State) (past : V
     NotTakenAs = RefusedAs (λ v. told_in (s_of v)) past always (λ v client number d said. IsNotTaken plan (s_of v) client d said)
 
     module _ (first : View) (t : Tally) (begins : first.counts ≡ counts_in plan.first) (begins_at : first.front ≡ plan.first.core.history.facts)
-        (cause : HasCause (Refused (λ v. told_in (s_of v)) past always (λ v client number d said. IsNotTaken plan (s_of v) client d said)) waits_in first p.knows t) where
+        (cause : TallyHasCause (Refused (λ v. told_in (s_of v)) past always (λ v client number d said. IsNotTaken plan (s_of v) client d said)) waits_in first p.knows t) where
       unheard_of : WasUnheard waits_in first p.knows → WasUnheardOf plan.first last
       unheard_of rose =
           rose_on 1000000 plan.first.device.counts.waits (waits_in p.knows.counts) last.device.counts.waits
@@ -153,7 +153,7 @@ module _ {V : Type 0} (plan : Plan) (load : Load) (s_of : V → State) (past : V
         to = s_of was.to;
         serves = serves was.from was.holds;
         brings = was.makes;
-        since = subst (λ (l : List Fact). Begins l (s_of was.from).core.history.facts) begins_at was.since;
+        since = subst (λ (l : List Fact). IsPrefixOf l (s_of was.from).core.history.facts) begins_at was.since;
         until = begins_further (s_of was.to).core.history.facts p.knows.front last.core.history.facts was.until continues.front;
       }
 

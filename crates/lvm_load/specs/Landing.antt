@@ -9,7 +9,7 @@ use Rattle.lvm_path.specs.declared.ask.Ask.{Ask}
 use Rattle.lvm_path.specs.Asks.{at_of, count_of, lv_of}
 use Rattle.lvm_session.specs.declared.open.Power.TheVariants as power
 use Rattle.lvm_session.specs.Causes.{AnyFailedSince, was_usable}
-use Rattle.lvm_session.specs.Judging.{IsWithin, copies_for}
+use Rattle.lvm_session.specs.Judging.{IsWithinVolume, copies_for}
 use Rattle.lvm_session.specs.Sound.{IsSound}
 use Rattle.lvm_session.specs.State.{Core, State}
 use Rattle.lvm_driver.specs.passed.Names.{LeavesSession}
@@ -22,7 +22,7 @@ pub record LackedCopy (core : Core) (r : Request) : Type 0 where
   pub vol : r.vol ≡ Lv (lv_of ask)
   pub at : r.at ≡ at_of ask
   pub count : r.count ≡ count_of ask
-  pub within : IsWithin core.descriptor ask
+  pub within : IsWithinVolume core.descriptor ask
   pub none : list_any (was_usable core) (copies_for core ask) ≡ false
 
 -- it has landed as done or got, or for want of such a copy
@@ -48,7 +48,7 @@ pub record EntersWell (core : Core) (old new : List Fact) : Type 0 where
 
 -- some copy of each logical partition could be used when the session began
 abbrev pub HadCopies : Core → Type 0
-HadCopies core = (ask : Ask) → IsWithin core.descriptor ask → list_any (was_usable core) (copies_for core ask) ≡ true
+HadCopies core = (ask : Ask) → IsWithinVolume core.descriptor ask → list_any (was_usable core) (copies_for core ask) ≡ true
 
 -- none of them has landed as lost; and none was refused, where there was a copy for each
 abbrev pub AreWell : Core → Totals → Type 0

@@ -2,7 +2,7 @@
 use Rattle.std.specs.Prelude.{◌≡◌, ◌⊎◌, ◌≤◌, ◌<◌, ◌+◌, ◌++◌, ℕ, true, List, [], length}
 use Rattle.lvm_disk.specs.Counts.{RoseBy}
 use Rattle.lvm_vol.specs.Facts.{Fact, begun}
-use Rattle.lvm_vol.specs.Fronts.{Begins, own}
+use Rattle.lvm_vol.specs.Fronts.{IsPrefixOf, own}
 use Rattle.lvm_session.specs.State.{State}
 use Rattle.lvm_workers.specs.declared.bring.Brought.{Brought}
 use Rattle.lvm_workers.specs.declared.crew.Crew.{Crew}
@@ -27,8 +27,8 @@ abbrev pub plan_of : State → ℕ → ℕ → Load → Plan
 plan_of first lv blocks load = record { first = first; clients = load.threads; lv = lv; blocks = blocks; apart = load.apart; sync = load.sync }
 
 -- no client has begun a request
-abbrev pub IsFresh : List Fact → Type 0
-IsFresh facts = (c : ℕ) → own c facts ≡ []
+abbrev pub NoneHasBegun : List Fact → Type 0
+NoneHasBegun facts = (c : ℕ) → own c facts ≡ []
 
 -- At some moment the session, which was serving, didn't take a request that a client drew, with this answer.
 pub record WasNotTakenAs (plan : Plan) (last : State) (said : Asked) : Type 0 where
@@ -37,7 +37,7 @@ pub record WasNotTakenAs (plan : Plan) (last : State) (said : Asked) : Type 0 wh
   pub client : ℕ
   pub drawn : Draw
   pub why : IsNotTaken plan at client drawn said
-  pub before : Begins at.core.history.facts last.core.history.facts
+  pub before : IsPrefixOf at.core.history.facts last.core.history.facts
 
 abbrev pub WasNotTaken : Plan → State → Type 0
 WasNotTaken plan last = (said : Asked) × WasNotTakenAs plan last said
@@ -56,8 +56,8 @@ pub record WasBrought (plan : Plan) (last : State) (at : ℕ) (answer : Brought)
   pub to : State
   pub serves : IsServing plan from
   pub brings : BringsIf plan.sync plan.lv at from to answer
-  pub since : Begins plan.first.core.history.facts from.core.history.facts
-  pub until : Begins to.core.history.facts last.core.history.facts
+  pub since : IsPrefixOf plan.first.core.history.facts from.core.history.facts
+  pub until : IsPrefixOf to.core.history.facts last.core.history.facts
 
 -- the copies of the volume were gone through in their order, or nothing was heard
 abbrev pub WereBrought : Plan → State → Type 0

@@ -3,7 +3,7 @@ ghost use Rattle.std.specs.Prelude.{◌≡◌, ◌≤◌, IfSome, vec_capacity};
 ghost use Rattle.lvm_session.specs.declared.open.Power.TheVariants as power;
 ghost use Rattle.lvm_session.specs.State.{state_of};
 ghost use Rattle.lvm_load.specs.Lending.{IsServing};
-ghost use Rattle.lvm_load.specs.Loading.{HasLoaded, IsFresh, crew_of, plan_of};
+ghost use Rattle.lvm_load.specs.Loading.{HasLoaded, NoneHasBegun, crew_of, plan_of};
 
 use crate::lent::{Lending, Lent};
 use lvm_disk::Shelf;
@@ -71,7 +71,7 @@ fn share_as<S: Shelf + Send, J: Lending + Send, R: Threads + Wait + Sync>(
 ) -> Loaded<S>
     requires plan { J.plan ≡ plan_of (state_of S.device driver) lv blocks load.now }
     requires unstuck { driver.1.power ≡ power.Stuck → ⊥ }
-    requires fresh { IsFresh driver.1.history.facts }
+    requires fresh { NoneHasBegun driver.1.history.facts }
     requires some { (1 ≤ load.now.threads) × (load.now.threads ≤ 128) × (256 ≤ blocks) }
     requires room { 131072 ≤ vec_capacity bytes }
     ensures serves { IsServing J.plan (state_of S.device result.driver) }
@@ -111,7 +111,7 @@ pub fn share_session<S: Shelf + Send, R: Threads + Wait + Sync>(
     load: &Load,
 ) -> Loaded<S>
     requires unstuck { driver.1.power ≡ power.Stuck → ⊥ }
-    requires fresh { IsFresh driver.1.history.facts }
+    requires fresh { NoneHasBegun driver.1.history.facts }
     requires some { (1 ≤ load.now.threads) × (load.now.threads ≤ 128) × (256 ≤ blocks) }
     requires room { 131072 ≤ vec_capacity bytes }
     ensures serves { IsServing (plan_of (state_of S.device driver) lv blocks load.now) (state_of S.device result.driver) }

@@ -4,7 +4,7 @@ ghost use Rattle.lvm_driver.specs.passed.Names.{RunsOn};
 ghost use Rattle.lvm_session.specs.declared.open.Power.TheVariants as power;
 ghost use Rattle.lvm_session.specs.State.{state_of};
 ghost use Rattle.lvm_load.specs.Lending.{KeepsServing};
-ghost use Rattle.lvm_load.specs.Loading.{IsFresh};
+ghost use Rattle.lvm_load.specs.Loading.{NoneHasBegun};
 ghost use Rattle.lvm_load.specs.Serving.{IsLoadedBy};
 ghost use Rattle.lvm_load.specs.Settling.{Settles};
 ghost use Rattle.lvm_load.specs.Bringing.{ClosesEnded, EndsBehind, IsSynced, SyncsBehind, is_on, is_unheard};
@@ -148,7 +148,7 @@ pub fn serve_load<S: Shelf + Send, R: Threads + Wait + Sync>(
     load: &Load,
 ) -> Served<S>
     requires unstuck { driver.1.power ≡ power.Stuck → ⊥ }
-    requires fresh { IsFresh driver.1.history.facts }
+    requires fresh { NoneHasBegun driver.1.history.facts }
     requires some { (1 ≤ load.now.threads) × (load.now.threads ≤ 128) × (256 ≤ blocks) }
     requires room { 131072 ≤ vec_capacity bytes }
     ensures keeps { KeepsServing load.now.sync (state_of S.device driver) (state_of S.device result.driver) }

@@ -17,7 +17,7 @@ is_open others [] = false
 is_open others (pp ∷ rest) = not (has_partition_on others pp.disk)
 
 -- one member's first free partition is taken
-pub record IsTaken (others : List Pp) (old new : List (List Pp)) (pp : Pp) : Type 0 where
+pub record PartitionIsTaken (others : List Pp) (old new : List (List Pp)) (pp : Pp) : Type 0 where
   pub member : ℕ
   pub rest : List Pp
   pub first : position (is_open others) old ≡ Some member
@@ -25,10 +25,10 @@ pub record IsTaken (others : List Pp) (old new : List (List Pp)) (pp : Pp) : Typ
   pub has : new ≡ slice_set old member rest
 
 -- the first partition of the first open member is taken, or none is open
-abbrev pub Takes : List Pp → List (List Pp) → List (List Pp) → Option Pp → Type 0
-Takes others old new taken = MatchOption taken ((position (is_open others) old ≡ None) × (new ≡ old)) (IsTaken others old new)
+abbrev pub TakesFirstFree : List Pp → List (List Pp) → List (List Pp) → Option Pp → Type 0
+TakesFirstFree others old new taken = MatchOption taken ((position (is_open others) old ≡ None) × (new ≡ old)) (PartitionIsTaken others old new)
 
 -- what comes behind the front of a map is a copy that is kept, or is taken
 abbrev pub TakesNext : Asked → List Pp → List (List Pp) → List (List Pp) → Option Pp → Type 0
 TakesNext asked front old new next =
-    MatchBool (nat_lt (length front % asked.copies) asked.kept) ((next ≡ kept_next asked front) × (new ≡ old)) (Takes (others_in asked front) old new next)
+    MatchBool (nat_lt (length front % asked.copies) asked.kept) ((next ≡ kept_next asked front) × (new ≡ old)) (TakesFirstFree (others_in asked front) old new next)

@@ -9,7 +9,7 @@ ghost use Rattle.lvm_num.specs.Descriptor.{IsValid, IsMember, partitions_used};
 ghost use Rattle.lvm_num.specs.Disks.{has};
 ghost use Rattle.lvm_num.specs.Marks.{spot};
 ghost use Rattle.lvm_map.specs.FirstFit.{has_partition_on, may_take, partitions_of};
-ghost use Rattle.lvm_map.specs.Room.{is_open, room_of, IsBounded, Takes};
+ghost use Rattle.lvm_map.specs.Room.{is_open, room_of, IsBounded, TakesFirstFree};
 
 use lvm_num::{Descriptor, DiskSet, Memory, Pp, PvRow, has_bit, has_partition_on, set_bit};
 use std::alloc::Global;
@@ -67,7 +67,7 @@ impl Room {
 
     /// Takes the first free partition of the first member that has one and none of these others.
     pub fn take(&mut self, others: &[Pp]) -> Option<Pp>
-        ensures { Takes others.now self.old self.new result }
+        ensures { TakesFirstFree others.now self.old self.new result }
     {
         let member = first_open(&self.members, others)?;
         self.members[member].pop_front()

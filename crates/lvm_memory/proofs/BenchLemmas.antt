@@ -4,7 +4,7 @@ use Rattle.std.proofs.lemmas.Bool.Decides.{nat_tests}
 use Rattle.std.specs.List.{filter, position, remove, AllByRecursion}
 use Rattle.lvm_disk.specs.Device.{Range}
 use Rattle.lvm_memory.specs.Injection.{Injection, due, after_act, after_acts, next_call, cut_planned}
-use Rattle.lvm_memory.specs.Bench.{Bench, Begins, DarkensBy, StartsAsPlanned, ReapsAsPlanned, IsPromptAct, IsPrompt, IsNoWait}
+use Rattle.lvm_memory.specs.Bench.{Bench, CallBegins, DarkensBy, StartsAsPlanned, ReapsAsPlanned, IsPromptAct, IsPrompt, IsNoWait}
 use Rattle.lvm_memory.specs.Flights.{NoDelays, flights_of, delays_of}
 use Rattle.lvm_memory.specs.declared.flying.Flying.{Flying}
 use Rattle.lvm_memory.proofs.TicketsLemmas.{none_passed, none_removed, none_more}
@@ -53,7 +53,7 @@ none_by_cut (Some word) old new cut none = subst NoDelays (sym cut) tt
 
 -- ---- calls
 
-prompt_begun : (old new : Bench) → Begins old new → IsPrompt old → IsPrompt new
+prompt_begun : (old new : Bench) → CallBegins old new → IsPrompt old → IsPrompt new
 prompt_begun old new begins prompt =
     let first : Injection = record old.injection { calls = next_call old.injection } in
     let acts = due (next_call old.injection) old.injection.plan in

@@ -13,7 +13,7 @@ use Rattle.lvm_disk.specs.declared.shelf.Reaped.TheVariants as reaped
 use Rattle.lvm_memory.specs.Injection.{Injection, due, after_acts, cut_planned, next_call, begun}
 use Rattle.lvm_memory.specs.Flights.{NoDelays}
 use Rattle.lvm_memory.specs.Sound.{IsUnplanned}
-use Rattle.lvm_memory.specs.Bench.{Bench, Begins, DarkensBy, ordered_of}
+use Rattle.lvm_memory.specs.Bench.{Bench, CallBegins, DarkensBy, ordered_of}
 use Rattle.lvm_memory.specs.declared.injector.Planned.{Planned}
 use Rattle.lvm_memory.proofs.TicketsLemmas.{none_more}
 
@@ -68,7 +68,7 @@ begun_dark None old new none same = ap Alone same ∙ none
 begun_dark (Some word) old new none (off, inl (was, same)) = ap Alone same ∙ none
 begun_dark (Some word) old new none (off, inr cut) = ap Alone cut.cuts.new_is ∙ none
 
-pub begun_unheeding : (old new : Bench) → Alone old.device ≡ None → Begins old new → Alone new.device ≡ None
+pub begun_unheeding : (old new : Bench) → Alone old.device ≡ None → CallBegins old new → Alone new.device ≡ None
 begun_unheeding old new none begins = begun_dark (cut_planned old.injection) old.device new.device none begins.device
 
 pub started_unheeding : (old new : Device) (disk first count : ℕ) (write : Bool) (buf : Buffer) (answer : Started) → Alone old ≡ None → StartGives old new disk first count write buf answer → Alone new ≡ None

@@ -4,7 +4,7 @@ use Rattle.std.specs.List.{remove}
 use Rattle.lvm_num.specs.Buffer.{Buffer, Sector}
 use Rattle.lvm_disk.specs.Device.{Media, Flight, Device, AreSectors, written}
 use Rattle.lvm_disk.specs.Counts.{Counts}
-use Rattle.lvm_disk.specs.Steps.{BothTold, Removes, Puts, PutsSome, Reads, ChangedAtMost, EndsDone, EndsFailed, CountsFailure}
+use Rattle.lvm_disk.specs.Steps.{BothTold, Removes, Puts, PutsSome, ReadsRange, ChangedAtMost, EndsDone, EndsFailed, CountsFailure}
 use Rattle.lvm_memory.specs.Media.{media_of, sizes_of, written_by}
 use Rattle.lvm_memory.specs.Flights.{AllLie}
 use Rattle.lvm_memory.specs.Tally.{Tallied}
@@ -63,7 +63,7 @@ failed old f place word buf m n sizes flights counts on told there same less tor
 
 pub done :
     (old : Device) (f : Flight) (place ticket : ℕ) (buf : Buffer) (m n : Media) (sizes : List ℕ) (flights : List Flight) → f.ticket ≡ ticket → old.power ≡ true → old.media ≡ Some m → slice_get old.flights place ≡ Some f
-    → sizes ≡ old.sizes → flights ≡ remove old.flights place → Puts f m n → (f.write ≡ true → buf ≡ f.buf) → (f.write ≡ false → Reads m f buf) → ChangedAtMost f.count f.buf buf
+    → sizes ≡ old.sizes → flights ≡ remove old.flights place → Puts f m n → (f.write ≡ true → buf ≡ f.buf) → (f.write ≡ false → ReadsRange m f buf) → ChangedAtMost f.count f.buf buf
     → EndsDone old (record old { sizes = sizes; media = Some n; flights = flights }) ticket buf
 done old f place ticket buf m n sizes flights its on told there same less puts kept read rest = record {
   flight = f;
@@ -72,7 +72,7 @@ done old f place ticket buf m n sizes flights its on told there same less puts k
   flights = subst (Removes f old.flights) (sym less) (removed old.flights place f there);
   media = subst (λ (o : Option Media). BothTold o (Some n) (Puts f)) (sym told) puts;
   kept = kept;
-  read = λ reads. subst (λ (o : Option Media). IfSome o (λ m. Reads m f buf)) (sym told) (read reads);
+  read = λ reads. subst (λ (o : Option Media). IfSome o (λ m. ReadsRange m f buf)) (sym told) (read reads);
   rest = rest;
   new_is = λ i. record old { sizes = same i; media = Some n; flights = flights };
 }

@@ -74,7 +74,7 @@ abbrev pub DarkensBy : ℕ → Device → Device → Type 0
 DarkensBy word old new = ((old.power ≡ false) × (new ≡ old)) ⊎ CutBy word old new
 
 -- A call has begun: the acts that are planned for it are done, and nothing else.
-pub record Begins (old new : Bench) : Type 0 where
+pub record CallBegins (old new : Bench) : Type 0 where
   pub injection : new.injection ≡ begun old.injection
   pub device : MatchOption (cut_planned old.injection) (new.device ≡ old.device) (λ word. (new.device.power ≡ false) × DarkensBy word old.device new.device)
   pub delays : MatchOption (cut_planned old.injection) (new.delays ≡ old.delays) (λ _. new.delays ≡ [])
@@ -102,7 +102,7 @@ StartsThen old new range write (started.Dark back) = (old.device.power ≡ false
 
 -- what is planned before a start is done first
 abbrev pub StartsAsPlanned : Bench → Bench → Range → Bool → Started → Type 0
-StartsAsPlanned old new range write answer = (begun : Bench) × Begins old begun × StartsThen begun new range write answer
+StartsAsPlanned old new range write answer = (begun : Bench) × CallBegins old begun × StartsThen begun new range write answer
 
 -- ---- reaps
 
@@ -122,7 +122,7 @@ pub record Arrives (old new : Bench) (ticket : ℕ) (failed : Bool) : Type 0 whe
   pub room : new.room ≡ old.room
 
 -- all flights were passed over
-pub record Passes (old new : Bench) : Type 0 where
+pub record PassesFlightsOver (old new : Bench) : Type 0 where
   pub power : old.device.power ≡ true
   pub none : position (λ n. n == 0) old.delays ≡ None
   pub delays : new.delays ≡ passed old.delays
@@ -131,14 +131,14 @@ pub record Passes (old new : Bench) : Type 0 where
 
 -- what a reap does once the call has begun
 abbrev pub ReapsThen : Bench → Bench → Reaped → Type 0
-ReapsThen old new reaped.Empty = Passes old new
+ReapsThen old new reaped.Empty = PassesFlightsOver old new
 ReapsThen old new (reaped.Done ticket buf) = Arrives old new ticket false
 ReapsThen old new (reaped.Failed ticket buf) = Arrives old new ticket true
 ReapsThen old new (reaped.Dark freed) = (old.device.power ≡ false) × (new ≡ old)
 
 -- what is planned before a reap is done first
 abbrev pub ReapsAsPlanned : Bench → Bench → Reaped → Type 0
-ReapsAsPlanned old new answer = (begun : Bench) × Begins old begun × ReapsThen begun new answer
+ReapsAsPlanned old new answer = (begun : Bench) × CallBegins old begun × ReapsThen begun new answer
 
 -- ---- arrangements
 

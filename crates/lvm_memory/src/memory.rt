@@ -55,7 +55,7 @@ impl MemShelf {
     ghost use Rattle.lvm_memory.specs.Memory.{disks_of, device_of, bench_of};
     ghost use Rattle.lvm_disk.specs.Steps.{IsRange, Starts, StartGives, Waits, ReapGives};
     ghost use Rattle.lvm_memory.specs.Gate.{IsFailing, IsPassedOver};
-    ghost use Rattle.lvm_memory.specs.Bench.{fresh_bench, with_plan, heeding_no_more, let_cut, DarkensBy, Begins, Departs, StartsAsPlanned, Passes, ReapsThen, ReapsAsPlanned};
+    ghost use Rattle.lvm_memory.specs.Bench.{fresh_bench, with_plan, heeding_no_more, let_cut, DarkensBy, CallBegins, Departs, StartsAsPlanned, PassesFlightsOver, ReapsThen, ReapsAsPlanned};
 
     /// Disks of zeros, of these numbers of sectors. `log` is the number of writes that are told by their
     /// ranges; once one more was started, none is told.
@@ -177,7 +177,7 @@ impl MemShelf {
 
     // Counts a call, and does what is planned before it.
     fn begin_call(&mut self)
-        ensures { Begins (bench_of self.old) (bench_of self.new) }
+        ensures { CallBegins (bench_of self.old) (bench_of self.new) }
     {
         if let Some(word) = self.injector.begin() {
             self.cut(word);
@@ -271,7 +271,7 @@ impl MemShelf {
         requires out { 0 < length (device_of self.old).flights }
         requires none { position (λ n. n == 0) (bench_of self.old).delays ≡ None }
         ensures waits { Waits (device_of self.old) (device_of self.new) }
-        ensures passes { Passes (bench_of self.old) (bench_of self.new) }
+        ensures passes { PassesFlightsOver (bench_of self.old) (bench_of self.new) }
     {
         self.delayed = true;
         pass_over(&mut self.flights);

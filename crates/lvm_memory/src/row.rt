@@ -1,7 +1,7 @@
 //! What transfers put on a row of disks in memory.
 ghost use Rattle.std.specs.Prelude.{◌≡◌, ◌≤◌, ℕ, true, false};
 ghost use Rattle.lvm_disk.specs.Device.{AreSectors};
-ghost use Rattle.lvm_disk.specs.Steps.{Puts, ChangedAtMost, Reads};
+ghost use Rattle.lvm_disk.specs.Steps.{Puts, ChangedAtMost, ReadsRange};
 ghost use Rattle.lvm_memory.specs.Media.{KeepsDisks, media_of, sizes_of, written_by};
 ghost use Rattle.lvm_memory.specs.Flights.{Lies, flight_of};
 
@@ -38,7 +38,7 @@ fn fill_flight(disks: &Vec<Disk>, flying: &mut Flying)
     requires lies { Lies (sizes_of disks.now.items) (flight_of flying.old) }
     ensures same { flying.new ≡ record flying.old { buf = flying.new.buf } }
     ensures rest { ChangedAtMost flying.old.count flying.old.buf flying.new.buf }
-    ensures read { Reads (media_of disks.now.items) (flight_of flying.old) flying.new.buf }
+    ensures read { ReadsRange (media_of disks.now.items) (flight_of flying.old) flying.new.buf }
 {
     disks[flying.disk as usize].fill(flying.first, flying.count, &mut flying.buf);
 }
@@ -51,7 +51,7 @@ pub fn finish_flight(disks: &mut Vec<Disk>, flying: &mut Flying)
     ensures puts { Puts (flight_of flying.old) (media_of disks.old.items) (media_of disks.new.items) }
     ensures same { flying.new ≡ record flying.old { buf = flying.new.buf } }
     ensures kept { flying.old.write ≡ true → flying.new.buf ≡ flying.old.buf }
-    ensures read { flying.old.write ≡ false → Reads (media_of disks.old.items) (flight_of flying.old) flying.new.buf }
+    ensures read { flying.old.write ≡ false → ReadsRange (media_of disks.old.items) (flight_of flying.old) flying.new.buf }
     ensures rest { ChangedAtMost flying.old.count flying.old.buf flying.new.buf }
 {
     if flying.write {

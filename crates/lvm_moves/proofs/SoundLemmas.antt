@@ -7,7 +7,7 @@ use Rattle.std.proofs.Math.Seq.{drop-cons}
 use Rattle.std.proofs.lemmas.List.Sums.{sum_by-cons, sum_by-take-drop}
 use Rattle.lvm_num.specs.Buffer.{zero_sector}
 use Rattle.lvm_num.proofs.Lists.{set_here}
-use Rattle.lvm_vol.specs.Facts.{Request, Fact, Stands, begun}
+use Rattle.lvm_vol.specs.Facts.{Request, Fact, IsInList, begun}
 use Rattle.lvm_vol.specs.Log.{asked, blocks_begun, blocks_of, got_by}
 use Rattle.lvm_vol.specs.Order.{Ordered}
 use Rattle.lvm_vol.proofs.LogLemmas.{find_stands}
@@ -58,7 +58,7 @@ get_front [] (suc from) count k less = nothing_there [] count k (suc from + k) r
 get_front (x ∷ xs) (suc from) count k less = get_front xs from count k less ∙ (let same : suc (from + k) ≡ suc from + k = omega arith in ap (slice_get (x ∷ xs)) same)
 
 module _ (run : ℕ) (facts : List Fact) (ordered : Ordered run [] facts) (id : ℕ) (r : Request) (told : asked facts id ≡ Some r) where
-  its : Stands r (begun facts) × (r.id ≡ id)
+  its : IsInList r (begun facts) × (r.id ≡ id)
   its = find_stands id (begun facts) r told
 
   all_numbered : IsNumbered run facts

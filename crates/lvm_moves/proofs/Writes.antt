@@ -18,7 +18,7 @@ use Rattle.lvm_disk.specs.Device.{Device}
 use Rattle.lvm_disk.specs.Steps.{GoesDark, IsRange}
 use Rattle.lvm_pbuf.specs.Out.{TakesLowest}
 use Rattle.lvm_status.specs.Calls.{with_update}
-use Rattle.lvm_status.specs.Update.{MayStart, Stored, Updates, members_there, seen}
+use Rattle.lvm_status.specs.Update.{MayStartUpdate, Stored, Updates, members_there, seen}
 use Rattle.lvm_session.specs.State.{Core, State, state}
 use Rattle.lvm_session.specs.Enabled.{is_lost, is_status_due, same_rows, same_status}
 use Rattle.lvm_session.specs.Dark.{all_dark}
@@ -87,7 +87,7 @@ module _ (core : Core) (going : IsGoing core) (due : is_status_due core ≡ true
       flying : (core.status.in_flight ≡ None → ⊥) × (next.begun ≡ core.status) → ⊥
       flying it = absurd (let e : ◌≡◌ {A = Bool} false true = sym (none_of (has core.status.writes.unstarted) core.status.group.pvs (λ disk. ap (λ (s : Stored). has s.writes.unstarted disk) (sym it.1) ∙ next.lowest disk)) ∙ owed core due it.0 in cc e)
 
-      begun : MayStart (seen core.status) × (seen next.begun ≡ with_update (seen core.status)) → ⊥
+      begun : MayStartUpdate (seen core.status) × (seen next.begun ≡ with_update (seen core.status)) → ⊥
       begun it =
           let none : (disk : ℕ) → members_there core.descriptor core.status.wanted disk ≡ false = λ disk. sym (in_group disk) ∙ ap (λ (u : Updates). u.unstarted disk) (sym it.1) ∙ next.lowest disk in
           absurd (let e : ◌≡◌ {A = Bool} true false = sym (ap not (ap (is_enough_to_write core.descriptor) (no_votes core.descriptor (members_there core.descriptor core.status.wanted) none) ∙ too_few core.descriptor)) ∙ votes in cc e)
@@ -98,7 +98,7 @@ module _ (core : Core) (going : IsGoing core) (due : is_status_due core ≡ true
       flying : (core.status.in_flight ≡ None → ⊥) × (next.begun ≡ core.status) → members_there core.status.group core.status.wanted disk ≡ true
       flying it = (going.status.unstarted disk (ap (λ (s : Stored). has s.writes.unstarted disk) (sym it.1) ∙ next.lowest.0)).0
 
-      begun : MayStart (seen core.status) × (seen next.begun ≡ with_update (seen core.status)) → members_there core.status.group core.status.wanted disk ≡ true
+      begun : MayStartUpdate (seen core.status) × (seen next.begun ≡ with_update (seen core.status)) → members_there core.status.group core.status.wanted disk ≡ true
       begun it = ap (λ (u : Updates). u.unstarted disk) (sym it.1) ∙ next.lowest.0
 
 -- ---- it is on the shelf
@@ -159,7 +159,7 @@ says old new disk next = ⊎_elim flying begun next.begins
       stamp = inl (ap (λ (u : Updates). u.stamp) next.started ∙ ap (λ (s : Stored). s.stamp) it.1);
     }
 
-    begun : MayStart (seen old) × (seen next.begun ≡ with_update (seen old)) → SaysTheSame old new
+    begun : MayStartUpdate (seen old) × (seen next.begun ≡ with_update (seen old)) → SaysTheSame old new
     begun it = record {
       group = ap (λ (u : Updates). u.group) next.started ∙ ap (λ (u : Updates). u.group) it.1;
       committed = ap (λ (u : Updates). u.committed) next.started ∙ ap (λ (u : Updates). u.committed) it.1;
@@ -177,7 +177,7 @@ flies core new disk next none = ⊎_elim flying begun next.begins
     flying : (core.status.in_flight ≡ None → ⊥) × (next.begun ≡ core.status) → ⊥
     flying it = it.0 (sym (ap (λ (s : Stored). s.in_flight) it.1) ∙ left)
 
-    begun : MayStart (seen core.status) × (seen next.begun ≡ with_update (seen core.status)) → ⊥
+    begun : MayStartUpdate (seen core.status) × (seen next.begun ≡ with_update (seen core.status)) → ⊥
     begun it = absurd (let e : ◌≡◌ {A = Option Status} (Some core.status.wanted) None = sym (ap (λ (u : Updates). u.in_flight) it.1) ∙ left in cc e)
 
 pub with_status : (core : Core) (status : Stored) (pool : List Bool) → pool ≡ core.pool → MayEnd core → MayEnd (record core { pool = pool; status = status })

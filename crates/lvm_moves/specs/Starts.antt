@@ -13,7 +13,7 @@ use Rattle.lvm_moves.specs.Launching.{HasFlight, MayLaunch, MayNote, MayReadCopy
 use Rattle.lvm_moves.specs.Updating.{MayStartStatus}
 
 -- The group has its votes, one transfer more may be out, and the members are on the shelf but for those that were missing when the session began, which still are.
-pub record MayStart (device : Device) (core : Core) : Type 0 where
+pub record MayStartTransfer (device : Device) (core : Core) : Type 0 where
   pub flight : HasFlight device core
   pub votes : is_lost core ≡ false
   pub placed : ArePlaced device.sizes core.descriptor core.origin.table

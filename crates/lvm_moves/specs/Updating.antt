@@ -11,13 +11,13 @@ use Rattle.lvm_status.specs.Calls.{with_start}
 use Rattle.lvm_status.specs.Update.{Stored, seen}
 use Rattle.lvm_session.specs.State.{Core}
 use Rattle.lvm_session.specs.Enabled.{is_lost, is_status_due}
-use Rattle.lvm_session.specs.Events.{Begins}
+use Rattle.lvm_session.specs.Events.{PutsInFlight}
 use Rattle.lvm_session.specs.Placed.{ArePlaced}
 
 -- An update is begun where none is in flight, and its write to the least disk that is left, if there is one, counts as started.
 pub record NextOn (old new : Stored) (disk : Option ℕ) : Type 0 where
   pub begun : Stored
-  pub begins : Begins old begun
+  pub begins : PutsInFlight old begun
   pub lowest : IsLowest (seen begun).unstarted disk
   pub started : seen new ≡ with_start (seen begun) disk
 
@@ -28,7 +28,7 @@ pub record MayStartStatus (device : Device) (core : Core) : Type 0 where
   pub placed : ArePlaced device.sizes core.descriptor core.status.wanted
 
 -- a buffer carries the record of the status in flight, in so many sectors
-pub record IsCarried (stored : Stored) (count : ℕ) (buf : Buffer) : Type 0 where
+pub record CarriesUpdate (stored : Stored) (count : ℕ) (buf : Buffer) : Type 0 where
   pub status : Status
   pub flies : stored.in_flight ≡ Some status
   pub count_is : count ≡ record_sectors (length (status_bytes status))

@@ -4,7 +4,7 @@ ghost use Rattle.lvm_num.specs.Status.{IsVolumeNumber};
 ghost use Rattle.lvm_path.specs.declared.facts.Next.TheVariants as next;
 ghost use Rattle.lvm_session.specs.declared.open.Open.{Open};
 ghost use Rattle.lvm_session.specs.Fields.{core_of};
-ghost use Rattle.lvm_session.specs.Judging.{IsWithin, next_for};
+ghost use Rattle.lvm_session.specs.Judging.{IsWithinVolume, next_for};
 ghost use Rattle.lvm_session.specs.Rooms.{SameRooms};
 ghost use Rattle.lvm_session.specs.State.{state};
 ghost use Rattle.lvm_session.specs.Events.{Admits, Chooses, admitted_as, last_after, makes_dirty};
@@ -43,7 +43,7 @@ fn set_last(last: &mut [u8; 512], lv: u16, order: &[u8])
 // The copies to which a write goes, or which a read tries.
 fn choose<S: Shelf>(session: &Session, shelf: &S, ask: &Ask) -> Chosen
     requires may { MayChoose (S.device shelf.now) (core_of session.now) }
-    requires within { IsWithin session.now.descriptor ask.now }
+    requires within { IsWithinVolume session.now.descriptor ask.now }
     ensures chosen { Chooses (state (S.device shelf.now) (core_of session.now)) ask.now result.targets.items result.order.items }
     ensures few { length result.targets.items ≤ 4 }
 {

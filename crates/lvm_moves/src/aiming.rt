@@ -4,7 +4,7 @@ ghost use Rattle.lvm_num.specs.declared.place.Pp.{Pp};
 ghost use Rattle.lvm_num.specs.Descriptor.{is_size};
 ghost use Rattle.lvm_num.specs.Geometry.{sector_of};
 ghost use Rattle.lvm_session.specs.Fields.{core_of};
-ghost use Rattle.lvm_session.specs.Judging.{IsWithin, aims, is_caught, is_usable, place_aims};
+ghost use Rattle.lvm_session.specs.Judging.{IsWithinVolume, aims, is_caught, is_usable, place_aims};
 ghost use Rattle.lvm_session.specs.State.{state};
 ghost use Rattle.lvm_session.specs.Events.{place_target, target_at};
 ghost use Rattle.lvm_moves.specs.Choosing.{IsThere, MayChoose};
@@ -81,7 +81,7 @@ fn aim_if<S: Shelf>(
 // The copies to which a write goes, as its targets.
 fn copy_aims<S: Shelf>(session: &Session, shelf: &S, ask: &Ask) -> ArrayVec<Target, 4>
     requires may { MayChoose (S.device shelf.now) (core_of session.now) }
-    requires within { IsWithin session.now.descriptor ask.now }
+    requires within { IsWithinVolume session.now.descriptor ask.now }
     ensures targets { result.items ≡ map (target_at (state (S.device shelf.now) (core_of session.now)) ask.now) (aims (core_of session.now) ask.now) }
     ensures few { length result.items ≤ 3 }
 {
@@ -110,7 +110,7 @@ fn aim_place<S: Shelf>(session: &Session, shelf: &S, ask: &Ask, targets: &mut Ar
 /// moves, where that has passed the track group.
 pub fn aims<S: Shelf>(session: &Session, shelf: &S, ask: &Ask) -> ArrayVec<Target, 4>
     requires may { MayChoose (S.device shelf.now) (core_of session.now) }
-    requires within { IsWithin session.now.descriptor ask.now }
+    requires within { IsWithinVolume session.now.descriptor ask.now }
     ensures targets { result.items ≡ map (target_at (state (S.device shelf.now) (core_of session.now)) ask.now) (aims (core_of session.now) ask.now) ++ map (place_target (state (S.device shelf.now) (core_of session.now)) ask.now) (place_aims (core_of session.now) ask.now) }
     ensures few { length result.items ≤ 4 }
 {

@@ -2,7 +2,7 @@
 ghost use Rattle.std.specs.Prelude.{◌≡◌, ◌≤◌, ◌<◌, ℕ, None, Some, length, slice_get};
 ghost use Rattle.lvm_num.specs.declared.record.Kind.TheVariants as kind;
 ghost use Rattle.lvm_num.specs.Record.{frame, record_sectors};
-ghost use Rattle.lvm_moves.specs.Updating.{IsCarried};
+ghost use Rattle.lvm_moves.specs.Updating.{CarriesUpdate};
 
 use lvm_num::{Kind, Pbuf, Stamp};
 use lvm_rec::{frame, slot_sectors};
@@ -30,7 +30,7 @@ pub fn put_status(updater: &Updater, bytes: &mut [u8], buf: Pbuf) -> (u32, Pbuf)
     requires flies { updater.now.in_flight ≡ None → ⊥ }
     requires room { 131072 ≤ length bytes.old }
     requires long { length buf.sectors ≡ 256 }
-    ensures carried { IsCarried updater.now result.0 result.1 }
+    ensures carried { CarriesUpdate updater.now result.0 result.1 }
     ensures few { (1 ≤ result.0) × (result.0 ≤ 64) }
     ensures number { result.1.number ≡ buf.number }
     ensures long { length result.1.sectors ≡ 256 }

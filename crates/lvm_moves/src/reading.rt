@@ -4,7 +4,7 @@ ghost use Rattle.std.specs.Option.{option_map_or};
 ghost use Rattle.lvm_num.specs.declared.place.Pp.{Pp};
 ghost use Rattle.lvm_num.specs.Descriptor.{is_size};
 ghost use Rattle.lvm_session.specs.Fields.{core_of};
-ghost use Rattle.lvm_session.specs.Judging.{IsWithin};
+ghost use Rattle.lvm_session.specs.Judging.{IsWithinVolume};
 ghost use Rattle.lvm_session.specs.State.{state};
 ghost use Rattle.lvm_session.specs.Events.{IsReading, copy_of, load_on, loads_of, target_at, usable_from};
 ghost use Rattle.lvm_moves.specs.Choosing.{IsCopyThere, MayChoose};
@@ -99,7 +99,7 @@ fn targets_in<S: Shelf>(
 /// The copies that a read tries, in the order of its volume's policy.
 pub fn reading<S: Shelf>(session: &Session, shelf: &S, ask: &Ask) -> Chosen
     requires may { MayChoose (S.device shelf.now) (core_of session.now) }
-    requires within { IsWithin session.now.descriptor ask.now }
+    requires within { IsWithinVolume session.now.descriptor ask.now }
     ensures reads { IsReading (state (S.device shelf.now) (core_of session.now)) ask.now result.order.items result.targets.items }
     ensures few { length result.targets.items ≤ 3 }
 {

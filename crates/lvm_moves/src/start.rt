@@ -6,7 +6,7 @@ ghost use Rattle.lvm_session.specs.declared.event.Event.TheVariants as event;
 ghost use Rattle.lvm_session.specs.Fields.{core_of};
 ghost use Rattle.lvm_session.specs.Rooms.{HasRooms, SameRooms};
 ghost use Rattle.lvm_session.specs.State.{state};
-ghost use Rattle.lvm_session.specs.Events.{Begins};
+ghost use Rattle.lvm_session.specs.Events.{PutsInFlight};
 ghost use Rattle.lvm_moves.specs.Launching.{MayLaunch, StartGives};
 ghost use Rattle.lvm_moves.specs.Updating.{MayStartStatus, NextOn};
 
@@ -21,7 +21,7 @@ use lvm_status::Updater;
 fn begin_update(updater: &mut Updater)
     requires number { updater.old.in_flight ≡ None → updater.old.stamp.seq + 1 < 2 ^ 32 }
     requires differs { updater.old.in_flight ≡ None → updater.old.wanted ≡ updater.old.committed → ⊥ }
-    ensures { Begins updater.old updater.new }
+    ensures { PutsInFlight updater.old updater.new }
 {
     if updater.in_flight().is_none() {
         updater.start();

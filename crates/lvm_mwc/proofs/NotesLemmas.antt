@@ -13,7 +13,7 @@ use Rattle.lvm_mwc.specs.declared.entries.CacheEntry.{CacheEntry}
 use Rattle.lvm_mwc.specs.declared.notes.DiskNotes.{DiskNotes}
 use Rattle.lvm_mwc.specs.Firsts.{with_first}
 use Rattle.lvm_mwc.specs.Entries.{has_entry, pins_of, are_all_pinned, with_pin, note_of}
-use Rattle.lvm_mwc.specs.Notes.{is_of_disk, names_group, both_name, common, MayStand}
+use Rattle.lvm_mwc.specs.Notes.{is_of_disk, names_group, both_name, common, NoteMayStand}
 use Rattle.lvm_mwc.specs.Cache.{Cached, IsNew, notes_on, is_named, no_notes, after_start, after_end, started, ended}
 use Rattle.lvm_mwc.specs.Runs.{Call, Pins, Unpins, StartsNote, NoteEnds, after, after_all, IsPinnedBefore, Sectors, no_sectors, sectors_ended, sectors_in, sectors_after, Knows}
 use Rattle.lvm_mwc.proofs.FirstsLemmas.{find-with, find-with_other}
@@ -212,7 +212,7 @@ known_after_all disks c disk calls new there = knows (after_all c calls) disk (s
 
 -- ---- a sector that may stand there
 
-pub named_stands : (n : DiskNotes) (sector : List NoteEntry) (lv group : ℕ) → MayStand n sector → both_name lv group n ≡ true → names_group sector lv group ≡ true
+pub named_stands : (n : DiskNotes) (sector : List NoteEntry) (lv group : ℕ) → NoteMayStand n sector → both_name lv group n ≡ true → names_group sector lv group ≡ true
 named_stands n sector lv group stands named = stands lv group (and_parts (names_group n.written.items lv group) (option_map_or (λ (note : ArrayVec NoteEntry). names_group note.items lv group) n.flight true) named).0
 
 pub named_flies : (n : DiskNotes) (note : ArrayVec NoteEntry) (lv group : ℕ) → n.flight ≡ Some note → both_name lv group n ≡ true → names_group note.items lv group ≡ true
@@ -220,20 +220,20 @@ named_flies n note lv group flies named =
     sym (ap (λ (o : Option (ArrayVec NoteEntry)). option_map_or (λ (v : ArrayVec NoteEntry). names_group v.items lv group) o true) flies)
     ∙ (and_parts (names_group n.written.items lv group) (option_map_or (λ (v : ArrayVec NoteEntry). names_group v.items lv group) n.flight true) named).1
 
-ended_stands_of : (ok : Bool) (flight : Option (ArrayVec NoteEntry)) (disk : ℕ) (written note : ArrayVec NoteEntry) → flight ≡ Some note → MayStand (ended ok (notes_of disk written flight)) note.items
+ended_stands_of : (ok : Bool) (flight : Option (ArrayVec NoteEntry)) (disk : ℕ) (written note : ArrayVec NoteEntry) → flight ≡ Some note → NoteMayStand (ended ok (notes_of disk written flight)) note.items
 ended_stands_of ok None disk written note flies lv group named = absurd (none-some note flies)
 ended_stands_of true (Some f) disk written note flies lv group named = ap (λ (v : ArrayVec NoteEntry). names_group v.items lv group) (sym (same_Some f note flies)) ∙ named
 ended_stands_of false (Some f) disk written note flies lv group named =
     ap (λ (v : ArrayVec NoteEntry). names_group v.items lv group) (sym (same_Some f note flies))
     ∙ (and_parts (names_group written.items lv group) (names_group f.items lv group) (sym (names-common written.items f.items lv group) ∙ named)).1
 
-pub ended_stands : (n : DiskNotes) (note : ArrayVec NoteEntry) (ok : Bool) → n.flight ≡ Some note → MayStand (ended ok n) note.items
+pub ended_stands : (n : DiskNotes) (note : ArrayVec NoteEntry) (ok : Bool) → n.flight ≡ Some note → NoteMayStand (ended ok n) note.items
 ended_stands n note ok flies = ended_stands_of ok n.flight n.disk n.written note flies
 
-failed_leaves_of : (flight : Option (ArrayVec NoteEntry)) (disk : ℕ) (written : ArrayVec NoteEntry) (sector : List NoteEntry) → MayStand (notes_of disk written flight) sector → MayStand (ended false (notes_of disk written flight)) sector
+failed_leaves_of : (flight : Option (ArrayVec NoteEntry)) (disk : ℕ) (written : ArrayVec NoteEntry) (sector : List NoteEntry) → NoteMayStand (notes_of disk written flight) sector → NoteMayStand (ended false (notes_of disk written flight)) sector
 failed_leaves_of None disk written sector stands lv group named = stands lv group named
 failed_leaves_of (Some f) disk written sector stands lv group named =
     stands lv group (and_parts (names_group written.items lv group) (names_group f.items lv group) (sym (names-common written.items f.items lv group) ∙ named)).0
 
-pub failed_leaves : (n : DiskNotes) (sector : List NoteEntry) → MayStand n sector → MayStand (ended false n) sector
+pub failed_leaves : (n : DiskNotes) (sector : List NoteEntry) → NoteMayStand n sector → NoteMayStand (ended false n) sector
 failed_leaves n sector stands = failed_leaves_of n.flight n.disk n.written sector stands

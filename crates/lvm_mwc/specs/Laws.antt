@@ -5,7 +5,7 @@ use Rattle.lvm_num.specs.Disks.{has}
 use Rattle.lvm_mwc.specs.Entries.{has_entry, pins_of, AreEntries}
 use Rattle.arrayvec.specs.ArrayVec.{ArrayVec}
 use Rattle.lvm_mwc.specs.declared.notes.DiskNotes.{DiskNotes}
-use Rattle.lvm_mwc.specs.Notes.{names_group, both_name, MayStand}
+use Rattle.lvm_mwc.specs.Notes.{names_group, both_name, NoteMayStand}
 use Rattle.lvm_mwc.specs.Cache.{Cached, IsNew, is_named, ended}
 use Rattle.lvm_mwc.specs.Runs.{Call, AreAllowed, after_all, pins_given, pins_taken, IsPinnedBefore, no_sectors, sectors_after, Knows}
 
@@ -37,7 +37,7 @@ SectorsAreKnown = (disks : ℕ) (c : Cached) (disk : ℕ) (calls : List Call) �
 
 -- A sector that may stand on a disk has what is named there.
 abbrev pub NamedStands : Type 0
-NamedStands = (n : DiskNotes) (sector : List NoteEntry) (lv group : ℕ) → MayStand n sector → both_name lv group n ≡ true → names_group sector lv group ≡ true
+NamedStands = (n : DiskNotes) (sector : List NoteEntry) (lv group : ℕ) → NoteMayStand n sector → both_name lv group n ≡ true → names_group sector lv group ≡ true
 
 -- So has the note in flight.
 abbrev pub NamedFlies : Type 0
@@ -45,8 +45,8 @@ NamedFlies = (n : DiskNotes) (note : ArrayVec NoteEntry) (lv group : ℕ) → n.
 
 -- The note in flight may stand there once it has ended, well or not.
 abbrev pub EndedStands : Type 0
-EndedStands = (n : DiskNotes) (note : ArrayVec NoteEntry) (ok : Bool) → n.flight ≡ Some note → MayStand (ended ok n) note.items
+EndedStands = (n : DiskNotes) (note : ArrayVec NoteEntry) (ok : Bool) → n.flight ≡ Some note → NoteMayStand (ended ok n) note.items
 
 -- A sector that may stand there may so after a note failed.
 abbrev pub FailedLeaves : Type 0
-FailedLeaves = (n : DiskNotes) (sector : List NoteEntry) → MayStand n sector → MayStand (ended false n) sector
+FailedLeaves = (n : DiskNotes) (sector : List NoteEntry) → NoteMayStand n sector → NoteMayStand (ended false n) sector

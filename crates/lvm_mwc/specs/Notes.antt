@@ -36,5 +36,5 @@ abbrev pub both_name : ℕ → ℕ → DiskNotes → Bool
 both_name lv group n = names_group n.written.items lv group && option_map_or (λ (flight : ArrayVec NoteEntry). names_group flight.items lv group) n.flight true
 
 -- A sector that may stand on the disk while no note is in flight names all that is known to be written.
-abbrev pub MayStand : DiskNotes → List NoteEntry → Type 0
-MayStand n sector = (lv group : ℕ) → names_group n.written.items lv group ≡ true → names_group sector lv group ≡ true
+abbrev pub NoteMayStand : DiskNotes → List NoteEntry → Type 0
+NoteMayStand n sector = (lv group : ℕ) → names_group n.written.items lv group ≡ true → names_group sector lv group ≡ true

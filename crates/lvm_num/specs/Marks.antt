@@ -17,7 +17,7 @@ pub record IsBounded (pp : Pp) : Type 0 where
   pub number : pp.pp < 1016
 
 -- a partition that its disk has by these counts
-pub record IsWithin (counts : List ℕ) (pp : Pp) : Type 0 where
+pub record IsWithinDisk (counts : List ℕ) (pp : Pp) : Type 0 where
   pub disk : pp.disk < 128
   pub partition : pp.pp < slice_index counts pp.disk
 
@@ -27,12 +27,12 @@ spot pp = 1016 * pp.disk + pp.pp
 
 -- partitions that are there, none of them marked or twice among them
 pub record AreFree (counts marks : List ℕ) (map : List Pp) : Type 0 where
-  pub within : All (IsWithin counts) map
+  pub within : All (IsWithinDisk counts) map
   pub free : All (λ (pp : Pp). has_bit marks (spot pp) ≡ false) map
   pub once : AllPairs (λ (a b : Pp). spot a ≢ spot b) map
 
 -- maps of partitions that are there by these counts, none of which is used twice
 pub record AreCounted (counts : List ℕ) (rows : List LvRow) : Type 0 where
-  pub within : All (IsWithin counts) (partitions_in rows)
+  pub within : All (IsWithinDisk counts) (partitions_in rows)
   pub laid_out : All IsLaidOut rows
   pub once : AllPairs (λ (a b : Pp). spot a ≢ spot b) (partitions_in rows)

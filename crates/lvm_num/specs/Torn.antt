@@ -13,7 +13,7 @@ abbrev pub Sectors : Type 0
 Sectors = ℕ → List ℕ
 
 -- the sector has the kind's magic and this stamp at their places
-pub record Carries (kind : Kind) (stamp : Stamp) (sector : List ℕ) : Type 0 where
+pub record CarriesStamp (kind : Kind) (stamp : Stamp) (sector : List ℕ) : Type 0 where
   pub magic : take 2 sector ≡ kind_magic kind
   pub seq : take 4 (drop 4 sector) ≡ to_be_bytes w32 stamp.seq
   pub epoch : take 8 (drop 8 sector) ≡ to_be_bytes w64 stamp.epoch
@@ -27,8 +27,8 @@ abbrev pub AreSectors : Kind → ℕ → Sectors → Type 0
 AreSectors kind first sectors = (k : ℕ) → k < slot_size kind → IsSector (sectors (first + k))
 
 -- where a sector of the slot has the record's stamp already, it is the record's own sector
-abbrev pub IsFresh : Kind → Framed → ℕ → Sectors → Type 0
-IsFresh kind r first sectors = (k : ℕ) → k < record_sectors (length r.content) → Carries kind r.stamp (sectors (first + k)) → sectors (first + k) ≡ frame kind r.stamp r.content k
+abbrev pub OwnSectorsStand : Kind → Framed → ℕ → Sectors → Type 0
+OwnSectorsStand kind r first sectors = (k : ℕ) → k < record_sectors (length r.content) → CarriesStamp kind r.stamp (sectors (first + k)) → sectors (first + k) ≡ frame kind r.stamp r.content k
 
 -- Each of the record's sectors is the old one or the record's, and the others of the slot are the old ones.
 pub record IsTorn (kind : Kind) (r : Framed) (first : ℕ) (old new : Sectors) : Type 0 where
@@ -36,21 +36,21 @@ pub record IsTorn (kind : Kind) (r : Framed) (first : ℕ) (old new : Sectors) :
   pub behind : (k : ℕ) → record_sectors (length r.content) ≤ k → k < slot_size kind → new (first + k) ≡ old (first + k)
 
 -- all of the record's sectors are there
-abbrev pub IsWhole : Kind → Framed → ℕ → Sectors → Type 0
-IsWhole kind r first sectors = (k : ℕ) → k < record_sectors (length r.content) → sectors (first + k) ≡ frame kind r.stamp r.content k
+abbrev pub HasAllSectors : Kind → Framed → ℕ → Sectors → Type 0
+HasAllSectors kind r first sectors = (k : ℕ) → k < record_sectors (length r.content) → sectors (first + k) ≡ frame kind r.stamp r.content k
 
 -- A torn write leaves the slot's old record, none, or the new one; the new one only where all of it is there.
 abbrev pub TornIsOldOrNoneOrNew : Type 0
 TornIsOldOrNoneOrNew =
     (kind : Kind) (r : Framed) (first : ℕ) (old new : Sectors)
-    → Frames kind r → AreSectors kind first old → IsFresh kind r first old → IsTorn kind r first old new
+    → Frames kind r → AreSectors kind first old → OwnSectorsStand kind r first old → IsTorn kind r first old new
     → (record_in kind (slot_at kind first new) ≡ record_in kind (slot_at kind first old))
     ⊎ (record_in kind (slot_at kind first new) ≡ None)
-    ⊎ ((record_in kind (slot_at kind first new) ≡ Some r) × IsWhole kind r first new)
+    ⊎ ((record_in kind (slot_at kind first new) ≡ Some r) × HasAllSectors kind r first new)
 
 -- Where all of it is there, it is read.
 abbrev pub WholeIsRead : Type 0
-WholeIsRead = (kind : Kind) (r : Framed) (first : ℕ) (new : Sectors) → Frames kind r → IsWhole kind r first new → record_in kind (slot_at kind first new) ≡ Some r
+WholeIsRead = (kind : Kind) (r : Framed) (first : ℕ) (new : Sectors) → Frames kind r → HasAllSectors kind r first new → record_in kind (slot_at kind first new) ≡ Some r
 
 -- ---- when a stamp is new
 
@@ -64,7 +64,7 @@ AllBefore kind stamp first sectors = (k : ℕ) → k < slot_size kind → take 2
 
 -- then the stamp is new in the slot,
 abbrev pub BeforeIsFresh : Type 0
-BeforeIsFresh = (kind : Kind) (r : Framed) (first : ℕ) (sectors : Sectors) → Frames kind r → AllBefore kind r.stamp first sectors → IsFresh kind r first sectors
+BeforeIsFresh = (kind : Kind) (r : Framed) (first : ℕ) (sectors : Sectors) → Frames kind r → AllBefore kind r.stamp first sectors → OwnSectorsStand kind r first sectors
 
 -- the slot's record is older,
 abbrev pub BeforeIsOlder : Type 0

@@ -19,12 +19,12 @@ use Rattle.lvm_parse.proofs.OptionsReadingLemmas.{mapped, Keeping, keeping_if, o
 use Rattle.lvm_parse.specs.declared.command.Command.{Command}
 use Rattle.lvm_parse.specs.declared.command.Command.TheVariants as command
 use Rattle.lvm_parse.specs.Grammar.{Row, rows, rule, rd_disk, rd_volume, rd, wr_disk, wr_volume, wr, post, wait, step, lspv, fail, heal, cut, cut_of, mkvg, varyonvg, varyoffvg, lsvg, mklv, rmlv, mklvcopy, rmlvcopy, split_of, splitlvcopy, sync_group, syncvg, lslv, line_of_words, readable, line_of}
-use Rattle.lvm_parse.specs.Within.{IsWithin}
+use Rattle.lvm_parse.specs.Within.{IsWithinLimits}
 
 -- ---- what is read
 
 Fits : Result Command Misfit → Type 0
-Fits (Ok c) = IsWithin c
+Fits (Ok c) = IsWithinLimits c
 Fits (Err e) = Unit {0}
 
 fits_then : {A : Type 0} (r : Result A Misfit) (next : A → Result Command Misfit) → ((a : A) → r ≡ Ok a → Fits (next a)) → Fits (then_ r next)
@@ -115,7 +115,7 @@ found_of : {T : Type 0} (o : Option T) (column : ℕ) (v : T) → or_misfit o co
 found_of (Some w) column v is = cc (is)
 found_of None column v is = absurd (cc (is))
 
-fits_ends : (l : Left) (c : Command) → IsWithin c → Fits (ends l c)
+fits_ends : (l : Left) (c : Command) → IsWithinLimits c → Fits (ends l c)
 unfolding Fits ends
 fits_ends l c within = go l.words
   where
@@ -300,22 +300,22 @@ fits_rule [] word column l fit = tt
 fits_rule (r ∷ rs) word column l fit = fits_if (bytes_eq word r.word) (r.reads l) (rule rs word column l) (fit.0 l) (fits_rule rs word column l fit.1)
 
 -- a command that a line spells is within the grammar's bounds
-pub line_is_within : (line : List ℕ) (c : Command) → line_of line ≡ Ok (Some c) → IsWithin c
+pub line_is_within : (line : List ℕ) (c : Command) → line_of line ≡ Ok (Some c) → IsWithinLimits c
 unfolding Fits
 line_is_within line c is = of_line (unreadable_at line) (left_at 1 line) is
   where
-    of_rule : (r : Result Command Misfit) → Fits r → then_ r (λ (x : Command). Ok (Some x)) ≡ Ok (Some c) → IsWithin c
-    of_rule (Ok x) fits same = let e : x ≡ c = cc (same) in subst IsWithin e fits
+    of_rule : (r : Result Command Misfit) → Fits r → then_ r (λ (x : Command). Ok (Some x)) ≡ Ok (Some c) → IsWithinLimits c
+    of_rule (Ok x) fits same = let e : x ≡ c = cc (same) in subst IsWithinLimits e fits
     of_rule (Err e) fits same = absurd (cc (same))
 
-    of_remark : (b : Bool) (r : Result Command Misfit) → Fits r → (if b then Ok None else then_ r (λ (x : Command). Ok (Some x))) ≡ Ok (Some c) → IsWithin c
+    of_remark : (b : Bool) (r : Result Command Misfit) → Fits r → (if b then Ok None else then_ r (λ (x : Command). Ok (Some x))) ≡ Ok (Some c) → IsWithinLimits c
     of_remark true r fits same = absurd (cc (same))
     of_remark false r fits same = of_rule r fits same
 
-    of_words : (words : List WordAt) (end : ℕ) → line_of_words words end ≡ Ok (Some c) → IsWithin c
+    of_words : (words : List WordAt) (end : ℕ) → line_of_words words end ≡ Ok (Some c) → IsWithinLimits c
     of_words [] end same = absurd (cc (same))
     of_words (w ∷ words) end same = of_remark (is_remark w.bytes) (rule rows w.bytes w.column (record { words = words; end = end })) (fits_rule rows w.bytes w.column (record { words = words; end = end }) rows_fit) same
 
-    of_line : (at : Option ℕ) (l : Left) → readable at l ≡ Ok (Some c) → IsWithin c
+    of_line : (at : Option ℕ) (l : Left) → readable at l ≡ Ok (Some c) → IsWithinLimits c
     of_line (Some column) l same = absurd (cc (same))
     of_line None l same = of_words l.words l.end same

@@ -23,8 +23,8 @@ fitted (Some value) column rest = Ok (value, rest)
 fitted None column rest = Err (record { column = column })
 
 -- the code reads what the definition reads, and goes on where it does
-abbrev pub Reads : {T : Type 0} → Result (T × Left) Misfit → Result (T × Rest) Misfit → Type 0
-Reads read result = MatchResult result (λ r. read ≡ Ok (r.0, left r.1)) (λ misfit. read ≡ Err misfit)
+abbrev pub ReadsAlike : {T : Type 0} → Result (T × Left) Misfit → Result (T × Rest) Misfit → Type 0
+ReadsAlike read result = MatchResult result (λ r. read ≡ Ok (r.0, left r.1)) (λ misfit. read ≡ Err misfit)
 
 -- an option was read into the others, where one is next; or none is, and the options end here; or it
 -- doesn't fit

@@ -2,7 +2,7 @@
 ghost use Rattle.std.specs.Prelude.{◌≡◌, [], MatchResult};
 ghost use Rattle.lvm_parse.specs.Words.{disk_in, number_in, count_in, word_in, name_in, partition_count_in, turns_in, size_in, copy_count_in, mode_in, policy_in};
 ghost use Rattle.lvm_parse.specs.Reading.{next_column, is_next, operand, option, ends, last};
-ghost use Rattle.lvm_parse.specs.Rests.{left, word_at, with_word, fitted, Reads};
+ghost use Rattle.lvm_parse.specs.Rests.{left, word_at, with_word, fitted, ReadsAlike};
 
 use crate::rest::{Misfit, Rest, Word};
 use crate::scan::next_word;
@@ -42,7 +42,7 @@ fn fit<T>(meaning: Option<T>, column: u32, rest: Rest<'_>) -> Result<(T, Rest<'_
 /// DISK: the number of a disk.
 #[tactic(auto, using(crate::proofs::ReadingLemmas::NextWord::operand_lacks))]
 pub fn disk(rest: Rest<'_>) -> Result<(u16, Rest<'_>), Misfit>
-    ensures { Reads (operand disk_in (left rest.entry)) result }
+    ensures { ReadsAlike (operand disk_in (left rest.entry)) result }
 {
     let (word, rest) = word(rest)?;
     fit(disk_of(word.bytes), word.column, rest)
@@ -51,7 +51,7 @@ pub fn disk(rest: Rest<'_>) -> Result<(u16, Rest<'_>), Misfit>
 /// BLOCK: a number.
 #[tactic(auto, using(crate::proofs::ReadingLemmas::NextWord::operand_lacks))]
 pub fn number(rest: Rest<'_>) -> Result<(u64, Rest<'_>), Misfit>
-    ensures { Reads (operand number_in (left rest.entry)) result }
+    ensures { ReadsAlike (operand number_in (left rest.entry)) result }
 {
     let (word, rest) = word(rest)?;
     fit(number_of(word.bytes), word.column, rest)
@@ -60,7 +60,7 @@ pub fn number(rest: Rest<'_>) -> Result<(u64, Rest<'_>), Misfit>
 /// COUNT: how many blocks.
 #[tactic(auto, using(crate::proofs::ReadingLemmas::NextWord::operand_lacks))]
 pub fn count(rest: Rest<'_>) -> Result<(u32, Rest<'_>), Misfit>
-    ensures { Reads (operand count_in (left rest.entry)) result }
+    ensures { ReadsAlike (operand count_in (left rest.entry)) result }
 {
     let (word, rest) = word(rest)?;
     fit(count_of(word.bytes), word.column, rest)
@@ -69,7 +69,7 @@ pub fn count(rest: Rest<'_>) -> Result<(u32, Rest<'_>), Misfit>
 /// WORD: what blocks are filled with, or which sectors a cut keeps.
 #[tactic(auto, using(crate::proofs::ReadingLemmas::NextWord::operand_lacks))]
 pub fn pattern(rest: Rest<'_>) -> Result<(u64, Rest<'_>), Misfit>
-    ensures { Reads (operand word_in (left rest.entry)) result }
+    ensures { ReadsAlike (operand word_in (left rest.entry)) result }
 {
     let (word, rest) = word(rest)?;
     fit(hex_word(word.bytes), word.column, rest)
@@ -78,7 +78,7 @@ pub fn pattern(rest: Rest<'_>) -> Result<(u64, Rest<'_>), Misfit>
 /// NAME: the name of a group or of a volume.
 #[tactic(auto, using(crate::proofs::ReadingLemmas::NextWord::operand_lacks))]
 pub fn name(rest: Rest<'_>) -> Result<(Name, Rest<'_>), Misfit>
-    ensures { Reads (operand name_in (left rest.entry)) result }
+    ensures { ReadsAlike (operand name_in (left rest.entry)) result }
 {
     let (word, rest) = word(rest)?;
     fit(name_of(word.bytes), word.column, rest)
@@ -87,7 +87,7 @@ pub fn name(rest: Rest<'_>) -> Result<(Name, Rest<'_>), Misfit>
 /// LPS: how many logical partitions.
 #[tactic(auto, using(crate::proofs::ReadingLemmas::NextWord::operand_lacks))]
 pub fn partitions(rest: Rest<'_>) -> Result<(u32, Rest<'_>), Misfit>
-    ensures { Reads (operand partition_count_in (left rest.entry)) result }
+    ensures { ReadsAlike (operand partition_count_in (left rest.entry)) result }
 {
     let (word, rest) = word(rest)?;
     fit(partition_count_of(word.bytes), word.column, rest)
@@ -96,7 +96,7 @@ pub fn partitions(rest: Rest<'_>) -> Result<(u32, Rest<'_>), Misfit>
 /// TURNS: how many turns.
 #[tactic(auto, using(crate::proofs::ReadingLemmas::NextWord::operand_lacks))]
 pub fn turns(rest: Rest<'_>) -> Result<(u32, Rest<'_>), Misfit>
-    ensures { Reads (operand turns_in (left rest.entry)) result }
+    ensures { ReadsAlike (operand turns_in (left rest.entry)) result }
 {
     let (word, rest) = word(rest)?;
     fit(turns_of(word.bytes), word.column, rest)
@@ -105,7 +105,7 @@ pub fn turns(rest: Rest<'_>) -> Result<(u32, Rest<'_>), Misfit>
 /// MIB: the size of a partition.
 #[tactic(auto, using(crate::proofs::ReadingLemmas::NextWord::operand_lacks))]
 pub fn size(rest: Rest<'_>) -> Result<(u16, Rest<'_>), Misfit>
-    ensures { Reads (operand size_in (left rest.entry)) result }
+    ensures { ReadsAlike (operand size_in (left rest.entry)) result }
 {
     let (word, rest) = word(rest)?;
     fit(size_of(word.bytes), word.column, rest)
@@ -114,7 +114,7 @@ pub fn size(rest: Rest<'_>) -> Result<(u16, Rest<'_>), Misfit>
 /// N: how many copies.
 #[tactic(auto, using(crate::proofs::ReadingLemmas::NextWord::operand_lacks))]
 pub fn copies(rest: Rest<'_>) -> Result<(u8, Rest<'_>), Misfit>
-    ensures { Reads (operand copy_count_in (left rest.entry)) result }
+    ensures { ReadsAlike (operand copy_count_in (left rest.entry)) result }
 {
     let (word, rest) = word(rest)?;
     fit(copy_count_of(word.bytes), word.column, rest)
@@ -123,7 +123,7 @@ pub fn copies(rest: Rest<'_>) -> Result<(u8, Rest<'_>), Misfit>
 /// The mode of a volume.
 #[tactic(auto, using(crate::proofs::ReadingLemmas::NextWord::operand_lacks))]
 pub fn mode(rest: Rest<'_>) -> Result<(Mode, Rest<'_>), Misfit>
-    ensures { Reads (operand mode_in (left rest.entry)) result }
+    ensures { ReadsAlike (operand mode_in (left rest.entry)) result }
 {
     let (word, rest) = word(rest)?;
     fit(mode_of(word.bytes), word.column, rest)
@@ -132,7 +132,7 @@ pub fn mode(rest: Rest<'_>) -> Result<(Mode, Rest<'_>), Misfit>
 /// The policy of a volume.
 #[tactic(auto, using(crate::proofs::ReadingLemmas::NextWord::operand_lacks))]
 pub fn policy(rest: Rest<'_>) -> Result<(Policy, Rest<'_>), Misfit>
-    ensures { Reads (operand policy_in (left rest.entry)) result }
+    ensures { ReadsAlike (operand policy_in (left rest.entry)) result }
 {
     let (word, rest) = word(rest)?;
     fit(policy_of(word.bytes), word.column, rest)

@@ -2,7 +2,7 @@
 ghost use Rattle.std.specs.Prelude.{◌≡◌, ◌<◌, Ok, Err};
 ghost use Rattle.lvm_parse.specs.Reading.{is_new, options};
 ghost use Rattle.lvm_parse.specs.Options.{mkvg_choice, no_mkvg_options, mklv_choice, no_mklv_options};
-ghost use Rattle.lvm_parse.specs.Rests.{left, Reads, ReadsOption};
+ghost use Rattle.lvm_parse.specs.Rests.{left, ReadsAlike, ReadsOption};
 
 use crate::chosen::{MklvOptions, MkvgOptions};
 use crate::operands::{copies, mode, name, policy, size};
@@ -51,7 +51,7 @@ fn mkvg_option<'a>(options: &mut MkvgOptions, rest: Rest<'a>) -> Result<Option<R
 
 /// The options of a `mkvg` that come next, and what follows them.
 pub fn mkvg_options(rest: Rest<'_>) -> Result<(MkvgOptions, Rest<'_>), Misfit>
-    ensures { Reads (options mkvg_choice no_mkvg_options (left rest.entry)) result }
+    ensures { ReadsAlike (options mkvg_choice no_mkvg_options (left rest.entry)) result }
 {
     let mut options = MkvgOptions {
         force: false,
@@ -113,7 +113,7 @@ fn mklv_option<'a>(options: &mut MklvOptions, rest: Rest<'a>) -> Result<Option<R
 
 /// The options of a `mklv` that come next, and what follows them.
 pub fn mklv_options(rest: Rest<'_>) -> Result<(MklvOptions, Rest<'_>), Misfit>
-    ensures { Reads (options mklv_choice no_mklv_options (left rest.entry)) result }
+    ensures { ReadsAlike (options mklv_choice no_mklv_options (left rest.entry)) result }
 {
     let mut options = MklvOptions {
         name: None,

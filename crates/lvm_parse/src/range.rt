@@ -1,7 +1,7 @@
 //! The blocks that a line names.
 ghost use Rattle.std.specs.Prelude.{◌≡◌};
 ghost use Rattle.lvm_parse.specs.Reading.{blocks, last_blocks};
-ghost use Rattle.lvm_parse.specs.Rests.{left, Reads};
+ghost use Rattle.lvm_parse.specs.Rests.{left, ReadsAlike};
 
 use crate::operands::{count, ends, number};
 use crate::rest::{Misfit, Rest};
@@ -16,7 +16,7 @@ pub struct BlockRange {
 /// BLOCK COUNT: a range of blocks.
 #[tactic(auto, unfolding(crate::specs::Reading::blocks))]
 pub fn blocks(rest: Rest<'_>) -> Result<(BlockRange, Rest<'_>), Misfit>
-    ensures { Reads (blocks (left rest.entry)) result }
+    ensures { ReadsAlike (blocks (left rest.entry)) result }
 {
     let (at, rest) = number(rest)?;
     let (count, rest) = count(rest)?;

@@ -19,10 +19,10 @@ use Rattle.lvm_vol.specs.Facts.{Fact, Cut}
 use Rattle.lvm_vol.specs.May.{Known, known, IsValue}
 use Rattle.lvm_vol.specs.Standing.{Standing, Absent, Open, Settled, Shape, Volume, volumes_in}
 use Rattle.lvm_kept.specs.Contents.{Contents}
-use Rattle.lvm_kept.specs.Group.{ReadsBy, Reads, members_in, status_by, is_stale_by, fresh_on, block_at, IsBlockOf, IsOneOf, IsSome, HoldOne}
+use Rattle.lvm_kept.specs.Group.{ReadsBy, ReadsGroup, members_in, status_by, is_stale_by, fresh_on, block_at, IsBlockOf, IsOneOf, IsSome, HoldOne}
 use Rattle.lvm_kept.specs.Kept.{HasShape, StandsAs, MayDiffer, IsBlockKept, BlocksKept, Kept}
 use Rattle.lvm_kept.proofs.CommittedLemmas.Finding.{finding_reads}
-use Rattle.lvm_steps.specs.Committing.{IsServed}
+use Rattle.lvm_steps.specs.Committing.{VolumeIsServed}
 use Rattle.lvm_steps.proofs.GroupLemmas.Members.{member_of_parts}
 use Rattle.lvm_commit.proofs.passed.Names.{clash}
 use Rattle.lvm_commit.proofs.LawsLemmas.Found.{shows_group, status_read}
@@ -78,7 +78,7 @@ module _ (c : Contents) (group : Descriptor) (status : Status) (there : Disks) (
             (cases_Bool (there p.0.disk))),
       )
 
-  pub stays_served : IsServed c after group stays
+  pub stays_served : VolumeIsServed c after group stays
   stays_served = copies_serve c group status there after stays is.within is.enough is.shows (record {
     from = from;
     volume = may.volume;
@@ -94,7 +94,7 @@ module _ (c : Contents) (group : Descriptor) (status : Status) (there : Disks) (
   by_all : ReadsBy c all_disks group.id group
   by_all = finding_reads c all_disks group.id group is.shows.found
 
-  read_by : (b : Disks) (k : Descriptor) → Reads c b group.id k → status_by c b group.id k ≡ stands
+  read_by : (b : Disks) (k : Descriptor) → ReadsGroup c b group.id k → status_by c b group.id k ≡ stands
   read_by b k reads = status_read c group status there is.shows facts is.within is.enough is.before b k reads
 
   blocks_of : BlocksKept c facts group members stands
@@ -158,7 +158,7 @@ module _ (c : Contents) (group : Descriptor) (status : Status) (there : Disks) (
           (subst (λ (m : Mode). MayDiffer c stands from.number m (fresh_on members stands from lp) (was b) b) mode differ)))
           equal
 
-  pub new_served : IsServed c after group new
+  pub new_served : VolumeIsServed c after group new
   new_served = record {
     status = λ b k reads. ap is_some (read_by b k reads);
     blocks = λ b k reads lp n inside. subst (λ (o : Option (Stamped Status)). IsBlockKept c group.mib o new (fresh_on members o new lp) (now n) n) (sym (read_by b k reads))
@@ -225,8 +225,8 @@ split_may_be_committed c group next status there facts from stays new is split =
       (λ its. was.1.1 (eqb-true row.number new.number its))
       (either_of (row.number == from.number) (row.number == new.number) among)))
       (⊎_elim
-      (λ (it : row ≡ stays). subst (λ (r : LvRow). IsServed c after group r) (sym it) (stays_served c group status there facts from stays new is))
-      (λ (it : row ≡ new). subst (λ (r : LvRow). IsServed c after group r) (sym it) (new_served c group status there facts from stays new is)))
+      (λ (it : row ≡ stays). subst (λ (r : LvRow). VolumeIsServed c after group r) (sym it) (stays_served c group status there facts from stays new is))
+      (λ (it : row ≡ new). subst (λ (r : LvRow). VolumeIsServed c after group r) (sym it) (new_served c group status there facts from stays new is)))
       (split.rows row one);
 }
   where

@@ -16,7 +16,7 @@ use Rattle.lvm_kept.specs.Contents.{Contents}
 use Rattle.lvm_kept.specs.Group.{IsOneOf}
 use Rattle.lvm_kept.specs.Committed.{IsWithinDisks}
 use Rattle.lvm_kept.specs.Kept.{Kept}
-use Rattle.lvm_steps.specs.Committing.{IsServed}
+use Rattle.lvm_steps.specs.Committing.{VolumeIsServed}
 use Rattle.lvm_commit.specs.Committed.{ShowsCommitted}
 use Rattle.lvm_commit.specs.LawsOfVolumes.{VolumesServe}
 use Rattle.lvm_rest.specs.Rest.{IsEven}
@@ -69,7 +69,7 @@ pub record IsAtSplit (c : Contents) (group : Descriptor) (status : Status) (ther
 -- Then the blocks of both are served.
 abbrev pub SplitServes : Type 0
 SplitServes = (c : Contents) (group : Descriptor) (status : Status) (there : Disks) (facts : List Fact) (from stays new : LvRow) → IsAtSplit c group status there facts from stays new
-    → IsServed c (split_in facts from new) group stays × IsServed c (split_in facts from new) group new
+    → VolumeIsServed c (split_in facts from new) group stays × VolumeIsServed c (split_in facts from new) group new
 
 -- ---- the descriptor
 

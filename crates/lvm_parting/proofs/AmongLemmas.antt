@@ -17,14 +17,14 @@ use Rattle.lvm_vol.specs.Facts.{Fact, Cut}
 use Rattle.lvm_vol.specs.May.{Known, known}
 use Rattle.lvm_vol.specs.Standing.{volumes_in}
 use Rattle.lvm_kept.specs.Contents.{Contents}
-use Rattle.lvm_kept.specs.Group.{passes, is_of, has_room, is_voter, status_among, Finds, IsFound, members_in, status_by, Reads, ReadsBy, fresh_on, IsBlockOf, IsOneOf, IsSome}
+use Rattle.lvm_kept.specs.Group.{passes, is_of, has_room, is_voter, status_among, Finds, IsFound, members_in, status_by, ReadsGroup, ReadsBy, fresh_on, IsBlockOf, IsOneOf, IsSome}
 use Rattle.lvm_kept.specs.Committed.{IsWithinDisks}
 use Rattle.lvm_kept.specs.Kept.{StandsAs, HasStatus, IsBlockKept, BlocksKept, IsSettledIn, IsAvailable, Kept}
 use Rattle.lvm_kept.proofs.CommittedLemmas.Finding.{finding_reads}
 use Rattle.lvm_kept.proofs.ChangesLemmas.Restamping.{fewer_blocks}
 use Rattle.lvm_kept.proofs.ChangesLemmas.Entries.{volume_is_row}
 use Rattle.lvm_kept.proofs.KeptLemmas.{same_block}
-use Rattle.lvm_steps.specs.Committing.{IsServed}
+use Rattle.lvm_steps.specs.Committing.{VolumeIsServed}
 use Rattle.lvm_parting.specs.Among.{CommitAmongKeeps, OneIsAmong}
 use Rattle.lvm_steps.proofs.GroupLemmas.Revaluing.{new, h, mid, mid_kept, mid_reads, mid_status, mid_members, Behind, behind, members_same, status_same, reads_behind, still_found}
 use Rattle.lvm_steps.proofs.RecordLemmas.{split, join, not-itself, clash}
@@ -46,7 +46,7 @@ module _ (old : Contents) (shown : ℕ → Option (Stamped Descriptor)) (g : Des
     (others : (row : LvRow) → IsOneOf rows row → IsFalse (among row.number) → IsOneOf g.lvs row)
     (volumes : (number : ℕ) → IsFalse (among number) → volume_of (record g { lvs = rows }) number ≡ volume_of g number)
     (stands : (lv : ℕ) → IsTrue (among lv) → StandsAs g.mib (volumes_in facts lv).standing (volumes_in facts lv).shape (volume_of (record g { lvs = rows }) lv))
-    (served : (row : LvRow) → IsOneOf rows row → IsTrue (among row.number) → IsServed old facts g row) where
+    (served : (row : LvRow) → IsOneOf rows row → IsTrue (among row.number) → VolumeIsServed old facts g row) where
   abbrev now : Contents
   now = new old shown g n rows own later found within
 
@@ -71,7 +71,7 @@ module _ (old : Contents) (shown : ℕ → Option (Stamped Descriptor)) (g : Des
   status : (set : Disks) (id : ℕ) (k : Descriptor) (b : Disks) (it : Was b id k) → status_by now set id k ≡ status_by between set id it.was
   status set id k b it = status_same old shown g n rows own later found within set id k it.was it.others it.alike
 
-  reads : (b : Disks) (id : ℕ) (k : Descriptor) (r : Reads now b id k) (it : Was r.found.0 id k) → Reads between b id it.was
+  reads : (b : Disks) (id : ℕ) (k : Descriptor) (r : ReadsGroup now b id k) (it : Was r.found.0 id k) → ReadsGroup between b id it.was
   reads b id k r it = reads_behind old shown g n rows own later found within b id k r it
 
   -- a row that is found was there, or it is the volume's
@@ -89,14 +89,14 @@ module _ (old : Contents) (shown : ℕ → Option (Stamped Descriptor)) (g : Des
   -- ---- by any quorum's status
 
   -- what is asked of a status and of the copies on the members by a descriptor, over what stood
-  module _ (b : Disks) (id : ℕ) (x k : Descriptor) (r : Reads now b id x) (is : IsFound now id k) where
+  module _ (b : Disks) (id : ℕ) (x k : Descriptor) (r : ReadsGroup now b id x) (is : IsFound now id k) where
     x_was : Was r.found.0 id x
     x_was = was r.found.0 id x r.found.1
 
     k_was : Was is.0 id k
     k_was = was is.0 id k is.1
 
-    r_was : Reads between b id x_was.was
+    r_was : ReadsGroup between b id x_was.was
     r_was = reads b id x r x_was
 
     f_was : IsFound between id k_was.was
@@ -105,15 +105,15 @@ module _ (old : Contents) (shown : ℕ → Option (Stamped Descriptor)) (g : Des
     -- of another volume it holds as it held; of this one by what serves it
     by_row : (P : Disks → Option (Stamped Status) → Type 0) (row : LvRow) → IsOneOf k.lvs row
         → (IsOneOf k_was.was.lvs row → P (members_in between all_disks id k_was.was) (status_by between b id x_was.was))
-        → ((y : Descriptor) → Reads old b g.id y → k_was.was ≡ g → IsServed old facts g row → P (members_in old all_disks g.id g) (status_by old b g.id y))
+        → ((y : Descriptor) → ReadsGroup old b g.id y → k_was.was ≡ g → VolumeIsServed old facts g row → P (members_in old all_disks g.id g) (status_by old b g.id y))
         → P (members_in now all_disks id k) (status_by now b id x)
     by_row P row one stood serves =
         subst (λ (s : Option (Stamped Status)). P (members_in now all_disks id k) s) (sym (status b id x r.found.0 x_was))
         (subst (λ (v : Disks). P v (status_by between b id x_was.was)) (sym (members all_disks id k is.0 k_was)) (⊎_elim
         stood
         (λ (its : IsTrue (among row.number) × IsOneOf rows row × (k_was.was ≡ g) × (id ≡ g.id)).
-        let reads_between : Reads between b g.id x_was.was = subst (λ (m : ℕ). Reads between b m x_was.was) its.3 r_was in
-        let reads_old : Reads old b g.id x_was.was = mid_reads old shown g n rows own later found within b g.id x_was.was reads_between in
+        let reads_between : ReadsGroup between b g.id x_was.was = subst (λ (m : ℕ). ReadsGroup between b m x_was.was) its.3 r_was in
+        let reads_old : ReadsGroup old b g.id x_was.was = mid_reads old shown g n rows own later found within b g.id x_was.was reads_between in
         let p : P (members_in old all_disks g.id g) (status_by old b g.id x_was.was) = serves x_was.was reads_old its.2 (served row its.1 its.0) in
         let p_status : P (members_in old all_disks g.id g) (status_by between b g.id x_was.was) =
         subst (λ (s : Option (Stamped Status)). P (members_in old all_disks g.id g) s) (sym (mid_status old shown g n rows own later found within b g.id x_was.was)) p in
@@ -191,7 +191,7 @@ module _ (old : Contents) (shown : ℕ → Option (Stamped Descriptor)) (g : Des
   was_found : (id : ℕ) (k : Descriptor) (is : IsFound now id k) → Was is.0 id k
   was_found id k is = was is.0 id k is.1
 
-  common : (a b : Disks) (id : ℕ) (x y : Descriptor) → Reads now a id x → Reads now b id y → (d : ℕ) × IsTrue (members_in now a id x d) × IsTrue (members_in now b id y d)
+  common : (a b : Disks) (id : ℕ) (x y : Descriptor) → ReadsGroup now a id x → ReadsGroup now b id y → (d : ℕ) × IsTrue (members_in now a id x d) × IsTrue (members_in now b id y d)
   common a b id x y r s =
       let x_was = was_found id x r.found in
       let y_was = was_found id y s.found in

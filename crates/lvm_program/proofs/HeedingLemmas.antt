@@ -14,7 +14,7 @@ use Rattle.lvm_parse.specs.declared.command.Command.{Command}
 use Rattle.lvm_parse.specs.declared.command.Command.TheVariants as command
 use Rattle.lvm_parse.specs.declared.rest.Misfit.{Misfit}
 use Rattle.lvm_parse.specs.Grammar.{line_of}
-use Rattle.lvm_steps.specs.Behind.{IsBehind}
+use Rattle.lvm_steps.specs.Behind.{StampsAreEarlier}
 use Rattle.lvm_steps.proofs.MomentsLemmas.Spans.{keeps_still}
 use Rattle.lvm_core.specs.declared.parts.Room.{Room}
 use Rattle.lvm_session.specs.declared.open.Power.{Power}
@@ -184,7 +184,7 @@ never_stuck : {log : Log} {room : Room} {mid last : ScriptState} {done : List (L
 never_stuck (AtLine same) stuck well = stuck
 never_stuck (InLine line answer said front rest says split it) stuck well = well.0 (subst IsTroubled (sym stuck) tt)
 
-module _ (r : Run) (ran : IsRun r) (clock : IsBehind r.named r.entry) (alone : RanAlone ran) where
+module _ (r : Run) (ran : IsRun r) (clock : StampsAreEarlier r.named r.entry) (alone : RanAlone ran) where
   its_path : Path DeviceStep (λ d. Unit {0}) r.entry r.exit
   its_path = device_path _ (record { device = r.entry; facts = [] }) (record { device = r.exit; facts = facts_of r.history }) (spanned r ran clock alone)
 

@@ -10,7 +10,7 @@ use Rattle.lvm_kept.specs.Changes.{IsBlank}
 use Rattle.lvm_core.specs.declared.parts.Room.{Room}
 use Rattle.lvm_steps.specs.Moments.{IsEarlier, IsUpheld}
 use Rattle.lvm_steps.proofs.MomentsLemmas.Zeros.{blank_is_earlier}
-use Rattle.lvm_steps.specs.Behind.{IsBehind}
+use Rattle.lvm_steps.specs.Behind.{StampsAreEarlier}
 use Rattle.lvm_steps.proofs.LawsLemmas.Records.{blank_is_behind}
 use Rattle.lvm_top.specs.Blank.{IsToldBlank}
 use Rattle.lvm_top.specs.Standing.{HasFewDisks}
@@ -39,7 +39,7 @@ sim_is_blank disks mib d s there within = blank_sector (replicate disks (2048 * 
 pub sim_earlier : (run disks mib : ℕ) → IsEarlier run (sim_device disks mib) []
 sim_earlier run disks mib = blank_is_earlier run (sim_device disks mib) (media_of (blank_disks_of (replicate disks (2048 * mib)))) refl refl (sim_is_blank disks mib)
 
-pub sim_behind : (run disks mib : ℕ) → IsBehind run (sim_device disks mib)
+pub sim_behind : (run disks mib : ℕ) → StampsAreEarlier run (sim_device disks mib)
 sim_behind run disks mib = blank_is_behind run (sim_device disks mib) (sim_is_blank disks mib)
 
 pub sim_told : (disks mib : ℕ) → IsToldBlank (sim_device disks mib)
@@ -69,7 +69,7 @@ sim_unharmed disks mib = record {
 
 module _ (asked : Clocked) (r : Run) (disks mib : ℕ) (few : disks ≤ 32) (is : r.entry ≡ sim_device disks mib) (promises : Promises asked r) where
   upheld : WhereAlone r (IsUpheld r.named r.entry r.exit (facts_of r.history))
-  upheld = λ ran alone. promises.upheld ran alone (subst (IsBehind r.named) (sym is) (sim_behind r.named disks mib))
+  upheld = λ ran alone. promises.upheld ran alone (subst (StampsAreEarlier r.named) (sym is) (sim_behind r.named disks mib))
 
   earlier : IsEarlier r.named r.entry []
   earlier = subst (λ (d : Device). IsEarlier r.named d []) (sym is) (sim_earlier r.named disks mib)
@@ -77,8 +77,8 @@ module _ (asked : Clocked) (r : Run) (disks mib : ℕ) (few : disks ≤ 32) (is 
   holds : HoldsOneGroup r.named r.entry
   holds = subst (λ (d : Device). HoldsOneGroup r.named d) (sym is) (blank_holds_one_group r.named (sim_device disks mib) (sim_few disks mib few) (sim_told disks mib)).0
 
-  behind : IsBehind r.named r.entry
-  behind = subst (IsBehind r.named) (sym is) (sim_behind r.named disks mib)
+  behind : StampsAreEarlier r.named r.entry
+  behind = subst (StampsAreEarlier r.named) (sym is) (sim_behind r.named disks mib)
 
   unharmed : IsUnharmed r.entry
   unharmed = subst IsUnharmed (sym is) (sim_unharmed disks mib)

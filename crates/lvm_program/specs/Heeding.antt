@@ -11,7 +11,7 @@ use Rattle.lvm_parse.specs.declared.command.Command.{Command}
 use Rattle.lvm_parse.specs.declared.command.Command.TheVariants as command
 use Rattle.lvm_parse.specs.declared.rest.Misfit.{Misfit}
 use Rattle.lvm_parse.specs.Grammar.{line_of}
-use Rattle.lvm_steps.specs.Behind.{IsBehind}
+use Rattle.lvm_steps.specs.Behind.{StampsAreEarlier}
 use Rattle.lvm_core.specs.declared.parts.Room.{Room}
 use Rattle.lvm_line.specs.Lines.{IsOrder}
 use Rattle.lvm_line.specs.Told.{IsWellTold}
@@ -19,7 +19,7 @@ use Rattle.lvm_line.specs.passed.GroupLines.{Reply, ScriptState}
 use Rattle.lvm_group_lines.specs.declared.reply.Refusal.TheVariants as refusal
 use Rattle.lvm_line.specs.passed.ReplyVariants as reply
 use Rattle.lvm_top.specs.declared.status.ExitStatus.TheVariants as ended
-use Rattle.lvm_top.specs.Laws.{MayStart}
+use Rattle.lvm_top.specs.Laws.{MayRun}
 use Rattle.lvm_top.specs.Run.{Run, IsRun, RanAlone, WhereAlone}
 use Rattle.lvm_top.specs.Script.{Script, NoLine, NextLine, StaysAlone, Ends, AtLine, InLine}
 
@@ -119,16 +119,16 @@ LinesOrderAlone =
 abbrev pub HarmlessScriptsGoWell : Type 0
 HarmlessScriptsGoWell =
     (log : Log) (room : Room) (past : List Fact) (first : ScriptState) (lines : List (List ℕ)) (replies : List Reply) (last : ScriptState) (script : Script log room first lines replies last)
-    → MayStart log.run past first → StaysAlone script → IsUnharmed first.moment.device → AreHarmless script → AreUntroubled script × IsUnharmed last.moment.device
+    → MayRun log.run past first → StaysAlone script → IsUnharmed first.moment.device → AreHarmless script → AreUntroubled script × IsUnharmed last.moment.device
 
 -- So a run goes well,
 abbrev pub HarmlessRunsGoWell : Type 0
-HarmlessRunsGoWell = (r : Run) (ran : IsRun r) → IsBehind r.named r.entry → RanAlone ran → IsUnharmed r.entry → RanHarmless ran → GoesWell ran
+HarmlessRunsGoWell = (r : Run) (ran : IsRun r) → StampsAreEarlier r.named r.entry → RanAlone ran → IsUnharmed r.entry → RanHarmless ran → GoesWell ran
 
 -- and in each run, whatever it orders, the shelf heeds orders alone at each moment from entry to exit.
 abbrev pub RunsHeedAlone : Type 0
-RunsHeedAlone = (r : Run) → WhereAlone r (IsBehind r.named r.entry → HeedsAlone r.entry → Path DeviceStep HeedsAlone r.entry r.exit)
+RunsHeedAlone = (r : Run) → WhereAlone r (StampsAreEarlier r.named r.entry → HeedsAlone r.entry → Path DeviceStep HeedsAlone r.entry r.exit)
 
 -- Some run of a line is such a one.
 abbrev pub SomeRunGoesWell : Type 0
-SomeRunGoesWell = (r : Run) × ((ran : IsRun r) × IsBehind r.named r.entry × RanAlone ran × IsUnharmed r.entry × RanHarmless ran × (length ran.lines.lines ≡ 1))
+SomeRunGoesWell = (r : Run) × ((ran : IsRun r) × StampsAreEarlier r.named r.entry × RanAlone ran × IsUnharmed r.entry × RanHarmless ran × (length ran.lines.lines ≡ 1))

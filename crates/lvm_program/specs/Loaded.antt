@@ -7,7 +7,7 @@ use Rattle.lvm_disk.specs.Device.{IsReady}
 use Rattle.lvm_io.specs.Count.{Rose}
 use Rattle.lvm_kept.specs.Moments.{Moment}
 use Rattle.lvm_steps.specs.Moments.{IsUpheld}
-use Rattle.lvm_steps.specs.Behind.{IsAhead, IsBehind}
+use Rattle.lvm_steps.specs.Behind.{IsAhead, StampsAreEarlier}
 use Rattle.lvm_parse.specs.Grammar.{line_of}
 use Rattle.lvm_core.specs.Looking.{HasNoVolumeNamed}
 use Rattle.lvm_session.specs.State.{Core, State, state}
@@ -165,5 +165,5 @@ pub record PromisesLoaded (words : LoadWords) (asked : ℕ) (r : Run) : Type 0 w
   pub clock : IfSome r.history (λ log. Rose asked log.run × (log.run ≤ r.last))
   pub does : IsLoaded words r
   pub causes : (goes : GoesLoaded words r) → IsForCause (varyon_line words.group) goes.answer (entry_state r.entry r.named) goes.end
-  pub upheld : (goes : GoesLoaded words r) → IsLoadedAlone goes → IsBehind r.named r.entry → IsUpheld r.named r.entry r.exit (facts_of r.history)
-  pub ahead : GoesLoaded words r → IsBehind r.named r.entry → IsAhead r.named (r.last + 1) r.exit (facts_of r.history)
+  pub upheld : (goes : GoesLoaded words r) → IsLoadedAlone goes → StampsAreEarlier r.named r.entry → IsUpheld r.named r.entry r.exit (facts_of r.history)
+  pub ahead : GoesLoaded words r → StampsAreEarlier r.named r.entry → IsAhead r.named (r.last + 1) r.exit (facts_of r.history)

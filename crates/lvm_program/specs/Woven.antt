@@ -9,7 +9,7 @@ use Rattle.lvm_vol.specs.Legal.{Legal}
 use Rattle.lvm_vol.specs.Log.{Log}
 use Rattle.lvm_kept.specs.Moments.{Moment}
 use Rattle.lvm_steps.specs.Moments.{ImagesKept, IsUpheld}
-use Rattle.lvm_steps.specs.Behind.{IsAhead, IsBehind}
+use Rattle.lvm_steps.specs.Behind.{IsAhead, StampsAreEarlier}
 use Rattle.lvm_parse.specs.Grammar.{line_of}
 use Rattle.lvm_core.specs.declared.parts.Room.{Room}
 use Rattle.lvm_session.specs.State.{Core, State, state}
@@ -182,9 +182,9 @@ pub record HasServed (blocks : ℕ) (load : Workload) (first : State) (exit : Ex
   pub refused_is : exit.refused ≡ refusals_told woven
 
 -- a session is on that serves requests of volumes
-abbrev pub IsServed : Option Core → Type 0
-IsServed None = ⊥
-IsServed (Some core) = core.descriptor.lvs ≢ []
+abbrev pub SessionIsServing : Option Core → Type 0
+SessionIsServing None = ⊥
+SessionIsServing (Some core) = core.descriptor.lvs ≢ []
 
 -- How a run ends behind its lines: their answer is told where it isn't `ok`; or the workload is drawn, and told.
 pub data EndsWoven (blocks : ℕ) (load : Workload) (answer : Reply) (run : ℕ) (end : Moment) (on : Option Core) (exit : Exit) : Type 0 where
@@ -231,6 +231,6 @@ pub record PromisesWoven (disks mib : ℕ) (load : Workload) (asked : ℕ) (r : 
   pub clock : IfSome r.history (λ log. Rose asked log.run × (log.run ≤ r.last))
   pub does : IsWoven disks mib load r
   pub causes : (goes : GoesWoven disks mib load r) → IsMadeForCause goes.made
-  pub upheld : (goes : GoesWoven disks mib load r) → IsWovenAlone goes → IsBehind r.named r.entry → IsUpheld r.named r.entry r.exit (facts_of r.history)
+  pub upheld : (goes : GoesWoven disks mib load r) → IsWovenAlone goes → StampsAreEarlier r.named r.entry → IsUpheld r.named r.entry r.exit (facts_of r.history)
   pub first : GoesWoven disks mib load r → HasFewDisks r.entry → IsToldBlank r.entry → Legal (joined [] (facts_of r.history)) × ImagesKept r.exit (joined [] (facts_of r.history))
-  pub ahead : GoesWoven disks mib load r → IsBehind r.named r.entry → IsAhead r.named (r.last + 1) r.exit (facts_of r.history)
+  pub ahead : GoesWoven disks mib load r → StampsAreEarlier r.named r.entry → IsAhead r.named (r.last + 1) r.exit (facts_of r.history)

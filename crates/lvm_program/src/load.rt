@@ -8,7 +8,7 @@ ghost use Rattle.lvm_core.specs.Looking.{HasNoVolumeNamed};
 ghost use Rattle.lvm_core.specs.Starting.{IsRoom};
 ghost use Rattle.lvm_session.specs.declared.open.Power.TheVariants as power;
 ghost use Rattle.lvm_session.specs.State.{state_of};
-ghost use Rattle.lvm_load.specs.Loading.{IsFresh};
+ghost use Rattle.lvm_load.specs.Loading.{NoneHasBegun};
 ghost use Rattle.lvm_top.specs.passed.GroupLines.{IsBetweenStage, IsFittingStage, IsOfKind, IsStuck, history_in, moment_in, most_refusals, session_in, without_facts};
 ghost use Rattle.lvm_top.specs.Run.{ran};
 ghost use Rattle.lvm_top.specs.Script.{passage};
@@ -135,7 +135,7 @@ fn serve<S: Shelf + Send, R: Threads + Wait + Sync>(
     load: &Load,
 ) -> Loaded<S>
     requires on { driver.1.power ≡ power.On }
-    requires fresh { IsFresh driver.1.history.facts }
+    requires fresh { NoneHasBegun driver.1.history.facts }
     requires some { IsLoadable load.now × (256 ≤ volume.blocks) }
     requires room { 131072 ≤ vec_capacity bytes }
     ensures made { IsLoadedOver volume.number volume.blocks load.now (state_of S.device driver) (record { device = S.device result.closed.shelf; facts = result.closed.history.facts }) result.woven result.synced }
@@ -251,7 +251,7 @@ fn load<S: Shelf + Send, O: Sink, R: Threads + Wait + Sync>(
     load: &Load,
 ) -> Ended<S>
     requires on { driver.1.power ≡ power.On }
-    requires fresh { IsFresh driver.1.history.facts }
+    requires fresh { NoneHasBegun driver.1.history.facts }
     requires some { IsLoadable load.now × (256 ≤ volume.blocks) }
     requires room { 131072 ≤ vec_capacity bytes }
     ensures loaded { HasLoadedOver volume.number volume.blocks load.now (state_of S.device driver) (exit_of S.device result (passage O.held O.faults out.old out.new)) }
@@ -287,7 +287,7 @@ fn end_load<S: Shelf + Send, O: Sink, R: Threads + Wait + Sync>(
     requires between { (IsStuck reply → ⊥) → IsBetweenStage S.device stage }
     requires fits { IsFittingStage stage }
     requires few { most_refusals reply ≤ 2 }
-    requires fresh { reply ≡ Reply.Ok → IfSome (session_in stage) (λ core. IsFresh core.history.facts) }
+    requires fresh { reply ≡ Reply.Ok → IfSome (session_in stage) (λ core. NoneHasBegun core.history.facts) }
     requires some { IsLoadable words.now.load }
     ensures ends { EndsLoaded words.now reply (history_in stage).run (moment_in S.device stage) (session_in stage) (exit_of S.device result (passage O.held O.faults out.old out.new)) }
     ensures rooms { IsSomeAnd result.history (λ log. without_facts log ≡ without_facts (history_in stage)) }

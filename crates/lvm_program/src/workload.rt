@@ -10,7 +10,7 @@ ghost use Rattle.lvm_top.specs.passed.Tie.{RunsOn};
 ghost use Rattle.lvm_top.specs.passed.GroupLines.{IsBetweenStage, IsFittingStage, IsStuck, history_in, moment_in, most_refusals, session_in, state_in, without_facts};
 ghost use Rattle.lvm_top.specs.Run.{ran};
 ghost use Rattle.lvm_top.specs.Script.{passage};
-ghost use Rattle.lvm_program.specs.Woven.{EndsWoven, HasAsked, IsDrawable, IsDrawn, IsMade, IsServed, IsSized, EndsRefused, HasServed, PromisesWoven, TellsWoven, TurnsBehind, asked_woven, copy_count, exit_of, is_whole, mkvg_line, mklv_line, refusal_text, refusals_told, status_woven, totals_text, untold, with_ill, with_well};
+ghost use Rattle.lvm_program.specs.Woven.{EndsWoven, HasAsked, IsDrawable, IsDrawn, IsMade, SessionIsServing, IsSized, EndsRefused, HasServed, PromisesWoven, TellsWoven, TurnsBehind, asked_woven, copy_count, exit_of, is_whole, mkvg_line, mklv_line, refusal_text, refusals_told, status_woven, totals_text, untold, with_ill, with_well};
 
 use lvm_core::{Closed, Room};
 use lvm_disk::Shelf;
@@ -324,7 +324,7 @@ fn end_woven<S: Shelf, O: Sink>(
     requires between { (IsStuck made.reply → ⊥) → IsBetweenStage S.device made.stage }
     requires fits { IsFittingStage made.stage }
     requires few { most_refusals made.reply ≤ 2 }
-    requires served { made.reply ≡ Reply.Ok → IsServed (session_in made.stage) }
+    requires served { made.reply ≡ Reply.Ok → SessionIsServing (session_in made.stage) }
     requires some { IsDrawable load.now × (1 ≤ blocks) }
     ensures ends { EndsWoven blocks load.now made.reply (history_in made.stage).run (moment_in S.device made.stage) (session_in made.stage) (exit_of S.device result (passage O.held O.faults out.old out.new)) }
     ensures rooms { IsSomeAnd result.history (λ log. without_facts log ≡ without_facts (history_in made.stage)) }

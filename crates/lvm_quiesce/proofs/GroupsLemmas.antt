@@ -19,7 +19,7 @@ use Rattle.lvm_core.specs.declared.refused.Cause.TheVariants as cause
 use Rattle.lvm_core.specs.declared.refused.Refused.{Refused}
 use Rattle.lvm_core.specs.Coming.{BringsOn, IsStarted, shelf_left, history_left}
 use Rattle.lvm_core.specs.State.{state_of}
-use Rattle.lvm_group.specs.NewGroup.{NewGroup, MayBegin, RefusesFirst}
+use Rattle.lvm_group.specs.NewGroup.{NewGroup, MayMakeGroup, RefusesFirst}
 use Rattle.lvm_group.specs.Made.{MkvgRefuses, MkvgGives}
 use Rattle.lvm_group.proofs.LogLemmas.{keeps_cut, calm_cut}
 use Rattle.lvm_varyon.specs.Varied.{VaryonRefuses, VariesOnAt, VaryonGives}
@@ -186,7 +186,7 @@ module _ {S : Type 0} (device : S → Device) (shelf : S) (was : Log) (moment be
       })
 
   -- it has, and the group is made from there
-  pub made : (w : NewGroup) (room : Room) (left : ℕ) (at_rest : S) (next : Log) (outcome : Result (S × Core) (Refused S)) → HasItsFaults device outcome → MayBegin (device shelf).sizes (spare_entries was) w.disks w.mib → Quiesces (device shelf) (device at_rest) → Spends before left (device shelf) (device at_rest) → next ≡ was
+  pub made : (w : NewGroup) (room : Room) (left : ℕ) (at_rest : S) (next : Log) (outcome : Result (S × Core) (Refused S)) → HasItsFaults device outcome → MayMakeGroup (device shelf).sizes (spare_entries was) w.disks w.mib → Quiesces (device shelf) (device at_rest) → Spends before left (device shelf) (device at_rest) → next ≡ was
       → MkvgGives device w room left next (device at_rest) outcome → IfOk outcome (λ driver. IsStarted next.run moment (device at_rest) next (state_of device driver))
       → BringsOn next.run moment left after (device at_rest) (device (shelf_left outcome)) next (history_left outcome) → Promised (MkvgOnceQuiet device w room before was (device shelf) outcome) outcome
   made w room left at_rest next outcome faults may quiet spends same =

@@ -5,7 +5,7 @@ use Rattle.lvm_disk.specs.Counts.{RoseBy, NoneFalls}
 use Rattle.lvm_disk.specs.Device.{Device, HasSectors, IsReady}
 use Rattle.lvm_disk.specs.Paths.{Path}
 use Rattle.lvm_disk.specs.Steps.{BothTold, Cuts, EndsDone, EndsFailed, Waits}
-use Rattle.lvm_session.specs.Sound.{IsLit}
+use Rattle.lvm_session.specs.Sound.{HasPower}
 use Rattle.lvm_write.specs.Parts.{Spends}
 use Rattle.lvm_quiesce.specs.declared.ends.Quiesced.{Quiesced}
 use Rattle.lvm_quiesce.specs.declared.ends.Quiesced.TheVariants as quiesced
@@ -37,7 +37,7 @@ pub record IsCutEnding (old new : Device) : Type 0 where
 pub record IsStuckEnding (patience : ℕ) (old new : Device) : Type 0 where
   pub ends : TransfersEnd old new
   pub out : 0 < length new.flights
-  pub lit : IsLit new
+  pub lit : HasPower new
   pub waited : RoseBy patience old.counts.waits new.counts.waits
 
 -- how the transfers that were out ended
@@ -76,7 +76,7 @@ QuiesceCosts patience left old new quiesced.Stuck = EndsWhile patience old left 
 -- A transfer has ended, or patience was lost.
 pub record OneEnds (before after : ℕ) (old new : Device) : Type 0 where
   pub step : EndStep old new
-  pub lit : IsLit new
+  pub lit : HasPower new
   pub less : length new.flights + after < length old.flights + before
   pub costs : EndCosts before after old new
   pub spends : Spends before after old new

@@ -7,7 +7,7 @@ use Rattle.lvm_vol.specs.Log.{Log, spare_entries, cut_log}
 use Rattle.lvm_kept.specs.Moments.{StaysCalm}
 use Rattle.lvm_steps.specs.Moments.{ImagesKept, Keeps}
 use Rattle.lvm_steps.specs.Requests.{at}
-use Rattle.lvm_steps.specs.Behind.{IsBehind}
+use Rattle.lvm_steps.specs.Behind.{StampsAreEarlier}
 use Rattle.lvm_write.specs.Parts.{Spends}
 use Rattle.lvm_core.specs.passed.Names.{NoneIsLeft, AreFaults}
 use Rattle.lvm_session.specs.State.{Core, State}
@@ -17,7 +17,7 @@ use Rattle.lvm_core.specs.declared.refused.Cause.TheVariants as cause
 use Rattle.lvm_core.specs.declared.refused.Refused.{Refused}
 use Rattle.lvm_core.specs.Held.{StartsHeld}
 use Rattle.lvm_core.specs.Settled.{IsSettled, HasSpareNumbers}
-use Rattle.lvm_group.specs.NewGroup.{NewGroup, MayBegin, RefusesFirst}
+use Rattle.lvm_group.specs.NewGroup.{NewGroup, MayMakeGroup, RefusesFirst}
 use Rattle.lvm_group.specs.Made.{MkvgGives}
 pub use Rattle.lvm_varyon.specs.Varied.{VariesOnAt}
 use Rattle.lvm_quiesce.specs.Behind.{ClockIsAheadEach}
@@ -49,7 +49,7 @@ pub data GivesOnceQuiet {S : Type 0} (device : S → Device) (First : Cause → 
 -- `mkvg`, of which what is judged before any disk is read is judged first
 abbrev pub MkvgOnceQuiet : {S : Type 0} → (S → Device) → NewGroup → Room → ℕ → Log → Device → Result (S × Core) (Refused S) → Type 0
 MkvgOnceQuiet device w room patience was old outcome =
-    GivesOnceQuiet device (RefusesFirst old.sizes (spare_entries was) w.disks w.mib) (MayBegin old.sizes (spare_entries was) w.disks w.mib)
+    GivesOnceQuiet device (RefusesFirst old.sizes (spare_entries was) w.disks w.mib) (MayMakeGroup old.sizes (spare_entries was) w.disks w.mib)
     (λ left mid outcome. MkvgGives device w room left was mid outcome) patience was old outcome
 
 -- the history has no room for an entry
@@ -67,7 +67,7 @@ VaryonOnceQuiet device was name moment room patience old outcome =
 -- disks stay behind the clock. No write is open that wasn't, and the patience falls by what is waited.
 pub record BringsOnEach (run moment before after : ℕ) (old new : Device) (was is : Log) : Type 0 where
   pub keeps : ClockIsAheadEach run moment old was.facts → Keeps run (at old was.facts) (at new is.facts)
-  pub behind : ClockIsAheadEach run moment old was.facts → IsBehind (moment + 1) new
+  pub behind : ClockIsAheadEach run moment old was.facts → StampsAreEarlier (moment + 1) new
   pub calm : StaysCalm (at old was.facts) (at new is.facts)
   pub spends : Spends before after old new
 

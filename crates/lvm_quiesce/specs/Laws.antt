@@ -6,7 +6,7 @@ use Rattle.lvm_vol.specs.Facts.{Fact}
 use Rattle.lvm_kept.specs.Moments.{Moment}
 use Rattle.lvm_steps.specs.Moments.{StaysKept, Keeps}
 use Rattle.lvm_steps.specs.Requests.{at}
-use Rattle.lvm_steps.specs.Behind.{IsBehind, ClockIsAhead}
+use Rattle.lvm_steps.specs.Behind.{StampsAreEarlier, ClockIsAhead}
 use Rattle.lvm_core.specs.passed.Names.{IsOneFoundOn}
 use Rattle.lvm_quiesce.specs.Behind.{IsBehindEach, ClockIsAheadEach}
 use Rattle.lvm_quiesce.specs.Ends.{Quiesces, QuiesceGives, StartsNothing}
@@ -49,11 +49,11 @@ StillIsAtRest = (patience : ℕ) (old new : Device) (how : Quiesced) → old.fli
 
 -- Where nothing is out, what stands on the media stands on each crash image,
 abbrev pub StillIsBehindEach : Type 0
-StillIsBehindEach = (moment : ℕ) (device : Device) → device.flights ≡ [] → IsBehind moment device → IsBehindEach moment device
+StillIsBehindEach = (moment : ℕ) (device : Device) → device.flights ≡ [] → StampsAreEarlier moment device → IsBehindEach moment device
 
 -- and always the other way round.
 abbrev pub EachIsBehind : Type 0
-EachIsBehind = (moment : ℕ) (device : Device) → IsBehindEach moment device → IsBehind moment device
+EachIsBehind = (moment : ℕ) (device : Device) → IsBehindEach moment device → StampsAreEarlier moment device
 
 -- What is from before a moment is from before a later one.
 abbrev pub LaterIsBehindEach : Type 0

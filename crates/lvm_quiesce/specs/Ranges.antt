@@ -6,7 +6,7 @@ use Rattle.lvm_vol.specs.Log.{Log, cut_log}
 use Rattle.lvm_kept.specs.Moments.{Moment, StaysCalm}
 use Rattle.lvm_steps.specs.Moments.{Keeps}
 use Rattle.lvm_steps.specs.Requests.{at as moment_of}
-use Rattle.lvm_steps.specs.Behind.{IsBehind}
+use Rattle.lvm_steps.specs.Behind.{StampsAreEarlier}
 use Rattle.lvm_transfer.specs.Transfer.{Relights}
 use Rattle.lvm_write.specs.Parts.{Spends}
 use Rattle.lvm_raw.specs.OnePieceKeeping.{KeepsArrangements, HaveAllLanded, NoneComesOn}
@@ -93,7 +93,7 @@ ReadOnceQuiet log disk at count patience old new given = RangeOnceQuiet (λ left
 pub record RangeKeepsEach {X : Type 0} (run disk before after : ℕ) (old new : Moment) (given : Result X RawFault) : Type 0 where
   pub keeps : Keeps run old new
   pub calm : IsUnstuck given → StaysCalm old new
-  pub behind : (m : ℕ) → IsBehindEach m old.device → IsBehind m new.device
+  pub behind : (m : ℕ) → IsBehindEach m old.device → StampsAreEarlier m new.device
   pub rests : IsUnstuck given → (new ≡ old) ⊎ IsReady new.device
   pub shelf : KeepsArrangements before after old.device new.device
   pub power : new.device.power ≡ true

@@ -1,6 +1,6 @@
 //! The transfers that are out are ended.
 ghost use Rattle.std.specs.Prelude.{◌<◌, ◌≤◌, length};
-ghost use Rattle.lvm_session.specs.Sound.{IsLit};
+ghost use Rattle.lvm_session.specs.Sound.{HasPower};
 ghost use Rattle.lvm_write.specs.Parts.{Spends};
 ghost use Rattle.lvm_quiesce.specs.Ends.{OneGives, QuiesceCosts, QuiesceGives};
 
@@ -20,7 +20,7 @@ pub enum Quiesced {
 
 /// Ends the transfers that are out, in whichever order the shelf does, and starts none.
 pub fn quiesce<S: Shelf>(shelf: &mut S, patience: &mut Patience) -> Quiesced
-    requires { IsLit (S.device shelf.old) }
+    requires { HasPower (S.device shelf.old) }
     ensures gives { QuiesceGives patience.old.left (S.device shelf.old) (S.device shelf.new) result }
     // Each answer that nothing has ended costs one of the patience.
     ensures costs { QuiesceCosts patience.old.left patience.new.left (S.device shelf.old) (S.device shelf.new) result }
@@ -39,7 +39,7 @@ pub fn quiesce<S: Shelf>(shelf: &mut S, patience: &mut Patience) -> Quiesced
 
 // Ends one transfer, where one has come to its end, and waits else. False where the power was cut.
 fn end_one<S: Shelf>(shelf: &mut S, patience: &mut Patience) -> bool
-    requires lit { IsLit (S.device shelf.old) }
+    requires lit { HasPower (S.device shelf.old) }
     requires out { 0 < length (S.device shelf.old).flights }
     requires some { 1 ≤ patience.old.left }
     ensures { OneGives patience.old.left patience.new.left (S.device shelf.old) (S.device shelf.new) result }

@@ -1,6 +1,6 @@
 //! A group is made or varied on, once the transfers that are out have ended.
 ghost use Rattle.std.specs.Prelude.{◌≢◌, IfOk, IfErr};
-ghost use Rattle.lvm_session.specs.Sound.{IsLit};
+ghost use Rattle.lvm_session.specs.Sound.{HasPower};
 ghost use Rattle.lvm_core.specs.Coming.{shelf_left, history_left};
 ghost use Rattle.lvm_core.specs.Sound.{HaveAllLanded};
 ghost use Rattle.lvm_core.specs.Starting.{IsRoom};
@@ -31,7 +31,7 @@ pub fn mkvg<S: Shelf>(
     room: Room,
     patience: &mut Patience,
 ) -> Result<Driver<S>, Refused<S>>
-    requires lit { IsLit (S.device shelf) }
+    requires lit { HasPower (S.device shelf) }
     requires landed { HaveAllLanded history.facts }
     requires asked { IsWellFormed (record { name = name; mib = mib; disks = disks.now; force = force; moment = moment }) }
     requires room { IsRoom room }
@@ -67,7 +67,7 @@ pub fn varyon<S: Shelf>(
     room: Room,
     patience: &mut Patience,
 ) -> Result<Driver<S>, Refused<S>>
-    requires lit { IsLit (S.device shelf) }
+    requires lit { HasPower (S.device shelf) }
     requires landed { HaveAllLanded history.facts }
     requires room { IsRoom room }
     requires moment { moment ≢ 0 }
@@ -98,7 +98,7 @@ fn come_to_rest<S: Shelf>(
     history: History,
     patience: &mut Patience,
 ) -> Result<(S, History), Refused<S>>
-    requires { IsLit (S.device shelf) }
+    requires { HasPower (S.device shelf) }
     ensures { RestGives S.device patience.old.left patience.new.left shelf history result }
 {
     let mut shelf = shelf;

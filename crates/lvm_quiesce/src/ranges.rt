@@ -1,6 +1,6 @@
 //! A range of a disk in no group is read or written, once the transfers that are out have ended.
 ghost use Rattle.std.specs.Prelude.{◌≡◌, ◌+◌, ◌^◌, ◌<◌, ◌≤◌, length, IfOk};
-ghost use Rattle.lvm_session.specs.Sound.{IsLit};
+ghost use Rattle.lvm_session.specs.Sound.{HasPower};
 ghost use Rattle.lvm_steps.specs.Requests.{at as moment_of};
 ghost use Rattle.lvm_raw.specs.Raw.{without_facts};
 ghost use Rattle.lvm_quiesce.specs.Ranges.{RangeKeepsEach, RangeRestGives, ReadOnceQuiet, WriteOnceQuiet};
@@ -26,7 +26,7 @@ pub fn write_disk<S: Shelf>(
     word: u64,
     patience: &mut Patience,
 ) -> Result<(), RawFault>
-    requires lit { IsLit (S.device shelf.old) }
+    requires lit { HasPower (S.device shelf.old) }
     requires some { 1 ≤ count }
     ensures does { WriteOnceQuiet (without_facts history.old) disk at count word patience.old.left (moment_of (S.device shelf.old) history.old.facts) (moment_of (S.device shelf.new) history.new.facts) result }
     ensures keeps { RangeKeepsEach history.old.run disk patience.old.left patience.new.left (moment_of (S.device shelf.old) history.old.facts) (moment_of (S.device shelf.new) history.new.facts) result }
@@ -50,7 +50,7 @@ pub fn read_disk<S: Shelf>(
     count: u32,
     patience: &mut Patience,
 ) -> Result<Rows<[u8; 512]>, RawFault>
-    requires lit { IsLit (S.device shelf.old) }
+    requires lit { HasPower (S.device shelf.old) }
     requires some { 1 ≤ count }
     ensures does { ReadOnceQuiet (without_facts history.old) disk at count patience.old.left (moment_of (S.device shelf.old) history.old.facts) (moment_of (S.device shelf.new) history.new.facts) result }
     ensures got { IfOk result (λ blocks. (length blocks ≡ count) × (at + count < 2 ^ 64)) }
@@ -72,7 +72,7 @@ fn come_to_rest<S: Shelf>(
     count: u32,
     patience: &mut Patience,
 ) -> Result<(), RawFault>
-    requires lit { IsLit (S.device shelf.old) }
+    requires lit { HasPower (S.device shelf.old) }
     requires some { 1 ≤ count }
     ensures { RangeRestGives disk at count patience.old.left patience.new.left (S.device shelf.old) (S.device shelf.new) history.old history.new result }
 {

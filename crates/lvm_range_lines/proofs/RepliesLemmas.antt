@@ -10,7 +10,7 @@ use Rattle.lvm_posts.specs.declared.fault.RangeFault.TheVariants as fault
 use Rattle.lvm_posts.specs.declared.posts.Post.{Post}
 use Rattle.lvm_group_lines.specs.passed.Ranges.{AskRangeFault}
 use Rattle.lvm_group_lines.specs.passed.AskRangeFaultVariants as ask
-use Rattle.lvm_group_lines.specs.Stages.{ComesTo, IsCarried}
+use Rattle.lvm_group_lines.specs.Stages.{ComesTo, IsCarriedOn}
 use Rattle.lvm_group_lines.specs.Replies.{InFull, Shows, WithoutMemory, is_unheard}
 use Rattle.lvm_group_lines.specs.declared.reply.Refusal.{Refusal}
 use Rattle.lvm_group_lines.specs.declared.reply.Reply.{Reply}
@@ -53,5 +53,5 @@ blocks_heard at end asked answer (ShowsThem shows) = by shows.shows
 
 -- a session behind an answer from which something was heard
 pub carried_by : {S : Type 0} (device : S → Device) (driver : S × Core) (posts : Vec Post) (bytes : Vec ℕ) (answer says : Reply) (stage : Stage S) → answer ≡ says → is_unheard says ≡ false
-    → ComesTo device (is_unheard answer) (holder.Serving driver) posts bytes stage → IsCarried device driver posts bytes driver.1.power stage
+    → ComesTo device (is_unheard answer) (holder.Serving driver) posts bytes stage → IsCarriedOn device driver posts bytes driver.1.power stage
 carried_by device driver posts bytes answer says stage is heard comes = subst (λ (b : Bool). ComesTo device b (holder.Serving driver) posts bytes stage) (ap is_unheard is ∙ heard) comes

@@ -3,7 +3,7 @@ use Rattle.std.proofs.Common.{◌≡◌, ◌≤◌, ℕ, false, refl, arith}
 use Rattle.lvm_session.specs.declared.answers.Turned.{Turned}
 use Rattle.lvm_session.specs.declared.answers.Turned.TheVariants as turned
 use Rattle.lvm_session.specs.State.{State}
-use Rattle.lvm_group_lines.specs.passed.Ranges.{AllMoved, LastEnded, StepEnds}
+use Rattle.lvm_group_lines.specs.passed.Ranges.{AllMoved, LastEnded, SteppingEnds}
 use Rattle.lvm_group_lines.specs.Replies.{is_unheard, most_refusals}
 use Rattle.lvm_range_lines.specs.Stepping.{StopsAs, step_reply}
 
@@ -22,7 +22,7 @@ step_heard moved end turned.Dark = refl
 step_heard moved end turned.Off = refl
 
 -- and the last turn tells of a session that is over
-pub step_stops : (turns moved : ℕ) (old end : State) (how : Turned) → StepEnds turns old end moved how → StopsAs how end.core.power
+pub step_stops : (turns moved : ℕ) (old end : State) (how : Turned) → SteppingEnds turns old end moved how → StopsAs how end.core.power
 step_stops turns moved old end turned.Moved ends = tt
 step_stops turns moved old end turned.Idle ends = tt
 step_stops turns moved old end turned.Dark (AllMoved all is moves) = absurd (cc is)

@@ -9,7 +9,7 @@ use Rattle.lvm_session.specs.Sound.{IsSound}
 use Rattle.lvm_session.specs.State.{Core, State, votes_there}
 use Rattle.lvm_group_lines.specs.passed.Names.{LosesVotesByFaults}
 use Rattle.lvm_group_lines.specs.passed.Tie.{RunsOn}
-use Rattle.lvm_group_lines.specs.passed.Ranges.{StepEnds}
+use Rattle.lvm_group_lines.specs.passed.Ranges.{SteppingEnds}
 use Rattle.lvm_group_lines.specs.State.{ScriptState}
 use Rattle.lvm_group_lines.specs.Replies.{IsRefused}
 use Rattle.lvm_group_lines.specs.declared.reply.Reply.{Reply}
@@ -36,7 +36,7 @@ pub record IsStepped (turns : ℕ) (core : Core) (old new : ScriptState) (answer
   pub end : State
   pub moved : ℕ
   pub how : Turned
-  pub ends : StepEnds turns (session_over old core) end moved how
+  pub ends : SteppingEnds turns (session_over old core) end moved how
   pub stops : StopsAs how end.core.power
   pub votes : LosesVotesByFaults (session_over old core) end
   pub runs : RunsOn (session_over old core) end

@@ -22,7 +22,7 @@ use Rattle.lvm_group_lines.specs.passed.Handover.{AreGone}
 use Rattle.lvm_group_lines.specs.passed.Tie.{RunsOn}
 use Rattle.lvm_group_lines.specs.declared.reply.Reply.{Reply}
 use Rattle.lvm_group_lines.specs.declared.stage.Stage.{Stage}
-use Rattle.lvm_group_lines.specs.Stages.{IsEnded, history_in, session_in, shelf_in}
+use Rattle.lvm_group_lines.specs.Stages.{SessionIsClosed, history_in, session_in, shelf_in}
 use Rattle.lvm_range_lines.specs.declared.answers.Answers.{Answers}
 use Rattle.lvm_range_lines.specs.Answers.{Gathers, Tells}
 use Rattle.lvm_range_lines.specs.Leaving.{serving}
@@ -101,7 +101,7 @@ pub record WaitsBehind {S : Type 0} (device : S → Device) (old new : Stage S) 
   pub later : KeepsLater (history_in old).facts (history_in new).facts
 
 -- a session goes on behind them
-pub record GoesBehind {S : Type 0} (device : S → Device) (driver : S × Core) (stage : Stage S) (answer : Reply) (posts : List Post) : Type 0 where
+pub record SessionFollows {S : Type 0} (device : S → Device) (driver : S × Core) (stage : Stage S) (answer : Reply) (posts : List Post) : Type 0 where
   pub end : S × Core
   pub endings : List Ending
   pub takes : TakesPosts (state_of device driver) posts (state_of device end) endings
@@ -117,9 +117,9 @@ pub record GoesBehind {S : Type 0} (device : S → Device) (driver : S × Core) 
 -- or it is over, and all are answered once it is closed
 pub record IsClosedBehind {S : Type 0} (device : S → Device) (driver : S × Core) (posts : List Post) (stage : Stage S) (answer : Reply) : Type 0 where
   pub closed : Stage S
-  pub ended : IsEnded device driver posts closed
+  pub ended : SessionIsClosed device driver posts closed
   pub waits : WaitsBehind device closed stage answer
 
 abbrev pub LandedEnds : {S : Type 0} → (S → Device) → S × Core → Vec Post → Vec ℕ → Power → Stage S → Reply → Type 0
-LandedEnds device driver posts bytes power.On stage answer = GoesBehind device driver stage answer posts.items
+LandedEnds device driver posts bytes power.On stage answer = SessionFollows device driver stage answer posts.items
 LandedEnds device driver posts bytes other stage answer = IsClosedBehind device driver posts.items stage answer

@@ -40,8 +40,8 @@ use Rattle.lvm_ranges.specs.declared.fault.SyncFault.{SyncFault}
 use Rattle.lvm_ranges.specs.declared.fault.SyncFault.TheVariants as fault
 use Rattle.lvm_ranges.specs.declared.tally.Tally.{Tally}
 use Rattle.lvm_ranges.specs.Causes.{AnyFails, SyncCause}
-use Rattle.lvm_ranges.specs.Passing.{Copy, EachTurnWhile, FailedFor, IsBroughtUp, IsEnded, IsOpened, IsSameCopy, IsUnsettled, PassesCopy, RefusedFor, Runs}
-use Rattle.lvm_ranges.specs.Syncing.{ArePassed, IsAnswer, NonePassed, OnePassed, Passes, StopsAmong, fault_by, fault_on, group_fault, no_tally, numbers_fault, or_first, partition_fault, volume_fault, with_passed}
+use Rattle.lvm_ranges.specs.Passing.{Copy, EachTurnWhile, FailedFor, IsBroughtUp, HasEndedFor, IsOpened, IsSameCopy, IsUnsettled, PassesCopy, RefusedFor, Runs}
+use Rattle.lvm_ranges.specs.Syncing.{ArePassed, IsAnswer, NonePassed, OnePassed, PassesCopies, StopsAmong, fault_by, fault_on, group_fault, no_tally, numbers_fault, or_first, partition_fault, volume_fault, with_passed}
 use Rattle.lvm_ranges.proofs.PassingLemmas.Making.{as_opened}
 use Rattle.lvm_ranges.proofs.TurningLemmas.{TurnsIn, turns_in}
 
@@ -118,7 +118,7 @@ since_call old new same given_is = record { sizes = same_sizes old.device new.de
 since_opened : (c : Copy) {patience left : ℕ} (old opened : State) (it : IsOpened c patience left old opened) → Since old opened
 since_opened c old opened it = since_both old it.judged opened (since_turns (IsUnsettled c) old it.judged it.settles) (since_call it.judged opened it.device (ap given it.opens.is))
 
-since_ended : (how : CopyState) {patience left : ℕ} (opened new : State) → IsEnded patience left opened new how → Since opened new
+since_ended : (how : CopyState) {patience left : ℕ} (opened new : State) → HasEndedFor patience left opened new how → Since opened new
 since_ended how opened new it = since_both opened it.ended new (since_turns Runs opened it.ended it.turns) (since_call it.ended new (ap (λ (s : State). s.device) it.is) (ap (λ (s : State). given s.core) it.is))
 
 since_brought : (how : CopyState) (c : Copy) {patience left : ℕ} (old new : State) → IsBroughtUp c patience left old new how → Since old new
@@ -154,7 +154,7 @@ since_passed c patience left old new passed.Made it = since_brought copy.Done c 
 since_passed c patience left old new (passed.Failed why) (inl it) = since_refused c patience left old new why it
 since_passed c patience left old new (passed.Failed why) (inr it) = since_failed c patience left old new why it
 
-since_passes : (first : State) (from : Tally) {patience left : ℕ} (copies : List Copy) (now : State) (tally : Tally) → Passes first from patience copies now tally left → Since first now
+since_passes : (first : State) (from : Tally) {patience left : ℕ} (copies : List Copy) (now : State) (tally : Tally) → PassesCopies first from patience copies now tally left → Since first now
 since_passes first from all now total NonePassed = since_same first
 since_passes first from all now total (OnePassed {copies} {old} {new} {tally} {before} {left} c how rest it) = since_both first old new (since_passes first from copies old tally rest) (since_passed c before left old new how it)
 
@@ -303,7 +303,7 @@ module _ (first : State) (valid : IsValid first.core.descriptor) (c : Copy) (bef
   passed_stay tally so_far passed.Made it = stays_then passed.Made it tally.fault so_far
   passed_stay tally so_far (passed.Failed why) it = or_stays why it tally.fault so_far
 
-passes_stay : (first : State) → IsValid first.core.descriptor → (patience : ℕ) (copies : List Copy) (now : State) (tally : Tally) (left : ℕ) → Passes first no_tally patience copies now tally left → IfSome tally.fault (StaysFor first now)
+passes_stay : (first : State) → IsValid first.core.descriptor → (patience : ℕ) (copies : List Copy) (now : State) (tally : Tally) (left : ℕ) → PassesCopies first no_tally patience copies now tally left → IfSome tally.fault (StaysFor first now)
 passes_stay first valid patience all now total rest NonePassed = tt
 passes_stay first valid patience all now total spare (OnePassed {copies} {old} {new} {tally} {before} {left} c how rest it) =
     passed_stay first valid c before left old new (since_passes first no_tally copies old tally rest) tally (passes_stay first valid patience copies old tally before rest) how it

@@ -28,7 +28,7 @@ use Rattle.lvm_session.specs.declared.open.Open.{Open}
 use Rattle.lvm_session.specs.declared.open.Power.TheVariants as power
 use Rattle.lvm_session.specs.Calls.{TakeAt, TakeGives, TakesLanded, is_asked}
 use Rattle.lvm_session.specs.declared.origin.Origin.{Origin}
-use Rattle.lvm_session.specs.Causes.{AnyFailedSince, AreCounted, HasFailed, IsCounted, IsLandedFor, faults_at_first, is_over, was_usable}
+use Rattle.lvm_session.specs.Causes.{AnyFailedSince, AreCounted, TargetHasFailed, IsCounted, IsLandedFor, faults_at_first, is_over, was_usable}
 use Rattle.lvm_session.specs.Enabled.{is_lost}
 use Rattle.lvm_session.specs.Judging.{copies_for, copies_in}
 use Rattle.lvm_session.specs.Sound.{IsAsked, IsSound, IsTold}
@@ -51,7 +51,7 @@ use Rattle.lvm_ranges.specs.Choosing.{AreAllSince, AreSince}
 use Rattle.lvm_ranges.specs.Finishing.{AnyFailed, FinishGives, Finished, GoingCause, HasLandedSo, LacksSource, RangeCause, TakesRange, WasStuck}
 use Rattle.lvm_ranges.specs.Landing.{TurnsFor}
 use Rattle.lvm_ranges.specs.Pieces.{NoPiece, OnePiece, Submits, piece_ask}
-use Rattle.lvm_ranges.specs.Taking.{NoTake, OneTake, Takes}
+use Rattle.lvm_ranges.specs.Taking.{NoTake, OneTake, TakesAnswers}
 use Rattle.lvm_ranges.proofs.TakingLemmas.{found_holds}
 use Rattle.lvm_ranges.proofs.AskingLemmas.{earlier}
 use Rattle.lvm_ranges.proofs.PiecesLemmas.{next_ids}
@@ -152,7 +152,7 @@ turned asked first now (Then {m} {n} before step any) =
 -- ---- a piece that has landed so
 
 -- a target that could be used has failed
-some_failed : (faults : ℕ → ℕ) (last : Device) (ts : List Target) → list_any (λ (t : Target). t.usable) ts ≡ true → AllByRecursion (λ (t : Target). t.usable ≡ true → HasFailed last t) ts
+some_failed : (faults : ℕ → ℕ) (last : Device) (ts : List Target) → list_any (λ (t : Target). t.usable) ts ≡ true → AllByRecursion (λ (t : Target). t.usable ≡ true → TargetHasFailed last t) ts
     → AllByRecursion (λ (t : Target). faults t.pp.disk ≤ t.faults) ts → (disk : ℕ) × Rose (faults disk) (last.counts.faults disk)
 some_failed faults last [] some failed since = not_so some
 some_failed faults last (t ∷ ts) some failed since = by t.usable refl (λ rest. some_failed faults last ts rest failed.1 since.1) some
@@ -186,7 +186,7 @@ lost_still core new client id answer gives = by (position (is_asked client id) c
         of None takes = ap is_lost takes.1
         of (Some how) takes = ap is_lost takes.1
 
-still_lost : {id : ℕ} {first : Core} {n : ℕ} {new : Core} → Takes id first n new → is_lost new ≡ is_lost first
+still_lost : {id : ℕ} {first : Core} {n : ℕ} {new : Core} → TakesAnswers id first n new → is_lost new ≡ is_lost first
 still_lost NoTake = refl
 still_lost (OneTake {n = n} {core = core} {new = new} before answer gives landed) = lost_still core new 1 _ answer gives ∙ still_lost before
 
@@ -262,7 +262,7 @@ module _ (lv : ℕ) (first mid end : State) (asked : Asked) (left : ℕ) (answer
   piece_cause k outcome.ReadFailed why is it =
       let same : fault.ReadFailed ≡ why = cc is in
       subst (RangeCause lv left first end) same (failed_at_end (some_failed first.device.counts.faults mid.device it.request.request.targets.items it.cause.0
-      (all_weaker (λ (t : Target). (is_failed t.state ≡ true) × HasFailed mid.device t) (λ (t : Target). t.usable ≡ true → HasFailed mid.device t) (λ t its usable. its.1) it.request.request.targets.items it.cause.1)
+      (all_weaker (λ (t : Target). (is_failed t.state ≡ true) × TargetHasFailed mid.device t) (λ (t : Target). t.usable ≡ true → TargetHasFailed mid.device t) (λ t its usable. its.1) it.request.request.targets.items it.cause.1)
       (own_since k outcome.ReadFailed it)))
   piece_cause k outcome.NoFresh why is it = let same : fault.NoFresh (piece_lp asked k) ≡ why = cc is in subst (RangeCause lv left first end) same (lacks k it)
   piece_cause k outcome.Off why is it =
@@ -294,7 +294,7 @@ module _ (faults : ℕ → ℕ) (asked : Asked) (old new : State) (why : RangeFa
   piece_going k outcome.ReadFailed w less is it =
       let same : fault.ReadFailed ≡ w = cc is in
       subst (GoingCause faults asked old.core new.device) same (rose_at_end (some_failed faults old.device it.request.request.targets.items it.cause.0
-      (all_weaker (λ (t : Target). (is_failed t.state ≡ true) × HasFailed old.device t) (λ (t : Target). t.usable ≡ true → HasFailed old.device t) (λ t its usable. its.1) it.request.request.targets.items it.cause.1)
+      (all_weaker (λ (t : Target). (is_failed t.state ≡ true) × TargetHasFailed old.device t) (λ (t : Target). t.usable ≡ true → TargetHasFailed old.device t) (λ t its usable. its.1) it.request.request.targets.items it.cause.1)
       (row_since faults asked old k outcome.ReadFailed it since)))
   piece_going k outcome.NoFresh w less is it =
       let same : fault.NoFresh (piece_lp asked k) ≡ w = cc is in
@@ -324,7 +324,7 @@ rows_left Holds core new client id answer gives all = by (position (is_asked cli
         of None takes = subst (λ (c : Core). AllByRecursion Holds c.requests) (sym takes.1) all
         of (Some how) takes = subst (λ (c : Core). AllByRecursion Holds c.requests) (sym takes.1) (all_removed Holds core.requests place all)
 
-pub rows_stay : (Holds : Open → Type 0) {id : ℕ} {first : Core} {n : ℕ} {new : Core} → Takes id first n new → AllByRecursion Holds first.requests → AllByRecursion Holds new.requests
+pub rows_stay : (Holds : Open → Type 0) {id : ℕ} {first : Core} {n : ℕ} {new : Core} → TakesAnswers id first n new → AllByRecursion Holds first.requests → AllByRecursion Holds new.requests
 rows_stay Holds NoTake all = all
 rows_stay Holds (OneTake {n = n} {core = core} {new = new} before answer gives landed) all = rows_left Holds core new 1 _ answer gives (rows_stay Holds before all)
 

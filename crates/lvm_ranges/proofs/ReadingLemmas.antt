@@ -9,7 +9,7 @@ use Rattle.std.proofs.Math.Seq.{take-add}
 use Rattle.lvm_num.specs.Buffer.{Sector, zero_sector}
 use Rattle.lvm_vol.specs.declared.entry.Outcome.{Outcome}
 use Rattle.lvm_vol.specs.declared.entry.Outcome.TheVariants as outcome
-use Rattle.lvm_vol.specs.Facts.{Begun, Cut, Fact, Landed, Made, Making, On, Removed, Removing, Request, Split, Stands, Taken, begun, begun_by}
+use Rattle.lvm_vol.specs.Facts.{Begun, Cut, Fact, Landed, Made, Making, On, Removed, Removing, Request, Split, IsInList, Taken, begun, begun_by}
 use Rattle.lvm_vol.specs.Log.{blocks_begun, blocks_of, got_by, held, is_got}
 use Rattle.lvm_vol.specs.Order.{Ordered}
 use Rattle.lvm_history.proofs.LogLemmas.Staying.{blocks_at_place}
@@ -27,7 +27,7 @@ record HasGot (facts : List Fact) (id : ℕ) : Type 0 where
   pub started : Bool
   pub got : List Sector
   pub own : request.id ≡ id
-  pub stands : Stands (Landed request outcome.Got started got) facts
+  pub stands : IsInList (Landed request outcome.Got started got) facts
   pub first : (none : List Sector) → slice_index_or (filter_map (got_by id) facts) 0 none ≡ got
 
 -- behind an entry that isn't its landing

@@ -39,7 +39,7 @@ use Rattle.lvm_ranges.specs.Landing.{HavePiecesLanded}
 use Rattle.lvm_posts.specs.Pieces.{piece_lp}
 use Rattle.lvm_posts.specs.Deciding.{EndsWith, RangeEnds, fault_by}
 use Rattle.lvm_posts.proofs.DecidingLemmas.{DecidesSoFar, decides_more, none_yet}
-use Rattle.lvm_ranges.specs.Taking.{NoTake, OneTake, Takes, fault_taken, is_landed}
+use Rattle.lvm_ranges.specs.Taking.{NoTake, OneTake, TakesAnswers, fault_taken, is_landed}
 use Rattle.lvm_ranges.proofs.KeepingLemmas.Growing.{Grows, grows_quiet, keeps_both, keeps_none, keeps_requests}
 
 -- ---- one answer is taken
@@ -140,7 +140,7 @@ landed_so outcome.Dark place count = refl
 -- So many answers are taken, and the first that isn't well decides; the other requests of the table stay as they were.
 pub record TakingSoFar (first now : State) (asked : Asked) (have total n : ℕ) (fault : Option RangeFault) : Type 0 where
   pub shelf : now.device ≡ first.device
-  pub takes : Takes asked.first first.core n now.core
+  pub takes : TakesAnswers asked.first first.core n now.core
   pub decides : DecidesSoFar now.core.history.facts asked have total n fault
   pub held : (k : ℕ) → n ≤ k → k < asked.pieces → list_any (is_asked 1 (asked.first + k)) now.core.requests ≡ true
   pub landed : HavePiecesLanded asked now
@@ -311,7 +311,7 @@ pub takes_all : (first now : State) (asked : Asked) (have total n : ℕ) (fault 
 takes_all first now asked have total n fault answer sound held landed have_is total_is last so_far ends = record {
   landed = landed;
   shelf = so_far.shelf;
-  takes = subst (λ m. Takes asked.first first.core m now.core) last so_far.takes;
+  takes = subst (λ m. TakesAnswers asked.first first.core m now.core) last so_far.takes;
   fewer = subst (λ m. length now.core.requests + m ≡ length first.core.requests) last so_far.fewer;
   power_is = so_far.power_is;
   ends = subst (λ t. RangeEnds now.core.history.facts asked (votes_there first.core) t answer) total_is (subst (λ h. RangeEnds now.core.history.facts asked h total answer) have_is ends);

@@ -23,7 +23,7 @@ use Rattle.lvm_ranges.specs.Keeping.{KeepsTable}
 use Rattle.lvm_ranges.specs.Landing.{AwaitCosts, HavePiecesLanded, IsUnfinished, TurnsFor}
 use Rattle.lvm_posts.specs.Deciding.{RangeEnds}
 use Rattle.lvm_posts.specs.Pieces.{piece_lp}
-use Rattle.lvm_ranges.specs.Taking.{Takes}
+use Rattle.lvm_ranges.specs.Taking.{TakesAnswers}
 
 -- Client 1's request of this number has landed so, and the cause of that holds of it.
 pub record HasLandedSo (s : State) (id : ℕ) (how : Outcome) : Type 0 where
@@ -36,7 +36,7 @@ pub record HasLandedSo (s : State) (id : ℕ) (how : Outcome) : Type 0 where
 pub record TakesRange (asked : Asked) (old new : State) (answer : Result (Unit {0}) RangeFault) : Type 0 where
   pub landed : HavePiecesLanded asked old
   pub shelf : new.device ≡ old.device
-  pub takes : Takes asked.first old.core asked.pieces new.core
+  pub takes : TakesAnswers asked.first old.core asked.pieces new.core
   pub fewer : length new.core.requests + asked.pieces ≡ length old.core.requests
   pub power_is : new.core.power ≡ old.core.power
   pub ends : RangeEnds new.core.history.facts asked (votes_there old.core) (total_votes old.core.descriptor) answer

@@ -56,12 +56,12 @@ pub record IsUnsettled (c : Copy) (core : Core) : Type 0 where
   pub fresh : copy_fault core c.lv c.lp c.number ≡ Some refusal.AlreadyFresh
 
 -- it is fresh, once it is settled
-pub record IsFresh (c : Copy) (patience left : ℕ) (old new : State) : Type 0 where
+pub record WasFresh (c : Copy) (patience left : ℕ) (old new : State) : Type 0 where
   pub settles : EachTurnWhile (IsUnsettled c) patience left old new
   pub fresh : is_stale new.core c.pp ≡ false
 
 -- it is stale, and isn't opened for this
-pub record IsRefused (c : Copy) (patience left : ℕ) (old new : State) (why : CopyFault) : Type 0 where
+pub record IsNotOpened (c : Copy) (patience left : ℕ) (old new : State) (why : CopyFault) : Type 0 where
   pub settles : EachTurnWhile (IsUnsettled c) patience left old new
   pub stale : is_stale new.core c.pp ≡ true
   pub why_is : copy_fault new.core c.lv c.lp c.number ≡ Some why
@@ -78,13 +78,13 @@ pub record IsOpened (c : Copy) (patience left : ℕ) (old new : State) : Type 0 
 
 -- what is answered where it isn't opened: why it stays stale
 abbrev pub RefusedFor : Copy → ℕ → ℕ → State → State → SyncFault → Type 0
-RefusedFor c patience left old new (fault.NoFresh lp) = (lp ≡ c.lp) × IsRefused c patience left old new refusal.NoFresh
-RefusedFor c patience left old new (fault.Missing disk) = IsRefused c patience left old new (refusal.Missing disk)
+RefusedFor c patience left old new (fault.NoFresh lp) = (lp ≡ c.lp) × IsNotOpened c patience left old new refusal.NoFresh
+RefusedFor c patience left old new (fault.Missing disk) = IsNotOpened c patience left old new (refusal.Missing disk)
 RefusedFor c patience left old new _ = ⊥
 
 -- what became of it, and whether it is open
 abbrev pub IsJudged : Copy → ℕ → ℕ → State → State → Opening → Type 0
-IsJudged c patience left old new opening.Fresh = IsFresh c patience left old new × (new.core.copy ≡ None)
+IsJudged c patience left old new opening.Fresh = WasFresh c patience left old new × (new.core.copy ≡ None)
 IsJudged c patience left old new opening.Opened = IsOpened c patience left old new
 IsJudged c patience left old new (opening.Refused why) = RefusedFor c patience left old new why × (new.core.copy ≡ None)
 
@@ -103,7 +103,7 @@ abbrev pub IsSameCopy : OpenCopy → OpenCopy → Type 0
 IsSameCopy old new = (new.pp ≡ old.pp) × (new.lv ≡ old.lv) × (new.lp ≡ old.lp) × (new.copy ≡ old.copy) × (new.faults ≡ old.faults) × (new.moves ≡ old.moves)
 
 -- It is brought up until it has ended so, for its cause, and closed; where it is done nothing calls it stale any more.
-pub record IsEnded (patience left : ℕ) (old new : State) (how : CopyState) : Type 0 where
+pub record HasEndedFor (patience left : ℕ) (old new : State) (how : CopyState) : Type 0 where
   pub ended : State
   pub turns : EachTurnWhile Runs patience left old ended
   pub how_is : copy_state ended.core ≡ how
@@ -117,7 +117,7 @@ pub record IsBroughtUp (c : Copy) (patience left : ℕ) (old new : State) (how :
   pub opened : State
   pub before : ℕ
   pub opens : IsOpened c patience before old opened
-  pub ends : IsEnded before left opened new how
+  pub ends : HasEndedFor before left opened new how
 
 -- it was stale, is brought up until it is done, and nothing calls it stale any more
 pub record IsMadeFresh (c : Copy) (patience left : ℕ) (old new : State) : Type 0 where
@@ -125,11 +125,11 @@ pub record IsMadeFresh (c : Copy) (patience left : ℕ) (old new : State) : Type
   pub fresh : is_marked new.core c.pp ≡ false
 
 -- how a copy ends while its session goes on
-abbrev pub HasEnded : CopyState → Type 0
-HasEnded copy.Done = Unit {0}
-HasEnded (copy.SyncFailed disk) = Unit {0}
-HasEnded copy.NoFresh = Unit {0}
-HasEnded _ = ⊥
+abbrev pub CopyHasEnded : CopyState → Type 0
+CopyHasEnded copy.Done = Unit {0}
+CopyHasEnded (copy.SyncFailed disk) = Unit {0}
+CopyHasEnded copy.NoFresh = Unit {0}
+CopyHasEnded _ = ⊥
 
 -- ---- how it is passed
 
@@ -141,7 +141,7 @@ FailedFor c patience left old new _ = ⊥
 
 -- It is fresh already; it was stale, and is made fresh; or it stays stale.
 abbrev pub PassesCopy : Copy → ℕ → ℕ → State → State → Passed → Type 0
-PassesCopy c patience left old new passed.Fresh = IsFresh c patience left old new
+PassesCopy c patience left old new passed.Fresh = WasFresh c patience left old new
 PassesCopy c patience left old new passed.Made = IsMadeFresh c patience left old new
 PassesCopy c patience left old new (passed.Failed why) = RefusedFor c patience left old new why ⊎ FailedFor c patience left old new why
 
@@ -157,7 +157,7 @@ pub record IsBroken (c : Copy) (patience left : ℕ) (old new : State) (why : Sy
 -- What becomes of a copy at which the resync ends at once: where numbers are short it is stale, and isn't opened for that; else turns were made while it
 -- wasn't settled, or while it ran.
 abbrev pub BreaksOff : Copy → ℕ → ℕ → State → State → SyncFault → Type 0
-BreaksOff c patience left old new fault.HistoryFull = IsRefused c patience left old new refusal.HistoryFull
+BreaksOff c patience left old new fault.HistoryFull = IsNotOpened c patience left old new refusal.HistoryFull
 BreaksOff c patience left old new why = EndsTurning (IsUnsettled c) patience left old new why ⊎ IsBroken c patience left old new why
 
 -- the resync ends at once at this copy
@@ -179,7 +179,7 @@ JudgesCopy c patience left old new = EndsOr (IsJudged c patience left old new) (
 
 -- the one that is open is brought up
 abbrev pub BringsUp : ℕ → ℕ → State → State → Result CopyState SyncFault → Type 0
-BringsUp patience left old new = EndsOr (IsEnded patience left old new) (StopsRunning patience left old new)
+BringsUp patience left old new = EndsOr (HasEndedFor patience left old new) (StopsRunning patience left old new)
 
 -- it is passed, and none is left open
 abbrev pub IsPassed : Copy → ℕ → ℕ → State → State → Passed → Type 0

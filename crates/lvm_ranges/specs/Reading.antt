@@ -2,7 +2,7 @@
 use Rattle.std.specs.Prelude.{◌≡◌, ◌+◌, ◌++◌, ℕ, Bool, false, List, [], ◌∷◌, Some, Ok}
 use Rattle.lvm_num.specs.Buffer.{Sector}
 use Rattle.lvm_vol.specs.declared.entry.Outcome.TheVariants as outcome
-use Rattle.lvm_vol.specs.Facts.{Request, Fact, Begun, Landed, Stands}
+use Rattle.lvm_vol.specs.Facts.{Request, Fact, Begun, Landed, IsInList}
 use Rattle.lvm_vol.specs.Log.{blocks_begun}
 use Rattle.lvm_session.specs.Sound.{outcome_in}
 use Rattle.lvm_posts.specs.declared.asked.Asked.{Asked}
@@ -40,5 +40,5 @@ HasEndedWell facts asked = (have : ℕ) × (total : ℕ) × RangeEnds facts aske
 -- The blocks with which so many requests from this number on have landed as Got, in their order.
 pub data AreGot (facts : List Fact) (first : ℕ) : ℕ → List Sector → Type 0 where
   NoneGot : AreGot facts first 0 []
-  OneGot : {n : ℕ} {blocks : List Sector} → AreGot facts first n blocks → (request : Request) (started : Bool) (got : List Sector) → request.id ≡ first + n → Stands (Landed request outcome.Got started got) facts
+  OneGot : {n : ℕ} {blocks : List Sector} → AreGot facts first n blocks → (request : Request) (started : Bool) (got : List Sector) → request.id ≡ first + n → IsInList (Landed request outcome.Got started got) facts
       → AreGot facts first (n + 1) (blocks ++ got)

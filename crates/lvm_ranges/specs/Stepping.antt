@@ -7,11 +7,11 @@ use Rattle.lvm_session.specs.Turns.{TurnMakes}
 use Rattle.lvm_driver.specs.passed.Names.{TurnTells}
 
 -- so many turns, each of which has moved
-pub data Moves (first : State) : ℕ → State → Type 0 where
-  NoMove : Moves first 0 first
-  OneMove : {n : ℕ} {old new : State} → Moves first n old → TurnMakes old new turned.Moved → Moves first (n + 1) new
+pub data MovesTurns (first : State) : ℕ → State → Type 0 where
+  NoMove : MovesTurns first 0 first
+  OneMove : {n : ℕ} {old new : State} → MovesTurns first n old → TurnMakes old new turned.Moved → MovesTurns first (n + 1) new
 
 -- All turns that were asked for have moved; or so many have, and one more, which answered otherwise, was the last.
-pub data StepEnds (turns : ℕ) (old new : State) (moved : ℕ) (how : Turned) : Type 0 where
-  AllMoved : moved ≡ turns → how ≡ turned.Moved → Moves old moved new → StepEnds turns old new moved how
-  LastEnded : (mid : State) → moved < turns → Moves old moved mid → TurnMakes mid new how → TurnTells mid new how → (how ≡ turned.Moved → ⊥) → StepEnds turns old new moved how
+pub data SteppingEnds (turns : ℕ) (old new : State) (moved : ℕ) (how : Turned) : Type 0 where
+  AllMoved : moved ≡ turns → how ≡ turned.Moved → MovesTurns old moved new → SteppingEnds turns old new moved how
+  LastEnded : (mid : State) → moved < turns → MovesTurns old moved mid → TurnMakes mid new how → TurnTells mid new how → (how ≡ turned.Moved → ⊥) → SteppingEnds turns old new moved how

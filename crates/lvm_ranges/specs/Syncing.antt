@@ -60,14 +60,14 @@ with_passed t passed.Made = record t { made = min (t.made + 1) (2 ^ 32 - 1) }
 with_passed t (passed.Failed why) = record t { fault = or_first t.fault why }
 
 -- These copies are passed in order, each once, and the patience that is left.
-pub data Passes (first : State) (from : Tally) (patience : ℕ) : List Copy → State → Tally → ℕ → Type 0 where
-  NonePassed : Passes first from patience [] first from patience
+pub data PassesCopies (first : State) (from : Tally) (patience : ℕ) : List Copy → State → Tally → ℕ → Type 0 where
+  NonePassed : PassesCopies first from patience [] first from patience
   OnePassed : {copies : List Copy} {old new : State} {tally : Tally} {before left : ℕ} (c : Copy) (how : Passed)
-      → Passes first from patience copies old tally before → PassesCopy c before left old new how → Passes first from patience (copies ++ c ∷ []) new (with_passed tally how) left
+      → PassesCopies first from patience copies old tally before → PassesCopy c before left old new how → PassesCopies first from patience (copies ++ c ∷ []) new (with_passed tally how) left
 
 -- all of them are, and no copy is left open
 abbrev pub ArePassed : List Copy → ℕ → ℕ → State → State → Tally → Tally → Unit {0} → Type 0
-ArePassed copies patience left old new from to done = Passes old from patience copies new to left × (new.core.copy ≡ None)
+ArePassed copies patience left old new from to done = PassesCopies old from patience copies new to left × (new.core.copy ≡ None)
 
 -- The resync ends at once at one of these copies; those before it are passed, and none behind it.
 pub record StopsAmong (copies : List Copy) (patience left : ℕ) (old new : State) (from : Tally) (why : SyncFault) : Type 0 where
@@ -78,7 +78,7 @@ pub record StopsAmong (copies : List Copy) (patience left : ℕ) (old new : Stat
   pub mid : State
   pub tally : Tally
   pub before : ℕ
-  pub passes : Passes old from patience passed mid tally before
+  pub passes : PassesCopies old from patience passed mid tally before
   pub stops : EndsAtCopy one before left mid new why
 
 -- all of them are passed, or the resync ends at one of them
@@ -93,13 +93,13 @@ no_tally = record { made = 0; fault = None }
 
 -- all copies that were asked for are passed, with so many made fresh, and this is the first thing by which one stays stale
 pub record Syncs (copies : List Copy) (patience left : ℕ) (old new : State) (made : ℕ) (first : Option SyncFault) : Type 0 where
-  pub passes : Passes old no_tally patience copies new (record { made = made; fault = first }) left
+  pub passes : PassesCopies old no_tally patience copies new (record { made = made; fault = first }) left
   pub none : new.core.copy ≡ None
 
 -- ---- what they leave
 
 -- whether a copy on this partition is made fresh among them
-abbrev pub is_made_among : Pp → {first : State} {from : Tally} {patience : ℕ} {copies : List Copy} {now : State} {tally : Tally} {left : ℕ} → Passes first from patience copies now tally left → Bool
+abbrev pub is_made_among : Pp → {first : State} {from : Tally} {patience : ℕ} {copies : List Copy} {now : State} {tally : Tally} {left : ℕ} → PassesCopies first from patience copies now tally left → Bool
 is_made_among p NonePassed = false
 is_made_among p (OnePassed c passed.Fresh rest it) = is_made_among p rest
 is_made_among p (OnePassed c passed.Made rest it) = is_pp c.pp p || is_made_among p rest
@@ -114,7 +114,7 @@ abbrev pub IsStaleFor : State → State → Pp → Type 0
 IsStaleFor old new p = (is_missing new.core p.disk ≡ true) ⊎ Rose (old.device.counts.faults p.disk) (new.device.counts.faults p.disk) ⊎ (is_to_be_stale old.core p ≡ true) ⊎ (has_failed_on old.core p ≡ true)
 
 -- Where none stays stale: what was settled as stale was made fresh, if it was asked for, and else it stays so; and what was asked for is stale for such a cause alone.
-pub record LeavesFresh (copies : List Copy) (patience left : ℕ) (old new : State) (tally : Tally) (passes : Passes old no_tally patience copies new tally left) : Type 0 where
+pub record LeavesFresh (copies : List Copy) (patience left : ℕ) (old new : State) (tally : Tally) (passes : PassesCopies old no_tally patience copies new tally left) : Type 0 where
   pub made : (place : ℕ) (c : Copy) → slice_get copies place ≡ Some c → is_settled old.core c.pp ≡ true → is_made_among c.pp passes ≡ true
   pub others : (p : Pp) → is_settled old.core p ≡ true → is_made_among p passes ≡ false → is_lasting new.core p ≡ true
   pub stale : (place : ℕ) (c : Copy) → slice_get copies place ≡ Some c → is_stale new.core c.pp ≡ true → IsStaleFor old new c.pp

@@ -32,6 +32,6 @@ is_landed answered.NotYet = false
 is_landed answered.Unknown = false
 
 -- The answers of so many requests of client 1 from this number on were taken, one after the other.
-pub data Takes (id : ℕ) (first : Core) : ℕ → Core → Type 0 where
-  NoTake : Takes id first 0 first
-  OneTake : {n : ℕ} {core new : Core} → Takes id first n core → (answer : Taken) → TakeGives core new 1 (id + n) answer → is_landed answer ≡ true → Takes id first (n + 1) new
+pub data TakesAnswers (id : ℕ) (first : Core) : ℕ → Core → Type 0 where
+  NoTake : TakesAnswers id first 0 first
+  OneTake : {n : ℕ} {core new : Core} → TakesAnswers id first n core → (answer : Taken) → TakeGives core new 1 (id + n) answer → is_landed answer ≡ true → TakesAnswers id first (n + 1) new

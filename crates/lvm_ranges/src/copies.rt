@@ -3,7 +3,7 @@ ghost use Rattle.std.specs.Prelude.{◌≡◌, true, false, IfOk};
 ghost use Rattle.lvm_session.specs.declared.open.Power.TheVariants as power;
 ghost use Rattle.lvm_session.specs.Judging.{is_stale};
 ghost use Rattle.lvm_session.specs.State.{Core, state_of};
-ghost use Rattle.lvm_ranges.specs.Passing.{BringsUp, HasEnded, IsAnsweredBy, IsJustOpened, IsPassedBy, JudgesCopy, MayPass, MayRefuse, PassesOrEnds, Runs, copy_of};
+ghost use Rattle.lvm_ranges.specs.Passing.{BringsUp, CopyHasEnded, IsAnsweredBy, IsJustOpened, IsPassedBy, JudgesCopy, MayPass, MayRefuse, PassesOrEnds, Runs, copy_of};
 ghost use Rattle.lvm_ranges.specs.Turning.{GoesBeside};
 
 use crate::below::Driver;
@@ -102,7 +102,7 @@ fn bring_up<S: Shelf>(
     requires unstuck { driver.old.1.power ≡ power.Stuck → ⊥ }
     requires opened { IsJustOpened driver.old.1 }
     ensures ends { BringsUp patience.old.left patience.new.left (state_of S.device driver.old) (state_of S.device driver.new) result }
-    ensures ended { IfOk result HasEnded }
+    ensures ended { IfOk result CopyHasEnded }
     ensures beside { GoesBeside (state_of S.device driver.old) (state_of S.device driver.new) patience.old.left patience.new.left }
 {
     while is_running(driver) {
@@ -115,7 +115,7 @@ fn bring_up<S: Shelf>(
 }
 
 fn passed_by(how: CopyState, lp: u32) -> Passed
-    requires ended { HasEnded how }
+    requires ended { CopyHasEnded how }
     ensures { IsPassedBy lp how result }
 {
     match how {

@@ -5,7 +5,7 @@ ghost use Rattle.lvm_driver.specs.passed.Names.{RunsOn};
 ghost use Rattle.lvm_session.specs.State.{state_of};
 ghost use Rattle.lvm_keeps_events.specs.Losing.{LosesVotesByFaults};
 ghost use Rattle.lvm_ranges.specs.Keeping.{KeepsTable};
-ghost use Rattle.lvm_ranges.specs.Stepping.{StepEnds};
+ghost use Rattle.lvm_ranges.specs.Stepping.{SteppingEnds};
 
 use lvm_disk::Shelf;
 use lvm_driver::Driver;
@@ -15,7 +15,7 @@ use lvm_session::Turned;
 /// what the last one answered.
 pub fn step<S: Shelf>(driver: &mut Driver<S>, turns: u32) -> (u32, Turned)
     requires unstuck { driver.old.1.power ≡ power.Stuck → ⊥ }
-    ensures ends { StepEnds turns (state_of S.device driver.old) (state_of S.device driver.new) result.0 result.1 }
+    ensures ends { SteppingEnds turns (state_of S.device driver.old) (state_of S.device driver.new) result.0 result.1 }
     ensures table { KeepsTable driver.old.1 driver.new.1 }
     ensures runs { RunsOn (state_of S.device driver.old) (state_of S.device driver.new) }
     // The votes go by faults alone.

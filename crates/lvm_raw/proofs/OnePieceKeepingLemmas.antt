@@ -16,7 +16,7 @@ use Rattle.lvm_steps.specs.Moments.{Keeps}
 use Rattle.lvm_steps.specs.Requests.{IsInNoGroup, IsOfData, at as moment_of}
 use Rattle.lvm_steps.proofs.RequestsLemmas.Writing.{stays_in_no_group}
 use Rattle.lvm_steps.proofs.LawsLemmas.Shelves.{transfer_stays_behind, no_more_stays_behind}
-use Rattle.lvm_steps.specs.Behind.{IsBehind}
+use Rattle.lvm_steps.specs.Behind.{StampsAreEarlier}
 use Rattle.lvm_transfer.specs.Transfer.{IsOut, TransferGives, Rests, flight_of}
 use Rattle.lvm_transfer.specs.declared.moves.Moved.{Moved}
 use Rattle.lvm_transfer.specs.declared.moves.Moved.TheVariants as moved
@@ -57,10 +57,10 @@ lit_counts mid new (moved.Done back) lit = ap (λ (d : Device). d.counts) lit
 lit_counts mid new _ lit = ap (λ (d : Device). d.counts) lit
 
 lit_behind : (mid new : Device) (how : Moved) → Rests mid how → RelightsAfter mid new how → LeavesNoMore mid new → KeepsOlder mid new
-lit_behind mid new (moved.Done back) rests lit fewer m behind = subst (IsBehind m) (sym lit) behind
-lit_behind mid new (moved.Failed back) rests lit fewer m behind = subst (IsBehind m) (sym lit) behind
+lit_behind mid new (moved.Done back) rests lit fewer m behind = subst (StampsAreEarlier m) (sym lit) behind
+lit_behind mid new (moved.Failed back) rests lit fewer m behind = subst (StampsAreEarlier m) (sym lit) behind
 lit_behind mid new (moved.Dark started) rests lit fewer m behind = no_more_stays_behind m mid new rests.0 fewer behind
-lit_behind mid new moved.Stuck rests lit fewer m behind = subst (IsBehind m) (sym lit) behind
+lit_behind mid new moved.Stuck rests lit fewer m behind = subst (StampsAreEarlier m) (sym lit) behind
 
 -- ---- what a transfer leaves
 

@@ -19,7 +19,7 @@ pub record IsInData (device : Device) (disk at count : ℕ) : Type 0 where
   pub high : at + count ≤ size
 
 -- it doesn't, and has so many sectors
-pub record IsOutside (device : Device) (disk at count size : ℕ) : Type 0 where
+pub record IsOutsideDisk (device : Device) (disk at count size : ℕ) : Type 0 where
   pub is : slice_get device.sizes disk ≡ Some size
   pub outside : (at < data_start) ⊎ (size < at + count)
 
@@ -35,7 +35,7 @@ IsFull log at count = (spare_entries log < 3 * piece_count at count) ⊎ (spare_
 -- why nothing is asked of a disk, if so
 abbrev pub IsRejected : Device → Log → ℕ → ℕ → ℕ → RawFault → Type 0
 IsRejected device log disk at count (fault.NoDisk d) = (d ≡ disk) × IsNoDisk device disk
-IsRejected device log disk at count (fault.OutOfRange size) = IsOutside device disk at count size
+IsRejected device log disk at count (fault.OutOfRange size) = IsOutsideDisk device disk at count size
 IsRejected device log disk at count fault.HistoryFull = IsInData device disk at count × IsFull log at count
 IsRejected device log disk at count other = ⊥
 

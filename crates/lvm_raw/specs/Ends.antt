@@ -6,13 +6,13 @@ use Rattle.lvm_vol.specs.Log.{Log}
 use Rattle.lvm_steps.specs.Requests.{IsInNoGroup}
 use Rattle.lvm_raw.specs.declared.fault.RawFault.{RawFault}
 use Rattle.lvm_raw.specs.declared.fault.RawFault.TheVariants as fault
-use Rattle.lvm_raw.specs.Asking.{IsNoDisk, IsInData, IsOutside, IsFull, IsRejected}
+use Rattle.lvm_raw.specs.Asking.{IsNoDisk, IsInData, IsOutsideDisk, IsFull, IsRejected}
 use Rattle.lvm_raw.specs.Looking.{ShowsDescriptor}
 
 -- why there was this fault, where a transfer of data fails as `failed`; of want of memory nothing is said
 abbrev pub FaultHasCause : RawFault → Log → ℕ → ℕ → ℕ → ℕ → Device → Device → RawFault → Type 0
 FaultHasCause failed log disk at count patience old new (fault.NoDisk d) = (d ≡ disk) × IsNoDisk old disk
-FaultHasCause failed log disk at count patience old new (fault.OutOfRange size) = IsOutside old disk at count size
+FaultHasCause failed log disk at count patience old new (fault.OutOfRange size) = IsOutsideDisk old disk at count size
 FaultHasCause failed log disk at count patience old new fault.HistoryFull = IsInData old disk at count × IsFull log at count
 FaultHasCause failed log disk at count patience old new fault.Dark = Rose old.counts.cuts new.counts.cuts
 FaultHasCause failed log disk at count patience old new fault.Stuck = RoseBy patience old.counts.waits new.counts.waits

@@ -8,7 +8,7 @@ pub use Rattle.lvm_vol.specs.Log.{HaveAllLanded}
 use Rattle.lvm_kept.specs.Moments.{Moment, StaysCalm}
 use Rattle.lvm_steps.specs.Moments.{Keeps}
 use Rattle.lvm_steps.specs.Requests.{IsInNoGroup}
-use Rattle.lvm_steps.specs.Behind.{IsBehind}
+use Rattle.lvm_steps.specs.Behind.{StampsAreEarlier}
 use Rattle.lvm_transfer.specs.declared.moves.Moved.{Moved}
 use Rattle.lvm_transfer.specs.declared.moves.Moved.TheVariants as moved
 use Rattle.lvm_raw.specs.Requests.{IsHeard}
@@ -23,7 +23,7 @@ pub record KeepsArrangements (before after : ℕ) (old new : Device) : Type 0 wh
 
 -- what stood on the disks from before a moment still does
 abbrev pub KeepsOlder : Device → Device → Type 0
-KeepsOlder old new = (m : ℕ) → IsBehind m old → IsBehind m new
+KeepsOlder old new = (m : ℕ) → StampsAreEarlier m old → StampsAreEarlier m new
 
 -- no group is varied on
 abbrev pub NoneComesOn : List Fact → List Fact → Type 0

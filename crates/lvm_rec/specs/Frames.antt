@@ -6,7 +6,7 @@ use Rattle.lvm_num.specs.declared.record.Kind.{Kind}
 use Rattle.lvm_num.specs.Record.{record_sectors, longest_content}
 
 -- the stamp and the length of the content that stand there, which a record of the kind may have and for which there are bytes enough
-pub record MayBegin (kind : Kind) (bytes : List ℕ) (stamp : Stamp) (len : ℕ) : Type 0 where
+pub record MayFrame (kind : Kind) (bytes : List ℕ) (stamp : Stamp) (len : ℕ) : Type 0 where
   pub some_epoch : stamp.epoch ≢ 0
   pub epoch : stamp.epoch < 2 ^ 64
   pub some_seq : stamp.seq ≢ 0

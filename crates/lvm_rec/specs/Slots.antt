@@ -5,7 +5,7 @@ use Rattle.lvm_num.specs.declared.record.Kind.{Kind}
 use Rattle.lvm_num.specs.declared.record.Framed.{Framed}
 use Rattle.lvm_num.specs.Record.{Frames, IsRecord, Stamped, frame, record_bytes, record_in, record_sectors, slot_start, stamp_lt, newer}
 use Rattle.lvm_num.specs.Note.{Noted, IsNote, note_bytes, note_in}
-use Rattle.lvm_num.specs.Torn.{Sectors, slot_at, AreSectors, IsFresh, IsWhole, AllBefore}
+use Rattle.lvm_num.specs.Torn.{Sectors, slot_at, AreSectors, OwnSectorsStand, HasAllSectors, AllBefore}
 
 -- A slot holds at most one record,
 abbrev pub SlotHoldsOne : Type 0
@@ -64,7 +64,7 @@ IsTornWrite w old new = (s : ℕ) → (new s ≡ old s) ⊎ IsOfSlot w s (new s)
 
 -- all of the record stands on the disk
 abbrev pub StandsIn : SlotWrite → Sectors → Type 0
-StandsIn w sectors = IsWhole w.kind w.framed (slot_start w.kind w.slot) sectors
+StandsIn w sectors = HasAllSectors w.kind w.framed (slot_start w.kind w.slot) sectors
 
 -- Where a write of a record may go: the content reads as x, the slot is that which doesn't hold the newest record,
 -- the stamp is new in that slot, and later than the newest record's.
@@ -73,7 +73,7 @@ pub record MayWrite (X : Type 0) (content_of : List ℕ → Result X ℕ) (w : S
   pub reads : content_of w.framed.content ≡ Ok x
   pub slot : w.slot ≡ slot_for content_of w.kind sectors
   pub whole : AreSectors w.kind (slot_start w.kind w.slot) sectors
-  pub fresh : IsFresh w.kind w.framed (slot_start w.kind w.slot) sectors
+  pub fresh : OwnSectorsStand w.kind w.framed (slot_start w.kind w.slot) sectors
   pub later : (y : Stamped X) → newest_on content_of w.kind sectors ≡ Some y → stamp_lt y.stamp w.framed.stamp ≡ true
 
 -- the record as it is read

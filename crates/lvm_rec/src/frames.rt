@@ -4,7 +4,7 @@ ghost use Rattle.std.specs.Prelude.{IsTrue, IfOk, IfSome, IfNone, ◌↔◌, ◌
 ghost use Rattle.std.specs.Int.{w16, w32, w64, to_be_bytes};
 ghost use Rattle.lvm_num.specs.declared.record.Framed.{Framed};
 ghost use Rattle.lvm_num.specs.Record.{kind_magic, longest_content, record_sectors, payload, payload_of, frame, record_bytes, IsRecord, record_in};
-ghost use Rattle.lvm_rec.specs.Frames.{MayBegin};
+ghost use Rattle.lvm_rec.specs.Frames.{MayFrame};
 
 use crate::numbers::{u32_at, u64_at};
 use byteorder::{BigEndian, ByteOrder};
@@ -115,7 +115,7 @@ pub fn read_slot(alloc: Global, kind: Kind, bytes: &[u8]) -> Result<Option<Frame
 // The stamp and the length of the content by the first sector, where a record of the kind may have
 // them and the bytes hold one of that length.
 fn announced(kind: Kind, bytes: &[u8]) -> Option<(Stamp, usize)>
-    ensures may { IfSome result (λ first. MayBegin kind bytes.now first.0 first.1) }
+    ensures may { IfSome result (λ first. MayFrame kind bytes.now first.0 first.1) }
     ensures none { IfNone result ((r : Framed) → IsRecord kind bytes.now r → ⊥) }
 {
     if bytes.len() < SECTOR {

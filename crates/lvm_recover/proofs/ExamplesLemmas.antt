@@ -15,7 +15,7 @@ use Rattle.lvm_kept.specs.Examples.{mirror, two, either_of, ones, torn_mirror}
 use Rattle.lvm_kept.specs.Group.{fresh_on, IsBlockOf, IsOneOf, HoldOne}
 use Rattle.lvm_kept.specs.Kept.{Kept}
 use Rattle.lvm_rest.specs.passed.Names.{ShowsCommitted}
-use Rattle.lvm_rest.specs.Rest.{IsEven, NoneIsBehind}
+use Rattle.lvm_rest.specs.Rest.{IsEven, MissingAreStale}
 use Rattle.lvm_rest.specs.Examples.{Pair, status_of, shown_by, there_by, media_of, device_of, even_pair, torn_pair, history_of, naming}
 use Rattle.lvm_rest.proofs.ExamplesLemmas.Pairs.{both_copies, the_row, first_partition}
 use Rattle.lvm_rest.proofs.ExamplesLemmas.Sectors.{told}
@@ -92,7 +92,7 @@ module _ (mode : Mode) (dirty : Bool) (note : Sector) (on : mode ≡ Off → ⊥
 -- on a still shelf
 may : (x : Pair) → ((d s : ℕ) → s < 4096 → x.stands d s ≡ zero_sector) → MayRecover (two x.mode) (status_of x).value (there_by x) (device_of x)
 may x below =
-    let both = subst (λ (c : Contents). (shows : ShowsCommitted c (two x.mode) (status_of x).value (there_by x)) × NoneIsBehind c (two x.mode) (Some shows.stands) (there_by x)) (sym (told x below)) (shows x, behind x) in
+    let both = subst (λ (c : Contents). (shows : ShowsCommitted c (two x.mode) (status_of x).value (there_by x)) × MissingAreStale c (two x.mode) (Some shows.stands) (there_by x)) (sym (told x below)) (shows x, behind x) in
     record { media = media_of x; told = refl; valid = valid x.mode; enough = enough x; shows = both.0; none_behind = both.1 }
 
 -- where the notes of the two alone differ

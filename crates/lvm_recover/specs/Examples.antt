@@ -10,7 +10,7 @@ use Rattle.lvm_kept.specs.Examples.{two}
 use Rattle.lvm_kept.specs.Group.{block_at}
 use Rattle.lvm_kept.specs.Kept.{Kept}
 use Rattle.lvm_rest.specs.passed.Names.{ShowsCommitted}
-use Rattle.lvm_rest.specs.Rest.{IsEven, NoneIsBehind}
+use Rattle.lvm_rest.specs.Rest.{IsEven, MissingAreStale}
 use Rattle.lvm_rest.specs.Examples.{Pair, shown_by, status_of, there_by, device_of, history_of, even_pair, torn_pair, naming}
 use Rattle.lvm_recover.specs.Recopied.{IsToEqual, IsRecopied, AreEqualled, OnlyNotesOf}
 use Rattle.lvm_recover.specs.Keeping.{MayRecover}
@@ -24,7 +24,7 @@ pub record IsRecoveredPair (old copied new : Pair) (facts : List Fact) : Type 0 
   pub enough : CanWrite (two old.mode) (there_by old)
   pub shows : ShowsCommitted (shown_by old) (two old.mode) (status_of old).value (there_by old)
   pub kept : Kept (shown_by old) facts
-  pub behind : NoneIsBehind (shown_by old) (two old.mode) (Some shows.stands) (there_by old)
+  pub behind : MissingAreStale (shown_by old) (two old.mode) (Some shows.stands) (there_by old)
   pub uneven : IsEven (shown_by old) (two old.mode) (Some shows.stands) (there_by old) → ⊥
   pub to_equal : IsToEqual (shown_by old) (Some shows.stands) (there_by old) old.mode 1 0
   pub recopied : IsRecopied (shown_by old) (two old.mode) (Some shows.stands) (there_by old) (shown_by copied)

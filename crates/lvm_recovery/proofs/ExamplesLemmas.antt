@@ -15,7 +15,7 @@ use Rattle.lvm_disk.specs.Device.{image_of}
 use Rattle.lvm_kept.specs.Contents.{Contents, contents_of}
 use Rattle.lvm_kept.specs.Examples.{mirror, two, either_of}
 use Rattle.lvm_kept.specs.Group.{fresh_on, is_named, names_if, IsOneOf}
-use Rattle.lvm_recover.specs.passed.Names.{Pair, pair_sizes, status_of, shown_by, there_by, media_of, even_pair, torn_pair, naming, NoneIsBehind, ShowsCommitted}
+use Rattle.lvm_recover.specs.passed.Names.{Pair, pair_sizes, status_of, shown_by, there_by, media_of, even_pair, torn_pair, naming, MissingAreStale, ShowsCommitted}
 use Rattle.lvm_recover.proofs.passed.Names.{both_copies, the_row, first_partition, told, behind, enough, is_naming, naming_read, shows, torn_below, valid}
 use Rattle.lvm_recovery.specs.declared.copying.Recopy.{Recopy}
 use Rattle.lvm_recovery.specs.Copying.{MayCopy}
@@ -107,9 +107,9 @@ no_copies c x none = record { each = λ one among. absurd among; all = λ one p.
 
 -- sector by sector
 on_disks : (sh : ShowsCommitted (contents_of (image_of pair_sizes (media_of torn))) (two Active) (status_of torn).value (there_by torn))
-    × NoneIsBehind (contents_of (image_of pair_sizes (media_of torn))) (two Active) (Some sh.stands) (there_by torn)
+    × MissingAreStale (contents_of (image_of pair_sizes (media_of torn))) (two Active) (Some sh.stands) (there_by torn)
     × ArePlanned (contents_of (image_of pair_sizes (media_of torn))) (two Active) (Some sh.stands) (there_by torn) (first_to_second ∷ [])
-on_disks = subst (λ (c : Contents). (sh : ShowsCommitted c (two Active) (status_of torn).value (there_by torn)) × NoneIsBehind c (two Active) (Some sh.stands) (there_by torn) × ArePlanned c (two Active) (Some sh.stands) (there_by torn) (first_to_second ∷ []))
+on_disks = subst (λ (c : Contents). (sh : ShowsCommitted c (two Active) (status_of torn).value (there_by torn)) × MissingAreStale c (two Active) (Some sh.stands) (there_by torn) × ArePlanned c (two Active) (Some sh.stands) (there_by torn) (first_to_second ∷ []))
     (sym (told torn torn_below)) (shows torn, behind torn, named)
 
 zeros_name : (t : Bool) (lv group : ℕ) → names_if (if t then note_in zero_sector else None) lv group ≡ false

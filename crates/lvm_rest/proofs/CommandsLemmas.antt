@@ -18,20 +18,20 @@ use Rattle.lvm_vol.specs.declared.entry.Vol.TheVariants.{Lv}
 use Rattle.lvm_vol.specs.Facts.{Fact, Cut}
 use Rattle.lvm_vol.specs.May.{known, IsValue}
 use Rattle.lvm_kept.specs.Contents.{Contents}
-use Rattle.lvm_kept.specs.Group.{passes, is_of, IsFound, members_in, ReadsBy, Reads, status_by, is_stale_by, fresh_on, block_at, IsBlockOf, is_named, IsOneOf, IsSome, HoldOne}
+use Rattle.lvm_kept.specs.Group.{passes, is_of, IsFound, members_in, ReadsBy, ReadsGroup, status_by, is_stale_by, fresh_on, block_at, IsBlockOf, is_named, IsOneOf, IsSome, HoldOne}
 use Rattle.lvm_kept.specs.Kept.{MayDiffer, IsBlockKept, BlocksKept, Kept}
 use Rattle.lvm_kept.specs.Committed.{IsWithinDisks}
 use Rattle.lvm_kept.specs.Changes.{Serves}
 use Rattle.lvm_kept.specs.Torn.{StatusesChange}
 use Rattle.lvm_kept.proofs.CommittedLemmas.Finding.{finding_reads}
 use Rattle.lvm_commit.proofs.passed.Names.{clash, serving, put_keeps, member_of_parts}
-use Rattle.lvm_commit.specs.passed.Names.{IsServed}
+use Rattle.lvm_commit.specs.passed.Names.{VolumeIsServed}
 use Rattle.lvm_commit.specs.Committed.{ShowsCommitted}
 use Rattle.lvm_commit.specs.Laws.{IsLaterStatus}
 use Rattle.lvm_commit.proofs.LawsOfDataLemmas.Free.{none_stands}
 use Rattle.lvm_commit.proofs.LawsLemmas.Found.{shows_group, only_found, status_read}
 use Rattle.lvm_crash.proofs.GroupLemmas.Lists.{left_of, right_of, both_of, not_so, of_passing, one_passes}
-use Rattle.lvm_rest.specs.Rest.{IsEven, NoneIsBehind}
+use Rattle.lvm_rest.specs.Rest.{IsEven, MissingAreStale}
 use Rattle.lvm_rest.specs.Commands.{IsUsable, KeepsCopies, IsUniform, EvenStays, FreeKeepsEven, BehindStays, HasCopiesOf, CopiesServe, MayClean, CleaningFollows}
 use Rattle.lvm_rest.proofs.Rows.{at_passing, some_passing, none_passing, passes_none}
 
@@ -109,7 +109,7 @@ module _ (c : Contents) (group : Descriptor) (status : Status) (there : Disks) (
   by_all : ReadsBy c all_disks group.id group
   by_all = finding_reads c all_disks group.id group shows.found
 
-  read_by : (b : Disks) (k : Descriptor) → Reads c b group.id k → status_by c b group.id k ≡ stands
+  read_by : (b : Disks) (k : Descriptor) → ReadsGroup c b group.id k → status_by c b group.id k ≡ stands
   read_by b k reads = status_read c group status there shows facts within enough kept b k reads
 
   blocks_of : BlocksKept c facts group members stands
@@ -155,7 +155,7 @@ module _ (c : Contents) (group : Descriptor) (status : Status) (there : Disks) (
         (λ p copy use_. (has.copies lp p copy (sym (committed_stale p) ∙ (usable_of stands members p use_).fresh), use_))
         (λ is d. subst (λ (n : ℕ). MayDiffer c stands n Passive [] (known (facts ++ Cut ∷ []) (Lv row.number) b) b) (sym has.number) d)
 
-    pub served : IsServed c facts group row
+    pub served : VolumeIsServed c facts group row
     served = record {
       status = λ b k reads. ap is_some (read_by b k reads);
       blocks = λ b k reads lp n inside. subst (λ (o : Option (Stamped Status)). IsBlockKept c group.mib o row (fresh_on members o row lp) (known (facts ++ Cut ∷ []) (Lv row.number) n) n) (sym (read_by b k reads)) (served_here lp n inside);
@@ -186,7 +186,7 @@ module _ (c : Contents) (group : Descriptor) (status : Status) (there : Disks) (
     pub followed : Kept new facts
     followed = put_keeps c id next facts targets new change own showing later serves kept
 
-  module _ (next : Stamped Status) (may : MayClean group shows.stands there next.value) (even : IsEven c group stands there) (none_behind : NoneIsBehind c group stands there) where
+  module _ (next : Stamped Status) (may : MayClean group shows.stands there next.value) (even : IsEven c group stands there) (none_behind : MissingAreStale c group stands there) where
     same_usable : (row : LvRow) (lp : ℕ) (p : Pp) → IsOneOf group.lvs row → IsOneOf (copies_of row lp) p → IsTrue (passing (Some next) members p) → IsTrue (passing stands members p)
     same_usable row lp p one copy use_ = let u = usable_of (Some next) members p use_ in passing_of stands members p (record { in_there = u.in_there; fresh = sym (may.stale row lp p one copy) ∙ u.fresh })
 

@@ -3,11 +3,11 @@ use Rattle.std.proofs.Common.{◌≡◌, inl, inr, ℕ, Bool, true, false, ◌&&
 use Rattle.std.specs.Prelude.{IsTrue}
 use Rattle.lvm_num.specs.Buffer.{Sector}
 use Rattle.lvm_vol.specs.declared.entry.Vol.{Vol}
-use Rattle.lvm_vol.specs.Facts.{Request, Fact, Cut, Stands, block_of}
+use Rattle.lvm_vol.specs.Facts.{Request, Fact, Cut, IsInList, block_of}
 use Rattle.lvm_vol.specs.May.{Known, known, cut, also, is_off, is_some_open, IsValue}
 use Rattle.lvm_vol.proofs.LawsLemmas.Knowing.{known-push}
 
-stands_alone : (x : Sector) (xs : List Sector) → Stands x (xs ++ []) → Stands x xs
+stands_alone : (x : Sector) (xs : List Sector) → IsInList x (xs ++ []) → IsInList x xs
 stands_alone x [] h = h
 stands_alone x (y ∷ ys) (inl is) = inl is
 stands_alone x (y ∷ ys) (inr there) = inr (stands_alone x ys there)

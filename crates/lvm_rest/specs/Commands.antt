@@ -16,12 +16,12 @@ use Rattle.lvm_kept.specs.Group.{is_stale_by, fresh_on, block_at, IsBlockOf, IsO
 use Rattle.lvm_kept.specs.Committed.{IsWithinDisks}
 use Rattle.lvm_kept.specs.Kept.{Kept}
 use Rattle.lvm_kept.specs.Torn.{StatusesChange}
-use Rattle.lvm_commit.specs.passed.Names.{IsServed}
+use Rattle.lvm_commit.specs.passed.Names.{VolumeIsServed}
 use Rattle.lvm_commit.specs.Committed.{ShowsCommitted}
 use Rattle.lvm_commit.specs.Laws.{IsLaterStatus}
 use Rattle.lvm_crash.specs.Session.{members_showing}
 use Rattle.lvm_commit.specs.LawsOfData.{IsFree, IsSectorOf}
-use Rattle.lvm_rest.specs.Rest.{IsEven, NoneIsBehind}
+use Rattle.lvm_rest.specs.Rest.{IsEven, MissingAreStale}
 
 -- the copy is on one of these disks, and the status calls it fresh
 pub record IsUsable (status : Option (Stamped Status)) (there : Disks) (p : Pp) : Type 0 where
@@ -64,7 +64,7 @@ BehindStays = (old new : Contents) (group : Descriptor) (was is : Option (Stampe
     → ((d : ℕ) → members_showing new group d ≡ members_showing old group d) → ((d : ℕ) → IsTrue (after d) → IsTrue (before d))
     → ((row : LvRow) (lp : ℕ) (p : Pp) → IsOneOf group.lvs row → IsOneOf (copies_of row lp) p → IsFalse (is_stale_by is p) → IsFalse (is_stale_by was p))
     → ((row : LvRow) (lp : ℕ) (p : Pp) → IsOneOf group.lvs row → lp < row.lps → IsOneOf (copies_of row lp) p → IsTrue (before p.disk) → IsFalse (after p.disk) → IsFalse (is_stale_by is p) → fresh_on after is row lp ≡ [])
-    → NoneIsBehind old group was before → NoneIsBehind new group is after
+    → MissingAreStale old group was before → MissingAreStale new group is after
 
 -- ---- a descriptor in which a volume has other copies
 
@@ -82,7 +82,7 @@ pub record HasCopiesOf (c : Contents) (group : Descriptor) (status : Status) (ro
 -- So its blocks are served, and the descriptor with it may be committed.
 abbrev pub CopiesServe : Type 0
 CopiesServe = (c : Contents) (group : Descriptor) (status : Status) (there : Disks) (facts : List Fact) (row : LvRow)
-    → IsWithinDisks c → CanWrite group there → ShowsCommitted c group status there → HasCopiesOf c group status row → Kept c facts → IsServed c facts group row
+    → IsWithinDisks c → CanWrite group there → ShowsCommitted c group status there → HasCopiesOf c group status row → Kept c facts → VolumeIsServed c facts group row
 
 -- ---- a status with fewer dirty marks
 
@@ -96,5 +96,5 @@ pub record MayClean (group : Descriptor) (stands : Stamped Status) (there : Disk
 abbrev pub CleaningFollows : Type 0
 CleaningFollows = (group : Descriptor) (status : Status) (there targets : Disks) (next : Stamped Status) (old new : Contents) (facts : List Fact)
     → IsWithinDisks old → CanWrite group there → (shows : ShowsCommitted old group status there) → ((d : ℕ) → IsTrue (targets d) → IsTrue (there d))
-    → next.value.id ≡ group.id → MayClean group shows.stands there next.value → IsEven old group (Some shows.stands) there → NoneIsBehind old group (Some shows.stands) there
+    → next.value.id ≡ group.id → MayClean group shows.stands there next.value → IsEven old group (Some shows.stands) there → MissingAreStale old group (Some shows.stands) there
     → IsLaterStatus old group next → StatusesChange targets next old new → Kept old facts → Kept new facts

@@ -25,7 +25,7 @@ use Rattle.lvm_invariant.specs.Found.{Votes}
 use Rattle.lvm_invariant.specs.Good.{Good}
 use Rattle.lvm_crash.specs.Session.{AreVotesOf}
 use Rattle.lvm_crash.specs.Flights.{Matches}
-use Rattle.lvm_rest.specs.Rest.{AreClosed, IsAtRest}
+use Rattle.lvm_rest.specs.Rest.{AreClosed, HoldsAtRest}
 
 -- ---- the disks
 
@@ -136,7 +136,7 @@ pub record IsRestingPair (pair : Pair) (facts : List Fact) : Type 0 where
   pub enough : CanWrite (two pair.mode) (there_by pair)
   pub shows : ShowsCommitted (shown_by pair) (two pair.mode) (status_of pair).value (there_by pair)
   pub closed : AreClosed facts (two pair.mode)
-  pub at_rest : IsAtRest (shown_by pair) facts (two pair.mode) (Some shows.stands) (there_by pair)
+  pub at_rest : HoldsAtRest (shown_by pair) facts (two pair.mode) (Some shows.stands) (there_by pair)
   pub good : (votes : Votes) → AreVotesOf (two pair.mode) votes → (s : ModelState) × (s.facts ≡ facts) × Good votes s × Matches s s.facts (two pair.mode) None (device_of pair) (media_of pair)
 
 -- So it is in each mode: active with a note at home and without, passive and clean or dirty, and off; also where a member is lost, and after a cut while

@@ -16,12 +16,12 @@ use Rattle.lvm_invariant.specs.Found.{Votes}
 use Rattle.lvm_invariant.specs.Good.{Good}
 use Rattle.lvm_crash.specs.Session.{AreVotesOf, Describes}
 use Rattle.lvm_crash.specs.Flights.{Matches}
-use Rattle.lvm_rest.specs.Rest.{IsIdle, SeesThat, AreClosed, IsAtRest}
+use Rattle.lvm_rest.specs.Rest.{IsModelAtRest, SeesThat, AreClosed, HoldsAtRest}
 
 -- For each group there is a state at which nothing is under way that sees what stands on its disks.
 abbrev pub RestIsSeen : Type 0
 RestIsSeen = (facts : List Fact) (group : Descriptor) (stands : Stamped Status) (there : Disks) (c : Contents)
-    → IsValid group → (s : ModelState) × (s.facts ≡ facts) × IsIdle s × SeesThat s group stands there c
+    → IsValid group → (s : ModelState) × (s.facts ≡ facts) × IsModelAtRest s × SeesThat s group stands there c
 
 -- Where nothing is under way, the state sees what stands on the disks, these show what is committed to members with votes enough to write, and
 -- they are at rest with the history, in which no write is open: the state is good and describes them.
@@ -29,7 +29,7 @@ abbrev pub RestIsGood : Type 0
 RestIsGood =
     (votes : Votes) (s : ModelState) (group : Descriptor) (status : Status) (there : Disks) (c : Contents)
     → AreVotesOf group votes → IsValid group → IsWithinDisks c → CanWrite group there → (shows : ShowsCommitted c group status there)
-    → IsIdle s → SeesThat s group shows.stands there c → AreClosed s.facts group → IsAtRest c s.facts group (Some shows.stands) there
+    → IsModelAtRest s → SeesThat s group shows.stands there c → AreClosed s.facts group → HoldsAtRest c s.facts group (Some shows.stands) there
     → Good votes s × Describes s s.facts group None c
 
 -- And the other way round.
@@ -37,8 +37,8 @@ abbrev pub GoodIsRest : Type 0
 GoodIsRest =
     (votes : Votes) (s : ModelState) (group : Descriptor) (status : Status) (there : Disks) (c : Contents)
     → AreVotesOf group votes → IsValid group → IsWithinDisks c → (shows : ShowsCommitted c group status there)
-    → IsIdle s → SeesThat s group shows.stands there c → Good votes s → Describes s s.facts group None c
-    → IsAtRest c s.facts group (Some shows.stands) there
+    → IsModelAtRest s → SeesThat s group shows.stands there c → Good votes s → Describes s s.facts group None c
+    → HoldsAtRest c s.facts group (Some shows.stands) there
 
 -- On a shelf at which nothing is out the state then matches it.
 abbrev pub StillMatches : Type 0
@@ -52,6 +52,6 @@ RestMatches =
     (votes : Votes) (s : ModelState) (group : Descriptor) (status : Status) (there : Disks) (device : Device) (media : Media)
     → device.media ≡ Some media → device.flights ≡ [] → AreVotesOf group votes → IsValid group → CanWrite group there
     → (shows : ShowsCommitted (contents_of (image_of device.sizes media)) group status there)
-    → IsIdle s → SeesThat s group shows.stands there (contents_of (image_of device.sizes media)) → AreClosed s.facts group
-    → IsAtRest (contents_of (image_of device.sizes media)) s.facts group (Some shows.stands) there
+    → IsModelAtRest s → SeesThat s group shows.stands there (contents_of (image_of device.sizes media)) → AreClosed s.facts group
+    → HoldsAtRest (contents_of (image_of device.sizes media)) s.facts group (Some shows.stands) there
     → Good votes s × Matches s s.facts group None device media

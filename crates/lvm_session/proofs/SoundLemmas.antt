@@ -9,7 +9,7 @@ use Rattle.lvm_session.specs.State.{State}
 use Rattle.lvm_session.specs.Judging.{copies_in}
 use Rattle.lvm_session.specs.Causes.{AreCounted, IsAnswered, IsCausedAmong, IsTrueToOrigin, is_over}
 use Rattle.lvm_session.specs.Placed.{ArePlaced}
-use Rattle.lvm_session.specs.Sound.{IsFitting, IsLit, IsOn, IsSound, IsTold, count_if, is_dark, out_with}
+use Rattle.lvm_session.specs.Sound.{IsFitting, HasPower, IsOn, IsSound, IsTold, count_if, is_dark, out_with}
 
 on_is_not_off : {X : Type 0} → power.On ≡ power.Off → X
 on_is_not_off e = absurd cc
@@ -24,7 +24,7 @@ pub record HasCauses (s : State) : Type 0 where
   pub copy : IfSome s.core.copy (λ (c : OpenCopy). IsCausedAmong s (copies_in s.core.descriptor c.lv c.lp) c)
   pub origin : IsTrueToOrigin s
 
-pub sound_while_on : (s : State) → s.core.power ≡ power.On → IsLit s.device → IsFitting s.core → IsTold s.core → ArePlaced s.device.sizes s.core.descriptor s.core.origin.table
+pub sound_while_on : (s : State) → s.core.power ≡ power.On → HasPower s.device → IsFitting s.core → IsTold s.core → ArePlaced s.device.sizes s.core.descriptor s.core.origin.table
     → ((n : ℕ) → out_with s.device s.core n ≡ count_if (slice_index_or s.core.pool n false)) → IsOn s → HasCauses s → IsSound s
 sound_while_on s on lit fitting told placed out while causes = record {
   fitting = fitting;

@@ -72,8 +72,8 @@ abbrev pub AreCounted : State → Open → Type 0
 AreCounted s o = AllByRecursion (IsCounted s) o.request.targets.items
 
 -- the disk of the target has failed since it was chosen
-abbrev pub HasFailed : Device → Target → Type 0
-HasFailed device t = Rose t.faults (device.counts.faults t.pp.disk)
+abbrev pub TargetHasFailed : Device → Target → Type 0
+TargetHasFailed device t = Rose t.faults (device.counts.faults t.pp.disk)
 
 -- a write that hasn't landed has failed on this partition
 abbrev pub fails_on : Pp → Open → Bool
@@ -85,7 +85,7 @@ is_blamed core p = is_missing core p.disk || is_wanted_stale core p || is_held_s
 
 -- What is held against a target of a request that hasn't landed came by a fault of its disk since it was chosen.
 abbrev pub IsCaused : Device → Core → Target → Type 0
-IsCaused device core t = is_failed t.state || (t.usable && is_blamed core t.pp) ≡ true → HasFailed device t
+IsCaused device core t = is_failed t.state || (t.usable && is_blamed core t.pp) ≡ true → TargetHasFailed device t
 
 -- so it is for each target, until the request lands
 abbrev pub AreCaused : Device → Core → Open → Type 0
@@ -150,8 +150,8 @@ had_usable o = list_any (λ (t : Target). t.usable) o.request.targets.items
 abbrev pub IsLandedFor : State → Open → Outcome → Type 0
 IsLandedFor s o outcome.Done = Unit {0}
 IsLandedFor s o outcome.Got = Unit {0}
-IsLandedFor s o outcome.Lost = (had_usable o ≡ true) × AllByRecursion (λ (t : Target). t.usable ≡ true → HasFailed s.device t) o.request.targets.items
-IsLandedFor s o outcome.ReadFailed = (had_usable o ≡ true) × AllByRecursion (λ (t : Target). (is_failed t.state ≡ true) × HasFailed s.device t) o.request.targets.items
+IsLandedFor s o outcome.Lost = (had_usable o ≡ true) × AllByRecursion (λ (t : Target). t.usable ≡ true → TargetHasFailed s.device t) o.request.targets.items
+IsLandedFor s o outcome.ReadFailed = (had_usable o ≡ true) × AllByRecursion (λ (t : Target). (is_failed t.state ≡ true) × TargetHasFailed s.device t) o.request.targets.items
 IsLandedFor s o outcome.NoFresh = AnyFailedSince s ⊎ (list_any (was_usable s.core) (copies_for s.core o.request.ask) ≡ false)
 IsLandedFor s o outcome.Off = (is_over s.core.power ≡ true) × (is_lost s.core ≡ true)
 IsLandedFor s o outcome.Dark = s.core.power ≡ power.Dark

@@ -151,16 +151,16 @@ abbrev pub with_step : Core → OpenCopy → Core
 with_step core c = record (with_copy core c) { queue = record core.queue { rows = core.queue.rows ++ step_row core c ∷ [] } }
 
 -- all is copied, and it is to be cleared; or its next step enters the queue
-abbrev pub GoesOn : Bool → Core → OpenCopy → Core → Type 0
-GoesOn false core c next = next ≡ with_step core c
-GoesOn true core c next = WantsFresh c.pp core.status next.status × (next ≡ record (with_copy core c) { status = next.status })
+abbrev pub CopyStepsOn : Bool → Core → OpenCopy → Core → Type 0
+CopyStepsOn false core c next = next ≡ with_step core c
+CopyStepsOn true core c next = WantsFresh c.pp core.status next.status × (next ≡ record (with_copy core c) { status = next.status })
 
 -- the track group is copied: the next one follows, or the clearing
 pub record PassesGroup (core : Core) (at : ℕ) (c : OpenCopy) (buf : Buffer) (new : Core) : Type 0 where
   pub next : OpenCopy
   pub moves : MovesOn core c next
   pub on : Core
-  pub goes : GoesOn (is_whole core next) (without_step (with_return core at buf) c) next on
+  pub goes : CopyStepsOn (is_whole core next) (without_step (with_return core at buf) c) next on
   pub reviews : Reviews on new
 
 -- what comes of a transfer, by what it was for and how it ended

@@ -20,7 +20,7 @@ use Rattle.lvm_hold.specs.Waiting.{without}
 use Rattle.lvm_path.specs.passed.Names.{IsReadOrder}
 use Rattle.lvm_mwc.specs.Entries.{note_of}
 use Rattle.lvm_mwc.specs.Cache.{Cached, after_pin, after_unpin, after_start}
-use Rattle.lvm_status.specs.Update.{Stored, seen, MayStart}
+use Rattle.lvm_status.specs.Update.{Stored, seen, MayStartUpdate}
 use Rattle.lvm_status.specs.Calls.{with_update, with_start as with_write_start}
 use Rattle.lvm_kept.specs.Contents.{note_sector}
 use Rattle.lvm_path.specs.declared.facts.Next.TheVariants as next
@@ -176,8 +176,8 @@ with_flight core f owner = record core { flying = core.flying ++ flown f.ticket 
 -- ---- StartStatus
 
 -- an update is put in flight where none is
-abbrev pub Begins : Stored → Stored → Type 0
-Begins old begun = ((old.in_flight ≡ None → ⊥) × (begun ≡ old)) ⊎ (MayStart (seen old) × (seen begun ≡ with_update (seen old)))
+abbrev pub PutsInFlight : Stored → Stored → Type 0
+PutsInFlight old begun = ((old.in_flight ≡ None → ⊥) × (begun ≡ old)) ⊎ (MayStartUpdate (seen old) × (seen begun ≡ with_update (seen old)))
 
 -- The write of the status in flight to a disk, under its stamp.
 pub record IsStatusWrite (core : Core) (status : Status) (disk : ℕ) (f : Flight) : Type 0 where
@@ -191,7 +191,7 @@ pub record IsStatusWrite (core : Core) (status : Status) (disk : ℕ) (f : Fligh
 pub record StartsStatus (old new : State) : Type 0 where
   pub due : is_status_due old.core ≡ true
   pub begun : Stored
-  pub begins : Begins old.core.status begun
+  pub begins : PutsInFlight old.core.status begun
   pub disk : ℕ
   pub lowest : IsLowest (seen begun).unstarted (Some disk)
   pub started : seen new.core.status ≡ with_write_start (seen begun) (Some disk)

@@ -61,7 +61,7 @@ abbrev pub policy_of : Core → Ask → Policy
 policy_of core ask = option_map_or (λ (row : LvRow). row.policy) (volume_of core.descriptor (lv_of ask)) policy.Parallel
 
 -- its blocks are blocks of its volume
-pub record IsWithin (d : Descriptor) (ask : Ask) : Type 0 where
+pub record IsWithinVolume (d : Descriptor) (ask : Ask) : Type 0 where
   pub row : LvRow
   pub volume : volume_of d (lv_of ask) ≡ Some row
   pub within : at_of ask + count_of ask ≤ volume_blocks d.mib row.lps

@@ -18,7 +18,7 @@ use Rattle.lvm_path.specs.Asks.{lv_of, at_of, is_write}
 use Rattle.lvm_path.specs.Targets.{is_done, is_failed, is_begun, are_over}
 use Rattle.lvm_session.specs.declared.open.Open.{Open}
 use Rattle.lvm_session.specs.State.{Core}
-use Rattle.lvm_session.specs.Judging.{IsWithin, is_waiting, copies_for, mode_of, group_in, is_caught, is_settled, is_wanted_stale, is_sure, is_sure_at, is_kept, places_for, place_aims, is_held_back, held_of, has_names, has_dirty_mark, pps_of}
+use Rattle.lvm_session.specs.Judging.{IsWithinVolume, is_waiting, copies_for, mode_of, group_in, is_caught, is_settled, is_wanted_stale, is_sure, is_sure_at, is_kept, places_for, place_aims, is_held_back, held_of, has_names, has_dirty_mark, pps_of}
 pub use Rattle.lvm_session.specs.Judging.{is_past_held}
 use Rattle.lvm_session.specs.Enabled.{wants_record}
 use Rattle.lvm_session.specs.Marks.{is_among}
@@ -113,7 +113,7 @@ is_wanted_dirty core mode.Passive ask = calls_dirty core.status.wanted (lv_of as
 is_wanted_dirty core mode.Off ask = true
 
 -- Once it is admitted no earlier request is in its way, and with two targets or more it has the records that its volume keeps.
-pub record IsReady (core : Core) (r : Request) : Type 0 where
+pub record MayBeServed (core : Core) (r : Request) : Type 0 where
   pub free : is_past_held r.phase ≡ true → is_held_back core r ≡ false
   pub recorded : IsRecorded (mode_for core r.ask) r.phase r
   pub wanted : is_past_held r.phase ≡ true → 2 ≤ length r.targets.items → is_wanted_dirty core (mode_for core r.ask) r.ask ≡ true
@@ -167,7 +167,7 @@ pub record IsJudged (core : Core) (o : Open) : Type 0 where
 -- one that hasn't landed
 pub record IsRequest (core : Core) (o : Open) : Type 0 where
   pub shape : IsShaped core o
-  pub ready : IsReady core o.request
+  pub ready : MayBeServed core o.request
   pub judged : is_write o.request.ask ≡ true → IsJudged core o
 
 -- one that has landed has nothing in hand and holds no pin
@@ -179,7 +179,7 @@ pub record IsLanded (o : Open) : Type 0 where
 
 -- A request lies in one track group of a volume, and has at most four targets.
 pub record IsLaid (core : Core) (r : Request) : Type 0 where
-  pub within : IsWithin core.descriptor r.ask
+  pub within : IsWithinVolume core.descriptor r.ask
   pub blocks : IsInGroup (held_of r.ask)
   pub most : length r.targets.items ≤ 4
   pub id : r.id < 2 ^ 32

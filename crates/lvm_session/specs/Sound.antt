@@ -262,7 +262,7 @@ is_dark power.Dark = true
 is_dark power.Stuck = false
 
 -- the shelf while the session isn't dark
-pub record IsLit (device : Device) : Type 0 where
+pub record HasPower (device : Device) : Type 0 where
   pub power : device.power ≡ true
   pub freed : device.freed ≡ []
 
@@ -293,7 +293,7 @@ pub record IsSound (s : State) : Type 0 where
   pub buffers : (n : ℕ) → out_with s.device s.core n ≤ count_if (slice_index_or s.core.pool n false)
   pub none_lost : is_dark s.core.power ≡ false → (n : ℕ) → out_with s.device s.core n ≡ count_if (slice_index_or s.core.pool n false)
   pub on : s.core.power ≡ power.On → IsOn s
-  pub lit : is_dark s.core.power ≡ false → IsLit s.device
+  pub lit : is_dark s.core.power ≡ false → HasPower s.device
   pub dark : is_dark s.core.power ≡ true → IsDark s.device
   -- it is off where the members that aren't missing have too few votes to write
   pub off : s.core.power ≡ power.Off → is_lost s.core ≡ true

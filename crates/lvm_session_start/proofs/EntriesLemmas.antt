@@ -21,12 +21,12 @@ use Rattle.lvm_status.specs.Runs.{SetStamp, IsSoundStatus}
 use Rattle.lvm_status.specs.Update.{Updates, seen}
 use Rattle.lvm_status.proofs.RunsLemmas.Sound.{first_is_sound, steps_stay_sound}
 use Rattle.lvm_keeps.specs.passed.Names.{Homes, Open, Core, state, faults_at_first, IsFitting, IsSound}
-use Rattle.lvm_keeps.specs.Begins.{Begins}
+use Rattle.lvm_keeps.specs.Begins.{SessionBegins}
 use Rattle.lvm_keeps.proofs.BeginsLemmas.{beginning_is_sound}
 use Rattle.lvm_keeps.proofs.SoundLemmas.Telling.{open_still}
 use Rattle.lvm_session_start.specs.declared.parts.Parts.{Parts}
 use Rattle.lvm_session_start.specs.Parts.{IsEmptyCache, IsReserved}
-use Rattle.lvm_session_start.specs.Beginning.{AreFaults, MayBegin, first_core}
+use Rattle.lvm_session_start.specs.Beginning.{AreFaults, MayBeginSession, first_core}
 
 -- ---- an empty cache
 
@@ -67,7 +67,7 @@ none_asked count disk = zeros 128 disk ∙ sym (ap (λ b. if b then count disk e
 pub pool_size : (p : Parts) → IsReserved p.descriptor p.table p.room p → length p.pool ≡ p.room.pool
 pool_size p its = ap length its.pool ∙ length-replicate p.room.pool false
 
-module _ (device : Device) (history : Log) (stamp : Stamp) (homes : Homes) (p : Parts) (may : MayBegin device history stamp homes p) (faults : List ℕ) (are : AreFaults device faults) where
+module _ (device : Device) (history : Log) (stamp : Stamp) (homes : Homes) (p : Parts) (may : MayBeginSession device history stamp homes p) (faults : List ℕ) (are : AreFaults device faults) where
   abbrev core : Core
   core = first_core p history stamp homes faults
 
@@ -105,7 +105,7 @@ module _ (device : Device) (history : Log) (stamp : Stamp) (homes : Homes) (p : 
       by_test true = omega arith
       by_test false = omega arith
 
-  begins : Begins (state device core)
+  begins : SessionBegins (state device core)
   begins = record {
     fitting = fitting;
     ordered = ordered-push history.run [] history.facts (On stamp.epoch) may.ordered tt;

@@ -9,7 +9,7 @@ use Rattle.lvm_vol.specs.Facts.{On}
 use Rattle.lvm_vol.specs.Log.{Log, is_open, with_fact}
 use Rattle.lvm_vol.specs.Order.{Ordered}
 use Rattle.lvm_status.specs.Update.{members_there}
-use Rattle.lvm_keeps.specs.passed.Names.{Homes, Core, is_entailed, updates_left, ArePlaced, IsLit}
+use Rattle.lvm_keeps.specs.passed.Names.{Homes, Core, is_entailed, updates_left, ArePlaced, HasPower}
 use Rattle.lvm_keeps.specs.passed.SessionOpenPower as power
 use Rattle.lvm_session_start.specs.declared.parts.Parts.{Parts}
 use Rattle.lvm_session_start.specs.Parts.{IsOneGroup, IsReserved, IsSessionRoom}
@@ -44,7 +44,7 @@ first_core p history stamp homes faults = with_parts (record p { updater = recor
 
 -- A session may begin over a shelf at rest, on which the members are that its status doesn't call missing, with votes enough to write, a history all of whose
 -- requests have landed, nothing that missing disks would entail, and numbers for the updates that may follow.
-pub record MayBegin (device : Device) (history : Log) (stamp : Stamp) (homes : Homes) (p : Parts) : Type 0 where
+pub record MayBeginSession (device : Device) (history : Log) (stamp : Stamp) (homes : Homes) (p : Parts) : Type 0 where
   pub reserved : IsReserved p.descriptor p.table p.room p
   pub room : IsSessionRoom p.room
   pub valid : IsValid p.descriptor
@@ -52,7 +52,7 @@ pub record MayBegin (device : Device) (history : Log) (stamp : Stamp) (homes : H
   pub ordered : Ordered history.run [] history.facts
   pub landed : (id : ℕ) → is_open history.facts id ≡ false
   pub few : history.room < 2 ^ 32
-  pub lit : IsLit device
+  pub lit : HasPower device
   pub idle : device.flights ≡ []
   pub placed : ArePlaced device.sizes p.descriptor p.table
   pub votes : is_enough_to_write p.descriptor (votes_in p.descriptor (members_there p.descriptor p.table)) ≡ true

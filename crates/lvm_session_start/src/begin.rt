@@ -2,7 +2,7 @@
 ghost use Rattle.std.specs.Prelude.{◌≡◌, ◌≤◌, vec_capacity};
 ghost use Rattle.lvm_vol.specs.Log.{spare_entries};
 ghost use Rattle.lvm_keeps.specs.passed.Names.{core_of, HasRooms, state, IsSound};
-ghost use Rattle.lvm_session_start.specs.Beginning.{AreFaults, MayBegin, first_core, with_parts};
+ghost use Rattle.lvm_session_start.specs.Beginning.{AreFaults, MayBeginSession, first_core, with_parts};
 ghost use Rattle.lvm_session_start.specs.Parts.{IsReserved};
 
 use crate::parts::Parts;
@@ -84,7 +84,7 @@ pub fn begin_session<S: Shelf>(
     homes: Homes,
 ) -> Session
     requires spare { 1 ≤ spare_entries history }
-    requires may { MayBegin (S.device shelf.now) history stamp homes parts }
+    requires may { MayBeginSession (S.device shelf.now) history stamp homes parts }
     ensures core { core_of result ≡ first_core parts history stamp homes result.origin.faults }
     ensures faults { AreFaults (S.device shelf.now) result.origin.faults }
     ensures sound { IsSound (state (S.device shelf.now) (core_of result)) }

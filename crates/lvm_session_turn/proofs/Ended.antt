@@ -34,7 +34,7 @@ use Rattle.lvm_session_turn.specs.Learning.{MayReturn}
 use Rattle.lvm_calls.specs.Ending.{CanEnd}
 use Rattle.lvm_calls.specs.Reviewing.{IsLocated, MayReview}
 use Rattle.lvm_calls.proofs.BringingLemmas.{markable}
-use Rattle.lvm_session_turn.specs.Ended.{HasEnded}
+use Rattle.lvm_session_turn.specs.Ended.{TransferHasEnded}
 pub use Rattle.lvm_num.proofs.Booleans.{first_holds as left, second_holds as right}
 use Rattle.lvm_num.proofs.Booleans.{same_itself}
 
@@ -93,7 +93,7 @@ hand_out pool number (Some buf) others few = (by_test (number == buf.number) ref
     by_test true is = absurd (let all = few buf.number in let two = ap count_if is in let most = at_most_one (slice_index_or pool buf.number false) in omega (arith, all, one, two, most))
     by_test false is = out_of (slice_set pool number false) buf.number (subst (λ (b : Bool). 1 ≤ count_if b) (sym (get_other pool number buf.number (eqb-false number buf.number is))) one_out)
 
-module _ (core : Core) (at : ℕ) (who : Owner) (number : ℕ) (ended : HasEnded core at who number) where
+module _ (core : Core) (at : ℕ) (who : Owner) (number : ℕ) (ended : TransferHasEnded core at who number) where
   pub within : at < length core.flying
   within = slice_get_within core.flying at ended.row ended.there
 

@@ -35,7 +35,7 @@ use Rattle.lvm_session.specs.Requests.{IsAimed, IsOpenOne, IsTarget}
 use Rattle.lvm_session.proofs.MovesLemmas.{move_of, move_partition, open_one, place_open}
 use Rattle.lvm_session_turn.proofs.Listing.{finds, some_there}
 use Rattle.lvm_calls.proofs.BringingLemmas.{markable}
-use Rattle.lvm_session_turn.specs.Ended.{HasEnded, HasId}
+use Rattle.lvm_session_turn.specs.Ended.{TransferHasEnded, HasId}
 use Rattle.lvm_session_turn.proofs.Ended.{among_all, by_copy, can_end, hand_back, hand_kept, left, right, was_out}
 
 -- ---- the first of a number
@@ -119,7 +119,7 @@ one_flies (x ∷ ts) (suc k) t there is = by_test (is_flying x.state) (one_flies
 
 -- ---- its targets can be marked
 
-module _ (core : Core) (at id target : ℕ) (number : ℕ) (ended : HasEnded core at (owner.Data id target) number) where
+module _ (core : Core) (at id target : ℕ) (number : ℕ) (ended : TransferHasEnded core at (owner.Data id target) number) where
   pub its_there : list_any (λ (o : Open). o.request.id == id) core.requests ≡ true
   its_there = some_has_it id target core.requests (was_out core at (owner.Data id target) number ended)
 

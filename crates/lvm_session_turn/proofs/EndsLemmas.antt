@@ -27,14 +27,14 @@ use Rattle.lvm_session.specs.declared.flown.Owner.TheVariants as owner
 use Rattle.lvm_session.specs.State.{Core}
 use Rattle.lvm_session.specs.Judging.{copies_in, is_running}
 use Rattle.lvm_session.specs.Bringing.{hand_of, is_out, is_whole, marked_by_end, step_place, with_end, is_called_stale}
-use Rattle.lvm_session.specs.Ends.{CopyLearns, FailsCopy, GoesOn, PassesGroup, StepLearns, StepLeaves, after_quit, with_copy, with_return, without_step}
+use Rattle.lvm_session.specs.Ends.{CopyLearns, FailsCopy, CopyStepsOn, PassesGroup, StepLearns, StepLeaves, after_quit, with_copy, with_return, without_step}
 use Rattle.lvm_session.specs.Marks.{Reviews, WantsStale}
 use Rattle.lvm_session_turn.proofs.passed.Names.{same_due, copies_in_are, place_of, markable}
 use Rattle.lvm_session_turn.specs.passed.Names.{IsOutIf, CanEnd, MayEndCopy, IsLocated, MayReview}
 use Rattle.lvm_session.specs.Sound.{IsCopy, IsReadFrom}
-use Rattle.lvm_session_turn.specs.Ended.{HasEnded}
+use Rattle.lvm_session_turn.specs.Ended.{TransferHasEnded}
 use Rattle.lvm_session_turn.proofs.Ended.{among_all, its_copy, its_place, was_out}
-use Rattle.lvm_session_turn.specs.Carried.{MayPass, Passes}
+use Rattle.lvm_session_turn.specs.Carried.{MayPass, CopyGoesOn}
 use Rattle.lvm_session_turn.proofs.WaitingLemmas.{left_before, left_room}
 
 -- ---- how far its cursor goes
@@ -57,14 +57,14 @@ size_below mib is =
 
 -- ---- as its transfer has ended
 
-pub its_open : (core : Core) (at number : ℕ) → HasEnded core at owner.Copy number → (c : OpenCopy) × (core.copy ≡ Some c)
+pub its_open : (core : Core) (at number : ℕ) → TransferHasEnded core at owner.Copy number → (c : OpenCopy) × (core.copy ≡ Some c)
 its_open core at number ended = by_copy core.copy refl (was_out core at owner.Copy number ended)
   where
     by_copy : (copy : Option OpenCopy) → core.copy ≡ copy → option_map_or (λ (d : OpenCopy). is_out d.step) copy false ≡ true → (c : OpenCopy) × (core.copy ≡ Some c)
     by_copy None is none = absurd (cc none)
     by_copy (Some c) is out = (c, is)
 
-module _ (core : Core) (at number : ℕ) (ended : HasEnded core at owner.Copy number) (c : OpenCopy) (is_open : core.copy ≡ Some c) where
+module _ (core : Core) (at number : ℕ) (ended : TransferHasEnded core at owner.Copy number) (c : OpenCopy) (is_open : core.copy ≡ Some c) where
   its : IsCopy core c
   its = its_copy core at owner.Copy number ended c is_open
 
@@ -121,11 +121,11 @@ module _ (core : Core) (at : ℕ) (c : OpenCopy) (buf : Buffer) where
   abbrev pub settled : Core
   settled = with_copy left (record c { step = step.Idle })
 
-  goes_same : (b : Bool) (next : OpenCopy) (on : Core) → GoesOn b settled next on → GoesOn b left next on
+  goes_same : (b : Bool) (next : OpenCopy) (on : Core) → CopyStepsOn b settled next on → CopyStepsOn b left next on
   goes_same true next on goes = goes
   goes_same false next on goes = goes
 
-  pub passes_group : (on new : Core) → Passes settled on → Reviews on new → PassesGroup core at c buf new
+  pub passes_group : (on new : Core) → CopyGoesOn settled on → Reviews on new → PassesGroup core at c buf new
   passes_group on new passes reviews =
       let same : record c { step = step.Idle } ≡ passes.copy = (let e : ◌≡◌ {A = Option OpenCopy} (Some (record c { step = step.Idle })) (Some passes.copy) = passes.is_open in cc e) in
       record {
@@ -158,7 +158,7 @@ pub record IsOnWith (core : Core) (next : OpenCopy) (on : Core) : Type 0 where
   pub sound : IsSoundStatus (seen on.status)
   pub rows : HasItsRows core.descriptor on.status.wanted
 
-pub goes_on : (core : Core) (next : OpenCopy) (on : Core) (b : Bool) → IsSoundStatus (seen core.status) → HasItsRows core.descriptor core.status.wanted → GoesOn b core next on → IsOnWith core next on
+pub goes_on : (core : Core) (next : OpenCopy) (on : Core) (b : Bool) → IsSoundStatus (seen core.status) → HasItsRows core.descriptor core.status.wanted → CopyStepsOn b core next on → IsOnWith core next on
 goes_on core next on true sound rows goes = record {
   descriptor = ap (λ (x : Core). x.descriptor) goes.1;
   copy = ap (λ (x : Core). x.copy) goes.1;
@@ -172,7 +172,7 @@ goes_on core next on false sound rows goes = record {
   rows = subst (λ (x : Core). HasItsRows core.descriptor x.status.wanted) (sym goes) rows;
 }
 
-module _ (core : Core) (at number : ℕ) (ended : HasEnded core at owner.Copy number) (c : OpenCopy) (is_open : core.copy ≡ Some c) (buf : Buffer) where
+module _ (core : Core) (at number : ℕ) (ended : TransferHasEnded core at owner.Copy number) (c : OpenCopy) (is_open : core.copy ≡ Some c) (buf : Buffer) where
   pub may_pass : MayPass (settled core at c buf)
   may_pass =
       let copy = its_copy core at owner.Copy number ended c is_open in
@@ -187,7 +187,7 @@ module _ (core : Core) (at number : ℕ) (ended : HasEnded core at owner.Copy nu
         markable = its_markable core at number ended c is_open core.status ended.going.fitting.rows;
       }
 
-  pub reviewed_after : (on : Core) → Passes (settled core at c buf) on → MayReview on
+  pub reviewed_after : (on : Core) → CopyGoesOn (settled core at c buf) on → MayReview on
   reviewed_after on passes =
       let same : record c { step = step.Idle } ≡ passes.copy = (let e : ◌≡◌ {A = Option OpenCopy} (Some (record c { step = step.Idle })) (Some passes.copy) = passes.is_open in cc e) in
       let next = passes.moves.is ∙ ap (λ (d : OpenCopy). record d { cursor = d.cursor + 1; step = step.Idle; tried = passes.next.tried; place = step_place core }) (sym same) in

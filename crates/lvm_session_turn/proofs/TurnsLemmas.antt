@@ -15,7 +15,7 @@ use Rattle.lvm_session.specs.Ends.{EndsAs, Returns}
 use Rattle.lvm_session.specs.Turns.{Darkens, FinishMakes}
 use Rattle.lvm_session.specs.Owners.{AreRows}
 use Rattle.lvm_session.specs.Sound.{IsSound, count_if, has_number}
-use Rattle.lvm_session_turn.specs.Ended.{HasEnded}
+use Rattle.lvm_session_turn.specs.Ended.{TransferHasEnded}
 use Rattle.lvm_session_turn.specs.Finishing.{Rests}
 
 -- ---- the list is that of the flights
@@ -52,7 +52,7 @@ was_out old new ticket buf true ends = record { before = ends.flights.before; af
 was_out old new ticket buf false ends = record { before = ends.flights.before; after = ends.flights.after; flight = ends.flight; was = ends.flights.was; its = ends.number }
 
 pub has_ended : (s : State) (device : Device) (core : Core) (at : ℕ) (row : Flown) (ok : Bool) (buf : Buffer) → IsSound s → s.core.power ≡ power.On → Returns s (state device core) at row ok buf
-    → HasEnded s.core at row.owner buf.number
+    → TransferHasEnded s.core at row.owner buf.number
 has_ended s device core at row ok buf sound on returns = record {
   going = (sound.on on).going;
   row = row;

@@ -9,7 +9,7 @@ use Rattle.lvm_session.specs.declared.bringing.Step.TheVariants as step
 use Rattle.lvm_session.specs.State.{Core}
 use Rattle.lvm_session.specs.Judging.{is_running}
 use Rattle.lvm_session.specs.Bringing.{is_whole, step_place}
-use Rattle.lvm_session.specs.Ends.{GoesOn, MovesOn}
+use Rattle.lvm_session.specs.Ends.{CopyStepsOn, MovesOn}
 use Rattle.lvm_session_turn.specs.declared.step.Carry.{Carry}
 use Rattle.lvm_session_turn.specs.declared.step.Carry.TheVariants as carry
 
@@ -53,9 +53,9 @@ pub record MayPass (core : Core) : Type 0 where
   pub markable : IsMarkable core.status.wanted copy.pp
 
 -- It does, or is to be cleared.
-pub record Passes (old new : Core) : Type 0 where
+pub record CopyGoesOn (old new : Core) : Type 0 where
   pub copy : OpenCopy
   pub is_open : old.copy ≡ Some copy
   pub next : OpenCopy
   pub moves : MovesOn old copy next
-  pub goes : GoesOn (is_whole old next) old next new
+  pub goes : CopyStepsOn (is_whole old next) old next new

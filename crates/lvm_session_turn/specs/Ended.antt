@@ -7,7 +7,7 @@ use Rattle.lvm_session.specs.State.{Core}
 use Rattle.lvm_session.specs.Sound.{IsGoing, count_if, hands_with}
 
 -- The transfer at this place of the list is this owner's, and its buffer is out, and in nobody's hand.
-pub record HasEnded (core : Core) (at : ℕ) (who : Owner) (number : ℕ) : Type 0 where
+pub record TransferHasEnded (core : Core) (at : ℕ) (who : Owner) (number : ℕ) : Type 0 where
   pub going : IsGoing core
   pub row : Flown
   pub there : slice_get core.flying at ≡ Some row

@@ -10,10 +10,10 @@ use Rattle.lvm_session_turn.specs.declared.rows.Back.{Back}
 use Rattle.lvm_session_turn.specs.declared.rows.Back.TheVariants as back
 
 -- the transfer with this ticket has ended so, and the row is its own
-abbrev pub IsEnded : List Flown → ℕ → Bool → Buffer → Back → Type 0
-IsEnded flying ticket ok buf back.Empty = ⊥
-IsEnded flying ticket ok buf (back.Ended at row how its) = (slice_get flying at ≡ Some row) × (row.ticket ≡ ticket) × (how ≡ ok) × (its ≡ buf)
-IsEnded flying ticket ok buf back.Dark = ⊥
+abbrev pub IsReapedSo : List Flown → ℕ → Bool → Buffer → Back → Type 0
+IsReapedSo flying ticket ok buf back.Empty = ⊥
+IsReapedSo flying ticket ok buf (back.Ended at row how its) = (slice_get flying at ≡ Some row) × (row.ticket ≡ ticket) × (how ≡ ok) × (its ≡ buf)
+IsReapedSo flying ticket ok buf back.Dark = ⊥
 
 -- None of them has ended; the one of a row has; or the power is off.
 abbrev pub ReapsTo : Core → Device → Device → Back → Type 0

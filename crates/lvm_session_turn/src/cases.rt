@@ -5,7 +5,7 @@ ghost use Rattle.lvm_session.specs.declared.flown.Owner.TheVariants as owner;
 ghost use Rattle.lvm_session.specs.Fields.{core_of};
 ghost use Rattle.lvm_session.specs.Rooms.{SameRooms};
 ghost use Rattle.lvm_session.specs.Ends.{FailsCopy, MissesSource, PassesGroup, after_quit, after_read};
-ghost use Rattle.lvm_session_turn.specs.Ended.{HasEnded};
+ghost use Rattle.lvm_session_turn.specs.Ended.{TransferHasEnded};
 ghost use Rattle.lvm_session_turn.specs.declared.step.Carry.TheVariants as carry;
 ghost use Rattle.lvm_session_turn.specs.Carried.{IsCarrying};
 
@@ -18,7 +18,7 @@ use lvm_session::{CopyEnd, Session};
 
 /// The copy had ended before, and nothing comes of it.
 pub fn quit(session: &mut Session, at: usize, buf: Pbuf)
-    requires { HasEnded (core_of session.old) at owner.Copy buf.number }
+    requires { TransferHasEnded (core_of session.old) at owner.Copy buf.number }
     ensures core { (c : OpenCopy) → session.old.copy ≡ Some c → core_of session.new ≡ after_quit (core_of session.old) at c buf }
     ensures rooms { SameRooms session.old session.new }
 {
@@ -28,7 +28,7 @@ pub fn quit(session: &mut Session, at: usize, buf: Pbuf)
 
 /// The track group is read, and in hand.
 pub fn keep(session: &mut Session, at: usize, buf: Pbuf)
-    requires { HasEnded (core_of session.old) at owner.Copy buf.number }
+    requires { TransferHasEnded (core_of session.old) at owner.Copy buf.number }
     ensures core { (c : OpenCopy) → session.old.copy ≡ Some c → core_of session.new ≡ after_read (core_of session.old) at c buf }
     ensures rooms { SameRooms session.old session.new }
 {
@@ -38,7 +38,7 @@ pub fn keep(session: &mut Session, at: usize, buf: Pbuf)
 
 /// It was read in vain.
 pub fn miss_source(session: &mut Session, at: usize, source: Pp, buf: Pbuf)
-    requires ended { HasEnded (core_of session.old) at owner.Copy buf.number }
+    requires ended { TransferHasEnded (core_of session.old) at owner.Copy buf.number }
     requires reads { IsCarrying (core_of session.old) (carry.Read source) }
     ensures misses { (c : OpenCopy) → session.old.copy ≡ Some c → MissesSource (core_of session.old) at c source buf (core_of session.new) }
     ensures rooms { SameRooms session.old session.new }
@@ -50,7 +50,7 @@ pub fn miss_source(session: &mut Session, at: usize, source: Pp, buf: Pbuf)
 
 /// It is written, and the next one follows, or the clearing.
 pub fn pass_group(session: &mut Session, at: usize, buf: Pbuf)
-    requires ended { HasEnded (core_of session.old) at owner.Copy buf.number }
+    requires ended { TransferHasEnded (core_of session.old) at owner.Copy buf.number }
     requires writes { IsCarrying (core_of session.old) carry.Write }
     ensures passes { (c : OpenCopy) → session.old.copy ≡ Some c → PassesGroup (core_of session.old) at c buf (core_of session.new) }
     ensures rooms { SameRooms session.old session.new }
@@ -63,7 +63,7 @@ pub fn pass_group(session: &mut Session, at: usize, buf: Pbuf)
 
 /// It was written in vain, and the copy fails.
 pub fn fail(session: &mut Session, at: usize, buf: Pbuf)
-    requires { HasEnded (core_of session.old) at owner.Copy buf.number }
+    requires { TransferHasEnded (core_of session.old) at owner.Copy buf.number }
     ensures fails { (c : OpenCopy) → session.old.copy ≡ Some c → FailsCopy (core_of session.old) at c buf (core_of session.new) }
     ensures rooms { SameRooms session.old session.new }
 {

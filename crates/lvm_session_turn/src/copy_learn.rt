@@ -3,7 +3,7 @@ ghost use Rattle.lvm_session.specs.declared.flown.Owner.TheVariants as owner;
 ghost use Rattle.lvm_session.specs.Fields.{core_of};
 ghost use Rattle.lvm_session.specs.Rooms.{SameRooms};
 ghost use Rattle.lvm_session.specs.Ends.{CopyLearns};
-ghost use Rattle.lvm_session_turn.specs.Ended.{HasEnded};
+ghost use Rattle.lvm_session_turn.specs.Ended.{TransferHasEnded};
 ghost use Rattle.lvm_session_turn.specs.declared.step.Carry.TheVariants as carry;
 ghost use Rattle.lvm_session_turn.specs.Carried.{IsCarrying};
 
@@ -13,7 +13,7 @@ use lvm_num::{Pbuf, Pp};
 use lvm_session::Session;
 
 fn end_read(session: &mut Session, at: usize, source: Pp, ok: bool, buf: Pbuf)
-    requires ended { HasEnded (core_of session.old) at owner.Copy buf.number }
+    requires ended { TransferHasEnded (core_of session.old) at owner.Copy buf.number }
     requires reads { IsCarrying (core_of session.old) (carry.Read source) }
     ensures learns { CopyLearns (core_of session.old) at ok buf (core_of session.new) }
     ensures rooms { SameRooms session.old session.new }
@@ -26,7 +26,7 @@ fn end_read(session: &mut Session, at: usize, source: Pp, ok: bool, buf: Pbuf)
 }
 
 fn end_write(session: &mut Session, at: usize, ok: bool, buf: Pbuf)
-    requires ended { HasEnded (core_of session.old) at owner.Copy buf.number }
+    requires ended { TransferHasEnded (core_of session.old) at owner.Copy buf.number }
     requires writes { IsCarrying (core_of session.old) carry.Write }
     ensures learns { CopyLearns (core_of session.old) at ok buf (core_of session.new) }
     ensures rooms { SameRooms session.old session.new }
@@ -43,7 +43,7 @@ fn end_write(session: &mut Session, at: usize, ok: bool, buf: Pbuf)
 /// written the next follows, or the clearing, and the copy fails where the write failed. Nothing comes of it where
 /// the copy had ended before.
 pub fn end_step(session: &mut Session, at: usize, ok: bool, buf: Pbuf)
-    requires { HasEnded (core_of session.old) at owner.Copy buf.number }
+    requires { TransferHasEnded (core_of session.old) at owner.Copy buf.number }
     ensures learns { CopyLearns (core_of session.old) at ok buf (core_of session.new) }
     ensures rooms { SameRooms session.old session.new }
 {

@@ -8,7 +8,7 @@ ghost use Rattle.lvm_session.specs.declared.open.Open.{Open};
 ghost use Rattle.lvm_session.specs.Fields.{core_of};
 ghost use Rattle.lvm_session.specs.Rooms.{SameRooms};
 ghost use Rattle.lvm_session.specs.Ends.{DataLearns, IsOfData, after_data, given_back, learned};
-ghost use Rattle.lvm_session_turn.specs.Ended.{HasEnded, HasId};
+ghost use Rattle.lvm_session_turn.specs.Ended.{TransferHasEnded, HasId};
 
 use crate::back::end_flight;
 use lvm_calls::entail;
@@ -74,7 +74,7 @@ fn learn_data(session: &mut Session, at: usize, place: usize, target: u8, ok: bo
 /// the list of those that are out: the target learns it, a read that ended well keeps its buffer, and what that
 /// entails is wanted.
 pub fn end_data(session: &mut Session, at: usize, id: u64, target: u8, ok: bool, buf: Pbuf)
-    requires { HasEnded (core_of session.old) at (owner.Data id target) buf.number }
+    requires { TransferHasEnded (core_of session.old) at (owner.Data id target) buf.number }
     ensures learns { DataLearns (core_of session.old) at id target ok buf (core_of session.new) }
     ensures rooms { SameRooms session.old session.new }
 {

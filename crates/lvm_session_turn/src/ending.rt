@@ -8,7 +8,7 @@ ghost use Rattle.lvm_session.specs.Ends.{Learns};
 ghost use Rattle.lvm_session.specs.Turns.{FinishMakes};
 ghost use Rattle.lvm_session.specs.Sound.{IsGoing, IsSound};
 ghost use Rattle.lvm_moves.specs.passed.Names.{IsDue};
-ghost use Rattle.lvm_session_turn.specs.Ended.{HasEnded};
+ghost use Rattle.lvm_session_turn.specs.Ended.{TransferHasEnded};
 ghost use Rattle.lvm_session_turn.specs.Finishing.{Rests};
 
 use crate::copy_learn::end_step;
@@ -22,7 +22,7 @@ use lvm_session::{Owner, Session, Turned};
 
 // The owner of a transfer that has ended learns how.
 fn learn(session: &mut Session, at: usize, owner: Owner, ok: bool, buf: Pbuf)
-    requires { HasEnded (core_of session.old) at owner buf.number }
+    requires { TransferHasEnded (core_of session.old) at owner buf.number }
     ensures learns { Learns owner (core_of session.old) at ok buf (core_of session.new) }
     ensures rooms { SameRooms session.old session.new }
 {

@@ -4,9 +4,9 @@ ghost use Rattle.lvm_status.specs.Calls.{IsMarkable};
 ghost use Rattle.lvm_session.specs.Bringing.{is_whole};
 ghost use Rattle.lvm_session.specs.Fields.{core_of};
 ghost use Rattle.lvm_session.specs.Rooms.{SameRooms};
-ghost use Rattle.lvm_session.specs.Ends.{GoesOn, with_copy};
+ghost use Rattle.lvm_session.specs.Ends.{CopyStepsOn, with_copy};
 ghost use Rattle.lvm_session.specs.Marks.{WantsFresh};
-ghost use Rattle.lvm_session_turn.specs.Carried.{MayGoOn, MayPass, MovesTo, Passes};
+ghost use Rattle.lvm_session_turn.specs.Carried.{MayGoOn, MayPass, MovesTo, CopyGoesOn};
 
 use crate::below::is_whole;
 use lvm_calls::{enter_step, step_place};
@@ -41,7 +41,7 @@ fn clear(session: &mut Session, copy: OpenCopy)
 // All is copied, and it is to be cleared; or its next step enters the hold queue.
 fn go_on(session: &mut Session, copy: OpenCopy)
     requires { MayGoOn (core_of session.old) copy }
-    ensures goes { GoesOn (is_whole (core_of session.old) copy) (core_of session.old) copy (core_of session.new) }
+    ensures goes { CopyStepsOn (is_whole (core_of session.old) copy) (core_of session.old) copy (core_of session.new) }
     ensures rooms { SameRooms session.old session.new }
 {
     if is_whole(session, &copy) {
@@ -54,7 +54,7 @@ fn go_on(session: &mut Session, copy: OpenCopy)
 /// The track group at the cursor is copied: the copy goes on with the next one, or is to be cleared.
 pub fn pass(session: &mut Session)
     requires { MayPass (core_of session.old) }
-    ensures passes { Passes (core_of session.old) (core_of session.new) }
+    ensures passes { CopyGoesOn (core_of session.old) (core_of session.new) }
     ensures rooms { SameRooms session.old session.new }
 {
     let place = step_place(session);

@@ -4,7 +4,7 @@ ghost use Rattle.std.specs.List.{list_any};
 ghost use Rattle.lvm_session.specs.declared.flown.Flown.{Flown};
 ghost use Rattle.lvm_session.specs.Fields.{core_of};
 ghost use Rattle.lvm_session.specs.Owners.{AreRows};
-ghost use Rattle.lvm_session_turn.specs.Reaping.{IsEnded, ReapsTo};
+ghost use Rattle.lvm_session_turn.specs.Reaping.{IsReapedSo, ReapsTo};
 
 use lvm_disk::{Reaped, Shelf};
 use lvm_num::Pbuf;
@@ -47,7 +47,7 @@ fn row_of(session: &Session, ticket: u64) -> (usize, Flown)
 // With its row.
 fn ended(session: &Session, ticket: u64, ok: bool, buf: Pbuf) -> Back
     requires { list_any (λ (row : Flown). row.ticket == ticket) session.now.flying.items ≡ true }
-    ensures { IsEnded session.now.flying.items ticket ok buf result }
+    ensures { IsReapedSo session.now.flying.items ticket ok buf result }
 {
     let (at, row) = row_of(session, ticket);
     Back::Ended { at, row, ok, buf }

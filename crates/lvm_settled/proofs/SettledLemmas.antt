@@ -19,7 +19,7 @@ use Rattle.lvm_rest.proofs.ClosedLemmas.{calm_is_closed}
 use Rattle.lvm_rest.proofs.GoodLemmas.Good.{rest_matches}
 use Rattle.lvm_rest.proofs.MarkingLemmas.{none_is_left_behind as none_is_behind}
 use Rattle.lvm_settled.specs.Settled.{CacheIsSeen, SettledIsGood, GoodIsSettled, NoneLeftIsBehind}
-use Rattle.lvm_rest.specs.Rest.{NoneIsBehind}
+use Rattle.lvm_rest.specs.Rest.{MissingAreStale}
 
 pub settled_is_good : SettledIsGood
 settled_is_good votes past s media known v are carried view =
@@ -44,7 +44,7 @@ good_is_settled votes past s media known v are view good describes =
 pub none_left_is_behind : NoneLeftIsBehind
 none_left_is_behind past s media known none =
     let c : Contents = contents_of (image_of s.device.sizes media) in
-    subst (λ (set : Disks). NoneIsBehind c s.core.descriptor (Some known.held.shows.stands) set) (ap (λ (g : Descriptor). members_there g s.core.status.wanted) known.sound.fitting.group)
+    subst (λ (set : Disks). MissingAreStale c s.core.descriptor (Some known.held.shows.stands) set) (ap (λ (g : Descriptor). members_there g s.core.status.wanted) known.sound.fitting.group)
     (none_is_behind c s.core.descriptor s.core.status known.held.shows.stands (known.held.shows.committed ∙ known.settled.committed) none)
 
 pub cache_is_seen : CacheIsSeen

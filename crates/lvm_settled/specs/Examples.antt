@@ -11,7 +11,7 @@ use Rattle.lvm_session.specs.declared.open.Power.TheVariants as power
 use Rattle.lvm_core.specs.Held.{NotesAreHome}
 use Rattle.lvm_session.specs.State.{Core, state}
 use Rattle.lvm_rest.specs.Examples.{Pair, status_of, pair_sizes, media_of, device_of, first_write, past_of, now_on, history_of, even_pair, naming_note, naming}
-use Rattle.lvm_settled.specs.Settled.{IsKnown, IsCarried}
+use Rattle.lvm_settled.specs.Settled.{IsKnown, IsCarriedOver}
 
 -- The session has come on with this status, and nothing has happened since; there is room for a request, and one buffer.
 abbrev pub core_of : Pair → Core
@@ -53,7 +53,7 @@ noted_core pair = record (core_of pair) { cache = noted_cache }
 -- What is known of a settled session and what it must carry, with this earlier history.
 pub record IsSettledPair (core : Core) (pair : Pair) (mode : Mode) (cut : Bool) : Type 0 where
   pub known : IsKnown (past_of mode cut) (state (device_of pair) core) (media_of pair)
-  pub carried : IsCarried (past_of mode cut) (state (device_of pair) core) (media_of pair) known
+  pub carried : IsCarriedOver (past_of mode cut) (state (device_of pair) core) (media_of pair) known
 
 -- So it is in each mode, dirty or not, whatever stands in the notes' sectors, also where a member is lost, after a cut while the first block was written, and
 -- after a write; not while a write of the volume is open.

@@ -6,7 +6,7 @@ use Rattle.lvm_vol.specs.Facts.{Fact}
 use Rattle.lvm_vol.specs.May.{known}
 use Rattle.lvm_kept.specs.Contents.{contents_of}
 use Rattle.lvm_kept.specs.Moments.{Moment}
-use Rattle.lvm_steps.specs.Moments.{Begins}
+use Rattle.lvm_steps.specs.Moments.{RunBegins}
 use Rattle.lvm_commit.specs.Committed.{ShowsCommitted}
 use Rattle.lvm_commit.specs.Settling.{NoneIsLeft}
 use Rattle.lvm_rest.specs.Rest.{IsEven}
@@ -27,5 +27,5 @@ IsClosedIn facts lv = (b : ℕ) → (known facts (Lv lv) b).open_writes ≡ []
 pub record MaySplitSince (lv : ℕ) (old new : State) (run : ℕ) (first : Moment) : Type 0 where
   pub alone : IfAlone old new run first
   pub left : NoneIsLeft old.core.descriptor old.core.status
-  pub even : (past : List Fact) → Begins run past first → IsEvenOn old
-  pub closed : (past : List Fact) → Begins run past first → IsClosedIn (past ++ old.core.history.facts) lv
+  pub even : (past : List Fact) → RunBegins run past first → IsEvenOn old
+  pub closed : (past : List Fact) → RunBegins run past first → IsClosedIn (past ++ old.core.history.facts) lv

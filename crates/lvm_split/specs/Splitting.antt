@@ -11,7 +11,7 @@ use Rattle.lvm_session.specs.State.{Core, State}
 use Rattle.lvm_volume_plan.specs.passed.Names.{NoPartition, Scope}
 use Rattle.lvm_volume_plan.specs.declared.fault.GroupFault.{GroupFault}
 use Rattle.lvm_volume_plan.specs.declared.fault.GroupFault.TheVariants as fault
-use Rattle.lvm_volume_plan.specs.Faults.{IsRefused}
+use Rattle.lvm_volume_plan.specs.Faults.{RefusesFor}
 use Rattle.lvm_volume_plan.specs.NewVolume.{IsLowestFree, IsInOrder}
 use Rattle.lvm_volume_plan.specs.Split.{MayBeSplit, RefusesSplit, with_split}
 use Rattle.lvm_volumes.specs.Endings.{CommandDarkened, CommandWentOff, CommandStuck}
@@ -62,17 +62,17 @@ pub record SplittingHalts (lv : ℕ) (name : List ℕ) (copies : ℕ) (why : Gro
 -- the new volume's number, or why the volume wasn't split
 abbrev pub SplitGives : ℕ → List ℕ → ℕ → ℕ → State → State → Result ℕ GroupFault → Type 0
 SplitGives lv name copies patience old new (Ok number) = IsVolumeSplit lv name copies number old new
-SplitGives lv name copies patience old new (Err fault.Dark) = IsRefused (RefusesSplit lv name copies) fault.Dark old new ⊎ SplittingEnds lv name copies old (λ entered. CommandDarkened entered old new)
-SplitGives lv name copies patience old new (Err (fault.WentOff have total)) = IsRefused (RefusesSplit lv name copies) (fault.WentOff have total) old new ⊎ SplittingEnds lv name copies old (λ entered. CommandWentOff entered have total old new)
+SplitGives lv name copies patience old new (Err fault.Dark) = RefusesFor (RefusesSplit lv name copies) fault.Dark old new ⊎ SplittingEnds lv name copies old (λ entered. CommandDarkened entered old new)
+SplitGives lv name copies patience old new (Err (fault.WentOff have total)) = RefusesFor (RefusesSplit lv name copies) (fault.WentOff have total) old new ⊎ SplittingEnds lv name copies old (λ entered. CommandWentOff entered have total old new)
 SplitGives lv name copies patience old new (Err fault.Stuck) = SplittingEnds lv name copies old (λ entered. CommandStuck entered patience old new)
-SplitGives lv name copies patience old new (Err (fault.StaleCopy lp)) = IsRefused (RefusesSplit lv name copies) (fault.StaleCopy lp) old new ⊎ SplittingHalts lv name copies (fault.StaleCopy lp) old new
-SplitGives lv name copies patience old new (Err (fault.LastFresh lp)) = IsRefused (RefusesSplit lv name copies) (fault.LastFresh lp) old new ⊎ SplittingHalts lv name copies (fault.LastFresh lp) old new
-SplitGives lv name copies patience old new (Err fault.Busy) = IsRefused (RefusesSplit lv name copies) fault.Busy old new
-SplitGives lv name copies patience old new (Err fault.NoVolume) = IsRefused (RefusesSplit lv name copies) fault.NoVolume old new
-SplitGives lv name copies patience old new (Err fault.VolumeExists) = IsRefused (RefusesSplit lv name copies) fault.VolumeExists old new
-SplitGives lv name copies patience old new (Err (fault.CopyLimit now)) = IsRefused (RefusesSplit lv name copies) (fault.CopyLimit now) old new
-SplitGives lv name copies patience old new (Err (fault.TooMany limit)) = IsRefused (RefusesSplit lv name copies) (fault.TooMany limit) old new
-SplitGives lv name copies patience old new (Err fault.HistoryFull) = IsRefused (RefusesSplit lv name copies) fault.HistoryFull old new
-SplitGives lv name copies patience old new (Err fault.Memory) = IsRefused (RefusesSplit lv name copies) fault.Memory old new
+SplitGives lv name copies patience old new (Err (fault.StaleCopy lp)) = RefusesFor (RefusesSplit lv name copies) (fault.StaleCopy lp) old new ⊎ SplittingHalts lv name copies (fault.StaleCopy lp) old new
+SplitGives lv name copies patience old new (Err (fault.LastFresh lp)) = RefusesFor (RefusesSplit lv name copies) (fault.LastFresh lp) old new ⊎ SplittingHalts lv name copies (fault.LastFresh lp) old new
+SplitGives lv name copies patience old new (Err fault.Busy) = RefusesFor (RefusesSplit lv name copies) fault.Busy old new
+SplitGives lv name copies patience old new (Err fault.NoVolume) = RefusesFor (RefusesSplit lv name copies) fault.NoVolume old new
+SplitGives lv name copies patience old new (Err fault.VolumeExists) = RefusesFor (RefusesSplit lv name copies) fault.VolumeExists old new
+SplitGives lv name copies patience old new (Err (fault.CopyLimit now)) = RefusesFor (RefusesSplit lv name copies) (fault.CopyLimit now) old new
+SplitGives lv name copies patience old new (Err (fault.TooMany limit)) = RefusesFor (RefusesSplit lv name copies) (fault.TooMany limit) old new
+SplitGives lv name copies patience old new (Err fault.HistoryFull) = RefusesFor (RefusesSplit lv name copies) fault.HistoryFull old new
+SplitGives lv name copies patience old new (Err fault.Memory) = RefusesFor (RefusesSplit lv name copies) fault.Memory old new
 SplitGives lv name copies patience old new (Err (fault.NoRoom free)) = ⊥
 SplitGives lv name copies patience old new (Err (fault.DiskFailed disk)) = ⊥

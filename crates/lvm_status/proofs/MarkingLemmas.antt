@@ -19,7 +19,7 @@ use Rattle.lvm_num.proofs.AmongLemmas.{one_of_left, one_of_right, one_of_either}
 use Rattle.lvm_num.proofs.Booleans.{clash, or_when_false}
 use Rattle.lvm_num.proofs.DescriptorLemmas.Partitions.{one_partition, same_partition}
 use Rattle.lvm_status.specs.Table.{has_row, SameMembers, SameMissing}
-use Rattle.lvm_status.specs.Marking.{is_served, IsLeft, IsLeftBelow, IsLeftIn, Marks, HasMark}
+use Rattle.lvm_status.specs.Marking.{is_served, IsLostCopy, IsLeftBelow, IsLeftIn, MarksLost, HasMark}
 
 -- ---- one of a list
 
@@ -55,7 +55,7 @@ markable_copies s row lp all = All-take (HasMark s) row.copies (drop (lp * row.c
 -- ---- marks
 
 module _ (answering : Disks) where
-  pub marks_none : (P : Pp → Type 0) (s : Status) → IsValidStatus s → ((p : Pp) → P p → ⊥) → Marks answering P s s
+  pub marks_none : (P : Pp → Type 0) (s : Status) → IsValidStatus s → ((p : Pp) → P p → ⊥) → MarksLost answering P s s
   marks_none P s valid none = record {
     members = record { id = refl; big = refl; disks = refl; valid = valid };
     missing = λ d. refl;
@@ -66,7 +66,7 @@ module _ (answering : Disks) where
     answered = λ p is. refl;
   }
 
-  pub marks_as : (P Q : Pp → Type 0) (old new : Status) → ((p : Pp) → P p → Q p) → ((p : Pp) → Q p → P p) → Marks answering P old new → Marks answering Q old new
+  pub marks_as : (P Q : Pp → Type 0) (old new : Status) → ((p : Pp) → P p → Q p) → ((p : Pp) → Q p → P p) → MarksLost answering P old new → MarksLost answering Q old new
   marks_as P Q old new to from marks = record {
     members = marks.members;
     missing = marks.missing;
@@ -80,7 +80,7 @@ module _ (answering : Disks) where
   same_members : (old mid new : Status) → SameMembers old mid → SameMembers mid new → SameMembers old new
   same_members old mid new a b = record { id = b.id ∙ a.id; big = b.big ∙ a.big; disks = b.disks ∙ a.disks; valid = b.valid }
 
-  pub marks_join : (P Q : Pp → Type 0) (old mid new : Status) → Marks answering P old mid → Marks answering Q mid new → Marks answering (λ p. P p ⊎ Q p) old new
+  pub marks_join : (P Q : Pp → Type 0) (old mid new : Status) → MarksLost answering P old mid → MarksLost answering Q mid new → MarksLost answering (λ p. P p ⊎ Q p) old new
   marks_join P Q old mid new one two = record {
     members = same_members old mid new one.members two.members;
     missing = λ d. two.missing d ∙ one.missing d;
@@ -92,7 +92,7 @@ module _ (answering : Disks) where
   }
 
   pub marks_one : (pp : Pp) (old new : Status) → IsFalse (answering pp.disk) → SameMembers old new → ((p : Pp) → calls_stale new p ≡ calls_stale old p || is_pp p pp) → SameMissing old new → new.dirty ≡ old.dirty
-      → Marks answering (λ p. p ≡ pp) old new
+      → MarksLost answering (λ p. p ≡ pp) old new
   marks_one pp old new absent members stale missing dirty = record {
     members = members;
     missing = missing;
@@ -109,7 +109,7 @@ module _ (answering : Disks) where
 
   -- ---- which serve
 
-  pub served_same : (P : Pp → Type 0) (old new : Status) (copies : List Pp) → Marks answering P old new → is_served answering new copies ≡ is_served answering old copies
+  pub served_same : (P : Pp → Type 0) (old new : Status) (copies : List Pp) → MarksLost answering P old new → is_served answering new copies ≡ is_served answering old copies
   served_same P old new copies marks = λ i. list_any (λ (p : Pp). tests p i) copies
     where
       by_answer : (t : Bool) (p : Pp) → answering p.disk ≡ t → t && not (calls_stale new p) ≡ t && not (calls_stale old p)
@@ -119,30 +119,30 @@ module _ (answering : Disks) where
       tests : (p : Pp) → answering p.disk && not (calls_stale new p) ≡ answering p.disk && not (calls_stale old p)
       tests p = by_answer (answering p.disk) p refl
 
-  pub left_same : (P : Pp → Type 0) (old new : Status) (copies : List Pp) → Marks answering P old new → (p : Pp) → IsLeft answering new copies p → IsLeft answering old copies p
+  pub left_same : (P : Pp → Type 0) (old new : Status) (copies : List Pp) → MarksLost answering P old new → (p : Pp) → IsLostCopy answering new copies p → IsLostCopy answering old copies p
   left_same P old new copies marks p left = record { one = left.one; absent = left.absent; served = sym (served_same P old new copies marks) ∙ left.served }
 
-  pub left_again : (P : Pp → Type 0) (old new : Status) (copies : List Pp) → Marks answering P old new → (p : Pp) → IsLeft answering old copies p → IsLeft answering new copies p
+  pub left_again : (P : Pp → Type 0) (old new : Status) (copies : List Pp) → MarksLost answering P old new → (p : Pp) → IsLostCopy answering old copies p → IsLostCopy answering new copies p
   left_again P old new copies marks p left = record { one = left.one; absent = left.absent; served = served_same P old new copies marks ∙ left.served }
 
   -- the next logical partition
-  pub below_more : (first now new : Status) (row : LvRow) (n : ℕ) → Marks answering (IsLeftBelow answering first row n) first now → Marks answering (IsLeft answering now (copies_of row n)) now new
-      → Marks answering (IsLeftBelow answering first row (n + 1)) first new
-  below_more first now new row n before here = marks_as (λ p. IsLeftBelow answering first row n p ⊎ IsLeft answering now (copies_of row n) p) (IsLeftBelow answering first row (n + 1)) first new
+  pub below_more : (first now new : Status) (row : LvRow) (n : ℕ) → MarksLost answering (IsLeftBelow answering first row n) first now → MarksLost answering (IsLostCopy answering now (copies_of row n)) now new
+      → MarksLost answering (IsLeftBelow answering first row (n + 1)) first new
+  below_more first now new row n before here = marks_as (λ p. IsLeftBelow answering first row n p ⊎ IsLostCopy answering now (copies_of row n) p) (IsLeftBelow answering first row (n + 1)) first new
       (λ p is. ⊎_elim (λ (b : IsLeftBelow answering first row n p). record { lp = b.lp; below = (let lt = b.below in omega (arith, lt)); left = b.left })
       (λ l. record { lp = n; below = omega arith; left = left_same (IsLeftBelow answering first row n) first now (copies_of row n) before p l }) is)
       (λ p b. by_place p b (cases_lt b.lp n))
-      (marks_join (IsLeftBelow answering first row n) (IsLeft answering now (copies_of row n)) first now new before here)
+      (marks_join (IsLeftBelow answering first row n) (IsLostCopy answering now (copies_of row n)) first now new before here)
     where
-      by_place : (p : Pp) (b : IsLeftBelow answering first row (n + 1) p) → (b.lp < n) ⊎ (n ≤ b.lp) → IsLeftBelow answering first row n p ⊎ IsLeft answering now (copies_of row n) p
+      by_place : (p : Pp) (b : IsLeftBelow answering first row (n + 1) p) → (b.lp < n) ⊎ (n ≤ b.lp) → IsLeftBelow answering first row n p ⊎ IsLostCopy answering now (copies_of row n) p
       by_place p b (inl lt) = inl (record { lp = b.lp; below = lt; left = b.left })
       by_place p b (inr ge) =
           let same : b.lp ≡ n = (let lt = b.below in omega (arith, lt, ge)) in
-          inr (left_again (IsLeftBelow answering first row n) first now (copies_of row n) before p (subst (λ (m : ℕ). IsLeft answering first (copies_of row m) p) same b.left))
+          inr (left_again (IsLeftBelow answering first row n) first now (copies_of row n) before p (subst (λ (m : ℕ). IsLostCopy answering first (copies_of row m) p) same b.left))
 
   -- the next volume
-  pub volumes_more : (first now new : Status) (rows : List LvRow) (i : ℕ) (row : LvRow) → i < length rows → row ≡ get_or rows i row → Marks answering (IsLeftIn answering first (take i rows)) first now
-      → Marks answering (IsLeftBelow answering now row row.lps) now new → Marks answering (IsLeftIn answering first (take (i + 1) rows)) first new
+  pub volumes_more : (first now new : Status) (rows : List LvRow) (i : ℕ) (row : LvRow) → i < length rows → row ≡ get_or rows i row → MarksLost answering (IsLeftIn answering first (take i rows)) first now
+      → MarksLost answering (IsLeftBelow answering now row row.lps) now new → MarksLost answering (IsLeftIn answering first (take (i + 1) rows)) first new
   volumes_more first now new rows i row lt is before here = marks_as (λ p. IsLeftIn answering first (take i rows) p ⊎ IsLeftBelow answering now row row.lps p) (IsLeftIn answering first (take (i + 1) rows)) first new
       (λ p it. ⊎_elim (λ (b : IsLeftIn answering first (take i rows) p). record { row = b.row; volume = more_one_of rows i row b.row lt is (inl b.volume); left = b.left })
       (λ (b : IsLeftBelow answering now row row.lps p). record {
@@ -158,14 +158,14 @@ module _ (answering : Disks) where
 
   -- the next copy, on a disk that doesn't answer or on one that does
   pub copies_more : (first now new : Status) (copies : List Pp) (i : ℕ) (pp : Pp) → i < length copies → pp ≡ get_or copies i pp → IsFalse (answering pp.disk)
-      → Marks answering (λ p. IsOneOf (take i copies) p × IsFalse (answering p.disk)) first now → Marks answering (λ p. p ≡ pp) now new → Marks answering (λ p. IsOneOf (take (i + 1) copies) p × IsFalse (answering p.disk)) first new
+      → MarksLost answering (λ p. IsOneOf (take i copies) p × IsFalse (answering p.disk)) first now → MarksLost answering (λ p. p ≡ pp) now new → MarksLost answering (λ p. IsOneOf (take (i + 1) copies) p × IsFalse (answering p.disk)) first new
   copies_more first now new copies i pp lt is absent before here = marks_as (λ p. (IsOneOf (take i copies) p × IsFalse (answering p.disk)) ⊎ (p ≡ pp)) (λ p. IsOneOf (take (i + 1) copies) p × IsFalse (answering p.disk)) first new
       (λ p it. ⊎_elim (λ (b : IsOneOf (take i copies) p × IsFalse (answering p.disk)). (more_one_of copies i pp p lt is (inl b.0), b.1)) (λ (e : p ≡ pp). (more_one_of copies i pp p lt is (inr e), ap (λ (x : Pp). answering x.disk) e ∙ absent)) it)
       (λ p b. ⊎_elim (λ earlier. inl (earlier, b.1)) (λ (e : p ≡ pp). inr e) (one_of_more copies i pp p lt is b.0))
       (marks_join (λ p. IsOneOf (take i copies) p × IsFalse (answering p.disk)) (λ p. p ≡ pp) first now new before here)
 
   pub copies_same : (first now : Status) (copies : List Pp) (i : ℕ) (pp : Pp) → i < length copies → pp ≡ get_or copies i pp → IsTrue (answering pp.disk)
-      → Marks answering (λ p. IsOneOf (take i copies) p × IsFalse (answering p.disk)) first now → Marks answering (λ p. IsOneOf (take (i + 1) copies) p × IsFalse (answering p.disk)) first now
+      → MarksLost answering (λ p. IsOneOf (take i copies) p × IsFalse (answering p.disk)) first now → MarksLost answering (λ p. IsOneOf (take (i + 1) copies) p × IsFalse (answering p.disk)) first now
   copies_same first now copies i pp lt is here before = marks_as (λ p. IsOneOf (take i copies) p × IsFalse (answering p.disk)) (λ p. IsOneOf (take (i + 1) copies) p × IsFalse (answering p.disk)) first now
       (λ p b. (more_one_of copies i pp p lt is (inl b.0), b.1))
       (λ p b. (⊎_elim (λ earlier. earlier) (λ (e : p ≡ pp). absurd (clash (answering p.disk) (ap (λ (x : Pp). answering x.disk) e ∙ here) b.1)) (one_of_more copies i pp p lt is b.0), b.1))
@@ -184,7 +184,7 @@ none_before [] p is = is
 none_before (x ∷ copies) p is = is
 
 -- none is marked yet
-pub no_copies : (answering : Disks) (s : Status) (copies : List Pp) → IsValidStatus s → Marks answering (λ p. IsOneOf (take 0 copies) p × IsFalse (answering p.disk)) s s
+pub no_copies : (answering : Disks) (s : Status) (copies : List Pp) → IsValidStatus s → MarksLost answering (λ p. IsOneOf (take 0 copies) p × IsFalse (answering p.disk)) s s
 no_copies answering s copies valid = marks_none answering (λ p. IsOneOf (take 0 copies) p × IsFalse (answering p.disk)) s valid (λ p is. none_before copies p is.0)
 
 -- an element of a list is one of it

@@ -15,7 +15,7 @@ abbrev pub is_served : Disks → Status → List Pp → Bool
 is_served answering s copies = list_any (λ (p : Pp). answering p.disk && not (calls_stale s p)) copies
 
 -- the copy is on a disk that doesn't answer, while another one serves
-pub record IsLeft (answering : Disks) (s : Status) (copies : List Pp) (p : Pp) : Type 0 where
+pub record IsLostCopy (answering : Disks) (s : Status) (copies : List Pp) (p : Pp) : Type 0 where
   pub one : IsOneOf copies p
   pub absent : IsFalse (answering p.disk)
   pub served : IsTrue (is_served answering s copies)
@@ -24,7 +24,7 @@ pub record IsLeft (answering : Disks) (s : Status) (copies : List Pp) (p : Pp) :
 pub record IsLeftBelow (answering : Disks) (s : Status) (row : LvRow) (most : ℕ) (p : Pp) : Type 0 where
   pub lp : ℕ
   pub below : lp < most
-  pub left : IsLeft answering s (copies_of row lp) p
+  pub left : IsLostCopy answering s (copies_of row lp) p
 
 -- so it is of one of these volumes
 pub record IsLeftIn (answering : Disks) (s : Status) (rows : List LvRow) (p : Pp) : Type 0 where
@@ -33,7 +33,7 @@ pub record IsLeftIn (answering : Disks) (s : Status) (rows : List LvRow) (p : Pp
   pub left : IsLeftBelow answering s row row.lps p
 
 -- The table calls just these partitions stale beside those that it did, none of them on a disk that answers; all else is as it was.
-pub record Marks (answering : Disks) (P : Pp → Type 0) (old new : Status) : Type 0 where
+pub record MarksLost (answering : Disks) (P : Pp → Type 0) (old new : Status) : Type 0 where
   pub members : SameMembers old new
   pub missing : SameMissing old new
   pub dirty : new.dirty ≡ old.dirty

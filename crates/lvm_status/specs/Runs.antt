@@ -4,7 +4,7 @@ use Rattle.std.specs.List.{list_any}
 use Rattle.lvm_status.specs.passed.StaleNames.{Pp, IsLowest, Stamp, Descriptor, Status, is_member, is_pp, stamp_lt, calls_stale, calls_missing, CanWrite}
 use Rattle.lvm_status.specs.declared.change.Change.{Change}
 use Rattle.lvm_status.specs.declared.change.Change.TheVariants as change
-use Rattle.lvm_status.specs.Update.{Updates, with_disk, is_there, is_held, is_owed, is_settled_stale, MayStart}
+use Rattle.lvm_status.specs.Update.{Updates, with_disk, is_there, is_held, is_owed, is_settled_stale, MayStartUpdate}
 use Rattle.lvm_status.specs.Calls.{first_updates, Changes, WantsAtEnd, with_wanted, with_update, with_start, after_end}
 
 -- ---- runs
@@ -20,7 +20,7 @@ pub data Call : Type 0 where
 -- what one call makes of the status
 abbrev pub Step : Call → Updates → Updates → Type 0
 Step (Want change) old new = Changes change old.wanted new.wanted × (new ≡ with_wanted old change new.wanted)
-Step Start old new = MayStart old × (new ≡ with_update old)
+Step Start old new = MayStartUpdate old × (new ≡ with_update old)
 Step (NextWrite disk) old new = IsLowest old.unstarted (Some disk) × (new ≡ with_start old (Some disk))
 Step (Ended disk ok) old new = (old.started disk ≡ true) × WantsAtEnd disk ok old.wanted new.wanted × (new ≡ after_end old disk ok new.wanted)
 Step (SetStamp stamp) old new = (old.in_flight ≡ None) × (new ≡ record old { stamp = stamp })

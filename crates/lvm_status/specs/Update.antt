@@ -78,6 +78,6 @@ abbrev pub is_settled_stale : Updates → Pp → Bool
 is_settled_stale u p = calls_stale u.committed p && calls_stale (unwrap_or u.in_flight u.committed) p
 
 -- no update is in flight, and what is wanted isn't what is committed
-pub record MayStart (u : Updates) : Type 0 where
+pub record MayStartUpdate (u : Updates) : Type 0 where
   pub none : u.in_flight ≡ None
   pub differs : u.wanted ≡ u.committed → ⊥

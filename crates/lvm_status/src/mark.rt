@@ -3,7 +3,7 @@ ghost use Rattle.std.specs.Prelude.{◌≡◌, All};
 ghost use Rattle.lvm_num.specs.Descriptor.{IsLaidOut, copies_of, partitions_in};
 ghost use Rattle.lvm_num.specs.Disks.{has};
 ghost use Rattle.lvm_num.specs.Status.{IsValidStatus};
-ghost use Rattle.lvm_status.specs.Marking.{is_served, IsLeft, IsLeftBelow, IsLeftIn, Marks, HasMark};
+ghost use Rattle.lvm_status.specs.Marking.{is_served, IsLostCopy, IsLeftBelow, IsLeftIn, MarksLost, HasMark};
 
 use crate::table::StaleTable;
 use lvm_num::{DiskSet, LvRow, Pp, copies_of};
@@ -14,7 +14,7 @@ pub fn mark_volumes(table: &mut StaleTable, volumes: &[LvRow], answering: DiskSe
     requires valid { IsValidStatus table.old }
     requires laid_out { All IsLaidOut volumes.now }
     requires markable { All (HasMark table.old) (partitions_in volumes.now) }
-    ensures { Marks (has answering) (IsLeftIn (has answering) table.old volumes.now) table.old table.new }
+    ensures { MarksLost (has answering) (IsLeftIn (has answering) table.old volumes.now) table.old table.new }
 {
     for volume in volumes {
         mark_volume(table, volume, answering);
@@ -25,7 +25,7 @@ fn mark_volume(table: &mut StaleTable, volume: &LvRow, answering: DiskSet)
     requires valid { IsValidStatus table.old }
     requires laid_out { IsLaidOut volume.now }
     requires markable { All (HasMark table.old) volume.now.map }
-    ensures { Marks (has answering) (IsLeftBelow (has answering) table.old volume.now volume.now.lps) table.old table.new }
+    ensures { MarksLost (has answering) (IsLeftBelow (has answering) table.old volume.now volume.now.lps) table.old table.new }
 {
     for lp in 0..volume.lps {
         mark_copies(table, copies_of(volume, lp), answering);
@@ -35,7 +35,7 @@ fn mark_volume(table: &mut StaleTable, volume: &LvRow, answering: DiskSet)
 fn mark_copies(table: &mut StaleTable, copies: &[Pp], answering: DiskSet)
     requires valid { IsValidStatus table.old }
     requires markable { All (HasMark table.old) copies.now }
-    ensures { Marks (has answering) (IsLeft (has answering) table.old copies.now) table.old table.new }
+    ensures { MarksLost (has answering) (IsLostCopy (has answering) table.old copies.now) table.old table.new }
 {
     if is_served(table, copies, answering) {
         for pp in copies {

@@ -3,7 +3,7 @@ ghost use Rattle.std.specs.Prelude.{All, ◌≡◌, ◌≢◌, ◌↔◌, ◌<�
 ghost use Rattle.std.specs.List.{list_any};
 ghost use Rattle.std.specs.Option.{option_copied};
 ghost use Rattle.lvm_status.specs.passed.StaleNames.{PvRow, IsValid, IsLaidOut, partitions_in, total_votes, has, IsLowest};
-ghost use Rattle.lvm_status.specs.Marking.{IsLeftIn, Marks, HasMark};
+ghost use Rattle.lvm_status.specs.Marking.{IsLeftIn, MarksLost, HasMark};
 ghost use Rattle.lvm_status.specs.Members.{HasItsRows, all_rows, all_members};
 ghost use Rattle.lvm_status.specs.Update.{members_there};
 
@@ -54,7 +54,7 @@ impl Model for Updater {
 }
 
 impl Updater {
-    ghost use Rattle.lvm_status.specs.Update.{seen, is_there, is_held, is_owed, is_settled_stale, votes_there, MayStart};
+    ghost use Rattle.lvm_status.specs.Update.{seen, is_there, is_held, is_owed, is_settled_stale, votes_there, MayStartUpdate};
     ghost use Rattle.lvm_status.specs.Calls.{first_updates, Changes, MayChange, with_wanted, with_update, with_start, with_end, WantsAtEnd, with_commit, closed, comes_held, after_end, given_up};
     ghost use Rattle.lvm_status.specs.Progress.{progress_of};
 
@@ -100,7 +100,7 @@ impl Updater {
     pub fn mark_left(&mut self, volumes: &[LvRow])
         requires laid_out { All IsLaidOut volumes.now }
         requires markable { All (HasMark self.old.wanted) (partitions_in volumes.now) }
-        ensures wanted { Marks (is_there (seen self.old)) (IsLeftIn (is_there (seen self.old)) self.old.wanted volumes.now) self.old.wanted self.new.wanted }
+        ensures wanted { MarksLost (is_there (seen self.old)) (IsLeftIn (is_there (seen self.old)) self.old.wanted volumes.now) self.old.wanted self.new.wanted }
         ensures rest { self.new ≡ record self.old { wanted = self.new.wanted } }
     {
         // The wanted table is a status that a record may state.
@@ -114,7 +114,7 @@ impl Updater {
     /// committed; else changes nothing.
     pub fn start(&mut self) -> bool
         requires { self.old.stamp.seq + 1 < 2 ^ 32 }
-        ensures starts { IsTrue result ↔ MayStart (seen self.old) }
+        ensures starts { IsTrue result ↔ MayStartUpdate (seen self.old) }
         ensures update { seen self.new ≡ (if result then with_update (seen self.old) else seen self.old) }
     {
         if self.is_flying || says_the_same(&self.wanted, &self.committed) {

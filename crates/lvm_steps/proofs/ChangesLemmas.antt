@@ -12,7 +12,7 @@ use Rattle.lvm_num.specs.Record.{Stamped, stamp_lt, newer, newest_below}
 use Rattle.lvm_num.proofs.RecordLemmas.Newest.{is_one, is_last}
 use Rattle.lvm_vol.specs.Facts.{Fact}
 use Rattle.lvm_kept.specs.Contents.{Contents}
-use Rattle.lvm_kept.specs.Group.{if_passes, passes, is_of, is_status_of, IsFound, members_in, status_by, Reads, ReadsBy, fresh_on, IsOneOf, IsSome}
+use Rattle.lvm_kept.specs.Group.{if_passes, passes, is_of, is_status_of, IsFound, members_in, status_by, ReadsGroup, ReadsBy, fresh_on, IsOneOf, IsSome}
 use Rattle.lvm_kept.specs.Kept.{BlocksKept, Kept}
 use Rattle.lvm_kept.specs.Changes.{Serves, HasNoVolume}
 use Rattle.lvm_kept.specs.Torn.{StatusesChange}
@@ -120,7 +120,7 @@ module _ (c : Contents) (id : ℕ) (next : Stamped Status) (facts : List Fact) (
       at : (d : ℕ) → (if members_in c b other h d then if_passes (is_status_of other) (new.status d) else None) ≡ (if members_in c b other h d then if_passes (is_status_of other) (c.status d) else None)
       at d = at_test d (members_in c b other h d) refl
 
-  found_by : (b : Disks) (other : ℕ) (h : Descriptor) → Reads c b other h → (status_by now b other h ≡ status_by c b other h) ⊎ ((status_by now b other h ≡ Some next) × Serves c facts other next)
+  found_by : (b : Disks) (other : ℕ) (h : Descriptor) → ReadsGroup c b other h → (status_by now b other h ≡ status_by c b other h) ⊎ ((status_by now b other h ≡ Some next) × Serves c facts other next)
   found_by b other h reading = ⊎_elim
       (λ (test : (other == id) ≡ true). let same : other ≡ id = eqb-true other id test in
       subst (λ (n : ℕ). (status_by now b n h ≡ status_by c b n h) ⊎ ((status_by now b n h ≡ Some next) × Serves c facts n next)) (sym same) (⊎_elim

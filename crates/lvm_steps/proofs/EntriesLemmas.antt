@@ -10,7 +10,7 @@ use Rattle.lvm_num.specs.Disks.{Disks}
 use Rattle.lvm_num.specs.Record.{Stamped}
 use Rattle.lvm_vol.specs.declared.entry.Vol.{Vol}
 use Rattle.lvm_vol.specs.declared.entry.Vol.TheVariants.{Disk, Lv}
-use Rattle.lvm_vol.specs.Facts.{Request, Fact, Removing, Removed, Begun, Landed, Taken, Cut, On, Stands, same_vol, is_over}
+use Rattle.lvm_vol.specs.Facts.{Request, Fact, Removing, Removed, Begun, Landed, Taken, Cut, On, IsInList, same_vol, is_over}
 use Rattle.lvm_vol.specs.May.{Known, known, change, source, May, IsValue, cut, also, is_off}
 use Rattle.lvm_vol.specs.Laws.{is_about}
 use Rattle.lvm_vol.specs.Standing.{Standing, Settled, Absent, Open, Volume, no_volumes, volumes_after, volumes_after_fact, volumes_in, put}
@@ -106,7 +106,7 @@ unknown_after false k b x may = may
 again : (k : Known) (b : ℕ) (x : Sector) → IsValue (cut b k) x → IsValue (cut b (cut b k)) x
 again k b x is = by_values (cut b k).values is
   where
-    by_values : (values : Option (List Sector)) → IsSomeAnd values (λ vs. Stands x vs) → IsSomeAnd (also [] values) (λ vs. Stands x vs)
+    by_values : (values : Option (List Sector)) → IsSomeAnd values (λ vs. IsInList x vs) → IsSomeAnd (also [] values) (λ vs. IsInList x vs)
     by_values None is = is
     by_values (Some vs) is = one_left_of x vs [] is
 

@@ -24,7 +24,7 @@ use Rattle.lvm_vol.proofs.LawsLemmas.Knowing.{known-push, others_stay}
 use Rattle.lvm_kept.specs.Contents.{Contents}
 use Rattle.lvm_kept.specs.Group.{IsFound, members_in, status_by, is_stale_by, fresh_on, block_at, IsOneOf, IsSome}
 use Rattle.lvm_kept.specs.Kept.{IsBlockKept, BlocksKept, Kept}
-use Rattle.lvm_kept.specs.Changes.{OnlyAllowsMore, IsFoundByAll, IsFoundByNone, MayStand}
+use Rattle.lvm_kept.specs.Changes.{OnlyAllowsMore, IsFoundByAll, IsFoundByNone, VolumeMayStand}
 use Rattle.lvm_kept.proofs.ChangesLemmas.Entries.{entry_keeps, more_is_kept, put_settled}
 use Rattle.lvm_steps.specs.VolumeEntries.{VolumeBegins, VolumeIsMade, VolumeGoes, VolumeIsGone, ZerosServe}
 use Rattle.lvm_steps.proofs.EntriesLemmas.{volumes-append}
@@ -49,20 +49,20 @@ about_none facts f apart = record {
 
 pub volume_is_made : VolumeIsMade
 volume_is_made c facts lv is_open by_all kept = entry_keeps c facts (Made lv) (more_is_kept c facts (Made lv) (about_none facts (Made lv) (λ vol b. refl)) kept)
-    (λ n. subst (λ (v : Volume). MayStand c n (volumes_in facts n) v) (sym (stands_after facts (Made lv) n)) (put_settled c (Lv lv) (volumes_in facts) n (λ m same. let e : lv ≡ m = cc in
+    (λ n. subst (λ (v : Volume). VolumeMayStand c n (volumes_in facts n) v) (sym (stands_after facts (Made lv) n)) (put_settled c (Lv lv) (volumes_in facts) n (λ m same. let e : lv ≡ m = cc in
     inr (subst (λ (k : ℕ). (volumes_in facts k).standing ≡ Open) e is_open, subst (λ (k : ℕ). IsFoundByAll c k) e by_all))))
     kept
 
-put_open : (c : Contents) (lv : ℕ) (volumes : ℕ → Volume) (n : ℕ) → MayStand c n (volumes n) (put (Lv lv) Open volumes n)
+put_open : (c : Contents) (lv : ℕ) (volumes : ℕ → Volume) (n : ℕ) → VolumeMayStand c n (volumes n) (put (Lv lv) Open volumes n)
 put_open c lv volumes n = by_test (lv == n)
   where
-    by_test : (t : Bool) → MayStand c n (volumes n) (if t then record (volumes n) { standing = Open } else volumes n)
+    by_test : (t : Bool) → VolumeMayStand c n (volumes n) (if t then record (volumes n) { standing = Open } else volumes n)
     by_test true = inr (inr (inl refl))
     by_test false = inl refl
 
 pub volume_goes : VolumeGoes
 volume_goes c facts lv kept = entry_keeps c facts (Removing (Lv lv)) (more_is_kept c facts (Removing (Lv lv)) (about_none facts (Removing (Lv lv)) (λ vol b. refl)) kept)
-    (λ n. subst (λ (v : Volume). MayStand c n (volumes_in facts n) v) (sym (stands_after facts (Removing (Lv lv)) n)) (put_open c lv (volumes_in facts) n))
+    (λ n. subst (λ (v : Volume). VolumeMayStand c n (volumes_in facts n) v) (sym (stands_after facts (Removing (Lv lv)) n)) (put_open c lv (volumes_in facts) n))
     kept
 
 -- ---- a volume that no quorum finds
@@ -79,7 +79,7 @@ not_there (r ∷ rows) row lv one its none = by_test (r.number == lv) refl (not_
 
 module _ (c : Contents) (facts : List Fact) (f : Fact) (lv : ℕ) (none : IsFoundByNone c lv) (kept : Kept c facts)
     (about : (number b : ℕ) → (number ≡ lv → ⊥) → is_about f (Lv number) b ≡ false) (about_disk : (d b : ℕ) → is_about f (Disk d) b ≡ false)
-    (stand : (n : ℕ) → MayStand c n (volumes_in facts n) (volumes_after_fact f (volumes_in facts) n)) where
+    (stand : (n : ℕ) → VolumeMayStand c n (volumes_in facts n) (volumes_after_fact f (volumes_in facts) n)) where
   same_blocks : (id : ℕ) (group : Descriptor) → IsFound c id group → (disks : Disks) (status : Option (Stamped Status)) → BlocksKept c facts group disks status → BlocksKept c (facts ++ f ∷ []) group disks status
   same_blocks id group is disks status blocks row lp b one inside =
       subst (λ (k : Known). IsBlockKept c group.mib status row (fresh_on disks status row lp) k b)
@@ -92,7 +92,7 @@ module _ (c : Contents) (facts : List Fact) (f : Fact) (lv : ℕ) (none : IsFoun
         across = λ b id h k r is. same_blocks id k is _ _ (kept.lasting.across b id h k r is);
         raw = λ d b there shows low high. subst (λ (k : Known). May k (c.block d b)) (sym (stays facts f (Disk d) b (about_disk d b))) (kept.agrees.raw d b there shows low high);
       })
-      (λ n. subst (λ (v : Volume). MayStand c n (volumes_in facts n) v) (sym (stands_after facts f n)) (stand n))
+      (λ n. subst (λ (v : Volume). VolumeMayStand c n (volumes_in facts n) v) (sym (stands_after facts f n)) (stand n))
       kept
 
 other_number : (lv number : ℕ) → (number ≡ lv → ⊥) → (lv == number) ≡ false
@@ -112,20 +112,20 @@ pub volume_begins : VolumeBegins
 volume_begins c facts lv blocks mode none kept = of_unfound c facts (Making lv blocks mode) lv none kept
     (λ number b differ. ap (λ (t : Bool). t && nat_lt b blocks) (other_number lv number differ)) (λ d b. refl) stand
   where
-    stand : (n : ℕ) → MayStand c n (volumes_in facts n) (volumes_after_fact (Making lv blocks mode) (volumes_in facts) n)
+    stand : (n : ℕ) → VolumeMayStand c n (volumes_in facts n) (volumes_after_fact (Making lv blocks mode) (volumes_in facts) n)
     stand n = by_test (lv == n) refl
       where
-        by_test : (t : Bool) → (lv == n) ≡ t → MayStand c n (volumes_in facts n) (if t then record { standing = Open; shape = Some (record { blocks = blocks; mode = mode }) } else volumes_in facts n)
+        by_test : (t : Bool) → (lv == n) ≡ t → VolumeMayStand c n (volumes_in facts n) (if t then record { standing = Open; shape = Some (record { blocks = blocks; mode = mode }) } else volumes_in facts n)
         by_test true is = inr (inr (inr (open_isnt, subst (λ (m : ℕ). IsFoundByNone c m) (eqb-true lv n is) none)))
         by_test false is = inl refl
 
 pub volume_is_gone : VolumeIsGone
 volume_is_gone c facts lv none kept = of_unfound c facts (Removed (Lv lv)) lv none kept (λ number b differ. other_number lv number differ) (λ d b. refl) stand
   where
-    stand : (n : ℕ) → MayStand c n (volumes_in facts n) (volumes_after_fact (Removed (Lv lv)) (volumes_in facts) n)
+    stand : (n : ℕ) → VolumeMayStand c n (volumes_in facts n) (volumes_after_fact (Removed (Lv lv)) (volumes_in facts) n)
     stand n = by_test (lv == n) refl
       where
-        by_test : (t : Bool) → (lv == n) ≡ t → MayStand c n (volumes_in facts n) (if t then record (volumes_in facts n) { standing = Absent } else volumes_in facts n)
+        by_test : (t : Bool) → (lv == n) ≡ t → VolumeMayStand c n (volumes_in facts n) (if t then record (volumes_in facts n) { standing = Absent } else volumes_in facts n)
         by_test true is = inr (inr (inr (absent_isnt, subst (λ (m : ℕ). IsFoundByNone c m) (eqb-true lv n is) none)))
         by_test false is = inl refl
 

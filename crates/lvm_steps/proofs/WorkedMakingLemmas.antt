@@ -8,7 +8,7 @@ use Rattle.lvm_num.specs.Disks.{Disks}
 use Rattle.lvm_num.specs.Record.{Stamped, newest_below}
 use Rattle.lvm_num.specs.Votes.{all_disks, votes_by}
 use Rattle.lvm_num.proofs.RecordLemmas.Newest.{is_one}
-use Rattle.lvm_kept.specs.Group.{passes, is_of, has_room, descriptor_among, is_voter, has_quorum, Finds, Reads}
+use Rattle.lvm_kept.specs.Group.{passes, is_of, has_room, descriptor_among, is_voter, has_quorum, Finds, ReadsGroup}
 use Rattle.lvm_kept.specs.Kept.{Kept}
 use Rattle.lvm_kept.specs.Examples.{stamped, three, only}
 use Rattle.lvm_kept.proofs.CommittedLemmas.Finding.{offered, is_offered}
@@ -92,11 +92,11 @@ alone = descriptors_may_change left_over all_disks (stamped 2 left_over) four_bl
     by_test true = inr (refl, refl)
     by_test false = inl refl
 
-new_reads : Reads of_one_id (only 0) 60 newcomer
+new_reads : ReadsGroup of_one_id (only 0) 60 newcomer
 unfolding has_quorum is_voter descriptor_among newest_below votes_by
 new_reads = record { found = (only 0, record { quorum = refl; newest = record { stamp = record { epoch = 60; seq = 2 }; value = newcomer }; found = refl; is = refl }); enough = refl }
 
-old_reads : Reads of_one_id (only 3) 60 left_over
+old_reads : ReadsGroup of_one_id (only 3) 60 left_over
 unfolding has_quorum is_voter descriptor_among newest_below votes_by
 old_reads = record { found = (only 3, record { quorum = refl; newest = stamped 2 left_over; found = refl; is = refl }); enough = refl }
 

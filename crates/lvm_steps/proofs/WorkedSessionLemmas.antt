@@ -21,14 +21,14 @@ use Rattle.lvm_num.proofs.VotesLemmas.{read_meets_read}
 use Rattle.lvm_vol.specs.Facts.{Fact, Making, Cut}
 use Rattle.lvm_vol.specs.May.{IsValue, unknown, cut, known}
 use Rattle.lvm_vol.specs.declared.entry.Vol.TheVariants.{Lv}
-use Rattle.lvm_kept.specs.Group.{passes, is_of, is_status_of, has_room, descriptor_among, is_voter, has_quorum, status_among, Finds, IsFound, members_in, status_by, Reads, IsOneOf}
+use Rattle.lvm_kept.specs.Group.{passes, is_of, is_status_of, has_room, descriptor_among, is_voter, has_quorum, status_among, Finds, IsFound, members_in, status_by, ReadsGroup, IsOneOf}
 use Rattle.lvm_kept.specs.Committed.{IsWithinDisks}
 use Rattle.lvm_kept.specs.Kept.{Kept}
 use Rattle.lvm_kept.specs.Changes.{IsFoundByNone}
 use Rattle.lvm_kept.specs.Examples.{stamped, three, only, either_of}
 use Rattle.lvm_kept.proofs.CommittedLemmas.Alike.{one_shown_is_one}
 use Rattle.lvm_kept.proofs.CommittedLemmas.Finding.{offered, is_offered, offers}
-use Rattle.lvm_steps.specs.Committing.{IsServed}
+use Rattle.lvm_steps.specs.Committing.{VolumeIsServed}
 use Rattle.lvm_steps.specs.VaryingOn.{HasNewest}
 use Rattle.lvm_steps.specs.WorkedMaking.{four_blank, status_of_three}
 use Rattle.lvm_steps.specs.WorkedSession.{first_three, of_three, at_60, half_restamped, restamped, second_missing, half_restated, first_volume, with_volume, half_committed, WorkedSession}
@@ -177,7 +177,7 @@ found_three id k is =
     sym is.1.is ∙ ap (λ (r : Stamped Descriptor). r.value) (written (stamped 2 three) (first_three one.0) is.1.newest from.0).1
 
 -- and each set that can read finds the status
-status_is : (b : Disks) (k : Descriptor) → Reads of_three b 50 k → status_by of_three b 50 k ≡ Some status_of_three
+status_is : (b : Disks) (k : Descriptor) → ReadsGroup of_three b 50 k → status_by of_three b 50 k ≡ Some status_of_three
 status_is b k reads =
     let same : k ≡ three = found_three 50 k reads.found in
     let some : 1 ≤ length k.pvs = subst (λ (g : Descriptor). 1 ≤ length g.pvs) (sym same) (omega arith) in
@@ -205,9 +205,9 @@ zero_allowed lp n inside partition =
     let test : nat_lt n 2048 ≡ true = grind (arith, nat_tests) in
     subst (λ (t : Bool). IsValue (cut n (if t then record { values = Some (zero_sector ∷ []); open_writes = []; loose = false; mode = mode.Off } else unknown)) zero_sector) (sym test) (inl refl)
 
-served : (row : LvRow) → IsOneOf (first_volume ∷ []) row → IsServed of_three facts three row
+served : (row : LvRow) → IsOneOf (first_volume ∷ []) row → VolumeIsServed of_three facts three row
 served row (inr none) = absurd none
-served row (inl is) = subst (λ (x : LvRow). IsServed of_three facts three x) (sym is) (zeros_serve of_three facts three first_volume (record {
+served row (inl is) = subst (λ (x : LvRow). VolumeIsServed of_three facts three x) (sym is) (zeros_serve of_three facts three first_volume (record {
   zeros = λ lp n p one inside. refl;
   allowed = λ lp n inside. zero_allowed lp n inside.inside inside.partition;
   found = λ b k reads. (status_of_three, status_is b k reads, no_mark);

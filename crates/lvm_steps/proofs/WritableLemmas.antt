@@ -4,13 +4,13 @@ use Rattle.lvm_num.specs.declared.record.Kind.{Kind}
 use Rattle.lvm_num.specs.declared.record.Kind.TheVariants as kind
 use Rattle.lvm_num.specs.Buffer.{Sector, IsSector}
 use Rattle.lvm_num.specs.Record.{slot_start, slot_size}
-use Rattle.lvm_num.specs.Torn.{Carries}
+use Rattle.lvm_num.specs.Torn.{CarriesStamp}
 use Rattle.lvm_num.proofs.RecordLemmas.Records.{joined-same}
 use Rattle.lvm_num.proofs.TornLemmas.Torn.{sectors-fit}
 use Rattle.lvm_kept.specs.passed.Names.{held, slot_of, slot_to_write, slot_for, Image}
 use Rattle.lvm_kept.specs.Contents.{note_sector}
 use Rattle.lvm_kept.specs.Plans.{ChangesBy}
-use Rattle.lvm_kept.specs.Torn.{IsOutside, IsOfNote, IsOfRecord}
+use Rattle.lvm_kept.specs.Torn.{IsOutsideSlots, IsOfNote, IsOfRecord}
 use Rattle.lvm_kept.proofs.PlacesLemmas.{room-same, newest-same}
 use Rattle.lvm_steps.specs.Writable.{WritableStays, NotesAreOutside, RecordsAreOutside}
 
@@ -48,7 +48,7 @@ records_are_outside w kind old new differ frames slots by = record {
       (by.each d s);
 }
 
-module _ (kind : Kind) (old new : Image) (by : ChangesBy (IsOutside kind) old new) (d : ℕ) where
+module _ (kind : Kind) (old new : Image) (by : ChangesBy (IsOutsideSlots kind) old new) (d : ℕ) where
   in_slot : (slot s : ℕ) → slot < 2 → slot_start kind slot ≤ s → s < slot_start kind slot + slot_size kind → new.sector d s ≡ old.sector d s
   in_slot slot s two low high = ⊎_elim (λ same. same) (λ (out : (s < slot_start kind 0) ⊎ (slot_start kind 1 + slot_size kind ≤ s)). absurd (not_outside kind slot s two low high out)) (by.each d s)
 
@@ -77,7 +77,7 @@ writable_stays X content_of w x old new may by = record {
     fresh = λ k lt carries.
         let fits = sectors-fit w.kind (length w.framed.content) may.frames.content in
         let same : new.sector d (slot_start w.kind (w.slots d) + k) ≡ old.sector d (slot_start w.kind (w.slots d) + k) = part_same w.kind old new by d (w.slots d) k (may.slots d) (omega (arith, lt, fits)) in
-        same ∙ was.fresh k lt (subst (λ (sector : Sector). Carries w.kind w.framed.stamp sector) same carries);
+        same ∙ was.fresh k lt (subst (λ (sector : Sector). CarriesStamp w.kind w.framed.stamp sector) same carries);
     later = λ y newest. was.later y (sym (newest-same content_of w.kind (old.sector d) (new.sector d) (λ slot s two low high. in_slot w.kind old new by d slot s two low high)) ∙ newest);
   };
 }

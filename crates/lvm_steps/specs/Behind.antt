@@ -16,14 +16,14 @@ abbrev pub beginning_at : ℕ → Stamp
 beginning_at moment = record { epoch = moment; seq = 0 }
 
 -- What stands on the media, where that is told, is of sessions from before this moment: a clock whose moments rise answers such a one.
-abbrev pub IsBehind : ℕ → Device → Type 0
-IsBehind moment device = IfSome device.media (λ media. StampsBefore (beginning_at moment) (image_of device.sizes media))
+abbrev pub StampsAreEarlier : ℕ → Device → Type 0
+StampsAreEarlier moment device = IfSome device.media (λ media. StampsBefore (beginning_at moment) (image_of device.sizes media))
 
 -- A moment that is later than each at which a group was varied on, in this run and before it, and than what stands on the disks.
 pub record IsAhead (run moment : ℕ) (device : Device) (facts : List Fact) : Type 0 where
   pub run_is : run ≤ moment
   pub later : IsLater facts moment
-  pub behind : IsBehind moment device
+  pub behind : StampsAreEarlier moment device
 
 -- What a clock answers whose moments rise is such a moment, unless it is the last one that there is.
 abbrev pub ClockIsAhead : ℕ → ℕ → Device → List Fact → Type 0

@@ -14,7 +14,7 @@ use Rattle.lvm_vol.specs.May.{known}
 use Rattle.lvm_vol.specs.Standing.{volumes_in}
 use Rattle.lvm_kept.specs.passed.Names.{Device, image_of, DeviceStep, Path}
 use Rattle.lvm_kept.specs.Contents.{Contents, contents_of}
-use Rattle.lvm_kept.specs.Group.{IsFound, members_in, status_by, Reads, fresh_on, IsBlockOf, IsOneOf, IsSome}
+use Rattle.lvm_kept.specs.Group.{IsFound, members_in, status_by, ReadsGroup, fresh_on, IsBlockOf, IsOneOf, IsSome}
 use Rattle.lvm_kept.specs.Committed.{IsWithinDisks}
 use Rattle.lvm_kept.specs.Kept.{StandsAs, IsBlockKept, Kept}
 use Rattle.lvm_kept.specs.Torn.{RecordWrite, MayWriteAll, written as as_read, DescriptorsChange, Alone}
@@ -33,11 +33,11 @@ pub record DiffersInVolume (lv : ℕ) (group next : Descriptor) : Type 0 where
 -- ---- what the disks must hold of it
 
 -- Whatever status a quorum of the group finds, the volume's blocks on its fresh copies are kept by it, and each logical partition has one.
-pub record IsServed (c : Contents) (facts : List Fact) (group : Descriptor) (row : LvRow) : Type 0 where
-  pub status : (b : Disks) (k : Descriptor) → Reads c b group.id k → IsTrue (is_some (status_by c b group.id k))
-  pub blocks : (b : Disks) (k : Descriptor) → Reads c b group.id k → (lp n : ℕ) → IsBlockOf group.mib row lp n
+pub record VolumeIsServed (c : Contents) (facts : List Fact) (group : Descriptor) (row : LvRow) : Type 0 where
+  pub status : (b : Disks) (k : Descriptor) → ReadsGroup c b group.id k → IsTrue (is_some (status_by c b group.id k))
+  pub blocks : (b : Disks) (k : Descriptor) → ReadsGroup c b group.id k → (lp n : ℕ) → IsBlockOf group.mib row lp n
       → IsBlockKept c group.mib (status_by c b group.id k) row (fresh_on (members_in c all_disks group.id group) (status_by c b group.id k) row lp) (known (facts ++ Cut ∷ []) (Lv row.number) n) n
-  pub some : (b : Disks) (k : Descriptor) → Reads c b group.id k → (lp : ℕ) → lp < row.lps → IsSome (fresh_on (members_in c all_disks group.id group) (status_by c b group.id k) row lp)
+  pub some : (b : Disks) (k : Descriptor) → ReadsGroup c b group.id k → (lp : ℕ) → lp < row.lps → IsSome (fresh_on (members_in c all_disks group.id group) (status_by c b group.id k) row lp)
 
 -- What lets the next descriptor of a session be written to disks that show the group.
 pub record MayCommit (c : Contents) (facts : List Fact) (group : Descriptor) (lv : ℕ) (targets : Disks) (next : Stamped Descriptor) : Type 0 where
@@ -47,7 +47,7 @@ pub record MayCommit (c : Contents) (facts : List Fact) (group : Descriptor) (lv
   -- by the history it may be named, or not, as the next descriptor says: as where it is being made or removed, or where it stays with its shape
   pub stands : StandsAs group.mib (volumes_in facts lv).standing (volumes_in facts lv).shape (volume_of next.value lv)
   -- where it is named, its blocks are zeros, and the status that was committed calls none of its partitions stale
-  pub served : (row : LvRow) → IsOneOf next.value.lvs row → row.number ≡ lv → IsServed c facts group row
+  pub served : (row : LvRow) → IsOneOf next.value.lvs row → row.number ≡ lv → VolumeIsServed c facts group row
   pub showing : AreShowing c group.id targets
   -- by the stamps of the session, which rise
   pub later : (d : ℕ) (r : Stamped Descriptor) → c.descriptor d ≡ Some r → r.value.id ≡ group.id → stamp_lt r.stamp next.stamp ≡ true

@@ -15,16 +15,16 @@ use Rattle.lvm_kept.specs.Contents.{contents_of}
 use Rattle.lvm_kept.specs.Changes.{IsFoundByAll, IsFoundByNone}
 use Rattle.lvm_kept.specs.Moments.{Moment, StaysCalm}
 use Rattle.lvm_kept.specs.Torn.{RecordWrite, MayWriteAll, written as as_read, Alone}
-use Rattle.lvm_steps.specs.Entries.{IsQuiet}
-use Rattle.lvm_steps.specs.Moments.{Begins, Holds, Keeps}
+use Rattle.lvm_steps.specs.Entries.{LeavesEachBlock}
+use Rattle.lvm_steps.specs.Moments.{RunBegins, HistoryHolds, Keeps}
 use Rattle.lvm_steps.specs.Requests.{at, answered, darkened}
 use Rattle.lvm_steps.specs.Making.{IsWritten}
 use Rattle.lvm_steps.specs.Committing.{MayCommit}
 
 -- A quiet entry that may follow goes on with a span.
 abbrev pub QuietGoesOn : Type 0
-QuietGoesOn = (run : ℕ) (first : Moment) (device : Device) (facts : List Fact) (f : Fact) → Keeps run first (at device facts) → IsQuiet f
-    → ((past : List Fact) → Begins run past first → Holds past (at device facts) → Fits (past ++ facts) f) → Keeps run first (at device (facts ++ f ∷ []))
+QuietGoesOn = (run : ℕ) (first : Moment) (device : Device) (facts : List Fact) (f : Fact) → Keeps run first (at device facts) → LeavesEachBlock f
+    → ((past : List Fact) → RunBegins run past first → HistoryHolds past (at device facts) → Fits (past ++ facts) f) → Keeps run first (at device (facts ++ f ∷ []))
 
 -- the entry opens no write: only the beginning of one does
 abbrev pub OpensNone : Fact → Type 0
@@ -69,5 +69,5 @@ GoneInSpan = (run : ℕ) (first : Moment) (device : Device) (facts : List Fact) 
 abbrev pub CommitsInSpan : Type 0
 CommitsInSpan = (run : ℕ) (first : Moment) (group : Descriptor) (lv : ℕ) (w : RecordWrite) (next : Descriptor) (old new : Device) (facts : List Fact) (written : IsWritten (Alone w) old new)
     → Keeps run first (at old facts) → w.kind ≡ kind.Descriptor → MayWriteAll Descriptor descriptor_of w next (image_of old.sizes written.media)
-    → ((past : List Fact) → Begins run past first → Holds past (at old facts) → MayCommit (contents_of (image_of old.sizes written.media)) (past ++ facts) group lv w.targets (as_read w next))
+    → ((past : List Fact) → RunBegins run past first → HistoryHolds past (at old facts) → MayCommit (contents_of (image_of old.sizes written.media)) (past ++ facts) group lv w.targets (as_read w next))
     → Keeps run first (at new facts)

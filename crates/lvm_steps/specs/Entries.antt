@@ -27,15 +27,15 @@ DiskEntryKeeps = (c : Contents) (facts : List Fact) (f : Fact) → IsOfDisks f �
 
 -- An entry after which every block may have what it might have before, and each volume stands as it did: a request on a disk begins, an
 -- answer is taken, a disk's content is given up, a group was varied on, the power was cut.
-abbrev pub IsQuiet : Fact → Type 0
-IsQuiet (Begun r) = IsDisk r.vol
-IsQuiet (Removing vol) = IsDisk vol
-IsQuiet (Removed vol) = IsDisk vol
-IsQuiet (Taken r) = Unit {0}
-IsQuiet (On moment) = Unit {0}
-IsQuiet Cut = Unit {0}
-IsQuiet _ = ⊥
+abbrev pub LeavesEachBlock : Fact → Type 0
+LeavesEachBlock (Begun r) = IsDisk r.vol
+LeavesEachBlock (Removing vol) = IsDisk vol
+LeavesEachBlock (Removed vol) = IsDisk vol
+LeavesEachBlock (Taken r) = Unit {0}
+LeavesEachBlock (On moment) = Unit {0}
+LeavesEachBlock Cut = Unit {0}
+LeavesEachBlock _ = ⊥
 
 -- It keeps the history, whatever the disks show.
 abbrev pub QuietEntryKeeps : Type 0
-QuietEntryKeeps = (c : Contents) (facts : List Fact) (f : Fact) → IsQuiet f → Kept c facts → Kept c (facts ++ f ∷ [])
+QuietEntryKeeps = (c : Contents) (facts : List Fact) (f : Fact) → LeavesEachBlock f → Kept c facts → Kept c (facts ++ f ∷ [])

@@ -12,9 +12,9 @@ use Rattle.lvm_kept.specs.passed.VolEntryVol.{Disk}
 use Rattle.lvm_kept.specs.Contents.{Contents, contents_of, has_records, note_sector}
 use Rattle.lvm_kept.specs.Plans.{Plan, ChangesBy, IsUnderWay}
 use Rattle.lvm_kept.specs.Raw.{OnlyAdds}
-use Rattle.lvm_kept.specs.Torn.{RecordWrite, on_disk, IsOfRecord, IsOutside}
+use Rattle.lvm_kept.specs.Torn.{RecordWrite, on_disk, IsOfRecord, IsOutsideSlots}
 use Rattle.lvm_kept.specs.Changes.{IsBlank}
-use Rattle.lvm_steps.specs.Behind.{StampsBefore, beginning_at, IsBehind, IsAhead, ClockIsAhead}
+use Rattle.lvm_steps.specs.Behind.{StampsBefore, beginning_at, StampsAreEarlier, IsAhead, ClockIsAhead}
 
 -- all stamps on the media, where that is told, are before this one
 abbrev pub StandsBefore : Stamp → Device → Type 0
@@ -36,7 +36,7 @@ LaterIsAfterToo = (stamp later : Stamp) (image : Image) → IsNoLater stamp late
 
 -- and what is from before a moment is from before a later one.
 abbrev pub LaterIsAheadToo : Type 0
-LaterIsAheadToo = (moment later : ℕ) (device : Device) → moment ≤ later → IsBehind moment device → IsBehind later device
+LaterIsAheadToo = (moment later : ℕ) (device : Device) → moment ≤ later → StampsAreEarlier moment device → StampsAreEarlier later device
 
 -- No stamp of a session that begins at a moment, or after it, is before those of that moment,
 abbrev pub SessionIsFromMoment : Type 0
@@ -48,11 +48,11 @@ SessionIsBeforeLater = (moment : ℕ) (stamp : Stamp) → stamp.epoch < moment �
 
 -- So what stands on disks from before a session is before each of its stamps,
 abbrev pub BehindIsBefore : Type 0
-BehindIsBefore = (stamp : Stamp) (device : Device) → IsBehind stamp.epoch device → StandsBefore stamp device
+BehindIsBefore = (stamp : Stamp) (device : Device) → StampsAreEarlier stamp.epoch device → StandsBefore stamp device
 
 -- and what is before one of them is from before each later moment.
 abbrev pub BeforeIsBehind : Type 0
-BeforeIsBehind = (stamp : Stamp) (moment : ℕ) (device : Device) → stamp.epoch < moment → StandsBefore stamp device → IsBehind moment device
+BeforeIsBehind = (stamp : Stamp) (moment : ℕ) (device : Device) → stamp.epoch < moment → StandsBefore stamp device → StampsAreEarlier moment device
 
 -- ---- writes
 
@@ -74,11 +74,11 @@ pub record IsOfEarlier (stamp : Stamp) (d s : ℕ) (value : Sector) : Type 0 whe
 
 -- The sector is outside the slots of both kinds, as one of a note or of data, whatever its value; or it is one of a record under a stamp before this one.
 abbrev pub IsOtherOrEarlier : Stamp → Plan
-IsOtherOrEarlier stamp d s value = ((kind : Kind) → IsOutside kind d s value) ⊎ IsOfEarlier stamp d s value
+IsOtherOrEarlier stamp d s value = ((kind : Kind) → IsOutsideSlots kind d s value) ⊎ IsOfEarlier stamp d s value
 
 -- A note and data are outside the slots.
 abbrev pub NotesAndDataAreOutside : Type 0
-NotesAndDataAreOutside = (kind : Kind) (d s : ℕ) (value : Sector) → (s ≡ note_sector) ⊎ (data_start ≤ s) → IsOutside kind d s value
+NotesAndDataAreOutside = (kind : Kind) (d s : ℕ) (value : Sector) → (s ≡ note_sector) ⊎ (data_start ≤ s) → IsOutsideSlots kind d s value
 
 -- Writes of these alone leave all stamps before this one, whatever of them has landed,
 abbrev pub EarlierKeepBefore : Type 0
@@ -139,12 +139,12 @@ EarlierStandsBefore =
 
 -- So what is from before a moment stays so: by all that writes no records,
 abbrev pub UntouchedStaysBehind : Type 0
-UntouchedStaysBehind = (moment : ℕ) (old new : Device) → StaysBefore old new → IsBehind moment old → IsBehind moment new
+UntouchedStaysBehind = (moment : ℕ) (old new : Device) → StaysBefore old new → StampsAreEarlier moment old → StampsAreEarlier moment new
 
 -- and by records of sessions before it.
 abbrev pub EarlierStaysBehind : Type 0
 EarlierStaysBehind =
-    (moment : ℕ) (old new : Device) → BothTold old.media new.media (λ was is. ChangesBy (IsOtherOrEarlier (beginning_at moment)) (image_of old.sizes was) (image_of new.sizes is)) → IsBehind moment old → IsBehind moment new
+    (moment : ℕ) (old new : Device) → BothTold old.media new.media (λ was is. ChangesBy (IsOtherOrEarlier (beginning_at moment)) (image_of old.sizes was) (image_of new.sizes is)) → StampsAreEarlier moment old → StampsAreEarlier moment new
 
 -- ---- the first and the last
 
@@ -154,11 +154,11 @@ BlankIsBefore = (stamp : Stamp) (image : Image) → IsBlank image → StampsBefo
 
 -- and all is from before each moment.
 abbrev pub BlankIsBehind : Type 0
-BlankIsBehind = (moment : ℕ) (device : Device) → IfSome device.media (λ media. IsBlank (image_of device.sizes media)) → IsBehind moment device
+BlankIsBehind = (moment : ℕ) (device : Device) → IfSome device.media (λ media. IsBlank (image_of device.sizes media)) → StampsAreEarlier moment device
 
 -- Whatever stands on disks is from before the end of all moments: an epoch has 64 bits.
 abbrev pub AllIsBehindEnd : Type 0
-AllIsBehindEnd = (device : Device) → HasSectors device → IsBehind (2 ^ 64) device
+AllIsBehindEnd = (device : Device) → HasSectors device → StampsAreEarlier (2 ^ 64) device
 
 -- ---- records
 
@@ -180,7 +180,7 @@ LaterMayGo =
 -- as one of a session that begins at a moment where all is from before it.
 abbrev pub SessionMayGo : Type 0
 SessionMayGo =
-    (w : RecordWrite) (moment : ℕ) (device : Device) (media : Media) (d : ℕ) → device.media ≡ Some media → HasSectors device → IsBehind moment device → moment ≤ w.framed.stamp.epoch
+    (w : RecordWrite) (moment : ℕ) (device : Device) (media : Media) (d : ℕ) → device.media ≡ Some media → HasSectors device → StampsAreEarlier moment device → moment ≤ w.framed.stamp.epoch
     → has_records (image_of device.sizes media) d ≡ true → BothBefore (on_disk w d) (media d)
 
 -- ---- the clock
@@ -199,7 +199,7 @@ RisenIsAhead = (run last moment : ℕ) (device : Device) (facts : List Fact) →
 
 -- and from the next one on all of that is behind, whichever moment it is.
 abbrev pub AllIsBehindNext : Type 0
-AllIsBehindNext = (run moment : ℕ) (device : Device) (facts : List Fact) → HasSectors device → moment < 2 ^ 64 → ClockIsAhead run moment device facts → IsBehind (moment + 1) device
+AllIsBehindNext = (run moment : ℕ) (device : Device) (facts : List Fact) → HasSectors device → moment < 2 ^ 64 → ClockIsAhead run moment device facts → StampsAreEarlier (moment + 1) device
 
 -- ---- the moments of a history
 

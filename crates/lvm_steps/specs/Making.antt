@@ -86,19 +86,19 @@ abbrev pub TransferLeavesOnly : Type 0
 TransferLeavesOnly = (x : Writing) (start : Image) (f : Flight) (old new : Device) → IsPlanned (brings x) f → OnlyAdds f old new → LeavesOnly x start old → LeavesOnly x start new
 
 -- From the one shelf to the other step by step, at each moment what was kept is kept, and at the end the group may still be made.
-pub record GoesOn (group : Descriptor) (old new : Device) : Type 0 where
+pub record MakingGoesOn (group : Descriptor) (old new : Device) : Type 0 where
   pub path : Path DeviceStep (StaysKept old) old new
   pub may : MayMakeOn new group
 
 -- So it is while the notes of disks are written,
 abbrev pub NotesGoOn : Type 0
-NotesGoOn = (group : Descriptor) (targets : Disks) (sector : Sector) (old new : Device) → IsWritten (Note targets sector) old new → MayMakeOn old group → GoesOn group old new
+NotesGoOn = (group : Descriptor) (targets : Disks) (sector : Sector) (old new : Device) → IsWritten (Note targets sector) old new → MayMakeOn old group → MakingGoesOn group old new
 
 -- and while a status is,
 abbrev pub StatusGoesOn : Type 0
 StatusGoesOn = (group : Descriptor) (w : RecordWrite) (status : Status) (old new : Device) (written : IsWritten (Alone w) old new)
     → w.kind ≡ kind.Status → MayWriteAll Status status_of w status (image_of old.sizes written.media)
-    → ((image : Image) → MayLeave old image → IsUnused (contents_of image) status.id w.framed.stamp) → MayMakeOn old group → GoesOn group old new
+    → ((image : Image) → MayLeave old image → IsUnused (contents_of image) status.id w.framed.stamp) → MayMakeOn old group → MakingGoesOn group old new
 
 -- and what was kept is kept while the group's descriptor is.
 abbrev pub DescriptorGoesOn : Type 0

@@ -15,7 +15,7 @@ ImagesKept device facts = (image : Image) → MayLeave device image → Kept (co
 
 -- What the earlier history and the shelf are to each other before a run, or a span of it, of this number: the shelf tells its media, the joined
 -- history is legal, the earlier one names no request of this run and no moment from it on, no write is open, and each crash image is kept.
-pub record Begins (run : ℕ) (past : List Fact) (m : Moment) : Type 0 where
+pub record RunBegins (run : ℕ) (past : List Fact) (m : Moment) : Type 0 where
   pub told : IsSome m.device.media
   pub legal : Legal (past ++ m.facts)
   pub own : count_by (begins_in run) past ≡ 0
@@ -24,13 +24,13 @@ pub record Begins (run : ℕ) (past : List Fact) (m : Moment) : Type 0 where
   pub kept : ImagesKept m.device (past ++ m.facts)
 
 -- the joined history is legal, and each crash image is kept with it
-pub record Holds (past : List Fact) (m : Moment) : Type 0 where
+pub record HistoryHolds (past : List Fact) (m : Moment) : Type 0 where
   pub legal : Legal (past ++ m.facts)
   pub kept : ImagesKept m.device (past ++ m.facts)
 
 -- Whatever was told before: where it fits the first moment, this one is as it should be.
 abbrev pub Upholds : ℕ → Moment → Moment → Type 0
-Upholds run first m = (past : List Fact) → Begins run past first → Holds past m
+Upholds run first m = (past : List Fact) → RunBegins run past first → HistoryHolds past m
 
 -- from the one moment to the other step by step, and each moment between is as it should be
 abbrev pub Keeps : ℕ → Moment → Moment → Type 0
@@ -74,8 +74,8 @@ FewerStayKept = (old new : Device) → LeavesNoMore old new → StaysKept old ne
 abbrev pub EntryGoesOn : Type 0
 EntryGoesOn =
     (run : ℕ) (first : Moment) (device : Device) (facts : List Fact) (f : Fact) → Keeps run first (record { device = device; facts = facts })
-    → ((past : List Fact) → Begins run past first → Holds past (record { device = device; facts = facts }) → Fits (past ++ facts) f)
-    → ((past : List Fact) → Begins run past first → Holds past (record { device = device; facts = facts }) → (image : Image) → MayLeave device image → Kept (contents_of image) ((past ++ facts) ++ f ∷ []))
+    → ((past : List Fact) → RunBegins run past first → HistoryHolds past (record { device = device; facts = facts }) → Fits (past ++ facts) f)
+    → ((past : List Fact) → RunBegins run past first → HistoryHolds past (record { device = device; facts = facts }) → (image : Image) → MayLeave device image → Kept (contents_of image) ((past ++ facts) ++ f ∷ []))
     → Keeps run first (record { device = device; facts = facts ++ f ∷ [] })
 
 -- a group is on from a moment that is later than all before, in this run and earlier;

@@ -2,7 +2,7 @@
 use Rattle.std.specs.Prelude.{◌≡◌, ◌<◌, ◌≤◌, ◌+◌, ◌++◌, ◌∷◌, ℕ, Bool, true, false, List, [], Some, None, IfSome, count_by, length, take}
 use Rattle.lvm_num.specs.Buffer.{Buffer, Sector}
 use Rattle.lvm_num.specs.Geometry.{data_start}
-use Rattle.lvm_kept.specs.passed.Names.{Media, Image, Flight, Device, image_of, written, MayLeave, LeavesNoMore, BothTold, Puts, PutsSome, Reads, IsRange, DeviceStep, Path}
+use Rattle.lvm_kept.specs.passed.Names.{Media, Image, Flight, Device, image_of, written, MayLeave, LeavesNoMore, BothTold, Puts, PutsSome, ReadsRange, IsRange, DeviceStep, Path}
 use Rattle.lvm_vol.specs.declared.entry.Outcome.{Outcome}
 use Rattle.lvm_vol.specs.declared.entry.Outcome.TheVariants as outcome
 use Rattle.lvm_vol.specs.Facts.{Request, Fact, Begun, Landed, Taken, Cut}
@@ -10,7 +10,7 @@ use Rattle.lvm_vol.specs.Legal.{begins_in}
 use Rattle.lvm_kept.specs.Contents.{descriptor_on}
 use Rattle.lvm_kept.specs.Changes.{IsBlank}
 use Rattle.lvm_kept.specs.Moments.{Moment}
-use Rattle.lvm_kept.specs.Raw.{raw_request, Carries, OnlyAdds, IsStill, next_write}
+use Rattle.lvm_kept.specs.Raw.{raw_request, CarriesRequest, OnlyAdds, HasNothingOut, next_write}
 use Rattle.lvm_steps.specs.Moments.{Keeps}
 
 -- ---- disks in no group
@@ -53,18 +53,18 @@ pub record IsRawWrite (facts : List Fact) (r : Request) (f : Flight) (old new : 
   pub is : r ≡ next_write run facts disk first count blocks
   pub none : IsInNoGroup old disk
   pub low : data_start ≤ first
-  pub carries : Carries r f
+  pub carries : CarriesRequest r f
   pub path : Path DeviceStep (OnlyAdds f old) old new
 
 -- At each moment of it the history is legal and each crash image is kept with it, whether all its sectors stand when it has landed,
 abbrev pub WriteDoneKeeps : Type 0
 WriteDoneKeeps = (facts : List Fact) (r : Request) (f : Flight) (old new : Device) (run disk first count : ℕ) (blocks : List Sector)
-    → IsRawWrite facts r f old new run disk first count blocks → IsStill old new → BothTold old.media new.media (Puts f) → Keeps run (at old facts) (at new (answered facts r outcome.Done []))
+    → IsRawWrite facts r f old new run disk first count blocks → HasNothingOut old new → BothTold old.media new.media (Puts f) → Keeps run (at old facts) (at new (answered facts r outcome.Done []))
 
 -- some of them,
 abbrev pub WriteLostKeeps : Type 0
 WriteLostKeeps = (facts : List Fact) (r : Request) (f : Flight) (old new : Device) (run disk first count : ℕ) (blocks : List Sector)
-    → IsRawWrite facts r f old new run disk first count blocks → IsStill old new → BothTold old.media new.media (PutsSome f) → Keeps run (at old facts) (at new (answered facts r outcome.Lost []))
+    → IsRawWrite facts r f old new run disk first count blocks → HasNothingOut old new → BothTold old.media new.media (PutsSome f) → Keeps run (at old facts) (at new (answered facts r outcome.Lost []))
 
 -- the power was cut and is put on again,
 abbrev pub WriteDarkKeeps : Type 0
@@ -87,7 +87,7 @@ next_read run facts disk first count = raw_request run (count_by (begins_in run)
 abbrev pub ReadGotKeeps : Type 0
 ReadGotKeeps = (facts : List Fact) (old new : Device) (run disk first count ticket : ℕ) (sent back : Buffer)
     → Path DeviceStep (OnlyAdds (read_flight ticket disk first count sent) old) old new → IsInNoGroup old disk → data_start ≤ first → IsRange old disk first count
-    → IsStill old new → BothTold old.media new.media (Puts (read_flight ticket disk first count sent)) → IfSome old.media (λ m. Reads m (read_flight ticket disk first count sent) back) → count ≤ length back.sectors
+    → HasNothingOut old new → BothTold old.media new.media (Puts (read_flight ticket disk first count sent)) → IfSome old.media (λ m. ReadsRange m (read_flight ticket disk first count sent) back) → count ≤ length back.sectors
     → Keeps run (at old facts) (at new (answered facts (next_read run facts disk first count) outcome.Got (take count back.sectors)))
 
 -- fails,

@@ -62,7 +62,7 @@ OnlyNewestIsFound = (c : Contents) (group : Descriptor) (disks : Disks) (newest 
 -- The next status, which has rows for the members alone, carries the marks on copies of the group and on its volumes in mode passive of the one that was
 -- found, and no partition loses its last fresh copy by it: a further copy is stale only where it stands on a disk that isn't a voter, while another copy of
 -- its logical partition is fresh on one that is. Of a volume in another mode a dirty mark says nothing.
-pub record Carries (c : Contents) (group : Descriptor) (disks : Disks) (was next : Status) : Type 0 where
+pub record CarriesMarks (c : Contents) (group : Descriptor) (disks : Disks) (was next : Status) : Type 0 where
   pub stale : (row : LvRow) (lp : ℕ) (p : Pp) → IsOneOf group.lvs row → IsOneOf (copies_of row lp) p → IsTrue (calls_stale was p) → IsTrue (calls_stale next p)
   pub dirty : (row : LvRow) → IsOneOf group.lvs row → row.mode ≡ Passive → IsTrue (calls_dirty was row.number) → IsTrue (calls_dirty next row.number)
   pub only : (row : LvRow) (lp : ℕ) (p : Pp) → IsOneOf group.lvs row → IsOneOf (copies_of row lp) p → IsTrue (calls_stale next p)
@@ -75,7 +75,7 @@ pub record MayRestate (c : Contents) (group : Descriptor) (disks targets : Disks
   -- by the choice: the newest status of the voters, to whom the next one goes
   pub status : status_among c disks group.id ≡ Some was
   pub showing : AreShowing c group.id targets
-  pub marks : Carries c group disks was.value next.value
+  pub marks : CarriesMarks c group disks was.value next.value
   -- by the clock
   pub later : (d : ℕ) (r : Stamped Status) → c.status d ≡ Some r → r.value.id ≡ group.id → stamp_lt r.stamp next.stamp ≡ true
 

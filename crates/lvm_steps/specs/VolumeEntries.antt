@@ -16,10 +16,10 @@ use Rattle.lvm_vol.specs.Facts.{Fact, Making, Made, Removing, Removed, Cut}
 use Rattle.lvm_vol.specs.May.{known, IsValue}
 use Rattle.lvm_vol.specs.Standing.{Open, volumes_in}
 use Rattle.lvm_kept.specs.Contents.{Contents}
-use Rattle.lvm_kept.specs.Group.{members_in, status_by, Reads, block_at, IsBlockOf, IsOneOf}
+use Rattle.lvm_kept.specs.Group.{members_in, status_by, ReadsGroup, block_at, IsBlockOf, IsOneOf}
 use Rattle.lvm_kept.specs.Kept.{Kept}
 use Rattle.lvm_kept.specs.Changes.{IsFoundByAll, IsFoundByNone}
-use Rattle.lvm_steps.specs.Committing.{IsServed}
+use Rattle.lvm_steps.specs.Committing.{VolumeIsServed}
 
 -- ---- entries
 
@@ -46,9 +46,9 @@ VolumeIsGone = (c : Contents) (facts : List Fact) (lv : ℕ) → IsFoundByNone c
 pub record AreZeros (c : Contents) (facts : List Fact) (group : Descriptor) (row : LvRow) : Type 0 where
   pub zeros : (lp n : ℕ) (p : Pp) → IsOneOf (copies_of row lp) p → IsBlockOf group.mib row lp n → block_at c group.mib p n ≡ zero_sector
   pub allowed : (lp n : ℕ) → IsBlockOf group.mib row lp n → IsValue (known (facts ++ Cut ∷ []) (Lv row.number) n) zero_sector
-  pub found : (b : Disks) (k : Descriptor) → Reads c b group.id k → (status : Stamped Status) × (status_by c b group.id k ≡ Some status)
+  pub found : (b : Disks) (k : Descriptor) → ReadsGroup c b group.id k → (status : Stamped Status) × (status_by c b group.id k ≡ Some status)
       × ((lp : ℕ) → lp < row.lps → (p : Pp) × IsOneOf (copies_of row lp) p × IsTrue (members_in c all_disks group.id group p.disk) × IsFalse (calls_stale status.value p))
 
 -- Then it is served.
 abbrev pub ZerosServe : Type 0
-ZerosServe = (c : Contents) (facts : List Fact) (group : Descriptor) (row : LvRow) → AreZeros c facts group row → IsServed c facts group row
+ZerosServe = (c : Contents) (facts : List Fact) (group : Descriptor) (row : LvRow) → AreZeros c facts group row → VolumeIsServed c facts group row

@@ -19,14 +19,14 @@ use Rattle.lvm_kept.proofs.GroupLemmas.{still_finds, finds_before}
 use Rattle.lvm_commit.specs.Committed.{AreOne, MayMark, ShowsCommitted}
 use Rattle.lvm_crash.proofs.GroupLemmas.Lists.{left_of, right_of, both_of, not_so, of_passing}
 use Rattle.lvm_commit.proofs.passed.Names.{clash}
-use Rattle.lvm_rest.specs.Rest.{IsEven, NoneIsBehind}
+use Rattle.lvm_rest.specs.Rest.{IsEven, MissingAreStale}
 use Rattle.lvm_rest.proofs.Rows.{at_passing}
 use Rattle.lvm_tidying.specs.Cleaned.{CleaningIsMarking, MarkingStays, CleanedMayClean, CleanedShows}
 
 not_passive : Passive ≡ Off → ⊥
 not_passive e = absurd cc
 
-module _ (c : Contents) (group : Descriptor) (status : Status) (there : Disks) (shows : ShowsCommitted c group status there) (even : IsEven c group (Some shows.stands) there) (none : NoneIsBehind c group (Some shows.stands) there) where
+module _ (c : Contents) (group : Descriptor) (status : Status) (there : Disks) (shows : ShowsCommitted c group status there) (even : IsEven c group (Some shows.stands) there) (none : MissingAreStale c group (Some shows.stands) there) where
   abbrev stands : Option (Stamped Status)
   stands = Some shows.stands
 

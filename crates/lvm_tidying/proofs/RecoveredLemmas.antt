@@ -25,7 +25,7 @@ use Rattle.lvm_kept.specs.Contents.{Contents}
 use Rattle.lvm_kept.specs.Group.{if_passes, is_status_of, is_dirty_by, descriptor_among, is_voter, status_among, is_stale_by, fresh, fresh_on, block_at, IsBlockOf, IsOneOf, IsSome, HoldOne}
 use Rattle.lvm_kept.specs.Kept.{Kept}
 use Rattle.lvm_kept.specs.Recovered.{IsMadeEqual, MadeEqual, IsCopied, IsLeftBehind as IsLeftBehindBy, IsLeftDirty, Recovered}
-use Rattle.lvm_kept.specs.Committed.{Stands}
+use Rattle.lvm_kept.specs.Committed.{StandsOnSet}
 use Rattle.lvm_kept.proofs.CommittedLemmas.Finding.{offered, newest_among}
 use Rattle.lvm_write.specs.Next.{IsLeftBehind, has_passive}
 use Rattle.lvm_num.specs.Modes.{is_passive}
@@ -73,7 +73,7 @@ module _ (c : Contents) (stated : ℕ → Option (Stamped Status)) (note : ℕ �
   voter_same disks id = refl
 
   -- where the voters have one status, and others only earlier ones, it is the newest
-  pub status_is : (disks set : Disks) (id : ℕ) (one : Stamped Status) → Stands (is_status_of id) stated set one one → (d : ℕ) → IsTrue (is_voter c disks id d) → IsTrue (set d)
+  pub status_is : (disks set : Disks) (id : ℕ) (one : Stamped Status) → StandsOnSet (is_status_of id) stated set one one → (d : ℕ) → IsTrue (is_voter c disks id d) → IsTrue (set d)
       → ((d : ℕ) (r : Stamped Status) → stated d ≡ Some r → d < c.disks) → status_among with_data disks id ≡ Some one
   unfolding status_among
   status_is disks set id one stands d voter in_set within =
@@ -192,7 +192,7 @@ module _ (old begun copied cleaned new : Contents) (clean : Stamped Status) (ran
   is_own : IsTrue (is_status_of id clean.value)
   is_own = eq-eqb clean.value.id id own
 
-  status_stands : Stands (is_status_of id) cleaned.status there clean clean
+  status_stands : StandsOnSet (is_status_of id) cleaned.status there clean clean
   status_stands = record {
     own = is_own;
     next_own = is_own;

@@ -12,7 +12,7 @@ use Rattle.lvm_kept.specs.Group.{fresh_on, IsOneOf}
 use Rattle.lvm_kept.specs.Torn.{StatusesChange}
 use Rattle.lvm_commit.specs.Committed.{MayMark, ShowsCommitted}
 use Rattle.lvm_commit.specs.Laws.{IsLaterStatus}
-use Rattle.lvm_rest.specs.Rest.{IsEven, NoneIsBehind}
+use Rattle.lvm_rest.specs.Rest.{IsEven, MissingAreStale}
 use Rattle.lvm_rest.specs.Commands.{MayClean}
 
 -- a volume in mode passive that is dirty and has a logical partition without a usable copy
@@ -36,7 +36,7 @@ pub record IsCleaned (group : Descriptor) (there : Disks) (stands : Stamped Stat
 -- Where the usable copies are even and none is left behind, what may be cleaned may be marked so.
 abbrev pub CleaningIsMarking : Type 0
 CleaningIsMarking = (c : Contents) (group : Descriptor) (status : Status) (there : Disks) (shows : ShowsCommitted c group status there) (next : Status)
-    → MayClean group shows.stands there next → IsEven c group (Some shows.stands) there → NoneIsBehind c group (Some shows.stands) there → MayMark c group status next
+    → MayClean group shows.stands there next → IsEven c group (Some shows.stands) there → MissingAreStale c group (Some shows.stands) there → MayMark c group status next
 
 -- That it may be marked so lasts while statuses alone are written.
 abbrev pub MarkingStays : Type 0

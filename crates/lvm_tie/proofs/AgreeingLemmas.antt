@@ -35,7 +35,7 @@ use Rattle.lvm_tie.specs.Seen.{IsRequestAt, IsStepAt, SeesRequest, phase_seen}
 use Rattle.lvm_tie.specs.Tied.{IsTied}
 use Rattle.lvm_tie.proofs.StateLemmas.{stale_seen, there_first}
 use Rattle.lvm_tie.proofs.AmongLemmas.{not_true}
-use Rattle.lvm_tie.specs.Agreeing.{AgreeWith, IsCalm, IsLiveOn, IsSettledAt, IsUsableOf, LiveAgree, goes_over, has_started, stands_at}
+use Rattle.lvm_tie.specs.Agreeing.{AgreeWith, NoStartedWriteCovers, IsLiveOn, IsSettledAt, IsUsableOf, LiveAgree, goes_over, has_started, stands_at}
 use Rattle.lvm_tie.proofs.SeenLemmas.Beside.{plain_copies}
 
 and_self : (a : Bool) → a && true ≡ a && a

@@ -32,10 +32,10 @@ use Rattle.lvm_session.specs.Calls.{copy_at}
 use Rattle.lvm_session.specs.Judging.{copies_in, is_missing, is_running, is_stale, is_waiting, is_wanted_stale, place_of}
 use Rattle.lvm_session.specs.State.{Core, State}
 use Rattle.lvm_session.specs.Marks.{is_among}
-use Rattle.lvm_session.specs.Causes.{AreCaused, AreCounted, FailedSince, HasFailed as HasFailedSince, IsCaused, IsCausedAmong, IsCounted, faults_at_first, faults_at_opening, is_blamed, is_held_stale, was_usable}
+use Rattle.lvm_session.specs.Causes.{AreCaused, AreCounted, FailedSince, TargetHasFailed as HasFailedSince, IsCaused, IsCausedAmong, IsCounted, faults_at_first, faults_at_opening, is_blamed, is_held_stale, was_usable}
 use Rattle.lvm_session.specs.Sound.{IsSound}
 use Rattle.lvm_invariant.specs.Caused.{FactIsCaused, HadNoCopy, LandingIsCaused, Since}
-use Rattle.lvm_invariant.specs.Faults.{Faults, HasCause, HasFailed}
+use Rattle.lvm_invariant.specs.Faults.{Faults, IsStaleForCause, FaultsRose}
 use Rattle.lvm_invariant.specs.State.{Badly, Marks, ModelCopy, Queued, ModelState}
 use Rattle.lvm_crash.specs.Session.{as_marks}
 use Rattle.lvm_keeps_events.proofs.EndsLemmas.Counts.{rose_since}
@@ -113,7 +113,7 @@ module _ (past first : List Fact) (s : State) (w : Faults) (tied : IsTied past s
   sound : IsSound s
   sound = tied.orderly.sound
 
-  failed_of : (d : ℕ) → FailedSince s d → HasFailed w d
+  failed_of : (d : ℕ) → FailedSince s d → FaultsRose w d
   failed_of d rose = subst (λ n. Rose n (w.now d)) (sym (faults.began d)) (subst (Rose (faults_at_first core d)) (sym (faults.now d)) rose)
 
   gone : (d : ℕ) → calls_missing core.origin.table d ≡ true → IsTrue (w.missing d)
@@ -121,17 +121,17 @@ module _ (past first : List Fact) (s : State) (w : Faults) (tied : IsTied past s
 
   -- ---- what is missing
 
-  missing_by : (d : ℕ) → is_missing core d ≡ true → IsTrue (w.missing d) ⊎ HasFailed w d
+  missing_by : (d : ℕ) → is_missing core d ≡ true → IsTrue (w.missing d) ⊎ FaultsRose w d
   missing_by d is = by (sound.origin.missing d is)
     where
-      by : (calls_missing core.origin.table d ≡ true) ⊎ FailedSince s d → IsTrue (w.missing d) ⊎ HasFailed w d
+      by : (calls_missing core.origin.table d ≡ true) ⊎ FailedSince s d → IsTrue (w.missing d) ⊎ FaultsRose w d
       by (inl known) = inl (gone d known)
       by (inr rose) = inr (failed_of d rose)
 
-  missing_is : (d : ℕ) → IsTrue (v.missing d) → IsTrue (w.missing d) ⊎ HasFailed w d
+  missing_is : (d : ℕ) → IsTrue (v.missing d) → IsTrue (w.missing d) ⊎ FaultsRose w d
   missing_is d is = by (is_member core.descriptor d) refl
     where
-      by : (b : Bool) → is_member core.descriptor d ≡ b → IsTrue (w.missing d) ⊎ HasFailed w d
+      by : (b : Bool) → is_member core.descriptor d ≡ b → IsTrue (w.missing d) ⊎ FaultsRose w d
       by false other = inl (faults.missing d ∙ ap (λ b. not (b && not (calls_missing core.origin.table d))) other)
       by true member = missing_by d (sym (missing_seen past s tied d member) ∙ is)
 
@@ -144,37 +144,37 @@ module _ (past first : List Fact) (s : State) (w : Faults) (tied : IsTied past s
 
   -- ---- what is stale
 
-  cause_of : (p : Pp) → is_held_stale core p || is_wanted_stale core p ≡ true → HasCause w p
+  cause_of : (p : Pp) → is_held_stale core p || is_wanted_stale core p ≡ true → IsStaleForCause w p
   cause_of p is = by (sound.origin.stale p is)
     where
-      of_disk : IsTrue (w.missing p.disk) ⊎ HasFailed w p.disk → HasCause w p
+      of_disk : IsTrue (w.missing p.disk) ⊎ FaultsRose w p.disk → IsStaleForCause w p
       of_disk (inl known) = inr (inl known)
       of_disk (inr rose) = inr (inr rose)
 
-      by : (calls_stale core.origin.table p ≡ true) ⊎ (is_missing core p.disk ≡ true) ⊎ FailedSince s p.disk → HasCause w p
+      by : (calls_stale core.origin.table p ≡ true) ⊎ (is_missing core p.disk ≡ true) ⊎ FailedSince s p.disk → IsStaleForCause w p
       by (inl stale) = inl (faults.stale p ∙ stale)
       by (inr (inl missing)) = of_disk (missing_by p.disk missing)
       by (inr (inr rose)) = inr (inr (failed_of p.disk rose))
 
-  of_stale : (p : Pp) → is_stale core p ≡ true → HasCause w p
+  of_stale : (p : Pp) → is_stale core p ≡ true → IsStaleForCause w p
   of_stale p is = cause_of p (ap (λ b. (b || calls_stale (unwrap_or core.status.in_flight core.status.committed) p) || is_wanted_stale core p) is)
 
-  of_flight : (p : Pp) → calls_stale (unwrap_or core.status.in_flight core.status.committed) p ≡ true → HasCause w p
+  of_flight : (p : Pp) → calls_stale (unwrap_or core.status.in_flight core.status.committed) p ≡ true → IsStaleForCause w p
   of_flight p is = cause_of p (ap (λ b. (is_stale core p || b) || is_wanted_stale core p) is ∙ ap (λ b. b || is_wanted_stale core p) (or_right (is_stale core p) true refl))
 
-  of_wanted : (p : Pp) → is_wanted_stale core p ≡ true → HasCause w p
+  of_wanted : (p : Pp) → is_wanted_stale core p ≡ true → IsStaleForCause w p
   of_wanted p is = cause_of p (or_right (is_held_stale core p) (is_wanted_stale core p) is)
 
-  in_flight_is : (c : Pp) (u : Stamped Marks) → v.in_flight ≡ Some u → IsTrue (u.value.stale c) → HasCause w c
+  in_flight_is : (c : Pp) (u : Stamped Marks) → v.in_flight ≡ Some u → IsTrue (u.value.stale c) → IsStaleForCause w c
   in_flight_is c u flies is = by core.status.in_flight refl (sym tied.sees.status.in_flight ∙ flies)
     where
-      by : (m : Option Status) → core.status.in_flight ≡ m → option_map (as_marks None) (option_map (λ (t : Status). let r : Stamped Status = record { stamp = core.status.stamp; value = t } in r) m) ≡ Some u → HasCause w c
+      by : (m : Option Status) → core.status.in_flight ≡ m → option_map (as_marks None) (option_map (λ (t : Status). let r : Stamped Status = record { stamp = core.status.stamp; value = t } in r) m) ≡ Some u → IsStaleForCause w c
       by None none e = absurd (cc e)
       by (Some t) some e =
           let same : as_marks None (record { stamp = core.status.stamp; value = t }) ≡ u = cc e in
           of_flight c (ap (λ (o : Option Status). calls_stale (unwrap_or o core.status.committed) c) some ∙ ap (λ (x : Stamped Marks). x.value.stale c) same ∙ is)
 
-  brought_up_is : (o : ModelCopy) → v.open_copy ≡ Some o → HasCause w o.target
+  brought_up_is : (o : ModelCopy) → v.open_copy ≡ Some o → IsStaleForCause w o.target
   brought_up_is o is_open = by core.copy refl tied.sees.open_copy
     where
       stale_so : (c : OpenCopy) → core.copy ≡ Some c → is_running c ≡ true → is_stale core c.pp ≡ true
@@ -184,13 +184,13 @@ module _ (past first : List Fact) (s : State) (w : Faults) (tied : IsTied past s
           whole true all = ((stale_is past s tied c is).clearing runs all).0
           whole false short = (and_parts (is_stale core c.pp) (calls_stale (unwrap_or core.status.in_flight core.status.committed) c.pp) ((stale_is past s tied c is).stale runs short).0).0
 
-      running : (c : OpenCopy) → core.copy ≡ Some c → (b : Bool) → is_running c ≡ b → SeesRunning b (groups_of core) c v.open_copy → HasCause w o.target
+      running : (c : OpenCopy) → core.copy ≡ Some c → (b : Bool) → is_running c ≡ b → SeesRunning b (groups_of core) c v.open_copy → IsStaleForCause w o.target
       running c is true runs sees =
           let same : sees.copy ≡ o = (let e : Some sees.copy ≡ Some o = sym sees.is_open ∙ is_open in cc e) in
-          subst (HasCause w) (sym sees.target ∙ ap (λ (x : ModelCopy). x.target) same) (of_stale c.pp (stale_so c is runs))
+          subst (IsStaleForCause w) (sym sees.target ∙ ap (λ (x : ModelCopy). x.target) same) (of_stale c.pp (stale_so c is runs))
       running c is false over sees = absurd (let e : None ≡ Some o = sym sees ∙ is_open in cc e)
 
-      by : (m : Option OpenCopy) → core.copy ≡ m → SeesCopy (groups_of core) m v.open_copy → HasCause w o.target
+      by : (m : Option OpenCopy) → core.copy ≡ m → SeesCopy (groups_of core) m v.open_copy → IsStaleForCause w o.target
       by None none sees = absurd (let e : None ≡ Some o = sym sees ∙ is_open in cc e)
       by (Some c) is sees = running c is (is_running c) refl sees
 

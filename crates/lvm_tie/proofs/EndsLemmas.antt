@@ -55,7 +55,7 @@ use Rattle.lvm_tie.specs.Tied.{IsTied, ShowsRecords}
 use Rattle.lvm_session.specs.Marks.{WantsStale, Entails, is_among, due_targets, due_of, end_by_write}
 use Rattle.lvm_invariant.specs.Updates.{put}
 use Rattle.std.proofs.lemmas.Option.{same_Some}
-use Rattle.lvm_invariant.specs.Read.{Reads as Reading, reading}
+use Rattle.lvm_invariant.specs.Read.{ReadsFromCopy as Reading, reading}
 use Rattle.lvm_session.specs.Sound.{IsSound}
 use Rattle.lvm_tie.specs.Ends.{ReadEndTies}
 use Rattle.lvm_tie.proofs.OutLemmas.Ended.{HasEnded, IsRow, has_ended, is_row}

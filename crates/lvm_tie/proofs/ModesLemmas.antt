@@ -10,11 +10,11 @@ use Rattle.lvm_kept.proofs.ChangesLemmas.Entries.{volume_is_row}
 use Rattle.lvm_path.specs.declared.ask.Ask.{Ask}
 use Rattle.lvm_path.specs.Asks.{lv_of}
 use Rattle.lvm_session.specs.State.{State}
-use Rattle.lvm_session.specs.Judging.{IsWithin, mode_of}
+use Rattle.lvm_session.specs.Judging.{IsWithinVolume, mode_of}
 use Rattle.lvm_num.specs.Modes.{is_active, is_passive}
 use Rattle.lvm_tie.specs.Tied.{IsTied}
 
-module _ (past : List Fact) (s : State) (tied : IsTied past s) (ask : Ask) (inside : IsWithin s.core.descriptor ask) where
+module _ (past : List Fact) (s : State) (tied : IsTied past s) (ask : Ask) (inside : IsWithinVolume s.core.descriptor ask) where
   mode_is : mode_of s.core ask ≡ inside.row.mode
   mode_is = ap (λ (o : Option LvRow). option_map_or (λ (row : LvRow). row.mode) o mode.Off) inside.volume
 

@@ -2,7 +2,7 @@
 use Rattle.std.proofs.Common.{◌≡◌, inl, inr, Bool, true, false, List, [], ◌∷◌, ◌++◌, sym, ap, subst, ◌∙◌, append_assoc}
 use Rattle.std.proofs.lemmas.List.{append-nil}
 use Rattle.lvm_disk.specs.Device.{Device}
-use Rattle.lvm_vol.specs.Facts.{Request, Fact, Making, Made, Split, Removing, Removed, Begun, Landed, Taken, Cut, On, Stands}
+use Rattle.lvm_vol.specs.Facts.{Request, Fact, Making, Made, Split, Removing, Removed, Begun, Landed, Taken, Cut, On, IsInList}
 use Rattle.lvm_vol.specs.Log.{is_uncut_after, is_uncut_from}
 use Rattle.lvm_kept.specs.Moments.{Calm}
 use Rattle.lvm_kept.proofs.RawLemmas.Keeping.{cut_calm}
@@ -35,7 +35,7 @@ module _ (device : Device) (past : List Fact) where
   calm_from b done (f ∷ rest) is calm =
       subst (λ (l : List Fact). Calm (past ++ l)) (append_assoc done (f ∷ []) rest) (calm_from (is_uncut_after b f) (done ++ f ∷ []) rest is (after b done f calm))
 
-  calm_since : (b : Bool) (done facts : List Fact) (r : Request) → Stands (Begun r) facts → is_uncut_from b facts ≡ false → Calm (past ++ (done ++ facts))
+  calm_since : (b : Bool) (done facts : List Fact) (r : Request) → IsInList (Begun r) facts → is_uncut_from b facts ≡ false → Calm (past ++ (done ++ facts))
   calm_since b done [] r there is = absurd there
   calm_since b done (f ∷ rest) r (inl here) is =
       subst (λ (l : List Fact). Calm (past ++ l)) (append_assoc done (f ∷ []) rest)
@@ -43,5 +43,5 @@ module _ (device : Device) (past : List Fact) where
   calm_since b done (f ∷ rest) r (inr later) is =
       subst (λ (l : List Fact). Calm (past ++ l)) (append_assoc done (f ∷ []) rest) (calm_since (is_uncut_after b f) (done ++ f ∷ []) rest r later is)
 
-  pub calm_if_uncut : (facts : List Fact) (r : Request) → Stands (Begun r) facts → is_uncut_from false facts ≡ false → Calm (past ++ facts)
+  pub calm_if_uncut : (facts : List Fact) (r : Request) → IsInList (Begun r) facts → is_uncut_from false facts ≡ false → Calm (past ++ facts)
   calm_if_uncut facts r there is = calm_since false [] facts r there is

@@ -25,8 +25,8 @@ use Rattle.lvm_session.specs.Bringing.{after_copy_end, block_at, copy_ends, end_
 use Rattle.lvm_session.specs.declared.bringing.CopyEnd.TheVariants as ending
 use Rattle.lvm_invariant.specs.State.{ModelCopy, Queued, ModelState, has_landed}
 use Rattle.lvm_invariant.specs.Good.{Good}
-use Rattle.lvm_invariant.specs.EndStep.{StepEnds}
-use Rattle.lvm_invariant.specs.Take.{Takes, taken}
+use Rattle.lvm_invariant.specs.EndStep.{EndsStep}
+use Rattle.lvm_invariant.specs.Take.{TakesAnswerOf, taken}
 use Rattle.lvm_invariant.specs.Updates.{land, with_req}
 use Rattle.lvm_invariant.specs.Events.{EndStep, Take}
 use Rattle.lvm_invariant.proofs.EventsLemmas.Each.{each_keeps}
@@ -255,10 +255,10 @@ module _ (past : List Fact) (device : Device) (core : Core) (how : CopyEnd) (nea
     itself : (i == i) ≡ true
     itself = eq-eqb i i refl
 
-    step_ends : StepEnds v i q
+    step_ends : EndsStep v i q
     step_ends = record { there = at; step = sees_q.step; unlanded = unlanded c.step q out sees_q.hand }
 
-    takes : Takes landed i (land q)
+    takes : TakesAnswerOf landed i (land q)
     takes = record { there = ap (λ b. if b then Some (land q) else v.queue i) itself; landed = refl }
 
     good_landed : Good near.votes landed

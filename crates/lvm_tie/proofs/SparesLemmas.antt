@@ -47,8 +47,8 @@ use Rattle.lvm_session.specs.State.{Core, State, is_there, state}
 use Rattle.lvm_session.specs.Bringing.{after_copy_end, copy_ends, is_whole, with_end}
 use Rattle.lvm_session.specs.Calls.{OpenGives, Opens, SubmitGives, TakeAt, TakeGives, TakesLanded, ask_fault, copy_fault, is_asked, submitted}
 use Rattle.lvm_session.specs.Dark.{all_dark, is_cut}
-use Rattle.lvm_session.specs.Ends.{Ends, EndsAs, FlipsIf, GoesOn, Learns, NoteLeaves, StatusLearns, StepLearns, StepLeaves, with_copy, with_return, without_step}
-use Rattle.lvm_session.specs.Events.{Begins, StartsStatus}
+use Rattle.lvm_session.specs.Ends.{Ends, EndsAs, FlipsIf, CopyStepsOn, Learns, NoteLeaves, StatusLearns, StepLearns, StepLeaves, with_copy, with_return, without_step}
+use Rattle.lvm_session.specs.Events.{PutsInFlight, StartsStatus}
 use Rattle.lvm_session.specs.Judging.{is_running}
 use Rattle.lvm_session.specs.Marks.{Reviews, WantsDirtyIf, WantsStale}
 use Rattle.lvm_session.specs.Turns.{ArrangesSession, Darkens, FinishMakes, Finishes, Makes, Moves, NoStart, OnMakes, TurnMakes, WasDark, WasOff, WasOn}
@@ -189,7 +189,7 @@ note_stays old new disk false it =
     let mid : Core = record old { status = it.0 } in
     then_stays old mid new (of_kept old mid refl (missing_then disk false old.status.wanted it.0.wanted it.1.wants)) (reviewed_stays mid new it.2)
 
-goes_stays : (whole : Bool) (core next : Core) (c : OpenCopy) → GoesOn whole core c next → Stays core next
+goes_stays : (whole : Bool) (core next : Core) (c : OpenCopy) → CopyStepsOn whole core c next → Stays core next
 goes_stays false core next c is = of_still core next (ap still is)
 goes_stays true core next c it = of_kept core next (ap kept it.1) (λ d gone. sym (it.0.wants.missing d) ∙ gone)
 
@@ -221,7 +221,7 @@ learned_stays owner.Copy ok old new at buf it = copy_stays (is_running it.copy) 
 
 -- ---- a start of the update
 
-begun_wants : (old begun : Stored) → Begins old begun → begun.wanted ≡ old.wanted
+begun_wants : (old begun : Stored) → PutsInFlight old begun → begun.wanted ≡ old.wanted
 begun_wants old begun (inl same) = ap (λ (s : Stored). s.wanted) same.1
 begun_wants old begun (inr starts) = ap (λ (u : Updates). u.wanted) starts.1
 

@@ -60,8 +60,8 @@ use Rattle.lvm_session.specs.Bringing.{is_whole}
 use Rattle.lvm_session.specs.Calls.{OpenGives, Opens, SubmitGives, TakeAt, TakeGives, TakesLanded, ask_fault, copy_fault, is_asked, submitted}
 use Rattle.lvm_session.specs.Dark.{all_dark, is_cut, landings}
 use Rattle.lvm_session.specs.Enabled.{target_next}
-use Rattle.lvm_session.specs.Ends.{Ends, EndsAs, GoesOn, Learns, NoteLeaves, StepLearns, StepLeaves}
-use Rattle.lvm_session.specs.Events.{Begins, StartsStatus}
+use Rattle.lvm_session.specs.Ends.{Ends, EndsAs, CopyStepsOn, Learns, NoteLeaves, StepLearns, StepLeaves}
+use Rattle.lvm_session.specs.Events.{PutsInFlight, StartsStatus}
 use Rattle.lvm_session.specs.Judging.{is_running, is_waiting}
 use Rattle.lvm_session.specs.Marks.{WantsDirtyIf, WantsStale}
 use Rattle.lvm_session.specs.Requests.{IsOpenOne, IsTarget}
@@ -118,7 +118,7 @@ note_goes disk false old new it = then_goes (seen old.status) (seen it.0) (seen 
     (of_seen old.status it.0 (with_wanted (seen old.status) (change.Missing disk) it.0.wanted) (wanted_goes (seen old.status) (change.Missing disk) it.0.wanted) it.1.rest)
     (stale_goes _ it.0 new.status it.2.marks)
 
-on_goes : (whole : Bool) (core next : Core) (c : OpenCopy) → GoesOn whole core c next → Goes (seen core.status) (seen next.status)
+on_goes : (whole : Bool) (core next : Core) (c : OpenCopy) → CopyStepsOn whole core c next → Goes (seen core.status) (seen next.status)
 on_goes false core next c is = at_once core.status next.status (ap (λ (x : Core). x.status) is)
 on_goes true core next c it = of_seen core.status next.status (with_wanted (seen core.status) (change.Fresh c.pp) next.status.wanted) (wanted_goes (seen core.status) (change.Fresh c.pp) next.status.wanted) it.0.rest
 
@@ -161,7 +161,7 @@ same_epoch old new same = of_goes old new (at_once old new same)
 start_epoch : (old new : State) → StartsStatus old new → KeepsEpoch old.core.status new.core.status
 start_epoch old new made = by made.begins
   where
-    by : Begins old.core.status made.begun → KeepsEpoch old.core.status new.core.status
+    by : PutsInFlight old.core.status made.begun → KeepsEpoch old.core.status new.core.status
     by (inl same) = of_goes old.core.status new.core.status
         (of_seen old.core.status new.core.status (with_write_start (seen old.core.status) (Some made.disk)) (refl, λ u e. e) (made.started ∙ ap (λ (s : Stored). with_write_start (seen s) (Some made.disk)) same.1))
     by (inr begins) =
@@ -319,7 +319,7 @@ module _ (old new : State) (made : StartsStatus old new) (valid : AreValid old.c
       in_flight_is None is its = absurd (cc is)
       in_flight_is (Some u) is its = subst IsValidStatus (some_status u made.status is) its
 
-      by : Begins old.core.status made.begun → IsValidStatus made.status
+      by : PutsInFlight old.core.status made.begun → IsValidStatus made.status
       by (inl same) =
           let is : seen new.core.status ≡ with_write_start (seen old.core.status) (Some made.disk) = made.started ∙ ap (λ (s : Stored). with_write_start (seen s) (Some made.disk)) same.1 in
           in_flight_is old.core.status.in_flight (sym (ap (λ (x : Updates). x.in_flight) is) ∙ made.flies) valid.in_flight

@@ -32,10 +32,10 @@ use Rattle.lvm_path.specs.Targets.{is_begun}
 use Rattle.lvm_path.specs.Next.{next_write, next_chosen, next_data, next_read, next_in, next_of}
 use Rattle.lvm_session.specs.declared.open.Open.{Open}
 use Rattle.lvm_session.specs.State.{Core, State, is_there}
-use Rattle.lvm_session.specs.Judging.{copies_for, group_in, group_of, mode_of, is_usable, is_caught, is_missing, is_wanted_stale, is_settled, is_held_by_move, aims, place_aims, pps_of, same_pps, has_names, has_dirty_mark, place_of, facts_of, IsWithin}
+use Rattle.lvm_session.specs.Judging.{copies_for, group_in, group_of, mode_of, is_usable, is_caught, is_missing, is_wanted_stale, is_settled, is_held_by_move, aims, place_aims, pps_of, same_pps, has_names, has_dirty_mark, place_of, facts_of, IsWithinVolume}
 use Rattle.lvm_session.specs.Enabled.{target_due, target_next}
 use Rattle.lvm_invariant.specs.State.{Stage, Todo, Ready, Groups, Marks, Queued, ModelState, is_usable as sees_usable, is_settled_stale, HasPassed}
-use Rattle.lvm_invariant.specs.StartWrite.{MayStart}
+use Rattle.lvm_invariant.specs.StartWrite.{MayStartWrite}
 use Rattle.lvm_keeps_events.proofs.passed.Names.{first_start_is_noted}
 use Rattle.lvm_tie.proofs.StateLemmas.{no_places, wanted_seen, usable_seen, settled_seen, copy_is_one, on_member, there_is_copy, caught_passed, passed_caught}
 use Rattle.lvm_tie.proofs.ModesLemmas.{active_is, active_mode, passive_is, passive_mode}
@@ -133,7 +133,7 @@ module _ (past : List Fact) (s : State) (tied : IsTied past s) (o : Open) (numbe
   abbrev ts : List Target
   ts = o.request.targets.items
 
-  inside : IsWithin core.descriptor ask
+  inside : IsWithinVolume core.descriptor ask
   inside = (open_one s tied.write tied.orderly place o here).laid.within
 
   tells : StartTells (facts_of core o.request) o.request
@@ -252,7 +252,7 @@ module _ (past : List Fact) (s : State) (tied : IsTied past s) (o : Open) (numbe
       let both = and_parts (calls_dirty core.status.committed (lv_of ask)) _ mark in
       ap (λ (x : Marks). x.dirty q.lv) tied.sees.status.committed ∙ ap (calls_dirty core.status.committed) sees.lv ∙ both.0
 
-  pub may_start : MayStart v (place_of o.request.id) q t.pp
+  pub may_start : MayStartWrite v (place_of o.request.id) q t.pp
   may_start = record {
     there = there;
     write = sees.write ∙ writes;

@@ -33,7 +33,7 @@ use Rattle.lvm_path.specs.Asks.{lv_of, at_of, count_of}
 use Rattle.lvm_session.specs.declared.open.Open.{Open}
 use Rattle.lvm_session.specs.declared.bringing.OpenCopy.{OpenCopy}
 use Rattle.lvm_session.specs.State.{Core, State, is_there}
-use Rattle.lvm_session.specs.Judging.{copies_in, copies_for, group_in, is_usable, is_stale, is_missing, is_wanted_stale, is_settled, is_running, is_caught, is_waiting, is_beside_copy, places_for, places_if, IsWithin}
+use Rattle.lvm_session.specs.Judging.{copies_in, copies_for, group_in, is_usable, is_stale, is_missing, is_wanted_stale, is_settled, is_running, is_caught, is_waiting, is_beside_copy, places_for, places_if, IsWithinVolume}
 use Rattle.lvm_session.specs.Bringing.{groups_of}
 use Rattle.lvm_invariant.specs.State.{Marks, ModelCopy, ModelState, is_usable as sees_usable, is_settled_stale, stale_in, HasPassed}
 use Rattle.lvm_crash.specs.Session.{as_marks, members_showing}
@@ -164,7 +164,7 @@ module _ (past : List Fact) (s : State) (tied : IsTied past s) where
   pub there_of : (disk : ℕ) → is_member group disk ≡ true → is_missing core disk ≡ false → IsTrue (is_there core disk)
   there_of disk member there = λ t. member t && not (there t)
 
-  module _ (ask : Ask) (inside : IsWithin group ask) where
+  module _ (ask : Ask) (inside : IsWithinVolume group ask) where
     abbrev lp : ℕ
     lp = partition_of group.mib (at_of ask)
 

@@ -37,8 +37,8 @@ abbrev pub goes_over : Ask → ℕ → ℕ → Bool
 goes_over ask lv b = lv_of ask == lv && nat_le (at_of ask) b && nat_lt b (at_of ask + count_of ask)
 
 -- no write that has started goes over the block
-abbrev pub IsCalm : Core → ℕ → ℕ → Type 0
-IsCalm core lv b = (place : ℕ) (o : Open) → slice_get core.requests place ≡ Some o → is_write o.request.ask ≡ true → has_started o.request.phase (is_begun o.request.targets.items) ≡ true
+abbrev pub NoStartedWriteCovers : Core → ℕ → ℕ → Type 0
+NoStartedWriteCovers core lv b = (place : ℕ) (o : Open) → slice_get core.requests place ≡ Some o → is_write o.request.ask ≡ true → has_started o.request.phase (is_begun o.request.targets.items) ≡ true
     → goes_over o.request.ask lv b ≡ false
 
 -- ---- copies
@@ -59,7 +59,7 @@ pub record IsLiveOn (shown : Contents) (core : Core) (row : LvRow) (lp : ℕ) (p
 pub record IsSettledAt (past : List Fact) (core : Core) (row : LvRow) (lp b : ℕ) : Type 0 where
   pub volume : IsOneOf core.descriptor.lvs row
   pub inside : IsBlockOf core.descriptor.mib row lp b
-  pub calm : IsCalm core row.number b
+  pub calm : NoStartedWriteCovers core row.number b
   pub tight : row.mode ≡ Off → IsFalse (known (past ++ core.history.facts) (Lv row.number) b).loose
 
 -- what stands at a block of a copy

@@ -11,7 +11,7 @@ use Rattle.lvm_disk.specs.Device.{Device, Media, AreSectors, image_of}
 use Rattle.lvm_kept.specs.Contents.{Contents, contents_of}
 use Rattle.lvm_kept.specs.Group.{is_named}
 use Rattle.lvm_kept.specs.Moments.{Calm, Moment, StaysCalm}
-use Rattle.lvm_steps.specs.Moments.{Holds, Keeps}
+use Rattle.lvm_steps.specs.Moments.{HistoryHolds, Keeps}
 use Rattle.lvm_tie.specs.passed.Names.{HoldsCommitted, ShowsCommitted, IsOneFoundOn}
 use Rattle.lvm_mwc.specs.Cache.{flight_on, is_named as is_named_by}
 use Rattle.lvm_rec.specs.declared.homes.Homes.{Homes}
@@ -19,16 +19,16 @@ use Rattle.lvm_session.specs.declared.open.Power.TheVariants as power
 use Rattle.lvm_session.specs.State.{Core, State, state, is_there}
 use Rattle.lvm_session.specs.Sound.{IsSound}
 use Rattle.lvm_session_start.specs.declared.parts.Parts.{Parts}
-use Rattle.lvm_session_start.specs.Beginning.{MayBegin, first_core}
+use Rattle.lvm_session_start.specs.Beginning.{MayBeginSession, first_core}
 use Rattle.lvm_crash.specs.Session.{members_showing}
-use Rattle.lvm_rest.specs.Rest.{IsAtRest, IsEven, NoneIsBehind}
+use Rattle.lvm_rest.specs.Rest.{HoldsAtRest, IsEven, MissingAreStale}
 use Rattle.lvm_tie.specs.Spares.{SparesDescriptors}
 use Rattle.lvm_tie.specs.Tied.{IsGood, IsTied, moment_of}
 
 -- ---- at rest
 
 -- nothing is under way, and what is wanted is committed
-pub record IsResting (core : Core) : Type 0 where
+pub record IsCoreAtRest (core : Core) : Type 0 where
   pub requests : core.requests ≡ []
   pub copy : core.copy ≡ None
   pub flying : core.flying ≡ []
@@ -56,11 +56,11 @@ pub record StandsAtRest (s : State) (media : Media) : Type 0 where
   pub only : IsOneFoundOn s.device
   pub notes : NotesAreHomeIn s.core (shown_to s media)
   pub even : IsEven (shown_to s media) s.core.descriptor (Some held.shows.stands) (is_there s.core)
-  pub behind : NoneIsBehind (shown_to s media) s.core.descriptor (Some held.shows.stands) (is_there s.core)
+  pub behind : MissingAreStale (shown_to s media) s.core.descriptor (Some held.shows.stands) (is_there s.core)
 
 -- With this earlier history each crash image is kept, no write is open, and it has no request of this run.
 pub record FollowsOn (past : List Fact) (s : State) : Type 0 where
-  pub holds : Holds past (moment_of s)
+  pub holds : HistoryHolds past (moment_of s)
   pub calm : Calm (past ++ s.core.history.facts)
   pub own : count_by (begins_in s.core.history.run) past ≡ 0
 
@@ -71,7 +71,7 @@ MembersShow s media = (d : ℕ) → is_member s.core.descriptor d ≡ true → c
 
 -- Then a sound session that is on is tied.
 abbrev pub RestTies : Type 0
-RestTies = (past : List Fact) (s : State) (media : Media) → IsSound s → s.core.power ≡ power.On → IsResting s.core → StandsAtRest s media
+RestTies = (past : List Fact) (s : State) (media : Media) → IsSound s → s.core.power ≡ power.On → IsCoreAtRest s.core → StandsAtRest s media
     → MembersShow s media → FollowsOn past s → IsTied past s
 
 -- The next descriptor of each member that isn't missing spares the newest one there.
@@ -95,7 +95,7 @@ begun b = state b.device (first_core b.parts b.history b.stamp b.homes b.faults)
 
 -- it may, and then is sound
 pub record BeginsSound (b : Start) : Type 0 where
-  pub may : MayBegin b.device b.history b.stamp b.homes b.parts
+  pub may : MayBeginSession b.device b.history b.stamp b.homes b.parts
   pub sound : IsSound (begun b)
 
 -- It is tied with an earlier history that it follows on.
@@ -116,10 +116,10 @@ ShowsIts s media = ShowsCommitted (shown_to s media) s.core.descriptor s.core.st
 -- they keep the history, the usable copies are even, and the notes are home
 pub record IsRested (past : List Fact) (s : State) (media : Media) (shows : ShowsIts s media) : Type 0 where
   pub told : s.device.media ≡ Some media
-  pub rest : IsAtRest (shown_to s media) (past ++ s.core.history.facts) s.core.descriptor (Some shows.stands) (is_there s.core)
+  pub rest : HoldsAtRest (shown_to s media) (past ++ s.core.history.facts) s.core.descriptor (Some shows.stands) (is_there s.core)
   pub notes : NotesAreHomeIn s.core (shown_to s media)
 
 -- So they do where a tied session is at rest, and its members that aren't missing have votes enough to write.
 abbrev pub TiedRests : Type 0
-TiedRests = (past : List Fact) (s : State) (tied : IsTied past s) → IsResting s.core → CanWrite s.core.descriptor (is_there s.core)
+TiedRests = (past : List Fact) (s : State) (tied : IsTied past s) → IsCoreAtRest s.core → CanWrite s.core.descriptor (is_there s.core)
     → (shows : ShowsIts s tied.media) × IsRested past s tied.media shows

@@ -21,33 +21,33 @@ use Rattle.lvm_steps.specs.Moments.{SpanGoesOn}
 
 -- From whatever moment its run is told: a good session is good after it, and a span goes on over what happens, so that at each moment of it the history is legal
 -- and each crash image kept with it.
-abbrev pub GoesOn : ℕ → State → State → Type 0
-GoesOn run old new = (first : Moment) → IsGood run first old → IsGood run first new × SpanGoesOn run first (moment_of old) (moment_of new)
+abbrev pub SessionGoesOn : ℕ → State → State → Type 0
+SessionGoesOn run old new = (first : Moment) → IsGood run first old → IsGood run first new × SpanGoesOn run first (moment_of old) (moment_of new)
 
 -- So it is over a turn, where the shelf has whole sectors and what is wanted is a status that a record can have;
 abbrev pub TurnGoesOn : Type 0
 TurnGoesOn =
     (run : ℕ) (old new : State) (answer : Turned) → IsSound old → IsSound new → HasSectors new.device → IsValidStatus old.core.status.wanted → TurnMakes old new answer
-    → GoesOn run old new
+    → SessionGoesOn run old new
 
 -- over a request that is submitted, or isn't taken;
 abbrev pub SubmitGoesOn : Type 0
 SubmitGoesOn = (run : ℕ) (s : State) (new : Core) (client : ℕ) (ask : Ask) (bytes : Option (List ℕ)) (answer : Result ℕ AskFault)
-    → (s.core.power ≡ power.Stuck → ⊥) → IsSound (state s.device new) → IsAsking ask bytes → SubmitGives s.core new client ask bytes answer → GoesOn run s (state s.device new)
+    → (s.core.power ≡ power.Stuck → ⊥) → IsSound (state s.device new) → IsAsking ask bytes → SubmitGives s.core new client ask bytes answer → SessionGoesOn run s (state s.device new)
 
 -- over an answer that is taken, or isn't there yet, where the span is of the session's run;
 abbrev pub AnswerGoesOn : Type 0
 AnswerGoesOn = (s : State) (new : Core) (client id : ℕ) (answer : Taken)
-    → IsSound s → IsSound (state s.device new) → TakeGives s.core new client id answer → GoesOn s.core.history.run s (state s.device new)
+    → IsSound s → IsSound (state s.device new) → TakeGives s.core new client id answer → SessionGoesOn s.core.history.run s (state s.device new)
 
 -- over a copy that is opened, or isn't, or is closed;
 abbrev pub OpenGoesOn : Type 0
 OpenGoesOn = (run : ℕ) (s : State) (new : Core) (counts : Counts) (lv lp number : ℕ) (answer : Result (Unit {0}) CopyFault)
-    → IsSound (state s.device new) → OpenGives counts s.core new lv lp number answer → GoesOn run s (state s.device new)
+    → IsSound (state s.device new) → OpenGives counts s.core new lv lp number answer → SessionGoesOn run s (state s.device new)
 
 abbrev pub CloseGoesOn : Type 0
-CloseGoesOn = (run : ℕ) (s : State) (new : Core) → IsSound (state s.device new) → Closes s.core new → GoesOn run s (state s.device new)
+CloseGoesOn = (run : ℕ) (s : State) (new : Core) → IsSound (state s.device new) → Closes s.core new → SessionGoesOn run s (state s.device new)
 
 -- and over an order to the shelf.
 abbrev pub ArrangeGoesOn : Type 0
-ArrangeGoesOn = (run : ℕ) (old new : State) (what : Arrange) (done : Bool) → IsSound old → IsSound new → ArrangesSession old new what done → GoesOn run old new
+ArrangeGoesOn = (run : ℕ) (old new : State) (what : Arrange) (done : Bool) → IsSound old → IsSound new → ArrangesSession old new what done → SessionGoesOn run old new

@@ -24,7 +24,7 @@ use Rattle.lvm_session.specs.Calls.{Closes, OpenGives, SubmitGives, TakeGives}
 use Rattle.lvm_session.specs.Marks.{is_among}
 use Rattle.lvm_session.specs.Turns.{ArrangesSession, TurnMakes}
 use Rattle.lvm_disk.specs.Counts.{Counts}
-use Rattle.lvm_session.specs.Causes.{AnyFailedSince, HasFailed, was_usable}
+use Rattle.lvm_session.specs.Causes.{AnyFailedSince, TargetHasFailed, was_usable}
 use Rattle.lvm_session.specs.Sound.{IsSound}
 
 -- each copy of what the request goes over was stale, or on a missing disk, when the session began
@@ -57,7 +57,7 @@ IsEntryCaused s (On moment) = Unit {0}
 
 -- once it has landed, a target on which its transfer failed stands on a disk that has failed since the target was chosen
 abbrev pub FailuresAreCaused : Device → Open → Type 0
-FailuresAreCaused device o = is_waiting o ≡ false → AllByRecursion (λ (t : Target). is_failed t.state ≡ true → HasFailed device t) o.request.targets.items
+FailuresAreCaused device o = is_waiting o ≡ false → AllByRecursion (λ (t : Target). is_failed t.state ≡ true → TargetHasFailed device t) o.request.targets.items
 
 -- The history goes on from what it was, and each landing since has its cause; so has each transfer that failed of a request that has landed, while the session is on.
 pub record HasCausesSince (first : List Fact) (s : State) : Type 0 where

@@ -32,11 +32,11 @@ OrderTies =
 -- ---- answers
 
 -- A client takes an answer, or has none to take.
-pub record Takes (old new : State) (client id : ℕ) (answered : Taken) : Type 0 where
+pub record TakesAnswer (old new : State) (client id : ℕ) (answered : Taken) : Type 0 where
   pub device : new.device ≡ old.device
   pub takes : TakeGives old.core new.core client id answered
 
 -- A span of the session's run goes on over it, also where the session is over.
 abbrev pub TakeGoesOn : Type 0
 TakeGoesOn =
-    (first : Moment) (old new : State) (client id : ℕ) (answered : Taken) → IsSound old → Takes old new client id answered → SpanGoesOn old.core.history.run first (moment_of old) (moment_of new)
+    (first : Moment) (old new : State) (client id : ℕ) (answered : Taken) → IsSound old → TakesAnswer old new client id answered → SpanGoesOn old.core.history.run first (moment_of old) (moment_of new)

@@ -7,11 +7,11 @@ use Rattle.lvm_session.specs.Sound.{IsSound}
 use Rattle.lvm_rest.specs.Examples.{Pair, device_of, even_pair, media_of, naming, past_of}
 use Rattle.lvm_settled.specs.Examples.{core_of, noted_core}
 use Rattle.lvm_tie.specs.Tied.{IsTied}
-use Rattle.lvm_tie.specs.Begins.{FollowsOn, IsResting, MembersShow, StandsAtRest}
+use Rattle.lvm_tie.specs.Begins.{FollowsOn, IsCoreAtRest, MembersShow, StandsAtRest}
 
 -- what stands on its disks is what is asked of a session at rest
 pub record IsRestingPair (s : State) (pair : Pair) (mode : Mode) (cut : Bool) : Type 0 where
-  pub rests : IsResting s.core
+  pub rests : IsCoreAtRest s.core
   pub stands : StandsAtRest s (media_of pair)
   pub members : MembersShow s (media_of pair)
   pub follows : FollowsOn (past_of mode cut) s

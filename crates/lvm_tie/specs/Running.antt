@@ -12,7 +12,7 @@ use Rattle.lvm_steps.specs.Laws.{LeavesBefore}
 use Rattle.lvm_session.specs.declared.open.Power.TheVariants as power
 use Rattle.lvm_session.specs.State.{Core, State}
 use Rattle.lvm_keeps_events.specs.Telling.{SameRoom}
-use Rattle.lvm_tie.specs.GoingOn.{GoesOn}
+use Rattle.lvm_tie.specs.GoingOn.{SessionGoesOn}
 use Rattle.lvm_tie.specs.Landings.{HasCausesSince}
 use Rattle.lvm_tie.specs.Spares.{LeavesDescriptors, SparesDescriptors}
 use Rattle.lvm_tie.specs.Stamps.{IsStamped, KeepsEpoch}
@@ -62,7 +62,7 @@ pub record KeepsShape (old new : State) : Type 0 where
 -- What each turn and each call leaves, an order to the shelf among them: a good session is good, and its span goes on; no descriptor becomes found; what is later
 -- than its disks and its history stays so; and each landing has its cause.
 pub record LeavesSession (old new : State) : Type 0 where
-  pub good : GoesOn old.core.history.run old new
+  pub good : SessionGoesOn old.core.history.run old new
   pub descriptors : LeavesDescriptors old.device → KeepsDescriptors old new
   pub before : (moment : ℕ) → IsBefore moment old → IsBefore moment new
   pub epoch : (new.core.power ≡ power.Dark → ⊥) → KeepsEpoch old.core.status new.core.status

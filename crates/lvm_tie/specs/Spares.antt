@@ -8,7 +8,7 @@ use Rattle.lvm_rec.specs.Slots.{slot_for}
 use Rattle.lvm_disk.specs.declared.shelf.Arrange.{Arrange}
 use Rattle.lvm_disk.specs.Counts.{Counts}
 use Rattle.lvm_disk.specs.Device.{Device, IsInFlight, Media}
-use Rattle.lvm_kept.specs.Torn.{IsOutside}
+use Rattle.lvm_kept.specs.Torn.{IsOutsideSlots}
 use Rattle.lvm_rec.specs.Homes.{next_slot}
 use Rattle.lvm_path.specs.declared.ask.Ask.{Ask}
 use Rattle.lvm_session.specs.State.{Core, State, is_there, state}
@@ -32,7 +32,7 @@ SparesDescriptors s = IfSome s.device.media (SparesOn s.core)
 
 -- no transfer that is out goes to a slot of descriptors
 abbrev pub LeavesDescriptors : Device → Type 0
-LeavesDescriptors device = (d at : ℕ) (value : Sector) → IsInFlight device.flights d at value → IsOutside kind.Descriptor d at value
+LeavesDescriptors device = (d at : ℕ) (value : Sector) → IsInFlight device.flights d at value → IsOutsideSlots kind.Descriptor d at value
 
 -- ---- laws
 

@@ -14,7 +14,7 @@ use Rattle.lvm_kept.specs.Contents.{Contents, contents_of}
 use Rattle.lvm_kept.specs.Moments.{Moment}
 use Rattle.lvm_kept.specs.Torn.{RecordWrite}
 use Rattle.lvm_status.specs.Update.{Stored, members_there}
-use Rattle.lvm_steps.specs.Moments.{Begins, SpanGoesOn, Upholds}
+use Rattle.lvm_steps.specs.Moments.{RunBegins, SpanGoesOn, Upholds}
 use Rattle.lvm_session.specs.declared.bringing.OpenCopy.{OpenCopy}
 use Rattle.lvm_session.specs.declared.bringing.Step.TheVariants as step
 use Rattle.lvm_session.specs.declared.open.Power.TheVariants as power
@@ -93,7 +93,7 @@ pub record IsTied (past : List Fact) (s : State) : Type 0 where
 
 -- So it is, while the session is on, after each earlier history with which the run may have begun.
 abbrev pub IsGood : ℕ → Moment → State → Type 0
-IsGood run first s = s.core.power ≡ power.On → (past : List Fact) → Begins run past first → IsTied past s
+IsGood run first s = s.core.power ≡ power.On → (past : List Fact) → RunBegins run past first → IsTied past s
 
 -- an event that leaves a tied session sound leaves it tied
 abbrev pub Ties : (State → State → Type 0) → Type 0

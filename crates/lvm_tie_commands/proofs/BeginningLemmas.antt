@@ -13,7 +13,7 @@ use Rattle.lvm_vol.specs.Legal.{begins_in}
 use Rattle.lvm_vol.specs.Order.{Ordered}
 use Rattle.lvm_kept.specs.Moments.{Moment}
 use Rattle.lvm_kept.proofs.MomentsLemmas.Chaining.{span_told}
-use Rattle.lvm_steps.specs.Moments.{Begins, Holds, Upholds}
+use Rattle.lvm_steps.specs.Moments.{RunBegins, HistoryHolds, Upholds}
 use Rattle.lvm_status.specs.Update.{Updates}
 use Rattle.lvm_commit.specs.LawsOfVolumes.{IsOneFoundOn}
 use Rattle.lvm_session.specs.State.{Core, State, is_there}
@@ -31,7 +31,7 @@ use Rattle.lvm_tie_commands.proofs.Resting.{landed}
 use Rattle.lvm_tie_commands.proofs.BeginsLemmas.{Held, members_show, ties}
 
 module _ (run : ℕ) (first : Moment) (s : State) (begun : HasBegun run first s) (table : s.core.status.wanted ≡ s.core.origin.table) (whole : HasSectors s.device)
-    (one : IsOneFoundOn s.device) (equal : DirtyAreEqual s.device s.core) (quiet : (d lv track_group : ℕ) → is_named_by s.core.cache d lv track_group ≡ false) (past : List Fact) (begins : Begins run past first) where
+    (one : IsOneFoundOn s.device) (equal : DirtyAreEqual s.device s.core) (quiet : (d lv track_group : ℕ) → is_named_by s.core.cache d lv track_group ≡ false) (past : List Fact) (begins : RunBegins run past first) where
   told : (media : Media) × (s.device.media ≡ Some media)
   told = some_told s.device.media (span_told begun.keeps begins.told)
 
@@ -44,7 +44,7 @@ module _ (run : ℕ) (first : Moment) (s : State) (begun : HasBegun run first s)
   dirty_are_one : (stands : Stamped Status) → stands.value ≡ s.core.status.committed → DirtyAreOne (shown_to s told.0) s.core.descriptor (Some stands) (is_there s.core)
   dirty_are_one = of_told (λ (m : Media). (stands : Stamped Status) → stands.value ≡ s.core.status.committed → DirtyAreOne (shown_to s m) s.core.descriptor (Some stands) (is_there s.core)) s.device.media told.0 told.1 equal
 
-  holds : Holds past (moment_of s)
+  holds : HistoryHolds past (moment_of s)
   holds = let upholds : Upholds run first (moment_of s) = last-path begun.keeps in upholds past begins
 
   tied_first : IsTied past s × SparesDescriptors s

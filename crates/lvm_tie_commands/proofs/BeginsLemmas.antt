@@ -11,7 +11,7 @@ use Rattle.lvm_disk.specs.Device.{AreSectors, HasSectors, Media, image_of}
 use Rattle.lvm_vol.specs.Facts.{Fact}
 use Rattle.lvm_vol.specs.Legal.{begins_in}
 use Rattle.lvm_kept.specs.Moments.{Calm}
-use Rattle.lvm_steps.specs.Moments.{Holds}
+use Rattle.lvm_steps.specs.Moments.{HistoryHolds}
 use Rattle.lvm_steps.proofs.RecordLemmas.{join}
 use Rattle.lvm_steps.proofs.GroupLemmas.Members.{member_of_parts}
 use Rattle.lvm_status.specs.Update.{members_there}
@@ -21,7 +21,7 @@ use Rattle.lvm_commit.proofs.LawsLemmas.Found.{shows_group}
 use Rattle.lvm_session.specs.State.{Core, State, is_there}
 use Rattle.lvm_session.specs.Sound.{IsSound}
 use Rattle.lvm_handover.specs.passed.Names.{IsSettled}
-use Rattle.lvm_settled.specs.passed.Names.{IsEven, NoneIsBehind}
+use Rattle.lvm_settled.specs.passed.Names.{IsEven, MissingAreStale}
 use Rattle.lvm_settled.proofs.passed.Names.{none_is_left_behind}
 use Rattle.lvm_handover.specs.passed.Tie.{SparesDescriptors, IsTied, moment_of, NotesAreHomeIn, MembersShow, StandsAtRest, shown_to}
 use Rattle.lvm_handover.proofs.passed.Tie.{rest_spares, rest_ties}
@@ -42,8 +42,8 @@ members_show s media held stays d member present =
 module _ (s : State) (media : Media) (sound : IsSound s) (settled : IsSettled s.core) (epoch : s.core.status.stamp.epoch < 2 ^ 64) (whole : HasSectors s.device)
     (told : s.device.media ≡ Some media) (held : Held s media) (notes : NotesAreHomeIn s.core (shown_to s media)) (one : IsOneFoundOn s.device)
     (even : IsEven (shown_to s media) s.core.descriptor (Some held.shows.stands) (is_there s.core)) where
-  behind : NoneIsBehind (shown_to s media) s.core.descriptor (Some held.shows.stands) (is_there s.core)
-  behind = subst (λ (set : Disks). NoneIsBehind (shown_to s media) s.core.descriptor (Some held.shows.stands) set) (ap (λ (g : Descriptor). members_there g s.core.status.wanted) sound.fitting.group)
+  behind : MissingAreStale (shown_to s media) s.core.descriptor (Some held.shows.stands) (is_there s.core)
+  behind = subst (λ (set : Disks). MissingAreStale (shown_to s media) s.core.descriptor (Some held.shows.stands) set) (ap (λ (g : Descriptor). members_there g s.core.status.wanted) sound.fitting.group)
       (none_is_left_behind (shown_to s media) s.core.descriptor s.core.status held.shows.stands (held.shows.committed ∙ settled.committed) (left s sound settled))
 
   stands : StandsAtRest s media
@@ -60,5 +60,5 @@ module _ (s : State) (media : Media) (sound : IsSound s) (settled : IsSettled s.
     behind = behind;
   }
 
-  pub ties : MembersShow s media → (past : List Fact) → Holds past (moment_of s) → Calm (past ++ s.core.history.facts) → count_by (begins_in s.core.history.run) past ≡ 0 → IsTied past s × SparesDescriptors s
+  pub ties : MembersShow s media → (past : List Fact) → HistoryHolds past (moment_of s) → Calm (past ++ s.core.history.facts) → count_by (begins_in s.core.history.run) past ≡ 0 → IsTied past s × SparesDescriptors s
   ties members past holds calm own = (rest_ties past s media sound settled.power (rests s sound settled) stands members (record { holds = holds; calm = calm; own = own }), rest_spares s media stands)

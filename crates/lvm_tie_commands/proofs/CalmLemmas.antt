@@ -3,7 +3,7 @@ use Rattle.std.proofs.Common.{◌≡◌, ◌⊎◌, if◌then◌else◌, inl, in
 use Rattle.std.specs.List.{find, list_any}
 use Rattle.std.proofs.lemmas.Bool.Decides.{nat_tests}
 use Rattle.lvm_vol.specs.declared.entry.Outcome.{Outcome}
-use Rattle.lvm_vol.specs.Facts.{Fact, Request, Making, Made, Split, Removing, Removed, Begun, Landed, Taken, Cut, On, Stands, begun, same_request}
+use Rattle.lvm_vol.specs.Facts.{Fact, Request, Making, Made, Split, Removing, Removed, Begun, Landed, Taken, Cut, On, IsInList, begun, same_request}
 use Rattle.lvm_vol.specs.Legal.{Legal, lands}
 use Rattle.lvm_vol.specs.Log.{asked, has_id, lands_id}
 use Rattle.lvm_vol.specs.Order.{Ordered}
@@ -14,21 +14,21 @@ use Rattle.lvm_tie.proofs.passed.Names.{landed_are_closed}
 use Rattle.lvm_settled.specs.passed.Names.{HaveAllLanded}
 
 -- a request that stands there is found by its number
-is_found : (rs : List Request) (r : Request) → Stands r rs → is_some (find (has_id r.id) rs) ≡ true
+is_found : (rs : List Request) (r : Request) → IsInList r rs → is_some (find (has_id r.id) rs) ≡ true
 is_found [] r none = absurd none
 is_found (s ∷ rs) r there = by (λ later. is_found rs r later) (s.id == r.id) refl there
   where
     same_id : (n : ℕ) → (n == n) ≡ true
     same_id n = grind (arith, nat_tests)
 
-    by : (Stands r rs → is_some (find (has_id r.id) rs) ≡ true) → (t : Bool) → (s.id == r.id) ≡ t → Stands r (s ∷ rs) → is_some (find (has_id r.id) (s ∷ rs)) ≡ true
+    by : (IsInList r rs → is_some (find (has_id r.id) rs) ≡ true) → (t : Bool) → (s.id == r.id) ≡ t → IsInList r (s ∷ rs) → is_some (find (has_id r.id) (s ∷ rs)) ≡ true
     by rest true same there = ap (λ (t : Bool). is_some (if t then Some s else find (has_id r.id) rs)) same
     by rest false other (inl is) = absurd (let e : (s.id == r.id) ≡ true = ap (λ (x : Request). x.id == r.id) is ∙ same_id r.id in let no : true ≡ false = sym e ∙ other in cc no)
     by rest false other (inr later) = ap (λ (t : Bool). is_some (if t then Some s else find (has_id r.id) rs)) other ∙ rest later
 
 -- each landing of these is of the request's run
 abbrev OfItsRun : Request → List Fact → Type 0
-OfItsRun r facts = (s : Request) (how : Outcome) (started : Bool) (got : List (List ℕ)) → Stands (Landed s how started got) facts → s.run ≡ r.run
+OfItsRun r facts = (s : Request) (how : Outcome) (started : Bool) (got : List (List ℕ)) → IsInList (Landed s how started got) facts → s.run ≡ r.run
 
 lands_by : (r : Request) (facts : List Fact) → OfItsRun r facts → list_any (lands_id r.id) facts ≡ true → list_any (lands r) facts ≡ true
 lands_by r [] runs none = absurd (cc none)
@@ -63,7 +63,7 @@ lands_by r (f ∷ facts) runs some = ⊎_elim
 all_land : (run : ℕ) (facts : List Fact) → Ordered run [] facts → HaveAllLanded facts → AllLand facts
 all_land run facts ordered landed r began =
     let its : IsNumbered run facts = numbered run facts ordered in
-    let stands : Stands r (begun facts) = stands_begun facts r began in
+    let stands : IsInList r (begun facts) = stands_begun facts r began in
     lands_by r facts (λ s how started got there. its.runs s (its.landed s how started got there).began ∙ sym (its.runs r stands))
     (closed (is_some (asked facts r.id)) (list_any (lands_id r.id) facts) (is_found (begun facts) r stands) (landed r.id))
   where

@@ -8,7 +8,7 @@ use Rattle.lvm_vol.specs.Facts.{Fact}
 use Rattle.lvm_kept.specs.Group.{IsOneOf}
 use Rattle.lvm_kept.specs.Moments.{Moment}
 use Rattle.lvm_kept.proofs.MomentsLemmas.Chaining.{span_told}
-use Rattle.lvm_steps.specs.Moments.{Begins}
+use Rattle.lvm_steps.specs.Moments.{RunBegins}
 use Rattle.lvm_commit.specs.LawsOfVolumes.{IsOneFoundOn, IsOnlyGroupOn}
 use Rattle.lvm_commit.proofs.LawsOfVolumesLemmas.Others.{one_found_is_only_since}
 use Rattle.lvm_commit.proofs.LawsOfDataLemmas.Still.{still_holds_committed}
@@ -16,7 +16,7 @@ use Rattle.lvm_session.specs.State.{State, is_there}
 use Rattle.lvm_handover.specs.passed.Names.{AreNotesHome, IsHeld, NotesAreHome, StartsHeld, IsSettled}
 use Rattle.lvm_settled.specs.passed.Names.{IsEven}
 use Rattle.lvm_settled.proofs.EvenLemmas.Off.{off_is_even}
-use Rattle.lvm_handover.specs.passed.Tie.{SparesDescriptors, SparesOn, IsTied, IsRested, IsResting, NotesAreHomeIn as AreHome, shown_to}
+use Rattle.lvm_handover.specs.passed.Tie.{SparesDescriptors, SparesOn, IsTied, IsRested, IsCoreAtRest, NotesAreHomeIn as AreHome, shown_to}
 use Rattle.lvm_tie_commands.proofs.SettledLemmas.Leaving.{its_disks_hold, its_rest}
 use Rattle.lvm_tie_commands.specs.Commands.{MayBeCommanded}
 use Rattle.lvm_tie_commands.specs.Standing.{StandsAfter}
@@ -41,7 +41,7 @@ are_home s media told notes = subst (λ (o : Option Media). IfSome o (λ (m : Me
 -- ---- with a volume
 
 module _ (past : List Fact) (s : State) (tied : IsTied past s) (settled : IsSettled s.core) (spares : SparesDescriptors s) where
-  resting : IsResting s.core
+  resting : IsCoreAtRest s.core
   resting = rests s tied.orderly.sound settled
 
   spared : SparesOn s.core tied.media
@@ -64,7 +64,7 @@ module _ (past : List Fact) (s : State) (tied : IsTied past s) (settled : IsSett
 
 -- ---- either way
 
-module _ (run : ℕ) (first : Moment) (s : State) (may : MayBeCommanded run first s) (settled : IsSettled s.core) (past : List Fact) (begins : Begins run past first) where
+module _ (run : ℕ) (first : Moment) (s : State) (may : MayBeCommanded run first s) (settled : IsSettled s.core) (past : List Fact) (begins : RunBegins run past first) where
   standing : StandsAfter past s.device s.core
   standing = may.stands past begins
 

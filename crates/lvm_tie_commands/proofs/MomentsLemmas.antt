@@ -9,7 +9,7 @@ use Rattle.lvm_num.proofs.Booleans.{first_fails}
 use Rattle.lvm_disk.specs.Paths.{Path, Here, Then}
 use Rattle.lvm_disk.proofs.PathsLemmas.{append-path, last-path, map-path}
 use Rattle.lvm_vol.specs.declared.entry.Outcome.{Outcome}
-use Rattle.lvm_vol.specs.Facts.{Fact, Request, Making, Made, Split, Removing, Removed, Begun, Landed, Taken, Cut, On, Stands, begun}
+use Rattle.lvm_vol.specs.Facts.{Fact, Request, Making, Made, Split, Removing, Removed, Begun, Landed, Taken, Cut, On, IsInList, begun}
 use Rattle.lvm_vol.specs.Legal.{Fits, Legal, begins_in, lands}
 use Rattle.lvm_vol.specs.Log.{asked, has_id, lands_id}
 use Rattle.lvm_vol.specs.Order.{Ordered}
@@ -17,7 +17,7 @@ use Rattle.lvm_vol.proofs.LawsLemmas.Legality.{legal_prefix, legal_push, unlande
 use Rattle.lvm_vol.proofs.FactsLemmas.Order.{IsNumbered, any-push, numbered, stands_begun}
 use Rattle.lvm_kept.specs.Moments.{Calm, Enters, Moment, Moves, Step}
 use Rattle.lvm_kept.proofs.MomentsLemmas.Chaining.{span_told}
-use Rattle.lvm_steps.specs.Moments.{Begins, Holds, Keeps, Upholds}
+use Rattle.lvm_steps.specs.Moments.{RunBegins, HistoryHolds, Keeps, Upholds}
 use Rattle.lvm_settled.proofs.passed.Names.{landed_are_closed}
 use Rattle.lvm_handover.specs.passed.Names.{HaveAllLanded}
 
@@ -35,7 +35,7 @@ grows {first = first} (Then path step p) = grown first.facts _ _ step (grows pat
 -- ---- what begins later lands later
 
 -- a request hasn't landed before it begins
-not_landed : (before facts : List Fact) (r : Request) → Legal (before ++ facts) → Stands (Begun r) facts → list_any (lands r) before ≡ false
+not_landed : (before facts : List Fact) (r : Request) → Legal (before ++ facts) → IsInList (Begun r) facts → list_any (lands r) before ≡ false
 not_landed before [] r legal none = absurd none
 not_landed before (f ∷ facts) r legal (inl is) =
     let both = (legal_push before f).0 (legal_prefix (before ++ f ∷ []) facts (subst Legal (sym (append_assoc before (f ∷ []) facts)) legal)) in
@@ -47,22 +47,22 @@ not_landed before (f ∷ facts) r legal (inr there) =
 
 -- ---- each has landed
 
-stands_right : {X : Type 0} (xs ys : List X) (x : X) → Stands x ys → Stands x (xs ++ ys)
+stands_right : {X : Type 0} (xs ys : List X) (x : X) → IsInList x ys → IsInList x (xs ++ ys)
 stands_right [] ys x there = there
 stands_right (y ∷ xs) ys x there = inr (stands_right xs ys x there)
 
 -- a request that stands there is found by its number
-is_found : (rs : List Request) (r : Request) → Stands r rs → is_some (find (has_id r.id) rs) ≡ true
+is_found : (rs : List Request) (r : Request) → IsInList r rs → is_some (find (has_id r.id) rs) ≡ true
 is_found [] r none = absurd none
 is_found (s ∷ rs) r there = by (is_found rs r) (has_id r.id s) refl there
   where
-    by : (Stands r rs → is_some (find (has_id r.id) rs) ≡ true) → (t : Bool) → has_id r.id s ≡ t → Stands r (s ∷ rs) → is_some (find (has_id r.id) (s ∷ rs)) ≡ true
+    by : (IsInList r rs → is_some (find (has_id r.id) rs) ≡ true) → (t : Bool) → has_id r.id s ≡ t → IsInList r (s ∷ rs) → is_some (find (has_id r.id) (s ∷ rs)) ≡ true
     by rest true same there = ap (λ (t : Bool). is_some (if t then Some s else find (has_id r.id) rs)) same
     by rest false other (inl is) = absurd (let no : true ≡ false = sym (eq-eqb s.id r.id (ap (λ (x : Request). x.id) is)) ∙ other in cc no)
     by rest false other (inr later) = ap (λ (t : Bool). is_some (if t then Some s else find (has_id r.id) rs)) other ∙ rest later
 
 -- what lands a number lands the request of the run that has it
-lands_by : (r : Request) (facts : List Fact) → ((s : Request) (how : Outcome) (started : Bool) (got : List (List ℕ)) → Stands (Landed s how started got) facts → s.run ≡ r.run)
+lands_by : (r : Request) (facts : List Fact) → ((s : Request) (how : Outcome) (started : Bool) (got : List (List ℕ)) → IsInList (Landed s how started got) facts → s.run ≡ r.run)
     → list_any (lands_id r.id) facts ≡ true → list_any (lands r) facts ≡ true
 lands_by r [] runs none = absurd (cc none)
 lands_by r (f ∷ facts) runs some = by (lands_by r facts (λ s how started got there. runs s how started got (inr there))) (lands_id r.id f) refl some
@@ -92,9 +92,9 @@ module _ (run : ℕ) (past first more : List Fact) (legal : Legal ((past ++ firs
   its = numbered run (first ++ more) ordered
 
   -- a request that begins in these entries lands in them
-  lands_later : (r : Request) → Stands (Begun r) more → list_any (lands r) more ≡ true
+  lands_later : (r : Request) → IsInList (Begun r) more → list_any (lands r) more ≡ true
   lands_later r began =
-      let stands : Stands r (begun (first ++ more)) = stands_begun (first ++ more) r (stands_right first more (Begun r) began) in
+      let stands : IsInList r (begun (first ++ more)) = stands_begun (first ++ more) r (stands_right first more (Begun r) began) in
       let all : list_any (lands r) (first ++ more) ≡ true = lands_by r (first ++ more) (λ s how started got there. its.runs s (its.landed s how started got there).began ∙ sym (its.runs r stands))
       (closed (is_some (asked (first ++ more) r.id)) (list_any (lands_id r.id) (first ++ more)) (is_found (begun (first ++ more)) r stands) (landed r.id)) in
       let none : list_any (lands r) first ≡ false = no_right (list_any (lands r) past) (list_any (lands r) first) (sym (list_any-append (lands r) past first) ∙ not_landed (past ++ first) more r legal began) in
@@ -114,8 +114,8 @@ module _ (run : ℕ) (past first more : List Fact) (legal : Legal ((past ++ firs
 
 -- ---- along a span
 
-module _ (run : ℕ) (first m : Moment) (span : Keeps run first m) (ordered : Ordered run [] m.facts) (landed : HaveAllLanded m.facts) (past : List Fact) (begins : Begins run past first) where
-  holds : Holds past m
+module _ (run : ℕ) (first m : Moment) (span : Keeps run first m) (ordered : Ordered run [] m.facts) (landed : HaveAllLanded m.facts) (past : List Fact) (begins : RunBegins run past first) where
+  holds : HistoryHolds past m
   holds = let upholds : Upholds run first m = last-path span in upholds past begins
 
   pub calm_at : Calm (past ++ m.facts)
@@ -126,7 +126,7 @@ module _ (run : ℕ) (first m : Moment) (span : Keeps run first m) (ordered : Or
       subst Calm (sym facts) (calm_later run past first.facts more (subst Legal facts holds.legal) (subst (λ (l : List Fact). Ordered run [] l) is ordered) (subst HaveAllLanded is landed) begins.calm)
 
   -- what was asked of an earlier history at the span's beginning holds at its end
-  pub begins_at : Begins run past m
+  pub begins_at : RunBegins run past m
   begins_at = record { told = span_told span begins.told; legal = holds.legal; own = begins.own; moments = begins.moments; calm = calm_at; kept = holds.kept }
 
 -- so another span may follow

@@ -8,13 +8,13 @@ use Rattle.lvm_commit.specs.Settling.{NoneIsLeft}
 use Rattle.lvm_handover.proofs.SoundLemmas.{rest_is_still}
 use Rattle.lvm_handover.proofs.NoneLeftLemmas.{none_left}
 use Rattle.lvm_handover.proofs.ServingLemmas.Serving.{nobody_flies, none_flying}
-use Rattle.lvm_handover.specs.passed.Tie.{IsResting}
+use Rattle.lvm_handover.specs.passed.Tie.{IsCoreAtRest}
 
 module _ (s : State) (sound : IsSound s) (settled : IsSettled s.core) where
   going : IsGoing s.core
   going = (sound.on settled.power).going
 
-  pub rests : IsResting s.core
+  pub rests : IsCoreAtRest s.core
   rests = record {
     requests = settled.quiet.requests;
     copy = settled.quiet.copy;

@@ -12,7 +12,7 @@ use Rattle.lvm_steps.specs.Behind.{ClockIsAhead}
 use Rattle.lvm_commit.specs.LawsOfVolumes.{IsOneFoundOn}
 use Rattle.lvm_session.specs.State.{State, is_there}
 use Rattle.lvm_session_start.specs.Beginning.{AreFaults}
-use Rattle.lvm_settled.specs.passed.Names.{Room, BringsOn, IsStarted, NotesAreHome, IsSoundBetween, IsRoom}
+use Rattle.lvm_settled.specs.passed.Names.{Room, BringsOn, IsStarted, NotesAreHome, IsSoundAtRest, IsRoom}
 use Rattle.lvm_varyon.specs.Varied.{ComesOn, DirtyAreEqual}
 use Rattle.lvm_group.specs.Made.{IsMade}
 use Rattle.lvm_group.specs.NewGroup.{NewGroup}
@@ -27,7 +27,7 @@ pub record IsBegun (was : Log) (moment : ℕ) (room : Room) (old : Device) (s : 
   pub before : ℕ
   pub after : ℕ
   pub room_is : IsRoom room
-  pub sound : IsSoundBetween s
+  pub sound : IsSoundAtRest s
   pub started : IsStarted was.run moment old was s
   pub faults : AreFaults s.device s.core.origin.faults
   pub leaves : BringsOn was.run moment before after old s.device was s.core.history

@@ -4,14 +4,14 @@ use Rattle.lvm_num.specs.declared.place.Pp.{Pp}
 use Rattle.lvm_disk.specs.Device.{HasSectors}
 use Rattle.lvm_vol.specs.Facts.{Fact}
 use Rattle.lvm_kept.specs.Moments.{Moment}
-use Rattle.lvm_steps.specs.Moments.{Begins, Keeps}
+use Rattle.lvm_steps.specs.Moments.{RunBegins, Keeps}
 use Rattle.lvm_commit.specs.LawsOfVolumes.{IsOneFoundOn}
 use Rattle.lvm_session.specs.State.{Core, State, state}
 use Rattle.lvm_session.specs.Sound.{IsSound}
 use Rattle.lvm_handover.specs.passed.Names.{moment_of, StartsHeld, EntersVolumes, IsSettled, Leaves, GroupFault, NewVolume, IfOn}
 use Rattle.lvm_handover.specs.passed.Volumes.{MklvGives, RmlvGives, to_make, to_remove}
 use Rattle.lvm_volumes.specs.Tidying.{to_tidy}
-use Rattle.lvm_handover.specs.Serving.{IsCommanded, IsServed}
+use Rattle.lvm_handover.specs.Serving.{IsCommanded, OriginIsMarked}
 use Rattle.lvm_handover.specs.passed.Tie.{IsStamped}
 use Rattle.lvm_tie_commands.specs.Standing.{StandsAfter, StandsSince}
 
@@ -30,11 +30,11 @@ IsAloneAtFirst old new = old.core.descriptor.lvs ≡ [] → EntersVolumes old.co
 -- After it that stands as it is where the group has no volume, and in any case once the session takes requests again, whatever copies were added.
 pub record IsLeftStanding (past : List Fact) (new : State) : Type 0 where
   pub empty : new.core.descriptor.lvs ≡ [] → StartsHeld new.device new.core
-  pub served : (added : List Pp) (core : Core) → IsServed added new.core core → IsSound (state new.device core) → StandsAfter past new.device core
+  pub served : (added : List Pp) (core : Core) → OriginIsMarked added new.core core → IsSound (state new.device core) → StandsAfter past new.device core
 
 -- after each earlier history, where the shelf has whole sectors
 abbrev pub IsLeftStandingSince : ℕ → Moment → State → Type 0
-IsLeftStandingSince run first new = HasSectors new.device → (past : List Fact) → Begins run past first → IsLeftStanding past new
+IsLeftStandingSince run first new = HasSectors new.device → (past : List Fact) → RunBegins run past first → IsLeftStanding past new
 
 -- A span goes on over the making of a volume, whatever its answer, and where the session does, it is left so;
 abbrev pub MklvGoesOn : Type 0

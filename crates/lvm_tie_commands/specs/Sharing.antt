@@ -14,7 +14,7 @@ use Rattle.lvm_vol.specs.May.{known}
 use Rattle.lvm_kept.specs.Contents.{Contents, contents_of}
 use Rattle.lvm_kept.specs.Group.{HoldOne, IsBlockOf, IsOneOf, block_at, fresh_on}
 use Rattle.lvm_kept.specs.Moments.{Moment}
-use Rattle.lvm_steps.specs.Moments.{Begins}
+use Rattle.lvm_steps.specs.Moments.{RunBegins}
 use Rattle.lvm_commit.specs.LawsOfData.{IsSectorOf}
 use Rattle.lvm_session.specs.State.{State, is_there}
 use Rattle.lvm_split.specs.Splitting.{SplitGives, to_split}
@@ -43,7 +43,7 @@ pub record ShareContent (facts : List Fact) (s : State) (lv number : ℕ) : Type
 abbrev pub SplitShares : Type 0
 SplitShares = (run : ℕ) (first : Moment) (lv : ℕ) (name : List ℕ) (copies before after : ℕ) (old new : State) (number : ℕ)
     → MayBeCommanded run first old → IsCommanded (to_split lv name copies old.core) before after old new (Ok number) → SplitGives lv name copies before old new (Ok number)
-    → (past : List Fact) → Begins run past first → ShareContent (past ++ old.core.history.facts) new lv number
+    → (past : List Fact) → RunBegins run past first → ShareContent (past ++ old.core.history.facts) new lv number
 
 -- ---- a write on one
 

@@ -3,7 +3,7 @@ use Rattle.std.specs.Prelude.{◌≡◌, ◌≢◌, ℕ, List, []}
 use Rattle.lvm_disk.specs.Device.{Device}
 use Rattle.lvm_vol.specs.Facts.{Fact}
 use Rattle.lvm_kept.specs.Moments.{Moment}
-use Rattle.lvm_steps.specs.Moments.{Begins}
+use Rattle.lvm_steps.specs.Moments.{RunBegins}
 use Rattle.lvm_session.specs.State.{Core, State, state}
 use Rattle.lvm_handover.specs.passed.Names.{StartsHeld}
 use Rattle.lvm_handover.specs.passed.Tie.{SparesDescriptors, IsTied}
@@ -16,4 +16,4 @@ pub record StandsAfter (past : List Fact) (device : Device) (core : Core) : Type
 
 -- and that after each earlier history with which the run may have begun
 abbrev pub StandsSince : ℕ → Moment → State → Type 0
-StandsSince run first s = (past : List Fact) → Begins run past first → StandsAfter past s.device s.core
+StandsSince run first s = (past : List Fact) → RunBegins run past first → StandsAfter past s.device s.core

@@ -19,13 +19,13 @@ use Rattle.lvm_session.specs.Turns.{TurnMakes}
 use Rattle.lvm_line.specs.passed.Tie.{RunsOn}
 use Rattle.lvm_line.proofs.passed.Tie.{runs_both, runs_none}
 use Rattle.lvm_line.specs.passed.Names.{TurnTells}
-use Rattle.lvm_line.specs.passed.Ranges.{Moves, NoMove, OneMove}
-use Rattle.lvm_top.specs.Ending.{Concludes, IsQuietNow, IsServed, MakesTurns, NoneIsServed, NothingIsLeft, RestsNow, RunsOut, TurnsAreMade}
+use Rattle.lvm_line.specs.passed.Ranges.{MovesTurns, NoMove, OneMove}
+use Rattle.lvm_top.specs.Ending.{Concludes, HasNothingLeft, IsServed, MakesTurns, NoneIsServed, NothingIsLeft, HasNothingLeftOrOut, RunsOut, TurnsAreMade}
 
 -- so far each turn has moved
 pub record MovesSoFar (first now : State) : Type 0 where
   pub moved : ℕ
-  pub moves : Moves first moved now
+  pub moves : MovesTurns first moved now
   pub runs : RunsOn first now
   pub unstuck : now.core.power ≡ power.Stuck → ⊥
 
@@ -49,7 +49,7 @@ module _ (first old new : State) (so_far : MovesSoFar first old) where
 
 -- what holds of none, of a turn, and of one behind the other holds of all
 module _ (R : State → State → Type 0) (none : (s : State) → R s s) (both : (a b c : State) → R a b → R b c → R a c) (turn : (a b : State) (answer : Turned) → TurnMakes a b answer → R a b) where
-  each_move : (old : State) (n : ℕ) (new : State) → Moves old n new → R old new
+  each_move : (old : State) (n : ℕ) (new : State) → MovesTurns old n new → R old new
   each_move old n new NoMove = none old
   each_move old n new (OneMove {n = m} {old = mid} so_far made) = both old mid new (each_move old m mid so_far) (turn mid new turned.Moved made)
 
@@ -68,14 +68,14 @@ none_count n is = eqb-true n 0 is
 by_length : (fs : List Flight) (b : Bool) → b ≡ (length fs == 0) → (b ≡ true → fs ≡ []) × (fs ≡ [] → b ≡ true)
 by_length fs b is = (λ yes. none_out fs (none_count (length fs) (sym is ∙ yes)), λ none. is ∙ subst (λ (l : List Flight). (length l == 0) ≡ true) (sym none) refl)
 
-pub rests_now : (device : Device) (core read : Core) (quiet rests : Bool) (out : ℕ) → IsTrue quiet ↔ IsQuietNow read → read ≡ core → out ≡ length device.flights → quiet ≡ true → rests ≡ (out == 0) → IsTrue rests ↔ RestsNow (state device core)
+pub rests_now : (device : Device) (core read : Core) (quiet rests : Bool) (out : ℕ) → IsTrue quiet ↔ HasNothingLeft read → read ≡ core → out ≡ length device.flights → quiet ≡ true → rests ≡ (out == 0) → IsTrue rests ↔ HasNothingLeftOrOut (state device core)
 rests_now device core read quiet rests out quiets same counted is says =
     let by = by_length device.flights rests (says ∙ ap (λ (n : ℕ). n == 0) counted) in
-    (λ yes. record { quiet = subst IsQuietNow same (quiets.0 is); flights = by.0 yes }, λ rest. by.1 rest.flights)
+    (λ yes. record { quiet = subst HasNothingLeft same (quiets.0 is); flights = by.0 yes }, λ rest. by.1 rest.flights)
 
-pub rests_not : (device : Device) (core read : Core) (quiet rests : Bool) → IsTrue quiet ↔ IsQuietNow read → read ≡ core → quiet ≡ false → rests ≡ false → IsTrue rests ↔ RestsNow (state device core)
+pub rests_not : (device : Device) (core read : Core) (quiet rests : Bool) → IsTrue quiet ↔ HasNothingLeft read → read ≡ core → quiet ≡ false → rests ≡ false → IsTrue rests ↔ HasNothingLeftOrOut (state device core)
 rests_not device core read quiet rests quiets same is says =
-    (λ yes. absurd (let e : false ≡ true = sym says ∙ yes in cc e), λ rest. absurd (let e : false ≡ true = sym is ∙ quiets.1 (subst IsQuietNow (sym same) rest.quiet) in cc e))
+    (λ yes. absurd (let e : false ≡ true = sym says ∙ yes in cc e), λ rest. absurd (let e : false ≡ true = sym is ∙ quiets.1 (subst HasNothingLeft (sym same) rest.quiet) in cc e))
 
 -- ---- the end of a session
 
@@ -84,11 +84,11 @@ pub closed_by : {S : Type 0} (device : S → Device) (p : Power) (old : Device) 
 closed_by device p old h closed is none same = subst (λ (d : Device). IsClosed p old d) (sym (same none)) is
 
 -- it rests
-pub out_still : (s : State) (exit : Device) (facts : List Fact) → RestsNow s → s.core.power ≡ power.On → IsClosed s.core.power s.device exit → facts ≡ s.core.history.facts → RunsOut s (record { device = exit; facts = facts })
+pub out_still : (s : State) (exit : Device) (facts : List Fact) → HasNothingLeftOrOut s → s.core.power ≡ power.On → IsClosed s.core.power s.device exit → facts ≡ s.core.history.facts → RunsOut s (record { device = exit; facts = facts })
 out_still s exit facts rest on closed entries = NothingIsLeft rest (subst (λ (p : Power). IsClosed p s.device exit) on closed) entries
 
 -- or turns were made
-pub out_turned : (s last : State) (exit : Device) (facts : List Fact) → (RestsNow s → ⊥) → MakesTurns s last → RunsOn s last → IsSound last → IsClosed last.core.power last.device exit → facts ≡ last.core.history.facts
+pub out_turned : (s last : State) (exit : Device) (facts : List Fact) → (HasNothingLeftOrOut s → ⊥) → MakesTurns s last → RunsOn s last → IsSound last → IsClosed last.core.power last.device exit → facts ≡ last.core.history.facts
     → RunsOut s (record { device = exit; facts = facts })
 out_turned s last exit facts moving turns runs sound closed entries = TurnsAreMade last moving turns runs sound closed entries
 

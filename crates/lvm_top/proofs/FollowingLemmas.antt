@@ -8,7 +8,7 @@ use Rattle.lvm_steps.specs.Moments.{IsEarlier}
 use Rattle.lvm_core.specs.declared.parts.Room.{Room}
 use Rattle.lvm_line.specs.passed.GroupLines.{Reply, ScriptState}
 use Rattle.lvm_top.specs.declared.status.ExitStatus.TheVariants as ended
-use Rattle.lvm_top.specs.Laws.{MayStart}
+use Rattle.lvm_top.specs.Laws.{MayRun}
 use Rattle.lvm_top.specs.OneGroup.{AreUnforced, EndsUnforced, RanUnforced}
 use Rattle.lvm_top.specs.Plain.{FindsOneGroup, HoldsOneGroup}
 use Rattle.lvm_top.specs.Run.{IsRun, RanAlone, Run}
@@ -23,7 +23,7 @@ use Rattle.lvm_top.proofs.PlainLemmas.{ran_unforced}
 use Rattle.lvm_top.proofs.RunsLemmas.{next_may_begin}
 use Rattle.lvm_top.proofs.ScriptLemmas.Concluding.{ran_between, spanned}
 
-module _ (log : Log) (room : Room) (past : List Fact) (first : ScriptState) (begin : MayStart log.run past first) (one : FindsOneGroup first.moment.device) where
+module _ (log : Log) (room : Room) (past : List Fact) (first : ScriptState) (begin : MayRun log.run past first) (one : FindsOneGroup first.moment.device) where
   -- where the lines end of which something was heard
   ends_find : {lines : List (List ℕ)} {replies : List Reply} {mid last : ScriptState} {done : List (List ℕ)} {said : List Reply} {front : List ℕ} (script : Script log room first lines replies mid) → AreUnforced script
       → (ends : Ends log room mid last done said front) → EndsHeard ends → EndsUnforced ends → FindsOneGroup last.moment.device

@@ -10,7 +10,7 @@ use Rattle.lvm_num.specs.Geometry.{data_start, partition_blocks}
 use Rattle.lvm_num.specs.Name.{is_name}
 use Rattle.lvm_disk.specs.Device.{Media, Flight, Device, IsReady, image_of}
 use Rattle.lvm_vol.specs.Log.{Log}
-use Rattle.lvm_steps.specs.Behind.{IsBehind}
+use Rattle.lvm_steps.specs.Behind.{StampsAreEarlier}
 use Rattle.lvm_rec.specs.declared.homes.Homes.{Homes}
 use Rattle.lvm_write.specs.Beginning.{Part, IsOfParts}
 use Rattle.lvm_core.specs.declared.refused.Cause.{Cause}
@@ -55,7 +55,7 @@ pub record IsAskedFor (w : NewGroup) (old : Device) : Type 0 where
   pub a_disk : 1 ≤ length w.disks
   pub differ : AllPairs (λ a b. a ≢ b) w.disks
   pub sized : ForSome w.mib (λ mib. IsTrue (is_size mib))
-  pub clock : w.moment < 2 ^ 64 - 1 → IsBehind w.moment old
+  pub clock : w.moment < 2 ^ 64 - 1 → StampsAreEarlier w.moment old
 
 module _ (w : NewGroup) (old : Device) (asked : IsAskedFor w old) where
   abbrev group : Descriptor

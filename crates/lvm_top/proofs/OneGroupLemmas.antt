@@ -31,7 +31,7 @@ use Rattle.lvm_kept.specs.Moments.{Moment}
 use Rattle.lvm_core.specs.Leaves.{EntersVolumes, Scope, is_of_volume, MayBeFound}
 use Rattle.lvm_volume_plan.specs.declared.new_volume.NewVolume.{NewVolume}
 use Rattle.lvm_line.specs.passed.Group.{NewGroup, new_group, MkvgRefuses, IfShown, HasGroup}
-use Rattle.lvm_line.specs.passed.GroupLines.{IsBetween, patience_of_line, Asks, IsAlone, OfGroup, OfRequests, Role, IsStuck, ScriptState, IsTimely, StandsAlone, log_with, Reply, IsLeft, MkvgDoes, NoMemoryForLine, NoMkvgWhileOn, Makes, asked_for, itself, outcome_of}
+use Rattle.lvm_line.specs.passed.GroupLines.{IsBetween, patience_of_line, Asks, IsAlone, OfGroup, OfRequests, Role, IsStuck, ScriptState, IsTimely, StandsAlone, log_with, Reply, IsLeftByCall, MkvgDoes, NoMemoryForLine, NoMkvgWhileOn, Makes, asked_for, itself, outcome_of}
 use Rattle.lvm_line.specs.Lines.{LineDoes, role_of}
 use Rattle.lvm_line.specs.passed.VolumeLines.{Drains, IsDone, MklvDoes, RmlvDoes, NoGroupForMklv, BusyMklv, UndrainedMklv, MakesVolume, MklvFails, NoGroupForRmlv, BusyRmlv, UndrainedRmlv, NoVolumeForRmlv, RemovesVolume, RmlvFails, wanted, MklvcopyDoes, NoGroupForMklvcopy, BusyMklvcopy, UndrainedMklvcopy, NoVolumeForMklvcopy, AddsCopies, MklvcopyFails, RmlvcopyDoes, NoGroupForRmlvcopy, BusyRmlvcopy, UndrainedRmlvcopy, NoVolumeForRmlvcopy, RemovesCopies, RmlvcopyFails, SplitlvcopyDoes, NoGroupForSplitlvcopy, BusySplitlvcopy, UndrainedSplitlvcopy, NoVolumeForSplitlvcopy, SplitsVolume, SplitlvcopyFails}
 use Rattle.lvm_line.proofs.passed.Tie.{path_frames}
@@ -43,7 +43,7 @@ use Rattle.lvm_top.proofs.StandingLemmas.Volumes.{done_finds, found_before, idle
 use Rattle.lvm_top.proofs.StandingLemmas.Copying.{fewer_id, more_id}
 use Rattle.lvm_top.proofs.StandingLemmas.Splitting.{split_id}
 use Rattle.lvm_top.proofs.ScriptLemmas.Scripting.{script_went}
-use Rattle.lvm_top.specs.Laws.{MayStart}
+use Rattle.lvm_top.specs.Laws.{MayRun}
 use Rattle.lvm_top.specs.Plain.{FindsOneGroup}
 use Rattle.lvm_top.specs.OneGroup.{IsUnforced, AreUnforced, EndsUnforced, UnforcedStaysAlone, UnforcedRunsAlone, BlankFindsOneGroup}
 use Rattle.lvm_top.specs.Standing.{MayHaveCommitted, StoodBefore}
@@ -130,7 +130,7 @@ module _ (log : Log) (old new : ScriptState) (answer : Reply) (shelf : IsShelf o
   -- ---- `mkvg`
 
   made_one : (room : Room) (line : List ℕ) (name : List ℕ) (mib : Option ℕ) (disks : List ℕ) → line_of line ≡ Ok (Some (command.Mkvg false name mib disks)) → (left : Device) (is : Log) (given : Result Core Cause) → Asks old new
-      → MkvgOnceQuiet itself (asked_for name mib disks false new.last) room patience_of_line (log_with log old.moment.facts) was (outcome_of left is given) → IsLeft left is old new answer given → FindsOneGroup now
+      → MkvgOnceQuiet itself (asked_for name mib disks false new.last) room patience_of_line (log_with log old.moment.facts) was (outcome_of left is given) → IsLeftByCall left is old new answer given → FindsOneGroup now
   made_one room line name mib disks read left is (Ok core) asks (RefusedAtOnce refused same first shelf_same history_same) gone = absurd (cc (same))
   made_one room line name mib disks read left is (Ok core) asks (StayedOut refused same may out) gone = absurd (cc (same))
   made_one room line name mib disks read left is (Ok core) asks (WentQuiet may once) gone =
@@ -258,7 +258,7 @@ alone_so role old new one = record { enters = λ enters. one_found old.moment.de
     by_session None = tt
     by_session (Some core) = λ none some. one_found old.moment.device one
 
-module _ (log : Log) (room : Room) (past : List Fact) (first : ScriptState) (begin : MayStart log.run past first) (one : FindsOneGroup first.moment.device) where
+module _ (log : Log) (room : Room) (past : List Fact) (first : ScriptState) (begin : MayRun log.run past first) (one : FindsOneGroup first.moment.device) where
   -- all that is so of the lines
   pub record ScriptAlone {lines : List (List ℕ)} {replies : List Reply} {last : ScriptState} (script : Script log room first lines replies last) : Type 0 where
     pub alone : StaysAlone script

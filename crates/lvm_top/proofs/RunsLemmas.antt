@@ -10,7 +10,7 @@ use Rattle.lvm_vol.specs.Legal.{begins_in}
 use Rattle.lvm_vol.specs.Log.{Log}
 use Rattle.lvm_vol.specs.Order.{Ordered}
 use Rattle.lvm_steps.specs.Moments.{IsEarlier}
-use Rattle.lvm_steps.specs.Behind.{IsBehind, IsAhead}
+use Rattle.lvm_steps.specs.Behind.{StampsAreEarlier, IsAhead}
 use Rattle.lvm_steps.proofs.LawsLemmas.Clock.{later_is_later_too, joined_is_later}
 use Rattle.lvm_steps.proofs.LawsLemmas.Stamps.{later_is_ahead_too}
 use Rattle.lvm_top.specs.Run.{Run, Promises, RanAlone}
@@ -47,7 +47,7 @@ module _ (run next : ℕ) (other : run ≡ next → ⊥) where
 
 -- ---- what a run leaves
 
-module _ (asked : Clocked) (next : ℕ) (r : Run) (exit : Device) (past : List Fact) (did : Promises asked r) (earlier : IsEarlier r.named r.entry past) (behind : IsBehind r.named r.entry) (heard : r.status ≡ ended.Stuck → ⊥)
+module _ (asked : Clocked) (next : ℕ) (r : Run) (exit : Device) (past : List Fact) (did : Promises asked r) (earlier : IsEarlier r.named r.entry past) (behind : StampsAreEarlier r.named r.entry) (heard : r.status ≡ ended.Stuck → ⊥)
     (own : count_by (begins_in next) past ≡ 0) (later : r.last < next) (alone : RanAlone did.does) (left : IsLeftOf r.exit exit) where
   abbrev facts : List Fact
   facts = facts_of r.history
@@ -68,7 +68,7 @@ module _ (asked : Clocked) (next : ℕ) (r : Run) (exit : Device) (past : List F
       let mine : count_by (begins_in next) (Cut ∷ facts) ≡ 0 = none_told r.history did.clock did.does.history_is did.tells in
       omega (arith, sum, own, mine)
 
-  pub next_begins : IsEarlier next exit (joined past facts) × IsBehind next exit
+  pub next_begins : IsEarlier next exit (joined past facts) × StampsAreEarlier next exit
   next_begins =
       let le : r.named ≤ next = let a = ahead.run_is in omega (arith, a, later) in
       let end : r.last + 1 ≤ next = omega (arith, later) in (

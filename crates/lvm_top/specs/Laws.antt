@@ -7,8 +7,8 @@ use Rattle.lvm_vol.specs.Facts.{Fact, Cut}
 use Rattle.lvm_vol.specs.Log.{Log}
 use Rattle.lvm_parse.specs.declared.command.Command.TheVariants as command
 use Rattle.lvm_parse.specs.Grammar.{line_of}
-use Rattle.lvm_steps.specs.Moments.{Begins, IsEarlier}
-use Rattle.lvm_steps.specs.Behind.{IsBehind}
+use Rattle.lvm_steps.specs.Moments.{RunBegins, IsEarlier}
+use Rattle.lvm_steps.specs.Behind.{StampsAreEarlier}
 use Rattle.lvm_core.specs.declared.parts.Room.{Room}
 use Rattle.lvm_core.specs.Leaves.{MayBeFound}
 use Rattle.lvm_line.specs.Lines.{IsLine, role_of}
@@ -21,7 +21,7 @@ use Rattle.lvm_top.specs.Recovery.{AreRecovered}
 use Rattle.lvm_top.specs.Refused.{EndsInTime}
 use Rattle.lvm_top.specs.Run.{Run, IsRun, RanAlone}
 use Rattle.lvm_top.specs.Script.{Script, StaysAlone, entry_state}
-use Rattle.lvm_top.specs.Standing.{MayHaveCommitted, MayStand, MayStandAtEnd, HasFewDisks, StoodBefore}
+use Rattle.lvm_top.specs.Standing.{MayHaveCommitted, DescriptorMayStand, MayStandAtEnd, HasFewDisks, StoodBefore}
 
 -- Whatever may be found after a line might be found before it, or is what the line may have committed; where no transfer that is out goes to a slot of descriptors
 -- and something was heard of all, the clock is ahead of each crash image, and the disks stand by a session.
@@ -33,38 +33,38 @@ LineFindsNoMore =
 
 -- A state from which a script may begin: no group is on, no transfer that is out goes to a slot of descriptors, the clock is ahead of each crash image of the
 -- disks, of which there are at most 128, and an earlier history is kept with them.
-pub record MayStart (run : ℕ) (past : List Fact) (first : ScriptState) : Type 0 where
+pub record MayRun (run : ℕ) (past : List Fact) (first : ScriptState) : Type 0 where
   pub off : first.session ≡ None
   pub few : HasFewDisks first.moment.device
   pub leaves : LeavesDescriptors first.moment.device
   pub timely : IsTimely run first
-  pub begins : Begins run past first.moment
+  pub begins : RunBegins run past first.moment
 
 -- Whatever may be found after the lines of a script may stand, where no other group is found at the lines that ask for that.
 abbrev pub ScriptFindsWhatStands : Type 0
 ScriptFindsWhatStands =
     (log : Log) (room : Room) (past : List Fact) (first : ScriptState) (lines : List (List ℕ)) (replies : List Reply) (last : ScriptState) (script : Script log room first lines replies last)
-    → MayStart log.run past first → StaysAlone script
-    → (id : ℕ) (k : Descriptor) → MayBeFound last.moment.device id k → MayStand script id k
+    → MayRun log.run past first → StaysAlone script
+    → (id : ℕ) (k : Descriptor) → MayBeFound last.moment.device id k → DescriptorMayStand script id k
 
 -- So a group that a `varyonvg` varies on thereafter has a descriptor that may stand.
 abbrev pub VaryonFindsWhatStands : Type 0
 VaryonFindsWhatStands =
     (log : Log) (room : Room) (past : List Fact) (first : ScriptState) (lines : List (List ℕ)) (replies : List Reply) (last : ScriptState) (script : Script log room first lines replies last)
-    → MayStart log.run past first → StaysAlone script
+    → MayRun log.run past first → StaysAlone script
     → (line name : List ℕ) (new : ScriptState) → line_of line ≡ Ok (Some (command.Varyon name)) → IsLine log room line reply.Ok last new
-    → IsSomeAnd new.session (λ core. MayStand script core.descriptor.id core.descriptor)
+    → IsSomeAnd new.session (λ core. DescriptorMayStand script core.descriptor.id core.descriptor)
 
 -- A run may start where nothing is under way, its moment is later than what stands on the disks, and they are kept with an earlier history.
 abbrev pub RunMayStart : Type 0
-RunMayStart = (run : ℕ) (entry : Device) (past : List Fact) → HasFewDisks entry → IsReady entry → IsBehind run entry → IsEarlier run entry past → MayStart run (past ++ Cut ∷ []) (entry_state entry run)
+RunMayStart = (run : ℕ) (entry : Device) (past : List Fact) → HasFewDisks entry → IsReady entry → StampsAreEarlier run entry → IsEarlier run entry past → MayRun run (past ++ Cut ∷ []) (entry_state entry run)
 
 -- So it is at the end of each run, unless nothing was heard of a transfer.
 abbrev pub RunFindsWhatStands : Type 0
 RunFindsWhatStands =
     (r : Run) (ran : IsRun r) (past : List Fact)
-    → HasFewDisks r.entry → IsReady r.entry → IsBehind r.named r.entry → IsEarlier r.named r.entry past → RanAlone ran → (r.status ≡ ended.Stuck → ⊥)
-    → (id : ℕ) (k : Descriptor) → MayBeFound r.exit id k → MayStandAtEnd ran.lines.ends (MayStand ran.lines.script) id k
+    → HasFewDisks r.entry → IsReady r.entry → StampsAreEarlier r.named r.entry → IsEarlier r.named r.entry past → RanAlone ran → (r.status ≡ ended.Stuck → ⊥)
+    → (id : ℕ) (k : Descriptor) → MayBeFound r.exit id k → MayStandAtEnd ran.lines.ends (DescriptorMayStand ran.lines.script) id k
 
 -- In any script each `varyonvg` that is answered `ok` brings its group back, and one that lacks its quorum writes nothing, where the clock is ahead at first.
 abbrev pub VaryonsRecover : Type 0

@@ -1,6 +1,6 @@
 -- What a run leaves to the next one, which begins with whatever a loss of power has left.
 use Rattle.std.specs.Prelude.{◌≡◌, ℕ, [], List, Some, count_by}
-use Rattle.lvm_steps.specs.Behind.{IsBehind, beginning_at}
+use Rattle.lvm_steps.specs.Behind.{StampsAreEarlier, beginning_at}
 use Rattle.lvm_steps.specs.Laws.{LeavesBefore}
 use Rattle.lvm_disk.specs.Device.{Media, Device, IsTorn}
 use Rattle.lvm_vol.specs.Facts.{Fact, joined}
@@ -29,4 +29,4 @@ NextAfterCut = (run next : ℕ) (entry exit later : Device) (past facts : List F
 
 -- And where all that it may leave is from before a moment, so is what it has left.
 abbrev pub LeftIsBehind : Type 0
-LeftIsBehind = (moment : ℕ) (old new : Device) → LeavesBefore (beginning_at moment) old → IsLeftOf old new → IsBehind moment new
+LeftIsBehind = (moment : ℕ) (old new : Device) → LeavesBefore (beginning_at moment) old → IsLeftOf old new → StampsAreEarlier moment new

@@ -6,14 +6,14 @@ use Rattle.lvm_vol.specs.Log.{Log}
 use Rattle.lvm_parse.specs.declared.command.Command.TheVariants as command
 use Rattle.lvm_parse.specs.Grammar.{line_of}
 use Rattle.lvm_steps.specs.Moments.{IsEarlier}
-use Rattle.lvm_steps.specs.Behind.{IsBehind}
+use Rattle.lvm_steps.specs.Behind.{StampsAreEarlier}
 use Rattle.lvm_core.specs.declared.parts.Room.{Room}
 use Rattle.lvm_line.specs.passed.GroupLines.{ScriptState, Reply}
 use Rattle.lvm_top.specs.Plain.{FindsOneGroup}
 use Rattle.lvm_top.specs.Run.{Run, IsRun, RanAlone}
 use Rattle.lvm_top.specs.Script.{Script, NoLine, NextLine, StaysAlone, Ends, AtLine, InLine}
 use Rattle.lvm_top.specs.Blank.{IsToldBlank}
-use Rattle.lvm_top.specs.Laws.{MayStart}
+use Rattle.lvm_top.specs.Laws.{MayRun}
 use Rattle.lvm_top.specs.Standing.{HasFewDisks}
 
 -- the line is no `mkvg -f`
@@ -38,14 +38,14 @@ RanUnforced ran = AreUnforced ran.lines.script × EndsUnforced ran.lines.ends
 abbrev pub UnforcedStaysAlone : Type 0
 UnforcedStaysAlone =
     (log : Log) (room : Room) (past : List Fact) (first : ScriptState) (lines : List (List ℕ)) (replies : List Reply) (last : ScriptState) (script : Script log room first lines replies last)
-    → MayStart log.run past first → FindsOneGroup first.moment.device → AreUnforced script
+    → MayRun log.run past first → FindsOneGroup first.moment.device → AreUnforced script
     → StaysAlone script × FindsOneGroup last.moment.device
 
 -- So it is of a run,
 abbrev pub UnforcedRunsAlone : Type 0
 UnforcedRunsAlone =
     (r : Run) (ran : IsRun r) (past : List Fact)
-    → HasFewDisks r.entry → IsReady r.entry → IsBehind r.named r.entry → IsEarlier r.named r.entry past → FindsOneGroup r.entry → RanUnforced ran → RanAlone ran
+    → HasFewDisks r.entry → IsReady r.entry → StampsAreEarlier r.named r.entry → IsEarlier r.named r.entry past → FindsOneGroup r.entry → RanUnforced ran → RanAlone ran
 
 -- and of each over disks of zeros, on which no group is found.
 abbrev pub BlankFindsOneGroup : Type 0

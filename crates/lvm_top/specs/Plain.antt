@@ -4,7 +4,7 @@ use Rattle.lvm_num.specs.declared.descriptor.Descriptor.{Descriptor}
 use Rattle.lvm_disk.specs.Device.{Device}
 use Rattle.lvm_vol.specs.Facts.{Fact, joined}
 use Rattle.lvm_vol.specs.Legal.{Legal}
-use Rattle.lvm_steps.specs.Behind.{IsBehind}
+use Rattle.lvm_steps.specs.Behind.{StampsAreEarlier}
 use Rattle.lvm_steps.specs.Moments.{ImagesKept, IsEarlier}
 use Rattle.lvm_core.specs.Leaves.{MayBeFound}
 use Rattle.lvm_parse.specs.Forced.{HasNowhere}
@@ -19,7 +19,7 @@ FindsOneGroup device = (v w : ℕ) (g h : Descriptor) → MayBeFound device v g 
 pub record HoldsOneGroup (run : ℕ) (entry : Device) : Type 0 where
   pub few : HasFewDisks entry
   pub one : FindsOneGroup entry
-  pub before : IsBehind run entry
+  pub before : StampsAreEarlier run entry
 
 -- Where the script's bytes are told and have nowhere `-f`, and the disks hold one group at most: behind each history with which the disks may have come, that of
 -- the run is legal, and with both of them each crash image is kept that the disks may leave at the end.

@@ -8,7 +8,7 @@ use Rattle.lvm_vol.specs.Facts.{Cut, Fact, joined}
 use Rattle.lvm_vol.specs.Legal.{Legal}
 use Rattle.lvm_vol.specs.Log.{Log}
 use Rattle.lvm_vol.specs.Order.{Ordered}
-use Rattle.lvm_steps.specs.Behind.{IsBehind, IsAhead, beginning_at}
+use Rattle.lvm_steps.specs.Behind.{StampsAreEarlier, IsAhead, beginning_at}
 use Rattle.lvm_steps.specs.Laws.{LeavesBefore}
 use Rattle.lvm_core.specs.declared.parts.Room.{Room}
 use Rattle.lvm_line.specs.passed.GroupLines.{IsAlone, OfRequests, ScriptState}
@@ -121,12 +121,12 @@ pub record Promises (asked : Clocked) (r : Run) : Type 0 where
   pub does : IsRun r
   pub asks : AsksForLines asked (does.lines.lines ++ does.lines.done) r.history
   pub causes : HaveCauses does
-  pub upheld : WhereAlone r (IsBehind r.named r.entry → IsUpheld r.named r.entry r.exit (facts_of r.history))
+  pub upheld : WhereAlone r (StampsAreEarlier r.named r.entry → IsUpheld r.named r.entry r.exit (facts_of r.history))
   pub first : WhereAlone r (IsToldBlank r.entry → Legal (joined [] (facts_of r.history)) × ImagesKept r.exit (joined [] (facts_of r.history)))
   pub plain : UpholdsPlainly r.input.before.content r.named r.entry r.exit (facts_of r.history)
-  pub ahead : IsBehind r.named r.entry → IsAhead r.named (r.last + 1) r.exit (facts_of r.history)
-  pub ahead_each : IsBehind r.named r.entry → (r.status ≡ ended.Stuck → ⊥) → LeavesBefore (beginning_at (r.last + 1)) r.exit
+  pub ahead : StampsAreEarlier r.named r.entry → IsAhead r.named (r.last + 1) r.exit (facts_of r.history)
+  pub ahead_each : StampsAreEarlier r.named r.entry → (r.status ≡ ended.Stuck → ⊥) → LeavesBefore (beginning_at (r.last + 1)) r.exit
   pub tells : Ordered r.named [] (facts_of r.history)
-  pub recovers : IsBehind r.named r.entry → HaveRecovered does
-  pub shares : RanAlone does → IsBehind r.named r.entry → HaveShared does
+  pub recovers : StampsAreEarlier r.named r.entry → HaveRecovered does
+  pub shares : RanAlone does → StampsAreEarlier r.named r.entry → HaveShared does
   pub apart : (past : List Fact) → StayApart (joined past (facts_of r.history))

@@ -4,7 +4,7 @@ use Rattle.lvm_disk.specs.Device.{Device}
 use Rattle.lvm_steps.specs.Moments.{ImagesKept, IsEarlier}
 use Rattle.lvm_vol.specs.Facts.{Fact, joined}
 use Rattle.lvm_vol.specs.Legal.{Legal, begins_in}
-use Rattle.lvm_steps.specs.Behind.{IsBehind}
+use Rattle.lvm_steps.specs.Behind.{StampsAreEarlier}
 use Rattle.lvm_top.specs.declared.status.ExitStatus.TheVariants as ended
 use Rattle.lvm_top.specs.Run.{Run, Promises, RanAlone}
 use Rattle.lvm_top.specs.Clock.{Clocked}
@@ -18,8 +18,8 @@ use Rattle.lvm_top.specs.Plain.{FindsOneGroup, HoldsOneGroup}
 -- of a transfer, where what was told before the first names no request of the next.
 abbrev pub NextMayBegin : Type 0
 NextMayBegin = (asked : Clocked) (next : ℕ) (r : Run) (later : Device) (past : List Fact) (did : Promises asked r)
-    → IsEarlier r.named r.entry past → IsBehind r.named r.entry → (r.status ≡ ended.Stuck → ⊥) → count_by (begins_in next) past ≡ 0 → r.last < next → RanAlone did.does → IsLeftOf r.exit later
-    → IsEarlier next later (joined past (facts_of r.history)) × IsBehind next later
+    → IsEarlier r.named r.entry past → StampsAreEarlier r.named r.entry → (r.status ≡ ended.Stuck → ⊥) → count_by (begins_in next) past ≡ 0 → r.last < next → RanAlone did.does → IsLeftOf r.exit later
+    → IsEarlier next later (joined past (facts_of r.history)) × StampsAreEarlier next later
 
 -- So of two runs, the first over disks of zeros and the second over such a remainder, both histories together are legal, and each crash image that the disks may
 -- leave at the end is kept with them.

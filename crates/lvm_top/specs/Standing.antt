@@ -5,7 +5,7 @@ use Rattle.lvm_disk.specs.Device.{Device}
 use Rattle.lvm_vol.specs.Facts.{Fact}
 use Rattle.lvm_vol.specs.Log.{Log}
 use Rattle.lvm_kept.specs.Moments.{Moment}
-use Rattle.lvm_steps.specs.Moments.{Begins}
+use Rattle.lvm_steps.specs.Moments.{RunBegins}
 use Rattle.lvm_parse.specs.declared.command.Command.{Command}
 use Rattle.lvm_parse.specs.declared.command.Command.TheVariants as command
 use Rattle.lvm_parse.specs.declared.rest.Misfit.{Misfit}
@@ -57,7 +57,7 @@ AreHeld s = IfSome s.session (λ core. IsHeld s.moment.device core)
 -- history, and no other group is found where that is asked.
 pub data StoodBefore (run : ℕ) (role : Role) (old new : ScriptState) : Type 0 where
   HeldAtRest : IsAtRest old → AreHeld old → StoodBefore run role old new
-  StandsSince : (past : List Fact) (first : Moment) → StandsBy run first old → Begins run past first → IsAlone role old new → StoodBefore run role old new
+  StandsSince : (past : List Fact) (first : Moment) → StandsBy run first old → RunBegins run past first → IsAlone role old new → StoodBefore run role old new
 
 -- the commands after which a group is on: it was made, varied on, given a volume or copies more or less, or had a volume split
 abbrev pub is_group_command : Command → Bool
@@ -90,9 +90,9 @@ StandsAfter false read answer old new Before id k = Before id k ⊎ MayHaveCommi
 
 -- What may stand of a group after these lines: what could be found before the first of them; since the last acknowledged command on it what that has
 -- committed, and what was being committed since.
-abbrev pub MayStand : {log : Log} {room : Room} {first : ScriptState} {lines : List (List ℕ)} {replies : List Reply} {last : ScriptState} → Script log room first lines replies last → ℕ → Descriptor → Type 0
-MayStand {first = first} NoLine id k = MayBeFound first.moment.device id k
-MayStand (NextLine {mid = mid} {new = new} line answer said goes says before does) id k = StandsAfter (is_acknowledged (line_of line) answer) (line_of line) answer mid new (MayStand before) id k
+abbrev pub DescriptorMayStand : {log : Log} {room : Room} {first : ScriptState} {lines : List (List ℕ)} {replies : List Reply} {last : ScriptState} → Script log room first lines replies last → ℕ → Descriptor → Type 0
+DescriptorMayStand {first = first} NoLine id k = MayBeFound first.moment.device id k
+DescriptorMayStand (NextLine {mid = mid} {new = new} line answer said goes says before does) id k = StandsAfter (is_acknowledged (line_of line) answer) (line_of line) answer mid new (DescriptorMayStand before) id k
 
 -- What may stand once a run has ended behind these lines, perhaps in one line more whose reply wasn't written in full.
 abbrev pub MayStandAtEnd : {log : Log} {room : Room} {mid last : ScriptState} {done : List (List ℕ)} {said : List Reply} {front : List ℕ} → Ends log room mid last done said front → (ℕ → Descriptor → Type 0) → ℕ → Descriptor → Type 0

@@ -10,7 +10,7 @@ ghost use Rattle.lvm_session.specs.State.{state_of};
 ghost use Rattle.lvm_line.specs.passed.Tie.{RunsOn};
 ghost use Rattle.lvm_line.specs.passed.GroupLines.{history_in, moment_in, session_in, IsBetweenStage, IsClosed, IsFittingStage, without_facts};
 ghost use Rattle.lvm_top.specs.Clock.{clocked};
-ghost use Rattle.lvm_top.specs.Ending.{Concludes, IsQuietNow, MakesTurns, RestsNow, RunsOut};
+ghost use Rattle.lvm_top.specs.Ending.{Concludes, HasNothingLeft, MakesTurns, HasNothingLeftOrOut, RunsOut};
 ghost use Rattle.lvm_top.specs.Plain.{UpholdsPlainly};
 ghost use Rattle.lvm_top.specs.Run.{Promises, ran};
 ghost use Rattle.lvm_top.specs.Script.{facts_of, passage, run_of};
@@ -75,7 +75,7 @@ pub fn unbegun<S>(shelf: S) -> Ended<S>
 
 // Whether a session has no request open, no update in flight, and nothing wanted that isn't committed.
 fn is_quiet(session: &Session) -> bool
-    ensures { IsTrue result ↔ IsQuietNow (core_of session.now) }
+    ensures { IsTrue result ↔ HasNothingLeft (core_of session.now) }
 {
     if !session.requests.is_empty() {
         return false;
@@ -89,7 +89,7 @@ fn is_quiet(session: &Session) -> bool
 // A session, and whether nothing is under way in it, with no transfer out.
 fn at_rest<S: Shelf>(driver: Driver<S>) -> (Driver<S>, bool)
     ensures driver { result.0 ≡ driver }
-    ensures rests { IsTrue result.1 ↔ RestsNow (state_of S.device driver) }
+    ensures rests { IsTrue result.1 ↔ HasNothingLeftOrOut (state_of S.device driver) }
 {
     let (shelf, session) = driver.into_parts();
     let rests = if is_quiet(&session) {

@@ -2,21 +2,21 @@
 use Rattle.std.proofs.Common.{◌≡◌, ℕ, ◌∷◌, ◌++◌, [], List, Option, IfSome, false, ◌∙◌, ap, subst}
 use Rattle.lvm_disk.specs.passed.Names.{Buffer}
 use Rattle.lvm_disk.specs.Device.{Media, Flight, Device}
-use Rattle.lvm_disk.specs.Steps.{BothTold, Puts, PutsSome, Reads, ChangedAtMost}
-use Rattle.lvm_kept.specs.Raw.{IsStill}
+use Rattle.lvm_disk.specs.Steps.{BothTold, Puts, PutsSome, ReadsRange, ChangedAtMost}
+use Rattle.lvm_kept.specs.Raw.{HasNothingOut}
 use Rattle.lvm_transfer.specs.Transfer.{IsOut, TransferGives}
 use Rattle.lvm_transfer.specs.declared.moves.Moved.TheVariants as moved
 use Rattle.lvm_transfer.proofs.TransferLemmas.Ending.{one_left}
 
 -- what it did to a shelf on which nothing else was out
 pub record DoneEffect (old new : Device) (f : Flight) (back : Buffer) : Type 0 where
-  pub still : IsStill old new
+  pub still : HasNothingOut old new
   pub puts : BothTold old.media new.media (Puts f)
-  pub reads : f.write ≡ false → IfSome old.media (λ m. Reads m f back)
+  pub reads : f.write ≡ false → IfSome old.media (λ m. ReadsRange m f back)
   pub rest : ChangedAtMost f.count f.buf back
 
 pub record FailedEffect (old new : Device) (f : Flight) : Type 0 where
-  pub still : IsStill old new
+  pub still : HasNothingOut old new
   pub puts : BothTold old.media new.media (PutsSome f)
 
 module _ (old now : Device) (f : Flight) (out : IsOut old now f) (none : old.flights ≡ []) where
@@ -36,7 +36,7 @@ done_effect patience old new f back none (now, out, ends) =
     record {
       still = record { flights = one.1; sizes = ap (λ (d : Device). d.sizes) ends.new_is ∙ out_sizes old now f out none };
       puts = subst (λ (m : Option Media). BothTold m new.media (Puts f)) media (subst (λ (g : Flight). BothTold now.media new.media (Puts g)) one.0 ends.media);
-      reads = λ read. subst (λ (m : Option Media). IfSome m (λ m. Reads m f back)) media (subst (λ (g : Flight). IfSome now.media (λ m. Reads m g back)) one.0 (ends.read (ap (λ (g : Flight). g.write) one.0 ∙ read)));
+      reads = λ read. subst (λ (m : Option Media). IfSome m (λ m. ReadsRange m f back)) media (subst (λ (g : Flight). IfSome now.media (λ m. ReadsRange m g back)) one.0 (ends.read (ap (λ (g : Flight). g.write) one.0 ∙ read)));
       rest = subst (λ (g : Flight). ChangedAtMost g.count g.buf back) one.0 ends.rest;
     }
 

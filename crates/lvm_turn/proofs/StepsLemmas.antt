@@ -11,26 +11,26 @@ use Rattle.std.specs.Option.{unwrap_or}
 use Rattle.std.proofs.lemmas.Bool.{false_from_ne_true, both_ways}
 use Rattle.atomic_table.specs.Table.{State, Me, step, Act, keeps, takes, gives, stepped, Valid, carried_after, Allows}
 use Rattle.atomic_table.proofs.Lists.{at_set, set_here, set_else, exchanged}
-use Rattle.lvm_vol.specs.Fronts.{Told, own, Begins, NoneFell}
+use Rattle.lvm_vol.specs.Fronts.{Told, own, IsPrefixOf, NoneFell}
 use Rattle.lvm_num.specs.Buffer.{Sector}
 use Rattle.lvm_vol.specs.Facts.{Fact}
-use Rattle.lvm_turn.specs.Views.{reads, enters, Fixed, Client, View, Owns, Holds, renewed, settled}
-use Rattle.lvm_turn.specs.Rules.{fixed_of, Fits, IsInside, IsHome, IsFree, IsTaken, TurnRule}
+use Rattle.lvm_turn.specs.Views.{reads, enters, Fixed, Client, View, Owns, HoldsClient, renewed, settled}
+use Rattle.lvm_turn.specs.Rules.{fixed_of, Fits, IsInside, IsHome, IsFree, TurnIsTaken, TurnRule}
 use Rattle.lvm_turn.specs.Calls.{Continues}
-use Rattle.lvm_turn.specs.Steps.{IsOutside, looked, tried, stowed, told, compared, released}
+use Rattle.lvm_turn.specs.Steps.{IsOutsidePass, looked, tried, stowed, told, compared, released}
 use Rattle.lvm_turn.proofs.ViewsLemmas.Nested.{longer_begins, longer_whole, one_begins_longer, other_begins_longer}
 use Rattle.lvm_vol.proofs.FrontsLemmas.{begins_itself, begins_further, none_fell}
 use Rattle.lvm_turn.proofs.RulesLemmas.Growing.{index_below, after_set, fits_on, still_placed}
 use Rattle.lvm_turn.proofs.RulesLemmas.Rules.{still_taken}
 
-renewed_holds : (history : List Fact) (xs : List Client) (c : ℕ) (l : List Fact) → Owns xs c l → Holds (renewed history xs) c
+renewed_holds : (history : List Fact) (xs : List Client) (c : ℕ) (l : List Fact) → Owns xs c l → HoldsClient (renewed history xs) c
 renewed_holds history [] c l h = absurd h
 renewed_holds history (x ∷ xs) c l h = ⊎_elim
     (λ (t : (x.number ≡ c) × (x.own ≡ l)). (own x.number history, inl (t.0, refl)))
     (λ (t : Owns xs c l). let u = renewed_holds history xs c l t in (u.0, inr u.1))
     h
 
-renewed_owns : (history : List Fact) (xs : List Client) (c : ℕ) (l : List Fact) → Owns (renewed history xs) c l → Holds xs c × (own c history ≡ l)
+renewed_owns : (history : List Fact) (xs : List Client) (c : ℕ) (l : List Fact) → Owns (renewed history xs) c l → HoldsClient xs c × (own c history ≡ l)
 renewed_owns history [] c l h = absurd h
 renewed_owns history (x ∷ xs) c l h = ⊎_elim
     (λ (t : (x.number ≡ c) × (own x.number history ≡ l)). ((x.own, inl (t.0, refl)), ap (λ k. own k history) (sym t.0) ∙ t.1))
@@ -48,7 +48,7 @@ module _ {V : Type 0} (tells : V → Told) (past : V → Option (List (List Sect
   word_is s r = ap (λ ws. slice_index ws 0) r.words
 
   -- the pass only reads word 0
-  reads_on : (s : St) (r : Rule s) (id : ℕ) (v : View) → IsOutside v → get_elem? s.views id ≡ some v
+  reads_on : (s : St) (r : Rule s) (id : ℕ) (v : View) → IsOutsidePass v → get_elem? s.views id ≡ some v
       → Rule record { words = slice_set s.words 0 (slice_index s.words 0); homes = s.homes; views = slice_set s.views id (reads (slice_index s.words 0) v) }
   reads_on s r id v out at =
       let t = word_is s r in
@@ -78,7 +78,7 @@ module _ {V : Type 0} (tells : V → Told) (past : V → Option (List (List Sect
               homes = free.homes;
               home = free.home;
             })
-            (λ (taken : IsTaken tells past always r.history r.best r.turn s).
+            (λ (taken : TurnIsTaken tells past always r.history r.best r.turn s).
             let apart : taken.seat ≢ id = λ e. both_ways v.inside out.outside
             (ap (λ (y : View). y.inside) (some-injective v taken.view (sym at ∙ ap (λ k. get_elem? s.views k) (sym e) ∙ taken.there)) ∙ taken.holder.inside) in
             inr record {
@@ -93,7 +93,7 @@ module _ {V : Type 0} (tells : V → Told) (past : V → Option (List (List Sect
             r.place;
       }
 
-  pub looks : (slots id : ℕ) (me : Me (Option V) View) → IsOutside me.0 → Allows Rule slots id me 0 (λ x. x) (looked tells past always (step slots 0 0 0 none) me)
+  pub looks : (slots id : ℕ) (me : Me (Option V) View) → IsOutsidePass me.0 → Allows Rule slots id me 0 (λ x. x) (looked tells past always (step slots 0 0 0 none) me)
   looks slots id me out s r len at lt =
       let t = word_is s r in
       let f = (r.each id me.0 at).number in
@@ -102,7 +102,7 @@ module _ {V : Type 0} (tells : V → Told) (past : V → Option (List (List Sect
 
   -- the pass takes the turn and the slot
   wins : (s : St) (r : Rule s) (free : IsFree tells past always r.history root r.best r.turn s) (id : ℕ) (v : View) (even : ℕ)
-      → IsOutside v → get_elem? s.views id ≡ some v → r.turn ≡ even → even + 2 < 2 ^ 64
+      → IsOutsidePass v → get_elem? s.views id ≡ some v → r.turn ≡ even → even + 2 < 2 ^ 64
       → let w : View = record (enters (tells free.value) (even + 1) v) { hand = true } in
       Rule record { words = slice_set s.words 0 (even + 1); homes = slice_set s.homes 0 none; views = slice_set s.views id w }
   wins s r free id v even out at is low =
@@ -119,7 +119,7 @@ module _ {V : Type 0} (tells : V → Told) (past : V → Option (List (List Sect
         low = omega arith;
         each = after_set (λ j u. Fits r.history root r.best (even + 1) n r.seat_of j u) s.views id w
             (record {
-              front = subst (λ l. Begins l r.history) (sym free.home.entries_are) (begins_itself r.history);
+              front = subst (λ l. IsPrefixOf l r.history) (sym free.home.entries_are) (begins_itself r.history);
               also = f.also;
               counts = subst (λ l. NoneFell l r.best) (sym free.home.counts_are) (none_fell r.best);
               number = omega arith;
@@ -146,14 +146,14 @@ module _ {V : Type 0} (tells : V → Told) (past : V → Option (List (List Sect
   continues s r id v y live at home =
       let f = r.each id v at in
       record {
-        front = subst (λ l. Begins v.front l) (sym home.entries_are) f.front;
+        front = subst (λ l. IsPrefixOf v.front l) (sym home.entries_are) f.front;
         own_entries = λ c l h. ap (own c) home.entries_are ∙ (f.clients c l h).3;
         fixed_same = home.fixed_are ∙ sym (f.fixed live);
         none_fell = subst (λ l. NoneFell v.counts l) (sym home.counts_are) f.counts;
         always_holds = home.always_holds;
       }
 
-  pub tries : (slots id : ℕ) (me : Me (Option V) View) (even : ℕ) → IsOutside me.0 → even % 2 ≡ 0 → even + 2 < 2 ^ 64
+  pub tries : (slots id : ℕ) (me : Me (Option V) View) (even : ℕ) → IsOutsidePass me.0 → even % 2 ≡ 0 → even + 2 < 2 ^ 64
       → Allows Rule slots id me 0 (λ x. either (x == even) (even + 1) x) (tried tells past always (step slots 0 even (even + 1) none) me)
   tries slots id me even out is_even small s r len at lt =
       let t = word_is s r in
@@ -176,7 +176,7 @@ module _ {V : Type 0} (tells : V → Told) (past : V → Option (List (List Sect
           λ ne. absurd (ne e),
         ),
       ))
-      (λ (taken : IsTaken tells past always r.history r.best r.turn s). let o = taken.odd in absurd (omega arith))
+      (λ (taken : TurnIsTaken tells past always r.history r.best r.turn s). let o = taken.odd in absurd (omega arith))
       r.place)
       (λ ne. (reads found me.0, keeps, tt, reads_on s r id me.0 out at, (omega arith, omega arith, (λ e. absurd (ne e)), (λ _. refl))))
 
@@ -190,7 +190,7 @@ module _ {V : Type 0} (tells : V → Told) (past : V → Option (List (List Sect
   held : (s : St) (r : Rule s) (id : ℕ) (v : View) → v.inside ≡ true → get_elem? s.views id ≡ some v → Held s r id v
   held s r id v inside at = ⊎_elim
       (λ (free : IsFree tells past always r.history root r.best r.turn s). absurd (both_ways v.inside (free.nobody_inside id v at) inside))
-      (λ (taken : IsTaken tells past always r.history r.best r.turn s).
+      (λ (taken : TurnIsTaken tells past always r.history r.best r.turn s).
       let here : id ≡ taken.seat = taken.alone id v at inside in
       let same : taken.view ≡ v = some-injective taken.view v (sym taken.there ∙ ap (λ k. get_elem? s.views k) (sym here) ∙ at) in
       record {
@@ -203,16 +203,16 @@ module _ {V : Type 0} (tells : V → Told) (past : V → Option (List (List Sect
 
   -- who is inside may tell a history that goes on without the others' clients
   tells_on : (s : St) (r : Rule s) (id : ℕ) (v : View) (clients : List Client) (front : List Fact) (best : List ℕ) (hand : Bool) (words : List ℕ) (homes : List (maybe.Option (Option V)))
-      → v.inside ≡ true → get_elem? s.views id ≡ some v → Begins v.front front → NoneFell v.counts best
-      → ((c : ℕ) → Holds v.clients c → Holds clients c) → ((c : ℕ) (l : List Fact) → Owns clients c l → Holds v.clients c × (own c front ≡ l))
-      → ((c : ℕ) → 0 < c → c ≤ n → ¬ Holds v.clients c → own c front ≡ own c v.front)
+      → v.inside ≡ true → get_elem? s.views id ≡ some v → IsPrefixOf v.front front → NoneFell v.counts best
+      → ((c : ℕ) → HoldsClient v.clients c → HoldsClient clients c) → ((c : ℕ) (l : List Fact) → Owns clients c l → HoldsClient v.clients c × (own c front ≡ l))
+      → ((c : ℕ) → 0 < c → c ≤ n → ¬ HoldsClient v.clients c → own c front ≡ own c v.front)
       → words ≡ r.turn ∷ length front ∷ [] → homes ≡ (if hand then none else some None) ∷ []
       → Rule record { words = words; homes = homes; views = set s.views id (record v { clients = clients; front = front; counts = best; hand = hand }) }
   tells_on s r id v clients front best hand words homes inside at grows rose no_fewer owned own_only words_are homes_are =
       let w : View = record v { clients = clients; front = front; counts = best; hand = hand } in
       let f = r.each id v at in
       let h = held s r id v inside at in
-      let grew : Begins r.history front = subst (λ l. Begins l front) h.holder.front grows in
+      let grew : IsPrefixOf r.history front = subst (λ l. IsPrefixOf l front) h.holder.front grows in
       let rise : NoneFell r.best best = subst (λ l. NoneFell l best) h.holder.counts rose in
       record {
         history = front;
@@ -268,7 +268,7 @@ module _ {V : Type 0} (tells : V → Told) (past : V → Option (List (List Sect
 
   -- The pass takes the slot, and tells the length of the history that it leaves
   pub tells_length : (slots id : ℕ) (me : Me (Option V) View) (old new : ℕ) (y : V) → me.0.inside ≡ true → me.0.hand ≡ false → me.1 ≡ []
-      → Begins me.0.front (tells y).entries → NoneFell me.0.counts (tells y).counts → ((c : ℕ) → 0 < c → c ≤ n → ¬ Holds me.0.clients c → own c (tells y).entries ≡ own c me.0.front)
+      → IsPrefixOf me.0.front (tells y).entries → NoneFell me.0.counts (tells y).counts → ((c : ℕ) → 0 < c → c ≤ n → ¬ HoldsClient me.0.clients c → own c (tells y).entries ≡ own c me.0.front)
       → old ≡ length me.0.front → new ≡ length (tells y).entries
       → Allows Rule slots id me 1 (λ x. either (x == old) new x) (told tells past always (step slots 1 old new (some (Some y))) me)
   tells_length slots id me old new y inside hand empty grows rose own_only old_is new_is s r len at lt =
@@ -358,7 +358,7 @@ module _ {V : Type 0} (tells : V → Told) (past : V → Option (List (List Sect
               homes = free.homes;
               home = free.home;
             })
-            (λ (taken : IsTaken tells past always r.history r.best r.turn s).
+            (λ (taken : TurnIsTaken tells past always r.history r.best r.turn s).
             let alone : (j : ℕ) (u : View) → get_elem? (set s.views id w) j ≡ some u → u.inside ≡ true → j ≡ taken.seat =
             after_set (λ j u. u.inside ≡ true → j ≡ taken.seat) s.views id w (λ i. taken.alone id v at i) (λ j u ne e. taken.alone j u e) in
             dite (ℕ_discrete taken.seat id)

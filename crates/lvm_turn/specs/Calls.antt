@@ -3,12 +3,12 @@ use Rattle.std.specs.Prelude.{◌≡◌, ℕ, ◌-◌, ◌%◌, ◌^◌, ◌<◌
 use Rattle.atomic_table.specs.Seated.{TableId}
 use Rattle.lvm_num.specs.Buffer.{Sector}
 use Rattle.lvm_vol.specs.Facts.{Fact}
-use Rattle.lvm_vol.specs.Fronts.{Told, own, Begins, NoneFell}
-use Rattle.lvm_turn.specs.Views.{Standing, numbers, View, Owns, Holds, up_to, renewed, reads, enters}
+use Rattle.lvm_vol.specs.Fronts.{Told, own, IsPrefixOf, NoneFell}
+use Rattle.lvm_turn.specs.Views.{Standing, numbers, View, Owns, HoldsClient, up_to, renewed, reads, enters}
 use Rattle.lvm_turn.specs.Rules.{fixed_of}
 
 -- a pass at this turn that is outside and holds the clients of these numbers
-pub record IsIdle (table : TableId) (clients : List ℕ) (p : Standing) : Type 0 where
+pub record IsIdlePass (table : TableId) (clients : List ℕ) (p : Standing) : Type 0 where
   pub at : p.table ≡ table
   pub outside : p.knows.inside ≡ false
   pub holds : numbers p.knows.clients ≡ clients
@@ -35,7 +35,7 @@ module _ {V : Type 0} (tells : V → Told) (past : V → Option (List (List Sect
   -- A value that a pass which knows v is handed: its history begins with what the pass had seen, and each of
   -- the pass's clients has there exactly the entries that are its own.
   pub record Continues (v : View) (y : V) : Type 0 where
-    pub front : Begins v.front (tells y).entries
+    pub front : IsPrefixOf v.front (tells y).entries
     pub own_entries : (c : ℕ) (l : List Fact) → Owns v.clients c l → own c (tells y).entries ≡ l
     pub fixed_same : fixed_of tells past y ≡ v.fixed
     pub none_fell : NoneFell v.counts (tells y).counts
@@ -44,16 +44,16 @@ module _ {V : Type 0} (tells : V → Told) (past : V → Option (List (List Sect
   -- A value that a pass which knows v may leave: its history goes on, and nothing of a client was added that
   -- the pass doesn't hold.
   pub record MayLeave (v : View) (y : V) : Type 0 where
-    pub front : Begins v.front (tells y).entries
-    pub own_only : (c : ℕ) → ¬ Holds v.clients c → own c (tells y).entries ≡ own c v.front
+    pub front : IsPrefixOf v.front (tells y).entries
+    pub own_only : (c : ℕ) → ¬ HoldsClient v.clients c → own c (tells y).entries ≡ own c v.front
     pub fixed_same : fixed_of tells past y ≡ v.fixed
     pub none_fell : NoneFell v.counts (tells y).counts
     pub always_holds : always y
 
   -- The same, where only the clients 1 to n count: the first value may have entries of others.
   pub record MayPut (n : ℕ) (v : View) (y : V) : Type 0 where
-    pub front : Begins v.front (tells y).entries
-    pub own_only : (c : ℕ) → 0 < c → c ≤ n → ¬ Holds v.clients c → own c (tells y).entries ≡ own c v.front
+    pub front : IsPrefixOf v.front (tells y).entries
+    pub own_only : (c : ℕ) → 0 < c → c ≤ n → ¬ HoldsClient v.clients c → own c (tells y).entries ≡ own c v.front
     pub fixed_same : fixed_of tells past y ≡ v.fixed
     pub none_fell : NoneFell v.counts (tells y).counts
     pub always_holds : always y

@@ -6,14 +6,14 @@ use lib.ListN.{get_elem?}
 use Rattle.atomic_table.specs.Table.{State}
 use Rattle.lvm_num.specs.Buffer.{Sector}
 use Rattle.lvm_vol.specs.Facts.{Fact}
-use Rattle.lvm_vol.specs.Fronts.{Told, own, Begins, NoneFell}
-use Rattle.lvm_turn.specs.Views.{View, Fixed, Owns, Holds, HoldsSome}
+use Rattle.lvm_vol.specs.Fronts.{Told, own, IsPrefixOf, NoneFell}
+use Rattle.lvm_turn.specs.Views.{View, Fixed, Owns, HoldsClient, HoldsSome}
 
 -- What the pass in a seat knows fits the one history, the greatest counts and word 0. Each client that it
 -- holds has its seat here alone, and its own entries are exactly those of the history.
 pub record Fits (history : List Fact) (root : Fixed) (best : List ℕ) (turn n : ℕ) (seat_of : ℕ → ℕ) (j : ℕ) (v : View) : Type 0 where
-  pub front : Begins v.front history
-  pub also : Begins v.also history
+  pub front : IsPrefixOf v.front history
+  pub also : IsPrefixOf v.also history
   pub counts : NoneFell v.counts best
   pub number : v.number ≤ turn
   pub fixed : v.spent ≡ false → v.fixed ≡ root
@@ -51,7 +51,7 @@ module _ {V : Type 0} (tells : V → Told) (past : V → Option (List (List Sect
     pub home : IsHome history root best value
 
   -- the turn is taken: one pass alone is inside, and the slot is empty or out with it
-  pub record IsTaken (history : List Fact) (best : List ℕ) (turn : ℕ) (s : State (Option V) View) : Type 0 where
+  pub record TurnIsTaken (history : List Fact) (best : List ℕ) (turn : ℕ) (s : State (Option V) View) : Type 0 where
     pub odd : turn % 2 ≡ 1
     pub seat : ℕ
     pub view : View
@@ -70,5 +70,5 @@ module _ {V : Type 0} (tells : V → Told) (past : V → Option (List (List Sect
     pub words : s.words ≡ turn ∷ length history ∷ []
     pub low : turn + 1 < 2 ^ 64
     pub each : (j : ℕ) (v : View) → get_elem? s.views j ≡ some v → Fits history root best turn n seat_of j v
-    pub placed : (c : ℕ) → 0 < c → c ≤ n → (v : View) × (get_elem? s.views (seat_of c) ≡ some v) × Holds v.clients c
-    pub place : IsFree history root best turn s ⊎ IsTaken history best turn s
+    pub placed : (c : ℕ) → 0 < c → c ≤ n → (v : View) × (get_elem? s.views (seat_of c) ≡ some v) × HoldsClient v.clients c
+    pub place : IsFree history root best turn s ⊎ TurnIsTaken history best turn s

@@ -3,12 +3,12 @@ use Rattle.std.specs.Prelude.{◌≡◌, ◌≢◌, ℕ, ◌+◌, ◌^◌, ◌<�
 use mathlib.Core.Option.{some}
 use Rattle.atomic_table.specs.Table.{Me, Step}
 use Rattle.lvm_num.specs.Buffer.{Sector}
-use Rattle.lvm_vol.specs.Fronts.{Told, Begins}
+use Rattle.lvm_vol.specs.Fronts.{Told, IsPrefixOf}
 use Rattle.lvm_turn.specs.Views.{View, HoldsSome, renewed, settled, reads, enters}
 use Rattle.lvm_turn.specs.Calls.{Continues}
 
 -- a pass that may take the turn
-pub record IsOutside (v : View) : Type 0 where
+pub record IsOutsidePass (v : View) : Type 0 where
   pub outside : v.inside ≡ false
   pub hand : v.hand ≡ false
   pub live : v.spent ≡ false
@@ -49,7 +49,7 @@ module _ {V : Type 0} (tells : V → Told) (past : V → Option (List (List Sect
 
   -- both fronts begin the one that the pass knows from now on
   abbrev pub compared : Stepped → Mine → ℕ → Mine → Type 0
-  compared st m n m' = (m' ≡ (settled m.0, m.1)) × Begins m.0.front m'.0.front × Begins m.0.also m'.0.front
+  compared st m n m' = (m' ≡ (settled m.0, m.1)) × IsPrefixOf m.0.front m'.0.front × IsPrefixOf m.0.also m'.0.front
 
   -- the slot with the value went home, and the pass outside
   abbrev pub released : Stepped → Mine → ℕ → Mine → Type 0

@@ -42,16 +42,16 @@ Owns [] c l = ⊥
 Owns (x ∷ xs) c l = ((x.number ≡ c) × (x.own ≡ l)) ⊎ Owns xs c l
 
 -- the client is among these
-abbrev pub Holds : List Client → ℕ → Type 0
-Holds xs c = (l : List Fact) × Owns xs c l
+abbrev pub HoldsClient : List Client → ℕ → Type 0
+HoldsClient xs c = (l : List Fact) × Owns xs c l
 
 -- there is a client
 abbrev pub HoldsSome : List Client → Type 0
-HoldsSome xs = (c : ℕ) × Holds xs c
+HoldsSome xs = (c : ℕ) × HoldsClient xs c
 
 -- each client from 1 to n is among these
 abbrev pub HoldsAll : ℕ → List Client → Type 0
-HoldsAll n xs = (c : ℕ) → 0 < c → c ≤ n → Holds xs c
+HoldsAll n xs = (c : ℕ) → 0 < c → c ≤ n → HoldsClient xs c
 
 abbrev pub numbers : List Client → List ℕ
 numbers xs = map (λ x. x.number) xs

@@ -1,8 +1,8 @@
 //! The steps of a pass on its table.
 ghost use Rattle.std.specs.Prelude.{◌≡◌, ◌≢◌, ◌+◌, ◌-◌, ◌%◌, ◌^◌, ◌<◌, ◌≤◌, ◌⊎◌, false, [], length, IfSome, IfNone};
-ghost use Rattle.lvm_turn.specs.Views.{Holds, without_client, with_client_alone, reads, enters, leaves};
+ghost use Rattle.lvm_turn.specs.Views.{HoldsClient, without_client, with_client_alone, reads, enters, leaves};
 ghost use Rattle.lvm_turn.specs.Calls.{Continues, MayPut, WasMissed};
-ghost use Rattle.lvm_turn.specs.Steps.{IsOutside, IsLent};
+ghost use Rattle.lvm_turn.specs.Steps.{IsOutsidePass, IsLent};
 ghost use Rattle.lvm_turn.specs.Seats.{AtTurn, Stays};
 
 use crate::pass::View;
@@ -21,7 +21,7 @@ const LAST: u64 = u64::MAX - 1;
 // and the value where the turn was taken.
 fn try_at<V: Shown>(shared: &Shared<V>, seat: &mut Seat<V>, even: u64) -> (u64, Option<V>)
     requires at { AtTurn shared.now.table_id seat.old }
-    requires outside { IsOutside seat.old.me.0 × (seat.old.me.1 ≡ []) }
+    requires outside { IsOutsidePass seat.old.me.0 × (seat.old.me.1 ≡ []) }
     requires even { even % 2 ≡ 0 }
     requires seen { seat.old.me.0.number ≤ even }
     ensures same { Stays seat.old seat.new × (seat.new.me.1 ≡ []) }
@@ -48,7 +48,7 @@ pub(crate) fn try_twice<V: Shown>(
     number: u64,
 ) -> (u64, Option<V>)
     requires at { AtTurn shared.now.table_id seat.old }
-    requires outside { IsOutside seat.old.me.0 × (seat.old.me.1 ≡ []) }
+    requires outside { IsOutsidePass seat.old.me.0 × (seat.old.me.1 ≡ []) }
     requires number { (number ≡ seat.old.me.0.number) × (number + 1 < 2 ^ 64) }
     ensures same { Stays seat.old seat.new × (seat.new.me.1 ≡ []) × (result.0 + 1 < 2 ^ 64) }
     ensures none { IfNone result.1 (WasMissed seat.old.me.0 seat.new.me.0 × (result.0 ≡ seat.new.me.0.number)) }
@@ -105,7 +105,7 @@ pub(crate) fn part<V: Shown, C: Chosen>(
     requires at { AtTurn shared.now.table_id seat.old }
     requires chosen { client ≡ C.client }
     requires outside { (seat.old.me.0.inside ≡ false) × (seat.old.me.1 ≡ []) }
-    requires holds { Holds seat.old.me.0.clients client }
+    requires holds { HoldsClient seat.old.me.0.clients client }
     ensures same { Stays seat.old seat.new × (seat.new.me ≡ (without_client client seat.old.me.0, [])) }
     ensures other { (result.table_id ≡ seat.old.table_id) × (result.me ≡ (with_client_alone client seat.old.me.0, [])) }
 {

@@ -1,7 +1,7 @@
 //! The turn.
 ghost use Rattle.std.specs.Prelude.{◌≡◌, ◌<◌, true, false, IfOk, IfErr, IfSome, IfNone};
-ghost use Rattle.lvm_vol.specs.Fronts.{Begins};
-ghost use Rattle.lvm_turn.specs.Views.{Holds, HoldsSome, HoldsAll, without_client, with_client_alone, joined, leaves};
+ghost use Rattle.lvm_vol.specs.Fronts.{IsPrefixOf};
+ghost use Rattle.lvm_turn.specs.Views.{HoldsClient, HoldsSome, HoldsAll, without_client, with_client_alone, joined, leaves};
 ghost use Rattle.lvm_turn.specs.Calls.{Continues, MayLeave, WasMissed, HasEntered, first_view};
 
 use crate::pass::{Pass, View};
@@ -66,7 +66,7 @@ impl<V: Shown> Turn<V> {
     pub fn split(&self, pass: &mut Pass, client: u32) -> Pass
         requires at { pass.old.table ≡ self.now.table }
         requires outside { pass.old.knows.inside ≡ false }
-        requires holds { Holds pass.old.knows.clients client }
+        requires holds { HoldsClient pass.old.knows.clients client }
         ensures kept { pass.new ≡ record pass.old { knows = without_client client pass.old.knows } }
         ensures given { result ≡ record pass.old { knows = with_client_alone client pass.old.knows } }
     {
@@ -87,8 +87,8 @@ impl<V: Shown> Turn<V> {
         requires other_at { other.table ≡ self.now.table }
         requires outside { other.knows.inside ≡ false }
         ensures joined { pass.new ≡ record pass.old { knows = joined pass.old.knows other.knows } }
-        ensures front { Begins pass.old.knows.front pass.new.knows.front }
-        ensures other_front { Begins other.knows.front pass.new.knows.front }
+        ensures front { IsPrefixOf pass.old.knows.front pass.new.knows.front }
+        ensures other_front { IsPrefixOf other.knows.front pass.new.knows.front }
     {
         let Pass {
             badge,

@@ -20,7 +20,7 @@ use Rattle.lvm_kept.specs.Plans.{ChangesBy}
 use Rattle.lvm_kept.specs.Recovered.{IsRecordRange}
 use Rattle.lvm_kept.specs.Torn.{written as as_read, DescriptorsChange, StatusesChange}
 use Rattle.lvm_kept.proofs.CommittedLemmas.Finding.{images_within}
-use Rattle.lvm_steps.specs.Behind.{StampsBefore, beginning_at, IsBehind}
+use Rattle.lvm_steps.specs.Behind.{StampsBefore, beginning_at, StampsAreEarlier}
 use Rattle.lvm_rec.specs.declared.homes.Homes.{Homes}
 use Rattle.lvm_write.specs.Homes.{SparesNewest}
 use Rattle.lvm_varyon.specs.passed.Names.{ShowsCommitted, LogsOnly}
@@ -168,7 +168,7 @@ module _ (old new : Device) (name : List ℕ) (moment : ℕ) (homes : Homes) (w 
   by_parts : ChangesBy (IsOfParts b (again_order false)) (image_of w.writes.read.sizes was) (image_of new.sizes now)
   by_parts = media_by b (again_order false) w.writes.read new was now read_told told_now w.writes.how.keeps
 
-  pub stamps_before : IsBehind moment old → StampsBefore (record { epoch = moment; seq = 3 }) (image_of new.sizes now)
+  pub stamps_before : StampsAreEarlier moment old → StampsBefore (record { epoch = moment; seq = 3 }) (image_of new.sizes now)
   stamps_before behind =
       stamps_are_of_beginning b (again_order false) (image_of w.writes.read.sizes was) (image_of new.sizes now) may.describe.frames may.state.frames (refl, omega arith) (refl, omega arith) by_parts
       (subst (λ (sizes : List ℕ). StampsBefore (beginning_at moment) (image_of sizes was)) (sym w.writes.unwritten.sizes)

@@ -25,8 +25,8 @@ use Rattle.lvm_disk.specs.Device.{Media, Image, Device, image_of, HasSectors, Is
 use Rattle.lvm_kept.specs.Contents.{Contents, contents_of, has_records}
 use Rattle.lvm_kept.specs.Group.{passes, is_of, has_room, descriptor_among, is_voter, status_among, Finds, fresh_on, IsOneOf, IsSome}
 use Rattle.lvm_kept.specs.Torn.{MayWriteAll}
-use Rattle.lvm_steps.specs.VaryingOn.{Carries}
-use Rattle.lvm_steps.specs.Behind.{StampsBefore, IsBehind}
+use Rattle.lvm_steps.specs.VaryingOn.{CarriesMarks}
+use Rattle.lvm_steps.specs.Behind.{StampsBefore, StampsAreEarlier}
 use Rattle.lvm_steps.specs.Laws.{ShowsBefore}
 use Rattle.lvm_steps.proofs.LawsLemmas.Stamps.{behind_is_before}
 use Rattle.lvm_steps.proofs.LawsLemmas.Records.{shown_is_before, session_may_go}
@@ -106,7 +106,7 @@ passive_row (r ∷ rs) row (inr there) passive = or_right (r.number == row.numbe
 
 -- the next status carries the marks that it must, and no more than it may
 pub carries : (c : Contents) (group : Descriptor) (disks : Disks) (was : Stamped Status) (next : Status) → IsValid group → IsNextStatus group (is_voter c disks group.id) was next
-    → status_among c disks group.id ≡ Some was → Carries c group disks was.value next
+    → status_among c disks group.id ≡ Some was → CarriesMarks c group disks was.value next
 carries c group disks was next valid is found = record {
   stale = λ row lp p volume one marked. (is.stale p (is_member_of group p (copy_is_placed group valid row lp p volume one))).1 (inl marked);
   dirty = λ row volume passive marked. is.dirty row.number ∙ and_from (calls_dirty was.value row.number) (has_passive group row.number) marked (passive_row group.lvs row volume passive);
@@ -198,7 +198,7 @@ module _ (old read : Device) (survey : Survey) (is : IsSurveyOf old read survey)
         let r = target_row d target in
         by.homes (image_of old.sizes media) d r.0 r.1 (read_row old read survey is media told d r.0 r.1 r.2) (there d target)
 
-    module _ (whole : HasSectors old) (behind : IsBehind moment old) where
+    module _ (whole : HasSectors old) (behind : StampsAreEarlier moment old) where
       b : Beginning
       b = beginning moment by.group by.next (has plan.targets) plan.homes
 

@@ -24,8 +24,8 @@ use Rattle.lvm_varyon.specs.passed.Names.{MayBeFound, HoldsCommitted, next_stamp
 use Rattle.lvm_varyon.proofs.passed.Names.{shows_other}
 use Rattle.lvm_kept.specs.Plans.{Plan, ChangesBy}
 use Rattle.lvm_kept.specs.Torn.{IsOfNote}
-use Rattle.lvm_steps.specs.Behind.{StampsBefore, beginning_at, IsBehind}
-use Rattle.lvm_kept.specs.Torn.{IsOutside}
+use Rattle.lvm_steps.specs.Behind.{StampsBefore, beginning_at, StampsAreEarlier}
+use Rattle.lvm_kept.specs.Torn.{IsOutsideSlots}
 use Rattle.lvm_steps.specs.Laws.{IsOtherOrEarlier}
 use Rattle.lvm_steps.proofs.LawsLemmas.Writes.{changes_widen, earlier_keep_before, notes_and_data_are_outside}
 use Rattle.lvm_rec.specs.declared.homes.Homes.{Homes}
@@ -70,13 +70,13 @@ pub notes_beside : (targets : Disks) (sector : Sector) (d s : ℕ) (value : Sect
 notes_beside targets sector d s value of = inl of.place
 
 -- what stands on a shelf stays from before a moment
-pub earlier_stays_behind : (moment : ℕ) (T : Disks) (P : Plan) (old new : Device) → ((d s : ℕ) (value : Sector) → P d s value → IsOtherOrEarlier (beginning_at moment) d s value) → KeepsShelf T P old new → IsBehind moment old → IsBehind moment new
+pub earlier_stays_behind : (moment : ℕ) (T : Disks) (P : Plan) (old new : Device) → ((d s : ℕ) (value : Sector) → P d s value → IsOtherOrEarlier (beginning_at moment) d s value) → KeepsShelf T P old new → StampsAreEarlier moment old → StampsAreEarlier moment new
 earlier_stays_behind moment T P old new earlier keeps behind = if_told new.media (λ media. StampsBefore (beginning_at moment) (image_of new.sizes media)) (λ is told.
     let from = both_from old.media new.media (λ was now. ChangesBy P (image_of old.sizes was) (image_of new.sizes now)) is keeps.media told in
     earlier_keep_before (beginning_at moment) (image_of old.sizes from.0) (image_of new.sizes is) (changes_widen P (IsOtherOrEarlier (beginning_at moment)) (image_of old.sizes from.0) (image_of new.sizes is) earlier from.2)
     (told_at old.media (λ m. StampsBefore (beginning_at moment) (image_of old.sizes m)) from.0 from.1 behind))
 
-pub beside_stays_behind : (moment : ℕ) (T : Disks) (P : Plan) (old new : Device) → ((d s : ℕ) (value : Sector) → P d s value → IsBesideSlots d s value) → KeepsShelf T P old new → IsBehind moment old → IsBehind moment new
+pub beside_stays_behind : (moment : ℕ) (T : Disks) (P : Plan) (old new : Device) → ((d s : ℕ) (value : Sector) → P d s value → IsBesideSlots d s value) → KeepsShelf T P old new → StampsAreEarlier moment old → StampsAreEarlier moment new
 beside_stays_behind moment T P old new beside keeps behind = earlier_stays_behind moment T P old new (λ d s value its. inl (λ kind. notes_and_data_are_outside kind d s value (beside d s value its))) keeps behind
 
 -- what the disks show is the same but for notes and data
@@ -104,7 +104,7 @@ module _ (old new : Image) (by : ChangesBy IsBesideSlots old new) where
 
 -- the sector isn't one of a descriptor's slots
 abbrev pub IsBesideDescriptors : Plan
-IsBesideDescriptors d s value = IsOutside kind.Descriptor d s value
+IsBesideDescriptors d s value = IsOutsideSlots kind.Descriptor d s value
 
 pub beside_both : (d s : ℕ) (value : Sector) → IsBesideSlots d s value → IsBesideDescriptors d s value
 beside_both d s value beside = notes_and_data_are_outside kind.Descriptor d s value beside

@@ -24,7 +24,7 @@ use Rattle.lvm_write.specs.Next.{IsNextStatus}
 use Rattle.lvm_recovery.specs.Plan.{ArePlannedInOrder}
 use Rattle.lvm_recovery.specs.Planned.{ArePlanned}
 use Rattle.lvm_varyon.specs.declared.plan.Plan.{Plan}
-use Rattle.lvm_varyon.specs.Chosen.{Holds, IsClockBehindGroup}
+use Rattle.lvm_varyon.specs.Chosen.{HoldsByName, IsClockBehindGroup}
 use Rattle.lvm_varyon.specs.Copied.{all_copies}
 use Rattle.lvm_varyon.specs.Second.{first_stated, IsSecond}
 use Rattle.lvm_varyon.specs.Planned.{IsPlanFor, IsPlan}
@@ -47,7 +47,7 @@ module _ (s : Survey) (name : List ℕ) (choice : Choice) (is : IsChosenGroup (s
   pub was_valid : IsSurveyValid s → IsValidStatus choice.status
   was_valid valid = subst IsValidStatus (sym is.newest) (status_valid s is.id is.status valid is.only.found)
 
-  pub holds : Holds (surveyed s) name choice.descriptor is.status
+  pub holds : HoldsByName (surveyed s) name choice.descriptor is.status
   holds = record {
     newest = is.group;
     is = sym is.descriptor;

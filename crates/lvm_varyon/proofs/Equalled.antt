@@ -27,7 +27,7 @@ use Rattle.lvm_kept.proofs.PlacesLemmas.{room-same}
 use Rattle.lvm_kept.proofs.TornLemmas.Records.{status_shows}
 use Rattle.lvm_commit.proofs.LawsOfWritesLemmas.Writes.{status_is_held}
 use Rattle.lvm_kept.proofs.CommittedLemmas.Finding.{finding_reads}
-use Rattle.lvm_steps.specs.Behind.{StampsBefore, IsBehind}
+use Rattle.lvm_steps.specs.Behind.{StampsBefore, StampsAreEarlier}
 use Rattle.lvm_steps.specs.Moments.{ImagesKept}
 use Rattle.lvm_steps.proofs.LawsLemmas.Writes.{changes_widen}
 use Rattle.lvm_steps.proofs.MakingLemmas.Making.{media_may}
@@ -103,7 +103,7 @@ module _ (old new : Device) (name : List ℕ) (moment : ℕ) (homes : Homes) (w 
   low = let early = w.chosen.early in omega (arith, early)
 
   -- the disks hold what a session of them says
-  restated_holds : (facts : List Fact) → Kept after facts → IsBehind moment old → HoldsCommitted (image_of new.sizes now) w.group w.next targets (record { epoch = moment; seq = 2 }) homes
+  restated_holds : (facts : List Fact) → Kept after facts → StampsAreEarlier moment old → HoldsCommitted (image_of new.sizes now) w.group w.next targets (record { epoch = moment; seq = 2 }) homes
   restated_holds facts kept behind = record {
     shows = shows old new name moment homes w was now told told_now may facts kept;
     stamps = stamps_before old new name moment homes w was now told told_now may behind;
@@ -123,7 +123,7 @@ module _ (old new : Device) (name : List ℕ) (moment : ℕ) (homes : Homes) (w 
     copied_spares : (d : ℕ) → IsTrue (targets d) → SparesNewest homes copied d
     copied_spares d target = beside_spares (image_of new.sizes now) copied copied_beside homes d (spares old new name moment homes w was now told told_now may d target)
 
-    module _ (whole : IsWholeImage copied) (behind : IsBehind moment old) where
+    module _ (whole : IsWholeImage copied) (behind : StampsAreEarlier moment old) where
       copied_before : StampsBefore (record { epoch = moment; seq = 3 }) copied
       copied_before = beside_keeps_before (image_of new.sizes now) copied copied_beside (record { epoch = moment; seq = 3 }) (stamps_before old new name moment homes w was now told told_now may behind)
 
@@ -150,7 +150,7 @@ module _ (old new : Device) (name : List ℕ) (moment : ℕ) (homes : Homes) (w 
   }
 
   -- and then the second status be written, if there is one
-  pub may_equalise_by : IsBehind moment old → (facts : List Fact) → ImagesKept new facts → MayEqualiseBy w.copies (option_map status_bytes w.clean) moment targets homes w.group w.next targets new
+  pub may_equalise_by : StampsAreEarlier moment old → (facts : List Fact) → ImagesKept new facts → MayEqualiseBy w.copies (option_map status_bytes w.clean) moment targets homes w.group w.next targets new
   may_equalise_by behind facts kept = (may_equalise facts kept, second w.clean w.clean_is w.clean_valid)
     where
       second : (clean : Option Status) → IsSecond w.group targets stands clean → IfSome clean IsValidStatus → MayStateSecond w.copies (option_map status_bytes clean) moment targets homes w.group w.next targets new (may_equalise facts kept).may
@@ -170,7 +170,7 @@ module _ (old new : Device) (name : List ℕ) (moment : ℕ) (homes : Homes) (w 
 
   -- ---- and then all of it is done
 
-  module _ (last : Device) (after_homes : Homes) (equal : MakesEqual w.copies (option_map status_bytes w.clean) moment targets homes after_homes new last) (behind : IsBehind moment old)
+  module _ (last : Device) (after_homes : Homes) (equal : MakesEqual w.copies (option_map status_bytes w.clean) moment targets homes after_homes new last) (behind : StampsAreEarlier moment old)
       (between mid is : Media) (told_between : equal.copied.media ≡ Some between) (told_mid : equal.stated.media ≡ Some mid) (told_last : last.media ≡ Some is) where
     abbrev pub copied_image : Image
     copied_image = image_of equal.copied.sizes between

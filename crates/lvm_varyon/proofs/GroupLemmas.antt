@@ -9,7 +9,7 @@ use Rattle.lvm_num.specs.Votes.{all_disks, votes_in, is_enough_to_read}
 use Rattle.lvm_kept.specs.Contents.{Contents}
 use Rattle.lvm_kept.specs.Group.{if_passes, passes, is_of, is_status_of, has_room, descriptor_among, is_voter, has_quorum, status_among, Finds}
 use Rattle.lvm_varyon.specs.Found.{records_on}
-use Rattle.lvm_varyon.specs.Chosen.{Holds}
+use Rattle.lvm_varyon.specs.Chosen.{HoldsByName}
 
 module _ (disks : Disks) (c : Contents) (id : ℕ) where
   alone : Contents
@@ -57,7 +57,7 @@ module _ (disks : Disks) (c : Contents) (id : ℕ) where
       each d = ap (λ (vs : Disks). if vs d then if_passes (is_status_of id) (if disks d then c.status d else None) else None) same_voters ∙ by_voter d (is_voter c disks id d) refl
 
 -- the group that may come on is found by the disks
-pub holds_finds : (disks : Disks) (c : Contents) (name : _) (group : Descriptor) (was : Stamped Status) → Holds (records_on disks c) name group was → Finds c disks group.id group
+pub holds_finds : (disks : Disks) (c : Contents) (name : _) (group : Descriptor) (was : Stamped Status) → HoldsByName (records_on disks c) name group was → Finds c disks group.id group
 holds_finds disks c name group was holds = record {
   quorum = sym (same_quorum disks c group.id) ∙ holds.quorum;
   newest = holds.newest;

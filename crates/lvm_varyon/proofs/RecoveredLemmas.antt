@@ -17,7 +17,7 @@ use Rattle.lvm_kept.specs.Kept.{Kept}
 use Rattle.lvm_kept.specs.Recovered.{IsRecordRange, IsCopyRange, Recovered}
 use Rattle.lvm_kept.specs.Torn.{IsOfNote}
 use Rattle.lvm_kept.proofs.CommittedLemmas.Finding.{images_within}
-use Rattle.lvm_steps.specs.Behind.{IsBehind}
+use Rattle.lvm_steps.specs.Behind.{StampsAreEarlier}
 use Rattle.lvm_rec.specs.declared.homes.Homes.{Homes}
 use Rattle.lvm_write.specs.Notes.{empty_note_sector}
 use Rattle.lvm_write.specs.Written.{IsInPlan}
@@ -41,7 +41,7 @@ note_range targets epoch r inside =
     (first.1.target, inl (omega (arith, at_first), omega (arith, at_last, some)))
 
 module _ (old new : Device) (name : List ℕ) (moment : ℕ) (homes : Homes) (w : HasRecords old new name moment homes) (was now : Media) (told : old.media ≡ Some was) (told_now : new.media ≡ Some now) (may : MayHaveRecords old new name moment homes w was)
-    (valid : IsValid w.group) (last : Device) (after_homes : Homes) (equal : MakesEqual w.copies (option_map status_bytes w.clean) moment (answering w.found.shown w.group) homes after_homes new last) (behind : IsBehind moment old)
+    (valid : IsValid w.group) (last : Device) (after_homes : Homes) (equal : MakesEqual w.copies (option_map status_bytes w.clean) moment (answering w.found.shown w.group) homes after_homes new last) (behind : StampsAreEarlier moment old)
     (between mid is : Media) (told_between : equal.copied.media ≡ Some between) (told_mid : equal.stated.media ≡ Some mid) (told_last : last.media ≡ Some is) where
   abbrev targets : Disks
   targets = answering w.found.shown w.group

@@ -20,7 +20,7 @@ use Rattle.lvm_kept.specs.Plans.{Plan}
 use Rattle.lvm_kept.specs.Recovered.{IsRecordRange}
 use Rattle.lvm_kept.specs.Torn.{IsOfRecord, MayWriteAll}
 use Rattle.lvm_steps.specs.Behind.{StampsBefore, beginning_at}
-use Rattle.lvm_kept.specs.Torn.{IsOutside}
+use Rattle.lvm_kept.specs.Torn.{IsOutsideSlots}
 use Rattle.lvm_steps.specs.Laws.{IsOtherOrEarlier}
 use Rattle.lvm_steps.proofs.LawsLemmas.Records.{later_may_go, shown_is_before}
 use Rattle.lvm_rec.specs.declared.homes.Homes.{Homes}
@@ -74,7 +74,7 @@ beginning_of epoch bytes targets homes = beginning_by 1 3 epoch [] bytes targets
 empty_fits : length {A = ℕ} [] ≤ longest_content kind.Descriptor
 empty_fits = omega arith
 
-pub second_outside : (second : Option (List ℕ)) (epoch : ℕ) (targets : Disks) (homes : Homes) → SecondFits second → (d s : ℕ) (value : Sector) → IsOfSecond second epoch targets homes d s value → IsOutside kind.Descriptor d s value
+pub second_outside : (second : Option (List ℕ)) (epoch : ℕ) (targets : Disks) (homes : Homes) → SecondFits second → (d s : ℕ) (value : Sector) → IsOfSecond second epoch targets homes d s value → IsOutsideSlots kind.Descriptor d s value
 second_outside None epoch targets homes fits d s value is = absurd is
 second_outside (Some bytes) epoch targets homes fits d s value is =
     let high = (of_status (beginning_of epoch bytes targets homes) empty_fits fits d s value is).1 in

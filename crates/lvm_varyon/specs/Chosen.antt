@@ -14,7 +14,7 @@ abbrev pub answering : Contents → Descriptor → Disks
 answering c group = is_voter c all_disks group.id
 
 -- Just this group has the name; it holds a quorum, and this is the newest status of its members that answer.
-pub record Holds (c : Contents) (name : List ℕ) (group : Descriptor) (was : Stamped Status) : Type 0 where
+pub record HoldsByName (c : Contents) (name : List ℕ) (group : Descriptor) (was : Stamped Status) : Type 0 where
   pub newest : Stamped Descriptor
   pub is : newest.value ≡ group
   pub only : IsOnly c name group.id newest was
@@ -22,7 +22,7 @@ pub record Holds (c : Contents) (name : List ℕ) (group : Descriptor) (was : St
 
 -- So it is, and the moment is later than each record of the group, and not the last one.
 pub record MayComeOn (c : Contents) (name : List ℕ) (moment : ℕ) (group : Descriptor) (was : Stamped Status) : Type 0 where
-  pub holds : Holds c name group was
+  pub holds : HoldsByName c name group was
   pub seen : ℕ
   pub greatest : IsGreatestEpoch c group.id seen
   pub later : seen < moment
@@ -32,5 +32,5 @@ pub record MayComeOn (c : Contents) (name : List ℕ) (moment : ℕ) (group : De
 pub record IsClockBehindGroup (c : Contents) (name : List ℕ) (moment seen : ℕ) : Type 0 where
   pub group : Descriptor
   pub was : Stamped Status
-  pub holds : Holds c name group was
+  pub holds : HoldsByName c name group was
   pub back : (IsGreatestEpoch c group.id seen × (moment ≤ seen)) ⊎ ((moment ≡ last_moment) × (seen ≡ last_moment))

@@ -12,7 +12,7 @@ use Rattle.lvm_disk.specs.Device.{Media, Device, image_of}
 use Rattle.lvm_vol.specs.Log.{Log, spare_entries, cut_log}
 use Rattle.lvm_kept.specs.Contents.{Contents, contents_of}
 use Rattle.lvm_kept.specs.Recovered.{Recovered}
-use Rattle.lvm_steps.specs.Behind.{ClockIsAhead, IsBehind}
+use Rattle.lvm_steps.specs.Behind.{ClockIsAhead, StampsAreEarlier}
 use Rattle.lvm_rec.specs.declared.homes.Homes.{Homes}
 use Rattle.lvm_varyon.specs.passed.Names.{HasNoRecord, HasRecord, IsAmbiguous, LacksQuorum, Room, Cause, Refused, Parts, IsReservedFor, ArePlaced, first_core, Core, is_there, Recopy, ArePlannedInOrder, ArePlanned, DirtyAreOne}
 use Rattle.lvm_transfer.specs.Reading.{IsUnwritten, IsRested, IsCutOff}
@@ -124,7 +124,7 @@ pub record VariesOnAt {S : Type 0} (device : S → Device) (log : Log) (name : L
 
 -- no record on the disks is of this moment or a later one, unless it is the last one that there is
 abbrev pub IsAheadOfDisks : ℕ → Device → Type 0
-IsAheadOfDisks moment device = moment < last_moment → IsBehind moment device
+IsAheadOfDisks moment device = moment < last_moment → StampsAreEarlier moment device
 
 -- The group that the name chooses has its records, and these are the parts of its session and the sequence of its last record.
 pub record IsBrought (old new : Device) (name : List ℕ) (moment : ℕ) (room : Room) (parts : Parts) (seq : ℕ) (homes : Homes) : Type 0 where

@@ -3,7 +3,7 @@ ghost use Rattle.std.specs.Prelude.{◌≡◌, ◌≢◌, ◌+◌, IfOk, IfErr};
 ghost use Rattle.lvm_disk.specs.Device.{IsReady};
 ghost use Rattle.lvm_disk.specs.Paths.{DeviceStep, Path};
 ghost use Rattle.lvm_steps.specs.Moments.{StaysKept};
-ghost use Rattle.lvm_steps.specs.Behind.{IsBehind};
+ghost use Rattle.lvm_steps.specs.Behind.{StampsAreEarlier};
 ghost use Rattle.lvm_varyon.specs.passed.Names.{AreFaults, HaveAllLanded, IsRoom, state_of, BringsOn, IsStarted, shelf_left, history_left};
 ghost use Rattle.lvm_varyon.specs.Varied.{VariesOnAt, BringGives, IsAheadOfDisks, brought_of, log_after, VaryonStops};
 ghost use Rattle.lvm_transfer.specs.Reading.{OnlyReads};
@@ -105,7 +105,7 @@ fn bring<S: Shelf>(
     requires moment { moment ≢ 0 }
     ensures gives { BringGives (S.device shelf.old) (S.device shelf.new) name moment patience.old.left room result }
     ensures spends { Spends patience.old.left patience.new.left (S.device shelf.old) (S.device shelf.new) }
-    ensures behind { IsAheadOfDisks moment (S.device shelf.old) → IsBehind (moment + 1) (S.device shelf.new) }
+    ensures behind { IsAheadOfDisks moment (S.device shelf.old) → StampsAreEarlier (moment + 1) (S.device shelf.new) }
     ensures kept { IsAheadOfDisks moment (S.device shelf.old) → Path DeviceStep (StaysKept (S.device shelf.old)) (S.device shelf.old) (S.device shelf.new) }
 {
     let (plan, buf) = read_plan(alloc, shelf, name, moment, room, patience)?;

@@ -3,13 +3,13 @@ use Rattle.std.proofs.Common.{◌≡◌, ℕ, List, [], ◌∷◌, ◌++◌, sym
 use mathlib.Core.List.{append_assoc, append-nil}
 use Rattle.std.proofs.lemmas.List.Elements.{filter-append}
 use Rattle.lvm_vol.specs.Facts.{Fact}
-use Rattle.lvm_vol.specs.Fronts.{is_own, own, Begins, NoneFell}
+use Rattle.lvm_vol.specs.Fronts.{is_own, own, IsPrefixOf, NoneFell}
 
 module _ {X : Type 0} where
-  pub begins_itself : (xs : List X) → Begins xs xs
+  pub begins_itself : (xs : List X) → IsPrefixOf xs xs
   begins_itself xs = ([], sym (append-nil xs))
 
-  pub begins_further : (xs ys zs : List X) → Begins xs ys → Begins ys zs → Begins xs zs
+  pub begins_further : (xs ys zs : List X) → IsPrefixOf xs ys → IsPrefixOf ys zs → IsPrefixOf xs zs
   begins_further xs ys zs a b = (a.0 ++ b.0, b.1 ∙ ap (λ l. l ++ b.0) a.1 ∙ append_assoc xs a.0 b.0)
 
 pub none_fell : (xs : List ℕ) → NoneFell xs xs

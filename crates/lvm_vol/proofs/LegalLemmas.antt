@@ -2,10 +2,10 @@
 use Rattle.std.proofs.Common.{◌≡◌, inl, inr, Bool, false, ◌||◌, List, [], ◌∷◌, ◌++◌, refl, sym, ap, ◌∙◌}
 use Rattle.std.specs.List.{list_any}
 use Rattle.std.proofs.lemmas.List.Folds.{list_any-append}
-use Rattle.lvm_vol.specs.Facts.{Request, Fact, Begun, Taken, Cut, Stands, joined}
+use Rattle.lvm_vol.specs.Facts.{Request, Fact, Begun, Taken, Cut, IsInList, joined}
 use Rattle.lvm_vol.specs.Legal.{Fits, lands, takes}
 
-stands_unjoined : (past facts : List Fact) (r : Request) → Stands (Begun r) (joined past facts) → Stands (Begun r) (past ++ facts)
+stands_unjoined : (past facts : List Fact) (r : Request) → IsInList (Begun r) (joined past facts) → IsInList (Begun r) (past ++ facts)
 stands_unjoined [] facts r (inl here) = absurd (cc here)
 stands_unjoined [] facts r (inr there) = there
 stands_unjoined (f ∷ past) facts r (inl here) = inl here

@@ -2,18 +2,18 @@
 use Rattle.std.proofs.Common.{◌≡◌, inl, inr, ℕ, ◌&&◌, ◌==◌, not, Bool, true, false, cond, List, [], ◌∷◌, Option, Some, None, is_some, unwrap_or, refl, sym, ◌∙◌, ap, subst}
 use Rattle.std.specs.List.{list_any, find}
 use Rattle.std.proofs.lemmas.Bool.{eqb-true, not-true}
-use Rattle.lvm_vol.specs.Facts.{Request, Fact, Begun, Taken, Stands, begun}
+use Rattle.lvm_vol.specs.Facts.{Request, Fact, Begun, Taken, IsInList, begun}
 use Rattle.lvm_vol.specs.Log.{has_id, asked, no_request, request_of, lands_id, takes_id, is_open, is_answered}
 use Rattle.lvm_vol.specs.Order.{Follows}
 pub use Rattle.lvm_num.proofs.Booleans.{first_holds as and_left, second_holds as and_right}
 
 -- a request that was found
 
-pub find_stands : (id : ℕ) (rs : List Request) (r : Request) → find (has_id id) rs ≡ Some r → Stands r rs × (r.id ≡ id)
+pub find_stands : (id : ℕ) (rs : List Request) (r : Request) → find (has_id id) rs ≡ Some r → IsInList r rs × (r.id ≡ id)
 find_stands id [] r is = absurd (cc is)
 find_stands id (s ∷ rs) r is = by_test (λ later. find_stands id rs r later) (s.id == id) refl
   where
-    by_test : (find (has_id id) rs ≡ Some r → Stands r rs × (r.id ≡ id)) → (t : Bool) → (s.id == id) ≡ t → Stands r (s ∷ rs) × (r.id ≡ id)
+    by_test : (find (has_id id) rs ≡ Some r → IsInList r rs × (r.id ≡ id)) → (t : Bool) → (s.id == id) ≡ t → IsInList r (s ∷ rs) × (r.id ≡ id)
     by_test rest true same =
         let e : Some s ≡ Some r = sym (ap (λ (t : Bool). cond t (Some s) (find (has_id id) rs)) same) ∙ is in
         let own : s ≡ r = cc in
@@ -23,18 +23,18 @@ find_stands id (s ∷ rs) r is = by_test (λ later. find_stands id rs r later) (
         let found = rest e in
         (inr found.0, found.1)
 
-pub begun_stands : (facts : List Fact) (r : Request) → Stands r (begun facts) → Stands (Begun r) facts
+pub begun_stands : (facts : List Fact) (r : Request) → IsInList r (begun facts) → IsInList (Begun r) facts
 begun_stands [] r none = absurd none
 begun_stands (f ∷ facts) r there = by_fact (λ later. begun_stands facts r later) f there
   where
-    by_fact : (Stands r (begun facts) → Stands (Begun r) facts) → (g : Fact) → Stands r (begun (g ∷ facts)) → Stands (Begun r) (g ∷ facts)
+    by_fact : (IsInList r (begun facts) → IsInList (Begun r) facts) → (g : Fact) → IsInList r (begun (g ∷ facts)) → IsInList (Begun r) (g ∷ facts)
     by_fact rest (Begun s) (inl is) = inl (ap (λ (x : Request). Begun x) is)
     by_fact rest (Begun s) (inr later) = inr (rest later)
     by_fact rest _ later = inr (rest later)
 
 -- the request of a number that began
 pub record IsFound (facts : List Fact) (id : ℕ) : Type 0 where
-  pub began : Stands (Begun (request_of facts id)) facts
+  pub began : IsInList (Begun (request_of facts id)) facts
   pub own : (request_of facts id).id ≡ id
   pub found : asked facts id ≡ Some (request_of facts id)
 
@@ -47,7 +47,7 @@ found_of facts id is = by_option (asked facts id) refl
         let its = find_stands id (begun facts) r some in
         let e : request_of facts id ≡ r = ap (λ (o : Option Request). unwrap_or o no_request) some in
         record {
-          began = subst (λ (x : Request). Stands (Begun x) facts) (sym e) (begun_stands facts r its.0);
+          began = subst (λ (x : Request). IsInList (Begun x) facts) (sym e) (begun_stands facts r its.0);
           own = ap (λ (x : Request). x.id) e ∙ its.1;
           found = some ∙ ap (λ (x : Request). Some x) (sym e);
         }

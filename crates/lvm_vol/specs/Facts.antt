@@ -32,9 +32,9 @@ pub data Fact : Type 0 where
   On : (moment : ℕ) → Fact
 
 -- x is one of the list
-abbrev pub Stands : {X : Type 0} → X → List X → Type 0
-Stands x [] = ⊥
-Stands x (y ∷ ys) = (y ≡ x) ⊎ Stands x ys
+abbrev pub IsInList : {X : Type 0} → X → List X → Type 0
+IsInList x [] = ⊥
+IsInList x (y ∷ ys) = (y ≡ x) ⊎ IsInList x ys
 
 abbrev pub same_vol : Vol → Vol → Bool
 same_vol (Disk a) (Disk b) = a == b

@@ -19,8 +19,8 @@ abbrev pub own : ℕ → List Fact → List Fact
 own client entries = filter (is_own client) entries
 
 -- the first list begins the second
-abbrev pub Begins : {X : Type 0} → List X → List X → Type 0
-Begins {X} xs ys = (rest : List X) × (ys ≡ xs ++ rest)
+abbrev pub IsPrefixOf : {X : Type 0} → List X → List X → Type 0
+IsPrefixOf {X} xs ys = (rest : List X) × (ys ≡ xs ++ rest)
 
 -- no count fell from the first list to the second, and none was left out
 abbrev pub NoneFell : List ℕ → List ℕ → Type 0

@@ -3,7 +3,7 @@ use Rattle.std.specs.Prelude.{◌≡◌, ℕ, ◌+◌, ◌<◌, ◌≤◌, Bool,
 use Rattle.std.specs.List.{list_any}
 use Rattle.lvm_vol.specs.declared.entry.Outcome.{Outcome}
 use Rattle.lvm_vol.specs.declared.entry.Outcome.TheVariants as outcome
-use Rattle.lvm_vol.specs.Facts.{Request, Fact, Begun, Landed, Taken, On, Stands, same_request, block_of}
+use Rattle.lvm_vol.specs.Facts.{Request, Fact, Begun, Landed, Taken, On, IsInList, same_request, block_of}
 use Rattle.lvm_vol.specs.May.{known, May}
 
 -- the entry begins a request of this run
@@ -42,14 +42,14 @@ GotMay past r _ got = Unit {0}
 
 -- a request that began lands, for the first time, as one of its kind may
 pub record LandsOnce (past : List Fact) (r : Request) (how : Outcome) (started : Bool) (got : List (List ℕ)) : Type 0 where
-  pub began : Stands (Begun r) past
+  pub began : IsInList (Begun r) past
   pub first : list_any (lands r) past ≡ false
   pub kind : IsOutcomeOf how r started
   pub reads : GotMay past r how got
 
 -- its client takes, for the first time, the answer of a request that has landed
 pub record TakenOnce (past : List Fact) (r : Request) : Type 0 where
-  pub began : Stands (Begun r) past
+  pub began : IsInList (Begun r) past
   pub answered : list_any (lands r) past ≡ true
   pub first : list_any (takes r) past ≡ false
 

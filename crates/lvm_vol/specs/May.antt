@@ -8,7 +8,7 @@ use Rattle.lvm_vol.specs.declared.entry.Vol.{Vol}
 use Rattle.lvm_vol.specs.declared.entry.Vol.TheVariants.{Lv}
 use Rattle.lvm_vol.specs.declared.entry.Outcome.{Outcome}
 use Rattle.lvm_vol.specs.declared.entry.Outcome.TheVariants as outcome
-use Rattle.lvm_vol.specs.Facts.{Request, Fact, Making, Split, Removed, Begun, Landed, Cut, Stands, same_vol, same_request, is_over, block_of}
+use Rattle.lvm_vol.specs.Facts.{Request, Fact, Making, Split, Removed, Begun, Landed, Cut, IsInList, same_vol, same_request, is_over, block_of}
 
 -- What is known of a block: the values that it may have, or nothing; the writes of it that are open;
 -- whether two reads of it may differ; its volume's mode.
@@ -107,8 +107,8 @@ known facts = after nothing_known facts
 
 -- the block may have this value: one of those known, or any where they are unknown
 abbrev pub May : Known → Sector → Type 0
-May k x = IfSome k.values (λ values. Stands x values)
+May k x = IfSome k.values (λ values. IsInList x values)
 
 -- its values are known, and this is one of them
 abbrev pub IsValue : Known → Sector → Type 0
-IsValue k x = IsSomeAnd k.values (λ values. Stands x values)
+IsValue k x = IsSomeAnd k.values (λ values. IsInList x values)

@@ -19,13 +19,13 @@ use Rattle.lvm_tie_commands.proofs.CommandsLemmas.Tidying.{tidy_goes_on}
 use Rattle.lvm_group_lines.specs.Groups.{VaryoffDoes as ClosesDoes, NoVaryoff as NoneToClose, BusyVaryoff as BusyToClose, VariesOff as Closes}
 use Rattle.lvm_range_lines.specs.passed.Names.{AreAnswered, ends_session, fault_of, is_over}
 use Rattle.lvm_range_lines.specs.passed.VolumePlanFaultGroupFault as fault
-use Rattle.lvm_range_lines.specs.passed.GroupLines.{Aside, CommandEnds, EndsUnasked, patience_of_line, GoesOn, HaveRooms, IsBetweenStage, IsFittingStage, IsOn, OfGroup, history_in, most_refusals, open_in, session_in, shelf_in, state_in, ScriptState, without_facts, Reply, Stage}
+use Rattle.lvm_range_lines.specs.passed.GroupLines.{Aside, CommandEnds, EndsUnasked, patience_of_line, LineGoesOn, HaveRooms, IsBetweenStage, IsFittingStage, IsOn, OfGroup, history_in, most_refusals, open_in, session_in, shelf_in, state_in, ScriptState, without_facts, Reply, Stage}
 use Rattle.lvm_range_lines.specs.passed.ReplyVariants as reply
 use Rattle.lvm_range_lines.proofs.passed.GroupLines.{Bears, LeavesAnswers, answered_bears, bears_cut, landed_bears}
 use Rattle.lvm_range_lines.proofs.passed.Tie.{goes_any, path_frames, path_shape}
 use Rattle.lvm_volume_lines.specs.Closing.{BusyVaryoff, IsTidiedOff, NoVaryoff, TidiesOff, VariesOff, VaryoffDoes, VaryoffFails, is_dirty_on, tidy_reply}
 use Rattle.lvm_volume_lines.specs.Commands.{HasRested}
-use Rattle.lvm_volume_lines.specs.Volumes.{IsDone, IsLeft}
+use Rattle.lvm_volume_lines.specs.Volumes.{IsDone, IsLeftEither}
 use Rattle.lvm_volume_lines.proofs.Commanding.{ClosesWell, Promised, closes_lit, goes_off, promised_by, ready_mid}
 use Rattle.lvm_volume_lines.proofs.Ending.{FaultFacts, closes_after}
 use Rattle.lvm_volume_lines.proofs.OfVolumes.{at_mid, drains, its_history}
@@ -33,7 +33,7 @@ use Rattle.lvm_volume_lines.proofs.OfVolumes.{at_mid, drains, its_history}
 -- ---- a line that acts on nothing
 
 -- what it keeps it keeps as one of a group
-beside : (run : ℕ) (answer : Reply) (old new : ScriptState) → GoesOn run Aside answer old new → GoesOn run OfGroup answer old new
+beside : (run : ℕ) (answer : Reply) (old new : ScriptState) → LineGoesOn run Aside answer old new → LineGoesOn run OfGroup answer old new
 beside run answer old new goes = record {
   keeps = λ timely alone. goes.keeps timely (record { enters = alone.enters; acts = λ none. absurd none });
   timely = goes.timely;
@@ -90,8 +90,8 @@ module _ (patience : ℕ) (old new : State) where
   over (commit.DiskFailed disk) ends = absurd ends
 
   -- so it is known why the session is over
-  pub tidy_failed : (why : CommitFault) → TidyGives patience old new (Err why) → FaultFacts (fault_of why) patience old new × ((was is : ScriptState) → IsLeft true new was is → IsLeft (ends_session (fault_of why)) new was is)
-  tidy_failed why gives = let ends = was_tried why gives in (failed why ends, λ was is left. subst (λ (b : Bool). IsLeft b new was is) (sym (over why ends)) left)
+  pub tidy_failed : (why : CommitFault) → TidyGives patience old new (Err why) → FaultFacts (fault_of why) patience old new × ((was is : ScriptState) → IsLeftEither true new was is → IsLeftEither (ends_session (fault_of why)) new was is)
+  tidy_failed why gives = let ends = was_tried why gives in (failed why ends, λ was is left. subst (λ (b : Bool). IsLeftEither b new was is) (sym (over why ends)) left)
 
   pub closes_dark_still : (why : CommitFault) → IsReady old.device → TidyGives patience old new (Err why) → fault_of why ≡ fault.Dark → new.device.flights ≡ []
   closes_dark_still why ready gives dark = by why (was_tried why gives) dark
@@ -191,14 +191,14 @@ module _ {S : Type 0} (device : S → Device) (stage : Stage S) (fits : IsFittin
     clock = refl;
   }
 
-  goes : (last : ℕ) → GoesOn core.history.run OfGroup (tidy_reply done.given) (state_in device stage last) (state_in device it last)
+  goes : (last : ℕ) → LineGoesOn core.history.run OfGroup (tidy_reply done.given) (state_in device stage last) (state_in device it last)
   goes last = goes_off OfGroup (λ old new alone. alone.acts tt) (state_in device stage last) core mid left (at_mid device stage fits between none patience driver rested last) promised answers (tidy_reply done.given) (state_in device it last)
       (ap (λ (l : Log). l.facts) done.is.history) refl (few_so done.given) (λ m may alone. tidy_goes_on core.history.run m patience done.after mid left may rested.settled done.leaves) closed done.is.session landed done.is.posted
 
   pub varyoff_ends : (name : List ℕ) → IsOn name core → IsTrue (is_dirty_on (session_in stage)) → EndsUnasked device (λ log. VaryoffDoes name) ⊥ OfGroup stage it answer
   varyoff_ends name on dirty = λ last. subst (λ (a : Reply). CommandEnds device (λ log. VaryoffDoes name) ⊥ OfGroup stage it a last last) (sym done.says) (record {
     does = does last done.given (is_done last);
-    goes = subst (λ (n : ℕ). GoesOn n OfGroup (tidy_reply done.given) (state_in device stage last) (state_in device it last)) (sym (ap (λ (l : Log). l.run) history_is)) (goes last);
+    goes = subst (λ (n : ℕ). LineGoesOn n OfGroup (tidy_reply done.given) (state_in device stage last) (state_in device it last)) (sym (ap (λ (l : Log). l.run) history_is)) (goes last);
     rooms = rooms;
     fits = fits_then;
     orders = λ nothing. orders;

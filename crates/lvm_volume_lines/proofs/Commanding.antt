@@ -14,10 +14,10 @@ use Rattle.lvm_vol.specs.Facts.{Fact}
 use Rattle.lvm_vol.specs.Legal.{IsLater}
 use Rattle.lvm_vol.specs.Log.{Log}
 use Rattle.lvm_kept.specs.Moments.{Moment}
-use Rattle.lvm_steps.specs.Moments.{Begins, Keeps}
+use Rattle.lvm_steps.specs.Moments.{RunBegins, Keeps}
 use Rattle.lvm_steps.specs.Requests.{at}
 use Rattle.lvm_steps.proofs.MomentsLemmas.Spans.{keeps_steps}
-use Rattle.lvm_steps.specs.Behind.{IsBehind}
+use Rattle.lvm_steps.specs.Behind.{StampsAreEarlier}
 use Rattle.lvm_steps.proofs.LawsLemmas.Shelves.{no_more_stays_behind}
 use Rattle.lvm_transfer.specs.Transfer.{Relights}
 use Rattle.lvm_status.specs.Members.{HasItsRows}
@@ -29,13 +29,13 @@ use Rattle.lvm_session.specs.State.{Core, State, state, votes_there}
 use Rattle.lvm_core.specs.Committing.{moment_of, StaysBehind}
 use Rattle.lvm_core.specs.Leaves.{EntersVolumes, KeepsHistory, Leaves, Scope}
 use Rattle.lvm_core.specs.Settled.{IsSettled as IsSettledCore}
-use Rattle.lvm_core.specs.Sound.{HaveAllLanded, IsSoundBetween}
+use Rattle.lvm_core.specs.Sound.{HaveAllLanded, IsSoundAtRest}
 use Rattle.lvm_commit.specs.LawsOfVolumes.{IsOneFoundOn}
 use Rattle.lvm_range_lines.proofs.passed.Quiesce.{each_is_behind, still_is_behind_each}
 use Rattle.lvm_range_lines.specs.passed.Names.{Post, AreAnswered, AreHeld, ended_with}
 use Rattle.lvm_range_lines.specs.passed.Tie.{IsBefore, LeavesSession, IsStamped, IsGood, StaysGood}
 use Rattle.lvm_range_lines.specs.passed.TieCommands.{IsAloneAtFirst, MayBeCommanded, StandsAfter, StandsSince}
-use Rattle.lvm_range_lines.specs.passed.GroupLines.{GoesOn, HasBegunHeld, IsAlone, Role, IsStuck, most_refusals, posts_ended, ArePosted, IsBetween, IsOnBetween, IsTimely, StandsAlone, StandsBy, ScriptState, Reply}
+use Rattle.lvm_range_lines.specs.passed.GroupLines.{LineGoesOn, HasBegunHeld, IsAlone, Role, IsStuck, most_refusals, posts_ended, ArePosted, IsBetween, IsOnBetween, IsTimely, StandsAlone, StandsBy, ScriptState, Reply}
 use Rattle.lvm_range_lines.proofs.passed.GroupLines.{relit_path, was_session, ready_is_lit, still_leaves_descriptors, LeavesAnswers, end_posts, none_held, on_posts}
 use Rattle.lvm_range_lines.proofs.passed.Tie.{going_leaves, is_stamped, path_shape, stays_stamped}
 
@@ -73,7 +73,7 @@ pub record AtMid (old : ScriptState) (core : Core) (mid : State) : Type 0 where
   pub empty : core.descriptor.lvs ≡ [] → mid ≡ state old.moment.device core
   pub sound : IsSound mid
   pub settled : IsSettledCore mid.core
-  pub rest : IsSoundBetween mid
+  pub rest : IsSoundAtRest mid
   pub answers : LeavesAnswers core.history.facts mid.core.history.facts
 
 module _ (old : ScriptState) (core : Core) (mid : State) (its : AtMid old core mid) where
@@ -175,7 +175,7 @@ module _ (old : ScriptState) (core : Core) (mid : State) (its : AtMid old core m
       pub later_left : IsLater left.core.history.facts (old.last + 1)
       later_left = promised.history.later (old.last + 1) later_mid
 
-      pub behind_left : IsBehind (old.last + 1) left.device
+      pub behind_left : StampsAreEarlier (old.last + 1) left.device
       behind_left = promised.behind (old.last + 1) (before_mid.session lit).1 (each_is_behind (old.last + 1) mid.device before_mid.leaves)
 
       pub epoch_left : left.core.status.stamp.epoch ≤ old.last
@@ -210,7 +210,7 @@ none_posted facts core posts none its = record {
 -- by steps of the shelf that add no crash image, after which it is at rest, unless nothing was heard of a transfer
 pub record ClosesWell (answer : Reply) (left new : Device) : Type 0 where
   pub path : Path DeviceStep (LeavesNoMore left) left new
-  pub behind : (moment : ℕ) → IsBehind moment left → IsBehind moment new
+  pub behind : (moment : ℕ) → StampsAreEarlier moment left → StampsAreEarlier moment new
   pub ready : (IsStuck answer → ⊥) → IsReady new
   pub power : new.power ≡ true
   pub orders : new.orders ≡ left.orders
@@ -268,8 +268,8 @@ module _ (role : Role) (acts : Acts role) (old : ScriptState) (core : Core) (mid
         (end_posts old.moment.facts left.core.history.facts answers_left core (votes_there left.core) (total_votes left.core.descriptor) (none_held core left.core.history.facts its.none) old.posts
         (subst (λ (o : Option Core). ArePosted old.moment.facts o old.posts) its.session its.between.posted)))
 
-    behind_new : IsTimely core.history.run old → IsBehind (new.last + 1) new.moment.device
-    behind_new timely = subst (λ (n : ℕ). IsBehind (n + 1) new.moment.device) (sym clock) (closed.behind (old.last + 1) (behind_left old core mid its timely left promised))
+    behind_new : IsTimely core.history.run old → StampsAreEarlier (new.last + 1) new.moment.device
+    behind_new timely = subst (λ (n : ℕ). StampsAreEarlier (n + 1) new.moment.device) (sym clock) (closed.behind (old.last + 1) (behind_left old core mid its timely left promised))
 
     later_new : IsTimely core.history.run old → IsLater new.moment.facts (new.last + 1)
     later_new timely = subst (λ (n : ℕ). IsLater new.moment.facts (n + 1)) (sym clock) (subst (λ (fs : List Fact). IsLater fs (old.last + 1)) (sym facts) (later_left old core mid its timely left promised))
@@ -277,7 +277,7 @@ module _ (role : Role) (acts : Acts role) (old : ScriptState) (core : Core) (mid
     run_new : IsTimely core.history.run old → core.history.run ≤ new.last + 1
     run_new timely = let e = timely.ahead.run_is in let same = clock in omega (arith, e, same)
 
-    pub goes_off : GoesOn core.history.run role answer old new
+    pub goes_off : LineGoesOn core.history.run role answer old new
     goes_off = record {
       keeps = λ timely alone first span stands. (
         subst (Keeps core.history.run first) at_new (keeps_steps core.history.run first left.device new.moment.device left.core.history.facts (spanned alone first span stands) closed.path),
@@ -311,7 +311,7 @@ module _ (role : Role) (acts : Acts role) (old : ScriptState) (core : Core) (mid
   -- the session goes on
   module _ (now : Core) (is : now ≡ record left.core { origin = now.origin }) (session : new.session ≡ Some now) (device : new.moment.device ≡ left.device) (posts : new.posts ≡ old.posts)
       (ready : IsReady left.device) (settled : IsSettledCore left.core) (landed : HaveAllLanded left.core.history.facts) (sound : IsSound (state left.device now)) (rows : HasItsRows now.descriptor now.origin.table)
-      (standing : (first : Moment) → MayBeCommanded core.history.run first mid → IsAloneAtFirst mid left → (past : List Fact) → Begins core.history.run past first → StandsAfter past left.device now) where
+      (standing : (first : Moment) → MayBeCommanded core.history.run first mid → IsAloneAtFirst mid left → (past : List Fact) → RunBegins core.history.run past first → StandsAfter past left.device now) where
     abbrev next : ScriptState
     next = record { moment = moment_of left; session = Some now; posts = old.posts; last = old.last }
 
@@ -342,8 +342,8 @@ module _ (role : Role) (acts : Acts role) (old : ScriptState) (core : Core) (mid
       begun = λ u flies. absurd (let e : None ≡ Some u = sym settled_now.quiet.status ∙ flies in cc e);
     }
 
-    pub goes_on : GoesOn core.history.run role answer old new
-    goes_on = subst (GoesOn core.history.run role answer old) (sym next_is) (record {
+    pub goes_on : LineGoesOn core.history.run role answer old new
+    goes_on = subst (LineGoesOn core.history.run role answer old) (sym next_is) (record {
       keeps = λ timely alone first span stands.
           let alone_new = subst (IsAlone role old) (sym next_is) alone in (
             spanned alone_new first span stands,

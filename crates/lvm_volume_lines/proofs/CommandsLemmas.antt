@@ -9,7 +9,7 @@ use Rattle.lvm_session.specs.declared.open.Power.TheVariants as power
 use Rattle.lvm_session.specs.State.{Core, State}
 use Rattle.lvm_core.specs.declared.fault.CommitFault.{CommitFault}
 use Rattle.lvm_core.specs.Settled.{IsSettled}
-use Rattle.lvm_core.specs.Sound.{IsSoundBetween}
+use Rattle.lvm_core.specs.Sound.{IsSoundAtRest}
 use Rattle.lvm_core.specs.State.{state_of}
 use Rattle.lvm_range_lines.specs.passed.Driver.{FailsSo, IsAny, IsDrained, IsTurn}
 use Rattle.lvm_range_lines.specs.passed.Tie.{RunsOn}
@@ -34,7 +34,7 @@ may_settle old new on none path runs drained = record {
 module _ {S : Type 0} (device : S → Device) where
   -- ---- of a group without volumes
 
-  pub empty_rests : (by : Holder S) (driver : S × Core) (left : ℕ) → by ≡ holder.Empty driver → IsOfKind by → IfSome (session_of by) (IsOnBetween (device (shelf_of by))) → IsSoundBetween (state_of device driver)
+  pub empty_rests : (by : Holder S) (driver : S × Core) (left : ℕ) → by ≡ holder.Empty driver → IsOfKind by → IfSome (session_of by) (IsOnBetween (device (shelf_of by))) → IsSoundAtRest (state_of device driver)
       → HasRested device by left left driver
   empty_rests by driver left is kind on between = subst (λ (h : Holder S). HasRested device h left left driver) (sym is)
       (let its = subst (λ (h : Holder S). IfSome (session_of h) (IsOnBetween (device (shelf_of h)))) is on in
@@ -69,7 +69,7 @@ module _ {S : Type 0} (device : S → Device) where
         record { core = driver.1; its = refl; turns = turns; runs = runs; sound = sound; few = few; waited = waited }
 
     pub serving_rests : (before after : ℕ) → after ≤ before → RoseBy (before - after) (device driver.0).counts.waits (device new.0).counts.waits → (left : S × Core) → left ≡ new → IsSettled new.1
-        → IsSoundBetween (state_of device new) → HasRested device by before after left
+        → IsSoundAtRest (state_of device new) → HasRested device by before after left
     unfolding its_turned
     serving_rests before after few waited left same settled between = subst (λ (h : Holder S). HasRested device h before after left) (sym is) (subst (HasRested device (holder.Serving driver) before after) (sym same) (record {
       turned = its_turned before after few waited;

@@ -21,7 +21,7 @@ use Rattle.lvm_range_lines.specs.passed.Driver.{FailsSo}
 use Rattle.lvm_range_lines.specs.passed.Names.{AreAnswered, ended_with}
 use Rattle.lvm_range_lines.specs.passed.Tie.{LeavesSession}
 use Rattle.lvm_range_lines.proofs.passed.Tie.{goes_any, path_frames, path_shape, stays_unstuck}
-use Rattle.lvm_range_lines.specs.passed.GroupLines.{EndsUnasked, patience_of_line, GoesOn, Role, IsStuck, most_refusals, HaveRooms, IsBetweenStage, IsClosed, IsEnded, IsFittingStage, history_in, open_in, posts_ended, session_in, shelf_in, state_in, ArePosted, IsAtRest, ScriptState, without_facts, Reply, Stage}
+use Rattle.lvm_range_lines.specs.passed.GroupLines.{EndsUnasked, patience_of_line, LineGoesOn, Role, IsStuck, most_refusals, HaveRooms, IsBetweenStage, IsClosed, SessionIsClosed, IsFittingStage, history_in, open_in, posts_ended, session_in, shelf_in, state_in, ArePosted, IsAtRest, ScriptState, without_facts, Reply, Stage}
 use Rattle.lvm_range_lines.specs.passed.HolderVariants as holder
 use Rattle.lvm_range_lines.specs.passed.ReplyVariants as reply
 use Rattle.lvm_range_lines.proofs.passed.GroupLines.{one_refused, LeavesAnswers, end_posts, none_held, IsRun, over_goes, over_landed}
@@ -33,7 +33,7 @@ use Rattle.lvm_volume_lines.proofs.OfVolumes.{first_at, its_history, no_requests
 use Rattle.lvm_volume_lines.proofs.Resting.{TurnsKeep, dark_or_still, turns_keep}
 
 module _ {S : Type 0} (role : Role) (acts : Acts role) (device : S → Device) (stage : Stage S) (fits : IsFittingStage stage) (between : IsBetweenStage device stage) (none : open_in (session_in stage) ≡ 0) (patience : ℕ) (driver : S × Core) (why : CommitFault)
-    (broken : HasBrokenOff device stage.holder patience_of_line patience driver why) (it : Stage S) (answer : Reply) (ended : IsEnded device driver stage.posts.items it)
+    (broken : HasBrokenOff device stage.holder patience_of_line patience driver why) (it : Stage S) (answer : Reply) (ended : SessionIsClosed device driver stage.posts.items it)
     (rooms : (entries : ℕ) → HaveRooms entries stage.posts stage.bytes → HaveRooms entries it.posts it.bytes) (says : answer ≡ reply.Refused (drain_refusal why)) where
   abbrev core : Core
   core = broken.turned.core
@@ -129,8 +129,8 @@ module _ {S : Type 0} (role : Role) (acts : Acts role) (device : S → Device) (
 
   -- ---- so the line ends
 
-  goes : (last : ℕ) → GoesOn (history_in stage).run role answer (state_in device stage last) (state_in device it last)
-  goes last = subst (λ (n : ℕ). GoesOn n role answer (state_in device stage last) (state_in device it last)) (sym (ap (λ (l : Log). l.run) (its_history device stage fits between none core its)))
+  goes : (last : ℕ) → LineGoesOn (history_in stage).run role answer (state_in device stage last) (state_in device it last)
+  goes last = subst (λ (n : ℕ). LineGoesOn n role answer (state_in device stage last) (state_in device it last)) (sym (ap (λ (l : Log). l.run) (its_history device stage fits between none core its)))
       (over_goes role (state_in device stage last) core end (run last) answer (state_in device it last) ended.shelf facts ended.session refl unstuck over posted (λ others. rests last) few)
     where
       few : most_refusals answer + length it.posts.items ≤ length stage.posts.items + 1

@@ -23,7 +23,7 @@ use Rattle.lvm_range_lines.specs.passed.Tie.{LeavesSession}
 use Rattle.lvm_range_lines.specs.passed.TieCommands.{IsAloneAtFirst, IsLeftStanding, IsLeftStandingSince, MayBeCommanded, StandsAfter}
 use Rattle.lvm_range_lines.specs.passed.Volumes.{StillHeld}
 use Rattle.lvm_range_lines.specs.passed.Names.{GroupFault, IfOn, is_over}
-use Rattle.lvm_range_lines.specs.passed.GroupLines.{CommandEnds, EndsUnasked, patience_of_line, GoesOn, Role, HaveRooms, IsBetweenStage, IsFittingStage, IsOfKind, history_of, open_in, session_in, session_of, shelf_in, history_in, state_in, IsAtRest, IsOnBetween, ScriptState, without_facts, Holder, Reply, Stage}
+use Rattle.lvm_range_lines.specs.passed.GroupLines.{CommandEnds, EndsUnasked, patience_of_line, LineGoesOn, Role, HaveRooms, IsBetweenStage, IsFittingStage, IsOfKind, history_of, open_in, session_in, session_of, shelf_in, history_in, state_in, IsAtRest, IsOnBetween, ScriptState, without_facts, Holder, Reply, Stage}
 use Rattle.lvm_range_lines.specs.passed.HolderVariants as holder
 use Rattle.lvm_range_lines.proofs.passed.GroupLines.{LeavesAnswers}
 use Rattle.lvm_range_lines.proofs.passed.Tie.{goes_any, path_frames, path_shape}
@@ -264,7 +264,7 @@ module _ {S : Type 0} (device : S → Device) (stage : Stage S) (fits : IsFittin
 
         -- ---- what goes on
 
-        goes : (b : Bool) → is_over given ≡ b → (last : ℕ) → GoesOn run role (volume_reply given) (state_in device stage last) (state_in device it last)
+        goes : (b : Bool) → is_over given ≡ b → (last : ℕ) → LineGoesOn run role (volume_reply given) (state_in device stage last) (state_in device it last)
         goes true over last =
             let off = left_off over in
             goes_off role acts (state_in device stage last) core mid left (at_mid last) promised (known last).answers (volume_reply given) (state_in device it last) (ap (λ (l : Log). l.facts) off.history) refl (one_answer patience mid left given)
@@ -283,7 +283,7 @@ module _ {S : Type 0} (device : S → Device) (stage : Stage S) (fits : IsFittin
             → EndsUnasked device Does ⊥ role stage it answer
         ends_so Does does = λ last. subst (λ (a : Reply). CommandEnds device Does ⊥ role stage it a last last) (sym done.says) (record {
           does = does last (is_done last);
-          goes = subst (λ (n : ℕ). GoesOn n role (volume_reply given) (state_in device stage last) (state_in device it last)) (sym (ap (λ (l : Log). l.run) (its_history core its))) (goes (is_over given) refl last);
+          goes = subst (λ (n : ℕ). LineGoesOn n role (volume_reply given) (state_in device stage last) (state_in device it last)) (sym (ap (λ (l : Log). l.run) (its_history core its))) (goes (is_over given) refl last);
           rooms = rooms;
           fits = fits_then (is_over given) refl;
           orders = λ nothing. orders (is_over given) refl;

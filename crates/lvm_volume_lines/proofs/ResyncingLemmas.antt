@@ -20,11 +20,11 @@ use Rattle.lvm_ranges.specs.declared.fault.SyncFault.{SyncFault}
 use Rattle.lvm_ranges.specs.declared.fault.SyncFault.TheVariants as fault
 use Rattle.lvm_ranges.specs.declared.tally.Tally.{Tally}
 use Rattle.lvm_ranges.specs.Passing.{Copy, PassesCopy}
-use Rattle.lvm_ranges.specs.Syncing.{NonePassed, OnePassed, Passes, SyncGives, fault_by, fault_on, group_fault, no_tally, numbers_fault, or_first, volume_fault}
+use Rattle.lvm_ranges.specs.Syncing.{NonePassed, OnePassed, PassesCopies, SyncGives, fault_by, fault_on, group_fault, no_tally, numbers_fault, or_first, volume_fault}
 use Rattle.lvm_ranges.specs.Turning.{GoesBeside, StopsFor}
 use Rattle.lvm_volume_lines.specs.passed.RangeLines.{FailsIf, serving}
 use Rattle.lvm_volume_lines.specs.passed.HolderVariants as holder
-use Rattle.lvm_volume_lines.specs.passed.GroupLines.{ArePosted, ComesTo, EndsUnasked, HaveRooms, IsBetweenStage, IsCarried, IsEnded, IsFittingStage, OfRequests, Reply, Stage, ScriptState, is_unheard, most_refusals, patience_of_line, state_in, without_facts}
+use Rattle.lvm_volume_lines.specs.passed.GroupLines.{ArePosted, ComesTo, EndsUnasked, HaveRooms, IsBetweenStage, IsCarriedOn, SessionIsClosed, IsFittingStage, OfRequests, Reply, Stage, ScriptState, is_unheard, most_refusals, patience_of_line, state_in, without_facts}
 use Rattle.lvm_volume_lines.specs.passed.RefusalVariants as refusal
 use Rattle.lvm_volume_lines.specs.passed.ReplyVariants as reply
 use Rattle.lvm_volume_lines.proofs.passed.RangeLines.{RunsTo, carried_ends, carried_leaves, ended_is_over, over_ends, stuck_ends, table_posts, unstuck}
@@ -50,7 +50,7 @@ passed_may c patience left old new (fault.SyncFailed disk) it = tt
 passed_may c patience left old new (fault.NoFresh lp) it = tt
 passed_may c patience left old new (fault.Missing disk) it = tt
 
-passes_may : (first : State) {patience left : ℕ} (copies : List Copy) (now : State) (tally : Tally) → Passes first no_tally patience copies now tally left → MayBe tally.fault
+passes_may : (first : State) {patience left : ℕ} (copies : List Copy) (now : State) (tally : Tally) → PassesCopies first no_tally patience copies now tally left → MayBe tally.fault
 passes_may first all now total NonePassed = tt
 passes_may first all now total (OnePassed {copies} {old} {new} {tally} c passed.Fresh rest it) = passes_may first copies old tally rest
 passes_may first all now total (OnePassed {copies} {old} {new} {tally} c passed.Made rest it) = passes_may first copies old tally rest
@@ -192,10 +192,10 @@ module _ {S : Type 0} (device : S → Device) (first : S × Core) (posts : Vec P
   few_then : most_refusals answer + length posts.items ≤ length posts.items + 1
   few_then = omega (arith, few)
 
-  goes : (end.1.power ≡ power.On → end.1.copy ≡ None) → IsCarried device end posts bytes end.1.power stage → Ends
+  goes : (end.1.power ≡ power.On → end.1.copy ≡ None) → IsCarriedOn device end posts bytes end.1.power stage → Ends
   goes shut carried = carried_ends device first posts bytes fits between end to Does posts bytes fits.rooms stage answer few_then does posted rooms shut carried
 
-  closes : answer ≡ reply.Refused refusal.Stuck → IsEnded device end posts.items stage → Ends
+  closes : answer ≡ reply.Refused refusal.Stuck → SessionIsClosed device end posts.items stage → Ends
   closes says ended = by end.1.power refl
     where
       by : (p : Power) → end.1.power ≡ p → Ends

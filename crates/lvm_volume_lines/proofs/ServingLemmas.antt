@@ -15,7 +15,7 @@ use Rattle.lvm_range_lines.specs.passed.Names.{GroupFault, NewVolume}
 use Rattle.lvm_range_lines.specs.passed.VolumePlanFaultGroupFault as fault
 use Rattle.lvm_range_lines.specs.passed.Volumes.{MklvGives, to_make}
 use Rattle.lvm_range_lines.proofs.passed.Volumes.{keeps_none, leaves_none}
-use Rattle.lvm_range_lines.specs.passed.GroupLines.{EndsUnasked, patience_of_line, GoesOn, Role, HaveRooms, IsBetweenStage, IsFittingStage, IsOfKind, history_in, open_in, session_in, shelf_in, state_in, ScriptState, without_facts, Holder, Reply, Stage}
+use Rattle.lvm_range_lines.specs.passed.GroupLines.{EndsUnasked, patience_of_line, LineGoesOn, Role, HaveRooms, IsBetweenStage, IsFittingStage, IsOfKind, history_in, open_in, session_in, shelf_in, state_in, ScriptState, without_facts, Holder, Reply, Stage}
 use Rattle.lvm_range_lines.specs.passed.RefusalVariants as refusal
 use Rattle.lvm_range_lines.specs.passed.ReplyVariants as reply
 use Rattle.lvm_range_lines.proofs.passed.Tie.{path_frames}
@@ -78,7 +78,7 @@ module _ {S : Type 0} (device : S → Device) (stage : Stage S) (fits : IsFittin
       posts = ap (λ (s : Stage S). s.posts.items) is;
     }
 
-    goes : (last : ℕ) → GoesOn core.history.run role (reply.Refused refusal.NoVolume) (state_in device stage last) (state_in device it last)
+    goes : (last : ℕ) → LineGoesOn core.history.run role (reply.Refused refusal.NoVolume) (state_in device stage last) (state_in device it last)
     goes last =
         let old = state_in device stage last in
         let mids = at_mid device stage fits between none patience driver rested last in
@@ -92,8 +92,8 @@ module _ {S : Type 0} (device : S → Device) (stage : Stage S) (fits : IsFittin
         → EndsUnasked device Does ⊥ role stage it answer
     unnamed_ends Does does = λ last. record {
       does = does last (drains device stage fits between none patience driver rested last) (stays last);
-      goes = subst (λ (n : ℕ). GoesOn n role answer (state_in device stage last) (state_in device it last)) (sym (ap (λ (l : Log). l.run) (its_history device stage fits between none core rested.turned.its)))
-          (subst (λ (a : Reply). GoesOn core.history.run role a (state_in device stage last) (state_in device it last)) (sym says) (goes last));
+      goes = subst (λ (n : ℕ). LineGoesOn n role answer (state_in device stage last) (state_in device it last)) (sym (ap (λ (l : Log). l.run) (its_history device stage fits between none core rested.turned.its)))
+          (subst (λ (a : Reply). LineGoesOn core.history.run role a (state_in device stage last) (state_in device it last)) (sym says) (goes last));
       rooms = log_same;
       fits = record {
         kind = subst (λ (s : Stage S). IsOfKind s.holder) (sym is) held.kind;

@@ -11,11 +11,11 @@ use Rattle.lvm_session.specs.Sound.{IsSound}
 use Rattle.lvm_core.specs.declared.fault.CommitFault.{CommitFault}
 use Rattle.lvm_core.specs.Leaves.{Scope}
 use Rattle.lvm_core.specs.Settled.{IsSettled}
-use Rattle.lvm_core.specs.Sound.{IsSoundBetween}
+use Rattle.lvm_core.specs.Sound.{IsSoundAtRest}
 use Rattle.lvm_core.specs.State.{state_of}
 use Rattle.lvm_range_lines.specs.passed.Driver.{FailsSo, IsAny, IsTurn}
 use Rattle.lvm_range_lines.specs.passed.Tie.{RunsOn}
-use Rattle.lvm_range_lines.specs.passed.Handover.{IsCommanded, IsServed}
+use Rattle.lvm_range_lines.specs.passed.Handover.{IsCommanded, OriginIsMarked}
 use Rattle.lvm_range_lines.specs.passed.Names.{Post, GroupFault, is_over}
 use Rattle.lvm_range_lines.specs.passed.GroupLines.{HaveRooms, IsOfKind, history_in, history_of, posts_ended, session_in, session_of, shelf_in, shelf_of, Holder, Reply, Stage}
 use Rattle.lvm_volume_lines.specs.Volumes.{volume_reply}
@@ -41,7 +41,7 @@ pub record HasRested {S : Type 0} (device : S → Device) (holder : Holder S) (b
   pub turned : IsTurned device holder before after driver
   pub empty : turned.core.descriptor.lvs ≡ [] → state_of device driver ≡ session_at device holder turned.core
   pub settled : IsSettled driver.1
-  pub between : IsSoundBetween (state_of device driver)
+  pub between : IsSoundAtRest (state_of device driver)
 
 -- Or they ended before, for this.
 pub record HasBrokenOff {S : Type 0} (device : S → Device) (holder : Holder S) (before after : ℕ) (driver : S × Core) (why : CommitFault) : Type 0 where
@@ -59,7 +59,7 @@ pub record IsHeldAgain {S : Type 0} (device : S → Device) (added : List Pp) (d
   pub history : history_of by ≡ driver.1.history
   pub is : core ≡ record driver.1 { origin = core.origin }
   pub empty : driver.1.descriptor.lvs ≡ [] → core ≡ driver.1
-  pub served : driver.1.descriptor.lvs ≢ [] → IsServed added driver.1 core
+  pub served : driver.1.descriptor.lvs ≢ [] → OriginIsMarked added driver.1 core
   pub sound : IsSound (state (device driver.0) core)
   pub kind : IsOfKind by
 

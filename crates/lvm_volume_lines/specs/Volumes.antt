@@ -62,16 +62,16 @@ pub record StaysOn (left : State) (old new : ScriptState) : Type 0 where
   pub posts : new.posts ≡ old.posts
 
 -- The session is over: it is closed without a write, its posts have ended, and the power is on.
-pub record IsOver (left : State) (old new : ScriptState) : Type 0 where
+pub record SessionIsOver (left : State) (old new : ScriptState) : Type 0 where
   pub lit : Relights left.device new.moment.device
   pub facts : new.moment.facts ≡ left.core.history.facts
   pub session : new.session ≡ None
   pub posts : new.posts ≡ posts_ended (Some left.core) old.posts
 
 -- one or the other
-abbrev pub IsLeft : Bool → State → ScriptState → ScriptState → Type 0
-IsLeft true left old new = IsOver left old new
-IsLeft false left old new = StaysOn left old new
+abbrev pub IsLeftEither : Bool → State → ScriptState → ScriptState → Type 0
+IsLeftEither true left old new = SessionIsOver left old new
+IsLeftEither false left old new = StaysOn left old new
 
 -- ---- before a command
 
@@ -101,7 +101,7 @@ pub record IsUndrained (core : Core) (old new : ScriptState) (why : CommitFault)
   pub fails : FailsSo left end why
   pub few : left ≤ patience_of_line
   pub waited : RoseBy (patience_of_line - left) old.moment.device.counts.waits end.device.counts.waits
-  pub over : IsOver end old new
+  pub over : SessionIsOver end old new
   pub clock : new.last ≡ old.last
   pub says : answer ≡ reply.Refused (drain_refusal why)
 
@@ -118,7 +118,7 @@ wanted name copies mode policy lps = record { name = name; copies = copies; mode
 pub record IsDone (Gives : State → State → Type 0) (scope : Core → Scope) (over : Bool) (mid : State) (old new : ScriptState) : Type 0 where
   pub left : State
   pub gives : Gives mid left
-  pub leaves : IsLeft over left old new
+  pub leaves : IsLeftEither over left old new
   pub finds : FindsOnly (scope mid.core).next mid (state new.moment.device left.core)
   pub status : KeepsStatus (scope mid.core).next (scope mid.core).stale (scope mid.core).fresh (scope mid.core).marks mid left
   pub writes : KeepsShelf (is_there mid.core) (IsOfCommand (scope mid.core).next (scope mid.core).zeros mid left) mid.device left.device

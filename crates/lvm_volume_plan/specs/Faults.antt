@@ -128,5 +128,5 @@ RefusesRmlv lv core fault.Busy = RefusesAll core fault.Busy
 RefusesRmlv lv core _ = ⊥
 
 -- nothing has happened, for this cause
-abbrev pub IsRefused : (Core → GroupFault → Type 0) → GroupFault → State → State → Type 0
-IsRefused Refuses why old new = (new ≡ old) × Refuses old.core why
+abbrev pub RefusesFor : (Core → GroupFault → Type 0) → GroupFault → State → State → Type 0
+RefusesFor Refuses why old new = (new ≡ old) × Refuses old.core why

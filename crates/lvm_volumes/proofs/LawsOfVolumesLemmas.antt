@@ -22,7 +22,7 @@ use Rattle.lvm_kept.specs.Kept.{StandsAs, Kept}
 use Rattle.lvm_kept.specs.Moments.{Moment}
 use Rattle.lvm_kept.proofs.CommittedLemmas.Finding.{finding_reads}
 use Rattle.lvm_map.specs.FirstFit.{IsAllocated, more_copies}
-use Rattle.lvm_steps.specs.Committing.{IsServed}
+use Rattle.lvm_steps.specs.Committing.{VolumeIsServed}
 use Rattle.lvm_status.specs.Update.{members_there}
 use Rattle.lvm_steps.proofs.GroupLemmas.Members.{member_of_parts}
 use Rattle.lvm_steps.proofs.RecordLemmas.{clash, split}
@@ -57,7 +57,7 @@ module _ (d : Descriptor) (lv copies : ℕ) (row : LvRow) (valid : IsValid d) (v
     stands = subst (λ (o : Option LvRow). StandsAs d.mib (volumes_in facts lv).standing (volumes_in facts lv).shape o) (sym (named lv copies pps d.lvs row volume))
         (same_shape (volumes_in facts lv).standing (volumes_in facts lv).shape pps
         (subst (λ (o : Option LvRow). StandsAs d.mib (volumes_in facts lv).standing (volumes_in facts lv).shape o) volume (kept.agrees.volumes all_disks d.id d shows.found lv)));
-    served = λ r is its. subst (λ (x : LvRow). IsServed c facts d x) (sym (own_row lv copies pps d.lvs row r valid.volumes.numbers_rise volume is its))
+    served = λ r is its. subst (λ (x : LvRow). VolumeIsServed c facts d x) (sym (own_row lv copies pps d.lvs row r valid.volumes.numbers_rise volume is its))
         (copies_serve c d status there facts (with_map row copies pps) within enough shows has kept);
   }
 

@@ -27,7 +27,7 @@ use Rattle.lvm_kept.specs.Kept.{StandsAs, Kept}
 use Rattle.lvm_kept.proofs.PlacesLemmas.{blocks_are_sectors}
 use Rattle.lvm_kept.proofs.CommittedLemmas.Finding.{images_within}
 use Rattle.lvm_kept.proofs.MayLemmas.{known_more}
-use Rattle.lvm_steps.specs.Committing.{IsServed}
+use Rattle.lvm_steps.specs.Committing.{VolumeIsServed}
 use Rattle.lvm_steps.proofs.EntriesLemmas.{volumes-append}
 use Rattle.lvm_steps.proofs.VolumeEntriesLemmas.{zeros_serve}
 use Rattle.lvm_volume_plan.specs.passed.Names.{ShowsCommitted, IsSectorOf, VolumeServes, HasFreshCopies}
@@ -116,8 +116,8 @@ module _ (v : NewVolume) (lv : ℕ) (map : List Pp) (d : Descriptor) (lowest : I
         let within_k : k < length map = omega (arith, within) in
         (get_or map k e, its_copy row lp e some within, here k e within_k, fresh k e within_k)
 
-    its_served : (r : LvRow) → IsOneOf next.lvs r → r.number ≡ lv → IsServed c (facts ++ Making lv (volume_blocks d.mib v.lps) v.mode ∷ []) d r
-    its_served r is its = subst (λ (x : LvRow). IsServed c (facts ++ Making lv (volume_blocks d.mib v.lps) v.mode ∷ []) d x) (sym (own_row r is its))
+    its_served : (r : LvRow) → IsOneOf next.lvs r → r.number ≡ lv → VolumeIsServed c (facts ++ Making lv (volume_blocks d.mib v.lps) v.mode ∷ []) d r
+    its_served r is its = subst (λ (x : LvRow). VolumeIsServed c (facts ++ Making lv (volume_blocks d.mib v.lps) v.mode ∷ []) d x) (sym (own_row r is its))
         (zeros_serve c (facts ++ Making lv (volume_blocks d.mib v.lps) v.mode ∷ []) d row
         (zeros_are_found c d status there (facts ++ Making lv (volume_blocks d.mib v.lps) v.mode ∷ []) row (images_within (image_of sizes media)) enough shows kept its_zeros its_values its_fresh))
 

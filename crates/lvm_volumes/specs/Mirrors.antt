@@ -9,7 +9,7 @@ use Rattle.lvm_disk.specs.Device.{IsReady}
 use Rattle.lvm_session.specs.State.{Core, State}
 use Rattle.lvm_volume_plan.specs.passed.Names.{Scope, NoPartition, NoVolume, Always}
 use Rattle.lvm_volume_plan.specs.declared.fault.GroupFault.{GroupFault}
-use Rattle.lvm_volume_plan.specs.Faults.{IsRefused}
+use Rattle.lvm_volume_plan.specs.Faults.{RefusesFor}
 use Rattle.lvm_volume_plan.specs.declared.fault.GroupFault.TheVariants as fault
 use Rattle.lvm_volumes.specs.Endings.{CommandDarkened, CommandWentOff, CommandStuck}
 use Rattle.lvm_volume_plan.specs.Copies.{with_map, with_copies, first_copies, further_copies}
@@ -51,20 +51,20 @@ pub record AddingEnds (lv copies : ℕ) (old : State) (Ends : Type 0) : Type 0 w
 -- the partitions that were added, or why none were
 abbrev pub MklvcopyGives : ℕ → ℕ → ℕ → State → State → Result (List Pp) GroupFault → Type 0
 MklvcopyGives lv copies patience old new (Ok added) = AreAdded lv copies old new added
-MklvcopyGives lv copies patience old new (Err fault.Dark) = IsRefused (RefusesMklvcopy lv copies) fault.Dark old new ⊎ AddingEnds lv copies old (CommandDarkened old.core.history old new)
-MklvcopyGives lv copies patience old new (Err (fault.WentOff have total)) = IsRefused (RefusesMklvcopy lv copies) (fault.WentOff have total) old new ⊎ AddingEnds lv copies old (CommandWentOff old.core.history have total old new)
+MklvcopyGives lv copies patience old new (Err fault.Dark) = RefusesFor (RefusesMklvcopy lv copies) fault.Dark old new ⊎ AddingEnds lv copies old (CommandDarkened old.core.history old new)
+MklvcopyGives lv copies patience old new (Err (fault.WentOff have total)) = RefusesFor (RefusesMklvcopy lv copies) (fault.WentOff have total) old new ⊎ AddingEnds lv copies old (CommandWentOff old.core.history have total old new)
 MklvcopyGives lv copies patience old new (Err fault.Stuck) = AddingEnds lv copies old (CommandStuck old.core.history patience old new)
 MklvcopyGives lv copies patience old new (Err (fault.DiskFailed disk)) = ⊥
-MklvcopyGives lv copies patience old new (Err fault.Busy) = IsRefused (RefusesMklvcopy lv copies) fault.Busy old new
-MklvcopyGives lv copies patience old new (Err fault.NoVolume) = IsRefused (RefusesMklvcopy lv copies) fault.NoVolume old new
+MklvcopyGives lv copies patience old new (Err fault.Busy) = RefusesFor (RefusesMklvcopy lv copies) fault.Busy old new
+MklvcopyGives lv copies patience old new (Err fault.NoVolume) = RefusesFor (RefusesMklvcopy lv copies) fault.NoVolume old new
 MklvcopyGives lv copies patience old new (Err fault.VolumeExists) = ⊥
-MklvcopyGives lv copies patience old new (Err (fault.CopyLimit now)) = IsRefused (RefusesMklvcopy lv copies) (fault.CopyLimit now) old new
+MklvcopyGives lv copies patience old new (Err (fault.CopyLimit now)) = RefusesFor (RefusesMklvcopy lv copies) (fault.CopyLimit now) old new
 MklvcopyGives lv copies patience old new (Err (fault.StaleCopy lp)) = ⊥
 MklvcopyGives lv copies patience old new (Err (fault.LastFresh lp)) = ⊥
 MklvcopyGives lv copies patience old new (Err (fault.TooMany limit)) = ⊥
-MklvcopyGives lv copies patience old new (Err (fault.NoRoom free)) = IsRefused (RefusesMklvcopy lv copies) (fault.NoRoom free) old new
-MklvcopyGives lv copies patience old new (Err fault.HistoryFull) = IsRefused (RefusesMklvcopy lv copies) fault.HistoryFull old new
-MklvcopyGives lv copies patience old new (Err fault.Memory) = IsRefused (RefusesMklvcopy lv copies) fault.Memory old new
+MklvcopyGives lv copies patience old new (Err (fault.NoRoom free)) = RefusesFor (RefusesMklvcopy lv copies) (fault.NoRoom free) old new
+MklvcopyGives lv copies patience old new (Err fault.HistoryFull) = RefusesFor (RefusesMklvcopy lv copies) fault.HistoryFull old new
+MklvcopyGives lv copies patience old new (Err fault.Memory) = RefusesFor (RefusesMklvcopy lv copies) fault.Memory old new
 
 -- ---- fewer copies
 
@@ -93,17 +93,17 @@ pub record TakingEnds (lv copies : ℕ) (old : State) (Ends : Type 0) : Type 0 w
 -- that they are removed, or why they aren't
 abbrev pub RmlvcopyGives : ℕ → ℕ → ℕ → State → State → Result (Unit {0}) GroupFault → Type 0
 RmlvcopyGives lv copies patience old new (Ok done) = AreTaken lv copies old new
-RmlvcopyGives lv copies patience old new (Err fault.Dark) = IsRefused (RefusesRmlvcopy lv copies) fault.Dark old new ⊎ TakingEnds lv copies old (CommandDarkened old.core.history old new)
-RmlvcopyGives lv copies patience old new (Err (fault.WentOff have total)) = IsRefused (RefusesRmlvcopy lv copies) (fault.WentOff have total) old new ⊎ TakingEnds lv copies old (CommandWentOff old.core.history have total old new)
+RmlvcopyGives lv copies patience old new (Err fault.Dark) = RefusesFor (RefusesRmlvcopy lv copies) fault.Dark old new ⊎ TakingEnds lv copies old (CommandDarkened old.core.history old new)
+RmlvcopyGives lv copies patience old new (Err (fault.WentOff have total)) = RefusesFor (RefusesRmlvcopy lv copies) (fault.WentOff have total) old new ⊎ TakingEnds lv copies old (CommandWentOff old.core.history have total old new)
 RmlvcopyGives lv copies patience old new (Err fault.Stuck) = TakingEnds lv copies old (CommandStuck old.core.history patience old new)
 RmlvcopyGives lv copies patience old new (Err (fault.DiskFailed disk)) = ⊥
-RmlvcopyGives lv copies patience old new (Err fault.Busy) = IsRefused (RefusesRmlvcopy lv copies) fault.Busy old new
-RmlvcopyGives lv copies patience old new (Err fault.NoVolume) = IsRefused (RefusesRmlvcopy lv copies) fault.NoVolume old new
+RmlvcopyGives lv copies patience old new (Err fault.Busy) = RefusesFor (RefusesRmlvcopy lv copies) fault.Busy old new
+RmlvcopyGives lv copies patience old new (Err fault.NoVolume) = RefusesFor (RefusesRmlvcopy lv copies) fault.NoVolume old new
 RmlvcopyGives lv copies patience old new (Err fault.VolumeExists) = ⊥
-RmlvcopyGives lv copies patience old new (Err (fault.CopyLimit now)) = IsRefused (RefusesRmlvcopy lv copies) (fault.CopyLimit now) old new
+RmlvcopyGives lv copies patience old new (Err (fault.CopyLimit now)) = RefusesFor (RefusesRmlvcopy lv copies) (fault.CopyLimit now) old new
 RmlvcopyGives lv copies patience old new (Err (fault.StaleCopy lp)) = ⊥
-RmlvcopyGives lv copies patience old new (Err (fault.LastFresh lp)) = IsRefused (RefusesRmlvcopy lv copies) (fault.LastFresh lp) old new
+RmlvcopyGives lv copies patience old new (Err (fault.LastFresh lp)) = RefusesFor (RefusesRmlvcopy lv copies) (fault.LastFresh lp) old new
 RmlvcopyGives lv copies patience old new (Err (fault.TooMany limit)) = ⊥
 RmlvcopyGives lv copies patience old new (Err (fault.NoRoom free)) = ⊥
-RmlvcopyGives lv copies patience old new (Err fault.HistoryFull) = IsRefused (RefusesRmlvcopy lv copies) fault.HistoryFull old new
-RmlvcopyGives lv copies patience old new (Err fault.Memory) = IsRefused (RefusesRmlvcopy lv copies) fault.Memory old new
+RmlvcopyGives lv copies patience old new (Err fault.HistoryFull) = RefusesFor (RefusesRmlvcopy lv copies) fault.HistoryFull old new
+RmlvcopyGives lv copies patience old new (Err fault.Memory) = RefusesFor (RefusesRmlvcopy lv copies) fault.Memory old new

@@ -15,7 +15,7 @@ use Rattle.lvm_volumes.specs.Endings.{CommandDarkened, CommandWentOff, CommandSt
 use Rattle.lvm_volume_plan.specs.declared.fault.GroupFault.{GroupFault}
 use Rattle.lvm_volume_plan.specs.declared.fault.GroupFault.TheVariants as fault
 use Rattle.lvm_volume_plan.specs.declared.new_volume.NewVolume.{NewVolume}
-use Rattle.lvm_volume_plan.specs.Faults.{HasPlaces, IsRefused, MayBeMade, MayBeRemoved, RefusesMklv, RefusesRmlv}
+use Rattle.lvm_volume_plan.specs.Faults.{HasPlaces, RefusesFor, MayBeMade, MayBeRemoved, RefusesMklv, RefusesRmlv}
 use Rattle.lvm_volume_plan.specs.NewVolume.{IsLowestFree, row_for, with_volume, without_volume}
 
 -- ---- the making
@@ -82,20 +82,20 @@ to_make v core = commanding (IsWith v core) (IsChosen v core) 2
 -- the volume's number, or why it wasn't made
 abbrev pub MklvGives : NewVolume → ℕ → State → State → Result ℕ GroupFault → Type 0
 MklvGives v patience old new (Ok lv) = IsVolumeMade v lv old new
-MklvGives v patience old new (Err fault.Dark) = IsRefused (RefusesMklv v) fault.Dark old new ⊎ MakingEnds v old new (λ entered. CommandDarkened entered old new)
-MklvGives v patience old new (Err (fault.WentOff have total)) = IsRefused (RefusesMklv v) (fault.WentOff have total) old new ⊎ MakingEnds v old new (λ entered. CommandWentOff entered have total old new)
+MklvGives v patience old new (Err fault.Dark) = RefusesFor (RefusesMklv v) fault.Dark old new ⊎ MakingEnds v old new (λ entered. CommandDarkened entered old new)
+MklvGives v patience old new (Err (fault.WentOff have total)) = RefusesFor (RefusesMklv v) (fault.WentOff have total) old new ⊎ MakingEnds v old new (λ entered. CommandWentOff entered have total old new)
 MklvGives v patience old new (Err fault.Stuck) = MakingEnds v old new (λ entered. CommandStuck entered patience old new)
 MklvGives v patience old new (Err (fault.DiskFailed disk)) = MakingFails v disk old new
-MklvGives v patience old new (Err fault.Busy) = IsRefused (RefusesMklv v) fault.Busy old new
+MklvGives v patience old new (Err fault.Busy) = RefusesFor (RefusesMklv v) fault.Busy old new
 MklvGives v patience old new (Err fault.NoVolume) = ⊥
-MklvGives v patience old new (Err fault.VolumeExists) = IsRefused (RefusesMklv v) fault.VolumeExists old new
-MklvGives v patience old new (Err (fault.CopyLimit now)) = IsRefused (RefusesMklv v) (fault.CopyLimit now) old new
+MklvGives v patience old new (Err fault.VolumeExists) = RefusesFor (RefusesMklv v) fault.VolumeExists old new
+MklvGives v patience old new (Err (fault.CopyLimit now)) = RefusesFor (RefusesMklv v) (fault.CopyLimit now) old new
 MklvGives v patience old new (Err (fault.StaleCopy lp)) = ⊥
 MklvGives v patience old new (Err (fault.LastFresh lp)) = ⊥
-MklvGives v patience old new (Err (fault.TooMany limit)) = IsRefused (RefusesMklv v) (fault.TooMany limit) old new
-MklvGives v patience old new (Err (fault.NoRoom free)) = IsRefused (RefusesMklv v) (fault.NoRoom free) old new
-MklvGives v patience old new (Err fault.HistoryFull) = IsRefused (RefusesMklv v) fault.HistoryFull old new
-MklvGives v patience old new (Err fault.Memory) = IsRefused (RefusesMklv v) fault.Memory old new
+MklvGives v patience old new (Err (fault.TooMany limit)) = RefusesFor (RefusesMklv v) (fault.TooMany limit) old new
+MklvGives v patience old new (Err (fault.NoRoom free)) = RefusesFor (RefusesMklv v) (fault.NoRoom free) old new
+MklvGives v patience old new (Err fault.HistoryFull) = RefusesFor (RefusesMklv v) fault.HistoryFull old new
+MklvGives v patience old new (Err fault.Memory) = RefusesFor (RefusesMklv v) fault.Memory old new
 
 -- ---- the removal
 
@@ -137,11 +137,11 @@ to_remove lv core = removing_by (λ next. next ≡ without_volume core.descripto
 -- that it is removed, or why it isn't
 abbrev pub RmlvGives : ℕ → ℕ → State → State → Result (Unit {0}) GroupFault → Type 0
 RmlvGives lv patience old new (Ok done) = IsVolumeRemoved lv old new
-RmlvGives lv patience old new (Err fault.Dark) = IsRefused (RefusesRmlv lv) fault.Dark old new ⊎ RemovalEnds lv old (λ entered from. CommandDarkened entered from new)
-RmlvGives lv patience old new (Err (fault.WentOff have total)) = IsRefused (RefusesRmlv lv) (fault.WentOff have total) old new ⊎ RemovalEnds lv old (λ entered from. CommandWentOff entered have total from new)
+RmlvGives lv patience old new (Err fault.Dark) = RefusesFor (RefusesRmlv lv) fault.Dark old new ⊎ RemovalEnds lv old (λ entered from. CommandDarkened entered from new)
+RmlvGives lv patience old new (Err (fault.WentOff have total)) = RefusesFor (RefusesRmlv lv) (fault.WentOff have total) old new ⊎ RemovalEnds lv old (λ entered from. CommandWentOff entered have total from new)
 RmlvGives lv patience old new (Err fault.Stuck) = RemovalEnds lv old (λ entered from. CommandStuck entered patience from new)
-RmlvGives lv patience old new (Err fault.Busy) = IsRefused (RefusesRmlv lv) fault.Busy old new
-RmlvGives lv patience old new (Err fault.NoVolume) = IsRefused (RefusesRmlv lv) fault.NoVolume old new
-RmlvGives lv patience old new (Err fault.HistoryFull) = IsRefused (RefusesRmlv lv) fault.HistoryFull old new
-RmlvGives lv patience old new (Err fault.Memory) = IsRefused (RefusesRmlv lv) fault.Memory old new
+RmlvGives lv patience old new (Err fault.Busy) = RefusesFor (RefusesRmlv lv) fault.Busy old new
+RmlvGives lv patience old new (Err fault.NoVolume) = RefusesFor (RefusesRmlv lv) fault.NoVolume old new
+RmlvGives lv patience old new (Err fault.HistoryFull) = RefusesFor (RefusesRmlv lv) fault.HistoryFull old new
+RmlvGives lv patience old new (Err fault.Memory) = RefusesFor (RefusesRmlv lv) fault.Memory old new
 RmlvGives lv patience old new (Err _) = ⊥

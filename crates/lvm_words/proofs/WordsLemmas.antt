@@ -15,7 +15,7 @@ use Rattle.clap.proofs.OnLiterals.{clap_on_literals}
 use Rattle.lvm_parse.specs.Words.{number_in}
 use Rattle.lvm_words.specs.CommandLine.{is_plain, is_signed, lvm_app, script_app, weave_app}
 use Rattle.lvm_words.specs.Matched.{job_matched, unsigned_in, with_all, with_both}
-use Rattle.lvm_words.specs.Words.{IsWithin, bounded, gen_of, image_of, work_of, sim_of, weave_by, weave_of, with_five, with_two}
+use Rattle.lvm_words.specs.Words.{IsJobWithinLimits, bounded, gen_of, image_of, work_of, sim_of, weave_by, weave_of, with_five, with_two}
 use Rattle.lvm_words.specs.declared.job.Job.{Job}
 use Rattle.lvm_words.specs.declared.job.Job.TheVariants as job
 use Rattle.lvm_words.specs.declared.fault.WordsFault.{WordsFault}
@@ -24,7 +24,7 @@ use Rattle.lvm_words.proofs.MatchedLemmas.{accepted_number, both_true, number_ac
 use Rattle.lvm_words.proofs.CommandLineLemmas.{app_for, clients_parser, disks_parser, fails, fails_first, first_parser, five_entered, five_five, five_four, five_kinds, five_more, five_none, five_one, five_three, five_two, gen, image, level, level_more, level_none, level_one, level_two, mib_parser, none_fault, Numbered, numbered_entered, numbered_fault, requests_parser, script_alone, script_fault, script_more, second_parser, seed_parser, sim, two_kinds, unknown_fault, weave_fault}
 
 pub data Outcome (words : List Text) : Type 0 where
-  asks : (j : Job) → work_of words ≡ Ok j → IsWithin j → fault_of lvm_app words ≡ [] → job_matched (subcommand_of lvm_app words) ≡ Some j → Outcome words
+  asks : (j : Job) → work_of words ≡ Ok j → IsJobWithinLimits j → fault_of lvm_app words ≡ [] → job_matched (subcommand_of lvm_app words) ≡ Some j → Outcome words
   refused : work_of words ≡ Err Usage → fails (fault_of lvm_app words) ≡ true → Outcome words
 
 -- ---- `script`
@@ -89,7 +89,7 @@ second_ok image word = accepts false (second_parser image) word
 
 -- two numbers within their bounds
 both_within : (j : Numbered) (first second : ℕ) → first_low j ≤ first → first ≤ first_high j → second_low j ≤ second → second ≤ second_high j
-    → (job_by j (Some first) (Some second) ≡ Ok (job_with j first second)) × IsWithin (job_with j first second)
+    → (job_by j (Some first) (Some second) ≡ Ok (job_with j first second)) × IsJobWithinLimits (job_with j first second)
 both_within sim first second a b c d = (rw (le-leb 1 first a, le-leb first 32 b, le-leb 1 second c, le-leb second 64 d) refl, (a, b, c, d))
 both_within gen first second a b c d = (rw (le-leb second 100000 d) refl, d)
 both_within image first second a b c d = (rw (le-leb first 127 b, le-leb 1 second c, le-leb second 4096 d) refl, (b, c, d))
@@ -508,10 +508,10 @@ not_plain (name ∷ a ∷ b ∷ c ∷ d ∷ e ∷ []) mixed = go (bytes_eq name 
 not_plain (name ∷ a ∷ b ∷ c ∷ d ∷ e ∷ f ∷ more) mixed = refl
 
 -- where `clap` finds no fault the job is found, and is what the words ask for
-pub job_found : (words : List Text) → list_all is_plain words ≡ true → fault_of lvm_app words ≡ [] → (found : Option Job) → found ≡ job_matched (subcommand_of lvm_app words) → (j : Job) × (found ≡ Some j) × (work_of words ≡ Ok j) × IsWithin j
+pub job_found : (words : List Text) → list_all is_plain words ≡ true → fault_of lvm_app words ≡ [] → (found : Option Job) → found ≡ job_matched (subcommand_of lvm_app words) → (j : Job) × (found ≡ Some j) × (work_of words ≡ Ok j) × IsJobWithinLimits j
 job_found words plain faultless found is = go (outcome words plain)
   where
-    go : Outcome words → (j : Job) × (found ≡ Some j) × (work_of words ≡ Ok j) × IsWithin j
+    go : Outcome words → (j : Job) × (found ≡ Some j) × (work_of words ≡ Ok j) × IsJobWithinLimits j
     go (asks j asked within free matched) = (j, is ∙ matched, asked, within)
     go (refused none fails_so) = let bad : fails [] ≡ true = ap fails (sym faultless) ∙ fails_so in absurd (cc)
 

@@ -130,12 +130,12 @@ abbrev pub job_of : List (List ℕ) → Result Job WordsFault
 job_of words = told_or (told_of words) (asked_of words)
 
 -- what is asked for is as large as it may be
-abbrev pub IsWithin : Job → Type 0
-IsWithin Script = Unit {0}
-IsWithin (Sim disks mib) = (1 ≤ disks) × (disks ≤ 32) × (1 ≤ mib) × (mib ≤ 64)
-IsWithin (Gen seed count) = count ≤ 100000
-IsWithin (Weave disks mib clients requests seed) = (1 ≤ disks) × (disks ≤ 8) × (8 ≤ mib) × (mib ≤ 64) × (1 ≤ clients) × (clients ≤ 64) × (requests ≤ 50000)
-IsWithin (Load own sync group volume threads requests seed) = (1 ≤ threads) × (threads ≤ 128) × (requests ≤ 50000)
-IsWithin (Image disk mib) = (disk ≤ 127) × (1 ≤ mib) × (mib ≤ 4096)
-IsWithin Help = Unit {0}
-IsWithin Version = Unit {0}
+abbrev pub IsJobWithinLimits : Job → Type 0
+IsJobWithinLimits Script = Unit {0}
+IsJobWithinLimits (Sim disks mib) = (1 ≤ disks) × (disks ≤ 32) × (1 ≤ mib) × (mib ≤ 64)
+IsJobWithinLimits (Gen seed count) = count ≤ 100000
+IsJobWithinLimits (Weave disks mib clients requests seed) = (1 ≤ disks) × (disks ≤ 8) × (8 ≤ mib) × (mib ≤ 64) × (1 ≤ clients) × (clients ≤ 64) × (requests ≤ 50000)
+IsJobWithinLimits (Load own sync group volume threads requests seed) = (1 ≤ threads) × (threads ≤ 128) × (requests ≤ 50000)
+IsJobWithinLimits (Image disk mib) = (disk ≤ 127) × (1 ≤ mib) × (mib ≤ 4096)
+IsJobWithinLimits Help = Unit {0}
+IsJobWithinLimits Version = Unit {0}

@@ -2,7 +2,7 @@
 ghost use Rattle.std.specs.Prelude.{◌≡◌, ◌≤◌, ◌^◌, ◌<◌, IfSome};
 ghost use Rattle.std.specs.Str.{bytes_eq};
 ghost use Rattle.lvm_parse.specs.Words.{number_in};
-ghost use Rattle.lvm_words.specs.Words.{IsWithin, bounded, load_among, load_by, load_of, load_with_both};
+ghost use Rattle.lvm_words.specs.Words.{IsJobWithinLimits, bounded, load_among, load_by, load_of, load_with_both};
 
 use crate::job::Job;
 use lvm_num::Text;
@@ -44,7 +44,7 @@ fn load_by(
     seed: &Text,
 ) -> Option<Job>
     ensures load { result ≡ load_by own sync group.now volume.now threads.now requests.now seed.now }
-    ensures within { IfSome result IsWithin }
+    ensures within { IfSome result IsJobWithinLimits }
 {
     Some(Job::Load {
         own,
@@ -70,7 +70,7 @@ fn load_among(
     f: &Text,
 ) -> Option<Job>
     ensures load { result ≡ load_among option.now own sync a.now b.now c.now d.now e.now f.now }
-    ensures within { IfSome result IsWithin }
+    ensures within { IfSome result IsJobWithinLimits }
 {
     if is_option(a, option) {
         load_by(own, sync, b, c, d, e, f)
@@ -100,7 +100,7 @@ fn load_with_both(
     g: &Text,
 ) -> Option<Job>
     ensures load { result ≡ load_with_both a.now b.now c.now d.now e.now f.now g.now }
-    ensures within { IfSome result IsWithin }
+    ensures within { IfSome result IsJobWithinLimits }
 {
     if is_option(a, SYNC) {
         load_among(OWN, true, true, b, c, d, e, f, g)
@@ -124,7 +124,7 @@ fn load_with_both(
 /// The load that is asked for behind the word `load`, if one is.
 pub(crate) fn load_of(words: &[Text]) -> Option<Job>
     ensures load { result ≡ load_of words.now }
-    ensures within { IfSome result IsWithin }
+    ensures within { IfSome result IsJobWithinLimits }
 {
     match words {
         [a, b, c, d, e] => load_by(false, false, a, b, c, d, e),

@@ -1,6 +1,6 @@
 //! What the words of the command line ask for.
 ghost use Rattle.std.specs.Prelude.{◌≡◌, Ok, Err, IfOk, IfSome, true};
-ghost use Rattle.lvm_words.specs.Words.{told_by, told_of, work_of, asked_of, is_load, job_of, IsWithin};
+ghost use Rattle.lvm_words.specs.Words.{told_by, told_of, work_of, asked_of, is_load, job_of, IsJobWithinLimits};
 
 use crate::fault::WordsFault;
 use crate::job::Job;
@@ -38,7 +38,7 @@ fn told_of(words: &[Text]) -> Option<Job>
 fn read_work(alloc: Global, words: &[Text]) -> Result<Job, WordsFault>
     ensures job { IfOk result (λ job. work_of words.now ≡ Ok job) }
     ensures usage { result ≡ Err WordsFault.Usage → work_of words.now ≡ Err WordsFault.Usage }
-    ensures within { IfOk result IsWithin }
+    ensures within { IfOk result IsJobWithinLimits }
 {
     let plain = plain_words(alloc, words)?;
     let matches = parse(alloc, plain.as_slice())?;
@@ -49,7 +49,7 @@ fn read_work(alloc: Global, words: &[Text]) -> Result<Job, WordsFault>
 fn read_asked(alloc: Global, words: &[Text]) -> Result<Job, WordsFault>
     ensures job { IfOk result (λ job. asked_of words.now ≡ Ok job) }
     ensures usage { result ≡ Err WordsFault.Usage → asked_of words.now ≡ Err WordsFault.Usage }
-    ensures within { IfOk result IsWithin }
+    ensures within { IfOk result IsJobWithinLimits }
     ensures loads { is_load words.now ≡ true → result ≡ asked_of words.now }
 {
     match words {
@@ -67,7 +67,7 @@ fn read_asked(alloc: Global, words: &[Text]) -> Result<Job, WordsFault>
 pub fn read_words(alloc: Global, words: &[Text]) -> Result<Job, WordsFault>
     ensures job { IfOk result (λ job. job_of words.now ≡ Ok job) }
     ensures usage { result ≡ Err WordsFault.Usage → job_of words.now ≡ Err WordsFault.Usage }
-    ensures within { IfOk result IsWithin }
+    ensures within { IfOk result IsJobWithinLimits }
     ensures told { IfSome (told_of words.now) (λ job. result ≡ Ok job) }
     ensures loads { is_load words.now ≡ true → result ≡ asked_of words.now }
 {

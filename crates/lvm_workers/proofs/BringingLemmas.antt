@@ -6,10 +6,10 @@ use native.Mathlib.Decide.{ℕ_discrete}
 use Rattle.atomic_table.specs.Seated.{TableId}
 use Rattle.lvm_num.specs.Buffer.{Sector}
 use Rattle.lvm_num.specs.Counting.{RoseBy}
-use Rattle.lvm_vol.specs.Facts.{Request, Fact, Stands}
-use Rattle.lvm_vol.specs.Fronts.{Begins, NoneFell, Told}
+use Rattle.lvm_vol.specs.Facts.{Request, Fact, IsInList}
+use Rattle.lvm_vol.specs.Fronts.{IsPrefixOf, NoneFell, Told}
 use Rattle.lvm_vol.proofs.FrontsLemmas.{begins_itself, none_fell}
-use Rattle.lvm_turn.specs.Calls.{IsIdle}
+use Rattle.lvm_turn.specs.Calls.{IsIdlePass}
 use Rattle.lvm_turn.specs.Views.{Client, HoldsAll, Standing, View, counted, joined, numbers, up_to, with_client_alone, without, without_client}
 use Rattle.lvm_turn.proofs.CallsLemmas.Ends.{all_there}
 use Rattle.lvm_turn.proofs.ViewsLemmas.Clients.{holds-numbers, numbers-append, numbers-holds}
@@ -20,17 +20,17 @@ use Rattle.lvm_workers.specs.declared.service.Asked.{Asked}
 use Rattle.lvm_workers.specs.declared.work.Tally.{Tally}
 use Rattle.lvm_workers.specs.declared.words.Draw.{Draw}
 use Rattle.lvm_workers.specs.Bringing.{HasEnded, HasToured, KeepsOwn, MadeAt, WaitsBy}
-use Rattle.lvm_workers.specs.Crews.{AllMade, IsWhole, SeenAs, begun_over, job_of}
-use Rattle.lvm_workers.specs.Knowing.{HasCause, Knows, MayEnd, WasUnheard, first_own}
+use Rattle.lvm_workers.specs.Crews.{AllMade, HoldsAllClients, SeenAs, begun_over, job_of}
+use Rattle.lvm_workers.specs.Knowing.{TallyHasCause, Knows, MayEnd, WasUnheard, first_own}
 use Rattle.lvm_workers.specs.Making.{AllAnswered, HasMade, NoneServed}
 use Rattle.lvm_workers.proofs.CrewsLemmas.{all_for, begun_both, fresh_pass, made_both, parted, taken_in, without_last}
 use Rattle.lvm_workers.proofs.KnowingLemmas.{cause_since, end_on, end_since, knows_further, made_on, made_since, met_knows, met_other, rose_more, rose_on}
 
-stands_left : (c : ℕ) (xs ys : List ℕ) → Stands c xs → Stands c (xs ++ ys)
+stands_left : (c : ℕ) (xs ys : List ℕ) → IsInList c xs → IsInList c (xs ++ ys)
 stands_left c [] ys there = absurd there
-stands_left c (x ∷ xs) ys there = ⊎_elim (λ (here : x ≡ c). inl here) (λ (rest : Stands c xs). inr (stands_left c xs ys rest)) there
+stands_left c (x ∷ xs) ys there = ⊎_elim (λ (here : x ≡ c). inl here) (λ (rest : IsInList c xs). inr (stands_left c xs ys rest)) there
 
-stands_right : (c : ℕ) (xs ys : List ℕ) → Stands c ys → Stands c (xs ++ ys)
+stands_right : (c : ℕ) (xs ys : List ℕ) → IsInList c ys → IsInList c (xs ++ ys)
 stands_right c [] ys there = there
 stands_right c (x ∷ xs) ys there = inr (stands_right c xs ys there)
 
@@ -52,7 +52,7 @@ none_made asks Ended ended seed requests own none = subst (HasMade asks Ended se
 
 -- a cause stays one, where a pass knows more, and the waits haven't fallen
 cause_later : (WasRefused : View → Type 0) (stays : (v u : View) → Knows v u → WasRefused v → WasRefused u) (waits : List ℕ → ℕ) (first v w : View) (t : Tally) → Knows v w → waits v.counts ≤ waits w.counts
-    → HasCause WasRefused waits first v t → HasCause WasRefused waits first w t
+    → TallyHasCause WasRefused waits first v t → TallyHasCause WasRefused waits first w t
 cause_later WasRefused stays waits first v w t knows later cause = record {
   unbegun = λ some_are. ⊎_elim (λ (r : WasRefused v). inl (stays v w knows r)) (λ (u : WasUnheard waits first v). inr (on u)) (cause.unbegun some_are);
   unheard = λ is. on (cause.unheard is);
@@ -80,7 +80,7 @@ module _ (table : TableId) (n k : ℕ) (e : k ≡ suc n) (p p1 o o1 : Standing) 
   pub rest_holds : p1.knows.clients ≡ up_to n
   rest_holds = ap (λ (s : Standing). s.knows.clients) kept ∙ ap (without k) held ∙ without_last n k e
 
-  pub other_idle : IsIdle table (k ∷ []) o
+  pub other_idle : IsIdlePass table (k ∷ []) o
   other_idle = (fresh_pass table n k p o e at outside held given).0
 
   module _ (brought : KeepsOwn table k o o1) where
@@ -88,11 +88,11 @@ module _ (table : TableId) (n k : ℕ) (e : k ≡ suc n) (p p1 o o1 : Standing) 
     other_own = brought.own ∙ (fresh_pass table n k p o e at outside held given).1
 
     -- The workers leave w, which takes in o1 and is q then.
-    module _ (w q : Standing) (met : q ≡ record w { knows = joined w.knows o1.knows }) (front : Begins w.knows.front q.knows.front) where
+    module _ (w q : Standing) (met : q ≡ record w { knows = joined w.knows o1.knows }) (front : IsPrefixOf w.knows.front q.knows.front) where
       abbrev clients_are : q.knows.clients ≡ w.knows.clients ++ o1.knows.clients
       clients_are = ap (λ (s : Standing). s.knows.clients) met
 
-      pub whole_idle : IsIdle table (counted n) w → IsIdle table (counted k) q
+      pub whole_idle : IsIdlePass table (counted n) w → IsIdlePass table (counted k) q
       whole_idle idle = taken_in table k w o1 q n e idle brought.idle met
 
       pub whole_knows : Knows p1.knows w.knows → Knows p.knows q.knows
@@ -111,7 +111,7 @@ module _ (table : TableId) (n k : ℕ) (e : k ≡ suc n) (p p1 o o1 : Standing) 
             omega (arith, sum, same)
 
       pub whole_cause : (WasRefused : View → Type 0) (stays : (v u : View) → Knows v u → WasRefused v → WasRefused u) (waits : List ℕ → ℕ) → waits w.knows.counts ≤ waits q.knows.counts → (t : Tally)
-          → HasCause WasRefused waits p1.knows w.knows t → HasCause WasRefused waits p.knows q.knows t
+          → TallyHasCause WasRefused waits p1.knows w.knows t → TallyHasCause WasRefused waits p.knows q.knows t
       whole_cause WasRefused stays waits later t cause =
           cause_later WasRefused stays waits p.knows w.knows q.knows t (met_knows w o1 q met front) later
           (cause_since WasRefused waits p.knows p1.knows w.knows t (parted k p p1 kept).1.1 cause)
@@ -124,8 +124,8 @@ module _ (table : TableId) (n k : ℕ) (e : k ≡ suc n) (p p1 o o1 : Standing) 
 
       -- and all places were gone through
       module _ {V : Type 0} (tells : V → Told) (past : V → Option (List (List Sector))) (always : V → Type 0) (brings : V → ℕ → Brought → V → Type 0) (waits : List ℕ → ℕ) (later : waits o1.knows.counts ≤ waits q.knows.counts)
-          (knows : Knows p1.knows w.knows) (other_front : Begins o1.knows.front q.knows.front) where
-        fresh : IsIdle table (k ∷ []) o × (first_own o.knows.clients ≡ []) × SeenAs p.knows o.knows
+          (knows : Knows p1.knows w.knows) (other_front : IsPrefixOf o1.knows.front q.knows.front) where
+        fresh : IsIdlePass table (k ∷ []) o × (first_own o.knows.clients ≡ []) × SeenAs p.knows o.knows
         fresh = fresh_pass table n k p o e at outside held given
 
         other_knows : Knows o1.knows q.knows
@@ -135,7 +135,7 @@ module _ (table : TableId) (n k : ℕ) (e : k ≡ suc n) (p p1 o o1 : Standing) 
         made_whole at_place said was =
             made_on tells past always (λ x y. brings x at_place said y) p.knows o1.knows q.knows other_knows
             (made_since tells past always (λ x y. brings x at_place said y) p.knows o.knows o1.knows
-            (subst (λ (f : List Fact). Begins p.knows.front f) (sym (ap (λ (s : Standing). s.knows.front) given)) (begins_itself p.knows.front))
+            (subst (λ (f : List Fact). IsPrefixOf p.knows.front f) (sym (ap (λ (s : Standing). s.knows.front) given)) (begins_itself p.knows.front))
             (subst (λ (l : List ℕ). NoneFell p.knows.counts l) (sym fresh.2.1) (none_fell p.knows.counts)) was)
 
         pub whole_ended : HasEnded tells past always brings waits o.knows o1.knows → HasEnded tells past always brings waits p.knows q.knows
@@ -149,23 +149,23 @@ module _ (table : TableId) (n k : ℕ) (e : k ≡ suc n) (p p1 o o1 : Standing) 
             (subst (λ (l : List ℕ). RoseBy 1000000 (waits l) (waits o1.knows.counts)) fresh.2.1 unheard) later))
 
       -- where the workers' pass came back as it was, all clients are there again
-      pub whole_back : w ≡ p1 → IsWhole table k q
+      pub whole_back : w ≡ p1 → HoldsAllClients table k q
       whole_back same = record {
         at = ap (λ (s : Standing). s.table) met ∙ ap (λ (s : Standing). s.table) same ∙ rest_at;
         outside = ap (λ (s : Standing). s.knows.inside) met ∙ ap (λ (s : Standing). s.knows.inside) same ∙ rest_outside;
-        all = λ c low high. numbers-holds q.knows.clients c (subst (Stands c) (sym numbers_are) (stands c low high));
+        all = λ c low high. numbers-holds q.knows.clients c (subst (IsInList c) (sym numbers_are) (stands c low high));
       }
         where
           numbers_are : numbers q.knows.clients ≡ numbers (up_to n) ++ k ∷ []
           numbers_are = ap numbers clients_are ∙ numbers-append w.knows.clients o1.knows.clients ∙ (λ i. numbers ((ap (λ (s : Standing). s.knows.clients) same ∙ rest_holds) i) ++ brought.idle.holds i)
 
-          stands : (c : ℕ) → 0 < c → c ≤ k → Stands c (numbers (up_to n) ++ k ∷ [])
+          stands : (c : ℕ) → 0 < c → c ≤ k → IsInList c (numbers (up_to n) ++ k ∷ [])
           stands c low high = dite (ℕ_discrete k c)
               (λ (is : k ≡ c). stands_right c (numbers (up_to n)) (k ∷ []) (inl is))
               (λ apart. stands_left c (numbers (up_to n)) (k ∷ []) (holds-numbers (up_to n) c (all_there n c low (omega arith))))
 
 -- a pass of the clients 1 to n holds each of them
-pub whole_still : (table : TableId) (n : ℕ) (p q : Standing) → p.table ≡ table → p.knows.inside ≡ false → p.knows.clients ≡ up_to n → q ≡ p → IsWhole table n q
+pub whole_still : (table : TableId) (n : ℕ) (p q : Standing) → p.table ≡ table → p.knows.inside ≡ false → p.knows.clients ≡ up_to n → q ≡ p → HoldsAllClients table n q
 whole_still table n p q at outside held same = record {
   at = ap (λ (s : Standing). s.table) same ∙ at;
   outside = ap (λ (s : Standing). s.knows.inside) same ∙ outside;
@@ -173,6 +173,6 @@ whole_still table n p q at outside held same = record {
 }
 
 -- so does one that came back as it was, for want of memory
-pub back_whole : {A : Type 0} (table : TableId) (n : ℕ) (p : Standing) (r : Result A Standing) → p.table ≡ table → p.knows.inside ≡ false → p.knows.clients ≡ up_to n → IfErr r (λ (q : Standing). q ≡ p) → IfErr r (IsWhole table n)
+pub back_whole : {A : Type 0} (table : TableId) (n : ℕ) (p : Standing) (r : Result A Standing) → p.table ≡ table → p.knows.inside ≡ false → p.knows.clients ≡ up_to n → IfErr r (λ (q : Standing). q ≡ p) → IfErr r (HoldsAllClients table n)
 back_whole table n p (Ok a) at outside held same = tt
 back_whole table n p (Err q) at outside held same = whole_still table n p q at outside held same

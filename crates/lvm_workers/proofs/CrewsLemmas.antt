@@ -8,15 +8,15 @@ use Rattle.atomic_table.specs.Seated.{TableId}
 use Rattle.crossbeam_utils.specs.Padded.{padded_value}
 use Rattle.lvm_vol.specs.Facts.{Request, Fact, begun}
 use Rattle.lvm_vol.proofs.FrontsLemmas.{begins_itself, none_fell}
-use Rattle.lvm_turn.specs.Calls.{IsIdle}
+use Rattle.lvm_turn.specs.Calls.{IsIdlePass}
 use Rattle.lvm_turn.proofs.CallsLemmas.Idle.{idle_joined}
-use Rattle.lvm_turn.specs.Views.{Client, Holds, Owns, Standing, View, counted, joined, numbers, only, up_to, with_client_alone, without, without_client}
+use Rattle.lvm_turn.specs.Views.{Client, HoldsClient, Owns, Standing, View, counted, joined, numbers, only, up_to, with_client_alone, without, without_client}
 use Rattle.lvm_workers.specs.declared.crew.Crew.{Crew}
 use Rattle.lvm_workers.specs.declared.crew.Worker.{Worker}
 use Rattle.lvm_workers.specs.declared.work.Job.{Job}
 use Rattle.lvm_workers.specs.declared.service.Asked.{Asked}
 use Rattle.lvm_workers.specs.declared.words.Draw.{Draw}
-use Rattle.lvm_workers.specs.Crews.{AllDone, AllIdle, AllMade, AllReady, AllWorked, IsDone, IsReady, SeenAs, begun_over, extra, job_of, shares}
+use Rattle.lvm_workers.specs.Crews.{AllDone, AllIdle, AllMade, AllReady, AllWorked, IsDone, HasMadeNothing, SeenAs, begun_over, extra, job_of, shares}
 use Rattle.lvm_workers.specs.Knowing.{Knows, MayEnd, first_own}
 use Rattle.lvm_workers.specs.Making.{HasMade}
 use Rattle.lvm_workers.proofs.KnowingLemmas.{cause_since, end_since}
@@ -49,12 +49,12 @@ only_last : (n k : ℕ) → k ≡ suc n → only k (up_to (suc n)) ≡ idle_clie
 only_last n k e =
     ap (λ b. cond b (idle_client (suc n) ∷ only k (up_to n)) (only k (up_to n))) (eq-eqb (suc n) k (sym e)) ∙ ap (λ l. idle_client (suc n) ∷ l) (only_none n k (omega arith))
 
-pub holds_last : (n k : ℕ) → k ≡ suc n → Holds (up_to (suc n)) k
+pub holds_last : (n k : ℕ) → k ≡ suc n → HoldsClient (up_to (suc n)) k
 holds_last n k e = ([], inl (sym e, refl))
 
 -- a pass that was split off for the last of n + 1 clients has made nothing
 pub fresh_pass : (table : TableId) (n k : ℕ) (p r : Standing) → k ≡ suc n → p.table ≡ table → p.knows.inside ≡ false → p.knows.clients ≡ up_to (suc n)
-    → r ≡ record p { knows = with_client_alone k p.knows } → IsIdle table (k ∷ []) r × (first_own r.knows.clients ≡ []) × SeenAs p.knows r.knows
+    → r ≡ record p { knows = with_client_alone k p.knows } → IsIdlePass table (k ∷ []) r × (first_own r.knows.clients ≡ []) × SeenAs p.knows r.knows
 fresh_pass table n k p r e at outside clients is =
     let own : r.knows.clients ≡ idle_client (suc n) ∷ [] = ap (λ (s : Standing). s.knows.clients) is ∙ ap (only k) clients ∙ only_last n k e in (
       record {
@@ -212,7 +212,7 @@ pub seen_further : (u v w : View) → SeenAs u v → SeenAs v w → SeenAs u w
 seen_further u v w a b = (b.0 ∙ a.0, b.1 ∙ a.1)
 
 abbrev pub ReadyAt : TableId → ℕ → View → Crew → ℕ → Worker → Type 0
-ReadyAt table clients first crew i w = (i < crew.threads) × IsReady table clients w × (w.job ≡ job_of crew (crew.threads - i)) × SeenAs first w.pass.knows
+ReadyAt table clients first crew i w = (i < crew.threads) × HasMadeNothing table clients w × (w.job ≡ job_of crew (crew.threads - i)) × SeenAs first w.pass.knows
 
 pub ready_one : (table : TableId) (clients : ℕ) (first : View) (crew : Crew) (i n : ℕ) (p : Standing) (w : Worker) → crew.threads - i ≡ suc n → i < crew.threads → crew.threads ≤ clients
     → w.job ≡ job_of crew (crew.threads - i) → p.table ≡ table → p.knows.inside ≡ false → p.knows.clients ≡ up_to (crew.threads - i) → SeenAs first p.knows
@@ -223,7 +223,7 @@ ready_one table clients first crew i n p w e low few job at outside held seen is
     let same : w.job.client ≡ k = ap (λ (j : Job). j.client) job in (
       low,
       record {
-        idle = subst (λ m. IsIdle table (m ∷ []) w.pass) (sym same) fresh.0;
+        idle = subst (λ m. IsIdlePass table (m ∷ []) w.pass) (sym same) fresh.0;
         client = (omega (arith, same, e), omega (arith, same, few));
         fresh = fresh.1;
       },
@@ -235,10 +235,10 @@ ready_one table clients first crew i n p w e low few job at outside held seen is
 
 module _ (table : TableId) (k : ℕ) (p w q : Standing) where
   -- the numbers of the clients, once a pass has taken in that of one client more
-  pub taken_in : (j : ℕ) → k ≡ suc j → IsIdle table (counted j) p → IsIdle table (k ∷ []) w → q ≡ record p { knows = joined p.knows w.knows } → IsIdle table (counted k) q
+  pub taken_in : (j : ℕ) → k ≡ suc j → IsIdlePass table (counted j) p → IsIdlePass table (k ∷ []) w → q ≡ record p { knows = joined p.knows w.knows } → IsIdlePass table (counted k) q
   taken_in j e mine theirs is =
       let both : counted j ++ k ∷ [] ≡ counted k = ap (λ m. counted j ++ m ∷ []) e ∙ ap counted (sym e) in
-      subst (λ ns. IsIdle table ns q) both (idle_joined table (counted j) p mine (k ∷ []) w q theirs is)
+      subst (λ ns. IsIdlePass table ns q) both (idle_joined table (counted j) p mine (k ∷ []) w q theirs is)
 
 -- two tallies, neither of which passes what the crew makes, don't pass it together
 pub room_for_both : (a b c d m n all : ℕ) → a + b ≡ m → c + d ≡ n → m + n ≤ all → all < 2 ^ 32 → (a + c < 2 ^ 32) × (b + d < 2 ^ 32)

@@ -2,7 +2,7 @@
 use Rattle.std.proofs.Common.{◌≡◌, ◌≤◌, ◌<◌, ◌+◌, ◌⊎◌, ◌||◌, ℕ, zero, suc, Bool, true, false, Option, List, [], ◌∷◌, refl, sym, ap, ◌∙◌, subst, ⊎_elim, inl, inr, arith}
 use Rattle.lvm_num.specs.Buffer.{Sector}
 use Rattle.lvm_num.specs.Counting.{RoseBy}
-use Rattle.lvm_vol.specs.Fronts.{Told, Begins, NoneFell}
+use Rattle.lvm_vol.specs.Fronts.{Told, IsPrefixOf, NoneFell}
 use Rattle.lvm_vol.proofs.FrontsLemmas.{begins_itself, begins_further, none_fell, none_fell_further}
 use Rattle.lvm_turn.specs.Views.{Standing, View, greater, joined}
 use Rattle.lvm_workers.specs.declared.service.Asked.{Asked}
@@ -10,7 +10,7 @@ use Rattle.lvm_workers.specs.declared.service.Asked.TheVariants as asked
 use Rattle.lvm_workers.specs.declared.words.Draw.{Draw}
 use Rattle.lvm_workers.specs.declared.work.Tally.{Tally}
 use Rattle.lvm_workers.specs.Crews.{added}
-use Rattle.lvm_workers.specs.Knowing.{HasCause, Knows, MayEnd, Refused, RefusedAs, WasMade, WasUnheard}
+use Rattle.lvm_workers.specs.Knowing.{TallyHasCause, Knows, MayEnd, Refused, RefusedAs, WasMade, WasUnheard}
 
 pub knows_itself : (v : View) → Knows v v
 knows_itself v = record { fixed = refl; front = begins_itself v.front; counts = none_fell v.counts }
@@ -68,7 +68,7 @@ module _ {V : Type 0} (tells : V → Told) (past : V → Option (List (List Sect
     rises = none_fell_further (tells was.to).counts v.counts w.counts was.rises knows.counts;
   }
 
-  pub made_since : (first start v : View) → Begins first.front start.front → NoneFell first.counts start.counts → WasMade tells past always Makes start v → WasMade tells past always Makes first v
+  pub made_since : (first start v : View) → IsPrefixOf first.front start.front → NoneFell first.counts start.counts → WasMade tells past always Makes start v → WasMade tells past always Makes first v
   made_since first start v front counts was = record {
     from = was.from;
     to = was.to;
@@ -89,14 +89,14 @@ module _ (WasRefused : View → Type 0) (stays : (v w : View) → Knows v w → 
   unheard_before first v w knows rose = rose_before 1000000 (waits first.counts) (waits v.counts) (waits w.counts) (grow first.counts v.counts knows.counts) rose
 
   -- a cause stays one
-  pub cause_on : (first v w : View) (t : Tally) → Knows v w → HasCause WasRefused waits first v t → HasCause WasRefused waits first w t
+  pub cause_on : (first v w : View) (t : Tally) → Knows v w → TallyHasCause WasRefused waits first v t → TallyHasCause WasRefused waits first w t
   cause_on first v w t knows cause = record {
     unbegun = λ some_are. ⊎_elim (λ (r : WasRefused v). inl (stays v w knows r)) (λ (u : WasUnheard waits first v). inr (unheard_on first v w knows u)) (cause.unbegun some_are);
     unheard = λ is. unheard_on first v w knows (cause.unheard is);
   }
 
   -- the causes of two tallies are those of both
-  pub cause_both : (first v : View) (t u : Tally) → HasCause WasRefused waits first v t → HasCause WasRefused waits first v u → HasCause WasRefused waits first v (added t u)
+  pub cause_both : (first v : View) (t u : Tally) → TallyHasCause WasRefused waits first v t → TallyHasCause WasRefused waits first v u → TallyHasCause WasRefused waits first v (added t u)
   cause_both first v t u a b = record {
     unbegun = λ some_are. by t.unbegun refl some_are;
     unheard = λ is. either t.unheard refl is;
@@ -112,7 +112,7 @@ module _ (WasRefused : View → Type 0) (stays : (v w : View) → Knows v w → 
 
 module _ (WasRefused : View → Type 0) (waits : List ℕ → ℕ) where
   -- where the counts at first are the same
-  pub cause_since : (first start v : View) (t : Tally) → start.counts ≡ first.counts → HasCause WasRefused waits start v t → HasCause WasRefused waits first v t
+  pub cause_since : (first start v : View) (t : Tally) → start.counts ≡ first.counts → TallyHasCause WasRefused waits start v t → TallyHasCause WasRefused waits first v t
   cause_since first start v t same cause = record {
     unbegun = λ some_are. ⊎_elim (λ (r : WasRefused v). inl r) (λ (u : WasUnheard waits start v). inr (moved u)) (cause.unbegun some_are);
     unheard = λ is. moved (cause.unheard is);
@@ -144,14 +144,14 @@ none_above_other (x ∷ xs) [] = tt
 none_above_other (x ∷ xs) (y ∷ ys) = (omega arith, none_above_other xs ys)
 
 -- what a pass knows that has taken in another
-pub met_knows : (p w q : Standing) → q ≡ record p { knows = joined p.knows w.knows } → Begins p.knows.front q.knows.front → Knows p.knows q.knows
+pub met_knows : (p w q : Standing) → q ≡ record p { knows = joined p.knows w.knows } → IsPrefixOf p.knows.front q.knows.front → Knows p.knows q.knows
 met_knows p w q is grows = record {
   fixed = ap (λ (s : Standing). s.knows.fixed) is;
   front = grows;
   counts = subst (λ k. NoneFell p.knows.counts k) (sym (ap (λ (s : Standing). s.knows.counts) is)) (none_above p.knows.counts w.knows.counts);
 }
 
-pub met_other : (p w q : Standing) → q ≡ record p { knows = joined p.knows w.knows } → Begins w.knows.front q.knows.front → w.knows.fixed ≡ p.knows.fixed → Knows w.knows q.knows
+pub met_other : (p w q : Standing) → q ≡ record p { knows = joined p.knows w.knows } → IsPrefixOf w.knows.front q.knows.front → w.knows.fixed ≡ p.knows.fixed → Knows w.knows q.knows
 met_other p w q is grows same = record {
   fixed = ap (λ (s : Standing). s.knows.fixed) is ∙ sym same;
   front = grows;

@@ -12,7 +12,7 @@ use Rattle.lvm_workers.specs.declared.service.Seen.TheVariants as seen
 use Rattle.lvm_workers.specs.declared.words.Draw.{Draw}
 use Rattle.lvm_workers.specs.declared.work.Served.TheVariants as served
 use Rattle.lvm_workers.specs.Draws.{after_draw, after_draws, draw_at, seeded}
-use Rattle.lvm_workers.specs.Knowing.{HasCause, Knows, WasUnheard}
+use Rattle.lvm_workers.specs.Knowing.{TallyHasCause, Knows, WasUnheard}
 use Rattle.lvm_workers.specs.Making.{AllAnswered, HasMade, Made, OnePassed, OneServed, OneWaits, Served}
 use Rattle.lvm_workers.specs.Serving.{AskEnters, HasBegun, WasRefused}
 use Rattle.lvm_workers.specs.Working.{AskTells, AwaitsIn, IsAnswered, IsNotYet, IsPassed, IsRefused, IsTaken, IsUnheard, LookTells, ServeTells, WaitTells, own_of}
@@ -144,13 +144,13 @@ why_unheard Asks Refused waits old new (IsPassed why said stays) = absurd (cc sa
 why_unheard Asks Refused waits old new (IsRefused why said stays) = absurd (cc said)
 
 -- the cause that comes with one, and that of a job which ended so
-pub caused_by_refusal : (Refused : View → Type 0) (waits : List ℕ → ℕ) (first now : View) (b u : ℕ) → Refused now → HasCause Refused waits first now record { begun = b; unbegun = u; unheard = false }
+pub caused_by_refusal : (Refused : View → Type 0) (waits : List ℕ → ℕ) (first now : View) (b u : ℕ) → Refused now → TallyHasCause Refused waits first now record { begun = b; unbegun = u; unheard = false }
 caused_by_refusal Refused waits first now b u why = record { unbegun = λ some_are. inl why; unheard = λ is. absurd (cc is) }
 
-pub caused_by_silence : (Refused : View → Type 0) (waits : List ℕ → ℕ) (first now : View) (b u : ℕ) → WasUnheard waits first now → HasCause Refused waits first now record { begun = b; unbegun = u; unheard = true }
+pub caused_by_silence : (Refused : View → Type 0) (waits : List ℕ → ℕ) (first now : View) (b u : ℕ) → WasUnheard waits first now → TallyHasCause Refused waits first now record { begun = b; unbegun = u; unheard = true }
 caused_by_silence Refused waits first now b u unheard = record { unbegun = λ some_are. inr unheard; unheard = λ is. unheard }
 
-pub caused_at_end : (Refused : View → Type 0) (waits : List ℕ → ℕ) (first now : View) (b n requests : ℕ) → n ≡ requests → (b < n → Refused now) → HasCause Refused waits first now record { begun = b; unbegun = requests - b; unheard = false }
+pub caused_at_end : (Refused : View → Type 0) (waits : List ℕ → ℕ) (first now : View) (b n requests : ℕ) → n ≡ requests → (b < n → Refused now) → TallyHasCause Refused waits first now record { begun = b; unbegun = requests - b; unheard = false }
 caused_at_end Refused waits first now b n requests end why = record { unbegun = λ some_are. inl (why (omega (arith, end, some_are))); unheard = λ is. absurd (cc is) }
 
 -- the words of one request more are drawn

@@ -5,11 +5,11 @@ use Rattle.atomic_table.specs.Seated.{TableId}
 use Rattle.lvm_num.specs.Buffer.{Sector}
 use Rattle.lvm_num.specs.Counting.{RoseBy}
 use Rattle.lvm_vol.specs.Facts.{Request, Fact, Begun}
-use Rattle.lvm_vol.specs.Fronts.{Told, own, Begins, NoneFell}
+use Rattle.lvm_vol.specs.Fronts.{Told, own, IsPrefixOf, NoneFell}
 use Rattle.lvm_vol.proofs.FrontsLemmas.{begins_further, begins_itself, none_fell, none_fell_further}
-use Rattle.lvm_turn.specs.Calls.{Continues, HasEntered, IsIdle, MayLeave}
+use Rattle.lvm_turn.specs.Calls.{Continues, HasEntered, IsIdlePass, MayLeave}
 use Rattle.lvm_turn.specs.Rules.{fixed_of}
-use Rattle.lvm_turn.specs.Views.{Client, Holds, HoldsSome, Owns, Standing, View, leaves, numbers, renewed}
+use Rattle.lvm_turn.specs.Views.{Client, HoldsClient, HoldsSome, Owns, Standing, View, leaves, numbers, renewed}
 use Rattle.lvm_turn.proofs.CallsLemmas.Idle.{idle_holds, idle_left}
 use Rattle.lvm_turn.proofs.CallsLemmas.Leaving.{may_leave, own_left}
 use Rattle.lvm_workers.specs.declared.service.Asked.{Asked}
@@ -38,7 +38,7 @@ renewed_one : (c : ℕ) (history : List Fact) (xs : List Client) → numbers xs 
 renewed_one c history [] is = absurd (nil_cons c [] is)
 renewed_one c history (x ∷ xs) is = ap (λ n. own n history) (ap head_of is)
 
-module _ (table : TableId) (c : ℕ) (p : Standing) (idle : IsIdle table (c ∷ []) p) where
+module _ (table : TableId) (c : ℕ) (p : Standing) (idle : IsIdlePass table (c ∷ []) p) where
   pub its_own : Owns p.knows.clients c (own_of p.knows)
   its_own = owns_one c p.knows.clients idle.holds
 
@@ -50,19 +50,19 @@ module _ (table : TableId) (c : ℕ) (p : Standing) (idle : IsIdle table (c ∷ 
 module _ {V : Type 0} (tells : V → Told) (past : V → Option (List (List Sector))) (always : V → Type 0) where
   -- the pass of the client knows the value that it left, and what was added of its own
   pub record HasLeft (table : TableId) (c : ℕ) (p r : Standing) (z : V) (more : List Fact) : Type 0 where
-    pub idle : IsIdle table (c ∷ []) r
+    pub idle : IsIdlePass table (c ∷ []) r
     pub knows : Knows p.knows r.knows
     pub own_more : own_of r.knows ≡ own_of p.knows ++ own c more
     pub front_is : r.knows.front ≡ (tells z).entries
     pub counts_are : r.knows.counts ≡ (tells z).counts
     pub fixed_are : fixed_of tells past z ≡ r.knows.fixed
 
-  module _ (table : TableId) (c : ℕ) (p q : Standing) (y z : V) (more : List Fact) (idle : IsIdle table (c ∷ []) p) (entered : HasEntered p.knows (tells y) q.knows)
+  module _ (table : TableId) (c : ℕ) (p q : Standing) (y z : V) (more : List Fact) (idle : IsIdlePass table (c ∷ []) p) (entered : HasEntered p.knows (tells y) q.knows)
       (lent : Continues tells past always p.knows y) (grows : Grows tells past always y more z) where
     pub may : NoOthers c more → MayLeave tells past always q.knows z
     may others =
         may_leave tells past always p.knows q.knows y z more entered lent grows.entries_are
-        (λ k absent. others k (λ same. absent (subst (Holds p.knows.clients) (sym same) (it_holds table c p idle).1)))
+        (λ k absent. others k (λ same. absent (subst (HoldsClient p.knows.clients) (sym same) (it_holds table c p idle).1)))
         grows.fixed_same grows.none_fell grows.always_holds
 
     pub has_left : (r : Standing) → q.table ≡ p.table → r ≡ record q { knows = leaves (tells z) q.knows } → HasLeft table c p r z more
@@ -76,7 +76,7 @@ module _ {V : Type 0} (tells : V → Told) (past : V → Option (List (List Sect
           idle = idle_left table (c ∷ []) p idle q r (tells y) (tells z) at entered is;
           knows = record {
             fixed = fixed_same;
-            front = subst (λ f. Begins p.knows.front f) (sym front_is) (begins_further p.knows.front (tells y).entries (tells z).entries lent.front (more, grows.entries_are));
+            front = subst (λ f. IsPrefixOf p.knows.front f) (sym front_is) (begins_further p.knows.front (tells y).entries (tells z).entries lent.front (more, grows.entries_are));
             counts = subst (λ k. NoneFell p.knows.counts k) (sym counts_are) (none_fell_further p.knows.counts (tells y).counts (tells z).counts lent.none_fell grows.none_fell);
           };
           own_more =
@@ -102,7 +102,7 @@ module _ {V : Type 0} (tells : V → Told) (past : V → Option (List (List Sect
       why = why;
       holds = holds;
       fixed = sym gave.grows.fixed_same ∙ left.fixed_are;
-      front = subst (λ f. Begins (tells y).entries f) (sym left.front_is) (gave.more, gave.grows.entries_are);
+      front = subst (λ f. IsPrefixOf (tells y).entries f) (sym left.front_is) (gave.more, gave.grows.entries_are);
       counts = subst (λ k. NoneFell (tells y).counts k) (sym left.counts_are) gave.grows.none_fell;
     }
 
@@ -136,7 +136,7 @@ module _ {V : Type 0} (tells : V → Told) (past : V → Option (List (List Sect
     fixed = sym grows.fixed_same ∙ left.fixed_are;
     since = lent.front;
     risen = lent.none_fell;
-    until = subst (λ f. Begins (tells z).entries f) (sym left.front_is) (begins_itself (tells z).entries);
+    until = subst (λ f. IsPrefixOf (tells z).entries f) (sym left.front_is) (begins_itself (tells z).entries);
     rises = subst (λ k. NoneFell (tells z).counts k) (sym left.counts_are) (none_fell (tells z).counts);
   }
 

@@ -5,7 +5,7 @@ use Rattle.lvm_num.specs.Buffer.{Sector}
 use Rattle.lvm_num.specs.Counting.{Rose, RoseBy}
 use Rattle.lvm_vol.specs.Facts.{Fact}
 use Rattle.lvm_vol.specs.Fronts.{Told, own}
-use Rattle.lvm_turn.specs.Calls.{IsIdle}
+use Rattle.lvm_turn.specs.Calls.{IsIdlePass}
 use Rattle.lvm_turn.specs.Views.{Standing, View}
 use Rattle.lvm_workers.specs.declared.bring.Brought.{Brought}
 use Rattle.lvm_workers.specs.declared.bring.Brought.TheVariants as brought
@@ -43,7 +43,7 @@ pub record HasToured (Made : ℕ → Brought → Type 0) : Type 0 where
 
 -- the pass p of a client is q since: it knows more, and nothing of its own was entered
 pub record KeepsOwn (table : TableId) (client : ℕ) (p q : Standing) : Type 0 where
-  pub idle : IsIdle table (client ∷ []) q
+  pub idle : IsIdlePass table (client ∷ []) q
   pub knows : Knows p.knows q.knows
   pub own : own_of q.knows ≡ own_of p.knows
 

@@ -3,7 +3,7 @@ use Rattle.std.specs.Prelude.{◌≡◌, ◌⊎◌, ◌≤◌, ◌<◌, ◌+◌,
 use Rattle.atomic_table.specs.Seated.{TableId}
 use Rattle.crossbeam_utils.specs.Padded.{padded_value}
 use Rattle.lvm_vol.specs.Facts.{Request, Fact, begun}
-use Rattle.lvm_turn.specs.Calls.{IsIdle}
+use Rattle.lvm_turn.specs.Calls.{IsIdlePass}
 use Rattle.lvm_turn.specs.Views.{Client, HoldsAll, Owns, Standing, View}
 use Rattle.lvm_workers.specs.declared.crew.Crew.{Crew}
 use Rattle.lvm_workers.specs.declared.crew.Worker.{Worker}
@@ -11,7 +11,7 @@ use Rattle.lvm_workers.specs.declared.work.Job.{Job}
 use Rattle.lvm_workers.specs.declared.work.Tally.{Tally}
 use Rattle.lvm_workers.specs.declared.service.Asked.{Asked}
 use Rattle.lvm_workers.specs.declared.words.Draw.{Draw}
-use Rattle.lvm_workers.specs.Knowing.{HasCause, Knows, MayEnd, first_own}
+use Rattle.lvm_workers.specs.Knowing.{TallyHasCause, Knows, MayEnd, first_own}
 use Rattle.lvm_workers.specs.Making.{HasMade}
 
 -- ---- jobs
@@ -53,7 +53,7 @@ begun_over (x ∷ xs) = length (begun x.own) + begun_over xs
 -- ---- workers
 
 -- a pass at this turn that is outside and holds each client from 1 to n
-pub record IsWhole (table : TableId) (n : ℕ) (p : Standing) : Type 0 where
+pub record HoldsAllClients (table : TableId) (n : ℕ) (p : Standing) : Type 0 where
   pub at : p.table ≡ table
   pub outside : p.knows.inside ≡ false
   pub all : HoldsAll n p.knows.clients
@@ -63,8 +63,8 @@ abbrev pub SeenAs : View → View → Type 0
 SeenAs first v = (v.fixed ≡ first.fixed) × (v.counts ≡ first.counts)
 
 -- the worker has made nothing yet
-pub record IsReady (table : TableId) (clients : ℕ) (w : Worker) : Type 0 where
-  pub idle : IsIdle table (w.job.client ∷ []) w.pass
+pub record HasMadeNothing (table : TableId) (clients : ℕ) (w : Worker) : Type 0 where
+  pub idle : IsIdlePass table (w.job.client ∷ []) w.pass
   pub client : (1 ≤ w.job.client) × (w.job.client ≤ clients)
   pub fresh : first_own w.pass.knows.clients ≡ []
 
@@ -72,34 +72,34 @@ module _ (asks : ℕ → ℕ → Draw → Request → Type 0) (WasRefused : Aske
   -- the worker v has become w
   pub record HasWorked (v w : Worker) : Type 0 where
     pub job : w.job ≡ v.job
-    pub idle : IsIdle table (v.job.client ∷ []) w.pass
+    pub idle : IsIdlePass table (v.job.client ∷ []) w.pass
     pub knows : Knows v.pass.knows w.pass.knows
     pub made : HasMade (asks v.job.client) (MayEnd WasRefused waits v.pass.knows w.pass.knows) v.job.seed v.job.requests (padded_value w.tally).begun (first_own w.pass.knows.clients)
     pub all : (padded_value w.tally).begun + (padded_value w.tally).unbegun ≡ v.job.requests
-    pub cause : HasCause (λ u. (said : Asked) × WasRefused said u) waits v.pass.knows w.pass.knows (padded_value w.tally)
+    pub cause : TallyHasCause (λ u. (said : Asked) × WasRefused said u) waits v.pass.knows w.pass.knows (padded_value w.tally)
 
   abbrev pub AllWorked : List Worker → List Worker → Type 0
   AllWorked vs ws = (i : ℕ) (d : Worker) → i < length vs → HasWorked (slice_index_or vs i d) (slice_index_or ws i d)
 
   -- it has done this job, and its pass goes on from what the first one knew
   pub record IsDone (first : View) (job : Job) (w : Worker) : Type 0 where
-    pub idle : IsIdle table (job.client ∷ []) w.pass
+    pub idle : IsIdlePass table (job.client ∷ []) w.pass
     pub fixed : w.pass.knows.fixed ≡ first.fixed
     pub made : HasMade (asks job.client) (MayEnd WasRefused waits first w.pass.knows) job.seed job.requests (padded_value w.tally).begun (first_own w.pass.knows.clients)
     pub all : (padded_value w.tally).begun + (padded_value w.tally).unbegun ≡ job.requests
-    pub cause : HasCause (λ u. (said : Asked) × WasRefused said u) waits first w.pass.knows (padded_value w.tally)
+    pub cause : TallyHasCause (λ u. (said : Asked) × WasRefused said u) waits first w.pass.knows (padded_value w.tally)
 
   abbrev pub AllDone : View → Crew → List Worker → Type 0
   AllDone first crew ws = (i : ℕ) (d : Worker) → i < length ws → (i < crew.threads) × IsDone first (job_of crew (crew.threads - i)) (slice_index_or ws i d)
 
 -- each of the workers has made nothing yet
 abbrev pub AllIdle : TableId → ℕ → List Worker → Type 0
-AllIdle table clients ws = (i : ℕ) (d : Worker) → i < length ws → IsReady table clients (slice_index_or ws i d)
+AllIdle table clients ws = (i : ℕ) (d : Worker) → i < length ws → HasMadeNothing table clients (slice_index_or ws i d)
 
 -- the workers of the clients n, n - 1, and so on, before their work
 abbrev pub AllReady : TableId → ℕ → View → Crew → List Worker → Type 0
 AllReady table clients first crew ws = (i : ℕ) (d : Worker) → i < length ws
-    → let w = slice_index_or ws i d in (i < crew.threads) × IsReady table clients w × (w.job ≡ job_of crew (crew.threads - i)) × SeenAs first w.pass.knows
+    → let w = slice_index_or ws i d in (i < crew.threads) × HasMadeNothing table clients w × (w.job ≡ job_of crew (crew.threads - i)) × SeenAs first w.pass.knows
 
 -- each of these clients has made its requests, as many as are its share, or fewer where it may end early or isn't one of the crew
 abbrev pub AllMade : (ℕ → ℕ → Draw → Request → Type 0) → Type 0 → Crew → List Client → Type 0

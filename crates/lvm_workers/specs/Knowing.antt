@@ -3,7 +3,7 @@ use Rattle.std.specs.Prelude.{◌≡◌, ◌⊎◌, ◌<◌, ℕ, true, List, []
 use Rattle.lvm_num.specs.Buffer.{Sector}
 use Rattle.lvm_num.specs.Counting.{RoseBy}
 use Rattle.lvm_vol.specs.Facts.{Fact}
-use Rattle.lvm_vol.specs.Fronts.{Told, Begins, NoneFell}
+use Rattle.lvm_vol.specs.Fronts.{Told, IsPrefixOf, NoneFell}
 use Rattle.lvm_turn.specs.Rules.{fixed_of}
 use Rattle.lvm_turn.specs.Views.{Client, View}
 use Rattle.lvm_workers.specs.declared.service.Asked.{Asked}
@@ -19,7 +19,7 @@ first_own (x ∷ xs) = x.own
 -- what the pass w knows, which knew v: what is fixed, a history that goes on, and counts none of which is lower
 pub record Knows (v w : View) : Type 0 where
   pub fixed : w.fixed ≡ v.fixed
-  pub front : Begins v.front w.front
+  pub front : IsPrefixOf v.front w.front
   pub counts : NoneFell v.counts w.counts
 
 module _ {V : Type 0} (tells : V → Told) (past : V → Option (List (List Sector))) (always : V → Type 0) where
@@ -30,9 +30,9 @@ module _ {V : Type 0} (tells : V → Told) (past : V → Option (List (List Sect
     pub makes : Makes from to
     pub holds : always from
     pub fixed : fixed_of tells past from ≡ last.fixed
-    pub since : Begins first.front (tells from).entries
+    pub since : IsPrefixOf first.front (tells from).entries
     pub risen : NoneFell first.counts (tells from).counts
-    pub until : Begins (tells to).entries last.front
+    pub until : IsPrefixOf (tells to).entries last.front
     pub rises : NoneFell (tells to).counts last.counts
 
 module _ {V : Type 0} (tells : V → Told) (past : V → Option (List (List Sector))) (always : V → Type 0) (refuses : V → ℕ → ℕ → Draw → Asked → Type 0) where
@@ -45,7 +45,7 @@ module _ {V : Type 0} (tells : V → Told) (past : V → Option (List (List Sect
     pub why : refuses value client number drawn said
     pub holds : always value
     pub fixed : fixed_of tells past value ≡ v.fixed
-    pub front : Begins (tells value).entries v.front
+    pub front : IsPrefixOf (tells value).entries v.front
     pub counts : NoneFell (tells value).counts v.counts
 
   -- whatever the answer
@@ -61,6 +61,6 @@ abbrev pub MayEnd : (Asked → View → Type 0) → (List ℕ → ℕ) → View 
 MayEnd WasRefused waits first v = WasRefused asked.Refused v ⊎ WasUnheard waits first v
 
 -- Requests aren't begun only where one was refused, or nothing was heard a million times; and this comes with the flag.
-pub record HasCause (WasRefused : View → Type 0) (waits : List ℕ → ℕ) (first v : View) (tally : Tally) : Type 0 where
+pub record TallyHasCause (WasRefused : View → Type 0) (waits : List ℕ → ℕ) (first v : View) (tally : Tally) : Type 0 where
   pub unbegun : 0 < tally.unbegun → WasRefused v ⊎ WasUnheard waits first v
   pub unheard : tally.unheard ≡ true → WasUnheard waits first v

@@ -1,7 +1,7 @@
 //! What a worker asks of the value, one call at a time, while it has the turn.
 ghost use Rattle.std.specs.Prelude.{◌≡◌, ◌≤◌, ◌<◌, ◌==◌, ◌∷◌, []};
 ghost use Rattle.lvm_num.specs.Counting.{RoseBy};
-ghost use Rattle.lvm_turn.specs.Calls.{IsIdle};
+ghost use Rattle.lvm_turn.specs.Calls.{IsIdlePass};
 ghost use Rattle.lvm_workers.specs.Knowing.{Knows, RefusedAs, WasMade};
 ghost use Rattle.lvm_workers.specs.Working.{AskTells, AwaitsIn, IsUnseen, LookTells, asked_of, seen_so};
 ghost use Rattle.lvm_workers.specs.declared.service.Seen.TheVariants as seen;
@@ -73,9 +73,9 @@ pub(crate) fn ask<E: Service, R: Wait>(
     number: u32,
     drawn: &Draw,
 ) -> Answer
-    requires idle { IsIdle turn.now.table (client ∷ []) pass.old }
+    requires idle { IsIdlePass turn.now.table (client ∷ []) pass.old }
     requires client { (1 ≤ client) × (client ≤ E.clients) }
-    ensures idle { IsIdle turn.now.table (client ∷ []) pass.new }
+    ensures idle { IsIdlePass turn.now.table (client ∷ []) pass.new }
     ensures knows { Knows pass.old.knows pass.new.knows }
     ensures tells { AskTells (E.asks client number drawn.now) (RefusedAs E.tells E.past E.always E.refuses) client pass.old.knows (asked_of result) pass.new.knows }
     ensures unseen { IsUnseen result }
@@ -94,10 +94,10 @@ pub(crate) fn look<E: Service, R: Wait>(
     client: u32,
     awaited: &mut Awaited,
 ) -> Seen
-    requires idle { IsIdle turn.now.table (client ∷ []) pass.old }
+    requires idle { IsIdlePass turn.now.table (client ∷ []) pass.old }
     requires awaits { AwaitsIn awaited.old.id pass.old.knows }
     requires patient { awaited.old.idle < 1000000 }
-    ensures idle { IsIdle turn.now.table (client ∷ []) pass.new }
+    ensures idle { IsIdlePass turn.now.table (client ∷ []) pass.new }
     ensures knows { Knows pass.old.knows pass.new.knows }
     ensures tells { LookTells awaited.old.id pass.old.knows result pass.new.knows }
     ensures made { WasMade E.tells E.past E.always (λ x y. E.looks x client awaited.old.id result y) pass.old.knows pass.new.knows }

@@ -1,12 +1,12 @@
 //! A worker that brings up copies while others make requests.
 ghost use Rattle.std.specs.Prelude.{◌≡◌, ◌≤◌, ◌<◌, ◌+◌, ◌^◌, ◌∷◌, [], ℕ, true, false, IfErr, IfOk};
 ghost use Rattle.lvm_num.specs.Counting.{RoseBy};
-ghost use Rattle.lvm_vol.specs.Fronts.{Begins};
-ghost use Rattle.lvm_turn.specs.Calls.{IsIdle};
+ghost use Rattle.lvm_vol.specs.Fronts.{IsPrefixOf};
+ghost use Rattle.lvm_turn.specs.Calls.{IsIdlePass};
 ghost use Rattle.lvm_turn.specs.Views.{counted, joined, up_to};
 ghost use Rattle.lvm_workers.specs.Bringing.{BringGives, HasBrought, HasEnded, HasToured, MadeAt, PlaceTells, WaitsBy};
-ghost use Rattle.lvm_workers.specs.Crews.{AllMade, IsWhole, begun_over, seats};
-ghost use Rattle.lvm_workers.specs.Knowing.{HasCause, Knows, MayEnd, Refused, RefusedAs, WasUnheard};
+ghost use Rattle.lvm_workers.specs.Crews.{AllMade, HoldsAllClients, begun_over, seats};
+ghost use Rattle.lvm_workers.specs.Knowing.{TallyHasCause, Knows, MayEnd, Refused, RefusedAs, WasUnheard};
 ghost use Rattle.lvm_workers.specs.Working.{own_of};
 ghost use Rattle.lvm_workers.specs.declared.bring.Brought.{Brought as Said};
 ghost use Rattle.lvm_workers.specs.declared.bring.Brought.TheVariants as brought;
@@ -55,8 +55,8 @@ fn bring<E: Brings, R: Wait>(
     client: u32,
     at: u32,
 ) -> Brought
-    requires idle { IsIdle turn.now.table (client ∷ []) pass.old }
-    ensures idle { IsIdle turn.now.table (client ∷ []) pass.new }
+    requires idle { IsIdlePass turn.now.table (client ∷ []) pass.old }
+    ensures idle { IsIdlePass turn.now.table (client ∷ []) pass.new }
     ensures knows { Knows pass.old.knows pass.new.knows }
     ensures own { own_of pass.new.knows ≡ own_of pass.old.knows }
     ensures made { MadeAt E.tells E.past E.always E.brings pass.old.knows pass.new.knows at result }
@@ -89,9 +89,9 @@ fn bring_place<E: Brings, R: Wait>(
     at: u32,
     idle: &mut u32,
 ) -> Place
-    requires idle { IsIdle turn.now.table (client ∷ []) pass.old }
+    requires idle { IsIdlePass turn.now.table (client ∷ []) pass.old }
     requires patient { idle.old < 1000000 }
-    ensures idle { IsIdle turn.now.table (client ∷ []) pass.new }
+    ensures idle { IsIdlePass turn.now.table (client ∷ []) pass.new }
     ensures knows { Knows pass.old.knows pass.new.knows }
     ensures own { own_of pass.new.knows ≡ own_of pass.old.knows }
     ensures made { PlaceTells (MadeAt E.tells E.past E.always E.brings pass.old.knows pass.new.knows at) idle.new result }
@@ -117,8 +117,8 @@ fn bring_place<E: Brings, R: Wait>(
 // Brings up the copies of one place after the other, until no further one is to be brought up, or nothing was heard a million
 // times. Answers whether that was so.
 fn bring_all<E: Brings, R: Wait>(rt: &R, turn: &Turn<E>, pass: &mut Pass, client: u32) -> bool
-    requires idle { IsIdle turn.now.table (client ∷ []) pass.old }
-    ensures idle { IsIdle turn.now.table (client ∷ []) pass.new }
+    requires idle { IsIdlePass turn.now.table (client ∷ []) pass.old }
+    ensures idle { IsIdlePass turn.now.table (client ∷ []) pass.new }
     ensures knows { Knows pass.old.knows pass.new.knows }
     ensures own { own_of pass.new.knows ≡ own_of pass.old.knows }
     ensures toured { result ≡ false → HasToured (MadeAt E.tells E.past E.always E.brings pass.old.knows pass.new.knows) }
@@ -137,7 +137,7 @@ fn bring_all<E: Brings, R: Wait>(rt: &R, turn: &Turn<E>, pass: &mut Pass, client
 
 // The same with a pass that comes back.
 fn bring_with<E: Brings, R: Wait>(rt: &R, turn: &Turn<E>, mut pass: Pass, client: u32) -> Pass
-    requires idle { IsIdle turn.now.table (client ∷ []) pass }
+    requires idle { IsIdlePass turn.now.table (client ∷ []) pass }
     ensures { HasBrought E.tells E.past E.always E.brings E.waits turn.now.table client pass result }
 {
     bring_all(rt, turn, &mut pass, client);
@@ -157,13 +157,13 @@ fn work_and_bring<E: Brings + Send, R: Threads + Wait + Sync>(
     requires at { (pass.table ≡ turn.now.table) × (pass.knows.inside ≡ false) }
     requires holds { pass.knows.clients ≡ up_to crew.now.threads }
     requires few { (1 ≤ crew.now.threads) × (crew.now.threads ≤ E.clients) }
-    requires other { IsIdle turn.now.table (client ∷ []) other }
-    ensures idle { IfOk result.0 (λ r. IsIdle turn.now.table (counted crew.now.threads) r.0) }
+    requires other { IsIdlePass turn.now.table (client ∷ []) other }
+    ensures idle { IfOk result.0 (λ r. IsIdlePass turn.now.table (counted crew.now.threads) r.0) }
     ensures knows { IfOk result.0 (λ r. Knows pass.knows r.0.knows) }
     ensures made { IfOk result.0 (λ r. AllMade E.asks (MayEnd (RefusedAs E.tells E.past E.always E.refuses) E.waits pass.knows r.0.knows) crew.now r.0.knows.clients) }
     ensures begun { IfOk result.0 (λ r. r.1.begun ≡ begun_over r.0.knows.clients) }
     ensures all { IfOk result.0 (λ r. r.1.begun + r.1.unbegun ≡ crew.now.requests) }
-    ensures cause { IfOk result.0 (λ r. HasCause (Refused E.tells E.past E.always E.refuses) E.waits pass.knows r.0.knows r.1) }
+    ensures cause { IfOk result.0 (λ r. TallyHasCause (Refused E.tells E.past E.always E.refuses) E.waits pass.knows r.0.knows r.1) }
     ensures err { IfErr result.0 (λ p. p ≡ pass) }
     ensures brought { HasBrought E.tells E.past E.always E.brings E.waits turn.now.table client other result.1 }
 {
@@ -183,8 +183,8 @@ fn take_in<E: Brings>(turn: &Turn<E>, pass: &mut Pass, other: Pass)
     requires at { pass.old.table ≡ turn.now.table }
     requires other { (other.table ≡ turn.now.table) × (other.knows.inside ≡ false) }
     ensures joined { pass.new ≡ record pass.old { knows = joined pass.old.knows other.knows } }
-    ensures front { Begins pass.old.knows.front pass.new.knows.front }
-    ensures other_front { Begins other.knows.front pass.new.knows.front }
+    ensures front { IsPrefixOf pass.old.knows.front pass.new.knows.front }
+    ensures other_front { IsPrefixOf other.knows.front pass.new.knows.front }
     ensures waits { E.waits pass.old.knows.counts ≤ E.waits pass.new.knows.counts }
     ensures other_waits { E.waits other.knows.counts ≤ E.waits pass.new.knows.counts }
 {
@@ -203,13 +203,13 @@ fn workers_beside<E: Brings + Send, R: Threads + Wait + Sync>(
     requires at { (pass.table ≡ turn.now.table) × (pass.knows.inside ≡ false) }
     requires holds { pass.knows.clients ≡ up_to (crew.now.threads + 1) }
     requires few { (1 ≤ crew.now.threads) × (crew.now.threads ≤ E.clients) × (crew.now.threads + 1 < 2 ^ 32) }
-    ensures idle { IfOk result (λ r. IsIdle turn.now.table (counted (crew.now.threads + 1)) r.0) }
+    ensures idle { IfOk result (λ r. IsIdlePass turn.now.table (counted (crew.now.threads + 1)) r.0) }
     ensures knows { IfOk result (λ r. Knows pass.knows r.0.knows) }
     ensures made { IfOk result (λ r. AllMade E.asks (MayEnd (RefusedAs E.tells E.past E.always E.refuses) E.waits pass.knows r.0.knows) crew.now r.0.knows.clients) }
     ensures begun { IfOk result (λ r. r.1.begun ≡ begun_over r.0.knows.clients) }
     ensures all { IfOk result (λ r. r.1.begun + r.1.unbegun ≡ crew.now.requests) }
-    ensures cause { IfOk result (λ r. HasCause (Refused E.tells E.past E.always E.refuses) E.waits pass.knows r.0.knows r.1) }
-    ensures err { IfErr result (IsWhole turn.now.table (crew.now.threads + 1)) }
+    ensures cause { IfOk result (λ r. TallyHasCause (Refused E.tells E.past E.always E.refuses) E.waits pass.knows r.0.knows r.1) }
+    ensures err { IfErr result (HoldsAllClients turn.now.table (crew.now.threads + 1)) }
     ensures brought { IfOk result (λ r. HasEnded E.tells E.past E.always E.brings E.waits pass.knows r.0.knows) }
 {
     let client = crew.threads + 1;
@@ -249,13 +249,13 @@ pub fn run_crew<E: Brings + Send, R: Threads + Wait + Sync>(
     requires at { (pass.table ≡ turn.now.table) × (pass.knows.inside ≡ false) }
     requires holds { pass.knows.clients ≡ up_to (seats brings crew.now.threads) }
     requires few { (1 ≤ crew.now.threads) × (crew.now.threads ≤ E.clients) × (crew.now.threads + 1 < 2 ^ 32) }
-    ensures idle { IfOk result (λ r. IsIdle turn.now.table (counted (seats brings crew.now.threads)) r.0) }
+    ensures idle { IfOk result (λ r. IsIdlePass turn.now.table (counted (seats brings crew.now.threads)) r.0) }
     ensures knows { IfOk result (λ r. Knows pass.knows r.0.knows) }
     ensures made { IfOk result (λ r. AllMade E.asks (MayEnd (RefusedAs E.tells E.past E.always E.refuses) E.waits pass.knows r.0.knows) crew.now r.0.knows.clients) }
     ensures begun { IfOk result (λ r. r.1.begun ≡ begun_over r.0.knows.clients) }
     ensures all { IfOk result (λ r. r.1.begun + r.1.unbegun ≡ crew.now.requests) }
-    ensures cause { IfOk result (λ r. HasCause (Refused E.tells E.past E.always E.refuses) E.waits pass.knows r.0.knows r.1) }
-    ensures err { IfErr result (IsWhole turn.now.table (seats brings crew.now.threads)) }
+    ensures cause { IfOk result (λ r. TallyHasCause (Refused E.tells E.past E.always E.refuses) E.waits pass.knows r.0.knows r.1) }
+    ensures err { IfErr result (HoldsAllClients turn.now.table (seats brings crew.now.threads)) }
     ensures brought { IfOk result (λ r. brings ≡ true → HasEnded E.tells E.past E.always E.brings E.waits pass.knows r.0.knows) }
 {
     if brings {

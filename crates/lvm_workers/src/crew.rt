@@ -1,9 +1,9 @@
 //! All workers.
 ghost use Rattle.std.specs.Prelude.{◌≡◌, ◌≤◌, ◌<◌, ◌+◌, ◌^◌, [], ◌∷◌, false, IfOk, IfErr, vec_len};
-ghost use Rattle.lvm_turn.specs.Calls.{IsIdle};
+ghost use Rattle.lvm_turn.specs.Calls.{IsIdlePass};
 ghost use Rattle.lvm_turn.specs.Views.{counted, up_to};
-ghost use Rattle.lvm_workers.specs.Crews.{AllDone, AllIdle, AllMade, AllReady, AllWorked, HasWorked, IsReady, SeenAs, added, begun_over, job_of, no_tally, share};
-ghost use Rattle.lvm_workers.specs.Knowing.{HasCause, Knows, MayEnd, Refused, RefusedAs};
+ghost use Rattle.lvm_workers.specs.Crews.{AllDone, AllIdle, AllMade, AllReady, AllWorked, HasWorked, HasMadeNothing, SeenAs, added, begun_over, job_of, no_tally, share};
+ghost use Rattle.lvm_workers.specs.Knowing.{TallyHasCause, Knows, MayEnd, Refused, RefusedAs};
 
 use crate::service::Service;
 use crate::work::{Job, Tally, work};
@@ -76,7 +76,7 @@ fn hand_out<E: Service>(
     requires at { (pass.old.table ≡ turn.now.table) × (pass.old.knows.inside ≡ false) }
     requires holds { pass.old.knows.clients ≡ up_to crew.now.threads }
     requires few { (1 ≤ crew.now.threads) × (crew.now.threads ≤ E.clients) }
-    ensures idle { IfOk result (λ _. IsIdle turn.now.table [] pass.new) }
+    ensures idle { IfOk result (λ _. IsIdlePass turn.now.table [] pass.new) }
     ensures knows { IfOk result (λ _. Knows pass.old.knows pass.new.knows × SeenAs pass.old.knows pass.new.knows) }
     ensures ready { IfOk result (λ all. (vec_len all ≡ crew.now.threads) × AllReady turn.now.table E.clients pass.old.knows crew.now all.items) }
     ensures err { IfErr result (λ _. pass.new ≡ pass.old) }
@@ -98,7 +98,7 @@ fn hand_out<E: Service>(
 
 // A worker does its job.
 fn work_one<E: Service, R: Wait>(rt: &R, turn: &Turn<E>, worker: &mut Worker)
-    requires { IsReady turn.now.table E.clients worker.old }
+    requires { HasMadeNothing turn.now.table E.clients worker.old }
     ensures { HasWorked E.asks (RefusedAs E.tells E.past E.always E.refuses) E.waits turn.now.table worker.old worker.new }
 {
     let tally = work(rt, turn, &mut worker.pass, &worker.job);
@@ -118,7 +118,7 @@ fn work_all<E: Service + Send, R: Threads + Wait + Sync>(
     ensures worked { AllWorked E.asks (RefusedAs E.tells E.past E.always E.refuses) E.waits turn.now.table workers.old.items workers.new.items }
 {
     let one = |_: usize, worker: &mut Worker|
-        requires { IsReady turn.now.table E.clients worker.old }
+        requires { HasMadeNothing turn.now.table E.clients worker.old }
         ensures { HasWorked E.asks (RefusedAs E.tells E.past E.always E.refuses) E.waits turn.entry.now.table worker.old worker.new }
     { work_one(rt, turn, worker) };
     thread::for_each_mut(rt, workers.as_mut_slice(), threads as usize, &one);
@@ -145,15 +145,15 @@ fn gather<E: Service>(
     requests: u32,
 ) -> Tally
     requires all { requests ≡ crew.now.requests }
-    requires idle { IsIdle turn.now.table [] pass.old }
+    requires idle { IsIdlePass turn.now.table [] pass.old }
     requires some { 1 ≤ crew.now.threads }
     requires done { (vec_len workers ≡ crew.now.threads) × AllDone E.asks (RefusedAs E.tells E.past E.always E.refuses) E.waits turn.now.table pass.old.knows crew.now workers.items }
-    ensures idle { IsIdle turn.now.table (counted crew.now.threads) pass.new }
+    ensures idle { IsIdlePass turn.now.table (counted crew.now.threads) pass.new }
     ensures knows { Knows pass.old.knows pass.new.knows }
     ensures made { AllMade E.asks (MayEnd (RefusedAs E.tells E.past E.always E.refuses) E.waits pass.old.knows pass.new.knows) crew.now pass.new.knows.clients }
     ensures begun { result.begun ≡ begun_over pass.new.knows.clients }
     ensures all { result.begun + result.unbegun ≡ crew.now.requests }
-    ensures cause { HasCause (Refused E.tells E.past E.always E.refuses) E.waits pass.old.knows pass.new.knows result }
+    ensures cause { TallyHasCause (Refused E.tells E.past E.always E.refuses) E.waits pass.old.knows pass.new.knows result }
 {
     let mut tally = no_tally();
     while let Some(worker) = workers.pop() {
@@ -180,12 +180,12 @@ pub(crate) fn workers<E: Service + Send, R: Threads + Wait + Sync>(
     requires at { (pass.table ≡ turn.now.table) × (pass.knows.inside ≡ false) }
     requires holds { pass.knows.clients ≡ up_to crew.now.threads }
     requires few { (1 ≤ crew.now.threads) × (crew.now.threads ≤ E.clients) }
-    ensures idle { IfOk result (λ r. IsIdle turn.now.table (counted crew.now.threads) r.0) }
+    ensures idle { IfOk result (λ r. IsIdlePass turn.now.table (counted crew.now.threads) r.0) }
     ensures knows { IfOk result (λ r. Knows pass.knows r.0.knows) }
     ensures made { IfOk result (λ r. AllMade E.asks (MayEnd (RefusedAs E.tells E.past E.always E.refuses) E.waits pass.knows r.0.knows) crew.now r.0.knows.clients) }
     ensures begun { IfOk result (λ r. r.1.begun ≡ begun_over r.0.knows.clients) }
     ensures all { IfOk result (λ r. r.1.begun + r.1.unbegun ≡ crew.now.requests) }
-    ensures cause { IfOk result (λ r. HasCause (Refused E.tells E.past E.always E.refuses) E.waits pass.knows r.0.knows r.1) }
+    ensures cause { IfOk result (λ r. TallyHasCause (Refused E.tells E.past E.always E.refuses) E.waits pass.knows r.0.knows r.1) }
     ensures err { IfErr result (λ p. p ≡ pass) }
 {
     let Ok(mut all) = hand_out(alloc, turn, &mut pass, crew) else {

@@ -1,8 +1,8 @@
 //! One worker.
 ghost use Rattle.std.specs.Prelude.{◌≡◌, ◌≤◌, ◌+◌, ◌∷◌, []};
-ghost use Rattle.lvm_turn.specs.Calls.{IsIdle};
+ghost use Rattle.lvm_turn.specs.Calls.{IsIdlePass};
 ghost use Rattle.lvm_workers.specs.Draws.{after_draw, draw_at};
-ghost use Rattle.lvm_workers.specs.Knowing.{HasCause, Knows, MayEnd, Refused, RefusedAs, first_own};
+ghost use Rattle.lvm_workers.specs.Knowing.{TallyHasCause, Knows, MayEnd, Refused, RefusedAs, first_own};
 ghost use Rattle.lvm_workers.specs.Making.{HasMade};
 ghost use Rattle.lvm_workers.specs.Working.{AwaitsIn, IsWaited, ServeTells, WaitTells};
 
@@ -51,10 +51,10 @@ fn wait_for<E: Service, R: Wait>(
     client: u32,
     awaited: &mut Awaited,
 ) -> bool
-    requires idle { IsIdle turn.now.table (client ∷ []) pass.old }
+    requires idle { IsIdlePass turn.now.table (client ∷ []) pass.old }
     requires awaits { AwaitsIn awaited.old.id pass.old.knows }
     requires unseen { awaited.old.idle ≡ 0 }
-    ensures idle { IsIdle turn.now.table (client ∷ []) pass.new }
+    ensures idle { IsIdlePass turn.now.table (client ∷ []) pass.new }
     ensures knows { Knows pass.old.knows pass.new.knows }
     ensures tells { WaitTells E.waits awaited.old.id pass.old.knows result pass.new.knows }
     ensures patience { IsWaited result awaited.new }
@@ -83,9 +83,9 @@ fn serve<E: Service, R: Wait>(
     number: u32,
     rng: &mut Lcg64Xsh32,
 ) -> Served
-    requires idle { IsIdle turn.now.table (client ∷ []) pass.old }
+    requires idle { IsIdlePass turn.now.table (client ∷ []) pass.old }
     requires client { (1 ≤ client) × (client ≤ E.clients) }
-    ensures idle { IsIdle turn.now.table (client ∷ []) pass.new }
+    ensures idle { IsIdlePass turn.now.table (client ∷ []) pass.new }
     ensures knows { Knows pass.old.knows pass.new.knows }
     ensures rng { rng.new ≡ after_draw rng.old }
     ensures tells { ServeTells (E.asks client number (draw_at rng.old)) (RefusedAs E.tells E.past E.always E.refuses) E.waits pass.old.knows result pass.new.knows }
@@ -104,14 +104,14 @@ fn serve<E: Service, R: Wait>(
 
 /// Makes the requests of a job, one at a time. It ends early where no further one may begin, and where nothing is heard of one.
 pub(crate) fn work<E: Service, R: Wait>(rt: &R, turn: &Turn<E>, pass: &mut Pass, job: &Job) -> Tally
-    requires idle { IsIdle turn.now.table (job.now.client ∷ []) pass.old }
+    requires idle { IsIdlePass turn.now.table (job.now.client ∷ []) pass.old }
     requires client { (1 ≤ job.now.client) × (job.now.client ≤ E.clients) }
     requires fresh { first_own pass.old.knows.clients ≡ [] }
-    ensures idle { IsIdle turn.now.table (job.now.client ∷ []) pass.new }
+    ensures idle { IsIdlePass turn.now.table (job.now.client ∷ []) pass.new }
     ensures knows { Knows pass.old.knows pass.new.knows }
     ensures made { HasMade (E.asks job.now.client) (MayEnd (RefusedAs E.tells E.past E.always E.refuses) E.waits pass.old.knows pass.new.knows) job.now.seed job.now.requests result.begun (first_own pass.new.knows.clients) }
     ensures all { result.begun + result.unbegun ≡ job.now.requests }
-    ensures cause { HasCause (Refused E.tells E.past E.always E.refuses) E.waits pass.old.knows pass.new.knows result }
+    ensures cause { TallyHasCause (Refused E.tells E.past E.always E.refuses) E.waits pass.old.knows pass.new.knows result }
 {
     let mut rng = generator(job.seed);
     let mut begun = 0;

@@ -10,7 +10,7 @@ use Rattle.lvm_kept.specs.Plans.{ChangesBy}
 use Rattle.lvm_kept.specs.Torn.{StandsOn}
 use Rattle.lvm_write.specs.Written.{KeepsShelf}
 use Rattle.lvm_write.proofs.WrittenLemmas.Writing.{if_told, told_at, both_from}
-use Rattle.lvm_write.specs.Beginning.{Beginning, Part, TheDescriptor, TheStatus, TheNotes, describes, states, brought, Stands}
+use Rattle.lvm_write.specs.Beginning.{Beginning, Part, TheDescriptor, TheStatus, TheNotes, describes, states, brought, PartIsWritten}
 
 -- the sectors of each part
 Region : Part → ℕ → Type 0
@@ -53,7 +53,7 @@ module _ (b : Beginning) (fits : length b.status.content ≤ 31740) where
       (by.each d s)
 
   -- what stands of one part goes on standing while another is written
-  pub still_stands : (p q : Part) (mid new : Device) (d : ℕ) → (p ≡ q → ⊥) → KeepsShelf b.targets (brought b q) mid new → Stands b p mid d → Stands b p new d
+  pub still_stands : (p q : Part) (mid new : Device) (d : ℕ) → (p ≡ q → ⊥) → KeepsShelf b.targets (brought b q) mid new → PartIsWritten b p mid d → PartIsWritten b p new d
   unfolding Region
   still_stands TheDescriptor q mid new d differ keeps stands = if_told new.media (λ media. StandsOn (describes b) (image_of new.sizes media) d)
       (λ n told k inside.

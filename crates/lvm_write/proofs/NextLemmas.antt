@@ -24,7 +24,7 @@ use Rattle.lvm_status.specs.Table.{has_row}
 use Rattle.lvm_write.specs.Next.{IsNextStatus, IsLeftBehind, has_passive}
 use Rattle.lvm_num.specs.Modes.{is_passive}
 use Rattle.lvm_write.specs.Rows.{AreMemberRows}
-use Rattle.lvm_status.specs.Marking.{is_served, IsLeftIn, Marks, HasMark}
+use Rattle.lvm_status.specs.Marking.{is_served, IsLeftIn, MarksLost, HasMark}
 use Rattle.lvm_write.proofs.RowsLemmas.{found_one}
 use Rattle.lvm_status.proofs.MarkingLemmas.{has_row-same}
 
@@ -179,7 +179,7 @@ module _ (group : Descriptor) (valid : IsValid group) (answering : Disks) (was :
   not_stale : (p : Pp) → IsFalse (is_member group p.disk) → IsFalse (calls_stale first p)
   not_stale p stranger = rows.stale p ∙ ap (λ (b : Bool). b && calls_stale was p) (low_member group valid p.disk ∙ stranger)
 
-  module _ (stamp : Stamp) (new : Status) (marks : Marks answering (IsLeftIn answering first group.lvs) first new) where
+  module _ (stamp : Stamp) (new : Status) (marks : MarksLost answering (IsLeftIn answering first group.lvs) first new) where
     old : Stamped Status
     old = record { stamp = stamp; value = was }
 

@@ -9,7 +9,7 @@ use Rattle.lvm_kept.specs.Contents.{Contents}
 use Rattle.lvm_kept.specs.Group.{if_passes, passes, is_of, is_status_of, has_room, is_voter, status_among, Finds, members_in, fresh_on, fresh, IsSome}
 use Rattle.lvm_kept.specs.Torn.{DescriptorsChange}
 use Rattle.lvm_kept.proofs.CommittedLemmas.Finding.{finding_reads}
-use Rattle.lvm_steps.specs.VaryingOn.{AreShowing, MayRestamp, HasNewest, Carries, MayRestate}
+use Rattle.lvm_steps.specs.VaryingOn.{AreShowing, MayRestamp, HasNewest, CarriesMarks, MayRestate}
 
 module _ (old : Contents) (shown : ℕ → Option (Stamped Descriptor)) (group : Descriptor) (disks targets : Disks) (next : Stamped Descriptor)
     (own : (d : ℕ) → (shown d ≡ old.descriptor d) ⊎ (IsTrue (targets d) × (shown d ≡ Some next))) (value : next.value ≡ group) (showing : AreShowing old group.id targets) (found : Finds old disks group.id group) where
@@ -38,7 +38,7 @@ module _ (old : Contents) (shown : ℕ → Option (Stamped Descriptor)) (group :
     status_same : status_among now disks id ≡ status_among old disks id
     status_same = (finding_reads now disks id group has.found).status ∙ (λ t. newest_below (λ d. if members_same t d then if_passes (is_status_of id) (old.status d) else None) old.disks) ∙ sym (finding_reads old disks id group found).status
 
-    carries_now : (was status : Status) → Carries old group disks was status → Carries now group disks was status
+    carries_now : (was status : Status) → CarriesMarks old group disks was status → CarriesMarks now group disks was status
     carries_now was status marks = record {
       stale = marks.stale;
       dirty = marks.dirty;
@@ -55,7 +55,7 @@ module _ (old : Contents) (shown : ℕ → Option (Stamped Descriptor)) (group :
 -- then the next status may be written
 pub may_restate :
     (group : Descriptor) (disks targets : Disks) (next : Stamped Descriptor) (was status : Stamped Status) (old new : Contents) → Finds old disks group.id group → MayRestamp old group targets next → DescriptorsChange targets next old new
-    → HasNewest new group disks next → status.value.id ≡ group.id → status_among old disks group.id ≡ Some was → Carries old group disks was.value status.value
+    → HasNewest new group disks next → status.value.id ≡ group.id → status_among old disks group.id ≡ Some was → CarriesMarks old group disks was.value status.value
     → ((d : ℕ) (r : Stamped Status) → old.status d ≡ Some r → r.value.id ≡ group.id → Rattle.lvm_num.specs.Record.stamp_lt r.stamp status.stamp ≡ Rattle.std.specs.Prelude.true) → MayRestate new group disks targets next was status
 may_restate group disks targets next was status old new found restamp change has own was_found marks later =
     subst (λ (c : Contents). MayRestate c group disks targets next was status) (sym change.rest)

@@ -14,7 +14,7 @@ use Rattle.lvm_kept.specs.Group.{is_voter, status_among, Finds}
 use Rattle.lvm_kept.specs.Plans.{Plan}
 use Rattle.lvm_kept.specs.Torn.{RecordWrite, MayWriteAll, written as as_read, IsOfRecord, IsOfNote}
 use Rattle.lvm_steps.specs.Making.{MayMake, IsUnused}
-use Rattle.lvm_steps.specs.VaryingOn.{MayRestamp, Carries, HasNoActive}
+use Rattle.lvm_steps.specs.VaryingOn.{MayRestamp, CarriesMarks, HasNoActive}
 use Rattle.lvm_rec.specs.declared.homes.Homes.{Homes}
 use Rattle.lvm_write.specs.Notes.{empty_note_sector, NoteTold}
 use Rattle.lvm_write.specs.Written.{write_of, StandsTold}
@@ -79,15 +79,15 @@ IsOfParts b [] d s value = ⊥
 IsOfParts b (part ∷ parts) d s value = brought b part d s value ⊎ IsOfParts b parts d s value
 
 -- the part stands on the disk, where the content is told
-abbrev pub Stands : Beginning → Part → Device → ℕ → Type 0
-Stands b TheDescriptor = StandsTold (describes b)
-Stands b TheStatus = StandsTold (states b)
-Stands b TheNotes = NoteTold (empty_note_sector b.epoch)
+abbrev pub PartIsWritten : Beginning → Part → Device → ℕ → Type 0
+PartIsWritten b TheDescriptor = StandsTold (describes b)
+PartIsWritten b TheStatus = StandsTold (states b)
+PartIsWritten b TheNotes = NoteTold (empty_note_sector b.epoch)
 
 -- each of these parts stands on each target
 abbrev pub AllStand : Beginning → List Part → Device → Type 0
 AllStand b [] device = Unit {0}
-AllStand b (part ∷ parts) device = ((d : ℕ) → IsTrue (b.targets d) → Stands b part device d) × AllStand b parts device
+AllStand b (part ∷ parts) device = ((d : ℕ) → IsTrue (b.targets d) → PartIsWritten b part device d) × AllStand b parts device
 
 -- ---- what lets them be made, by what stands on the media
 
@@ -110,7 +110,7 @@ pub record MayBeginAgain (b : Beginning) (forget : Bool) (group : Descriptor) (s
   pub describe : MayWriteAll Descriptor descriptor_of (describes b) group image
   -- by the way the next status is built
   pub own : status.id ≡ group.id
-  pub marks : Carries (contents_of image) group disks was.value status
+  pub marks : CarriesMarks (contents_of image) group disks was.value status
   pub state : MayWriteAll Status status_of (states b) status image
   -- by the clock
   pub later : (d : ℕ) (r : Stamped Status) → (contents_of image).status d ≡ Some r → r.value.id ≡ group.id → stamp_lt r.stamp b.status.stamp ≡ true

@@ -9,7 +9,7 @@ use Rattle.lvm_rec.specs.declared.homes.Homes.{Homes}
 use Rattle.lvm_rec.specs.Homes.{second_slots}
 use Rattle.lvm_write.specs.Written.{KeepsShelf, IsDarkened, IsGivenUp}
 use Rattle.lvm_write.specs.Writes.{IsBack}
-use Rattle.lvm_write.specs.Beginning.{Beginning, Part, IsOfParts, Stands, AllStand}
+use Rattle.lvm_write.specs.Beginning.{Beginning, Part, IsOfParts, PartIsWritten, AllStand}
 use Rattle.lvm_write.specs.declared.begin.Begun.{Begun}
 use Rattle.lvm_write.specs.declared.begin.Begun.TheVariants as begun
 
@@ -49,7 +49,7 @@ pub record IsLowestFailed (targets : Disks) (old new : Device) (disk : ℕ) : Ty
 
 -- the part was tried on each target: it stands there, or a transfer failed there
 abbrev pub WasTriedOnTargets : Beginning → Device → Device → Part → Type 0
-WasTriedOnTargets b old new part = (d : ℕ) → IsTrue (b.targets d) → Stands b part new d ⊎ Rose (old.counts.faults d) (new.counts.faults d)
+WasTriedOnTargets b old new part = (d : ℕ) → IsTrue (b.targets d) → PartIsWritten b part new d ⊎ Rose (old.counts.faults d) (new.counts.faults d)
 
 -- ---- how they end
 

@@ -12,7 +12,7 @@ use Rattle.lvm_write.specs.Written.{KeepsShelf, IsWriting, IsDarkened, IsGivenUp
 use Rattle.lvm_write.specs.Writes.{DiskWritesLeave, IsBack}
 use Rattle.lvm_write.specs.declared.begin.Begun.{Begun}
 use Rattle.lvm_write.specs.declared.begin.Begun.TheVariants as begun
-use Rattle.lvm_write.specs.Beginning.{Beginning, Part, brought, IsOfParts, Stands, AllStand}
+use Rattle.lvm_write.specs.Beginning.{Beginning, Part, brought, IsOfParts, PartIsWritten, AllStand}
 use Rattle.lvm_write.specs.Ends.{HasNoFault, StopsAt, IsLowestFailed, FailsAtDisk}
 
 -- a write to disks as its answer names it: all went well, or this is the lowest that failed
@@ -28,26 +28,26 @@ IsAnswer wrote.Stuck _ = ⊥
 
 -- ---- one write
 
-pub record OneWell (targets : Disks) (Stands : Device → ℕ → Type 0) (number : ℕ) (old new : Device) (buf : Buffer) : Type 0 where
+pub record OneWell (targets : Disks) (PartIsWritten : Device → ℕ → Type 0) (number : ℕ) (old new : Device) (buf : Buffer) : Type 0 where
   pub back : IsBack number old new buf
   pub well : HasNoFault old new
-  pub stands : (d : ℕ) → IsTrue (targets d) → Stands new d
+  pub stands : (d : ℕ) → IsTrue (targets d) → PartIsWritten new d
 
-pub record OneBad (targets : Disks) (Stands : Device → ℕ → Type 0) (number : ℕ) (old new : Device) (disk : ℕ) (buf : Buffer) : Type 0 where
+pub record OneBad (targets : Disks) (PartIsWritten : Device → ℕ → Type 0) (number : ℕ) (old new : Device) (disk : ℕ) (buf : Buffer) : Type 0 where
   pub back : IsBack number old new buf
   pub first : IsLowestFailed targets old new disk
-  pub tried : (d : ℕ) → IsTrue (targets d) → Stands new d ⊎ Rose (old.counts.faults d) (new.counts.faults d)
+  pub tried : (d : ℕ) → IsTrue (targets d) → PartIsWritten new d ⊎ Rose (old.counts.faults d) (new.counts.faults d)
 
 abbrev pub HowOne : Disks → (Device → ℕ → Type 0) → ℕ → ℕ → Device → Device → Begun → Type 0
-HowOne targets Stands number before old new (begun.Ended buf) = OneWell targets Stands number old new buf
-HowOne targets Stands number before old new (begun.DiskFailed disk buf) = OneBad targets Stands number old new disk buf
-HowOne targets Stands number before old new begun.Dark = IsDarkened number old new
-HowOne targets Stands number before old new begun.Stuck = IsGivenUp number before old new
+HowOne targets PartIsWritten number before old new (begun.Ended buf) = OneWell targets PartIsWritten number old new buf
+HowOne targets PartIsWritten number before old new (begun.DiskFailed disk buf) = OneBad targets PartIsWritten number old new disk buf
+HowOne targets PartIsWritten number before old new begun.Dark = IsDarkened number old new
+HowOne targets PartIsWritten number before old new begun.Stuck = IsGivenUp number before old new
 
 -- how a write to these disks ended, which may bring this, and of which this then stands
-pub record OneGives (targets : Disks) (P : Plan) (Stands : Device → ℕ → Type 0) (number before after : ℕ) (old new : Device) (result : Begun) : Type 0 where
+pub record OneGives (targets : Disks) (P : Plan) (PartIsWritten : Device → ℕ → Type 0) (number before after : ℕ) (old new : Device) (result : Begun) : Type 0 where
   pub does : DiskWritesLeave targets P before after old new
-  pub how : HowOne targets Stands number before old new result
+  pub how : HowOne targets PartIsWritten number before old new result
 
 -- ---- several
 
@@ -56,7 +56,7 @@ pub record IsStage (b : Beginning) (part : Part) (old new : Device) : Type 0 whe
   pub still : new.flights ≡ []
   pub keeps : KeepsShelf b.targets (brought b part) old new
   pub path : Path DeviceStep (IsWriting (brought b part) old) old new
-  pub stands : (d : ℕ) → IsTrue (b.targets d) → Stands b part new d
+  pub stands : (d : ℕ) → IsTrue (b.targets d) → PartIsWritten b part new d
 
 -- these parts were written, one after another
 abbrev pub AreWritten : Beginning → List Part → Device → Device → Type 0

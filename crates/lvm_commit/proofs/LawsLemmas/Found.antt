@@ -12,8 +12,8 @@ use Rattle.lvm_num.proofs.RecordLemmas.Newest.{is_one, is_last}
 use Rattle.lvm_num.proofs.VotesLemmas.{read_meets_write}
 use Rattle.lvm_vol.specs.Facts.{Fact}
 use Rattle.lvm_kept.specs.Contents.{Contents}
-use Rattle.lvm_kept.specs.Group.{passes, is_of, is_status_of, descriptor_among, Finds, IsFound, members_in, status_by, Reads}
-use Rattle.lvm_kept.specs.Committed.{Stands, DescriptorStands, StatusStands, IsWithinDisks}
+use Rattle.lvm_kept.specs.Group.{passes, is_of, is_status_of, descriptor_among, Finds, IsFound, members_in, status_by, ReadsGroup}
+use Rattle.lvm_kept.specs.Committed.{StandsOnSet, DescriptorStands, StatusStands, IsWithinDisks}
 use Rattle.lvm_kept.specs.Kept.{Kept}
 use Rattle.lvm_kept.proofs.CommittedLemmas.Alike.{shown_by}
 use Rattle.lvm_kept.proofs.CommittedLemmas.Finding.{offered, is_offered, offers, finding_reads, finds_descriptor, meets_writers, newest_among}
@@ -24,7 +24,7 @@ use Rattle.lvm_steps.proofs.GroupLemmas.Members.{shows_of, parts_of, same_votes}
 
 -- a record that all of these have, and no other one that isn't earlier, stands with itself as the next one
 stands_alone : (X : Type 0) (of : X → Bool) (on : ℕ → Option (Stamped X)) (set : Disks) (now : Stamped X) → IsTrue (of now.value) → ((d : ℕ) → IsTrue (set d) → on d ≡ Some now)
-    → ((d : ℕ) (r : Stamped X) → on d ≡ Some r → IsTrue (of r.value) → (stamp_lt r.stamp now.stamp ≡ true) ⊎ (r ≡ now)) → Stands of on set now now
+    → ((d : ℕ) (r : Stamped X) → on d ≡ Some r → IsTrue (of r.value) → (stamp_lt r.stamp now.stamp ≡ true) ⊎ (r ≡ now)) → StandsOnSet of on set now now
 stands_alone X of on set now own have newest = record {
   own = own;
   next_own = own;
@@ -56,7 +56,7 @@ module _ (c : Contents) (group : Descriptor) (status : Status) (there : Disks) (
     pub only_found : (k : Descriptor) → IsFound c id k → k ≡ group
     only_found k is = shows.only is.0 k is.1
 
-    pub status_read : (b : Disks) (k : Descriptor) → Reads c b id k → status_by c b id k ≡ Some shows.stands
+    pub status_read : (b : Disks) (k : Descriptor) → ReadsGroup c b id k → status_by c b id k ≡ Some shows.stands
     status_read b k reads =
         let can : CanRead group (members_in c b id group) = subst (λ (g : Descriptor). CanRead g (members_in c b id g)) (only_found k reads.found) reads.enough in
         let both = read_meets_write group (members_in c b id group) there can enough in

@@ -21,7 +21,7 @@ use Rattle.lvm_vol.specs.Facts.{Fact, Cut}
 use Rattle.lvm_vol.specs.May.{Known, known, IsValue}
 use Rattle.lvm_disk.specs.Device.{Image, image_of}
 use Rattle.lvm_kept.specs.Contents.{Contents, contents_of}
-use Rattle.lvm_kept.specs.Group.{passes, is_of, IsFound, members_in, status_by, Reads, is_stale_by, fresh_on, block_at, is_named, IsOneOf, IsSome, HoldOne}
+use Rattle.lvm_kept.specs.Group.{passes, is_of, IsFound, members_in, status_by, ReadsGroup, is_stale_by, fresh_on, block_at, is_named, IsOneOf, IsSome, HoldOne}
 use Rattle.lvm_kept.specs.Committed.{IsWithinDisks}
 use Rattle.lvm_kept.specs.Kept.{MayDiffer, BlocksKept, Kept}
 use Rattle.lvm_kept.specs.Changes.{Serves}
@@ -124,7 +124,7 @@ module _ (c : Contents) (group : Descriptor) (status : Status) (there targets : 
   found_group : IsFound c id group
   found_group = (all_disks, may.shows.found)
 
-  reads_group : Reads c all_disks id group
+  reads_group : ReadsGroup c all_disks id group
   reads_group = (finding_reads c all_disks id group may.shows.found).reads
 
   was_read : status_by c all_disks id group ≡ Some was

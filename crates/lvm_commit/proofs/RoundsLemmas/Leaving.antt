@@ -19,7 +19,7 @@ use Rattle.lvm_num.proofs.AmongLemmas.{any_one}
 use Rattle.lvm_disk.specs.Device.{Device, image_of}
 use Rattle.lvm_kept.specs.Contents.{Contents, contents_of}
 use Rattle.lvm_kept.specs.Group.{passes, is_of, members_in, IsOneOf}
-use Rattle.lvm_status.specs.passed.Names.{IsLeft, IsLeftIn, Marks, HasMark}
+use Rattle.lvm_status.specs.passed.Names.{IsLostCopy, IsLeftIn, MarksLost, HasMark}
 use Rattle.lvm_status.proofs.passed.Names.{left_same, left_again}
 use Rattle.lvm_status.specs.Members.{HasItsRows}
 use Rattle.lvm_status.specs.Update.{Stored, members_there}
@@ -128,12 +128,12 @@ module _ (d : Descriptor) (first mid last : Stored) (failed : Disks) (misses : M
     still : any ≡ false → last.wanted ≡ first.wanted
     still none = marked.unmarked none ∙ misses.same (λ e. ⊎_elim (λ fails. absurd (clash any (any_of failed d.pvs e (members e fails) fails) none)) (λ well. well) (either (failed e)))
 
-    module _ (marks : Marks (there mid) (IsLeftIn (there mid) mid.wanted d.lvs) mid.wanted last.wanted) where
+    module _ (marks : MarksLost (there mid) (IsLeftIn (there mid) mid.wanted d.lvs) mid.wanted last.wanted) where
       there_same : there last ≡ there mid
       there_same = λ i e. is_member (group_same i) e && not (marks.missing e i)
 
       -- a copy that is left behind under the one table is so under the other, if each logical partition's are
-      left_so : (old now : Status) → ((row : LvRow) (lp : ℕ) (p : Pp) → IsLeft (there mid) old (copies_of row lp) p → IsLeft (there mid) now (copies_of row lp) p) → (p : Pp) → IsLeftIn (there mid) old d.lvs p
+      left_so : (old now : Status) → ((row : LvRow) (lp : ℕ) (p : Pp) → IsLostCopy (there mid) old (copies_of row lp) p → IsLostCopy (there mid) now (copies_of row lp) p) → (p : Pp) → IsLeftIn (there mid) old d.lvs p
           → IsLeftIn (there mid) now d.lvs p
       left_so old now keeps p is = record { row = is.row; volume = is.volume; left = record { lp = is.left.lp; below = is.left.below; left = keeps is.row is.left.lp p is.left.left } }
 

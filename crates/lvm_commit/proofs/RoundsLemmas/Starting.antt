@@ -3,14 +3,14 @@ use Rattle.std.proofs.Common.{◌≡◌, Bool, ◌↔◌, Some, None, IsTrue, sy
 use Rattle.std.specs.Prelude.{if◌then◌else◌}
 use Rattle.lvm_num.specs.declared.descriptor.Descriptor.{Descriptor}
 use Rattle.lvm_num.specs.declared.status.Status.{Status}
-use Rattle.lvm_status.specs.Update.{Stored, Updates, members_there, seen, MayStart}
+use Rattle.lvm_status.specs.Update.{Stored, Updates, members_there, seen, MayStartUpdate}
 use Rattle.lvm_status.specs.Calls.{with_update}
 use Rattle.lvm_commit.specs.Settling.{there}
 use Rattle.lvm_commit.specs.Rounds.{Starts}
 
-pub update_starts : (u x : Stored) (result : Bool) → u.in_flight ≡ None → (u.committed ≡ u.wanted → ⊥) → (IsTrue result ↔ MayStart (seen u)) → seen x ≡ (if result then with_update (seen u) else seen u) → Starts u x
+pub update_starts : (u x : Stored) (result : Bool) → u.in_flight ≡ None → (u.committed ≡ u.wanted → ⊥) → (IsTrue result ↔ MayStartUpdate (seen u)) → seen x ≡ (if result then with_update (seen u) else seen u) → Starts u x
 update_starts u x result idle differs tells is =
-    let may : MayStart (seen u) = record { none = idle; differs = λ same. differs (sym same) } in
+    let may : MayStartUpdate (seen u) = record { none = idle; differs = λ same. differs (sym same) } in
     let it : seen x ≡ with_update (seen u) = is ∙ ap (λ (b : Bool). if b then with_update (seen u) else seen u) (tells.1 may) in
     let group : x.group ≡ u.group = ap (λ (v : Updates). v.group) it in
     let wanted : x.wanted ≡ u.wanted = ap (λ (v : Updates). v.wanted) it in

@@ -26,7 +26,7 @@ use Rattle.lvm_commit.specs.Settling.{MayCommit, IsOf, IsOfCommit, IsPlain, Sess
 use Rattle.lvm_commit.proofs.SettlingLemmas.Chaining.{keeps_wider}
 use Rattle.lvm_core.specs.declared.fault.CommitFault.{CommitFault}
 use Rattle.lvm_session.specs.State.{Core, State, is_there}
-use Rattle.lvm_core.specs.Sound.{IsSoundBetween}
+use Rattle.lvm_core.specs.Sound.{IsSoundAtRest}
 use Rattle.lvm_core.specs.Held.{IsHeld}
 use Rattle.lvm_core.specs.Settled.{IsSettled}
 use Rattle.lvm_core.specs.Committing.{CommitEnds, HasCommitted, FailsCommitted, moment_of, LetsCommit, LetsCommitAmong, StaysBehind}
@@ -59,7 +59,7 @@ lets_one lv next run first s lets past begins holds =
     one_serves (contents_of (image_of s.device.sizes m)) (past ++ s.core.history.facts) s.core.descriptor lv next
     (told_at s.device.media (λ media. VolumeServes (contents_of (image_of s.device.sizes media)) (past ++ s.core.history.facts) s.core.descriptor lv next) m told (lets past begins holds)))
 
-module _ (next : Descriptor) (before after : ℕ) (old new : State) (answer : Result (Unit {0}) CommitFault) (w : CommitsDescriptor next before after old new answer) (settled_is : IsSettled old.core) (sound : IsSoundBetween old) (alike : IsAlike next old.core.descriptor) where
+module _ (next : Descriptor) (before after : ℕ) (old new : State) (answer : Result (Unit {0}) CommitFault) (w : CommitsDescriptor next before after old new answer) (settled_is : IsSettled old.core) (sound : IsSoundAtRest old) (alike : IsAlike next old.core.descriptor) where
   abbrev plan : Plan
   plan = IsOfCommit (descriptor_bytes next) old.core.status new.core.status
 
@@ -78,7 +78,7 @@ module _ (next : Descriptor) (before after : ℕ) (old new : State) (answer : Re
   held_first : IsHeld old.device old.core → SessionIsHeld old.device old.core.descriptor old.core.status old.core.homes
   held_first = session_holds old.device old.core sound.fitting.group
 
-  pub descriptor_sound : IsSoundBetween new
+  pub descriptor_sound : IsSoundAtRest new
   descriptor_sound = settles_sound Held Plain next plan old.core.status before after old new w.how answer w.settles (still_begun old.core) settled_is sound w.valid alike
 
   pub descriptor_sizes : SameSizes old.core new.core

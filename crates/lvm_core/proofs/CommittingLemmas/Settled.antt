@@ -16,7 +16,7 @@ use Rattle.lvm_vol.specs.Log.{Log, cut_log}
 use Rattle.lvm_kept.specs.Moments.{Moment, StaysCalm}
 use Rattle.lvm_kept.specs.Plans.{Plan, ChangesBy}
 use Rattle.lvm_kept.specs.Torn.{RecordWrite}
-use Rattle.lvm_commit.specs.passed.Names.{ImagesKept, Begins, Holds, Keeps, at, beginning_at, IsOtherOrEarlier}
+use Rattle.lvm_commit.specs.passed.Names.{ImagesKept, RunBegins, HistoryHolds, Keeps, at, beginning_at, IsOtherOrEarlier}
 use Rattle.lvm_commit.proofs.passed.Names.{keeps_path, earlier_stays_behind, session_is_before_later}
 use Rattle.lvm_status.specs.Table.{SameMissing}
 use Rattle.lvm_status.specs.Update.{Stored, members_there}
@@ -33,7 +33,7 @@ use Rattle.lvm_session.specs.State.{Core, State, state, is_there}
 use Rattle.lvm_session.specs.Dark.{all_dark}
 use Rattle.lvm_session.specs.Placed.{IsPlaced, ArePlaced}
 use Rattle.lvm_session.specs.Sound.{is_dark}
-use Rattle.lvm_core.specs.Sound.{HasNoneOpen, IsFittingBetween, IsSoundBetween}
+use Rattle.lvm_core.specs.Sound.{HasNoneOpen, IsFittingAtRest, IsSoundAtRest}
 use Rattle.lvm_core.specs.Settled.{IsSettled}
 use Rattle.lvm_core.specs.Committing.{with_one_out, RecordsEnd, FailsCommitted, moment_of, StaysBehind}
 use Rattle.lvm_core.specs.Leaves.{KeepsHistory}
@@ -57,7 +57,7 @@ pub record IsBegun (old : Core) (first : Stored) : Type 0 where
   pub forgotten : IsForgotten old.status → IsForgotten first
 
 module _ (Held Plain : Type 0) (next : Descriptor) (plan : Plan) (first : Stored) (before after : ℕ) (old new : State) (how : CommitEnd) (answer : Result (Unit {0}) CommitFault) (s : Settles Held Plain next plan first before after old new how answer)
-    (begins : IsBegun old.core first) (settled_is : IsSettled old.core) (sound : IsSoundBetween old) (valid : IsValid next) (alike : IsAlike next old.core.descriptor) where
+    (begins : IsBegun old.core first) (settled_is : IsSettled old.core) (sound : IsSoundAtRest old) (valid : IsValid next) (alike : IsAlike next old.core.descriptor) where
   group_first : first.group ≡ record old.core.descriptor { lvs = [] }
   group_first = begins.group ∙ sound.fitting.group
 
@@ -72,7 +72,7 @@ module _ (Held Plain : Type 0) (next : Descriptor) (plan : Plan) (first : Stored
   abbrev base : Descriptor → Core
   base d = record old.core { descriptor = d; status = new.core.status; homes = new.core.homes }
 
-  fits : (d : Descriptor) → IsValid d → IsAlike d old.core.descriptor → IsFittingBetween (base d)
+  fits : (d : Descriptor) → IsValid d → IsAlike d old.core.descriptor → IsFittingAtRest (base d)
   fits d its same = record {
     valid = its;
     id = s.leaves.loses.rows.id ∙ begins.rows.id ∙ sound.fitting.id ∙ sym (ap (λ (g : Descriptor). g.id) same);
@@ -111,10 +111,10 @@ module _ (Held Plain : Type 0) (next : Descriptor) (plan : Plan) (first : Stored
   not_stuck : old.core.power ≡ power.Stuck → ⊥
   not_stuck stuck = absurd (let e : power.On ≡ power.Stuck = sym settled_is.power ∙ stuck in cc)
 
-  as_core : (core : Core) → new.core ≡ core → IsSoundBetween (state new.device core) → IsSoundBetween new
-  as_core core is it = subst (λ (c : Core). IsSoundBetween (state new.device c)) (sym is) it
+  as_core : (core : Core) → new.core ≡ core → IsSoundAtRest (state new.device core) → IsSoundAtRest new
+  as_core core is it = subst (λ (c : Core). IsSoundAtRest (state new.device c)) (sym is) it
 
-  pub settles_sound : IsSoundBetween new
+  pub settles_sound : IsSoundAtRest new
   settles_sound = by_how how s.ends s.goes
     where
       own : IsAlike old.core.descriptor old.core.descriptor
@@ -126,13 +126,13 @@ module _ (Held Plain : Type 0) (next : Descriptor) (plan : Plan) (first : Stored
       out : Core
       out = record here { pool = with_one_out old.core.pool }
 
-      fits_here : IsFittingBetween here
+      fits_here : IsFittingAtRest here
       fits_here = fits old.core.descriptor sound.fitting.valid own
 
-      fits_out : IsFittingBetween out
+      fits_out : IsFittingAtRest out
       fits_out = fits_pool here (with_one_out old.core.pool) (one_out_long old.core.pool) fits_here
 
-      by_how : (h : CommitEnd) → SettleEnds Held Plain 0 before first new.core.status old.device new.device h → CoreEnds next old.core new.core h answer → IsSoundBetween new
+      by_how : (h : CommitEnd) → SettleEnds Held Plain 0 before first new.core.status old.device new.device h → CoreEnds next old.core new.core h answer → IsSoundAtRest new
       by_how (commit_end.Done back) ends goes = as_core (base next) goes.1 (sound_ready new.device (base next) (fits next valid alike) (none next) sound.landed (placed next alike) settled_is.quiet.buffers lit not_stuck ends.back.ready)
       by_how (commit_end.WentOff have total back) ends goes = as_core (record here { power = power.Off }) goes.1
           (sound_ready new.device (record here { power = power.Off }) (fits_with here here.history here.pool power.Off refl fits_here) (record { requests = settled_is.quiet.requests; copy = settled_is.quiet.copy }) sound.landed (placed old.core.descriptor own) settled_is.quiet.buffers refl
@@ -236,7 +236,7 @@ module _ (Held Plain : Type 0) (next : Descriptor) (plan : Plan) (first : Stored
       by_how commit_end.Stuck goes = subst (SameSizes old.core) (sym goes.1) (record { most = refl; buffers = one_out_long old.core.pool })
 
   pub settles_keep : (P : Device → Type 0) → Path DeviceStep P old.device new.device → (run : ℕ) (at_first : Moment) → Keeps run at_first (moment_of old)
-      → ((past : List Fact) → Begins run past at_first → Holds past (moment_of old) → (d : Device) → P d → ImagesKept d (past ++ old.core.history.facts)) → Keeps run at_first (moment_of new)
+      → ((past : List Fact) → RunBegins run past at_first → HistoryHolds past (moment_of old) → (d : Device) → P d → ImagesKept d (past ++ old.core.history.facts)) → Keeps run at_first (moment_of new)
   settles_keep P path run at_first span kept =
       let goes = keeps_path P run at_first old.device new.device old.core.history.facts span kept path in
       by_history (λ (log : Log). Keeps run at_first (at new.device log.facts)) goes (keeps_cut new.device old.core.history run at_first goes)

@@ -9,7 +9,7 @@ use Rattle.lvm_vol.specs.Facts.{Fact, Cut}
 use Rattle.lvm_vol.specs.Log.{Log, with_fact, is_uncut, cut_log}
 use Rattle.lvm_kept.specs.Moments.{Moment, Step, Moves, StaysCalm}
 use Rattle.lvm_kept.proofs.MomentsLemmas.Chaining.{span_counts, span_told}
-use Rattle.lvm_commit.specs.passed.Names.{Begins, Keeps, at}
+use Rattle.lvm_commit.specs.passed.Names.{RunBegins, Keeps, at}
 use Rattle.lvm_commit.proofs.passed.Names.{quiet_goes_on, calm_goes_on}
 
 -- no count falls on the way
@@ -17,7 +17,7 @@ pub path_falls : {P : Device → Type 0} (old new : Device) → Path DeviceStep 
 path_falls {P} old new path = span_counts {P = λ m. P m.device} (lift-path Step (λ m. P m.device) (λ d. at d []) (λ x y step. Moves step refl) (λ x p. p) path)
 
 -- what was told at the beginning of a span is
-pub told_media : (run : ℕ) (past : List Fact) (first : Moment) (device : Device) (facts : List Fact) → Keeps run first (at device facts) → Begins run past first → (m : Media) × (device.media ≡ Some m)
+pub told_media : (run : ℕ) (past : List Fact) (first : Moment) (device : Device) (facts : List Fact) → Keeps run first (at device facts) → RunBegins run past first → (m : Media) × (device.media ≡ Some m)
 told_media run past first device facts span begins = by_media device.media refl (span_told span begins.told)
   where
     by_media : (o : Option Media) → device.media ≡ o → IsSome o → (m : Media) × (device.media ≡ Some m)

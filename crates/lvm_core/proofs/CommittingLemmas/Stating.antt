@@ -16,7 +16,7 @@ use Rattle.lvm_vol.specs.Facts.{Fact}
 use Rattle.lvm_kept.specs.Moments.{Moment, StaysCalm}
 use Rattle.lvm_kept.specs.Plans.{Plan}
 use Rattle.lvm_kept.specs.Group.{IsOneOf}
-use Rattle.lvm_commit.specs.passed.Names.{Begins, StaysKept, SpanGoesOn}
+use Rattle.lvm_commit.specs.passed.Names.{RunBegins, StaysKept, SpanGoesOn}
 use Rattle.lvm_status.specs.Update.{Stored}
 use Rattle.lvm_write.specs.Written.{KeepsShelf}
 use Rattle.lvm_commit.specs.Committed.{IsAlike, AreOne, MayMark}
@@ -30,7 +30,7 @@ use Rattle.lvm_commit.proofs.RoundsLemmas.Leaving.{passed_before}
 use Rattle.lvm_core.specs.declared.fault.CommitFault.{CommitFault}
 use Rattle.lvm_session.specs.State.{State, is_there}
 use Rattle.lvm_session.specs.Marks.{is_among}
-use Rattle.lvm_core.specs.Sound.{IsSoundBetween}
+use Rattle.lvm_core.specs.Sound.{IsSoundAtRest}
 use Rattle.lvm_core.specs.Held.{IsHeld}
 use Rattle.lvm_core.specs.Settled.{IsSettled}
 use Rattle.lvm_core.specs.Committing.{MarkEnds, HasStated, FailsCommitted, AreUnused, AreMarked, Restates, AreDirtied, Redirties, MayGoClean, is_in, moment_of, StaysBehind}
@@ -44,7 +44,7 @@ use Rattle.lvm_core.proofs.SettlingLemmas.{among_at, in_at, holds_session, first
 
 -- ---- the call
 
-module _ (Wants : Stored → Stored → Type 0) (before after : ℕ) (old new : State) (answer : Result (Unit {0}) CommitFault) (w : CommitsStatus Wants before after old new answer) (settled_is : IsSettled old.core) (sound : IsSoundBetween old) where
+module _ (Wants : Stored → Stored → Type 0) (before after : ℕ) (old new : State) (answer : Result (Unit {0}) CommitFault) (w : CommitsStatus Wants before after old new answer) (settled_is : IsSettled old.core) (sound : IsSoundAtRest old) where
   abbrev plan : Plan
   plan = IsOfStatus w.first new.core.status
 
@@ -66,7 +66,7 @@ module _ (Wants : Stored → Stored → Type 0) (before after : ℕ) (old new : 
   held_first : IsHeld old.device old.core → SessionIsHeld old.device old.core.descriptor w.first old.core.homes
   held_first = first_held old.core w.first w.rest sound.fitting.group old.device
 
-  pub status_sound : IsSoundBetween new
+  pub status_sound : IsSoundAtRest new
   status_sound = settles_sound Held Plain old.core.descriptor plan w.first before after old new w.how answer w.settles begins settled_is sound sound.fitting.valid same
 
   pub status_sizes : SameSizes old.core new.core
@@ -140,7 +140,7 @@ module _ (Wants : Stored → Stored → Type 0) (before after : ℕ) (old new : 
       ))
       w.settles.leaves.keeps
 
-  status_keeps : (run : ℕ) (first : Moment) → ((past : List Fact) → Begins run past first → WantsMarks old.device old.core.descriptor w.first) → IsHeldSince run first old → SpanGoesOn run first (moment_of old) (moment_of new)
+  status_keeps : (run : ℕ) (first : Moment) → ((past : List Fact) → RunBegins run past first → WantsMarks old.device old.core.descriptor w.first) → IsHeldSince run first old → SpanGoesOn run first (moment_of old) (moment_of new)
   status_keeps run first wants held span =
       settles_keep Held Plain old.core.descriptor plan w.first before after old new w.how answer w.settles begins settled_is sound sound.fitting.valid same
       (λ d. WantsMarks old.device old.core.descriptor w.first → SessionIsHeld old.device old.core.descriptor w.first old.core.homes → StaysKept old.device d)
@@ -163,7 +163,7 @@ module _ (Wants : Stored → Stored → Type 0) (before after : ℕ) (old new : 
   status_fails = fails_committed Held Plain old.core.descriptor plan w.first before after old new w.how answer w.settles begins settled_is sound sound.fitting.valid same
 
   pub leaves_by : (S F : Pp → Type 0) (D : ℕ → Type 0) (lets : State → State → ℕ → Moment → Type 0) → KeepsStatus NoDescriptor S F D old new
-      → ((run : ℕ) (first : Moment) (past : List Fact) → Begins run past first → lets old new run first → WantsMarks old.device old.core.descriptor w.first)
+      → ((run : ℕ) (first : Moment) (past : List Fact) → RunBegins run past first → lets old new run first → WantsMarks old.device old.core.descriptor w.first)
       → Leaves (record { next = NoDescriptor; zeros = NoPartition; stale = S; fresh = F; marks = D; numbers = 1; lets = lets }) before after old new
   leaves_by S F D lets keeps wants = record {
     writes = keeps_wider (is_there old.core) (is_there old.core) (IsOfStatus old.core.status new.core.status) (IsOfCommand NoDescriptor NoPartition old new) old.device new.device (λ d off. off) (λ d s value is. inl is) status_writes;
@@ -194,7 +194,7 @@ was_marked true b c is = inl refl
 was_marked false true c is = inr refl
 was_marked false false c is = absurd (false≢true is)
 
-module _ (stale fresh : List Pp) (before after : ℕ) (old new : State) (answer : Result (Unit {0}) CommitFault) (w : CommitsMarks stale fresh before after old new answer) (settled_is : IsSettled old.core) (sound : IsSoundBetween old) where
+module _ (stale fresh : List Pp) (before after : ℕ) (old new : State) (answer : Result (Unit {0}) CommitFault) (w : CommitsMarks stale fresh before after old new answer) (settled_is : IsSettled old.core) (sound : IsSoundAtRest old) where
   wants : AreUnused old.core.descriptor (stale ++ fresh) → WantsMarks old.device old.core.descriptor w.first
   wants unused = if_told old.device.media (λ media. MayMark (contents_of (image_of old.device.sizes media)) old.core.descriptor w.first.committed w.first.wanted)
       (λ media told. wants_marks old.core stale fresh w.first w.wants settled_is sound.fitting.group sound.fitting.valid unused (contents_of (image_of old.device.sizes media)))
@@ -227,7 +227,7 @@ module _ (stale fresh : List Pp) (before after : ℕ) (old new : State) (answer 
 not_in : (numbers : List ℕ) (lv : ℕ) → (Contains numbers lv → ⊥) → is_in numbers lv ≡ false
 not_in numbers lv out = isnt (is_in numbers lv) (λ is. out (in_at numbers lv is))
 
-module _ (dirty clean : List ℕ) (before after : ℕ) (old new : State) (answer : Result (Unit {0}) CommitFault) (w : CommitsDirt dirty clean before after old new answer) (settled_is : IsSettled old.core) (sound : IsSoundBetween old) where
+module _ (dirty clean : List ℕ) (before after : ℕ) (old new : State) (answer : Result (Unit {0}) CommitFault) (w : CommitsDirt dirty clean before after old new answer) (settled_is : IsSettled old.core) (sound : IsSoundAtRest old) where
   wants_so : MayGoClean clean old → WantsMarks old.device old.core.descriptor w.first
   wants_so may = if_told old.device.media (λ media. MayMark (contents_of (image_of old.device.sizes media)) old.core.descriptor w.first.committed w.first.wanted)
       (λ media told. wants_dirt old.core dirty clean w.first w.wants settled_is (contents_of (image_of old.device.sizes media))
@@ -260,4 +260,4 @@ module _ (dirty clean : List ℕ) (before after : ℕ) (old new : State) (answer
       ∙ as_before (calls_dirty old.core.status.wanted lv))
 
   pub dirt_leaves : Leaves (dirtying dirty clean) before after old new
-  dirt_leaves = leaves_by (IsDirtied dirty clean) before after old new answer w settled_is sound NoPartition NoPartition (Contains (dirty ++ clean)) (λ old new run first. (past : List Fact) → Begins run past first → MayGoClean clean old) dirt_kept (λ run first past begins may. wants_so (may past begins))
+  dirt_leaves = leaves_by (IsDirtied dirty clean) before after old new answer w settled_is sound NoPartition NoPartition (Contains (dirty ++ clean)) (λ old new run first. (past : List Fact) → RunBegins run past first → MayGoClean clean old) dirt_kept (λ run first past begins may. wants_so (may past begins))

@@ -11,7 +11,7 @@ use Rattle.lvm_session.specs.State.{Core, state}
 use Rattle.lvm_session.specs.Dark.{all_dark, after_arrange}
 use Rattle.lvm_session.specs.Placed.{ArePlaced}
 use Rattle.lvm_session.specs.Sound.{IsDark, has_number, is_dark}
-use Rattle.lvm_core.specs.Sound.{HasNoneOpen, IsSoundBetween}
+use Rattle.lvm_core.specs.Sound.{HasNoneOpen, IsSoundAtRest}
 use Rattle.lvm_core.proofs.SoundLemmas.Dark.{cut_core, cut_fits, cut_landed, dark_is, on_shelf, out_is}
 use Rattle.lvm_core.proofs.SoundLemmas.Own.{SameSizes, same_sizes}
 
@@ -21,7 +21,7 @@ pub record IsLike (old new : Device) : Type 0 where
   pub out : (n : ℕ) → on_shelf new n ≡ on_shelf old n
 
 -- only the orders of a shelf have changed
-pub ordered_sound : (device : Device) (core : Core) (what : Arrange) → IsSoundBetween (state device core) → IsSoundBetween (state (with_order device what) core)
+pub ordered_sound : (device : Device) (core : Core) (what : Arrange) → IsSoundAtRest (state device core) → IsSoundAtRest (state (with_order device what) core)
 ordered_sound device core what sound = record {
   fitting = sound.fitting;
   none = sound.none;
@@ -36,8 +36,8 @@ ordered_sound device core what sound = record {
 }
 
 -- the session after a power cut, on a shelf without power on which nothing is under way
-dark_sound : (old new : Device) (core : Core) → IsSoundBetween (state old core) → IsLike old new → IsDark new → IsSoundBetween (state new (all_dark core))
-dark_sound old new core sound like dark = subst (λ (c : Core). IsSoundBetween (state new c)) (sym (dark_is core sound.none)) (record {
+dark_sound : (old new : Device) (core : Core) → IsSoundAtRest (state old core) → IsLike old new → IsDark new → IsSoundAtRest (state new (all_dark core))
+dark_sound old new core sound like dark = subst (λ (c : Core). IsSoundAtRest (state new c)) (sym (dark_is core sound.none)) (record {
   fitting = cut_fits core sound.fitting;
   none = record { requests = refl; copy = refl };
   landed = cut_landed core.history sound.landed;
@@ -73,7 +73,7 @@ cut_is_like old new cuts = record {
 }
 
 -- Without power nothing is under way, when it has just been cut and when it was off.
-cut_is_dark : (old new : Device) (core : Core) → IsSoundBetween (state old core) → new.power ≡ false → GoesDark old new → IsLike old new × IsDark new
+cut_is_dark : (old new : Device) (core : Core) → IsSoundAtRest (state old core) → new.power ≡ false → GoesDark old new → IsLike old new × IsDark new
 cut_is_dark old new core sound off (inl was) =
     let same = was.1 in (
       record { sizes = ap (λ (d : Device). d.sizes) same; out = λ n. ap (λ (d : Device). on_shelf d n) same },
@@ -86,10 +86,10 @@ cut_is_dark old new core sound off (inl was) =
 cut_is_dark old new core sound off (inr cuts) =
     (cut_is_like old new cuts, record { power = off; flights = ap (λ (d : Device). d.flights) cuts.new_is })
 
-pub arranged_sound : (old new : Device) (core : Core) (what : Arrange) (done : Bool) → ArrangeGives old new what done → IsSoundBetween (state old core) → IsSoundBetween (state new (after_arrange what done core))
-arranged_sound old new core what false gives sound = subst (λ (d : Device). IsSoundBetween (state d core)) (sym gives.1) sound
-arranged_sound old new core (arrange.Fail disk) true gives sound = subst (λ (d : Device). IsSoundBetween (state d core)) (sym gives.1) (ordered_sound old core (arrange.Fail disk) sound)
-arranged_sound old new core (arrange.Heal disk) true gives sound = subst (λ (d : Device). IsSoundBetween (state d core)) (sym gives.1) (ordered_sound old core (arrange.Heal disk) sound)
+pub arranged_sound : (old new : Device) (core : Core) (what : Arrange) (done : Bool) → ArrangeGives old new what done → IsSoundAtRest (state old core) → IsSoundAtRest (state new (after_arrange what done core))
+arranged_sound old new core what false gives sound = subst (λ (d : Device). IsSoundAtRest (state d core)) (sym gives.1) sound
+arranged_sound old new core (arrange.Fail disk) true gives sound = subst (λ (d : Device). IsSoundAtRest (state d core)) (sym gives.1) (ordered_sound old core (arrange.Fail disk) sound)
+arranged_sound old new core (arrange.Heal disk) true gives sound = subst (λ (d : Device). IsSoundAtRest (state d core)) (sym gives.1) (ordered_sound old core (arrange.Heal disk) sound)
 arranged_sound old new core (arrange.Cut word) true gives sound =
     let what = arrange.Cut word in
     let ordered = ordered_sound old core what sound in

@@ -19,7 +19,7 @@ use Rattle.lvm_session_start.specs.Parts.{IsReserved}
 use Rattle.lvm_session_start.specs.Beginning.{first_core}
 use Rattle.lvm_session_start.proofs.EntriesLemmas.{notes_fit, pool_size}
 pub use Rattle.lvm_session_start.proofs.EntriesLemmas.{no_entries}
-use Rattle.lvm_core.specs.Sound.{HaveAllLanded, IsFittingBetween, IsSoundBetween}
+use Rattle.lvm_core.specs.Sound.{HaveAllLanded, IsFittingAtRest, IsSoundAtRest}
 use Rattle.lvm_core.specs.Starting.{AreReserved}
 use Rattle.lvm_core.proofs.SoundLemmas.Dark.{landed_still}
 use Rattle.lvm_core.proofs.SoundLemmas.Own.{sound_ready}
@@ -34,7 +34,7 @@ module _ (device : Device) (p : Parts) (history : Log) (stamp : Stamp) (homes : 
   buffers : length p.pool ≡ p.room.pool
   buffers = pool_size p its
 
-  fits_first : IsFittingBetween core
+  fits_first : IsFittingAtRest core
   fits_first = record {
     valid = are.valid;
     id = ap (λ (u : Updates). u.wanted.id) its.status ∙ are.group.id;
@@ -50,7 +50,7 @@ module _ (device : Device) (p : Parts) (history : Log) (stamp : Stamp) (homes : 
     forgotten = λ none disk. (ap (λ (u : Updates). u.unstarted disk) its.status, ap (λ (u : Updates). u.started disk) its.status, ap (λ (u : Updates). u.written disk) its.status, ap (λ (u : Updates). u.failed disk) its.status);
   }
 
-  pub sound_first : HaveAllLanded history.facts → IsReady device → ArePlaced device.sizes p.descriptor p.updater.wanted → IsSoundBetween (state device core)
+  pub sound_first : HaveAllLanded history.facts → IsReady device → ArePlaced device.sizes p.descriptor p.updater.wanted → IsSoundAtRest (state device core)
   sound_first landed ready placed = sound_ready device core fits_first
       (record { requests = its.requests; copy = refl })
       (landed_still history.facts (On stamp.epoch) refl (λ id. refl) landed)

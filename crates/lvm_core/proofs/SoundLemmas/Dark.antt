@@ -14,7 +14,7 @@ use Rattle.lvm_session.specs.Dark.{AreTold, all_dark, hand_of_copy}
 use Rattle.lvm_session.specs.Sound.{count_if, hands_with, has_number, is_hand, out_with}
 use Rattle.lvm_session.specs.declared.open.Power.TheVariants as power
 use Rattle.lvm_session.specs.Hands.{AreInHand, IsOutIf, MayEnd}
-use Rattle.lvm_core.specs.Sound.{HasNoneOpen, HaveAllLanded, IsFittingBetween}
+use Rattle.lvm_core.specs.Sound.{HasNoneOpen, HaveAllLanded, IsFittingAtRest}
 
 -- ---- the session afterwards
 
@@ -47,8 +47,8 @@ cut_landed log landed = by_test (is_uncut log.facts)
     by_test false = landed
 
 -- the parts fit with a pool of as many buffers, whatever was entered, whatever is open, and whether the session is on or off
-pub fits_again : (core : Core) (log : Log) (requests : List Open) (copy : Option OpenCopy) (flying : List Flown) (pool : List Bool) (on : Power) → length pool ≡ length core.pool → IsFittingBetween core
-    → IsFittingBetween (record core { history = log; requests = requests; copy = copy; flying = flying; pool = pool; power = on })
+pub fits_again : (core : Core) (log : Log) (requests : List Open) (copy : Option OpenCopy) (flying : List Flown) (pool : List Bool) (on : Power) → length pool ≡ length core.pool → IsFittingAtRest core
+    → IsFittingAtRest (record core { history = log; requests = requests; copy = copy; flying = flying; pool = pool; power = on })
 fits_again core log requests copy flying pool on long fits = record {
   valid = fits.valid;
   id = fits.id;
@@ -64,7 +64,7 @@ fits_again core log requests copy flying pool on long fits = record {
   forgotten = fits.forgotten;
 }
 
-pub cut_fits : (core : Core) → IsFittingBetween core → IsFittingBetween (cut_core core)
+pub cut_fits : (core : Core) → IsFittingAtRest core → IsFittingAtRest (cut_core core)
 cut_fits core fits = fits_again core (cut_log core.history) [] None [] core.pool power.Dark refl fits
 
 -- ---- the buffers

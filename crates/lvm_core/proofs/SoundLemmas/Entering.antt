@@ -7,7 +7,7 @@ use Rattle.lvm_vol.specs.Facts.{Fact, Making, Made, Split, Removing, Removed}
 use Rattle.lvm_vol.specs.Log.{is_open, with_fact, plain_fact}
 use Rattle.lvm_session_start.proofs.passed.Names.{open_still}
 use Rattle.lvm_session.specs.State.{Core, state}
-use Rattle.lvm_core.specs.Sound.{IsSoundBetween}
+use Rattle.lvm_core.specs.Sound.{IsSoundAtRest}
 use Rattle.lvm_core.specs.Entering.{IsOfVolume, last_reads}
 
 -- it is about no request
@@ -24,8 +24,8 @@ length_reads : (f : Fact) (last : List ℕ) → length (last_reads f last) ≡ l
 length_reads (Made lv) last = length-set last lv 0
 length_reads _ last = refl
 
-pub entered_sound : (device : Device) (core : Core) (e : Entry) → IsOfVolume e → IsSoundBetween (state device core)
-    → IsSoundBetween (state device (record core { history = with_fact core.history (plain_fact e); last = last_reads (plain_fact e) core.last }))
+pub entered_sound : (device : Device) (core : Core) (e : Entry) → IsOfVolume e → IsSoundAtRest (state device core)
+    → IsSoundAtRest (state device (record core { history = with_fact core.history (plain_fact e); last = last_reads (plain_fact e) core.last }))
 entered_sound device core e is sound = record {
   fitting = record {
     valid = sound.fitting.valid;

@@ -17,15 +17,15 @@ use Rattle.lvm_session.specs.Placed.{ArePlaced}
 use Rattle.lvm_session.specs.Sound.{count_if, has_number, is_dark, out_with}
 use Rattle.lvm_session.specs.declared.open.Power.TheVariants as power
 use Rattle.lvm_session.proofs.RoomsLemmas.{rooms_last}
-use Rattle.lvm_core.specs.Sound.{HasNoneOpen, HaveAllLanded, IsFittingBetween, IsSoundBetween}
+use Rattle.lvm_core.specs.Sound.{HasNoneOpen, HaveAllLanded, IsFittingAtRest, IsSoundAtRest}
 use Rattle.lvm_core.specs.Committing.{with_one_out}
 use Rattle.lvm_core.proofs.SoundLemmas.Dark.{cut_core, cut_fits, fits_again, cut_landed, dark_is, on_shelf, out_is}
 
 -- the parts fit with a pool of as many buffers, whatever was entered, and whether the session is on or off
-pub fits_with : (core : Core) (log : Log) (pool : List Bool) (on : Power) → length pool ≡ length core.pool → IsFittingBetween core → IsFittingBetween (record core { history = log; pool = pool; power = on })
+pub fits_with : (core : Core) (log : Log) (pool : List Bool) (on : Power) → length pool ≡ length core.pool → IsFittingAtRest core → IsFittingAtRest (record core { history = log; pool = pool; power = on })
 fits_with core log pool on long fits = fits_again core log core.requests core.copy core.flying pool on long fits
 
-pub fits_pool : (core : Core) (pool : List Bool) → length pool ≡ length core.pool → IsFittingBetween core → IsFittingBetween (record core { pool = pool })
+pub fits_pool : (core : Core) (pool : List Bool) → length pool ≡ length core.pool → IsFittingAtRest core → IsFittingAtRest (record core { pool = pool })
 fits_pool core pool long fits = fits_with core core.history pool core.power long fits
 
 pub one_out_long : (pool : List Bool) → length (with_one_out pool) ≡ length pool
@@ -79,8 +79,8 @@ one_counted buf pool (suc n) is some all =
 -- ---- nothing is out
 
 pub sound_ready :
-    (device : Device) (core : Core) → IsFittingBetween core → HasNoneOpen core → HaveAllLanded core.history.facts → ArePlaced device.sizes core.descriptor core.status.wanted → core.pool ≡ replicate (length core.pool) false
-    → is_dark core.power ≡ false → (core.power ≡ power.Stuck → ⊥) → IsReady device → IsSoundBetween (state device core)
+    (device : Device) (core : Core) → IsFittingAtRest core → HasNoneOpen core → HaveAllLanded core.history.facts → ArePlaced device.sizes core.descriptor core.status.wanted → core.pool ≡ replicate (length core.pool) false
+    → is_dark core.power ≡ false → (core.power ≡ power.Stuck → ⊥) → IsReady device → IsSoundAtRest (state device core)
 sound_ready device core fits none landed placed all lit heard ready = record {
   fitting = fits;
   none = none;
@@ -97,9 +97,9 @@ sound_ready device core fits none landed placed all lit heard ready = record {
 -- ---- the power was cut
 
 pub sound_dark :
-    (old device : Device) (core : Core) (pool : List Bool) → IsFittingBetween core → HasNoneOpen core → HaveAllLanded core.history.facts → ArePlaced device.sizes core.descriptor core.status.wanted
-    → core.pool ≡ with_one_out pool → pool ≡ replicate (length pool) false → 1 ≤ length pool → IsDarkened 0 old device → IsSoundBetween (state device (all_dark core))
-sound_dark old device core pool fits none landed placed is all some cut = subst (λ (c : Core). IsSoundBetween (state device c)) (sym (dark_is core none)) (record {
+    (old device : Device) (core : Core) (pool : List Bool) → IsFittingAtRest core → HasNoneOpen core → HaveAllLanded core.history.facts → ArePlaced device.sizes core.descriptor core.status.wanted
+    → core.pool ≡ with_one_out pool → pool ≡ replicate (length pool) false → 1 ≤ length pool → IsDarkened 0 old device → IsSoundAtRest (state device (all_dark core))
+sound_dark old device core pool fits none landed placed is all some cut = subst (λ (c : Core). IsSoundAtRest (state device c)) (sym (dark_is core none)) (record {
   fitting = cut_fits core fits;
   none = record { requests = refl; copy = refl };
   landed = cut_landed core.history landed;
@@ -130,9 +130,9 @@ sound_dark old device core pool fits none landed placed is all some cut = subst 
 -- ---- a transfer is out
 
 pub sound_stuck :
-    (patience : ℕ) (old device : Device) (core : Core) (pool : List Bool) → IsFittingBetween core → HasNoneOpen core → HaveAllLanded core.history.facts → ArePlaced device.sizes core.descriptor core.status.wanted
+    (patience : ℕ) (old device : Device) (core : Core) (pool : List Bool) → IsFittingAtRest core → HasNoneOpen core → HaveAllLanded core.history.facts → ArePlaced device.sizes core.descriptor core.status.wanted
     → core.pool ≡ with_one_out pool → pool ≡ replicate (length pool) false → 1 ≤ length pool → is_dark core.power ≡ false
-    → (core.power ≡ power.Stuck → ⊥) → IsGivenUp 0 patience old device → IsSoundBetween (state device core)
+    → (core.power ≡ power.Stuck → ⊥) → IsGivenUp 0 patience old device → IsSoundAtRest (state device core)
 sound_stuck patience old device core pool fits none landed placed is all some lit heard out = record {
   fitting = fits;
   none = none;

@@ -17,7 +17,7 @@ use Rattle.lvm_mwc.specs.Cache.{no_notes}
 use Rattle.lvm_status.specs.Update.{Updates, members_there}
 use Rattle.lvm_rec.specs.declared.homes.Homes.{Homes}
 use Rattle.lvm_core.specs.declared.parts.Room.{Room}
-use Rattle.lvm_core.specs.Sound.{IsQuiet}
+use Rattle.lvm_core.specs.Sound.{HasNothingUnderWay}
 use Rattle.lvm_core.specs.Settled.{IsSettled, HasSpareNumbers}
 use Rattle.lvm_session_start.specs.declared.parts.Parts.{Parts}
 use Rattle.lvm_core.specs.Starting.{IsReservedFor}
@@ -30,7 +30,7 @@ module _ (d : Descriptor) (s : Status) (room : Room) (r : Parts) (log : Log) (st
   none_out disk false = refl
 
   -- nothing is under way
-  pub starts_quiet : IsQuiet (first_core r log stamp homes faults)
+  pub starts_quiet : HasNothingUnderWay (first_core r log stamp homes faults)
   starts_quiet = record {
     requests = reserved.requests;
     copy = refl;

@@ -21,7 +21,7 @@ use Rattle.lvm_write.specs.Written.{HaveRoom}
 use Rattle.lvm_commit.specs.Settling.{HasSameRows, HoldsWithin, IsForgotten, MayCommit, MaySettle, is_held_so, many_there, there}
 use Rattle.lvm_commit.proofs.RoundsLemmas.Wanting.{row_stays}
 use Rattle.lvm_session.specs.Marks.{is_among}
-use Rattle.lvm_core.specs.Committing.{Marks}
+use Rattle.lvm_core.specs.Committing.{MarksCopies}
 use Rattle.lvm_core.specs.Steps.{IsMarked, WantsMarksAtMost}
 pub use Rattle.lvm_num.proofs.DescriptorLemmas.Partitions.{one_partition as pp_is}
 
@@ -31,7 +31,7 @@ pub use Rattle.lvm_num.proofs.DescriptorLemmas.Partitions.{one_partition as pp_i
 pub record SoFar (to_stale to_fresh : List Pp) (none : Type 0) (old now : Stored) : Type 0 where
   pub rest : WantsMarksAtMost old now
   pub dirty : now.wanted.dirty ≡ old.wanted.dirty
-  pub marks : Marks to_stale to_fresh old.wanted now.wanted
+  pub marks : MarksCopies to_stale to_fresh old.wanted now.wanted
   pub same : none → now ≡ old
 
 -- nothing has changed
@@ -97,7 +97,7 @@ wants_mark old new kept members missing =
     record { group = kept.group; committed = kept.committed; idle = kept.idle; stamp = kept.stamp; rows = rows; missing = missing; forgotten = kept.forgotten }
 
 -- the same marks, said of other lists
-remarked : (stale fresh more fresher : List Pp) (none : Type 0) (old now : Stored) → SoFar stale fresh none old now → Marks more fresher old.wanted now.wanted → SoFar more fresher none old now
+remarked : (stale fresh more fresher : List Pp) (none : Type 0) (old now : Stored) → SoFar stale fresh none old now → MarksCopies more fresher old.wanted now.wanted → SoFar more fresher none old now
 remarked stale fresh more fresher none old now so_far marks = record { rest = so_far.rest; dirty = so_far.dirty; marks = marks; same = so_far.same }
 
 -- first marks, and then more

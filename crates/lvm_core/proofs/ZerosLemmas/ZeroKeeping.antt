@@ -36,7 +36,7 @@ use Rattle.lvm_session.specs.State.{Core, State, state, is_there}
 use Rattle.lvm_session.specs.Dark.{all_dark}
 use Rattle.lvm_session.specs.Placed.{ArePlaced}
 use Rattle.lvm_session.specs.Sound.{is_dark}
-use Rattle.lvm_core.specs.Sound.{HasNoneOpen, IsSoundBetween}
+use Rattle.lvm_core.specs.Sound.{HasNoneOpen, IsSoundAtRest}
 use Rattle.lvm_core.specs.Held.{IsHeld}
 use Rattle.lvm_core.specs.Settled.{IsSettled}
 use Rattle.lvm_core.specs.Committing.{with_one_out, moment_of}
@@ -154,7 +154,7 @@ module _ (pp : Pp) (before after : ℕ) (old new : State) (answer : Result (Unit
   pub zero_sizes : SameSizes old.core new.core
   zero_sizes = by_core (SameSizes old.core) (λ is. record { most = refl; buffers = one_out_long old.core.pool }) (λ is. record { most = refl; buffers = one_out_long old.core.pool }) (same_sizes old.core)
 
-  pub zero_sound : IsSoundBetween old → IsSoundBetween new
+  pub zero_sound : IsSoundAtRest old → IsSoundAtRest new
   zero_sound sound = by_how w.how w.part w.goes
     where
       placed : ArePlaced new.device.sizes old.core.descriptor old.core.status.wanted
@@ -163,10 +163,10 @@ module _ (pp : Pp) (before after : ℕ) (old new : State) (answer : Result (Unit
       out : Core
       out = record old.core { pool = with_one_out old.core.pool }
 
-      as_core : (core : Core) → new.core ≡ core → IsSoundBetween (state new.device core) → IsSoundBetween new
-      as_core core is it = subst (λ (c : Core). IsSoundBetween (state new.device c)) (sym is) it
+      as_core : (core : Core) → new.core ≡ core → IsSoundAtRest (state new.device core) → IsSoundAtRest new
+      as_core core is it = subst (λ (c : Core). IsSoundAtRest (state new.device c)) (sym is) it
 
-      by_how : (how : Moved) → DoesPart (λ d. d == pp.disk) (IsZeroOf old.core.descriptor.mib pp) pp.disk 0 before after old.device new.device how → GoesOnAfter pp.disk old.core new.core how answer → IsSoundBetween new
+      by_how : (how : Moved) → DoesPart (λ d. d == pp.disk) (IsZeroOf old.core.descriptor.mib pp) pp.disk 0 before after old.device new.device how → GoesOnAfter pp.disk old.core new.core how answer → IsSoundAtRest new
       by_how (moved.Done back) part goes = as_core old.core goes.1 (sound_ready new.device old.core sound.fitting none sound.landed placed settled.quiet.buffers (ap is_dark settled.power) sound.heard part.rests)
       by_how (moved.Failed back) part goes = as_core old.core goes.1 (sound_ready new.device old.core sound.fitting none sound.landed placed settled.quiet.buffers (ap is_dark settled.power) sound.heard part.rests)
       by_how (moved.Dark started) part goes = as_core (all_dark out) goes.1

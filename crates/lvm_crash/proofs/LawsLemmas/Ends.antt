@@ -8,7 +8,7 @@ use Rattle.lvm_num.specs.Buffer.{Sector}
 use Rattle.lvm_vol.specs.declared.entry.Vol.TheVariants.{Disk, Lv}
 use Rattle.lvm_vol.specs.declared.entry.Outcome.{Outcome}
 use Rattle.lvm_vol.specs.declared.entry.Outcome.TheVariants as outcome
-use Rattle.lvm_vol.specs.Facts.{Fact, Landed as HasLanded, Cut, Stands}
+use Rattle.lvm_vol.specs.Facts.{Fact, Landed as HasLanded, Cut, IsInList}
 use Rattle.lvm_vol.specs.May.{Known, known, cut, also, May}
 use Rattle.lvm_vol.specs.Standing.{Volume, no_volumes, volumes_in}
 use Rattle.lvm_vol.proofs.LawsLemmas.Knowing.{known-push}
@@ -30,7 +30,7 @@ cut_again b k x may = by_values (cut b k).values may
   where
     by_values : (values : Option (List Sector)) → May (record k { values = values }) x → May (record k { values = also [] values }) x
     by_values None h = h
-    by_values (Some vs) h = subst (Stands x) (sym (append-nil vs)) h
+    by_values (Some vs) h = subst (IsInList x) (sym (append-nil vs)) h
 
 module _ (s : ModelState) (group : Descriptor) (in_flight : Option (Stamped Status)) (c : Contents) where
   -- with a longer history, by which the modes stay, the volumes stand as they did, and disks in no group may show what they show
@@ -66,7 +66,7 @@ module _ (s : ModelState) (group : Descriptor) (in_flight : Option (Stamped Stat
       (cut_again b (known facts (Disk d) b) x (subst (λ (k : Known). May k x) (known-push facts Cut (Disk d) b) may)))
 
   -- with landings of what was open
-  landings_more : (votes : Votes) (how : Outcome) (started : ℕ → Bool) → Good votes s → (places : List ℕ) → ((i : ℕ) → Stands i places → IsUnlanded s i) → (facts : List Fact)
+  landings_more : (votes : Votes) (how : Outcome) (started : ℕ → Bool) → Good votes s → (places : List ℕ) → ((i : ℕ) → IsInList i places → IsUnlanded s i) → (facts : List Fact)
       → Describes s facts group in_flight c → Describes s (facts ++ landings how s.name started places) group in_flight c
   landings_more votes how started good [] each facts old = subst (λ l. Describes s l group in_flight c) (sym (append-nil facts)) old
   landings_more votes how started good (i ∷ places) each facts old =
@@ -76,7 +76,7 @@ module _ (s : ModelState) (group : Descriptor) (in_flight : Option (Stamped Stat
       (entry_more facts (HasLanded (s.name i) how (started i) []) (on_volume votes group s good i mine.req mine.there mine.request) old))
 
 -- one of the first is one of all
-among : (first rest : List ℕ) (i : ℕ) → Stands i first → Stands i (first ++ rest)
+among : (first rest : List ℕ) (i : ℕ) → IsInList i first → IsInList i (first ++ rest)
 among [] rest i h = absurd h
 among (j ∷ first) rest i (inl here) = inl here
 among (j ∷ first) rest i (inr there) = inr (among first rest i there)

@@ -21,7 +21,7 @@ use Rattle.lvm_vol.specs.May.{Known, known, cut, May}
 use Rattle.lvm_vol.specs.Standing.{Standing, Settled, Open, Absent, Shape, volumes_in}
 use Rattle.lvm_vol.proofs.LawsLemmas.Knowing.{known-push}
 use Rattle.lvm_kept.specs.Contents.{Contents}
-use Rattle.lvm_kept.specs.Group.{is_voter, status_among, Finds, IsFound, members_in, status_by, Reads, ReadsBy, fresh_on, names_if, IsOneOf, IsSome}
+use Rattle.lvm_kept.specs.Group.{is_voter, status_among, Finds, IsFound, members_in, status_by, ReadsGroup, ReadsBy, fresh_on, names_if, IsOneOf, IsSome}
 use Rattle.lvm_kept.specs.Kept.{HasStatus, IsBlockKept, BlocksKept, RawAgrees, IsAvailable, StandsAs, Kept}
 use Rattle.lvm_kept.specs.Committed.{IsWithinDisks}
 use Rattle.lvm_kept.proofs.CommittedLemmas.Finding.{finding_reads}
@@ -77,7 +77,7 @@ module _ (old : Contents) (status : ℕ → Option (Stamped Status)) (note : ℕ
   found_before : (id : ℕ) (group : Descriptor) → IsFound new id group → IsFound old id group
   found_before id group is = (is.0, before is.0 id group is.1)
 
-  reads_before : (disks : Disks) (id : ℕ) (group : Descriptor) → Reads new disks id group → Reads old disks id group
+  reads_before : (disks : Disks) (id : ℕ) (group : Descriptor) → ReadsGroup new disks id group → ReadsGroup old disks id group
   reads_before disks id group reads = record { found = found_before id group reads.found; enough = reads.enough }
 
   -- the groups beside one are kept as they were
@@ -126,11 +126,11 @@ module _ (old : Contents) (status : ℕ → Option (Stamped Status)) (note : ℕ
     found = after all_disks group.id group describes.stands.found
 
     -- a set that can read finds one of the two statuses
-    reading : (disks : Disks) (id : ℕ) (g : Descriptor) → id ≡ group.id → Reads new disks id g → FindsStatus s group new disks
+    reading : (disks : Disks) (id : ℕ) (g : Descriptor) → id ≡ group.id → ReadsGroup new disks id g → FindsStatus s group new disks
     reading disks id g same reads = finds_status votes s group new are stood crash within disks
         (subst (λ i. CanRead group (members_in new disks i group)) same (subst (λ h. CanRead h (members_in new disks id h)) (one_group id g same reads.found) reads.enough))
 
-    found_by : (disks : Disks) (id : ℕ) (g : Descriptor) (same : id ≡ group.id) (reads : Reads new disks id g) → status_by new disks id g ≡ Some (reading disks id g same reads).status
+    found_by : (disks : Disks) (id : ℕ) (g : Descriptor) (same : id ≡ group.id) (reads : ReadsGroup new disks id g) → status_by new disks id g ≡ Some (reading disks id g same reads).status
     found_by disks id g same reads = ap (λ h. status_by new disks id h) (one_group id g same reads.found) ∙ ap (λ i. status_by new disks i group) same ∙ (reading disks id g same reads).found
 
     after_cut : (lv b : ℕ) → known (facts ++ Cut ∷ []) (Lv lv) b ≡ cut b (known facts (Lv lv) b)
@@ -152,18 +152,18 @@ module _ (old : Contents) (status : ℕ → Option (Stamped Status)) (note : ℕ
 
     -- ---- two sets, of which one finds the status and one the descriptor
 
-    status_there : (b : Disks) (id : ℕ) (h k : Descriptor) → Reads new b id h → IsFound new id k → HasStatus k.lvs (status_by new b id h)
+    status_there : (b : Disks) (id : ℕ) (h k : Descriptor) → ReadsGroup new b id h → IsFound new id k → HasStatus k.lvs (status_by new b id h)
     status_there b id h k reads is = by_id id group.id
         (λ same. subst (HasStatus k.lvs) (sym (found_by b id h same reads)) (has_status k.lvs (reading b id h same reads).status))
         (λ apart. no_status id k apart is (status_by new b id h))
 
-    across : (b : Disks) (id : ℕ) (h k : Descriptor) → Reads new b id h → IsFound new id k → BlocksKept new facts k (members_in new all_disks id k) (status_by new b id h)
+    across : (b : Disks) (id : ℕ) (h k : Descriptor) → ReadsGroup new b id h → IsFound new id k → BlocksKept new facts k (members_in new all_disks id k) (status_by new b id h)
     across b id h k reads is = by_id id group.id
         (λ same. subst (BlocksKept new facts k (members_in new all_disks id k)) (sym (found_by b id h same reads))
         (of_found (λ i g. BlocksKept new facts g (members_in new all_disks i g) (Some (reading b id h same reads).status)) (blocks_by b all_disks (reading b id h same reads)) id k same is))
         (λ apart row lp block one inside. absurd (no_row id k apart is row one))
 
-    some : (b : Disks) (id : ℕ) (h k : Descriptor) → Reads new b id h → IsFound new id k → (row : LvRow) (lp : ℕ) → IsOneOf k.lvs row → lp < row.lps
+    some : (b : Disks) (id : ℕ) (h k : Descriptor) → ReadsGroup new b id h → IsFound new id k → (row : LvRow) (lp : ℕ) → IsOneOf k.lvs row → lp < row.lps
         → IsSome (fresh_on (members_in new all_disks id k) (status_by new b id h) row lp)
     some b id h k reads is row lp one = by_id id group.id
         (λ same. subst (λ o. lp < row.lps → IsSome (fresh_on (members_in new all_disks id k) o row lp)) (sym (found_by b id h same reads))
@@ -176,7 +176,7 @@ module _ (old : Contents) (status : ℕ → Option (Stamped Status)) (note : ℕ
     others : OthersStand new group.id
     others = others_last group.id describes.stands.others
 
-    common : (a b : Disks) (id : ℕ) (g h : Descriptor) → Reads new a id g → Reads new b id h → (d : ℕ) × IsTrue (members_in new a id g d) × IsTrue (members_in new b id h d)
+    common : (a b : Disks) (id : ℕ) (g h : Descriptor) → ReadsGroup new a id g → ReadsGroup new b id h → (d : ℕ) × IsTrue (members_in new a id g d) × IsTrue (members_in new b id h d)
     common a b id g h r t = by_id id group.id
         (λ same.
         let as_one : h ≡ g = one_group_of id h g same t.found r.found in

@@ -6,7 +6,7 @@ use Rattle.lvm_kept.specs.Contents.{Contents}
 use Rattle.lvm_kept.specs.Torn.{IsOtherOrRecord}
 use Rattle.lvm_kept.proofs.PlansLemmas.{step_keeps}
 use Rattle.lvm_invariant.specs.State.{Marks, View, Beside, ModelState}
-use Rattle.lvm_invariant.specs.BeginUpdate.{Begins}
+use Rattle.lvm_invariant.specs.BeginUpdate.{BeginsUpdate}
 use Rattle.lvm_invariant.specs.Events.{BeginUpdate, EndUpdate}
 use Rattle.lvm_invariant.proofs.EventsLemmas.Each.{each_keeps}
 use Rattle.lvm_crash.specs.Session.{as_marks, marks_shown}
@@ -32,7 +32,7 @@ pub updates_last : UpdatesLast
 updates_last = record {
   begins = λ votes s group c u good describes own value later stands.
       let new : ModelState = record s { in_flight = Some (as_marks s.beside u) } in
-      let may : Begins s (as_marks s.beside u) = record { none = describes.shown.statuses.same; value = value; later = later } in (
+      let may : BeginsUpdate s (as_marks s.beside u) = record { none = describes.shown.statuses.same; value = value; later = later } in (
         each_keeps votes (BeginUpdate (as_marks s.beside u)) s new (may, refl) good,
         description_lasts votes (BeginUpdate (as_marks s.beside u)) s new group None (Some u) c c (may, refl) good tt describes (keeps_same c) (record {
           blocks = describes.shown.blocks;

@@ -19,7 +19,7 @@ use Rattle.lvm_invariant.specs.State.{Beside, ModelState}
 use Rattle.lvm_invariant.specs.Found.{Votes}
 use Rattle.lvm_invariant.specs.Good.{Good}
 use Rattle.lvm_invariant.specs.Events.{MoveStatus}
-use Rattle.lvm_invariant.specs.MoveStatus.{Moves, moved}
+use Rattle.lvm_invariant.specs.MoveStatus.{StatusMoves, moved}
 use Rattle.lvm_crash.specs.Session.{as_marks, marks_shown, Shows}
 use Rattle.lvm_crash.specs.Left.{MayRemain}
 use Rattle.lvm_crash.specs.Flights.{Matches}
@@ -86,7 +86,7 @@ module _ (votes : Votes) (s : ModelState) (group : Descriptor) (w : RecordWrite)
   either : (d : ℕ) → (now.status d ≡ before.status d) ⊎ (now.status d ≡ Some u)
   either d = ⊎_elim (λ same. inl same) (λ up. inr (up.3 ∙ sym up.1)) (remain.statuses d)
 
-  moves : Moves s (as_marks s.beside u) (statuses_of s.beside group.id now)
+  moves : StatusMoves s (as_marks s.beside u) (statuses_of s.beside group.id now)
   moves = record {
     flies = matches.describes.shown.statuses.same;
     each = λ d. ⊎_elim

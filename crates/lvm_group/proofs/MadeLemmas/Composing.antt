@@ -12,15 +12,15 @@ use Rattle.lvm_write.specs.Parts.{Spends}
 use Rattle.lvm_write.specs.Written.{LogsPlan, KeepsShelf, IsDarkened, IsGivenUp}
 use Rattle.lvm_write.proofs.PartsLemmas.Transfers.{darkened_then, given_up_then}
 use Rattle.lvm_transfer.specs.Reading.{IsUnwritten, IsRested}
-use Rattle.lvm_write.specs.Beginning.{Beginning, Part, new_beginning, new_order, IsOfParts, Stands as PartStands}
+use Rattle.lvm_write.specs.Beginning.{Beginning, Part, new_beginning, new_order, IsOfParts, PartIsWritten as PartStands}
 use Rattle.lvm_write.specs.Ends.{BothFlip, HasNoFault, StopsAt, IsLowestFailed, WasTriedOnTargets}
 use Rattle.lvm_group.specs.passed.Names.{Room, Cause}
 use Rattle.lvm_group.specs.passed.CoreRefusedCause as cause
-use Rattle.lvm_group.specs.NewGroup.{NewGroup, among, size_for, given_up, MayBegin, RefusesFirst}
+use Rattle.lvm_group.specs.NewGroup.{NewGroup, among, size_for, given_up, MayMakeGroup, RefusesFirst}
 use Rattle.lvm_group.specs.Shown.{IsClear}
 use Rattle.lvm_group.specs.Planned.{IsPlanned, RefusesPlan}
 use Rattle.lvm_group.specs.Made.{beginning_for, IsAsBefore, StopsAtWrite, Breaks, HasRead, MkvgRefuses}
-use Rattle.lvm_group.specs.Steps.{HasOnlyRead, LetsMake, RefusesFound, AreWritten, WritingFails, Stands, cuts_power}
+use Rattle.lvm_group.specs.Steps.{HasOnlyRead, LetsMake, RefusesFound, AreWritten, WritingFails, RecordsStand, cuts_power}
 use Rattle.lvm_group.specs.declared.look.Free.{Free}
 use Rattle.lvm_group.specs.declared.plan.Plan.{Plan}
 
@@ -52,7 +52,7 @@ refuses_plan w patience log device why ready (inl memory) = subst (MkvgRefuses w
 })
 refuses_plan w patience log device why ready (inr refuses) = refuses_first w patience log device why refuses
 
-pub refuses_reading : (w : NewGroup) (patience : ℕ) (was : Log) (old new : Device) (why : Cause) → MayBegin old.sizes (spare_entries was) w.disks w.mib → RefusesFound w.force w.moment patience old new why
+pub refuses_reading : (w : NewGroup) (patience : ℕ) (was : Log) (old new : Device) (why : Cause) → MayMakeGroup old.sizes (spare_entries was) w.disks w.mib → RefusesFound w.force w.moment patience old new why
     → MkvgRefuses w patience was (cut_where why was) old new why
 refuses_reading w patience was old new (cause.DiskFailed disk) may refuses = inl (record { may = may; read = has_read was old new refuses.0; unread = refuses.1 })
 refuses_reading w patience was old new cause.GroupExists may refuses = (has_read was old new refuses.0, may, refuses.1, refuses.2)
@@ -118,7 +118,7 @@ module _ (w : NewGroup) (old mid new : Device) (un : IsUnwritten old mid) where
 
 -- ---- what the call answers
 
-module _ (w : NewGroup) (was : Log) (old mid new : Device) (free : Free) (may : MayBegin old.sizes (spare_entries was) w.disks w.mib) (found : LetsMake w.force w.moment old mid free)
+module _ (w : NewGroup) (was : Log) (old mid new : Device) (free : Free) (may : MayMakeGroup old.sizes (spare_entries was) w.disks w.mib) (found : LetsMake w.force w.moment old mid free)
     (keeps : KeepsShelf (among w.disks) (IsOfParts (beginning_for old.sizes w free.homes) new_order) mid new) where
   abbrev pub writes : Beginning
   writes = beginning_for old.sizes w free.homes
@@ -134,7 +134,7 @@ module _ (w : NewGroup) (was : Log) (old mid new : Device) (free : Free) (may : 
   }
 
   pub stands : 1 ≤ size_for old.sizes w.disks w.mib → (room : Room) (plan : Plan) (next : Homes) → IsPlanned old.sizes w.name (size_for old.sizes w.disks w.mib) w.disks w.moment room plan → AreWritten writes mid new → BothFlip (among w.disks) free.homes next
-      → (is : Log) → is ≡ given_up was w.disks → Stands w room was is old new (record { parts = plan.parts; homes = next })
+      → (is : Log) → is ≡ given_up was w.disks → RecordsStand w room was is old new (record { parts = plan.parts; homes = next })
   stands size room plan next planned written flips is same = record {
     clear = clear;
     homes = free.homes;

@@ -24,7 +24,7 @@ use Rattle.lvm_group.specs.passed.Names.{NoneIsLeft, Room, HaveAllLanded, IsSett
 use Rattle.lvm_group.proofs.passed.Names.{starts_settled, starts_numbered}
 use Rattle.lvm_group.specs.NewGroup.{NewGroup, size_for, new_group, new_status}
 use Rattle.lvm_group.specs.Made.{IsMade}
-use Rattle.lvm_group.specs.Steps.{Stands}
+use Rattle.lvm_group.specs.Steps.{RecordsStand}
 use Rattle.lvm_group.specs.declared.make.Standing.{Standing}
 use Rattle.lvm_group.proofs.LogLemmas.{spare_given, landed_given, later_given}
 use Rattle.lvm_group.proofs.NewGroupLemmas.Groups.{are_placed, nothing_missing}
@@ -33,7 +33,7 @@ use Rattle.lvm_group.proofs.NewGroupLemmas.Groups.{are_placed, nothing_missing}
 none_left_of_none : (d : Descriptor) (u : Stored) → d.lvs ≡ [] → NoneIsLeft d u
 none_left_of_none d u empty p is = absurd (subst (λ (rows : List LvRow). IsOneOf rows is.row) empty is.volume)
 
-module _ (w : NewGroup) (room : Room) (was is : Log) (old new : Device) (standing : Standing Parts) (stands : Stands w room was is old new standing) where
+module _ (w : NewGroup) (room : Room) (was is : Log) (old new : Device) (standing : Standing Parts) (stands : RecordsStand w room was is old new standing) where
   pub spare_left : 1 ≤ spare_entries is
   spare_left = subst (λ (l : Log). 1 ≤ spare_entries l) (sym stands.entered) (let e = spare_given was w.disks in let room_for = stands.clear.free.may.entries in omega (arith, e, room_for))
 

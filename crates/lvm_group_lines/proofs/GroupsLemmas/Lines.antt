@@ -6,7 +6,7 @@ use Rattle.lvm_io.specs.Count.{Rose}
 use Rattle.lvm_vol.specs.Log.{Log}
 use Rattle.lvm_core.specs.declared.refused.Refused.{Refused}
 use Rattle.lvm_core.specs.Settled.{IsSettled as IsSettledCore}
-use Rattle.lvm_core.specs.Sound.{IsSoundBetween}
+use Rattle.lvm_core.specs.Sound.{IsSoundAtRest}
 use Rattle.lvm_core.specs.State.{state_of}
 use Rattle.lvm_session.specs.Sound.{IsSound}
 use Rattle.lvm_session.specs.State.{Core}
@@ -56,7 +56,7 @@ module _ {S : Type 0} (device : S → Device) (run moment : ℕ) (old : Device) 
   MayServe outcome = IfOk outcome (λ driver. HasJustBegun (state_of device driver) → Serves (state_of device driver))
 
   -- it is sound with requests where it is between commands
-  pub may_hold : (outcome : Result (S × Core) (Refused S)) → MayServe outcome → Starts outcome → IfOk outcome (λ driver. IsSoundBetween (state_of device driver) → IsSound (state_of device driver))
+  pub may_hold : (outcome : Result (S × Core) (Refused S)) → MayServe outcome → Starts outcome → IfOk outcome (λ driver. IsSoundAtRest (state_of device driver) → IsSound (state_of device driver))
   may_hold (Ok driver) serves starts = λ sound. (serves (record { sound = sound; settled = starts.settled; left = starts.left; faults = starts.faults })).sound
   may_hold (Err refused) serves starts = tt
 

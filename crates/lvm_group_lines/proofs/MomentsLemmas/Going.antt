@@ -21,7 +21,7 @@ use Rattle.lvm_quiesce.specs.Behind.{IsAheadEach}
 use Rattle.lvm_quiesce.proofs.LawsLemmas.Behind.{each_is_behind, later_is_behind_each}
 use Rattle.lvm_transfer.specs.Transfer.{Relights}
 use Rattle.lvm_group_lines.specs.Asking.{IsAsked, EndsSession}
-use Rattle.lvm_group_lines.specs.Moments.{GoesOn, HasBegunHeld, Role}
+use Rattle.lvm_group_lines.specs.Moments.{LineGoesOn, HasBegunHeld, Role}
 use Rattle.lvm_group_lines.specs.Replies.{most_refusals}
 use Rattle.lvm_group_lines.specs.Stages.{posts_ended}
 use Rattle.lvm_group_lines.specs.State.{ScriptState, ArePosted, IsBetween, IsOnBetween}
@@ -65,7 +65,7 @@ none_begins (Some core) = tt
 
 -- ---- where nothing changes
 
-pub still_goes : (run : ℕ) (role : Role) (answer : Reply) (s : ScriptState) → IsBetween s.moment s.session s.posts → most_refusals answer ≤ 1 → GoesOn run role answer s s
+pub still_goes : (run : ℕ) (role : Role) (answer : Reply) (s : ScriptState) → IsBetween s.moment s.session s.posts → most_refusals answer ≤ 1 → LineGoesOn run role answer s s
 still_goes run role answer s between one = record {
   keeps = λ timely alone first span stands. (span, λ goes. stands);
   timely = λ goes timely. timely;
@@ -79,12 +79,12 @@ still_goes run role answer s between one = record {
   few = omega (arith, one);
 }
 
-pub same_goes : (run : ℕ) (role : Role) (answer : Reply) (old new : ScriptState) → IsBetween old.moment old.session old.posts → most_refusals answer ≤ 1 → new ≡ old → GoesOn run role answer old new
-same_goes run role answer old new between one same = subst (λ (s : ScriptState). GoesOn run role answer old s) (sym same) (still_goes run role answer old between one)
+pub same_goes : (run : ℕ) (role : Role) (answer : Reply) (old new : ScriptState) → IsBetween old.moment old.session old.posts → most_refusals answer ≤ 1 → new ≡ old → LineGoesOn run role answer old new
+same_goes run role answer old new between one same = subst (λ (s : ScriptState). LineGoesOn run role answer old s) (sym same) (still_goes run role answer old between one)
 
 -- the clock alone was asked
-pub asked_goes : (run : ℕ) (role : Role) (answer : Reply) (old new : ScriptState) → IsBetween old.moment old.session old.posts → most_refusals answer ≤ 1 → IsAsked old new → GoesOn run role answer old new
-asked_goes run role answer old new between one asked = subst (λ (s : ScriptState). GoesOn run role answer old s) (sym asked.same) (record {
+pub asked_goes : (run : ℕ) (role : Role) (answer : Reply) (old new : ScriptState) → IsBetween old.moment old.session old.posts → most_refusals answer ≤ 1 → IsAsked old new → LineGoesOn run role answer old new
+asked_goes run role answer old new between one asked = subst (λ (s : ScriptState). LineGoesOn run role answer old s) (sym asked.same) (record {
   keeps = λ timely alone first span stands. (span, λ goes. stands);
   timely = λ goes timely. record { ahead = ahead timely.ahead; session = session_later old.session old.last new.last later timely.session };
   left = λ timely. each_is_ahead run (new.last + 1) old.moment.device old.moment.facts (ahead timely.ahead);
@@ -106,8 +106,8 @@ asked_goes run role answer old new between one asked = subst (λ (s : ScriptStat
 -- ---- a session ends of which no request is open, and nothing else changes
 
 pub ended_goes : (run : ℕ) (role : Role) (answer : Reply) (old new : ScriptState) (core : Core) → old.session ≡ Some core → core.history.facts ≡ old.moment.facts → core.requests ≡ [] → IsBetween old.moment old.session old.posts
-    → most_refusals answer ≤ 1 → EndsSession old new → GoesOn run role answer old new
-ended_goes run role answer old new core was facts none between one ends = subst (λ (s : ScriptState). GoesOn run role answer old s) (sym is) (record {
+    → most_refusals answer ≤ 1 → EndsSession old new → LineGoesOn run role answer old new
+ended_goes run role answer old new core was facts none between one ends = subst (λ (s : ScriptState). LineGoesOn run role answer old s) (sym is) (record {
   keeps = λ timely alone first span stands. (span, λ goes past begins. tt);
   timely = λ goes timely. record { ahead = timely.ahead; session = tt };
   left = λ timely. each_is_ahead run (old.last + 1) old.moment.device old.moment.facts timely.ahead;

@@ -10,7 +10,7 @@ use Rattle.lvm_disk.proofs.PathsLemmas.{last-path}
 use Rattle.lvm_vol.specs.Facts.{Fact}
 use Rattle.lvm_vol.specs.Legal.{IsLater}
 use Rattle.lvm_kept.specs.Moments.{Moment}
-use Rattle.lvm_steps.specs.Moments.{Begins, Keeps}
+use Rattle.lvm_steps.specs.Moments.{RunBegins, Keeps}
 use Rattle.lvm_steps.specs.Requests.{at}
 use Rattle.lvm_steps.proofs.MomentsLemmas.Spans.{keeps_steps}
 use Rattle.lvm_steps.specs.Behind.{beginning_at}
@@ -23,7 +23,7 @@ use Rattle.lvm_session.specs.declared.open.Power.TheVariants as power
 use Rattle.lvm_session.specs.Causes.{is_over}
 use Rattle.lvm_session.specs.Judging.{is_waiting}
 use Rattle.lvm_session.specs.Requests.{IsLanded}
-use Rattle.lvm_session.specs.Sound.{IsLit, IsSound, is_dark, waits}
+use Rattle.lvm_session.specs.Sound.{HasPower, IsSound, is_dark, waits}
 use Rattle.lvm_session.specs.State.{Core, State, state}
 use Rattle.lvm_status.specs.Members.{HasItsRows}
 use Rattle.lvm_quiesce.specs.passed.Names.{HaveAllLanded}
@@ -32,7 +32,7 @@ use Rattle.lvm_group_lines.specs.passed.Tie.{StaysGood}
 use Rattle.lvm_quiesce.specs.Behind.{IsAheadEach}
 use Rattle.lvm_tie_commands.specs.Standing.{StandsAfter}
 use Rattle.lvm_group_lines.proofs.passed.Tie.{going_leaves, is_stamped, path_shape, stays_stamped}
-use Rattle.lvm_group_lines.specs.Moments.{GoesOn, HasBegunHeld, IsAlone, IsRequesting, Role}
+use Rattle.lvm_group_lines.specs.Moments.{LineGoesOn, HasBegunHeld, IsAlone, IsRequesting, Role}
 use Rattle.lvm_group_lines.specs.Replies.{IsStuck, most_refusals}
 use Rattle.lvm_group_lines.specs.Stages.{IsClosed}
 use Rattle.lvm_group_lines.specs.State.{ArePosted, IsAtRest, IsBetween, IsOnBetween, IsTimely, StandsAlone, StandsBy, ScriptState}
@@ -57,10 +57,10 @@ over_landed s sound over id = sound.told.each id ∙ none_waits s.core.requests 
 record Closes (old new : Device) : Type 0 where
   path : Path DeviceStep (LeavesNoMore old) old new
   flights : new.flights ≡ old.flights
-  lit : IsLit new
+  lit : HasPower new
   waited : new.counts.waits ≡ old.counts.waits
 
-closes_lit : (old new : Device) → IsLit old → new ≡ record old { freed = [] } → Closes old new
+closes_lit : (old new : Device) → HasPower old → new ≡ record old { freed = [] } → Closes old new
 closes_lit old new lit is = subst (Closes old) (sym same) (record { path = Here (λ image may. may); flights = refl; lit = lit; waited = refl })
   where
     same : new ≡ old
@@ -110,7 +110,7 @@ module _ (role : Role) (old : ScriptState) (core : Core) (end : State) (its : Is
   moment_is = ap (λ (fs : List Fact). at old.moment.device fs) its.facts
 
   module _ (new : ScriptState) (alone : IsAlone role old new) (first : Moment) (stands : StandsBy core.history.run first old) where
-    stands_first : (past : List Fact) → Begins core.history.run past first → StandsAfter past old.moment.device core
+    stands_first : (past : List Fact) → RunBegins core.history.run past first → StandsAfter past old.moment.device core
     stands_first past begins =
         subst (λ (o : Option Core). IfSome o (λ (c : Core). StandsAlone old.moment.device c → StandsAfter past old.moment.device c)) its.session (stands past begins)
         (subst (λ (o : Option Core). IfSome o (StandsAlone old.moment.device)) its.session (its.alone new alone))
@@ -124,7 +124,7 @@ module _ (role : Role) (old : ScriptState) (core : Core) (end : State) (its : Is
     pub spanned : Keeps core.history.run first old.moment → Keeps core.history.run first (moment_of end)
     spanned span = (stays_good.good first good_first).1 (subst (Keeps core.history.run first) moment_is span)
 
-    pub stands_then : end.core.power ≡ power.On → (past : List Fact) → Begins core.history.run past first → StandsAfter past end.device end.core
+    pub stands_then : end.core.power ≡ power.On → (past : List Fact) → RunBegins core.history.run past first → StandsAfter past end.device end.core
     stands_then on past begins = record {
       empty = λ none. absurd (its.volumes (sym (ap (λ (d : Descriptor). d.lvs) (path_shape its.leaves).descriptor) ∙ none));
       tied = λ some. good_end on past begins;
@@ -158,10 +158,10 @@ module _ (role : Role) (old : ScriptState) (core : Core) (end : State) (its : Is
     not_dark : end.core.power ≡ power.Dark → ⊥
     not_dark dark = let e : power.On ≡ power.Dark = sym on ∙ dark in cc e
 
-    lit : IsLit end.device
+    lit : HasPower end.device
     lit = its.sound.lit (ap is_dark on)
 
-    goes : GoesOn core.history.run role answer old next
+    goes : LineGoesOn core.history.run role answer old next
     goes = record {
       keeps = λ timely alone first span stands. (spanned next alone first stands span, λ heard past begins only. stands_then next alone first stands on past begins);
       timely = λ heard timely. let before = before_end timely in record {
@@ -191,8 +191,8 @@ module _ (role : Role) (old : ScriptState) (core : Core) (end : State) (its : Is
       few = few;
     }
 
-    pub run_goes : GoesOn core.history.run role answer old new
-    run_goes = subst (GoesOn core.history.run role answer old) (sym is) goes
+    pub run_goes : LineGoesOn core.history.run role answer old new
+    run_goes = subst (LineGoesOn core.history.run role answer old) (sym is) goes
 
   -- ---- it is closed
 
@@ -217,7 +217,7 @@ module _ (role : Role) (old : ScriptState) (core : Core) (end : State) (its : Is
     new_moment : at new.moment.device end.core.history.facts ≡ new.moment
     new_moment = sym (ap (λ (fs : List Fact). at new.moment.device fs) facts)
 
-    pub over_goes : GoesOn core.history.run role answer old new
+    pub over_goes : LineGoesOn core.history.run role answer old new
     over_goes = record {
       keeps = λ timely alone first span stands. (
         subst (Keeps core.history.run first) new_moment (keeps_steps core.history.run first end.device new.moment.device end.core.history.facts (spanned new alone first stands span) it.path),

@@ -4,7 +4,7 @@ use Rattle.lvm_disk.specs.Device.{Device, IsReady}
 use Rattle.lvm_vol.specs.Facts.{Fact}
 use Rattle.lvm_vol.specs.Log.{Log, spare_entries}
 use Rattle.lvm_kept.specs.Moments.{Moment}
-use Rattle.lvm_steps.specs.Moments.{Begins, Keeps}
+use Rattle.lvm_steps.specs.Moments.{RunBegins, Keeps}
 use Rattle.lvm_steps.specs.Requests.{at}
 use Rattle.lvm_core.specs.declared.parts.Room.{Room}
 use Rattle.lvm_core.specs.declared.refused.Cause.{Cause}
@@ -17,7 +17,7 @@ use Rattle.lvm_group_lines.specs.passed.Handover.{HasJustBegun, IsHistory, Serve
 use Rattle.lvm_group_lines.proofs.passed.Handover.{made_begins}
 use Rattle.lvm_group_lines.specs.passed.TieCommands.{StandsAfter}
 use Rattle.lvm_group_lines.proofs.passed.TieCommands.{made_stands}
-use Rattle.lvm_group_lines.specs.passed.Group.{IsMade, MkvgRefuses, MkvgGives, MayBegin, NewGroup, RefusesFirst, given_up}
+use Rattle.lvm_group_lines.specs.passed.Group.{IsMade, MkvgRefuses, MkvgGives, MayMakeGroup, NewGroup, RefusesFirst, given_up}
 use Rattle.lvm_group_lines.specs.passed.Quiesce.{ClockIsAheadEach, Quiesces, MkvgOnceQuiet}
 use Rattle.lvm_group_lines.specs.Groups.{itself}
 use Rattle.lvm_group_lines.specs.State.{StandsAlone, without_facts}
@@ -121,7 +121,7 @@ module _ {S : Type 0} (device : S → Device) (shelf : S) (log : Log) (w : NewGr
   First = RefusesFirst (device shelf).sizes (spare_entries log) w.disks w.mib
 
   abbrev May : Type 0
-  May = MayBegin (device shelf).sizes (spare_entries log) w.disks w.mib
+  May = MayMakeGroup (device shelf).sizes (spare_entries log) w.disks w.mib
 
   module _ (outcome : Outcomes) (quiet : MkvgOnceQuiet device w room patience log (device shelf) outcome) where
     made : IfOk outcome MadeOnce
@@ -158,11 +158,11 @@ module _ {S : Type 0} (device : S → Device) (shelf : S) (log : Log) (w : NewGr
       by (Err refused) it = tt
 
   pub stands : (outcome : Outcomes) → MkvgOnceQuiet device w room patience log (device shelf) outcome
-      → IfOk outcome (λ driver. (first : Moment) → Keeps log.run first (at (device driver.0) driver.1.history.facts) → (past : List Fact) → Begins log.run past first → ClockIsAheadEach log.run w.moment (device shelf) log.facts → StartsHeld (device driver.0) driver.1 → StandsAlone (device driver.0) driver.1 → StandsAfter past (device driver.0) driver.1)
+      → IfOk outcome (λ driver. (first : Moment) → Keeps log.run first (at (device driver.0) driver.1.history.facts) → (past : List Fact) → RunBegins log.run past first → ClockIsAheadEach log.run w.moment (device shelf) log.facts → StartsHeld (device driver.0) driver.1 → StandsAlone (device driver.0) driver.1 → StandsAfter past (device driver.0) driver.1)
   stands outcome quiet = by outcome (made outcome quiet)
     where
       by : (o : Outcomes) → IfOk o MadeOnce
-          → IfOk o (λ driver. (first : Moment) → Keeps log.run first (at (device driver.0) driver.1.history.facts) → (past : List Fact) → Begins log.run past first → ClockIsAheadEach log.run w.moment (device shelf) log.facts → StartsHeld (device driver.0) driver.1 → StandsAlone (device driver.0) driver.1 → StandsAfter past (device driver.0) driver.1)
+          → IfOk o (λ driver. (first : Moment) → Keeps log.run first (at (device driver.0) driver.1.history.facts) → (past : List Fact) → RunBegins log.run past first → ClockIsAheadEach log.run w.moment (device shelf) log.facts → StartsHeld (device driver.0) driver.1 → StandsAlone (device driver.0) driver.1 → StandsAfter past (device driver.0) driver.1)
       by (Ok driver) it = λ first keeps past begins clock held alone. made_stands past log w room it.mid (state_of device driver) it.made held
       by (Err refused) it = tt
 

@@ -5,7 +5,7 @@ use Rattle.lvm_disk.specs.Device.{Device, IsReady, HasSectors}
 use Rattle.lvm_vol.specs.Facts.{Fact}
 use Rattle.lvm_vol.specs.Log.{Log, spare_entries}
 use Rattle.lvm_kept.specs.Moments.{Moment}
-use Rattle.lvm_steps.specs.Moments.{Begins, Keeps}
+use Rattle.lvm_steps.specs.Moments.{RunBegins, Keeps}
 use Rattle.lvm_steps.specs.Requests.{at}
 use Rattle.lvm_steps.specs.Behind.{ClockIsAhead}
 use Rattle.lvm_core.specs.declared.parts.Room.{Room}
@@ -126,7 +126,7 @@ module _ {S : Type 0} (device : S → Device) (shelf : S) (log : Log) (name : Li
   serves_then driver history just it = varied_on_begins log name moment room it.mid (state_of device driver) history it.on just
 
   stands_then : (driver : S × Core) → HasSectors (device driver.0) → IsSettledCore driver.1 → Serves (state_of device driver) → ComesOnce driver
-      → (first : Moment) → Keeps log.run first (at (device driver.0) driver.1.history.facts) → (past : List Fact) → Begins log.run past first → ClockIsAheadEach log.run moment (device shelf) log.facts → StartsHeld (device driver.0) driver.1 → StandsAlone (device driver.0) driver.1 → StandsAfter past (device driver.0) driver.1
+      → (first : Moment) → Keeps log.run first (at (device driver.0) driver.1.history.facts) → (past : List Fact) → RunBegins log.run past first → ClockIsAheadEach log.run moment (device shelf) log.facts → StartsHeld (device driver.0) driver.1 → StandsAlone (device driver.0) driver.1 → StandsAfter past (device driver.0) driver.1
   stands_then driver whole settled serves it first keeps past begins clock held alone =
       varied_on_stands log.run first log name moment room it.mid (state_of device driver) it.on (it.equal (quiet_is_ahead log.run moment (device shelf) it.mid log.facts it.quiesces clock))
       (record { sound = serves.sound; settled = settled; stamped = serves.stamped; run_is = ap (λ (c : Core). c.history.run) it.on.first.is; keeps = keeps; held = held }) whole (alone settled.quiet.requests) past begins
@@ -148,12 +148,12 @@ module _ {S : Type 0} (device : S → Device) (shelf : S) (log : Log) (name : Li
 
   pub stands : (outcome : Outcomes) → VaryonOnceQuiet device log name moment room patience (device shelf) outcome
       → IfOk outcome (λ driver. HasSectors (device driver.0) → IsSettledCore driver.1 → Serves (state_of device driver)
-      → (first : Moment) → Keeps log.run first (at (device driver.0) driver.1.history.facts) → (past : List Fact) → Begins log.run past first → ClockIsAheadEach log.run moment (device shelf) log.facts → StartsHeld (device driver.0) driver.1 → StandsAlone (device driver.0) driver.1 → StandsAfter past (device driver.0) driver.1)
+      → (first : Moment) → Keeps log.run first (at (device driver.0) driver.1.history.facts) → (past : List Fact) → RunBegins log.run past first → ClockIsAheadEach log.run moment (device shelf) log.facts → StartsHeld (device driver.0) driver.1 → StandsAlone (device driver.0) driver.1 → StandsAfter past (device driver.0) driver.1)
   stands outcome quiet = by outcome (comes outcome quiet)
     where
       by : (o : Outcomes) → IfOk o ComesOnce
           → IfOk o (λ driver. HasSectors (device driver.0) → IsSettledCore driver.1 → Serves (state_of device driver)
-          → (first : Moment) → Keeps log.run first (at (device driver.0) driver.1.history.facts) → (past : List Fact) → Begins log.run past first → ClockIsAheadEach log.run moment (device shelf) log.facts → StartsHeld (device driver.0) driver.1 → StandsAlone (device driver.0) driver.1 → StandsAfter past (device driver.0) driver.1)
+          → (first : Moment) → Keeps log.run first (at (device driver.0) driver.1.history.facts) → (past : List Fact) → RunBegins log.run past first → ClockIsAheadEach log.run moment (device shelf) log.facts → StartsHeld (device driver.0) driver.1 → StandsAlone (device driver.0) driver.1 → StandsAfter past (device driver.0) driver.1)
       by (Ok driver) it = λ whole settled serves. stands_then driver whole settled serves it
       by (Err refused) it = tt
 

@@ -33,7 +33,7 @@ use Rattle.lvm_group_lines.specs.passed.Quiesce.{IsAheadEach}
 use Rattle.lvm_group_lines.proofs.passed.Quiesce.{fewer_stay_behind}
 use Rattle.lvm_group_lines.specs.passed.TieCommands.{StandsAfter}
 use Rattle.lvm_group_lines.specs.Ends.{EndsUnasked}
-use Rattle.lvm_group_lines.specs.Moments.{Aside, GoesOn, HasBegunHeld}
+use Rattle.lvm_group_lines.specs.Moments.{Aside, LineGoesOn, HasBegunHeld}
 use Rattle.lvm_group_lines.specs.Shelves.{IsCut, CutDoes, PowerIsCut}
 use Rattle.lvm_group_lines.specs.Replies.{most_refusals}
 use Rattle.lvm_group_lines.specs.Stages.{GivesBack, HaveRooms, IsBetweenStage, IsFittingStage, history_after, history_in, history_of, posts_ended, session_in, session_of, shelf_in, shelf_of, state_in}
@@ -87,7 +87,7 @@ module _ (log : Log) (word : ℕ) (old new : ScriptState) (between : IsBetween o
     landed_then : HaveAllLanded new.moment.facts
     landed_then id = ap (λ (facts : List Fact). is_open facts id) facts ∙ cut_landed (log_with log old.moment.facts) landed id
 
-    quiet_goes : GoesOn log.run Aside answer old new
+    quiet_goes : LineGoesOn log.run Aside answer old new
     quiet_goes = record {
       keeps = λ timely alone first span stands. (
         subst (λ (facts : List Fact). Keeps log.run first (at new.moment.device facts)) (sym facts) (cut_keeps log.run first new.moment.device (log_with log old.moment.facts) (keeps_steps log.run first first_device new.moment.device old.moment.facts span path)),
@@ -152,16 +152,16 @@ module _ (log : Log) (word : ℕ) (old new : ScriptState) (between : IsBetween o
         core (votes_there core) (total_votes core.descriptor) (λ range some held. over_answered end range sound refl (dark_held core range held)) old.posts
         (subst (λ (s : Option Core). ArePosted old.moment.facts s old.posts) is between.posted)))
 
-    open_goes : GoesOn log.run Aside answer old new
-    open_goes = subst (λ (l : Log). GoesOn l.run Aside answer old new) history
+    open_goes : LineGoesOn log.run Aside answer old new
+    open_goes = subst (λ (l : Log). LineGoesOn l.run Aside answer old new) history
         (over_goes Aside old core end its answer new cut.lit facts_are cut.session cut.clock (λ stuck. cc (stuck)) (λ goes. refl) posted_then
         (λ others rests. absurd (more (subst (λ (s : Option Core). IfSome s IsSettledCore) is rests.session).quiet.requests))
         (let same = ap (λ (ps : List Post). length ps) posts_are ∙ length-map old.posts (ended_with (votes_there core) (total_votes core.descriptor)) in omega (arith, one, same)))
 
-  pub cut_goes : ((core : Core) → old.session ≡ Some core → core.history ≡ log_with log old.moment.facts) → first_device.arranges ≡ true → (answer : Reply) → most_refusals answer ≤ 1 → GoesOn log.run Aside answer old new
+  pub cut_goes : ((core : Core) → old.session ≡ Some core → core.history ≡ log_with log old.moment.facts) → first_device.arranges ≡ true → (answer : Reply) → most_refusals answer ≤ 1 → LineGoesOn log.run Aside answer old new
   cut_goes its takes answer one = by_session old.session refl
     where
-      by_requests : (core : Core) → old.session ≡ Some core → (os : List Open) → core.requests ≡ os → GoesOn log.run Aside answer old new
+      by_requests : (core : Core) → old.session ≡ Some core → (os : List Open) → core.requests ≡ os → LineGoesOn log.run Aside answer old new
       by_requests core is (o ∷ os) some = open_goes core is (its core is) (λ none. let e : o ∷ os ≡ [] = sym some ∙ none in cc e) takes answer one
       by_requests core is [] none =
           let facts = cut.facts ∙ ap (λ (s : Option Core). (history_after (arrange.Cut word) true (cut_log (log_with log old.moment.facts)) s).facts) is ∙ ap (λ (l : Log). l.facts) (dark_alone core none) ∙ ap (λ (l : Log). (cut_log l).facts) (its core is) in
@@ -173,7 +173,7 @@ module _ (log : Log) (word : ℕ) (old new : ScriptState) (between : IsBetween o
           (none_held core (cut_log (log_with log old.moment.facts)).facts none) old.posts (subst (λ (s : Option Core). ArePosted old.moment.facts s old.posts) is between.posted))))
           (ap (λ (ps : List Post). length ps) posts ∙ length-map old.posts (ended_with (votes_there core) (total_votes core.descriptor))) (λ empty. posts ∙ ap (map (ended_with (votes_there core) (total_votes core.descriptor))) empty) answer one
 
-      by_session : (session : Option Core) → old.session ≡ session → GoesOn log.run Aside answer old new
+      by_session : (session : Option Core) → old.session ≡ session → LineGoesOn log.run Aside answer old new
       by_session (Some core) is = by_requests core is core.requests refl
       by_session None is =
           let facts = cut.facts ∙ ap (λ (s : Option Core). (history_after (arrange.Cut word) true (cut_log (log_with log old.moment.facts)) s).facts) is in
@@ -243,7 +243,7 @@ module _ {S : Type 0} (device : S → Device) (old : Stage S) (by : Holder S) (w
     pub cut_ends : (answer : Reply) → answer ≡ reply.Ok → EndsUnasked device (λ log. CutDoes log word) (Unit {0}) Aside old it answer
     cut_ends answer says = λ last. record {
       does = PowerIsCut shelf.0 says (subst (λ (s : Stage S). IsCut (without_facts (history_in old)) word (state_in device old last) (state_in device s last)) (sym is) (stage_cut last));
-      goes = subst (λ (s : Stage S). GoesOn (history_in old).run Aside answer (state_in device old last) (state_in device s last)) (sym is)
+      goes = subst (λ (s : Stage S). LineGoesOn (history_in old).run Aside answer (state_in device old last) (state_in device s last)) (sym is)
           (cut_goes (without_facts (history_in old)) word (state_in device old last) (state_in device (off last_shelf log posts bytes) last) between (stage_cut last) (whose old.holder) shelf.0 answer
           (subst (λ (a : Reply). most_refusals a ≤ 1) (sym says) (omega arith)));
       rooms = ap (λ (s : Stage S). without_facts (history_in s)) is ∙ rooms_are;

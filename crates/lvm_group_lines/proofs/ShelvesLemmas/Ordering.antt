@@ -12,7 +12,7 @@ use Rattle.lvm_disk.proofs.StepsLemmas.{arrange_leaves}
 use Rattle.lvm_vol.specs.Facts.{Fact}
 use Rattle.lvm_vol.specs.Log.{Log}
 use Rattle.lvm_kept.specs.Moments.{Moment}
-use Rattle.lvm_steps.specs.Moments.{Begins}
+use Rattle.lvm_steps.specs.Moments.{RunBegins}
 use Rattle.lvm_steps.proofs.MomentsLemmas.Spans.{keeps_steps}
 use Rattle.lvm_session.specs.Dark.{after_arrange}
 use Rattle.lvm_session.specs.Sound.{IsSound}
@@ -24,7 +24,7 @@ use Rattle.lvm_group_lines.proofs.passed.Tie.{going_leaves, order_leaves}
 use Rattle.lvm_group_lines.specs.passed.TieCommands.{StandsAfter}
 use Rattle.lvm_group_lines.specs.passed.Quiesce.{IsAheadEach}
 use Rattle.lvm_group_lines.specs.Ends.{EndsUnasked}
-use Rattle.lvm_group_lines.specs.Moments.{Aside, GoesOn}
+use Rattle.lvm_group_lines.specs.Moments.{Aside, LineGoesOn}
 use Rattle.lvm_group_lines.specs.Shelves.{ArrangeDoes, IsArranged, over}
 use Rattle.lvm_group_lines.specs.Replies.{most_refusals}
 use Rattle.lvm_group_lines.specs.Stages.{HaveRooms, IsBetweenStage, IsFittingStage, IsOfKind, history_after, history_in, history_of, session_in, session_of, shelf_in, shelf_of, state_in}
@@ -97,16 +97,16 @@ module _ (s : ScriptState) (disk : ℕ) (what : Arrange) (of_disk : IsOfDisk dis
 
   -- and the disks stand by it
   stands_then : (run : ℕ) (first : Moment) (session : Option Core) → (IfSome session (λ core. core.history.run ≡ run)) → IfSome session (IsOnBetween device) → IsBetween s.moment s.session s.posts
-      → ((past : List Fact) → Begins run past first → IfSome session (λ core. StandsAlone device core → StandsAfter past device core))
-      → (past : List Fact) → Begins run past first → IfSome session (λ core. StandsAlone ordered core → StandsAfter past ordered core)
+      → ((past : List Fact) → RunBegins run past first → IfSome session (λ core. StandsAlone device core → StandsAfter past device core))
+      → (past : List Fact) → RunBegins run past first → IfSome session (λ core. StandsAlone ordered core → StandsAfter past ordered core)
   stands_then run first None runs on between stands past begins = tt
   stands_then run first (Some core) runs on between stands past begins = λ alone. record {
     empty = λ none. let e = (stands past begins alone).empty none in record { held = e.held; notes = e.notes };
-    tied = λ some. ((stays_good core on.sound).good first (λ power earlier began. (stands earlier (subst (λ (n : ℕ). Begins n earlier first) runs began) alone).tied some)).0 on.power past (subst (λ (n : ℕ). Begins n past first) (sym runs) begins);
+    tied = λ some. ((stays_good core on.sound).good first (λ power earlier began. (stands earlier (subst (λ (n : ℕ). RunBegins n earlier first) runs began) alone).tied some)).0 on.power past (subst (λ (n : ℕ). RunBegins n past first) (sym runs) begins);
     spares = λ some. ((stays_good core on.sound).descriptors between.descriptors).spares ((stands past begins alone).spares some);
   }
 
-  pub ordered_goes : (run : ℕ) (answer : Reply) → IfSome s.session (λ core. core.history.run ≡ run) → IsBetween s.moment s.session s.posts → most_refusals answer ≤ 1 → GoesOn run Aside answer s (over ordered s)
+  pub ordered_goes : (run : ℕ) (answer : Reply) → IfSome s.session (λ core. core.history.run ≡ run) → IsBetween s.moment s.session s.posts → most_refusals answer ≤ 1 → LineGoesOn run Aside answer s (over ordered s)
   ordered_goes run answer runs between one = record {
     keeps = λ timely alone first span stands. (keeps_steps run first device ordered s.moment.facts span path, λ goes. stands_then run first s.session runs between.session between stands);
     timely = λ goes timely. record { ahead = ahead timely.ahead; session = timely.session };
@@ -176,7 +176,7 @@ module _ {S : Type 0} (device : S → Device) (old : Stage S) (by : Holder S) (d
   pub arranged_ends : (it : Stage S) (answer : Reply) → it ≡ held_by old by → answer ≡ reply.Ok → disk < length (device (shelf_in old)).sizes → IsFittingStage old → IsBetweenStage device old → EndsUnasked device (λ log. ArrangeDoes disk what) (Unit {0}) Aside old it answer
   arranged_ends it answer is says there fits between = unasked_as device (λ log. ArrangeDoes disk what) (Unit {0}) Aside old old it (held_by old by) answer answer refl is refl (λ last. record {
     does = IsArranged there shelf.0 says (arranged_is last);
-    goes = subst (λ (s : ScriptState). GoesOn (history_in old).run Aside answer (state_in device old last) s) (sym (arranged_is last))
+    goes = subst (λ (s : ScriptState). LineGoesOn (history_in old).run Aside answer (state_in device old last) s) (sym (arranged_is last))
         (ordered_goes (state_in device old last) disk what of_disk shelf.0 order (history_in old).run answer (runs_of old.holder) between (subst (λ (a : Reply). most_refusals a ≤ 1) (sym says) (omega arith)));
     rooms = ap without_facts same_history;
     fits = fits_by old by fits kind (ap without_facts same_history);

@@ -4,7 +4,7 @@ use Rattle.lvm_disk.specs.Device.{Device}
 use Rattle.lvm_session.specs.declared.open.Power.{Power}
 use Rattle.lvm_session.specs.declared.open.Power.TheVariants as power
 use Rattle.lvm_group_lines.specs.Replies.{IsStuck, is_unheard}
-use Rattle.lvm_group_lines.specs.Stages.{ComesTo, IsBetweenStage, IsCarried, IsLeftBy, IsOnIn}
+use Rattle.lvm_group_lines.specs.Stages.{ComesTo, IsBetweenStage, IsCarriedOn, IsLeftBy, IsOnIn}
 use Rattle.lvm_group_lines.specs.declared.holder.Holder.{Holder}
 use Rattle.lvm_group_lines.specs.declared.holder.Holder.TheVariants as holder
 use Rattle.lvm_group_lines.specs.declared.reply.Reply.{Reply}
@@ -22,7 +22,7 @@ module _ {S : Type 0} (device : S → Device) (stage : Stage S) (answer : Reply)
   on_with : (h : Holder S) → stage.holder ≡ h → IsOnIn h → ComesTo device false h stage.posts stage.bytes stage
   on_with (holder.Off shelf history) is on = ap (held_by stage) is
   on_with (holder.Empty driver) is on = ap (held_by stage) is
-  on_with (holder.Serving driver) is on = subst (λ (p : Power). IsCarried device driver stage.posts stage.bytes p stage) (sym on) (ap (held_by stage) is)
+  on_with (holder.Serving driver) is on = subst (λ (p : Power). IsCarriedOn device driver stage.posts stage.bytes p stage) (sym on) (ap (held_by stage) is)
 
   -- it goes on as it is
   pub goes_so : (h : Holder S) → stage.holder ≡ h → IsOnIn h → IsLeftBy device stage answer stage
@@ -36,7 +36,7 @@ module _ {S : Type 0} (device : S → Device) (stage : Stage S) (answer : Reply)
   still_with (holder.Off shelf history) is between left comes = comes ∙ sym (ap (held_by stage) is)
   still_with (holder.Empty driver) is between left comes = comes ∙ sym (ap (held_by stage) is)
   still_with (holder.Serving driver) is between left comes =
-      subst (λ (p : Power). IsCarried device driver stage.posts stage.bytes p left) between.session.power comes ∙ sym (ap (held_by stage) is)
+      subst (λ (p : Power). IsCarriedOn device driver stage.posts stage.bytes p left) between.session.power comes ∙ sym (ap (held_by stage) is)
 
   -- between lines nothing becomes of it
   pub left_still : IsBetweenStage device stage → (left : Stage S) → IsLeftBy device stage answer left → left ≡ stage

@@ -5,7 +5,7 @@ use Rattle.lvm_vol.specs.Facts.{Fact}
 use Rattle.lvm_vol.specs.Log.{is_open, taken_fact}
 use Rattle.lvm_keeps.proofs.SoundLemmas.Telling.{open_still}
 use Rattle.lvm_session.specs.State.{State, state}
-use Rattle.lvm_core.specs.Sound.{IsSoundBetween}
+use Rattle.lvm_core.specs.Sound.{IsSoundAtRest}
 use Rattle.lvm_ranges.specs.passed.Names.{Asked, takings}
 use Rattle.lvm_handover.specs.Earlier.{with_taken}
 
@@ -17,7 +17,7 @@ open_with facts first (suc n) id =
     ∙ open_still (facts ++ takings facts first n) (taken_fact facts (first + n)) refl id refl ∙ open_with facts first n id
 
 -- so a session at which nothing is under way is sound
-pub resting_with : (s : State) (range : Asked) → IsSoundBetween s → IsSoundBetween (state s.device (with_taken range s.core))
+pub resting_with : (s : State) (range : Asked) → IsSoundAtRest s → IsSoundAtRest (state s.device (with_taken range s.core))
 resting_with s range sound = record {
   fitting = let f = sound.fitting in record { valid = f.valid; id = f.id; rows = f.rows; group = f.group; entries = f.entries; notes = f.notes; most = f.most; queue = f.queue; a_buffer = f.a_buffer; buffers = f.buffers; last = f.last; forgotten = f.forgotten };
   none = record { requests = sound.none.requests; copy = sound.none.copy };

@@ -13,7 +13,7 @@ use Rattle.lvm_status.specs.Calls.{IsMarkable}
 use Rattle.lvm_commit.proofs.RoundsLemmas.Wanting.{row_stays}
 use Rattle.lvm_session.specs.Marks.{is_among}
 use Rattle.lvm_session.specs.State.{Core}
-use Rattle.lvm_handover.specs.Serving.{IsServed, MarksAdded, MarksMissing, MarksMore}
+use Rattle.lvm_handover.specs.Serving.{OriginIsMarked, MarksAdded, MarksMissing, MarksMore}
 
 pub markable_still : (old now : Status) (p : Pp) → ((disk : ℕ) → has_row now disk ≡ has_row old disk) → IsMarkable old p → IsMarkable now p
 markable_still old now p rows may = record { row = rows p.disk ∙ may.row; partition = may.partition }
@@ -129,7 +129,7 @@ both_marked added members now old mid new first second = record {
 }
 
 pub served_with : (added : List Pp) (core : Core) (wanted mid new : Status) → wanted ≡ core.status.wanted → MarksAdded added core.origin.table mid → MarksMissing core.descriptor.pvs wanted mid new
-    → IsServed added core (record core { origin = record core.origin { table = new } })
+    → OriginIsMarked added core (record core { origin = record core.origin { table = new } })
 served_with added core wanted mid new is first second = record {
   marks = both_marked added core.descriptor.pvs core.status.wanted core.origin.table mid new first (subst (λ (t : Status). MarksMissing core.descriptor.pvs t mid new) is second);
   is = refl;

@@ -41,11 +41,11 @@ use Rattle.lvm_session.specs.Placed.{ArePlaced, IsPlaced}
 use Rattle.lvm_session.specs.Requests.{IsOpenOne}
 use Rattle.lvm_session.specs.Sound.{IsAsked, IsCopy, IsFitting, IsGoing, IsOn, IsSound, IsTold, count_if, hands_with, is_hand, may_be_fresh, pins, stays_fresh, waiting_rows, waits, with_row}
 use Rattle.lvm_session.proofs.WorkedLemmas.Parts.{idle_is_sound}
-use Rattle.lvm_handover.specs.passed.Names.{IsSettled, IsSoundBetween}
+use Rattle.lvm_handover.specs.passed.Names.{IsSettled, IsSoundAtRest}
 use Rattle.lvm_keeps.proofs.Lists.{count_cons}
 use Rattle.lvm_handover.proofs.passed.Tie.{any_one, or_true}
 use Rattle.lvm_volumes.specs.Endings.{HasFresh}
-use Rattle.lvm_handover.specs.Serving.{CommandsServe, GoesOnWith, IsServed, is_gone}
+use Rattle.lvm_handover.specs.Serving.{CommandsServe, GoesOnWith, OriginIsMarked, is_gone}
 use Rattle.lvm_tie.proofs.MarksLemmas.{not_entailed}
 use Rattle.lvm_keeps.proofs.VotesLemmas.{enough_more, more_votes}
 use Rattle.lvm_handover.proofs.VotesLemmas.{each_row, no_votes, not_enough}
@@ -78,7 +78,7 @@ nobody_flies core requests copy started notes owner.Copy = ap (λ (m : Option Op
 
 -- a command has left it sound between commands, and settled
 pub record IsLeftSettled (new : State) : Type 0 where
-  pub sound : IsSoundBetween new
+  pub sound : IsSoundAtRest new
   pub settled : IsSettled new.core
 
 module _ (added : List Pp) (old new : State) (sound : IsSound old) (began : IsSettled old.core) (is : IsLeftSettled new) (goes : GoesOnWith added old new) where
@@ -352,7 +352,7 @@ module _ (added : List Pp) (old new : State) (sound : IsSound old) (began : IsSe
       origin = true_to_origin;
     }
 
-  pub served_is_sound : (core : Core) → IsServed added new.core core → IsSound (state new.device core)
+  pub served_is_sound : (core : Core) → OriginIsMarked added new.core core → IsSound (state new.device core)
   served_is_sound core served = subst (λ (c : Core). IsSound (state new.device c)) (sym served.is)
       (is_sound core.origin.table served.marks.stale
       (λ disk gone. served.marks.missing disk ∙ or_true (calls_missing new.core.origin.table disk) (is_gone new.core disk) (inl gone))

@@ -4,7 +4,7 @@ pub use Rattle.lvm_core.specs.Held.{AreNotesHome, IsHeld, NotesAreHome, StartsHe
 pub use Rattle.lvm_core.specs.Leaves.{EntersVolumes, IsOfCommand, KeepsStatus, Leaves, NoPartition, NoVolume, Scope, WasLeftBehind}
 pub use Rattle.lvm_core.specs.Looking.{IsNumberOf}
 pub use Rattle.lvm_core.specs.Settled.{IsSettled}
-pub use Rattle.lvm_core.specs.Sound.{HasNoneOpen, HaveAllLanded, IsFittingBetween, IsQuiet, IsSoundBetween}
+pub use Rattle.lvm_core.specs.Sound.{HasNoneOpen, HaveAllLanded, IsFittingAtRest, HasNothingUnderWay, IsSoundAtRest}
 pub use Rattle.lvm_core.specs.Starting.{room_of}
 pub use Rattle.lvm_core.specs.declared.parts.Room.{Room}
 pub use Rattle.lvm_ranges.specs.passed.Names.{AreAnswered, AreHeld, Asked, IsLaidOut, LosesByFaults, LosesVotesByFaults, LostForFaults, Post, TurnTells, ended_with, power_by}

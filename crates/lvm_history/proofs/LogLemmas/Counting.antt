@@ -4,13 +4,13 @@ use Rattle.std.specs.List.{list_any, find, cons_option}
 use Rattle.std.proofs.lemmas.List.{append-nil}
 use Rattle.std.proofs.lemmas.List.Sums.{sum_by-cons, sum_by_push}
 use Rattle.std.proofs.lemmas.Bool.Decides.{nat_tests}
-use Rattle.lvm_history.specs.passed.CheckerNames.{Outcome, Request, Fact, Making, Made, Split, Removing, Removed, Begun, Landed, Taken, Cut, On, Stands, begun, begun_by, has_id, lands_id, takes_id, need, needed, is_waiting, is_landed, open_count, landed_count, Follows, Ordered}
+use Rattle.lvm_history.specs.passed.CheckerNames.{Outcome, Request, Fact, Making, Made, Split, Removing, Removed, Begun, Landed, Taken, Cut, On, IsInList, begun, begun_by, has_id, lands_id, takes_id, need, needed, is_waiting, is_landed, open_count, landed_count, Follows, Ordered}
 use Rattle.lvm_history.proofs.passed.CheckerNames.{IdsFrom, stands-at, stands_begun, IsNumbered, numbered_none, numbered-push, begun-push, any-push, grow}
 
 count-cons : (p : Request → Bool) (r : Request) (rs : List Request) → count_by p (r ∷ rs) ≡ cond (p r) 1 0 + count_by p rs
 count-cons p r rs = sum_by-cons (λ (x : Request). cond (p x) 1 0) r rs
 
-count_same : (p q : Request → Bool) (rs : List Request) → ((s : Request) → Stands s rs → q s ≡ p s) → count_by q rs ≡ count_by p rs
+count_same : (p q : Request → Bool) (rs : List Request) → ((s : Request) → IsInList s rs → q s ≡ p s) → count_by q rs ≡ count_by p rs
 count_same p q [] same = refl
 count_same p q (r ∷ rs) same =
     let one : ◌≡◌ {A = ℕ} (cond (q r) 1 0) (cond (p r) 1 0) = ap (λ (t : Bool). cond t 1 0) (same r (inl refl)) in
@@ -19,8 +19,8 @@ count_same p q (r ∷ rs) same =
     omega (arith, one, rest, a, b)
 
 -- one request passes no longer
-count_flip : (p q : Request → Bool) (n : ℕ) (rs : List Request) (r : Request) → IdsFrom n rs → Stands r rs → p r ≡ true → q r ≡ false
-    → ((s : Request) → Stands s rs → s.id ≢ r.id → q s ≡ p s) → count_by q rs + 1 ≡ count_by p rs
+count_flip : (p q : Request → Bool) (n : ℕ) (rs : List Request) (r : Request) → IdsFrom n rs → IsInList r rs → p r ≡ true → q r ≡ false
+    → ((s : Request) → IsInList s rs → s.id ≢ r.id → q s ≡ p s) → count_by q rs + 1 ≡ count_by p rs
 count_flip p q n [] r ids none passed fails same = absurd none
 count_flip p q n (s ∷ rs) r ids (inl is) passed fails same =
     let one : ◌≡◌ {A = ℕ} (cond (p s) 1 0) 1 = ap (λ (x : Request). cond (p x) 1 0) is ∙ ap (λ (t : Bool). cond t 1 0) passed in
@@ -199,7 +199,7 @@ three_needed (f ∷ facts) = let rest = three_needed facts in let more = sum_by-
     by_fact _ rest more = omega (arith, rest, more)
 
 -- a request is found by its number
-pub find_at : (n : ℕ) (rs : List Request) (r : Request) → IdsFrom n rs → Stands r rs → find (has_id r.id) rs ≡ Some r
+pub find_at : (n : ℕ) (rs : List Request) (r : Request) → IdsFrom n rs → IsInList r rs → find (has_id r.id) rs ≡ Some r
 find_at n [] r ids none = absurd none
 find_at n (s ∷ rs) r ids (inl is) =
     let e : (s.id == r.id) ≡ true = ap (λ (x : Request). x.id == r.id) is ∙ (let same : (r.id == r.id) ≡ true = grind (arith, nat_tests) in same) in
@@ -212,7 +212,7 @@ find_at n (s ∷ rs) r ids (inr there) =
     apart : (a b : ℕ) → a < b → (a == b) ≡ false
     apart a b less = grind (arith, nat_tests)
 
-find_absent : (rs : List Request) (id : ℕ) → ((s : Request) → Stands s rs → (s.id == id) ≡ false) → find (has_id id) rs ≡ None
+find_absent : (rs : List Request) (id : ℕ) → ((s : Request) → IsInList s rs → (s.id == id) ≡ false) → find (has_id id) rs ≡ None
 find_absent [] id other = refl
 find_absent (s ∷ rs) id other = ap (λ (t : Bool). cond t (Some s) (find (has_id id) rs)) (other s (inl refl)) ∙ find_absent rs id (λ r there. other r (inr there))
 
@@ -222,7 +222,7 @@ find_below n rs id ids below = find_absent rs id (λ s there. let low = (stands-
     apart : (a b : ℕ) → b < a → (a == b) ≡ false
     apart a b less = grind (arith, nat_tests)
 
-pub stands_get : {X : Type 0} → (xs : List X) (k : ℕ) (d : X) → k < length xs → Stands (get_or xs k d) xs
+pub stands_get : {X : Type 0} → (xs : List X) (k : ℕ) (d : X) → k < length xs → IsInList (get_or xs k d) xs
 stands_get [] k d in_range = absurd (omega arith)
 stands_get (x ∷ xs) zero d in_range = inl refl
 stands_get (x ∷ xs) (suc k) d in_range = inr (stands_get xs k d (omega arith))

@@ -8,7 +8,7 @@ use Rattle.std.proofs.Math.Seq.{take-append-add}
 use Rattle.std.proofs.lemmas.Grind.{flat_map-append}
 use Rattle.std.proofs.lemmas.Bool.Decides.{nat_tests}
 use Rattle.std.proofs.lemmas.Bool.{eqb-true}
-use Rattle.lvm_history.specs.passed.CheckerNames.{zero_sector, Outcome, Request, Fact, Making, Made, Split, Removing, Removed, Begun, Landed, Taken, Cut, On, Stands, begun, begun_by, lands_id, is_got, got_by, held, blocks_of, blocks_begun_with, got_without_bytes, Follows, IsWhole, IsGotOf}
+use Rattle.lvm_history.specs.passed.CheckerNames.{zero_sector, Outcome, Request, Fact, Making, Made, Split, Removing, Removed, Begun, Landed, Taken, Cut, On, IsInList, begun, begun_by, lands_id, is_got, got_by, held, blocks_of, blocks_begun_with, got_without_bytes, Follows, HasItsData, IsGotOf}
 use Rattle.lvm_allowed.specs.declared.row.Ask.{Ask}
 use Rattle.lvm_allowed.specs.declared.row.Row.{Row}
 use Rattle.lvm_allowed.specs.Rows.{no_ask, ask_of, blocks_at, request_from, request_in, fact_of, facts_of}
@@ -37,7 +37,7 @@ pub length-asks : (p : ℕ) (rs : List Request) → length (asks_from p rs) ≡ 
 length-asks p [] = refl
 length-asks p (r ∷ rs) = ap suc (length-asks (p + r.count) rs)
 
-pub flat_same : (h k : Request → List (List ℕ)) (rs : List Request) → ((r : Request) → Stands r rs → h r ≡ k r) → flat_map h rs ≡ flat_map k rs
+pub flat_same : (h k : Request → List (List ℕ)) (rs : List Request) → ((r : Request) → IsInList r rs → h r ≡ k r) → flat_map h rs ≡ flat_map k rs
 flat_same h k [] same = refl
 flat_same h k (r ∷ rs) same =
     ap (λ (l : List (List ℕ)). l ++ flat_map h rs) (same r (inl refl)) ∙ ap (λ (l : List (List ℕ)). k r ++ l) (flat_same h k rs (λ s there. same s (inr there)))
@@ -45,7 +45,7 @@ flat_same h k (r ∷ rs) same =
 module _ (h : Request → List (List ℕ)) where
   -- each request has as many blocks as it asked for
   abbrev pub AllFull : List Request → Type 0
-  AllFull rs = (r : Request) → Stands r rs → length (h r) ≡ r.count
+  AllFull rs = (r : Request) → IsInList r rs → length (h r) ≡ r.count
 
   pub length-flat : (rs : List Request) → AllFull rs → length (flat_map h rs) ≡ counts rs
   length-flat [] full = refl
@@ -73,7 +73,7 @@ pub record HasGot (id : ℕ) (facts : List Fact) : Type 0 where
   pub how : Outcome
   pub started : Bool
   pub got : List (List ℕ)
-  pub stands : Stands (Landed r how started got) facts
+  pub stands : IsInList (Landed r how started got) facts
   pub is_read : is_got how ≡ true
   pub own : r.id ≡ id
 
@@ -97,7 +97,7 @@ got-cases id (f ∷ facts) = ⊎_elim
 
 module _ (run : ℕ) where
   -- requests of one number are one request
-  pub same_number : (facts : List Fact) (r s : Request) → IsNumbered run facts → Stands r (begun facts) → Stands s (begun facts) → s.id ≡ r.id → s ≡ r
+  pub same_number : (facts : List Fact) (r s : Request) → IsNumbered run facts → IsInList r (begun facts) → IsInList s (begun facts) → s.id ≡ r.id → s ≡ r
   same_number facts r s q r_there s_there same =
       let a = stands-at 1 (begun facts) r q.ids r_there in
       let b = stands-at 1 (begun facts) s q.ids s_there in
@@ -109,10 +109,10 @@ module _ (run : ℕ) where
   pub held_read : (facts : List Fact) (r : Request) (l : List (List (List ℕ))) → r.write ≡ false → filter_map (got_by r.id) facts ≡ l → held facts r ≡ get_or l 0 (replicate r.count zero_sector)
   held_read facts r l is are = ap (λ (t : Bool). cond t r.blocks (get_or (filter_map (got_by r.id) facts) 0 (replicate r.count zero_sector))) is ∙ ap (λ (m : List (List (List ℕ))). get_or m 0 (replicate r.count zero_sector)) are
 
-  data_whole : (r : Request) → IsWhole r → r.write ≡ true → length r.blocks ≡ r.count
+  data_whole : (r : Request) → HasItsData r → r.write ≡ true → length r.blocks ≡ r.count
   data_whole r whole is = subst (λ (t : Bool). MatchBool t (length r.blocks ≡ r.count) (r.blocks ≡ [])) is whole.0
 
-  no_data : (r : Request) → IsWhole r → r.write ≡ false → r.blocks ≡ []
+  no_data : (r : Request) → HasItsData r → r.write ≡ false → r.blocks ≡ []
   no_data r whole is = subst (λ (t : Bool). MatchBool t (length r.blocks ≡ r.count) (r.blocks ≡ [])) is whole.0
 
   got_whole : (r : Request) (how : Outcome) (got : List (List ℕ)) → IsGotOf r how got → is_got how ≡ true → (length got ≡ r.count) × (r.write ≡ true → got ≡ r.blocks)
@@ -143,7 +143,7 @@ module _ (run : ℕ) where
   abbrev pub place_of : List Fact → Request → ℕ
   place_of facts r = counts (take (r.id - 1) (begun facts))
 
-  pub ask-back : (facts : List Fact) (r : Request) → IsNumbered run facts → Stands r (begun facts) → ask_of (asks_from 0 (begun facts)) r.id ≡ ask_at (place_of facts r) r
+  pub ask-back : (facts : List Fact) (r : Request) → IsNumbered run facts → IsInList r (begun facts) → ask_of (asks_from 0 (begun facts)) r.id ≡ ask_at (place_of facts r) r
   ask-back facts r q there =
       let at = stands-at 1 (begun facts) r q.ids there in
       let low = at.low in let high = at.high in
@@ -151,21 +151,21 @@ module _ (run : ℕ) where
       ∙ ap (λ (x : Request). ask_at (0 + place_of facts r) x) (at.here r)
       ∙ ap (λ (p : ℕ). ask_at p r) (zero-add (place_of facts r))
 
-  pub blocks-back : (facts : List Fact) (r : Request) → IsNumbered run facts → Stands r (begun facts) → take r.count (drop (place_of facts r) (blocks_of facts)) ≡ held facts r
+  pub blocks-back : (facts : List Fact) (r : Request) → IsNumbered run facts → IsInList r (begun facts) → take r.count (drop (place_of facts r) (blocks_of facts)) ≡ held facts r
   blocks-back facts r q there =
       let at = stands-at 1 (begun facts) r q.ids there in
       let low = at.low in let high = at.high in
       subst (λ (x : Request). take x.count (drop (place_of facts r) (blocks_of facts)) ≡ held facts x) (at.here r)
       (flat-at (held facts) (begun facts) (r.id - 1) r (length-held facts q) (omega arith))
 
-  own_blocks : (facts : List Fact) (r : Request) → IsWhole r → cond r.write (held facts r) [] ≡ r.blocks
+  own_blocks : (facts : List Fact) (r : Request) → HasItsData r → cond r.write (held facts r) [] ≡ r.blocks
   own_blocks facts r whole = by_kind r.write refl
     where
       by_kind : (w : Bool) → r.write ≡ w → cond w (held facts r) [] ≡ r.blocks
       by_kind true is = held_write facts r is
       by_kind false is = sym (no_data r whole is)
 
-  request-back : (facts : List Fact) (r : Request) → IsNumbered run facts → Stands r (begun facts) → request_in run (asks_from 0 (begun facts)) (blocks_of facts) r.id ≡ r
+  request-back : (facts : List Fact) (r : Request) → IsNumbered run facts → IsInList r (begun facts) → request_in run (asks_from 0 (begun facts)) (blocks_of facts) r.id ≡ r
   request-back facts r q there =
       ap (λ (a : Ask). request_from run r.id a (blocks_at (blocks_of facts) a)) (ask-back facts r q there)
       ∙ ap (λ (l : List (List ℕ)). request_from run r.id (ask_at (place_of facts r) r) l) (blocks-back facts r q there)
@@ -183,7 +183,7 @@ module _ (run : ℕ) where
       by_how true is = ap (λ (a : Ask). blocks_at (blocks_of facts) a) (ask-back facts r q answer.began) ∙ blocks-back facts r q answer.began ∙ by_write r.write refl is
       by_how false is = sym (got_none_of r how got answer.its_got is)
 
-  fact-back : (facts : List Fact) (f : Fact) → IsNumbered run facts → Stands f facts → fact_of run (asks_from 0 (begun facts)) (blocks_of facts) (row_of f) ≡ f
+  fact-back : (facts : List Fact) (f : Fact) → IsNumbered run facts → IsInList f facts → fact_of run (asks_from 0 (begun facts)) (blocks_of facts) (row_of f) ≡ f
   fact-back facts (Begun r) q there = ap (λ (x : Request). Begun x) (request-back facts r q (stands_begun facts r there))
   fact-back facts (Landed r how started got) q there =
       let answer = q.landed r how started got there in
@@ -198,7 +198,7 @@ module _ (run : ℕ) where
   fact-back facts Cut q there = refl
   fact-back facts (On moment) q there = refl
 
-map-back : (g : Row → Fact) (facts : List Fact) → ((f : Fact) → Stands f facts → g (row_of f) ≡ f) → map g (map row_of facts) ≡ facts
+map-back : (g : Row → Fact) (facts : List Fact) → ((f : Fact) → IsInList f facts → g (row_of f) ≡ f) → map g (map row_of facts) ≡ facts
 map-back g [] back = refl
 map-back g (f ∷ facts) back = ap (λ (x : Fact). x ∷ map g (map row_of facts)) (back f (inl refl)) ∙ ap (λ (l : List Fact). f ∷ l) (map-back g facts (λ h there. back h (inr there)))
 
@@ -215,7 +215,7 @@ held_same facts f r none = ap (λ (l : List (List (List ℕ))). cond r.write r.b
 
 module _ (run : ℕ) where
   -- a fact that begins nothing and gets nothing leaves the blocks
-  pub blocks_aside : (facts : List Fact) (f : Fact) → begun_by f ≡ None → ((r : Request) → Stands r (begun facts) → held (facts ++ f ∷ []) r ≡ held facts r) → blocks_of (facts ++ f ∷ []) ≡ blocks_of facts
+  pub blocks_aside : (facts : List Fact) (f : Fact) → begun_by f ≡ None → ((r : Request) → IsInList r (begun facts) → held (facts ++ f ∷ []) r ≡ held facts r) → blocks_of (facts ++ f ∷ []) ≡ blocks_of facts
   blocks_aside facts f none same =
       let b : begun (facts ++ f ∷ []) ≡ begun facts = begun-push facts f ∙ ap (λ (o : Option Request). begun facts ++ cons_option o []) none ∙ append-nil (begun facts) in
       ap (λ (rs : List Request). flat_map (held (facts ++ f ∷ [])) rs) b ∙ flat_same (held (facts ++ f ∷ [])) (held facts) (begun facts) same
@@ -238,7 +238,7 @@ module _ (run : ℕ) where
       ∙ ap (λ (l : List (List (List ℕ))). cond r.write r.blocks (get_or l 0 (replicate r.count zero_sector))) nothing)
 
   -- what lands without bytes leaves the blocks
-  pub blocks-landed : (facts : List Fact) (r : Request) (how : Outcome) (started : Bool) → IsNumbered run facts → Stands (Begun r) facts → list_any (lands_id r.id) facts ≡ false
+  pub blocks-landed : (facts : List Fact) (r : Request) (how : Outcome) (started : Bool) → IsNumbered run facts → IsInList (Begun r) facts → list_any (lands_id r.id) facts ≡ false
       → blocks_of (facts ++ Landed r how started (got_without_bytes r how) ∷ []) ≡ blocks_of facts
   blocks-landed facts r how started q began open_still = blocks_aside facts (Landed r how started (got_without_bytes r how)) refl (λ s there. by_how s there (is_got how) refl)
     where
@@ -258,12 +258,12 @@ module _ (run : ℕ) where
           got-push s.id facts (Landed r how started (got_without_bytes r how)) ∙ ap (λ (o : Option (List (List ℕ))). filter_map (got_by s.id) facts ++ cons_option o []) e ∙ ap (λ (l : List (List (List ℕ))). l ++ got_without_bytes r how ∷ []) nothing in
           held_read run (facts ++ Landed r how started (got_without_bytes r how) ∷ []) s (got_without_bytes r how ∷ []) is all ∙ got_is ∙ sym (held_read run facts s [] is nothing)
 
-      by_id : (s : Request) → Stands s (begun facts) → is_got how ≡ true → (t : Bool) → (r.id == s.id) ≡ t → held (facts ++ Landed r how started (got_without_bytes r how) ∷ []) s ≡ held facts s
+      by_id : (s : Request) → IsInList s (begun facts) → is_got how ≡ true → (t : Bool) → (r.id == s.id) ≡ t → held (facts ++ Landed r how started (got_without_bytes r how) ∷ []) s ≡ held facts s
       by_id s there read true is = own s (same_number run facts r s q (stands_begun facts r began) there (sym (eqb-true r.id s.id is))) read s.write refl
       by_id s there read false is = held_same facts (Landed r how started (got_without_bytes r how)) s
           (ap (λ (t : Bool). cond (t && (r.id == s.id)) (Some (got_without_bytes r how)) None) read ∙ ap (λ (t : Bool). cond t (Some (got_without_bytes r how)) None) is)
 
-      by_how : (s : Request) → Stands s (begun facts) → (t : Bool) → is_got how ≡ t → held (facts ++ Landed r how started (got_without_bytes r how) ∷ []) s ≡ held facts s
+      by_how : (s : Request) → IsInList s (begun facts) → (t : Bool) → is_got how ≡ t → held (facts ++ Landed r how started (got_without_bytes r how) ∷ []) s ≡ held facts s
       by_how s there true read = by_id s there read (r.id == s.id) refl
       by_how s there false is = held_same facts (Landed r how started (got_without_bytes r how)) s (ap (λ (t : Bool). cond (t && (r.id == s.id)) (Some (got_without_bytes r how)) None) is)
 
@@ -271,8 +271,8 @@ take_front : {X : Type 0} → (xs ys : List X) (n c : ℕ) → length xs ≡ n �
 take_front xs ys n c is = ap (λ (k : ℕ). take (k + c) (xs ++ ys)) (sym is) ∙ take-append-add xs ys c
 
 -- one request gets other blocks, as many as before
-flat-put : (h k : Request → List (List ℕ)) (n j : ℕ) (rs : List Request) (r : Request) → IdsFrom n rs → Stands r rs → r.id ≡ n + j → AllFull h rs
-    → ((s : Request) → Stands s rs → s.id ≢ r.id → k s ≡ h s)
+flat-put : (h k : Request → List (List ℕ)) (n j : ℕ) (rs : List Request) (r : Request) → IdsFrom n rs → IsInList r rs → r.id ≡ n + j → AllFull h rs
+    → ((s : Request) → IsInList s rs → s.id ≢ r.id → k s ≡ h s)
     → flat_map k rs ≡ take (counts (take j rs)) (flat_map h rs) ++ k r ++ drop (counts (take j rs) + r.count) (flat_map h rs)
 flat-put h k n j [] r ids none at full same = absurd none
 flat-put h k n zero (s ∷ rs) r ids (inl is) at full same =
@@ -300,7 +300,7 @@ flat-put h k n (suc j) (s ∷ rs) r ids (inr there) at full same =
     ∙ ap (λ (l : List (List ℕ)). take (counts (s ∷ take j rs)) (h s ++ flat_map h rs) ++ k r ++ l) (sym behind)
 
 -- a read that lands with bytes has them at its place
-pub blocks-read : (run : ℕ) (facts : List Fact) (r : Request) (how : Outcome) (started : Bool) (got : List (List ℕ)) → IsNumbered run facts → Stands (Begun r) facts → list_any (lands_id r.id) facts ≡ false → is_got how ≡ true → r.write ≡ false
+pub blocks-read : (run : ℕ) (facts : List Fact) (r : Request) (how : Outcome) (started : Bool) (got : List (List ℕ)) → IsNumbered run facts → IsInList (Begun r) facts → list_any (lands_id r.id) facts ≡ false → is_got how ≡ true → r.write ≡ false
     → blocks_of (facts ++ Landed r how started got ∷ []) ≡ take (place_of run facts r) (blocks_of facts) ++ got ++ drop (place_of run facts r + r.count) (blocks_of facts)
 blocks-read run facts r how started got q began open_still read is_read =
     let f : Fact = Landed r how started got in

@@ -7,7 +7,7 @@ use Rattle.std.proofs.lemmas.List.{append-nil, take_at, drop_at}
 use Rattle.std.proofs.lemmas.List.Sums.{sum_by-cons, sum_by_push}
 use Rattle.std.proofs.lemmas.List.Folds.{find-append}
 use Rattle.std.proofs.lemmas.List.Elements.{filter_map-append}
-use Rattle.lvm_history.specs.passed.CheckerNames.{Outcome, Request, Fact, Begun, Landed, Stands, begun, begun_by, Log, has_id, asked, no_request, request_of, lands_id, takes_id, is_open, is_answered, is_got, need, needed, spare_entries, blocks_begun, spare_bytes, held, blocks_of, place_after, entries_from, entries_of, Follows, Ordered}
+use Rattle.lvm_history.specs.passed.CheckerNames.{Outcome, Request, Fact, Begun, Landed, IsInList, begun, begun_by, Log, has_id, asked, no_request, request_of, lands_id, takes_id, is_open, is_answered, is_got, need, needed, spare_entries, blocks_begun, spare_bytes, held, blocks_of, place_after, entries_from, entries_of, Follows, Ordered}
 use Rattle.lvm_history.specs.passed.VolEntryEntry as entry
 use Rattle.lvm_history.proofs.passed.CheckerNames.{begun-push, any-push, stands_begun, IsNumbered, numbered, and_left, and_right, open_of, found_of}
 use Rattle.lvm_history.proofs.LogLemmas.Keeping.{counts, blocks-back, held_read}
@@ -65,7 +65,7 @@ pub spare_bytes-push : (log : Log) (r : Request) → spare_bytes (record log { f
 spare_bytes-push log r = let all = blocks_begun-push log.facts r in omega (arith, all)
 
 -- what a read got stands at its place
-pub held_got : (run : ℕ) (facts : List Fact) (r : Request) (how : Outcome) (started : Bool) (got : List (List ℕ)) → IsNumbered run facts → Stands (Landed r how started got) facts → is_got how ≡ true → r.write ≡ false → held facts r ≡ got
+pub held_got : (run : ℕ) (facts : List Fact) (r : Request) (how : Outcome) (started : Bool) (got : List (List ℕ)) → IsNumbered run facts → IsInList (Landed r how started got) facts → is_got how ≡ true → r.write ≡ false → held facts r ≡ got
 held_got run facts r how started got q there is is_read = let answer = q.landed r how started got there in held_read run facts r (got ∷ []) is_read (answer.only is)
 
 entries_behind : (place : ℕ) (past rest : List Fact) → slice_get (entries_from place (past ++ rest)) (length past) ≡ slice_get (entries_from (place + counts (begun past)) rest) 0
@@ -97,12 +97,12 @@ blocks_at_place run past rest r ordered =
     ap (λ (rs : List Request). take r.count (drop (counts rs) (blocks_of (past ++ Begun r ∷ rest)))) (sym at)
     ∙ blocks-back run (past ++ Begun r ∷ rest) r q (stands_begun (past ++ Begun r ∷ rest) r (stands_right past (Begun r ∷ rest) (Begun r) (inl refl)))
   where
-    stands_right : (xs ys : List Fact) (f : Fact) → Stands f ys → Stands f (xs ++ ys)
+    stands_right : (xs ys : List Fact) (f : Fact) → IsInList f ys → IsInList f (xs ++ ys)
     stands_right [] ys f there = there
     stands_right (x ∷ xs) ys f there = inr (stands_right xs ys f there)
 
 -- blocks that were laid end to end come apart again
-pub chunks_flat : (bs : List (List ℕ)) → ((b : List ℕ) → Stands b bs → length b ≡ 512) → first_chunks 512 (length bs) (flat_map (λ b. b) bs) ≡ bs
+pub chunks_flat : (bs : List (List ℕ)) → ((b : List ℕ) → IsInList b bs → length b ≡ 512) → first_chunks 512 (length bs) (flat_map (λ b. b) bs) ≡ bs
 chunks_flat [] each = refl
 chunks_flat (b ∷ bs) each =
     ap (λ (l : List ℕ). l ∷ first_chunks 512 (length bs) (drop 512 (b ++ flat_map (λ c. c) bs))) (take_at b (flat_map (λ c. c) bs) 512 (each b (inl refl)))

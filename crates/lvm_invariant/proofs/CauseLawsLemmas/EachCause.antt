@@ -14,8 +14,8 @@ use Rattle.lvm_invariant.specs.Updates.{put, without, staged}
 use Rattle.lvm_num.specs.Descriptor.{is_pp}
 use Rattle.lvm_invariant.specs.Events.{Event, Submit, EnterStep, Admit, Pin, Read, StartWrite, Transfer, LandDone, LandLost, LandGot, LandReadFailed, LandNoFresh, EndStep, Take, TakeEarlier, Want, BeginUpdate, MoveStatus, CommitUpdate, EndUpdate, StartNote, EndNote, Open, CopyWrite, Clear, ModelStep}
 use Rattle.lvm_invariant.specs.LandNoFresh.{FindsNoFresh}
-use Rattle.lvm_invariant.specs.CopyWrite.{Passes}
-use Rattle.lvm_invariant.specs.Faults.{Faults, HasFailed, SomeFailed, NoneFailed, HasCause}
+use Rattle.lvm_invariant.specs.CopyWrite.{PassesGroups}
+use Rattle.lvm_invariant.specs.Faults.{Faults, FaultsRose, SomeFailed, NoneFailed, IsStaleForCause}
 use Rattle.lvm_invariant.specs.Caused.{HadNoCopy, FactIsCaused, Caused}
 use Rattle.lvm_invariant.specs.Why.{WriteFailedOn, IsBroughtUp, IsMarkedFor, MarksAreFor, Why, enters, asked_at}
 use Rattle.lvm_invariant.proofs.CountingLemmas.{then_rose}
@@ -66,14 +66,14 @@ module _ (votes : Votes) (s : ModelState) (w : Faults) (now : ℕ → ℕ) (rise
 
   -- the copy that is brought up is the one that was
   abbrev IsOneOpen : Option ModelCopy → Type 0
-  IsOneOpen open_copy = (o : ModelCopy) → open_copy ≡ Some o → ((p : ModelCopy) × (s.open_copy ≡ Some p) × (p.target ≡ o.target)) ⊎ HasCause (record w { now = now }) o.target
+  IsOneOpen open_copy = (o : ModelCopy) → open_copy ≡ Some o → ((p : ModelCopy) × (s.open_copy ≡ Some p) × (p.target ≡ o.target)) ⊎ IsStaleForCause (record w { now = now }) o.target
 
   same_open : (open_copy : Option ModelCopy) → ((o : ModelCopy) → open_copy ≡ Some o → s.open_copy ≡ Some o) → IsOneOpen open_copy
   same_open open_copy same o is = inl (o, same o is, refl)
 
   -- the statuses that are committed and under way, and the missing disks, are as they were
   still : (place : Option ℕ) (new : ModelState) → record new { is_copy = s.is_copy; missing = s.missing; committed = s.committed; in_flight = s.in_flight } ≡ new
-      → ((c : Pp) → IsTrue (new.wanted.stale c) → IsTrue (s.wanted.stale c) ⊎ HasCause (record w { now = now }) c) → IsOneOpen new.open_copy → Failed place new.queue → LandsAs place new → Change w now place rises s new
+      → ((c : Pp) → IsTrue (new.wanted.stale c) → IsTrue (s.wanted.stale c) ⊎ IsStaleForCause (record w { now = now }) c) → IsOneOpen new.open_copy → Failed place new.queue → LandsAs place new → Change w now place rises s new
   still place new same wanted brought_up failed landed = record {
     copies = ap (λ (x : ModelState). x.is_copy) (sym same);
     missing = λ d h. inl (ap (λ (x : ModelState). x.missing d) same ∙ h);
@@ -127,41 +127,41 @@ module _ (votes : Votes) (s : ModelState) (w : Faults) (now : ℕ → ℕ) (rise
       (of_staged r.targets c e stage Badly (sym (ap (λ (f : Pp → Option Stage). f e) same) ∙ bad)))
 
   -- what failed, failed since the session began
-  has_failed : (i : ℕ) (r : Queued) (c : Pp) → s.queue i ≡ Some r → r.targets c ≡ Some Badly → HasFailed w c.disk
+  has_failed : (i : ℕ) (r : Queued) (c : Pp) → s.queue i ≡ Some r → r.targets c ≡ Some Badly → FaultsRose w c.disk
   has_failed i r c there bad = then_rose (w.began c.disk) (w.asked i c.disk) (w.now c.disk) (caused.asked_since i c.disk) (caused.failed i r c there bad)
 
   some_failed : (i : ℕ) (r : Queued) (c : Pp) → s.queue i ≡ Some r → r.targets c ≡ Some Badly → SomeFailed (record w { now = now })
   some_failed i r c there bad = (c.disk, fails_still w now None rises c.disk (has_failed i r c there bad))
 
   -- a missing disk's copies have their cause
-  gone_cause : (c : Pp) → IsTrue (w.missing c.disk) ⊎ HasFailed (record w { now = now }) c.disk → HasCause (record w { now = now }) c
+  gone_cause : (c : Pp) → IsTrue (w.missing c.disk) ⊎ FaultsRose (record w { now = now }) c.disk → IsStaleForCause (record w { now = now }) c
   gone_cause c h = inr h
 
-  missing_cause : (d : ℕ) → IsTrue (s.missing d) → IsTrue (w.missing d) ⊎ HasFailed (record w { now = now }) d
+  missing_cause : (d : ℕ) → IsTrue (s.missing d) → IsTrue (w.missing d) ⊎ FaultsRose (record w { now = now }) d
   missing_cause d h = ⊎_elim (λ a. inl a) (λ f. inr (fails_still w now None rises d f)) (caused.missing d h)
 
   -- newly wanted staleness has its cause
-  marked : (missing : ℕ → Bool) → ((d : ℕ) → IsTrue (missing d) → IsTrue (w.missing d) ⊎ HasFailed (record w { now = now }) d) → (c : Pp) → IsMarkedFor s missing c → HasCause (record w { now = now }) c
+  marked : (missing : ℕ → Bool) → ((d : ℕ) → IsTrue (missing d) → IsTrue (w.missing d) ⊎ FaultsRose (record w { now = now }) d) → (c : Pp) → IsMarkedFor s missing c → IsStaleForCause (record w { now = now }) c
   marked missing gone c mark = ⊎_elim
       (λ (m : IsTrue (missing c.disk)). gone_cause c (gone c.disk m))
       (λ rest. ⊎_elim
       (λ (f : WriteFailedOn s c). inr (inr (fails_still w now None rises c.disk (has_failed f.place f.write c f.there f.failed))))
-      (λ (o : IsBroughtUp s c). subst (HasCause (record w { now = now })) o.target (cause_stays w now None rises o.copy.target (caused.brought_up o.copy o.is_open)))
+      (λ (o : IsBroughtUp s c). subst (IsStaleForCause (record w { now = now })) o.target (cause_stays w now None rises o.copy.target (caused.brought_up o.copy o.is_open)))
       rest)
       mark
 
-  wants : (missing : ℕ → Bool) (wanted : Marks) → ((d : ℕ) → IsTrue (missing d) → IsTrue (w.missing d) ⊎ HasFailed (record w { now = now }) d) → MarksAreFor s missing wanted
-      → (c : Pp) → IsTrue (wanted.stale c) → IsTrue (s.wanted.stale c) ⊎ HasCause (record w { now = now }) c
+  wants : (missing : ℕ → Bool) (wanted : Marks) → ((d : ℕ) → IsTrue (missing d) → IsTrue (w.missing d) ⊎ FaultsRose (record w { now = now }) d) → MarksAreFor s missing wanted
+      → (c : Pp) → IsTrue (wanted.stale c) → IsTrue (s.wanted.stale c) ⊎ IsStaleForCause (record w { now = now }) c
   wants missing wanted gone marks c h = ⊎_elim (λ was. inl was) (λ mark. inr (marked missing gone c mark)) (marks c h)
 
   since_began : (d : ℕ) → w.began d ≤ w.now d
   since_began d = omega (arith, caused.asked_since 0 d, caused.asked_before 0 d)
 
   -- what became missing has its cause
-  new_missing : (missing : ℕ → Bool) (d : ℕ) → IsTrue (s.missing d) ⊎ Rose (w.now d) (now d) → IsTrue (w.missing d) ⊎ HasFailed (record w { now = now }) d
+  new_missing : (missing : ℕ → Bool) (d : ℕ) → IsTrue (s.missing d) ⊎ Rose (w.now d) (now d) → IsTrue (w.missing d) ⊎ FaultsRose (record w { now = now }) d
   new_missing missing d h = ⊎_elim (λ was. missing_cause d was) (λ rose. inr (then_rose (w.began d) (w.now d) (now d) (since_began d) rose)) h
 
-  stale_cause : (c : Pp) → HasCause w c → HasCause (record w { now = now }) c
+  stale_cause : (c : Pp) → IsStaleForCause w c → IsStaleForCause (record w { now = now }) c
   stale_cause c h = cause_stays w now None rises c h
 
   no_open : {X : Type 0} (o : ModelCopy) → None ≡ Some o → X
@@ -263,11 +263,11 @@ module _ (votes : Votes) (s : ModelState) (w : Faults) (now : ℕ → ℕ) (rise
   changes (StartNote flying) new step why = subst (Changes (StartNote flying)) (sym step.1) (quiet None _ refl same_queue (inl refl))
   changes (EndNote d names home flying) new step why = subst (Changes (EndNote d names home flying)) (sym step.1) (quiet None _ refl same_queue (inl refl))
   changes (Open o) new step why = subst (Changes (Open o)) (sym step.1) (still None _ refl (λ c h. inl h)
-      (λ p is. inr (subst (λ (x : ModelCopy). HasCause (record w { now = now }) x.target) (same_Some o p is) (stale_cause o.target (caused.committed o.target step.0.stale)))) same_queue (inl refl))
+      (λ p is. inr (subst (λ (x : ModelCopy). IsStaleForCause (record w { now = now }) x.target) (same_Some o p is) (stale_cause o.target (caused.committed o.target step.0.stale)))) same_queue (inl refl))
   changes (CopyWrite i r value target open_copy step_write block) new step why = subst (Changes (CopyWrite i r value target open_copy step_write block)) (sym step.1) (still None _ refl (λ c h. inl h)
       (λ o is. ⊎_elim
       (λ (same : open_copy ≡ s.open_copy). inl (o, sym same ∙ is, refl))
-      (λ (p : Passes s r value target block open_copy). inl (p.old, p.is_open, sym p.same_target ∙ ap (λ (x : ModelCopy). x.target) (same_Some p.new o (sym p.is_now ∙ is))))
+      (λ (p : PassesGroups s r value target block open_copy). inl (p.old, p.is_open, sym p.same_target ∙ ap (λ (x : ModelCopy). x.target) (same_Some p.new o (sym p.is_now ∙ is))))
       step.0.open_now) same_queue (inl refl))
   changes (Clear wanted c) new step why = subst (Changes (Clear wanted c)) (sym step.1) (still None _ refl (λ e h. inl (step.0.added e h))
       (same_open s.open_copy (λ o is. is)) same_queue (inl refl))

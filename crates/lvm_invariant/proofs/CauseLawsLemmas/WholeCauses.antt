@@ -10,7 +10,7 @@ use Rattle.lvm_invariant.specs.Found.{Votes}
 use Rattle.lvm_invariant.specs.Good.{Good}
 use Rattle.lvm_invariant.specs.Events.{Event}
 use Rattle.lvm_invariant.proofs.EventsLemmas.Each.{each_keeps}
-use Rattle.lvm_invariant.specs.Faults.{Faults, HasFailed, NoneFailed}
+use Rattle.lvm_invariant.specs.Faults.{Faults, FaultsRose, NoneFailed}
 use Rattle.lvm_invariant.specs.Caused.{FactIsCaused, Since, Caused}
 use Rattle.lvm_invariant.specs.Why.{enters}
 use Rattle.lvm_invariant.specs.CauseLaws.{EachEventKeepsCauses, CausedSteps, at_beginning, IsUnasked, EachMomentIsCaused, VotesAreLostByFaults, OffIsCaused, CutIsCaused, FirstIsUnasked}
@@ -64,7 +64,7 @@ same_test false true h k = absurd (no_truth (k refl))
 pub votes_lost : VotesAreLostByFaults
 votes_lost votes s w caused enough lost none =
     let same : (d : ℕ) → not (s.missing d) ≡ not (w.missing d) =
-    λ d. same_test (s.missing d) (w.missing d) (λ h. ⊎_elim (λ was. was) (λ (f : HasFailed w d). absurd (none d f)) (caused.missing d h)) (caused.still_missing d) in
+    λ d. same_test (s.missing d) (w.missing d) (λ h. ⊎_elim (λ was. was) (λ (f : FaultsRose w d). absurd (none d f)) (caused.missing d h)) (caused.still_missing d) in
     both (votes.writes (λ d. not (w.missing d))) enough (ap votes.writes (λ t d. sym (same d) t) ∙ lost)
   where
     both : (b : Bool) → IsTrue b → IsFalse b → ⊥

@@ -7,12 +7,12 @@ use Rattle.lvm_num.specs.Geometry.{track_group_of}
 use Rattle.lvm_num.proofs.Booleans.{clash_gives, false_by}
 use Rattle.lvm_invariant.proofs.Small.{IsIn}
 use Rattle.lvm_invariant.specs.State.{Marks, ModelCopy, StepWrite, Going, Queued, ModelState, covers, stale_in, is_settled_stale, HasPassed, Live, Started, told}
-use Rattle.lvm_invariant.specs.Sound.{Complete, Statuses, MayDiffer, Agree, Quiescent, Blocks, Holds, Sound}
+use Rattle.lvm_invariant.specs.Sound.{Complete, Statuses, MayDiffer, Agree, Quiescent, Blocks, ModelHolds, Sound}
 use Rattle.lvm_invariant.proofs.SoundLemmas.Sound.{complete_same, live_same, equal_same, recorded_same, each_same}
 use Rattle.lvm_invariant.proofs.StateLemmas.Claims.{Quiet, CopyWriteKeepsCore, OpenKeepsCore, ClearKeepsCore}
 use Rattle.lvm_invariant.proofs.UpdatesLemmas.Requests.{alone, past_of, one_req}
 use Rattle.lvm_invariant.proofs.StateLemmas.Quieting.{quiet_of, quiet_sound}
-use Rattle.lvm_invariant.specs.CopyWrite.{Passes, CopyWrites}
+use Rattle.lvm_invariant.specs.CopyWrite.{PassesGroups, CopyWrites}
 use Rattle.lvm_invariant.specs.Updates.{with_block}
 use Rattle.lvm_invariant.specs.Open.{Opens}
 use Rattle.lvm_invariant.specs.Clear.{Clears}
@@ -35,7 +35,7 @@ module _ (s : ModelState) (i : ℕ) (r : Queued) (value : ℕ → List ℕ) (tar
       (λ (f : IsFalse (is_settled_stale s c)). inl (record { copy = live.copy; counts = inl f }))
       (λ (k : HasPassed new lv (track_group_of b) c). ⊎_elim
       (λ (same : open_copy ≡ s.open_copy). inl (record { copy = live.copy; counts = inr (record { copy = k.copy; is_open = sym same ∙ k.is_open; target = k.target; passed = k.passed }) }))
-      (λ (p : Passes s r value target block open_copy).
+      (λ (p : PassesGroups s r value target block open_copy).
       let is : p.new ≡ k.copy = the_copy p.new k.copy (sym p.is_now ∙ k.is_open) in
       let at : p.old.target ≡ c = sym p.same_target ∙ ap (λ (q : ModelCopy). q.target) is ∙ k.target in
       ⊎_elim
@@ -149,7 +149,7 @@ module _ (s : ModelState) (i : ℕ) (r : Queued) (value : ℕ → List ℕ) (tar
       (λ (off : IsFalse (covers r lv b)). inr (λ c live. off_block lv b off c ∙ equal c (off_live lv b off c live)))
       (cases_Bool (covers r lv b))
 
-  copy_holds : Holds new
+  copy_holds : ModelHolds new
   copy_holds = record {
     order = sound.holds.order;
     reads = λ j lv b e there read past over c x at.
@@ -168,7 +168,7 @@ module _ (s : ModelState) (i : ℕ) (r : Queued) (value : ℕ → List ℕ) (tar
   complete_now : (c : Pp) → Complete s c → Complete new c
   complete_now c k = ⊎_elim
       (λ (same : open_copy ≡ s.open_copy). record { copy = k.copy; is_open = same ∙ k.is_open; target = k.target; passed = k.passed })
-      (λ (p : Passes s r value target block open_copy).
+      (λ (p : PassesGroups s r value target block open_copy).
       let is : p.old ≡ k.copy = the_copy p.old k.copy (sym p.is_open ∙ k.is_open) in
       record {
         copy = p.new;
@@ -186,11 +186,11 @@ module _ (s : ModelState) (i : ℕ) (r : Queued) (value : ℕ → List ℕ) (tar
     kept = λ lv b c copy. let k = sound.statuses.kept lv b c copy in (k.0, k.1, record { committed = k.2.committed; flying = k.2.flying; wanted = k.2.wanted });
     open_there = λ m is. ⊎_elim
         (λ (same : open_copy ≡ s.open_copy). sound.statuses.open_there m (sym same ∙ is))
-        (λ (p : Passes s r value target block open_copy). subst (λ (x : Pp). IsFalse (s.missing x.disk)) (sym p.same_target ∙ ap (λ (q : ModelCopy). q.target) (the_copy p.new m (sym p.is_now ∙ is))) (sound.statuses.open_there p.old p.is_open))
+        (λ (p : PassesGroups s r value target block open_copy). subst (λ (x : Pp). IsFalse (s.missing x.disk)) (sym p.same_target ∙ ap (λ (q : ModelCopy). q.target) (the_copy p.new m (sym p.is_now ∙ is))) (sound.statuses.open_there p.old p.is_open))
         step.open_now;
     open_stale = λ m is. ⊎_elim
         (λ (same : open_copy ≡ s.open_copy). sound.statuses.open_stale m (sym same ∙ is))
-        (λ (p : Passes s r value target block open_copy). subst (λ (x : Pp). IsTrue (s.committed.value.stale x) ⊎ IsTrue (s.wanted.stale x)) (sym p.same_target ∙ ap (λ (q : ModelCopy). q.target) (the_copy p.new m (sym p.is_now ∙ is))) (sound.statuses.open_stale p.old p.is_open))
+        (λ (p : PassesGroups s r value target block open_copy). subst (λ (x : Pp). IsTrue (s.committed.value.stale x) ⊎ IsTrue (s.wanted.stale x)) (sym p.same_target ∙ ap (λ (q : ModelCopy). q.target) (the_copy p.new m (sym p.is_now ∙ is))) (sound.statuses.open_stale p.old p.is_open))
         step.open_now;
     dirty_flies = sound.statuses.dirty_flies;
     dirty_is_wanted = sound.statuses.dirty_is_wanted;

@@ -7,7 +7,7 @@ use Rattle.lvm_num.specs.Geometry.{track_group_of}
 use Rattle.lvm_num.proofs.Booleans.{clash_gives, both_fail}
 use Rattle.lvm_invariant.specs.State.{write_of, Groups, Stage, ModelPhase, Held, WantEntry, Ready, Going, Queued, ModelState, covers, request_of, is_past, has_landed, is_pinning, stale_in, Live, Started, told}
 use Rattle.lvm_invariant.proofs.Small.{IsIn}
-use Rattle.lvm_invariant.specs.Sound.{Conflict, MayDiffer, Agree, Quiescent, Tied, Holds, Sound, the_write}
+use Rattle.lvm_invariant.specs.Sound.{Conflict, MayDiffer, Agree, Quiescent, Tied, ModelHolds, Sound, the_write}
 use Rattle.lvm_invariant.proofs.SoundLemmas.Sound.{live_same, same_statuses, same_behind}
 use Rattle.lvm_invariant.proofs.StateLemmas.Claims.{Frame, Calmer, PlainKeeps, AdmitKeepsCore}
 use Rattle.lvm_invariant.proofs.UpdatesLemmas.Requests.{put_cases, put_other, past_of, past_not_landed, one_req}
@@ -186,7 +186,7 @@ module _ (s : ModelState) (i : ℕ) (r : Queued) (phase : ModelPhase) (several :
       by_mode false lv b (inl loose) c live there = loose
       by_mode false lv b (inr d) c live there = clash_gives (s.missing c.disk) (d.missing c live) there
 
-  admit_holds : Holds new
+  admit_holds : ModelHolds new
   admit_holds = record {
     order = λ p q m e at_p at_q low conflict past. ⊎_elim
         (λ (is_p : (p ≡ i) × (n ≡ m)). ⊎_elim

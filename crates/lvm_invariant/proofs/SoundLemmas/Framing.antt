@@ -6,7 +6,7 @@ use Rattle.lvm_num.specs.Geometry.{track_group_of}
 use Rattle.lvm_vol.specs.May.{is_off}
 use Rattle.lvm_invariant.proofs.Small.{IsIn}
 use Rattle.lvm_invariant.specs.State.{Stage, Queued, ModelState, covers, is_pinning, Live, told}
-use Rattle.lvm_invariant.specs.Sound.{Conflict, Blocks, Tied, Holds, Nearly, Sound}
+use Rattle.lvm_invariant.specs.Sound.{Conflict, Blocks, Tied, ModelHolds, Nearly, Sound}
 use Rattle.lvm_invariant.proofs.SoundLemmas.Sound.{keeping_records, same_statuses, same_behind, same_records, same_home}
 use Rattle.lvm_invariant.proofs.StateLemmas.Claims.{Alike, Seen, Frame, FrameKeeps}
 
@@ -54,7 +54,7 @@ module _ (old new : ModelState) (frame : Frame old new) (sound : Nearly old) whe
         );
   }
 
-  pub holds : Holds new
+  pub holds : ModelHolds new
   holds = record {
     order = λ i j n m at_i at_j low conflict past.
         let f = frame.from i n at_i in

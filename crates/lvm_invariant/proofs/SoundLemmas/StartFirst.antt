@@ -10,7 +10,7 @@ use Rattle.lvm_invariant.proofs.Small.{IsIn}
 use Rattle.lvm_invariant.specs.State.{Marks, Stage, Todo, Flying, Well, ModelPhase, Ready, Going, Queued, ModelState, covers, stale_in, is_settled_stale, is_usable, HasPassed, Live, Named, Started, told}
 use Rattle.lvm_invariant.specs.Sound.{Quiescent, Busy, Recorded, Blocks, Complete, Sound}
 use Rattle.lvm_invariant.proofs.UpdatesLemmas.Requests.{put_same, put_other, staged_cases, staged_was, staged_is, alone, past_of, one_req, started_cases, by_started}
-use Rattle.lvm_invariant.specs.StartWrite.{MayStart, going, started_first}
+use Rattle.lvm_invariant.specs.StartWrite.{MayStartWrite, going, started_first}
 use Rattle.lvm_invariant.proofs.SoundLemmas.Sound.{live_same, equal_same, recorded_same}
 
 -- a phase isn't two
@@ -27,7 +27,7 @@ usable_of true missing a b = absurd cc
 usable_of false true a b = absurd cc
 usable_of false false a b = refl
 
-module _ (s : ModelState) (sound : Sound s) (i : ℕ) (r : Queued) (c : Pp) (may : MayStart s i r c) where
+module _ (s : ModelState) (sound : Sound s) (i : ℕ) (r : Queued) (c : Pp) (may : MayStartWrite s i r c) where
   abbrev new : ModelState
   new = started_first s i r c
 

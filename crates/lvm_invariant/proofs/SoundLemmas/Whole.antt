@@ -13,7 +13,7 @@ use Rattle.lvm_invariant.proofs.Small.{IsIn}
 use Rattle.lvm_invariant.proofs.UpdatesLemmas.Requests.{one_req}
 use Rattle.lvm_invariant.proofs.StateLemmas.Calm.{calm_blocks, calmer_of}
 use Rattle.lvm_invariant.proofs.StateLemmas.Quieting.{alike_same, quiet_of, quiet_sound}
-use Rattle.lvm_invariant.specs.Take.{Takes}
+use Rattle.lvm_invariant.specs.Take.{TakesAnswerOf}
 use Rattle.lvm_invariant.specs.Updates.{without, with_status}
 use Rattle.lvm_vol.specs.declared.entry.Vol.TheVariants.{Lv}
 use Rattle.lvm_vol.specs.Facts.{Fact}
@@ -63,7 +63,7 @@ module _ (s : ModelState) (queue : ℕ → Option Queued) (before : (j : ℕ) (e
       framed s taken frame refl (calm_blocks s taken calmer sound.blocks) sound
 
 -- a request that has landed leaves the queue
-module _ (s : ModelState) (i : ℕ) (r : Queued) (step : Takes s i r) where
+module _ (s : ModelState) (i : ℕ) (r : Queued) (step : TakesAnswerOf s i r) where
   before : (j : ℕ) (e : Queued) → without s.queue i j ≡ Some e → s.queue j ≡ Some e
   before j e h = by_test (j == i) h
     where

@@ -6,12 +6,12 @@ use Rattle.lvm_num.specs.Geometry.{track_group_of}
 use Rattle.lvm_num.specs.Record.{Stamped, stamp_lt}
 use Rattle.lvm_vol.specs.May.{IsValue}
 use Rattle.lvm_invariant.specs.State.{write_of, Marks, Groups, ModelCopy, StepWrite, ModelPhase, Stage, Queued, ModelState, covers, request_of, is_past, has_landed, is_pinning, Live, Named, Started, told}
-use Rattle.lvm_invariant.specs.Sound.{StaysFresh, Tied, Statuses, Holds, Sound, Nearly}
+use Rattle.lvm_invariant.specs.Sound.{StaysFresh, Tied, Statuses, ModelHolds, Sound, Nearly}
 use Rattle.lvm_invariant.proofs.StateLemmas.Effects.{DoneEffect, LostEffect, ChangeEffect, GotEffect, JoinEffect}
 use Rattle.lvm_vol.specs.Facts.{Fact, Request}
 use Rattle.lvm_invariant.specs.EndNote.{EndsNote}
 use Rattle.lvm_invariant.specs.CopyWrite.{CopyWrites}
-use Rattle.lvm_invariant.specs.StartWrite.{MayStart, started_first}
+use Rattle.lvm_invariant.specs.StartWrite.{MayStartWrite, started_first}
 use Rattle.lvm_invariant.specs.Commit.{Commits}
 use Rattle.lvm_invariant.specs.Admit.{admitted, Admits}
 use Rattle.lvm_invariant.specs.Found.{Votes, Found}
@@ -86,7 +86,7 @@ pub record Frame (old new : ModelState) : Type 0 where
   pub cache : (i : ℕ) (r : Queued) → old.queue i ≡ Some r → IsTrue r.write → IsTrue (is_pinning r.phase) → IsTrue (old.is_active r.lv) → IsTrue r.several → IsTrue (old.cache r.lv (track_group_of r.first)) → IsTrue (new.cache r.lv (track_group_of r.first))
 
 abbrev pub FrameKeeps : Type 0
-FrameKeeps = (old new : ModelState) → Frame old new → Nearly old → Tied new × Holds new
+FrameKeeps = (old new : ModelState) → Frame old new → Nearly old → Tied new × ModelHolds new
     × ((i : ℕ) (r : Queued) → new.queue i ≡ Some r → IsTrue r.write → IsTrue (is_pinning r.phase) → IsTrue (new.is_active r.lv) → IsTrue r.several → IsTrue (new.cache r.lv (track_group_of r.first)))
 
 -- with the requests, the history, the volumes, the blocks of copies and the cache as they were
@@ -127,7 +127,7 @@ EndNoteKeepsCore = (s : ModelState) (d : ℕ) (names home : ℕ → Groups) (fly
     → Sound (record s { media = with_names s.media names; home_note = home; flying_note = flying })
 
 abbrev pub FirstKeeps : Type 0
-FirstKeeps = (s : ModelState) (i : ℕ) (r : Queued) (c : Pp) → MayStart s i r c → Sound s → Sound (started_first s i r c)
+FirstKeeps = (s : ModelState) (i : ℕ) (r : Queued) (c : Pp) → MayStartWrite s i r c → Sound s → Sound (started_first s i r c)
 
 abbrev pub RestagingKeeps : Type 0
 RestagingKeeps = (s : ModelState) (i : ℕ) (r : Queued) (c : Pp) (stage : Stage) (block : ℕ → ℕ → Pp → List ℕ) → Restages s i r c stage block → Sound s → Sound (restaged s i r c stage block)

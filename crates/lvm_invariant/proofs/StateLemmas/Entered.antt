@@ -6,7 +6,7 @@ use Rattle.std.proofs.lemmas.Bool.{and_from, cases_Bool}
 use Rattle.lvm_vol.specs.declared.entry.Vol.{Vol}
 use Rattle.lvm_vol.specs.declared.entry.Outcome.{Outcome}
 use Rattle.lvm_vol.specs.declared.entry.Outcome.TheVariants as outcome
-use Rattle.lvm_vol.specs.Facts.{Landed as HasLanded, Request, Fact, Begun, Stands, same_vol, same_request, is_over, block_of}
+use Rattle.lvm_vol.specs.Facts.{Landed as HasLanded, Request, Fact, Begun, IsInList, same_vol, same_request, is_over, block_of}
 use Rattle.lvm_vol.specs.May.{ended, read, May, Known, known}
 use Rattle.lvm_num.specs.declared.place.Pp.{Pp}
 use Rattle.lvm_num.specs.Geometry.{track_group_of}
@@ -127,7 +127,7 @@ got_effect s i r got sound t step = record {
       ∙ ap (λ (v : List ℕ). Some (v ∷ [])) (step.blocks lv b over);
 }
 
-in_may : (values : Option (List (List ℕ))) (x : List ℕ) → IsIn values x → IfSome values (λ vs. Stands x vs)
+in_may : (values : Option (List (List ℕ))) (x : List ℕ) → IsIn values x → IfSome values (λ vs. IsInList x vs)
 in_may None x h = absurd h
 in_may (Some vs) x h = h
 

@@ -17,7 +17,7 @@ use Rattle.lvm_invariant.proofs.SoundLemmas.Restage.{restaged_blocks}
 use Rattle.lvm_invariant.proofs.SoundLemmas.Landing.{done_blocks, lost_blocks}
 use Rattle.lvm_invariant.proofs.StateLemmas.Quieting.{alike_by, alike_same}
 use Rattle.lvm_vol.specs.Facts.{Fact}
-use Rattle.lvm_invariant.specs.StartWrite.{MayStart, going}
+use Rattle.lvm_invariant.specs.StartWrite.{MayStartWrite, going}
 use Rattle.lvm_invariant.specs.Updates.{put, staged, land, landed}
 use Rattle.lvm_invariant.proofs.SoundLemmas.Framing.{framed}
 
@@ -93,7 +93,7 @@ restaging_keeps s i r c stage block step sound =
     refl (ap is_pinning step.started.going) (λ lv b g. ⊎_elim (λ (k : block lv b g ≡ s.media.block lv b g). inl k) (λ (k : IsTrue (covers r lv b) × (g ≡ c) × (block lv b g ≡ r.value b)). inr k.0) (step.media lv b g))
     (restaged_blocks s sound i r c stage block step)
 
-going_alike : (s : ModelState) (i : ℕ) (r : Queued) (c : Pp) → MayStart s i r c → Alike r (going r c)
+going_alike : (s : ModelState) (i : ℕ) (r : Queued) (c : Pp) → MayStartWrite s i r c → Alike r (going r c)
 going_alike s i r c may = alike_by r (going r c) refl (λ h. past_of r.phase Ready may.ready refl) (λ h. ap has_landed may.ready) (λ h. clash_gives (has_landed r.phase) h (ap has_landed may.ready))
     (λ e y at. staged_was r.targets c e Flying y at Todo may.target) (λ e y at. staged_is r.targets c e Flying y at)
 

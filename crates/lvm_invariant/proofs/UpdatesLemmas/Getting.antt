@@ -8,7 +8,7 @@ use Rattle.lvm_num.proofs.Booleans.{clash_gives}
 use Rattle.lvm_vol.specs.May.{Known, is_off, known}
 use Rattle.lvm_invariant.specs.State.{write_of, ModelPhase, Held, Going, Landed, Queued, ModelState, covers, is_past, has_landed, is_pinning, stale_in, Live, Started, told}
 use Rattle.lvm_invariant.proofs.Small.{IsIn}
-use Rattle.lvm_invariant.specs.Sound.{Quiescent, Blocks, Tied, Holds, Sound, the_write}
+use Rattle.lvm_invariant.specs.Sound.{Quiescent, Blocks, Tied, ModelHolds, Sound, the_write}
 use Rattle.lvm_invariant.proofs.SoundLemmas.Sound.{live_same, same_behind, same_statuses, equal_same, recorded_same, each_same}
 use Rattle.lvm_invariant.proofs.StateLemmas.Effects.{GotEffect, JoinEffect}
 use Rattle.lvm_invariant.proofs.StateLemmas.Claims.{Frame, Calmer, GotKeeps, GotIsAllowed, SubmitKeepsCore}
@@ -201,7 +201,7 @@ module _ (s : ModelState) (i : ℕ) (given : Request) (r : Queued) (facts : List
         (put_cases s.queue i j r m h);
   }
 
-  submit_holds : Holds next
+  submit_holds : ModelHolds next
   submit_holds = record {
     order = λ p q m e at_p at_q low conflict past. ⊎_elim
         (λ (is_p : (p ≡ i) × (r ≡ m)). held_not_past m.phase (ap (λ (x : Queued). x.phase) (sym is_p.1) ∙ step.held) past)

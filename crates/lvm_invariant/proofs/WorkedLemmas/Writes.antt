@@ -20,7 +20,7 @@ use Rattle.lvm_invariant.specs.First.{two_disks, no_disk, first_copy, second_cop
 use Rattle.lvm_invariant.specs.Worked.{asked, held, both_at, phase_in, ready, one_out, both_out, first_group, named_on, only, note_to, no_note, update, recording, zeros, writing_out, writing, written, one_failed, one_fails, both_failed, both_fail, updating_out, noting_out, IsWriting, EachModeWrites, RecordsGoOut, WriteEnds}
 use Rattle.lvm_invariant.proofs.FirstLemmas.{nothing, left, right, both, first_is_good}
 use Rattle.lvm_invariant.proofs.WorkedLemmas.Worked.{leads, allows_append, first_put, none_below, pp_is, on_two, at_either, placed, note_ends, update_allowed}
-use Rattle.lvm_invariant.specs.StartWrite.{MayStart}
+use Rattle.lvm_invariant.specs.StartWrite.{MayStartWrite}
 
 -- ---- it is asked and admitted
 
@@ -147,7 +147,7 @@ its_target e is = ap (λ (t : Bool). if t then Some Todo else None) is
 -- where both copies are usable and none is wanted stale, a write may start its first transfer, given that it is recorded
 may_go : (s : ModelState) → s.queue 1 ≡ Some ready → ((e : Pp) → s.is_copy 1 0 e ≡ is_either e) → ((e : Pp) → IsTrue (is_usable s e)) → ((e : Pp) → IsFalse (s.wanted.stale e))
     → (IsTrue (s.is_active 1) → (e : Pp) → IsTrue (is_either e) → IsTrue (s.home_note e.disk 1 0) × ((n : Groups) → s.flying_note e.disk ≡ Some n → IsTrue (n 1 0)))
-    → (IsTrue (s.is_passive 1) → IsTrue (s.committed.value.dirty 1)) → MayStart s 1 ready first_copy
+    → (IsTrue (s.is_passive 1) → IsTrue (s.committed.value.dirty 1)) → MayStartWrite s 1 ready first_copy
 may_go s there copies usable unwanted named dirty = record {
   there = there;
   write = refl;

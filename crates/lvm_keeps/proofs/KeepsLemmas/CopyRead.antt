@@ -9,7 +9,7 @@ use Rattle.lvm_num.specs.Disks.{has}
 use Rattle.lvm_num.specs.Descriptor.{is_pp}
 use Rattle.lvm_num.proofs.Booleans.{not_so}
 use Rattle.lvm_num.proofs.Lists.{all_weaker, length_set}
-use Rattle.lvm_session.specs.passed.Names.{Device, Flight, Range, IsFresh, Starts}
+use Rattle.lvm_session.specs.passed.Names.{Device, Flight, Range, IsNewTicket, Starts}
 use Rattle.lvm_session.specs.declared.bringing.CopyEnd.{CopyEnd}
 use Rattle.lvm_session.specs.declared.bringing.CopyEnd.TheVariants as ending
 use Rattle.lvm_session.specs.declared.bringing.OpenCopy.{OpenCopy}
@@ -100,7 +100,7 @@ module _ (core : Core) (c : OpenCopy) (may : may_read core c ≡ true) where
   at_rest = idle c.step runs.1
 
 module _ (s : State) (sound : IsSound s) (on : s.core.power ≡ power.On) (c : OpenCopy) (is : s.core.copy ≡ Some c) (may : may_read s.core c ≡ true) (source : Pp) (source_is : next_source s.core c ≡ Some source)
-    (f : Flight) (reads : IsCopyTransfer s.core c source false f) (long : length f.buf.sectors ≡ 256) (free : slice_get s.core.pool f.buf.number ≡ Some false) (fresh : IsFresh f.ticket s.device.flights)
+    (f : Flight) (reads : IsCopyTransfer s.core c source false f) (long : length f.buf.sectors ≡ 256) (free : slice_get s.core.pool f.buf.number ≡ Some false) (fresh : IsNewTicket f.ticket s.device.flights)
     (starts : ℕ → ℕ) (wrote : Option (List Range)) where
   abbrev core : Core
   core = s.core

@@ -26,7 +26,7 @@ use Rattle.lvm_session.specs.declared.open.Power.TheVariants as power
 use Rattle.lvm_session.specs.State.{Core, State}
 use Rattle.lvm_session.specs.Judging.{copies_for, facts_of, is_kept, is_missing, is_stale, is_sure, is_sure_at, is_usable, is_waiting, is_wanted_stale, next_for}
 use Rattle.lvm_session.specs.Requests.{IsAimed, IsOpenOne, IsPhase, IsTarget, is_past_held}
-use Rattle.lvm_session.specs.Causes.{AnyFailedSince, AreCaused, FailedSince, HasFailed, IsCaused, IsLandedFor, fails_on, is_blamed, was_fresh, was_usable}
+use Rattle.lvm_session.specs.Causes.{AnyFailedSince, AreCaused, FailedSince, TargetHasFailed, IsCaused, IsLandedFor, fails_on, is_blamed, was_fresh, was_usable}
 use Rattle.lvm_session.specs.Sound.{IsSound}
 use Rattle.lvm_keeps.specs.Keeps.{LandingIsCaused}
 use Rattle.lvm_keeps.proofs.Small.{both, is_false}
@@ -130,7 +130,7 @@ module _ (s : State) (sound : IsSound s) (on : s.core.power ≡ power.On) (place
     is_failed_one stage.Failed a b c = refl
 
     each_failed : (ts : List Target) → list_any (λ (t : Target). is_done t.state) ts ≡ false → list_any (λ (t : Target). is_flying t.state) ts ≡ false → list_any (λ (t : Target). is_unstarted t.state) ts ≡ false
-        → AllByRecursion (IsCaused s.device core) ts → AllByRecursion (λ (t : Target). (is_failed t.state ≡ true) × HasFailed s.device t) ts
+        → AllByRecursion (IsCaused s.device core) ts → AllByRecursion (λ (t : Target). (is_failed t.state ≡ true) × TargetHasFailed s.device t) ts
     each_failed [] a b c all = tt
     each_failed (t ∷ ts) a b c all =
         let pa = or_parts (is_done t.state) (list_any (λ (u : Target). is_done u.state) ts) a in
@@ -158,7 +158,7 @@ module _ (s : State) (sound : IsSound s) (on : s.core.power ≡ power.On) (place
         by true yes_so place = absurd (not_so (sym place.2 ∙ is))
 
     each_lost : (ts : List Target) → are_over ts ≡ true → list_any (λ (t : Target). is_done t.state && is_sure_at core t) ts ≡ false → AllByRecursion (IsTarget core o.request.ask) ts
-        → AllByRecursion (IsCaused s.device core) ts → AllByRecursion (λ (t : Target). t.usable ≡ true → HasFailed s.device t) ts
+        → AllByRecursion (IsCaused s.device core) ts → AllByRecursion (λ (t : Target). t.usable ≡ true → TargetHasFailed s.device t) ts
     each_lost [] over kept aims all = tt
     each_lost (t ∷ ts) over kept aims all =
         let a = both (is_ended t.state) (are_over ts) over in

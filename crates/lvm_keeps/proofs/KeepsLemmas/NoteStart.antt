@@ -9,7 +9,7 @@ use Rattle.lvm_num.specs.declared.descriptor.Mode.TheVariants as mode
 use Rattle.lvm_num.specs.Descriptor.{is_member}
 use Rattle.lvm_num.proofs.Booleans.{not_so}
 use Rattle.lvm_num.proofs.Lists.{all_weaker, all_at, length_set}
-use Rattle.lvm_session.specs.passed.Names.{Device, Flight, Range, IsFresh, Starts}
+use Rattle.lvm_session.specs.passed.Names.{Device, Flight, Range, IsNewTicket, Starts}
 use Rattle.lvm_mwc.specs.Cache.{after_start, flight_on, has_disk, is_named}
 use Rattle.lvm_mwc.specs.Entries.{note_of, pins_of}
 use Rattle.lvm_path.specs.declared.request.Phase.{Phase}
@@ -77,7 +77,7 @@ all_true t u on [] all = refl
 all_true t u on (x ∷ xs) all = let parts = both (t x) (list_all t xs) all in ap (λ b. b && list_all u xs) (on x parts.0) ∙ all_true t u on xs parts.1
 
 module _ (s : State) (sound : IsSound s) (on : s.core.power ≡ power.On) (place disk : ℕ) (o : Open) (there : slice_get s.core.requests place ≡ Some o) (due : note_due s.core o ≡ Some disk)
-    (f : Flight) (writes : IsNoteWrite s.core disk f) (long : length f.buf.sectors ≡ 256) (free : slice_get s.core.pool f.buf.number ≡ Some false) (fresh : IsFresh f.ticket s.device.flights)
+    (f : Flight) (writes : IsNoteWrite s.core disk f) (long : length f.buf.sectors ≡ 256) (free : slice_get s.core.pool f.buf.number ≡ Some false) (fresh : IsNewTicket f.ticket s.device.flights)
     (starts : ℕ → ℕ) (wrote : Option (List Range)) where
   abbrev core : Core
   core = s.core

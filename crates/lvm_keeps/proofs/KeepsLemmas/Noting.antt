@@ -18,7 +18,7 @@ use Rattle.lvm_session.specs.declared.open.Power.TheVariants as power
 use Rattle.lvm_session.specs.State.{Core, State}
 use Rattle.lvm_session.specs.Judging.{facts_of, has_dirty_mark, has_names, is_waiting, mode_of}
 use Rattle.lvm_session.specs.Enabled.{target_due, target_next}
-use Rattle.lvm_session.specs.Requests.{IsOpenOne, IsReady, has_record, mode_for}
+use Rattle.lvm_session.specs.Requests.{IsOpenOne, MayBeServed, has_record, mode_for}
 use Rattle.lvm_session.specs.Sound.{IsSound}
 use Rattle.lvm_keeps.specs.Keeps.{FirstStartIsNoted}
 use Rattle.lvm_keeps.proofs.Small.{both}
@@ -59,7 +59,7 @@ module _ (s : State) (place target : ℕ) (o : Open) (sound : IsSound s) (on : s
       by true is = refl
       by false is = not_starting (sym (ap (λ (p : Phase). target_next (next_in p k o.request)) (its.over is).phase_is) ∙ due)
 
-  ready : IsReady core o.request
+  ready : MayBeServed core o.request
   ready = (its.waits waits).ready
 
   mode_is : mode_for core o.request.ask ≡ mode_of core o.request.ask

@@ -3,7 +3,7 @@ use Rattle.std.proofs.Common.{◌≡◌, ◌==◌, ◌+◌, ℕ, zero, suc, Bool
 use Rattle.std.specs.Prelude.{count_by, slice_index_or}
 use Rattle.std.proofs.lemmas.Bool.{eqb-true, eqb-false, ne_eqb}
 use Rattle.std.proofs.lemmas.List.Sums.{sum_by_push}
-use Rattle.lvm_session.specs.passed.Names.{Flight, IsFresh}
+use Rattle.lvm_session.specs.passed.Names.{Flight, IsNewTicket}
 use Rattle.lvm_vol.proofs.FactsLemmas.Order.{any-push}
 use Rattle.lvm_session.specs.declared.flown.Flown.{Flown}
 use Rattle.lvm_session.specs.declared.flown.Owner.{Owner}
@@ -51,7 +51,7 @@ rows_push core row f its (r ∷ rows) [] all = absurd all
 rows_push core row f its (r ∷ rows) (g ∷ flights) all = (all.0, rows_push core row f its rows flights all.1)
 
 -- its ticket is new
-pub tickets_push : (core : Core) (row : Flown) (rows : List Flown) (flights : List Flight) → AreRows core rows flights → IsFresh row.ticket flights → HaveTickets rows → HaveTickets (rows ++ row ∷ [])
+pub tickets_push : (core : Core) (row : Flown) (rows : List Flown) (flights : List Flight) → AreRows core rows flights → IsNewTicket row.ticket flights → HaveTickets rows → HaveTickets (rows ++ row ∷ [])
 tickets_push core row [] flights all fresh have = (refl, tt)
 tickets_push core row (r ∷ rows) [] all fresh have = absurd all
 tickets_push core row (r ∷ rows) (g ∷ flights) all fresh have = (

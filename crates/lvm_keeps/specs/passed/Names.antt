@@ -5,7 +5,7 @@ pub use Rattle.lvm_session.specs.Left.{updates_left}
 pub use Rattle.lvm_session.specs.Marks.{is_entailed}
 pub use Rattle.lvm_session.specs.Placed.{ArePlaced}
 pub use Rattle.lvm_session.specs.Rooms.{HasRooms}
-pub use Rattle.lvm_session.specs.Sound.{IsFitting, IsLit, IsSound}
+pub use Rattle.lvm_session.specs.Sound.{IsFitting, HasPower, IsSound}
 pub use Rattle.lvm_session.specs.State.{Core, state}
 pub use Rattle.lvm_session.specs.declared.open.Open.{Open}
 pub use Rattle.lvm_session.specs.passed.Names.{Homes, IsOut}

@@ -12,7 +12,7 @@ use Rattle.lvm_session.specs.declared.bringing.OpenCopy.{OpenCopy}
 use Rattle.lvm_session.specs.declared.open.Open.{Open}
 use Rattle.lvm_session.specs.State.{Core, State, state}
 use Rattle.lvm_session.specs.Judging.{copies_in}
-use Rattle.lvm_session.specs.Causes.{AreCaused, AreCounted, FailedSince, HasFailed, HaveSourcesFailed, IsAnswered, IsCaused, IsCausedAmong, IsCounted, IsLandedFor, IsTrueToOrigin, faults_at_first, faults_at_opening, OwnFailedSinceOpening, own_faults}
+use Rattle.lvm_session.specs.Causes.{AreCaused, AreCounted, FailedSince, TargetHasFailed, HaveSourcesFailed, IsAnswered, IsCaused, IsCausedAmong, IsCounted, IsLandedFor, IsTrueToOrigin, faults_at_first, faults_at_opening, OwnFailedSinceOpening, own_faults}
 use Rattle.lvm_session.specs.Sound.{IsSound}
 use Rattle.lvm_keeps.proofs.RequestsLemmas.{if_on}
 use Rattle.lvm_keeps_events.specs.Ends.{CountsKeep}
@@ -32,7 +32,7 @@ module _ (s : State) (media : Option Media) (counts : Counts) (sound : IsSound s
   abbrev now : State
   now = state (record s.device { media = media; counts = counts }) s.core
 
-  failed_on : (t : Target) → HasFailed s.device t → HasFailed now.device t
+  failed_on : (t : Target) → TargetHasFailed s.device t → TargetHasFailed now.device t
   failed_on t rose = rose_on t.faults (s.device.counts.faults t.pp.disk) (counts.faults t.pp.disk) (more t.pp.disk) rose
 
   since_on : (disk : ℕ) → FailedSince s disk → FailedSince now disk
@@ -41,8 +41,8 @@ module _ (s : State) (media : Option Media) (counts : Counts) (sound : IsSound s
   landed_on : (o : Open) (how : Outcome) → IsLandedFor s o how → IsLandedFor now o how
   landed_on o outcome.Done why = why
   landed_on o outcome.Got why = why
-  landed_on o outcome.Lost why = (why.0, all_weaker (λ (t : Target). t.usable ≡ true → HasFailed s.device t) (λ (t : Target). t.usable ≡ true → HasFailed now.device t) (λ t its can. failed_on t (its can)) o.request.targets.items why.1)
-  landed_on o outcome.ReadFailed why = (why.0, all_weaker (λ (t : Target). (is_failed t.state ≡ true) × HasFailed s.device t) (λ (t : Target). (is_failed t.state ≡ true) × HasFailed now.device t) (λ t its. (its.0, failed_on t its.1)) o.request.targets.items why.1)
+  landed_on o outcome.Lost why = (why.0, all_weaker (λ (t : Target). t.usable ≡ true → TargetHasFailed s.device t) (λ (t : Target). t.usable ≡ true → TargetHasFailed now.device t) (λ t its can. failed_on t (its can)) o.request.targets.items why.1)
+  landed_on o outcome.ReadFailed why = (why.0, all_weaker (λ (t : Target). (is_failed t.state ≡ true) × TargetHasFailed s.device t) (λ (t : Target). (is_failed t.state ≡ true) × TargetHasFailed now.device t) (λ t its. (its.0, failed_on t its.1)) o.request.targets.items why.1)
   landed_on o outcome.NoFresh (inl why) = inl (why.0, since_on why.0 why.1)
   landed_on o outcome.NoFresh (inr why) = inr why
   landed_on o outcome.Off why = why

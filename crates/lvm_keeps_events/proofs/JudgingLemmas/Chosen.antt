@@ -43,7 +43,7 @@ use Rattle.lvm_session.specs.Bringing.{end_by_sources, end_of, ends_if, is_clear
 use Rattle.lvm_session.specs.Events.{Chooses, ChoosesBy, copy_of, loads_of, place_target, target_at, usable_from}
 use Rattle.lvm_session.specs.Marks.{is_among}
 use Rattle.lvm_session.specs.Requests.{IsAimed, IsLaid, IsOpenOne, IsTarget}
-use Rattle.lvm_session.specs.Causes.{HasFailed, IsCaused, fails_on, is_blamed, is_held_stale}
+use Rattle.lvm_session.specs.Causes.{TargetHasFailed, IsCaused, fails_on, is_blamed, is_held_stale}
 use Rattle.lvm_session.specs.Sound.{IsCopy, IsGoing, IsSound, is_clearing}
 use Rattle.lvm_session.proofs.EventsLemmas.{copies_are, order_holds, usable_holds}
 use Rattle.lvm_session.proofs.MovesLemmas.{IsOpenPlace, move_of, open_one, place_open, places_by, stale_of}
@@ -432,7 +432,7 @@ module _ (s : State) (sound : IsSound s) (on : s.core.power ≡ power.On) (place
   good_caused : (p : Pp) → IsGood p → IsCaused s.device core (target_at s ask p)
   good_caused p good why = by (is_usable core p) refl why
     where
-      by : (b : Bool) → is_usable core p ≡ b → b && is_blamed core p ≡ true → HasFailed s.device (target_at s ask p)
+      by : (b : Bool) → is_usable core p ≡ b → b && is_blamed core p ≡ true → TargetHasFailed s.device (target_at s ask p)
       by true can e = not_so (sym (not_blamed p good.0 can) ∙ e)
       by false can e = not_so e
 

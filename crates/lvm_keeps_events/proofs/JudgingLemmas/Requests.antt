@@ -32,7 +32,7 @@ use Rattle.lvm_session.specs.State.{Core}
 use Rattle.lvm_session.specs.Judging.{group_in, group_of, has_dirty_mark, has_names, held_of, is_caught, is_kept, is_running, is_settled, is_sure, is_wanted_stale, place_of, pps_of, is_sure_at, places_for}
 use Rattle.lvm_session.specs.Bringing.{groups_of}
 use Rattle.lvm_session.specs.Marks.{is_among}
-use Rattle.lvm_session.specs.Requests.{IsJudged, IsLaid, IsMarkedPlace, IsOpenOne, IsPhase, IsReady, IsRecorded, IsShaped, has_record, is_failed_and_sure, is_wanted_dirty, may_lack, mode_for, wants_status, will_be_kept}
+use Rattle.lvm_session.specs.Requests.{IsJudged, IsLaid, IsMarkedPlace, IsOpenOne, IsPhase, MayBeServed, IsRecorded, IsShaped, has_record, is_failed_and_sure, is_wanted_dirty, may_lack, mode_for, wants_status, will_be_kept}
 use Rattle.lvm_session.specs.Sound.{pins}
 use Rattle.lvm_keeps.proofs.KeepsLemmas.NoteStart.{each_counted}
 use Rattle.lvm_keeps.proofs.Small.{and_on, both, is_false}
@@ -214,7 +214,7 @@ module _ (e : WriteEnd) (r : Reviewed e) (names : NamesStay e) (caught : (group 
   shape_on : (x : Open) → IsShaped core x → IsShaped after x
   shape_on x a = shape_still core after refl places x a
 
-  ready_on : (x : Open) → IsKept x → IsReady core x.request → IsReady after x.request
+  ready_on : (x : Open) → IsKept x → MayBeServed core x.request → MayBeServed after x.request
   ready_on x keep b = record {
     free = λ past. blocked (place_of x.request.id) (held_of x.request.ask) (b.free past);
     recorded = b.recorded;

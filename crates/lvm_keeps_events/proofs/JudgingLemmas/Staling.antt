@@ -39,7 +39,7 @@ use Rattle.lvm_session.specs.Marks.{can_replace, is_among, is_entailed, is_entai
 use Rattle.lvm_session.specs.Causes.{fails_on, is_blamed, is_held_stale, was_fresh}
 use Rattle.lvm_session.specs.Left.{clean_volumes}
 use Rattle.lvm_session.specs.Owners.{AreRows, IsTransferOf}
-use Rattle.lvm_session.specs.Requests.{is_failed_and_sure, is_left_out, is_wanted_dirty, is_wanted_due, IsOpenOne, IsReady, IsShaped, mode_for, will_be_kept}
+use Rattle.lvm_session.specs.Requests.{is_failed_and_sure, is_left_out, is_wanted_dirty, is_wanted_due, IsOpenOne, MayBeServed, IsShaped, mode_for, will_be_kept}
 use Rattle.lvm_session.specs.Sound.{IsCopy, may_be_fresh, stays_fresh}
 use Rattle.lvm_keeps.proofs.KeepsLemmas.Landing.{or_parts}
 use Rattle.lvm_keeps.proofs.OwnersLemmas.Rows.{data_still, status_still, step_still}
@@ -191,7 +191,7 @@ module _ (core : Core) (due : Pp → Bool) (wanted : Status) (writes : Writes) (
   settled_on mode.Passive r e = e
   settled_on mode.Off r e = refl
 
-  pub ready_on : (r : Request) → IsReady core r → IsReady staler r
+  pub ready_on : (r : Request) → MayBeServed core r → MayBeServed staler r
   ready_on r b = record {
     free = b.free;
     recorded = b.recorded;

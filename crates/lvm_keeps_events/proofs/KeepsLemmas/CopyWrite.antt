@@ -8,7 +8,7 @@ use Rattle.lvm_num.specs.Descriptor.{is_pp}
 use Rattle.lvm_num.proofs.Booleans.{not_so}
 use Rattle.lvm_num.proofs.Lists.{all_weaker}
 use Rattle.lvm_disk.specs.Device.{Device, Flight, Range}
-use Rattle.lvm_disk.specs.Steps.{IsFresh}
+use Rattle.lvm_disk.specs.Steps.{IsNewTicket}
 use Rattle.lvm_session.specs.declared.bringing.OpenCopy.{OpenCopy}
 use Rattle.lvm_session.specs.declared.bringing.Step.{Step}
 use Rattle.lvm_session.specs.declared.bringing.Step.TheVariants as step
@@ -38,7 +38,7 @@ use Rattle.lvm_keeps_events.proofs.SoundLemmas.Frame.{after, fitting_on, launche
 use Rattle.lvm_session.proofs.MovesLemmas.{places_by}
 
 module _ (s : State) (sound : IsSound s) (on : s.core.power ≡ power.On) (c : OpenCopy) (is : s.core.copy ≡ Some c) (may : may_write c ≡ true) (buf : Buffer) (in_hand : c.step ≡ step.Read buf)
-    (f : Flight) (writes : IsCopyTransfer s.core c c.pp true f) (carries : f.buf ≡ buf) (fresh : IsFresh f.ticket s.device.flights) (starts : ℕ → ℕ) (wrote : Option (List Range)) where
+    (f : Flight) (writes : IsCopyTransfer s.core c c.pp true f) (carries : f.buf ≡ buf) (fresh : IsNewTicket f.ticket s.device.flights) (starts : ℕ → ℕ) (wrote : Option (List Range)) where
   abbrev core : Core
   core = s.core
 

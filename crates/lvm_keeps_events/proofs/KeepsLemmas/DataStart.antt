@@ -12,7 +12,7 @@ use Rattle.lvm_num.specs.Descriptor.{is_pp}
 use Rattle.lvm_num.proofs.Booleans.{and_false, not_so}
 use Rattle.lvm_num.proofs.Lists.{all_weaker, all_at, length_set, set_beside}
 use Rattle.lvm_disk.specs.Device.{Device, Flight, Range}
-use Rattle.lvm_disk.specs.Steps.{IsFresh, Starts}
+use Rattle.lvm_disk.specs.Steps.{IsNewTicket, Starts}
 use Rattle.lvm_vol.specs.Log.{is_open}
 use Rattle.lvm_mwc.specs.Cache.{is_named}
 use Rattle.lvm_sched.specs.declared.writes.TargetState.{TargetState}
@@ -37,7 +37,7 @@ use Rattle.lvm_session.specs.Events.{IsDataTransfer, begun_as, flown}
 use Rattle.lvm_session.specs.Marks.{is_among}
 use Rattle.lvm_session.specs.Left.{marks_later}
 use Rattle.lvm_session.specs.Owners.{AreOwned, IsDataOf, flies, same_owner, target_flies}
-use Rattle.lvm_session.specs.Requests.{IsAimed, IsJudged, IsOpenOne, IsPhase, IsPinned, IsReady, IsRecorded, IsRequest, IsShaped, IsTarget, has_record, is_left_out, is_past_held, may_lack, mode_for}
+use Rattle.lvm_session.specs.Requests.{IsAimed, IsJudged, IsOpenOne, IsPhase, IsPinned, MayBeServed, IsRecorded, IsRequest, IsShaped, IsTarget, has_record, is_left_out, is_past_held, may_lack, mode_for}
 use Rattle.lvm_session.specs.Causes.{own_faults, AreCaused, AreCounted, IsAnswered, IsCaused, IsChosenSince, IsCounted, IsLandedFor, fails_on, faults_at_opening, is_held_stale}
 use Rattle.lvm_session.specs.Sound.{IsAsked, IsCopy, IsGoing, IsOn, IsSound, IsTold, count_if, has_number, is_dark, is_hand, out_with, pins, with_row}
 use Rattle.lvm_keeps.specs.Keeps.{DataStartKeeps}
@@ -75,7 +75,7 @@ recorded_on mode.Off p r s may pinned long its = (pinned ∙ its.0, refl, refl)
 
 module _ (s : State) (sound : IsSound s) (on : s.core.power ≡ power.On) (place target : ℕ) (o : Open) (there : slice_get s.core.requests place ≡ Some o) (due : target_due s.core o ≡ Some target)
     (aim : Target) (aim_is : slice_get o.request.targets.items target ≡ Some aim) (f : Flight) (moves : IsDataTransfer s.core o.request aim f) (long : length f.buf.sectors ≡ 256)
-    (free : slice_get s.core.pool f.buf.number ≡ Some false) (fresh : IsFresh f.ticket s.device.flights) (starts : ℕ → ℕ) (wrote : Option (List Range)) where
+    (free : slice_get s.core.pool f.buf.number ≡ Some false) (fresh : IsNewTicket f.ticket s.device.flights) (starts : ℕ → ℕ) (wrote : Option (List Range)) where
   abbrev core : Core
   core = s.core
 
@@ -189,7 +189,7 @@ module _ (s : State) (sound : IsSound s) (on : s.core.power ≡ power.On) (place
   marks_on mode.Passive mark = mark
   marks_on mode.Off mark = refl
 
-  ready : IsReady now.core begun.request
+  ready : MayBeServed now.core begun.request
   ready = let b = request.ready in record {
     free = λ e. b.free past;
     recorded = recorded_on (mode_for core o.request.ask) o.request.phase o.request begun.request start.may refl same_long b.recorded;

@@ -24,7 +24,7 @@ use Rattle.lvm_num.specs.StatusBytes.{status_bytes}
 use Rattle.lvm_num.proofs.Booleans.{not_so, four_hold, if_itself, three_hold}
 use Rattle.lvm_num.proofs.Lists.{any_as, all_weaker, length_set}
 use Rattle.lvm_disk.specs.Device.{Device, Flight, Range}
-use Rattle.lvm_disk.specs.Steps.{IsFresh, Starts}
+use Rattle.lvm_disk.specs.Steps.{IsNewTicket, Starts}
 use Rattle.lvm_path.specs.declared.request.Phase.{Phase}
 use Rattle.lvm_path.specs.declared.request.Phase.TheVariants as phase
 use Rattle.lvm_path.specs.declared.request.Request.{Request}
@@ -47,11 +47,11 @@ use Rattle.lvm_session.specs.State.{Core, State, state}
 use Rattle.lvm_session.specs.Judging.{copies_in, group_in, has_dirty_mark, has_names, is_caught, is_missing, is_running, is_settled, is_stale, is_wanted_stale, pps_of}
 use Rattle.lvm_session.specs.Bringing.{copy_ends, end_by_sources, end_of, ends_if, is_whole}
 use Rattle.lvm_session.specs.Enabled.{is_status_due, same_row, same_rows, same_status}
-use Rattle.lvm_session.specs.Events.{Begins, IsStatusWrite, flown}
+use Rattle.lvm_session.specs.Events.{PutsInFlight, IsStatusWrite, flown}
 use Rattle.lvm_session.specs.Marks.{is_among}
 use Rattle.lvm_session.specs.Left.{if_so, updates_left}
 use Rattle.lvm_session.specs.Owners.{AreOwned, IsStatusOf, IsTransferOf, flies, same_owner}
-use Rattle.lvm_session.specs.Requests.{IsJudged, IsOpenOne, IsReady, IsShaped, has_record, is_past_held, is_wanted_dirty, mode_for}
+use Rattle.lvm_session.specs.Requests.{IsJudged, IsOpenOne, MayBeServed, IsShaped, has_record, is_past_held, is_wanted_dirty, mode_for}
 use Rattle.lvm_session.specs.Causes.{AreCaused, IsCaused, IsTrueToOrigin, fails_on, is_blamed, is_held_stale, was_fresh}
 use Rattle.lvm_session.specs.Sound.{IsCopy, IsFitting, IsGoing, IsOn, IsSound, IsTold, count_if, has_number, is_dark, may_be_fresh, out_with, stays_fresh}
 use Rattle.lvm_keeps.specs.Keeps.{StatusStartKeeps}
@@ -92,7 +92,7 @@ Flies core status stamp = ((core.status.in_flight ≡ Some status) × (stamp ≡
 module _ (s : State) (sound : IsSound s) (on : s.core.power ≡ power.On) (disk : ℕ) (status : Status) (writes : Writes) (stamp : Stamp) (was : Flies s.core status stamp)
     (started : (d : ℕ) → has writes.started d ≡ (has s.core.status.writes.started d || d == disk)) (none : has s.core.status.writes.started disk ≡ false)
     (status_sound : IsSoundStatus (seen (record s.core.status { in_flight = Some status; writes = writes; stamp = stamp })))
-    (f : Flight) (long : length f.buf.sectors ≡ 256) (free : slice_get s.core.pool f.buf.number ≡ Some false) (fresh : IsFresh f.ticket s.device.flights) (starts : ℕ → ℕ) (wrote : Option (List Range)) where
+    (f : Flight) (long : length f.buf.sectors ≡ 256) (free : slice_get s.core.pool f.buf.number ≡ Some false) (fresh : IsNewTicket f.ticket s.device.flights) (starts : ℕ → ℕ) (wrote : Option (List Range)) where
   abbrev core : Core
   core = s.core
 
@@ -192,7 +192,7 @@ module _ (s : State) (sound : IsSound s) (on : s.core.power ≡ power.On) (disk 
   past_held phase.WantStatus e = refl
   past_held phase.Landed e = not_so e
 
-  ready_on : (r : Request) → IsReady core r → IsReady now.core r
+  ready_on : (r : Request) → MayBeServed core r → MayBeServed now.core r
   ready_on r b = record {
     free = b.free;
     recorded = b.recorded;
@@ -419,7 +419,7 @@ not_self a disk = ap (λ b. a && not b) (eq-eqb disk disk refl) ∙ and_false a
     and_false true = refl
     and_false false = refl
 
-pub under_way : (core : Core) (next : Stored) (disk : ℕ) (status : Status) (begun : Stored) → IsGoing core → is_status_due core ≡ true → Begins core.status begun → IsLowest (seen begun).unstarted (Some disk)
+pub under_way : (core : Core) (next : Stored) (disk : ℕ) (status : Status) (begun : Stored) → IsGoing core → is_status_due core ≡ true → PutsInFlight core.status begun → IsLowest (seen begun).unstarted (Some disk)
     → seen next ≡ with_write_start (seen begun) (Some disk) → next.in_flight ≡ Some status → IsUnderWay core next disk status
 under_way base next disk status begun sure due (inl flew) lowest started its_flight = record {
   group = ap (λ (u : Updates). u.group) all;

@@ -21,8 +21,8 @@ use Rattle.lvm_session.specs.declared.flown.Owner.{Owner}
 use Rattle.lvm_session.specs.declared.flown.Owner.TheVariants as owner
 use Rattle.lvm_session.specs.declared.open.Power.TheVariants as power
 use Rattle.lvm_session.specs.Bringing.{is_whole}
-use Rattle.lvm_session.specs.Ends.{CopyLearns, Ends, GoesOn, Learns, NoteLearns, Returns, StepLearns, StepLeaves, with_return, without_step}
-use Rattle.lvm_session.specs.Events.{Begins}
+use Rattle.lvm_session.specs.Ends.{CopyLearns, Ends, CopyStepsOn, Learns, NoteLearns, Returns, StepLearns, StepLeaves, with_return, without_step}
+use Rattle.lvm_session.specs.Events.{PutsInFlight}
 use Rattle.lvm_session.specs.Judging.{is_missing, is_running}
 use Rattle.lvm_session.specs.Marks.{WantsDirtyIf}
 use Rattle.lvm_session.specs.Owners.{IsNoteOf, IsStatusOf, IsTransferOf}
@@ -51,7 +51,7 @@ module _ (old new : State) where
 
   -- ---- the events
 
-  begun_missing : (begun : Stored) (disk : ℕ) → Begins old.core.status begun → calls_missing begun.wanted disk ≡ calls_missing old.core.status.wanted disk
+  begun_missing : (begun : Stored) (disk : ℕ) → PutsInFlight old.core.status begun → calls_missing begun.wanted disk ≡ calls_missing old.core.status.wanted disk
   begun_missing begun disk (inl same) = ap (λ (s : Stored). calls_missing s.wanted disk) same.1
   begun_missing begun disk (inr more) = ap (λ (u : Updates). calls_missing u.wanted disk) more.1
 
@@ -94,7 +94,7 @@ module _ (old new : State) where
     status_loses disk true mid own returns same after = same_missing (λ d. after d ∙ ap (λ (w : Status). calls_missing w d) same)
     status_loses disk false mid own returns becomes after = one_more disk mid becomes after (status_failed disk own returns)
 
-  on_missing : (whole : Bool) (core on : Core) (c : OpenCopy) → core.status ≡ old.core.status → GoesOn whole core c on → SameMissing old.core.status.wanted on.status.wanted
+  on_missing : (whole : Bool) (core on : Core) (c : OpenCopy) → core.status ≡ old.core.status → CopyStepsOn whole core c on → SameMissing old.core.status.wanted on.status.wanted
   on_missing false core on c same is = λ disk. ap (λ (k : Core). calls_missing k.status.wanted disk) is ∙ ap (λ (s : Stored). calls_missing s.wanted disk) same
   on_missing true core on c same it = λ disk. it.0.wants.missing disk ∙ ap (λ (s : Stored). calls_missing s.wanted disk) same
 

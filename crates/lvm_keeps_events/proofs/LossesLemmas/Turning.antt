@@ -30,7 +30,7 @@ use Rattle.lvm_session.specs.declared.open.Open.{Open}
 use Rattle.lvm_session.specs.declared.open.Power.TheVariants as power
 use Rattle.lvm_session.specs.Bringing.{ends_if, is_whole, marked_by_end}
 use Rattle.lvm_session.specs.Causes.{fails_on}
-use Rattle.lvm_session.specs.Ends.{CopyLearns, Ends, GoesOn, Learns, NoteLearns, StepLearns, StepLeaves, with_copy, with_return, without_step}
+use Rattle.lvm_session.specs.Ends.{CopyLearns, Ends, CopyStepsOn, Learns, NoteLearns, StepLearns, StepLeaves, with_copy, with_return, without_step}
 use Rattle.lvm_session.specs.Events.{landed_as}
 use Rattle.lvm_session.specs.Judging.{is_missing, is_place, is_running, is_stale, is_sure, is_sure_at, is_waiting, is_wanted_stale}
 use Rattle.lvm_session.specs.Marks.{WantsDirtyIf, due_of, end_by_write, hits_copy, is_among}
@@ -273,7 +273,7 @@ module _ (old : State) (sound : IsSound old) (on : old.core.power ≡ power.On) 
         shut : (p : Pp) → is_open_at old.core p ≡ false → is_pp p it.next.pp ≡ false
         shut p none_open = ap (λ (k : OpenCopy). is_pp p k.pp) it.moves.is ∙ sym (ap (λ m. option_map_or (λ (k : OpenCopy). is_pp p k.pp) m false) is) ∙ none_open
 
-        by : (b : Bool) → GoesOn b (without_step (with_return old.core at buf) c) it.next it.on → MarksFor old new
+        by : (b : Bool) → CopyStepsOn b (without_step (with_return old.core at buf) c) it.next it.on → MarksFor old new
         by false goes = of_review old new it.on none (same_passes none none old.core.status it.on.status (ap (λ (k : Core). k.status) goes)) (λ p closed. refl) (ap (λ (k : Core). k.requests) goes) (reviewed it.on new.core it.reviews)
         by true goes = of_review old new it.on (λ p. is_pp p it.next.pp) (fresh_passes none it.next.pp old.core.status it.on.status goes.0) shut (ap (λ (k : Core). k.requests) goes.1) (reviewed it.on new.core it.reviews)
     step_marks step.Writing false at c buf is runs it = of_due (marked_by_end old.core (Some ending.SyncFailed)) old new (stale_passes (marked_by_end old.core (Some ending.SyncFailed)) none old.core.status new.core.status it.marks)

@@ -19,7 +19,7 @@ use Rattle.lvm_session.specs.State.{Core, State}
 use Rattle.lvm_session.specs.declared.answers.Turned.{Turned}
 use Rattle.lvm_session.specs.declared.answers.Turned.TheVariants as turned
 use Rattle.lvm_session.specs.Dark.{hand_of_copy}
-use Rattle.lvm_session.specs.Ends.{DataLearns, Ends, GoesOn, Learns, NoteLearns, StatusLearns, StepLearns, StepLeaves, given_back, with_copy, with_return, without_step}
+use Rattle.lvm_session.specs.Ends.{DataLearns, Ends, CopyStepsOn, Learns, NoteLearns, StatusLearns, StepLearns, StepLeaves, given_back, with_copy, with_return, without_step}
 use Rattle.lvm_session.specs.Marks.{Reviews}
 use Rattle.lvm_session.specs.Turns.{Darkens, FinishMakes, Finishes, GoesOff, Makes, Moves, NoStart, OnMakes, TurnMakes, WasDark, WasOff, WasOn}
 use Rattle.lvm_keeps_events.specs.Telling.{SameRoom}
@@ -86,7 +86,7 @@ pub note_stays : (old new : Core) (at disk : ℕ) (ok : Bool) (buf : Buffer) →
 note_stays old new at disk true buf it = back_stays old new (at_once _ new it) refl (returned old at buf) refl refl
 note_stays old new at disk false buf it = back_stays old new (reviewed _ new it.2) refl (returned old at buf) refl refl
 
-goes_stays : (whole : Bool) (core next : Core) (c : OpenCopy) → GoesOn whole core c next → Stays core next
+goes_stays : (whole : Bool) (core next : Core) (c : OpenCopy) → CopyStepsOn whole core c next → Stays core next
 goes_stays false core next c is =
     record { framed = record { most = ap (λ (x : Core). x.most) is; long = ap (λ (x : Core). length x.pool) is; power_is = ap (λ (x : Core). x.power) is }; requests = ap (λ (x : Core). x.requests) is }
 goes_stays true core next c it =

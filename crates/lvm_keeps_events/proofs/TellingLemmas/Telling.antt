@@ -10,7 +10,7 @@ use Rattle.lvm_session.specs.Left.{left_of}
 use Rattle.lvm_session.specs.Sound.{IsOver, IsSound}
 use Rattle.lvm_keeps_events.specs.Turning.{is_last}
 use Rattle.lvm_keeps_events.proofs.TurningLemmas.{turn_ends, turn_falls}
-use Rattle.lvm_keeps_events.specs.Telling.{IsStill, TurnTells, power_by}
+use Rattle.lvm_keeps_events.specs.Telling.{CannotGoOn, TurnTells, power_by}
 use Rattle.lvm_keeps_events.proofs.TellingLemmas.Frames.{end_framed, event_framed}
 
 module _ (old new : State) (sound : IsSound old) where
@@ -35,18 +35,18 @@ module _ (old new : State) (sound : IsSound old) where
 
   -- ---- whether nothing may be made
 
-  finish_idle : (answer : Turned) → answer ≡ turned.Idle → old.core.power ≡ power.On → first_event old.core ≡ None → FinishMakes old new answer → IsStill old new
+  finish_idle : (answer : Turned) → answer ≡ turned.Idle → old.core.power ≡ power.On → first_event old.core ≡ None → FinishMakes old new answer → CannotGoOn old new
   finish_idle turned.Moved e on none made = absurd (cc e)
   finish_idle turned.Idle e on none made = record { on = on; none = none; still = made }
   finish_idle turned.Dark e on none made = absurd (cc e)
   finish_idle turned.Off e on none made = absurd (cc e)
 
-  on_idle : (answer : Turned) → answer ≡ turned.Idle → old.core.power ≡ power.On → OnMakes old new answer → IsStill old new
+  on_idle : (answer : Turned) → answer ≡ turned.Idle → old.core.power ≡ power.On → OnMakes old new answer → CannotGoOn old new
   on_idle answer e on (Moves it first made is) = absurd (let no : turned.Moved ≡ turned.Idle = sym is ∙ e in cc no)
   on_idle answer e on (NoStart it first start dark is) = absurd (let no : turned.Dark ≡ turned.Idle = sym is ∙ e in cc no)
   on_idle answer e on (Finishes none made) = finish_idle answer e on none made
 
-  is_still : (answer : Turned) → TurnMakes old new answer → answer ≡ turned.Idle → IsStill old new
+  is_still : (answer : Turned) → TurnMakes old new answer → answer ≡ turned.Idle → CannotGoOn old new
   is_still answer (WasDark dark is same) e = absurd (let no : turned.Dark ≡ turned.Idle = sym is ∙ e in cc no)
   is_still answer (WasOff off is same) e = absurd (let no : turned.Off ≡ turned.Idle = sym is ∙ e in cc no)
   is_still answer (WasOn on made) e = on_idle answer e on made
@@ -60,7 +60,7 @@ module _ (old new : State) (sound : IsSound old) where
   falls answer made e = turn_falls old new sound (subst (TurnMakes old new) e made)
 
   -- so one that has moved isn't one in which nothing may be made, nor one by which it is over
-  by_answer : (answer : Turned) → IsStill old new → new.core.power ≡ power_by answer → (answer ≡ turned.Moved → left_of new.core < left_of old.core) → answer ≡ turned.Idle
+  by_answer : (answer : Turned) → CannotGoOn old new → new.core.power ≡ power_by answer → (answer ≡ turned.Moved → left_of new.core < left_of old.core) → answer ≡ turned.Idle
   by_answer turned.Moved still goes less = absurd (let same = ap left_of (same_core still.still) in let fell = less refl in omega (arith, same, fell))
   by_answer turned.Idle still goes less = refl
   by_answer turned.Dark still goes less = absurd (let no : power.On ≡ power.Dark = sym still.on ∙ sym (ap (λ (c : Core). c.power) (same_core still.still)) ∙ goes in cc no)

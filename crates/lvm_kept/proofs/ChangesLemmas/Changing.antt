@@ -7,7 +7,7 @@ use Rattle.lvm_vol.specs.declared.entry.Vol.TheVariants.{Disk, Lv}
 use Rattle.lvm_vol.specs.Facts.{Fact, Cut}
 use Rattle.lvm_vol.specs.May.{Known, known, May, IsValue}
 use Rattle.lvm_kept.specs.Contents.{Contents}
-use Rattle.lvm_kept.specs.Group.{descriptor_among, is_voter, has_quorum, status_among, Finds, IsFound, members_in, status_by, Reads, fresh_on, block_at, IsSome, HoldOne}
+use Rattle.lvm_kept.specs.Group.{descriptor_among, is_voter, has_quorum, status_among, Finds, IsFound, members_in, status_by, ReadsGroup, fresh_on, block_at, IsSome, HoldOne}
 use Rattle.lvm_kept.specs.Kept.{HasStatus, MayDiffer, IsBlockKept, BlocksKept, RawAgrees, IsAvailable, Kept}
 use Rattle.lvm_kept.specs.Changes.{Unchanged, Excused, BlocksChange, DataChangeKeeps, StayExcused, NoteChangeKeeps}
 
@@ -42,12 +42,12 @@ module _ (old : Contents) (note : ℕ → Option Noted) (block : ℕ → ℕ →
   is_found_before : (id : ℕ) (group : Descriptor) → IsFound (with old note block) id group → IsFound old id group
   is_found_before id group is = (is.0, found_before is.0 id group is.1)
 
-  reads_before : (disks : Disks) (id : ℕ) (group : Descriptor) → Reads (with old note block) disks id group → Reads old disks id group
+  reads_before : (disks : Disks) (id : ℕ) (group : Descriptor) → ReadsGroup (with old note block) disks id group → ReadsGroup old disks id group
   reads_before disks id group reads = record { found = is_found_before id group reads.found; enough = reads.enough }
 
   module _ (facts : List Fact) (kept : Kept old facts)
       (copies : (disks : Disks) (id : ℕ) (group : Descriptor) → Finds old disks id group → BlocksKept (with old note block) facts group (is_voter old disks id) (status_among old disks id))
-      (across : (b : Disks) (id : ℕ) (h k : Descriptor) → Reads old b id h → IsFound old id k → BlocksKept (with old note block) facts k (members_in old all_disks id k) (status_by old b id h))
+      (across : (b : Disks) (id : ℕ) (h k : Descriptor) → ReadsGroup old b id h → IsFound old id k → BlocksKept (with old note block) facts k (members_in old all_disks id k) (status_by old b id h))
       (raw : RawAgrees (with old note block) facts) where
     -- by the same voters and the same status
     by_same : (group : Descriptor) (disks : Disks) (id : ℕ) → BlocksKept (with old note block) facts group (is_voter old disks id) (status_among old disks id)

@@ -8,14 +8,14 @@ use Rattle.lvm_disk.specs.passed.NumDescriptorMode.{Active, Passive, Off}
 use Rattle.lvm_disk.proofs.passed.Names.{all_weaker}
 use Rattle.lvm_vol.specs.declared.entry.Vol.{Vol}
 use Rattle.lvm_vol.specs.declared.entry.Vol.TheVariants.{Disk, Lv}
-use Rattle.lvm_vol.specs.Facts.{Request, Fact, Begun, Cut, Stands, is_over, block_of}
+use Rattle.lvm_vol.specs.Facts.{Request, Fact, Begun, Cut, IsInList, is_over, block_of}
 use Rattle.lvm_vol.specs.May.{Known, known, May, IsValue, also, cut, is_off, is_some_open}
 use Rattle.lvm_vol.specs.Standing.{Standing, Absent, Open, Settled, Shape, Volume, no_volumes, volumes_after, volumes_after_fact, volumes_in, put}
 use Rattle.lvm_vol.proofs.LawsLemmas.Knowing.{known-push}
 use Rattle.lvm_kept.specs.Contents.{Contents}
 use Rattle.lvm_kept.specs.Group.{status_among, Finds, members_in, ReadsBy, block_at, fresh_on, IsOneOf, IsSome}
 use Rattle.lvm_kept.specs.Kept.{StandsAs, MayDiffer, IsBlockKept, BlocksKept, VolumesAgree, IsSettledIn, IsAvailable, Kept}
-use Rattle.lvm_kept.specs.Changes.{OnlyAllowsMore, BlocksStayKept, MoreIsKept, IsFoundByAll, MayStand, EntryKeeps, BeginningAllowsMore, MayBegin, BeginningStands}
+use Rattle.lvm_kept.specs.Changes.{OnlyAllowsMore, BlocksStayKept, MoreIsKept, IsFoundByAll, VolumeMayStand, EntryKeeps, BeginningAllowsMore, MayBeginRequest, BeginningStands}
 use Rattle.lvm_kept.proofs.MayLemmas.{cut_adds_more, one_more}
 use Rattle.lvm_kept.proofs.CommittedLemmas.Finding.{finding_reads}
 
@@ -83,7 +83,7 @@ stands_unfound mib Open shape (Some row) none not = absurd cc
 stands_unfound mib Absent shape None none not = tt
 stands_unfound mib Absent shape (Some row) none not = absurd cc
 
-module _ (c : Contents) (facts : List Fact) (f : Fact) (stays : BlocksStayKept c facts f) (stand : (lv : ℕ) → MayStand c lv (volumes_in facts lv) (volumes_in (facts ++ f ∷ []) lv)) (kept : Kept c facts) where
+module _ (c : Contents) (facts : List Fact) (f : Fact) (stays : BlocksStayKept c facts f) (stand : (lv : ℕ) → VolumeMayStand c lv (volumes_in facts lv) (volumes_in (facts ++ f ∷ []) lv)) (kept : Kept c facts) where
   volumes_agree : VolumesAgree c (facts ++ f ∷ [])
   volumes_agree disks id group g lv =
       let was : StandsAs group.mib (volumes_in facts lv).standing (volumes_in facts lv).shape (volume_of group lv) = kept.agrees.volumes disks id group g lv in
@@ -160,7 +160,7 @@ may_more : (r : Request) (b : ℕ) (t : Bool) (k : Known) (x : Sector) → May (
 may_more r b true k x may = cut_adds_more k.values r k.open_writes b x may
 may_more r b false k x may = may
 
-also_more : (values : Option (List Sector)) (ys : List Sector) (y x : Sector) → IsSomeAnd (also ys values) (λ vs. Stands x vs) → IsSomeAnd (also (y ∷ ys) values) (λ vs. Stands x vs)
+also_more : (values : Option (List Sector)) (ys : List Sector) (y x : Sector) → IsSomeAnd (also ys values) (λ vs. IsInList x vs) → IsSomeAnd (also (y ∷ ys) values) (λ vs. IsInList x vs)
 also_more None ys y x is = is
 also_more (Some vs) ys y x is = one_more x vs ys y is
 
@@ -194,11 +194,11 @@ beginning_more facts r = record {
 volumes_now : (facts : List Fact) (r : Request) (lv : ℕ) → volumes_in (facts ++ Begun r ∷ []) lv ≡ put r.vol Settled (volumes_in facts) lv
 volumes_now facts r lv = ap (λ (v : ℕ → Volume). v lv) (volumes-append no_volumes facts (Begun r ∷ []))
 
-pub put_settled : (c : Contents) (vol : Vol) (volumes : ℕ → Volume) (lv : ℕ) → ((n : ℕ) → vol ≡ Lv n → ((volumes n).standing ≡ Settled) ⊎ (((volumes n).standing ≡ Open) × IsFoundByAll c n)) → MayStand c lv (volumes lv) (put vol Settled volumes lv)
+pub put_settled : (c : Contents) (vol : Vol) (volumes : ℕ → Volume) (lv : ℕ) → ((n : ℕ) → vol ≡ Lv n → ((volumes n).standing ≡ Settled) ⊎ (((volumes n).standing ≡ Open) × IsFoundByAll c n)) → VolumeMayStand c lv (volumes lv) (put vol Settled volumes lv)
 put_settled c (Disk n) volumes lv may = inl refl
 put_settled c (Lv n) volumes lv may = by_test (n == lv) refl
   where
-    by_test : (t : Bool) → (n == lv) ≡ t → MayStand c lv (volumes lv) (if t then record (volumes lv) { standing = Settled } else volumes lv)
+    by_test : (t : Bool) → (n == lv) ≡ t → VolumeMayStand c lv (volumes lv) (if t then record (volumes lv) { standing = Settled } else volumes lv)
     by_test false is = inl refl
     by_test true is =
         let same : n ≡ lv = eqb-true n lv is in
@@ -208,8 +208,8 @@ put_settled c (Lv n) volumes lv may = by_test (n == lv) refl
         (subst (λ (m : ℕ). ((volumes m).standing ≡ Settled) ⊎ (((volumes m).standing ≡ Open) × IsFoundByAll c m)) same (may n refl))
 
 pub beginning_stands : BeginningStands
-beginning_stands c facts r may lv = subst (λ (v : Volume). MayStand c lv (volumes_in facts lv) v) (sym (volumes_now facts r lv)) (put_settled c r.vol (volumes_in facts) lv (on r.vol may))
+beginning_stands c facts r may lv = subst (λ (v : Volume). VolumeMayStand c lv (volumes_in facts lv) v) (sym (volumes_now facts r lv)) (put_settled c r.vol (volumes_in facts) lv (on r.vol may))
   where
-    on : (vol : Vol) → MayBegin c facts vol → (n : ℕ) → vol ≡ Lv n → ((volumes_in facts n).standing ≡ Settled) ⊎ (((volumes_in facts n).standing ≡ Open) × IsFoundByAll c n)
+    on : (vol : Vol) → MayBeginRequest c facts vol → (n : ℕ) → vol ≡ Lv n → ((volumes_in facts n).standing ≡ Settled) ⊎ (((volumes_in facts n).standing ≡ Open) × IsFoundByAll c n)
     on (Disk d) is n same = absurd cc
     on (Lv m) is n same = let e : m ≡ n = cc in subst (λ (l : ℕ). ((volumes_in facts l).standing ≡ Settled) ⊎ (((volumes_in facts l).standing ≡ Open) × IsFoundByAll c l)) e is

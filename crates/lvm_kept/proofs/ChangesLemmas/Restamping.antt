@@ -12,7 +12,7 @@ use Rattle.lvm_vol.specs.declared.entry.Vol.TheVariants.{Lv}
 use Rattle.lvm_vol.specs.Facts.{Fact, Cut}
 use Rattle.lvm_vol.specs.May.{Known, known, IsValue}
 use Rattle.lvm_kept.specs.Contents.{Contents}
-use Rattle.lvm_kept.specs.Group.{IsOneOf, if_passes, passes, is_of, is_status_of, has_room, descriptor_among, is_voter, status_among, Finds, IsFound, members_in, status_by, Reads, ReadsBy, is_stale_by, fresh_on, block_at, is_named, IsSome, HoldOne}
+use Rattle.lvm_kept.specs.Group.{IsOneOf, if_passes, passes, is_of, is_status_of, has_room, descriptor_among, is_voter, status_among, Finds, IsFound, members_in, status_by, ReadsGroup, ReadsBy, is_stale_by, fresh_on, block_at, is_named, IsSome, HoldOne}
 use Rattle.lvm_kept.specs.Kept.{HasStatus, MayDiffer, BlocksKept, IsSettledIn, IsAvailable, Kept}
 use Rattle.lvm_kept.specs.Committed.{IsWithinDisks}
 use Rattle.lvm_kept.specs.Changes.{RestampingKeeps}
@@ -153,7 +153,7 @@ module _ (old : Contents) (descriptor : ℕ → Option (Stamped Descriptor)) (ne
   is_found_before : (id : ℕ) (k : Descriptor) → IsFound new id k → IsFound old id k
   is_found_before id k is = found_before is.0 id k is.1
 
-  pub reads_before : (disks : Disks) (id : ℕ) (h : Descriptor) → Reads new disks id h → Reads old disks id h
+  pub reads_before : (disks : Disks) (id : ℕ) (h : Descriptor) → ReadsGroup new disks id h → ReadsGroup old disks id h
   reads_before disks id h reads = record { found = is_found_before id h reads.found; enough = subst (λ (v : Disks). CanRead h v) (members_same disks id h) reads.enough }
 
   -- all disks find a group still, by a descriptor that was found and by which they could read
@@ -202,7 +202,7 @@ module _ (old : Contents) (descriptor : ℕ → Option (Stamped Descriptor)) (ne
     by_members P a b id k h p =
         subst (λ (s : Option (Stamped Status)). P (members_in new a id k) s) (sym (status_same b id h)) (subst (λ (v : Disks). P v (status_by old b id h)) (sym (members_same a id k)) p)
 
-    across : (b : Disks) (id : ℕ) (h k : Descriptor) → Reads new b id h → IsFound new id k → BlocksKept new facts k (members_in new all_disks id k) (status_by new b id h)
+    across : (b : Disks) (id : ℕ) (h k : Descriptor) → ReadsGroup new b id h → IsFound new id k → BlocksKept new facts k (members_in new all_disks id k) (status_by new b id h)
     across b id h k reads is = same_blocks old descriptor old.status facts k (members_in new all_disks id k) (status_by new b id h)
         (by_members (λ v s. BlocksKept old facts k v s) all_disks b id k h (kept.lasting.across b id h k (reads_before b id h reads) (is_found_before id k is)))
 

@@ -4,7 +4,7 @@ use Rattle.std.proofs.lemmas.Option.{same_Some}
 use Rattle.lvm_disk.specs.passed.Names.{LvRow, Descriptor, Status, Disks, all_disks, Stamped}
 use Rattle.lvm_vol.specs.Facts.{Fact}
 use Rattle.lvm_kept.specs.Contents.{Contents}
-use Rattle.lvm_kept.specs.Group.{descriptor_among, is_voter, has_quorum, status_among, Finds, IsFound, members_in, status_by, Reads, ReadsBy, fresh_on, IsOneOf, IsSome}
+use Rattle.lvm_kept.specs.Group.{descriptor_among, is_voter, has_quorum, status_among, Finds, IsFound, members_in, status_by, ReadsGroup, ReadsBy, fresh_on, IsOneOf, IsSome}
 use Rattle.lvm_kept.specs.Kept.{HasStatus, BlocksKept, IsSettledIn, IsAvailable, Kept}
 use Rattle.lvm_kept.specs.Changes.{Serves, HasNoVolume, StatusChangeKeeps}
 use Rattle.lvm_kept.proofs.CommittedLemmas.Finding.{finding_reads}
@@ -44,16 +44,16 @@ module _ (old : Contents) (status : ℕ → Option (Stamped Status)) where
   is_found_before : (id : ℕ) (group : Descriptor) → IsFound new id group → IsFound old id group
   is_found_before id group is = (is.0, found_before is.0 id group is.1)
 
-  reads_before : (disks : Disks) (id : ℕ) (group : Descriptor) → Reads new disks id group → Reads old disks id group
+  reads_before : (disks : Disks) (id : ℕ) (group : Descriptor) → ReadsGroup new disks id group → ReadsGroup old disks id group
   reads_before disks id group reads = record { found = is_found_before id group reads.found; enough = reads.enough }
 
   module _ (facts : List Fact) (next : Stamped Status) (kept : Kept old facts)
       (own : (d : ℕ) → (status d ≡ old.status d) ⊎ (status d ≡ Some next))
       (stamp : (d : ℕ) (r : Stamped Status) → old.status d ≡ Some r → r.value.id ≡ next.value.id → r.stamp ≡ next.stamp → r ≡ next)
-      (found : (b : Disks) (id : ℕ) (h : Descriptor) → Reads old b id h
+      (found : (b : Disks) (id : ℕ) (h : Descriptor) → ReadsGroup old b id h
       → (status_by new b id h ≡ status_by old b id h) ⊎ ((status_by new b id h ≡ Some next) × Serves old facts id next) ⊎ HasNoVolume old id) where
     -- what holds by the old status and by the next, and of a group without a volume, holds by the one that is found now
-    by_status : (P : Option (Stamped Status) → Type 0) (b : Disks) (id : ℕ) (h : Descriptor) → Reads old b id h
+    by_status : (P : Option (Stamped Status) → Type 0) (b : Disks) (id : ℕ) (h : Descriptor) → ReadsGroup old b id h
         → P (status_by old b id h) → (Serves old facts id next → P (Some next)) → (HasNoVolume old id → (s : Option (Stamped Status)) → P s) → P (status_by new b id h)
     by_status P b id h reads was serves none = ⊎_elim
         (λ same. subst P (sym same) was)
@@ -64,14 +64,14 @@ module _ (old : Contents) (status : ℕ → Option (Stamped Status)) where
     has_status [] = tt
     has_status (row ∷ rows) = refl
 
-    status_there : (b : Disks) (id : ℕ) (h k : Descriptor) → Reads old b id h → IsFound old id k → HasStatus k.lvs (status_by new b id h)
+    status_there : (b : Disks) (id : ℕ) (h k : Descriptor) → ReadsGroup old b id h → IsFound old id k → HasStatus k.lvs (status_by new b id h)
     status_there b id h k reads is = by_status (HasStatus k.lvs) b id h reads (kept.lasting.status b id h k reads is) (λ serves. has_status k.lvs) (λ empty s. no_need k.lvs s (empty k is))
 
-    across : (b : Disks) (id : ℕ) (h k : Descriptor) → Reads old b id h → IsFound old id k → BlocksKept new facts k (members_in new all_disks id k) (status_by new b id h)
+    across : (b : Disks) (id : ℕ) (h k : Descriptor) → ReadsGroup old b id h → IsFound old id k → BlocksKept new facts k (members_in new all_disks id k) (status_by new b id h)
     across b id h k reads is = same_blocks old old.descriptor status facts k (members_in old all_disks id k) (status_by new b id h) (by_status (λ s. BlocksKept old facts k (members_in old all_disks id k) s) b id h reads
         (kept.lasting.across b id h k reads is) (λ serves. serves.across k is) (λ empty s row lp n one. absurd (no_row k.lvs row (empty k is) one)))
 
-    some : (b : Disks) (id : ℕ) (h k : Descriptor) → Reads old b id h → IsFound old id k → (row : LvRow) (lp : ℕ) → IsOneOf k.lvs row → lp < row.lps
+    some : (b : Disks) (id : ℕ) (h k : Descriptor) → ReadsGroup old b id h → IsFound old id k → (row : LvRow) (lp : ℕ) → IsOneOf k.lvs row → lp < row.lps
         → IsSome (fresh_on (members_in new all_disks id k) (status_by new b id h) row lp)
     some b id h k reads is row lp one inside = by_status (λ s. IsSome (fresh_on (members_in old all_disks id k) s row lp)) b id h reads
         (kept.lasting.some b id h k reads is row lp one inside) (λ serves. serves.some k is row lp one inside) (λ empty s. absurd (no_row k.lvs row (empty k is) one))

@@ -10,7 +10,7 @@ use Rattle.lvm_rec.specs.Slots.{newest_on}
 use Rattle.lvm_disk.specs.Device.{Image}
 use Rattle.lvm_kept.specs.Contents.{has_records, newest_at, descriptor_on, status_on, Contents}
 use Rattle.lvm_kept.specs.Group.{if_passes, passes, is_of, is_status_of, has_room, descriptor_among, is_voter, has_quorum, status_among, Finds, members_in, FindingReads}
-use Rattle.lvm_kept.specs.Committed.{SameVotes, Stands, ImagesAreWithin, QuorumMeetsWriters, QuorumsMeet, QuorumFindsStatus, QuorumFindsDescriptor, NextIsWritten, NextIsCommitted}
+use Rattle.lvm_kept.specs.Committed.{SameVotes, StandsOnSet, ImagesAreWithin, QuorumMeetsWriters, QuorumsMeet, QuorumFindsStatus, QuorumFindsDescriptor, NextIsWritten, NextIsCommitted}
 
 -- ---- records behind tests
 
@@ -48,7 +48,7 @@ no-later a b h k = absurd cc
 -- The newest among disks of which one is in the set is one of the two.
 pub newest_among :
     (X : Type 0) (of : X → Bool) (on : ℕ → Option (Stamped X)) (looked set : Disks) (n : ℕ) (now next : Stamped X)
-    → Stands of on set now next → (d : ℕ) → IsTrue (looked d) → IsTrue (set d) → ((d : ℕ) (r : Stamped X) → on d ≡ Some r → d < n)
+    → StandsOnSet of on set now next → (d : ℕ) → IsTrue (looked d) → IsTrue (set d) → ((d : ℕ) (r : Stamped X) → on d ≡ Some r → d < n)
     → (newest_below (offered of on looked) n ≡ Some now) ⊎ (newest_below (offered of on looked) n ≡ Some next)
 newest_among X of on looked set n now next stands d looks in_set within = ⊎_elim
     (λ (is : on d ≡ Some now). by_one now d looks is stands.own (λ r low. low))

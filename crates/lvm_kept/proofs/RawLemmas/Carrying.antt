@@ -4,7 +4,7 @@ use Rattle.std.proofs.lemmas.Bool.{eqb-true, ltb-true, leb-true}
 use Rattle.lvm_disk.specs.passed.Names.{Buffer, Sector}
 use Rattle.lvm_vol.specs.declared.entry.Vol.TheVariants.{Disk}
 use Rattle.lvm_vol.specs.Facts.{is_over}
-use Rattle.lvm_kept.specs.Raw.{raw_request, Carries}
+use Rattle.lvm_kept.specs.Raw.{raw_request, CarriesRequest}
 
 pub over_here : (run id disk at count : ℕ) (write : Bool) (blocks : List Sector) (d b : ℕ) → is_over (raw_request run id disk at count write blocks) (Disk d) b ≡ true → (d ≡ disk) × (at ≤ b) × (b < at + count)
 over_here run id disk at count write blocks d b over = go (disk == d) (nat_le at b) (nat_lt b (at + count)) refl refl refl over
@@ -24,7 +24,7 @@ in_front (suc n) (suc i) (x ∷ xs) within long = in_front n i xs (omega (arith,
 -- a write's flight carries the front of its buffer
 pub carries_front :
     (run id disk at count ticket : ℕ) (buf : Buffer) → count ≤ length buf.sectors
-    → Carries (raw_request run id disk at count true (take count buf.sectors)) (record { ticket = ticket; disk = disk; first = at; count = count; write = true; buf = buf })
+    → CarriesRequest (raw_request run id disk at count true (take count buf.sectors)) (record { ticket = ticket; disk = disk; first = at; count = count; write = true; buf = buf })
 carries_front run id disk at count ticket buf long = record {
   write = refl;
   there = λ d s over. let w = over_here run id disk at count true (take count buf.sectors) d s over in

@@ -11,7 +11,7 @@ use Rattle.lvm_vol.specs.declared.entry.Outcome.TheVariants as outcome
 use Rattle.lvm_vol.specs.Facts.{Request, Fact, Begun, Landed, Taken, Cut, is_over, block_of}
 use Rattle.lvm_vol.specs.May.{Known, known, change, source, May, ended, landed, is_open_in, cut}
 use Rattle.lvm_vol.proofs.LawsLemmas.Knowing.{ended_open}
-use Rattle.lvm_kept.specs.Raw.{RawKept, raw_request, Carries}
+use Rattle.lvm_kept.specs.Raw.{RawKept, raw_request, CarriesRequest}
 use Rattle.lvm_kept.specs.Moments.{Calm}
 use Rattle.lvm_kept.proofs.MayLemmas.{Among, after_cut, cut_adds_none, cut_adds_more, cut_adds_it, also_adds, also_is, known_more, open_now, closes}
 pub use Rattle.std.proofs.lemmas.Bool.{cases_Bool as either}
@@ -59,7 +59,7 @@ pub kept_closed : (image : Image) (facts : List Fact) (r : Request) (how : Outco
 kept_closed image facts r how started write calm kept = kept_more image facts (Landed r how started []) (λ d b there low high.
     subst (λ (k : Known). May (cut b k) (image.sector d b)) (sym (landed_closed r how started [] (Disk d) b (known facts (Disk d) b) write (calm (Disk d) b))) (of_kept image facts kept d b there low high))
 
-module _ (run id disk at count : ℕ) (blocks : List Sector) (f : Flight) (carries : Carries (raw_request run id disk at count true blocks) f) where
+module _ (run id disk at count : ℕ) (blocks : List Sector) (f : Flight) (carries : CarriesRequest (raw_request run id disk at count true blocks) f) where
   abbrev it : Request
   it = raw_request run id disk at count true blocks
 

@@ -26,8 +26,8 @@ use Rattle.lvm_volume_lines.specs.passed.Group.{NewGroup, RefusesFirst, MkvgRefu
 use Rattle.lvm_volume_lines.specs.passed.Varyon.{IsRecovered, VaryonRefuses}
 use Rattle.lvm_volume_lines.proofs.passed.Quiesce.{quiet_is_ahead, ends_only}
 use Rattle.lvm_volume_lines.proofs.passed.Varyon.{failed_rose}
-use Rattle.lvm_line.specs.Causes.{HasCause, HasFailed, RoseOn, VaryonLaw, disk_of}
-use Rattle.lvm_volume_lines.specs.passed.GroupLines.{patience_of_line, IsBetween, IsRelit, refusal_of, Shows, InFull, WithoutMemory, ScriptState, log_with, Refusal, CutNotPlanned, IsArranged, NoReadWhileOn, NoWriteWhileOn, NotPlanned, NotThere, PowerIsCut, ReadGoes, WriteGoes, refusal_by, Brings, DiskOfGroup, GroupThatIsOn, IsLeft, ListsGroup, ListsMember, ListsVolume, Makes, NoGroupForDisk, NoGroupForVolume, NoGroupToList, NoMemoryForLine, NoMkvgWhileOn, NoSuchMember, NoSuchVolume, NoVaryonWhileOn, OtherGroup, Varies, VolumeOfGroup, asked_for, itself, outcome_of}
+use Rattle.lvm_line.specs.Causes.{HasCause, TransferHasFailed, RoseOn, VaryonLaw, disk_of}
+use Rattle.lvm_volume_lines.specs.passed.GroupLines.{patience_of_line, IsBetween, IsRelit, refusal_of, Shows, InFull, WithoutMemory, ScriptState, log_with, Refusal, CutNotPlanned, IsArranged, NoReadWhileOn, NoWriteWhileOn, NotPlanned, NotThere, PowerIsCut, ReadGoes, WriteGoes, refusal_by, Brings, DiskOfGroup, GroupThatIsOn, IsLeftByCall, ListsGroup, ListsMember, ListsVolume, Makes, NoGroupForDisk, NoGroupForVolume, NoGroupToList, NoMemoryForLine, NoMkvgWhileOn, NoSuchMember, NoSuchVolume, NoVaryonWhileOn, OtherGroup, Varies, VolumeOfGroup, asked_for, itself, outcome_of}
 use Rattle.lvm_line.specs.Lines.{LineDoes}
 use Rattle.lvm_volume_lines.specs.Volumes.{NoGroupForMklv, BusyMklv, UndrainedMklv, MakesVolume, MklvFails, NoGroupForRmlv, BusyRmlv, UndrainedRmlv, NoVolumeForRmlv, RemovesVolume, RmlvFails, refusal_for, wanted}
 use Rattle.lvm_volume_lines.specs.passed.RefusalVariants as refusal
@@ -58,7 +58,7 @@ wrote_lit other left new lit = ap (λ (d : Device). d.wrote) lit
 
 -- where no group came on, by what is left before the power is put on again
 pub record Stopped (read : Result (Option Command) Misfit) (why : Cause) (moment : ℕ) (old left : Device) : Type 0 where
-  pub failed : (disk : ℕ) → why ≡ cause.DiskFailed disk → HasFailed read disk old.counts left.counts
+  pub failed : (disk : ℕ) → why ≡ cause.DiskFailed disk → TransferHasFailed read disk old.counts left.counts
   pub back : (seen : ℕ) → why ≡ cause.ClockBack seen → moment ≤ seen
   pub unwritten : (have total : ℕ) → why ≡ cause.NoQuorum have total → left.wrote ≡ old.wrote
 
@@ -66,7 +66,7 @@ known_by : (read : Result (Option Command) Misfit) (why : Cause) (old new : Scri
     → new.moment.device.wrote ≡ left.wrote → new.session ≡ None → Known read (refusal_of why) old new
 known_by read (cause.NoQuorum have total) old new left plain stopped rose counts wrote off = record { cause = has_by read _ old new plain tt; off = λ is. off; unwritten = λ have1 total1 is. wrote ∙ stopped.unwritten have total refl }
 known_by read (cause.ClockBack seen) old new left plain stopped rose counts wrote off = record { cause = has_by read (refusal.ClockBack seen) old new plain (stopped.back seen refl); off = λ is. off; unwritten = λ have total is. absurd (cc (is)) }
-known_by read (cause.DiskFailed disk) old new left plain stopped rose counts wrote off = record { cause = has_by read (refusal.DiskFailed disk) old new plain (subst (λ (n : Counts). HasFailed read disk old.moment.device.counts n) (sym counts) (stopped.failed disk refl)); off = λ is. off; unwritten = λ have total is. absurd (cc (is)) }
+known_by read (cause.DiskFailed disk) old new left plain stopped rose counts wrote off = record { cause = has_by read (refusal.DiskFailed disk) old new plain (subst (λ (n : Counts). TransferHasFailed read disk old.moment.device.counts n) (sym counts) (stopped.failed disk refl)); off = λ is. off; unwritten = λ have total is. absurd (cc (is)) }
 known_by read cause.Dark old new left plain stopped rose counts wrote off = record { cause = has_by read refusal.Dark old new plain (subst (λ (n : Counts). Rose old.moment.device.counts.cuts n.cuts) (sym counts) rose); off = λ is. off; unwritten = λ have total is. absurd (cc (is)) }
 known_by read cause.Stuck old new left plain stopped rose counts wrote off = record { cause = has_by read refusal.Stuck old new plain (subst (λ (n : Counts). RoseBy patience_of_line old.moment.device.counts.waits n.waits) (sym counts) rose); off = λ is. off; unwritten = λ have total is. absurd (cc (is)) }
 known_by read other old new left plain stopped rose counts wrote off = record { cause = has_by read _ old new plain tt; off = λ is. off; unwritten = λ have total is. absurd (cc (is)) }
@@ -162,7 +162,7 @@ varyon_known : (log : Log) (room : Room) (name : List ℕ) (why : Refusal) (old 
 varyon_known log room name why old new brings = by brings.given brings.gives brings.rose brings.left
   where
     by : (given : Result Core Cause) → VaryonOnceQuiet itself (log_with log old.moment.facts) name new.last room patience_of_line old.moment.device (outcome_of brings.shelf brings.history given)
-        → IfErr given (CauseRose patience_of_line old.moment.device.counts brings.shelf.counts) → IsLeft brings.shelf brings.history old new (reply.Refused why) given → Known (Ok (Some (command.Varyon name))) why old new
+        → IfErr given (CauseRose patience_of_line old.moment.device.counts brings.shelf.counts) → IsLeftByCall brings.shelf brings.history old new (reply.Refused why) given → Known (Ok (Some (command.Varyon name))) why old new
     by (Ok core) gives rose left = absurd (let e = left.2.answered in cc (e))
     by (Err reason) gives rose left =
         by_reply (Ok (Some (command.Varyon name))) why (refusal_of reason) old new left.answered
@@ -174,7 +174,7 @@ mkvg_known : (log : Log) (room : Room) (force : Bool) (name : List ℕ) (mib : O
 mkvg_known log room force name mib disks why old new brings = by brings.given brings.gives brings.rose brings.left
   where
     by : (given : Result Core Cause) → MkvgOnceQuiet itself (asked_for name mib disks force new.last) room patience_of_line (log_with log old.moment.facts) old.moment.device (outcome_of brings.shelf brings.history given)
-        → IfErr given (CauseRose patience_of_line old.moment.device.counts brings.shelf.counts) → IsLeft brings.shelf brings.history old new (reply.Refused why) given → Known (Ok (Some (command.Mkvg force name mib disks))) why old new
+        → IfErr given (CauseRose patience_of_line old.moment.device.counts brings.shelf.counts) → IsLeftByCall brings.shelf brings.history old new (reply.Refused why) given → Known (Ok (Some (command.Mkvg force name mib disks))) why old new
     by (Ok core) gives rose left = absurd (let e = left.2.answered in cc (e))
     by (Err reason) gives rose left =
         by_reply (Ok (Some (command.Mkvg force name mib disks))) why (refusal_of reason) old new left.answered
@@ -200,7 +200,7 @@ read_named log disk at count old new why gives d is =
     disk_named (λ left mid new given. ReadsAtRest log disk at count left mid new given) log disk at count old new d (λ left mid goes. goes.ends.cause.0)
     (subst (λ (w : RawFault). ReadOnceQuiet log disk at count patience_of_line old new (Err w)) is gives)
 
-module _ (read : Result (Option Command) Misfit) (plain : IsOther read) (disk : ℕ) (its : disk_of read ≡ Some disk) (missed : (d : ℕ) (a b : Counts) → Rose (a.misses d) (b.misses d) → HasFailed read d a b) (old new : ScriptState) (off : new.session ≡ None) where
+module _ (read : Result (Option Command) Misfit) (plain : IsOther read) (disk : ℕ) (its : disk_of read ≡ Some disk) (missed : (d : ℕ) (a b : Counts) → Rose (a.misses d) (b.misses d) → TransferHasFailed read d a b) (old new : ScriptState) (off : new.session ≡ None) where
   on_disk : (a b : ℕ → ℕ) → Rose (a disk) (b disk) → RoseOn (disk_of read) a b
   on_disk a b rose = subst (λ (d : Option ℕ). RoseOn d a b) (sym its) rose
 
@@ -328,7 +328,7 @@ varyon_restates log room line name old new is it timely = of_varyon (subst (λ (
     Back = (core : Core) × (new.session ≡ Some core) × ((quiet : Device) × Quiesces old.moment.device quiet × IsRecovered quiet new.moment.device core.descriptor)
 
     brought : (shelf : Device) (history : Log) (given : Result Core Cause) → Later old.last new.last → VaryonOnceQuiet itself (log_with log old.moment.facts) name new.last room patience_of_line old.moment.device (outcome_of shelf history given)
-        → IsLeft shelf history old new reply.Ok given → Back
+        → IsLeftByCall shelf history old new reply.Ok given → Back
     brought shelf history (Err reason) asks gives left = absurd (let e = left.answered in cc (e))
     brought shelf history (Ok core) asks (RefusedAtOnce refused same first left was) left_on = absurd (cc (same))
     brought shelf history (Ok core) asks (StayedOut refused same may out) left_on = absurd (cc (same))

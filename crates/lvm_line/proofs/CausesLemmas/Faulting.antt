@@ -17,13 +17,13 @@ use Rattle.lvm_session.specs.Judging.{is_missing}
 use Rattle.lvm_core.specs.declared.fault.CommitFault.{CommitFault}
 use Rattle.lvm_core.specs.declared.fault.CommitFault.TheVariants as commit
 use Rattle.lvm_volume_lines.proofs.passed.Tie.{goes_any, path_frames}
-use Rattle.lvm_line.specs.Causes.{HasCause, HasFailed, HasLostMember}
+use Rattle.lvm_line.specs.Causes.{HasCause, TransferHasFailed, HasLostMember}
 use Rattle.lvm_write.proofs.PartsLemmas.Transfers.{rose_then}
 use Rattle.lvm_disk.proofs.CountingLemmas.{rose_before}
 use Rattle.lvm_volume_lines.specs.passed.GroupLines.{IsBetween, Refusal, Reply, patience_of_line, ScriptState}
 use Rattle.lvm_volume_lines.specs.passed.RefusalVariants as refusal
 use Rattle.lvm_volume_lines.specs.passed.ReplyVariants as reply
-use Rattle.lvm_volume_lines.specs.Volumes.{Drains, IsLeft, IsUndrained, drain_refusal, refusal_for}
+use Rattle.lvm_volume_lines.specs.Volumes.{Drains, IsLeftEither, IsUndrained, drain_refusal, refusal_for}
 use Rattle.lvm_volume_lines.proofs.Ending.{FaultFacts}
 use Rattle.lvm_volume_lines.proofs.passed.Ranges.{off_votes}
 use Rattle.lvm_line.proofs.CausesLemmas.Knowing.{IsOther, Known, has_by}
@@ -40,11 +40,11 @@ at_most_half group have few = go group.quorum few
     go false is = let none = ltb-false 0 have is in omega (arith, none)
 
 -- what is left has the counts of the shelf
-counts_left : (ends : Bool) (left : State) (old new : ScriptState) → IsLeft ends left old new → new.moment.device.counts ≡ left.device.counts
+counts_left : (ends : Bool) (left : State) (old new : ScriptState) → IsLeftEither ends left old new → new.moment.device.counts ≡ left.device.counts
 counts_left true left old new over = ap (λ (d : Device). d.counts) over.lit
 counts_left false left old new stays = ap (λ (d : Device). d.counts) stays.device
 
-none_left : (left : State) (old new : ScriptState) → IsLeft true left old new → new.session ≡ None
+none_left : (left : State) (old new : ScriptState) → IsLeftEither true left old new → new.session ≡ None
 none_left left old new over = over.session
 
 -- why the turns before the command have ended is no want of votes for a quorum
@@ -80,7 +80,7 @@ rose_in_line left a b c few before later =
     let sum : (patience_of_line - left) + left ≡ patience_of_line = omega (arith, few) in
     subst (λ (n : ℕ). RoseBy n a c) sum (rose_then (patience_of_line - left) left a b c before later)
 
-module _ (read : Result (Option Command) Misfit) (other : IsOther read) (failed : (d : ℕ) (a b : Counts) → Rose (a.faults d) (b.faults d) → HasFailed read d a b) where
+module _ (read : Result (Option Command) Misfit) (other : IsOther read) (failed : (d : ℕ) (a b : Counts) → Rose (a.faults d) (b.faults d) → TransferHasFailed read d a b) where
   module _ (old new : ScriptState) (core : Core) (patience : ℕ) (mid left : State) (some : old.session ≡ Some core) (drains : Drains core old patience mid) where
     faults_since : (disk : ℕ) (n : Counts) → Rose (mid.device.counts.faults disk) (n.faults disk) → Rose (old.moment.device.counts.faults disk) (n.faults disk)
     faults_since disk n rose = rose_before ((path_frames drains.runs).keeps.counts.faults disk) rose
@@ -120,7 +120,7 @@ module _ (read : Result (Option Command) Misfit) (other : IsOther read) (failed 
       },
     )
 
-    known_so : (why : GroupFault) → FaultFacts why patience mid left → IsLeft (ends_session why) left old new → Known read (refusal_for why) old new
+    known_so : (why : GroupFault) → FaultFacts why patience mid left → IsLeftEither (ends_session why) left old new → Known read (refusal_for why) old new
     known_so fault.Dark facts leaves = record {
       cause = has_by read refusal.Dark old new other (subst (λ (n : Counts). Rose old.moment.device.counts.cuts n.cuts) (sym (counts_left true left old new leaves)) (rose_before (path_frames drains.runs).keeps.counts.cuts facts.1));
       off = λ is. none_left left old new leaves;
@@ -145,6 +145,6 @@ module _ (read : Result (Option Command) Misfit) (other : IsOther read) (failed 
     }
     known_so plain facts leaves = record { cause = has_by read _ old new other tt; off = λ is. absurd (cc (is)); unwritten = λ have total is. absurd (cc (is)) }
 
-  pub known_group : (why : GroupFault) (old new : ScriptState) (core : Core) (patience : ℕ) (mid left : State) → old.session ≡ Some core → Drains core old patience mid → FaultFacts why patience mid left → IsLeft (ends_session why) left old new
+  pub known_group : (why : GroupFault) (old new : ScriptState) (core : Core) (patience : ℕ) (mid left : State) → old.session ≡ Some core → Drains core old patience mid → FaultFacts why patience mid left → IsLeftEither (ends_session why) left old new
       → Known read (refusal_for why) old new
   known_group why old new core patience mid left some drains facts leaves = known_so old new core patience mid left some drains why facts leaves

@@ -13,7 +13,7 @@ use Rattle.lvm_session.specs.declared.open.Open.{Open}
 use Rattle.lvm_session.specs.declared.open.Power.TheVariants as power
 use Rattle.lvm_session.specs.declared.origin.Origin.{Origin}
 use Rattle.lvm_session.specs.Calls.{is_asked}
-use Rattle.lvm_session.specs.Causes.{AnyFailedSince, AreCounted, HasFailed, IsAnswered, IsCounted, IsLandedFor}
+use Rattle.lvm_session.specs.Causes.{AnyFailedSince, AreCounted, TargetHasFailed, IsAnswered, IsCounted, IsLandedFor}
 use Rattle.lvm_session.specs.Sound.{IsAsked, IsSound, outcome_in}
 use Rattle.lvm_session.specs.State.{Core, State}
 use Rattle.lvm_volume_lines.specs.passed.GroupLines.{ScriptState}
@@ -67,10 +67,10 @@ module _ (old new : ScriptState) (core : Core) (on : old.session ≡ Some core) 
 
   landed_for : (o : Open) → AreCounted s o → (how : Outcome) → IsLandedFor s o how → OutcomeCause old new how
   landed_for o counted outcome.Lost cause =
-      let one = some_of o.request.targets.items (λ t. t.usable) (λ t. HasFailed s.device t) (IsCounted s) cause.0 cause.1 counted in
+      let one = some_of o.request.targets.items (λ t. t.usable) (λ t. TargetHasFailed s.device t) (IsCounted s) cause.0 cause.1 counted in
       since (one.0.pp.disk, rose_before one.2.began one.1)
   landed_for o counted outcome.ReadFailed cause =
-      let one = some_of o.request.targets.items (λ t. t.usable) (λ t. HasFailed s.device t) (IsCounted s) cause.0 (all_second _ (λ t. HasFailed s.device t) (λ t. t.usable) o.request.targets.items cause.1) counted in
+      let one = some_of o.request.targets.items (λ t. t.usable) (λ t. TargetHasFailed s.device t) (IsCounted s) cause.0 (all_second _ (λ t. TargetHasFailed s.device t) (λ t. t.usable) o.request.targets.items cause.1) counted in
       since (one.0.pp.disk, rose_before one.2.began one.1)
   landed_for o counted outcome.Off cause = since (loss_is_caused s sound cause.1)
   landed_for o counted outcome.Dark cause = dark cause

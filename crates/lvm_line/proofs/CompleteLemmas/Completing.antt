@@ -9,12 +9,12 @@ use Rattle.lvm_volume_lines.specs.passed.Resync.{AnyFails}
 use Rattle.lvm_volume_lines.specs.passed.GroupLines.{Refusal, ScriptState}
 use Rattle.lvm_volume_lines.specs.passed.RefusalVariants as refusal
 use Rattle.lvm_volume_lines.specs.passed.Names.{LostForFaults}
-use Rattle.lvm_line.specs.Causes.{CauseOf, HasCause, HasFailed, HasFailedInSession, RangeLineCause, RoseOn, TurnCause, WereLost, disk_of}
+use Rattle.lvm_line.specs.Causes.{CauseOf, HasCause, TransferHasFailed, HasFailedInSession, RangeLineCause, RoseOn, TurnCause, WereLost, disk_of}
 use Rattle.lvm_line.specs.Complete.{CompleteLaw, HasLostVotes, IsByRule, IsOwn, NothingFailed, RuleLaw}
 use Rattle.lvm_line.proofs.CausesLemmas.Causing.{has_cause}
 
 module _ (old new : ScriptState) where
-  none_failed : (read : Result (Option Command) Misfit) → NothingFailed read old new → (disk : ℕ) → HasFailed read disk old.moment.device.counts new.moment.device.counts → ⊥
+  none_failed : (read : Result (Option Command) Misfit) → NothingFailed read old new → (disk : ℕ) → TransferHasFailed read disk old.moment.device.counts new.moment.device.counts → ⊥
   none_failed (Ok (Some (command.Mkvg force name mib disks))) nothing disk (inl rose) = nothing.misses tt disk rose
   none_failed (Ok (Some (command.Mkvg force name mib disks))) nothing disk (inr rose) = nothing.none.faults disk rose
   none_failed (Ok (Some (command.RawRd on at count))) nothing disk rose = nothing.misses tt disk rose

@@ -10,7 +10,7 @@ use Rattle.lvm_parse.specs.Grammar.{line_of}
 use Rattle.lvm_parse.specs.Answering.{IsMkvgLine}
 use Rattle.lvm_core.specs.declared.parts.Room.{Room}
 use Rattle.lvm_session.specs.State.{Core}
-use Rattle.lvm_volume_lines.specs.passed.GroupLines.{Aside, CommandEnds, EndsUnasked, GoesOn, Holder, InFull, IsAsked, IsBetween, IsBetweenStage, IsFittingStage, IsLeftBy, Reply, ScriptState, Shows, Stage, WithoutMemory, history_in, history_of, is_unheard, most_refusals, session_in, session_of, shelf_in, state_in, without_facts, DiskOfGroup, DiskShows, GroupShows, GroupThatIsOn, ListsGroup, ListsMember, ListsVolume, MkvgDoes, NoGroupForDisk, NoGroupForVolume, NoGroupToList, NoMemoryForLine, NoMkvgWhileOn, NoSuchMember, NoSuchVolume, OtherGroup, VolumeOfGroup, VolumeShows}
+use Rattle.lvm_volume_lines.specs.passed.GroupLines.{Aside, CommandEnds, EndsUnasked, LineGoesOn, Holder, InFull, IsAsked, IsBetween, IsBetweenStage, IsFittingStage, IsLeftBy, Reply, ScriptState, Shows, Stage, WithoutMemory, history_in, history_of, is_unheard, most_refusals, session_in, session_of, shelf_in, state_in, without_facts, DiskOfGroup, DiskShows, GroupShows, GroupThatIsOn, ListsGroup, ListsMember, ListsVolume, MkvgDoes, NoGroupForDisk, NoGroupForVolume, NoGroupToList, NoMemoryForLine, NoMkvgWhileOn, NoSuchMember, NoSuchVolume, OtherGroup, VolumeOfGroup, VolumeShows}
 use Rattle.lvm_line.specs.Lines.{CommandDoes, CommandIsDone, LineDoes, IsLine, IsOrder, asked_after, role_of}
 use Rattle.lvm_volume_lines.specs.passed.HolderVariants as holder
 use Rattle.lvm_volume_lines.specs.passed.RefusalVariants as refusal
@@ -78,11 +78,11 @@ pub record Before (log : Log) (old : ScriptState) : Type 0 where
 
 -- a line that is read so
 pub line_read :
-    (log : Log) (room : Room) (line : List ℕ) (read : Result (Option Command) Misfit) (answer : Reply) (old new : ScriptState) → line_of line ≡ read → LineDoes log room read old new answer → GoesOn log.run (role_of read) answer old new
+    (log : Log) (room : Room) (line : List ℕ) (read : Result (Option Command) Misfit) (answer : Reply) (old new : ScriptState) → line_of line ≡ read → LineDoes log room read old new answer → LineGoesOn log.run (role_of read) answer old new
     → ((IsOrder read → ⊥) → new.moment.device.orders ≡ old.moment.device.orders) → Before log old → IsLine log room line answer old new
 line_read log room line read answer old new is does goes orders before = record {
   does = subst (λ (r : Result (Option Command) Misfit). LineDoes log room r old new answer) (sym is) does;
-  goes = subst (λ (r : Result (Option Command) Misfit). GoesOn log.run (role_of r) answer old new) (sym is) goes;
+  goes = subst (λ (r : Result (Option Command) Misfit). LineGoesOn log.run (role_of r) answer old new) (sym is) goes;
   orders = subst (λ (r : Result (Option Command) Misfit). (IsOrder r → ⊥) → new.moment.device.orders ≡ old.moment.device.orders) (sym is) orders;
   whole = before.whole;
   between = before.between;

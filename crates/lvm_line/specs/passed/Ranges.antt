@@ -1,2 +1,2 @@
 -- Passed on from `lvm_ranges`.
-pub use Rattle.lvm_volume_lines.specs.passed.Ranges.{Moves, NoMove, OneMove}
+pub use Rattle.lvm_volume_lines.specs.passed.Ranges.{MovesTurns, NoMove, OneMove}

@@ -30,7 +30,7 @@ use Rattle.lvm_session.specs.Judging.{is_waiting}
 use Rattle.lvm_session.specs.Sound.{IsAsked, IsSound}
 use Rattle.lvm_session.specs.State.{Core, State}
 use Rattle.lvm_session.specs.Turns.{Finds, FindsNothing, TurnMakes}
-use Rattle.lvm_keeps_events.specs.Telling.{IsStill, TurnTells}
+use Rattle.lvm_keeps_events.specs.Telling.{CannotGoOn, TurnTells}
 use Rattle.lvm_keeps.proofs.Lists.{any_removed}
 use Rattle.lvm_keeps.proofs.Small.{both}
 use Rattle.lvm_keeps_events.proofs.TurnCallsLemmas.{some_position, turn_leaves_table}
@@ -337,7 +337,7 @@ module _ {V : Type 0} (plan : Plan) (s_of : V → State) (always : V → Type 0)
     rose_so : is_moving (s_of x).core ≡ false → list_any is_waiting (s_of x).core.requests ≡ true → TurnTells (s_of x) (s_of y) turned.Idle → Rose (s_of x).device.counts.waits (s_of y).device.counts.waits
     rose_so unmoved some tells = by (tells.idle.0 refl) (tells.idle.0 refl).still
       where
-        by : IsStill (s_of x) (s_of y) → Finds (s_of x) (s_of y) ⊎ FindsNothing (s_of x) (s_of y) → Rose (s_of x).device.counts.waits (s_of y).device.counts.waits
+        by : CannotGoOn (s_of x) (s_of y) → Finds (s_of x) (s_of y) ⊎ FindsNothing (s_of x) (s_of y) → Rose (s_of x).device.counts.waits (s_of y).device.counts.waits
         by still (inl finds) = finds.waits.waits
         by still (inr nothing) = not_so (sym (none_waits_still (s_of x) was.sound unmoved still.on nothing.votes still.none nothing.idle) ∙ some)
 

@@ -12,7 +12,7 @@ use Rattle.lvm_num.specs.declared.place.Pp.{Pp}
 use Rattle.lvm_num.specs.declared.descriptor.PvRow.{PvRow}
 use Rattle.lvm_num.specs.Disks.{Disks}
 use Rattle.lvm_map.specs.FirstFit.{has_partition_on, free_of, may_take}
-use Rattle.lvm_map.specs.Room.{is_open, IsTaken, Takes}
+use Rattle.lvm_map.specs.Room.{is_open, PartitionIsTaken, TakesFirstFree}
 use Rattle.lvm_map.proofs.FirstFitLemmas.FreeLists.{free-head_disk, members-taken}
 
 abbrev pub first : List Pp → Option Pp
@@ -81,7 +81,7 @@ module _ (usable : Disks) (used others : List Pp) (rows : List PvRow) where
       ∙ ap (option_and_then first) (find_position (is_open others) (map (free_of used) (filter (may_take usable []) rows)))
       ∙ ap (λ k. option_and_then first (option_and_then (slice_get (map (free_of used) (filter (may_take usable []) rows))) k)) none
 
-  pub first_taken : (new : List (List Pp)) (pp : Pp) → IsTaken others (map (free_of used) (filter (may_take usable []) rows)) new pp
+  pub first_taken : (new : List (List Pp)) (pp : Pp) → PartitionIsTaken others (map (free_of used) (filter (may_take usable []) rows)) new pp
       → first (flat_map (free_of used) (filter (may_take usable others) rows)) ≡ Some pp
   first_taken new pp taken =
       first_choice usable used others rows
@@ -89,7 +89,7 @@ module _ (usable : Disks) (used others : List Pp) (rows : List PvRow) where
       ∙ ap (λ k. option_and_then first (option_and_then (slice_get (map (free_of used) (filter (may_take usable []) rows))) k)) taken.first
       ∙ ap (option_and_then first) taken.had
 
-  pub taken_from : (new : List (List Pp)) (pp : Pp) → AllPairs (λ (a b : PvRow). a.disk ≢ b.disk) rows → IsTaken others (map (free_of used) (filter (may_take usable []) rows)) new pp
+  pub taken_from : (new : List (List Pp)) (pp : Pp) → AllPairs (λ (a b : PvRow). a.disk ≢ b.disk) rows → PartitionIsTaken others (map (free_of used) (filter (may_take usable []) rows)) new pp
       → new ≡ map (free_of (used ++ pp ∷ [])) (filter (may_take usable []) rows)
   taken_from new pp apart taken =
       taken.has
@@ -117,11 +117,11 @@ get-map f (x ∷ xs) (suc i) d lt = get-map f xs i d (omega arith)
 
 -- one of the first open list is taken
 module _ {X : Type 0} (f : X → List Pp) (others : List Pp) (xs : List X) where
-  pub takes_none : None ≡ position (λ x. is_open others (f x)) xs → Takes others (map f xs) (map f xs) None
+  pub takes_none : None ≡ position (λ x. is_open others (f x)) xs → TakesFirstFree others (map f xs) (map f xs) None
   takes_none none = (position-map (is_open others) f xs ∙ sym none, refl)
 
   pub takes_first : (i : ℕ) (here new : X) (result : Option Pp) → Some i ≡ position (λ x. is_open others (f x)) xs → here ≡ get_or xs i here
-      → f here ≡ option_to_list result ++ f new → f new ≡ drop 1 (f here) → Takes others (map f xs) (map f (set xs i new)) result
+      → f here ≡ option_to_list result ++ f new → f new ≡ drop 1 (f here) → TakesFirstFree others (map f xs) (map f (set xs i new)) result
   takes_first i here new None at is items rest =
       let found = position-Some (λ x. is_open others (f x)) xs i here (sym at) in
       absurd (shut (f here) (items ∙ rest) (ap (λ x. is_open others (f x)) is ∙ found.1))

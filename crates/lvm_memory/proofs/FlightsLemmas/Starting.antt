@@ -5,14 +5,14 @@ use Rattle.std.proofs.lemmas.Bool.{eqb-false}
 use Rattle.lvm_num.proofs.Booleans.{first_fails, second_fails}
 use Rattle.lvm_disk.specs.Device.{Flight, Range, Device}
 use Rattle.lvm_disk.specs.Counts.{Counts, RoseAt}
-use Rattle.lvm_disk.specs.Steps.{IsRange, IsFresh, Logs, Starts}
+use Rattle.lvm_disk.specs.Steps.{IsRange, IsNewTicket, Logs, Starts}
 use Rattle.lvm_memory.specs.Flights.{Lies, AllLie, flight_of, flights_of, delays_of}
 use Rattle.lvm_memory.specs.Tickets.{has_ticket}
 use Rattle.lvm_memory.specs.Log.{logged}
 use Rattle.lvm_memory.specs.declared.flying.Flying.{Flying}
 
 -- a ticket that no flight has is fresh
-pub fresh : (flights : List Flight) (t : ℕ) → has_ticket t flights ≡ false → IsFresh t flights
+pub fresh : (flights : List Flight) (t : ℕ) → has_ticket t flights ≡ false → IsNewTicket t flights
 fresh [] t none = tt
 fresh (f ∷ flights) t none = (eqb-false f.ticket t (first_fails (f.ticket == t) (has_ticket t flights) none), fresh flights t (second_fails (f.ticket == t) (has_ticket t flights) none))
 

@@ -43,7 +43,7 @@ use Rattle.lvm_session.specs.Requests.{IsAimed, IsOpenOne, IsRequest, IsTarget}
 use Rattle.lvm_session.specs.Sound.{IsCopy}
 use Rattle.lvm_session.proofs.MovesLemmas.{move_of, move_partition, open_one, place_open, stale_of}
 use Rattle.lvm_moves.specs.Launching.{HasNote, MayLaunch, MayNote, MayReadCopy, MayStartData, MayWriteCopy}
-use Rattle.lvm_moves.specs.Starts.{CanStart, MayStart}
+use Rattle.lvm_moves.specs.Starts.{CanStart, MayStartTransfer}
 use Rattle.lvm_moves.proofs.StartsLemmas.Within.{all_copies, among_copies, at_number, blocks_within, note_within, was_there}
 
 -- ---- one event or the other
@@ -262,7 +262,7 @@ not_missing core c running none = by_test (is_running c) (is_missing core c.pp.d
     by_test true false r e = refl
     by_test false b r e = absurd (cc r)
 
-module _ (device : Device) (core : Core) (may : MayStart device core) where
+module _ (device : Device) (core : Core) (may : MayStartTransfer device core) where
   its_one : (place : ℕ) (o : Open) → slice_get core.requests place ≡ Some o → IsOpenOne core o
   its_one place o there = at_place (IsOpenOne core) core.requests place o may.flight.going.requests there
 

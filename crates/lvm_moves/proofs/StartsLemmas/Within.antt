@@ -18,7 +18,7 @@ use Rattle.lvm_session.specs.State.{Core}
 use Rattle.lvm_session.specs.Judging.{copies_in, is_missing}
 use Rattle.lvm_moves.proofs.passed.Names.{copies_in_are}
 use Rattle.lvm_session.specs.Marks.{is_among}
-use Rattle.lvm_moves.specs.Starts.{MayStart}
+use Rattle.lvm_moves.specs.Starts.{MayStartTransfer}
 
 -- ---- copies are partitions of members
 
@@ -45,10 +45,10 @@ at_number P [] k p is all = absurd (cc is)
 at_number P (q ∷ ps) zero p is all = let same : q ≡ p = cc is in subst P same all.0
 at_number P (q ∷ ps) (suc k) p is all = at_number P ps k p is all.1
 
-pub all_copies : (core : Core) (lv lp : ℕ) (device : Device) → MayStart device core → AllByRecursion (IsPartitionOf core.descriptor) (copies_in core.descriptor lv lp)
+pub all_copies : (core : Core) (lv lp : ℕ) (device : Device) → MayStartTransfer device core → AllByRecursion (IsPartitionOf core.descriptor) (copies_in core.descriptor lv lp)
 all_copies core lv lp device may = recursion_from_All (IsPartitionOf core.descriptor) (copies_in core.descriptor lv lp) (copies_in_are core.descriptor lv lp may.flight.going.fitting.valid)
 
-pub among_copies : (core : Core) (lv lp : ℕ) (device : Device) (p : Pp) → MayStart device core → is_among (copies_in core.descriptor lv lp) p ≡ true → IsPartitionOf core.descriptor p
+pub among_copies : (core : Core) (lv lp : ℕ) (device : Device) (p : Pp) → MayStartTransfer device core → is_among (copies_in core.descriptor lv lp) p ≡ true → IsPartitionOf core.descriptor p
 among_copies core lv lp device p may is = among_all (IsPartitionOf core.descriptor) (copies_in core.descriptor lv lp) p is (all_copies core lv lp device may)
 
 -- ---- where they lie
@@ -76,7 +76,7 @@ fits blocks zero (suc pps) offset count below within = omega (arith, within, gro
     grow = grind (arith)
 fits blocks (suc pp) (suc pps) offset count below within = let rest = fits blocks pp pps offset count (omega (arith, below)) within in grind (arith, rest)
 
-module _ (device : Device) (core : Core) (may : MayStart device core) where
+module _ (device : Device) (core : Core) (may : MayStartTransfer device core) where
   -- the member of a partition on a disk that wasn't missing when the session began
   pub record IsOn (p : Pp) : Type 0 where
     pub row : PvRow

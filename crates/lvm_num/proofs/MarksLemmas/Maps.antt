@@ -8,7 +8,7 @@ use Rattle.lvm_num.specs.declared.place.Pp.{Pp}
 use Rattle.lvm_num.specs.declared.descriptor.PvRow.{PvRow}
 use Rattle.lvm_num.specs.declared.descriptor.Descriptor.{Descriptor}
 use Rattle.lvm_num.specs.Descriptor.{AreMembers, IsPartitionOf, AreMaps, member_of, partitions_used}
-use Rattle.lvm_num.specs.Marks.{AreCounts, IsWithin, AreCounted, spot}
+use Rattle.lvm_num.specs.Marks.{AreCounts, IsWithinDisk, AreCounted, spot}
 
 -- ---- the first element that passes
 
@@ -37,7 +37,7 @@ find-None {X} p (y ∷ ys) e = by_test (p y) refl e (find-None p ys)
 
 -- ---- partitions that are there
 
-pub within_is_of : (d : Descriptor) (counts : List ℕ) → AreCounts d.pvs counts → (pp : Pp) → IsWithin counts pp → IsPartitionOf d pp
+pub within_is_of : (d : Descriptor) (counts : List ℕ) → AreCounts d.pvs counts → (pp : Pp) → IsWithinDisk counts pp → IsPartitionOf d pp
 within_is_of d counts counted pp within = by_row (member_of d pp.disk) refl
   where
     by_row : (row : Option PvRow) → member_of d pp.disk ≡ row → IsPartitionOf d pp
@@ -52,7 +52,7 @@ within_is_of d counts counted pp within = by_row (member_of d pp.disk) refl
         let disk : get_or counts row.disk 0 ≡ get_or counts pp.disk 0 = ap (λ n. get_or counts n 0) (eqb-true row.disk pp.disk found.0) in
         (row, e, omega (arith, within.partition, is, disk))
 
-pub of_is_within : (d : Descriptor) (counts : List ℕ) → AreMembers d.pvs → AreCounts d.pvs counts → (pp : Pp) → IsPartitionOf d pp → IsWithin counts pp
+pub of_is_within : (d : Descriptor) (counts : List ℕ) → AreMembers d.pvs → AreCounts d.pvs counts → (pp : Pp) → IsPartitionOf d pp → IsWithinDisk counts pp
 of_is_within d counts members counted pp of =
     let row = of.0 in
     let found = find-Some (λ (r : PvRow). r.disk == pp.disk) d.pvs row of.1 in
@@ -83,7 +83,7 @@ small-at counts most k = elim (cases_lt k (length counts)) [
 
 pub counted_is_maps : (d : Descriptor) (counts : List ℕ) → AreCounts d.pvs counts → AreCounted counts d.lvs → AreMaps d
 counted_is_maps d counts counted all = record {
-  places = All-weaker (IsWithin counts) (IsPartitionOf d) (within_is_of d counts counted) (partitions_used d) all.within;
+  places = All-weaker (IsWithinDisk counts) (IsPartitionOf d) (within_is_of d counts counted) (partitions_used d) all.within;
   laid_out = all.laid_out;
   used_once = λ i j q less lt. spot-differs (get_or (partitions_used d) i q) (get_or (partitions_used d) j q) (all.once i j q less lt);
 }
@@ -91,7 +91,7 @@ counted_is_maps d counts counted all = record {
 pub maps_is_counted : (d : Descriptor) (counts : List ℕ) → AreMembers d.pvs → AreCounts d.pvs counts → All (λ count. count ≤ 1016) counts
     → AreMaps d → AreCounted counts d.lvs
 maps_is_counted d counts members counted most all =
-    let within = All-weaker (IsPartitionOf d) (IsWithin counts) (of_is_within d counts members counted) (partitions_used d) all.places in
+    let within = All-weaker (IsPartitionOf d) (IsWithinDisk counts) (of_is_within d counts members counted) (partitions_used d) all.places in
     record {
       within = within;
       laid_out = all.laid_out;

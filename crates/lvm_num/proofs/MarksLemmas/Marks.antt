@@ -11,7 +11,7 @@ use Rattle.lvm_num.specs.declared.place.Pp.{Pp}
 use Rattle.lvm_num.specs.declared.descriptor.LvRow.{LvRow}
 use Rattle.lvm_num.specs.Bits.{has_bit}
 use Rattle.lvm_num.specs.Descriptor.{IsLaidOut, partitions_in}
-use Rattle.lvm_num.specs.Marks.{IsWithin, spot, AreFree, AreCounted}
+use Rattle.lvm_num.specs.Marks.{IsWithinDisk, spot, AreFree, AreCounted}
 use Rattle.lvm_num.proofs.Pairs.{AllPairs-more, AllPairs-append, AllPairs-left, AllPairs-right, AllPairs-across, All-left, All-right, none_before, some_before}
 
 -- exactly what was marked before and these partitions are marked now
@@ -24,12 +24,12 @@ or_assoc false b c = refl
 
 pub free-more : (counts before now : List ℕ) (map : List Pp) (i : ℕ) (e : Pp) → i < length map
     → AreFree counts before (take i map) → Marked before now (take i map)
-    → IsWithin counts (get_or map i e) → has_bit now (spot (get_or map i e)) ≡ false → AreFree counts before (take (i + 1) map)
+    → IsWithinDisk counts (get_or map i e) → has_bit now (spot (get_or map i e)) ≡ false → AreFree counts before (take (i + 1) map)
 free-more counts before now map i e lt old marked here unmarked =
     let both = or_parts (has_bit before (spot (get_or map i e))) (list_any (λ (pp : Pp). spot (get_or map i e) == spot pp) (take i map))
     (sym (marked (spot (get_or map i e))) ∙ unmarked) in
     record {
-      within = All-more (IsWithin counts) map i e lt old.within here;
+      within = All-more (IsWithinDisk counts) map i e lt old.within here;
       free = All-more (λ (pp : Pp). has_bit before (spot pp) ≡ false) map i e lt old.free both.0;
       once = AllPairs-more (λ (a b : Pp). spot a ≢ spot b) map i e lt old.once
           (λ j less same. false≢true
@@ -81,7 +81,7 @@ counted-more counts before now lvs i e lt old marked laid free =
     let own = (get_or lvs i e).map in
     let more = partitions-more lvs i e lt in
     record {
-      within = subst (All (IsWithin counts)) (sym more) (All-append (IsWithin counts) old-pps own old.within free.within);
+      within = subst (All (IsWithinDisk counts)) (sym more) (All-append (IsWithinDisk counts) old-pps own old.within free.within);
       laid_out = All-more IsLaidOut lvs i e lt old.laid_out laid;
       once = subst (AllPairs (λ (a b : Pp). spot a ≢ spot b)) (sym more) (AllPairs-append (λ (a b : Pp). spot a ≢ spot b) old-pps own old.once free.once
           (λ j k d j-lt k-lt same.
@@ -109,10 +109,10 @@ counted_is_free counts before now lvs i e lt none marked all =
     let own = (get_or lvs i e).map in
     let rest = partitions_in (drop (i + 1) lvs) in
     let split = partitions-split lvs i e lt in
-    let within : All (IsWithin counts) (old-pps ++ (own ++ rest)) = subst (All (IsWithin counts)) split all.within in
+    let within : All (IsWithinDisk counts) (old-pps ++ (own ++ rest)) = subst (All (IsWithinDisk counts)) split all.within in
     let once : AllPairs (λ (a b : Pp). spot a ≢ spot b) (old-pps ++ (own ++ rest)) = subst (AllPairs (λ (a b : Pp). spot a ≢ spot b)) split all.once in
     record {
-      within = All-left (IsWithin counts) own rest (All-right (IsWithin counts) old-pps (own ++ rest) within);
+      within = All-left (IsWithinDisk counts) own rest (All-right (IsWithinDisk counts) old-pps (own ++ rest) within);
       free = λ k d k-lt.
           let unseen : list_any (λ (pp : Pp). spot (get_or own k d) == spot pp) old-pps ≡ false =
           list_any_none (λ (pp : Pp). spot (get_or own k d) == spot pp) old-pps

@@ -8,13 +8,13 @@ use Rattle.lvm_num.specs.declared.record.Stamp.{Stamp}
 use Rattle.lvm_num.specs.declared.record.Kind.{Kind}
 use Rattle.lvm_num.specs.declared.record.Framed.{Framed}
 use Rattle.lvm_num.specs.Record.{slot_size, record_sectors, frame, Frames, stamp_lt}
-use Rattle.lvm_num.specs.Torn.{Carries, slot_at, stamp_of, BeforeIsFresh, BeforeIsOlder, BeforeIsKept}
+use Rattle.lvm_num.specs.Torn.{CarriesStamp, slot_at, stamp_of, BeforeIsFresh, BeforeIsOlder, BeforeIsKept}
 use Rattle.lvm_num.proofs.RecordLemmas.Records.{enough}
 use Rattle.lvm_num.proofs.TornLemmas.Torn.{frame-carries, sectors-fit, begins, slot-some, Reads, reads, front-length}
 use Rattle.lvm_num.proofs.RecordLemmas.Newest.{not_itself}
 
 -- the stamp that a sector carries stands in it
-pub carried : (kind : Kind) (r : Framed) (sector : List ℕ) → Frames kind r → Carries kind r.stamp sector → stamp_of sector ≡ r.stamp
+pub carried : (kind : Kind) (r : Framed) (sector : List ℕ) → Frames kind r → CarriesStamp kind r.stamp sector → stamp_of sector ≡ r.stamp
 carried kind r sector frames has =
     let epoch : from_be_bytes w64 (take 8 (drop 8 sector)) ≡ r.stamp.epoch = ap (from_be_bytes w64) has.epoch ∙ from_be_bytes-to_be_bytes_8 r.stamp.epoch frames.epoch in
     let seq : from_be_bytes w32 (take 4 (drop 4 sector)) ≡ r.stamp.seq = ap (from_be_bytes w32) has.seq ∙ from_be_bytes-to_be_bytes_4 r.stamp.seq frames.seq in

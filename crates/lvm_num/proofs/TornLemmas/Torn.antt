@@ -12,7 +12,7 @@ use Rattle.lvm_num.specs.declared.record.Kind.{Kind}
 use Rattle.lvm_num.specs.declared.record.Kind.TheVariants.{Descriptor, Status}
 use Rattle.lvm_num.specs.declared.record.Framed.{Framed}
 use Rattle.lvm_num.specs.Record.{slot_size, record_sectors, longest_content, frame, joined, record_bytes, Frames, announced, may_be, record_in}
-use Rattle.lvm_num.specs.Torn.{Sectors, Carries, slot_at, AreSectors, IsFresh, IsTorn, IsWhole, TornIsOldOrNoneOrNew, WholeIsRead}
+use Rattle.lvm_num.specs.Torn.{Sectors, CarriesStamp, slot_at, AreSectors, OwnSectorsStand, IsTorn, HasAllSectors, TornIsOldOrNoneOrNew, WholeIsRead}
 use Rattle.lvm_num.proofs.RecordLemmas.Records.{held_is_read, then_is, both_true, enough, length-frame, below32, below64, bytes-take, bytes-drop}
 
 -- ---- pieces of equal size
@@ -82,7 +82,7 @@ slot-some Status = omega arith
 
 -- ---- what a frame carries
 
-pub frame-carries : (kind : Kind) (stamp : Stamp) (content : List ℕ) (k : ℕ) → Carries kind stamp (frame kind stamp content k)
+pub frame-carries : (kind : Kind) (stamp : Stamp) (content : List ℕ) (k : ℕ) → CarriesStamp kind stamp (frame kind stamp content k)
 frame-carries Descriptor stamp content k = record { magic = refl; seq = refl; epoch = refl }
 frame-carries Status stamp content k = record { magic = refl; seq = refl; epoch = refl }
 
@@ -91,15 +91,15 @@ frame-len Descriptor stamp content = refl
 frame-len Status stamp content = refl
 
 -- two frames that are equal have one stamp, and what carries one carries the other
-carries-other : (kind : Kind) (a b : Stamp) (c d : List ℕ) (i j : ℕ) (sector : List ℕ) → frame kind a c i ≡ frame kind b d j → Carries kind a sector → Carries kind b sector
+carries-other : (kind : Kind) (a b : Stamp) (c d : List ℕ) (i j : ℕ) (sector : List ℕ) → frame kind a c i ≡ frame kind b d j → CarriesStamp kind a sector → CarriesStamp kind b sector
 carries-other kind a b c d i j sector e has = record {
   magic = has.magic;
   seq = has.seq ∙ sym ((frame-carries kind a c i).seq) ∙ ap (λ (x : List ℕ). take 4 (drop 4 x)) e ∙ (frame-carries kind b d j).seq;
   epoch = has.epoch ∙ sym ((frame-carries kind a c i).epoch) ∙ ap (λ (x : List ℕ). take 8 (drop 8 x)) e ∙ (frame-carries kind b d j).epoch;
 }
 
-carries-same : (kind : Kind) (stamp : Stamp) (x y : List ℕ) → x ≡ y → Carries kind stamp y → Carries kind stamp x
-carries-same kind stamp x y e has = subst (Carries kind stamp) (sym e) has
+carries-same : (kind : Kind) (stamp : Stamp) (x y : List ℕ) → x ≡ y → CarriesStamp kind stamp y → CarriesStamp kind stamp x
+carries-same kind stamp x y e has = subst (CarriesStamp kind stamp) (sym e) has
 
 -- ---- a whole record is read
 
@@ -179,7 +179,7 @@ search kind r first old new torn (suc m) le = ⊎_elim
       | inr most ↦ inl (torn.behind m most (omega arith))
     ]
 
-module _ (kind : Kind) (r : Framed) (first : ℕ) (old new : Sectors) (frames : Frames kind r) (are : AreSectors kind first old) (fresh : IsFresh kind r first old) (torn : IsTorn kind r first old new) where
+module _ (kind : Kind) (r : Framed) (first : ℕ) (old new : Sectors) (frames : Frames kind r) (are : AreSectors kind first old) (fresh : OwnSectorsStand kind r first old) (torn : IsTorn kind r first old new) where
   -- the new sectors have 512 bytes each
   new-length : (k : ℕ) → k < slot_size kind → length (new (first + k)) ≡ 512
   new-length k lt = elim (cases_lt k (record_sectors (length r.content))) [
@@ -193,7 +193,7 @@ module _ (kind : Kind) (r : Framed) (first : ℕ) (old new : Sectors) (frames : 
     each k lt = front-of kind first new new-length s is k lt
 
     -- the first sector is the record's: then all are
-    if_first : new (first + 0) ≡ frame kind r.stamp r.content 0 → (record_in kind (slot_at kind first new) ≡ Some r) × IsWhole kind r first new
+    if_first : new (first + 0) ≡ frame kind r.stamp r.content 0 → (record_in kind (slot_at kind first new) ≡ Some r) × HasAllSectors kind r first new
     if_first h = (whole_is_read kind r first new frames whole, whole)
       where
         both : frame kind s.stamp s.content 0 ≡ frame kind r.stamp r.content 0
@@ -205,7 +205,7 @@ module _ (kind : Kind) (r : Framed) (first : ℕ) (old new : Sectors) (frames : 
             ∙ ap (from_be_bytes w32) (sym (frame-len kind s.stamp s.content) ∙ ap (λ (x : List ℕ). take 4 (drop 16 x)) both ∙ frame-len kind r.stamp r.content)
             ∙ from_be_bytes-to_be_bytes_4 (length r.content) (len-fits kind (length r.content) frames.content)
 
-        whole : IsWhole kind r first new
+        whole : HasAllSectors kind r first new
         whole k lt = ⊎_elim
             (λ (is_old : new (first + k) ≡ old (first + k)).
             is_old ∙ fresh k lt (carries-same kind r.stamp (old (first + k)) (frame kind s.stamp s.content k) (sym is_old ∙ each k (subst (λ n. k < record_sectors n) (sym len) lt))
@@ -214,7 +214,7 @@ module _ (kind : Kind) (r : Framed) (first : ℕ) (old new : Sectors) (frames : 
             (torn.within k lt)
 
     -- one of the sectors of what is read is the record's: then all are
-    if_any : (k : ℕ) → k < record_sectors (length s.content) → k < record_sectors (length r.content) → new (first + k) ≡ frame kind r.stamp r.content k → (record_in kind (slot_at kind first new) ≡ Some r) × IsWhole kind r first new
+    if_any : (k : ℕ) → k < record_sectors (length s.content) → k < record_sectors (length r.content) → new (first + k) ≡ frame kind r.stamp r.content k → (record_in kind (slot_at kind first new) ≡ Some r) × HasAllSectors kind r first new
     if_any k lt less h = if_first (⊎_elim
         (λ (is_old : new (first + 0) ≡ old (first + 0)).
         is_old ∙ fresh 0 (omega (arith, enough (length r.content))) (carries-same kind r.stamp (old (first + 0)) (frame kind s.stamp s.content 0) (sym is_old ∙ each 0 (omega (arith, enough (length s.content))))

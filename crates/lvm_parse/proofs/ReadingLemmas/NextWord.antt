@@ -4,7 +4,7 @@ use Rattle.std.specs.Prelude.{bytes_eq}
 use Rattle.lvm_parse.specs.Line.{WordAt, Left}
 use Rattle.lvm_parse.specs.Reading.{misfit, then_, or_misfit, operand_of, operand, option_of, option, ends_of, ends}
 use Rattle.lvm_parse.specs.declared.rest.Rest.{Rest}
-use Rattle.lvm_parse.specs.Rests.{left, with_word, fitted, Reads}
+use Rattle.lvm_parse.specs.Rests.{left, with_word, fitted, ReadsAlike}
 
 -- no word is left
 pub operand_lacks : {T : Type 0} (meaning : List ℕ → Option T) (l : Left) → l.words ≡ [] → operand meaning l ≡ misfit l.end
@@ -26,7 +26,7 @@ operand_misfits {T} meaning l w rest is misfits =
     ∙ ap (λ (o : Option T). then_ (or_misfit o w.column) (λ v. Ok (v, rest))) misfits
 
 -- the next word is read as what it means
-pub operand_is : {T : Type 0} (meaning : List ℕ → Option T) (l : Left) (w : WordAt) (rest : Rest) (value : Option T) → l ≡ with_word w (left rest) → value ≡ meaning w.bytes → Reads (operand meaning l) (fitted value w.column rest)
+pub operand_is : {T : Type 0} (meaning : List ℕ → Option T) (l : Left) (w : WordAt) (rest : Rest) (value : Option T) → l ≡ with_word w (left rest) → value ≡ meaning w.bytes → ReadsAlike (operand meaning l) (fitted value w.column rest)
 operand_is meaning l w rest (Some value) is means = operand_fits meaning l w (left rest) value is (sym means)
 operand_is meaning l w rest None is means = operand_misfits meaning l w (left rest) is (sym means)
 

@@ -9,7 +9,7 @@ use Rattle.lvm_vol.specs.Log.{Log}
 use Rattle.lvm_kept.specs.Moments.{Moment}
 use Rattle.lvm_steps.specs.Moments.{IsUpheld, Keeps}
 use Rattle.lvm_steps.proofs.MomentsLemmas.Spans.{keeps_still, span_upholds}
-use Rattle.lvm_steps.specs.Behind.{IsAhead, IsBehind}
+use Rattle.lvm_steps.specs.Behind.{IsAhead, StampsAreEarlier}
 use Rattle.lvm_parse.specs.Grammar.{line_of}
 use Rattle.lvm_core.specs.declared.parts.Room.{Room}
 use Rattle.lvm_posts.specs.declared.posts.Post.{Post}
@@ -93,21 +93,21 @@ module _ (words : LoadWords) (r : Run) (ready : IsReady r.entry) (goes : GoesLoa
   its_end : ConcludesSo r.named goes.answer goes.end (exit_from r).moment
   its_end = load_concludes words goes.answer r.named goes.end (exit_from r) goes.ends so.stuck so.between
 
-  timely : IsBehind r.named r.entry → IsTimely r.named (entry_state r.entry r.named)
+  timely : StampsAreEarlier r.named r.entry → IsTimely r.named (entry_state r.entry r.named)
   timely clock = begins_timely r.named r.entry ready.flights clock
 
   -- a span leads from the entry to the exit
-  spanned : IsBehind r.named r.entry → IsLoadedAlone goes → Keeps r.named start (exit_from r).moment
+  spanned : StampsAreEarlier r.named r.entry → IsLoadedAlone goes → Keeps r.named start (exit_from r).moment
   spanned clock alone = by its_end (so.keeps (timely clock) alone.0 start (keeps_still r.named start) (λ past begins. tt))
     where
       by : ConcludesSo r.named goes.answer goes.end (exit_from r).moment → Keeps r.named start goes.end.moment × ((IsStuck goes.answer → ⊥) → StandsBy r.named start goes.end) → Keeps r.named start (exit_from r).moment
       by (Unheard stuck same) kept = subst (Keeps r.named start) (sym same) kept.0
       by (Heard heard its) kept = its.keeps (so.timely heard (timely clock)) alone.1 start kept.0 (kept.1 heard)
 
-  load_upheld : IsLoadedAlone goes → IsBehind r.named r.entry → IsUpheld r.named r.entry r.exit (facts_of r.history)
+  load_upheld : IsLoadedAlone goes → StampsAreEarlier r.named r.entry → IsUpheld r.named r.entry r.exit (facts_of r.history)
   load_upheld alone clock = span_upholds r.named r.entry r.exit (facts_of r.history) (spanned clock alone)
 
-  load_ahead : IsBehind r.named r.entry → IsAhead r.named (r.last + 1) r.exit (facts_of r.history)
+  load_ahead : StampsAreEarlier r.named r.entry → IsAhead r.named (r.last + 1) r.exit (facts_of r.history)
   load_ahead clock = subst (λ n. IsAhead r.named (n + 1) r.exit (facts_of r.history)) goes.clock (by its_end)
     where
       by : ConcludesSo r.named goes.answer goes.end (exit_from r).moment → IsAhead r.named (goes.end.last + 1) r.exit (facts_of r.history)

@@ -23,10 +23,10 @@ use Rattle.lvm_core.specs.declared.parts.Room.{Room}
 use Rattle.lvm_core.specs.declared.refused.Cause.{Cause}
 use Rattle.lvm_session.specs.State.{Core}
 use Rattle.lvm_line.specs.Lines.{IsLine, LineDoes, asked_after}
-use Rattle.lvm_line.specs.passed.GroupLines.{IsLeft, NoVaryonWhileOn, Reply, ScriptState, Varies, VaryonDoes, itself, log_with, outcome_of, patience_of_line}
+use Rattle.lvm_line.specs.passed.GroupLines.{IsLeftByCall, NoVaryonWhileOn, Reply, ScriptState, Varies, VaryonDoes, itself, log_with, outcome_of, patience_of_line}
 use Rattle.lvm_line.specs.passed.Quiesce.{RefusedAtOnce, StayedOut, VaryonOnceQuiet, WentQuiet}
 use Rattle.lvm_line.specs.passed.ReplyVariants as reply
-use Rattle.lvm_load.specs.Loading.{IsFresh}
+use Rattle.lvm_load.specs.Loading.{NoneHasBegun}
 use Rattle.lvm_program.specs.Loaded.{varyon_line}
 use Rattle.lvm_program.specs.Woven.{asked_woven}
 
@@ -128,22 +128,22 @@ module _ (log : Log) (room : Room) (name : List ℕ) (old new : ScriptState) whe
   varied_on (Varies brings) = by brings.given brings.gives brings.left
     where
       by : (given : Result Core Cause) → VaryonOnceQuiet itself (log_with log old.moment.facts) name new.last room patience_of_line old.moment.device (outcome_of brings.shelf brings.history given)
-          → IsLeft brings.shelf brings.history old new reply.Ok given → IfSome new.session HasOnlyOn
+          → IsLeftByCall brings.shelf brings.history old new reply.Ok given → IfSome new.session HasOnlyOn
       by (Ok core) gives left = subst (λ (o : Option Core). IfSome o HasOnlyOn) (sym left.2.after) (given_on brings.shelf core gives)
       by (Err why) gives left = let e = left.answered in absurd (cc e)
 
 -- no client has begun a request in its history, which was empty before
-only_fresh : (facts : List Fact) (m : ℕ) → facts ≡ On m ∷ [] → IsFresh facts
+only_fresh : (facts : List Fact) (m : ℕ) → facts ≡ On m ∷ [] → NoneHasBegun facts
 only_fresh facts m is c = ap (own c) is
 
 pub varied_fresh : (log : Log) (room : Room) (name : List ℕ) (old new : ScriptState) → is_name name ≡ true → old.moment.facts ≡ [] → (answer : Reply) → answer ≡ reply.Ok → IsLine log room (varyon_line name) answer old new
-    → IfSome new.session (λ core. IsFresh core.history.facts)
+    → IfSome new.session (λ core. NoneHasBegun core.history.facts)
 varied_fresh log room name old new is none answer ok line = by new.session (varied_on log room name old new does)
   where
     does : VaryonDoes log room name old new reply.Ok
     does = subst (λ (read : Result (Option Command) Misfit). LineDoes log room read old new reply.Ok) (varyon_reads name is) (subst (λ (a : Reply). LineDoes log room (line_of (varyon_line name)) old new a) ok line.does)
 
-    by : (on : Option Core) → IfSome on (λ core. (m : ℕ) × (core.history.facts ≡ old.moment.facts ++ On m ∷ [])) → IfSome on (λ core. IsFresh core.history.facts)
+    by : (on : Option Core) → IfSome on (λ core. (m : ℕ) × (core.history.facts ≡ old.moment.facts ++ On m ∷ [])) → IfSome on (λ core. NoneHasBegun core.history.facts)
     by None holds = tt
     by (Some core) (m, only) = only_fresh core.history.facts m (only ∙ ap (λ (facts : List Fact). facts ++ On m ∷ []) none)
 

@@ -15,7 +15,7 @@ use Rattle.lvm_vol.specs.Log.{Log}
 use Rattle.lvm_kept.specs.Moments.{Moment}
 use Rattle.lvm_steps.specs.Moments.{ImagesKept, IsUpheld, Keeps}
 use Rattle.lvm_steps.proofs.MomentsLemmas.Spans.{keeps_still, span_upholds}
-use Rattle.lvm_steps.specs.Behind.{IsAhead, IsBehind}
+use Rattle.lvm_steps.specs.Behind.{IsAhead, StampsAreEarlier}
 use Rattle.lvm_parse.specs.Grammar.{line_of}
 use Rattle.lvm_parse.specs.declared.command.Command.{Command}
 use Rattle.lvm_parse.specs.declared.rest.Misfit.{Misfit}
@@ -44,7 +44,7 @@ use Rattle.lvm_program.specs.Program.{PromisesWovenBlank}
 use Rattle.lvm_line.specs.Lines.{IsOrder}
 use Rattle.lvm_program.specs.Heeding.{IsNoOrder, IsTroubled}
 use Rattle.lvm_program.proofs.HeedingLemmas.{closed_orders, concludes_orders, device_path, untroubled}
-use Rattle.lvm_top.specs.Laws.{MayStart}
+use Rattle.lvm_top.specs.Laws.{MayRun}
 use Rattle.lvm_top.specs.Plain.{FindsOneGroup}
 use Rattle.lvm_top.specs.OneGroup.{IsUnforced}
 use Rattle.lvm_top.specs.Run.{Run, exit_state, ran}
@@ -52,7 +52,7 @@ use Rattle.lvm_top.specs.Standing.{HasFewDisks}
 use Rattle.lvm_top.specs.Script.{NextLine, NoLine, Passage, Stream, empty_log, entry_state, facts_of}
 use Rattle.lvm_top.specs.Blank.{IsToldBlank}
 use Rattle.lvm_program.specs.Sim.{full_room, sim_device}
-use Rattle.lvm_program.specs.Woven.{AreMadeAlone, Drawn, EndsWoven, Exit, GoesWoven, HasAsked, HasGroup, IsDrawn, IsMade, IsMadeForCause, HasServed, IsServed, IsSized, IsWoven, IsWovenAlone, NoGroup, NotMade, PromisesWoven, TellsWoven, TurnsBehind, asked_woven, exit_from, exit_of, mklv_line, mkvg_line, refusal_text, status_woven, totals_text, untold, woven_text}
+use Rattle.lvm_program.specs.Woven.{AreMadeAlone, Drawn, EndsWoven, Exit, GoesWoven, HasAsked, HasGroup, IsDrawn, IsMade, IsMadeForCause, HasServed, SessionIsServing, IsSized, IsWoven, IsWovenAlone, NoGroup, NotMade, PromisesWoven, TellsWoven, TurnsBehind, asked_woven, exit_from, exit_of, mklv_line, mkvg_line, refusal_text, status_woven, totals_text, untold, woven_text}
 use Rattle.lvm_top.proofs.MomentsLemmas.{told_behind, told_earlier}
 use Rattle.lvm_program.proofs.WovenLemmas.Landing.{ends_well}
 use Rattle.lvm_program.proofs.WovenLemmas.Making.{group_reads, group_unforced, volume_reads, volume_unforced}
@@ -109,7 +109,7 @@ pub record LinesAlone {log : Log} {room : Room} {group volume : List ℕ} {first
   pub alone : AreMadeAlone made
   pub finds : (IsStuck answer → ⊥) → FindsOneGroup last.moment.device
 
-module _ (log : Log) (room : Room) (past : List Fact) (group volume : List ℕ) (first : ScriptState) (begin : MayStart log.run past first) (one : FindsOneGroup first.moment.device)
+module _ (log : Log) (room : Room) (past : List Fact) (group volume : List ℕ) (first : ScriptState) (begin : MayRun log.run past first) (one : FindsOneGroup first.moment.device)
     (no_force : IsUnforced group) (nor_force : IsUnforced volume) where
   pub lines_alone : (answer : Reply) (last : ScriptState) (made : IsMade log room group volume first answer last) → LinesAlone made
   lines_alone answer last (NoGroup not it) = record {
@@ -149,11 +149,11 @@ made_by log room group group1 volume volume1 first answer last is_group is_volum
     subst (λ (l : List ℕ). IsMade log room l volume1 first answer last) is_group (subst (λ (l : List ℕ). IsMade log room group l first answer last) is_volume made)
 
 -- where the last is answered `ok` a session is on that serves requests
-pub made_serves : (log : Log) (room : Room) (disks mib : ℕ) → IsSized disks mib → (first : ScriptState) (answer : Reply) (last : ScriptState) → IsMade log room (mkvg_line disks) (mklv_line disks mib) first answer last → answer ≡ reply.Ok → IsServed last.session
+pub made_serves : (log : Log) (room : Room) (disks mib : ℕ) → IsSized disks mib → (first : ScriptState) (answer : Reply) (last : ScriptState) → IsMade log room (mkvg_line disks) (mklv_line disks mib) first answer last → answer ≡ reply.Ok → SessionIsServing last.session
 made_serves log room disks mib sized first answer last (NoGroup not it) ok = absurd (not ok)
 made_serves log room disks mib sized first answer last (HasGroup mid makes it) ok =
     let on = mklv_serves log room (mklv_line disks mib) mid last _ _ _ _ _ _ (volume_reads disks mib sized) (subst (λ (a : Reply). IsLine log room (mklv_line disks mib) a mid last) ok it) in
-    subst IsServed (sym on.1) on.2
+    subst SessionIsServing (sym on.1) on.2
 
 -- a refusal of them has its cause
 pub made_caused : (log : Log) (room : Room) (group volume : List ℕ) (first : ScriptState) (answer : Reply) (last : ScriptState) (made : IsMade log room group volume first answer last) → IsMadeForCause made
@@ -363,25 +363,25 @@ module _ (disks mib : ℕ) (load : Workload) (r : Run) (ready : IsReady r.entry)
   pub its_end : ConcludesSo r.named goes.answer goes.end (exit_from r).moment
   its_end = concludes_so (2048 * (mib - 2)) load goes.answer r.named goes.end (exit_from r) goes.ends made.stuck made.between
 
-  timely : IsBehind r.named r.entry → IsTimely r.named (entry_state r.entry r.named)
+  timely : StampsAreEarlier r.named r.entry → IsTimely r.named (entry_state r.entry r.named)
   timely clock = begins_timely r.named r.entry ready.flights clock
 
   -- a span leads from the entry to the exit
-  pub spanned : IsBehind r.named r.entry → IsWovenAlone goes → Keeps r.named start (exit_from r).moment
+  pub spanned : StampsAreEarlier r.named r.entry → IsWovenAlone goes → Keeps r.named start (exit_from r).moment
   spanned clock alone = by its_end (made.keeps (timely clock) alone.0 start (keeps_still r.named start) (λ past begins. tt))
     where
       by : ConcludesSo r.named goes.answer goes.end (exit_from r).moment → Keeps r.named start goes.end.moment × ((IsStuck goes.answer → ⊥) → StandsBy r.named start goes.end) → Keeps r.named start (exit_from r).moment
       by (Unheard stuck same) kept = subst (Keeps r.named start) (sym same) kept.0
       by (Heard heard its) kept = its.keeps (made.timely heard (timely clock)) alone.1 start kept.0 (kept.1 heard)
 
-  pub woven_ahead : IsBehind r.named r.entry → IsAhead r.named (r.last + 1) r.exit (facts_of r.history)
+  pub woven_ahead : StampsAreEarlier r.named r.entry → IsAhead r.named (r.last + 1) r.exit (facts_of r.history)
   woven_ahead clock = subst (λ n. IsAhead r.named (n + 1) r.exit (facts_of r.history)) goes.clock (by its_end)
     where
       by : ConcludesSo r.named goes.answer goes.end (exit_from r).moment → IsAhead r.named (goes.end.last + 1) r.exit (facts_of r.history)
       by (Unheard stuck same) = subst (λ (m : Moment). IsAhead r.named (goes.end.last + 1) m.device m.facts) (sym same) (made.left (timely clock))
       by (Heard heard its) = each_is_ahead r.named (goes.end.last + 1) r.exit (facts_of r.history) (its.left (made.timely heard (timely clock)))
 
-  pub woven_upheld : IsWovenAlone goes → IsBehind r.named r.entry → IsUpheld r.named r.entry r.exit (facts_of r.history)
+  pub woven_upheld : IsWovenAlone goes → StampsAreEarlier r.named r.entry → IsUpheld r.named r.entry r.exit (facts_of r.history)
   woven_upheld alone clock = span_upholds r.named r.entry r.exit (facts_of r.history) (spanned clock alone)
 
   -- over disks of zeros no group is found but its own
@@ -438,7 +438,7 @@ module _ (disks mib : ℕ) (load : Workload) (r : Run) (ready : IsReady r.entry)
   abbrev its_first : ScriptState
   its_first = entry_state r.entry r.named
 
-  its_clock : IsBehind r.named r.entry
+  its_clock : StampsAreEarlier r.named r.entry
   its_clock = told_behind r.named r.entry blank
 
   pub woven_path : Path DeviceStep (λ d. Unit {0}) r.entry r.exit

@@ -10,7 +10,7 @@ use Rattle.lvm_disk.proofs.DeviceLemmas.{done_leaves, failed_leaves, cut_leaves}
 use Rattle.lvm_disk.proofs.CountingLemmas.{none_falls_at_once, none_falls_on}
 use Rattle.lvm_disk.proofs.StepsLemmas.{step_counts}
 use Rattle.lvm_steps.proofs.MomentsLemmas.Spans.{keeps_steps, fewer_stay_kept}
-use Rattle.lvm_session.specs.Sound.{IsLit}
+use Rattle.lvm_session.specs.Sound.{HasPower}
 use Rattle.lvm_transfer.proofs.TransferLemmas.Ending.{was_cut}
 use Rattle.lvm_write.specs.Parts.{Spends}
 use Rattle.lvm_write.proofs.PartsLemmas.Transfers.{spends_none, spends_then}
@@ -184,7 +184,7 @@ removes_one (g ∷ before) after f = let e = removes_one before after f in omega
 one_less : (f : Flight) (old new : List Flight) → Removes f old new → length old ≡ length new + 1
 one_less f old new removes = ap (λ (l : List Flight). length l) removes.was ∙ removes_one removes.before removes.after f ∙ ap (λ (l : List Flight). length l + 1) (sym removes.is)
 
-pub one_done : (old new : Device) (left ticket : ℕ) (buf : Buffer) → IsLit old → EndsDone old new ticket buf → OneEnds left left old new
+pub one_done : (old new : Device) (left ticket : ℕ) (buf : Buffer) → HasPower old → EndsDone old new ticket buf → OneEnds left left old new
 one_done old new left ticket buf lit ends = record {
   step = EndsWell ticket buf ends;
   lit = record { power = ap (λ (d : Device). d.power) ends.new_is ∙ lit.power; freed = ap (λ (d : Device). d.freed) ends.new_is ∙ lit.freed };
@@ -193,7 +193,7 @@ one_done old new left ticket buf lit ends = record {
   spends = spends_on left old new (ap (λ (d : Device). d.counts.waits) ends.new_is);
 }
 
-pub one_failed : (old new : Device) (left ticket : ℕ) (buf : Buffer) → IsLit old → EndsFailed old new ticket buf → OneEnds left left old new
+pub one_failed : (old new : Device) (left ticket : ℕ) (buf : Buffer) → HasPower old → EndsFailed old new ticket buf → OneEnds left left old new
 one_failed old new left ticket buf lit ends = record {
   step = EndsBadly ticket buf ends;
   lit = record { power = ap (λ (d : Device). d.power) ends.new_is ∙ lit.power; freed = ap (λ (d : Device). d.freed) ends.new_is ∙ lit.freed };
@@ -202,7 +202,7 @@ one_failed old new left ticket buf lit ends = record {
   spends = spends_on left old new (failed_waits ends.flight old.counts new.counts ends.counts);
 }
 
-pub one_wait : (old new : Device) (left : ℕ) → 1 ≤ left → IsLit old → Waits old new → OneEnds left (left - 1) old new
+pub one_wait : (old new : Device) (left : ℕ) → 1 ≤ left → HasPower old → Waits old new → OneEnds left (left - 1) old new
 one_wait old new left some lit waits = record {
   step = NoneEnds waits;
   lit = record { power = ap (λ (d : Device). d.power) waits.new_is ∙ lit.power; freed = ap (λ (d : Device). d.freed) waits.new_is ∙ lit.freed };
@@ -211,7 +211,7 @@ one_wait old new left some lit waits = record {
   spends = record { falls = omega arith; waits = let one : left - (left - 1) ≡ 1 = omega (arith, some) in subst (λ (n : ℕ). RoseBy n old.counts.waits new.counts.waits) (sym one) waits.waits };
 }
 
-pub one_cut : (old new : Device) (left : ℕ) → IsLit old → GoesDark old new → OneIsCut left left old new
+pub one_cut : (old new : Device) (left : ℕ) → HasPower old → GoesDark old new → OneIsCut left left old new
 one_cut old new left lit dark =
     let cuts = was_cut old new lit.power dark in
     record { cuts = cuts; same = refl; spends = spends_on left old new (ap (λ (d : Device). d.counts.waits) cuts.new_is) }
@@ -220,11 +220,11 @@ one_cut old new left lit dark =
 
 pub record EndedSoFar (before left : ℕ) (old now : Device) : Type 0 where
   pub ends : TransfersEnd old now
-  pub lit : IsLit now
+  pub lit : HasPower now
   pub spends : Spends before left old now
   pub costs : EndsWhile before old left now
 
-pub none_yet : (left : ℕ) (old : Device) → IsLit old → EndedSoFar left left old old
+pub none_yet : (left : ℕ) (old : Device) → HasPower old → EndedSoFar left left old old
 none_yet left old lit = record { ends = Here tt; lit = lit; spends = spends_none left old; costs = NoneYet }
 
 pub one_more : (before left after : ℕ) (old now new : Device) → EndedSoFar before left old now → 1 ≤ left → OneEnds left after now new → EndedSoFar before after old new

@@ -16,7 +16,7 @@ use Rattle.lvm_vol.specs.Log.{Log}
 use Rattle.lvm_session.specs.declared.open.Power.{Power}
 use Rattle.lvm_session.specs.declared.open.Power.TheVariants as power
 use Rattle.lvm_session.specs.Causes.{is_over}
-use Rattle.lvm_session.specs.Sound.{IsLit, IsSound, is_dark}
+use Rattle.lvm_session.specs.Sound.{HasPower, IsSound, is_dark}
 use Rattle.lvm_group_lines.specs.passed.Tie.{moment_of, LeavesSession, RunsOn}
 use Rattle.lvm_session.specs.State.{Core, votes_there, state_of}
 use Rattle.lvm_group_lines.proofs.passed.Tie.{goes_any, path_frames, path_shape, stays_unstuck}
@@ -27,9 +27,9 @@ use Rattle.lvm_group_lines.specs.declared.holder.Holder.{Holder}
 use Rattle.lvm_group_lines.specs.declared.reply.Reply.{Reply}
 use Rattle.lvm_group_lines.specs.declared.stage.Stage.{Stage}
 use Rattle.lvm_group_lines.specs.Ends.{EndsUnasked}
-use Rattle.lvm_group_lines.specs.Moments.{GoesOn, OfRequests}
+use Rattle.lvm_group_lines.specs.Moments.{LineGoesOn, OfRequests}
 use Rattle.lvm_group_lines.specs.Replies.{most_refusals}
-use Rattle.lvm_group_lines.specs.Stages.{HaveRooms, IsBetweenStage, IsCarried, IsClosed, IsEnded, IsFittingStage, IsOfKind, history_in, moment_in, posts_ended, session_of, shelf_in, state_in}
+use Rattle.lvm_group_lines.specs.Stages.{HaveRooms, IsBetweenStage, IsCarriedOn, IsClosed, SessionIsClosed, IsFittingStage, IsOfKind, history_in, moment_in, posts_ended, session_of, shelf_in, state_in}
 use Rattle.lvm_group_lines.specs.State.{ArePosted, IsOnBetween, IsTimely, ScriptState, without_facts}
 use Rattle.lvm_group_lines.specs.declared.holder.Holder.TheVariants as holder
 use Rattle.lvm_group_lines.specs.declared.reply.Refusal.TheVariants as refusal
@@ -40,17 +40,17 @@ use Rattle.lvm_range_lines.specs.Leaving.{IsOverWith, CarriesTo, CarriesBy, serv
 
 -- ---- as states
 
-pub ended_is_over : {S : Type 0} (device : S → Device) (end : S × Core) (posts : List Post) (stage : Stage S) (last : ℕ) → ArePosted end.1.history.facts (Some end.1) posts → IsEnded device end posts stage → IsOverWith (state_of device end) posts last (state_in device stage last)
+pub ended_is_over : {S : Type 0} (device : S → Device) (end : S × Core) (posts : List Post) (stage : Stage S) (last : ℕ) → ArePosted end.1.history.facts (Some end.1) posts → SessionIsClosed device end posts stage → IsOverWith (state_of device end) posts last (state_in device stage last)
 ended_is_over device end posts stage last stood ended = record { shelf = ended.shelf; facts = ap (λ (log : Log). log.facts) ended.history; session = ended.session; posted = ended.posted; stood = stood; clock = refl }
 
-carried_leaves_by : {S : Type 0} (device : S → Device) (end : S × Core) (posts : Vec Post) (bytes : Vec ℕ) (p : Power) (stage : Stage S) (last : ℕ) → ArePosted end.1.history.facts (Some end.1) posts.items → end.1.power ≡ p → IsCarried device end posts bytes p stage
+carried_leaves_by : {S : Type 0} (device : S → Device) (end : S × Core) (posts : Vec Post) (bytes : Vec ℕ) (p : Power) (stage : Stage S) (last : ℕ) → ArePosted end.1.history.facts (Some end.1) posts.items → end.1.power ≡ p → IsCarriedOn device end posts bytes p stage
     → CarriesBy p (state_of device end) posts.items last (state_in device stage last)
 carried_leaves_by device end posts bytes power.On stage last stood is carried = ap (λ (s : Stage _). state_in device s last) carried
 carried_leaves_by device end posts bytes power.Off stage last stood is carried = ended_is_over device end posts.items stage last stood carried
 carried_leaves_by device end posts bytes power.Dark stage last stood is carried = ended_is_over device end posts.items stage last stood carried
 carried_leaves_by device end posts bytes power.Stuck stage last stood is carried = ended_is_over device end posts.items stage last stood carried
 
-pub carried_leaves : {S : Type 0} (device : S → Device) (end : S × Core) (posts : Vec Post) (bytes : Vec ℕ) (stage : Stage S) (last : ℕ) → ArePosted end.1.history.facts (Some end.1) posts.items → IsCarried device end posts bytes end.1.power stage
+pub carried_leaves : {S : Type 0} (device : S → Device) (end : S × Core) (posts : Vec Post) (bytes : Vec ℕ) (stage : Stage S) (last : ℕ) → ArePosted end.1.history.facts (Some end.1) posts.items → IsCarriedOn device end posts bytes end.1.power stage
     → CarriesTo (state_of device end) posts.items last (state_in device stage last)
 carried_leaves device end posts bytes stage last stood carried = carried_leaves_by device end posts bytes end.1.power stage last stood refl carried
 
@@ -109,7 +109,7 @@ module _ {S : Type 0} (device : S → Device) (first : S × Core) (posts : Vec P
       goes_on : end.1.power ≡ power.On → end.1.copy ≡ None → ArePosted end.1.history.facts (Some end.1) posts1.items → stage ≡ serving end posts1 bytes1 → EndsUnasked device Does ⊥ OfRequests old stage answer
       goes_on on shut posted is last = record {
         does = does last;
-        goes = subst (λ (s : Stage S). GoesOn first.1.history.run OfRequests answer (state_in device old last) (state_in device s last)) (sym is)
+        goes = subst (λ (s : Stage S). LineGoesOn first.1.history.run OfRequests answer (state_in device old last) (state_in device s last)) (sym is)
             (run_goes OfRequests (state_in device old last) first.1 (state_of device end) (its last) answer (state_in device (serving end posts1 bytes1) last) refl on shut posted (λ not_asking. absurd (not_asking tt)) few);
         rooms = ap (λ (s : Stage S). without_facts (history_in s)) is ∙ same_rooms;
         fits = subst IsFittingStage (sym is) (record {
@@ -121,7 +121,7 @@ module _ {S : Type 0} (device : S → Device) (first : S × Core) (posts : Vec P
       }
 
       -- it has ended
-      module _ (ended : IsEnded device end posts1.items stage) (rooms_then : HaveRooms first.1.history.room stage.posts stage.bytes) where
+      module _ (ended : SessionIsClosed device end posts1.items stage) (rooms_then : HaveRooms first.1.history.room stage.posts stage.bytes) where
         facts_are : (history_in stage).facts ≡ end.1.history.facts
         facts_are = ap (λ (log : Log). log.facts) ended.history
 
@@ -138,7 +138,7 @@ module _ {S : Type 0} (device : S → Device) (first : S × Core) (posts : Vec P
           rooms = subst (λ n. HaveRooms n stage.posts stage.bytes) (sym (ap (λ (log : Log). log.room) ended.history ∙ room_is)) rooms_then;
         }
 
-        ends_so : ((last : ℕ) → GoesOn first.1.history.run OfRequests answer (state_in device old last) (state_in device stage last)) → EndsUnasked device Does ⊥ OfRequests old stage answer
+        ends_so : ((last : ℕ) → LineGoesOn first.1.history.run OfRequests answer (state_in device old last) (state_in device stage last)) → EndsUnasked device Does ⊥ OfRequests old stage answer
         ends_so goes last = record {
           does = does last;
           goes = goes last;
@@ -161,7 +161,7 @@ module _ {S : Type 0} (device : S → Device) (first : S × Core) (posts : Vec P
 
         -- or since nothing was heard of it
         module _ (on : end.1.power ≡ power.On) (stuck : answer ≡ reply.Refused refusal.Stuck) where
-          lit : IsLit (device end.0)
+          lit : HasPower (device end.0)
           lit = to.sound.lit (ap is_dark on)
 
           closed : device (shelf_in stage) ≡ record (device end.0) { freed = [] }
@@ -199,11 +199,11 @@ module _ {S : Type 0} (device : S → Device) (first : S × Core) (posts : Vec P
 
       -- whichever it is
       module _ (posted : ArePosted end.1.history.facts (Some end.1) posts1.items) (rooms_then : HaveRooms first.1.history.room stage.posts stage.bytes) (shut : end.1.power ≡ power.On → end.1.copy ≡ None) where
-        by_power : (p : Power) → end.1.power ≡ p → IsCarried device end posts1 bytes1 p stage → EndsUnasked device Does ⊥ OfRequests old stage answer
+        by_power : (p : Power) → end.1.power ≡ p → IsCarriedOn device end posts1 bytes1 p stage → EndsUnasked device Does ⊥ OfRequests old stage answer
         by_power power.On is carried = goes_on is (shut is) posted carried
         by_power power.Off is carried = over_ends carried rooms_then (ap is_over is) posted
         by_power power.Dark is carried = over_ends carried rooms_then (ap is_over is) posted
         by_power power.Stuck is carried = absurd (unstuck is)
 
-        pub carried_ends : IsCarried device end posts1 bytes1 end.1.power stage → EndsUnasked device Does ⊥ OfRequests old stage answer
+        pub carried_ends : IsCarriedOn device end posts1 bytes1 end.1.power stage → EndsUnasked device Does ⊥ OfRequests old stage answer
         carried_ends carried = by_power end.1.power refl carried

@@ -20,7 +20,7 @@ use Rattle.lvm_group_lines.specs.declared.stage.Stage.{Stage}
 use Rattle.lvm_group_lines.specs.Ends.{EndsUnasked}
 use Rattle.lvm_group_lines.specs.Moments.{OfRequests}
 use Rattle.lvm_group_lines.specs.Replies.{most_refusals}
-use Rattle.lvm_group_lines.specs.Stages.{HaveRooms, IsBetweenStage, IsCarried, IsFittingStage, state_in}
+use Rattle.lvm_group_lines.specs.Stages.{HaveRooms, IsBetweenStage, IsCarriedOn, IsFittingStage, state_in}
 use Rattle.lvm_group_lines.specs.State.{ArePosted}
 use Rattle.lvm_group_lines.specs.declared.reply.Reply.TheVariants as reply
 use Rattle.lvm_group_lines.proofs.StateLemmas.{posts_need}
@@ -60,7 +60,7 @@ module _ {S : Type 0} (device : S → Device) (first : S × Core) (posts : Vec P
   module _ (shelf : mid.0 ≡ first.0) (kept : KeepsPosts first.1 mid.1) (runs : RunsOn (state_of device first) (state_of device mid)) (sound : IsSound (state_of device mid)) (on : mid.1.power ≡ power.On)
       (posts1 : Vec Post) (items : posts1.items ≡ posts.items ++ post_of asked ∷ []) (more : vec_capacity posts ≤ vec_capacity posts1) (bytes1 : Vec ℕ) (room : 131072 ≤ vec_capacity bytes1)
       (stage : Stage S) (answer : Reply) (is : answer ≡ reply.Posted) (rooms_then : HaveRooms first.1.history.room posts1 bytes1 → HaveRooms first.1.history.room stage.posts stage.bytes)
-      (carried : IsCarried device mid posts1 bytes1 mid.1.power stage) where
+      (carried : IsCarriedOn device mid posts1 bytes1 mid.1.power stage) where
     rooms : HaveRooms first.1.history.room posts1 bytes1
     rooms = record { for_posts = let fit = fits.rooms.for_posts in omega (arith, fit, more); for_bytes = room }
 
@@ -68,7 +68,7 @@ module _ {S : Type 0} (device : S → Device) (first : S × Core) (posts : Vec P
     taken = taken_so name (Some word) at count first.1 mid.1 asked asks
 
     stage_is : stage ≡ serving mid posts1 bytes1
-    stage_is = subst (λ (p : Power). IsCarried device mid posts1 bytes1 p stage) on carried
+    stage_is = subst (λ (p : Power). IsCarriedOn device mid posts1 bytes1 p stage) on carried
 
     goes : (last : ℕ) → state_in device stage last ≡ record { moment = record { device = device first.0; facts = mid.1.history.facts }; session = Some mid.1; posts = posts.items ++ post_of asked ∷ []; last = last }
     goes last =

@@ -28,7 +28,7 @@ use Rattle.lvm_group_lines.specs.declared.stage.Stage.{Stage}
 use Rattle.lvm_group_lines.specs.Ends.{EndsUnasked}
 use Rattle.lvm_group_lines.specs.Moments.{OfRequests}
 use Rattle.lvm_group_lines.specs.Replies.{InFull, Shows, WithoutMemory, is_unheard, most_refusals}
-use Rattle.lvm_group_lines.specs.Stages.{ComesTo, HaveRooms, IsBetweenStage, IsCarried, IsFittingStage, state_in}
+use Rattle.lvm_group_lines.specs.Stages.{ComesTo, HaveRooms, IsBetweenStage, IsCarriedOn, IsFittingStage, state_in}
 use Rattle.lvm_group_lines.specs.State.{ArePosted, ScriptState}
 use Rattle.lvm_group_lines.specs.declared.holder.Holder.TheVariants as holder
 use Rattle.lvm_group_lines.specs.declared.reply.Reply.TheVariants as reply
@@ -137,7 +137,7 @@ module _ {S : Type 0} (device : S → Device) (first : S × Core) (posts : Vec P
 
     module _ (left : ℕ) where
       well : FinishGives asked left (state_of device mid) (state_of device end) (Ok tt) → Waited left (state_of device mid) (state_of device end)
-          → IsCarried device end posts bytes1 end.1.power stage → Says (state_of device end) asked answer → most_refusals answer ≤ 1 → EndsUnasked device Does ⊥ OfRequests (serving first posts bytes) stage answer
+          → IsCarriedOn device end posts bytes1 end.1.power stage → Says (state_of device end) asked answer → most_refusals answer ≤ 1 → EndsUnasked device Does ⊥ OfRequests (serving first posts bytes) stage answer
       well finishes waited carried says one =
           carried_ends device first posts bytes fits between end to Does posts bytes1 rooms stage answer (few one)
           (λ last. There first.1 taken.lv refl taken.named (EndsWell (state_of device end) asked (finished left (Ok tt) finishes waited stage last (carried_leaves device end posts bytes1 stage last posted carried) taken.lv taken.gives) says))

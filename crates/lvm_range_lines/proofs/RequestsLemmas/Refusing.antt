@@ -17,7 +17,7 @@ use Rattle.lvm_group_lines.specs.declared.stage.Stage.{Stage}
 use Rattle.lvm_group_lines.specs.Ends.{EndsUnasked}
 use Rattle.lvm_group_lines.specs.Moments.{OfRequests}
 use Rattle.lvm_group_lines.specs.Replies.{most_refusals}
-use Rattle.lvm_group_lines.specs.Stages.{HaveRooms, IsBetweenStage, IsCarried, IsFittingStage, state_in}
+use Rattle.lvm_group_lines.specs.Stages.{HaveRooms, IsBetweenStage, IsCarriedOn, IsFittingStage, state_in}
 use Rattle.lvm_group_lines.specs.State.{ScriptState}
 use Rattle.lvm_group_lines.specs.declared.reply.Refusal.TheVariants as refusal
 use Rattle.lvm_group_lines.specs.declared.reply.Reply.TheVariants as reply
@@ -33,12 +33,12 @@ module _ {S : Type 0} (device : S → Device) (first : S × Core) (posts : Vec P
     (mid : S × Core) (why : Refusal) (asks : AsksByName name write at count first.1 mid.1 (Err why)) (shelf : mid.0 ≡ first.0) (kept : KeepsPosts first.1 mid.1)
     (runs : RunsOn (state_of device first) (state_of device mid)) (on : mid.1.power ≡ power.On)
     (bytes1 : Vec ℕ) (rooms : HaveRooms first.1.history.room posts bytes1) (stage : Stage S) (answer : Reply) (is : answer ≡ reply.Refused why) (rooms_then : HaveRooms first.1.history.room stage.posts stage.bytes)
-    (carried : IsCarried device mid posts bytes1 mid.1.power stage) where
+    (carried : IsCarriedOn device mid posts bytes1 mid.1.power stage) where
   abbrev Does : Log → ScriptState → ScriptState → Reply → Type 0
   Does log old new says = OnVolume name (Happens old new says) old new says
 
   stage_is : stage ≡ serving mid posts bytes1
-  stage_is = subst (λ (p : Power). IsCarried device mid posts bytes1 p stage) on carried
+  stage_is = subst (λ (p : Power). IsCarriedOn device mid posts bytes1 p stage) on carried
 
   still : mid.1 ≡ first.1 → (last : ℕ) → state_in device stage last ≡ state_in device (serving first posts bytes) last
   still same last =

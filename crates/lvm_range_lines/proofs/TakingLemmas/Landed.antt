@@ -18,12 +18,12 @@ use Rattle.lvm_posts.specs.Posts.{ended_with}
 use Rattle.lvm_posts.proofs.PostsLemmas.{over_answered}
 use Rattle.lvm_group_lines.specs.declared.reply.Reply.{Reply}
 use Rattle.lvm_group_lines.specs.declared.stage.Stage.{Stage}
-use Rattle.lvm_group_lines.specs.Stages.{HaveRooms, IsEnded, IsFittingStage, history_in, posts_ended}
+use Rattle.lvm_group_lines.specs.Stages.{HaveRooms, SessionIsClosed, IsFittingStage, history_in, posts_ended}
 use Rattle.lvm_group_lines.specs.State.{ArePosted}
 use Rattle.lvm_group_lines.proofs.StateLemmas.{end_posts}
 use Rattle.lvm_group_lines.proofs.passed.Tie.{path_frames}
 use Rattle.lvm_range_lines.specs.Leaving.{serving}
-use Rattle.lvm_range_lines.specs.Taking.{GoesBehind, IsClosedBehind, LandedEnds}
+use Rattle.lvm_range_lines.specs.Taking.{SessionFollows, IsClosedBehind, LandedEnds}
 use Rattle.lvm_range_lines.proofs.LeavingLemmas.Ending.{off_kind}
 
 -- ---- whether it is over
@@ -40,7 +40,7 @@ not_on p (inr (inl is)) on = let e = sym on ∙ is in cc e
 not_on p (inr (inr is)) on = let e = sym on ∙ is in cc e
 
 module _ {S : Type 0} (device : S → Device) (driver : S × Core) (posts : Vec Post) (bytes : Vec ℕ) (fits : IsFittingStage (serving driver posts bytes)) where
-  pub goes_landed : (p : Power) → p ≡ power.On → (stage : Stage S) (answer : Reply) → GoesBehind device driver stage answer posts.items → LandedEnds device driver posts bytes p stage answer
+  pub goes_landed : (p : Power) → p ≡ power.On → (stage : Stage S) (answer : Reply) → SessionFollows device driver stage answer posts.items → LandedEnds device driver posts bytes p stage answer
   goes_landed power.On on stage answer goes = goes
   goes_landed power.Off on stage answer goes = absurd (cc on)
   goes_landed power.Dark on stage answer goes = absurd (cc on)
@@ -67,7 +67,7 @@ module _ {S : Type 0} (device : S → Device) (driver : S × Core) (posts : Vec 
 
   -- ---- it has ended
 
-  module _ (stage : Stage S) (ended : IsEnded device driver posts.items stage) (rooms : HaveRooms driver.1.history.room stage.posts stage.bytes) where
+  module _ (stage : Stage S) (ended : SessionIsClosed device driver posts.items stage) (rooms : HaveRooms driver.1.history.room stage.posts stage.bytes) where
     room_then : (history_in stage).room ≡ driver.1.history.room
     room_then = ap (λ (log : Log). log.room) ended.history
 
@@ -78,7 +78,7 @@ module _ {S : Type 0} (device : S → Device) (driver : S × Core) (posts : Vec 
       rooms = subst (λ n. HaveRooms n stage.posts stage.bytes) (sym room_then) rooms;
     }
 
-module _ {S : Type 0} (device : S → Device) (driver : S × Core) (posts : Vec Post) (stage : Stage S) (ended : IsEnded device driver posts.items stage) where
+module _ {S : Type 0} (device : S → Device) (driver : S × Core) (posts : Vec Post) (stage : Stage S) (ended : SessionIsClosed device driver posts.items stage) where
   pub long_ended : length stage.posts.items ≡ length posts.items
   long_ended = ap (λ (ps : List Post). length ps) ended.posted ∙ length-map posts.items (ended_with (votes_there driver.1) (total_votes driver.1.descriptor))
 

@@ -12,15 +12,15 @@ use Rattle.lvm_group_lines.specs.passed.Names.{is_of_volume, HaveAllLanded}
 use Rattle.lvm_keeps.proofs.Lists.{count_cons}
 use Rattle.lvm_session.specs.State.{Core, State}
 use Rattle.lvm_group_lines.specs.passed.Quiesce.{IsBehindEach}
-use Rattle.lvm_steps.specs.Behind.{IsBehind}
-use Rattle.lvm_session.specs.Sound.{IsLit}
+use Rattle.lvm_steps.specs.Behind.{StampsAreEarlier}
+use Rattle.lvm_session.specs.Sound.{HasPower}
 use Rattle.lvm_group_lines.specs.passed.Tie.{LeavesDescriptors}
 use Rattle.lvm_posts.specs.declared.posts.Post.{Post}
 use Rattle.lvm_posts.specs.Posts.{takings}
 use Rattle.lvm_group_lines.specs.declared.holder.Holder.TheVariants as holder
 use Rattle.lvm_group_lines.specs.declared.reply.Reply.{Reply}
 use Rattle.lvm_group_lines.specs.declared.stage.Stage.{Stage}
-use Rattle.lvm_group_lines.specs.Moments.{GoesOn, HasBegunHeld, IsAlone, OfRequests}
+use Rattle.lvm_group_lines.specs.Moments.{LineGoesOn, HasBegunHeld, IsAlone, OfRequests}
 use Rattle.lvm_group_lines.specs.Replies.{IsStuck, most_refusals}
 use Rattle.lvm_group_lines.specs.Stages.{HaveRooms, IsFittingStage, history_in, session_in, shelf_in, state_in}
 use Rattle.lvm_group_lines.specs.State.{ArePosted, IsOnBetween, StandsAlone, ScriptState}
@@ -73,7 +73,7 @@ gone_volumes (OneGone {posts} {facts} {answers} before post have total answer en
 -- ---- what it leaves
 
 module _ {S : Type 0} (device : S → Device) (run : ℕ) (old : ScriptState) (closed stage : Stage S) (last : ℕ) (answer : Reply) (waits : WaitsBehind device closed stage answer) (mid_off : session_in closed ≡ None)
-    (run_is : run ≡ (history_in closed).run) (says : Reply) (heard : IsStuck says → ⊥) (goes : GoesOn run OfRequests says old (state_in device closed last)) (few : length closed.posts.items ≤ length old.posts) where
+    (run_is : run ≡ (history_in closed).run) (says : Reply) (heard : IsStuck says → ⊥) (goes : LineGoesOn run OfRequests says old (state_in device closed last)) (few : length closed.posts.items ≤ length old.posts) where
   abbrev pub new : ScriptState
   new = state_in device stage last
 
@@ -83,7 +83,7 @@ module _ {S : Type 0} (device : S → Device) (run : ℕ) (old : ScriptState) (c
   moment_is : (facts : List Fact) → at (device (shelf_in closed)) facts ≡ at (device (shelf_in stage)) facts
   moment_is facts = ap (λ (d : Device). at d facts) (sym waits.shelf)
 
-  pub behind_goes : GoesOn run OfRequests answer old new
+  pub behind_goes : LineGoesOn run OfRequests answer old new
   behind_goes = record {
     keeps = λ timely alone began span stands. (
       subst (Keeps run began) (moment_is (history_in stage).facts) (subst (λ r. Keeps r began (at (device (shelf_in closed)) (history_in stage).facts)) (sym run_is)
@@ -94,9 +94,9 @@ module _ {S : Type 0} (device : S → Device) (run : ℕ) (old : ScriptState) (c
       ahead = record { run_is = t.ahead.run_is; later = waits.later.later (last + 1) t.ahead.later; behind = subst (λ (d : Device). IsBehindEach (last + 1) d) (sym waits.shelf) t.ahead.behind };
       session = subst (λ (o : Option Core). IfSome o (λ (core : Core). core.status.stamp.epoch ≤ last)) (sym waits.off) tt;
     };
-    left = λ timely. let t = goes.left timely in record { run_is = t.run_is; later = waits.later.later (last + 1) t.later; behind = subst (λ (d : Device). IsBehind (last + 1) d) (sym waits.shelf) t.behind };
+    left = λ timely. let t = goes.left timely in record { run_is = t.run_is; later = waits.later.later (last + 1) t.later; behind = subst (λ (d : Device). StampsAreEarlier (last + 1) d) (sym waits.shelf) t.behind };
     between = λ ok. let b = goes.between heard in record {
-      lit = subst IsLit (sym waits.shelf) b.lit;
+      lit = subst HasPower (sym waits.shelf) b.lit;
       descriptors = subst LeavesDescriptors (sym waits.shelf) b.descriptors;
       landed = subst (λ (o : Option Core). IfNone o (HaveAllLanded (history_in stage).facts)) (sym waits.off) (λ id. waits.later.opens id ∙ subst (λ (o : Option Core). IfNone o (HaveAllLanded (history_in closed).facts)) mid_off b.landed id);
       session = subst (λ (o : Option Core). IfSome o (IsOnBetween (device (shelf_in stage)))) (sym waits.off) tt;

@@ -15,7 +15,7 @@ use Rattle.lvm_group_lines.specs.passed.TieCommands.{StandsAfter}
 use Rattle.lvm_group_lines.specs.declared.reply.Reply.{Reply}
 use Rattle.lvm_group_lines.specs.declared.stage.Stage.{Stage}
 use Rattle.lvm_group_lines.specs.Ends.{EndsUnasked}
-use Rattle.lvm_group_lines.specs.Moments.{GoesOn, OfRequests}
+use Rattle.lvm_group_lines.specs.Moments.{LineGoesOn, OfRequests}
 use Rattle.lvm_group_lines.specs.Stages.{HaveRooms, IsBetweenStage, IsFittingStage, history_in, session_in, shelf_in, state_in}
 use Rattle.lvm_group_lines.specs.State.{ArePosted, IsOnBetween, ScriptState, without_facts}
 use Rattle.lvm_group_lines.specs.declared.reply.Reply.TheVariants as reply
@@ -113,7 +113,7 @@ module _ {S : Type 0} (device : S → Device) (first : S × Core) (posts : Vec P
     spares = λ some. absurd (some no_volume);
   }
 
-  goes_there : (last : ℕ) → GoesOn first.1.history.run OfRequests answer (state_in device old last) (behind (state (device first.0) core) last)
+  goes_there : (last : ℕ) → LineGoesOn first.1.history.run OfRequests answer (state_in device old last) (behind (state (device first.0) core) last)
   goes_there last = record {
     keeps = λ timely alone began span stands. (enters.keeps began (device first.0) span, λ heard past begins alone_then. still_stands past (stands past begins alone_then));
     timely = λ heard timely. record { ahead = record { run_is = timely.ahead.run_is; later = enters.later.later (last + 1) timely.ahead.later; behind = timely.ahead.behind }; session = timely.session };
@@ -133,13 +133,13 @@ module _ {S : Type 0} (device : S → Device) (first : S × Core) (posts : Vec P
     few = let some = refused_few takes answer tells in omega (arith, some);
   }
     where
-      still : GoesOn first.1.history.run OfRequests reply.Ok (state_in device old last) (state_in device old last)
+      still : LineGoesOn first.1.history.run OfRequests reply.Ok (state_in device old last) (state_in device old last)
       still = still_goes first.1.history.run OfRequests reply.Ok (state_in device old last) between (omega arith)
 
   pub rest_ends : EndsUnasked device (λ log. WaitDoes) ⊥ OfRequests old stage answer
   rest_ends last = record {
     does = AtRest first.1 refl no_volume (record { answers = endings; end = state_of device end; takes = takes; runs = runs; sound = sound; goes = goes_as last; tells = tells });
-    goes = subst (GoesOn first.1.history.run OfRequests answer (state_in device old last)) (sym (after_is last)) (goes_there last);
+    goes = subst (LineGoesOn first.1.history.run OfRequests answer (state_in device old last)) (sym (after_is last)) (goes_there last);
     rooms = ap (λ (s : Stage S). without_facts (history_in s)) is ∙ ap without_facts log_is;
     fits = subst IsFittingStage (sym is) (record {
       kind = ap (λ (s : State). s.core.descriptor.lvs) enters.is ∙ no_volume;

@@ -20,14 +20,14 @@ use Rattle.lvm_group_lines.specs.declared.reply.Refusal.TheVariants as refusal
 use Rattle.lvm_group_lines.specs.declared.reply.Reply.{Reply}
 use Rattle.lvm_group_lines.specs.declared.stage.Stage.{Stage}
 use Rattle.lvm_group_lines.specs.Ends.{EndsUnasked}
-use Rattle.lvm_group_lines.specs.Moments.{GoesOn, OfRequests}
+use Rattle.lvm_group_lines.specs.Moments.{LineGoesOn, OfRequests}
 use Rattle.lvm_group_lines.specs.Replies.{IsStuck, most_refusals}
-use Rattle.lvm_group_lines.specs.Stages.{HaveRooms, IsBetweenStage, IsCarried, IsEnded, IsFittingStage, history_in, shelf_in, state_in}
+use Rattle.lvm_group_lines.specs.Stages.{HaveRooms, IsBetweenStage, IsCarriedOn, SessionIsClosed, IsFittingStage, history_in, shelf_in, state_in}
 use Rattle.lvm_group_lines.specs.State.{ArePosted, ScriptState, without_facts}
 use Rattle.lvm_group_lines.specs.declared.reply.Reply.TheVariants as reply
 use Rattle.lvm_group_lines.proofs.MomentsLemmas.Running.{over_goes}
 use Rattle.lvm_range_lines.specs.Leaving.{GoesOnWith, Waited, serving}
-use Rattle.lvm_range_lines.specs.Taking.{GoesBehind, IsClosedBehind, LandedEnds}
+use Rattle.lvm_range_lines.specs.Taking.{SessionFollows, IsClosedBehind, LandedEnds}
 use Rattle.lvm_range_lines.specs.Waiting.{AllHaveLanded, Awaits, Goes, InVain, IsAwaited, Over, TurnsForPosts, WaitDoes, WaitEnds}
 use Rattle.lvm_range_lines.proofs.WaitingLemmas.Behind.{behind_goes, posts_few, waits_off}
 use Rattle.lvm_range_lines.proofs.LeavingLemmas.Ending.{RunsTo, carried_ends, closed_orders, ended_is_over, its, runs_to, stuck_ends, unstuck}
@@ -60,7 +60,7 @@ module _ {S : Type 0} (device : S → Device) (first : S × Core) (posts : Vec P
   -- ---- it goes on
 
   module _ (landed : AllHaveLanded posts.items (state_of device mid)) (stage : Stage S) (answer : Reply) (fits_then : IsFittingStage stage) where
-    module _ (on : mid.1.power ≡ power.On) (goes : GoesBehind device mid stage answer posts.items) where
+    module _ (on : mid.1.power ≡ power.On) (goes : SessionFollows device mid stage answer posts.items) where
       all : RunsOn (state_of device first) (state_of device goes.end)
       all = runs_both (state_of device first) (state_of device mid) (state_of device goes.end) runs goes.runs
 
@@ -84,7 +84,7 @@ module _ {S : Type 0} (device : S → Device) (first : S × Core) (posts : Vec P
       on_ends = carried_ends device first posts bytes fits between goes.end to_end Does goes.none goes.bytes rooms1 stage answer few_left
           (λ last. does_so stage answer last (Goes on landed (record { answers = goes.endings; end = state_of device goes.end; takes = goes.takes; runs = goes.runs; sound = goes.sound; goes = goes_as last; tells = goes.tells })))
           (none_posted goes.end.1.history.facts (Some goes.end.1) goes.none.items goes.empty) (subst (λ (s : Stage S). HaveRooms first.1.history.room s.posts s.bytes) (sym goes.is) rooms1) (λ power_is. (path_frames all).copy between.session.copy)
-          (subst (λ (p : Power). IsCarried device goes.end goes.none goes.bytes p stage) (sym goes.on) goes.is)
+          (subst (λ (p : Power). IsCarriedOn device goes.end goes.none goes.bytes p stage) (sym goes.on) goes.is)
 
     -- ---- it is over
 
@@ -95,7 +95,7 @@ module _ {S : Type 0} (device : S → Device) (first : S × Core) (posts : Vec P
       long : length behind.closed.posts.items ≡ length posts.items
       long = long_ended device mid posts behind.closed behind.ended
 
-      goes_closed : (last : ℕ) → GoesOn first.1.history.run OfRequests reply.Ok (state_in device old last) (state_in device behind.closed last)
+      goes_closed : (last : ℕ) → LineGoesOn first.1.history.run OfRequests reply.Ok (state_in device old last) (state_in device behind.closed last)
       goes_closed last =
           over_goes OfRequests (state_in device old last) first.1 (state_of device mid) (its device first posts bytes fits between mid to_mid last) reply.Ok (state_in device behind.closed last) behind.ended.shelf (ap (λ (log : Log). log.facts) log_is)
           behind.ended.session refl (unstuck device first posts bytes fits between mid to_mid) (λ heard. over) (posted_ended device mid posts behind.closed behind.ended sound over posted) (λ not_asking. absurd (not_asking tt)) (omega (arith, long))
@@ -130,7 +130,7 @@ module _ {S : Type 0} (device : S → Device) (first : S × Core) (posts : Vec P
 
   -- ---- in vain
 
-  module _ (awaited : IsAwaited posts.items (state_of device mid)) (none : left ≡ 0) (stage : Stage S) (ended : IsEnded device mid posts.items stage) (rooms_then : HaveRooms first.1.history.room stage.posts stage.bytes) (answer : Reply)
+  module _ (awaited : IsAwaited posts.items (state_of device mid)) (none : left ≡ 0) (stage : Stage S) (ended : SessionIsClosed device mid posts.items stage) (rooms_then : HaveRooms first.1.history.room stage.posts stage.bytes) (answer : Reply)
       (says : answer ≡ reply.Refused refusal.Stuck) where
     pub vain_ends : EndsUnasked device Does ⊥ OfRequests old stage answer
     vain_ends =

@@ -1,2 +1,2 @@
 -- Passed on from `lvm_handover`.
-pub use Rattle.lvm_group_lines.specs.passed.Handover.{IsCommanded, IsServed, MayServe, MayHandOver, StaysSound}
+pub use Rattle.lvm_group_lines.specs.passed.Handover.{IsCommanded, OriginIsMarked, MayServe, MayHandOver, StaysSound}

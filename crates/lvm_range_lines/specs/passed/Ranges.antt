@@ -1,2 +1,2 @@
 -- Passed on from `lvm_ranges`.
-pub use Rattle.lvm_group_lines.specs.passed.Ranges.{AnyFailed, AskRangeFault, KeepsTable, Moves, NoMove, OneMove, RangeCause}
+pub use Rattle.lvm_group_lines.specs.passed.Ranges.{AnyFailed, AskRangeFault, KeepsTable, MovesTurns, NoMove, OneMove, RangeCause}

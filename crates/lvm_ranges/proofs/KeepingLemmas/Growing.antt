@@ -7,7 +7,7 @@ use Rattle.std.proofs.lemmas.List.Folds.{list_any-append}
 use Rattle.lvm_num.proofs.Booleans.{or_false, not_so}
 use Rattle.lvm_vol.specs.declared.entry.Outcome.{Outcome}
 use Rattle.lvm_vol.specs.declared.entry.Outcome.TheVariants as outcome
-use Rattle.lvm_vol.specs.Facts.{Fact, Request, Begun, Stands, begun, begun_by}
+use Rattle.lvm_vol.specs.Facts.{Fact, Request, Begun, IsInList, begun, begun_by}
 use Rattle.lvm_vol.specs.Log.{asked, has_id, is_answered, is_open, lands_id, landed_fact, no_request, request_of, takes_id}
 use Rattle.lvm_vol.specs.Order.{Ordered}
 use Rattle.lvm_vol.proofs.FactsLemmas.Order.{any-push, numbered, stands_begun}
@@ -156,7 +156,7 @@ open_stays old new grows id closed =
     by true true c e = refl
     by true false c e = not_so (sym e)
 
-stands_in : (past rest : List Fact) (f : Fact) → Stands f (past ++ f ∷ rest)
+stands_in : (past rest : List Fact) (f : Fact) → IsInList f (past ++ f ∷ rest)
 stands_in [] rest f = inl refl
 stands_in (g ∷ past) rest f = inr (stands_in past rest f)
 
@@ -164,7 +164,7 @@ stands_in (g ∷ past) rest f = inr (stands_in past rest f)
 is_told : (run : ℕ) (facts : List Fact) → Ordered run [] facts → (id place count : ℕ) (read : IsReadAt facts id place count) → asked facts id ≡ Some read.request
 is_told run facts ordered id place count read =
     ap (λ n. find (has_id n) (begun facts)) (sym read.own)
-    ∙ find_at 1 (begun facts) read.request (numbered run facts ordered).ids (stands_begun facts read.request (subst (λ (l : List Fact). Stands (Begun read.request) l) (sym read.is) (stands_in read.past read.rest (Begun read.request))))
+    ∙ find_at 1 (begun facts) read.request (numbered run facts ordered).ids (stands_begun facts read.request (subst (λ (l : List Fact). IsInList (Begun read.request) l) (sym read.is) (stands_in read.past read.rest (Begun read.request))))
 
 read_stays : (run : ℕ) (old new : List Fact) → Ordered run [] old → Grows old new → (id place count : ℕ) → IsReadAt old id place count → IsReadAt new id place count
 read_stays run old new ordered grows id place count read = record {

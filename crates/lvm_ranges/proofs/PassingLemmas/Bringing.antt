@@ -19,7 +19,7 @@ use Rattle.lvm_ranges.specs.passed.Names.{IsCopyCaused, NoTurn, is_marked, RunsO
 use Rattle.lvm_session.specs.declared.answers.Turned.TheVariants as told
 use Rattle.lvm_ranges.specs.declared.fault.SyncFault.{SyncFault}
 use Rattle.lvm_ranges.specs.Keeping.{KeepsTable}
-use Rattle.lvm_ranges.specs.Passing.{HasEnded, IsEnded, IsJustOpened, IsSameCopy, Runs, EndsTurning, EachTurnWhile}
+use Rattle.lvm_ranges.specs.Passing.{CopyHasEnded, HasEndedFor, IsJustOpened, IsSameCopy, Runs, EndsTurning, EachTurnWhile}
 use Rattle.lvm_ranges.specs.Turning.{GoesBeside, IsUnderWay, MakesLast, MakesTurn}
 use Rattle.lvm_keeps.proofs.StateLemmas.{state_brought}
 use Rattle.lvm_ranges.proofs.PassingLemmas.Open.{IsOpenStill, just_opened, turn_open}
@@ -49,17 +49,17 @@ pub runs_under_way : (s : State) → IsSound s → Runs s.core → IsUnderWay s
 runs_under_way s sound runs drained = still_ended s sound drained runs
 
 -- one that has ended otherwise than with the session has ended as a caller expects it
-has_ended : (core : Core) (c : OpenCopy) → (c.end ≡ Some ending.Ended → ⊥) → ((cursor : ℕ) → state_of_copy core c ≡ copy.Running cursor → ⊥) → HasEnded (state_of_copy core c)
+has_ended : (core : Core) (c : OpenCopy) → (c.end ≡ Some ending.Ended → ⊥) → ((cursor : ℕ) → state_of_copy core c ≡ copy.Running cursor → ⊥) → CopyHasEnded (state_of_copy core c)
 has_ended core c goes still = by (is_out c.step || is_still_aimed core c) (is_moved core c) c.end goes still
   where
-    of : (how : CopyEnd) → (how ≡ ending.Ended → ⊥) → HasEnded (state_at_end c how)
+    of : (how : CopyEnd) → (how ≡ ending.Ended → ⊥) → CopyHasEnded (state_at_end c how)
     of ending.Done ends = tt
     of ending.SyncFailed ends = tt
     of ending.NoFresh ends = tt
     of ending.Ended ends = absurd (ends refl)
 
     by : (b d : Bool) (m : Option CopyEnd) → (m ≡ Some ending.Ended → ⊥) → ((cursor : ℕ) → (if b then copy.Running c.cursor else if d then copy.Done else option_map_or (state_at_end c) m (copy.Running c.cursor)) ≡ copy.Running cursor → ⊥)
-        → HasEnded (if b then copy.Running c.cursor else if d then copy.Done else option_map_or (state_at_end c) m (copy.Running c.cursor))
+        → CopyHasEnded (if b then copy.Running c.cursor else if d then copy.Done else option_map_or (state_at_end c) m (copy.Running c.cursor))
     by true d m ends runs = absurd (runs c.cursor refl)
     by false true m ends runs = tt
     by false false None ends runs = absurd (runs c.cursor refl)
@@ -119,8 +119,8 @@ module _ (first old : State) (patience left : ℕ) (so_far : BroughtSoFar first 
   state_is : copy_state old.core ≡ state_of_copy old.core it
   state_is = ap (λ m. option_map_or (state_of_copy old.core) m copy.Closed) so_far.still.is_open
 
-  pub ends_as : (Runs old.core → ⊥) → HasEnded (copy_state old.core)
-  ends_as over = subst HasEnded (sym state_is) (has_ended old.core it so_far.still.goes (λ cursor e. over (cursor, state_is ∙ e)))
+  pub ends_as : (Runs old.core → ⊥) → CopyHasEnded (copy_state old.core)
+  ends_as over = subst CopyHasEnded (sym state_is) (has_ended old.core it so_far.still.goes (λ cursor e. over (cursor, state_is ∙ e)))
 
   fresh : (new : State) → new ≡ state old.device (closed old.core) → copy_state old.core ≡ copy.Done → IfSome first.core.copy (λ (c : OpenCopy). is_marked new.core c.pp ≡ false)
   fresh new is done = subst (λ (m : Option OpenCopy). IfSome m (λ (c : OpenCopy). is_marked new.core c.pp ≡ false)) (sym so_far.its) (ap (is_marked new.core) (sym so_far.still.its.0) ∙ here)
@@ -131,7 +131,7 @@ module _ (first old : State) (patience left : ℕ) (so_far : BroughtSoFar first 
   same : IfSome first.core.copy (λ (c : OpenCopy). IfSome old.core.copy (IsSameCopy c))
   same = subst (λ (m : Option OpenCopy). IfSome m (λ (c : OpenCopy). IfSome old.core.copy (IsSameCopy c))) (sym so_far.its) (subst (λ (m : Option OpenCopy). IfSome m (IsSameCopy so_far.begun)) (sym so_far.still.is_open) so_far.still.its)
 
-  pub closes : (new : State) → IsCopyCaused old → new ≡ state old.device (closed old.core) → RunsOn old new → IsEnded patience left first new (copy_state old.core) × GoesBeside first new patience left
+  pub closes : (new : State) → IsCopyCaused old → new ≡ state old.device (closed old.core) → RunsOn old new → HasEndedFor patience left first new (copy_state old.core) × GoesBeside first new patience left
   closes new caused is runs = (record { ended = old; turns = so_far.turns; how_is = refl; same = same; caused = caused; is = is; fresh = fresh new is }, beside_both first old new patience left left so_far.beside here)
     where
       none : GoesBeside old old left left

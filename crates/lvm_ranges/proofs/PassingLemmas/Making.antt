@@ -11,7 +11,7 @@ use Rattle.lvm_session.specs.Bringing.{step_place}
 use Rattle.lvm_session.specs.Calls.{Opens, copy_at, faults_of, opened as opened_copy}
 use Rattle.lvm_session.specs.State.{Core, State}
 use Rattle.lvm_ranges.specs.passed.Names.{is_marked}
-use Rattle.lvm_ranges.specs.Passing.{Copy, IsEnded, IsMadeFresh, IsOpened}
+use Rattle.lvm_ranges.specs.Passing.{Copy, HasEndedFor, IsMadeFresh, IsOpened}
 
 -- the copy as it is opened
 abbrev pub as_opened : (counts : Counts) (old new : Core) (lv lp number : ℕ) → Opens counts old new lv lp number → OpenCopy
@@ -24,7 +24,7 @@ its_pp c patience left old opened opens = let e : Some opens.opens.pp ≡ Some c
     at : copy_at (copies_of opens.opens.row c.lp) c.number ≡ Some c.pp
     at = sym (ap (λ m. copy_at (option_map_or (λ (r : LvRow). copies_of r c.lp) m []) c.number) opens.opens.volume) ∙ opens.its
 
-pub made_fresh : (c : Copy) (patience before left : ℕ) (old opened new : State) → IsOpened c patience before old opened → IsEnded before left opened new copy.Done → IsMadeFresh c patience left old new
+pub made_fresh : (c : Copy) (patience before left : ℕ) (old opened new : State) → IsOpened c patience before old opened → HasEndedFor before left opened new copy.Done → IsMadeFresh c patience left old new
 made_fresh c patience before left old opened new opens ends = record {
   brings = record { opened = opened; before = before; opens = opens; ends = ends };
   fresh = ap (is_marked new.core) (sym (its_pp c patience before old opened opens)) ∙ here;

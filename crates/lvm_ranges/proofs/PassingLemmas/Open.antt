@@ -20,7 +20,7 @@ use Rattle.lvm_session.specs.declared.flown.Owner.TheVariants as owner
 use Rattle.lvm_session.specs.declared.open.Power.TheVariants as power
 use Rattle.lvm_session.specs.Bringing.{after_copy_end, copy_ends, end_of, ends_if, is_cleared, is_idle, is_out, is_whole, next_source, sources_of, step_place, with_copy_end, with_end}
 use Rattle.lvm_session.specs.Calls.{copy_state, state_at_end, state_of_copy}
-use Rattle.lvm_session.specs.Ends.{CopyLearns, GoesOn, Learns, NoteLearns, StepLearns, StepLeaves, after_data, learned, with_copy, with_return, without_step}
+use Rattle.lvm_session.specs.Ends.{CopyLearns, CopyStepsOn, Learns, NoteLearns, StepLearns, StepLeaves, after_data, learned, with_copy, with_return, without_step}
 use Rattle.lvm_session.specs.Judging.{is_clear, is_missing, is_running, is_stale, is_wanted_stale}
 use Rattle.lvm_session.specs.Marks.{Reviews, end_by_write, hits_copy}
 use Rattle.lvm_session.specs.Sound.{IsCopy, IsSound}
@@ -196,7 +196,7 @@ module _ (begun : OpenCopy) (old : State) (sound : IsSound old) (on : old.core.p
   note_open new at disk true buf it = still begun new (same_copy begun old.core new (ap (λ (c : Core). c.copy) it) was)
   note_open new at disk false buf it = review_open begun _ new it.2 (put begun was.brings _ was.copy was.is_open was.its was.goes was.undone) rests
 
-  goes_on : (b : Bool) (core : Core) (c : OpenCopy) (next : Core) → GoesOn b core c next → next.copy ≡ Some c
+  goes_on : (b : Bool) (core : Core) (c : OpenCopy) (next : Core) → CopyStepsOn b core c next → next.copy ≡ Some c
   goes_on false core c next it = ap (λ (x : Core). x.copy) it
   goes_on true core c next it = ap (λ (x : Core). x.copy) it.1
 

@@ -14,7 +14,7 @@ use Rattle.lvm_ranges.specs.declared.fault.SyncFault.{SyncFault}
 use Rattle.lvm_ranges.specs.declared.fault.SyncFault.TheVariants as fault
 use Rattle.lvm_ranges.specs.declared.tally.Tally.{Tally}
 use Rattle.lvm_ranges.specs.Passing.{Copy}
-use Rattle.lvm_ranges.specs.Syncing.{ArePassed, IsAnswer, Passes, StopsAmong, SyncEnds, SyncGives, Syncs, fault_by, fault_on, no_tally, numbers_fault}
+use Rattle.lvm_ranges.specs.Syncing.{ArePassed, IsAnswer, PassesCopies, StopsAmong, SyncEnds, SyncGives, Syncs, fault_by, fault_on, no_tally, numbers_fault}
 use Rattle.lvm_ranges.proofs.SyncingLemmas.Staying.{leaves_fresh}
 
 -- a session that goes on, of which no copy is open
@@ -64,8 +64,8 @@ module _ (refused : Option SyncFault) (copies : List Copy) (patience left : ℕ)
       → SyncGives refused copies patience left old new answer
   synced tally answer is sound on none passed answers = begun answer is (by answer answers)
     where
-      all : (t : Tally) → tally ≡ t → Passes old no_tally patience copies new t left
-      all t same = subst (λ (x : Tally). Passes old no_tally patience copies new x left) same passed.0
+      all : (t : Tally) → tally ≡ t → PassesCopies old no_tally patience copies new t left
+      all t same = subst (λ (x : Tally). PassesCopies old no_tally patience copies new x left) same passed.0
 
       by : (a : Result ℕ SyncFault) → IsAnswer tally a → SyncEnds copies patience left old new a
       by (Ok made) same =

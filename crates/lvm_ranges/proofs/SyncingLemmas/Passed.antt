@@ -13,7 +13,7 @@ use Rattle.lvm_ranges.proofs.passed.Names.{of_place}
 use Rattle.lvm_ranges.specs.declared.copies.Passed.{Passed}
 use Rattle.lvm_ranges.specs.declared.fault.SyncFault.{SyncFault}
 use Rattle.lvm_ranges.specs.declared.tally.Tally.{Tally}
-use Rattle.lvm_ranges.specs.Passing.{Copy, IsEnded, IsJustOpened, IsOpened, IsPassed, IsPassedBy, EndsAtCopy, copy_of}
+use Rattle.lvm_ranges.specs.Passing.{Copy, HasEndedFor, IsJustOpened, IsOpened, IsPassed, IsPassedBy, EndsAtCopy, copy_of}
 use Rattle.lvm_ranges.specs.Syncing.{ArePassed, NonePassed, OnePassed, StopsAmong, copies_at, copy_in, volume_copies, with_passed}
 use Rattle.lvm_ranges.proofs.PassingLemmas.Making.{made_fresh}
 
@@ -23,7 +23,7 @@ opened_just c patience left old opened opens = (_, ap (λ (k : Core). k.copy) op
 
 module _ (c : Copy) (patience before left : ℕ) (old opened new : State) (opens : IsOpened c patience before old opened) where
   -- it is passed as it has ended
-  pub passed_so : (how : CopyState) (result : Passed) → IsEnded before left opened new how → IsPassedBy c.lp how result → IsPassed c patience left old new result
+  pub passed_so : (how : CopyState) (result : Passed) → HasEndedFor before left opened new how → IsPassedBy c.lp how result → IsPassed c patience left old new result
   passed_so copy.Done result ends is = subst (IsPassed c patience left old new) (sym is) (made_fresh c patience before left old opened new opens ends, ap (λ (s : State). s.core.copy) ends.is)
   passed_so (copy.SyncFailed disk) result ends is = subst (IsPassed c patience left old new) (sym is) (inr (record { opened = opened; before = before; opens = opens; ends = ends }), ap (λ (s : State). s.core.copy) ends.is)
   passed_so copy.NoFresh result ends is = subst (IsPassed c patience left old new) (sym is) (inr (refl, record { opened = opened; before = before; opens = opens; ends = ends }), ap (λ (s : State). s.core.copy) ends.is)

@@ -8,20 +8,20 @@ use Rattle.lvm_session.specs.State.{State}
 use Rattle.lvm_ranges.specs.declared.fault.SyncFault.{SyncFault}
 use Rattle.lvm_ranges.specs.declared.tally.Tally.{Tally}
 use Rattle.lvm_ranges.specs.Passing.{Copy}
-use Rattle.lvm_ranges.specs.Syncing.{ArePassed, NonePassed, OnePassed, Passes, StopsAmong, below, with_passed}
+use Rattle.lvm_ranges.specs.Syncing.{ArePassed, NonePassed, OnePassed, PassesCopies, StopsAmong, below, with_passed}
 use Rattle.lvm_ranges.specs.Turning.{GoesBeside}
 use Rattle.lvm_ranges.proofs.TurningLemmas.{beside_both, beside_none, unstuck_beside}
 
 -- some copies, and others behind them
-pub passes_both : (first mid : State) (from t : Tally) (patience half : ℕ) (xs : List Copy) → Passes first from patience xs mid t half → (ys : List Copy) (new : State) (to : Tally) (left : ℕ) → Passes mid t half ys new to left
-    → Passes first from patience (xs ++ ys) new to left
-passes_both first mid from t patience half xs one ys new to left NonePassed = subst (λ (copies : List Copy). Passes first from patience copies mid t half) (sym (append-nil xs)) one
+pub passes_both : (first mid : State) (from t : Tally) (patience half : ℕ) (xs : List Copy) → PassesCopies first from patience xs mid t half → (ys : List Copy) (new : State) (to : Tally) (left : ℕ) → PassesCopies mid t half ys new to left
+    → PassesCopies first from patience (xs ++ ys) new to left
+passes_both first mid from t patience half xs one ys new to left NonePassed = subst (λ (copies : List Copy). PassesCopies first from patience copies mid t half) (sym (append-nil xs)) one
 passes_both first mid from t patience half xs one ys new to left (OnePassed {copies} {old} {tally} {before} c how rest it) =
-    subst (λ (l : List Copy). Passes first from patience l new (with_passed tally how) left) (append_assoc xs copies (c ∷ [])) (OnePassed c how (passes_both first mid from t patience half xs one copies old tally before rest) it)
+    subst (λ (l : List Copy). PassesCopies first from patience l new (with_passed tally how) left) (append_assoc xs copies (c ∷ [])) (OnePassed c how (passes_both first mid from t patience half xs one copies old tally before rest) it)
 
 -- So far those below a number are passed, and no copy is open.
 pub record PassedSoFar (of : ℕ → List Copy) (first now : State) (from to : Tally) (n patience left : ℕ) : Type 0 where
-  pub passes : Passes first from patience (below of n) now to left
+  pub passes : PassesCopies first from patience (below of n) now to left
   pub none : now.core.copy ≡ None
   pub unstuck : now.core.power ≡ power.Stuck → ⊥
   pub beside : GoesBeside first now patience left
@@ -35,7 +35,7 @@ module _ (of : ℕ → List Copy) (first old new : State) (from t to : Tally) (n
 
   one_more : ArePassed (of n) left after old new t to tt → GoesBeside old new left after → PassedSoFar of first new from to (n + 1) patience after
   one_more it beside = record {
-    passes = let next : suc n ≡ n + 1 = omega arith in subst (λ (k : ℕ). Passes first from patience (below of k) new to after) next (passes_both first old from t patience left (below of n) so_far.passes (of n) new to after it.0);
+    passes = let next : suc n ≡ n + 1 = omega arith in subst (λ (k : ℕ). PassesCopies first from patience (below of k) new to after) next (passes_both first old from t patience left (below of n) so_far.passes (of n) new to after it.0);
     none = it.1;
     unstuck = unstuck_beside old new left after beside so_far.unstuck;
     beside = stops beside;
@@ -91,4 +91,4 @@ stops_of f first old new from t n patience left after so_far why m less it =
 
 -- all of them are passed
 pub all_of : (of : ℕ → List Copy) (first now : State) (from to : Tally) (n m patience left : ℕ) → PassedSoFar of first now from to n patience left → n ≡ m → ArePassed (below of m) patience left first now from to tt
-all_of of first now from to n m patience left so_far same = (subst (λ (k : ℕ). Passes first from patience (below of k) now to left) same so_far.passes, so_far.none)
+all_of of first now from to n m patience left so_far same = (subst (λ (k : ℕ). PassesCopies first from patience (below of k) now to left) same so_far.passes, so_far.none)

@@ -33,8 +33,8 @@ use Rattle.lvm_ranges.proofs.passed.Names.{own_pp, pp_same, seen_open_keeps, tur
 use Rattle.lvm_ranges.specs.declared.copies.Passed.TheVariants as passed
 use Rattle.lvm_ranges.specs.declared.fault.SyncFault.{SyncFault}
 use Rattle.lvm_ranges.specs.declared.tally.Tally.{Tally}
-use Rattle.lvm_ranges.specs.Passing.{Copy, IsEnded, IsFresh, IsMadeFresh, IsOpened, IsUnsettled, Runs}
-use Rattle.lvm_ranges.specs.Syncing.{IsStaleFor, LeavesFresh, NonePassed, OnePassed, Passes, is_made_among, no_tally, or_first}
+use Rattle.lvm_ranges.specs.Passing.{Copy, HasEndedFor, WasFresh, IsMadeFresh, IsOpened, IsUnsettled, Runs}
+use Rattle.lvm_ranges.specs.Syncing.{IsStaleFor, LeavesFresh, NonePassed, OnePassed, PassesCopies, is_made_among, no_tally, or_first}
 use Rattle.lvm_ranges.proofs.PassingLemmas.Making.{as_opened, its_pp}
 use Rattle.lvm_keeps.proofs.StateLemmas.{state_ended}
 use Rattle.lvm_ranges.proofs.PassingLemmas.Open.{IsOpenStill, just_opened, turn_open}
@@ -233,7 +233,7 @@ module _ (c : Copy) (first old new : State) (made : Pp → Bool) (so_far : Stays
   opens : IsOpened c patience it.brings.before old opened
   opens = it.brings.opens
 
-  ends : IsEnded it.brings.before left opened new copy.Done
+  ends : HasEndedFor it.brings.before left opened new copy.Done
   ends = it.brings.ends
 
   abbrev q : Pp
@@ -343,7 +343,7 @@ module _ (first : State) (sound : IsSound first) (on : first.core.power ≡ powe
 
   -- one more is passed
   module _ (copies : List Copy) (old new : State) (made : Pp → Bool) (c : Copy) (left : Left first old copies made) where
-    fresh_left : (patience after : ℕ) → IsFresh c patience after old new → Left first new (copies ++ c ∷ []) made
+    fresh_left : (patience after : ℕ) → WasFresh c patience after old new → Left first new (copies ++ c ∷ []) made
     fresh_left patience spare it = record { stays = after.0; none = after.1; made_is = λ place d at settled. by place d settled (at_behind copies c d place at) }
       where
         after : Stays first new made nothing × (new.core.copy ≡ None)
@@ -372,7 +372,7 @@ module _ (first : State) (sound : IsSound first) (on : first.core.power ≡ powe
         by place d settled (inl before) = or_right (is_pp c.pp d.pp) (made d.pp) (left.made_is place d before settled)
         by place d settled (inr same) = ap (λ b. b || made d.pp) (ap (λ (x : Copy). is_pp c.pp x.pp) same ∙ own_pp c.pp)
 
-  passes_left : (patience rest : ℕ) (copies : List Copy) (now : State) (tally : Tally) (passes : Passes first no_tally patience copies now tally rest) → tally.fault ≡ None → Left first now copies (λ p. is_made_among p passes)
+  passes_left : (patience rest : ℕ) (copies : List Copy) (now : State) (tally : Tally) (passes : PassesCopies first no_tally patience copies now tally rest) → tally.fault ≡ None → Left first now copies (λ p. is_made_among p passes)
   passes_left patience spare all now total NonePassed well = record { stays = begins_so; none = shut; made_is = λ place c at settled. absurd (cc at) }
   passes_left patience spare all now total (OnePassed {copies} {old} {new} {tally} {before} c passed.Fresh rest it) well = fresh_left copies old new (λ p. is_made_among p rest) c (passes_left patience before copies old tally rest well) before spare it
   passes_left patience spare all now total (OnePassed {copies} {old} {new} {tally} {before} c passed.Made rest it) well = made_left copies old new (λ p. is_made_among p rest) c (passes_left patience before copies old tally rest well) before spare it
@@ -382,7 +382,7 @@ module _ (first : State) (sound : IsSound first) (on : first.core.power ≡ powe
       none None e = cc e
       none (Some first_one) e = cc e
 
-  pub leaves_fresh : (patience left : ℕ) (copies : List Copy) (new : State) (tally : Tally) (passes : Passes first no_tally patience copies new tally left) → tally.fault ≡ None → LeavesFresh copies patience left first new tally passes
+  pub leaves_fresh : (patience left : ℕ) (copies : List Copy) (new : State) (tally : Tally) (passes : PassesCopies first no_tally patience copies new tally left) → tally.fault ≡ None → LeavesFresh copies patience left first new tally passes
   leaves_fresh patience rest copies new tally passes well = record {
     made = left.made_is;
     others = λ p settled unmade. left.stays.lasting p settled unmade refl;

@@ -9,7 +9,7 @@ use Rattle.lvm_transfer.specs.declared.moves.Moved.{Moved}
 use Rattle.lvm_transfer.specs.declared.moves.Moved.TheVariants as moved
 use Rattle.lvm_raw.specs.declared.fault.RawFault.{RawFault}
 use Rattle.lvm_raw.specs.declared.fault.RawFault.TheVariants as fault
-use Rattle.lvm_raw.specs.Asking.{IsNoDisk, IsInData, IsOutside, HasRoomForPieces, IsFull, IsRejected, MayAsk}
+use Rattle.lvm_raw.specs.Asking.{IsNoDisk, IsInData, IsOutsideDisk, HasRoomForPieces, IsFull, IsRejected, MayAsk}
 use Rattle.lvm_raw.specs.Pieces.{piece_end, answer_after, with_front, PiecesGo, NoPiece, OnePiece, RangeGoes, WentThrough, WasBroken, WritesGo, ReadsGo}
 use Rattle.lvm_disk.specs.Counts.{Counts}
 use Rattle.lvm_steps.specs.Requests.{IsInNoGroup, at as moment_of}
@@ -28,7 +28,7 @@ module _ (device : Device) (log : Log) (disk at count : ℕ) where
   one_size : (a b : ℕ) → slice_get device.sizes disk ≡ Some a → slice_get device.sizes disk ≡ Some b → a ≡ b
   one_size a b p q = cc
 
-  not_outside : (size : ℕ) → IsInData device disk at count → IsOutside device disk at count size → ⊥
+  not_outside : (size : ℕ) → IsInData device disk at count → IsOutsideDisk device disk at count size → ⊥
   not_outside size inside out =
       let same : inside.size ≡ size = one_size inside.size size inside.is out.is in
       ⊎_elim (λ low. omega (arith, low, inside.low)) (λ high. omega (arith, high, inside.high, same)) out.outside

@@ -7,7 +7,7 @@ use Rattle.lvm_num.specs.declared.record.Stamp.{Stamp}
 use Rattle.lvm_num.specs.declared.record.Kind.{Kind}
 use Rattle.lvm_num.specs.declared.record.Framed.{Framed}
 use Rattle.lvm_num.specs.Record.{record_sectors, frame, joined, record_bytes, payload_of, announced, IsRecord, record_in}
-use Rattle.lvm_rec.specs.Frames.{MayBegin}
+use Rattle.lvm_rec.specs.Frames.{MayFrame}
 use Rattle.lvm_num.proofs.RecordLemmas.Records.{length-frame, enough, held_is_read, read_is_held, announced-is}
 
 -- ---- joined pieces
@@ -132,7 +132,7 @@ pub no_record : (kind : Kind) (slot : List ℕ) → ((i : ℕ) → Fits w8 (slic
 no_record kind slot bytes miss = none_or (record_in kind slot) (λ r e. miss r (read_is_held kind slot r (λ i. omega (arith, bytes i)) e))
 
 -- a slot that begins with the record of what its first sector announces holds that record
-pub held_record : (kind : Kind) (slot : List ℕ) (stamp : Stamp) (len : ℕ) (content : List ℕ) → MayBegin kind slot stamp len
+pub held_record : (kind : Kind) (slot : List ℕ) (stamp : Stamp) (len : ℕ) (content : List ℕ) → MayFrame kind slot stamp len
     → content ≡ take len (drop 4 (payload_of slot (record_sectors len)))
     → take (512 * record_sectors (length content)) slot ≡ record_bytes kind (record { stamp = stamp; content = content })
     → Some (record { stamp = stamp; content = content }) ≡ record_in kind slot
@@ -144,7 +144,7 @@ held_record kind slot stamp len content may is front =
     }))
 
 -- one that doesn't holds none
-pub other_record : (kind : Kind) (slot : List ℕ) (stamp : Stamp) (len : ℕ) (content : List ℕ) → ((i : ℕ) → Fits w8 (slice_index slot i)) → MayBegin kind slot stamp len
+pub other_record : (kind : Kind) (slot : List ℕ) (stamp : Stamp) (len : ℕ) (content : List ℕ) → ((i : ℕ) → Fits w8 (slice_index slot i)) → MayFrame kind slot stamp len
     → content ≡ take len (drop 4 (payload_of slot (record_sectors len)))
     → (take (512 * record_sectors (length content)) slot ≡ record_bytes kind (record { stamp = stamp; content = content }) → ⊥)
     → None ≡ record_in kind slot

@@ -17,7 +17,7 @@ use Rattle.lvm_vol.specs.declared.entry.Vol.TheVariants.{Lv}
 use Rattle.lvm_vol.specs.Facts.{Fact, Cut}
 use Rattle.lvm_vol.specs.May.{Known, known, IsValue}
 use Rattle.lvm_kept.specs.Contents.{Contents}
-use Rattle.lvm_kept.specs.Group.{passes, is_of, status_among, IsFound, members_in, ReadsBy, Reads, status_by, is_stale_by, fresh_on, block_at, IsBlockOf, is_named, IsOneOf}
+use Rattle.lvm_kept.specs.Group.{passes, is_of, status_among, IsFound, members_in, ReadsBy, ReadsGroup, status_by, is_stale_by, fresh_on, block_at, IsBlockOf, is_named, IsOneOf}
 use Rattle.lvm_kept.specs.Kept.{MayDiffer, BlocksKept, Kept}
 use Rattle.lvm_kept.specs.Committed.{IsWithinDisks}
 use Rattle.lvm_kept.specs.Changes.{Unchanged, Excused, BlocksChange}
@@ -29,7 +29,7 @@ use Rattle.lvm_steps.proofs.GroupLemmas.Members.{one_group, parts_of, member_of_
 use Rattle.lvm_crash.specs.Session.{members_showing}
 use Rattle.lvm_crash.proofs.LawsLemmas.Remaining.{by_id}
 use Rattle.lvm_crash.proofs.GroupLemmas.Lists.{left_of, right_of, both_of, of_passing}
-use Rattle.lvm_rest.specs.Rest.{NoneIsBehind}
+use Rattle.lvm_rest.specs.Rest.{MissingAreStale}
 use Rattle.lvm_rest.proofs.Rows.{at_passing}
 use Rattle.lvm_recover.specs.Recopied.{IsToEqual, IsFromFirst, IsRecopied}
 use Rattle.lvm_recover.specs.Keeping.{RecopyKeeps, RecopyGoesOn, EqualStays}
@@ -100,7 +100,7 @@ recopy_goes_on group status there old mid new before rest each = record {
 -- ---- what is kept
 
 module _ (group : Descriptor) (status : Status) (there : Disks) (old new : Contents) (facts : List Fact) (valid : IsValid group) (within : IsWithinDisks old) (enough : CanWrite group there)
-    (shows : ShowsCommitted old group status there) (none_behind : NoneIsBehind old group (Some shows.stands) there) (change : IsRecopied old group (Some shows.stands) there new) (kept : Kept old facts) where
+    (shows : ShowsCommitted old group status there) (none_behind : MissingAreStale old group (Some shows.stands) there) (change : IsRecopied old group (Some shows.stands) there new) (kept : Kept old facts) where
   abbrev stands : Option (Stamped Status)
   stands = Some shows.stands
 
@@ -178,11 +178,11 @@ module _ (group : Descriptor) (status : Status) (there : Disks) (old new : Conte
       (ap (λ (d : ℕ). passes (is_of group.id) (old.descriptor d)) (sym from.disk) ∙ shows_group old group status there shows from.copy.disk (left_of (there from.copy.disk) (not (is_stale_by stands from.copy)) of.1)))))
       (change.each p.disk (sector_of g.mib p.pp b))))
 
-  of_reads : (id : ℕ) (b : Disks) (h k : Descriptor) (set : Disks) → ((d : ℕ) → IsTrue (set d) → IsTrue (members_in old all_disks id k d)) → Reads old b id h → IsFound old id k → BlocksChange old new facts k set (status_by old b id h)
+  of_reads : (id : ℕ) (b : Disks) (h k : Descriptor) (set : Disks) → ((d : ℕ) → IsTrue (set d) → IsTrue (members_in old all_disks id k d)) → ReadsGroup old b id h → IsFound old id k → BlocksChange old new facts k set (status_by old b id h)
   of_reads id b h k set in_set reads found = by_id id group.id
       (λ same.
       let is : k ≡ group = only_found old group status there shows facts within enough kept k (subst (λ (n : ℕ). IsFound old n k) same found) in
-      let read : status_by old b id h ≡ stands = ap (λ (n : ℕ). status_by old b n h) same ∙ status_read old group status there shows facts within enough kept b h (subst (λ (n : ℕ). Reads old b n h) same reads) in
+      let read : status_by old b id h ≡ stands = ap (λ (n : ℕ). status_by old b n h) same ∙ status_read old group status there shows facts within enough kept b h (subst (λ (n : ℕ). ReadsGroup old b n h) same reads) in
       subst (λ (o : Option (Stamped Status)). BlocksChange old new facts k set o) (sym read)
       (subst (λ (g : Descriptor). BlocksChange old new facts g set stands) (sym is)
       (λ row lp n one inside. changed row lp n one inside set (λ d in_d. subst (λ (i : ℕ). IsTrue (members_in old all_disks i group d)) same (subst (λ (g : Descriptor). IsTrue (members_in old all_disks id g d)) is (in_set d in_d))))))

@@ -19,7 +19,7 @@ use Rattle.lvm_vol.specs.declared.entry.Vol.TheVariants.{Lv}
 use Rattle.lvm_vol.specs.Facts.{Fact, Cut}
 use Rattle.lvm_vol.specs.May.{Known, known}
 use Rattle.lvm_kept.specs.Contents.{Contents}
-use Rattle.lvm_kept.specs.Group.{passes, is_of, status_among, IsFound, members_in, ReadsBy, Reads, status_by, is_stale_by, fresh_on, block_at, IsBlockOf, names_if, is_named, IsOneOf, HoldOne}
+use Rattle.lvm_kept.specs.Group.{passes, is_of, status_among, IsFound, members_in, ReadsBy, ReadsGroup, status_by, is_stale_by, fresh_on, block_at, IsBlockOf, names_if, is_named, IsOneOf, HoldOne}
 use Rattle.lvm_kept.specs.Kept.{MayDiffer, BlocksKept, Kept}
 use Rattle.lvm_kept.specs.Committed.{IsWithinDisks}
 use Rattle.lvm_kept.specs.Changes.{StayExcused}
@@ -31,7 +31,7 @@ use Rattle.lvm_steps.proofs.GroupLemmas.Members.{one_group, parts_of, member_of_
 use Rattle.lvm_crash.specs.Session.{members_showing}
 use Rattle.lvm_crash.proofs.LawsLemmas.Remaining.{by_id}
 use Rattle.lvm_crash.proofs.GroupLemmas.Lists.{left_of, right_of, both_of, not_so, of_passing}
-use Rattle.lvm_rest.specs.Rest.{NoneIsBehind}
+use Rattle.lvm_rest.specs.Rest.{MissingAreStale}
 use Rattle.lvm_rest.proofs.Rows.{at_passing, none_passing, passes_none}
 use Rattle.lvm_recover.specs.Recopied.{IsRecopied, HoldFirst, IsToEqual, AreActiveEven, OnlyNotesOf}
 use Rattle.lvm_recover.specs.Keeping.{EqualledIsEven, NotesMayGo}
@@ -105,7 +105,7 @@ module _ (group : Descriptor) (status : Status) (there : Disks) (old : Contents)
 
   -- ---- the notes go
 
-  module _ (new : Contents) (none_behind : NoneIsBehind old group stands there) (even : AreActiveEven old group stands there) (change : OnlyNotesOf there old new) where
+  module _ (new : Contents) (none_behind : MissingAreStale old group stands there) (even : AreActiveEven old group stands there) (change : OnlyNotesOf there old new) where
     same_names : (d lv g : ℕ) → IsFalse (there d) → is_named new d lv g ≡ is_named old d lv g
     same_names d lv g isnt = ap (λ (n : Option Noted). names_if n lv g) (change.others d isnt)
 
@@ -161,12 +161,12 @@ module _ (group : Descriptor) (status : Status) (there : Disks) (old : Contents)
           (cases_Bool (there p.disk))) row.mode differ)
     ]
 
-    of_reads : (id : ℕ) (b : Disks) (h k : Descriptor) (set : Disks) → ((d : ℕ) → IsTrue (set d) → IsTrue (members_in old all_disks id k d)) → Reads old b id h → IsFound old id k
+    of_reads : (id : ℕ) (b : Disks) (h k : Descriptor) (set : Disks) → ((d : ℕ) → IsTrue (set d) → IsTrue (members_in old all_disks id k d)) → ReadsGroup old b id h → IsFound old id k
         → BlocksKept old facts k set (status_by old b id h) → StayExcused old new facts k set (status_by old b id h)
     of_reads id b h k set in_set reads found held = by_id id group.id
         (λ same.
         let is : k ≡ group = only_found old group status there shows facts within enough kept k (subst (λ (n : ℕ). IsFound old n k) same found) in
-        let read : status_by old b id h ≡ stands = ap (λ (n : ℕ). status_by old b n h) same ∙ status_read old group status there shows facts within enough kept b h (subst (λ (n : ℕ). Reads old b n h) same reads) in
+        let read : status_by old b id h ≡ stands = ap (λ (n : ℕ). status_by old b n h) same ∙ status_read old group status there shows facts within enough kept b h (subst (λ (n : ℕ). ReadsGroup old b n h) same reads) in
         subst (λ (o : Option (Stamped Status)). StayExcused old new facts k set o) (sym read)
         (subst (λ (g : Descriptor). StayExcused old new facts g set stands) (sym is)
         (own_stay set (λ d in_d. subst (λ (i : ℕ). IsTrue (members_in old all_disks i group d)) same (subst (λ (g : Descriptor). IsTrue (members_in old all_disks id g d)) is (in_set d in_d)))

@@ -9,7 +9,7 @@ use Rattle.lvm_kept.specs.Plans.{Plan, ChangesBy}
 use Rattle.lvm_kept.proofs.CommittedLemmas.Finding.{images_within}
 use Rattle.lvm_kept.proofs.TornLemmas.Standing.{note_shows}
 use Rattle.lvm_steps.proofs.MakingLemmas.Making.{media_may}
-use Rattle.lvm_rest.specs.Rest.{NoneIsBehind}
+use Rattle.lvm_rest.specs.Rest.{MissingAreStale}
 use Rattle.lvm_recover.specs.Keeping.{CopyingStaysKept, EmptyingStaysKept}
 use Rattle.lvm_recover.proofs.KeepingLemmas.Copying.{recopied}
 use Rattle.lvm_recover.proofs.KeepingLemmas.Equalling.{even_there, notes_gone}
@@ -37,7 +37,7 @@ emptying_stays_kept group status there targets sector old now copied may change 
     let notes = note_shows targets sector copied image (leaves image left) in
     let shows = shows_other_data group status there c (contents_of copied) is.rest may.shows in
     notes_gone group status there (contents_of copied) facts (images_within copied) may.enough shows.0 mid (contents_of image)
-    (subst (λ (s : Stamped Status). NoneIsBehind (contents_of copied) group (Some s) there) (sym shows.1) (behind_other_data group (Some may.shows.stands) there c (contents_of copied) is.rest may.none_behind))
+    (subst (λ (s : Stamped Status). MissingAreStale (contents_of copied) group (Some s) there) (sym shows.1) (behind_other_data group (Some may.shows.stands) there c (contents_of copied) is.rest may.none_behind))
     (subst (λ (s : Stamped Status). AreActiveEven (contents_of copied) group (Some s) there) (sym shows.1)
     (λ row lp b one active inside. even_there group status there c facts (images_within (image_of old.sizes may.media)) may.enough may.shows was (contents_of copied) may.valid is row lp b one
     (equalled row lp b one inside) (λ off. not_off (sym active ∙ off)) inside))

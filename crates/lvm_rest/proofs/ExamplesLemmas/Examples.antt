@@ -39,7 +39,7 @@ use Rattle.lvm_invariant.specs.Good.{Good}
 use Rattle.lvm_crash.specs.Session.{AreVotesOf, Describes}
 use Rattle.lvm_crash.specs.Flights.{Matches}
 use Rattle.lvm_crash.proofs.GroupLemmas.Lists.{of_passing}
-use Rattle.lvm_rest.specs.Rest.{IsEven, NoneIsBehind, IsAlone, AreClosed, IsAtRest}
+use Rattle.lvm_rest.specs.Rest.{IsEven, MissingAreStale, IsAlone, AreClosed, HoldsAtRest}
 use Rattle.lvm_rest.specs.Examples.{Pair, status_of, shown_by, there_by, media_of, device_of, first_write, history_of, even_pair, torn_pair, naming_note, naming, IsRestingPair, PairsRest}
 use Rattle.lvm_rest.proofs.GoodLemmas.Good.{rest_is_good, still_matches}
 use Rattle.lvm_rest.proofs.GoodLemmas.Seen.{rest_is_seen}
@@ -195,7 +195,7 @@ module _ (x : Pair) where
           by false e = absurd cc
 
   -- a fresh copy on a member that isn't there: the second one's is stale
-  pub behind : NoneIsBehind (shown_by x) (two x.mode) (Some (status_of x)) (there_by x)
+  pub behind : MissingAreStale (shown_by x) (two x.mode) (Some (status_of x)) (there_by x)
   behind row lp p one low copy member gone fresh = absurd (of_copy
       (subst (λ (n : ℕ). IsOneOf (copies_of (mirror x.mode) n) p) (first_partition lp (subst (λ (r : LvRow). lp < r.lps) (the_row x row one) low)) (subst (λ (r : LvRow). IsOneOf (copies_of r lp) p) (the_row x row one) copy)))
     where
@@ -240,13 +240,13 @@ zeros_even mode dirty lost note set row lp b one on inside = (
 )
 
 -- a session begins there
-good_of : (x : Pair) (facts : List Fact) → ((d s : ℕ) → s < 4096 → x.stands d s ≡ zero_sector) → AreClosed facts (two x.mode) → IsAtRest (shown_by x) facts (two x.mode) (Some (status_of x)) (there_by x)
+good_of : (x : Pair) (facts : List Fact) → ((d s : ℕ) → s < 4096 → x.stands d s ≡ zero_sector) → AreClosed facts (two x.mode) → HoldsAtRest (shown_by x) facts (two x.mode) (Some (status_of x)) (there_by x)
     → (votes : Votes) → AreVotesOf (two x.mode) votes → (s : ModelState) × (s.facts ≡ facts) × Good votes s × Matches s s.facts (two x.mode) None (device_of x) (media_of x)
 good_of x facts below is_closed rests votes are =
     let seen = rest_is_seen facts (two x.mode) (status_of x) (there_by x) (shown_by x) (valid x.mode) in
     let both = rest_is_good votes seen.0 (two x.mode) (status_of x).value (there_by x) (shown_by x) are (valid x.mode) (within x) (enough x) (shows x) seen.2 seen.3
     (subst (λ (f : List Fact). AreClosed f (two x.mode)) (sym seen.1) is_closed)
-    (subst (λ (f : List Fact). IsAtRest (shown_by x) f (two x.mode) (Some (status_of x)) (there_by x)) (sym seen.1) rests) in (
+    (subst (λ (f : List Fact). HoldsAtRest (shown_by x) f (two x.mode) (Some (status_of x)) (there_by x)) (sym seen.1) rests) in (
       seen.0,
       seen.1,
       both.0,
@@ -257,7 +257,7 @@ good_of x facts below is_closed rests votes are =
 zeros_rest : (mode : Mode) (dirty lost cut : Bool) (note : Sector) → IsRestingPair (even_pair mode dirty lost note) (history_of mode cut)
 zeros_rest mode dirty lost cut note =
     let x : Pair = even_pair mode dirty lost note in
-    let rests : IsAtRest (shown_by x) (history_of mode cut) (two mode) (Some (status_of x)) (there_by x) =
+    let rests : HoldsAtRest (shown_by x) (history_of mode cut) (two mode) (Some (status_of x)) (there_by x) =
     record { legal = legal mode cut; kept = zeros_kept mode dirty lost cut note; alone = alone x; even = zeros_even mode dirty lost note (there_by x); behind = behind x } in
     record {
       told = told x (λ d s low. refl);
@@ -321,7 +321,7 @@ off_torn = kept (torn_pair Off false zero_sector) (history_of Off true) (torn_ea
 off_rest : IsRestingPair (torn_pair Off false zero_sector) (history_of Off true)
 off_rest =
     let x : Pair = torn_pair Off false zero_sector in
-    let rests : IsAtRest (shown_by x) (history_of Off true) (two Off) (Some (status_of x)) (there_by x) =
+    let rests : HoldsAtRest (shown_by x) (history_of Off true) (two Off) (Some (status_of x)) (there_by x) =
     record { legal = legal Off true; kept = off_torn; alone = alone x; even = λ row lp b one on inside. absurd (on (ap (λ (r : LvRow). r.mode) (the_row x row one))); behind = behind x } in
     record {
       told = told x torn_below;

@@ -23,7 +23,7 @@ use Rattle.lvm_vol.specs.declared.entry.Vol.TheVariants.{Lv}
 use Rattle.lvm_vol.specs.Standing.{volumes_in}
 use Rattle.lvm_kept.specs.Contents.{Contents}
 use Rattle.lvm_kept.specs.Examples.{stamped, mirror, two, either_of}
-use Rattle.lvm_kept.specs.Group.{descriptor_among, is_voter, has_quorum, status_among, Finds, IsFound, Reads, ReadsBy, members_in, status_by, fresh_on, fresh, IsOneOf, IsSome, HoldOne}
+use Rattle.lvm_kept.specs.Group.{descriptor_among, is_voter, has_quorum, status_among, Finds, IsFound, ReadsGroup, ReadsBy, members_in, status_by, fresh_on, fresh, IsOneOf, IsSome, HoldOne}
 use Rattle.lvm_kept.specs.Kept.{StandsAs, HasStatus, MayDiffer, IsBlockKept, BlocksKept, Kept}
 use Rattle.lvm_kept.proofs.CommittedLemmas.Finding.{finding_reads}
 use Rattle.lvm_kept.proofs.ChangesLemmas.Restamping.{fewer_blocks}
@@ -82,7 +82,7 @@ module _ (x : Pair) where
   unfolding newest_below votes_by
   status_at b enough = of_two_disks (b 0) (b 1) enough
 
-  pub status_read : (b : Disks) (id : ℕ) (h : Descriptor) → Reads c b id h → status_by c b id h ≡ Some st
+  pub status_read : (b : Disks) (id : ℕ) (h : Descriptor) → ReadsGroup c b id h → status_by c b id h ≡ Some st
   status_read b id h reads =
       let i = id_is id h reads.found in
       let g = group_is id h reads.found in
@@ -118,7 +118,7 @@ module _ (x : Pair) where
       (subst IsSome (sym fresh_copies) (some_if x.lost)))
 
   -- two sets that can read share a member
-  common : (a b : Disks) (id : ℕ) (g h : Descriptor) → Reads c a id g → Reads c b id h → (d : ℕ) × IsTrue (members_in c a id g d) × IsTrue (members_in c b id h d)
+  common : (a b : Disks) (id : ℕ) (g h : Descriptor) → ReadsGroup c a id g → ReadsGroup c b id h → (d : ℕ) × IsTrue (members_in c a id g d) × IsTrue (members_in c b id h d)
   common a b id g h r s =
       let one : g ≡ group = group_is id g r.found in
       let other : h ≡ group = group_is id h s.found in
@@ -195,13 +195,13 @@ module _ (x : Pair) where
           (subst (λ (h : Descriptor). BlocksKept c facts h (members_in c disks 50 h) (Some st)) (sym same)
           (blocks_by (members_in c disks 50 group) (within_all disks)))))
 
-      across : (b : Disks) (id : ℕ) (h g : Descriptor) → Reads c b id h → IsFound c id g → BlocksKept c facts g (members_in c all_disks id g) (status_by c b id h)
+      across : (b : Disks) (id : ℕ) (h g : Descriptor) → ReadsGroup c b id h → IsFound c id g → BlocksKept c facts g (members_in c all_disks id g) (status_by c b id h)
       across b id h g reads found =
           subst (λ (o : Option (Stamped Status)). BlocksKept c facts g (members_in c all_disks id g) o) (sym (status_read b id h reads))
           (subst (λ (n : ℕ). BlocksKept c facts g (members_in c all_disks n g) (Some st)) (sym (id_is id g found))
           (subst (λ (k : Descriptor). BlocksKept c facts k (members_in c all_disks 50 k) (Some st)) (sym (group_is id g found)) all_blocks))
 
-      some : (b : Disks) (id : ℕ) (h g : Descriptor) → Reads c b id h → IsFound c id g → (row : LvRow) (lp : ℕ) → IsOneOf g.lvs row → lp < row.lps → IsSome (fresh_on (members_in c all_disks id g) (status_by c b id h) row lp)
+      some : (b : Disks) (id : ℕ) (h g : Descriptor) → ReadsGroup c b id h → IsFound c id g → (row : LvRow) (lp : ℕ) → IsOneOf g.lvs row → lp < row.lps → IsSome (fresh_on (members_in c all_disks id g) (status_by c b id h) row lp)
       some b id h g reads found row lp =
           subst (λ (o : Option (Stamped Status)). IsOneOf g.lvs row → lp < row.lps → IsSome (fresh_on (members_in c all_disks id g) o row lp)) (sym (status_read b id h reads))
           (subst (λ (n : ℕ). IsOneOf g.lvs row → lp < row.lps → IsSome (fresh_on (members_in c all_disks n g) (Some st) row lp)) (sym (id_is id g found))

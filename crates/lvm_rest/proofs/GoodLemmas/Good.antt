@@ -36,7 +36,7 @@ use Rattle.lvm_invariant.proofs.FirstLemmas.{nothing}
 use Rattle.lvm_crash.specs.Session.{as_marks, marks_shown, AreVotesOf, members_showing, IsPlaceOf, GroupStands, HasVolumes, Describes}
 use Rattle.lvm_crash.proofs.MayLemmas.{loose_is_off}
 use Rattle.lvm_crash.proofs.GroupLemmas.Lists.{left_of, right_of, both_of, not_so}
-use Rattle.lvm_rest.specs.Rest.{IsIdle, SeesThat, AreClosed, IsAtRest}
+use Rattle.lvm_rest.specs.Rest.{IsModelAtRest, SeesThat, AreClosed, HoldsAtRest}
 use Rattle.lvm_rest.specs.Good.{RestIsGood, StillMatches, RestMatches}
 use Rattle.lvm_commit.proofs.AmongLemmas.{one_place}
 use Rattle.lvm_rest.proofs.Rows.{at_passing, some_passing, none_passing, passes_none, row_is_volume, block_in}
@@ -98,8 +98,8 @@ its_shape mib Open shape row stands = stands
 its_shape mib Absent shape row stands = absurd stands
 
 module _ (votes : Votes) (s : ModelState) (group : Descriptor) (status : Status) (there : Disks) (c : Contents) (are : AreVotesOf group votes) (valid : IsValid group) (within : IsWithinDisks c)
-    (enough : CanWrite group there) (shows : ShowsCommitted c group status there) (idle : IsIdle s) (sees : SeesThat s group shows.stands there c) (closed : AreClosed s.facts group)
-    (rest : IsAtRest c s.facts group (Some shows.stands) there) where
+    (enough : CanWrite group there) (shows : ShowsCommitted c group status there) (idle : IsModelAtRest s) (sees : SeesThat s group shows.stands there c) (closed : AreClosed s.facts group)
+    (rest : HoldsAtRest c s.facts group (Some shows.stands) there) where
   abbrev stands : Stamped Status
   stands = shows.stands
 

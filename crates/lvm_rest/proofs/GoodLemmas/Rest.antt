@@ -32,13 +32,13 @@ use Rattle.lvm_crash.specs.Session.{AreVotesOf, members_showing, Describes}
 use Rattle.lvm_crash.proofs.GroupLemmas.Blocks.{block_of}
 use Rattle.lvm_crash.proofs.GroupLemmas.Lists.{left_of, right_of, both_of, not_so, of_passing}
 use Rattle.lvm_crash.proofs.LawsLemmas.Remaining.{remains_kept}
-use Rattle.lvm_rest.specs.Rest.{IsIdle, SeesThat}
+use Rattle.lvm_rest.specs.Rest.{IsModelAtRest, SeesThat}
 use Rattle.lvm_rest.specs.Good.{GoodIsRest}
 use Rattle.lvm_rest.proofs.Rows.{none_passing}
 use Rattle.lvm_rest.proofs.GoodLemmas.Good.{mib_positive}
 
 module _ (votes : Votes) (s : ModelState) (group : Descriptor) (status : Status) (there : Disks) (c : Contents) (are : AreVotesOf group votes) (valid : IsValid group) (within : IsWithinDisks c)
-    (shows : ShowsCommitted c group status there) (idle : IsIdle s) (sees : SeesThat s group shows.stands there c) (good : Good votes s) (describes : Describes s s.facts group None c) where
+    (shows : ShowsCommitted c group status there) (idle : IsModelAtRest s) (sees : SeesThat s group shows.stands there c) (good : Good votes s) (describes : Describes s s.facts group None c) where
   abbrev stands : Stamped Status
   stands = shows.stands
 

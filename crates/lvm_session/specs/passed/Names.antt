@@ -3,7 +3,7 @@ pub use Rattle.lvm_hold.specs.Order.{IsAscending}
 pub use Rattle.lvm_hold.specs.Waiting.{Waiting}
 pub use Rattle.lvm_hold.specs.declared.queue.Row.{Row}
 pub use Rattle.lvm_kept.specs.Contents.{note_sector}
-pub use Rattle.lvm_kept.specs.passed.Names.{Arrange, ArrangeGives, Device, Flight, GoesDark, Homes, IsFresh, Media, Orders, Range, Starts, with_order}
+pub use Rattle.lvm_kept.specs.passed.Names.{Arrange, ArrangeGives, Device, Flight, GoesDark, Homes, IsNewTicket, Media, Orders, Range, Starts, with_order}
 pub use Rattle.lvm_mwc.specs.Cache.{after_unpin, flight_on, is_named}
 pub use Rattle.lvm_mwc.specs.Entries.{pins_of}
 pub use Rattle.lvm_num.specs.Buffer.{Buffer}

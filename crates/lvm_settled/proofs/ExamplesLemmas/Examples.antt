@@ -35,11 +35,11 @@ use Rattle.lvm_mwc.specs.declared.notes.DiskNotes.{DiskNotes}
 use Rattle.lvm_session.specs.State.{Core, state, is_there}
 use Rattle.lvm_session.specs.declared.open.Power.TheVariants as power
 use Rattle.lvm_session.proofs.WorkedLemmas.Parts.{none_written}
-use Rattle.lvm_core.specs.Sound.{IsFittingBetween, IsQuiet, IsSoundBetween}
+use Rattle.lvm_core.specs.Sound.{IsFittingAtRest, HasNothingUnderWay, IsSoundAtRest}
 use Rattle.lvm_session.specs.Placed.{IsPlaced}
 use Rattle.lvm_core.proofs.SoundLemmas.Beginning.{no_entries}
 use Rattle.lvm_core.proofs.SoundLemmas.Own.{sound_ready}
-use Rattle.lvm_rest.specs.Rest.{IsEven, NoneIsBehind}
+use Rattle.lvm_rest.specs.Rest.{IsEven, MissingAreStale}
 use Rattle.lvm_rest.specs.Examples.{Pair, status_of, pair_sizes, framed_group, framed_status, shown_by, media_of, device_of, there_by, history_of, even_pair, naming_note}
 use Rattle.lvm_rest.proofs.ExamplesLemmas.Pairs.{the_descriptor}
 use Rattle.lvm_crash.proofs.WorkedLemmas.Shelf.{group_read, no-magic}
@@ -135,7 +135,7 @@ module _ (x : Pair) (below : (d s : ℕ) → s < 4096 → x.stands d s ≡ zero_
 -- ---- the session
 
 -- its parts are of one group
-fits : (x : Pair) → IsFittingBetween (core_of x)
+fits : (x : Pair) → IsFittingAtRest (core_of x)
 fits x = record {
   valid = valid x.mode;
   id = refl;
@@ -162,11 +162,11 @@ of_two zero row low is = subst (IsPlaced pair_sizes 1) is (record { there = omeg
 of_two (suc zero) row low is = subst (IsPlaced pair_sizes 1) is (record { there = omega arith; within = λ size e. let same : 16384 ≡ size = same_Some 16384 size e in omega (arith, same) })
 of_two (suc (suc k)) row low is = absurd (omega (arith, low))
 
-sound : (x : Pair) → IsSoundBetween (state (device_of x) (core_of x))
+sound : (x : Pair) → IsSoundAtRest (state (device_of x) (core_of x))
 sound x = sound_ready (device_of x) (core_of x) (fits x) (record { requests = refl; copy = refl }) (λ id. refl) (λ row one there. of_two one.0 row one.1 one.2) refl refl
     (λ stuck. absurd (let e : power.On ≡ power.Stuck = stuck in cc)) (record { flights = refl; freed = refl; power = refl })
 
-quiet : (x : Pair) → IsQuiet (core_of x)
+quiet : (x : Pair) → HasNothingUnderWay (core_of x)
 quiet x = record { requests = refl; copy = refl; status = refl; notes = λ disk. none (0 == disk) (1 == disk); buffers = refl }
   where
     none : (s t : Bool) → option_and_then (λ (n : DiskNotes). n.flight) (if s then Some (no_notes 0) else if t then Some (no_notes 1) else None) ≡ None
@@ -187,7 +187,7 @@ noted_disk x disk = by (0 == disk) (1 == disk)
     by false true = refl
     by false false = refl
 
-noted_quiet : (x : Pair) → IsQuiet (noted_core x)
+noted_quiet : (x : Pair) → HasNothingUnderWay (noted_core x)
 noted_quiet x = record { requests = refl; copy = refl; status = refl; notes = λ disk. none (0 == disk) (1 == disk); buffers = refl }
   where
     none : (s t : Bool) → option_and_then (λ (n : DiskNotes). n.flight) (if s then Some (written_note 0) else if t then Some (written_note 1) else None) ≡ None
@@ -195,7 +195,7 @@ noted_quiet x = record { requests = refl; copy = refl; status = refl; notes = λ
     none false true = refl
     none false false = refl
 
-noted_sound : (x : Pair) → IsSoundBetween (state (device_of x) (noted_core x))
+noted_sound : (x : Pair) → IsSoundAtRest (state (device_of x) (noted_core x))
 noted_sound x =
     let first = sound x in
     record {
@@ -233,11 +233,11 @@ no_write mode true vol b = refl
 -- ---- all of it
 
 abbrev IsShownEven : Pair → Disks → Contents → Type 0
-IsShownEven x set c = (sh : ShowsCommitted c (two x.mode) (status_of x).value set) × IsEven c (two x.mode) (Some sh.stands) set × NoneIsBehind c (two x.mode) (Some sh.stands) set
+IsShownEven x set c = (sh : ShowsCommitted c (two x.mode) (status_of x).value set) × IsEven c (two x.mode) (Some sh.stands) set × MissingAreStale c (two x.mode) (Some sh.stands) set
 
 abbrev IsHeldEven : Pair → Disks → Type 0
 IsHeldEven x set = (h : HoldsCommitted (image_of pair_sizes (media_of x)) (two x.mode) (status_of x).value set (record { epoch = 50; seq = 2 }) (record { descriptor = 3; status = 3 }))
-    × IsEven (contents_of (image_of pair_sizes (media_of x))) (two x.mode) (Some h.shows.stands) set × NoneIsBehind (contents_of (image_of pair_sizes (media_of x))) (two x.mode) (Some h.shows.stands) set
+    × IsEven (contents_of (image_of pair_sizes (media_of x))) (two x.mode) (Some h.shows.stands) set × MissingAreStale (contents_of (image_of pair_sizes (media_of x))) (two x.mode) (Some h.shows.stands) set
 
 -- a session with this cache
 module _ (mode : Mode) (dirty lost cut : Bool) (note : Sector) (cache : Cached) where
@@ -250,7 +250,7 @@ module _ (mode : Mode) (dirty lost cut : Bool) (note : Sector) (cache : Cached) 
   below : (d s : ℕ) → s < 4096 → x.stands d s ≡ zero_sector
   below d s low = refl
 
-  settles : IsSoundBetween (state (device_of x) core) → IsQuiet core → IsSettledPair core x mode cut
+  settles : IsSoundAtRest (state (device_of x) core) → HasNothingUnderWay core → IsSettledPair core x mode cut
   settles sound quiet =
       let rests = pairs_rest.even mode dirty lost cut note in
       let shown : IsShownEven x (there_by x) (contents_of (image_of pair_sizes (media_of x))) = subst (IsShownEven x (there_by x)) (sym (told x below)) (shows x, zeros_even mode dirty lost note (there_by x), behind x) in

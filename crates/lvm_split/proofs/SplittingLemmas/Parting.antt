@@ -17,7 +17,7 @@ use Rattle.lvm_vol.specs.Standing.{Open, Volume, volumes_in}
 use Rattle.lvm_kept.specs.Contents.{contents_of}
 use Rattle.lvm_kept.specs.Group.{IsOneOf}
 use Rattle.lvm_kept.specs.Moments.{Moment}
-use Rattle.lvm_steps.specs.Moments.{Begins, Holds, Keeps, Upholds}
+use Rattle.lvm_steps.specs.Moments.{RunBegins, HistoryHolds, Keeps, Upholds}
 use Rattle.lvm_parting.proofs.EntryLemmas.{stands_after_split}
 use Rattle.lvm_commit.specs.Committed.{ShowsCommitted}
 use Rattle.lvm_commit.specs.Settling.{IsPassedOver, MarksLeft, NoneIsLeft}
@@ -119,12 +119,12 @@ module _ (name : List ℕ) (copies : ℕ) (plan : SplitPlan) (a : State) (settle
   left_now : NoneIsLeft d a.core.status → NoneIsLeft b.core.descriptor b.core.status
   left_now none = mark_still.left none
 
-  module _ (run : ℕ) (first : Moment) (held : IsHeldSince run first a) (left : NoneIsLeft d a.core.status) (even : (past : List Fact) → Begins run past first → IsEvenOn a)
-      (closed : (past : List Fact) → Begins run past first → IsClosedIn (past ++ a.core.history.facts) plan.from) (span : Keeps run first (moment_of a)) where
-    upheld : (past : List Fact) → Begins run past first → Holds past (moment_of b)
+  module _ (run : ℕ) (first : Moment) (held : IsHeldSince run first a) (left : NoneIsLeft d a.core.status) (even : (past : List Fact) → RunBegins run past first → IsEvenOn a)
+      (closed : (past : List Fact) → RunBegins run past first → IsClosedIn (past ++ a.core.history.facts) plan.from) (span : Keeps run first (moment_of a)) where
+    upheld : (past : List Fact) → RunBegins run past first → HistoryHolds past (moment_of b)
     upheld = let is : Upholds run first (moment_of b) = last-path (mark_among.spans run first held tt span) in is
 
-    even_now : (past : List Fact) → Begins run past first → (m : Media) → b.device.media ≡ Some m → (shows : ShowsCommitted (contents_of (image_of b.device.sizes m)) d b.core.status.committed (is_there b.core))
+    even_now : (past : List Fact) → RunBegins run past first → (m : Media) → b.device.media ≡ Some m → (shows : ShowsCommitted (contents_of (image_of b.device.sizes m)) d b.core.status.committed (is_there b.core))
         → IsEven (contents_of (image_of b.device.sizes m)) d (Some shows.stands) (is_there b.core)
     even_now past begins m told shows =
         let was : (w : Media) × (a.device.media ≡ Some w) = told_before a.device.media b.device.media _ m leaves.writes.media told in

@@ -17,7 +17,7 @@ use Rattle.lvm_kept.specs.Contents.{Contents, contents_of}
 use Rattle.lvm_kept.specs.Kept.{Kept}
 use Rattle.lvm_kept.specs.Moments.{Moment}
 use Rattle.lvm_kept.proofs.CommittedLemmas.Finding.{images_within}
-use Rattle.lvm_steps.specs.Moments.{Begins, Holds}
+use Rattle.lvm_steps.specs.Moments.{RunBegins, HistoryHolds}
 use Rattle.lvm_steps.proofs.MakingLemmas.Making.{media_may}
 use Rattle.lvm_status.specs.Update.{members_there}
 use Rattle.lvm_commit.specs.Committed.{HoldsCommitted, ShowsCommitted}
@@ -151,10 +151,10 @@ module _ (name : List ℕ) (copies : ℕ) (plan : SplitPlan) (a b : State) (plan
 
   -- so it may be, after each earlier history with which it is kept before and with the entry
   pub lets_split : (run : ℕ) (first : Moment)
-      → ((past : List Fact) → Begins run past first → IsHeld b.device b.core)
-      → ((past : List Fact) → Begins run past first → Holds past (moment_of b))
-      → ((past : List Fact) → Begins run past first → IsClosedIn (past ++ b.core.history.facts) plan.from)
-      → ((past : List Fact) → Begins run past first → (m : Media) → b.device.media ≡ Some m → (shows : ShowsCommitted (contents_of (image_of b.device.sizes m)) d b.core.status.committed (is_there b.core))
+      → ((past : List Fact) → RunBegins run past first → IsHeld b.device b.core)
+      → ((past : List Fact) → RunBegins run past first → HistoryHolds past (moment_of b))
+      → ((past : List Fact) → RunBegins run past first → IsClosedIn (past ++ b.core.history.facts) plan.from)
+      → ((past : List Fact) → RunBegins run past first → (m : Media) → b.device.media ≡ Some m → (shows : ShowsCommitted (contents_of (image_of b.device.sizes m)) d b.core.status.committed (is_there b.core))
       → IsEven (contents_of (image_of b.device.sizes m)) d (Some shows.stands) (is_there b.core))
       → LetsCommitAmong (are_two name copies plan a.core planned) plan.next run first (with_entry b f)
   lets_split run first held upheld closed even past begins holds = if_told b.device.media _ (λ m told.

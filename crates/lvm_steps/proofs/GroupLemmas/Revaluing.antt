@@ -12,7 +12,7 @@ use Rattle.lvm_num.specs.Record.{Stamped, stamp_lt, newer, newest_below}
 use Rattle.lvm_num.proofs.RecordLemmas.Newest.{is_one}
 use Rattle.lvm_vol.specs.Facts.{Fact}
 use Rattle.lvm_kept.specs.Contents.{Contents}
-use Rattle.lvm_kept.specs.Group.{if_passes, passes, is_of, is_status_of, has_room, descriptor_among, is_voter, has_quorum, Finds, IsFound, members_in, status_by, Reads}
+use Rattle.lvm_kept.specs.Group.{if_passes, passes, is_of, is_status_of, has_room, descriptor_among, is_voter, has_quorum, Finds, IsFound, members_in, status_by, ReadsGroup}
 use Rattle.lvm_kept.specs.Committed.{IsWithinDisks}
 use Rattle.lvm_kept.specs.Kept.{Kept}
 use Rattle.lvm_kept.proofs.CommittedLemmas.Finding.{offered, is_offered}
@@ -130,7 +130,7 @@ module _ (old : Contents) (shown : ℕ → Option (Stamped Descriptor)) (g : Des
   pub mid_kept : (facts : List Fact) → Kept old facts → Kept mid facts
   mid_kept facts kept = restamping_keeps old mid facts (record { stamp = n; value = g }) within (record { rest = refl; own = mid_own; later = later; found = found }) kept
 
-  pub mid_reads : (b : Disks) (id : ℕ) (k : Descriptor) → Reads mid b id k → Reads old b id k
+  pub mid_reads : (b : Disks) (id : ℕ) (k : Descriptor) → ReadsGroup mid b id k → ReadsGroup old b id k
   mid_reads b id k reads = restamped_reads old stood (record { stamp = n; value = g }) mid_own later found within b id k reads
 
   pub mid_status : (b : Disks) (id : ℕ) (k : Descriptor) → status_by mid b id k ≡ status_by old b id k
@@ -198,7 +198,7 @@ module _ (old : Contents) (shown : ℕ → Option (Stamped Descriptor)) (g : Des
   pub status_same : (set : Disks) (id : ℕ) (k was : Descriptor) (others : List LvRow) → k ≡ record was { lvs = others } → status_by new set id k ≡ status_by mid set id was
   status_same set id k was others alike = let same = members_same set id k was others alike in λ t. newest_below (λ d. if same t d then if_passes (is_status_of id) (old.status d) else None) old.disks
 
-  pub reads_behind : (b : Disks) (id : ℕ) (k : Descriptor) (reads : Reads new b id k) (it : Behind reads.found.0 id k) → Reads mid b id it.was
+  pub reads_behind : (b : Disks) (id : ℕ) (k : Descriptor) (reads : ReadsGroup new b id k) (it : Behind reads.found.0 id k) → ReadsGroup mid b id it.was
   reads_behind b id k reads it = record {
     found = (reads.found.0, it.finds);
     enough = subst (λ (set : Disks). CanRead it.was set) (members_same b id k it.was it.others it.alike) (subst (λ (x : Descriptor). CanRead x (members_in new b id k)) it.alike reads.enough);

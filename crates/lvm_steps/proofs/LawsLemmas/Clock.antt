@@ -3,7 +3,7 @@ use Rattle.std.proofs.Common.{◌≡◌, inl, inr, ℕ, ◌+◌, ◌-◌, ◌^�
 use Rattle.std.proofs.lemmas.Bool.{cases_lt}
 use Rattle.lvm_kept.specs.passed.VolEntryVol.{Disk}
 use Rattle.lvm_kept.specs.passed.Names.{On, Removed, Cut, IsLater}
-use Rattle.lvm_steps.specs.Behind.{IsBehind}
+use Rattle.lvm_steps.specs.Behind.{StampsAreEarlier}
 use Rattle.lvm_steps.specs.Laws.{LaterStaysAhead, RisenIsAhead, AllIsBehindNext, LaterIsLaterToo, LaterJoins, OnIsEarlier, RemovedStaysLater, JoinedIsLater}
 use Rattle.lvm_steps.proofs.LawsLemmas.Stamps.{later_is_ahead_too}
 use Rattle.lvm_steps.proofs.LawsLemmas.Records.{all_is_behind_end}
@@ -50,7 +50,7 @@ risen_is_ahead run last moment device facts ahead (inr last_is) room = let is = 
 pub all_is_behind_next : AllIsBehindNext
 all_is_behind_next run moment device facts whole room ahead = elim (cases_lt moment (2 ^ 64 - 1)) [
   | inl less ↦ later_is_ahead_too moment (moment + 1) device (omega arith) (ahead less).behind
-  | inr most ↦ subst (λ (m : ℕ). IsBehind m device) (end moment room most) (all_is_behind_end device whole)
+  | inr most ↦ subst (λ (m : ℕ). StampsAreEarlier m device) (end moment room most) (all_is_behind_end device whole)
 ]
   where
     end : (moment : ℕ) → moment < 2 ^ 64 → 2 ^ 64 - 1 ≤ moment → 2 ^ 64 ≡ moment + 1

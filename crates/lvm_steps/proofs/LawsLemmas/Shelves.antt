@@ -6,7 +6,7 @@ use Rattle.lvm_num.specs.Geometry.{data_start}
 use Rattle.lvm_kept.specs.passed.Names.{Device, Media, Image, Flight, SameDisks, image_of, written, IsInFlight, IsCrashImage, LeavesNoMore, BothTold}
 use Rattle.lvm_kept.specs.Plans.{ChangesBy}
 use Rattle.lvm_kept.specs.Raw.{OnlyAdds}
-use Rattle.lvm_steps.specs.Behind.{StampsBefore, beginning_at, IsBehind}
+use Rattle.lvm_steps.specs.Behind.{StampsBefore, beginning_at, StampsAreEarlier}
 use Rattle.lvm_steps.specs.Laws.{IsOtherOrEarlier, CrashKeepsBefore, StillKeepsBefore, UnderWayKeepsBefore, LeftIsBefore, UnwrittenStaysBefore, NoMoreStaysBefore, DataStaysBefore, TransferStaysBefore, EarlierStandsBefore, UntouchedStaysBehind, EarlierStaysBehind}
 use Rattle.lvm_steps.proofs.LawsLemmas.Writes.{data_keeps_before, earlier_keep_before}
 
@@ -96,14 +96,14 @@ untouched_stays_behind moment old new stays = stays (beginning_at moment)
 pub earlier_stays_behind : EarlierStaysBehind
 earlier_stays_behind moment = earlier_stands_before (beginning_at moment)
 
-pub unwritten_stays_behind : (moment : ℕ) (old new : Device) → new.sizes ≡ old.sizes → new.media ≡ old.media → IsBehind moment old → IsBehind moment new
+pub unwritten_stays_behind : (moment : ℕ) (old new : Device) → new.sizes ≡ old.sizes → new.media ≡ old.media → StampsAreEarlier moment old → StampsAreEarlier moment new
 unwritten_stays_behind moment old new sizes media = unwritten_stays_before old new sizes media (beginning_at moment)
 
-pub no_more_stays_behind : (moment : ℕ) (old new : Device) → old.flights ≡ [] → LeavesNoMore old new → IsBehind moment old → IsBehind moment new
+pub no_more_stays_behind : (moment : ℕ) (old new : Device) → old.flights ≡ [] → LeavesNoMore old new → StampsAreEarlier moment old → StampsAreEarlier moment new
 no_more_stays_behind moment old new none fewer = no_more_stays_before old new none fewer (beginning_at moment)
 
-pub data_stays_behind : (moment : ℕ) (old new : Device) → new.sizes ≡ old.sizes → BothTold old.media new.media (λ was is. (d s : ℕ) → s < data_start → is d s ≡ was d s) → IsBehind moment old → IsBehind moment new
+pub data_stays_behind : (moment : ℕ) (old new : Device) → new.sizes ≡ old.sizes → BothTold old.media new.media (λ was is. (d s : ℕ) → s < data_start → is d s ≡ was d s) → StampsAreEarlier moment old → StampsAreEarlier moment new
 data_stays_behind moment old new sizes told = data_stays_before old new sizes told (beginning_at moment)
 
-pub transfer_stays_behind : (moment : ℕ) (f : Flight) (old new : Device) → old.flights ≡ [] → ((d s : ℕ) → s < data_start → written f d s ≡ None) → OnlyAdds f old new → IsBehind moment old → IsBehind moment new
+pub transfer_stays_behind : (moment : ℕ) (f : Flight) (old new : Device) → old.flights ≡ [] → ((d s : ℕ) → s < data_start → written f d s ≡ None) → OnlyAdds f old new → StampsAreEarlier moment old → StampsAreEarlier moment new
 transfer_stays_behind moment f old new none of_data adds = transfer_stays_before f old new none of_data adds (beginning_at moment)

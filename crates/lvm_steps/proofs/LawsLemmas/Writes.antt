@@ -12,7 +12,7 @@ use Rattle.lvm_num.proofs.TornLemmas.Fresh.{carried}
 use Rattle.lvm_kept.specs.passed.Names.{Image}
 use Rattle.lvm_kept.specs.Contents.{has_records}
 use Rattle.lvm_kept.specs.Plans.{Plan, ChangesBy}
-use Rattle.lvm_kept.specs.Torn.{IsOfRecord, IsOutside}
+use Rattle.lvm_kept.specs.Torn.{IsOfRecord, IsOutsideSlots}
 use Rattle.lvm_kept.proofs.PlacesLemmas.{room-same}
 use Rattle.lvm_steps.specs.Laws.{DataKeepsBefore, IsOfEarlier, IsOtherOrEarlier, NotesAndDataAreOutside, EarlierKeepBefore, RecordKeepsBefore, RecordIsBeforeNext}
 use Rattle.lvm_steps.proofs.LawsLemmas.Stamps.{not_after, later_is_after_too}
@@ -23,7 +23,7 @@ pub slot_below : (kind : Kind) (slot k : ℕ) → slot < 2 → k < slot_size kin
 slot_below kind.Descriptor slot k two small = omega arith
 slot_below kind.Status slot k two small = omega arith
 
-not_outside : (kind : Kind) (d slot k : ℕ) (value : Sector) → slot < 2 → k < slot_size kind → IsOutside kind d (slot_start kind slot + k) value → ⊥
+not_outside : (kind : Kind) (d slot k : ℕ) (value : Sector) → slot < 2 → k < slot_size kind → IsOutsideSlots kind d (slot_start kind slot + k) value → ⊥
 not_outside kind.Descriptor d slot k value two small (inl below) = absurd (omega arith)
 not_outside kind.Descriptor d slot k value two small (inr above) = absurd (omega arith)
 not_outside kind.Status d slot k value two small (inl below) = absurd (omega arith)

@@ -19,7 +19,7 @@ use Rattle.lvm_vol.specs.Facts.{Fact, Cut}
 use Rattle.lvm_vol.specs.May.{known, May}
 use Rattle.lvm_vol.specs.Standing.{Standing, Settled, Shape, volumes_in}
 use Rattle.lvm_kept.specs.Contents.{Contents}
-use Rattle.lvm_kept.specs.Group.{if_passes, passes, is_of, has_room, descriptor_among, is_voter, has_quorum, Finds, IsFound, members_in, Reads, IsOneOf}
+use Rattle.lvm_kept.specs.Group.{if_passes, passes, is_of, has_room, descriptor_among, is_voter, has_quorum, Finds, IsFound, members_in, ReadsGroup, IsOneOf}
 use Rattle.lvm_kept.specs.Kept.{StandsAs, HasStatus, RawAgrees, IsSettledIn, IsAvailable, Kept}
 use Rattle.lvm_kept.specs.Torn.{DescriptorsChange}
 use Rattle.lvm_kept.proofs.CommittedLemmas.Finding.{offered, is_offered}
@@ -70,7 +70,7 @@ module _ (c : Contents) (empty : NamesNoVolume c) where
 pub record Remains (c : Contents) (facts : List Fact) : Type 0 where
   pub unsettled : (lv : ℕ) → IsSettledIn facts lv → ⊥
   pub raw : RawAgrees c facts
-  pub common : (a b : Disks) (id : ℕ) (g h : Descriptor) → Reads c a id g → Reads c b id h → (d : ℕ) × IsTrue (members_in c a id g d) × IsTrue (members_in c b id h d)
+  pub common : (a b : Disks) (id : ℕ) (g h : Descriptor) → ReadsGroup c a id g → ReadsGroup c b id h → (d : ℕ) × IsTrue (members_in c a id g d) × IsTrue (members_in c b id h d)
   pub size : (id : ℕ) (g h : Descriptor) → IsFound c id g → IsFound c id h → g.mib ≡ h.mib
   pub partitions : (id : ℕ) (g h : Descriptor) → IsFound c id g → IsFound c id h → (d : ℕ) (p q : PvRow) → member_of g d ≡ Some p → member_of h d ≡ Some q → p.pps ≡ q.pps
   pub descriptors : (d e : ℕ) (r s : Stamped Descriptor) → c.descriptor d ≡ Some r → c.descriptor e ≡ Some s → r.value.id ≡ s.value.id → r.stamp ≡ s.stamp → r ≡ s
@@ -201,7 +201,7 @@ module _ (old new : Contents) (group : Descriptor) (targets : Disks) (next : Sta
     is_found_before : (g : Descriptor) → IsFound new id g → IsFound old id g
     is_found_before g f = (others f.0, found_before f.0 g f.1)
 
-    reads_before : (disks : Disks) (g : Descriptor) → Reads new disks id g → Reads old (others disks) id g
+    reads_before : (disks : Disks) (g : Descriptor) → ReadsGroup new disks id g → ReadsGroup old (others disks) id g
     reads_before disks g r = record { found = is_found_before g r.found; enough = subst (λ (set : Disks). CanRead g set) (members_same disks g) r.enough }
 
   -- of the new group only the new descriptor is found
@@ -234,7 +234,7 @@ module _ (old new : Contents) (group : Descriptor) (targets : Disks) (next : Sta
       (change.own d)
 
   module _ (facts : List Fact) (kept : Kept old facts) where
-    common : (a b : Disks) (id : ℕ) (g h : Descriptor) → Reads new a id g → Reads new b id h → (d : ℕ) × IsTrue (members_in new a id g d) × IsTrue (members_in new b id h d)
+    common : (a b : Disks) (id : ℕ) (g h : Descriptor) → ReadsGroup new a id g → ReadsGroup new b id h → (d : ℕ) × IsTrue (members_in new a id g d) × IsTrue (members_in new b id h d)
     common a b id g h r s = of_both id ((d : ℕ) × IsTrue (members_in new a id g d) × IsTrue (members_in new b id h d))
         (λ differ.
         let one = kept.lasting.common (others a) (others b) id g h (reads_before id differ a g r) (reads_before id differ b h s) in

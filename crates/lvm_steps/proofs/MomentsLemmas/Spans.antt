@@ -13,7 +13,7 @@ use Rattle.lvm_kept.proofs.LegalLemmas.{legal_more}
 use Rattle.lvm_kept.proofs.RawLemmas.Keeping.{cut_calm}
 use Rattle.lvm_kept.proofs.MomentsLemmas.Spans.{at_moment, regroup}
 use Rattle.lvm_kept.proofs.MomentsLemmas.Chaining.{span_told}
-use Rattle.lvm_steps.specs.Moments.{ImagesKept, Begins, Holds, Upholds, Keeps, StaysKept, IsEarlier, StepsGoOn, FewerStayKept, EntryGoesOn, SpansJoin, SpanUpholds, RunsFollow, GroupGoesOn, DisksGoOut}
+use Rattle.lvm_steps.specs.Moments.{ImagesKept, RunBegins, HistoryHolds, Upholds, Keeps, StaysKept, IsEarlier, StepsGoOn, FewerStayKept, EntryGoesOn, SpansJoin, SpanUpholds, RunsFollow, GroupGoesOn, DisksGoOut}
 use Rattle.lvm_steps.proofs.EntriesLemmas.{cut_keeps, quiet_entry_keeps}
 
 -- where nothing happens all is as it should be
@@ -31,7 +31,7 @@ entry_goes_on run first device facts f span fits kept = Then span (Enters f refl
 -- steps of the shelf after which each crash image is kept
 pub keeps_path :
     (P : Device → Type 0) (run : ℕ) (first : Moment) (old new : Device) (facts : List Fact) → Keeps run first (at_moment old facts)
-    → ((past : List Fact) → Begins run past first → Holds past (at_moment old facts) → (d : Device) → P d → ImagesKept d (past ++ facts))
+    → ((past : List Fact) → RunBegins run past first → HistoryHolds past (at_moment old facts) → (d : Device) → P d → ImagesKept d (past ++ facts))
     → Path DeviceStep P old new → Keeps run first (at_moment new facts)
 keeps_path P run first old new facts span kept path = append-path span (lift-path Step (Upholds run first) (λ d. at_moment d facts) (λ x y step. Moves step refl)
     (λ d p past begins. let before = last-path span past begins in record { legal = before.legal; kept = kept past begins before d p }) path)
@@ -48,7 +48,7 @@ keeps_steps run first old new facts span path = steps_go_on run first old new fa
 
 -- ---- one span and then another
 
-begins_on : (run : ℕ) (past : List Fact) (first last : Moment) → Keeps run first last → StaysCalm first last → Begins run past first → Begins run past last
+begins_on : (run : ℕ) (past : List Fact) (first last : Moment) → Keeps run first last → StaysCalm first last → RunBegins run past first → RunBegins run past last
 begins_on run past first last span calm begins =
     let holds = last-path span past begins in
     record { told = span_told span begins.told; legal = holds.legal; own = begins.own; moments = begins.moments; calm = calm past begins.calm; kept = holds.kept }
@@ -89,7 +89,7 @@ disks_go_out run first device facts (d ∷ disks) span =
     (entry_goes_on run first device facts (Removed (Disk d)) span (λ past begins holds. tt) (λ past begins holds image may. quiet_entry_keeps (contents_of image) (past ++ facts) (Removed (Disk d)) tt (holds.kept image may))))
 
 -- the earlier history, as a run finds it
-pub begins_run : (run : ℕ) (device : Device) (past : List Fact) → IsEarlier run device past → Begins run (past ++ Cut ∷ []) (at_moment device [])
+pub begins_run : (run : ℕ) (device : Device) (past : List Fact) → IsEarlier run device past → RunBegins run (past ++ Cut ∷ []) (at_moment device [])
 begins_run run device past earlier =
     let all : (past ++ Cut ∷ []) ++ [] ≡ past ++ Cut ∷ [] = append_none (past ++ Cut ∷ []) in
     record {
@@ -106,7 +106,7 @@ begins_run run device past earlier =
 
 pub span_upholds : SpanUpholds
 span_upholds run entry exit facts span =
-    let holds : (past : List Fact) → IsEarlier run entry past → Holds (past ++ Cut ∷ []) (at_moment exit facts) = λ past earlier. last-path span (past ++ Cut ∷ []) (begins_run run entry past earlier) in
+    let holds : (past : List Fact) → IsEarlier run entry past → HistoryHolds (past ++ Cut ∷ []) (at_moment exit facts) = λ past earlier. last-path span (past ++ Cut ∷ []) (begins_run run entry past earlier) in
     record {
       told = λ told. span_told span told;
       legal = λ past earlier. subst Legal (append_assoc past (Cut ∷ []) facts) (holds past earlier).legal;

@@ -5,7 +5,7 @@ use Rattle.lvm_num.specs.Buffer.{Buffer, Sector}
 use Rattle.lvm_num.specs.Geometry.{data_start}
 use Rattle.lvm_num.specs.Record.{Stamped}
 use Rattle.lvm_num.specs.declared.descriptor.Descriptor.{Descriptor}
-use Rattle.lvm_kept.specs.passed.Names.{Media, Image, Flight, Device, image_of, MayLeave, BothTold, Puts, Reads, IsRange, LeavesNoMore, DiffersBy, DeviceStep, Path}
+use Rattle.lvm_kept.specs.passed.Names.{Media, Image, Flight, Device, image_of, MayLeave, BothTold, Puts, ReadsRange, IsRange, LeavesNoMore, DiffersBy, DeviceStep, Path}
 use Rattle.lvm_vol.specs.declared.entry.Vol.TheVariants.{Disk}
 use Rattle.lvm_vol.specs.declared.entry.Outcome.{Outcome}
 use Rattle.lvm_vol.specs.declared.entry.Outcome.TheVariants as outcome
@@ -15,12 +15,12 @@ use Rattle.lvm_vol.specs.Legal.{begins_in, Gets}
 use Rattle.lvm_kept.specs.Contents.{contents_of, descriptor_on}
 use Rattle.lvm_kept.specs.Kept.{RawAgrees, Kept}
 use Rattle.lvm_kept.specs.Moments.{Moment}
-use Rattle.lvm_kept.specs.Raw.{raw_request, OnlyAdds, IsStill}
+use Rattle.lvm_kept.specs.Raw.{raw_request, OnlyAdds, HasNothingOut}
 use Rattle.lvm_kept.proofs.RawLemmas.Keeping.{of_kept, kept_more}
 use Rattle.lvm_kept.proofs.RawLemmas.Getting.{got_fits, got_kept}
 use Rattle.lvm_kept.proofs.FactsLemmas.{got_is, within}
 use Rattle.lvm_kept.proofs.MomentsLemmas.Spans.{at_moment, from_before}
-use Rattle.lvm_steps.specs.Moments.{Begins, Keeps}
+use Rattle.lvm_steps.specs.Moments.{RunBegins, Keeps}
 use Rattle.lvm_steps.specs.Requests.{IsInNoGroup, answered, darkened, read_flight, ReadGotKeeps, ReadFailedKeeps, ReadDarkKeeps, ReadStuckKeeps}
 use Rattle.lvm_steps.proofs.RequestsLemmas.Masks.{masked, to_masked, of_masked, descriptors_same, data_by}
 use Rattle.lvm_steps.proofs.RequestsLemmas.Writing.{IsUnderWay, begins_moment, goes_on, lands_moment, takes_moment, dark_moment}
@@ -77,7 +77,7 @@ module _ (run id disk at count ticket : ℕ) (sent : Buffer) (old : Device) (fac
 
   -- ---- it got its blocks
 
-  module _ (new : Device) (path : Path DeviceStep (OnlyAdds f old) old new) (still : IsStill old new) (puts : BothTold old.media new.media (Puts f)) (buf : Buffer) (reads : IfSome old.media (λ m. Reads m f buf))
+  module _ (new : Device) (path : Path DeviceStep (OnlyAdds f old) old new) (still : HasNothingOut old new) (puts : BothTold old.media new.media (Puts f)) (buf : Buffer) (reads : IfSome old.media (λ m. ReadsRange m f buf))
       (long : count ≤ length buf.sectors) (range : IsRange old disk at count) (low : data_start ≤ at) (none : IsInNoGroup old disk) where
     abbrev got : List Sector
     got = take count buf.sectors
@@ -96,7 +96,7 @@ module _ (run id disk at count ticket : ℕ) (sent : Buffer) (old : Device) (fac
       pub kept : Kept (contents_of image) (past ++ facts)
       pub shows : descriptor_on image disk ≡ None
 
-    kept_before : (past : List Fact) → Begins run past first → (image : Image) → MayLeave new image → KeptBefore past image
+    kept_before : (past : List Fact) → RunBegins run past first → (image : Image) → MayLeave new image → KeptBefore past image
     kept_before past begins image may =
         let from = from_before old new (λ d s x y. y ≡ x) (still_puts old.media new.media puts) still.flights still.sizes image may in
         let differs : DiffersBy f from.before image = record { same = from.same; each = λ d s. inl (from.sectors d s) } in

@@ -7,20 +7,20 @@ use Rattle.lvm_kept.specs.passed.Names.{Media, Image, Flight, Device, IsCrashIma
 use Rattle.lvm_vol.specs.declared.entry.Vol.TheVariants.{Disk}
 use Rattle.lvm_vol.specs.declared.entry.Outcome.{Outcome}
 use Rattle.lvm_vol.specs.declared.entry.Outcome.TheVariants as outcome
-use Rattle.lvm_vol.specs.Facts.{Fact, Request, Begun, Landed, Taken, Cut, Stands, is_over}
+use Rattle.lvm_vol.specs.Facts.{Fact, Request, Begun, Landed, Taken, Cut, IsInList, is_over}
 use Rattle.lvm_vol.specs.Legal.{begins_in, lands, takes, IsOutcomeOf, GotMay}
 use Rattle.lvm_vol.proofs.LawsLemmas.Legality.{same_self}
 use Rattle.lvm_kept.specs.Contents.{contents_of, descriptor_on}
 use Rattle.lvm_kept.specs.Kept.{RawAgrees, Kept}
 use Rattle.lvm_kept.specs.Moments.{Moment, Calm}
-use Rattle.lvm_kept.specs.Raw.{RawKept, raw_request, Carries, OnlyAdds, IsStill}
+use Rattle.lvm_kept.specs.Raw.{RawKept, raw_request, CarriesRequest, OnlyAdds, HasNothingOut}
 use Rattle.lvm_kept.specs.Places.{SameRecords}
 use Rattle.lvm_kept.proofs.LegalLemmas.{stands_last, stands_first, any_more, any_last, first_landing, first_taking}
 use Rattle.lvm_kept.proofs.RawLemmas.Keeping.{either, begun_kept, done_kept, lost_kept, kept_closed, cut_calm}
 use Rattle.lvm_kept.proofs.RawLemmas.Carrying.{over_here}
 use Rattle.lvm_kept.proofs.PlacesLemmas.{descriptor-same}
 use Rattle.lvm_kept.proofs.MomentsLemmas.Spans.{at_moment, regroup, next_joined, from_before}
-use Rattle.lvm_steps.specs.Moments.{ImagesKept, Begins, Holds, Keeps}
+use Rattle.lvm_steps.specs.Moments.{ImagesKept, RunBegins, HistoryHolds, Keeps}
 use Rattle.lvm_steps.specs.Entries.{IsDisk}
 use Rattle.lvm_steps.specs.Requests.{IsInNoGroup, StillShowsNone, IsOfData, StaysInNoGroup, answered, darkened, WriteDoneKeeps, WriteLostKeeps, WriteDarkKeeps, WriteStuckKeeps}
 use Rattle.lvm_steps.proofs.EntriesLemmas.{cut_keeps, quiet_entry_keeps, disk_entry_keeps}
@@ -46,16 +46,16 @@ stays_in_no_group f old new d of_data adds none image may =
 -- A request of the run with the next number has begun, and may stand behind further entries.
 pub record IsUnderWay (run : ℕ) (first : Moment) (r : Request) (device : Device) (facts : List Fact) : Type 0 where
   pub span : Keeps run first (at_moment device facts)
-  pub began : (past : List Fact) → Stands (Begun r) (past ++ facts)
-  pub unlanded : (past : List Fact) → Begins run past first → list_any (lands r) (past ++ facts) ≡ false
-  pub untaken : (past : List Fact) → Begins run past first → list_any (takes r) (past ++ facts) ≡ false
+  pub began : (past : List Fact) → IsInList (Begun r) (past ++ facts)
+  pub unlanded : (past : List Fact) → RunBegins run past first → list_any (lands r) (past ++ facts) ≡ false
+  pub untaken : (past : List Fact) → RunBegins run past first → list_any (takes r) (past ++ facts) ≡ false
 
 -- it lands, and its answer is taken
 pub record HasLanded (run : ℕ) (first : Moment) (r : Request) (device : Device) (facts : List Fact) : Type 0 where
   pub span : Keeps run first (at_moment device facts)
-  pub began : (past : List Fact) → Stands (Begun r) (past ++ facts)
+  pub began : (past : List Fact) → IsInList (Begun r) (past ++ facts)
   pub answered : (past : List Fact) → list_any (lands r) (past ++ facts) ≡ true
-  pub untaken : (past : List Fact) → Begins run past first → list_any (takes r) (past ++ facts) ≡ false
+  pub untaken : (past : List Fact) → RunBegins run past first → list_any (takes r) (past ++ facts) ≡ false
 
 pub begins_moment :
     (run : ℕ) (device : Device) (facts : List Fact) (r : Request) → r.run ≡ run → r.id ≡ count_by (begins_in run) facts + 1 → IsDisk r.vol
@@ -63,37 +63,37 @@ pub begins_moment :
 begins_moment run device facts r its next disk = record {
   span = entry_goes_on run (at_moment device facts) device facts (Begun r) (keeps_still run (at_moment device facts)) (λ past begins holds. joined past begins)
       (λ past begins holds image may. quiet_entry_keeps (contents_of image) (past ++ facts) (Begun r) disk (holds.kept image may));
-  began = λ past. regroup (Stands (Begun r)) past facts (Begun r) (stands_last (past ++ facts) (Begun r));
+  began = λ past. regroup (IsInList (Begun r)) past facts (Begun r) (stands_last (past ++ facts) (Begun r));
   unlanded = λ past begins. regroup (λ (l : List Fact). list_any (lands r) l ≡ false) past facts (Begun r) (first_landing (past ++ facts) r begins.legal (joined past begins));
   untaken = λ past begins. regroup (λ (l : List Fact). list_any (takes r) l ≡ false) past facts (Begun r) (first_taking (past ++ facts) r begins.legal (joined past begins));
 }
   where
-    joined : (past : List Fact) → Begins run past (at_moment device facts) → r.id ≡ count_by (begins_in r.run) (past ++ facts) + 1
+    joined : (past : List Fact) → RunBegins run past (at_moment device facts) → r.id ≡ count_by (begins_in r.run) (past ++ facts) + 1
     joined past begins = next ∙ next_joined run past facts begins.own ∙ ap (λ (n : ℕ). count_by (begins_in n) (past ++ facts) + 1) (sym its)
 
 -- the shelf goes on
 pub goes_on : (P : Device → Type 0) (run : ℕ) (first : Moment) (r : Request) (old new : Device) (facts : List Fact) → IsUnderWay run first r old facts
-    → ((past : List Fact) → Begins run past first → Holds past (at_moment old facts) → (d : Device) → P d → ImagesKept d (past ++ facts)) → Path DeviceStep P old new → IsUnderWay run first r new facts
+    → ((past : List Fact) → RunBegins run past first → HistoryHolds past (at_moment old facts) → (d : Device) → P d → ImagesKept d (past ++ facts)) → Path DeviceStep P old new → IsUnderWay run first r new facts
 goes_on P run first r old new facts way kept path = record { span = keeps_path P run first old new facts way.span kept path; began = way.began; unlanded = way.unlanded; untaken = way.untaken }
 
 -- the power went off meanwhile
 pub cut_moment : (run : ℕ) (first : Moment) (r : Request) (device : Device) (facts : List Fact) → IsUnderWay run first r device facts → IsUnderWay run first r device (facts ++ Cut ∷ [])
 cut_moment run first r device facts way = record {
   span = entry_goes_on run first device facts Cut way.span (λ past begins holds. tt) (λ past begins holds image may. cut_keeps (contents_of image) (past ++ facts) (holds.kept image may));
-  began = λ past. regroup (Stands (Begun r)) past facts Cut (stands_first (past ++ facts) Cut (Begun r) (way.began past));
+  began = λ past. regroup (IsInList (Begun r)) past facts Cut (stands_first (past ++ facts) Cut (Begun r) (way.began past));
   unlanded = λ past begins. regroup (λ (l : List Fact). list_any (lands r) l ≡ false) past facts Cut (any_more (lands r) (past ++ facts) Cut (way.unlanded past begins) refl);
   untaken = λ past begins. regroup (λ (l : List Fact). list_any (takes r) l ≡ false) past facts Cut (any_more (takes r) (past ++ facts) Cut (way.untaken past begins) refl);
 }
 
 pub lands_moment :
     (run : ℕ) (first : Moment) (r : Request) (device : Device) (facts : List Fact) (how : Outcome) (started : Bool) (got : List (List ℕ)) → IsUnderWay run first r device facts → IsDisk r.vol → IsOutcomeOf how r started
-    → ((past : List Fact) → Begins run past first → Holds past (at_moment device facts) → GotMay (past ++ facts) r how got)
-    → ((past : List Fact) → Begins run past first → Holds past (at_moment device facts) → (image : Image) → MayLeave device image → RawAgrees (contents_of image) ((past ++ facts) ++ Landed r how started got ∷ []))
+    → ((past : List Fact) → RunBegins run past first → HistoryHolds past (at_moment device facts) → GotMay (past ++ facts) r how got)
+    → ((past : List Fact) → RunBegins run past first → HistoryHolds past (at_moment device facts) → (image : Image) → MayLeave device image → RawAgrees (contents_of image) ((past ++ facts) ++ Landed r how started got ∷ []))
     → HasLanded run first r device (facts ++ Landed r how started got ∷ [])
 lands_moment run first r device facts how started got way disk kind reads raw = record {
   span = entry_goes_on run first device facts (Landed r how started got) way.span (λ past begins holds. record { began = way.began past; first = way.unlanded past begins; kind = kind; reads = reads past begins holds })
       (λ past begins holds image may. disk_entry_keeps (contents_of image) (past ++ facts) (Landed r how started got) disk (raw past begins holds image may) (holds.kept image may));
-  began = λ past. regroup (Stands (Begun r)) past facts (Landed r how started got) (stands_first (past ++ facts) (Landed r how started got) (Begun r) (way.began past));
+  began = λ past. regroup (IsInList (Begun r)) past facts (Landed r how started got) (stands_first (past ++ facts) (Landed r how started got) (Begun r) (way.began past));
   answered = λ past. regroup (λ (l : List Fact). list_any (lands r) l ≡ true) past facts (Landed r how started got) (any_last (lands r) (past ++ facts) (Landed r how started got) (same_self r));
   untaken = λ past begins. regroup (λ (l : List Fact). list_any (takes r) l ≡ false) past facts (Landed r how started got) (any_more (takes r) (past ++ facts) (Landed r how started got) (way.untaken past begins) refl);
 }
@@ -106,8 +106,8 @@ takes_moment run first r device facts has = entry_goes_on run first device facts
 -- The power is cut while it is under way: it lands so, its answer is taken, and the power is put on again.
 pub dark_moment :
     (run : ℕ) (first : Moment) (r : Request) (dark new : Device) (facts : List Fact) (started : Bool) → IsUnderWay run first r dark facts → IsDisk r.vol → IsOutcomeOf outcome.Dark r started
-    → ((past : List Fact) → Begins run past first → Holds past (at_moment dark (facts ++ Cut ∷ [])) → GotMay (past ++ (facts ++ Cut ∷ [])) r outcome.Dark [])
-    → ((past : List Fact) → Begins run past first → Holds past (at_moment dark (facts ++ Cut ∷ [])) → (image : Image) → MayLeave dark image → RawAgrees (contents_of image) ((past ++ (facts ++ Cut ∷ [])) ++ Landed r outcome.Dark started [] ∷ []))
+    → ((past : List Fact) → RunBegins run past first → HistoryHolds past (at_moment dark (facts ++ Cut ∷ [])) → GotMay (past ++ (facts ++ Cut ∷ [])) r outcome.Dark [])
+    → ((past : List Fact) → RunBegins run past first → HistoryHolds past (at_moment dark (facts ++ Cut ∷ [])) → (image : Image) → MayLeave dark image → RawAgrees (contents_of image) ((past ++ (facts ++ Cut ∷ [])) ++ Landed r outcome.Dark started [] ∷ []))
     → Path DeviceStep (LeavesNoMore dark) dark new → Keeps run first (at_moment new (((facts ++ Cut ∷ []) ++ Landed r outcome.Dark started [] ∷ []) ++ Taken r ∷ []))
 dark_moment run first r dark new facts started way disk kind reads raw lit =
     keeps_steps run first dark new (((facts ++ Cut ∷ []) ++ Landed r outcome.Dark started [] ∷ []) ++ Taken r ∷ [])
@@ -117,7 +117,7 @@ dark_moment run first r dark new facts started way disk kind reads raw lit =
 
 -- ---- writes
 
-module _ (run id disk at count : ℕ) (blocks : List Sector) (f : Flight) (carries : Carries (raw_request run id disk at count true blocks) f) (old : Device) (facts : List Fact) (next : id ≡ count_by (begins_in run) facts + 1)
+module _ (run id disk at count : ℕ) (blocks : List Sector) (f : Flight) (carries : CarriesRequest (raw_request run id disk at count true blocks) f) (old : Device) (facts : List Fact) (next : id ≡ count_by (begins_in run) facts + 1)
     (none : IsInNoGroup old disk) (low : data_start ≤ at) where
   abbrev it : Request
   it = raw_request run id disk at count true blocks
@@ -167,7 +167,7 @@ module _ (run id disk at count : ℕ) (blocks : List Sector) (f : Flight) (carri
       path
 
   -- it ended well
-  pub write_done : (new : Device) → Path DeviceStep (OnlyAdds f old) old new → IsStill old new → BothTold old.media new.media (Puts f) → Keeps run first (at_moment new (answered facts it outcome.Done []))
+  pub write_done : (new : Device) → Path DeviceStep (OnlyAdds f old) old new → HasNothingOut old new → BothTold old.media new.media (Puts f) → Keeps run first (at_moment new (answered facts it outcome.Done []))
   write_done new path still puts = takes_moment run first it new ((facts ++ Begun it ∷ []) ++ Landed it outcome.Done true [] ∷ [])
       (lands_moment run first it new (facts ++ Begun it ∷ []) outcome.Done true [] (write_goes new path) tt refl (λ past begins holds. tt)
       (λ past begins holds image may. let from = from_before old new (λ d s x y. y ≡ unwrap_or (written f d s) x) puts still.flights still.sizes image may in
@@ -179,7 +179,7 @@ module _ (run id disk at count : ℕ) (blocks : List Sector) (f : Flight) (carri
       put_or_same (Some z) x y is = Rattle.std.proofs.Common.inr (ap (λ (w : Sector). Some w) (sym is))
 
   -- it failed
-  pub write_lost : (new : Device) → Path DeviceStep (OnlyAdds f old) old new → IsStill old new → BothTold old.media new.media (PutsSome f) → Keeps run first (at_moment new (answered facts it outcome.Lost []))
+  pub write_lost : (new : Device) → Path DeviceStep (OnlyAdds f old) old new → HasNothingOut old new → BothTold old.media new.media (PutsSome f) → Keeps run first (at_moment new (answered facts it outcome.Lost []))
   write_lost new path still puts = takes_moment run first it new ((facts ++ Begun it ∷ []) ++ Landed it outcome.Lost true [] ∷ [])
       (lands_moment run first it new (facts ++ Begun it ∷ []) outcome.Lost true [] (write_goes new path) tt refl (λ past begins holds. tt)
       (λ past begins holds image may. let from = from_before old new (λ d s x y. (y ≡ x) ⊎ (written f d s ≡ Some y)) puts still.flights still.sizes image may in
@@ -201,19 +201,19 @@ module _ (run id disk at count : ℕ) (blocks : List Sector) (f : Flight) (carri
 pub write_done_keeps : WriteDoneKeeps
 write_done_keeps facts r f old new run disk at count blocks write still puts =
     subst (λ (q : Request). Keeps run (at_moment old facts) (at_moment new (answered facts q outcome.Done []))) (sym write.is)
-    (write_done run _ disk at count blocks f (subst (λ (q : Request). Carries q f) write.is write.carries) old facts refl write.none write.low new write.path still puts)
+    (write_done run _ disk at count blocks f (subst (λ (q : Request). CarriesRequest q f) write.is write.carries) old facts refl write.none write.low new write.path still puts)
 
 pub write_lost_keeps : WriteLostKeeps
 write_lost_keeps facts r f old new run disk at count blocks write still puts =
     subst (λ (q : Request). Keeps run (at_moment old facts) (at_moment new (answered facts q outcome.Lost []))) (sym write.is)
-    (write_lost run _ disk at count blocks f (subst (λ (q : Request). Carries q f) write.is write.carries) old facts refl write.none write.low new write.path still puts)
+    (write_lost run _ disk at count blocks f (subst (λ (q : Request). CarriesRequest q f) write.is write.carries) old facts refl write.none write.low new write.path still puts)
 
 pub write_dark_keeps : WriteDarkKeeps
 write_dark_keeps facts r f old dark new run disk at count blocks started write lit =
     subst (λ (q : Request). Keeps run (at_moment old facts) (at_moment new (darkened facts q started))) (sym write.is)
-    (write_dark run _ disk at count blocks f (subst (λ (q : Request). Carries q f) write.is write.carries) old facts refl write.none write.low dark new started write.path lit)
+    (write_dark run _ disk at count blocks f (subst (λ (q : Request). CarriesRequest q f) write.is write.carries) old facts refl write.none write.low dark new started write.path lit)
 
 pub write_stuck_keeps : WriteStuckKeeps
 write_stuck_keeps facts r f old new run disk at count blocks write =
     subst (λ (q : Request). Keeps run (at_moment old facts) (at_moment new (facts ++ Begun q ∷ []))) (sym write.is)
-    (write_goes run _ disk at count blocks f (subst (λ (q : Request). Carries q f) write.is write.carries) old facts refl write.none write.low new write.path).span
+    (write_goes run _ disk at count blocks f (subst (λ (q : Request). CarriesRequest q f) write.is write.carries) old facts refl write.none write.low new write.path).span

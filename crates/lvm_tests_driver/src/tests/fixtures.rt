@@ -9,7 +9,7 @@ ghost use Rattle.lvm_memory.specs.Media.{blank_disks_of, sizes_of};
 ghost use Rattle.lvm_memory.specs.Memory.{device_of};
 ghost use Rattle.lvm_session.specs.declared.open.Power.TheVariants as power;
 ghost use Rattle.lvm_session_start.specs.Parts.{IsSessionRoom};
-ghost use Rattle.lvm_session.specs.Sound.{IsLit};
+ghost use Rattle.lvm_session.specs.Sound.{HasPower};
 ghost use Rattle.lvm_session.specs.Worked.{status_of};
 ghost use Rattle.lvm_vol.specs.Log.{empty_log, spare_entries};
 
@@ -211,7 +211,7 @@ fn plan_of(rt: &(impl Abort + AllocGlobal), plan: &[Planned]) -> Rows<Planned>
 
 // Three disks of zeros, with room for one partition each.
 fn shelf(rt: &(impl Abort + AllocGlobal), mib: u16, plan: &[Planned]) -> MemShelf
-    ensures lit { IsLit (device_of result) }
+    ensures lit { HasPower (device_of result) }
     ensures idle { (device_of result).flights ≡ [] }
     ensures sizes { (device_of result).sizes ≡ sizes_of (blank_disks_of ((4096 + 2048 * mib) ∷ (4096 + 2048 * mib) ∷ (4096 + 2048 * mib) ∷ [])) }
 {

@@ -2,7 +2,7 @@ ghost use Rattle.std.specs.Prelude.{◌≡◌, ◌≢◌, ◌<◌, ◌≤◌, �
 ghost use Rattle.lvm_vol.specs.Facts.{Fact};
 ghost use Rattle.lvm_vol.specs.Fronts.{own};
 ghost use Rattle.lvm_turn.specs.Views.{numbers, up_to};
-ghost use Rattle.lvm_turn.specs.Calls.{IsIdle};
+ghost use Rattle.lvm_turn.specs.Calls.{IsIdlePass};
 
 use crate::tests::fixtures::check;
 use lvm_history::History;
@@ -72,8 +72,8 @@ impl Desk {
 
 // Enters and leaves the value as it was.
 fn visit<V: Shown, R: Wait>(rt: &R, turn: &Turn<V>, mut pass: Pass, client: u32) -> Pass
-    requires { IsIdle turn.now.table (client ∷ []) pass }
-    ensures { IsIdle turn.now.table (client ∷ []) result }
+    requires { IsIdlePass turn.now.table (client ∷ []) pass }
+    ensures { IsIdlePass turn.now.table (client ∷ []) result }
 {
     let value = turn.enter(rt, &mut pass);
     turn.leave(&mut pass, value);
@@ -89,10 +89,10 @@ fn visit_both<V: Shown + Send, R: Threads + Wait + Sync>(
     two: Pass,
     other: u32,
 ) -> (Pass, Pass)
-    requires one { IsIdle turn.now.table (client ∷ []) one }
-    requires two { IsIdle turn.now.table (other ∷ []) two }
-    ensures one { IsIdle turn.now.table (client ∷ []) result.0 }
-    ensures two { IsIdle turn.now.table (other ∷ []) result.1 }
+    requires one { IsIdlePass turn.now.table (client ∷ []) one }
+    requires two { IsIdlePass turn.now.table (other ∷ []) two }
+    ensures one { IsIdlePass turn.now.table (client ∷ []) result.0 }
+    ensures two { IsIdlePass turn.now.table (other ∷ []) result.1 }
 {
     thread::join(
         rt,
@@ -103,8 +103,8 @@ fn visit_both<V: Shown + Send, R: Threads + Wait + Sync>(
 
 // Enters a hundred times, each time to begin a request of its client.
 fn work<R: Wait>(rt: &R, turn: &Turn<Desk>, mut pass: Pass, client: u32) -> Pass
-    requires { IsIdle turn.now.table (client ∷ []) pass }
-    ensures { IsIdle turn.now.table (client ∷ []) result }
+    requires { IsIdlePass turn.now.table (client ∷ []) pass }
+    ensures { IsIdlePass turn.now.table (client ∷ []) result }
 {
     for _ in 0..ROUNDS {
         let mut desk = turn.enter(rt, &mut pass);
@@ -123,10 +123,10 @@ fn work_both<R: Threads + Wait + Sync>(
     two: Pass,
     other: u32,
 ) -> (Pass, Pass)
-    requires one { IsIdle turn.now.table (client ∷ []) one }
-    requires two { IsIdle turn.now.table (other ∷ []) two }
-    ensures one { IsIdle turn.now.table (client ∷ []) result.0 }
-    ensures two { IsIdle turn.now.table (other ∷ []) result.1 }
+    requires one { IsIdlePass turn.now.table (client ∷ []) one }
+    requires two { IsIdlePass turn.now.table (other ∷ []) two }
+    ensures one { IsIdlePass turn.now.table (client ∷ []) result.0 }
+    ensures two { IsIdlePass turn.now.table (other ∷ []) result.1 }
 {
     thread::join(
         rt,
@@ -141,25 +141,25 @@ fn work_all<R: Threads + Wait + Sync>(
     turn: &Turn<Desk>,
     passes: (Pass, Pass, Pass, Pass),
 ) -> ((Pass, Pass), (Pass, Pass))
-    requires one { IsIdle turn.now.table (1 ∷ []) passes.0 }
-    requires two { IsIdle turn.now.table (2 ∷ []) passes.1 }
-    requires three { IsIdle turn.now.table (3 ∷ []) passes.2 }
-    requires four { IsIdle turn.now.table (4 ∷ []) passes.3 }
-    ensures one { IsIdle turn.now.table (1 ∷ []) result.0.0 }
-    ensures two { IsIdle turn.now.table (2 ∷ []) result.0.1 }
-    ensures three { IsIdle turn.now.table (3 ∷ []) result.1.0 }
-    ensures four { IsIdle turn.now.table (4 ∷ []) result.1.1 }
+    requires one { IsIdlePass turn.now.table (1 ∷ []) passes.0 }
+    requires two { IsIdlePass turn.now.table (2 ∷ []) passes.1 }
+    requires three { IsIdlePass turn.now.table (3 ∷ []) passes.2 }
+    requires four { IsIdlePass turn.now.table (4 ∷ []) passes.3 }
+    ensures one { IsIdlePass turn.now.table (1 ∷ []) result.0.0 }
+    ensures two { IsIdlePass turn.now.table (2 ∷ []) result.0.1 }
+    ensures three { IsIdlePass turn.now.table (3 ∷ []) result.1.0 }
+    ensures four { IsIdlePass turn.now.table (4 ∷ []) result.1.1 }
 {
     let (one, two, three, four) = passes;
     thread::join(
         rt,
         move ||
-            requires one { IsIdle turn.now.table (1 ∷ []) one }
-            requires two { IsIdle turn.now.table (2 ∷ []) two }
+            requires one { IsIdlePass turn.now.table (1 ∷ []) one }
+            requires two { IsIdlePass turn.now.table (2 ∷ []) two }
         { work_both(rt, turn, one, 1, two, 2) },
         move ||
-            requires three { IsIdle turn.now.table (3 ∷ []) three }
-            requires four { IsIdle turn.now.table (4 ∷ []) four }
+            requires three { IsIdlePass turn.now.table (3 ∷ []) three }
+            requires four { IsIdlePass turn.now.table (4 ∷ []) four }
         { work_both(rt, turn, three, 3, four, 4) },
     )
 }
@@ -168,7 +168,7 @@ fn work_all<R: Threads + Wait + Sync>(
 fn opened(rt: &(impl Abort + AllocGlobal), clients: u32) -> (Turn<Desk>, Pass)
     requires { 0 < clients }
     ensures clients { result.0.clients ≡ clients }
-    ensures idle { IsIdle result.0.table (numbers (up_to clients)) result.1 }
+    ensures idle { IsIdlePass result.0.table (numbers (up_to clients)) result.1 }
 {
     let desk = Desk::new(rt.alloc()).expect(rt, "memory");
     let Ok(made) = Turn::new(rt.alloc(), desk, clients) else {
@@ -180,8 +180,8 @@ fn opened(rt: &(impl Abort + AllocGlobal), clients: u32) -> (Turn<Desk>, Pass)
 // The same with a pass of each of two clients.
 fn opened_for_two(rt: &(impl Abort + AllocGlobal)) -> (Turn<Desk>, Pass, Pass)
     ensures clients { result.0.clients ≡ 2 }
-    ensures one { IsIdle result.0.table (1 ∷ []) result.1 }
-    ensures two { IsIdle result.0.table (2 ∷ []) result.2 }
+    ensures one { IsIdlePass result.0.table (1 ∷ []) result.1 }
+    ensures two { IsIdlePass result.0.table (2 ∷ []) result.2 }
 {
     let (turn, mut one) = opened(rt, 2);
     let two = turn.split(&mut one, 2);
@@ -191,8 +191,8 @@ fn opened_for_two(rt: &(impl Abort + AllocGlobal)) -> (Turn<Desk>, Pass, Pass)
 // What the two leave.
 fn closed_by_two(turn: Turn<Desk>, mut one: Pass, two: Pass) -> Desk
     requires clients { turn.clients ≡ 2 }
-    requires one { IsIdle turn.table (1 ∷ []) one }
-    requires two { IsIdle turn.table (2 ∷ []) two }
+    requires one { IsIdlePass turn.table (1 ∷ []) one }
+    requires two { IsIdlePass turn.table (2 ∷ []) two }
 {
     turn.join(&mut one, two);
     turn.close(one)
@@ -200,8 +200,8 @@ fn closed_by_two(turn: Turn<Desk>, mut one: Pass, two: Pass) -> Desk
 
 // Enters without waiting, to begin a request of its client.
 fn work_once(rt: &impl Abort, turn: &Turn<Desk>, mut pass: Pass, client: u32) -> Pass
-    requires { IsIdle turn.now.table (client ∷ []) pass }
-    ensures { IsIdle turn.now.table (client ∷ []) result }
+    requires { IsIdlePass turn.now.table (client ∷ []) pass }
+    ensures { IsIdlePass turn.now.table (client ∷ []) result }
 {
     let Some(mut desk) = turn.try_enter(&mut pass) else {
         panic!(rt; "the turn is free")
@@ -213,8 +213,8 @@ fn work_once(rt: &impl Abort, turn: &Turn<Desk>, mut pass: Pass, client: u32) ->
 
 // Tries to enter while another pass has the turn.
 fn miss(rt: &impl Abort, turn: &Turn<Desk>, mut pass: Pass, client: u32) -> Pass
-    requires { IsIdle turn.now.table (client ∷ []) pass }
-    ensures { IsIdle turn.now.table (client ∷ []) result }
+    requires { IsIdlePass turn.now.table (client ∷ []) pass }
+    ensures { IsIdlePass turn.now.table (client ∷ []) result }
 {
     let None = turn.try_enter(&mut pass) else {
         panic!(rt; "the turn is taken")
@@ -231,10 +231,10 @@ fn visit_beside(
     other: Pass,
     others: u32,
 ) -> (Pass, Pass)
-    requires one { IsIdle turn.now.table (client ∷ []) pass }
-    requires two { IsIdle turn.now.table (others ∷ []) other }
-    ensures one { IsIdle turn.now.table (client ∷ []) result.0 }
-    ensures two { IsIdle turn.now.table (others ∷ []) result.1 }
+    requires one { IsIdlePass turn.now.table (client ∷ []) pass }
+    requires two { IsIdlePass turn.now.table (others ∷ []) other }
+    ensures one { IsIdlePass turn.now.table (client ∷ []) result.0 }
+    ensures two { IsIdlePass turn.now.table (others ∷ []) result.1 }
 {
     let Some(desk) = turn.try_enter(&mut pass) else {
         panic!(rt; "the turn is free")
@@ -280,10 +280,10 @@ fn two_threads_visit_a_value_of_any_type(rt: HostRuntime) {
 // A turn over an empty history, with a pass of each of four clients.
 fn opened_for_four(rt: &(impl Abort + AllocGlobal)) -> (Turn<Desk>, (Pass, Pass, Pass, Pass))
     ensures clients { result.0.clients ≡ 4 }
-    ensures one { IsIdle result.0.table (1 ∷ []) result.1.0 }
-    ensures two { IsIdle result.0.table (2 ∷ []) result.1.1 }
-    ensures three { IsIdle result.0.table (3 ∷ []) result.1.2 }
-    ensures four { IsIdle result.0.table (4 ∷ []) result.1.3 }
+    ensures one { IsIdlePass result.0.table (1 ∷ []) result.1.0 }
+    ensures two { IsIdlePass result.0.table (2 ∷ []) result.1.1 }
+    ensures three { IsIdlePass result.0.table (3 ∷ []) result.1.2 }
+    ensures four { IsIdlePass result.0.table (4 ∷ []) result.1.3 }
 {
     let (turn, mut one) = opened(rt, 4);
     let two = turn.split(&mut one, 2);
@@ -295,10 +295,10 @@ fn opened_for_four(rt: &(impl Abort + AllocGlobal)) -> (Turn<Desk>, (Pass, Pass,
 // What the four leave.
 fn closed_by_four(turn: Turn<Desk>, passes: ((Pass, Pass), (Pass, Pass))) -> Desk
     requires clients { turn.clients ≡ 4 }
-    requires one { IsIdle turn.table (1 ∷ []) passes.0.0 }
-    requires two { IsIdle turn.table (2 ∷ []) passes.0.1 }
-    requires three { IsIdle turn.table (3 ∷ []) passes.1.0 }
-    requires four { IsIdle turn.table (4 ∷ []) passes.1.1 }
+    requires one { IsIdlePass turn.table (1 ∷ []) passes.0.0 }
+    requires two { IsIdlePass turn.table (2 ∷ []) passes.0.1 }
+    requires three { IsIdlePass turn.table (3 ∷ []) passes.1.0 }
+    requires four { IsIdlePass turn.table (4 ∷ []) passes.1.1 }
 {
     let ((mut all, two), (three, four)) = passes;
     turn.join(&mut all, two);

@@ -11,7 +11,7 @@ use Rattle.lvm_disk.specs.Device.{Media}
 use Rattle.lvm_disk.proofs.PathsLemmas.{last-path}
 use Rattle.lvm_kept.specs.Contents.{Contents}
 use Rattle.lvm_kept.specs.Moments.{Moment, StaysCalm}
-use Rattle.lvm_steps.specs.Moments.{Begins, Keeps, Upholds}
+use Rattle.lvm_steps.specs.Moments.{RunBegins, Keeps, Upholds}
 use Rattle.lvm_steps.proofs.GroupLemmas.Members.{member_of_parts}
 use Rattle.lvm_tie.proofs.passed.Names.{shows_group}
 use Rattle.lvm_mwc.specs.declared.notes.DiskNotes.{DiskNotes}
@@ -21,7 +21,7 @@ use Rattle.lvm_session.specs.State.{Core, State, is_there}
 use Rattle.lvm_session_start.specs.declared.parts.Parts.{Parts}
 use Rattle.lvm_session_start.specs.Parts.{IsReserved}
 use Rattle.lvm_tie.specs.Tied.{IsTied, moment_of}
-use Rattle.lvm_tie.specs.Begins.{BeginsGood, BeginsSound, BeginsTied, FollowsOn, IsResting, MembersShow, StandsAtRest, Start, begun, shown_to}
+use Rattle.lvm_tie.specs.Begins.{BeginsGood, BeginsSound, BeginsTied, FollowsOn, IsCoreAtRest, MembersShow, StandsAtRest, Start, begun, shown_to}
 use Rattle.lvm_tie.proofs.BeginsLemmas.Resting.{rest_ties}
 
 -- where no disk is missing but those that were at first, each other member shows the group
@@ -54,7 +54,7 @@ module _ (b : Start) (media : Media) (first : BeginsSound b) (stands : StandsAtR
       by true = refl
       by false = refl
 
-  rests : IsResting core
+  rests : IsCoreAtRest core
   rests = record {
     requests = its.requests;
     copy = refl;
@@ -71,7 +71,7 @@ module _ (b : Start) (media : Media) (first : BeginsSound b) (stands : StandsAtR
   ties past follows = rest_ties past s media first.sound refl rests stands members follows
 
 -- where the span leads to it, it follows on each earlier history
-follows_on : (run : ℕ) (m : Moment) (s : State) → s.core.history.run ≡ run → Keeps run m (moment_of s) → StaysCalm m (moment_of s) → (past : List Fact) → Begins run past m → FollowsOn past s
+follows_on : (run : ℕ) (m : Moment) (s : State) → s.core.history.run ≡ run → Keeps run m (moment_of s) → StaysCalm m (moment_of s) → (past : List Fact) → RunBegins run past m → FollowsOn past s
 follows_on run m s run_is keeps calm past begins = record {
   holds = let last : Upholds run m (moment_of s) = last-path keeps in last past begins;
   calm = calm past begins.calm;

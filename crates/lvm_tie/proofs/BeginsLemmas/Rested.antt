@@ -27,7 +27,7 @@ use Rattle.lvm_session.specs.Sound.{IsOn}
 use Rattle.lvm_invariant.specs.State.{Groups, Marks, Queued, ModelState}
 use Rattle.lvm_invariant.specs.Found.{Found}
 use Rattle.lvm_crash.specs.Session.{as_marks, marks_of, marks_shown, Describes}
-use Rattle.lvm_rest.specs.Rest.{IsAtRest, IsIdle, SeesThat}
+use Rattle.lvm_rest.specs.Rest.{HoldsAtRest, IsModelAtRest, SeesThat}
 use Rattle.lvm_rest.proofs.GoodLemmas.Rest.{good_is_rest}
 use Rattle.lvm_steps.proofs.GroupLemmas.Members.{parts_of}
 use Rattle.lvm_tie.proofs.StateLemmas.{there_first}
@@ -36,7 +36,7 @@ use Rattle.lvm_tie.proofs.TiedLemmas.Recorded.{shown_of, shows_own}
 use Rattle.lvm_tie.proofs.AmongLemmas.{not_true}
 use Rattle.lvm_tie.specs.Seen.{IsRequestAt, IsStepAt, SeesCopy, SeesNote, step_write_in, update_of}
 use Rattle.lvm_tie.specs.Tied.{IsTied, ShowsRecords, ShowsStatus}
-use Rattle.lvm_tie.specs.Begins.{NotesAreHomeIn, IsResting, ShowsIts, TiedRests, shown_to}
+use Rattle.lvm_tie.specs.Begins.{NotesAreHomeIn, IsCoreAtRest, ShowsIts, TiedRests, shown_to}
 use Rattle.lvm_tie.proofs.BeginsLemmas.Resting.{names_written, none_at, some_is_none}
 use Rattle.lvm_tie.proofs.SeenLemmas.Beside.{plain_copies, plain_status}
 
@@ -47,7 +47,7 @@ note_none (Some n) sees = absurd sees
 not_both : (a b : Stamp) {X : Type 0} → stamp_lt a b ≡ true → stamp_lt b a ≡ true → X
 not_both a b before after = absurd (let no : stamp_lt b a ≡ false = grind (arith, nat_tests) in let e : true ≡ false = sym after ∙ no in cc)
 
-module _ (past : List Fact) (s : State) (tied : IsTied past s) (rests : IsResting s.core) (enough : CanWrite s.core.descriptor (is_there s.core)) where
+module _ (past : List Fact) (s : State) (tied : IsTied past s) (rests : IsCoreAtRest s.core) (enough : CanWrite s.core.descriptor (is_there s.core)) where
   abbrev core : Core
   core = s.core
 
@@ -72,7 +72,7 @@ module _ (past : List Fact) (s : State) (tied : IsTied past s) (rests : IsRestin
   none_flies : v.in_flight ≡ None
   none_flies = tied.sees.status.in_flight ∙ ap (option_map (as_marks None)) no_update
 
-  idle : IsIdle v
+  idle : IsModelAtRest v
   idle = record {
     queue = λ i. empty i (v.queue i) refl;
     in_flight = none_flies;
@@ -187,7 +187,7 @@ module _ (past : List Fact) (s : State) (tied : IsTied past s) (rests : IsRestin
     notes = notes_seen;
   }
 
-  rest : IsAtRest c v.facts group (Some shows.stands) (is_there core)
+  rest : HoldsAtRest c v.facts group (Some shows.stands) (is_there core)
   rest = good_is_rest tied.votes v group core.status.committed (is_there core) c tied.setting.are_votes (valid_of s tied.write tied.orderly) (images_within image) shows idle sees tied.good
       (subst (λ (u : Option (Stamped Status)). Describes v v.facts group u c) no_update tied.describes)
 
@@ -212,7 +212,7 @@ tied_rests past s tied rests enough = (
   shows past s tied rests enough,
   record {
     told = tied.setting.told;
-    rest = subst (λ (facts : List Fact). IsAtRest (shown_to s tied.media) facts s.core.descriptor (Some (shows past s tied rests enough).stands) (is_there s.core)) tied.sees.facts (rest past s tied rests enough);
+    rest = subst (λ (facts : List Fact). HoldsAtRest (shown_to s tied.media) facts s.core.descriptor (Some (shows past s tied rests enough).stands) (is_there s.core)) tied.sees.facts (rest past s tied rests enough);
     notes = home past s tied rests enough;
   },
 )

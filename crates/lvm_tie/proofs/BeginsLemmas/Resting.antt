@@ -30,7 +30,7 @@ use Rattle.lvm_invariant.specs.Found.{Votes}
 use Rattle.lvm_invariant.specs.Good.{Good}
 use Rattle.lvm_crash.specs.Session.{AreVotesOf, Describes, as_marks, marks_of, members_showing}
 use Rattle.lvm_crash.proofs.WorkedLemmas.Worked.{groups_have_votes}
-use Rattle.lvm_rest.specs.Rest.{AreClosed, HasCopies, IsAtRest, IsIdle, SeesThat}
+use Rattle.lvm_rest.specs.Rest.{AreClosed, HasCopies, HoldsAtRest, IsModelAtRest, SeesThat}
 use Rattle.lvm_rest.proofs.ClosedLemmas.{calm_is_closed}
 use Rattle.lvm_rest.proofs.GoodLemmas.Good.{rest_is_good}
 use Rattle.lvm_rest.proofs.GoodLemmas.Seen.{rest_is_seen}
@@ -39,7 +39,7 @@ use Rattle.lvm_tie.specs.Out.{CarryTheirs, IsWriteOf}
 use Rattle.lvm_tie.specs.Seen.{Brings, Sees, SeesCopy, SeesNote, step_write_in, update_of}
 use Rattle.lvm_tie.specs.Spares.{SparesOn}
 use Rattle.lvm_tie.specs.Tied.{IsTied}
-use Rattle.lvm_tie.specs.Begins.{FollowsOn, IsResting, MembersShow, RestSpares, RestTies, StandsAtRest}
+use Rattle.lvm_tie.specs.Begins.{FollowsOn, IsCoreAtRest, MembersShow, RestSpares, RestTies, StandsAtRest}
 
 pub some_is_none : {A X : Type 0} (o : Option A) (x : A) → o ≡ None → o ≡ Some x → X
 some_is_none None x none some = absurd cc
@@ -62,7 +62,7 @@ names_written lv g n none = ap (λ (o : Option (ArrayVec NoteEntry)). names_grou
     and_true true = refl
     and_true false = refl
 
-module _ (past : List Fact) (s : State) (media : Media) (sound : IsSound s) (power_is : s.core.power ≡ power.On) (rests : IsResting s.core) (stands : StandsAtRest s media) (follows : FollowsOn past s) where
+module _ (past : List Fact) (s : State) (media : Media) (sound : IsSound s) (power_is : s.core.power ≡ power.On) (rests : IsCoreAtRest s.core) (stands : StandsAtRest s media) (follows : FollowsOn past s) where
   abbrev core : Core
   core = s.core
 
@@ -83,13 +83,13 @@ module _ (past : List Fact) (s : State) (media : Media) (sound : IsSound s) (pow
 
   -- ---- what it is seen as
 
-  found : (v : ModelState) × (v.facts ≡ facts) × IsIdle v × SeesThat v core.descriptor stated (is_there core) c
+  found : (v : ModelState) × (v.facts ≡ facts) × IsModelAtRest v × SeesThat v core.descriptor stated (is_there core) c
   found = rest_is_seen facts core.descriptor stated (is_there core) c sound.fitting.valid
 
   abbrev first : ModelState
   first = found.0
 
-  idle_first : IsIdle first
+  idle_first : IsModelAtRest first
   idle_first = found.2
 
   seen_first : SeesThat first core.descriptor stated (is_there core) c
@@ -99,7 +99,7 @@ module _ (past : List Fact) (s : State) (media : Media) (sound : IsSound s) (pow
   abbrev v : ModelState
   v = record first { cache = λ lv g. has_entry core.cache.entries lv g }
 
-  idle : IsIdle v
+  idle : IsModelAtRest v
   idle = record { queue = idle_first.queue; in_flight = idle_first.in_flight; wanted = idle_first.wanted; no_status = idle_first.no_status; no_note = idle_first.no_note; no_copy = idle_first.no_copy; no_step = idle_first.no_step }
 
   copies : HasCopies v core.descriptor (members_showing c core.descriptor)
@@ -125,7 +125,7 @@ module _ (past : List Fact) (s : State) (media : Media) (sound : IsSound s) (pow
   kept : Kept c facts
   kept = follows.holds.kept image (media_may s.device media stands.told)
 
-  at_rest : IsAtRest c facts core.descriptor (Some stated) (is_there core)
+  at_rest : HoldsAtRest c facts core.descriptor (Some stated) (is_there core)
   at_rest = record {
     legal = follows.holds.legal;
     kept = kept;
@@ -145,7 +145,7 @@ module _ (past : List Fact) (s : State) (media : Media) (sound : IsSound s) (pow
 
   good : Good votes v × Describes v v.facts core.descriptor None c
   good = rest_is_good votes v core.descriptor core.status.committed (is_there core) c are_votes sound.fitting.valid (images_within image) stands.votes stands.held.shows idle sees_that
-      (subst (λ (l : List Fact). AreClosed l core.descriptor) (sym facts_are) closed) (subst (λ (l : List Fact). IsAtRest c l core.descriptor (Some stated) (is_there core)) (sym facts_are) at_rest)
+      (subst (λ (l : List Fact). AreClosed l core.descriptor) (sym facts_are) closed) (subst (λ (l : List Fact). HoldsAtRest c l core.descriptor (Some stated) (is_there core)) (sym facts_are) at_rest)
 
   -- ---- it is seen so
 

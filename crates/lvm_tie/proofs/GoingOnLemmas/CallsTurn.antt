@@ -23,7 +23,7 @@ use Rattle.lvm_tie.proofs.CallsLemmas.CloseTies.{close_ties}
 use Rattle.lvm_tie.proofs.CallsLemmas.OpenTies.{open_ties}
 use Rattle.lvm_tie.proofs.OverLemmas.Orders.{order_goes_on, order_ties}
 use Rattle.lvm_tie.proofs.OverLemmas.Taking.{take_goes_on}
-use Rattle.lvm_tie.specs.GoingOn.{GoesOn, SubmitGoesOn, AnswerGoesOn, OpenGoesOn, CloseGoesOn, ArrangeGoesOn}
+use Rattle.lvm_tie.specs.GoingOn.{SessionGoesOn, SubmitGoesOn, AnswerGoesOn, OpenGoesOn, CloseGoesOn, ArrangeGoesOn}
 use Rattle.lvm_tie.proofs.GoingOnLemmas.Spanning.{goes_same, goes_still, goes_entry}
 
 -- ---- requests
@@ -35,15 +35,15 @@ Submitted old new client ask bytes answer fault = MatchOption fault ((answer ≡
 pub submit_goes_on : SubmitGoesOn
 submit_goes_on run s new client ask bytes answer unstuck sound asks gives = by s.core.power refl
   where
-    refused : (why : AskFault) → ask_fault s.core ask ≡ Some why → GoesOn run s (state s.device new)
+    refused : (why : AskFault) → ask_fault s.core ask ≡ Some why → SessionGoesOn run s (state s.device new)
     refused why is = goes_same run s (state s.device new) (ap (λ (c : Core). state s.device c) (subst (Submitted s.core new client ask bytes answer) is gives).1)
 
-    taken : s.core.power ≡ power.On → (m : Option AskFault) → ask_fault s.core ask ≡ m → GoesOn run s (state s.device new)
+    taken : s.core.power ≡ power.On → (m : Option AskFault) → ask_fault s.core ask ≡ m → SessionGoesOn run s (state s.device new)
     taken on (Some why) is = refused why is
     taken on None is = goes_entry run s (state s.device new) (λ past tied. submit_ties past s new client ask bytes answer tied sound asks gives) on
         (Begun (next_request s.core.history client (Lv (lv_of ask)) (at_of ask) (count_of ask) bytes)) refl (ap (λ (c : Core). c.history.facts) (subst (Submitted s.core new client ask bytes answer) is gives).1)
 
-    by : (p : Power) → s.core.power ≡ p → GoesOn run s (state s.device new)
+    by : (p : Power) → s.core.power ≡ p → SessionGoesOn run s (state s.device new)
     by power.On is = taken is (ask_fault s.core ask) refl
     by power.Off is = refused fault.Off (ap (λ (p : Power). fault_by p (fault_on s.core ask)) is)
     by power.Dark is = refused fault.Dark (ap (λ (p : Power). fault_by p (fault_on s.core ask)) is)
@@ -74,7 +74,7 @@ answer_goes_on s new client id answer was_sound sound gives first good = (
 pub open_goes_on : OpenGoesOn
 open_goes_on run s new counts lv lp number answer sound gives = by (copy_fault s.core lv lp number) gives
   where
-    by : (m : Option CopyFault) → MatchOption m ((answer ≡ Ok tt) × Opens counts s.core new lv lp number) (λ (why : CopyFault). (answer ≡ Err why) × (new ≡ s.core)) → GoesOn run s (state s.device new)
+    by : (m : Option CopyFault) → MatchOption m ((answer ≡ Ok tt) × Opens counts s.core new lv lp number) (λ (why : CopyFault). (answer ≡ Err why) × (new ≡ s.core)) → SessionGoesOn run s (state s.device new)
     by None given = goes_still run s (state s.device new) (λ past tied. open_ties past s new counts lv lp number answer tied sound gives)
         (λ on. sym (ap (λ (c : Core). c.power) given.1.is) ∙ on) refl (ap (λ (c : Core). c.history.facts) given.1.is)
     by (Some why) given = goes_same run s (state s.device new) (ap (λ (c : Core). state s.device c) given.1)

@@ -16,19 +16,19 @@ use Rattle.lvm_crash.specs.Owned.{OnlyUpdateSince}
 use Rattle.lvm_tie.specs.Seen.{update_of}
 use Rattle.lvm_tie.specs.Tied.{IsTied, IsGood, moment_of}
 use Rattle.lvm_tie.proofs.TiedLemmas.Tied.{good_upholds, good_goes_on}
-use Rattle.lvm_tie.specs.GoingOn.{GoesOn}
+use Rattle.lvm_tie.specs.GoingOn.{SessionGoesOn}
 
 -- nothing happens
-pub goes_same : (run : ℕ) (old new : State) → new ≡ old → GoesOn run old new
-goes_same run old new same = subst (λ (n : State). GoesOn run old n) (sym same) (λ first good. (good, λ span. span))
+pub goes_same : (run : ℕ) (old new : State) → new ≡ old → SessionGoesOn run old new
+goes_same run old new same = subst (λ (n : State). SessionGoesOn run old n) (sym same) (λ first good. (good, λ span. span))
 
 -- one thing after another
-pub goes_then : (run : ℕ) (old mid new : State) → GoesOn run old mid → GoesOn run mid new → GoesOn run old new
+pub goes_then : (run : ℕ) (old mid new : State) → SessionGoesOn run old mid → SessionGoesOn run mid new → SessionGoesOn run old new
 goes_then run old mid new one two first good = let a = one first good in let b = two first a.0 in (b.0, λ span. b.1 (a.1 span))
 
 module _ (run : ℕ) (old new : State) (tie : (past : List Fact) → IsTied past old → IsTied past new) where
   -- neither the shelf nor the history changes, whatever the power is
-  pub goes_still : (new.core.power ≡ power.On → old.core.power ≡ power.On) → new.device ≡ old.device → new.core.history.facts ≡ old.core.history.facts → GoesOn run old new
+  pub goes_still : (new.core.power ≡ power.On → old.core.power ≡ power.On) → new.device ≡ old.device → new.core.history.facts ≡ old.core.history.facts → SessionGoesOn run old new
   goes_still was device facts first good = (λ on past begins. tie past (good (was on) past begins), good_goes_on.still run first old new device facts)
 
   module _ (on : old.core.power ≡ power.On) (first : Moment) (good : IsGood run first old) where
@@ -39,11 +39,11 @@ module _ (run : ℕ) (old new : State) (tie : (past : List Fact) → IsTied past
     upholds_then past begins = good_upholds run first new (tie past (good on past begins)).orderly.on good_then past begins
 
   -- the shelf makes a step
-  pub goes_step : old.core.power ≡ power.On → DeviceStep old.device new.device → new.core.history.facts ≡ old.core.history.facts → GoesOn run old new
+  pub goes_step : old.core.power ≡ power.On → DeviceStep old.device new.device → new.core.history.facts ≡ old.core.history.facts → SessionGoesOn run old new
   goes_step on step facts first good = (good_then on first good, λ span. Then span (Moves step facts) (upholds_then on first good))
 
   -- the history has an entry more
-  pub goes_entry : old.core.power ≡ power.On → (f : Fact) → new.device ≡ old.device → new.core.history.facts ≡ old.core.history.facts ++ f ∷ [] → GoesOn run old new
+  pub goes_entry : old.core.power ≡ power.On → (f : Fact) → new.device ≡ old.device → new.core.history.facts ≡ old.core.history.facts ++ f ∷ [] → SessionGoesOn run old new
   goes_entry on f device facts first good = (good_then on first good, λ span. Then span (Enters f device facts) (upholds_then on first good))
 
 -- ---- a transfer that is waited for

@@ -46,7 +46,7 @@ use Rattle.lvm_session.specs.Ends.{DataLearns, Ends, EndsAs, Learns, learned}
 use Rattle.lvm_session.specs.Events.{Lands, admitted_as, begun_as, got_blocks, landed_as}
 use Rattle.lvm_session.specs.Marks.{is_among}
 use Rattle.lvm_session.specs.Turns.{Darkens, FinishMakes, Finishes, GoesOff, Makes, Moves, NoStart, OnMakes, TurnMakes, WasDark, WasOff, WasOn}
-use Rattle.lvm_session.specs.Causes.{AnyFailedSince, AreCaused, AreCounted, HasFailed, IsCaused, IsCounted, IsLandedFor, faults_at_first, is_blamed, was_usable}
+use Rattle.lvm_session.specs.Causes.{AnyFailedSince, AreCaused, AreCounted, TargetHasFailed, IsCaused, IsCounted, IsLandedFor, faults_at_first, is_blamed, was_usable}
 use Rattle.lvm_session.specs.Requests.{IsOpenOne}
 use Rattle.lvm_session.specs.Sound.{IsAsked, IsSound}
 use Rattle.lvm_keeps_events.proofs.passed.Names.{landing_is_caused, all_set, loss_is_caused, both}
@@ -105,8 +105,8 @@ module _ (old new : State) (more : NoneFalls old.device.counts new.device.counts
   }
 
 -- a disk that has failed has failed later too
-failures_on : (old new : Device) → NoneFalls old.counts new.counts → (ts : List Target) → AllByRecursion (λ (t : Target). is_failed t.state ≡ true → HasFailed old t) ts → AllByRecursion (λ (t : Target). is_failed t.state ≡ true → HasFailed new t) ts
-failures_on old new more = all_weaker (λ (t : Target). is_failed t.state ≡ true → HasFailed old t) (λ (t : Target). is_failed t.state ≡ true → HasFailed new t)
+failures_on : (old new : Device) → NoneFalls old.counts new.counts → (ts : List Target) → AllByRecursion (λ (t : Target). is_failed t.state ≡ true → TargetHasFailed old t) ts → AllByRecursion (λ (t : Target). is_failed t.state ≡ true → TargetHasFailed new t) ts
+failures_on old new more = all_weaker (λ (t : Target). is_failed t.state ≡ true → TargetHasFailed old t) (λ (t : Target). is_failed t.state ≡ true → TargetHasFailed new t)
     (λ t was failed. rose_on t.faults (old.counts.faults t.pp.disk) (new.counts.faults t.pp.disk) (more.faults t.pp.disk) (was failed))
 
 pub request_on : (old new : Device) → NoneFalls old.counts new.counts → (o : Open) → FailuresAreCaused old o → FailuresAreCaused new o
@@ -152,7 +152,7 @@ module _ (old : State) (sound : IsSound old) (on : old.core.power ≡ power.On) 
   counted = all_at (AreCounted old) core.requests place o sound.counted there
 
   -- some target that was usable has failed
-  failed_among : (ts : List Target) → list_any (λ (t : Target). t.usable) ts ≡ true → AllByRecursion (λ (t : Target). t.usable ≡ true → HasFailed old.device t) ts → AllByRecursion (IsCounted old) ts → AnyFailedSince old
+  failed_among : (ts : List Target) → list_any (λ (t : Target). t.usable) ts ≡ true → AllByRecursion (λ (t : Target). t.usable ≡ true → TargetHasFailed old.device t) ts → AllByRecursion (IsCounted old) ts → AnyFailedSince old
   failed_among [] some failed counts = not_so some
   failed_among (t ∷ ts) some failed counts = by t.usable refl some (λ e. failed_among ts e failed.1 counts.1)
     where
@@ -198,7 +198,7 @@ module _ (old : State) (sound : IsSound old) (on : old.core.power ≡ power.On) 
   pub landed_for : (how : Outcome) → IsLandedFor old o how → HasLandedFor old (request_of core.history.facts o.request.id) how
   landed_for outcome.Lost why = failed_among o.request.targets.items why.0 why.1 counted
   landed_for outcome.ReadFailed why =
-      failed_among o.request.targets.items why.0 (all_weaker (λ (t : Target). (is_failed t.state ≡ true) × HasFailed old.device t) (λ (t : Target). t.usable ≡ true → HasFailed old.device t) (λ t is usable. is.1) o.request.targets.items why.1) counted
+      failed_among o.request.targets.items why.0 (all_weaker (λ (t : Target). (is_failed t.state ≡ true) × TargetHasFailed old.device t) (λ (t : Target). t.usable ≡ true → TargetHasFailed old.device t) (λ t is usable. is.1) o.request.targets.items why.1) counted
   landed_for outcome.Off why = loss_is_caused old sound why.1
   landed_for outcome.NoFresh (inl why) = inl why
   landed_for outcome.NoFresh (inr none) = inr (had_none none)
@@ -267,11 +267,11 @@ module _ (first : List Fact) (old new : State) (sound : IsSound old) (was : HasC
   -- ---- the requests
 
   -- each disk on which a transfer of a request failed has failed, whether it has landed or not
-  failures_of : old.core.power ≡ power.On → (place : ℕ) (o : Open) → slice_get old.core.requests place ≡ Some o → AllByRecursion (λ (t : Target). is_failed t.state ≡ true → HasFailed old.device t) o.request.targets.items
+  failures_of : old.core.power ≡ power.On → (place : ℕ) (o : Open) → slice_get old.core.requests place ≡ Some o → AllByRecursion (λ (t : Target). is_failed t.state ≡ true → TargetHasFailed old.device t) o.request.targets.items
   failures_of on place o there = by (is_waiting o) refl
     where
-      by : (b : Bool) → is_waiting o ≡ b → AllByRecursion (λ (t : Target). is_failed t.state ≡ true → HasFailed old.device t) o.request.targets.items
-      by true waits = all_weaker (IsCaused old.device old.core) (λ (t : Target). is_failed t.state ≡ true → HasFailed old.device t)
+      by : (b : Bool) → is_waiting o ≡ b → AllByRecursion (λ (t : Target). is_failed t.state ≡ true → TargetHasFailed old.device t) o.request.targets.items
+      by true waits = all_weaker (IsCaused old.device old.core) (λ (t : Target). is_failed t.state ≡ true → TargetHasFailed old.device t)
           (λ t caused failed. caused (ap (λ b. b || (t.usable && is_blamed old.core t.pp)) failed)) o.request.targets.items
           (all_at (AreCaused old.device old.core) old.core.requests place o (sound.on on).caused there waits)
       by false over = all_at (FailuresAreCaused old.device) old.core.requests place o (was.failed on) there over

@@ -30,7 +30,7 @@ use Rattle.lvm_session.specs.declared.bringing.Step.TheVariants as step
 use Rattle.lvm_session.specs.declared.flown.Owner.{Owner}
 use Rattle.lvm_session.specs.declared.flown.Owner.TheVariants as owner
 use Rattle.lvm_session.specs.State.{Core, State, state}
-use Rattle.lvm_session.specs.Judging.{is_running, place_of, IsWithin, is_usable, copies_for, facts_of}
+use Rattle.lvm_session.specs.Judging.{is_running, place_of, IsWithinVolume, is_usable, copies_for, facts_of}
 use Rattle.lvm_session.specs.Bringing.{is_out, is_whole}
 use Rattle.lvm_session.specs.Events.{Lands, after_landing, got_blocks, landed_as, without_pin}
 use Rattle.lvm_invariant.specs.State.{Queued, ModelState, Stage, ModelPhase, Held, WantEntry, Ready, Going, Well, Badly, HasPassed, Started, is_settled_stale}
@@ -203,7 +203,7 @@ none_found k r phase.WantStatus writes h = by k.marked k.kept h
     by false c h = absurd cc
 none_found k r phase.Landed writes h = absurd cc
 
-module _ (past : List Fact) (old new : State) (place : ℕ) (how : Outcome) (lands : Lands old new place how) (tied : IsTied past old) (inside : IsWithin old.core.descriptor lands.request.request.ask) (is : how ≡ outcome.NoFresh)
+module _ (past : List Fact) (old new : State) (place : ℕ) (how : Outcome) (lands : Lands old new place how) (tied : IsTied past old) (inside : IsWithinVolume old.core.descriptor lands.request.request.ask) (is : how ≡ outcome.NoFresh)
     (writes : (lands.request.request.phase ≡ phase.WantEntry) ⊎ (lands.request.request.phase ≡ phase.WantRecord) → is_write lands.request.request.ask ≡ true) where
   finds_none : (q : Queued) → tied.view.queue (place_of lands.request.request.id) ≡ Some q → SeesRequest lands.request q → FindsNoFresh tied.view (place_of lands.request.request.id) q
   finds_none q at sees = by (none_found (facts_of old.core lands.request.request) lands.request.request lands.request.request.phase writes (lands.lands ∙ ap next.Land is))

@@ -27,7 +27,7 @@ use Rattle.lvm_session.specs.Calls.{TakeAt, TakesLanded, after_take, is_asked}
 use Rattle.lvm_session.specs.Sound.{IsSound}
 use Rattle.lvm_invariant.specs.State.{Queued, ModelState, has_landed}
 use Rattle.lvm_invariant.specs.Updates.{without}
-use Rattle.lvm_invariant.specs.Take.{Takes, taken}
+use Rattle.lvm_invariant.specs.Take.{TakesAnswerOf, taken}
 use Rattle.lvm_invariant.specs.Events.{Take}
 use Rattle.lvm_invariant.proofs.EventsLemmas.Each.{each_keeps}
 use Rattle.lvm_crash.proofs.RecordsLemmas.Quiet.{quiet_lasts}
@@ -133,7 +133,7 @@ module _ (past : List Fact) (old : State) (place : ℕ) (o : Open) (tied : IsTie
     brings = tied.sees.brings;
   }
 
-  takes : Takes v i q
+  takes : TakesAnswerOf v i q
   takes = record { there = at; landed = ap has_landed (sees.phase ∙ ap (λ (p : Phase). phase_seen p (is_begun o.request.targets.items)) over) }
 
   abbrev w : ModelState

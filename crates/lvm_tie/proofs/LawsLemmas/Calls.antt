@@ -28,7 +28,7 @@ use Rattle.lvm_session.specs.State.{Core, State, state}
 use Rattle.lvm_session.specs.Sound.{IsSound}
 use Rattle.lvm_session.specs.Turns.{ArrangesSession}
 use Rattle.lvm_keeps_events.proofs.passed.Names.{back_long, hands_long}
-use Rattle.lvm_tie.specs.GoingOn.{GoesOn}
+use Rattle.lvm_tie.specs.GoingOn.{SessionGoesOn}
 use Rattle.lvm_tie.specs.Landings.{HasCausesSince}
 use Rattle.lvm_tie.specs.Spares.{LeavesDescriptors, SparesDescriptors}
 use Rattle.lvm_tie.specs.Stamps.{IsStamped, KeepsEpoch, StaysOf}
@@ -79,7 +79,7 @@ module _ (s : State) (new : Core) where
   }
 
   -- the shelf is as it was, and the status
-  call_leaves : GoesOn s.core.history.run s after → (SparesDescriptors s → SparesDescriptors after) → StaysOf s.core new → ((first : List Fact) → HasCausesSince first s → HasCausesSince first after)
+  call_leaves : SessionGoesOn s.core.history.run s after → (SparesDescriptors s → SparesDescriptors after) → StaysOf s.core new → ((first : List Fact) → HasCausesSince first s → HasCausesSince first after)
       → shape new ≡ shape s.core → LeavesSession s after
   call_leaves good spares stays causes same = record {
     good = good;

@@ -6,7 +6,7 @@ use Rattle.lvm_disk.proofs.CountingLemmas.{none_falls_at_once, none_falls_on, ro
 use Rattle.lvm_vol.specs.Log.{Log}
 use Rattle.lvm_session.specs.declared.open.Power.TheVariants as power
 use Rattle.lvm_session.specs.State.{Core, State}
-use Rattle.lvm_tie.specs.GoingOn.{GoesOn}
+use Rattle.lvm_tie.specs.GoingOn.{SessionGoesOn}
 use Rattle.lvm_tie.proofs.GoingOnLemmas.Spanning.{goes_same, goes_then}
 use Rattle.lvm_tie.specs.Laws.{RunsJoin}
 use Rattle.lvm_tie.specs.Running.{GoesOffByCut, GoesOnOrEnds, KeepsShape, LeavesSession, RunsOn}
@@ -94,7 +94,7 @@ keeps_both old mid new one two = record {
 
 pub leaves_both : (old mid new : State) → LeavesSession old mid → LeavesSession mid new → LeavesSession old new
 leaves_both old mid new one two = record {
-  good = goes_then old.core.history.run old mid new one.good (subst (λ run. GoesOn run mid new) (run_is old mid one.keeps) two.good);
+  good = goes_then old.core.history.run old mid new one.good (subst (λ run. SessionGoesOn run mid new) (run_is old mid one.keeps) two.good);
   descriptors = λ leaves.
       let a = one.descriptors leaves in
       let b = two.descriptors a.leaves in

@@ -5,7 +5,7 @@ use Rattle.std.specs.List.{remove}
 use Rattle.std.proofs.lemmas.Option.{same_Some}
 use Rattle.lvm_num.specs.Buffer.{Buffer}
 use Rattle.lvm_disk.specs.Device.{Media, Flight, Device}
-use Rattle.lvm_disk.specs.Steps.{Removes, Reads}
+use Rattle.lvm_disk.specs.Steps.{Removes, ReadsRange}
 use Rattle.lvm_disk.specs.Paths.{DeviceStep, Ended as FlightEnded, Broke}
 use Rattle.lvm_kept.specs.Plans.{StepIsPlanned}
 use Rattle.lvm_kept.specs.Torn.{RecordWrite, IsOtherOrRecord}
@@ -31,7 +31,7 @@ pub record HasEnded (old new : Device) (ticket : ℕ) (ok : Bool) (buf : Buffer)
   pub step : DeviceStep old new
   pub planned : (w : RecordWrite) → StepIsPlanned (IsOtherOrRecord w) step
   pub sizes : new.sizes ≡ old.sizes
-  pub reads : IsTrue ok → flight.write ≡ false → Reads m flight buf
+  pub reads : IsTrue ok → flight.write ≡ false → ReadsRange m flight buf
 
 pub has_ended : (old new : Device) (ticket : ℕ) (ok : Bool) (buf : Buffer) (m : Media) → EndsAs ok old new ticket buf → old.media ≡ Some m → HasEnded old new ticket ok buf m
 has_ended old new ticket true buf m ends told = let l = ends_land.done old new ticket buf m ends told in record {
@@ -44,7 +44,7 @@ has_ended old new ticket true buf m ends told = let l = ends_land.done old new t
   step = FlightEnded ticket buf ends;
   planned = λ w. tt;
   sizes = ap (λ (d : Device). d.sizes) ends.new_is;
-  reads = λ well reads. subst (λ (o : Option Media). IfSome o (λ n. Reads n ends.flight buf)) told (ends.read reads);
+  reads = λ well reads. subst (λ (o : Option Media). IfSome o (λ n. ReadsRange n ends.flight buf)) told (ends.read reads);
 }
 has_ended old new ticket false buf m ends told = let l = ends_land.failed old new ticket buf m ends told in record {
   flight = ends.flight;

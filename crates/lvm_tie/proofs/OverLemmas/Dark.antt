@@ -9,7 +9,7 @@ use Rattle.lvm_disk.specs.Steps.{GoesDark}
 use Rattle.lvm_disk.proofs.DeviceLemmas.{cut_leaves}
 use Rattle.lvm_vol.specs.declared.entry.Vol.TheVariants.{Lv}
 use Rattle.lvm_vol.specs.declared.entry.Outcome.TheVariants as outcome
-use Rattle.lvm_vol.specs.Facts.{Request as Asked, Fact, Cut, Stands}
+use Rattle.lvm_vol.specs.Facts.{Request as Asked, Fact, Cut, IsInList}
 use Rattle.lvm_vol.specs.Legal.{Legal}
 use Rattle.lvm_vol.specs.Log.{Log, is_uncut, cut_log, with_fact, request_of}
 use Rattle.lvm_vol.specs.May.{known}
@@ -17,7 +17,7 @@ use Rattle.lvm_vol.proofs.LogLemmas.{found_of}
 use Rattle.lvm_kept.specs.Contents.{Contents, contents_of}
 use Rattle.lvm_kept.specs.Kept.{Kept}
 use Rattle.lvm_kept.specs.Moments.{Moment, Calm}
-use Rattle.lvm_steps.specs.Moments.{Holds, Keeps}
+use Rattle.lvm_steps.specs.Moments.{HistoryHolds, Keeps}
 use Rattle.lvm_steps.specs.Requests.{at}
 use Rattle.lvm_steps.proofs.EnteringLemmas.{quiet_goes_on}
 use Rattle.lvm_steps.proofs.MomentsLemmas.Spans.{keeps_steps}
@@ -84,7 +84,7 @@ module _ (past : List Fact) (s : State) (tied : IsTied past s) where
     -- ---- with a cut
 
     -- when the first of them have landed behind the cut
-    pub cut_holds : (xs ys : List Open) → core.requests ≡ xs ++ ys → Holds past (at device ((facts ++ Cut ∷ []) ++ all_landings outcome.Dark (facts ++ Cut ∷ []) xs))
+    pub cut_holds : (xs ys : List Open) → core.requests ≡ xs ++ ys → HistoryHolds past (at device ((facts ++ Cut ∷ []) ++ all_landings outcome.Dark (facts ++ Cut ∷ []) xs))
     cut_holds xs ys split =
         let cut : List Fact = facts ++ Cut ∷ [] in
         let landed : List Fact = landings outcome.Dark v.name has_started (places xs) in
@@ -130,7 +130,7 @@ module _ (past : List Fact) (s : State) (tied : IsTied past s) where
           all_true : (a b c d : Bool) → a ≡ true → b ≡ true → c ≡ true → d ≡ true → (a && (b && c && d)) ≡ true
           all_true a b c d p q r t = λ i. p i && (q i && r i && t i)
 
-      reads : (i : ℕ) → Stands i (places core.requests) → (v.name i).write ≡ false
+      reads : (i : ℕ) → IsInList i (places core.requests) → (v.name i).write ≡ false
       reads i h =
           let r = waits_at core.requests i h in
           let s = tied.sees.queue.requests r.number r.request r.there in
@@ -141,7 +141,7 @@ module _ (past : List Fact) (s : State) (tied : IsTied past s) where
       held c kept = kept
 
       -- when the first of them have landed
-      pub reads_hold : (xs ys : List Open) → core.requests ≡ xs ++ ys → Holds past (at device (facts ++ all_landings outcome.Dark facts xs))
+      pub reads_hold : (xs ys : List Open) → core.requests ≡ xs ++ ys → HistoryHolds past (at device (facts ++ all_landings outcome.Dark facts xs))
       reads_hold xs ys split =
           let landed : List Fact = landings outcome.Dark v.name has_started (places xs) in
           let is_open = open_in xs ys split in
@@ -149,7 +149,7 @@ module _ (past : List Fact) (s : State) (tied : IsTied past s) where
           let now : v.facts ++ landed ≡ past ++ (facts ++ all_landings outcome.Dark facts xs) =
           ap (λ (l : List Fact). l ++ landed) tied.sees.facts ∙ append_assoc past facts landed ∙ ap (λ (l : List Fact). past ++ (facts ++ l)) (sym same) in
           let way = reads_land v tied.good.told has_started (λ c. Kept c v.facts) (places xs) (places ys) v.facts is_open.once is_open.each
-          (λ j there. reads j (subst (Stands j) (sym (ap places split ∙ places_append xs ys)) there))
+          (λ j there. reads j (subst (IsInList j) (sym (ap places split ∙ places_append xs ys)) there))
           (record {
             legal = tied.good.told.legal;
             kept = held;

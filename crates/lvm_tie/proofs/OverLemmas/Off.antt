@@ -13,7 +13,7 @@ use Rattle.lvm_vol.specs.Facts.{Fact}
 use Rattle.lvm_vol.specs.Legal.{Legal}
 use Rattle.lvm_kept.specs.Contents.{contents_of}
 use Rattle.lvm_kept.specs.Kept.{Kept}
-use Rattle.lvm_steps.specs.Moments.{Holds, Keeps}
+use Rattle.lvm_steps.specs.Moments.{HistoryHolds, Keeps}
 use Rattle.lvm_steps.specs.Requests.{at}
 use Rattle.lvm_mwc.specs.Cache.{flight_on}
 use Rattle.lvm_path.specs.declared.request.Phase.TheVariants as phase
@@ -107,7 +107,7 @@ module _ (past : List Fact) (s : State) (tied : IsTied past s) (lost : is_lost s
   }
 
   -- when the first of them have landed
-  pub off_holds : (xs ys : List Open) → core.requests ≡ xs ++ ys → Holds past (at s.device (core.history.facts ++ all_landings outcome.Off core.history.facts xs))
+  pub off_holds : (xs ys : List Open) → core.requests ≡ xs ++ ys → HistoryHolds past (at s.device (core.history.facts ++ all_landings outcome.Off core.history.facts xs))
   off_holds xs ys split =
       let places_are : places core.requests ≡ places xs ++ places ys = ap places split ∙ places_append xs ys in
       let off : GoesOff tied.votes w (places xs ++ places ys) has_started = subst (λ (l : List ℕ). GoesOff tied.votes w l has_started) places_are goes_off in

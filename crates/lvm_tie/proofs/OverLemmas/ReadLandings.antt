@@ -8,7 +8,7 @@ use Rattle.lvm_num.specs.Buffer.{Sector}
 use Rattle.lvm_vol.specs.declared.entry.Vol.{Vol}
 use Rattle.lvm_vol.specs.declared.entry.Vol.TheVariants.{Disk, Lv}
 use Rattle.lvm_vol.specs.declared.entry.Outcome.TheVariants as outcome
-use Rattle.lvm_vol.specs.Facts.{Request, Fact, Begun, Cut, Landed as HasLanded, Stands, is_over, same_request, block_of}
+use Rattle.lvm_vol.specs.Facts.{Request, Fact, Begun, Cut, Landed as HasLanded, IsInList, is_over, same_request, block_of}
 use Rattle.lvm_vol.specs.Legal.{Legal, lands}
 use Rattle.lvm_vol.specs.May.{Known, known, cut, is_open_in, ended, IsValue, May}
 use Rattle.lvm_vol.specs.Standing.{Volume, no_volumes}
@@ -61,17 +61,17 @@ module _ (facts : List Fact) (r : Request) (started : Bool) (reads : r.write ≡
 pub record Way (s : ModelState) (places : List ℕ) (facts : List Fact) (P : Contents → Type 0) : Type 0 where
   pub legal : Legal facts
   pub kept : (c : Contents) → P c → Kept c facts
-  pub waits : (i : ℕ) → Stands i places → Stands (Begun (s.name i)) facts × (list_any (lands (s.name i)) facts ≡ false)
+  pub waits : (i : ℕ) → IsInList i places → IsInList (Begun (s.name i)) facts × (list_any (lands (s.name i)) facts ≡ false)
 
 module _ (s : ModelState) (t : Told s.queue s.name s.facts) (started : ℕ → Bool) (P : Contents → Type 0) where
-  way_step : (i : ℕ) (places : List ℕ) (facts : List Fact) → (Stands i places → ⊥) → ((j : ℕ) → Stands j (i ∷ places) → IsUnlanded s j) → (s.name i).write ≡ false
+  way_step : (i : ℕ) (places : List ℕ) (facts : List Fact) → (IsInList i places → ⊥) → ((j : ℕ) → IsInList j (i ∷ places) → IsUnlanded s j) → (s.name i).write ≡ false
       → Way s (i ∷ places) facts P → Way s places (facts ++ HasLanded (s.name i) outcome.Dark (started i) [] ∷ []) P
   way_step i places facts once each reads way =
       let fact : Fact = HasLanded (s.name i) outcome.Dark (started i) [] in
       let mine = each i (inl refl) in
       let own = way.waits i (inl refl) in
-      let apart : (j : ℕ) → Stands j places → IsFalse (j == i) = λ j there. ⊎_elim
-      (λ (same : IsTrue (j == i)). absurd (once (subst (λ (k : ℕ). Stands k places) (eqb-true j i same) there))) (λ (f : IsFalse (j == i)). f) (cases_Bool (j == i)) in
+      let apart : (j : ℕ) → IsInList j places → IsFalse (j == i) = λ j there. ⊎_elim
+      (λ (same : IsTrue (j == i)). absurd (once (subst (λ (k : ℕ). IsInList k places) (eqb-true j i same) there))) (λ (f : IsFalse (j == i)). f) (cases_Bool (j == i)) in
       record {
         legal = (legal_push facts fact).1 (way.legal, record { began = own.0; first = own.1; kind = tt; reads = tt });
         kept = λ c p. read_kept facts (s.name i) (started i) reads c (way.kept c p);
@@ -81,7 +81,7 @@ module _ (s : ModelState) (t : Told s.queue s.name s.facts) (started : ℕ → B
         );
       }
 
-  pub reads_land : (first rest : List ℕ) (facts : List Fact) → IsDistinct (first ++ rest) → ((j : ℕ) → Stands j (first ++ rest) → IsUnlanded s j) → ((j : ℕ) → Stands j (first ++ rest) → (s.name j).write ≡ false)
+  pub reads_land : (first rest : List ℕ) (facts : List Fact) → IsDistinct (first ++ rest) → ((j : ℕ) → IsInList j (first ++ rest) → IsUnlanded s j) → ((j : ℕ) → IsInList j (first ++ rest) → (s.name j).write ≡ false)
       → Way s (first ++ rest) facts P → Way s rest (facts ++ landings outcome.Dark s.name started first) P
   reads_land [] rest facts distinct each reads way = subst (λ (l : List Fact). Way s rest l P) (sym (append-nil facts)) way
   reads_land (i ∷ first) rest facts distinct each reads way =

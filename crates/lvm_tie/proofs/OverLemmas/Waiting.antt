@@ -5,7 +5,7 @@ use Rattle.std.specs.List.{list_any, list_all, AllByRecursion}
 use Rattle.std.specs.Option.{option_map_or}
 use Rattle.lvm_num.proofs.Lists.{all_at}
 use Rattle.lvm_vol.specs.declared.entry.Outcome.{Outcome}
-use Rattle.lvm_vol.specs.Facts.{Request as Asked, Fact, Landed as HasLanded, Stands}
+use Rattle.lvm_vol.specs.Facts.{Request as Asked, Fact, Landed as HasLanded, IsInList}
 use Rattle.lvm_vol.specs.Log.{request_of, landed_fact, is_got, got_without_bytes, blocks_begun_with}
 use Rattle.lvm_sched.specs.declared.writes.TargetState.{TargetState}
 use Rattle.lvm_sched.specs.declared.writes.TargetState.TheVariants as target
@@ -38,31 +38,31 @@ pub record WaitsAt (os : List Open) (i : ℕ) : Type 0 where
   pub waiting : is_waiting request ≡ true
   pub its : place_of request.request.id ≡ i
 
-pub waits_at : (os : List Open) (i : ℕ) → Stands i (places os) → WaitsAt os i
+pub waits_at : (os : List Open) (i : ℕ) → IsInList i (places os) → WaitsAt os i
 waits_at [] i h = absurd h
 waits_at (o ∷ os) i h = by (is_waiting o) refl h (waits_at os i)
   where
     later : WaitsAt os i → WaitsAt (o ∷ os) i
     later r = record { number = suc r.number; request = r.request; there = r.there; waiting = r.waiting; its = r.its }
 
-    by : (b : Bool) → is_waiting o ≡ b → Stands i (if b then place_of o.request.id ∷ places os else places os) → (Stands i (places os) → WaitsAt os i) → WaitsAt (o ∷ os) i
+    by : (b : Bool) → is_waiting o ≡ b → IsInList i (if b then place_of o.request.id ∷ places os else places os) → (IsInList i (places os) → WaitsAt os i) → WaitsAt (o ∷ os) i
     by true is (inl here) rest = record { number = 0; request = o; there = refl; waiting = is; its = here }
     by true is (inr there) rest = later (rest there)
     by false is there rest = later (rest there)
 
-pub stands_at : (os : List Open) (k : ℕ) (o : Open) → slice_get os k ≡ Some o → is_waiting o ≡ true → Stands (place_of o.request.id) (places os)
+pub stands_at : (os : List Open) (k : ℕ) (o : Open) → slice_get os k ≡ Some o → is_waiting o ≡ true → IsInList (place_of o.request.id) (places os)
 stands_at [] k o there is = absurd (cc there)
 stands_at (x ∷ os) zero o there is = by (is_waiting x) (ap is_waiting same ∙ is)
   where
     same : x ≡ o
     same = cc there
 
-    by : (b : Bool) → b ≡ true → Stands (place_of o.request.id) (if b then place_of x.request.id ∷ places os else places os)
+    by : (b : Bool) → b ≡ true → IsInList (place_of o.request.id) (if b then place_of x.request.id ∷ places os else places os)
     by true e = inl (ap (λ (y : Open). place_of y.request.id) same)
     by false e = absurd (cc e)
 stands_at (x ∷ os) (suc k) o there is = by (is_waiting x) (stands_at os k o there is)
   where
-    by : (b : Bool) → Stands (place_of o.request.id) (places os) → Stands (place_of o.request.id) (if b then place_of x.request.id ∷ places os else places os)
+    by : (b : Bool) → IsInList (place_of o.request.id) (places os) → IsInList (place_of o.request.id) (if b then place_of x.request.id ∷ places os else places os)
     by true rest = inr rest
     by false rest = rest
 
@@ -70,7 +70,7 @@ distinct : (os : List Open) → IsAscending os → IsDistinct (places os)
 distinct [] rises = tt
 distinct (o ∷ os) rises = by (is_waiting o) (distinct os rises.1)
   where
-    apart : Stands (place_of o.request.id) (places os) → ⊥
+    apart : IsInList (place_of o.request.id) (places os) → ⊥
     apart again =
         let r = waits_at os (place_of o.request.id) again in
         let less = all_at (λ (later : Open). o.request.id < later.request.id) os r.number r.request rises.0 r.there in
@@ -180,14 +180,14 @@ module _ (core : Core) (w : ModelState) (rises : IsAscending core.requests)
       let shape = shaped k o there waits in
       ap (λ (m : Option Queued). option_map_or (λ (q : Queued). is_going q.phase) m false) s.1 ∙ ap is_going s.2.phase ∙ going_seen o.request.phase core o refl shape shape.phase_is
 
-  all_open : (i : ℕ) (r : Queued) → w.queue i ≡ Some r → IsFalse r.step → IsFalse (has_landed r.phase) → Stands i (places core.requests)
+  all_open : (i : ℕ) (r : Queued) → w.queue i ≡ Some r → IsFalse r.step → IsFalse (has_landed r.phase) → IsInList i (places core.requests)
   all_open i r there request unlanded = by (is_waiting at.request) refl
     where
       at : IsRequestAt core i
       at = only i r there request
 
-      by : (b : Bool) → is_waiting at.request ≡ b → Stands i (places core.requests)
-      by true waits = subst (λ k. Stands k (places core.requests)) at.its (stands_at core.requests at.place at.request at.there waits)
+      by : (b : Bool) → is_waiting at.request ≡ b → IsInList i (places core.requests)
+      by true waits = subst (λ k. IsInList k (places core.requests)) at.its (stands_at core.requests at.place at.request at.there waits)
       by false landed =
           let s = sees at.place at.request at.there in
           let same : s.0 ≡ r = same_row s.0 r (sym s.1 ∙ ap w.queue at.its ∙ there) in

@@ -18,7 +18,7 @@ use Rattle.lvm_session.specs.Marks.{can_replace, is_among}
 use Rattle.lvm_session.specs.Left.{updates_left}
 use Rattle.lvm_session.specs.Sound.{IsFitting, IsSound}
 use Rattle.lvm_session.proofs.WorkedLemmas.Parts.{idle_is_sound, none_written, zeros_at}
-use Rattle.lvm_keeps.specs.Begins.{Begins, IsCalm, IsUnused}
+use Rattle.lvm_keeps.specs.Begins.{SessionBegins, HasFirstStatus, IsUnused}
 use Rattle.lvm_keeps.proofs.BeginsLemmas.{beginning_is_sound}
 use Rattle.lvm_rest.specs.Examples.{Pair, device_of, even_pair}
 use Rattle.lvm_settled.specs.Examples.{IsSettledPair, core_of}
@@ -69,7 +69,7 @@ module _ (mode : Mode) (dirty lost : Bool) where
   unfolding votes_by has_bit has
   status = idle_is_sound (seen core.status) refl none_written refl (λ disk is. is)
 
-  calm : IsCalm core
+  calm : HasFirstStatus core
   calm = record { sound = status; committed = refl; wanted = refl; in_flight = refl }
 
   -- ---- nothing is entailed
@@ -133,7 +133,7 @@ numbers Off true false = omega arith
 numbers Off false true = omega arith
 numbers Off false false = omega arith
 
-begins : (mode : Mode) (dirty lost : Bool) → Begins (s mode dirty lost)
+begins : (mode : Mode) (dirty lost : Bool) → SessionBegins (s mode dirty lost)
 begins mode dirty lost = let its = settled mode dirty lost in record {
   fitting = fitting mode dirty lost;
   ordered = (tt, tt);

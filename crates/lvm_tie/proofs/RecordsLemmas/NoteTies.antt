@@ -34,7 +34,7 @@ use Rattle.lvm_session.specs.declared.flown.Flown.{Flown}
 use Rattle.lvm_session.specs.declared.flown.Owner.{Owner}
 use Rattle.lvm_session.specs.declared.flown.Owner.TheVariants as owner
 use Rattle.lvm_session.specs.State.{Core, State, state, is_there}
-use Rattle.lvm_session.specs.Judging.{is_missing, group_of, is_waiting, IsWithin}
+use Rattle.lvm_session.specs.Judging.{is_missing, group_of, is_waiting, IsWithinVolume}
 use Rattle.lvm_session.specs.Enabled.{wants_record, is_unnamed, note_due}
 use Rattle.lvm_session.specs.Events.{with_flight, flown, StartsNote}
 use Rattle.lvm_invariant.specs.State.{Groups, ModelState}
@@ -143,7 +143,7 @@ module _ (past : List Fact) (old new : State) (place disk : ℕ) (starts : Start
   abbrev w : ModelState
   w = record v { flying_note = flying }
 
-  inside : IsWithin core.descriptor starts.request.request.ask
+  inside : IsWithinVolume core.descriptor starts.request.request.ask
   inside = (open_one old tied.write tied.orderly place starts.request starts.there).laid.within
 
   waiting : is_waiting starts.request ≡ true

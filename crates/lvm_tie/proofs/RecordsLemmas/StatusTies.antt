@@ -26,7 +26,7 @@ use Rattle.lvm_steps.specs.Laws.{IsNoLater}
 use Rattle.lvm_steps.proofs.LawsLemmas.Stamps.{later_is_after_too}
 use Rattle.lvm_commit.specs.Committed.{next_stamp}
 use Rattle.lvm_rec.specs.declared.homes.Homes.{Homes}
-use Rattle.lvm_status.specs.Update.{Stored, Updates, seen, is_held, MayStart}
+use Rattle.lvm_status.specs.Update.{Stored, Updates, seen, is_held, MayStartUpdate}
 use Rattle.lvm_status.specs.Calls.{with_update, with_start}
 use Rattle.lvm_session.specs.declared.flown.Flown.{Flown}
 use Rattle.lvm_session.specs.declared.flown.Owner.{Owner}
@@ -143,7 +143,7 @@ module _ (past : List Fact) (old new : State) (starts : StartsStatus old new) (t
             held = λ x now enough. tied.sees.status.held x (update_was ∙ sym update_now ∙ now) (sym (ap is_held is) ∙ enough);
           }
 
-      begins : MayStart (seen old.core.status) × (seen starts.begun ≡ with_update (seen old.core.status)) → IsBegun v tied.votes group old.device tied.media write u old.core.status status
+      begins : MayStartUpdate (seen old.core.status) × (seen starts.begun ≡ with_update (seen old.core.status)) → IsBegun v tied.votes group old.device tied.media write u old.core.status status
       begins was =
           let is : seen status ≡ with_start (with_update (seen old.core.status)) (Some starts.disk) = starts.started ∙ ap (λ (x : Updates). with_start x (Some starts.disk)) was.1 in
           let none : old.core.status.in_flight ≡ None = was.0.none in
@@ -189,7 +189,7 @@ module _ (past : List Fact) (old new : State) (starts : StartsStatus old new) (t
   epoch_is : status.stamp.epoch ≡ old.core.status.stamp.epoch
   epoch_is = ⊎_elim
       (λ (was : (old.core.status.in_flight ≡ None → ⊥) × (starts.begun ≡ old.core.status)). ap (λ (x : Updates). x.stamp.epoch) (starts.started ∙ ap (λ (s : Stored). with_start (seen s) (Some starts.disk)) was.1))
-      (λ (was : MayStart (seen old.core.status) × (seen starts.begun ≡ with_update (seen old.core.status))). ap (λ (x : Updates). x.stamp.epoch) (starts.started ∙ ap (λ (x : Updates). with_start x (Some starts.disk)) was.1))
+      (λ (was : MayStartUpdate (seen old.core.status) × (seen starts.begun ≡ with_update (seen old.core.status))). ap (λ (x : Updates). x.stamp.epoch) (starts.started ∙ ap (λ (x : Updates). with_start x (Some starts.disk)) was.1))
       starts.begins
 
   notes2 : AreNotes core2
@@ -265,7 +265,7 @@ module _ (past : List Fact) (old new : State) (starts : StartsStatus old new) (t
       later = ⊎_elim
           (λ (was : (old.core.status.in_flight ≡ None → ⊥) × (starts.begun ≡ old.core.status)).
           ap (λ (x : Updates). stamp_lt (next_stamp x.stamp) (next_stamp old.core.status.stamp)) (starts.started ∙ ap (λ (s : Stored). with_start (seen s) (Some starts.disk)) was.1) ∙ not_itself (next_stamp old.core.status.stamp))
-          (λ (was : MayStart (seen old.core.status) × (seen starts.begun ≡ with_update (seen old.core.status))).
+          (λ (was : MayStartUpdate (seen old.core.status) × (seen starts.begun ≡ with_update (seen old.core.status))).
           ap (λ (x : Updates). stamp_lt (next_stamp x.stamp) (next_stamp old.core.status.stamp)) (starts.started ∙ ap (λ (x : Updates). with_start x (Some starts.disk)) was.1) ∙ stamp_no (next_stamp old.core.status.stamp))
           starts.begins
 
@@ -274,7 +274,7 @@ module _ (past : List Fact) (old new : State) (starts : StartsStatus old new) (t
           (λ (was : (old.core.status.in_flight ≡ None → ⊥) × (starts.begun ≡ old.core.status)).
           of (has old.core.status.writes.unstarted d) (has old.core.status.writes.started d) (d == starts.disk)
           (sym (ap (λ (x : Updates). x.unstarted d || x.started d) (starts.started ∙ ap (λ (s : Stored). with_start (seen s) (Some starts.disk)) was.1)) ∙ owed))
-          (λ (was : MayStart (seen old.core.status) × (seen starts.begun ≡ with_update (seen old.core.status))).
+          (λ (was : MayStartUpdate (seen old.core.status) × (seen starts.begun ≡ with_update (seen old.core.status))).
           let none = was.0.none in let idle = (tied.orderly.sound.on tied.orderly.on).going.status.idle none d in (λ t. idle.0 t || idle.1 t))
           starts.begins
         where
@@ -345,7 +345,7 @@ module _ (past : List Fact) (old new : State) (tied : IsTied past old) (sound : 
       disk_unstarted : has old.core.status.writes.unstarted starts.disk ≡ true
       disk_unstarted = ⊎_elim
           (λ (was : (old.core.status.in_flight ≡ None → ⊥) × (starts.begun ≡ old.core.status)). sym (ap (λ (s : Stored). has s.writes.unstarted starts.disk) was.1) ∙ starts.lowest.0)
-          (λ (was : MayStart (seen old.core.status) × (seen starts.begun ≡ with_update (seen old.core.status))). absurd (some was.0.none))
+          (λ (was : MayStartUpdate (seen old.core.status) × (seen starts.begun ≡ with_update (seen old.core.status))). absurd (some was.0.none))
           starts.begins
 
       owed_before : (d : ℕ) → is_owed_on now d ≡ true → is_owed_on old.core.status d ≡ true
@@ -373,7 +373,7 @@ module _ (past : List Fact) (old new : State) (tied : IsTied past old) (sound : 
   pub status_started : IsTied past new
   status_started = ⊎_elim
       (λ (was : (old.core.status.in_flight ≡ None → ⊥) × (starts.begun ≡ old.core.status)). further was.0 (starts.started ∙ ap (λ (s : Stored). with_start (seen s) (Some starts.disk)) was.1))
-      (λ (was : MayStart (seen old.core.status) × (seen starts.begun ≡ with_update (seen old.core.status))). first was.0.none (starts.started ∙ ap (λ (x : Updates). with_start x (Some starts.disk)) was.1))
+      (λ (was : MayStartUpdate (seen old.core.status) × (seen starts.begun ≡ with_update (seen old.core.status))). first was.0.none (starts.started ∙ ap (λ (x : Updates). with_start x (Some starts.disk)) was.1))
       starts.begins
 
 pub status_start_ties : StatusStartTies

@@ -46,7 +46,7 @@ use Rattle.lvm_session.specs.declared.bringing.Step.TheVariants as step
 use Rattle.lvm_session.specs.declared.flown.Owner.{Owner}
 use Rattle.lvm_session.specs.declared.flown.Owner.TheVariants as owner
 use Rattle.lvm_session.specs.State.{Core, State, state}
-use Rattle.lvm_session.specs.Judging.{is_waiting, is_running, is_usable, is_missing, is_caught, is_held_back, copies_for, group_in, mode_of, policy_of, place_of, held_of, facts_of, next_for, aims, place_aims, places_for, IsWithin}
+use Rattle.lvm_session.specs.Judging.{is_waiting, is_running, is_usable, is_missing, is_caught, is_held_back, copies_for, group_in, mode_of, policy_of, place_of, held_of, facts_of, next_for, aims, place_aims, places_for, IsWithinVolume}
 use Rattle.lvm_session.specs.Bringing.{is_out, is_whole, step_row, groups_of}
 use Rattle.lvm_session.specs.Events.{Admits, Chooses, ChoosesBy, copy_of, last_after, loads_of, makes_dirty, place_target, target_at, usable_from, without_pin}
 use Rattle.lvm_session.specs.Marks.{WantsDirty, WantsDirtyIf}
@@ -155,7 +155,7 @@ module _ (past : List Fact) (old new : State) (place : ℕ) (admits : Admits old
   numbers : HaveNumbers core
   numbers = numbers_of old tied.write tied.orderly
 
-  inside : IsWithin core.descriptor o.request.ask
+  inside : IsWithinVolume core.descriptor o.request.ask
   inside = (open_one old tied.write tied.orderly place o admits.there).laid.within
 
   same_entries : (lv g : ℕ) → has_entry (without_pin core.cache o.request).entries lv g ≡ has_entry core.cache.entries lv g

@@ -34,7 +34,7 @@ use Rattle.lvm_session.specs.Judging.{facts_of, group_of, is_running, is_waiting
 use Rattle.lvm_session.specs.Bringing.{is_out, is_whole}
 use Rattle.lvm_session.specs.Enabled.{can_pin, is_pin}
 use Rattle.lvm_session.specs.Events.{Pins}
-use Rattle.lvm_session.specs.Requests.{IsPinned, IsRecorded, IsReady}
+use Rattle.lvm_session.specs.Requests.{IsPinned, IsRecorded, MayBeServed}
 use Rattle.lvm_session.specs.Sound.{IsSound, pins}
 use Rattle.lvm_keeps_events.proofs.passed.Names.{pins_entry}
 use Rattle.lvm_invariant.specs.State.{Queued, Ready, ModelState, is_pinning}
@@ -193,7 +193,7 @@ module _ (past : List Fact) (old new : State) (place : ℕ) (event : Pins old ne
 
       by : (b : Bool) → is_waiting p ≡ b → p.request.pinned ≡ true
       by true waits =
-          let ready : IsReady core p.request = (waiting_one old tied.write tied.orderly place2 p there waits).ready in
+          let ready : MayBeServed core p.request = (waiting_one old tied.write tied.orderly place2 p there waits).ready in
           let recorded : IsRecorded mode.Active p.request.phase p.request = subst (λ (m : Mode). IsRecorded m p.request.phase p.request) is_active_mode (subst (λ b. IsRecorded (if b then mode_of core p.request.ask else mode.Off) p.request.phase p.request) writes ready.recorded) in
           by_phase p.request.phase pinning_at recorded
       by false over = absurd (let f = ((open_one old tied.write tied.orderly place2 p there).over over).phase_is in let e2 : false ≡ true = sym (ap (λ (x : Phase). is_pinning (phase_seen x (is_begun p.request.targets.items))) f) ∙ pinning_at in cc)

@@ -33,7 +33,7 @@ use Rattle.lvm_session.specs.declared.bringing.OpenCopy.{OpenCopy}
 use Rattle.lvm_session.specs.declared.flown.Owner.{Owner}
 use Rattle.lvm_session.specs.declared.flown.Owner.TheVariants as owner
 use Rattle.lvm_session.specs.State.{Core, State, state}
-use Rattle.lvm_session.specs.Judging.{is_running, place_of, IsWithin}
+use Rattle.lvm_session.specs.Judging.{is_running, place_of, IsWithinVolume}
 use Rattle.lvm_session.specs.Bringing.{has_row, is_out, is_whole}
 use Rattle.lvm_session.specs.declared.bringing.Step.{Step}
 use Rattle.lvm_session.specs.declared.answers.AskFault.{AskFault}
@@ -58,7 +58,7 @@ use Rattle.lvm_tie.proofs.SeenLemmas.Beside.{plain_copies}
 
 -- what is asked of a request that is submitted
 pub record MaySubmit (past : List Fact) (core : Core) (ask : Ask) (bytes : Option (List ℕ)) : Type 0 where
-  pub inside : IsWithin core.descriptor ask
+  pub inside : IsWithinVolume core.descriptor ask
   pub group : at_of ask % 256 + count_of ask ≤ 256
   pub given : is_some bytes ≡ is_write ask
   -- earlier histories have nothing of this run
@@ -325,7 +325,7 @@ module _ (past : List Fact) (s : State) (client : ℕ) (ask : Ask) (bytes : Opti
           let count = count_begun s.core.history.run s.core.history.facts q.runs in
           absurd (omega (arith, high, own, count))
 
-  within : IsWithin s.core.descriptor ask
+  within : IsWithinVolume s.core.descriptor ask
   within =
       let its = (open_one after tied.write orderly_then (length s.core.requests) (new_open next client ask (blocks_begun s.core.history.facts)) (last_there s.core.requests (new_open next client ask (blocks_begun s.core.history.facts)))).laid.within in
       record { row = its.row; volume = its.volume; within = its.within; some = its.some; fits = its.fits }

@@ -18,7 +18,7 @@ use Rattle.lvm_disk.specs.Steps.{Cuts, GoesDark, Starts, Waits}
 use Rattle.lvm_disk.proofs.DeviceLemmas.{cut_leaves, done_leaves, failed_leaves, in_old_or_new, start_leaves}
 use Rattle.lvm_kept.specs.Contents.{contents_of, data_at, descriptor_on, note_on, note_sector, status_on}
 use Rattle.lvm_kept.specs.Plans.{ChangesBy}
-use Rattle.lvm_kept.specs.Torn.{IsOutside}
+use Rattle.lvm_kept.specs.Torn.{IsOutsideSlots}
 use Rattle.lvm_kept.proofs.TornLemmas.Records.{newest_stays}
 use Rattle.lvm_kept.proofs.PlansLemmas.{of_removed}
 use Rattle.lvm_tie.specs.passed.Names.{FindsNothingNew}
@@ -49,7 +49,7 @@ use Rattle.lvm_tie.proofs.LawsLemmas.Running.{keeps_power}
 
 -- ---- what is found
 
-module _ (old new : Image) (by : ChangesBy (IsOutside kind.Descriptor) old new) where
+module _ (old new : Image) (by : ChangesBy (IsOutsideSlots kind.Descriptor) old new) where
   same_descriptor : (d : ℕ) → descriptor_on new d ≡ descriptor_on old d
   unfolding descriptor_on
   same_descriptor d = newest_stays Descriptor descriptor_of kind.Descriptor old new d by
@@ -92,7 +92,7 @@ same_steps old new same = record {
 
 -- what the flight writes is outside the slots of descriptors
 abbrev Outside : Flight → Type 0
-Outside f = (d s : ℕ) (value : Sector) → written f d s ≡ Some value → IsOutside kind.Descriptor d s value
+Outside f = (d s : ℕ) (value : Sector) → written f d s ≡ Some value → IsOutsideSlots kind.Descriptor d s value
 
 start_steps : (old new : Device) (f : Flight) → Starts old new f → Outside f → Steps old new
 start_steps old new f starts outside = record {
@@ -103,7 +103,7 @@ start_steps old new f starts outside = record {
     λ d at value flies. ⊎_elim (leaves d at value) (outside d at value) (in_old_or_new old.flights f d at value (subst (λ (x : Device). IsInFlight x.flights d at value) starts.new_is flies)),
     λ id k image may found.
         let from = start_leaves old new f starts image may in
-        let by : ChangesBy (IsOutside kind.Descriptor) from.0 image = record { same = from.2.same; each = λ d s. ⊎_elim (λ same. inl same) (λ put. inr (outside d s (image.sector d s) put)) (from.2.each d s) } in
+        let by : ChangesBy (IsOutsideSlots kind.Descriptor) from.0 image = record { same = from.2.same; each = λ d s. ⊎_elim (λ same. inl same) (λ put. inr (outside d s (image.sector d s) put)) (from.2.each d s) } in
         (from.0, from.1, found_before from.0 image by id k found),
   );
 }

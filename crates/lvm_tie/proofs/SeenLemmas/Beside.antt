@@ -14,7 +14,7 @@ use Rattle.lvm_kept.specs.Group.{IsOneOf, IsBlockOf}
 use Rattle.lvm_invariant.specs.State.{Beside, ModelState}
 use Rattle.lvm_invariant.specs.Found.{Votes}
 use Rattle.lvm_invariant.specs.Good.{Good}
-use Rattle.lvm_invariant.specs.MoveStatus.{Moves, moved}
+use Rattle.lvm_invariant.specs.MoveStatus.{StatusMoves, moved}
 use Rattle.lvm_crash.specs.Copies.{IsCopyOf}
 use Rattle.lvm_crash.specs.Session.{Describes, HasVolumes, IsPlaceOf, Shows, as_marks, marks_of, marks_shown}
 use Rattle.lvm_crash.specs.Records.{StatusEnded, statuses_of}
@@ -58,14 +58,14 @@ plain_ends votes s group c u none good describes committed idle = updates_last.e
 
 -- A write of the update has ended on a disk, by the marks that stand.
 pub record PlainEnded (s : ModelState) (group : Descriptor) (u : Stamped Status) (disk : ℕ) (well : Bool) (flying : ℕ → Bool) (now : Contents) : Type 0 where
-  pub may : Moves s (as_marks None u) (statuses_of None group.id now)
+  pub may : StatusMoves s (as_marks None u) (statuses_of None group.id now)
   pub describes : Describes (moved s (statuses_of None group.id now) flying) s.facts group (Some u) now
   pub stands : IsTrue well → now.status disk ≡ Some u
 
 pub plain_ended : {s : ModelState} {group : Descriptor} {u : Stamped Status} {disk : ℕ} {well : Bool} {flying : ℕ → Bool} {now : Contents} → s.beside ≡ None
     → StatusEnded s group u disk well flying now → PlainEnded s group u disk well flying now
 plain_ended {s} {group} {u} {disk} {well} {flying} {now} none ended = record {
-  may = subst (λ (o : Option Beside). Moves s (as_marks o u) (statuses_of o group.id now)) none ended.may;
+  may = subst (λ (o : Option Beside). StatusMoves s (as_marks o u) (statuses_of o group.id now)) none ended.may;
   describes = subst (λ (o : Option Beside). Describes (moved s (statuses_of o group.id now) flying) s.facts group (Some u) now) none ended.describes;
   stands = ended.stands;
 }

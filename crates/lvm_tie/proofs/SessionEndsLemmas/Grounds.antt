@@ -18,7 +18,7 @@ use Rattle.lvm_session.specs.declared.origin.Origin.{Origin}
 use Rattle.lvm_session.specs.Bringing.{after_copy_end, copy_ends, is_whole, with_end}
 use Rattle.lvm_session.specs.Judging.{is_running}
 use Rattle.lvm_session.specs.State.{Core}
-use Rattle.lvm_session.specs.Ends.{GoesOn, Learns, NoteLearns, learned, StepLearns, StepLeaves, with_copy, with_return, without_step}
+use Rattle.lvm_session.specs.Ends.{CopyStepsOn, Learns, NoteLearns, learned, StepLearns, StepLeaves, with_copy, with_return, without_step}
 use Rattle.lvm_session.specs.Marks.{Reviews}
 
 abbrev pub Ground : Type 0
@@ -54,7 +54,7 @@ note_same : (old new : Core) (at disk : ℕ) (ok : Bool) (buf : Buffer) → Note
 note_same old new at disk true buf it = ap ground it
 note_same old new at disk false buf it = reviewed_same _ new it.2
 
-goes_same : (whole : Bool) (core next : Core) (c : OpenCopy) → GoesOn whole core c next → ground next ≡ ground core
+goes_same : (whole : Bool) (core next : Core) (c : OpenCopy) → CopyStepsOn whole core c next → ground next ≡ ground core
 goes_same false core next c is = ap ground is
 goes_same true core next c it = ap ground it.1
 

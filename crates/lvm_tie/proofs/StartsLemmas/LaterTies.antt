@@ -18,7 +18,7 @@ use Rattle.lvm_invariant.specs.State.{Flying, Well, Going, Queued, ModelState, i
 use Rattle.lvm_invariant.specs.Updates.{staged}
 use Rattle.lvm_num.specs.Descriptor.{is_pp}
 use Rattle.lvm_invariant.specs.Transfer.{Restages}
-use Rattle.lvm_invariant.specs.Read.{Reads}
+use Rattle.lvm_invariant.specs.Read.{ReadsFromCopy}
 use Rattle.lvm_invariant.specs.Events.{Transfer, Read, StartWrite}
 use Rattle.lvm_tie.proofs.SeenLemmas.Changing.{stage_after, same_long}
 use Rattle.lvm_tie.proofs.TiedLemmas.Orderly.{HasTargets, begun_by, numbers_of, targets_of}
@@ -114,7 +114,7 @@ read_start_ties past old new place number starts tied waits reads moving orderly
     let sees : SeesRequest o q = seen.2 in
     let v : ModelState = tied.view in
     let on : IsTrue (is_past q.phase) = ap is_past (sees.phase ∙ ap (λ (p : Phase). phase_seen p (is_begun o.request.targets.items)) moving) ∙ past_either (is_begun o.request.targets.items) in
-    let may : Reads v i q c q.got = record { there = seen.1; read = sees.write ∙ reads; past = on; was = (stage_seen starts.its.aim.state, found past old new place number starts tied waits q sees); gets = λ value is. inl is } in
+    let may : ReadsFromCopy v i q c q.got = record { there = seen.1; read = sees.write ∙ reads; past = on; was = (stage_seen starts.its.aim.state, found past old new place number starts tied waits q sees); gets = λ value is. inl is } in
     subst (IsTied past) (sym starts.is)
     (started_ties past old new.device place number o starts.its.aim q (record q { phase = Going; targets = staged q.targets c Flying }) starts.flight new.core.pool tied (numbers_of old tied.write tied.orderly) starts.its.there starts.its.aim_is seen.1 starts.launches.starts
     (low past old new place number starts tied waits) (sees_started past old new place number starts tied waits q sees)

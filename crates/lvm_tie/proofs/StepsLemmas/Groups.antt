@@ -57,7 +57,7 @@ module _ (past : List Fact) (old new : State) (at : ℕ) (tied : IsTied past old
   on_is : event.passes.on ≡ on
   on_is = by (is_whole core e) short (goes past old new at tied sectors event)
     where
-      by : (b : Bool) → b ≡ false → Rattle.lvm_session.specs.Ends.GoesOn b (mid past old new at tied sectors event) e event.passes.on → event.passes.on ≡ on
+      by : (b : Bool) → b ≡ false → Rattle.lvm_session.specs.Ends.CopyStepsOn b (mid past old new at tied sectors event) e event.passes.on → event.passes.on ≡ on
       by false is its = its
       by true is its = absurd (cc is)
 

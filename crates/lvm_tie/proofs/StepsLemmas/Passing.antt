@@ -13,7 +13,7 @@ use Rattle.lvm_session.specs.declared.bringing.Step.TheVariants as step
 use Rattle.lvm_session.specs.State.{Core, State}
 use Rattle.lvm_session.specs.Judging.{is_missing, is_stale}
 use Rattle.lvm_session.specs.Bringing.{block_at, groups_of, is_idle, is_whole, step_place}
-use Rattle.lvm_session.specs.Ends.{GoesOn, with_return, without_step}
+use Rattle.lvm_session.specs.Ends.{CopyStepsOn, with_return, without_step}
 use Rattle.lvm_session.specs.Sound.{IsCopy}
 use Rattle.lvm_keeps_events.specs.GroupEnds.{EndsGroup}
 use Rattle.lvm_invariant.specs.State.{ModelCopy, Queued, ModelState, covers}
@@ -61,8 +61,8 @@ module _ (past : List Fact) (old new : State) (at : ℕ) (tied : IsTied past old
   abbrev pub mid : Core
   mid = without_step (with_return old.core at event.buf) event.copy
 
-  pub goes : GoesOn (is_whole old.core d) mid d event.passes.on
-  goes = subst (λ (k : OpenCopy). GoesOn (is_whole core k) mid k event.passes.on) event.passes.moves.is event.passes.goes
+  pub goes : CopyStepsOn (is_whole old.core d) mid d event.passes.on
+  goes = subst (λ (k : OpenCopy). CopyStepsOn (is_whole core k) mid k event.passes.on) event.passes.moves.is event.passes.goes
 
   its_copy : IsCopy core c
   its_copy = copy_is past old tied c event.is_open

@@ -28,7 +28,7 @@ use Rattle.lvm_session.specs.declared.bringing.CopyEnd.TheVariants as ending
 use Rattle.lvm_session.specs.State.{Core, State, state}
 use Rattle.lvm_session.specs.Judging.{is_clear, is_missing, is_running, is_stale, is_wanted_stale, place_of}
 use Rattle.lvm_session.specs.Bringing.{copy_ends, end_by_sources, ends_if, groups_of, has_row, is_cleared, is_whole, marked_by_end, with_end}
-use Rattle.lvm_session.specs.Ends.{GoesOn, with_copy}
+use Rattle.lvm_session.specs.Ends.{CopyStepsOn, with_copy}
 use Rattle.lvm_session.specs.Marks.{Reviews, WantsFresh, can_replace, is_among, is_entailed, is_entailed_in, is_left_behind}
 use Rattle.lvm_session.specs.Sound.{IsSound}
 use Rattle.lvm_keeps_events.specs.GroupEnds.{EndsGroup}
@@ -98,7 +98,7 @@ module _ (past : List Fact) (old new : State) (at : ℕ) (tied : IsTied past old
   goes_on : WantsFresh c.pp core.status status × (event.passes.on ≡ on)
   goes_on = by (is_whole core e) full (goes past old new at tied sectors event)
     where
-      by : (b : Bool) → b ≡ true → GoesOn b (mid past old new at tied sectors event) e event.passes.on → WantsFresh c.pp core.status status × (event.passes.on ≡ on)
+      by : (b : Bool) → b ≡ true → CopyStepsOn b (mid past old new at tied sectors event) e event.passes.on → WantsFresh c.pp core.status status × (event.passes.on ≡ on)
       by true is its = its
       by false is its = absurd (cc is)
 

@@ -15,7 +15,7 @@ use Rattle.lvm_kept.specs.Contents.{contents_of}
 use Rattle.lvm_kept.specs.Kept.{Kept}
 use Rattle.lvm_kept.specs.Moments.{Moment, Moves, Enters}
 use Rattle.lvm_kept.specs.Torn.{RecordWrite}
-use Rattle.lvm_steps.specs.Moments.{Holds, Keeps}
+use Rattle.lvm_steps.specs.Moments.{HistoryHolds, Keeps}
 use Rattle.lvm_mwc.specs.Notes.{names_group}
 use Rattle.lvm_sched.specs.Writes.{is_waiting}
 use Rattle.lvm_sched.specs.declared.writes.TargetState.{TargetState}
@@ -211,7 +211,7 @@ tied_matches past s tied = record {
   out = owners_have_out tied.view tied.view.facts s.core.descriptor tied.write (update_of s.core.status) s.device tied.media (valid_of s tied.write tied.orderly) tied.good.sound.tied tied.describes.volumes (tied_owns past s tied) tied.since;
 }
 
-tied_holds : (past : List Fact) (s : State) → IsTied past s → Holds past (moment_of s)
+tied_holds : (past : List Fact) (s : State) → IsTied past s → HistoryHolds past (moment_of s)
 tied_holds past s tied = record {
   legal = subst Legal tied.sees.facts tied.good.told.legal;
   kept = λ image may. subst (Kept (contents_of image)) tied.sees.facts

@@ -30,7 +30,7 @@ use Rattle.lvm_session.specs.Placed.{IsPlaced, ArePlaced}
 use Rattle.lvm_session.specs.Sound.{IsFitting, IsSound}
 use Rattle.lvm_session.proofs.WorkedLemmas.Parts.{idle_is_sound, none_written, zeros_at}
 use Rattle.lvm_session.proofs.WorkedLemmas.Whole.{no_entries}
-use Rattle.lvm_keeps.specs.Begins.{IsUnused, IsCalm, Begins}
+use Rattle.lvm_keeps.specs.Begins.{IsUnused, HasFirstStatus, SessionBegins}
 use Rattle.lvm_keeps.proofs.BeginsLemmas.{beginning_is_sound}
 use Rattle.lvm_rest.proofs.ExamplesLemmas.Examples.{valid}
 use Rattle.lvm_tie.specs.Worked.{table, core_of, begun}
@@ -116,7 +116,7 @@ module _ (mode : Mode) (stale : Bool) where
   unused : IsUnused core
   unused = record { requests = refl; rows = refl; copy = refl; pool = refl; flying = refl; entries = refl; started = λ disk. has-zero disk; notes = no_note_flies }
 
-  calm : IsCalm core
+  calm : HasFirstStatus core
   calm = record { sound = status; committed = refl; wanted = refl; in_flight = refl }
 
 numbers : (mode : Mode) (stale : Bool) → 2 + updates_left (core_of mode stale) < 2 ^ 32
@@ -128,7 +128,7 @@ numbers Passive false = omega arith
 numbers Off true = omega arith
 numbers Off false = omega arith
 
-begins : (mode : Mode) (stale : Bool) → Begins (begun mode stale)
+begins : (mode : Mode) (stale : Bool) → SessionBegins (begun mode stale)
 unfolding votes_by
 begins mode stale = record {
   fitting = fitting mode stale;

@@ -15,7 +15,7 @@ use Rattle.lvm_invariant.specs.First.{two_disks}
 use Rattle.lvm_disk.specs.Steps.{Starts}
 use Rattle.lvm_status.specs.Update.{Stored, seen}
 use Rattle.lvm_status.specs.Calls.{with_update, with_start}
-use Rattle.lvm_session.specs.Events.{Begins, IsStatusWrite, StartsStatus}
+use Rattle.lvm_session.specs.Events.{PutsInFlight, IsStatusWrite, StartsStatus}
 use Rattle.lvm_keeps_events.proofs.KeepsLemmas.StatusStart.{status_start_keeps}
 use Rattle.lvm_tie.proofs.RecordsLemmas.StatusTies.{status_start_ties}
 use Rattle.lvm_tie.specs.Worked.{making, marked, record_write, recording, updated, updating, UpdatingIsTied}
@@ -61,7 +61,7 @@ put = λ t. record {
   stamp = planned.stamp;
 }
 
-begins : Begins marked.core.status planned
+begins : PutsInFlight marked.core.status planned
 begins = inr (record { none = refl; differs = λ e. differ (ap (λ (s : Status). length s.dirty) e) }, put)
   where
     differ : ◌≡◌ {A = ℕ} 1 0 → ⊥

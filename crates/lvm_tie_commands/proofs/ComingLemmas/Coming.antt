@@ -16,7 +16,7 @@ use Rattle.lvm_vol.specs.Log.{Log}
 use Rattle.lvm_vol.specs.Order.{Ordered}
 use Rattle.lvm_kept.specs.Group.{IsOneOf}
 use Rattle.lvm_kept.specs.Moments.{Moment, StaysCalm}
-use Rattle.lvm_steps.specs.Moments.{Begins as Earlier, ImagesKept, Keeps, Upholds}
+use Rattle.lvm_steps.specs.Moments.{RunBegins as Earlier, ImagesKept, Keeps, Upholds}
 use Rattle.lvm_steps.specs.Requests.{at}
 use Rattle.lvm_steps.proofs.MomentsLemmas.Spans.{spans_join}
 use Rattle.lvm_steps.specs.Behind.{ClockIsAhead}
@@ -34,15 +34,15 @@ use Rattle.lvm_commit.specs.Settling.{NoneIsLeft}
 use Rattle.lvm_session.specs.State.{Core, State, state, is_there}
 use Rattle.lvm_session_start.specs.declared.parts.Parts.{Parts}
 use Rattle.lvm_session_start.specs.declared.parts.Room.{Room as SessionRoom}
-use Rattle.lvm_session_start.specs.Beginning.{MayBegin, first_core}
+use Rattle.lvm_session_start.specs.Beginning.{MayBeginSession, first_core}
 use Rattle.lvm_session_start.specs.Parts.{IsReserved, IsSessionRoom}
-use Rattle.lvm_keeps.specs.Begins.{Begins as Beginning, IsCalm, IsUnused}
+use Rattle.lvm_keeps.specs.Begins.{SessionBegins as Beginning, HasFirstStatus, IsUnused}
 use Rattle.lvm_keeps.proofs.BeginsLemmas.{beginning_is_sound}
 use Rattle.lvm_keeps.proofs.SoundLemmas.Telling.{open_still}
 use Rattle.lvm_session.specs.Placed.{ArePlaced}
 use Rattle.lvm_session.specs.Causes.{faults_at_first}
 use Rattle.lvm_session.specs.Sound.{IsFitting, IsSound, is_dark}
-use Rattle.lvm_settled.specs.passed.Names.{Room, NotesAreHome, HaveAllLanded, IsFittingBetween, IsRoom, room_of}
+use Rattle.lvm_settled.specs.passed.Names.{Room, NotesAreHome, HaveAllLanded, IsFittingAtRest, IsRoom, room_of}
 use Rattle.lvm_settled.proofs.passed.Names.{empty_names_none}
 use Rattle.lvm_mwc.specs.Cache.{is_named as is_named_by}
 use Rattle.lvm_kept.proofs.CommittedLemmas.Finding.{images_within}
@@ -51,7 +51,7 @@ use Rattle.lvm_varyon.proofs.passed.Names.{quiet_dirty_is_even}
 use Rattle.lvm_varyon.specs.Second.{status_after, last_seq}
 use Rattle.lvm_varyon.proofs.SecondLemmas.{last_seq_low}
 use Rattle.lvm_group.specs.NewGroup.{given_up, new_group, new_status}
-use Rattle.lvm_tie.specs.passed.Names.{NoneIsBehind}
+use Rattle.lvm_tie.specs.passed.Names.{MissingAreStale}
 use Rattle.lvm_tie.specs.Tied.{IsGood, moment_of}
 use Rattle.lvm_tie.proofs.passed.Names.{none_is_left_behind}
 use Rattle.lvm_tie.specs.Begins.{BeginsSound, StandsAtRest, Start, begun, shown_to}
@@ -104,10 +104,10 @@ module _ (was log : Log) (moment : ℕ) (room : Room) (old : Device) (s : State)
   wanted : p.updater.wanted ≡ p.table
   wanted = ap (λ (u : Updates). u.wanted) its.status
 
-  fitting : IsFittingBetween first
-  fitting = as_first IsFittingBetween it.sound.fitting
+  fitting : IsFittingAtRest first
+  fitting = as_first IsFittingAtRest it.sound.fitting
 
-  may : MayBegin s.device log (stamp_of moment b.seq) b.homes p
+  may : MayBeginSession s.device log (stamp_of moment b.seq) b.homes p
   may = record {
     reserved = its;
     room = b.fits;
@@ -165,7 +165,7 @@ module _ (was log : Log) (moment : ℕ) (room : Room) (old : Device) (s : State)
     notes = it.started.settled.quiet.notes;
   }
 
-  calm_first : IsCalm s.core
+  calm_first : HasFirstStatus s.core
   calm_first = record {
     sound = subst (λ (c : Core). IsSoundStatus (seen c.status)) (sym b.is) (subst (λ (u : Updates). IsSoundStatus (record u { stamp = stamp_of moment b.seq })) (sym its.status)
         (steps_stay_sound (SetStamp (stamp_of moment b.seq)) (first_updates p.table p.descriptor) (record (first_updates p.table p.descriptor) { stamp = stamp_of moment b.seq }) (first_is_sound p.table p.descriptor) (refl, refl)));
@@ -214,8 +214,8 @@ module _ (was log : Log) (moment : ℕ) (room : Room) (old : Device) (s : State)
     held : Held media
     held = of_told Held s.device.media media driven.told (it.started.held facts clock kept).held
 
-    behind : NoneIsBehind (shown_to s media) s.core.descriptor (Some held.shows.stands) (is_there s.core)
-    behind = subst (λ (set : Disks). NoneIsBehind (shown_to s media) s.core.descriptor (Some held.shows.stands) set) (ap (λ (g : Descriptor). members_there g s.core.status.wanted) it.sound.fitting.group)
+    behind : MissingAreStale (shown_to s media) s.core.descriptor (Some held.shows.stands) (is_there s.core)
+    behind = subst (λ (set : Disks). MissingAreStale (shown_to s media) s.core.descriptor (Some held.shows.stands) set) (ap (λ (g : Descriptor). members_there g s.core.status.wanted) it.sound.fitting.group)
         (none_is_left_behind (shown_to s media) s.core.descriptor s.core.status held.shows.stands (held.shows.committed ∙ it.started.settled.committed) it.started.left)
 
     epoch : s.core.status.stamp.epoch ≡ moment

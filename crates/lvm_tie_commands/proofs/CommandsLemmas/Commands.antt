@@ -15,7 +15,7 @@ use Rattle.lvm_vol.specs.Log.{Log}
 use Rattle.lvm_vol.specs.Order.{Ordered}
 use Rattle.lvm_kept.specs.Moments.{Calm, Moment}
 use Rattle.lvm_kept.specs.Plans.{ChangesBy}
-use Rattle.lvm_steps.specs.Moments.{Begins, Holds, Keeps, Upholds}
+use Rattle.lvm_steps.specs.Moments.{RunBegins, HistoryHolds, Keeps, Upholds}
 use Rattle.lvm_steps.proofs.RecordLemmas.{join, split}
 use Rattle.lvm_commit.specs.LawsOfVolumes.{IsOneFoundOn}
 use Rattle.lvm_session.specs.State.{Core, State, is_there, state}
@@ -79,8 +79,8 @@ module _ (run : ℕ) (first : Moment) (old new : State) (may : MayBeCommanded ru
 
   module _ (on : IsSettled new.core) (still : StillHeld old new) (members : (d : ℕ) → is_member new.core.descriptor d ≡ is_member old.core.descriptor d) (even : KeepsEven old new)
       (enters : new.core.descriptor.lvs ≢ [] → old.core.descriptor.lvs ≡ [] → IsOneFoundOn old.device) (keeps : Keeps run first (moment_of new)) (whole : HasSectors new.device)
-      (past : List Fact) (begins : Begins run past first) where
-    holds : Holds past (moment_of new)
+      (past : List Fact) (begins : RunBegins run past first) where
+    holds : HistoryHolds past (moment_of new)
     holds = let upholds : Upholds run first (moment_of new) = last-path keeps in upholds past begins
 
     calm : Calm (past ++ new.core.history.facts)

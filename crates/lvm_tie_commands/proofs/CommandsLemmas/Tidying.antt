@@ -18,7 +18,7 @@ use Rattle.lvm_disk.specs.Device.{Media}
 use Rattle.lvm_vol.specs.Facts.{Fact}
 use Rattle.lvm_kept.specs.Group.{IsOneOf, IsSome, fresh_on}
 use Rattle.lvm_kept.specs.Moments.{Moment}
-use Rattle.lvm_steps.specs.Moments.{Begins}
+use Rattle.lvm_steps.specs.Moments.{RunBegins}
 use Rattle.lvm_status.specs.Update.{members_there}
 use Rattle.lvm_commit.specs.Committed.{AreOne}
 use Rattle.lvm_commit.proofs.AmongLemmas.{of_map, of_rows}
@@ -32,7 +32,7 @@ use Rattle.lvm_volumes.specs.Tidying.{lacks_usable, needs_mark, to_tidy, unneede
 use Rattle.lvm_volumes.proofs.TidyingLemmas.{some_lacks}
 use Rattle.lvm_handover.specs.passed.Names.{IsSettled}
 use Rattle.lvm_handover.specs.passed.Tie.{shown_to}
-use Rattle.lvm_settled.specs.passed.Names.{NoneIsBehind}
+use Rattle.lvm_settled.specs.passed.Names.{MissingAreStale}
 use Rattle.lvm_settled.proofs.passed.Names.{none_is_left_behind}
 use Rattle.lvm_tie_commands.specs.Commands.{MayBeCommanded, TidyGoesOn}
 use Rattle.lvm_tie_commands.proofs.CommandsLemmas.Commands.{keeps_on}
@@ -60,8 +60,8 @@ module _ (run : ℕ) (first : Moment) (old : State) (may : MayBeCommanded run fi
   clean = unneeded old.core.descriptor old.core.status.committed
 
   module _ (media : Media) (it : Carries old media) where
-    behind : NoneIsBehind (shown_to old media) old.core.descriptor (Some it.held.shows.stands) (is_there old.core)
-    behind = subst (λ (set : Disks). NoneIsBehind (shown_to old media) old.core.descriptor (Some it.held.shows.stands) set) (ap (λ (g : Descriptor). members_there g old.core.status.wanted) may.sound.fitting.group)
+    behind : MissingAreStale (shown_to old media) old.core.descriptor (Some it.held.shows.stands) (is_there old.core)
+    behind = subst (λ (set : Disks). MissingAreStale (shown_to old media) old.core.descriptor (Some it.held.shows.stands) set) (ap (λ (g : Descriptor). members_there g old.core.status.wanted) may.sound.fitting.group)
         (none_is_left_behind (shown_to old media) old.core.descriptor old.core.status it.held.shows.stands (it.held.shows.committed ∙ settled.committed) (left old may.sound settled))
 
     -- a copy that can be used is on a member that is there
@@ -84,7 +84,7 @@ module _ (run : ℕ) (first : Moment) (old : State) (may : MayBeCommanded run fi
   none_empty : (row : LvRow) → IsOneOf old.core.descriptor.lvs row → old.core.descriptor.lvs ≡ [] → ⊥
   none_empty row one none = subst (λ (rows : List LvRow). IsOneOf rows row) none one
 
-  lets : (past : List Fact) → Begins run past first → IfSome old.device.media (λ (media : Media). (row : LvRow) → IsOneOf old.core.descriptor.lvs row → row.mode ≡ Passive → Contains clean row.number → AreOne (shown_to old media) old.core.descriptor old.core.status.committed row)
+  lets : (past : List Fact) → RunBegins run past first → IfSome old.device.media (λ (media : Media). (row : LvRow) → IsOneOf old.core.descriptor.lvs row → row.mode ≡ Passive → Contains clean row.number → AreOne (shown_to old media) old.core.descriptor old.core.status.committed row)
   lets past begins = if_told old.device.media _ (λ media told row one soft goes.
       let it : (m : Media) × Carries old m = carries run first old may settled past begins (λ none. absurd (none_empty row one none)) in
       let same : it.0 ≡ media = let both : Some it.0 ≡ Some media = sym it.1.told ∙ told in cc both in

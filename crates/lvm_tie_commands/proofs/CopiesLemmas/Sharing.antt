@@ -36,7 +36,7 @@ use Rattle.lvm_kept.specs.Moments.{Moment}
 use Rattle.lvm_kept.specs.Plans.{ChangesBy}
 use Rattle.lvm_kept.proofs.CommittedLemmas.Finding.{finding_reads, images_within}
 use Rattle.lvm_kept.proofs.PlacesLemmas.{data-same}
-use Rattle.lvm_steps.specs.Moments.{Begins, Holds, Upholds}
+use Rattle.lvm_steps.specs.Moments.{RunBegins, HistoryHolds, Upholds}
 use Rattle.lvm_steps.proofs.GroupLemmas.Members.{member_of_parts}
 use Rattle.lvm_steps.proofs.LawsLemmas.Writes.{slot_below}
 use Rattle.lvm_steps.proofs.MakingLemmas.Making.{media_may}
@@ -222,7 +222,7 @@ module _ (run : ℕ) (first : Moment) (lv : ℕ) (name : List ℕ) (copies befor
   fewer_there : (disk : ℕ) → IsTrue (is_there new.core disk) → IsTrue (is_there old.core disk)
   fewer_there = still_there old new (λ disk. ap (λ (g : Descriptor). is_member g disk) next_is) c.leaves.status.stays
 
-  module _ (past : List Fact) (begins : Begins run past first) (media : Media) (told : new.device.media ≡ Some media) (stands : Stamped Status) (committed : stands.value ≡ new.core.status.committed) where
+  module _ (past : List Fact) (begins : RunBegins run past first) (media : Media) (told : new.device.media ≡ Some media) (stands : Stamped Status) (committed : stands.value ≡ new.core.status.committed) where
     abbrev facts : List Fact
     facts = past ++ old.core.history.facts
 
@@ -241,7 +241,7 @@ module _ (run : ℕ) (first : Moment) (lv : ℕ) (name : List ℕ) (copies befor
     abbrev c_new : Contents
     c_new = contents_of (image_of new.device.sizes media)
 
-    holds : Holds past (moment_of old)
+    holds : HistoryHolds past (moment_of old)
     holds = let upholds : Upholds run first (moment_of old) = last-path may.keeps in upholds past begins
 
     change : ChangesBy (IsOfCommand (IsSplit lv name copies old.core) NoPartition old new) (image_of old.device.sizes was) (image_of new.device.sizes media)
@@ -281,7 +281,7 @@ module _ (run : ℕ) (first : Moment) (lv : ℕ) (name : List ℕ) (copies befor
     hold_the_same : HoldTheSame c_new facts d.mib (Some stands) (is_there new.core) stays more
     hold_the_same lp b inside firm = one_in_both lp b (record { inside = inside.inside; partition = inside.partition }) firm
 
-  shares : (past : List Fact) → Begins run past first → ShareContent (past ++ old.core.history.facts) new lv number
+  shares : (past : List Fact) → RunBegins run past first → ShareContent (past ++ old.core.history.facts) new lv number
   shares past begins = record {
     stays = stays;
     new = more;

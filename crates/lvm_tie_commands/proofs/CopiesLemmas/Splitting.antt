@@ -10,7 +10,7 @@ use Rattle.lvm_vol.specs.Facts.{Fact}
 use Rattle.lvm_vol.specs.Order.{Ordered}
 use Rattle.lvm_kept.specs.Contents.{contents_of}
 use Rattle.lvm_kept.specs.Moments.{Moment}
-use Rattle.lvm_steps.specs.Moments.{Begins, Keeps}
+use Rattle.lvm_steps.specs.Moments.{RunBegins, Keeps}
 use Rattle.lvm_handover.specs.passed.Names.{EntersVolumes}
 use Rattle.lvm_tie_commands.specs.passed.Names.{IsOneFoundOn, moment_of, NoPartition, IsSettled, GroupFault, IfOn}
 use Rattle.lvm_session.specs.State.{Core, State, is_there}
@@ -90,7 +90,7 @@ module _ (run : ℕ) (first : Moment) (lv : ℕ) (name : List ℕ) (copies befor
 
   -- what lets it be
   module _ (had : HadOrNot lv old new) (row : LvRow) (volume : volume_of old.core.descriptor lv ≡ Some row) where
-    even : (past : List Fact) → Begins run past first → IsEvenOn old
+    even : (past : List Fact) → RunBegins run past first → IsEvenOn old
     even past begins =
         let it : (media : Media) × Carries old media = carries run first old may c.began past begins (λ none. absurd (no_volume old.core.descriptor lv row none volume)) in
         if_told old.device.media _ (λ media told.

@@ -22,14 +22,14 @@ use Rattle.lvm_session.specs.Marks.{is_entailed}
 use Rattle.lvm_session.specs.Causes.{faults_at_first}
 use Rattle.lvm_session.specs.Sound.{IsSound}
 use Rattle.lvm_session.proofs.WorkedLemmas.Parts.{idle_is_sound, none_written, zeros_at}
-use Rattle.lvm_keeps.specs.Begins.{Begins}
+use Rattle.lvm_keeps.specs.Begins.{SessionBegins}
 use Rattle.lvm_keeps.proofs.BeginsLemmas.{beginning_is_sound}
 use Rattle.lvm_tie.specs.passed.Names.{IsEven, Pair, even_pair, media_of, past_of}
 use Rattle.lvm_settled.specs.Examples.{IsSettledPair, core_of}
 use Rattle.lvm_settled.specs.Settled.{IsKnown}
 use Rattle.lvm_settled.proofs.ExamplesLemmas.Examples.{pairs_settle}
 use Rattle.lvm_settled.proofs.ExamplesLemmas.Notes.{pairs_have_notes_home}
-use Rattle.lvm_tie.specs.Begins.{IsResting, MembersShow, ShowsIts, shown_to}
+use Rattle.lvm_tie.specs.Begins.{IsCoreAtRest, MembersShow, ShowsIts, shown_to}
 use Rattle.lvm_tie.proofs.passed.Names.{pp_same}
 use Rattle.lvm_tie_commands.specs.Examples.{IsServingPair, PairsServe, session_of}
 use Rattle.lvm_tie_commands.specs.Settled.{IsSettledAfter, MayServe}
@@ -90,7 +90,7 @@ module _ (mode : Mode) (dirty lost cut : Bool) where
   none_failed : (disk : ℕ) → faults_at_first core disk ≤ 0
   none_failed disk = let none = zeros_at 128 disk in omega (arith, none)
 
-  begins : Begins s
+  begins : SessionBegins s
   begins = record {
     fitting = record {
       valid = known.sound.fitting.valid;
@@ -140,7 +140,7 @@ module _ (mode : Mode) (dirty lost cut : Bool) where
   own true = refl
   own false = refl
 
-  resting : IsResting core
+  resting : IsCoreAtRest core
   resting = record { requests = refl; copy = refl; flying = refl; in_flight = refl; committed = refl; notes = known.settled.quiet.notes }
 
   -- evenness goes by the marks alone

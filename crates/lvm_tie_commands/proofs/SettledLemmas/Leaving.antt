@@ -15,7 +15,7 @@ use Rattle.lvm_rec.specs.Slots.{newest_on}
 use Rattle.lvm_disk.specs.Device.{Flight, Image, Media, image_of}
 use Rattle.lvm_kept.specs.Contents.{contents_of, descriptor_on, has_records}
 use Rattle.lvm_kept.specs.Kept.{Kept}
-use Rattle.lvm_steps.specs.Moments.{Holds}
+use Rattle.lvm_steps.specs.Moments.{HistoryHolds}
 use Rattle.lvm_commit.specs.Committed.{HoldsCommitted}
 use Rattle.lvm_crash.proofs.LawsLemmas.Images.{images_kept}
 use Rattle.lvm_session.specs.declared.bringing.OpenCopy.{OpenCopy}
@@ -28,13 +28,13 @@ use Rattle.lvm_session.specs.Dark.{hand_of_copy}
 use Rattle.lvm_session.specs.Owners.{AreRows}
 use Rattle.lvm_session.specs.Placed.{ArePlaced}
 use Rattle.lvm_session.specs.Sound.{IsOn, IsSound, count_if, has_number, hands_with, is_dark, is_hand, out_with, waits}
-use Rattle.lvm_settled.specs.passed.Names.{HaveAllLanded, IsFittingBetween, IsQuiet, IsSoundBetween, IsSettled}
+use Rattle.lvm_settled.specs.passed.Names.{HaveAllLanded, IsFittingAtRest, HasNothingUnderWay, IsSoundAtRest, IsSettled}
 use Rattle.lvm_settled.specs.Settled.{IsKnown}
 use Rattle.lvm_tie.specs.Seen.{update_of}
 use Rattle.lvm_tie.specs.Spares.{SparesOn}
 use Rattle.lvm_tie.specs.Tied.{IsTied, moment_of}
 use Rattle.lvm_tie.proofs.TiedLemmas.Tied.{tied_matches}
-use Rattle.lvm_tie.specs.Begins.{IsRested, IsResting, ShowsIts}
+use Rattle.lvm_tie.specs.Begins.{IsRested, IsCoreAtRest, ShowsIts}
 use Rattle.lvm_tie.proofs.BeginsLemmas.Rested.{tied_rests}
 use Rattle.lvm_tie_commands.specs.Settled.{IsSettledAfter, MayBeLeft, MayServe, TiedHolds, TiedSettles}
 use Rattle.lvm_tie_commands.proofs.CalmLemmas.{calm_since}
@@ -60,7 +60,7 @@ large_enough image d r shown = by (has_records image d) refl shown
 
 -- ---- what its disks hold
 
-module _ (past : List Fact) (s : State) (tied : IsTied past s) (resting : IsResting s.core) (votes : CanWrite s.core.descriptor (is_there s.core)) (spares : SparesOn s.core tied.media) where
+module _ (past : List Fact) (s : State) (tied : IsTied past s) (resting : IsCoreAtRest s.core) (votes : CanWrite s.core.descriptor (is_there s.core)) (spares : SparesOn s.core tied.media) where
   left : (shows : ShowsIts s tied.media) × IsRested past s tied.media shows
   left = tied_rests past s tied resting votes
 
@@ -115,7 +115,7 @@ module _ (past : List Fact) (s : State) (tied : IsTied past s) (may : MayBeLeft 
   buffers : core.pool ≡ replicate (length core.pool) false
   buffers = all_back core.pool (λ n. not_counted (slice_index_or core.pool n false) (none_with n ∙ sound.none_lost lit n))
 
-  quiet : IsQuiet core
+  quiet : HasNothingUnderWay core
   quiet = record { requests = may.resting.requests; copy = may.resting.copy; status = may.resting.in_flight; notes = may.resting.notes; buffers = buffers }
 
   -- ---- its requests, and its members
@@ -133,7 +133,7 @@ module _ (past : List Fact) (s : State) (tied : IsTied past s) (may : MayBeLeft 
           by true missing = absurd (let no : true ≡ false = sym (sound.origin.still_missing disk missing) ∙ present in cc no)
           by false any = refl
 
-  fitting : IsFittingBetween core
+  fitting : IsFittingAtRest core
   fitting = record {
     valid = sound.fitting.valid;
     id = sound.fitting.id;
@@ -149,7 +149,7 @@ module _ (past : List Fact) (s : State) (tied : IsTied past s) (may : MayBeLeft 
     forgotten = on.going.status.idle;
   }
 
-  between : IsSoundBetween s
+  between : IsSoundAtRest s
   between = record {
     fitting = fitting;
     none = record { requests = may.resting.requests; copy = may.resting.copy };
@@ -168,7 +168,7 @@ module _ (past : List Fact) (s : State) (tied : IsTied past s) (may : MayBeLeft 
   settled : IsSettled core
   settled = record { power = tied.orderly.on; quiet = quiet; committed = may.resting.committed; epoch = tied.recorded.next.some_epoch; votes = may.votes }
 
-  holds : Holds past (moment_of s)
+  holds : HistoryHolds past (moment_of s)
   holds = record {
     legal = subst Legal tied.sees.facts tied.good.told.legal;
     kept = λ image left. subst (Kept (contents_of image)) tied.sees.facts

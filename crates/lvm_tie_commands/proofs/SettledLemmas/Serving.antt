@@ -8,7 +8,7 @@ use Rattle.lvm_session.specs.declared.flown.Flown.{Flown}
 use Rattle.lvm_session.specs.State.{Core, State}
 use Rattle.lvm_session.specs.Owners.{AreRows}
 use Rattle.lvm_tie.specs.Tied.{IsTied}
-use Rattle.lvm_tie.specs.Begins.{FollowsOn, IsResting, StandsAtRest}
+use Rattle.lvm_tie.specs.Begins.{FollowsOn, IsCoreAtRest, StandsAtRest}
 use Rattle.lvm_tie.proofs.BeginsLemmas.Resting.{rest_ties}
 use Rattle.lvm_tie_commands.specs.Settled.{IsSettledAfter, MayServe, SettledServes, SettledTies}
 
@@ -20,7 +20,7 @@ none_flown core (row ∷ rows) (f ∷ flights) are none = absurd (cc none)
 
 module _ (past : List Fact) (s : State) (media : Media) (is : IsSettledAfter past s media) (may : MayServe s media)
     (own : count_by (begins_in s.core.history.run) past ≡ 0) where
-  rests : IsResting s.core
+  rests : IsCoreAtRest s.core
   rests = record {
     requests = is.known.settled.quiet.requests;
     copy = is.known.settled.quiet.copy;

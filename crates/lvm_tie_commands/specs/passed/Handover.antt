@@ -1,5 +1,5 @@
 -- Passed on from `lvm_handover`.
 pub use Rattle.lvm_handover.specs.Beginning.{HasJustBegun, IsHistory, Serves}
 pub use Rattle.lvm_handover.specs.Earlier.{AreGone, with_taken}
-pub use Rattle.lvm_handover.specs.Serving.{IsCommanded, IsServed, MayServe, StaysSound}
+pub use Rattle.lvm_handover.specs.Serving.{IsCommanded, OriginIsMarked, MayServe, StaysSound}
 pub use Rattle.lvm_handover.specs.Settling.{MayHandOver}

@@ -2,7 +2,7 @@
 use Rattle.std.proofs.Common.{◌≡◌, ℕ, List, Option, Some, Result, Ok, refl}
 use Rattle.lvm_disk.specs.Device.{Device}
 use Rattle.lvm_vol.specs.Log.{Log}
-use Rattle.lvm_steps.specs.Behind.{IsBehind}
+use Rattle.lvm_steps.specs.Behind.{StampsAreEarlier}
 use Rattle.lvm_parse.specs.declared.command.Command.{Command}
 use Rattle.lvm_parse.specs.declared.command.Command.TheVariants as command
 use Rattle.lvm_parse.specs.declared.rest.Misfit.{Misfit}
@@ -56,7 +56,7 @@ varyons_recover log room first lines replies last script timely = lines_recover 
 
 -- ---- those of a run
 
-pub run_recovers : (r : Run) (ran : IsRun r) → IsBehind r.named r.entry → HaveRecovered ran
+pub run_recovers : (r : Run) (ran : IsRun r) → StampsAreEarlier r.named r.entry → HaveRecovered ran
 run_recovers r ran behind =
     let log = empty_log r.named r.room in
     let timely = begins_timely r.named r.entry ran.ready.flights behind in

@@ -25,7 +25,7 @@ use Rattle.lvm_line.specs.passed.TieCommands.{StandsAfter as StandsAfterPast}
 use Rattle.lvm_line.specs.passed.Quiesce.{RefusedAtOnce, StayedOut, VaryonOnceQuiet, WentQuiet}
 use Rattle.lvm_line.proofs.passed.Quiesce.{ends_only}
 use Rattle.lvm_core.specs.Leaves.{MayBeFound}
-use Rattle.lvm_line.specs.passed.GroupLines.{IsBetween, IsLeft, IsOnBetween, VaryonDoes, NoVaryonWhileOn, Varies, itself, outcome_of, patience_of_line, IsAlone, Role, IsStuck, StandsAlone, StandsBy, ScriptState, log_with, Reply}
+use Rattle.lvm_line.specs.passed.GroupLines.{IsBetween, IsLeftByCall, IsOnBetween, VaryonDoes, NoVaryonWhileOn, Varies, itself, outcome_of, patience_of_line, IsAlone, Role, IsStuck, StandsAlone, StandsBy, ScriptState, log_with, Reply}
 use Rattle.lvm_line.specs.Lines.{LineDoes, IsLine, role_of}
 use Rattle.lvm_line.specs.passed.ReplyVariants as reply
 use Rattle.lvm_top.specs.Script.{Says, Script, NoLine, NextLine, StaysAlone, Ends, AtLine, InLine, EndsAlone, EndsHeard, entry_state, empty_log, facts_of}
@@ -34,8 +34,8 @@ use Rattle.lvm_top.proofs.ScriptLemmas.Concluding.{none_flies, ran_between}
 use Rattle.lvm_top.proofs.Devices.{NothingNew, then_nothing, same_nothing}
 use Rattle.lvm_top.proofs.LeavesLemmas.Quiet.{closed_nothing, quiet_nothing, runs_nothing}
 use Rattle.lvm_top.proofs.ScriptLemmas.Scripting.{script_went, begins_timely}
-use Rattle.lvm_top.specs.Laws.{MayStart, ScriptFindsWhatStands, VaryonFindsWhatStands, RunMayStart, RunFindsWhatStands}
-use Rattle.lvm_top.specs.Standing.{MayHaveCommitted, StoodBefore, StandsSince, is_acknowledged, StandsOf, StandsAfter, MayStand, MayStandAtEnd}
+use Rattle.lvm_top.specs.Laws.{MayRun, ScriptFindsWhatStands, VaryonFindsWhatStands, RunMayStart, RunFindsWhatStands}
+use Rattle.lvm_top.specs.Standing.{MayHaveCommitted, StoodBefore, StandsSince, is_acknowledged, StandsOf, StandsAfter, DescriptorMayStand, MayStandAtEnd}
 use Rattle.lvm_top.proofs.StandingLemmas.Acknowledged.{only_committed, leaves_on, stands_of}
 use Rattle.lvm_top.proofs.LawsLemmas.Lines.{line_finds_no_more}
 use Rattle.lvm_top.proofs.LeavesLemmas.Varying.{was_found}
@@ -46,7 +46,7 @@ use Rattle.lvm_top.proofs.LeavesLemmas.Varying.{was_found}
 pub script_leaves : (log : Log) (room : Room) (first : ScriptState) {lines : List (List ℕ)} {replies : List Reply} {last : ScriptState} → Script log room first lines replies last → LeavesDescriptors first.moment.device → LeavesDescriptors last.moment.device
 script_leaves log room first script leaves = (script_went log room first script).leaves leaves
 
-module _ (log : Log) (room : Room) (past : List Fact) (first : ScriptState) (begin : MayStart log.run past first) where
+module _ (log : Log) (room : Room) (past : List Fact) (first : ScriptState) (begin : MayRun log.run past first) where
   -- no group is on at first, so no disks stand by a session
   pub first_stands : StandsBy log.run first.moment first
   first_stands before begins = subst (λ (s : Option Core). IfSome s (λ core. StandsAlone first.moment.device core → StandsAfterPast before first.moment.device core)) (sym begin.off) tt
@@ -65,21 +65,21 @@ module _ (log : Log) (room : Room) (past : List Fact) (first : ScriptState) (beg
   -- what an acknowledged group command leaves
   acknowledged : {lines : List (List ℕ)} {replies : List Reply} {mid new : ScriptState} (line : List ℕ) (answer said : Reply) (heard : IsStuck answer → ⊥) (says : Says answer said) (before : Script log room first lines replies mid) (it : IsLine log room line answer mid new)
       → StaysAlone (NextLine line answer said heard says before it) → is_acknowledged (line_of line) answer ≡ true
-      → (id : ℕ) (k : Descriptor) → MayBeFound new.moment.device id k → MayStand before id k ⊎ MayHaveCommitted (line_of line) answer mid new id k
-      → IsSomeAnd new.session (λ core. StandsOf core (MayStand before) id k)
+      → (id : ℕ) (k : Descriptor) → MayBeFound new.moment.device id k → DescriptorMayStand before id k ⊎ MayHaveCommitted (line_of line) answer mid new id k
+      → IsSomeAnd new.session (λ core. StandsOf core (DescriptorMayStand before) id k)
   acknowledged {mid = mid} {new = new} line answer said heard says before it alone acked id k found which =
       let so_far = script_went log room first before in
       let on = leaves_on log room mid new it.between it.named (it.goes.begins (so_far.timely begin.timely) (past ++ mid.moment.facts) (images_kept before alone.0)) (line_of line) answer acked (stood before alone.0 (role_of (line_of line)) new alone.1) it.does in
       let kept = images_kept (NextLine line answer said heard says before it) alone in
-      subst (λ (s : Option Core). IsSomeAnd s (λ core. StandsOf core (MayStand before) id k)) (sym on.on)
-      (stands_of on.core (MayStand before) id k
+      subst (λ (s : Option Core). IsSomeAnd s (λ core. StandsOf core (DescriptorMayStand before) id k)) (sym on.on)
+      (stands_of on.core (DescriptorMayStand before) id k
       (λ same. only_committed new.moment.device on.core (past ++ new.moment.facts) on.begun.settled on.begun.held on.begun.ready.flights kept k (subst (λ (i : ℕ). MayBeFound new.moment.device i k) same found))
       (⊎_elim (λ stood. inl stood) (λ committed. inr (committed.own, on.own k committed.is)) which))
 
   -- what a line leaves of which something was heard
   line_stands : {lines : List (List ℕ)} {replies : List Reply} {mid new : ScriptState} (line : List ℕ) (answer said : Reply) (says : Says answer said) (before : Script log room first lines replies mid) (it : IsLine log room line answer mid new)
-      → (IsStuck answer → ⊥) → StaysAlone before × IsAlone (role_of (line_of line)) mid new → ((id : ℕ) (k : Descriptor) → MayBeFound mid.moment.device id k → MayStand before id k)
-      → (id : ℕ) (k : Descriptor) → MayBeFound new.moment.device id k → StandsAfter (is_acknowledged (line_of line) answer) (line_of line) answer mid new (MayStand before) id k
+      → (IsStuck answer → ⊥) → StaysAlone before × IsAlone (role_of (line_of line)) mid new → ((id : ℕ) (k : Descriptor) → MayBeFound mid.moment.device id k → DescriptorMayStand before id k)
+      → (id : ℕ) (k : Descriptor) → MayBeFound new.moment.device id k → StandsAfter (is_acknowledged (line_of line) answer) (line_of line) answer mid new (DescriptorMayStand before) id k
   line_stands {mid = mid} {new = new} line answer said says before it heard alone stands_so id k found =
       let went = script_went log room first before in
       let few : length mid.moment.device.sizes ≤ 128 = subst (λ (sizes : List ℕ). length sizes ≤ 128) (sym (span_sizes (went_so before alone.0).0)) begin.few in
@@ -88,13 +88,13 @@ module _ (log : Log) (room : Room) (past : List Fact) (first : ScriptState) (beg
       (λ committed. inr committed)
       (line_finds_no_more log room line answer mid new it few (went.leaves begin.leaves) heard (went.timely begin.timely) (stood before alone.0 (role_of (line_of line)) new alone.1) id k found))
     where
-      by_answer : (t : Bool) → is_acknowledged (line_of line) answer ≡ t → MayStand before id k ⊎ MayHaveCommitted (line_of line) answer mid new id k
-          → StandsAfter t (line_of line) answer mid new (MayStand before) id k
+      by_answer : (t : Bool) → is_acknowledged (line_of line) answer ≡ t → DescriptorMayStand before id k ⊎ MayHaveCommitted (line_of line) answer mid new id k
+          → StandsAfter t (line_of line) answer mid new (DescriptorMayStand before) id k
       by_answer true acked which = acknowledged line answer said heard says before it alone acked id k found which
       by_answer false other which = which
 
   pub stands : {lines : List (List ℕ)} {replies : List Reply} {last : ScriptState} (script : Script log room first lines replies last) → StaysAlone script
-      → (id : ℕ) (k : Descriptor) → MayBeFound last.moment.device id k → MayStand script id k
+      → (id : ℕ) (k : Descriptor) → MayBeFound last.moment.device id k → DescriptorMayStand script id k
   stands NoLine alone id k it = it
   stands (NextLine line answer said heard says before it) alone id k found =
       line_stands line answer said says before it heard alone (stands before alone.0) id k found
@@ -129,14 +129,14 @@ pub varyon_finds : VaryonFindsWhatStands
 varyon_finds log room past first lines replies last script begin alone line name new is it =
     of_varyon (subst (λ (r : Result (Option Command) Misfit). LineDoes log room r last new reply.Ok) is it.does)
   where
-    of_varyon : VaryonDoes log room name last new reply.Ok → IsSomeAnd new.session (λ core. MayStand script core.descriptor.id core.descriptor)
+    of_varyon : VaryonDoes log room name last new reply.Ok → IsSomeAnd new.session (λ core. DescriptorMayStand script core.descriptor.id core.descriptor)
     of_varyon (NoVaryonWhileOn on says asked) = absurd (cc (says))
     of_varyon (Varies brings) = by_given brings.given brings.gives brings.left
       where
         by_given : (given : Result Core Cause) → VaryonOnceQuiet itself (log_with log last.moment.facts) name new.last room patience_of_line last.moment.device (outcome_of brings.shelf brings.history given)
-            → IsLeft brings.shelf brings.history last new reply.Ok given → IsSomeAnd new.session (λ core. MayStand script core.descriptor.id core.descriptor)
+            → IsLeftByCall brings.shelf brings.history last new reply.Ok given → IsSomeAnd new.session (λ core. DescriptorMayStand script core.descriptor.id core.descriptor)
         by_given (Ok core) gives left =
-            subst (λ (s : Option Core). IsSomeAnd s (λ c. MayStand script c.descriptor.id c.descriptor)) (sym left.2.after)
+            subst (λ (s : Option Core). IsSomeAnd s (λ c. DescriptorMayStand script c.descriptor.id c.descriptor)) (sym left.2.after)
             (stands log room past first begin script alone core.descriptor.id core.descriptor
             (varied_found name new.last room patience_of_line (log_with log last.moment.facts) last.moment.device brings.shelf core (last_told log room past first begin script alone) gives))
         by_given (Err why) gives left = absurd (let e = left.answered in cc (e))
@@ -147,10 +147,10 @@ pub run_may_start : RunMayStart
 run_may_start run entry past few ready behind earlier = record { off = refl; few = few; leaves = none_flies entry ready.flights; timely = begins_timely run entry ready.flights behind; begins = begins_run run entry past earlier }
 
 -- where it ends
-module _ (log : Log) (room : Room) (past : List Fact) (first : ScriptState) (begin : MayStart log.run past first) {lines : List (List ℕ)} {replies : List Reply} {mid : ScriptState}
+module _ (log : Log) (room : Room) (past : List Fact) (first : ScriptState) (begin : MayRun log.run past first) {lines : List (List ℕ)} {replies : List Reply} {mid : ScriptState}
     (script : Script log room first lines replies mid) where
   end_stands : {last : ScriptState} {done : List (List ℕ)} {said : List Reply} {front : List ℕ} (ends : Ends log room mid last done said front) → EndsHeard ends → StaysAlone script × EndsAlone ends
-      → (id : ℕ) (k : Descriptor) → MayBeFound last.moment.device id k → MayStandAtEnd ends (MayStand script) id k
+      → (id : ℕ) (k : Descriptor) → MayBeFound last.moment.device id k → MayStandAtEnd ends (DescriptorMayStand script) id k
   end_stands (AtLine same) heard alone id k found = stands log room past first begin script alone.0 id k (subst (λ (s : ScriptState). MayBeFound s.moment.device id k) same found)
   end_stands (InLine line answer said front rest says split it) heard alone id k found =
       line_stands log room past first begin line answer said says script it heard alone (stands log room past first begin script alone.0) id k found

@@ -23,7 +23,7 @@ use Rattle.lvm_kept.specs.Plans.{ChangesBy}
 use Rattle.lvm_kept.specs.Torn.{MayWriteAll}
 use Rattle.lvm_kept.proofs.CommittedLemmas.Finding.{offered, is_offered}
 use Rattle.lvm_steps.proofs.MakingLemmas.Making.{media_may}
-use Rattle.lvm_steps.specs.Behind.{StampsBefore, IsBehind}
+use Rattle.lvm_steps.specs.Behind.{StampsBefore, StampsAreEarlier}
 use Rattle.lvm_steps.specs.Laws.{ShowsBefore}
 use Rattle.lvm_steps.proofs.LawsLemmas.Records.{session_may_go, shown_is_before}
 use Rattle.lvm_steps.proofs.LawsLemmas.Stamps.{behind_is_before}
@@ -73,8 +73,8 @@ module _ (old new : Device) (name : List ℕ) (moment : ℕ) (How : Beginning �
     pub was_found : MayBeFound old written.group.id written.group
     was_found = (image_of old.sizes media, media_may old media told, (written.found.answered, finds))
 
-  module _ (shelf : IsShelf old) (some : moment ≢ 0) (clock : moment < 2 ^ 64 - 1 → IsBehind moment old) where
-    behind : IsBehind moment old
+  module _ (shelf : IsShelf old) (some : moment ≢ 0) (clock : moment < 2 ^ 64 - 1 → StampsAreEarlier moment old) where
+    behind : StampsAreEarlier moment old
     behind = clock written.chosen.early
 
     low : moment < 2 ^ 64

@@ -6,7 +6,7 @@ use Rattle.lvm_io.proofs.StreamLemmas.Told.{told_same}
 use Rattle.lvm_vol.specs.Facts.{Fact}
 use Rattle.lvm_vol.specs.Log.{Log}
 use Rattle.lvm_vol.specs.Order.{Ordered}
-use Rattle.lvm_steps.specs.Behind.{IsBehind, IsAhead, beginning_at}
+use Rattle.lvm_steps.specs.Behind.{StampsAreEarlier, IsAhead, beginning_at}
 use Rattle.lvm_steps.specs.Laws.{LeavesBefore}
 use Rattle.lvm_steps.proofs.LawsLemmas.Stamps.{later_is_ahead_too}
 use Rattle.lvm_core.specs.declared.parts.Room.{Room}
@@ -148,10 +148,10 @@ module _ (run last : ℕ) (room : Room) (entry exit : Device) (input output : Pa
       says_so is = ap (λ (w : Option Stop). status_of w refused) is
 
 -- no memory was found, so that the clock stays ahead of the disks
-pub nothing_ahead : (run last : ℕ) (device : Device) (facts : List Fact) → facts ≡ [] → run ≤ last → IsBehind run device → IsAhead run (last + 1) device facts
+pub nothing_ahead : (run last : ℕ) (device : Device) (facts : List Fact) → facts ≡ [] → run ≤ last → StampsAreEarlier run device → IsAhead run (last + 1) device facts
 nothing_ahead run last device facts none le behind = subst (λ (l : List Fact). IsAhead run (last + 1) device l) (sym none) (record { run_is = omega (arith, le); later = tt; behind = later_is_ahead_too run (last + 1) device (omega (arith, le)) behind })
 
-nothing_ahead_each : (last : ℕ) (device : Device) → IsReady device → IsBehind 0 device → LeavesBefore (beginning_at (last + 1)) device
+nothing_ahead_each : (last : ℕ) (device : Device) → IsReady device → StampsAreEarlier 0 device → LeavesBefore (beginning_at (last + 1)) device
 nothing_ahead_each last device ready behind = still_is_behind_each (last + 1) device ready.flights (later_is_ahead_too 0 (last + 1) device (omega arith) behind)
 
 -- the history of a run at its beginning

@@ -9,7 +9,7 @@ use Rattle.lvm_parse.specs.Grammar.{line_of}
 use Rattle.lvm_kept.specs.Moments.{Moment}
 use Rattle.lvm_steps.specs.Moments.{Keeps, IsUpheld}
 use Rattle.lvm_steps.proofs.MomentsLemmas.Spans.{keeps_still, span_upholds}
-use Rattle.lvm_steps.specs.Behind.{IsBehind, IsAhead}
+use Rattle.lvm_steps.specs.Behind.{StampsAreEarlier, IsAhead}
 use Rattle.lvm_core.specs.declared.parts.Room.{Room}
 use Rattle.lvm_core.specs.Settled.{IsSettled as IsSettledCore}
 use Rattle.lvm_session.specs.declared.answers.Turned.{Turned}
@@ -22,7 +22,7 @@ use Rattle.lvm_session.specs.declared.open.Power.{Power}
 use Rattle.lvm_line.specs.passed.Quiesce.{IsAheadEach}
 use Rattle.lvm_line.specs.passed.Tie.{LeavesDescriptors, LeavesSession}
 use Rattle.lvm_line.specs.Lines.{role_of}
-use Rattle.lvm_line.specs.passed.GroupLines.{GoesOn, IsAlone, OfRequests, IsClosed, ArePosted, ScriptState, IsAtRest, IsBetween, IsTimely, StandsBy, Reply}
+use Rattle.lvm_line.specs.passed.GroupLines.{LineGoesOn, IsAlone, OfRequests, IsClosed, ArePosted, ScriptState, IsAtRest, IsBetween, IsTimely, StandsBy, Reply}
 use Rattle.lvm_line.specs.passed.RefusalVariants as refusal
 use Rattle.lvm_line.specs.passed.ReplyVariants as reply
 use Rattle.lvm_line.proofs.passed.GroupLines.{closed_ahead, over_goes}
@@ -30,7 +30,7 @@ use Rattle.lvm_line.proofs.passed.Quiesce.{each_is_behind}
 use Rattle.lvm_line.proofs.passed.Tie.{goes_any}
 use Rattle.lvm_top.specs.declared.status.ExitStatus.{ExitStatus}
 use Rattle.lvm_top.specs.declared.status.ExitStatus.TheVariants as ended
-use Rattle.lvm_top.specs.Ending.{Concludes, NoneIsOn, NoneIsServed, IsServed, NothingIsLeft, TurnsAreMade, RestsNow}
+use Rattle.lvm_top.specs.Ending.{Concludes, NoneIsOn, NoneIsServed, IsServed, NothingIsLeft, TurnsAreMade, HasNothingLeftOrOut}
 use Rattle.lvm_top.specs.Run.{Run, IsRun, RanAlone, WhereAlone}
 use Rattle.lvm_top.specs.Script.{Script, NoLine, NextLine, Ends, AtLine, InLine, StaysAlone, EndsAlone, EndsHeard, EndsStuck, MakeRequests, is_requesting, empty_log, entry_state, facts_of}
 use Rattle.lvm_top.proofs.TurnLemmas.{stuck_is_off}
@@ -53,7 +53,7 @@ stuck_ends (AtLine same) stuck = absurd stuck
 stuck_ends {log = log} {room = room} {mid = mid} {last = last} (InLine line answer said front rest says split it) stuck = stuck_is_off log room line mid last answer it stuck
 
 -- a settled session rests
-settled_rests : (device : Device) (core : Core) → IsReady device → IsSettledCore core → RestsNow (state device core)
+settled_rests : (device : Device) (core : Core) → IsReady device → IsSettledCore core → HasNothingLeftOrOut (state device core)
 settled_rests device core ready settled = record { quiet = record { requests = settled.quiet.requests; in_flight = settled.quiet.status; committed = settled.committed }; flights = ready.flights }
 
 same_device : (device exit : Device) → IsReady device → exit ≡ record device { freed = [] } → exit ≡ device
@@ -83,7 +83,7 @@ module _ (end : ScriptState) (exit : Moment) (between : IsBetween end.moment end
 
   -- it has gone on, and is closed
   module _ (last : State) (heard : last.core.power ≡ power.Stuck → ⊥) (leaves : LeavesSession (state end.moment.device core) last) (sound : IsSound last) (closed : IsClosed last.core.power last.device exit.device) (entries : exit.facts ≡ last.core.history.facts) where
-    closed_goes : GoesOn core.history.run OfRequests (reply.Refused refusal.Stuck) end behind
+    closed_goes : LineGoesOn core.history.run OfRequests (reply.Refused refusal.Stuck) end behind
     closed_goes =
         over_goes OfRequests end core last (record { alone = λ new alone. alone.acts tt; session = some; facts = facts; volumes = vols; between = between; leaves = leaves; sound = sound }) (reply.Refused refusal.Stuck) behind closed entries refl refl heard (λ heard. absurd (heard refl)) (none_posted _ _)
         (λ not_asking. absurd (not_asking tt)) (omega arith)
@@ -105,8 +105,8 @@ pub record Concluded (run : ℕ) (end : ScriptState) (exit : Moment) : Type 0 wh
 pub closed_concluded : (run : ℕ) (end : ScriptState) (exit : Moment) → IsBetween end.moment end.session end.posts → (core : Core) → end.session ≡ Some core → core.descriptor.lvs ≢ [] → end.moment.facts ≡ core.history.facts → core.history.run ≡ run
     → (last : State) → (last.core.power ≡ power.Stuck → ⊥) → LeavesSession (state end.moment.device core) last → IsSound last → IsClosed last.core.power last.device exit.device → exit.facts ≡ last.core.history.facts → Concluded run end exit
 closed_concluded run end exit between core some vols facts named last heard leaves sound closed entries =
-    let goes : GoesOn run OfRequests (reply.Refused refusal.Stuck) end (behind end exit between core some vols facts) =
-    subst (λ (n : ℕ). GoesOn n OfRequests (reply.Refused refusal.Stuck) end (behind end exit between core some vols facts)) named (closed_goes end exit between core some vols facts last heard leaves sound closed entries) in
+    let goes : LineGoesOn run OfRequests (reply.Refused refusal.Stuck) end (behind end exit between core some vols facts) =
+    subst (λ (n : ℕ). LineGoesOn n OfRequests (reply.Refused refusal.Stuck) end (behind end exit between core some vols facts)) named (closed_goes end exit between core some vols facts last heard leaves sound closed entries) in
     record {
       keeps = λ timely alone first span stands. (goes.keeps timely alone first span stands).0;
       left = subst (λ (n : ℕ). IsTimely n end → IsAheadEach n (end.last + 1) exit.device exit.facts) named (closed_each end exit between core some vols facts last heard leaves sound closed entries);
@@ -181,11 +181,11 @@ module _ (r : Run) (ran : IsRun r) where
   pub stuck_still : r.status ≡ ended.Stuck → record { device = r.exit; facts = facts_of r.history } ≡ ran.end.moment
   stuck_still stuck = off_still r.named ran.end.moment (record { device = r.exit; facts = facts_of r.history }) ran.end.session ran.concluded.concludes (stuck_ends ran.lines.ends (ran.stuck stuck))
 
-  timely : IsBehind r.named r.entry → IsTimely r.named (entry_state r.entry r.named)
+  timely : StampsAreEarlier r.named r.entry → IsTimely r.named (entry_state r.entry r.named)
   timely clock = begins_timely r.named r.entry ran.ready.flights clock
 
   -- a span leads from the entry to the exit
-  pub spanned : IsBehind r.named r.entry → RanAlone ran → Keeps r.named (record { device = r.entry; facts = [] }) (record { device = r.exit; facts = facts_of r.history })
+  pub spanned : StampsAreEarlier r.named r.entry → RanAlone ran → Keeps r.named (record { device = r.entry; facts = [] }) (record { device = r.exit; facts = facts_of r.history })
   spanned clock alone =
       let kept = went.keeps (timely clock) (alone.0, alone.1) (record { device = r.entry; facts = [] }) (keeps_still r.named (record { device = r.entry; facts = [] })) (λ past begins. tt) in
       ⊎_elim
@@ -199,16 +199,16 @@ module _ (r : Run) (ran : IsRun r) where
       by_requests heard span stands false none = subst (Keeps r.named (record { device = r.entry; facts = [] })) (sym (ran.concluded.still (λ some. let e = sym none ∙ some in cc e))) span
 
   -- the clock stays ahead of the disks
-  pub ran_ahead : ran.end.last ≡ r.last → IsBehind r.named r.entry → IsAhead r.named (r.last + 1) r.exit (facts_of r.history)
+  pub ran_ahead : ran.end.last ≡ r.last → StampsAreEarlier r.named r.entry → IsAhead r.named (r.last + 1) r.exit (facts_of r.history)
   ran_ahead last clock = subst (λ (n : ℕ). IsAhead r.named (n + 1) r.exit (facts_of r.history)) last (⊎_elim
       (λ stuck. subst (λ (m : Moment). IsAhead r.named (ran.end.last + 1) m.device m.facts) (sym (stuck_still stuck)) (went.left (timely clock)))
       (λ heard. each_is_ahead r.named (ran.end.last + 1) r.exit (facts_of r.history) ((its heard).left (went.timely (ran.heard heard) (timely clock))))
       (how_ended r.status))
 
   -- and unless nothing was heard of a transfer, of each crash image
-  pub ran_ahead_each : ran.end.last ≡ r.last → IsBehind r.named r.entry → (r.status ≡ ended.Stuck → ⊥) → IsAheadEach r.named (r.last + 1) r.exit (facts_of r.history)
+  pub ran_ahead_each : ran.end.last ≡ r.last → StampsAreEarlier r.named r.entry → (r.status ≡ ended.Stuck → ⊥) → IsAheadEach r.named (r.last + 1) r.exit (facts_of r.history)
   ran_ahead_each last clock heard = subst (λ (n : ℕ). IsAheadEach r.named (n + 1) r.exit (facts_of r.history)) last ((its heard).left (went.timely (ran.heard heard) (timely clock)))
 
 -- A run whose lines find no other group where they ask for that upholds what was told before it.
-pub run_upheld : (r : Run) → WhereAlone r (IsBehind r.named r.entry → IsUpheld r.named r.entry r.exit (facts_of r.history))
+pub run_upheld : (r : Run) → WhereAlone r (StampsAreEarlier r.named r.entry → IsUpheld r.named r.entry r.exit (facts_of r.history))
 run_upheld r = λ ran alone clock. span_upholds r.named r.entry r.exit (facts_of r.history) (spanned r ran clock alone)

@@ -15,7 +15,7 @@ use Rattle.lvm_io.proofs.LinesLemmas.Feeds.{first_of}
 use Rattle.lvm_vol.specs.Log.{Log}
 use Rattle.lvm_kept.specs.Moments.{Moment}
 use Rattle.lvm_steps.specs.Moments.{Keeps}
-use Rattle.lvm_steps.specs.Behind.{IsBehind, IsAhead}
+use Rattle.lvm_steps.specs.Behind.{StampsAreEarlier, IsAhead}
 use Rattle.lvm_steps.proofs.LawsLemmas.Stamps.{later_is_ahead_too}
 use Rattle.lvm_core.specs.declared.parts.Room.{Room}
 use Rattle.lvm_parse.specs.Grammar.{line_of}
@@ -482,7 +482,7 @@ nothing_heard log room first input output none = tt
 -- ---- runs
 
 -- The run's moment is later than what stands on the disks at its beginning, where nothing is out, so the clock is ahead of each crash image.
-pub begins_timely : (run : ℕ) (device : Device) → device.flights ≡ [] → IsBehind run device → IsTimely run (entry_state device run)
+pub begins_timely : (run : ℕ) (device : Device) → device.flights ≡ [] → StampsAreEarlier run device → IsTimely run (entry_state device run)
 begins_timely run device still behind = record {
   ahead = record { run_is = omega arith; later = tt; behind = still_is_behind_each (run + 1) device still (later_is_ahead_too run (run + 1) device (omega arith) behind) };
   session = tt;

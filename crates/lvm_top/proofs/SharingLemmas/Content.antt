@@ -24,7 +24,7 @@ use Rattle.lvm_kept.specs.Group.{HoldOne, IsBlockOf, IsOneOf, block_at, fresh_on
 use Rattle.lvm_kept.specs.Moments.{Calm}
 use Rattle.lvm_kept.specs.Plans.{ChangesBy}
 use Rattle.lvm_kept.proofs.CommittedLemmas.Finding.{images_within}
-use Rattle.lvm_steps.specs.Moments.{Holds}
+use Rattle.lvm_steps.specs.Moments.{HistoryHolds}
 use Rattle.lvm_steps.proofs.MakingLemmas.Making.{media_may}
 use Rattle.lvm_commit.proofs.passed.Names.{at_passing}
 use Rattle.lvm_map.proofs.PlacesLemmas.{volume_at}
@@ -41,7 +41,7 @@ use Rattle.lvm_split.specs.Splitting.{IsSplit, IsVolumeSplit}
 use Rattle.lvm_split.proofs.SplittingLemmas.Copies as copies_
 use Rattle.lvm_core.specs.Leaves.{IsOfCommand, KeepsStatus, NoPartition}
 use Rattle.lvm_core.specs.Settled.{IsSettled}
-use Rattle.lvm_handover.specs.passed.Tie.{IsRested, IsResting, IsTied, SparesDescriptors, SparesOn}
+use Rattle.lvm_handover.specs.passed.Tie.{IsRested, IsCoreAtRest, IsTied, SparesDescriptors, SparesOn}
 use Rattle.lvm_tie_commands.specs.Sharing.{HoldTheSame, ShareContent}
 use Rattle.lvm_tie_commands.proofs.CommandsLemmas.Commands.{still_there}
 use Rattle.lvm_tie_commands.proofs.BeginsLemmas.{Held}
@@ -53,7 +53,7 @@ use Rattle.lvm_tie_commands.proofs.Resting.{landed, rests}
 -- ---- behind the split
 
 module _ (past : List Fact) (lv : ℕ) (name : List ℕ) (copies : ℕ) (old new : State) (number : ℕ)
-    (tied : IsTied past old) (began : IsSettled old.core) (spares : SparesDescriptors old) (calm : Calm past) (holds : Holds past (moment_of old))
+    (tied : IsTied past old) (began : IsSettled old.core) (spares : SparesDescriptors old) (calm : Calm past) (holds : HistoryHolds past (moment_of old))
     (on : IsSettled new.core) (it : IsVolumeSplit lv name copies number old new)
     (status : KeepsStatus (IsSplit lv name copies old.core) NoPartition NoPartition (IsLowestFree old.core.descriptor) old new)
     (writes : KeepsShelf (is_there old.core) (IsOfCommand (IsSplit lv name copies old.core) NoPartition old new) old.device new.device) where
@@ -99,7 +99,7 @@ module _ (past : List Fact) (lv : ℕ) (name : List ℕ) (copies : ℕ) (old new
   differ : it.row.number ≡ number → ⊥
   differ = both_.apart d copies number name it.row sound.fitting.valid volume it.may.counted.copies_for.parts.are it.lowest it.order
 
-  resting : IsResting old.core
+  resting : IsCoreAtRest old.core
   resting = rests old tied.orderly.sound began
 
   spared : SparesOn old.core tied.media

@@ -10,8 +10,8 @@ use Rattle.lvm_vol.specs.Log.{Log}
 use Rattle.lvm_kept.specs.Group.{IsOneOf}
 use Rattle.lvm_kept.specs.Moments.{Calm, Moment}
 use Rattle.lvm_kept.proofs.RawLemmas.Keeping.{cut_calm}
-use Rattle.lvm_steps.specs.Behind.{IsBehind}
-use Rattle.lvm_steps.specs.Moments.{Begins, Holds}
+use Rattle.lvm_steps.specs.Behind.{StampsAreEarlier}
+use Rattle.lvm_steps.specs.Moments.{RunBegins, HistoryHolds}
 use Rattle.lvm_steps.proofs.MomentsLemmas.Spans.{begins_run, keeps_still}
 use Rattle.lvm_crash.proofs.CopiesLemmas.{number_finds}
 use Rattle.lvm_parse.specs.declared.command.Command.{Command}
@@ -56,7 +56,7 @@ name_of d lv name row valid is volume =
     let found : volume_of d lv ≡ Some is.row = subst (λ (n : ℕ). volume_of d n ≡ Some is.row) is.its its in
     ap (λ (r : LvRow). r.name) (one_row row is.row (sym volume ∙ found)) ∙ is.named
 
-module _ (log : Log) (room : Room) (past : List Fact) (first : Moment) (calm : Calm past) (begins : Begins log.run past first) where
+module _ (log : Log) (room : Room) (past : List Fact) (first : Moment) (calm : Calm past) (begins : RunBegins log.run past first) where
   -- ---- a split
 
   module _ (old new : ScriptState) (between : IsBetween old.moment old.session old.posts) (named : IfSome old.session (λ core. core.history.run ≡ log.run)) (stands : StandsBy log.run first old) (alone : IsAlone OfGroup old new) where
@@ -68,13 +68,13 @@ module _ (log : Log) (room : Room) (past : List Fact) (first : Moment) (calm : C
       run_is : core.history.run ≡ log.run
       run_is = of_session (λ (c : Core). c.history.run ≡ log.run) core some named
 
-      begun : Begins core.history.run past first
-      begun = subst (λ (n : ℕ). Begins n past first) (sym run_is) begins
+      begun : RunBegins core.history.run past first
+      begun = subst (λ (n : ℕ). RunBegins n past first) (sym run_is) begins
 
       stays_good : StaysGood (state old.moment.device core) mid
       stays_good = (going_leaves (state old.moment.device core) mid (of_session (IsOnBetween old.moment.device) core some between.session).sound (goes_any drains.runs)).1
 
-      after : (before : List Fact) → Begins log.run before first → StandsAfter before old.moment.device core
+      after : (before : List Fact) → RunBegins log.run before first → StandsAfter before old.moment.device core
       after before began = of_session (λ (c : Core). StandsAlone old.moment.device c → StandsAfter before old.moment.device c) core some (stands before began) (of_session (StandsAlone old.moment.device) core some (alone.acts tt))
 
       -- the group has the volume that is split
@@ -82,12 +82,12 @@ module _ (log : Log) (room : Room) (past : List Fact) (first : Moment) (calm : C
       has_volume none = no_volume mid.core.descriptor lv done.gives.row (ap (λ (d : Descriptor). d.lvs) (path_shape (goes_any drains.runs)).descriptor ∙ none) done.gives.may.counted.copies_for.parts.named.found.volume
 
       good : IsGood core.history.run first mid
-      good = (stays_good.good first (λ on before began. (after before (subst (λ (n : ℕ). Begins n before first) run_is began)).tied has_volume)).0
+      good = (stays_good.good first (λ on before began. (after before (subst (λ (n : ℕ). RunBegins n before first) run_is began)).tied has_volume)).0
 
       tied : IsTied past mid
       tied = good drains.settled.power past begun
 
-      holds : Holds past (moment_of mid)
+      holds : HistoryHolds past (moment_of mid)
       holds = good_upholds core.history.run first mid drains.settled.power good past begun
 
       spares : SparesDescriptors mid
@@ -158,7 +158,7 @@ module _ (log : Log) (room : Room) (past : List Fact) (first : Moment) (calm : C
 
 -- ---- the lines of a script
 
-module _ (log : Log) (room : Room) (past : List Fact) (first : ScriptState) (calm : Calm past) (begins : Begins log.run past first.moment) (timely : IsTimely log.run first) (stands : StandsBy log.run first.moment first) where
+module _ (log : Log) (room : Room) (past : List Fact) (first : ScriptState) (calm : Calm past) (begins : RunBegins log.run past first.moment) (timely : IsTimely log.run first) (stands : StandsBy log.run first.moment first) where
   lines_share : {lines : List (List ℕ)} {replies : List Reply} {last : ScriptState} (script : Script log room first lines replies last) → StaysAlone script → AreShared past script
   lines_share NoLine alone = tt
   lines_share (NextLine {mid = mid} {new = new} line answer said goes says before does) alone = (
@@ -174,7 +174,7 @@ module _ (log : Log) (room : Room) (past : List Fact) (first : ScriptState) (cal
 
 -- ---- those of a run
 
-pub run_shares : (r : Run) (ran : IsRun r) → RanAlone ran → IsBehind r.named r.entry → HaveShared ran
+pub run_shares : (r : Run) (ran : IsRun r) → RanAlone ran → StampsAreEarlier r.named r.entry → HaveShared ran
 run_shares r ran alone behind = λ past earlier.
     let log = empty_log r.named r.room in
     let first = entry_state r.entry r.named in

@@ -29,7 +29,7 @@ use Rattle.lvm_line.specs.passed.Group.{NewGroup, new_group}
 use Rattle.lvm_core.specs.declared.refused.Cause.{Cause}
 use Rattle.lvm_line.specs.passed.Quiesce.{MkvgOnceQuiet, RefusedAtOnce, StayedOut, WentQuiet}
 use Rattle.lvm_line.proofs.passed.Quiesce.{ends_only}
-use Rattle.lvm_line.specs.passed.GroupLines.{IsBetween, IsLeft, Varies, NoVaryonWhileOn, NoMemoryForLine, NoMkvgWhileOn, Makes, asked_for, itself, outcome_of, patience_of_line, HasBegunHeld, IsStuck, ScriptState, log_with, Reply}
+use Rattle.lvm_line.specs.passed.GroupLines.{IsBetween, IsLeftByCall, Varies, NoVaryonWhileOn, NoMemoryForLine, NoMkvgWhileOn, Makes, asked_for, itself, outcome_of, patience_of_line, HasBegunHeld, IsStuck, ScriptState, log_with, Reply}
 use Rattle.lvm_line.specs.Lines.{CommandDoes, LineDoes, role_of}
 use Rattle.lvm_line.specs.passed.ReplyVariants as reply
 use Rattle.lvm_volume_plan.specs.declared.new_volume.NewVolume.{NewVolume}
@@ -115,7 +115,7 @@ module _ (log : Log) (room : Room) (old new : ScriptState) (between : IsBetween 
   by_command (command.Mkvg force name mib disks) acked stood (Makes brings) = by_given brings.given brings.gives brings.left
     where
       by_given : (given : Result Core Cause) → MkvgOnceQuiet itself (asked_for name mib disks force new.last) room patience_of_line (log_with log old.moment.facts) old.moment.device (outcome_of brings.shelf brings.history given)
-          → IsLeft brings.shelf brings.history old new reply.Ok given → LeavesOn (Ok (Some (command.Mkvg force name mib disks))) old new
+          → IsLeftByCall brings.shelf brings.history old new reply.Ok given → LeavesOn (Ok (Some (command.Mkvg force name mib disks))) old new
       by_given (Ok core) gives left = record {
         core = core;
         on = left.2.after;
@@ -126,7 +126,7 @@ module _ (log : Log) (room : Room) (old new : ScriptState) (between : IsBetween 
   by_command (command.Varyon name) acked stood (NoVaryonWhileOn on says asked) = absurd (cc (says))
   by_command (command.Varyon name) acked stood (Varies brings) = by_given brings.given brings.left
     where
-      by_given : (given : Result Core Cause) → IsLeft brings.shelf brings.history old new reply.Ok given → LeavesOn (Ok (Some (command.Varyon name))) old new
+      by_given : (given : Result Core Cause) → IsLeftByCall brings.shelf brings.history old new reply.Ok given → LeavesOn (Ok (Some (command.Varyon name))) old new
       by_given (Ok core) left = record { core = core; on = left.2.after; begun = begun_by old new core brings.off left.2.after begins; own = λ k is. absurd is }
       by_given (Err why) left = absurd (let e = left.answered in cc (e))
   by_command (command.Mklv name copies mode policy group lps) acked stood (NoGroupForMklv none is) = absurd (let e = is.0 in cc (e))

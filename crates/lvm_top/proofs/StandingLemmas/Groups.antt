@@ -7,14 +7,14 @@ use Rattle.lvm_vol.specs.Log.{Log}
 use Rattle.lvm_parse.specs.declared.command.Command.TheVariants as command
 use Rattle.lvm_parse.specs.Grammar.{line_of}
 use Rattle.lvm_parse.proofs.WithinLemmas.{line_is_within}
-use Rattle.lvm_steps.specs.Behind.{IsBehind}
+use Rattle.lvm_steps.specs.Behind.{StampsAreEarlier}
 use Rattle.lvm_write.specs.Beginning.{new_order}
 use Rattle.lvm_core.specs.declared.parts.Room.{Room}
 use Rattle.lvm_core.specs.declared.refused.Cause.{Cause}
 use Rattle.lvm_core.specs.declared.refused.Cause.TheVariants as cause
 use Rattle.lvm_core.specs.Leaves.{MayBeFound}
 use Rattle.lvm_line.specs.passed.Group.{new_group}
-use Rattle.lvm_line.specs.passed.GroupLines.{patience_of_line, refusal_of, IsStuck, Asks, IsAsked, IsBrokenOff, ScriptState, IsTimely, log_with, Reply, IsLeft, MkvgDoes, NoMemoryForLine, NoMkvgWhileOn, Makes, VaryonDoes, NoVaryonWhileOn, Varies, asked_for, itself, outcome_of}
+use Rattle.lvm_line.specs.passed.GroupLines.{patience_of_line, refusal_of, IsStuck, Asks, IsAsked, IsBrokenOff, ScriptState, IsTimely, log_with, Reply, IsLeftByCall, MkvgDoes, NoMemoryForLine, NoMkvgWhileOn, Makes, VaryonDoes, NoVaryonWhileOn, Varies, asked_for, itself, outcome_of}
 use Rattle.lvm_line.specs.passed.Quiesce.{Quiesces, MkvgOnceQuiet, RefusedAtOnce, StayedOut, VaryonOnceQuiet, WentQuiet}
 use Rattle.lvm_line.proofs.passed.Quiesce.{each_is_behind, fewer_stay_behind, ends_leave, ends_only}
 use Rattle.lvm_core.specs.declared.refused.Refused.{Refused}
@@ -48,7 +48,7 @@ module _ (log : Log) (old new : ScriptState) (answer : Reply) (shelf : IsShelf o
     pub mid_shelf : IsShelf mid
     mid_shelf = record { few = subst (λ (sizes : List ℕ). length sizes ≤ 128) (sym same_sizes) shelf.few; whole = quiet.whole }
 
-    behind : Asks old new → new.last < 2 ^ 64 - 1 → IsBehind new.last mid
+    behind : Asks old new → new.last < 2 ^ 64 - 1 → StampsAreEarlier new.last mid
     behind asks early =
         let each = fewer_stay_behind old.moment.device mid (old.last + 1) (ends_leave quiet.ends) timely.ahead.behind in
         later_is_ahead_too (old.last + 1) new.last mid (let r = asks.risen in omega (arith, r, early)) (each_is_behind (old.last + 1) mid each)
@@ -58,7 +58,7 @@ module _ (log : Log) (old new : ScriptState) (answer : Reply) (shelf : IsShelf o
   not_stuck why says stuck = heard (says ∙ ap (λ (c : Cause). reply.Refused (refusal_of c)) stuck)
 
   -- what is found at the end of a line whose command was refused was found on the shelf that came back
-  left_found : (left : Device) (is : Log) (refused : Refused Device) (given : Result Core Cause) → outcome_of left is given ≡ Err refused → IsLeft left is old new answer given → (id : ℕ) (k : Descriptor) → MayBeFound new.moment.device id k → MayBeFound refused.shelf id k
+  left_found : (left : Device) (is : Log) (refused : Refused Device) (given : Result Core Cause) → outcome_of left is given ≡ Err refused → IsLeftByCall left is old new answer given → (id : ℕ) (k : Descriptor) → MayBeFound new.moment.device id k → MayBeFound refused.shelf id k
   left_found left is refused (Ok core) same gone id k it = absurd (cc (same))
   left_found left is refused (Err why) same gone id k it =
       let its : left ≡ refused.shelf = ap (λ (r : Refused Device). r.shelf) (let e : record { shelf = left; history = is; cause = why } ≡ refused = cc (same) in e) in
@@ -93,7 +93,7 @@ module _ (log : Log) (old new : ScriptState) (answer : Reply) (shelf : IsShelf o
 
     -- by what the call gives
     outcome_finds : (room : Room) (left : Device) (is : Log) (given : Result Core Cause) → Asks old new
-        → MkvgOnceQuiet itself (asked_for name mib disks force new.last) room patience_of_line (log_with log old.moment.facts) old.moment.device (outcome_of left is given) → IsLeft left is old new answer given → Found new.moment.device
+        → MkvgOnceQuiet itself (asked_for name mib disks force new.last) room patience_of_line (log_with log old.moment.facts) old.moment.device (outcome_of left is given) → IsLeftByCall left is old new answer given → Found new.moment.device
     outcome_finds room left is given asks (RefusedAtOnce refused same first shelf_same history_same) gone id k it = inl (subst (λ (d : Device). MayBeFound d id k) shelf_same (left_found left is refused given same gone id k it))
     outcome_finds room left is given asks (StayedOut refused same may out) gone id k it = inl (stays_nothing patience_of_line old.moment.device refused.shelf (log_with log old.moment.facts) refused.history refused.cause out id k
         (left_found left is refused given same gone id k it))
@@ -141,7 +141,7 @@ module _ (log : Log) (old new : ScriptState) (answer : Reply) (shelf : IsShelf o
       stops_nothing cause.GroupExists heard refuses = absurd refuses.1
 
     outcome_nothing : (room : Room) (left : Device) (is : Log) (given : Result Core Cause) → Asks old new
-        → VaryonOnceQuiet itself (log_with log old.moment.facts) name new.last room patience_of_line old.moment.device (outcome_of left is given) → IsLeft left is old new answer given → NothingNew old.moment.device new.moment.device
+        → VaryonOnceQuiet itself (log_with log old.moment.facts) name new.last room patience_of_line old.moment.device (outcome_of left is given) → IsLeftByCall left is old new answer given → NothingNew old.moment.device new.moment.device
     outcome_nothing room left is given asks (RefusedAtOnce refused same first shelf_same history_same) gone id k it = subst (λ (d : Device). MayBeFound d id k) shelf_same (left_found left is refused given same gone id k it)
     outcome_nothing room left is given asks (StayedOut refused same may out) gone id k it =
         stays_nothing patience_of_line old.moment.device refused.shelf (log_with log old.moment.facts) refused.history refused.cause out id k

@@ -17,7 +17,7 @@ use Rattle.lvm_parse.specs.declared.rest.Misfit.{Misfit}
 use Rattle.lvm_parse.specs.Grammar.{line_of}
 use Rattle.lvm_vol.specs.Facts.{Fact}
 use Rattle.lvm_vol.specs.Log.{Log}
-use Rattle.lvm_steps.specs.Moments.{Begins}
+use Rattle.lvm_steps.specs.Moments.{RunBegins}
 use Rattle.lvm_core.specs.declared.fault.CommitFault.{CommitFault}
 use Rattle.lvm_core.specs.declared.parts.Room.{Room}
 use Rattle.lvm_core.specs.Held.{IsHeld}
@@ -66,20 +66,20 @@ module _ (run : ℕ) (old new : ScriptState) (between : IsBetween old.moment old
       by_stood (HeldAtRest rest held) = (subst (λ (s : State). IsHeld s.device s.core) (sym (drains.still rest)) (of_session (IsHeld old.moment.device) core some held), same_told (drains.still rest))
       by_stood (StandsSince past first stands begins alone) = by_volumes core.descriptor.lvs refl
         where
-          after : (before : List Fact) → Begins run before first → StandsAfter before old.moment.device core
+          after : (before : List Fact) → RunBegins run before first → StandsAfter before old.moment.device core
           after before begun = of_session (λ (c : Core). StandsAlone old.moment.device c → StandsAfter before old.moment.device c) core some (stands before begun) (of_session (StandsAlone old.moment.device) core some (alone.acts tt))
 
           stays_good : StaysGood (state old.moment.device core) mid
           stays_good = (going_leaves (state old.moment.device core) mid (was_sound core some) (goes_any drains.runs)).1
 
           good : IsGood core.history.run first (state old.moment.device core) → IsTied past mid
-          good tied = (stays_good.good first tied).0 drains.settled.power past (subst (λ (n : ℕ). Begins n past first) (sym (of_session (λ (c : Core). c.history.run ≡ run) core some named)) begins)
+          good tied = (stays_good.good first tied).0 drains.settled.power past (subst (λ (n : ℕ). RunBegins n past first) (sym (of_session (λ (c : Core). c.history.run ≡ run) core some named)) begins)
 
           by_volumes : (lvs : List LvRow) → core.descriptor.lvs ≡ lvs → IsHeld mid.device mid.core × (IsSome old.moment.device.media → IsSome mid.device.media)
           by_volumes [] none = (subst (λ (s : State). IsHeld s.device s.core) (sym (drains.empty none)) ((after past begins).empty none).held, same_told (drains.empty none))
           by_volumes (row ∷ rows) has =
               let some_volume : core.descriptor.lvs ≡ [] → ⊥ = λ none. let e = sym has ∙ none in cc e in
-              let tied : IsTied past mid = good (λ on before begun. (after before (subst (λ (n : ℕ). Begins n before first) (of_session (λ (c : Core). c.history.run ≡ run) core some named) begun)).tied some_volume) in (
+              let tied : IsTied past mid = good (λ on before begun. (after before (subst (λ (n : ℕ). RunBegins n before first) (of_session (λ (c : Core). c.history.run ≡ run) core some named) begun)).tied some_volume) in (
                 tied_holds past mid tied (rests mid tied.orderly.sound drains.settled) drains.settled.votes ((stays_good.descriptors between.descriptors).spares ((after past begins).spares some_volume)),
                 λ told. subst IsSome (sym tied.setting.told) refl,
               )

@@ -3,7 +3,7 @@ use Rattle.std.proofs.Common.{◌≡◌, ◌⊎◌, inl, inr, ⊎_elim, ◌-◌,
 use Rattle.lvm_disk.specs.passed.Names.{Buffer, Sector, joined}
 use Rattle.lvm_disk.specs.Counts.{Rose, RoseBy, Counts}
 use Rattle.lvm_disk.specs.Device.{Media, Image, Flight, Device, IsReady, IsInFlight, IsTorn, MayLeave}
-use Rattle.lvm_disk.specs.Steps.{BothTold, Puts, PutsSome, Reads, Cuts, IsMiss, CountsFailure}
+use Rattle.lvm_disk.specs.Steps.{BothTold, Puts, PutsSome, ReadsRange, Cuts, IsMiss, CountsFailure}
 use Rattle.lvm_disk.specs.Images.{LeavesNoMore, DiffersBy}
 use Rattle.lvm_disk.specs.Paths.{DeviceStep, Path}
 use Rattle.lvm_disk.proofs.PathsLemmas.{map-path}
@@ -149,7 +149,7 @@ module _ (patience ticket disk first count : ℕ) (buf : Buffer) (old : Device) 
     pub done_bytes : (keep : ℕ) → keep ≤ count → IfSome old.media (λ m. joined (λ i. slice_index_or back.sectors i []) 0 keep ≡ joined (m disk) first keep)
     done_bytes keep most = told old.media (done_effects.reads refl)
       where
-        told : (media : Option Media) → IfSome media (λ m. Reads m f back) → IfSome media (λ m. joined (λ i. slice_index_or back.sectors i []) 0 keep ≡ joined (m disk) first keep)
+        told : (media : Option Media) → IfSome media (λ m. ReadsRange m f back) → IfSome media (λ m. joined (λ i. slice_index_or back.sectors i []) 0 keep ≡ joined (m disk) first keep)
         told None reads = tt
         told (Some m) reads = joined-read back.sectors (m disk) first keep (λ i lt. reads i (omega (arith, lt, most)))
 

@@ -9,8 +9,8 @@ use Rattle.atomic_table.specs.Table.{opening, Final, Seen}
 use Rattle.lvm_vol.specs.Fronts.{Told}
 use Rattle.lvm_num.specs.Buffer.{Sector}
 use Rattle.lvm_vol.specs.Facts.{Fact}
-use Rattle.lvm_turn.specs.Views.{HoldsAll, opener, Fixed, View, Owns, Holds, up_to}
-use Rattle.lvm_turn.specs.Rules.{fixed_of, Fits, IsFree, IsTaken, TurnRule}
+use Rattle.lvm_turn.specs.Views.{HoldsAll, opener, Fixed, View, Owns, HoldsClient, up_to}
+use Rattle.lvm_turn.specs.Rules.{fixed_of, Fits, IsFree, TurnIsTaken, TurnRule}
 use Rattle.lvm_turn.specs.Calls.{Continues, MayPut}
 use Rattle.lvm_turn.proofs.StepsLemmas.{continues}
 
@@ -21,7 +21,7 @@ in_range (suc n) c l h = ⊎_elim
     (λ (t : Owns (up_to n) c l). let u = in_range n c l t in let low = u.0 in let high = u.1 in (omega arith, omega arith, u.2))
     h
 
-pub all_there : (n c : ℕ) → 0 < c → c ≤ n → Holds (up_to n) c
+pub all_there : (n c : ℕ) → 0 < c → c ≤ n → HoldsClient (up_to n) c
 all_there zero c low high = absurd (omega arith)
 all_there (suc n) c low high = dite (ℕ_discrete (suc n) c) (λ (e : suc n ≡ c). ([], inl (e, refl))) (λ ne. let t = all_there n c low (omega arith) in (t.0, inr t.1))
 
@@ -72,7 +72,7 @@ module _ {V : Type 0} (tells : V → Told) (past : V → Option (List (List Sect
       ⊎_elim
       (λ (free : IsFree tells past always r.history root r.best r.turn s).
       (free.value, end.4 0 (Some free.value) (ap (λ hs. get_elem? hs 0) free.homes), continues tells past always n root s r id v free.value live at free.home))
-      (λ (taken : IsTaken tells past always r.history r.best r.turn s).
+      (λ (taken : TurnIsTaken tells past always r.history r.best r.turn s).
       let c = taken.holder.client.0 in
       let h = taken.holder.client.1 in
       let k = (r.each taken.seat taken.view taken.there).clients c h.0 h.1 in

@@ -5,7 +5,7 @@ use Rattle.lvm_num.specs.Buffer.{Sector}
 use Rattle.lvm_vol.specs.Facts.{Fact}
 use Rattle.lvm_vol.specs.Fronts.{Told, own, NoneFell}
 use Rattle.lvm_vol.proofs.FrontsLemmas.{own-append}
-use Rattle.lvm_turn.specs.Views.{View, Owns, Holds}
+use Rattle.lvm_turn.specs.Views.{View, Owns, HoldsClient}
 use Rattle.lvm_turn.specs.Rules.{fixed_of}
 use Rattle.lvm_turn.specs.Calls.{HasEntered, Continues, MayLeave}
 
@@ -13,7 +13,7 @@ module _ {V : Type 0} (tells : V → Told) (past : V → Option (List (List Sect
   -- The pass v was lent y, and is w since. What y has become may be left, where only entries of the pass's
   -- own clients, or of none, were added.
   pub may_leave : (v w : View) (y z : V) (more : List Fact) → HasEntered v (tells y) w → Continues tells past always v y
-      → (tells z).entries ≡ (tells y).entries ++ more → ((c : ℕ) → ¬ Holds v.clients c → own c more ≡ [])
+      → (tells z).entries ≡ (tells y).entries ++ more → ((c : ℕ) → ¬ HoldsClient v.clients c → own c more ≡ [])
       → fixed_of tells past z ≡ fixed_of tells past y → NoneFell (tells y).counts (tells z).counts → always z → MayLeave tells past always w z
   may_leave v w y z more entered lent grew others fixed_same none_fell holds =
       subst (λ u. MayLeave tells past always u z) (sym entered.view) record {

@@ -2,7 +2,7 @@
 use Rattle.std.proofs.Common.{◌≡◌, ℕ, ◌+◌, ◌<◌, ◌≤◌, ltb, max, Bool, true, false, List, [], ◌∷◌, ◌++◌, length, refl, sym, ap, ◌∙◌, subst, arith, length-append}
 use Rattle.std.specs.Prelude.{if◌then◌else◌}
 use borrow.Author.Tests.{ltb-false, ltb-true}
-use Rattle.lvm_vol.specs.Fronts.{Begins, NoneFell}
+use Rattle.lvm_vol.specs.Fronts.{IsPrefixOf, NoneFell}
 use Rattle.lvm_vol.specs.Facts.{Fact}
 use Rattle.lvm_turn.specs.Views.{longer, greater}
 use Rattle.lvm_vol.proofs.FrontsLemmas.{begins_itself}
@@ -20,7 +20,7 @@ module _ {X : Type 0} where
   nil_cons x xs e = cc
 
   -- of two beginnings of one list the shorter begins the longer
-  pub nested : (a b l : List X) → Begins a l → Begins b l → length a ≤ length b → Begins a b
+  pub nested : (a b l : List X) → IsPrefixOf a l → IsPrefixOf b l → length a ≤ length b → IsPrefixOf a b
   nested [] b l p q h = (b, refl)
   nested (x ∷ a) [] l p q h = absurd (omega arith)
   nested (x ∷ a) (y ∷ b) [] p q h = absurd (nil_cons x (a ++ p.0) p.1)
@@ -36,16 +36,16 @@ module _ {X : Type 0} where
       pick true is = other (ltb-true _ _ is)
       pick false is = let h = ltb-false _ _ is in one h
 
-pub longer_begins : (a b l : List Fact) → Begins a l → Begins b l → Begins (longer a b) l
-longer_begins a b l p q = longer_is (λ x. Begins x l) a b (λ _. p) (λ _. q)
+pub longer_begins : (a b l : List Fact) → IsPrefixOf a l → IsPrefixOf b l → IsPrefixOf (longer a b) l
+longer_begins a b l p q = longer_is (λ x. IsPrefixOf x l) a b (λ _. p) (λ _. q)
 
-pub one_begins_longer : (a b l : List Fact) → Begins a l → Begins b l → Begins a (longer a b)
-one_begins_longer a b l p q = longer_is (λ x. Begins a x) a b (λ _. begins_itself a) (λ h. nested a b l p q (omega arith))
+pub one_begins_longer : (a b l : List Fact) → IsPrefixOf a l → IsPrefixOf b l → IsPrefixOf a (longer a b)
+one_begins_longer a b l p q = longer_is (λ x. IsPrefixOf a x) a b (λ _. begins_itself a) (λ h. nested a b l p q (omega arith))
 
-pub other_begins_longer : (a b l : List Fact) → Begins a l → Begins b l → Begins b (longer a b)
-other_begins_longer a b l p q = longer_is (λ x. Begins b x) a b (λ h. nested b a l q p h) (λ _. begins_itself b)
+pub other_begins_longer : (a b l : List Fact) → IsPrefixOf a l → IsPrefixOf b l → IsPrefixOf b (longer a b)
+other_begins_longer a b l p q = longer_is (λ x. IsPrefixOf b x) a b (λ h. nested b a l q p h) (λ _. begins_itself b)
 
-pub longer_whole : (a b l : List Fact) → a ≡ l → Begins b l → longer a b ≡ l
+pub longer_whole : (a b l : List Fact) → a ≡ l → IsPrefixOf b l → longer a b ≡ l
 longer_whole a b l e q = longer_is (λ x. x ≡ l) a b (λ _. e) (λ h. absurd (
     let la : length a ≡ length l = ap length e in
     let lb : length l ≡ length b + length q.0 = ap length q.1 ∙ length-append b q.0 in

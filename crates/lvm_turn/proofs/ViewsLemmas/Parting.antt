@@ -11,8 +11,8 @@ use Rattle.atomic_table.proofs.Lists.{at_set, set_here, set_else, at_longer, at_
 use Rattle.lvm_vol.specs.Fronts.{Told, own}
 use Rattle.lvm_num.specs.Buffer.{Sector}
 use Rattle.lvm_vol.specs.Facts.{Fact}
-use Rattle.lvm_turn.specs.Views.{Fixed, Client, View, Owns, Holds, without, only, without_client, with_client_alone, met, nobody}
-use Rattle.lvm_turn.specs.Rules.{Fits, IsFree, IsTaken, TurnRule}
+use Rattle.lvm_turn.specs.Views.{Fixed, Client, View, Owns, HoldsClient, without, only, without_client, with_client_alone, met, nobody}
+use Rattle.lvm_turn.specs.Rules.{Fits, IsFree, TurnIsTaken, TurnRule}
 use Rattle.lvm_turn.proofs.ViewsLemmas.Nested.{greater_below, greater_whole}
 use Rattle.lvm_turn.proofs.RulesLemmas.Growing.{index_below, after_set}
 use Rattle.lvm_turn.proofs.RulesLemmas.Rules.{over_views, still_taken}
@@ -55,13 +55,13 @@ without_fewer xs k c l h =
     let t = kept_owns (λ x. not (x.number == k)) xs c l h in
     (t.0, λ (e : c ≡ k). both_ways (t.1.0.number == k) (not-true _ t.1.1) (eq-eqb t.1.0.number k (t.1.2 ∙ e)))
 
-without_keeps : (xs : List Client) (k c : ℕ) → Holds xs c → c ≢ k → Holds (without k xs) c
+without_keeps : (xs : List Client) (k c : ℕ) → HoldsClient xs c → c ≢ k → HoldsClient (without k xs) c
 without_keeps xs k c h ne = (h.0, stays_owns (λ x. not (x.number == k)) xs c h.0 (λ x e. ap not (ne_eqb x.number k (λ same. ne (sym e ∙ same)))) h.1)
 
 only_fewer : (xs : List Client) (k c : ℕ) (l : List Fact) → Owns (only k xs) c l → Owns xs c l × (c ≡ k)
 only_fewer xs k c l h = let t = kept_owns (λ x. x.number == k) xs c l h in (t.0, sym t.1.2 ∙ eqb-true t.1.0.number k t.1.1)
 
-only_keeps : (xs : List Client) (k c : ℕ) → Holds xs c → c ≡ k → Holds (only k xs) c
+only_keeps : (xs : List Client) (k c : ℕ) → HoldsClient xs c → c ≡ k → HoldsClient (only k xs) c
 only_keeps xs k c h e = (h.0, stays_owns (λ x. x.number == k) xs c h.0 (λ x is. eq-eqb x.number k (is ∙ e)) h.1)
 
 holds_left : (xs ys : List Client) (c : ℕ) (l : List Fact) → Owns xs c l → Owns (xs ++ ys) c l
@@ -106,7 +106,7 @@ module _ {V : Type 0} (tells : V → Told) (past : V → Option (List (List Sect
   abbrev Rule : St → Type 0
   Rule = TurnRule tells past always n root
 
-  pub splits : (id : ℕ) (v : View) (client : ℕ) → v.inside ≡ false → Holds v.clients client → Splits Rule id v (without_client client v) (with_client_alone client v)
+  pub splits : (id : ℕ) (v : View) (client : ℕ) → v.inside ≡ false → HoldsClient v.clients client → Splits Rule id v (without_client client v) (with_client_alone client v)
   splits id v client outside holds s r at =
       let left = without_client client v in
       let right = with_client_alone client v in
@@ -125,7 +125,7 @@ module _ {V : Type 0} (tells : V → Told) (past : V → Option (List (List Sect
       let other : c ≢ client = λ same. ne (k.0 ∙ ap r.seat_of same ∙ sym (f.clients client holds.0 holds.1).0) in
       (k.0 ∙ sym (moved_else r.seat_of client to c other), k.1, k.2, k.3))))
       (λ c low high. dite (ℕ_discrete c client)
-      (λ (e : c ≡ client). (right, ap (λ k. get_elem? new k) (moved_here r.seat_of client to c e) ∙ at_last (set s.views id left) right to (length-set s.views id left), only_keeps v.clients client c (subst (Holds v.clients) (sym e) holds) e))
+      (λ (e : c ≡ client). (right, ap (λ k. get_elem? new k) (moved_here r.seat_of client to c e) ∙ at_last (set s.views id left) right to (length-set s.views id left), only_keeps v.clients client c (subst (HoldsClient v.clients) (sym e) holds) e))
       (λ (ne : c ≢ client).
       let p = r.placed c low high in
       dite (ℕ_discrete (r.seat_of c) id)
@@ -133,7 +133,7 @@ module _ {V : Type 0} (tells : V → Told) (past : V → Option (List (List Sect
       let is : v ≡ p.0 = some-injective v p.0 (sym at ∙ ap (λ k. get_elem? s.views k) (sym e) ∙ p.1) in (
         left,
         ap (λ k. get_elem? new k) (moved_else r.seat_of client to c ne ∙ e) ∙ at_longer (set s.views id left) (right ∷ []) id left (set_here s.views id left (index_below s.views id v at)),
-        without_keeps v.clients client c (subst (λ (x : View). Holds x.clients c) (sym is) p.2) ne,
+        without_keeps v.clients client c (subst (λ (x : View). HoldsClient x.clients c) (sym is) p.2) ne,
       ))
       (λ apart. (p.0, ap (λ k. get_elem? new k) (moved_else r.seat_of client to c ne) ∙ there (r.seat_of c) p.0 apart p.1, p.2))))
       (⊎_elim
@@ -144,7 +144,7 @@ module _ {V : Type 0} (tells : V → Told) (past : V → Option (List (List Sect
         homes = free.homes;
         home = free.home;
       })
-      (λ (taken : IsTaken tells past always r.history r.best r.turn s).
+      (λ (taken : TurnIsTaken tells past always r.history r.best r.turn s).
       let apart : taken.seat ≢ id = λ e. both_ways v.inside outside
       (ap (λ (y : View). y.inside) (some-injective v taken.view (sym at ∙ ap (λ k. get_elem? s.views k) (sym e) ∙ taken.there)) ∙ taken.holder.inside) in
       inr record {
@@ -206,12 +206,12 @@ module _ {V : Type 0} (tells : V → Told) (past : V → Option (List (List Sect
       dite (ℕ_discrete (r.seat_of c) other)
       (λ (e : r.seat_of c ≡ other).
       let is : u ≡ p.0 = some-injective u p.0 (sym there ∙ ap (λ k. get_elem? s.views k) (sym e) ∙ p.1) in
-      let h : Holds u.clients c = subst (λ (x : View). Holds x.clients c) (sym is) p.2 in
+      let h : HoldsClient u.clients c = subst (λ (x : View). HoldsClient x.clients c) (sym is) p.2 in
       (w, ap (λ k. get_elem? new k) (goes c e) ∙ at_id, (h.0, holds_right v.clients u.clients c h.0 h.1)))
       (λ ne'. dite (ℕ_discrete (r.seat_of c) id)
       (λ (e : r.seat_of c ≡ id).
       let is : v ≡ p.0 = some-injective v p.0 (sym at ∙ ap (λ k. get_elem? s.views k) (sym e) ∙ p.1) in
-      let h : Holds v.clients c = subst (λ (x : View). Holds x.clients c) (sym is) p.2 in
+      let h : HoldsClient v.clients c = subst (λ (x : View). HoldsClient x.clients c) (sym is) p.2 in
       (w, ap (λ k. get_elem? new k) (stays c ne' ∙ e) ∙ at_id, (h.0, holds_left v.clients u.clients c h.0 h.1)))
       (λ ne. (p.0, ap (λ k. get_elem? new k) (stays c ne') ∙ rest (r.seat_of c) p.0 ne ne' p.1, p.2))))
       (⊎_elim
@@ -222,7 +222,7 @@ module _ {V : Type 0} (tells : V → Told) (past : V → Option (List (List Sect
         homes = free.homes;
         home = free.home;
       })
-      (λ (taken : IsTaken tells past always r.history r.best r.turn s).
+      (λ (taken : TurnIsTaken tells past always r.history r.best r.turn s).
       let apart' : taken.seat ≢ other = λ e. both_ways u.inside outside
       (ap (λ (y : View). y.inside) (some-injective u taken.view (sym there ∙ ap (λ k. get_elem? s.views k) (sym e) ∙ taken.there)) ∙ taken.holder.inside) in
       dite (ℕ_discrete taken.seat id)

@@ -22,7 +22,7 @@ use Rattle.lvm_vol.specs.Log.{Log}
 use Rattle.lvm_kept.specs.Contents.{Contents, contents_of}
 use Rattle.lvm_kept.specs.Group.{IsOneOf, fresh_on}
 use Rattle.lvm_kept.specs.Recovered.{Recovered}
-use Rattle.lvm_steps.specs.Behind.{IsBehind}
+use Rattle.lvm_steps.specs.Behind.{StampsAreEarlier}
 use Rattle.lvm_steps.specs.Moments.{ImagesKept}
 use Rattle.lvm_steps.proofs.MakingLemmas.Making.{media_may}
 use Rattle.lvm_rec.specs.declared.homes.Homes.{Homes}
@@ -141,7 +141,7 @@ module _ (old new : Device) (name : List ℕ) (moment : ℕ) (room : Room) (part
     may : MayHaveRecords old mid name moment first records was
     may = is.may ahead was told
 
-    behind : IsBehind moment old
+    behind : StampsAreEarlier moment old
     behind = ahead is.written.chosen.early
 
     pub recovers : (front more : List Range) → old.wrote ≡ Some front → new.wrote ≡ Some (front ++ more)

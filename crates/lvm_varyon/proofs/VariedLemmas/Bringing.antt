@@ -12,7 +12,7 @@ use Rattle.lvm_kept.specs.Contents.{Contents}
 use Rattle.lvm_kept.specs.Plans.{ChangesBy}
 use Rattle.lvm_kept.specs.Torn.{IsOfNote}
 use Rattle.lvm_write.specs.Notes.{empty_note_sector}
-use Rattle.lvm_steps.specs.Behind.{StampsBefore, beginning_at, IsBehind}
+use Rattle.lvm_steps.specs.Behind.{StampsBefore, beginning_at, StampsAreEarlier}
 use Rattle.lvm_steps.proofs.LawsLemmas.Stamps.{later_is_ahead_too, before_is_behind}
 use Rattle.lvm_steps.proofs.LawsLemmas.Shelves.{unwritten_stays_behind}
 use Rattle.lvm_steps.proofs.LawsLemmas.Records.{all_is_behind_end}
@@ -173,7 +173,7 @@ module _ (old read : Device) (survey : Survey) (is : IsSurveyOf old read survey)
 
 -- ---- what stands on the disks
 
-pub unwritten_behind : (moment : ℕ) (old new : Device) → HasSectors new → IsUnwritten old new → moment < 2 ^ 64 → IsAheadOfDisks moment old → IsBehind (moment + 1) new
+pub unwritten_behind : (moment : ℕ) (old new : Device) → HasSectors new → IsUnwritten old new → moment < 2 ^ 64 → IsAheadOfDisks moment old → StampsAreEarlier (moment + 1) new
 unwritten_behind moment old new whole same fits ahead = elim (cases_lt moment last_moment) [
   | inl early ↦ later_is_ahead_too moment (moment + 1) new (omega arith) (unwritten_stays_behind moment old new same.sizes same.media (ahead early))
   | inr last ↦ later_is_ahead_too (2 ^ 64) (moment + 1) new (omega (arith, last)) (all_is_behind_end new whole)
@@ -182,7 +182,7 @@ unwritten_behind moment old new whole same fits ahead = elim (cases_lt moment la
 module _ (old read : Device) (survey : Survey) (is : IsSurveyOf old read survey) (name : List ℕ) (moment : ℕ) (some : moment ≢ 0) (room : Room) (plan : Plan) (by : IsPlan survey name moment room plan) where
   -- whatever became of the records
   written_behind : (new : Device) (parts : List Part) → HasSectors old → IsAheadOfDisks moment old
-      → KeepsShelf (has plan.targets) (IsOfParts (again_beginning moment plan.descriptor plan.status (has plan.targets) plan.homes) parts) read new → IsBehind (moment + 1) new
+      → KeepsShelf (has plan.targets) (IsOfParts (again_beginning moment plan.descriptor plan.status (has plan.targets) plan.homes) parts) read new → StampsAreEarlier (moment + 1) new
   written_behind new parts whole ahead keeps = before_is_behind (record { epoch = moment; seq = 3 }) (moment + 1) new (omega arith)
       (if_told new.media (λ media. StampsBefore (record { epoch = moment; seq = 3 }) (image_of new.sizes media)) (λ is_media told.
       let both = told_before read.media new.media (λ was now. ChangesBy (IsOfParts (again_beginning moment plan.descriptor plan.status (has plan.targets) plan.homes) parts) (image_of read.sizes was) (image_of new.sizes now)) is_media told keeps.media in
@@ -203,7 +203,7 @@ module _ (old read : Device) (survey : Survey) (is : IsSurveyOf old read survey)
       told_before (Some w) (Some n) R m e both = let same : n ≡ m = cc in (w, refl, subst (R w) same both)
 
   -- and of all writes
-  pub all_behind : (new : Device) → HasSectors old → IsAheadOfDisks moment old → HasWrote (again_beginning moment plan.descriptor plan.status (has plan.targets) plan.homes) plan.second (all_copies plan) read new → IsBehind (moment + 1) new
+  pub all_behind : (new : Device) → HasSectors old → IsAheadOfDisks moment old → HasWrote (again_beginning moment plan.descriptor plan.status (has plan.targets) plan.homes) plan.second (all_copies plan) read new → StampsAreEarlier (moment + 1) new
   all_behind new whole ahead it =
       beside_stays_behind (moment + 1) (has plan.targets) (IsOfNote (has plan.targets) (empty_note_sector moment)) it.stated new (notes_beside (has plan.targets) (empty_note_sector moment)) it.forgets
       (earlier_stays_behind (moment + 1) (has plan.targets) (IsOfSecond plan.second moment (has plan.targets) it.homes) it.copied it.stated

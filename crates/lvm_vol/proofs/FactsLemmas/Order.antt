@@ -8,22 +8,22 @@ use Rattle.std.proofs.lemmas.Bool.Decides.{nat_tests}
 use Rattle.std.proofs.lemmas.Bool.{eqb-true, or_cases}
 use Rattle.lvm_num.proofs.Booleans.{first_fails, second_fails}
 use Rattle.lvm_vol.specs.declared.entry.Outcome.{Outcome}
-use Rattle.lvm_vol.specs.Facts.{Request, Fact, Making, Made, Split, Removing, Removed, Begun, Landed, Taken, Cut, On, Stands, begun, begun_by}
+use Rattle.lvm_vol.specs.Facts.{Request, Fact, Making, Made, Split, Removing, Removed, Begun, Landed, Taken, Cut, On, IsInList, begun, begun_by}
 use Rattle.lvm_vol.specs.Log.{lands_id, takes_id, is_got, got_by}
-use Rattle.lvm_vol.specs.Order.{Follows, Ordered, IsWhole, IsGotOf}
+use Rattle.lvm_vol.specs.Order.{Follows, Ordered, HasItsData, IsGotOf}
 
 module _ {X : Type 0} where
-  pub stands-push : (xs : List X) (x y : X) → Stands y (xs ++ x ∷ []) → Stands y xs ⊎ (x ≡ y)
+  pub stands-push : (xs : List X) (x y : X) → IsInList y (xs ++ x ∷ []) → IsInList y xs ⊎ (x ≡ y)
   stands-push [] x y (inl is) = inr is
   stands-push [] x y (inr none) = absurd none
   stands-push (z ∷ xs) x y (inl is) = inl (inl is)
   stands-push (z ∷ xs) x y (inr there) = ⊎_elim (λ old. inl (inr old)) (λ new. inr new) (stands-push xs x y there)
 
-  pub stands_last : (xs : List X) (x : X) → Stands x (xs ++ x ∷ [])
+  pub stands_last : (xs : List X) (x : X) → IsInList x (xs ++ x ∷ [])
   stands_last [] x = inl refl
   stands_last (y ∷ xs) x = inr (stands_last xs x)
 
-  pub stands_left : (xs ys : List X) (x : X) → Stands x xs → Stands x (xs ++ ys)
+  pub stands_left : (xs ys : List X) (x : X) → IsInList x xs → IsInList x (xs ++ ys)
   stands_left [] ys x none = absurd none
   stands_left (y ∷ xs) ys x (inl is) = inl is
   stands_left (y ∷ xs) ys x (inr there) = inr (stands_left xs ys x there)
@@ -65,7 +65,7 @@ pub record StandsAt (n : ℕ) (rs : List Request) (r : Request) : Type 0 where
   pub high : r.id < n + length rs
   pub here : (d : Request) → get_or rs (r.id - n) d ≡ r
 
-pub stands-at : (n : ℕ) (rs : List Request) (r : Request) → IdsFrom n rs → Stands r rs → StandsAt n rs r
+pub stands-at : (n : ℕ) (rs : List Request) (r : Request) → IdsFrom n rs → IsInList r rs → StandsAt n rs r
 stands-at n [] r ids none = absurd none
 stands-at n (s ∷ rs) r ids (inl is) =
     let own : r.id ≡ n = ap (λ (q : Request). q.id) (sym is) ∙ ids.0 in
@@ -77,13 +77,13 @@ stands-at n (s ∷ rs) r ids (inr there) =
     let at : r.id - n ≡ suc (r.id - (n + 1)) = omega arith in
     record { low = omega arith; high = omega arith; here = λ d. ap (λ (k : ℕ). get_or (s ∷ rs) k d) at ∙ later.here d }
 
-pub stands-cons_option : (o : Option Request) (rs : List Request) (r : Request) → Stands r rs → Stands r (cons_option o rs)
+pub stands-cons_option : (o : Option Request) (rs : List Request) (r : Request) → IsInList r rs → IsInList r (cons_option o rs)
 stands-cons_option None rs r there = there
 stands-cons_option (Some s) rs r there = inr there
 
-pub stands_begun : (facts : List Fact) (r : Request) → Stands (Begun r) facts → Stands r (begun facts)
+pub stands_begun : (facts : List Fact) (r : Request) → IsInList (Begun r) facts → IsInList r (begun facts)
 stands_begun [] r none = absurd none
-stands_begun (f ∷ facts) r (inl is) = subst (λ (g : Fact). Stands r (cons_option (begun_by g) (begun facts))) (sym is) (inl refl)
+stands_begun (f ∷ facts) r (inl is) = subst (λ (g : Fact). IsInList r (cons_option (begun_by g) (begun facts))) (sym is) (inl refl)
 stands_begun (f ∷ facts) r (inr there) = stands-cons_option (begun_by f) (begun facts) r (stands_begun facts r there)
 
 got_none : (id : ℕ) (f : Fact) → lands_id id f ≡ false → got_by id f ≡ None
@@ -110,16 +110,16 @@ got_same id facts f none = got-push id facts f ∙ ap (λ (o : Option (List (Lis
 
 -- what a request that landed is, and what it got
 pub record IsAnswer (facts : List Fact) (r : Request) (how : Outcome) (got : List (List ℕ)) : Type 0 where
-  pub began : Stands r (begun facts)
+  pub began : IsInList r (begun facts)
   pub its_got : IsGotOf r how got
   pub only : is_got how ≡ true → filter_map (got_by r.id) facts ≡ got ∷ []
 
 pub record IsNumbered (run : ℕ) (facts : List Fact) : Type 0 where
   pub ids : IdsFrom 1 (begun facts)
-  pub runs : (r : Request) → Stands r (begun facts) → r.run ≡ run
-  pub whole : (r : Request) → Stands r (begun facts) → IsWhole r
-  pub landed : (r : Request) (how : Outcome) (started : Bool) (got : List (List ℕ)) → Stands (Landed r how started got) facts → IsAnswer facts r how got
-  pub taken : (r : Request) → Stands (Taken r) facts → Stands r (begun facts)
+  pub runs : (r : Request) → IsInList r (begun facts) → r.run ≡ run
+  pub whole : (r : Request) → IsInList r (begun facts) → HasItsData r
+  pub landed : (r : Request) (how : Outcome) (started : Bool) (got : List (List ℕ)) → IsInList (Landed r how started got) facts → IsAnswer facts r how got
+  pub taken : (r : Request) → IsInList (Taken r) facts → IsInList r (begun facts)
   pub lands : (id : ℕ) → list_any (lands_id id) facts ≡ true → (1 ≤ id) × (id ≤ length (begun facts))
   pub takes : (id : ℕ) → list_any (takes_id id) facts ≡ true → list_any (lands_id id) facts ≡ true
 
@@ -155,9 +155,9 @@ module _ (run : ℕ) where
 
   -- What a fact keeps that begins nothing, if it gives nothing to what has landed, and what lands and is taken with it was begun.
   step_beside : (past : List Fact) (f : Fact) → begun_by f ≡ None → IsNumbered run past
-      → ((r : Request) (how : Outcome) (started : Bool) (got : List (List ℕ)) → Stands (Landed r how started got) past → got_by r.id f ≡ None)
+      → ((r : Request) (how : Outcome) (started : Bool) (got : List (List ℕ)) → IsInList (Landed r how started got) past → got_by r.id f ≡ None)
       → ((r : Request) (how : Outcome) (started : Bool) (got : List (List ℕ)) → f ≡ Landed r how started got → IsAnswer (past ++ f ∷ []) r how got)
-      → ((r : Request) → f ≡ Taken r → Stands r (begun past))
+      → ((r : Request) → f ≡ Taken r → IsInList r (begun past))
       → ((id : ℕ) → list_any (lands_id id) (past ++ f ∷ []) ≡ true → (1 ≤ id) × (id ≤ length (begun past)))
       → ((id : ℕ) → list_any (takes_id id) (past ++ f ∷ []) ≡ true → list_any (lands_id id) (past ++ f ∷ []) ≡ true)
       → IsNumbered run (past ++ f ∷ [])
@@ -165,17 +165,17 @@ module _ (run : ℕ) where
       let b = begun_same past f none in
       record {
         ids = subst (λ (rs : List Request). IdsFrom 1 rs) (sym b) q.ids;
-        runs = λ r there. q.runs r (subst (λ (rs : List Request). Stands r rs) b there);
-        whole = λ r there. q.whole r (subst (λ (rs : List Request). Stands r rs) b there);
+        runs = λ r there. q.runs r (subst (λ (rs : List Request). IsInList r rs) b there);
+        whole = λ r there. q.whole r (subst (λ (rs : List Request). IsInList r rs) b there);
         landed = λ r how started got there. ⊎_elim
             (λ old. let was = q.landed r how started got old in record {
-              began = subst (λ (rs : List Request). Stands r rs) (sym b) was.began;
+              began = subst (λ (rs : List Request). IsInList r rs) (sym b) was.began;
               its_got = was.its_got;
               only = λ g. got_same r.id past f (gives_none r how started got old) ∙ was.only g;
             })
             (λ new. landed r how started got new)
             (stands-push past f (Landed r how started got) there);
-        taken = λ r there. subst (λ (rs : List Request). Stands r rs) (sym b) (⊎_elim (λ old. q.taken r old) (λ new. taken r new) (stands-push past f (Taken r) there));
+        taken = λ r there. subst (λ (rs : List Request). IsInList r rs) (sym b) (⊎_elim (λ old. q.taken r old) (λ new. taken r new) (stands-push past f (Taken r) there));
         lands = λ id is. subst (λ (rs : List Request). (1 ≤ id) × (id ≤ length rs)) (sym b) (lands id is);
         takes = takes;
       }
@@ -196,19 +196,19 @@ module _ (run : ℕ) where
       record {
         ids = subst (λ (rs : List Request). IdsFrom 1 rs) (sym b) (ids-push 1 (begun past) r q.ids (omega arith));
         runs = λ s there. ⊎_elim (λ old. q.runs s old) (λ new. ap (λ (x : Request). x.run) (sym new) ∙ follows.0)
-            (stands-push (begun past) r s (subst (λ (rs : List Request). Stands s rs) b there));
-        whole = λ s there. ⊎_elim (λ old. q.whole s old) (λ new. subst IsWhole new follows.2)
-            (stands-push (begun past) r s (subst (λ (rs : List Request). Stands s rs) b there));
+            (stands-push (begun past) r s (subst (λ (rs : List Request). IsInList s rs) b there));
+        whole = λ s there. ⊎_elim (λ old. q.whole s old) (λ new. subst HasItsData new follows.2)
+            (stands-push (begun past) r s (subst (λ (rs : List Request). IsInList s rs) b there));
         landed = λ s how started got there. ⊎_elim
             (λ old. let was = q.landed s how started got old in record {
-              began = subst (λ (rs : List Request). Stands s rs) (sym b) (stands_left (begun past) (r ∷ []) s was.began);
+              began = subst (λ (rs : List Request). IsInList s rs) (sym b) (stands_left (begun past) (r ∷ []) s was.began);
               its_got = was.its_got;
               only = λ g. got_same s.id past (Begun r) refl ∙ was.only g;
             })
             (λ new. absurd (cc new))
             (stands-push past (Begun r) (Landed s how started got) there);
         taken = λ s there. ⊎_elim
-            (λ old. subst (λ (rs : List Request). Stands s rs) (sym b) (stands_left (begun past) (r ∷ []) s (q.taken s old)))
+            (λ old. subst (λ (rs : List Request). IsInList s rs) (sym b) (stands_left (begun past) (r ∷ []) s (q.taken s old)))
             (λ new. absurd (cc new))
             (stands-push past (Begun r) (Taken s) there);
         lands = λ id is.
@@ -219,7 +219,7 @@ module _ (run : ℕ) where
         takes = λ id is. any_same (lands_id id) past (Begun r) refl ∙ q.takes id (sym (any_same (takes_id id) past (Begun r) refl) ∙ is);
       }
 
-  landed_any : (facts : List Fact) (r : Request) (how : Outcome) (started : Bool) (got : List (List ℕ)) → Stands (Landed r how started got) facts → list_any (lands_id r.id) facts ≡ true
+  landed_any : (facts : List Fact) (r : Request) (how : Outcome) (started : Bool) (got : List (List ℕ)) → IsInList (Landed r how started got) facts → list_any (lands_id r.id) facts ≡ true
   landed_any [] r how started got none = absurd none
   landed_any (f ∷ facts) r how started got (inl is) =
       let e : lands_id r.id f ≡ true = ap (λ (g : Fact). lands_id r.id g) is ∙ (let same : (r.id == r.id) ≡ true = grind (arith, nat_tests) in same) in
@@ -248,7 +248,7 @@ module _ (run : ℕ) where
   unfolding AnswerOf
   step_landed past r how started got q follows =
       let f : Fact = Landed r how started got in
-      let began : Stands r (begun past) = stands_begun past r follows.0 in
+      let began : IsInList r (begun past) = stands_begun past r follows.0 in
       step_beside past f refl q
       (λ s how' started' got' old. got_none s.id f (other_id r.id s.id past follows.1 (landed_any past s how' started' got' old)))
       (λ s how' started' got' new. subst (AnswerOf (past ++ f ∷ [])) new (own began (begun_same past f refl)))
@@ -262,9 +262,9 @@ module _ (run : ℕ) where
       (or_cases (list_any (lands_id id) past) (lands_id id f) (sym (any-push (lands_id id) past f) ∙ is)))
       (λ id is. any-push (lands_id id) past f ∙ ap (λ (t : Bool). t || lands_id id f) (q.takes id (sym (any_same (takes_id id) past f refl) ∙ is)))
     where
-      own : Stands r (begun past) → begun (past ++ Landed r how started got ∷ []) ≡ begun past → IsAnswer (past ++ Landed r how started got ∷ []) r how got
+      own : IsInList r (begun past) → begun (past ++ Landed r how started got ∷ []) ≡ begun past → IsAnswer (past ++ Landed r how started got ∷ []) r how got
       own began b = record {
-        began = subst (λ (rs : List Request). Stands r rs) (sym b) began;
+        began = subst (λ (rs : List Request). IsInList r rs) (sym b) began;
         its_got = follows.2;
         only = λ g.
             let same : (r.id == r.id) ≡ true = grind (arith, nat_tests) in
@@ -280,7 +280,7 @@ module _ (run : ℕ) where
       step_beside past f refl q
       (λ s how started got old. refl)
       (λ s how started got new. absurd (cc new))
-      (λ s new. subst (λ (x : Request). Stands x (begun past)) (own_request new) (stands_begun past r follows.0))
+      (λ s new. subst (λ (x : Request). IsInList x (begun past)) (own_request new) (stands_begun past r follows.0))
       (λ id is. q.lands id (sym (any_same (lands_id id) past f refl) ∙ is))
       (λ id is. any_same (lands_id id) past f refl ∙ ⊎_elim
       (λ old. q.takes id old)

@@ -5,7 +5,7 @@ use Rattle.lvm_vol.specs.declared.entry.Vol.{Vol}
 use Rattle.lvm_vol.specs.declared.entry.Vol.TheVariants.{Disk, Lv}
 use Rattle.lvm_vol.specs.declared.entry.Outcome.{Outcome}
 use Rattle.lvm_vol.specs.declared.entry.Outcome.TheVariants as outcome
-use Rattle.lvm_vol.specs.Facts.{Request, Fact, Making, Made, Split, Removing, Removed, Begun, Landed, Taken, Cut, On, Stands, same_vol, is_over, block_of}
+use Rattle.lvm_vol.specs.Facts.{Request, Fact, Making, Made, Split, Removing, Removed, Begun, Landed, Taken, Cut, On, IsInList, same_vol, is_over, block_of}
 use Rattle.lvm_vol.specs.May.{Known, Knowledge, nothing_known, is_open_in, without, is_off, is_some_open, also, ended, read, landed, cut, source, change, after_fact, after, known, May}
 use Rattle.lvm_vol.specs.Laws.{KnownPush, OthersStay, DoneCloses, GotFixes, LandedCloses, DisksAreTight, CutEndsAll, MayGrows, is_about, is_settling, is_fixing}
 use Rattle.lvm_vol.proofs.FactsLemmas.Order.{stands_left}
@@ -54,17 +54,17 @@ abbrev pub Grows : Known → Known → Type 0
 Grows k new = (x : Sector) → May k x → May new x
 
 by_values : (k new : Known) → new.values ≡ k.values → Grows k new
-by_values k new same x may = subst (λ (o : Option (List (List ℕ))). IfSome o (λ values. Stands x values)) (sym same) may
+by_values k new same x may = subst (λ (o : Option (List (List ℕ))). IfSome o (λ values. IsInList x values)) (sym same) may
 
 by_more : (k new : Known) (more : List (List ℕ)) → new.values ≡ also more k.values → Grows k new
-by_more k new more are x may = subst (λ (o : Option (List (List ℕ))). IfSome o (λ values. Stands x values)) (sym are) (by_option k.values may)
+by_more k new more are x may = subst (λ (o : Option (List (List ℕ))). IfSome o (λ values. IsInList x values)) (sym are) (by_option k.values may)
   where
-    by_option : (o : Option (List (List ℕ))) → IfSome o (λ values. Stands x values) → IfSome (also more o) (λ values. Stands x values)
+    by_option : (o : Option (List (List ℕ))) → IfSome o (λ values. IsInList x values) → IfSome (also more o) (λ values. IsInList x values)
     by_option None may = tt
     by_option (Some values) may = stands_left values more x may
 
 by_none : (k new : Known) → new.values ≡ None → Grows k new
-by_none k new none x may = subst (λ (o : Option (List (List ℕ))). IfSome o (λ values. Stands x values)) (sym none) tt
+by_none k new none x may = subst (λ (o : Option (List (List ℕ))). IfSome o (λ values. IsInList x values)) (sym none) tt
 
 -- a choice that changes no values, or grows where it is made
 by_choice : (k new : Known) (t : Bool) → (t ≡ true → Grows k new) → Grows k (cond t new k)

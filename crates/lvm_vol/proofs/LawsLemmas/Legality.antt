@@ -8,7 +8,7 @@ use Rattle.std.proofs.lemmas.Bool.Decides.{nat_tests}
 use Rattle.std.proofs.lemmas.Bool.{eqb-true, or_parts, or_cases, and_parts, or_left}
 use Rattle.lvm_vol.specs.declared.entry.Outcome.{Outcome}
 use Rattle.lvm_vol.specs.declared.entry.Vol.{Vol}
-use Rattle.lvm_vol.specs.Facts.{Request, Fact, Making, Made, Split, Removing, Removed, Begun, Landed, Taken, Cut, On, Stands, same_request, joined}
+use Rattle.lvm_vol.specs.Facts.{Request, Fact, Making, Made, Split, Removing, Removed, Begun, Landed, Taken, Cut, On, IsInList, same_request, joined}
 use Rattle.lvm_vol.specs.Legal.{begins_in, lands, takes, IsOutcomeOf, GotMay, Fits, LegalFrom, Legal}
 use Rattle.lvm_vol.specs.Laws.{LegalPrefix, LegalPush, LegalThrough}
 use Rattle.lvm_vol.specs.Log.{Log, next_request, request_of, lands_id, takes_id, is_open, is_answered}
@@ -44,7 +44,7 @@ grow_legal Q step past (f ∷ facts) q legal = subst Q (append_assoc past (f ∷
 
 -- each request has a number up to the count of those of its run, and lands before it is taken
 pub record IsCountedWell (past : List Fact) : Type 0 where
-  pub begun_low : (r : Request) → Stands (Begun r) past → (1 ≤ r.id) × (r.id ≤ count_by (begins_in r.run) past)
+  pub begun_low : (r : Request) → IsInList (Begun r) past → (1 ≤ r.id) × (r.id ≤ count_by (begins_in r.run) past)
   pub landed_low : (r : Request) → list_any (lands r) past ≡ true → (1 ≤ r.id) × (r.id ≤ count_by (begins_in r.run) past)
   pub taken_landed : (r : Request) → list_any (takes r) past ≡ true → list_any (lands r) past ≡ true
 
@@ -180,7 +180,7 @@ count-joined run past facts none =
 pub any-joined : (t : Fact → Bool) (past facts : List Fact) → t Cut ≡ false → list_any t (joined past facts) ≡ (list_any t past || list_any t facts)
 any-joined t past facts cut = list_any-append t past (Cut ∷ facts) ∙ ap (λ (b : Bool). list_any t past || (b || list_any t facts)) cut
 
-pub stands_joined : (past facts : List Fact) (f : Fact) → Stands f facts → Stands f (joined past facts)
+pub stands_joined : (past facts : List Fact) (f : Fact) → IsInList f facts → IsInList f (joined past facts)
 stands_joined [] facts f there = inr there
 stands_joined (g ∷ past) facts f there = inr (stands_joined past facts f there)
 
@@ -208,7 +208,7 @@ any_fewer t u (f ∷ facts) implies none = by_test (t f) refl (any_fewer t u fac
     by_test false is rest = ap (λ (c : Bool). c || list_any t facts) is ∙ rest
     by_test true is rest = let e = implies f is in let d = (or_parts (u f) (list_any u facts) none).0 in absurd (cc)
 
-any_more : (t u : Fact → Bool) (facts : List Fact) → ((f : Fact) → Stands f facts → u f ≡ true → t f ≡ true) → list_any u facts ≡ true → list_any t facts ≡ true
+any_more : (t u : Fact → Bool) (facts : List Fact) → ((f : Fact) → IsInList f facts → u f ≡ true → t f ≡ true) → list_any u facts ≡ true → list_any t facts ≡ true
 any_more t u [] implies some = some
 any_more t u (f ∷ facts) implies some = ⊎_elim
     (λ here. ap (λ (c : Bool). c || list_any t facts) (implies f (inl refl) here))
@@ -233,7 +233,7 @@ taken_by_number r (Taken s) is = let names = same_name r s is in ap (λ (n : ℕ
     equal n = grind (arith, nat_tests)
 taken_by_number r _ is = is
 
-by_name : (run : ℕ) (facts : List Fact) (r : Request) → IsNumbered run facts → r.run ≡ run → (f : Fact) → Stands f facts → lands_id r.id f ≡ true → lands r f ≡ true
+by_name : (run : ℕ) (facts : List Fact) (r : Request) → IsNumbered run facts → r.run ≡ run → (f : Fact) → IsInList f facts → lands_id r.id f ≡ true → lands r f ≡ true
 by_name run facts r q own (Landed s how started got) there is =
     let answer = q.landed s how started got there in
     let s_run = q.runs s answer.began in

@@ -5,7 +5,7 @@ use Rattle.lvm_disk.specs.Device.{Device}
 use Rattle.lvm_vol.specs.Facts.{Fact}
 use Rattle.lvm_vol.specs.Log.{Log}
 use Rattle.lvm_kept.specs.Moments.{Moment}
-use Rattle.lvm_steps.specs.Moments.{Begins, Keeps}
+use Rattle.lvm_steps.specs.Moments.{RunBegins, Keeps}
 use Rattle.lvm_session.specs.State.{Core, State, state}
 use Rattle.lvm_core.specs.State.{state_of}
 use Rattle.lvm_volume_lines.specs.passed.VolumePlan.{GroupFault, is_over}
@@ -50,7 +50,7 @@ module _ {S : Type 0} (device : S → Device) (stage : Stage S) (fits : IsFittin
           let held = is.held in
           let shelf : device (shelf_in it) ≡ device done.left.0 = ap (λ (s : Stage S). device (shelf_in s)) is.is ∙ ap device held.shelf in
           let session : session_in it ≡ Some held.core = ap (λ (s : Stage S). session_in s) is.is ∙ held.session in
-          let content : ShareContent (past ++ mid.core.history.facts) left lv number = split_shares core.history.run first lv made copies patience done.after mid left number may commanded gives past (subst (λ (n : ℕ). Begins n past first) its_run begins) in
+          let content : ShareContent (past ++ mid.core.history.facts) left lv number = split_shares core.history.run first lv made copies patience done.after mid left number may commanded gives past (subst (λ (n : ℕ). RunBegins n past first) its_run begins) in
           -- it says nothing of how the session began
           let again : ShareContent (past ++ mid.core.history.facts) (state (device done.left.0) (record done.left.1 { origin = held.core.origin })) lv number =
           record { stays = content.stays; new = content.new; stays_is = content.stays_is; new_is = content.new_is; apart = content.apart; lps = content.lps; same = content.same } in

@@ -1,2 +1,2 @@
 -- Passed on from `lvm_ranges`.
-pub use Rattle.lvm_range_lines.specs.passed.Ranges.{AnyFailed, AskRangeFault, Moves, NoMove, OneMove, RangeCause}
+pub use Rattle.lvm_range_lines.specs.passed.Ranges.{AnyFailed, AskRangeFault, MovesTurns, NoMove, OneMove, RangeCause}

@@ -13,7 +13,7 @@ use Rattle.lvm_write.proofs.PartsLemmas.Transfers.{spent_then}
 use Rattle.lvm_write.proofs.WritesLemmas.{leaves_then}
 use Rattle.lvm_write.specs.declared.begin.Begun.{Begun}
 use Rattle.lvm_write.specs.declared.begin.Begun.TheVariants as begun
-use Rattle.lvm_write.specs.Beginning.{Beginning, Part, brought, IsOfParts, Stands, AllStand}
+use Rattle.lvm_write.specs.Beginning.{Beginning, Part, brought, IsOfParts, PartIsWritten, AllStand}
 use Rattle.lvm_write.specs.Ends.{StopsAt, WasTriedOnTargets}
 use Rattle.lvm_write.specs.Runs.{OneGives, OneWell, HowOne, IsStage, AreWritten, AreBegun, HowMany, ManyGives}
 
@@ -50,7 +50,7 @@ wider targets P Q before after old new more does = record {
 
 -- ---- what stands
 
-stand_more : (b : Beginning) (ps : List Part) (p : Part) (device : Device) → AllStand b ps device → ((d : ℕ) → IsTrue (b.targets d) → Stands b p device d) → AllStand b (ps ++ p ∷ []) device
+stand_more : (b : Beginning) (ps : List Part) (p : Part) (device : Device) → AllStand b ps device → ((d : ℕ) → IsTrue (b.targets d) → PartIsWritten b p device d) → AllStand b (ps ++ p ∷ []) device
 stand_more b [] p device all one = (one, tt)
 stand_more b (q ∷ ps) p device all one = (all.0, stand_more b ps p device all.1 one)
 
@@ -69,12 +69,12 @@ begun_in_front b [] qs old new begun = absurd begun
 begun_in_front b (p ∷ ps) qs old new (inl path) = inl path
 begun_in_front b (p ∷ ps) qs old new (inr stage) = inr (stage.0, stage.1, begun_in_front b ps qs stage.0 new stage.2)
 
-stage_of : (b : Beginning) (p : Part) (number before after : ℕ) (old new : Device) (buf : Buffer) → DiskWritesLeave b.targets (brought b p) before after old new → OneWell b.targets (Stands b p) number old new buf → IsStage b p old new
+stage_of : (b : Beginning) (p : Part) (number before after : ℕ) (old new : Device) (buf : Buffer) → DiskWritesLeave b.targets (brought b p) before after old new → OneWell b.targets (PartIsWritten b p) number old new buf → IsStage b p old new
 stage_of b p number before after old new buf does one = record { still = one.back.ready.flights; keeps = does.keeps; path = does.moments; stands = one.stands }
 
 -- ---- the first part
 
-pub first_gives : (b : Beginning) (p : Part) (number before after : ℕ) (old new : Device) (result : Begun) → OneGives b.targets (brought b p) (Stands b p) number before after old new result → ManyGives b (p ∷ []) number before after old new result
+pub first_gives : (b : Beginning) (p : Part) (number before after : ℕ) (old new : Device) (result : Begun) → OneGives b.targets (brought b p) (PartIsWritten b p) number before after old new result → ManyGives b (p ∷ []) number before after old new result
 first_gives b p number before after old new result gives =
     let does = wider b.targets (brought b p) (IsOfParts b (p ∷ [])) before after old new (λ d s value is. inl is) gives.does in
     record { does = does; begun = inl gives.does.moments; how = how result does.keeps gives.how }
@@ -82,7 +82,7 @@ first_gives b p number before after old new result gives =
     stops : (AtHand : Part → Type 0) → KeepsShelf b.targets (IsOfParts b (p ∷ [])) old new → AtHand p → StopsAt b (p ∷ []) old new AtHand
     stops AtHand keeps hand = record { before = []; hand = p; behind = []; is = refl; stand = tt; only = keeps; at_hand = hand }
 
-    how : (result : Begun) → KeepsShelf b.targets (IsOfParts b (p ∷ [])) old new → HowOne b.targets (Stands b p) number before old new result → HowMany b (p ∷ []) number before old new result
+    how : (result : Begun) → KeepsShelf b.targets (IsOfParts b (p ∷ [])) old new → HowOne b.targets (PartIsWritten b p) number before old new result → HowMany b (p ∷ []) number before old new result
     how (begun.Ended buf) keeps one = record { back = one.back; well = one.well; stand = (one.stands, tt); done = (new, stage_of b p number before after old new buf gives.does one, refl) }
     how (begun.DiskFailed disk buf) keeps one = record { back = one.back; first = one.first; stop = stops (WasTriedOnTargets b old new) keeps one.tried }
     how begun.Dark keeps one = (one, stops (λ hand. Unit {0}) keeps tt)
@@ -92,7 +92,7 @@ first_gives b p number before after old new result gives =
 
 pub more_gives :
     (b : Beginning) (ps : List Part) (p : Part) (number before mid_left after : ℕ) (old mid new : Device) (buf : Buffer) (result : Begun)
-    → ManyGives b ps number before mid_left old mid (begun.Ended buf) → OneGives b.targets (brought b p) (Stands b p) buf.number mid_left after mid new result → AllStand b ps new
+    → ManyGives b ps number before mid_left old mid (begun.Ended buf) → OneGives b.targets (brought b p) (PartIsWritten b p) buf.number mid_left after mid new result → AllStand b ps new
     → ManyGives b (ps ++ p ∷ []) number before after old new result
 more_gives b ps p number before mid_left after old mid new buf result many one stay =
     let P : Plan = IsOfParts b (ps ++ p ∷ []) in
@@ -104,7 +104,7 @@ more_gives b ps p number before mid_left after old mid new buf result many one s
     stops : (AtHand : Part → Type 0) → KeepsShelf b.targets (IsOfParts b (ps ++ p ∷ [])) old new → AtHand p → StopsAt b (ps ++ p ∷ []) old new AtHand
     stops AtHand keeps hand = record { before = ps; hand = p; behind = []; is = refl; stand = stay; only = keeps; at_hand = hand }
 
-    how : (result : Begun) → KeepsShelf b.targets (IsOfParts b (ps ++ p ∷ [])) old new → HowOne b.targets (Stands b p) buf.number mid_left mid new result → HowMany b (ps ++ p ∷ []) number before old new result
+    how : (result : Begun) → KeepsShelf b.targets (IsOfParts b (ps ++ p ∷ [])) old new → HowOne b.targets (PartIsWritten b p) buf.number mid_left mid new result → HowMany b (ps ++ p ∷ []) number before old new result
     how (begun.Ended back) keeps o = record {
       back = record { ready = o.back.ready; cuts = o.back.cuts ∙ many.how.back.cuts; number_is = o.back.number_is ∙ many.how.back.number_is };
       well = λ d. o.well d ∙ many.how.well d;

@@ -15,7 +15,7 @@ use Rattle.lvm_status.specs.passed.Names.{has_row}
 use Rattle.lvm_status.specs.Update.{Stored}
 use Rattle.lvm_status.proofs.RunsLemmas.Sound.{and_left}
 use Rattle.lvm_commit.specs.Settling.{there, IsForgotten}
-use Rattle.lvm_commit.specs.Rounds.{Misses, HasEnded, IsSame, Starts, stamped, session_write}
+use Rattle.lvm_commit.specs.Rounds.{Misses, UpdateHasEnded, IsSame, Starts, stamped, session_write}
 use Rattle.lvm_commit.proofs.RoundsLemmas.Wanting.{row_stays}
 use Rattle.lvm_commit.proofs.RoundsLemmas.Leaving.{round_committed, leaves, marks_round, round_same}
 use Rattle.lvm_commit.proofs.RoundsLemmas.Losing.{misses_at}
@@ -31,7 +31,7 @@ flies_on : (u x : Stored) → Starts u x → IsForgotten u → IsForgotten x
 flies_on u x starts was none = absurd (let e : Some x.wanted ≡ None = sym starts.started.flies ∙ none in cc e)
 
 -- those on which it failed become missing
-misses : (u x mid : Stored) (failed : Disks) → Starts u x → HasEnded failed x mid → ((d : ℕ) → failed d ≡ true → there u d ≡ true) → Misses failed u.wanted mid.wanted
+misses : (u x mid : Stored) (failed : Disks) → Starts u x → UpdateHasEnded failed x mid → ((d : ℕ) → failed d ≡ true → there u d ≡ true) → Misses failed u.wanted mid.wanted
 misses u x mid failed starts ends on =
     misses_at failed x.wanted u.wanted mid.wanted starts.wanted (only_targets (there x) failed x.wanted mid.wanted (λ d is. ap (λ (set : Disks). set d) (there_still u x starts) ∙ on d is) ends.wanted)
 

@@ -3,7 +3,7 @@ use Rattle.std.specs.Prelude.{slice_get}
 use Rattle.std.proofs.lemmas.Bool.{cases_lt}
 use Rattle.lvm_quorum.specs.declared.row.SurveyRow.{SurveyRow}
 use Rattle.lvm_quorum.proofs.SurveyedLemmas.SurveyRows.{row_read}
-use Rattle.lvm_group.specs.Judged.{IsTaken}
+use Rattle.lvm_group.specs.Judged.{DiskIsTaken}
 use Rattle.lvm_group.proofs.JudgedLemmas.{taken_shows, none_shown, same_row}
 use Rattle.lvm_group.proofs.judge.has_group.Goals as goal
 
@@ -25,7 +25,7 @@ loop-row-preserved c =
       | inl before ↦ c.loop-row.invariant d other before on taken
       | inr here ↦
           let same : d ≡ i = omega (arith, here, lt) in
-          let its : IsTaken row c.args.force = subst (λ (r : SurveyRow). IsTaken r c.args.force) (same_row s i other row (subst (λ e. slice_get s.rows e ≡ Some other) same on) at) taken in
+          let its : DiskIsTaken row c.args.force = subst (λ (r : SurveyRow). DiskIsTaken r c.args.force) (same_row s i other row (subst (λ e. slice_get s.rows e ≡ Some other) same on) at) taken in
           let yes = c.if-is_taken.ensures.1 its in absurd cc
     ]
 

@@ -7,7 +7,7 @@ use Rattle.lvm_group.specs.passed.Names.{BringsOn, StartsHeld, first_core, Cause
 use Rattle.lvm_group.specs.NewGroup.{NewGroup}
 use Rattle.lvm_group.specs.Planned.{IsPlannedFor}
 use Rattle.lvm_group.specs.Made.{MkvgRefuses}
-use Rattle.lvm_group.specs.Steps.{asked_group, cut_at, Stands}
+use Rattle.lvm_group.specs.Steps.{asked_group, cut_at, RecordsStand}
 use Rattle.lvm_group.proofs.MadeLemmas.Composing.{refuses_reading}
 use Rattle.lvm_group.proofs.StepsLemmas.{read_leaves, descriptor_long, status_long, have_room, refuses_written, stands_written, written_leaves, written_held}
 use Rattle.lvm_group.proofs.make.bring.Goals as goal
@@ -70,7 +70,7 @@ returns g c =
     let fits = c.ranges.moment.fits in
     let given = sym c.give_up.ensures in
     record {
-      made = subst (λ (l : Log). IfOk r (λ (next : Homes). Stands w room was l old new (record { parts = plan.parts; homes = next }))) given (stands_written w room was old mid free plan its.may found its.planned its.size before left after new only leaves r gives);
+      made = subst (λ (l : Log). IfOk r (λ (next : Homes). RecordsStand w room was l old new (record { parts = plan.parts; homes = next }))) given (stands_written w room was old mid free plan its.may found its.planned its.size before left after new only leaves r gives);
       refused = subst (λ (l : Log). IfErr r (MkvgRefuses w before was (cut_at r l) old new)) given (refuses_written w room was old mid free plan its.may found its.planned its.size before left after new only leaves r gives);
       held = λ clock.
           subst (λ (l : Log). IfOk r (λ (next : Homes). StartsHeld new (first_core plan.parts l (record { epoch = w.moment; seq = 2 }) next []))) given

@@ -11,7 +11,7 @@ use Rattle.lvm_group.specs.declared.make.Standing.{Standing}
 use Rattle.lvm_group.specs.NewGroup.{NewGroup}
 use Rattle.lvm_group.specs.Planned.{IsPlannedFor, RefusesPlan}
 use Rattle.lvm_group.specs.Made.{MkvgRefuses}
-use Rattle.lvm_group.specs.Steps.{asked_group, Stands}
+use Rattle.lvm_group.specs.Steps.{asked_group, RecordsStand}
 use Rattle.lvm_group.proofs.MadeLemmas.Composing.{refuses_plan}
 use Rattle.lvm_group.proofs.StepsLemmas.{made_then, refused_then, held_then, leaves_then}
 use Rattle.lvm_group.proofs.make.make.Goals as goal
@@ -61,7 +61,7 @@ returns g c =
     let says = c.bring-brought.ensures in
     let started = sym c.start_with.ensures in
     record {
-      made = subst (λ (s : Result (Standing Parts) Cause). IfOk s (Stands w room was is old new)) started (made_then w room before after was mid is old new parts r c.enter_cut.ensures says.made);
+      made = subst (λ (s : Result (Standing Parts) Cause). IfOk s (RecordsStand w room was is old new)) started (made_then w room before after was mid is old new parts r c.enter_cut.ensures says.made);
       refused = subst (λ (s : Result (Standing Parts) Cause). IfErr s (MkvgRefuses w before was is old new)) started (refused_then w room before after was mid is old new parts r c.enter_cut.ensures says.refused);
       held = λ clock.
           subst (λ (s : Result (Standing Parts) Cause). IfOk s (λ (standing : Standing Parts). StartsHeld new (first_core standing.parts is (record { epoch = c.args.moment; seq = 2 }) standing.homes []))) started

@@ -4,7 +4,7 @@ use Rattle.lvm_steps.specs.Requests.{at}
 use Rattle.lvm_group.specs.passed.Names.{Core, AreFaults, StartsHeld, BringsOn}
 use Rattle.lvm_group.specs.NewGroup.{NewGroup}
 use Rattle.lvm_group.specs.Made.{IsMade}
-use Rattle.lvm_group.specs.Steps.{Stands}
+use Rattle.lvm_group.specs.Steps.{RecordsStand}
 use Rattle.lvm_group.proofs.MadeLemmas.Starting.{spare_left, still_landed, placed, made, settles, keeps_on, calm_on, none_left}
 use Rattle.lvm_group.proofs.making.mkvg.Goals as goal
 
@@ -23,7 +23,7 @@ returns-in-Ok g c =
     let was : Log = c.args.history in
     let old = g.S.Shelf.device c.args.shelf in
     let new = g.S.Shelf.device c.make.new.shelf in
-    let stands : Stands w c.args.room was c.make.new.history old new c.in-Ok.standing = c.in-Ok.ensures.made in
+    let stands : RecordsStand w c.args.room was c.make.new.history old new c.in-Ok.standing = c.in-Ok.ensures.made in
     let two = settles w c.args.room was c.make.new.history old new c.in-Ok.standing stands c.requires.asked.moment c.start.result.1 c.start.ensures.core in
     let leaves = c.in-Ok.ensures.leaves in
     record {

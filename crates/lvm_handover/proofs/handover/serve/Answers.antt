@@ -6,7 +6,7 @@ use Rattle.lvm_session.specs.declared.bringing.OpenCopy.{OpenCopy}
 use Rattle.lvm_session.specs.Fields.{core_of}
 use Rattle.lvm_session.specs.State.{Core, state}
 use Rattle.lvm_session.specs.Sound.{IsSound}
-use Rattle.lvm_handover.specs.Serving.{IsServed, MarksAdded, MarksMissing}
+use Rattle.lvm_handover.specs.Serving.{OriginIsMarked, MarksAdded, MarksMissing}
 use Rattle.lvm_handover.proofs.ServingLemmas.Marking.{served_with}
 use Rattle.lvm_handover.proofs.handover.serve.Goals as goal
 
@@ -16,8 +16,8 @@ with_table core table = record core { origin = record core.origin { table = tabl
 
 -- in the words of the driver that is handed over
 served : (added : List Pp) (driver core : Core) (wanted mid new : Status) → core ≡ driver → wanted ≡ core.status.wanted → MarksAdded added core.origin.table mid
-    → MarksMissing core.descriptor.pvs wanted mid new → IsServed added driver (with_table core new)
-served added driver core wanted mid new same is first second = subst (λ (was : Core). IsServed added was (with_table core new)) same (served_with added core wanted mid new is first second)
+    → MarksMissing core.descriptor.pvs wanted mid new → OriginIsMarked added driver (with_table core new)
+served added driver core wanted mid new same is first second = subst (λ (was : Core). OriginIsMarked added was (with_table core new)) same (served_with added core wanted mid new is first second)
 
 pub from_parts-requires-clause-sound : goal.from_parts-requires-clause-sound
 from_parts-requires-clause-sound g c =
@@ -33,7 +33,7 @@ from_parts-requires-clause-unmoved g c =
 
 pub returns-clause-served : goal.returns-clause-served
 returns-clause-served g c =
-    subst (IsServed c.args.added.now c.args.driver.1) (sym c.from_parts.ensures.core)
+    subst (OriginIsMarked c.args.added.now c.args.driver.1) (sym c.from_parts.ensures.core)
     (served c.args.added.now c.args.driver.1 (core_of c.into_parts-shelf.result.1) c.wanted.result.now c.mark_added.new.table c.mark_missing.new.table c.into_parts-shelf.ensures.core c.wanted.ensures c.mark_added.ensures c.mark_missing.ensures)
 
 pub returns-clause-sound : goal.returns-clause-sound

@@ -1,7 +1,7 @@
 use Rattle.std.proofs.Common.{sym, subst}
 use Rattle.lvm_session.specs.Fields.{core_of}
 use Rattle.lvm_session.specs.State.{Core, state}
-use Rattle.lvm_handover.specs.passed.Names.{IsSoundBetween}
+use Rattle.lvm_handover.specs.passed.Names.{IsSoundAtRest}
 use Rattle.lvm_handover.proofs.SettlingLemmas.Resting.{is_between, is_settled}
 use Rattle.lvm_handover.proofs.handover.settle.Goals as goal
 
@@ -13,8 +13,8 @@ returns-clause-between g c = is_between (state (g.S.Shelf.device c.args.driver.0
 
 pub from_parts-requires-clause-sound : goal.from_parts-requires-clause-sound
 from_parts-requires-clause-sound g c =
-    subst (λ shelf. IsSoundBetween (state (g.S.Shelf.device shelf) (core_of c.into_parts-shelf.result.1))) (sym c.into_parts-shelf.ensures.shelf)
-    (subst (λ (core : Core). IsSoundBetween (state (g.S.Shelf.device c.args.driver.0) core)) (sym c.into_parts-shelf.ensures.core)
+    subst (λ shelf. IsSoundAtRest (state (g.S.Shelf.device shelf) (core_of c.into_parts-shelf.result.1))) (sym c.into_parts-shelf.ensures.shelf)
+    (subst (λ (core : Core). IsSoundAtRest (state (g.S.Shelf.device c.args.driver.0) core)) (sym c.into_parts-shelf.ensures.core)
     (is_between (state (g.S.Shelf.device c.args.driver.0) c.args.driver.1) c.into_parts-shelf.ensures.sound c.requires.may))
 
 pub returns-clause-sound : goal.returns-clause-sound

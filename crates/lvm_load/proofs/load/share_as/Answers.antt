@@ -2,14 +2,14 @@ use Rattle.std.proofs.Common.{◌≡◌, ◌<◌, refl, sym, ap, ◌∙◌, subs
 use Rattle.std.specs.Prelude.{IfSome}
 use Rattle.lvm_session.specs.State.{State, state_of}
 use Rattle.lvm_driver.specs.Showing.{image_of}
-use Rattle.lvm_turn.specs.Calls.{IsIdle}
+use Rattle.lvm_turn.specs.Calls.{IsIdlePass}
 use Rattle.lvm_turn.specs.Views.{HoldsAll, View, counted, up_to}
 use Rattle.lvm_turn.proofs.CallsLemmas.Idle.{idle_all}
 use Rattle.lvm_workers.specs.declared.crew.Crew.{Crew}
 use Rattle.lvm_workers.specs.Crews.{seats}
 use Rattle.lvm_load.specs.declared.lent.Lent.{Lent}
 use Rattle.lvm_load.specs.Lending.{IsServing, Plan, counts_in}
-use Rattle.lvm_load.specs.Loading.{HasLoaded, IsFresh, crew_of}
+use Rattle.lvm_load.specs.Loading.{HasLoaded, NoneHasBegun, crew_of}
 use Rattle.lvm_load.proofs.LoadingLemmas.{crew_same, has_loaded, renewed_fresh, seats_more, seats_some, serves_first}
 use Rattle.lvm_load.proofs.load.share_as.Goals as goal
 
@@ -70,8 +70,8 @@ returns-in-Ok-run_crew-clause-made g c =
     let worked = c.in-Ok-run_crew.ensures in
     let is = c.requires.plan in
     let y : Lent g.row.S.Denot g.row.J.Denot = c.close.result in
-    let fresh : IsFresh plan.first.core.history.facts = subst (λ (p : Plan). IsFresh p.first.core.history.facts) (sym is) c.requires.fresh in
-    let idle : IsIdle c.in-Ok.made.0.table (counted (seats load.sync load.threads)) c.in-Ok-run_crew.pass = subst (λ (k : Crew). IsIdle c.in-Ok.made.0.table (counted (seats load.sync k.threads)) c.in-Ok-run_crew.pass) crew worked.idle in
+    let fresh : NoneHasBegun plan.first.core.history.facts = subst (λ (p : Plan). NoneHasBegun p.first.core.history.facts) (sym is) c.requires.fresh in
+    let idle : IsIdlePass c.in-Ok.made.0.table (counted (seats load.sync load.threads)) c.in-Ok-run_crew.pass = subst (λ (k : Crew). IsIdlePass c.in-Ok.made.0.table (counted (seats load.sync k.threads)) c.in-Ok-run_crew.pass) crew worked.idle in
     let made = crew_same _ _ _ _ _ crew worked.made in
     let front : c.in-Ok.made.1.knows.front ≡ plan.first.core.history.facts = ap (λ (v : View). v.front) c.in-Ok.ensures.knows ∙ sym (ap (λ (p : Plan). p.first.core.history.facts) is) in
     let counts : c.in-Ok.made.1.knows.counts ≡ counts_in plan.first = ap (λ (v : View). v.counts) c.in-Ok.ensures.knows ∙ sym (ap (λ (p : Plan). counts_in p.first) is) in

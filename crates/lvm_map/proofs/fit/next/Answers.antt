@@ -2,7 +2,7 @@ use Rattle.std.proofs.Common.{◌≡◌, ℕ, ◌-◌, ◌%◌, ◌≤◌, false
 use Rattle.std.proofs.lemmas.Bool.Decides.{nat_tests}
 use Rattle.std.proofs.lemmas.List.{take_rest}
 use Rattle.lvm_num.specs.declared.place.Pp.{Pp}
-use Rattle.lvm_map.specs.Room.{Takes}
+use Rattle.lvm_map.specs.Room.{TakesFirstFree}
 use Rattle.lvm_map.proofs.fit.next.Goals as goal
 
 not_below : (m n : ℕ) → n ≤ m → nat_lt m n ≡ false
@@ -16,5 +16,5 @@ returns-else-copy-kept c =
     let others : take (length front - (length front - length front % c.args.copies)) (drop (length front - length front % c.args.copies) front) ≡ drop (length front - length front % c.args.copies) front =
     take_rest front (length front - length front % c.args.copies) in
     rw (not_below (length front % c.args.copies) c.args.kept past)
-    (subst (λ (pps : List Pp). Takes pps c.args.room.now c.take.new.self c.take.result) others
-    (subst (λ n. Takes (take (length front - (length front - length front % n)) (drop (length front - length front % n) front)) c.args.room.now c.take.new.self c.take.result) c.from-copies.ensures c.take.ensures))
+    (subst (λ (pps : List Pp). TakesFirstFree pps c.args.room.now c.take.new.self c.take.result) others
+    (subst (λ n. TakesFirstFree (take (length front - (length front - length front % n)) (drop (length front - length front % n) front)) c.args.room.now c.take.new.self c.take.result) c.from-copies.ensures c.take.ensures))

@@ -1,10 +1,10 @@
 use Rattle.std.proofs.Common.{sym, subst}
 use Rattle.lvm_parse.specs.Words.{count_in}
 use Rattle.lvm_parse.specs.Reading.{operand}
-use Rattle.lvm_parse.specs.Rests.{left, word_at, Reads}
+use Rattle.lvm_parse.specs.Rests.{left, word_at, ReadsAlike}
 use Rattle.lvm_parse.proofs.ReadingLemmas.NextWord.{operand_is}
 use Rattle.lvm_parse.proofs.operands.count.Goals as goal
 
 pub returns : goal.returns
 returns c =
-    subst (Reads (operand count_in (left c.args.rest))) (sym c.fit.ensures) (operand_is count_in (left c.args.rest) (word_at c.in_ok-word.word) c.in_ok-word.rest c.count_of.result c.in_ok-word.ensures c.count_of.ensures)
+    subst (ReadsAlike (operand count_in (left c.args.rest))) (sym c.fit.ensures) (operand_is count_in (left c.args.rest) (word_at c.in_ok-word.word) c.in_ok-word.rest c.count_of.result c.in_ok-word.ensures c.count_of.ensures)

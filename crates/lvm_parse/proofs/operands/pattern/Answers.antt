@@ -1,10 +1,10 @@
 use Rattle.std.proofs.Common.{sym, subst}
 use Rattle.lvm_parse.specs.Words.{word_in}
 use Rattle.lvm_parse.specs.Reading.{operand}
-use Rattle.lvm_parse.specs.Rests.{left, word_at, Reads}
+use Rattle.lvm_parse.specs.Rests.{left, word_at, ReadsAlike}
 use Rattle.lvm_parse.proofs.ReadingLemmas.NextWord.{operand_is}
 use Rattle.lvm_parse.proofs.operands.pattern.Goals as goal
 
 pub returns : goal.returns
 returns c =
-    subst (Reads (operand word_in (left c.args.rest))) (sym c.fit.ensures) (operand_is word_in (left c.args.rest) (word_at c.in_ok-word.word) c.in_ok-word.rest c.hex_word.result c.in_ok-word.ensures c.hex_word.ensures)
+    subst (ReadsAlike (operand word_in (left c.args.rest))) (sym c.fit.ensures) (operand_is word_in (left c.args.rest) (word_at c.in_ok-word.word) c.in_ok-word.rest c.hex_word.result c.in_ok-word.ensures c.hex_word.ensures)

@@ -1,5 +1,5 @@
 use Rattle.std.proofs.Common.{◌∙◌, Option, IfSome, refl, sym, subst}
-use Rattle.lvm_load.specs.Loading.{IsFresh}
+use Rattle.lvm_load.specs.Loading.{NoneHasBegun}
 use Rattle.lvm_session.specs.State.{Core}
 use Rattle.lvm_top.specs.passed.HolderVariants as holder
 use Rattle.lvm_top.specs.passed.GroupLines.{Holder, session_of}
@@ -18,7 +18,7 @@ pub load-requires-clause-on : goal.load-requires-clause-on
 load-requires-clause-on g c = λ κs outlives. serving_on g.S.Shelf.device c.args.stage c.in-Serving.driver c.in-Serving.is (c.requires.between (λ stuck. ok_heard (sym (c.is_ok.ensures.0 c.if-not-is_ok.false) ∙ stuck)))
 
 pub load-requires-clause-fresh : goal.load-requires-clause-fresh
-load-requires-clause-fresh g c = λ κs outlives. subst (λ (h : Holder _). IfSome (session_of h) (λ (core : Core). IsFresh core.history.facts)) c.in-Serving.is (c.requires.fresh (c.is_ok.ensures.0 c.if-not-is_ok.false))
+load-requires-clause-fresh g c = λ κs outlives. subst (λ (h : Holder _). IfSome (session_of h) (λ (core : Core). NoneHasBegun core.history.facts)) c.in-Serving.is (c.requires.fresh (c.is_ok.ensures.0 c.if-not-is_ok.false))
 
 pub returns-clause-ends : goal.returns-clause-ends
 returns-clause-ends g c =

@@ -8,7 +8,7 @@ use Rattle.lvm_program.specs.Sim.{full_room}
 use Rattle.lvm_program.specs.Woven.{untold}
 use Rattle.lvm_words.specs.declared.job.Job.{Job}
 use Rattle.lvm_words.specs.declared.job.Job.TheVariants.{Load, Sim, Weave}
-use Rattle.lvm_words.specs.Words.{IsWithin, job_of}
+use Rattle.lvm_words.specs.Words.{IsJobWithinLimits, job_of}
 use Rattle.lvm_program.proofs.ProgramLemmas.{no_sim, on_drawn, on_load_at, on_sim_at, on_weave_at, unread_generates, unread_loads, unread_promises, unread_tells}
 use Rattle.lvm_program.proofs.SimLemmas.{sim_promises}
 use Rattle.lvm_program.proofs.WovenLemmas.Woven.{sim_weaves}
@@ -45,7 +45,7 @@ returns-in-Load-clause-load g c =
 pub returns-in-Ok-blank_shelf-clause-sim : goal.returns-in-Ok-blank_shelf-clause-sim
 returns-in-Ok-blank_shelf-clause-sim g c =
     let is : job_of c.args.words.now ≡ Ok (Sim c.in-Sim.disks c.in-Sim.mib) = c.in-Ok.ensures.job ∙ ap (λ (j : Job). Ok j) c.in-Sim.is in
-    let within = subst IsWithin c.in-Sim.is c.in-Ok.ensures.within in
+    let within = subst IsJobWithinLimits c.in-Sim.is c.in-Ok.ensures.within in
     on_sim_at _ c.in-Sim.disks c.in-Sim.mib is _ (sim_promises _ _ c.in-Sim.disks c.in-Sim.mib within.1 c.in-Ok-blank_shelf.ensures.device c.run_script-ended.ensures.run c.full_room-in-Ok-blank_shelf.ensures, tt)
 
 pub returns-in-Ok-blank_shelf-2-clause-drawn : goal.returns-in-Ok-blank_shelf-2-clause-drawn
@@ -53,6 +53,6 @@ returns-in-Ok-blank_shelf-2-clause-drawn g c =
     let disks = c.in-Weave.disks in
     let mib = c.in-Weave.mib in
     let is : job_of c.args.words.now ≡ Ok (Weave disks mib c.in-Weave.clients c.in-Weave.requests c.in-Weave.seed) = c.in-Ok.ensures.job ∙ ap (λ (j : Job). Ok j) c.in-Weave.is in
-    let within = subst IsWithin c.in-Weave.is c.in-Ok.ensures.within in
+    let within = subst IsJobWithinLimits c.in-Weave.is c.in-Ok.ensures.within in
     on_weave_at _ disks mib c.in-Weave.clients c.in-Weave.requests c.in-Weave.seed is _ _
     ((sim_weaves disks mib (within.0, within.1, within.2, within.3) _ _ _ c.in-Ok-blank_shelf-2.ensures.device c.run_weave-ended.ensures.run c.full_room-in-Ok-blank_shelf-2.ensures, c.run_weave-ended.ensures.asked), tt)

@@ -9,7 +9,7 @@ use Rattle.lvm_group_lines.proofs.passed.Tie.{path_frames, stays_unstuck}
 use Rattle.lvm_posts.specs.declared.posts.Post.{Post}
 use Rattle.lvm_posts.specs.Pieces.{IsLaidOut}
 use Rattle.lvm_group_lines.specs.declared.stage.Stage.{Stage}
-use Rattle.lvm_group_lines.specs.Stages.{HaveRooms, IsEnded}
+use Rattle.lvm_group_lines.specs.Stages.{HaveRooms, SessionIsClosed}
 use Rattle.lvm_range_lines.specs.Waiting.{AllHaveLanded, IsAwaited, TurnsForPosts}
 use Rattle.lvm_range_lines.proofs.LeavingLemmas.Posting.{table_posts}
 use Rattle.lvm_range_lines.proofs.TakingLemmas.Landed.{fits_on}
@@ -66,6 +66,6 @@ returns-in-Err g c =
     (subst (λ n. RoseBy (n - left) (device first.0).counts.waits (device mid.0).counts.waits) c.whole-patience.ensures made.waited)
     (table_posts first.1 mid.1 made.table c.args.posts.items c.requires.between.posted)
     (subst (λ (ps : List Post). IsAwaited ps (state_of device mid)) c.deref.ensures.value vain.0) vain.1
-    stage (subst (λ (s : Stage g.row.S.Denot). IsEnded device mid c.args.posts.items s) (sym c.refused.ensures.stage) c.ended.ensures.ended)
+    stage (subst (λ (s : Stage g.row.S.Denot). SessionIsClosed device mid c.args.posts.items s) (sym c.refused.ensures.stage) c.ended.ensures.ended)
     (subst (λ (s : Stage g.row.S.Denot). HaveRooms first.1.history.room s.posts s.bytes) (sym c.refused.ensures.stage) (c.ended.ensures.rooms first.1.history.room c.requires.fits.rooms))
     c.refused.result.reply c.refused.ensures.reply

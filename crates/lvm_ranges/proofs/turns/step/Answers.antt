@@ -1,6 +1,6 @@
 use Rattle.std.proofs.Common.{◌≡◌, refl, subst, arith}
 use Rattle.lvm_session.specs.State.{state_of}
-use Rattle.lvm_ranges.specs.Stepping.{AllMoved, Moves}
+use Rattle.lvm_ranges.specs.Stepping.{AllMoved, MovesTurns}
 use Rattle.lvm_ranges.proofs.LandingLemmas.{votes_with, with_turn}
 use Rattle.lvm_ranges.proofs.SteppingLemmas.{last_step, no_step, one_step}
 use Rattle.lvm_ranges.proofs.turns.step.Goals as goal
@@ -35,7 +35,7 @@ returns g c =
     let so_far = c.loop-moved.invariant in
     let last : c.loop-moved.moved ≡ c.args.turns = omega arith in
     record {
-      ends = AllMoved refl refl (subst (λ n. Moves (state_of device c.args.driver.now) n (state_of device c.loop-moved.driver)) last so_far.moves);
+      ends = AllMoved refl refl (subst (λ n. MovesTurns (state_of device c.args.driver.now) n (state_of device c.loop-moved.driver)) last so_far.moves);
       table = so_far.on.table;
       runs = so_far.on.runs;
       votes = votes_with (state_of device c.args.driver.now) (state_of device c.loop-moved.driver) so_far.on;

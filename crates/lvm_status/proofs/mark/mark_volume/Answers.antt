@@ -3,7 +3,7 @@ use Rattle.std.specs.Prelude.{All}
 use Rattle.lvm_num.specs.declared.place.Pp.{Pp}
 use Rattle.lvm_num.specs.Descriptor.{copies_of}
 use Rattle.lvm_num.specs.Disks.{has}
-use Rattle.lvm_status.specs.Marking.{IsLeft, Marks, HasMark}
+use Rattle.lvm_status.specs.Marking.{IsLostCopy, MarksLost, HasMark}
 use Rattle.lvm_status.proofs.MarkingLemmas.{markable_same, markable_copies, below_more}
 use Rattle.lvm_status.proofs.mark.mark_volume.Goals as goal
 
@@ -15,4 +15,4 @@ mark_copies-requires-clause-markable c =
 pub loop-lp-preserved : goal.loop-lp-preserved
 loop-lp-preserved c =
     below_more (has c.args.answering) c.args.table.now c.loop-lp.table c.mark_copies.new.table c.args.volume.now c.loop-lp.lp c.loop-lp.invariant
-    (subst (λ (ps : List Pp). Marks (has c.args.answering) (IsLeft (has c.args.answering) c.loop-lp.table ps) c.loop-lp.table c.mark_copies.new.table) c.copies_of.ensures c.mark_copies.ensures)
+    (subst (λ (ps : List Pp). MarksLost (has c.args.answering) (IsLostCopy (has c.args.answering) c.loop-lp.table ps) c.loop-lp.table c.mark_copies.new.table) c.copies_of.ensures c.mark_copies.ensures)

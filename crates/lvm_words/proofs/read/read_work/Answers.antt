@@ -3,7 +3,7 @@ use Rattle.std.specs.Prelude.{ok_or}
 use Rattle.clap.specs.Words.{Text, fault_of, subcommand_of}
 use Rattle.lvm_words.specs.CommandLine.{lvm_app}
 use Rattle.lvm_words.specs.Matched.{job_matched}
-use Rattle.lvm_words.specs.Words.{IsWithin, work_of}
+use Rattle.lvm_words.specs.Words.{IsJobWithinLimits, work_of}
 use Rattle.lvm_words.specs.declared.job.Job.{Job}
 use Rattle.lvm_words.specs.declared.fault.WordsFault.{WordsFault}
 use Rattle.lvm_words.specs.declared.fault.WordsFault.TheVariants.{Usage}
@@ -20,7 +20,7 @@ returns-in_err-matches-clause-usage c is =
     none_asked c.args.words.now c.in_ok-plain.ensures.plain (λ free. c.in_err-matches.ensures.usage (ap Err same) (ap (fault_of lvm_app) words_are ∙ free))
 
 -- the job that was found, as the answer
-answered : (c : goal.After-drop-plain-2) → (j : Job) × (c.ok_or.result ≡ Ok j) × (work_of c.args.words.now ≡ Ok j) × IsWithin j
+answered : (c : goal.After-drop-plain-2) → (j : Job) × (c.ok_or.result ≡ Ok j) × (work_of c.args.words.now ≡ Ok j) × IsJobWithinLimits j
 answered c =
     let words_are : map (λ w. w.now) c.as_slice.result.now ≡ c.args.words.now = ap (map (λ (w : Bor Text). w.now)) c.as_slice.ensures.value ∙ c.in_ok-plain.ensures.same in
     let found = job_found c.args.words.now c.in_ok-plain.ensures.plain (ap (fault_of lvm_app) (sym words_are) ∙ c.in_ok-matches.ensures.faultless) c.job_in.result
@@ -34,4 +34,4 @@ pub returns-clause-usage : goal.returns-clause-usage
 returns-clause-usage c is = let job = answered c in absurd (cc)
 
 pub returns-clause-within : goal.returns-clause-within
-returns-clause-within c = let job = answered c in subst (λ (r : Result Job WordsFault). IfOk r IsWithin) (sym job.1) job.3
+returns-clause-within c = let job = answered c in subst (λ (r : Result Job WordsFault). IfOk r IsJobWithinLimits) (sym job.1) job.3

@@ -1,10 +1,10 @@
 use Rattle.std.proofs.Common.{◌≡◌, ◌+◌, suc, List, sym, ap, ◌∙◌, subst, arith}
-use Rattle.lvm_turn.specs.Calls.{IsIdle}
-use Rattle.lvm_turn.specs.Views.{Client, Holds, Standing, View, counted, up_to}
+use Rattle.lvm_turn.specs.Calls.{IsIdlePass}
+use Rattle.lvm_turn.specs.Views.{Client, HoldsClient, Standing, View, counted, up_to}
 use Rattle.lvm_workers.specs.declared.service.Asked.{Asked}
 use Rattle.lvm_workers.specs.declared.work.Tally.{Tally}
 use Rattle.lvm_workers.specs.Crews.{AllMade, begun_over}
-use Rattle.lvm_workers.specs.Knowing.{HasCause, Knows, MayEnd, Refused, RefusedAs}
+use Rattle.lvm_workers.specs.Knowing.{TallyHasCause, Knows, MayEnd, Refused, RefusedAs}
 use Rattle.lvm_workers.proofs.BringingLemmas.{err_holds, ok_holds, other_idle, rest_at, rest_holds, rest_outside, whole_back, whole_begun, whole_cause, whole_end, whole_ended, whole_idle, whole_knows, whole_made}
 use Rattle.lvm_workers.proofs.CrewsLemmas.{holds_last}
 use Rattle.lvm_workers.proofs.KnowingLemmas.{refused_as_on, refused_on}
@@ -15,7 +15,7 @@ split-other-requires-clause-holds g c =
     let n = c.args.crew.now.threads in
     let k = c.args.crew.now.threads + 1 in
     let e : k ≡ suc n = omega arith in
-    subst (λ (xs : List Client). Holds xs k) (sym (c.requires.holds ∙ ap up_to e)) (holds_last n k e)
+    subst (λ (xs : List Client). HoldsClient xs k) (sym (c.requires.holds ∙ ap up_to e)) (holds_last n k e)
 
 pub work_and_bring-worked-requires-clause-at : goal.work_and_bring-worked-requires-clause-at
 work_and_bring-worked-requires-clause-at g c = λ κs within.
@@ -84,7 +84,7 @@ returns-in-Ok-clause-idle g c =
     let w = c.in-Ok.pass in
     let q = c.take_in.new.pass in
     let met = c.take_in.ensures in
-    whole_idle table n k e p p1 o o1 at outside held kept given brought w q met.joined met.front (ok_holds (λ (r : Standing × Tally). IsIdle table (counted n) r.0) c.work_and_bring-worked.result.0 (c.in-Ok.pass, c.in-Ok.tally) c.in-Ok.is c.work_and_bring-worked.ensures.idle)
+    whole_idle table n k e p p1 o o1 at outside held kept given brought w q met.joined met.front (ok_holds (λ (r : Standing × Tally). IsIdlePass table (counted n) r.0) c.work_and_bring-worked.result.0 (c.in-Ok.pass, c.in-Ok.tally) c.in-Ok.is c.work_and_bring-worked.ensures.idle)
 
 pub returns-in-Ok-clause-knows : goal.returns-in-Ok-clause-knows
 returns-in-Ok-clause-knows g c =
@@ -195,7 +195,7 @@ returns-in-Ok-clause-cause g c =
     let q = c.take_in.new.pass in
     let met = c.take_in.ensures in
     whole_cause table n k e p p1 o o1 at outside held kept given brought w q met.joined met.front _ (refused_on g.E.Shown.tells g.E.Past.past g.E.Shown.always g.E.Service.refuses) g.E.Service.waits c.take_in.ensures.waits c.in-Ok.tally
-    (ok_holds (λ (r : Standing × Tally). HasCause (Refused g.E.Shown.tells g.E.Past.past g.E.Shown.always g.E.Service.refuses) g.E.Service.waits p1.knows r.0.knows r.1) c.work_and_bring-worked.result.0 (c.in-Ok.pass, c.in-Ok.tally) c.in-Ok.is c.work_and_bring-worked.ensures.cause)
+    (ok_holds (λ (r : Standing × Tally). TallyHasCause (Refused g.E.Shown.tells g.E.Past.past g.E.Shown.always g.E.Service.refuses) g.E.Service.waits p1.knows r.0.knows r.1) c.work_and_bring-worked.result.0 (c.in-Ok.pass, c.in-Ok.tally) c.in-Ok.is c.work_and_bring-worked.ensures.cause)
 
 pub returns-in-Err-clause-err : goal.returns-in-Err-clause-err
 returns-in-Err-clause-err g c =

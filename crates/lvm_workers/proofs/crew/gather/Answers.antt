@@ -1,13 +1,13 @@
 use Rattle.std.proofs.Common.{rules, arith, ◌≡◌, ◌⊎◌, inr, suc, ◌+◌, ◌-◌, ◌<◌, ◌^◌, vec_len, length, List, [], ◌++◌, sym, ap, ◌∙◌, subst}
 use Rattle.crossbeam_utils.specs.Padded.{padded_value}
-use Rattle.lvm_turn.specs.Calls.{IsIdle}
+use Rattle.lvm_turn.specs.Calls.{IsIdlePass}
 use Rattle.lvm_turn.specs.Views.{Client, Standing, View, counted}
 use Rattle.lvm_workers.specs.declared.service.Asked.{Asked}
 use Rattle.lvm_workers.specs.declared.work.Tally.{Tally}
 use Rattle.lvm_workers.specs.Making.{HasMade}
 use Rattle.lvm_workers.proofs.MakingLemmas.{made_for}
 use Rattle.lvm_workers.specs.Crews.{AllMade, added, begun_over, job_of, share, shares}
-use Rattle.lvm_workers.specs.Knowing.{HasCause, MayEnd, Refused, RefusedAs, first_own}
+use Rattle.lvm_workers.specs.Knowing.{TallyHasCause, MayEnd, Refused, RefusedAs, first_own}
 use Rattle.lvm_workers.proofs.KnowingLemmas.{cause_both, cause_on, end_on, knows_itself, knows_further, met_knows, met_other, refused_as_on, refused_on}
 use Rattle.lvm_workers.proofs.CrewsLemmas.{all_for, begun_both, last_done, made_both, none_made, others_done, room_for_both, shares_all, shares_few, taken_in}
 use Rattle.lvm_workers.proofs.crew.gather.Goals as goal
@@ -20,12 +20,12 @@ loop-worker-init g c =
     let idle = c.requires.idle in
     let held : c.args.pass.now.knows.clients ≡ [] = none_made c.args.pass.now.knows.clients idle.holds in (
       omega arith,
-      subst (λ m. IsIdle c.args.turn.now.table (counted m) c.args.pass.now) (sym rest) idle,
+      subst (λ m. IsIdlePass c.args.turn.now.table (counted m) c.args.pass.now) (sym rest) idle,
       knows_itself c.args.pass.now.knows,
       subst (λ (xs : List Client). AllMade g.E.Service.asks (MayEnd (RefusedAs g.E.Shown.tells g.E.Past.past g.E.Shown.always g.E.Service.refuses) g.E.Service.waits c.args.pass.now.knows c.args.pass.now.knows) c.args.crew.now xs) (sym held) (λ k own owns. absurd owns),
       ap (λ (t : Tally). t.begun) none ∙ ap begun_over (sym held),
       ap (λ (t : Tally). t.begun + t.unbegun) none ∙ ap (shares c.args.crew.now) (sym rest),
-      subst (λ t. HasCause (Refused g.E.Shown.tells g.E.Past.past g.E.Shown.always g.E.Service.refuses) g.E.Service.waits c.args.pass.now.knows c.args.pass.now.knows t) (sym none)
+      subst (λ t. TallyHasCause (Refused g.E.Shown.tells g.E.Past.past g.E.Shown.always g.E.Service.refuses) g.E.Service.waits c.args.pass.now.knows c.args.pass.now.knows t) (sym none)
           (record { unbegun = λ some_are. absurd (omega (arith, some_are)); unheard = λ is. absurd (cc is) }),
       c.requires.done.1,
     )
@@ -101,7 +101,7 @@ loop-worker-preserved g c =
       subst (λ (xs : List Client). AllMade asks end crew xs) (sym clients) (made_both asks crew end k _ c.loop-worker.pass.knows.clients worker.pass.knows.clients mine_made last.idle.holds its_made),
       ap (λ (t : Tally). t.begun) sums ∙ begun_both asks crew ((crew.threads < k) ⊎ end) k _ c.loop-worker.tally.begun c.loop-worker.pass.knows.clients worker.pass.knows.clients was.4 last.idle.holds its_made ∙ ap begun_over (sym clients),
       ap (λ (t : Tally). t.begun + t.unbegun) sums ∙ (let sum : (c.loop-worker.tally.begun + (padded_value worker.tally).begun) + (c.loop-worker.tally.unbegun + (padded_value worker.tally).unbegun) ≡ shares crew j + share crew (suc j) = omega (arith, before, part) in sum) ∙ ap (shares crew) (sym e),
-      subst (λ t. HasCause R waits first c.join.new.pass.knows t) (sym sums)
+      subst (λ t. TallyHasCause R waits first c.join.new.pass.knows t) (sym sums)
           (cause_both R stays waits grow first c.join.new.pass.knows c.loop-worker.tally (padded_value worker.tally)
           (cause_on R stays waits grow first c.loop-worker.pass.knows c.join.new.pass.knows c.loop-worker.tally mine was.6)
           (cause_on R stays waits grow first worker.pass.knows c.join.new.pass.knows (padded_value worker.tally) theirs last.cause)),

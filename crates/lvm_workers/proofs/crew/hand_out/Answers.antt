@@ -1,5 +1,5 @@
 use Rattle.std.proofs.Common.{rules, arith, below_more, ◌≡◌, suc, ◌+◌, ◌-◌, vec_len, length, get_or, List, refl, sym, ap, ◌∙◌, subst}
-use Rattle.lvm_turn.specs.Views.{Client, Holds, Standing, up_to, without}
+use Rattle.lvm_turn.specs.Views.{Client, HoldsClient, Standing, up_to, without}
 use Rattle.lvm_workers.specs.declared.crew.Worker.{Worker}
 use Rattle.lvm_workers.proofs.KnowingLemmas.{knows_itself, knows_further}
 use Rattle.lvm_workers.proofs.CrewsLemmas.{ReadyAt, holds_last, parted, ready_one, seen_further, without_last}
@@ -11,7 +11,7 @@ split-requires-clause-holds g c =
     let n = c.args.crew.now.threads - (c.loop-k.k + 1) in
     let low = c.loop-k-test.true in
     let e : k ≡ suc n = omega arith in
-    subst (λ (xs : List Client). Holds xs k) (sym (c.loop-k.invariant.2 ∙ ap up_to e)) (holds_last n k e)
+    subst (λ (xs : List Client). HoldsClient xs k) (sym (c.loop-k.invariant.2 ∙ ap up_to e)) (holds_last n k e)
 
 pub loop-k-init : goal.loop-k-init
 loop-k-init g c =

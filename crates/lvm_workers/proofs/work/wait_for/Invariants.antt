@@ -1,6 +1,6 @@
 use Rattle.std.proofs.Common.{◌≡◌, ◌<◌, ◌∷◌, []}
 use Rattle.lvm_num.specs.Counting.{RoseBy}
-use Rattle.lvm_turn.specs.Calls.{IsIdle}
+use Rattle.lvm_turn.specs.Calls.{IsIdlePass}
 use Rattle.lvm_workers.specs.Knowing.{Knows}
 use Rattle.lvm_workers.specs.Working.{own_of}
 use Rattle.lvm_workers.proofs.work.wait_for.Given as goal
@@ -8,6 +8,6 @@ use Rattle.lvm_workers.proofs.work.wait_for.Given as goal
 abbrev pub invariant-loop : goal.invariant-loop
 invariant-loop g l =
     (goal.iterator-loop g).can_next l.iterator' × (goal.iterator-loop g).is_finite l.iterator'
-    × IsIdle l.turn.table (l.client ∷ []) l.pass × Knows l.initial.pass.knows l.pass.knows × (own_of l.pass.knows ≡ own_of l.initial.pass.knows)
+    × IsIdlePass l.turn.table (l.client ∷ []) l.pass × Knows l.initial.pass.knows l.pass.knows × (own_of l.pass.knows ≡ own_of l.initial.pass.knows)
     × (l.awaited.idle < 1000000) × RoseBy l.awaited.idle (g.E.Service.waits l.initial.pass.knows.counts) (g.E.Service.waits l.pass.knows.counts)
     × (l.awaited.id ≡ l.initial.awaited.id)

@@ -10,7 +10,7 @@ use Rattle.lvm_rec.specs.Homes.{Flips}
 use Rattle.lvm_write.specs.Written.{write_of, StandsTold}
 use Rattle.lvm_write.specs.declared.begin.Begun.{Begun}
 use Rattle.lvm_write.specs.declared.begin.Begun.TheVariants as begun
-use Rattle.lvm_write.specs.Beginning.{Beginning, Part, TheDescriptor, TheStatus, TheNotes, again_beginning, again_order, brought, Stands}
+use Rattle.lvm_write.specs.Beginning.{Beginning, Part, TheDescriptor, TheStatus, TheNotes, again_beginning, again_order, brought, PartIsWritten}
 use Rattle.lvm_write.specs.Ends.{BothFlip}
 use Rattle.lvm_write.specs.Runs.{OneGives, ManyGives}
 use Rattle.lvm_write.proofs.RunsLemmas.Answering.{same_gives}
@@ -25,12 +25,12 @@ last_part forget = if forget then TheNotes ∷ [] else []
 -- the descriptor was written, and then the status, whose slots the write of the descriptor left
 records_give :
     (b : Beginning) (next : Homes) (number before between after : ℕ) (old mid new : Device) (buf : Buffer) (result : Begun) → length b.status.content ≤ 31740
-    → OneGives b.targets (brought b TheDescriptor) (Stands b TheDescriptor) number before between old mid (begun.Ended buf) → Flips kind.Descriptor b.targets b.homes next
+    → OneGives b.targets (brought b TheDescriptor) (PartIsWritten b TheDescriptor) number before between old mid (begun.Ended buf) → Flips kind.Descriptor b.targets b.homes next
     → OneGives b.targets (IsOfRecord (write_of kind.Status b.status b.targets next)) (StandsTold (write_of kind.Status b.status b.targets next)) buf.number between after mid new result
     → ManyGives b (TheDescriptor ∷ TheStatus ∷ []) number before after old new result
 records_give b next number before between after old mid new buf result fits described flips stated =
     let many : ManyGives b (TheDescriptor ∷ []) number before between old mid (begun.Ended buf) = first_gives b TheDescriptor number before between old mid (begun.Ended buf) described in
-    let one : OneGives b.targets (brought b TheStatus) (Stands b TheStatus) buf.number between after mid new result =
+    let one : OneGives b.targets (brought b TheStatus) (PartIsWritten b TheStatus) buf.number between after mid new result =
     same_gives kind.Status kind.Descriptor b.targets b.homes next b.status b.targets buf.number between after mid new result (λ e. absurd (cc (e))) flips stated in
     more_gives b (TheDescriptor ∷ []) TheStatus number before between after old mid new buf result many one
     ((λ d target. still_stands b fits TheDescriptor TheStatus mid new d (λ e. absurd (cc (e))) one.does.keeps (many.how.stand.0 d target)), tt)
@@ -58,7 +58,7 @@ returns-then-forget-clause-gives g c =
     let many : ManyGives b (TheDescriptor ∷ TheStatus ∷ []) c.args.buf.number c.args.patience.now.left c.put_record-2.new.patience.left (g.S.Shelf.device c.args.shelf.now) (g.S.Shelf.device c.put_record-2.new.shelf) (begun.Ended c.in-Ended-put_record.buf) =
     records_give b c.put_record.new.homes c.args.buf.number c.args.patience.now.left c.put_record.new.patience.left c.put_record-2.new.patience.left (g.S.Shelf.device c.args.shelf.now) (g.S.Shelf.device c.put_record.new.shelf) (g.S.Shelf.device c.put_record-2.new.shelf) c.in-Ended.buf (begun.Ended c.in-Ended-put_record.buf)
     c.requires.status c.in-Ended.ensures.gives c.in-Ended.ensures.homes c.in-Ended-put_record.ensures.gives in
-    let one : OneGives b.targets (brought b TheNotes) (Stands b TheNotes) c.in-Ended-put_record.buf.number c.put_record-2.new.patience.left c.forget_notes.new.patience.left (g.S.Shelf.device c.put_record-2.new.shelf) (g.S.Shelf.device c.forget_notes.new.shelf) c.forget_notes.result = c.forget_notes.ensures.gives in
+    let one : OneGives b.targets (brought b TheNotes) (PartIsWritten b TheNotes) c.in-Ended-put_record.buf.number c.put_record-2.new.patience.left c.forget_notes.new.patience.left (g.S.Shelf.device c.put_record-2.new.shelf) (g.S.Shelf.device c.forget_notes.new.shelf) c.forget_notes.result = c.forget_notes.ensures.gives in
     let fits : length c.args.status.now ≤ 31740 = c.requires.status in
     let keeps = one.does.keeps in
     subst (λ (forget : Bool). ManyGives b (again_order forget) c.args.buf.number c.args.patience.now.left c.forget_notes.new.patience.left (g.S.Shelf.device c.args.shelf.now) (g.S.Shelf.device c.forget_notes.new.shelf) c.forget_notes.result) (sym c.if-forget.true)

@@ -5,7 +5,7 @@ use Rattle.lvm_num.specs.declared.status.StatusRow.{StatusRow}
 use Rattle.lvm_num.specs.declared.status.Status.{Status}
 use Rattle.lvm_num.specs.Descriptor.{partitions_in}
 use Rattle.lvm_num.specs.Disks.{has}
-use Rattle.lvm_status.specs.Marking.{IsLeftIn, Marks, HasMark}
+use Rattle.lvm_status.specs.Marking.{IsLeftIn, MarksLost, HasMark}
 use Rattle.lvm_write.specs.Next.{IsNextStatus}
 use Rattle.lvm_write.specs.Rows.{AreMemberRows}
 use Rattle.lvm_write.proofs.NextLemmas.{first_valid, all_markable, next_is, passive_as, ok_more}
@@ -34,9 +34,9 @@ mark_volumes-requires-clause-markable c =
 pub returns : goal.returns
 returns c stamp =
     let first : Status = record { id = c.args.group.now.id; big = c.args.group.now.big; dirty = c.in_ok-dirty.dirty; rows = c.new.result } in
-    let marks : Marks (has c.args.answering) (IsLeftIn (has c.args.answering) first c.args.group.now.lvs) first c.mark_volumes.new.table =
-    subst (λ (s : Status). Marks (has c.args.answering) (IsLeftIn (has c.args.answering) s c.args.group.now.lvs) s c.mark_volumes.new.table) c.in_ok-table.ensures
-    (subst (λ (rows : List LvRow). Marks (has c.args.answering) (IsLeftIn (has c.args.answering) c.in_ok-table.table rows) c.in_ok-table.table c.mark_volumes.new.table) c.as_slice-3.ensures c.mark_volumes.ensures) in
+    let marks : MarksLost (has c.args.answering) (IsLeftIn (has c.args.answering) first c.args.group.now.lvs) first c.mark_volumes.new.table =
+    subst (λ (s : Status). MarksLost (has c.args.answering) (IsLeftIn (has c.args.answering) s c.args.group.now.lvs) s c.mark_volumes.new.table) c.in_ok-table.ensures
+    (subst (λ (rows : List LvRow). MarksLost (has c.args.answering) (IsLeftIn (has c.args.answering) c.in_ok-table.table rows) c.in_ok-table.table c.mark_volumes.new.table) c.as_slice-3.ensures c.mark_volumes.ensures) in
     ok_more (λ (s : Status). s ≡ c.mark_volumes.new.table) (IsNextStatus c.args.group.now (has c.args.answering) (record { stamp = stamp; value = c.args.was.now })) c.status.result
     (λ s same. subst (IsNextStatus c.args.group.now (has c.args.answering) (record { stamp = stamp; value = c.args.was.now })) (sym same)
     (next_is c.args.group.now c.requires.descriptor (has c.args.answering) c.args.was.now c.requires.status first

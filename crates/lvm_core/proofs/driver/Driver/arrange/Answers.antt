@@ -1,7 +1,7 @@
 use Rattle.std.proofs.Common.{sym, subst}
 use Rattle.lvm_session.specs.State.{Core, state}
 use Rattle.lvm_session.specs.Fields.{core_of}
-use Rattle.lvm_core.specs.Sound.{IsSoundBetween}
+use Rattle.lvm_core.specs.Sound.{IsSoundAtRest}
 use Rattle.lvm_core.proofs.SoundLemmas.Arranging.{arranged_sizes, arranged_sound}
 use Rattle.lvm_core.proofs.SoundLemmas.Dark.{may_end}
 use Rattle.lvm_core.proofs.SoundLemmas.Own.{SameSizes, rooms_stay}
@@ -18,6 +18,6 @@ invariant_of-self g c =
     let after = c.arranged.ensures in (
       rooms_stay session c.arranged.new.session c.self.invariant.0 after.rooms
           (subst (SameSizes core) (sym after.core) (arranged_sizes c.args.what c.arrange-done.result core c.self.invariant.1.none)),
-      subst (λ (core : Core). IsSoundBetween (state (device c.arrange-done.new.self) core)) (sym after.core)
+      subst (λ (core : Core). IsSoundAtRest (state (device c.arrange-done.new.self) core)) (sym after.core)
           (arranged_sound (device c.self.inside.shelf) (device c.arrange-done.new.self) core c.args.what c.arrange-done.result c.arrange-done.ensures c.self.invariant.1),
     )

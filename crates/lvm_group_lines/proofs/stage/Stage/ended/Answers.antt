@@ -2,7 +2,7 @@ use Rattle.std.proofs.Common.{refl, sym, ◌∙◌, ap, subst, arith}
 use Rattle.lvm_disk.specs.Device.{Device}
 use Rattle.lvm_session.specs.declared.open.Power.{Power}
 use Rattle.lvm_session.specs.Sound.{is_dark}
-use Rattle.lvm_group_lines.specs.Stages.{HaveRooms, IsClosed, IsEnded}
+use Rattle.lvm_group_lines.specs.Stages.{HaveRooms, IsClosed, SessionIsClosed}
 use Rattle.lvm_group_lines.specs.declared.stage.Stage.{Stage}
 use Rattle.lvm_group_lines.proofs.stage.Stage.ended.Goals as goal
 
@@ -13,7 +13,7 @@ relit-requires g c = λ dark.
 pub returns-clause-ended : goal.returns-clause-ended
 returns-clause-ended g c =
     let device = g.S.Shelf.device in
-    subst (λ (stage : Stage g.row.S.Denot). IsEnded device c.args.driver c.args.posts.items stage) (sym c.off.ensures) (record {
+    subst (λ (stage : Stage g.row.S.Denot). SessionIsClosed device c.args.driver c.args.posts.items stage) (sym c.off.ensures) (record {
       session = refl;
       shelf = subst (λ (p : Power). IsClosed p (device c.args.driver.0) (device c.relit.result)) c.power-power.ensures.is (c.relit.ensures (device c.args.driver.0) c.close-shelf.ensures.shelf);
       history = c.close-shelf.ensures.history;

@@ -1,5 +1,5 @@
 use Rattle.std.proofs.Common.{ℕ, [], ◌∷◌, ap, sym, subst, inl, refl}
-use Rattle.lvm_turn.specs.Views.{Holds}
+use Rattle.lvm_turn.specs.Views.{HoldsClient}
 use Rattle.lvm_turn.proofs.CallsLemmas.Leaving.{may_leave}
 use Rattle.lvm_turn.proofs.CallsLemmas.Idle.{idle_holds, idle_left}
 use Rattle.lvm_tests_history.proofs.tests.turn.work.Goals as goal
@@ -12,7 +12,7 @@ leave-requires-clause-may g c =
     let begun = c.begin.ensures.begun in
     let held = idle_holds c.args.turn.now.table (c.args.client ∷ []) c.loop.pass c.loop.invariant c.args.client (inl refl) in
     may_leave _ _ _ c.loop.pass.knows c.enter-desk.new.pass.knows c.enter-desk.result c.begin.new.self begun.0 c.enter-desk.ensures.entered c.enter-desk.ensures.value begun.1
-    (λ k absent. begun.2 k (λ same. absent (subst (Holds c.loop.pass.knows.clients) (sym same) held)))
+    (λ k absent. begun.2 k (λ same. absent (subst (HoldsClient c.loop.pass.knows.clients) (sym same) held)))
     (ap (λ (run : ℕ). record { numbers = run ∷ []; past = _ }) c.begin.ensures.run)
     (c.begin.ensures.lent, tt)
     tt
