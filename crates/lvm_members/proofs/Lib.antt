@@ -1,8 +1,1 @@
-pub mod BeginningLemmas
-pub mod LeavingLemmas
-pub mod MarksLemmas
-pub mod OverLemmas
-pub mod PhaseLemmas
-pub mod SendingLemmas
-pub mod StandingLemmas
-pub mod TurningLemmas
+pub mod RulesLemmas

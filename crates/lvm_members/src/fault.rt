@@ -1,4 +1,5 @@
 //! Why a group didn't change its rule of votes, or its size.
+ghost use Rattle.lvm_members.specs.Commands.{IsOfRecords, IsFaultOf};
 
 use lvm_core::CommitFault;
 
@@ -15,26 +16,21 @@ pub enum RuleFault {
     NoQuorum { have: u32, total: u32 },
     /// The history has few entries to spare, or the session few sequence numbers left.
     HistoryFull,
-    /// A transfer of the disk failed.
-    DiskFailed { disk: u16 },
     /// Nothing was heard of a transfer until the patience had run out.
     Stuck,
     /// Want of memory.
     Memory,
 }
 
-impl From<CommitFault> for RuleFault {
-    ghost use Rattle.std.specs.Prelude.{◌≡◌};
-    ghost use Rattle.lvm_members.specs.Commands.{fault_of};
-
-    ghost from_gives = { λ fault rule. rule ≡ fault_of fault };
-
-    fn from(fault: CommitFault) -> RuleFault {
-        match fault {
-            CommitFault::Dark => RuleFault::Dark,
-            CommitFault::WentOff { have, total } => RuleFault::WentOff { have, total },
-            CommitFault::DiskFailed { disk } => RuleFault::DiskFailed { disk },
-            CommitFault::Stuck => RuleFault::Stuck,
-        }
+// The fault of a command whose records were broken off by this one, which is of no disk's zeros.
+pub(crate) fn rule_fault(fault: CommitFault) -> RuleFault
+    requires { IsOfRecords fault }
+    ensures { IsFaultOf fault result }
+{
+    match fault {
+        CommitFault::Dark => RuleFault::Dark,
+        CommitFault::WentOff { have, total } => RuleFault::WentOff { have, total },
+        CommitFault::Stuck => RuleFault::Stuck,
+        CommitFault::DiskFailed { .. } => unreachable!(),
     }
 }

@@ -1,7 +1,9 @@
 //! The commands by which a group that is on changes its rule of votes or its size, while its members stay.
 #![tactic(auto)]
 
-mod change;
-mod turning;
+mod fault;
+mod plan;
+mod rules;
 
-pub use change::{Change, change};
+pub use fault::RuleFault;
+pub use rules::{Changed, make_big, set_quorum};
