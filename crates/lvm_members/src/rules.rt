@@ -12,7 +12,7 @@ use crate::plan::{Plan, can_take, plan_big, plan_quorum};
 use lvm_core::below::Patience;
 use lvm_core::{CommitFault, Driver};
 use lvm_disk::Shelf;
-use lvm_turnover::change;
+use lvm_turnover::make_change;
 use lvm_volume_plan::has_room;
 use std::alloc::Global;
 
@@ -105,7 +105,7 @@ fn carry_out<S: Shelf>(driver: Driver<S>, plan: Plan, patience: &mut Patience) -
 {
     match plan {
         Plan::Turn(next) => {
-            let (driver, answer) = change(driver, next, patience);
+            let (driver, answer) = make_change(driver, next, patience);
             Changed {
                 driver,
                 answer: answer_of(answer),

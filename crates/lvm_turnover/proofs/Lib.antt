@@ -1,5 +1,6 @@
 pub mod BeginningLemmas
 pub mod LeavingLemmas
+pub mod LeftLemmas
 pub mod MarksLemmas
 pub mod OverLemmas
 pub mod PhaseLemmas

@@ -105,7 +105,7 @@ module _ (c : Change) (old : State) (may : MayTurnSession c old) (turn : Turn) (
   pub over_loses : OnlyLoses b last old.device new.device
   over_loses = loses_then b first last old.device m new.device (turn_rises c old may turn by slots p q m (turned.Done written buf) gives) rises one leaves.loses
 
-  over_left : MarksLeft next b last
+  pub over_left : MarksLeft next b last
   over_left = left_then next b first last valid (loses_less b first old.device m one) (loses_less first last m new.device leaves.loses) (parts_left next (unreached old.core written) b first over.parts valid (unreached_next c old may written)) leaves.left
 
   pub over_fits : Fits old next last new.device.sizes

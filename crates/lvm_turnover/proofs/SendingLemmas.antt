@@ -11,6 +11,7 @@ use Rattle.lvm_num.specs.DescriptorBytes.{descriptor_bytes}
 use Rattle.lvm_num.specs.Record.{longest_content}
 use Rattle.lvm_num.specs.Status.{IsValidStatus}
 use Rattle.lvm_num.specs.StatusBytes.{status_bytes}
+use Rattle.lvm_num.specs.Votes.{CanWrite}
 use Rattle.lvm_disk.specs.Device.{Device}
 use Rattle.lvm_status.specs.Update.{Stored, members_there}
 use Rattle.lvm_rec.specs.declared.homes.Homes.{Homes}
@@ -123,7 +124,7 @@ module _ (c : Change) (before middle : ℕ) (old : State) (m : Device) (sent : C
       subst (λ (set : Disks). PartsWith c.records.next set (record c.updater { stamp = after_turn old.core.status.stamp }) first) (is ∙ ap (λ (set : Disks). written_well set (has written)) there_is)
       (subst (λ (x : Stamp). PartsWith c.records.next (has lost) (record c.updater { stamp = x }) first) (ap (λ (k : Core). k.status.stamp) is_sent.is) parts)
       in
-      first_may c old may written gives_done.ends.0.within first its m gives_done.ends.0.ready gives_done.keeps.sizes gives_done.ends.1.enough_too
+      first_may c old may written gives_done.ends.0.within first its m gives_done.ends.0.ready gives_done.keeps.sizes (subst (λ (g : Descriptor). CanWrite g (has written)) is_sent.by.next gives_done.ends.1.enough_too)
 
 -- ---- where the votes were too few
 

@@ -16,6 +16,7 @@ use Rattle.lvm_write.proofs.PartsLemmas.Transfers.{darkened_then, given_up_then}
 use Rattle.lvm_commit.specs.declared.commit.CommitEnd.{CommitEnd}
 use Rattle.lvm_commit.specs.declared.commit.CommitEnd.TheVariants as commit_end
 use Rattle.lvm_commit.specs.Settling.{there, IsForgotten, StatusEnds, OnlyLoses, MarksLeft}
+use Rattle.lvm_commit.proofs.RoundsLemmas.Leaving.{left_same_as}
 use Rattle.lvm_commit.proofs.SettlingLemmas.Chaining.{loses_same}
 use Rattle.lvm_session.specs.declared.open.Power.TheVariants as power
 use Rattle.lvm_session.specs.State.{Core, State, state, is_there}
@@ -41,9 +42,10 @@ use Rattle.lvm_change.proofs.PartingLemmas.{parts_only, parts_left, parts_forgot
 use Rattle.lvm_turnover.specs.declared.change.Change.{Change}
 use Rattle.lvm_turnover.specs.Turning.{IsReadyFor, MayTurnSession, TurnsSession, TakesOver, GivesUp, GoesOnWith, stamped_twice, unreached}
 use Rattle.lvm_turnover.specs.Changing.{ChangeEnds, ChangeLeaves, HasGoneOffBy, GoesOff}
-use Rattle.lvm_turnover.proofs.BeginningLemmas.{session_there, unreached_member, first_there}
+use Rattle.lvm_turnover.proofs.BeginningLemmas.{begun, begun_stale, begun_there, session_there, unreached_member, first_there}
 use Rattle.lvm_turnover.proofs.LeavingLemmas.{IsSameOrCut, change_leaves}
-use Rattle.lvm_turnover.proofs.OverLemmas.{over_ends, over_status, over_fits, over_epoch, over_writes, over_well, over_held}
+use Rattle.lvm_turnover.proofs.LeftLemmas.{left_so}
+use Rattle.lvm_turnover.proofs.OverLemmas.{over_ends, over_status, over_fits, over_epoch, over_left, over_writes, over_well, over_held}
 use Rattle.lvm_turnover.proofs.PhaseLemmas.{turn_rises, turn_only, turn_stopped, unreached_failed, some_unreached}
 use Rattle.lvm_turnover.proofs.StandingLemmas.{Fits, fits_by, sound_on, sound_off, sound_cut, sound_out, settled_on}
 
@@ -51,6 +53,7 @@ pub record Comes (next : Descriptor) (before after : ℕ) (old new : State) (ans
   pub sound : IsSoundBetween new
   pub sizes : SameSizes old.core new.core
   pub ends : ChangeEnds next before old new answer
+  pub left : MarksLeft next old.core.status new.core.status
   pub leaves : ChangeLeaves next before after old new
 
 module _ (c : Change) (old : State) (may : MayTurnSession c old) (settled_is : IsSettled old.core) (sound : IsSoundBetween old) (turn : Turn) (by : IsTurnBy c.records old.core.descriptor turn) where
@@ -73,6 +76,12 @@ module _ (c : Change) (old : State) (may : MayTurnSession c old) (settled_is : I
   fits_stopped : (m : Device) → m.sizes ≡ old.device.sizes → Fits old was u m.sizes
   fits_stopped m same = fits_still u m (loses_same u u old.device m refl refl) sound.fitting.forgotten same
 
+  same_volumes : was.lvs ≡ next.lvs
+  same_volumes = sym (ap (λ (g : Descriptor). g.lvs) may.rule.differs)
+
+  left_stopped : (last : Stored) → last ≡ u → MarksLeft next old.core.status last
+  left_stopped last is = subst (MarksLeft next old.core.status) (sym is) (left_so next was old.core.status u u same_volumes refl (λ p. refl) (left_same_as was u))
+
   -- ---- the power was cut, or nothing was heard, before both records stood
 
   module _ (slots : Homes) (p q : ℕ) (new : State) where
@@ -85,6 +94,7 @@ module _ (c : Change) (old : State) (may : MayTurnSession c old) (settled_is : I
           sound = subst (λ (k : Core). IsSoundBetween (state new.device k)) (sym is) (sound_cut old was u slots new.device (fits_stopped new.device gives.keeps.sizes) settled_is sound old.device cut);
           sizes = subst (SameSizes old.core) (sym flat) (record { most = refl; buffers = one_out_long old.core.pool });
           ends = inl (record { cut = cut; is = is ∙ ap (λ (k : Core). all_dark (record old.core { pool = with_one_out old.core.pool; status = k.status; homes = k.homes })) (sym is) });
+          left = left_stopped new.core.status (ap (λ (k : Core). k.status) is);
           leaves = change_leaves next p q old new (turn_stopped c old may turn by slots p q new.device turned.Dark gives new.core (ap (λ (k : Core). k.status) is)) (inr (ap (λ (k : Core). k.history) flat));
         }
 
@@ -96,6 +106,7 @@ module _ (c : Change) (old : State) (may : MayTurnSession c old) (settled_is : I
           sound = subst (λ (k : Core). IsSoundBetween (state new.device k)) (sym is) (sound_out old was u slots new.device (fits_stopped new.device gives.keeps.sizes) settled_is sound p old.device out);
           sizes = subst (SameSizes old.core) (sym is) (record { most = refl; buffers = one_out_long old.core.pool });
           ends = inl (record { out = out; is = is ∙ ap (λ (k : Core). record old.core { pool = with_one_out old.core.pool; status = k.status; homes = k.homes }) (sym is) });
+          left = left_stopped new.core.status (ap (λ (k : Core). k.status) is);
           leaves = change_leaves next p q old new (turn_stopped c old may turn by slots p q new.device turned.Stuck gives new.core (ap (λ (k : Core). k.status) is)) (inl (ap (λ (k : Core). k.history) is));
         }
 
@@ -167,6 +178,7 @@ module _ (c : Change) (old : State) (may : MayTurnSession c old) (settled_is : I
         sound = subst (λ (k : Core). IsSoundBetween (state new.device k)) (sym up.is) (sound_off old was new.core.status slots new.device fits_here settled_is sound back.ready);
         sizes = subst (SameSizes old.core) (sym up.is) (record { most = refl; buffers = refl });
         ends = subst (ChangeEnds next p old new) (sym up.answer_is) goes_off;
+        left = left_so next was old.core.status u new.core.status same_volumes refl (λ p. refl) left;
         leaves = change_leaves next p q old new (turn_only c old may turn by slots p q new.device (turned.WentOff have total written buf) gives new.core (parts_stamp was (unreached old.core written) u new.core.status up.parts) loses left) (inl (ap (λ (k : Core). k.history) up.is));
       }
 
@@ -182,6 +194,10 @@ module _ (c : Change) (old : State) (may : MayTurnSession c old) (settled_is : I
 
     leaves_so : IsSameOrCut old.core.history new.core.history → ChangeLeaves next p r old new
     leaves_so log = change_leaves next p r old new (over_writes c old may turn by slots p q r m written buf gives new answer over settled_is.quiet.buffers) log
+
+    left_over : MarksLeft next old.core.status new.core.status
+    left_over = left_so next next old.core.status (begun c old may) new.core.status refl (λ t e. (begun_there c old may e ∙ sym (ap (λ (set : Disks). set e) (session_there c old may))) t) (begun_stale c old may)
+        (over_left c old may turn by slots p q r m written buf gives new answer over settled_is.quiet.buffers)
 
     next_there : new.core.descriptor ≡ next → is_there new.core ≡ there new.core.status
     next_there is = ap (λ (d : Descriptor). members_there d new.core.status.wanted) is ∙ sym (there_is next new.core.status fits_next.own)
@@ -201,6 +217,7 @@ module _ (c : Change) (old : State) (may : MayTurnSession c old) (settled_is : I
             cuts = ends.back.cuts ∙ back_over.cuts;
             held = λ held. subst (IsHeld new.device) (sym goes.1) (holds_session new.device old.core next new.core.status new.core.homes fits_next.own (over_held c old may turn by slots p q r m written buf gives new answer over settled_is.quiet.buffers ends.held held));
           });
+          left = left_over;
           leaves = leaves_so (inl (ap (λ (k : Core). k.history) goes.1));
         }
         by_how (commit_end.WentOff have total end) ends goes =
@@ -220,6 +237,7 @@ module _ (c : Change) (old : State) (may : MayTurnSession c old) (settled_is : I
                 ready = ends.back.ready;
                 cuts = ends.back.cuts ∙ back_over.cuts;
               })));
+              left = left_over;
               leaves = leaves_so (inl (ap (λ (k : Core). k.history) goes.1));
             }
         by_how commit_end.Dark ends goes =
@@ -228,12 +246,14 @@ module _ (c : Change) (old : State) (may : MayTurnSession c old) (settled_is : I
               sound = subst (λ (k : Core). IsSoundBetween (state new.device k)) (sym goes.1) (sound_cut old next new.core.status new.core.homes new.device fits_next settled_is sound m ends.0);
               sizes = subst (SameSizes old.core) (sym flat) (record { most = refl; buffers = one_out_long old.core.pool });
               ends = subst (ChangeEnds next p old new) (sym goes.0) (inr (record { cut = darkened_then 0 0 old.device m new.device refl back_over.cuts ends.0; is = goes.1 }));
+              left = left_over;
               leaves = leaves_so (inr (ap (λ (k : Core). k.history) flat));
             }
         by_how commit_end.Stuck ends goes = record {
           sound = subst (λ (k : Core). IsSoundBetween (state new.device k)) (sym goes.1) (sound_out old next new.core.status new.core.homes new.device fits_next settled_is sound q m ends.0);
           sizes = subst (SameSizes old.core) (sym goes.1) (record { most = refl; buffers = one_out_long old.core.pool });
           ends = subst (ChangeEnds next p old new) (sym goes.0) (inr (record { out = given_up_then 0 0 p q old.device m new.device refl back_over.cuts gives.spends ends.0; is = goes.1 }));
+          left = left_over;
           leaves = leaves_so (inl (ap (λ (k : Core). k.history) goes.1));
         }
 

@@ -1,6 +1,7 @@
 //! A group that is on turns to a next descriptor, by which it has the same members.
 ghost use Rattle.std.specs.Prelude.{◌≡◌, IfOk};
 ghost use Rattle.lvm_num.specs.Descriptor.{IsValid};
+ghost use Rattle.lvm_commit.specs.Settling.{MarksLeft};
 ghost use Rattle.lvm_session.specs.State.{is_there};
 ghost use Rattle.lvm_core.specs.State.{state_of};
 ghost use Rattle.lvm_core.specs.Settled.{IsSettled, HasSpareNumbers};
@@ -50,7 +51,7 @@ impl Change {
 /// stood, by the next one; the session is off then. `Dark`, and the session has ended; a cut is entered. `Stuck`, and the transfer is out with the buffer:
 /// nothing can be committed any more, only looked at, and the session closed. After each of them the next descriptor may be found when the group is
 /// varied on again.
-pub fn change<S: Shelf>(
+pub fn make_change<S: Shelf>(
     driver: Driver<S>,
     change: Change,
     patience: &mut Patience,
@@ -61,9 +62,16 @@ pub fn change<S: Shelf>(
     requires rule { MayChangeRule driver.1.descriptor change.records.next (is_there driver.1) }
     ensures ends { ChangeEnds change.records.next patience.old.left (state_of S.device driver) (state_of S.device result.0) result.1 }
     // whatever the answer
+    ensures left { MarksLeft change.records.next driver.1.status result.0.1.status }
     ensures leaves { ChangeLeaves change.records.next patience.old.left patience.new.left (state_of S.device driver) (state_of S.device result.0) }
 {
     let (mut shelf, mut session) = driver.into_parts();
-    let answer = turn_session(&mut session, &mut shelf, change, patience);
+    let answer = turn_session(
+        &mut session,
+        &mut shelf,
+        change.records,
+        change.updater,
+        patience,
+    );
     (Driver::from_parts(shelf, session), answer)
 }

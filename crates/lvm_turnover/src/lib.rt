@@ -4,4 +4,4 @@
 mod change;
 mod turning;
 
-pub use change::{Change, change};
+pub use change::{Change, make_change};

@@ -17,7 +17,6 @@ ghost use Rattle.lvm_core.specs.Steps.{EndsAs};
 ghost use Rattle.lvm_change.specs.Parting.{PartsWith};
 ghost use Rattle.lvm_turnover.specs.Turning.{MaySend, MayTurnSession, IsSent, IsSettledBy, TurnsSession};
 
-use crate::change::Change;
 use lvm_change::{Records, Turned, next_stamp, part_with, turn_over, without};
 use lvm_commit::{CommitEnd, commit_status};
 use lvm_core::CommitFault;
@@ -32,26 +31,22 @@ use lvm_status::{Updater, members_there};
 pub fn turn_session<S: Shelf>(
     session: &mut Session,
     shelf: &mut S,
-    change: Change,
+    records: Records,
+    updater: Updater,
     patience: &mut Patience,
 ) -> Result<(), CommitFault>
     requires some { 1 ≤ length session.old.pool }
     requires buffers { session.old.pool ≡ replicate (length session.old.pool) false }
     requires none { HasNoneOpen (core_of session.old) }
     requires bytes { 131072 ≤ length session.old.bytes.items }
-    requires may { MayTurnSession change (state (S.device shelf.old) (core_of session.old)) }
-    ensures does { TurnsSession change patience.old.left patience.new.left (state (S.device shelf.old) (core_of session.old)) (state (S.device shelf.new) (core_of session.new)) result }
+    requires may { MayTurnSession (record { records = records; updater = updater }) (state (S.device shelf.old) (core_of session.old)) }
+    ensures does { TurnsSession (record { records = records; updater = updater }) patience.old.left patience.new.left (state (S.device shelf.old) (core_of session.old)) (state (S.device shelf.new) (core_of session.new)) result }
     ensures rooms { SameRooms session.old session.new }
 {
     let there = members_there(&session.descriptor, session.updater.wanted());
-    match send(session, shelf, &change.records, there, patience) {
+    match send(session, shelf, &records, there, patience) {
         Turned::Done { written, buf } => {
-            take_over(
-                session,
-                change.records.next,
-                change.updater,
-                without(there, written),
-            );
+            take_over(session, records.next, updater, without(there, written));
             settle(session, shelf, buf, patience)
         }
         Turned::WentOff {

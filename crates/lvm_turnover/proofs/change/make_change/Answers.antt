@@ -1,4 +1,5 @@
 use Rattle.std.proofs.Common.{sym, subst}
+use Rattle.lvm_commit.specs.Settling.{MarksLeft}
 use Rattle.lvm_session.specs.Fields.{core_of}
 use Rattle.lvm_session.specs.State.{Core, State, state}
 use Rattle.lvm_core.specs.Sound.{IsSoundBetween}
@@ -7,7 +8,7 @@ use Rattle.lvm_core.proofs.SoundLemmas.Own.{SameSizes, rooms_stay}
 use Rattle.lvm_turnover.specs.Turning.{MayTurnSession, TurnsSession}
 use Rattle.lvm_turnover.specs.Changing.{ChangeEnds, ChangeLeaves}
 use Rattle.lvm_turnover.proofs.TurningLemmas.{Comes, session_comes, may_turn_session}
-use Rattle.lvm_turnover.proofs.change.change.Goals as goal
+use Rattle.lvm_turnover.proofs.change.make_change.Goals as goal
 
 pub turn_session-requires-clause-some : goal.turn_session-requires-clause-some
 turn_session-requires-clause-some g c =
@@ -77,5 +78,6 @@ returns g c =
     λ P holds. subst (λ (s : g.row.S.Denot). P (state (g.S.Shelf.device s) c.from_parts.result.1)) (sym c.from_parts.ensures.shelf) (subst (λ (k : Core). P (state (g.S.Shelf.device c.turn_session-answer.new.shelf) k)) (sym c.from_parts.ensures.core) holds) in
     record {
       ends = at (λ s. ChangeEnds c.args.change.records.next p old s c.turn_session-answer.result) comes.ends;
+      left = at (λ s. MarksLeft c.args.change.records.next c.args.driver.1.status s.core.status) comes.left;
       leaves = at (λ s. ChangeLeaves c.args.change.records.next p q old s) comes.leaves;
     }
