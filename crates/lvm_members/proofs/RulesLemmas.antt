@@ -19,14 +19,12 @@ use Rattle.lvm_commit.proofs.SettlingLemmas.Chaining.{keeps_wider}
 use Rattle.lvm_write.proofs.WrittenLemmas.Writing.{if_told}
 use Rattle.lvm_core.specs.declared.fault.CommitFault.{CommitFault}
 use Rattle.lvm_core.specs.declared.fault.CommitFault.TheVariants as commit
-use Rattle.lvm_core.specs.Committing.{CommitEnds, HasGoneOff, LetsCommitAmong}
+use Rattle.lvm_core.specs.Committing.{CommitEnds, HasGoneOff, HasStated, LetsCommitAmong}
 use Rattle.lvm_core.specs.Leaves.{IsOfCommand, IsHeldSince, NoPartition, Leaves, committing}
-use Rattle.lvm_core.specs.Settled.{IsSettled}
 use Rattle.lvm_session.specs.State.{Core, State, is_there, moment_of}
 use Rattle.lvm_core.proofs.CommittingLemmas.Settled.{there_is}
 use Rattle.lvm_turnover.specs.Changing.{ChangeEnds, ChangeLeaves, HasGoneOffBy}
 use Rattle.lvm_volumes.proofs.Leaving.{leaves_none}
-use Rattle.lvm_volume_plan.specs.Faults.{TakesCommands}
 use Rattle.lvm_volume_plan.specs.PlannedVolume.{AreOfOneGroup}
 use Rattle.lvm_members.specs.Commands.{IsOfRecords, IsAnswerOf, IfOn, MayBeChanged, RefusesChange, RuleGives}
 use Rattle.lvm_members.specs.declared.fault.RuleFault.{RuleFault}
@@ -114,15 +112,25 @@ refused_gives next p s fault.HistoryFull is = (refl, is)
 refused_gives next p s fault.Stuck is = absurd is
 refused_gives next p s fault.Memory is = (refl, is)
 
--- a session that is refused goes on where it takes commands
-pub refused_settled : (next : Descriptor) (s : State) (why : RuleFault) → RefusesChange next s.core why → (TakesCommands s.core → IsSettled s.core) → TakesCommands s.core → IfOn (Err why) (IsSettled s.core)
-refused_settled next s fault.Dark is settled takes = tt
-refused_settled next s (fault.WentOff have total) is settled takes = tt
-refused_settled next s fault.Busy is settled takes = settled takes
-refused_settled next s (fault.NoQuorum have total) is settled takes = settled takes
-refused_settled next s fault.HistoryFull is settled takes = settled takes
-refused_settled next s fault.Stuck is settled takes = tt
-refused_settled next s fault.Memory is settled takes = settled takes
+-- what holds where nothing happens holds where the session goes on
+pub refused_on : (next : Descriptor) (s : State) (why : RuleFault) (P : Type 0) → P → IfOn (Err why) P
+refused_on next s fault.Dark P is = tt
+refused_on next s (fault.WentOff have total) P is = tt
+refused_on next s fault.Busy P is = is
+refused_on next s (fault.NoQuorum have total) P is = is
+refused_on next s fault.HistoryFull P is = is
+refused_on next s fault.Stuck P is = tt
+refused_on next s fault.Memory P is = is
+
+pub here_on : (answer : Result (Unit {0}) RuleFault) (P : Type 0) → P → IfOn answer P
+here_on (Ok done) P is = is
+here_on (Err fault.Dark) P is = tt
+here_on (Err (fault.WentOff have total)) P is = tt
+here_on (Err fault.Busy) P is = is
+here_on (Err (fault.NoQuorum have total)) P is = is
+here_on (Err fault.HistoryFull) P is = is
+here_on (Err fault.Stuck) P is = tt
+here_on (Err fault.Memory) P is = is
 
 -- ---- by what its records answer
 
@@ -141,9 +149,9 @@ module _ (next : Descriptor) (p : ℕ) (old new : State) (may : MayBeChanged nex
   rule_gives (Err commit.Stuck) result ends (of, its, is) = subst (RuleGives next p old new) (sym (is ∙ ap (λ (f : RuleFault). Err f) its)) (may, ends)
   rule_gives (Err (commit.DiskFailed disk)) result ends is = absurd ends
 
-  pub rule_settled : (answer : Result (Unit {0}) CommitFault) (result : Result (Unit {0}) RuleFault) → ChangeEnds next p old new answer → IsAnswerOf answer result → IfOn result (IsSettled new.core)
-  rule_settled (Ok done) result ends is = subst (λ (r : Result (Unit {0}) RuleFault). IfOn r (IsSettled new.core)) (sym is) ends.settled
-  rule_settled (Err commit.Dark) result ends (of, its, is) = subst (λ (r : Result (Unit {0}) RuleFault). IfOn r (IsSettled new.core)) (sym (is ∙ ap (λ (f : RuleFault). Err f) its)) tt
-  rule_settled (Err (commit.WentOff have total)) result ends (of, its, is) = subst (λ (r : Result (Unit {0}) RuleFault). IfOn r (IsSettled new.core)) (sym (is ∙ ap (λ (f : RuleFault). Err f) its)) tt
-  rule_settled (Err commit.Stuck) result ends (of, its, is) = subst (λ (r : Result (Unit {0}) RuleFault). IfOn r (IsSettled new.core)) (sym (is ∙ ap (λ (f : RuleFault). Err f) its)) tt
-  rule_settled (Err (commit.DiskFailed disk)) result ends is = absurd ends
+  pub rule_on : (P : Type 0) → (HasStated next old new → P) → (answer : Result (Unit {0}) CommitFault) (result : Result (Unit {0}) RuleFault) → ChangeEnds next p old new answer → IsAnswerOf answer result → IfOn result P
+  rule_on P makes (Ok done) result ends is = subst (λ (r : Result (Unit {0}) RuleFault). IfOn r P) (sym is) (makes ends)
+  rule_on P makes (Err commit.Dark) result ends (of, its, is) = subst (λ (r : Result (Unit {0}) RuleFault). IfOn r P) (sym (is ∙ ap (λ (f : RuleFault). Err f) its)) tt
+  rule_on P makes (Err (commit.WentOff have total)) result ends (of, its, is) = subst (λ (r : Result (Unit {0}) RuleFault). IfOn r P) (sym (is ∙ ap (λ (f : RuleFault). Err f) its)) tt
+  rule_on P makes (Err commit.Stuck) result ends (of, its, is) = subst (λ (r : Result (Unit {0}) RuleFault). IfOn r P) (sym (is ∙ ap (λ (f : RuleFault). Err f) its)) tt
+  rule_on P makes (Err (commit.DiskFailed disk)) result ends is = absurd ends

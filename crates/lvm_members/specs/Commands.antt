@@ -59,11 +59,6 @@ abbrev pub IsPlanFor : Descriptor → Core → Plan → Type 0
 IsPlanFor next core (plan.Turn change) = AreOfOneGroup core × MayBeChanged next core × (change.records.next ≡ next) × IsReadyFor core.status.committed change
 IsPlanFor next core (plan.Same prepared) = AreOfOneGroup core × MayBeChanged next core × (prepared ≡ next) × (next ≡ core.descriptor)
 
--- the descriptor to which it leads
-abbrev pub next_of : Plan → Descriptor
-next_of (plan.Turn change) = change.records.next
-next_of (plan.Same prepared) = prepared
-
 -- ---- what is answered
 
 -- the answer of the command by that of its records

@@ -29,11 +29,7 @@ pub enum Plan {
 }
 
 /// That of quorum checking on or off, unless something stands against it.
-pub fn plan_quorum<S: Shelf>(
-    alloc: Global,
-    driver: &Driver<S>,
-    on: bool,
-) -> Result<Plan, RuleFault>
+pub fn plan_quorum<S: Shelf>(alloc: Global, driver: &Driver<S>, on: bool) -> Result<Plan, RuleFault>
     requires settled { TakesCommands driver.now.1 → IsSettled driver.now.1 }
     ensures planned { IfOk result (IsPlanFor (with_quorum on driver.now.1.descriptor) driver.now.1) }
     ensures refused { IfErr result (RefusesChange (with_quorum on driver.now.1.descriptor) driver.now.1) }
@@ -120,11 +116,7 @@ fn turn<S: Shelf>(alloc: Global, driver: &Driver<S>, next: Descriptor) -> Result
 }
 
 // The descriptor once more.
-fn restate<S: Shelf>(
-    alloc: Global,
-    driver: &Driver<S>,
-    next: Descriptor,
-) -> Result<Plan, RuleFault>
+fn restate<S: Shelf>(alloc: Global, driver: &Driver<S>, next: Descriptor) -> Result<Plan, RuleFault>
     requires valid { IsValid next }
     requires group { AreOfOneGroup driver.now.1 }
     requires may { MayBeChanged next driver.now.1 }

@@ -3,16 +3,19 @@ ghost use Rattle.std.specs.Prelude.{IfErr};
 ghost use Rattle.lvm_core.specs.State.{state_of};
 ghost use Rattle.lvm_core.specs.Settled.{IsSettled};
 ghost use Rattle.lvm_change.specs.Rule.{with_quorum, as_big};
-ghost use Rattle.lvm_turnover.specs.Changing.{ChangeEnds, ChangeLeaves};
+ghost use Rattle.lvm_turnover.specs.Changing.{ChangeLeaves};
+ghost use Rattle.lvm_turnover.specs.Turning.{IsReadyFor};
+ghost use Rattle.lvm_volume_plan.specs.PlannedVolume.{AreOfOneGroup};
 ghost use Rattle.lvm_volume_plan.specs.Faults.{TakesCommands};
-ghost use Rattle.lvm_members.specs.Commands.{RuleGives, BigGives, NothingGives, IsPlanFor, IsOfRecords, IsAnswerOf, IfOn, next_of};
+ghost use Rattle.lvm_volumes.specs.Endings.{StillHeld, KeepsFresh};
+ghost use Rattle.lvm_members.specs.Commands.{MayBeChanged, RuleGives, BigGives, NothingGives, IsOfRecords, IsAnswerOf, IfOn};
 
 use crate::fault::{RuleFault, rule_fault};
 use crate::plan::{Plan, can_take, plan_big, plan_quorum};
 use lvm_core::below::Patience;
-use lvm_core::{CommitFault, Driver};
+use lvm_core::{CommitFault, Driver, Prepared};
 use lvm_disk::Shelf;
-use lvm_turnover::make_change;
+use lvm_turnover::{Change, make_change};
 use lvm_volume_plan::has_room;
 use std::alloc::Global;
 
@@ -40,11 +43,14 @@ pub fn set_quorum<S: Shelf>(
     requires settled { TakesCommands driver.1 → IsSettled driver.1 }
     ensures gives { RuleGives (with_quorum on driver.1.descriptor) patience.old.left (state_of S.device driver) (state_of S.device result.driver) result.answer }
     ensures settled { TakesCommands driver.1 → IfOn result.answer (IsSettled result.driver.1) }
+    ensures held { IfOn result.answer (StillHeld (state_of S.device driver) (state_of S.device result.driver)) }
+    ensures fresh { IfOn result.answer (KeepsFresh (state_of S.device driver) (state_of S.device result.driver)) }
     // whatever the answer
     ensures leaves { ChangeLeaves (with_quorum on driver.1.descriptor) patience.old.left patience.new.left (state_of S.device driver) (state_of S.device result.driver) }
 {
     match plan_quorum(alloc, &driver, on) {
-        Ok(plan) => carry_out(driver, plan, patience),
+        Ok(Plan::Turn(next)) => by_turn(driver, next, patience),
+        Ok(Plan::Same(next)) => by_commit(driver, next, patience),
         Err(fault) => Changed {
             driver,
             answer: Err(fault),
@@ -56,15 +62,13 @@ pub fn set_quorum<S: Shelf>(
 /// is. All memory is taken before the first write.
 ///
 /// The causes are those of `set_quorum`, but for `NoQuorum`: the votes stay as they are.
-pub fn make_big<S: Shelf>(
-    alloc: Global,
-    driver: Driver<S>,
-    patience: &mut Patience,
-) -> Changed<S>
+pub fn make_big<S: Shelf>(alloc: Global, driver: Driver<S>, patience: &mut Patience) -> Changed<S>
     // where nothing is open, nothing is under way
     requires settled { TakesCommands driver.1 → IsSettled driver.1 }
     ensures gives { BigGives patience.old.left (state_of S.device driver) (state_of S.device result.driver) result.answer }
     ensures settled { TakesCommands driver.1 → IfOn result.answer (IsSettled result.driver.1) }
+    ensures held { IfOn result.answer (StillHeld (state_of S.device driver) (state_of S.device result.driver)) }
+    ensures fresh { IfOn result.answer (KeepsFresh (state_of S.device driver) (state_of S.device result.driver)) }
     // whatever the answer
     ensures leaves { ChangeLeaves (as_big driver.1.descriptor) patience.old.left patience.new.left (state_of S.device driver) (state_of S.device result.driver) }
 {
@@ -73,7 +77,8 @@ pub fn make_big<S: Shelf>(
         return Changed { driver, answer };
     }
     match plan_big(alloc, &driver) {
-        Ok(plan) => carry_out(driver, plan, patience),
+        Ok(Plan::Turn(next)) => by_turn(driver, next, patience),
+        Ok(Plan::Same(next)) => by_commit(driver, next, patience),
         Err(fault) => Changed {
             driver,
             answer: Err(fault),
@@ -94,31 +99,46 @@ fn stays<S: Shelf>(driver: &Driver<S>) -> Result<(), RuleFault>
     }
 }
 
-// Brings a group to its next descriptor by a plan.
-fn carry_out<S: Shelf>(driver: Driver<S>, plan: Plan, patience: &mut Patience) -> Changed<S>
+// Turns a group to its next descriptor.
+fn by_turn<S: Shelf>(driver: Driver<S>, next: Change, patience: &mut Patience) -> Changed<S>
     requires settled { IsSettled driver.1 }
-    requires planned { IsPlanFor (next_of plan) driver.1 plan }
-    ensures gives { RuleGives (next_of plan) patience.old.left (state_of S.device driver) (state_of S.device result.driver) result.answer }
+    requires group { AreOfOneGroup driver.1 }
+    requires may { MayBeChanged next.records.next driver.1 }
+    requires ready { IsReadyFor driver.1.status.committed next }
+    ensures gives { RuleGives next.records.next patience.old.left (state_of S.device driver) (state_of S.device result.driver) result.answer }
     ensures settled { IfOn result.answer (IsSettled result.driver.1) }
+    ensures held { IfOn result.answer (StillHeld (state_of S.device driver) (state_of S.device result.driver)) }
+    ensures fresh { IfOn result.answer (KeepsFresh (state_of S.device driver) (state_of S.device result.driver)) }
     // whatever the answer
-    ensures leaves { ChangeLeaves (next_of plan) patience.old.left patience.new.left (state_of S.device driver) (state_of S.device result.driver) }
+    ensures leaves { ChangeLeaves next.records.next patience.old.left patience.new.left (state_of S.device driver) (state_of S.device result.driver) }
 {
-    match plan {
-        Plan::Turn(next) => {
-            let (driver, answer) = make_change(driver, next, patience);
-            Changed {
-                driver,
-                answer: answer_of(answer),
-            }
-        }
-        Plan::Same(next) => {
-            let mut driver = driver;
-            let answer = driver.commit(next, patience);
-            Changed {
-                driver,
-                answer: answer_of(answer),
-            }
-        }
+    let (driver, answer) = make_change(driver, next, patience);
+    let told = answer_of(answer);
+    Changed {
+        driver,
+        answer: told,
+    }
+}
+
+// Writes a group's descriptor once more.
+fn by_commit<S: Shelf>(driver: Driver<S>, next: Prepared, patience: &mut Patience) -> Changed<S>
+    requires settled { IsSettled driver.1 }
+    requires group { AreOfOneGroup driver.1 }
+    requires may { MayBeChanged next driver.1 }
+    requires same { next ≡ driver.1.descriptor }
+    ensures gives { RuleGives next patience.old.left (state_of S.device driver) (state_of S.device result.driver) result.answer }
+    ensures settled { IfOn result.answer (IsSettled result.driver.1) }
+    ensures held { IfOn result.answer (StillHeld (state_of S.device driver) (state_of S.device result.driver)) }
+    ensures fresh { IfOn result.answer (KeepsFresh (state_of S.device driver) (state_of S.device result.driver)) }
+    // whatever the answer
+    ensures leaves { ChangeLeaves next patience.old.left patience.new.left (state_of S.device driver) (state_of S.device result.driver) }
+{
+    let mut driver = driver;
+    let answer = driver.commit(next, patience);
+    let told = answer_of(answer);
+    Changed {
+        driver,
+        answer: told,
     }
 }
 

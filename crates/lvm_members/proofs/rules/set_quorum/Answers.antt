@@ -1,0 +1,70 @@
+use Rattle.std.proofs.Common.{ℕ, sym, subst}
+use Rattle.lvm_num.specs.declared.descriptor.Descriptor.{Descriptor}
+use Rattle.lvm_session.specs.State.{State, state}
+use Rattle.lvm_core.specs.Settled.{IsSettled}
+use Rattle.lvm_change.specs.Rule.{with_quorum}
+use Rattle.lvm_turnover.specs.Changing.{ChangeLeaves}
+use Rattle.lvm_volumes.specs.Endings.{StillHeld, KeepsFresh}
+use Rattle.lvm_volumes.proofs.EndingsLemmas.Fresh.{keeps_none}
+use Rattle.lvm_volumes.proofs.EndingsLemmas.Holding.{still_none}
+use Rattle.lvm_members.specs.Commands.{MayBeChanged, RuleGives}
+use Rattle.lvm_members.proofs.RulesLemmas.{leaves_here, refused_gives, refused_on}
+use Rattle.lvm_members.proofs.rules.set_quorum.Goals as goal
+
+pub by_turn-requires-clause-settled : goal.by_turn-requires-clause-settled
+by_turn-requires-clause-settled g c = let planned = c.in-Ok-Turn.ensures.planned in c.requires.settled planned.1.takes
+
+pub by_turn-requires-clause-may : goal.by_turn-requires-clause-may
+by_turn-requires-clause-may g c = let planned = c.in-Ok-Turn.ensures.planned in subst (λ (d : Descriptor). MayBeChanged d c.args.driver.1) (sym planned.2) planned.1
+
+pub by_commit-requires-clause-settled : goal.by_commit-requires-clause-settled
+by_commit-requires-clause-settled g c = let planned = c.in-Ok-Same.ensures.planned in c.requires.settled planned.1.takes
+
+pub by_commit-requires-clause-may : goal.by_commit-requires-clause-may
+by_commit-requires-clause-may g c = let planned = c.in-Ok-Same.ensures.planned in subst (λ (d : Descriptor). MayBeChanged d c.args.driver.1) (sym planned.2) planned.1
+
+pub returns-in-Ok-Turn : goal.returns-in-Ok-Turn
+returns-in-Ok-Turn g c =
+    let old : State = state (g.S.Shelf.device c.args.driver.0) c.args.driver.1 in
+    let new : State = state (g.S.Shelf.device c.by_turn.result.driver.0) c.by_turn.result.driver.1 in
+    let p : ℕ = c.args.patience.now.left in
+    let q : ℕ = c.by_turn.new.patience.left in
+    let planned = c.in-Ok-Turn.ensures.planned in
+    let e = c.by_turn.ensures in
+    record {
+      gives = subst (λ (d : Descriptor). RuleGives d p old new c.by_turn.result.answer) planned.2 e.gives;
+      settled = λ takes. e.settled;
+      held = e.held;
+      fresh = e.fresh;
+      leaves = subst (λ (d : Descriptor). ChangeLeaves d p q old new) planned.2 e.leaves;
+    }
+
+pub returns-in-Ok-Same : goal.returns-in-Ok-Same
+returns-in-Ok-Same g c =
+    let old : State = state (g.S.Shelf.device c.args.driver.0) c.args.driver.1 in
+    let new : State = state (g.S.Shelf.device c.by_commit.result.driver.0) c.by_commit.result.driver.1 in
+    let p : ℕ = c.args.patience.now.left in
+    let q : ℕ = c.by_commit.new.patience.left in
+    let planned = c.in-Ok-Same.ensures.planned in
+    let e = c.by_commit.ensures in
+    record {
+      gives = subst (λ (d : Descriptor). RuleGives d p old new c.by_commit.result.answer) planned.2 e.gives;
+      settled = λ takes. e.settled;
+      held = e.held;
+      fresh = e.fresh;
+      leaves = subst (λ (d : Descriptor). ChangeLeaves d p q old new) planned.2 e.leaves;
+    }
+
+pub returns-in-Err : goal.returns-in-Err
+returns-in-Err g c =
+    let s : State = state (g.S.Shelf.device c.args.driver.0) c.args.driver.1 in
+    let next : Descriptor = with_quorum c.args.on c.args.driver.1.descriptor in
+    let why = c.in-Err.fault in
+    let p : ℕ = c.args.patience.now.left in
+    record {
+      gives = refused_gives next p s why c.in-Err.ensures.refused;
+      settled = λ takes. refused_on next s why (IsSettled s.core) (c.requires.settled takes);
+      held = refused_on next s why (StillHeld s s) (still_none s);
+      fresh = refused_on next s why (KeepsFresh s s) (keeps_none s);
+      leaves = leaves_here next p s;
+    }
