@@ -2,34 +2,14 @@ use Rattle.std.proofs.Common.{sym, subst}
 use Rattle.lvm_commit.specs.Settling.{MarksLeft}
 use Rattle.lvm_session.specs.Fields.{core_of}
 use Rattle.lvm_session.specs.State.{Core, State, state}
-use Rattle.lvm_core.specs.Sound.{IsSoundBetween}
-use Rattle.lvm_core.specs.Settled.{IsSettled}
 use Rattle.lvm_core.proofs.SoundLemmas.Own.{SameSizes, rooms_stay}
 use Rattle.lvm_turnover.specs.Turning.{MayTurnSession, TurnsSession}
 use Rattle.lvm_turnover.specs.Changing.{ChangeEnds, ChangeLeaves}
 use Rattle.lvm_turnover.proofs.TurningLemmas.{Comes, session_comes, may_turn_session}
 use Rattle.lvm_turnover.proofs.change.make_change.Goals as goal
 
-pub turn_session-requires-clause-some : goal.turn_session-requires-clause-some
-turn_session-requires-clause-some g c =
-    let sound : IsSoundBetween (state (g.S.Shelf.device c.args.driver.0) (core_of c.into_parts-shelf.result.1)) = subst (λ (k : Core). IsSoundBetween (state (g.S.Shelf.device c.args.driver.0) k)) (sym c.into_parts-shelf.ensures.core) c.into_parts-shelf.ensures.sound in
-    sound.fitting.a_buffer
-
-pub turn_session-requires-clause-buffers : goal.turn_session-requires-clause-buffers
-turn_session-requires-clause-buffers g c =
-    let settled : IsSettled (core_of c.into_parts-shelf.result.1) = subst IsSettled (sym c.into_parts-shelf.ensures.core) c.requires.settled in
-    settled.quiet.buffers
-
-pub turn_session-requires-clause-none : goal.turn_session-requires-clause-none
-turn_session-requires-clause-none g c =
-    let sound : IsSoundBetween (state (g.S.Shelf.device c.args.driver.0) (core_of c.into_parts-shelf.result.1)) = subst (λ (k : Core). IsSoundBetween (state (g.S.Shelf.device c.args.driver.0) k)) (sym c.into_parts-shelf.ensures.core) c.into_parts-shelf.ensures.sound in
-    sound.none
-
-pub turn_session-requires-clause-bytes : goal.turn_session-requires-clause-bytes
-turn_session-requires-clause-bytes g c = c.into_parts-shelf.ensures.rooms.bytes
-
-pub turn_session-requires-clause-may : goal.turn_session-requires-clause-may
-turn_session-requires-clause-may g c =
+pub turn_session-answer-requires-clause-may : goal.turn_session-answer-requires-clause-may
+turn_session-answer-requires-clause-may g c =
     subst (λ (s : g.row.S.Denot). MayTurnSession c.args.change (state (g.S.Shelf.device s) (core_of c.into_parts-shelf.result.1))) (sym c.into_parts-shelf.ensures.shelf)
     (subst (λ (k : Core). MayTurnSession c.args.change (state (g.S.Shelf.device c.args.driver.0) k)) (sym c.into_parts-shelf.ensures.core)
     (may_turn_session c.args.change (state (g.S.Shelf.device c.args.driver.0) c.args.driver.1) c.into_parts-shelf.ensures.sound c.requires.settled c.requires.numbers c.requires.ready c.requires.rule))
