@@ -1,5 +1,5 @@
 -- What stands against a change.
-use Rattle.std.proofs.Common.{◌≡◌, ℕ, false, refl, sym, ◌∙◌}
+use Rattle.std.proofs.Common.{◌≡◌, ℕ, false, refl, sym, ◌∙◌, subst}
 use Rattle.std.specs.Prelude.{Bool}
 use Rattle.lvm_num.specs.declared.descriptor.Descriptor.{Descriptor}
 use Rattle.lvm_num.specs.Disks.{Disks}
@@ -33,6 +33,10 @@ only_those core group_fault.Memory is dark off busy = is
 -- the members that a session's committed status doesn't call missing are those that aren't
 pub there_by : (core : Core) (there : Disks) (d : Descriptor) (s : Status) → IsSettled core → there ≡ members_there d s → d ≡ core.descriptor → s ≡ core.status.committed → there ≡ is_there core
 there_by core there d s settled is group committed = is ∙ (λ t. members_there (group t) ((committed ∙ settled.committed) t))
+
+-- what holds by them, and by a descriptor that is the session's, holds by the session
+pub at_core : (core : Core) (there : Disks) (d : Descriptor) → d ≡ core.descriptor → there ≡ is_there core → (P : Descriptor → Disks → Type 0) → P d there → P core.descriptor (is_there core)
+at_core core there d group is P holds = subst (λ (g : Descriptor). P g (is_there core)) group (subst (P d) is holds)
 
 -- where nothing differs it is the descriptor itself
 pub quorum_same : (on : Bool) (d : Descriptor) → d.quorum ≡ on → d.even ≡ false → with_quorum on d ≡ d

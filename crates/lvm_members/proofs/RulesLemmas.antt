@@ -113,15 +113,6 @@ refused_gives next p s fault.Stuck is = absurd is
 refused_gives next p s fault.Memory is = (refl, is)
 
 -- what holds where nothing happens holds where the session goes on
-pub refused_on : (next : Descriptor) (s : State) (why : RuleFault) (P : Type 0) → P → IfOn (Err why) P
-refused_on next s fault.Dark P is = tt
-refused_on next s (fault.WentOff have total) P is = tt
-refused_on next s fault.Busy P is = is
-refused_on next s (fault.NoQuorum have total) P is = is
-refused_on next s fault.HistoryFull P is = is
-refused_on next s fault.Stuck P is = tt
-refused_on next s fault.Memory P is = is
-
 pub here_on : (answer : Result (Unit {0}) RuleFault) (P : Type 0) → P → IfOn answer P
 here_on (Ok done) P is = is
 here_on (Err fault.Dark) P is = tt

@@ -1,9 +1,8 @@
 -- What the two records of a session's turn do, however that ended.
-use Rattle.std.proofs.Common.{◌≡◌, ◌⊎◌, inl, inr, ⊎_elim, ℕ, ◌+◌, ◌≤◌, Bool, true, false, ◌&&◌, ◌||◌, not, List, [], ◌∷◌, refl, sym, ◌∙◌, ap, subst, arith}
+use Rattle.std.proofs.Common.{◌≡◌, inl, inr, ⊎_elim, ℕ, ◌+◌, ◌≤◌, Bool, true, false, ◌&&◌, ◌||◌, not, List, [], ◌∷◌, refl, sym, ◌∙◌, ap, subst, arith}
 use Rattle.std.specs.Prelude.{◌==◌, IsTrue, IsFalse}
 use Rattle.std.specs.List.{list_any}
 use Rattle.std.proofs.lemmas.Bool.{false≢true, eqb-true}
-use Rattle.lvm_num.specs.declared.record.Kind.TheVariants as kind
 use Rattle.lvm_num.specs.declared.record.Framed.{Framed}
 use Rattle.lvm_num.specs.declared.record.Stamp.{Stamp}
 use Rattle.lvm_num.specs.declared.descriptor.PvRow.{PvRow}
@@ -38,7 +37,7 @@ use Rattle.lvm_change.specs.Records.{IsTurnBy}
 use Rattle.lvm_change.specs.Turn.{HoldsBy, IsBefore, IsOfTurn, ComesBack, TurnGives}
 use Rattle.lvm_turnover.specs.declared.change.Change.{Change}
 use Rattle.lvm_turnover.specs.Turning.{MayTurnSession, after_turn, stamped_twice, unreached}
-use Rattle.lvm_turnover.proofs.BeginningLemmas.{next, was, session_there}
+use Rattle.lvm_turnover.proofs.BeginningLemmas.{next, session_there}
 use Rattle.lvm_turnover.proofs.LeavingLemmas.{Writes}
 use Rattle.lvm_turnover.proofs.MarksLemmas.{marks_kept}
 

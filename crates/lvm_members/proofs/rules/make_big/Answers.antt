@@ -9,7 +9,7 @@ use Rattle.lvm_volumes.specs.Endings.{StillHeld, KeepsFresh}
 use Rattle.lvm_volumes.proofs.EndingsLemmas.Fresh.{keeps_none}
 use Rattle.lvm_volumes.proofs.EndingsLemmas.Holding.{still_none}
 use Rattle.lvm_members.specs.Commands.{MayBeChanged, NothingGives, RuleGives}
-use Rattle.lvm_members.proofs.RulesLemmas.{leaves_here, refused_gives, refused_on, here_on}
+use Rattle.lvm_members.proofs.RulesLemmas.{leaves_here, refused_gives, here_on}
 use Rattle.lvm_members.proofs.rules.make_big.Goals as goal
 
 pub returns-then-big : goal.returns-then-big
@@ -81,8 +81,8 @@ returns-in-Err g c =
     let small : c.args.driver.1.descriptor.big ≡ false = sym (ap (λ (d : Descriptor). d.big) c.descriptor.ensures.same) ∙ c.if-big.false in
     record {
       gives = subst (λ (b : Bool). MatchBool b (NothingGives s s (Err why)) (RuleGives next p s s (Err why))) (sym small) (refused_gives next p s why c.in-Err.ensures.refused);
-      settled = λ takes. refused_on next s why (IsSettled s.core) (c.requires.settled takes);
-      held = refused_on next s why (StillHeld s s) (still_none s);
-      fresh = refused_on next s why (KeepsFresh s s) (keeps_none s);
+      settled = λ takes. here_on (Err why) (IsSettled s.core) (c.requires.settled takes);
+      held = here_on (Err why) (StillHeld s s) (still_none s);
+      fresh = here_on (Err why) (KeepsFresh s s) (keeps_none s);
       leaves = leaves_here next p s;
     }

@@ -1,4 +1,5 @@
 use Rattle.std.proofs.Common.{ℕ, sym, subst}
+use Rattle.std.specs.Prelude.{Err}
 use Rattle.lvm_num.specs.declared.descriptor.Descriptor.{Descriptor}
 use Rattle.lvm_session.specs.State.{State, state}
 use Rattle.lvm_core.specs.Settled.{IsSettled}
@@ -8,7 +9,7 @@ use Rattle.lvm_volumes.specs.Endings.{StillHeld, KeepsFresh}
 use Rattle.lvm_volumes.proofs.EndingsLemmas.Fresh.{keeps_none}
 use Rattle.lvm_volumes.proofs.EndingsLemmas.Holding.{still_none}
 use Rattle.lvm_members.specs.Commands.{MayBeChanged, RuleGives}
-use Rattle.lvm_members.proofs.RulesLemmas.{leaves_here, refused_gives, refused_on}
+use Rattle.lvm_members.proofs.RulesLemmas.{leaves_here, refused_gives, here_on}
 use Rattle.lvm_members.proofs.rules.set_quorum.Goals as goal
 
 pub by_turn-requires-clause-settled : goal.by_turn-requires-clause-settled
@@ -63,8 +64,8 @@ returns-in-Err g c =
     let p : ℕ = c.args.patience.now.left in
     record {
       gives = refused_gives next p s why c.in-Err.ensures.refused;
-      settled = λ takes. refused_on next s why (IsSettled s.core) (c.requires.settled takes);
-      held = refused_on next s why (StillHeld s s) (still_none s);
-      fresh = refused_on next s why (KeepsFresh s s) (keeps_none s);
+      settled = λ takes. here_on (Err why) (IsSettled s.core) (c.requires.settled takes);
+      held = here_on (Err why) (StillHeld s s) (still_none s);
+      fresh = here_on (Err why) (KeepsFresh s s) (keeps_none s);
       leaves = leaves_here next p s;
     }
