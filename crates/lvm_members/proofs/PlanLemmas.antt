@@ -1,12 +1,14 @@
 -- What stands against a change.
-use Rattle.std.proofs.Common.{◌≡◌, ℕ, false, refl, sym, ◌∙◌, subst}
-use Rattle.std.specs.Prelude.{Bool}
+use Rattle.std.proofs.Common.{◌≡◌, ◌⊎◌, inl, inr, ℕ, true, false, refl, sym, ◌∙◌, subst}
+use Rattle.std.specs.Prelude.{Bool, IsTrue}
 use Rattle.lvm_num.specs.declared.descriptor.Descriptor.{Descriptor}
+use Rattle.lvm_num.specs.Descriptor.{IsValid, is_member}
 use Rattle.lvm_num.specs.Disks.{Disks}
 use Rattle.lvm_num.specs.declared.status.Status.{Status}
 use Rattle.lvm_status.specs.Update.{members_there}
 use Rattle.lvm_session.specs.State.{Core, is_there}
 use Rattle.lvm_core.specs.Settled.{IsSettled}
+use Rattle.lvm_change_laws.specs.Rule.{MayChangeRule}
 use Rattle.lvm_change.specs.Rule.{with_quorum}
 use Rattle.lvm_volume_plan.specs.Faults.{RefusesAll}
 use Rattle.lvm_volume_plan.specs.declared.fault.GroupFault.{GroupFault}
@@ -41,3 +43,18 @@ at_core core there d group is P holds = subst (λ (g : Descriptor). P g (is_ther
 -- where nothing differs it is the descriptor itself
 pub quorum_same : (on : Bool) (d : Descriptor) → d.quorum ≡ on → d.even ≡ false → with_quorum on d ≡ d
 quorum_same on d quorum even = λ t. record d { quorum = sym quorum t; even = sym even t }
+
+-- a settled session's group may stay as it is
+pub may_stay : (core : Core) → IsValid core.descriptor → IsSettled core → MayChangeRule core.descriptor core.descriptor (is_there core)
+may_stay core valid settled = record {
+  valid = valid;
+  valid_next = valid;
+  differs = refl;
+  enough = settled.votes;
+  enough_too = settled.votes;
+  found = by_quorum core.descriptor.quorum refl;
+}
+  where
+    by_quorum : (b : Bool) → core.descriptor.quorum ≡ b → (core.descriptor.quorum ≡ true) ⊎ (core.descriptor.quorum ≡ false) ⊎ ((d : ℕ) → IsTrue (is_member core.descriptor d) → IsTrue (is_there core d))
+    by_quorum true is = inl is
+    by_quorum false is = inr (inl is)

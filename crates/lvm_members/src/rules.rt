@@ -1,5 +1,5 @@
 //! Quorum checking of a group is switched on or off, or it becomes big.
-ghost use Rattle.std.specs.Prelude.{IfErr};
+ghost use Rattle.std.specs.Prelude.{◌≡◌, IfErr};
 ghost use Rattle.lvm_core.specs.State.{state_of};
 ghost use Rattle.lvm_core.specs.Settled.{IsSettled};
 ghost use Rattle.lvm_change.specs.Rule.{with_quorum, as_big};

@@ -1,4 +1,4 @@
-use Rattle.std.proofs.Common.{sym, subst}
+use Rattle.std.proofs.Common.{sym, subst, ◌∙◌}
 use Rattle.std.proofs.lemmas.Bool.{false≢true}
 use Rattle.lvm_num.specs.declared.descriptor.Descriptor.{Descriptor}
 use Rattle.lvm_num.specs.Disks.{Disks, has}
@@ -33,7 +33,7 @@ returns-then-not-has_room-clause-refused g c =
     let there = there_by core (has c.members_there-there.result) c.descriptor-group.result.now c.table.result.now c.requires.settled c.members_there-there.ensures same c.table.ensures in
     (
       c.requires.takes,
-      at_core core (has c.members_there-there.result) c.descriptor-group.result.now same there (λ d set. MayChangeRule d c.args.next.now set) c.in-None.ensures.none,
+      at_core core (has c.members_there-there.result) c.descriptor-group.result.now same there (λ d set. MayChangeRule d c.args.next.now set) c.in_default.ensures.none,
       λ room. false≢true (sym c.if-not-has_room.true ∙ c.has_room.ensures.1 room),
     )
 
@@ -44,6 +44,6 @@ returns-clause-may g c =
     let there = there_by core (has c.members_there-there.result) c.descriptor-group.result.now c.table.result.now c.requires.settled c.members_there-there.ensures same c.table.ensures in
     record {
       takes = c.requires.takes;
-      rule = at_core core (has c.members_there-there.result) c.descriptor-group.result.now same there (λ d set. MayChangeRule d c.args.next.now set) c.in-None.ensures.none;
+      rule = at_core core (has c.members_there-there.result) c.descriptor-group.result.now same there (λ d set. MayChangeRule d c.args.next.now set) c.in_default.ensures.none;
       room = c.has_room.ensures.0 c.if-not-has_room.false;
     }

@@ -12,11 +12,11 @@ use Rattle.lvm_members.specs.Commands.{MayBeChanged, NothingGives, RuleGives}
 use Rattle.lvm_members.proofs.RulesLemmas.{leaves_here, refused_gives, here_on}
 use Rattle.lvm_members.proofs.rules.make_big.Goals as goal
 
-pub returns-then-big : goal.returns-then-big
-returns-then-big g c =
+pub returns-then-descriptor : goal.returns-then-descriptor
+returns-then-descriptor g c =
     let s : State = state (g.S.Shelf.device c.args.driver.0) c.args.driver.1 in
     let p : ℕ = c.args.patience.now.left in
-    let big : c.args.driver.1.descriptor.big ≡ true = sym (ap (λ (d : Descriptor). d.big) c.descriptor.ensures.same) ∙ c.if-big.true in
+    let big : c.args.driver.1.descriptor.big ≡ true = sym (ap (λ (d : Descriptor). d.big) c.descriptor.ensures.same) ∙ c.if-descriptor.true in
     let answer = c.stays-answer.result in
     record {
       gives = subst (λ (b : Bool). MatchBool b (NothingGives s s answer) (RuleGives (as_big s.core.descriptor) p s s answer)) (sym big) c.stays-answer.ensures;
@@ -44,7 +44,7 @@ returns-in-Ok-Turn g c =
     let new : State = state (g.S.Shelf.device c.by_turn.result.driver.0) c.by_turn.result.driver.1 in
     let p : ℕ = c.args.patience.now.left in
     let q : ℕ = c.by_turn.new.patience.left in
-    let small : c.args.driver.1.descriptor.big ≡ false = sym (ap (λ (d : Descriptor). d.big) c.descriptor.ensures.same) ∙ c.if-big.false in
+    let small : c.args.driver.1.descriptor.big ≡ false = sym (ap (λ (d : Descriptor). d.big) c.descriptor.ensures.same) ∙ c.if-descriptor.false in
     let planned = c.in-Ok-Turn.ensures.planned in
     let e = c.by_turn.ensures in
     record {
@@ -61,7 +61,7 @@ returns-in-Ok-Same g c =
     let new : State = state (g.S.Shelf.device c.by_commit.result.driver.0) c.by_commit.result.driver.1 in
     let p : ℕ = c.args.patience.now.left in
     let q : ℕ = c.by_commit.new.patience.left in
-    let small : c.args.driver.1.descriptor.big ≡ false = sym (ap (λ (d : Descriptor). d.big) c.descriptor.ensures.same) ∙ c.if-big.false in
+    let small : c.args.driver.1.descriptor.big ≡ false = sym (ap (λ (d : Descriptor). d.big) c.descriptor.ensures.same) ∙ c.if-descriptor.false in
     let planned = c.in-Ok-Same.ensures.planned in
     let e = c.by_commit.ensures in
     record {
@@ -78,7 +78,7 @@ returns-in-Err g c =
     let next : Descriptor = as_big c.args.driver.1.descriptor in
     let why = c.in-Err.fault in
     let p : ℕ = c.args.patience.now.left in
-    let small : c.args.driver.1.descriptor.big ≡ false = sym (ap (λ (d : Descriptor). d.big) c.descriptor.ensures.same) ∙ c.if-big.false in
+    let small : c.args.driver.1.descriptor.big ≡ false = sym (ap (λ (d : Descriptor). d.big) c.descriptor.ensures.same) ∙ c.if-descriptor.false in
     record {
       gives = subst (λ (b : Bool). MatchBool b (NothingGives s s (Err why)) (RuleGives next p s s (Err why))) (sym small) (refused_gives next p s why c.in-Err.ensures.refused);
       settled = λ takes. here_on (Err why) (IsSettled s.core) (c.requires.settled takes);
