@@ -9,28 +9,6 @@ use Rattle.lvm_status.specs.Update.{members_there}
 use Rattle.lvm_session.specs.State.{Core, is_there}
 use Rattle.lvm_core.specs.Settled.{IsSettled}
 use Rattle.lvm_change_laws.specs.Rule.{MayChangeRule}
-use Rattle.lvm_change.specs.Rule.{with_quorum}
-use Rattle.lvm_volume_plan.specs.Faults.{RefusesAll}
-use Rattle.lvm_volume_plan.specs.declared.fault.GroupFault.{GroupFault}
-use Rattle.lvm_volume_plan.specs.declared.fault.GroupFault.TheVariants as group_fault
-
--- no other cause refuses all commands
-pub only_those :
-    (core : Core) (why : GroupFault) → RefusesAll core why → (why ≡ group_fault.Dark → ⊥) → ((have total : ℕ) → why ≡ group_fault.WentOff have total → ⊥) → (why ≡ group_fault.Busy → ⊥) → ⊥
-only_those core group_fault.Dark is dark off busy = dark refl
-only_those core (group_fault.WentOff have total) is dark off busy = off have total refl
-only_those core group_fault.Busy is dark off busy = busy refl
-only_those core group_fault.NoVolume is dark off busy = is
-only_those core group_fault.VolumeExists is dark off busy = is
-only_those core (group_fault.CopyLimit now) is dark off busy = is
-only_those core (group_fault.StaleCopy lp) is dark off busy = is
-only_those core (group_fault.LastFresh lp) is dark off busy = is
-only_those core (group_fault.TooMany limit) is dark off busy = is
-only_those core (group_fault.NoRoom free) is dark off busy = is
-only_those core group_fault.HistoryFull is dark off busy = is
-only_those core (group_fault.DiskFailed disk) is dark off busy = is
-only_those core group_fault.Stuck is dark off busy = is
-only_those core group_fault.Memory is dark off busy = is
 
 -- the members that a session's committed status doesn't call missing are those that aren't
 pub there_by : (core : Core) (there : Disks) (d : Descriptor) (s : Status) → IsSettled core → there ≡ members_there d s → d ≡ core.descriptor → s ≡ core.status.committed → there ≡ is_there core
@@ -39,10 +17,6 @@ there_by core there d s settled is group committed = is ∙ (λ t. members_there
 -- what holds by them, and by a descriptor that is the session's, holds by the session
 pub at_core : (core : Core) (there : Disks) (d : Descriptor) → d ≡ core.descriptor → there ≡ is_there core → (P : Descriptor → Disks → Type 0) → P d there → P core.descriptor (is_there core)
 at_core core there d group is P holds = subst (λ (g : Descriptor). P g (is_there core)) group (subst (P d) is holds)
-
--- where nothing differs it is the descriptor itself
-pub quorum_same : (on : Bool) (d : Descriptor) → d.quorum ≡ on → d.even ≡ false → with_quorum on d ≡ d
-quorum_same on d quorum even = λ t. record d { quorum = sym quorum t; even = sym even t }
 
 -- a settled session's group may stay as it is
 pub may_stay : (core : Core) → IsValid core.descriptor → IsSettled core → MayChangeRule core.descriptor core.descriptor (is_there core)

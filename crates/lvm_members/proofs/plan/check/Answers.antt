@@ -30,8 +30,7 @@ pub returns-then-not-has_room-clause-refused : goal.returns-then-not-has_room-cl
 returns-then-not-has_room-clause-refused g c =
     let core = c.args.driver.now.1 in
     let same = c.descriptor-group.ensures.same in
-    let there = there_by core (has c.members_there-there.result) c.descriptor-group.result.now c.table.result.now c.requires.settled c.members_there-there.ensures same c.table.ensures in
-    (
+    let there = there_by core (has c.members_there-there.result) c.descriptor-group.result.now c.table.result.now c.requires.settled c.members_there-there.ensures same c.table.ensures in (
       c.requires.takes,
       at_core core (has c.members_there-there.result) c.descriptor-group.result.now same there (λ d set. MayChangeRule d c.args.next.now set) c.in_default.ensures.none,
       λ room. false≢true (sym c.if-not-has_room.true ∙ c.has_room.ensures.1 room),

@@ -17,7 +17,7 @@ commit-answer-requires-clause-alike g c = ap (λ (d : Descriptor). record d { lv
 pub answer_of-told-requires : goal.answer_of-told-requires
 answer_of-told-requires g c =
     let old : State = state (g.S.Shelf.device c.args.driver.0) c.args.driver.1 in
-    let new : State = state (g.S.Shelf.device c.commit-answer.new.driver.0) c.commit-answer.new.driver.1 in
+    let new : State = state (g.S.Shelf.device c.commit-answer.new.self.0) c.commit-answer.new.self.1 in
     let p : ℕ = c.args.patience.now.left in
     let q : ℕ = c.commit-answer.new.patience.left in
     let e = c.commit-answer.ensures in
@@ -26,7 +26,7 @@ answer_of-told-requires g c =
 pub returns : goal.returns
 returns g c =
     let old : State = state (g.S.Shelf.device c.args.driver.0) c.args.driver.1 in
-    let new : State = state (g.S.Shelf.device c.commit-answer.new.driver.0) c.commit-answer.new.driver.1 in
+    let new : State = state (g.S.Shelf.device c.commit-answer.new.self.0) c.commit-answer.new.self.1 in
     let next : Descriptor = c.args.next in
     let p : ℕ = c.args.patience.now.left in
     let q : ℕ = c.commit-answer.new.patience.left in

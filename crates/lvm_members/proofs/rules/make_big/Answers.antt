@@ -8,7 +8,8 @@ use Rattle.lvm_turnover.specs.Changing.{ChangeLeaves}
 use Rattle.lvm_volumes.specs.Endings.{StillHeld, KeepsFresh}
 use Rattle.lvm_volumes.proofs.EndingsLemmas.Fresh.{keeps_none}
 use Rattle.lvm_volumes.proofs.EndingsLemmas.Holding.{still_none}
-use Rattle.lvm_members.specs.Commands.{MayBeChanged, NothingGives, RuleGives}
+use Rattle.lvm_members.specs.declared.plan.Plan.TheVariants as plan
+use Rattle.lvm_members.specs.Commands.{IsPlanFor, MayBeChanged, NothingGives, RuleGives}
 use Rattle.lvm_members.proofs.RulesLemmas.{leaves_here, refused_gives, here_on}
 use Rattle.lvm_members.proofs.rules.make_big.Goals as goal
 
@@ -27,16 +28,44 @@ returns-then-descriptor g c =
     }
 
 pub by_turn-requires-clause-settled : goal.by_turn-requires-clause-settled
-by_turn-requires-clause-settled g c = let planned = c.in-Ok-Turn.ensures.planned in c.requires.settled planned.1.takes
+by_turn-requires-clause-settled g c =
+    let planned : IsPlanFor (as_big c.args.driver.1.descriptor) c.args.driver.1 (plan.Turn c.in-Ok-Turn.next) = subst (IsPlanFor (as_big c.args.driver.1.descriptor) c.args.driver.1) c.in-Ok-Turn.field-0-is c.in-Ok-Turn.ensures.planned in
+    c.requires.settled planned.1.takes
+
+pub by_turn-requires-clause-group : goal.by_turn-requires-clause-group
+by_turn-requires-clause-group g c =
+    let planned : IsPlanFor (as_big c.args.driver.1.descriptor) c.args.driver.1 (plan.Turn c.in-Ok-Turn.next) = subst (IsPlanFor (as_big c.args.driver.1.descriptor) c.args.driver.1) c.in-Ok-Turn.field-0-is c.in-Ok-Turn.ensures.planned in
+    planned.0
+
+pub by_turn-requires-clause-ready : goal.by_turn-requires-clause-ready
+by_turn-requires-clause-ready g c =
+    let planned : IsPlanFor (as_big c.args.driver.1.descriptor) c.args.driver.1 (plan.Turn c.in-Ok-Turn.next) = subst (IsPlanFor (as_big c.args.driver.1.descriptor) c.args.driver.1) c.in-Ok-Turn.field-0-is c.in-Ok-Turn.ensures.planned in
+    planned.3
 
 pub by_turn-requires-clause-may : goal.by_turn-requires-clause-may
-by_turn-requires-clause-may g c = let planned = c.in-Ok-Turn.ensures.planned in subst (λ (d : Descriptor). MayBeChanged d c.args.driver.1) (sym planned.2) planned.1
+by_turn-requires-clause-may g c =
+    let planned : IsPlanFor (as_big c.args.driver.1.descriptor) c.args.driver.1 (plan.Turn c.in-Ok-Turn.next) = subst (IsPlanFor (as_big c.args.driver.1.descriptor) c.args.driver.1) c.in-Ok-Turn.field-0-is c.in-Ok-Turn.ensures.planned in
+    subst (λ (d : Descriptor). MayBeChanged d c.args.driver.1) (sym planned.2) planned.1
 
 pub by_commit-requires-clause-settled : goal.by_commit-requires-clause-settled
-by_commit-requires-clause-settled g c = let planned = c.in-Ok-Same.ensures.planned in c.requires.settled planned.1.takes
+by_commit-requires-clause-settled g c =
+    let planned : IsPlanFor (as_big c.args.driver.1.descriptor) c.args.driver.1 (plan.Same c.in-Ok-Same.next) = subst (IsPlanFor (as_big c.args.driver.1.descriptor) c.args.driver.1) c.in-Ok-Same.field-0-is c.in-Ok-Same.ensures.planned in
+    c.requires.settled planned.1.takes
+
+pub by_commit-requires-clause-group : goal.by_commit-requires-clause-group
+by_commit-requires-clause-group g c =
+    let planned : IsPlanFor (as_big c.args.driver.1.descriptor) c.args.driver.1 (plan.Same c.in-Ok-Same.next) = subst (IsPlanFor (as_big c.args.driver.1.descriptor) c.args.driver.1) c.in-Ok-Same.field-0-is c.in-Ok-Same.ensures.planned in
+    planned.0
+
+pub by_commit-requires-clause-same : goal.by_commit-requires-clause-same
+by_commit-requires-clause-same g c =
+    let planned : IsPlanFor (as_big c.args.driver.1.descriptor) c.args.driver.1 (plan.Same c.in-Ok-Same.next) = subst (IsPlanFor (as_big c.args.driver.1.descriptor) c.args.driver.1) c.in-Ok-Same.field-0-is c.in-Ok-Same.ensures.planned in
+    planned.2 ∙ planned.3
 
 pub by_commit-requires-clause-may : goal.by_commit-requires-clause-may
-by_commit-requires-clause-may g c = let planned = c.in-Ok-Same.ensures.planned in subst (λ (d : Descriptor). MayBeChanged d c.args.driver.1) (sym planned.2) planned.1
+by_commit-requires-clause-may g c =
+    let planned : IsPlanFor (as_big c.args.driver.1.descriptor) c.args.driver.1 (plan.Same c.in-Ok-Same.next) = subst (IsPlanFor (as_big c.args.driver.1.descriptor) c.args.driver.1) c.in-Ok-Same.field-0-is c.in-Ok-Same.ensures.planned in
+    subst (λ (d : Descriptor). MayBeChanged d c.args.driver.1) (sym planned.2) planned.1
 
 pub returns-in-Ok-Turn : goal.returns-in-Ok-Turn
 returns-in-Ok-Turn g c =
@@ -45,7 +74,7 @@ returns-in-Ok-Turn g c =
     let p : ℕ = c.args.patience.now.left in
     let q : ℕ = c.by_turn.new.patience.left in
     let small : c.args.driver.1.descriptor.big ≡ false = sym (ap (λ (d : Descriptor). d.big) c.descriptor.ensures.same) ∙ c.if-descriptor.false in
-    let planned = c.in-Ok-Turn.ensures.planned in
+    let planned : IsPlanFor (as_big c.args.driver.1.descriptor) c.args.driver.1 (plan.Turn c.in-Ok-Turn.next) = subst (IsPlanFor (as_big c.args.driver.1.descriptor) c.args.driver.1) c.in-Ok-Turn.field-0-is c.in-Ok-Turn.ensures.planned in
     let e = c.by_turn.ensures in
     record {
       gives = subst (λ (b : Bool). MatchBool b (NothingGives old new c.by_turn.result.answer) (RuleGives (as_big old.core.descriptor) p old new c.by_turn.result.answer)) (sym small) (subst (λ (d : Descriptor). RuleGives d p old new c.by_turn.result.answer) planned.2 e.gives);
@@ -62,7 +91,7 @@ returns-in-Ok-Same g c =
     let p : ℕ = c.args.patience.now.left in
     let q : ℕ = c.by_commit.new.patience.left in
     let small : c.args.driver.1.descriptor.big ≡ false = sym (ap (λ (d : Descriptor). d.big) c.descriptor.ensures.same) ∙ c.if-descriptor.false in
-    let planned = c.in-Ok-Same.ensures.planned in
+    let planned : IsPlanFor (as_big c.args.driver.1.descriptor) c.args.driver.1 (plan.Same c.in-Ok-Same.next) = subst (IsPlanFor (as_big c.args.driver.1.descriptor) c.args.driver.1) c.in-Ok-Same.field-0-is c.in-Ok-Same.ensures.planned in
     let e = c.by_commit.ensures in
     record {
       gives = subst (λ (b : Bool). MatchBool b (NothingGives old new c.by_commit.result.answer) (RuleGives (as_big old.core.descriptor) p old new c.by_commit.result.answer)) (sym small) (subst (λ (d : Descriptor). RuleGives d p old new c.by_commit.result.answer) planned.2 e.gives);

@@ -1,4 +1,4 @@
-use Rattle.std.proofs.Common.{ℕ, sym, subst}
+use Rattle.std.proofs.Common.{ℕ, sym, subst, ◌∙◌}
 use Rattle.std.specs.Prelude.{Err}
 use Rattle.lvm_num.specs.declared.descriptor.Descriptor.{Descriptor}
 use Rattle.lvm_session.specs.State.{State, state}
@@ -8,21 +8,50 @@ use Rattle.lvm_turnover.specs.Changing.{ChangeLeaves}
 use Rattle.lvm_volumes.specs.Endings.{StillHeld, KeepsFresh}
 use Rattle.lvm_volumes.proofs.EndingsLemmas.Fresh.{keeps_none}
 use Rattle.lvm_volumes.proofs.EndingsLemmas.Holding.{still_none}
-use Rattle.lvm_members.specs.Commands.{MayBeChanged, RuleGives}
+use Rattle.lvm_members.specs.declared.plan.Plan.TheVariants as plan
+use Rattle.lvm_members.specs.Commands.{IsPlanFor, MayBeChanged, RuleGives}
 use Rattle.lvm_members.proofs.RulesLemmas.{leaves_here, refused_gives, here_on}
 use Rattle.lvm_members.proofs.rules.set_quorum.Goals as goal
 
 pub by_turn-requires-clause-settled : goal.by_turn-requires-clause-settled
-by_turn-requires-clause-settled g c = let planned = c.in-Ok-Turn.ensures.planned in c.requires.settled planned.1.takes
+by_turn-requires-clause-settled g c =
+    let planned : IsPlanFor (with_quorum c.args.on c.args.driver.1.descriptor) c.args.driver.1 (plan.Turn c.in-Ok-Turn.next) = subst (IsPlanFor (with_quorum c.args.on c.args.driver.1.descriptor) c.args.driver.1) c.in-Ok-Turn.field-0-is c.in-Ok-Turn.ensures.planned in
+    c.requires.settled planned.1.takes
+
+pub by_turn-requires-clause-group : goal.by_turn-requires-clause-group
+by_turn-requires-clause-group g c =
+    let planned : IsPlanFor (with_quorum c.args.on c.args.driver.1.descriptor) c.args.driver.1 (plan.Turn c.in-Ok-Turn.next) = subst (IsPlanFor (with_quorum c.args.on c.args.driver.1.descriptor) c.args.driver.1) c.in-Ok-Turn.field-0-is c.in-Ok-Turn.ensures.planned in
+    planned.0
+
+pub by_turn-requires-clause-ready : goal.by_turn-requires-clause-ready
+by_turn-requires-clause-ready g c =
+    let planned : IsPlanFor (with_quorum c.args.on c.args.driver.1.descriptor) c.args.driver.1 (plan.Turn c.in-Ok-Turn.next) = subst (IsPlanFor (with_quorum c.args.on c.args.driver.1.descriptor) c.args.driver.1) c.in-Ok-Turn.field-0-is c.in-Ok-Turn.ensures.planned in
+    planned.3
 
 pub by_turn-requires-clause-may : goal.by_turn-requires-clause-may
-by_turn-requires-clause-may g c = let planned = c.in-Ok-Turn.ensures.planned in subst (λ (d : Descriptor). MayBeChanged d c.args.driver.1) (sym planned.2) planned.1
+by_turn-requires-clause-may g c =
+    let planned : IsPlanFor (with_quorum c.args.on c.args.driver.1.descriptor) c.args.driver.1 (plan.Turn c.in-Ok-Turn.next) = subst (IsPlanFor (with_quorum c.args.on c.args.driver.1.descriptor) c.args.driver.1) c.in-Ok-Turn.field-0-is c.in-Ok-Turn.ensures.planned in
+    subst (λ (d : Descriptor). MayBeChanged d c.args.driver.1) (sym planned.2) planned.1
 
 pub by_commit-requires-clause-settled : goal.by_commit-requires-clause-settled
-by_commit-requires-clause-settled g c = let planned = c.in-Ok-Same.ensures.planned in c.requires.settled planned.1.takes
+by_commit-requires-clause-settled g c =
+    let planned : IsPlanFor (with_quorum c.args.on c.args.driver.1.descriptor) c.args.driver.1 (plan.Same c.in-Ok-Same.next) = subst (IsPlanFor (with_quorum c.args.on c.args.driver.1.descriptor) c.args.driver.1) c.in-Ok-Same.field-0-is c.in-Ok-Same.ensures.planned in
+    c.requires.settled planned.1.takes
+
+pub by_commit-requires-clause-group : goal.by_commit-requires-clause-group
+by_commit-requires-clause-group g c =
+    let planned : IsPlanFor (with_quorum c.args.on c.args.driver.1.descriptor) c.args.driver.1 (plan.Same c.in-Ok-Same.next) = subst (IsPlanFor (with_quorum c.args.on c.args.driver.1.descriptor) c.args.driver.1) c.in-Ok-Same.field-0-is c.in-Ok-Same.ensures.planned in
+    planned.0
+
+pub by_commit-requires-clause-same : goal.by_commit-requires-clause-same
+by_commit-requires-clause-same g c =
+    let planned : IsPlanFor (with_quorum c.args.on c.args.driver.1.descriptor) c.args.driver.1 (plan.Same c.in-Ok-Same.next) = subst (IsPlanFor (with_quorum c.args.on c.args.driver.1.descriptor) c.args.driver.1) c.in-Ok-Same.field-0-is c.in-Ok-Same.ensures.planned in
+    planned.2 ∙ planned.3
 
 pub by_commit-requires-clause-may : goal.by_commit-requires-clause-may
-by_commit-requires-clause-may g c = let planned = c.in-Ok-Same.ensures.planned in subst (λ (d : Descriptor). MayBeChanged d c.args.driver.1) (sym planned.2) planned.1
+by_commit-requires-clause-may g c =
+    let planned : IsPlanFor (with_quorum c.args.on c.args.driver.1.descriptor) c.args.driver.1 (plan.Same c.in-Ok-Same.next) = subst (IsPlanFor (with_quorum c.args.on c.args.driver.1.descriptor) c.args.driver.1) c.in-Ok-Same.field-0-is c.in-Ok-Same.ensures.planned in
+    subst (λ (d : Descriptor). MayBeChanged d c.args.driver.1) (sym planned.2) planned.1
 
 pub returns-in-Ok-Turn : goal.returns-in-Ok-Turn
 returns-in-Ok-Turn g c =
@@ -30,7 +59,7 @@ returns-in-Ok-Turn g c =
     let new : State = state (g.S.Shelf.device c.by_turn.result.driver.0) c.by_turn.result.driver.1 in
     let p : ℕ = c.args.patience.now.left in
     let q : ℕ = c.by_turn.new.patience.left in
-    let planned = c.in-Ok-Turn.ensures.planned in
+    let planned : IsPlanFor (with_quorum c.args.on c.args.driver.1.descriptor) c.args.driver.1 (plan.Turn c.in-Ok-Turn.next) = subst (IsPlanFor (with_quorum c.args.on c.args.driver.1.descriptor) c.args.driver.1) c.in-Ok-Turn.field-0-is c.in-Ok-Turn.ensures.planned in
     let e = c.by_turn.ensures in
     record {
       gives = subst (λ (d : Descriptor). RuleGives d p old new c.by_turn.result.answer) planned.2 e.gives;
@@ -46,7 +75,7 @@ returns-in-Ok-Same g c =
     let new : State = state (g.S.Shelf.device c.by_commit.result.driver.0) c.by_commit.result.driver.1 in
     let p : ℕ = c.args.patience.now.left in
     let q : ℕ = c.by_commit.new.patience.left in
-    let planned = c.in-Ok-Same.ensures.planned in
+    let planned : IsPlanFor (with_quorum c.args.on c.args.driver.1.descriptor) c.args.driver.1 (plan.Same c.in-Ok-Same.next) = subst (IsPlanFor (with_quorum c.args.on c.args.driver.1.descriptor) c.args.driver.1) c.in-Ok-Same.field-0-is c.in-Ok-Same.ensures.planned in
     let e = c.by_commit.ensures in
     record {
       gives = subst (λ (d : Descriptor). RuleGives d p old new c.by_commit.result.answer) planned.2 e.gives;

@@ -12,9 +12,4 @@ returns-in_err-can_take g c =
 pub returns-else-has_room : goal.returns-else-has_room
 returns-else-has_room g c =
     let takes = c.in_ok-can_take.ensures.takes in
-    (
-      refl,
-      takes,
-      may_stay c.args.driver.now.1 c.in_ok-can_take.ensures.group.valid (c.requires.settled takes),
-      λ room. false≢true (sym c.if-has_room.false ∙ c.has_room.ensures.1 room),
-    )
+    (refl, (takes, may_stay c.args.driver.now.1 c.in_ok-can_take.ensures.group.valid (c.requires.settled takes), λ room. false≢true (sym c.if-has_room.false ∙ c.has_room.ensures.1 room)))
