@@ -1,11 +1,10 @@
 use Rattle.std.proofs.Common.{sym, subst, ◌∙◌}
 use Rattle.std.proofs.lemmas.Bool.{false≢true}
 use Rattle.lvm_num.specs.declared.descriptor.Descriptor.{Descriptor}
-use Rattle.lvm_num.specs.Disks.{Disks, has}
+use Rattle.lvm_num.specs.Disks.{has}
 use Rattle.lvm_num.specs.Votes.{CanWrite}
 use Rattle.lvm_change_laws.specs.Rule.{DiffersInRule, MayChangeRule}
 use Rattle.lvm_change.specs.Rule.{IsRefused}
-use Rattle.lvm_session.specs.State.{is_there}
 use Rattle.lvm_members.proofs.PlanLemmas.{there_by, at_core}
 use Rattle.lvm_members.proofs.plan.check.Goals as goal
 

@@ -1,8 +1,6 @@
-use Rattle.std.proofs.Common.{ap, sym, subst}
-use Rattle.lvm_num.specs.declared.descriptor.Descriptor.{Descriptor}
+use Rattle.std.proofs.Common.{subst}
 use Rattle.lvm_num.specs.declared.status.Status.{Status}
 use Rattle.lvm_turnover.specs.Turning.{IsReadyFor}
-use Rattle.lvm_members.specs.Commands.{MayBeChanged}
 use Rattle.lvm_members.proofs.plan.turn.Goals as goal
 
 pub returns-in-Ok-clause-planned : goal.returns-in-Ok-clause-planned
