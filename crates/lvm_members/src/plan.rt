@@ -29,7 +29,11 @@ pub enum Plan {
 }
 
 /// That of quorum checking on or off, unless something stands against it.
-pub fn plan_quorum<S: Shelf>(alloc: Global, driver: &Driver<S>, on: bool) -> Result<Plan, RuleFault>
+pub(crate) fn plan_quorum<S: Shelf>(
+    alloc: Global,
+    driver: &Driver<S>,
+    on: bool,
+) -> Result<Plan, RuleFault>
     requires settled { TakesCommands driver.now.1 → IsSettled driver.now.1 }
     ensures planned { IfOk result (IsPlanFor (with_quorum on driver.now.1.descriptor) driver.now.1) }
     ensures refused { IfErr result (RefusesChange (with_quorum on driver.now.1.descriptor) driver.now.1) }
@@ -49,7 +53,7 @@ pub fn plan_quorum<S: Shelf>(alloc: Global, driver: &Driver<S>, on: bool) -> Res
 }
 
 /// That of a group that becomes big, unless something stands against it.
-pub fn plan_big<S: Shelf>(alloc: Global, driver: &Driver<S>) -> Result<Plan, RuleFault>
+pub(crate) fn plan_big<S: Shelf>(alloc: Global, driver: &Driver<S>) -> Result<Plan, RuleFault>
     requires settled { TakesCommands driver.now.1 → IsSettled driver.now.1 }
     ensures planned { IfOk result (IsPlanFor (as_big driver.now.1.descriptor) driver.now.1) }
     ensures refused { IfErr result (RefusesChange (as_big driver.now.1.descriptor) driver.now.1) }
@@ -64,7 +68,7 @@ pub fn plan_big<S: Shelf>(alloc: Global, driver: &Driver<S>) -> Result<Plan, Rul
 }
 
 /// Whether the session takes a command.
-pub fn can_take<S: Shelf>(driver: &Driver<S>) -> Result<(), RuleFault>
+pub(crate) fn can_take<S: Shelf>(driver: &Driver<S>) -> Result<(), RuleFault>
     ensures takes { IfOk result (λ done. TakesCommands driver.now.1) }
     ensures group { IfOk result (λ done. AreOfOneGroup driver.now.1) }
     ensures refused { IfErr result (λ why. (next : Group) → RefusesChange next driver.now.1 why) }

@@ -32,16 +32,6 @@ by_turn-requires-clause-settled g c =
     let planned : IsPlanFor (as_big c.args.driver.1.descriptor) c.args.driver.1 (plan.Turn c.in-Ok-Turn.next) = subst (IsPlanFor (as_big c.args.driver.1.descriptor) c.args.driver.1) c.in-Ok-Turn.field-0-is c.in-Ok-Turn.ensures.planned in
     c.requires.settled planned.1.takes
 
-pub by_turn-requires-clause-group : goal.by_turn-requires-clause-group
-by_turn-requires-clause-group g c =
-    let planned : IsPlanFor (as_big c.args.driver.1.descriptor) c.args.driver.1 (plan.Turn c.in-Ok-Turn.next) = subst (IsPlanFor (as_big c.args.driver.1.descriptor) c.args.driver.1) c.in-Ok-Turn.field-0-is c.in-Ok-Turn.ensures.planned in
-    planned.0
-
-pub by_turn-requires-clause-ready : goal.by_turn-requires-clause-ready
-by_turn-requires-clause-ready g c =
-    let planned : IsPlanFor (as_big c.args.driver.1.descriptor) c.args.driver.1 (plan.Turn c.in-Ok-Turn.next) = subst (IsPlanFor (as_big c.args.driver.1.descriptor) c.args.driver.1) c.in-Ok-Turn.field-0-is c.in-Ok-Turn.ensures.planned in
-    planned.3
-
 pub by_turn-requires-clause-may : goal.by_turn-requires-clause-may
 by_turn-requires-clause-may g c =
     let planned : IsPlanFor (as_big c.args.driver.1.descriptor) c.args.driver.1 (plan.Turn c.in-Ok-Turn.next) = subst (IsPlanFor (as_big c.args.driver.1.descriptor) c.args.driver.1) c.in-Ok-Turn.field-0-is c.in-Ok-Turn.ensures.planned in
@@ -51,11 +41,6 @@ pub by_commit-requires-clause-settled : goal.by_commit-requires-clause-settled
 by_commit-requires-clause-settled g c =
     let planned : IsPlanFor (as_big c.args.driver.1.descriptor) c.args.driver.1 (plan.Same c.in-Ok-Same.next) = subst (IsPlanFor (as_big c.args.driver.1.descriptor) c.args.driver.1) c.in-Ok-Same.field-0-is c.in-Ok-Same.ensures.planned in
     c.requires.settled planned.1.takes
-
-pub by_commit-requires-clause-group : goal.by_commit-requires-clause-group
-by_commit-requires-clause-group g c =
-    let planned : IsPlanFor (as_big c.args.driver.1.descriptor) c.args.driver.1 (plan.Same c.in-Ok-Same.next) = subst (IsPlanFor (as_big c.args.driver.1.descriptor) c.args.driver.1) c.in-Ok-Same.field-0-is c.in-Ok-Same.ensures.planned in
-    planned.0
 
 pub by_commit-requires-clause-same : goal.by_commit-requires-clause-same
 by_commit-requires-clause-same g c =
