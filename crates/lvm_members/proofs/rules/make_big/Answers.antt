@@ -27,31 +27,6 @@ returns-then-descriptor g c =
       leaves = leaves_here (as_big s.core.descriptor) p s;
     }
 
-pub by_turn-requires-clause-settled : goal.by_turn-requires-clause-settled
-by_turn-requires-clause-settled g c =
-    let planned : IsPlanFor (as_big c.args.driver.1.descriptor) c.args.driver.1 (plan.Turn c.in-Ok-Turn.next) = subst (IsPlanFor (as_big c.args.driver.1.descriptor) c.args.driver.1) c.in-Ok-Turn.field-0-is c.in-Ok-Turn.ensures.planned in
-    c.requires.settled planned.1.takes
-
-pub by_turn-requires-clause-may : goal.by_turn-requires-clause-may
-by_turn-requires-clause-may g c =
-    let planned : IsPlanFor (as_big c.args.driver.1.descriptor) c.args.driver.1 (plan.Turn c.in-Ok-Turn.next) = subst (IsPlanFor (as_big c.args.driver.1.descriptor) c.args.driver.1) c.in-Ok-Turn.field-0-is c.in-Ok-Turn.ensures.planned in
-    subst (λ (d : Descriptor). MayBeChanged d c.args.driver.1) (sym planned.2) planned.1
-
-pub by_commit-requires-clause-settled : goal.by_commit-requires-clause-settled
-by_commit-requires-clause-settled g c =
-    let planned : IsPlanFor (as_big c.args.driver.1.descriptor) c.args.driver.1 (plan.Same c.in-Ok-Same.next) = subst (IsPlanFor (as_big c.args.driver.1.descriptor) c.args.driver.1) c.in-Ok-Same.field-0-is c.in-Ok-Same.ensures.planned in
-    c.requires.settled planned.1.takes
-
-pub by_commit-requires-clause-same : goal.by_commit-requires-clause-same
-by_commit-requires-clause-same g c =
-    let planned : IsPlanFor (as_big c.args.driver.1.descriptor) c.args.driver.1 (plan.Same c.in-Ok-Same.next) = subst (IsPlanFor (as_big c.args.driver.1.descriptor) c.args.driver.1) c.in-Ok-Same.field-0-is c.in-Ok-Same.ensures.planned in
-    planned.2 ∙ planned.3
-
-pub by_commit-requires-clause-may : goal.by_commit-requires-clause-may
-by_commit-requires-clause-may g c =
-    let planned : IsPlanFor (as_big c.args.driver.1.descriptor) c.args.driver.1 (plan.Same c.in-Ok-Same.next) = subst (IsPlanFor (as_big c.args.driver.1.descriptor) c.args.driver.1) c.in-Ok-Same.field-0-is c.in-Ok-Same.ensures.planned in
-    subst (λ (d : Descriptor). MayBeChanged d c.args.driver.1) (sym planned.2) planned.1
-
 pub returns-in-Ok-Turn : goal.returns-in-Ok-Turn
 returns-in-Ok-Turn g c =
     let old : State = state (g.S.Shelf.device c.args.driver.0) c.args.driver.1 in

@@ -13,31 +13,6 @@ use Rattle.lvm_members.specs.Commands.{IsPlanFor, MayBeChanged, RuleGives}
 use Rattle.lvm_members.proofs.RulesLemmas.{leaves_here, refused_gives, here_on}
 use Rattle.lvm_members.proofs.rules.set_quorum.Goals as goal
 
-pub by_turn-requires-clause-settled : goal.by_turn-requires-clause-settled
-by_turn-requires-clause-settled g c =
-    let planned : IsPlanFor (with_quorum c.args.on c.args.driver.1.descriptor) c.args.driver.1 (plan.Turn c.in-Ok-Turn.next) = subst (IsPlanFor (with_quorum c.args.on c.args.driver.1.descriptor) c.args.driver.1) c.in-Ok-Turn.field-0-is c.in-Ok-Turn.ensures.planned in
-    c.requires.settled planned.1.takes
-
-pub by_turn-requires-clause-may : goal.by_turn-requires-clause-may
-by_turn-requires-clause-may g c =
-    let planned : IsPlanFor (with_quorum c.args.on c.args.driver.1.descriptor) c.args.driver.1 (plan.Turn c.in-Ok-Turn.next) = subst (IsPlanFor (with_quorum c.args.on c.args.driver.1.descriptor) c.args.driver.1) c.in-Ok-Turn.field-0-is c.in-Ok-Turn.ensures.planned in
-    subst (λ (d : Descriptor). MayBeChanged d c.args.driver.1) (sym planned.2) planned.1
-
-pub by_commit-requires-clause-settled : goal.by_commit-requires-clause-settled
-by_commit-requires-clause-settled g c =
-    let planned : IsPlanFor (with_quorum c.args.on c.args.driver.1.descriptor) c.args.driver.1 (plan.Same c.in-Ok-Same.next) = subst (IsPlanFor (with_quorum c.args.on c.args.driver.1.descriptor) c.args.driver.1) c.in-Ok-Same.field-0-is c.in-Ok-Same.ensures.planned in
-    c.requires.settled planned.1.takes
-
-pub by_commit-requires-clause-same : goal.by_commit-requires-clause-same
-by_commit-requires-clause-same g c =
-    let planned : IsPlanFor (with_quorum c.args.on c.args.driver.1.descriptor) c.args.driver.1 (plan.Same c.in-Ok-Same.next) = subst (IsPlanFor (with_quorum c.args.on c.args.driver.1.descriptor) c.args.driver.1) c.in-Ok-Same.field-0-is c.in-Ok-Same.ensures.planned in
-    planned.2 ∙ planned.3
-
-pub by_commit-requires-clause-may : goal.by_commit-requires-clause-may
-by_commit-requires-clause-may g c =
-    let planned : IsPlanFor (with_quorum c.args.on c.args.driver.1.descriptor) c.args.driver.1 (plan.Same c.in-Ok-Same.next) = subst (IsPlanFor (with_quorum c.args.on c.args.driver.1.descriptor) c.args.driver.1) c.in-Ok-Same.field-0-is c.in-Ok-Same.ensures.planned in
-    subst (λ (d : Descriptor). MayBeChanged d c.args.driver.1) (sym planned.2) planned.1
-
 pub returns-in-Ok-Turn : goal.returns-in-Ok-Turn
 returns-in-Ok-Turn g c =
     let old : State = state (g.S.Shelf.device c.args.driver.0) c.args.driver.1 in
