@@ -9,7 +9,7 @@ use Rattle.lvm_volumes.specs.Endings.{StillHeld, KeepsFresh}
 use Rattle.lvm_volumes.proofs.EndingsLemmas.Fresh.{keeps_none}
 use Rattle.lvm_volumes.proofs.EndingsLemmas.Holding.{still_none}
 use Rattle.lvm_members.specs.declared.plan.Plan.TheVariants as plan
-use Rattle.lvm_members.specs.Commands.{IsPlanFor, MayBeChanged, NothingGives, RuleGives}
+use Rattle.lvm_members.specs.Commands.{IsPlanFor, NothingGives, RuleGives}
 use Rattle.lvm_members.proofs.RulesLemmas.{leaves_here, refused_gives, here_on}
 use Rattle.lvm_members.proofs.rules.make_big.Goals as goal
 
