@@ -93,7 +93,8 @@ pub fn close_copy(session: &mut Session)
     session.copy = None;
 }
 
-fn copy_at(copies: &[Pp], number: u8) -> Option<Pp>
+/// The partition of a copy, from 1, among these.
+pub fn copy_at(copies: &[Pp], number: u8) -> Option<Pp>
     ensures { result ≡ copy_at copies.now number }
 {
     if number == 0 {
