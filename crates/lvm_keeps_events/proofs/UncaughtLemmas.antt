@@ -67,7 +67,7 @@ unsettled : (core : Core) (p : Pp) → is_stale core p ≡ false → is_settled 
 unsettled core p fresh = ap (λ b. b && calls_stale (unwrap_or core.status.in_flight core.status.committed) p) fresh
 
 -- what is usable may be fresh
-usable_may : (core : Core) (p q : Pp) → not (is_pp q p) && is_usable core q ≡ true → may_be_fresh core q ≡ true
+pub usable_may : (core : Core) (p q : Pp) → not (is_pp q p) && is_usable core q ≡ true → may_be_fresh core q ≡ true
 usable_may core p q e = ap (λ b. was_fresh core q || not (b && is_wanted_stale core q)) (unsettled core q (fresh_by (not (is_pp q p)) (is_stale core q) (not (Rattle.lvm_session.specs.Judging.is_missing core q.disk)) e)) ∙ or_true (was_fresh core q)
   where
     fresh_by : (a s m : Bool) → a && (not s && m) ≡ true → s ≡ false
