@@ -1,4 +1,4 @@
 mod Aging
 mod Calling
 pub mod Opening
-mod Moving
+pub mod Moving

@@ -1,8 +1,7 @@
 -- A partition counts as stale since the session began.
-use Rattle.std.proofs.Common.{◌≡◌, ◌⊎◌, inl, inr, ℕ, Bool, true, false, ◌&&◌, ◌||◌, not, List, Option, None, refl, sym, ◌∙◌, ap, subst}
+use Rattle.std.proofs.Common.{◌≡◌, ◌⊎◌, inl, inr, ℕ, Bool, true, false, ◌&&◌, ◌||◌, not, Option, None, refl, sym, ◌∙◌, ap, subst}
 use Rattle.std.specs.Prelude.{IfSome}
-use Rattle.std.specs.List.{AllByRecursion, list_any}
-use Rattle.lvm_num.specs.declared.descriptor.Descriptor.{Descriptor}
+use Rattle.std.specs.List.{AllByRecursion}
 use Rattle.lvm_num.specs.declared.place.Pp.{Pp}
 use Rattle.lvm_num.specs.declared.status.Status.{Status}
 use Rattle.lvm_num.specs.Descriptor.{is_member, is_pp}
@@ -26,7 +25,7 @@ use Rattle.lvm_session.specs.declared.origin.Origin.{Origin}
 use Rattle.lvm_session.specs.State.{Core, State, state}
 use Rattle.lvm_session.specs.Judging.{copies_for, copies_in, is_settled, is_wanted_stale}
 use Rattle.lvm_session.specs.Calls.{CallsStale}
-use Rattle.lvm_session.specs.Causes.{AreCounted, IsAnswered, IsCausedAmong, IsCounted, IsLandedFor, IsTrueToOrigin, was_fresh, was_usable}
+use Rattle.lvm_session.specs.Causes.{AreCounted, IsAnswered, IsCausedAmong, IsChosenSince, IsCounted, IsLandedFor, IsTrueToOrigin, was_fresh, was_usable}
 use Rattle.lvm_session.specs.Owners.{AreOwned, IsTransferOf, flies}
 use Rattle.lvm_session.specs.Requests.{IsAimed, IsOpenOne, IsTarget}
 use Rattle.lvm_session.specs.Sound.{IsCopy, IsFitting, IsGoing, IsOn, IsSound, IsTold, may_be_fresh}
@@ -70,12 +69,12 @@ module _ (s : State) (sound : IsSound s) (on : s.core.power ≡ power.On) (none 
   unusable : (p : Pp) → was_usable core p ≡ false → was_usable now.core p ≡ false
   unusable p none = by (was_fresh core p) refl none
     where
+      neither : (a b : Bool) → b ≡ false → a && b ≡ false
+      neither true b e = e
+      neither false b e = refl
+
       by : (b : Bool) → was_fresh core p ≡ b → b && not (calls_missing core.origin.table p.disk) ≡ false → was_fresh now.core p && not (calls_missing table p.disk) ≡ false
-      by true was e = ap (λ m. was_fresh now.core p && not m) (calls.missing p.disk) ∙ and_false (was_fresh now.core p) (not (calls_missing core.origin.table p.disk)) e
-        where
-          and_false : (a b : Bool) → b ≡ false → a && b ≡ false
-          and_false true b e = e
-          and_false false b e = refl
+      by true was e = ap (λ m. was_fresh now.core p && not m) (calls.missing p.disk) ∙ neither (was_fresh now.core p) (not (calls_missing core.origin.table p.disk)) e
       by false was e = ap (λ b. b && not (calls_missing table p.disk)) (fewer p was)
 
   -- ---- requests

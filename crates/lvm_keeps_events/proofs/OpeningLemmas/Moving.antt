@@ -32,16 +32,18 @@ use Rattle.lvm_keeps_events.proofs.UncaughtLemmas.{usable_may}
 -- none of these copies is the place, so each that is usable is another
 other_usable : (core : Core) (to : Pp) (copies : List Pp) → is_among copies to ≡ false → list_any (is_usable core) copies ≡ true → list_any (λ (q : Pp). not (is_pp q to) && is_usable core q) copies ≡ true
 other_usable core to [] apart some = some
-other_usable core to (q ∷ qs) apart some = by (is_pp q to) refl (is_pp to q) (is_usable core q) refl apart some
+other_usable core to (q ∷ qs) apart some = by (is_pp q to) refl (is_pp to q) (is_usable core q) refl apart some (other_usable core to qs)
   where
     turned : is_pp q to ≡ true → is_pp to q ≡ true
     turned same = same_partition to q (sym (one_partition q to same))
 
-    by : (a : Bool) → is_pp q to ≡ a → (b u : Bool) → is_pp to q ≡ b → b || is_among qs to ≡ false → u || list_any (is_usable core) qs ≡ true → not a && u || list_any (λ (x : Pp). not (is_pp x to) && is_usable core x) qs ≡ true
-    by a first true u other none any = absurd (cc none)
-    by true first false u other none any = not_so (sym other ∙ turned first)
-    by false first false true other none any = refl
-    by false first false false other none any = other_usable core to qs none any
+    by : (a : Bool) → is_pp q to ≡ a → (b u : Bool) → is_pp to q ≡ b → b || is_among qs to ≡ false → u || list_any (is_usable core) qs ≡ true
+        → (is_among qs to ≡ false → list_any (is_usable core) qs ≡ true → list_any (λ (x : Pp). not (is_pp x to) && is_usable core x) qs ≡ true)
+        → (not a && u) || list_any (λ (x : Pp). not (is_pp x to) && is_usable core x) qs ≡ true
+    by a first true u other none any rest = absurd (cc none)
+    by true first false u other none any rest = not_so (sym other ∙ turned first)
+    by false first false true other none any rest = refl
+    by false first false false other none any rest = rest none any
 
 module _ (s : State) (new : Core) (lv lp number : ℕ) (to : Pp) (counts : Counts) (low : (disk : ℕ) → faults_at_first s.core disk ≤ counts.faults disk) (high : (disk : ℕ) → counts.faults disk ≤ s.device.counts.faults disk)
     (sound : IsSound s) (apart : IsApart s.core.descriptor lv lp number to) (it : IsMoveTaken s.core lv lp number to) (event : OpensMove counts s.core new lv lp number to) where

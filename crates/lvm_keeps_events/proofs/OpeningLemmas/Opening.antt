@@ -469,9 +469,6 @@ opens_keeps : (s : State) (new : Core) (lv lp number : ℕ) (counts : Counts) �
 opens_keeps s new lv lp number counts low high sound it event =
     subst (λ core. IsSound (state s.device core)) (sym event.is) (keeps s sound it.on it.none false lv lp number event.row event.volume within event.pp fine.readable event.tried event.nothing counts stale low high)
   where
-    stale : IsStaleCopy s.core (opened false event.pp lv lp number event.tried (faults_of counts (copies_of event.row lp) event.pp) (step_place s.core))
-    stale = stale_one s.core (sound.on it.on).going it.none lv lp number event.row event.volume event.pp event.copy_is fine.settled event.tried (faults_of counts (copies_of event.row lp) event.pp) (step_place s.core)
-
     rows : it.its.row ≡ event.row
     rows = same_row s.core lv it.its.row event.row it.its.volume event.volume
 
@@ -483,6 +480,9 @@ opens_keeps s new lv lp number counts low high sound it event =
 
     fine : IsFine s.core (copies_of event.row lp) event.pp
     fine = subst (IsFine s.core (copies_of event.row lp)) pps (subst (λ (r : LvRow). IsFine s.core (copies_of r lp) it.its.pp) rows (fine_of s.core (copies_of it.its.row lp) it.its.pp it.fine))
+
+    stale : IsStaleCopy s.core (opened false event.pp lv lp number event.tried (faults_of counts (copies_of event.row lp) event.pp) (step_place s.core))
+    stale = stale_one s.core (sound.on it.on).going it.none lv lp number event.row event.volume event.pp event.copy_is fine.settled event.tried (faults_of counts (copies_of event.row lp) event.pp) (step_place s.core)
 
 gives_keeps : (s : State) (new : Core) (lv lp number : ℕ) (answer : Result (Unit {0}) CopyFault) (counts : Counts) → ((disk : ℕ) → faults_at_first s.core disk ≤ counts.faults disk)
     → ((disk : ℕ) → counts.faults disk ≤ s.device.counts.faults disk) → IsSound s → IsAwake s.core → OpenGives counts s.core new lv lp number answer → IsSound (state s.device new)
