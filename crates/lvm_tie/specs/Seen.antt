@@ -1,6 +1,6 @@
 -- How a session of the driver is seen without bytes: by what relation a state of the induction is that of its parts.
 use Rattle.std.specs.Prelude.{◌≡◌, ◌⊎◌, ℕ, ◌+◌, ◌*◌, ◌-◌, Bool, true, false, ◌&&◌, ◌==◌, not, nat_le, nat_lt, if◌then◌else◌, List, [], ◌∷◌, ◌++◌, length, Option, Some, None, IsTrue, slice_get, slice_index_or}
-use Rattle.std.specs.Option.{option_map}
+use Rattle.std.specs.Option.{option_map, option_map_or}
 use Rattle.lvm_num.specs.declared.place.Pp.{Pp}
 use Rattle.lvm_num.specs.declared.record.NoteEntry.{NoteEntry}
 use Rattle.lvm_num.specs.declared.status.Status.{Status}
@@ -29,8 +29,9 @@ use Rattle.lvm_session.specs.declared.bringing.Step.TheVariants as step
 use Rattle.lvm_session.specs.State.{Core, is_there}
 use Rattle.lvm_session.specs.Judging.{is_running, place_of}
 use Rattle.lvm_session.specs.Bringing.{groups_of, has_row, block_at}
-use Rattle.lvm_invariant.specs.State.{Stage, Todo, Flying, Well, Badly, ModelPhase, Held, WantEntry, Ready, Going, Landed, Groups, Queued, ModelCopy, StepWrite, ModelState, Marks, has_landed}
+use Rattle.lvm_invariant.specs.State.{Stage, Todo, Flying, Well, Badly, ModelPhase, Held, WantEntry, Ready, Going, Landed, Groups, Queued, Beside, ModelCopy, StepWrite, ModelState, Marks, has_landed}
 use Rattle.lvm_num.specs.Descriptor.{is_pp}
+use Rattle.lvm_num.specs.Geometry.{partition_of}
 use Rattle.lvm_crash.specs.Session.{marks_of, as_marks}
 
 -- ---- requests
@@ -170,16 +171,17 @@ pub record SeesQueue (table : List Open) (open_copy : Option OpenCopy) (has_plac
 abbrev pub update_of : Stored → Option (Stamped Status)
 update_of status = option_map (λ (t : Status). record { stamp = status.stamp; value = t }) status.in_flight
 
--- Its marks are those of the three statuses, its writes of the update those that were started, and each disk that isn't a member which is there is missing.
-pub record SeesStatus (status : Stored) (there : Disks) (last : Stamped Marks) (update : Option (Stamped Marks)) (wants : Marks) (flying : Disks) (shown : ℕ → Option (Stamped Marks)) (gone : Disks) : Type 0 where
-  pub committed : last.value ≡ marks_of None status.committed
-  pub in_flight : update ≡ option_map (as_marks None) (update_of status)
-  pub wanted : wants ≡ marks_of None status.wanted
+-- Its marks are those of the three statuses, by which the partition beside counts as stale; its writes of the update are those that were started, and each disk
+-- that isn't a member which is there is missing.
+pub record SeesStatus (beside : Option Beside) (status : Stored) (there : Disks) (last : Stamped Marks) (update : Option (Stamped Marks)) (wants : Marks) (flying : Disks) (shown : ℕ → Option (Stamped Marks)) (gone : Disks) : Type 0 where
+  pub committed : last.value ≡ marks_of beside status.committed
+  pub in_flight : update ≡ option_map (as_marks beside) (update_of status)
+  pub wanted : wants ≡ marks_of beside status.wanted
   pub started : (d : ℕ) → flying d ≡ has status.writes.started d
   -- a disk to which a write of the update has gone well shows it
   pub written : (d : ℕ) → has status.writes.written d ≡ true → shown d ≡ update
   -- an update that is committed and still being written is what is committed, with its stamp
-  pub held : (u : Stamped Status) → update_of status ≡ Some u → is_held (seen status) ≡ true → last ≡ as_marks None u
+  pub held : (u : Stamped Status) → update_of status ≡ Some u → is_held (seen status) ≡ true → last ≡ as_marks beside u
   pub missing : (d : ℕ) → gone d ≡ not (there d)
 
 -- Its cache and its notes at home, on the disks that are there, and in flight are those of the session's.
@@ -190,10 +192,21 @@ pub record SeesNotes (kept : Cached) (there : Disks) (groups : Groups) (at_home 
 
 -- ---- a copy that moves
 
--- none is open that does
-abbrev pub Brings : Option OpenCopy → Type 0
-Brings None = Unit {0}
-Brings (Some c) = c.moves ≡ false
+-- the blocks of the logical partition of the copy
+abbrev pub its_blocks : Core → OpenCopy → ℕ → ℕ → Bool
+its_blocks core c lv b = (lv == c.lv) && (partition_of core.descriptor.mib b == c.lp)
+
+-- the place for them, where the copy moves there
+abbrev pub place_if : Bool → Core → OpenCopy → Option Beside
+place_if is core c = if is then Some (record { place = c.pp; its = its_blocks core c }) else None
+
+-- the place to which the copy moves that is open, also once it has ended
+abbrev pub beside_of : Core → Option Beside
+beside_of core = option_map_or (λ (c : OpenCopy). place_if c.moves core c) core.copy None
+
+-- the state has that one beside the group's copies, and no other
+abbrev pub SeesBeside : Core → Option Beside → Type 0
+SeesBeside core beside = beside ≡ beside_of core
 
 -- ---- all of it
 
@@ -201,11 +214,8 @@ Brings (Some c) = c.moves ≡ false
 pub record Sees (past : List Fact) (core : Core) (v : ModelState) : Type 0 where
   pub queue : SeesQueue core.requests core.copy (λ (c : OpenCopy). has_row core c) (λ (c : OpenCopy). block_at core c) core.history.facts v.queue v.name
   pub facts : v.facts ≡ past ++ core.history.facts
-  pub status : SeesStatus core.status (is_there core) v.committed v.in_flight v.wanted v.status_flying v.media.status v.missing
+  pub status : SeesStatus v.beside core.status (is_there core) v.committed v.in_flight v.wanted v.status_flying v.media.status v.missing
   pub notes : SeesNotes core.cache (is_there core) v.cache v.home_note v.flying_note
   pub open_copy : SeesCopy (groups_of core) core.copy v.open_copy
   pub step_write : v.step_write ≡ step_write_in core.copy
-  -- no partition is brought up beside the group's copies
-  pub beside : v.beside ≡ None
-  -- since the copy that is open doesn't move
-  pub brings : Brings core.copy
+  pub beside : SeesBeside core v.beside
