@@ -153,7 +153,6 @@ module _ (core : Core) (lv lp number : ℕ) (to : Pp) where
       by power.Dark e = absurd (cc e)
       by power.Stuck e = none_on e
 
-
 -- ---- what the opening leaves
 
 -- the copy is open, its step has entered the queue, all requests are aged, and the place counts as stale since the session began

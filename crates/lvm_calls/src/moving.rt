@@ -100,13 +100,7 @@ fn move_refusal_in(
     }
 }
 
-fn move_refusal_on(
-    session: &Session,
-    lv: u16,
-    lp: u32,
-    number: u8,
-    to: Pp,
-) -> Option<MoveRefusal>
+fn move_refusal_on(session: &Session, lv: u16, lp: u32, number: u8, to: Pp) -> Option<MoveRefusal>
     requires { IsValid session.now.descriptor }
     ensures { result ≡ move_refusal_on (core_of session.now) lv lp number to }
 {
@@ -121,13 +115,7 @@ fn move_refusal_on(
 
 /// Why a copy, from 1, of a logical partition, from 0, of a volume doesn't move to a partition, in the order of
 /// `MoveRefusal`; None where it may. Memory is never a cause here.
-pub fn move_fault(
-    session: &Session,
-    lv: u16,
-    lp: u32,
-    number: u8,
-    to: Pp,
-) -> Option<MoveRefusal>
+pub fn move_fault(session: &Session, lv: u16, lp: u32, number: u8, to: Pp) -> Option<MoveRefusal>
     requires { IsValid session.now.descriptor }
     ensures { result ≡ move_fault (core_of session.now) lv lp number to }
 {

@@ -22,5 +22,5 @@ pub returns-clause-opens : goal.returns-clause-opens
 returns-clause-opens g c =
     let its = c.opened_move-copy.ensures in
     let left = move_leaves (core_of c.args.session.now) (core_of c.call_stale.new.session) (core_of c.age_table.new.session) (core_of c.enter_step.new.session) c.args.to c.opened_move-copy.result _
-        c.call_stale.ensures.core c.call_stale.ensures.called c.age_table.ensures.core c.enter_step.ensures.core its.is in
+    c.call_stale.ensures.core c.call_stale.ensures.called c.age_table.ensures.core c.enter_step.ensures.core its.is in
     record { row = its.row; volume = its.volume; tried = c.opened_move-copy.result.tried; nothing = its.nothing; called = left.called; is = left.is }
