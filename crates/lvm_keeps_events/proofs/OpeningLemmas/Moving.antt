@@ -27,7 +27,7 @@ use Rattle.lvm_keeps_events.specs.Opening.{IsApart, OpenMoveKeeps}
 use Rattle.lvm_keeps_events.proofs.Lists.{any_on}
 use Rattle.lvm_keeps_events.proofs.OpeningLemmas.Calling.{called_sound}
 use Rattle.lvm_keeps_events.proofs.OpeningLemmas.Opening.{IsReadable, keeps, not_whole, same_row, seen_high, seen_low}
-use Rattle.lvm_keeps_events.proofs.UncaughtLemmas.{usable_may}
+use Rattle.lvm_keeps_events.proofs.Usable.{usable_may}
 
 -- none of these copies is the place, so each that is usable is another
 other_usable : (core : Core) (to : Pp) (copies : List Pp) → is_among copies to ≡ false → list_any (is_usable core) copies ≡ true → list_any (λ (q : Pp). not (is_pp q to) && is_usable core q) copies ≡ true
