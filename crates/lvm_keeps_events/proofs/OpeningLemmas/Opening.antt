@@ -180,9 +180,8 @@ stale_one core going none lv lp number row volume pp copy_is settled tried fault
     wanted = true_from_ne_false (is_wanted_stale core pp) (λ clear. not_so (sym (ap (λ m. option_map_or (λ (k : OpenCopy). is_running k && is_whole core k && is_pp pp k.pp) m false) none)
         ∙ going.clearings pp (ap (λ b. b || calls_stale (unwrap_or core.status.in_flight core.status.committed) pp) stale) clear))
 
--- ---- the copy is opened
+-- ---- the copy is opened, or begins to move
 
--- (or begins to move)
 module _ (s : State) (sound : IsSound s) (on : s.core.power ≡ power.On) (none : s.core.copy ≡ None) (moves : Bool) (lv lp number : ℕ) (row : LvRow) (volume : volume_of s.core.descriptor lv ≡ Some row) (within : lp < row.lps)
     (pp : Pp) (readable : IsReadable s.core (copies_of row lp) pp) (tried : ℕ) (nothing : (d : ℕ) → has tried d ≡ false) (counts : Counts)
     (kind : IsOfKind moves s.core (opened moves pp lv lp number tried (faults_of counts (copies_of row lp) pp) (step_place s.core)))
