@@ -1,4 +1,4 @@
-use Rattle.std.proofs.Common.{◌≡◌, ◌<◌, length, map, sym, ◌∙◌, ap, subst}
+use Rattle.std.proofs.Common.{◌<◌, length, map, sym, ◌∙◌, ap, subst}
 use Rattle.lvm_hold.specs.Waiting.{AreBelow}
 use Rattle.lvm_session.specs.declared.bringing.OpenCopy.{OpenCopy}
 use Rattle.lvm_session.specs.State.{Core}
