@@ -1,10 +1,10 @@
 -- A copy begins to move.
-use Rattle.std.proofs.Common.{◌≡◌, ◌⊎◌, inl, inr, ◌≤◌, ◌<◌, ◌==◌, ℕ, Bool, true, false, ◌&&◌, ◌||◌, not, List, [], ◌∷◌, Option, Some, None, slice_index_or, refl, sym, ◌∙◌, ap, subst}
-use Rattle.std.specs.Prelude.{Err, MatchOption, Ok, Result}
+use Rattle.std.proofs.Common.{◌≡◌, ◌⊎◌, inl, inr, ◌≤◌, ◌<◌, ℕ, Bool, true, false, ◌&&◌, ◌||◌, not, List, [], ◌∷◌, Option, Some, None, slice_index_or, refl, sym, ◌∙◌, ap, subst}
+use Rattle.std.specs.Prelude.{Err, MatchOption, Ok}
 use Rattle.std.specs.List.{list_any}
 use Rattle.lvm_num.specs.declared.descriptor.LvRow.{LvRow}
 use Rattle.lvm_num.specs.declared.place.Pp.{Pp}
-use Rattle.lvm_num.specs.Descriptor.{copies_of, is_pp, volume_of}
+use Rattle.lvm_num.specs.Descriptor.{copies_of, is_pp}
 use Rattle.lvm_num.specs.Status.{calls_missing, calls_stale}
 use Rattle.lvm_num.proofs.Booleans.{not_so, or_true}
 use Rattle.lvm_num.proofs.DescriptorLemmas.Partitions.{one_partition, same_partition}
@@ -12,11 +12,10 @@ use Rattle.lvm_disk.specs.Counts.{Counts}
 use Rattle.lvm_session.specs.declared.answers.MoveRefusal.{MoveRefusal}
 use Rattle.lvm_session.specs.declared.answers.MoveRefusal.TheVariants as denial
 use Rattle.lvm_session.specs.State.{Core, State, state}
-use Rattle.lvm_session.specs.Judging.{copies_in, is_missing, is_usable}
+use Rattle.lvm_session.specs.Judging.{copies_in, is_usable}
 use Rattle.lvm_session.specs.Bringing.{step_place}
 use Rattle.lvm_session.specs.Marks.{is_among}
-use Rattle.lvm_session.specs.Calls.{OpenMoveGives, OpensMove, copy_at, faults_of, move_fault, opened}
-use Rattle.lvm_session.specs.Asking.{IsAwake}
+use Rattle.lvm_session.specs.Calls.{OpensMove, copy_at, faults_of, move_fault, opened}
 use Rattle.lvm_session.specs.Causes.{faults_at_first}
 use Rattle.lvm_session.specs.Sound.{IsMove, IsSound, may_be_fresh}
 use Rattle.lvm_calls.specs.Opening.{counts_seen}
