@@ -116,8 +116,8 @@ open_move_keeps s new lv lp number to answer sound awake apart gives = by (move_
     same_sound same = subst (λ (core : Core). IsSound (state s.device core)) (sym same) sound
 
     opens : None ≡ move_fault s.core lv lp number to → ((answer ≡ Ok tt) × OpensMove (counts_seen s.device s.core) s.core new lv lp number to) ⊎ ((answer ≡ Err denial.Memory) × (new ≡ s.core)) → IsSound (state s.device new)
-    opens fine (inl event) = moves_keep s new lv lp number to (counts_seen s.device s.core) (seen_low s sound) (seen_high s sound) sound apart (move_taken s.core lv lp number to awake fine) event.1
-    opens fine (inr same) = same_sound same.1
+    opens unrefused (inl event) = moves_keep s new lv lp number to (counts_seen s.device s.core) (seen_low s sound) (seen_high s sound) sound apart (move_taken s.core lv lp number to awake unrefused) event.1
+    opens unrefused (inr same) = same_sound same.1
 
     by : (f : Option MoveRefusal) → move_fault s.core lv lp number to ≡ f
         → MatchOption f (((answer ≡ Ok tt) × OpensMove (counts_seen s.device s.core) s.core new lv lp number to) ⊎ ((answer ≡ Err denial.Memory) × (new ≡ s.core))) (λ (why : MoveRefusal). (answer ≡ Err why) × (new ≡ s.core)) → IsSound (state s.device new)
