@@ -59,13 +59,13 @@ use Rattle.lvm_session.specs.declared.flown.Owner.TheVariants as owner
 use Rattle.lvm_session.specs.declared.open.Open.{Open}
 use Rattle.lvm_session.specs.declared.open.Power.TheVariants as power
 use Rattle.lvm_session.specs.State.{Core, State, is_there}
-use Rattle.lvm_session.specs.Judging.{is_sure_at, aims, all_but_sure, copies_for, copies_in, counts_failed, facts_of, group_in, group_of, has_dirty_mark, has_names, held_of, is_beside, is_beside_copy, is_caught, is_clear, is_failing, is_held_back, is_held_by_move, is_kept, is_marked, is_missing, is_moved, is_past_held, is_pending, is_running, is_settled, is_stale, is_sure, is_under_way, is_usable, is_waiting, is_wanted_stale, lp_of, mode_of, next_for, place_aims, place_of, places_if, pps_of, same_pps}
+use Rattle.lvm_session.specs.Judging.{is_sure_at, aims, all_but_sure, copies_for, copies_in, counts_failed, facts_of, group_in, group_of, has_dirty_mark, has_names, held_of, is_beside, is_beside_copy, is_caught, stays_fresh, is_failing, is_held_back, is_held_by_move, is_kept, is_marked, is_missing, is_moved, is_past_held, is_pending, is_running, is_settled, is_stale, is_sure, is_under_way, is_usable, is_waiting, is_wanted_stale, lp_of, mode_of, next_for, place_aims, place_of, places_if, pps_of, same_pps}
 use Rattle.lvm_session.specs.Bringing.{end_of, ends_if, hand_of, has_row, is_cleared, is_idle, is_out, is_whole, next_source, sources_of, step_of, step_row}
 use Rattle.lvm_session.specs.Enabled.{Part, admission_at, can_pin, copy_read, copy_write, data_at, data_start, first_event, first_from, first_of, has_buffer, is_admit, is_free_step, is_lost, is_pin, is_status_due, is_unnamed, landing, landing_at, may_be_admitted, may_pin, may_read, may_write, note_at, note_due, note_start, or_next, outcome_next, parts_to_settle, parts_to_start, pinning_at, same_row, same_rows, same_status, target_due, target_next, wants_record}
 use Rattle.lvm_session.specs.Dark.{hand_of_copy}
 use Rattle.lvm_session.specs.Owners.{AreRows, flies, same_owner, target_flies}
 use Rattle.lvm_session.specs.Requests.{IsAimed, IsMarkedPlace, IsOpenOne, IsPhase, IsRecorded, IsRequest, IsTarget, is_failed_and_sure, is_wanted_due, is_wanted_dirty, mode_for, wants_status, will_be_kept}
-use Rattle.lvm_session.specs.Sound.{IsCopy, IsGoing, IsOfKind, IsSound, count_if, has_number, is_dark, is_hand, pins, stays_fresh, waiting_rows, with_row}
+use Rattle.lvm_session.specs.Sound.{IsCopy, IsGoing, IsOfKind, IsSound, count_if, has_number, is_dark, is_hand, pins, waiting_rows, with_row}
 use Rattle.lvm_session.proofs.MovesLemmas.{IsOpenPlace, move_of, place_open}
 use Rattle.std.proofs.lemmas.Slice.Eq.{bytes_eq-Decides}
 use Rattle.lvm_num.proofs.Booleans.{and_false, and_true, not_so, none_if, same_by_if}
@@ -700,7 +700,7 @@ module _ (s : State) (sound : IsSound s) (on : s.core.power ≡ power.On) (votes
       by None e = not_so e
       by (Some c) e =
           let done = both (is_moved core c) (is_beside_copy core o.request.ask c) e in
-          let calm = is_false (is_under_way core c) (both (c.moves && is_running c && is_whole core c && is_clear core c.pp) (not (is_under_way core c)) done.0).1 in
+          let calm = is_false (is_under_way core c) (both (c.moves && is_running c && is_whole core c && stays_fresh core c.pp) (not (is_under_way core c)) done.0).1 in
           middle (is_waiting o) (is_past_held o.request.phase) (is_beside_copy core o.request.ask c) waiting done.1
           (all_at (λ (x : Open). is_waiting x && is_past_held x.request.phase && is_beside_copy core x.request.ask c ≡ false) core.requests place o
           (all_false (λ (x : Open). is_waiting x && is_past_held x.request.phase && is_beside_copy core x.request.ask c) core.requests calm) there)
@@ -1042,9 +1042,9 @@ module _ (s : State) (sound : IsSound s) (on : s.core.power ≡ power.On) (votes
       -- it isn't whole, so no move is done
       free_all : (ask : Ask) → is_held_by_move core ask ≡ false
       free_all ask = of_copy (λ (d : OpenCopy). is_moved core d && is_beside_copy core ask d) false ∙ ap (λ b. b && is_beside_copy core ask c)
-          (ap (λ b. c.moves && is_running c && b && is_clear core c.pp && not (is_under_way core c)) goes.1 ∙ by (c.moves && is_running c))
+          (ap (λ b. c.moves && is_running c && b && stays_fresh core c.pp && not (is_under_way core c)) goes.1 ∙ by (c.moves && is_running c))
         where
-          by : (b : Bool) → b && false && is_clear core c.pp && not (is_under_way core c) ≡ false
+          by : (b : Bool) → b && false && stays_fresh core c.pp && not (is_under_way core c) ≡ false
           by true = refl
           by false = refl
 
@@ -1140,10 +1140,10 @@ module _ (s : State) (sound : IsSound s) (on : s.core.power ≡ power.On) (votes
 
               done : is_moved core c ≡ true
               done =
-                  ap (λ b. b && is_running c && is_whole core c && is_clear core c.pp && not (is_under_way core c)) k
-                  ∙ ap (λ b. b && is_whole core c && is_clear core c.pp && not (is_under_way core c)) i
-                  ∙ ap (λ b. b && is_clear core c.pp && not (is_under_way core c)) j
-                  ∙ ap (λ b. (not b && not (calls_stale (unwrap_or core.status.in_flight core.status.committed) c.pp) && not (is_wanted_stale core c.pp)) && not (is_under_way core c)) fresh
+                  ap (λ b. b && is_running c && is_whole core c && stays_fresh core c.pp && not (is_under_way core c)) k
+                  ∙ ap (λ b. b && is_whole core c && stays_fresh core c.pp && not (is_under_way core c)) i
+                  ∙ ap (λ b. b && stays_fresh core c.pp && not (is_under_way core c)) j
+                  ∙ ap (λ b. (not (b || calls_stale (unwrap_or core.status.in_flight core.status.committed) c.pp) && not (is_wanted_stale core c.pp)) && not (is_under_way core c)) fresh
                   ∙ ap (λ b. (not b && not (is_wanted_stale core c.pp)) && not (is_under_way core c)) (seen_is ∙ fresh)
                   ∙ ap (λ b. not b && not (is_under_way core c)) (it.clear i j)
                   ∙ ap (λ b. not b) calm

@@ -31,7 +31,7 @@ use Rattle.lvm_session.specs.Bringing.{is_out, is_whole}
 use Rattle.lvm_session.specs.Calls.{is_aimed_at, is_still_aimed, state_at_end, state_of_copy}
 use Rattle.lvm_session.specs.Dark.{hand_of_copy}
 use Rattle.lvm_session.specs.Enabled.{first_of, has_buffer, is_status_due, landing, or_next, parts_to_settle, parts_to_start, same_status}
-use Rattle.lvm_session.specs.Judging.{is_beside_copy, is_clear, is_held_by_move, is_moved, is_running, is_under_way, is_waiting}
+use Rattle.lvm_session.specs.Judging.{is_beside_copy, stays_fresh, is_held_by_move, is_moved, is_running, is_under_way, is_waiting}
 use Rattle.lvm_session.specs.Owners.{AreRows, flies, same_owner}
 use Rattle.lvm_session.specs.Requests.{IsOpenOne}
 use Rattle.lvm_session.specs.Sound.{IsGoing, IsOn, IsSound, count_if, has_number, is_dark, is_hand}
@@ -103,7 +103,7 @@ module _ (s : State) (sound : IsSound s) (drained : IsDrained s) where
           ) ∙ e in cc told
         where
           parts : is_running c ≡ true
-          parts = second c.moves (is_running c) (first (c.moves && is_running c) (is_whole core c) (first (c.moves && is_running c && is_whole core c) (is_clear core c.pp) (first (c.moves && is_running c && is_whole core c && is_clear core c.pp) (not (is_under_way core c)) done)))
+          parts = second c.moves (is_running c) (first (c.moves && is_running c) (is_whole core c) (first (c.moves && is_running c && is_whole core c) (stays_fresh core c.pp) (first (c.moves && is_running c && is_whole core c && stays_fresh core c.pp) (not (is_under_way core c)) done)))
             where
               first : (a b : Bool) → a && b ≡ true → a ≡ true
               first true b f = refl
