@@ -1,13 +1,12 @@
 -- The copy that is open is closed.
 use Rattle.std.proofs.Common.{◌≡◌, ◌⊎◌, inl, inr, ◌&&◌, ◌||◌, ℕ, Bool, true, false, not, if◌then◌else◌, List, [], ◌∷◌, Option, Some, None, refl, sym, ◌∙◌, ap, subst, arith}
-use Rattle.std.specs.Prelude.{IfSome, is_none, is_some, unwrap_or}
+use Rattle.std.specs.Prelude.{IfSome, is_none, is_some}
 use Rattle.std.specs.List.{AllByRecursion, list_any}
 use Rattle.std.specs.Option.{option_map_or}
 use Rattle.lvm_session.specs.passed.Names.{Flight}
 use Rattle.std.proofs.lemmas.Bool.{or_parts}
 use Rattle.lvm_num.specs.declared.place.Pp.{Pp}
 use Rattle.lvm_num.specs.Descriptor.{is_pp}
-use Rattle.lvm_num.specs.Status.{calls_stale}
 use Rattle.lvm_num.proofs.Booleans.{not_so}
 use Rattle.lvm_num.proofs.Lists.{all_weaker}
 use Rattle.lvm_num.proofs.DescriptorLemmas.Partitions.{one_partition, same_partition}
@@ -26,7 +25,7 @@ use Rattle.lvm_session.specs.declared.open.Open.{Open}
 use Rattle.lvm_session.specs.declared.open.Power.{Power}
 use Rattle.lvm_session.specs.declared.open.Power.TheVariants as power
 use Rattle.lvm_session.specs.State.{Core, State, state}
-use Rattle.lvm_session.specs.Judging.{is_beside_copy, stays_fresh, is_moved, is_past_held, is_running, is_stale, is_under_way, is_waiting, is_wanted_stale, places_for, pps_of}
+use Rattle.lvm_session.specs.Judging.{is_beside_copy, stays_fresh, is_moved, is_past_held, is_running, is_under_way, is_waiting, is_wanted_stale, places_for, pps_of}
 use Rattle.lvm_session.specs.Bringing.{hand_of, has_row, is_idle, is_out, is_whole, step_row}
 use Rattle.lvm_session.specs.Marks.{is_among}
 use Rattle.lvm_session.specs.declared.answers.CopyState.{CopyState}
