@@ -930,12 +930,12 @@ module _ (s : State) (sound : IsSound s) (on : s.core.power ≡ power.On) (votes
       by true is = by_move (is_held_by_move core o.request.ask) refl
         where
           in_phase : (p : Phase) → is_past_held p ≡ false → IsPhase p o → o.request.pinned ≡ false
-          in_phase phase.Held e its = its.1
-          in_phase phase.WantEntry e its = its.1
-          in_phase phase.WantRecord e its = not_so (sym e)
-          in_phase phase.Data e its = not_so (sym e)
-          in_phase phase.WantStatus e its = not_so (sym e)
-          in_phase phase.Landed e its = absurd its
+          in_phase phase.Held e it = it.1
+          in_phase phase.WantEntry e it = it.1
+          in_phase phase.WantRecord e it = not_so (sym e)
+          in_phase phase.Data e it = not_so (sym e)
+          in_phase phase.WantStatus e it = not_so (sym e)
+          in_phase phase.Landed e it = absurd it
 
           of : (o.request.phase ≡ phase.Held) ⊎ (o.request.phase ≡ phase.WantEntry) → o.request.pinned ≡ false
           of (inl e) = (subst (λ p. IsPhase p o) e ((one place o there).waits is).shape.phase_is).1
