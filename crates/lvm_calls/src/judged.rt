@@ -8,9 +8,7 @@ ghost use Rattle.lvm_session.specs.Fields.{core_of};
 ghost use Rattle.lvm_session.specs.Judging.{copies_in};
 ghost use Rattle.lvm_calls.specs.Reviewing.{IsLocated, is_other, is_untried};
 
-use crate::below::{
-    is_missing, is_pp, is_running, is_usable, is_whole, stays_fresh,
-};
+use crate::below::{is_missing, is_pp, is_running, is_usable, is_whole, stays_fresh};
 use lvm_num::{Pp, copies_of, volume_of};
 use lvm_session::{CopyEnd, OpenCopy, Session, Step};
 
