@@ -5,4 +5,4 @@ pub mod BroughtUp
 pub mod Worked
 pub mod Waiting
 pub mod Moved
-mod Along
+pub mod Along
