@@ -9,21 +9,21 @@ use Rattle.lvm_status.specs.Update.{Stored, Updates}
 use Rattle.lvm_session.specs.declared.bringing.OpenCopy.{OpenCopy}
 use Rattle.lvm_session.specs.declared.bringing.CopyEnd.{CopyEnd}
 use Rattle.lvm_session.specs.State.{Core}
-use Rattle.lvm_session.specs.Bringing.{after_copy_end, is_called_stale, is_done_end, is_whole, marked_by_end, with_end}
+use Rattle.lvm_session.specs.Bringing.{after_copy_end, is_held_stale, is_done_end, is_whole, marked_by_end, with_end}
 use Rattle.lvm_session.specs.Marks.{WantsStale}
 use Rattle.lvm_calls.proofs.MarksLemmas.{markable_on, same_due, sound_after, then_marked}
 use Rattle.lvm_calls.specs.Ending.{CanEnd, MayEndCopy}
 
 -- what is called stale is what it was
-called_same : (core : Core) (due : Pp → Bool) (status : Stored) → WantsStale due core.status status → (p : Pp) → is_called_stale (record core { status = status }) p ≡ is_called_stale core p
+called_same : (core : Core) (due : Pp → Bool) (status : Stored) → WantsStale due core.status status → (p : Pp) → is_held_stale (record core { status = status }) p ≡ is_held_stale core p
 called_same core due status marks p = ap (λ (u : Updates). calls_stale u.committed p || calls_stale (unwrap_or u.in_flight u.committed) p) marks.rest
 
 marks_same : (core : Core) (due : Pp → Bool) (status : Stored) → WantsStale due core.status status → (end : Option CopyEnd) (q : Pp) → marked_by_end (record core { status = status }) end q ≡ marked_by_end core end q
 marks_same core due status marks None q = refl
 marks_same core due status marks (Some how) q = by core.copy
   where
-    by : (copy : Option OpenCopy) → not (is_done_end how) && option_map_or (λ (c : OpenCopy). is_whole core c && is_pp q c.pp && (not c.moves || is_called_stale (record core { status = status }) c.pp)) copy false
-        ≡ not (is_done_end how) && option_map_or (λ (c : OpenCopy). is_whole core c && is_pp q c.pp && (not c.moves || is_called_stale core c.pp)) copy false
+    by : (copy : Option OpenCopy) → not (is_done_end how) && option_map_or (λ (c : OpenCopy). is_whole core c && is_pp q c.pp && (not c.moves || is_held_stale (record core { status = status }) c.pp)) copy false
+        ≡ not (is_done_end how) && option_map_or (λ (c : OpenCopy). is_whole core c && is_pp q c.pp && (not c.moves || is_held_stale core c.pp)) copy false
     by None = refl
     by (Some c) = ap (λ b. not (is_done_end how) && (is_whole core c && is_pp q c.pp && (not c.moves || b))) (called_same core due status marks c.pp)
 

@@ -1,17 +1,14 @@
 //! How the state as a whole makes the copy end that is open.
-ghost use Rattle.std.specs.Prelude.{◌≡◌, ◌<◌, ◌&&◌, All, IfSome, not, unwrap_or};
+ghost use Rattle.std.specs.Prelude.{◌≡◌, ◌<◌, ◌&&◌, All, IfSome, not};
 ghost use Rattle.lvm_num.specs.declared.place.Pp.{Pp};
 ghost use Rattle.std.specs.List.{list_any};
 ghost use Rattle.lvm_num.specs.Descriptor.{IsValid};
-ghost use Rattle.lvm_num.specs.Status.{calls_stale};
-ghost use Rattle.lvm_session.specs.Bringing.{copy_ends, end_by_sources, end_of, ends_if, is_called_stale, is_cleared, is_idle};
+ghost use Rattle.lvm_session.specs.Bringing.{copy_ends, end_by_sources, end_of, ends_if, is_cleared, is_idle};
 ghost use Rattle.lvm_session.specs.Fields.{core_of};
 ghost use Rattle.lvm_session.specs.Judging.{copies_in};
 ghost use Rattle.lvm_calls.specs.Reviewing.{IsLocated, is_other, is_untried};
 
-use crate::below::{
-    is_clear, is_missing, is_pp, is_running, is_stale, is_usable, is_wanted_stale, is_whole,
-};
+use crate::below::{is_missing, is_pp, is_running, is_usable, is_whole, stays_fresh};
 use lvm_num::{Pp, copies_of, volume_of};
 use lvm_session::{CopyEnd, OpenCopy, Session, Step};
 
@@ -21,28 +18,11 @@ fn end_if(is: bool, how: CopyEnd) -> Option<CopyEnd>
     if is { Some(how) } else { None }
 }
 
-// Whether the status in flight, or else the committed one, calls the partition stale.
-fn flies_stale(session: &Session, pp: Pp) -> bool
-    ensures { result ≡ calls_stale (unwrap_or session.now.updater.in_flight session.now.updater.committed) pp }
-{
-    match session.updater.in_flight() {
-        None => is_stale(session, pp),
-        Some(flying) => flying.is_stale(pp),
-    }
-}
-
-/// Whether the committed status calls the partition stale, or the one in flight.
-pub fn is_called_stale(session: &Session, pp: Pp) -> bool
-    ensures { result ≡ is_called_stale (core_of session.now) pp }
-{
-    is_stale(session, pp) || flies_stale(session, pp)
-}
-
 // Whether its clearing is committed, and nothing wants it stale again; a move isn't cleared, but committed.
 fn is_cleared(session: &Session, copy: &OpenCopy) -> bool
     ensures { result ≡ is_cleared (core_of session.now) copy.now }
 {
-    !copy.moves && is_clear(session, copy.pp)
+    !copy.moves && stays_fresh(session, copy.pp)
 }
 
 // The copies of its logical partition.

@@ -1,13 +1,12 @@
 //! The partition of a copy that ends otherwise than fresh is to be stale again.
 ghost use Rattle.std.specs.Prelude.{◌≡◌, ◌&&◌, ◌||◌, Some, not};
-ghost use Rattle.lvm_session.specs.Bringing.{is_called_stale, is_whole, marked_by_end};
+ghost use Rattle.lvm_session.specs.Bringing.{is_held_stale, is_whole, marked_by_end};
 ghost use Rattle.lvm_session.specs.Fields.{core_of};
 ghost use Rattle.lvm_session.specs.Rooms.{SameRooms};
 ghost use Rattle.lvm_session.specs.Marks.{WantsStale};
 ghost use Rattle.lvm_calls.specs.Ending.{MayEndCopy, Unclears};
 
-use crate::below::is_whole;
-use crate::judged::is_called_stale;
+use crate::below::{is_held_stale, is_whole};
 use crate::wanted::want_stale;
 use lvm_num::Pp;
 use lvm_session::{CopyEnd, OpenCopy, Session};
@@ -15,9 +14,9 @@ use lvm_session::{CopyEnd, OpenCopy, Session};
 // Whether the partition of a copy that doesn't end as fresh is to be stale again: its clearing was wanted. That of
 // a move only where it was called stale.
 fn was_cleared(session: &Session, copy: &OpenCopy) -> bool
-    ensures { result ≡ (is_whole (core_of session.now) copy.now && (not copy.now.moves || is_called_stale (core_of session.now) copy.now.pp)) }
+    ensures { result ≡ (is_whole (core_of session.now) copy.now && (not copy.now.moves || is_held_stale (core_of session.now) copy.now.pp)) }
 {
-    is_whole(session, copy) && (!copy.moves || is_called_stale(session, copy.pp))
+    is_whole(session, copy) && (!copy.moves || is_held_stale(session, copy.pp))
 }
 
 // The partition of the copy that is open, where its clearing was wanted and it doesn't end as fresh.

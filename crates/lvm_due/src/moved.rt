@@ -1,7 +1,7 @@
 //! Whether the move of a copy is done.
 ghost use Rattle.std.specs.Prelude.{◌≡◌, unwrap_or};
 ghost use Rattle.lvm_num.specs.Status.{calls_stale};
-ghost use Rattle.lvm_due.specs.passed.FactsNames.{core_of, is_past_held, is_clear, is_held_by_move, is_moved, is_under_way};
+ghost use Rattle.lvm_due.specs.passed.FactsNames.{core_of, is_held_by_move, is_held_stale, is_moved, is_past_held, is_under_way, stays_fresh};
 
 use crate::below::{Open, Session};
 use crate::pending::is_waiting;
@@ -20,11 +20,18 @@ fn is_called_next(session: &Session, pp: Pp) -> bool
     }
 }
 
-/// Whether neither the committed status calls it stale nor the one in flight, and nothing wants it so.
-pub fn is_clear(session: &Session, pp: Pp) -> bool
-    ensures { result ≡ is_clear (core_of session.now) pp }
+/// Whether the committed status calls it stale, or the one in flight.
+pub fn is_held_stale(session: &Session, pp: Pp) -> bool
+    ensures { result ≡ is_held_stale (core_of session.now) pp }
 {
-    !is_stale(session, pp) && !is_called_next(session, pp) && !is_wanted_stale(session, pp)
+    is_stale(session, pp) || is_called_next(session, pp)
+}
+
+/// Whether neither the committed status calls it stale nor the one in flight, and nothing wants it so.
+pub fn stays_fresh(session: &Session, pp: Pp) -> bool
+    ensures { result ≡ stays_fresh (core_of session.now) pp }
+{
+    !is_held_stale(session, pp) && !is_wanted_stale(session, pp)
 }
 
 // Whether a request of this phase is admitted and hasn't landed.
@@ -60,7 +67,7 @@ pub fn is_moved(session: &Session, copy: &OpenCopy) -> bool
     copy.moves
         && is_running(copy)
         && is_whole(session, copy)
-        && is_clear(session, copy.pp)
+        && stays_fresh(session, copy.pp)
         && !is_under_way(session, copy)
 }
 

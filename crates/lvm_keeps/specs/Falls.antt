@@ -1,13 +1,14 @@
 -- Each event of a turn leaves less work, and a session never stands still.
-use Rattle.std.specs.Prelude.{◌≡◌, ◌⊎◌, ◌≤◌, ◌<◌, ◌+◌, ◌-◌, ◌*◌, ℕ, true, false, [], Some, None, IfSome, length, count_by}
+use Rattle.std.specs.Prelude.{◌≡◌, ◌≤◌, ◌<◌, ◌+◌, ◌-◌, ◌*◌, ◌&&◌, not, ℕ, true, false, [], Some, None, IfSome, length, count_by}
 use Rattle.std.specs.List.{list_any}
 use Rattle.std.specs.Option.{option_map_or}
 use Rattle.lvm_num.specs.declared.descriptor.PvRow.{PvRow}
 use Rattle.lvm_session.specs.declared.bringing.OpenCopy.{OpenCopy}
 use Rattle.lvm_session.specs.declared.event.Event.{Event}
+use Rattle.lvm_session.specs.declared.open.Open.{Open}
 use Rattle.lvm_session.specs.declared.open.Power.TheVariants as power
 use Rattle.lvm_session.specs.State.{Core, State, is_there}
-use Rattle.lvm_session.specs.Judging.{is_moved, is_running, is_waiting}
+use Rattle.lvm_session.specs.Judging.{is_held_by_move, is_moved, is_running, is_waiting}
 use Rattle.lvm_session.specs.Bringing.{groups_of}
 use Rattle.lvm_session.specs.Enabled.{first_event, is_lost}
 use Rattle.lvm_session.specs.Ends.{Ends}
@@ -37,11 +38,12 @@ most_left core =
 abbrev pub LeftIsBounded : Type 0
 LeftIsBounded = (s : State) → IsSound s → left_of s.core ≤ most_left s.core
 
--- While the votes are there and no transfer is out, an event may be made unless a move is done, so that it is only to be committed, or each request has landed and no
--- copy that is open runs.
+-- While the votes are there and no transfer is out, an event may be made unless each request has landed, but those on the logical partition of a move that is done, and
+-- the copy that is open doesn't run, unless it is such a move, so that it is only to be committed.
 abbrev pub NeverStandsStill : Type 0
 NeverStandsStill = (s : State) → IsSound s → s.core.power ≡ power.On → is_lost s.core ≡ false → first_event s.core ≡ None → s.device.flights ≡ []
-    → (option_map_or (is_moved s.core) s.core.copy false ≡ true) ⊎ ((list_any is_waiting s.core.requests ≡ false) × IfSome s.core.copy (λ (c : OpenCopy). is_running c ≡ false))
+    → (list_any (λ (o : Open). is_waiting o && not (is_held_by_move s.core o.request.ask)) s.core.requests ≡ false)
+    × IfSome s.core.copy (λ (c : OpenCopy). is_running c && not (is_moved s.core c) ≡ false)
 
 -- So does a pin.
 abbrev pub PinFalls : Type 0

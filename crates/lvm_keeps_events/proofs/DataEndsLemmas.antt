@@ -19,7 +19,7 @@ use Rattle.lvm_path.specs.declared.request.Request.{Request}
 use Rattle.lvm_path.specs.declared.target.Target.{Target}
 use Rattle.lvm_status.specs.Runs.{IsSoundStatus}
 use Rattle.lvm_status.specs.Update.{seen, Stored}
-use Rattle.lvm_session.specs.Bringing.{after_copy_end, ends_if, is_called_stale, hand_of, is_out, is_whole, marked_by_end, with_back, with_copy_end, with_end}
+use Rattle.lvm_session.specs.Bringing.{after_copy_end, ends_if, is_held_stale, hand_of, is_out, is_whole, marked_by_end, with_back, with_copy_end, with_end}
 use Rattle.lvm_session.specs.Enabled.{same_status}
 use Rattle.lvm_session.specs.Judging.{copies_in, is_running, is_waiting}
 use Rattle.lvm_session.specs.State.{Core, state, State}
@@ -221,7 +221,7 @@ module _ (at id target : ℕ) (ok : Bool) (old new : State) (sound : IsSound old
           omega (arith, wants, less)
 
   fails_so : (c : OpenCopy) → old.core.copy ≡ Some c → hits_copy old.core x ok aim.pp c ≡ true
-      → WantsStale (λ q. is_among (due_of old.core x.request) q || option_map_or (λ (k : OpenCopy). is_whole old.core k && is_pp q k.pp && (not k.moves || is_called_stale old.core k.pp)) old.core.copy false) old.core.status new.core.status
+      → WantsStale (λ q. is_among (due_of old.core x.request) q || option_map_or (λ (k : OpenCopy). is_whole old.core k && is_pp q k.pp && (not k.moves || is_held_stale old.core k.pp)) old.core.copy false) old.core.status new.core.status
       → new.core ≡ record (after_copy_end (mid x) c ending.SyncFailed) { status = new.core.status } → IsSound new
   fails_so c is hit marks core_is =
       subst IsSound (sym (flights_are made (core_is ∙ ap (λ (u : Stored). record (after_copy_end (mid x) c ending.SyncFailed) { status = u }) stale.is ∙ ap (λ (p : List Bool). record made { pool = p }) (back_twice old.core.pool (given_back o ok event.buf) (hand_of c.step)))))
@@ -231,7 +231,7 @@ module _ (at id target : ℕ) (ok : Bool) (old new : State) (sound : IsSound old
       queue_so (Some (with_copy_end c ending.SyncFailed)) (with_back old.core.pool (hand_of c.step)) due_so new.core.status.wanted new.core.status.writes stale.like stale.started (subst (λ (u : Stored). IsSoundStatus (seen u)) stale.is stale.sound) entailed c is hit))
     where
       due_so : Pp → Bool
-      due_so q = is_among (due_of old.core x.request) q || option_map_or (λ (k : OpenCopy). is_whole old.core k && is_pp q k.pp && (not k.moves || is_called_stale old.core k.pp)) old.core.copy false
+      due_so q = is_among (due_of old.core x.request) q || option_map_or (λ (k : OpenCopy). is_whole old.core k && is_pp q k.pp && (not k.moves || is_held_stale old.core k.pp)) old.core.copy false
 
       stale : IsStaled due_so old.core.status new.core.status
       stale = staled due_so old.core.status new.core.status going.status marks

@@ -181,7 +181,7 @@ module _ (s : State) (sound : IsSound s) (on : s.core.power ≡ power.On) (lv : 
   end_same : (c : OpenCopy) → end_of now.core c ≡ end_of core c
   end_same c =
       ap (λ b. if not (is_running c) then None else if b then Some ending.SyncFailed else if is_whole core c then ends_if (is_cleared now.core c) ending.Done else end_by_sources now.core c) (missing_same c.pp.disk)
-      ∙ ap (λ b. if not (is_running c) then None else if is_missing core c.pp.disk then Some ending.SyncFailed else if is_whole core c then ends_if (not c.moves && (not (is_stale core c.pp) && not (calls_stale (unwrap_or core.status.in_flight core.status.committed) c.pp) && not b)) ending.Done else end_by_sources now.core c) (wanted_same c.pp)
+      ∙ ap (λ b. if not (is_running c) then None else if is_missing core c.pp.disk then Some ending.SyncFailed else if is_whole core c then ends_if (not c.moves && (not (is_held_stale core c.pp) && not b)) ending.Done else end_by_sources now.core c) (wanted_same c.pp)
       ∙ ap (λ (ps : List Pp). if not (is_running c) then None else if is_missing core c.pp.disk then Some ending.SyncFailed else if is_whole core c then ends_if (is_cleared core c) ending.Done
       else if length ps == 0 then Some ending.NoFresh else ends_if (is_idle c.step && is_none (find (λ (p : Pp). not (has c.tried p.disk)) ps)) ending.SyncFailed) (sources_same c)
 

@@ -15,9 +15,11 @@ use Rattle.lvm_kept.specs.passed.Names.{Begun}
 use Rattle.lvm_path.specs.declared.target.Target.{Target}
 use Rattle.lvm_status.specs.Runs.{IsSoundStatus}
 use Rattle.lvm_status.specs.Update.{seen}
+use Rattle.lvm_session.specs.declared.answers.CopyState.TheVariants as copy
 use Rattle.lvm_session.specs.declared.bringing.CopyEnd.TheVariants as ending
 use Rattle.lvm_session.specs.declared.flown.Owner.TheVariants as owner
 use Rattle.lvm_session.specs.State.{Core}
+use Rattle.lvm_session.specs.Calls.{copy_state}
 use Rattle.lvm_session.specs.Enabled.{first_event}
 use Rattle.lvm_session.specs.declared.event.Event.TheVariants as event
 use Rattle.lvm_session.specs.Left.{updates_left}
@@ -220,10 +222,15 @@ next_one : first_event here ≡ Some event.StartStatus
 unfolding votes_by has_bit has
 next_one = refl
 
+-- it has ended, and is told as running
+still_runs : copy_state here ≡ copy.Running 3
+unfolding has_bit
+still_runs = refl
+
 none_next : first_event (missing fresh).core ≡ None
 unfolding votes_by has_bit has
 none_next = refl
 
 pub missed_writes_wait : MissedWritesWait
 unfolding has_bit
-missed_writes_wait = record { sound = is_sound; next = next_one; waits = none_next; unsound = λ r. not_so (sym ((r.judged refl).missed refl).1.1.0) }
+missed_writes_wait = record { sound = is_sound; next = next_one; runs = still_runs; waits = none_next; unsound = λ r. not_so (sym ((r.judged refl).missed refl).1.1.0) }

@@ -1,22 +1,24 @@
 -- A write that has missed the place to which a copy moves, written out.
-use Rattle.std.specs.Prelude.{◌≡◌, true, false, [], ◌∷◌, Some, None}
+use Rattle.std.specs.Prelude.{◌≡◌, [], ◌∷◌, Some, None}
 use Rattle.lvm_num.specs.declared.descriptor.Mode.TheVariants as mode
 use Rattle.lvm_sched.specs.declared.writes.TargetState.TheVariants as stage
 use Rattle.lvm_path.specs.declared.request.Phase.TheVariants as phase
 use Rattle.lvm_path.specs.declared.target.Target.{Target}
+use Rattle.lvm_session.specs.declared.answers.CopyState.TheVariants as copy
 use Rattle.lvm_session.specs.declared.bringing.CopyEnd.TheVariants as ending
 use Rattle.lvm_session.specs.declared.event.Event.TheVariants as event
 use Rattle.lvm_session.specs.declared.open.Open.{Open}
 use Rattle.lvm_session.specs.State.{State, state}
+use Rattle.lvm_session.specs.Calls.{copy_state}
 use Rattle.lvm_session.specs.Enabled.{first_event}
 use Rattle.lvm_session.specs.Requests.{IsRequest}
 use Rattle.lvm_session.specs.Sound.{IsSound}
 use Rattle.lvm_session.specs.Worked.{Moment, Says, a_write, asking, core_of, first_copy, fresh, held_write, second_copy, target_on}
-use Rattle.lvm_session.specs.WorkedMoves.{free_place, moving_to, place_stale, third_fails}
+use Rattle.lvm_session.specs.WorkedMoves.{moving_to, on_place, place_stale, third_fails}
 
 -- it has failed on the place
 abbrev pub place_failed : Target
-place_failed = record (target_on free_place stage.Failed) { usable = false; moves = true }
+place_failed = on_place stage.Failed
 
 -- It is done on both copies and has failed on the place, by which the move has ended.
 abbrev pub missed_write : Open
@@ -29,9 +31,11 @@ missing_moment wanted = record (held_write mode.Off) { wanted = wanted; requests
 abbrev pub missing : Says → State
 missing wanted = state third_fails (core_of (missing_moment wanted))
 
--- It is sound where staleness of the place is wanted, and the status is written next; where none is, nothing could ever be made of it, and it isn't sound.
+-- It is sound where staleness of the place is wanted, and the status is written next; where none is, nothing could ever be made of it, and it isn't sound. The
+-- move, though it has ended, is told as running while the write goes to its place.
 pub record MissedWritesWait : Type 0 where
   pub sound : IsSound (missing place_stale)
   pub next : first_event (missing place_stale).core ≡ Some event.StartStatus
+  pub runs : copy_state (missing place_stale).core ≡ copy.Running 3
   pub waits : first_event (missing fresh).core ≡ None
   pub unsound : IsRequest (missing fresh).core missed_write → ⊥

@@ -13,8 +13,9 @@ pub fn events_fall()
     ensures { EventsFall }
 {}
 
-/// While the votes are there, no transfer is out and no move is done, an event may be made, unless each request has
-/// landed and no copy is being brought up. Of a session with a move that is done the law says nothing.
+/// While the votes are there and no transfer is out, an event may be made unless each request has landed and no copy
+/// is being brought up. Exempt are a move that is done, which is to be committed, and the requests on its logical
+/// partition alone.
 pub fn never_stands_still()
     ensures { NeverStandsStill }
 {}

@@ -8,7 +8,7 @@ use Rattle.lvm_num.proofs.DescriptorLemmas.Partitions.{one_partition}
 use Rattle.lvm_path.specs.declared.ask.Ask.{Ask}
 use Rattle.lvm_session.specs.declared.bringing.OpenCopy.{OpenCopy}
 use Rattle.lvm_session.specs.State.{Core}
-use Rattle.lvm_session.specs.Judging.{is_beside_copy, places_for, places_if}
+use Rattle.lvm_session.specs.Judging.{is_beside_copy, is_moving, places_for, places_if}
 use Rattle.lvm_session.specs.Marks.{is_among}
 use Rattle.lvm_session.specs.Sound.{IsCopy, IsMove, IsOfKind, IsStaleCopy}
 
@@ -25,6 +25,10 @@ move_partition core c its = (its.member, its.member_is, its.inside)
 
 pub open_one : (core : Core) (c : OpenCopy) → core.copy ≡ Some c → IfSome core.copy (IsCopy core) → IsCopy core c
 open_one core c is its = subst (λ (m : Option OpenCopy). IfSome m (IsCopy core)) is its
+
+-- where none moves the one that is open doesn't
+pub unmoving : (core : Core) (c : OpenCopy) → core.copy ≡ Some c → is_moving core ≡ false → c.moves ≡ false
+unmoving core c is none = sym (ap (λ (m : Option OpenCopy). option_map_or (λ (d : OpenCopy). d.moves) m false) is) ∙ none
 
 -- ---- partitions of a list that pass a test
 

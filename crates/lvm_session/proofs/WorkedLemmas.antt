@@ -5,3 +5,4 @@ pub mod BroughtUp
 pub mod Worked
 pub mod Waiting
 pub mod Moved
+pub mod Along

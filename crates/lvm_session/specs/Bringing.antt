@@ -1,11 +1,10 @@
 -- The copy that is being brought up: its steps, its sources and its end.
-use Rattle.std.specs.Prelude.{ℕ, ◌+◌, ◌*◌, ◌-◌, Bool, true, false, ◌&&◌, ◌||◌, ◌==◌, not, if◌then◌else◌, List, length, find, filter, Option, Some, None, is_none, slice_set, unwrap_or}
+use Rattle.std.specs.Prelude.{ℕ, ◌+◌, ◌*◌, ◌-◌, Bool, true, false, ◌&&◌, ◌||◌, ◌==◌, not, if◌then◌else◌, List, length, find, filter, Option, Some, None, is_none, slice_set}
 use Rattle.std.specs.Option.{option_map_or}
 use Rattle.lvm_num.specs.Buffer.{Buffer}
 use Rattle.lvm_num.specs.declared.place.Pp.{Pp}
 use Rattle.lvm_num.specs.Disks.{has}
 use Rattle.lvm_num.specs.Geometry.{partition_blocks}
-use Rattle.lvm_num.specs.Status.{calls_stale}
 use Rattle.lvm_kept.specs.passed.Names.{next_id}
 use Rattle.lvm_num.specs.Descriptor.{is_pp}
 use Rattle.lvm_hold.specs.declared.queue.Held.{Held}
@@ -17,8 +16,8 @@ use Rattle.lvm_session.specs.declared.bringing.Step.TheVariants as step
 use Rattle.lvm_session.specs.declared.bringing.CopyEnd.{CopyEnd}
 use Rattle.lvm_session.specs.declared.bringing.CopyEnd.TheVariants as ending
 use Rattle.lvm_session.specs.State.{Core}
-use Rattle.lvm_session.specs.Judging.{copies_in, is_usable, is_stale, is_missing, is_clear, is_running, place_of}
-pub use Rattle.lvm_session.specs.Judging.{groups_of, is_whole}
+use Rattle.lvm_session.specs.Judging.{copies_in, is_usable, is_missing, stays_fresh, is_running, place_of}
+pub use Rattle.lvm_session.specs.Judging.{groups_of, is_held_stale, is_whole}
 
 -- ---- its track groups
 
@@ -77,13 +76,9 @@ next_source core c = find (λ (p : Pp). not (has c.tried p.disk)) (sources_of co
 
 -- ---- its end
 
--- stale by the committed status, or the one in flight
-abbrev pub is_called_stale : Core → Pp → Bool
-is_called_stale core p = is_stale core p || calls_stale (unwrap_or core.status.in_flight core.status.committed) p
-
 -- its clearing is committed, and nothing wants it stale again; a move isn't cleared, but committed
 abbrev pub is_cleared : Core → OpenCopy → Bool
-is_cleared core c = not c.moves && is_clear core c.pp
+is_cleared core c = not c.moves && stays_fresh core c.pp
 
 -- so it ends, where this is so
 abbrev pub ends_if : Bool → CopyEnd → Option CopyEnd
@@ -94,7 +89,7 @@ abbrev pub end_by_sources : Core → OpenCopy → Option CopyEnd
 end_by_sources core c = if length (sources_of core c) == 0 then Some ending.NoFresh else ends_if (is_idle c.step && is_none (next_source core c)) ending.SyncFailed
 
 -- How the state as a whole makes it end: its disk is missing; nothing is left to read for its track group; or all is copied and it is cleared. A move that is whole
--- ends by its commit alone, or where its disk becomes missing.
+-- ends so only where its disk becomes missing.
 abbrev pub end_of : Core → OpenCopy → Option CopyEnd
 end_of core c =
     if not (is_running c) then None
@@ -140,4 +135,4 @@ is_done_end ending.Ended = false
 -- where it ends otherwise once its clearing was wanted, its partition is to be stale again; that of a move only where it was called stale
 abbrev pub marked_by_end : Core → Option CopyEnd → Pp → Bool
 marked_by_end core None p = false
-marked_by_end core (Some how) p = not (is_done_end how) && option_map_or (λ (c : OpenCopy). is_whole core c && is_pp p c.pp && (not c.moves || is_called_stale core c.pp)) core.copy false
+marked_by_end core (Some how) p = not (is_done_end how) && option_map_or (λ (c : OpenCopy). is_whole core c && is_pp p c.pp && (not c.moves || is_held_stale core c.pp)) core.copy false

@@ -1,5 +1,5 @@
 -- Why transfers failed, disks are missing and copies stale: by counts of faults that rose.
-use Rattle.std.specs.Prelude.{IfSome, ◌≡◌, ◌⊎◌, ◌≤◌, ◌-◌, ◌&&◌, ◌||◌, not, ℕ, Bool, true, false, List, Some, slice_index_or, unwrap_or}
+use Rattle.std.specs.Prelude.{IfSome, ◌≡◌, ◌⊎◌, ◌≤◌, ◌-◌, ◌&&◌, ◌||◌, not, ℕ, Bool, true, false, List, Some, slice_index_or}
 use Rattle.std.specs.List.{list_any, AllByRecursion}
 use Rattle.lvm_num.specs.declared.place.Pp.{Pp}
 use Rattle.lvm_num.specs.Disks.{has}
@@ -19,7 +19,8 @@ use Rattle.lvm_session.specs.declared.open.Power.TheVariants as power
 use Rattle.lvm_session.specs.declared.bringing.OpenCopy.{OpenCopy}
 use Rattle.lvm_session.specs.declared.bringing.CopyEnd.TheVariants as ending
 use Rattle.lvm_session.specs.State.{Core, State}
-use Rattle.lvm_session.specs.Judging.{is_waiting, copies_in, copies_for, is_missing, is_stale, is_wanted_stale, is_sure}
+use Rattle.lvm_session.specs.Judging.{is_waiting, copies_in, copies_for, is_missing, is_wanted_stale, is_sure}
+pub use Rattle.lvm_session.specs.Judging.{is_held_stale}
 use Rattle.lvm_session.specs.Enabled.{is_lost}
 use Rattle.lvm_session.specs.Calls.{copy_at}
 
@@ -44,10 +45,6 @@ was_fresh core p = not (calls_stale core.origin.table p)
 -- a copy that could be used then
 abbrev pub was_usable : Core → Pp → Bool
 was_usable core p = was_fresh core p && not (calls_missing core.origin.table p.disk)
-
--- stale by the committed status, or the one in flight
-abbrev pub is_held_stale : Core → Pp → Bool
-is_held_stale core p = is_stale core p || calls_stale (unwrap_or core.status.in_flight core.status.committed) p
 
 -- The session began with votes enough to write, and what it tells of its disks came with them or by a fault since.
 pub record IsTrueToOrigin (s : State) : Type 0 where

@@ -82,9 +82,17 @@ is_missing core disk = calls_missing core.status.wanted disk
 abbrev pub is_stale : Core → Pp → Bool
 is_stale core p = calls_stale core.status.committed p
 
+-- or by the one in flight
+abbrev pub is_held_stale : Core → Pp → Bool
+is_held_stale core p = is_stale core p || calls_stale (unwrap_or core.status.in_flight core.status.committed) p
+
 -- wanted stale
 abbrev pub is_wanted_stale : Core → Pp → Bool
 is_wanted_stale core p = calls_stale core.status.wanted p
+
+-- fresh by what is committed, what is in flight and what is wanted
+abbrev pub stays_fresh : Core → Pp → Bool
+stays_fresh core p = not (is_held_stale core p) && not (is_wanted_stale core p)
 
 -- stale by the committed status and by the one in flight
 abbrev pub is_settled : Core → Pp → Bool
@@ -115,6 +123,10 @@ abbrev pub is_caught : Core → ℕ → Pp → Bool
 is_caught core group p = option_map_or (λ (c : OpenCopy). is_running c && is_pp p c.pp && nat_lt group c.cursor) core.copy false
 
 -- ---- the place to which a copy moves
+
+-- a copy is open that moves to another partition
+abbrev pub is_moving : Core → Bool
+is_moving core = option_map_or (λ (c : OpenCopy). c.moves) core.copy false
 
 -- the partition is one to which a copy moves, or was to move (until the move is closed)
 abbrev pub is_place : Core → Pp → Bool
@@ -201,17 +213,13 @@ is_past_held phase.Data = true
 is_past_held phase.WantStatus = true
 is_past_held phase.Landed = false
 
--- neither the committed status calls it stale nor the one in flight, and nothing wants it so
-abbrev pub is_clear : Core → Pp → Bool
-is_clear core p = not (is_stale core p) && not (calls_stale (unwrap_or core.status.in_flight core.status.committed) p) && not (is_wanted_stale core p)
-
 -- some request that goes over the logical partition of the copy is admitted and hasn't landed
 abbrev pub is_under_way : Core → OpenCopy → Bool
 is_under_way core c = list_any (λ (o : Open). is_waiting o && is_past_held o.request.phase && is_beside_copy core o.request.ask c) core.requests
 
--- All of it is copied, its place is fresh by each status, and nothing is under way on its logical partition; so it stays, since nothing is admitted there then.
+-- All of it is copied, its place is fresh by each status, and nothing is under way on its logical partition; nothing is admitted there while it is so.
 abbrev pub is_moved : Core → OpenCopy → Bool
-is_moved core c = c.moves && is_running c && is_whole core c && is_clear core c.pp && not (is_under_way core c)
+is_moved core c = c.moves && is_running c && is_whole core c && stays_fresh core c.pp && not (is_under_way core c)
 
 -- so it is of the move of a copy of the request's logical partition
 abbrev pub is_held_by_move : Core → Ask → Bool

@@ -26,6 +26,7 @@ use Rattle.lvm_session.specs.declared.bringing.Step.{Step}
 use Rattle.lvm_session.specs.declared.bringing.Step.TheVariants as step
 use Rattle.lvm_session.specs.State.{Core, State}
 use Rattle.lvm_session.specs.Judging.{is_waiting, copies_in, group_of, is_settled, place_of, held_of, is_wanted_stale, is_stale, is_running}
+pub use Rattle.lvm_session.specs.Judging.{stays_fresh}
 use Rattle.lvm_session.specs.Bringing.{groups_of, is_whole, is_idle, has_row, step_row, hand_of, copy_ends}
 use Rattle.lvm_session.specs.Enabled.{is_lost, is_free_step}
 use Rattle.lvm_session.specs.Dark.{AreTold, hand_of_copy}
@@ -165,10 +166,6 @@ pub record IsStaleCopy (core : Core) (c : OpenCopy) : Type 0 where
   pub stale : is_running c ≡ true → is_whole core c ≡ false → (is_settled core c.pp ≡ true) × (is_wanted_stale core c.pp ≡ true)
   -- then its clearing is wanted, and not committed yet
   pub clearing : is_running c ≡ true → is_whole core c ≡ true → (is_stale core c.pp ≡ true) × (is_wanted_stale core c.pp ≡ false)
-
--- a partition is fresh by what is committed, what is in flight and what is wanted
-abbrev pub stays_fresh : Core → Pp → Bool
-stays_fresh core p = not (is_held_stale core p) && not (is_wanted_stale core p)
 
 -- It is a copy of its logical partition that moves to a partition which no volume has, of a member on which no other copy of it stands; of that partition no
 -- staleness is wanted once the move is whole. Some copy of the logical partition stays fresh, also once it has ended (without one a write that is done on the place

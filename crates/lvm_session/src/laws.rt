@@ -1,7 +1,7 @@
 //! Laws: what the definitions say of sessions that are written out.
 ghost use Rattle.lvm_session.specs.Busy.{BusyIsSound};
 ghost use Rattle.lvm_session.specs.Worked.{AdmissionMarks, CommitLowersWork, UnsettledIsFresh, ReadsMayLag, StandingStillIsUnsound, BlameNeedsFaults, AnswersAreTold, DarknessKeepsNotes, BeginningsAreSound, HeldWritesAreSound, FlyingWritesAreSound, CopiesAreSound, WaitingWritesPin, UnpinnedWritesMove};
-ghost use Rattle.lvm_session.specs.WorkedMoves.{MovesAreSound};
+ghost use Rattle.lvm_session.specs.WorkedMoves.{MovesAreSound, WritesGoAlong};
 
 /// A write to several copies of a passive volume wants the volume dirty when it is admitted.
 pub fn admission_marks()
@@ -68,6 +68,12 @@ pub fn copies_are_sound()
 /// copied, and once it has ended.
 pub fn moves_are_sound()
     ensures { MovesAreSound }
+{}
+
+/// A session with a write that is done on both copies and out to the place to which one moves is sound. One whose
+/// write leaves that place out, though the move has passed its track group, isn't.
+pub fn writes_go_along()
+    ensures { WritesGoAlong }
 {}
 
 /// A session with a write that waits for its entry in the cache is sound, and its track group is pinned next.

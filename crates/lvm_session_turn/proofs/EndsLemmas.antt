@@ -26,7 +26,7 @@ use Rattle.lvm_session.specs.declared.bringing.Step.TheVariants as step
 use Rattle.lvm_session.specs.declared.flown.Owner.TheVariants as owner
 use Rattle.lvm_session.specs.State.{Core}
 use Rattle.lvm_session.specs.Judging.{copies_in, is_running}
-use Rattle.lvm_session.specs.Bringing.{hand_of, is_out, is_whole, marked_by_end, step_place, with_end, is_called_stale}
+use Rattle.lvm_session.specs.Bringing.{hand_of, is_out, is_whole, marked_by_end, step_place, with_end, is_held_stale}
 use Rattle.lvm_session.specs.Ends.{CopyLearns, FailsCopy, CopyStepsOn, PassesGroup, StepLearns, StepLeaves, after_quit, with_copy, with_return, without_step}
 use Rattle.lvm_session.specs.Marks.{Reviews, WantsStale}
 use Rattle.lvm_session_turn.proofs.passed.Names.{same_due, copies_in_are, place_of, markable}
@@ -143,7 +143,7 @@ module _ (core : Core) (at : ℕ) (c : OpenCopy) (buf : Buffer) where
       → new ≡ record (with_end mid (Some ending.SyncFailed)) { status = new.status } → WantsStale (marked_by_end mid (Some ending.SyncFailed)) mid.status new.status → FailsCopy core at c buf new
   fails_so is_open mid new mids is marks = record {
     marks = same_due (marked_by_end mid (Some ending.SyncFailed)) (marked_by_end core (Some ending.SyncFailed)) core.status new.status
-        (λ p. ap (λ (x : Core). marked_by_end x (Some ending.SyncFailed) p) mids ∙ sym (ap (λ (m : Option OpenCopy). option_map_or (λ (d : OpenCopy). is_whole core d && is_pp p d.pp && (not d.moves || is_called_stale core d.pp)) m false) is_open))
+        (λ p. ap (λ (x : Core). marked_by_end x (Some ending.SyncFailed) p) mids ∙ sym (ap (λ (m : Option OpenCopy). option_map_or (λ (d : OpenCopy). is_whole core d && is_pp p d.pp && (not d.moves || is_held_stale core d.pp)) m false) is_open))
         (subst (λ (s : Stored). WantsStale (marked_by_end mid (Some ending.SyncFailed)) s new.status) (ap (λ (x : Core). x.status) mids) marks);
     is = is ∙ ap (λ (x : Core). record (with_end x (Some ending.SyncFailed)) { status = new.status }) mids;
   }

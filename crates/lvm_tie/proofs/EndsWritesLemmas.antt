@@ -40,7 +40,7 @@ use Rattle.lvm_session.specs.declared.flown.Owner.TheVariants as owner
 use Rattle.lvm_session.specs.declared.open.Open.{Open}
 use Rattle.lvm_session.specs.declared.open.Power.TheVariants as power
 use Rattle.lvm_session.specs.State.{Core, State, state}
-use Rattle.lvm_session.specs.Bringing.{after_copy_end, ends_if, is_called_stale, is_done_end, is_out, is_whole, marked_by_end, with_back, with_end as with_copy_end}
+use Rattle.lvm_session.specs.Bringing.{after_copy_end, ends_if, is_held_stale, is_done_end, is_out, is_whole, marked_by_end, with_back, with_end as with_copy_end}
 use Rattle.lvm_session.specs.Judging.{all_but_sure, is_kept, is_running, is_sure, is_sure_at, is_waiting, place_of, pps_of}
 use Rattle.lvm_session.specs.Ends.{DataLearns, Ends, Learns, after_data, keeps_buffer, learned}
 use Rattle.lvm_session.specs.Events.{IsDataTransfer}
@@ -81,6 +81,7 @@ use Rattle.lvm_tie.proofs.OutLemmas.Next.{next_by_data}
 use Rattle.lvm_tie.specs.Near.{IsNear, IsRunning, open_after}
 use Rattle.lvm_tie.proofs.NearLemmas.{near_ties, with_end_status}
 use Rattle.lvm_tie.proofs.WantedLemmas.Reviewing.{opened}
+use Rattle.lvm_session.proofs.MovesLemmas.{unmoving}
 
 -- the target that has changed
 state_there : (ts : List Target) (number : ℕ) (t : Target) (s : TargetState) → slice_get ts number ≡ Some t → slice_get (with_state ts number s) number ≡ Some (record t { state = s })
@@ -426,9 +427,9 @@ module _ (past : List Fact) (old new : State) (index : ℕ) (ends : Ends old new
       by None none test = absurd (cc test)
       by (Some h) some test =
           let x : IsHit h = hit h some in
-          let both = and_parts (not (is_done_end h)) (option_map_or (λ (c : OpenCopy). is_whole core2 c && is_pp p c.pp && (not c.moves || is_called_stale core2 c.pp)) old.core.copy false) test in
-          let here : (is_whole old.core x.copy && is_pp p x.copy.pp && (not x.copy.moves || is_called_stale old.core x.copy.pp)) ≡ true = sym (ap (λ (m : Option OpenCopy). option_map_or (λ (c : OpenCopy). is_whole old.core c && is_pp p c.pp && (not c.moves || is_called_stale old.core c.pp)) m false) x.is_open) ∙ both.1 in
-          let parts_of = and_parts (is_whole old.core x.copy) (is_pp p x.copy.pp) (and_parts (is_whole old.core x.copy && is_pp p x.copy.pp) (not x.copy.moves || is_called_stale old.core x.copy.pp) here).0 in
+          let both = and_parts (not (is_done_end h)) (option_map_or (λ (c : OpenCopy). is_whole core2 c && is_pp p c.pp && (not c.moves || is_held_stale core2 c.pp)) old.core.copy false) test in
+          let here : (is_whole old.core x.copy && is_pp p x.copy.pp && (not x.copy.moves || is_held_stale old.core x.copy.pp)) ≡ true = sym (ap (λ (m : Option OpenCopy). option_map_or (λ (c : OpenCopy). is_whole old.core c && is_pp p c.pp && (not c.moves || is_held_stale old.core c.pp)) m false) x.is_open) ∙ both.1 in
+          let parts_of = and_parts (is_whole old.core x.copy) (is_pp p x.copy.pp) (and_parts (is_whole old.core x.copy && is_pp p x.copy.pp) (not x.copy.moves || is_held_stale old.core x.copy.pp) here).0 in
           record { kind = h; its_hit = x; all = parts_of.0; same = pp_same p x.copy.pp parts_of.1 }
 
   keeper_not_marked : marked_by_end core2 how stays.keeper.pp ≡ false
@@ -466,13 +467,13 @@ module _ (past : List Fact) (old new : State) (index : ℕ) (ends : Ends old new
         let c : OpenCopy = its_hit.copy in
         let brought = (opened past old tied c its_hit.is_open its_hit.running).0 in
         ap (calls_stale status.wanted) (brought.target x open_is) ∙ wants.stale c.pp
-        ∙ or_true (calls_stale old.core.status.wanted c.pp) (due c.pp) (by c its_hit.is_open brought.stays brought.part (ap (λ (e : Option CopyEnd). marked_by_end core2 e c.pp) (is ∙ ap (λ (e : CopyEnd). Some e) its_hit.fails)) (is_whole old.core c) refl)
+        ∙ or_true (calls_stale old.core.status.wanted c.pp) (due c.pp) (by c its_hit.is_open (unmoving old.core c its_hit.is_open brought.stays) brought.part (ap (λ (e : Option CopyEnd). marked_by_end core2 e c.pp) (is ∙ ap (λ (e : CopyEnd). Some e) its_hit.fails)) (is_whole old.core c) refl)
       where
-        by : (c : OpenCopy) → old.core.copy ≡ Some c → c.moves ≡ false → (is_whole old.core c ≡ false → calls_stale old.core.status.wanted c.pp ≡ true) → marked_by_end core2 how c.pp ≡ option_map_or (λ (y : OpenCopy). is_whole old.core y && is_pp c.pp y.pp && (not y.moves || is_called_stale old.core y.pp)) old.core.copy false
+        by : (c : OpenCopy) → old.core.copy ≡ Some c → c.moves ≡ false → (is_whole old.core c ≡ false → calls_stale old.core.status.wanted c.pp ≡ true) → marked_by_end core2 how c.pp ≡ option_map_or (λ (y : OpenCopy). is_whole old.core y && is_pp c.pp y.pp && (not y.moves || is_held_stale old.core y.pp)) old.core.copy false
             → (b : Bool) → is_whole old.core c ≡ b → (calls_stale old.core.status.wanted c.pp ≡ true) ⊎ (due c.pp ≡ true)
         by c here fixed stale mark false part = inl (stale part)
         by c here fixed stale mark true all = inr (or_true (is_among (due_of core2 o2.request) c.pp) (marked_by_end core2 how c.pp)
-            (inr (mark ∙ ap (λ (m : Option OpenCopy). option_map_or (λ (y : OpenCopy). is_whole old.core y && is_pp c.pp y.pp && (not y.moves || is_called_stale old.core y.pp)) m false) here ∙ (λ k. all k && same_pp c.pp c.pp refl k && (not (fixed k) || is_called_stale old.core c.pp)))))
+            (inr (mark ∙ ap (λ (m : Option OpenCopy). option_map_or (λ (y : OpenCopy). is_whole old.core y && is_pp c.pp y.pp && (not y.moves || is_held_stale old.core y.pp)) m false) here ∙ (λ k. all k && same_pp c.pp c.pp refl k && (not (fixed k) || is_held_stale old.core c.pp)))))
 
     -- ---- what the state wants
 

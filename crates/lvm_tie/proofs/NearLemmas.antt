@@ -35,9 +35,10 @@ use Rattle.lvm_crash.proofs.RecordsLemmas.Quiet.{quiet_lasts}
 use Rattle.lvm_tie.proofs.OutLemmas.Ties.{carry_on}
 use Rattle.lvm_tie.proofs.AmongLemmas.{or_true}
 use Rattle.lvm_tie.specs.Out.{CarriesStep}
-use Rattle.lvm_tie.specs.Seen.{Brings, IsRequestAt, IsStepAt, Sees, SeesHand, SeesStep, step_write_in, step_write_of, update_of}
+use Rattle.lvm_tie.specs.Seen.{IsRequestAt, IsStepAt, Sees, SeesHand, SeesStep, step_write_in, step_write_of, update_of}
 use Rattle.lvm_tie.specs.Tied.{IsOrderly, IsTied}
 use Rattle.lvm_tie.specs.Near.{IsNear, IsRunning, NearTies}
+use Rattle.lvm_session.proofs.MovesLemmas.{unmoving}
 
 -- a copy that the state as a whole makes end runs
 pub ends_running : (core : Core) (how : CopyEnd) → copy_ends core ≡ Some how → IsRunning core
@@ -137,7 +138,7 @@ module _ (past : List Fact) (device : Device) (core : Core) (how : CopyEnd) (nea
     open_copy = none;
     step_write = write_out;
     beside = near.sees.beside;
-    brings = subst Brings its.is_open near.sees.brings;
+    brings = unmoving core c its.is_open near.sees.brings;
   }
 
   carries_out : (g : Flight) (o : Owner) → CarriesStep core v g o → CarriesStep core_out v g o
@@ -229,7 +230,7 @@ module _ (past : List Fact) (device : Device) (core : Core) (how : CopyEnd) (nea
     open_copy = none;
     step_write = write_in out;
     beside = near.sees.beside;
-    brings = subst Brings its.is_open near.sees.brings;
+    brings = unmoving core c its.is_open near.sees.brings;
   }
 
   -- it leaves
@@ -307,7 +308,7 @@ module _ (past : List Fact) (device : Device) (core : Core) (how : CopyEnd) (nea
       open_copy = none;
       step_write = write_in out;
       beside = near.sees.beside;
-      brings = subst Brings its.is_open near.sees.brings;
+      brings = unmoving core c its.is_open near.sees.brings;
     }
 
   pub ended_ties : IsOrderly (state device (with_end core (Some how))) near.write → IsTied past (state device (with_end core (Some how)))

@@ -41,12 +41,12 @@ use Rattle.lvm_crash.proofs.CopiesLemmas.{copy_placed, one_block}
 use Rattle.lvm_crash.proofs.WritingLemmas.{pp_same, same_pp}
 use Rattle.lvm_crash.specs.Copies.{IsCopyOf}
 use Rattle.lvm_tie.proofs.TiedLemmas.Orderly.{open_one, valid_of, waiting_one}
-use Rattle.lvm_tie.specs.Seen.{Brings, passed_by, SeesOpen, SeesRunning, SeesCopy}
+use Rattle.lvm_tie.specs.Seen.{passed_by, SeesOpen, SeesRunning, SeesCopy}
 use Rattle.lvm_tie.specs.Tied.{IsTied}
 use Rattle.lvm_session.specs.Marks.{is_among}
 use Rattle.lvm_session.specs.Requests.{IsAimed, IsTarget}
 use Rattle.lvm_session.specs.Sound.{IsCopy, IsStaleCopy}
-use Rattle.lvm_session.proofs.MovesLemmas.{place_open, places_by, stale_of}
+use Rattle.lvm_session.proofs.MovesLemmas.{place_open, places_by, stale_of, unmoving}
 use Rattle.lvm_tie.proofs.SeenLemmas.Beside.{plain_copies}
 
 pub found_any : (rows : List PvRow) (disk : ℕ) (row : PvRow) → find (λ (r : PvRow). r.disk == disk) rows ≡ Some row → list_any (λ (r : PvRow). r.disk == disk) rows ≡ true
@@ -123,7 +123,7 @@ module _ (past : List Fact) (s : State) (tied : IsTied past s) where
 
   -- it doesn't move
   pub brings : (c : OpenCopy) → core.copy ≡ Some c → c.moves ≡ false
-  brings c is = subst Brings is tied.sees.brings
+  brings c is = unmoving core c is tied.sees.brings
 
   pub stale_is : (c : OpenCopy) → core.copy ≡ Some c → IsStaleCopy core c
   stale_is c is = stale_of core c (copy_is c is) (brings c is)

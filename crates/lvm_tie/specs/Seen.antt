@@ -27,7 +27,7 @@ use Rattle.lvm_session.specs.declared.bringing.OpenCopy.{OpenCopy}
 use Rattle.lvm_session.specs.declared.bringing.Step.{Step}
 use Rattle.lvm_session.specs.declared.bringing.Step.TheVariants as step
 use Rattle.lvm_session.specs.State.{Core, is_there}
-use Rattle.lvm_session.specs.Judging.{is_running, place_of}
+use Rattle.lvm_session.specs.Judging.{is_moving, is_running, place_of}
 use Rattle.lvm_session.specs.Bringing.{groups_of, has_row, block_at}
 use Rattle.lvm_invariant.specs.State.{Stage, Todo, Flying, Well, Badly, ModelPhase, Held, WantEntry, Ready, Going, Landed, Groups, Queued, ModelCopy, StepWrite, ModelState, Marks, has_landed}
 use Rattle.lvm_num.specs.Descriptor.{is_pp}
@@ -188,13 +188,6 @@ pub record SeesNotes (kept : Cached) (there : Disks) (groups : Groups) (at_home 
   pub home : (d lv g : ℕ) (n : DiskNotes) → IsTrue (there d) → notes_on kept d ≡ Some n → at_home d lv g ≡ names_group n.written.items lv g
   pub flying : (d : ℕ) → SeesNote (notes d) (flight_on kept d)
 
--- ---- a copy that moves
-
--- none is open that does
-abbrev pub Brings : Option OpenCopy → Type 0
-Brings None = Unit {0}
-Brings (Some c) = c.moves ≡ false
-
 -- ---- all of it
 
 -- After this earlier history, which its own follows, the session is this state, but for what the disks show.
@@ -207,5 +200,5 @@ pub record Sees (past : List Fact) (core : Core) (v : ModelState) : Type 0 where
   pub step_write : v.step_write ≡ step_write_in core.copy
   -- no partition is brought up beside the group's copies
   pub beside : v.beside ≡ None
-  -- since the copy that is open doesn't move
-  pub brings : Brings core.copy
+  -- since no copy is open that moves
+  pub brings : is_moving core ≡ false

@@ -6,7 +6,7 @@ use Rattle.lvm_num.specs.Descriptor.{IsValid, is_member}
 use Rattle.lvm_vol.specs.Facts.{Fact}
 use Rattle.lvm_session.specs.declared.bringing.OpenCopy.{OpenCopy}
 use Rattle.lvm_session.specs.State.{Core, is_there}
-use Rattle.lvm_session.specs.Judging.{is_running, is_stale, is_wanted_stale}
+use Rattle.lvm_session.specs.Judging.{is_moving, is_running, is_stale, is_wanted_stale}
 use Rattle.lvm_session.specs.Bringing.{copy_ends, is_whole}
 use Rattle.lvm_session.specs.Marks.{Reviews}
 use Rattle.lvm_invariant.specs.State.{ModelCopy, ModelState}
@@ -32,14 +32,14 @@ KeepsFresh v = (lv b : ℕ) (c : Pp) → IsTrue (v.is_copy lv b c) → (e : Pp) 
 abbrev pub HasOwners : ModelState → Type 0
 HasOwners v = (lv b l d : ℕ) (c e : Pp) → IsTrue (v.is_copy lv b c) → IsTrue (v.is_copy l d c) → IsTrue (v.is_copy l d e) → IsTrue (v.is_copy lv b e)
 
--- The copy that runs doesn't move; it is the one that the state sees open, on a member; it is wanted stale until it is whole, and then stale by what is committed.
+-- No copy moves; the one that runs is the one that the state sees open, on a member; it is wanted stale until it is whole, and then stale by what is committed.
 pub record IsBrought (core : Core) (v : ModelState) (c : OpenCopy) : Type 0 where
   pub target : (o : ModelCopy) → v.open_copy ≡ Some o → o.target ≡ c.pp
   pub member : is_member core.descriptor c.pp.disk ≡ true
   pub there : (lv : ℕ) × (b : ℕ) × IsTrue (v.is_copy lv b c.pp)
   pub part : is_whole core c ≡ false → is_wanted_stale core c.pp ≡ true
   pub whole : is_whole core c ≡ true → is_stale core c.pp ≡ true
-  pub stays : c.moves ≡ false
+  pub stays : is_moving core ≡ false
 
 -- ---- what is wanted
 

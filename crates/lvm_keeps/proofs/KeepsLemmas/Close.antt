@@ -1,13 +1,12 @@
 -- The copy that is open is closed.
 use Rattle.std.proofs.Common.{◌≡◌, ◌⊎◌, inl, inr, ◌&&◌, ◌||◌, ℕ, Bool, true, false, not, if◌then◌else◌, List, [], ◌∷◌, Option, Some, None, refl, sym, ◌∙◌, ap, subst, arith}
-use Rattle.std.specs.Prelude.{IfSome, is_none, is_some, unwrap_or}
+use Rattle.std.specs.Prelude.{IfSome, is_none, is_some}
 use Rattle.std.specs.List.{AllByRecursion, list_any}
 use Rattle.std.specs.Option.{option_map_or}
 use Rattle.lvm_session.specs.passed.Names.{Flight}
 use Rattle.std.proofs.lemmas.Bool.{or_parts}
 use Rattle.lvm_num.specs.declared.place.Pp.{Pp}
 use Rattle.lvm_num.specs.Descriptor.{is_pp}
-use Rattle.lvm_num.specs.Status.{calls_stale}
 use Rattle.lvm_num.proofs.Booleans.{not_so}
 use Rattle.lvm_num.proofs.Lists.{all_weaker}
 use Rattle.lvm_num.proofs.DescriptorLemmas.Partitions.{one_partition, same_partition}
@@ -26,7 +25,7 @@ use Rattle.lvm_session.specs.declared.open.Open.{Open}
 use Rattle.lvm_session.specs.declared.open.Power.{Power}
 use Rattle.lvm_session.specs.declared.open.Power.TheVariants as power
 use Rattle.lvm_session.specs.State.{Core, State, state}
-use Rattle.lvm_session.specs.Judging.{is_beside_copy, is_clear, is_moved, is_past_held, is_running, is_stale, is_under_way, is_waiting, is_wanted_stale, places_for, pps_of}
+use Rattle.lvm_session.specs.Judging.{is_beside_copy, stays_fresh, is_moved, is_past_held, is_running, is_under_way, is_waiting, is_wanted_stale, places_for, pps_of}
 use Rattle.lvm_session.specs.Bringing.{hand_of, has_row, is_idle, is_out, is_whole, step_row}
 use Rattle.lvm_session.specs.Marks.{is_among}
 use Rattle.lvm_session.specs.declared.answers.CopyState.{CopyState}
@@ -70,13 +69,13 @@ is_still core c ended = by (is_out c.step) (is_still_aimed core c) (is_moved cor
 record IsDoneMove (core : Core) (c : OpenCopy) : Type 0 where
   pub running : is_running c ≡ true
   pub whole : is_whole core c ≡ true
-  pub clear : is_clear core c.pp ≡ true
+  pub clear : stays_fresh core c.pp ≡ true
   pub unused : is_under_way core c ≡ false
 
 done_move : (core : Core) (c : OpenCopy) → is_moved core c ≡ true → IsDoneMove core c
 done_move core c is =
-    let all = both (c.moves && is_running c && is_whole core c && is_clear core c.pp) (not (is_under_way core c)) is in
-    let most = both (c.moves && is_running c && is_whole core c) (is_clear core c.pp) all.0 in
+    let all = both (c.moves && is_running c && is_whole core c && stays_fresh core c.pp) (not (is_under_way core c)) is in
+    let most = both (c.moves && is_running c && is_whole core c) (stays_fresh core c.pp) all.0 in
     let some = both (c.moves && is_running c) (is_whole core c) most.0 in
     record { running = (both c.moves (is_running c) some.0).1; whole = some.1; clear = most.1; unused = is_false (is_under_way core c) all.1 }
 
@@ -241,12 +240,11 @@ module _ (s : State) (sound : IsSound s) (c : OpenCopy) (is : s.core.copy ≡ So
         by (inr done) all =
             let clear = (done_move core c done).clear in
             let same = one_partition p c.pp (both (is_running c && is_whole core c) (is_pp p c.pp) all).1 in
-            none (is_stale core c.pp) (calls_stale (unwrap_or core.status.in_flight core.status.committed) c.pp) (is_wanted_stale core c.pp) clear (sym (ap (is_held_stale core) same) ∙ held)
+            none (is_held_stale core c.pp) (is_wanted_stale core c.pp) clear (sym (ap (is_held_stale core) same) ∙ held)
           where
-            none : (a b w : Bool) → not a && not b && not w ≡ true → a || b ≡ true → ⊥
-            none true b w clear held = not_so clear
-            none false true w clear held = not_so clear
-            none false false w clear held = not_so held
+            none : (a w : Bool) → not a && not w ≡ true → a ≡ true → ⊥
+            none true w clear held = not_so clear
+            none false w clear held = not_so held
 
     keeps_going : IsGoing now.core
     keeps_going = record {

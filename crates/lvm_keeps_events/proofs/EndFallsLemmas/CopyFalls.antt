@@ -11,7 +11,7 @@ use Rattle.lvm_hold.specs.Waiting.{Waiting, without}
 use Rattle.lvm_num.specs.Descriptor.{is_pp}
 use Rattle.lvm_num.proofs.Booleans.{not_so}
 use Rattle.lvm_status.specs.Update.{Stored}
-use Rattle.lvm_session.specs.Bringing.{after_copy_end, copy_ends, end_of, groups_of, is_done_end, is_idle, is_whole, marked_by_end, with_end, is_called_stale}
+use Rattle.lvm_session.specs.Bringing.{after_copy_end, copy_ends, end_of, groups_of, is_done_end, is_idle, is_whole, marked_by_end, with_end, is_held_stale}
 use Rattle.lvm_session.specs.Judging.{copies_in, is_missing, is_running}
 use Rattle.lvm_session.specs.State.{Core}
 use Rattle.lvm_session.specs.declared.bringing.CopyEnd.{CopyEnd}
@@ -186,7 +186,7 @@ copy_write_fail_falls at old new sound on event = subst (λ (k : Core). left_of 
     status_is = event.fails.marks.same (λ p due. not_so (sym (not_marked p) ∙ due))
       where
         not_marked : (p : Pp) → marked_by_end old.core (Some ending.SyncFailed) p ≡ false
-        not_marked p = ap (λ m. option_map_or (λ (k : OpenCopy). is_whole old.core k && is_pp p k.pp && (not k.moves || is_called_stale old.core k.pp)) m false) event.is_open ∙ ap (λ b. b && is_pp p c.pp && (not c.moves || is_called_stale old.core c.pp)) short
+        not_marked p = ap (λ m. option_map_or (λ (k : OpenCopy). is_whole old.core k && is_pp p k.pp && (not k.moves || is_held_stale old.core k.pp)) m false) event.is_open ∙ ap (λ b. b && is_pp p c.pp && (not c.moves || is_held_stale old.core c.pp)) short
 
     core_is : new.core ≡ made
     core_is = event.fails.is ∙ ap (λ (u : Stored). record made { status = u }) status_is
@@ -232,7 +232,7 @@ copy_read_fail_falls at old new sound on event = by_end (copy_ends mid) refl new
     -- nothing comes to be wanted stale, since it isn't whole
     not_marked : (m : Option CopyEnd) (p : Pp) → marked_by_end mid m p ≡ false
     not_marked None p = refl
-    not_marked (Some how) p = ap (λ (b : Bool). not (is_done_end how) && (b && is_pp p c.pp && (not c.moves || is_called_stale mid c.pp))) short ∙ and_false (not (is_done_end how))
+    not_marked (Some how) p = ap (λ (b : Bool). not (is_done_end how) && (b && is_pp p c.pp && (not c.moves || is_held_stale mid c.pp))) short ∙ and_false (not (is_done_end how))
 
     status_is : new.core.status ≡ old.core.status
     status_is = event.misses.reviews.marks.same (λ p due. going.behind p (by (is_entailed old.core p) (marked_by_end mid (copy_ends mid) p) (not_marked (copy_ends mid) p) due))

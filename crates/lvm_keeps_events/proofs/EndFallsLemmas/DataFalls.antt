@@ -15,7 +15,7 @@ use Rattle.lvm_path.specs.declared.request.Phase.TheVariants as phase
 use Rattle.lvm_path.specs.declared.target.Target.{Target}
 use Rattle.lvm_status.specs.Update.{Stored}
 use Rattle.lvm_status.specs.declared.writes.Writes.{Writes}
-use Rattle.lvm_session.specs.Bringing.{after_copy_end, end_of, ends_if, hand_of, is_out, is_whole, marked_by_end, with_back, with_copy_end, with_end, is_called_stale}
+use Rattle.lvm_session.specs.Bringing.{after_copy_end, end_of, ends_if, hand_of, is_out, is_whole, marked_by_end, with_back, with_copy_end, with_end, is_held_stale}
 use Rattle.lvm_session.specs.Judging.{is_missing, is_running, is_waiting}
 use Rattle.lvm_session.specs.State.{Core, State}
 use Rattle.lvm_session.specs.declared.bringing.CopyEnd.TheVariants as ending
@@ -189,14 +189,14 @@ module _ (at id target : ℕ) (ok : Bool) (old new : State) (sound : IsSound old
           omega (arith, equal)
 
   fails_less : (c : OpenCopy) → core.copy ≡ Some c → hits_copy core learned_so ok its_aim.pp c ≡ true
-      → WantsStale (λ q. is_among (due_of core learned_so.request) q || option_map_or (λ (k : OpenCopy). is_whole core k && is_pp q k.pp && (not k.moves || is_called_stale core k.pp)) core.copy false) core.status new.core.status
+      → WantsStale (λ q. is_among (due_of core learned_so.request) q || option_map_or (λ (k : OpenCopy). is_whole core k && is_pp q k.pp && (not k.moves || is_held_stale core k.pp)) core.copy false) core.status new.core.status
       → new.core ≡ record (after_copy_end (mid at id target ok old new sound on event learned_so) c ending.SyncFailed) { status = new.core.status } → left_of new.core < left_of core
   fails_less c is hit marks core_is = subst (λ (k : Core). left_of k < left_of core) (sym (core_is ∙ ap (λ (u : Stored). record (after_copy_end (mid at id target ok old new sound on event learned_so) c ending.SyncFailed) { status = u }) stale.is))
       (falls core (after queue_so (Some (with_copy_end c ending.SyncFailed)) (with_back core.pool (hand_of c.step)) due_so new.core.status.wanted new.core.status.writes stale.like stale.unstarted pool_so less paid)
       (is_less queue_so (Some (with_copy_end c ending.SyncFailed)) (with_back core.pool (hand_of c.step)) due_so new.core.status.wanted new.core.status.writes stale.like stale.unstarted pool_so less paid))
     where
       due_so : Pp → Bool
-      due_so q = is_among (due_of core learned_so.request) q || option_map_or (λ (k : OpenCopy). is_whole core k && is_pp q k.pp && (not k.moves || is_called_stale core k.pp)) core.copy false
+      due_so q = is_among (due_of core learned_so.request) q || option_map_or (λ (k : OpenCopy). is_whole core k && is_pp q k.pp && (not k.moves || is_held_stale core k.pp)) core.copy false
 
       stale : IsStaled due_so core.status new.core.status
       stale = staled due_so core.status new.core.status sure.status marks

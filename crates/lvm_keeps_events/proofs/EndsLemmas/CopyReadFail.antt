@@ -17,7 +17,7 @@ use Rattle.lvm_session.specs.Judging.{copies_in, is_missing, is_running, is_stal
 use Rattle.lvm_session.specs.declared.bringing.CopyEnd.TheVariants as ending
 use Rattle.lvm_status.specs.Update.{Stored}
 use Rattle.lvm_session.specs.Events.{IsCopyTransfer}
-use Rattle.lvm_session.specs.Bringing.{copy_ends, hand_of, is_called_stale, is_done_end, marked_by_end, end_by_sources, end_of, ends_if, is_cleared, is_idle, is_whole, after_copy_end, next_source, sources_of, with_end}
+use Rattle.lvm_session.specs.Bringing.{copy_ends, hand_of, is_held_stale, is_done_end, marked_by_end, end_by_sources, end_of, ends_if, is_cleared, is_idle, is_whole, after_copy_end, next_source, sources_of, with_end}
 use Rattle.lvm_session.specs.Owners.{IsStepOf}
 use Rattle.lvm_session.specs.Causes.{HaveSourcesFailed, IsCausedAmong, faults_at_opening, FailedSinceOpening}
 use Rattle.lvm_session.specs.Sound.{IsCopy, IsGoing, IsSound, is_clearing, IsReadFrom}
@@ -168,7 +168,7 @@ copy_read_fail_keeps at old new sound on event = by_end (copy_ends mid) refl new
     -- nothing comes to be wanted stale, since it isn't whole
     not_marked : (m : Option CopyEnd) (p : Pp) → marked_by_end mid m p ≡ false
     not_marked None p = refl
-    not_marked (Some how) p = ap (λ (b : Bool). not (is_done_end how) && (b && is_pp p c.pp && (not c.moves || is_called_stale mid c.pp))) short ∙ and_false (not (is_done_end how))
+    not_marked (Some how) p = ap (λ (b : Bool). not (is_done_end how) && (b && is_pp p c.pp && (not c.moves || is_held_stale mid c.pp))) short ∙ and_false (not (is_done_end how))
 
     status_is : new.core.status ≡ old.core.status
     status_is = event.misses.reviews.marks.same (λ p due. going.behind p (by (is_entailed old.core p) (marked_by_end mid (copy_ends mid) p) (not_marked (copy_ends mid) p) due))

@@ -20,7 +20,7 @@ use Rattle.lvm_session.specs.Judging.{copies_in, is_running}
 use Rattle.lvm_session.specs.declared.bringing.CopyEnd.TheVariants as ending
 use Rattle.lvm_status.specs.Update.{Stored}
 use Rattle.lvm_session.specs.Events.{IsCopyTransfer}
-use Rattle.lvm_session.specs.Bringing.{marked_by_end, is_idle, is_whole, is_called_stale}
+use Rattle.lvm_session.specs.Bringing.{marked_by_end, is_idle, is_whole, is_held_stale}
 use Rattle.lvm_session.specs.Owners.{IsCopyStepOf, IsRowOf, IsStepOf, IsTransferOf}
 use Rattle.lvm_session.specs.Causes.{IsCausedAmong, own_faults}
 use Rattle.lvm_session.specs.Sound.{IsCopy, IsSound, is_clearing}
@@ -81,7 +81,7 @@ copy_write_fail_keeps at old new sound on event =
     status_is = event.fails.marks.same (λ p due. not_so (sym (not_marked p) ∙ due))
       where
         not_marked : (p : Pp) → marked_by_end old.core (Some ending.SyncFailed) p ≡ false
-        not_marked p = ap (λ m. option_map_or (λ (k : OpenCopy). is_whole old.core k && is_pp p k.pp && (not k.moves || is_called_stale old.core k.pp)) m false) event.is_open ∙ ap (λ b. b && is_pp p c.pp && (not c.moves || is_called_stale old.core c.pp)) short
+        not_marked p = ap (λ m. option_map_or (λ (k : OpenCopy). is_whole old.core k && is_pp p k.pp && (not k.moves || is_held_stale old.core k.pp)) m false) event.is_open ∙ ap (λ b. b && is_pp p c.pp && (not c.moves || is_held_stale old.core c.pp)) short
 
     out : IsOut old.core old.device.flights new.device.flights at event.row ended.flight
     out = taken_out old.core old.core.flying old.device.flights new.device.flights at event.row ended.flight (sound.on on).rows (sound.on on).going.tickets event.returns.there ended.flights ended.its

@@ -16,7 +16,7 @@ use Rattle.lvm_path.specs.Asks.{is_write}
 use Rattle.lvm_path.specs.Targets.{are_over, end_state, is_done, is_failed}
 use Rattle.lvm_path.specs.declared.target.Target.{Target}
 use Rattle.lvm_session.proofs.MovesLemmas.{stale_of}
-use Rattle.lvm_session.specs.Bringing.{is_called_stale, end_by_sources, end_of, ends_if, groups_of, is_cleared, is_whole, with_copy_end}
+use Rattle.lvm_session.specs.Bringing.{end_by_sources, end_of, ends_if, groups_of, is_cleared, is_whole, with_copy_end}
 use Rattle.lvm_session.specs.Judging.{is_sure_at, all_but_sure, group_in, is_caught, is_kept, is_missing, is_running, is_wanted_stale, pps_of}
 use Rattle.lvm_session.specs.State.{Core}
 use Rattle.lvm_session.specs.declared.bringing.CopyEnd.TheVariants as ending
@@ -221,10 +221,10 @@ module _ (core : Core) (going : IsGoing core) (place target : ℕ) (o : Open) (t
     running = (both (is_write o.request.ask) (is_running c) (both (is_write o.request.ask && is_running c) (not ok && is_pp aim.pp c.pp || (are_over x.request.targets.items && not (is_kept core x.request) && not o.older && is_among (due_of core x.request) c.pp)) hit).0).1
 
     abbrev pub marked : Pp → Bool
-    marked q = option_map_or (λ (k : OpenCopy). is_whole core k && is_pp q k.pp && (not k.moves || is_called_stale core k.pp)) core.copy false
+    marked q = option_map_or (λ (k : OpenCopy). is_whole core k && is_pp q k.pp && (not k.moves || is_held_stale core k.pp)) core.copy false
 
-    of_mark : (q : Pp) → marked q ≡ (is_whole core c && is_pp q c.pp && (not c.moves || is_called_stale core c.pp))
-    of_mark q = ap (λ m. option_map_or (λ (k : OpenCopy). is_whole core k && is_pp q k.pp && (not k.moves || is_called_stale core k.pp)) m false) is
+    of_mark : (q : Pp) → marked q ≡ (is_whole core c && is_pp q c.pp && (not c.moves || is_held_stale core c.pp))
+    of_mark q = ap (λ m. option_map_or (λ (k : OpenCopy). is_whole core k && is_pp q k.pp && (not k.moves || is_held_stale core k.pp)) m false) is
 
     bringing : IsCopy core c
     bringing = subst (λ m. IfSome m (IsCopy core)) is going.copy
@@ -232,11 +232,11 @@ module _ (core : Core) (going : IsGoing core) (place target : ℕ) (o : Open) (t
     -- what it had cleared is stale
     held_so : (q : Pp) → marked q ≡ true → is_held_stale core q ≡ true
     held_so q e =
-        let all = both (is_whole core c && is_pp q c.pp) (not c.moves || is_called_stale core c.pp) (sym (of_mark q) ∙ e) in
+        let all = both (is_whole core c && is_pp q c.pp) (not c.moves || is_held_stale core c.pp) (sym (of_mark q) ∙ e) in
         let parts = both (is_whole core c) (is_pp q c.pp) all.0 in
         ap (is_held_stale core) (pp_same q c.pp parts.1) ∙ of_kind parts.0 c.moves refl all.1
       where
-        of_kind : is_whole core c ≡ true → (b : Bool) → c.moves ≡ b → not b || is_called_stale core c.pp ≡ true → is_held_stale core c.pp ≡ true
+        of_kind : is_whole core c ≡ true → (b : Bool) → c.moves ≡ b → not b || is_held_stale core c.pp ≡ true → is_held_stale core c.pp ≡ true
         of_kind whole false stays e = ap (λ b. b || calls_stale (unwrap_or core.status.in_flight core.status.committed) c.pp) ((stale_of core c bringing stays).clearing running whole).0
         of_kind whole true moves e = e
 
@@ -265,5 +265,5 @@ module _ (core : Core) (going : IsGoing core) (place target : ℕ) (o : Open) (t
         clears : (q : Pp) → is_held_stale core q ≡ true → is_clearing core q ≡ true → is_among (due_of core x.request) q || marked q ≡ true
         clears q held clearing =
             let parts = both (is_running c && is_whole core c) (is_pp q c.pp) (sym (ap (λ m. option_map_or (λ (k : OpenCopy). is_running k && is_whole core k && is_pp q k.pp) m false) is) ∙ clearing) in
-            ap (λ b. is_among (due_of core x.request) q || b) (of_mark q ∙ all_and (is_whole core c && is_pp q c.pp) (not c.moves || is_called_stale core c.pp) (all_and (is_whole core c) (is_pp q c.pp) (both (is_running c) (is_whole core c) parts.0).1 parts.1)
+            ap (λ b. is_among (due_of core x.request) q || b) (of_mark q ∙ all_and (is_whole core c && is_pp q c.pp) (not c.moves || is_held_stale core c.pp) (all_and (is_whole core c) (is_pp q c.pp) (both (is_running c) (is_whole core c) parts.0).1 parts.1)
             (ap (λ b. not c.moves || b) (sym (ap (is_held_stale core) (pp_same q c.pp parts.1)) ∙ held) ∙ or_true (not c.moves))) ∙ or_true (is_among (due_of core x.request) q)

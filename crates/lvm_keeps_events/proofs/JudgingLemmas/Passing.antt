@@ -35,7 +35,7 @@ use Rattle.lvm_status.specs.Update.{seen}
 use Rattle.lvm_status.specs.declared.writes.Writes.{Writes}
 use Rattle.lvm_session.specs.Bringing.{block_at, copy_ends, end_of, ends_if, groups_of, hand_of, has_row, is_cleared, is_idle, is_out, is_whole, next_source, sources_of, step_of, step_place, step_row}
 use Rattle.lvm_session.specs.Enabled.{same_status}
-use Rattle.lvm_session.specs.Judging.{copies_for, copies_in, group_in, has_dirty_mark, has_names, held_of, is_caught, is_held_back, is_kept, is_missing, is_beside_copy, is_clear, is_running, is_settled, is_stale, is_sure, is_sure_at, is_usable, is_waiting, is_wanted_stale, lp_of, place_aims, place_of, places_for, places_if, pps_of}
+use Rattle.lvm_session.specs.Judging.{copies_for, copies_in, group_in, has_dirty_mark, has_names, held_of, is_caught, is_held_back, is_kept, is_missing, is_beside_copy, stays_fresh, is_running, is_settled, is_stale, is_sure, is_sure_at, is_usable, is_waiting, is_wanted_stale, lp_of, place_aims, place_of, places_for, places_if, pps_of}
 use Rattle.lvm_session.specs.State.{Core, is_there, State, state}
 use Rattle.lvm_session.specs.declared.bringing.CopyEnd.TheVariants as ending
 use Rattle.lvm_session.specs.declared.bringing.OpenCopy.{OpenCopy}
@@ -55,7 +55,7 @@ use Rattle.lvm_session.specs.Causes.{AreCaused, AreCounted, fails_on, is_blamed,
 use Rattle.lvm_session.specs.Left.{copy_updates, if_so, updates_left}
 use Rattle.lvm_session.specs.Owners.{AreOwned, same_owner}
 use Rattle.lvm_session.specs.Requests.{is_failed_and_sure, is_left_out, is_past_held, is_wanted_dirty, is_wanted_due, IsAimed, IsJudged, IsMarkedPlace, IsOpenOne, IsPhase, IsRequest, IsTarget, may_lack, mode_for, wants_status, will_be_kept}
-use Rattle.lvm_session.specs.Sound.{count_if, is_clearing, is_hand, IsCopy, IsFitting, IsGoing, IsOfKind, IsOn, IsSound, IsTold, may_be_fresh, out_with, stays_fresh, waiting_rows, with_row}
+use Rattle.lvm_session.specs.Sound.{count_if, is_clearing, is_hand, IsCopy, IsFitting, IsGoing, IsOfKind, IsOn, IsSound, IsTold, may_be_fresh, out_with, waiting_rows, with_row}
 use Rattle.lvm_session.proofs.MovesLemmas.{IsOpenPlace, among_filter, among_filtered, move_of, place_open, stale_of}
 use Rattle.lvm_calls.proofs.LogLemmas.{below_next}
 use Rattle.lvm_keeps.proofs.CacheLemmas.{no_copy}
@@ -699,9 +699,9 @@ module _ (s : State) (sound : IsSound s) (on : s.core.power ≡ power.On) (c : O
     sources_same = filter_alike (λ (p : Pp). not (is_pp p c.pp) && is_usable after p) (λ (p : Pp). not (is_pp p c.pp) && is_usable core p) (λ p. ap (λ b. not (is_pp p c.pp) && b) (usable_same p)) (copies_in core.descriptor c.lv c.lp)
 
     -- one that is brought up is stale still
-    uncleared : (b : Bool) → c.moves ≡ b → not b && is_clear after c.pp ≡ false
+    uncleared : (b : Bool) → c.moves ≡ b → not b && stays_fresh after c.pp ≡ false
     uncleared true moves = refl
-    uncleared false stays = ap (λ b. not b && not (calls_stale (unwrap_or core.status.in_flight core.status.committed) c.pp) && not (calls_stale wanted c.pp)) (stale_so stays)
+    uncleared false stays = ap (λ b. not (b || calls_stale (unwrap_or core.status.in_flight core.status.committed) c.pp) && not (calls_stale wanted c.pp)) (stale_so stays)
 
     reviewed : copy_ends after ≡ None
     reviewed = goes_on (is_running c) (is_missing after c.pp.disk) w (is_cleared after next) (length (sources_of after next) == 0) (is_none (next_source after next))

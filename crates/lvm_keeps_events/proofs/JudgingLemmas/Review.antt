@@ -20,11 +20,11 @@ use Rattle.lvm_session.specs.declared.bringing.CopyEnd.TheVariants as ending
 use Rattle.lvm_session.specs.declared.bringing.OpenCopy.{OpenCopy}
 use Rattle.lvm_session.specs.declared.flown.Flown.{Flown}
 use Rattle.lvm_session.specs.State.{Core}
-use Rattle.lvm_session.specs.Judging.{copies_in, is_missing, is_running, is_settled, is_stale, is_sure, is_usable, is_wanted_stale, is_clear}
-use Rattle.lvm_session.specs.Bringing.{copy_ends, end_by_sources, end_of, ends_if, is_cleared, is_done_end, is_whole, marked_by_end, is_called_stale}
+use Rattle.lvm_session.specs.Judging.{copies_in, is_missing, is_running, is_settled, is_stale, is_sure, is_usable, is_wanted_stale, stays_fresh}
+use Rattle.lvm_session.specs.Bringing.{copy_ends, end_by_sources, end_of, ends_if, is_cleared, is_done_end, is_whole, marked_by_end}
 use Rattle.lvm_session.specs.Marks.{WantsStale, can_replace, is_among, is_entailed, is_entailed_in, is_left_behind}
 use Rattle.lvm_session.specs.Causes.{is_held_stale, was_fresh}
-use Rattle.lvm_session.specs.Sound.{IsCopy, IsGoing, IsMove, is_clearing, may_be_fresh, stays_fresh}
+use Rattle.lvm_session.specs.Sound.{IsCopy, IsGoing, IsMove, is_clearing, may_be_fresh}
 use Rattle.lvm_session.proofs.MovesLemmas.{move_of, stale_of}
 use Rattle.lvm_keeps.proofs.CacheLemmas.{no_copy}
 use Rattle.lvm_keeps.proofs.KeepsLemmas.Landing.{or_parts}
@@ -251,11 +251,11 @@ module _ (e : WriteEnd) where
   pub undone : (p : Pp) → marked_by_end (mid e) (copy_ends (mid e)) p ≡ true → Clears core p × (is_missing (mid e) p.disk ≡ true)
   undone p marked = by (copy_ends (mid e)) refl marked
     where
-      of_copy : (how : CopyEnd) (m : Option OpenCopy) → core.copy ≡ m → copy_ends (mid e) ≡ Some how → not (is_done_end how) ≡ true → option_map_or (λ (c : OpenCopy). is_whole core c && is_pp p c.pp && (not c.moves || is_called_stale (mid e) c.pp)) m false ≡ true
+      of_copy : (how : CopyEnd) (m : Option OpenCopy) → core.copy ≡ m → copy_ends (mid e) ≡ Some how → not (is_done_end how) ≡ true → option_map_or (λ (c : OpenCopy). is_whole core c && is_pp p c.pp && (not c.moves || is_held_stale (mid e) c.pp)) m false ≡ true
           → Clears core p × (is_missing (mid e) p.disk ≡ true)
       of_copy how None is ends undone its = not_so its
       of_copy how (Some c) is ends undone its =
-          let parts = both (is_whole core c) (is_pp p c.pp) (both (is_whole core c && is_pp p c.pp) (not c.moves || is_called_stale (mid e) c.pp) its).0 in
+          let parts = both (is_whole core c) (is_pp p c.pp) (both (is_whole core c && is_pp p c.pp) (not c.moves || is_held_stale (mid e) c.pp) its).0 in
           let its_end : end_of (mid e) c ≡ Some how = sym (ap (λ m. option_map_or (end_of (mid e)) m None) is) ∙ ends in
           let more = is_undone (mid e) c how parts.0 its_end undone in
           let same = pp_is p c.pp parts.1 in
@@ -263,7 +263,7 @@ module _ (e : WriteEnd) where
 
       by : (m : Option CopyEnd) → copy_ends (mid e) ≡ m → marked_by_end (mid e) m p ≡ true → Clears core p × (is_missing (mid e) p.disk ≡ true)
       by None ends is = not_so is
-      by (Some how) ends is = let parts = both (not (is_done_end how)) (option_map_or (λ (c : OpenCopy). is_whole core c && is_pp p c.pp && (not c.moves || is_called_stale (mid e) c.pp)) core.copy false) is in of_copy how core.copy refl ends parts.0 parts.1
+      by (Some how) ends is = let parts = both (not (is_done_end how)) (option_map_or (λ (c : OpenCopy). is_whole core c && is_pp p c.pp && (not c.moves || is_held_stale (mid e) c.pp)) core.copy false) is in of_copy how core.copy refl ends parts.0 parts.1
 
   -- a copy that is fresh by what is committed isn't marked
   pub unmarked : (p : Pp) → IsCopyIn core p → is_stale (mid e) p ≡ false → marked_by_end (mid e) (copy_ends (mid e)) p ≡ false
@@ -290,9 +290,9 @@ module _ (e : WriteEnd) where
       was = (stale_of core c (its_copy c is) brought).clearing runs whole
 
       cleared : is_stale (mid e) c.pp ≡ false → is_cleared (mid e) c ≡ true
-      cleared fresh = and_of (not c.moves) (is_clear (mid e) c.pp) (ap not brought) (and_of (not (is_stale (mid e) c.pp) && not (calls_stale (unwrap_or e.next.in_flight e.next.committed) c.pp)) (not (is_wanted_stale (mid e) c.pp))
-          (and_of (not (is_stale (mid e) c.pp)) (not (calls_stale (unwrap_or e.next.in_flight e.next.committed) c.pp)) (ap not fresh)
-          (ap not (ap (λ (s : Status). calls_stale s c.pp) e.follows.flies ∙ of_committed (λ s. calls_stale s c.pp ≡ false → calls_stale (in_flight_of core) c.pp ≡ false) (λ i. not_so (sym i ∙ was.0)) (λ same i. i) fresh)))
+      cleared fresh = and_of (not c.moves) (stays_fresh (mid e) c.pp) (ap not brought) (and_of (not (is_held_stale (mid e) c.pp)) (not (is_wanted_stale (mid e) c.pp))
+          (ap not (ap (λ b. b || calls_stale (unwrap_or e.next.in_flight e.next.committed) c.pp) fresh
+          ∙ (ap (λ (s : Status). calls_stale s c.pp) e.follows.flies ∙ of_committed (λ s. calls_stale s c.pp ≡ false → calls_stale (in_flight_of core) c.pp ≡ false) (λ i. not_so (sym i ∙ was.0)) (λ same i. i) fresh)))
           (ap not (e.follows.stale c.pp ∙ was.1)))
 
       by : (b : Bool) → is_stale (mid e) c.pp ≡ b → is_stale (mid e) c.pp ≡ true

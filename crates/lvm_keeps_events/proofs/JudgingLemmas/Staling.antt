@@ -250,15 +250,13 @@ module _ (core : Core) (due : Pp → Bool) (wanted : Status) (writes : Writes) (
   sources_same c = filter_alike (λ (p : Pp). not (is_pp p c.pp) && is_usable staler p) (λ (p : Pp). not (is_pp p c.pp) && is_usable core p) (λ p. ap (λ b. not (is_pp p c.pp) && b) (usable_same p)) (copies_in core.descriptor c.lv c.lp)
 
   cleared_less : (c : OpenCopy) → is_cleared core c ≡ false → is_cleared staler c ≡ false
-  cleared_less c e = ap (λ b. not c.moves && (not (is_stale core c.pp) && not (calls_stale (unwrap_or core.status.in_flight core.status.committed) c.pp) && not b)) (like.stale c.pp)
-      ∙ by c.moves (is_stale core c.pp) (calls_stale (unwrap_or core.status.in_flight core.status.committed) c.pp) (is_wanted_stale core c.pp) (due c.pp) e
+  cleared_less c e = ap (λ b. not c.moves && (not (is_held_stale core c.pp) && not b)) (like.stale c.pp) ∙ by c.moves (is_held_stale core c.pp) (is_wanted_stale core c.pp) (due c.pp) e
     where
-      by : (m a f w d : Bool) → not m && (not a && not f && not w) ≡ false → not m && (not a && not f && not (w || d)) ≡ false
-      by true a f w d g = refl
-      by false true f w d g = refl
-      by false false true w d g = refl
-      by false false false true d g = refl
-      by false false false false d g = not_so (sym g)
+      by : (m h w d : Bool) → not m && (not h && not w) ≡ false → not m && (not h && not (w || d)) ≡ false
+      by true h w d g = refl
+      by false true w d g = refl
+      by false false true d g = refl
+      by false false false d g = not_so (sym g)
 
   pub end_on : (c : OpenCopy) → end_of core c ≡ None → end_of staler c ≡ None
   end_on c e =

@@ -1,8 +1,9 @@
 -- A session in which nothing is out doesn't stand still.
-use Rattle.std.proofs.Common.{◌≡◌, ◌++◌, ◌⊎◌, inl, inr, ◌==◌, ◌≤◌, ◌<◌, ◌+◌, ◌&&◌, ◌||◌, ℕ, zero, suc, Bool, true, false, not, nat_le, nat_lt, filter, find, List, [], ◌∷◌, Option, Some, None, length, slice_get, if◌then◌else◌, refl, sym, ◌∙◌, ap, subst, arith}
+use Rattle.std.proofs.Common.{◌≡◌, ◌++◌, ◌⊎◌, inl, inr, ◌==◌, ◌≤◌, ◌<◌, ◌+◌, ◌*◌, ◌/◌, ◌&&◌, ◌||◌, ℕ, zero, suc, Bool, true, false, not, nat_le, nat_lt, filter, find, List, [], ◌∷◌, Option, Some, None, length, slice_get, if◌then◌else◌, refl, sym, ◌∙◌, ap, subst, arith}
 use Rattle.std.specs.Prelude.{IfSome, bytes_eq, count_by, is_none, is_some, position, slice_index_or, unwrap_or}
 use Rattle.std.specs.List.{list_all, list_any, AllByRecursion}
 use Rattle.std.specs.Option.{option_map, option_map_or}
+use Rattle.std.proofs.Math.Nat.{div-div-eq-div-mul}
 use Rattle.std.proofs.lemmas.Bool.{eq-eqb, eqb-true, ltb-true, or_parts}
 use Rattle.std.proofs.lemmas.Bool.Decides.{nat_tests}
 use Rattle.lvm_num.specs.Buffer.{Buffer}
@@ -18,11 +19,12 @@ use Rattle.lvm_num.specs.declared.status.StatusRow.{StatusRow}
 use Rattle.lvm_num.specs.Disks.{has}
 use Rattle.lvm_num.specs.Status.{calls_dirty, calls_missing, calls_stale}
 use Rattle.lvm_num.specs.Descriptor.{is_member, is_pp}
+use Rattle.lvm_num.specs.Geometry.{partition_of}
 use Rattle.lvm_num.specs.Votes.{is_enough_to_write, votes_in}
 use Rattle.lvm_disk.specs.Device.{Flight}
 use Rattle.lvm_vol.specs.declared.entry.Outcome.{Outcome}
 use Rattle.lvm_vol.specs.declared.entry.Outcome.TheVariants as outcome
-use Rattle.lvm_hold.specs.Conflicts.{conflicts}
+use Rattle.lvm_hold.specs.Conflicts.{IsInGroup, conflicts, have_common_block, is_write as is_writing}
 use Rattle.lvm_hold.specs.declared.queue.Row.{Row}
 use Rattle.lvm_hold.specs.Waiting.{is_blocked}
 use Rattle.lvm_mwc.specs.declared.entries.CacheEntry.{CacheEntry}
@@ -40,7 +42,7 @@ use Rattle.lvm_path.specs.declared.request.Phase.{Phase}
 use Rattle.lvm_path.specs.declared.request.Phase.TheVariants as phase
 use Rattle.lvm_path.specs.declared.request.Request.{Request}
 use Rattle.lvm_path.specs.declared.target.Target.{Target}
-use Rattle.lvm_path.specs.Asks.{is_write, lv_of}
+use Rattle.lvm_path.specs.Asks.{at_of, count_of, is_write, lv_of}
 use Rattle.lvm_path.specs.Targets.{are_over, is_begun, is_done, is_failed, is_over as is_ended, states_of}
 use Rattle.lvm_path.specs.Next.{next_chosen, next_data, next_in, next_read, next_write, start_or_wait}
 use Rattle.lvm_status.specs.Update.{is_held, is_owed, is_there as is_there_so, seen}
@@ -57,16 +59,16 @@ use Rattle.lvm_session.specs.declared.flown.Owner.TheVariants as owner
 use Rattle.lvm_session.specs.declared.open.Open.{Open}
 use Rattle.lvm_session.specs.declared.open.Power.TheVariants as power
 use Rattle.lvm_session.specs.State.{Core, State, is_there}
-use Rattle.lvm_session.specs.Judging.{is_sure_at, aims, all_but_sure, copies_for, copies_in, counts_failed, facts_of, group_in, group_of, has_dirty_mark, has_names, held_of, is_beside, is_beside_copy, is_caught, is_clear, is_failing, is_held_back, is_held_by_move, is_kept, is_marked, is_missing, is_moved, is_past_held, is_pending, is_running, is_settled, is_stale, is_sure, is_under_way, is_usable, is_waiting, is_wanted_stale, lp_of, mode_of, next_for, place_aims, place_of, places_if, pps_of, same_pps}
+use Rattle.lvm_session.specs.Judging.{is_sure_at, aims, all_but_sure, copies_for, copies_in, counts_failed, facts_of, group_in, group_of, has_dirty_mark, has_names, held_of, is_beside, is_beside_copy, is_caught, stays_fresh, is_failing, is_held_back, is_held_by_move, is_kept, is_marked, is_missing, is_moved, is_past_held, is_pending, is_running, is_settled, is_stale, is_sure, is_under_way, is_usable, is_waiting, is_wanted_stale, lp_of, mode_of, next_for, place_aims, place_of, places_if, pps_of, same_pps}
 use Rattle.lvm_session.specs.Bringing.{end_of, ends_if, hand_of, has_row, is_cleared, is_idle, is_out, is_whole, next_source, sources_of, step_of, step_row}
 use Rattle.lvm_session.specs.Enabled.{Part, admission_at, can_pin, copy_read, copy_write, data_at, data_start, first_event, first_from, first_of, has_buffer, is_admit, is_free_step, is_lost, is_pin, is_status_due, is_unnamed, landing, landing_at, may_be_admitted, may_pin, may_read, may_write, note_at, note_due, note_start, or_next, outcome_next, parts_to_settle, parts_to_start, pinning_at, same_row, same_rows, same_status, target_due, target_next, wants_record}
 use Rattle.lvm_session.specs.Dark.{hand_of_copy}
 use Rattle.lvm_session.specs.Owners.{AreRows, flies, same_owner, target_flies}
 use Rattle.lvm_session.specs.Requests.{IsAimed, IsMarkedPlace, IsOpenOne, IsPhase, IsRecorded, IsRequest, IsTarget, is_failed_and_sure, is_wanted_due, is_wanted_dirty, mode_for, wants_status, will_be_kept}
-use Rattle.lvm_session.specs.Sound.{IsCopy, IsGoing, IsOfKind, IsSound, count_if, has_number, is_dark, is_hand, pins, stays_fresh, waiting_rows, with_row}
+use Rattle.lvm_session.specs.Sound.{IsCopy, IsGoing, IsOfKind, IsSound, count_if, has_number, is_dark, is_hand, pins, waiting_rows, with_row}
 use Rattle.lvm_session.proofs.MovesLemmas.{IsOpenPlace, move_of, place_open}
 use Rattle.std.proofs.lemmas.Slice.Eq.{bytes_eq-Decides}
-use Rattle.lvm_num.proofs.Booleans.{and_false, not_so, none_if, same_by_if}
+use Rattle.lvm_num.proofs.Booleans.{and_false, and_true, not_so, none_if, same_by_if}
 use Rattle.lvm_num.proofs.Lists.{none_each, all_false, all_at}
 use Rattle.lvm_keeps.specs.Falls.{NeverStandsStill}
 use Rattle.lvm_keeps.proofs.Lists.{count_cons}
@@ -357,6 +359,14 @@ from_step t step (row ∷ rows) e = by (nat_lt step.id row.id) (λ f. from_step 
         of true g = inr refl
         of false g = rest g
 
+-- ---- blocks of one track group lie in one logical partition
+
+same_partition : (mib a b : ℕ) → a / 256 ≡ b / 256 → partition_of mib a ≡ partition_of mib b
+same_partition mib a b group = in_groups a ∙ ap (λ n. n / (8 * mib)) group ∙ sym (in_groups b)
+  where
+    in_groups : (n : ℕ) → n / (2048 * mib) ≡ n / 256 / (8 * mib)
+    in_groups n = (let size : 2048 * mib ≡ 256 * (8 * mib) = omega arith in ap (λ m. n / m) size) ∙ sym (div-div-eq-div-mul n 256 (8 * mib))
+
 -- ---- the parts of a turn that start a transfer, behind the first ones
 
 abbrev parts_after_status : List Part
@@ -368,9 +378,17 @@ parts_after_notes = data_start ∷ copy_read ∷ copy_write ∷ []
 abbrev parts_after_data : List Part
 parts_after_data = copy_read ∷ copy_write ∷ []
 
+-- ---- where no move is done none waits that doesn't wait for one
+
+pub none_waits_at_all : (core : Core) → ((ask : Ask) → is_held_by_move core ask ≡ false) → (os : List Open) → list_any (λ (o : Open). is_waiting o && not (is_held_by_move core o.request.ask)) os ≡ false → list_any is_waiting os ≡ false
+none_waits_at_all core free [] e = refl
+none_waits_at_all core free (o ∷ os) e =
+    let it = or_parts (is_waiting o && not (is_held_by_move core o.request.ask)) (list_any (λ (x : Open). is_waiting x && not (is_held_by_move core x.request.ask)) os) e in
+    ap (λ b. b || list_any is_waiting os) (sym (and_true (is_waiting o)) ∙ sym (ap (λ b. is_waiting o && not b) (free o.request.ask)) ∙ it.0) ∙ none_waits_at_all core free os it.1
+
 -- ---- a session in which nothing is out, and of which no event may be made
 
-module _ (s : State) (sound : IsSound s) (on : s.core.power ≡ power.On) (votes : is_lost s.core ≡ false) (none : first_event s.core ≡ None) (idle : s.device.flights ≡ []) (undone : option_map_or (is_moved s.core) s.core.copy false ≡ false) where
+module _ (s : State) (sound : IsSound s) (on : s.core.power ≡ power.On) (votes : is_lost s.core ≡ false) (none : first_event s.core ≡ None) (idle : s.device.flights ≡ []) where
   abbrev core : Core
   core = s.core
 
@@ -667,18 +685,46 @@ module _ (s : State) (sound : IsSound s) (on : s.core.power ≡ power.On) (votes
       by true false i j = refl
       by true true i j = ap (λ c. c && list_any (counts_failed core) e.request.targets.items) (not_begun place e there i j)
 
-  -- nor is a move done
-  not_by_move : (ask : Ask) → is_held_by_move core ask ≡ false
-  not_by_move ask = by core.copy undone
-    where
-      by : (m : Option OpenCopy) → option_map_or (is_moved core) m false ≡ false → option_map_or (λ (c : OpenCopy). is_moved core c && is_beside_copy core ask c) m false ≡ false
-      by None e = refl
-      by (Some c) e = ap (λ b. b && is_beside_copy core ask c) e
+  -- ---- nothing is admitted on the logical partition of a move that is done
 
-  -- so nothing is pending
-  not_pending : (r : Request) → is_pending core r ≡ false
-  not_pending r =
-      ap (λ b. b || (list_any (λ (p : Pp). is_wanted_stale core p && not (is_settled core p)) (copies_for core r.ask) || list_any (λ (e : Open). not (e.request.id == r.id) && is_beside core e.request.ask r.ask && is_failing core e) core.requests)) (not_by_move r.ask)
+  not_admitted : (place : ℕ) (o : Open) → slice_get core.requests place ≡ Some o → is_waiting o ≡ true → is_held_by_move core o.request.ask ≡ true → is_past_held o.request.phase ≡ false
+  not_admitted place o there waiting by_move = by core.copy by_move
+    where
+      middle : (a b c : Bool) → a ≡ true → c ≡ true → a && b && c ≡ false → b ≡ false
+      middle a false c i j e = refl
+      middle true true true i j e = e
+      middle true true false i j e = not_so j
+      middle false true c i j e = not_so i
+
+      by : (m : Option OpenCopy) → option_map_or (λ (c : OpenCopy). is_moved core c && is_beside_copy core o.request.ask c) m false ≡ true → is_past_held o.request.phase ≡ false
+      by None e = not_so e
+      by (Some c) e =
+          let done = both (is_moved core c) (is_beside_copy core o.request.ask c) e in
+          let calm = is_false (is_under_way core c) (both (c.moves && is_running c && is_whole core c && stays_fresh core c.pp) (not (is_under_way core c)) done.0).1 in
+          middle (is_waiting o) (is_past_held o.request.phase) (is_beside_copy core o.request.ask c) waiting done.1
+          (all_at (λ (x : Open). is_waiting x && is_past_held x.request.phase && is_beside_copy core x.request.ask c ≡ false) core.requests place o
+          (all_false (λ (x : Open). is_waiting x && is_past_held x.request.phase && is_beside_copy core x.request.ask c) core.requests calm) there)
+
+  -- two requests of which one is in the way of the other lie in one logical partition, so that such a move holds both or none
+  with_other : (a b : Open) → IsOpenOne core a → IsOpenOne core b → conflicts (held_of a.request.ask) (held_of b.request.ask) ≡ true → is_held_by_move core b.request.ask ≡ false → is_held_by_move core a.request.ask ≡ false
+  with_other a b its_a its_b clash free =
+      let common = both ((lv_of a.request.ask == lv_of b.request.ask) && nat_lt (at_of a.request.ask) (at_of b.request.ask + count_of b.request.ask)) (nat_lt (at_of b.request.ask) (at_of a.request.ask + count_of a.request.ask))
+      (both (have_common_block (held_of a.request.ask) (held_of b.request.ask)) (is_writing (held_of a.request.ask) || is_writing (held_of b.request.ask)) clash).0 in
+      let first = both (lv_of a.request.ask == lv_of b.request.ask) (nat_lt (at_of a.request.ask) (at_of b.request.ask + count_of b.request.ask)) common.0 in
+      let group = one_group its_a.laid.blocks its_b.laid.blocks (ltb-true (at_of a.request.ask) (at_of b.request.ask + count_of b.request.ask) first.1) (ltb-true (at_of b.request.ask) (at_of a.request.ask + count_of a.request.ask) common.1) in
+      ap (λ n. option_map_or (λ (c : OpenCopy). is_moved core c && (n == c.lv && lp_of core a.request.ask == c.lp)) core.copy false) (eqb-true (lv_of a.request.ask) (lv_of b.request.ask) first.0)
+      ∙ ap (λ n. option_map_or (λ (c : OpenCopy). is_moved core c && (lv_of b.request.ask == c.lv && n == c.lp)) core.copy false) (same_partition core.descriptor.mib (at_of a.request.ask) (at_of b.request.ask) group)
+      ∙ free
+    where
+      one_group : IsInGroup (held_of a.request.ask) → IsInGroup (held_of b.request.ask) → at_of a.request.ask < at_of b.request.ask + count_of b.request.ask → at_of b.request.ask < at_of a.request.ask + count_of a.request.ask
+          → at_of a.request.ask / 256 ≡ at_of b.request.ask / 256
+      one_group in_a in_b ab ba = omega (arith, in_a.group, in_b.group)
+
+  -- ---- where no move that is done holds a request nothing is pending for it
+
+  not_pending : (r : Request) → is_held_by_move core r.ask ≡ false → is_pending core r ≡ false
+  not_pending r free =
+      ap (λ b. b || (list_any (λ (p : Pp). is_wanted_stale core p && not (is_settled core p)) (copies_for core r.ask) || list_any (λ (e : Open). not (e.request.id == r.id) && is_beside core e.request.ask r.ask && is_failing core e) core.requests)) free
       ∙ ap (λ b. b || list_any (λ (e : Open). not (e.request.id == r.id) && is_beside core e.request.ask r.ask && is_failing core e) core.requests) (none_each (λ (p : Pp). is_wanted_stale core p && not (is_settled core p)) settled_each (copies_for core r.ask))
       ∙ none_any (λ (e : Open). not (e.request.id == r.id) && is_beside core e.request.ask r.ask && is_failing core e) core.requests
       (by_places (λ (e : Open). not (e.request.id == r.id) && is_beside core e.request.ask r.ask && is_failing core e ≡ false) core.requests (λ j e at. ap (λ b. not (e.request.id == r.id) && is_beside core e.request.ask r.ask && b) (none_failing e j at) ∙ ends (not (e.request.id == r.id)) (is_beside core e.request.ask r.ask)))
@@ -696,8 +742,8 @@ module _ (s : State) (sound : IsSound s) (on : s.core.power ≡ power.On) (votes
       ends false b = refl
 
   -- the targets of a write that are as they should be aren't missing
-  targets_there : (place : ℕ) (o : Open) (there : slice_get core.requests place ≡ Some o) → is_waiting o ≡ true → is_write o.request.ask ≡ true → (facts_of core o.request).usable ≡ true → (facts_of core o.request).changed ≡ false → AllByRecursion (λ (t : Target). is_missing core t.pp.disk ≡ false) o.request.targets.items
-  targets_there place o there waiting write usable same = by o.request.targets.items (aims core o.request.ask ++ place_aims core o.request.ask) aims_there
+  targets_there : (place : ℕ) (o : Open) (there : slice_get core.requests place ≡ Some o) → is_waiting o ≡ true → is_held_by_move core o.request.ask ≡ false → is_write o.request.ask ≡ true → (facts_of core o.request).usable ≡ true → (facts_of core o.request).changed ≡ false → AllByRecursion (λ (t : Target). is_missing core t.pp.disk ≡ false) o.request.targets.items
+  targets_there place o there waiting free write usable same = by o.request.targets.items (aims core o.request.ask ++ place_aims core o.request.ask) aims_there
       (same_so (same_pps (pps_of o.request.targets.items) (aims core o.request.ask ++ place_aims core o.request.ask)) (sym (ap (λ b. b && not (same_pps (pps_of o.request.targets.items) (aims core o.request.ask ++ place_aims core o.request.ask))) write) ∙ same))
     where
       same_so : (b : Bool) → not b ≡ false → b ≡ true
@@ -738,7 +784,7 @@ module _ (s : State) (sound : IsSound s) (on : s.core.power ≡ power.On) (votes
             where
               of : (b : Bool) → (is_usable core p || is_caught core (group_in core o.request.ask) p) ≡ b → AllByRecursion (λ (q : Pp). is_missing core q.disk ≡ false) (filter (λ (q : Pp). is_usable core q || is_caught core (group_in core o.request.ask) q) ps)
                   → AllByRecursion (λ (q : Pp). is_missing core q.disk ≡ false) (if b then p ∷ filter (λ (q : Pp). is_usable core q || is_caught core (group_in core o.request.ask) q) ps else filter (λ (q : Pp). is_usable core q || is_caught core (group_in core o.request.ask) q) ps)
-              of true is rest = (there_now s sound on place o there (one place o there).laid (not_begun place o there waiting write) (not_pending o.request) usable p is, rest)
+              of true is rest = (there_now s sound on place o there (one place o there).laid (not_begun place o there waiting write) (not_pending o.request free) usable p is, rest)
               of false is rest = rest
 
       by : (ts : List Target) (ps : List Pp) → AllByRecursion (λ (p : Pp). is_missing core p.disk ≡ false) ps → same_pps (pps_of ts) ps ≡ true → AllByRecursion (λ (t : Target). is_missing core t.pp.disk ≡ false) ts
@@ -751,7 +797,7 @@ module _ (s : State) (sound : IsSound s) (on : s.core.power ≡ power.On) (votes
 
   -- ---- each that waits is held back
 
-  module _ (place : ℕ) (o : Open) (there : slice_get core.requests place ≡ Some o) (waiting : is_waiting o ≡ true) where
+  module _ (place : ℕ) (o : Open) (there : slice_get core.requests place ≡ Some o) (waiting : is_waiting o ≡ true) (free : is_held_by_move core o.request.ask ≡ false) where
     req : IsRequest core o
     req = (one place o there).waits waiting
 
@@ -769,7 +815,7 @@ module _ (s : State) (sound : IsSound s) (on : s.core.power ≡ power.On) (votes
 
     -- one that chooses goes on, with a copy that it can use and its targets as they should be
     goes_on : (rest : Next) → next_for core o ≡ next_chosen facts rest → (next_for core o ≡ rest) × (facts.usable ≡ true) × (facts.changed ≡ false)
-    goes_on rest is = by facts.usable facts.changed refl refl (is ∙ ap (λ (b : Bool). if b then rest else if not facts.usable then next.Land outcome.NoFresh else if facts.changed then next.Admit else rest) (not_pending o.request))
+    goes_on rest is = by facts.usable facts.changed refl refl (is ∙ ap (λ (b : Bool). if b then rest else if not facts.usable then next.Land outcome.NoFresh else if facts.changed then next.Admit else rest) (not_pending o.request free))
       where
         by : (b c : Bool) → facts.usable ≡ b → facts.changed ≡ c → next_for core o ≡ (if not b then next.Land outcome.NoFresh else if c then next.Admit else rest) → (next_for core o ≡ rest) × (facts.usable ≡ true) × (facts.changed ≡ false)
         by false c i j e = absurd (let no : Some outcome.NoFresh ≡ None = sym (ap outcome_next e) ∙ no_landing place o there in cc no)
@@ -799,13 +845,13 @@ module _ (s : State) (sound : IsSound s) (on : s.core.power ≡ power.On) (votes
         of_data true write is = no_first (ap is_past_held is) write
             ((goes_on (if facts.pending then next.Wait else next_write o.request.policy aims_of) (at_phase phase.Data is ∙ ap (λ (b : Bool). if b then next_data facts o.request else next_read aims_of) write
             ∙ ap (λ (b : Bool). if b then next_write o.request.policy aims_of else next_chosen facts (if facts.pending then next.Wait else next_write o.request.policy aims_of)) (not_begun place o there waiting write))).0
-            ∙ ap (λ (b : Bool). if b then next.Wait else next_write o.request.policy aims_of) (not_pending o.request))
+            ∙ ap (λ (b : Bool). if b then next.Wait else next_write o.request.policy aims_of) (not_pending o.request free))
 
         -- one that waits for its record has it
         of_record : o.request.phase ≡ phase.WantRecord → IsPhase phase.WantRecord o → false ≡ true
         of_record is its_phase = no_first (ap is_past_held is) its_phase.1
             (goes.0 ∙ ap (λ (b : Bool). if b && facts.dirty && not facts.pending then next_write o.request.policy aims_of else next.Wait) named_so ∙ ap (λ (b : Bool). if b && not facts.pending then next_write o.request.policy aims_of else next.Wait) dirty_so
-            ∙ ap (λ (b : Bool). if not b then next_write o.request.policy aims_of else next.Wait) (not_pending o.request))
+            ∙ ap (λ (b : Bool). if not b then next_write o.request.policy aims_of else next.Wait) (not_pending o.request free))
           where
             goes : (next_for core o ≡ (if facts.named && facts.dirty && not facts.pending then next_write o.request.policy aims_of else next.Wait)) × (facts.usable ≡ true) × (facts.changed ≡ false)
             goes = goes_on (if facts.named && facts.dirty && not facts.pending then next_write o.request.policy aims_of else next.Wait) (at_phase phase.WantRecord is)
@@ -863,7 +909,7 @@ module _ (s : State) (sound : IsSound s) (on : s.core.power ≡ power.On) (votes
                     of (Some t) f = absurd (cc f)
 
                 by_mode : (m : Mode) → IsRecorded m phase.WantRecord o.request → has_names core m o.request ≡ true
-                by_mode mode.Active pinned = noted aims_of (targets_there place o there waiting its_phase.1 goes.1 goes.2) (no_unnamed pinned)
+                by_mode mode.Active pinned = noted aims_of (targets_there place o there waiting free its_phase.1 goes.1 goes.2) (no_unnamed pinned)
                 by_mode mode.Passive rec = refl
                 by_mode mode.Off rec = refl
 
@@ -881,11 +927,23 @@ module _ (s : State) (sound : IsSound s) (on : s.core.power ≡ power.On) (votes
     where
       by : (b : Bool) → is_waiting o ≡ b → o.request.pinned ≡ false
       by false is = ((one place o there).over is).pinned
-      by true is = of (held_or_entry place o there is)
+      by true is = by_move (is_held_by_move core o.request.ask) refl
         where
+          in_phase : (p : Phase) → is_past_held p ≡ false → IsPhase p o → o.request.pinned ≡ false
+          in_phase phase.Held e it = it.1
+          in_phase phase.WantEntry e it = it.1
+          in_phase phase.WantRecord e it = not_so (sym e)
+          in_phase phase.Data e it = not_so (sym e)
+          in_phase phase.WantStatus e it = not_so (sym e)
+          in_phase phase.Landed e it = absurd it
+
           of : (o.request.phase ≡ phase.Held) ⊎ (o.request.phase ≡ phase.WantEntry) → o.request.pinned ≡ false
           of (inl e) = (subst (λ p. IsPhase p o) e ((one place o there).waits is).shape.phase_is).1
           of (inr e) = (subst (λ p. IsPhase p o) e ((one place o there).waits is).shape.phase_is).1
+
+          by_move : (b : Bool) → is_held_by_move core o.request.ask ≡ b → o.request.pinned ≡ false
+          by_move true e = in_phase o.request.phase (not_admitted place o there is e) ((one place o there).waits is).shape.phase_is
+          by_move false e = of (held_or_entry place o there is e)
 
   no_pins : (lv group : ℕ) → pins_of core.cache.entries lv group ≡ 0
   no_pins lv group = going.pinned lv group ∙ count_none (pins lv group) core.requests (none_any (pins lv group) core.requests (by_places (λ (o : Open). pins lv group o ≡ false) core.requests (λ k o there. ap (λ b. b && lv_of o.request.ask == lv && group_of o.request.ask == group) (unpinned k o there))))
@@ -897,8 +955,8 @@ module _ (s : State) (sound : IsSound s) (on : s.core.power ≡ power.On) (votes
       by true = refl
       by false = refl
 
-  held : (place : ℕ) (o : Open) → slice_get core.requests place ≡ Some o → is_waiting o ≡ true → is_held_back core o.request ≡ true
-  held place o there waiting = by (held_or_entry place o there waiting)
+  held : (place : ℕ) (o : Open) → slice_get core.requests place ≡ Some o → is_waiting o ≡ true → is_held_by_move core o.request.ask ≡ false → is_held_back core o.request ≡ true
+  held place o there waiting free = by (held_or_entry place o there waiting free)
     where
       blocked : (a b : Bool) → (facts_of core o.request).usable ≡ b → next_for core o ≡ (if a || false then next.Wait else if b then next.Admit else next.Land outcome.NoFresh) → a ≡ true
       blocked true b i e = refl
@@ -907,11 +965,11 @@ module _ (s : State) (sound : IsSound s) (on : s.core.power ≡ power.On) (votes
 
       by : (o.request.phase ≡ phase.Held) ⊎ (o.request.phase ≡ phase.WantEntry) → is_held_back core o.request ≡ true
       by (inl is) = blocked (is_held_back core o.request) (facts_of core o.request).usable refl
-          (at_phase place o there waiting phase.Held is ∙ ap (λ (b : Bool). if is_held_back core o.request || b then next.Wait else if (facts_of core o.request).usable then next.Admit else next.Land outcome.NoFresh) (not_pending o.request))
+          (at_phase place o there waiting free phase.Held is ∙ ap (λ (b : Bool). if is_held_back core o.request || b then next.Wait else if (facts_of core o.request).usable then next.Admit else next.Land outcome.NoFresh) (not_pending o.request free))
       by (inr is) = not_so (sym (no_pinning place o there) ∙ ap (λ b. b && can_pin core.cache o.request.ask) (ap is_pin pins_next) ∙ may_be_pinned o.request.ask)
         where
           pins_next : next_for core o ≡ next.Pin
-          pins_next = (goes_on place o there waiting (if (facts_of core o.request).pinned then next.Wait else next.Pin) (at_phase place o there waiting phase.WantEntry is)).0
+          pins_next = (goes_on place o there waiting free (if (facts_of core o.request).pinned then next.Wait else next.Pin) (at_phase place o there waiting free phase.WantEntry is)).0
               ∙ ap (λ (b : Bool). if b then next.Wait else next.Pin) (subst (λ p. IsPhase p o) is ((one place o there).waits waiting).shape.phase_is).1
 
   -- ---- by an earlier step of the copy
@@ -944,19 +1002,20 @@ module _ (s : State) (sound : IsSound s) (on : s.core.power ≡ power.On) (votes
   earlier : (a b : ℕ) (c : Bool) → nat_lt a b && c ≡ true → a < b
   earlier a b c e = ltb-true a b (both (nat_lt a b) c e).0
 
-  -- a step of the copy that is open stands before each that waits
-  behind_step : (n : ℕ) (place : ℕ) (o : Open) → o.request.id < n → slice_get core.requests place ≡ Some o → is_waiting o ≡ true → (c : OpenCopy) × (core.copy ≡ Some c) × (has_row core c ≡ true) × (c.place < place_of o.request.id)
-  behind_step zero place o low there waiting = absurd (omega (arith, low))
-  behind_step (suc n) place o low there waiting = by (λ k x less at w. behind_step n k x less at w) (from_queue (λ (row : Row). nat_lt row.id (place_of o.request.id) && conflicts row.ask (held_of o.request.ask)) (held place o there waiting))
+  -- a step of the copy that is open stands before each that waits, but for those that a move holds which is done
+  behind_step : (n : ℕ) (place : ℕ) (o : Open) → o.request.id < n → slice_get core.requests place ≡ Some o → is_waiting o ≡ true → is_held_by_move core o.request.ask ≡ false → (c : OpenCopy) × (core.copy ≡ Some c) × (has_row core c ≡ true) × (c.place < place_of o.request.id)
+  behind_step zero place o low there waiting free = absurd (omega (arith, low))
+  behind_step (suc n) place o low there waiting free = by (λ k x less at w f. behind_step n k x less at w f) (from_queue (λ (row : Row). nat_lt row.id (place_of o.request.id) && conflicts row.ask (held_of o.request.ask)) (held place o there waiting free))
     where
-      by : ((k : ℕ) (x : Open) → x.request.id < n → slice_get core.requests k ≡ Some x → is_waiting x ≡ true → (c : OpenCopy) × (core.copy ≡ Some c) × (has_row core c ≡ true) × (c.place < place_of x.request.id))
+      by : ((k : ℕ) (x : Open) → x.request.id < n → slice_get core.requests k ≡ Some x → is_waiting x ≡ true → is_held_by_move core x.request.ask ≡ false → (c : OpenCopy) × (core.copy ≡ Some c) × (has_row core c ≡ true) × (c.place < place_of x.request.id))
           → ((k : ℕ) × (x : Open) × (slice_get core.requests k ≡ Some x) × (is_waiting x ≡ true) × (nat_lt (place_of x.request.id) (place_of o.request.id) && conflicts (held_of x.request.ask) (held_of o.request.ask) ≡ true))
           ⊎ ((c : OpenCopy) × (core.copy ≡ Some c) × (has_row core c ≡ true) × (nat_lt c.place (place_of o.request.id) && conflicts (step_of core c) (held_of o.request.ask) ≡ true))
           → (c : OpenCopy) × (core.copy ≡ Some c) × (has_row core c ≡ true) × (c.place < place_of o.request.id)
       by rest (inr it) = (it.0, it.1, it.2, earlier it.0.place (place_of o.request.id) (conflicts (step_of core it.0) (held_of o.request.ask)) it.3)
       by rest (inl it) =
           let less = earlier (place_of it.1.request.id) (place_of o.request.id) (conflicts (held_of it.1.request.ask) (held_of o.request.ask)) it.4 in
-          let found = rest it.0 it.1 (omega (arith, less, low)) it.2 it.3 in
+          let clash = (both (nat_lt (place_of it.1.request.id) (place_of o.request.id)) (conflicts (held_of it.1.request.ask) (held_of o.request.ask)) it.4).1 in
+          let found = rest it.0 it.1 (omega (arith, less, low)) it.2 it.3 (with_other it.1 o (one it.0 it.1 it.2) (one place o there) clash free) in
           let before = found.3 in
           (found.0, found.1, found.2, omega (arith, before, less))
 
@@ -979,6 +1038,15 @@ module _ (s : State) (sound : IsSound s) (on : s.core.power ≡ power.On) (votes
 
       goes : (is_running c ≡ true) × (is_whole core c ≡ false)
       goes = let it = both (is_running c) (not (is_whole core c)) (sym (ap (λ b. b || (is_running c && not (is_whole core c))) still) ∙ has) in (it.0, is_false (is_whole core c) it.1)
+
+      -- it isn't whole, so no move is done
+      free_all : (ask : Ask) → is_held_by_move core ask ≡ false
+      free_all ask = of_copy (λ (d : OpenCopy). is_moved core d && is_beside_copy core ask d) false ∙ ap (λ b. b && is_beside_copy core ask c)
+          (ap (λ b. c.moves && is_running c && b && stays_fresh core c.pp && not (is_under_way core c)) goes.1 ∙ by (c.moves && is_running c))
+        where
+          by : (b : Bool) → b && false && stays_fresh core c.pp && not (is_under_way core c) ≡ false
+          by true = refl
+          by false = refl
 
       -- a source is left for it
       source : c.step ≡ step.Idle → is_some (next_source core c) ≡ true
@@ -1008,7 +1076,7 @@ module _ (s : State) (sound : IsSound s) (on : s.core.power ≡ power.On) (votes
               same_one d e f = cc f
           before (inl it) =
               let less = earlier (place_of it.1.request.id) c.place (conflicts (held_of it.1.request.ask) (step_of core c)) it.4 in
-              let found = behind_step (it.1.request.id + 1) it.0 it.1 (omega arith) it.2 it.3 in
+              let found = behind_step (it.1.request.id + 1) it.0 it.1 (omega arith) it.2 it.3 (free_all it.1.request.ask) in
               let later = found.3 in
               let same : found.0.place ≡ c.place = (let e : Some found.0 ≡ Some c = sym found.1 ∙ is in ap (λ (d : OpenCopy). d.place) (same_one found.0 c e)) in
               absurd (omega (arith, less, later, same))
@@ -1029,57 +1097,65 @@ module _ (s : State) (sound : IsSound s) (on : s.core.power ≡ power.On) (votes
       by_step (step.Read buf) at = sym no_write ∙ of_copy may_write false ∙ ap (λ b. b && is_some (hand_of c.step)) goes.0 ∙ ap (λ (x : Step). is_some (hand_of x)) at
       by_step step.Writing at = sym still ∙ ap is_out at
 
-  all_landed : list_any is_waiting core.requests ≡ false
-  all_landed = none_any is_waiting core.requests (by_places (λ (o : Open). is_waiting o ≡ false) core.requests (λ k o there. by k o there (is_waiting o) refl))
+  all_landed : list_any (λ (o : Open). is_waiting o && not (is_held_by_move core o.request.ask)) core.requests ≡ false
+  all_landed = none_any (λ (o : Open). is_waiting o && not (is_held_by_move core o.request.ask)) core.requests
+      (by_places (λ (o : Open). is_waiting o && not (is_held_by_move core o.request.ask) ≡ false) core.requests (λ k o there. by k o there (is_waiting o) (is_held_by_move core o.request.ask) refl refl))
     where
-      by : (k : ℕ) (o : Open) → slice_get core.requests k ≡ Some o → (b : Bool) → is_waiting o ≡ b → is_waiting o ≡ false
-      by k o there false is = is
-      by k o there true is = let found = behind_step (o.request.id + 1) k o (omega arith) there is in absurd (no_step found.0 found.1 found.2)
+      by : (k : ℕ) (o : Open) → slice_get core.requests k ≡ Some o → (a b : Bool) → is_waiting o ≡ a → is_held_by_move core o.request.ask ≡ b → is_waiting o && not (is_held_by_move core o.request.ask) ≡ false
+      by k o there false b i j = ap (λ c. c && not (is_held_by_move core o.request.ask)) i
+      by k o there true true i j = ap (λ c. is_waiting o && not c) j ∙ and_false (is_waiting o)
+      by k o there true false i j = let found = behind_step (o.request.id + 1) k o (omega arith) there i j in absurd (no_step found.0 found.1 found.2)
 
-  copy_over : (m : Option OpenCopy) → core.copy ≡ m → IfSome m (λ (c : OpenCopy). is_running c ≡ false)
+  -- a move that runs and isn't done would be it, since nothing is under way
+  copy_over : (m : Option OpenCopy) → core.copy ≡ m → IfSome m (λ (c : OpenCopy). is_running c && not (is_moved core c) ≡ false)
   copy_over None is = tt
-  copy_over (Some c) is = by (is_running c) (is_whole core c) refl refl
+  copy_over (Some c) is = by_move (is_moved core c) refl
     where
       its_copy : IsCopy core c
       its_copy = subst (λ m. IfSome m (IsCopy core)) is going.copy
 
-      by : (a b : Bool) → is_running c ≡ a → is_whole core c ≡ b → is_running c ≡ false
-      by false b i j = i
-      by true true i j = of_kind c.moves refl its_copy.kind
+      over : is_moved core c ≡ false → is_running c ≡ false
+      over undone = by (is_running c) (is_whole core c) refl refl
         where
-          of_kind : (k : Bool) → c.moves ≡ k → IsOfKind k core c → is_running c ≡ false
-          of_kind false k it = let clear = it.clearing i j in not_so (sym clear.1 ∙ wanted_is c.pp ∙ clear.0)
-          of_kind true k it = not_so (sym (sym done ∙ ap (λ m. option_map_or (is_moved core) m false) (sym is) ∙ undone))
+          free : (ask : Ask) → is_held_by_move core ask ≡ false
+          free ask = ap (λ m. option_map_or (λ (d : OpenCopy). is_moved core d && is_beside_copy core ask d) m false) is ∙ ap (λ b. b && is_beside_copy core ask c) undone
+
+          calm : is_under_way core c ≡ false
+          calm = none_waits core.requests (none_waits_at_all core free core.requests all_landed)
+            where
+              none_waits : (os : List Open) → list_any is_waiting os ≡ false → list_any (λ (x : Open). is_waiting x && is_past_held x.request.phase && is_beside_copy core x.request.ask c) os ≡ false
+              none_waits [] e = refl
+              none_waits (x ∷ os) e = let it = or_parts (is_waiting x) (list_any is_waiting os) e in
+                  ap (λ b. (b && is_past_held x.request.phase && is_beside_copy core x.request.ask c) || list_any (λ (y : Open). is_waiting y && is_past_held y.request.phase && is_beside_copy core y.request.ask c) os) it.0 ∙ none_waits os it.1
+
+          seen_is : calls_stale (unwrap_or core.status.in_flight core.status.committed) c.pp ≡ is_stale core c.pp
+          seen_is = ap (λ m. calls_stale (unwrap_or m core.status.committed) c.pp) settled_status.0
+
+          of_kind : (k : Bool) → c.moves ≡ k → IsOfKind k core c → is_running c ≡ true → is_whole core c ≡ true → is_running c ≡ false
+          of_kind false k it i j = let clear = it.clearing i j in not_so (sym clear.1 ∙ wanted_is c.pp ∙ clear.0)
+          of_kind true k it i j = not_so (sym undone ∙ done)
             where
               fresh : is_stale core c.pp ≡ false
               fresh = sym (wanted_is c.pp) ∙ it.clear i j
 
-              seen_fresh : calls_stale (unwrap_or core.status.in_flight core.status.committed) c.pp ≡ false
-              seen_fresh = ap (λ m. calls_stale (unwrap_or m core.status.committed) c.pp) settled_status.0 ∙ fresh
-
-              calm : is_under_way core c ≡ false
-              calm = none_waits core.requests all_landed
-                where
-                  none_waits : (os : List Open) → list_any is_waiting os ≡ false → list_any (λ (x : Open). is_waiting x && is_past_held x.request.phase && is_beside_copy core x.request.ask c) os ≡ false
-                  none_waits [] e = refl
-                  none_waits (x ∷ os) e = let it = or_parts (is_waiting x) (list_any is_waiting os) e in
-                      ap (λ b. (b && is_past_held x.request.phase && is_beside_copy core x.request.ask c) || list_any (λ (y : Open). is_waiting y && is_past_held y.request.phase && is_beside_copy core y.request.ask c) os) it.0 ∙ none_waits os it.1
-
               done : is_moved core c ≡ true
               done =
-                  ap (λ b. b && is_running c && is_whole core c && is_clear core c.pp && not (is_under_way core c)) k
-                  ∙ ap (λ b. b && is_whole core c && is_clear core c.pp && not (is_under_way core c)) i
-                  ∙ ap (λ b. b && is_clear core c.pp && not (is_under_way core c)) j
-                  ∙ ap (λ b. (not b && not (calls_stale (unwrap_or core.status.in_flight core.status.committed) c.pp) && not (is_wanted_stale core c.pp)) && not (is_under_way core c)) fresh
-                  ∙ ap (λ b. (not b && not (is_wanted_stale core c.pp)) && not (is_under_way core c)) seen_fresh
+                  ap (λ b. b && is_running c && is_whole core c && stays_fresh core c.pp && not (is_under_way core c)) k
+                  ∙ ap (λ b. b && is_whole core c && stays_fresh core c.pp && not (is_under_way core c)) i
+                  ∙ ap (λ b. b && stays_fresh core c.pp && not (is_under_way core c)) j
+                  ∙ ap (λ b. (not (b || calls_stale (unwrap_or core.status.in_flight core.status.committed) c.pp) && not (is_wanted_stale core c.pp)) && not (is_under_way core c)) fresh
+                  ∙ ap (λ b. (not b && not (is_wanted_stale core c.pp)) && not (is_under_way core c)) (seen_is ∙ fresh)
                   ∙ ap (λ b. not b && not (is_under_way core c)) (it.clear i j)
                   ∙ ap (λ b. not b) calm
-      by true false i j = absurd (no_step c is (ap (λ b. is_out c.step || (b && not (is_whole core c))) i ∙ ap (λ b. is_out c.step || not b) j ∙ or_true (is_out c.step)))
+
+          by : (a b : Bool) → is_running c ≡ a → is_whole core c ≡ b → is_running c ≡ false
+          by false b i j = i
+          by true true i j = of_kind c.moves refl its_copy.kind i j
+          by true false i j = absurd (no_step c is (ap (λ b. is_out c.step || (b && not (is_whole core c))) i ∙ ap (λ b. is_out c.step || not b) j ∙ or_true (is_out c.step)))
+
+      by_move : (b : Bool) → is_moved core c ≡ b → is_running c && not (is_moved core c) ≡ false
+      by_move true done = ap (λ b. is_running c && not b) done ∙ and_false (is_running c)
+      by_move false undone = ap (λ b. b && not (is_moved core c)) (over undone)
 
 pub never_stands_still : NeverStandsStill
-never_stands_still s sound on votes none idle = by (option_map_or (is_moved s.core) s.core.copy false) refl
-  where
-    by : (b : Bool) → option_map_or (is_moved s.core) s.core.copy false ≡ b
-        → (option_map_or (is_moved s.core) s.core.copy false ≡ true) ⊎ ((list_any is_waiting s.core.requests ≡ false) × IfSome s.core.copy (λ (c : OpenCopy). is_running c ≡ false))
-    by true done = inl done
-    by false undone = inr (all_landed s sound on votes none idle undone, copy_over s sound on votes none idle undone s.core.copy refl)
+never_stands_still s sound on votes none idle = (all_landed s sound on votes none idle, copy_over s sound on votes none idle s.core.copy refl)

@@ -153,14 +153,6 @@ module _ (s : State) (sound : IsSound s) (on : s.core.power ≡ power.On) (disk 
         by false true = refl
         by false false = refl
 
-    cleared_on : not (is_stale core p) && not (calls_stale was_in_flight p) && not (is_wanted_stale core p) ≡ not (is_stale core p) && not (calls_stale status p) && not (is_wanted_stale core p)
-    cleared_on = like (λ x. calls_stale x p) (λ a b. not (is_stale core p) && not a && not (is_wanted_stale core p) ≡ not (is_stale core p) && not b && not (is_wanted_stale core p)) (λ b. refl) (by (is_stale core p) (is_wanted_stale core p))
-      where
-        by : (c w : Bool) → not c && not c && not w ≡ not c && not w && not w
-        by true w = refl
-        by false true = refl
-        by false false = refl
-
   -- ---- the requests
 
   dirty_on : (m : Mode) (r : Request) → is_wanted_dirty core m r.ask ≡ true → has_dirty_mark core m r ≡ true → has_dirty_mark now.core m r ≡ true
@@ -315,7 +307,7 @@ module _ (s : State) (sound : IsSound s) (on : s.core.power ≡ power.On) (disk 
     where
       by : (m : Option OpenCopy) → option_map_or (end_of core) m None ≡ None → option_map_or (end_of now.core) m None ≡ None
       by None e = refl
-      by (Some c) e = sym (ap (λ b. if not (is_running c) then None else if is_missing core c.pp.disk then Some ending.SyncFailed else if is_whole core c then ends_if (not c.moves && b) ending.Done else end_by_sources core c) (cleared_on c.pp)) ∙ e
+      by (Some c) e = sym (ap (λ b. if not (is_running c) then None else if is_missing core c.pp.disk then Some ending.SyncFailed else if is_whole core c then ends_if (not c.moves && b) ending.Done else end_by_sources core c) (stays c.pp)) ∙ e
 
   numbers : stamp.seq + updates_left now.core < 2 ^ 32
   numbers = by was

@@ -13,7 +13,7 @@ use Rattle.lvm_session.specs.declared.open.Open.{Open}
 use Rattle.lvm_session.specs.Causes.{fails_on}
 use Rattle.lvm_session.specs.State.{Core}
 use Rattle.lvm_session.specs.Judging.{is_missing, is_running}
-use Rattle.lvm_session.specs.Bringing.{after_copy_end, copy_ends, end_by_sources, end_of, ends_if, is_cleared, is_done_end, is_whole, marked_by_end, with_end, is_called_stale}
+use Rattle.lvm_session.specs.Bringing.{after_copy_end, copy_ends, end_by_sources, end_of, ends_if, is_cleared, is_done_end, is_whole, marked_by_end, with_end, is_held_stale}
 use Rattle.lvm_session.specs.Marks.{Reviews, is_entailed}
 use Rattle.lvm_keeps_events.proofs.passed.Names.{both}
 use Rattle.lvm_keeps_events.proofs.JudgingLemmas.DuesMarks.{pp_same}
@@ -27,15 +27,15 @@ use Rattle.lvm_keeps_events.proofs.StatusLemmas.{Passes, lasts_on, marked_by, no
 pub marked_whole : (core : Core) (how : Option CopyEnd) (p : Pp) (c : OpenCopy) → core.copy ≡ Some c → marked_by_end core how p ≡ true → (is_whole core c ≡ true) × (is_pp p c.pp ≡ true)
 marked_whole core None p c is e = not_so e
 marked_whole core (Some how) p c is e =
-    let parts = both (not (is_done_end how)) (option_map_or (λ (k : OpenCopy). is_whole core k && is_pp p k.pp && (not k.moves || is_called_stale core k.pp)) core.copy false) e in
-    both (is_whole core c) (is_pp p c.pp) (both (is_whole core c && is_pp p c.pp) (not c.moves || is_called_stale core c.pp) (sym (ap (λ m. option_map_or (λ (k : OpenCopy). is_whole core k && is_pp p k.pp && (not k.moves || is_called_stale core k.pp)) m false) is) ∙ parts.1)).0
+    let parts = both (not (is_done_end how)) (option_map_or (λ (k : OpenCopy). is_whole core k && is_pp p k.pp && (not k.moves || is_held_stale core k.pp)) core.copy false) e in
+    both (is_whole core c) (is_pp p c.pp) (both (is_whole core c && is_pp p c.pp) (not c.moves || is_held_stale core c.pp) (sym (ap (λ m. option_map_or (λ (k : OpenCopy). is_whole core k && is_pp p k.pp && (not k.moves || is_held_stale core k.pp)) m false) is) ∙ parts.1)).0
 
 -- so there is one
 pub marked_open : (core : Core) (how : Option CopyEnd) (p : Pp) → marked_by_end core how p ≡ true → (c : OpenCopy) × (core.copy ≡ Some c)
 marked_open core None p e = not_so e
-marked_open core (Some how) p e = by core.copy refl (both (not (is_done_end how)) (option_map_or (λ (k : OpenCopy). is_whole core k && is_pp p k.pp && (not k.moves || is_called_stale core k.pp)) core.copy false) e).1
+marked_open core (Some how) p e = by core.copy refl (both (not (is_done_end how)) (option_map_or (λ (k : OpenCopy). is_whole core k && is_pp p k.pp && (not k.moves || is_held_stale core k.pp)) core.copy false) e).1
   where
-    by : (m : Option OpenCopy) → core.copy ≡ m → option_map_or (λ (k : OpenCopy). is_whole core k && is_pp p k.pp && (not k.moves || is_called_stale core k.pp)) m false ≡ true → (c : OpenCopy) × (core.copy ≡ Some c)
+    by : (m : Option OpenCopy) → core.copy ≡ m → option_map_or (λ (k : OpenCopy). is_whole core k && is_pp p k.pp && (not k.moves || is_held_stale core k.pp)) m false ≡ true → (c : OpenCopy) × (core.copy ≡ Some c)
     by None is i = not_so i
     by (Some c) is i = (c, is)
 

@@ -26,8 +26,8 @@ use Rattle.lvm_session.specs.declared.bringing.Step.{Step}
 use Rattle.lvm_session.specs.declared.bringing.Step.TheVariants as step
 use Rattle.lvm_session.specs.declared.flown.Owner.TheVariants as owner
 use Rattle.lvm_session.specs.State.{Core}
-use Rattle.lvm_session.specs.Judging.{copies_in, is_caught, is_missing, is_running, is_stale, is_usable, is_wanted_stale, is_clear}
-use Rattle.lvm_session.specs.Bringing.{after_copy_end, copy_ends, end_by_sources, end_of, ends_if, groups_of, hand_of, has_row, is_cleared, is_done_end, is_idle, is_out, is_whole, marked_by_end, sources_of, step_of, step_row, with_back, with_end, is_called_stale}
+use Rattle.lvm_session.specs.Judging.{copies_in, is_caught, is_missing, is_running, is_stale, is_usable, is_wanted_stale, stays_fresh}
+use Rattle.lvm_session.specs.Bringing.{after_copy_end, copy_ends, end_by_sources, end_of, ends_if, groups_of, hand_of, has_row, is_cleared, is_done_end, is_idle, is_out, is_whole, marked_by_end, sources_of, step_of, step_row, with_back, with_end}
 use Rattle.lvm_session.specs.Dark.{hand_of_copy}
 use Rattle.lvm_session.specs.Marks.{Reviews, WantsStale, is_entailed}
 use Rattle.lvm_session.specs.Causes.{IsChosenSince, is_held_stale}
@@ -153,12 +153,12 @@ module _ (e : WriteEnd) (status : Stored) (marks : WantsStale (due e) e.next sta
 
   cleared_by : (c : OpenCopy) → is_cleared after c ≡ true → is_cleared (mid e) c ≡ true
   cleared_by c is =
-      let kind = both (not c.moves) (is_clear after c.pp) is in
-      let a = both (not (is_stale after c.pp) && not (calls_stale (unwrap_or status.in_flight status.committed) c.pp)) (not (is_wanted_stale after c.pp)) kind.1 in
-      let b = both (not (is_stale after c.pp)) (not (calls_stale (unwrap_or status.in_flight status.committed) c.pp)) a.0 in
-      and_of (not c.moves) (is_clear (mid e) c.pp) kind.0 (and_of (not (is_stale (mid e) c.pp) && not (calls_stale (unwrap_or e.next.in_flight e.next.committed) c.pp)) (not (is_wanted_stale (mid e) c.pp))
-      (and_of (not (is_stale (mid e) c.pp)) (not (calls_stale (unwrap_or e.next.in_flight e.next.committed) c.pp)) (ap not (sym (stale_is e going_on c.pp)) ∙ b.0)
-      (ap not (ap (λ (s : Status). calls_stale s c.pp) (e.follows.flies ∙ sym (flies_is e going_on))) ∙ b.1))
+      let kind = both (not c.moves) (stays_fresh after c.pp) is in
+      let a = both (not (is_held_stale after c.pp)) (not (is_wanted_stale after c.pp)) kind.1 in
+      let b = or_parts (is_stale after c.pp) (calls_stale (unwrap_or status.in_flight status.committed) c.pp) (is_false (is_held_stale after c.pp) a.0) in
+      and_of (not c.moves) (stays_fresh (mid e) c.pp) kind.0 (and_of (not (is_held_stale (mid e) c.pp)) (not (is_wanted_stale (mid e) c.pp))
+      (ap not (ap (λ x. x || calls_stale (unwrap_or e.next.in_flight e.next.committed) c.pp) (sym (stale_is e going_on c.pp) ∙ b.0)
+      ∙ (ap (λ (s : Status). calls_stale s c.pp) (e.follows.flies ∙ sym (flies_is e going_on)) ∙ b.1)))
       (ap not (e.follows.stale c.pp ∙ (not_wanted e going_on c.pp (is_false (is_wanted_stale after c.pp) a.1)).0)))
 
   still_open : (c : OpenCopy) → end_of (mid e) c ≡ None → end_of after c ≡ None
@@ -342,20 +342,16 @@ module _ (e : WriteEnd) (status : Stored) (marks : WantsStale (due e) e.next sta
           its_pp : c.pp ≡ p
           its_pp = sym (ap (λ (y : OpenCopy). y.pp) same) ∙ x.its
 
-          so : (is_done_end how ≡ true) ⊎ (is_called_stale (mid e) c.pp ≡ false)
-          so = ended_so (is_done_end how) c.moves (is_called_stale (mid e) c.pp)
-              (sym (ap (λ m. marked_by_end (mid e) m p) ends ∙ ap (λ m. not (is_done_end how) && option_map_or (λ (y : OpenCopy). is_whole before y && is_pp p y.pp && (not y.moves || is_called_stale (mid e) y.pp)) m false) is
-              ∙ ap (λ b. not (is_done_end how) && (b && is_pp p c.pp && (not c.moves || is_called_stale (mid e) c.pp))) whole
-              ∙ ap (λ b. not (is_done_end how) && (true && b && (not c.moves || is_called_stale (mid e) c.pp))) (ap (is_pp p) its_pp ∙ own_pp p)) ∙ none.2)
+          so : (is_done_end how ≡ true) ⊎ (is_held_stale (mid e) c.pp ≡ false)
+          so = ended_so (is_done_end how) c.moves (is_held_stale (mid e) c.pp)
+              (sym (ap (λ m. marked_by_end (mid e) m p) ends ∙ ap (λ m. not (is_done_end how) && option_map_or (λ (y : OpenCopy). is_whole before y && is_pp p y.pp && (not y.moves || is_held_stale (mid e) y.pp)) m false) is
+              ∙ ap (λ b. not (is_done_end how) && (b && is_pp p c.pp && (not c.moves || is_held_stale (mid e) c.pp))) whole
+              ∙ ap (λ b. not (is_done_end how) && (true && b && (not c.moves || is_held_stale (mid e) c.pp))) (ap (is_pp p) its_pp ∙ own_pp p)) ∙ none.2)
 
-          uncalled : (is_done_end how ≡ true) ⊎ (is_called_stale (mid e) c.pp ≡ false) → (is_stale (mid e) c.pp ≡ false) × (calls_stale (unwrap_or e.next.in_flight e.next.committed) c.pp ≡ false)
+          uncalled : (is_done_end how ≡ true) ⊎ (is_held_stale (mid e) c.pp ≡ false) → (is_stale (mid e) c.pp ≡ false) × (calls_stale (unwrap_or e.next.in_flight e.next.committed) c.pp ≡ false)
           uncalled (inr uncalled_so) = or_parts (is_stale (mid e) c.pp) (calls_stale (unwrap_or e.next.in_flight e.next.committed) c.pp) uncalled_so
-          uncalled (inl is_done) = (is_false (is_stale (mid e) c.pp) parts.0, is_false (calls_stale (unwrap_or e.next.in_flight e.next.committed) c.pp) parts.1)
-            where
-              parts : (not (is_stale (mid e) c.pp) ≡ true) × (not (calls_stale (unwrap_or e.next.in_flight e.next.committed) c.pp) ≡ true)
-              parts = both (not (is_stale (mid e) c.pp)) (not (calls_stale (unwrap_or e.next.in_flight e.next.committed) c.pp))
-                  (both (not (is_stale (mid e) c.pp) && not (calls_stale (unwrap_or e.next.in_flight e.next.committed) c.pp)) (not (is_wanted_stale (mid e) c.pp))
-                  (both (not c.moves) (is_clear (mid e) c.pp) (done_cleared (mid e) c how its_end is_done)).1).0
+          uncalled (inl is_done) = or_parts (is_stale (mid e) c.pp) (calls_stale (unwrap_or e.next.in_flight e.next.committed) c.pp)
+              (is_false (is_held_stale (mid e) c.pp) (both (not (is_held_stale (mid e) c.pp)) (not (is_wanted_stale (mid e) c.pp)) (both (not c.moves) (stays_fresh (mid e) c.pp) (done_cleared (mid e) c how its_end is_done)).1).0)
 
           fresh_so : is_held_stale then_on p ≡ false
           fresh_so = let now_so = uncalled so in

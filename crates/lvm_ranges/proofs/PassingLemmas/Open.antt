@@ -1,10 +1,9 @@
 -- A copy that is open stays open while turns go on, doesn't end with the session, and ends as done only where it is cleared.
 use Rattle.std.proofs.Common.{◌≡◌, ◌⊎◌, inl, inr, ℕ, Bool, true, false, ◌&&◌, ◌||◌, ◌==◌, ◌+◌, not, Option, Some, None, length, if◌then◌else◌, refl, sym, ap, subst, ◌∙◌}
-use Rattle.std.specs.Prelude.{IfSome, is_none, unwrap_or}
+use Rattle.std.specs.Prelude.{IfSome, is_none}
 use Rattle.std.specs.Option.{option_map_or}
 use Rattle.lvm_num.specs.declared.place.Pp.{Pp}
 use Rattle.lvm_num.specs.Buffer.{Buffer}
-use Rattle.lvm_num.specs.Status.{calls_stale}
 use Rattle.lvm_session.specs.declared.answers.CopyState.TheVariants as copy
 use Rattle.lvm_session.specs.declared.answers.Turned.{Turned}
 use Rattle.lvm_session.specs.declared.answers.Turned.TheVariants as turned
@@ -21,7 +20,7 @@ use Rattle.lvm_session.specs.declared.open.Power.TheVariants as power
 use Rattle.lvm_session.specs.Bringing.{after_copy_end, copy_ends, end_of, ends_if, is_cleared, is_idle, is_out, is_whole, next_source, sources_of, step_place, with_copy_end, with_end}
 use Rattle.lvm_session.specs.Calls.{copy_state, state_at_end, state_of_copy}
 use Rattle.lvm_session.specs.Ends.{CopyLearns, CopyStepsOn, Learns, NoteLearns, StepLearns, StepLeaves, after_data, learned, with_copy, with_return, without_step}
-use Rattle.lvm_session.specs.Judging.{is_clear, is_missing, is_running, is_stale, is_wanted_stale}
+use Rattle.lvm_session.specs.Judging.{is_held_stale, is_missing, is_running, is_wanted_stale, stays_fresh}
 use Rattle.lvm_session.specs.Marks.{Reviews, end_by_write, hits_copy}
 use Rattle.lvm_session.specs.Sound.{IsCopy, IsSound}
 use Rattle.lvm_session.specs.State.{Core, State}
@@ -142,14 +141,13 @@ module _ (begun : OpenCopy) (old new : Core) (it : Reviews old new) (was : IsUnd
       second true b e = e
       second false b e = absurd (cc e)
 
-      clear : (a f w : Bool) → not a && not f && not w ≡ true → (a || f) || w ≡ false
-      clear true f w e = cc e
-      clear false true w e = cc e
-      clear false false true e = cc e
-      clear false false false e = refl
+      clear : (a w : Bool) → not a && not w ≡ true → a || w ≡ false
+      clear true w e = cc e
+      clear false true e = cc e
+      clear false false e = refl
 
       before : is_marked old q ≡ false
-      before = clear (is_stale old q) (calls_stale (unwrap_or old.status.in_flight old.status.committed) q) (is_wanted_stale old q) (second (not was.copy.moves) (is_clear old q) done.fresh)
+      before = clear (is_held_stale old q) (is_wanted_stale old q) (second (not was.copy.moves) (stays_fresh old q) done.fresh)
 
       of : (is_marked old q ≡ true) ⊎ (is_missing new q.disk ≡ true) → true ≡ false
       of (inl e) = sym e ∙ before

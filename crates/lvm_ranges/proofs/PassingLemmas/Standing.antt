@@ -12,7 +12,7 @@ use Rattle.lvm_num.specs.Descriptor.{is_member}
 use Rattle.lvm_num.specs.Disks.{has}
 use Rattle.lvm_num.specs.Status.{calls_missing}
 use Rattle.lvm_num.specs.Votes.{is_enough_to_write, votes_in}
-use Rattle.lvm_num.proofs.Booleans.{none_if}
+use Rattle.lvm_num.proofs.Booleans.{and_true, none_if}
 use Rattle.lvm_num.proofs.Lists.{all_false}
 use Rattle.lvm_disk.specs.Device.{Flight}
 use Rattle.lvm_status.specs.Update.{is_held, is_owed, is_there as is_there_so, seen}
@@ -31,13 +31,13 @@ use Rattle.lvm_session.specs.Bringing.{is_out, is_whole}
 use Rattle.lvm_session.specs.Calls.{is_aimed_at, is_still_aimed, state_at_end, state_of_copy}
 use Rattle.lvm_session.specs.Dark.{hand_of_copy}
 use Rattle.lvm_session.specs.Enabled.{first_of, has_buffer, is_status_due, landing, or_next, parts_to_settle, parts_to_start, same_status}
-use Rattle.lvm_session.specs.Judging.{is_clear, is_moved, is_running, is_under_way, is_waiting}
+use Rattle.lvm_session.specs.Judging.{is_beside_copy, stays_fresh, is_held_by_move, is_moved, is_running, is_under_way, is_waiting}
 use Rattle.lvm_session.specs.Owners.{AreRows, flies, same_owner}
 use Rattle.lvm_session.specs.Requests.{IsOpenOne}
 use Rattle.lvm_session.specs.Sound.{IsGoing, IsOn, IsSound, count_if, has_number, is_dark, is_hand}
 use Rattle.lvm_keeps.proofs.Lists.{count_cons}
 use Rattle.lvm_keeps.proofs.VotesLemmas.{enough_more, more_votes}
-use Rattle.lvm_ranges.proofs.passed.Names.{never_stands_still}
+use Rattle.lvm_ranges.proofs.passed.Names.{never_stands_still, none_waits_at_all}
 use Rattle.lvm_keeps.proofs.StateLemmas.{state_ended}
 use Rattle.lvm_ranges.specs.passed.Names.{IsDrained}
 use Rattle.lvm_ranges.specs.Passing.{Runs}
@@ -76,10 +76,15 @@ module _ (s : State) (sound : IsSound s) (drained : IsDrained s) where
       by false e = refl
       by true e = absurd (omega (arith, e))
 
+  -- ---- what doesn't wait for a move that is done is over
+
+  stands : (list_any (λ (o : Open). is_waiting o && not (is_held_by_move core o.request.ask)) core.requests ≡ false) × IfSome core.copy (λ (c : OpenCopy). is_running c && not (is_moved core c) ≡ false)
+  stands = never_stands_still s sound drained.on drained.votes drained.none drained.idle
+
   -- ---- a copy that is open has ended
 
   pub still_ended : Runs core → ⊥
-  still_ended runs = by core.copy refl (never_stands_still s sound drained.on drained.votes drained.none drained.idle)
+  still_ended runs = by core.copy refl
     where
       ended : (c : OpenCopy) (m : Option CopyEnd) → is_none m ≡ false → option_map_or (state_at_end c) m (copy.Running c.cursor) ≡ copy.Running runs.0 → ⊥
       ended c None over e = cc over
@@ -98,7 +103,7 @@ module _ (s : State) (sound : IsSound s) (drained : IsDrained s) where
           ) ∙ e in cc told
         where
           parts : is_running c ≡ true
-          parts = second c.moves (is_running c) (first (c.moves && is_running c) (is_whole core c) (first (c.moves && is_running c && is_whole core c) (is_clear core c.pp) (first (c.moves && is_running c && is_whole core c && is_clear core c.pp) (not (is_under_way core c)) done)))
+          parts = second c.moves (is_running c) (first (c.moves && is_running c) (is_whole core c) (first (c.moves && is_running c && is_whole core c) (stays_fresh core c.pp) (first (c.moves && is_running c && is_whole core c && stays_fresh core c.pp) (not (is_under_way core c)) done)))
             where
               first : (a b : Bool) → a && b ≡ true → a ≡ true
               first true b f = refl
@@ -122,10 +127,9 @@ module _ (s : State) (sound : IsSound s) (drained : IsDrained s) where
               by_moves true = refl
               by_moves false = refl
 
-      by : (m : Option OpenCopy) → core.copy ≡ m
-          → (option_map_or (is_moved core) core.copy false ≡ true) ⊎ ((list_any is_waiting core.requests ≡ false) × IfSome core.copy (λ (c : OpenCopy). is_running c ≡ false)) → ⊥
-      by None is how = let e : copy.Closed ≡ copy.Running runs.0 = sym (ap (λ m. option_map_or (state_of_copy core) m copy.Closed) is) ∙ runs.1 in cc e
-      by (Some c) is how = by_how how
+      by : (m : Option OpenCopy) → core.copy ≡ m → ⊥
+      by None is = let e : copy.Closed ≡ copy.Running runs.0 = sym (ap (λ m. option_map_or (state_of_copy core) m copy.Closed) is) ∙ runs.1 in cc e
+      by (Some c) is = by_move (is_moved core c) refl
         where
           rests : is_out c.step ≡ false
           rests = sym (ap (λ m. option_map_or (λ (d : OpenCopy). is_out d.step) m false) is) ∙ none_out owner.Copy
@@ -133,11 +137,15 @@ module _ (s : State) (sound : IsSound s) (drained : IsDrained s) where
           told : state_of_copy core c ≡ copy.Running runs.0
           told = sym (ap (λ m. option_map_or (state_of_copy core) m copy.Closed) is) ∙ runs.1
 
-          by_how : (option_map_or (is_moved core) core.copy false ≡ true) ⊎ ((list_any is_waiting core.requests ≡ false) × IfSome core.copy (λ (d : OpenCopy). is_running d ≡ false)) → ⊥
-          by_how (inl done) = moved c rests (sym (ap (λ m. option_map_or (is_moved core) m false) is) ∙ done) told
-          by_how (inr over) =
-              let stopped : is_running c ≡ false = subst (λ m. IfSome m (λ (d : OpenCopy). is_running d ≡ false)) is over.1 in
-              ended c c.end stopped (sym (state_ended core c stopped rests over.0) ∙ told)
+          by_move : (b : Bool) → is_moved core c ≡ b → ⊥
+          by_move true done = moved c rests done told
+          by_move false undone = ended c c.end stopped (sym (state_ended core c stopped rests landed) ∙ told)
+            where
+              stopped : is_running c ≡ false
+              stopped = sym (and_true (is_running c)) ∙ sym (ap (λ b. is_running c && not b) undone) ∙ subst (λ m. IfSome m (λ (d : OpenCopy). is_running d && not (is_moved core d) ≡ false)) is stands.1
+
+              landed : list_any is_waiting core.requests ≡ false
+              landed = none_waits_at_all core (λ ask. ap (λ m. option_map_or (λ (d : OpenCopy). is_moved core d && is_beside_copy core ask d) m false) is ∙ ap (λ b. b && is_beside_copy core ask c) undone) core.requests stands.0
 
   -- ---- without a copy no update is in flight
 
@@ -152,11 +160,7 @@ module _ (s : State) (sound : IsSound s) (drained : IsDrained s) where
         omega (arith, more, here, rest)
 
     none_wait : list_any is_waiting core.requests ≡ false
-    none_wait = by (never_stands_still s sound drained.on drained.votes drained.none drained.idle)
-      where
-        by : (option_map_or (is_moved core) core.copy false ≡ true) ⊎ ((list_any is_waiting core.requests ≡ false) × IfSome core.copy (λ (c : OpenCopy). is_running c ≡ false)) → list_any is_waiting core.requests ≡ false
-        by (inl done) = absurd (let e : false ≡ true = sym (ap (λ m. option_map_or (is_moved core) m false) closed) ∙ done in cc e)
-        by (inr over) = over.0
+    none_wait = none_waits_at_all core (λ ask. ap (λ m. option_map_or (λ (c : OpenCopy). is_moved core c && is_beside_copy core ask c) m false) closed) core.requests stands.0
 
     first_free : count_if (slice_index_or core.pool 0 false) ≡ 0
     first_free =

@@ -44,11 +44,11 @@ none_stale p = ap (λ (z : Bool). (0 == p.disk && z) || ((1 == p.disk && z) || (
     by false false false = refl
 
 -- nothing is stale, or wanted so
-none_wanted : {X : Type 0} (p : Pp) → (calls_stale (status_of fresh) p || calls_stale (status_of fresh) p) || calls_stale (status_of fresh) p ≡ true → X
+pub none_wanted : {X : Type 0} (p : Pp) → (calls_stale (status_of fresh) p || calls_stale (status_of fresh) p) || calls_stale (status_of fresh) p ≡ true → X
 none_wanted p is = not_so (sym (none_stale p) ∙ thrice_holds (calls_stale (status_of fresh) p) is)
 
 -- the counts of faults as it was opened
-none_at_opening : (cursor number : ℕ) (end : Option CopyEnd) → slice_index_or (moving_to cursor end).faults (number - 1) 0 ≡ 0
+pub none_at_opening : (cursor number : ℕ) (end : Option CopyEnd) → slice_index_or (moving_to cursor end).faults (number - 1) 0 ≡ 0
 none_at_opening cursor number end = zeros_at 4 (number - 1)
 
 -- ---- it is open

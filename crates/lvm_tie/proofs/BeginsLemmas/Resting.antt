@@ -36,7 +36,7 @@ use Rattle.lvm_rest.proofs.GoodLemmas.Good.{rest_is_good}
 use Rattle.lvm_rest.proofs.GoodLemmas.Seen.{rest_is_seen}
 use Rattle.lvm_tie.specs.passed.Names.{OnlyUpdateSince}
 use Rattle.lvm_tie.specs.Out.{CarryTheirs, IsWriteOf}
-use Rattle.lvm_tie.specs.Seen.{Brings, Sees, SeesCopy, SeesNote, step_write_in, update_of}
+use Rattle.lvm_tie.specs.Seen.{Sees, SeesCopy, SeesNote, step_write_in, update_of}
 use Rattle.lvm_tie.specs.Spares.{SparesOn}
 use Rattle.lvm_tie.specs.Tied.{IsTied}
 use Rattle.lvm_tie.specs.Begins.{FollowsOn, IsCoreAtRest, MembersShow, RestSpares, RestTies, StandsAtRest}
@@ -186,7 +186,7 @@ module _ (past : List Fact) (s : State) (media : Media) (sound : IsSound s) (pow
     open_copy = subst (λ (o : Option OpenCopy). SeesCopy (groups_of core) o v.open_copy) (sym rests.copy) idle_first.no_copy;
     step_write = idle_first.no_step ∙ sym (ap (λ (o : Option OpenCopy). step_write_in o) rests.copy);
     beside = seen_first.beside;
-    brings = subst Brings (sym rests.copy) tt;
+    brings = ap (λ (m : Option OpenCopy). option_map_or (λ (c : OpenCopy). c.moves) m false) rests.copy;
   }
 
   none_carried : (rows : List Flown) (fs : List Flight) → rows ≡ [] → CarryTheirs core v fs rows

@@ -82,7 +82,7 @@ module _ (past : List Fact) (s : State) (tied : IsTied past s) (ended : (cursor 
     open_copy = not_open;
     step_write = no_write;
     beside = tied.sees.beside;
-    brings = tt;
+    brings = refl;
   }
 
   carry_none : (fs : List Flight) (rows : List Flown) → CarryTheirs (closed core) v fs rows

@@ -24,10 +24,11 @@ use Rattle.lvm_invariant.specs.State.{Flying, Going, Groups, Held, Landed, Model
 use Rattle.lvm_invariant.specs.Good.{Good}
 use Rattle.lvm_crash.specs.Session.{Describes, members_showing}
 use Rattle.lvm_tie.specs.Out.{CarriesStep, CarryTheirs, MayUpdate}
-use Rattle.lvm_tie.specs.Seen.{Brings, IsRequestAt, IsStepAt, Sees, SeesCopy, SeesRunning, SeesStep, step_write_of, update_of}
+use Rattle.lvm_tie.specs.Seen.{IsRequestAt, IsStepAt, Sees, SeesCopy, SeesRunning, SeesStep, step_write_of, update_of}
 use Rattle.lvm_tie.specs.Tied.{IsTied, ShowsRecords}
 use Rattle.lvm_tie.proofs.TiedLemmas.Orderly.{AreOut, StepIsOut, open_one, orderly_same, out_of}
 use Rattle.lvm_tie.proofs.OutLemmas.Ties.{since_start}
+use Rattle.lvm_session.proofs.MovesLemmas.{unmoving}
 
 -- ---- the step of the copy goes on
 
@@ -75,7 +76,7 @@ module _ (past : List Fact) (core : Core) (v : ModelState) (c : OpenCopy) (st : 
     open_copy = running_on (is_running c) (groups_of core) c st v.open_copy (subst (λ (m : Option OpenCopy). SeesCopy (groups_of core) m v.open_copy) is sees.open_copy);
     step_write = refl;
     beside = sees.beside;
-    brings = subst Brings is sees.brings;
+    brings = unmoving core c is sees.brings;
   }
 
 -- what a start of the copy's changes of the shelf and of what is out

@@ -24,8 +24,8 @@ use Rattle.lvm_session.specs.declared.bringing.CopyEnd.TheVariants as ending
 use Rattle.lvm_session.specs.declared.flown.Flown.{Flown}
 use Rattle.lvm_session.specs.declared.flown.Owner.TheVariants as owner
 use Rattle.lvm_session.specs.State.{Core, State, is_there}
-use Rattle.lvm_session.specs.Judging.{is_clear, is_missing, is_running, is_stale, is_wanted_stale}
-use Rattle.lvm_session.specs.Bringing.{copy_ends, end_of, is_called_stale, is_cleared, is_done_end, is_whole, marked_by_end}
+use Rattle.lvm_session.specs.Judging.{stays_fresh, is_missing, is_running, is_stale, is_wanted_stale}
+use Rattle.lvm_session.specs.Bringing.{copy_ends, end_of, is_held_stale, is_cleared, is_done_end, is_whole, marked_by_end}
 use Rattle.lvm_session.specs.Marks.{Reviews, is_entailed}
 use Rattle.lvm_session.specs.Ends.{Returns, StatusLearns, with_return}
 use Rattle.lvm_session.specs.Sound.{IsGoing}
@@ -51,6 +51,7 @@ use Rattle.lvm_tie.proofs.WantedLemmas.Reviewing.{goes_on, none_opened, opened, 
 use Rattle.lvm_tie.proofs.UpdateLemmas.{commits_well, committed_status, committed_then, committed_value, enough, flies_status, held_mid, learned, marks_then, missing_then}
 use Rattle.lvm_tie.proofs.StatusesLemmas.Update.{IsWritten, ended, good_moved, kept, moves, stands_here, still_stands, was_update, written}
 use Rattle.lvm_tie.proofs.SeenLemmas.Beside.{PlainEnded}
+use Rattle.lvm_session.proofs.MovesLemmas.{unmoving}
 
 -- the copy that is open once the update is committed: one that it clears is done
 abbrev done_after : Option CopyEnd → Option ModelCopy → Option ModelCopy
@@ -266,8 +267,8 @@ module _ (past : List Fact) (old new : State) (index disk : ℕ) (ok : Bool) (ro
         at : (e : CopyEnd) → how ≡ Some e → marked_by_end core1 (Some e) p ≡ true → IsMarked core1 cleared p
         at e ends h =
             let r = ends_running core1 e ends in
-            let parts = and_parts (not (is_done_end e)) (is_whole core1 r.copy && is_pp p r.copy.pp && (not r.copy.moves || is_called_stale core1 r.copy.pp)) (sym (ap (λ (m : Option OpenCopy). not (is_done_end e) && option_map_or (λ (c : OpenCopy). is_whole core1 c && is_pp p c.pp && (not c.moves || is_called_stale core1 c.pp)) m false) r.is_open) ∙ h) in
-            let both = and_parts (is_whole core1 r.copy) (is_pp p r.copy.pp) (and_parts (is_whole core1 r.copy && is_pp p r.copy.pp) (not r.copy.moves || is_called_stale core1 r.copy.pp) parts.1).0 in
+            let parts = and_parts (not (is_done_end e)) (is_whole core1 r.copy && is_pp p r.copy.pp && (not r.copy.moves || is_held_stale core1 r.copy.pp)) (sym (ap (λ (m : Option OpenCopy). not (is_done_end e) && option_map_or (λ (c : OpenCopy). is_whole core1 c && is_pp p c.pp && (not c.moves || is_held_stale core1 c.pp)) m false) r.is_open) ∙ h) in
+            let both = and_parts (is_whole core1 r.copy) (is_pp p r.copy.pp) (and_parts (is_whole core1 r.copy && is_pp p r.copy.pp) (not r.copy.moves || is_held_stale core1 r.copy.pp) parts.1).0 in
             let d = whole_done r.copy r.is_open r.runs e ends both.0 in
             clash_gives (is_done_end e) (ap is_done_end d.1) (not_true_is (is_done_end e) parts.0)
 
@@ -330,7 +331,7 @@ module _ (past : List Fact) (old new : State) (index disk : ℕ) (ok : Bool) (ro
         let b = (running r.0 r.1 r.2).0 in
         subst (λ (p : Pp). IsTrue (calls_stale t p) ⊎ IsTrue (v.wanted.stale p)) (sym (b.target o at)) (of r.0 r.1 r.2 b (is_whole core1 r.0) refl ends)
       where
-        parts : (p : Pp) → (x y z : Bool) → is_stale core1 p ≡ x → calls_stale (unwrap_or stored.in_flight stored.committed) p ≡ y → is_wanted_stale core1 p ≡ z → (not x && not y && not z) ≡ false → IsTrue (calls_stale t p) ⊎ IsTrue (v.wanted.stale p)
+        parts : (p : Pp) → (x y z : Bool) → is_stale core1 p ≡ x → calls_stale (unwrap_or stored.in_flight stored.committed) p ≡ y → is_wanted_stale core1 p ≡ z → (not (x || y) && not z) ≡ false → IsTrue (calls_stale t p) ⊎ IsTrue (v.wanted.stale p)
         parts p true y z xs ys zs h = inl (sym (ap (λ (s : Status). calls_stale s p) committed_is) ∙ xs)
         parts p false true z xs ys zs h = inl (sym (ap (λ (s : Status). calls_stale s p) in_flight_is) ∙ ys)
         parts p false false true xs ys zs h = inr (ap (λ (m : Marks). m.stale p) wanted_seen ∙ zs)
@@ -339,7 +340,7 @@ module _ (past : List Fact) (old new : State) (index disk : ℕ) (ok : Bool) (ro
         of : (c : OpenCopy) → core.copy ≡ Some c → is_running c ≡ true → IsBrought core v c → (w : Bool) → is_whole core1 c ≡ w → (how ≡ None) ⊎ ((e : CopyEnd) × (how ≡ Some e) × (is_done_end e ≡ false))
             → IsTrue (calls_stale t c.pp) ⊎ IsTrue (v.wanted.stale c.pp)
         of c is runs b false part which = inr (ap (λ (m : Marks). m.stale c.pp) tied.sees.status.wanted ∙ b.part part)
-        of c is runs b true all (inl none) = parts c.pp (is_stale core1 c.pp) (calls_stale (unwrap_or stored.in_flight stored.committed) c.pp) (is_wanted_stale core1 c.pp) refl refl refl (sym (ap (λ m. not m && is_clear core1 c.pp) b.stays) ∙ (goes_on core1 c runs (end_at c is ∙ none)).1 all)
+        of c is runs b true all (inl none) = parts c.pp (is_stale core1 c.pp) (calls_stale (unwrap_or stored.in_flight stored.committed) c.pp) (is_wanted_stale core1 c.pp) refl refl refl (sym (ap (λ m. not m && stays_fresh core1 c.pp) (unmoving core c is b.stays)) ∙ (goes_on core1 c runs (end_at c is ∙ none)).1 all)
         of c is runs b true all (inr some) = clash_gives (is_done_end some.0) (ap is_done_end (whole_done c is runs some.0 some.1 all).1) some.2
 
     -- one that is done is fresh by the update
@@ -349,13 +350,16 @@ module _ (past : List Fact) (old new : State) (index disk : ℕ) (ok : Bool) (ro
         let b = (running r.0 r.1 r.2).0 in
         ap (calls_stale t) (b.target o at) ∙ of r.0 r.1 r.2 (is_whole core1 r.0) refl
       where
+        neither : (x y : Bool) → not (x || y) ≡ true → x ≡ false
+        neither true y h = absurd (cc h)
+        neither false y h = refl
+
         of : (c : OpenCopy) → core.copy ≡ Some c → is_running c ≡ true → (w : Bool) → is_whole core1 c ≡ w → calls_stale t c.pp ≡ false
         of c is runs false part = clash_gives (is_done_end e) is_done (part_ends core1 c runs e part (end_at c is ∙ ends))
         of c is runs true all =
             let d = whole_done c is runs e ends all in
-            let a = and_parts (not (is_stale core1 c.pp) && not (calls_stale (unwrap_or stored.in_flight stored.committed) c.pp)) (not (is_wanted_stale core1 c.pp)) (and_parts (not c.moves) (is_clear core1 c.pp) d.0).1 in
-            let f = and_parts (not (is_stale core1 c.pp)) (not (calls_stale (unwrap_or stored.in_flight stored.committed) c.pp)) a.0 in
-            sym (ap (λ (s : Status). calls_stale s c.pp) committed_is) ∙ not_true_is (is_stale core1 c.pp) f.0
+            let a = and_parts (not (is_held_stale core1 c.pp)) (not (is_wanted_stale core1 c.pp)) (and_parts (not c.moves) (stays_fresh core1 c.pp) d.0).1 in
+            sym (ap (λ (s : Status). calls_stale s c.pp) committed_is) ∙ neither (is_stale core1 c.pp) (calls_stale (unwrap_or stored.in_flight stored.committed) c.pp) a.0
 
     commits_so : Commits v1 (as_marks None u) done
     commits_so = record { flies = flies; open_same = by_same how refl; open_done = by_done how refl }

@@ -11,7 +11,7 @@ use Rattle.lvm_session.specs.declared.bringing.OpenCopy.{OpenCopy}
 use Rattle.lvm_session.specs.declared.bringing.CopyEnd.TheVariants as ending
 use Rattle.lvm_session.specs.declared.bringing.Step.TheVariants as step
 use Rattle.lvm_session.specs.State.{Core, State, state}
-use Rattle.lvm_session.specs.Bringing.{is_called_stale, is_idle, is_whole, marked_by_end, with_end}
+use Rattle.lvm_session.specs.Bringing.{is_held_stale, is_idle, is_whole, marked_by_end, with_end}
 use Rattle.lvm_session.specs.Ends.{with_copy, with_return}
 use Rattle.lvm_session.specs.Sound.{IsSound}
 use Rattle.lvm_keeps_events.specs.Ends.{EndsWrite}
@@ -35,7 +35,7 @@ module _ (past : List Fact) (old new : State) (at : ℕ) (tied : IsTied past old
 
   -- so nothing more is wanted stale
   none_due : (p : Pp) → marked_by_end old.core (Some ending.SyncFailed) p ≡ false
-  none_due p = ap (λ (m : Option OpenCopy). Rattle.std.specs.Option.option_map_or (λ (x : OpenCopy). is_whole old.core x && is_pp p x.pp && (not x.moves || is_called_stale old.core x.pp)) m false) event.is_open ∙ ap (λ b. b && is_pp p c.pp && (not c.moves || is_called_stale old.core c.pp)) part
+  none_due p = ap (λ (m : Option OpenCopy). Rattle.std.specs.Option.option_map_or (λ (x : OpenCopy). is_whole old.core x && is_pp p x.pp && (not x.moves || is_held_stale old.core x.pp)) m false) event.is_open ∙ ap (λ b. b && is_pp p c.pp && (not c.moves || is_held_stale old.core c.pp)) part
 
   same : new.core.status ≡ old.core.status
   same = event.fails.marks.same (λ p due. clash_gives (marked_by_end old.core (Some ending.SyncFailed) p) due (none_due p))

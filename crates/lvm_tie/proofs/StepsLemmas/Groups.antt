@@ -16,7 +16,7 @@ use Rattle.lvm_session.specs.declared.bringing.OpenCopy.{OpenCopy}
 use Rattle.lvm_session.specs.declared.bringing.CopyEnd.{CopyEnd}
 use Rattle.lvm_session.specs.State.{Core, State, state}
 use Rattle.lvm_session.specs.Judging.{place_of}
-use Rattle.lvm_session.specs.Bringing.{is_called_stale, block_at, copy_ends, groups_of, has_row, is_done_end, is_whole, marked_by_end, step_place, with_copy_end, with_end}
+use Rattle.lvm_session.specs.Bringing.{is_held_stale, block_at, copy_ends, groups_of, has_row, is_done_end, is_whole, marked_by_end, step_place, with_copy_end, with_end}
 use Rattle.lvm_session.specs.Ends.{with_step}
 use Rattle.lvm_session.specs.Marks.{Reviews, is_entailed}
 use Rattle.lvm_session.specs.Sound.{IsSound}
@@ -67,7 +67,7 @@ module _ (past : List Fact) (old new : State) (at : ℕ) (tied : IsTied past old
   -- nothing more is wanted
   unmarked : (how : Option CopyEnd) (p : Pp) → marked_by_end on how p ≡ false
   unmarked None p = refl
-  unmarked (Some how) p = ap (λ b. not (is_done_end how) && (b && is_pp p c.pp && (not c.moves || is_called_stale on c.pp))) short ∙ and_false (not (is_done_end how))
+  unmarked (Some how) p = ap (λ b. not (is_done_end how) && (b && is_pp p c.pp && (not c.moves || is_held_stale on c.pp))) short ∙ and_false (not (is_done_end how))
 
   same : new.core.status ≡ core.status
   same = reviews.marks.same (λ p due. ⊎_elim

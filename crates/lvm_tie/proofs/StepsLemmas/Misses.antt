@@ -12,7 +12,7 @@ use Rattle.lvm_session.specs.declared.bringing.OpenCopy.{OpenCopy}
 use Rattle.lvm_session.specs.declared.bringing.CopyEnd.{CopyEnd}
 use Rattle.lvm_session.specs.declared.bringing.Step.TheVariants as step
 use Rattle.lvm_session.specs.State.{Core, State, state}
-use Rattle.lvm_session.specs.Bringing.{is_called_stale, copy_ends, is_done_end, is_idle, is_whole, marked_by_end, with_copy_end, with_end}
+use Rattle.lvm_session.specs.Bringing.{is_held_stale, copy_ends, is_done_end, is_idle, is_whole, marked_by_end, with_copy_end, with_end}
 use Rattle.lvm_session.specs.Ends.{with_copy, with_return}
 use Rattle.lvm_session.specs.Marks.{is_entailed}
 use Rattle.lvm_session.specs.Sound.{IsSound}
@@ -54,7 +54,7 @@ module _ (past : List Fact) (old new : State) (at : ℕ) (tied : IsTied past old
   -- nothing more is wanted
   unmarked : (e : Option CopyEnd) (p : Pp) → marked_by_end mid e p ≡ false
   unmarked None p = refl
-  unmarked (Some how) p = ap (λ b. not (is_done_end how) && (b && is_pp p c.pp && (not c.moves || is_called_stale mid c.pp))) part ∙ and_false (not (is_done_end how))
+  unmarked (Some how) p = ap (λ b. not (is_done_end how) && (b && is_pp p c.pp && (not c.moves || is_held_stale mid c.pp))) part ∙ and_false (not (is_done_end how))
 
   same : new.core.status ≡ core.status
   same = event.misses.reviews.marks.same (λ p due. ⊎_elim

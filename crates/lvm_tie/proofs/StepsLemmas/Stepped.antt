@@ -25,7 +25,7 @@ use Rattle.lvm_invariant.specs.CopyWrite.{copied}
 use Rattle.lvm_invariant.specs.Updates.{put, with_block}
 use Rattle.lvm_invariant.proofs.UpdatesLemmas.Requests.{put_same}
 use Rattle.lvm_tie.specs.Out.{CarriesStep, CarryTheirs}
-use Rattle.lvm_tie.specs.Seen.{Brings, IsRequestAt, IsStepAt, Sees, SeesCopy, SeesOpen, SeesRunning, SeesStep, update_of}
+use Rattle.lvm_tie.specs.Seen.{IsRequestAt, IsStepAt, Sees, SeesCopy, SeesOpen, SeesRunning, SeesStep, update_of}
 use Rattle.lvm_tie.specs.Tied.{IsTied}
 use Rattle.lvm_tie.proofs.StateLemmas.{stale_is, wanted_seen}
 use Rattle.lvm_tie.proofs.TiedLemmas.Orderly.{orderly_same}
@@ -33,6 +33,7 @@ use Rattle.lvm_tie.proofs.OutLemmas.Ended.{HasEnded}
 use Rattle.lvm_tie.proofs.StepsLemmas.Leaving.{Stands, copy_over, gone, gone_here, gone_there, put_there, step_left}
 use Rattle.lvm_tie.proofs.StepsLemmas.Landed.{HasLanded, at_q, ended, hand, now, out, q, row_there, sees, since}
 use Rattle.lvm_tie.proofs.NearLemmas.{no_write}
+use Rattle.lvm_session.proofs.MovesLemmas.{unmoving}
 
 -- ---- what is seen
 
@@ -80,7 +81,7 @@ module _ (past : List Fact) (core : Core) (v : ModelState) (c d : OpenCopy) (poo
     open_copy = its.open_seen;
     step_write = sym (no_write d d.step its.rests);
     beside = sees_v.beside;
-    brings = its.moves_same ∙ subst Brings is sees_v.brings;
+    brings = its.moves_same ∙ unmoving core c is sees_v.brings;
   }
 
 -- the copy goes on with the same track groups behind it

@@ -1,5 +1,5 @@
 -- The write by which a copy is brought up ends well, and all is copied: its clearing is wanted.
-use Rattle.std.proofs.Common.{◌≡◌, ◌⊎◌, inl, inr, ⊎_elim, ℕ, ◌+◌, ◌*◌, ◌%◌, ◌<◌, ◌≤◌, Bool, true, false, ◌&&◌, ◌==◌, not, if◌then◌else◌, List, Option, Some, None, refl, sym, ap, subst, ◌∙◌, arith}
+use Rattle.std.proofs.Common.{◌≡◌, ◌⊎◌, inl, inr, ⊎_elim, ℕ, ◌+◌, ◌*◌, ◌%◌, ◌<◌, ◌≤◌, Bool, true, false, ◌&&◌, ◌||◌, ◌==◌, not, if◌then◌else◌, List, Option, Some, None, refl, sym, ap, subst, ◌∙◌, arith}
 use Rattle.std.specs.Prelude.{IsTrue, IsFalse, nat_le, nat_lt, slice_get, slice_set}
 use Rattle.std.specs.List.{list_any, range_with_len}
 use Rattle.std.proofs.lemmas.Bool.{cases_eq, and_parts}
@@ -26,7 +26,7 @@ use Rattle.lvm_session.specs.declared.bringing.OpenCopy.{OpenCopy}
 use Rattle.lvm_session.specs.declared.bringing.CopyEnd.{CopyEnd}
 use Rattle.lvm_session.specs.declared.bringing.CopyEnd.TheVariants as ending
 use Rattle.lvm_session.specs.State.{Core, State, state}
-use Rattle.lvm_session.specs.Judging.{is_clear, is_missing, is_running, is_stale, is_wanted_stale, place_of}
+use Rattle.lvm_session.specs.Judging.{stays_fresh, is_missing, is_running, is_stale, is_wanted_stale, place_of}
 use Rattle.lvm_session.specs.Bringing.{copy_ends, end_by_sources, ends_if, groups_of, has_row, is_cleared, is_whole, marked_by_end, with_end}
 use Rattle.lvm_session.specs.Ends.{CopyStepsOn, with_copy}
 use Rattle.lvm_session.specs.Marks.{Reviews, WantsFresh, can_replace, is_among, is_entailed, is_entailed_in, is_left_behind}
@@ -151,8 +151,8 @@ module _ (past : List Fact) (old new : State) (at : ℕ) (tied : IsTied past old
       ap (λ b. if not b then None else if is_missing on c.pp.disk then Some ending.SyncFailed else if is_whole on e then ends_if (is_cleared on e) ending.Done else end_by_sources on e) event.runs
       ∙ ap (λ b. if b then Some ending.SyncFailed else if is_whole on e then ends_if (is_cleared on e) ending.Done else end_by_sources on e) (missing_same c.pp.disk ∙ there past old new at tied sectors event)
       ∙ ap (λ b. if b then ends_if (is_cleared on e) ending.Done else end_by_sources on e) full
-      ∙ ap (λ b. ends_if (not b && is_clear on c.pp) ending.Done) (brings past old tied c event.is_open)
-      ∙ ap (λ b. ends_if (not b && not (calls_stale (Rattle.std.specs.Prelude.unwrap_or on.status.in_flight on.status.committed) c.pp) && not (is_wanted_stale on c.pp)) ending.Done) (stale_same c.pp ∙ own_stale)
+      ∙ ap (λ b. ends_if (not b && stays_fresh on c.pp) ending.Done) (brings past old tied c event.is_open)
+      ∙ ap (λ b. ends_if (not (b || calls_stale (Rattle.std.specs.Prelude.unwrap_or on.status.in_flight on.status.committed) c.pp) && not (is_wanted_stale on c.pp)) ending.Done) (stale_same c.pp ∙ own_stale)
 
   same : new.core.status ≡ status
   same = reviews.marks.same (λ p due. ⊎_elim

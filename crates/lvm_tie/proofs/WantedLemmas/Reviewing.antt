@@ -15,14 +15,14 @@ use Rattle.lvm_session.specs.declared.bringing.OpenCopy.{OpenCopy}
 use Rattle.lvm_session.specs.declared.bringing.CopyEnd.{CopyEnd}
 use Rattle.lvm_session.specs.declared.bringing.CopyEnd.TheVariants as ending
 use Rattle.lvm_session.specs.State.{Core, State, is_there}
-use Rattle.lvm_session.specs.Judging.{is_clear, is_missing, is_running, is_stale, is_wanted_stale}
-use Rattle.lvm_session.specs.Bringing.{copy_ends, end_by_sources, end_of, ends_if, groups_of, is_called_stale, is_cleared, is_done_end, is_idle, is_whole, marked_by_end, next_source, sources_of}
+use Rattle.lvm_session.specs.Judging.{stays_fresh, is_missing, is_running, is_stale, is_wanted_stale}
+use Rattle.lvm_session.specs.Bringing.{copy_ends, end_by_sources, end_of, ends_if, groups_of, is_held_stale, is_cleared, is_done_end, is_idle, is_whole, marked_by_end, next_source, sources_of}
 use Rattle.lvm_session.specs.Marks.{Reviews, is_entailed}
 use Rattle.lvm_invariant.specs.State.{ModelCopy, ModelState}
 use Rattle.lvm_invariant.specs.Want.{Wants}
 use Rattle.lvm_crash.specs.Session.{HasVolumes, marks_of}
 use Rattle.lvm_crash.proofs.WritingLemmas.{pp_same, same_pp}
-use Rattle.lvm_tie.proofs.StateLemmas.{brings, of_its, stale_is, there_first}
+use Rattle.lvm_tie.proofs.StateLemmas.{of_its, stale_is, there_first}
 use Rattle.lvm_tie.proofs.TiedLemmas.Orderly.{valid_of}
 use Rattle.lvm_tie.proofs.AmongLemmas.{not_true, or_true}
 use Rattle.lvm_tie.specs.Seen.{SeesCopy, SeesRunning}
@@ -32,6 +32,7 @@ use Rattle.lvm_tie.specs.Wanted.{HasOwners, IsBrought, KeepsFresh, ReviewIsWante
 use Rattle.lvm_tie.proofs.WantedLemmas.Behind.{IsMarked, first_block, review_wants}
 use Rattle.lvm_tie.proofs.NearLemmas.{ends_running}
 use Rattle.lvm_tie.proofs.SeenLemmas.Beside.{plain_copies}
+use Rattle.lvm_session.proofs.MovesLemmas.{unmoving}
 
 -- ---- how the copy ends
 
@@ -99,7 +100,7 @@ opened past s tied c is runs =
         there = (its.row.number, b.0, (plain_copies tied.sees.beside tied.describes.volumes its.row c.lp b.0 c.pp (volume_is_row core.descriptor c.lv its.row its.volume) b.1).1 (its.among, shown));
         part = λ less. (own.stale runs less).1;
         whole = λ all. (own.clearing runs all).0;
-        stays = brings past s tied c is;
+        stays = tied.sees.brings;
       },
       gone,
     )
@@ -135,8 +136,8 @@ module _ (core new : Core) (v : ModelState) (missing : ℕ → Bool) (facts : Li
       at e ends h =
           let its = ends_running core e ends in
           let b = brought its.copy its.is_open its.runs in
-          let parts = and_parts (not (is_done_end e)) (is_whole core its.copy && is_pp p its.copy.pp && (not its.copy.moves || is_called_stale core its.copy.pp)) (sym (ap (λ (m : Option OpenCopy). not (is_done_end e) && option_map_or (λ (c : OpenCopy). is_whole core c && is_pp p c.pp && (not c.moves || is_called_stale core c.pp)) m false) its.is_open) ∙ h) in
-          let both = and_parts (is_whole core its.copy) (is_pp p its.copy.pp) (and_parts (is_whole core its.copy && is_pp p its.copy.pp) (not its.copy.moves || is_called_stale core its.copy.pp) parts.1).0 in
+          let parts = and_parts (not (is_done_end e)) (is_whole core its.copy && is_pp p its.copy.pp && (not its.copy.moves || is_held_stale core its.copy.pp)) (sym (ap (λ (m : Option OpenCopy). not (is_done_end e) && option_map_or (λ (c : OpenCopy). is_whole core c && is_pp p c.pp && (not c.moves || is_held_stale core c.pp)) m false) its.is_open) ∙ h) in
+          let both = and_parts (is_whole core its.copy) (is_pp p its.copy.pp) (and_parts (is_whole core its.copy && is_pp p its.copy.pp) (not its.copy.moves || is_held_stale core its.copy.pp) parts.1).0 in
           let same : p ≡ its.copy.pp = pp_same p its.copy.pp both.1 in
           (ap (is_stale core) same ∙ b.whole both.0, (b.there.0, b.there.1, ap (v.is_copy b.there.0 b.there.1) same ∙ b.there.2))
 
@@ -156,20 +157,19 @@ module _ (core new : Core) (v : ModelState) (missing : ℕ → Bool) (facts : Li
       marked_whole : (c : OpenCopy) → core.copy ≡ Some c → c.moves ≡ false → is_whole core c ≡ true → e ≡ ending.SyncFailed → marked_by_end core how c.pp ≡ true
       marked_whole c is stays all failed =
           ap (λ (m : Option CopyEnd). marked_by_end core m c.pp) (ends ∙ ap (λ (x : CopyEnd). Some x) failed)
-          ∙ ap (λ (m : Option OpenCopy). option_map_or (λ (x : OpenCopy). is_whole core x && is_pp c.pp x.pp && (not x.moves || is_called_stale core x.pp)) m false) is ∙ (let p = same_pp c.pp c.pp refl in λ t. all t && p t && (not (stays t) || is_called_stale core c.pp))
+          ∙ ap (λ (m : Option OpenCopy). option_map_or (λ (x : OpenCopy). is_whole core x && is_pp c.pp x.pp && (not x.moves || is_held_stale core x.pp)) m false) is ∙ (let p = same_pp c.pp c.pp refl in λ t. all t && p t && (not (stays t) || is_held_stale core c.pp))
 
       cleared_not : (c : OpenCopy) → is_stale core c.pp ≡ true → is_cleared core c ≡ true → ⊥
       cleared_not c stale cleared =
-          let a = and_parts (not (is_stale core c.pp) && not (calls_stale (unwrap_or core.status.in_flight core.status.committed) c.pp)) (not (is_wanted_stale core c.pp)) (and_parts (not c.moves) (is_clear core c.pp) cleared).1 in
-          let b = and_parts (not (is_stale core c.pp)) (not (calls_stale (unwrap_or core.status.in_flight core.status.committed) c.pp)) a.0 in
-          clash_gives (is_stale core c.pp) stale (not_true (is_stale core c.pp) b.0)
+          let a = and_parts (not (is_held_stale core c.pp)) (not (is_wanted_stale core c.pp)) (and_parts (not c.moves) (stays_fresh core c.pp) cleared).1 in
+          clash_gives (is_held_stale core c.pp) (ap (λ b. b || calls_stale (unwrap_or core.status.in_flight core.status.committed) c.pp) stale) (not_true (is_held_stale core c.pp) a.0)
 
       by : (c : OpenCopy) → core.copy ≡ Some c → is_running c ≡ true → IsBrought core v c → (w : Bool) → is_whole core c ≡ w → (is_wanted_stale core c.pp ≡ true) ⊎ ((is_entailed core c.pp || marked_by_end core how c.pp) ≡ true)
       by c is runs b false part = inl (b.part part)
       by c is runs b true all = of (whole_ends core c runs e all (end_at c is ∙ ends))
         where
           of : ((is_missing core c.pp.disk ≡ true) × (e ≡ ending.SyncFailed)) ⊎ ((is_cleared core c ≡ true) × (e ≡ ending.Done)) → (is_wanted_stale core c.pp ≡ true) ⊎ ((is_entailed core c.pp || marked_by_end core how c.pp) ≡ true)
-          of (inl failed) = inr (or_true (is_entailed core c.pp) (marked_by_end core how c.pp) (inr (marked_whole c is b.stays all failed.1)))
+          of (inl failed) = inr (or_true (is_entailed core c.pp) (marked_by_end core how c.pp) (inr (marked_whole c is (unmoving core c is b.stays) all failed.1)))
           of (inr cleared) = absurd (cleared_not c (b.whole all) cleared.0)
 
   -- one that goes on is on a disk that isn't missing

@@ -109,5 +109,5 @@ module _ (mode : Mode) (stale : Bool) where
     open_copy = refl;
     step_write = refl;
     beside = refl;
-    brings = tt;
+    brings = refl;
   }
