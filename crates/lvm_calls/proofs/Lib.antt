@@ -6,6 +6,7 @@ pub mod CallsLemmas
 mod NumbersLemmas
 mod Groups
 pub mod OpeningLemmas
+pub mod MovingLemmas
 pub mod Tables
 mod LeavingLemmas
 pub mod EndingLemmas

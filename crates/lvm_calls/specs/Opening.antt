@@ -1,5 +1,5 @@
 -- What a copy is as it is opened.
-use Rattle.std.specs.Prelude.{◌≡◌, ◌<◌, ℕ, Some, false, length, nat_lt, if◌then◌else◌}
+use Rattle.std.specs.Prelude.{◌≡◌, ◌<◌, ℕ, Some, true, false, length, nat_lt, if◌then◌else◌}
 use Rattle.lvm_num.specs.declared.descriptor.LvRow.{LvRow}
 use Rattle.lvm_num.specs.declared.descriptor.Descriptor.{Descriptor}
 use Rattle.lvm_num.specs.declared.place.Pp.{Pp}
@@ -37,3 +37,10 @@ pub record IsOpened (device : Device) (core : Core) (lv lp number : ℕ) (c : Op
   pub copy_is : copy_at (copies_of row lp) number ≡ Some pp
   pub nothing : (d : ℕ) → has c.tried d ≡ false
   pub is : c ≡ opened false pp lv lp number c.tried (faults_of (counts_seen device core) (copies_of row lp) pp) (step_place core)
+
+-- It is that copy as it begins to move to this partition, of which nothing is copied and nothing tried yet, at the place behind all requests.
+pub record IsOpenedMove (device : Device) (core : Core) (lv lp number : ℕ) (to : Pp) (c : OpenCopy) : Type 0 where
+  pub row : LvRow
+  pub volume : volume_of core.descriptor lv ≡ Some row
+  pub nothing : (d : ℕ) → has c.tried d ≡ false
+  pub is : c ≡ opened true to lv lp number c.tried (faults_of (counts_seen device core) (copies_of row lp) to) (step_place core)

@@ -13,7 +13,7 @@ ghost use Rattle.lvm_session.specs.declared.answers.CopyState.TheVariants as sta
 ghost use Rattle.lvm_session.specs.Calls.{closed, copy_at, copy_fault, copy_state, is_aimed_at, is_still_aimed, refusal_at, refusal_in, refusal_on, state_of_copy};
 
 use crate::ask::has_numbers;
-use lvm_due::{is_missing, is_moved, is_pp, is_settled, is_usable};
+use lvm_due::{is_missing, is_move_done, is_pp, is_settled, is_usable};
 use lvm_num::{LvRow, Pp, copies_of, volume_of};
 use lvm_path::Target;
 use lvm_session::{CopyEnd, CopyFault, CopyState, OpenCopy, Power, Session, Step};
@@ -59,7 +59,7 @@ fn state_of_copy(session: &Session, copy: &OpenCopy) -> CopyState
             cursor: copy.cursor,
         };
     }
-    if is_moved(session, copy) {
+    if is_move_done(session, copy) {
         return CopyState::Done;
     }
     match copy.end {
@@ -93,7 +93,8 @@ pub fn close_copy(session: &mut Session)
     session.copy = None;
 }
 
-fn copy_at(copies: &[Pp], number: u8) -> Option<Pp>
+/// The partition of a copy, from 1, among these.
+pub fn copy_at(copies: &[Pp], number: u8) -> Option<Pp>
     ensures { result ≡ copy_at copies.now number }
 {
     if number == 0 {

@@ -18,7 +18,7 @@ use Rattle.lvm_session.specs.declared.bringing.OpenCopy.{OpenCopy}
 use Rattle.lvm_session.specs.declared.open.Open.{Open}
 use Rattle.lvm_session.specs.State.{Core}
 use Rattle.lvm_session.specs.Enabled.{is_unnamed, note_due, wants_record}
-use Rattle.lvm_session.specs.Judging.{all_but_sure, copies_for, counts_failed, facts_of, has_dirty_mark, has_names, is_beside, is_beside_copy, stays_fresh, is_failing, is_held_back, is_held_by_move, is_kept, is_marked, is_moved, is_past_held, is_pending, is_running, is_settled, is_sure_at, is_under_way, is_usable, is_waiting, is_wanted_stale, is_whole, mode_of}
+use Rattle.lvm_session.specs.Judging.{all_but_sure, copies_for, counts_failed, facts_of, has_dirty_mark, has_names, is_beside, is_beside_copy, stays_fresh, is_failing, is_held_back, is_held_by_move, is_kept, is_marked, is_move_done, is_past_held, is_pending, is_running, is_settled, is_sure_at, is_under_way, is_usable, is_waiting, is_wanted_stale, is_whole, mode_of}
 use Rattle.lvm_due.specs.Due.{any_fails, ReadsSame}
 
 -- another request fails in the logical partition of this one
@@ -133,7 +133,7 @@ module _ (old new : Core) (same : ReadsSame old new) where
           under_mid c new.requests ∙ ap (λ (core : Core). list_any (goes_beside core c) new.requests) mid_is ∙ going c (sym same.copy ∙ is)
           ∙ sym (ap (λ (core : Core). list_any (goes_beside core c) old.requests) mid_is)
 
-      by : (m : Option OpenCopy) → new.copy ≡ m → option_map_or (λ (c : OpenCopy). is_moved new c && is_beside_copy new ask c) m false ≡ option_map_or (λ (c : OpenCopy). is_moved mid c && is_beside_copy mid ask c) m false
+      by : (m : Option OpenCopy) → new.copy ≡ m → option_map_or (λ (c : OpenCopy). is_move_done new c && is_beside_copy new ask c) m false ≡ option_map_or (λ (c : OpenCopy). is_move_done mid c && is_beside_copy mid ask c) m false
       by None is = refl
       by (Some c) is = ap (λ (b : Bool). c.moves && is_running c && is_whole new c && stays_fresh new c.pp && not b && is_beside_copy new ask c) (under c is)
 

@@ -119,7 +119,7 @@ pub record ReadsSame (old new : Core) : Type 0 where
 
 -- Of what requests read only the one at a place has changed, which has its number and its blocks, fails as it did, and goes on as it did while a copy is open; who
 -- waits of those that are freed; and what can be pinned of those that may pin.
-pub record RequestMoves (freed pinning : Open → Bool) (old new : Core) (place : ℕ) : Type 0 where
+pub record ChangesOne (freed pinning : Open → Bool) (old new : Core) (place : ℕ) : Type 0 where
   pub reads : ReadsSame old new
   pub notes : new.cache.notes ≡ old.cache.notes
   pub was : Open

@@ -27,7 +27,7 @@ might_land_in phase.Data r usable = if is_write r.ask then is_unbegun r && not u
 might_land_in phase.WantStatus r usable = true
 might_land_in phase.Landed r usable = false
 
--- one of the copies to which it goes is usable (the place to which a copy moves is none)
+-- one of the copies to which it goes is usable (the destination of a move is none)
 abbrev pub any_is_usable : Core → List Target → Bool
 any_is_usable core targets = list_any (λ (t : Target). not t.moves && is_usable core t.pp) targets
 

@@ -14,7 +14,7 @@ ghost use Rattle.lvm_session.specs.Events.{Admits, Lands, Pins, StartsData};
 ghost use Rattle.lvm_session.specs.Ends.{DataLearns, Learns, NoteLearns};
 ghost use Rattle.lvm_session.specs.Turns.{is_start, Makes};
 ghost use Rattle.lvm_session.specs.Sound.{IsGoing, IsTold};
-ghost use Rattle.lvm_due.specs.Due.{none, AddsMaking, Covers, HoldsPin, IsDue, NoneFailsAt, NoneFailsFor, RequestMoves};
+ghost use Rattle.lvm_due.specs.Due.{none, AddsMaking, Covers, HoldsPin, IsDue, NoneFailsAt, NoneFailsFor, ChangesOne};
 
 use crate::below::any_is_failing;
 use crate::making::{might_make_admission, might_make_data, might_make_landing, might_make_note};
@@ -77,7 +77,7 @@ impl Due {
     // The request at a place has changed: those that are freed may land or be admitted, and those of the entries may pin.
     fn moved(&mut self, session: &Session, place: usize, freed: Span, entries: Span)
         requires { place < length session.now.requests.items }
-        ensures { (frees pins : Open → Bool) (old : Core) → Covers frees session.now.requests.items (length session.now.requests.items) freed → Covers pins session.now.requests.items (length session.now.requests.items) entries → RequestMoves frees pins old (core_of session.now) place → IsDue old self.old → IsDue (core_of session.now) self.new }
+        ensures { (frees pins : Open → Bool) (old : Core) → Covers frees session.now.requests.items (length session.now.requests.items) freed → Covers pins session.now.requests.items (length session.now.requests.items) entries → ChangesOne frees pins old (core_of session.now) place → IsDue old self.old → IsDue (core_of session.now) self.new }
     {
         self.add(session, place);
         join(&mut self.landing, freed);
@@ -88,7 +88,7 @@ impl Due {
     // So it has, where nothing else has; else all places are due.
     fn moved_if(&mut self, session: &Session, place: usize, still: bool, freed: Span, entries: Span)
         requires { place < length session.now.requests.items }
-        ensures { (frees pins : Open → Bool) (old : Core) → Covers frees session.now.requests.items (length session.now.requests.items) freed → Covers pins session.now.requests.items (length session.now.requests.items) entries → (still ≡ true → RequestMoves frees pins old (core_of session.now) place) → IsDue old self.old → IsDue (core_of session.now) self.new }
+        ensures { (frees pins : Open → Bool) (old : Core) → Covers frees session.now.requests.items (length session.now.requests.items) freed → Covers pins session.now.requests.items (length session.now.requests.items) entries → (still ≡ true → ChangesOne frees pins old (core_of session.now) place) → IsDue old self.old → IsDue (core_of session.now) self.new }
     {
         if still {
             self.moved(session, place, freed, entries);
@@ -156,7 +156,7 @@ impl Due {
     // The transfer of the request at a place has ended well.
     fn data_ended_at(&mut self, session: &Session, place: usize, quiet: bool)
         requires { place < length session.now.requests.items }
-        ensures { (old : Core) → (quiet ≡ true → NoneFailsAt (core_of session.now) place → RequestMoves none none old (core_of session.now) place) → IsDue old self.old → IsDue (core_of session.now) self.new }
+        ensures { (old : Core) → (quiet ≡ true → NoneFailsAt (core_of session.now) place → ChangesOne none none old (core_of session.now) place) → IsDue old self.old → IsDue (core_of session.now) self.new }
     {
         let still = stays_quiet(session, place, quiet);
         self.moved_if(session, place, still, Span::all(0), Span::all(0));

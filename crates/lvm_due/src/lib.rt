@@ -41,7 +41,7 @@ pub use firsts::{first_admission, first_data, first_landing};
 pub use held::{held_of, is_held_back};
 pub use judged::{counts_failed, is_kept, is_marked, is_sure_at};
 pub use laws::dues_are_narrow;
-pub use moved::{is_held_by_move, is_held_stale, is_moved, stays_fresh};
+pub use moved::{is_held_by_move, is_held_stale, is_move_done, stays_fresh};
 pub use next::next_at;
 pub use notes::{first_note, note_due};
 pub use pending::{is_failing, is_pending, is_waiting};

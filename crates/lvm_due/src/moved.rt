@@ -1,7 +1,7 @@
 //! Whether the move of a copy is done.
 ghost use Rattle.std.specs.Prelude.{◌≡◌, unwrap_or};
 ghost use Rattle.lvm_num.specs.Status.{calls_stale};
-ghost use Rattle.lvm_due.specs.passed.FactsNames.{core_of, is_held_by_move, is_held_stale, is_moved, is_past_held, is_under_way, stays_fresh};
+ghost use Rattle.lvm_due.specs.passed.FactsNames.{core_of, is_held_by_move, is_held_stale, is_move_done, is_past_held, is_under_way, stays_fresh};
 
 use crate::below::{Open, Session};
 use crate::pending::is_waiting;
@@ -61,8 +61,8 @@ fn is_under_way(session: &Session, copy: &OpenCopy) -> bool
 
 /// Whether all of it is copied, its place is fresh by each status, and nothing is under way on its logical
 /// partition.
-pub fn is_moved(session: &Session, copy: &OpenCopy) -> bool
-    ensures { result ≡ is_moved (core_of session.now) copy.now }
+pub fn is_move_done(session: &Session, copy: &OpenCopy) -> bool
+    ensures { result ≡ is_move_done (core_of session.now) copy.now }
 {
     copy.moves
         && is_running(copy)
@@ -77,6 +77,6 @@ pub fn is_held_by_move(session: &Session, ask: &Ask) -> bool
 {
     match &session.copy {
         None => false,
-        Some(copy) => is_beside_copy(session, ask, copy) && is_moved(session, copy),
+        Some(copy) => is_beside_copy(session, ask, copy) && is_move_done(session, copy),
     }
 }

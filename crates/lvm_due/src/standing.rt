@@ -6,7 +6,7 @@ ghost use Rattle.lvm_num.specs.Descriptor.{IsValid, is_size};
 ghost use Rattle.lvm_session.specs.passed.Names.{at_of};
 ghost use Rattle.lvm_session.specs.Bringing.{is_whole};
 ghost use Rattle.lvm_session.specs.Fields.{core_of};
-ghost use Rattle.lvm_session.specs.Judging.{IsWithinVolume, copies_for, group_in, group_of, is_beside_copy, is_caught, is_missing, is_running, is_settled, is_stale, is_sure, is_usable, is_wanted_stale, lp_of, mode_of, place_aims, places_for, policy_of, pps_of, same_pps};
+ghost use Rattle.lvm_session.specs.Judging.{IsWithinVolume, copies_for, group_in, group_of, is_beside_copy, is_caught, is_missing, is_running, is_settled, is_stale, is_sure, is_usable, is_wanted_stale, lp_of, mode_of, destination_aims, destinations_for, policy_of, pps_of, same_pps};
 
 use crate::facts_places::{is_pp, partition_blocks};
 use lvm_num::{Mode, Policy, Pp, copies_of, volume_of};
@@ -151,7 +151,7 @@ pub fn is_beside_copy(session: &Session, ask: &Ask, copy: &OpenCopy) -> bool
 
 /// The place to which a copy of its logical partition moves, also once the move has ended.
 pub fn place_for(session: &Session, ask: &Ask) -> Option<Pp>
-    ensures { places_for (core_of session.now) ask.now ≡ option_map_or (λ (p : Pp). p ∷ []) result [] }
+    ensures { destinations_for (core_of session.now) ask.now ≡ option_map_or (λ (p : Pp). p ∷ []) result [] }
 {
     match &session.copy {
         None => None,
@@ -168,7 +168,7 @@ pub fn place_for(session: &Session, ask: &Ask) -> Option<Pp>
 /// That place, where the move runs and has passed its track group: a write goes there too.
 pub fn place_aim(session: &Session, ask: &Ask) -> Option<Pp>
     requires { IsTrue (is_size session.now.descriptor.mib) }
-    ensures { place_aims (core_of session.now) ask.now ≡ option_map_or (λ (p : Pp). p ∷ []) result [] }
+    ensures { destination_aims (core_of session.now) ask.now ≡ option_map_or (λ (p : Pp). p ∷ []) result [] }
 {
     match &session.copy {
         None => None,

@@ -3,7 +3,7 @@ ghost use Rattle.std.specs.Prelude.{◌≡◌, ◌≤◌, ◌<◌, ◌^◌, ◌&
 ghost use Rattle.lvm_num.specs.Descriptor.{IsValid};
 ghost use Rattle.lvm_path.specs.Asks.{at_of};
 ghost use Rattle.lvm_session.specs.Fields.{core_of};
-ghost use Rattle.lvm_session.specs.Judging.{IsWithinVolume, copies_for, is_changed, places_for};
+ghost use Rattle.lvm_session.specs.Judging.{IsWithinVolume, copies_for, is_changed, destinations_for};
 ghost use Rattle.lvm_session.specs.Left.{begun_left, if_so, is_brought_up, is_held, lacks_dirty, lacks_note, phase_left, place_turns, turns_of, unbegun_left, waiting_targets, write_left};
 ghost use Rattle.lvm_session.specs.Requests.{IsLaid};
 
@@ -123,7 +123,7 @@ fn all_turns(session: &Session, pps: &[Pp]) -> u64
 
 // So may the place to which a copy of its logical partition moves.
 fn place_turns(session: &Session, request: &Request) -> u64
-    ensures is { result ≡ sum_by (place_turns (core_of session.now)) (places_for (core_of session.now) request.now.ask) }
+    ensures is { result ≡ sum_by (place_turns (core_of session.now)) (destinations_for (core_of session.now) request.now.ask) }
     ensures few { result ≤ 46 }
 {
     match place_for(session, &request.ask) {

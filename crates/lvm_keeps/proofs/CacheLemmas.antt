@@ -127,7 +127,7 @@ copies_on_members d lv lp p valid among = by (volume_of d lv) refl among
     by None none e = not_so e
     by (Some row) is e = among_all d (copies_of row lp) p e (all_taken (IsOnMember d) row.copies (drop (lp * row.copies) row.map) (all_dropped (IsOnMember d) (lp * row.copies) row.map (of_volume (IsOnMember d) d.lvs row lv is all_places)))
 
--- so do the targets of a request, also the place to which a copy moves
+-- so do the targets of a request, also the destination of a move
 pub target_on_member : (core : Core) (ask : Ask) (t : Target) → IsGoing core → IsTarget core ask t → is_member core.descriptor t.pp.disk ≡ true
 target_on_member core ask t going its = by t.moves its.copy
   where

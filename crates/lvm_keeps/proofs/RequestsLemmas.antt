@@ -27,7 +27,7 @@ use Rattle.lvm_session.specs.declared.bringing.Step.{Step}
 use Rattle.lvm_session.specs.declared.flown.Flown.{Flown}
 use Rattle.lvm_session.specs.declared.open.Open.{Open}
 use Rattle.lvm_session.specs.State.{Core, State, state}
-use Rattle.lvm_session.specs.Judging.{copies_in, is_caught, is_held_back, is_kept, is_running, is_stale, group_in, is_settled, is_wanted_stale, places_for, pps_of}
+use Rattle.lvm_session.specs.Judging.{copies_in, is_caught, is_held_back, is_kept, is_running, is_stale, group_in, is_settled, is_wanted_stale, destinations_for, pps_of}
 use Rattle.lvm_session.specs.Bringing.{groups_of, hand_of, is_idle, is_whole}
 use Rattle.lvm_session.specs.Enabled.{is_free_step}
 use Rattle.lvm_session.specs.Marks.{is_among}
@@ -39,7 +39,7 @@ use Rattle.lvm_keeps.proofs.Small.{and_on, left_on, most_on, none_on}
 
 -- the places to which a copy moves are the same, for each request
 abbrev pub SamePlaces : Core → Core → Type 0
-SamePlaces core now = (ask : Ask) → places_for core ask ≡ places_for now ask
+SamePlaces core now = (ask : Ask) → destinations_for core ask ≡ destinations_for now ask
 
 -- what else the targets of a request are read off
 abbrev pub Placing : Type 0
@@ -57,7 +57,7 @@ target_still core now same places ask t its = subst (λ (p : Placing). IsTarget 
 
     aimed : (b : Bool) → IsAimed b core ask t → IsAimed b (with_placing (placing core)) ask t
     aimed false among = among
-    aimed true place = (ap (λ (ps : List Pp). is_among ps t.pp) (sym (places ask ∙ sym (ap (λ (p : Placing). places_for (with_placing p) ask) same))) ∙ place.0, place.1, place.2)
+    aimed true place = (ap (λ (ps : List Pp). is_among ps t.pp) (sym (places ask ∙ sym (ap (λ (p : Placing). destinations_for (with_placing p) ask) same))) ∙ place.0, place.1, place.2)
 
 pub shape_still : (core now : Core) → placing core ≡ placing now → SamePlaces core now → (o : Open) → IsShaped core o → IsShaped now o
 shape_still core now same places o s = record {
@@ -182,7 +182,7 @@ module _ (core : Core) (history : Log) (requests : List Open) (queue : Waiting) 
         by true before = before
         by false none = absurd (let e : true ≡ false = sym is ∙ caught p none in cc e)
 
-    pub judged_on : ((p : Pp) → is_among (places_for changed o.request.ask) p ≡ true → is_among (places_for core o.request.ask) p ≡ true) → IsJudged core o → IsJudged changed o
+    pub judged_on : ((p : Pp) → is_among (destinations_for changed o.request.ask) p ≡ true → is_among (destinations_for core o.request.ask) p ≡ true) → IsJudged core o → IsJudged changed o
     judged_on before j = record {
       uncaught = all_weaker (λ (t : Target). may_lack o t && is_caught core (group_in core o.request.ask) t.pp ≡ false) (λ (t : Target). may_lack o t && is_caught changed (group_in core o.request.ask) t.pp ≡ false)
           (λ t is. and_on (may_lack o t) (is_caught core (group_in core o.request.ask) t.pp) (is_caught changed (group_in core o.request.ask) t.pp) (caught t.pp) is) o.request.targets.items j.uncaught;
@@ -192,8 +192,8 @@ module _ (core : Core) (history : Log) (requests : List Open) (queue : Waiting) 
       missed = j.missed;
       all = λ begun p among. left_on (is_among (pps_of o.request.targets.items) p) (is_settled core p) (is_wanted_stale core p) (is_caught core (group_in core o.request.ask) p) (is_caught changed (group_in core o.request.ask) p) (caught p) (j.all begun p among);
       place = λ begun p among.
-          let its = among_filtered (is_caught changed (group_in core o.request.ask)) (places_for changed o.request.ask) p among in
-          j.place begun p (among_filter (is_caught core (group_in core o.request.ask)) (places_for core o.request.ask) p (caught_before p its.1) (before p its.0));
+          let its = among_filtered (is_caught changed (group_in core o.request.ask)) (destinations_for changed o.request.ask) p among in
+          j.place begun p (among_filter (is_caught core (group_in core o.request.ask)) (destinations_for core o.request.ask) p (caught_before p its.1) (before p its.0));
     }
 
     pub open_on : SamePlaces core changed → IsOpenOne core o → IsOpenOne changed o

@@ -8,7 +8,7 @@ use Rattle.lvm_session.specs.declared.event.Event.{Event}
 use Rattle.lvm_session.specs.declared.open.Open.{Open}
 use Rattle.lvm_session.specs.declared.open.Power.TheVariants as power
 use Rattle.lvm_session.specs.State.{Core, State, is_there}
-use Rattle.lvm_session.specs.Judging.{is_held_by_move, is_moved, is_running, is_waiting}
+use Rattle.lvm_session.specs.Judging.{is_held_by_move, is_move_done, is_running, is_waiting}
 use Rattle.lvm_session.specs.Bringing.{groups_of}
 use Rattle.lvm_session.specs.Enabled.{first_event, is_lost}
 use Rattle.lvm_session.specs.Ends.{Ends}
@@ -43,7 +43,7 @@ LeftIsBounded = (s : State) → IsSound s → left_of s.core ≤ most_left s.cor
 abbrev pub NeverStandsStill : Type 0
 NeverStandsStill = (s : State) → IsSound s → s.core.power ≡ power.On → is_lost s.core ≡ false → first_event s.core ≡ None → s.device.flights ≡ []
     → (list_any (λ (o : Open). is_waiting o && not (is_held_by_move s.core o.request.ask)) s.core.requests ≡ false)
-    × IfSome s.core.copy (λ (c : OpenCopy). is_running c && not (is_moved s.core c) ≡ false)
+    × IfSome s.core.copy (λ (c : OpenCopy). is_running c && not (is_move_done s.core c) ≡ false)
 
 -- So does a pin.
 abbrev pub PinFalls : Type 0

@@ -27,7 +27,7 @@ use Rattle.lvm_status.specs.Update.{seen}
 use Rattle.lvm_status.specs.declared.writes.Writes.{Writes}
 use Rattle.lvm_session.specs.Bringing.{copy_ends, end_of, has_row, is_whole, step_row, with_back, with_copy_end}
 use Rattle.lvm_session.specs.Enabled.{same_status}
-use Rattle.lvm_session.specs.Judging.{copies_for, copies_in, group_in, held_of, is_caught, is_kept, is_missing, is_running, is_settled, is_stale, is_sure, is_sure_at, is_waiting, is_wanted_stale, lp_of, place_of, places_for, pps_of}
+use Rattle.lvm_session.specs.Judging.{copies_for, copies_in, group_in, held_of, is_caught, is_kept, is_missing, is_running, is_settled, is_stale, is_sure, is_sure_at, is_waiting, is_wanted_stale, lp_of, place_of, destinations_for, pps_of}
 use Rattle.lvm_session.specs.State.{Core, state, State}
 use Rattle.lvm_session.specs.declared.bringing.CopyEnd.TheVariants as ending
 use Rattle.lvm_session.specs.declared.bringing.OpenCopy.{OpenCopy}
@@ -43,7 +43,7 @@ use Rattle.lvm_session.specs.Marks.{due_of, due_targets, hits_copy, is_among}
 use Rattle.lvm_session.specs.Causes.{AreCaused, AreCounted, FailedSince, FailedSinceOpening, fails_on, faults_at_first, faults_at_opening, own_faults, OwnFailedSinceOpening, TargetHasFailed, HaveSourcesFailed, is_blamed, is_held_stale, IsAnswered, IsCaused, IsChosenSince, IsCausedAmong, IsCounted, IsLandedFor, IsTrueToOrigin}
 use Rattle.lvm_session.specs.Left.{copy_updates, if_so, marks_later}
 use Rattle.lvm_session.specs.Owners.{AreOwned, flies, IsDataOf, IsTransferOf, same_owner}
-use Rattle.lvm_session.specs.Requests.{IsAimed, is_left_out, is_wanted_due, IsJudged, IsMarkedPlace, IsOpenOne, IsRequest, IsShaped, IsTarget, may_lack, wants_status, will_be_kept}
+use Rattle.lvm_session.specs.Requests.{IsAimed, is_left_out, is_wanted_due, IsJudged, IsMarkedDestination, IsOpenOne, IsRequest, IsShaped, IsTarget, may_lack, wants_status, will_be_kept}
 use Rattle.lvm_session.specs.Sound.{count_if, has_number, is_clearing, is_dark, is_hand, IsAsked, IsCopy, IsFitting, IsGoing, IsOn, IsSound, IsTold, may_be_fresh, out_with, pins, stays_fresh, with_row}
 use Rattle.lvm_keeps.proofs.CausesLemmas.{answered_when_on}
 use Rattle.lvm_keeps.proofs.DarkLemmas.Ending.{back, back_long}
@@ -242,9 +242,9 @@ module _ (old : State) (sound : IsSound old) (on : old.core.power ≡ power.On) 
           (left_on (is_among (pps_of now_targets) p) (is_settled core p) (is_wanted_stale core p) (is_caught core (group_in core ask) p) (is_caught mid (group_in core ask) p) (left.caught (group_in core ask) p)
           (ap (λ ps. is_among ps p || is_left_out core ask p) (pps_set targets target aim (end_state ok) aim_is) ∙ j.all (begun_so core going place target o there aim aim_is at row row_there own ok buf long) p among));
       place = λ begun p among.
-          let its = among_filtered (is_caught mid (group_in core ask)) (places_for mid ask) p among in
+          let its = among_filtered (is_caught mid (group_in core ask)) (destinations_for mid ask) p among in
           ap (λ ps. is_among ps p) (pps_set targets target aim (end_state ok) aim_is)
-          ∙ j.place (begun_so core going place target o there aim aim_is at row row_there own ok buf long) p (among_filter (is_caught core (group_in core ask)) (places_for core ask) p (caught_before p its.1) (ap (λ (ps : List Pp). is_among ps p) (left.places ask) ∙ its.0));
+          ∙ j.place (begun_so core going place target o there aim aim_is at row row_there own ok buf long) p (among_filter (is_caught core (group_in core ask)) (destinations_for core ask) p (caught_before p its.1) (ap (λ (ps : List Pp). is_among ps p) (left.places ask) ∙ its.0));
     }
       where
         caught_before : (p : Pp) → is_caught mid (group_in core ask) p ≡ true → is_caught core (group_in core ask) p ≡ true
@@ -269,7 +269,7 @@ module _ (old : State) (sound : IsSound old) (on : old.core.power ≡ power.On) 
         due_so true over status = left_due core x.request marked over (λ p among. unsure_by marked p (due_wanted mid due wanted writes like p (entailed.wants p among))) (none_kept over)
         due_so false over status = ended_not over status
 
-        missed_so : (b : Bool) → (is_write ask && are_over now_targets) ≡ b → wants_status (if b then phase.WantStatus else o.request.phase) ≡ true → AllByRecursion (IsMarkedPlace marked x.request) now_targets
+        missed_so : (b : Bool) → (is_write ask && are_over now_targets) ≡ b → wants_status (if b then phase.WantStatus else o.request.phase) ≡ true → AllByRecursion (IsMarkedDestination marked x.request) now_targets
         missed_so true over status = left_missed core x.request marked over (λ p among. unsure_by marked p (due_wanted mid due wanted writes like p (entailed.wants p among)))
         missed_so false over status = ended_not over status
 
@@ -719,7 +719,7 @@ module _ (old : State) (sound : IsSound old) (on : old.core.power ≡ power.On) 
         lost_one : IsDueOne core x.request c.pp
         lost_one = due_one core x.request c.pp among
 
-        -- one that was usable is no place to which a copy moves
+        -- one that was usable is no destination of a move
         stands : (k : ℕ) (t : Target) → slice_get now_targets k ≡ Some t → t.usable ≡ true → t.moves ≡ false
         stands k t t_there usable = by t.moves refl (all_at (IsTarget core ask) now_targets k t its_shape.targets t_there).copy
           where
@@ -914,7 +914,7 @@ module _ (old : State) (sound : IsSound old) (on : old.core.power ≡ power.On) 
                   one : IsDueOne core x.request p
                   one = due_one core x.request p its
 
-                  -- the place to which a copy moves counts as stale since the session began
+                  -- the destination of a move counts as stale since the session began
                   of_kind : (b : Bool) → one.it.target.moves ≡ b → IsAimed b core ask one.it.target → is_sure_at core one.it.target ≡ false → Reason p
                   of_kind false stays copy unsure = as_before p (unsure_before p (ap (is_sure core) one.it.pp_is ∙ sym (ap (λ b. not b && is_sure core one.it.target.pp) stays) ∙ unsure))
                   of_kind true moves goes unsure =

@@ -27,6 +27,7 @@ pub mod Finding
 pub mod CallsLemmas
 pub mod Keeping
 pub mod StatusEndsLemmas
+mod Usable
 pub mod UncaughtLemmas
 pub mod MissedLemmas
 pub mod MissingLemmas

@@ -1,4 +1,4 @@
--- Of the place to which a copy moves staleness is wanted where a write has missed it.
+-- Of the destination of a move staleness is wanted where a write has missed it.
 use Rattle.std.proofs.Common.{◌&&◌, arith, Bool, false, if◌then◌else◌, inl, inr, nat_le, not, refl, slice_get, Some, sym, true, ◌||◌, ℕ, ◌∙◌, ◌≡◌, ◌⊎◌}
 use Rattle.std.specs.List.{AllByRecursion, list_any}
 use Rattle.std.specs.Prelude.{count_by}
@@ -15,7 +15,7 @@ use Rattle.lvm_path.specs.Targets.{are_over, is_done, is_failed, is_over}
 use Rattle.lvm_session.specs.declared.open.Open.{Open}
 use Rattle.lvm_session.specs.Judging.{group_in, is_caught, is_kept, is_sure, is_sure_at}
 use Rattle.lvm_session.specs.State.{Core}
-use Rattle.lvm_session.specs.Requests.{IsJudged, IsMarkedPlace, is_failed_and_sure, may_lack, wants_status, will_be_kept}
+use Rattle.lvm_session.specs.Requests.{IsJudged, IsMarkedDestination, is_failed_and_sure, may_lack, wants_status, will_be_kept}
 use Rattle.lvm_keeps.proofs.Small.{both}
 use Rattle.lvm_keeps_events.proofs.Lists.{all_and, all_true_at, and_false, any_on, by_places, none_of_zero}
 
@@ -66,12 +66,12 @@ unmissed true f l m s true on why e = of (why refl)
 module _ (core after : Core) (r : Request) where
   pub missed_on : (list_any (is_failed_and_sure after) r.targets.items ≡ true → list_any (is_failed_and_sure core) r.targets.items ≡ true)
       → ((k : ℕ) (t : Target) → slice_get r.targets.items k ≡ Some t → is_sure after t.pp ≡ true → (is_sure core t.pp ≡ true) ⊎ ((is_failed t.state ≡ false) × (list_any (is_failed_and_sure core) r.targets.items ≡ false)))
-      → AllByRecursion (IsMarkedPlace core r) r.targets.items → AllByRecursion (IsMarkedPlace after r) r.targets.items
-  missed_on fewer why all = by_places (IsMarkedPlace after r) r.targets.items (λ k t there. unmissed t.moves (is_failed t.state) (list_any (is_failed_and_sure core) r.targets.items) (list_any (is_failed_and_sure after) r.targets.items)
-      (is_sure core t.pp) (is_sure after t.pp) fewer (why k t there) (all_at (IsMarkedPlace core r) r.targets.items k t all there))
+      → AllByRecursion (IsMarkedDestination core r) r.targets.items → AllByRecursion (IsMarkedDestination after r) r.targets.items
+  missed_on fewer why all = by_places (IsMarkedDestination after r) r.targets.items (λ k t there. unmissed t.moves (is_failed t.state) (list_any (is_failed_and_sure core) r.targets.items) (list_any (is_failed_and_sure after) r.targets.items)
+      (is_sure core t.pp) (is_sure after t.pp) fewer (why k t there) (all_at (IsMarkedDestination core r) r.targets.items k t all there))
 
   -- nothing is sure that wasn't
-  pub missed_less : ((p : Pp) → is_sure after p ≡ true → is_sure core p ≡ true) → AllByRecursion (IsMarkedPlace core r) r.targets.items → AllByRecursion (IsMarkedPlace after r) r.targets.items
+  pub missed_less : ((p : Pp) → is_sure after p ≡ true → is_sure core p ≡ true) → AllByRecursion (IsMarkedDestination core r) r.targets.items → AllByRecursion (IsMarkedDestination after r) r.targets.items
   missed_less less = missed_on (any_on (is_failed_and_sure after) (is_failed_and_sure core) failed_less r.targets.items) (λ k t there sure. inl (less t.pp sure))
     where
       failed_less : (t : Target) → is_failed_and_sure after t ≡ true → is_failed_and_sure core t ≡ true

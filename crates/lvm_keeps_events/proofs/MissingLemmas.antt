@@ -1,4 +1,4 @@
--- A session with a write that has missed the place to which a copy moves.
+-- A session with a write that has missed the destination of a move.
 use Rattle.std.proofs.Common.{◌≡◌, inl, ◌<◌, ◌+◌, ◌-◌, ◌^◌, ℕ, zero, suc, Bool, true, false, ◌&&◌, ◌||◌, [], ◌∷◌, Some, None, refl, ap, sym, ◌∙◌, arith}
 use Rattle.std.specs.Prelude.{◌≢◌, ◌==◌, is_some, if◌then◌else◌, slice_index_or}
 use Rattle.lvm_num.specs.Bits.{has_bit}
@@ -28,7 +28,7 @@ use Rattle.lvm_session.specs.Requests.{IsOpenOne, is_left_out}
 use Rattle.lvm_session.specs.Causes.{AreCaused, AreCounted, IsCausedAmong, IsChosenSince, IsTrueToOrigin, faults_at_opening}
 use Rattle.lvm_session.specs.Sound.{IsAsked, IsCopy, IsFitting, IsGoing, IsSound, IsTold, count_if, stays_fresh}
 use Rattle.lvm_session.specs.Worked.{a_write, begun_write, first_copy, fresh, second_copy, status_of}
-use Rattle.lvm_session.specs.WorkedMoves.{free_place, moving_to, place_stale}
+use Rattle.lvm_session.specs.WorkedMoves.{free_destination, moving_to, destination_stale}
 use Rattle.lvm_session.proofs.RequestsLemmas.{laid_in, shaped, waits_with}
 use Rattle.lvm_session.proofs.SoundLemmas.{sound_while_on}
 use Rattle.lvm_session.proofs.WorkedLemmas.Parts.{has_fresh, idle_is_sound, none_behind, none_out, none_written, not_marked, notes_fit, placed, zeros_at}
@@ -36,7 +36,7 @@ use Rattle.lvm_session.proofs.WorkedLemmas.Whole.{begun_so, fitting, no_entries,
 use Rattle.lvm_keeps_events.specs.Missed.{MissedWritesWait, missed_write, missing, missing_moment}
 
 abbrev here : Core
-here = (missing place_stale).core
+here = (missing destination_stale).core
 
 -- no partition is stale by what is committed
 none_stale : (p : Pp) → calls_stale (status_of fresh) p ≡ false
@@ -69,8 +69,8 @@ asked_so : IsAsked (Begun begun_write ∷ []) missed_write
 asked_so = record { request = begun_write; told = refl; client = refl; vol = refl; at = refl; count = refl; write = refl; length = λ e. refl; place = refl; outcome = refl; answered = λ e. not_either e }
 
 -- a copy is one of its targets
-is_target : (p : Pp) → is_pp p first_copy || (is_pp p second_copy || false) ≡ true → (is_pp p first_copy || (is_pp p second_copy || (is_pp p free_place || false))) || is_left_out here a_write p ≡ true
-is_target p = by (is_pp p first_copy) (is_pp p second_copy) (is_pp p free_place) (is_left_out here a_write p)
+is_target : (p : Pp) → is_pp p first_copy || (is_pp p second_copy || false) ≡ true → (is_pp p first_copy || (is_pp p second_copy || (is_pp p free_destination || false))) || is_left_out here a_write p ≡ true
+is_target p = by (is_pp p first_copy) (is_pp p second_copy) (is_pp p free_destination) (is_left_out here a_write p)
   where
     by : (a b c d : Bool) → a || (b || false) ≡ true → (a || (b || (c || false))) || d ≡ true
     by true b c d e = refl
@@ -87,11 +87,11 @@ request =
       judged = λ write. record { uncaught = (refl, (refl, (refl, tt))); due = λ waits. refl; missed = λ waits. (refl, (refl, (refl, tt))); all = λ begun p among. is_target p among; place = λ begun p among. not_so among };
     })
 
-caused : AreCaused (missing place_stale).device here missed_write
+caused : AreCaused (missing destination_stale).device here missed_write
 unfolding has_bit
 caused waits = (λ e. not_so e, (λ e. not_so e, (λ e. omega arith, tt)))
 
-counted : AreCounted (missing place_stale) missed_write
+counted : AreCounted (missing destination_stale) missed_write
 counted = (record { began = omega arith; since = omega arith }, (record { began = omega arith; since = omega arith }, (record { began = omega arith; since = omega arith }, tt)))
 
 -- ---- the move
@@ -129,7 +129,7 @@ move = record {
 none_at_opening : (number : ℕ) → faults_at_opening (moving_to 3 (Some ending.SyncFailed)) number ≡ 0
 none_at_opening number = zeros_at 4 (number - 1)
 
-move_caused : IsCausedAmong (missing place_stale) (copies_of (mirror mode.Off) 0) (moving_to 3 (Some ending.SyncFailed))
+move_caused : IsCausedAmong (missing destination_stale) (copies_of (mirror mode.Off) 0) (moving_to 3 (Some ending.SyncFailed))
 move_caused = record {
   began = λ number p is. let first = zeros_at 128 p.disk in omega (arith, first);
   since = λ number p is. let none = none_at_opening number in omega (arith, none);
@@ -145,7 +145,7 @@ chosen waits older number p is = let none = none_at_opening number in ((λ e. om
 -- ---- the session
 
 fits : IsFitting here
-fits = fitting (missing_moment place_stale) (omega arith) (omega arith) (omega arith) no_entries (notes_fit mode.Off)
+fits = fitting (missing_moment destination_stale) (omega arith) (omega arith) (omega arith) no_entries (notes_fit mode.Off)
 
 told : IsTold here
 told = record { ordered = begun_so; table = record { ascending = (tt, tt); still = (λ e. refl, tt) }; each = λ id. by (1 == id); requests = (asked_so, tt) }
@@ -201,19 +201,19 @@ going = record {
   numbers = numbers;
 }
 
-origin : IsTrueToOrigin (missing place_stale)
+origin : IsTrueToOrigin (missing destination_stale)
 origin = let o = true_to_origin mode.Off in record {
   since = λ disk. let none = zeros_at 128 disk in omega (arith, none);
   votes = o.votes;
   rows = o.rows;
   still_missing = o.still_missing;
   missing = λ disk is. inl is;
-  stale = λ p is. inl (sym (ap (λ b. (b || b) || calls_stale (status_of place_stale) p) (none_stale p)) ∙ is);
+  stale = λ p is. inl (sym (ap (λ b. (b || b) || calls_stale (status_of destination_stale) p) (none_stale p)) ∙ is);
 }
 
-is_sound : IsSound (missing place_stale)
+is_sound : IsSound (missing destination_stale)
 is_sound =
-    sound_while_on _ refl (record { power = refl; freed = refl }) fits told (placed mode.Off (status_of place_stale)) none_out (record { going = going; rows = tt; caused = (caused, tt); chosen = (chosen, tt) })
+    sound_while_on _ refl (record { power = refl; freed = refl }) fits told (placed mode.Off (status_of destination_stale)) none_out (record { going = going; rows = tt; caused = (caused, tt); chosen = (chosen, tt) })
     (record { counted = (counted, tt); answered = (tt, tt); copy = move_caused; origin = origin })
 
 -- ---- what comes next

@@ -31,9 +31,9 @@ use Rattle.lvm_status.specs.Update.{Stored}
 use Rattle.lvm_session.specs.declared.open.Open.{Open}
 use Rattle.lvm_session.specs.declared.open.Power.TheVariants as power
 use Rattle.lvm_session.specs.State.{Core, State, is_there}
-use Rattle.lvm_session.specs.Judging.{aims, copies_for, group_in, group_of, is_caught, is_changed, is_missing, is_settled, is_stale, is_usable, is_waiting, mode_of, next_for, policy_of, pps_of, same_pps, place_aims, places_for}
+use Rattle.lvm_session.specs.Judging.{aims, copies_for, group_in, group_of, is_caught, is_changed, is_missing, is_settled, is_stale, is_usable, is_waiting, mode_of, next_for, policy_of, pps_of, same_pps, destination_aims, destinations_for}
 use Rattle.lvm_session.specs.Enabled.{is_lost, same_status}
-use Rattle.lvm_session.specs.Events.{Chooses, ChoosesBy, admitted_as, after_admission, last_after, makes_dirty, place_target, target_at, without_pin}
+use Rattle.lvm_session.specs.Events.{Chooses, ChoosesBy, admitted_as, after_admission, last_after, makes_dirty, destination_target, target_at, without_pin}
 use Rattle.lvm_num.specs.Modes.{is_passive}
 use Rattle.lvm_num.proofs.Booleans.{not_so}
 use Rattle.lvm_session.specs.Marks.{WantsDirty, WantsDirtyIf}
@@ -68,17 +68,17 @@ module _ {A : Type 0} (f g : A → ℕ) (less : (z : A) → g z ≤ f z) where
 -- ---- the admission itself
 
 -- the partitions of places, as targets, are those
-same_self : (ps : List Pp) (s : State) (ask : Ask) → same_pps (pps_of (map (place_target s ask) ps)) ps ≡ true
+same_self : (ps : List Pp) (s : State) (ask : Ask) → same_pps (pps_of (map (destination_target s ask) ps)) ps ≡ true
 same_self [] s ask = refl
-same_self (p ∷ ps) s ask = ap (λ b. b && same_pps (pps_of (map (place_target s ask) ps)) ps) (ap (λ b. b && p.pp == p.pp) (eq-eqb p.disk p.disk refl) ∙ eq-eqb p.pp p.pp refl) ∙ same_self ps s ask
+same_self (p ∷ ps) s ask = ap (λ b. b && same_pps (pps_of (map (destination_target s ask) ps)) ps) (ap (λ b. b && p.pp == p.pp) (eq-eqb p.disk p.disk refl) ∙ eq-eqb p.pp p.pp refl) ∙ same_self ps s ask
 
 -- so they are with those of the copies before them
-same_both : (ps qs : List Pp) (s : State) (ask : Ask) → same_pps (pps_of (map (target_at s ask) ps ++ map (place_target s ask) qs)) (ps ++ qs) ≡ true
+same_both : (ps qs : List Pp) (s : State) (ask : Ask) → same_pps (pps_of (map (target_at s ask) ps ++ map (destination_target s ask) qs)) (ps ++ qs) ≡ true
 same_both [] qs s ask = same_self qs s ask
-same_both (p ∷ ps) qs s ask = ap (λ b. b && same_pps (pps_of (map (target_at s ask) ps ++ map (place_target s ask) qs)) (ps ++ qs)) (ap (λ b. b && p.pp == p.pp) (eq-eqb p.disk p.disk refl) ∙ eq-eqb p.pp p.pp refl) ∙ same_both ps qs s ask
+same_both (p ∷ ps) qs s ask = ap (λ b. b && same_pps (pps_of (map (target_at s ask) ps ++ map (destination_target s ask) qs)) (ps ++ qs)) (ap (λ b. b && p.pp == p.pp) (eq-eqb p.disk p.disk refl) ∙ eq-eqb p.pp p.pp refl) ∙ same_both ps qs s ask
 
 module _ (core : Core) (place : ℕ) (o : Open) (there : slice_get core.requests place ≡ Some o) (waits : is_waiting o ≡ true) (unbegun : is_begun o.request.targets.items ≡ false)
-    (targets : List Target) (fresh : AllByRecursion (λ (t : Target). t.state ≡ stage.Waiting) targets) (few : is_write o.request.ask ≡ false → length targets ≤ 3) (aimed : is_write o.request.ask ≡ true → same_pps (pps_of targets) (aims core o.request.ask ++ place_aims core o.request.ask) ≡ true)
+    (targets : List Target) (fresh : AllByRecursion (λ (t : Target). t.state ≡ stage.Waiting) targets) (few : is_write o.request.ask ≡ false → length targets ≤ 3) (aimed : is_write o.request.ask ≡ true → same_pps (pps_of targets) (aims core o.request.ask ++ destination_aims core o.request.ask) ≡ true)
     (again : (o.request.phase ≡ phase.Held) ⊎ ((is_write o.request.ask ≡ true) × (is_held o.request.phase ≡ false) × (is_changed core o.request ≡ true))) (entries : List CacheEntry) (last : List ℕ) where
   abbrev made : Open
   made = admitted_as (policy_of core o.request.ask) (mode_of core o.request.ask) targets o
@@ -91,7 +91,7 @@ module _ (core : Core) (place : ℕ) (o : Open) (there : slice_get core.requests
 
   -- what is left of it beside its phase
   abbrev beside : ℕ
-  beside = update_work + sum_by (turns_of core) (copies_for core o.request.ask) + sum_by (place_turns core) (places_for core o.request.ask) + if_so (lacks_dirty core o.request.ask) update_work
+  beside = update_work + sum_by (turns_of core) (copies_for core o.request.ask) + sum_by (place_turns core) (destinations_for core o.request.ask) + if_so (lacks_dirty core o.request.ask) update_work
 
   no_note : (ts : List Target) → count_by (lacks_note after made.request) ts ≡ 0
   no_note [] = refl
@@ -218,7 +218,7 @@ module _ (s : State) (sound : IsSound s) (on : s.core.power ≡ power.On) (place
   aims_so ask = filter_alike (λ (p : Pp). is_usable between p || is_caught core (group_in core ask) p) (λ (p : Pp). is_usable core p || is_caught core (group_in core ask) p) (λ p. ap (λ b. b || is_caught core (group_in core ask) p) (usable_so p)) (copies_for core ask)
 
   pub changed_so : (r : Request) → is_changed between r ≡ is_changed core r
-  changed_so r = ap (λ (ps : List Pp). is_write r.ask && not (same_pps (pps_of r.targets.items) (ps ++ place_aims core r.ask))) (aims_so r.ask)
+  changed_so r = ap (λ (ps : List Pp). is_write r.ask && not (same_pps (pps_of r.targets.items) (ps ++ destination_aims core r.ask))) (aims_so r.ask)
 
   phase_so : (p : Phase) (r : Request) → phase_left p between r ≡ phase_left p core r
   phase_so phase.Held r = refl
@@ -245,7 +245,7 @@ module _ (s : State) (sound : IsSound s) (on : s.core.power ≡ power.On) (place
   unbegun_less : (r : Request) → unbegun_left between r ≤ unbegun_left core r
   unbegun_less r =
       let turns = sum_same (turns_of core) (turns_of between) turns_so (copies_for core r.ask) in
-      let place = sum_same (place_turns core) (place_turns between) place_turns_so (places_for core r.ask) in
+      let place = sum_same (place_turns core) (place_turns between) place_turns_so (destinations_for core r.ask) in
       let dirty = dirty_less r.ask in
       let changed_now : if_so (not (is_held r.phase) && is_changed between r) 12 ≡ if_so (not (is_held r.phase) && is_changed core r) 12 = ap (λ b. if_so (not (is_held r.phase) && b) 12) (changed_so r) in
       let phases = phase_so r.phase r in
@@ -266,7 +266,7 @@ module _ (s : State) (sound : IsSound s) (on : s.core.power ≡ power.On) (place
       let new = is_left between in
       let old = is_left core in
       let turns = sum_same (turns_of core) (turns_of between) turns_so (copies_for core o.request.ask) in
-      let place_so = sum_same (place_turns core) (place_turns between) place_turns_so (places_for core o.request.ask) in
+      let place_so = sum_same (place_turns core) (place_turns between) place_turns_so (destinations_for core o.request.ask) in
       let changed_now : if_so (not (is_held o.request.phase) && is_changed between o.request) 12 ≡ if_so (not (is_held o.request.phase) && is_changed core o.request) 12 = ap (λ b. if_so (not (is_held o.request.phase) && b) 12) (changed_so o.request) in
       let phases = phase_so o.request.phase o.request in
       let was : if_so (lacks_dirty core o.request.ask) update_work ≡ 256 = ap (λ b. if_so (b && not (calls_dirty core.status.wanted (lv_of o.request.ask))) update_work) (passive_so s sound on place o there admits targets order chooses status makes wants) ∙ ap (λ b. if_so (not b) update_work) (clean s sound on place o there admits targets order chooses status makes wants) in
@@ -318,11 +318,11 @@ module _ (s : State) (sound : IsSound s) (on : s.core.power ≡ power.On) (votes
   its : IsChosen s o targets
   its = choice s sound on place o there admits targets order chooses
 
-  aimed_so : is_write o.request.ask ≡ true → same_pps (pps_of targets) (aims s.core o.request.ask ++ place_aims s.core o.request.ask) ≡ true
+  aimed_so : is_write o.request.ask ≡ true → same_pps (pps_of targets) (aims s.core o.request.ask ++ destination_aims s.core o.request.ask) ≡ true
   aimed_so write = by (subst (λ b. ChoosesBy b s o.request.ask targets order) write chooses)
     where
-      by : ChoosesBy true s o.request.ask targets order → same_pps (pps_of targets) (aims s.core o.request.ask ++ place_aims s.core o.request.ask) ≡ true
-      by it = ap (λ (ts : List Target). same_pps (pps_of ts) (aims s.core o.request.ask ++ place_aims s.core o.request.ask)) it.0 ∙ same_both (aims s.core o.request.ask) (place_aims s.core o.request.ask) s o.request.ask
+      by : ChoosesBy true s o.request.ask targets order → same_pps (pps_of targets) (aims s.core o.request.ask ++ destination_aims s.core o.request.ask) ≡ true
+      by it = ap (λ (ts : List Target). same_pps (pps_of ts) (aims s.core o.request.ask ++ destination_aims s.core o.request.ask)) it.0 ∙ same_both (aims s.core o.request.ask) (destination_aims s.core o.request.ask) s o.request.ask
 
   again_so : (o.request.phase ≡ phase.Held) ⊎ ((is_write o.request.ask ≡ true) × (is_held o.request.phase ≡ false) × (is_changed s.core o.request ≡ true))
   again_so = by (may s sound on place o there admits).waits
@@ -361,8 +361,8 @@ module _ (s : State) (sound : IsSound s) (on : s.core.power ≡ power.On) (votes
       lost : is_lost after_so ≡ false
       lost = votes_so s sound on place o there admits targets order chooses status makes wants ∙ votes
 
-      aimed_between : is_write o.request.ask ≡ true → same_pps (pps_of targets) (aims between o.request.ask ++ place_aims between o.request.ask) ≡ true
-      aimed_between write = ap (λ (ps : List Pp). same_pps (pps_of targets) (ps ++ place_aims s.core o.request.ask)) (aims_so s sound on place o there admits targets order chooses status makes wants o.request.ask) ∙ aimed_so write
+      aimed_between : is_write o.request.ask ≡ true → same_pps (pps_of targets) (aims between o.request.ask ++ destination_aims between o.request.ask) ≡ true
+      aimed_between write = ap (λ (ps : List Pp). same_pps (pps_of targets) (ps ++ destination_aims s.core o.request.ask)) (aims_so s sound on place o there admits targets order chooses status makes wants o.request.ask) ∙ aimed_so write
 
       again_between : (o.request.phase ≡ phase.Held) ⊎ ((is_write o.request.ask ≡ true) × (is_held o.request.phase ≡ false) × (is_changed between o.request ≡ true))
       again_between = by again_so

@@ -1,2 +1,4 @@
 mod Aging
+mod Calling
 pub mod Opening
+pub mod Moving

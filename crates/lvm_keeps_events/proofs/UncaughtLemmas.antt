@@ -34,6 +34,7 @@ use Rattle.lvm_keeps_events.proofs.EndsLemmas.CopyReadFail.{by_place, by_sources
 use Rattle.lvm_keeps_events.proofs.JudgingLemmas.DuesMarks.{among_get, IsOn, on_one, pp_same}
 use Rattle.lvm_keeps_events.proofs.Lists.{all_and, all_true_at, and_false, any_on, found_at, or_false, or_true}
 use Rattle.lvm_keeps_events.proofs.MissedLemmas.{ends_phase, first_of, none_failed, well_done}
+use Rattle.lvm_keeps_events.proofs.Usable.{unsettled, usable_may}
 use Rattle.lvm_keeps_events.specs.Uncaught.{LostIsUncaught}
 
 -- ---- small
@@ -62,18 +63,6 @@ has_source core c = by (length (sources_of core c) == 0)
     by : (b : Bool) → (if b then Some ending.NoFresh else ends_if (is_idle c.step && Rattle.std.specs.Prelude.is_none (next_source core c)) ending.SyncFailed) ≡ None → b ≡ false
     by true e = absurd (cc e)
     by false e = refl
-
-unsettled : (core : Core) (p : Pp) → is_stale core p ≡ false → is_settled core p ≡ false
-unsettled core p fresh = ap (λ b. b && calls_stale (unwrap_or core.status.in_flight core.status.committed) p) fresh
-
--- what is usable may be fresh
-usable_may : (core : Core) (p q : Pp) → not (is_pp q p) && is_usable core q ≡ true → may_be_fresh core q ≡ true
-usable_may core p q e = ap (λ b. was_fresh core q || not (b && is_wanted_stale core q)) (unsettled core q (fresh_by (not (is_pp q p)) (is_stale core q) (not (Rattle.lvm_session.specs.Judging.is_missing core q.disk)) e)) ∙ or_true (was_fresh core q)
-  where
-    fresh_by : (a s m : Bool) → a && (not s && m) ≡ true → s ≡ false
-    fresh_by true true m f = not_so f
-    fresh_by true false m f = refl
-    fresh_by false s m f = not_so f
 
 -- so may what is to be cleared
 clearing_may : (core : Core) (p : Pp) → is_wanted_stale core p ≡ false → may_be_fresh core p ≡ true

@@ -1,3 +1,5 @@
 //! What is passed on from the crates below.
 
-pub use lvm_calls::{close_copy, copy_state, open_copy, submit_request, take};
+pub use lvm_calls::{
+    close_copy, copy_state, move_fault, open_copy, open_move, submit_request, take,
+};

@@ -37,7 +37,7 @@ pub use losses_laws::{losses_join, turns_lose_by_faults, votes_go_by_faults};
 pub use marks::turns_mark;
 pub use marks_laws::{copy_ends_keep_requests, marks_keep_requests};
 pub use moves_laws::{admission_falls, admission_keeps, landing_keeps};
-pub use opens::{open_keeps, seen_open_keeps};
+pub use opens::{open_keeps, open_move_keeps, seen_open_keeps};
 pub use starts_laws::{
     copy_write_falls, copy_write_keeps, data_start_falls, data_start_keeps, status_start_falls,
     status_start_keeps,

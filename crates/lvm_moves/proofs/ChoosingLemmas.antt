@@ -15,7 +15,7 @@ use Rattle.lvm_session.specs.declared.bringing.OpenCopy.{OpenCopy}
 use Rattle.lvm_session.specs.declared.bringing.CopyEnd.{CopyEnd}
 use Rattle.lvm_session.specs.declared.bringing.CopyEnd.TheVariants as ending
 use Rattle.lvm_session.specs.State.{Core}
-use Rattle.lvm_session.specs.Judging.{group_in, is_beside_copy, is_caught, is_missing, is_running, is_stale, is_usable, place_aims, places_if}
+use Rattle.lvm_session.specs.Judging.{group_in, is_beside_copy, is_caught, is_missing, is_running, is_stale, is_usable, destination_aims, destinations_if}
 use Rattle.lvm_session.specs.Bringing.{end_of, end_by_sources, ends_if, is_cleared, is_whole}
 use Rattle.lvm_session.specs.Events.{copy_of}
 use Rattle.lvm_session.proofs.MovesLemmas.{move_of, move_partition, open_one}
@@ -86,14 +86,14 @@ module _ (device : Device) (core : Core) (may : MayChoose device core) where
       by_test true usable is = back (is_stale core p) (is_missing core p.disk) usable
       by_test false usable is = caught_there group p is
 
-  -- so is the place to which a copy moves, where a write goes there
-  pub place_there : (ask : Ask) (p : Pp) → place_aims core ask ≡ p ∷ [] → IsThere device p
+  -- so is the destination of a move, where a write goes there
+  pub place_there : (ask : Ask) (p : Pp) → destination_aims core ask ≡ p ∷ [] → IsThere device p
   place_there ask p is = by_copy core.copy refl is
     where
       group : ℕ
       group = group_in core ask
 
-      by_copy : (m : Option OpenCopy) → core.copy ≡ m → filter (is_caught core group) (option_map_or (λ (c : OpenCopy). places_if (c.moves && is_beside_copy core ask c) c) m []) ≡ p ∷ [] → IsThere device p
+      by_copy : (m : Option OpenCopy) → core.copy ≡ m → filter (is_caught core group) (option_map_or (λ (c : OpenCopy). destinations_if (c.moves && is_beside_copy core ask c) c) m []) ≡ p ∷ [] → IsThere device p
       by_copy None at e = absurd (cc e)
       by_copy (Some c) at e = by_tests c.moves (is_beside_copy core ask c) refl e
         where
@@ -104,7 +104,7 @@ module _ (device : Device) (core : Core) (may : MayChoose device core) where
               subst (IsThere device) same (placed_there c.pp (move_partition core c its) (caught_there group c.pp caught))
           by_caught moves false caught e = absurd (cc e)
 
-          by_tests : (m b : Bool) → c.moves ≡ m → filter (is_caught core group) (places_if (m && b) c) ≡ p ∷ [] → IsThere device p
+          by_tests : (m b : Bool) → c.moves ≡ m → filter (is_caught core group) (destinations_if (m && b) c) ≡ p ∷ [] → IsThere device p
           by_tests true true moves e = by_caught moves (is_caught core group c.pp) refl e
           by_tests true false moves e = absurd (cc e)
           by_tests false b moves e = absurd (cc e)

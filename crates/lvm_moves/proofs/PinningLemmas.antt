@@ -108,8 +108,8 @@ module _ (first core new : Core) (same : core ≡ first) (due : Due) (are_due : 
       subst P same (place, it, pins)
 
   -- the place is one of the table
-  pub is_place : place < length core.requests
-  is_place = let within = are_due.pinning.within in omega (arith, test, within)
+  pub is_destination : place < length core.requests
+  is_destination = let within = are_due.pinning.within in omega (arith, test, within)
 
   -- or it has none, and the session is as it was
   pub none_pins : PinsAt core new place false → (new ≡ first) × IsDue new (record due { pinning = record due.pinning { from = place + 1 } })

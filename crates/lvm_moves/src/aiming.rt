@@ -4,9 +4,9 @@ ghost use Rattle.lvm_num.specs.declared.place.Pp.{Pp};
 ghost use Rattle.lvm_num.specs.Descriptor.{is_size};
 ghost use Rattle.lvm_num.specs.Geometry.{sector_of};
 ghost use Rattle.lvm_session.specs.Fields.{core_of};
-ghost use Rattle.lvm_session.specs.Judging.{IsWithinVolume, aims, is_caught, is_usable, place_aims};
+ghost use Rattle.lvm_session.specs.Judging.{IsWithinVolume, aims, is_caught, is_usable, destination_aims};
 ghost use Rattle.lvm_session.specs.State.{state};
-ghost use Rattle.lvm_session.specs.Events.{place_target, target_at};
+ghost use Rattle.lvm_session.specs.Events.{destination_target, target_at};
 ghost use Rattle.lvm_moves.specs.Choosing.{IsThere, MayChoose};
 
 use arrayvec::ArrayVec;
@@ -43,11 +43,11 @@ pub fn target_at<S: Shelf>(session: &Session, shelf: &S, ask: &Ask, pp: Pp) -> T
     }
 }
 
-// The place to which a copy moves as a target of a request.
-fn place_target<S: Shelf>(session: &Session, shelf: &S, ask: &Ask, pp: Pp) -> Target
+// The destination of a move as a target of a request.
+fn destination_target<S: Shelf>(session: &Session, shelf: &S, ask: &Ask, pp: Pp) -> Target
     requires size { IsTrue (is_size session.now.descriptor.mib) }
     requires there { IsThere (S.device shelf.now) pp }
-    ensures { result ≡ place_target (state (S.device shelf.now) (core_of session.now)) ask.now pp }
+    ensures { result ≡ destination_target (state (S.device shelf.now) (core_of session.now)) ask.now pp }
 {
     Target {
         pp,
@@ -98,11 +98,11 @@ fn copy_aims<S: Shelf>(session: &Session, shelf: &S, ask: &Ask) -> ArrayVec<Targ
 fn aim_place<S: Shelf>(session: &Session, shelf: &S, ask: &Ask, targets: &mut ArrayVec<Target, 4>)
     requires may { MayChoose (S.device shelf.now) (core_of session.now) }
     requires room { length targets.old.items ≤ 3 }
-    ensures targets { targets.new.items ≡ targets.old.items ++ map (place_target (state (S.device shelf.now) (core_of session.now)) ask.now) (place_aims (core_of session.now) ask.now) }
+    ensures targets { targets.new.items ≡ targets.old.items ++ map (destination_target (state (S.device shelf.now) (core_of session.now)) ask.now) (destination_aims (core_of session.now) ask.now) }
     ensures few { length targets.new.items ≤ 4 }
 {
     if let Some(pp) = place_aim(session, ask) {
-        targets.push(place_target(session, shelf, ask, pp));
+        targets.push(destination_target(session, shelf, ask, pp));
     }
 }
 
@@ -111,7 +111,7 @@ fn aim_place<S: Shelf>(session: &Session, shelf: &S, ask: &Ask, targets: &mut Ar
 pub fn aims<S: Shelf>(session: &Session, shelf: &S, ask: &Ask) -> ArrayVec<Target, 4>
     requires may { MayChoose (S.device shelf.now) (core_of session.now) }
     requires within { IsWithinVolume session.now.descriptor ask.now }
-    ensures targets { result.items ≡ map (target_at (state (S.device shelf.now) (core_of session.now)) ask.now) (aims (core_of session.now) ask.now) ++ map (place_target (state (S.device shelf.now) (core_of session.now)) ask.now) (place_aims (core_of session.now) ask.now) }
+    ensures targets { result.items ≡ map (target_at (state (S.device shelf.now) (core_of session.now)) ask.now) (aims (core_of session.now) ask.now) ++ map (destination_target (state (S.device shelf.now) (core_of session.now)) ask.now) (destination_aims (core_of session.now) ask.now) }
     ensures few { length result.items ≤ 4 }
 {
     let mut targets = copy_aims(session, shelf, ask);

@@ -9,7 +9,7 @@ use arrayvec::ArrayVec;
 use lvm_sched::TargetState;
 use lvm_sched::below::Pp;
 
-/// A copy to which a write goes, or which a read may try; or the place to which a copy moves, for a write.
+/// A copy to which a write goes, or which a read may try; or the destination of a move, for a write.
 #[derive(Clone, Copy)]
 pub struct Target {
     /// The sector of its disk at which the request's first block stands.
@@ -20,7 +20,7 @@ pub struct Target {
     pub pp: Pp,
     /// Whether the copy was usable when it was chosen, and not only being brought up.
     pub usable: bool,
-    /// Whether it is the place to which a copy moves, which is no copy yet.
+    /// Whether it is the destination of a move, which is no copy yet.
     pub moves: bool,
     /// How far the transfer to it, or from it, is.
     pub state: TargetState,

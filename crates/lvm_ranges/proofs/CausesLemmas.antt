@@ -29,7 +29,7 @@ use Rattle.lvm_session.specs.Bringing.{is_out}
 use Rattle.lvm_session.specs.Calls.{copy_at, has_numbers, state_at_end, state_of_copy, is_still_aimed}
 use Rattle.lvm_session.specs.Causes.{FailedSinceOpening, HaveSourcesFailed, IsCausedAmong, faults_at_first, faults_at_opening, OwnFailedSinceOpening, own_faults}
 use Rattle.lvm_session.specs.Ends.{Ends, EndsAs}
-use Rattle.lvm_session.specs.Judging.{copies_in, is_moved}
+use Rattle.lvm_session.specs.Judging.{copies_in, is_move_done}
 use Rattle.lvm_session.specs.State.{Core, State}
 use Rattle.lvm_session.specs.Turns.{FinishMakes, Finishes, Makes, Moves, NoStart, OnMakes, TurnMakes, WasDark, WasOff, WasOn}
 use Rattle.lvm_ranges.specs.passed.Names.{counts_seen, faults_seen}
@@ -179,7 +179,7 @@ fails_still old mid new fails since = (fails.0, rose_after fails.1 (since.faults
 
 -- one that has ended as failed, and rests
 failed_end : (core : Core) (c : OpenCopy) (disk : ℕ) → state_of_copy core c ≡ copy.SyncFailed disk → c.end ≡ Some ending.SyncFailed
-failed_end core c disk e = by (is_out c.step || is_still_aimed core c) (is_moved core c) c.end refl e
+failed_end core c disk e = by (is_out c.step || is_still_aimed core c) (is_move_done core c) c.end refl e
   where
     by : (b d : Bool) (m : Option CopyEnd) → c.end ≡ m → (if b then copy.Running c.cursor else if d then copy.Done else option_map_or (state_at_end c) m (copy.Running c.cursor)) ≡ copy.SyncFailed disk → c.end ≡ Some ending.SyncFailed
     by true d m is f = absurd (cc f)

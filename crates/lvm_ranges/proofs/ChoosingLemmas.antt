@@ -20,8 +20,8 @@ use Rattle.lvm_session.specs.declared.answers.Turned.{Turned}
 use Rattle.lvm_session.specs.declared.answers.Turned.TheVariants as turned
 use Rattle.lvm_session.specs.Dark.{ended_as}
 use Rattle.lvm_session.specs.Ends.{Ends, Learns}
-use Rattle.lvm_session.specs.Events.{Chooses, ChoosesBy, copy_of, landed_as, place_target, target_at}
-use Rattle.lvm_session.specs.Judging.{aims, copies_for, is_running, is_waiting, place_aims}
+use Rattle.lvm_session.specs.Events.{Chooses, ChoosesBy, copy_of, landed_as, destination_target, target_at}
+use Rattle.lvm_session.specs.Judging.{aims, copies_for, is_running, is_waiting, destination_aims}
 use Rattle.lvm_session.specs.State.{Core, State}
 use Rattle.lvm_session.specs.Turns.{FinishMakes, Finishes, Makes, Moves, NoStart, OnMakes, TurnMakes, WasDark, WasOff, WasOn}
 use Rattle.lvm_keeps.proofs.Lists.{all_mapped, all_set}
@@ -56,11 +56,11 @@ module _ (old new : State) (Holds : ℕ → Ask → Type 0) (faults : ℕ → �
   copies_since ask [] = tt
   copies_since ask (p ∷ ps) = (low p.disk, copies_since ask ps)
 
-  places_since : (ask : Ask) (ps : List Pp) → AllByRecursion IsKept (map (place_target old ask) ps)
+  places_since : (ask : Ask) (ps : List Pp) → AllByRecursion IsKept (map (destination_target old ask) ps)
   places_since ask [] = tt
   places_since ask (p ∷ ps) = (low p.disk, places_since ask ps)
 
-  all_since : (ask : Ask) (ps qs : List Pp) → AllByRecursion IsKept (map (target_at old ask) ps ++ map (place_target old ask) qs)
+  all_since : (ask : Ask) (ps qs : List Pp) → AllByRecursion IsKept (map (target_at old ask) ps ++ map (destination_target old ask) qs)
   all_since ask [] qs = places_since ask qs
   all_since ask (p ∷ ps) qs = (low p.disk, all_since ask ps qs)
 
@@ -72,7 +72,7 @@ module _ (old new : State) (Holds : ℕ → Ask → Type 0) (faults : ℕ → �
   chosen_since ask targets order chosen = by (is_write ask) chosen
     where
       by : (b : Bool) → ChoosesBy b old ask targets order → AllByRecursion IsKept targets
-      by true its = subst (λ (ts : List Target). AllByRecursion IsKept ts) (sym its.0) (all_since ask (aims old.core ask) (place_aims old.core ask))
+      by true its = subst (λ (ts : List Target). AllByRecursion IsKept ts) (sym its.0) (all_since ask (aims old.core ask) (destination_aims old.core ask))
       by false reads = subst (λ (ts : List Target). AllByRecursion IsKept ts) (sym reads.targets_are) (order_since ask order)
 
   -- ---- the requests stay, or one changes, or all land

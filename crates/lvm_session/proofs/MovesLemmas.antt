@@ -1,4 +1,4 @@
--- What holds of the place to which a copy moves.
+-- What holds of the destination of a move.
 use Rattle.std.proofs.Common.{◌≡◌, ◌||◌, Bool, true, false, List, [], ◌∷◌, Option, Some, None, refl, sym, ◌∙◌, ap, subst, if◌then◌else◌}
 use Rattle.std.specs.Prelude.{◌&&◌, IfSome, filter}
 use Rattle.std.specs.Option.{option_map_or}
@@ -8,7 +8,7 @@ use Rattle.lvm_num.proofs.DescriptorLemmas.Partitions.{one_partition}
 use Rattle.lvm_path.specs.declared.ask.Ask.{Ask}
 use Rattle.lvm_session.specs.declared.bringing.OpenCopy.{OpenCopy}
 use Rattle.lvm_session.specs.State.{Core}
-use Rattle.lvm_session.specs.Judging.{is_beside_copy, is_moving, places_for, places_if}
+use Rattle.lvm_session.specs.Judging.{is_beside_copy, is_moving, destinations_for, destinations_if}
 use Rattle.lvm_session.specs.Marks.{is_among}
 use Rattle.lvm_session.specs.Sound.{IsCopy, IsMove, IsOfKind, IsStaleCopy}
 
@@ -65,7 +65,7 @@ among_filtered t (x ∷ xs) p among = by (t x) refl among (λ e. among_filtered 
 
 -- the places of a request, by the copy that is open
 abbrev pub places_by : Core → Ask → Option OpenCopy → List Pp
-places_by core ask copy = option_map_or (λ (c : OpenCopy). places_if (c.moves && is_beside_copy core ask c) c) copy []
+places_by core ask copy = option_map_or (λ (c : OpenCopy). destinations_if (c.moves && is_beside_copy core ask c) c) copy []
 
 -- It is the place of the copy that is open, which moves in the logical partition of the request.
 pub record IsOpenPlace (core : Core) (ask : Ask) (p : Pp) : Type 0 where
@@ -75,10 +75,10 @@ pub record IsOpenPlace (core : Core) (ask : Ask) (p : Pp) : Type 0 where
   pub beside : is_beside_copy core ask copy ≡ true
   pub is : p ≡ copy.pp
 
-pub place_open : (core : Core) (ask : Ask) (p : Pp) → is_among (places_for core ask) p ≡ true → IsOpenPlace core ask p
+pub place_open : (core : Core) (ask : Ask) (p : Pp) → is_among (destinations_for core ask) p ≡ true → IsOpenPlace core ask p
 place_open core ask p among = by_copy core.copy refl among
   where
-    by_copy : (m : Option OpenCopy) → core.copy ≡ m → is_among (option_map_or (λ (c : OpenCopy). places_if (c.moves && is_beside_copy core ask c) c) m []) p ≡ true → IsOpenPlace core ask p
+    by_copy : (m : Option OpenCopy) → core.copy ≡ m → is_among (option_map_or (λ (c : OpenCopy). destinations_if (c.moves && is_beside_copy core ask c) c) m []) p ≡ true → IsOpenPlace core ask p
     by_copy None at e = absurd (cc e)
     by_copy (Some c) at e = by_tests c.moves (is_beside_copy core ask c) refl refl e
       where
@@ -89,7 +89,7 @@ place_open core ask p among = by_copy core.copy refl among
             by true e = refl
             by false e = e
 
-        by_tests : (m b : Bool) → c.moves ≡ m → is_beside_copy core ask c ≡ b → is_among (places_if (m && b) c) p ≡ true → IsOpenPlace core ask p
+        by_tests : (m b : Bool) → c.moves ≡ m → is_beside_copy core ask c ≡ b → is_among (destinations_if (m && b) c) p ≡ true → IsOpenPlace core ask p
         by_tests true true moves beside e = record { copy = c; is_open = at; moves = moves; beside = beside; is = one_partition p c.pp (found e) }
         by_tests true false moves beside e = absurd (cc e)
         by_tests false b moves beside e = absurd (cc e)

@@ -33,10 +33,10 @@ use Rattle.lvm_session.specs.declared.answers.CopyState.{CopyState}
 use Rattle.lvm_session.specs.declared.answers.CopyState.TheVariants as copy
 use Rattle.lvm_session.specs.declared.bringing.Step.TheVariants as step
 use Rattle.lvm_session.specs.State.{Core}
-use Rattle.lvm_session.specs.Judging.{place_of, held_of, pps_of, is_moved, is_usable, is_settled, is_missing}
+use Rattle.lvm_session.specs.Judging.{place_of, held_of, pps_of, is_move_done, is_usable, is_settled, is_missing}
 use Rattle.lvm_session.specs.Marks.{is_among}
-use Rattle.lvm_session.specs.declared.answers.MoveRefusal.{MoveRefusal}
-use Rattle.lvm_session.specs.declared.answers.MoveRefusal.TheVariants as denial
+use Rattle.lvm_session.specs.declared.answers.OpenFault.{OpenFault}
+use Rattle.lvm_session.specs.declared.answers.OpenFault.TheVariants as denial
 use Rattle.lvm_session.specs.Bringing.{step_place, is_out}
 use Rattle.lvm_session.specs.Ends.{with_step}
 
@@ -200,7 +200,7 @@ abbrev pub is_in_use : Core → Pp → Bool
 is_in_use core p = is_among (partitions_used core.descriptor) p || not (option_map_or (λ (row : PvRow). nat_lt p.pp row.pps) (member_of core.descriptor p.disk) false)
 
 -- why a copy of these doesn't move to this partition
-abbrev pub move_refusal_at : Core → Pp → List Pp → Option MoveRefusal
+abbrev pub move_refusal_at : Core → Pp → List Pp → Option OpenFault
 move_refusal_at core to copies =
     if is_in_use core to then Some denial.InUse
     else if is_missing core to.disk then Some (denial.Missing to.disk)
@@ -208,25 +208,25 @@ move_refusal_at core to copies =
     else if has_numbers core then None else Some denial.HistoryFull
 
 -- why this copy of a logical partition of the volume doesn't
-abbrev pub move_refusal_in : Core → LvRow → ℕ → ℕ → Pp → Option MoveRefusal
+abbrev pub move_refusal_in : Core → LvRow → ℕ → ℕ → Pp → Option OpenFault
 move_refusal_in core row lp number to =
     if nat_lt lp row.lps && is_some (copy_at (copies_of row lp) number) then move_refusal_at core to (copies_of row lp) else Some denial.OutOfRange
 
 -- why it doesn't while the session goes on
-abbrev pub move_refusal_on : Core → ℕ → ℕ → ℕ → Pp → Option MoveRefusal
+abbrev pub move_refusal_on : Core → ℕ → ℕ → ℕ → Pp → Option OpenFault
 move_refusal_on core lv lp number to =
     if is_some core.copy then Some denial.Busy
     else option_map_or (λ (row : LvRow). move_refusal_in core row lp number to) (volume_of core.descriptor lv) (Some denial.NoVolume)
 
 -- and where the session is over
-abbrev pub move_refusal_when : Power → Option MoveRefusal → Option MoveRefusal
+abbrev pub move_refusal_when : Power → Option OpenFault → Option OpenFault
 move_refusal_when power.Dark on = Some denial.Dark
 move_refusal_when power.Off on = Some denial.Off
 move_refusal_when power.Stuck on = on
 move_refusal_when power.On on = on
 
 -- why a copy isn't moved, if it isn't (but for want of memory)
-abbrev pub move_fault : Core → ℕ → ℕ → ℕ → Pp → Option MoveRefusal
+abbrev pub move_fault : Core → ℕ → ℕ → ℕ → Pp → Option OpenFault
 move_fault core lv lp number to = move_refusal_when core.power (move_refusal_on core lv lp number to)
 
 -- the partition counts as stale since the session began, and nothing else changes
@@ -244,9 +244,9 @@ pub record OpensMove (counts : Counts) (old new : Core) (lv lp number : ℕ) (to
   pub is : new ≡ with_step (record old { requests = map aged old.requests; origin = new.origin }) (opened true to lv lp number tried (faults_of counts (copies_of row lp) to) (step_place old))
 
 -- A move is opened, or isn't, and then nothing changes.
-abbrev pub OpenMoveGives : Counts → Core → Core → ℕ → ℕ → ℕ → Pp → Result (Unit {0}) MoveRefusal → Type 0
+abbrev pub OpenMoveGives : Counts → Core → Core → ℕ → ℕ → ℕ → Pp → Result (Unit {0}) OpenFault → Type 0
 OpenMoveGives counts old new lv lp number to answer =
-    MatchOption (move_fault old lv lp number to) (((answer ≡ Ok tt) × OpensMove counts old new lv lp number to) ⊎ ((answer ≡ Err denial.Memory) × (new ≡ old))) (λ (why : MoveRefusal). (answer ≡ Err why) × (new ≡ old))
+    MatchOption (move_fault old lv lp number to) (((answer ≡ Ok tt) × OpensMove counts old new lv lp number to) ⊎ ((answer ≡ Err denial.Memory) × (new ≡ old))) (λ (why : OpenFault). (answer ≡ Err why) × (new ≡ old))
 
 -- ---- what a caller sees of it
 
@@ -270,7 +270,7 @@ is_still_aimed core c = c.moves && is_some c.end && is_aimed_at core c.pp
 abbrev pub state_of_copy : Core → OpenCopy → CopyState
 state_of_copy core c =
     if is_out c.step || is_still_aimed core c then copy.Running c.cursor
-    else if is_moved core c then copy.Done
+    else if is_move_done core c then copy.Done
     else option_map_or (state_at_end c) c.end (copy.Running c.cursor)
 
 -- how far the copy is that is open

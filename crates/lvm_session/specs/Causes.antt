@@ -50,7 +50,7 @@ was_usable core p = was_fresh core p && not (calls_missing core.origin.table p.d
 pub record IsTrueToOrigin (s : State) : Type 0 where
   pub since : (disk : ℕ) → faults_at_first s.core disk ≤ s.device.counts.faults disk
   pub votes : is_enough_to_write s.core.descriptor (votes_in s.core.descriptor (members_there s.core.descriptor s.core.origin.table)) ≡ true
-  -- its table has a row for exactly the members (else the place to which a copy moves, on a disk without one, couldn't count as stale there from the opening on)
+  -- its table has a row for exactly the members (else the destination of a move, on a disk without one, couldn't count as stale there from the opening on)
   pub rows : HasItsRows s.core.descriptor s.core.origin.table
   pub still_missing : (disk : ℕ) → calls_missing s.core.origin.table disk ≡ true → is_missing s.core disk ≡ true
   pub missing : (disk : ℕ) → is_missing s.core disk ≡ true → (calls_missing s.core.origin.table disk ≡ true) ⊎ FailedSince s disk

@@ -38,7 +38,7 @@ use Rattle.lvm_session.specs.declared.flown.Owner.TheVariants as owner
 use Rattle.lvm_session.specs.declared.bringing.OpenCopy.{OpenCopy}
 use Rattle.lvm_session.specs.declared.bringing.Step.TheVariants as step
 use Rattle.lvm_session.specs.State.{Core, State, state}
-use Rattle.lvm_session.specs.Judging.{copies_for, mode_of, policy_of, group_of, is_usable, aims, place_aims, place_of, next_for}
+use Rattle.lvm_session.specs.Judging.{copies_for, mode_of, policy_of, group_of, is_usable, aims, destination_aims, place_of, next_for}
 use Rattle.lvm_session.specs.Bringing.{with_back, next_source, block_at}
 use Rattle.lvm_session.specs.Marks.{WantsDirtyIf}
 use Rattle.lvm_session.specs.Enabled.{target_due, note_due, may_pin, may_read, may_write, is_status_due}
@@ -83,9 +83,9 @@ pub record Lands (old new : State) (place : ℕ) (how : Outcome) : Type 0 where
 abbrev pub target_at : State → Ask → Pp → Target
 target_at s ask p = record { pp = p; sector = sector_of s.core.descriptor.mib p.pp (at_of ask); usable = is_usable s.core p; moves = false; faults = s.device.counts.faults p.disk; state = stage.Waiting }
 
--- so is the place to which a copy moves
-abbrev pub place_target : State → Ask → Pp → Target
-place_target s ask p = record { pp = p; sector = sector_of s.core.descriptor.mib p.pp (at_of ask); usable = false; moves = true; faults = s.device.counts.faults p.disk; state = stage.Waiting }
+-- so is the destination of a move
+abbrev pub destination_target : State → Ask → Pp → Target
+destination_target s ask p = record { pp = p; sector = sector_of s.core.descriptor.mib p.pp (at_of ask); usable = false; moves = true; faults = s.device.counts.faults p.disk; state = stage.Waiting }
 
 -- the numbers, from 1, of the copies that are usable
 abbrev pub usable_from : Core → ℕ → List Pp → List ℕ
@@ -110,7 +110,7 @@ pub record IsReading (s : State) (ask : Ask) (order : List ℕ) (targets : List 
 
 -- what a write or a read tries, and for a read the copies' numbers in their order
 abbrev pub ChoosesBy : Bool → State → Ask → List Target → List ℕ → Type 0
-ChoosesBy true s ask targets order = (targets ≡ map (target_at s ask) (aims s.core ask) ++ map (place_target s ask) (place_aims s.core ask)) × (order ≡ [])
+ChoosesBy true s ask targets order = (targets ≡ map (target_at s ask) (aims s.core ask) ++ map (destination_target s ask) (destination_aims s.core ask)) × (order ≡ [])
 ChoosesBy false s ask targets order = IsReading s ask order targets
 
 -- so it chooses, by what it asks for

@@ -122,31 +122,31 @@ is_whole core c = not (nat_lt c.cursor (groups_of core))
 abbrev pub is_caught : Core → ℕ → Pp → Bool
 is_caught core group p = option_map_or (λ (c : OpenCopy). is_running c && is_pp p c.pp && nat_lt group c.cursor) core.copy false
 
--- ---- the place to which a copy moves
+-- ---- the destination of a move
 
 -- a copy is open that moves to another partition
 abbrev pub is_moving : Core → Bool
 is_moving core = option_map_or (λ (c : OpenCopy). c.moves) core.copy false
 
 -- the partition is one to which a copy moves, or was to move (until the move is closed)
-abbrev pub is_place : Core → Pp → Bool
-is_place core p = option_map_or (λ (c : OpenCopy). c.moves && is_pp p c.pp) core.copy false
+abbrev pub is_destination : Core → Pp → Bool
+is_destination core p = option_map_or (λ (c : OpenCopy). c.moves && is_pp p c.pp) core.copy false
 
 -- the request goes over the logical partition of a copy that is open
 abbrev pub is_beside_copy : Core → Ask → OpenCopy → Bool
 is_beside_copy core ask c = lv_of ask == c.lv && lp_of core ask == c.lp
 
 -- that place, where the move is one of the request's logical partition, if this is so of it
-abbrev pub places_if : Bool → OpenCopy → List Pp
-places_if is c = if is then c.pp ∷ [] else []
+abbrev pub destinations_if : Bool → OpenCopy → List Pp
+destinations_if is c = if is then c.pp ∷ [] else []
 
 -- of the move that is open, also once it has ended
-abbrev pub places_for : Core → Ask → List Pp
-places_for core ask = option_map_or (λ (c : OpenCopy). places_if (c.moves && is_beside_copy core ask c) c) core.copy []
+abbrev pub destinations_for : Core → Ask → List Pp
+destinations_for core ask = option_map_or (λ (c : OpenCopy). destinations_if (c.moves && is_beside_copy core ask c) c) core.copy []
 
 -- where it runs and has passed the track group
-abbrev pub place_aims : Core → Ask → List Pp
-place_aims core ask = filter (is_caught core (group_in core ask)) (places_for core ask)
+abbrev pub destination_aims : Core → Ask → List Pp
+destination_aims core ask = filter (is_caught core (group_in core ask)) (destinations_for core ask)
 
 -- ---- targets
 
@@ -167,13 +167,13 @@ pps_of targets = map (λ (t : Target). t.pp) targets
 
 -- It is a write, and its targets are no longer the copies to which it goes.
 abbrev pub is_changed : Core → Request → Bool
-is_changed core r = is_write r.ask && not (same_pps (pps_of r.targets.items) (aims core r.ask ++ place_aims core r.ask))
+is_changed core r = is_write r.ask && not (same_pps (pps_of r.targets.items) (aims core r.ask ++ destination_aims core r.ask))
 
 -- A target counts as failed where its transfer failed, or where it was usable at the admission and is wanted stale.
 abbrev pub counts_failed : Core → Target → Bool
 counts_failed core t = is_failed t.state || (t.usable && is_wanted_stale core t.pp)
 
--- a target that is sure, and no place to which a copy moves
+-- a target that is sure, and no destination of a move
 abbrev pub is_sure_at : Core → Target → Bool
 is_sure_at core t = not t.moves && is_sure core t.pp
 
@@ -218,12 +218,12 @@ abbrev pub is_under_way : Core → OpenCopy → Bool
 is_under_way core c = list_any (λ (o : Open). is_waiting o && is_past_held o.request.phase && is_beside_copy core o.request.ask c) core.requests
 
 -- All of it is copied, its place is fresh by each status, and nothing is under way on its logical partition; nothing is admitted there while it is so.
-abbrev pub is_moved : Core → OpenCopy → Bool
-is_moved core c = c.moves && is_running c && is_whole core c && stays_fresh core c.pp && not (is_under_way core c)
+abbrev pub is_move_done : Core → OpenCopy → Bool
+is_move_done core c = c.moves && is_running c && is_whole core c && stays_fresh core c.pp && not (is_under_way core c)
 
 -- so it is of the move of a copy of the request's logical partition
 abbrev pub is_held_by_move : Core → Ask → Bool
-is_held_by_move core ask = option_map_or (λ (c : OpenCopy). is_moved core c && is_beside_copy core ask c) core.copy false
+is_held_by_move core ask = option_map_or (λ (c : OpenCopy). is_move_done core c && is_beside_copy core ask c) core.copy false
 
 -- Staleness of a copy of its logical partition is wanted and not settled, or another write there is failing, or a move of one is done.
 abbrev pub is_pending : Core → Request → Bool

@@ -25,7 +25,7 @@ use Rattle.lvm_session.specs.declared.bringing.OpenCopy.{OpenCopy}
 use Rattle.lvm_session.specs.declared.bringing.Step.{Step}
 use Rattle.lvm_session.specs.declared.bringing.Step.TheVariants as step
 use Rattle.lvm_session.specs.State.{Core, is_there}
-use Rattle.lvm_session.specs.Judging.{is_waiting, copies_in, copies_for, group_of, mode_of, is_usable, is_settled, is_missing, is_changed, is_running, places_for}
+use Rattle.lvm_session.specs.Judging.{is_waiting, copies_in, copies_for, group_of, mode_of, is_usable, is_settled, is_missing, is_changed, is_running, destinations_for}
 use Rattle.lvm_session.specs.Bringing.{groups_of, is_whole}
 use Rattle.lvm_session.specs.Enabled.{is_lost, same_status}
 use Rattle.lvm_num.specs.Modes.{is_passive}
@@ -106,7 +106,7 @@ lacks_dirty core ask = is_passive (mode_of core ask) && not (calls_dirty core.st
 -- a write that hasn't started its data
 abbrev pub unbegun_left : Core → Request → ℕ
 unbegun_left core r =
-    update_work + sum_by (turns_of core) (copies_for core r.ask) + sum_by (place_turns core) (places_for core r.ask) + if_so (lacks_dirty core r.ask) update_work
+    update_work + sum_by (turns_of core) (copies_for core r.ask) + sum_by (place_turns core) (destinations_for core r.ask) + if_so (lacks_dirty core r.ask) update_work
     + if_so (not (is_held r.phase) && is_changed core r) 12 + phase_left r.phase core r
 
 -- one that has

@@ -18,7 +18,7 @@ use Rattle.lvm_path.specs.Asks.{lv_of, at_of, is_write}
 use Rattle.lvm_path.specs.Targets.{is_done, is_failed, is_begun, are_over}
 use Rattle.lvm_session.specs.declared.open.Open.{Open}
 use Rattle.lvm_session.specs.State.{Core}
-use Rattle.lvm_session.specs.Judging.{IsWithinVolume, is_waiting, copies_for, mode_of, group_in, is_caught, is_settled, is_wanted_stale, is_sure, is_sure_at, is_kept, places_for, place_aims, is_held_back, held_of, has_names, has_dirty_mark, pps_of}
+use Rattle.lvm_session.specs.Judging.{IsWithinVolume, is_waiting, copies_for, mode_of, group_in, is_caught, is_settled, is_wanted_stale, is_sure, is_sure_at, is_kept, destinations_for, destination_aims, is_held_back, held_of, has_names, has_dirty_mark, pps_of}
 pub use Rattle.lvm_session.specs.Judging.{is_past_held}
 use Rattle.lvm_session.specs.Enabled.{wants_record}
 use Rattle.lvm_session.specs.Marks.{is_among}
@@ -66,7 +66,7 @@ IsPhase phase.Landed o = ⊥
 -- a copy of what the request goes over, or the place to which a copy of that moves, which only a write has
 abbrev pub IsAimed : Bool → Core → Ask → Target → Type 0
 IsAimed false core ask t = is_among (copies_for core ask) t.pp ≡ true
-IsAimed true core ask t = (is_among (places_for core ask) t.pp ≡ true) × (is_write ask ≡ true) × (t.usable ≡ false)
+IsAimed true core ask t = (is_among (destinations_for core ask) t.pp ≡ true) × (is_write ask ≡ true) × (t.usable ≡ false)
 
 -- a copy of the request's blocks, or such a place, at its sector, on a disk that wasn't missing when the session began
 pub record IsTarget (core : Core) (ask : Ask) (t : Target) : Type 0 where
@@ -136,13 +136,13 @@ will_be_kept core r = list_any (λ (t : Target). is_done t.state && is_caught co
 abbrev pub is_wanted_due : Core → Request → Bool
 is_wanted_due core r = nat_le (count_by (is_failed_and_sure core) r.targets.items) (if is_kept core r || will_be_kept core r then 0 else 1)
 
--- A write has missed the place to which a copy moves: its transfer there failed, or one on a copy that is sure all the same, by which the write is lost.
+-- A write has missed the destination of a move: its transfer there failed, or one on a copy that is sure all the same, by which the write is lost.
 abbrev pub is_missed : Core → Request → Target → Bool
 is_missed core r t = t.moves && (is_failed t.state || list_any (is_failed_and_sure core) r.targets.items)
 
 -- then staleness of the place is wanted, unless it is stale
-abbrev pub IsMarkedPlace : Core → Request → Target → Type 0
-IsMarkedPlace core r t = is_missed core r t && is_sure core t.pp ≡ false
+abbrev pub IsMarkedDestination : Core → Request → Target → Type 0
+IsMarkedDestination core r t = is_missed core r t && is_sure core t.pp ≡ false
 
 -- A copy that a write mustn't count on: its transfer there failed, or its targets were chosen before the copy that is open was opened.
 abbrev pub may_lack : Open → Target → Bool
@@ -157,10 +157,10 @@ pub record IsJudged (core : Core) (o : Open) : Type 0 where
   pub uncaught : AllByRecursion (λ (t : Target). may_lack o t && is_caught core (group_in core o.request.ask) t.pp ≡ false) o.request.targets.items
   pub due : wants_status o.request.phase ≡ true → is_wanted_due core o.request ≡ true
   -- (a write that fails on the place ends the move by it, and waits then; nothing else would settle the staleness for which it waits)
-  pub missed : wants_status o.request.phase ≡ true → AllByRecursion (IsMarkedPlace core o.request) o.request.targets.items
+  pub missed : wants_status o.request.phase ≡ true → AllByRecursion (IsMarkedDestination core o.request) o.request.targets.items
   pub all : is_begun o.request.targets.items ≡ true → (p : Pp) → is_among (copies_for core o.request.ask) p ≡ true → is_among (pps_of o.request.targets.items) p || is_left_out core o.request.ask p ≡ true
-  -- and to the place to which a copy moves, where that has passed the track group
-  pub place : is_begun o.request.targets.items ≡ true → (p : Pp) → is_among (place_aims core o.request.ask) p ≡ true → is_among (pps_of o.request.targets.items) p ≡ true
+  -- and to the destination of a move, where that has passed the track group
+  pub place : is_begun o.request.targets.items ≡ true → (p : Pp) → is_among (destination_aims core o.request.ask) p ≡ true → is_among (pps_of o.request.targets.items) p ≡ true
 
 -- ---- all of it
 

@@ -79,7 +79,7 @@ pub enum CopyFault {
 
 /// Why a copy doesn't move, in this order.
 #[derive(Clone, Copy, PartialEq, Eq)]
-pub enum MoveRefusal {
+pub enum OpenFault {
     /// The power was cut.
     Dark,
     /// The members that aren't missing had too few votes to write.

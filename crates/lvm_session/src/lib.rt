@@ -17,7 +17,7 @@ mod orders;
 mod origin;
 mod session;
 
-pub use answers::{AskFault, CopyFault, CopyState, MoveRefusal, Taken, Turned};
+pub use answers::{AskFault, CopyFault, CopyState, OpenFault, Taken, Turned};
 pub use bringing::{CopyEnd, OpenCopy, Step};
 pub use ends::{darken, go_off};
 pub use event::Event;

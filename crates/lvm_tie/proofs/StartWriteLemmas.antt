@@ -32,7 +32,7 @@ use Rattle.lvm_path.specs.Targets.{is_begun}
 use Rattle.lvm_path.specs.Next.{next_write, next_chosen, next_data, next_read, next_in, next_of}
 use Rattle.lvm_session.specs.declared.open.Open.{Open}
 use Rattle.lvm_session.specs.State.{Core, State, is_there}
-use Rattle.lvm_session.specs.Judging.{copies_for, group_in, group_of, mode_of, is_usable, is_caught, is_missing, is_wanted_stale, is_settled, is_held_by_move, aims, place_aims, pps_of, same_pps, has_names, has_dirty_mark, place_of, facts_of, IsWithinVolume}
+use Rattle.lvm_session.specs.Judging.{copies_for, group_in, group_of, mode_of, is_usable, is_caught, is_missing, is_wanted_stale, is_settled, is_held_by_move, aims, destination_aims, pps_of, same_pps, has_names, has_dirty_mark, place_of, facts_of, IsWithinVolume}
 use Rattle.lvm_session.specs.Enabled.{target_due, target_next}
 use Rattle.lvm_invariant.specs.State.{Stage, Todo, Ready, Groups, Marks, Queued, ModelState, is_usable as sees_usable, is_settled_stale, HasPassed}
 use Rattle.lvm_invariant.specs.StartWrite.{MayStartWrite}
@@ -147,7 +147,7 @@ module _ (past : List Fact) (s : State) (tied : IsTied past s) (o : Open) (numbe
 
   -- its targets are the copies to which it must go
   aims_are : pps_of ts ≡ aims core ask
-  aims_are = same_lists (pps_of ts) (aims core ask ++ place_aims core ask) (and_not (is_write ask) (same_pps (pps_of ts) (aims core ask ++ place_aims core ask)) tells.changed writes)
+  aims_are = same_lists (pps_of ts) (aims core ask ++ destination_aims core ask) (and_not (is_write ask) (same_pps (pps_of ts) (aims core ask ++ destination_aims core ask)) tells.changed writes)
       ∙ ap (λ (ps : List Pp). aims core ask ++ filter (is_caught core (group_in core ask)) ps) (no_places past s tied ask) ∙ append-nil (aims core ask)
 
   -- a target is a copy that is usable, or being brought up and has passed the track group

@@ -33,7 +33,7 @@ use Rattle.lvm_path.specs.Asks.{lv_of, at_of, count_of}
 use Rattle.lvm_session.specs.declared.open.Open.{Open}
 use Rattle.lvm_session.specs.declared.bringing.OpenCopy.{OpenCopy}
 use Rattle.lvm_session.specs.State.{Core, State, is_there}
-use Rattle.lvm_session.specs.Judging.{copies_in, copies_for, group_in, is_usable, is_stale, is_missing, is_wanted_stale, is_settled, is_running, is_caught, is_waiting, is_beside_copy, places_for, places_if, IsWithinVolume}
+use Rattle.lvm_session.specs.Judging.{copies_in, copies_for, group_in, is_usable, is_stale, is_missing, is_wanted_stale, is_settled, is_running, is_caught, is_waiting, is_beside_copy, destinations_for, destinations_if, IsWithinVolume}
 use Rattle.lvm_session.specs.Bringing.{groups_of}
 use Rattle.lvm_invariant.specs.State.{Marks, ModelCopy, ModelState, is_usable as sees_usable, is_settled_stale, stale_in, HasPassed}
 use Rattle.lvm_crash.specs.Session.{as_marks, members_showing}
@@ -145,12 +145,12 @@ module _ (past : List Fact) (s : State) (tied : IsTied past s) where
   target_copy q t its = subst (λ (b : Bool). IsAimed b core q t) (target_stays q t its) its.copy
 
   -- and no place is aimed at
-  pub no_places : (q : Ask) → places_for core q ≡ []
+  pub no_places : (q : Ask) → destinations_for core q ≡ []
   no_places q = by core.copy refl
     where
       by : (m : Option OpenCopy) → core.copy ≡ m → places_by core q m ≡ []
       by None is = refl
-      by (Some c) is = ap (λ b. places_if (b && is_beside_copy core q c) c) (brings c is)
+      by (Some c) is = ap (λ b. destinations_if (b && is_beside_copy core q c) c) (brings c is)
 
   -- a disk that isn't missing wasn't when the session began
   pub there_first : (disk : ℕ) → is_missing core disk ≡ false → calls_missing core.origin.table disk ≡ false

@@ -26,7 +26,7 @@ use Rattle.lvm_due.specs.Might.{might_pin}
 use Rattle.lvm_due.specs.declared.span.Span.{Span}
 use Rattle.lvm_due.specs.Spans.{is_in, Spans}
 use Rattle.lvm_due.specs.declared.due.Due.{Due}
-use Rattle.lvm_due.specs.Due.{AddsMaking, Covers, IsDue, Joins, RequestMoves}
+use Rattle.lvm_due.specs.Due.{AddsMaking, Covers, IsDue, Joins, ChangesOne}
 use Rattle.lvm_due.specs.Making.{might_make_admission, might_make_data, might_make_landing, might_make_note}
 use Rattle.lvm_due.proofs.EnabledLemmas.Unmade.{admit_none, land_none, note_none, pin_none, start_none}
 use Rattle.lvm_due.proofs.JudgingLemmas.{facts_but, failing_read, fails_beside, goes_beside, is_unsettled, moved_read, note_same, pending_read, none_read}
@@ -62,7 +62,7 @@ any_set test (x ∷ os) (suc place) was is there same = ap (λ (b : Bool). test 
 
 -- ---- one has changed
 
-module _ (frees pins : Open → Bool) (old new : Core) (place : ℕ) (moves : RequestMoves frees pins old new place) where
+module _ (frees pins : Open → Bool) (old new : Core) (place : ℕ) (moves : ChangesOne frees pins old new place) where
   long_same : length new.requests ≡ length old.requests
   long_same = ap length moves.requests ∙ long_set old.requests place moves.is
 
@@ -185,7 +185,7 @@ module _ (frees pins : Open → Bool) (old new : Core) (place : ℕ) (moves : Re
 -- The place is added where the request may make an event, to landing and admission those that are freed, and to pinning those of the entries.
 pub moved_due : (frees pins : Open → Bool) (old new : Core) (place : ℕ) (was each now : Due) (freed entries : Span) → place < length new.requests → Covers frees new.requests (length new.requests) freed
     → Covers pins new.requests (length new.requests) entries → ((o : Open) → slice_get new.requests place ≡ Some o → AddsMaking o.request place was each) → Joins freed each.landing now.landing
-    → Joins freed each.admission now.admission → Joins entries each.pinning now.pinning → now.note ≡ each.note → now.data ≡ each.data → now.unfailing ≡ each.unfailing → RequestMoves frees pins old new place → IsDue old was → IsDue new now
+    → Joins freed each.admission now.admission → Joins entries each.pinning now.pinning → now.note ≡ each.note → now.data ≡ each.data → now.unfailing ≡ each.unfailing → ChangesOne frees pins old new place → IsDue old was → IsDue new now
 moved_due frees pins old new place was each now freed entries low free enter making lands admits pinned notes datas flag moves due = record {
   unfailing = λ is. none_fails frees pins old new place moves (due.unfailing (sym (flag ∙ adds.unfailing) ∙ is));
   landing = landing_keeps frees pins old new place moves was.landing now.landing (λ k o there is. lands.has k (free.has k o (slice_get_within new.requests k o there) there is))

@@ -30,7 +30,7 @@ use Rattle.lvm_session.specs.Events.{Admits, Lands, Pins, StartsData, admitted_a
 use Rattle.lvm_session.specs.Judging.{facts_of, group_of, held_of, is_failing, is_held_back, is_waiting, mode_of, next_for, place_of, policy_of}
 use Rattle.lvm_session.specs.Marks.{WantsDirtyIf, hits_copy}
 use Rattle.lvm_session.specs.Sound.{IsGoing, rows_of, waiting_rows}
-use Rattle.lvm_due.specs.Due.{any_fails, is_freed, none, overlap, waits_entry, waits_entry_if, HoldsPin, WantsNothing, NoneFailsAt, NoneFailsFor, RequestMoves, ReadsSame}
+use Rattle.lvm_due.specs.Due.{any_fails, is_freed, none, overlap, waits_entry, waits_entry_if, HoldsPin, WantsNothing, NoneFailsAt, NoneFailsFor, ChangesOne, ReadsSame}
 use Rattle.lvm_due.specs.Making.{might_make_landing}
 use Rattle.lvm_due.proofs.DueLemmas.Frames.{get_set}
 use Rattle.lvm_due.proofs.JudgingLemmas.{fails_read, failing_read}
@@ -124,7 +124,7 @@ module _ (old : State) (new : Core) (place : ℕ) (how : Outcome) (going : IsGoi
           let its = one_numbered old.core.requests k place o lands.request going.told.table.ascending there lands.there is in
           and_right (nat_lt (place_of o.request.id) (place_of r.id)) (conflicts (held_of o.request.ask) (held_of r.ask)) (ap (λ (x : Open). conflicts (held_of x.request.ask) (held_of r.ask)) its ∙ apart)
 
-  landed_moves : RequestMoves (is_freed lands.request.request.ask) (waits_entry_if pinned) old.core new place
+  landed_moves : ChangesOne (is_freed lands.request.request.ask) (waits_entry_if pinned) old.core new place
   landed_moves = record {
     reads = landed_reads;
     notes = ap (λ (c : Core). c.cache.notes) landed_is ∙ unpin_notes lands.request.request.pinned old.core.cache (lv_of lands.request.request.ask) (group_of lands.request.request.ask);
@@ -142,10 +142,10 @@ module _ (old : State) (new : Core) (place : ℕ) (how : Outcome) (going : IsGoi
   }
 
   -- by what stands at the place now
-  pub landing_moves : (o : Open) → slice_get new.requests place ≡ Some o → RequestMoves (is_freed o.request.ask) (waits_entry_if pinned) old.core new place
+  pub landing_moves : (o : Open) → slice_get new.requests place ≡ Some o → ChangesOne (is_freed o.request.ask) (waits_entry_if pinned) old.core new place
   landing_moves o there =
       let its : o ≡ landed_as how lands.request = cc (there, landed_there) in
-      subst (λ (ask : Ask). RequestMoves (is_freed ask) (waits_entry_if pinned) old.core new place) (sym (ap (λ (x : Open). x.request.ask) its)) landed_moves
+      subst (λ (ask : Ask). ChangesOne (is_freed ask) (waits_entry_if pinned) old.core new place) (sym (ap (λ (x : Open). x.request.ask) its)) landed_moves
 
 -- it lands once
 pub landed_might_not : (old : State) (new : Core) (place : ℕ) (how : Outcome) → Lands old (state old.device new) place how → (o : Open) → slice_get new.requests place ≡ Some o → might_make_landing o.request ≡ false
@@ -157,7 +157,7 @@ landed_might_not old new place how lands o there =
 -- ---- Admit
 
 pub admission_moves : (old : State) (new : Core) (place : ℕ) → Admits old (state old.device new) place → NoneFailsAt old.core place → NoneFailsAt new place → (pinned : Bool) → HoldsPin old.core place pinned
-    → RequestMoves none (waits_entry_if pinned) old.core new place
+    → ChangesOne none (waits_entry_if pinned) old.core new place
 admission_moves old new place admits was is pinned holds = record {
   reads = calm_reads old.core new (ap (λ (c : Core). c.descriptor) core_is) (dirty_commits (makes_dirty old.core admits.request.request.ask admits.targets) (lv_of admits.request.request.ask) old.core.status new.status admits.dirty) was.calm is.calm;
   notes = ap (λ (c : Core). c.cache.notes) core_is ∙ unpin_notes admits.request.request.pinned old.core.cache (lv_of admits.request.request.ask) (group_of admits.request.request.ask);
@@ -187,7 +187,7 @@ admission_moves old new place admits was is pinned holds = record {
 
 -- ---- Pin
 
-pub pin_moves : (old : State) (new : Core) (place : ℕ) → Pins old (state old.device new) place → RequestMoves none waits_entry old.core new place
+pub pin_moves : (old : State) (new : Core) (place : ℕ) → Pins old (state old.device new) place → ChangesOne none waits_entry old.core new place
 pin_moves old new place pins = record {
   reads = reads;
   notes = ap (λ (c : Core). c.cache.notes) core_is ∙ pin_notes (are_all_pinned old.core.cache.entries (lv_of r.ask) (group_of r.ask)) old.core.cache (lv_of r.ask) (group_of r.ask);
@@ -223,7 +223,7 @@ pin_moves old new place pins = record {
 
 -- ---- StartData
 
-start_moves : (old new : State) (place target : ℕ) → StartsData old new place target → ((o : Open) → slice_get new.core.requests place ≡ Some o → any_fails new.core o ≡ false) → RequestMoves none none old.core new.core place
+start_moves : (old new : State) (place target : ℕ) → StartsData old new place target → ((o : Open) → slice_get new.core.requests place ≡ Some o → any_fails new.core o ≡ false) → ChangesOne none none old.core new.core place
 start_moves old new place target starts fine = record {
   reads = reads;
   notes = ap (λ (c : Core). c.cache.notes) core_is;
@@ -272,9 +272,9 @@ start_moves old new place target starts fine = record {
         (sym fine_now ∙ fails_read old.core new.core reads one
         ∙ start_fails old.core was.request.targets.items target starts.its.aim starts.its.aim_is (start_waits (facts_of old.core was.request) was.request target starts.its.aim starts.its.aim_is writes starts.its.due)))
 
-pub start_moves_now : (old new : State) (now : Core) (place target : ℕ) → new.core ≡ now → StartsData old new place target → ((o : Open) → slice_get now.requests place ≡ Some o → any_fails now o ≡ false) → RequestMoves none none old.core now place
+pub start_moves_now : (old new : State) (now : Core) (place target : ℕ) → new.core ≡ now → StartsData old new place target → ((o : Open) → slice_get now.requests place ≡ Some o → any_fails now o ≡ false) → ChangesOne none none old.core now place
 start_moves_now old new now place target same starts fine =
-    subst (λ (c : Core). RequestMoves none none old.core c place) same
+    subst (λ (c : Core). ChangesOne none none old.core c place) same
     (start_moves old new place target starts (subst (λ (c : Core). (o : Open) → slice_get c.requests place ≡ Some o → any_fails c o ≡ false) (sym same) fine))
 
 -- ---- the end of a transfer
@@ -299,7 +299,7 @@ module _ (old new : Core) (at id target : ℕ) (buf : Buffer) (going : IsGoing o
   ended_requests : old.copy ≡ None → new.requests ≡ slice_set old.requests learns.place ended_now
   ended_requests no_copy = ap (λ (c : Core). c.requests) (ended_is no_copy)
 
-  ended_moves : NoneFailsAt old learns.place → NoneFailsAt new learns.place → RequestMoves none none old new learns.place
+  ended_moves : NoneFailsAt old learns.place → NoneFailsAt new learns.place → ChangesOne none none old new learns.place
   ended_moves was is = record {
     reads = calm_reads old new (ap (λ (c : Core). c.descriptor) (ended_is was.calm.copy)) ended_commits was.calm is.calm;
     notes = ap (λ (c : Core). c.cache.notes) (ended_is was.calm.copy);
@@ -317,8 +317,8 @@ module _ (old new : Core) (at id target : ℕ) (buf : Buffer) (going : IsGoing o
   }
 
   -- at the place at which the request of the number stands now
-  pub end_moves : (place : ℕ) → position (has_number id) new.requests ≡ Some place → NoneFailsFor old (owner.Data id target) → NoneFailsAt new place → RequestMoves none none old new place
-  end_moves place found was is = subst (RequestMoves none none old new) same (ended_moves quiet_was (subst (NoneFailsAt new) (sym same) is))
+  pub end_moves : (place : ℕ) → position (has_number id) new.requests ≡ Some place → NoneFailsFor old (owner.Data id target) → NoneFailsAt new place → ChangesOne none none old new place
+  end_moves place found was is = subst (ChangesOne none none old new) same (ended_moves quiet_was (subst (NoneFailsAt new) (sym same) is))
     where
       here : position (has_number id) old.requests ≡ Some learns.place
       here = position_is old.requests learns.place ended_was id going.told.table.ascending learns.its.there learns.own

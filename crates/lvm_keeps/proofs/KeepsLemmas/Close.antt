@@ -25,7 +25,7 @@ use Rattle.lvm_session.specs.declared.open.Open.{Open}
 use Rattle.lvm_session.specs.declared.open.Power.{Power}
 use Rattle.lvm_session.specs.declared.open.Power.TheVariants as power
 use Rattle.lvm_session.specs.State.{Core, State, state}
-use Rattle.lvm_session.specs.Judging.{is_beside_copy, stays_fresh, is_moved, is_past_held, is_running, is_under_way, is_waiting, is_wanted_stale, places_for, pps_of}
+use Rattle.lvm_session.specs.Judging.{is_beside_copy, stays_fresh, is_move_done, is_past_held, is_running, is_under_way, is_waiting, is_wanted_stale, destinations_for, pps_of}
 use Rattle.lvm_session.specs.Bringing.{hand_of, has_row, is_idle, is_out, is_whole, step_row}
 use Rattle.lvm_session.specs.Marks.{is_among}
 use Rattle.lvm_session.specs.declared.answers.CopyState.{CopyState}
@@ -45,20 +45,20 @@ use Rattle.lvm_session.specs.Dark.{hand_of_copy}
 pub record IsStill (core : Core) (c : OpenCopy) : Type 0 where
   pub out : is_out c.step ≡ false
   pub unaimed : is_still_aimed core c ≡ false
-  pub over : (is_running c ≡ false) ⊎ (is_moved core c ≡ true)
+  pub over : (is_running c ≡ false) ⊎ (is_move_done core c ≡ true)
 
 -- so it is of one that isn't running
 is_still : (core : Core) (c : OpenCopy) → ((cursor : ℕ) → state_of_copy core c ≡ copy.Running cursor → ⊥) → IsStill core c
-is_still core c ended = by (is_out c.step) (is_still_aimed core c) (is_moved core c) c.end refl refl refl refl
+is_still core c ended = by (is_out c.step) (is_still_aimed core c) (is_move_done core c) c.end refl refl refl refl
   where
     told : Bool → Bool → Bool → Option CopyEnd → CopyState
     told out aimed moved end = if out || aimed then copy.Running c.cursor else if moved then copy.Done else option_map_or (state_at_end c) end (copy.Running c.cursor)
 
-    shown : (out aimed moved : Bool) (end : Option CopyEnd) → is_out c.step ≡ out → is_still_aimed core c ≡ aimed → is_moved core c ≡ moved → c.end ≡ end → state_of_copy core c ≡ told out aimed moved end
+    shown : (out aimed moved : Bool) (end : Option CopyEnd) → is_out c.step ≡ out → is_still_aimed core c ≡ aimed → is_move_done core c ≡ moved → c.end ≡ end → state_of_copy core c ≡ told out aimed moved end
     shown out aimed moved end a b d e =
-        ap (λ x. told x (is_still_aimed core c) (is_moved core c) c.end) a ∙ ap (λ x. told out x (is_moved core c) c.end) b ∙ ap (λ x. told out aimed x c.end) d ∙ ap (told out aimed moved) e
+        ap (λ x. told x (is_still_aimed core c) (is_move_done core c) c.end) a ∙ ap (λ x. told out x (is_move_done core c) c.end) b ∙ ap (λ x. told out aimed x c.end) d ∙ ap (told out aimed moved) e
 
-    by : (out aimed moved : Bool) (end : Option CopyEnd) → is_out c.step ≡ out → is_still_aimed core c ≡ aimed → is_moved core c ≡ moved → c.end ≡ end → IsStill core c
+    by : (out aimed moved : Bool) (end : Option CopyEnd) → is_out c.step ≡ out → is_still_aimed core c ≡ aimed → is_move_done core c ≡ moved → c.end ≡ end → IsStill core c
     by true aimed moved end a b d e = absurd (ended c.cursor (shown true aimed moved end a b d e))
     by false true moved end a b d e = absurd (ended c.cursor (shown false true moved end a b d e))
     by false false true end a b d e = record { out = a; unaimed = b; over = inr d }
@@ -72,7 +72,7 @@ record IsDoneMove (core : Core) (c : OpenCopy) : Type 0 where
   pub clear : stays_fresh core c.pp ≡ true
   pub unused : is_under_way core c ≡ false
 
-done_move : (core : Core) (c : OpenCopy) → is_moved core c ≡ true → IsDoneMove core c
+done_move : (core : Core) (c : OpenCopy) → is_move_done core c ≡ true → IsDoneMove core c
 done_move core c is =
     let all = both (c.moves && is_running c && is_whole core c && stays_fresh core c.pp) (not (is_under_way core c)) is in
     let most = both (c.moves && is_running c && is_whole core c) (stays_fresh core c.pp) all.0 in
@@ -93,13 +93,13 @@ module _ (core : Core) (c : OpenCopy) (is : core.copy ≡ Some c) where
   IsFree x = is_waiting x ≡ true → AllByRecursion (λ (t : Target). t.moves ≡ false) x.request.targets.items
 
   -- a target that is a place is that of the copy
-  its_place : (ask : Ask) (p : Pp) → is_among (places_for core ask) p ≡ true → (c.moves ≡ true) × (is_beside_copy core ask c ≡ true) × (p ≡ c.pp)
+  its_place : (ask : Ask) (p : Pp) → is_among (destinations_for core ask) p ≡ true → (c.moves ≡ true) × (is_beside_copy core ask c ≡ true) × (p ≡ c.pp)
   its_place ask p among =
       let at = place_open core ask p among in
       let same : at.copy ≡ c = cc (sym at.is_open ∙ is) in
       (ap (λ (k : OpenCopy). k.moves) (sym same) ∙ at.moves, ap (is_beside_copy core ask) (sym same) ∙ at.beside, at.is ∙ ap (λ (k : OpenCopy). k.pp) same)
 
-  module _ (ask : Ask) (none : (p : Pp) → is_among (places_for core ask) p ≡ true → ⊥) where
+  module _ (ask : Ask) (none : (p : Pp) → is_among (destinations_for core ask) p ≡ true → ⊥) where
     none_moves : (ts : List Target) → AllByRecursion (IsTarget core ask) ts → AllByRecursion (λ (t : Target). t.moves ≡ false) ts
     none_moves [] aims = tt
     none_moves (t ∷ ts) aims = (by t.moves refl aims.0.copy, none_moves ts aims.1)
@@ -130,7 +130,7 @@ module _ (core : Core) (c : OpenCopy) (is : core.copy ≡ Some c) where
       let parts = or_parts (is_waiting x && is_past_held x.request.phase && is_beside_copy core x.request.ask c) (list_any (λ (o : Open). is_waiting o && is_past_held o.request.phase && is_beside_copy core o.request.ask c) xs) none in
       (λ waits. of_phase x.request.phase refl waits parts.0 (all.0.waits waits).shape.phase_is (all.0.waits waits).shape.targets, free_unused xs parts.1 all.1)
     where
-      beside_none : (p : Phase) → is_past_held p ≡ true → is_waiting x ≡ true → is_waiting x && is_past_held p && is_beside_copy core x.request.ask c ≡ false → (q : Pp) → is_among (places_for core x.request.ask) q ≡ true → ⊥
+      beside_none : (p : Phase) → is_past_held p ≡ true → is_waiting x ≡ true → is_waiting x && is_past_held p && is_beside_copy core x.request.ask c ≡ false → (q : Pp) → is_among (destinations_for core x.request.ask) q ≡ true → ⊥
       beside_none p past waits unused q among =
           not_so (sym unused ∙ (ap (λ b. b && is_past_held p && is_beside_copy core x.request.ask c) waits ∙ ap (λ b. b && is_beside_copy core x.request.ask c) past ∙ (its_place x.request.ask q among).1))
 
@@ -151,7 +151,7 @@ module _ (core : Core) (c : OpenCopy) (is : core.copy ≡ Some c) where
   free_ones : IsStill core c → AllByRecursion (IsOpenOne core) core.requests → AllByRecursion IsFree core.requests
   free_ones still all = by c.moves refl still.over
     where
-      by : (b : Bool) → c.moves ≡ b → (is_running c ≡ false) ⊎ (is_moved core c ≡ true) → AllByRecursion IsFree core.requests
+      by : (b : Bool) → c.moves ≡ b → (is_running c ≡ false) ⊎ (is_move_done core c ≡ true) → AllByRecursion IsFree core.requests
       by false stays over = free_still stays core.requests all
       by true moves (inl ended) = free_unaimed core.requests (aimed c.end (sym (ap (λ b. b && is_some c.end && is_aimed_at core c.pp) moves) ∙ still.unaimed) ended) all
         where
@@ -227,7 +227,7 @@ module _ (s : State) (sound : IsSound s) (c : OpenCopy) (is : s.core.copy ≡ So
         and_false true = refl
         and_false false = refl
 
-        by : (is_running c ≡ false) ⊎ (is_moved core c ≡ true) → is_running c && not (is_whole core c) ≡ false
+        by : (is_running c ≡ false) ⊎ (is_move_done core c ≡ true) → is_running c && not (is_whole core c) ≡ false
         by (inl ended) = ap (λ b. b && not (is_whole core c)) ended
         by (inr done) = ap (λ b. is_running c && not b) (done_move core c done).whole ∙ and_false (is_running c)
 
@@ -235,7 +235,7 @@ module _ (s : State) (sound : IsSound s) (c : OpenCopy) (is : s.core.copy ≡ So
     cleared : (p : Pp) → is_held_stale core p ≡ true → is_clearing core p ≡ true → ⊥
     cleared p held clearing = by still.over (sym (ap (λ m. option_map_or (λ (k : OpenCopy). is_running k && is_whole core k && is_pp p k.pp) m false) is) ∙ clearing)
       where
-        by : (is_running c ≡ false) ⊎ (is_moved core c ≡ true) → is_running c && is_whole core c && is_pp p c.pp ≡ true → ⊥
+        by : (is_running c ≡ false) ⊎ (is_move_done core c ≡ true) → is_running c && is_whole core c && is_pp p c.pp ≡ true → ⊥
         by (inl ended) all = not_so (sym ended ∙ (both (is_running c) (is_whole core c) (both (is_running c && is_whole core c) (is_pp p c.pp) all).0).0)
         by (inr done) all =
             let clear = (done_move core c done).clear in
@@ -322,7 +322,7 @@ by_copy s sound (Some c) is event = keeps s sound c is still (none s.core.power 
     still : IsStill s.core c
     still = is_still s.core c (λ cursor e. event.ended cursor (ap (λ m. option_map_or (state_of_copy s.core) m copy.Closed) is ∙ e))
 
-    rests : IsCopy s.core c → (is_running c ≡ false) ⊎ (is_moved s.core c ≡ true) → hand_of c.step ≡ None
+    rests : IsCopy s.core c → (is_running c ≡ false) ⊎ (is_move_done s.core c ≡ true) → hand_of c.step ≡ None
     rests its (inl ended) = its.hand ended
     rests its (inr done) = idle_hand c.step (idle (is_idle c.step) refl)
       where

@@ -29,7 +29,7 @@ use Rattle.lvm_session.specs.declared.bringing.OpenCopy.{OpenCopy}
 use Rattle.lvm_session.specs.declared.open.Open.{Open}
 use Rattle.lvm_session.specs.declared.open.Power.TheVariants as power
 use Rattle.lvm_session.specs.State.{Core, State}
-use Rattle.lvm_session.specs.Judging.{aims, copies_for, facts_of, group_in, is_caught, is_held_by_move, is_missing, is_running, is_settled, is_stale, is_usable, is_wanted_stale, lp_of, place_aims, pps_of, same_pps}
+use Rattle.lvm_session.specs.Judging.{aims, copies_for, facts_of, group_in, is_caught, is_held_by_move, is_missing, is_running, is_settled, is_stale, is_usable, is_wanted_stale, lp_of, destination_aims, pps_of, same_pps}
 use Rattle.lvm_session.specs.Bringing.{groups_of, is_whole}
 use Rattle.lvm_session.specs.Enabled.{target_due, target_next}
 use Rattle.lvm_session.specs.Marks.{can_replace, is_among, is_entailed_in, is_left_behind}
@@ -148,20 +148,20 @@ module _ (s : State) (place target : ℕ) (o : Open) (sound : IsSound s) (on : s
   clear = starts_clear o.request.phase (facts_of core o.request) o.request target write begun due
 
   -- its targets are those that it should have
-  aimed : (p : Pp) → is_among (pps_of o.request.targets.items) p ≡ is_among (aims core o.request.ask) p || is_among (place_aims core o.request.ask) p
+  aimed : (p : Pp) → is_among (pps_of o.request.targets.items) p ≡ is_among (aims core o.request.ask) p || is_among (destination_aims core o.request.ask) p
   aimed p =
       among_same (pps_of o.request.targets.items) all p (same (same_pps (pps_of o.request.targets.items) all) (sym (ap (λ b. b && not (same_pps (pps_of o.request.targets.items) all)) write) ∙ clear.changed))
-      ∙ list_any-append (is_pp p) (aims core o.request.ask) (place_aims core o.request.ask)
+      ∙ list_any-append (is_pp p) (aims core o.request.ask) (destination_aims core o.request.ask)
     where
       all : List Pp
-      all = aims core o.request.ask ++ place_aims core o.request.ask
+      all = aims core o.request.ask ++ destination_aims core o.request.ask
 
       same : (b : Bool) → not b ≡ false → b ≡ true
       same true e = refl
       same false e = not_so (sym e)
 
-  -- also the place to which a copy moves, where that has passed its track group
-  pub goes_along : (p : Pp) → is_among (place_aims core o.request.ask) p ≡ true → is_among (pps_of o.request.targets.items) p ≡ true
+  -- also the destination of a move, where that has passed its track group
+  pub goes_along : (p : Pp) → is_among (destination_aims core o.request.ask) p ≡ true → is_among (pps_of o.request.targets.items) p ≡ true
   goes_along p along = aimed p ∙ ap (λ b. is_among (aims core o.request.ask) p || b) along ∙ or_true (is_among (aims core o.request.ask) p)
     where
       or_true : (a : Bool) → a || true ≡ true
@@ -279,7 +279,7 @@ module _ (s : State) (place target : ℕ) (o : Open) (sound : IsSound s) (on : s
         or_right false b e = e
 
         by : (b : Bool) → is_usable core p || is_caught core (group_in core o.request.ask) p ≡ b → is_among (pps_of o.request.targets.items) p || is_left_out core o.request.ask p ≡ true
-        by true is = ap (λ b. b || is_left_out core o.request.ask p) (aimed p ∙ ap (λ b. b || is_among (place_aims core o.request.ask) p) (among_filter (λ (q : Pp). is_usable core q || is_caught core (group_in core o.request.ask) q) copies p is among))
+        by true is = ap (λ b. b || is_left_out core o.request.ask p) (aimed p ∙ ap (λ b. b || is_among (destination_aims core o.request.ask) p) (among_filter (λ (q : Pp). is_usable core q || is_caught core (group_in core o.request.ask) q) copies p is among))
         by false is =
             let parts = or_parts (is_usable core p) (is_caught core (group_in core o.request.ask) p) is in
             let stale = wanted parts.0 parts.1 in

@@ -18,7 +18,7 @@ use Rattle.lvm_path.specs.declared.request.Phase.TheVariants as phase
 use Rattle.lvm_path.specs.declared.request.Request.{Request}
 use Rattle.lvm_status.specs.declared.writes.Writes.{Writes}
 use Rattle.lvm_session.specs.Bringing.{groups_of, is_idle, is_whole}
-use Rattle.lvm_session.specs.Judging.{aims, copies_for, group_in, group_of, is_beside_copy, is_caught, is_changed, is_missing, is_running, is_settled, is_stale, is_usable, is_waiting, mode_of, place_aims, places_for, places_if, pps_of, same_pps}
+use Rattle.lvm_session.specs.Judging.{aims, copies_for, group_in, group_of, is_beside_copy, is_caught, is_changed, is_missing, is_running, is_settled, is_stale, is_usable, is_waiting, mode_of, destination_aims, destinations_for, destinations_if, pps_of, same_pps}
 use Rattle.lvm_session.specs.State.{Core, is_there, State}
 use Rattle.lvm_session.specs.declared.bringing.OpenCopy.{OpenCopy}
 use Rattle.lvm_session.specs.declared.bringing.Step.{Step}
@@ -103,15 +103,15 @@ module _ (at : ℕ) (old new : State) (sound : IsSound old) (on : old.core.power
       ∙ ap (λ (b : Bool). if is_missing core p.disk then 0 else if b then (if is_brought_up after p then 34 else 22) else if is_brought_up after p then 46 else if is_settled core p then 0 else 34) (usable_so p)
       ∙ ap (λ (b : Bool). if is_missing core p.disk then 0 else if is_usable core p then (if b then 34 else 22) else if b then 46 else if is_settled core p then 0 else 34) (brought_so p)
 
-  -- the place to which a copy moves is the same
-  places_so : (ask : Ask) → places_for after ask ≡ places_for core ask
-  places_so ask = sym (of_copy (λ (k : OpenCopy). places_if (k.moves && is_beside_copy core ask k) k) [])
+  -- the destination of a move is the same
+  places_so : (ask : Ask) → destinations_for after ask ≡ destinations_for core ask
+  places_so ask = sym (of_copy (λ (k : OpenCopy). destinations_if (k.moves && is_beside_copy core ask k) k) [])
 
   place_turns_so : (p : Pp) → place_turns after p ≡ place_turns core p
   place_turns_so p = ap (λ b. if not b && is_brought_up after p then 46 else 0) (missing_so p.disk) ∙ ap (λ b. if not (is_missing core p.disk) && b then 46 else 0) (brought_so p)
 
-  places_turns_so : (ask : Ask) → sum_by (place_turns after) (places_for after ask) ≡ sum_by (place_turns core) (places_for core ask)
-  places_turns_so ask = ap (sum_by (place_turns after)) (places_so ask) ∙ sum_same (place_turns core) (place_turns after) place_turns_so (places_for core ask)
+  places_turns_so : (ask : Ask) → sum_by (place_turns after) (destinations_for after ask) ≡ sum_by (place_turns core) (destinations_for core ask)
+  places_turns_so ask = ap (sum_by (place_turns after)) (places_so ask) ∙ sum_same (place_turns core) (place_turns after) place_turns_so (destinations_for core ask)
 
   phase_so : (p : Phase) (r : Request) → phase_left p after r ≡ phase_left p core r
   phase_so phase.Held r = refl
@@ -138,19 +138,19 @@ module _ (at : ℕ) (old new : State) (sound : IsSound old) (on : old.core.power
         by_each (p ∷ ps) inside = (one p (inside p (ap (λ b. b || is_among ps p) (own_pp p))), by_each ps (λ q e. inside q (ap (λ b. is_pp q p || b) e ∙ or_true (is_pp q p))))
 
     -- and to the same place, if a copy moves
-    place_aims_so : is_past_held o.request.phase ≡ true → place_aims after o.request.ask ≡ place_aims core o.request.ask
+    place_aims_so : is_past_held o.request.phase ≡ true → destination_aims after o.request.ask ≡ destination_aims core o.request.ask
     place_aims_so past = ap (filter (is_caught after (group_in core o.request.ask))) (places_so o.request.ask)
-        ∙ filter_same (is_caught after (group_in core o.request.ask)) (is_caught core (group_in core o.request.ask)) (places_for core o.request.ask) (by_each (places_for core o.request.ask) (λ p among. among))
+        ∙ filter_same (is_caught after (group_in core o.request.ask)) (is_caught core (group_in core o.request.ask)) (destinations_for core o.request.ask) (by_each (destinations_for core o.request.ask) (λ p among. among))
       where
-        by_each : (ps : List Pp) → ((p : Pp) → is_among ps p ≡ true → is_among (places_for core o.request.ask) p ≡ true) → AllByRecursion (λ (p : Pp). is_caught after (group_in core o.request.ask) p ≡ is_caught core (group_in core o.request.ask) p) ps
+        by_each : (ps : List Pp) → ((p : Pp) → is_among ps p ≡ true → is_among (destinations_for core o.request.ask) p ≡ true) → AllByRecursion (λ (p : Pp). is_caught after (group_in core o.request.ask) p ≡ is_caught core (group_in core o.request.ask) p) ps
         by_each [] inside = tt
         by_each (p ∷ ps) inside = (
           caught_place old sound on its_copy event.is_open event.runs event.writes at event.row event.returns.there event.own (ended at old new sound on event).flight (out at old new sound on event).there event.buf (ended at old new sound on event).rest.number new.device.media (tried at old new sound on event) event.passes.moves.tried k o o_there it waits write past p (inside p (ap (λ b. b || is_among ps p) (own_pp p))),
           by_each ps (λ q e. inside q (ap (λ b. is_pp q p || b) e ∙ or_true (is_pp q p))),
         )
 
-    goes_so : is_past_held o.request.phase ≡ true → aims after o.request.ask ++ place_aims after o.request.ask ≡ aims core o.request.ask ++ place_aims core o.request.ask
-    goes_so past = ap (λ (ps : List Pp). ps ++ place_aims after o.request.ask) (aims_so past) ∙ ap (λ (ps : List Pp). aims core o.request.ask ++ ps) (place_aims_so past)
+    goes_so : is_past_held o.request.phase ≡ true → aims after o.request.ask ++ destination_aims after o.request.ask ≡ aims core o.request.ask ++ destination_aims core o.request.ask
+    goes_so past = ap (λ (ps : List Pp). ps ++ destination_aims after o.request.ask) (aims_so past) ∙ ap (λ (ps : List Pp). aims core o.request.ask ++ ps) (place_aims_so past)
 
     changed_so : (p : Phase) → o.request.phase ≡ p → if_so (not (is_held p) && is_changed after o.request) 12 ≡ if_so (not (is_held p) && is_changed core o.request) 12
     changed_so phase.Held e = refl

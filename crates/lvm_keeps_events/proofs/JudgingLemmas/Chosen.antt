@@ -38,9 +38,9 @@ use Rattle.lvm_session.specs.declared.bringing.OpenCopy.{OpenCopy}
 use Rattle.lvm_session.specs.declared.open.Open.{Open}
 use Rattle.lvm_session.specs.declared.open.Power.TheVariants as power
 use Rattle.lvm_session.specs.State.{Core, State}
-use Rattle.lvm_session.specs.Judging.{aims, counts_failed, copies_for, group_in, is_beside, is_beside_copy, is_caught, is_failing, is_held_by_move, is_missing, is_pending, is_running, is_settled, is_stale, is_usable, is_waiting, is_wanted_stale, lp_of, place_aims, places_for, places_if, policy_of}
+use Rattle.lvm_session.specs.Judging.{aims, counts_failed, copies_for, group_in, is_beside, is_beside_copy, is_caught, is_failing, is_held_by_move, is_missing, is_pending, is_running, is_settled, is_stale, is_usable, is_waiting, is_wanted_stale, lp_of, destination_aims, destinations_for, destinations_if, policy_of}
 use Rattle.lvm_session.specs.Bringing.{end_by_sources, end_of, ends_if, is_cleared, is_whole}
-use Rattle.lvm_session.specs.Events.{Chooses, ChoosesBy, copy_of, loads_of, place_target, target_at, usable_from}
+use Rattle.lvm_session.specs.Events.{Chooses, ChoosesBy, copy_of, loads_of, destination_target, target_at, usable_from}
 use Rattle.lvm_session.specs.Marks.{is_among}
 use Rattle.lvm_session.specs.Requests.{IsAimed, IsLaid, IsOpenOne, IsTarget}
 use Rattle.lvm_session.specs.Causes.{TargetHasFailed, IsCaused, fails_on, is_blamed, is_held_stale}
@@ -372,7 +372,7 @@ module _ (s : State) (sound : IsSound s) (on : s.core.power ≡ power.On) (place
             of true b rest f = refl
             of false b rest f = ap (λ c. (t.usable && is_wanted_stale core t.pp) || c) (rest f) ∙ or_true (t.usable && is_wanted_stale core t.pp)
 
-        -- (a target here is no place to which a copy moves)
+        -- (a target here is no destination of a move)
         its_copy : (q : Ask) (ts : List Target) → AllByRecursion (IsTarget core q) ts → list_any (λ (t : Target). is_failed t.state && is_pp p t.pp) ts ≡ true → is_among (copies_for core q) p ≡ true
         its_copy q [] all e = not_so e
         its_copy q (t ∷ ts) all e = of (is_failed t.state) (is_pp p t.pp) refl (λ f. its_copy q ts all.1 f) e
@@ -461,16 +461,16 @@ module _ (s : State) (sound : IsSound s) (on : s.core.power ≡ power.On) (place
       (let less = few_filter (λ (p : Pp). is_usable core p || is_caught core (group_in core ask) p) copies in let low = few in omega (arith, less, low))
       (any_filter (λ (p : Pp). is_usable core p || is_caught core (group_in core ask) p) (is_usable core) (λ p can. ap (λ b. b || is_caught core (group_in core ask) p) can) copies usable)
 
-  -- ---- the place to which a copy moves
+  -- ---- the destination of a move
 
   -- there is none that has passed the track group, or one
   abbrev IsOnePlace : List Pp → List Pp → Type 0
   IsOnePlace places goes = (goes ≡ []) ⊎ ((p : Pp) × (goes ≡ p ∷ []) × (is_among places p ≡ true) × (is_caught core (group_in core ask) p ≡ true))
 
-  one_place : IsOnePlace (places_for core ask) (place_aims core ask)
+  one_place : IsOnePlace (destinations_for core ask) (destination_aims core ask)
   one_place = by core.copy
     where
-      of : (c : OpenCopy) (b k : Bool) → is_caught core (group_in core ask) c.pp ≡ k → IsOnePlace (places_if b c) (filter (is_caught core (group_in core ask)) (places_if b c))
+      of : (c : OpenCopy) (b k : Bool) → is_caught core (group_in core ask) c.pp ≡ k → IsOnePlace (destinations_if b c) (filter (is_caught core (group_in core ask)) (destinations_if b c))
       of c false k e = inl refl
       of c true false e = inl (ap (λ (x : Bool). if x then c.pp ∷ [] else []) e)
       of c true true e = inr (c.pp, ap (λ (x : Bool). if x then c.pp ∷ [] else []) e, ap (λ b. b || false) (own_pp c.pp), e)
@@ -479,12 +479,12 @@ module _ (s : State) (sound : IsSound s) (on : s.core.power ≡ power.On) (place
       by None = inl refl
       by (Some c) = of c (c.moves && is_beside_copy core ask c) (is_caught core (group_in core ask) c.pp) refl
 
-  module _ (write : is_write ask ≡ true) (p : Pp) (its_place : is_among (places_for core ask) p ≡ true) (caught : is_caught core (group_in core ask) p ≡ true) where
+  module _ (write : is_write ask ≡ true) (p : Pp) (its_place : is_among (destinations_for core ask) p ≡ true) (caught : is_caught core (group_in core ask) p ≡ true) where
     abbrev front : List Target
     front = map (target_at s ask) (aims core ask)
 
     abbrev last : Target
-    last = place_target s ask p
+    last = destination_target s ask p
 
     all_push : (P : Target → Type 0) → P last → (ts : List Target) → AllByRecursion P ts → AllByRecursion P (ts ++ last ∷ [])
     all_push P here [] all = (here, tt)
@@ -535,12 +535,12 @@ module _ (s : State) (sound : IsSound s) (on : s.core.power ≡ power.On) (place
       caused = all_push (IsCaused s.device core) (λ why. not_so why) front c.caused;
     }
 
-  write_chosen : is_write ask ≡ true → IsChosen s o (map (target_at s ask) (aims core ask) ++ map (place_target s ask) (place_aims core ask))
+  write_chosen : is_write ask ≡ true → IsChosen s o (map (target_at s ask) (aims core ask) ++ map (destination_target s ask) (destination_aims core ask))
   write_chosen write = by one_place
     where
-      by : IsOnePlace (places_for core ask) (place_aims core ask) → IsChosen s o (map (target_at s ask) (aims core ask) ++ map (place_target s ask) (place_aims core ask))
-      by (inl none) = subst (λ (ps : List Pp). IsChosen s o (map (target_at s ask) (aims core ask) ++ map (place_target s ask) ps)) (sym none) (subst (IsChosen s o) (sym (append-nil (map (target_at s ask) (aims core ask)))) copies_chosen)
-      by (inr it) = subst (λ (ps : List Pp). IsChosen s o (map (target_at s ask) (aims core ask) ++ map (place_target s ask) ps)) (sym it.1) (with_place write it.0 it.2 it.3)
+      by : IsOnePlace (destinations_for core ask) (destination_aims core ask) → IsChosen s o (map (target_at s ask) (aims core ask) ++ map (destination_target s ask) (destination_aims core ask))
+      by (inl none) = subst (λ (ps : List Pp). IsChosen s o (map (target_at s ask) (aims core ask) ++ map (destination_target s ask) ps)) (sym none) (subst (IsChosen s o) (sym (append-nil (map (target_at s ask) (aims core ask)))) copies_chosen)
+      by (inr it) = subst (λ (ps : List Pp). IsChosen s o (map (target_at s ask) (aims core ask) ++ map (destination_target s ask) ps)) (sym it.1) (with_place write it.0 it.2 it.3)
 
   -- ---- a read, by the copies' numbers
 

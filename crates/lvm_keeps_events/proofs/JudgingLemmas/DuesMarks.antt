@@ -15,7 +15,7 @@ use Rattle.lvm_path.specs.declared.target.Target.{Target}
 use Rattle.lvm_session.specs.Judging.{all_but_sure, is_kept, is_sure, pps_of, is_sure_at}
 use Rattle.lvm_session.specs.State.{Core}
 use Rattle.lvm_session.specs.Marks.{due_of, due_targets, is_among}
-use Rattle.lvm_session.specs.Requests.{is_failed_and_sure, is_wanted_due, will_be_kept, IsMarkedPlace}
+use Rattle.lvm_session.specs.Requests.{is_failed_and_sure, is_wanted_due, will_be_kept, IsMarkedDestination}
 use Rattle.lvm_session.specs.Sound.{count_if}
 use Rattle.lvm_keeps.proofs.Lists.{count_cons}
 use Rattle.lvm_keeps.proofs.Small.{both}
@@ -293,7 +293,7 @@ module _ (core : Core) where
         by true over f = by_kept over (is_kept core r) refl f
         by false over f = not_so f
 
-    -- of two copies one of which is sure and due another is sure, and isn't; one that is due is no place to which a copy moves
+    -- of two copies one of which is sure and due another is sure, and isn't; one that is due is no destination of a move
     pub spared : AllPairs (λ (a b : Target). a.pp ≢ b.pp) r.targets.items → (p : Pp) → (e : is_among (due_of core r) p ≡ true) → is_sure_at core (due_one p e).it.target ≡ true → IsSpared is_sure_target r.targets.items (due_targets core r)
     spared differ p e sure = by (is_kept core r) refl
       where
@@ -323,9 +323,9 @@ module _ (core : Core) where
             let few = one_left after r.targets.items (λ p e. gone p (ap (λ ps. is_among ps p) (is_due ∙ ap (λ (b : Bool). pps_of (if b then filter has_failed r.targets.items else all_but_sure core r.targets.items)) is) ∙ e)) in
             ap (λ (b : Bool). nat_le (count_by (is_failed_and_sure after) r.targets.items) (if b then 0 else 1)) (none is) ∙ le-leb (count_by (is_failed_and_sure after) r.targets.items) 1 few
 
-    -- and what the write has missed of the place to which a copy moves
-    pub left_missed : (after : Core) → is_write r.ask && are_over r.targets.items ≡ true → ((p : Pp) → is_among (due_of core r) p ≡ true → is_sure after p ≡ false) → AllByRecursion (IsMarkedPlace after r) r.targets.items
-    left_missed after over all = by_places (IsMarkedPlace after r) r.targets.items (λ k t there. by k t there (is_kept core r) refl)
+    -- and what the write has missed of the destination of a move
+    pub left_missed : (after : Core) → is_write r.ask && are_over r.targets.items ≡ true → ((p : Pp) → is_among (due_of core r) p ≡ true → is_sure after p ≡ false) → AllByRecursion (IsMarkedDestination after r) r.targets.items
+    left_missed after over all = by_places (IsMarkedDestination after r) r.targets.items (λ k t there. by k t there (is_kept core r) refl)
       where
         is_due : due_of core r ≡ pps_of (due_targets core r)
         is_due = ap (λ (b : Bool). if b then pps_of (due_targets core r) else []) over
@@ -347,7 +347,7 @@ module _ (core : Core) where
         lost true false true s on = on refl
         lost true false false s on = refl
 
-        by : (k : ℕ) (t : Target) → slice_get r.targets.items k ≡ Some t → (b : Bool) → is_kept core r ≡ b → IsMarkedPlace after r t
+        by : (k : ℕ) (t : Target) → slice_get r.targets.items k ≡ Some t → (b : Bool) → is_kept core r ≡ b → IsMarkedDestination after r t
         by k t there true is = kept t.moves (is_failed t.state) (list_any (is_failed_and_sure after) r.targets.items) (is_sure after t.pp)
             (none_of_zero (is_failed_and_sure after) r.targets.items (none_failed after r.targets.items (gone true is))) (λ failed. gone true is t.pp (failed_among r.targets.items k t there failed))
         by k t there false is = lost t.moves (is_failed t.state) (list_any (is_failed_and_sure after) r.targets.items) (is_sure after t.pp)

@@ -35,7 +35,7 @@ use Rattle.lvm_status.specs.Update.{seen}
 use Rattle.lvm_status.specs.declared.writes.Writes.{Writes}
 use Rattle.lvm_session.specs.Bringing.{block_at, copy_ends, end_of, ends_if, groups_of, hand_of, has_row, is_cleared, is_idle, is_out, is_whole, next_source, sources_of, step_of, step_place, step_row}
 use Rattle.lvm_session.specs.Enabled.{same_status}
-use Rattle.lvm_session.specs.Judging.{copies_for, copies_in, group_in, has_dirty_mark, has_names, held_of, is_caught, is_held_back, is_kept, is_missing, is_beside_copy, stays_fresh, is_running, is_settled, is_stale, is_sure, is_sure_at, is_usable, is_waiting, is_wanted_stale, lp_of, place_aims, place_of, places_for, places_if, pps_of}
+use Rattle.lvm_session.specs.Judging.{copies_for, copies_in, group_in, has_dirty_mark, has_names, held_of, is_caught, is_held_back, is_kept, is_missing, is_beside_copy, stays_fresh, is_running, is_settled, is_stale, is_sure, is_sure_at, is_usable, is_waiting, is_wanted_stale, lp_of, destination_aims, place_of, destinations_for, destinations_if, pps_of}
 use Rattle.lvm_session.specs.State.{Core, is_there, State, state}
 use Rattle.lvm_session.specs.declared.bringing.CopyEnd.TheVariants as ending
 use Rattle.lvm_session.specs.declared.bringing.OpenCopy.{OpenCopy}
@@ -54,7 +54,7 @@ use Rattle.lvm_session.specs.Marks.{can_replace, is_among, is_entailed}
 use Rattle.lvm_session.specs.Causes.{AreCaused, AreCounted, fails_on, is_blamed, is_held_stale, IsAnswered, IsCaused, IsChosenSince, IsCausedAmong, IsTrueToOrigin, was_fresh}
 use Rattle.lvm_session.specs.Left.{copy_updates, if_so, updates_left}
 use Rattle.lvm_session.specs.Owners.{AreOwned, same_owner}
-use Rattle.lvm_session.specs.Requests.{is_failed_and_sure, is_left_out, is_past_held, is_wanted_dirty, is_wanted_due, IsAimed, IsJudged, IsMarkedPlace, IsOpenOne, IsPhase, IsRequest, IsTarget, may_lack, mode_for, wants_status, will_be_kept}
+use Rattle.lvm_session.specs.Requests.{is_failed_and_sure, is_left_out, is_past_held, is_wanted_dirty, is_wanted_due, IsAimed, IsJudged, IsMarkedDestination, IsOpenOne, IsPhase, IsRequest, IsTarget, may_lack, mode_for, wants_status, will_be_kept}
 use Rattle.lvm_session.specs.Sound.{count_if, is_clearing, is_hand, IsCopy, IsFitting, IsGoing, IsOfKind, IsOn, IsSound, IsTold, may_be_fresh, out_with, waiting_rows, with_row}
 use Rattle.lvm_session.proofs.MovesLemmas.{IsOpenPlace, among_filter, among_filtered, move_of, place_open, stale_of}
 use Rattle.lvm_calls.proofs.LogLemmas.{below_next}
@@ -369,7 +369,7 @@ module _ (s : State) (sound : IsSound s) (on : s.core.power ≡ power.On) (c : O
     caught_target : (t : Target) → IsTarget core o.request.ask t → (is_running c && is_pp t.pp c.pp && nat_lt (group_in core o.request.ask) (c.cursor + 1)) ≡ is_caught core (group_in core o.request.ask) t.pp
     caught_target t aimed = caught_by t.pp (λ same. target_lp core going c is o.request.ask t aimed same)
 
-    pub caught_place : (p : Pp) → is_among (places_for core o.request.ask) p ≡ true → (is_running c && is_pp p c.pp && nat_lt (group_in core o.request.ask) (c.cursor + 1)) ≡ is_caught core (group_in core o.request.ask) p
+    pub caught_place : (p : Pp) → is_among (destinations_for core o.request.ask) p ≡ true → (is_running c && is_pp p c.pp && nat_lt (group_in core o.request.ask) (c.cursor + 1)) ≡ is_caught core (group_in core o.request.ask) p
     caught_place p among = caught_by p (λ same. (eqb-true (lv_of o.request.ask) c.lv beside_it.0, eqb-true (lp_of core o.request.ask) c.lp beside_it.1))
       where
         open_place : IsOpenPlace core o.request.ask p
@@ -452,8 +452,8 @@ module _ (s : State) (sound : IsSound s) (on : s.core.power ≡ power.On) (c : O
 
     -- ---- requests
 
-    places_same : (ask : Ask) → places_for core ask ≡ places_for after ask
-    places_same ask = of_copy (λ (k : OpenCopy). places_if (k.moves && is_beside_copy core ask k) k) []
+    places_same : (ask : Ask) → destinations_for core ask ≡ destinations_for after ask
+    places_same ask = of_copy (λ (k : OpenCopy). destinations_if (k.moves && is_beside_copy core ask k) k) []
 
     pub dirty_same : (lv : ℕ) → calls_dirty wanted lv ≡ calls_dirty core.status.wanted lv
     dirty_same lv = ap (λ (ns : List ℕ). list_any (λ n. n == lv) ns) like.dirty
@@ -526,7 +526,7 @@ module _ (s : State) (sound : IsSound s) (on : s.core.power ≡ power.On) (c : O
           all_and (is_running c && is_pp p c.pp) (nat_lt (group_in core o.request.ask) (c.cursor + 1)) (all_and (is_running c) (is_pp p c.pp) runs its_parts.1) (whole_passes (group_in core o.request.ask) (groups_of core) (c.cursor + 1) (group_low core o.request it.laid) its_parts.0)
 
       -- so nothing was missed of it
-      missed_so : wants_status o.request.phase ≡ true → AllByRecursion (IsMarkedPlace after o.request) o.request.targets.items
+      missed_so : wants_status o.request.phase ≡ true → AllByRecursion (IsMarkedDestination after o.request) o.request.targets.items
       missed_so status = missed_on core after o.request fewer why (judged.missed status)
         where
           judged : IsJudged core o
@@ -578,12 +578,12 @@ module _ (s : State) (sound : IsSound s) (on : s.core.power ≡ power.On) (c : O
               by true b d on_so g = refl
               by false b d on_so g = on_so g
 
-          place_by : (is_past_held o.request.phase ≡ true) ⊎ (o.request.targets.items ≡ []) → is_begun o.request.targets.items ≡ true → (p : Pp) → is_among (place_aims after o.request.ask) p ≡ true → is_among (pps_of o.request.targets.items) p ≡ true
+          place_by : (is_past_held o.request.phase ≡ true) ⊎ (o.request.targets.items ≡ []) → is_begun o.request.targets.items ≡ true → (p : Pp) → is_among (destination_aims after o.request.ask) p ≡ true → is_among (pps_of o.request.targets.items) p ≡ true
           place_by (inr none) begun p among = not_so (sym (ap is_begun none) ∙ begun)
           place_by (inl past) begun p among =
-              let both_so = among_filtered (is_caught after (group_in core o.request.ask)) (places_for after o.request.ask) p among in
+              let both_so = among_filtered (is_caught after (group_in core o.request.ask)) (destinations_for after o.request.ask) p among in
               let there_so = ap (λ (ps : List Pp). is_among ps p) (places_same o.request.ask) ∙ both_so.0 in
-              (its_request.judged write).place begun p (among_filter (is_caught core (group_in core o.request.ask)) (places_for core o.request.ask) p (sym (caught_place k o o_there it waits write past p there_so) ∙ both_so.1) there_so)
+              (its_request.judged write).place begun p (among_filter (is_caught core (group_in core o.request.ask)) (destinations_for core o.request.ask) p (sym (caught_place k o o_there it waits write past p there_so) ∙ both_so.1) there_so)
 
     one : (k : ℕ) (o : Open) → slice_get core.requests k ≡ Some o → IsOpenOne core o → o.request.id < next_id core.history → IsOpenOne after o
     one k o o_there it low = record {

@@ -29,10 +29,10 @@ use Rattle.lvm_path.specs.Targets.{are_over, is_done, is_failed}
 use Rattle.lvm_session.specs.declared.bringing.OpenCopy.{OpenCopy}
 use Rattle.lvm_session.specs.declared.open.Open.{Open}
 use Rattle.lvm_session.specs.State.{Core}
-use Rattle.lvm_session.specs.Judging.{group_in, group_of, has_dirty_mark, has_names, held_of, is_caught, is_kept, is_running, is_settled, is_sure, is_wanted_stale, place_of, pps_of, is_sure_at, places_for}
+use Rattle.lvm_session.specs.Judging.{group_in, group_of, has_dirty_mark, has_names, held_of, is_caught, is_kept, is_running, is_settled, is_sure, is_wanted_stale, place_of, pps_of, is_sure_at, destinations_for}
 use Rattle.lvm_session.specs.Bringing.{groups_of}
 use Rattle.lvm_session.specs.Marks.{is_among}
-use Rattle.lvm_session.specs.Requests.{IsJudged, IsLaid, IsMarkedPlace, IsOpenOne, IsPhase, MayBeServed, IsRecorded, IsShaped, has_record, is_failed_and_sure, is_wanted_dirty, may_lack, mode_for, wants_status, will_be_kept}
+use Rattle.lvm_session.specs.Requests.{IsJudged, IsLaid, IsMarkedDestination, IsOpenOne, IsPhase, MayBeServed, IsRecorded, IsShaped, has_record, is_failed_and_sure, is_wanted_dirty, may_lack, mode_for, wants_status, will_be_kept}
 use Rattle.lvm_session.specs.Sound.{pins}
 use Rattle.lvm_keeps.proofs.KeepsLemmas.NoteStart.{each_counted}
 use Rattle.lvm_keeps.proofs.Small.{and_on, both, is_false}
@@ -180,7 +180,7 @@ module _ (e : WriteEnd) (r : Reviewed e) (names : NamesStay e) (caught : (group 
         by false none e2 = or_right (is_kept core x.request) (will_be_kept core x.request) (any_on (λ (t : Target). is_done t.state && is_caught after group t.pp) (λ (t : Target). is_done t.state && is_caught core group t.pp) carried x.request.targets.items e2)
 
     -- nothing more is missed, and of a copy that is to be cleared nothing is
-    missed_so : IsShaped core x → IsJudged core x → wants_status x.request.phase ≡ true → AllByRecursion (IsMarkedPlace after x.request) x.request.targets.items
+    missed_so : IsShaped core x → IsJudged core x → wants_status x.request.phase ≡ true → AllByRecursion (IsMarkedDestination after x.request) x.request.targets.items
     missed_so shape j status = missed_on core after x.request fewer (λ k t there sure. why k t there (sure_by e r t.pp sure)) (j.missed status)
       where
         over : are_over x.request.targets.items ≡ true
@@ -205,8 +205,8 @@ module _ (e : WriteEnd) (r : Reviewed e) (names : NamesStay e) (caught : (group 
       all = λ begun p among. out_still (is_among (pps_of x.request.targets.items) p) (is_settled core p) (is_wanted_stale core p) (is_caught core group p) (is_settled after p) (is_wanted_stale after p) (is_caught after group p)
           (settled_on e r p) (wanted_on e r p) (caught group p) (j.all begun p among);
       place = λ begun p among.
-          let its = among_filtered (is_caught after group) (places_for after x.request.ask) p among in
-          j.place begun p (among_filter (is_caught core group) (places_for core x.request.ask) p (turned (is_caught core group p) (is_caught after group p) (caught group p) its.1) (ap (λ (ps : List Pp). is_among ps p) (places x.request.ask) ∙ its.0));
+          let its = among_filtered (is_caught after group) (destinations_for after x.request.ask) p among in
+          j.place begun p (among_filter (is_caught core group) (destinations_for core x.request.ask) p (turned (is_caught core group p) (is_caught after group p) (caught group p) its.1) (ap (λ (ps : List Pp). is_among ps p) (places x.request.ask) ∙ its.0));
     }
 
   -- ---- all of it

@@ -59,12 +59,12 @@ use Rattle.lvm_session.specs.declared.flown.Owner.TheVariants as owner
 use Rattle.lvm_session.specs.declared.open.Open.{Open}
 use Rattle.lvm_session.specs.declared.open.Power.TheVariants as power
 use Rattle.lvm_session.specs.State.{Core, State, is_there}
-use Rattle.lvm_session.specs.Judging.{is_sure_at, aims, all_but_sure, copies_for, copies_in, counts_failed, facts_of, group_in, group_of, has_dirty_mark, has_names, held_of, is_beside, is_beside_copy, is_caught, stays_fresh, is_failing, is_held_back, is_held_by_move, is_kept, is_marked, is_missing, is_moved, is_past_held, is_pending, is_running, is_settled, is_stale, is_sure, is_under_way, is_usable, is_waiting, is_wanted_stale, lp_of, mode_of, next_for, place_aims, place_of, places_if, pps_of, same_pps}
+use Rattle.lvm_session.specs.Judging.{is_sure_at, aims, all_but_sure, copies_for, copies_in, counts_failed, facts_of, group_in, group_of, has_dirty_mark, has_names, held_of, is_beside, is_beside_copy, is_caught, stays_fresh, is_failing, is_held_back, is_held_by_move, is_kept, is_marked, is_missing, is_move_done, is_past_held, is_pending, is_running, is_settled, is_stale, is_sure, is_under_way, is_usable, is_waiting, is_wanted_stale, lp_of, mode_of, next_for, destination_aims, place_of, destinations_if, pps_of, same_pps}
 use Rattle.lvm_session.specs.Bringing.{end_of, ends_if, hand_of, has_row, is_cleared, is_idle, is_out, is_whole, next_source, sources_of, step_of, step_row}
 use Rattle.lvm_session.specs.Enabled.{Part, admission_at, can_pin, copy_read, copy_write, data_at, data_start, first_event, first_from, first_of, has_buffer, is_admit, is_free_step, is_lost, is_pin, is_status_due, is_unnamed, landing, landing_at, may_be_admitted, may_pin, may_read, may_write, note_at, note_due, note_start, or_next, outcome_next, parts_to_settle, parts_to_start, pinning_at, same_row, same_rows, same_status, target_due, target_next, wants_record}
 use Rattle.lvm_session.specs.Dark.{hand_of_copy}
 use Rattle.lvm_session.specs.Owners.{AreRows, flies, same_owner, target_flies}
-use Rattle.lvm_session.specs.Requests.{IsAimed, IsMarkedPlace, IsOpenOne, IsPhase, IsRecorded, IsRequest, IsTarget, is_failed_and_sure, is_wanted_due, is_wanted_dirty, mode_for, wants_status, will_be_kept}
+use Rattle.lvm_session.specs.Requests.{IsAimed, IsMarkedDestination, IsOpenOne, IsPhase, IsRecorded, IsRequest, IsTarget, is_failed_and_sure, is_wanted_due, is_wanted_dirty, mode_for, wants_status, will_be_kept}
 use Rattle.lvm_session.specs.Sound.{IsCopy, IsGoing, IsOfKind, IsSound, count_if, has_number, is_dark, is_hand, pins, waiting_rows, with_row}
 use Rattle.lvm_session.proofs.MovesLemmas.{IsOpenPlace, move_of, place_open}
 use Rattle.std.proofs.lemmas.Slice.Eq.{bytes_eq-Decides}
@@ -639,7 +639,7 @@ module _ (s : State) (sound : IsSound s) (on : s.core.power ≡ power.On) (votes
               where
                 of_aim : (b : Bool) → b ≡ true → IsAimed b core o.request.ask t → list_any (stays_fresh core) (copies_for core o.request.ask) ≡ true
                 of_aim false never aimed = not_so never
-                of_aim true is_place aimed = (λ i. list_any (stays_fresh core) (copies_in core.descriptor (eqb-true (lv_of o.request.ask) at.copy.lv beside_it.0 i) (eqb-true (lp_of core o.request.ask) at.copy.lp beside_it.1 i))) ∙ (move_of core at.copy bring at.moves).fresh
+                of_aim true is_destination aimed = (λ i. list_any (stays_fresh core) (copies_in core.descriptor (eqb-true (lv_of o.request.ask) at.copy.lv beside_it.0 i) (eqb-true (lp_of core o.request.ask) at.copy.lp beside_it.1 i))) ∙ (move_of core at.copy bring at.moves).fresh
                   where
                     at : IsOpenPlace core o.request.ask t.pp
                     at = place_open core o.request.ask t.pp aimed.0
@@ -652,13 +652,13 @@ module _ (s : State) (sound : IsSound s) (on : s.core.power ≡ power.On) (votes
 
             -- a place that the write has missed isn't sure, and none that it hasn't is where it is lost
             place_marked : (n : ℕ) (t : Target) → slice_get targets n ≡ Some t → (b : Bool) → is_kept core o.request ≡ b → IsPlaceMarked core b t
-            place_marked n t t_there true kept = of t.moves (is_failed t.state) (list_any (is_failed_and_sure core) targets) (is_sure core t.pp) (all_at (IsMarkedPlace core o.request) targets n t ((its.judged write).missed (ap wants_status is)) t_there)
+            place_marked n t t_there true kept = of t.moves (is_failed t.state) (list_any (is_failed_and_sure core) targets) (is_sure core t.pp) (all_at (IsMarkedDestination core o.request) targets n t ((its.judged write).missed (ap wants_status is)) t_there)
               where
                 of : (a f l s : Bool) → (a && (f || l)) && s ≡ false → a && (f && s) ≡ false
                 of false f l s e = refl
                 of true true l s e = e
                 of true false l s e = refl
-            place_marked n t t_there false lost = of t.moves (is_failed t.state) (list_any (is_failed_and_sure core) targets) (is_sure core t.pp) refl refl (all_at (IsMarkedPlace core o.request) targets n t ((its.judged write).missed (ap wants_status is)) t_there)
+            place_marked n t t_there false lost = of t.moves (is_failed t.state) (list_any (is_failed_and_sure core) targets) (is_sure core t.pp) refl refl (all_at (IsMarkedDestination core o.request) targets n t ((its.judged write).missed (ap wants_status is)) t_there)
               where
                 of : (a f l s : Bool) → t.moves ≡ a → list_any (is_failed_and_sure core) targets ≡ l → (a && (f || l)) && s ≡ false → a && s ≡ false
                 of false f l s i j e = refl
@@ -696,10 +696,10 @@ module _ (s : State) (sound : IsSound s) (on : s.core.power ≡ power.On) (votes
       middle true true false i j e = not_so j
       middle false true c i j e = not_so i
 
-      by : (m : Option OpenCopy) → option_map_or (λ (c : OpenCopy). is_moved core c && is_beside_copy core o.request.ask c) m false ≡ true → is_past_held o.request.phase ≡ false
+      by : (m : Option OpenCopy) → option_map_or (λ (c : OpenCopy). is_move_done core c && is_beside_copy core o.request.ask c) m false ≡ true → is_past_held o.request.phase ≡ false
       by None e = not_so e
       by (Some c) e =
-          let done = both (is_moved core c) (is_beside_copy core o.request.ask c) e in
+          let done = both (is_move_done core c) (is_beside_copy core o.request.ask c) e in
           let calm = is_false (is_under_way core c) (both (c.moves && is_running c && is_whole core c && stays_fresh core c.pp) (not (is_under_way core c)) done.0).1 in
           middle (is_waiting o) (is_past_held o.request.phase) (is_beside_copy core o.request.ask c) waiting done.1
           (all_at (λ (x : Open). is_waiting x && is_past_held x.request.phase && is_beside_copy core x.request.ask c ≡ false) core.requests place o
@@ -712,8 +712,8 @@ module _ (s : State) (sound : IsSound s) (on : s.core.power ≡ power.On) (votes
       (both (have_common_block (held_of a.request.ask) (held_of b.request.ask)) (is_writing (held_of a.request.ask) || is_writing (held_of b.request.ask)) clash).0 in
       let first = both (lv_of a.request.ask == lv_of b.request.ask) (nat_lt (at_of a.request.ask) (at_of b.request.ask + count_of b.request.ask)) common.0 in
       let group = one_group its_a.laid.blocks its_b.laid.blocks (ltb-true (at_of a.request.ask) (at_of b.request.ask + count_of b.request.ask) first.1) (ltb-true (at_of b.request.ask) (at_of a.request.ask + count_of a.request.ask) common.1) in
-      ap (λ n. option_map_or (λ (c : OpenCopy). is_moved core c && (n == c.lv && lp_of core a.request.ask == c.lp)) core.copy false) (eqb-true (lv_of a.request.ask) (lv_of b.request.ask) first.0)
-      ∙ ap (λ n. option_map_or (λ (c : OpenCopy). is_moved core c && (lv_of b.request.ask == c.lv && n == c.lp)) core.copy false) (same_partition core.descriptor.mib (at_of a.request.ask) (at_of b.request.ask) group)
+      ap (λ n. option_map_or (λ (c : OpenCopy). is_move_done core c && (n == c.lv && lp_of core a.request.ask == c.lp)) core.copy false) (eqb-true (lv_of a.request.ask) (lv_of b.request.ask) first.0)
+      ∙ ap (λ n. option_map_or (λ (c : OpenCopy). is_move_done core c && (lv_of b.request.ask == c.lv && n == c.lp)) core.copy false) (same_partition core.descriptor.mib (at_of a.request.ask) (at_of b.request.ask) group)
       ∙ free
     where
       one_group : IsInGroup (held_of a.request.ask) → IsInGroup (held_of b.request.ask) → at_of a.request.ask < at_of b.request.ask + count_of b.request.ask → at_of b.request.ask < at_of a.request.ask + count_of a.request.ask
@@ -743,15 +743,15 @@ module _ (s : State) (sound : IsSound s) (on : s.core.power ≡ power.On) (votes
 
   -- the targets of a write that are as they should be aren't missing
   targets_there : (place : ℕ) (o : Open) (there : slice_get core.requests place ≡ Some o) → is_waiting o ≡ true → is_held_by_move core o.request.ask ≡ false → is_write o.request.ask ≡ true → (facts_of core o.request).usable ≡ true → (facts_of core o.request).changed ≡ false → AllByRecursion (λ (t : Target). is_missing core t.pp.disk ≡ false) o.request.targets.items
-  targets_there place o there waiting free write usable same = by o.request.targets.items (aims core o.request.ask ++ place_aims core o.request.ask) aims_there
-      (same_so (same_pps (pps_of o.request.targets.items) (aims core o.request.ask ++ place_aims core o.request.ask)) (sym (ap (λ b. b && not (same_pps (pps_of o.request.targets.items) (aims core o.request.ask ++ place_aims core o.request.ask))) write) ∙ same))
+  targets_there place o there waiting free write usable same = by o.request.targets.items (aims core o.request.ask ++ destination_aims core o.request.ask) aims_there
+      (same_so (same_pps (pps_of o.request.targets.items) (aims core o.request.ask ++ destination_aims core o.request.ask)) (sym (ap (λ b. b && not (same_pps (pps_of o.request.targets.items) (aims core o.request.ask ++ destination_aims core o.request.ask))) write) ∙ same))
     where
       same_so : (b : Bool) → not b ≡ false → b ≡ true
       same_so true e = refl
       same_so false e = not_so (sym e)
 
-      aims_there : AllByRecursion (λ (p : Pp). is_missing core p.disk ≡ false) (aims core o.request.ask ++ place_aims core o.request.ask)
-      aims_there = and_then (aims core o.request.ask) (place_aims core o.request.ask) (passing (copies_for core o.request.ask)) (of_place core.copy refl)
+      aims_there : AllByRecursion (λ (p : Pp). is_missing core p.disk ≡ false) (aims core o.request.ask ++ destination_aims core o.request.ask)
+      aims_there = and_then (aims core o.request.ask) (destination_aims core o.request.ask) (passing (copies_for core o.request.ask)) (of_place core.copy refl)
         where
           and_then : (ps qs : List Pp) → AllByRecursion (λ (p : Pp). is_missing core p.disk ≡ false) ps → AllByRecursion (λ (p : Pp). is_missing core p.disk ≡ false) qs → AllByRecursion (λ (p : Pp). is_missing core p.disk ≡ false) (ps ++ qs)
           and_then [] qs all more = more
@@ -766,7 +766,7 @@ module _ (s : State) (sound : IsSound s) (on : s.core.power ≡ power.On) (votes
               stays true true rest e f = absurd (cc f)
               stays false true rest e f = not_so e
 
-          of_place : (m : Option OpenCopy) → core.copy ≡ m → AllByRecursion (λ (p : Pp). is_missing core p.disk ≡ false) (filter (is_caught core (group_in core o.request.ask)) (option_map_or (λ (c : OpenCopy). places_if (c.moves && is_beside_copy core o.request.ask c) c) m []))
+          of_place : (m : Option OpenCopy) → core.copy ≡ m → AllByRecursion (λ (p : Pp). is_missing core p.disk ≡ false) (filter (is_caught core (group_in core o.request.ask)) (option_map_or (λ (c : OpenCopy). destinations_if (c.moves && is_beside_copy core o.request.ask c) c) m []))
           of_place None is = tt
           of_place (Some c) is = of (c.moves && is_beside_copy core o.request.ask c)
             where
@@ -774,7 +774,7 @@ module _ (s : State) (sound : IsSound s) (on : s.core.power ≡ power.On) (votes
               caught false e = tt
               caught true e = (runs_there c is (both (is_running c) (is_pp c.pp c.pp) (both (is_running c && is_pp c.pp c.pp) (nat_lt (group_in core o.request.ask) c.cursor) (sym (ap (λ m. option_map_or (λ (d : OpenCopy). is_running d && is_pp c.pp d.pp && nat_lt (group_in core o.request.ask) d.cursor) m false) is) ∙ e)).0).0, tt)
 
-              of : (b : Bool) → AllByRecursion (λ (p : Pp). is_missing core p.disk ≡ false) (filter (is_caught core (group_in core o.request.ask)) (places_if b c))
+              of : (b : Bool) → AllByRecursion (λ (p : Pp). is_missing core p.disk ≡ false) (filter (is_caught core (group_in core o.request.ask)) (destinations_if b c))
               of false = tt
               of true = caught (is_caught core (group_in core o.request.ask) c.pp) refl
 
@@ -1041,7 +1041,7 @@ module _ (s : State) (sound : IsSound s) (on : s.core.power ≡ power.On) (votes
 
       -- it isn't whole, so no move is done
       free_all : (ask : Ask) → is_held_by_move core ask ≡ false
-      free_all ask = of_copy (λ (d : OpenCopy). is_moved core d && is_beside_copy core ask d) false ∙ ap (λ b. b && is_beside_copy core ask c)
+      free_all ask = of_copy (λ (d : OpenCopy). is_move_done core d && is_beside_copy core ask d) false ∙ ap (λ b. b && is_beside_copy core ask c)
           (ap (λ b. c.moves && is_running c && b && stays_fresh core c.pp && not (is_under_way core c)) goes.1 ∙ by (c.moves && is_running c))
         where
           by : (b : Bool) → b && false && stays_fresh core c.pp && not (is_under_way core c) ≡ false
@@ -1107,18 +1107,18 @@ module _ (s : State) (sound : IsSound s) (on : s.core.power ≡ power.On) (votes
       by k o there true false i j = let found = behind_step (o.request.id + 1) k o (omega arith) there i j in absurd (no_step found.0 found.1 found.2)
 
   -- a move that runs and isn't done would be it, since nothing is under way
-  copy_over : (m : Option OpenCopy) → core.copy ≡ m → IfSome m (λ (c : OpenCopy). is_running c && not (is_moved core c) ≡ false)
+  copy_over : (m : Option OpenCopy) → core.copy ≡ m → IfSome m (λ (c : OpenCopy). is_running c && not (is_move_done core c) ≡ false)
   copy_over None is = tt
-  copy_over (Some c) is = by_move (is_moved core c) refl
+  copy_over (Some c) is = by_move (is_move_done core c) refl
     where
       its_copy : IsCopy core c
       its_copy = subst (λ m. IfSome m (IsCopy core)) is going.copy
 
-      over : is_moved core c ≡ false → is_running c ≡ false
+      over : is_move_done core c ≡ false → is_running c ≡ false
       over undone = by (is_running c) (is_whole core c) refl refl
         where
           free : (ask : Ask) → is_held_by_move core ask ≡ false
-          free ask = ap (λ m. option_map_or (λ (d : OpenCopy). is_moved core d && is_beside_copy core ask d) m false) is ∙ ap (λ b. b && is_beside_copy core ask c) undone
+          free ask = ap (λ m. option_map_or (λ (d : OpenCopy). is_move_done core d && is_beside_copy core ask d) m false) is ∙ ap (λ b. b && is_beside_copy core ask c) undone
 
           calm : is_under_way core c ≡ false
           calm = none_waits core.requests (none_waits_at_all core free core.requests all_landed)
@@ -1138,7 +1138,7 @@ module _ (s : State) (sound : IsSound s) (on : s.core.power ≡ power.On) (votes
               fresh : is_stale core c.pp ≡ false
               fresh = sym (wanted_is c.pp) ∙ it.clear i j
 
-              done : is_moved core c ≡ true
+              done : is_move_done core c ≡ true
               done =
                   ap (λ b. b && is_running c && is_whole core c && stays_fresh core c.pp && not (is_under_way core c)) k
                   ∙ ap (λ b. b && is_whole core c && stays_fresh core c.pp && not (is_under_way core c)) i
@@ -1153,9 +1153,9 @@ module _ (s : State) (sound : IsSound s) (on : s.core.power ≡ power.On) (votes
           by true true i j = of_kind c.moves refl its_copy.kind i j
           by true false i j = absurd (no_step c is (ap (λ b. is_out c.step || (b && not (is_whole core c))) i ∙ ap (λ b. is_out c.step || not b) j ∙ or_true (is_out c.step)))
 
-      by_move : (b : Bool) → is_moved core c ≡ b → is_running c && not (is_moved core c) ≡ false
+      by_move : (b : Bool) → is_move_done core c ≡ b → is_running c && not (is_move_done core c) ≡ false
       by_move true done = ap (λ b. is_running c && not b) done ∙ and_false (is_running c)
-      by_move false undone = ap (λ b. b && not (is_moved core c)) (over undone)
+      by_move false undone = ap (λ b. b && not (is_move_done core c)) (over undone)
 
 pub never_stands_still : NeverStandsStill
 never_stands_still s sound on votes none idle = (all_landed s sound on votes none idle, copy_over s sound on votes none idle s.core.copy refl)

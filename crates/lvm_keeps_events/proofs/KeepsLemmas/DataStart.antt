@@ -30,7 +30,7 @@ use Rattle.lvm_session.specs.declared.flown.Owner.TheVariants as owner
 use Rattle.lvm_session.specs.declared.open.Open.{Open}
 use Rattle.lvm_session.specs.declared.open.Power.TheVariants as power
 use Rattle.lvm_session.specs.State.{Core, State, state}
-use Rattle.lvm_session.specs.Judging.{copies_for, facts_of, group_in, group_of, has_dirty_mark, has_names, is_caught, is_missing, is_waiting, is_wanted_stale, mode_of, pps_of, place_aims}
+use Rattle.lvm_session.specs.Judging.{copies_for, facts_of, group_in, group_of, has_dirty_mark, has_names, is_caught, is_missing, is_waiting, is_wanted_stale, mode_of, pps_of, destination_aims}
 use Rattle.lvm_session.specs.Bringing.{has_row, step_row}
 use Rattle.lvm_session.specs.Enabled.{target_due}
 use Rattle.lvm_session.specs.Events.{IsDataTransfer, begun_as, flown}
@@ -248,7 +248,7 @@ module _ (s : State) (sound : IsSound s) (on : s.core.power ≡ power.On) (place
       whole p among true is = (request.judged write).all is p among
       whole p among false is = first_start_is_whole s place target o sound on there due write is p among
 
-      along : (p : Pp) → is_among (place_aims core o.request.ask) p ≡ true → (b : Bool) → is_begun targets ≡ b → is_among (pps_of targets) p ≡ true
+      along : (p : Pp) → is_among (destination_aims core o.request.ask) p ≡ true → (b : Bool) → is_begun targets ≡ b → is_among (pps_of targets) p ≡ true
       along p among true is = (request.judged write).place is p among
       along p among false is = goes_along s place target o sound on there due write is p among
 

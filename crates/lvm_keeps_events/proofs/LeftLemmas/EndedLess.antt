@@ -14,7 +14,7 @@ use Rattle.lvm_path.specs.Targets.{is_begun}
 use Rattle.lvm_path.specs.declared.ask.Ask.{Ask}
 use Rattle.lvm_path.specs.declared.request.Request.{Request}
 use Rattle.lvm_session.specs.Bringing.{groups_of, is_whole}
-use Rattle.lvm_session.specs.Judging.{aims, copies_for, group_in, is_beside_copy, is_caught, is_changed, is_missing, is_running, is_settled, is_usable, is_waiting, place_aims, places_for, places_if, pps_of, same_pps}
+use Rattle.lvm_session.specs.Judging.{aims, copies_for, group_in, is_beside_copy, is_caught, is_changed, is_missing, is_running, is_settled, is_usable, is_waiting, destination_aims, destinations_for, destinations_if, pps_of, same_pps}
 use Rattle.lvm_session.specs.State.{Core}
 use Rattle.lvm_session.specs.declared.bringing.CopyEnd.{CopyEnd}
 use Rattle.lvm_session.specs.declared.bringing.OpenCopy.{OpenCopy}
@@ -98,21 +98,21 @@ module _ (core : Core) (c : OpenCopy) (is : core.copy ≡ Some c) (runs : is_run
   was_place : place_turns core c.pp ≡ 46
   was_place = ap (λ (b : Bool). if not b && is_brought_up core c.pp then 46 else 0) here ∙ ap (λ (b : Bool). if b then 46 else 0) (brought c.pp ∙ own_pp c.pp)
 
-  places_were : (ask : Ask) → places_for core ask ≡ places_if (c.moves && is_beside_copy core ask c) c
-  places_were ask = ap (λ m. option_map_or (λ (k : OpenCopy). places_if (k.moves && is_beside_copy core ask k) k) m []) is
+  places_were : (ask : Ask) → destinations_for core ask ≡ destinations_if (c.moves && is_beside_copy core ask c) c
+  places_were ask = ap (λ m. option_map_or (λ (k : OpenCopy). destinations_if (k.moves && is_beside_copy core ask k) k) m []) is
 
   places_drop : (ask : Ask) (b : Bool) → (c.moves && is_beside_copy core ask c) ≡ b
-      → ((place_aims now ask ≡ place_aims core ask) × (sum_by (place_turns now) (places_for now ask) ≤ sum_by (place_turns core) (places_for core ask))) ⊎ (sum_by (place_turns now) (places_for now ask) + 12 ≤ sum_by (place_turns core) (places_for core ask))
+      → ((destination_aims now ask ≡ destination_aims core ask) × (sum_by (place_turns now) (destinations_for now ask) ≤ sum_by (place_turns core) (destinations_for core ask))) ⊎ (sum_by (place_turns now) (destinations_for now ask) + 12 ≤ sum_by (place_turns core) (destinations_for core ask))
   places_drop ask false e =
-      let were : places_for core ask ≡ [] = places_were ask ∙ ap (λ b. places_if b c) e in
-      let are : places_for now ask ≡ [] = ap (λ b. places_if b c) e in
-      let none : sum_by (place_turns now) (places_for now ask) ≡ 0 = ap (sum_by (place_turns now)) are in
+      let were : destinations_for core ask ≡ [] = places_were ask ∙ ap (λ b. destinations_if b c) e in
+      let are : destinations_for now ask ≡ [] = ap (λ b. destinations_if b c) e in
+      let none : sum_by (place_turns now) (destinations_for now ask) ≡ 0 = ap (sum_by (place_turns now)) are in
       inl (ap (filter (is_caught now (group_in core ask))) are ∙ sym (ap (filter (is_caught core (group_in core ask))) were), omega (arith, none))
   places_drop ask true e =
-      let were : places_for core ask ≡ c.pp ∷ [] = places_were ask ∙ ap (λ b. places_if b c) e in
-      let are : places_for now ask ≡ c.pp ∷ [] = ap (λ b. places_if b c) e in
-      let old : sum_by (place_turns core) (places_for core ask) ≡ sum_by (place_turns core) (c.pp ∷ []) = ap (sum_by (place_turns core)) were in
-      let new : sum_by (place_turns now) (places_for now ask) ≡ sum_by (place_turns now) (c.pp ∷ []) = ap (sum_by (place_turns now)) are in
+      let were : destinations_for core ask ≡ c.pp ∷ [] = places_were ask ∙ ap (λ b. destinations_if b c) e in
+      let are : destinations_for now ask ≡ c.pp ∷ [] = ap (λ b. destinations_if b c) e in
+      let old : sum_by (place_turns core) (destinations_for core ask) ≡ sum_by (place_turns core) (c.pp ∷ []) = ap (sum_by (place_turns core)) were in
+      let new : sum_by (place_turns now) (destinations_for now ask) ≡ sum_by (place_turns now) (c.pp ∷ []) = ap (sum_by (place_turns now)) are in
       let old_one = sum_by-cons (place_turns core) c.pp [] in
       let new_one = sum_by-cons (place_turns now) c.pp [] in
       let high = was_place in
@@ -131,7 +131,7 @@ module _ (core : Core) (c : OpenCopy) (is : core.copy ≡ Some c) (runs : is_run
       all_less = each_less (turns_of core) (turns_of now) turns_less (copies_for core r.ask)
 
       by : (b : Bool) → list_any (λ (p : Pp). is_pp p c.pp) (copies_for core r.ask) ≡ b
-          → ((place_aims now r.ask ≡ place_aims core r.ask) × (sum_by (place_turns now) (places_for now r.ask) ≤ sum_by (place_turns core) (places_for core r.ask))) ⊎ (sum_by (place_turns now) (places_for now r.ask) + 12 ≤ sum_by (place_turns core) (places_for core r.ask))
+          → ((destination_aims now r.ask ≡ destination_aims core r.ask) × (sum_by (place_turns now) (destinations_for now r.ask) ≤ sum_by (place_turns core) (destinations_for core r.ask))) ⊎ (sum_by (place_turns now) (destinations_for now r.ask) + 12 ≤ sum_by (place_turns core) (destinations_for core r.ask))
           → unbegun_left now r ≤ unbegun_left core r
       by true some (inl place) =
           let one = found_at (λ (p : Pp). is_pp p c.pp) (copies_for core r.ask) some in
@@ -154,7 +154,7 @@ module _ (core : Core) (c : OpenCopy) (is : core.copy ≡ Some c) (runs : is_run
       by false none (inl place) =
           let less = sum_most (turns_of core) (turns_of now) (copies_for core r.ask) all_less in
           let same : if_so (not (is_held r.phase) && is_changed now r) 12 ≡ if_so (not (is_held r.phase) && is_changed core r) 12
-          = ap (λ (ps : List Pp). if_so (not (is_held r.phase) && (is_write r.ask && not (same_pps (pps_of r.targets.items) (ps ++ place_aims now r.ask)))) 12) (aims_same r.ask none)
+          = ap (λ (ps : List Pp). if_so (not (is_held r.phase) && (is_write r.ask && not (same_pps (pps_of r.targets.items) (ps ++ destination_aims now r.ask)))) 12) (aims_same r.ask none)
           ∙ ap (λ (ps : List Pp). if_so (not (is_held r.phase) && (is_write r.ask && not (same_pps (pps_of r.targets.items) (aims core r.ask ++ ps)))) 12) place.0 in
           let fewer = place.1 in
           let phases = phase_still core now r refl r.phase in

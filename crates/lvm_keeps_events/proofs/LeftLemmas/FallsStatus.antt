@@ -29,7 +29,7 @@ use Rattle.lvm_session.specs.declared.bringing.OpenCopy.{OpenCopy}
 use Rattle.lvm_session.specs.declared.open.Open.{Open}
 use Rattle.lvm_session.specs.declared.open.Power.TheVariants as power
 use Rattle.lvm_session.specs.State.{Core, is_there, votes_there}
-use Rattle.lvm_session.specs.Judging.{aims, copies_for, copies_in, group_in, group_of, is_caught, is_changed, is_missing, is_running, is_settled, is_stale, is_usable, is_waiting, lp_of, mode_of, place_aims, places_for, pps_of, same_pps}
+use Rattle.lvm_session.specs.Judging.{aims, copies_for, copies_in, group_in, group_of, is_caught, is_changed, is_missing, is_running, is_settled, is_stale, is_usable, is_waiting, lp_of, mode_of, destination_aims, destinations_for, pps_of, same_pps}
 use Rattle.lvm_session.specs.Bringing.{copy_ends, end_of, is_whole}
 use Rattle.lvm_session.specs.Enabled.{is_lost, same_status}
 use Rattle.lvm_num.specs.Modes.{is_passive}
@@ -273,7 +273,7 @@ module _ (e : WriteEnd) (r : Reviewed e) (brings : Brings e r) (noted : (d : ℕ
       by (inr one) (inl rest) = let a = sum_by-cons (turns_of after) p ps in let b = sum_by-cons (turns_of core) p ps in let y = rest.1 in inr (omega (arith, a, b, one, y))
       by (inr one) (inr rest) = let a = sum_by-cons (turns_of after) p ps in let b = sum_by-cons (turns_of core) p ps in inr (omega (arith, a, b, one, rest))
 
-  -- ---- the place to which a copy moves
+  -- ---- the destination of a move
 
   place_one : (group : ℕ) (p : Pp) → ((is_caught after group p ≡ is_caught core group p) × (place_turns after p ≤ place_turns core p)) ⊎ (place_turns after p + 12 ≤ place_turns core p)
   place_one group p = by (is_brought_up after p) (is_brought_up core p) (is_missing after p.disk) (is_missing core p.disk) (is_caught after group p) (is_caught core group p)
@@ -311,10 +311,10 @@ module _ (e : WriteEnd) (r : Reviewed e) (brings : Brings e r) (noted : (d : ℕ
       by (inr one) (inr rest) = let a = sum_by-cons (place_turns after) p ps in let b = sum_by-cons (place_turns core) p ps in inr (omega (arith, a, b, one, rest))
 
   -- a request has the same
-  places_drop : (ask : Ask) → ((place_aims after ask ≡ place_aims core ask) × (sum_by (place_turns after) (places_for after ask) ≤ sum_by (place_turns core) (places_for core ask)))
-      ⊎ (sum_by (place_turns after) (places_for after ask) + 12 ≤ sum_by (place_turns core) (places_for core ask))
-  places_drop ask = subst (λ (ps : List Pp). ((filter (is_caught after (group_in core ask)) ps ≡ place_aims core ask) × (sum_by (place_turns after) ps ≤ sum_by (place_turns core) (places_for core ask))) ⊎ (sum_by (place_turns after) ps + 12 ≤ sum_by (place_turns core) (places_for core ask)))
-      (brings.places ask) (place_drop (group_in core ask) (places_for core ask))
+  places_drop : (ask : Ask) → ((destination_aims after ask ≡ destination_aims core ask) × (sum_by (place_turns after) (destinations_for after ask) ≤ sum_by (place_turns core) (destinations_for core ask)))
+      ⊎ (sum_by (place_turns after) (destinations_for after ask) + 12 ≤ sum_by (place_turns core) (destinations_for core ask))
+  places_drop ask = subst (λ (ps : List Pp). ((filter (is_caught after (group_in core ask)) ps ≡ destination_aims core ask) × (sum_by (place_turns after) ps ≤ sum_by (place_turns core) (destinations_for core ask))) ⊎ (sum_by (place_turns after) ps + 12 ≤ sum_by (place_turns core) (destinations_for core ask)))
+      (brings.places ask) (place_drop (group_in core ask) (destinations_for core ask))
 
   -- ---- its phase
 
@@ -349,10 +349,10 @@ module _ (e : WriteEnd) (r : Reviewed e) (brings : Brings e r) (noted : (d : ℕ
       copies_are = sum_by (turns_of after) (copies_for core x.ask)
 
       places_were : ℕ
-      places_were = sum_by (place_turns core) (places_for core x.ask)
+      places_were = sum_by (place_turns core) (destinations_for core x.ask)
 
       places_are : ℕ
-      places_are = sum_by (place_turns after) (places_for after x.ask)
+      places_are = sum_by (place_turns after) (destinations_for after x.ask)
 
       add : (s t y z d f c g p q : ℕ) → t ≤ s → z ≤ y → f ≡ d → g ≡ c → q ≤ p → 256 + t + z + f + g + q ≤ 256 + s + y + d + c + p
       add s t y z d f c g p q h i j k l = omega (arith, h, i, j, k, l)
@@ -365,11 +365,11 @@ module _ (e : WriteEnd) (r : Reviewed e) (brings : Brings e r) (noted : (d : ℕ
           (if_so (not (is_held x.phase) && is_changed core x) 12) (if_so (not (is_held x.phase) && is_changed after x) 12) (phase_left x.phase core x) (phase_left x.phase after x) less same_dirty
           (most (not (is_held x.phase) && is_changed after x)) (phase_less core after x (lacks_on x) x.phase)
 
-      by : ((aims after x.ask ≡ aims core x.ask) × (copies_are ≤ copies_were)) ⊎ (copies_are + 12 ≤ copies_were) → ((place_aims after x.ask ≡ place_aims core x.ask) × (places_are ≤ places_were)) ⊎ (places_are + 12 ≤ places_were)
+      by : ((aims after x.ask ≡ aims core x.ask) × (copies_are ≤ copies_were)) ⊎ (copies_are + 12 ≤ copies_were) → ((destination_aims after x.ask ≡ destination_aims core x.ask) × (places_are ≤ places_were)) ⊎ (places_are + 12 ≤ places_were)
           → unbegun_left after x ≤ unbegun_left core x
       by (inl same) (inl place) = add copies_were copies_are places_were places_are (if_so (lacks_dirty core x.ask) update_work) (if_so (lacks_dirty after x.ask) update_work)
           (if_so (not (is_held x.phase) && is_changed core x) 12) (if_so (not (is_held x.phase) && is_changed after x) 12) (phase_left x.phase core x) (phase_left x.phase after x) same.1 place.1 same_dirty
-          (ap (λ (ps : List Pp). if_so (not (is_held x.phase) && (is_write x.ask && not (same_pps (pps_of x.targets.items) (ps ++ place_aims after x.ask)))) 12) same.0
+          (ap (λ (ps : List Pp). if_so (not (is_held x.phase) && (is_write x.ask && not (same_pps (pps_of x.targets.items) (ps ++ destination_aims after x.ask)))) 12) same.0
           ∙ ap (λ (ps : List Pp). if_so (not (is_held x.phase) && (is_write x.ask && not (same_pps (pps_of x.targets.items) (aims core x.ask ++ ps)))) 12) place.0) (phase_less core after x (lacks_on x) x.phase)
       by (inl same) (inr less) = let a = same.1 in paid (omega (arith, a, less))
       by (inr less) (inl place) = let b = place.1 in paid (omega (arith, less, b))

@@ -14,7 +14,7 @@ use Rattle.lvm_path.specs.declared.request.Phase.TheVariants as phase
 use Rattle.lvm_path.specs.declared.request.Request.{Request}
 use Rattle.lvm_status.specs.declared.writes.Writes.{Writes}
 use Rattle.lvm_session.specs.Enabled.{same_status}
-use Rattle.lvm_session.specs.Judging.{copies_for, group_in, group_of, is_caught, is_changed, is_missing, is_settled, is_usable, is_waiting, mode_of, place_aims, places_for, pps_of, same_pps}
+use Rattle.lvm_session.specs.Judging.{copies_for, group_in, group_of, is_caught, is_changed, is_missing, is_settled, is_usable, is_waiting, mode_of, destination_aims, destinations_for, pps_of, same_pps}
 use Rattle.lvm_session.specs.State.{Core}
 use Rattle.lvm_session.specs.declared.open.Open.{Open}
 use Rattle.lvm_num.specs.Modes.{is_passive}
@@ -37,7 +37,7 @@ module _ (core : Core) (due : Pp → Bool) (wanted : Status) (writes : Writes) (
   place_same p = ap (λ (b : Bool). if not b && is_brought_up core p then 46 else 0) (missing_same core due wanted writes like p.disk)
 
   changed_same : (r : Request) → is_changed now r ≡ is_changed core r
-  changed_same r = ap (λ (ps : List Pp). is_write r.ask && not (same_pps (pps_of r.targets.items) (ps ++ place_aims core r.ask)))
+  changed_same r = ap (λ (ps : List Pp). is_write r.ask && not (same_pps (pps_of r.targets.items) (ps ++ destination_aims core r.ask)))
       (filter_alike (λ (p : Pp). is_usable now p || is_caught core (group_in core r.ask) p) (λ (p : Pp). is_usable core p || is_caught core (group_in core r.ask) p) (λ p. ap (λ b. b || is_caught core (group_in core r.ask) p) (usable_same core due wanted writes like p)) (copies_for core r.ask))
 
   phase_same : (p : Phase) (r : Request) → phase_left p now r ≡ phase_left p core r
@@ -52,7 +52,7 @@ module _ (core : Core) (due : Pp → Bool) (wanted : Status) (writes : Writes) (
   unbegun_same : (r : Request) → unbegun_left now r ≡ unbegun_left core r
   unbegun_same r =
       let turns = sum_same (turns_of core) (turns_of now) turns_same (copies_for core r.ask) in
-      let place = sum_same (place_turns core) (place_turns now) place_same (places_for core r.ask) in
+      let place = sum_same (place_turns core) (place_turns now) place_same (destinations_for core r.ask) in
       let dirty : if_so (lacks_dirty now r.ask) update_work ≡ if_so (lacks_dirty core r.ask) update_work = ap (λ b. if_so (is_passive (mode_of core r.ask) && not b) update_work) (dirty_same core due wanted writes like (lv_of r.ask)) in
       let changed_now : if_so (not (is_held r.phase) && is_changed now r) 12 ≡ if_so (not (is_held r.phase) && is_changed core r) 12 = ap (λ b. if_so (not (is_held r.phase) && b) 12) (changed_same r) in
       let phases = phase_same r.phase r in

@@ -13,10 +13,10 @@ use Rattle.lvm_path.specs.Asks.{is_write}
 use Rattle.lvm_path.specs.Next.{with_landing}
 use Rattle.lvm_path.specs.Targets.{is_failed}
 use Rattle.lvm_session.specs.declared.open.Open.{Open}
-use Rattle.lvm_session.specs.Judging.{aims, is_waiting, place_aims}
+use Rattle.lvm_session.specs.Judging.{aims, is_waiting, destination_aims}
 use Rattle.lvm_session.specs.Causes.{fails_on}
 use Rattle.lvm_session.specs.Dark.{ended_as}
-use Rattle.lvm_session.specs.Events.{Chooses, ChoosesBy, place_target, target_at}
+use Rattle.lvm_session.specs.Events.{Chooses, ChoosesBy, destination_target, target_at}
 use Rattle.lvm_session.specs.State.{State}
 use Rattle.lvm_keeps_events.proofs.passed.Names.{both}
 use Rattle.lvm_keeps_events.proofs.TargetsLemmas.{at_state}
@@ -64,12 +64,12 @@ chosen_fail_not s ask p (q ∷ ps) = chosen_fail_not s ask p ps
 pub chooses_none : {X : Type 0} (s : State) (ask : Ask) (p : Pp) (targets : List Target) (order : List ℕ) → Chooses s ask targets order → is_write ask ≡ true → list_any (fails_at p) targets ≡ true → X
 chooses_none {X} s ask p targets order chosen write e = by (is_write ask) write chosen
   where
-    none_of : (qs : List Pp) → list_any (fails_at p) (map (place_target s ask) qs) ≡ false
+    none_of : (qs : List Pp) → list_any (fails_at p) (map (destination_target s ask) qs) ≡ false
     none_of [] = refl
     none_of (q ∷ qs) = none_of qs
 
-    all_fail_not : (ps : List Pp) → list_any (fails_at p) (map (target_at s ask) ps ++ map (place_target s ask) (place_aims s.core ask)) ≡ false
-    all_fail_not [] = none_of (place_aims s.core ask)
+    all_fail_not : (ps : List Pp) → list_any (fails_at p) (map (target_at s ask) ps ++ map (destination_target s ask) (destination_aims s.core ask)) ≡ false
+    all_fail_not [] = none_of (destination_aims s.core ask)
     all_fail_not (q ∷ ps) = all_fail_not ps
 
     by : (b : Bool) → b ≡ true → ChoosesBy b s ask targets order → X

@@ -32,7 +32,7 @@ use Rattle.lvm_session.specs.Bringing.{ends_if, is_whole, marked_by_end}
 use Rattle.lvm_session.specs.Causes.{fails_on}
 use Rattle.lvm_session.specs.Ends.{CopyLearns, Ends, CopyStepsOn, Learns, NoteLearns, StepLearns, StepLeaves, with_copy, with_return, without_step}
 use Rattle.lvm_session.specs.Events.{landed_as}
-use Rattle.lvm_session.specs.Judging.{is_missing, is_place, is_running, is_stale, is_sure, is_sure_at, is_waiting, is_wanted_stale}
+use Rattle.lvm_session.specs.Judging.{is_missing, is_destination, is_running, is_stale, is_sure, is_sure_at, is_waiting, is_wanted_stale}
 use Rattle.lvm_session.specs.Marks.{WantsDirtyIf, due_of, end_by_write, hits_copy, is_among}
 use Rattle.lvm_session.specs.Requests.{IsAimed, IsShaped, IsTarget}
 use Rattle.lvm_session.specs.Sound.{IsCopy, IsSound}
@@ -55,7 +55,7 @@ use Rattle.lvm_keeps_events.proofs.StatusLemmas.{Passes, begun_passes, dark_pass
 
 -- a status that marks copies for their causes
 pub of_due : (due : Pp → Bool) (old new : State) → Passes due none old.core.status new.core.status
-    → ((p : Pp) → is_place old.core p ≡ false → due p ≡ true → (is_marked old.core p ≡ true) ⊎ (is_missing new.core p.disk ≡ true) ⊎ (has_failed_on new.core p ≡ true))
+    → ((p : Pp) → is_destination old.core p ≡ false → due p ≡ true → (is_marked old.core p ≡ true) ⊎ (is_missing new.core p.disk ≡ true) ⊎ (has_failed_on new.core p ≡ true))
     → ((p : Pp) → has_failed_on new.core p ≡ true → (has_failed_on old.core p ≡ true) ⊎ Rose (old.device.counts.faults p.disk) (new.device.counts.faults p.disk)) → MarksFor old new
 of_due due old new passes why failed = record {
   marked = λ p copy e. by p copy (marked_by due none old.core.status new.core.status passes p e);
@@ -64,7 +64,7 @@ of_due due old new passes why failed = record {
   missing = passes.missing;
 }
   where
-    by : (p : Pp) → is_place old.core p ≡ false → (is_marked old.core p ≡ true) ⊎ (due p ≡ true) → (is_marked old.core p ≡ true) ⊎ (is_missing new.core p.disk ≡ true) ⊎ (has_failed_on new.core p ≡ true)
+    by : (p : Pp) → is_destination old.core p ≡ false → (is_marked old.core p ≡ true) ⊎ (due p ≡ true) → (is_marked old.core p ≡ true) ⊎ (is_missing new.core p.disk ≡ true) ⊎ (has_failed_on new.core p ≡ true)
     by p copy (inl was) = inl was
     by p copy (inr is) = why p copy is
 
@@ -110,7 +110,7 @@ module _ (old : State) (sound : IsSound old) (on : old.core.power ≡ power.On) 
   bring c is = subst (λ m. IfSome m (IsCopy old.core)) is ((sound.on on).going).copy
 
   -- while it is whole its partition is stale, where it is a copy
-  whole_marked : (c : OpenCopy) (p : Pp) → is_place old.core p ≡ false → old.core.copy ≡ Some c → is_running c ≡ true → is_whole old.core c ≡ true → is_pp p c.pp ≡ true → is_marked old.core p ≡ true
+  whole_marked : (c : OpenCopy) (p : Pp) → is_destination old.core p ≡ false → old.core.copy ≡ Some c → is_running c ≡ true → is_whole old.core c ≡ true → is_pp p c.pp ≡ true → is_marked old.core p ≡ true
   whole_marked c p copy is runs whole same = by c.moves refl
     where
       by : (b : Bool) → c.moves ≡ b → is_marked old.core p ≡ true
@@ -194,7 +194,7 @@ module _ (old : State) (sound : IsSound old) (on : old.core.power ≡ power.On) 
         by (inr is) = let parts = both (is_waiting was && is_write was.request.ask) (list_any (fails_at p) now.request.targets.items) is in of parts.0 (set_fails p was.request.targets.items target its (end_state ok) parts.1)
 
     -- a target that is due has failed, or wasn't sure
-    due_why : (p : Pp) → is_place old.core p ≡ false → is_among (due_of between now.request) p ≡ true → (is_marked old.core p ≡ true) ⊎ (is_missing new.core p.disk ≡ true) ⊎ (has_failed_on new.core p ≡ true)
+    due_why : (p : Pp) → is_destination old.core p ≡ false → is_among (due_of between now.request) p ≡ true → (is_marked old.core p ≡ true) ⊎ (is_missing new.core p.disk ≡ true) ⊎ (has_failed_on new.core p ≡ true)
     due_why p copy among = by one.blame
       where
         one : IsDueOne between now.request p
@@ -228,7 +228,7 @@ module _ (old : State) (sound : IsSound old) (on : old.core.power ≡ power.On) 
         by (inr none_sure) = inl (unsure (is_stale old.core p) (calls_stale (unwrap_or old.core.status.in_flight old.core.status.committed) p) (is_wanted_stale old.core p) (ap (is_sure between) one.it.pp_is ∙ sym (ap (λ b. not b && is_sure between one.it.target.pp) moves_not) ∙ none_sure))
 
     -- the copy that fails with it was whole
-    copy_why : (p : Pp) → is_place old.core p ≡ false → marked_by_end between (end_by_write between now ok its.pp) p ≡ true → is_marked old.core p ≡ true
+    copy_why : (p : Pp) → is_destination old.core p ≡ false → marked_by_end between (end_by_write between now ok its.pp) p ≡ true → is_marked old.core p ≡ true
     copy_why p copied e = whole_marked copy.0 p copied copy.1 (runs (option_map_or (hits_copy between now ok its.pp) old.core.copy false) refl e) whole.0 whole.1
       where
         copy : (c : OpenCopy) × (old.core.copy ≡ Some c)
@@ -249,7 +249,7 @@ module _ (old : State) (sound : IsSound old) (on : old.core.power ≡ power.On) 
     pub data_marks : MarksFor old new
     data_marks = of_due due old new passes (λ p copy e. by p copy (either (is_among (due_of between now.request) p) (marked_by_end between (end_by_write between now ok its.pp) p) e)) failed
       where
-        by : (p : Pp) → is_place old.core p ≡ false → (is_among (due_of between now.request) p ≡ true) ⊎ (marked_by_end between (end_by_write between now ok its.pp) p ≡ true) → (is_marked old.core p ≡ true) ⊎ (is_missing new.core p.disk ≡ true) ⊎ (has_failed_on new.core p ≡ true)
+        by : (p : Pp) → is_destination old.core p ≡ false → (is_among (due_of between now.request) p ≡ true) ⊎ (marked_by_end between (end_by_write between now ok its.pp) p ≡ true) → (is_marked old.core p ≡ true) ⊎ (is_missing new.core p.disk ≡ true) ⊎ (has_failed_on new.core p ≡ true)
         by p copy (inl among) = due_why p copy among
         by p copy (inr marked) = inl (copy_why p copy marked)
 

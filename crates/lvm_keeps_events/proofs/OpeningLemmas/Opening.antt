@@ -22,6 +22,7 @@ use Rattle.lvm_hold.specs.declared.queue.Row.{Row}
 use Rattle.lvm_hold.specs.Conflicts.{conflicts}
 use Rattle.lvm_path.specs.declared.request.Phase.{Phase}
 use Rattle.lvm_path.specs.declared.request.Phase.TheVariants as phase
+use Rattle.lvm_path.specs.declared.ask.Ask.{Ask}
 use Rattle.lvm_path.specs.declared.target.Target.{Target}
 use Rattle.lvm_path.specs.Targets.{is_done, is_failed}
 use Rattle.lvm_session.specs.declared.bringing.OpenCopy.{OpenCopy}
@@ -32,7 +33,7 @@ use Rattle.lvm_session.specs.declared.flown.Owner.TheVariants as owner
 use Rattle.lvm_session.specs.declared.open.Open.{Open}
 use Rattle.lvm_session.specs.declared.open.Power.TheVariants as power
 use Rattle.lvm_session.specs.State.{Core, State, is_there, state}
-use Rattle.lvm_session.specs.Judging.{copies_in, group_in, held_of, is_caught, is_held_back, is_kept, is_missing, is_running, is_settled, is_stale, is_usable, is_waiting, is_wanted_stale, place_of, pps_of, is_beside_copy, places_if}
+use Rattle.lvm_session.specs.Judging.{copies_in, group_in, held_of, is_caught, is_held_back, is_kept, is_missing, is_running, is_settled, is_stale, is_usable, is_waiting, is_wanted_stale, place_of, pps_of, is_beside_copy, destinations_for, destinations_if}
 use Rattle.lvm_session.specs.Bringing.{copy_ends, ends_if, groups_of, is_cleared, is_out, is_whole, next_source, sources_of, step_place, step_row}
 use Rattle.lvm_session.specs.Enabled.{same_status}
 use Rattle.lvm_session.specs.declared.answers.CopyFault.{CopyFault}
@@ -44,10 +45,11 @@ use Rattle.lvm_num.proofs.Lists.{all_weaker, all_both}
 use Rattle.lvm_session.specs.Marks.{is_among}
 use Rattle.lvm_session.specs.Asking.{IsAwake}
 use Rattle.lvm_session.specs.Causes.{AreCaused, AreCounted, IsAnswered, IsCaused, IsChosenSince, IsCausedAmong, IsLandedFor, fails_on, faults_at_first, faults_at_opening, is_held_stale, own_faults}
-use Rattle.lvm_session.specs.Left.{copy_updates, marks_later, updates_left}
+use Rattle.lvm_session.specs.Left.{copy_updates, if_so, marks_later, updates_left}
 use Rattle.lvm_session.specs.Owners.{AreOwned, IsTransferOf, flies, target_flies}
-use Rattle.lvm_session.specs.Requests.{IsOpenOne, IsPhase, IsRequest, is_failed_and_sure, is_left_out, may_lack, will_be_kept}
-use Rattle.lvm_session.specs.Sound.{IsAsked, IsCopy, IsFitting, IsGoing, IsOn, IsSound, IsTold, count_if, is_dark, is_hand, out_with, pins, rows_of, waiting_rows, with_row}
+use Rattle.lvm_session.specs.Requests.{IsAimed, IsOpenOne, IsPhase, IsTarget, IsRequest, is_failed_and_sure, is_left_out, may_lack, will_be_kept}
+use Rattle.lvm_session.specs.Sound.{IsAsked, IsCopy, IsFitting, IsGoing, IsOfKind, IsOn, IsSound, IsStaleCopy, IsTold, count_if, is_dark, is_hand, out_with, pins, rows_of, waiting_rows, with_row}
+use Rattle.lvm_session.proofs.MovesLemmas.{among_filtered}
 use Rattle.lvm_calls.proofs.LogLemmas.{below_next}
 use Rattle.lvm_calls.specs.Opening.{counts_seen, faults_seen}
 use Rattle.lvm_calls.proofs.OpeningLemmas.{IsTaken, copies_are, taken}
@@ -59,7 +61,7 @@ use Rattle.lvm_keeps.proofs.SoundLemmas.Fitting.{still_fits}
 use Rattle.lvm_keeps.proofs.Lists.{all_mapped}
 use Rattle.lvm_keeps.proofs.OwnersLemmas.Rows.{all_fly, rows_by, status_still}
 use Rattle.lvm_keeps.proofs.Small.{and_on, most_on, none_on}
-use Rattle.lvm_keeps.proofs.RequestsLemmas.{if_on, laid_on, moved, ready_on, shape_on}
+use Rattle.lvm_keeps.proofs.RequestsLemmas.{if_on, kind_still, laid_on, moved, ready_on}
 use Rattle.lvm_keeps.proofs.LeftLemmas.Updates.{one_if}
 use Rattle.lvm_keeps.proofs.SoundLemmas.Whole.{sound_when_on}
 use Rattle.lvm_keeps_events.specs.Opening.{SeenOpenKeeps}
@@ -67,18 +69,22 @@ use Rattle.lvm_keeps_events.proofs.OpeningLemmas.Aging.{any_aged, asked_aged, co
 
 -- ---- what a copy is that isn't refused
 
-pub record IsFine (core : Core) (copies : List Pp) (p : Pp) : Type 0 where
-  pub settled : is_settled core p ≡ true
+-- its disk is there, another copy can be read, and there are numbers enough
+pub record IsReadable (core : Core) (copies : List Pp) (p : Pp) : Type 0 where
   pub there : is_missing core p.disk ≡ false
   pub other : list_any (λ (q : Pp). not (is_pp q p) && is_usable core q) copies ≡ true
   pub numbers : has_numbers core ≡ true
+
+pub record IsFine (core : Core) (copies : List Pp) (p : Pp) : Type 0 where
+  pub settled : is_settled core p ≡ true
+  pub readable : IsReadable core copies p
 
 fine_of : (core : Core) (copies : List Pp) (p : Pp) → refusal_at core copies p ≡ None → IsFine core copies p
 fine_of core copies p is = by (is_settled core p) (is_missing core p.disk) (list_any (λ (q : Pp). not (is_pp q p) && is_usable core q) copies) (has_numbers core) refl refl refl refl is
   where
     by : (a b c d : Bool) → is_settled core p ≡ a → is_missing core p.disk ≡ b → list_any (λ (q : Pp). not (is_pp q p) && is_usable core q) copies ≡ c → has_numbers core ≡ d
         → (if not a then Some refusal.AlreadyFresh else if b then Some (refusal.Missing p.disk) else if not c then Some refusal.NoFresh else if d then None else Some refusal.HistoryFull) ≡ None → IsFine core copies p
-    by true false true true s t o n e = record { settled = s; there = t; other = o; numbers = n }
+    by true false true true s t o n e = record { settled = s; readable = record { there = t; other = o; numbers = n } }
     by true false true false s t o n e = absurd (cc e)
     by true false false d s t o n e = absurd (cc e)
     by true true c d s t o n e = absurd (cc e)
@@ -139,16 +145,52 @@ phase_aged phase.Data o its = its
 phase_aged phase.WantStatus o its = its
 phase_aged phase.Landed o its = its
 
--- ---- the copy is opened
+-- ---- nothing of it is copied
 
-module _ (s : State) (sound : IsSound s) (on : s.core.power ≡ power.On) (none : s.core.copy ≡ None) (lv lp number : ℕ) (row : LvRow) (volume : volume_of s.core.descriptor lv ≡ Some row) (within : lp < row.lps)
-    (pp : Pp) (copy_is : copy_at (copies_of row lp) number ≡ Some pp) (fine : IsFine s.core (copies_of row lp) pp) (tried : ℕ) (nothing : (d : ℕ) → has tried d ≡ false)
-    (counts : Counts) (low : (disk : ℕ) → faults_at_first s.core disk ≤ counts.faults disk) (high : (disk : ℕ) → counts.faults disk ≤ s.device.counts.faults disk) where
+-- a logical partition has a track group
+pub not_whole : (core : Core) → IsFitting core → not (nat_lt 0 (groups_of core)) ≡ false
+not_whole core fitting = ap not (less (groups_of core) some_groups)
+  where
+    some_groups : 1 ≤ groups_of core
+    some_groups = let some = positive core.descriptor.mib fitting.valid.head.size in groups core.descriptor.mib some
+      where
+        positive : (mib : ℕ) → IsTrue (is_size mib) → 1 ≤ mib
+        positive zero is = absurd (cc is)
+        positive (suc mib) is = omega arith
+
+        groups : (mib : ℕ) → 1 ≤ mib → 1 ≤ track_group_of (partition_blocks mib)
+        groups mib some = omega (arith, some)
+
+    less : (n : ℕ) → 1 ≤ n → nat_lt 0 n ≡ true
+    less n some = grind (arith, some)
+
+-- a stale copy as it is opened
+stale_one : (core : Core) → IsGoing core → core.copy ≡ None → (lv lp number : ℕ) (row : LvRow) → volume_of core.descriptor lv ≡ Some row → (pp : Pp) → copy_at (copies_of row lp) number ≡ Some pp → is_settled core pp ≡ true
+    → (tried : ℕ) (faults : List ℕ) (place : ℕ) → IsStaleCopy core (opened false pp lv lp number tried faults place)
+stale_one core going none lv lp number row volume pp copy_is settled tried faults place = record {
+  its = ap (λ ps. copy_at ps number) (copies_are core.descriptor lv lp row volume) ∙ copy_is;
+  stale = λ runs e. (settled, wanted);
+  clearing = λ runs e. not_so (sym (not_whole core going.fitting) ∙ e);
+}
+  where
+    stale : is_stale core pp ≡ true
+    stale = first_holds (is_stale core pp) _ settled
+
+    wanted : is_wanted_stale core pp ≡ true
+    wanted = true_from_ne_false (is_wanted_stale core pp) (λ clear. not_so (sym (ap (λ m. option_map_or (λ (k : OpenCopy). is_running k && is_whole core k && is_pp pp k.pp) m false) none)
+        ∙ going.clearings pp (ap (λ b. b || calls_stale (unwrap_or core.status.in_flight core.status.committed) pp) stale) clear))
+
+-- ---- the copy is opened, or begins to move
+
+module _ (s : State) (sound : IsSound s) (on : s.core.power ≡ power.On) (none : s.core.copy ≡ None) (moves : Bool) (lv lp number : ℕ) (row : LvRow) (volume : volume_of s.core.descriptor lv ≡ Some row) (within : lp < row.lps)
+    (pp : Pp) (readable : IsReadable s.core (copies_of row lp) pp) (tried : ℕ) (nothing : (d : ℕ) → has tried d ≡ false) (counts : Counts)
+    (kind : IsOfKind moves s.core (opened moves pp lv lp number tried (faults_of counts (copies_of row lp) pp) (step_place s.core)))
+    (low : (disk : ℕ) → faults_at_first s.core disk ≤ counts.faults disk) (high : (disk : ℕ) → counts.faults disk ≤ s.device.counts.faults disk) where
   abbrev core : Core
   core = s.core
 
   abbrev c : OpenCopy
-  c = opened false pp lv lp number tried (faults_of counts (copies_of row lp) pp) (step_place core)
+  c = opened moves pp lv lp number tried (faults_of counts (copies_of row lp) pp) (step_place core)
 
   abbrev table : List Open
   table = map aged core.requests
@@ -191,21 +233,8 @@ module _ (s : State) (sound : IsSound s) (on : s.core.power ≡ power.On) (none 
   was_none : (group : ℕ) (p : Pp) → is_caught core group p ≡ false
   was_none group p = of_none (λ (k : OpenCopy). is_running k && is_pp p k.pp && nat_lt group k.cursor) false
 
-  some_groups : 1 ≤ groups_of core
-  some_groups = let some = positive core.descriptor.mib sound.fitting.valid.head.size in groups core.descriptor.mib some
-    where
-      positive : (mib : ℕ) → IsTrue (is_size mib) → 1 ≤ mib
-      positive zero is = absurd (cc is)
-      positive (suc mib) is = omega arith
-
-      groups : (mib : ℕ) → 1 ≤ mib → 1 ≤ track_group_of (partition_blocks mib)
-      groups mib some = omega (arith, some)
-
   short : is_whole now.core c ≡ false
-  short = ap not (less (groups_of core) some_groups)
-    where
-      less : (n : ℕ) → 1 ≤ n → nat_lt 0 n ≡ true
-      less n some = grind (arith, some)
+  short = not_whole core sound.fitting
 
   -- ---- requests
 
@@ -217,6 +246,14 @@ module _ (s : State) (sound : IsSound s) (on : s.core.power ≡ power.On) (none 
     where
       behind : (n id : ℕ) → id < n → nat_lt (2 * n - 1) (2 * id) ≡ false
       behind n id less = grind (arith, less)
+
+  -- before there was no place to which a copy moves
+  target_on : (ask : Ask) (t : Target) → IsTarget core ask t → IsTarget now.core ask t
+  target_on ask t its = record { copy = aimed t.moves its.copy; sector = its.sector; there = its.there }
+    where
+      aimed : (b : Bool) → IsAimed b core ask t → IsAimed b now.core ask t
+      aimed false among = among
+      aimed true place = not_so (sym (ap (λ (ps : List Pp). is_among ps t.pp) (of_none (λ (k : OpenCopy). destinations_if (k.moves && is_beside_copy core ask k) k) [])) ∙ place.0)
 
   one : (o : Open) → IsOpenOne core o × (o.request.id < next_id core.history) → IsOpenOne now.core (aged o)
   one o both =
@@ -233,9 +270,9 @@ module _ (s : State) (sound : IsSound s) (on : s.core.power ≡ power.On) (none 
       request_on : IsRequest core o → (is_held_back core o.request ≡ false → is_held_back now.core o.request ≡ false)
           → ((p : Pp) → is_caught core (group_in core o.request.ask) p ≡ false → is_caught now.core (group_in core o.request.ask) p ≡ false) → IsRequest now.core (aged o)
       request_on r free caught =
-          let shape = shape_on core core.history table now.core.queue (Some c) core.pool core.flying core.cache.entries core.last (λ ask. of_none (λ (k : OpenCopy). places_if (k.moves && is_beside_copy core ask k) k) []) o r.shape in
+          let shape = r.shape in
           record {
-            shape = record { targets = shape.targets; phase_is = phase_aged o.request.phase o shape.phase_is; hand = shape.hand; room = shape.room; differ = shape.differ; usable = shape.usable; one = shape.one };
+            shape = record { targets = all_weaker (IsTarget core o.request.ask) (IsTarget now.core o.request.ask) (target_on o.request.ask) o.request.targets.items shape.targets; phase_is = phase_aged o.request.phase o shape.phase_is; hand = shape.hand; room = shape.room; differ = shape.differ; usable = shape.usable; one = shape.one };
             ready = ready_on core core.history table now.core.queue (Some c) core.pool core.flying core.cache.entries core.last o free caught r.ready;
             judged = λ write. let j = r.judged write in record {
               uncaught = all_none o.request.targets.items;
@@ -244,7 +281,7 @@ module _ (s : State) (sound : IsSound s) (on : s.core.power ≡ power.On) (none 
                   (λ t. and_on (is_done t.state) (is_caught core (group_in core o.request.ask) t.pp) (is_caught now.core (group_in core o.request.ask) t.pp) (caught t.pp)) o.request.targets.items) (j.due status);
               missed = j.missed;
               all = λ begun p among. let was = j.all begun p among in left_same p was;
-              place = λ begun p among. not_so among;
+              place = λ begun p among. not_so (sym (not_caught (group_in core o.request.ask) p) ∙ (among_filtered (is_caught now.core (group_in core o.request.ask)) (destinations_for now.core o.request.ask) p among).1);
             };
           }
         where
@@ -258,18 +295,12 @@ module _ (s : State) (sound : IsSound s) (on : s.core.power ≡ power.On) (none 
 
   -- ---- the copy
 
-  stale : is_stale core pp ≡ true
-  stale = first_holds (is_stale core pp) _ fine.settled
-
-  wanted : is_wanted_stale core pp ≡ true
-  wanted = true_from_ne_false (is_wanted_stale core pp) (λ clear. not_so (sym (of_none (λ (k : OpenCopy). is_running k && is_whole core k && is_pp pp k.pp) false) ∙ going.clearings pp (ap (λ b. b || calls_stale (unwrap_or core.status.in_flight core.status.committed) pp) stale) clear))
-
   bring : IsCopy now.core c
   bring = record {
     row = row;
     volume = volume;
     lp = within;
-    kind = record { its = ap (λ ps. copy_at ps number) copies ∙ copy_is; stale = λ runs e. (fine.settled, wanted); clearing = λ runs e. not_so (sym short ∙ e) };
+    kind = kind_still core now.core c c.step c.tried c.end refl refl refl (λ goes. goes) moves kind;
     cursor = omega arith;
     faults = four counts (copies_of row lp) pp;
     place = before (next_id core.history) (omega arith);
@@ -317,7 +348,7 @@ module _ (s : State) (sound : IsSound s) (on : s.core.power ≡ power.On) (none 
 
   reads_on : (length (sources_of core c) == 0 ≡ false) × (is_none (next_source core c) ≡ false)
   reads_on = some_source (λ (p : Pp). not (has tried p.disk)) (λ (p : Pp). not (is_pp p pp) && is_usable core p) (copies_in core.descriptor lv lp) (λ p. ap not (nothing p.disk))
-      (subst (λ ps. list_any (λ (q : Pp). not (is_pp q pp) && is_usable core q) ps ≡ true) (sym copies) fine.other)
+      (subst (λ ps. list_any (λ (q : Pp). not (is_pp q pp) && is_usable core q) ps ≡ true) (sym copies) readable.other)
 
   goes_on : (m w z i : Bool) (d : Option CopyEnd) → m ≡ false → w ≡ false → z ≡ false → i ≡ false
       → (if m then Some ending.SyncFailed else if w then d else if z then Some ending.NoFresh else ends_if (true && i) ending.SyncFailed) ≡ None
@@ -328,7 +359,7 @@ module _ (s : State) (sound : IsSound s) (on : s.core.power ≡ power.On) (none 
   goes_on false false false false d there less some source = refl
 
   reviewed : copy_ends now.core ≡ None
-  reviewed = goes_on (is_missing core pp.disk) (is_whole core c) (length (sources_of core c) == 0) (is_none (next_source core c)) (ends_if (is_cleared core c) ending.Done) fine.there short reads_on.0 reads_on.1
+  reviewed = goes_on (is_missing core pp.disk) (is_whole core c) (length (sources_of core c) == 0) (is_none (next_source core c)) (ends_if (is_cleared now.core c) ending.Done) readable.there short reads_on.0 reads_on.1
 
   -- ---- numbers
 
@@ -345,9 +376,15 @@ module _ (s : State) (sound : IsSound s) (on : s.core.power ≡ power.On) (none 
       let disks = sound.fitting.valid.head.members in
       let wide = few_members core.descriptor.big in
       let wants = one_if (not (same_status core.status.wanted (unwrap_or core.status.in_flight core.status.committed))) in
-      let copy : copy_updates now.core c ≡ 2 = ap (λ b. (if b then 1 else 2) + 0) short in
-      let free = ltb-true (core.status.stamp.seq + 65536) (2 ^ 32) fine.numbers in
+      let copy : copy_updates now.core c ≤ 3 = few_updates (is_whole now.core c) moves in
+      let free = ltb-true (core.status.stamp.seq + 65536) (2 ^ 32) readable.numbers in
       omega (arith, later, long, held, limit, clean, volumes, big, members, disks, wide, wants, copy, free)
+    where
+      few_updates : (w b : Bool) → (if w then 1 else 2) + if_so b 1 ≤ 3
+      few_updates true true = omega arith
+      few_updates true false = omega arith
+      few_updates false true = omega arith
+      few_updates false false = omega arith
 
   -- ---- what goes on
 
@@ -420,7 +457,7 @@ module _ (s : State) (sound : IsSound s) (on : s.core.power ≡ power.On) (none 
 
 -- ---- or refused
 
-same_row : (core : Core) (lv : ℕ) (a b : LvRow) → volume_of core.descriptor lv ≡ Some a → volume_of core.descriptor lv ≡ Some b → a ≡ b
+pub same_row : (core : Core) (lv : ℕ) (a b : LvRow) → volume_of core.descriptor lv ≡ Some a → volume_of core.descriptor lv ≡ Some b → a ≡ b
 same_row core lv a b one two = cc (sym one ∙ two)
 
 same_pp : (ps : List Pp) (number : ℕ) (a b : Pp) → copy_at ps number ≡ Some a → copy_at ps number ≡ Some b → a ≡ b
@@ -429,7 +466,7 @@ same_pp ps number a b one two = cc (sym one ∙ two)
 opens_keeps : (s : State) (new : Core) (lv lp number : ℕ) (counts : Counts) → ((disk : ℕ) → faults_at_first s.core disk ≤ counts.faults disk) → ((disk : ℕ) → counts.faults disk ≤ s.device.counts.faults disk)
     → IsSound s → IsTaken s.core lv lp number → Opens counts s.core new lv lp number → IsSound (state s.device new)
 opens_keeps s new lv lp number counts low high sound it event =
-    subst (λ core. IsSound (state s.device core)) (sym event.is) (keeps s sound it.on it.none lv lp number event.row event.volume within event.pp event.copy_is fine event.tried event.nothing counts low high)
+    subst (λ core. IsSound (state s.device core)) (sym event.is) (keeps s sound it.on it.none false lv lp number event.row event.volume within event.pp fine.readable event.tried event.nothing counts stale low high)
   where
     rows : it.its.row ≡ event.row
     rows = same_row s.core lv it.its.row event.row it.its.volume event.volume
@@ -443,6 +480,9 @@ opens_keeps s new lv lp number counts low high sound it event =
     fine : IsFine s.core (copies_of event.row lp) event.pp
     fine = subst (IsFine s.core (copies_of event.row lp)) pps (subst (λ (r : LvRow). IsFine s.core (copies_of r lp) it.its.pp) rows (fine_of s.core (copies_of it.its.row lp) it.its.pp it.fine))
 
+    stale : IsStaleCopy s.core (opened false event.pp lv lp number event.tried (faults_of counts (copies_of event.row lp) event.pp) (step_place s.core))
+    stale = stale_one s.core (sound.on it.on).going it.none lv lp number event.row event.volume event.pp event.copy_is fine.settled event.tried (faults_of counts (copies_of event.row lp) event.pp) (step_place s.core)
+
 gives_keeps : (s : State) (new : Core) (lv lp number : ℕ) (answer : Result (Unit {0}) CopyFault) (counts : Counts) → ((disk : ℕ) → faults_at_first s.core disk ≤ counts.faults disk)
     → ((disk : ℕ) → counts.faults disk ≤ s.device.counts.faults disk) → IsSound s → IsAwake s.core → OpenGives counts s.core new lv lp number answer → IsSound (state s.device new)
 gives_keeps s new lv lp number answer counts low high sound awake gives = by (copy_fault s.core lv lp number) refl gives
@@ -455,19 +495,21 @@ gives_keeps s new lv lp number answer counts low high sound awake gives = by (co
 pub open_keeps : OpenKeeps
 open_keeps s new lv lp number answer sound awake gives = gives_keeps s new lv lp number answer s.device.counts sound.origin.since (λ disk. omega arith) sound awake gives
 
-pub seen_open_keeps : SeenOpenKeeps
-seen_open_keeps s new lv lp number answer sound awake gives = gives_keeps s new lv lp number answer (counts_seen s.device s.core) (λ disk. low disk) (λ disk. high disk) sound awake gives
-  where
-    low : (disk : ℕ) → faults_at_first s.core disk ≤ faults_seen s.device s.core disk
-    low disk = by (nat_lt disk (length s.device.sizes))
-      where
-        by : (b : Bool) → faults_at_first s.core disk ≤ (if b then s.device.counts.faults disk else faults_at_first s.core disk)
-        by true = sound.origin.since disk
-        by false = omega arith
+-- ---- the faults that code sees
 
-    high : (disk : ℕ) → faults_seen s.device s.core disk ≤ s.device.counts.faults disk
-    high disk = by (nat_lt disk (length s.device.sizes))
-      where
-        by : (b : Bool) → (if b then s.device.counts.faults disk else faults_at_first s.core disk) ≤ s.device.counts.faults disk
-        by true = omega arith
-        by false = sound.origin.since disk
+pub seen_low : (s : State) → IsSound s → (disk : ℕ) → faults_at_first s.core disk ≤ faults_seen s.device s.core disk
+seen_low s sound disk = by (nat_lt disk (length s.device.sizes))
+  where
+    by : (b : Bool) → faults_at_first s.core disk ≤ (if b then s.device.counts.faults disk else faults_at_first s.core disk)
+    by true = sound.origin.since disk
+    by false = omega arith
+
+pub seen_high : (s : State) → IsSound s → (disk : ℕ) → faults_seen s.device s.core disk ≤ s.device.counts.faults disk
+seen_high s sound disk = by (nat_lt disk (length s.device.sizes))
+  where
+    by : (b : Bool) → (if b then s.device.counts.faults disk else faults_at_first s.core disk) ≤ s.device.counts.faults disk
+    by true = omega arith
+    by false = sound.origin.since disk
+
+pub seen_open_keeps : SeenOpenKeeps
+seen_open_keeps s new lv lp number answer sound awake gives = gives_keeps s new lv lp number answer (counts_seen s.device s.core) (seen_low s sound) (seen_high s sound) sound awake gives

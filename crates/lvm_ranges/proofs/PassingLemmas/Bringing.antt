@@ -11,7 +11,7 @@ use Rattle.lvm_session.specs.declared.bringing.OpenCopy.{OpenCopy}
 use Rattle.lvm_session.specs.declared.open.Power.TheVariants as power
 use Rattle.lvm_session.specs.Bringing.{is_out}
 use Rattle.lvm_session.specs.Calls.{closed, copy_state, state_at_end, state_of_copy, is_still_aimed}
-use Rattle.lvm_session.specs.Judging.{is_missing, is_moved}
+use Rattle.lvm_session.specs.Judging.{is_missing, is_move_done}
 use Rattle.lvm_disk.specs.Device.{Device}
 use Rattle.lvm_session.specs.State.{Core, State, state}
 use Rattle.lvm_session.specs.Sound.{IsSound}
@@ -50,7 +50,7 @@ runs_under_way s sound runs drained = still_ended s sound drained runs
 
 -- one that has ended otherwise than with the session has ended as a caller expects it
 has_ended : (core : Core) (c : OpenCopy) → (c.end ≡ Some ending.Ended → ⊥) → ((cursor : ℕ) → state_of_copy core c ≡ copy.Running cursor → ⊥) → CopyHasEnded (state_of_copy core c)
-has_ended core c goes still = by (is_out c.step || is_still_aimed core c) (is_moved core c) c.end goes still
+has_ended core c goes still = by (is_out c.step || is_still_aimed core c) (is_move_done core c) c.end goes still
   where
     of : (how : CopyEnd) → (how ≡ ending.Ended → ⊥) → CopyHasEnded (state_at_end c how)
     of ending.Done ends = tt

@@ -31,7 +31,7 @@ use Rattle.lvm_session.specs.Bringing.{is_out, is_whole}
 use Rattle.lvm_session.specs.Calls.{is_aimed_at, is_still_aimed, state_at_end, state_of_copy}
 use Rattle.lvm_session.specs.Dark.{hand_of_copy}
 use Rattle.lvm_session.specs.Enabled.{first_of, has_buffer, is_status_due, landing, or_next, parts_to_settle, parts_to_start, same_status}
-use Rattle.lvm_session.specs.Judging.{is_beside_copy, stays_fresh, is_held_by_move, is_moved, is_running, is_under_way, is_waiting}
+use Rattle.lvm_session.specs.Judging.{is_beside_copy, stays_fresh, is_held_by_move, is_move_done, is_running, is_under_way, is_waiting}
 use Rattle.lvm_session.specs.Owners.{AreRows, flies, same_owner}
 use Rattle.lvm_session.specs.Requests.{IsOpenOne}
 use Rattle.lvm_session.specs.Sound.{IsGoing, IsOn, IsSound, count_if, has_number, is_dark, is_hand}
@@ -78,7 +78,7 @@ module _ (s : State) (sound : IsSound s) (drained : IsDrained s) where
 
   -- ---- what doesn't wait for a move that is done is over
 
-  stands : (list_any (λ (o : Open). is_waiting o && not (is_held_by_move core o.request.ask)) core.requests ≡ false) × IfSome core.copy (λ (c : OpenCopy). is_running c && not (is_moved core c) ≡ false)
+  stands : (list_any (λ (o : Open). is_waiting o && not (is_held_by_move core o.request.ask)) core.requests ≡ false) × IfSome core.copy (λ (c : OpenCopy). is_running c && not (is_move_done core c) ≡ false)
   stands = never_stands_still s sound drained.on drained.votes drained.none drained.idle
 
   -- ---- a copy that is open has ended
@@ -94,11 +94,11 @@ module _ (s : State) (sound : IsSound s) (drained : IsDrained s) where
       ended c (Some ending.Ended) over e = cc e
 
       -- a move that is done runs, so that it is told as done
-      moved : (c : OpenCopy) → is_out c.step ≡ false → is_moved core c ≡ true → state_of_copy core c ≡ copy.Running runs.0 → ⊥
+      moved : (c : OpenCopy) → is_out c.step ≡ false → is_move_done core c ≡ true → state_of_copy core c ≡ copy.Running runs.0 → ⊥
       moved c rests done e =
           let told : copy.Done ≡ copy.Running runs.0 = sym (
-          ap (λ b. if b || is_still_aimed core c then copy.Running c.cursor else if is_moved core c then copy.Done else option_map_or (state_at_end c) c.end (copy.Running c.cursor)) rests
-          ∙ ap (λ b. if b then copy.Running c.cursor else if is_moved core c then copy.Done else option_map_or (state_at_end c) c.end (copy.Running c.cursor)) unaimed
+          ap (λ b. if b || is_still_aimed core c then copy.Running c.cursor else if is_move_done core c then copy.Done else option_map_or (state_at_end c) c.end (copy.Running c.cursor)) rests
+          ∙ ap (λ b. if b then copy.Running c.cursor else if is_move_done core c then copy.Done else option_map_or (state_at_end c) c.end (copy.Running c.cursor)) unaimed
           ∙ ap (λ b. if b then copy.Done else option_map_or (state_at_end c) c.end (copy.Running c.cursor)) done
           ) ∙ e in cc told
         where
@@ -129,7 +129,7 @@ module _ (s : State) (sound : IsSound s) (drained : IsDrained s) where
 
       by : (m : Option OpenCopy) → core.copy ≡ m → ⊥
       by None is = let e : copy.Closed ≡ copy.Running runs.0 = sym (ap (λ m. option_map_or (state_of_copy core) m copy.Closed) is) ∙ runs.1 in cc e
-      by (Some c) is = by_move (is_moved core c) refl
+      by (Some c) is = by_move (is_move_done core c) refl
         where
           rests : is_out c.step ≡ false
           rests = sym (ap (λ m. option_map_or (λ (d : OpenCopy). is_out d.step) m false) is) ∙ none_out owner.Copy
@@ -137,15 +137,15 @@ module _ (s : State) (sound : IsSound s) (drained : IsDrained s) where
           told : state_of_copy core c ≡ copy.Running runs.0
           told = sym (ap (λ m. option_map_or (state_of_copy core) m copy.Closed) is) ∙ runs.1
 
-          by_move : (b : Bool) → is_moved core c ≡ b → ⊥
+          by_move : (b : Bool) → is_move_done core c ≡ b → ⊥
           by_move true done = moved c rests done told
           by_move false undone = ended c c.end stopped (sym (state_ended core c stopped rests landed) ∙ told)
             where
               stopped : is_running c ≡ false
-              stopped = sym (and_true (is_running c)) ∙ sym (ap (λ b. is_running c && not b) undone) ∙ subst (λ m. IfSome m (λ (d : OpenCopy). is_running d && not (is_moved core d) ≡ false)) is stands.1
+              stopped = sym (and_true (is_running c)) ∙ sym (ap (λ b. is_running c && not b) undone) ∙ subst (λ m. IfSome m (λ (d : OpenCopy). is_running d && not (is_move_done core d) ≡ false)) is stands.1
 
               landed : list_any is_waiting core.requests ≡ false
-              landed = none_waits_at_all core (λ ask. ap (λ m. option_map_or (λ (d : OpenCopy). is_moved core d && is_beside_copy core ask d) m false) is ∙ ap (λ b. b && is_beside_copy core ask c) undone) core.requests stands.0
+              landed = none_waits_at_all core (λ ask. ap (λ m. option_map_or (λ (d : OpenCopy). is_move_done core d && is_beside_copy core ask d) m false) is ∙ ap (λ b. b && is_beside_copy core ask c) undone) core.requests stands.0
 
   -- ---- without a copy no update is in flight
 
@@ -160,7 +160,7 @@ module _ (s : State) (sound : IsSound s) (drained : IsDrained s) where
         omega (arith, more, here, rest)
 
     none_wait : list_any is_waiting core.requests ≡ false
-    none_wait = none_waits_at_all core (λ ask. ap (λ m. option_map_or (λ (c : OpenCopy). is_moved core c && is_beside_copy core ask c) m false) closed) core.requests stands.0
+    none_wait = none_waits_at_all core (λ ask. ap (λ m. option_map_or (λ (c : OpenCopy). is_move_done core c && is_beside_copy core ask c) m false) closed) core.requests stands.0
 
     first_free : count_if (slice_index_or core.pool 0 false) ≡ 0
     first_free =

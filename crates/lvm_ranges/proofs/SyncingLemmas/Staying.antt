@@ -24,7 +24,7 @@ use Rattle.lvm_session.specs.Bringing.{is_out, is_whole}
 use Rattle.lvm_session.specs.Calls.{Opens, aged, closed, copy_fault, state_at_end, state_of_copy}
 use Rattle.lvm_session.specs.Causes.{fails_on, is_held_stale, is_over}
 use Rattle.lvm_session.specs.Requests.{IsLanded}
-use Rattle.lvm_session.specs.Judging.{is_missing, is_place, is_running, is_settled, is_stale, is_waiting, is_wanted_stale}
+use Rattle.lvm_session.specs.Judging.{is_missing, is_destination, is_running, is_settled, is_stale, is_waiting, is_wanted_stale}
 use Rattle.lvm_session.specs.Sound.{IsSound}
 use Rattle.lvm_session.specs.State.{Core, State, state}
 use Rattle.lvm_ranges.specs.passed.Names.{counts_seen, MarksFor, has_failed_on, is_lasting, is_marked, is_open_at, IsTurn}
@@ -62,7 +62,7 @@ nothing p = false
 
 -- ---- a turn
 
-module _ (first old new : State) (made free : Pp → Bool) (so_far : Stays first old made free) (turn : IsTurn old new) (shut : (p : Pp) → free p ≡ false → is_open_at old.core p ≡ false) (unmoved : (p : Pp) → is_place old.core p ≡ false) where
+module _ (first old new : State) (made free : Pp → Bool) (so_far : Stays first old made free) (turn : IsTurn old new) (shut : (p : Pp) → free p ≡ false → is_open_at old.core p ≡ false) (unmoved : (p : Pp) → is_destination old.core p ≡ false) where
   marks : MarksFor old new
   marks = turn_marks old new so_far.sound turn.0 turn.1
 
@@ -105,7 +105,7 @@ module _ (first old new : State) (made free : Pp → Bool) (so_far : Stays first
 shut_none : (core : Core) → core.copy ≡ None → (p : Pp) → is_open_at core p ≡ false
 shut_none core none p = ap (λ m. option_map_or (λ (c : OpenCopy). is_pp p c.pp) m false) none
 
-unmoved_none : (core : Core) → core.copy ≡ None → (p : Pp) → is_place core p ≡ false
+unmoved_none : (core : Core) → core.copy ≡ None → (p : Pp) → is_destination core p ≡ false
 unmoved_none core none p = ap (λ m. option_map_or (λ (c : OpenCopy). c.moves && is_pp p c.pp) m false) none
 
 settle_stays : (c : Copy) (first old new : State) (made : Pp → Bool) → Stays first old made nothing → old.core.copy ≡ None → TurnsIn (IsUnsettled c) old new → Stays first new made nothing × (new.core.copy ≡ None)
@@ -205,7 +205,7 @@ shut_beside : (core : Core) (begun : OpenCopy) → IsOpenStill begun core → (q
 shut_beside core begun it q other = ap (λ m. option_map_or (λ (c : OpenCopy). is_pp q c.pp) m false) it.is_open ∙ ap (is_pp q) it.its.0 ∙ other
 
 -- it doesn't move
-unmoved_beside : (core : Core) (begun : OpenCopy) → IsOpenStill begun core → (p : Pp) → is_place core p ≡ false
+unmoved_beside : (core : Core) (begun : OpenCopy) → IsOpenStill begun core → (p : Pp) → is_destination core p ≡ false
 unmoved_beside core begun it p = ap (λ m. option_map_or (λ (c : OpenCopy). c.moves && is_pp p c.pp) m false) it.is_open ∙ ap (λ b. b && is_pp p it.copy.pp) (it.its.5 ∙ it.brings)
 
 bring_stays : (first opened ended : State) (made : Pp → Bool) (begun : OpenCopy) → Stays first opened made (λ q. is_pp q begun.pp) → IsOpenStill begun opened.core → TurnsIn Runs opened ended

@@ -16,7 +16,7 @@ use Rattle.lvm_path.specs.passed.SchedWritesTargetState as stage
 use Rattle.lvm_path.specs.declared.target.Target.{Target}
 use Rattle.lvm_session.specs.declared.flown.Owner.TheVariants as owner
 use Rattle.lvm_session.specs.State.{Core, State, state}
-use Rattle.lvm_session.specs.Judging.{place_aims}
+use Rattle.lvm_session.specs.Judging.{destination_aims}
 use Rattle.lvm_session.specs.Bringing.{copy_ends}
 use Rattle.lvm_session.specs.Owners.{AreOwned, IsDataOf, target_flies}
 use Rattle.lvm_session.specs.Left.{updates_left}
@@ -24,7 +24,7 @@ use Rattle.lvm_session.specs.Requests.{IsOpenOne, is_left_out}
 use Rattle.lvm_session.specs.Causes.{AreCaused, AreCounted, IsCausedAmong, IsChosenSince, IsTrueToOrigin}
 use Rattle.lvm_session.specs.Sound.{count_if, out_with, stays_fresh, IsAsked, IsCopy, IsFitting, IsTold, IsGoing, IsSound}
 use Rattle.lvm_session.specs.Worked.{a_write, begun_write, core_of, faultless, first_copy, fresh, second_copy, status_of}
-use Rattle.lvm_session.specs.WorkedMoves.{WritesGoAlong, along, free_place, moving_to, on_place, place_flight, place_stale, write_along}
+use Rattle.lvm_session.specs.WorkedMoves.{WritesGoAlong, along, free_destination, moving_to, on_destination, destination_flight, destination_stale, write_along}
 use Rattle.lvm_session.proofs.Small.{not_none}
 use Rattle.lvm_session.proofs.SoundLemmas.{sound_while_on}
 use Rattle.lvm_session.proofs.RequestsLemmas.{laid_in, shaped, waits_with}
@@ -36,7 +36,7 @@ abbrev here : Core
 here = core_of along
 
 abbrev out : State
-out = state (record faultless { flights = place_flight ∷ [] }) here
+out = state (record faultless { flights = destination_flight ∷ [] }) here
 
 -- ---- its transfer
 
@@ -64,22 +64,22 @@ owned (owner.Status disk) = sym (ap (λ (t : Bool). count_if t) (has-zero disk))
 owned (owner.Note disk) = sym (ap (λ n. count_if (is_some n)) (no_note_flies mode.Off disk))
 owned owner.Copy = refl
 
-carries : (k : ℕ) → k < 1 → slice_get place_flight.buf.sectors k ≡ slice_get begun_write.blocks k
+carries : (k : ℕ) → k < 1 → slice_get destination_flight.buf.sectors k ≡ slice_get begun_write.blocks k
 carries zero below = refl
 carries (suc k) below = absurd (omega (arith, below))
 
-its : IsDataOf here 1 2 place_flight
+its : IsDataOf here 1 2 destination_flight
 its = record {
   place = 0;
   request = write_along;
   there = refl;
   own = refl;
-  aim = on_place stage.Flying;
+  aim = on_destination stage.Flying;
   aim_is = refl;
   moves = record { disk_is = refl; first = refl; count = refl; write = refl; carries = λ write k below. carries k below };
 }
 
-one_out : (n : ℕ) → out_with (record faultless { flights = place_flight ∷ [] }) here n ≡ count_if (slice_index_or here.pool n false)
+one_out : (n : ℕ) → out_with (record faultless { flights = destination_flight ∷ [] }) here n ≡ count_if (slice_index_or here.pool n false)
 one_out zero = refl
 one_out (suc n) = ap (λ (t : Bool). 0 + count_if t + 0 + 0) (first_not n)
 
@@ -107,16 +107,16 @@ differ (suc zero) (suc (suc (suc j))) d below within e = absurd (omega (arith, w
 differ (suc (suc i)) j d below within e = absurd (omega (arith, below, within))
 
 -- each copy, and the place, is one of its targets
-is_target : (p : Pp) → is_pp p first_copy || (is_pp p second_copy || false) ≡ true → (is_pp p first_copy || (is_pp p second_copy || (is_pp p free_place || false))) || is_left_out here a_write p ≡ true
-is_target p = by (is_pp p first_copy) (is_pp p second_copy) (is_pp p free_place) (is_left_out here a_write p)
+is_target : (p : Pp) → is_pp p first_copy || (is_pp p second_copy || false) ≡ true → (is_pp p first_copy || (is_pp p second_copy || (is_pp p free_destination || false))) || is_left_out here a_write p ≡ true
+is_target p = by (is_pp p first_copy) (is_pp p second_copy) (is_pp p free_destination) (is_left_out here a_write p)
   where
     by : (a b c d : Bool) → a || (b || false) ≡ true → (a || (b || (c || false))) || d ≡ true
     by true b c d e = refl
     by false true c d e = refl
     by false false c d e = not_so e
 
-is_along : (p : Pp) → is_pp p free_place || false ≡ true → is_pp p first_copy || (is_pp p second_copy || (is_pp p free_place || false)) ≡ true
-is_along p = by (is_pp p first_copy) (is_pp p second_copy) (is_pp p free_place)
+is_along : (p : Pp) → is_pp p free_destination || false ≡ true → is_pp p first_copy || (is_pp p second_copy || (is_pp p free_destination || false)) ≡ true
+is_along p = by (is_pp p first_copy) (is_pp p second_copy) (is_pp p free_destination)
   where
     by : (a b c : Bool) → c || false ≡ true → a || (b || (c || false)) ≡ true
     by true b c e = refl
@@ -226,12 +226,12 @@ origin = let o = true_to_origin mode.Off in record { since = o.since; votes = o.
 
 is_sound : IsSound out
 is_sound =
-    sound_while_on _ refl (record { power = refl; freed = refl }) fits told (placed mode.Off (status_of place_stale)) one_out
+    sound_while_on _ refl (record { power = refl; freed = refl }) fits told (placed mode.Off (status_of destination_stale)) one_out
     (record { going = going; rows = (record { ticket = refl; long = refl; disk = refl; own = its }, tt); caused = (caused, tt); chosen = (chosen, tt) })
     (record { counted = (counted, tt); answered = (tt, tt); copy = move_caused; origin = origin })
 
-goes_along : place_aims here a_write ≡ free_place ∷ []
+goes_along : destination_aims here a_write ≡ free_destination ∷ []
 goes_along = refl
 
 pub writes_go_along : WritesGoAlong
-writes_go_along = record { aims = goes_along; sound = is_sound; unsound = λ r. not_so ((r.judged refl).place refl free_place refl) }
+writes_go_along = record { aims = goes_along; sound = is_sound; unsound = λ r. not_so ((r.judged refl).place refl free_destination refl) }

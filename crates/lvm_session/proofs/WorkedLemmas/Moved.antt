@@ -24,7 +24,7 @@ use Rattle.lvm_session.specs.Left.{updates_left}
 use Rattle.lvm_session.specs.Causes.{IsCausedAmong}
 use Rattle.lvm_session.specs.Sound.{stays_fresh, IsCopy, IsFitting, IsTold, IsGoing, IsSound}
 use Rattle.lvm_session.specs.Worked.{a_write, core_of, faultless, first_copy, fresh, second_copy, status_of}
-use Rattle.lvm_session.specs.WorkedMoves.{MovesAreSound, ended_move, moving_to, open_move, place_stale, third_fails, whole_move}
+use Rattle.lvm_session.specs.WorkedMoves.{MovesAreSound, ended_move, moving_to, open_move, destination_stale, third_fails, whole_move}
 use Rattle.lvm_session.proofs.Small.{not_none}
 use Rattle.lvm_session.proofs.SoundLemmas.{sound_while_on}
 use Rattle.lvm_session.proofs.WorkedLemmas.Parts.{has_fresh, none_behind, none_out, not_marked, notes_fit, placed, status_is_sound, zeros_at}
@@ -141,7 +141,7 @@ open_goes m = record {
 
 open_is_sound : (m : Mode) → IsSound (state faultless (core_of (open_move m)))
 open_is_sound m = let origin = true_to_origin m in
-    sound_while_on _ refl (record { power = refl; freed = refl }) (open_fits m) (open_told m) (placed m (status_of place_stale)) none_out (record { going = open_goes m; rows = tt; caused = tt; chosen = tt })
+    sound_while_on _ refl (record { power = refl; freed = refl }) (open_fits m) (open_told m) (placed m (status_of destination_stale)) none_out (record { going = open_goes m; rows = tt; caused = tt; chosen = tt })
     (record { counted = tt; answered = tt; copy = open_caused m; origin = record { since = origin.since; votes = origin.votes; rows = origin.rows; still_missing = origin.still_missing; missing = origin.missing; stale = λ p is. none_wanted p is } })
 
 -- ---- all is copied
@@ -243,7 +243,7 @@ whole_goes m = record {
 
 whole_is_sound : (m : Mode) → IsSound (state faultless (core_of (whole_move m)))
 whole_is_sound m = let origin = true_to_origin m in
-    sound_while_on _ refl (record { power = refl; freed = refl }) (whole_fits m) (whole_told m) (placed m (status_of place_stale)) none_out (record { going = whole_goes m; rows = tt; caused = tt; chosen = tt })
+    sound_while_on _ refl (record { power = refl; freed = refl }) (whole_fits m) (whole_told m) (placed m (status_of destination_stale)) none_out (record { going = whole_goes m; rows = tt; caused = tt; chosen = tt })
     (record { counted = tt; answered = tt; copy = whole_caused m; origin = record { since = origin.since; votes = origin.votes; rows = origin.rows; still_missing = origin.still_missing; missing = origin.missing; stale = λ p is. none_wanted p is } })
 
 -- ---- it has ended
@@ -332,7 +332,7 @@ ended_goes m = record {
 
 ended_is_sound : (m : Mode) → IsSound (state third_fails (core_of (ended_move m)))
 ended_is_sound m = let origin = true_to_origin m in
-    sound_while_on _ refl (record { power = refl; freed = refl }) (ended_fits m) (ended_told m) (placed m (status_of place_stale)) none_out (record { going = ended_goes m; rows = tt; caused = tt; chosen = tt })
+    sound_while_on _ refl (record { power = refl; freed = refl }) (ended_fits m) (ended_told m) (placed m (status_of destination_stale)) none_out (record { going = ended_goes m; rows = tt; caused = tt; chosen = tt })
     (record { counted = tt; answered = tt; copy = ended_caused m; origin = record { since = λ disk. let none = zeros_at 128 disk in omega (arith, none); votes = origin.votes; rows = origin.rows; still_missing = origin.still_missing; missing = λ disk is. inl is; stale = λ p is. none_wanted p is } })
 
 pub moves_are_sound : MovesAreSound

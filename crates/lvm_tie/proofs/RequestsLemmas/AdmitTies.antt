@@ -46,9 +46,9 @@ use Rattle.lvm_session.specs.declared.bringing.Step.TheVariants as step
 use Rattle.lvm_session.specs.declared.flown.Owner.{Owner}
 use Rattle.lvm_session.specs.declared.flown.Owner.TheVariants as owner
 use Rattle.lvm_session.specs.State.{Core, State, state}
-use Rattle.lvm_session.specs.Judging.{is_waiting, is_running, is_usable, is_missing, is_caught, is_held_back, copies_for, group_in, mode_of, policy_of, place_of, held_of, facts_of, next_for, aims, place_aims, places_for, IsWithinVolume}
+use Rattle.lvm_session.specs.Judging.{is_waiting, is_running, is_usable, is_missing, is_caught, is_held_back, copies_for, group_in, mode_of, policy_of, place_of, held_of, facts_of, next_for, aims, destination_aims, destinations_for, IsWithinVolume}
 use Rattle.lvm_session.specs.Bringing.{is_out, is_whole, step_row, groups_of}
-use Rattle.lvm_session.specs.Events.{Admits, Chooses, ChoosesBy, copy_of, last_after, loads_of, makes_dirty, place_target, target_at, usable_from, without_pin}
+use Rattle.lvm_session.specs.Events.{Admits, Chooses, ChoosesBy, copy_of, last_after, loads_of, makes_dirty, destination_target, target_at, usable_from, without_pin}
 use Rattle.lvm_session.specs.Marks.{WantsDirty, WantsDirtyIf}
 use Rattle.lvm_session.specs.Requests.{IsPhase, IsRequest}
 use Rattle.lvm_session.specs.Sound.{IsSound}
@@ -491,7 +491,7 @@ index_at (x ∷ ps) zero p d there = let e : x ≡ p = cc there in e
 index_at (x ∷ ps) (suc k) p d there = index_at ps k p d there
 
 -- (where no copy moves)
-chosen_by : (s : State) (o : Open) (targets : List Target) (order : List ℕ) → places_for s.core o.request.ask ≡ [] → Chooses s o.request.ask targets order → AreChosen s.core o targets
+chosen_by : (s : State) (o : Open) (targets : List Target) (order : List ℕ) → destinations_for s.core o.request.ask ≡ [] → Chooses s o.request.ask targets order → AreChosen s.core o targets
 chosen_by s o targets order none chooses = by (is_write ask) refl chooses
   where
     ask : Ask
@@ -500,8 +500,8 @@ chosen_by s o targets order none chooses = by (is_write ask) refl chooses
     copies : List Pp
     copies = copies_for s.core ask
 
-    plain : targets ≡ map (target_at s ask) (aims s.core ask) ++ map (place_target s ask) (place_aims s.core ask) → targets ≡ map (target_at s ask) (aims s.core ask)
-    plain are = are ∙ ap (λ (ps : List Pp). map (target_at s ask) (aims s.core ask) ++ map (place_target s ask) (filter (is_caught s.core (group_in s.core ask)) ps)) none ∙ append-nil (map (target_at s ask) (aims s.core ask))
+    plain : targets ≡ map (target_at s ask) (aims s.core ask) ++ map (destination_target s ask) (destination_aims s.core ask) → targets ≡ map (target_at s ask) (aims s.core ask)
+    plain are = are ∙ ap (λ (ps : List Pp). map (target_at s ask) (aims s.core ask) ++ map (destination_target s ask) (filter (is_caught s.core (group_in s.core ask)) ps)) none ∙ append-nil (map (target_at s ask) (aims s.core ask))
 
     by : (w : Bool) → is_write ask ≡ w → ChoosesBy w s ask targets order → AreChosen s.core o targets
     by true writes its = record {
