@@ -1,0 +1,3 @@
+pub mod HoldingLemmas
+pub mod PlanLemmas
+pub mod RulesLemmas
