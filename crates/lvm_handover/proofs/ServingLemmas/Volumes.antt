@@ -79,7 +79,7 @@ module _ (old : State) (sound : IsSound old) (began : IsSettled old.core) where
   going : IsGoing old.core
   going = (sound.on began.power).going
 
-  none_before : NoneIsLeft old.core.descriptor old.core.status
+  pub none_before : NoneIsLeft old.core.descriptor old.core.status
   none_before = none_left old.core sound.fitting.valid sound.fitting.group began.committed going.behind
 
   -- a copy that was fresh when it began has a fresh one beside it
