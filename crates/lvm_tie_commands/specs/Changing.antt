@@ -6,10 +6,8 @@ use Rattle.lvm_kept.specs.Moments.{Moment}
 use Rattle.lvm_steps.specs.Moments.{RunBegins, Keeps}
 use Rattle.lvm_session.specs.State.{State, moment_of}
 use Rattle.lvm_session.specs.Sound.{IsSound}
-use Rattle.lvm_core.specs.Leaves.{MayBeFound}
-use Rattle.lvm_core.specs.Settled.{IsSettled}
-use Rattle.lvm_change.specs.Rule.{with_quorum, as_big}
-use Rattle.lvm_turnover.specs.Changing.{ChangeLeaves}
+use Rattle.lvm_volume_plan.specs.passed.Names.{MayBeFound, IsSettled}
+use Rattle.lvm_members.specs.passed.Names.{with_quorum, as_big, ChangeLeaves}
 use Rattle.lvm_volumes.specs.Endings.{StillHeld, KeepsFresh}
 use Rattle.lvm_members.specs.declared.fault.RuleFault.{RuleFault}
 use Rattle.lvm_members.specs.Commands.{RuleGives, BigGives, IfOn}

@@ -1,5 +1,6 @@
 //! Laws of sessions over changes of their group's rule of votes or of its size. Each call does nothing: its contract is the law.
 ghost use Rattle.lvm_tie_commands.specs.Changing.{ChangeFindsTwo, MakeBigGoesOn, MakeBigServes, SetQuorumGoesOn, SetQuorumServes};
+ghost use Rattle.lvm_tie_commands.specs.Examples.{PairsMayChange};
 
 /// A span goes on over `set_quorum`, whatever it answers; and what stands on the disks of the session goes on to stand,
 /// where this does.
@@ -25,4 +26,10 @@ pub fn set_quorum_serves()
 /// So is one that `make_big` leaves on.
 pub fn make_big_serves()
     ensures { MakeBigServes }
+{}
+
+/// There are groups that may change so: of two disks that mirror a volume, in each mode, dirty or not. Checking isn't switched off
+/// where a member is lost.
+pub fn pairs_may_change()
+    ensures { PairsMayChange }
 {}

@@ -16,11 +16,10 @@ use Rattle.lvm_commit.specs.LawsOfVolumes.{IsOneFoundOn}
 use Rattle.lvm_commit.specs.Settling.{IsOfCommit}
 use Rattle.lvm_commit.proofs.SettlingLemmas.Chaining.{keeps_wider}
 use Rattle.lvm_session.specs.State.{Core, State, is_there, moment_of}
-use Rattle.lvm_core.specs.Settled.{IsSettled}
+use Rattle.lvm_volume_plan.specs.passed.Names.{IsSettled}
 use Rattle.lvm_handover.specs.passed.Names.{IsOfCommand, NoPartition}
 use Rattle.lvm_settled.specs.passed.Names.{IsEven}
-use Rattle.lvm_change.specs.Rule.{with_quorum, as_big}
-use Rattle.lvm_change_laws.specs.Rule.{DiffersInRule}
+use Rattle.lvm_members.specs.passed.Names.{with_quorum, as_big, DiffersInRule}
 use Rattle.lvm_volumes.specs.Endings.{StillHeld}
 use Rattle.lvm_members.specs.declared.fault.RuleFault.{RuleFault}
 use Rattle.lvm_members.specs.declared.fault.RuleFault.TheVariants as fault

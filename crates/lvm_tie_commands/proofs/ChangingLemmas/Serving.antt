@@ -16,13 +16,9 @@ use Rattle.lvm_session.specs.State.{Core, State, is_there}
 use Rattle.lvm_session.specs.Judging.{copies_in, is_missing}
 use Rattle.lvm_session.specs.Left.{updates_left}
 use Rattle.lvm_session.specs.Sound.{IsSound}
-use Rattle.lvm_core.specs.Committing.{HasStated}
-use Rattle.lvm_core.specs.Leaves.{NoPartition, WasLeftBehind}
-use Rattle.lvm_core.specs.Settled.{IsSettled}
+use Rattle.lvm_volume_plan.specs.passed.Names.{HasStated, NoPartition, WasLeftBehind, IsSettled}
 use Rattle.lvm_keeps.proofs.LeftLemmas.Updates.{few_updates}
-use Rattle.lvm_change.specs.Rule.{with_quorum, as_big}
-use Rattle.lvm_change_laws.specs.Rule.{DiffersInRule}
-use Rattle.lvm_turnover.specs.Changing.{ChangeLeaves}
+use Rattle.lvm_members.specs.passed.Names.{with_quorum, as_big, DiffersInRule, ChangeLeaves}
 use Rattle.lvm_volumes.specs.Endings.{HasFresh, KeepsFresh, StillHeld}
 use Rattle.lvm_volumes.proofs.StagesLemmas.Entering.{many_bound}
 use Rattle.lvm_members.specs.declared.fault.RuleFault.{RuleFault}
