@@ -20,7 +20,7 @@ use Rattle.lvm_volume_lines.specs.Changing.{change_refusal}
 use Rattle.lvm_volume_lines.specs.Volumes.{Drains, IsLeftEither}
 use Rattle.lvm_volume_lines.proofs.passed.Tie.{path_frames}
 use Rattle.lvm_line.specs.Causes.{HasLostMember, WritesNoMore, WritesNothing}
-use Rattle.lvm_line.proofs.CausesLemmas.Faulting.{at_most_half, counts_left, faults_since, member_of, none_left, rose_in_line, was_there}
+use Rattle.lvm_line.proofs.CausesLemmas.Faulting.{at_most_half, counts_left, member_of, none_left, rose_in_line, was_there}
 use Rattle.lvm_line.proofs.CausesLemmas.Knowing.{IsOther, Known, has_by}
 
 -- what is refused to a descriptor is refused before the first write

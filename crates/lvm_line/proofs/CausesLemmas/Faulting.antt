@@ -82,7 +82,7 @@ rose_in_line left a b c few before later =
 
 module _ (read : Result (Option Command) Misfit) (other : IsOther read) (failed : (d : ℕ) (a b : Counts) → Rose (a.faults d) (b.faults d) → TransferHasFailed read d a b) where
   module _ (old new : ScriptState) (core : Core) (patience : ℕ) (mid left : State) (some : old.session ≡ Some core) (drains : Drains core old patience mid) where
-    pub faults_since : (disk : ℕ) (n : Counts) → Rose (mid.device.counts.faults disk) (n.faults disk) → Rose (old.moment.device.counts.faults disk) (n.faults disk)
+    faults_since : (disk : ℕ) (n : Counts) → Rose (mid.device.counts.faults disk) (n.faults disk) → Rose (old.moment.device.counts.faults disk) (n.faults disk)
     faults_since disk n rose = rose_before ((path_frames drains.runs).keeps.counts.faults disk) rose
 
     -- what is there is a member of the session's group
