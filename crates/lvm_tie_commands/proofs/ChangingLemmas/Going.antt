@@ -1,9 +1,11 @@
 -- Over a change of a group's rule of votes or of its size: a span goes on, and what stood stands again.
-use Rattle.std.proofs.Common.{◌≡◌, ◌⊎◌, inl, inr, ⊎_elim, ℕ, Bool, true, false, List, [], Some, Result, Ok, Err, refl, sym, ap, subst, ◌∙◌}
+use Rattle.std.proofs.Common.{◌≡◌, ◌⊎◌, inl, inr, ⊎_elim, ℕ, Bool, true, false, List, [], Option, Some, Result, Ok, Err, refl, sym, ap, subst, ◌∙◌}
 use Rattle.std.specs.Prelude.{◌≢◌, ⊤, MatchBool}
 use Rattle.lvm_num.specs.declared.descriptor.Descriptor.{Descriptor}
 use Rattle.lvm_num.specs.Descriptor.{is_member}
 use Rattle.lvm_num.specs.DescriptorBytes.{descriptor_bytes}
+use Rattle.lvm_num.specs.Record.{Stamped}
+use Rattle.lvm_num.specs.declared.status.Status.{Status}
 use Rattle.lvm_disk.specs.Device.{Media, image_of}
 use Rattle.lvm_disk.specs.Steps.{BothTold}
 use Rattle.lvm_vol.specs.Log.{Log}
@@ -98,6 +100,9 @@ module _ (run : ℕ) (first : Moment) (next : Descriptor) (before after : ℕ) (
     stays = c.leaves.status.stays;
   }
 
+  abbrev EvenFor : Media → Stamped Status → Descriptor → Type 0
+  EvenFor is stands group = IsEven (contents_of (image_of new.device.sizes is)) group (Some stands) (is_there new.core)
+
   module _ (changed : IsChangedOrNot next old new) where
     -- its members and its volumes are as they were
     members : (d : ℕ) → is_member new.core.descriptor d ≡ is_member old.core.descriptor d
@@ -118,17 +123,14 @@ module _ (run : ℕ) (first : Moment) (next : Descriptor) (before after : ℕ) (
     keeps_even was is stood stands told told_new wanted even = by changed
       where
         change : Between was is
-        change = subst (λ m. BothTold m (Some is) Between) told (subst (λ m. BothTold old.device.media m Between) told_new writes.media)
+        change = subst (λ (m : Option Media). BothTold m (Some is) Between) told (subst (λ (m : Option Media). BothTold old.device.media m Between) told_new writes.media)
 
-        abbrev EvenFor : Descriptor → Type 0
-        EvenFor g = IsEven (contents_of (image_of new.device.sizes is)) g (Some stands) (is_there new.core)
-
-        kept : EvenFor old.core.descriptor
+        kept : EvenFor is stands old.core.descriptor
         kept = records_keep_even IsNext old new was is stood stands wanted c.leaves.status.stale change even
 
-        by : IsChangedOrNot next old new → EvenFor new.core.descriptor
-        by (IsAsBefore same) = subst EvenFor (sym (ap (λ (s : State). s.core.descriptor) same)) kept
-        by (HasNext its differs) = subst EvenFor (sym (its ∙ differs)) kept
+        by : IsChangedOrNot next old new → EvenFor is stands new.core.descriptor
+        by (IsAsBefore same) = subst (EvenFor is stands) (sym (ap (λ (s : State). s.core.descriptor) same)) kept
+        by (HasNext its differs) = subst (EvenFor is stands) (sym (its ∙ differs)) kept
 
     had_some : new.core.descriptor.lvs ≢ [] → old.core.descriptor.lvs ≡ [] → IsOneFoundOn old.device
     had_some some none = absurd (some (no_volume none))
