@@ -8,3 +8,4 @@ pub mod TieCommands
 pub mod Varyon
 pub mod Volumes
 pub mod Tie
+pub mod Members

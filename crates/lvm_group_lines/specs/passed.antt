@@ -12,3 +12,5 @@ pub mod TieCommands
 pub mod Varyon
 pub mod VolumePlanFaultGroupFault
 pub mod Volumes
+pub mod Members
+pub mod RuleFaultVariants

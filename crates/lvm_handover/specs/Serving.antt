@@ -9,7 +9,7 @@ use Rattle.lvm_num.specs.Disks.{Disks}
 use Rattle.lvm_num.specs.Status.{calls_stale, calls_missing}
 use Rattle.lvm_disk.specs.Counts.{NoneFalls, Rose}
 use Rattle.lvm_vol.specs.Order.{Ordered}
-use Rattle.lvm_kept.specs.Group.{IsAlike, IsOneOf}
+use Rattle.lvm_kept.specs.Group.{IsOneOf}
 use Rattle.lvm_status.specs.Table.{SameMissing, SameStale, has_row}
 use Rattle.lvm_commit.specs.Settling.{NoneIsLeft}
 use Rattle.lvm_session.specs.State.{Core, State, state}
@@ -64,11 +64,12 @@ StaysSound s = IsSoundAtRest s → IsSound s
 
 -- ---- what a command leaves
 
--- The session goes on with its members. Further ones are missing, each after a transfer to it has failed, and copies are stale which were added or stand on a
+-- The session goes on with its members, on partitions of the same size. Further ones are missing, each after a transfer to it has failed, and copies are stale which were added or stand on a
 -- missing disk; none is left behind, and each logical partition has a fresh copy that had one among those it had.
 pub record GoesOnWith (added : List Pp) (old new : State) : Type 0 where
   pub is : new.core ≡ record old.core { descriptor = new.core.descriptor; history = new.core.history; last = new.core.last; status = new.core.status; homes = new.core.homes }
-  pub alike : IsAlike new.core.descriptor old.core.descriptor
+  pub members : new.core.descriptor.pvs ≡ old.core.descriptor.pvs
+  pub partitions : new.core.descriptor.mib ≡ old.core.descriptor.mib
   pub sizes : new.device.sizes ≡ old.device.sizes
   pub falls : NoneFalls old.device.counts new.device.counts
   pub ordered : Ordered new.core.history.run [] new.core.history.facts

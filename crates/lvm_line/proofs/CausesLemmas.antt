@@ -1,6 +1,7 @@
 pub mod Knowing
 pub mod Turns
 pub mod Faulting
+pub mod Changing
 pub mod Causing
 pub mod Requesting
 pub mod Sources

@@ -12,7 +12,7 @@ use Rattle.lvm_core.specs.declared.parts.Room.{Room}
 use Rattle.lvm_core.specs.Looking.{IsNumberOf}
 use Rattle.lvm_session.specs.Causes.{AnyFailedSince, was_usable}
 use Rattle.lvm_session.specs.Judging.{copies_in, is_missing}
-use Rattle.lvm_session.specs.State.{Core, state}
+use Rattle.lvm_session.specs.State.{Core, State, state}
 use Rattle.lvm_volume_lines.specs.passed.Names.{LostForFaults}
 use Rattle.lvm_num.specs.Descriptor.{is_member}
 use Rattle.lvm_disk.specs.Device.{Device}
@@ -20,7 +20,7 @@ use Rattle.lvm_volume_lines.specs.passed.Varyon.{IsRecovered}
 use Rattle.lvm_volume_lines.specs.passed.Quiesce.{Quiesces}
 use Rattle.lvm_volume_lines.specs.passed.Ranges.{AnyFailed}
 use Rattle.lvm_volume_lines.specs.passed.Resync.{AnyFails}
-use Rattle.lvm_volume_lines.specs.Volumes.{IsUndrained}
+use Rattle.lvm_volume_lines.specs.Volumes.{Drains, IsUndrained}
 use Rattle.lvm_volume_lines.specs.passed.GroupLines.{patience_of_line, ScriptState, IsTimely, Refusal}
 use Rattle.lvm_line.specs.Lines.{IsLine}
 use Rattle.lvm_volume_lines.specs.passed.RefusalVariants as refusal
@@ -137,6 +137,21 @@ VaryonLaw =
     (log : Log) (room : Room) (line name : List ℕ) (old new : ScriptState) → line_of line ≡ Ok (Some (command.Varyon name)) → IsLine log room line reply.Ok old new → IsTimely log.run old
     → (core : Core) × (new.session ≡ Some core) × ((quiet : Device) × Quiesces old.moment.device quiet × IsRecovered quiet new.moment.device core.descriptor)
 
--- Where the quorum is lacking nothing was written.
+-- Nothing was written behind the turns that the line made first.
+pub record WritesNoMore (old new : ScriptState) : Type 0 where
+  pub core : Core
+  pub on : old.session ≡ Some core
+  pub left : ℕ
+  pub mid : State
+  pub drains : Drains core old left mid
+  pub wrote : new.moment.device.wrote ≡ mid.device.wrote
+
+-- nothing was written, or in a change of the group nothing behind its turns
+abbrev pub WritesNothing : Result (Option Command) Misfit → ScriptState → ScriptState → Type 0
+WritesNothing (Ok (Some (command.ChvgQuorum on name))) old new = WritesNoMore old new
+WritesNothing (Ok (Some (command.ChvgBig name))) old new = WritesNoMore old new
+WritesNothing read old new = new.moment.device.wrote ≡ old.moment.device.wrote
+
+-- So it is where the quorum is lacking.
 abbrev pub NoQuorumLaw : Type 0
-NoQuorumLaw = (log : Log) (room : Room) (line : List ℕ) (have total : ℕ) (old new : ScriptState) → IsLine log room line (reply.Refused (refusal.NoQuorum have total)) old new → new.moment.device.wrote ≡ old.moment.device.wrote
+NoQuorumLaw = (log : Log) (room : Room) (line : List ℕ) (have total : ℕ) (old new : ScriptState) → IsLine log room line (reply.Refused (refusal.NoQuorum have total)) old new → WritesNothing (line_of line) old new

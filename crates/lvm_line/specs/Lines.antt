@@ -14,6 +14,7 @@ use Rattle.lvm_line.specs.declared.line.InPlace.{InPlace}
 use Rattle.lvm_line.specs.declared.line.InPlace.TheVariants as in_place
 use Rattle.lvm_volume_lines.specs.passed.RangeLines.{RdDoes, WrDoes, PostDoes, StepDoes}
 use Rattle.lvm_volume_lines.specs.passed.RangeLinesWaiting.{WaitDoes}
+use Rattle.lvm_volume_lines.specs.Changing.{ChvgBigDoes, ChvgQuorumDoes}
 use Rattle.lvm_volume_lines.specs.Closing.{VaryoffDoes}
 use Rattle.lvm_volume_lines.specs.Copies.{MklvcopyDoes, RmlvcopyDoes}
 use Rattle.lvm_volume_lines.specs.Splitting.{SplitlvcopyDoes}
@@ -32,6 +33,8 @@ CommandDoes log room (command.Mkvg force name mib disks) old new answer = MkvgDo
 CommandDoes log room (command.Varyon name) old new answer = VaryonDoes log room name old new answer
 CommandDoes log room (command.Varyoff name) old new answer = VaryoffDoes name old new answer
 CommandDoes log room (command.Lsvg volumes name) old new answer = IsListed old new (GroupShows volumes name old.session answer)
+CommandDoes log room (command.ChvgQuorum on name) old new answer = ChvgQuorumDoes on name old new answer
+CommandDoes log room (command.ChvgBig name) old new answer = ChvgBigDoes name old new answer
 CommandDoes log room (command.Mklv name copies mode policy group lps) old new answer = MklvDoes (wanted name copies mode policy lps) group old new answer
 CommandDoes log room (command.Rmlv name) old new answer = RmlvDoes name old new answer
 CommandDoes log room (command.Mklvcopy name copies) old new answer = MklvcopyDoes name copies old new answer
@@ -61,6 +64,8 @@ LineDoes log room (Err misfit) old new answer = IsRefused (refusal.BadLine misfi
 -- how a line acts on the session that is on
 abbrev pub role_of : Result (Option Command) Misfit → Role
 role_of (Ok (Some (command.Varyoff name))) = OfGroup
+role_of (Ok (Some (command.ChvgQuorum on name))) = OfGroup
+role_of (Ok (Some (command.ChvgBig name))) = OfGroup
 role_of (Ok (Some (command.Mklv name copies mode policy group lps))) = OfGroup
 role_of (Ok (Some (command.Rmlv name))) = OfGroup
 role_of (Ok (Some (command.Mklvcopy name copies))) = OfGroup

@@ -1,6 +1,7 @@
 pub mod Group
 pub mod GroupLines
 pub mod HolderVariants
+pub mod Members
 pub mod Names
 pub mod Quiesce
 pub mod QuiescedVariants
@@ -10,6 +11,7 @@ pub mod Ranges
 pub mod RefusalVariants
 pub mod ReplyVariants
 pub mod Resync
+pub mod RuleFaultVariants
 pub mod Splitting
 pub mod Tie
 pub mod TieCommands

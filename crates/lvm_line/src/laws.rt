@@ -28,7 +28,8 @@ pub fn lines_are_complete()
     ensures answered { NothingMayFailAnswered }
 {}
 
-/// What a `varyonvg` leaves that is answered `ok`, and that one which lacks its quorum has written nothing.
+/// What a `varyonvg` leaves that is answered `ok`, and that one which lacks its quorum has written nothing, nor a `chvg`
+/// behind the turns that it makes first.
 pub fn varyons_restate()
     ensures on { VaryonLaw }
     ensures quorum { NoQuorumLaw }

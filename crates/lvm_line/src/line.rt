@@ -18,8 +18,8 @@ use lvm_volume_lines::below::group_lines::{
 use lvm_volume_lines::below::range_lines::{do_post, do_rd, do_step, do_wait, do_wr};
 use lvm_volume_lines::below::stage::{Answered, Refusal, Reply, Stage};
 use lvm_volume_lines::{
-    do_mklv, do_mklvcopy, do_rmlv, do_rmlvcopy, do_splitlvcopy, do_sync_group, do_sync_volume,
-    do_varyoff,
+    do_chvg_big, do_chvg_quorum, do_mklv, do_mklvcopy, do_rmlv, do_rmlvcopy, do_splitlvcopy,
+    do_sync_group, do_sync_volume, do_varyoff,
 };
 use std::alloc::Global;
 
@@ -59,6 +59,8 @@ fn do_command<S: Shelf, C: Clock>(
             let reply = list_group(alloc, &stage, volumes, name);
             stage.answered(reply)
         }
+        Command::ChvgQuorum { on, name } => do_chvg_quorum(alloc, stage, on, name),
+        Command::ChvgBig { name } => do_chvg_big(alloc, stage, name),
         Command::Mklv {
             name,
             copies,

@@ -4,7 +4,7 @@ use Rattle.std.specs.Prelude.{◌==◌, ◌+◌, ◌-◌, codes, bytes_eq}
 use Rattle.std.proofs.lemmas.Bool.{and_parts}
 use Rattle.std.proofs.lemmas.List.{append_assoc}
 use Rattle.std.proofs.lemmas.Slice.Eq.{bytes_eq-Decides}
-use Rattle.lvm_parse.specs.Words.{name_in, size_in, disk_in, word_in, partition_count_in, turns_in, copy_count_in}
+use Rattle.lvm_parse.specs.Words.{name_in, size_in, disk_in, word_in, partition_count_in, turns_in, copy_count_in, switch_in}
 use Rattle.lvm_parse.specs.declared.rest.Misfit.{Misfit}
 use Rattle.lvm_parse.specs.Bytes.{is_remark, unreadable_at}
 use Rattle.lvm_parse.specs.Line.{WordAt, Left, finished, words_from, left_at}
@@ -15,7 +15,7 @@ use Rattle.lvm_parse.proofs.OptionsReadingLemmas.{mapped}
 use Rattle.lvm_num.specs.Among.{IsOneOf}
 use Rattle.lvm_parse.specs.declared.command.Command.{Command}
 use Rattle.lvm_parse.specs.declared.command.Command.TheVariants as command
-use Rattle.lvm_parse.specs.Grammar.{Row, rows, rule, rd_disk, rd_volume, rd, wr_disk, wr_volume, wr, post, wait, step, lspv, fail, heal, cut, cut_of, mkvg, varyonvg, varyoffvg, lsvg, mklv, rmlv, mklvcopy, rmlvcopy, split_of, splitlvcopy, sync_group, syncvg, lslv, line_of_words, readable, line_of}
+use Rattle.lvm_parse.specs.Grammar.{Row, rows, rule, rd_disk, rd_volume, rd, wr_disk, wr_volume, wr, post, wait, step, lspv, fail, heal, cut, cut_of, mkvg, varyonvg, varyoffvg, lsvg, chvg_quorum, chvg_big, chvg, mklv, rmlv, mklvcopy, rmlvcopy, split_of, splitlvcopy, sync_group, syncvg, lslv, line_of_words, readable, line_of}
 use Rattle.lvm_parse.specs.Forced.{SpellsForce}
 
 -- ---- the words
@@ -200,6 +200,17 @@ lsvg_forces : (l : Left) → Forces l.words (lsvg l)
 unfolding Forces
 lsvg_forces l = then_forces l.words _ (λ name. Ok (command.Lsvg (option (codes "-l") l).0 name)) (λ name is. tt)
 
+chvg_quorum_forces : (words : List WordAt) (l : Left) → Forces words (chvg_quorum l)
+unfolding Forces
+chvg_quorum_forces words l = then_forces words (operand switch_in l) _ (λ on o. then_forces words (last name_in on.1) _ (λ name n. tt))
+
+chvg_big_forces : (words : List WordAt) (l : Left) → Forces words (chvg_big l)
+unfolding Forces
+chvg_big_forces words l = if_forces words (option (codes "-B") l).0 _ _ (then_forces words (last name_in (option (codes "-B") l).1) (λ name. Ok (command.ChvgBig name)) (λ name is. tt)) tt
+
+chvg_forces : (l : Left) → Forces l.words (chvg l)
+chvg_forces l = if_forces l.words (option (codes "-Q") l).0 _ _ (chvg_quorum_forces l.words (option (codes "-Q") l).1) (chvg_big_forces l.words (option (codes "-Q") l).1)
+
 rmlv_forces : (l : Left) → Forces l.words (rmlv l)
 unfolding Forces
 rmlv_forces l = then_forces l.words _ (λ x. Ok (command.Rmlv x)) (λ x is. tt)
@@ -221,7 +232,7 @@ RowsForce [] = Unit {0}
 RowsForce (r ∷ rs) = ((l : Left) → Forces l.words (r.reads l)) × RowsForce rs
 
 rows_force : RowsForce rows
-rows_force = (mkvg_forces, (varyonvg_forces, (varyoffvg_forces, (lsvg_forces, (mklv_forces, (rmlv_forces, (mklvcopy_forces, (rmlvcopy_forces, (splitlvcopy_forces, (syncvg_forces, (lslv_forces, (rd_forces, (wr_forces, (post_forces, (wait_forces, (step_forces, (lspv_forces, (fail_forces, (heal_forces, (cut_forces, tt))))))))))))))))))))
+rows_force = (mkvg_forces, (varyonvg_forces, (varyoffvg_forces, (lsvg_forces, (chvg_forces, (mklv_forces, (rmlv_forces, (mklvcopy_forces, (rmlvcopy_forces, (splitlvcopy_forces, (syncvg_forces, (lslv_forces, (rd_forces, (wr_forces, (post_forces, (wait_forces, (step_forces, (lspv_forces, (fail_forces, (heal_forces, (cut_forces, tt)))))))))))))))))))))
 
 rule_forces : (rs : List Row) (word : List ℕ) (column : ℕ) (l : Left) → RowsForce rs → Forces l.words (rule rs word column l)
 unfolding Forces

@@ -11,11 +11,11 @@ use Rattle.lvm_parse.specs.declared.command.Command.TheVariants as command
 use Rattle.lvm_parse.specs.declared.rest.Misfit.{Misfit}
 use Rattle.lvm_parse.specs.Bytes.{is_plain, is_remark, too_long_or, unreadable_at}
 use Rattle.lvm_parse.specs.Line.{WordAt, Left, finished, words_from, left_at}
-use Rattle.lvm_parse.specs.Words.{number_in, count_in, partition_count_in, turns_in, copy_count_in, word_in, name_in, disk_in}
+use Rattle.lvm_parse.specs.Words.{number_in, count_in, partition_count_in, turns_in, copy_count_in, word_in, name_in, disk_in, switch_in}
 use Rattle.lvm_parse.specs.declared.range.BlockRange.{BlockRange}
 use Rattle.lvm_parse.specs.Reading.{misfit, then_, or_misfit, column_of, next_column, operand_of, operand, option_of, option, ends_of, ends, last, is_next, blocks, last_blocks, Choice, NoOption, Alone, Valued, options_of, options, required, further_disk, one_or_more, disks_of, disks}
 use Rattle.lvm_parse.specs.Options.{mkvg_choice, no_mkvg_options, mklv_choice, no_mklv_options}
-use Rattle.lvm_parse.specs.Grammar.{rd_disk, rd_volume, rd, wr_disk, wr_volume, wr, post, wait, step, fail, heal, lspv, cut_of, cut, mkvg, varyonvg, varyoffvg, lsvg, mklv, rmlv, mklvcopy, rmlvcopy, split_of, splitlvcopy, sync_group, syncvg, lslv, Row, rows, rule, line_of_words, readable, line_of}
+use Rattle.lvm_parse.specs.Grammar.{rd_disk, rd_volume, rd, wr_disk, wr_volume, wr, post, wait, step, fail, heal, lspv, cut_of, cut, mkvg, varyonvg, varyoffvg, lsvg, chvg_quorum, chvg_big, chvg, mklv, rmlv, mklvcopy, rmlvcopy, split_of, splitlvcopy, sync_group, syncvg, lslv, Row, rows, rule, line_of_words, readable, line_of}
 
 -- a column from 1 to this one
 abbrev pub IsIn : ℕ → ℕ → Type 0
@@ -284,6 +284,19 @@ syncvg_in high l b = at (option (codes "-l") l) (option_is_in high (codes "-l") 
     at (true, k) b = last_then high name_in k b command.SyncVolume
     at (false, k) b = sync_group_in high k b
 
+chvg_quorum_in : (high : ℕ) (l : Left) → LeftIn high l → In high (chvg_quorum l)
+chvg_quorum_in high l b = operand_then high switch_in l b _ (λ on b. last_then high name_in on.1 b (command.ChvgQuorum on.0))
+
+chvg_big_in : (high : ℕ) (l : Left) → LeftIn high l → In high (chvg_big l)
+chvg_big_in high l b = only_with high command.ChvgBig (option (codes "-B") l) (option_is_in high (codes "-B") l b)
+
+chvg_in : (high : ℕ) (l : Left) → LeftIn high l → In high (chvg l)
+chvg_in high l b = at (option (codes "-Q") l) (option_is_in high (codes "-Q") l b)
+  where
+    at : (quorum : Bool × Left) → LeftIn high quorum.1 → In high (cond quorum.0 (chvg_quorum quorum.1) (chvg_big quorum.1))
+    at (true, k) b = chvg_quorum_in high k b
+    at (false, k) b = chvg_big_in high k b
+
 lslv_in : (high : ℕ) (l : Left) → LeftIn high l → In high (lslv l)
 lslv_in high l b = only_with high command.Lslv (option (codes "-m") l) (option_is_in high (codes "-m") l b)
 
@@ -293,7 +306,7 @@ RowsAreIn [] = ⊤
 RowsAreIn (r ∷ rs) = ((high : ℕ) (l : Left) → LeftIn high l → In high (r.reads l)) × RowsAreIn rs
 
 rows_in : RowsAreIn rows
-rows_in = (mkvg_in, (varyonvg_in, (varyoffvg_in, (lsvg_in, (mklv_in, (rmlv_in, (mklvcopy_in, (rmlvcopy_in, (splitlvcopy_in, (syncvg_in, (lslv_in, (rd_in, (wr_in, (post_in, (wait_in, (step_in, (lspv_in, (fail_in, (heal_in, (cut_in, tt))))))))))))))))))))
+rows_in = (mkvg_in, (varyonvg_in, (varyoffvg_in, (lsvg_in, (chvg_in, (mklv_in, (rmlv_in, (mklvcopy_in, (rmlvcopy_in, (splitlvcopy_in, (syncvg_in, (lslv_in, (rd_in, (wr_in, (post_in, (wait_in, (step_in, (lspv_in, (fail_in, (heal_in, (cut_in, tt)))))))))))))))))))))
 
 rule_in : (high : ℕ) (rs : List Row) (word : List ℕ) (column : ℕ) (l : Left) → RowsAreIn rs → IsIn high column → LeftIn high l → In high (rule rs word column l)
 rule_in high [] word column l each own b = own

@@ -7,7 +7,7 @@ use Rattle.std.proofs.lemmas.Bool.{leb-true, and_parts, or_parts, not-true}
 use Rattle.std.proofs.lemmas.List.Quantifiers.{all_pairs_push}
 use Rattle.lvm_num.specs.Descriptor.{is_size}
 use Rattle.lvm_num.specs.Name.{is_name}
-use Rattle.lvm_parse.specs.Words.{only, number_in, number_within, count_in, size_in, name_in, disk_in, word_in, partition_count_in, turns_in, copy_count_in}
+use Rattle.lvm_parse.specs.Words.{only, number_in, number_within, count_in, size_in, name_in, disk_in, word_in, partition_count_in, turns_in, copy_count_in, switch_in}
 use Rattle.lvm_parse.specs.declared.range.BlockRange.{BlockRange}
 use Rattle.lvm_parse.specs.declared.rest.Misfit.{Misfit}
 use Rattle.lvm_parse.specs.Bytes.{is_remark, unreadable_at}
@@ -18,7 +18,7 @@ use Rattle.lvm_parse.specs.Options.{mkvg_choice, no_mkvg_options, mklv_choice, n
 use Rattle.lvm_parse.proofs.OptionsReadingLemmas.{mapped, Keeping, keeping_if, options_keep}
 use Rattle.lvm_parse.specs.declared.command.Command.{Command}
 use Rattle.lvm_parse.specs.declared.command.Command.TheVariants as command
-use Rattle.lvm_parse.specs.Grammar.{Row, rows, rule, rd_disk, rd_volume, rd, wr_disk, wr_volume, wr, post, wait, step, lspv, fail, heal, cut, cut_of, mkvg, varyonvg, varyoffvg, lsvg, mklv, rmlv, mklvcopy, rmlvcopy, split_of, splitlvcopy, sync_group, syncvg, lslv, line_of_words, readable, line_of}
+use Rattle.lvm_parse.specs.Grammar.{Row, rows, rule, rd_disk, rd_volume, rd, wr_disk, wr_volume, wr, post, wait, step, lspv, fail, heal, cut, cut_of, mkvg, varyonvg, varyoffvg, lsvg, chvg_quorum, chvg_big, chvg, mklv, rmlv, mklvcopy, rmlvcopy, split_of, splitlvcopy, sync_group, syncvg, lslv, line_of_words, readable, line_of}
 use Rattle.lvm_parse.specs.Within.{IsWithinLimits}
 
 -- ---- what is read
@@ -270,6 +270,17 @@ fits_lsvg : (l : Left) → Fits (lsvg l)
 unfolding Fits
 fits_lsvg l = fits_then _ (λ name. Ok (command.Lsvg (option (codes "-l") l).0 name)) (λ name is. tt)
 
+fits_chvg_quorum : (l : Left) → Fits (chvg_quorum l)
+unfolding Fits
+fits_chvg_quorum l = fits_then (operand switch_in l) _ (λ on o. fits_then (last name_in on.1) _ (λ name n. tt))
+
+fits_chvg_big : (l : Left) → Fits (chvg_big l)
+unfolding Fits
+fits_chvg_big l = fits_if (option (codes "-B") l).0 _ _ (fits_then (last name_in (option (codes "-B") l).1) (λ name. Ok (command.ChvgBig name)) (λ name is. tt)) tt
+
+fits_chvg : (l : Left) → Fits (chvg l)
+fits_chvg l = fits_if (option (codes "-Q") l).0 _ _ (fits_chvg_quorum (option (codes "-Q") l).1) (fits_chvg_big (option (codes "-Q") l).1)
+
 fits_rmlv : (l : Left) → Fits (rmlv l)
 unfolding Fits
 fits_rmlv l = fits_then _ (λ x. Ok (command.Rmlv x)) (λ x is. tt)
@@ -292,7 +303,7 @@ RowsFit [] = Unit {0}
 RowsFit (r ∷ rs) = ((l : Left) → Fits (r.reads l)) × RowsFit rs
 
 rows_fit : RowsFit rows
-rows_fit = (fits_mkvg, (fits_varyonvg, (fits_varyoffvg, (fits_lsvg, (fits_mklv, (fits_rmlv, (fits_mklvcopy, (fits_rmlvcopy, (fits_splitlvcopy, (fits_syncvg, (fits_lslv, (fits_rd, (fits_wr, (fits_post, (fits_wait, (fits_step, (fits_lspv, (fits_fail, (fits_heal, (fits_cut, tt))))))))))))))))))))
+rows_fit = (fits_mkvg, (fits_varyonvg, (fits_varyoffvg, (fits_lsvg, (fits_chvg, (fits_mklv, (fits_rmlv, (fits_mklvcopy, (fits_rmlvcopy, (fits_splitlvcopy, (fits_syncvg, (fits_lslv, (fits_rd, (fits_wr, (fits_post, (fits_wait, (fits_step, (fits_lspv, (fits_fail, (fits_heal, (fits_cut, tt)))))))))))))))))))))
 
 fits_rule : (rs : List Row) (word : List ℕ) (column : ℕ) (l : Left) → RowsFit rs → Fits (rule rs word column l)
 unfolding Fits

@@ -10,7 +10,7 @@ use Rattle.lvm_parse.specs.declared.chosen.MklvOptions.{MklvOptions}
 use Rattle.lvm_parse.specs.Options.{mkvg_choice, no_mkvg_options, mklv_choice, no_mklv_options}
 use Rattle.lvm_parse.specs.Bytes.{is_remark, unreadable_at}
 use Rattle.lvm_parse.specs.Line.{WordAt, Left, left_at}
-use Rattle.lvm_parse.specs.Words.{partition_count_in, turns_in, copy_count_in, word_in, name_in, disk_in}
+use Rattle.lvm_parse.specs.Words.{partition_count_in, turns_in, copy_count_in, word_in, name_in, disk_in, switch_in}
 use Rattle.lvm_parse.specs.Reading.{misfit, then_, next_column, operand, option, ends, last, is_next, blocks, last_blocks, options, required, disks}
 
 -- ---- requests
@@ -94,6 +94,18 @@ varyoffvg l = then_ (last name_in l) (λ name. Ok (command.Varyoff name))
 abbrev pub lsvg : Left → Result Command Misfit
 lsvg l = let volumes = option (codes "-l") l in then_ (last name_in volumes.1) (λ name. Ok (command.Lsvg volumes.0 name))
 
+-- what follows `chvg -Q`: whether checking is on, and the group
+abbrev pub chvg_quorum : Left → Result Command Misfit
+chvg_quorum l = then_ (operand switch_in l) (λ on. then_ (last name_in on.1) (λ name. Ok (command.ChvgQuorum on.0 name)))
+
+-- `chvg -B NAME`
+abbrev pub chvg_big : Left → Result Command Misfit
+chvg_big l = let big = option (codes "-B") l in if big.0 then then_ (last name_in big.1) (λ name. Ok (command.ChvgBig name)) else misfit (next_column big.1)
+
+-- `chvg -Q V NAME` and `chvg -B NAME`
+abbrev pub chvg : Left → Result Command Misfit
+chvg l = let quorum = option (codes "-Q") l in if quorum.0 then chvg_quorum quorum.1 else chvg_big quorum.1
+
 -- ---- volumes
 
 -- what follows the options of `mklv`; one copy, mode active and `p` where they aren't given
@@ -156,7 +168,7 @@ abbrev pub rows_of_volumes : List Row
 rows_of_volumes = row (codes "mklv") mklv ∷ row (codes "rmlv") rmlv ∷ row (codes "mklvcopy") mklvcopy ∷ row (codes "rmlvcopy") rmlvcopy ∷ row (codes "splitlvcopy") splitlvcopy ∷ row (codes "syncvg") syncvg ∷ row (codes "lslv") lslv ∷ rows_of_requests
 
 abbrev pub rows_of_groups : List Row
-rows_of_groups = row (codes "varyonvg") varyonvg ∷ row (codes "varyoffvg") varyoffvg ∷ row (codes "lsvg") lsvg ∷ rows_of_volumes
+rows_of_groups = row (codes "varyonvg") varyonvg ∷ row (codes "varyoffvg") varyoffvg ∷ row (codes "lsvg") lsvg ∷ row (codes "chvg") chvg ∷ rows_of_volumes
 
 -- the whole language
 abbrev pub rows : List Row

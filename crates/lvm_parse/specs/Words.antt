@@ -1,5 +1,5 @@
 -- What a single word means.
-use Rattle.std.specs.Prelude.{ℕ, ◌+◌, ◌-◌, ◌*◌, ◌^◌, ◌==◌, nat_lt, nat_le, Bool, false, ◌&&◌, ◌||◌, not, if◌then◌else◌, List, [], ◌∷◌, length, take, drop, Option, Some, None, codes, bytes_eq}
+use Rattle.std.specs.Prelude.{ℕ, ◌+◌, ◌-◌, ◌*◌, ◌^◌, ◌==◌, nat_lt, nat_le, Bool, true, false, ◌&&◌, ◌||◌, not, if◌then◌else◌, List, [], ◌∷◌, length, take, drop, Option, Some, None, codes, bytes_eq}
 use Rattle.std.specs.List.{list_all}
 use Rattle.lvm_num.specs.Descriptor.{is_size}
 use Rattle.lvm_num.specs.Name.{is_name}
@@ -85,6 +85,10 @@ disk_in word = if bytes_eq (take 5 word) (codes "hdisk") && not (is_padded (drop
 -- the value of `-w`: `n`, `y` or `a`, of which the two are one, or `p`
 abbrev pub mode_in : List ℕ → Option Mode
 mode_in word = if bytes_eq word (codes "n") then Some mode.Off else (if bytes_eq word (codes "y") then Some mode.Active else (if bytes_eq word (codes "a") then Some mode.Active else (if bytes_eq word (codes "p") then Some mode.Passive else None)))
+
+-- the value of `-Q`: `y`, on, or `n`, off
+abbrev pub switch_in : List ℕ → Option Bool
+switch_in word = if bytes_eq word (codes "y") then Some true else (if bytes_eq word (codes "n") then Some false else None)
 
 -- the value of `-d`: `p`, `s`, `ps` or `pr`
 abbrev pub policy_in : List ℕ → Option Policy

@@ -31,6 +31,16 @@ pub enum Command {
         volumes: bool,
         name: Name,
     },
+    /// `chvg -Q y NAME`, `chvg -Q n NAME`: switch a group's quorum checking on or off.
+    ChvgQuorum {
+        /// On with `y`, off with `n`.
+        on: bool,
+        name: Name,
+    },
+    /// `chvg -B NAME`: make a group a big one.
+    ChvgBig {
+        name: Name,
+    },
     /// `mklv -y NAME [-c N] [-w n, y, a or p] [-d p, s, ps or pr] NAME LPS`: make a logical volume in the group.
     Mklv {
         name: Name,

@@ -14,7 +14,7 @@
 //! | What it asks for | |---|---| | `mkvg [-f] -y NAME [-s MIB] DISK ..` | make a volume group of 1 to 128
 //! disks, all different, and vary it on; `-s` is the size of a partition, `-f` takes disks of another group
 //! too | | `varyonvg [-n] NAME` | vary a group on; `-n` changes nothing | | `varyoffvg NAME` | vary it off |
-//! | `lsvg [-l] NAME` | list the group, or with `-l` its volumes | | `mklv -y NAME [-c N] [-w MODE] [-d
+//! | `lsvg [-l] NAME` | list the group, or with `-l` its volumes | | `chvg -Q V NAME` | switch quorum checking of a group on, where `V` is `y`, or off, where it is `n` | | `chvg -B NAME` | make a group a big one | | `mklv -y NAME [-c N] [-w MODE] [-d
 //! POLICY] NAME LPS` | make a volume, the first name, in the group, the second, of so many logical
 //! partitions; `-c` is the number of copies, 1 where it isn't given; `-w` is `y` or `a` (active, where it
 //! isn't given), `p` (passive) or `n` (off); `-d` is `p` (parallel, where it isn't given), `s` (sequential), `ps` or `pr` |
@@ -59,7 +59,7 @@ pub use line::parse;
 pub use operands::{
     copies, count, disk, ends, is_disk_next, last_copies, last_disk, last_name, last_partitions,
     last_pattern, last_turns, misfit, mode, name, next_column, number, option, partitions, pattern,
-    policy, size, turns,
+    policy, size, switch, turns,
 };
 pub use operands_line::{is_remark, unreadable_at};
 pub use options::{mklv_options, mkvg_options};
@@ -68,5 +68,5 @@ pub use rest::{Misfit, Rest, Word};
 pub use scan::next_word;
 pub use words::{
     copy_count_of, count_of, disk_of, hex_word, mode_of, name_of, number_of, partition_count_of,
-    policy_of, size_of, turns_of,
+    policy_of, size_of, switch_of, turns_of,
 };

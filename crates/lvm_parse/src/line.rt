@@ -10,8 +10,8 @@ use crate::operands::misfit;
 use crate::operands_line::{is_remark, unreadable_at};
 use crate::rest::{Misfit, Rest, Word};
 use crate::rules::{
-    cut, fail, heal, lslv, lspv, lsvg, mklv, mklvcopy, mkvg, post, rd, rmlv, rmlvcopy, splitlvcopy,
-    step, syncvg, varyoffvg, varyonvg, wait, wr,
+    chvg, cut, fail, heal, lslv, lspv, lsvg, mklv, mklvcopy, mkvg, post, rd, rmlv, rmlvcopy,
+    splitlvcopy, step, syncvg, varyoffvg, varyonvg, wait, wr,
 };
 use crate::scan::next_word;
 use std::alloc::Global;
@@ -89,6 +89,8 @@ fn group_command(word: Word<'_>, rest: Rest<'_>) -> Result<Command, Misfit>
         varyoffvg(rest)
     } else if name == b"lsvg".as_slice() {
         lsvg(rest)
+    } else if name == b"chvg".as_slice() {
+        chvg(rest)
     } else {
         volume_command(word, rest)
     }

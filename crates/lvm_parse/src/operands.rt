@@ -1,6 +1,6 @@
 //! The next word of a line: an operand, an option that stands alone, or none.
 ghost use Rattle.std.specs.Prelude.{◌≡◌, [], MatchResult};
-ghost use Rattle.lvm_parse.specs.Words.{disk_in, number_in, count_in, word_in, name_in, partition_count_in, turns_in, size_in, copy_count_in, mode_in, policy_in};
+ghost use Rattle.lvm_parse.specs.Words.{disk_in, number_in, count_in, word_in, name_in, partition_count_in, turns_in, size_in, copy_count_in, mode_in, switch_in, policy_in};
 ghost use Rattle.lvm_parse.specs.Reading.{next_column, is_next, operand, option, ends, last};
 ghost use Rattle.lvm_parse.specs.Rests.{left, word_at, with_word, fitted, ReadsAlike};
 
@@ -8,7 +8,7 @@ use crate::rest::{Misfit, Rest, Word};
 use crate::scan::next_word;
 use crate::words::{
     copy_count_of, count_of, disk_of, hex_word, mode_of, name_of, number_of, partition_count_of,
-    policy_of, size_of, turns_of,
+    policy_of, size_of, switch_of, turns_of,
 };
 use lvm_num::{Mode, Name, Policy};
 
@@ -127,6 +127,15 @@ pub fn mode(rest: Rest<'_>) -> Result<(Mode, Rest<'_>), Misfit>
 {
     let (word, rest) = word(rest)?;
     fit(mode_of(word.bytes), word.column, rest)
+}
+
+/// V: whether a switch is on.
+#[tactic(auto, using(crate::proofs::ReadingLemmas::NextWord::operand_lacks))]
+pub fn switch(rest: Rest<'_>) -> Result<(bool, Rest<'_>), Misfit>
+    ensures { ReadsAlike (operand switch_in (left rest.entry)) result }
+{
+    let (word, rest) = word(rest)?;
+    fit(switch_of(word.bytes), word.column, rest)
 }
 
 /// The policy of a volume.

@@ -1,6 +1,6 @@
 //! The lines of the language: each rule reads what follows the line's first word.
 ghost use Rattle.std.specs.Prelude.{◌≡◌};
-ghost use Rattle.lvm_parse.specs.Grammar.{rd_disk, rd_volume, rd, wr_disk, wr_volume, wr, post, wait, step, fail, heal, lspv, cut, new_group, mkvg, varyonvg, varyoffvg, lsvg, new_volume, mklv, rmlv, mklvcopy, rmlvcopy, split_of, splitlvcopy, sync_group, syncvg, lslv};
+ghost use Rattle.lvm_parse.specs.Grammar.{rd_disk, rd_volume, rd, wr_disk, wr_volume, wr, post, wait, step, fail, heal, lspv, cut, new_group, mkvg, varyonvg, varyoffvg, lsvg, chvg_quorum, chvg_big, chvg, new_volume, mklv, rmlv, mklvcopy, rmlvcopy, split_of, splitlvcopy, sync_group, syncvg, lslv};
 ghost use Rattle.lvm_parse.specs.Rests.{left};
 ghost use Rattle.lvm_parse.specs.Answering.{Answers};
 
@@ -9,7 +9,7 @@ use crate::command::{Command, ParseFault};
 use crate::disk_list::disks;
 use crate::operands::{
     disk, ends, is_disk_next, last_copies, last_disk, last_name, last_partitions, last_pattern,
-    last_turns, misfit, name, next_column, option,
+    last_turns, misfit, name, next_column, option, switch,
 };
 use crate::options::{mklv_options, mkvg_options};
 use crate::range::{blocks, last_blocks};
@@ -295,6 +295,39 @@ pub fn lslv(rest: Rest<'_>) -> Result<Command, Misfit>
     }
     let name = last_name(rest)?;
     Ok(Command::Lslv { name })
+}
+
+// What follows the option of a `chvg -Q V NAME`.
+fn chvg_quorum(rest: Rest<'_>) -> Result<Command, Misfit>
+    ensures { result ≡ chvg_quorum (left rest.entry) }
+{
+    let (on, rest) = switch(rest)?;
+    let name = last_name(rest)?;
+    Ok(Command::ChvgQuorum { on, name })
+}
+
+// `chvg -B NAME`
+fn chvg_big(rest: Rest<'_>) -> Result<Command, Misfit>
+    ensures { result ≡ chvg_big (left rest.entry) }
+{
+    let (big, rest) = option(rest, b"-B");
+    if !big {
+        return Err(misfit(next_column(rest)));
+    }
+    let name = last_name(rest)?;
+    Ok(Command::ChvgBig { name })
+}
+
+/// `chvg -Q V NAME` and `chvg -B NAME`
+pub fn chvg(rest: Rest<'_>) -> Result<Command, Misfit>
+    ensures { result ≡ chvg (left rest.entry) }
+{
+    let (quorum, rest) = option(rest, b"-Q");
+    if quorum {
+        chvg_quorum(rest)
+    } else {
+        chvg_big(rest)
+    }
 }
 
 /// `mklv -y NAME [-c N] [-w n, y or a] [-d p, s, ps or pr] NAME LPS`

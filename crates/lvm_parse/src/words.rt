@@ -1,6 +1,6 @@
 //! What a single word means.
 ghost use Rattle.std.specs.Prelude.{◌≡◌, ◌≤◌, IfSome, if◌then◌else◌};
-ghost use Rattle.lvm_parse.specs.Words.{number_in, number_within, count_in, partition_count_in, turns_in, copy_count_in, size_in, is_hex_digit, hex_value, word_in, name_in, is_padded, disk_in, mode_in, policy_in};
+ghost use Rattle.lvm_parse.specs.Words.{number_in, number_within, count_in, partition_count_in, turns_in, copy_count_in, size_in, is_hex_digit, hex_value, word_in, name_in, is_padded, disk_in, mode_in, switch_in, policy_in};
 
 use lvm_num::{Mode, Name, Policy};
 
@@ -161,6 +161,19 @@ pub fn mode_of(word: &[u8]) -> Option<Mode>
         Some(Mode::Active)
     } else if word == b"p".as_slice() {
         Some(Mode::Passive)
+    } else {
+        None
+    }
+}
+
+/// Whether a switch is on, by `y`, or off, by `n`.
+pub fn switch_of(word: &[u8]) -> Option<bool>
+    ensures { result ≡ switch_in word.now }
+{
+    if word == b"y".as_slice() {
+        Some(true)
+    } else if word == b"n".as_slice() {
+        Some(false)
     } else {
         None
     }

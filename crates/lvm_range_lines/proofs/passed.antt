@@ -9,3 +9,4 @@ pub mod TieCommands
 pub mod Varyon
 pub mod Volumes
 pub mod Tie
+pub mod Members

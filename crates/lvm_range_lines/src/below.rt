@@ -4,6 +4,7 @@ pub mod disk_lines;
 pub mod driver;
 pub mod group_lines;
 pub mod handover;
+pub mod members;
 pub mod mirrors;
 pub mod split;
 pub mod stage;

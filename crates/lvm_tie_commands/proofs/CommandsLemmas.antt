@@ -1,4 +1,5 @@
 pub mod Commands
 pub mod Making
+pub mod Records
 pub mod Removing
 pub mod Tidying

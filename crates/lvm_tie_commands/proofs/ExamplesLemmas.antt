@@ -1,2 +1,3 @@
 pub mod PairSectors
 pub mod Examples
+pub mod Changing

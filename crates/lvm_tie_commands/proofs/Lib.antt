@@ -8,6 +8,7 @@ pub mod CommandsLemmas
 pub mod BeginningLemmas
 pub mod ServingLemmas
 pub mod CopiesLemmas
+pub mod ChangingLemmas
 pub mod CallsLemmas
 pub mod CalmLemmas
 pub mod SettledLemmas

@@ -3,6 +3,7 @@ pub mod Standing
 pub mod Commands
 pub mod Beginning
 pub mod Copies
+pub mod Changing
 pub mod Serving
 pub mod SplitServing
 pub mod Settled

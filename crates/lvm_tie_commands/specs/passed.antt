@@ -9,3 +9,5 @@ pub mod Tie
 pub mod Varyon
 pub mod VolumePlanFaultGroupFault
 pub mod Volumes
+pub mod Members
+pub mod RuleFaultVariants

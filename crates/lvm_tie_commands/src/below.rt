@@ -3,6 +3,7 @@
 pub mod driver;
 pub mod earlier;
 pub mod handover;
+pub mod members;
 pub mod mirrors;
 pub mod ranges;
 pub mod split;

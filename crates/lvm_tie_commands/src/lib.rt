@@ -3,11 +3,16 @@
 #![tactic(auto)]
 
 pub mod below;
+mod change_laws;
 mod copies_laws;
 mod groups_laws;
 mod laws;
 mod split_laws;
 
+pub use change_laws::{
+    change_finds_two, make_big_goes_on, make_big_serves, pairs_may_change, set_quorum_goes_on,
+    set_quorum_serves,
+};
 pub use copies_laws::{
     mklvcopy_goes_on, mklvcopy_serves, rmlvcopy_goes_on, rmlvcopy_serves, split_goes_on,
     split_shares,

@@ -16,6 +16,7 @@ use Rattle.lvm_core.specs.Looking.{IsNumberOf}
 use Rattle.lvm_session.specs.State.{Core, State}
 use Rattle.lvm_line.specs.passed.Group.{new_group}
 use Rattle.lvm_line.specs.passed.Volumes.{IsWith, IsWithFirst, IsWithMore}
+use Rattle.lvm_line.specs.passed.Members.{as_big, with_quorum}
 use Rattle.lvm_line.specs.passed.Splitting.{IsSplit}
 use Rattle.lvm_core.specs.Leaves.{MayBeFound}
 use Rattle.lvm_line.specs.passed.GroupLines.{asked_for, IsAlone, IsBrokenOff, Role, IsAtRest, StandsBy, ScriptState, Reply}
@@ -32,10 +33,12 @@ pub record WasDrained (old : ScriptState) (core : Core) (mid : State) : Type 0 w
   pub left : ℕ
   pub drains : Drains core old left mid
 
--- the descriptor that a line was to commit: of the group that is made, or of that which is on with a volume more or without one, with more or fewer copies, or with a
--- volume split
+-- the descriptor that a line was to commit: of the group that is made, or of that which is on with quorum checking switched, as a big one, with a volume more or without
+-- one, with more or fewer copies, or with a volume split
 abbrev pub IsToCommit : Result (Option Command) Misfit → ScriptState → ScriptState → Descriptor → Type 0
 IsToCommit (Ok (Some (command.Mkvg force name mib disks))) old new k = k ≡ new_group old.moment.device.sizes (asked_for name mib disks force new.last)
+IsToCommit (Ok (Some (command.ChvgQuorum on name))) old new k = IsSomeAnd old.session (λ core. k ≡ with_quorum on core.descriptor)
+IsToCommit (Ok (Some (command.ChvgBig name))) old new k = IsSomeAnd old.session (λ core. k ≡ as_big core.descriptor)
 IsToCommit (Ok (Some (command.Mklv name copies mode policy group lps))) old new k = (core : Core) × (mid : State) × WasDrained old core mid × IsWith (wanted name copies mode policy lps) mid.core k
 IsToCommit (Ok (Some (command.Rmlv name))) old new k = IsSomeAnd old.session (λ core. (lv : ℕ) × IsNumberOf core.descriptor.lvs name lv × (k ≡ without_volume core.descriptor lv))
 IsToCommit (Ok (Some (command.Mklvcopy name copies))) old new k = (core : Core) × (mid : State) × WasDrained old core mid × ((lv : ℕ) × IsNumberOf core.descriptor.lvs name lv × IsWithMore lv copies mid.core k)
@@ -59,10 +62,12 @@ pub data StoodBefore (run : ℕ) (role : Role) (old new : ScriptState) : Type 0 
   HeldAtRest : IsAtRest old → AreHeld old → StoodBefore run role old new
   StandsSince : (past : List Fact) (first : Moment) → StandsBy run first old → RunBegins run past first → IsAlone role old new → StoodBefore run role old new
 
--- the commands after which a group is on: it was made, varied on, given a volume or copies more or less, or had a volume split
+-- the commands after which a group is on: it was made, varied on, changed, given a volume or copies more or less, or had a volume split
 abbrev pub is_group_command : Command → Bool
 is_group_command (command.Mkvg force name mib disks) = true
 is_group_command (command.Varyon name) = true
+is_group_command (command.ChvgQuorum on name) = true
+is_group_command (command.ChvgBig name) = true
 is_group_command (command.Mklv name copies mode policy group lps) = true
 is_group_command (command.Rmlv name) = true
 is_group_command (command.Mklvcopy name copies) = true

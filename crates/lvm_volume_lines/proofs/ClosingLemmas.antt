@@ -28,7 +28,7 @@ use Rattle.lvm_volume_lines.specs.Commands.{HasRested}
 use Rattle.lvm_volume_lines.specs.Volumes.{IsDone, IsLeftEither}
 use Rattle.lvm_volume_lines.proofs.Commanding.{ClosesWell, Promised, closes_lit, goes_off, promised_by, ready_mid}
 use Rattle.lvm_volume_lines.proofs.Ending.{FaultFacts, closes_after}
-use Rattle.lvm_volume_lines.proofs.OfVolumes.{at_mid, drains, its_history}
+use Rattle.lvm_volume_lines.proofs.Carrying.{at_mid, drains, its_history}
 
 -- ---- a line that acts on nothing
 

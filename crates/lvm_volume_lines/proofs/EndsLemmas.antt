@@ -29,7 +29,7 @@ use Rattle.lvm_range_lines.proofs.LeavingLemmas.Ending.{off_kind}
 use Rattle.lvm_volume_lines.specs.Commands.{HasBrokenOff}
 use Rattle.lvm_volume_lines.specs.Volumes.{IsUndrained, drain_refusal}
 use Rattle.lvm_volume_lines.proofs.Commanding.{Acts}
-use Rattle.lvm_volume_lines.proofs.OfVolumes.{first_at, its_history, no_requests, still_first, was_on}
+use Rattle.lvm_volume_lines.proofs.Carrying.{first_at, its_history, no_requests, still_first, was_on}
 use Rattle.lvm_volume_lines.proofs.Resting.{TurnsKeep, dark_or_still, turns_keep}
 
 module _ {S : Type 0} (role : Role) (acts : Acts role) (device : S → Device) (stage : Stage S) (fits : IsFittingStage stage) (between : IsBetweenStage device stage) (none : open_in (session_in stage) ≡ 0) (patience : ℕ) (driver : S × Core) (why : CommitFault)

@@ -4,6 +4,7 @@ pub mod Ending
 pub mod FactsLemmas
 pub mod Resting
 pub mod CommandsLemmas
+pub mod Carrying
 pub mod OfVolumes
 pub mod EndsLemmas
 pub mod ServingLemmas
@@ -14,3 +15,4 @@ pub mod CopiesLemmas
 pub mod SplittingLemmas
 pub mod ResyncingLemmas
 pub mod ClosingLemmas
+pub mod ChangingLemmas

@@ -22,7 +22,7 @@ use Rattle.lvm_range_lines.proofs.passed.Tie.{path_frames}
 use Rattle.lvm_volume_lines.specs.Commands.{HasRested, IsHeldAgain}
 use Rattle.lvm_volume_lines.specs.Volumes.{Drains, StaysOn}
 use Rattle.lvm_volume_lines.proofs.Commanding.{Acts, Promised, goes_on, promised_by, ready_mid, rows_mid}
-use Rattle.lvm_volume_lines.proofs.OfVolumes.{at_mid, drains, its_history, rows_again, stands_again}
+use Rattle.lvm_volume_lines.proofs.Carrying.{at_mid, drains, its_history, rows_again, stands_again}
 
 module _ {S : Type 0} (device : S → Device) (stage : Stage S) (fits : IsFittingStage stage) (between : IsBetweenStage device stage) (none : open_in (session_in stage) ≡ 0) (patience : ℕ) (driver : S × Core)
     (rested : HasRested device stage.holder patience_of_line patience driver) (name : List ℕ) (unnamed : HasNoVolumeNamed driver.1.descriptor.lvs name) where

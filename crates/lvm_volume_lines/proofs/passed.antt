@@ -8,3 +8,4 @@ pub mod Splitting
 pub mod TieCommands
 pub mod Varyon
 pub mod Tie
+pub mod Members

@@ -3,6 +3,7 @@ pub mod Volumes
 pub mod Commands
 pub mod Copies
 pub mod Splitting
+pub mod Changing
 pub mod Sharing
 pub mod Resyncing
 pub mod Closing

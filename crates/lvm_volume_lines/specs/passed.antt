@@ -22,3 +22,5 @@ pub mod Varyon
 pub mod VolumePlan
 pub mod VolumePlanFaultGroupFault
 pub mod Volumes
+pub mod Members
+pub mod RuleFaultVariants

@@ -3,6 +3,7 @@
 pub mod disk_lines;
 pub mod driver;
 pub mod group_lines;
+pub mod members;
 pub mod mirrors;
 pub mod range_lines;
 pub mod split;

@@ -270,10 +270,8 @@ module _ (added : List Pp) (old new : State) (sound : IsSound old) (began : IsSe
 
     placed : ArePlaced new.device.sizes core.descriptor t
     placed row among there =
-        let mib : core.descriptor.mib ≡ old.core.descriptor.mib = ap (λ (d : Descriptor). d.mib) goes.alike in
-        let pvs : core.descriptor.pvs ≡ old.core.descriptor.pvs = ap (λ (d : Descriptor). d.pvs) goes.alike in
-        subst (λ (sizes : List ℕ). IsPlaced sizes core.descriptor.mib row) (sym goes.sizes) (subst (λ (n : ℕ). IsPlaced old.device.sizes n row) (sym mib)
-        (sound.placed row (subst (λ (rs : List PvRow). Contains rs row) pvs among) (was_there row.disk there)))
+        subst (λ (sizes : List ℕ). IsPlaced sizes core.descriptor.mib row) (sym goes.sizes) (subst (λ (n : ℕ). IsPlaced old.device.sizes n row) (sym goes.partitions)
+        (sound.placed row (subst (λ (rs : List PvRow). Contains rs row) goes.members among) (was_there row.disk there)))
 
     votes : is_enough_to_write core.descriptor (votes_in core.descriptor (members_there core.descriptor t)) ≡ true
     votes = enough_more core.descriptor (votes_in core.descriptor (is_there new.core)) (votes_in core.descriptor (members_there core.descriptor t))
@@ -323,7 +321,7 @@ module _ (added : List Pp) (old new : State) (sound : IsSound old) (began : IsSe
           let later : old.device.counts.faults disk ≤ new.device.counts.faults disk = goes.falls.faults disk in
           subst (λ (n : ℕ). n ≤ new.device.counts.faults disk) (sym (at_first disk)) (omega (arith, was, later));
       votes = votes;
-      rows = λ disk. same_rows disk ∙ ap (λ (o : Origin). has_row o.table disk) origin ∙ sound.origin.rows disk ∙ sym (ap (λ (d : Descriptor). is_member d disk) goes.alike);
+      rows = λ disk. same_rows disk ∙ ap (λ (o : Origin). has_row o.table disk) origin ∙ sound.origin.rows disk ∙ sym (ap (λ (rows : List PvRow). list_any (λ (row : PvRow). row.disk == disk) rows) goes.members);
       still_missing = missing_now;
       missing = lost;
       stale = λ p held. why_stale p (by (is_held_stale new.core p) (is_wanted_stale new.core p) (held_as p) held);

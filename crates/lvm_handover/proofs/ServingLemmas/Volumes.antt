@@ -79,7 +79,7 @@ module _ (old : State) (sound : IsSound old) (began : IsSettled old.core) where
   going : IsGoing old.core
   going = (sound.on began.power).going
 
-  none_before : NoneIsLeft old.core.descriptor old.core.status
+  pub none_before : NoneIsLeft old.core.descriptor old.core.status
   none_before = none_left old.core sound.fitting.valid sound.fitting.group began.committed going.behind
 
   -- a copy that was fresh when it began has a fresh one beside it
@@ -125,7 +125,8 @@ module _ (old : State) (sound : IsSound old) (began : IsSettled old.core) where
     pub goes_on : IsValid new.core.descriptor → GoesOnWith added old new
     goes_on valid = record {
       is = is ∙ ap (λ (c : Core). record old.core { descriptor = c.descriptor; history = c.history; last = c.last; status = new.core.status; homes = new.core.homes }) (sym is);
-      alike = subst (λ (g : Descriptor). IsAlike g old.core.descriptor) (sym descriptor_is) alike;
+      members = ap (λ (g : Descriptor). g.pvs) descriptor_is ∙ ap (λ (g : Descriptor). g.pvs) alike;
+      partitions = ap (λ (g : Descriptor). g.mib) descriptor_is ∙ ap (λ (g : Descriptor). g.mib) alike;
       sizes = sizes;
       falls = falls;
       ordered = subst (λ (l : Log). Ordered l.run [] l.facts) (sym history_is) ordered;
@@ -160,7 +161,8 @@ refused_serves old new sound began same =
     nothing : GoesOnWith [] old old
     nothing = record {
       is = refl;
-      alike = refl;
+      members = refl;
+      partitions = refl;
       sizes = refl;
       falls = none_falls_at_once old.device.counts;
       ordered = sound.told.ordered;

@@ -26,7 +26,7 @@ use Rattle.lvm_volume_lines.specs.passed.Group.{NewGroup, RefusesFirst, MkvgRefu
 use Rattle.lvm_volume_lines.specs.passed.Varyon.{IsRecovered, VaryonRefuses}
 use Rattle.lvm_volume_lines.proofs.passed.Quiesce.{quiet_is_ahead, ends_only}
 use Rattle.lvm_volume_lines.proofs.passed.Varyon.{failed_rose}
-use Rattle.lvm_line.specs.Causes.{HasCause, TransferHasFailed, RoseOn, VaryonLaw, disk_of}
+use Rattle.lvm_line.specs.Causes.{HasCause, TransferHasFailed, RoseOn, VaryonLaw, WritesNothing, disk_of}
 use Rattle.lvm_volume_lines.specs.passed.GroupLines.{patience_of_line, IsBetween, IsRelit, refusal_of, Shows, InFull, WithoutMemory, ScriptState, log_with, Refusal, CutNotPlanned, IsArranged, NoReadWhileOn, NoWriteWhileOn, NotPlanned, NotThere, PowerIsCut, ReadGoes, WriteGoes, refusal_by, Brings, DiskOfGroup, GroupThatIsOn, IsLeftByCall, ListsGroup, ListsMember, ListsVolume, Makes, NoGroupForDisk, NoGroupForVolume, NoGroupToList, NoMemoryForLine, NoMkvgWhileOn, NoSuchMember, NoSuchVolume, NoVaryonWhileOn, OtherGroup, Varies, VolumeOfGroup, asked_for, itself, outcome_of}
 use Rattle.lvm_line.specs.Lines.{LineDoes}
 use Rattle.lvm_volume_lines.specs.Volumes.{NoGroupForMklv, BusyMklv, UndrainedMklv, MakesVolume, MklvFails, NoGroupForRmlv, BusyRmlv, UndrainedRmlv, NoVolumeForRmlv, RemovesVolume, RmlvFails, refusal_for, wanted}
@@ -34,6 +34,9 @@ use Rattle.lvm_volume_lines.specs.passed.RefusalVariants as refusal
 use Rattle.lvm_volume_lines.specs.passed.ReplyVariants as reply
 use Rattle.lvm_volume_lines.proofs.passed.GroupLines.{clock_is_ahead}
 use Rattle.lvm_volume_lines.specs.Copies.{AddsCopies, BusyMklvcopy, BusyRmlvcopy, MklvcopyFails, NoGroupForMklvcopy, NoGroupForRmlvcopy, NoVolumeForMklvcopy, NoVolumeForRmlvcopy, RemovesCopies, RmlvcopyFails, UndrainedMklvcopy, UndrainedRmlvcopy}
+use Rattle.lvm_volume_lines.specs.Changing.{BecomesBig, BusyChvgBig, BusyChvgQuorum, ChvgBigFails, ChvgQuorumFails, NoGroupForChvgBig, NoGroupForChvgQuorum, SwitchesQuorum, UndrainedChvgBig, UndrainedChvgQuorum, change_refusal}
+use Rattle.lvm_volume_lines.specs.passed.Members.{with_quorum}
+use Rattle.lvm_line.proofs.CausesLemmas.Changing.{known_big, known_change}
 use Rattle.lvm_volume_lines.specs.Closing.{BusyVaryoff, NoVaryoff, TidiesOff, UndrainedVaryoff, VariesOff, VaryoffFails}
 use Rattle.lvm_volume_lines.specs.passed.VolumePlan.{fault_of}
 use Rattle.lvm_volume_lines.proofs.ClosingLemmas.{tidy_failed}
@@ -62,14 +65,14 @@ pub record Stopped (read : Result (Option Command) Misfit) (why : Cause) (moment
   pub back : (seen : ℕ) → why ≡ cause.ClockBack seen → moment ≤ seen
   pub unwritten : (have total : ℕ) → why ≡ cause.NoQuorum have total → left.wrote ≡ old.wrote
 
-known_by : (read : Result (Option Command) Misfit) (why : Cause) (old new : ScriptState) (left : Device) → IsOther read → Stopped read why new.last old.moment.device left → CauseRose patience_of_line old.moment.device.counts left.counts why → new.moment.device.counts ≡ left.counts
+known_by : (read : Result (Option Command) Misfit) (why : Cause) (old new : ScriptState) (left : Device) → IsOther read → (new.moment.device.wrote ≡ old.moment.device.wrote → WritesNothing read old new) → Stopped read why new.last old.moment.device left → CauseRose patience_of_line old.moment.device.counts left.counts why → new.moment.device.counts ≡ left.counts
     → new.moment.device.wrote ≡ left.wrote → new.session ≡ None → Known read (refusal_of why) old new
-known_by read (cause.NoQuorum have total) old new left plain stopped rose counts wrote off = record { cause = has_by read _ old new plain tt; off = λ is. off; unwritten = λ have1 total1 is. wrote ∙ stopped.unwritten have total refl }
-known_by read (cause.ClockBack seen) old new left plain stopped rose counts wrote off = record { cause = has_by read (refusal.ClockBack seen) old new plain (stopped.back seen refl); off = λ is. off; unwritten = λ have total is. absurd (cc (is)) }
-known_by read (cause.DiskFailed disk) old new left plain stopped rose counts wrote off = record { cause = has_by read (refusal.DiskFailed disk) old new plain (subst (λ (n : Counts). TransferHasFailed read disk old.moment.device.counts n) (sym counts) (stopped.failed disk refl)); off = λ is. off; unwritten = λ have total is. absurd (cc (is)) }
-known_by read cause.Dark old new left plain stopped rose counts wrote off = record { cause = has_by read refusal.Dark old new plain (subst (λ (n : Counts). Rose old.moment.device.counts.cuts n.cuts) (sym counts) rose); off = λ is. off; unwritten = λ have total is. absurd (cc (is)) }
-known_by read cause.Stuck old new left plain stopped rose counts wrote off = record { cause = has_by read refusal.Stuck old new plain (subst (λ (n : Counts). RoseBy patience_of_line old.moment.device.counts.waits n.waits) (sym counts) rose); off = λ is. off; unwritten = λ have total is. absurd (cc (is)) }
-known_by read other old new left plain stopped rose counts wrote off = record { cause = has_by read _ old new plain tt; off = λ is. off; unwritten = λ have total is. absurd (cc (is)) }
+known_by read (cause.NoQuorum have total) old new left plain so stopped rose counts wrote off = record { cause = has_by read _ old new plain tt; off = λ is. off; unwritten = λ have1 total1 is. so (wrote ∙ stopped.unwritten have total refl) }
+known_by read (cause.ClockBack seen) old new left plain so stopped rose counts wrote off = record { cause = has_by read (refusal.ClockBack seen) old new plain (stopped.back seen refl); off = λ is. off; unwritten = λ have total is. absurd (cc (is)) }
+known_by read (cause.DiskFailed disk) old new left plain so stopped rose counts wrote off = record { cause = has_by read (refusal.DiskFailed disk) old new plain (subst (λ (n : Counts). TransferHasFailed read disk old.moment.device.counts n) (sym counts) (stopped.failed disk refl)); off = λ is. off; unwritten = λ have total is. absurd (cc (is)) }
+known_by read cause.Dark old new left plain so stopped rose counts wrote off = record { cause = has_by read refusal.Dark old new plain (subst (λ (n : Counts). Rose old.moment.device.counts.cuts n.cuts) (sym counts) rose); off = λ is. off; unwritten = λ have total is. absurd (cc (is)) }
+known_by read cause.Stuck old new left plain so stopped rose counts wrote off = record { cause = has_by read refusal.Stuck old new plain (subst (λ (n : Counts). RoseBy patience_of_line old.moment.device.counts.waits n.waits) (sym counts) rose); off = λ is. off; unwritten = λ have total is. absurd (cc (is)) }
+known_by read other old new left plain so stopped rose counts wrote off = record { cause = has_by read _ old new plain tt; off = λ is. off; unwritten = λ have total is. absurd (cc (is)) }
 
 -- causes of which nothing is asked
 abbrev IsPlain : Cause → Type 0
@@ -166,7 +169,7 @@ varyon_known log room name why old new brings = by brings.given brings.gives bri
     by (Ok core) gives rose left = absurd (let e = left.2.answered in cc (e))
     by (Err reason) gives rose left =
         by_reply (Ok (Some (command.Varyon name))) why (refusal_of reason) old new left.answered
-        (known_by (Ok (Some (command.Varyon name))) reason old new brings.shelf tt (varyon_judged name new.last room (log_with log old.moment.facts) old.moment.device brings.shelf brings.history reason gives) rose
+        (known_by (Ok (Some (command.Varyon name))) reason old new brings.shelf tt (λ same. same) (varyon_judged name new.last room (log_with log old.moment.facts) old.moment.device brings.shelf brings.history reason gives) rose
         (counts_lit reason brings.shelf new.moment.device left.lit) (wrote_lit reason brings.shelf new.moment.device left.lit) left.after)
 
 mkvg_known : (log : Log) (room : Room) (force : Bool) (name : List ℕ) (mib : Option ℕ) (disks : List ℕ) (why : Refusal) (old new : ScriptState)
@@ -178,7 +181,7 @@ mkvg_known log room force name mib disks why old new brings = by brings.given br
     by (Ok core) gives rose left = absurd (let e = left.2.answered in cc (e))
     by (Err reason) gives rose left =
         by_reply (Ok (Some (command.Mkvg force name mib disks))) why (refusal_of reason) old new left.answered
-        (known_by (Ok (Some (command.Mkvg force name mib disks))) reason old new brings.shelf tt (mkvg_judged force name mib disks new.last room (log_with log old.moment.facts) old.moment.device brings.shelf brings.history reason gives rose) rose
+        (known_by (Ok (Some (command.Mkvg force name mib disks))) reason old new brings.shelf tt (λ same. same) (mkvg_judged force name mib disks new.last room (log_with log old.moment.facts) old.moment.device brings.shelf brings.history reason gives rose) rose
         (counts_lit reason brings.shelf new.moment.device left.lit) (wrote_lit reason brings.shelf new.moment.device left.lit) left.after)
 
 -- ---- disks
@@ -243,6 +246,18 @@ known log room (Ok (Some (command.Varyoff name))) why old new between (VaryoffFa
 known log room (Ok (Some (command.Lsvg volumes name))) why old new between (NoGroupToList none is, same) = by_reply _ why refusal.NoGroup old new is (easy _ refusal.NoGroup old new tt (λ e. cc) (λ h t e. cc))
 known log room (Ok (Some (command.Lsvg volumes name))) why old new between (GroupThatIsOn core some (OtherGroup other is), same) = by_reply _ why refusal.NoGroup old new is (easy _ refusal.NoGroup old new tt (λ e. cc) (λ h t e. cc))
 known log room (Ok (Some (command.Lsvg volumes name))) why old new between (GroupThatIsOn core some (ListsGroup its shows), same) = of_shows _ _ why old new tt shows
+known log room (Ok (Some (command.ChvgQuorum on name))) why old new between (NoGroupForChvgQuorum none is) = by_reply _ why refusal.NoGroup old new is.0 (easy _ refusal.NoGroup old new tt (λ e. cc) (λ h t e. cc))
+known log room (Ok (Some (command.ChvgQuorum on name))) why old new between (BusyChvgQuorum mine busy is) = by_reply _ why refusal.Busy old new is.0 (easy _ refusal.Busy old new tt (λ e. cc) (λ h t e. cc))
+known log room (Ok (Some (command.ChvgQuorum on name))) why old new between (UndrainedChvgQuorum core fault some mine ends) = undrained (Ok (Some (command.ChvgQuorum on name))) old new core tt between some why fault ends
+known log room (Ok (Some (command.ChvgQuorum on name))) why old new between (SwitchesQuorum core left mid some mine drains done is) = absurd (cc (is))
+known log room (Ok (Some (command.ChvgQuorum on name))) why old new between (ChvgQuorumFails core left mid reason some mine drains done is) =
+    by_reply _ why (change_refusal reason) old new is (known_change (Ok (Some (command.ChvgQuorum on name))) tt (λ a b more. more) (with_quorum on mid.core.descriptor) reason old new core left mid done.left some drains done.gives done.leaves)
+known log room (Ok (Some (command.ChvgBig name))) why old new between (NoGroupForChvgBig none is) = by_reply _ why refusal.NoGroup old new is.0 (easy _ refusal.NoGroup old new tt (λ e. cc) (λ h t e. cc))
+known log room (Ok (Some (command.ChvgBig name))) why old new between (BusyChvgBig mine busy is) = by_reply _ why refusal.Busy old new is.0 (easy _ refusal.Busy old new tt (λ e. cc) (λ h t e. cc))
+known log room (Ok (Some (command.ChvgBig name))) why old new between (UndrainedChvgBig core fault some mine ends) = undrained (Ok (Some (command.ChvgBig name))) old new core tt between some why fault ends
+known log room (Ok (Some (command.ChvgBig name))) why old new between (BecomesBig core left mid some mine drains done is) = absurd (cc (is))
+known log room (Ok (Some (command.ChvgBig name))) why old new between (ChvgBigFails core left mid reason some mine drains done is) =
+    by_reply _ why (change_refusal reason) old new is (known_big (Ok (Some (command.ChvgBig name))) tt (λ a b more. more) reason old new core left mid done.left some drains done.gives done.leaves)
 known log room (Ok (Some (command.Mklv name copies mode policy group lps))) why old new between (NoGroupForMklv none is) = by_reply _ why refusal.NoGroup old new is.0 (easy _ refusal.NoGroup old new tt (λ e. cc) (λ h t e. cc))
 known log room (Ok (Some (command.Mklv name copies mode policy group lps))) why old new between (BusyMklv on busy is) = by_reply _ why refusal.Busy old new is.0 (easy _ refusal.Busy old new tt (λ e. cc) (λ h t e. cc))
 known log room (Ok (Some (command.Mklv name copies mode policy group lps))) why old new between (UndrainedMklv core fault some on ends) = undrained (Ok (Some (command.Mklv name copies mode policy group lps))) old new core tt between some why fault ends
@@ -314,7 +329,7 @@ pub has_cause : (log : Log) (room : Room) (read : Result (Option Command) Misfit
 has_cause log room read why old new between does = (known log room read why old new between does).cause
 
 pub nothing_written : (log : Log) (room : Room) (read : Result (Option Command) Misfit) (have total : ℕ) (old new : ScriptState) → IsBetween old.moment old.session old.posts → LineDoes log room read old new (reply.Refused (refusal.NoQuorum have total))
-    → new.moment.device.wrote ≡ old.moment.device.wrote
+    → WritesNothing read old new
 nothing_written log room read have total old new between does = (known log room read (refusal.NoQuorum have total) old new between does).unwritten have total refl
 
 -- where nothing was heard of a transfer no group is on

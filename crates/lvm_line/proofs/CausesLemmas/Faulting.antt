@@ -32,7 +32,7 @@ use Rattle.lvm_volume_lines.specs.passed.Names.{GroupFault, ends_session}
 use Rattle.lvm_volume_lines.specs.passed.VolumePlanFaultGroupFault as fault
 
 -- votes that are too few to write are at most half
-at_most_half : (group : Descriptor) (have : ℕ) → IsFalse (is_enough_to_write group have) → 2 * have ≤ total_votes group
+pub at_most_half : (group : Descriptor) (have : ℕ) → IsFalse (is_enough_to_write group have) → 2 * have ≤ total_votes group
 at_most_half group have few = go group.quorum few
   where
     go : (quorum : Bool) → (if quorum then nat_lt (total_votes group) (2 * have) else nat_lt 0 have) ≡ false → 2 * have ≤ total_votes group
@@ -40,11 +40,11 @@ at_most_half group have few = go group.quorum few
     go false is = let none = ltb-false 0 have is in omega (arith, none)
 
 -- what is left has the counts of the shelf
-counts_left : (ends : Bool) (left : State) (old new : ScriptState) → IsLeftEither ends left old new → new.moment.device.counts ≡ left.device.counts
+pub counts_left : (ends : Bool) (left : State) (old new : ScriptState) → IsLeftEither ends left old new → new.moment.device.counts ≡ left.device.counts
 counts_left true left old new over = ap (λ (d : Device). d.counts) over.lit
 counts_left false left old new stays = ap (λ (d : Device). d.counts) stays.device
 
-none_left : (left : State) (old new : ScriptState) → IsLeftEither true left old new → new.session ≡ None
+pub none_left : (left : State) (old new : ScriptState) → IsLeftEither true left old new → new.session ≡ None
 none_left left old new over = over.session
 
 -- why the turns before the command have ended is no want of votes for a quorum
@@ -75,7 +75,7 @@ module _ (read : Result (Option Command) Misfit) (old new : ScriptState) (core :
   }
 
 -- patience that went before, and then
-rose_in_line : (left a b c : ℕ) → left ≤ patience_of_line → RoseBy (patience_of_line - left) a b → RoseBy left b c → RoseBy patience_of_line a c
+pub rose_in_line : (left a b c : ℕ) → left ≤ patience_of_line → RoseBy (patience_of_line - left) a b → RoseBy left b c → RoseBy patience_of_line a c
 rose_in_line left a b c few before later =
     let sum : (patience_of_line - left) + left ≡ patience_of_line = omega (arith, few) in
     subst (λ (n : ℕ). RoseBy n a c) sum (rose_then (patience_of_line - left) left a b c before later)
@@ -86,7 +86,7 @@ module _ (read : Result (Option Command) Misfit) (other : IsOther read) (failed 
     faults_since disk n rose = rose_before ((path_frames drains.runs).keeps.counts.faults disk) rose
 
     -- what is there is a member of the session's group
-    member_of : (disk : ℕ) → there mid.core.status disk ≡ true → is_member core.descriptor disk ≡ true
+    pub member_of : (disk : ℕ) → there mid.core.status disk ≡ true → is_member core.descriptor disk ≡ true
     member_of disk was = sym (ap (λ (g : Descriptor). is_member g disk) (path_frames drains.runs).keeps.descriptor) ∙ sym (ap (λ (g : Descriptor). is_member g disk) drains.sound.fitting.group)
         ∙ first (is_member mid.core.status.group disk) (calls_missing mid.core.status.wanted disk) was
       where
@@ -95,7 +95,7 @@ module _ (read : Result (Option Command) Misfit) (other : IsOther read) (failed 
         first false b is = is
 
     -- and wasn't missing before
-    was_there : (disk : ℕ) → there mid.core.status disk ≡ true → is_missing core disk ≡ false
+    pub was_there : (disk : ℕ) → there mid.core.status disk ≡ true → is_missing core disk ≡ false
     was_there disk was = by (is_missing core disk) refl
       where
         second : (a b : Bool) → a && not b ≡ true → b ≡ false

@@ -3,16 +3,16 @@ use Rattle.std.proofs.Common.{◌≡◌, ℕ, Option, Some, None, Result, Ok, su
 use Rattle.lvm_parse.specs.declared.command.Command.{Command}
 use Rattle.lvm_parse.specs.declared.command.Command.TheVariants as command
 use Rattle.lvm_parse.specs.declared.rest.Misfit.{Misfit}
-use Rattle.lvm_line.specs.Causes.{CauseOf, HasCause}
+use Rattle.lvm_line.specs.Causes.{CauseOf, HasCause, WritesNothing}
 use Rattle.lvm_volume_lines.specs.passed.GroupLines.{ScriptState, Refusal}
 use Rattle.lvm_volume_lines.specs.passed.RefusalVariants as refusal
 use Rattle.lvm_volume_lines.specs.passed.ReplyVariants as reply
 
--- its cause, and that what quorums lack is told before a write
+-- its cause, and that what quorums lack is told before a write of it
 pub record Known (read : Result (Option Command) Misfit) (why : Refusal) (old new : ScriptState) : Type 0 where
   pub cause : HasCause read why old new
   pub off : why ≡ refusal.Stuck → new.session ≡ None
-  pub unwritten : (have total : ℕ) → why ≡ refusal.NoQuorum have total → new.moment.device.wrote ≡ old.moment.device.wrote
+  pub unwritten : (have total : ℕ) → why ≡ refusal.NoQuorum have total → WritesNothing read old new
 
 -- of a refusal for which nothing has to have happened
 pub by_reply : (read : Result (Option Command) Misfit) (why other : Refusal) (old new : ScriptState) → reply.Refused why ≡ reply.Refused other → Known read other old new → Known read why old new

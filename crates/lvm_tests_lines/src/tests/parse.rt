@@ -248,6 +248,45 @@ fn resyncs_are_spelled(rt: HostRuntime) {
     spells(&rt, b" syncvg  -v  lv00 ", Command::SyncGroup { name });
 }
 
+#[test]
+fn changes_of_a_group_are_spelled(rt: HostRuntime) {
+    let name = name(&rt, b"datavg");
+    spells(
+        &rt,
+        b"chvg -Q y datavg",
+        Command::ChvgQuorum { on: true, name },
+    );
+    spells(
+        &rt,
+        b" chvg  -Q  n  datavg ",
+        Command::ChvgQuorum { on: false, name },
+    );
+    spells(&rt, b"chvg -B datavg", Command::ChvgBig { name });
+}
+
+// Lines that would change a group, and the column at which each isn't in the language.
+static UNCHANGED: [(&[u8], u32); 12] = [
+    (b"chvg", 5),
+    (b"chvg datavg", 6),
+    (b"chvg -b datavg", 6),
+    (b"chvg -Q", 8),
+    (b"chvg -Q Y datavg", 9),
+    (b"chvg -Q yes datavg", 9),
+    (b"chvg -Q y", 10),
+    (b"chvg -Q n hdisk0", 11),
+    (b"chvg -Q y -B datavg", 11),
+    (b"chvg -Q y n datavg", 13),
+    (b"chvg -B -B datavg", 9),
+    (b"chvg -B datavg -Q", 16),
+];
+
+#[test]
+fn a_change_takes_one_of_its_options(rt: HostRuntime) {
+    for (line, column) in &UNCHANGED {
+        refused(&rt, line, *column);
+    }
+}
+
 // The volume lv00 in datavg, in mode off.
 fn volume(rt: &impl Abort, copies: u8, policy: Policy, lps: u32) -> Command {
     volume_in(rt, Mode::Off, copies, policy, lps)

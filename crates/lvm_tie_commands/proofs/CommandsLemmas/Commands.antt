@@ -13,7 +13,7 @@ use Rattle.lvm_vol.specs.Facts.{Fact}
 use Rattle.lvm_vol.specs.Legal.{begins_in}
 use Rattle.lvm_vol.specs.Log.{Log}
 use Rattle.lvm_vol.specs.Order.{Ordered}
-use Rattle.lvm_kept.specs.Moments.{Calm, Moment}
+use Rattle.lvm_kept.specs.Moments.{Calm, Moment, StaysCalm}
 use Rattle.lvm_kept.specs.Plans.{ChangesBy}
 use Rattle.lvm_steps.specs.Moments.{RunBegins, HistoryHolds, Keeps, Upholds}
 use Rattle.lvm_steps.proofs.RecordLemmas.{join, split}
@@ -42,7 +42,7 @@ on_all answer P Q R S p q r all = by (is_over answer) p q r
     by true p q r = tt
     by false p q r = all p q r
 
-told_next : (a b : Option Media) (R : Media → Media → Type 0) (x : Media) → a ≡ Some x → BothTold a b R → (y : Media) × (b ≡ Some y)
+pub told_next : (a b : Option Media) (R : Media → Media → Type 0) (x : Media) → a ≡ Some x → BothTold a b R → (y : Media) × (b ≡ Some y)
 told_next None b R x told both = absurd (cc told)
 told_next (Some w) None R x told both = absurd both
 told_next (Some w) (Some y) R x told both = (y, refl)
@@ -68,15 +68,18 @@ module _ (run : ℕ) (first : Moment) (old new : State) (may : MayBeCommanded ru
   pub is_alone : (old.core.descriptor.lvs ≡ [] → EntersVolumes old.core.history.facts new.core.history.facts → IsOneFoundOn old.device) → IfAlone old new run first
   is_alone one enters past begins = (carries run first old may began past begins (λ none. one none enters)).1.only
 
-module _ (run : ℕ) (first : Moment) (old new : State) (may : MayBeCommanded run first old) (began : IsSettled old.core)
-    (scope : Scope) (before after : ℕ) (leaves : Leaves scope before after old new) where
-  -- ---- whatever its answer
+-- What a command leaves, as far as what stands on the disks goes on by it: their media is told, no write is open that wasn't, its run and its epoch are as they were, and
+-- no member comes back.
+pub record LeavesStanding (old new : State) : Type 0 where
+  pub told : (was : Media) → old.device.media ≡ Some was → (is : Media) × (new.device.media ≡ Some is)
+  pub calm : StaysCalm (moment_of old) (moment_of new)
+  pub run_is : new.core.history.run ≡ old.core.history.run
+  pub epoch : new.core.status.stamp.epoch ≡ old.core.status.stamp.epoch
+  pub stays : (d : ℕ) → IsTrue (calls_missing old.core.status.wanted d) → IsTrue (calls_missing new.core.status.wanted d)
 
-  pub keeps_on : scope.lets old new run first → Keeps run first (moment_of new)
-  keeps_on lets = leaves.spans run first (λ past begins. (holds_before run first old may began past begins).0) lets may.keeps
+-- ---- where the session goes on
 
-  -- ---- where the session goes on
-
+module _ (run : ℕ) (first : Moment) (old new : State) (may : MayBeCommanded run first old) (began : IsSettled old.core) (leaves : LeavesStanding old new) where
   module _ (on : IsSettled new.core) (still : StillHeld old new) (members : (d : ℕ) → is_member new.core.descriptor d ≡ is_member old.core.descriptor d) (even : KeepsEven old new)
       (enters : new.core.descriptor.lvs ≢ [] → old.core.descriptor.lvs ≡ [] → IsOneFoundOn old.device) (keeps : Keeps run first (moment_of new)) (whole : HasSectors new.device)
       (past : List Fact) (begins : RunBegins run past first) where
@@ -87,14 +90,14 @@ module _ (run : ℕ) (first : Moment) (old new : State) (may : MayBeCommanded ru
     calm = leaves.calm past (calm_at run first (moment_of old) may.keeps (subst (λ (n : ℕ). Ordered n [] old.core.history.facts) may.run_is may.sound.told.ordered) (landed old may.sound began) past begins)
 
     own : count_by (begins_in new.core.history.run) past ≡ 0
-    own = subst (λ (n : ℕ). count_by (begins_in n) past ≡ 0) (sym (ap (λ (l : Log). l.run) leaves.history.room ∙ may.run_is)) begins.own
+    own = subst (λ (n : ℕ). count_by (begins_in n) past ≡ 0) (sym (leaves.run_is ∙ may.run_is)) begins.own
 
     epoch : new.core.status.stamp.epoch < 2 ^ 64
-    epoch = subst (λ (n : ℕ). n < 2 ^ 64) (sym leaves.numbers.epoch) may.stamped.epoch
+    epoch = subst (λ (n : ℕ). n < 2 ^ 64) (sym leaves.epoch) may.stamped.epoch
 
     module _ (was : Media) (it : Carries old was) where
       told : (is : Media) × (new.device.media ≡ Some is)
-      told = told_next old.device.media new.device.media (λ (w i : Media). ChangesBy (IsOfCommand scope.next scope.zeros old new) (image_of old.device.sizes w) (image_of new.device.sizes i)) was it.told leaves.writes.media
+      told = leaves.told was it.told
 
       held_before : IsHeld old.device old.core
       held_before = is_held old was it.told it.held
@@ -103,7 +106,7 @@ module _ (run : ℕ) (first : Moment) (old new : State) (may : MayBeCommanded ru
       held = of_told (λ (m : Media). Held new m) new.device.media told.0 told.1 (still.held held_before)
 
       wanted : AreWanted old new it.held.shows.stands held.shows.stands
-      wanted = record { before = it.held.shows.committed ∙ began.committed; after = held.shows.committed ∙ on.committed; fewer = still_there old new members leaves.status.stays }
+      wanted = record { before = it.held.shows.committed ∙ began.committed; after = held.shows.committed ∙ on.committed; fewer = still_there old new members leaves.stays }
 
       carried : Carries new told.0
       carried = record {
@@ -149,8 +152,8 @@ module _ (run : ℕ) (first : Moment) (old new : State) (may : MayBeCommanded ru
         spares = λ some. (tied_again sound some).1;
       }
 
-    pub left_standing : IsLeftStanding past new
-    left_standing = record {
+    pub left_standing_by : IsLeftStanding past new
+    left_standing_by = record {
       empty = λ none. holds_after;
       served = λ added core served sound. subst (λ (c : Core). StandsAfter past new.device c) (sym served.is)
           (stands_again core.origin.table
@@ -162,3 +165,26 @@ module _ (run : ℕ) (first : Moment) (old new : State) (may : MayBeCommanded ru
         not_gone true b c member none = absurd (cc none)
         not_gone false true c member none = none
         not_gone false false c member none = absurd (cc member)
+
+-- ---- a command on volumes
+
+module _ (run : ℕ) (first : Moment) (old new : State) (may : MayBeCommanded run first old) (began : IsSettled old.core)
+    (scope : Scope) (before after : ℕ) (leaves : Leaves scope before after old new) where
+  -- whatever its answer
+  pub keeps_on : scope.lets old new run first → Keeps run first (moment_of new)
+  keeps_on lets = leaves.spans run first (λ past begins. (holds_before run first old may began past begins).0) lets may.keeps
+
+  standing : LeavesStanding old new
+  standing = record {
+    told = λ was told. told_next old.device.media new.device.media (λ (w i : Media). ChangesBy (IsOfCommand scope.next scope.zeros old new) (image_of old.device.sizes w) (image_of new.device.sizes i)) was told leaves.writes.media;
+    calm = leaves.calm;
+    run_is = ap (λ (l : Log). l.run) leaves.history.room;
+    epoch = leaves.numbers.epoch;
+    stays = leaves.status.stays;
+  }
+
+  -- and where the session goes on
+  pub left_standing : IsSettled new.core → StillHeld old new → ((d : ℕ) → is_member new.core.descriptor d ≡ is_member old.core.descriptor d) → KeepsEven old new
+      → (new.core.descriptor.lvs ≢ [] → old.core.descriptor.lvs ≡ [] → IsOneFoundOn old.device) → Keeps run first (moment_of new) → HasSectors new.device
+      → (past : List Fact) → RunBegins run past first → IsLeftStanding past new
+  left_standing = left_standing_by run first old new may began standing

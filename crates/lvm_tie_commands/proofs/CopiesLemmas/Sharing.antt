@@ -8,20 +8,16 @@ use Rattle.lvm_num.specs.declared.descriptor.LvRow.{LvRow}
 use Rattle.lvm_num.specs.declared.descriptor.Mode.{Mode}
 use Rattle.lvm_num.specs.declared.descriptor.Mode.TheVariants.{Active, Passive, Off}
 use Rattle.lvm_num.specs.declared.place.Pp.{Pp}
-use Rattle.lvm_num.specs.declared.record.Kind.{Kind}
-use Rattle.lvm_num.specs.declared.record.Kind.TheVariants as kind
 use Rattle.lvm_num.specs.declared.status.Status.{Status}
-use Rattle.lvm_num.specs.Buffer.{Sector}
 use Rattle.lvm_num.specs.Descriptor.{copies_of, is_member, volume_of}
-use Rattle.lvm_num.specs.DescriptorBytes.{descriptor_bytes}
 use Rattle.lvm_num.specs.Disks.{Disks}
-use Rattle.lvm_num.specs.Geometry.{data_start, sector_of}
-use Rattle.lvm_num.specs.Record.{Stamped, longest_content, record_sectors, slot_start}
+use Rattle.lvm_num.specs.Geometry.{sector_of}
+use Rattle.lvm_num.specs.Record.{Stamped}
 use Rattle.lvm_num.specs.Status.{calls_stale}
 use Rattle.lvm_num.specs.Votes.{CanWrite, all_disks}
 use Rattle.lvm_num.proofs.AmongLemmas.{of_passing}
 use Rattle.lvm_num.proofs.Booleans.{clash, first_holds, second_holds}
-use Rattle.lvm_disk.specs.Device.{Image, Media, image_of}
+use Rattle.lvm_disk.specs.Device.{Media, image_of}
 use Rattle.lvm_disk.specs.Steps.{BothTold}
 use Rattle.lvm_vol.specs.declared.entry.Vol.TheVariants.{Lv}
 use Rattle.lvm_vol.specs.Facts.{Cut, Fact, Request}
@@ -35,15 +31,12 @@ use Rattle.lvm_kept.specs.Kept.{BlocksKept, Kept, MayDiffer}
 use Rattle.lvm_kept.specs.Moments.{Moment}
 use Rattle.lvm_kept.specs.Plans.{ChangesBy}
 use Rattle.lvm_kept.proofs.CommittedLemmas.Finding.{finding_reads, images_within}
-use Rattle.lvm_kept.proofs.PlacesLemmas.{data-same}
 use Rattle.lvm_steps.specs.Moments.{RunBegins, HistoryHolds, Upholds}
 use Rattle.lvm_steps.proofs.GroupLemmas.Members.{member_of_parts}
-use Rattle.lvm_steps.proofs.LawsLemmas.Writes.{slot_below}
 use Rattle.lvm_steps.proofs.MakingLemmas.Making.{media_may}
 use Rattle.lvm_disk.proofs.PathsLemmas.{last-path}
 use Rattle.lvm_commit.specs.Committed.{ShowsCommitted}
 use Rattle.lvm_commit.specs.LawsOfData.{IsSectorOf}
-use Rattle.lvm_commit.specs.Settling.{IsOfCommit, IsOfStatus}
 use Rattle.lvm_commit.proofs.AmongLemmas.{one_place}
 use Rattle.lvm_commit.proofs.LawsLemmas.Found.{shows_group, status_read}
 use Rattle.lvm_commit.proofs.LawsOfDataLemmas.Free.{partition_is}
@@ -63,6 +56,7 @@ use Rattle.lvm_tie_commands.specs.passed.Handover.{IsCommanded}
 use Rattle.lvm_tie_commands.specs.Commands.{MayBeCommanded}
 use Rattle.lvm_tie_commands.specs.Sharing.{HoldTheSame, ShareContent, SplitShares, WritesStayApart}
 use Rattle.lvm_tie_commands.proofs.CommandsLemmas.Commands.{still_there}
+use Rattle.lvm_tie_commands.proofs.CommandsLemmas.Records.{data_stays}
 use Rattle.lvm_tie_commands.proofs.CopiesLemmas.Adding.{no_volume}
 use Rattle.lvm_tie_commands.proofs.HeldLemmas.{Carries, carries}
 use Rattle.lvm_tie_commands.proofs.MomentsLemmas.{calm_at}
@@ -77,31 +71,6 @@ writes_stay_apart group row other old new valid one two differ change lp b p cop
     let its : IsOneOf (copies_of row put.0) p = subst (λ (q : Pp). IsOneOf (copies_of row put.0) q) (sym (partition_is group.mib p put.1 b put.3)) put.2 in
     absurd (differ (ap (λ (r : LvRow). r.number) (one_place group row other put.0 lp p valid one two its copy).row_is)))
     (change p.disk (sector_of group.mib p.pp b))
-
--- ---- records stand below the data
-
-record_low : (kind : Kind) (slot part len s : ℕ) → slot < 2 → len ≤ longest_content kind → part < record_sectors len → s ≡ slot_start kind slot + part → s < data_start
-record_low kind.Descriptor slot part len s two fits inside place = subst (λ (n : ℕ). n < data_start) (sym place) (slot_below kind.Descriptor slot part two (omega (arith, fits, inside)))
-record_low kind.Status slot part len s two fits inside place = subst (λ (n : ℕ). n < data_start) (sym place) (slot_below kind.Status slot part two (omega (arith, fits, inside)))
-
-module _ (N : Descriptor → Type 0) (old new : State) where
-  low_status : (d s : ℕ) (value : Sector) → IsOfStatus old.core.status new.core.status d s value → s < data_start
-  low_status d s value of = let w = of.0 in let fits = of.2.frames.content in record_low w.kind (w.slots d) of.2.its.its.part (length w.framed.content) s (of.2.slots d) fits of.2.its.its.inside of.2.its.its.place
-
-  low_commit : (content : List ℕ) (d s : ℕ) (value : Sector) → IsOfCommit content old.core.status new.core.status d s value → s < data_start
-  low_commit content d s value of = let w = of.0 in let fits = of.2.frames.content in record_low w.kind (w.slots d) of.2.its.its.part (length w.framed.content) s (of.2.slots d) fits of.2.its.its.inside of.2.its.its.place
-
-  -- so a command that writes records alone leaves data as it was
-  pub data_stays : (was is : Image) → ChangesBy (IsOfCommand N NoPartition old new) was is → (d s : ℕ) → (contents_of is).block d s ≡ (contents_of was).block d s
-  data_stays was is change = data-same was is (λ d s high. ⊎_elim
-      (λ same. same)
-      (λ (brought : IsOfCommand N NoPartition old new d s (is.sector d s)). absurd (below d s (is.sector d s) high brought))
-      (change.each d s))
-    where
-      below : (d s : ℕ) (value : Sector) → data_start ≤ s → IsOfCommand N NoPartition old new d s value → ⊥
-      below d s value high (inl of) = let low = low_status d s value of in omega (arith, high, low)
-      below d s value high (inr (inl of)) = let low = low_commit (descriptor_bytes of.0) d s value of.2 in omega (arith, high, low)
-      below d s value high (inr (inr of)) = absurd of.1
 
 -- ---- one value at each block of the volume
 

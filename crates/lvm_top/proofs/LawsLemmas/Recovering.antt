@@ -1,5 +1,5 @@
 -- What each `varyonvg` of a script brings back.
-use Rattle.std.proofs.Common.{◌≡◌, ℕ, List, Option, Some, Result, Ok, refl}
+use Rattle.std.proofs.Common.{◌≡◌, ℕ, List, Option, Some, Result, Ok, refl, subst}
 use Rattle.lvm_disk.specs.Device.{Device}
 use Rattle.lvm_vol.specs.Log.{Log}
 use Rattle.lvm_steps.specs.Behind.{StampsAreEarlier}
@@ -10,6 +10,7 @@ use Rattle.lvm_parse.specs.Grammar.{line_of}
 use Rattle.lvm_core.specs.declared.parts.Room.{Room}
 use Rattle.lvm_session.specs.State.{Core}
 use Rattle.lvm_line.specs.passed.Varyon.{IsRecovered}
+use Rattle.lvm_line.specs.Causes.{WritesNothing}
 use Rattle.lvm_line.specs.Lines.{IsLine}
 use Rattle.lvm_line.specs.passed.Quiesce.{Quiesces}
 use Rattle.lvm_line.specs.passed.RefusalVariants as refusal
@@ -30,7 +31,7 @@ module _ (log : Log) (room : Room) where
 
   varyon_recovers : (line name : List ℕ) (old new : ScriptState) → IsTimely log.run old → line_of line ≡ Ok (Some (command.Varyon name)) → (answer : Reply) → IsLine log room line answer old new → RecoversBy answer old new
   varyon_recovers line name old new timely is reply.Ok it = comes_back old new (varyon_restates log room line name old new is it timely)
-  varyon_recovers line name old new timely is (reply.Refused (refusal.NoQuorum have total)) it = nothing_written log room (line_of line) have total old new it.between it.does
+  varyon_recovers line name old new timely is (reply.Refused (refusal.NoQuorum have total)) it = subst (λ (r : Result (Option Command) Misfit). WritesNothing r old new) is (nothing_written log room (line_of line) have total old new it.between it.does)
   varyon_recovers line name old new timely is answer it = tt
 
   recovers_as : (line : List ℕ) (answer : Reply) (old new : ScriptState) → IsTimely log.run old → IsLine log room line answer old new → (read : Result (Option Command) Misfit) → line_of line ≡ read → RecoversAs read answer old new

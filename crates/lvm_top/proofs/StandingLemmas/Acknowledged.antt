@@ -22,8 +22,9 @@ use Rattle.lvm_core.specs.Settled.{IsSettled}
 use Rattle.lvm_session.specs.State.{Core, State, is_there}
 use Rattle.lvm_core.specs.Leaves.{MayBeFound}
 use Rattle.lvm_line.specs.passed.Volumes.{IsWith, IsWithFirst, IsWithMore}
+use Rattle.lvm_line.specs.passed.Members.{as_big, with_quorum}
 use Rattle.lvm_line.specs.passed.Splitting.{IsSplit}
-use Rattle.lvm_line.specs.passed.VolumeLines.{NoGroupForMklvcopy, BusyMklvcopy, UndrainedMklvcopy, NoVolumeForMklvcopy, AddsCopies, MklvcopyFails, NoGroupForRmlvcopy, BusyRmlvcopy, UndrainedRmlvcopy, NoVolumeForRmlvcopy, RemovesCopies, RmlvcopyFails, NoGroupForSplitlvcopy, BusySplitlvcopy, UndrainedSplitlvcopy, NoVolumeForSplitlvcopy, SplitsVolume, SplitlvcopyFails, StaysOn, NoGroupForMklv, BusyMklv, UndrainedMklv, MakesVolume, MklvFails, NoGroupForRmlv, BusyRmlv, UndrainedRmlv, NoVolumeForRmlv, RemovesVolume, RmlvFails, wanted}
+use Rattle.lvm_line.specs.passed.VolumeLines.{NoGroupForChvgQuorum, BusyChvgQuorum, UndrainedChvgQuorum, SwitchesQuorum, ChvgQuorumFails, NoGroupForChvgBig, BusyChvgBig, UndrainedChvgBig, BecomesBig, ChvgBigFails, NoGroupForMklvcopy, BusyMklvcopy, UndrainedMklvcopy, NoVolumeForMklvcopy, AddsCopies, MklvcopyFails, NoGroupForRmlvcopy, BusyRmlvcopy, UndrainedRmlvcopy, NoVolumeForRmlvcopy, RemovesCopies, RmlvcopyFails, NoGroupForSplitlvcopy, BusySplitlvcopy, UndrainedSplitlvcopy, NoVolumeForSplitlvcopy, SplitsVolume, SplitlvcopyFails, StaysOn, NoGroupForMklv, BusyMklv, UndrainedMklv, MakesVolume, MklvFails, NoGroupForRmlv, BusyRmlv, UndrainedRmlv, NoVolumeForRmlv, RemovesVolume, RmlvFails, wanted}
 use Rattle.lvm_core.specs.Looking.{IsNumberOf}
 use Rattle.lvm_line.specs.passed.Group.{NewGroup, new_group}
 use Rattle.lvm_core.specs.declared.refused.Cause.{Cause}
@@ -38,6 +39,7 @@ use Rattle.lvm_top.specs.Standing.{IsToCommit, StoodBefore, is_group_command, is
 use Rattle.lvm_top.proofs.StandingLemmas.Volumes.{held_mid}
 use Rattle.lvm_top.proofs.StandingLemmas.Copying.{fewer_id, more_id}
 use Rattle.lvm_top.proofs.StandingLemmas.Splitting.{split_id}
+use Rattle.lvm_top.proofs.StandingLemmas.Changing.{big_id}
 use Rattle.lvm_volume_plan.specs.NewVolume.{without_volume}
 
 -- ---- a session at which nothing is under way
@@ -129,6 +131,28 @@ module _ (log : Log) (room : Room) (old new : ScriptState) (between : IsBetween 
       by_given : (given : Result Core Cause) → IsLeftByCall brings.shelf brings.history old new reply.Ok given → LeavesOn (Ok (Some (command.Varyon name))) old new
       by_given (Ok core) left = record { core = core; on = left.2.after; begun = begun_by old new core brings.off left.2.after begins; own = λ k is. absurd is }
       by_given (Err why) left = absurd (let e = left.answered in cc (e))
+  by_command (command.ChvgQuorum on name) acked stood (NoGroupForChvgQuorum none is) = absurd (let e = is.0 in cc (e))
+  by_command (command.ChvgQuorum on name) acked stood (BusyChvgQuorum mine busy is) = absurd (let e = is.0 in cc (e))
+  by_command (command.ChvgQuorum on name) acked stood (UndrainedChvgQuorum core why some mine undrained) = absurd (let e = undrained.says in cc (e))
+  by_command (command.ChvgQuorum on name) acked stood (SwitchesQuorum core left mid some mine drains done says) = record {
+    core = done.leaves.core;
+    on = done.leaves.session;
+    begun = handed_on done.left old new done.leaves (done.rests refl).0 (done.rests refl).1 (done.held refl (held_mid log.run old new between named stood core left mid some drains));
+    own = λ k is.
+        ap (λ (d : Descriptor). d.id) (told_and old.session (λ c. k ≡ with_quorum on c.descriptor) core some is) ∙ sym (ap (λ (d : Descriptor). d.id) (path_frames drains.runs).keeps.descriptor) ∙ sym (ap (λ (c : Core). c.descriptor.id) (done.leaves.is) ∙ ap (λ (c : Core). c.descriptor.id) done.gives.1.is);
+  }
+  by_command (command.ChvgQuorum on name) acked stood (ChvgQuorumFails core left mid why some mine drains done says) = absurd (cc (says))
+  by_command (command.ChvgBig name) acked stood (NoGroupForChvgBig none is) = absurd (let e = is.0 in cc (e))
+  by_command (command.ChvgBig name) acked stood (BusyChvgBig mine busy is) = absurd (let e = is.0 in cc (e))
+  by_command (command.ChvgBig name) acked stood (UndrainedChvgBig core why some mine undrained) = absurd (let e = undrained.says in cc (e))
+  by_command (command.ChvgBig name) acked stood (BecomesBig core left mid some mine drains done says) = record {
+    core = done.leaves.core;
+    on = done.leaves.session;
+    begun = handed_on done.left old new done.leaves (done.rests refl).0 (done.rests refl).1 (done.held refl (held_mid log.run old new between named stood core left mid some drains));
+    own = λ k is.
+        ap (λ (d : Descriptor). d.id) (told_and old.session (λ c. k ≡ as_big c.descriptor) core some is) ∙ sym (ap (λ (d : Descriptor). d.id) (path_frames drains.runs).keeps.descriptor) ∙ sym (ap (λ (c : Core). c.descriptor.id) (done.leaves.is) ∙ big_id left mid done.left done.gives);
+  }
+  by_command (command.ChvgBig name) acked stood (ChvgBigFails core left mid why some mine drains done says) = absurd (cc (says))
   by_command (command.Mklv name copies mode policy group lps) acked stood (NoGroupForMklv none is) = absurd (let e = is.0 in cc (e))
   by_command (command.Mklv name copies mode policy group lps) acked stood (BusyMklv on busy is) = absurd (let e = is.0 in cc (e))
   by_command (command.Mklv name copies mode policy group lps) acked stood (UndrainedMklv core why some on un) = absurd (let e = un.says in cc (e))

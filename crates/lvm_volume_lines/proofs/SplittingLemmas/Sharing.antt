@@ -19,7 +19,7 @@ use Rattle.lvm_volume_lines.specs.Volumes.{volume_reply}
 use Rattle.lvm_volume_lines.specs.Sharing.{SharesBehind, SharesSession}
 use Rattle.lvm_volume_lines.proofs.passed.Splitting.{split_shares}
 use Rattle.lvm_volume_lines.proofs.Commanding.{may_mid}
-use Rattle.lvm_volume_lines.proofs.OfVolumes.{at_mid, its_history}
+use Rattle.lvm_volume_lines.proofs.Carrying.{at_mid, its_history}
 
 module _ {S : Type 0} (device : S → Device) (stage : Stage S) (fits : IsFittingStage stage) (between : IsBetweenStage device stage) (none : open_in (session_in stage) ≡ 0) (patience : ℕ) (driver : S × Core)
     (rested : HasRested device stage.holder patience_of_line patience driver) (lv : ℕ) (made : List ℕ) (copies : ℕ) (it : Stage S) (answer : Reply)

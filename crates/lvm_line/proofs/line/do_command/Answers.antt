@@ -16,6 +16,12 @@ returns-in-Varyon g c = done_by g.S.Shelf.device c.args.room c.args.command _ _ 
 pub returns-in-Varyoff : goal.returns-in-Varyoff
 returns-in-Varyoff g c = done_by g.S.Shelf.device c.args.room c.args.command _ _ _ c.do_varyoff.result.reply _ _ _ _ c.in-Varyoff.is (c.do_varyoff.ensures (g.C.Clock.last c.args.clock.now)) refl
 
+pub returns-in-ChvgQuorum : goal.returns-in-ChvgQuorum
+returns-in-ChvgQuorum g c = done_by g.S.Shelf.device c.args.room c.args.command _ _ _ c.do_chvg_quorum.result.reply _ _ _ _ c.in-ChvgQuorum.is (c.do_chvg_quorum.ensures (g.C.Clock.last c.args.clock.now)) refl
+
+pub returns-in-ChvgBig : goal.returns-in-ChvgBig
+returns-in-ChvgBig g c = done_by g.S.Shelf.device c.args.room c.args.command _ _ _ c.do_chvg_big.result.reply _ _ _ _ c.in-ChvgBig.is (c.do_chvg_big.ensures (g.C.Clock.last c.args.clock.now)) refl
+
 pub returns-in-Mklv : goal.returns-in-Mklv
 returns-in-Mklv g c = done_by g.S.Shelf.device c.args.room c.args.command _ _ _ c.do_mklv.result.reply _ _ _ _ c.in-Mklv.is (c.do_mklv.ensures (g.C.Clock.last c.args.clock.now)) refl
 

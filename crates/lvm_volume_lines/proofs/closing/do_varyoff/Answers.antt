@@ -8,7 +8,7 @@ use Rattle.lvm_volume_lines.specs.Commands.{HasBrokenOff, HasRested}
 use Rattle.lvm_volume_lines.specs.Volumes.{drain_refusal}
 use Rattle.lvm_volume_lines.proofs.ClosingLemmas.{closes_clean, varyoff_ends}
 use Rattle.lvm_volume_lines.proofs.Commanding.{ready_mid}
-use Rattle.lvm_volume_lines.proofs.OfVolumes.{at_mid}
+use Rattle.lvm_volume_lines.proofs.Carrying.{at_mid}
 use Rattle.lvm_volume_lines.proofs.VolumesLemmas.{on_some}
 use Rattle.lvm_volume_lines.proofs.EndsLemmas.{undrained_ends}
 use Rattle.lvm_volume_lines.proofs.closing.do_varyoff.Goals as goal

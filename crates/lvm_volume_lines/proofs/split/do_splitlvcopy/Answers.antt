@@ -11,7 +11,8 @@ use Rattle.lvm_volume_lines.proofs.passed.GroupLines.{refused_ends}
 use Rattle.lvm_volume_lines.specs.Commands.{HasBrokenOff, HasRested, none_added}
 use Rattle.lvm_volume_lines.specs.Volumes.{drain_refusal}
 use Rattle.lvm_volume_lines.proofs.Commanding.{rows_mid}
-use Rattle.lvm_volume_lines.proofs.OfVolumes.{at_mid, drains, ends_so}
+use Rattle.lvm_volume_lines.proofs.Carrying.{at_mid, drains}
+use Rattle.lvm_volume_lines.proofs.OfVolumes.{ends_so}
 use Rattle.lvm_volume_lines.proofs.EndsLemmas.{undrained_ends}
 use Rattle.lvm_volume_lines.proofs.ServingLemmas.{may_again, unnamed_ends}
 use Rattle.lvm_volume_lines.specs.Splitting.{BusySplitlvcopy, NoGroupForSplitlvcopy, NoVolumeForSplitlvcopy, SplitlvcopyDoes, UndrainedSplitlvcopy}

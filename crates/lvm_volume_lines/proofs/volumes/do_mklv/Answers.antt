@@ -13,7 +13,8 @@ use Rattle.lvm_volume_lines.specs.Volumes.{MklvDoes, BusyMklv, NoGroupForMklv, U
 use Rattle.lvm_volume_lines.proofs.Commanding.{rows_mid}
 use Rattle.lvm_volume_lines.proofs.Ending.{mklv_facts, mklv_shape}
 use Rattle.lvm_volume_lines.proofs.FactsLemmas.{answers_stay, landed_stays, mklv_bears}
-use Rattle.lvm_volume_lines.proofs.OfVolumes.{at_mid, drains, ends_so}
+use Rattle.lvm_volume_lines.proofs.Carrying.{at_mid, drains}
+use Rattle.lvm_volume_lines.proofs.OfVolumes.{ends_so}
 use Rattle.lvm_volume_lines.proofs.VolumesLemmas.{mklv_does, on_some}
 use Rattle.lvm_volume_lines.proofs.EndsLemmas.{undrained_ends}
 use Rattle.lvm_volume_lines.proofs.volumes.do_mklv.Goals as goal

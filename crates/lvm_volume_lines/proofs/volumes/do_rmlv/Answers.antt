@@ -13,7 +13,8 @@ use Rattle.lvm_volume_lines.specs.Volumes.{RmlvDoes, BusyRmlv, NoGroupForRmlv, N
 use Rattle.lvm_volume_lines.proofs.Commanding.{rows_mid}
 use Rattle.lvm_volume_lines.proofs.Ending.{rmlv_facts, rmlv_shape}
 use Rattle.lvm_volume_lines.proofs.FactsLemmas.{answers_stay, landed_stays, rmlv_bears}
-use Rattle.lvm_volume_lines.proofs.OfVolumes.{at_mid, drains, ends_so}
+use Rattle.lvm_volume_lines.proofs.Carrying.{at_mid, drains}
+use Rattle.lvm_volume_lines.proofs.OfVolumes.{ends_so}
 use Rattle.lvm_volume_lines.proofs.VolumesLemmas.{rmlv_does}
 use Rattle.lvm_volume_lines.proofs.EndsLemmas.{undrained_ends}
 use Rattle.lvm_volume_lines.proofs.ServingLemmas.{may_again, unnamed_ends}

@@ -1,0 +1,5 @@
+pub mod DescribeLemmas
+pub mod PartingLemmas
+pub mod RefusingLemmas
+pub mod SievingLemmas
+pub mod TurnLemmas

@@ -1,0 +1,4 @@
+pub mod Parting
+pub mod Records
+pub mod Rule
+pub mod Turn

@@ -1,0 +1,85 @@
+-- A group of which the rule of votes or the size changes, and no member: when it may, and what the disks of its session hold meanwhile.
+use Rattle.std.specs.Prelude.{◌≡◌, ◌⊎◌, ℕ, List, true, false, Ok, IsTrue}
+use Rattle.lvm_num.specs.declared.record.Kind.TheVariants as kind
+use Rattle.lvm_num.specs.declared.record.Stamp.{Stamp}
+use Rattle.lvm_num.specs.declared.record.Framed.{Framed}
+use Rattle.lvm_num.specs.declared.descriptor.Descriptor.{Descriptor}
+use Rattle.lvm_num.specs.declared.status.Status.{Status}
+use Rattle.lvm_num.specs.Disks.{Disks}
+use Rattle.lvm_num.specs.Descriptor.{IsValid, is_member}
+use Rattle.lvm_num.specs.DescriptorBytes.{descriptor_of}
+use Rattle.lvm_num.specs.Record.{Frames}
+use Rattle.lvm_num.specs.Votes.{all_disks, CanRead, CanWrite}
+use Rattle.lvm_vol.specs.Facts.{Fact}
+use Rattle.lvm_disk.specs.Device.{Image, IsWholeImage}
+use Rattle.lvm_kept.specs.Contents.{Contents, contents_of}
+use Rattle.lvm_kept.specs.Group.{has_room, members_in}
+use Rattle.lvm_kept.specs.Kept.{Kept}
+use Rattle.lvm_kept.specs.Plans.{ChangesBy}
+use Rattle.lvm_kept.specs.Torn.{IsOfRecord}
+use Rattle.lvm_status.specs.Rerowed.{IsRerowed}
+use Rattle.lvm_rec.specs.declared.homes.Homes.{Homes}
+use Rattle.lvm_write.specs.Written.{write_of}
+use Rattle.lvm_steps.specs.Laws.{IsNoLater}
+use Rattle.lvm_commit.specs.Committed.{next_stamp, MayMark, ShowsCommitted, HoldsCommitted}
+use Rattle.lvm_commit.specs.LawsOfWrites.{StandsWritten}
+use Rattle.lvm_change_laws.specs.Turning.{AreTwo}
+
+-- ---- when it may
+
+-- the two differ in the rule of votes and in the size of the group alone
+abbrev pub DiffersInRule : Descriptor → Descriptor → Type 0
+DiffersInRule group next = next ≡ record group { quorum = next.quorum; even = next.even; big = next.big }
+
+-- The rule may change so: both descriptors are valid, the members that aren't missing have votes enough to write by both, and none is missing where quorum
+-- checking is switched off, since all votes must then be found.
+pub record MayChangeRule (group next : Descriptor) (there : Disks) : Type 0 where
+  pub valid : IsValid group
+  pub valid_next : IsValid next
+  pub differs : DiffersInRule group next
+  pub enough : CanWrite group there
+  pub enough_too : CanWrite next there
+  pub found : (next.quorum ≡ true) ⊎ (group.quorum ≡ false) ⊎ ((d : ℕ) → IsTrue (is_member next d) → IsTrue (there d))
+
+-- ---- what it lets
+
+-- The disks are open to the next descriptor of a group: the two are of one group, all disks together can read by the next one, and the members that aren't missing have the
+-- sectors that it asks for.
+pub record IsOpenTo (c : Contents) (group next : Descriptor) (there : Disks) : Type 0 where
+  pub two : AreTwo group next
+  pub reads : CanRead next (members_in c all_disks group.id next)
+  pub room : (d : ℕ) → IsTrue (there d) → IsTrue (has_room c d next)
+
+-- So a session's group may turn to it, where those members have votes enough to write by both.
+pub record MayTurnTo (c : Contents) (group next : Descriptor) (there : Disks) : Type 0 where
+  pub opened : IsOpenTo c group next there
+  pub enough : CanWrite group there
+  pub enough_too : CanWrite next there
+
+-- Where the rule may change they are open to it,
+abbrev pub RuleOpens : Type 0
+RuleOpens = (c : Contents) (group next : Descriptor) (status : Status) (there : Disks) → MayChangeRule group next there → ShowsCommitted c group status there → IsOpenTo c group next there
+
+-- and stay so where statuses are written.
+abbrev pub StatusesLeaveOpen : Type 0
+StatusesLeaveOpen = (old new : Contents) (group next : Descriptor) (there written : Disks) → new ≡ record old { status = new.status } → ((d : ℕ) → IsTrue (written d) → IsTrue (there d))
+    → IsOpenTo old group next there → IsOpenTo new group next written
+
+-- The status in the rows of the next descriptor may follow the committed one: of the group's copies and volumes it says the same.
+abbrev pub RerowedMayFollow : Type 0
+RerowedMayFollow = (c : Contents) (group next : Descriptor) (was told : Status) → AreTwo group next → IsRerowed next was told → MayMark c group was told
+
+-- ---- while the next descriptor is written
+
+-- Whatever of it has landed, the history is kept;
+abbrev pub TurnWriteKeeps : Type 0
+TurnWriteKeeps = (group next : Descriptor) (status : Status) (there : Disks) (stamp : Stamp) (homes : Homes) (framed : Framed) (old new : Image) (facts : List Fact)
+    → IsWholeImage old → HoldsCommitted old group status there stamp homes → MayTurnTo (contents_of old) group next there → Frames kind.Descriptor framed → descriptor_of framed.content ≡ Ok next
+    → IsNoLater (next_stamp stamp) framed.stamp → ChangesBy (IsOfRecord (write_of kind.Descriptor framed there homes)) old new → Kept (contents_of old) facts → Kept (contents_of new) facts
+
+-- and once it stands on members with votes enough to write by both, it is the committed one.
+abbrev pub TurnIsHeld : Type 0
+TurnIsHeld = (group next : Descriptor) (status : Status) (there written : Disks) (stamp : Stamp) (homes after : Homes) (framed : Framed) (old new : Image)
+    → IsWholeImage old → HoldsCommitted old group status there stamp homes → MayTurnTo (contents_of old) group next there → Frames kind.Descriptor framed → descriptor_of framed.content ≡ Ok next
+    → IsNoLater (next_stamp stamp) framed.stamp → StandsWritten (write_of kind.Descriptor framed there homes) written homes after old new → CanWrite group written → CanWrite next written
+    → HoldsCommitted new next status written framed.stamp after

@@ -1,0 +1,35 @@
+//! Laws of a change of members. Each call does nothing: its contract is the law.
+ghost use Rattle.lvm_change_laws.specs.Turning.{ValidAreTwo, TurnKeeps, StateTurnKeeps, TurnIsDone, ReadsAreTwo};
+ghost use Rattle.lvm_change_laws.specs.Rule.{RuleOpens, StatusesLeaveOpen, RerowedMayFollow, TurnWriteKeeps, TurnIsHeld};
+ghost use Rattle.lvm_change_laws.specs.Committed.{CommittedIsRead, CommittedServes, TurnIsCommitted, ErasingKeeps};
+
+/// While a group turns from one descriptor to its neighbour each history that was kept is kept, and once disks with votes enough by both show the next one
+/// nothing else of the group is found.
+pub fn turning_keeps()
+    ensures two { ValidAreTwo }
+    ensures keeps { TurnKeeps }
+    ensures states { StateTurnKeeps }
+    ensures done { TurnIsDone }
+    ensures statuses { ReadsAreTwo }
+{}
+
+/// What is committed is read, also where the members that aren't missing are too few to read; a turn may begin there, and is committed once it is over.
+pub fn turns_are_committed()
+    ensures read { CommittedIsRead }
+    ensures serves { CommittedServes }
+    ensures committed { TurnIsCommitted }
+{}
+
+/// A disk that has left may lose its records.
+pub fn erasing_keeps()
+    ensures { ErasingKeeps }
+{}
+
+/// A rule of votes may change, or the size of a group: while the next descriptor is written what was kept is kept, and once it stands it is the committed one.
+pub fn rules_may_change()
+    ensures opens { RuleOpens }
+    ensures stays { StatusesLeaveOpen }
+    ensures follows { RerowedMayFollow }
+    ensures keeps { TurnWriteKeeps }
+    ensures held { TurnIsHeld }
+{}

@@ -1,0 +1,2 @@
+-- Passed on from `lvm_members`: the variants of `RuleFault`.
+pub use Rattle.lvm_volume_lines.specs.passed.RuleFaultVariants.{Busy, Dark, HistoryFull, Memory, NoQuorum, Stuck, WentOff}

@@ -1,0 +1,4 @@
+pub mod passed
+pub mod HoldingLemmas
+pub mod PlanLemmas
+pub mod RulesLemmas

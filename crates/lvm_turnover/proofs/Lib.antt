@@ -1,0 +1,9 @@
+pub mod BeginningLemmas
+pub mod LeavingLemmas
+pub mod LeftLemmas
+pub mod MarksLemmas
+pub mod OverLemmas
+pub mod PhaseLemmas
+pub mod SendingLemmas
+pub mod StandingLemmas
+pub mod TurningLemmas

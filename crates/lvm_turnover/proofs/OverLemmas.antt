@@ -1,0 +1,203 @@
+-- What a session comes to that is one of the next descriptor, once both records stand.
+use Rattle.std.proofs.Common.{◌≡◌, inr, ℕ, Bool, true, false, refl, sym, ◌∙◌, ap, subst, arith}
+use Rattle.std.specs.Prelude.{IsTrue, IsFalse, [], length, replicate, Result}
+use Rattle.std.proofs.lemmas.Bool.{false≢true}
+use Rattle.lvm_num.specs.declared.record.Stamp.{Stamp}
+use Rattle.lvm_num.specs.declared.descriptor.Descriptor.{Descriptor}
+use Rattle.lvm_num.specs.declared.status.Status.{Status}
+use Rattle.lvm_num.specs.Buffer.{Buffer, Sector}
+use Rattle.lvm_num.specs.Disks.{Disks, has}
+use Rattle.lvm_num.specs.DescriptorBytes.{descriptor_bytes}
+use Rattle.lvm_num.specs.Descriptor.{IsValid}
+use Rattle.lvm_disk.specs.Counts.{NoneFalls}
+use Rattle.lvm_disk.specs.Device.{Device, image_of}
+use Rattle.lvm_disk.specs.Paths.{DeviceStep, Path}
+use Rattle.lvm_disk.proofs.PathsLemmas.{map-path, append-path, last-path}
+use Rattle.lvm_kept.specs.Plans.{ChangesBy}
+use Rattle.lvm_status.specs.Update.{Stored}
+use Rattle.lvm_steps.specs.Moments.{StaysKept}
+use Rattle.lvm_rec.specs.declared.homes.Homes.{Homes}
+use Rattle.lvm_write.specs.Written.{KeepsShelf}
+use Rattle.lvm_write.proofs.PartsLemmas.Transfers.{keeps_then, spends_then}
+use Rattle.lvm_commit.specs.Committed.{next_stamp}
+use Rattle.lvm_commit.specs.LawsOfFinding.{FindsNoMoreOn}
+use Rattle.lvm_commit.specs.Settling.{there, IsOfStatus, IsOfCommit, OnlyLoses, MarksLeft, SpendsNumbers, SessionIsHeld, WantsMarks, StatusEnds, CommitLeaves, StaysHeld, AreWell}
+use Rattle.lvm_commit.specs.Rounds.{MarksRound}
+use Rattle.lvm_commit.proofs.LawsOfFindingLemmas.NoMore.{then_no_more}
+use Rattle.lvm_commit.proofs.RoundsLemmas.Leaving.{wants_marks, left_then}
+use Rattle.lvm_commit.proofs.SettlingLemmas.Chaining.{keeps_wider, path_counts, loses_less, loses_then}
+use Rattle.lvm_commit.proofs.SettlingLemmas.Round.{no_more_there}
+use Rattle.lvm_session.specs.State.{State, state, is_there}
+use Rattle.lvm_core.specs.declared.fault.CommitFault.{CommitFault}
+use Rattle.lvm_core.specs.Held.{IsHeld}
+use Rattle.lvm_core.specs.Committing.{with_one_out}
+use Rattle.lvm_core.specs.Steps.{CoreEnds}
+use Rattle.lvm_core.proofs.StepsLemmas.Ends.{core_ends, status_ends, status_numbered}
+use Rattle.lvm_change.specs.Records.{IsTurnBy}
+use Rattle.lvm_change.specs.Turn.{HoldsBy, ComesBack, HasTurned, IsBefore, IsOfTurn, TurnGives}
+use Rattle.lvm_change.specs.declared.turn.Turn.{Turn}
+use Rattle.lvm_change.specs.declared.turn.Turned.TheVariants as turned
+use Rattle.lvm_change.proofs.PartingLemmas.{parts_loses, parts_only, parts_left, parts_round, parts_forgotten}
+use Rattle.lvm_turnover.specs.declared.change.Change.{Change}
+use Rattle.lvm_turnover.specs.Turning.{MayTurnSession, after_turn, unreached, IsSettledBy, TakesOver}
+use Rattle.lvm_turnover.proofs.BeginningLemmas.{begun, same_pvs, same_mib, session_there, begun_group, begun_wanted, begun_stale, begun_missing, begun_dirty, begun_rows, begun_id, begun_forgotten, begun_there, begun_many, unreached_next, first_there, first_group, first_stamp, first_committed}
+use Rattle.lvm_turnover.proofs.LeavingLemmas.{Writes}
+use Rattle.lvm_turnover.proofs.MarksLemmas.{marks_kept}
+use Rattle.lvm_turnover.proofs.PhaseLemmas.{before_held, turn_kept, turn_finds, turn_rises, turn_writes, unreached_failed}
+use Rattle.lvm_turnover.proofs.StandingLemmas.{Fits, fits_by}
+
+module _ (c : Change) (old : State) (may : MayTurnSession c old) (turn : Turn) (by : IsTurnBy c.records old.core.descriptor turn) (slots : Homes) (p q r : ℕ) (m : Device) (written : ℕ) (buf : Buffer)
+    (gives : TurnGives turn (is_there old.core) old.core.status.stamp old.core.homes slots 0 p q old.device m (turned.Done written buf))
+    (new : State) (answer : Result (Unit {0}) CommitFault) (over : TakesOver c written slots q r m old new answer) (all : old.core.pool ≡ replicate (length old.core.pool) false) where
+  abbrev next : Descriptor
+  next = c.records.next
+
+  abbrev b : Stored
+  b = begun c old may
+
+  abbrev first : Stored
+  first = over.first
+
+  abbrev s : IsSettledBy q r (state m (record old.core { descriptor = next; pool = with_one_out old.core.pool; status = first; homes = slots })) new answer
+  s = over.settles
+
+  back : ComesBack (is_there old.core) (has written) 0 old.device m buf
+  back = gives.ends.0
+
+  has_turned : HasTurned turn (IsBefore turn (is_there old.core) old.core.status.stamp old.core.homes old.device) (has written) (after_turn old.core.status.stamp) slots m
+  has_turned = gives.ends.1
+
+  valid : IsValid next
+  valid = may.rule.valid_next
+
+  there_is : there first ≡ has written
+  there_is = first_there c old may written back.within first over.parts
+
+  group : first.group ≡ record next { lvs = [] }
+  group = first_group c old may written back.within first over.parts
+
+  -- ---- the session
+
+  pub over_ends : CoreEnds next (record old.core { descriptor = next }) new.core s.how answer
+  over_ends = core_ends (record old.core { descriptor = next }) (record old.core { descriptor = next; pool = with_one_out old.core.pool; status = s.last; homes = s.homes }) new.core refl all s.how answer
+      (status_numbered 0 q first s.last slots s.homes m new.device s.how refl s.ends) s.goes
+
+  same : (new.core.status ≡ s.last) × (new.core.homes ≡ s.homes)
+  same = status_ends next (record old.core { descriptor = next; pool = with_one_out old.core.pool; status = s.last; homes = s.homes }) new.core s.how answer s.goes
+
+  abbrev last : Stored
+  last = new.core.status
+
+  pub over_status : StatusEnds 0 q first last slots new.core.homes m new.device s.how
+  over_status = subst (λ (u : Stored). StatusEnds 0 q first u slots new.core.homes m new.device s.how) (sym same.0) (subst (λ (h : Homes). StatusEnds 0 q first s.last slots h m new.device s.how) (sym same.1) s.ends)
+
+  leaves : CommitLeaves next (IsOfStatus first last) q r first last m new.device
+  leaves = subst (λ (u : Stored). CommitLeaves next (IsOfStatus first u) q r first u m new.device) (sym same.0) s.leaves
+
+  -- ---- what is wanted
+
+  rises : NoneFalls m.counts new.device.counts
+  rises = path_counts s.kept
+
+  one : OnlyLoses b first old.device m
+  one = parts_only next (unreached old.core written) b first over.parts old.device m (λ e is. let its = unreached_failed old written m buf back e is in (begun_there c old may e ∙ its.0, its.1))
+
+  pub over_loses : OnlyLoses b last old.device new.device
+  over_loses = loses_then b first last old.device m new.device (turn_rises c old may turn by slots p q m (turned.Done written buf) gives) rises one leaves.loses
+
+  pub over_left : MarksLeft next b last
+  over_left = left_then next b first last valid (loses_less b first old.device m one) (loses_less first last m new.device leaves.loses) (parts_left next (unreached old.core written) b first over.parts valid (unreached_next c old may written)) leaves.left
+
+  pub over_fits : Fits old next last new.device.sizes
+  over_fits = fits_by old next b last old.device new.device valid (same_pvs c old may) (same_mib c old may) (begun_group c old may) (begun_id c old may) (begun_rows c old may) (begun_missing c old may)
+      (leaves.forgotten (parts_forgotten next (unreached old.core written) b first over.parts (begun_forgotten c old may))) over_loses new.device.sizes (leaves.keeps.sizes ∙ gives.keeps.sizes)
+
+  pub over_epoch : last.stamp.epoch ≡ old.core.status.stamp.epoch
+  over_epoch = leaves.numbers.epoch ∙ ap (λ (x : Stamp). x.epoch) (first_stamp c old may written back.within first over.parts)
+
+  numbers : SpendsNumbers 3 old.core.status last
+  numbers =
+      let seq = ap (λ (x : Stamp). x.seq) (first_stamp c old may written back.within first over.parts) in
+      let goes_up = leaves.numbers.rises in
+      let most = leaves.numbers.most in
+      let less = no_more_there b first one.group one.stays in
+      let many = begun_many c old may in
+      record { epoch = over_epoch; rises = omega (arith, seq, goes_up); most = omega (arith, seq, most, less, many) }
+
+  -- ---- what is written
+
+  of_status : (d k : ℕ) (value : Sector) → IsOfStatus first last d k value → IsOfCommit (descriptor_bytes next) old.core.status last d k value
+  of_status d k value (write, states, its) =
+      let seq = ap (λ (x : Stamp). x.seq) (first_stamp c old may written back.within first over.parts) in
+      let low = its.later in (
+        write,
+        inr (record { kind = states.kind; status = states.status; own = states.own ∙ ap (λ (g : Descriptor). g.id) group ∙ ap (λ (g : Descriptor). g.id) may.rule.differs ∙ ap (λ (g : Descriptor). g.id) may.commit.settle.own; content = states.content }),
+        record {
+          frames = its.frames;
+          slots = its.slots;
+          targets = λ disk is. subst (λ (set : Disks). IsTrue (set disk)) (sym (session_there c old may)) (back.within disk (subst (λ (set : Disks). IsTrue (set disk)) there_is (its.targets disk is)));
+          epoch = its.epoch ∙ ap (λ (x : Stamp). x.epoch) (first_stamp c old may written back.within first over.parts);
+          later = omega (arith, seq, low);
+          latest = its.latest;
+          its = its.its;
+        },
+      )
+
+  outside : (d : ℕ) → IsFalse (is_there old.core d) → IsFalse (there first d)
+  outside d off = by_test (there first d) refl
+    where
+      by_test : (t : Bool) → there first d ≡ t → t ≡ false
+      by_test true is = absurd (false≢true (sym off ∙ back.within d (subst (λ (set : Disks). IsTrue (set d)) there_is is)))
+      by_test false is = refl
+
+  writes : KeepsShelf (is_there old.core) (IsOfCommit (descriptor_bytes next) old.core.status last) old.device new.device
+  writes =
+      let seq = ap (λ (x : Stamp). x.seq) (first_stamp c old may written back.within first over.parts) in
+      let goes_up = leaves.numbers.rises in
+      keeps_then (is_there old.core) (IsOfCommit (descriptor_bytes next) old.core.status last) old.device m new.device
+      (turn_writes c old may turn by slots p q m (turned.Done written buf) gives last (omega (arith, seq, goes_up)))
+      (keeps_wider (there first) (is_there old.core) (IsOfStatus first last) (IsOfCommit (descriptor_bytes next) old.core.status last) m new.device outside of_status leaves.keeps)
+
+  -- ---- what is held and kept
+
+  round : MarksRound next b first
+  round = parts_round next (unreached old.core written) b first over.parts (unreached_next c old may written)
+
+  pub first_held : IsHeld old.device old.core → SessionIsHeld m next first slots
+  first_held held =
+      let stands = has_turned.held (before_held c old may turn by slots p q m (turned.Done written buf) gives held) in
+      let a : HoldsBy m next turn.told.now (has written) (after_turn old.core.status.stamp) slots = subst (λ (g : Descriptor). HoldsBy m g turn.told.now (has written) (after_turn old.core.status.stamp) slots) by.next stands in
+      let t : turn.told.now ≡ first.committed = by.told ∙ sym (first_committed c old may written back.within first over.parts) in
+      let e : HoldsBy m next first.committed (has written) (after_turn old.core.status.stamp) slots = subst (λ (x : Status). HoldsBy m next x (has written) (after_turn old.core.status.stamp) slots) t a in
+      let f : HoldsBy m next first.committed (there first) (after_turn old.core.status.stamp) slots = subst (λ (set : Disks). HoldsBy m next first.committed set (after_turn old.core.status.stamp) slots) (sym there_is) e in
+      subst (λ (x : Stamp). HoldsBy m next first.committed (there first) x slots) (sym (first_stamp c old may written back.within first over.parts)) f
+
+  first_wants : SessionIsHeld m next first slots → WantsMarks m next first
+  first_wants held = wants_marks next b first valid round c.records.told (parts_loses next (unreached old.core written) b first over.parts).stale (parts_loses next (unreached old.core written) b first over.parts).dirty
+      (sym (begun_wanted c old may)) (first_committed c old may written back.within first over.parts) m slots held
+
+  kept : Path DeviceStep (λ d. IsHeld old.device old.core → StaysKept old.device d) old.device new.device
+  kept =
+      let before = turn_kept c old may turn by slots p q m (turned.Done written buf) gives in
+      append-path before (map-path (λ d. IsHeld old.device old.core → StaysKept old.device d) (λ d is held facts was. is (first_wants (first_held held)) (first_held held) facts (last-path before held facts was)) s.kept)
+
+  finds : IsHeld old.device old.core → FindsNoMoreOn next old.device new.device
+  finds held = then_no_more old.device m new.device (λ was is. ChangesBy (IsOfTurn turn (is_there old.core) (next_stamp old.core.status.stamp) (after_turn old.core.status.stamp)) (image_of old.device.sizes was) (image_of m.sizes is)) gives.keeps.media
+      (s.finds next (sym group) (first_held held)) next (turn_finds c old may turn by slots p q m (turned.Done written buf) gives held)
+
+  pub over_writes : Writes next p r old new
+  over_writes = record {
+    writes = writes;
+    status = marks_kept next next old new b (inr refl) (inr (begun_group c old may)) (begun_stale c old may) (begun_missing c old may) (begun_dirty c old may) (begun_there c old may) (session_there c old may) over_loses over_left;
+    numbers = numbers;
+    kept = kept;
+    finds = finds;
+    spends = spends_then p q r old.device m new.device gives.spends leaves.spends;
+  }
+
+  -- no transfer to a member that isn't missing has failed
+  pub over_well : AreWell last m new.device → AreWell last old.device new.device
+  over_well well d is = well d is ∙ back.well d (subst (λ (set : Disks). IsTrue (set d)) there_is (loses_less first last m new.device leaves.loses d is))
+
+  pub over_held : StaysHeld first last slots new.core.homes m new.device → IsHeld old.device old.core → SessionIsHeld new.device next last new.core.homes
+  over_held stays held = (stays next (sym group) (first_held held)).0

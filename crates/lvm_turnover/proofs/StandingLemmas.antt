@@ -1,0 +1,117 @@
+-- A session with a next descriptor of the same members, and a status of it, is sound.
+use Rattle.std.proofs.Common.{◌≡◌, ℕ, Bool, true, false, true≢false, List, [], refl, sym, ◌∙◌, ap, subst}
+use Rattle.std.specs.Prelude.{Contains}
+use Rattle.lvm_num.specs.declared.descriptor.PvRow.{PvRow}
+use Rattle.lvm_num.specs.declared.descriptor.Descriptor.{Descriptor}
+use Rattle.lvm_num.specs.Descriptor.{IsValid}
+use Rattle.std.specs.List.{list_any}
+use Rattle.std.specs.Prelude.{◌==◌}
+use Rattle.lvm_num.specs.Status.{calls_missing}
+use Rattle.lvm_num.specs.Votes.{CanWrite}
+use Rattle.lvm_disk.specs.Device.{Device, IsReady}
+use Rattle.lvm_status.specs.Members.{HasItsRows}
+use Rattle.lvm_status.specs.Update.{Stored, members_there}
+use Rattle.lvm_rec.specs.declared.homes.Homes.{Homes}
+use Rattle.lvm_write.specs.Written.{IsDarkened, IsGivenUp}
+use Rattle.lvm_commit.specs.Settling.{IsForgotten, IsCommitted, OnlyLoses, there}
+use Rattle.lvm_commit.proofs.RoundsLemmas.Wanting.{row_stays}
+use Rattle.lvm_session.specs.declared.open.Power.TheVariants as power
+use Rattle.lvm_session.specs.State.{Core, State, state}
+use Rattle.lvm_session.specs.Dark.{all_dark}
+use Rattle.lvm_session.specs.Placed.{IsPlaced, ArePlaced}
+use Rattle.lvm_session.specs.Sound.{is_dark}
+use Rattle.lvm_core.specs.Sound.{IsFittingAtRest, IsSoundAtRest}
+use Rattle.lvm_core.specs.Settled.{IsSettled}
+use Rattle.lvm_core.specs.Committing.{with_one_out}
+use Rattle.lvm_core.proofs.SoundLemmas.Own.{fits_with, fits_pool, one_out_long, sound_ready, sound_dark, sound_stuck}
+
+-- The descriptor has the members that the session's has, and the status is one of it, by which no more of them are there.
+pub record Fits (old : State) (d : Descriptor) (u : Stored) (sizes : List ℕ) : Type 0 where
+  pub valid : IsValid d
+  pub own : u.group ≡ record d { lvs = [] }
+  pub id : u.wanted.id ≡ d.id
+  pub rows : HasItsRows d u.wanted
+  pub forgotten : IsForgotten u
+  pub pvs : d.pvs ≡ old.core.descriptor.pvs
+  pub mib : d.mib ≡ old.core.descriptor.mib
+  pub fewer : (e : ℕ) → calls_missing u.wanted e ≡ false → calls_missing old.core.status.wanted e ≡ false
+  pub same : sizes ≡ old.device.sizes
+
+module _ (old : State) (d : Descriptor) (u : Stored) (homes : Homes) (new : Device) (fits : Fits old d u new.sizes) (settled_is : IsSettled old.core) (sound : IsSoundAtRest old) where
+  abbrev pub base : Core
+  base = record old.core { descriptor = d; status = u; homes = homes }
+
+  abbrev pub out : Core
+  out = record base { pool = with_one_out old.core.pool }
+
+  fitting : IsFittingAtRest base
+  fitting = record {
+    valid = fits.valid;
+    id = fits.id;
+    rows = fits.rows;
+    group = fits.own;
+    entries = sound.fitting.entries;
+    notes = λ disk. sound.fitting.notes disk ∙ ap (λ (rows : List PvRow). list_any (λ (row : PvRow). row.disk == disk) rows) (sym fits.pvs);
+    most = sound.fitting.most;
+    queue = sound.fitting.queue;
+    a_buffer = sound.fitting.a_buffer;
+    buffers = sound.fitting.buffers;
+    last = sound.fitting.last;
+    forgotten = fits.forgotten;
+  }
+
+  placed : ArePlaced new.sizes d u.wanted
+  placed row inside there =
+      let its = sound.placed row (subst (λ (rows : List PvRow). Contains rows row) fits.pvs inside) (fits.fewer row.disk there) in
+      subst (λ (sizes : List ℕ). IsPlaced sizes d.mib row) (sym fits.same) (subst (λ (mib : ℕ). IsPlaced old.device.sizes mib row) (sym fits.mib) its)
+
+  lit : is_dark old.core.power ≡ false
+  lit = ap is_dark settled_is.power
+
+  not_stuck : old.core.power ≡ power.Stuck → ⊥
+  not_stuck stuck = absurd (let e : power.On ≡ power.Stuck = sym settled_is.power ∙ stuck in cc)
+
+  fits_out : IsFittingAtRest out
+  fits_out = fits_pool base (with_one_out old.core.pool) (one_out_long old.core.pool) fitting
+
+  pub sound_on : IsReady new → IsSoundAtRest (state new base)
+  sound_on ready = sound_ready new base fitting (record { requests = settled_is.quiet.requests; copy = settled_is.quiet.copy }) sound.landed placed settled_is.quiet.buffers lit not_stuck ready
+
+  pub sound_off : IsReady new → IsSoundAtRest (state new (record base { power = power.Off }))
+  sound_off ready = sound_ready new (record base { power = power.Off }) (fits_with base base.history base.pool power.Off refl fitting) (record { requests = settled_is.quiet.requests; copy = settled_is.quiet.copy }) sound.landed placed settled_is.quiet.buffers refl
+      (λ stuck. absurd (let e : power.Off ≡ power.Stuck = stuck in cc)) ready
+
+  pub sound_cut : (from : Device) → IsDarkened 0 from new → IsSoundAtRest (state new (all_dark out))
+  sound_cut from cut = sound_dark from new out old.core.pool fits_out (record { requests = settled_is.quiet.requests; copy = settled_is.quiet.copy }) sound.landed placed refl settled_is.quiet.buffers sound.fitting.a_buffer cut
+
+  pub sound_out : (patience : ℕ) (from : Device) → IsGivenUp 0 patience from new → IsSoundAtRest (state new out)
+  sound_out patience from given = sound_stuck patience from new out old.core.pool fits_out (record { requests = settled_is.quiet.requests; copy = settled_is.quiet.copy }) sound.landed placed refl settled_is.quiet.buffers sound.fitting.a_buffer lit not_stuck given
+
+  pub settled_on : IsCommitted u → u.stamp.epoch ≡ old.core.status.stamp.epoch → IsSettled base
+  settled_on done epoch = record {
+    power = settled_is.power;
+    quiet = record { requests = settled_is.quiet.requests; copy = settled_is.quiet.copy; status = done.idle; notes = settled_is.quiet.notes; buffers = settled_is.quiet.buffers };
+    committed = done.same;
+    epoch = λ none. settled_is.epoch (sym epoch ∙ none);
+    votes = subst (λ (g : Descriptor). CanWrite g (members_there g u.wanted)) fits.own done.votes;
+  }
+
+-- a status that only lost members since one that fits, fits
+pub fits_by :
+    (old : State) (d : Descriptor) (first last : Stored) (from to : Device) → IsValid d → d.pvs ≡ old.core.descriptor.pvs → d.mib ≡ old.core.descriptor.mib → first.group ≡ record d { lvs = [] } → first.wanted.id ≡ d.id → HasItsRows d first.wanted
+    → ((e : ℕ) → calls_missing first.wanted e ≡ calls_missing old.core.status.wanted e) → IsForgotten last → OnlyLoses first last from to → (sizes : List ℕ) → sizes ≡ old.device.sizes → Fits old d last sizes
+fits_by old d first last from to valid pvs mib group id rows missing forgotten loses sizes same = record {
+  valid = valid;
+  own = loses.group ∙ group;
+  id = loses.rows.id ∙ id;
+  rows = λ disk. row_stays first.wanted last.wanted loses.rows disk ∙ rows disk;
+  forgotten = forgotten;
+  pvs = pvs;
+  mib = mib;
+  fewer = λ e isnt. by_test e (calls_missing old.core.status.wanted e) refl isnt;
+  same = same;
+}
+  where
+    by_test : (e : ℕ) (b : Bool) → calls_missing old.core.status.wanted e ≡ b → calls_missing last.wanted e ≡ false → calls_missing old.core.status.wanted e ≡ false
+    by_test e true is isnt = absurd (true≢false (sym (loses.stays e (missing e ∙ is)) ∙ isnt))
+    by_test e false is isnt = is

@@ -1,0 +1,120 @@
+-- How a session turns to its group's next descriptor, step by step.
+use Rattle.std.specs.Prelude.{◌≡◌, ℕ, Result, Err}
+use Rattle.lvm_num.specs.declared.record.Stamp.{Stamp}
+use Rattle.lvm_num.specs.declared.status.Status.{Status}
+use Rattle.lvm_num.specs.Disks.{Disks, has}
+use Rattle.lvm_disk.specs.Device.{Device}
+use Rattle.lvm_status.specs.Calls.{first_updates}
+use Rattle.lvm_status.specs.Update.{Stored, seen}
+use Rattle.lvm_rec.specs.declared.homes.Homes.{Homes}
+use Rattle.lvm_write.specs.Written.{written_well}
+use Rattle.lvm_commit.specs.declared.commit.CommitEnd.{CommitEnd}
+use Rattle.lvm_commit.specs.Committed.{next_stamp}
+use Rattle.lvm_commit.specs.Settling.{MayCommit, IsOfStatus, StatusEnds, CommitLeaves, StatusFindsNothingNew, StatusStaysKept}
+use Rattle.lvm_session.specs.declared.open.Power.TheVariants as power
+use Rattle.lvm_session.specs.Dark.{all_dark}
+use Rattle.lvm_session.specs.State.{Core, State, is_there}
+use Rattle.lvm_core.specs.declared.fault.CommitFault.{CommitFault}
+use Rattle.lvm_core.specs.declared.fault.CommitFault.TheVariants as fault
+use Rattle.lvm_core.specs.Committing.{with_one_out}
+use Rattle.lvm_core.specs.Steps.{EndsAs}
+use Rattle.lvm_change_laws.specs.Rule.{MayChangeRule}
+use Rattle.lvm_change.specs.declared.records.Records.{Records}
+use Rattle.lvm_change.specs.declared.turn.Turn.{Turn}
+use Rattle.lvm_change.specs.declared.turn.Turned.{Turned}
+use Rattle.lvm_change.specs.declared.turn.Turned.TheVariants as turned
+use Rattle.lvm_change.specs.Parting.{PartsWith}
+use Rattle.lvm_change.specs.Records.{AreRecordsOf, IsTurnBy}
+use Rattle.lvm_change.specs.Turn.{TurnGives}
+use Rattle.lvm_turnover.specs.declared.change.Change.{Change}
+
+-- the stamp two records after this one in its session
+abbrev pub after_turn : Stamp → Stamp
+after_turn stamp = next_stamp (next_stamp stamp)
+
+-- ---- what is made ready
+
+-- The change has the records by which a group with this status turns, and the status of a session by them.
+pub record IsReadyFor (was : Status) (c : Change) : Type 0 where
+  pub records : AreRecordsOf was c.records.next c.records
+  pub updater : seen c.updater ≡ first_updates c.records.told c.records.next
+
+-- ---- before it
+
+-- A session at which nothing is wanted that isn't committed may write these records to these members, which aren't missing.
+pub record MaySend (r : Records) (there : Disks) (s : State) : Type 0 where
+  pub records : AreRecordsOf s.core.status.committed r.next r
+  pub there_is : there ≡ is_there s.core
+  pub rule : MayChangeRule s.core.descriptor r.next (is_there s.core)
+  pub commit : MayCommit 4 s.core.descriptor s.core.status s.device
+
+-- A session may turn so.
+pub record MayTurnSession (c : Change) (s : State) : Type 0 where
+  pub ready : IsReadyFor s.core.status.committed c
+  pub settled : s.core.status.committed ≡ s.core.status.wanted
+  pub rule : MayChangeRule s.core.descriptor c.records.next (is_there s.core)
+  pub commit : MayCommit 4 s.core.descriptor s.core.status s.device
+
+-- ---- the two records
+
+-- the session's status once two stamps were taken
+abbrev pub stamped_twice : Core → Stored
+stamped_twice core = record core.status { stamp = after_turn core.status.stamp }
+
+-- The records were sent to these members, under the next two stamps, with the first buffer.
+pub record IsSent (r : Records) (there : Disks) (before after : ℕ) (old new : State) (result : Turned) : Type 0 where
+  pub turn : Turn
+  pub by : IsTurnBy r old.core.descriptor turn
+  pub gives : TurnGives turn there old.core.status.stamp old.core.homes new.core.homes 0 before after old.device new.device result
+  pub is : new.core ≡ record old.core { pool = with_one_out old.core.pool; status = stamped_twice old.core; homes = new.core.homes }
+
+-- ---- what is wanted behind them
+
+-- What was wanted of the status is committed, or as far as it went, with the buffer of number 0; the session goes on as that ended.
+pub record IsSettledBy (before after : ℕ) (old new : State) (answer : Result (Unit {0}) CommitFault) : Type 0 where
+  pub last : Stored
+  pub homes : Homes
+  pub how : CommitEnd
+  pub ends : StatusEnds 0 before old.core.status last old.core.homes homes old.device new.device how
+  pub leaves : CommitLeaves old.core.descriptor (IsOfStatus old.core.status last) before after old.core.status last old.device new.device
+  pub finds : StatusFindsNothingNew old.core.status old.core.homes old.device new.device
+  pub kept : StatusStaysKept old.core.descriptor old.core.status old.core.homes old.device new.device
+  pub goes : EndsAs (record old.core { status = last; homes = homes }) new.core how answer
+
+-- those that weren't reached
+abbrev pub unreached : Core → ℕ → Disks
+unreached core written = written_well (is_there core) (has written)
+
+-- The session is one of the next descriptor; the members that weren't reached are wanted missing, and that is committed, or as far as it went.
+pub record TakesOver (c : Change) (written : ℕ) (slots : Homes) (before after : ℕ) (device : Device) (old new : State) (answer : Result (Unit {0}) CommitFault) : Type 0 where
+  pub first : Stored
+  pub parts : PartsWith c.records.next (unreached old.core written) (record c.updater { stamp = after_turn old.core.status.stamp }) first
+  pub settles : IsSettledBy before after (record { device = device; core = record old.core { descriptor = c.records.next; pool = with_one_out old.core.pool; status = first; homes = slots } }) new answer
+
+-- The session has gone off with its descriptor; the members that weren't reached are wanted missing.
+pub record GivesUp (have total written : ℕ) (slots : Homes) (old new : State) (answer : Result (Unit {0}) CommitFault) : Type 0 where
+  pub answer_is : answer ≡ Err (fault.WentOff have total)
+  pub parts : PartsWith old.core.descriptor (unreached old.core written) (stamped_twice old.core) new.core.status
+  pub is : new.core ≡ record old.core { status = new.core.status; homes = slots; power = power.Off }
+
+-- What the session does with what came of the records, by how they ended.
+abbrev pub GoesOnWith : Change → Homes → ℕ → ℕ → Device → State → State → Turned → Result (Unit {0}) CommitFault → Type 0
+GoesOnWith c slots before after device old new (turned.Done written buf) answer = TakesOver c written slots before after device old new answer
+GoesOnWith c slots before after device old new (turned.WentOff have total written buf) answer = (new.device ≡ device) × (after ≡ before) × GivesUp have total written slots old new answer
+GoesOnWith c slots before after device old new turned.Dark answer =
+    (new.device ≡ device) × (after ≡ before) × (answer ≡ Err fault.Dark) × (new.core ≡ all_dark (record old.core { pool = with_one_out old.core.pool; status = stamped_twice old.core; homes = slots }))
+GoesOnWith c slots before after device old new turned.Stuck answer =
+    (new.device ≡ device) × (after ≡ before) × (answer ≡ Err fault.Stuck) × (new.core ≡ record old.core { pool = with_one_out old.core.pool; status = stamped_twice old.core; homes = slots })
+
+-- ---- the whole
+
+-- The two records were written, or as far as that went, and the session went on with what came of it.
+pub record TurnsSession (c : Change) (before after : ℕ) (old new : State) (answer : Result (Unit {0}) CommitFault) : Type 0 where
+  pub turn : Turn
+  pub by : IsTurnBy c.records old.core.descriptor turn
+  pub slots : Homes
+  pub middle : ℕ
+  pub device : Device
+  pub turned : Turned
+  pub gives : TurnGives turn (is_there old.core) old.core.status.stamp old.core.homes slots 0 before middle old.device device turned
+  pub goes : GoesOnWith c slots middle after device old new turned answer

@@ -1,0 +1,7 @@
+//! A session turns to the next descriptor of its group, by which that has the same members.
+#![tactic(auto)]
+
+mod change;
+mod turning;
+
+pub use change::{Change, make_change};

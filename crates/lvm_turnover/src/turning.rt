@@ -1,0 +1,197 @@
+//! A session turns to its group's next descriptor, and goes on with what came of it.
+ghost use Rattle.std.specs.Prelude.{◌≡◌, ◌≤◌, ℕ, None, false, length, replicate, slice_set, IsTrue};
+ghost use Rattle.lvm_num.specs.declared.record.Kind.TheVariants as kind;
+ghost use Rattle.lvm_num.specs.Descriptor.{IsValid, is_member};
+ghost use Rattle.lvm_num.specs.Disks.{has};
+ghost use Rattle.lvm_num.specs.Record.{longest_content};
+ghost use Rattle.lvm_status.specs.Members.{HasItsRows};
+ghost use Rattle.lvm_commit.specs.Settling.{IfBack, IsOf, MayCommit};
+ghost use Rattle.lvm_session_start.specs.passed.Names.{IsOut};
+ghost use Rattle.lvm_session.specs.declared.open.Power.TheVariants as power;
+ghost use Rattle.lvm_session.specs.Fields.{core_of};
+ghost use Rattle.lvm_session.specs.Rooms.{SameRooms};
+ghost use Rattle.lvm_session.specs.State.{state, is_there};
+ghost use Rattle.lvm_core.specs.Sound.{HasNoneOpen};
+ghost use Rattle.lvm_core.specs.Committing.{with_one_out};
+ghost use Rattle.lvm_core.specs.Steps.{EndsAs};
+ghost use Rattle.lvm_change.specs.Parting.{PartsWith};
+ghost use Rattle.lvm_turnover.specs.Turning.{MaySend, MayTurnSession, IsSent, IsSettledBy, TurnsSession};
+
+use lvm_change::{Records, Turned, next_stamp, part_with, turn_over, without};
+use lvm_commit::{CommitEnd, commit_status};
+use lvm_core::CommitFault;
+use lvm_core::below::{Patience, Power};
+use lvm_disk::Shelf;
+use lvm_num::{Descriptor, DiskSet, Pbuf};
+use lvm_session::{Session, darken};
+use lvm_status::{Updater, members_there};
+
+/// Turns a session to the next descriptor of its group. The members that weren't reached become missing, and a status says so before the call
+/// answers. It takes no memory.
+pub fn turn_session<S: Shelf>(
+    session: &mut Session,
+    shelf: &mut S,
+    records: Records,
+    updater: Updater,
+    patience: &mut Patience,
+) -> Result<(), CommitFault>
+    requires some { 1 ≤ length session.old.pool }
+    requires buffers { session.old.pool ≡ replicate (length session.old.pool) false }
+    requires none { HasNoneOpen (core_of session.old) }
+    requires bytes { 131072 ≤ length session.old.bytes.items }
+    requires may { MayTurnSession (record { records = records; updater = updater }) (state (S.device shelf.old) (core_of session.old)) }
+    ensures does { TurnsSession (record { records = records; updater = updater }) patience.old.left patience.new.left (state (S.device shelf.old) (core_of session.old)) (state (S.device shelf.new) (core_of session.new)) result }
+    ensures rooms { SameRooms session.old session.new }
+{
+    let there = members_there(&session.descriptor, session.updater.wanted());
+    match send(session, shelf, &records, there, patience) {
+        Turned::Done { written, buf } => {
+            take_over(session, records.next, updater, without(there, written));
+            settle(session, shelf, buf, patience)
+        }
+        Turned::WentOff {
+            have,
+            total,
+            written,
+            buf,
+        } => {
+            give_up(session, without(there, written), buf);
+            Err(CommitFault::WentOff { have, total })
+        }
+        Turned::Dark => {
+            darken(session);
+            Err(CommitFault::Dark)
+        }
+        Turned::Stuck => Err(CommitFault::Stuck),
+    }
+}
+
+// The first buffer, where all are in.
+fn take_buffer(session: &mut Session) -> Pbuf
+    requires some { 1 ≤ length session.old.pool }
+    requires all { session.old.pool ≡ replicate (length session.old.pool) false }
+    ensures number { result.number ≡ 0 }
+    ensures taken { session.new ≡ record session.old { pool = with_one_out session.old.pool } }
+{
+    match session.pool.take() {
+        Some(buf) => buf,
+        None => unreachable!(),
+    }
+}
+
+// Writes the two records of a turn, under the next two stamps.
+fn send<S: Shelf>(
+    session: &mut Session,
+    shelf: &mut S,
+    records: &Records,
+    there: DiskSet,
+    patience: &mut Patience,
+) -> Turned
+    requires some { 1 ≤ length session.old.pool }
+    requires buffers { session.old.pool ≡ replicate (length session.old.pool) false }
+    requires may { MaySend records.now (has there) (state (S.device shelf.old) (core_of session.old)) }
+    ensures sent { IsSent records.now (has there) patience.old.left patience.new.left (state (S.device shelf.old) (core_of session.old)) (state (S.device shelf.new) (core_of session.new)) result }
+    ensures rooms { SameRooms session.old session.new }
+{
+    let buf = take_buffer(session);
+    let stamp = session.updater.stamp();
+    let first = next_stamp(stamp);
+    let last = next_stamp(first);
+    session.updater.set_stamp(last);
+    turn_over(
+        shelf,
+        records.turn(&session.descriptor),
+        stamp,
+        there,
+        &mut session.homes,
+        buf,
+        patience,
+    )
+}
+
+// The session is one of the next descriptor, with the status that stands on its disks; these members are wanted missing.
+fn take_over(session: &mut Session, next: Descriptor, updater: Updater, lost: DiskSet)
+    requires valid { IsValid next }
+    requires own { IsOf next updater }
+    requires idle { updater.in_flight ≡ None }
+    requires rows { HasItsRows updater.group updater.wanted }
+    requires members { (disk : ℕ) → IsTrue (has lost disk) → IsTrue (is_member next disk) }
+    ensures core { core_of session.new ≡ record (core_of session.old) { descriptor = next; status = session.new.updater } }
+    ensures parts { PartsWith next (has lost) (record updater { stamp = session.old.updater.stamp }) session.new.updater }
+    ensures rooms { SameRooms session.old session.new }
+{
+    let mut updater = updater;
+    updater.set_stamp(session.updater.stamp());
+    part_with(&next, &mut updater, lost);
+    session.updater = updater;
+    session.descriptor = next;
+}
+
+// The session goes off with its descriptor; these members are wanted missing.
+fn give_up(session: &mut Session, lost: DiskSet, buf: Pbuf)
+    requires valid { IsValid session.old.descriptor }
+    requires own { IsOf session.old.descriptor session.old.updater }
+    requires idle { session.old.updater.in_flight ≡ None }
+    requires rows { HasItsRows session.old.updater.group session.old.updater.wanted }
+    requires members { (disk : ℕ) → IsTrue (has lost disk) → IsTrue (is_member session.old.descriptor disk) }
+    requires out { IsOut session.old.pool buf.number }
+    ensures core { core_of session.new ≡ record (core_of session.old) { pool = slice_set session.old.pool buf.number false; status = session.new.updater; power = power.Off } }
+    ensures parts { PartsWith session.old.descriptor (has lost) session.old.updater session.new.updater }
+    ensures rooms { SameRooms session.old session.new }
+{
+    part_with(&session.descriptor, &mut session.updater, lost);
+    session.pool.give(buf);
+    session.power = Power::Off;
+}
+
+// Commits what is wanted of the status.
+fn settle<S: Shelf>(
+    session: &mut Session,
+    shelf: &mut S,
+    buf: Pbuf,
+    patience: &mut Patience,
+) -> Result<(), CommitFault>
+    requires may { MayCommit 1 session.old.descriptor session.old.updater (S.device shelf.old) }
+    requires bytes { 131072 ≤ length session.old.bytes.items }
+    requires none { HasNoneOpen (core_of session.old) }
+    requires out { IsOut session.old.pool 0 }
+    requires number { buf.number ≡ 0 }
+    ensures settles { IsSettledBy patience.old.left patience.new.left (state (S.device shelf.old) (core_of session.old)) (state (S.device shelf.new) (core_of session.new)) result }
+    ensures rooms { SameRooms session.old session.new }
+{
+    let settled = commit_status(
+        shelf,
+        &session.descriptor,
+        &mut session.updater,
+        &mut session.homes,
+        &mut session.bytes,
+        buf,
+        patience,
+    );
+    go_on(session, settled)
+}
+
+// Goes on after a status was written: takes the buffer back, or ends.
+fn go_on(session: &mut Session, settled: CommitEnd) -> Result<(), CommitFault>
+    requires none { HasNoneOpen (core_of session.old) }
+    requires out { IfBack settled (λ back. IsOut session.old.pool back.number) }
+    ensures ends { EndsAs (core_of session.old) (core_of session.new) settled result }
+    ensures rooms { SameRooms session.old session.new }
+{
+    match settled {
+        CommitEnd::Done { buf } => {
+            session.pool.give(buf);
+            Ok(())
+        }
+        CommitEnd::WentOff { have, total, buf } => {
+            session.pool.give(buf);
+            session.power = Power::Off;
+            Err(CommitFault::WentOff { have, total })
+        }
+        CommitEnd::Dark => {
+            darken(session);
+            Err(CommitFault::Dark)
+        }
+        CommitEnd::Stuck => Err(CommitFault::Stuck),
+    }
+}

@@ -1,0 +1,150 @@
+-- How a line ends by which the group is changed, from the session that has come to rest.
+use Rattle.std.proofs.Common.{◌≡◌, ◌≤◌, ⊎_elim, ℕ, Bool, true, false, [], Result, Ok, Err, refl, sym, ap, subst, arith}
+use Rattle.std.specs.Prelude.{⊤, MatchBool}
+use Rattle.lvm_num.specs.declared.descriptor.Descriptor.{Descriptor}
+use Rattle.lvm_disk.specs.Device.{Device, HasSectors, IsReady}
+use Rattle.lvm_vol.specs.Facts.{Fact}
+use Rattle.lvm_vol.specs.Log.{Log}
+use Rattle.lvm_kept.specs.Moments.{Moment}
+use Rattle.lvm_steps.specs.Moments.{Keeps}
+use Rattle.lvm_transfer.specs.Transfer.{Relights}
+use Rattle.lvm_session.specs.State.{Core, State}
+use Rattle.lvm_core.specs.Committing.{moment_of}
+use Rattle.lvm_core.specs.Settled.{IsSettled}
+use Rattle.lvm_core.specs.Sound.{HaveAllLanded}
+use Rattle.lvm_core.specs.State.{state_of}
+use Rattle.lvm_range_lines.specs.passed.TieCommands.{IsAloneAtFirst, IsLeftStandingSince, MayBeCommanded}
+use Rattle.lvm_range_lines.specs.passed.Volumes.{StillHeld}
+use Rattle.lvm_range_lines.specs.passed.Names.{AreAnswered}
+use Rattle.lvm_range_lines.specs.passed.GroupLines.{EndsUnasked, most_refusals, patience_of_line, Role, IsBetweenStage, IsFittingStage, open_in, session_in, shelf_in, history_in, state_in, ScriptState, without_facts, Reply, Stage}
+use Rattle.lvm_range_lines.specs.passed.RefusalVariants as refusal
+use Rattle.lvm_range_lines.specs.passed.ReplyVariants as reply
+use Rattle.lvm_range_lines.proofs.passed.GroupLines.{LeavesAnswers, answered_bears, landed_bears}
+use Rattle.lvm_volume_lines.specs.passed.Members.{ChangeLeaves, IfOn, RuleFault, is_over}
+use Rattle.lvm_volume_lines.specs.passed.RuleFaultVariants as fault
+use Rattle.lvm_volume_lines.specs.Changing.{IsChangeCarriedOut, IsChangeDone, change_reply}
+use Rattle.lvm_volume_lines.specs.Commands.{HasRested, IsLeftAs}
+use Rattle.lvm_volume_lines.proofs.Carrying.{IsCarried, at_mid, carried_ends, finds_no_more, left_either}
+use Rattle.lvm_volume_lines.proofs.Commanding.{Acts, ClosesWell, Promised, closes_dark, closes_lit, ready_mid}
+use Rattle.lvm_volume_lines.proofs.ChangingLemmas.Giving.{ChangeFacts, IsKnownOfChange, cut_bears}
+
+-- ---- by the answer
+
+-- the session goes on after an answer that doesn't end it
+pub if_on : (given : Result (Unit {0}) RuleFault) (P : Type 0) → IfOn given P → is_over given ≡ false → P
+if_on given P on goes = subst (λ (over : Bool). MatchBool over ⊤ P) goes on
+
+module _ (patience : ℕ) (old new : State) where
+  -- where the power was cut nothing is out,
+  pub dark_still : (given : Result (Unit {0}) RuleFault) → ChangeFacts given patience old new → given ≡ Err fault.Dark → new.device.flights ≡ []
+  dark_still given facts dark = subst (λ (r : Result (Unit {0}) RuleFault). ChangeFacts r patience old new) dark facts
+
+  -- and where the session ended otherwise it is on;
+  pub lit_still : (given : Result (Unit {0}) RuleFault) → ChangeFacts given patience old new → is_over given ≡ true → (given ≡ Err fault.Dark → ⊥) → (new.device.power ≡ true) × (new.device.freed ≡ [])
+  lit_still (Err fault.Dark) facts ends other = absurd (other refl)
+  lit_still (Err (fault.WentOff have total)) facts ends other = (facts.power, facts.freed)
+  lit_still (Err fault.Stuck) facts ends other = (facts.power, facts.freed)
+  lit_still (Err fault.Busy) facts ends other = absurd (cc (ends))
+  lit_still (Err (fault.NoQuorum have total)) facts ends other = absurd (cc (ends))
+  lit_still (Err fault.HistoryFull) facts ends other = absurd (cc (ends))
+  lit_still (Err fault.Memory) facts ends other = absurd (cc (ends))
+  lit_still (Ok done) facts ends other = absurd (cc (ends))
+
+  as_is : IsReady old.device → new ≡ old → IsReady new.device
+  as_is ready same = subst (λ (s : State). IsReady s.device) (sym same) ready
+
+  -- it is ready where the session goes on,
+  ready_still : (given : Result (Unit {0}) RuleFault) → IsReady old.device → ChangeFacts given patience old new → is_over given ≡ false → IsReady new.device
+  ready_still (Ok done) ready facts ends = ⊎_elim (as_is ready) (λ now. now) facts
+  ready_still (Err fault.Dark) ready facts ends = absurd (cc (ends))
+  ready_still (Err (fault.WentOff have total)) ready facts ends = absurd (cc (ends))
+  ready_still (Err fault.Stuck) ready facts ends = absurd (cc (ends))
+  ready_still (Err fault.Busy) ready facts ends = as_is ready facts
+  ready_still (Err (fault.NoQuorum have total)) ready facts ends = as_is ready facts
+  ready_still (Err fault.HistoryFull) ready facts ends = as_is ready facts
+  ready_still (Err fault.Memory) ready facts ends = as_is ready facts
+
+  -- and once it was closed and lit again.
+  closes_after : (given : Result (Unit {0}) RuleFault) (shelf : Device) → ChangeFacts given patience old new → is_over given ≡ true → Relights new.device shelf → ClosesWell (change_reply given) new.device shelf
+  closes_after (Err fault.Dark) shelf facts ends lit = closes_dark (reply.Refused refusal.Dark) new.device shelf facts lit
+  closes_after (Err (fault.WentOff have total)) shelf facts ends lit = closes_lit (reply.Refused (refusal.WentOff have total)) new.device shelf facts.power facts.freed (λ heard. facts) lit
+  closes_after (Err fault.Stuck) shelf facts ends lit = closes_lit (reply.Refused refusal.Stuck) new.device shelf facts.power facts.freed (λ heard. absurd (heard refl)) lit
+  closes_after (Err fault.Busy) shelf facts ends lit = absurd (cc (ends))
+  closes_after (Err (fault.NoQuorum have total)) shelf facts ends lit = absurd (cc (ends))
+  closes_after (Err fault.HistoryFull) shelf facts ends lit = absurd (cc (ends))
+  closes_after (Err fault.Memory) shelf facts ends lit = absurd (cc (ends))
+  closes_after (Ok done) shelf facts ends lit = absurd (cc (ends))
+
+-- one refusal is answered at most
+one_answer : (given : Result (Unit {0}) RuleFault) → most_refusals (change_reply given) ≤ 1
+one_answer (Ok done) = omega arith
+one_answer (Err why) = omega arith
+
+-- what a change promises, whatever its answer
+promised_by : (next : Descriptor) (before after : ℕ) (old new : State) → ChangeLeaves next before after old new → Promised old new
+promised_by next before after old new leaves = record {
+  orders = leaves.writes.orders;
+  epoch = leaves.numbers.epoch;
+  history = leaves.history;
+  behind = leaves.behind;
+  waits = leaves.spends.waits.later;
+}
+
+-- ---- a change has been carried out
+
+module _ {S : Type 0} (device : S → Device) (stage : Stage S) (fits : IsFittingStage stage) (between : IsBetweenStage device stage) (none : open_in (session_in stage) ≡ 0)
+    (patience : ℕ) (driver : S × Core) (rested : HasRested device stage.holder patience_of_line patience driver) where
+  abbrev core : Core
+  core = rested.turned.core
+
+  abbrev mid : State
+  mid = state_of device driver
+
+  module _ (role : Role) (acts : Acts role) (next : Descriptor) (Gives : State → State → Result (Unit {0}) RuleFault → Type 0) (it : Stage S) (answer : Reply)
+      (done : IsChangeCarriedOut device next Gives patience driver stage.posts stage.bytes it answer) (sectors : (shelf : S) → HasSectors (device shelf)) where
+    abbrev left : State
+    left = state_of device done.left
+
+    abbrev run : ℕ
+    run = core.history.run
+
+    abbrev given : Result (Unit {0}) RuleFault
+    given = done.given
+
+    module _ (known : IsKnownOfChange patience mid left given)
+        (goes_on : (first : Moment) → MayBeCommanded run first mid → Keeps run first (moment_of left) × IfOn given (IsLeftStandingSince run first left)) where
+      promised : Promised mid left
+      promised = promised_by next patience done.after mid left done.changed.leaves
+
+      abbrev carried : IsCarried run (is_over given) (change_reply given) (device (shelf_in it)) mid left
+      carried = record {
+        closed = λ over. closes_after patience mid left given (device (shelf_in it)) known.facts over (subst (λ (b : Bool). IsLeftAs device b [] done.left stage.posts stage.bytes it) over done.is).lit;
+        ready = λ goes. ready_still patience mid left given (ready_mid (state_in device stage 0) core mid (at_mid device stage fits between none patience driver rested 0)) known.facts goes;
+        settled = λ goes. if_on given (IsSettled left.core) done.changed.on goes;
+        few = one_answer given;
+        landed = cut_bears HaveAllLanded landed_bears mid left known.enters rested.between.landed;
+        answers = λ range was. cut_bears (λ facts. AreAnswered facts range) (answered_bears range) mid left known.enters was;
+        shape = known.shape;
+        spans = λ m may alone. (goes_on m may).0;
+        stands = λ goes m may alone. if_on given (IsLeftStandingSince run m left) (goes_on m may).1 goes;
+      }
+
+      is_done : (last : ℕ) → IsChangeDone next (λ was is. Gives was is given) (is_over given) mid (state_in device stage last) (state_in device it last)
+      is_done last = record {
+        left = left;
+        gives = done.gives;
+        leaves = left_either device stage fits between none patience driver rested role acts (is_over given) (change_reply given) [] done.left it done.is promised sectors carried (is_over given) refl last;
+        finds = finds_no_more device stage fits between none patience driver rested role acts (is_over given) (change_reply given) [] done.left it done.is promised sectors carried (λ k. k ≡ next) done.changed.leaves.finds last;
+        status = done.changed.leaves.status;
+        writes = done.changed.leaves.writes;
+        held = λ goes. (if_on given (StillHeld mid left) done.changed.still goes).held;
+        rests = λ goes. (carried.settled goes, carried.ready goes);
+        clock = refl;
+      }
+
+      -- the line ends so, by what it does
+      pub change_ends_so : (Does : Log → ScriptState → ScriptState → Reply → Type 0)
+          → ((last : ℕ) → IsChangeDone next (λ was is. Gives was is given) (is_over given) mid (state_in device stage last) (state_in device it last)
+          → Does (without_facts (history_in stage)) (state_in device stage last) (state_in device it last) (change_reply given))
+          → EndsUnasked device Does ⊥ role stage it answer
+      change_ends_so Does does = carried_ends device stage fits between none patience driver rested role acts (is_over given) (change_reply given) [] done.left it done.is promised sectors carried Does (λ last. does last (is_done last)) answer done.says

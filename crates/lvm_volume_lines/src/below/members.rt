@@ -1,0 +1,3 @@
+//! Passed on from `lvm_members`.
+
+pub use lvm_range_lines::below::members::{Changed, RuleFault, make_big, set_quorum};
