@@ -36,7 +36,7 @@ use Rattle.lvm_handover.specs.Beginning.{HasJustBegun, IsHistory, MadeBegins, Se
 use Rattle.lvm_keeps.proofs.LeftLemmas.Updates.{few_updates}
 use Rattle.lvm_varyon.specs.Second.{status_after, last_seq}
 use Rattle.lvm_varyon.proofs.SecondLemmas.{last_seq_low}
-use Rattle.lvm_tie.proofs.MarksLemmas.{not_entailed}
+use Rattle.lvm_handover.proofs.MarksLemmas.{not_entailed}
 
 -- the stamp of the last record that was written
 abbrev stamp_of : ℕ → ℕ → Stamp
