@@ -1,29 +1,48 @@
 #!/usr/bin/env python3
-"""Code stands on no theorem: no `src` of a crate below the lines names `lvm_tie`, `lvm_crash` or `lvm_invariant`.
+"""Code stands on no theorem: no crate below the lines builds on one of the room `Theorem` of crates.txt.
 
-    plain.py            refuses a name of the three there, and prints how many clauses of `src` rest on their definitions, crate by crate
+    plain.py            refuses a crate below the lines that reaches one of them by crates.txt, or names it in src, specs or proofs;
+                        and prints how many clauses of `src` rest on their definitions, crate by crate
     plain.py --list     and which they are
 
-Names are followed through `use` lines and definitions, by their text. A crate of laws alone counts for itself: its contracts are the laws.
+Names are followed through `use` lines and definitions, by their text.
 """
 import collections, os, re, sys
 
 ROOT = os.path.dirname(os.path.dirname(os.path.abspath(__file__)))
-THEOREM = ("lvm_tie", "lvm_crash", "lvm_invariant")
-# crates of laws over the three; the lines, and what stands above them
-LAWS = ("lvm_rest", "lvm_settled", "lvm_tidying", "lvm_tie_commands", "lvm_going_laws")
+# the lines, and what stands above them
 LINES = ("lvm_group_lines", "lvm_range_lines", "lvm_volume_lines", "lvm_line", "lvm_top", "lvm_program", "lvm")
-# not met yet: definitions over contents of disks that stand in crates of laws
-WAITING = {
-    "lvm_recover": "NoneIsBehind, IsEven, IsUsable, KeepsCopies, HasCopiesOf and members_showing stand in lvm_rest and lvm_crash",
-    "lvm_recovery": "by lvm_recover",
-    "lvm_varyon": "by lvm_recover",
-    "lvm_handover": "the law drained_rests: IsResting stands in lvm_tie",
-}
 USE = re.compile(r"^(?:ghost )?(pub )?use (Rattle\.[\w.]+)\.\{([^}]*)\};?$")
 HEAD = re.compile(r"^(?:(?:abbrev|record|data|pub)\s+)+([^\s:({]+)")
 WORD = re.compile(r"[A-Za-z_][\w']*")
 CLAUSE = re.compile(r"\s*(?:(?:requires|ensures)\s*(\w*)|ghost\s+(?:invariant|always|tells)\s*=)\s*\{(.*)\}")
+
+
+def crates():
+    """What each crate of crates.txt builds on, and those of the room `Theorem`."""
+    deps, theorem, room = {}, set(), ""
+    for line in lines_of(f"{ROOT}/crates.txt"):
+        if line.startswith("#"):
+            room = line[1:].partition(":")[0].strip()
+        elif ":" in line:
+            name, below = line.split(":", 1)
+            deps[name.split()[0]] = below.split()
+            if room == "Theorem":
+                theorem.add(name.split()[0])
+    return deps, theorem
+
+
+def way_to(name, deps, theorem, seen):
+    """By which crates one of these is reached from here."""
+    for dep in deps.get(name, []):
+        if dep in theorem:
+            return [name, dep]
+        if dep not in seen:
+            seen.add(dep)
+            way = way_to(dep, deps, theorem, seen)
+            if way:
+                return [name] + way
+    return []
 
 
 def lines_of(path):
@@ -53,7 +72,8 @@ def imports(lines):
 
 
 class Specs:
-    def __init__(self):
+    def __init__(self, crates_of_laws):
+        self.laws = crates_of_laws
         self.paths, self.read, self.known = {}, {}, {}
         for crate in os.listdir(f"{ROOT}/crates"):
             base = f"{ROOT}/crates/{crate}/specs"
@@ -96,7 +116,7 @@ class Specs:
                 yield self.resolve(*here[word])
 
     def theorem(self, start):
-        """The definitions of the three that this one rests on."""
+        """The definitions of the theorem that this one rests on."""
         if start not in self.known:
             seen, todo = set(), [start]
             while todo:
@@ -104,45 +124,60 @@ class Specs:
                 if at not in seen:
                     seen.add(at)
                     todo += self.below(*at)
-            self.known[start] = {it for it in seen if it[0].split(".")[1] in THEOREM}
+            self.known[start] = {it for it in seen if it[0].split(".")[1] in self.laws}
         return self.known[start]
 
 
-def main():
-    specs, rests, named = Specs(), [], []
-    for crate in sorted(os.listdir(f"{ROOT}/crates")):
-        if crate.startswith("lvm_tests") or crate == "lvm_rows" or crate in THEOREM + LAWS:
+def low_faults(deps, theorem):
+    """Where a crate below the lines, tests apart, reaches the theorem."""
+    said = []
+    name_of = re.compile(r"\b(%s)\b" % "|".join(sorted(theorem)))
+    for crate in sorted(set(deps) - theorem - set(LINES)):
+        if crate.startswith("lvm_tests") or crate == "lvm_rows":
             continue
+        way = way_to(crate, deps, theorem, set())
+        if way:
+            said.append(f"crates.txt: {' > '.join(way)}")
+        for folder, ending in (("src", ".rt"), ("specs", ".antt"), ("proofs", ".antt")):
+            for path in files(f"{ROOT}/crates/{crate}/{folder}", ending):
+                for at, line in enumerate(lines_of(path), 1):
+                    if name_of.search(line):
+                        said.append(f"{os.path.relpath(path, ROOT)}:{at}: {line.strip()}")
+    return said
+
+
+def resting(deps, theorem):
+    """The clauses of src that rest on a definition of the theorem: crate, and where."""
+    specs, rests = Specs(theorem), []
+    for crate in sorted(set(deps) - theorem):
         for path in files(f"{ROOT}/crates/{crate}/src", ".rt"):
             lines, function = lines_of(path), None
             here, _ = imports(lines)
             for at, line in enumerate(lines, 1):
-                if crate not in LINES and re.search(r"\b(%s)\b" % "|".join(THEOREM), line):
-                    named.append(f"{os.path.relpath(path, ROOT)}:{at}: {line.strip()}")
                 found = re.search(r"\bfn (\w+)", line)
                 function = found.group(1) if found else function
                 clause = CLAUSE.match(line)
-                through = {
-                    word: specs.theorem(specs.resolve(*here[word]))
-                    for word in (set(WORD.findall(clause.group(2))) if clause else ())
-                    if word in here and specs.resolve(*here[word]) and specs.theorem(specs.resolve(*here[word]))
-                }
+                words = set(WORD.findall(clause.group(2))) if clause else set()
+                through = sorted(word for word in words & set(here) if specs.resolve(*here[word]) and specs.theorem(specs.resolve(*here[word])))
                 if through:
-                    rests.append((crate, f"{os.path.relpath(path, ROOT)}:{at} {function} {clause.group(1) or ''} by {', '.join(sorted(through))}"))
+                    rests.append((crate, f"{os.path.relpath(path, ROOT)}:{at} {function} {clause.group(1) or ''} by {', '.join(through)}"))
+    return rests
+
+
+def main():
+    deps, theorem = crates()
+    rests, faults = resting(deps, theorem), low_faults(deps, theorem)
     by = collections.Counter(crate for crate, _ in rests)
-    low = {crate: many for crate, many in by.items() if crate not in LINES}
-    print(f"plain: {len(rests)} clauses of src rest on {', '.join(THEOREM)}; {sum(low.values())} of them below the lines")
-    for crate in sorted(set(by) | set(WAITING)):
-        print(f"  {crate} {by[crate]}" + (f" (not met yet: {WAITING[crate]})" if crate in WAITING else " (lines: by what a line ends with)" if crate in LINES else ""))
+    low = sum(many for crate, many in by.items() if crate not in LINES)
+    print(f"plain: {len(rests)} clauses of src rest on the theorem ({', '.join(sorted(theorem))}); {low} of them below the lines")
+    for crate in sorted(by):
+        print(f"  {crate} {by[crate]}" + (" (lines: by what a line ends with)" if crate in LINES else ""))
     if "--list" in sys.argv:
         print("\n".join(text for _, text in rests))
-    others = sorted(set(low) - set(WAITING))
-    for it in named:
-        print(f"plain: names a theorem: {it}")
-    for crate in others:
-        print(f"plain: {crate} rests on the theorem anew")
-    print(f"plain: {'refused' if named or others else 'no src below the lines names one of them'}")
-    return 1 if named or others else 0
+    for it in faults:
+        print(f"plain: reaches the theorem: {it}")
+    print(f"plain: {'refused' if faults or low else 'no crate below the lines builds on it'}")
+    return 1 if faults or low else 0
 
 
 if __name__ == "__main__":

@@ -8,7 +8,7 @@ use Rattle.lvm_kept.specs.Contents.{contents_of}
 use Rattle.lvm_kept.proofs.PlacesLemmas.{blocks_are_sectors}
 use Rattle.lvm_invariant.specs.CopyWrite.{CopyWrites, copied}
 use Rattle.lvm_invariant.specs.Events.{CopyWrite}
-use Rattle.lvm_crash.specs.Session.{members_showing}
+use Rattle.lvm_even.specs.Members.{members_showing}
 use Rattle.lvm_crash.proofs.LastingLemmas.Lasting.{description_lasts}
 use Rattle.lvm_crash.specs.Writing.{after_write}
 use Rattle.lvm_crash.specs.Bringing.{ReadLeaves, ReadGets, StepEndsOnDisks}

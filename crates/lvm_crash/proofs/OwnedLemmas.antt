@@ -22,7 +22,8 @@ use Rattle.lvm_kept.specs.Torn.{RecordWrite, IsOfRecord, IsOutsideSlots}
 use Rattle.lvm_invariant.specs.State.{Groups, Queued, Beside, ModelState, covers}
 use Rattle.lvm_invariant.specs.Crash.{Brings, CopyBrings}
 use Rattle.lvm_invariant.specs.Sound.{Tied}
-use Rattle.lvm_crash.specs.Session.{members_showing, IsPlaceOf, IsFreePlace, HasVolumes}
+use Rattle.lvm_even.specs.Members.{members_showing}
+use Rattle.lvm_crash.specs.Session.{IsPlaceOf, IsFreePlace, HasVolumes}
 use Rattle.lvm_crash.specs.Flights.{OnlyUpdateIsOut}
 use Rattle.lvm_crash.specs.Copies.{IsCopyOf, AreOne}
 use Rattle.lvm_crash.specs.Owned.{IsTransfer, IsDataFlight, IsStepFlight, IsNoteFlight, IsStatusFlight, IsOfUpdate, IsOwned, UpdateSince, OnlyUpdateSince, OwnersHaveOut}

@@ -22,7 +22,8 @@ use Rattle.lvm_invariant.specs.Found.{Votes}
 use Rattle.lvm_invariant.specs.Good.{Good}
 use Rattle.lvm_invariant.specs.Events.{Transfer}
 use Rattle.lvm_invariant.specs.Transfer.{Restages, restaged}
-use Rattle.lvm_crash.specs.Session.{marks_shown, Shows, members_showing, Describes}
+use Rattle.lvm_crash.specs.Session.{marks_shown, Shows, Describes}
+use Rattle.lvm_even.specs.Members.{members_showing}
 use Rattle.lvm_crash.specs.Left.{KeepsGroup}
 use Rattle.lvm_crash.proofs.LastingLemmas.Lasting.{description_lasts}
 use Rattle.lvm_crash.proofs.LastingLemmas.Statuses.{statuses_last}

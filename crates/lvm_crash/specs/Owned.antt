@@ -19,7 +19,8 @@ use Rattle.lvm_kept.specs.Plans.{IsUnderWay}
 use Rattle.lvm_kept.specs.Torn.{RecordWrite, IsOtherOrRecord, MayWriteAll}
 use Rattle.lvm_invariant.specs.State.{Groups, Flying, Queued, StepWrite, ModelState, is_past, Started}
 use Rattle.lvm_invariant.specs.Sound.{Tied}
-use Rattle.lvm_crash.specs.Session.{members_showing, HasVolumes}
+use Rattle.lvm_even.specs.Members.{members_showing}
+use Rattle.lvm_crash.specs.Session.{HasVolumes}
 use Rattle.lvm_crash.specs.Flights.{HasOut}
 
 -- It writes these blocks of a request to a copy.

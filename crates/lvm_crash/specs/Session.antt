@@ -18,6 +18,7 @@ use Rattle.lvm_vol.specs.Standing.{volumes_in}
 use Rattle.lvm_kept.specs.Contents.{Contents}
 use Rattle.lvm_kept.specs.Group.{if_passes, is_status_of, Finds, IsFound, members_in, ReadsGroup, block_at, IsBlockOf, is_named, IsOneOf}
 use Rattle.lvm_kept.specs.Kept.{StandsAs, RawAgrees}
+use Rattle.lvm_even.specs.Members.{members_showing}
 use Rattle.lvm_invariant.specs.State.{Marks, View, Beside, ModelState}
 use Rattle.lvm_num.specs.Modes.{is_active, is_passive}
 use Rattle.lvm_invariant.specs.Found.{Votes}
@@ -50,10 +51,6 @@ view_of beside group c = record { block = λ lv b p. block_at c group.mib p b; n
 pub record AreVotesOf (group : Descriptor) (votes : Votes) : Type 0 where
   pub reads : (set : Disks) → votes.reads set ≡ is_enough_to_read group (votes_in group set)
   pub writes : (set : Disks) → votes.writes set ≡ is_enough_to_write group (votes_in group set)
-
--- the members by the descriptor that show a descriptor of the group and have the sectors that their partitions need
-abbrev pub members_showing : Contents → Descriptor → Disks
-members_showing c group = members_in c all_disks group.id group
 
 -- Of the groups beside this one: two sets of disks that can read one have a common member, and by what is found of it the partitions are of one size,
 -- and as many on the members that are shared.

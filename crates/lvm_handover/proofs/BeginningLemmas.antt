@@ -31,12 +31,12 @@ use Rattle.lvm_keeps.specs.Begins.{SessionBegins, HasFirstStatus, IsUnused}
 use Rattle.lvm_keeps.proofs.BeginsLemmas.{beginning_is_sound}
 use Rattle.lvm_handover.specs.passed.Names.{room_of}
 use Rattle.lvm_group.specs.NewGroup.{given_up, new_group, new_status}
-use Rattle.lvm_handover.specs.passed.Tie.{IsStamped}
+use Rattle.lvm_handover.specs.passed.Going.{IsStamped}
 use Rattle.lvm_handover.specs.Beginning.{HasJustBegun, IsHistory, MadeBegins, Serves, VariedOnBegins}
 use Rattle.lvm_keeps.proofs.LeftLemmas.Updates.{few_updates}
 use Rattle.lvm_varyon.specs.Second.{status_after, last_seq}
 use Rattle.lvm_varyon.proofs.SecondLemmas.{last_seq_low}
-use Rattle.lvm_tie.proofs.MarksLemmas.{not_entailed}
+use Rattle.lvm_handover.proofs.MarksLemmas.{not_entailed}
 
 -- the stamp of the last record that was written
 abbrev stamp_of : ℕ → ℕ → Stamp

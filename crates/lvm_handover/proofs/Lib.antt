@@ -4,5 +4,6 @@ pub mod ServingLemmas
 pub mod VotesLemmas
 pub mod SoundLemmas
 pub mod NoneLeftLemmas
+pub mod MarksLemmas
 pub mod BeginningLemmas
 pub mod EarlierLemmas

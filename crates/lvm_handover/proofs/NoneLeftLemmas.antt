@@ -17,7 +17,7 @@ use Rattle.lvm_commit.specs.Settling.{NoneIsLeft, there}
 use Rattle.lvm_session.specs.State.{Core}
 use Rattle.lvm_session.specs.Judging.{is_missing, is_stale, is_wanted_stale}
 use Rattle.lvm_session.specs.Marks.{can_replace, is_among, is_entailed, is_entailed_in, is_left_behind}
-use Rattle.lvm_handover.proofs.passed.Tie.{any_one}
+use Rattle.lvm_num.proofs.AmongLemmas.{any_one}
 
 -- ---- lists
 

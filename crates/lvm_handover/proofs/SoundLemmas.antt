@@ -15,8 +15,7 @@ use Rattle.lvm_session.specs.Dark.{hand_of_copy}
 use Rattle.lvm_session.specs.Owners.{AreRows}
 use Rattle.lvm_session.specs.Placed.{ArePlaced}
 use Rattle.lvm_session.specs.Sound.{IsSound, count_if, has_number, hands_with, is_dark, is_hand, out_with, waits}
-use Rattle.lvm_handover.specs.passed.Names.{HaveAllLanded, HasNoneOpen, IsFittingAtRest, HasNothingUnderWay, IsSoundAtRest}
-use Rattle.lvm_tie.specs.Begins.{IsCoreAtRest}
+use Rattle.lvm_handover.specs.passed.Names.{HaveAllLanded, HasNoneOpen, IsFittingAtRest, IsSoundAtRest}
 
 -- where no transfer is the session's, none is out
 none_out : (core : Core) (rows : List Flown) (flights : List Flight) → AreRows core rows flights → rows ≡ [] → flights ≡ []
@@ -98,18 +97,6 @@ module _ (s : State) (sound : IsSound s) (on : s.core.power ≡ power.On) (close
     heard = λ stuck. let e : power.On ≡ power.Stuck = sym on ∙ stuck in cc;
   }
 
--- At rest no transfer is out.
-pub rest_is_still : (s : State) → IsSound s → s.core.power ≡ power.On → IsCoreAtRest s.core → s.device.flights ≡ []
-rest_is_still s sound on rests = none_out s.core s.core.flying s.device.flights (sound.on on).rows rests.flying
-
-pub rest_is_quiet : (s : State) → IsSound s → s.core.power ≡ power.On → IsCoreAtRest s.core → HasNothingUnderWay s.core
-rest_is_quiet s sound on rests = record {
-  requests = rests.requests;
-  copy = rests.copy;
-  status = rests.in_flight;
-  notes = rests.notes;
-  buffers = buffers_back s sound on (record { requests = rests.requests; copy = rests.copy }) (rest_is_still s sound on rests);
-}
-
-pub rest_is_sound : (s : State) → IsSound s → s.core.power ≡ power.On → IsCoreAtRest s.core → IsSoundAtRest s
-rest_is_sound s sound on rests = sound_between s sound on (record { requests = rests.requests; copy = rests.copy }) (rest_is_still s sound on rests)
+-- Where no transfer is the session's, none is out.
+pub rest_is_still : (s : State) → IsSound s → s.core.power ≡ power.On → s.core.flying ≡ [] → s.device.flights ≡ []
+rest_is_still s sound on none = none_out s.core s.core.flying s.device.flights (sound.on on).rows none

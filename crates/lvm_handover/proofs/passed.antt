@@ -1,6 +1,6 @@
 pub mod Group
 pub mod Names
 pub mod Ranges
-pub mod Tie
+pub mod Going
 pub mod Varyon
 pub mod Volumes

@@ -12,7 +12,7 @@ use Rattle.lvm_handover.specs.passed.Names.{Room, IsSettled, IsSoundAtRest}
 use Rattle.lvm_varyon.specs.Varied.{ComesOn}
 use Rattle.lvm_group.specs.Made.{IsMade}
 use Rattle.lvm_group.specs.NewGroup.{NewGroup}
-use Rattle.lvm_handover.specs.passed.Tie.{IsStamped}
+use Rattle.lvm_handover.specs.passed.Going.{IsStamped}
 
 -- what each history is that was made: its entries are in their order, and their numbers are of four bytes
 pub record IsHistory (log : Log) : Type 0 where

@@ -3,7 +3,7 @@ pub mod Driver
 pub mod Group
 pub mod Names
 pub mod Ranges
-pub mod Tie
+pub mod Going
 pub mod Varyon
 pub mod VolumePlanFaultGroupFault
 pub mod Volumes

@@ -3,8 +3,8 @@ ghost use Rattle.lvm_handover.specs.Beginning.{MadeBegins, VariedOnBegins};
 ghost use Rattle.lvm_handover.specs.Serving.{CommandsServe, MklvServes, RmlvServes};
 ghost use Rattle.lvm_handover.specs.Settling.{DrainedRests};
 
-/// A session whose turns have nothing left to make, and of which nothing is open, rests: nothing is under way, and what is
-/// wanted is committed.
+/// A session whose turns have nothing left to make, and of which nothing is open, rests: nothing is under way, no
+/// transfer is out, and what is wanted is committed.
 pub fn drained_rests()
     ensures { DrainedRests }
 {}

@@ -26,10 +26,10 @@ use Rattle.lvm_steps.specs.Committing.{VolumeIsServed}
 use Rattle.lvm_steps.proofs.GroupLemmas.Members.{member_of_parts}
 use Rattle.lvm_commit.proofs.passed.Names.{clash}
 use Rattle.lvm_commit.proofs.LawsLemmas.Found.{shows_group, status_read}
-use Rattle.lvm_crash.proofs.GroupLemmas.Lists.{left_of, right_of, both_of, of_passing, one_passes}
-use Rattle.lvm_rest.specs.Commands.{KeepsCopies}
-use Rattle.lvm_rest.proofs.CommandsLemmas.{copies_serve, even_stays}
-use Rattle.lvm_rest.proofs.Rows.{at_passing}
+use Rattle.lvm_even.proofs.Lists.{left_of, right_of, both_of, of_passing, one_passes}
+use Rattle.lvm_even.specs.Commands.{KeepsCopies}
+use Rattle.lvm_even.proofs.CommandsLemmas.{copies_serve, even_stays}
+use Rattle.lvm_even.proofs.Rows.{at_passing}
 use Rattle.lvm_parting.specs.Entry.{SameKnown}
 use Rattle.lvm_parting.proofs.EntryLemmas.{known_after_split, stands_after_split}
 use Rattle.lvm_parted.specs.Parted.{HasPartOf, MaySplit, IsAtSplit, SplitServes, SplitMayBeCommitted, SplitStaysEven, SplitLeavesNone, split_in}

@@ -19,7 +19,7 @@ use Rattle.lvm_kept.specs.Kept.{Kept}
 use Rattle.lvm_steps.specs.Committing.{VolumeIsServed}
 use Rattle.lvm_commit.specs.Committed.{ShowsCommitted}
 use Rattle.lvm_commit.specs.LawsOfVolumes.{VolumesServe}
-use Rattle.lvm_rest.specs.Rest.{IsEven}
+use Rattle.lvm_even.specs.Even.{IsEven}
 
 -- ---- what is split
 

@@ -14,12 +14,13 @@ use Rattle.lvm_kept.specs.Contents.{Contents}
 use Rattle.lvm_kept.specs.Examples.{mirror, two, either_of, ones, torn_mirror}
 use Rattle.lvm_kept.specs.Group.{fresh_on, IsBlockOf, IsOneOf, HoldOne}
 use Rattle.lvm_kept.specs.Kept.{Kept}
-use Rattle.lvm_rest.specs.passed.Names.{ShowsCommitted}
-use Rattle.lvm_rest.specs.Rest.{IsEven, MissingAreStale}
-use Rattle.lvm_rest.specs.Examples.{Pair, status_of, shown_by, there_by, media_of, device_of, even_pair, torn_pair, history_of, naming}
-use Rattle.lvm_rest.proofs.ExamplesLemmas.Pairs.{both_copies, the_row, first_partition}
-use Rattle.lvm_rest.proofs.ExamplesLemmas.Sectors.{told}
-use Rattle.lvm_rest.proofs.ExamplesLemmas.Examples.{valid, within, enough, shows, behind, zeros_even, torn_below, is_naming, active_torn, passive_torn}
+use Rattle.lvm_even.specs.passed.Names.{ShowsCommitted}
+use Rattle.lvm_even.specs.Even.{IsEven, MissingAreStale}
+use Rattle.lvm_even.specs.Examples.{Pair, status_of, shown_by, there_by, media_of, device_of, even_pair, torn_pair, history_of, naming}
+use Rattle.lvm_even.proofs.ExamplesLemmas.Slots.{first_partition}
+use Rattle.lvm_even.proofs.ExamplesLemmas.Pairs.{both_copies, the_row}
+use Rattle.lvm_even.proofs.ExamplesLemmas.Sectors.{told}
+use Rattle.lvm_even.proofs.ExamplesLemmas.Examples.{valid, within, enough, shows, behind, zeros_even, torn_below, is_naming, active_torn, passive_torn}
 use Rattle.lvm_recover.specs.Recopied.{IsToEqual, IsFromFirst, IsRecopied, HoldFirst, AreEqualled, OnlyNotesOf}
 use Rattle.lvm_recover.specs.Keeping.{MayRecover}
 use Rattle.lvm_recover.specs.Examples.{IsRecoveredPair, PairsRecover}

@@ -7,8 +7,8 @@ use Rattle.lvm_num.specs.declared.descriptor.Descriptor.{Descriptor}
 use Rattle.lvm_num.specs.Descriptor.{IsValid, copies_of}
 use Rattle.lvm_num.specs.Geometry.{partition_blocks, sector_of}
 use Rattle.lvm_kept.specs.Group.{IsBlockOf, IsOneOf}
-use Rattle.lvm_rest.proofs.passed.Names.{partition_is, one_place}
-use Rattle.lvm_rest.proofs.GoodLemmas.Good.{mib_positive}
+use Rattle.lvm_even.proofs.passed.Names.{partition_is, one_place}
+use Rattle.lvm_even.proofs.Rows.{mib_positive}
 
 -- two blocks with one partition and one rest
 same_block : (size a b : ℕ) → zero < size → a / size ≡ b / size → a % size ≡ b % size → a ≡ b

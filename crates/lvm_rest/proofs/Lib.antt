@@ -1,9 +1,6 @@
-pub mod passed
 pub mod MayLemmas
 pub mod GoodLemmas
 pub mod Rows
-pub mod CommandsLemmas
-pub mod MarkingLemmas
 pub mod LastingLemmas
 pub mod ClosedLemmas
 pub mod CausesLemmas

@@ -16,7 +16,8 @@ use Rattle.lvm_invariant.specs.Found.{Votes}
 use Rattle.lvm_invariant.specs.Good.{Good}
 use Rattle.lvm_crash.specs.Session.{AreVotesOf, Describes}
 use Rattle.lvm_crash.specs.Flights.{Matches}
-use Rattle.lvm_rest.specs.Rest.{IsModelAtRest, SeesThat, AreClosed, HoldsAtRest}
+use Rattle.lvm_rest.specs.Rest.{IsModelAtRest, SeesThat}
+use Rattle.lvm_even.specs.Even.{AreClosed, HoldsAtRest}
 
 -- For each group there is a state at which nothing is under way that sees what stands on its disks.
 abbrev pub RestIsSeen : Type 0

@@ -1,4 +1,3 @@
 pub mod passed
 pub mod SettledLemmas
 pub mod ExamplesLemmas
-pub mod EvenLemmas

@@ -17,9 +17,9 @@ use Rattle.lvm_session.specs.State.{is_there}
 use Rattle.lvm_rest.proofs.GoodLemmas.Rest.{good_is_rest}
 use Rattle.lvm_rest.proofs.ClosedLemmas.{calm_is_closed}
 use Rattle.lvm_rest.proofs.GoodLemmas.Good.{rest_matches}
-use Rattle.lvm_rest.proofs.MarkingLemmas.{none_is_left_behind as none_is_behind}
+use Rattle.lvm_even.proofs.MarkingLemmas.{none_is_left_behind as none_is_behind}
 use Rattle.lvm_settled.specs.Settled.{CacheIsSeen, SettledIsGood, GoodIsSettled, NoneLeftIsBehind}
-use Rattle.lvm_rest.specs.Rest.{MissingAreStale}
+use Rattle.lvm_even.specs.Even.{MissingAreStale}
 
 pub settled_is_good : SettledIsGood
 settled_is_good votes past s media known v are carried view =

@@ -10,7 +10,7 @@ use Rattle.lvm_mwc.specs.Cache.{Cached, no_notes}
 use Rattle.lvm_session.specs.declared.open.Power.TheVariants as power
 use Rattle.lvm_core.specs.Held.{NotesAreHome}
 use Rattle.lvm_session.specs.State.{Core, state}
-use Rattle.lvm_rest.specs.Examples.{Pair, status_of, pair_sizes, media_of, device_of, first_write, past_of, now_on, history_of, even_pair, naming_note, naming}
+use Rattle.lvm_even.specs.Examples.{Pair, status_of, pair_sizes, media_of, device_of, first_write, past_of, now_on, history_of, even_pair, naming_note, naming}
 use Rattle.lvm_settled.specs.Settled.{IsKnown, IsCarriedOver}
 
 -- The session has come on with this status, and nothing has happened since; there is room for a request, and one buffer.

@@ -1,4 +1,3 @@
 pub mod passed
 pub mod Settled
 pub mod Examples
-pub mod Even

@@ -9,7 +9,7 @@ use Rattle.lvm_kept.specs.Moments.{Moment}
 use Rattle.lvm_steps.specs.Moments.{RunBegins}
 use Rattle.lvm_commit.specs.Committed.{ShowsCommitted}
 use Rattle.lvm_commit.specs.Settling.{NoneIsLeft}
-use Rattle.lvm_rest.specs.Rest.{IsEven}
+use Rattle.lvm_even.specs.Even.{IsEven}
 use Rattle.lvm_session.specs.State.{State, is_there}
 use Rattle.lvm_volumes.specs.Endings.{IfAlone}
 

@@ -36,7 +36,7 @@ use Rattle.lvm_tidying.specs.Recovered.{IsWrittenTo, RecoversAll, RecoveredByCle
 use Rattle.lvm_tidying.specs.Cleaned.{IsStillDirty}
 use Rattle.lvm_tidying.proofs.MomentsLemmas.{same_fresh}
 use Rattle.lvm_steps.proofs.RecordLemmas.{split, join}
-use Rattle.lvm_crash.proofs.GroupLemmas.Lists.{not_so}
+use Rattle.lvm_even.proofs.Lists.{not_so}
 
 -- ---- members and modes
 

@@ -12,8 +12,8 @@ use Rattle.lvm_kept.specs.Group.{fresh_on, IsOneOf}
 use Rattle.lvm_kept.specs.Torn.{StatusesChange}
 use Rattle.lvm_commit.specs.Committed.{MayMark, ShowsCommitted}
 use Rattle.lvm_commit.specs.Laws.{IsLaterStatus}
-use Rattle.lvm_rest.specs.Rest.{IsEven, MissingAreStale}
-use Rattle.lvm_rest.specs.Commands.{MayClean}
+use Rattle.lvm_even.specs.Even.{IsEven, MissingAreStale}
+use Rattle.lvm_even.specs.Commands.{MayClean}
 
 -- a volume in mode passive that is dirty and has a logical partition without a usable copy
 pub record IsStillDirty (group : Descriptor) (there : Disks) (stands : Stamped Status) (lv : ℕ) : Type 0 where

@@ -30,7 +30,8 @@ use Rattle.lvm_invariant.specs.State.{Going, Live, ModelPhase, Queued, Started, 
 use Rattle.lvm_invariant.specs.Sound.{Agree, MayDiffer, Quiescent}
 use Rattle.lvm_num.specs.Modes.{is_active, is_passive}
 use Rattle.lvm_num.proofs.Booleans.{clash_gives}
-use Rattle.lvm_crash.specs.Session.{as_marks, members_showing}
+use Rattle.lvm_crash.specs.Session.{as_marks}
+use Rattle.lvm_even.specs.Members.{members_showing}
 use Rattle.lvm_tie.specs.Seen.{IsRequestAt, IsStepAt, SeesRequest, phase_seen}
 use Rattle.lvm_tie.specs.Tied.{IsTied}
 use Rattle.lvm_tie.proofs.StateLemmas.{stale_seen, there_first}

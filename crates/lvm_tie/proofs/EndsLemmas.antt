@@ -39,7 +39,8 @@ use Rattle.lvm_num.specs.Descriptor.{is_pp}
 use Rattle.lvm_num.proofs.Booleans.{clash_gives}
 use Rattle.lvm_invariant.specs.Events.{Read}
 use Rattle.lvm_invariant.proofs.EventsLemmas.Each.{each_keeps}
-use Rattle.lvm_crash.specs.Session.{members_showing, Describes}
+use Rattle.lvm_even.specs.Members.{members_showing}
+use Rattle.lvm_crash.specs.Session.{Describes}
 use Rattle.lvm_crash.proofs.BringingLemmas.{read_leaves, read_gets}
 use Rattle.lvm_crash.proofs.RecordsLemmas.Quiet.{quiet_lasts, update_goes_on}
 use Rattle.lvm_crash.specs.Bringing.{IsReading, in_buffer}

@@ -34,6 +34,5 @@ pub mod RunningLemmas
 pub mod LawsLemmas
 pub mod AgreeingLemmas
 pub mod BeginsLemmas
-pub mod MarksLemmas
 pub mod WorkedLemmas
 pub mod PairsLemmas

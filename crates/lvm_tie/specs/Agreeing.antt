@@ -18,7 +18,7 @@ use Rattle.lvm_path.specs.Targets.{is_begun}
 use Rattle.lvm_session.specs.declared.open.Open.{Open}
 use Rattle.lvm_session.specs.Judging.{is_settled, is_stale}
 use Rattle.lvm_session.specs.State.{Core, State, is_there}
-use Rattle.lvm_crash.specs.Session.{members_showing}
+use Rattle.lvm_even.specs.Members.{members_showing}
 use Rattle.lvm_tie.specs.Tied.{IsTied}
 
 -- ---- requests

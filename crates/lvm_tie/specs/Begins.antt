@@ -20,8 +20,8 @@ use Rattle.lvm_session.specs.State.{Core, State, state, is_there}
 use Rattle.lvm_session.specs.Sound.{IsSound}
 use Rattle.lvm_session_start.specs.declared.parts.Parts.{Parts}
 use Rattle.lvm_session_start.specs.Beginning.{MayBeginSession, first_core}
-use Rattle.lvm_crash.specs.Session.{members_showing}
-use Rattle.lvm_rest.specs.Rest.{HoldsAtRest, IsEven, MissingAreStale}
+use Rattle.lvm_even.specs.Members.{members_showing}
+use Rattle.lvm_even.specs.Even.{HoldsAtRest, IsEven, MissingAreStale}
 use Rattle.lvm_tie.specs.Spares.{SparesDescriptors}
 use Rattle.lvm_tie.specs.Tied.{IsGood, IsTied, moment_of}
 

@@ -4,7 +4,7 @@ use Rattle.lvm_num.specs.declared.descriptor.Mode.{Mode}
 use Rattle.lvm_num.specs.Buffer.{zero_sector}
 use Rattle.lvm_session.specs.State.{State, state}
 use Rattle.lvm_session.specs.Sound.{IsSound}
-use Rattle.lvm_rest.specs.Examples.{Pair, device_of, even_pair, media_of, naming, past_of}
+use Rattle.lvm_even.specs.Examples.{Pair, device_of, even_pair, media_of, naming, past_of}
 use Rattle.lvm_settled.specs.Examples.{core_of, noted_core}
 use Rattle.lvm_tie.specs.Tied.{IsTied}
 use Rattle.lvm_tie.specs.Begins.{FollowsOn, IsCoreAtRest, MembersShow, StandsAtRest}

@@ -26,7 +26,8 @@ use Rattle.lvm_session.specs.Sound.{IsSound}
 use Rattle.lvm_invariant.specs.State.{ModelState}
 use Rattle.lvm_invariant.specs.Found.{Votes}
 use Rattle.lvm_invariant.specs.Good.{Good}
-use Rattle.lvm_crash.specs.Session.{AreVotesOf, members_showing, Describes}
+use Rattle.lvm_crash.specs.Session.{AreVotesOf, Describes}
+use Rattle.lvm_even.specs.Members.{members_showing}
 use Rattle.lvm_crash.specs.Owned.{OnlyUpdateSince, AllOwned}
 use Rattle.lvm_tie.specs.Out.{AreNotes, CarryTheirs, IsWriteOf, MayUpdate}
 use Rattle.lvm_tie.specs.Seen.{update_of, Sees}

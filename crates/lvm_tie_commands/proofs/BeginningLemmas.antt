@@ -22,7 +22,9 @@ use Rattle.lvm_handover.proofs.passed.Names.{empty_names_none, quiet_dirty_is_ev
 use Rattle.lvm_mwc.specs.Cache.{is_named as is_named_by}
 use Rattle.lvm_kept.proofs.CommittedLemmas.Finding.{images_within}
 use Rattle.lvm_steps.proofs.MakingLemmas.Making.{media_may}
-use Rattle.lvm_handover.specs.passed.Tie.{SparesDescriptors, IsTied, shown_to}
+use Rattle.lvm_tie.specs.Spares.{SparesDescriptors}
+use Rattle.lvm_tie.specs.Tied.{IsTied}
+use Rattle.lvm_tie.specs.Begins.{shown_to}
 use Rattle.lvm_handover.specs.passed.Varyon.{DirtyAreEqual}
 use Rattle.lvm_varyon.specs.passed.Names.{DirtyAreOne}
 use Rattle.lvm_tie_commands.specs.Beginning.{HasBegun, MadeStands, VariedOnStands}

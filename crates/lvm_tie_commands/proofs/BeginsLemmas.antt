@@ -23,8 +23,10 @@ use Rattle.lvm_session.specs.Sound.{IsSound}
 use Rattle.lvm_handover.specs.passed.Names.{IsSettled}
 use Rattle.lvm_settled.specs.passed.Names.{IsEven, MissingAreStale}
 use Rattle.lvm_settled.proofs.passed.Names.{none_is_left_behind}
-use Rattle.lvm_handover.specs.passed.Tie.{SparesDescriptors, IsTied, moment_of, NotesAreHomeIn, MembersShow, StandsAtRest, shown_to}
-use Rattle.lvm_handover.proofs.passed.Tie.{rest_spares, rest_ties}
+use Rattle.lvm_tie.specs.Spares.{SparesDescriptors}
+use Rattle.lvm_tie.specs.Tied.{IsTied, moment_of}
+use Rattle.lvm_tie.specs.Begins.{NotesAreHomeIn, MembersShow, StandsAtRest, shown_to}
+use Rattle.lvm_tie.proofs.BeginsLemmas.Resting.{rest_spares, rest_ties}
 use Rattle.lvm_tie_commands.proofs.Resting.{left, rests}
 
 -- the disks hold what a session says, where this stands on them

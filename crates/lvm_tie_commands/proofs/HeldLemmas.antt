@@ -15,8 +15,10 @@ use Rattle.lvm_commit.proofs.LawsOfDataLemmas.Still.{still_holds_committed}
 use Rattle.lvm_session.specs.State.{State, is_there}
 use Rattle.lvm_handover.specs.passed.Names.{AreNotesHome, IsHeld, NotesAreHome, StartsHeld, IsSettled}
 use Rattle.lvm_settled.specs.passed.Names.{IsEven}
-use Rattle.lvm_settled.proofs.EvenLemmas.Off.{off_is_even}
-use Rattle.lvm_handover.specs.passed.Tie.{SparesDescriptors, SparesOn, IsTied, IsRested, IsCoreAtRest, NotesAreHomeIn as AreHome, shown_to}
+use Rattle.lvm_volumes.proofs.EvenLemmas.Off.{off_is_even}
+use Rattle.lvm_tie.specs.Spares.{SparesDescriptors, SparesOn}
+use Rattle.lvm_tie.specs.Tied.{IsTied}
+use Rattle.lvm_tie.specs.Begins.{IsRested, IsCoreAtRest, NotesAreHomeIn as AreHome, shown_to}
 use Rattle.lvm_tie_commands.proofs.SettledLemmas.Leaving.{its_disks_hold, its_rest}
 use Rattle.lvm_tie_commands.specs.Commands.{MayBeCommanded}
 use Rattle.lvm_tie_commands.specs.Standing.{StandsAfter}

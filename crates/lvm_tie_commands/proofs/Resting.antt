@@ -8,7 +8,7 @@ use Rattle.lvm_commit.specs.Settling.{NoneIsLeft}
 use Rattle.lvm_handover.proofs.SoundLemmas.{rest_is_still}
 use Rattle.lvm_handover.proofs.NoneLeftLemmas.{none_left}
 use Rattle.lvm_handover.proofs.ServingLemmas.Serving.{nobody_flies, none_flying}
-use Rattle.lvm_handover.specs.passed.Tie.{IsCoreAtRest}
+use Rattle.lvm_tie.specs.Begins.{IsCoreAtRest}
 
 module _ (s : State) (sound : IsSound s) (settled : IsSettled s.core) where
   going : IsGoing s.core
@@ -26,7 +26,7 @@ module _ (s : State) (sound : IsSound s) (settled : IsSettled s.core) where
 
   -- nothing is out
   pub still : s.device.flights ≡ []
-  still = rest_is_still s sound settled.power rests
+  still = rest_is_still s sound settled.power rests.flying
 
   pub landed : HaveAllLanded s.core.history.facts
   landed id = sound.told.each id ∙ ap (λ (os : List Open). waits os id) settled.quiet.requests

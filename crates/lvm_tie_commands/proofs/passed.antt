@@ -5,4 +5,3 @@ pub mod Ranges
 pub mod Varyon
 pub mod Volumes
 pub mod Tie
-pub mod Settled

@@ -11,7 +11,7 @@ use Rattle.lvm_session.specs.Sound.{IsSound}
 use Rattle.lvm_handover.specs.passed.Names.{Room, moment_of, StartsHeld, IsSettled}
 use Rattle.lvm_handover.specs.passed.Varyon.{ComesOn, DirtyAreEqual}
 use Rattle.lvm_handover.specs.passed.Group.{IsMade, NewGroup}
-use Rattle.lvm_handover.specs.passed.Tie.{IsStamped}
+use Rattle.lvm_handover.specs.passed.Going.{IsStamped}
 use Rattle.lvm_tie_commands.specs.Standing.{StandsAfter, StandsSince}
 
 -- The session of this run has begun, settled and sound, a span leads to it, and its disks hold what it says.

@@ -12,7 +12,7 @@ use Rattle.lvm_handover.specs.passed.Names.{moment_of, StartsHeld, EntersVolumes
 use Rattle.lvm_handover.specs.passed.Volumes.{MklvGives, RmlvGives, to_make, to_remove}
 use Rattle.lvm_volumes.specs.Tidying.{to_tidy}
 use Rattle.lvm_handover.specs.Serving.{IsCommanded, OriginIsMarked}
-use Rattle.lvm_handover.specs.passed.Tie.{IsStamped}
+use Rattle.lvm_handover.specs.passed.Going.{IsStamped}
 use Rattle.lvm_tie_commands.specs.Standing.{StandsAfter, StandsSince}
 
 -- Before it the session of this run is sound, a span leads to it, and what stands on its disks does so after each earlier history.

@@ -6,7 +6,8 @@ use Rattle.lvm_kept.specs.Moments.{Moment}
 use Rattle.lvm_steps.specs.Moments.{RunBegins}
 use Rattle.lvm_session.specs.State.{Core, State, state}
 use Rattle.lvm_handover.specs.passed.Names.{StartsHeld}
-use Rattle.lvm_handover.specs.passed.Tie.{SparesDescriptors, IsTied}
+use Rattle.lvm_tie.specs.Spares.{SparesDescriptors}
+use Rattle.lvm_tie.specs.Tied.{IsTied}
 
 -- Of a group without volumes the disks hold what the session says is committed, and their notes name what its cache does; of one with volumes the session is tied after this earlier history, and the next descriptors spare the newest ones.
 pub record StandsAfter (past : List Fact) (device : Device) (core : Core) : Type 0 where

@@ -14,9 +14,9 @@ use Rattle.lvm_kept.specs.Contents.{Contents}
 use Rattle.lvm_kept.specs.Group.{IsOneOf}
 use Rattle.lvm_steps.proofs.RecordLemmas.{either, clash}
 use Rattle.lvm_session.specs.State.{is_there}
-use Rattle.lvm_rest.specs.Rest.{IsEven}
-use Rattle.lvm_rest.specs.Commands.{IsUsable, KeepsCopies}
-use Rattle.lvm_rest.proofs.CommandsLemmas.{even_stays}
+use Rattle.lvm_even.specs.Even.{IsEven}
+use Rattle.lvm_even.specs.Commands.{IsUsable, KeepsCopies}
+use Rattle.lvm_even.proofs.CommandsLemmas.{even_stays}
 use Rattle.lvm_volume_plan.specs.Copies.{with_map, with_copies, first_copies, further_copies}
 use Rattle.lvm_volume_plan.proofs.CopiesLemmas.Rows.{one_found, one_other, own_row}
 use Rattle.lvm_volume_plan.proofs.CopiesLemmas.More as more

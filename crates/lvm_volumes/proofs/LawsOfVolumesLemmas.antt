@@ -32,9 +32,9 @@ use Rattle.lvm_commit.specs.LawsOfVolumes.{VolumeServes}
 use Rattle.lvm_commit.proofs.LawsLemmas.Found.{shows_group, status_read}
 use Rattle.lvm_session.specs.State.{State, is_there}
 use Rattle.lvm_volume_plan.specs.passed.Names.{LetsCommit, IsHeldSince}
-use Rattle.lvm_rest.specs.Commands.{HasCopiesOf}
-use Rattle.lvm_rest.proofs.CommandsLemmas.{copies_serve}
-use Rattle.lvm_rest.proofs.Rows.{some_passing}
+use Rattle.lvm_even.specs.Commands.{HasCopiesOf}
+use Rattle.lvm_even.proofs.CommandsLemmas.{copies_serve}
+use Rattle.lvm_even.proofs.Rows.{some_passing}
 use Rattle.lvm_volume_plan.specs.Copies.{with_map, with_copies, first_copies, further_copies}
 use Rattle.lvm_volume_plan.proofs.CopiesLemmas.Rows.{one_found, named, own_row, differs}
 use Rattle.lvm_volume_plan.proofs.CopiesLemmas.More as more

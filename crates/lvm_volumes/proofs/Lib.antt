@@ -12,4 +12,5 @@ pub mod MirrorSettlingLemmas
 pub mod MirrorStagesLemmas
 pub mod MirrorsLemmas
 pub mod LawsLemmas
+pub mod EvenLemmas
 pub mod TidyingLemmas

@@ -6,3 +6,4 @@ pub mod Mirrors
 pub mod Tidying
 pub mod MirrorStages
 pub mod Laws
+pub mod Even

@@ -2,6 +2,7 @@
 #![tactic(auto)]
 
 mod copies;
+pub mod even_laws;
 pub mod laws;
 mod tidying;
 mod volumes;

@@ -24,9 +24,10 @@ use Rattle.lvm_kept.specs.Group.{passes, is_of, has_room, members_in, is_stale_b
 use Rattle.lvm_kept.specs.Kept.{MayDiffer, IsBlockKept}
 use Rattle.lvm_invariant.specs.State.{Beside, ModelState}
 use Rattle.lvm_invariant.specs.Crash.{Fresh, MayDifferAfter, BlockKept}
-use Rattle.lvm_crash.specs.Session.{is_beside, marks_of, view_of, members_showing, IsPlaceOf, IsFreePlace, HasVolumes}
+use Rattle.lvm_crash.specs.Session.{is_beside, marks_of, view_of, IsPlaceOf, IsFreePlace, HasVolumes}
+use Rattle.lvm_even.specs.Members.{members_showing}
 use Rattle.lvm_num.specs.Modes.{is_active, is_passive}
-use Rattle.lvm_crash.proofs.GroupLemmas.Lists.{left_of, right_of, both_of, not_so, of_passing, one_passes}
+use Rattle.lvm_even.proofs.Lists.{left_of, right_of, both_of, not_so, of_passing, one_passes}
 
 -- ---- the partition beside
 

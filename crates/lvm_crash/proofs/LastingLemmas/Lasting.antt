@@ -27,7 +27,8 @@ use Rattle.lvm_invariant.specs.State.{Beside, ModelState, Queued}
 use Rattle.lvm_invariant.specs.Found.{Votes}
 use Rattle.lvm_invariant.specs.Good.{Good}
 use Rattle.lvm_invariant.specs.Events.{Event, Submit, LandDone, LandLost, LandGot, LandReadFailed, LandNoFresh, Take, TakeEarlier, ModelStep}
-use Rattle.lvm_crash.specs.Session.{members_showing, IsPlaceOf, GroupStands, HasVolumes, Shows, Describes}
+use Rattle.lvm_even.specs.Members.{members_showing}
+use Rattle.lvm_crash.specs.Session.{IsPlaceOf, GroupStands, HasVolumes, Shows, Describes}
 use Rattle.lvm_crash.specs.Left.{KeepsGroup}
 use Rattle.lvm_crash.specs.Lasting.{AsksOf, DescriptionLasts}
 use Rattle.lvm_invariant.proofs.MayLemmas.{landed_mode}

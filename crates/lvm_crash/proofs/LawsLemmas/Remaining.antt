@@ -1,8 +1,8 @@
 -- What a loss of power leaves keeps the history.
-use Rattle.std.proofs.Common.{◌≡◌, inl, inr, ⊎_elim, ℕ, ◌*◌, ◌<◌, ◌≤◌, Bool, true, false, List, [], ◌∷◌, ◌++◌, length, Option, Some, None, refl, sym, ap, subst, ◌∙◌}
+use Rattle.std.proofs.Common.{◌≡◌, inl, inr, ⊎_elim, ℕ, ◌*◌, ◌<◌, ◌≤◌, Bool, List, [], ◌∷◌, ◌++◌, length, Option, Some, None, refl, sym, ap, subst, ◌∙◌}
 use Rattle.std.specs.Prelude.{IsTrue, ◌==◌, option_map, find, if◌then◌else◌}
 use Rattle.std.proofs.lemmas.Option.{same_Some}
-use Rattle.std.proofs.lemmas.Bool.{eq-eqb, eqb-true}
+use Rattle.std.proofs.lemmas.Bool.{eq-eqb}
 use Rattle.lvm_num.specs.declared.descriptor.PvRow.{PvRow}
 use Rattle.lvm_num.specs.declared.descriptor.LvRow.{LvRow}
 use Rattle.lvm_num.specs.declared.descriptor.Descriptor.{Descriptor}
@@ -27,10 +27,12 @@ use Rattle.lvm_kept.specs.Committed.{IsWithinDisks}
 use Rattle.lvm_kept.proofs.CommittedLemmas.Finding.{finding_reads}
 use Rattle.lvm_kept.proofs.ChangesLemmas.Entries.{volume_is_row}
 use Rattle.lvm_kept.proofs.GroupLemmas.{still_finds, finds_before}
+use Rattle.lvm_even.proofs.Lists.{by_id}
 use Rattle.lvm_invariant.specs.State.{Beside, ModelState}
 use Rattle.lvm_invariant.specs.Found.{Votes, Found}
 use Rattle.lvm_invariant.specs.Crash.{IsCrash, BlockKept}
-use Rattle.lvm_crash.specs.Session.{marks_of, as_marks, marks_shown, view_of, AreVotesOf, members_showing, OthersStand, HasStatuses, Describes}
+use Rattle.lvm_crash.specs.Session.{marks_of, as_marks, marks_shown, view_of, AreVotesOf, OthersStand, HasStatuses, Describes}
+use Rattle.lvm_even.specs.Members.{members_showing}
 use Rattle.lvm_crash.specs.Left.{MayRemain}
 use Rattle.lvm_crash.specs.Laws.{EachViewAgrees, WhatRemainsIsKept}
 use Rattle.lvm_crash.proofs.GroupLemmas.Blocks.{block_kept, some_fresh, block_of}
@@ -55,14 +57,6 @@ stands_without a b none_a none_b standing shape lv stands = subst (StandsAs b.mi
     by_standing Settled x = x
     by_standing Open x = x
     by_standing Absent x = x
-
--- an id is this one, or it isn't
-pub by_id : {X : Type 0} (id this : ℕ) → (id ≡ this → X) → ((id ≡ this → ⊥) → X) → X
-by_id {X = X} id this same apart = by_test (id == this) refl
-  where
-    by_test : (t : Bool) → (id == this) ≡ t → X
-    by_test true is = same (eqb-true id this is)
-    by_test false is = apart (λ e. absurd (let f = eq-eqb id this e in let g = is in cc))
 
 module _ (old : Contents) (status : ℕ → Option (Stamped Status)) (note : ℕ → Option Noted) (block : ℕ → ℕ → Sector) where
   abbrev new : Contents

@@ -25,7 +25,7 @@ use Rattle.lvm_crash.specs.Session.{Describes}
 use Rattle.lvm_crash.specs.Flights.{HasOut}
 use Rattle.lvm_crash.specs.Worked.{Shown, to_disk, device_of, media_of, RestMatches, WritingMatches, SteppingMatches}
 use Rattle.lvm_crash.proofs.LawsLemmas.Ends.{entry_more}
-use Rattle.lvm_crash.proofs.GroupLemmas.Lists.{left_of, right_of, both_of}
+use Rattle.lvm_even.proofs.Lists.{left_of, right_of, both_of}
 use Rattle.lvm_crash.proofs.WorkedLemmas.Worked.{base, enough, on_either}
 use Rattle.lvm_crash.proofs.WorkedLemmas.Shelf.{descriptors, no_update, Fits, describes, fits_still}
 

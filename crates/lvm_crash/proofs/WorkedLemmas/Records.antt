@@ -28,9 +28,10 @@ use Rattle.lvm_crash.specs.Session.{HasStatuses}
 use Rattle.lvm_crash.specs.Flights.{UpdateIsOut}
 use Rattle.lvm_crash.specs.Worked.{Shown, status_shown, sector_to, next_status, framed_next, next_sector, note_shown, device_of, media_of, UpdatingMatches, NotingMatches}
 use Rattle.lvm_crash.proofs.LawsLemmas.Ends.{entry_more}
-use Rattle.lvm_crash.proofs.GroupLemmas.Lists.{left_of, right_of}
+use Rattle.lvm_even.proofs.Lists.{left_of, right_of}
 use Rattle.lvm_crash.proofs.WorkedLemmas.Worked.{enough, its_marks}
-use Rattle.lvm_crash.proofs.WorkedLemmas.Shelf.{image, room, if_or, no-magic, second_zero, status_read, status_held, status_none, newest_status, the_status, its_names, describes, fits_still, same_volumes}
+use Rattle.lvm_crash.proofs.WorkedLemmas.Shelf.{image, room, if_or, second_zero, status_read, status_held, status_none, newest_status, the_status, its_names, describes, fits_still, same_volumes}
+use Rattle.lvm_even.proofs.ExamplesLemmas.Slots.{no-magic}
 
 -- a write of one sector brings it to its place
 record Went (n first : ℕ) (sector : Sector) (d s : ℕ) (value : Sector) : Type 0 where

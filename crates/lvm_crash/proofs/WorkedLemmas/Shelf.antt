@@ -1,5 +1,5 @@
 -- The shelf of a worked session: what its records say.
-use Rattle.std.proofs.Common.{◌≡◌, ℕ, ◌+◌, ◌<◌, Bool, true, false, ◌&&◌, ◌||◌, ◌==◌, List, [], length, take, get_or, Option, Some, None, Ok, refl, sym, ap, subst, ◌∙◌, arith, eqb-true}
+use Rattle.std.proofs.Common.{◌≡◌, ℕ, ◌+◌, ◌<◌, Bool, true, false, ◌&&◌, ◌||◌, ◌==◌, List, [], length, take, Option, Some, None, Ok, refl, sym, ap, subst, ◌∙◌, arith, eqb-true}
 use Rattle.std.specs.Prelude.{if◌then◌else◌, nat_lt, nat_le, option_and_then}
 use Rattle.std.proofs.lemmas.Bool.{ne_eqb}
 use Rattle.std.proofs.lemmas.Bool.Decides.{nat_tests}
@@ -11,13 +11,12 @@ use Rattle.lvm_num.specs.declared.status.Status.{Status}
 use Rattle.lvm_num.specs.declared.record.Framed.{Framed}
 use Rattle.lvm_num.specs.declared.record.Kind.{Kind}
 use Rattle.lvm_num.specs.declared.record.Kind.TheVariants as kind
-use Rattle.lvm_num.specs.Name.{is_name}
 use Rattle.lvm_num.specs.Buffer.{Sector, zero_sector, IsSector}
-use Rattle.lvm_num.specs.DescriptorBytes.{version_at, member_at, members_at, volume_at, volumes_at, partition_at, partitions_at, maps_at, member_count_at, descriptor_of, descriptor_bytes}
+use Rattle.lvm_num.specs.DescriptorBytes.{descriptor_of}
 use Rattle.lvm_num.specs.StatusBytes.{status_version_at, rows_and_size_at, status_row_at, status_rows_at, numbers_at, dirty_at, status_of, status_bytes}
 use Rattle.lvm_num.specs.Geometry.{data_start, sector_of}
 use Rattle.lvm_num.specs.Note.{IsEntry, IsNote, note_bytes, note_in, entries_below}
-use Rattle.lvm_num.specs.Record.{Stamped, Frames, frame, record_in, record_sectors, slot_start, slot_size, kind_magic, newer, stamp_lt}
+use Rattle.lvm_num.specs.Record.{Stamped, Frames, frame, record_in, record_sectors, slot_start, slot_size, newer}
 use Rattle.lvm_num.specs.Torn.{slot_at}
 use Rattle.lvm_num.proofs.NoteLemmas.{written_is_read}
 use Rattle.lvm_num.proofs.TornLemmas.Torn.{whole_is_read}
@@ -32,21 +31,17 @@ use Rattle.lvm_kept.proofs.TornLemmas.Standing.{zeros-sector}
 use Rattle.lvm_invariant.specs.State.{Marks, Beside, ModelState}
 use Rattle.lvm_invariant.specs.First.{two_disks, marks_with, on_both, at_rest}
 use Rattle.lvm_invariant.specs.Worked.{first_group}
-use Rattle.lvm_crash.specs.Session.{marks_shown, members_showing, HasVolumes, HasStatuses, Shows, Describes}
+use Rattle.lvm_crash.specs.Session.{marks_shown, HasVolumes, HasStatuses, Shows, Describes}
+use Rattle.lvm_even.specs.Members.{members_showing}
 use Rattle.lvm_crash.specs.Worked.{Shown, sizes, status_shown, note_shown, framed_group, framed_status, media_of}
-use Rattle.lvm_crash.proofs.WorkedLemmas.Worked.{base, stands, volumes, its_marks, first_partition}
+use Rattle.lvm_crash.proofs.WorkedLemmas.Worked.{base, stands, volumes, its_marks}
+use Rattle.lvm_even.proofs.ExamplesLemmas.Slots.{first_partition, group_read, no-magic, never_before, none_or}
 use Rattle.lvm_crash.proofs.LastingLemmas.Lasting.{group_stands}
 use Rattle.lvm_num.specs.Disks.{Disks}
 use Rattle.lvm_num.specs.declared.descriptor.Descriptor.{Descriptor}
 use Rattle.lvm_num.proofs.Booleans.{and_false, some_if}
 
 -- ---- the records are read
-
-pub group_read : (mode : Mode) → descriptor_of (descriptor_bytes (two mode)) ≡ Ok (two mode)
-unfolding is_name version_at member_at members_at volume_at volumes_at partition_at partitions_at maps_at member_count_at descriptor_of
-group_read Active = refl
-group_read Passive = refl
-group_read Off = refl
 
 pub status_read : (w : Shown) (stale dirty : Bool) → w.stale ≡ stale → w.dirty ≡ dirty → status_of (status_bytes (status_shown w).value) ≡ Ok (status_shown w).value
 unfolding status_version_at rows_and_size_at status_row_at status_rows_at numbers_at dirty_at status_of
@@ -62,17 +57,6 @@ status_read w stale dirty e f = subst (λ (v : Shown). status_of (status_bytes (
     back = λ t. record w { stale = sym e t; dirty = sym f t }
 
 -- ---- slots
-
-pub no-magic : (kind : Kind) → take 2 zero_sector ≡ kind_magic kind → ⊥
-no-magic kind.Descriptor e = absurd (omega (arith, ap (λ (l : List ℕ). get_or l 0 0) e))
-no-magic kind.Status e = absurd (omega (arith, ap (λ (l : List ℕ). get_or l 0 0) e))
-
-pub never_before : (epoch seq : ℕ) → stamp_lt (record { epoch = epoch; seq = seq }) (record { epoch = 0; seq = 0 }) ≡ true → ⊥
-never_before epoch seq h = grind (arith, nat_tests)
-
-pub none_or : {X : Type 0} (o : Option X) → ((x : X) → o ≡ Some x → ⊥) → o ≡ None
-none_or None h = refl
-none_or (Some x) h = absurd (h x refl)
 
 -- only the two disks have room
 pub room : (w : Shown) (d : ℕ) → has_records (image_of sizes (media_of w)) d ≡ either_of 0 1 d

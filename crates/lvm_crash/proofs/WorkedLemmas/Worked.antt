@@ -24,11 +24,13 @@ use Rattle.lvm_kept.specs.Examples.{stamped, row_of, mirror, two, of_two, either
 use Rattle.lvm_kept.specs.Group.{descriptor_among, is_voter, has_quorum, Finds, IsFound, IsOneOf}
 use Rattle.lvm_kept.specs.Kept.{StandsAs}
 use Rattle.lvm_num.specs.Modes.{is_active, is_passive}
+use Rattle.lvm_even.proofs.ExamplesLemmas.Slots.{first_partition}
 use Rattle.lvm_invariant.specs.First.{two_disks, first_copy, second_copy, is_either, marks_with, at_rest}
-use Rattle.lvm_crash.specs.Session.{as_marks, members_showing, GroupStands, HasVolumes}
+use Rattle.lvm_crash.specs.Session.{as_marks, GroupStands, HasVolumes}
+use Rattle.lvm_even.specs.Members.{members_showing}
 use Rattle.lvm_crash.specs.Worked.{Shown, sizes, status_shown, GroupsHaveVotes}
-use Rattle.lvm_crash.proofs.StandingLemmas.{shown}
-use Rattle.lvm_crash.proofs.GroupLemmas.Lists.{left_of, right_of, both_of}
+use Rattle.lvm_even.proofs.MembersLemmas.{shown}
+use Rattle.lvm_even.proofs.Lists.{left_of, right_of, both_of}
 
 pub groups_have_votes : GroupsHaveVotes
 groups_have_votes group = (
@@ -49,9 +51,6 @@ within b is = grind (arith, nat_tests)
 
 without : (b : ℕ) → IsTrue (nat_lt b 2048) → b / 2048 ≡ 0
 without b is = let low : b < 2048 = grind (arith, nat_tests) in omega arith
-
-pub first_partition : (lp : ℕ) → lp < 1 → lp ≡ 0
-first_partition lp low = omega arith
 
 -- the two copies
 pub on_either : (p : Pp) → IsTrue (is_either p) → (p ≡ first_copy) ⊎ (p ≡ second_copy)

@@ -17,7 +17,7 @@ use Rattle.lvm_going.proofs.EarlierLemmas.{one_keeps}
 use Rattle.lvm_ranges.specs.passed.Names.{Asked, AreAnswered, takings}
 use Rattle.lvm_ranges.specs.passed.Tie.{RunsOn}
 use Rattle.lvm_ranges.proofs.passed.Tie.{runs_both, runs_none}
-use Rattle.lvm_handover.proofs.passed.Tie.{runs_one}
+use Rattle.lvm_handover.proofs.passed.Going.{runs_one}
 use Rattle.lvm_handover.specs.Earlier.{AreGone, EarlierStaysBeside, StaysBeside, with_taken}
 
 -- ---- one answer

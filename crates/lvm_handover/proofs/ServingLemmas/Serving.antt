@@ -43,10 +43,11 @@ use Rattle.lvm_session.specs.Sound.{IsAsked, IsCopy, IsFitting, IsGoing, IsOn, I
 use Rattle.lvm_session.proofs.WorkedLemmas.Parts.{idle_is_sound}
 use Rattle.lvm_handover.specs.passed.Names.{IsSettled, IsSoundAtRest}
 use Rattle.lvm_keeps.proofs.Lists.{count_cons}
-use Rattle.lvm_handover.proofs.passed.Tie.{any_one, or_true}
+use Rattle.lvm_num.proofs.AmongLemmas.{any_one}
+use Rattle.std.proofs.lemmas.Bool.{or_left, or_right}
 use Rattle.lvm_volumes.specs.Endings.{HasFresh}
 use Rattle.lvm_handover.specs.Serving.{CommandsServe, GoesOnWith, OriginIsMarked, is_gone}
-use Rattle.lvm_tie.proofs.MarksLemmas.{not_entailed}
+use Rattle.lvm_handover.proofs.MarksLemmas.{not_entailed}
 use Rattle.lvm_keeps.proofs.VotesLemmas.{enough_more, more_votes}
 use Rattle.lvm_handover.proofs.VotesLemmas.{each_row, no_votes, not_enough}
 
@@ -308,9 +309,9 @@ module _ (added : List Pp) (old new : State) (sound : IsSound old) (began : IsSe
         (λ (was : IsTrue (is_wanted_stale old.core p)). ⊎_elim
         (λ (at : calls_stale old.core.origin.table p ≡ true). inl (stale_as p ∙ ap (λ (b : Bool). b || is_among added p) at))
         (λ (rest : (is_missing old.core p.disk ≡ true) ⊎ FailedSince old p.disk). inr (⊎_elim (λ (gone : is_missing old.core p.disk ≡ true). inl (goes.stays p.disk gone)) (λ (failed : FailedSince old p.disk). inr (since p.disk failed)) rest))
-        (sound.origin.stale p (or_true (is_held_stale old.core p) (is_wanted_stale old.core p) (inr was))))
+        (sound.origin.stale p (or_right (is_held_stale old.core p) (is_wanted_stale old.core p) was)))
         (λ (rest : IsTrue (is_among added p) ⊎ IsTrue (is_missing new.core p.disk)). ⊎_elim
-        (λ (one : IsTrue (is_among added p)). inl (stale_as p ∙ or_true (calls_stale old.core.origin.table p) (is_among added p) (inr one)))
+        (λ (one : IsTrue (is_among added p)). inl (stale_as p ∙ or_right (calls_stale old.core.origin.table p) (is_among added p) one))
         (λ (gone : IsTrue (is_missing new.core p.disk)). inr (inl gone)) rest)
         (goes.further p now)
 
@@ -353,7 +354,7 @@ module _ (added : List Pp) (old new : State) (sound : IsSound old) (began : IsSe
   pub served_is_sound : (core : Core) → OriginIsMarked added new.core core → IsSound (state new.device core)
   served_is_sound core served = subst (λ (c : Core). IsSound (state new.device c)) (sym served.is)
       (is_sound core.origin.table served.marks.stale
-      (λ disk gone. served.marks.missing disk ∙ or_true (calls_missing new.core.origin.table disk) (is_gone new.core disk) (inl gone))
+      (λ disk gone. served.marks.missing disk ∙ or_left (calls_missing new.core.origin.table disk) (is_gone new.core disk) gone)
       (λ disk gone. by (calls_missing new.core.origin.table disk) (is_member new.core.descriptor disk) (is_missing new.core disk) (sym (served.marks.missing disk) ∙ gone))
       served.marks.rows)
     where

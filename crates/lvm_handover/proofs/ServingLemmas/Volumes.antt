@@ -24,7 +24,7 @@ use Rattle.lvm_kept.specs.Group.{IsAlike, IsOneOf}
 use Rattle.lvm_status.specs.Update.{members_there}
 use Rattle.lvm_commit.specs.Settling.{NoneIsLeft, SpendsNumbers}
 use Rattle.lvm_commit.proofs.AmongLemmas.{contains, of_map}
-use Rattle.lvm_tie.proofs.passed.Names.{row_is_volume}
+use Rattle.lvm_volumes.proofs.passed.Names.{row_is_volume}
 use Rattle.lvm_write.proofs.NextLemmas.{copy_is_placed, is_member_of}
 use Rattle.lvm_session.specs.State.{Core, State, is_there}
 use Rattle.lvm_session.specs.Judging.{copies_in, is_missing, is_settled, is_wanted_stale}
@@ -33,7 +33,7 @@ use Rattle.lvm_session.specs.Left.{updates_left}
 use Rattle.lvm_session.specs.Marks.{is_among}
 use Rattle.lvm_session.specs.Sound.{IsGoing, IsSound, may_be_fresh, stays_fresh}
 use Rattle.lvm_handover.specs.passed.Names.{KeepsStatus, Leaves, NoPartition, NoVolume, WasLeftBehind, IsSettled}
-use Rattle.lvm_handover.proofs.passed.Tie.{or_true}
+use Rattle.std.proofs.lemmas.Bool.{or_left, or_right}
 use Rattle.lvm_volumes.specs.passed.VolumePlanFaultGroupFault as fault
 use Rattle.lvm_volumes.specs.passed.Names.{NewVolume, HasSpareRoom, row_for, with_volume, without_volume}
 use Rattle.lvm_volumes.proofs.passed.Names.{one_filter, one_insert}
@@ -98,8 +98,8 @@ module _ (old : State) (sound : IsSound old) (began : IsSettled old.core) where
         where
           by : (b : Bool) → stays_fresh old.core q ≡ b → b || list_any (stays_fresh old.core) ps ≡ true → (list_any (stays_fresh old.core) ps ≡ true → list_any (λ (r : Pp). not (is_wanted_stale old.core r)) ps ≡ true)
               → not (is_wanted_stale old.core q) || list_any (λ (r : Pp). not (is_wanted_stale old.core r)) ps ≡ true
-          by true here is rest = or_true (not (is_wanted_stale old.core q)) (list_any (λ (r : Pp). not (is_wanted_stale old.core r)) ps) (inl (second (is_held_stale old.core q) (is_wanted_stale old.core q) here))
-          by false here is rest = or_true (not (is_wanted_stale old.core q)) (list_any (λ (r : Pp). not (is_wanted_stale old.core r)) ps) (inr (rest is))
+          by true here is rest = or_left (not (is_wanted_stale old.core q)) (list_any (λ (r : Pp). not (is_wanted_stale old.core r)) ps) (second (is_held_stale old.core q) (is_wanted_stale old.core q) here)
+          by false here is rest = or_right (not (is_wanted_stale old.core q)) (list_any (λ (r : Pp). not (is_wanted_stale old.core r)) ps) (rest is)
 
   module _ (new : State) (after : IsSettled new.core) (still : StillHeld old new) (added : List Pp) (d : Descriptor) (log : Log) (N : Descriptor → Type 0) (S F : Pp → Type 0) (D : ℕ → Type 0) (more : ℕ)
       (last : List ℕ) (is : new.core ≡ record old.core { descriptor = d; history = log; last = last; status = new.core.status; homes = new.core.homes }) (alike : IsAlike d old.core.descriptor)

@@ -25,11 +25,10 @@ use Rattle.lvm_session.specs.State.{Core, State, is_there, votes_there}
 use Rattle.lvm_session.specs.Enabled.{first_of, has_buffer, is_status_due, landing, or_next, parts_to_settle, parts_to_start, same_status}
 use Rattle.lvm_session.specs.Owners.{flies, same_owner}
 use Rattle.lvm_session.specs.Sound.{IsGoing, IsOn, IsSound, count_if}
-use Rattle.lvm_handover.specs.passed.Names.{IsSettled, HasNoneOpen, IsSoundAtRest}
+use Rattle.lvm_handover.specs.passed.Names.{IsSettled, HasNoneOpen, HasNothingUnderWay, IsSoundAtRest}
 use Rattle.lvm_handover.specs.passed.Driver.{IsDrained}
-use Rattle.lvm_tie.specs.Begins.{IsCoreAtRest}
 use Rattle.lvm_handover.specs.Settling.{DrainedRests, MayHandOver}
-use Rattle.lvm_handover.proofs.SoundLemmas.{buffers_back, none_flown, rest_is_quiet, rest_is_sound}
+use Rattle.lvm_handover.proofs.SoundLemmas.{buffers_back, none_flown, sound_between}
 use Rattle.lvm_handover.proofs.SettlingLemmas.Statuses.{status_is}
 use Rattle.lvm_keeps.proofs.VotesLemmas.{enough_more, more_votes}
 
@@ -128,15 +127,18 @@ module _ (s : State) (sound : IsSound s) (drained : IsDrained s) (closed : HasNo
       by None is = (is, sym (status_is core.status.wanted core.status.committed (not-false (same_status core.status.wanted core.status.committed) (due_as None is))))
       by (Some t) is = absurd (let no = open_none t is (due_as (Some t) is) (going.status.open_still t is) in cc no)
 
-  pub rests : IsCoreAtRest core
-  rests = record { requests = closed.requests; copy = closed.copy; flying = flying; in_flight = settled_status.0; committed = settled_status.1; notes = notes }
+  quiet : HasNothingUnderWay core
+  quiet = record { requests = closed.requests; copy = closed.copy; status = settled_status.0; notes = notes; buffers = buffers_back s sound drained.on closed drained.idle }
+
+  pub rests : HasNothingUnderWay core × (core.flying ≡ []) × (core.status.committed ≡ core.status.wanted)
+  rests = (quiet, flying, settled_status.1)
 
   pub is_settled : MayHandOver s → IsSettled core
-  is_settled may = record { power = drained.on; quiet = rest_is_quiet s sound drained.on rests; committed = settled_status.1; epoch = may.epoch; votes = can_write }
+  is_settled may = record { power = drained.on; quiet = quiet; committed = settled_status.1; epoch = may.epoch; votes = can_write }
 
 -- so it is sound between commands
 pub is_between : (s : State) → IsSound s → MayHandOver s → IsSoundAtRest s
-is_between s sound may = rest_is_sound s sound may.drained.on (rests s sound may.drained may.none)
+is_between s sound may = sound_between s sound may.drained.on may.none may.drained.idle
 
 pub drained_rests : DrainedRests
 drained_rests s sound drained closed = rests s sound drained closed

@@ -25,14 +25,13 @@ use Rattle.lvm_kept.specs.Committed.{IsWithinDisks}
 use Rattle.lvm_kept.specs.Changes.{StayExcused}
 use Rattle.lvm_kept.proofs.ChangesLemmas.Changing.{notes_keep}
 use Rattle.lvm_kept.proofs.CommittedLemmas.Finding.{finding_reads}
-use Rattle.lvm_rest.specs.passed.Names.{ShowsCommitted}
-use Rattle.lvm_rest.proofs.passed.Names.{shows_group, only_found, status_read}
+use Rattle.lvm_even.specs.passed.Names.{ShowsCommitted}
+use Rattle.lvm_even.proofs.passed.Names.{shows_group, only_found, status_read}
 use Rattle.lvm_steps.proofs.GroupLemmas.Members.{one_group, parts_of, member_of_parts}
-use Rattle.lvm_crash.specs.Session.{members_showing}
-use Rattle.lvm_crash.proofs.LawsLemmas.Remaining.{by_id}
-use Rattle.lvm_crash.proofs.GroupLemmas.Lists.{left_of, right_of, both_of, not_so, of_passing}
-use Rattle.lvm_rest.specs.Rest.{MissingAreStale}
-use Rattle.lvm_rest.proofs.Rows.{at_passing, none_passing, passes_none}
+use Rattle.lvm_even.specs.Members.{members_showing}
+use Rattle.lvm_even.proofs.Lists.{by_id, left_of, right_of, both_of, not_so, of_passing}
+use Rattle.lvm_even.specs.Even.{MissingAreStale}
+use Rattle.lvm_even.proofs.Rows.{at_passing, none_passing, passes_none}
 use Rattle.lvm_recover.specs.Recopied.{IsRecopied, HoldFirst, IsToEqual, AreActiveEven, OnlyNotesOf}
 use Rattle.lvm_recover.specs.Keeping.{EqualledIsEven, NotesMayGo}
 use Rattle.lvm_recover.proofs.KeepingLemmas.Copying.{left_passes, from_own}

@@ -9,7 +9,7 @@ use Rattle.lvm_kept.specs.Plans.{Plan, ChangesBy}
 use Rattle.lvm_kept.proofs.CommittedLemmas.Finding.{images_within}
 use Rattle.lvm_kept.proofs.TornLemmas.Standing.{note_shows}
 use Rattle.lvm_steps.proofs.MakingLemmas.Making.{media_may}
-use Rattle.lvm_rest.specs.Rest.{MissingAreStale}
+use Rattle.lvm_even.specs.Even.{MissingAreStale}
 use Rattle.lvm_recover.specs.Keeping.{CopyingStaysKept, EmptyingStaysKept}
 use Rattle.lvm_recover.proofs.KeepingLemmas.Copying.{recopied}
 use Rattle.lvm_recover.proofs.KeepingLemmas.Equalling.{even_there, notes_gone}

@@ -1,5 +1,5 @@
 -- A session at rest is in a good state, and describes its disks.
-use Rattle.std.proofs.Common.{◌≡◌, ◌⊎◌, ◌↔◌, inl, inr, ⊎_elim, ℕ, zero, suc, ◌<◌, ◌≤◌, Bool, true, false, ◌&&◌, not, List, [], Option, Some, None, refl, sym, ap, subst, ◌∙◌, arith, rules}
+use Rattle.std.proofs.Common.{◌≡◌, ◌⊎◌, ◌↔◌, inl, inr, ⊎_elim, ℕ, ◌<◌, ◌≤◌, Bool, true, false, ◌&&◌, not, List, [], Option, Some, None, refl, sym, ap, subst, ◌∙◌, arith}
 use Rattle.std.specs.Prelude.{IsTrue, IsFalse, ◌==◌, if◌then◌else◌, option_map}
 use Rattle.std.proofs.lemmas.Option.{same_Some}
 use Rattle.std.proofs.lemmas.Bool.{eq-eqb, eqb-true, cases_Bool, not_from_false}
@@ -11,7 +11,7 @@ use Rattle.lvm_num.specs.declared.descriptor.Descriptor.{Descriptor}
 use Rattle.lvm_num.specs.declared.status.Status.{Status}
 use Rattle.lvm_num.specs.Disks.{Disks}
 use Rattle.lvm_num.specs.Buffer.{Sector}
-use Rattle.lvm_num.specs.Descriptor.{IsValid, copies_of, is_size}
+use Rattle.lvm_num.specs.Descriptor.{IsValid, copies_of}
 use Rattle.lvm_num.specs.Geometry.{track_group_of, partition_of, volume_blocks}
 use Rattle.lvm_num.specs.Record.{Stamped, stamp_lt}
 use Rattle.lvm_num.specs.Votes.{all_disks, CanWrite}
@@ -33,13 +33,16 @@ use Rattle.lvm_num.proofs.Booleans.{clash_gives}
 use Rattle.lvm_invariant.specs.Found.{Votes, Found}
 use Rattle.lvm_invariant.specs.Good.{Good}
 use Rattle.lvm_invariant.proofs.FirstLemmas.{nothing}
-use Rattle.lvm_crash.specs.Session.{as_marks, marks_shown, AreVotesOf, members_showing, IsPlaceOf, GroupStands, HasVolumes, Describes}
+use Rattle.lvm_crash.specs.Session.{as_marks, marks_shown, AreVotesOf, IsPlaceOf, GroupStands, HasVolumes, Describes}
+use Rattle.lvm_even.specs.Members.{members_showing}
 use Rattle.lvm_crash.proofs.MayLemmas.{loose_is_off}
-use Rattle.lvm_crash.proofs.GroupLemmas.Lists.{left_of, right_of, both_of, not_so}
-use Rattle.lvm_rest.specs.Rest.{IsModelAtRest, SeesThat, AreClosed, HoldsAtRest}
+use Rattle.lvm_even.proofs.Lists.{left_of, right_of, both_of, not_so}
+use Rattle.lvm_rest.specs.Rest.{IsModelAtRest, SeesThat}
+use Rattle.lvm_even.specs.Even.{AreClosed, HoldsAtRest}
 use Rattle.lvm_rest.specs.Good.{RestIsGood, StillMatches, RestMatches}
 use Rattle.lvm_commit.proofs.AmongLemmas.{one_place}
-use Rattle.lvm_rest.proofs.Rows.{at_passing, some_passing, none_passing, passes_none, row_is_volume, block_in}
+use Rattle.lvm_even.proofs.Rows.{at_passing, some_passing, none_passing, passes_none, row_is_volume, mib_positive}
+use Rattle.lvm_rest.proofs.Rows.{block_in}
 use Rattle.lvm_rest.proofs.GoodLemmas.Shapes.{shape_mode}
 use Rattle.lvm_rest.proofs.MayLemmas.{value_uncut, loose_uncut, known_cut}
 
@@ -62,13 +65,6 @@ mode_on Off (inr on) = absurd cc
 
 not_off : (mode : Mode) → IsFalse (is_off mode) → mode ≡ Off → ⊥
 not_off mode on is = clash_gives (is_off mode) (ap is_off is) on
-
-size_positive : (mib : ℕ) → is_size mib ≡ true → 1 ≤ mib
-size_positive zero is = absurd cc
-size_positive (suc mib) is = omega arith
-
-pub mib_positive : (d : Descriptor) → IsValid d → 1 ≤ d.mib
-mib_positive d valid = size_positive d.mib (search (rules, valid.head.size))
 
 block_below : (mib lps block : ℕ) → 1 ≤ mib → partition_of mib block < lps → block < volume_blocks mib lps
 block_below mib lps block some lt = grind (arith)

@@ -28,14 +28,14 @@ use Rattle.lvm_invariant.specs.Found.{Votes}
 use Rattle.lvm_invariant.specs.Good.{Good}
 use Rattle.lvm_invariant.proofs.CrashLemmas.{core_kept}
 use Rattle.lvm_invariant.proofs.FirstLemmas.{nothing}
-use Rattle.lvm_crash.specs.Session.{AreVotesOf, members_showing, Describes}
+use Rattle.lvm_crash.specs.Session.{AreVotesOf, Describes}
+use Rattle.lvm_even.specs.Members.{members_showing}
 use Rattle.lvm_crash.proofs.GroupLemmas.Blocks.{block_of}
-use Rattle.lvm_crash.proofs.GroupLemmas.Lists.{left_of, right_of, both_of, not_so, of_passing}
+use Rattle.lvm_even.proofs.Lists.{left_of, right_of, both_of, not_so, of_passing}
 use Rattle.lvm_crash.proofs.LawsLemmas.Remaining.{remains_kept}
 use Rattle.lvm_rest.specs.Rest.{IsModelAtRest, SeesThat}
 use Rattle.lvm_rest.specs.Good.{GoodIsRest}
-use Rattle.lvm_rest.proofs.Rows.{none_passing}
-use Rattle.lvm_rest.proofs.GoodLemmas.Good.{mib_positive}
+use Rattle.lvm_even.proofs.Rows.{none_passing, mib_positive}
 
 module _ (votes : Votes) (s : ModelState) (group : Descriptor) (status : Status) (there : Disks) (c : Contents) (are : AreVotesOf group votes) (valid : IsValid group) (within : IsWithinDisks c)
     (shows : ShowsCommitted c group status there) (idle : IsModelAtRest s) (sees : SeesThat s group shows.stands there c) (good : Good votes s) (describes : Describes s s.facts group None c) where

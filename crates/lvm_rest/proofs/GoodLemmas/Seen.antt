@@ -19,10 +19,11 @@ use Rattle.lvm_kept.specs.Contents.{Contents}
 use Rattle.lvm_kept.specs.Group.{is_named, IsBlockOf, IsOneOf}
 use Rattle.lvm_invariant.specs.State.{ModelState}
 use Rattle.lvm_num.specs.Modes.{is_active, is_passive}
-use Rattle.lvm_crash.specs.Session.{as_marks, marks_of, view_of, members_showing, IsBlockIn}
-use Rattle.lvm_crash.proofs.GroupLemmas.Lists.{left_of, right_of, both_of}
+use Rattle.lvm_crash.specs.Session.{as_marks, marks_of, view_of, IsBlockIn}
+use Rattle.lvm_even.specs.Members.{members_showing}
+use Rattle.lvm_even.proofs.Lists.{left_of, right_of, both_of}
 use Rattle.lvm_rest.specs.Good.{RestIsSeen}
-use Rattle.lvm_rest.proofs.Rows.{row_is_volume}
+use Rattle.lvm_even.proofs.Rows.{row_is_volume}
 
 -- ---- is it a copy
 

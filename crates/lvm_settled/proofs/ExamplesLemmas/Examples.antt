@@ -39,12 +39,12 @@ use Rattle.lvm_core.specs.Sound.{IsFittingAtRest, HasNothingUnderWay, IsSoundAtR
 use Rattle.lvm_session.specs.Placed.{IsPlaced}
 use Rattle.lvm_core.proofs.SoundLemmas.Beginning.{no_entries}
 use Rattle.lvm_core.proofs.SoundLemmas.Own.{sound_ready}
-use Rattle.lvm_rest.specs.Rest.{IsEven, MissingAreStale}
-use Rattle.lvm_rest.specs.Examples.{Pair, status_of, pair_sizes, framed_group, framed_status, shown_by, media_of, device_of, there_by, history_of, even_pair, naming_note}
-use Rattle.lvm_rest.proofs.ExamplesLemmas.Pairs.{the_descriptor}
-use Rattle.lvm_crash.proofs.WorkedLemmas.Shelf.{group_read, no-magic}
-use Rattle.lvm_rest.proofs.ExamplesLemmas.Sectors.{status_read, group_first, status_first, stands_else, second_zero, second_none, room, told}
-use Rattle.lvm_rest.proofs.ExamplesLemmas.Examples.{valid, there_in, at_both, enough, shows, behind, zeros_even, pairs_rest}
+use Rattle.lvm_even.specs.Even.{IsEven, MissingAreStale}
+use Rattle.lvm_even.specs.Examples.{Pair, status_of, pair_sizes, framed_group, framed_status, shown_by, media_of, device_of, there_by, history_of, even_pair, naming_note}
+use Rattle.lvm_even.proofs.ExamplesLemmas.Pairs.{the_descriptor}
+use Rattle.lvm_even.proofs.ExamplesLemmas.Slots.{group_read, no-magic}
+use Rattle.lvm_even.proofs.ExamplesLemmas.Sectors.{status_read, group_first, status_first, stands_else, second_zero, second_none, room, told}
+use Rattle.lvm_even.proofs.ExamplesLemmas.Examples.{valid, there_in, at_both, enough, shows, behind, zeros_even, pairs_rest}
 use Rattle.lvm_settled.specs.Examples.{core_of, noted_cache, noted_core, IsSettledPair, PairsSettle}
 
 -- ---- who is there

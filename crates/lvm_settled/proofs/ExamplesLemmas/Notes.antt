@@ -12,9 +12,9 @@ use Rattle.lvm_kept.specs.Group.{is_named, names_if}
 use Rattle.lvm_mwc.specs.Cache.{is_named as is_named_by}
 use Rattle.lvm_core.specs.Held.{NotesAreHome}
 use Rattle.lvm_session.specs.State.{Core, is_there}
-use Rattle.lvm_rest.specs.Examples.{Pair, pair_sizes, media_of, shown_by, even_pair, naming}
-use Rattle.lvm_rest.proofs.ExamplesLemmas.Sectors.{told}
-use Rattle.lvm_rest.proofs.ExamplesLemmas.Examples.{there_in, at_both, naming_read, is_naming}
+use Rattle.lvm_even.specs.Examples.{Pair, pair_sizes, media_of, shown_by, even_pair, naming}
+use Rattle.lvm_even.proofs.ExamplesLemmas.Sectors.{told}
+use Rattle.lvm_even.proofs.ExamplesLemmas.Examples.{there_in, at_both, naming_read, is_naming}
 use Rattle.lvm_settled.specs.Examples.{core_of, noted_core, PairsHaveNotesHome}
 use Rattle.lvm_settled.proofs.ExamplesLemmas.Examples.{there_at}
 

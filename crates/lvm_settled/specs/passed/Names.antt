@@ -5,4 +5,4 @@ pub use Rattle.lvm_core.specs.Settled.{IsSettled}
 pub use Rattle.lvm_core.specs.Sound.{HaveAllLanded, IsFittingAtRest, HasNothingUnderWay, IsSoundAtRest}
 pub use Rattle.lvm_core.specs.Starting.{IsRoom, room_of}
 pub use Rattle.lvm_core.specs.declared.parts.Room.{Room}
-pub use Rattle.lvm_rest.specs.Rest.{IsAlone, IsEven, MissingAreStale}
+pub use Rattle.lvm_even.specs.Even.{IsAlone, IsEven, MissingAreStale}

@@ -20,9 +20,9 @@ use Rattle.lvm_num.specs.Status.{IsVolumeNumber, calls_dirty}
 use Rattle.lvm_core.specs.Committing.{Dirties, MayGoClean, Redirties, is_in}
 use Rattle.lvm_core.specs.Leaves.{dirtying}
 use Rattle.lvm_session.specs.State.{Core, State, is_there}
-use Rattle.lvm_rest.specs.Rest.{IsEven}
+use Rattle.lvm_even.specs.Even.{IsEven}
 use Rattle.lvm_write.proofs.WrittenLemmas.Writing.{if_told}
-use Rattle.lvm_settled.proofs.EvenLemmas.Even.{kept_even}
+use Rattle.lvm_volumes.proofs.EvenLemmas.Even.{kept_even}
 use Rattle.lvm_volume_plan.specs.passed.Names.{Always, CommitFault, HasSpareNumbers, HasStated, IsSettled, Leaves, MarkEnds, NoDescriptor, NoPartition}
 use Rattle.lvm_volume_plan.specs.passed.CoreFaultCommitFault as commit
 use Rattle.lvm_volume_plan.specs.declared.fault.GroupFault.{GroupFault}

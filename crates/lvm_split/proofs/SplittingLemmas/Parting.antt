@@ -28,7 +28,7 @@ use Rattle.lvm_core.specs.Leaves.{EntersVolumes, dirtying}
 use Rattle.lvm_core.proofs.LeavesLemmas.{enters_one}
 use Rattle.lvm_session.specs.Judging.{copies_in}
 use Rattle.lvm_session.specs.State.{Core, State, is_there, moment_of}
-use Rattle.lvm_rest.specs.Rest.{IsEven}
+use Rattle.lvm_even.specs.Even.{IsEven}
 use Rattle.lvm_write.proofs.WrittenLemmas.Writing.{told_at}
 use Rattle.lvm_volume_plan.specs.passed.Names.{Always, CommitEnds, CommitFault, HasCommitted, HasStated, IsHeldSince, IsSettled, Leaves, NoPartition, committing}
 use Rattle.lvm_volume_plan.specs.passed.CoreFaultCommitFault as commit

@@ -23,7 +23,7 @@ use Rattle.lvm_status.specs.Update.{members_there}
 use Rattle.lvm_commit.specs.Committed.{HoldsCommitted, ShowsCommitted}
 use Rattle.lvm_commit.specs.LawsOfVolumes.{VolumesServe}
 use Rattle.lvm_commit.specs.Settling.{NoneIsLeft, there}
-use Rattle.lvm_rest.specs.Rest.{IsEven}
+use Rattle.lvm_even.specs.Even.{IsEven}
 use Rattle.lvm_core.specs.Committing.{LetsCommitAmong}
 use Rattle.lvm_session.specs.State.{Core, State, is_there, moment_of}
 use Rattle.lvm_write.proofs.WrittenLemmas.Writing.{if_told, told_at}

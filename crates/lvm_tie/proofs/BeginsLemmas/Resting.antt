@@ -28,9 +28,11 @@ use Rattle.lvm_session.specs.Sound.{IsOn, IsSound}
 use Rattle.lvm_invariant.specs.State.{Groups, Marks, ModelState}
 use Rattle.lvm_invariant.specs.Found.{Votes}
 use Rattle.lvm_invariant.specs.Good.{Good}
-use Rattle.lvm_crash.specs.Session.{AreVotesOf, Describes, as_marks, marks_of, members_showing}
+use Rattle.lvm_crash.specs.Session.{AreVotesOf, Describes, as_marks, marks_of}
+use Rattle.lvm_even.specs.Members.{members_showing}
 use Rattle.lvm_crash.proofs.WorkedLemmas.Worked.{groups_have_votes}
-use Rattle.lvm_rest.specs.Rest.{AreClosed, HasCopies, HoldsAtRest, IsModelAtRest, SeesThat}
+use Rattle.lvm_even.specs.Even.{AreClosed, HoldsAtRest}
+use Rattle.lvm_rest.specs.Rest.{HasCopies, IsModelAtRest, SeesThat}
 use Rattle.lvm_rest.proofs.ClosedLemmas.{calm_is_closed}
 use Rattle.lvm_rest.proofs.GoodLemmas.Good.{rest_is_good}
 use Rattle.lvm_rest.proofs.GoodLemmas.Seen.{rest_is_seen}

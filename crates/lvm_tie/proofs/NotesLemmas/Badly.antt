@@ -44,7 +44,8 @@ use Rattle.lvm_invariant.specs.Events.{EndNote, Want}
 use Rattle.lvm_invariant.specs.Good.{Good}
 use Rattle.lvm_invariant.specs.Want.{Wants, after_wants}
 use Rattle.lvm_invariant.proofs.EventsLemmas.Each.{each_keeps}
-use Rattle.lvm_crash.specs.Session.{Describes, as_marks, marks_of, members_showing}
+use Rattle.lvm_crash.specs.Session.{Describes, as_marks, marks_of}
+use Rattle.lvm_even.specs.Members.{members_showing}
 use Rattle.lvm_crash.specs.Flights.{Matches}
 use Rattle.lvm_crash.proofs.RecordsLemmas.Quiet.{quiet_lasts}
 use Rattle.lvm_crash.specs.Owned.{IsNoteFlight, OnlyUpdateSince}

@@ -28,7 +28,7 @@ use Rattle.lvm_session.specs.Owners.{IsNoteOf, IsTransferOf}
 use Rattle.lvm_session.specs.Sound.{IsOn}
 use Rattle.lvm_keeps_events.proofs.OwnersLemmas.Removal.{taken_out}
 use Rattle.lvm_invariant.specs.State.{Groups, ModelState}
-use Rattle.lvm_crash.specs.Session.{members_showing}
+use Rattle.lvm_even.specs.Members.{members_showing}
 use Rattle.lvm_crash.proofs.RecordsLemmas.Quiet.{update_goes_on}
 use Rattle.lvm_crash.specs.Owned.{IsNoteFlight, OnlyUpdateSince}
 use Rattle.lvm_tie.proofs.StateLemmas.{missing_seen, there_first}

@@ -29,7 +29,8 @@ use Rattle.lvm_invariant.specs.Found.{Votes}
 use Rattle.lvm_invariant.specs.Good.{Good}
 use Rattle.lvm_invariant.specs.Events.{EndNote}
 use Rattle.lvm_invariant.specs.EndNote.{EndsNote, after_note}
-use Rattle.lvm_crash.specs.Session.{Describes, marks_shown, members_showing}
+use Rattle.lvm_crash.specs.Session.{Describes, marks_shown}
+use Rattle.lvm_even.specs.Members.{members_showing}
 use Rattle.lvm_crash.specs.Left.{MayRemain}
 use Rattle.lvm_crash.specs.Flights.{Matches}
 use Rattle.lvm_crash.proofs.LawsLemmas.Images.{images_remain}

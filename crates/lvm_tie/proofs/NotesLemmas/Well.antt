@@ -24,7 +24,8 @@ use Rattle.lvm_invariant.specs.State.{Groups, ModelState}
 use Rattle.lvm_invariant.specs.EndNote.{after_note}
 use Rattle.lvm_invariant.specs.Events.{EndNote}
 use Rattle.lvm_invariant.proofs.EventsLemmas.Each.{each_keeps}
-use Rattle.lvm_crash.specs.Session.{members_showing, Describes}
+use Rattle.lvm_even.specs.Members.{members_showing}
+use Rattle.lvm_crash.specs.Session.{Describes}
 use Rattle.lvm_crash.specs.Owned.{IsNoteFlight}
 use Rattle.lvm_crash.specs.Records.{flying_after}
 use Rattle.lvm_tie.proofs.TiedLemmas.Orderly.{IsNoteOut, orderly_same}

@@ -31,7 +31,8 @@ use Rattle.lvm_invariant.specs.State.{Queued, ModelState}
 use Rattle.lvm_invariant.specs.Updates.{put}
 use Rattle.lvm_invariant.specs.Events.{Event, ModelStep}
 use Rattle.lvm_invariant.proofs.EventsLemmas.Each.{each_keeps}
-use Rattle.lvm_crash.specs.Session.{members_showing, Describes}
+use Rattle.lvm_even.specs.Members.{members_showing}
+use Rattle.lvm_crash.specs.Session.{Describes}
 use Rattle.lvm_crash.specs.Lasting.{AsksOf}
 use Rattle.lvm_crash.proofs.DeviceLemmas.{writes_at}
 use Rattle.lvm_crash.proofs.RecordsLemmas.Quiet.{quiet_lasts, update_goes_on}

@@ -12,9 +12,9 @@ use Rattle.lvm_vol.specs.Legal.{begins_in}
 use Rattle.lvm_disk.specs.Device.{AreSectors}
 use Rattle.lvm_kept.specs.Contents.{note_sector}
 use Rattle.lvm_kept.proofs.TornLemmas.Standing.{zeros-sector}
-use Rattle.lvm_crash.proofs.GroupLemmas.Lists.{left_of, right_of}
+use Rattle.lvm_even.proofs.Lists.{left_of, right_of}
 use Rattle.lvm_session.specs.State.{State, state}
-use Rattle.lvm_rest.specs.Examples.{Pair, device_of, even_pair, framed_group, framed_status, media_of, naming, pair_sizes, past_of}
+use Rattle.lvm_even.specs.Examples.{Pair, device_of, even_pair, framed_group, framed_status, media_of, naming, pair_sizes, past_of}
 use Rattle.lvm_settled.specs.Examples.{IsSettledPair, core_of, noted_core}
 use Rattle.lvm_settled.proofs.ExamplesLemmas.Examples.{pairs_settle}
 use Rattle.lvm_settled.proofs.ExamplesLemmas.Notes.{pairs_have_notes_home}

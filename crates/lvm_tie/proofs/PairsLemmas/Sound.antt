@@ -20,7 +20,7 @@ use Rattle.lvm_session.specs.Sound.{IsFitting, IsSound}
 use Rattle.lvm_session.proofs.WorkedLemmas.Parts.{idle_is_sound, none_written, zeros_at}
 use Rattle.lvm_keeps.specs.Begins.{SessionBegins, HasFirstStatus, IsUnused}
 use Rattle.lvm_keeps.proofs.BeginsLemmas.{beginning_is_sound}
-use Rattle.lvm_rest.specs.Examples.{Pair, device_of, even_pair}
+use Rattle.lvm_even.specs.Examples.{Pair, device_of, even_pair}
 use Rattle.lvm_settled.specs.Examples.{IsSettledPair, core_of}
 use Rattle.lvm_settled.proofs.ExamplesLemmas.Examples.{pairs_settle}
 use Rattle.lvm_crash.proofs.WritingLemmas.{pp_same}

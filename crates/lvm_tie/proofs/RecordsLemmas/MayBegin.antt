@@ -38,7 +38,8 @@ use Rattle.lvm_session.specs.Events.{StartsStatus}
 use Rattle.lvm_session.specs.Sound.{IsSound}
 use Rattle.lvm_invariant.specs.State.{Marks, ModelState}
 use Rattle.lvm_invariant.specs.Found.{Found}
-use Rattle.lvm_crash.specs.Session.{as_marks, marks_shown, members_showing}
+use Rattle.lvm_crash.specs.Session.{as_marks, marks_shown}
+use Rattle.lvm_even.specs.Members.{members_showing}
 use Rattle.lvm_tie.specs.Out.{IsUpdateWrite, is_owed_on}
 use Rattle.lvm_tie.specs.Seen.{update_of}
 use Rattle.lvm_tie.specs.Tied.{IsTied}

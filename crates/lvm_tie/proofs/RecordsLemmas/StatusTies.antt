@@ -40,7 +40,8 @@ use Rattle.lvm_invariant.specs.Good.{Good}
 use Rattle.lvm_invariant.specs.MoveStatus.{moved}
 use Rattle.lvm_invariant.specs.Events.{MoveStatus}
 use Rattle.lvm_invariant.proofs.EventsLemmas.Each.{each_keeps}
-use Rattle.lvm_crash.specs.Session.{marks_of, as_marks, members_showing, Describes}
+use Rattle.lvm_crash.specs.Session.{marks_of, as_marks, Describes}
+use Rattle.lvm_even.specs.Members.{members_showing}
 use Rattle.lvm_crash.proofs.DeviceLemmas.{of_one}
 use Rattle.lvm_crash.proofs.OwnedLemmas.{What, what, Data, OfStep, OfNote, OfUpdate, in_slots}
 use Rattle.lvm_crash.proofs.RecordsLemmas.Quiet.{quiet_lasts, update_goes_on}

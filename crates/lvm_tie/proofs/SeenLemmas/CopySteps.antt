@@ -22,7 +22,8 @@ use Rattle.lvm_session.specs.Events.{flown}
 use Rattle.lvm_session.specs.Sound.{IsSound}
 use Rattle.lvm_invariant.specs.State.{Flying, Going, Groups, Held, Landed, ModelCopy, ModelPhase, Queued, Ready, Stage, ModelState, StepWrite, Todo, WantEntry, covers, has_landed, is_past, is_usable as sees_usable}
 use Rattle.lvm_invariant.specs.Good.{Good}
-use Rattle.lvm_crash.specs.Session.{Describes, members_showing}
+use Rattle.lvm_crash.specs.Session.{Describes}
+use Rattle.lvm_even.specs.Members.{members_showing}
 use Rattle.lvm_tie.specs.Out.{CarriesStep, CarryTheirs, MayUpdate}
 use Rattle.lvm_tie.specs.Seen.{IsRequestAt, IsStepAt, Sees, SeesCopy, SeesRunning, SeesStep, step_write_of, update_of}
 use Rattle.lvm_tie.specs.Tied.{IsTied, ShowsRecords}

@@ -32,7 +32,8 @@ use Rattle.lvm_session.specs.Ends.{Returns, StatusLearns}
 use Rattle.lvm_session.specs.Sound.{IsGoing, IsSound}
 use Rattle.lvm_invariant.specs.State.{Marks, ModelState}
 use Rattle.lvm_invariant.specs.Good.{Good}
-use Rattle.lvm_crash.specs.Session.{Describes, as_marks, marks_of, members_showing}
+use Rattle.lvm_crash.specs.Session.{Describes, as_marks, marks_of}
+use Rattle.lvm_even.specs.Members.{members_showing}
 use Rattle.lvm_crash.proofs.RecordsLemmas.Quiet.{update_goes_on}
 use Rattle.lvm_crash.specs.Owned.{OnlyUpdateSince}
 use Rattle.lvm_crash.specs.Records.{statuses_of}

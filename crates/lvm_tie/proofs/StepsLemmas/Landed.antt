@@ -38,7 +38,8 @@ use Rattle.lvm_invariant.specs.CopyWrite.{copied}
 use Rattle.lvm_invariant.specs.Events.{CopyWrite}
 use Rattle.lvm_invariant.proofs.EventsLemmas.Each.{each_keeps}
 use Rattle.lvm_crash.specs.Left.{KeepsGroup}
-use Rattle.lvm_crash.specs.Session.{Describes, members_showing}
+use Rattle.lvm_crash.specs.Session.{Describes}
+use Rattle.lvm_even.specs.Members.{members_showing}
 use Rattle.lvm_crash.specs.Bringing.{PassesOver}
 use Rattle.lvm_crash.specs.Owned.{IsTransfer, OnlyUpdateSince}
 use Rattle.lvm_crash.specs.Writing.{after_write}

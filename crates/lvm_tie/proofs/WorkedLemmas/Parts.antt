@@ -32,7 +32,7 @@ use Rattle.lvm_session.proofs.WorkedLemmas.Parts.{idle_is_sound, none_written, z
 use Rattle.lvm_session.proofs.WorkedLemmas.Whole.{no_entries}
 use Rattle.lvm_keeps.specs.Begins.{IsUnused, HasFirstStatus, SessionBegins}
 use Rattle.lvm_keeps.proofs.BeginsLemmas.{beginning_is_sound}
-use Rattle.lvm_rest.proofs.ExamplesLemmas.Examples.{valid}
+use Rattle.lvm_even.proofs.ExamplesLemmas.Examples.{valid}
 use Rattle.lvm_tie.specs.Worked.{table, core_of, begun}
 
 -- a disk of 8 MiB has room for 6 partitions of 1 MiB

@@ -22,7 +22,7 @@ use Rattle.lvm_invariant.specs.Want.{Wants}
 use Rattle.lvm_invariant.proofs.EventsLemmas.Each.{want_keeps}
 use Rattle.lvm_invariant.proofs.FirstLemmas.{first_is_good}
 use Rattle.lvm_crash.specs.Session.{marks_of, AreVotesOf, Describes}
-use Rattle.lvm_crash.proofs.GroupLemmas.Lists.{right_of}
+use Rattle.lvm_even.proofs.Lists.{right_of}
 use Rattle.lvm_crash.proofs.WorkedLemmas.Worked.{enough, its_marks, on_either}
 use Rattle.lvm_crash.proofs.WorkedLemmas.Shelf.{image, describes, fits_still}
 use Rattle.lvm_session.proofs.WorkedLemmas.Parts.{not_marked}

@@ -22,11 +22,12 @@ use Rattle.lvm_steps.specs.Behind.{StampsBefore}
 use Rattle.lvm_disk.specs.Device.{IsWholeImage}
 use Rattle.lvm_commit.specs.Committed.{next_stamp}
 use Rattle.lvm_rec.specs.Homes.{next_slot}
-use Rattle.lvm_crash.specs.Session.{members_showing}
+use Rattle.lvm_even.specs.Members.{members_showing}
 use Rattle.lvm_crash.specs.Worked.{Shown, framed_group, framed_status, media_of, status_shown}
 use Rattle.lvm_crash.proofs.WorkedLemmas.Worked.{base}
-use Rattle.lvm_crash.proofs.GroupLemmas.Lists.{left_of}
-use Rattle.lvm_crash.proofs.WorkedLemmas.Shelf.{image, no-magic, second_zero, status_held, status_none, statuses_on, the_status, descriptors}
+use Rattle.lvm_even.proofs.Lists.{left_of}
+use Rattle.lvm_crash.proofs.WorkedLemmas.Shelf.{image, second_zero, status_held, status_none, statuses_on, the_status, descriptors}
+use Rattle.lvm_even.proofs.ExamplesLemmas.Slots.{no-magic}
 use Rattle.lvm_tie.specs.Out.{MayUpdate}
 use Rattle.lvm_tie.specs.Tied.{ShowsRecords}
 use Rattle.lvm_tie.specs.Worked.{shown, core_of}

@@ -13,5 +13,5 @@ pub use Rattle.lvm_keeps_events.proofs.TellingLemmas.Frames.{copy_stays, marked_
 pub use Rattle.lvm_keeps_events.proofs.TellingLemmas.Telling.{turn_tells}
 pub use Rattle.lvm_keeps_events.proofs.TurningLemmas.{turn_ends, turn_keeps}
 pub use Rattle.lvm_rest.proofs.ClosedLemmas.{landed_are_closed}
-pub use Rattle.lvm_rest.proofs.MarkingLemmas.{none_is_left_behind}
-pub use Rattle.lvm_rest.proofs.Rows.{row_is_volume}
+pub use Rattle.lvm_even.proofs.MarkingLemmas.{none_is_left_behind}
+pub use Rattle.lvm_even.proofs.Rows.{row_is_volume}

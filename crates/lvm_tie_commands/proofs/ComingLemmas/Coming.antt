@@ -58,7 +58,7 @@ use Rattle.lvm_tie.specs.Begins.{BeginsSound, StandsAtRest, Start, begun, shown_
 use Rattle.lvm_tie.proofs.BeginsLemmas.Beginning.{begins_good}
 use Rattle.lvm_tie_commands.specs.Coming.{IsBegun, IsDriven, IsMadeEven, LeadsTo, MadeServes, VariedIsMadeEven, VariedOnServes}
 use Rattle.lvm_keeps.proofs.LeftLemmas.Updates.{few_updates}
-use Rattle.lvm_tie.proofs.MarksLemmas.{not_entailed}
+use Rattle.lvm_handover.proofs.MarksLemmas.{not_entailed}
 
 ordered_before : (run : ℕ) (past facts : List Fact) (f : Fact) → Ordered run past (facts ++ f ∷ []) → Ordered run past facts
 ordered_before run past [] f ordered = tt

@@ -24,8 +24,10 @@ use Rattle.lvm_session.specs.Sound.{IsSound}
 use Rattle.lvm_handover.specs.passed.Names.{moment_of, IsHeld, NotesAreHome, StartsHeld, EntersVolumes, IsOfCommand, Leaves, Scope, IsSettled, GroupFault, IfOn, is_over}
 use Rattle.lvm_handover.specs.passed.Volumes.{IfAlone, StillHeld}
 use Rattle.lvm_settled.specs.passed.Names.{IsEven}
-use Rattle.lvm_settled.specs.Even.{AreWanted}
-use Rattle.lvm_handover.specs.passed.Tie.{SparesDescriptors, IsTied, shown_to}
+use Rattle.lvm_volumes.specs.Even.{AreWanted}
+use Rattle.lvm_tie.specs.Spares.{SparesDescriptors}
+use Rattle.lvm_tie.specs.Tied.{IsTied}
+use Rattle.lvm_tie.specs.Begins.{shown_to}
 use Rattle.lvm_tie_commands.specs.Commands.{IsLeftStanding, MayBeCommanded}
 use Rattle.lvm_tie_commands.specs.Standing.{StandsAfter}
 use Rattle.lvm_tie_commands.proofs.LawsOfVolumesLemmas.{only_is_one_on}

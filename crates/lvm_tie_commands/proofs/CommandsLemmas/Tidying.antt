@@ -24,14 +24,14 @@ use Rattle.lvm_commit.specs.Committed.{AreOne}
 use Rattle.lvm_commit.proofs.AmongLemmas.{of_map, of_rows}
 use Rattle.lvm_write.proofs.NextLemmas.{is_member_of}
 use Rattle.lvm_write.proofs.WrittenLemmas.Writing.{if_told}
-use Rattle.lvm_crash.proofs.GroupLemmas.Lists.{one_passes}
+use Rattle.lvm_even.proofs.Lists.{one_passes}
 use Rattle.lvm_tidying.proofs.CleanedLemmas.{are_one}
 use Rattle.lvm_session.specs.State.{State, is_there}
 use Rattle.lvm_volume_plan.specs.CopiesFaults.{has_usable}
 use Rattle.lvm_volumes.specs.Tidying.{lacks_usable, needs_mark, to_tidy, unneeded}
 use Rattle.lvm_volumes.proofs.TidyingLemmas.{some_lacks}
 use Rattle.lvm_handover.specs.passed.Names.{IsSettled}
-use Rattle.lvm_handover.specs.passed.Tie.{shown_to}
+use Rattle.lvm_tie.specs.Begins.{shown_to}
 use Rattle.lvm_settled.specs.passed.Names.{MissingAreStale}
 use Rattle.lvm_settled.proofs.passed.Names.{none_is_left_behind}
 use Rattle.lvm_tie_commands.specs.Commands.{MayBeCommanded, TidyGoesOn}

@@ -23,7 +23,7 @@ use Rattle.lvm_volumes.specs.passed.Names.{further_copies, with_copies, with_map
 use Rattle.lvm_volumes.specs.Mirrors.{AreAdded, IsFurther, IsWithMore, MklvcopyGives, to_add}
 use Rattle.lvm_volumes.proofs.LawsLemmas.{more_are_even}
 use Rattle.lvm_tie_commands.specs.passed.Handover.{IsCommanded}
-use Rattle.lvm_tie_commands.proofs.passed.Settled.{kept_even}
+use Rattle.lvm_volumes.proofs.EvenLemmas.Even.{kept_even}
 use Rattle.lvm_tie_commands.specs.Commands.{IsLeftStandingSince, MayBeCommanded}
 use Rattle.lvm_tie_commands.proofs.CommandsLemmas.Commands.{KeepsEven, keeps_on, left_standing, on_all}
 use Rattle.lvm_tie_commands.specs.Copies.{MklvcopyGoesOn}

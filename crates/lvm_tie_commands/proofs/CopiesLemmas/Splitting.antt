@@ -27,7 +27,7 @@ use Rattle.lvm_split.specs.Premises.{IsEvenOn, MaySplitSince}
 use Rattle.lvm_split.specs.Splitting.{IsSplit, IsVolumeSplit, SplitGives, to_split}
 use Rattle.lvm_split.proofs.SplittingLemmas.Copies as copies_
 use Rattle.lvm_tie_commands.specs.passed.Handover.{IsCommanded}
-use Rattle.lvm_tie_commands.proofs.passed.Settled.{kept_even}
+use Rattle.lvm_volumes.proofs.EvenLemmas.Even.{kept_even}
 use Rattle.lvm_tie_commands.specs.Commands.{IsLeftStandingSince, MayBeCommanded}
 use Rattle.lvm_tie_commands.specs.Copies.{SplitGoesOn}
 use Rattle.lvm_tie_commands.proofs.CommandsLemmas.Commands.{KeepsEven, is_alone, keeps_on, left_standing, on_all}

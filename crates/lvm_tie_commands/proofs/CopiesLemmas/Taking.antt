@@ -15,7 +15,7 @@ use Rattle.lvm_volumes.specs.passed.Names.{first_copies, with_copies, IsEven}
 use Rattle.lvm_volumes.specs.Mirrors.{AreTaken, IsWithFirst, RmlvcopyGives, to_take}
 use Rattle.lvm_volumes.proofs.LawsLemmas.{first_are_even}
 use Rattle.lvm_tie_commands.specs.passed.Handover.{IsCommanded}
-use Rattle.lvm_tie_commands.proofs.passed.Settled.{kept_even}
+use Rattle.lvm_volumes.proofs.EvenLemmas.Even.{kept_even}
 use Rattle.lvm_tie_commands.specs.Commands.{IsLeftStandingSince, MayBeCommanded}
 use Rattle.lvm_tie_commands.proofs.CommandsLemmas.Commands.{KeepsEven, keeps_on, left_standing, on_all}
 use Rattle.lvm_tie_commands.specs.Copies.{RmlvcopyGoesOn}

@@ -41,7 +41,9 @@ use Rattle.lvm_split.specs.Splitting.{IsSplit, IsVolumeSplit}
 use Rattle.lvm_split.proofs.SplittingLemmas.Copies as copies_
 use Rattle.lvm_core.specs.Leaves.{IsOfCommand, KeepsStatus, NoPartition}
 use Rattle.lvm_core.specs.Settled.{IsSettled}
-use Rattle.lvm_handover.specs.passed.Tie.{IsRested, IsCoreAtRest, IsTied, SparesDescriptors, SparesOn}
+use Rattle.lvm_tie.specs.Begins.{IsRested, IsCoreAtRest}
+use Rattle.lvm_tie.specs.Tied.{IsTied}
+use Rattle.lvm_tie.specs.Spares.{SparesDescriptors, SparesOn}
 use Rattle.lvm_tie_commands.specs.Sharing.{HoldTheSame, ShareContent}
 use Rattle.lvm_tie_commands.proofs.CommandsLemmas.Commands.{still_there}
 use Rattle.lvm_tie_commands.proofs.BeginsLemmas.{Held}

@@ -1,5 +1,5 @@
 -- Passed on from the crates below.
-pub use Rattle.lvm_rest.specs.Rest.{IsEven}
+pub use Rattle.lvm_even.specs.Even.{IsEven}
 pub use Rattle.lvm_volume_plan.specs.Copies.{first_copies, further_copies, with_copies, with_map}
 pub use Rattle.lvm_volume_plan.specs.CopiesFaults.{HasFurtherPlaces, MayBeTaken}
 pub use Rattle.lvm_volume_plan.specs.Faults.{HasSpareRoom, IfOn, ends_session, fault_of, is_over}

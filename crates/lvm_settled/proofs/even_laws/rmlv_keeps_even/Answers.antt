@@ -1,5 +1,0 @@
-use Rattle.lvm_settled.proofs.EvenLemmas.Even.{rmlv_keeps_even}
-use Rattle.lvm_settled.proofs.even_laws.rmlv_keeps_even.Goals as goal
-
-pub returns : goal.returns
-returns c = rmlv_keeps_even
