@@ -1,0 +1,5 @@
+use Rattle.lvm_places.proofs.DescribedLemmas.{gone_is_described as lemma_of}
+use Rattle.lvm_places.proofs.laws.gone_is_described.Goals as goal
+
+pub returns : goal.returns
+returns c = lemma_of
