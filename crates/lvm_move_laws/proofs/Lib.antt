@@ -1,0 +1,4 @@
+pub mod MovingLemmas
+pub mod ServingLemmas
+pub mod CommittingLemmas
+pub mod StandingLemmas
