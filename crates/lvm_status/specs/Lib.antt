@@ -7,4 +7,5 @@ pub mod Update
 pub mod Rows
 pub mod Table
 pub mod Rerowed
+pub mod Tables
 pub mod Marking

@@ -10,11 +10,13 @@ pub mod laws;
 mod mark;
 mod rows;
 mod table;
+mod tables;
 mod updater;
 mod writes;
 
 pub use change::{Change, Progress};
 pub use mark::mark_volumes;
 pub use table::StaleTable;
+pub use tables::Tables;
 pub use updater::{Updater, members_there};
 pub use writes::Writes;

@@ -5,6 +5,7 @@ ghost use Rattle.std.specs.Option.{option_copied};
 ghost use Rattle.lvm_status.specs.passed.StaleNames.{PvRow, IsValid, IsLaidOut, partitions_in, total_votes, has, IsLowest};
 ghost use Rattle.lvm_status.specs.Marking.{IsLeftIn, MarksLost, HasMark};
 ghost use Rattle.lvm_status.specs.Members.{HasItsRows, all_rows, all_members};
+ghost use Rattle.lvm_status.specs.Rerowed.{IsRerowed};
 ghost use Rattle.lvm_status.specs.Update.{members_there};
 
 use crate::below::{
@@ -12,6 +13,7 @@ use crate::below::{
 };
 use crate::mark::mark_volumes;
 use crate::table::StaleTable;
+use crate::tables::Tables;
 use crate::{Change, Progress, Writes};
 use std::alloc::Global;
 use std::marker::Model;
@@ -75,6 +77,48 @@ impl Updater {
             stamp: Stamp { epoch: 0, seq: 0 },
             is_known: true,
         })
+    }
+
+    /// The tables of a group to which this one may turn, in whose rows they say what is wanted. It takes all the
+    /// memory that `fill` and `install` need.
+    pub fn tables(&self, alloc: Global, d: &Descriptor) -> Result<Tables, Memory>
+        requires { IsValid d.now }
+        ensures group { IfOk result (λ tables. tables.group ≡ record d.now { lvs = [] }) }
+        ensures told { IfOk result (λ tables. IsRerowed d.now self.now.wanted tables.told) }
+    {
+        let told = self.wanted.with_rows(alloc, d)?;
+        let (group, committed, flying) = first_parts(alloc, &told, d)?;
+        Ok(Tables {
+            group,
+            told,
+            committed,
+            flying,
+        })
+    }
+
+    /// In their own rows the tables say what is wanted by now.
+    pub fn fill(&self, tables: &mut Tables)
+        ensures told { IsRerowed tables.old.group self.now.wanted tables.new.told }
+        ensures group { tables.new.group ≡ tables.old.group }
+    {
+        tables.told.copy_rows(&self.wanted);
+    }
+
+    /// The group has turned to its next descriptor: that one's members, and what is committed and wanted is what
+    /// the tables say. The stamp stays.
+    pub fn install(&mut self, tables: Tables)
+        requires { self.old.in_flight ≡ None }
+        ensures { seen self.new ≡ record (first_updates tables.told tables.group) { stamp = self.old.stamp } }
+    {
+        let mut committed = tables.committed;
+        committed.copy_from(&tables.told);
+        self.group = tables.group;
+        self.committed = committed;
+        self.wanted = tables.told;
+        self.flying = tables.flying;
+        self.is_flying = false;
+        self.writes = Writes::none();
+        self.is_known = true;
     }
 
     /// Whether a table has a row for exactly the members of a group.
