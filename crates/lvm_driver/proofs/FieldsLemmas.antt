@@ -108,8 +108,11 @@ module _ {next : Option Descriptor} (device : Device) (old new : Session) (it : 
 
       opened : OpensMove (counts_seen device (core_of old)) (core_of old) (core_of new) lv lp number to → Stay LeavesMoving device device old new (Some (moved_descriptor old.descriptor lv lp number to))
       opened opens = record {
-        sound = (rooms_stay old new (record { most = ap (λ (c : Core). c.most) opens.is; long = ap (λ (c : Core). length c.pool) opens.is }) same it.0, moving_keeps s (state device (core_of new)) it.1 step,
-          sym (moved_next (counts_seen device (core_of old)) (core_of old) (core_of new) lv lp number to opens));
+        sound = (
+          rooms_stay old new (record { most = ap (λ (c : Core). c.most) opens.is; long = ap (λ (c : Core). length c.pool) opens.is }) same it.0,
+          moving_keeps s (state device (core_of new)) it.1 step,
+          sym (moved_next (counts_seen device (core_of old)) (core_of old) (core_of new) lv lp number to opens),
+        );
         left = moving_one step;
       }
 

@@ -1,6 +1,7 @@
 pub mod passed
 mod RoomsLemmas
 mod FieldsLemmas
+mod MovesLemmas
 mod DrainsLemmas
 mod AnswersLemmas
 pub mod BeginningsLemmas

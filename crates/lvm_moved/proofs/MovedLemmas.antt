@@ -105,8 +105,14 @@ module _ (row : LvRow) (lp number : ℕ) (to : Pp) (laid : IsLaidOut row) (withi
 
   as_long : (m : ℕ) → length (copies_of new m) ≡ length (copies_of row m)
   as_long m =
-      omega (arith, length-take row.copies (drop (m * row.copies) new.map), length-take row.copies (drop (m * row.copies) row.map), length-drop (m * row.copies) new.map, length-drop (m * row.copies) row.map,
-      length-set row.map (place_in_map row lp number) to)
+      omega (
+        arith,
+        length-take row.copies (drop (m * row.copies) new.map),
+        length-take row.copies (drop (m * row.copies) row.map),
+        length-drop (m * row.copies) new.map,
+        length-drop (m * row.copies) row.map,
+        length-set row.map (place_in_map row lp number) to,
+      )
 
   -- the new one, and the others of its logical partition
   the_new : (k : ℕ) (e : Pp) → k ≡ number - 1 → get_or (copies_of new lp) k e ≡ to
