@@ -2,6 +2,7 @@ pub mod passed
 mod RoomsLemmas
 mod FieldsLemmas
 mod MovesLemmas
+mod WorkedMoves
 mod DrainsLemmas
 mod AnswersLemmas
 pub mod BeginningsLemmas

@@ -1,5 +1,5 @@
 //! A session over its shelf.
-ghost use Rattle.std.specs.Prelude.{◌≡◌, ◌≤◌, ◌<◌, ◌+◌, ◌^◌, ℕ, false, Some, [], length, option_copied, slice_get};
+ghost use Rattle.std.specs.Prelude.{◌≡◌, ◌≤◌, ◌<◌, ◌+◌, ◌^◌, ◌↔◌, IsTrue, ℕ, false, Some, [], length, option_copied, slice_get};
 ghost use Rattle.std.specs.List.{list_any};
 ghost use Rattle.lvm_num.specs.Descriptor.{IsValid};
 ghost use Rattle.lvm_num.specs.Votes.{total_votes};
@@ -28,7 +28,7 @@ ghost use Rattle.lvm_session_start.specs.Beginning.{AreFaults, MayBeginSession, 
 ghost use Rattle.lvm_driver.specs.Answers.{IsCausedFor, IsCopyCaused, IsOffSince};
 
 use crate::dues::{all_due, submit, take};
-use crate::moves::prepare_move;
+use crate::moves::{is_apart, prepare_move};
 use lvm_core::{Closed, Prepared, without_freed};
 use lvm_disk::{Arrange, Shelf};
 use lvm_due::left;
@@ -220,6 +220,13 @@ impl<S: Shelf> Driver<S> {
                 answer
             }
         }
+    }
+
+    /// Whether no copy of a logical partition but the one of this number, from 1, stands on the disk of the partition.
+    pub fn is_apart(&self, lv: u16, lp: u32, number: u8, to: Pp) -> bool
+        ensures { IsTrue result ↔ IsApart self.now.1.descriptor lv lp number to }
+    {
+        is_apart(&self.session.descriptor, lv, lp, number, to)
     }
 
     /// Whether a copy moves: a move is open, also one that has ended or is done.

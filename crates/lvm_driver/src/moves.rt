@@ -1,17 +1,21 @@
 //! The descriptor that is to be ready while a copy moves.
-ghost use Rattle.std.specs.Prelude.{◌≡◌, ◌⊎◌, IfErr, IfOk, None, Some};
-ghost use Rattle.lvm_num.specs.Descriptor.{IsValid};
+ghost use Rattle.std.specs.Prelude.{◌≡◌, ◌⊎◌, ◌↔◌, ◌&&◌, ◌==◌, not, IfErr, IfOk, IsTrue, None, Some};
+ghost use Rattle.std.specs.List.{list_any};
+ghost use Rattle.lvm_num.specs.declared.place.Pp.{Pp};
+ghost use Rattle.lvm_num.specs.Descriptor.{IsLaidOut, IsValid, copies_of, is_pp};
 ghost use Rattle.lvm_moved.specs.Moved.{MayStandOn, moved_descriptor};
 ghost use Rattle.lvm_session.specs.declared.answers.OpenFault.TheVariants as denial;
 ghost use Rattle.lvm_session.specs.Asking.{IsAwake};
 ghost use Rattle.lvm_session.specs.Calls.{move_fault};
 ghost use Rattle.lvm_session.specs.Fields.{core_of};
 ghost use Rattle.lvm_keeps_events.specs.Opening.{IsApart};
+ghost use Rattle.lvm_driver.specs.Moves.{AreApartFrom};
 
 use lvm_core::Prepared;
+use lvm_due::is_pp;
 use lvm_keeps_events::below::move_fault;
 use lvm_moved::moved_descriptor;
-use lvm_num::{Descriptor, Memory, Pp};
+use lvm_num::{Descriptor, LvRow, Memory, Pp, copies_of, volume_of};
 use lvm_session::{OpenFault, Session};
 use std::alloc::Global;
 
@@ -57,5 +61,48 @@ pub fn prepare_move(
             Ok(next) => Ok(next),
             Err(Memory) => Err(OpenFault::Memory),
         },
+    }
+}
+
+// Whether another of these copies than this one stands on the disk.
+fn is_other_on(copies: &[Pp], from: Pp, disk: u16) -> bool
+    ensures { result ≡ list_any (λ (p : Pp). not (is_pp p from) && p.disk == disk) copies.now }
+{
+    copies.iter().any(|pp| !is_pp(*pp, from) && pp.disk == disk)
+}
+
+// Whether none of these but the one of this number, from 1, stands on the disk.
+fn are_apart_from(copies: &[Pp], number: u8, disk: u16) -> bool
+    ensures { IsTrue result ↔ AreApartFrom copies.now number disk }
+{
+    if number == 0 {
+        return true;
+    }
+    match copies.get(usize::from(number) - 1) {
+        None => true,
+        Some(from) => !is_other_on(copies, *from, disk),
+    }
+}
+
+// So it is of the copies of a logical partition of the volume, which may not be there.
+fn are_apart_in(row: &LvRow, lp: u32, number: u8, disk: u16) -> bool
+    requires { IsLaidOut row.now }
+    ensures { IsTrue result ↔ AreApartFrom (copies_of row.now lp) number disk }
+{
+    if lp < row.lps {
+        are_apart_from(copies_of(row, lp), number, disk)
+    } else {
+        true
+    }
+}
+
+/// Whether no copy of the logical partition but the one of this number, from 1, stands on the disk of the partition.
+pub fn is_apart(d: &Descriptor, lv: u16, lp: u32, number: u8, to: Pp) -> bool
+    requires { IsValid d.now }
+    ensures { IsTrue result ↔ IsApart d.now lv lp number to }
+{
+    match volume_of(d, lv) {
+        None => true,
+        Some(row) => are_apart_in(row, lp, number, to.disk),
     }
 }
