@@ -27,7 +27,7 @@ impl Prepared {
     ghost use Rattle.lvm_num.specs.DescriptorBytes.{descriptor_bytes};
 
     /// Takes the memory of its record.
-    pub(crate) fn new(alloc: Global, descriptor: Descriptor) -> Result<Prepared, Memory>
+    pub fn new(alloc: Global, descriptor: Descriptor) -> Result<Prepared, Memory>
         requires { IsValid descriptor }
         ensures { IfOk result (λ prepared. prepared ≡ descriptor) }
     {

@@ -1,6 +1,8 @@
 pub mod passed
 mod RoomsLemmas
 mod FieldsLemmas
+mod MovesLemmas
+mod WorkedMoves
 mod DrainsLemmas
 mod AnswersLemmas
 pub mod BeginningsLemmas

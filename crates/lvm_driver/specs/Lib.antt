@@ -2,4 +2,5 @@ pub mod passed
 pub mod Answers
 pub mod Beginnings
 pub mod Drains
+pub mod Moves
 pub mod Showing

@@ -1,5 +1,5 @@
 //! A session over its shelf.
-ghost use Rattle.std.specs.Prelude.{◌≡◌, ◌≤◌, ◌<◌, ◌+◌, ◌^◌, ℕ, false, Some, [], length, option_copied, slice_get};
+ghost use Rattle.std.specs.Prelude.{◌≡◌, ◌≤◌, ◌<◌, ◌+◌, ◌^◌, ◌↔◌, IsTrue, ℕ, false, Some, [], length, option_copied, slice_get};
 ghost use Rattle.std.specs.List.{list_any};
 ghost use Rattle.lvm_num.specs.Descriptor.{IsValid};
 ghost use Rattle.lvm_num.specs.Votes.{total_votes};
@@ -11,63 +11,67 @@ ghost use Rattle.lvm_session.specs.Fields.{core_of};
 ghost use Rattle.lvm_session.specs.Rooms.{HasRooms};
 ghost use Rattle.lvm_session.specs.State.{state, votes_there, state_of};
 ghost use Rattle.lvm_session.specs.declared.answers.CopyState.TheVariants as stage;
-ghost use Rattle.lvm_session.specs.Calls.{OpenGives, SubmitGives, TakeGives, closed, copy_state};
+ghost use Rattle.lvm_session.specs.Calls.{OpenGives, OpenMoveGives, SubmitGives, TakeGives, closed, copy_state};
 ghost use Rattle.lvm_session.specs.Turns.{ArrangesSession, TurnMakes};
 ghost use Rattle.lvm_session.specs.Asking.{IsAsking};
 ghost use Rattle.lvm_session.specs.Left.{left_of};
 ghost use Rattle.lvm_session.specs.Sound.{IsSound, waits};
 ghost use Rattle.lvm_keeps.specs.Falls.{most_left};
+ghost use Rattle.lvm_keeps_events.specs.Opening.{IsApart};
 ghost use Rattle.lvm_keeps_events.specs.passed.Names.{counts_seen};
 ghost use Rattle.lvm_keeps_events.specs.Reading.{GetsItsBlocks};
 ghost use Rattle.lvm_keeps_events.specs.Telling.{TurnTells};
 ghost use Rattle.lvm_going.specs.Frames.{is_moving};
-ghost use Rattle.lvm_going.specs.Going.{LeavesSession, RunsOn};
+ghost use Rattle.lvm_going.specs.Going.{LeavesMoving, LeavesSession, RunsOn};
 ghost use Rattle.lvm_going.specs.Statuses.{AreValid};
 ghost use Rattle.lvm_session_start.specs.Beginning.{AreFaults, MayBeginSession, first_core};
 ghost use Rattle.lvm_driver.specs.Answers.{IsCausedFor, IsCopyCaused, IsOffSince};
 
 use crate::dues::{all_due, submit, take};
-use lvm_core::{Closed, without_freed};
+use crate::moves::{is_apart, prepare_move};
+use lvm_core::{Closed, Prepared, without_freed};
 use lvm_disk::{Arrange, Shelf};
 use lvm_due::left;
 use lvm_history::History;
-use lvm_keeps_events::below::{close_copy, copy_state, open_copy};
-use lvm_num::{Descriptor, Stamp};
+use lvm_keeps_events::below::{close_copy, copy_state, open_copy, open_move};
+use lvm_num::{Descriptor, Pp, Stamp};
 use lvm_path::Ask;
 use lvm_rec::Homes;
-use lvm_session::{AskFault, CopyFault, CopyState, Open, Power, Session, Taken, Turned};
+use lvm_session::{AskFault, CopyFault, CopyState, Open, OpenFault, Power, Session, Taken, Turned};
 use lvm_session_start::{Parts, begin_session};
 use lvm_session_turn::below::Due;
 use lvm_session_turn::{arrange, turn};
 use lvm_status::StaleTable;
+use std::alloc::Global;
 use std::marker::Model;
 
 /// A group that is varied on, over its shelf. Clients submit requests to it and take their answers; what is done
-/// about them is done by turns, one event at a time. No call of it answers for want of memory. Each call leaves a good session good, and
-/// at each moment of it the history is legal and each crash image kept with it; no call makes a descriptor found or
-/// leaves a record of a later moment; and each landing since the session began has its cause. No call opens a move, so no
-/// copy that is open moves.
+/// about them is done by turns, one event at a time. No call of it but `open_move` answers for want of memory. Each call leaves a good
+/// session good, and at each moment of it the history is legal and each crash image kept with it; no call makes a descriptor found or
+/// leaves a record of a later moment; and each landing since the session began has its cause. While a copy moves the descriptor in which
+/// it stands on its new partition is ready.
 #[derive(Drop)]
 pub struct Driver<S: Shelf> {
     shelf: S,
     session: Session,
     due: Due,
+    next: Option<Prepared>,
 }
 
 impl<S: Shelf> Model for Driver<S> {
-    ghost use Rattle.std.specs.Prelude.{◌≡◌, false};
+    ghost use Rattle.std.specs.Prelude.{◌≡◌};
     ghost use Rattle.lvm_session.specs.Fields.{core_of};
     ghost use Rattle.lvm_session.specs.Rooms.{HasRooms};
     ghost use Rattle.lvm_session.specs.State.{Core, state};
     ghost use Rattle.lvm_session.specs.Sound.{IsSound};
     ghost use Rattle.lvm_session_turn.specs.passed.Names.{IsDue};
-    ghost use Rattle.lvm_going.specs.Frames.{is_moving};
+    ghost use Rattle.lvm_going.specs.Moves.{next_of};
 
     ghost Value = { S × Core };
 
     ghost view = { λ d. (d.shelf, core_of d.session) };
 
-    ghost invariant = { λ d. HasRooms d.session × IsSound (state (S.device d.shelf) (core_of d.session)) × IsDue (core_of d.session) d.due × (is_moving (core_of d.session) ≡ false) };
+    ghost invariant = { λ d. HasRooms d.session × IsSound (state (S.device d.shelf) (core_of d.session)) × IsDue (core_of d.session) d.due × (d.next ≡ next_of (core_of d.session)) };
 }
 
 impl<S: Shelf> Driver<S> {
@@ -86,6 +90,7 @@ impl<S: Shelf> Driver<S> {
             shelf,
             session,
             due,
+            next: None,
         }
     }
 
@@ -102,16 +107,17 @@ impl<S: Shelf> Driver<S> {
             shelf,
             session,
             due,
+            next: None,
         }
     }
 
-    /// Its shelf and its session, for another driver.
+    /// Its shelf and its session, of which no copy moves, for another driver.
     pub fn into_parts(self) -> (S, Session)
+        requires unmoved { is_moving self.1 ≡ false }
         ensures shelf { result.0 ≡ self.0 }
         ensures core { core_of result.1 ≡ self.1 }
         ensures rooms { HasRooms result.1 }
         ensures sound { IsSound (state (S.device self.0) self.1) }
-        ensures unmoved { is_moving self.1 ≡ false }
     {
         (self.shelf, self.session)
     }
@@ -184,6 +190,52 @@ impl<S: Shelf> Driver<S> {
         answer
     }
 
+    /// Opens a move of a copy, from 1, of a logical partition, from 0, of a volume: from then on the partition is brought up
+    /// beside it. No other copy of the logical partition stands on its disk.
+    ///
+    /// # Errors
+    ///
+    /// Those of `OpenFault`, in their order; `Memory` where the descriptor isn't ready for want of it. Nothing changes then.
+    pub fn open_move(
+        &mut self,
+        alloc: Global,
+        lv: u16,
+        lp: u32,
+        number: u8,
+        to: Pp,
+    ) -> Result<(), OpenFault>
+        requires unstuck { self.old.1.power ≡ power.Stuck → ⊥ }
+        requires apart { IsApart self.old.1.descriptor lv lp number to }
+        ensures shelf { self.new.0 ≡ self.old.0 }
+        ensures gives { OpenMoveGives (counts_seen (S.device self.old.0) self.old.1) self.old.1 self.new.1 lv lp number to result }
+        ensures off { IsOffSince (state_of S.device self.old) }
+        ensures leaves { LeavesMoving (state_of S.device self.old) (state_of S.device self.new) }
+    {
+        match prepare_move(alloc, &self.session, lv, lp, number, to) {
+            Err(why) => Err(why),
+            Ok(next) => {
+                let answer = open_move(&mut self.session, &self.shelf, lv, lp, number, to);
+                self.due = all_due(&self.session);
+                self.next = Some(next);
+                answer
+            }
+        }
+    }
+
+    /// Whether no copy of a logical partition but the one of this number, from 1, stands on the disk of the partition.
+    pub fn is_apart(&self, lv: u16, lp: u32, number: u8, to: Pp) -> bool
+        ensures { IsTrue result ↔ IsApart self.now.1.descriptor lv lp number to }
+    {
+        is_apart(&self.session.descriptor, lv, lp, number, to)
+    }
+
+    /// Whether a copy moves: a move is open, also one that has ended or is done.
+    pub fn is_moving(&self) -> bool
+        ensures { result ≡ is_moving self.now.1 }
+    {
+        self.next.is_some()
+    }
+
     /// How far the copy is that is open.
     pub fn copy_state(&self) -> CopyState
         ensures is { result ≡ copy_state self.now.1 }
@@ -202,6 +254,7 @@ impl<S: Shelf> Driver<S> {
     {
         close_copy(&mut self.session);
         self.due = all_due(&self.session);
+        self.next = None;
     }
 
     /// Gives an order to the shelf: a disk fails or heals, or the power is cut, which ends the session. Answers
@@ -221,7 +274,6 @@ impl<S: Shelf> Driver<S> {
         ensures is { result ≡ self.now.1.power }
         // What holds of the session at every moment.
         ensures sound { IsSound (state_of S.device self.now) }
-        ensures unmoved { is_moving self.now.1 ≡ false }
     {
         self.session.power
     }

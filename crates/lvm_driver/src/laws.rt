@@ -1,5 +1,6 @@
-//! Laws: which sessions may begin.
+//! Laws: which sessions may begin, and which copies may move.
 ghost use Rattle.lvm_driver.specs.Beginnings.{EachModeBegins, WholeGroupsBegin};
+ghost use Rattle.lvm_driver.specs.Moves.{MirrorsMayMove};
 
 /// A session of a group of which no member is missing may begin, whatever the modes of its volumes.
 pub fn whole_groups_begin()
@@ -9,4 +10,9 @@ pub fn whole_groups_begin()
 /// So may one of three disks with a mirrored volume that is active, passive, or keeps no records.
 pub fn each_mode_begins()
     ensures { EachModeBegins }
+{}
+
+/// The second copy of its volume may begin to move to the third disk.
+pub fn mirrors_may_move()
+    ensures { MirrorsMayMove }
 {}

@@ -6,6 +6,7 @@ mod drain;
 mod driver;
 mod dues;
 pub mod laws;
+mod moves;
 mod shown;
 mod sound;
 

@@ -1,6 +1,7 @@
 //! The answers of a range whose session is gone, taken while another one is on.
-ghost use Rattle.std.specs.Prelude.{◌≡◌};
+ghost use Rattle.std.specs.Prelude.{◌≡◌, false};
 ghost use Rattle.lvm_session.specs.Fields.{core_of};
+ghost use Rattle.lvm_session.specs.Judging.{is_moving};
 ghost use Rattle.lvm_session.specs.Rooms.{HasRooms};
 ghost use Rattle.lvm_ranges.specs.passed.Names.{RangeEnds, IsLaidOut, AreAnswered};
 ghost use Rattle.lvm_handover.specs.Earlier.{AreGone, with_taken};
@@ -29,7 +30,7 @@ fn take_in(
 }
 
 /// Takes the answers of a range whose session is gone, as the history tells of them, in the order of its blocks, while
-/// another session is on. The votes are those as the range's own session ended.
+/// another session is on, of which no copy moves. The votes are those as the range's own session ended.
 ///
 /// # Errors
 ///
@@ -40,6 +41,7 @@ pub fn take_earlier<S: Shelf>(
     have: u32,
     total: u32,
 ) -> (Driver<S>, Result<(), RangeFault>)
+    requires unmoved { is_moving driver.1 ≡ false }
     requires answered { AreAnswered driver.1.history.facts asked.now }
     requires gone { AreGone driver.1 asked.now }
     requires laid { IsLaidOut asked.now }

@@ -11,6 +11,7 @@ use Rattle.lvm_turn.specs.Calls.{Continues, IsIdlePass}
 use Rattle.lvm_turn.specs.Views.{Client, Standing, View, counted, renewed, up_to}
 use Rattle.lvm_turn.proofs.CallsLemmas.Idle.{idle_all}
 use Rattle.lvm_session.specs.declared.open.Power.TheVariants as power
+use Rattle.lvm_driver.specs.passed.Names.{is_moving}
 use Rattle.lvm_session.specs.Sound.{IsSound}
 use Rattle.lvm_session.specs.State.{State}
 use Rattle.lvm_workers.specs.declared.bring.Brought.{Brought}
@@ -42,11 +43,12 @@ ends_so [] f e = cc e
 ends_so (g ∷ before) f e = cc e
 
 -- a sound session without a request serves, from itself
-pub serves_first : (s : State) (lv blocks : ℕ) (load : Load) → IsSound s → (s.core.power ≡ power.Stuck → ⊥) → NoneHasBegun s.core.history.facts → IsServing (plan_of s lv blocks load) s
-serves_first s lv blocks load sound unstuck fresh = record {
+pub serves_first : (s : State) (lv blocks : ℕ) (load : Load) → IsSound s → (s.core.power ≡ power.Stuck → ⊥) → is_moving s.core ≡ false → NoneHasBegun s.core.history.facts → IsServing (plan_of s lv blocks load) s
+serves_first s lv blocks load sound unstuck unmoved fresh = record {
   sound = sound;
   keeps = keeps_none load.sync s;
   unstuck = unstuck;
+  unmoved = unmoved;
   since = [];
   is = sym (append-nil s.core.history.facts);
   clients = tt;

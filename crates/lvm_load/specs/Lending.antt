@@ -19,7 +19,7 @@ use Rattle.lvm_session.specs.Sound.{IsSound, count_if, is_dark}
 use Rattle.lvm_session.specs.State.{Core, State}
 use Rattle.lvm_session.specs.Turns.{TurnMakes}
 use Rattle.lvm_driver.specs.Showing.{counts_of, fixed_by}
-use Rattle.lvm_driver.specs.passed.Names.{LeavesSession}
+use Rattle.lvm_driver.specs.passed.Names.{LeavesSession, is_moving}
 use Rattle.lvm_workers.specs.declared.service.Asked.{Asked}
 use Rattle.lvm_workers.specs.declared.service.Asked.TheVariants as asked
 use Rattle.lvm_workers.specs.declared.service.Seen.{Seen}
@@ -104,12 +104,13 @@ pub record KeepsServing (sync : Bool) (old new : State) : Type 0 where
   pub orders : new.device.orders ≡ old.device.orders
   pub copy : sync ≡ false → old.core.copy ≡ None → new.core.copy ≡ None
 
--- The session has come about from the first by turns, by requests of its clients and by copies that are brought up: so it is sound, good for each moment for which that was good, and its span
--- goes on.
+-- The session has come about from the first by turns, by requests of its clients and by copies that are brought up: so it is sound, good for each moment for which that was good, no copy of it
+-- moves, and its span goes on.
 pub record IsServing (plan : Plan) (s : State) : Type 0 where
   pub sound : IsSound s
   pub keeps : KeepsServing plan.sync plan.first s
   pub unstuck : s.core.power ≡ power.Stuck → ⊥
+  pub unmoved : is_moving s.core ≡ false
   pub since : List Fact
   pub is : s.core.history.facts ≡ plan.first.core.history.facts ++ since
   pub clients : AreOfClients plan.clients since

@@ -3,7 +3,7 @@ ghost use Rattle.std.specs.Prelude.{◌≡◌, ◌≤◌, ◌<◌, ◌+◌, ◌-
 ghost use Rattle.std.specs.Option.{option_map_or};
 ghost use Rattle.lvm_session.specs.declared.open.Power.TheVariants as power;
 ghost use Rattle.lvm_keeps_events.specs.Turning.{is_last};
-ghost use Rattle.lvm_driver.specs.passed.Names.{RunsOn};
+ghost use Rattle.lvm_driver.specs.passed.Names.{RunsOn, is_moving};
 ghost use Rattle.lvm_session.specs.State.{state_of};
 ghost use Rattle.lvm_workers.specs.Draws.{after_draw};
 ghost use Rattle.lvm_load.specs.Waiting.{AreWaiting, AreWaitingBut, OthersWait, landed_by};
@@ -159,6 +159,7 @@ fn might_have_landed(before: u32, after: u32, answer: Turned) -> bool
 /// Makes a turn, and takes what has landed.
 pub(crate) fn turn<S: Shelf>(driver: &mut Driver<S>, clients: &mut [Client], idle: &mut u32)
     requires unstuck { driver.old.1.power ≡ power.Stuck → ⊥ }
+    requires unmoved { is_moving driver.old.1 ≡ false }
     requires few { length clients.old ≤ 64 }
     requires patient { idle.old < 1000000 }
     requires waiting { AreWaiting driver.old.1 clients.old }
@@ -167,7 +168,6 @@ pub(crate) fn turn<S: Shelf>(driver: &mut Driver<S>, clients: &mut [Client], idl
     ensures runs { RunsOn (state_of S.device driver.old) (state_of S.device driver.new) }
 {
     driver.is_sound();
-    driver.moves_none();
     let before = driver.history().len();
     let answer = driver.turn();
     *idle = idle_after(answer, *idle);

@@ -213,7 +213,6 @@ impl<S: Shelf, J: Lending> Service for Lent<S, J> {
 
     fn look(&mut self, client: u32, id: u64) -> Seen {
         self.driver.is_sound();
-        self.driver.moves_none();
         match self.driver.take(client, id) {
             Taken::NotYet => {
                 let answer = self.driver.turn();

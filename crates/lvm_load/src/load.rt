@@ -1,5 +1,6 @@
 //! A load: workers that share a session.
-ghost use Rattle.std.specs.Prelude.{◌≡◌, ◌≤◌, IfSome, vec_capacity};
+ghost use Rattle.std.specs.Prelude.{◌≡◌, ◌≤◌, IfSome, false, vec_capacity};
+ghost use Rattle.lvm_driver.specs.passed.Names.{is_moving};
 ghost use Rattle.lvm_session.specs.declared.open.Power.TheVariants as power;
 ghost use Rattle.lvm_session.specs.State.{state_of};
 ghost use Rattle.lvm_load.specs.Lending.{IsServing};
@@ -71,6 +72,7 @@ fn share_as<S: Shelf + Send, J: Lending + Send, R: Threads + Wait + Sync>(
 ) -> Loaded<S>
     requires plan { J.plan ≡ plan_of (state_of S.device driver) lv blocks load.now }
     requires unstuck { driver.1.power ≡ power.Stuck → ⊥ }
+    requires unmoved { is_moving driver.1 ≡ false }
     requires fresh { NoneHasBegun driver.1.history.facts }
     requires some { (1 ≤ load.now.threads) × (load.now.threads ≤ 128) × (256 ≤ blocks) }
     requires room { 131072 ≤ vec_capacity bytes }
@@ -111,6 +113,7 @@ pub fn share_session<S: Shelf + Send, R: Threads + Wait + Sync>(
     load: &Load,
 ) -> Loaded<S>
     requires unstuck { driver.1.power ≡ power.Stuck → ⊥ }
+    requires unmoved { is_moving driver.1 ≡ false }
     requires fresh { NoneHasBegun driver.1.history.facts }
     requires some { (1 ≤ load.now.threads) × (load.now.threads ≤ 128) × (256 ≤ blocks) }
     requires room { 131072 ≤ vec_capacity bytes }

@@ -1,6 +1,6 @@
 //! A load, from its workers to its totals.
-ghost use Rattle.std.specs.Prelude.{◌≡◌, ◌≤◌, None, true, IfNone, IfSome, vec_capacity};
-ghost use Rattle.lvm_driver.specs.passed.Names.{RunsOn};
+ghost use Rattle.std.specs.Prelude.{◌≡◌, ◌≤◌, None, true, false, IfNone, IfSome, vec_capacity};
+ghost use Rattle.lvm_driver.specs.passed.Names.{RunsOn, is_moving};
 ghost use Rattle.lvm_session.specs.declared.open.Power.TheVariants as power;
 ghost use Rattle.lvm_session.specs.State.{state_of};
 ghost use Rattle.lvm_load.specs.Lending.{KeepsServing};
@@ -148,6 +148,7 @@ pub fn serve_load<S: Shelf + Send, R: Threads + Wait + Sync>(
     load: &Load,
 ) -> Served<S>
     requires unstuck { driver.1.power ≡ power.Stuck → ⊥ }
+    requires unmoved { is_moving driver.1 ≡ false }
     requires fresh { NoneHasBegun driver.1.history.facts }
     requires some { (1 ≤ load.now.threads) × (load.now.threads ≤ 128) × (256 ≤ blocks) }
     requires room { 131072 ≤ vec_capacity bytes }

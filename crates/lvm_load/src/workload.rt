@@ -1,8 +1,8 @@
 //! The workload of one thread.
-ghost use Rattle.std.specs.Prelude.{◌≡◌, ◌≤◌, ◌<◌, length, vec_capacity};
+ghost use Rattle.std.specs.Prelude.{◌≡◌, ◌≤◌, ◌<◌, false, length, vec_capacity};
 ghost use Rattle.std.specs.List.{list_any};
 ghost use Rattle.lvm_session.specs.declared.open.Power.TheVariants as power;
-ghost use Rattle.lvm_driver.specs.passed.Names.{RunsOn};
+ghost use Rattle.lvm_driver.specs.passed.Names.{RunsOn, is_moving};
 ghost use Rattle.lvm_session.specs.State.{state_of};
 ghost use Rattle.lvm_load.specs.Ends.{HasCauses};
 ghost use Rattle.lvm_load.specs.Totals.{entries_since, totals_of};
@@ -44,6 +44,7 @@ fn next_client<S: Shelf>(
     idle: &mut u32,
 ) -> Option<u32>
     requires unstuck { driver.old.1.power ≡ power.Stuck → ⊥ }
+    requires unmoved { is_moving driver.old.1 ≡ false }
     requires few { (1 ≤ length clients.old) × (length clients.old ≤ 64) }
     requires patient { idle.old ≤ 1000000 }
     requires waiting { AreWaiting driver.old.1 clients.old }
@@ -74,6 +75,7 @@ fn draw_all<S: Shelf>(
     bytes: &mut Vec<u8>,
 )
     requires unstuck { driver.old.1.power ≡ power.Stuck → ⊥ }
+    requires unmoved { is_moving driver.old.1 ≡ false }
     requires clients { (1 ≤ length clients.old) × (length clients.old ≤ 64) × AreWaiting driver.old.1 clients.old }
     requires patient { idle.old ≤ 1000000 }
     requires some { 1 ≤ blocks }
@@ -104,6 +106,7 @@ fn is_waiting(clients: &[Client]) -> bool
 // Makes turns until all requests have landed and are taken, or nothing is heard.
 fn finish<S: Shelf>(driver: &mut Driver<S>, clients: &mut [Client], idle: &mut u32)
     requires unstuck { driver.old.1.power ≡ power.Stuck → ⊥ }
+    requires unmoved { is_moving driver.old.1 ≡ false }
     requires few { length clients.old ≤ 64 }
     requires patient { idle.old ≤ 1000000 }
     requires waiting { AreWaiting driver.old.1 clients.old }
@@ -126,6 +129,7 @@ pub fn weave<S: Shelf>(
     bytes: &mut Vec<u8>,
 ) -> Woven
     requires unstuck { driver.old.1.power ≡ power.Stuck → ⊥ }
+    requires unmoved { is_moving driver.old.1 ≡ false }
     requires some { (1 ≤ workload.now.clients) × (workload.now.clients ≤ 64) × (1 ≤ blocks) }
     requires room { 131072 ≤ vec_capacity bytes.old }
     ensures totals { result.totals ≡ totals_of workload.now.requests (entries_since (length driver.old.1.history.facts) driver.new.1.history.facts) }

@@ -1,5 +1,5 @@
 //! A load over a group that stands on the disks.
-ghost use Rattle.std.specs.Prelude.{◌≡◌, ◌≤◌, ◌<◌, ◌^◌, None, IfOk, IfSome, IfNone, IsSomeAnd, IsTrue, vec_capacity};
+ghost use Rattle.std.specs.Prelude.{◌≡◌, ◌≤◌, ◌<◌, ◌^◌, None, IfOk, IfSome, IfNone, IsSomeAnd, IsTrue, false, vec_capacity};
 ghost use Rattle.lvm_num.specs.Descriptor.{IsValid};
 ghost use Rattle.lvm_num.specs.Geometry.{partition_blocks, volume_blocks};
 ghost use Rattle.lvm_num.specs.Name.{is_name};
@@ -7,6 +7,7 @@ ghost use Rattle.lvm_disk.specs.Device.{IsReady};
 ghost use Rattle.lvm_core.specs.Looking.{HasNoVolumeNamed};
 ghost use Rattle.lvm_core.specs.Starting.{IsRoom};
 ghost use Rattle.lvm_session.specs.declared.open.Power.TheVariants as power;
+ghost use Rattle.lvm_session.specs.Judging.{is_moving};
 ghost use Rattle.lvm_session.specs.State.{state_of};
 ghost use Rattle.lvm_load.specs.Loading.{NoneHasBegun};
 ghost use Rattle.lvm_top.specs.passed.GroupLines.{IsBetweenStage, IsFittingStage, IsOfKind, IsStuck, history_in, moment_in, most_refusals, session_in, without_facts};
@@ -135,6 +136,7 @@ fn serve<S: Shelf + Send, R: Threads + Wait + Sync>(
     load: &Load,
 ) -> Loaded<S>
     requires on { driver.1.power ≡ power.On }
+    requires unmoved { is_moving driver.1 ≡ false }
     requires fresh { NoneHasBegun driver.1.history.facts }
     requires some { IsLoadable load.now × (256 ≤ volume.blocks) }
     requires room { 131072 ≤ vec_capacity bytes }
@@ -251,6 +253,7 @@ fn load<S: Shelf + Send, O: Sink, R: Threads + Wait + Sync>(
     load: &Load,
 ) -> Ended<S>
     requires on { driver.1.power ≡ power.On }
+    requires unmoved { is_moving driver.1 ≡ false }
     requires fresh { NoneHasBegun driver.1.history.facts }
     requires some { IsLoadable load.now × (256 ≤ volume.blocks) }
     requires room { 131072 ≤ vec_capacity bytes }

@@ -1,9 +1,10 @@
 //! A workload over a group of its own.
-ghost use Rattle.std.specs.Prelude.{◌≡◌, ◌↔◌, ◌≤◌, ◌-◌, ◌*◌, None, IfOk, OnOk, IsSomeAnd, IsTrue, vec_capacity};
+ghost use Rattle.std.specs.Prelude.{◌≡◌, ◌↔◌, ◌≤◌, ◌-◌, ◌*◌, None, IfOk, OnOk, IsSomeAnd, IsTrue, false, vec_capacity};
 ghost use Rattle.std.specs.String.{string_bytes};
 ghost use Rattle.lvm_disk.specs.Device.{IsReady};
 ghost use Rattle.lvm_core.specs.Starting.{IsRoom};
 ghost use Rattle.lvm_session.specs.declared.open.Power.TheVariants as power;
+ghost use Rattle.lvm_session.specs.Judging.{is_moving};
 ghost use Rattle.lvm_session.specs.Sound.{IsSound};
 ghost use Rattle.lvm_session.specs.State.{state_of};
 ghost use Rattle.lvm_top.specs.passed.Tie.{RunsOn};
@@ -141,6 +142,7 @@ fn serve<S: Shelf>(
     load: &Workload,
 ) -> Served<S>
     requires on { driver.1.power ≡ power.On }
+    requires unmoved { is_moving driver.1 ≡ false }
     requires some { IsDrawable load.now × (1 ≤ blocks) }
     requires room { 131072 ≤ vec_capacity bytes }
     ensures drawn { IsDrawn blocks load.now (state_of S.device driver) (record { device = S.device result.closed.shelf; facts = result.closed.history.facts }) result.woven }
@@ -295,6 +297,7 @@ fn draw<S: Shelf, O: Sink>(
     load: &Workload,
 ) -> Ended<S>
     requires on { driver.1.power ≡ power.On }
+    requires unmoved { is_moving driver.1 ≡ false }
     requires some { IsDrawable load.now × (1 ≤ blocks) }
     requires room { 131072 ≤ vec_capacity bytes }
     ensures drawn { HasServed blocks load.now (state_of S.device driver) (exit_of S.device result (passage O.held O.faults out.old out.new)) }

@@ -1,7 +1,11 @@
 -- A line on a stage whose holder is looked at.
-use Rattle.std.proofs.Common.{◌≡◌, ◌≤◌, ℕ, refl, sym, ◌∙◌, ap, subst}
+use Rattle.std.proofs.Common.{◌≡◌, ◌≤◌, ℕ, Option, None, false, refl, sym, ◌∙◌, ap, subst}
+use Rattle.std.specs.Option.{option_map_or}
 use Rattle.lvm_disk.specs.Device.{Device}
 use Rattle.lvm_vol.specs.Log.{Log}
+use Rattle.lvm_session.specs.declared.bringing.OpenCopy.{OpenCopy}
+use Rattle.lvm_session.specs.Judging.{is_moving}
+use Rattle.lvm_session.specs.State.{Core}
 use Rattle.lvm_group_lines.specs.declared.holder.Holder.{Holder}
 use Rattle.lvm_group_lines.specs.declared.reply.Refusal.{Refusal}
 use Rattle.lvm_group_lines.specs.declared.reply.Reply.{Reply}
@@ -13,6 +17,10 @@ use Rattle.lvm_group_lines.specs.Stages.{IsBetweenStage, IsFittingStage, history
 use Rattle.lvm_group_lines.specs.State.{ScriptState, without_facts}
 use Rattle.lvm_group_lines.specs.declared.reply.Reply.TheVariants as reply
 use Rattle.lvm_group_lines.proofs.EndsLemmas.{refused_ends, still_ends, unasked_as}
+
+-- where no copy is open none moves
+pub none_moves : (core : Core) → core.copy ≡ None → is_moving core ≡ false
+none_moves core none = ap (λ (m : Option OpenCopy). option_map_or (λ (c : OpenCopy). c.moves) m false) none
 
 -- the stage with this holder
 abbrev pub held_by : {S : Type 0} → Stage S → Holder S → Stage S

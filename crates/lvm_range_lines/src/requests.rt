@@ -1,6 +1,7 @@
 //! The lines that read or write a range of a volume.
-ghost use Rattle.std.specs.Prelude.{◌≡◌, ◌≤◌, ◌<◌, ◌++◌, ◌∷◌, ℕ, [], Some, None, vec_capacity, vec_len, IfOk};
+ghost use Rattle.std.specs.Prelude.{◌≡◌, ◌≤◌, ◌<◌, ◌++◌, ◌∷◌, ℕ, [], Some, None, false, vec_capacity, vec_len, IfOk};
 ghost use Rattle.lvm_session.specs.declared.open.Power.TheVariants as power;
+ghost use Rattle.lvm_session.specs.Judging.{is_moving};
 ghost use Rattle.lvm_session.specs.State.{state_of};
 ghost use Rattle.lvm_posts.specs.Pieces.{IsLaidOut};
 ghost use Rattle.lvm_posts.specs.Posts.{AreHeld};
@@ -134,6 +135,7 @@ fn finished(done: Result<Reply, RangeFault>) -> Reply
 // Waits for a write, and answers it.
 fn write_reply<S: Shelf>(driver: &mut Driver<S>, asked: &Asked) -> Result<Reply, RangeFault>
     requires unstuck { driver.old.1.power ≡ power.Stuck → ⊥ }
+    requires unmoved { is_moving driver.old.1 ≡ false }
     requires held { AreHeld driver.old.1 asked.now }
     requires laid { IsLaidOut asked.now }
     ensures finishes { (left : ℕ) × FinishGives asked.now left (state_of S.device driver.old) (state_of S.device driver.new) (ending_of result) × Waited left (state_of S.device driver.old) (state_of S.device driver.new) }
@@ -158,6 +160,7 @@ fn wr_on<S: Shelf>(
     word: u64,
 ) -> Reply
     requires on { driver.old.1.power ≡ power.On }
+    requires unmoved { is_moving driver.old.1 ≡ false }
     requires some { 1 ≤ count }
     requires most { count ≤ 4096 }
     requires room { 131072 ≤ vec_capacity bytes.old }
@@ -212,6 +215,7 @@ fn read_reply<S: Shelf>(
     count: u32,
 ) -> Result<Reply, RangeFault>
     requires unstuck { driver.old.1.power ≡ power.Stuck → ⊥ }
+    requires unmoved { is_moving driver.old.1 ≡ false }
     requires held { AreHeld driver.old.1 asked.now }
     requires laid { IsLaidOut asked.now }
     requires read { IsRead driver.old.1.history.facts asked.now count }
@@ -237,6 +241,7 @@ fn rd_on<S: Shelf>(
     count: u32,
 ) -> Reply
     requires on { driver.old.1.power ≡ power.On }
+    requires unmoved { is_moving driver.old.1 ≡ false }
     requires some { 1 ≤ count }
     requires most { count ≤ 4096 }
     requires room { 131072 ≤ vec_capacity bytes.old }

@@ -1,5 +1,5 @@
 //! The line that waits for all posts, and answers them.
-ghost use Rattle.std.specs.Prelude.{◌≡◌, ◌≤◌, ◌<◌, ◌-◌, ◌^◌, All, [], Some, None, length};
+ghost use Rattle.std.specs.Prelude.{◌≡◌, ◌≤◌, ◌<◌, ◌-◌, ◌^◌, All, [], Some, None, false, length};
 ghost use Rattle.lvm_disk.specs.Counts.{RoseBy};
 ghost use Rattle.lvm_disk.specs.Device.{Device};
 ghost use Rattle.lvm_kept.specs.Moments.{Moment};
@@ -7,6 +7,7 @@ ghost use Rattle.lvm_steps.specs.Moments.{Keeps};
 ghost use Rattle.lvm_steps.specs.Requests.{at};
 ghost use Rattle.lvm_session.specs.declared.open.Power.TheVariants as power;
 ghost use Rattle.lvm_session.specs.Fields.{core_of};
+ghost use Rattle.lvm_session.specs.Judging.{is_moving};
 ghost use Rattle.lvm_session.specs.Rooms.{HasRooms};
 ghost use Rattle.lvm_session.specs.Sound.{IsSound};
 ghost use Rattle.lvm_session.specs.State.{state_of};
@@ -47,6 +48,7 @@ fn await_post<S: Shelf>(
     patience: &mut Patience,
 ) -> Result<(), Stuck>
     requires unstuck { driver.old.1.power ≡ power.Stuck → ⊥ }
+    requires unmoved { is_moving driver.old.1 ≡ false }
     requires laid { IsLaidOut post.now.asked }
     ensures awaits { AwaitsPost post.now patience.new.left (state_of S.device driver.old) (state_of S.device driver.new) result }
     ensures table { KeepsTable driver.old.1 driver.new.1 }
@@ -67,6 +69,7 @@ fn await_posts<S: Shelf>(
     patience: &mut Patience,
 ) -> Result<(), Stuck>
     requires unstuck { driver.old.1.power ≡ power.Stuck → ⊥ }
+    requires unmoved { is_moving driver.old.1 ≡ false }
     requires laid { All (λ post. IsLaidOut post.asked) posts.now }
     ensures awaits { AwaitsPosts posts.now patience.new.left (state_of S.device driver.old) (state_of S.device driver.new) result }
     ensures table { KeepsTable driver.old.1 driver.new.1 }
@@ -174,6 +177,7 @@ fn take_at_rest<S: Shelf>(
 // Takes the answer of a post while a session is on: of that session, or of one that is gone.
 fn take_one<S: Shelf>(driver: Driver<S>, post: &Post) -> (Driver<S>, Result<(), RangeFault>)
     requires on { driver.1.power ≡ power.On }
+    requires unmoved { is_moving driver.1 ≡ false }
     requires posted { IsPosted driver.1.history.facts (Some driver.1) post.now }
     requires landed { post.now.ended ≡ None → HavePiecesLanded post.now.asked (state_of S.device driver) }
     ensures takes { TakesPost post.now (state_of S.device driver) (state_of S.device result.0) result.1 }
@@ -195,6 +199,7 @@ fn take_one<S: Shelf>(driver: Driver<S>, post: &Post) -> (Driver<S>, Result<(), 
 // Takes them all.
 fn take_on<S: Shelf>(alloc: Global, driver: Driver<S>, posts: &[Post]) -> (Driver<S>, Answers)
     requires on { driver.1.power ≡ power.On }
+    requires unmoved { is_moving driver.1 ≡ false }
     requires posted { ArePosted driver.1.history.facts (Some driver.1) posts.now }
     requires landed { AllHaveLanded posts.now (state_of S.device driver) }
     requires few { length posts.now < 2 ^ 32 }
@@ -239,6 +244,7 @@ fn wait_landed<S: Shelf>(
     bytes: Vec<u8>,
 ) -> Answered<S>
     requires unstuck { driver.1.power ≡ power.Stuck → ⊥ }
+    requires unmoved { is_moving driver.1 ≡ false }
     requires fits { IsFittingStage (serving driver posts bytes) }
     requires posted { ArePosted driver.1.history.facts (Some driver.1) posts.items }
     requires landed { AllHaveLanded posts.items (state_of S.device driver) }

@@ -1,7 +1,7 @@
 //! Turns until a range has landed.
 ghost use Rattle.std.specs.Prelude.{◌≡◌, ◌<◌, ◌+◌, ◌-◌, true, false};
 ghost use Rattle.lvm_disk.specs.Paths.{Path};
-ghost use Rattle.lvm_driver.specs.passed.Names.{Spends};
+ghost use Rattle.lvm_driver.specs.passed.Names.{Spends, is_moving};
 ghost use Rattle.lvm_session.specs.declared.open.Power.TheVariants as power;
 ghost use Rattle.lvm_session.specs.State.{state_of};
 ghost use Rattle.lvm_driver.specs.Drains.{IsAny};
@@ -32,7 +32,8 @@ fn is_unfinished<S: Shelf>(driver: &Driver<S>, asked: &Asked) -> bool
     false
 }
 
-/// Makes turns until each piece of the range has landed, and no turn more. Where the session is over, each has.
+/// Makes turns until each piece of the range has landed, and no turn more. Where the session is over, each has. No copy
+/// moves, for which a request might wait.
 ///
 /// # Errors
 ///
@@ -43,6 +44,7 @@ pub fn await_range<S: Shelf>(
     patience: &mut Patience,
 ) -> Result<(), Stuck>
     requires unstuck { driver.old.1.power ≡ power.Stuck → ⊥ }
+    requires unmoved { is_moving driver.old.1 ≡ false }
     requires laid { IsLaidOut asked.now }
     ensures turns { Path (TurnsFor asked.now) IsAny (state_of S.device driver.old) (state_of S.device driver.new) }
     ensures ends { AwaitEnds asked.now patience.new.left (state_of S.device driver.new) result }
@@ -57,7 +59,6 @@ pub fn await_range<S: Shelf>(
             return Err(Stuck);
         }
         driver.is_sound();
-        driver.moves_none();
         match driver.turn() {
             Turned::Moved => {}
             Turned::Idle => patience.left -= 1,

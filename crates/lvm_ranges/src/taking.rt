@@ -1,6 +1,6 @@
 //! The answers of a range that has landed.
-ghost use Rattle.std.specs.Prelude.{◌≡◌, ◌<◌, ◌+◌, ◌-◌, Option};
-ghost use Rattle.lvm_driver.specs.passed.Names.{Spends, RunsOn};
+ghost use Rattle.std.specs.Prelude.{◌≡◌, ◌<◌, ◌+◌, ◌-◌, Option, false};
+ghost use Rattle.lvm_driver.specs.passed.Names.{Spends, RunsOn, is_moving};
 ghost use Rattle.lvm_session.specs.declared.open.Power.TheVariants as power;
 ghost use Rattle.lvm_session.specs.State.{state_of};
 ghost use Rattle.lvm_posts.specs.Posts.{AreHeld};
@@ -75,6 +75,7 @@ pub fn finish_range<S: Shelf>(
     patience: &mut Patience,
 ) -> Result<(), RangeFault>
     requires unstuck { driver.old.1.power ≡ power.Stuck → ⊥ }
+    requires unmoved { is_moving driver.old.1 ≡ false }
     requires held { AreHeld driver.old.1 asked.now }
     requires laid { IsLaidOut asked.now }
     ensures gives { FinishGives asked.now patience.new.left (state_of S.device driver.old) (state_of S.device driver.new) result }

@@ -99,6 +99,7 @@ module _ (plan : Plan) (client : ℕ) (old new : State) (was : IsServing plan ol
     sound = sound;
     keeps = keeps_both plan.sync plan.first old new was.keeps keeps;
     unstuck = unstuck_still old new keeps.leaves was.unstuck;
+    unmoved = (path_shape keeps.leaves).moves was.unmoved;
     since = was.since ++ adds.more;
     is = adds.is ∙ ap (λ (l : List Fact). l ++ adds.more) was.is ∙ append_assoc plan.first.core.history.facts was.since adds.more;
     clients = of_both plan.clients was.since adds.more was.clients adds.clients;

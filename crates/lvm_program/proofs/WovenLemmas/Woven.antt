@@ -22,7 +22,9 @@ use Rattle.lvm_parse.specs.declared.rest.Misfit.{Misfit}
 use Rattle.lvm_core.specs.declared.parts.Room.{Room}
 use Rattle.lvm_posts.specs.declared.posts.Post.{Post}
 use Rattle.lvm_session.specs.declared.open.Power.TheVariants as power
+use Rattle.lvm_session.specs.Judging.{is_moving}
 use Rattle.lvm_session.specs.State.{Core, State, state}
+use Rattle.lvm_range_lines.proofs.EndsLemmas.{none_moves}
 use Rattle.lvm_load.specs.declared.totals.Totals.{Totals}
 use Rattle.lvm_load.specs.declared.workload.Workload.{Workload}
 use Rattle.lvm_load.specs.declared.workload.Woven.{Woven}
@@ -329,6 +331,9 @@ module _ {S : Type 0} (device : S → Device) (old : Stage S) (h : Holder S) (is
 -- a session that serves requests is on between two lines
 pub serving_on : {S : Type 0} (device : S → Device) (old : Stage S) (driver : S × Core) → old.holder ≡ holder.Serving driver → IsBetweenStage device old → driver.1.power ≡ power.On
 serving_on device old driver is between = (between_at device old (holder.Serving driver) is between).session.power
+
+pub serving_unmoved : {S : Type 0} (device : S → Device) (old : Stage S) (driver : S × Core) → old.holder ≡ holder.Serving driver → IsBetweenStage device old → is_moving driver.1 ≡ false
+serving_unmoved device old driver is between = none_moves driver.1 (between_at device old (holder.Serving driver) is between).session.copy
 
 -- ---- the end
 

@@ -26,4 +26,4 @@ from_parts-requires-clause-rooms g c = c.take_in-session.ensures.rooms c.into_pa
 
 pub from_parts-requires-clause-unmoved : goal.from_parts-requires-clause-unmoved
 from_parts-requires-clause-unmoved g c =
-    ap is_moving c.take_in-session.ensures.core ∙ ap is_moving c.into_parts-shelf.ensures.core ∙ c.into_parts-shelf.ensures.unmoved
+    ap is_moving c.take_in-session.ensures.core ∙ ap is_moving c.into_parts-shelf.ensures.core ∙ c.requires.unmoved

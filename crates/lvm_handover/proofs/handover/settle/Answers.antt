@@ -1,4 +1,6 @@
-use Rattle.std.proofs.Common.{sym, subst}
+use Rattle.std.proofs.Common.{Option, false, sym, ap, subst}
+use Rattle.std.specs.Option.{option_map_or}
+use Rattle.lvm_session.specs.declared.bringing.OpenCopy.{OpenCopy}
 use Rattle.lvm_session.specs.Fields.{core_of}
 use Rattle.lvm_session.specs.State.{Core, state}
 use Rattle.lvm_handover.specs.passed.Names.{IsSoundAtRest}
@@ -19,3 +21,6 @@ from_parts-requires-clause-sound g c =
 
 pub returns-clause-sound : goal.returns-clause-sound
 returns-clause-sound g c = c.into_parts-shelf.ensures.sound
+
+pub into_parts-shelf-requires-clause-unmoved : goal.into_parts-shelf-requires-clause-unmoved
+into_parts-shelf-requires-clause-unmoved g c = ap (λ (m : Option OpenCopy). option_map_or (λ (k : OpenCopy). k.moves) m false) c.requires.may.none.copy

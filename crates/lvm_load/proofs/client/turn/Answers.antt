@@ -40,7 +40,7 @@ returns-then-might_have_landed-clause-turns g c =
     let lands : might_have_landed old mid c.turn-answer.result ≡ c.might_have_landed.result = ap₂ (λ m n. nat_lt m n || is_last c.turn-answer.result) (sym before) (sym after) ∙ sym c.might_have_landed.ensures in
     record {
       sound = c.is_sound.ensures;
-      unmoved = c.moves_none.ensures;
+      unmoved = c.requires.unmoved;
       mid = mid;
       answer = c.turn-answer.result;
       made = c.turn-answer.ensures.makes;
@@ -74,7 +74,7 @@ returns-else-might_have_landed-clause-turns g c =
     let lands : might_have_landed old mid c.turn-answer.result ≡ c.might_have_landed.result = ap₂ (λ m n. nat_lt m n || is_last c.turn-answer.result) (sym before) (sym after) ∙ sym c.might_have_landed.ensures in
     record {
       sound = c.is_sound.ensures;
-      unmoved = c.moves_none.ensures;
+      unmoved = c.requires.unmoved;
       mid = mid;
       answer = c.turn-answer.result;
       made = c.turn-answer.ensures.makes;

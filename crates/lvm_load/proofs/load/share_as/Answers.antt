@@ -19,7 +19,7 @@ new-requires-clause-always g c =
     let plan = c.requires.plan in
     let few = c.requires.some.1 in
     let clients = ap (λ (p : Plan). p.clients) plan in (
-      subst (λ (p : Plan). IsServing p first) (sym plan) (serves_first first c.args.lv c.args.blocks c.args.load.now c.is_sound.ensures c.requires.unstuck c.requires.fresh),
+      subst (λ (p : Plan). IsServing p first) (sym plan) (serves_first first c.args.lv c.args.blocks c.args.load.now c.is_sound.ensures c.requires.unstuck c.requires.unmoved c.requires.fresh),
       c.requires.room,
       sym (ap (λ (p : Plan). p.lv) plan),
       sym (ap (λ (p : Plan). p.blocks) plan),
@@ -35,7 +35,7 @@ returns-in-Err-clause-serves g c =
     let plan = c.requires.plan in
     let driver = c.given_back.ensures.driver ∙ ap (λ (l : Lent g.row.S.Denot g.row.J.Denot). l.driver) c.in-Err.ensures.err in
     subst (λ d. IsServing g.J.Lending.plan (state_of g.S.Shelf.device d)) (sym driver)
-    (subst (λ (p : Plan). IsServing p first) (sym plan) (serves_first first c.args.lv c.args.blocks c.args.load.now c.is_sound.ensures c.requires.unstuck c.requires.fresh))
+    (subst (λ (p : Plan). IsServing p first) (sym plan) (serves_first first c.args.lv c.args.blocks c.args.load.now c.is_sound.ensures c.requires.unstuck c.requires.unmoved c.requires.fresh))
 
 pub new-requires-clause-clients : goal.new-requires-clause-clients
 new-requires-clause-clients g c = subst (λ n. 0 < n) (sym c.seats.ensures) (seats_some c.args.load.now.sync c.args.load.now.threads c.requires.some.0)

@@ -1,6 +1,6 @@
 use Rattle.std.proofs.Common.{◌≡◌, ◌+◌, Bool, true, false, ℕ, Option, refl, sym, ◌∙◌, subst, arith}
 use Rattle.lvm_session.specs.State.{state_of}
-use Rattle.lvm_driver.proofs.passed.Names.{runs_both}
+use Rattle.lvm_driver.proofs.passed.Names.{path_frames, runs_both}
 use Rattle.lvm_load.specs.Weaving.{Draws, NamesNext, NoneDrawn, OneDrawn, Unheard, weaving}
 use Rattle.lvm_load.proofs.WeavingLemmas.{and_then, at_first}
 use Rattle.lvm_load.proofs.WaitingLemmas.Waiting.{asks_wait, named_free}
@@ -75,3 +75,6 @@ loop-drawn-preserved g c =
       c.ask.ensures.room,
       asks_wait c.args.lv c.args.blocks c.in-Some.client c.next_client.new.rng mid new c.next_client.new.clients c.ask.new.clients c.ask.result c.next_client.ensures.waiting (named_free start named c.in-Some.client c.in-Some.ensures.gives) c.ask.ensures.asks,
     )
+
+pub next_client-requires-clause-unmoved : goal.next_client-requires-clause-unmoved
+next_client-requires-clause-unmoved g c = (path_frames c.loop-drawn.invariant.1.runs).keeps.moves c.requires.unmoved

@@ -1,6 +1,7 @@
 use Rattle.std.proofs.Common.{sym, ◌∙◌}
 use Rattle.std.proofs.lemmas.Bool.{lt-leb}
 use Rattle.lvm_session.specs.State.{state_of}
+use Rattle.lvm_driver.proofs.passed.Names.{path_frames}
 use Rattle.lvm_load.specs.Weaving.{NoTurn, OneTurn}
 use Rattle.lvm_load.proofs.WeavingLemmas.{and_then, at_first, turn_bound}
 use Rattle.lvm_load.proofs.WaitingLemmas.Waiting.{turn_waits}
@@ -20,3 +21,6 @@ loop-driver-preserved g c =
       turn_bound old new c.loop-driver.clients c.turn.new.clients c.loop-driver.idle c.turn.new.idle c.turn.ensures.turns few,
       turn_waits old new c.loop-driver.clients c.turn.new.clients c.loop-driver.idle c.turn.new.idle c.loop-driver.invariant.3 c.turn.ensures.turns,
     )
+
+pub turn-requires-clause-unmoved : goal.turn-requires-clause-unmoved
+turn-requires-clause-unmoved g c = (path_frames c.loop-driver.invariant.1.runs).keeps.moves c.requires.unmoved

@@ -3,6 +3,7 @@ use Rattle.std.proofs.lemmas.Bool.{lt-leb}
 use Rattle.std.proofs.lemmas.Nat.{mod_below}
 use Rattle.rand_pcg.specs.Lcg.{Lcg}
 use Rattle.lvm_session.specs.State.{state_of}
+use Rattle.lvm_driver.proofs.passed.Names.{path_frames}
 use Rattle.lvm_load.specs.Weaving.{NoWord, OneWord, open_of, weaving}
 use Rattle.lvm_load.proofs.WeavingLemmas.{and_then, at_first, turn_bound}
 use Rattle.lvm_load.proofs.WaitingLemmas.Waiting.{turn_waits}
@@ -51,3 +52,6 @@ loop-idle-preserved g c =
       turn_bound old new clients c.turn.new.clients c.loop-idle.idle c.turn.new.idle c.turn.ensures.turns few,
       turn_waits old new clients c.turn.new.clients c.loop-idle.idle c.turn.new.idle c.loop-idle.invariant.3 c.turn.ensures.turns,
     )
+
+pub turn-requires-clause-unmoved : goal.turn-requires-clause-unmoved
+turn-requires-clause-unmoved g c = (path_frames c.loop-idle.invariant.1.runs).keeps.moves c.requires.unmoved

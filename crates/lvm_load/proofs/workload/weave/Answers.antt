@@ -51,3 +51,6 @@ returns-clause-runs g c =
 
 pub finish-requires-clause-unstuck : goal.finish-requires-clause-unstuck
 finish-requires-clause-unstuck g c = stays_unstuck c.args.driver.now.1 c.draw_all.new.driver.1 (path_frames c.draw_all.ensures.runs.0).keeps.power c.requires.unstuck
+
+pub finish-requires-clause-unmoved : goal.finish-requires-clause-unmoved
+finish-requires-clause-unmoved g c = (path_frames c.draw_all.ensures.runs.0).keeps.moves c.requires.unmoved

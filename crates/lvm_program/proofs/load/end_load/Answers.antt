@@ -4,7 +4,7 @@ use Rattle.lvm_session.specs.State.{Core}
 use Rattle.lvm_top.specs.passed.HolderVariants as holder
 use Rattle.lvm_top.specs.passed.GroupLines.{Holder, session_of}
 use Rattle.lvm_program.specs.Loaded.{HoldsVolume, NoSuchVolume, NotVaried}
-use Rattle.lvm_program.proofs.WovenLemmas.Woven.{ok_heard, rooms_at, serving_on}
+use Rattle.lvm_program.proofs.WovenLemmas.Woven.{ok_heard, rooms_at, serving_on, serving_unmoved}
 use Rattle.lvm_program.proofs.LoadedLemmas.Loaded.{serving_loads}
 use Rattle.lvm_program.proofs.load.end_load.Goals as goal
 
@@ -28,3 +28,6 @@ returns-clause-ends g c =
 
 pub returns-clause-rooms : goal.returns-clause-rooms
 returns-clause-rooms g c = rooms_at g.S.Shelf.device c.args.stage (holder.Serving c.in-Serving.driver) c.in-Serving.is _ c.load.ensures.rooms
+
+pub load-requires-clause-unmoved : goal.load-requires-clause-unmoved
+load-requires-clause-unmoved g c = λ κs outlives. serving_unmoved g.S.Shelf.device c.args.stage c.in-Serving.driver c.in-Serving.is (c.requires.between (λ stuck. ok_heard (sym (c.is_ok.ensures.0 c.if-not-is_ok.false) ∙ stuck)))

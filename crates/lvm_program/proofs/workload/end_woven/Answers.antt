@@ -1,7 +1,7 @@
 use Rattle.std.proofs.Common.{◌∙◌, sym}
 use Rattle.lvm_top.specs.passed.HolderVariants as holder
 use Rattle.lvm_program.specs.Woven.{NotMade}
-use Rattle.lvm_program.proofs.WovenLemmas.Woven.{ok_heard, rooms_at, serving_ends, serving_on}
+use Rattle.lvm_program.proofs.WovenLemmas.Woven.{ok_heard, rooms_at, serving_ends, serving_on, serving_unmoved}
 use Rattle.lvm_program.proofs.workload.end_woven.Goals as goal
 
 pub returns-then-not-is_ok-clause-ends : goal.returns-then-not-is_ok-clause-ends
@@ -16,3 +16,6 @@ returns-clause-ends g c =
 
 pub returns-clause-rooms : goal.returns-clause-rooms
 returns-clause-rooms g c = rooms_at g.S.Shelf.device c.args.made.stage (holder.Serving c.in-Serving.driver) c.in-Serving.is _ c.draw.ensures.rooms
+
+pub draw-requires-clause-unmoved : goal.draw-requires-clause-unmoved
+draw-requires-clause-unmoved g c = serving_unmoved g.S.Shelf.device c.args.made.stage c.in-Serving.driver c.in-Serving.is (c.requires.between (λ stuck. ok_heard (sym (c.is_ok.ensures.0 c.if-not-is_ok.false) ∙ stuck)))

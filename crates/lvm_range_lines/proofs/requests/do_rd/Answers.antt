@@ -5,7 +5,7 @@ use Rattle.lvm_group_lines.specs.declared.reply.Reply.TheVariants as reply
 use Rattle.lvm_group_lines.specs.Stages.{ComesTo, IsOfKind, session_of}
 use Rattle.lvm_group_lines.specs.declared.holder.Holder.{Holder}
 use Rattle.lvm_range_lines.specs.Requests.{RdDoes, NotThere, WhileOff}
-use Rattle.lvm_range_lines.proofs.EndsLemmas.{between_now, ends_with, fits_now, refused_as}
+use Rattle.lvm_range_lines.proofs.EndsLemmas.{between_now, ends_with, fits_now, none_moves, refused_as}
 use Rattle.lvm_range_lines.proofs.LookingLemmas.{none_named}
 use Rattle.lvm_range_lines.proofs.requests.do_rd.Goals as goal
 
@@ -31,3 +31,6 @@ pub returns-in-Serving : goal.returns-in-Serving
 returns-in-Serving g c = λ stage left.
     ends_with g.S.Shelf.device (λ log. RdDoes c.args.name c.args.at c.args.count) c.args.stage.now c.requires.fits c.requires.between (holder.Serving c.in-Serving.driver) c.in-Serving.is stage c.rd_on.result
     (c.rd_on.ensures c.args.stage.now.posts (fits_now g.S.Shelf.device (λ log. RdDoes c.args.name c.args.at c.args.count) c.args.stage.now c.requires.fits c.requires.between (holder.Serving c.in-Serving.driver) c.in-Serving.is) (between_now g.S.Shelf.device (λ log. RdDoes c.args.name c.args.at c.args.count) c.args.stage.now c.requires.fits c.requires.between (holder.Serving c.in-Serving.driver) c.in-Serving.is) stage left)
+
+pub rd_on-requires-clause-unmoved : goal.rd_on-requires-clause-unmoved
+rd_on-requires-clause-unmoved g c = none_moves c.in-Serving.driver.1 (between_now g.S.Shelf.device (λ log. RdDoes c.args.name c.args.at c.args.count) c.args.stage.now c.requires.fits c.requires.between (holder.Serving c.in-Serving.driver) c.in-Serving.is).session.copy

@@ -7,6 +7,7 @@ use Rattle.lvm_group_lines.specs.declared.reply.Refusal.{Refusal}
 use Rattle.lvm_group_lines.specs.Stages.{HaveRooms}
 use Rattle.lvm_group_lines.specs.declared.reply.Reply.TheVariants as reply
 use Rattle.lvm_range_lines.specs.Requests.{AsksByName, Finishes, NotBegun, ShowsBlocks}
+use Rattle.lvm_group_lines.proofs.passed.Tie.{path_frames}
 use Rattle.lvm_range_lines.proofs.RepliesLemmas.{blocks_heard, carried_by, not_asked_heard}
 use Rattle.lvm_range_lines.proofs.RequestsLemmas.Lines.{asks_at, at_range, blocks_few, finished_ends}
 use Rattle.lvm_range_lines.proofs.RequestsLemmas.Refusing.{refusing_ends}
@@ -44,3 +45,6 @@ returns-in-Err g c = λ posts fits between stage left.
 
 pub read_reply-done-requires-clause-read : goal.read_reply-done-requires-clause-read
 read_reply-done-requires-clause-read g c = c.in-Ok.ensures.asked.read refl
+
+pub read_reply-done-requires-clause-unmoved : goal.read_reply-done-requires-clause-unmoved
+read_reply-done-requires-clause-unmoved g c = (path_frames c.in-Ok.ensures.runs).keeps.moves c.requires.unmoved

@@ -8,6 +8,7 @@ use Rattle.lvm_group_lines.specs.Stages.{HaveRooms}
 use Rattle.lvm_group_lines.specs.Replies.{is_unheard, most_refusals}
 use Rattle.lvm_group_lines.specs.declared.reply.Reply.TheVariants as reply
 use Rattle.lvm_range_lines.specs.Requests.{AsksByName, Finishes, NotBegun}
+use Rattle.lvm_group_lines.proofs.passed.Tie.{path_frames}
 use Rattle.lvm_range_lines.proofs.RepliesLemmas.{carried_by, not_asked_heard}
 use Rattle.lvm_range_lines.proofs.RequestsLemmas.Lines.{finished_ends}
 use Rattle.lvm_range_lines.proofs.RequestsLemmas.Refusing.{refusing_ends}
@@ -42,3 +43,6 @@ returns-in-Err g c = λ posts fits between stage left.
     c.ask.new.driver c.in-Err.why asks made.shelf made.posts made.runs made.on c.ask.new.bytes rooms stage (reply.Refused c.in-Err.why) refl (left.rooms room rooms)
     (carried_by device c.ask.new.driver posts c.ask.new.bytes (reply.Refused c.in-Err.why) (reply.Refused c.in-Err.why) stage refl
     (not_asked_heard c.args.name (Some c.args.word) c.args.at c.args.count c.args.driver.now.1 c.ask.new.driver.1 c.in-Err.why asks) left.comes)
+
+pub write_reply-done-requires-clause-unmoved : goal.write_reply-done-requires-clause-unmoved
+write_reply-done-requires-clause-unmoved g c = (path_frames c.in-Ok.ensures.runs).keeps.moves c.requires.unmoved

@@ -50,3 +50,6 @@ returns-in-Err g c =
       runs = runs_now c.args.posts.now first old new patience c.loop-post.patience.left c.await_post.new.patience.left c.loop-post.post-index first_post c.loop-post-test.true so_far made.table made.runs made.patience made.waited;
       waited = waited_now c.args.posts.now first old new patience c.loop-post.patience.left c.await_post.new.patience.left c.loop-post.post-index first_post c.loop-post-test.true so_far made.table made.runs made.patience made.waited;
     }
+
+pub await_post-requires-clause-unmoved : goal.await_post-requires-clause-unmoved
+await_post-requires-clause-unmoved g c = (path_frames c.loop-post.invariant.runs).keeps.moves c.requires.unmoved

@@ -1,6 +1,7 @@
 use Rattle.std.proofs.Common.{None, arith}
 use Rattle.lvm_posts.specs.declared.posts.Post.{Post}
 use Rattle.lvm_session.specs.State.{state_of}
+use Rattle.lvm_group_lines.proofs.passed.Tie.{path_frames}
 use Rattle.lvm_range_lines.proofs.TakingLemmas.Takings.{few_refused, landed_next, on_all, on_first, on_more, posted_next}
 use Rattle.lvm_range_lines.proofs.waiting.take_on.Goals as goal
 
@@ -39,3 +40,6 @@ returns g c =
       on = c.loop-post.invariant.on;
       sound = c.is_sound.ensures;
     }
+
+pub take_one-next-requires-clause-unmoved : goal.take_one-next-requires-clause-unmoved
+take_one-next-requires-clause-unmoved g c = (path_frames c.loop-post.invariant.runs).keeps.moves c.requires.unmoved

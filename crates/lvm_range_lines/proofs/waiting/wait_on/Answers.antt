@@ -11,6 +11,7 @@ use Rattle.lvm_posts.specs.Pieces.{IsLaidOut}
 use Rattle.lvm_group_lines.specs.declared.stage.Stage.{Stage}
 use Rattle.lvm_group_lines.specs.Stages.{HaveRooms, SessionIsClosed}
 use Rattle.lvm_range_lines.specs.Waiting.{AllHaveLanded, IsAwaited, TurnsForPosts}
+use Rattle.lvm_range_lines.proofs.EndsLemmas.{none_moves}
 use Rattle.lvm_range_lines.proofs.LeavingLemmas.Posting.{table_posts}
 use Rattle.lvm_range_lines.proofs.TakingLemmas.Landed.{fits_on}
 use Rattle.lvm_range_lines.proofs.WaitingLemmas.Waits.{landed_ends, vain_ends}
@@ -69,3 +70,9 @@ returns-in-Err g c =
     stage (subst (λ (s : Stage g.row.S.Denot). SessionIsClosed device mid c.args.posts.items s) (sym c.refused.ensures.stage) c.ended.ensures.ended)
     (subst (λ (s : Stage g.row.S.Denot). HaveRooms first.1.history.room s.posts s.bytes) (sym c.refused.ensures.stage) (c.ended.ensures.rooms first.1.history.room c.requires.fits.rooms))
     c.refused.result.reply c.refused.ensures.reply
+
+pub await_posts-requires-clause-unmoved : goal.await_posts-requires-clause-unmoved
+await_posts-requires-clause-unmoved g c = none_moves c.args.driver.1 c.requires.between.session.copy
+
+pub wait_landed-requires-clause-unmoved : goal.wait_landed-requires-clause-unmoved
+wait_landed-requires-clause-unmoved g c = (path_frames c.await_posts.ensures.runs).keeps.moves (none_moves c.args.driver.1 c.requires.between.session.copy)

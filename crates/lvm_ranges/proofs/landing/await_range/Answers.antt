@@ -1,5 +1,6 @@
 use Rattle.std.proofs.Common.{inl, arith}
 use Rattle.lvm_session.specs.State.{state_of}
+use Rattle.lvm_driver.proofs.passed.Names.{path_frames}
 use Rattle.lvm_ranges.proofs.LandingLemmas.{costs_at_end, costs_nothing, goes, landed_at_end, less_by_move, less_by_wait, one_move, one_wait, turns_leave}
 use Rattle.lvm_ranges.proofs.landing.await_range.Goals as goal
 
@@ -18,7 +19,7 @@ loop-driver-preserved g c =
     let device = g.S.Shelf.device in
     let some = c.if-patience-eq0.false in
     one_wait c.args.asked.now (state_of device c.args.driver.now) (state_of device c.loop-driver.driver) (state_of device c.turn.new.self) c.args.patience.now.left c.loop-driver.patience.left c.loop-driver.invariant (c.is_unfinished.ensures.open c.loop-driver-test.true)
-    c.is_sound.ensures (omega (arith, some)) c.moves_none.ensures c.in-Idle.ensures.makes c.in-Idle.ensures.tells c.in-Idle.ensures.runs
+    c.is_sound.ensures (omega (arith, some)) ((path_frames c.loop-driver.invariant.on.on.runs).keeps.moves c.requires.unmoved) c.in-Idle.ensures.makes c.in-Idle.ensures.tells c.in-Idle.ensures.runs
 
 pub loop-driver-smaller-in-Moved : goal.loop-driver-smaller-in-Moved
 loop-driver-smaller-in-Moved g c = less_by_move (state_of g.S.Shelf.device c.loop-driver.driver) (state_of g.S.Shelf.device c.turn.new.self) c.loop-driver.patience.left c.in-Moved.ensures.tells

@@ -29,7 +29,7 @@ returns-in-Idle g c =
     let made = subst (λ (s : State). TurnMakes s new turned.Idle) same c.in-Idle.ensures.makes in
     let tells = subst (λ (s : State). TurnTells s new turned.Idle) same c.in-Idle.ensures.tells in
     let runs = subst (λ (s : State). RunsOn s new) same c.in-Idle.ensures.runs in
-    turn_looks {V = Lent g.row.S.Denot g.row.J.Denot} plan (λ d. state_of device d.driver) _ (λ d. image_of plan.first.device) (λ v w. refl) x y c.args.client was.0 c.args.id turned.Idle seen.Idle (λ e. cc e) (λ e. refl) refl gives c.moves_none.ensures none.1 made tells runs (
+    turn_looks {V = Lent g.row.S.Denot g.row.J.Denot} plan (λ d. state_of device d.driver) _ (λ d. image_of plan.first.device) (λ v w. refl) x y c.args.client was.0 c.args.id turned.Idle seen.Idle (λ e. cc e) (λ e. refl) refl gives was.0.unmoved none.1 made tells runs (
       turn_serves {V = Lent g.row.S.Denot g.row.J.Denot} plan (λ d. state_of device d.driver) (λ d. Unit {0}) (λ d. image_of plan.first.device) (λ v w. refl) x y c.args.client was.0 c.args.id turned.Idle made runs c.is_sound-in-NotYet.ensures,
       was.1,
       was.2,
@@ -57,7 +57,7 @@ returns-in_default-answer g c =
     let made = subst (λ (s : State). TurnMakes s new c.turn-answer.result) same c.turn-answer.ensures.makes in
     let tells = subst (λ (s : State). TurnTells s new c.turn-answer.result) same c.turn-answer.ensures.tells in
     let runs = subst (λ (s : State). RunsOn s new) same c.turn-answer.ensures.runs in
-    turn_looks {V = Lent g.row.S.Denot g.row.J.Denot} plan (λ d. state_of device d.driver) _ (λ d. image_of plan.first.device) (λ v w. refl) x y c.args.client was.0 c.args.id c.turn-answer.result seen.Moved (λ e. cc e) (λ e. absurd (cc e)) (moved_behind c.turn-answer.result c.in_default-answer.not-Idle) gives c.moves_none.ensures none.1 made tells runs (
+    turn_looks {V = Lent g.row.S.Denot g.row.J.Denot} plan (λ d. state_of device d.driver) _ (λ d. image_of plan.first.device) (λ v w. refl) x y c.args.client was.0 c.args.id c.turn-answer.result seen.Moved (λ e. cc e) (λ e. absurd (cc e)) (moved_behind c.turn-answer.result c.in_default-answer.not-Idle) gives was.0.unmoved none.1 made tells runs (
       turn_serves {V = Lent g.row.S.Denot g.row.J.Denot} plan (λ d. state_of device d.driver) (λ d. Unit {0}) (λ d. image_of plan.first.device) (λ v w. refl) x y c.args.client was.0 c.args.id c.turn-answer.result made runs c.is_sound-in-NotYet.ensures,
       was.1,
       was.2,
