@@ -23,10 +23,10 @@ use Rattle.lvm_kept.specs.Plans.{ChangesBy}
 use Rattle.lvm_kept.proofs.PlacesLemmas.{data-same}
 use Rattle.lvm_steps.proofs.LawsLemmas.Writes.{slot_below}
 use Rattle.lvm_commit.specs.Settling.{IsOfCommit, IsOfStatus}
-use Rattle.lvm_rest.specs.Commands.{IsUsable}
-use Rattle.lvm_rest.proofs.CommandsLemmas.{free_keeps_even}
-use Rattle.lvm_settled.specs.passed.Names.{IsEven}
-use Rattle.lvm_settled.specs.Even.{AreWanted}
+use Rattle.lvm_even.specs.Commands.{IsUsable}
+use Rattle.lvm_even.proofs.CommandsLemmas.{free_keeps_even}
+use Rattle.lvm_even.specs.Even.{IsEven}
+use Rattle.lvm_volumes.specs.Even.{AreWanted}
 use Rattle.lvm_session.specs.State.{State, is_there}
 use Rattle.lvm_handover.specs.passed.Names.{IsOfCommand, NoPartition}
 
