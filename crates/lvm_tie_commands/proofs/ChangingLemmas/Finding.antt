@@ -1,5 +1,5 @@
 -- Behind a change a crash image that finds the group finds the descriptor that it had, or the next one.
-use Rattle.std.proofs.Common.{◌≡◌, ◌⊎◌, inl, inr, ⊎_elim, ℕ, [], Some}
+use Rattle.std.proofs.Common.{◌≡◌, inl, inr, ⊎_elim, [], Some}
 use Rattle.lvm_num.specs.declared.descriptor.Descriptor.{Descriptor}
 use Rattle.lvm_num.proofs.Lists.{of_told, some_told}
 use Rattle.lvm_disk.specs.Device.{Media}

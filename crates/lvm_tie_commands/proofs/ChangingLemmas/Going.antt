@@ -1,5 +1,5 @@
 -- Over a change of a group's rule of votes or of its size: a span goes on, and what stood stands again.
-use Rattle.std.proofs.Common.{◌≡◌, ◌⊎◌, inl, inr, ⊎_elim, ℕ, Bool, true, false, List, [], Option, Some, Result, Ok, Err, refl, sym, ap, subst, ◌∙◌}
+use Rattle.std.proofs.Common.{◌≡◌, inl, inr, ℕ, Bool, true, false, [], Option, Some, Result, Ok, Err, refl, sym, ap, subst, ◌∙◌}
 use Rattle.std.specs.Prelude.{◌≢◌, ⊤, MatchBool}
 use Rattle.lvm_num.specs.declared.descriptor.Descriptor.{Descriptor}
 use Rattle.lvm_num.specs.Descriptor.{is_member}

@@ -1,5 +1,5 @@
 -- A session that a change of its group's rule of votes or of its size has left is sound with requests.
-use Rattle.std.proofs.Common.{◌≡◌, ◌⊎◌, inl, inr, ⊎_elim, ℕ, ◌-◌, ◌≤◌, ◌^◌, Bool, true, false, List, [], Option, None, Result, Ok, Err, refl, sym, ap, subst, ◌∙◌, arith}
+use Rattle.std.proofs.Common.{◌≡◌, ◌⊎◌, inl, inr, ⊎_elim, ℕ, ◌-◌, ◌≤◌, ◌^◌, Bool, true, false, List, [], Result, Ok, Err, sym, ap, subst, ◌∙◌, arith}
 use Rattle.std.specs.Prelude.{IsFalse, IsTrue, MatchBool}
 use Rattle.lvm_num.specs.declared.descriptor.Descriptor.{Descriptor}
 use Rattle.lvm_num.specs.declared.descriptor.LvRow.{LvRow}
@@ -12,7 +12,7 @@ use Rattle.lvm_vol.specs.Order.{Ordered}
 use Rattle.lvm_kept.specs.Group.{IsOneOf}
 use Rattle.lvm_status.specs.Update.{members_there}
 use Rattle.lvm_write.proofs.NextLemmas.{copy_is_placed, is_member_of}
-use Rattle.lvm_session.specs.State.{Core, State, is_there}
+use Rattle.lvm_session.specs.State.{Core, State}
 use Rattle.lvm_session.specs.Judging.{copies_in, is_missing}
 use Rattle.lvm_session.specs.Left.{updates_left}
 use Rattle.lvm_session.specs.Sound.{IsSound}
@@ -23,7 +23,7 @@ use Rattle.lvm_volumes.specs.Endings.{HasFresh, KeepsFresh, StillHeld}
 use Rattle.lvm_volumes.proofs.StagesLemmas.Entering.{many_bound}
 use Rattle.lvm_members.specs.declared.fault.RuleFault.{RuleFault}
 use Rattle.lvm_members.specs.declared.fault.RuleFault.TheVariants as fault
-use Rattle.lvm_members.specs.Commands.{BigGives, IfOn, MayBeChanged, NothingGives, RuleGives}
+use Rattle.lvm_members.specs.Commands.{IfOn, MayBeChanged, NothingGives, RuleGives}
 use Rattle.lvm_handover.specs.Serving.{GoesOnWith}
 use Rattle.lvm_handover.proofs.ServingLemmas.Serving.{commands_serve}
 use Rattle.lvm_handover.proofs.ServingLemmas.Volumes.{had_fresh, none_before}

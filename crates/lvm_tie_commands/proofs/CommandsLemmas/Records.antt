@@ -1,6 +1,6 @@
 -- Records stand below the data, so a command that writes records alone leaves data as it was, and usable copies even.
-use Rattle.std.proofs.Common.{◌≡◌, ◌⊎◌, inl, inr, ⊎_elim, ℕ, ◌+◌, ◌<◌, ◌≤◌, List, length, Option, Some, refl, sym, ap, subst, ◌∙◌, arith}
-use Rattle.std.specs.Prelude.{IsTrue, IsFalse}
+use Rattle.std.proofs.Common.{◌≡◌, inl, inr, ⊎_elim, ℕ, ◌+◌, ◌<◌, ◌≤◌, List, length, Some, sym, ap, subst, ◌∙◌, arith}
+use Rattle.std.specs.Prelude.{IsTrue}
 use Rattle.std.proofs.lemmas.Bool.{cases_Bool}
 use Rattle.lvm_num.specs.declared.descriptor.Descriptor.{Descriptor}
 use Rattle.lvm_num.specs.declared.descriptor.LvRow.{LvRow}
@@ -16,7 +16,6 @@ use Rattle.lvm_num.specs.Record.{Stamped, longest_content, record_sectors, slot_
 use Rattle.lvm_num.specs.Status.{calls_stale}
 use Rattle.lvm_num.proofs.Booleans.{clash}
 use Rattle.lvm_disk.specs.Device.{Image, Media, image_of}
-use Rattle.lvm_disk.specs.Steps.{BothTold}
 use Rattle.lvm_kept.specs.Contents.{contents_of}
 use Rattle.lvm_kept.specs.Group.{IsOneOf}
 use Rattle.lvm_kept.specs.Plans.{ChangesBy}

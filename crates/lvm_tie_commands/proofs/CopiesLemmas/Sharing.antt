@@ -1,5 +1,5 @@
 -- Behind a split both volumes hold the same, and a write on one changes nothing of the other.
-use Rattle.std.proofs.Common.{◌≡◌, ◌⊎◌, inl, inr, ⊎_elim, ℕ, ◌+◌, ◌<◌, ◌≤◌, Bool, true, false, ◌&&◌, ◌||◌, not, List, [], ◌∷◌, ◌++◌, length, Option, Some, Ok, refl, sym, ap, subst, ◌∙◌, arith}
+use Rattle.std.proofs.Common.{◌≡◌, ⊎_elim, ℕ, Bool, true, false, ◌&&◌, ◌||◌, not, List, [], ◌∷◌, ◌++◌, Option, Some, Ok, refl, sym, ap, subst, ◌∙◌}
 use Rattle.std.specs.Prelude.{IsTrue, IsFalse}
 use Rattle.std.specs.List.{AllByRecursion}
 use Rattle.std.proofs.lemmas.Bool.{and_from, cases_Bool, not-true as not_so, not_from_false}
@@ -21,7 +21,7 @@ use Rattle.lvm_disk.specs.Device.{Media, image_of}
 use Rattle.lvm_disk.specs.Steps.{BothTold}
 use Rattle.lvm_vol.specs.declared.entry.Vol.TheVariants.{Lv}
 use Rattle.lvm_vol.specs.Facts.{Cut, Fact, Request}
-use Rattle.lvm_vol.specs.May.{Known, cut, is_off, is_some_open, known}
+use Rattle.lvm_vol.specs.May.{Known, is_off, is_some_open, known}
 use Rattle.lvm_vol.specs.Order.{Ordered}
 use Rattle.lvm_vol.proofs.LawsLemmas.Knowing.{known-push}
 use Rattle.lvm_kept.specs.Committed.{IsWithinDisks}

@@ -1,5 +1,5 @@
 -- The groups that are worked by hand may change their rule of votes, and become big.
-use Rattle.std.proofs.Common.{◌≡◌, ◌⊎◌, inl, inr, ℕ, ◌==◌, Bool, true, false, ◌||◌, refl, subst, arith}
+use Rattle.std.proofs.Common.{◌≡◌, inl, inr, ℕ, ◌==◌, Bool, true, false, ◌||◌, refl, subst, arith}
 use Rattle.std.specs.Prelude.{IsTrue, IsFalse}
 use Rattle.std.proofs.lemmas.Bool.{eqb-true}
 use Rattle.lvm_num.specs.declared.descriptor.Descriptor.{Descriptor}
@@ -8,13 +8,13 @@ use Rattle.lvm_num.specs.Buffer.{zero_sector}
 use Rattle.lvm_num.specs.Descriptor.{IsValid, is_member}
 use Rattle.lvm_num.specs.Votes.{CanWrite, votes_by}
 use Rattle.lvm_session.specs.State.{Core, is_there}
-use Rattle.lvm_tie.specs.passed.Names.{Pair, even_pair}
+use Rattle.lvm_tie.specs.passed.Names.{even_pair}
 use Rattle.lvm_settled.specs.Examples.{IsSettledPair, core_of}
 use Rattle.lvm_settled.proofs.ExamplesLemmas.Examples.{pairs_settle}
 use Rattle.lvm_members.specs.passed.Names.{LosesVotes, as_big, with_quorum, MayChangeRule}
 use Rattle.lvm_members.proofs.passed.Names.{big_valid, quorum_valid}
 use Rattle.lvm_members.specs.Commands.{MayBeChanged}
-use Rattle.lvm_tie_commands.specs.Examples.{MayChangePair, PairsMayChange}
+use Rattle.lvm_tie_commands.specs.Examples.{PairsMayChange}
 
 module _ (mode : Mode) (dirty lost : Bool) where
   abbrev core : Core
