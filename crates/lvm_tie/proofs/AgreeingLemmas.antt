@@ -1,6 +1,6 @@
 -- Live copies hold one value where no write that has started goes over them.
-use Rattle.std.proofs.Common.{◌≡◌, ◌⊎◌, inl, inr, ⊎_elim, ℕ, ◌+◌, ◌++◌, ◌&&◌, ◌==◌, Bool, true, false, not, List, Option, Some, None, refl, sym, ap, subst, ◌∙◌}
-use Rattle.std.specs.Prelude.{IsTrue, IsFalse, nat_le, nat_lt, slice_get, unwrap_or}
+use Rattle.std.proofs.Common.{◌≡◌, inl, inr, ⊎_elim, ℕ, ◌+◌, ◌&&◌, ◌==◌, Bool, true, false, not, List, Option, Some, None, refl, sym, ap, subst, ◌∙◌}
+use Rattle.std.specs.Prelude.{IsTrue, IsFalse, nat_le, nat_lt, unwrap_or}
 use Rattle.std.specs.Option.{option_map}
 use Rattle.std.proofs.lemmas.Option.{same_Some}
 use Rattle.std.proofs.lemmas.Bool.{and_parts}
@@ -10,34 +10,31 @@ use Rattle.lvm_num.specs.declared.descriptor.Mode.{Mode}
 use Rattle.lvm_num.specs.declared.descriptor.Mode.TheVariants.{Active, Passive, Off}
 use Rattle.lvm_num.specs.declared.place.Pp.{Pp}
 use Rattle.lvm_num.specs.declared.status.Status.{Status}
-use Rattle.lvm_num.specs.Descriptor.{copies_of, is_member}
+use Rattle.lvm_num.specs.Descriptor.{is_member}
 use Rattle.lvm_num.specs.Record.{Stamped}
-use Rattle.lvm_num.specs.Status.{calls_missing, calls_stale}
+use Rattle.lvm_num.specs.Status.{calls_stale}
 use Rattle.lvm_vol.specs.declared.entry.Vol.TheVariants.{Lv}
 use Rattle.lvm_vol.specs.Facts.{Fact}
 use Rattle.lvm_vol.specs.May.{known}
 use Rattle.lvm_disk.specs.Device.{image_of}
 use Rattle.lvm_kept.specs.Contents.{Contents, contents_of}
-use Rattle.lvm_kept.specs.Group.{IsBlockOf, IsOneOf, block_at}
 use Rattle.lvm_path.specs.declared.request.Phase.{Phase}
 use Rattle.lvm_path.specs.declared.request.Phase.TheVariants as phase
-use Rattle.lvm_path.specs.Asks.{at_of, count_of, is_write, lv_of}
 use Rattle.lvm_path.specs.Targets.{is_begun}
-use Rattle.lvm_session.specs.declared.open.Open.{Open}
-use Rattle.lvm_session.specs.Judging.{is_missing, is_settled, is_stale, place_of}
-use Rattle.lvm_session.specs.State.{Core, State, is_there}
-use Rattle.lvm_invariant.specs.State.{Going, Live, ModelPhase, Queued, Started, ModelState, covers, is_settled_stale, stale_in, told}
+use Rattle.lvm_session.specs.Judging.{is_missing, is_settled, is_stale}
+use Rattle.lvm_session.specs.State.{Core, State}
+use Rattle.lvm_invariant.specs.State.{Going, Live, Queued, Started, ModelState, covers, is_settled_stale, stale_in, told}
 use Rattle.lvm_invariant.specs.Sound.{Agree, MayDiffer, Quiescent}
 use Rattle.lvm_num.specs.Modes.{is_active, is_passive}
 use Rattle.lvm_num.proofs.Booleans.{clash_gives}
-use Rattle.lvm_crash.specs.Session.{as_marks}
+use Rattle.lvm_crash.specs.Session.{as_marks, is_beside}
 use Rattle.lvm_even.specs.Members.{members_showing}
 use Rattle.lvm_tie.specs.Seen.{IsRequestAt, IsStepAt, SeesRequest, phase_seen}
 use Rattle.lvm_tie.specs.Tied.{IsTied}
 use Rattle.lvm_tie.proofs.StateLemmas.{stale_seen, there_first}
 use Rattle.lvm_tie.proofs.AmongLemmas.{not_true}
-use Rattle.lvm_tie.specs.Agreeing.{AgreeWith, NoStartedWriteCovers, IsLiveOn, IsSettledAt, IsUsableOf, LiveAgree, goes_over, has_started, stands_at}
-use Rattle.lvm_tie.proofs.SeenLemmas.Beside.{plain_copies}
+use Rattle.lvm_tie.specs.Agreeing.{IsLiveOn, IsSettledAt, IsUsableOf, LiveAgree, goes_over, has_started, stands_at}
+use Rattle.lvm_tie.proofs.SeenLemmas.Beside.{copy_apart, copy_seen, stale_apart}
 
 and_self : (a : Bool) → a && true ≡ a && a
 and_self true = refl
@@ -69,17 +66,17 @@ module _ (past : List Fact) (s : State) (tied : IsTied past s) where
   -- ---- copies
 
   -- settled as stale is the same in both
-  settled_same : (p : Pp) → is_settled_stale v p ≡ is_settled core p
-  settled_same p = (λ t. stale_seen past s tied p t && stale_in (tied.sees.status.in_flight t) p) ∙ by core.status.in_flight
+  settled_same : (p : Pp) → is_beside v.beside p ≡ false → is_settled_stale v p ≡ is_settled core p
+  settled_same p off = (λ t. stale_seen past s tied p off t && stale_in (tied.sees.status.in_flight t) p) ∙ by core.status.in_flight
     where
-      by : (u : Option Status) → is_stale core p && stale_in (option_map (as_marks None) (option_map (λ (t : Status). let r : Stamped Status = record { stamp = core.status.stamp; value = t } in r) u)) p
+      by : (u : Option Status) → is_stale core p && stale_in (option_map (as_marks v.beside) (option_map (λ (t : Status). let r : Stamped Status = record { stamp = core.status.stamp; value = t } in r) u)) p
           ≡ is_stale core p && calls_stale (unwrap_or u core.status.committed) p
-      by (Some u) = refl
+      by (Some u) = ap (λ b. is_stale core p && b) (stale_apart v.beside u p off)
       by None = and_self (is_stale core p)
 
   module _ (row : LvRow) (lp b : ℕ) (at : IsSettledAt past core row lp b) where
     live : (p : Pp) → IsLiveOn shown core row lp p → Live v row.number b p
-    live p it = record { copy = (plain_copies tied.sees.beside tied.describes.volumes row lp b p at.volume at.inside).1 (it.copy, it.shows); counts = inl (settled_same p ∙ it.fresh) }
+    live p it = record { copy = copy_seen tied.describes.volumes row lp b p at.volume at.inside it.copy it.shows; counts = inl (settled_same p (copy_apart tied.describes.volumes row lp p at.volume at.inside.inside it.copy) ∙ it.fresh) }
 
     usable_live : (c : Pp) → IsUsableOf core row lp c → IsLiveOn shown core row lp c
     usable_live c it =

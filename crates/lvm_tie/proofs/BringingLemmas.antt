@@ -6,7 +6,6 @@ use Rattle.lvm_num.specs.declared.descriptor.Descriptor.{Descriptor}
 use Rattle.lvm_num.specs.Descriptor.{copies_of, is_member}
 use Rattle.lvm_num.specs.Geometry.{partition_blocks, track_group_of}
 use Rattle.lvm_num.specs.Status.{calls_missing}
-use Rattle.lvm_num.proofs.Booleans.{same_meaning}
 use Rattle.lvm_vol.specs.Facts.{Fact}
 use Rattle.lvm_map.proofs.Parts.{parts}
 use Rattle.lvm_map.proofs.LawsLemmas.OneToOne.{is_data}
@@ -25,7 +24,7 @@ use Rattle.lvm_crash.proofs.OwnedLemmas.{covered}
 use Rattle.lvm_tie.specs.Tied.{IsTied}
 use Rattle.lvm_tie.proofs.StateLemmas.{IsOfItsPartition, found_any}
 use Rattle.lvm_tie.proofs.TiedLemmas.Orderly.{valid_of}
-use Rattle.lvm_tie.proofs.SeenLemmas.Beside.{plain_copies}
+use Rattle.lvm_tie.proofs.SeenLemmas.Beside.{beside_alike, copy_seen, same_copies}
 
 module _ (past : List Fact) (s : State) (tied : IsTied past s) (c : OpenCopy) (its : IsOfItsPartition s.core c) (less : c.cursor < groups_of s.core) where
   abbrev core : Core
@@ -60,18 +59,16 @@ module _ (past : List Fact) (s : State) (tied : IsTied past s) (c : OpenCopy) (i
   row_one : IsOneOf group.lvs its.row
   row_one = volume_is_row group c.lv its.row its.volume
 
-  row_number : its.row.number ≡ c.lv
+  pub row_number : its.row.number ≡ c.lv
   row_number = (volume_at group c.lv its.row its.volume).its
 
-  first_block : IsBlockOf group.mib its.row c.lp first
+  pub first_block : IsBlockOf group.mib its.row c.lp first
   first_block = record { inside = its.lp; partition = (parts (partition_blocks group.mib) first c.lp (256 * c.cursor) (let e = within 0 (omega arith) in omega (arith, e)) (omega arith)).0 }
 
   copies : (k : ℕ) → k < 256 → (p : Pp) → v.is_copy c.lv (first + k) p ≡ v.is_copy c.lv first p
-  copies k lt p =
-      let here = plain_copies tied.sees.beside tied.describes.volumes its.row c.lp (first + k) p row_one (block k lt) in
-      let there = plain_copies tied.sees.beside tied.describes.volumes its.row c.lp first p row_one first_block in
-      subst (λ n. v.is_copy n (first + k) p ≡ v.is_copy n first p) row_number
-      (same_meaning (v.is_copy its.row.number (first + k) p) (v.is_copy its.row.number first p) here.0 here.1 there.0 there.1)
+  copies k lt p = subst (λ n. v.is_copy n (first + k) p ≡ v.is_copy n first p) row_number
+      (same_copies tied.describes.volumes its.row c.lp (first + k) first p row_one (block k lt) first_block
+      (beside_alike core v.beside tied.sees.beside its.row.number (first + k) first ((block k lt).partition ∙ sym first_block.partition)))
 
   pub step_member : (p : Pp) → IsOneOf (copies_of its.row c.lp) p → is_member group p.disk ≡ true
   step_member p one =
@@ -83,7 +80,7 @@ module _ (past : List Fact) (s : State) (tied : IsTied past s) (c : OpenCopy) (i
   -- a copy of its logical partition on a member that wasn't missing at first is one of each of the blocks
   pub one_is_copy_of : (p : Pp) → IsOneOf (copies_of its.row c.lp) p → is_member group p.disk ≡ true → calls_missing core.origin.table p.disk ≡ false → IsTrue (v.is_copy c.lv first p)
   one_is_copy_of p one member there =
-      subst (λ n. IsTrue (v.is_copy n first p)) row_number ((plain_copies tied.sees.beside tied.describes.volumes its.row c.lp first p row_one first_block).1 (one, tied.recorded.members p.disk member there))
+      subst (λ n. IsTrue (v.is_copy n first p)) row_number (copy_seen tied.describes.volumes its.row c.lp first p row_one first_block one (tied.recorded.members p.disk member there))
 
   -- a step of them lies where a request may lie
   pub step_placed : (q : Queued) → q.lv ≡ c.lv → q.first ≡ first → q.count ≡ 256 → IsPlaced v q
@@ -98,7 +95,7 @@ module _ (past : List Fact) (s : State) (tied : IsTied past s) (c : OpenCopy) (i
     inside = λ lv b over.
         let at = behind lv b over in
         let there = tied.describes.volumes.some its.row c.lp row_one its.lp in
-        let is = (plain_copies tied.sees.beside tied.describes.volumes its.row c.lp (first + at.0) there.0 row_one (block at.0 at.1)).1 (there.1, there.2) in
+        let is = copy_seen tied.describes.volumes its.row c.lp (first + at.0) there.0 row_one (block at.0 at.1) there.1 there.2 in
         (there.0, subst (λ n. IsTrue (v.is_copy n b there.0)) (row_number ∙ sym lv_is ∙ sym at.3) (subst (λ n. IsTrue (v.is_copy its.row.number n there.0)) (sym at.2) is));
   }
     where

@@ -37,18 +37,19 @@ use Rattle.lvm_session.specs.Sound.{IsSound}
 use Rattle.lvm_invariant.specs.Caused.{FactIsCaused, HadNoCopy, LandingIsCaused, Since}
 use Rattle.lvm_invariant.specs.Faults.{Faults, IsStaleForCause, FaultsRose}
 use Rattle.lvm_invariant.specs.State.{Badly, Marks, ModelCopy, Queued, ModelState}
-use Rattle.lvm_crash.specs.Session.{as_marks}
+use Rattle.lvm_crash.specs.Session.{as_marks, is_beside, marks_of}
 use Rattle.lvm_keeps_events.proofs.EndsLemmas.Counts.{rose_since}
 use Rattle.lvm_keeps_events.proofs.Lists.{found_at}
 use Rattle.lvm_crash.proofs.CopiesLemmas.{number_finds}
 use Rattle.lvm_crash.proofs.WritingLemmas.{pp_same, same_pp}
 use Rattle.lvm_tie.specs.Seen.{IsRequestAt, IsStepAt, SeesCopy, SeesRunning, stage_at, stage_seen}
 use Rattle.lvm_tie.specs.Tied.{IsTied}
-use Rattle.lvm_tie.proofs.StateLemmas.{copy_is, missing_seen, stale_is, stale_seen, wanted_seen}
+use Rattle.lvm_session.proofs.MovesLemmas.{move_of}
+use Rattle.lvm_tie.proofs.StateLemmas.{copy_is, missing_seen, part_stale, whole_stale}
 use Rattle.lvm_tie.proofs.TiedLemmas.Orderly.{valid_of}
 use Rattle.lvm_tie.specs.Causes.{AreFaultsOf, CausesAreSeen, FaultsAreThere}
 use Rattle.lvm_tie.specs.Landings.{FailuresAreCaused, HadNone, HasCausesSince, HasLandedFor, IsEntryCaused}
-use Rattle.lvm_tie.proofs.SeenLemmas.Beside.{plain_copies}
+use Rattle.lvm_tie.proofs.SeenLemmas.Beside.{beside_destination, copy_its, stale_apart}
 
 -- ---- small
 
@@ -165,29 +166,42 @@ module _ (past first : List Fact) (s : State) (w : Faults) (tied : IsTied past s
   of_wanted : (p : Pp) → is_wanted_stale core p ≡ true → IsStaleForCause w p
   of_wanted p is = cause_of p (or_right (is_held_stale core p) (is_wanted_stale core p) is)
 
+  -- the partition beside has counted as stale since the session began
+  beside_cause : (p : Pp) → IsTrue (is_beside v.beside p) → IsTrue (w.stale p)
+  beside_cause p is =
+      let d = beside_destination core v.beside p tied.sees.beside is in
+      faults.stale p ∙ ap (calls_stale core.origin.table) d.is ∙ (move_of core d.copy (copy_is past s tied d.copy d.is_open) d.moves).called
+
+  seen_cause : (status : Status) (p : Pp) → IsTrue ((marks_of v.beside status).stale p) → (calls_stale status p ≡ true → IsStaleForCause w p) → IsStaleForCause w p
+  seen_cause status p seen cause = by (is_beside v.beside p) refl
+    where
+      by : (b : Bool) → is_beside v.beside p ≡ b → IsStaleForCause w p
+      by true is = inl (beside_cause p is)
+      by false off = cause (sym (stale_apart v.beside status p off) ∙ seen)
+
   in_flight_is : (c : Pp) (u : Stamped Marks) → v.in_flight ≡ Some u → IsTrue (u.value.stale c) → IsStaleForCause w c
   in_flight_is c u flies is = by core.status.in_flight refl (sym tied.sees.status.in_flight ∙ flies)
     where
-      by : (m : Option Status) → core.status.in_flight ≡ m → option_map (as_marks None) (option_map (λ (t : Status). let r : Stamped Status = record { stamp = core.status.stamp; value = t } in r) m) ≡ Some u → IsStaleForCause w c
+      by : (m : Option Status) → core.status.in_flight ≡ m → option_map (as_marks v.beside) (option_map (λ (t : Status). let r : Stamped Status = record { stamp = core.status.stamp; value = t } in r) m) ≡ Some u → IsStaleForCause w c
       by None none e = absurd (cc e)
       by (Some t) some e =
-          let same : as_marks None (record { stamp = core.status.stamp; value = t }) ≡ u = cc e in
-          of_flight c (ap (λ (o : Option Status). calls_stale (unwrap_or o core.status.committed) c) some ∙ ap (λ (x : Stamped Marks). x.value.stale c) same ∙ is)
+          let same : as_marks v.beside (record { stamp = core.status.stamp; value = t }) ≡ u = cc e in
+          seen_cause t c (ap (λ (x : Stamped Marks). x.value.stale c) same ∙ is) (λ stale. of_flight c (ap (λ (o : Option Status). calls_stale (unwrap_or o core.status.committed) c) some ∙ stale))
 
   brought_up_is : (o : ModelCopy) → v.open_copy ≡ Some o → IsStaleForCause w o.target
   brought_up_is o is_open = by core.copy refl tied.sees.open_copy
     where
-      stale_so : (c : OpenCopy) → core.copy ≡ Some c → is_running c ≡ true → is_stale core c.pp ≡ true
-      stale_so c is runs = whole (is_whole core c) refl
+      stale_now : (c : OpenCopy) → core.copy ≡ Some c → is_running c ≡ true → IsTrue (v.committed.value.stale c.pp)
+      stale_now c is runs = whole (is_whole core c) refl
         where
-          whole : (b : Bool) → is_whole core c ≡ b → is_stale core c.pp ≡ true
-          whole true all = ((stale_is past s tied c is).clearing runs all).0
-          whole false short = (and_parts (is_stale core c.pp) (calls_stale (unwrap_or core.status.in_flight core.status.committed) c.pp) ((stale_is past s tied c is).stale runs short).0).0
+          whole : (b : Bool) → is_whole core c ≡ b → IsTrue (v.committed.value.stale c.pp)
+          whole true all = whole_stale past s tied c is runs all
+          whole false short = (part_stale past s tied c is runs short).0
 
       running : (c : OpenCopy) → core.copy ≡ Some c → (b : Bool) → is_running c ≡ b → SeesRunning b (groups_of core) c v.open_copy → IsStaleForCause w o.target
       running c is true runs sees =
           let same : sees.copy ≡ o = (let e : Some sees.copy ≡ Some o = sym sees.is_open ∙ is_open in cc e) in
-          subst (IsStaleForCause w) (sym sees.target ∙ ap (λ (x : ModelCopy). x.target) same) (of_stale c.pp (stale_so c is runs))
+          subst (IsStaleForCause w) (sym sees.target ∙ ap (λ (x : ModelCopy). x.target) same) (seen_cause core.status.committed c.pp (sym (ap (λ (m : Marks). m.stale c.pp) tied.sees.status.committed) ∙ stale_now c is runs) (of_stale c.pp))
       running c is false over sees = absurd (let e : None ≡ Some o = sym sees ∙ is_open in cc e)
 
       by : (m : Option OpenCopy) → core.copy ≡ m → SeesCopy (groups_of core) m v.open_copy → IsStaleForCause w o.target
@@ -248,13 +262,7 @@ module _ (past first : List Fact) (s : State) (w : Faults) (tied : IsTied past s
   -- ---- what the history tells
 
   had_none : (r : Asked) → HadNone core r → HadNoCopy w v r
-  had_none r had lv b c over copy =
-      let block = tied.describes.volumes.inside lv b c copy in
-      let one = ((plain_copies tied.sees.beside tied.describes.volumes block.row block.lp b c block.volume block.inside).0 (subst (λ n. IsTrue (v.is_copy n b c)) (sym block.number) copy)).0 in
-      let found : volume_of core.descriptor lv ≡ Some block.row = subst (λ n. volume_of core.descriptor n ≡ Some block.row) block.number (number_finds core.descriptor block.row (valid_of s tied.write tied.orderly) block.volume) in
-      let copies : copies_in core.descriptor lv (partition_of core.descriptor.mib b) ≡ copies_of block.row block.lp
-      = ap (λ (m : Option LvRow). option_map_or (λ (row : LvRow). copies_of row (partition_of core.descriptor.mib b)) m []) found ∙ ap (copies_of block.row) block.inside.partition in
-      unusable (had lv b c over (ap (λ (ps : List Pp). is_among ps c) copies ∙ one_among (copies_of block.row block.lp) c one))
+  had_none r had lv b c over copy = of_beside (is_beside v.beside c) refl
     where
       unusable : was_usable core c ≡ false → IsTrue (w.stale c) ⊎ IsTrue (w.missing c.disk)
       unusable = by (calls_stale core.origin.table c) (calls_missing core.origin.table c.disk) refl refl
@@ -263,6 +271,16 @@ module _ (past first : List Fact) (s : State) (w : Faults) (tied : IsTied past s
           by true m stale missing e = inl (faults.stale c ∙ stale)
           by false true stale missing e = inr (gone c.disk missing)
           by false false stale missing e = not_either e
+
+      of_beside : (t : Bool) → is_beside v.beside c ≡ t → IsTrue (w.stale c) ⊎ IsTrue (w.missing c.disk)
+      of_beside true is = inl (beside_cause c is)
+      of_beside false off =
+          let block = tied.describes.volumes.inside lv b c copy in
+          let one = copy_its tied.describes.volumes block.row block.lp b c block.volume block.inside off (subst (λ n. IsTrue (v.is_copy n b c)) (sym block.number) copy) in
+          let found : volume_of core.descriptor lv ≡ Some block.row = subst (λ n. volume_of core.descriptor n ≡ Some block.row) block.number (number_finds core.descriptor block.row (valid_of s tied.write tied.orderly) block.volume) in
+          let copies : copies_in core.descriptor lv (partition_of core.descriptor.mib b) ≡ copies_of block.row block.lp
+          = ap (λ (m : Option LvRow). option_map_or (λ (row : LvRow). copies_of row (partition_of core.descriptor.mib b)) m []) found ∙ ap (copies_of block.row) block.inside.partition in
+          unusable (had lv b c over (ap (λ (ps : List Pp). is_among ps c) copies ∙ one_among (copies_of block.row block.lp) c one))
 
   landing_is : (r : Asked) (how : Outcome) → HasLandedFor s r how → LandingIsCaused w v r how
   landing_is r outcome.Lost why = (why.0, failed_of why.0 why.1)
@@ -326,9 +344,9 @@ causes_are_seen past first s w tied causes faults = record {
   asked_before = faults.asked_before;
   missing = missing_is past first s w tied causes faults;
   still_missing = still_is past first s w tied causes faults;
-  committed = λ c is. of_stale past first s w tied causes faults c (sym (stale_seen past s tied c) ∙ is);
+  committed = λ c is. seen_cause past first s w tied causes faults s.core.status.committed c (sym (ap (λ (m : Marks). m.stale c) tied.sees.status.committed) ∙ is) (of_stale past first s w tied causes faults c);
   in_flight = in_flight_is past first s w tied causes faults;
-  wanted = λ c is. of_wanted past first s w tied causes faults c (sym (wanted_seen past s tied c) ∙ is);
+  wanted = λ c is. seen_cause past first s w tied causes faults s.core.status.wanted c (sym (ap (λ (m : Marks). m.stale c) tied.sees.status.wanted) ∙ is) (of_wanted past first s w tied causes faults c);
   brought_up = brought_up_is past first s w tied causes faults;
   failed = failed_is past first s w tied causes faults;
   landed = landed_is past first s w tied causes faults;

@@ -41,11 +41,11 @@ use Rattle.lvm_session.specs.declared.open.Open.{Open}
 use Rattle.lvm_session.specs.declared.open.Power.TheVariants as power
 use Rattle.lvm_session.specs.State.{Core, State, state}
 use Rattle.lvm_session.specs.Bringing.{after_copy_end, ends_if, is_held_stale, is_done_end, is_out, is_whole, marked_by_end, with_back, with_end as with_copy_end}
-use Rattle.lvm_session.specs.Judging.{all_but_sure, is_kept, is_running, is_sure, is_sure_at, is_waiting, place_of, pps_of}
+use Rattle.lvm_session.specs.Judging.{all_but_sure, copies_for, is_kept, is_running, is_sure, is_sure_at, is_waiting, place_of, pps_of}
 use Rattle.lvm_session.specs.Ends.{DataLearns, Ends, Learns, after_data, keeps_buffer, learned}
 use Rattle.lvm_session.specs.Events.{IsDataTransfer}
 use Rattle.lvm_session.specs.Marks.{Entails, WantsStale, due_of, due_targets, end_by_write, hits_copy, is_among}
-use Rattle.lvm_session.specs.Requests.{IsTarget}
+use Rattle.lvm_session.specs.Requests.{IsAimed, IsTarget}
 use Rattle.lvm_session.specs.Sound.{IsSound}
 use Rattle.lvm_invariant.specs.State.{Going, Marks, ModelCopy, Queued, Stage, ModelState, covers}
 use Rattle.lvm_invariant.specs.Good.{Good}
@@ -57,7 +57,7 @@ use Rattle.lvm_invariant.specs.Want.{Replaced, Wants, after_wants}
 use Rattle.lvm_invariant.proofs.EventsLemmas.Each.{each_keeps}
 use Rattle.lvm_invariant.proofs.StateLemmas.Rules.{each_has}
 use Rattle.lvm_crash.specs.Left.{KeepsGroup}
-use Rattle.lvm_crash.specs.Session.{Describes, marks_of}
+use Rattle.lvm_crash.specs.Session.{Describes, marks_of, is_beside, members_showing}
 use Rattle.lvm_even.specs.Members.{members_showing}
 use Rattle.lvm_crash.proofs.OwnedLemmas.{covers_its}
 use Rattle.lvm_crash.proofs.RecordsLemmas.Quiet.{quiet_lasts, update_goes_on}
@@ -65,7 +65,7 @@ use Rattle.lvm_crash.proofs.WritingLemmas.{group_kept, pp_same, records_same, sa
 use Rattle.lvm_crash.specs.Owned.{OnlyUpdateSince}
 use Rattle.lvm_crash.specs.Writing.{WriteEnded, after_write, stage_of}
 use Rattle.lvm_tie.proofs.SeenLemmas.Changing.{same_long, sees_changed, stage_after, step_apart, target_moves, target_was}
-use Rattle.lvm_tie.proofs.StateLemmas.{among_one, aimed_of, stale_is, target_stays}
+use Rattle.lvm_tie.proofs.StateLemmas.{among_one, aimed_of, copy_is, one_apart, whole_stale}
 use Rattle.lvm_tie.proofs.TiedLemmas.Orderly.{AreOut, Differ, HasTargets, HaveNumbers, HaveTickets, IsDataOut, IsOut, begun_by, numbers_of, open_one, out_of, targets_of, tickets_of, valid_of, waiting_one}
 use Rattle.lvm_tie.proofs.TiedLemmas.Tied.{DataParts, data_parts}
 use Rattle.lvm_tie.proofs.AmongLemmas.{any_one, its_pp, not_true, one_there, or_either, or_true, target_of}
@@ -82,7 +82,8 @@ use Rattle.lvm_tie.proofs.OutLemmas.Next.{next_by_data}
 use Rattle.lvm_tie.specs.Near.{IsNear, IsRunning, open_after}
 use Rattle.lvm_tie.proofs.NearLemmas.{near_ties, with_end_status}
 use Rattle.lvm_tie.proofs.WantedLemmas.Reviewing.{opened}
-use Rattle.lvm_session.proofs.MovesLemmas.{unmoving}
+use Rattle.lvm_session.proofs.MovesLemmas.{place_open, stale_of}
+use Rattle.lvm_tie.proofs.SeenLemmas.Beside.{beside_stale, destination_beside, fresh_so, stale_apart, stale_so}
 
 -- the target that has changed
 state_there : (ts : List Target) (number : ℕ) (t : Target) (s : TargetState) → slice_get ts number ≡ Some t → slice_get (with_state ts number s) number ≡ Some (record t { state = s })
@@ -313,9 +314,12 @@ module _ (past : List Fact) (old new : State) (index : ℕ) (ends : Ends old new
 
   sure_of : (p : Pp) → StaysFresh w p → is_sure core2 p ≡ true
   sure_of p fresh =
-      let committed : calls_stale old.core.status.committed p ≡ false = sym (ap (λ (m : Marks). m.stale p) tied.sees.status.committed) ∙ fresh.committed in
-      let wanted : calls_stale old.core.status.wanted p ≡ false = sym (ap (λ (m : Marks). m.stale p) tied.sees.status.wanted) ∙ fresh.wanted in
+      let committed : calls_stale old.core.status.committed p ≡ false = (fresh_so v.beside old.core.status.committed p (sym (ap (λ (m : Marks). m.stale p) tied.sees.status.committed) ∙ fresh.committed)).1 in
+      let wanted : calls_stale old.core.status.wanted p ≡ false = (fresh_so v.beside old.core.status.wanted p (sym (ap (λ (m : Marks). m.stale p) tied.sees.status.wanted) ∙ fresh.wanted)).1 in
       λ k. not (committed k) && not (wanted k)
+
+  apart_of : (p : Pp) → StaysFresh w p → is_beside v.beside p ≡ false
+  apart_of p fresh = (fresh_so v.beside old.core.status.committed p (sym (ap (λ (m : Marks). m.stale p) tied.sees.status.committed) ∙ fresh.committed)).0
 
   covers_first : IsTrue (covers q2 q2.lv q2.first)
   covers_first =
@@ -324,12 +328,45 @@ module _ (past : List Fact) (old new : State) (index : ℕ) (ends : Ends old new
       let here : q2.first + 0 ≡ q2.first = omega arith in
       subst (λ n. IsTrue (covers q2 q2.lv n)) here (covers_its q2 0 (omega arith))
 
-  -- each is a copy
-  stays_copy : (x : Target) → IsOneOf ts2 x → x.moves ≡ false
-  stays_copy x one =
+  -- what each target was
+  record WasTarget (x : Target) : Type 0 where
+    was : Target
+    its : IsTarget old.core o.request.ask was
+    moves : was.moves ≡ x.moves
+    pp : was.pp ≡ x.pp
+
+  was_target : (x : Target) → IsOneOf ts2 x → WasTarget x
+  was_target x one =
       let there = one_there ts2 x one in
       let was = target_moves ts number (end_state ends.ok) there.0 x there.1 in
-      sym was.2 ∙ target_stays past old tied o.request.ask was.0 (all_at (IsTarget old.core o.request.ask) ts there.0 was.0 (waiting_one old tied.write tied.orderly learns.place o learns.its.there out.waiting).shape.targets was.1)
+      let at = target_was ts number (end_state ends.ok) there.0 x there.1 in
+      let same : at.0 ≡ was.0 = same_Some at.0 was.0 (sym at.1 ∙ was.1) in
+      record {
+        was = was.0;
+        its = all_at (IsTarget old.core o.request.ask) ts there.0 was.0 (waiting_one old tied.write tied.orderly learns.place o learns.its.there out.waiting).shape.targets was.1;
+        moves = was.2;
+        pp = ap (λ (y : Target). y.pp) (sym same) ∙ at.2;
+      }
+
+  -- one that isn't beside is a copy
+  stays_copy : (x : Target) → IsOneOf ts2 x → is_beside v.beside x.pp ≡ false → x.moves ≡ false
+  stays_copy x one off = by x.moves refl
+    where
+      by : (b : Bool) → x.moves ≡ b → b ≡ false
+      by false is = refl
+      by true is =
+          let at_x = was_target x one in
+          let aimed = subst (λ (b : Bool). IsAimed b old.core o.request.ask at_x.was) (at_x.moves ∙ is) at_x.its.copy in
+          let at_c = place_open old.core o.request.ask at_x.was.pp aimed.0 in
+          clash_gives (is_beside v.beside x.pp) (ap (is_beside v.beside) (sym at_x.pp ∙ at_c.is) ∙ destination_beside old.core at_c.copy v.beside tied.sees.beside at_c.is_open at_c.moves) off
+
+  -- and a copy isn't beside
+  apart_copy : (x : Target) → IsOneOf ts2 x → x.moves ≡ false → is_beside v.beside x.pp ≡ false
+  apart_copy x one is =
+      let at_x = was_target x one in
+      let among = subst (λ (b : Bool). IsAimed b old.core o.request.ask at_x.was) (at_x.moves ∙ is) at_x.its.copy in
+      ap (is_beside v.beside) (sym at_x.pp)
+      ∙ one_apart past old tied o.request.ask (open_one old tied.write tied.orderly learns.place o learns.its.there).laid.within at_x.was.pp (among_one (copies_for old.core o.request.ask) at_x.was.pp among)
 
   -- one of its targets is sure, and stays so
   stays : Stays core2 ts2 (due_targets core2 o2.request)
@@ -343,7 +380,7 @@ module _ (past : List Fact) (old new : State) (index : ℕ) (ends : Ends old new
       by false is =
           let kept = each_has w i q2 good_w.sound (record { there = (put_there v i q2); write = parts.started.write; going = parts.started.going }) covers_first in
           let u = stage_one ts2 kept.copy kept.stage (sym (sees2.targets kept.copy) ∙ kept.target) in
-          sure_stays core2 ts2 u.0 (are_apart ts2 differ2) u.1 (sure_at core2 u.0 kept.copy (stays_copy u.0 u.1) u.2 (sure_of kept.copy kept.kept))
+          sure_stays core2 ts2 u.0 (are_apart ts2 differ2) u.1 (sure_at core2 u.0 kept.copy (stays_copy u.0 u.1 (ap (is_beside v.beside) u.2 ∙ apart_of kept.copy kept.kept)) u.2 (sure_of kept.copy kept.kept))
 
   its_copy : (x : Target) → IsOneOf ts2 x → IsTrue (v.is_copy (lv_of o.request.ask) (at_of o.request.ask) x.pp)
   its_copy x one =
@@ -354,11 +391,17 @@ module _ (past : List Fact) (old new : State) (index : ℕ) (ends : Ends old new
   keeper_sure : is_sure core2 stays.keeper.pp ≡ true
   keeper_sure = (and_parts (not stays.keeper.moves) (is_sure core2 stays.keeper.pp) stays.sure).1
 
+  keeper_apart : is_beside v.beside stays.keeper.pp ≡ false
+  keeper_apart = apart_copy stays.keeper stays.one (not_true stays.keeper.moves (and_parts (not stays.keeper.moves) (is_sure core2 stays.keeper.pp) stays.sure).0)
+
   keeper_fresh : calls_stale old.core.status.committed stays.keeper.pp ≡ false
   keeper_fresh = not_true (calls_stale old.core.status.committed stays.keeper.pp) (and_parts (not (calls_stale old.core.status.committed stays.keeper.pp)) (not (calls_stale old.core.status.wanted stays.keeper.pp)) keeper_sure).0
 
   keeper_wanted : calls_stale old.core.status.wanted stays.keeper.pp ≡ false
   keeper_wanted = not_true (calls_stale old.core.status.wanted stays.keeper.pp) (and_parts (not (calls_stale old.core.status.committed stays.keeper.pp)) (not (calls_stale old.core.status.wanted stays.keeper.pp)) keeper_sure).1
+
+  keeper_seen : IsFalse (v.committed.value.stale stays.keeper.pp)
+  keeper_seen = ap (λ (m : Marks). m.stale stays.keeper.pp) tied.sees.status.committed ∙ stale_apart v.beside old.core.status.committed stays.keeper.pp keeper_apart ∙ keeper_fresh
 
   -- what is due is one of its targets
   record IsTargets (p : Pp) : Type 0 where
@@ -440,35 +483,37 @@ module _ (past : List Fact) (old new : State) (index : ℕ) (ends : Ends old new
       by false is = refl
       by true is =
           let m = marked stays.keeper.pp is in
-          let stale = ((stale_is past old tied m.its_hit.copy m.its_hit.is_open).clearing m.its_hit.running m.all).0 in
-          clash_gives (calls_stale old.core.status.committed stays.keeper.pp) (ap (calls_stale old.core.status.committed) m.same ∙ stale) keeper_fresh
+          let stale = whole_stale past old tied m.its_hit.copy m.its_hit.is_open m.its_hit.running m.all in
+          clash_gives (v.committed.value.stale stays.keeper.pp) (ap v.committed.value.stale m.same ∙ stale) keeper_seen
 
   module _ (status : Stored) (wants : WantsStale due core2.status status) where
-    from_target : (p : Pp) → IsTargets p → Replaced w (marks_of None status.wanted) p
+    from_target : (p : Pp) → IsTargets p → Replaced w (marks_of v.beside status.wanted) p
     from_target p x = record {
       lv = lv_of o.request.ask;
       block = at_of o.request.ask;
       other = stays.keeper.pp;
       copy = subst (λ (c : Pp). IsTrue (v.is_copy (lv_of o.request.ask) (at_of o.request.ask) c)) x.there (its_copy x.one x.its_one);
       other_copy = its_copy stays.keeper stays.one;
-      fresh = ap (λ (m : Marks). m.stale stays.keeper.pp) tied.sees.status.committed ∙ keeper_fresh;
-      kept = wants.stale stays.keeper.pp ∙ (λ k. keeper_wanted k || (keeper_not_due k || keeper_not_marked k));
+      fresh = keeper_seen;
+      kept = stale_apart v.beside status.wanted stays.keeper.pp keeper_apart ∙ wants.stale stays.keeper.pp ∙ (λ k. keeper_wanted k || (keeper_not_due k || keeper_not_marked k));
     }
 
-    replaced : (p : Pp) → due p ≡ true → IsTrue (w.wanted.stale p) ⊎ Replaced w (marks_of None status.wanted) p ⊎ ((lv b : ℕ) → IsTrue (w.is_copy lv b p) → ⊥)
+    replaced : (p : Pp) → due p ≡ true → IsTrue (w.wanted.stale p) ⊎ Replaced w (marks_of v.beside status.wanted) p ⊎ ((lv b : ℕ) → IsTrue (w.is_copy lv b p) → ⊥)
     replaced p is = ⊎_elim
         (λ among. inr (inl (from_target p (due_one p among))))
-        (λ mark. let m = marked p mark in inr (inl (subst (Replaced w (marks_of None status.wanted)) (sym m.same) (from_target m.its_hit.copy.pp m.its_hit.target))))
+        (λ mark. let m = marked p mark in inr (inl (subst (Replaced w (marks_of v.beside status.wanted)) (sym m.same) (from_target m.its_hit.copy.pp m.its_hit.target))))
         (or_either (is_among (due_of core2 o2.request) p) (marked_by_end core2 how p) is)
 
+    abbrev marks : Marks
+    marks = marks_of v.beside status.wanted
+
     -- one that ends is wanted stale
-    ends_stale : (h : CopyEnd) → how ≡ Some h → (x : ModelCopy) → v.open_copy ≡ Some x → calls_stale status.wanted x.target ≡ true
+    ends_stale : (h : CopyEnd) → how ≡ Some h → (x : ModelCopy) → v.open_copy ≡ Some x → IsTrue (marks.stale x.target)
     ends_stale h is x open_is =
         let its_hit = hit h is in
         let c : OpenCopy = its_hit.copy in
         let brought = (opened past old tied c its_hit.is_open its_hit.running).0 in
-        ap (calls_stale status.wanted) (brought.target x open_is) ∙ wants.stale c.pp
-        ∙ or_true (calls_stale old.core.status.wanted c.pp) (due c.pp) (by c its_hit.is_open (unmoving old.core c its_hit.is_open brought.stays) brought.part (ap (λ (e : Option CopyEnd). marked_by_end core2 e c.pp) (is ∙ ap (λ (e : CopyEnd). Some e) its_hit.fails)) (is_whole old.core c) refl)
+        ap marks.stale (brought.target x open_is) ∙ seen c its_hit.is_open its_hit.running (ap (λ (e : Option CopyEnd). marked_by_end core2 e c.pp) (is ∙ ap (λ (e : CopyEnd). Some e) its_hit.fails)) c.moves refl
       where
         by : (c : OpenCopy) → old.core.copy ≡ Some c → c.moves ≡ false → (is_whole old.core c ≡ false → calls_stale old.core.status.wanted c.pp ≡ true) → marked_by_end core2 how c.pp ≡ option_map_or (λ (y : OpenCopy). is_whole old.core y && is_pp c.pp y.pp && (not y.moves || is_held_stale old.core y.pp)) old.core.copy false
             → (b : Bool) → is_whole old.core c ≡ b → (calls_stale old.core.status.wanted c.pp ≡ true) ⊎ (due c.pp ≡ true)
@@ -476,13 +521,35 @@ module _ (past : List Fact) (old new : State) (index : ℕ) (ends : Ends old new
         by c here fixed stale mark true all = inr (or_true (is_among (due_of core2 o2.request) c.pp) (marked_by_end core2 how c.pp)
             (inr (mark ∙ ap (λ (m : Option OpenCopy). option_map_or (λ (y : OpenCopy). is_whole old.core y && is_pp c.pp y.pp && (not y.moves || is_held_stale old.core y.pp)) m false) here ∙ (λ k. all k && same_pp c.pp c.pp refl k && (not (fixed k) || is_held_stale old.core c.pp)))))
 
+        seen : (c : OpenCopy) → old.core.copy ≡ Some c → is_running c ≡ true → marked_by_end core2 how c.pp ≡ option_map_or (λ (y : OpenCopy). is_whole old.core y && is_pp c.pp y.pp && (not y.moves || is_held_stale old.core y.pp)) old.core.copy false
+            → (m : Bool) → c.moves ≡ m → IsTrue (marks.stale c.pp)
+        seen c here runs mark true moves = beside_stale v.beside status.wanted c.pp (destination_beside old.core c v.beside tied.sees.beside here moves)
+        seen c here runs mark false stays_so = stale_so v.beside status.wanted c.pp
+            (wants.stale c.pp ∙ or_true (calls_stale old.core.status.wanted c.pp) (due c.pp) (by c here stays_so (λ part. ((stale_of old.core c (copy_is past old tied c here) stays_so).stale runs part).1) mark (is_whole old.core c) refl))
+
     -- ---- what the state wants
 
-    still : (p : Pp) → IsTrue (w.wanted.stale p) → IsTrue (calls_stale status.wanted p)
-    still p is = wants.stale p ∙ or_true (calls_stale old.core.status.wanted p) (due p) (inl (sym (ap (λ (m : Marks). m.stale p) tied.sees.status.wanted) ∙ is))
+    marks_are : (p : Pp) → marks.stale p ≡ is_beside v.beside p || (calls_stale old.core.status.wanted p || due p)
+    marks_are p = ap (λ b. is_beside v.beside p || b) (wants.stale p)
 
-    open_same : (e : Option CopyEnd) → ((h : CopyEnd) → e ≡ Some h → (x : ModelCopy) → v.open_copy ≡ Some x → calls_stale status.wanted x.target ≡ true)
-        → (open_after e v.open_copy ≡ v.open_copy) ⊎ ((open_after e v.open_copy ≡ None) × ((x : ModelCopy) → v.open_copy ≡ Some x → IsTrue (calls_stale status.wanted x.target)))
+    marks_were : (p : Pp) → v.wanted.stale p ≡ is_beside v.beside p || calls_stale old.core.status.wanted p
+    marks_were p = ap (λ (m : Marks). m.stale p) tied.sees.status.wanted
+
+    still : (p : Pp) → IsTrue (w.wanted.stale p) → IsTrue (marks.stale p)
+    still p is = marks_are p ∙ wider (is_beside v.beside p) (calls_stale old.core.status.wanted p) (due p) (sym (marks_were p) ∙ is)
+      where
+        wider : (x y z : Bool) → x || y ≡ true → x || (y || z) ≡ true
+        wider true y z h = refl
+        wider false true z h = refl
+        wider false false z h = absurd (cc h)
+
+    parted : (x y z : Bool) → x || (y || z) ≡ true → (x || y ≡ true) ⊎ (z ≡ true)
+    parted true y z h = inl refl
+    parted false true z h = inl refl
+    parted false false z h = inr h
+
+    open_same : (e : Option CopyEnd) → ((h : CopyEnd) → e ≡ Some h → (x : ModelCopy) → v.open_copy ≡ Some x → IsTrue (marks.stale x.target))
+        → (open_after e v.open_copy ≡ v.open_copy) ⊎ ((open_after e v.open_copy ≡ None) × ((x : ModelCopy) → v.open_copy ≡ Some x → IsTrue (marks.stale x.target)))
     open_same None each = inl refl
     open_same (Some h) each = inr (refl, each h refl)
 
@@ -490,22 +557,22 @@ module _ (past : List Fact) (old new : State) (index : ℕ) (ends : Ends old new
     open_there None x is = good_w.sound.statuses.open_there x is
     open_there (Some h) x is = absurd (cc is)
 
-    may_want : Wants w (marks_of None status.wanted) w.missing (open_after how v.open_copy)
+    may_want : Wants w (marks_of v.beside status.wanted) w.missing (open_after how v.open_copy)
     may_want = record {
       missing_still = λ d is. is;
       still = still;
       still_dirty = λ lv is. ap (λ (ns : List ℕ). list_any (λ n. n == lv) ns) wants.dirty ∙ sym (ap (λ (m : Marks). m.dirty lv) tied.sees.status.wanted) ∙ is;
-      added = λ p is. ⊎_elim (λ was. inl (ap (λ (m : Marks). m.stale p) tied.sees.status.wanted ∙ was)) (λ its. replaced p its) (or_either (calls_stale old.core.status.wanted p) (due p) (sym (wants.stale p) ∙ is));
+      added = λ p is. ⊎_elim (λ was. inl (marks_were p ∙ was)) (λ its. replaced p its) (parted (is_beside v.beside p) (calls_stale old.core.status.wanted p) (due p) (sym (marks_are p) ∙ is));
       open_same = open_same how ends_stale;
       open_there = open_there how;
-      behind = λ lv b c e copy fresh gone other usable kept. still c (good_w.sound.behind.left_behind lv b c e copy fresh gone other usable (false_by (w.wanted.stale e) (calls_stale status.wanted e) (still e) kept));
+      behind = λ lv b c e copy fresh gone other usable kept. still c (good_w.sound.behind.left_behind lv b c e copy fresh gone other usable (false_by (w.wanted.stale e) (marks.stale e) (still e) kept));
     }
 
     abbrev event : Event
-    event = Want (marks_of None status.wanted) w.missing (open_after how v.open_copy)
+    event = Want (marks_of v.beside status.wanted) w.missing (open_after how v.open_copy)
 
     abbrev w1 : ModelState
-    w1 = after_wants w (marks_of None status.wanted) w.missing (open_after how v.open_copy)
+    w1 = after_wants w (marks_of v.beside status.wanted) w.missing (open_after how v.open_copy)
 
     abbrev core3 : Core
     core3 = record core2 { status = status }

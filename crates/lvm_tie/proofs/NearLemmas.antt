@@ -21,7 +21,7 @@ use Rattle.lvm_session.specs.declared.flown.Owner.{Owner}
 use Rattle.lvm_session.specs.declared.flown.Owner.TheVariants as owner
 use Rattle.lvm_session.specs.State.{Core, state}
 use Rattle.lvm_session.specs.Judging.{is_running, place_of, is_missing}
-use Rattle.lvm_session.specs.Bringing.{after_copy_end, block_at, copy_ends, end_by_sources, end_of, ends_if, groups_of, hand_of, has_row, is_cleared, is_out, is_whole, with_back, with_end}
+use Rattle.lvm_session.specs.Bringing.{after_copy_end, block_at, copy_ends, end_by_sources, end_of, ends_if, hand_of, has_row, is_cleared, is_out, is_whole, with_back, with_end}
 use Rattle.lvm_session.specs.declared.bringing.CopyEnd.TheVariants as ending
 use Rattle.lvm_invariant.specs.State.{ModelCopy, Queued, ModelState, has_landed}
 use Rattle.lvm_invariant.specs.Good.{Good}
@@ -38,6 +38,7 @@ use Rattle.lvm_tie.specs.Out.{CarriesStep}
 use Rattle.lvm_tie.specs.Seen.{IsRequestAt, IsStepAt, Sees, SeesHand, SeesStep, step_write_in, step_write_of, update_of}
 use Rattle.lvm_tie.specs.Tied.{IsOrderly, IsTied}
 use Rattle.lvm_tie.specs.Near.{IsNear, IsRunning, NearTies}
+use Rattle.lvm_tie.proofs.SeenLemmas.Beside.{open_beside}
 use Rattle.lvm_session.proofs.MovesLemmas.{unmoving}
 
 -- a copy that the state as a whole makes end runs
@@ -137,7 +138,7 @@ module _ (past : List Fact) (device : Device) (core : Core) (how : CopyEnd) (nea
     notes = near.sees.notes;
     open_copy = none;
     step_write = write_out;
-    beside = near.sees.beside;
+    beside = open_beside core c v.beside near.sees.beside its.is_open;
     brings = unmoving core c its.is_open near.sees.brings;
   }
 
@@ -229,7 +230,7 @@ module _ (past : List Fact) (device : Device) (core : Core) (how : CopyEnd) (nea
     notes = near.sees.notes;
     open_copy = none;
     step_write = write_in out;
-    beside = near.sees.beside;
+    beside = open_beside core c v.beside near.sees.beside its.is_open;
     brings = unmoving core c its.is_open near.sees.brings;
   }
 
@@ -307,7 +308,7 @@ module _ (past : List Fact) (device : Device) (core : Core) (how : CopyEnd) (nea
       notes = near.sees.notes;
       open_copy = none;
       step_write = write_in out;
-      beside = near.sees.beside;
+      beside = open_beside core c v.beside near.sees.beside its.is_open;
       brings = unmoving core c its.is_open near.sees.brings;
     }
 

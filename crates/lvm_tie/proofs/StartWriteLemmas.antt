@@ -1,5 +1,5 @@
 -- Where the code would start the first transfer of a write, the write may start.
-use Rattle.std.proofs.Common.{◌≡◌, ◌⊎◌, inl, inr, ⊎_elim, ℕ, Bool, true, false, ◌&&◌, ◌||◌, not, List, filter, length, append-nil, ◌++◌, Option, Some, None, refl, sym, ap, subst, ◌∙◌, arith}
+use Rattle.std.proofs.Common.{◌≡◌, ◌⊎◌, inl, inr, ⊎_elim, ℕ, Bool, true, false, ◌&&◌, ◌||◌, not, List, length, ◌++◌, Option, Some, None, refl, sym, ap, subst, ◌∙◌, arith}
 use Rattle.std.specs.Prelude.{IsTrue, IsFalse, if◌then◌else◌, nat_le, slice_get, option_and_then}
 use Rattle.std.specs.List.{list_any, list_all}
 use Rattle.std.specs.Option.{option_map_or}
@@ -11,7 +11,7 @@ use Rattle.lvm_num.specs.declared.descriptor.Mode.{Mode}
 use Rattle.lvm_num.specs.declared.descriptor.Mode.TheVariants as mode
 use Rattle.lvm_num.specs.Geometry.{track_group_of}
 use Rattle.lvm_num.specs.Status.{calls_dirty}
-use Rattle.lvm_num.proofs.AmongLemmas.{filter_one}
+use Rattle.lvm_num.proofs.AmongLemmas.{filter_one, one_any, one_of_either, one_of_left, one_of_right}
 use Rattle.lvm_vol.specs.Facts.{Fact}
 use Rattle.lvm_vol.specs.declared.entry.Outcome.TheVariants as outcome
 use Rattle.lvm_kept.specs.Group.{IsOneOf}
@@ -32,12 +32,17 @@ use Rattle.lvm_path.specs.Targets.{is_begun}
 use Rattle.lvm_path.specs.Next.{next_write, next_chosen, next_data, next_read, next_in, next_of}
 use Rattle.lvm_session.specs.declared.open.Open.{Open}
 use Rattle.lvm_session.specs.State.{Core, State, is_there}
-use Rattle.lvm_session.specs.Judging.{copies_for, group_in, group_of, mode_of, is_usable, is_caught, is_missing, is_wanted_stale, is_settled, is_held_by_move, aims, destination_aims, pps_of, same_pps, has_names, has_dirty_mark, place_of, facts_of, IsWithinVolume}
+use Rattle.lvm_session.specs.Judging.{copies_for, group_in, group_of, mode_of, is_usable, is_caught, is_missing, is_wanted_stale, is_settled, is_held_by_move, aims, destination_aims, destinations_for, pps_of, same_pps, has_names, has_dirty_mark, place_of, facts_of, IsWithinVolume}
 use Rattle.lvm_session.specs.Enabled.{target_due, target_next}
 use Rattle.lvm_invariant.specs.State.{Stage, Todo, Ready, Groups, Marks, Queued, ModelState, is_usable as sees_usable, is_settled_stale, HasPassed}
 use Rattle.lvm_invariant.specs.StartWrite.{MayStartWrite}
 use Rattle.lvm_keeps_events.proofs.passed.Names.{first_start_is_noted}
-use Rattle.lvm_tie.proofs.StateLemmas.{no_places, wanted_seen, usable_seen, settled_seen, copy_is_one, on_member, there_is_copy, caught_passed, passed_caught}
+use Rattle.lvm_num.specs.Descriptor.{is_pp}
+use Rattle.lvm_num.proofs.Booleans.{clash_gives}
+use Rattle.lvm_session.specs.Marks.{is_among}
+use Rattle.lvm_crash.specs.Session.{is_beside}
+use Rattle.lvm_crash.proofs.WritingLemmas.{same_pp}
+use Rattle.lvm_tie.proofs.StateLemmas.{beside_is_stale, beside_settled, caught_passed, copy_destination, copy_is_one, destination_beside_it, one_beside, passed_caught, settled_seen, there_is_copy, usable_one, wanted_seen}
 use Rattle.lvm_tie.proofs.ModesLemmas.{active_is, active_mode, passive_is, passive_mode}
 use Rattle.lvm_tie.proofs.TiedLemmas.Orderly.{open_one}
 use Rattle.lvm_tie.proofs.AmongLemmas.{or_left, or_either, or_true, not_true, and_not, any_one, any_none, all_one, one_filter, same_lists, stage_of_one, one_todo, its_pp, target_of, few_same}
@@ -145,20 +150,24 @@ module _ (past : List Fact) (s : State) (tied : IsTied past s) (o : Open) (numbe
       (λ (is : o.request.phase ≡ phase.Data). ap (λ (p : Phase). phase_seen p (is_begun ts)) is ∙ ap (phase_seen phase.Data) early)
       tells.record_is
 
-  -- its targets are the copies to which it must go
-  aims_are : pps_of ts ≡ aims core ask
+  -- its targets are the copies to which it must go, and the destination of a move
+  aims_are : pps_of ts ≡ aims core ask ++ destination_aims core ask
   aims_are = same_lists (pps_of ts) (aims core ask ++ destination_aims core ask) (and_not (is_write ask) (same_pps (pps_of ts) (aims core ask ++ destination_aims core ask)) tells.changed writes)
-      ∙ ap (λ (ps : List Pp). aims core ask ++ filter (is_caught core (group_in core ask)) ps) (no_places past s tied ask) ∙ append-nil (aims core ask)
 
-  -- a target is a copy that is usable, or being brought up and has passed the track group
-  pub record IsAim (e : Pp) : Type 0 where
-    pub one : IsOneOf (copies_for core ask) e
-    pub counts : (is_usable core e ≡ true) ⊎ (is_caught core (group_in core ask) e ≡ true)
+  -- a target is a copy that is usable, or being brought up and has passed the track group, or the destination of a move that has
+  pub data IsAim (e : Pp) : Type 0 where
+    Copy : IsOneOf (copies_for core ask) e → (is_usable core e ≡ true) ⊎ (is_caught core (group_in core ask) e ≡ true) → IsAim e
+    Destination : is_among (destinations_for core ask) e ≡ true → is_caught core (group_in core ask) e ≡ true → IsAim e
 
   aim_of : (e : Pp) → IsOneOf (pps_of ts) e → IsAim e
-  aim_of e one =
-      let of = filter_one (λ (p : Pp). is_usable core p || is_caught core (group_in core ask) p) (copies_for core ask) e (subst (λ (ps : List Pp). IsOneOf ps e) aims_are one) in
-      record { one = of.0; counts = or_either (is_usable core e) (is_caught core (group_in core ask) e) of.1 }
+  aim_of e one = ⊎_elim
+      (λ (here : IsOneOf (aims core ask) e).
+      let of = filter_one (λ (p : Pp). is_usable core p || is_caught core (group_in core ask) p) (copies_for core ask) e here in
+      Copy of.0 (or_either (is_usable core e) (is_caught core (group_in core ask) e) of.1))
+      (λ (there : IsOneOf (destination_aims core ask) e).
+      let of = filter_one (is_caught core (group_in core ask)) (destinations_for core ask) e there in
+      Destination (one_any (is_pp e) (destinations_for core ask) e of.0 (same_pp e e refl)) of.1)
+      (one_of_either (aims core ask) (destination_aims core ask) e (subst (λ (ps : List Pp). IsOneOf ps e) aims_are one))
 
   passed_here : (e : Pp) → HasPassed v (lv_of ask) (track_group_of (at_of ask)) e → HasPassed v q.lv (track_group_of q.first) e
   passed_here e p = record { copy = p.copy; is_open = p.is_open; target = p.target; passed = (λ t. p.copy.passed (sees.lv t) (track_group_of (sees.first t))) ∙ p.passed }
@@ -167,10 +176,9 @@ module _ (past : List Fact) (s : State) (tied : IsTied past s) (o : Open) (numbe
   passed_there e p = record { copy = p.copy; is_open = p.is_open; target = p.target; passed = sym (λ t. p.copy.passed (sees.lv t) (track_group_of (sees.first t))) ∙ p.passed }
 
   counts_seen : (e : Pp) → IsAim e → IsTrue (sees_usable v e) ⊎ HasPassed v q.lv (track_group_of q.first) e
-  counts_seen e a = ⊎_elim
-      (λ usable. inl (usable_seen past s tied e (on_member past s tied ask inside e a.one) ∙ usable))
-      (λ caught. inr (passed_here e (caught_passed past s tied ask inside e a.one caught)))
-      a.counts
+  counts_seen e (Copy one (inl usable)) = inl (usable_one past s tied ask inside e one ∙ usable)
+  counts_seen e (Copy one (inr caught)) = inr (passed_here e (caught_passed past s tied ask inside e (one_beside past s tied ask inside e one) caught))
+  counts_seen e (Destination among caught) = inr (passed_here e (caught_passed past s tied ask inside e (destination_beside_it past s tied ask inside e among) caught))
 
   -- its disk is there
   there_too : (e : Pp) → IsAim e → IsTrue (is_there core e.disk)
@@ -192,29 +200,45 @@ module _ (past : List Fact) (s : State) (tied : IsTied past s) (o : Open) (numbe
   copy_at_first e copy = sym (λ t. v.is_copy (sees.lv t) (sees.first t) e) ∙ copy
 
   each : (e : Pp) → IsTrue (v.is_copy q.lv q.first e) → IsTrue (sees_usable v e) ⊎ HasPassed v q.lv (track_group_of q.first) e → q.targets e ≡ Some Todo
-  each e copy counts =
-      let one = copy_is_one past s tied ask inside e (copy_at_first e copy) in
-      let passes : (is_usable core e || is_caught core (group_in core ask) e) ≡ true = or_true (is_usable core e) (is_caught core (group_in core ask) e) (⊎_elim
-      (λ usable. inl (sym (usable_seen past s tied e (on_member past s tied ask inside e one)) ∙ usable))
-      (λ p. inr (passed_caught past s tied ask inside e one (passed_there e p)))
-      counts) in
-      to_do e (subst (λ (ps : List Pp). IsOneOf ps e) (sym aims_are) (one_filter (λ (p : Pp). is_usable core p || is_caught core (group_in core ask) p) (copies_for core ask) e one passes))
+  each e copy counts = to_do e (subst (λ (ps : List Pp). IsOneOf ps e) (sym aims_are) (by (is_beside v.beside e) refl))
+    where
+      -- the destination of a move isn't usable, so it has passed
+      beside_passed : IsTrue (is_beside v.beside e) → IsTrue (sees_usable v e) ⊎ HasPassed v q.lv (track_group_of q.first) e → HasPassed v q.lv (track_group_of q.first) e
+      beside_passed is (inr passed) = passed
+      beside_passed is (inl usable) = clash_gives (v.committed.value.stale e) (beside_is_stale past s tied e is) (not_true (v.committed.value.stale e) (and_parts (not (v.committed.value.stale e)) (not (v.missing e.disk)) usable).0)
+
+      by : (b : Bool) → is_beside v.beside e ≡ b → IsOneOf (aims core ask ++ destination_aims core ask) e
+      by false off =
+          let one = copy_is_one past s tied ask inside e off (copy_at_first e copy) in
+          let passes : (is_usable core e || is_caught core (group_in core ask) e) ≡ true = or_true (is_usable core e) (is_caught core (group_in core ask) e) (⊎_elim
+          (λ usable. inl (sym (usable_one past s tied ask inside e one) ∙ usable))
+          (λ p. inr (passed_caught past s tied ask inside e (one_beside past s tied ask inside e one) (passed_there e p)))
+          counts) in
+          one_of_left (aims core ask) (destination_aims core ask) e (one_filter (λ (p : Pp). is_usable core p || is_caught core (group_in core ask) p) (copies_for core ask) e one passes)
+      by true is =
+          let at = copy_destination past s tied ask inside e is (copy_at_first e copy) in
+          let caught = passed_caught past s tied ask inside e (destination_beside_it past s tied ask inside e (one_any (is_pp e) (destinations_for core ask) e at (same_pp e e refl))) (passed_there e (beside_passed is counts)) in
+          one_of_right (aims core ask) (destination_aims core ask) e (one_filter (is_caught core (group_in core ask)) (destinations_for core ask) e at caught)
 
   rest_false : (a b : Bool) → a || b ≡ false → b ≡ false
   rest_false true b e = absurd (cc e)
   rest_false false b e = e
 
   quiet : (e : Pp) → IsTrue (v.is_copy q.lv q.first e) → IsTrue (v.wanted.stale e) → IsTrue (is_settled_stale v e)
-  quiet e copy wanted =
-      let one = copy_is_one past s tied ask inside e (copy_at_first e copy) in
-      let none = or_left (list_any (λ (p : Pp). is_wanted_stale core p && not (is_settled core p)) (copies_for core ask)) _ (rest_false (is_held_by_move core ask) _ tells.pending) in
-      settled_seen past s tied e (and_not (is_wanted_stale core e) (is_settled core e) (any_none (λ (p : Pp). is_wanted_stale core p && not (is_settled core p)) (copies_for core ask) e none.0 one) (sym (wanted_seen past s tied e) ∙ wanted))
+  quiet e copy wanted = by (is_beside v.beside e) refl
+    where
+      by : (b : Bool) → is_beside v.beside e ≡ b → IsTrue (is_settled_stale v e)
+      by true is = beside_settled past s tied e is
+      by false off =
+          let one = copy_is_one past s tied ask inside e off (copy_at_first e copy) in
+          let none = or_left (list_any (λ (p : Pp). is_wanted_stale core p && not (is_settled core p)) (copies_for core ask)) _ (rest_false (is_held_by_move core ask) _ tells.pending) in
+          settled_seen past s tied e (and_not (is_wanted_stale core e) (is_settled core e) (any_none (λ (p : Pp). is_wanted_stale core p && not (is_settled core p)) (copies_for core ask) e none.0 one) (sym (wanted_seen past s tied e off) ∙ wanted))
 
   source : (p : Pp) × IsTrue (v.is_copy q.lv q.first p) × IsTrue (sees_usable v p)
   source =
       let found = any_one (is_usable core) (copies_for core ask) tells.usable in
       let missing : is_missing core found.0.disk ≡ false = not_true (is_missing core found.0.disk) (and_parts _ (not (is_missing core found.0.disk)) found.2).1 in
-      (found.0, (λ t. v.is_copy (sees.lv t) (sees.first t) found.0) ∙ there_is_copy past s tied ask inside found.0 found.1 missing, usable_seen past s tied found.0 (on_member past s tied ask inside found.0 found.1) ∙ found.2)
+      (found.0, (λ t. v.is_copy (sees.lv t) (sees.first t) found.0) ∙ there_is_copy past s tied ask inside found.0 found.1 missing, usable_one past s tied ask inside found.0 found.1 ∙ found.2)
 
   -- one of several targets has the records that its volume keeps
   recorded : nat_le 2 (length ts) ≡ true → (has_names core (mode_of core ask) o.request ≡ true) × (has_dirty_mark core (mode_of core ask) o.request ≡ true)

@@ -16,7 +16,8 @@ use Rattle.lvm_num.proofs.Booleans.{and_true, clash_gives}
 use Rattle.lvm_status.specs.Update.{Stored, Updates, is_held, is_owed, no_disks, seen, with_disk, without_disk}
 use Rattle.lvm_status.specs.Calls.{WantsAtEnd, after_end, comes_held, with_commit, with_end}
 use Rattle.lvm_status.specs.Runs.{IsSoundStatus}
-use Rattle.lvm_crash.specs.Session.{marks_of}
+use Rattle.lvm_invariant.specs.State.{Beside}
+use Rattle.lvm_crash.specs.Session.{is_beside, marks_of}
 use Rattle.lvm_tie.proofs.AmongLemmas.{not_true, or_true}
 use Rattle.lvm_tie.proofs.OutLemmas.Losing.{not_owed_by}
 use Rattle.lvm_tie.specs.Out.{is_owed_on}
@@ -80,9 +81,9 @@ missing_then disk false old new wants d there = by (d == disk) (sym (wants.missi
     by true h = absurd (cc h)
     by false h = h
 
-pub marks_then : (disk : ℕ) (ok : Bool) (old new : Status) → WantsAtEnd disk ok old new → marks_of None new ≡ marks_of None old
-marks_then disk true old new wants = ap (marks_of None) wants
-marks_then disk false old new wants = λ t. record { stale = λ p. wants.stale p t; dirty = λ lv. list_any (λ n. n == lv) (wants.dirty t) }
+pub marks_then : (beside : Option Beside) (disk : ℕ) (ok : Bool) (old new : Status) → WantsAtEnd disk ok old new → marks_of beside new ≡ marks_of beside old
+marks_then beside disk true old new wants = ap (marks_of beside) wants
+marks_then beside disk false old new wants = λ t. record { stale = λ p. is_beside beside p || wants.stale p t; dirty = λ lv. list_any (λ n. n == lv) (wants.dirty t) }
 
 -- ---- all of it
 

@@ -1,6 +1,6 @@
 -- How a session of the driver is seen without bytes: by what relation a state of the induction is that of its parts.
 use Rattle.std.specs.Prelude.{◌≡◌, ◌⊎◌, ℕ, ◌+◌, ◌*◌, ◌-◌, Bool, true, false, ◌&&◌, ◌==◌, not, nat_le, nat_lt, if◌then◌else◌, List, [], ◌∷◌, ◌++◌, length, Option, Some, None, IsTrue, slice_get, slice_index_or}
-use Rattle.std.specs.Option.{option_map}
+use Rattle.std.specs.Option.{option_map, option_map_or}
 use Rattle.lvm_num.specs.declared.place.Pp.{Pp}
 use Rattle.lvm_num.specs.declared.record.NoteEntry.{NoteEntry}
 use Rattle.lvm_num.specs.declared.status.Status.{Status}
@@ -29,8 +29,9 @@ use Rattle.lvm_session.specs.declared.bringing.Step.TheVariants as step
 use Rattle.lvm_session.specs.State.{Core, is_there}
 use Rattle.lvm_session.specs.Judging.{is_moving, is_running, place_of}
 use Rattle.lvm_session.specs.Bringing.{groups_of, has_row, block_at}
-use Rattle.lvm_invariant.specs.State.{Stage, Todo, Flying, Well, Badly, ModelPhase, Held, WantEntry, Ready, Going, Landed, Groups, Queued, ModelCopy, StepWrite, ModelState, Marks, has_landed}
+use Rattle.lvm_invariant.specs.State.{Stage, Todo, Flying, Well, Badly, ModelPhase, Held, WantEntry, Ready, Going, Landed, Groups, Queued, Beside, ModelCopy, StepWrite, ModelState, Marks, has_landed}
 use Rattle.lvm_num.specs.Descriptor.{is_pp}
+use Rattle.lvm_num.specs.Geometry.{partition_of}
 use Rattle.lvm_crash.specs.Session.{marks_of, as_marks}
 
 -- ---- requests
@@ -170,16 +171,17 @@ pub record SeesQueue (table : List Open) (open_copy : Option OpenCopy) (has_plac
 abbrev pub update_of : Stored → Option (Stamped Status)
 update_of status = option_map (λ (t : Status). record { stamp = status.stamp; value = t }) status.in_flight
 
--- Its marks are those of the three statuses, its writes of the update those that were started, and each disk that isn't a member which is there is missing.
-pub record SeesStatus (status : Stored) (there : Disks) (last : Stamped Marks) (update : Option (Stamped Marks)) (wants : Marks) (flying : Disks) (shown : ℕ → Option (Stamped Marks)) (gone : Disks) : Type 0 where
-  pub committed : last.value ≡ marks_of None status.committed
-  pub in_flight : update ≡ option_map (as_marks None) (update_of status)
-  pub wanted : wants ≡ marks_of None status.wanted
+-- Its marks are those of the three statuses, by which the partition beside counts as stale; its writes of the update those that were started, and each disk that
+-- isn't a member which is there is missing.
+pub record SeesStatus (beside : Option Beside) (status : Stored) (there : Disks) (last : Stamped Marks) (update : Option (Stamped Marks)) (wants : Marks) (flying : Disks) (shown : ℕ → Option (Stamped Marks)) (gone : Disks) : Type 0 where
+  pub committed : last.value ≡ marks_of beside status.committed
+  pub in_flight : update ≡ option_map (as_marks beside) (update_of status)
+  pub wanted : wants ≡ marks_of beside status.wanted
   pub started : (d : ℕ) → flying d ≡ has status.writes.started d
   -- a disk to which a write of the update has gone well shows it
   pub written : (d : ℕ) → has status.writes.written d ≡ true → shown d ≡ update
   -- an update that is committed and still being written is what is committed, with its stamp
-  pub held : (u : Stamped Status) → update_of status ≡ Some u → is_held (seen status) ≡ true → last ≡ as_marks None u
+  pub held : (u : Stamped Status) → update_of status ≡ Some u → is_held (seen status) ≡ true → last ≡ as_marks beside u
   pub missing : (d : ℕ) → gone d ≡ not (there d)
 
 -- Its cache and its notes at home, on the disks that are there, and in flight are those of the session's.
@@ -188,17 +190,30 @@ pub record SeesNotes (kept : Cached) (there : Disks) (groups : Groups) (at_home 
   pub home : (d lv g : ℕ) (n : DiskNotes) → IsTrue (there d) → notes_on kept d ≡ Some n → at_home d lv g ≡ names_group n.written.items lv g
   pub flying : (d : ℕ) → SeesNote (notes d) (flight_on kept d)
 
+-- ---- a copy that moves
+
+-- the blocks of the logical partition of the copy
+abbrev pub its_blocks : Core → OpenCopy → ℕ → ℕ → Bool
+its_blocks core c lv b = lv == c.lv && partition_of core.descriptor.mib b == c.lp
+
+-- its destination stands for them beside the group's copies, where it moves
+abbrev pub beside_if : Bool → Core → OpenCopy → Option Beside
+beside_if moves core c = if moves then Some (record { place = c.pp; its = its_blocks core c }) else None
+
+-- the partition beside the group's copies is the destination of the move that is open, also once it has ended
+abbrev pub beside_of : Core → Option Beside
+beside_of core = option_map_or (λ (c : OpenCopy). beside_if c.moves core c) core.copy None
+
 -- ---- all of it
 
 -- After this earlier history, which its own follows, the session is this state, but for what the disks show.
 pub record Sees (past : List Fact) (core : Core) (v : ModelState) : Type 0 where
   pub queue : SeesQueue core.requests core.copy (λ (c : OpenCopy). has_row core c) (λ (c : OpenCopy). block_at core c) core.history.facts v.queue v.name
   pub facts : v.facts ≡ past ++ core.history.facts
-  pub status : SeesStatus core.status (is_there core) v.committed v.in_flight v.wanted v.status_flying v.media.status v.missing
+  pub status : SeesStatus v.beside core.status (is_there core) v.committed v.in_flight v.wanted v.status_flying v.media.status v.missing
   pub notes : SeesNotes core.cache (is_there core) v.cache v.home_note v.flying_note
   pub open_copy : SeesCopy (groups_of core) core.copy v.open_copy
   pub step_write : v.step_write ≡ step_write_in core.copy
-  -- no partition is brought up beside the group's copies
-  pub beside : v.beside ≡ None
-  -- since no copy is open that moves
+  pub beside : v.beside ≡ beside_of core
+  -- no copy is open that moves
   pub brings : is_moving core ≡ false

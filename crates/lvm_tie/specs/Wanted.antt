@@ -6,21 +6,20 @@ use Rattle.lvm_num.specs.Descriptor.{IsValid, is_member}
 use Rattle.lvm_vol.specs.Facts.{Fact}
 use Rattle.lvm_session.specs.declared.bringing.OpenCopy.{OpenCopy}
 use Rattle.lvm_session.specs.State.{Core, is_there}
-use Rattle.lvm_session.specs.Judging.{is_moving, is_running, is_stale, is_wanted_stale}
+use Rattle.lvm_session.specs.Judging.{is_running}
 use Rattle.lvm_session.specs.Bringing.{copy_ends, is_whole}
 use Rattle.lvm_session.specs.Marks.{Reviews}
 use Rattle.lvm_invariant.specs.State.{ModelCopy, ModelState}
 use Rattle.lvm_invariant.specs.Want.{Wants}
-use Rattle.lvm_crash.specs.Session.{HasVolumes, marks_of}
+use Rattle.lvm_crash.specs.Session.{HasVolumes, is_beside, marks_of}
 use Rattle.lvm_tie.specs.Near.{open_after}
 
 -- ---- what is asked of the state
 
--- the state sees these statuses and no partition beside the copies, and these disks are missing now
+-- the state sees these statuses, and these disks are missing now
 pub record SeesMarks (core : Core) (v : ModelState) (missing : ℕ → Bool) : Type 0 where
-  pub committed : v.committed.value ≡ marks_of None core.status.committed
-  pub wanted : v.wanted ≡ marks_of None core.status.wanted
-  pub beside : v.beside ≡ None
+  pub committed : v.committed.value ≡ marks_of v.beside core.status.committed
+  pub wanted : v.wanted ≡ marks_of v.beside core.status.wanted
   pub missing_is : (d : ℕ) → missing d ≡ not (is_there core d)
   pub still : (d : ℕ) → IsTrue (v.missing d) → IsTrue (missing d)
 
@@ -32,14 +31,15 @@ KeepsFresh v = (lv b : ℕ) (c : Pp) → IsTrue (v.is_copy lv b c) → (e : Pp) 
 abbrev pub HasOwners : ModelState → Type 0
 HasOwners v = (lv b l d : ℕ) (c e : Pp) → IsTrue (v.is_copy lv b c) → IsTrue (v.is_copy l d c) → IsTrue (v.is_copy l d e) → IsTrue (v.is_copy lv b e)
 
--- No copy moves; the one that runs is the one that the state sees open, on a member; it is wanted stale until it is whole, and then stale by what is committed.
+-- The copy that runs is the one that the state sees open, on a member. As it is seen, it is wanted stale until it is whole, and then stale by what is committed; the
+-- destination of a move is seen so whatever the statuses say.
 pub record IsBrought (core : Core) (v : ModelState) (c : OpenCopy) : Type 0 where
   pub target : (o : ModelCopy) → v.open_copy ≡ Some o → o.target ≡ c.pp
   pub member : is_member core.descriptor c.pp.disk ≡ true
   pub there : (lv : ℕ) × (b : ℕ) × IsTrue (v.is_copy lv b c.pp)
-  pub part : is_whole core c ≡ false → is_wanted_stale core c.pp ≡ true
-  pub whole : is_whole core c ≡ true → is_stale core c.pp ≡ true
-  pub stays : is_moving core ≡ false
+  pub part : is_whole core c ≡ false → IsTrue (v.wanted.stale c.pp)
+  pub whole : is_whole core c ≡ true → IsTrue (v.committed.value.stale c.pp)
+  pub beside : IsTrue c.moves → IsTrue (is_beside v.beside c.pp)
 
 -- ---- what is wanted
 
@@ -49,4 +49,4 @@ ReviewIsWanted =
     (core new : Core) (v : ModelState) (missing : ℕ → Bool) (facts : List Fact) (members : Disks) → IsValid core.descriptor → HasVolumes v facts core.descriptor members
     → ((d : ℕ) → IsTrue (is_there core d) → IsTrue (members d)) → SeesMarks core v missing → KeepsFresh v → HasOwners v
     → ((c : OpenCopy) → core.copy ≡ Some c → is_running c ≡ true → IsBrought core v c) → (((c : OpenCopy) → core.copy ≡ Some c → is_running c ≡ true → ⊥) → v.open_copy ≡ None)
-    → Reviews core new → Wants v (marks_of None new.status.wanted) missing (open_after (copy_ends core) v.open_copy)
+    → Reviews core new → Wants v (marks_of v.beside new.status.wanted) missing (open_after (copy_ends core) v.open_copy)

@@ -1,5 +1,5 @@
 -- A tied session at which nothing is under way is at rest.
-use Rattle.std.proofs.Common.{◌≡◌, ◌⊎◌, ⊎_elim, ℕ, Bool, true, false, ◌&&◌, not, List, Option, Some, None, refl, sym, ap, subst, ◌∙◌, arith}
+use Rattle.std.proofs.Common.{◌≡◌, ◌↔◌, ◌⊎◌, ⊎_elim, ℕ, Bool, true, false, ◌&&◌, not, List, Option, Some, None, refl, sym, ap, subst, ◌∙◌, arith}
 use Rattle.std.specs.Prelude.{IsTrue, IsFalse, is_some, option_and_then, option_map}
 use Rattle.std.specs.Option.{option_map_or}
 use Rattle.std.proofs.lemmas.Bool.{and_parts}
@@ -24,11 +24,11 @@ use Rattle.lvm_session.specs.declared.bringing.OpenCopy.{OpenCopy}
 use Rattle.lvm_session.specs.State.{Core, State, is_there}
 use Rattle.lvm_session.specs.Bringing.{groups_of}
 use Rattle.lvm_session.specs.Sound.{IsOn}
-use Rattle.lvm_invariant.specs.State.{Groups, Marks, Queued, ModelState}
+use Rattle.lvm_invariant.specs.State.{Beside, Groups, Marks, Queued, ModelState}
 use Rattle.lvm_invariant.specs.Found.{Found}
-use Rattle.lvm_crash.specs.Session.{as_marks, marks_of, marks_shown, Describes}
+use Rattle.lvm_crash.specs.Session.{as_marks, marks_of, marks_shown, Describes, IsPlaceOf, members_showing}
 use Rattle.lvm_even.specs.Even.{HoldsAtRest}
-use Rattle.lvm_rest.specs.Rest.{IsModelAtRest, SeesThat}
+use Rattle.lvm_rest.specs.Rest.{IsModelAtRest, SeesThat, HoldsAtRest}
 use Rattle.lvm_rest.proofs.GoodLemmas.Rest.{good_is_rest}
 use Rattle.lvm_steps.proofs.GroupLemmas.Members.{parts_of}
 use Rattle.lvm_tie.proofs.StateLemmas.{there_first}
@@ -39,7 +39,7 @@ use Rattle.lvm_tie.specs.Seen.{IsRequestAt, IsStepAt, SeesCopy, SeesNote, step_w
 use Rattle.lvm_tie.specs.Tied.{IsTied, ShowsRecords, ShowsStatus}
 use Rattle.lvm_tie.specs.Begins.{NotesAreHomeIn, IsCoreAtRest, ShowsIts, TiedRests, shown_to}
 use Rattle.lvm_tie.proofs.BeginsLemmas.Resting.{names_written, none_at, some_is_none}
-use Rattle.lvm_tie.proofs.SeenLemmas.Beside.{plain_copies, plain_status}
+use Rattle.lvm_tie.proofs.SeenLemmas.Beside.{closed_beside}
 
 note_none : (n : Option Groups) → SeesNote n None → n ≡ None
 note_none None sees = refl
@@ -71,13 +71,17 @@ module _ (past : List Fact) (s : State) (tied : IsTied past s) (rests : IsCoreAt
   no_update = ap (λ (o : Option Status). option_map (λ (t : Status). let r : Stamped Status = record { stamp = core.status.stamp; value = t } in r) o) rests.in_flight
 
   none_flies : v.in_flight ≡ None
-  none_flies = tied.sees.status.in_flight ∙ ap (option_map (as_marks None)) no_update
+  none_flies = tied.sees.status.in_flight ∙ ap (option_map (as_marks v.beside)) no_update
+
+  -- no copy is open, so none moves
+  none_beside : v.beside ≡ None
+  none_beside = tied.sees.beside ∙ closed_beside core rests.copy
 
   idle : IsModelAtRest v
   idle = record {
     queue = λ i. empty i (v.queue i) refl;
     in_flight = none_flies;
-    wanted = tied.sees.status.wanted ∙ ap (marks_of None) (sym rests.committed) ∙ sym tied.sees.status.committed;
+    wanted = tied.sees.status.wanted ∙ ap (marks_of v.beside) (sym rests.committed) ∙ sym tied.sees.status.committed;
     no_status = λ d. tied.sees.status.started d ∙ (on.going.status.idle rests.in_flight d).1;
     no_note = λ d. note_none (v.flying_note d) (subst (SeesNote (v.flying_note d)) (rests.notes d) (tied.sees.notes.flying d));
     no_copy = subst (λ (o : Option OpenCopy). SeesCopy (groups_of core) o v.open_copy) rests.copy tied.sees.open_copy;
@@ -151,22 +155,22 @@ module _ (past : List Fact) (s : State) (tied : IsTied past s) (rests : IsCoreAt
   its_own : shows.stands.value.id ≡ group.id
   its_own = its_status.own
 
-  stated : v.media.status someone.0 ≡ Some (as_marks None shows.stands)
-  stated = plain_status tied.sees.beside tied.describes.shown someone.0 ∙ ap (marks_shown None group.id) (shows.stated someone.0 someone.3) ∙ shows_own group.id shows.stands its_own
+  stated : v.media.status someone.0 ≡ Some (as_marks v.beside shows.stands)
+  stated = tied.describes.shown.status someone.0 ∙ ap (marks_shown v.beside group.id) (shows.stated someone.0 someone.3) ∙ shows_own v.beside group.id shows.stands its_own
 
-  same_committed : v.committed ≡ as_marks None shows.stands
+  same_committed : v.committed ≡ as_marks v.beside shows.stands
   same_committed =
-      let r = shown_of group.id (c.status has_committed.disk) v.committed (sym (plain_status tied.sees.beside tied.describes.shown has_committed.disk) ∙ has_committed.shown) in
+      let r = shown_of v.beside group.id (c.status has_committed.disk) v.committed (sym (tied.describes.shown.status has_committed.disk) ∙ has_committed.shown) in
       ⊎_elim
       (λ (before : stamp_lt r.0.stamp shows.stands.stamp ≡ true). earlier (subst (λ (m : Stamped Marks). stamp_lt m.stamp shows.stands.stamp ≡ true) r.3 before))
-      (λ (same : r.0 ≡ shows.stands). sym r.3 ∙ ap (as_marks None) same)
+      (λ (same : r.0 ≡ shows.stands). sym r.3 ∙ ap (as_marks v.beside) same)
       (shows.last has_committed.disk r.0 r.1 r.2)
     where
-      earlier : stamp_lt v.committed.stamp shows.stands.stamp ≡ true → v.committed ≡ as_marks None shows.stands
+      earlier : stamp_lt v.committed.stamp shows.stands.stamp ≡ true → v.committed ≡ as_marks v.beside shows.stands
       earlier before = ⊎_elim
           (λ (after : stamp_lt shows.stands.stamp v.committed.stamp ≡ true). not_both v.committed.stamp shows.stands.stamp before after)
-          (λ (x : (as_marks None shows.stands ≡ v.committed) ⊎ (v.in_flight ≡ Some (as_marks None shows.stands))). ⊎_elim (λ (e : as_marks None shows.stands ≡ v.committed). sym e) (λ (e : v.in_flight ≡ Some (as_marks None shows.stands)). some_is_none v.in_flight (as_marks None shows.stands) none_flies e) x)
-          (tied.good.found.only someone.0 (as_marks None shows.stands) stated)
+          (λ (x : (as_marks v.beside shows.stands ≡ v.committed) ⊎ (v.in_flight ≡ Some (as_marks v.beside shows.stands))). ⊎_elim (λ (e : as_marks v.beside shows.stands ≡ v.committed). sym e) (λ (e : v.in_flight ≡ Some (as_marks v.beside shows.stands)). some_is_none v.in_flight (as_marks v.beside shows.stands) none_flies e) x)
+          (tied.good.found.only someone.0 (as_marks v.beside shows.stands) stated)
 
   -- ---- all that it sees
 
@@ -178,12 +182,12 @@ module _ (past : List Fact) (s : State) (tied : IsTied past s) (rests : IsCoreAt
 
   sees : SeesThat v group shows.stands (is_there core) c
   sees = record {
-    beside = tied.sees.beside;
-    copies = record { copies = plain_copies tied.sees.beside tied.describes.volumes; inside = tied.describes.volumes.inside; notes = tied.describes.volumes.notes; mark = tied.describes.volumes.mark };
+    beside = none_beside;
+    copies = record { copies = λ row lp b p one at. subst (λ (o : Option Beside). IsTrue (v.is_copy row.number b p) ↔ (IsPlaceOf o row lp b p × IsTrue (members_showing c group p.disk))) none_beside (tied.describes.volumes.copies row lp b p one at); inside = tied.describes.volumes.inside; notes = tied.describes.volumes.notes; mark = tied.describes.volumes.mark };
     blocks = tied.describes.shown.blocks;
     names = tied.describes.shown.names;
-    status = plain_status tied.sees.beside tied.describes.shown;
-    committed = same_committed;
+    status = λ d. tied.describes.shown.status d ∙ ap (λ (o : Option Beside). marks_shown o group.id (c.status d)) none_beside;
+    committed = same_committed ∙ ap (λ (o : Option Beside). as_marks o shows.stands) none_beside;
     missing = tied.sees.status.missing;
     notes = notes_seen;
   }

@@ -25,7 +25,7 @@ use Rattle.lvm_session.specs.declared.open.Power.TheVariants as power
 use Rattle.lvm_session.specs.State.{Core, State, is_there}
 use Rattle.lvm_session.specs.Bringing.{groups_of}
 use Rattle.lvm_session.specs.Sound.{IsOn, IsSound}
-use Rattle.lvm_invariant.specs.State.{Groups, Marks, ModelState}
+use Rattle.lvm_invariant.specs.State.{Beside, Groups, Marks, ModelState}
 use Rattle.lvm_invariant.specs.Found.{Votes}
 use Rattle.lvm_invariant.specs.Good.{Good}
 use Rattle.lvm_crash.specs.Session.{AreVotesOf, Describes, as_marks, marks_of}
@@ -38,7 +38,8 @@ use Rattle.lvm_rest.proofs.GoodLemmas.Good.{rest_is_good}
 use Rattle.lvm_rest.proofs.GoodLemmas.Seen.{rest_is_seen}
 use Rattle.lvm_tie.specs.passed.Names.{OnlyUpdateSince}
 use Rattle.lvm_tie.specs.Out.{CarryTheirs, IsWriteOf}
-use Rattle.lvm_tie.specs.Seen.{Sees, SeesCopy, SeesNote, step_write_in, update_of}
+use Rattle.lvm_tie.specs.Seen.{Sees, SeesCopy, SeesNote, step_write_in, update_of, SeesStatus}
+use Rattle.lvm_tie.proofs.SeenLemmas.Beside.{closed_beside}
 use Rattle.lvm_tie.specs.Spares.{SparesOn}
 use Rattle.lvm_tie.specs.Tied.{IsTied}
 use Rattle.lvm_tie.specs.Begins.{FollowsOn, IsCoreAtRest, MembersShow, RestSpares, RestTies, StandsAtRest}
@@ -171,7 +172,7 @@ module _ (past : List Fact) (s : State) (media : Media) (sound : IsSound s) (pow
       names = λ place o at. none_at core.requests place o rests.requests at;
     };
     facts = facts_are;
-    status = record {
+    status = subst (λ (o : Option Beside). SeesStatus o core.status (is_there core) v.committed v.in_flight v.wanted v.status_flying v.media.status v.missing) (sym seen_first.beside) (record {
       committed = ap (λ (m : Stamped Marks). m.value) seen_first.committed ∙ ap (marks_of None) stands.held.shows.committed;
       in_flight = idle_first.in_flight ∙ sym (ap (option_map (as_marks None)) no_update);
       wanted = idle_first.wanted ∙ ap (λ (m : Stamped Marks). m.value) seen_first.committed ∙ ap (marks_of None) (stands.held.shows.committed ∙ rests.committed);
@@ -179,7 +180,7 @@ module _ (past : List Fact) (s : State) (media : Media) (sound : IsSound s) (pow
       written = λ d is. marked (has core.status.writes.written d) (on.going.status.idle rests.in_flight d).2 is;
       held = λ u is enough. some_is_none (update_of core.status) u no_update is;
       missing = seen_first.missing;
-    };
+    });
     notes = record {
       cache = λ lv g. refl;
       home = home;
@@ -187,7 +188,7 @@ module _ (past : List Fact) (s : State) (media : Media) (sound : IsSound s) (pow
     };
     open_copy = subst (λ (o : Option OpenCopy). SeesCopy (groups_of core) o v.open_copy) (sym rests.copy) idle_first.no_copy;
     step_write = idle_first.no_step ∙ sym (ap (λ (o : Option OpenCopy). step_write_in o) rests.copy);
-    beside = seen_first.beside;
+    beside = seen_first.beside ∙ sym (closed_beside core rests.copy);
     brings = ap (λ (m : Option OpenCopy). option_map_or (λ (c : OpenCopy). c.moves) m false) rests.copy;
   }
 

@@ -5,7 +5,6 @@ use Rattle.lvm_vol.specs.Facts.{Fact}
 use Rattle.lvm_disk.specs.Device.{Flight}
 use Rattle.lvm_session.specs.declared.bringing.OpenCopy.{OpenCopy}
 use Rattle.lvm_session.specs.declared.bringing.CopyEnd.{CopyEnd}
-use Rattle.lvm_session.specs.declared.bringing.Step.TheVariants as step
 use Rattle.lvm_session.specs.declared.flown.Flown.{Flown}
 use Rattle.lvm_session.specs.declared.flown.Owner.{Owner}
 use Rattle.lvm_session.specs.declared.flown.Owner.TheVariants as owner
@@ -13,9 +12,10 @@ use Rattle.lvm_session.specs.declared.answers.CopyState.TheVariants as copy
 use Rattle.lvm_session.specs.State.{Core, State, state}
 use Rattle.lvm_session.specs.Judging.{is_running}
 use Rattle.lvm_session.specs.Bringing.{groups_of, has_row, is_out, is_whole}
-use Rattle.lvm_session.specs.Calls.{Closes, closed, copy_state, state_at_end, state_of_copy}
+use Rattle.lvm_session.specs.Calls.{closed, copy_state, state_at_end, state_of_copy}
 use Rattle.lvm_keeps.proofs.StateLemmas.{state_brought}
-use Rattle.lvm_tie.proofs.StateLemmas.{brings}
+use Rattle.lvm_session.proofs.MovesLemmas.{unmoving}
+use Rattle.lvm_tie.proofs.SeenLemmas.Beside.{unmoving_beside}
 use Rattle.lvm_session.specs.Sound.{IsSound}
 use Rattle.lvm_invariant.specs.State.{ModelState}
 use Rattle.lvm_tie.specs.Out.{CarriesStep, CarryTheirs}
@@ -56,14 +56,14 @@ module _ (past : List Fact) (s : State) (tied : IsTied past s) (ended : (cursor 
     where
       by : (m : Option OpenCopy) → core.copy ≡ m → SeesCopy (groups_of core) m v.open_copy → v.open_copy ≡ None
       by None is sees = sees
-      by (Some c) is sees = subst (λ b. SeesRunning b (groups_of core) c v.open_copy) (ended_of core ended c is (brings past s tied c is)).over sees
+      by (Some c) is sees = subst (λ b. SeesRunning b (groups_of core) c v.open_copy) (ended_of core ended c is (unmoving core c is tied.sees.brings)).over sees
 
   no_write : v.step_write ≡ None
   no_write = tied.sees.step_write ∙ by core.copy refl
     where
       by : (m : Option OpenCopy) → core.copy ≡ m → step_write_in m ≡ None
       by None is = refl
-      by (Some c) is = step_none c c.step (ended_of core ended c is (brings past s tied c is)).still
+      by (Some c) is = step_none c c.step (ended_of core ended c is (unmoving core c is tied.sees.brings)).still
 
   sees : Sees past (closed core) v
   sees = record {
@@ -72,7 +72,7 @@ module _ (past : List Fact) (s : State) (tied : IsTied past s) (ended : (cursor 
       a_step = λ c is. absurd (cc is);
       only = λ j q at. ⊎_elim
           (λ (r : IsRequestAt core j). inl r)
-          (λ (r : IsStepAt core j). absurd (let e : true ≡ false = sym r.row ∙ no_row core r.copy (ended_of core ended r.copy r.is_open (brings past s tied r.copy r.is_open)) in cc))
+          (λ (r : IsStepAt core j). absurd (let e : true ≡ false = sym r.row ∙ no_row core r.copy (ended_of core ended r.copy r.is_open (unmoving core r.copy r.is_open tied.sees.brings)) in cc))
           (tied.sees.queue.only j q at);
       names = tied.sees.queue.names;
     };
@@ -81,7 +81,7 @@ module _ (past : List Fact) (s : State) (tied : IsTied past s) (ended : (cursor 
     notes = tied.sees.notes;
     open_copy = not_open;
     step_write = no_write;
-    beside = tied.sees.beside;
+    beside = tied.sees.beside ∙ unmoving_beside core tied.sees.brings;
     brings = refl;
   }
 

@@ -42,7 +42,8 @@ use Rattle.lvm_crash.proofs.RecordsLemmas.Quiet.{quiet_lasts}
 use Rattle.lvm_tie.specs.Out.{CarriesStep, CarryTheirs}
 use Rattle.lvm_tie.specs.Seen.{IsRequestAt, IsStepAt, Sees, SeesCopy, SeesRequest, SeesStep, passed_by, update_of}
 use Rattle.lvm_tie.specs.Tied.{IsTied}
-use Rattle.lvm_tie.proofs.StateLemmas.{IsOfItsPartition, its_partition, missing_seen, stale_seen, there_first}
+use Rattle.lvm_tie.proofs.StateLemmas.{IsOfItsPartition, its_partition, missing_seen, stale_there, there_first}
+use Rattle.lvm_tie.proofs.SeenLemmas.Beside.{closed_beside}
 use Rattle.lvm_tie.proofs.TiedLemmas.Orderly.{orderly_same}
 use Rattle.lvm_tie.proofs.BringingLemmas.{one_is_copy_of, step_member, step_placed}
 use Rattle.lvm_tie.specs.Calls.{OpenTies}
@@ -139,7 +140,7 @@ module _ (past : List Fact) (s : State) (new : Core) (counts : Counts) (lv lp nu
   its = let t = of_its_then in record { row = t.row; volume = t.volume; lp = t.lp; among = t.among; cursor = t.cursor }
     where
       of_its_then : IsOfItsPartition core2 c
-      of_its_then = its_partition core2 c ((sound2.on tied.orderly.on).going.copy) refl
+      of_its_then = its_partition core2 c ((sound2.on tied.orderly.on).going.copy)
 
   some_groups : c.cursor < groups_of core
   some_groups = let e = mib_positive core.descriptor tied.orderly.sound.fitting.valid in omega (arith, e)
@@ -156,14 +157,14 @@ module _ (past : List Fact) (s : State) (new : Core) (counts : Counts) (lv lp nu
   stale_now = (and_parts (is_stale core opens.pp) _ may.settled).0
 
   member : is_member core.descriptor opens.pp.disk ≡ true
-  member = step_member past s tied c its some_groups opens.pp its.among
+  member = step_member past s tied c its some_groups opens.pp (its.among refl)
 
   open_step : ModelStep tied.votes (Opening o) v v1
   open_step = (
     record {
       none = none_open;
       there = missing_seen past s tied opens.pp.disk member ∙ may.there;
-      stale = stale_seen past s tied opens.pp ∙ stale_now;
+      stale = stale_there past s tied opens.pp stale_now;
       passed = λ l g. nothing_passed l g;
     },
     refl,
@@ -245,7 +246,7 @@ module _ (past : List Fact) (s : State) (new : Core) (counts : Counts) (lv lp nu
     notes = tied.sees.notes;
     open_copy = record { copy = o; is_open = refl; target = refl; passed = λ l g. refl };
     step_write = tied.sees.step_write ∙ ap Rattle.lvm_tie.specs.Seen.step_write_in may.none;
-    beside = tied.sees.beside;
+    beside = tied.sees.beside ∙ closed_beside core may.none;
     brings = refl;
   }
 
@@ -276,7 +277,7 @@ module _ (past : List Fact) (s : State) (new : Core) (counts : Counts) (lv lp nu
     notes = tied.notes;
     copy_aimed = λ d is row. let same : c ≡ d = (let e : Some c ≡ Some d = is in cc) in
         subst (λ (x : OpenCopy). IsTrue (v.is_copy x.lv (block_at core x) x.pp) × ((source : Pp) → x.step ≡ step.Reading source → IsTrue (v.is_copy x.lv (block_at core x) source))) same
-        (one_is_copy_of past s tied c its some_groups opens.pp its.among member (there_first past s tied opens.pp.disk may.there), λ source reads. absurd (let e : step.Idle ≡ step.Reading source = reads in cc));
+        (one_is_copy_of past s tied c its some_groups opens.pp (its.among refl) member (there_first past s tied opens.pp.disk may.there), λ source reads. absurd (let e : step.Idle ≡ step.Reading source = reads in cc));
     carry = carry_so s.device.flights core.flying;
   }
 

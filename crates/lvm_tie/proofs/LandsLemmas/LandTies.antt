@@ -42,7 +42,8 @@ use Rattle.lvm_crash.proofs.RecordsLemmas.Quiet.{quiet_lasts}
 use Rattle.lvm_tie.proofs.OutLemmas.Ties.{carry_on}
 use Rattle.lvm_tie.proofs.SeenLemmas.Changing.{step_apart, sees_changed}
 use Rattle.lvm_tie.proofs.SeenLemmas.Entered.{sees_entered}
-use Rattle.lvm_tie.proofs.StateLemmas.{copy_is_one, on_member, usable_seen}
+use Rattle.lvm_crash.specs.Session.{is_beside}
+use Rattle.lvm_tie.proofs.StateLemmas.{beside_is_stale, copy_is_one, usable_one}
 use Rattle.lvm_tie.proofs.AmongLemmas.{any_none}
 use Rattle.lvm_tie.specs.Out.{CarriesStep}
 use Rattle.lvm_tie.specs.Seen.{update_of, SeesRequest, Sees, phase_seen}
@@ -209,9 +210,13 @@ module _ (past : List Fact) (old new : State) (place : ℕ) (how : Outcome) (lan
   finds_none q at sees = by (none_found (facts_of old.core lands.request.request) lands.request.request lands.request.request.phase writes (lands.lands ∙ ap next.Land is))
     where
       none : list_any (is_usable old.core) (copies_for old.core lands.request.request.ask) ≡ false → (c : Pp) → IsTrue (tied.view.is_copy q.lv q.first c) → IsFalse (Rattle.lvm_invariant.specs.State.is_usable tied.view c)
-      none unusable c copy =
-          let one = copy_is_one past old tied lands.request.request.ask inside c (sym (λ k. tied.view.is_copy (sees.lv k) (sees.first k) c) ∙ copy) in
-          usable_seen past old tied c (on_member past old tied lands.request.request.ask inside c one) ∙ any_none (is_usable old.core) (copies_for old.core lands.request.request.ask) c unusable one
+      none unusable c copy = of_beside (is_beside tied.view.beside c) refl
+        where
+          of_beside : (b : Bool) → is_beside tied.view.beside c ≡ b → IsFalse (Rattle.lvm_invariant.specs.State.is_usable tied.view c)
+          of_beside true is = ap (λ b. not b && not (tied.view.missing c.disk)) (beside_is_stale past old tied c is)
+          of_beside false off =
+              let one = copy_is_one past old tied lands.request.request.ask inside c off (sym (λ k. tied.view.is_copy (sees.lv k) (sees.first k) c) ∙ copy) in
+              usable_one past old tied lands.request.request.ask inside c one ∙ any_none (is_usable old.core) (copies_for old.core lands.request.request.ask) c unusable one
 
       by : NoneFound (list_any (is_usable old.core) (copies_for old.core lands.request.request.ask)) (is_write lands.request.request.ask) (phase_seen lands.request.request.phase (is_begun lands.request.request.targets.items)) → FindsNoFresh tied.view (place_of lands.request.request.id) q
       by (AtFirst is unusable) = record { there = at; request = sees.step; early = inl (sees.phase ∙ is); none = none unusable }

@@ -25,7 +25,7 @@ use Rattle.lvm_path.specs.Targets.{are_over, is_begun, is_done, is_failed, is_ov
 use Rattle.lvm_path.specs.Next.{next_chosen, next_data, next_in, next_read, next_write, start_or_wait}
 use Rattle.lvm_session.specs.declared.open.Open.{Open}
 use Rattle.lvm_session.specs.State.{Core, State}
-use Rattle.lvm_session.specs.Judging.{copies_for, facts_of, group_in, is_caught, is_kept, is_waiting}
+use Rattle.lvm_session.specs.Judging.{facts_of, group_in, is_caught, is_kept, is_waiting}
 use Rattle.lvm_session.specs.Events.{Lands}
 use Rattle.lvm_session.specs.Requests.{IsPhase, IsRequest, IsTarget, may_lack, wants_status}
 use Rattle.lvm_session.specs.Sound.{IsSound}
@@ -33,7 +33,7 @@ use Rattle.lvm_keeps_events.proofs.UncaughtLemmas.{lost_is_uncaught}
 use Rattle.lvm_kept.specs.Group.{IsOneOf}
 use Rattle.lvm_invariant.specs.State.{HasPassed}
 use Rattle.lvm_tie.specs.Tied.{IsOrderly, IsTied}
-use Rattle.lvm_tie.proofs.StateLemmas.{among_one, passed_caught, target_copy}
+use Rattle.lvm_tie.proofs.StateLemmas.{passed_caught, target_beside}
 use Rattle.lvm_tie.proofs.TiedLemmas.Orderly.{asked_one, open_one, request_is, waiting_one}
 use Rattle.lvm_tie.proofs.AmongLemmas.{one_there}
 use Rattle.lvm_tie.specs.Lands.{LandTies}
@@ -265,8 +265,8 @@ module _ (past : List Fact) (old new : State) (place : ℕ) (how : Outcome) (lan
           → HasPassed tied.view (lv_of o.request.ask) (track_group_of (at_of o.request.ask)) t.pp → ⊥
       uncaught writes t one why passed =
           let there = one_there ts t one in
-          let copy = among_one (copies_for core o.request.ask) t.pp (target_copy past old tied o.request.ask t (all_at (IsTarget core o.request.ask) ts there.0 t its.shape.targets there.1)) in
-          let caught = passed_caught past old tied o.request.ask (open_one old tied.write tied.orderly place o lands.there).laid.within t.pp copy passed in
+          let inside = (open_one old tied.write tied.orderly place o lands.there).laid.within in
+          let caught = passed_caught past old tied o.request.ask inside t.pp (target_beside past old tied o.request.ask inside t (all_at (IsTarget core o.request.ask) ts there.0 t its.shape.targets there.1)) passed in
           let e : true ≡ false = sym caught ∙ not_caught writes t one why in
           cc
 

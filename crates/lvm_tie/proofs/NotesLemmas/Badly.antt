@@ -13,7 +13,7 @@ use Rattle.lvm_num.specs.Descriptor.{is_member}
 use Rattle.lvm_num.specs.Disks.{Disks, has}
 use Rattle.lvm_num.specs.Note.{IsNote}
 use Rattle.lvm_num.specs.Record.{Stamped}
-use Rattle.lvm_num.specs.Status.{calls_missing, calls_stale}
+use Rattle.lvm_num.specs.Status.{calls_missing}
 use Rattle.lvm_num.proofs.Booleans.{clash_gives}
 use Rattle.lvm_vol.specs.Facts.{Fact}
 use Rattle.lvm_disk.specs.Device.{Flight, Image, image_of}
@@ -47,7 +47,7 @@ use Rattle.lvm_invariant.proofs.EventsLemmas.Each.{each_keeps}
 use Rattle.lvm_crash.specs.Session.{Describes, as_marks, marks_of}
 use Rattle.lvm_even.specs.Members.{members_showing}
 use Rattle.lvm_crash.specs.Flights.{Matches}
-use Rattle.lvm_crash.proofs.RecordsLemmas.Quiet.{quiet_lasts}
+use Rattle.lvm_crash.proofs.RecordsLemmas.Quiet.{quiet_lasts, updates_last}
 use Rattle.lvm_crash.specs.Owned.{IsNoteFlight, OnlyUpdateSince}
 use Rattle.lvm_crash.specs.Records.{flying_after}
 use Rattle.lvm_tie.proofs.StateLemmas.{there_first}
@@ -66,7 +66,6 @@ use Rattle.lvm_tie.proofs.WantedLemmas.Reviewing.{none_opened, opened, review_is
 use Rattle.lvm_tie.proofs.NotesLemmas.Ended.{ended, here_too, its_row, none_is_some, not_here, out, own, own_sector, since_ended}
 use Rattle.lvm_tie.proofs.NotesLemmas.Landing.{HasLanded, has_landed, same_descriptors, same_members, same_statuses, update_may}
 use Rattle.lvm_tie.proofs.OutLemmas.Losing as losing
-use Rattle.lvm_tie.proofs.SeenLemmas.Beside.{plain_ends}
 
 -- the end of a copy leaves power and slots as they were
 end_leaves : (core : Core) (how : Option CopyEnd) → ((with_end core how).power ≡ core.power) × ((with_end core how).homes ≡ core.homes)
@@ -170,8 +169,8 @@ module _ (past : List Fact) (old new : State) (at disk : ℕ) (row : Flown) (buf
   committed_lost : lost.committed ≡ core.status.committed
   committed_lost = losing.committed_same core.status lost lost disk group going.fitting.group going.status loses refl
 
-  marks_lost : marks_of None lost.wanted ≡ marks_of None core.status.wanted
-  marks_lost = losing.same_marks disk core.status.wanted lost.wanted loses.wants
+  marks_lost : marks_of v.beside lost.wanted ≡ marks_of v.beside core.status.wanted
+  marks_lost = losing.same_marks v.beside disk core.status.wanted lost.wanted loses.wants
 
   still : (d : ℕ) → IsTrue (v.missing d) → IsTrue (missing d)
   still d gone = by (is_there core2 d) refl
@@ -181,7 +180,7 @@ module _ (past : List Fact) (old new : State) (at disk : ℕ) (row : Flown) (buf
       by true there = clash_gives (is_there core d) (was_in d there) (not_true (is_there core d) (sym (tied.sees.status.missing d) ∙ gone))
 
   sees_marks : SeesMarks core2 v missing
-  sees_marks = record { committed = tied.sees.status.committed ∙ ap (marks_of None) (sym committed_lost); wanted = tied.sees.status.wanted ∙ sym marks_lost; beside = tied.sees.beside; missing_is = λ d. refl; still = still }
+  sees_marks = record { committed = tied.sees.status.committed ∙ ap (marks_of v.beside) (sym committed_lost); wanted = tied.sees.status.wanted ∙ sym marks_lost; missing_is = λ d. refl; still = still }
 
   keeps : KeepsFresh v
   keeps lv b c copy = let k = tied.good.sound.statuses.kept lv b c copy in (k.0, k.1, k.2.committed, k.2.wanted)
@@ -194,28 +193,28 @@ module _ (past : List Fact) (old new : State) (at disk : ℕ) (row : Flown) (buf
     target = b.target;
     member = b.member;
     there = b.there;
-    part = λ less. ap (λ (m : Marks). m.stale c.pp) marks_lost ∙ b.part less;
-    whole = λ all. ap (λ (s : Status). calls_stale s c.pp) committed_lost ∙ b.whole all;
-    stays = b.stays;
+    part = b.part;
+    whole = b.whole;
+    beside = b.beside;
   }
 
-  wants : Wants v (marks_of None status.wanted) missing (open_after how v.open_copy)
+  wants : Wants v (marks_of v.beside status.wanted) missing (open_after how v.open_copy)
   wants = review_is_wanted core2 new.core v missing v.facts members (valid_of old tied.write tied.orderly) tied.describes.volumes shows sees_marks keeps owners brought (none_opened past old tied) review
 
   abbrev v1 : ModelState
-  v1 = after_wants v (marks_of None status.wanted) missing (open_after how v.open_copy)
+  v1 = after_wants v (marks_of v.beside status.wanted) missing (open_after how v.open_copy)
 
   good1 : Good tied.votes v1
-  good1 = each_keeps tied.votes (Want (marks_of None status.wanted) missing (open_after how v.open_copy)) v v1 (wants, refl) tied.good
+  good1 = each_keeps tied.votes (Want (marks_of v.beside status.wanted) missing (open_after how v.open_copy)) v v1 (wants, refl) tied.good
 
   describes1 : Describes v1 v1.facts group (update_of core.status) (contents_of was)
-  describes1 = quiet_lasts tied.votes (Want (marks_of None status.wanted) missing (open_after how v.open_copy)) v v1 group (update_of core.status) (contents_of was) (wants, refl) tied.good tt tied.describes refl refl refl
+  describes1 = quiet_lasts tied.votes (Want (marks_of v.beside status.wanted) missing (open_after how v.open_copy)) v v1 group (update_of core.status) (contents_of was) (wants, refl) tied.good tt tied.describes refl refl refl
 
   matches1 : Matches v1 v1.facts group (update_of core.status) old.device tied.media
   matches1 = record {
     told = tied.setting.told;
     describes = describes1;
-    out = losing.wanted_out v (marks_of None status.wanted) missing (open_after how v.open_copy) group (update_of core.status) old.device tied.media (tied_matches past old tied).out;
+    out = losing.wanted_out v (marks_of v.beside status.wanted) missing (open_after how v.open_copy) group (update_of core.status) old.device tied.media (tied_matches past old tied).out;
   }
 
   -- ---- the write has ended
@@ -248,13 +247,13 @@ module _ (past : List Fact) (old new : State) (at disk : ℕ) (row : Flown) (buf
   over = losing.over core.status lost status disk group going.fitting.group going.status loses rest
 
   abbrev v3 : ModelState
-  v3 = record v2 { in_flight = option_map (as_marks None) (update_of status) }
+  v3 = record v2 { in_flight = option_map (as_marks v.beside) (update_of status) }
 
   update_is : update_of status ≡ (if over then None else update_of core.status)
   update_is = losing.update_is core.status lost status disk group going.fitting.group going.status loses rest
 
   abbrev IsAfter : Option (Stamped Status) → Type 0
-  IsAfter u = Good tied.votes (record v2 { in_flight = option_map (as_marks None) u }) × Describes (record v2 { in_flight = option_map (as_marks None) u }) v.facts group u (contents_of is)
+  IsAfter u = Good tied.votes (record v2 { in_flight = option_map (as_marks v.beside) u }) × Describes (record v2 { in_flight = option_map (as_marks v.beside) u }) v.facts group u (contents_of is)
 
   after : IsAfter (update_of status)
   after = subst IsAfter (sym update_is) (by over refl)
@@ -267,7 +266,7 @@ module _ (past : List Fact) (old new : State) (at disk : ℕ) (row : Flown) (buf
           let flew = losing.flew core.status lost status disk group going.fitting.group going.status loses rest ends in
           let u : Stamped Status = record { stamp = core.status.stamp; value = core.status.committed } in
           let flies : update_of core.status ≡ Some u = ap (option_map (λ (t : Status). let r : Stamped Status = record { stamp = core.status.stamp; value = t } in r)) flew.0 in
-          plain_ends tied.votes v2 group (contents_of is) u tied.sees.beside good2 (subst (λ (x : Option (Stamped Status)). Describes v2 v.facts group x (contents_of is)) flies landed.describes)
+          updates_last.ends tied.votes v2 group (contents_of is) u good2 (subst (λ (x : Option (Stamped Status)). Describes v2 v.facts group x (contents_of is)) flies landed.describes)
           (tied.sees.status.held u flies flew.1)
           (λ d. tied.sees.status.started d ∙ losing.none_started core.status lost status disk group going.fitting.group going.status loses rest ends d)
 
@@ -306,17 +305,17 @@ module _ (past : List Fact) (old new : State) (at disk : ℕ) (row : Flown) (buf
   flies_on : over ≡ false → update_of status ≡ update_of core.status
   flies_on goes_on = update_is ∙ ap (λ b. if b then None else update_of core.status) goes_on
 
-  written_now : (d : ℕ) → has status.writes.written d ≡ true → v.media.status d ≡ option_map (as_marks None) (update_of status)
+  written_now : (d : ℕ) → has status.writes.written d ≡ true → v.media.status d ≡ option_map (as_marks v.beside) (update_of status)
   written_now d had = by over refl (sym (losing.written_is core.status lost status disk group going.fitting.group going.status loses rest d) ∙ had)
     where
-      by : (b : Bool) → over ≡ b → (if b then false else has core.status.writes.written d) ≡ true → v.media.status d ≡ option_map (as_marks None) (update_of status)
+      by : (b : Bool) → over ≡ b → (if b then false else has core.status.writes.written d) ≡ true → v.media.status d ≡ option_map (as_marks v.beside) (update_of status)
       by true ends h = absurd (cc h)
-      by false goes_on h = tied.sees.status.written d h ∙ tied.sees.status.in_flight ∙ ap (option_map (as_marks None)) (sym (flies_on goes_on))
+      by false goes_on h = tied.sees.status.written d h ∙ tied.sees.status.in_flight ∙ ap (option_map (as_marks v.beside)) (sym (flies_on goes_on))
 
-  held_now : (u : Stamped Status) → update_of status ≡ Some u → is_held (seen status) ≡ true → v.committed ≡ as_marks None u
+  held_now : (u : Stamped Status) → update_of status ≡ Some u → is_held (seen status) ≡ true → v.committed ≡ as_marks v.beside u
   held_now u flies enough = by over refl
     where
-      by : (b : Bool) → over ≡ b → v.committed ≡ as_marks None u
+      by : (b : Bool) → over ≡ b → v.committed ≡ as_marks v.beside u
       by true ends = none_flies u ends flies
       by false goes_on = tied.sees.status.held u (sym (flies_on goes_on) ∙ flies) (sym (losing.held_same core.status lost status disk group going.fitting.group going.status loses rest goes_on) ∙ enough)
 
@@ -325,7 +324,7 @@ module _ (past : List Fact) (old new : State) (at disk : ℕ) (row : Flown) (buf
     queue = tied.sees.queue;
     facts = tied.sees.facts;
     status = record {
-      committed = tied.sees.status.committed ∙ ap (marks_of None) (sym (losing.committed_same core.status lost status disk group going.fitting.group going.status loses rest));
+      committed = tied.sees.status.committed ∙ ap (marks_of v.beside) (sym (losing.committed_same core.status lost status disk group going.fitting.group going.status loses rest));
       in_flight = refl;
       wanted = refl;
       started = λ d. tied.sees.status.started d ∙ sym (losing.started_same core.status lost status disk group going.fitting.group going.status loses rest d);
@@ -420,9 +419,9 @@ module _ (past : List Fact) (old new : State) (at disk : ℕ) (row : Flown) (buf
         own = describes_it.shown.statuses.own committed_update refl;
         stated = λ d there.
             let w = was_there d (sym (there_same d) ∙ there) in
-            shows_update v2 v.facts group committed_update (contents_of is) tied.sees.beside describes_it d
-            (tied.sees.status.written d (losing.all_written core.status lost status disk group going.fitting.group going.status loses rest ends d w.member w.there w.other) ∙ tied.sees.status.in_flight ∙ ap (option_map (as_marks None)) update_now);
-        last = shows_last tied.votes v2 v.facts group committed_update (contents_of is) tied.sees.beside describes_it good2.found (tied.sees.status.held committed_update update_now (losing.flew core.status lost status disk group going.fitting.group going.status loses rest ends).1) (tied.sees.status.in_flight ∙ ap (option_map (as_marks None)) update_now);
+            shows_update v2 v.facts group committed_update (contents_of is) describes_it d
+            (tied.sees.status.written d (losing.all_written core.status lost status disk group going.fitting.group going.status loses rest ends d w.member w.there w.other) ∙ tied.sees.status.in_flight ∙ ap (option_map (as_marks v.beside)) update_now);
+        last = shows_last tied.votes v2 v.facts group committed_update (contents_of is) describes_it good2.found (tied.sees.status.held committed_update update_now (losing.flew core.status lost status disk group going.fitting.group going.status loses rest ends).1) (tied.sees.status.in_flight ∙ ap (option_map (as_marks v.beside)) update_now);
       }
 
   no_more : NoMoreThere group core.status status

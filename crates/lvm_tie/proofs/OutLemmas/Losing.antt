@@ -16,10 +16,10 @@ use Rattle.lvm_status.specs.Update.{Stored, Updates, is_held, is_owed, no_disks,
 use Rattle.lvm_status.specs.Calls.{BecomesMissing}
 use Rattle.lvm_status.specs.Runs.{IsSoundStatus}
 use Rattle.lvm_session.specs.Ends.{LosesDisk}
-use Rattle.lvm_invariant.specs.State.{Marks, ModelCopy, ModelState}
+use Rattle.lvm_invariant.specs.State.{Marks, Beside, ModelCopy, ModelState}
 use Rattle.lvm_invariant.specs.Crash.{Brings, CopyBrings}
 use Rattle.lvm_invariant.specs.Want.{after_wants}
-use Rattle.lvm_crash.specs.Session.{marks_of}
+use Rattle.lvm_crash.specs.Session.{is_beside, marks_of}
 use Rattle.lvm_crash.specs.Flights.{HasOut, OnlyUpdateIsOut}
 use Rattle.lvm_tie.proofs.AmongLemmas.{not_true, or_left}
 use Rattle.lvm_tie.specs.Out.{is_owed_on}
@@ -37,8 +37,8 @@ not_owed_by test (r ∷ rows) d member none =
     by false there h own rest = rest h
 
 -- no mark is another one where a disk is missing
-pub same_marks : (disk : ℕ) (old new : Status) → BecomesMissing disk old new → marks_of None new ≡ marks_of None old
-same_marks disk old new wants = λ t. record { stale = λ p. wants.stale p t; dirty = λ lv. list_any (λ n. n == lv) (wants.dirty t) }
+pub same_marks : (beside : Option Beside) (disk : ℕ) (old new : Status) → BecomesMissing disk old new → marks_of beside new ≡ marks_of beside old
+same_marks beside disk old new wants = λ t. record { stale = λ p. is_beside beside p || wants.stale p t; dirty = λ lv. list_any (λ n. n == lv) (wants.dirty t) }
 
 -- ---- the status
 

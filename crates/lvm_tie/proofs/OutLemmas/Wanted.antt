@@ -72,13 +72,13 @@ module _ (old new : Stored) (rest : seen new ≡ record (seen old) { wanted = ne
         slots = λ d owed. its.slots d (sym (owed_same d) ∙ owed);
       }
 
-  pub sees_wanted : (past : List Fact) (core : Core) (v : ModelState) → core.status ≡ old → Sees past core v → Sees past (record core { status = new }) (record v { wanted = marks_of None new.wanted })
+  pub sees_wanted : (past : List Fact) (core : Core) (v : ModelState) → core.status ≡ old → Sees past core v → Sees past (record core { status = new }) (record v { wanted = marks_of v.beside new.wanted })
   sees_wanted past core v its sees = record {
     queue = sees.queue;
     facts = sees.facts;
     status = record {
-      committed = sees.status.committed ∙ ap (λ (s : Stored). marks_of None s.committed) its ∙ ap (marks_of None) (sym committed_same);
-      in_flight = sees.status.in_flight ∙ ap (λ (s : Stored). option_map (as_marks None) (update_of s)) its ∙ ap (option_map (as_marks None)) (sym update_same);
+      committed = sees.status.committed ∙ ap (λ (s : Stored). marks_of v.beside s.committed) its ∙ ap (marks_of v.beside) (sym committed_same);
+      in_flight = sees.status.in_flight ∙ ap (λ (s : Stored). option_map (as_marks v.beside) (update_of s)) its ∙ ap (option_map (as_marks v.beside)) (sym update_same);
       wanted = refl;
       started = λ d. sees.status.started d ∙ ap (λ (s : Stored). has s.writes.started d) its ∙ sym (ap (λ (u : Updates). u.started d) rest);
       written = λ d had. sees.status.written d (ap (λ (s : Stored). has s.writes.written d) its ∙ sym (ap (λ (u : Updates). u.written d) rest) ∙ had);

@@ -4,7 +4,6 @@ use Rattle.std.specs.Prelude.{MatchOption, is_none}
 use Rattle.lvm_num.proofs.Lists.{all_at}
 use Rattle.lvm_vol.specs.declared.entry.Outcome.{Outcome}
 use Rattle.lvm_vol.specs.Facts.{Fact, Taken}
-use Rattle.lvm_vol.specs.Legal.{takes}
 use Rattle.lvm_vol.specs.Log.{request_of}
 use Rattle.lvm_vol.proofs.LawsLemmas.Legality.{fits_taken, legal_prefix}
 use Rattle.lvm_vol.proofs.LegalLemmas.{unjoined}

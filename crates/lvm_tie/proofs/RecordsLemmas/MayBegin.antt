@@ -36,7 +36,7 @@ use Rattle.lvm_session.specs.declared.open.Power.TheVariants as power
 use Rattle.lvm_session.specs.State.{Core, State, is_there}
 use Rattle.lvm_session.specs.Events.{StartsStatus}
 use Rattle.lvm_session.specs.Sound.{IsSound}
-use Rattle.lvm_invariant.specs.State.{Marks, ModelState}
+use Rattle.lvm_invariant.specs.State.{Marks, Beside, ModelState}
 use Rattle.lvm_invariant.specs.Found.{Found}
 use Rattle.lvm_crash.specs.Session.{as_marks, marks_shown}
 use Rattle.lvm_even.specs.Members.{members_showing}
@@ -45,7 +45,6 @@ use Rattle.lvm_tie.specs.Seen.{update_of}
 use Rattle.lvm_tie.specs.Tied.{IsTied}
 use Rattle.lvm_tie.proofs.StateLemmas.{there_first}
 use Rattle.lvm_tie.proofs.NotesLemmas.Ended.{shows_records}
-use Rattle.lvm_tie.proofs.SeenLemmas.Beside.{plain_status}
 
 -- This record may go out: to slots that don't hold the newest, under a stamp later than all that stand; and no disk at all has votes enough to write.
 pub record MayBegin (v : ModelState) (votes : Descriptor) (group : Descriptor) (image : Image) (w : RecordWrite) (u : Stamped Status) : Type 0 where
@@ -68,12 +67,12 @@ no_votes f (row ∷ rows) =
 not_itself : (s : Stamp) → stamp_lt s s ≡ false
 not_itself s = grind (arith, nat_tests)
 
-marks_of_some : (id : ℕ) (o : Option (Stamped Status)) (m : Stamped Marks) → marks_shown None id o ≡ Some m → (r : Stamped Status) × (o ≡ Some r) × (as_marks None r ≡ m)
-marks_of_some id None m is = absurd (cc is)
-marks_of_some id (Some r) m is = by (is_status_of id r.value) is
+marks_of_some : (beside : Option Beside) (id : ℕ) (o : Option (Stamped Status)) (m : Stamped Marks) → marks_shown beside id o ≡ Some m → (r : Stamped Status) × (o ≡ Some r) × (as_marks beside r ≡ m)
+marks_of_some beside id None m is = absurd (cc is)
+marks_of_some beside id (Some r) m is = by (is_status_of id r.value) is
   where
-    by : (b : Bool) → option_map (as_marks None) (if b then Some r else None) ≡ Some m → (x : Stamped Status) × (Some r ≡ Some x) × (as_marks None x ≡ m)
-    by true h = (r, refl, let e : as_marks None r ≡ m = cc h in e)
+    by : (b : Bool) → option_map (as_marks beside) (if b then Some r else None) ≡ Some m → (x : Stamped Status) × (Some r ≡ Some x) × (as_marks beside x ≡ m)
+    by true h = (r, refl, let e : as_marks beside r ≡ m = cc h in e)
     by false h = absurd (cc h)
 
 module _ (past : List Fact) (old new : State) (tied : IsTied past old) (sound : IsSound new) (valid : IsValidStatus old.core.status.wanted) (starts : StartsStatus old new)
@@ -140,8 +139,8 @@ module _ (past : List Fact) (old new : State) (tied : IsTied past old) (sound : 
   lower : (d : ℕ) (r : Stamped Status) → c.status d ≡ Some r → stamp_lt r.stamp u.stamp ≡ true
   lower d r at = ap (stamp_lt r.stamp) stamp_is ∙ all_before.statuses d r at
 
-  no_update : option_map (as_marks None) (update_of core.status) ≡ None
-  no_update = ap (λ (m : Option Status). option_map (as_marks None) (option_map (λ (t : Status). let r : Stamped Status = record { stamp = core.status.stamp; value = t } in r) m)) none
+  no_update : option_map (as_marks v.beside) (update_of core.status) ≡ None
+  no_update = ap (λ (m : Option Status). option_map (as_marks v.beside) (option_map (λ (t : Status). let r : Stamped Status = record { stamp = core.status.stamp; value = t } in r) m)) none
 
   -- some disk shows what is committed
   later : stamp_lt v.committed.stamp u.stamp ≡ true
@@ -155,7 +154,7 @@ module _ (past : List Fact) (old new : State) (tied : IsTied past old) (sound : 
           let disk = meets.0 in
           let shown : v.media.status disk ≡ Some v.committed = ⊎_elim (λ (same : v.media.status disk ≡ Some v.committed). same)
           (λ (x : (y : Stamped Marks) × (v.in_flight ≡ Some y) × (v.media.status disk ≡ Some y)). absurd (let e : None ≡ Some x.0 = sym (tied.sees.status.in_flight ∙ no_update) ∙ x.1 in cc)) (f.have disk meets.2) in
-          let r = marks_of_some core.descriptor.id (c.status disk) v.committed (sym (plain_status tied.sees.beside tied.describes.shown disk) ∙ shown) in
+          let r = marks_of_some v.beside core.descriptor.id (c.status disk) v.committed (sym (tied.describes.shown.status disk) ∙ shown) in
           ap (λ (m : Stamped Marks). stamp_lt m.stamp u.stamp) (sym r.2) ∙ lower disk r.0 r.1
 
   pub begins : MayBegin v core.status.group core.descriptor image fresh_write u

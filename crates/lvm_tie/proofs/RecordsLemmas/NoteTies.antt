@@ -47,8 +47,10 @@ use Rattle.lvm_crash.proofs.DeviceLemmas.{writes_at}
 use Rattle.lvm_crash.proofs.RecordsLemmas.Quiet.{quiet_lasts, update_goes_on}
 use Rattle.lvm_crash.specs.Owned.{UpdateSince, OnlyUpdateSince}
 use Rattle.lvm_session.specs.Sound.{IsSound}
-use Rattle.lvm_tie.proofs.StateLemmas.{aimed_of, copy_is_one, on_member, missing_seen}
-use Rattle.lvm_tie.proofs.TiedLemmas.Orderly.{open_one, orderly_same, out_of}
+use Rattle.lvm_num.proofs.Lists.{all_at}
+use Rattle.lvm_session.specs.Requests.{IsTarget}
+use Rattle.lvm_tie.proofs.StateLemmas.{missing_seen, target_member}
+use Rattle.lvm_tie.proofs.TiedLemmas.Orderly.{open_one, orderly_same, out_of, waiting_one}
 use Rattle.lvm_tie.proofs.AmongLemmas.{not_true}
 use Rattle.lvm_tie.specs.Out.{AreNotes, CarriesStep, CarryTheirs, MayUpdate}
 use Rattle.lvm_tie.specs.Seen.{SeesNote, update_of, Sees}
@@ -168,9 +170,9 @@ module _ (past : List Fact) (old new : State) (place disk : ℕ) (starts : Start
       let t : Target = due.1 in
       let outer = and_parts (not (is_missing core t.pp.disk) && is_none (flight_on core.cache t.pp.disk)) (not (is_named core.cache t.pp.disk (lv_of starts.request.request.ask) (group_of starts.request.request.ask))) due.3 in
       let inner = and_parts (not (is_missing core t.pp.disk)) (is_none (flight_on core.cache t.pp.disk)) outer.0 in
-      let one = copy_is_one past old tied starts.request.request.ask inside t.pp (aimed_of past old tied place due.0 starts.request t starts.there waiting due.2) in
-      let member : is_member core.descriptor t.pp.disk ≡ true = on_member past old tied starts.request.request.ask inside t.pp one in
-      let missing : v.missing t.pp.disk ≡ false = missing_seen past old tied t.pp.disk (on_member past old tied starts.request.request.ask inside t.pp one) ∙ not_true (is_missing core t.pp.disk) inner.0 in
+      let its = all_at (IsTarget core starts.request.request.ask) starts.request.request.targets.items due.0 t (waiting_one old tied.write tied.orderly place starts.request starts.there waiting).shape.targets due.2 in
+      let member : is_member core.descriptor t.pp.disk ≡ true = target_member past old tied starts.request.request.ask inside t its in
+      let missing : v.missing t.pp.disk ≡ false = missing_seen past old tied t.pp.disk member ∙ not_true (is_missing core t.pp.disk) inner.0 in
       record { member = ap (is_member core.descriptor) (sym due.4) ∙ member; there = ap v.missing (sym due.4) ∙ missing; none = ap (flight_on core.cache) (sym due.4) ∙ flight_none (flight_on core.cache t.pp.disk) inner.1 }
 
   own : (d : ℕ) → (d ≡ disk) → flying d ≡ Some v.cache

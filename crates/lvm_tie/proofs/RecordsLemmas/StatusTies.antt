@@ -44,7 +44,7 @@ use Rattle.lvm_crash.specs.Session.{marks_of, as_marks, Describes}
 use Rattle.lvm_even.specs.Members.{members_showing}
 use Rattle.lvm_crash.proofs.DeviceLemmas.{of_one}
 use Rattle.lvm_crash.proofs.OwnedLemmas.{What, what, Data, OfStep, OfNote, OfUpdate, in_slots}
-use Rattle.lvm_crash.proofs.RecordsLemmas.Quiet.{quiet_lasts, update_goes_on}
+use Rattle.lvm_crash.proofs.RecordsLemmas.Quiet.{quiet_lasts, update_goes_on, updates_last}
 use Rattle.lvm_crash.specs.Owned.{IsStatusFlight, UpdateSince, OnlyUpdateSince}
 use Rattle.lvm_tie.proofs.TiedLemmas.Orderly.{IsStatusOut, IsOut, AreOut, out_of}
 use Rattle.lvm_tie.proofs.TiedLemmas.Tied.{tied_owns}
@@ -55,7 +55,6 @@ use Rattle.lvm_tie.specs.Tied.{IsOrderly, IsTied, ShowsRecords}
 use Rattle.lvm_tie.specs.Records.{StatusStartTies}
 use Rattle.lvm_tie.proofs.RecordsLemmas.MayBegin.{MayBegin, begins, fresh_update, fresh_write}
 use Rattle.lvm_tie.proofs.OutLemmas.Ties.{carry_more}
-use Rattle.lvm_tie.proofs.SeenLemmas.Beside.{plain_begins}
 
 not_itself : (s : Stamp) → stamp_lt s s ≡ false
 not_itself s = grind (arith, nat_tests)
@@ -96,13 +95,13 @@ nothing_out past old tied w is_status none d s x flies =
 
 -- what the update is, begun or going on
 pub record IsBegun (v : ModelState) (votes : Votes) (group : Descriptor) (device : Device) (media : Media) (w : RecordWrite) (u : Stamped Status) (old new : Stored) : Type 0 where
-  pub good : Good votes (record v { in_flight = Some (as_marks None u) })
-  pub describes : Describes (record v { in_flight = Some (as_marks None u) }) v.facts group (Some u) (contents_of (image_of device.sizes media))
+  pub good : Good votes (record v { in_flight = Some (as_marks v.beside u) })
+  pub describes : Describes (record v { in_flight = Some (as_marks v.beside u) }) v.facts group (Some u) (contents_of (image_of device.sizes media))
   pub since : UpdateSince device w u
   pub committed : new.committed ≡ old.committed
   pub wanted : new.wanted ≡ old.wanted
-  pub written : (d : ℕ) → has new.writes.written d ≡ true → v.media.status d ≡ Some (as_marks None u)
-  pub held : (x : Stamped Status) → update_of new ≡ Some x → is_held (seen new) ≡ true → v.committed ≡ as_marks None x
+  pub written : (d : ℕ) → has new.writes.written d ≡ true → v.media.status d ≡ Some (as_marks v.beside u)
+  pub held : (x : Stamped Status) → update_of new ≡ Some x → is_held (seen new) ≡ true → v.committed ≡ as_marks v.beside x
 
 module _ (past : List Fact) (old new : State) (starts : StartsStatus old new) (tied : IsTied past old) (write : RecordWrite)
     (may : old.core.status.in_flight ≡ None → MayBegin tied.view old.core.status.group old.core.descriptor (image_of old.device.sizes tied.media) write (record { stamp = new.core.status.stamp; value = starts.status }))
@@ -132,7 +131,7 @@ module _ (past : List Fact) (old new : State) (starts : StartsStatus old new) (t
       goes_on was =
           let is : seen status ≡ with_start (seen old.core.status) (Some starts.disk) = starts.started ∙ ap (λ (s : Stored). with_start (seen s) (Some starts.disk)) was.1 in
           let update_was : update_of old.core.status ≡ Some u = sym (λ k. option_map (λ (x : Status). let r : Stamped Status = record { stamp = (is k).stamp; value = x } in r) (is k).in_flight) ∙ update_now in
-          let flies : v.in_flight ≡ Some (as_marks None u) = tied.sees.status.in_flight ∙ ap (option_map (as_marks None)) update_was in
+          let flies : v.in_flight ≡ Some (as_marks v.beside u) = tied.sees.status.in_flight ∙ ap (option_map (as_marks v.beside)) update_was in
           record {
             good = subst (λ (o : Option (Stamped Marks)). Good tied.votes (record v { in_flight = o })) flies tied.good;
             describes = subst (λ (o : Option (Stamped Marks)). Describes (record v { in_flight = o }) v.facts group (Some u) (contents_of (image_of old.device.sizes tied.media))) flies
@@ -152,9 +151,9 @@ module _ (past : List Fact) (old new : State) (starts : StartsStatus old new) (t
           let no_update : update_of old.core.status ≡ None = ap (option_map (λ (x : Status). let r : Stamped Status = record { stamp = old.core.status.stamp; value = x } in r)) none in
           let no_write : tied.write ≡ None = none_since old.device tied.write (update_of old.core.status) tied.since no_update in
           let value : starts.status ≡ old.core.status.wanted = let e : Some starts.status ≡ Some old.core.status.wanted = sym starts.flies ∙ ap (λ (x : Updates). x.in_flight) is in cc in
-          let first = plain_begins tied.votes v group (contents_of (image_of old.device.sizes tied.media)) u tied.sees.beside tied.good
+          let first = updates_last.begins tied.votes v group (contents_of (image_of old.device.sizes tied.media)) u tied.good
           (subst (λ (o : Option (Stamped Status)). Describes v v.facts group o (contents_of (image_of old.device.sizes tied.media))) no_update tied.describes)
-          its.own (ap (marks_of None) value ∙ sym tied.sees.status.wanted) its.later its.last in
+          its.own (ap (marks_of v.beside) value ∙ sym tied.sees.status.wanted) its.later its.last in
           record {
             good = first.0;
             describes = first.1;
@@ -166,7 +165,7 @@ module _ (past : List Fact) (old new : State) (starts : StartsStatus old new) (t
           }
 
   abbrev v0 : ModelState
-  v0 = record v { in_flight = Some (as_marks None u) }
+  v0 = record v { in_flight = Some (as_marks v.beside u) }
 
   abbrev flying : ℕ → Bool
   flying d = has status.writes.started d
@@ -227,9 +226,9 @@ module _ (past : List Fact) (old new : State) (starts : StartsStatus old new) (t
     queue = tied.sees.queue;
     facts = tied.sees.facts;
     status = record {
-      committed = tied.sees.status.committed ∙ ap (marks_of None) (sym begun.committed);
-      in_flight = ap (option_map (as_marks None)) (sym update_now);
-      wanted = tied.sees.status.wanted ∙ ap (marks_of None) (sym begun.wanted);
+      committed = tied.sees.status.committed ∙ ap (marks_of v.beside) (sym begun.committed);
+      in_flight = ap (option_map (as_marks v.beside)) (sym update_now);
+      wanted = tied.sees.status.wanted ∙ ap (marks_of v.beside) (sym begun.wanted);
       started = λ d. refl;
       written = begun.written;
       held = begun.held;
@@ -300,10 +299,10 @@ module _ (past : List Fact) (old new : State) (starts : StartsStatus old new) (t
     };
     view = w;
     sees = sees;
-    good = each_keeps tied.votes (MoveStatus (as_marks None u) v0.media.status flying) v0 w (record { flies = refl; each = λ d. inl refl }, refl) begun.good;
+    good = each_keeps tied.votes (MoveStatus (as_marks v.beside u) v0.media.status flying) v0 w (record { flies = refl; each = λ d. inl refl }, refl) begun.good;
     describes = subst (λ (sizes : List ℕ). Describes w w.facts group (update_of status) (contents_of (image_of sizes tied.media))) (sym sizes_are)
         (subst (λ (o : Option (Stamped Status)). Describes w w.facts group o (contents_of (image_of old.device.sizes tied.media))) (sym update_now)
-        (quiet_lasts tied.votes (MoveStatus (as_marks None u) v0.media.status flying) v0 w group (Some u) (contents_of (image_of old.device.sizes tied.media)) (record { flies = refl; each = λ d. inl refl }, refl) begun.good tt begun.describes refl refl refl));
+        (quiet_lasts tied.votes (MoveStatus (as_marks v.beside u) v0.media.status flying) v0 w group (Some u) (contents_of (image_of old.device.sizes tied.media)) (record { flies = refl; each = λ d. inl refl }, refl) begun.good tt begun.describes refl refl refl));
     write = Some write;
     since = subst (λ (o : Option (Stamped Status)). OnlyUpdateSince new.device (Some write) o) (sym update_now) (update_goes_on write u old.device new.device (Started f starts.launches.starts) planned begun.since);
     recorded = record {

@@ -1,5 +1,5 @@
 -- A request that is admitted, tied.
-use Rattle.std.proofs.Common.{◌≡◌, ◌⊎◌, inl, inr, ⊎_elim, ℕ, zero, suc, ◌+◌, ◌-◌, ◌<◌, ◌≤◌, Bool, true, false, ◌&&◌, ◌||◌, ◌==◌, not, List, [], ◌∷◌, ◌++◌, append-nil, filter, length, map, Option, Some, None, refl, sym, ap, subst, ◌∙◌, arith}
+use Rattle.std.proofs.Common.{◌≡◌, ◌⊎◌, inl, inr, ⊎_elim, ℕ, zero, suc, ◌+◌, ◌-◌, ◌<◌, ◌≤◌, Bool, true, false, ◌&&◌, ◌||◌, ◌==◌, not, List, [], ◌∷◌, ◌++◌, length, map, Option, Some, None, refl, sym, ap, subst, ◌∙◌, arith}
 use Rattle.std.specs.Prelude.{IsTrue, IsFalse, if◌then◌else◌, slice_get, slice_set, nat_le, nat_lt, position, is_some, slice_index_or}
 use Rattle.std.specs.List.{list_any}
 use Rattle.std.specs.Option.{option_map_or}
@@ -8,7 +8,7 @@ use Rattle.std.proofs.lemmas.Bool.Decides.{nat_tests}
 use Rattle.std.proofs.lemmas.Option.{slice_get-get_or, same_Some}
 use Rattle.lvm_num.specs.Buffer.{Buffer}
 use Rattle.lvm_num.specs.Note.{IsNote}
-use Rattle.lvm_num.specs.Status.{calls_dirty, calls_stale}
+use Rattle.lvm_num.specs.Status.{calls_dirty}
 use Rattle.lvm_num.specs.declared.place.Pp.{Pp}
 use Rattle.lvm_num.specs.declared.descriptor.Mode.{Mode}
 use Rattle.lvm_num.specs.declared.descriptor.Mode.TheVariants as mode
@@ -49,7 +49,7 @@ use Rattle.lvm_session.specs.State.{Core, State, state}
 use Rattle.lvm_session.specs.Judging.{is_waiting, is_running, is_usable, is_missing, is_caught, is_held_back, copies_for, group_in, mode_of, policy_of, place_of, held_of, facts_of, next_for, aims, destination_aims, destinations_for, IsWithinVolume}
 use Rattle.lvm_session.specs.Bringing.{is_out, is_whole, step_row, groups_of}
 use Rattle.lvm_session.specs.Events.{Admits, Chooses, ChoosesBy, copy_of, last_after, loads_of, makes_dirty, destination_target, target_at, usable_from, without_pin}
-use Rattle.lvm_session.specs.Marks.{WantsDirty, WantsDirtyIf}
+use Rattle.lvm_session.specs.Marks.{WantsDirty, WantsDirtyIf, is_among}
 use Rattle.lvm_session.specs.Requests.{IsPhase, IsRequest}
 use Rattle.lvm_session.specs.Sound.{IsSound}
 use Rattle.lvm_invariant.specs.State.{Marks, Stage, ModelPhase, Held, WantEntry, Ready, Going, Landed, ModelCopy, Queued, ModelState, covers, is_past, has_landed}
@@ -61,17 +61,17 @@ use Rattle.lvm_invariant.specs.Events.{Admit, Want, ModelStep}
 use Rattle.lvm_invariant.specs.Good.{Good}
 use Rattle.lvm_invariant.specs.Want.{Wants, after_wants}
 use Rattle.lvm_invariant.proofs.EventsLemmas.Each.{each_keeps}
-use Rattle.lvm_crash.specs.Session.{marks_of, Describes}
+use Rattle.lvm_crash.specs.Session.{Describes, is_beside, marks_of}
 use Rattle.lvm_num.specs.Modes.{is_active}
 use Rattle.lvm_num.proofs.Booleans.{clash_gives}
-use Rattle.lvm_num.proofs.AmongLemmas.{one_at, filter_one}
+use Rattle.lvm_num.proofs.AmongLemmas.{one_any, one_at, one_of_either, filter_one}
 use Rattle.lvm_crash.specs.Owned.{OnlyUpdateSince}
 use Rattle.lvm_crash.proofs.OwnedLemmas.{covered}
 use Rattle.lvm_crash.proofs.RecordsLemmas.Quiet.{quiet_lasts}
-use Rattle.lvm_crash.proofs.WritingLemmas.{pp_same}
+use Rattle.lvm_crash.proofs.WritingLemmas.{pp_same, same_pp}
 use Rattle.lvm_tie.proofs.OutLemmas.Ties.{carry_on}
 use Rattle.lvm_tie.proofs.SeenLemmas.Changing.{step_apart, sees_changed}
-use Rattle.lvm_tie.proofs.StateLemmas.{no_places, there_is_copy, on_member, missing_seen, usable_seen, wanted_seen}
+use Rattle.lvm_tie.proofs.StateLemmas.{destination_is_copy, its_member, missing_seen, there_first, there_is_copy, usable_one}
 use Rattle.lvm_tie.proofs.ModesLemmas.{active_is}
 use Rattle.lvm_tie.proofs.JudgingLemmas.Rows.{HaveRows, rows_are}
 use Rattle.lvm_tie.proofs.TiedLemmas.Orderly.{HaveNumbers, numbers_of, open_one, waiting_one}
@@ -84,11 +84,18 @@ use Rattle.lvm_tie.specs.Requests.{AdmitTies}
 use Rattle.lvm_tie.proofs.LandsLemmas.Landings.{done_begun}
 use Rattle.lvm_tie.proofs.EventsLemmas.{cache_is, entries_stay}
 
--- what is chosen: usable copies, and for a write the one that is being brought up where it has passed
+-- it is usable, or a write goes to it and it is being brought up and has passed
+abbrev pub IsTaken : Core → Ask → Pp → Type 0
+IsTaken core ask p = (is_usable core p ≡ true) ⊎ ((is_write ask ≡ true) × (is_caught core (group_in core ask) p ≡ true))
+
+-- such a copy, or for a write the destination of a move which has passed
+abbrev pub IsChosen : Core → Ask → Pp → Type 0
+IsChosen core ask p = (IsOneOf (copies_for core ask) p × IsTaken core ask p) ⊎ ((is_among (destinations_for core ask) p ≡ true) × (is_write ask ≡ true) × (is_caught core (group_in core ask) p ≡ true))
+
+-- what is chosen
 pub record AreChosen (core : Core) (o : Open) (targets : List Target) : Type 0 where
   pub early : is_begun targets ≡ false
-  pub each : (number : ℕ) (t : Target) → slice_get targets number ≡ Some t
-      → IsOneOf (copies_for core o.request.ask) t.pp × ((is_usable core t.pp ≡ true) ⊎ ((is_write o.request.ask ≡ true) × (is_caught core (group_in core o.request.ask) t.pp ≡ true)))
+  pub each : (number : ℕ) (t : Target) → slice_get targets number ≡ Some t → IsChosen core o.request.ask t.pp
 
 -- ---- when it is admitted
 
@@ -261,24 +268,26 @@ module _ (past : List Fact) (old new : State) (place : ℕ) (admits : Admits old
 
   -- what is chosen is a copy that the state sees
   aims_seen : (number : ℕ) (t : Target) → slice_get admits.targets number ≡ Some t → IsTrue (v.is_copy (lv_of ask) (at_of ask) t.pp)
-  aims_seen number t there =
-      let c = chosen.each number t there in
-      there_is_copy past old tied ask inside t.pp c.0 (⊎_elim
+  aims_seen number t there = ⊎_elim
+      (λ (c : IsOneOf (copies_for core ask) t.pp × IsTaken core ask t.pp). there_is_copy past old tied ask inside t.pp c.0 (⊎_elim
       (λ usable. not_true (is_missing core t.pp.disk) (and_parts (not (Rattle.lvm_session.specs.Judging.is_stale core t.pp)) (not (is_missing core t.pp.disk)) usable).1)
-      (λ caught. by core.copy refl tied.sees.open_copy caught.1 c.0)
-      c.1)
+      (λ (caught : (is_write ask ≡ true) × (is_caught core (group_in core ask) t.pp ≡ true)). by core.copy refl tied.sees.open_copy caught.1)
+      c.1))
+      (λ (d : (is_among (destinations_for core ask) t.pp ≡ true) × (is_write ask ≡ true) × (is_caught core (group_in core ask) t.pp ≡ true)).
+      destination_is_copy past old tied ask inside t.pp d.0 (there_first past old tied t.pp.disk (by core.copy refl tied.sees.open_copy d.2)))
+      (chosen.each number t there)
     where
-      running : (c : OpenCopy) → SeesOpen (groups_of core) c v.open_copy → t.pp ≡ c.pp → IsOneOf (copies_for core ask) t.pp → is_missing core t.pp.disk ≡ false
-      running c sees_it same one =
+      running : (c : OpenCopy) → core.copy ≡ Some c → SeesOpen (groups_of core) c v.open_copy → t.pp ≡ c.pp → is_missing core t.pp.disk ≡ false
+      running c is sees_it same =
           let there2 : v.missing sees_it.copy.target.disk ≡ false = tied.good.sound.statuses.open_there sees_it.copy sees_it.is_open in
-          sym (missing_seen past old tied t.pp.disk (on_member past old tied ask inside t.pp one)) ∙ ap (λ (p : Pp). v.missing p.disk) (same ∙ sym sees_it.target) ∙ there2
+          ap (λ (p : Pp). is_missing core p.disk) same ∙ sym (missing_seen past old tied c.pp.disk (its_member past old tied c is)) ∙ ap (λ (p : Pp). v.missing p.disk) (sym sees_it.target) ∙ there2
 
-      by : (x : Option OpenCopy) → core.copy ≡ x → SeesCopy (groups_of core) x v.open_copy → option_map_or (λ (c : OpenCopy). is_running c && is_pp t.pp c.pp && nat_lt (group_in core ask) c.cursor) x false ≡ true → IsOneOf (copies_for core ask) t.pp → is_missing core t.pp.disk ≡ false
-      by None is none h one = absurd cc
-      by (Some c) is sees_it h one =
+      by : (x : Option OpenCopy) → core.copy ≡ x → SeesCopy (groups_of core) x v.open_copy → option_map_or (λ (c : OpenCopy). is_running c && is_pp t.pp c.pp && nat_lt (group_in core ask) c.cursor) x false ≡ true → is_missing core t.pp.disk ≡ false
+      by None is none h = absurd cc
+      by (Some c) is sees_it h =
           let outer = and_parts (is_running c && is_pp t.pp c.pp) (nat_lt (group_in core ask) c.cursor) h in
           let inner = and_parts (is_running c) (is_pp t.pp c.pp) outer.0 in
-          running c (subst (λ (b : Bool). SeesRunning b (groups_of core) c v.open_copy) inner.0 sees_it) (pp_same t.pp c.pp inner.1) one
+          running c is (subst (λ (b : Bool). SeesRunning b (groups_of core) c v.open_copy) inner.0 sees_it) (pp_same t.pp c.pp inner.1)
 
   usable : IsFalse q.write → (c : Pp) (x : Stage) → targets2 c ≡ Some x → IsTrue (v.is_copy q.lv q.first c) × IsTrue (Rattle.lvm_invariant.specs.State.is_usable v c)
   usable read c x is =
@@ -289,9 +298,12 @@ module _ (past : List Fact) (old new : State) (place : ℕ) (admits : Admits old
       let copy = aims_seen there.0 t.0 there.1 in (
         (λ k. v.is_copy (sees.lv k) (sees.first k) c) ∙ subst (λ (p : Pp). IsTrue (v.is_copy (lv_of ask) (at_of ask) p)) t.2 copy,
         subst (λ (p : Pp). IsTrue (Rattle.lvm_invariant.specs.State.is_usable v p)) t.2 (⊎_elim
-            (λ u. usable_seen past old tied t.0.pp (on_member past old tied ask inside t.0.pp its.0) ∙ u)
-            (λ caught. clash_gives (is_write ask) caught.0 (sym sees.write ∙ read))
-            its.1),
+            (λ (one : IsOneOf (copies_for core ask) t.0.pp × IsTaken core ask t.0.pp). ⊎_elim
+            (λ u. usable_one past old tied ask inside t.0.pp one.0 ∙ u)
+            (λ (caught : (is_write ask ≡ true) × (is_caught core (group_in core ask) t.0.pp ≡ true)). clash_gives (is_write ask) caught.0 (sym sees.write ∙ read))
+            one.1)
+            (λ (d : (is_among (destinations_for core ask) t.0.pp ≡ true) × (is_write ask ≡ true) × (is_caught core (group_in core ask) t.0.pp ≡ true)). clash_gives (is_write ask) d.1 (sym sees.write ∙ read))
+            its),
       )
 
   is_first : (phase_seen o.request.phase (is_begun o.request.targets.items) ≡ WantEntry) ⊎ (phase_seen o.request.phase (is_begun o.request.targets.items) ≡ Ready) → (q.phase ≡ Held) ⊎ (q.phase ≡ WantEntry) ⊎ (q.phase ≡ Ready) ⊎ (IsFalse q.write × IsTrue (is_past q.phase) × (q.got ≡ None))
@@ -387,13 +399,13 @@ module _ (past : List Fact) (old new : State) (place : ℕ) (admits : Admits old
     stored = new.core.status
 
     abbrev w2 : ModelState
-    w2 = after_wants w (marks_of None stored.wanted) w.missing w.open_copy
+    w2 = after_wants w (marks_of v.beside stored.wanted) w.missing w.open_copy
 
     wanted_rest : seen stored ≡ record (seen core.status) { wanted = stored.wanted }
     wanted_rest = dirty_rest (lv_of ask) core.status stored (tied.orderly.sound.on tied.orderly.on).going.status wants
 
-    wanted_is : (c : Pp) → calls_stale stored.wanted c ≡ v.wanted.stale c
-    wanted_is c = wants.wants.stale c ∙ sym (wanted_seen past old tied c)
+    wanted_is : (c : Pp) → (marks_of v.beside stored.wanted).stale c ≡ v.wanted.stale c
+    wanted_is c = ap (λ b. is_beside v.beside c || b) (wants.wants.stale c) ∙ sym (ap (λ (m : Marks). m.stale c) tied.sees.status.wanted)
 
     still_dirty : (lv : ℕ) → calls_dirty core.status.wanted lv ≡ true → calls_dirty stored.wanted lv ≡ true
     still_dirty lv is = wants.wants.dirty lv ∙ by (lv == lv_of ask)
@@ -402,7 +414,7 @@ module _ (past : List Fact) (old new : State) (place : ℕ) (admits : Admits old
         by true = refl
         by false = is
 
-    may_want : Wants w (marks_of None stored.wanted) w.missing w.open_copy
+    may_want : Wants w (marks_of v.beside stored.wanted) w.missing w.open_copy
     may_want = record {
       missing_still = λ d is. is;
       still = λ c is. wanted_is c ∙ is;
@@ -413,7 +425,7 @@ module _ (past : List Fact) (old new : State) (place : ℕ) (admits : Admits old
       behind = λ lv b c e copy fresh gone copy2 usable_e unwanted. wanted_is c ∙ tied.good.sound.behind.left_behind lv b c e copy fresh gone copy2 usable_e (sym (wanted_is e) ∙ unwanted);
     }
 
-    want_step : ModelStep tied.votes (Want (marks_of None stored.wanted) w.missing w.open_copy) w w2
+    want_step : ModelStep tied.votes (Want (marks_of v.beside stored.wanted) w.missing w.open_copy) w w2
     want_step = (may_want, refl)
 
     core3 : Core
@@ -426,9 +438,9 @@ module _ (past : List Fact) (old new : State) (place : ℕ) (admits : Admits old
       setting = tied.setting;
       view = w2;
       sees = sees_wanted core.status stored wanted_rest wants.wants.missing past core2 w refl sees_w;
-      good = each_keeps tied.votes (Want (marks_of None stored.wanted) w.missing w.open_copy) w w2 want_step good_w;
+      good = each_keeps tied.votes (Want (marks_of v.beside stored.wanted) w.missing w.open_copy) w w2 want_step good_w;
       describes = subst (λ (u : Option (Stamped Status)). Describes w2 w2.facts core.descriptor u (contents_of (image_of old.device.sizes tied.media))) (sym (update_same core.status stored wanted_rest wants.wants.missing))
-          (quiet_lasts tied.votes (Want (marks_of None stored.wanted) w.missing w.open_copy) w w2 core.descriptor (update_of core.status) (contents_of (image_of old.device.sizes tied.media)) want_step good_w tt describes_w refl refl refl);
+          (quiet_lasts tied.votes (Want (marks_of v.beside stored.wanted) w.missing w.open_copy) w w2 core.descriptor (update_of core.status) (contents_of (image_of old.device.sizes tied.media)) want_step good_w tt describes_w refl refl refl);
       write = tied.write;
       orderly = orderly (write_same core.status stored wanted_rest wants.wants.missing core.homes tied.write tied.orderly.update);
       since = subst (OnlyUpdateSince old.device tied.write) (sym (update_same core.status stored wanted_rest wants.wants.missing)) tied.since;
@@ -455,6 +467,11 @@ map_get : {A B : Type 0} (f : A → B) (xs : List A) (k : ℕ) (y : B) → slice
 map_get f [] k y there = absurd (cc there)
 map_get f (x ∷ xs) zero y there = (x, inl refl, let e : f x ≡ y = cc there in sym e)
 map_get f (x ∷ xs) (suc k) y there = let r = map_get f xs k y there in (r.0, inr r.1, r.2)
+
+mapped : {A B : Type 0} (f : A → B) (xs : List A) (y : B) → IsOneOf (map f xs) y → (x : A) × IsOneOf xs x × (y ≡ f x)
+mapped f [] y one = absurd one
+mapped f (x ∷ xs) y (inl here) = (x, inl refl, here)
+mapped f (x ∷ xs) y (inr there) = let r = mapped f xs y there in (r.0, inr r.1, r.2)
 
 none_started : {A : Type 0} (f : A → Target) (xs : List A) → ((x : A) → (f x).state ≡ target.Waiting) → is_begun (map f xs) ≡ false
 none_started f [] all = refl
@@ -490,9 +507,15 @@ index_at [] k p d there = absurd (cc there)
 index_at (x ∷ ps) zero p d there = let e : x ≡ p = cc there in e
 index_at (x ∷ ps) (suc k) p d there = index_at ps k p d there
 
--- (where no copy moves)
-chosen_by : (s : State) (o : Open) (targets : List Target) (order : List ℕ) → destinations_for s.core o.request.ask ≡ [] → Chooses s o.request.ask targets order → AreChosen s.core o targets
-chosen_by s o targets order none chooses = by (is_write ask) refl chooses
+none_started_both : (ts us : List Target) → is_begun ts ≡ false → is_begun us ≡ false → is_begun (ts ++ us) ≡ false
+none_started_both [] us a b = b
+none_started_both (t ∷ ts) us a b = let parts = or_left (not (target_waits t.state)) (is_begun ts) a in or_none (not (target_waits t.state)) (is_begun (ts ++ us)) parts.0 (none_started_both ts us parts.1 b)
+  where
+    or_none : (x y : Bool) → x ≡ false → y ≡ false → x || y ≡ false
+    or_none x y p q = λ k. p k || q k
+
+chosen_by : (s : State) (o : Open) (targets : List Target) (order : List ℕ) → Chooses s o.request.ask targets order → AreChosen s.core o targets
+chosen_by s o targets order chooses = by (is_write ask) refl chooses
   where
     ask : Ask
     ask = o.request.ask
@@ -500,19 +523,30 @@ chosen_by s o targets order none chooses = by (is_write ask) refl chooses
     copies : List Pp
     copies = copies_for s.core ask
 
-    plain : targets ≡ map (target_at s ask) (aims s.core ask) ++ map (destination_target s ask) (destination_aims s.core ask) → targets ≡ map (target_at s ask) (aims s.core ask)
-    plain are = are ∙ ap (λ (ps : List Pp). map (target_at s ask) (aims s.core ask) ++ map (destination_target s ask) (filter (is_caught s.core (group_in s.core ask)) ps)) none ∙ append-nil (map (target_at s ask) (aims s.core ask))
-
     by : (w : Bool) → is_write ask ≡ w → ChoosesBy w s ask targets order → AreChosen s.core o targets
     by true writes its = record {
-      early = ap is_begun (plain its.0) ∙ none_started (target_at s ask) (aims s.core ask) (λ p. refl);
-      each = λ n t there.
-          let m = map_get (target_at s ask) (aims s.core ask) n t (ap (λ (ts : List Target). slice_get ts n) (sym (plain its.0)) ∙ there) in
+      early = ap is_begun its.0 ∙ none_started_both (map (target_at s ask) (aims s.core ask)) (map (destination_target s ask) (destination_aims s.core ask))
+          (none_started (target_at s ask) (aims s.core ask) (λ p. refl)) (none_started (destination_target s ask) (destination_aims s.core ask) (λ p. refl));
+      each = λ n t there. ⊎_elim
+          (λ (one : IsOneOf (map (target_at s ask) (aims s.core ask)) t).
+          let m = mapped (target_at s ask) (aims s.core ask) t one in
           let passes = filter_one (λ (p : Pp). is_usable s.core p || is_caught s.core (group_in s.core ask) p) copies m.0 m.1 in
-          let pp : t.pp ≡ m.0 = ap (λ (x : Target). x.pp) m.2 in (
+          let pp : t.pp ≡ m.0 = ap (λ (x : Target). x.pp) m.2 in
+          inl (
             subst (IsOneOf copies) (sym pp) passes.0,
             ⊎_elim (λ u. inl (ap (is_usable s.core) pp ∙ u)) (λ c. inr (writes, ap (is_caught s.core (group_in s.core ask)) pp ∙ c)) (or_either (is_usable s.core m.0) (is_caught s.core (group_in s.core ask) m.0) passes.1),
-          );
+          ))
+          (λ (one : IsOneOf (map (destination_target s ask) (destination_aims s.core ask)) t).
+          let m = mapped (destination_target s ask) (destination_aims s.core ask) t one in
+          let passes = filter_one (is_caught s.core (group_in s.core ask)) (destinations_for s.core ask) m.0 m.1 in
+          let pp : t.pp ≡ m.0 = ap (λ (x : Target). x.pp) m.2 in
+          inr (
+            ap (is_among (destinations_for s.core ask)) pp ∙ one_any (is_pp m.0) (destinations_for s.core ask) m.0 passes.0 (same_pp m.0 m.0 refl),
+            writes,
+            ap (is_caught s.core (group_in s.core ask)) pp ∙ passes.1,
+          ))
+          (one_of_either (map (target_at s ask) (aims s.core ask)) (map (destination_target s ask) (destination_aims s.core ask)) t
+          (subst (λ (ts : List Target). IsOneOf ts t) its.0 (one_at targets n t there)));
     }
     by false reads its = record {
       early = ap is_begun its.targets_are ∙ none_started (λ (n : ℕ). target_at s ask (copy_of copies n)) order (λ n. refl);
@@ -522,11 +556,11 @@ chosen_by s o targets order none chooses = by (is_write ask) refl chooses
           let at = usable_at s.core 1 copies m.0 one in
           let back : m.0 - 1 ≡ at.way = let e = at.number in omega (arith, e) in
           let pp : t.pp ≡ at.pp = ap (λ (x : Target). x.pp) m.2 ∙ ap (λ (k : ℕ). slice_index_or copies k (record { disk = 0; pp = 0 })) back ∙ index_at copies at.way at.pp (record { disk = 0; pp = 0 }) at.there in
-          (subst (IsOneOf copies) (sym pp) (one_at copies at.way at.pp at.there), inl (ap (is_usable s.core) pp ∙ at.usable));
+          inl (subst (IsOneOf copies) (sym pp) (one_at copies at.way at.pp at.there), inl (ap (is_usable s.core) pp ∙ at.usable));
     }
 
 pub admit_ties : AdmitTies
-admit_ties place past old new tied sound admits = tied_after past old new place admits tied sound (rows_are old tied.write tied.orderly) waits empty (chosen_by old o admits.targets admits.order (no_places past old tied o.request.ask) admits.chosen)
+admit_ties place past old new tied sound admits = tied_after past old new place admits tied sound (rows_are old tied.write tied.orderly) waits empty (chosen_by old o admits.targets admits.order admits.chosen)
   where
     o : Open
     o = admits.request

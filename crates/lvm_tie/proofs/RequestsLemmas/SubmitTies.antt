@@ -9,7 +9,6 @@ use Rattle.lvm_num.specs.declared.place.Pp.{Pp}
 use Rattle.lvm_num.specs.declared.descriptor.LvRow.{LvRow}
 use Rattle.lvm_num.specs.declared.descriptor.Descriptor.{Descriptor}
 use Rattle.lvm_num.specs.Geometry.{partition_blocks, partition_of, track_group_of, volume_blocks}
-use Rattle.lvm_num.proofs.Booleans.{same_meaning}
 use Rattle.lvm_num.proofs.Lists.{all_at}
 use Rattle.lvm_vol.specs.declared.entry.Vol.TheVariants.{Lv}
 use Rattle.lvm_vol.specs.Facts.{Request as Asked, Fact, Begun, begun, block_of}
@@ -54,7 +53,7 @@ use Rattle.lvm_tie.specs.Out.{CarriesStep}
 use Rattle.lvm_tie.specs.Seen.{update_of, SeesRequest, IsRequestAt, IsStepAt, Sees}
 use Rattle.lvm_tie.specs.Tied.{IsOrderly, IsTied}
 use Rattle.lvm_tie.specs.Requests.{SubmitTies}
-use Rattle.lvm_tie.proofs.SeenLemmas.Beside.{plain_copies}
+use Rattle.lvm_tie.proofs.SeenLemmas.Beside.{beside_alike, copy_seen, same_copies}
 
 -- what is asked of a request that is submitted
 pub record MaySubmit (past : List Fact) (core : Core) (ask : Ask) (bytes : Option (List ℕ)) : Type 0 where
@@ -158,11 +157,9 @@ module _ (past : List Fact) (old : State) (client : ℕ) (ask : Ask) (bytes : Op
   block k lt = record { inside = lp_inside; partition = same_partition group.mib (at_of ask) k some (one_group k lt) }
 
   copies : (k : ℕ) → k < count_of ask → (p : Pp) → v.is_copy (lv_of ask) (at_of ask + k) p ≡ v.is_copy (lv_of ask) (at_of ask) p
-  copies k lt p =
-      let here = plain_copies tied.sees.beside tied.describes.volumes row lp (at_of ask + k) p row_one (block k lt) in
-      let first = plain_copies tied.sees.beside tied.describes.volumes row lp (at_of ask) p row_one (record { inside = lp_inside; partition = refl }) in
-      subst (λ n. v.is_copy n (at_of ask + k) p ≡ v.is_copy n (at_of ask) p) row_number
-      (same_meaning (v.is_copy row.number (at_of ask + k) p) (v.is_copy row.number (at_of ask) p) here.0 here.1 first.0 first.1)
+  copies k lt p = subst (λ n. v.is_copy n (at_of ask + k) p ≡ v.is_copy n (at_of ask) p) row_number
+      (same_copies tied.describes.volumes row lp (at_of ask + k) (at_of ask) p row_one (block k lt) (record { inside = lp_inside; partition = refl })
+      (beside_alike core v.beside tied.sees.beside row.number (at_of ask + k) (at_of ask) (block k lt).partition))
 
   -- a block that it covers is one of its own
   pub record Behind (lv b : ℕ) : Type 0 where
@@ -184,7 +181,7 @@ module _ (past : List Fact) (old : State) (client : ℕ) (ask : Ask) (bytes : Op
         (sym at.volume, ap track_group_of (sym at.is) ∙ one_group at.way at.less, ap (λ n. v.is_copy (lv_of ask) n) (sym at.is) ∙ (λ t p. copies at.way at.less p t));
     inside = λ lv b over. let at = behind lv b over in
         let there = tied.describes.volumes.some row lp row_one lp_inside in
-        let is = (plain_copies tied.sees.beside tied.describes.volumes row lp (at_of ask + at.way) there.0 row_one (block at.way at.less)).1 (there.1, there.2) in
+        let is = copy_seen tied.describes.volumes row lp (at_of ask + at.way) there.0 row_one (block at.way at.less) there.1 there.2 in
         (there.0, subst (λ n. IsTrue (v.is_copy n b there.0)) (row_number ∙ at.volume) (subst (λ n. IsTrue (v.is_copy row.number n there.0)) at.is is));
   }
 

@@ -20,7 +20,7 @@ use Rattle.lvm_session.specs.Judging.{is_running, place_of}
 use Rattle.lvm_session.specs.Bringing.{block_at, groups_of, has_row, is_out}
 use Rattle.lvm_session.specs.Events.{flown}
 use Rattle.lvm_session.specs.Sound.{IsSound}
-use Rattle.lvm_invariant.specs.State.{Flying, Going, Groups, Held, Landed, ModelCopy, ModelPhase, Queued, Ready, Stage, ModelState, StepWrite, Todo, WantEntry, covers, has_landed, is_past, is_usable as sees_usable}
+use Rattle.lvm_invariant.specs.State.{ModelCopy, Queued, ModelState}
 use Rattle.lvm_invariant.specs.Good.{Good}
 use Rattle.lvm_crash.specs.Session.{Describes}
 use Rattle.lvm_even.specs.Members.{members_showing}
@@ -29,6 +29,7 @@ use Rattle.lvm_tie.specs.Seen.{IsRequestAt, IsStepAt, Sees, SeesCopy, SeesRunnin
 use Rattle.lvm_tie.specs.Tied.{IsTied, ShowsRecords}
 use Rattle.lvm_tie.proofs.TiedLemmas.Orderly.{AreOut, StepIsOut, open_one, orderly_same, out_of}
 use Rattle.lvm_tie.proofs.OutLemmas.Ties.{since_start}
+use Rattle.lvm_tie.proofs.SeenLemmas.Beside.{open_beside}
 use Rattle.lvm_session.proofs.MovesLemmas.{unmoving}
 
 -- ---- the step of the copy goes on
@@ -76,7 +77,7 @@ module _ (past : List Fact) (core : Core) (v : ModelState) (c : OpenCopy) (st : 
     notes = sees.notes;
     open_copy = running_on (is_running c) (groups_of core) c st v.open_copy (subst (λ (m : Option OpenCopy). SeesCopy (groups_of core) m v.open_copy) is sees.open_copy);
     step_write = refl;
-    beside = sees.beside;
+    beside = open_beside core c v.beside sees.beside is;
     brings = unmoving core c is sees.brings;
   }
 

@@ -42,6 +42,8 @@ use Rattle.lvm_crash.proofs.RecordsLemmas.Quiet.{quiet_lasts}
 use Rattle.lvm_crash.proofs.WritingLemmas.{pp_same, same_pp}
 use Rattle.lvm_tie.specs.Seen.{IsRequestAt, IsStepAt, Sees, SeesCopy, SeesHand, SeesOpen, SeesRequest, SeesRunning, SeesStep, phase_seen, step_write_of, update_of}
 use Rattle.lvm_tie.specs.Tied.{IsTied}
+use Rattle.lvm_kept.proofs.ChangesLemmas.Entries.{volume_is_row}
+use Rattle.lvm_tie.proofs.SeenLemmas.Beside.{copy_apart}
 use Rattle.lvm_tie.proofs.StateLemmas.{IsOfItsPartition, of_its, there_first, usable_seen}
 use Rattle.lvm_tie.proofs.TiedLemmas.Orderly.{open_one}
 use Rattle.lvm_tie.proofs.JudgingLemmas.Rows.{rows_are}
@@ -235,7 +237,7 @@ module _ (past : List Fact) (old new : State) (tied : IsTied past old) (sound : 
     where
       by : (p : Pp) {x : Stage} (b : Bool) → is_pp p source ≡ b → (if b then Some Todo else None) ≡ Some x → IsTrue (v.is_copy q.lv q.first p) × IsTrue (sees_usable v p)
       by p true same h = let own : p ≡ source = pp_same p source same in
-          subst (λ (z : Pp). IsTrue (v.is_copy q.lv q.first z) × IsTrue (sees_usable v z)) (sym own) (is_copy, usable_seen past old tied source member ∙ usable)
+          subst (λ (z : Pp). IsTrue (v.is_copy q.lv q.first z) × IsTrue (sees_usable v z)) (sym own) (is_copy, usable_seen past old tied source (copy_apart tied.describes.volumes its.row c.lp source (volume_is_row core.descriptor c.lv its.row its.volume) its.lp among) member ∙ usable)
       by p false same h = absurd (cc h)
 
   put_here : (f : ℕ → Option Queued) (x : Queued) → put f i x i ≡ Some x

@@ -32,9 +32,9 @@ use Rattle.lvm_session.specs.Ends.{Returns, StatusLearns}
 use Rattle.lvm_session.specs.Sound.{IsGoing, IsSound}
 use Rattle.lvm_invariant.specs.State.{Marks, ModelState}
 use Rattle.lvm_invariant.specs.Good.{Good}
-use Rattle.lvm_crash.specs.Session.{Describes, as_marks, marks_of}
+use Rattle.lvm_crash.specs.Session.{Describes, as_marks, marks_of, members_showing}
 use Rattle.lvm_even.specs.Members.{members_showing}
-use Rattle.lvm_crash.proofs.RecordsLemmas.Quiet.{update_goes_on}
+use Rattle.lvm_crash.proofs.RecordsLemmas.Quiet.{update_goes_on, updates_last}
 use Rattle.lvm_crash.specs.Owned.{OnlyUpdateSince}
 use Rattle.lvm_crash.specs.Records.{statuses_of}
 use Rattle.lvm_tie.proofs.TiedLemmas.Recorded.{records_last, shows_last, shows_update}
@@ -49,7 +49,6 @@ use Rattle.lvm_tie.specs.Statuses.{StatusEndTies}
 use Rattle.lvm_tie.proofs.UpdateLemmas.{all_written, committed_new, decided, flies_new, held_new, held_over, learned, lost_then, missing_then, none_started, none_written, over_committed, over_new, owed_before, owed_beside, owed_still, stamp_then, written_new, written_then}
 use Rattle.lvm_tie.proofs.StatusesLemmas.Reviewed.{IsReviewed, after, core1, how, reviewed_alone, reviewed_committed, v1, was_there}
 use Rattle.lvm_tie.proofs.StatusesLemmas.Update.{IsWritten, ended, its_row, kept, may_update, moves, slots_beside, stands_here, still_stands, written}
-use Rattle.lvm_tie.proofs.SeenLemmas.Beside.{plain_ends}
 
 -- the end of the copy leaves power and slots
 same_power : (core : Core) (e : Option CopyEnd) → (with_end core e).power ≡ core.power
@@ -159,16 +158,16 @@ module _ (past : List Fact) (old new : State) (index disk : ℕ) (ok : Bool) (ro
   carries x same g owner.Copy carried = λ c q is writing at. carried c q is writing (sym (same c.place) ∙ at)
 
   -- what stands of it on the disks that have it
-  have : (d : ℕ) → written_then (seen core.status) disk ok d ≡ true → moved_view.media.status d ≡ Some (as_marks None u)
+  have : (d : ℕ) → written_then (seen core.status) disk ok d ≡ true → moved_view.media.status d ≡ Some (as_marks v.beside u)
   have d = by ok refl
     where
-      before_it : has core.status.writes.written d ≡ true → moved_view.media.status d ≡ Some (as_marks None u)
+      before_it : has core.status.writes.written d ≡ true → moved_view.media.status d ≡ Some (as_marks v.beside u)
       before_it had = still_stands past old new index disk ok row buf its_owner returns tied d (tied.sees.status.written d had ∙ (moves past old new index disk ok row buf its_owner returns tied (λ n. false)).may.flies)
 
-      here : ok ≡ true → (d == disk) ≡ true → moved_view.media.status d ≡ Some (as_marks None u)
-      here well same = ap (statuses_of None group.id now) (eqb-true d disk same) ∙ stands_here past old new index disk ok row buf its_owner returns tied well
+      here : ok ≡ true → (d == disk) ≡ true → moved_view.media.status d ≡ Some (as_marks v.beside u)
+      here well same = ap (statuses_of v.beside group.id now) (eqb-true d disk same) ∙ stands_here past old new index disk ok row buf its_owner returns tied well
 
-      by : (b : Bool) → ok ≡ b → written_then (seen core.status) disk b d ≡ true → moved_view.media.status d ≡ Some (as_marks None u)
+      by : (b : Bool) → ok ≡ b → written_then (seen core.status) disk b d ≡ true → moved_view.media.status d ≡ Some (as_marks v.beside u)
       by false badly had = before_it had
       by true well had = ⊎_elim before_it (here well) (or_either (has core.status.writes.written d) (d == disk) had)
 
@@ -184,13 +183,13 @@ module _ (past : List Fact) (old new : State) (index disk : ℕ) (ok : Bool) (ro
     abbrev with_update_in : Option (Stamped Marks) → ModelState
     with_update_in x = record v2 { in_flight = x }
 
-    sees : (x : Option (Stamped Marks)) → x ≡ option_map (as_marks None) (update_of status) → ((d : ℕ) → has status.writes.written d ≡ true → moved_view.media.status d ≡ x)
-        → ((y : Stamped Status) → update_of status ≡ Some y → is_held (seen status) ≡ true → reviewed.committed ≡ as_marks None y) → Sees past core2 (record (with_update_in x) { open_copy = v.open_copy })
+    sees : (x : Option (Stamped Marks)) → x ≡ option_map (as_marks v.beside) (update_of status) → ((d : ℕ) → has status.writes.written d ≡ true → moved_view.media.status d ≡ x)
+        → ((y : Stamped Status) → update_of status ≡ Some y → is_held (seen status) ≡ true → reviewed.committed ≡ as_marks v.beside y) → Sees past core2 (record (with_update_in x) { open_copy = v.open_copy })
     sees x flies stands held = record {
       queue = tied.sees.queue;
       facts = tied.sees.facts;
       status = record {
-        committed = reviewed.marks ∙ ap (marks_of None) (sym (committed_new core.status stored status group disk ok t going.fitting.group going.status its.flies its.out.started learns.wants learns.ended learns.reviews.marks.rest));
+        committed = reviewed.marks ∙ ap (marks_of v.beside) (sym (committed_new core.status stored status group disk ok t going.fitting.group going.status its.flies its.out.started learns.wants learns.ended learns.reviews.marks.rest));
         in_flight = flies;
         wanted = refl;
         started = λ d. refl;
@@ -250,7 +249,7 @@ module _ (past : List Fact) (old new : State) (index disk : ℕ) (ok : Bool) (ro
           ((its_row past old new index disk ok row buf its_owner returns tied core2 (with_update_in x)).carry (carries (with_update_in x) (λ j. refl)) (subst (λ (fs : List Flight). CarryTheirs core v fs core.flying) back.removes.was tied.carry));
     }) runs (orderly write update))
 
-    flies : v.in_flight ≡ Some (as_marks None u)
+    flies : v.in_flight ≡ Some (as_marks v.beside u)
     flies = (moves past old new index disk ok row buf its_owner returns tied (λ n. false)).may.flies
 
     -- the update goes on
@@ -258,12 +257,12 @@ module _ (past : List Fact) (old new : State) (index disk : ℕ) (ok : Bool) (ro
     goes_on still =
         let in_flight : status.in_flight ≡ Some t = flies_new core.status stored status group disk ok t going.fitting.group going.status its.flies its.out.started learns.wants learns.ended learns.reviews.marks.rest still in
         let update_now : update_of status ≡ Some u = (λ k. option_map (λ (y : Status). let r : Stamped Status = record { stamp = stamp_is k; value = y } in r) (in_flight k)) in
-        tied_with (Some (as_marks None u)) (Some w)
-        (sees (Some (as_marks None u)) (ap (option_map (as_marks None)) (sym update_now))
+        tied_with (Some (as_marks v.beside u)) (Some w)
+        (sees (Some (as_marks v.beside u)) (ap (option_map (as_marks v.beside)) (sym update_now))
         (λ d has_it. have d (sym (written_new core.status stored status group disk ok t going.fitting.group going.status its.flies its.out.started learns.wants learns.ended learns.reviews.marks.rest still d) ∙ has_it))
-        (λ y is enough. reviewed.held (sym (held_new core.status stored status group disk ok t going.fitting.group going.status its.flies its.out.started learns.wants learns.ended learns.reviews.marks.rest still) ∙ enough) ∙ ap (as_marks None) (same_Some u y (sym update_now ∙ is))))
+        (λ y is enough. reviewed.held (sym (held_new core.status stored status group disk ok t going.fitting.group going.status its.flies its.out.started learns.wants learns.ended learns.reviews.marks.rest still) ∙ enough) ∙ ap (as_marks v.beside) (same_Some u y (sym update_now ∙ is))))
         (subst (λ (o : Option (Stamped Marks)). Good tied.votes (with_update_in o)) flies reviewed.good)
-        (subst (λ (o : Option (Stamped Status)). Describes (with_update_in (Some (as_marks None u))) v.facts group o now) (sym update_now) (subst (λ (o : Option (Stamped Marks)). Describes (with_update_in o) v.facts group (Some u) now) flies reviewed.describes))
+        (subst (λ (o : Option (Stamped Status)). Describes (with_update_in (Some (as_marks v.beside u))) v.facts group o now) (sym update_now) (subst (λ (o : Option (Stamped Marks)). Describes (with_update_in o) v.facts group (Some u) now) flies reviewed.describes))
         (subst (λ (o : Option (Stamped Status)). OnlyUpdateSince new.device (Some w) o) (sym update_now) (update_goes_on w u old.device new.device back.step (back.planned w) its.since))
         (subst (λ (m : Option Status). IsWriteOf status learns.homes m (Some w)) (sym in_flight) (update still))
         (λ none. absurd (let e : None ≡ Some t = sym none ∙ in_flight in cc))
@@ -283,11 +282,11 @@ module _ (past : List Fact) (old new : State) (index disk : ℕ) (ok : Bool) (ro
     ends done =
         let none : status.in_flight ≡ None = over_new core.status stored status group disk ok t going.fitting.group going.status its.flies its.out.started learns.wants learns.ended learns.reviews.marks.rest done in
         let no_update : update_of status ≡ None = ap (option_map (λ (y : Status). let r : Stamped Status = record { stamp = status.stamp; value = y } in r)) none in
-        let last = plain_ends tied.votes v2 group now u tied.sees.beside reviewed.good reviewed.describes
+        let last = updates_last.ends tied.votes v2 group now u reviewed.good reviewed.describes
         (reviewed.held (held_over core.status stored status group disk ok t going.fitting.group going.status its.flies its.out.started learns.wants learns.ended learns.reviews.marks.rest done))
         (none_started core.status stored status group disk ok t going.fitting.group going.status its.flies its.out.started learns.wants learns.ended learns.reviews.marks.rest done) in
         tied_with None None
-        (sees None (ap (option_map (as_marks None)) (sym no_update))
+        (sees None (ap (option_map (as_marks v.beside)) (sym no_update))
         (λ d has_it. clash_gives (has status.writes.written d) has_it (none_written core.status stored status group disk ok t going.fitting.group going.status its.flies its.out.started learns.wants learns.ended learns.reviews.marks.rest done d))
         (λ y is enough. absurd (let e : None ≡ Some y = sym no_update ∙ is in cc)))
         last.0
@@ -301,8 +300,8 @@ module _ (past : List Fact) (old new : State) (index disk : ℕ) (ok : Bool) (ro
           stated = λ d there.
               let parts = and_parts (is_member group d) (not (calls_missing status.wanted d)) there in
               let present : calls_missing stored.wanted d ≡ false = sym (learns.reviews.marks.missing d) ∙ not_true (calls_missing status.wanted d) parts.1 in
-              shows_update v2 v.facts group u now tied.sees.beside reviewed.describes d (have d (all_written core.status stored status group disk ok t going.fitting.group going.status its.flies its.out.started learns.wants learns.ended learns.reviews.marks.rest done d parts.0 present));
-          last = shows_last tied.votes v2 v.facts group u now tied.sees.beside reviewed.describes reviewed.good.found (reviewed.held (held_over core.status stored status group disk ok t going.fitting.group going.status its.flies its.out.started learns.wants learns.ended learns.reviews.marks.rest done)) flies;
+              shows_update v2 v.facts group u now reviewed.describes d (have d (all_written core.status stored status group disk ok t going.fitting.group going.status its.flies its.out.started learns.wants learns.ended learns.reviews.marks.rest done d parts.0 present));
+          last = shows_last tied.votes v2 v.facts group u now reviewed.describes reviewed.good.found (reviewed.held (held_over core.status stored status group disk ok t going.fitting.group going.status its.flies its.out.started learns.wants learns.ended learns.reviews.marks.rest done)) flies;
         })
 
     reviewed_ties : IsTied past new

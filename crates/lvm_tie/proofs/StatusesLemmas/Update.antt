@@ -47,7 +47,7 @@ use Rattle.lvm_crash.proofs.DeviceLemmas.{at_writes, writes_at}
 use Rattle.lvm_crash.proofs.OwnedLemmas.{in_slots}
 use Rattle.lvm_crash.proofs.RecordsLemmas.Records.{may_leave, status_ends}
 use Rattle.lvm_crash.specs.Owned.{IsStatusFlight, OnlyUpdateSince, UpdateSince}
-use Rattle.lvm_crash.specs.Records.{statuses_of}
+use Rattle.lvm_crash.specs.Records.{StatusEnded, statuses_of}
 use Rattle.lvm_tie.proofs.TiedLemmas.Orderly.{AreOut, IsOfUpdateOut, IsOut, IsStatusOut, out_of, tickets_of}
 use Rattle.lvm_tie.proofs.TiedLemmas.Tied.{tied_matches}
 use Rattle.lvm_tie.proofs.AmongLemmas.{not_true, or_true}
@@ -55,7 +55,6 @@ use Rattle.lvm_tie.specs.Out.{IsUpdateWrite, IsWriteOf, MayUpdate, is_owed_on}
 use Rattle.lvm_tie.specs.Seen.{update_of}
 use Rattle.lvm_tie.specs.Tied.{IsTied}
 use Rattle.lvm_tie.proofs.OutLemmas.Ended.{HasEnded, IsRow, has_ended, is_row}
-use Rattle.lvm_tie.proofs.SeenLemmas.Beside.{PlainEnded, plain_ended}
 
 -- ---- the update in flight
 
@@ -161,25 +160,25 @@ module _ (past : List Fact) (old new : State) (index disk : ℕ) (ok : Bool) (ro
   may : MayLeave old.device is
   may = may_leave old.device new.device.flights tied.media ended.media f tied.setting.told ended.removes ended.lands.some
 
-  pub moves : (flying : ℕ → Bool) → PlainEnded v group u f.disk ok flying now
-  moves flying = plain_ended tied.sees.beside (status_ends tied.votes v group w u old.device new.device.flights tied.media ended.media f ok flying tied.good matches ended.removes written.own written.since ended.lands)
+  pub moves : (flying : ℕ → Bool) → StatusEnded v group u f.disk ok flying now
+  moves flying = status_ends tied.votes v group w u old.device new.device.flights tied.media ended.media f ok flying tied.good matches ended.removes written.own written.since ended.lands
 
-  pub good_moved : (flying : ℕ → Bool) → Good tied.votes (moved v (statuses_of None group.id now) flying)
-  good_moved flying = each_keeps tied.votes (MoveStatus (as_marks None u) (statuses_of None group.id now) flying) v (moved v (statuses_of None group.id now) flying) ((moves flying).may, refl) tied.good
+  pub good_moved : (flying : ℕ → Bool) → Good tied.votes (moved v (statuses_of v.beside group.id now) flying)
+  good_moved flying = each_keeps tied.votes (MoveStatus (as_marks v.beside u) (statuses_of v.beside group.id now) flying) v (moved v (statuses_of v.beside group.id now) flying) ((moves flying).may, refl) tied.good
 
   pub kept : KeepsGroup (contents_of was) now
   kept = (images_remain v v.facts group (Some u) old.device tied.media is matches may).kept
 
   -- a disk that had the update has it, and so does this one where it ended well
-  pub still_stands : (d : ℕ) → v.media.status d ≡ Some (as_marks None u) → statuses_of None group.id now d ≡ Some (as_marks None u)
+  pub still_stands : (d : ℕ) → v.media.status d ≡ Some (as_marks v.beside u) → statuses_of v.beside group.id now d ≡ Some (as_marks v.beside u)
   still_stands d had = ⊎_elim (λ same. same ∙ had) (λ is_now. is_now) ((moves (λ n. false)).may.each d)
 
-  pub stands_here : ok ≡ true → statuses_of None group.id now disk ≡ Some (as_marks None u)
+  pub stands_here : ok ≡ true → statuses_of v.beside group.id now disk ≡ Some (as_marks v.beside u)
   stands_here well =
       let stands : now.status f.disk ≡ Some u = (moves (λ n. false)).stands well in
       let its : u.value.id ≡ group.id = matches.describes.shown.statuses.own u refl in
-      let shown : marks_shown None group.id (Some u) ≡ Some (as_marks None u) = let test : (u.value.id == group.id) ≡ true = grind (arith, nat_tests) in ap (λ b. option_map (as_marks None) (if b then Some u else None)) test in
-      ap (λ n. marks_shown None group.id (now.status n)) (sym written.out.disk_is) ∙ ap (marks_shown None group.id) stands ∙ shown
+      let shown : marks_shown v.beside group.id (Some u) ≡ Some (as_marks v.beside u) = let test : (u.value.id == group.id) ≡ true = grind (arith, nat_tests) in ap (λ b. option_map (as_marks v.beside) (if b then Some u else None)) test in
+      ap (λ n. marks_shown v.beside group.id (now.status n)) (sym written.out.disk_is) ∙ ap (marks_shown v.beside group.id) stands ∙ shown
 
   -- ---- the next update
 

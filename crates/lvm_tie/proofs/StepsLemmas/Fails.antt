@@ -53,7 +53,7 @@ module _ (past : List Fact) (old new : State) (at : ℕ) (tied : IsTied past old
       subst (IsTied past) (sym whole)
       (ended_ties past old new at event.row false event.buf tied event.returns event.own c event.is_open (record c { step = step.Idle; end = Some ending.SyncFailed }) (slice_set old.core.pool event.buf.number false) core.queue
       (landed_write past old new at event.row false event.buf tied event.returns event.own c event.is_open event.writes sectors v.open_copy (inl refl))
-      (wanted_stale past old new at event.row false event.buf tied event.returns event.own c event.is_open event.runs part) refl refl refl (subst IsSound whole sound))
+      (wanted_stale past old new at event.row false event.buf tied event.returns event.own c event.is_open event.runs part) refl refl (record { moves = refl; lv = refl; lp = refl; pp = refl }) (subst IsSound whole sound))
 
 pub copy_write_fail_ties : CopyWriteFailTies
 copy_write_fail_ties at past old new tied sound event = fail_tied past old new at tied sound event.0 event.1

@@ -28,13 +28,13 @@ use Rattle.lvm_invariant.specs.Updates.{put, with_name}
 use Rattle.lvm_invariant.proofs.UpdatesLemmas.Requests.{put_same}
 use Rattle.lvm_tie.specs.Seen.{IsRequestAt, IsStepAt, SeesRunning, update_of}
 use Rattle.lvm_tie.specs.Tied.{IsTied}
-use Rattle.lvm_tie.proofs.StateLemmas.{IsOfItsPartition, there_first}
-use Rattle.lvm_tie.proofs.BringingLemmas.{one_is_copy_of, step_placed}
+use Rattle.lvm_tie.proofs.StateLemmas.{IsOfItsPartition, its_copy, there_first}
+use Rattle.lvm_tie.proofs.BringingLemmas.{first_block, row_number, step_placed}
 use Rattle.lvm_tie.proofs.AmongLemmas.{or_either, and_false}
 use Rattle.lvm_tie.proofs.StepsLemmas.Leaving.{Stands, gone, gone_here, gone_there, put_there, step_entered}
 use Rattle.lvm_tie.proofs.StepsLemmas.Landed.{landed_write, now, q}
 use Rattle.lvm_tie.proofs.StepsLemmas.Stepped.{IsStepped, apart, ended_ties, stepped_ties, wanted_stale}
-use Rattle.lvm_tie.proofs.StepsLemmas.Passing.{d, goes, its, landed, left, member, mid, o2, part, stands_left, there}
+use Rattle.lvm_tie.proofs.StepsLemmas.Passing.{d, goes, its, landed, left, mid, o2, part, stands_left, there}
 
 module _ (past : List Fact) (old new : State) (at : ℕ) (tied : IsTied past old) (sound : IsSound new) (sectors : HasSectors new.device) (event : EndsGroup old new at)
     (short : is_whole old.core (d past old new at tied sectors event) ≡ false) where
@@ -90,7 +90,7 @@ module _ (past : List Fact) (old new : State) (at : ℕ) (tied : IsTied past old
   next_less : e.cursor < groups_of core
   next_less = let h : not (nat_lt e.cursor (groups_of core)) ≡ false = short in let k : nat_lt e.cursor (groups_of core) ≡ true = not-false (nat_lt e.cursor (groups_of core)) h in grind (arith, nat_tests)
 
-  next_its : IsOfItsPartition core e
+  abbrev next_its : IsOfItsPartition core e
   next_its = let t = its past old new at tied sectors event in record { row = t.row; volume = t.volume; lp = t.lp; among = t.among; cursor = (let lt = next_less in omega (arith, lt)) }
 
   abbrev step_q : Queued
@@ -134,7 +134,7 @@ module _ (past : List Fact) (old new : State) (at : ℕ) (tied : IsTied past old
   stepped : IsStepped core v c e (put (gone v.queue c.place step_q) i next) (with_name v.name i no_request) (Some (o2 past old new at tied sectors event))
   stepped = record {
     rests = refl;
-    moves_same = refl;
+    same = record { moves = refl; lv = refl; lp = refl; pp = refl };
     queue_still = λ k p at_k. put_there (gone v.queue c.place step_q) i next (place_of p.request.id) (apart_next k p at_k)
         ∙ gone_there v.queue c.place step_q (place_of p.request.id) (apart past old new at event.row true event.buf tied event.returns event.own c event.is_open k p at_k);
     name_still = λ k p at_k. let test : (place_of p.request.id == i) ≡ false = (let ne = apart_next k p at_k in grind (arith, nat_tests)) in ap (λ b. if b then no_request else v.name (place_of p.request.id)) test;
@@ -156,7 +156,8 @@ module _ (past : List Fact) (old new : State) (at : ℕ) (tied : IsTied past old
   stands = step_entered tied.votes core.descriptor (update_of core.status) (now past old new at event.row true event.buf tied event.returns event.own c event.is_open) was i next may_enter (stands_left past old new at tied sectors event)
 
   aimed : IsTrue (v.is_copy e.lv (block_at core e) e.pp)
-  aimed = one_is_copy_of past old tied e next_its next_less c.pp next_its.among (member past old new at tied sectors event) (there_first past old tied c.pp.disk (there past old new at tied sectors event))
+  aimed = subst (λ n. IsTrue (v.is_copy n (block_at core e) c.pp)) (row_number past old tied e next_its next_less)
+      (its_copy past old tied c event.is_open (its past old new at tied sectors event) (there_first past old tied c.pp.disk (there past old new at tied sectors event)) (block_at core e) (first_block past old tied e next_its next_less))
 
   by_end : (how : Option CopyEnd) → copy_ends on ≡ how → IsTied past new
   by_end None is =
@@ -171,7 +172,7 @@ module _ (past : List Fact) (old new : State) (at : ℕ) (tied : IsTied past old
       subst (IsTied past) (sym whole)
       (ended_ties past old new at event.row true event.buf tied event.returns event.own c event.is_open (with_copy_end e how) (slice_set core.pool event.buf.number false) after.queue
       (landed_write past old new at event.row true event.buf tied event.returns event.own c event.is_open event.writes sectors v.open_copy (inl refl))
-      (wanted_stale past old new at event.row true event.buf tied event.returns event.own c event.is_open event.runs (part past old new at tied sectors event)) refl refl refl (subst IsSound whole sound))
+      (wanted_stale past old new at event.row true event.buf tied event.returns event.own c event.is_open event.runs (part past old new at tied sectors event)) refl refl (record { moves = refl; lv = refl; lp = refl; pp = refl }) (subst IsSound whole sound))
 
   pub group_tied : IsTied past new
   group_tied = by_end (copy_ends on) refl

@@ -118,7 +118,7 @@ module _ (past : List Fact) (old new : State) (at : ℕ) (tied : IsTied past old
       subst (IsTied past) (sym whole)
       (ended_ties past old new at event.row false event.buf tied event.returns event.own c event.is_open (with_copy_end d how) (slice_set core.pool event.buf.number false) after.queue
       (landed_read past old new at event.row false event.buf tied event.returns event.own c event.is_open event.source event.reads)
-      (wanted_stale past old new at event.row false event.buf tied event.returns event.own c event.is_open event.runs part) refl refl refl (subst IsSound whole sound))
+      (wanted_stale past old new at event.row false event.buf tied event.returns event.own c event.is_open event.runs part) refl refl (record { moves = refl; lv = refl; lp = refl; pp = refl }) (subst IsSound whole sound))
 
 pub copy_miss_ties : CopyMissTies
 copy_miss_ties at past old new tied sound event = by_end past old new at tied sound event (copy_ends (mid past old new at tied sound event)) refl

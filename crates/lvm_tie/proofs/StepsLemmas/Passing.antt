@@ -11,7 +11,7 @@ use Rattle.lvm_disk.specs.Device.{HasSectors}
 use Rattle.lvm_session.specs.declared.bringing.OpenCopy.{OpenCopy}
 use Rattle.lvm_session.specs.declared.bringing.Step.TheVariants as step
 use Rattle.lvm_session.specs.State.{Core, State}
-use Rattle.lvm_session.specs.Judging.{is_missing, is_stale}
+use Rattle.lvm_session.specs.Judging.{is_missing}
 use Rattle.lvm_session.specs.Bringing.{block_at, groups_of, is_idle, is_whole, step_place}
 use Rattle.lvm_session.specs.Ends.{CopyStepsOn, with_return, without_step}
 use Rattle.lvm_session.specs.Sound.{IsCopy}
@@ -21,8 +21,8 @@ use Rattle.lvm_invariant.specs.CopyWrite.{copied}
 use Rattle.lvm_crash.specs.Bringing.{PassesOver}
 use Rattle.lvm_tie.specs.Seen.{SeesCopy, SeesOpen, SeesRunning, SeesStep, passed_by, update_of}
 use Rattle.lvm_tie.specs.Tied.{IsTied}
-use Rattle.lvm_tie.proofs.StateLemmas.{IsOfItsPartition, copy_is, missing_seen, of_its, stale_is}
-use Rattle.lvm_tie.proofs.BringingLemmas.{groups_are, step_member}
+use Rattle.lvm_tie.proofs.StateLemmas.{IsOfItsPartition, copy_is, its_member, missing_seen, of_its, part_stale}
+use Rattle.lvm_tie.proofs.BringingLemmas.{groups_are}
 use Rattle.lvm_tie.proofs.StepsLemmas.Leaving.{Stands, gone, step_left}
 use Rattle.lvm_tie.proofs.StepsLemmas.Landed.{HasLanded, at_q, landed_write, now, q, sees}
 use Rattle.lvm_tie.proofs.StepsLemmas.Stepped.{going}
@@ -80,14 +80,14 @@ module _ (past : List Fact) (old new : State) (at : ℕ) (tied : IsTied past old
   seen_open = subst (λ (b : Bool). SeesRunning b (groups_of core) c v.open_copy) event.runs (subst (λ (m : Option OpenCopy). SeesCopy (groups_of core) m v.open_copy) event.is_open tied.sees.open_copy)
 
   pub member : is_member old.core.descriptor event.copy.pp.disk ≡ true
-  member = step_member past old tied c its less c.pp its.among
+  member = its_member past old tied c event.is_open
 
-  -- it is on a disk that isn't missing, and stale
+  -- it is on a disk that isn't missing, and counts as stale
   pub there : is_missing old.core event.copy.pp.disk ≡ false
   there = sym (missing_seen past old tied c.pp.disk member) ∙ subst (λ (p : Pp). v.missing p.disk ≡ false) seen_open.target (tied.good.sound.statuses.open_there seen_open.copy seen_open.is_open)
 
-  pub stale : is_stale old.core event.copy.pp ≡ true
-  stale = (and_parts (is_stale core c.pp) _ ((stale_is past old tied c event.is_open).stale event.runs part).0).0
+  pub stale : IsTrue (tied.view.committed.value.stale event.copy.pp)
+  stale = (part_stale past old tied c event.is_open event.runs part).0
 
   -- ---- what it has passed
 

@@ -48,7 +48,7 @@ module _ (past : List Fact) (old new : State) (at : ℕ) (ok : Bool) (tied : IsT
       let whole : new ≡ state new.device core = λ t. record { device = new.device; core = event.is t } in
       subst (IsTied past) (sym whole)
       (ended_ties past old new at event.row ok event.buf tied event.returns event.own c event.is_open d (slice_set old.core.pool event.buf.number false) core.queue
-      landed (λ o is. absurd (let e : None ≡ Some o = sym none_open ∙ is in cc)) event.over refl refl (subst IsSound whole sound))
+      landed (λ o is. absurd (let e : None ≡ Some o = sym none_open ∙ is in cc)) event.over refl (record { moves = refl; lv = refl; lp = refl; pp = refl }) (subst IsSound whole sound))
 
 pub copy_quit_ties : CopyQuitTies
 copy_quit_ties at ok past old new tied sound event = quit_tied past old new at ok tied sound event.0 event.1

@@ -19,23 +19,31 @@ use Rattle.lvm_session.specs.State.{Core, State, state}
 use Rattle.lvm_session.specs.Judging.{is_running, place_of}
 use Rattle.lvm_session.specs.Bringing.{block_at, groups_of, has_row, is_out, is_whole}
 use Rattle.lvm_session.specs.Ends.{Returns}
-use Rattle.lvm_session.specs.Sound.{IsSound, IsStaleCopy}
+use Rattle.lvm_session.specs.Sound.{IsSound}
 use Rattle.lvm_invariant.specs.State.{ModelCopy, Queued, ModelState, has_landed}
 use Rattle.lvm_invariant.specs.CopyWrite.{copied}
 use Rattle.lvm_invariant.specs.Updates.{put, with_block}
 use Rattle.lvm_invariant.proofs.UpdatesLemmas.Requests.{put_same}
 use Rattle.lvm_tie.specs.Out.{CarriesStep, CarryTheirs}
-use Rattle.lvm_tie.specs.Seen.{IsRequestAt, IsStepAt, Sees, SeesCopy, SeesOpen, SeesRunning, SeesStep, update_of}
+use Rattle.lvm_tie.specs.Seen.{beside_if, IsRequestAt, IsStepAt, Sees, SeesCopy, SeesOpen, SeesRunning, SeesStep, update_of}
 use Rattle.lvm_tie.specs.Tied.{IsTied}
-use Rattle.lvm_tie.proofs.StateLemmas.{stale_is, wanted_seen}
+use Rattle.lvm_tie.proofs.StateLemmas.{part_stale}
 use Rattle.lvm_tie.proofs.TiedLemmas.Orderly.{orderly_same}
 use Rattle.lvm_tie.proofs.OutLemmas.Ended.{HasEnded}
 use Rattle.lvm_tie.proofs.StepsLemmas.Leaving.{Stands, copy_over, gone, gone_here, gone_there, put_there, step_left}
 use Rattle.lvm_tie.proofs.StepsLemmas.Landed.{HasLanded, at_q, ended, hand, now, out, q, row_there, sees, since}
 use Rattle.lvm_tie.proofs.NearLemmas.{no_write}
+use Rattle.lvm_tie.proofs.SeenLemmas.Beside.{open_beside}
 use Rattle.lvm_session.proofs.MovesLemmas.{unmoving}
 
 -- ---- what is seen
+
+-- one that is of the same logical partition, on the same partition, and moves if the other does
+pub record IsSameCopy (d c : OpenCopy) : Type 0 where
+  pub moves : d.moves ≡ c.moves
+  pub lv : d.lv ≡ c.lv
+  pub lp : d.lp ≡ c.lp
+  pub pp : d.pp ≡ c.pp
 
 -- where requests stay, this is the step that is left, if one is
 pub record IsStepped (core : Core) (v : ModelState) (c d : OpenCopy) (queue : ℕ → Option Queued) (name : ℕ → Asked) (open_copy : Option ModelCopy) : Type 0 where
@@ -45,7 +53,8 @@ pub record IsStepped (core : Core) (v : ModelState) (c d : OpenCopy) (queue : �
   pub a_step : has_row core d ≡ true → (q : Queued) × (queue d.place ≡ Some q) × SeesStep core d q
   pub only : (j : ℕ) (q : Queued) → queue j ≡ Some q → ((j ≡ c.place → ⊥) × (v.queue j ≡ Some q)) ⊎ ((has_row core d ≡ true) × (d.place ≡ j))
   pub open_seen : SeesRunning (is_running d) (groups_of core) d open_copy
-  pub moves_same : d.moves ≡ c.moves
+  -- it is the same copy
+  pub same : IsSameCopy d c
 
 module _ (past : List Fact) (core : Core) (v : ModelState) (c d : OpenCopy) (pool : List Bool) (flying : List Flown) (waiting : Waiting) (queue : ℕ → Option Queued) (name : ℕ → Asked) (block : ℕ → ℕ → Pp → Sector) (open_copy : Option ModelCopy)
     (sees_v : Sees past core v) (is : core.copy ≡ Some c) (its : IsStepped core v c d queue name open_copy) where
@@ -80,8 +89,8 @@ module _ (past : List Fact) (core : Core) (v : ModelState) (c d : OpenCopy) (poo
     notes = sees_v.notes;
     open_copy = its.open_seen;
     step_write = sym (no_write d d.step its.rests);
-    beside = sees_v.beside;
-    brings = its.moves_same ∙ unmoving core c is sees_v.brings;
+    beside = open_beside core c v.beside sees_v.beside is ∙ sym (λ t. beside_if (its.same.moves t) core (record c { lv = its.same.lv t; lp = its.same.lp t; pp = its.same.pp t }));
+    brings = its.same.moves ∙ unmoving core c is sees_v.brings;
   }
 
 -- the copy goes on with the same track groups behind it
@@ -144,10 +153,9 @@ module _ (past : List Fact) (old new : State) (at : ℕ) (row : Flown) (ok : Boo
   -- the open copy is stale by what is wanted until it is whole
   pub wanted_stale : is_running c ≡ true → is_whole old.core c ≡ false → (o : ModelCopy) → tied.view.open_copy ≡ Some o → IsTrue (tied.view.wanted.stale o.target)
   wanted_stale runs part o opened =
-      let its : IsStaleCopy core c = stale_is past old tied c is_open in
       let seen : SeesOpen (groups_of core) c v.open_copy = subst (λ (b : Bool). SeesRunning b (groups_of core) c v.open_copy) runs (subst (λ (m : Option OpenCopy). SeesCopy (groups_of core) m v.open_copy) is_open tied.sees.open_copy) in
       let same : seen.copy ≡ o = (let x : Some seen.copy ≡ Some o = sym seen.is_open ∙ opened in cc) in
-      subst (λ (p : Pp). IsTrue (v.wanted.stale p)) (sym seen.target ∙ ap (λ (x : ModelCopy). x.target) same) (wanted_seen past old tied c.pp ∙ (its.stale runs part).1)
+      subst (λ (p : Pp). IsTrue (v.wanted.stale p)) (sym seen.target ∙ ap (λ (x : ModelCopy). x.target) same) (part_stale past old tied c is_open runs part).1
 
   module _ (d : OpenCopy) (pool : List Bool) (waiting : Waiting) where
     abbrev new_core : Core
@@ -188,7 +196,7 @@ module _ (past : List Fact) (old new : State) (at : ℕ) (row : Flown) (ok : Boo
 
     -- It has ended, or ends with this: its step leaves the queue.
     pub ended_ties : HasLanded past old new at row ok buf tied returns own c is_open tied.view.open_copy → ((o : ModelCopy) → tied.view.open_copy ≡ Some o → IsTrue (tied.view.wanted.stale o.target))
-        → is_running d ≡ false → is_out d.step ≡ false → d.moves ≡ c.moves → IsSound (state new.device new_core) → IsTied past (state new.device new_core)
+        → is_running d ≡ false → is_out d.step ≡ false → IsSameCopy d c → IsSound (state new.device new_core) → IsTied past (state new.device new_core)
     ended_ties landed stale over rests same sound =
         stepped_ties v.open_copy landed None (gone v.queue i step_q) v.name
         (record {
@@ -201,7 +209,7 @@ module _ (past : List Fact) (old new : State) (at : ℕ) (row : Flown) (ok : Boo
             | inr ne ↦ inl (ne, sym (gone_there v.queue i step_q j ne) ∙ there)
           ];
           open_seen = subst (λ (b : Bool). SeesRunning b (groups_of core) d None) (sym over) refl;
-          moves_same = same;
+          same = same;
         })
         (step_left tied.votes core.descriptor (update_of core.status) (now past old new at row ok buf tied returns own c is_open) (copied v landed.block None None) i step_q
         (at_q past old new at row ok buf tied returns own c is_open) sees_q.step going
@@ -234,6 +242,6 @@ module _ (past : List Fact) (old new : State) (at : ℕ) (row : Flown) (ok : Boo
             | inr ne ↦ inl (ne, sym (put_there v.queue i next j ne) ∙ there)
           ];
           open_seen = running_on (is_running c) (groups_of core) c st tried v.open_copy (subst (λ (m : Option OpenCopy). SeesCopy (groups_of core) m v.open_copy) is_open tied.sees.open_copy);
-          moves_same = refl;
+          same = record { moves = refl; lv = refl; lp = refl; pp = refl };
         })
         stands (λ r. (tied.copy_aimed c is_open (row_there past old new at row ok buf tied returns own c is_open)).0) sound

@@ -1,5 +1,5 @@
 -- What the members that aren't missing show, of the group's descriptor and of its status, lasts.
-use Rattle.std.proofs.Common.{◌≡◌, ◌⊎◌, inl, inr, ⊎_elim, ℕ, Bool, true, false, ◌==◌, List, Option, Some, None, if◌then◌else◌, refl, sym, ap, ◌∙◌, arith}
+use Rattle.std.proofs.Common.{◌≡◌, ◌⊎◌, inl, inr, ⊎_elim, ℕ, Bool, true, false, List, Option, Some, None, if◌then◌else◌, refl, sym, ap, ◌∙◌, arith}
 use Rattle.std.specs.Prelude.{option_map}
 use Rattle.std.proofs.lemmas.Bool.Decides.{nat_tests}
 use Rattle.lvm_num.specs.declared.descriptor.Descriptor.{Descriptor}
@@ -12,12 +12,11 @@ use Rattle.lvm_kept.specs.Group.{is_status_of}
 use Rattle.lvm_kept.specs.Places.{SameRecords}
 use Rattle.lvm_kept.proofs.PlacesLemmas.{data_writes}
 use Rattle.lvm_status.specs.Update.{Stored, members_there}
-use Rattle.lvm_invariant.specs.State.{Marks, ModelState}
+use Rattle.lvm_invariant.specs.State.{Marks, Beside, ModelState}
 use Rattle.lvm_invariant.specs.Found.{Found, Votes}
 use Rattle.lvm_crash.specs.Session.{Describes, as_marks, marks_shown}
 use Rattle.lvm_tie.specs.Seen.{update_of}
 use Rattle.lvm_tie.specs.Tied.{ShowsRecords, ShowsStatus}
-use Rattle.lvm_tie.proofs.SeenLemmas.Beside.{plain_status}
 
 -- none is there that wasn't
 abbrev pub NoMoreThere : Descriptor → Stored → Stored → Type 0
@@ -51,37 +50,37 @@ records_kept group status old new same shows =
     (λ none. status_lasts group status status (contents_of old) (contents_of new) (shows.settled none) (λ d there. there) refl (λ d. ap (λ (c : Contents). c.status d) is))
 
 -- what a disk shows of a group is a status of it
-pub shown_of : (id : ℕ) (o : Option (Stamped Status)) (m : Stamped Marks) → marks_shown None id o ≡ Some m → (r : Stamped Status) × (o ≡ Some r) × (r.value.id ≡ id) × (as_marks None r ≡ m)
-shown_of id None m is = absurd (cc is)
-shown_of id (Some r) m is = by (is_status_of id r.value) refl is
+pub shown_of : (beside : Option Beside) (id : ℕ) (o : Option (Stamped Status)) (m : Stamped Marks) → marks_shown beside id o ≡ Some m → (r : Stamped Status) × (o ≡ Some r) × (r.value.id ≡ id) × (as_marks beside r ≡ m)
+shown_of beside id None m is = absurd (cc is)
+shown_of beside id (Some r) m is = by (is_status_of id r.value) refl is
   where
-    by : (b : Bool) → is_status_of id r.value ≡ b → option_map (as_marks None) (if b then Some r else None) ≡ Some m → (x : Stamped Status) × (Some r ≡ Some x) × (x.value.id ≡ id) × (as_marks None x ≡ m)
-    by true own h = (r, refl, let e : r.value.id ≡ id = grind (arith, nat_tests) in e, let e : as_marks None r ≡ m = cc h in e)
+    by : (b : Bool) → is_status_of id r.value ≡ b → option_map (as_marks beside) (if b then Some r else None) ≡ Some m → (x : Stamped Status) × (Some r ≡ Some x) × (x.value.id ≡ id) × (as_marks beside x ≡ m)
+    by true own h = (r, refl, let e : r.value.id ≡ id = grind (arith, nat_tests) in e, let e : as_marks beside r ≡ m = cc h in e)
     by false own h = absurd (cc h)
 
 -- A disk that shows the marks of the update in flight shows that update.
-pub shows_update : (s : ModelState) (facts : List Fact) (group : Descriptor) (u : Stamped Status) (c : Contents) → s.beside ≡ None → Describes s facts group (Some u) c → (d : ℕ) → s.media.status d ≡ Some (as_marks None u) → c.status d ≡ Some u
-shows_update s facts group u c none describes d shown =
-    let its = shown_of group.id (c.status d) (as_marks None u) (sym (plain_status none describes.shown d) ∙ shown) in
+pub shows_update : (s : ModelState) (facts : List Fact) (group : Descriptor) (u : Stamped Status) (c : Contents) → Describes s facts group (Some u) c → (d : ℕ) → s.media.status d ≡ Some (as_marks s.beside u) → c.status d ≡ Some u
+shows_update s facts group u c describes d shown =
+    let its = shown_of s.beside group.id (c.status d) (as_marks s.beside u) (sym (describes.shown.status d) ∙ shown) in
     let same : its.0 ≡ u = describes.shown.statuses.new u d its.0 refl its.1 (its.2 ∙ sym (describes.shown.statuses.own u refl)) (ap (λ (m : Stamped Marks). m.stamp) its.3) in
     its.1 ∙ ap (λ (r : Stamped Status). Some r) same
 
 -- a status of the group is shown by its marks
-pub shows_own : (id : ℕ) (r : Stamped Status) → r.value.id ≡ id → marks_shown None id (Some r) ≡ Some (as_marks None r)
-shows_own id r own = let test : is_status_of id r.value ≡ true = grind (arith, nat_tests) in ap (λ t. option_map (as_marks None) (if t then Some r else None)) test
+pub shows_own : (beside : Option Beside) (id : ℕ) (r : Stamped Status) → r.value.id ≡ id → marks_shown beside id (Some r) ≡ Some (as_marks beside r)
+shows_own beside id r own = let test : is_status_of id r.value ≡ true = grind (arith, nat_tests) in ap (λ t. option_map (as_marks beside) (if t then Some r else None)) test
 
 -- Once the update in flight is committed, no disk shows a later status.
-pub shows_last : (votes : Votes) (s : ModelState) (facts : List Fact) (group : Descriptor) (u : Stamped Status) (c : Contents) → s.beside ≡ None → Describes s facts group (Some u) c → Found votes s → s.committed ≡ as_marks None u → s.in_flight ≡ Some (as_marks None u)
+pub shows_last : (votes : Votes) (s : ModelState) (facts : List Fact) (group : Descriptor) (u : Stamped Status) (c : Contents) → Describes s facts group (Some u) c → Found votes s → s.committed ≡ as_marks s.beside u → s.in_flight ≡ Some (as_marks s.beside u)
     → (d : ℕ) (r : Stamped Status) → c.status d ≡ Some r → r.value.id ≡ group.id → (stamp_lt r.stamp u.stamp ≡ true) ⊎ (r ≡ u)
-shows_last votes s facts group u c none describes found committed flies d r is own = ⊎_elim
+shows_last votes s facts group u c describes found committed flies d r is own = ⊎_elim
     (λ before. inl (ap (λ (m : Stamped Marks). stamp_lt r.stamp m.stamp) (sym committed) ∙ before))
-    (λ others. inr (⊎_elim (λ same. alike (same ∙ committed)) (λ same. alike (some_of (as_marks None r) (as_marks None u) (sym same ∙ flies))) others))
-    (found.only d (as_marks None r) (plain_status none describes.shown d ∙ ap (marks_shown None group.id) is ∙ shows_own group.id r own))
+    (λ others. inr (⊎_elim (λ same. alike (same ∙ committed)) (λ same. alike (some_of (as_marks s.beside r) (as_marks s.beside u) (sym same ∙ flies))) others))
+    (found.only d (as_marks s.beside r) (describes.shown.status d ∙ ap (marks_shown s.beside group.id) is ∙ shows_own s.beside group.id r own))
   where
     some_of : (a b : Stamped Marks) → Some a ≡ Some b → a ≡ b
     some_of a b e = cc
 
-    alike : as_marks None r ≡ as_marks None u → r ≡ u
+    alike : as_marks s.beside r ≡ as_marks s.beside u → r ≡ u
     alike e = describes.shown.statuses.new u d r refl is (own ∙ sym (describes.shown.statuses.own u refl)) (ap (λ (m : Stamped Marks). m.stamp) e)
 
 -- no update is in flight under any stamp

@@ -10,7 +10,6 @@ use Rattle.lvm_num.specs.declared.descriptor.Descriptor.{Descriptor}
 use Rattle.lvm_num.specs.Disks.{Disks}
 use Rattle.lvm_num.specs.Descriptor.{IsValid, copies_of, is_member, is_pp}
 use Rattle.lvm_num.specs.Geometry.{partition_blocks}
-use Rattle.lvm_num.specs.Status.{calls_stale}
 use Rattle.lvm_num.proofs.Booleans.{clash_gives}
 use Rattle.lvm_num.proofs.AmongLemmas.{in_range, one_any, of_range}
 use Rattle.lvm_vol.specs.Facts.{Fact}
@@ -27,18 +26,18 @@ use Rattle.lvm_session.specs.Bringing.{marked_by_end}
 use Rattle.lvm_session.specs.Marks.{WantsStale, can_replace, is_among, is_left_behind, is_entailed_in, is_entailed}
 use Rattle.lvm_invariant.specs.State.{Marks, ModelCopy, ModelState}
 use Rattle.lvm_invariant.specs.Want.{Replaced, Wants}
-use Rattle.lvm_crash.specs.Session.{marks_of, HasVolumes}
+use Rattle.lvm_crash.specs.Session.{HasVolumes, is_beside, marks_of}
 use Rattle.lvm_crash.proofs.CopiesLemmas.{copy_placed}
 use Rattle.lvm_crash.proofs.WritingLemmas.{same_pp}
 use Rattle.lvm_crash.specs.Copies.{IsCopyOf}
 use Rattle.lvm_tie.proofs.StateLemmas.{among_one, found_any}
 use Rattle.lvm_tie.specs.Wanted.{HasOwners, KeepsFresh, SeesMarks}
 use Rattle.lvm_tie.proofs.AmongLemmas.{or_left, or_either, or_true, any_one, not_true, and_not}
-use Rattle.lvm_tie.proofs.SeenLemmas.Beside.{plain_copies}
+use Rattle.lvm_tie.proofs.SeenLemmas.Beside.{copy_apart, copy_its, copy_seen, copy_shown, fresh_so, stale_apart}
 
--- it is stale, and a copy that the state sees
-abbrev pub IsMarked : Core → ModelState → Pp → Type 0
-IsMarked core v p = (is_stale core p ≡ true) × ((lv : ℕ) × (b : ℕ) × IsTrue (v.is_copy lv b p))
+-- it counts as stale, and is a copy that the state sees
+abbrev pub IsMarked : ModelState → Pp → Type 0
+IsMarked v p = IsTrue (v.committed.value.stale p) × ((lv : ℕ) × (b : ℕ) × IsTrue (v.is_copy lv b p))
 
 -- ---- lists
 
@@ -61,21 +60,32 @@ first_block group valid row lp low =
 
 module _ (core : Core) (v : ModelState) (missing : ℕ → Bool) (how : Option CopyEnd) (status : Stored) (facts : List Fact) (members : Disks) (valid : IsValid core.descriptor) (volumes : HasVolumes v facts core.descriptor members)
     (shows : (d : ℕ) → IsTrue (is_there core d) → IsTrue (members d)) (sees : SeesMarks core v missing) (keeps : KeepsFresh v) (owners : HasOwners v)
-    (marked : (p : Pp) → marked_by_end core how p ≡ true → IsMarked core v p) (wants : WantsStale (λ p. is_entailed core p || marked_by_end core how p) core.status status) where
+    (marked : (p : Pp) → marked_by_end core how p ≡ true → IsMarked v p) (wants : WantsStale (λ p. is_entailed core p || marked_by_end core how p) core.status status) where
   abbrev group : Descriptor
   group = core.descriptor
 
   abbrev marks : Marks
-  marks = marks_of None status.wanted
+  marks = marks_of v.beside status.wanted
 
   abbrev due : Pp → Bool
   due p = is_entailed core p || marked_by_end core how p
 
-  stale_seen : (p : Pp) → v.committed.value.stale p ≡ is_stale core p
-  stale_seen p = ap (λ (m : Marks). m.stale p) sees.committed
+  stale_seen : (p : Pp) → is_beside v.beside p ≡ false → v.committed.value.stale p ≡ is_stale core p
+  stale_seen p off = ap (λ (m : Marks). m.stale p) sees.committed ∙ stale_apart v.beside core.status.committed p off
 
-  wanted_seen : (p : Pp) → v.wanted.stale p ≡ is_wanted_stale core p
-  wanted_seen p = ap (λ (m : Marks). m.stale p) sees.wanted
+  -- what counts as fresh isn't beside, and is fresh
+  fresh_seen : (p : Pp) → IsFalse (v.committed.value.stale p) → (is_beside v.beside p ≡ false) × (is_stale core p ≡ false)
+  fresh_seen p fresh = fresh_so v.beside core.status.committed p (sym (ap (λ (m : Marks). m.stale p) sees.committed) ∙ fresh)
+
+  kept_seen : (p : Pp) → IsFalse (v.wanted.stale p) → (is_beside v.beside p ≡ false) × (is_wanted_stale core p ≡ false)
+  kept_seen p kept = fresh_so v.beside core.status.wanted p (sym (ap (λ (m : Marks). m.stale p) sees.wanted) ∙ kept)
+
+  -- the marks that are wanted then
+  marks_are : (p : Pp) → marks.stale p ≡ is_beside v.beside p || (is_wanted_stale core p || due p)
+  marks_are p = ap (λ b. is_beside v.beside p || b) (wants.stale p)
+
+  marks_were : (p : Pp) → v.wanted.stale p ≡ is_beside v.beside p || is_wanted_stale core p
+  marks_were p = ap (λ (m : Marks). m.stale p) sees.wanted
 
   -- a copy of a volume is on a member
   on_member : (row : LvRow) (lp b : ℕ) (p : Pp) → IsOneOf group.lvs row → IsBlockOf group.mib row lp b → IsOneOf (copies_of row lp) p → is_member group p.disk ≡ true
@@ -132,17 +142,17 @@ module _ (core : Core) (v : ModelState) (missing : ℕ → Bool) (how : Option C
       by false is = refl
       by true is = clash_gives (is_missing core p.disk) (left p is).gone there
 
-  -- one that is fresh by what is committed isn't the one that is marked
-  unmarked : (p : Pp) → is_stale core p ≡ false → marked_by_end core how p ≡ false
+  -- one that counts as fresh by what is committed isn't the one that is marked
+  unmarked : (p : Pp) → IsFalse (v.committed.value.stale p) → marked_by_end core how p ≡ false
   unmarked p fresh = by (marked_by_end core how p) refl
     where
       by : (b : Bool) → marked_by_end core how p ≡ b → b ≡ false
       by false is = refl
-      by true is = clash_gives (is_stale core p) (marked p is).0 fresh
+      by true is = clash_gives (v.committed.value.stale p) (marked p is).0 fresh
 
   -- one that is sure and can be read isn't due
-  stays_sure : (p : Pp) → is_stale core p ≡ false → is_missing core p.disk ≡ false → is_wanted_stale core p ≡ false → IsFalse (marks.stale p)
-  stays_sure p fresh there kept = let a = stays p there in let b = unmarked p fresh in wants.stale p ∙ (λ k. kept k || (a k || b k))
+  stays_sure : (p : Pp) → IsFalse (v.committed.value.stale p) → is_missing core p.disk ≡ false → is_wanted_stale core p ≡ false → IsFalse (marks.stale p)
+  stays_sure p fresh there kept = let off = (fresh_seen p fresh).0 in let a = stays p there in let b = unmarked p fresh in marks_are p ∙ (λ k. off k || (kept k || (a k || b k)))
 
   -- the copy of its logical partition that can be read, where one that the state sees is left behind
   replaces : (lv b : ℕ) (p : Pp) → IsTrue (v.is_copy lv b p) → is_entailed core p ≡ true → (q : Pp) × IsTrue (v.is_copy lv b q) × IsFalse (v.committed.value.stale q) × IsFalse (marks.stale q)
@@ -150,28 +160,25 @@ module _ (core : Core) (v : ModelState) (missing : ℕ → Bool) (how : Option C
       let at = left p is in
       let l = first_block group valid at.row at.lp at.low in
       let inside = volumes.inside lv b p copy in
-      let shown = ((plain_copies sees.beside volumes inside.row inside.lp b p inside.volume inside.inside).0 (subst (λ n. IsTrue (v.is_copy n b p)) (sym inside.number) copy)).1 in
-      let its = plain_copies sees.beside volumes at.row at.lp l.0 p at.one l.1 in
-      let others = plain_copies sees.beside volumes at.row at.lp l.0 at.other at.one l.1 in
+      let shown = copy_shown volumes inside.row inside.lp b p inside.volume inside.inside (subst (λ n. IsTrue (v.is_copy n b p)) (sym inside.number) copy) in
       let member = on_member at.row at.lp l.0 at.other at.one l.1 at.its in
       let there : IsTrue (is_there core at.other.disk) = λ k. member k && not (at.there k) in
-      let other : IsTrue (v.is_copy at.row.number l.0 at.other) = others.1 (at.its, shows at.other.disk there) in
-      (at.other, owners lv b at.row.number l.0 p at.other copy (its.1 (at.copy, shown)) other, stale_seen at.other ∙ at.fresh, stays_sure at.other at.fresh at.there at.kept)
+      let other : IsTrue (v.is_copy at.row.number l.0 at.other) = copy_seen volumes at.row at.lp l.0 at.other at.one l.1 at.its (shows at.other.disk there) in
+      let fresh : IsFalse (v.committed.value.stale at.other) = stale_seen at.other (copy_apart volumes at.row at.lp at.other at.one at.low at.its) ∙ at.fresh in
+      (at.other, owners lv b at.row.number l.0 p at.other copy (copy_seen volumes at.row at.lp l.0 p at.one l.1 at.copy shown) other, fresh, stays_sure at.other fresh at.there at.kept)
 
   replaced_left : (p : Pp) → is_entailed core p ≡ true → Replaced v marks p ⊎ ((lv b : ℕ) → IsTrue (v.is_copy lv b p) → ⊥)
   replaced_left p is =
       let at = left p is in
       let l = first_block group valid at.row at.lp at.low in
-      let its = plain_copies sees.beside volumes at.row at.lp l.0 p at.one l.1 in
       ⊎_elim
       (λ shown.
-      let copy = its.1 (at.copy, shown) in
+      let copy = copy_seen volumes at.row at.lp l.0 p at.one l.1 at.copy shown in
       let r = replaces at.row.number l.0 p copy is in
       inl (record { lv = at.row.number; block = l.0; other = r.0; copy = copy; other_copy = r.1; fresh = r.2; kept = r.3 }))
       (λ hidden. inr (λ lv b copy.
       let inside = volumes.inside lv b p copy in
-      let own = (plain_copies sees.beside volumes inside.row inside.lp b p inside.volume inside.inside).0 (subst (λ n. IsTrue (v.is_copy n b p)) (sym inside.number) copy) in
-      clash_gives (members p.disk) own.1 hidden))
+      clash_gives (members p.disk) (copy_shown volumes inside.row inside.lp b p inside.volume inside.inside (subst (λ n. IsTrue (v.is_copy n b p)) (sym inside.number) copy)) hidden))
       (cases_Bool (members p.disk))
 
   replaced_marked : (p : Pp) → marked_by_end core how p ≡ true → Replaced v marks p
@@ -185,10 +192,10 @@ module _ (core : Core) (v : ModelState) (missing : ℕ → Bool) (how : Option C
       by : (lv b : ℕ) (k : (q : Pp) × IsTrue (v.is_copy lv b q) × IsFalse (v.committed.value.stale q) × IsFalse (v.wanted.stale q)) → IsTrue (v.is_copy lv b p) → (t : Bool) → is_entailed core k.0 ≡ t → Replaced v marks p
       by lv b k copy true left_too = let r = replaces lv b k.0 k.1 left_too in record { lv = lv; block = b; other = r.0; copy = copy; other_copy = r.1; fresh = r.2; kept = r.3 }
       by lv b k copy false stays_here =
-          let a = sym (stale_seen k.0) ∙ k.2 in
-          let w = sym (wanted_seen k.0) ∙ k.3 in
-          let m = unmarked k.0 a in
-          record { lv = lv; block = b; other = k.0; copy = copy; other_copy = k.1; fresh = k.2; kept = wants.stale k.0 ∙ (λ t. w t || (stays_here t || m t)) }
+          let off = (fresh_seen k.0 k.2).0 in
+          let w = (kept_seen k.0 k.3).1 in
+          let m = unmarked k.0 k.2 in
+          record { lv = lv; block = b; other = k.0; copy = copy; other_copy = k.1; fresh = k.2; kept = marks_are k.0 ∙ (λ t. off t || (w t || (stays_here t || m t))) }
 
   replaced : (p : Pp) → due p ≡ true → Replaced v marks p ⊎ ((lv b : ℕ) → IsTrue (v.is_copy lv b p) → ⊥)
   replaced p is = ⊎_elim (λ entailed. replaced_left p entailed) (λ ended. inl (replaced_marked p ended)) (or_either (is_entailed core p) (marked_by_end core how p) is)
@@ -199,34 +206,45 @@ module _ (core : Core) (v : ModelState) (missing : ℕ → Bool) (how : Option C
       let inside = volumes.inside lv b c copy in
       let row = inside.row in
       let lp = inside.lp in
-      let its = (plain_copies sees.beside volumes row lp b c inside.volume inside.inside).0 (subst (λ n. IsTrue (v.is_copy n b c)) (sym inside.number) copy) in
-      let others = (plain_copies sees.beside volumes row lp b q inside.volume inside.inside).0 (subst (λ n. IsTrue (v.is_copy n b q)) (sym inside.number) other) in
-      let member = on_member row lp b c inside.volume inside.inside its.0 in
+      let c_fresh = fresh_seen c fresh in
+      let its = copy_its volumes row lp b c inside.volume inside.inside c_fresh.0 (subst (λ n. IsTrue (v.is_copy n b c)) (sym inside.number) copy) in
+      let member = on_member row lp b c inside.volume inside.inside its in
       let use_ = and_parts (not (v.committed.value.stale q)) (not (missing q.disk)) usable in
-      let q_fresh : is_stale core q ≡ false = sym (stale_seen q) ∙ not_true (v.committed.value.stale q) use_.0 in
+      let q_seen = fresh_seen q (not_true (v.committed.value.stale q) use_.0) in
+      let q_fresh : is_stale core q ≡ false = q_seen.1 in
+      let others = copy_its volumes row lp b q inside.volume inside.inside q_seen.0 (subst (λ n. IsTrue (v.is_copy n b q)) (sym inside.number) other) in
       let q_shown : is_there core q.disk ≡ true = not-false (is_there core q.disk) (sym (sees.missing_is q.disk) ∙ not_true (missing q.disk) use_.1) in
       let q_there : is_missing core q.disk ≡ false = not_true (is_missing core q.disk) (and_parts (is_member group q.disk) (not (is_missing core q.disk)) q_shown).1 in
-      let q_kept : is_wanted_stale core q ≡ false = (or_left (is_wanted_stale core q) (due q) (sym (wants.stale q) ∙ kept)).0 in
+      let q_kept : is_wanted_stale core q ≡ false = (or_left (is_wanted_stale core q) (due q) (or_left (is_beside v.beside q) (is_wanted_stale core q || due q) (sym (marks_are q) ∙ kept)).1).0 in
       let can : can_replace core q ≡ true = λ k. (not (q_fresh k) && not (q_there k)) && not (q_kept k) in
-      let c_fresh : is_stale core c ≡ false = sym (stale_seen c) ∙ fresh in
       let c_gone : is_missing core c.disk ≡ true = and_not (is_member group c.disk) (is_missing core c.disk) (not_true (is_there core c.disk) (sym (sees.missing_is c.disk) ∙ gone)) member in
-      let any = one_any (can_replace core) (copies_of row lp) q others.0 can in
-      let among : is_among (copies_of row lp) c ≡ true = one_any (is_pp c) (copies_of row lp) c its.0 (same_pp c c refl) in
-      let here : is_left_behind core (copies_of row lp) c ≡ true = λ k. among k && not (c_fresh k) && c_gone k && any k in
+      let any = one_any (can_replace core) (copies_of row lp) q others can in
+      let among : is_among (copies_of row lp) c ≡ true = one_any (is_pp c) (copies_of row lp) c its (same_pp c c refl) in
+      let here : is_left_behind core (copies_of row lp) c ≡ true = (let stays_so = c_fresh.1 in λ k. among k && not (stays_so k) && c_gone k && any k) in
       let low : lp < row.lps = inside.inside.inside in
       let in_row : is_entailed_in core row c ≡ true = one_any (λ (n : ℕ). is_left_behind core (copies_of row n) c) (range_with_len 0 row.lps) lp (in_range 0 row.lps lp (omega arith) (omega arith)) here in
       let all : is_entailed core c ≡ true = one_any (λ (r : LvRow). is_entailed_in core r c) group.lvs row inside.volume in_row in
-      wants.stale c ∙ or_true (is_wanted_stale core c) (due c) (inr (or_true (is_entailed core c) (marked_by_end core how c) (inl all)))
+      marks_are c ∙ or_true (is_beside v.beside c) (is_wanted_stale core c || due c) (inr (or_true (is_wanted_stale core c) (due c) (inr (or_true (is_entailed core c) (marked_by_end core how c) (inl all)))))
 
   -- The state wants them; the open copy stays, or it ends and is stale by what is wanted.
-  pub review_wants : (open_copy : Option ModelCopy) → ((open_copy ≡ v.open_copy) ⊎ ((open_copy ≡ None) × ((o : ModelCopy) → v.open_copy ≡ Some o → IsTrue (calls_stale status.wanted o.target))))
+  pub review_wants : (open_copy : Option ModelCopy) → ((open_copy ≡ v.open_copy) ⊎ ((open_copy ≡ None) × ((o : ModelCopy) → v.open_copy ≡ Some o → IsTrue (marks.stale o.target))))
       → ((o : ModelCopy) → open_copy ≡ Some o → IsFalse (missing o.target.disk)) → Wants v marks missing open_copy
   review_wants open_copy same there = record {
     missing_still = sees.still;
-    still = λ p is. wants.stale p ∙ or_true (is_wanted_stale core p) (due p) (inl (sym (wanted_seen p) ∙ is));
+    still = λ p is. marks_are p ∙ wider (is_beside v.beside p) (is_wanted_stale core p) (due p) (sym (marks_were p) ∙ is);
     still_dirty = λ lv is. ap (λ (ns : List ℕ). list_any (λ n. n == lv) ns) wants.dirty ∙ sym (ap (λ (m : Marks). m.dirty lv) sees.wanted) ∙ is;
-    added = λ p is. ⊎_elim (λ old. inl (wanted_seen p ∙ old)) (λ its. inr (replaced p its)) (or_either (is_wanted_stale core p) (due p) (sym (wants.stale p) ∙ is));
+    added = λ p is. ⊎_elim (λ old. inl (marks_were p ∙ old)) (λ its. inr (replaced p its)) (parted (is_beside v.beside p) (is_wanted_stale core p) (due p) (sym (marks_are p) ∙ is));
     open_same = same;
     open_there = there;
     behind = behind;
   }
+    where
+      wider : (x y z : Bool) → x || y ≡ true → x || (y || z) ≡ true
+      wider true y z h = refl
+      wider false true z h = refl
+      wider false false z h = absurd (cc h)
+
+      parted : (x y z : Bool) → x || (y || z) ≡ true → (x || y ≡ true) ⊎ (z ≡ true)
+      parted true y z h = inl refl
+      parted false true z h = inl refl
+      parted false false z h = inr h

@@ -10,7 +10,6 @@ use Rattle.lvm_num.specs.Descriptor.{IsValid, is_member, is_pp}
 use Rattle.lvm_num.specs.Status.{calls_stale}
 use Rattle.lvm_num.proofs.Booleans.{clash_gives}
 use Rattle.lvm_vol.specs.Facts.{Fact}
-use Rattle.lvm_kept.proofs.ChangesLemmas.Entries.{volume_is_row}
 use Rattle.lvm_session.specs.declared.bringing.OpenCopy.{OpenCopy}
 use Rattle.lvm_session.specs.declared.bringing.CopyEnd.{CopyEnd}
 use Rattle.lvm_session.specs.declared.bringing.CopyEnd.TheVariants as ending
@@ -18,11 +17,11 @@ use Rattle.lvm_session.specs.State.{Core, State, is_there}
 use Rattle.lvm_session.specs.Judging.{stays_fresh, is_missing, is_running, is_stale, is_wanted_stale}
 use Rattle.lvm_session.specs.Bringing.{copy_ends, end_by_sources, end_of, ends_if, groups_of, is_held_stale, is_cleared, is_done_end, is_idle, is_whole, marked_by_end, next_source, sources_of}
 use Rattle.lvm_session.specs.Marks.{Reviews, is_entailed}
-use Rattle.lvm_invariant.specs.State.{ModelCopy, ModelState}
+use Rattle.lvm_invariant.specs.State.{Marks, ModelCopy, ModelState}
 use Rattle.lvm_invariant.specs.Want.{Wants}
-use Rattle.lvm_crash.specs.Session.{HasVolumes, marks_of}
+use Rattle.lvm_crash.specs.Session.{HasVolumes, is_beside, marks_of}
 use Rattle.lvm_crash.proofs.WritingLemmas.{pp_same, same_pp}
-use Rattle.lvm_tie.proofs.StateLemmas.{of_its, stale_is, there_first}
+use Rattle.lvm_tie.proofs.StateLemmas.{its_copy, of_its, part_stale, there_first, whole_stale}
 use Rattle.lvm_tie.proofs.TiedLemmas.Orderly.{valid_of}
 use Rattle.lvm_tie.proofs.AmongLemmas.{not_true, or_true}
 use Rattle.lvm_tie.specs.Seen.{SeesCopy, SeesRunning}
@@ -31,8 +30,7 @@ use Rattle.lvm_tie.specs.Near.{open_after}
 use Rattle.lvm_tie.specs.Wanted.{HasOwners, IsBrought, KeepsFresh, ReviewIsWanted, SeesMarks}
 use Rattle.lvm_tie.proofs.WantedLemmas.Behind.{IsMarked, first_block, review_wants}
 use Rattle.lvm_tie.proofs.NearLemmas.{ends_running}
-use Rattle.lvm_tie.proofs.SeenLemmas.Beside.{plain_copies}
-use Rattle.lvm_session.proofs.MovesLemmas.{unmoving}
+use Rattle.lvm_tie.proofs.SeenLemmas.Beside.{beside_stale, destination_beside, stale_apart, stale_so}
 
 -- ---- how the copy ends
 
@@ -86,21 +84,19 @@ opened past s tied c is runs =
     let v : ModelState = tied.view in
     let sees = subst (λ (b : Bool). SeesRunning b (groups_of core) c v.open_copy) runs (subst (λ (x : Option OpenCopy). SeesCopy (groups_of core) x v.open_copy) is tied.sees.open_copy) in
     let its = of_its past s tied c is in
-    let own = stale_is past s tied c is in
     let open_there : IsFalse (v.missing sees.copy.target.disk) = tied.good.sound.statuses.open_there sees.copy sees.is_open in
     let at : IsFalse (v.missing c.pp.disk) = ap (λ (p : Pp). v.missing p.disk) (sym sees.target) ∙ open_there in
     let there : is_there core c.pp.disk ≡ true = not-false (is_there core c.pp.disk) (sym (tied.sees.status.missing c.pp.disk) ∙ at) in
     let both = and_parts (is_member core.descriptor c.pp.disk) (not (is_missing core c.pp.disk)) there in
     let gone = not_true (is_missing core c.pp.disk) both.1 in
-    let b = first_block core.descriptor (valid_of s tied.write tied.orderly) its.row c.lp its.lp in
-    let shown = tied.recorded.members c.pp.disk both.0 (there_first past s tied c.pp.disk gone) in (
+    let b = first_block core.descriptor (valid_of s tied.write tied.orderly) its.row c.lp its.lp in (
       record {
         target = λ o at_o. ap (λ (x : ModelCopy). x.target) (same_Some o sees.copy (sym at_o ∙ sees.is_open)) ∙ sees.target;
         member = both.0;
-        there = (its.row.number, b.0, (plain_copies tied.sees.beside tied.describes.volumes its.row c.lp b.0 c.pp (volume_is_row core.descriptor c.lv its.row its.volume) b.1).1 (its.among, shown));
-        part = λ less. (own.stale runs less).1;
-        whole = λ all. (own.clearing runs all).0;
-        stays = tied.sees.brings;
+        there = (its.row.number, b.0, its_copy past s tied c is its (there_first past s tied c.pp.disk gone) b.0 b.1);
+        part = λ less. (part_stale past s tied c is runs less).1;
+        whole = λ all. whole_stale past s tied c is runs all;
+        beside = λ moves. destination_beside core c v.beside tied.sees.beside is moves;
       },
       gone,
     )
@@ -129,30 +125,29 @@ module _ (core new : Core) (v : ModelState) (missing : ℕ → Bool) (facts : Li
   end_at c is = sym (ap (λ (m : Option OpenCopy). option_map_or (end_of core) m None) is)
 
   -- the copy runs that is marked by its end
-  pub marks_its : (p : Pp) → marked_by_end core how p ≡ true → IsMarked core v p
+  pub marks_its : (p : Pp) → marked_by_end core how p ≡ true → IsMarked v p
   marks_its p is = by how refl is
     where
-      at : (e : CopyEnd) → how ≡ Some e → marked_by_end core (Some e) p ≡ true → IsMarked core v p
+      at : (e : CopyEnd) → how ≡ Some e → marked_by_end core (Some e) p ≡ true → IsMarked v p
       at e ends h =
           let its = ends_running core e ends in
           let b = brought its.copy its.is_open its.runs in
           let parts = and_parts (not (is_done_end e)) (is_whole core its.copy && is_pp p its.copy.pp && (not its.copy.moves || is_held_stale core its.copy.pp)) (sym (ap (λ (m : Option OpenCopy). not (is_done_end e) && option_map_or (λ (c : OpenCopy). is_whole core c && is_pp p c.pp && (not c.moves || is_held_stale core c.pp)) m false) its.is_open) ∙ h) in
           let both = and_parts (is_whole core its.copy) (is_pp p its.copy.pp) (and_parts (is_whole core its.copy && is_pp p its.copy.pp) (not its.copy.moves || is_held_stale core its.copy.pp) parts.1).0 in
           let same : p ≡ its.copy.pp = pp_same p its.copy.pp both.1 in
-          (ap (is_stale core) same ∙ b.whole both.0, (b.there.0, b.there.1, ap (v.is_copy b.there.0 b.there.1) same ∙ b.there.2))
+          (ap v.committed.value.stale same ∙ b.whole both.0, (b.there.0, b.there.1, ap (v.is_copy b.there.0 b.there.1) same ∙ b.there.2))
 
-      by : (m : Option CopyEnd) → how ≡ m → marked_by_end core m p ≡ true → IsMarked core v p
+      by : (m : Option CopyEnd) → how ≡ m → marked_by_end core m p ≡ true → IsMarked v p
       by None ends h = absurd (cc h)
       by (Some e) ends h = at e ends h
 
   -- one that ends is wanted stale
-  stale_then : (e : CopyEnd) → how ≡ Some e → (o : ModelCopy) → v.open_copy ≡ Some o → IsTrue (calls_stale new.status.wanted o.target)
+  stale_then : (e : CopyEnd) → how ≡ Some e → (o : ModelCopy) → v.open_copy ≡ Some o → IsTrue ((marks_of v.beside new.status.wanted).stale o.target)
   stale_then e ends o at =
       let its = ends_running core e ends in
       let c : OpenCopy = its.copy in
       let b = brought c its.is_open its.runs in
-      let same : o.target ≡ c.pp = b.target o at in
-      ap (calls_stale new.status.wanted) same ∙ review.marks.stale c.pp ∙ or_true (is_wanted_stale core c.pp) (is_entailed core c.pp || marked_by_end core how c.pp) (by c its.is_open its.runs b (is_whole core c) refl)
+      ap (marks_of v.beside new.status.wanted).stale (b.target o at) ∙ seen c its.is_open its.runs b (is_beside v.beside c.pp) refl
     where
       marked_whole : (c : OpenCopy) → core.copy ≡ Some c → c.moves ≡ false → is_whole core c ≡ true → e ≡ ending.SyncFailed → marked_by_end core how c.pp ≡ true
       marked_whole c is stays all failed =
@@ -164,13 +159,27 @@ module _ (core new : Core) (v : ModelState) (missing : ℕ → Bool) (facts : Li
           let a = and_parts (not (is_held_stale core c.pp)) (not (is_wanted_stale core c.pp)) (and_parts (not c.moves) (stays_fresh core c.pp) cleared).1 in
           clash_gives (is_held_stale core c.pp) (ap (λ b. b || calls_stale (unwrap_or core.status.in_flight core.status.committed) c.pp) stale) (not_true (is_held_stale core c.pp) a.0)
 
-      by : (c : OpenCopy) → core.copy ≡ Some c → is_running c ≡ true → IsBrought core v c → (w : Bool) → is_whole core c ≡ w → (is_wanted_stale core c.pp ≡ true) ⊎ ((is_entailed core c.pp || marked_by_end core how c.pp) ≡ true)
-      by c is runs b false part = inl (b.part part)
-      by c is runs b true all = of (whole_ends core c runs e all (end_at c is ∙ ends))
+      -- one that isn't beside doesn't move
+      stays_of : (c : OpenCopy) → IsBrought core v c → is_beside v.beside c.pp ≡ false → c.moves ≡ false
+      stays_of c b off = by c.moves refl
+        where
+          by : (m : Bool) → c.moves ≡ m → m ≡ false
+          by false is = refl
+          by true is = clash_gives (is_beside v.beside c.pp) (b.beside is) off
+
+      by : (c : OpenCopy) → core.copy ≡ Some c → is_running c ≡ true → IsBrought core v c → is_beside v.beside c.pp ≡ false → (w : Bool) → is_whole core c ≡ w
+          → (is_wanted_stale core c.pp ≡ true) ⊎ ((is_entailed core c.pp || marked_by_end core how c.pp) ≡ true)
+      by c is runs b off false part = inl (sym (ap (λ (m : Marks). m.stale c.pp) sees.wanted ∙ stale_apart v.beside core.status.wanted c.pp off) ∙ b.part part)
+      by c is runs b off true all = of (whole_ends core c runs e all (end_at c is ∙ ends))
         where
           of : ((is_missing core c.pp.disk ≡ true) × (e ≡ ending.SyncFailed)) ⊎ ((is_cleared core c ≡ true) × (e ≡ ending.Done)) → (is_wanted_stale core c.pp ≡ true) ⊎ ((is_entailed core c.pp || marked_by_end core how c.pp) ≡ true)
-          of (inl failed) = inr (or_true (is_entailed core c.pp) (marked_by_end core how c.pp) (inr (marked_whole c is (unmoving core c is b.stays) all failed.1)))
-          of (inr cleared) = absurd (cleared_not c (b.whole all) cleared.0)
+          of (inl failed) = inr (or_true (is_entailed core c.pp) (marked_by_end core how c.pp) (inr (marked_whole c is (stays_of c b off) all failed.1)))
+          of (inr cleared) = absurd (cleared_not c (sym (ap (λ (m : Marks). m.stale c.pp) sees.committed ∙ stale_apart v.beside core.status.committed c.pp off) ∙ b.whole all) cleared.0)
+
+      seen : (c : OpenCopy) → core.copy ≡ Some c → is_running c ≡ true → IsBrought core v c → (t : Bool) → is_beside v.beside c.pp ≡ t → IsTrue ((marks_of v.beside new.status.wanted).stale c.pp)
+      seen c is runs b true beside = beside_stale v.beside new.status.wanted c.pp beside
+      seen c is runs b false off = stale_so v.beside new.status.wanted c.pp
+          (review.marks.stale c.pp ∙ or_true (is_wanted_stale core c.pp) (is_entailed core c.pp || marked_by_end core how c.pp) (by c is runs b off (is_whole core c) refl))
 
   -- one that goes on is on a disk that isn't missing
   there_then : how ≡ None → (o : ModelCopy) → v.open_copy ≡ Some o → IsFalse (missing o.target.disk)
@@ -192,14 +201,14 @@ module _ (core new : Core) (v : ModelState) (missing : ℕ → Bool) (facts : Li
       by (Some c) is = of c is (is_running c) refl
 
   -- What it entails is wanted, and the copy is open no more where it ends.
-  pub wants_reviewed : Wants v (marks_of None new.status.wanted) missing (open_after how v.open_copy)
+  pub wants_reviewed : Wants v (marks_of v.beside new.status.wanted) missing (open_after how v.open_copy)
   wants_reviewed = by how refl
     where
-      all : (open_copy : Option ModelCopy) → ((open_copy ≡ v.open_copy) ⊎ ((open_copy ≡ None) × ((o : ModelCopy) → v.open_copy ≡ Some o → IsTrue (calls_stale new.status.wanted o.target))))
-          → ((o : ModelCopy) → open_copy ≡ Some o → IsFalse (missing o.target.disk)) → Wants v (marks_of None new.status.wanted) missing open_copy
+      all : (open_copy : Option ModelCopy) → ((open_copy ≡ v.open_copy) ⊎ ((open_copy ≡ None) × ((o : ModelCopy) → v.open_copy ≡ Some o → IsTrue ((marks_of v.beside new.status.wanted).stale o.target))))
+          → ((o : ModelCopy) → open_copy ≡ Some o → IsFalse (missing o.target.disk)) → Wants v (marks_of v.beside new.status.wanted) missing open_copy
       all open_copy same there = review_wants core v missing how new.status facts members valid volumes shows sees keeps owners marks_its review.marks open_copy same there
 
-      by : (m : Option CopyEnd) → how ≡ m → Wants v (marks_of None new.status.wanted) missing (open_after m v.open_copy)
+      by : (m : Option CopyEnd) → how ≡ m → Wants v (marks_of v.beside new.status.wanted) missing (open_after m v.open_copy)
       by None ends = all v.open_copy (inl refl) (there_then ends)
       by (Some e) ends = all None (inr (refl, stale_then e ends)) (λ o none_now. absurd (cc none_now))
 
