@@ -1,6 +1,5 @@
 -- Which sessions may begin.
-use Rattle.std.proofs.Common.{◌≡◌, ◌<◌, ◌≤◌, ◌+◌, ◌^◌, ℕ, Bool, true, false, ◌&&◌, not, List, [], length, refl, sym, ◌∙◌, ap, subst, arith}
-use Rattle.std.specs.Prelude.{IsTrue}
+use Rattle.std.proofs.Common.{◌≡◌, ◌<◌, ◌+◌, ◌^◌, ℕ, Bool, true, false, ◌&&◌, not, List, [], length, refl, sym, ◌∙◌, ap, subst, arith}
 use Rattle.std.specs.List.{list_any, range_with_len}
 use Rattle.lvm_num.specs.declared.descriptor.Descriptor.{Descriptor}
 use Rattle.lvm_num.specs.declared.descriptor.LvRow.{LvRow}
@@ -18,7 +17,6 @@ use Rattle.lvm_disk.specs.Device.{Device}
 use Rattle.lvm_vol.specs.Log.{Log}
 use Rattle.lvm_status.specs.Update.{Updates, members_there}
 use Rattle.lvm_rec.specs.declared.homes.Homes.{Homes}
-use Rattle.lvm_session.specs.declared.open.Open.{Open}
 use Rattle.lvm_session.specs.Judging.{is_missing, is_stale}
 use Rattle.lvm_session.specs.State.{Core}
 use Rattle.lvm_session.specs.Marks.{can_replace, is_among, is_entailed, is_entailed_in, is_left_behind}

@@ -1,16 +1,16 @@
 -- The descriptor that is ready while a copy moves.
-use Rattle.std.proofs.Common.{◌≡◌, ◌≢◌, ◌⊎◌, inl, inr, ℕ, zero, suc, ◌-◌, ◌<◌, ◌≤◌, Bool, true, false, ◌&&◌, not, List, [], drop, ◌*◌, get_or, Option, None, Some, slice_get, refl, sym, ap, subst, ◌∙◌, arith}
-use Rattle.std.specs.Prelude.{◌==◌, if◌then◌else◌, AllPairs, Err, is_some}
+use Rattle.std.proofs.Common.{◌≡◌, ◌≢◌, inl, inr, ℕ, zero, suc, ◌-◌, ◌≤◌, Bool, true, false, ◌&&◌, not, List, [], drop, ◌*◌, get_or, Option, None, Some, slice_get, refl, sym, ap, subst, ◌∙◌, arith}
+use Rattle.std.specs.Prelude.{◌==◌, ◌↔◌, AllPairs, IsTrue, if◌then◌else◌, is_some}
 use Rattle.std.specs.List.{list_any}
 use Rattle.std.specs.Option.{option_map_or}
-use Rattle.std.proofs.lemmas.Bool.{and_from, cases_lt, eq-eqb, false≢true, ne_eqb}
+use Rattle.std.proofs.lemmas.Bool.{and_from, cases_lt, eq-eqb, false≢true, ne_eqb, not-true}
 use Rattle.std.proofs.lemmas.List.{length-take}
 use Rattle.std.proofs.lemmas.List.Folds.{list_any_at}
 use Rattle.std.proofs.lemmas.Option.{get_or_from_slice_get, slice_get_within}
 use Rattle.lvm_num.specs.declared.descriptor.Descriptor.{Descriptor}
 use Rattle.lvm_num.specs.declared.descriptor.LvRow.{LvRow}
 use Rattle.lvm_num.specs.declared.place.Pp.{Pp}
-use Rattle.lvm_num.specs.Descriptor.{IsLaidOut, IsValid, copies_of, is_pp, volume_of}
+use Rattle.lvm_num.specs.Descriptor.{IsValid, copies_of, is_pp, volume_of}
 use Rattle.lvm_due.proofs.DescriptorLemmas.Laid.{laid_out}
 use Rattle.lvm_moved.specs.Moved.{MayStandOn}
 use Rattle.lvm_session.specs.Asking.{IsAwake}
@@ -23,6 +23,7 @@ use Rattle.lvm_keeps_events.specs.Opening.{IsApart}
 use Rattle.lvm_going.specs.Frames.{is_moving}
 use Rattle.lvm_going.specs.Moves.{next_of}
 use Rattle.lvm_going.proofs.FramesLemmas.{moving_is}
+use Rattle.lvm_driver.specs.Moves.{AreApartFrom}
 
 -- where no copy moves none is to be ready
 pub none_ready : (core : Core) → is_moving core ≡ false → None ≡ next_of core
@@ -41,9 +42,16 @@ record IsNumbered (copies : List Pp) (number : ℕ) (p : Pp) : Type 0 where
   some : 1 ≤ number
   there : slice_get copies (number - 1) ≡ Some p
 
+some_number : (n : ℕ) → (n == 0) ≡ false → 1 ≤ n
+some_number zero is = absurd (cc is)
+some_number (suc n) is = omega arith
+
 numbered : (copies : List Pp) (number : ℕ) (p : Pp) → copy_at copies number ≡ Some p → IsNumbered copies number p
-numbered copies zero p is = absurd (cc is)
-numbered copies (suc n) p is = record { some = omega arith; there = is }
+numbered copies number p is = by (number == 0) refl is
+  where
+    by : (t : Bool) → (number == 0) ≡ t → (if t then None else slice_get copies (number - 1)) ≡ Some p → IsNumbered copies number p
+    by true none there = absurd (cc there)
+    by false some there = record { some = some_number number some; there = there }
 
 -- a copy of another number stands on another disk than the partition
 module _ (d : Descriptor) (lv lp number : ℕ) (to : Pp) (valid : IsValid d) (its : HasCopy d lv lp number) (apart : IsApart d lv lp number to) where
@@ -99,3 +107,18 @@ may_stand core lv lp number to awake apart fine =
       inside = it.fine.unused.inside;
       apart = others core.descriptor lv lp number to valid it.its apart;
     }
+
+-- whether another copy than that of the number stands on the disk
+pub apart_by : (copies : List Pp) (number disk : ℕ) (p : Pp) (other : Bool) → (number ≡ 0 → ⊥) → slice_get copies (number - 1) ≡ Some p
+    → other ≡ list_any (λ (q : Pp). not (is_pp q p) && q.disk == disk) copies → IsTrue (not other) ↔ AreApartFrom copies number disk
+apart_by copies number disk p other some at is =
+    let there : copy_at copies number ≡ Some p = ap (λ (b : Bool). if b then None else slice_get copies (number - 1)) (ne_eqb number 0 some) ∙ at in (
+      λ none from here.
+          let same : p ≡ from = cc (sym there ∙ here) in
+          subst (λ (f : Pp). list_any (λ (q : Pp). not (is_pp q f) && q.disk == disk) copies ≡ false) same (sym is ∙ not-true other none),
+      λ apart. ap not (is ∙ apart p there),
+    )
+
+-- of the volume's copies
+pub apart_of : (d : Descriptor) (lv lp number : ℕ) (to : Pp) (row : LvRow) (is : Bool) → Some row ≡ volume_of d lv → IsTrue is ↔ AreApartFrom (copies_of row lp) number to.disk → IsTrue is ↔ IsApart d lv lp number to
+apart_of d lv lp number to row is volume its = subst (λ (m : Option LvRow). IsTrue is ↔ AreApartFrom (option_map_or (λ (r : LvRow). copies_of r lp) m []) number to.disk) volume its

@@ -1,6 +1,4 @@
 -- The room that a session has stays.
-use Rattle.std.proofs.Common.{◌≡◌, ◌≤◌, ℕ, length, subst}
-use Rattle.std.specs.Prelude.{vec_capacity}
 use Rattle.lvm_session.specs.declared.session.Session.{Session}
 use Rattle.lvm_session.specs.Fields.{core_of}
 use Rattle.lvm_session.specs.Rooms.{HasRooms, SameRooms}

@@ -1,14 +1,14 @@
 -- A copy of a mirrored volume may begin to move.
-use Rattle.std.proofs.Common.{◌≡◌, ◌≢◌, ℕ, zero, suc, ◌&&◌, not, false, List, [], ◌∷◌, Some, slice_get, refl, subst, arith}
+use Rattle.std.proofs.Common.{◌≡◌, ◌≢◌, ℕ, zero, suc, ◌&&◌, not, false, None, Some, slice_get, refl, subst, arith}
 use Rattle.std.specs.Prelude.{◌==◌}
 use Rattle.std.specs.List.{list_any}
 use Rattle.lvm_num.specs.declared.descriptor.Mode.{Mode}
 use Rattle.lvm_num.specs.declared.place.Pp.{Pp}
-use Rattle.lvm_num.specs.Descriptor.{copies_of, is_pp}
-use Rattle.lvm_kept.specs.Examples.{member, mirror}
-use Rattle.lvm_session.specs.Calls.{copy_at}
+use Rattle.lvm_num.specs.Bits.{has_bit}
+use Rattle.lvm_num.specs.Descriptor.{is_pp}
+use Rattle.lvm_session.specs.Calls.{move_fault}
 use Rattle.lvm_session.specs.Judging.{copies_in}
-use Rattle.lvm_session.specs.Worked.{mirrored, second_copy}
+use Rattle.lvm_session.specs.Worked.{calm, core_of, mirrored, second_copy}
 use Rattle.lvm_session.specs.WorkedMoves.{free_destination}
 use Rattle.lvm_keeps_events.specs.Opening.{IsApart}
 use Rattle.lvm_driver.specs.Moves.{MirrorsMayMove}
@@ -18,24 +18,28 @@ apart m from is =
     let same : second_copy ≡ from = cc is in
     subst (λ (p : Pp). list_any (λ (q : Pp). not (is_pp q p) && q.disk == 2) (copies_in (mirrored m) 1 0) ≡ false) same refl
 
-others : (m : Mode) (k : ℕ) (p : Pp) → slice_get (copies_of (mirror m) 0) k ≡ Some p → k ≢ 1 → p.disk ≢ 2
+others : (m : Mode) (k : ℕ) (p : Pp) → slice_get (copies_in (mirrored m) 1 0) k ≡ Some p → k ≢ 1 → p.disk ≢ 2
 others m zero p at other on = let same : 0 ≡ p.disk = cc at in absurd (omega (arith, same, on))
 others m (suc zero) p at other on = absurd (other refl)
 others m (suc (suc k)) p at other on = absurd (cc at)
+
+fine : (m : Mode) → move_fault (core_of (calm m)) 1 0 2 free_destination ≡ None
+unfolding has_bit
+fine m = refl
 
 pub mirrors_may_move : MirrorsMayMove
 mirrors_may_move m = record {
   still = refl;
   apart = apart m;
-  fine = refl;
+  fine = fine m;
   stands = record {
-    row = mirror m;
+    row = _;
     volume = refl;
     within = omega arith;
     some = omega arith;
     copy = omega arith;
     free = refl;
-    inside = (member 2, refl, omega arith);
+    inside = (_, refl, omega arith);
     apart = others m;
   };
   ready = refl;

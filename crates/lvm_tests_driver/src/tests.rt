@@ -2,6 +2,7 @@ mod beside;
 mod copies;
 mod faults;
 mod fixtures;
+mod moves;
 mod requests;
 mod steps;
 mod sync;

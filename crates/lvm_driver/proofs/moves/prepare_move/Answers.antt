@@ -1,4 +1,3 @@
-use Rattle.std.proofs.Common.{sym}
 use Rattle.lvm_session.specs.Fields.{core_of}
 use Rattle.lvm_driver.proofs.MovesLemmas.{may_stand}
 use Rattle.lvm_driver.proofs.moves.prepare_move.Goals as goal

@@ -1,5 +1,3 @@
-use Rattle.lvm_session.specs.Fields.{core_of}
-use Rattle.lvm_session.specs.State.{state}
 use Rattle.lvm_driver.proofs.driver.Driver.copy_state.Goals as goal
 
 pub returns-clause-caused : goal.returns-clause-caused
