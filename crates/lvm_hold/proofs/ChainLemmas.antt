@@ -1,10 +1,10 @@
 -- Chains: whom a walk along one finds, and what a link changes.
-use Rattle.std.proofs.Common.{◌≡◌, ◌==◌, ◌≢◌, ◌+◌, ◌-◌, ◌*◌, ◌/◌, ◌%◌, ◌<◌, ◌≤◌, ◌&&◌, ◌||◌, ◌++◌, [], ◌∷◌, ℕ, zero, suc, List, Option, Some, None, Bool, true, false, cond, nat_lt, refl, sym, ◌∙◌, ap, subst, arith, length, take, drop, get_or}
+use Rattle.std.proofs.Common.{◌≡◌, ◌==◌, ◌≢◌, ◌+◌, ◌-◌, ◌*◌, ◌/◌, ◌%◌, ◌<◌, ◌≤◌, ◌&&◌, ◌||◌, ◌++◌, [], ◌∷◌, ℕ, zero, suc, List, Option, Some, None, Bool, true, false, cond, nat_lt, refl, sym, ◌∙◌, ap, subst, arith, length, length-append, take, drop, get_or}
 use Rattle.std.specs.List.{All, find}
 use Rattle.std.specs.Option.{option_map, option_or, is_some}
 use Rattle.std.proofs.lemmas.Option.{same_Some}
 use Rattle.std.proofs.lemmas.Bool.{eqb-true, eqb-false, eq-eqb, ne_eqb, lt-ltb, le-ltb, ltb-true, and_parts}
-use Rattle.std.proofs.lemmas.List.{length-take-le}
+use Rattle.std.proofs.lemmas.List.{length-take-le, get_or_at}
 use Rattle.std.proofs.Math.Seq.{take-suc}
 use Rattle.std.proofs.lemmas.List.Elements.{All-head, All-tail}
 use Rattle.lvm_hold.specs.declared.queue.Held.{Held}
@@ -193,6 +193,31 @@ or_front None back some = cc
 or_back : (front : Option Row) (back : Option ℕ) → is_some front ≡ false → option_or (option_map (λ (r : Row). r.id) front) back ≡ back
 or_back (Some row) back some = cc
 or_back None back some = refl
+
+-- a chain without a first has no last
+none_found : (o : Option Row) → option_map (λ (r : Row). r.id) o ≡ None → is_some o ≡ false
+none_found None is = refl
+none_found (Some row) is = cc
+
+none_there : (o : Option ℕ) → is_some o ≡ false → o ≡ None
+none_there None is = refl
+none_there (Some k) is = cc
+
+pub no_last : (head : ℕ) (rows : List Row) → first_of head rows ≡ None → last_of head rows ≡ None
+no_last head rows none = none_there (last_of head rows) (last_tells head rows ∙ none_found (find (is_of head) rows) none)
+
+-- none of its chain stands before the first row of it
+before_test : (t : Bool) (first : Row) (o : Option ℕ) (rest : Option Row) (id : ℕ) → first.id < id → (option_map (λ (r : Row). r.id) rest ≡ Some id → o ≡ None) → option_map (λ (r : Row). r.id) (cond t (Some first) rest) ≡ Some id → further t o ≡ None
+before_test true first o rest id less later is = let same : first.id ≡ id = same_Some first.id id is in absurd (omega arith)
+before_test false first o rest id less later is = rw (later is) refl
+
+pub none_before : (head : ℕ) (front : List Row) (row : Row) (back : List Row) → IsAscending (front ++ row ∷ back) → first_of head (front ++ row ∷ back) ≡ Some row.id → last_of head front ≡ None
+none_before head [] row back order is = refl
+none_before head (first ∷ front) row back order is =
+    let less : first.id < (get_or (front ++ row ∷ back) (length front) row).id = order.0 (length front) row (omega (arith, length-append front (row ∷ back))) in
+    let it : get_or (front ++ row ∷ back) (length front) row ≡ row = get_or_at front row back row (length front) refl in
+    let same : (get_or (front ++ row ∷ back) (length front) row).id ≡ row.id = ap (λ (r : Row). r.id) it in
+    before_test (is_of head first) first (last_of head front) (find (is_of head) (front ++ row ∷ back)) row.id (omega arith) (λ now. none_before head front row back order.1 now) is
 
 -- the first of a chain behind a row that is in it, and behind none
 pub first_in_front : (head k : ℕ) (front back : List Row) → last_of head front ≡ Some k → first_of head (front ++ back) ≡ first_of head front

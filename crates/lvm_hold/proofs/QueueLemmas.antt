@@ -1,5 +1,5 @@
 -- A queue with one more and with one less.
-use Rattle.std.proofs.Common.{◌≡◌, ◌+◌, ◌-◌, ◌<◌, ◌++◌, [], ◌∷◌, ℕ, suc, List, Option, Some, None, cond, refl, sym, ◌∙◌, ap, subst, inl, inr, arith, length, take, get_or, set, length-set, replicate}
+use Rattle.std.proofs.Common.{◌≡◌, ◌-◌, ◌<◌, ◌++◌, [], ◌∷◌, ℕ, suc, List, Option, Some, None, cond, refl, sym, ◌∙◌, ap, subst, inl, inr, arith, length, take, get_or, set, length-set, replicate}
 use Rattle.std.specs.Prelude.{remove}
 use Rattle.std.specs.List.{find}
 use Rattle.std.specs.Option.{option_map}
@@ -15,7 +15,7 @@ use Rattle.lvm_hold.specs.Waiting.{AreBelow, without}
 use Rattle.lvm_hold.specs.Chains.{head_of, is_of, first_of, nexts_of, last_of, place_in, put_next, put_head, IsChained}
 use Rattle.lvm_hold.proofs.OrderLemmas.{ascending_push}
 use Rattle.lvm_hold.proofs.PlaceLemmas.{SplitsAt, splits, without_middle, ascending_middle, All-middle}
-use Rattle.lvm_hold.proofs.ChainLemmas.{befores, nexts_append, length-befores, DifferAt, linked, last_within, first_in_front, first_in_back, first_elsewhere}
+use Rattle.lvm_hold.proofs.ChainLemmas.{befores, nexts_append, length-befores, DifferAt, linked, last_within, first_in_front, first_in_back, first_elsewhere, none_before}
 
 head_cases : (front back others : List Row) (heads : List (Option ℕ)) (head k : ℕ) (o : Option ℕ) → last_of head front ≡ o → DifferAt head back others → length heads ≡ 2048 → head < 2048
     → get_or heads k None ≡ first_of k (front ++ back) → get_or (put_head o head (first_of head others) heads) k None ≡ first_of k (front ++ others)
@@ -178,6 +178,14 @@ module _ (rows : List Row) (nexts heads : List (Option ℕ)) (id place head : �
   left_rows =
       let order = subst IsAscending s.is all.ascending in
       ap (without id) s.is ∙ subst (λ n. without n (s.front ++ s.row ∷ s.back) ≡ s.front ++ s.back) s.its (without_middle s.front s.row s.back order) ∙ sym rest_is
+
+-- none of a chain stands before its first row
+pub none_before_place : (rows : List Row) (head id place : ℕ) → IsAscending rows → place_in id rows ≡ Some place → first_of head rows ≡ Some id → last_of head (take place rows) ≡ None
+none_before_place rows head id place order at first =
+    let s = splits rows id place at in
+    let front_is : take place rows ≡ s.front = ap (take place) s.is ∙ take_at s.front (s.row ∷ s.back) place s.at in
+    let its : first_of head (s.front ++ s.row ∷ s.back) ≡ Some s.row.id = ap (first_of head) (sym s.is) ∙ first ∙ ap (λ n. Some n) (sym s.its) in
+    ap (last_of head) front_is ∙ none_before head s.front s.row s.back (subst IsAscending s.is order) its
 
 pub new_is_chained : (heads : List (Option ℕ)) (n : ℕ) → n ≡ 2048 → heads ≡ replicate {A = Option ℕ} n None → IsChained [] [] heads
 new_is_chained heads n many is =

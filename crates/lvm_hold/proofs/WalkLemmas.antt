@@ -1,5 +1,5 @@
 -- A walk along the chain of a row.
-use Rattle.std.proofs.Common.{◌≡◌, ◌+◌, ◌-◌, ◌<◌, ◌≤◌, [], ◌∷◌, ℕ, zero, suc, List, Option, Some, None, true, false, refl, sym, ◌∙◌, ap, arith, length, drop, get_or, length-drop}
+use Rattle.std.proofs.Common.{◌≡◌, ◌+◌, ◌<◌, ◌≤◌, [], ◌∷◌, ℕ, zero, suc, List, Option, Some, None, true, false, refl, sym, ◌∙◌, ap, arith, length, drop, get_or, length-drop}
 use Rattle.std.specs.List.{All}
 use Rattle.std.proofs.lemmas.List.{get_or-drop, drop-drop}
 use Rattle.std.proofs.lemmas.List.Elements.{All-drop}
@@ -58,6 +58,14 @@ module _ (rows : List Row) (nexts heads : List (Option ℕ)) (this : Row) (all :
             next_is = link ∙ ap (λ (rs : List Row). first_of (head_of this.ask) rs) behind;
             same = way.same ∙ its_step.go d (ap (λ (r : Row). conflicts r.ask this.ask) (get_or-drop from rows k d) ∙ free) ∙ ap (λ (rs : List Row). first_conflict rs this) behind;
           }
+
+past_cases : (rows : List Row) (nexts heads : List (Option ℕ)) (this : Row) (from id : ℕ) (o : Option ℕ) → IsChained rows nexts heads → IsInGroup this.ask → IsOnTheWay rows this from (Some id) → place_in id (drop from rows) ≡ o → this.id ≤ id → first_conflict rows this ≡ None
+past_cases rows nexts heads this from id (Some k) all group way at past = walk_stops rows nexts heads this all group from id way k at past
+past_cases rows nexts heads this from id None all group way at past = absurd (walk_finds rows nexts heads this all group from id way at)
+
+-- the next of the chain isn't earlier
+pub walk_past : (rows : List Row) (nexts heads : List (Option ℕ)) (this : Row) (from id : ℕ) → IsChained rows nexts heads → IsInGroup this.ask → IsOnTheWay rows this from (Some id) → this.id ≤ id → first_conflict rows this ≡ None
+walk_past rows nexts heads this from id all group way past = past_cases rows nexts heads this from id (place_in id (drop from rows)) all group way refl past
 
 pub walk_begins : (rows : List Row) (nexts heads : List (Option ℕ)) (this : Row) (head : ℕ) → IsChained rows nexts heads → head ≡ head_of this.ask → head < 2048 → IsOnTheWay rows this 0 (get_or heads head None)
 walk_begins rows nexts heads this head all its within = record {

@@ -1,6 +1,6 @@
 //! Rows in chains. Two that conflict ask for blocks of one track group and so stand in one chain, in order of
 //! ids: whom one waits for is found without a look at the rows of other chains.
-ghost use Rattle.std.specs.Prelude.{◌≡◌, ◌<◌, ◌+◌, nat_lt, IfSome, length, vec_len, vec_capacity};
+ghost use Rattle.std.specs.Prelude.{◌≡◌, ◌<◌, ◌+◌, nat_lt, IfSome, Some, true, length, vec_len, vec_capacity};
 ghost use Rattle.lvm_hold.specs.Conflicts.{conflicts, have_common_block, is_write, IsInGroup};
 ghost use Rattle.lvm_hold.specs.Order.{IsAscending, first_conflict};
 ghost use Rattle.lvm_hold.specs.Chains.{IsChained, head_of, first_of, last_of, place_in, put_next, put_head};
@@ -24,7 +24,27 @@ pub fn place_of(rows: &[Row], id: u64) -> Option<usize>
     ensures place { result ≡ place_in id rows.now }
     ensures within { IfSome result (λ place. place < length rows.now) }
 {
+    let likely = likely_place(rows, id);
+    if is_at(rows, likely, id) {
+        return Some(likely);
+    }
     rows.binary_search_by_key(&id, |row| row.id).ok()
+}
+
+// Where it stands if all requests between it and the first are inside, whose ids go up by two.
+fn likely_place(rows: &[Row], id: u64) -> usize {
+    match rows.first() {
+        None => 0,
+        Some(first) => (id.saturating_sub(first.id) / 2) as usize,
+    }
+}
+
+// Whether the row at a place, if there is one, has this id.
+fn is_at(rows: &[Row], place: usize, id: u64) -> bool
+    requires { IsAscending rows.now }
+    ensures { result ≡ true → place_in id rows.now ≡ Some place }
+{
+    place < rows.len() && rows[place].id == id
 }
 
 /// The place of the last row of a chain.
@@ -77,10 +97,10 @@ pub fn first_in_chain(
     let mut next = heads[head_of(&this.ask)];
     let mut from = 0;
     while let Some(id) = next {
-        let place = from + place_of(&rows[from..], id)?;
         if id >= this.id {
             return None;
         }
+        let place = from + place_of(&rows[from..], id)?;
         if conflicts(&rows[place].ask, &this.ask) {
             return Some(id);
         }

@@ -1,5 +1,5 @@
 //! What was asked for and has not landed, in order of ids.
-ghost use Rattle.std.specs.Prelude.{◌≡◌, ◌<◌, ◌≤◌, ◌+◌, ◌++◌, [], ◌∷◌, ◌↔◌, ℕ, length, None, IsTrue, IfOk, IfSome, IsSomeAnd, vec_len, vec_capacity, replicate};
+ghost use Rattle.std.specs.Prelude.{◌≡◌, ◌<◌, ◌≤◌, ◌+◌, ◌++◌, [], ◌∷◌, ◌↔◌, ℕ, length, None, IsTrue, IfOk, IfSome, IsSomeAnd, vec_len, vec_capacity, replicate, take};
 ghost use Rattle.lvm_hold.specs.Conflicts.{IsInGroup};
 
 use crate::chains::{HEADS, first_in_chain, head_of, last_of, link, place_of};
@@ -52,6 +52,7 @@ impl Model for Queue {
 
 impl Queue {
     ghost use Rattle.lvm_hold.specs.Waiting.{IsInside, AreBelow, without, Blocks};
+    ghost use Rattle.lvm_hold.specs.Chains.{last_of};
 
     /// Room for so many, which is all reserved here.
     pub fn new(alloc: Global, room: u32) -> Result<Queue, Memory>
@@ -81,7 +82,7 @@ impl Queue {
         ensures { self.new ≡ record self.old { rows = self.old.rows ++ record { id = id; ask = ask } ∷ [] } }
     {
         let head = head_of(&ask);
-        let before = last_of(&self.rows, head);
+        let before = self.last_in(head);
         link(&mut self.heads, &mut self.nexts, before, head, Some(id));
         append(&mut self.rows, Row { id, ask });
         append(&mut self.nexts, None);
@@ -94,11 +95,36 @@ impl Queue {
     {
         if let Some(place) = place_of(&self.rows, id) {
             let head = head_of(&self.rows[place].ask);
-            let before = last_of(&self.rows[..place], head);
+            let before = self.last_before(place, head);
             let next = self.nexts[place];
             link(&mut self.heads, &mut self.nexts, before, head, next);
             self.rows.remove(place);
             self.nexts.remove(place);
+        }
+    }
+
+    // The place of the last row of a chain, which is looked for only where the chain has a first.
+    fn last_in(&self, head: usize) -> Option<usize>
+        requires { head < 2048 }
+        ensures place { result ≡ last_of head self.now.rows }
+        ensures within { IfSome result (λ place. place < length self.now.rows) }
+    {
+        match self.heads[head] {
+            None => None,
+            Some(_) => last_of(&self.rows, head),
+        }
+    }
+
+    // The place of the last row of a chain before a place, which is looked for only where the chain doesn't begin there.
+    fn last_before(&self, place: usize, head: usize) -> Option<usize>
+        requires there { place < length self.now.rows }
+        requires head { head < 2048 }
+        ensures place { result ≡ last_of head (take place self.now.rows) }
+        ensures within { IfSome result (λ before. before < place) }
+    {
+        match self.heads[head] {
+            Some(first) if first == self.rows[place].id => None,
+            _ => last_of(&self.rows[..place], head),
         }
     }
 

@@ -5,7 +5,7 @@ use Rattle.lvm_hold.specs.Order.{IsAscending}
 use Rattle.lvm_hold.specs.Chains.{place_in}
 use Rattle.lvm_hold.proofs.ChainLemmas.{ascending_drop}
 use Rattle.lvm_hold.proofs.QueueLemmas.{length-nexts_of}
-use Rattle.lvm_hold.proofs.WalkLemmas.{IsOnTheWay, walk_begins, walk_ends, walk_finds, walk_within, walk_stops, walk_hits, walk_goes}
+use Rattle.lvm_hold.proofs.WalkLemmas.{IsOnTheWay, walk_begins, walk_ends, walk_finds, walk_within, walk_past, walk_hits, walk_goes}
 use Rattle.lvm_hold.proofs.chains.first_in_chain.Goals as goal
 
 rest_is : (rows : List Row) (from : ℕ) → take (length rows - from) (drop from rows) ≡ drop from rows
@@ -34,8 +34,7 @@ its_place rows from id k is = ap (place_in id) (sym (rest_is rows from)) ∙ sym
 pub returns-then-id-this : goal.returns-then-id-this
 returns-then-id-this c =
     let way = subst (IsOnTheWay c.args.rows.now c.args.this.now c.loop-next.from) c.in-Some.is c.loop-next.invariant in
-    let at = its_place c.args.rows.now c.loop-next.from c.in-Some.id c.in_ok-place.field-0 c.in_ok-place.ensures.place in
-    sym (walk_stops c.args.rows.now c.args.nexts.now c.args.heads.now c.args.this.now c.requires.chained c.requires.group c.loop-next.from c.in-Some.id way c.in_ok-place.field-0 at c.if-id-this.true)
+    sym (walk_past c.args.rows.now c.args.nexts.now c.args.heads.now c.args.this.now c.loop-next.from c.in-Some.id c.requires.chained c.requires.group way c.if-id-this.true)
 
 pub returns-then-conflicts : goal.returns-then-conflicts
 returns-then-conflicts c =

@@ -1,6 +1,6 @@
 use Rattle.std.proofs.Common.{◌-◌, ◌∙◌, Some, cond, sym, ap, arith, take}
 use Rattle.std.proofs.lemmas.Bool.{eq-eqb, ne_eqb}
-use Rattle.lvm_hold.specs.Chains.{head_of, last_of}
+use Rattle.lvm_hold.specs.Chains.{last_of}
 use Rattle.lvm_hold.proofs.ChainLemmas.{last_before}
 use Rattle.lvm_hold.proofs.chains.last_of.Goals as goal
 

@@ -1,6 +1,5 @@
-use Rattle.std.proofs.Common.{◌∙◌, [], List, ap, arith, length}
+use Rattle.std.proofs.Common.{◌∙◌, sym, ap, arith, length}
 use Rattle.std.proofs.lemmas.Option.{IfSome_then}
-use Rattle.lvm_hold.specs.declared.queue.Row.{Row}
 use Rattle.lvm_hold.specs.Waiting.{Waiting, AreBelow}
 use Rattle.lvm_hold.specs.Chains.{last_of}
 use Rattle.lvm_hold.proofs.QueueLemmas.{entered, length-nexts_of}
@@ -8,8 +7,8 @@ use Rattle.lvm_hold.proofs.queue.Queue.enter.Goals as goal
 
 pub link-requires-clause-within : goal.link-requires-clause-within
 link-requires-clause-within c =
-    IfSome_then c.last_of-before.result c.last_of-before.ensures.within
-    (λ place lt. omega (arith, lt, ap length c.deref.ensures.value, ap length c.self.invariant.2.nexts_are, length-nexts_of c.self.inside.rows.items, c.self.inside.nexts.ok.0))
+    IfSome_then c.last_in-before.result c.last_in-before.ensures.within
+    (λ place lt. omega (arith, lt, ap (λ (w : Waiting). length w.rows) c.self.view_is, ap length c.self.invariant.2.nexts_are, length-nexts_of c.self.inside.rows.items, c.self.inside.nexts.ok.0))
 
 pub link-requires-clause-head : goal.link-requires-clause-head
 link-requires-clause-head c = omega (arith, c.head_of-head.ensures.within, c.self.invariant.2.count, c.self.inside.heads.ok.0)
@@ -25,8 +24,8 @@ append-requires-2 c =
 pub invariant_of-self : goal.invariant_of-self
 invariant_of-self c =
     let below : AreBelow c.self.inside.rows.items c.args.id = rw (ap (λ (w : Waiting). w.rows) c.self.view_is) c.requires.last in
-    let all = entered c.self.inside.rows.items c.self.inside.nexts.items c.self.inside.heads.items c.args.id c.args.ask c.head_of-head.result c.last_of-before.result c.self.invariant.2 below c.requires.blocks
-    (record { head_is = c.head_of-head.ensures.head; within = c.head_of-head.ensures.within; before_is = c.last_of-before.ensures.place ∙ ap (λ (rs : List Row). last_of c.head_of-head.result rs) c.deref.ensures.value }) in (
+    let all = entered c.self.inside.rows.items c.self.inside.nexts.items c.self.inside.heads.items c.args.id c.args.ask c.head_of-head.result c.last_in-before.result c.self.invariant.2 below c.requires.blocks
+    (record { head_is = c.head_of-head.ensures.head; within = c.head_of-head.ensures.within; before_is = c.last_in-before.ensures.place ∙ ap (λ (w : Waiting). last_of c.head_of-head.result w.rows) (sym c.self.view_is) }) in (
       omega (arith, c.self.invariant.0, c.append.ensures.capacity),
       omega (arith, c.self.invariant.1, c.link.ensures.capacity, c.append-2.ensures.capacity),
       rw (c.append.ensures.items, c.append-2.ensures.items, c.link.ensures.nexts, c.link.ensures.heads) all,
