@@ -26,7 +26,7 @@ ghost use Rattle.lvm_core.specs.Settled.{IsSettled, HasSpareNumbers};
 ghost use Rattle.lvm_core.specs.Committing.{CommitEnds, MarkEnds, FailsCommitted, AreUnused, AreMarked, Restates, AreDirtied, Redirties};
 ghost use Rattle.lvm_core.specs.Zeros.{ZeroEnds, KeepsRecords, IsZeroOf};
 ghost use Rattle.lvm_core.specs.Leaves.{Leaves, committing, marking, dirtying, zeroing};
-ghost use Rattle.lvm_core.specs.Entering.{IsOfVolume, last_reads};
+ghost use Rattle.lvm_core.specs.Entering.{IsEntryOfCommand, last_reads};
 
 use crate::commit::{commit, mark_dirty, set_status, zero};
 use crate::fault::CommitFault;
@@ -245,11 +245,11 @@ impl<S: Shelf> Driver<S> {
         zero(&mut self.session, &mut self.shelf, pp, patience)
     }
 
-    /// Enters that a volume is being made or removed, or that it is. The first read of one that is made
-    /// begins as if its number were new.
+    /// Enters that a volume is being made or removed, or that it is, or that a disk is a raw one no more. The first
+    /// read of a volume that is made begins as if its number were new.
     pub fn enter(&mut self, entry: Entry)
         requires spare { 1 ≤ spare_entries self.old.1.history }
-        requires volume { IsOfVolume entry }
+        requires command { IsEntryOfCommand entry }
         ensures shelf { self.new.0 ≡ self.old.0 }
         ensures core { self.new.1 ≡ record self.old.1 { history = with_fact self.old.1.history (plain_fact entry); last = last_reads (plain_fact entry) self.old.1.last } }
     {

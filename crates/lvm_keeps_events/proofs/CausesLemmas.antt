@@ -41,7 +41,8 @@ use Rattle.lvm_session.specs.Ends.{given_back}
 use Rattle.lvm_session.specs.Events.{IsDataTransfer}
 use Rattle.lvm_session.specs.Marks.{due_of, due_targets, hits_copy, is_among}
 use Rattle.lvm_session.specs.Causes.{AreCaused, AreCounted, FailedSince, FailedSinceOpening, fails_on, faults_at_first, faults_at_opening, own_faults, OwnFailedSinceOpening, TargetHasFailed, HaveSourcesFailed, is_blamed, is_held_stale, IsAnswered, IsCaused, IsChosenSince, IsCausedAmong, IsCounted, IsLandedFor, IsTrueToOrigin}
-use Rattle.lvm_session.specs.Left.{copy_updates, if_so, marks_later}
+use Rattle.lvm_session.specs.Left.{clean_volumes, copy_updates, if_open, if_so, marks_later}
+use Rattle.lvm_keeps.proofs.LeftLemmas.Updates.{open_set}
 use Rattle.lvm_session.specs.Owners.{AreOwned, flies, IsDataOf, IsTransferOf, same_owner}
 use Rattle.lvm_session.specs.Requests.{IsAimed, is_left_out, is_wanted_due, IsJudged, IsMarkedDestination, IsOpenOne, IsRequest, IsShaped, IsTarget, may_lack, wants_status, will_be_kept}
 use Rattle.lvm_session.specs.Sound.{count_if, has_number, is_clearing, is_dark, is_hand, IsAsked, IsCopy, IsFitting, IsGoing, IsOn, IsSound, IsTold, may_be_fresh, out_with, pins, stays_fresh, with_row}
@@ -853,9 +854,10 @@ module _ (old : State) (sound : IsSound old) (on : old.core.power ≡ power.On) 
         numbers =
             let low = going.numbers in
             let marks = count_set marks_later core.requests place o x there in
-            let clean = clean_same mid due wanted writes like in
+            let clean = ap (if_open core.requests) (clean_same mid due wanted writes like) in
+            let still_open = open_set core.requests place x (clean_volumes after) in
             let members = members_same mid due wanted writes like in
-            omega (arith, low, marks, clean, members, paid);
+            omega (arith, low, marks, clean, still_open, members, paid);
       }
 
       keeps_on : IsOn now

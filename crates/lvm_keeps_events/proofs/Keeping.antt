@@ -38,7 +38,7 @@ use Rattle.lvm_num.proofs.Booleans.{not_so}
 use Rattle.lvm_num.proofs.Lists.{all_weaker, all_two}
 use Rattle.lvm_session.specs.Marks.{is_entailed}
 use Rattle.lvm_session.specs.Causes.{AreCaused, AreCounted, FailedSince, FailedSinceOpening, TargetHasFailed, HaveSourcesFailed, IsAnswered, IsCaused, IsCausedAmong, IsCounted, IsTrueToOrigin, fails_on, faults_at_first, is_blamed, is_held_stale, OwnFailedSinceOpening, own_faults}
-use Rattle.lvm_session.specs.Left.{clean_volumes, if_so, updates_left}
+use Rattle.lvm_session.specs.Left.{clean_volumes, if_open, if_so, updates_left}
 use Rattle.lvm_session.specs.Owners.{AreOwned, AreRows, HaveTickets}
 use Rattle.lvm_session.specs.Sound.{IsCopy, IsFitting, IsGoing, IsOn, IsSound, IsTold, count_if, has_number, is_dark, out_with}
 use Rattle.lvm_keeps.proofs.CausesLemmas.{answered_when_on, counted_when_on}
@@ -119,9 +119,9 @@ module _ (e : WriteEnd) (r : Reviewed e) (brings : Brings e r) where
   numbers : r.status.stamp.seq + updates_left after < 2 ^ 32
   numbers = by there_by brings.fewer
     where
-      clean : clean_volumes after ≡ clean_volumes core
-      clean = count_alike (λ (row : LvRow). is_passive row.mode && not (calls_dirty r.status.wanted row.number)) (λ (row : LvRow). is_passive row.mode && not (calls_dirty core.status.wanted row.number))
-          (λ row. ap (λ b. is_passive row.mode && not b) (dirty_same row.number)) core.descriptor.lvs
+      clean : if_open core.requests (clean_volumes after) ≡ if_open core.requests (clean_volumes core)
+      clean = ap (if_open core.requests) (count_alike (λ (row : LvRow). is_passive row.mode && not (calls_dirty r.status.wanted row.number)) (λ (row : LvRow). is_passive row.mode && not (calls_dirty core.status.wanted row.number))
+          (λ row. ap (λ b. is_passive row.mode && not b) (dirty_same row.number)) core.descriptor.lvs)
 
       seq : r.status.stamp.seq ≡ core.status.stamp.seq
       seq = ap (λ (u : Updates). u.stamp.seq) r.marks.rest ∙ ap (λ (x : Stamp). x.seq) e.follows.stamp

@@ -41,7 +41,7 @@ use Rattle.lvm_num.specs.Modes.{is_passive}
 use Rattle.lvm_num.proofs.Booleans.{not_so}
 use Rattle.lvm_num.proofs.Lists.{all_weaker}
 use Rattle.lvm_session.specs.Marks.{WantsDirty, can_replace, is_among, is_entailed, is_entailed_in, is_left_behind}
-use Rattle.lvm_session.specs.Left.{clean_volumes, if_so}
+use Rattle.lvm_session.specs.Left.{clean_volumes, if_open, if_so}
 use Rattle.lvm_session.specs.Owners.{AreOwned}
 use Rattle.lvm_session.specs.Requests.{IsOpenOne, is_failed_and_sure, is_left_out, is_wanted_dirty, is_wanted_due, mode_for, will_be_kept}
 use Rattle.lvm_session.specs.Causes.{AreCaused, AreCounted, HaveSourcesFailed, IsAnswered, IsCaused, IsCausedAmong, IsTrueToOrigin, fails_on, is_blamed, is_held_stale, was_fresh}
@@ -79,7 +79,8 @@ pub record IsAlike (lv : ℕ) (old new : Status) : Type 0 where
 
 module _ (s : State) (sound : IsSound s) (on : s.core.power ≡ power.On) (lv : ℕ) (wanted : Status) (writes : Writes) (like : IsAlike lv s.core.status.wanted wanted)
     (started : (d : ℕ) → has writes.started d ≡ has s.core.status.writes.started d) (status_sound : IsSoundStatus (seen (record s.core.status { wanted = wanted; writes = writes })))
-    (row : LvRow) (volume : volume_of s.core.descriptor lv ≡ Some row) (passive : is_passive row.mode ≡ true) (clean : calls_dirty s.core.status.wanted lv ≡ false) where
+    (row : LvRow) (volume : volume_of s.core.descriptor lv ≡ Some row) (passive : is_passive row.mode ≡ true) (clean : calls_dirty s.core.status.wanted lv ≡ false)
+    (some_open : (n : ℕ) → if_open s.core.requests n ≡ n) where
   abbrev core : Core
   core = s.core
 
@@ -310,9 +311,11 @@ module _ (s : State) (sound : IsSound s) (on : s.core.power ≡ power.On) (lv : 
     numbers =
         let was = going.numbers in
         let fewer = fewer_clean in
+        let open_then = some_open (clean_volumes core) in
+        let open_now = some_open (clean_volumes now.core) in
         let same = count_alike (λ (r : PvRow). is_there now.core r.disk) (λ (r : PvRow). is_there core r.disk) (λ r. there_same r.disk) core.descriptor.pvs in
         let most = at_most_one (not (same_status wanted (unwrap_or core.status.in_flight core.status.committed))) in
-        omega (arith, was, fewer, same, most);
+        omega (arith, was, fewer, open_then, open_now, same, most);
   }
 
   -- ---- causes

@@ -37,6 +37,7 @@ use Rattle.lvm_session.specs.Events.{Chooses, ChoosesBy, admitted_as, after_admi
 use Rattle.lvm_num.specs.Modes.{is_passive}
 use Rattle.lvm_num.proofs.Booleans.{not_so}
 use Rattle.lvm_session.specs.Marks.{WantsDirty, WantsDirtyIf}
+use Rattle.lvm_keeps.proofs.LeftLemmas.Updates.{open_at}
 use Rattle.lvm_session.specs.Left.{begun_left, copy_left, if_so, is_brought_up, is_held, lacks_dirty, lacks_note, left_of, phase_left, read_left, request_left, status_left, place_turns, turns_of, unbegun_left, update_work, waiting_targets, work_left, write_left}
 use Rattle.lvm_session.specs.Requests.{IsPhase}
 use Rattle.lvm_session.specs.Sound.{IsSound}
@@ -195,10 +196,12 @@ module _ (s : State) (sound : IsSound s) (on : s.core.power ≡ power.On) (place
   missing_so : (d : ℕ) → is_missing between d ≡ is_missing core d
   missing_so = missing_same s sound on (lv_of o.request.ask) status.wanted status.writes (mark s sound on place o there admits targets order chooses status makes wants).like (mark s sound on place o there admits targets order chooses status makes wants).started
       (status_sound s sound on place o there admits targets order chooses status makes wants) (one_of s sound on place o there admits).laid.within.row (one_of s sound on place o there admits).laid.within.volume (passive s sound on place o there admits targets order chooses status makes wants) (clean s sound on place o there admits targets order chooses status makes wants)
+      (λ n. open_at s.core.requests place o n there)
 
   dirty_so : (number : ℕ) → calls_dirty core.status.wanted number ≡ true → calls_dirty status.wanted number ≡ true
   dirty_so = dirty_on s sound on (lv_of o.request.ask) status.wanted status.writes (mark s sound on place o there admits targets order chooses status makes wants).like (mark s sound on place o there admits targets order chooses status makes wants).started
       (status_sound s sound on place o there admits targets order chooses status makes wants) (one_of s sound on place o there admits).laid.within.row (one_of s sound on place o there admits).laid.within.volume (passive s sound on place o there admits targets order chooses status makes wants) (clean s sound on place o there admits targets order chooses status makes wants)
+      (λ n. open_at s.core.requests place o n there)
 
   usable_so : (p : Pp) → is_usable between p ≡ is_usable core p
   usable_so p = ap (λ b. not (is_stale core p) && not b) (missing_so p.disk)

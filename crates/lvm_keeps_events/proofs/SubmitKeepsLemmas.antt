@@ -46,7 +46,7 @@ use Rattle.lvm_session.specs.Dark.{IsAscending}
 use Rattle.lvm_num.specs.Modes.{is_passive}
 use Rattle.lvm_num.proofs.Lists.{all_weaker, all_push, all_at}
 use Rattle.lvm_session.specs.Asking.{IsAsking}
-use Rattle.lvm_session.specs.Left.{copy_updates, if_so, marks_later, updates_left}
+use Rattle.lvm_session.specs.Left.{clean_volumes, copy_updates, if_so, marks_later, updates_left}
 use Rattle.lvm_session.specs.Owners.{AreOwned, IsDataOf, flies, target_flies}
 use Rattle.lvm_session.specs.Requests.{IsOpenOne, IsRecorded, mode_for}
 use Rattle.lvm_session.specs.Causes.{AreCaused, AreCounted, IsAnswered, IsCaused, IsChosenSince, fails_on, is_held_stale}
@@ -59,7 +59,7 @@ use Rattle.lvm_keeps.proofs.SoundLemmas.Fitting.{still_fits}
 use Rattle.lvm_keeps.proofs.OwnersLemmas.Rows.{all_fly, rows_on}
 use Rattle.lvm_keeps.proofs.RequestsLemmas.{bring_on, if_on, moved, open_on}
 use Rattle.lvm_keeps.proofs.SoundLemmas.Telling.{outcome_still}
-use Rattle.lvm_keeps.proofs.LeftLemmas.Updates.{one_if}
+use Rattle.lvm_keeps.proofs.LeftLemmas.Updates.{one_if, open_most}
 use Rattle.lvm_keeps.proofs.SoundLemmas.Whole.{sound_when_on}
 use Rattle.lvm_keeps_events.proofs.BeginLogLemmas.{answered_other, asked_new, asked_other, chunks_long, few_begin, next_is, open_new, open_other, outcome_new, place_earlier, place_new}
 use Rattle.lvm_keeps_events.proofs.GeometryLemmas.{blocks_fit}
@@ -160,11 +160,12 @@ few_updates core valid few =
     let c = count_by-le-length (λ (row : LvRow). is_passive row.mode && not (calls_dirty core.status.wanted row.number)) core.descriptor.lvs in
     let d = count_by-le-length (λ (row : PvRow). is_there core row.disk) core.descriptor.pvs in
     let e = three_if core core.copy in
+    let f = open_most core.requests (clean_volumes core) in
     let members : length core.descriptor.pvs ≤ most_members core.descriptor.big = valid.head.members in
     let volumes : length core.descriptor.lvs ≤ most_volumes core.descriptor.big = valid.head.volumes in
     let m = few_members core.descriptor.big in
     let v = few_volumes core.descriptor.big in
-    omega (arith, a, b, c, d, e, members, volumes, m, v, few)
+    omega (arith, a, b, c, d, e, f, members, volumes, m, v, few)
 
 module _ (s : State) (sound : IsSound s) (client : ℕ) (ask : Ask) (bytes : Option (List ℕ)) (asking : IsAsking ask bytes) (it : IsTaken s.core ask) (range : IsRanged s.core ask) where
   abbrev core : Core

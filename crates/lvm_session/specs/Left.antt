@@ -1,5 +1,5 @@
 -- The work that is left: each event of a turn lowers it.
-use Rattle.std.specs.Prelude.{ℕ, ◌+◌, ◌*◌, ◌-◌, Bool, true, false, ◌&&◌, not, if◌then◌else◌, length, count_by, sum_by, unwrap_or}
+use Rattle.std.specs.Prelude.{ℕ, ◌+◌, ◌*◌, ◌-◌, Bool, true, false, ◌&&◌, not, if◌then◌else◌, List, [], ◌∷◌, length, count_by, sum_by, unwrap_or}
 use Rattle.std.specs.List.{list_any}
 use Rattle.std.specs.Option.{option_map_or}
 use Rattle.lvm_num.specs.declared.place.Pp.{Pp}
@@ -37,6 +37,11 @@ update_work = 256
 -- so much, where this is so
 abbrev pub if_so : Bool → ℕ → ℕ
 if_so is n = if is then n else 0
+
+-- so much, where a request is open
+abbrev pub if_open : List Open → ℕ → ℕ
+if_open [] n = 0
+if_open (o ∷ os) n = n
 
 -- ---- the status
 
@@ -175,8 +180,8 @@ abbrev pub clean_volumes : Core → ℕ
 clean_volumes core = count_by (λ (row : LvRow). is_passive row.mode && not (calls_dirty core.status.wanted row.number)) core.descriptor.lvs
 
 -- How many updates may still be begun: one for what is wanted now, and one for each thing by which more may come to be wanted, which are the writes
--- whose transfers haven't all ended, the members that may become missing, the passive volumes that may be marked, and the copy's clearing and end.
+-- whose transfers haven't all ended, the members that may become missing, the passive volumes that an open request may mark, and the copy's clearing and end.
 abbrev pub updates_left : Core → ℕ
 updates_left core =
     if_so (not (same_status core.status.wanted (unwrap_or core.status.in_flight core.status.committed))) 1
-    + count_by marks_later core.requests + clean_volumes core + count_by (λ (row : PvRow). is_there core row.disk) core.descriptor.pvs + option_map_or (copy_updates core) core.copy 0
+    + count_by marks_later core.requests + if_open core.requests (clean_volumes core) + count_by (λ (row : PvRow). is_there core row.disk) core.descriptor.pvs + option_map_or (copy_updates core) core.copy 0

@@ -5,7 +5,7 @@ ghost use Rattle.lvm_num.specs.Status.{calls_missing, calls_dirty};
 ghost use Rattle.lvm_disk.specs.Device.{IsReady};
 ghost use Rattle.lvm_vol.specs.Log.{spare_entries, plain_fact};
 ghost use Rattle.lvm_map.specs.FirstFit.{has_partition_on};
-ghost use Rattle.lvm_volume_plan.specs.passed.Names.{IsAlike, state_of, Leaves, MarkEnds, NoDescriptor, NoPartition, IsSettled, HasSpareNumbers, IsOfVolume};
+ghost use Rattle.lvm_volume_plan.specs.passed.Names.{IsAlike, state_of, Leaves, MarkEnds, NoDescriptor, NoPartition, IsSettled, HasSpareNumbers, IsEntryOfCommand};
 ghost use Rattle.lvm_volume_plan.specs.Faults.{TakesCommands, IfOn, command_answer};
 ghost use Rattle.lvm_volume_plan.specs.PlannedVolume.{AreOfOneGroup, IsWithout};
 ghost use Rattle.lvm_volumes.specs.Endings.{StillHeld, KeepsFresh, commanding, removing_by};
@@ -184,7 +184,7 @@ pub fn commit_between<S: Shelf>(
     requires settled { IsSettled driver.old.1 }
     requires numbers { HasSpareNumbers driver.old.1 }
     requires spare { 2 ≤ spare_entries driver.old.1.history }
-    requires volume { IsOfVolume first × IsOfVolume last }
+    requires command { IsEntryOfCommand first × IsEntryOfCommand last }
     requires alike { IsAlike next driver.old.1.descriptor }
     ensures { CommitsBetween (plain_fact first) (plain_fact last) next patience.old.left patience.new.left (state_of S.device driver.old) (state_of S.device driver.new) result }
 {

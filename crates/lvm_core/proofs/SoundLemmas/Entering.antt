@@ -1,4 +1,4 @@
--- A session stays sound when it enters that a volume is being made or removed.
+-- A session stays sound when a command enters something of a volume or of a disk.
 use Rattle.std.proofs.Common.{◌≡◌, ℕ, List, [], ◌∷◌, ◌++◌, length, length-set, refl, ◌∙◌}
 use Rattle.lvm_disk.specs.Device.{Device}
 use Rattle.lvm_vol.specs.declared.entry.Entry.{Entry}
@@ -8,10 +8,10 @@ use Rattle.lvm_vol.specs.Log.{is_open, with_fact, plain_fact}
 use Rattle.lvm_session_start.proofs.passed.Names.{open_still}
 use Rattle.lvm_session.specs.State.{Core, state}
 use Rattle.lvm_core.specs.Sound.{IsSoundAtRest}
-use Rattle.lvm_core.specs.Entering.{IsOfVolume, last_reads}
+use Rattle.lvm_core.specs.Entering.{IsEntryOfCommand, last_reads}
 
 -- it is about no request
-open_entered : (facts : List Fact) (e : Entry) → IsOfVolume e → (id : ℕ) → is_open (facts ++ plain_fact e ∷ []) id ≡ is_open facts id
+open_entered : (facts : List Fact) (e : Entry) → IsEntryOfCommand e → (id : ℕ) → is_open (facts ++ plain_fact e ∷ []) id ≡ is_open facts id
 open_entered facts (entry.Making lv blocks mode) is id = open_still facts (Making lv blocks mode) refl id refl
 open_entered facts (entry.Made lv) is id = open_still facts (Made lv) refl id refl
 open_entered facts (entry.Split from lv) is id = open_still facts (Split from lv) refl id refl
@@ -24,7 +24,7 @@ length_reads : (f : Fact) (last : List ℕ) → length (last_reads f last) ≡ l
 length_reads (Made lv) last = length-set last lv 0
 length_reads _ last = refl
 
-pub entered_sound : (device : Device) (core : Core) (e : Entry) → IsOfVolume e → IsSoundAtRest (state device core)
+pub entered_sound : (device : Device) (core : Core) (e : Entry) → IsEntryOfCommand e → IsSoundAtRest (state device core)
     → IsSoundAtRest (state device (record core { history = with_fact core.history (plain_fact e); last = last_reads (plain_fact e) core.last }))
 entered_sound device core e is sound = record {
   fitting = record {

@@ -135,7 +135,7 @@ module _ (old : State) (sound : IsSound old) (began : IsSettled old.core) where
           let many = many_bound old.core sound.fitting.valid sound.fitting.group in
           let most = numbers.most in
           let left : 65536 ≤ 2 ^ 32 - 1 - old.core.status.stamp.seq = spare.numbers in
-          let updates : updates_left new.core ≤ 640 = few_updates new.core valid after.quiet.requests after.quiet.copy in
+          let updates : updates_left new.core ≤ 129 = few_updates new.core valid after.quiet.requests after.quiet.copy in
           omega (arith, many, most, left, few, updates);
       left = still.left none_before;
       stays = status.stays;

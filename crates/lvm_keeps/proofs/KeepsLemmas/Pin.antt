@@ -44,7 +44,8 @@ use Rattle.lvm_keeps.proofs.Small.{both, is_false}
 use Rattle.lvm_keeps.proofs.RequestsLemmas.{moved, open_on, bring_on, if_on, no_cause}
 use Rattle.lvm_vol.specs.Log.{is_open}
 use Rattle.lvm_session.specs.Bringing.{has_row, step_row}
-use Rattle.lvm_session.specs.Left.{marks_later}
+use Rattle.lvm_session.specs.Left.{clean_volumes, marks_later}
+use Rattle.lvm_keeps.proofs.LeftLemmas.Updates.{open_set}
 use Rattle.lvm_keeps.proofs.SoundLemmas.Whole.{sound_when_on}
 
 module _ (s : State) (sound : IsSound s) (on : s.core.power ≡ power.On) (place : ℕ) (o : Open) (there : slice_get s.core.requests place ≡ Some o) (may : may_pin s.core o ≡ true) where
@@ -218,7 +219,7 @@ module _ (s : State) (sound : IsSound s) (on : s.core.power ≡ power.On) (place
     reviewed = going.reviewed;
     fresh = going.fresh;
     clearings = going.clearings;
-    numbers = let same = count_same marks_later core.requests place o pinned there refl in let was = going.numbers in omega (arith, same, was);
+    numbers = let same = count_same marks_later core.requests place o pinned there refl in let still_open = open_set core.requests place pinned (clean_volumes core) in let was = going.numbers in omega (arith, same, still_open, was);
   }
 
   -- ---- the shelf

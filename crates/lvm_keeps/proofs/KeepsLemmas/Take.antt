@@ -31,7 +31,8 @@ use Rattle.lvm_session.specs.Judging.{copies_in, group_of, is_missing, is_waitin
 use Rattle.lvm_session.specs.Bringing.{has_row, step_row}
 use Rattle.lvm_session.specs.Calls.{TakeAt, TakesLanded, is_asked}
 use Rattle.lvm_session.specs.declared.answers.Taken.{Taken}
-use Rattle.lvm_session.specs.Left.{marks_later}
+use Rattle.lvm_session.specs.Left.{clean_volumes, marks_later}
+use Rattle.lvm_keeps.proofs.LeftLemmas.Updates.{open_at, open_most}
 use Rattle.lvm_session.specs.Owners.{AreOwned, IsDataOf, flies, target_flies}
 use Rattle.lvm_session.specs.Requests.{IsLanded, IsOpenOne}
 use Rattle.lvm_session.specs.Causes.{AreCaused, AreCounted, IsAnswered, IsCaused, IsChosenSince, IsCausedAmong, IsCounted, IsLandedFor, fails_on, is_held_stale, is_over}
@@ -169,7 +170,12 @@ module _ (s : State) (sound : IsSound s) (place : ℕ) (o : Open) (there : slice
       reviewed = going.reviewed;
       fresh = going.fresh;
       clearings = going.clearings;
-      numbers = let same = count_removed marks_later core.requests place o there (ap (λ b. b && is_write o.request.ask && not (is_begun o.request.targets.items && are_over o.request.targets.items)) over) in let was = going.numbers in omega (arith, same, was);
+      numbers =
+          let same = count_removed marks_later core.requests place o there (ap (λ b. b && is_write o.request.ask && not (is_begun o.request.targets.items && are_over o.request.targets.items)) over) in
+          let all_open = open_at core.requests place o (clean_volumes core) there in
+          let most_open = open_most left (clean_volumes core) in
+          let was = going.numbers in
+          omega (arith, same, all_open, most_open, was);
     }
 
     data_on : (id target : ℕ) (f : Flight) → flies core (owner.Data id target) ≡ true → IsDataOf core id target f → IsDataOf now.core id target f

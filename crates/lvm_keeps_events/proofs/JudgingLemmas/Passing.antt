@@ -52,7 +52,7 @@ use Rattle.lvm_num.proofs.Booleans.{not_so}
 use Rattle.lvm_num.proofs.Lists.{all_at, all_weaker, length_set, all_both}
 use Rattle.lvm_session.specs.Marks.{can_replace, is_among, is_entailed}
 use Rattle.lvm_session.specs.Causes.{AreCaused, AreCounted, fails_on, is_blamed, is_held_stale, IsAnswered, IsCaused, IsChosenSince, IsCausedAmong, IsTrueToOrigin, was_fresh}
-use Rattle.lvm_session.specs.Left.{copy_updates, if_so, updates_left}
+use Rattle.lvm_session.specs.Left.{copy_updates, if_open, if_so, updates_left}
 use Rattle.lvm_session.specs.Owners.{AreOwned, same_owner}
 use Rattle.lvm_session.specs.Requests.{is_failed_and_sure, is_left_out, is_past_held, is_wanted_dirty, is_wanted_due, IsAimed, IsJudged, IsMarkedDestination, IsOpenOne, IsPhase, IsRequest, IsTarget, may_lack, mode_for, wants_status, will_be_kept}
 use Rattle.lvm_session.specs.Sound.{count_if, is_clearing, is_hand, IsCopy, IsFitting, IsGoing, IsOfKind, IsOn, IsSound, IsTold, may_be_fresh, out_with, waiting_rows, with_row}
@@ -781,7 +781,7 @@ module _ (s : State) (sound : IsSound s) (on : s.core.power ≡ power.On) (c : O
     numbers : core.status.stamp.seq + updates_left after < 2 ^ 32
     numbers =
         let was = going.numbers in
-        let clean = count_alike (λ (r : LvRow). is_passive r.mode && not (calls_dirty wanted r.number)) (λ (r : LvRow). is_passive r.mode && not (calls_dirty core.status.wanted r.number)) (λ r. ap (λ b. is_passive r.mode && not b) (dirty_same r.number)) core.descriptor.lvs in
+        let clean = ap (if_open core.requests) (count_alike (λ (r : LvRow). is_passive r.mode && not (calls_dirty wanted r.number)) (λ (r : LvRow). is_passive r.mode && not (calls_dirty core.status.wanted r.number)) (λ r. ap (λ b. is_passive r.mode && not b) (dirty_same r.number)) core.descriptor.lvs) in
         let members = count_alike (λ (r : PvRow). is_there after r.disk) (λ (r : PvRow). is_there core r.disk) (λ r. there_same r.disk) core.descriptor.pvs in
         let pays = paid w refl in
         omega (arith, was, clean, members, pays)

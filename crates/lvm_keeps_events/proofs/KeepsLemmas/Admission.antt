@@ -37,7 +37,8 @@ use Rattle.lvm_session.specs.Events.{Chooses, admitted_as, after_admission, last
 use Rattle.lvm_num.specs.Modes.{is_passive}
 use Rattle.lvm_num.proofs.Lists.{all_weaker, all_at, length_set, set_beside}
 use Rattle.lvm_session.specs.Marks.{WantsDirty, WantsDirtyIf}
-use Rattle.lvm_session.specs.Left.{marks_later}
+use Rattle.lvm_session.specs.Left.{clean_volumes, if_open, marks_later}
+use Rattle.lvm_keeps.proofs.LeftLemmas.Updates.{open_at, open_set}
 use Rattle.lvm_session.specs.Owners.{AreOwned, IsDataOf, flies, target_flies}
 use Rattle.lvm_session.specs.Requests.{IsOpenOne, IsPhase, IsRecorded, IsRequest, IsTarget, has_record, is_past_held, is_wanted_dirty, may_lack, mode_for, wants_status}
 use Rattle.lvm_session.specs.Causes.{AreCaused, AreCounted, IsAnswered, IsCaused, IsChosenSince, IsCausedAmong, IsCounted, IsLandedFor, fails_on, faults_at_opening, is_held_stale, own_faults}
@@ -339,7 +340,7 @@ module _ (s : State) (sound : IsSound s) (on : s.core.power ≡ power.On) (place
     reviewed = going.reviewed;
     fresh = going.fresh;
     clearings = going.clearings;
-    numbers = let same = count_same marks_later core.requests place o made there marks_same in let was = going.numbers in omega (arith, same, was);
+    numbers = let same = count_same marks_later core.requests place o made there marks_same in let still_open = open_set core.requests place made (clean_volumes core) in let was = going.numbers in omega (arith, same, still_open, was);
   }
 
   -- ---- causes
@@ -498,11 +499,14 @@ module _ (s : State) (sound : IsSound s) (on : s.core.power ≡ power.On) (place
       pub status_sound : IsSoundStatus (seen marked_status)
       status_sound = subst (λ (u : Stored). IsSoundStatus (seen u)) mark.is mark.sound
 
+      some_open : (n : ℕ) → if_open s.core.requests n ≡ n
+      some_open n = open_at s.core.requests place o n there
+
       abbrev between : State
-      between = marked_now s sound on (lv_of o.request.ask) status.wanted status.writes mark.like mark.started status_sound row one_of.laid.within.volume passive clean
+      between = marked_now s sound on (lv_of o.request.ask) status.wanted status.writes mark.like mark.started status_sound row one_of.laid.within.volume passive clean some_open
 
       sound_between : IsSound between
-      sound_between = marked_keeps s sound on (lv_of o.request.ask) status.wanted status.writes mark.like mark.started status_sound row one_of.laid.within.volume passive clean
+      sound_between = marked_keeps s sound on (lv_of o.request.ask) status.wanted status.writes mark.like mark.started status_sound row one_of.laid.within.volume passive clean some_open
 
       choice_between : IsChosen between o targets
       choice_between = let c = choice in record {
@@ -513,7 +517,7 @@ module _ (s : State) (sound : IsSound s) (on : s.core.power ≡ power.On) (place
         few_to_read = c.few_to_read;
         usable = c.usable;
         faults = c.faults;
-        caused = all_weaker (IsCaused s.device s.core) (IsCaused s.device between.core) (marked_caused s sound on (lv_of o.request.ask) status.wanted status.writes mark.like mark.started status_sound row one_of.laid.within.volume passive clean) targets c.caused;
+        caused = all_weaker (IsCaused s.device s.core) (IsCaused s.device between.core) (marked_caused s sound on (lv_of o.request.ask) status.wanted status.writes mark.like mark.started status_sound row one_of.laid.within.volume passive clean some_open) targets c.caused;
       }
 
       wanted_so : is_wanted_dirty between.core (mode_for between.core o.request.ask) o.request.ask ≡ true

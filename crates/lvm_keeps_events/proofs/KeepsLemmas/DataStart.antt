@@ -35,7 +35,8 @@ use Rattle.lvm_session.specs.Bringing.{has_row, step_row}
 use Rattle.lvm_session.specs.Enabled.{target_due}
 use Rattle.lvm_session.specs.Events.{IsDataTransfer, begun_as, flown}
 use Rattle.lvm_session.specs.Marks.{is_among}
-use Rattle.lvm_session.specs.Left.{marks_later}
+use Rattle.lvm_session.specs.Left.{clean_volumes, marks_later}
+use Rattle.lvm_keeps.proofs.LeftLemmas.Updates.{open_set}
 use Rattle.lvm_session.specs.Owners.{AreOwned, IsDataOf, flies, same_owner, target_flies}
 use Rattle.lvm_session.specs.Requests.{IsAimed, IsJudged, IsOpenOne, IsPhase, IsPinned, MayBeServed, IsRecorded, IsRequest, IsShaped, IsTarget, has_record, is_left_out, is_past_held, may_lack, mode_for}
 use Rattle.lvm_session.specs.Causes.{own_faults, AreCaused, AreCounted, IsAnswered, IsCaused, IsChosenSince, IsCounted, IsLandedFor, fails_on, faults_at_opening, is_held_stale}
@@ -386,7 +387,7 @@ module _ (s : State) (sound : IsSound s) (on : s.core.power ≡ power.On) (place
     reviewed = going.reviewed;
     fresh = going.fresh;
     clearings = going.clearings;
-    numbers = let same = count_same marks_later core.requests place o begun there marks_same in let was = going.numbers in omega (arith, same, was);
+    numbers = let same = count_same marks_later core.requests place o begun there marks_same in let still_open = open_set core.requests place begun (clean_volumes core) in let was = going.numbers in omega (arith, same, still_open, was);
   }
 
   -- ---- causes

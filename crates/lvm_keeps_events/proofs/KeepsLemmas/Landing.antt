@@ -38,7 +38,8 @@ use Rattle.lvm_session.specs.Judging.{facts_of, group_of, held_of, is_missing, i
 use Rattle.lvm_session.specs.Bringing.{has_row, step_of, step_row, with_back}
 use Rattle.lvm_session.specs.Enabled.{is_free_step}
 use Rattle.lvm_session.specs.Events.{IsDataTransfer, after_landing, got_blocks, landed_as, without_pin}
-use Rattle.lvm_session.specs.Left.{marks_later}
+use Rattle.lvm_session.specs.Left.{clean_volumes, marks_later}
+use Rattle.lvm_keeps.proofs.LeftLemmas.Updates.{open_set}
 use Rattle.lvm_session.specs.Owners.{AreOwned, IsDataOf, flies, target_flies}
 use Rattle.lvm_session.specs.Requests.{IsOpenOne, IsRequest}
 use Rattle.lvm_session.specs.Causes.{AreCaused, AreCounted, IsAnswered, IsCaused, IsChosenSince, fails_on, is_held_stale}
@@ -255,7 +256,7 @@ module _ (s : State) (sound : IsSound s) (on : s.core.power ≡ power.On) (place
     reviewed = going.reviewed;
     fresh = going.fresh;
     clearings = going.clearings;
-    numbers = let fewer = count_set marks_later core.requests place o landed there in let was = going.numbers in omega (arith, fewer, was);
+    numbers = let fewer = count_set marks_later core.requests place o landed there in let still_open = open_set core.requests place landed (clean_volumes core) in let was = going.numbers in omega (arith, fewer, still_open, was);
   }
 
   -- ---- the shelf and the causes

@@ -45,7 +45,7 @@ use Rattle.lvm_num.proofs.Lists.{all_weaker, all_both}
 use Rattle.lvm_session.specs.Marks.{is_among}
 use Rattle.lvm_session.specs.Asking.{IsAwake}
 use Rattle.lvm_session.specs.Causes.{AreCaused, AreCounted, IsAnswered, IsCaused, IsChosenSince, IsCausedAmong, IsLandedFor, fails_on, faults_at_first, faults_at_opening, is_held_stale, own_faults}
-use Rattle.lvm_session.specs.Left.{copy_updates, if_so, marks_later, updates_left}
+use Rattle.lvm_session.specs.Left.{clean_volumes, copy_updates, if_so, marks_later, updates_left}
 use Rattle.lvm_session.specs.Owners.{AreOwned, IsTransferOf, flies, target_flies}
 use Rattle.lvm_session.specs.Requests.{IsAimed, IsOpenOne, IsPhase, IsTarget, IsRequest, is_failed_and_sure, is_left_out, may_lack, will_be_kept}
 use Rattle.lvm_session.specs.Sound.{IsAsked, IsCopy, IsFitting, IsGoing, IsOfKind, IsOn, IsSound, IsStaleCopy, IsTold, count_if, is_dark, is_hand, out_with, pins, rows_of, waiting_rows, with_row}
@@ -62,7 +62,7 @@ use Rattle.lvm_keeps.proofs.Lists.{all_mapped}
 use Rattle.lvm_keeps.proofs.OwnersLemmas.Rows.{all_fly, rows_by, status_still}
 use Rattle.lvm_keeps.proofs.Small.{and_on, most_on, none_on}
 use Rattle.lvm_keeps.proofs.RequestsLemmas.{if_on, kind_still, laid_on, moved, ready_on}
-use Rattle.lvm_keeps.proofs.LeftLemmas.Updates.{one_if}
+use Rattle.lvm_keeps.proofs.LeftLemmas.Updates.{one_if, open_most}
 use Rattle.lvm_keeps.proofs.SoundLemmas.Whole.{sound_when_on}
 use Rattle.lvm_keeps_events.specs.Opening.{SeenOpenKeeps}
 use Rattle.lvm_keeps_events.proofs.OpeningLemmas.Aging.{any_aged, asked_aged, count_aged, get_aged, long_aged, row_last, rows_aged, told_aged}
@@ -370,6 +370,7 @@ module _ (s : State) (sound : IsSound s) (on : s.core.power ≡ power.On) (none 
       let held = sound.fitting.table in
       let limit = sound.fitting.most in
       let clean = count_by-le-length (λ (r : LvRow). is_passive r.mode && not (calls_dirty core.status.wanted r.number)) core.descriptor.lvs in
+      let most_open = open_most table (clean_volumes core) in
       let volumes = sound.fitting.valid.head.volumes in
       let big = few_volumes core.descriptor.big in
       let members = count_by-le-length (λ (r : PvRow). is_there core r.disk) core.descriptor.pvs in
@@ -378,7 +379,7 @@ module _ (s : State) (sound : IsSound s) (on : s.core.power ≡ power.On) (none 
       let wants = one_if (not (same_status core.status.wanted (unwrap_or core.status.in_flight core.status.committed))) in
       let copy : copy_updates now.core c ≤ 3 = few_updates (is_whole now.core c) moves in
       let free = ltb-true (core.status.stamp.seq + 65536) (2 ^ 32) readable.numbers in
-      omega (arith, later, long, held, limit, clean, volumes, big, members, disks, wide, wants, copy, free)
+      omega (arith, later, long, held, limit, clean, most_open, volumes, big, members, disks, wide, wants, copy, free)
     where
       few_updates : (w b : Bool) → (if w then 1 else 2) + if_so b 1 ≤ 3
       few_updates true true = omega arith

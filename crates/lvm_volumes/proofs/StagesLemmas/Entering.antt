@@ -19,7 +19,7 @@ use Rattle.lvm_kept.specs.Moments.{Moment}
 use Rattle.lvm_steps.specs.Entering.{OpensNone}
 use Rattle.lvm_steps.proofs.EnteringLemmas.{calm_goes_on}
 use Rattle.lvm_volume_plan.proofs.passed.Names.{keeps_here, spends_none, still_holds_committed, keeps_fact, same_status}
-use Rattle.lvm_volume_plan.specs.passed.Names.{HoldsCommitted, ShowsCommitted, IsOnlyGroupSince, LeavesCommitted, many_there, NoneIsLeft, MarksLeft, IsHeld, IsSettled, HasSpareNumbers, moment_of, LetsCommit, HasStated, CommitEnds, CommitFault, NoPartition, NoVolume, IsHeldSince, IsOfCommand, Leaves, committing, IsOfVolume}
+use Rattle.lvm_volume_plan.specs.passed.Names.{HoldsCommitted, ShowsCommitted, IsOnlyGroupSince, LeavesCommitted, many_there, NoneIsLeft, MarksLeft, IsHeld, IsSettled, HasSpareNumbers, moment_of, LetsCommit, HasStated, CommitEnds, CommitFault, NoPartition, NoVolume, IsHeldSince, IsOfCommand, Leaves, committing, IsEntryOfCommand}
 use Rattle.lvm_session.specs.State.{Core, State, is_there}
 use Rattle.lvm_steps.specs.Moments.{SpanGoesOn}
 use Rattle.lvm_volumes.specs.Endings.{StillHeld, IfAlone, commanding}
@@ -33,8 +33,8 @@ use Rattle.lvm_core.proofs.CommittingLemmas.Committing.{lets_one}
 pub spare_more : (log : Log) (f : Fact) → need f ≡ 1 → 2 ≤ spare_entries log → 1 ≤ spare_entries (with_fact log f)
 spare_more log f one two = let sum = sum_by-append need log.facts (f ∷ []) in omega (arith, sum, one, two)
 
--- each entry of a volume needs its own room alone
-pub needs_one : (e : Entry) → IsOfVolume e → need (plain_fact e) ≡ 1
+-- each entry of a command needs its own room alone
+pub needs_one : (e : Entry) → IsEntryOfCommand e → need (plain_fact e) ≡ 1
 needs_one (entry.Making lv blocks mode) is = refl
 needs_one (entry.Made lv) is = refl
 needs_one (entry.Split from lv) is = refl

@@ -18,7 +18,7 @@ commit-requires-clause-alike g c = c.requires.alike ∙ ap (λ (x : Core). recor
 pub enter-requires-2-clause-spare : goal.enter-requires-2-clause-spare
 enter-requires-2-clause-spare g c =
     let same = ap (λ (x : Core). x.history) c.in_ok-commit.ensures.ends.stated.is ∙ ap (λ (x : Core). x.history) c.enter.ensures.core in
-    subst (λ (l : Log). 1 ≤ spare_entries l) (sym same) (spare_more c.args.driver.now.1.history (plain_fact c.args.first) (needs_one c.args.first c.requires.volume.0) c.requires.spare)
+    subst (λ (l : Log). 1 ≤ spare_entries l) (sym same) (spare_more c.args.driver.now.1.history (plain_fact c.args.first) (needs_one c.args.first c.requires.command.0) c.requires.spare)
 
 pub returns-in_err-commit : goal.returns-in_err-commit
 returns-in_err-commit g c =

@@ -13,5 +13,5 @@ invariant_of-self g c =
       record { requests = c.self.invariant.0.requests; flying = c.self.invariant.0.flying; bytes = c.self.invariant.0.bytes },
       subst (λ (log : Log). IsSoundAtRest (state device (record core { history = log; last = c.forget_reads.new.last }))) (sym c.push.ensures)
           (subst (λ (last : List ℕ). IsSoundAtRest (state device (record core { history = with_fact core.history (plain_fact c.args.entry); last = last }))) (sym c.forget_reads.ensures)
-          (entered_sound device core c.args.entry c.requires.volume c.self.invariant.1)),
+          (entered_sound device core c.args.entry c.requires.command c.self.invariant.1)),
     )

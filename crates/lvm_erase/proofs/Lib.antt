@@ -1,0 +1,2 @@
+mod ErasingLemmas
+mod ShowingLemmas

@@ -1,0 +1,8 @@
+//! What a disk shows while its descriptor is erased. Each call does nothing: its contract is the law.
+ghost use Rattle.lvm_erase.specs.Erasing.{ShowsNewestOrNone, ErasedShowsNone};
+
+/// At each moment of it the disk shows the newest descriptor that it showed, or none; and none once both slots begin with zeros.
+pub fn newest_is_shown_or_none()
+    ensures while_erased { ShowsNewestOrNone }
+    ensures erased { ErasedShowsNone }
+{}
