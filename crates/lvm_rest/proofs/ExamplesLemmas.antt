@@ -1,5 +1,5 @@
 -- A session may begin at the groups that are worked by hand.
-use Rattle.std.proofs.Common.{◌≡◌, ℕ, ◌<◌, false, List, Some, None, refl, sym, subst}
+use Rattle.std.proofs.Common.{◌≡◌, ℕ, ◌<◌, true, false, List, Some, None, refl, sym, subst}
 use Rattle.lvm_num.specs.declared.descriptor.Mode.TheVariants.{Off}
 use Rattle.lvm_num.specs.Buffer.{zero_sector}
 use Rattle.lvm_vol.specs.Facts.{Fact}

@@ -1,5 +1,5 @@
 -- A session may begin at the groups that are worked by hand.
-use Rattle.std.specs.Prelude.{◌≡◌, Bool, false, List, None}
+use Rattle.std.specs.Prelude.{◌≡◌, Bool, true, false, List, None}
 use Rattle.lvm_num.specs.declared.descriptor.Mode.{Mode}
 use Rattle.lvm_num.specs.declared.descriptor.Mode.TheVariants.{Off}
 use Rattle.lvm_num.specs.Buffer.{Sector, zero_sector}
