@@ -52,7 +52,7 @@ use Rattle.lvm_tie.proofs.TiedLemmas.Orderly.{AreOut, HasTargets, HaveNumbers, H
 use Rattle.lvm_tie.proofs.TiedLemmas.Tied.{stage_found}
 use Rattle.lvm_tie.specs.Out.{CarriesStep, CarryTheirs, MayUpdate}
 use Rattle.lvm_tie.specs.Seen.{stage_seen, stage_at, phase_seen, SeesRequest, update_of}
-use Rattle.lvm_tie.specs.Tied.{IsTied, ShowsRecords}
+use Rattle.lvm_tie.specs.Tied.{IsTied, ShowsRecords, CommittedIsOne}
 use Rattle.lvm_session.specs.Marks.{WantsStale, Entails, is_among, due_targets, due_of, end_by_write}
 use Rattle.lvm_invariant.specs.Updates.{put}
 use Rattle.std.proofs.lemmas.Option.{same_Some}
@@ -301,6 +301,7 @@ module _ (past : List Fact) (old new : State) (index : ℕ) (ends : Ends old new
           next = subst (λ (sizes : List ℕ). MayUpdate old.core.descriptor old.core.status old.core.homes (image_of sizes tied.media)) (sym ended.sizes) tied.recorded.next;
           members = λ d member first. subst (λ (sizes : List ℕ). IsTrue (members_showing (contents_of (image_of sizes tied.media)) old.core.descriptor d)) (sym ended.sizes) (tied.recorded.members d member first);
           records = subst (λ (sizes : List ℕ). ShowsRecords old.core.descriptor old.core.status (contents_of (image_of sizes tied.media))) (sym ended.sizes) tied.recorded.records;
+          committed = subst (λ (sizes : List ℕ). CommittedIsOne tied.view.committed.stamp old.core.descriptor old.core.status (contents_of (image_of sizes tied.media))) (sym ended.sizes) tied.recorded.committed;
         };
         notes = tied.notes;
         copy_aimed = tied.copy_aimed;

@@ -69,11 +69,11 @@ use Rattle.lvm_tie.proofs.StateLemmas.{among_one, aimed_of, copy_is, one_apart, 
 use Rattle.lvm_tie.proofs.TiedLemmas.Orderly.{AreOut, Differ, HasTargets, HaveNumbers, HaveTickets, IsDataOut, IsOut, begun_by, numbers_of, open_one, out_of, targets_of, tickets_of, valid_of, waiting_one}
 use Rattle.lvm_tie.proofs.TiedLemmas.Tied.{DataParts, data_parts}
 use Rattle.lvm_tie.proofs.AmongLemmas.{any_one, its_pp, not_true, one_there, or_either, or_true, target_of}
-use Rattle.lvm_tie.proofs.OutLemmas.Wanted.{next_same, records_wanted, sees_wanted, stamp_same, update_same, write_same}
-use Rattle.lvm_tie.proofs.TiedLemmas.Recorded.{records_kept}
+use Rattle.lvm_tie.proofs.OutLemmas.Wanted.{next_same, records_wanted, sees_wanted, stamp_same, update_same, write_same, one_wanted}
+use Rattle.lvm_tie.proofs.TiedLemmas.Recorded.{records_kept, one_kept}
 use Rattle.lvm_tie.specs.Out.{CarriesStep, CarryTheirs, IsWriteOf, MayUpdate}
 use Rattle.lvm_tie.specs.Seen.{Sees, SeesRequest, phase_seen, stage_at, stage_seen, update_of}
-use Rattle.lvm_tie.specs.Tied.{IsOrderly, IsTied, ShowsRecords}
+use Rattle.lvm_tie.specs.Tied.{IsOrderly, IsTied, ShowsRecords, CommittedIsOne}
 use Rattle.lvm_tie.proofs.OutLemmas.Ended.{HasEnded, IsRow, has_ended, is_row}
 use Rattle.lvm_tie.proofs.EndsLemmas.{read_end_ties}
 use Rattle.lvm_tie.specs.EndsWrites.{DataEndTies, WriteEndTies}
@@ -606,6 +606,8 @@ module _ (past : List Fact) (old new : State) (index : ℕ) (ends : Ends old new
         records = subst (λ (sizes : List ℕ). ShowsRecords old.core.descriptor status (contents_of (image_of sizes ended.media))) (sym ended.sizes)
             (records_wanted core2.status status wants.rest wants.missing old.core.descriptor now
             (records_kept old.core.descriptor old.core.status (image_of old.device.sizes tied.media) (image_of old.device.sizes ended.media) same_records tied.recorded.records));
+        committed = subst (λ (sizes : List ℕ). CommittedIsOne v.committed.stamp old.core.descriptor status (contents_of (image_of sizes ended.media))) (sym ended.sizes)
+            (one_wanted core2.status status wants.rest wants.missing (one_kept (image_of old.device.sizes tied.media) (image_of old.device.sizes ended.media) same_records tied.recorded.committed));
       };
       notes = λ d items flies. subst (λ (st : Stamp). IsNote (record { stamp = st.epoch; entries = items.items })) (sym (stamp_same core2.status status wants.rest wants.missing)) (tied.notes d items flies);
       copy_aimed = tied.copy_aimed;

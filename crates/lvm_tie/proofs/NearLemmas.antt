@@ -8,6 +8,7 @@ use Rattle.std.proofs.lemmas.Option.{same_Some}
 use Rattle.lvm_num.specs.declared.place.Pp.{Pp}
 use Rattle.lvm_num.proofs.Booleans.{clash_gives}
 use Rattle.lvm_vol.specs.Facts.{Fact, Taken}
+use Rattle.lvm_num.specs.Record.{Stamped}
 use Rattle.lvm_disk.specs.Device.{Flight, Device, image_of}
 use Rattle.lvm_kept.specs.Contents.{contents_of}
 use Rattle.lvm_hold.specs.Waiting.{without}
@@ -23,7 +24,7 @@ use Rattle.lvm_session.specs.State.{Core, state}
 use Rattle.lvm_session.specs.Judging.{is_running, place_of, is_missing}
 use Rattle.lvm_session.specs.Bringing.{after_copy_end, block_at, copy_ends, end_by_sources, end_of, ends_if, hand_of, has_row, is_cleared, is_out, is_whole, with_back, with_end}
 use Rattle.lvm_session.specs.declared.bringing.CopyEnd.TheVariants as ending
-use Rattle.lvm_invariant.specs.State.{ModelCopy, Queued, ModelState, has_landed}
+use Rattle.lvm_invariant.specs.State.{Marks, ModelCopy, Queued, ModelState, has_landed}
 use Rattle.lvm_invariant.specs.Good.{Good}
 use Rattle.lvm_invariant.specs.EndStep.{EndsStep}
 use Rattle.lvm_invariant.specs.Take.{TakesAnswerOf, taken}
@@ -36,7 +37,7 @@ use Rattle.lvm_tie.proofs.OutLemmas.Ties.{carry_on}
 use Rattle.lvm_tie.proofs.AmongLemmas.{or_true}
 use Rattle.lvm_tie.specs.Out.{CarriesStep}
 use Rattle.lvm_tie.specs.Seen.{IsRequestAt, IsStepAt, Sees, SeesHand, SeesStep, step_write_in, step_write_of, update_of}
-use Rattle.lvm_tie.specs.Tied.{IsOrderly, IsTied}
+use Rattle.lvm_tie.specs.Tied.{HoldsRecords, IsOrderly, IsTied}
 use Rattle.lvm_tie.specs.Near.{IsNear, IsRunning, NearTies}
 use Rattle.lvm_tie.proofs.SeenLemmas.Beside.{open_beside}
 use Rattle.lvm_session.proofs.MovesLemmas.{unmoving}
@@ -195,8 +196,8 @@ module _ (past : List Fact) (device : Device) (core : Core) (how : CopyEnd) (nea
   carries_in w g owner.Copy carried = λ d q is writing at. absurd (let e : step.Idle ≡ step.Writing = ap (λ (x : OpenCopy). x.step) (same_Some c_in d is) ∙ writing in cc)
 
   -- so it is tied, if the state sees it so
-  tied_in : (w : ModelState) → Sees past core_in w → Good near.votes w → Describes w w.facts core.descriptor (update_of core.status) (contents_of (image_of device.sizes near.media)) → IsOrderly (state device core_in) near.write → IsTied past (state device core_in)
-  tied_in w sees good describes orderly = record {
+  tied_in : (w : ModelState) → w.committed ≡ v.committed → Sees past core_in w → Good near.votes w → Describes w w.facts core.descriptor (update_of core.status) (contents_of (image_of device.sizes near.media)) → IsOrderly (state device core_in) near.write → IsTied past (state device core_in)
+  tied_in w committed sees good describes orderly = record {
     votes = near.votes;
     media = near.media;
     setting = near.setting;
@@ -207,7 +208,7 @@ module _ (past : List Fact) (device : Device) (core : Core) (how : CopyEnd) (nea
     write = near.write;
     orderly = orderly;
     since = near.since;
-    recorded = near.recorded;
+    recorded = subst (λ (m : Stamped Marks). HoldsRecords m.stamp core.descriptor core.origin.table core.status core.homes (image_of device.sizes near.media)) (sym committed) near.recorded;
     notes = near.notes;
     copy_aimed = λ d is row. absurd (no_row d is row);
     carry = carry_on core core_in v w device.flights core.flying (carries_in w) near.carry;
@@ -317,8 +318,8 @@ module _ (past : List Fact) (device : Device) (core : Core) (how : CopyEnd) (nea
     where
       by : (b r : Bool) → is_out c.step ≡ b → has_row core c ≡ r → IsTied past (state device (with_end core (Some how)))
       by true r out row = subst (λ (x : Core). IsTied past (state device x)) (sym (out_is out)) (tied_out out (subst (λ (x : Core). IsOrderly (state device x) near.write) (out_is out) orderly))
-      by false false out row = subst (λ (x : Core). IsTied past (state device x)) (sym (in_is out)) (tied_in v (left_before out row) near.good near.describes (subst (λ (x : Core). IsOrderly (state device x) near.write) (in_is out) orderly))
-      by false true out row = subst (λ (x : Core). IsTied past (state device x)) (sym (in_is out)) (tied_in (w out row) (sees_w out row) (good_w out row) (describes_w out row) (subst (λ (x : Core). IsOrderly (state device x) near.write) (in_is out) orderly))
+      by false false out row = subst (λ (x : Core). IsTied past (state device x)) (sym (in_is out)) (tied_in v refl (left_before out row) near.good near.describes (subst (λ (x : Core). IsOrderly (state device x) near.write) (in_is out) orderly))
+      by false true out row = subst (λ (x : Core). IsTied past (state device x)) (sym (in_is out)) (tied_in (w out row) refl (sees_w out row) (good_w out row) (describes_w out row) (subst (λ (x : Core). IsOrderly (state device x) near.write) (in_is out) orderly))
 
 -- Where the copy that is open ends so, or doesn't end, the session is tied.
 pub near_ties : NearTies

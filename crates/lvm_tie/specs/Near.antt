@@ -42,7 +42,7 @@ pub record IsNear (past : List Fact) (device : Device) (core : Core) (how : Opti
   pub describes : Describes view view.facts core.descriptor (update_of core.status) (contents_of (image_of device.sizes media))
   pub write : Option RecordWrite
   pub since : OnlyUpdateSince device write (update_of core.status)
-  pub recorded : HoldsRecords core.descriptor core.origin.table core.status core.homes (image_of device.sizes media)
+  pub recorded : HoldsRecords view.committed.stamp core.descriptor core.origin.table core.status core.homes (image_of device.sizes media)
   pub notes : AreNotes core
   pub copy_aimed : IsCopyAimed core view
   pub carry : CarryTheirs core view device.flights core.flying

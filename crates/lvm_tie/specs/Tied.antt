@@ -4,6 +4,7 @@ use Rattle.lvm_num.specs.declared.descriptor.Descriptor.{Descriptor}
 use Rattle.lvm_num.specs.declared.place.Pp.{Pp}
 use Rattle.lvm_num.specs.declared.status.Status.{Status}
 use Rattle.lvm_num.specs.Descriptor.{is_member}
+use Rattle.lvm_num.specs.declared.record.Stamp.{Stamp}
 use Rattle.lvm_num.specs.Record.{Stamped, stamp_lt}
 use Rattle.lvm_num.specs.Status.{calls_missing}
 use Rattle.lvm_vol.specs.Facts.{Fact}
@@ -55,6 +56,11 @@ pub record ShowsRecords (group : Descriptor) (status : Stored) (c : Contents) : 
   pub latest : (d : ℕ) (r : Stamped Descriptor) → c.descriptor d ≡ Some r → r.value.id ≡ group.id → (stamp_lt r.stamp descriptor.stamp ≡ true) ⊎ (r ≡ descriptor)
   pub settled : status.in_flight ≡ None → ShowsStatus group status c
 
+-- What is under the stamp of the committed status is that status: on the disks, and in flight.
+pub record CommittedIsOne (stamp : Stamp) (group : Descriptor) (status : Stored) (c : Contents) : Type 0 where
+  pub stands : (d : ℕ) (r : Stamped Status) → c.status d ≡ Some r → r.value.id ≡ group.id → r.stamp ≡ stamp → r.value ≡ status.committed
+  pub flies : (u : Stamped Status) → update_of status ≡ Some u → u.stamp ≡ stamp → u.value ≡ status.committed
+
 -- The setting of a tie: the votes are the group's, the shelf tells its media, and the earlier history has no request of this run.
 pub record IsSetting (past : List Fact) (run : ℕ) (group : Descriptor) (shown : Option Media) (votes : Votes) (media : Media) : Type 0 where
   pub are_votes : AreVotesOf group votes
@@ -62,11 +68,12 @@ pub record IsSetting (past : List Fact) (run : ℕ) (group : Descriptor) (shown 
   pub own : count_by (begins_in run) past ≡ 0
 
 -- What stands in the records of the disks: the next update may be written, each member that wasn't missing at first shows the group and has room for its records, and
--- the members that aren't missing show what is committed.
-pub record HoldsRecords (group : Descriptor) (first : Status) (status : Stored) (homes : Homes) (image : Image) : Type 0 where
+-- the members that aren't missing show what is committed, which has this stamp.
+pub record HoldsRecords (stamp : Stamp) (group : Descriptor) (first : Status) (status : Stored) (homes : Homes) (image : Image) : Type 0 where
   pub next : MayUpdate group status homes image
   pub members : (d : ℕ) → is_member group d ≡ true → calls_missing first d ≡ false → IsTrue (members_showing (contents_of image) group d)
   pub records : ShowsRecords group status (contents_of image)
+  pub committed : CommittedIsOne stamp group status (contents_of image)
 
 -- What is asked of the driver's session alone: it is on and sound, and its update in flight is written so.
 pub record IsOrderly (s : State) (write : Option RecordWrite) : Type 0 where
@@ -87,7 +94,7 @@ pub record IsTied (past : List Fact) (s : State) : Type 0 where
   pub write : Option RecordWrite
   pub orderly : IsOrderly s write
   pub since : OnlyUpdateSince s.device write (update_of s.core.status)
-  pub recorded : HoldsRecords s.core.descriptor s.core.origin.table s.core.status s.core.homes (image_of s.device.sizes media)
+  pub recorded : HoldsRecords view.committed.stamp s.core.descriptor s.core.origin.table s.core.status s.core.homes (image_of s.device.sizes media)
   pub notes : AreNotes s.core
   pub copy_aimed : IsCopyAimed s.core view
   pub carry : CarryTheirs s.core view s.device.flights s.core.flying

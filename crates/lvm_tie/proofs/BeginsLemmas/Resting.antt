@@ -1,12 +1,14 @@
 -- A session at rest is tied.
-use Rattle.std.proofs.Common.{◌≡◌, inl, ℕ, zero, suc, Bool, true, false, ◌&&◌, ◌++◌, List, [], ◌∷◌, Option, Some, None, slice_get, refl, sym, ap, subst, ◌∙◌}
+use Rattle.std.proofs.Common.{◌≡◌, inl, ℕ, zero, suc, Bool, true, false, ◌&&◌, ◌++◌, List, [], ◌∷◌, Option, Some, None, slice_get, refl, sym, ap, subst, ◌∙◌, ⊎_elim, arith}
 use Rattle.std.specs.Prelude.{IfSome, IsTrue, option_and_then, option_map}
 use Rattle.std.specs.Option.{option_map_or}
 use Rattle.arrayvec.specs.ArrayVec.{ArrayVec}
+use Rattle.std.proofs.lemmas.Bool.Decides.{nat_tests}
 use Rattle.lvm_num.specs.declared.record.NoteEntry.{NoteEntry}
 use Rattle.lvm_num.specs.declared.status.Status.{Status}
 use Rattle.lvm_num.specs.Disks.{has}
-use Rattle.lvm_num.specs.Record.{Stamped}
+use Rattle.lvm_num.specs.declared.record.Stamp.{Stamp}
+use Rattle.lvm_num.specs.Record.{Stamped, stamp_lt}
 use Rattle.lvm_num.specs.Votes.{all_disks}
 use Rattle.lvm_vol.specs.Facts.{Fact}
 use Rattle.lvm_disk.specs.Device.{Flight, Image, Media, image_of}
@@ -64,6 +66,10 @@ names_written lv g n none = ap (λ (o : Option (ArrayVec NoteEntry)). names_grou
     and_true : (b : Bool) → b && true ≡ b
     and_true true = refl
     and_true false = refl
+
+-- no stamp is before itself
+not_before : (s : Stamp) → stamp_lt s s ≡ false
+not_before s = grind (arith, nat_tests)
 
 module _ (past : List Fact) (s : State) (media : Media) (sound : IsSound s) (power_is : s.core.power ≡ power.On) (rests : IsCoreAtRest s.core) (stands : StandsAtRest s media) (follows : FollowsOn past s) where
   abbrev core : Core
@@ -228,6 +234,13 @@ module _ (past : List Fact) (s : State) (media : Media) (sound : IsSound s) (pow
         described = stands.held.shows.described;
         latest = stands.held.shows.latest;
         settled = λ none. record { stands = stated; committed = stands.held.shows.committed; own = ap (λ (x : Status). x.id) stands.held.shows.committed ∙ stands.held.shows.own; stated = stands.held.shows.stated; last = stands.held.shows.last };
+      };
+      committed = record {
+        stands = λ d r is own stamp. ⊎_elim
+            (λ before. absurd (let same : r.stamp ≡ stated.stamp = stamp ∙ ap (λ (m : Stamped Marks). m.stamp) seen_first.committed in let e : true ≡ false = sym before ∙ ap (λ x. stamp_lt x stated.stamp) same ∙ not_before stated.stamp in cc))
+            (λ same. ap (λ (x : Stamped Status). x.value) same ∙ stands.held.shows.committed)
+            (stands.held.shows.last d r is own);
+        flies = λ u is stamp. some_is_none (update_of core.status) u no_update is;
       };
     };
     notes = λ d items flies. some_is_none (flight_on core.cache d) items (rests.notes d) flies;

@@ -54,17 +54,17 @@ use Rattle.lvm_tie.proofs.StateLemmas.{there_first}
 use Rattle.lvm_tie.proofs.TiedLemmas.Orderly.{IsNoteOut, valid_of}
 use Rattle.lvm_tie.proofs.TiedLemmas.Tied.{tied_matches}
 use Rattle.lvm_tie.proofs.AmongLemmas.{not_true}
-use Rattle.lvm_tie.proofs.TiedLemmas.Recorded.{NoMoreThere, no_update_of, records_last, shows_last, shows_update, status_lasts}
+use Rattle.lvm_tie.proofs.TiedLemmas.Recorded.{NoMoreThere, no_update_of, records_last, shows_last, shows_update, status_lasts, one_remains}
 use Rattle.lvm_tie.specs.Out.{AreNotes, CarriesStep, CarryTheirs, IsWriteOf, MayUpdate}
 use Rattle.lvm_tie.specs.Seen.{Sees, SeesNote, update_of}
-use Rattle.lvm_tie.specs.Tied.{IsOrderly, IsTied, ShowsRecords, ShowsStatus}
+use Rattle.lvm_tie.specs.Tied.{IsOrderly, IsTied, ShowsRecords, ShowsStatus, CommittedIsOne}
 use Rattle.lvm_tie.proofs.OutLemmas.Ended.{HasEnded}
 use Rattle.lvm_tie.specs.Near.{IsNear, IsRunning, open_after}
 use Rattle.lvm_tie.specs.Wanted.{HasOwners, IsBrought, KeepsFresh, SeesMarks}
 use Rattle.lvm_tie.proofs.NearLemmas.{ends_running, near_ties, with_end_status}
 use Rattle.lvm_tie.proofs.WantedLemmas.Reviewing.{none_opened, opened, review_is_wanted}
 use Rattle.lvm_tie.proofs.NotesLemmas.Ended.{ended, here_too, its_row, none_is_some, not_here, out, own, own_sector, since_ended}
-use Rattle.lvm_tie.proofs.NotesLemmas.Landing.{HasLanded, has_landed, same_descriptors, same_members, same_statuses, update_may}
+use Rattle.lvm_tie.proofs.NotesLemmas.Landing.{HasLanded, has_landed, same_descriptors, same_members, same_statuses, update_may, may_stand}
 use Rattle.lvm_tie.proofs.OutLemmas.Losing as losing
 
 -- the end of a copy leaves power and slots as they were
@@ -443,6 +443,14 @@ module _ (past : List Fact) (old new : State) (at disk : ℕ) (row : Flown) (buf
       by true ends none = ended_shows ends
       by false goes_on none = still_shows goes_on none
 
+  committed_now : CommittedIsOne v.committed.stamp group status (contents_of is)
+  committed_now = one_remains tied.recorded.committed (losing.committed_same core.status lost status disk group going.fitting.group going.status loses rest) (λ u flies. flew_still u over refl flies)
+      (may_stand tied.votes v1 group (update_of core.status) old.device new.device.flights tied.media its_end.media f false good1 matches1 its_end.removes own1 its_end.lands)
+    where
+      flew_still : (u : Stamped Status) (b : Bool) → over ≡ b → update_of status ≡ Some u → update_of core.status ≡ Some u
+      flew_still u true ends flies = none_flies u ends flies
+      flew_still u false goes_on flies = sym (flies_on goes_on) ∙ flies
+
   -- ---- all of it
 
   near : IsNear past new.device core3 how
@@ -466,6 +474,7 @@ module _ (past : List Fact) (old new : State) (at disk : ℕ) (row : Flown) (buf
       next = subst (λ (sizes : List ℕ). MayUpdate group status core.homes (image_of sizes its_end.media)) (sym its_end.sizes) next_now;
       members = λ d member first. subst (λ (sizes : List ℕ). IsTrue (members_showing (contents_of (image_of sizes its_end.media)) group d)) (sym its_end.sizes) (members_now d ∙ tied.recorded.members d member first);
       records = subst (λ (sizes : List ℕ). ShowsRecords group status (contents_of (image_of sizes its_end.media))) (sym its_end.sizes) records_now;
+      committed = subst (λ (sizes : List ℕ). CommittedIsOne v.committed.stamp group status (contents_of (image_of sizes its_end.media))) (sym its_end.sizes) committed_now;
     };
     notes = notes_fit;
     copy_aimed = tied.copy_aimed;

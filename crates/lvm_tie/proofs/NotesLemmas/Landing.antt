@@ -180,6 +180,9 @@ module _ (votes : Votes) (s : ModelState) (group : Descriptor) (in_flight : Opti
   pub same_statuses : in_flight ≡ None → (d : ℕ) → now.status d ≡ before.status d
   same_statuses none d = ⊎_elim (λ same. same) (λ x. absurd (let e : None ≡ Some x.0 = sym none ∙ x.1 in cc)) (remain.statuses d)
 
+  pub may_stand : (d : ℕ) → (now.status d ≡ before.status d) ⊎ ((u : Stamped Status) × (in_flight ≡ Some u) × (now.status d ≡ Some u))
+  may_stand d = ⊎_elim (λ same. inl same) (λ x. inr (x.0, x.1, x.3)) (remain.statuses d)
+
   pub update_may : (status : Stored) (homes : Homes) → IsSector own.sector → MayUpdate group status homes was → MayUpdate group status homes is
   update_may status homes whole may = record {
     some_epoch = may.some_epoch;

@@ -30,12 +30,12 @@ use Rattle.lvm_crash.specs.Owned.{IsNoteFlight}
 use Rattle.lvm_crash.specs.Records.{flying_after}
 use Rattle.lvm_tie.proofs.TiedLemmas.Orderly.{IsNoteOut, orderly_same}
 use Rattle.lvm_tie.proofs.TiedLemmas.Tied.{tied_matches}
-use Rattle.lvm_tie.proofs.TiedLemmas.Recorded.{no_update_of, records_last, status_lasts}
+use Rattle.lvm_tie.proofs.TiedLemmas.Recorded.{no_update_of, records_last, status_lasts, one_remains}
 use Rattle.lvm_tie.specs.Out.{AreNotes, CarriesStep, CarryTheirs, MayUpdate}
 use Rattle.lvm_tie.specs.Seen.{SeesNote, update_of, Sees}
-use Rattle.lvm_tie.specs.Tied.{IsTied, ShowsRecords}
+use Rattle.lvm_tie.specs.Tied.{IsTied, ShowsRecords, CommittedIsOne}
 use Rattle.lvm_tie.proofs.OutLemmas.Ended.{HasEnded}
-use Rattle.lvm_tie.proofs.NotesLemmas.Landing.{HasLanded, has_landed, same_descriptors, same_members, same_statuses, update_may}
+use Rattle.lvm_tie.proofs.NotesLemmas.Landing.{HasLanded, has_landed, same_descriptors, same_members, same_statuses, update_may, may_stand}
 use Rattle.lvm_session.specs.declared.flown.Flown.{Flown}
 use Rattle.lvm_tie.proofs.NotesLemmas.Ended.{ended, has_notes, here_too, its_row, none_is_some, not_here, out, own, own_names, own_sector, room, since_ended, some_of}
 
@@ -149,6 +149,10 @@ module _ (past : List Fact) (old new : State) (at disk : ℕ) (row : Flown) (buf
       (λ none. status_lasts core.descriptor core.status core.status (contents_of was) (contents_of is) (tied.recorded.records.settled none) (λ d there. there) refl
       (same_statuses tied.votes v core.descriptor (update_of core.status) old.device new.device.flights tied.media its_end.media f true tied.good (tied_matches past old tied) its_end.removes its_own its_end.lands (no_update_of core.status none)))
 
+  committed_now : CommittedIsOne v.committed.stamp core.descriptor core.status (contents_of is)
+  committed_now = one_remains tied.recorded.committed refl (λ u flies. flies)
+      (may_stand tied.votes v core.descriptor (update_of core.status) old.device new.device.flights tied.media its_end.media f true tied.good (tied_matches past old tied) its_end.removes its_own its_end.lands)
+
   pub note_tied : IsTied past new
   note_tied = subst (IsTied past) (sym whole) (let tie : IsTied past (state new.device next) = record {
     votes = tied.votes;
@@ -169,6 +173,7 @@ module _ (past : List Fact) (old new : State) (at disk : ℕ) (row : Flown) (buf
       next = subst (λ (sizes : List ℕ). MayUpdate core.descriptor core.status core.homes (image_of sizes its_end.media)) (sym its_end.sizes) next_now;
       members = λ d member first. subst (λ (sizes : List ℕ). IsTrue (members_showing (contents_of (image_of sizes its_end.media)) core.descriptor d)) (sym its_end.sizes) (members_now d ∙ tied.recorded.members d member first);
       records = subst (λ (sizes : List ℕ). ShowsRecords core.descriptor core.status (contents_of (image_of sizes its_end.media))) (sym its_end.sizes) records_now;
+      committed = subst (λ (sizes : List ℕ). CommittedIsOne v.committed.stamp core.descriptor core.status (contents_of (image_of sizes its_end.media))) (sym its_end.sizes) committed_now;
     };
     notes = notes_fit;
     copy_aimed = tied.copy_aimed;

@@ -41,7 +41,7 @@ use Rattle.lvm_tie.proofs.SeenLemmas.Changing.{sees_changed, step_apart}
 use Rattle.lvm_tie.proofs.TiedLemmas.Orderly.{AreOut, HaveNumbers, out_of}
 use Rattle.lvm_tie.specs.Out.{CarriesStep, CarryTheirs, MayUpdate}
 use Rattle.lvm_tie.specs.Seen.{SeesRequest, update_of}
-use Rattle.lvm_tie.specs.Tied.{IsOrderly, IsTied, ShowsRecords}
+use Rattle.lvm_tie.specs.Tied.{IsOrderly, IsTied, ShowsRecords, CommittedIsOne}
 
 -- a transfer of data goes outside the slots of statuses
 pub data_planned : (device : Device) (w : RecordWrite) (u : Stamped Status) (f : Flight) → UpdateSince device w u → data_start ≤ f.first → IsPlanned (IsOtherOrRecord w) f
@@ -130,6 +130,7 @@ module _ (past : List Fact) (old : State) (device : Device) (place number : ℕ)
       next = subst (λ (sizes : List ℕ). MayUpdate old.core.descriptor old.core.status old.core.homes (image_of sizes tied.media)) (sym sizes_is) tied.recorded.next;
       members = λ d member first. subst (λ (sizes : List ℕ). IsTrue (members_showing (contents_of (image_of sizes tied.media)) old.core.descriptor d)) (sym sizes_is) (tied.recorded.members d member first);
       records = subst (λ (sizes : List ℕ). ShowsRecords old.core.descriptor old.core.status (contents_of (image_of sizes tied.media))) (sym sizes_is) tied.recorded.records;
+      committed = subst (λ (sizes : List ℕ). CommittedIsOne tied.view.committed.stamp old.core.descriptor old.core.status (contents_of (image_of sizes tied.media))) (sym sizes_is) tied.recorded.committed;
     };
     orderly = orderly;
     copy_aimed = tied.copy_aimed;

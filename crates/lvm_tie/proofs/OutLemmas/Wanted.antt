@@ -6,6 +6,7 @@ use Rattle.lvm_num.specs.declared.descriptor.Descriptor.{Descriptor}
 use Rattle.lvm_num.specs.declared.status.Status.{Status}
 use Rattle.lvm_num.specs.Descriptor.{is_member}
 use Rattle.lvm_num.specs.Disks.{has}
+use Rattle.lvm_num.specs.declared.record.Stamp.{Stamp}
 use Rattle.lvm_num.specs.Record.{Stamped}
 use Rattle.lvm_vol.specs.Facts.{Fact}
 use Rattle.lvm_disk.specs.Device.{Image}
@@ -23,8 +24,8 @@ use Rattle.lvm_invariant.specs.State.{ModelState}
 use Rattle.lvm_crash.specs.Session.{as_marks, marks_of}
 use Rattle.lvm_tie.specs.Seen.{Sees, update_of}
 use Rattle.lvm_tie.specs.Out.{IsWriteOf, MayUpdate, is_owed_on}
-use Rattle.lvm_tie.specs.Tied.{ShowsRecords}
-use Rattle.lvm_tie.proofs.TiedLemmas.Recorded.{NoMoreThere, records_last, status_lasts}
+use Rattle.lvm_tie.specs.Tied.{CommittedIsOne, ShowsRecords}
+use Rattle.lvm_tie.proofs.TiedLemmas.Recorded.{NoMoreThere, one_remains, records_last, status_lasts}
 
 module _ (old new : Stored) (rest : seen new ≡ record (seen old) { wanted = new.wanted }) (missing : SameMissing old.wanted new.wanted) where
   pub committed_same : new.committed ≡ old.committed
@@ -102,6 +103,9 @@ module _ (old new : Stored) (rest : seen new ≡ record (seen old) { wanted = ne
     where
       fewer : NoMoreThere group old new
       fewer d there = sym (ap (λ b. is_member group d && not b) (missing d)) ∙ there
+
+  pub one_wanted : {stamp : Stamp} {group : Descriptor} {c : Contents} → CommittedIsOne stamp group old c → CommittedIsOne stamp group new c
+  one_wanted one = one_remains one committed_same (λ u flies. sym update_same ∙ flies) (λ d. inl refl)
 
 -- an update in flight of a sound status isn't over
 pub stays_open : (u : Updates) → IsSoundStatus u → is_held u && not (is_owed u) ≡ false

@@ -54,7 +54,7 @@ use Rattle.lvm_tie.proofs.TiedLemmas.Orderly.{open_one, orderly_same, out_of, wa
 use Rattle.lvm_tie.proofs.AmongLemmas.{not_true}
 use Rattle.lvm_tie.specs.Out.{AreNotes, CarriesStep, CarryTheirs, MayUpdate}
 use Rattle.lvm_tie.specs.Seen.{SeesNote, update_of, Sees}
-use Rattle.lvm_tie.specs.Tied.{IsOrderly, IsTied, ShowsRecords}
+use Rattle.lvm_tie.specs.Tied.{IsOrderly, IsTied, ShowsRecords, CommittedIsOne}
 use Rattle.lvm_tie.specs.Records.{NoteStartTies}
 use Rattle.lvm_tie.proofs.OutLemmas.Ties.{carry_more}
 
@@ -279,6 +279,7 @@ module _ (past : List Fact) (old new : State) (place disk : ℕ) (starts : Start
       next = subst (λ (sizes : List ℕ). MayUpdate core.descriptor core.status core.homes (image_of sizes tied.media)) (sym sizes_is) tied.recorded.next;
       members = λ d member first. subst (λ (sizes : List ℕ). IsTrue (members_showing (contents_of (image_of sizes tied.media)) core.descriptor d)) (sym sizes_is) (tied.recorded.members d member first);
       records = subst (λ (sizes : List ℕ). ShowsRecords core.descriptor core.status (contents_of (image_of sizes tied.media))) (sym sizes_is) tied.recorded.records;
+      committed = subst (λ (sizes : List ℕ). CommittedIsOne tied.view.committed.stamp core.descriptor core.status (contents_of (image_of sizes tied.media))) (sym sizes_is) tied.recorded.committed;
     };
     orderly = subst (λ (x : State). IsOrderly x tied.write) starts.is orderly_now;
     copy_aimed = tied.copy_aimed;

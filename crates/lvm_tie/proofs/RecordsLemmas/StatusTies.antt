@@ -1,5 +1,5 @@
 -- The start of a write of the update, tied.
-use Rattle.std.proofs.Common.{◌≡◌, inl, inr, ⊎_elim, ℕ, ◌+◌, ◌^◌, ◌<◌, Bool, true, false, ◌&&◌, ◌||◌, ◌==◌, not, eqb-true, List, [], ◌∷◌, ◌++◌, Option, Some, None, refl, sym, ap, subst, ◌∙◌, arith}
+use Rattle.std.proofs.Common.{◌≡◌, ◌⊎◌, inl, inr, ⊎_elim, ℕ, ◌+◌, ◌^◌, ◌<◌, Bool, true, false, ◌&&◌, ◌||◌, ◌==◌, not, eqb-true, List, [], ◌∷◌, ◌++◌, Option, Some, None, refl, sym, ap, subst, ◌∙◌, arith}
 use Rattle.std.specs.Prelude.{IsTrue, ◌≢◌}
 use Rattle.std.specs.Option.{option_map}
 use Rattle.std.proofs.lemmas.Bool.Decides.{nat_tests}
@@ -51,7 +51,7 @@ use Rattle.lvm_tie.proofs.TiedLemmas.Tied.{tied_owns}
 use Rattle.lvm_tie.proofs.TiedLemmas.Recorded.{records_last}
 use Rattle.lvm_tie.specs.Out.{AreNotes, CarriesStep, CarryTheirs, IsUpdateWrite, IsWriteOf, MayUpdate, is_owed_on}
 use Rattle.lvm_tie.specs.Seen.{update_of, Sees}
-use Rattle.lvm_tie.specs.Tied.{IsOrderly, IsTied, ShowsRecords}
+use Rattle.lvm_tie.specs.Tied.{IsOrderly, IsTied, ShowsRecords, CommittedIsOne}
 use Rattle.lvm_tie.specs.Records.{StatusStartTies}
 use Rattle.lvm_tie.proofs.RecordsLemmas.MayBegin.{MayBegin, begins, fresh_update, fresh_write}
 use Rattle.lvm_tie.proofs.OutLemmas.Ties.{carry_more}
@@ -288,6 +288,21 @@ module _ (past : List Fact) (old new : State) (starts : StartsStatus old new) (t
           of false true e h = absurd (cc h)
           of false false e h = refl
 
+  -- the update that begins is later than what is committed
+  committed2 : CommittedIsOne v.committed.stamp group status (contents_of (image_of old.device.sizes tied.media))
+  committed2 = record { stands = λ d r is own stamp. tied.recorded.committed.stands d r is own stamp ∙ sym begun.committed; flies = flies_so starts.begins }
+    where
+      flies_so : ((old.core.status.in_flight ≡ None → ⊥) × (starts.begun ≡ old.core.status)) ⊎ (MayStartUpdate (seen old.core.status) × (seen starts.begun ≡ with_update (seen old.core.status)))
+          → (x : Stamped Status) → update_of status ≡ Some x → x.stamp ≡ v.committed.stamp → x.value ≡ status.committed
+      flies_so (inl was) x is stamp =
+          let own_seen : seen status ≡ with_start (seen old.core.status) (Some starts.disk) = starts.started ∙ ap (λ (s : Stored). with_start (seen s) (Some starts.disk)) was.1 in
+          let update_was : update_of old.core.status ≡ update_of status = sym (λ k. option_map (λ (y : Status). let r : Stamped Status = record { stamp = (own_seen k).stamp; value = y } in r) (own_seen k).in_flight) in
+          tied.recorded.committed.flies x (update_was ∙ is) stamp ∙ sym begun.committed
+      flies_so (inr was) x is stamp =
+          let it : u ≡ x = (let e : Some u ≡ Some x = sym update_now ∙ is in cc) in
+          let later_u : stamp_lt v.committed.stamp u.stamp ≡ true = (may was.0.none).later in
+          absurd (let e : true ≡ false = sym later_u ∙ ap (stamp_lt v.committed.stamp) (ap (λ (y : Stamped Status). y.stamp) it ∙ stamp) ∙ not_itself v.committed.stamp in cc)
+
   pub started : IsTied past new
   started = subst (IsTied past) (sym whole) (record {
     votes = tied.votes;
@@ -311,6 +326,7 @@ module _ (past : List Fact) (old new : State) (starts : StartsStatus old new) (t
       records = subst (λ (sizes : List ℕ). ShowsRecords group status (contents_of (image_of sizes tied.media))) (sym sizes_are)
           (records_last group old.core.status status (contents_of (image_of old.device.sizes tied.media)) (contents_of (image_of old.device.sizes tied.media)) tied.recorded.records (λ d there. sym (missing_new d) ∙ there) (λ d. refl)
           (λ none. absurd (let e : None ≡ Some starts.status = sym none ∙ starts.flies in cc)));
+      committed = subst (λ (sizes : List ℕ). CommittedIsOne v.committed.stamp group status (contents_of (image_of sizes tied.media))) (sym sizes_are) committed2;
     };
     orderly = orderly2;
     copy_aimed = tied.copy_aimed;

@@ -76,7 +76,7 @@ use Rattle.lvm_tie.proofs.ModesLemmas.{active_is}
 use Rattle.lvm_tie.proofs.JudgingLemmas.Rows.{HaveRows, rows_are}
 use Rattle.lvm_tie.proofs.TiedLemmas.Orderly.{HaveNumbers, numbers_of, open_one, waiting_one}
 use Rattle.lvm_tie.proofs.AmongLemmas.{or_left, or_either, any_none, not_true, stage_of_one, target_of, one_there}
-use Rattle.lvm_tie.proofs.OutLemmas.Wanted.{dirty_rest, next_same, records_wanted, sees_wanted, stamp_same, update_same, write_same}
+use Rattle.lvm_tie.proofs.OutLemmas.Wanted.{dirty_rest, next_same, records_wanted, sees_wanted, stamp_same, update_same, write_same, one_wanted}
 use Rattle.lvm_tie.specs.Out.{CarriesStep, IsWriteOf}
 use Rattle.lvm_tie.specs.Seen.{stage_at, phase_seen, update_of, SeesRequest, SeesOpen, SeesRunning, SeesCopy, IsRequestAt, IsStepAt, Sees}
 use Rattle.lvm_tie.specs.Tied.{IsOrderly, IsTied}
@@ -448,6 +448,7 @@ module _ (past : List Fact) (old new : State) (place : ℕ) (admits : Admits old
         next = next_same core.status stored wanted_rest wants.wants.missing core.descriptor core.homes (image_of old.device.sizes tied.media) tied.recorded.next;
         members = tied.recorded.members;
         records = records_wanted core.status stored wanted_rest wants.wants.missing core.descriptor (contents_of (image_of old.device.sizes tied.media)) tied.recorded.records;
+        committed = one_wanted core.status stored wanted_rest wants.wants.missing tied.recorded.committed;
       };
       notes = λ d items flies. subst (λ st. IsNote (record { stamp = st.epoch; entries = items.items })) (sym (stamp_same core.status stored wanted_rest wants.wants.missing)) (tied.notes d items flies);
       copy_aimed = tied.copy_aimed;

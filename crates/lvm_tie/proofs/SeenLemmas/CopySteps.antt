@@ -5,6 +5,7 @@ use Rattle.std.proofs.lemmas.Bool.{cases_eq}
 use Rattle.lvm_num.specs.declared.place.Pp.{Pp}
 use Rattle.lvm_num.specs.Geometry.{data_start}
 use Rattle.lvm_vol.specs.Facts.{Fact}
+use Rattle.lvm_num.specs.Record.{Stamped}
 use Rattle.lvm_disk.specs.Device.{Device, Flight, image_of}
 use Rattle.lvm_disk.specs.Steps.{Starts}
 use Rattle.lvm_kept.specs.Contents.{contents_of}
@@ -20,13 +21,13 @@ use Rattle.lvm_session.specs.Judging.{is_running, place_of}
 use Rattle.lvm_session.specs.Bringing.{block_at, groups_of, has_row, is_out}
 use Rattle.lvm_session.specs.Events.{flown}
 use Rattle.lvm_session.specs.Sound.{IsSound}
-use Rattle.lvm_invariant.specs.State.{ModelCopy, Queued, ModelState}
+use Rattle.lvm_invariant.specs.State.{Marks, ModelCopy, Queued, ModelState}
 use Rattle.lvm_invariant.specs.Good.{Good}
 use Rattle.lvm_crash.specs.Session.{Describes}
 use Rattle.lvm_even.specs.Members.{members_showing}
 use Rattle.lvm_tie.specs.Out.{CarriesStep, CarryTheirs, MayUpdate}
 use Rattle.lvm_tie.specs.Seen.{IsRequestAt, IsStepAt, Sees, SeesCopy, SeesRunning, SeesStep, step_write_of, update_of}
-use Rattle.lvm_tie.specs.Tied.{IsTied, ShowsRecords}
+use Rattle.lvm_tie.specs.Tied.{IsTied, ShowsRecords, CommittedIsOne}
 use Rattle.lvm_tie.proofs.TiedLemmas.Orderly.{AreOut, StepIsOut, open_one, orderly_same, out_of}
 use Rattle.lvm_tie.proofs.OutLemmas.Ties.{since_start}
 use Rattle.lvm_tie.proofs.SeenLemmas.Beside.{open_beside}
@@ -112,9 +113,9 @@ module _ (past : List Fact) (old : State) (device : Device) (c : OpenCopy) (st :
         by (owner.Note disk) its = tt
         by owner.Copy its = absurd (none_out g c.step not_out (subst (λ (x : OpenCopy). StepIsOut old.core x x.step g) (let e : Some its.copy ≡ Some c = sym its.is_open ∙ is in cc) its.out))
 
-    pub copy_started : Sees past new w → Good tied.votes w → Describes w w.facts old.core.descriptor (update_of old.core.status) (contents_of (image_of old.device.sizes tied.media)) → w.is_copy ≡ tied.view.is_copy
+    pub copy_started : Sees past new w → Good tied.votes w → Describes w w.facts old.core.descriptor (update_of old.core.status) (contents_of (image_of old.device.sizes tied.media)) → w.is_copy ≡ tied.view.is_copy → w.committed ≡ tied.view.committed
         → ((source : Pp) → st ≡ step.Reading source → IsTrue (w.is_copy c.lv (block_at old.core c) source)) → IsSound (state device new) → IsTied past (state device new)
-    copy_started sees good describes same_copies source_aimed sound = record {
+    copy_started sees good describes same_copies committed source_aimed sound = record {
       votes = tied.votes;
       media = tied.media;
       setting = record {
@@ -133,6 +134,8 @@ module _ (past : List Fact) (old : State) (device : Device) (c : OpenCopy) (st :
         next = subst (λ (sizes : List ℕ). MayUpdate old.core.descriptor old.core.status old.core.homes (image_of sizes tied.media)) (sym sizes_is) tied.recorded.next;
         members = λ d member first. subst (λ (sizes : List ℕ). IsTrue (members_showing (contents_of (image_of sizes tied.media)) old.core.descriptor d)) (sym sizes_is) (tied.recorded.members d member first);
         records = subst (λ (sizes : List ℕ). ShowsRecords old.core.descriptor old.core.status (contents_of (image_of sizes tied.media))) (sym sizes_is) tied.recorded.records;
+        committed = subst (λ (m : Stamped Marks). CommittedIsOne m.stamp old.core.descriptor old.core.status (contents_of (image_of device.sizes tied.media))) (sym committed)
+            (subst (λ (sizes : List ℕ). CommittedIsOne tied.view.committed.stamp old.core.descriptor old.core.status (contents_of (image_of sizes tied.media))) (sym sizes_is) tied.recorded.committed);
       };
       notes = tied.notes;
       copy_aimed = λ d at r. let own : record c { step = st } ≡ d = (let e : Some (record c { step = st }) ≡ Some d = at in cc) in

@@ -298,7 +298,7 @@ module _ (past : List Fact) (old new : State) (tied : IsTied past old) (sound : 
       (copy_started past old new.device c (step.Reading source) new.core.pool reads.flight tied reads.is_open reads.launches.starts
       (let e : reads.flight.first ≡ sector_of core.descriptor.mib source.pp (block_at core c) = reads.reads.first in omega (arith, e)) row (ap is_out at_rest)
       w (λ d p is writing. absurd (let own : record c { step = step.Reading source } ≡ d = (let e : Some (record c { step = step.Reading source }) ≡ Some d = is in cc) in let e : step.Reading source ≡ step.Writing = ap (λ (x : OpenCopy). x.step) own ∙ writing in cc))
-      sees_w good2 describes2 refl (λ p is. let own : source ≡ p = (let e : step.Reading source ≡ step.Reading p = is in cc) in subst (λ (z : Pp). IsTrue (v.is_copy c.lv (block_at core c) z)) own source_copy) (subst IsSound reads.is sound))
+      sees_w good2 describes2 refl refl (λ p is. let own : source ≡ p = (let e : step.Reading source ≡ step.Reading p = is in cc) in subst (λ (z : Pp). IsTrue (v.is_copy c.lv (block_at core c) z)) own source_copy) (subst IsSound reads.is sound))
 
 pub copy_read_ties : CopyReadTies
 copy_read_ties past old new tied sound reads = read_started past old new tied sound reads

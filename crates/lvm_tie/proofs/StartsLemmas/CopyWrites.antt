@@ -118,7 +118,7 @@ module _ (past : List Fact) (old new : State) (tied : IsTied past old) (sound : 
       w carries sees_w
       (each_keeps tied.votes (CopyWrite c.place q value c.pp v.open_copy step_write v.media.block) v w write_step tied.good)
       (quiet_lasts tied.votes (CopyWrite c.place q value c.pp v.open_copy step_write v.media.block) v w core.descriptor (update_of core.status) (contents_of (image_of old.device.sizes tied.media)) write_step tied.good tt tied.describes refl refl refl)
-      refl (λ p is. absurd (let e : step.Writing ≡ step.Reading p = is in cc)) (subst IsSound writes.is sound))
+      refl refl (λ p is. absurd (let e : step.Writing ≡ step.Reading p = is in cc)) (subst IsSound writes.is sound))
 
 pub copy_write_ties : CopyWriteTies
 copy_write_ties past old new tied sound writes = write_started past old new tied sound writes

@@ -43,14 +43,16 @@ use Rattle.lvm_crash.specs.Records.{StatusEnded, statuses_of}
 use Rattle.lvm_tie.proofs.StateLemmas.{there_first}
 use Rattle.lvm_tie.proofs.TiedLemmas.Orderly.{valid_of}
 use Rattle.lvm_tie.proofs.AmongLemmas.{or_either, or_true}
-use Rattle.lvm_tie.specs.Tied.{IsTied}
+use Rattle.lvm_tie.specs.Tied.{CommittedIsOne, IsTied}
+use Rattle.lvm_tie.proofs.TiedLemmas.Recorded.{one_remains}
+use Rattle.lvm_tie.specs.Seen.{update_of}
 use Rattle.lvm_tie.specs.Near.{open_after}
 use Rattle.lvm_tie.specs.Wanted.{HasOwners, IsBrought, KeepsFresh, SeesMarks}
 use Rattle.lvm_tie.proofs.WantedLemmas.Behind.{IsMarked, review_wants}
 use Rattle.lvm_tie.proofs.NearLemmas.{ends_running}
 use Rattle.lvm_tie.proofs.WantedLemmas.Reviewing.{goes_on, none_opened, opened, part_ends, review_is_wanted, whole_ends}
 use Rattle.lvm_tie.proofs.UpdateLemmas.{commits_well, committed_status, committed_then, committed_value, enough, flies_status, held_mid, learned, marks_then, missing_then}
-use Rattle.lvm_tie.proofs.StatusesLemmas.Update.{IsWritten, ended, good_moved, kept, moves, stands_here, still_stands, was_update, written}
+use Rattle.lvm_tie.proofs.StatusesLemmas.Update.{IsWritten, ended, good_moved, kept, may_stand, moves, one_stands, stands_here, still_stands, was_update, written}
 use Rattle.lvm_tie.proofs.SeenLemmas.Beside.{beside_stale, none_beside, stale_apart, stale_so}
 
 -- the copy that is open once the update is committed: one that it clears is done
@@ -131,6 +133,8 @@ module _ (past : List Fact) (old new : State) (index disk : ℕ) (ok : Bool) (ro
     pub marks : committed.value ≡ marks_of v.beside stored.committed
     pub held : is_held mid ≡ true → committed ≡ as_marks v.beside u
     pub missing_is : (d : ℕ) → missing d ≡ not (is_there core1 d)
+    -- what is under the stamp of the committed status is that status, where no other update is in flight
+    pub one : (x : Stored) → x.committed ≡ stored.committed → ((y : Stamped Status) → update_of x ≡ Some y → y ≡ u) → CommittedIsOne committed.stamp group x now
 
   -- ---- of both
 
@@ -208,6 +212,9 @@ module _ (past : List Fact) (old new : State) (index disk : ℕ) (ok : Bool) (ro
       held = λ enough_now. tied.sees.status.held u (was_update past old new index disk ok row buf its_owner returns tied)
           (held_mid core.status stored status group disk ok t going.fitting.group going.status its.flies its.out.started learns.wants learns.ended review.marks.rest none enough_now);
       missing_is = λ d. refl;
+      one = λ x same flies. one_remains tied.recorded.committed (same ∙ committed_same)
+          (λ y is. was_update past old new index disk ok row buf its_owner returns tied ∙ ap (λ (z : Stamped Status). Some z) (sym (flies y is)))
+          (may_stand past old new index disk ok row buf its_owner returns tied);
     }
 
   -- ---- where it is
@@ -422,4 +429,8 @@ module _ (past : List Fact) (old new : State) (index disk : ℕ) (ok : Bool) (ro
       marks = ap (marks_of v.beside) (sym committed_is);
       held = λ enough_now. refl;
       missing_is = λ d. tied.sees.status.missing d ∙ ap not (sym (there_same d));
+      one = λ x same flies. record {
+        stands = λ d r is own stamp. ap (λ (y : Stamped Status). y.value) (one_stands past old new index disk ok row buf its_owner returns tied d r is own stamp) ∙ sym committed_is ∙ sym same;
+        flies = λ y is stamp. ap (λ (z : Stamped Status). z.value) (flies y is) ∙ sym committed_is ∙ sym same;
+      };
     }

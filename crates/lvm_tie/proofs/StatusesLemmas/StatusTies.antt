@@ -41,7 +41,7 @@ use Rattle.lvm_tie.proofs.TiedLemmas.Recorded.{records_last, shows_last, shows_u
 use Rattle.lvm_tie.proofs.AmongLemmas.{not_true, or_either}
 use Rattle.lvm_tie.specs.Out.{AreNotes, CarriesStep, CarryTheirs, IsUpdateWrite, IsWriteOf, MayUpdate}
 use Rattle.lvm_tie.specs.Seen.{Sees, update_of}
-use Rattle.lvm_tie.specs.Tied.{IsOrderly, IsTied, ShowsRecords, ShowsStatus}
+use Rattle.lvm_tie.specs.Tied.{IsOrderly, IsTied, ShowsRecords, ShowsStatus, CommittedIsOne}
 use Rattle.lvm_tie.proofs.OutLemmas.Ended.{HasEnded}
 use Rattle.lvm_tie.specs.Near.{IsRunning}
 use Rattle.lvm_tie.proofs.NearLemmas.{ends_running, near_ties, with_end_status}
@@ -220,8 +220,8 @@ module _ (past : List Fact) (old new : State) (index disk : ℕ) (ok : Bool) (ro
 
     tied_with : (x : Option (Stamped Marks)) (write : Option RecordWrite) → Sees past core2 (record (with_update_in x) { open_copy = v.open_copy }) → Good tied.votes (with_update_in x)
         → Describes (with_update_in x) v.facts group (update_of status) now → OnlyUpdateSince new.device write (update_of status) → IsWriteOf status learns.homes status.in_flight write
-        → (status.in_flight ≡ None → ShowsStatus group status now) → IsTied past new
-    tied_with x write sees_it good_it describes_it since update settled = subst (IsTied past) (sym whole) (near_ties past new.device core2 end (record {
+        → (status.in_flight ≡ None → ShowsStatus group status now) → ((y : Stamped Status) → update_of status ≡ Some y → y ≡ u) → IsTied past new
+    tied_with x write sees_it good_it describes_it since update settled flies_one = subst (IsTied past) (sym whole) (near_ties past new.device core2 end (record {
       votes = tied.votes;
       media = back.media;
       setting = record {
@@ -242,6 +242,8 @@ module _ (past : List Fact) (old new : State) (index disk : ℕ) (ok : Bool) (ro
         members = λ d member first. subst (λ (sizes : List ℕ). IsTrue (members_showing (contents_of (image_of sizes back.media)) group d)) (sym back.sizes)
             (ap (λ (c : Contents). members_showing c group d) (kept past old new index disk ok row buf its_owner returns tied).rest ∙ tied.recorded.members d member first);
         records = subst (λ (sizes : List ℕ). ShowsRecords group status (contents_of (image_of sizes back.media))) (sym back.sizes) (recorded settled);
+        committed = subst (λ (sizes : List ℕ). CommittedIsOne reviewed.committed.stamp group status (contents_of (image_of sizes back.media))) (sym back.sizes)
+            (reviewed.one status (committed_new core.status stored status group disk ok t going.fitting.group going.status its.flies its.out.started learns.wants learns.ended learns.reviews.marks.rest) flies_one);
       };
       notes = notes;
       copy_aimed = tied.copy_aimed;
@@ -266,6 +268,7 @@ module _ (past : List Fact) (old new : State) (index disk : ℕ) (ok : Bool) (ro
         (subst (λ (o : Option (Stamped Status)). OnlyUpdateSince new.device (Some w) o) (sym update_now) (update_goes_on w u old.device new.device back.step (back.planned w) its.since))
         (subst (λ (m : Option Status). IsWriteOf status learns.homes m (Some w)) (sym in_flight) (update still))
         (λ none. absurd (let e : None ≡ Some t = sym none ∙ in_flight in cc))
+        (λ y is. same_Some y u (sym is ∙ update_now))
       where
         update : over ≡ false → IsUpdateWrite status learns.homes t w
         update still = record {
@@ -303,6 +306,7 @@ module _ (past : List Fact) (old new : State) (index disk : ℕ) (ok : Bool) (ro
               shows_update v2 v.facts group u now reviewed.describes d (have d (all_written core.status stored status group disk ok t going.fitting.group going.status its.flies its.out.started learns.wants learns.ended learns.reviews.marks.rest done d parts.0 present));
           last = shows_last tied.votes v2 v.facts group u now reviewed.describes reviewed.good.found (reviewed.held (held_over core.status stored status group disk ok t going.fitting.group going.status its.flies its.out.started learns.wants learns.ended learns.reviews.marks.rest done)) flies;
         })
+        (λ y is. absurd (let e : None ≡ Some y = sym no_update ∙ is in cc))
 
     reviewed_ties : IsTied past new
     reviewed_ties = ⊎_elim ends goes_on (decided over)

@@ -169,6 +169,17 @@ module _ (past : List Fact) (old new : State) (index disk : ℕ) (ok : Bool) (ro
   pub kept : KeepsGroup (contents_of was) now
   kept = (images_remain v v.facts group (Some u) old.device tied.media is matches may).kept
 
+  -- each status that stands then stood before, or is the update
+  pub may_stand : (d : ℕ) → (now.status d ≡ (contents_of was).status d) ⊎ ((x : Stamped Status) × (update_of core.status ≡ Some x) × (now.status d ≡ Some x))
+  may_stand d = ⊎_elim
+      (λ same. inl same)
+      (λ x. inr (x.0, was_update ∙ x.1, x.3))
+      ((images_remain v v.facts group (Some u) old.device tied.media is matches may).statuses d)
+
+  -- what stands of the group under its stamp is the update
+  pub one_stands : (d : ℕ) (r : Stamped Status) → now.status d ≡ Some r → r.value.id ≡ group.id → r.stamp ≡ u.stamp → r ≡ u
+  one_stands d r stands own stamp = let statuses = (moves (λ n. false)).describes.shown.statuses in statuses.new u d r refl stands (own ∙ sym (statuses.own u refl)) stamp
+
   -- a disk that had the update has it, and so does this one where it ended well
   pub still_stands : (d : ℕ) → v.media.status d ≡ Some (as_marks v.beside u) → statuses_of v.beside group.id now d ≡ Some (as_marks v.beside u)
   still_stands d had = ⊎_elim (λ same. same ∙ had) (λ is_now. is_now) ((moves (λ n. false)).may.each d)

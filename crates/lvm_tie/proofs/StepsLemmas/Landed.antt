@@ -46,10 +46,10 @@ use Rattle.lvm_crash.specs.Writing.{after_write}
 use Rattle.lvm_crash.proofs.BringingLemmas.{read_leaves, step_ends}
 use Rattle.lvm_crash.proofs.RecordsLemmas.Quiet.{update_goes_on}
 use Rattle.lvm_crash.proofs.WritingLemmas.{group_kept, records_same}
-use Rattle.lvm_tie.proofs.TiedLemmas.Recorded.{records_kept}
+use Rattle.lvm_tie.proofs.TiedLemmas.Recorded.{records_kept, one_kept}
 use Rattle.lvm_tie.specs.Out.{CarriesStep, CarryTheirs, MayUpdate}
 use Rattle.lvm_tie.specs.Seen.{SeesHand, SeesStep, step_write_in, step_write_of, update_of}
-use Rattle.lvm_tie.specs.Tied.{IsTied, ShowsRecords}
+use Rattle.lvm_tie.specs.Tied.{IsTied, ShowsRecords, CommittedIsOne}
 use Rattle.lvm_tie.proofs.TiedLemmas.Orderly.{AreOut, HaveTickets, IsCopyOut, IsOut, StepIsOut, out_of, tickets_of, valid_of}
 use Rattle.lvm_tie.proofs.OutLemmas.Ended.{HasEnded, IsRow, has_ended, is_row, row_of}
 use Rattle.lvm_tie.proofs.StepsLemmas.Leaving.{Stands}
@@ -163,6 +163,7 @@ module _ (past : List Fact) (old new : State) (at : ℕ) (row : Flown) (ok : Boo
     pub next : MayUpdate core.descriptor core.status core.homes (image_of new.device.sizes ended.media)
     pub members : (d : ℕ) → is_member core.descriptor d ≡ true → calls_missing core.origin.table d ≡ false → IsTrue (members_showing now core.descriptor d)
     pub records : ShowsRecords core.descriptor core.status now
+    pub committed : CommittedIsOne v.committed.stamp core.descriptor core.status now
 
   pub since : (x : Option RecordWrite) (u : Option (Stamped Status)) → OnlyUpdateSince old.device x u → OnlyUpdateSince new.device x u
   since None None was = tt
@@ -200,8 +201,11 @@ module _ (past : List Fact) (old new : State) (at : ℕ) (row : Flown) (ok : Boo
     pub read_records : ShowsRecords core.descriptor core.status now
     read_records = subst (λ (i : Image). ShowsRecords core.descriptor core.status (contents_of i)) (sym same_image) tied.recorded.records
 
+    pub read_committed : CommittedIsOne v.committed.stamp core.descriptor core.status now
+    read_committed = subst (λ (i : Image). CommittedIsOne v.committed.stamp core.descriptor core.status (contents_of i)) (sym same_image) tied.recorded.committed
+
     abbrev pub landed_read : HasLanded v.open_copy
-    landed_read = record { block = v.media.block; stands = read_stands; next = read_next; members = read_members; records = read_records }
+    landed_read = record { block = v.media.block; stands = read_stands; next = read_next; members = read_members; records = read_records; committed = read_committed }
 
   -- ---- a write
 
@@ -252,4 +256,6 @@ module _ (past : List Fact) (old new : State) (at : ℕ) (row : Flown) (ok : Boo
               (ap (λ (x : Contents). members_showing x core.descriptor d) kept.rest ∙ tied.recorded.members d member first);
           records = subst (λ (sizes : List ℕ). ShowsRecords core.descriptor core.status (contents_of (image_of sizes ended.media))) (sym ended.sizes)
               (records_kept core.descriptor core.status (image_of old.device.sizes tied.media) (image_of old.device.sizes ended.media) same_below tied.recorded.records);
+          committed = subst (λ (sizes : List ℕ). CommittedIsOne v.committed.stamp core.descriptor core.status (contents_of (image_of sizes ended.media))) (sym ended.sizes)
+              (one_kept (image_of old.device.sizes tied.media) (image_of old.device.sizes ended.media) same_below tied.recorded.committed);
         }

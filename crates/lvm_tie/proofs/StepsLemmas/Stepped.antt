@@ -186,6 +186,7 @@ module _ (past : List Fact) (old new : State) (at : ℕ) (row : Flown) (ok : Boo
         next = landed.next;
         members = landed.members;
         records = landed.records;
+        committed = landed.committed;
       };
       notes = tied.notes;
       copy_aimed = λ e there r. let same : d ≡ e = (let k : Some d ≡ Some e = there in cc) in

@@ -47,7 +47,7 @@ use Rattle.lvm_tie.specs.Tied.{IsTied}
 use Rattle.lvm_tie.proofs.StateLemmas.{IsOfItsPartition, among_one, copy_is, its_only}
 use Rattle.lvm_tie.proofs.TiedLemmas.Orderly.{valid_of}
 use Rattle.lvm_tie.proofs.BringingLemmas.{groups_are}
-use Rattle.lvm_tie.proofs.OutLemmas.Wanted.{next_same, records_wanted, sees_wanted, stamp_same, stays_open, update_same, write_same}
+use Rattle.lvm_tie.proofs.OutLemmas.Wanted.{next_same, records_wanted, sees_wanted, stamp_same, stays_open, update_same, write_same, one_wanted}
 use Rattle.lvm_tie.proofs.AmongLemmas.{any_one, not_true, or_either, and_false}
 use Rattle.lvm_tie.proofs.StepsLemmas.Leaving.{Stands, gone, gone_here, gone_there, quiet}
 use Rattle.lvm_tie.proofs.StepsLemmas.Landed.{HasLanded, ended, now, q, since}
@@ -323,6 +323,7 @@ module _ (past : List Fact) (old new : State) (at : ℕ) (tied : IsTied past old
       next = next_same core.status status rest same_missing core.descriptor core.homes (image_of new.device.sizes (ended past old new at event.row true event.buf tied event.returns event.own c event.is_open).media) its_landed.next;
       members = its_landed.members;
       records = records_wanted core.status status rest same_missing core.descriptor (now past old new at event.row true event.buf tied event.returns event.own c event.is_open) its_landed.records;
+      committed = one_wanted core.status status rest same_missing its_landed.committed;
     };
     notes = λ disk items flies. subst (λ st. IsNote (record { stamp = st.epoch; entries = items.items })) (sym (stamp_same core.status status rest same_missing)) (tied.notes disk items flies);
     copy_aimed = λ x at_x r. absurd (let same_x : e ≡ x = (let k : Some e ≡ Some x = at_x in cc) in let k : true ≡ false = sym r ∙ (λ t. has_row core (sym same_x t)) ∙ no_row in cc);

@@ -4,6 +4,7 @@ use Rattle.std.specs.Prelude.{option_map}
 use Rattle.std.proofs.lemmas.Bool.Decides.{nat_tests}
 use Rattle.lvm_num.specs.declared.descriptor.Descriptor.{Descriptor}
 use Rattle.lvm_num.specs.declared.status.Status.{Status}
+use Rattle.lvm_num.specs.declared.record.Stamp.{Stamp}
 use Rattle.lvm_num.specs.Record.{Stamped, stamp_lt}
 use Rattle.lvm_vol.specs.Facts.{Fact}
 use Rattle.lvm_disk.specs.Device.{Image}
@@ -16,7 +17,7 @@ use Rattle.lvm_invariant.specs.State.{Marks, Beside, ModelState}
 use Rattle.lvm_invariant.specs.Found.{Found, Votes}
 use Rattle.lvm_crash.specs.Session.{Describes, as_marks, marks_shown}
 use Rattle.lvm_tie.specs.Seen.{update_of}
-use Rattle.lvm_tie.specs.Tied.{ShowsRecords, ShowsStatus}
+use Rattle.lvm_tie.specs.Tied.{CommittedIsOne, ShowsRecords, ShowsStatus}
 
 -- none is there that wasn't
 abbrev pub NoMoreThere : Descriptor → Stored → Stored → Type 0
@@ -48,6 +49,29 @@ records_kept group status old new same shows =
     let is : contents_of new ≡ record (contents_of old) { block = (contents_of new).block } = data_writes old new same in
     records_last group status status (contents_of old) (contents_of new) shows (λ d there. there) (λ d. ap (λ (c : Contents). c.descriptor d) is)
     (λ none. status_lasts group status status (contents_of old) (contents_of new) (shows.settled none) (λ d there. there) refl (λ d. ap (λ (c : Contents). c.status d) is))
+
+-- ---- what is under the stamp of the committed status
+
+-- It stays that status, where each status that stands stood before or is the one in flight, and that and what is committed are what was.
+pub one_remains : {stamp : Stamp} {group : Descriptor} {old new : Stored} {a b : Contents} → CommittedIsOne stamp group old a → new.committed ≡ old.committed
+    → ((u : Stamped Status) → update_of new ≡ Some u → update_of old ≡ Some u) → ((d : ℕ) → (b.status d ≡ a.status d) ⊎ ((u : Stamped Status) × (update_of old ≡ Some u) × (b.status d ≡ Some u))) → CommittedIsOne stamp group new b
+one_remains {old = old} {b = b} one committed flew may = record {
+  stands = λ d r is own stamp. ⊎_elim
+      (λ same. one.stands d r (sym same ∙ is) own stamp ∙ sym committed)
+      (λ (x : (u : Stamped Status) × (update_of old ≡ Some u) × (b.status d ≡ Some u)).
+      let it : x.0 ≡ r = (let e : Some x.0 ≡ Some r = sym x.2 ∙ is in cc) in
+      ap (λ (y : Stamped Status). y.value) (sym it) ∙ one.flies x.0 x.1 (ap (λ (y : Stamped Status). y.stamp) it ∙ stamp) ∙ sym committed)
+      (may d);
+  flies = λ u is stamp. one.flies u (flew u is) stamp ∙ sym committed;
+}
+
+-- A write of data leaves it.
+pub one_kept : {stamp : Stamp} {group : Descriptor} {status : Stored} (old new : Image) → SameRecords old new → CommittedIsOne stamp group status (contents_of old) → CommittedIsOne stamp group status (contents_of new)
+one_kept old new same one =
+    let is : contents_of new ≡ record (contents_of old) { block = (contents_of new).block } = data_writes old new same in
+    one_remains one refl (λ u flies. flies) (λ d. inl (ap (λ (c : Contents). c.status d) is))
+
+-- ---- what a disk shows
 
 -- what a disk shows of a group is a status of it
 pub shown_of : (beside : Option Beside) (id : ℕ) (o : Option (Stamped Status)) (m : Stamped Marks) → marks_shown beside id o ≡ Some m → (r : Stamped Status) × (o ≡ Some r) × (r.value.id ≡ id) × (as_marks beside r ≡ m)

@@ -1,5 +1,8 @@
 -- A session that has just begun is tied.
-use Rattle.std.proofs.Common.{None, refl}
+use Rattle.std.proofs.Common.{None, refl, ap}
+use Rattle.lvm_num.specs.declared.status.Status.{Status}
+use Rattle.lvm_num.specs.Record.{Stamped}
+use Rattle.lvm_crash.proofs.WorkedLemmas.Shelf.{the_status}
 use Rattle.lvm_tie.proofs.BeginsLemmas.Resting.{some_is_none}
 use Rattle.lvm_kept.specs.Examples.{two}
 use Rattle.lvm_crash.specs.Worked.{media_of}
@@ -29,6 +32,10 @@ beginnings_are_tied mode stale = let votes = groups_have_votes (two mode) in rec
     next = may_update mode stale;
     members = λ d is there. members mode stale d is;
     records = records mode stale;
+    committed = record {
+      stands = λ d r is own stamp. ap (λ (x : Stamped Status). x.value) (the_status (shown mode stale) d r is);
+      flies = λ u is stamp. absurd (cc is);
+    };
   };
   notes = λ d items flies. some_is_none _ items (no_note_flies mode stale d) flies;
   copy_aimed = λ c is row. absurd cc;
