@@ -15,7 +15,7 @@ ghost use Rattle.lvm_session.specs.Calls.{OpenGives, OpenMoveGives, SubmitGives,
 ghost use Rattle.lvm_session.specs.Turns.{ArrangesSession, TurnMakes};
 ghost use Rattle.lvm_session.specs.Asking.{IsAsking};
 ghost use Rattle.lvm_session.specs.Left.{left_of};
-ghost use Rattle.lvm_session.specs.Sound.{IsSound, waits};
+ghost use Rattle.lvm_session.specs.Sound.{IsSound};
 ghost use Rattle.lvm_keeps.specs.Falls.{most_left};
 ghost use Rattle.lvm_keeps_events.specs.Opening.{IsApart};
 ghost use Rattle.lvm_keeps_events.specs.passed.Names.{counts_seen};
@@ -37,7 +37,7 @@ use lvm_keeps_events::below::{close_copy, copy_state, open_copy, open_move};
 use lvm_num::{Descriptor, Pp, Stamp};
 use lvm_path::Ask;
 use lvm_rec::Homes;
-use lvm_session::{AskFault, CopyFault, CopyState, Open, OpenFault, Power, Session, Taken, Turned};
+use lvm_session::{AskFault, CopyFault, CopyState, OpenFault, Power, Session, Taken, Turned};
 use lvm_session_start::{Parts, begin_session};
 use lvm_session_turn::below::Due;
 use lvm_session_turn::{arrange, turn};
@@ -337,11 +337,11 @@ impl<S: Shelf> Driver<S> {
         self.session.most
     }
 
-    /// Whether the request of this number has begun and not landed. Looks through the requests that are open.
+    /// Whether the request of this number has begun and not landed.
     pub fn is_open(&self, id: u64) -> bool
         ensures { result ≡ is_open self.now.1.history.facts id }
     {
-        waits(&self.session.requests, id)
+        self.session.history.is_open(id)
     }
 
     /// The votes of the members that aren't missing, and those of all. A disk is missing from the moment on at which
@@ -393,15 +393,6 @@ impl<S: Shelf> Driver<S> {
             history,
         }
     }
-}
-
-// Whether the request of this number is among these, and hasn't landed.
-fn waits(requests: &[Open], id: u64) -> bool
-    ensures { result ≡ waits requests.now id }
-{
-    requests
-        .iter()
-        .any(|open| open.landed.is_none() && open.request.id == id)
 }
 
 // What is wanted, and what is in flight, is a status that a record can have.
