@@ -16,7 +16,8 @@ use Rattle.lvm_commit.specs.LawsOfVolumes.{VolumeServes, VolumesServe}
 use Rattle.lvm_commit.proofs.LawsOfVolumesLemmas.Volumes.{one_serves}
 use Rattle.lvm_invariant.specs.State.{Beside, ModelState}
 use Rattle.lvm_invariant.specs.Found.{Votes}
-use Rattle.lvm_crash.specs.Session.{AreVotesOf, HasVolumes, Shows, members_showing}
+use Rattle.lvm_crash.specs.Session.{AreVotesOf, HasVolumes, Shows}
+use Rattle.lvm_even.specs.Members.{members_showing}
 use Rattle.lvm_crash.specs.Flights.{HasOut, Matches}
 use Rattle.lvm_crash.proofs.LawsLemmas.Images.{images_kept}
 use Rattle.lvm_places.specs.Places.{Marking}

@@ -21,7 +21,8 @@ use Rattle.lvm_kept.specs.Contents.{Contents}
 use Rattle.lvm_kept.specs.Group.{IsBlockOf, IsOneOf}
 use Rattle.lvm_kept.specs.Kept.{StandsAs}
 use Rattle.lvm_invariant.specs.State.{Beside, ModelState}
-use Rattle.lvm_crash.specs.Session.{marks_shown, members_showing, IsPlaceOf, IsBlockIn, HasVolumes, Shows, Describes}
+use Rattle.lvm_crash.specs.Session.{marks_shown, IsPlaceOf, IsBlockIn, HasVolumes, Shows, Describes}
+use Rattle.lvm_even.specs.Members.{members_showing}
 use Rattle.lvm_places.specs.Places.{Marking}
 use Rattle.lvm_places.specs.Laws.{Replaces, replaced}
 use Rattle.lvm_places.proofs.LawsLemmas.{in_fewer, left_off, was_copy}

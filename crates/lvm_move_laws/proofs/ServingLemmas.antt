@@ -22,7 +22,8 @@ use Rattle.lvm_invariant.specs.Found.{Votes}
 use Rattle.lvm_invariant.specs.Crash.{IsCrash, EachKept, BlockKept}
 use Rattle.lvm_invariant.specs.Good.{Good}
 use Rattle.lvm_invariant.proofs.CrashLemmas.{core_kept}
-use Rattle.lvm_crash.specs.Session.{marks_of, view_of, AreVotesOf, members_showing, HasVolumes, Shows}
+use Rattle.lvm_crash.specs.Session.{marks_of, view_of, AreVotesOf, HasVolumes, Shows}
+use Rattle.lvm_even.specs.Members.{members_showing}
 use Rattle.lvm_crash.proofs.GroupLemmas.Blocks.{block_kept, some_fresh, block_of}
 use Rattle.lvm_crash.proofs.LawsLemmas.Finding.{FindsStatus, finds_status}
 use Rattle.lvm_move_laws.specs.Serving.{IsToBe, IsFoundSo, MoveServes}

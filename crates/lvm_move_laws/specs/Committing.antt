@@ -14,7 +14,8 @@ use Rattle.lvm_commit.specs.Settling.{DescriptorStaysKept, IsOf, SessionIsHeld}
 use Rattle.lvm_invariant.specs.State.{Beside, ModelState}
 use Rattle.lvm_invariant.specs.Found.{Votes}
 use Rattle.lvm_invariant.specs.Good.{Good}
-use Rattle.lvm_crash.specs.Session.{AreVotesOf, Describes, marks_shown, members_showing}
+use Rattle.lvm_crash.specs.Session.{AreVotesOf, Describes, marks_shown}
+use Rattle.lvm_even.specs.Members.{members_showing}
 use Rattle.lvm_places.specs.Places.{Marking}
 use Rattle.lvm_places.specs.Laws.{Replaces}
 use Rattle.lvm_move_laws.specs.Moving.{IsFor, MovesIn}

@@ -12,7 +12,8 @@ use Rattle.lvm_vol.specs.Facts.{Fact}
 use Rattle.lvm_kept.specs.Contents.{Contents}
 use Rattle.lvm_kept.specs.Group.{IsBlockOf, IsOneOf, block_at, if_passes, is_status_of}
 use Rattle.lvm_invariant.specs.State.{Beside, ModelState}
-use Rattle.lvm_crash.specs.Session.{Describes, HasVolumes, IsBlockIn, IsFreePlace, IsPlaceOf, Shows, as_marks, marks_shown, members_showing}
+use Rattle.lvm_crash.specs.Session.{Describes, HasVolumes, IsBlockIn, IsFreePlace, IsPlaceOf, Shows, as_marks, marks_shown}
+use Rattle.lvm_even.specs.Members.{members_showing}
 use Rattle.lvm_places.specs.Places.{BlocksOf, Marking}
 use Rattle.lvm_places.specs.Laws.{appeared, as_stale, gone}
 use Rattle.lvm_places.specs.Described.{AppearedIsDescribed, GoneIsDescribed, MayAppear}

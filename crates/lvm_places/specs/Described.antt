@@ -10,7 +10,8 @@ use Rattle.lvm_vol.specs.Facts.{Fact}
 use Rattle.lvm_kept.specs.Contents.{Contents}
 use Rattle.lvm_kept.specs.Group.{IsBlockOf, IsOneOf, block_at}
 use Rattle.lvm_invariant.specs.State.{Beside, ModelState}
-use Rattle.lvm_crash.specs.Session.{Describes, IsFreePlace, as_marks, marks_shown, members_showing}
+use Rattle.lvm_crash.specs.Session.{Describes, IsFreePlace, as_marks, marks_shown}
+use Rattle.lvm_even.specs.Members.{members_showing}
 use Rattle.lvm_places.specs.Places.{BlocksOf, Marking}
 use Rattle.lvm_places.specs.Laws.{appeared, gone}
 

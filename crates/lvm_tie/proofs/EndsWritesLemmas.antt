@@ -57,7 +57,7 @@ use Rattle.lvm_invariant.specs.Want.{Replaced, Wants, after_wants}
 use Rattle.lvm_invariant.proofs.EventsLemmas.Each.{each_keeps}
 use Rattle.lvm_invariant.proofs.StateLemmas.Rules.{each_has}
 use Rattle.lvm_crash.specs.Left.{KeepsGroup}
-use Rattle.lvm_crash.specs.Session.{Describes, marks_of, is_beside, members_showing}
+use Rattle.lvm_crash.specs.Session.{Describes, marks_of, is_beside}
 use Rattle.lvm_even.specs.Members.{members_showing}
 use Rattle.lvm_crash.proofs.OwnedLemmas.{covers_its}
 use Rattle.lvm_crash.proofs.RecordsLemmas.Quiet.{quiet_lasts, update_goes_on}

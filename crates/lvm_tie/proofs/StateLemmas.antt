@@ -37,7 +37,7 @@ use Rattle.lvm_session.specs.State.{Core, State, is_there}
 use Rattle.lvm_session.specs.Judging.{copies_in, copies_for, group_in, is_usable, is_stale, is_missing, is_wanted_stale, is_settled, is_running, is_caught, is_waiting, is_beside_copy, destinations_for, destinations_if, IsWithinVolume}
 use Rattle.lvm_session.specs.Bringing.{groups_of, is_whole}
 use Rattle.lvm_invariant.specs.State.{Marks, ModelCopy, ModelState, is_usable as sees_usable, is_settled_stale, stale_in, HasPassed, Beside}
-use Rattle.lvm_crash.specs.Session.{as_marks, IsPlaceOf, is_beside, members_showing}
+use Rattle.lvm_crash.specs.Session.{as_marks, IsPlaceOf, is_beside}
 use Rattle.lvm_even.specs.Members.{members_showing}
 use Rattle.lvm_crash.proofs.CopiesLemmas.{copy_placed, one_block}
 use Rattle.lvm_crash.proofs.WritingLemmas.{pp_same, same_pp}

@@ -26,7 +26,8 @@ use Rattle.lvm_session.specs.Bringing.{groups_of}
 use Rattle.lvm_session.specs.Sound.{IsOn}
 use Rattle.lvm_invariant.specs.State.{Beside, Groups, Marks, Queued, ModelState}
 use Rattle.lvm_invariant.specs.Found.{Found}
-use Rattle.lvm_crash.specs.Session.{as_marks, marks_of, marks_shown, Describes, IsPlaceOf, members_showing}
+use Rattle.lvm_crash.specs.Session.{as_marks, marks_of, marks_shown, Describes, IsPlaceOf}
+use Rattle.lvm_even.specs.Members.{members_showing}
 use Rattle.lvm_even.specs.Even.{HoldsAtRest}
 use Rattle.lvm_rest.specs.Rest.{IsModelAtRest, SeesThat}
 use Rattle.lvm_rest.proofs.GoodLemmas.Rest.{good_is_rest}

@@ -36,7 +36,7 @@ use Rattle.lvm_invariant.specs.Commit.{Commit, Commits}
 use Rattle.lvm_invariant.specs.MoveStatus.{moved}
 use Rattle.lvm_invariant.specs.Events.{CommitUpdate, Want}
 use Rattle.lvm_invariant.proofs.EventsLemmas.Each.{each_keeps}
-use Rattle.lvm_crash.specs.Session.{Describes, HasVolumes, as_marks, marks_of, is_beside, members_showing}
+use Rattle.lvm_crash.specs.Session.{Describes, HasVolumes, as_marks, marks_of, is_beside}
 use Rattle.lvm_even.specs.Members.{members_showing}
 use Rattle.lvm_crash.proofs.RecordsLemmas.Quiet.{quiet_lasts}
 use Rattle.lvm_crash.specs.Records.{StatusEnded, statuses_of}

@@ -32,7 +32,7 @@ use Rattle.lvm_session.specs.Ends.{Returns, StatusLearns}
 use Rattle.lvm_session.specs.Sound.{IsGoing, IsSound}
 use Rattle.lvm_invariant.specs.State.{Marks, ModelState}
 use Rattle.lvm_invariant.specs.Good.{Good}
-use Rattle.lvm_crash.specs.Session.{Describes, as_marks, marks_of, members_showing}
+use Rattle.lvm_crash.specs.Session.{Describes, as_marks, marks_of}
 use Rattle.lvm_even.specs.Members.{members_showing}
 use Rattle.lvm_crash.proofs.RecordsLemmas.Quiet.{update_goes_on, updates_last}
 use Rattle.lvm_crash.specs.Owned.{OnlyUpdateSince}
