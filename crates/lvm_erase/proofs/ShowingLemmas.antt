@@ -1,20 +1,26 @@
 -- What a disk shows while its descriptor is erased.
 use Rattle.std.proofs.Common.{◌≡◌, ◌⊎◌, inl, inr, ⊎_elim, ℕ, suc, ◌+◌, ◌<◌, ◌≤◌, Bool, true, false, List, ◌++◌, Option, Some, None, refl, sym, ◌∙◌, ap, subst, arith}
-use Rattle.std.specs.Prelude.{◌&&◌, nat_le, nat_lt, if◌then◌else◌, option_and_then}
+use Rattle.std.specs.Prelude.{◌==◌, if◌then◌else◌, option_and_then}
+use Rattle.std.proofs.lemmas.Bool.{eqb-true, eqb-false}
 use Rattle.lvm_num.specs.declared.record.Kind.TheVariants as kind
 use Rattle.lvm_num.specs.declared.record.Framed.{Framed}
 use Rattle.lvm_num.specs.declared.descriptor.Descriptor.{Descriptor}
+use Rattle.lvm_num.specs.declared.status.Status.{Status}
 use Rattle.lvm_num.specs.Buffer.{Sector, zero_sector}
 use Rattle.lvm_num.specs.DescriptorBytes.{descriptor_of}
 use Rattle.lvm_num.specs.Geometry.{data_start}
 use Rattle.lvm_num.specs.Record.{Stamped, joined, newer, record_in, slot_start, stamp_lt}
+use Rattle.lvm_num.specs.StatusBytes.{status_of}
 use Rattle.lvm_num.specs.Torn.{Sectors}
 use Rattle.lvm_num.proofs.RecordLemmas.Records.{joined-same}
 use Rattle.lvm_rec.specs.Slots.{held, read_under, slot_of, slot_for, slot_to_write, newest_on}
 use Rattle.lvm_disk.specs.Device.{Image, SameDisks}
-use Rattle.lvm_kept.specs.Contents.{descriptor_on, has_records}
+use Rattle.lvm_rec.proofs.SlotsLemmas.SlotLaws.{slot-two}
+use Rattle.lvm_kept.specs.Contents.{contents_of, descriptor_on, has_records, note_on, note_sector, status_on}
 use Rattle.lvm_kept.specs.Plans.{ChangesBy}
-use Rattle.lvm_erase.specs.Erasing.{ZeroesSlot, ZeroesSlots, ErasesTo, ShowsNewestOrNone, ErasedShowsNone}
+use Rattle.lvm_kept.proofs.PlacesLemmas.{at-same, data-same, newest-same, note-same, room-same}
+use Rattle.lvm_kept.proofs.TornLemmas.Records.{newest_stays}
+use Rattle.lvm_erase.specs.Erasing.{ZeroesSlot, ZeroesSlots, ErasesTo, ShowsNewestOrNone, ErasingShowsOne, ErasedShowsNone}
 
 -- ---- one slot
 
@@ -146,9 +152,6 @@ shown_as old new disk room newest = by (has_records new disk) (has_records old d
     by false true e is = absurd cc
     by false false e is = inl refl
 
-room_same : (old new : Image) (disk : ℕ) → new.disks ≡ old.disks → new.size disk ≡ old.size disk → has_records new disk ≡ has_records old disk
-room_same old new disk disks size = λ t. nat_lt disk (disks t) && nat_le data_start (size t)
-
 module _ (disk older : ℕ) (old new : Image) (is : older ≡ slot_for descriptor_of kind.Descriptor (old.sector disk)) where
   abbrev a : Option (Stamped Descriptor)
   a = in_slot 0 (old.sector disk)
@@ -191,7 +194,51 @@ module _ (disk older : ℕ) (old new : Image) (is : older ≡ slot_for descripto
 pub shows_newest_or_none : ShowsNewestOrNone
 shows_newest_or_none disk older old new is erases =
     let disks = same disk older old new is erases in
-    shown_as old new disk (room_same old new disk disks.disks (disks.size disk)) (newest disk older old new is erases)
+    shown_as old new disk (room-same old new disks disk) (newest disk older old new is erases)
+
+-- ---- all that the disks show
+
+module _ (disk older : ℕ) (old new : Image) (is : older ≡ slot_for descriptor_of kind.Descriptor (old.sector disk)) (erases : ErasesTo disk older old new) where
+  by : ChangesBy (ZeroesSlots disk) old new
+  by = of erases
+    where
+      of : ErasesTo disk older old new → ChangesBy (ZeroesSlots disk) old new
+      of (inl one) = wider disk older old new (subst (λ (n : ℕ). n < 2) (sym is) (slot-two (in_slot 0 (old.sector disk)) (in_slot 1 (old.sector disk)))) one
+      of (inr both) = both.0
+
+  -- a sector that is the first of no slot stays
+  untouched : (d s : ℕ) → ((slot : ℕ) → slot < 2 → d ≡ disk → s ≡ slot_start kind.Descriptor slot → ⊥) → new.sector d s ≡ old.sector d s
+  untouched d s apart = ⊎_elim (λ same. same) (λ (it : ZeroesSlots disk d s (new.sector d s)). absurd (apart it.0 it.1 it.2.0 it.2.1)) (by.each d s)
+
+  other_disk : (d : ℕ) → (d ≡ disk → ⊥) → descriptor_on new d ≡ descriptor_on old d
+  unfolding descriptor_on
+  other_disk d apart = at-same descriptor_of kind.Descriptor old new d by.same (newest-same descriptor_of kind.Descriptor (old.sector d) (new.sector d) (λ slot s two low high. untouched d s (λ n few here at. apart here)))
+
+  own : (d : ℕ) → (descriptor_on new d ≡ descriptor_on old d) ⊎ ((d ≡ disk) × (descriptor_on new d ≡ None))
+  own d = of (d == disk) refl
+    where
+      of : (b : Bool) → (d == disk) ≡ b → (descriptor_on new d ≡ descriptor_on old d) ⊎ ((d ≡ disk) × (descriptor_on new d ≡ None))
+      of true here =
+          let same = eqb-true d disk here in
+          subst (λ (n : ℕ). (descriptor_on new n ≡ descriptor_on old n) ⊎ ((n ≡ disk) × (descriptor_on new n ≡ None))) (sym same)
+          (⊎_elim (λ stays. inl stays) (λ none. inr (refl, none)) (shows_newest_or_none disk older old new is erases))
+      of false apart = inl (other_disk d (eqb-false d disk apart))
+
+  stated : (d : ℕ) → status_on new d ≡ status_on old d
+  unfolding status_on
+  stated d = newest_stays Status status_of kind.Status old new d (record { same = by.same; each = λ e s. ⊎_elim (λ same. inl same) (λ (it : ZeroesSlots disk e s (new.sector e s)). inr (inr (let at = it.2.1 in omega (arith, at)))) (by.each e s) })
+
+  noted : (d : ℕ) → note_on new d ≡ note_on old d
+  noted d = note-same old new d by.same (untouched d note_sector (λ slot few here at. omega (arith, at)))
+
+  blocks : (d s : ℕ) → data_start ≤ s → new.sector d s ≡ old.sector d s
+  blocks d s low = untouched d s (λ slot few here at. omega (arith, at, low, few))
+
+  rest : contents_of new ≡ record (contents_of old) { descriptor = descriptor_on new }
+  rest t = record { disks = by.same.disks t; size = λ d. by.same.size d t; descriptor = descriptor_on new; status = λ d. stated d t; note = λ d. noted d t; block = λ d s. data-same old new blocks d s t }
+
+pub erasing_shows_one : ErasingShowsOne
+erasing_shows_one disk older old new is erases = record { own = own disk older old new is erases; rest = rest disk older old new is erases }
 
 pub erased_shows_none : ErasedShowsNone
 unfolding descriptor_on

@@ -6,7 +6,7 @@ use Rattle.lvm_num.specs.DescriptorBytes.{descriptor_of}
 use Rattle.lvm_num.specs.Record.{slot_start}
 use Rattle.lvm_rec.specs.Slots.{slot_for}
 use Rattle.lvm_disk.specs.Device.{Image, Device, image_of, MayLeave}
-use Rattle.lvm_kept.specs.Contents.{descriptor_on}
+use Rattle.lvm_kept.specs.Contents.{Contents, contents_of, descriptor_on}
 use Rattle.lvm_kept.specs.Plans.{Plan, ChangesBy}
 
 abbrev pub slot_number : Bool → ℕ
@@ -46,6 +46,15 @@ ErasesInOrder disk older old now = IfSome old.media (λ media. (image : Image) �
 abbrev pub ShowsNewestOrNone : Type 0
 ShowsNewestOrNone = (disk older : ℕ) (old new : Image) → older ≡ slot_for descriptor_of kind.Descriptor (old.sector disk) → ErasesTo disk older old new
     → (descriptor_on new disk ≡ descriptor_on old disk) ⊎ (descriptor_on new disk ≡ None)
+
+-- One disk shows the descriptor that it showed or none, and nothing else changes.
+pub record ErasesOne (disk : ℕ) (old new : Contents) : Type 0 where
+  pub own : (d : ℕ) → (new.descriptor d ≡ old.descriptor d) ⊎ ((d ≡ disk) × (new.descriptor d ≡ None))
+  pub rest : new ≡ record old { descriptor = new.descriptor }
+
+-- So it is at each moment.
+abbrev pub ErasingShowsOne : Type 0
+ErasingShowsOne = (disk older : ℕ) (old new : Image) → older ≡ slot_for descriptor_of kind.Descriptor (old.sector disk) → ErasesTo disk older old new → ErasesOne disk (contents_of old) (contents_of new)
 
 -- Where both slots begin with zeros it shows none.
 abbrev pub ErasedShowsNone : Type 0
