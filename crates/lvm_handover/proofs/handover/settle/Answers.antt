@@ -22,5 +22,5 @@ from_parts-requires-clause-sound g c =
 pub returns-clause-sound : goal.returns-clause-sound
 returns-clause-sound g c = c.into_parts-shelf.ensures.sound
 
-pub into_parts-shelf-requires-clause-unmoved : goal.into_parts-shelf-requires-clause-unmoved
-into_parts-shelf-requires-clause-unmoved g c = ap (λ (m : Option OpenCopy). option_map_or (λ (k : OpenCopy). k.moves) m false) c.requires.may.none.copy
+pub into_parts-shelf-requires : goal.into_parts-shelf-requires
+into_parts-shelf-requires g c = record { unmoved = ap (λ (m : Option OpenCopy). option_map_or (λ (k : OpenCopy). k.moves) m false) c.requires.may.none.copy }
