@@ -80,13 +80,7 @@ fn move_refusal_at(session: &Session, to: Pp, copies: &[Pp]) -> Option<OpenFault
     }
 }
 
-fn move_refusal_in(
-    session: &Session,
-    row: &LvRow,
-    lp: u32,
-    number: u8,
-    to: Pp,
-) -> Option<OpenFault>
+fn move_refusal_in(session: &Session, row: &LvRow, lp: u32, number: u8, to: Pp) -> Option<OpenFault>
     requires { IsLaidOut row.now }
     ensures { result ≡ move_refusal_in (core_of session.now) row.now lp number to }
 {

@@ -16,7 +16,7 @@ use crate::moving::move_fault;
 use crate::opened::{opened, opened_move};
 use lvm_disk::Shelf;
 use lvm_num::Pp;
-use lvm_session::{CopyFault, OpenFault, Open, Session};
+use lvm_session::{CopyFault, Open, OpenFault, Session};
 
 // Their targets were chosen before the copy was opened.
 fn age_all(requests: &mut [Open])
