@@ -2,7 +2,7 @@
 use Rattle.std.proofs.Common.{◌≡◌, ℕ, Bool, List, Some, Result, Ok, Err, refl}
 use Rattle.lvm_session.specs.State.{Core, State}
 use Rattle.lvm_volume_lines.specs.passed.Members.{RuleFault, is_over}
-use Rattle.lvm_volume_lines.specs.passed.GroupLines.{IsOn, ScriptState}
+use Rattle.lvm_range_lines.specs.passed.GroupLines.{IsOn, ScriptState}
 use Rattle.lvm_volume_lines.specs.Volumes.{Drains}
 use Rattle.lvm_volume_lines.specs.Changing.{BecomesBig, ChvgBigDoes, ChvgBigEnds, ChvgBigFails, ChvgQuorumDoes, ChvgQuorumEnds, ChvgQuorumFails, SwitchesQuorum, change_reply}
 

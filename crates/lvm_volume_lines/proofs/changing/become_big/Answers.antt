@@ -8,7 +8,7 @@ use Rattle.lvm_volume_lines.proofs.ChangingLemmas.Giving.{big_known}
 use Rattle.lvm_volume_lines.proofs.changing.become_big.Goals as goal
 
 pub make_big-requires : goal.make_big-requires
-make_big-requires g c = λ takes. c.requires.settled
+make_big-requires g c = record { settled = λ takes. c.requires.settled }
 
 pub after_change-requires-clause-dark : goal.after_change-requires-clause-dark
 after_change-requires-clause-dark g c = dark_still _ _ _ c.make_big.result.answer (big_known _ _ _ c.requires.settled.power (record { requests = c.requires.settled.quiet.requests; copy = c.requires.settled.quiet.copy }) c.make_big.result.answer c.make_big.ensures.gives).facts

@@ -3,7 +3,7 @@ use Rattle.lvm_core.specs.State.{state_of}
 use Rattle.lvm_num.specs.declared.descriptor.Descriptor.{Descriptor}
 use Rattle.lvm_volume_lines.specs.passed.Members.{RuleGives, with_quorum}
 use Rattle.lvm_volume_lines.proofs.passed.Members.{set_quorum_goes_on}
-use Rattle.lvm_volume_lines.specs.passed.GroupLines.{EndsUnasked, OfGroup, IsOn, open_in, session_in, Refusal, Reply, Stage}
+use Rattle.lvm_range_lines.specs.passed.GroupLines.{EndsUnasked, OfGroup, IsOn, open_in, session_in, Refusal, Reply, Stage}
 use Rattle.lvm_volume_lines.specs.passed.RefusalVariants as refusal
 use Rattle.lvm_volume_lines.specs.passed.ReplyVariants as reply
 use Rattle.lvm_volume_lines.proofs.passed.GroupLines.{refused_ends}

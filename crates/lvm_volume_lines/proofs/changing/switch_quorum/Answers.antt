@@ -8,7 +8,7 @@ use Rattle.lvm_volume_lines.proofs.ChangingLemmas.Giving.{rule_known}
 use Rattle.lvm_volume_lines.proofs.changing.switch_quorum.Goals as goal
 
 pub set_quorum-requires : goal.set_quorum-requires
-set_quorum-requires g c = λ takes. c.requires.settled
+set_quorum-requires g c = record { settled = λ takes. c.requires.settled }
 
 pub after_change-requires-clause-dark : goal.after_change-requires-clause-dark
 after_change-requires-clause-dark g c = dark_still _ _ _ c.set_quorum.result.answer (rule_known _ _ _ c.requires.settled.power (record { requests = c.requires.settled.quiet.requests; copy = c.requires.settled.quiet.copy }) _ c.set_quorum.result.answer c.set_quorum.ensures.gives).facts
