@@ -251,13 +251,13 @@ known log room (Ok (Some (command.ChvgQuorum on name))) why old new between (Bus
 known log room (Ok (Some (command.ChvgQuorum on name))) why old new between (UndrainedChvgQuorum core fault some mine ends) = undrained (Ok (Some (command.ChvgQuorum on name))) old new core tt between some why fault ends
 known log room (Ok (Some (command.ChvgQuorum on name))) why old new between (SwitchesQuorum core left mid some mine drains done is) = absurd (cc (is))
 known log room (Ok (Some (command.ChvgQuorum on name))) why old new between (ChvgQuorumFails core left mid reason some mine drains done is) =
-    by_reply _ why (change_refusal reason) old new is (known_change (Ok (Some (command.ChvgQuorum on name))) tt (λ a b more. more) (with_quorum on mid.core.descriptor) reason old new core left mid done.left some drains done.gives done.leaves)
+    by_reply _ why (change_refusal reason) old new is (known_change (Ok (Some (command.ChvgQuorum on name))) tt (λ d a b rose. rose) (λ a b more. more) (with_quorum on mid.core.descriptor) reason old new core left mid done.left some drains done.gives done.leaves)
 known log room (Ok (Some (command.ChvgBig name))) why old new between (NoGroupForChvgBig none is) = by_reply _ why refusal.NoGroup old new is.0 (easy _ refusal.NoGroup old new tt (λ e. cc) (λ h t e. cc))
 known log room (Ok (Some (command.ChvgBig name))) why old new between (BusyChvgBig mine busy is) = by_reply _ why refusal.Busy old new is.0 (easy _ refusal.Busy old new tt (λ e. cc) (λ h t e. cc))
 known log room (Ok (Some (command.ChvgBig name))) why old new between (UndrainedChvgBig core fault some mine ends) = undrained (Ok (Some (command.ChvgBig name))) old new core tt between some why fault ends
 known log room (Ok (Some (command.ChvgBig name))) why old new between (BecomesBig core left mid some mine drains done is) = absurd (cc (is))
 known log room (Ok (Some (command.ChvgBig name))) why old new between (ChvgBigFails core left mid reason some mine drains done is) =
-    by_reply _ why (change_refusal reason) old new is (known_big (Ok (Some (command.ChvgBig name))) tt (λ a b more. more) reason old new core left mid done.left some drains done.gives done.leaves)
+    by_reply _ why (change_refusal reason) old new is (known_big (Ok (Some (command.ChvgBig name))) tt (λ d a b rose. rose) (λ a b more. more) reason old new core left mid done.left some drains done.gives done.leaves)
 known log room (Ok (Some (command.Mklv name copies mode policy group lps))) why old new between (NoGroupForMklv none is) = by_reply _ why refusal.NoGroup old new is.0 (easy _ refusal.NoGroup old new tt (λ e. cc) (λ h t e. cc))
 known log room (Ok (Some (command.Mklv name copies mode policy group lps))) why old new between (BusyMklv on busy is) = by_reply _ why refusal.Busy old new is.0 (easy _ refusal.Busy old new tt (λ e. cc) (λ h t e. cc))
 known log room (Ok (Some (command.Mklv name copies mode policy group lps))) why old new between (UndrainedMklv core fault some on ends) = undrained (Ok (Some (command.Mklv name copies mode policy group lps))) old new core tt between some why fault ends

@@ -19,7 +19,7 @@ use Rattle.lvm_volume_lines.specs.passed.RefusalVariants as refusal
 use Rattle.lvm_volume_lines.specs.Changing.{change_refusal}
 use Rattle.lvm_volume_lines.specs.Volumes.{Drains, IsLeftEither}
 use Rattle.lvm_volume_lines.proofs.passed.Tie.{path_frames}
-use Rattle.lvm_line.specs.Causes.{HasLostMember, WritesNoMore, WritesNothing}
+use Rattle.lvm_line.specs.Causes.{HasLostMember, TransferHasFailed, WritesNoMore, WritesNothing}
 use Rattle.lvm_line.proofs.CausesLemmas.Faulting.{at_most_half, counts_left, member_of, none_left, rose_in_line, was_there}
 use Rattle.lvm_line.proofs.CausesLemmas.Knowing.{IsOther, Known, has_by}
 
@@ -33,7 +33,8 @@ refused_gives next patience old new (fault.NoQuorum have total) it = it
 refused_gives next patience old new fault.HistoryFull it = it
 refused_gives next patience old new fault.Memory it = it
 
-module _ (read : Result (Option Command) Misfit) (other : IsOther read) (changes : (old new : ScriptState) → WritesNoMore old new → WritesNothing read old new) where
+module _ (read : Result (Option Command) Misfit) (other : IsOther read) (failed : (d : ℕ) (a b : Counts) → Rose (a.faults d) (b.faults d) → TransferHasFailed read d a b)
+    (changes : (old new : ScriptState) → WritesNoMore old new → WritesNothing read old new) where
   module _ (old new : ScriptState) (core : Core) (patience : ℕ) (mid left : State) (some : old.session ≡ Some core) (drains : Drains core old patience mid) where
     on : mid.core.power ≡ power.On
     on = drains.settled.power
@@ -62,8 +63,8 @@ module _ (read : Result (Option Command) Misfit) (other : IsOther read) (changes
         core = core;
         on = some;
         disk = it.disk;
-        member = member_of read other (λ d a b rose. rose) old new core patience mid left some drains it.disk there;
-        was = was_there read other (λ d a b rose. rose) old new core patience mid left some drains it.disk there;
+        member = member_of read other failed old new core patience mid left some drains it.disk there;
+        was = was_there read other failed old new core patience mid left some drains it.disk there;
         failed = subst (λ (n : Counts). Rose (old.moment.device.counts.faults it.disk) (n.faults it.disk)) (sym same) (rose_before ((path_frames drains.runs).keeps.counts.faults it.disk) it.failed);
       },
     )
